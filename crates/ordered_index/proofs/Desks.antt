@@ -20,7 +20,7 @@ get-set (y ∷ xs) zero v (suc j) x h = inr ((λ e. omega arith), h)
 get-set (y ∷ xs) (suc i) v zero x h = inr ((λ e. omega arith), h)
 get-set (y ∷ xs) (suc i) v (suc j) x h = ⊎_elim (λ p. inl (omega arith, p.1)) (λ p. inr ((λ e. p.0 (omega arith)), p.1)) (get-set xs i v j x h)
 
-set-there : {X : Type 0} (xs : List X) (i : ℕ) (v x : X) → slice_get xs i ≡ Some x → slice_get (set xs i v) i ≡ Some v
+pub set-there : {X : Type 0} (xs : List X) (i : ℕ) (v x : X) → slice_get xs i ≡ Some x → slice_get (set xs i v) i ≡ Some v
 set-there [] i v x h = absurd cc
 set-there (y ∷ xs) zero v x h = refl
 set-there (y ∷ xs) (suc i) v x h = set-there xs i v x h

@@ -91,6 +91,7 @@ impl<K: Clone + Ord, V: Clone + Eq, const S: usize> LocalIndex<K, V, S> {
     /// memory.
     pub fn open(&mut self) -> Result<Session<K, V>, NoPlace>
         ensures opens { IfOk result (λ session. Opens self.old session self.new) }
+        ensures is_open { IfOk result (λ session. IsOpen self.new session) }
         ensures full { IsErr result ↔ IsFull self.old }
         ensures err { OnErr result (self.new ≡ self.old) }
     {
@@ -143,7 +144,8 @@ impl<K: Clone + Ord, V: Clone + Eq, const S: usize> LocalIndex<K, V, S> {
         requires keys { ClonesAreSame K.is_clone }
         requires values { ClonesAreSame V.is_clone }
         requires equals { EqualsAreSame V.eq }
-        ensures { Commits K.cmp self.old receipt.now.reads writes.items result self.new }
+        ensures commits { Commits K.cmp self.old receipt.now.reads writes.items result self.new }
+        ensures sessions { self.new.places ≡ self.old.places }
     {
         if let Some(cause) = self.objection(receipt.reads.as_slice()) {
             return Err(Refused { cause, writes });

@@ -29,9 +29,14 @@ mod write;
 pub use commit::{Accepted, Cause, Refused};
 pub use desk::Desk;
 pub use index::{LocalIndex, NoPlace};
-pub use listed::Listed;
+pub use listed::{Listed, clones_of_lists, equals_of_lists};
 pub use play::{DeskCall, DeskReply, ReadSet, play_all};
 pub use query::{Answer, Query};
 pub use session::Session;
 pub use transaction::{Receipt, Recorded, Transaction};
 pub use write::{Reply, Write};
+
+#[cfg(test)]
+mod refusals;
+#[cfg(test)]
+mod tests;

@@ -1,14 +1,20 @@
 //! A `Vec` that contracts see as a list.
 
 ghost use Rattle.std.specs.Prelude.{◌≡◌, [], ◌∷◌, ◌++◌, OnOk, OnErr};
+ghost use Rattle.std.specs.Cmp.Lexicographic.{pointwise};
+ghost use Rattle.std.specs.List.{AllZip};
+ghost use Rattle.leaf_array.specs.Values.{ClonesAreSame, EqualsAreSame};
 
 use std::alloc::{AllocError, AllocFailed, Global};
+use std::cmp::Ordering;
+use std::fmt;
 use std::marker::Model;
 
 /// A `Vec` that contracts see as the list of its items, whatever its capacity.
 ///
 /// It stands where a definition speaks of a whole value that has a list inside, as a [`Receipt`]
-/// has its recorded reads. It is made from a `Vec` and gives it back, neither with memory.
+/// has its recorded reads, and makes byte strings keys and values (`Listed<u8>`, in the order of a
+/// dictionary). It is made from a `Vec` and gives it back, neither with memory.
 ///
 /// [`Receipt`]: crate::Receipt
 #[derive(Drop)]
@@ -54,6 +60,40 @@ impl<T: Eq> Eq for Listed<T> {
     ghost laws = { lists_equiv T.Eq.laws };
 }
 
+impl<T: fmt::Debug> fmt::Debug for Listed<T> {
+    fn fmt<W: fmt::Write>(&self, f: &mut fmt::Formatter<W>) -> fmt::Result {
+        fmt::Debug::fmt(&self.items, f)
+    }
+}
+
+impl<T: PartialOrd> PartialOrd for Listed<T> {
+    ghost use Rattle.std.specs.Cmp.Lexicographic.{slice_partial_cmp, lists_po};
+
+    ghost partial_cmp = { λ x y. slice_partial_cmp T.partial_cmp x y };
+
+    ghost laws = { lists_po T.PartialOrd.laws };
+
+    fn partial_cmp(&self, other: &Self) -> Option<Ordering> {
+        self.items.partial_cmp(&other.items)
+    }
+}
+
+impl<T: Ord> Ord for Listed<T> {
+    ghost use Rattle.std.specs.Cmp.Lexicographic.{slice_cmp, lists_agrees, lists_ties, lists_total};
+
+    ghost cmp = { λ x y. slice_cmp T.cmp x y };
+
+    ghost total = { lists_total T.total };
+
+    ghost matches_partial_cmp = { λ x y. lists_agrees T.matches_partial_cmp x y };
+
+    ghost matches_eq = { λ x y. lists_ties T.cmp T.matches_eq x y };
+
+    fn cmp(&self, other: &Self) -> Ordering {
+        self.items.cmp(&other.items)
+    }
+}
+
 impl<T> Listed<T> {
     /// No items, and no memory.
     pub fn new(alloc: Global) -> Self
@@ -93,3 +133,17 @@ impl<T> Listed<T> {
         self.items.push(item)
     }
 }
+
+/// A clone of a list is the list itself, where this is so of its items: what an index asks of keys
+/// and values, for `Listed<T>`.
+pub fn clones_of_lists<T: Clone>()
+    requires { ClonesAreSame T.is_clone }
+    ensures { ClonesAreSame (AllZip T.is_clone) }
+{}
+
+/// Equal lists are one list, where equal items are one item: what an index asks of values, for
+/// `Listed<T>`.
+pub fn equals_of_lists<T: PartialEq>()
+    requires { EqualsAreSame T.eq }
+    ensures { EqualsAreSame (pointwise T.eq) }
+{}

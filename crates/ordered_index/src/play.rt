@@ -13,7 +13,7 @@ use crate::write::Write;
 use std::alloc::{AllocError, Global};
 
 /// The reads that a commit rests on.
-#[derive(Drop)]
+#[derive(Debug, Drop)]
 pub enum ReadSet<K, V> {
     /// None.
     Empty,
@@ -24,7 +24,7 @@ pub enum ReadSet<K, V> {
 }
 
 /// A call. A session is named by its label.
-#[derive(Drop)]
+#[derive(Debug, Drop)]
 pub enum DeskCall<K, V> {
     /// Opens a session under the label.
     Open(u64),
@@ -37,7 +37,7 @@ pub enum DeskCall<K, V> {
 }
 
 /// The reply to a [`DeskCall`].
-#[derive(Drop)]
+#[derive(Debug, Drop)]
 pub enum DeskReply<K, V> {
     /// The session is open, on the list with this number.
     Opened(u64),
