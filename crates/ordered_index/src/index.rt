@@ -120,7 +120,7 @@ impl<K: Clone + Ord, V: Clone + Eq, const S: usize> LocalIndex<K, V, S> {
         requires { IsOpen self.now session.now }
         ensures { option_copied result ≡ value_at K.cmp key.now (list_at K.cmp self.now session.now.receipt.number) }
     {
-        plain::find_value(self.lists[session.number() as usize].as_slice(), key)
+        plain::find_value(self.list_of(session), key)
     }
 
     /// What the session recorded, and its number.
@@ -192,6 +192,14 @@ impl<K: Clone + Ord, V: Clone + Eq, const S: usize> LocalIndex<K, V, S> {
             last: _,
         } = self;
         Ok(())
+    }
+
+    // The list at the session's opening.
+    fn list_of(&self, session: &Session<K, V>) -> &[(K, V)]
+        requires { IsOpen self.now session.now }
+        ensures { result.now ≡ list_at K.cmp self.now session.now.receipt.number }
+    {
+        self.lists[session.number() as usize].as_slice()
     }
 
     // Why a commit of these reads is refused, memory aside.

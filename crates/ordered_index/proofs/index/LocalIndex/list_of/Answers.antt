@@ -1,8 +1,7 @@
-use Rattle.std.proofs.Common.{◌≡◌, ◌≤◌, length, get_or, sym, ap, ◌∙◌, subst, arith}
-use Rattle.leaf_array.specs.Pairs.{value_at}
+use Rattle.std.proofs.Common.{◌≡◌, ◌≤◌, length, get_or, ap, ◌∙◌, subst, arith}
 use Rattle.ordered_index.specs.State.{list_at}
 use Rattle.ordered_index.proofs.Runs.{IsKept-number, IsKept-within, IsKept-at}
-use Rattle.ordered_index.proofs.index.LocalIndex.get.Goals as goal
+use Rattle.ordered_index.proofs.index.LocalIndex.list_of.Goals as goal
 
 pub index-requires : goal.index-requires
 index-requires g c =
@@ -17,6 +16,4 @@ returns g c =
     let session = c.args.session.now in
     let opened = IsKept-number cmp c.self.invariant session.place session.receipt.number (rw (← c.self.view_is) at c.requires) in
     let read = subst (λ n. c.index.result.now ≡ get_or c.self.inside.lists.items n c.index.result.now) c.number.ensures c.index.ensures in
-    c.find_value.ensures
-    ∙ ap (value_at cmp c.args.key.now) (c.as_slice.ensures ∙ read ∙ IsKept-at cmp c.self.invariant session.receipt.number c.index.result.now opened)
-    ∙ ap (λ s. value_at cmp c.args.key.now (list_at cmp s session.receipt.number)) c.self.view_is
+    c.as_slice.ensures ∙ read ∙ IsKept-at cmp c.self.invariant session.receipt.number c.index.result.now opened ∙ ap (λ s. list_at cmp s session.receipt.number) c.self.view_is
