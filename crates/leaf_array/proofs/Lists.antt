@@ -72,12 +72,12 @@ module _ {K : Type 0} {cmp : K → K → Ordering} (laws : IsTotalOrder cmp) whe
         let lower : List K = filter (λ k. is_gt (cmp key k)) ks in
         let upper : List K = filter (λ k. is_lt (cmp key k)) ks in
         let keys : keys_of (upserted cmp key value pairs) ≡ lower ++ key ∷ upper =
-          map-append (λ (p : K × V). p.0) (below cmp key pairs) ((key, value) ∷ above cmp key pairs)
-          ∙ rw (keys_of-filter (λ k. is_gt (cmp key k)) pairs, keys_of-filter (λ k. is_lt (cmp key k)) pairs) refl in
+        map-append (λ (p : K × V). p.0) (below cmp key pairs) ((key, value) ∷ above cmp key pairs)
+        ∙ rw (keys_of-filter (λ k. is_gt (cmp key k)) pairs, keys_of-filter (λ k. is_lt (cmp key k)) pairs) refl in
         let under : AllByRecursion (λ y. cmp key y ≡ Less) upper = all_filtered (λ k. is_lt (cmp key k)) (λ y. cmp key y ≡ Less) (less key) ks in
         let between : AllByRecursion (λ x. AllByRecursion (λ y. cmp x y ≡ Less) (key ∷ upper)) lower =
-          all_filtered (λ k. is_gt (cmp key k)) (λ x. AllByRecursion (λ y. cmp x y ≡ Less) (key ∷ upper))
-          (λ x e. (turned key x e, all_filtered (λ k. is_lt (cmp key k)) (λ y. cmp x y ≡ Less) (λ y f. laws.trans x key y (turned key x e) (less key y f)) ks)) ks in
+        all_filtered (λ k. is_gt (cmp key k)) (λ x. AllByRecursion (λ y. cmp x y ≡ Less) (key ∷ upper))
+        (λ x e. (turned key x e, all_filtered (λ k. is_lt (cmp key k)) (λ y. cmp x y ≡ Less) (λ y f. laws.trans x key y (turned key x e) (less key y f)) ks)) ks in
         subst (IsStrictlySortedBy cmp) (sym keys)
         (sorted_joined cmp lower (key ∷ upper) (IsStrictlySortedBy-filter cmp _ ks up) (sorted_under cmp key upper under (IsStrictlySortedBy-filter cmp _ ks up)) between)
 

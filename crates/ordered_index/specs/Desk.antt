@@ -73,16 +73,16 @@ module _ {K V : Type 0} where
     pub left : new.desk ≡ slice_set old.desk place None
 
   -- the reads that a commit rests on
-  abbrev pub RestsOn : Machine K V → ReadSet K V → List (Read K V) → Type 0
-  RestsOn m sets.Empty reads = reads ≡ []
-  RestsOn m (sets.Receipt receipt) reads = reads ≡ receipt.reads
-  RestsOn m (sets.Session label) reads = (place : ℕ) × (seat : Seat K V) × SitsAt m.desk label place seat × (reads ≡ seat.session.receipt.reads)
+  abbrev pub RestsOn : List (Option (Seat K V)) → ReadSet K V → List (Read K V) → Type 0
+  RestsOn desk sets.Empty reads = reads ≡ []
+  RestsOn desk (sets.Receipt receipt) reads = reads ≡ receipt.reads
+  RestsOn desk (sets.Session label) reads = (place : ℕ) × (seat : Seat K V) × SitsAt desk label place seat × (reads ≡ seat.session.receipt.reads)
 
   -- they are a session's, and there is no such session
-  abbrev pub RestsOnNone : Machine K V → ReadSet K V → Type 0
-  RestsOnNone m sets.Empty = ⊥
-  RestsOnNone m (sets.Receipt receipt) = ⊥
-  RestsOnNone m (sets.Session label) = IsUnknown m.desk label
+  abbrev pub RestsOnNone : List (Option (Seat K V)) → ReadSet K V → Type 0
+  RestsOnNone desk sets.Empty = ⊥
+  RestsOnNone desk (sets.Receipt receipt) = ⊥
+  RestsOnNone desk (sets.Session label) = IsUnknown desk label
 
   module _ (cmp : K → K → Ordering) where
     -- a used label is busy, before a place is sought
@@ -108,10 +108,10 @@ module _ {K V : Type 0} where
     -- a commit that is refused memory has no reply
     abbrev pub CommitStep : Machine K V → ReadSet K V → List (Write K V) → DeskReply K V → Machine K V → Type 0
     CommitStep old on writes (replies.Accepted told) new =
-        (reads : List (Read K V)) × RestsOn old on reads × Accepts cmp old.index reads writes told new.index × (new.desk ≡ old.desk)
+        (reads : List (Read K V)) × RestsOn old.desk on reads × Accepts cmp old.index reads writes told new.index × (new.desk ≡ old.desk)
     CommitStep old on writes (replies.Refused back) new =
-        (reads : List (Read K V)) × RestsOn old on reads × Refuses cmp old.index reads writes back new.index × (new.desk ≡ old.desk) × (back.cause ≢ causes.Memory)
-    CommitStep old on writes (replies.NoSession back) new = RestsOnNone old on × (back.items ≡ writes) × (new ≡ old)
+        (reads : List (Read K V)) × RestsOn old.desk on reads × Refuses cmp old.index reads writes back new.index × (new.desk ≡ old.desk) × (back.cause ≢ causes.Memory)
+    CommitStep old on writes (replies.NoSession back) new = RestsOnNone old.desk on × (back.items ≡ writes) × (new ≡ old)
     CommitStep old on writes reply new = ⊥
 
     -- from old, the call may be given this reply and lead to new

@@ -1,6 +1,7 @@
 //! Sessions of one index, by labels.
 
-ghost use Rattle.std.specs.Prelude.{◌≡◌, [], None, Some, IfOk, IfSome, IfNone, ℕ, length, replicate, slice_get, slice_set};
+ghost use Rattle.std.specs.Prelude.{◌≡◌, [], None, Some, IfOk, IfSome, IfNone, MatchOption, ℕ, length, replicate, slice_get, slice_set};
+ghost use Rattle.ordered_index.specs.State.{IsOpen, Closes};
 ghost use Rattle.ordered_index.specs.Desk.{Clears, Serves, SitsAt, IsUnknown};
 
 use crate::index::LocalIndex;
@@ -83,11 +84,25 @@ impl<K: Clone + Ord, V: Clone + Eq> Desk<K, V> {
     {
         let Desk { mut seats } = self;
         'closing: while let Some(seat) = seats.pop() {
-            if let Some(Seat { label: _, session }) = seat {
-                let _receipt = index.close_session(session);
-            }
+            close_seat(index, seat);
         }
         seats.destroy_empty();
+    }
+}
+
+// Closes the session of a seat, if it has one.
+fn close_seat<K: Clone + Ord, V: Clone + Eq, const S: usize>(
+    index: &mut LocalIndex<K, V, S>,
+    seat: Option<Seat<K, V>>,
+)
+    requires { IfSome seat (λ s. IsOpen index.old s.session) }
+    ensures { MatchOption seat (index.new ≡ index.old) (λ s. Closes index.old s.session.place index.new) }
+{
+    match seat {
+        Some(Seat { label: _, session }) => {
+            let _receipt = index.close_session(session);
+        }
+        None => {}
     }
 }
 

@@ -1,8 +1,8 @@
 //! Lists of calls, made one after the other.
 
-ghost use Rattle.std.specs.Prelude.{◌≡◌, ◌<◌, ℕ, IfOk, IfErr, OnErr, OnOk, take, length};
+ghost use Rattle.std.specs.Prelude.{◌≡◌, ◌<◌, [], ℕ, IfOk, IfErr, IfSome, IfNone, OnErr, OnOk, take, length};
 ghost use Rattle.leaf_array.specs.Values.{ClonesAreSame, EqualsAreSame};
-ghost use Rattle.ordered_index.specs.Desk.{Serves, KeepsAll, OpenStep, CloseStep, GetStep, CommitStep, Step, Run};
+ghost use Rattle.ordered_index.specs.Desk.{Serves, KeepsAll, RestsOn, RestsOnNone, OpenStep, CloseStep, GetStep, CommitStep, Step, Run};
 
 use crate::commit::{Accepted, Cause, Refused};
 use crate::desk::{Desk, Seat};
@@ -106,6 +106,7 @@ fn play<K: Clone + Ord, V: Clone + Eq, const S: usize>(
     ensures index_kept { OnErr result (index.new ≡ index.old) }
     ensures desk_kept { OnErr result (desk.new ≡ desk.old) }
     ensures serves { Serves (record { index = index.new; desk = desk.new }) }
+    ensures keeps_all { KeepsAll (record { index = index.old; desk = desk.old }) → KeepsAll (record { index = index.new; desk = desk.new }) }
 {
     match call {
         DeskCall::Open(label) => Ok(play_open(index, desk, label)),
@@ -124,6 +125,7 @@ fn play_open<K: Clone + Ord, V: Clone + Eq, const S: usize>(
     requires { Serves (record { index = index.old; desk = desk.old }) }
     ensures step { OpenStep K.cmp (record { index = index.old; desk = desk.old }) label result (record { index = index.new; desk = desk.new }) }
     ensures serves { Serves (record { index = index.new; desk = desk.new }) }
+    ensures keeps_all { KeepsAll (record { index = index.old; desk = desk.old }) → KeepsAll (record { index = index.new; desk = desk.new }) }
 {
     if let Some(_) = desk.seat(label) {
         return DeskReply::Busy;
@@ -148,6 +150,7 @@ fn play_close<K: Clone + Ord, V: Clone + Eq, const S: usize>(
     requires { Serves (record { index = index.old; desk = desk.old }) }
     ensures step { CloseStep K.cmp (record { index = index.old; desk = desk.old }) label result (record { index = index.new; desk = desk.new }) }
     ensures serves { Serves (record { index = index.new; desk = desk.new }) }
+    ensures keeps_all { KeepsAll (record { index = index.old; desk = desk.old }) → KeepsAll (record { index = index.new; desk = desk.new }) }
 {
     match desk.leave(label) {
         Some(Seat { label: _, session }) => DeskReply::Closed(index.close_session(session)),
@@ -192,21 +195,37 @@ fn play_commit<K: Clone + Ord, V: Clone + Eq, const S: usize>(
     ensures step { IfOk result (λ reply. CommitStep K.cmp (record { index = index.old; desk = desk.now }) on.now writes.items reply (record { index = index.new; desk = desk.now })) }
     ensures err { OnErr result (index.new ≡ index.old) }
     ensures serves { Serves (record { index = index.new; desk = desk.now }) }
+    ensures keeps_all { KeepsAll (record { index = index.old; desk = desk.now }) → KeepsAll (record { index = index.new; desk = desk.now }) }
 {
     let blank = Receipt::blank(alloc);
-    let receipt = match on {
-        ReadSet::Empty => &blank,
-        ReadSet::Receipt(receipt) => receipt,
-        ReadSet::Session(label) => match desk.seat(*label) {
-            Some(seat) => index.receipt(&seat.session),
-            None => return Ok(DeskReply::NoSession(writes)),
-        },
+    let Some(receipt) = reads_of(desk, on, &blank) else {
+        return Ok(DeskReply::NoSession(writes));
     };
     match index.commit(receipt, writes) {
         Ok(accepted) => Ok(DeskReply::Accepted(accepted)),
         Err(refused) => match refused.cause {
             Cause::Memory => Err(AllocError),
             _ => Ok(DeskReply::Refused(refused)),
+        },
+    }
+}
+
+// The receipt with the reads that a commit rests on, if it has a session where it names one.
+fn reads_of<'a, K, V>(
+    desk: &'a Desk<K, V>,
+    on: &'a ReadSet<K, V>,
+    blank: &'a Receipt<K, V>,
+) -> Option<&'a Receipt<K, V>>
+    requires { blank.now.reads ≡ [] }
+    ensures some { IfSome result (λ receipt. RestsOn desk.now on.now receipt.now.reads) }
+    ensures none { IfNone result (RestsOnNone desk.now on.now) }
+{
+    match on {
+        ReadSet::Empty => Some(blank),
+        ReadSet::Receipt(receipt) => Some(receipt),
+        ReadSet::Session(label) => match desk.seat(*label) {
+            Some(seat) => Some(seat.session.receipt()),
+            None => None,
         },
     }
 }
