@@ -2,10 +2,20 @@
 #![tactic(auto)]
 
 mod line;
+mod reply;
 mod request;
+mod run;
+mod script;
 mod text;
 mod words;
 
-fn main(_rt: HostRuntime) {
-    let _ = request::read_line(_rt.alloc(), None);
+use run::{outcome, run};
+use std::io;
+use std::process::ExitCode;
+
+fn main(rt: HostRuntime) -> ExitCode {
+    let ended = run::<64, _, _>(rt.alloc(), &mut rt.reader(), &mut io::writer(&rt), 16, 4096);
+    let (status, text) = outcome(&ended);
+    let _ = eprint!(rt; "{text}");
+    ExitCode::from(status)
 }

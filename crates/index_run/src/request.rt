@@ -4,6 +4,7 @@ ghost use Rattle.std.specs.Prelude.{◌≡◌, ◌++◌, List, ℕ, IfOk, IfErr,
 ghost use Rattle.std.specs.Fmt.{decimal};
 ghost use Rattle.std.specs.Option.{option_copied};
 ghost use Rattle.index_run.specs.Lines.{Lacks, kept};
+ghost use Rattle.index_run.specs.Replies.{word_of};
 ghost use Rattle.index_run.specs.Requests.{Asks, IsNoNumber, Reads};
 
 use crate::text::Text;
@@ -28,6 +29,23 @@ pub enum Fault {
     Session,
     /// Its label has a session already.
     Busy,
+}
+
+impl Fault {
+    /// The word that tells it.
+    pub fn word(self) -> &'static str
+        ensures { result.now ≡ word_of self }
+    {
+        match self {
+            Fault::Long => "long",
+            Fault::Text => "text",
+            Fault::Command => "command",
+            Fault::Words => "words",
+            Fault::Number => "number",
+            Fault::Session => "session",
+            Fault::Busy => "busy",
+        }
+    }
 }
 
 /// What a line asks for.
