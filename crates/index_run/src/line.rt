@@ -76,7 +76,7 @@ impl Begun {
 
     /// Whether nothing has come in.
     pub fn is_empty(&self) -> bool
-        ensures { (line : List ℕ) → self.now ≡ kept line → (IsTrue result ↔ (line ≡ [])) }
+        ensures { IsTrue result ↔ (self.now ≡ kept []) }
     {
         !self.long && self.bytes.is_empty()
     }

@@ -86,7 +86,9 @@ fn serve<const S: usize, R: Read, W: Write>(
         if count == 0 {
             return finish(script, &begun, writer);
         }
-        feed(script, &mut begun, &buffer[..count], writer)?;
+        if let Err(stopped) = feed(script, &mut begun, &buffer[..count], writer) {
+            return Err(stopped);
+        }
     }
     Err(RunError::Read)
 }
@@ -107,13 +109,15 @@ fn feed<const S: usize, W: Write>(
 {
     let mut rest = piece;
     'lines: while let Some((part, behind)) = split_line(rest) {
-        end_line(script, begun, part, writer)?;
+        if let Err(stopped) = end_line(script, begun, part, writer) {
+            return Err(stopped);
+        }
         rest = behind;
     }
-    match begun.extend(rest) {
-        Ok(()) => Ok(()),
-        Err(_) => Err(RunError::Memory),
-    }
+    let Ok(()) = begun.extend(rest) else {
+        return Err(RunError::Memory);
+    };
+    Ok(())
 }
 
 // Answers the line that ends with this part, and begins the next.
