@@ -19,3 +19,6 @@ fn main(rt: HostRuntime) -> ExitCode {
     let _ = eprint!(rt; "{text}");
     ExitCode::from(status)
 }
+
+#[cfg(test)]
+mod tests;
