@@ -68,88 +68,88 @@ Outputs-push old mid new (l ∷ lines) output line text h acts =
 
 Answered-push : (old mid new : Script) (lines : List (List ℕ)) (line : List ℕ) (w w' w'' : Option (List ℕ)) → Answered old lines w w' mid → Answers mid line w' w'' new → Answered old (lines ++ line ∷ []) w w'' new
 Answered-push old mid new lines line w w' w'' a b = record {
-    output = a.output ++ b.text;
-    outputs = Outputs-push old mid new lines a.output line b.text a.outputs b.acts;
-    written = Appends-trans w w' w'' a.output b.text a.written b.written;
-  }
+  output = a.output ++ b.text;
+  outputs = Outputs-push old mid new lines a.output line b.text a.outputs b.acts;
+  written = Appends-trans w w' w'' a.output b.text a.written b.written;
+}
 
 -- nothing more was written
 Answered-kept : (old now : Script) (lines : List (List ℕ)) (w w' w'' : Option (List ℕ)) → Answered old lines w w' now → Appends w' w'' [] → Answered old lines w w'' now
 Answered-kept old now lines w w' w'' a kept = record {
-    output = a.output;
-    outputs = a.outputs;
-    written = subst (Appends w w'') (append-nil a.output) (Appends-trans w w' w'' a.output [] a.written kept);
-  }
+  output = a.output;
+  outputs = a.outputs;
+  written = subst (Appends w w'') (append-nil a.output) (Appends-trans w w' w'' a.output [] a.written kept);
+}
 
 Breaks-push : (old mid : Script) (lines : List (List ℕ)) (line : List ℕ) (w w' w'' : Option (List ℕ)) → Answered old lines w w' mid → Falters mid line w' w'' → Breaks old lines line w w''
 Breaks-push old mid lines line w w' w'' a f = record {
-    mid = mid;
-    new = f.new;
-    output = a.output;
-    text = f.text;
-    n = f.n;
-    outputs = a.outputs;
-    acts = f.acts;
-    written = Appends-trans w w' w'' a.output (take f.n f.text) a.written f.written;
-  }
+  mid = mid;
+  new = f.new;
+  output = a.output;
+  text = f.text;
+  n = f.n;
+  outputs = a.outputs;
+  acts = f.acts;
+  written = Appends-trans w w' w'' a.output (take f.n f.text) a.written f.written;
+}
 
 Begins-more : (input : List ℕ) (lines : List (List ℕ)) (rest more : List ℕ) → Begins input lines rest → Begins (input ++ more) lines (rest ++ more)
 Begins-more input lines rest more b = record {
-    whole = ap (λ i. i ++ more) b.whole ∙ joined-more lines rest more;
-    unbroken = b.unbroken;
-  }
+  whole = ap (λ i. i ++ more) b.whole ∙ joined-more lines rest more;
+  unbroken = b.unbroken;
+}
 
 -- the begun line goes on
 Taken-part : (start : Script) (input part : List ℕ) (w w' begun begun' : Option (List ℕ)) (now : Script) → Taken start input w w' begun now → Lacks 10 part → ((line : List ℕ) → begun ≡ kept line → begun' ≡ kept (line ++ part)) → Taken start (input ++ part) w w' begun' now
 Taken-part start input part w w' begun begun' now t lacks grown = record {
-    lines = t.lines;
-    line = t.line ++ part;
-    splits = record {
-      begins = Begins-more input t.lines t.line part t.splits.begins;
-      rest = Lacks-append 10 t.line part t.splits.rest lacks;
-    };
-    keeps = grown t.line t.keeps;
-    answered = t.answered;
-  }
+  lines = t.lines;
+  line = t.line ++ part;
+  splits = record {
+    begins = Begins-more input t.lines t.line part t.splits.begins;
+    rest = Lacks-append 10 t.line part t.splits.rest lacks;
+  };
+  keeps = grown t.line t.keeps;
+  answered = t.answered;
+}
 
 -- the begun line ends, and is answered
 Taken-line : (start : Script) (input part : List ℕ) (w w' w'' begun begun' : Option (List ℕ)) (old new : Script) → Taken start input w w' begun old → Lacks 10 part → ((line : List ℕ) → begun ≡ kept line → Answers old (line ++ part) w' w'' new) → begun' ≡ kept [] → Taken start (input ++ (part ++ 10 ∷ [])) w w'' begun' new
 Taken-line start input part w w' w'' begun begun' old new t lacks answers cleared = record {
-    lines = t.lines ++ (t.line ++ part) ∷ [];
-    line = [];
-    splits = record {
-      begins = record {
-        whole =
-            (Begins-more input t.lines t.line (part ++ 10 ∷ []) t.splits.begins).whole
-            ∙ ap (joined t.lines) (sym (append_assoc t.line part (10 ∷ [])))
-            ∙ joined-line t.lines (t.line ++ part) [];
-        unbroken = unbroken-push t.lines (t.line ++ part) t.splits.begins.unbroken (Lacks-append 10 t.line part t.splits.rest lacks);
-      };
-      rest = tt;
+  lines = t.lines ++ (t.line ++ part) ∷ [];
+  line = [];
+  splits = record {
+    begins = record {
+      whole =
+          (Begins-more input t.lines t.line (part ++ 10 ∷ []) t.splits.begins).whole
+          ∙ ap (joined t.lines) (sym (append_assoc t.line part (10 ∷ [])))
+          ∙ joined-line t.lines (t.line ++ part) [];
+      unbroken = unbroken-push t.lines (t.line ++ part) t.splits.begins.unbroken (Lacks-append 10 t.line part t.splits.rest lacks);
     };
-    keeps = cleared;
-    answered = Answered-push start old new t.lines (t.line ++ part) w w' w'' t.answered (answers t.line t.keeps);
-  }
+    rest = tt;
+  };
+  keeps = cleared;
+  answered = Answered-push start old new t.lines (t.line ++ part) w w' w'' t.answered (answers t.line t.keeps);
+}
 
 -- the begun line ends, and its reply isn't written whole
 Taken-breaks : (start : Script) (input part behind : List ℕ) (w w' w'' begun : Option (List ℕ)) (old : Script) → Taken start input w w' begun old → Lacks 10 part → ((line : List ℕ) → begun ≡ kept line → Falters old (line ++ part) w' w'') → BreaksOff start (input ++ (part ++ 10 ∷ behind)) w w''
 Taken-breaks start input part behind w w' w'' begun old t lacks falters = record {
-    lines = t.lines;
-    rest = t.line ++ (part ++ 10 ∷ behind);
-    line = t.line ++ part;
-    begins = Begins-more input t.lines t.line (part ++ 10 ∷ behind) t.splits.begins;
-    next = (Lacks-append 10 t.line part t.splits.rest lacks, inr (behind, sym (append_assoc t.line part (10 ∷ behind))));
-    breaks = Breaks-push start old t.lines (t.line ++ part) w w' w'' t.answered (falters t.line t.keeps);
-  }
+  lines = t.lines;
+  rest = t.line ++ (part ++ 10 ∷ behind);
+  line = t.line ++ part;
+  begins = Begins-more input t.lines t.line (part ++ 10 ∷ behind) t.splits.begins;
+  next = (Lacks-append 10 t.line part t.splits.rest lacks, inr (behind, sym (append_assoc t.line part (10 ∷ behind))));
+  breaks = Breaks-push start old t.lines (t.line ++ part) w w' w'' t.answered (falters t.line t.keeps);
+}
 
 Taken-stops : (start : Script) (input more : List ℕ) (w w' w'' begun : Option (List ℕ)) (old : Script) → Taken start input w w' begun old → Appends w' w'' [] → StopsShort start (input ++ more) w w''
 Taken-stops start input more w w' w'' begun old t kept = record {
-    lines = t.lines;
-    rest = t.line ++ more;
-    new = old;
-    begins = Begins-more input t.lines t.line more t.splits.begins;
-    answered = Answered-kept start old t.lines w w' w'' t.answered kept;
-  }
+  lines = t.lines;
+  rest = t.line ++ more;
+  new = old;
+  begins = Begins-more input t.lines t.line more t.splits.begins;
+  answered = Answered-kept start old t.lines w w' w'' t.answered kept;
+}
 
 -- nothing of the piece was taken yet
 pub Feeds-none : (old : Script) (begun w : Option (List ℕ)) → Feeds old begun [] w w begun old
@@ -188,26 +188,26 @@ module _ (start now : Script) (r r' r'' w w' begun : Option (List ℕ)) (s : Ser
   -- a read fails
   pub serves-fails : Keeps r' r'' → StopsReading start r r'' w w'
   serves-fails kept = record {
-      input = s.input;
-      lines = s.taken.lines;
-      begun = s.taken.line;
-      new = now;
-      read = Consumes-keeps r r' r'' s.input s.read kept;
-      splits = s.taken.splits;
-      answered = s.taken.answered;
-    }
+    input = s.input;
+    lines = s.taken.lines;
+    begun = s.taken.line;
+    new = now;
+    read = Consumes-keeps r r' r'' s.input s.read kept;
+    splits = s.taken.splits;
+    answered = s.taken.answered;
+  }
 
   -- the reads come to their end
   pub serves-stops : StopsReading start r r' w w'
   serves-stops = record {
-      input = s.input;
-      lines = s.taken.lines;
-      begun = s.taken.line;
-      new = now;
-      read = s.read;
-      splits = s.taken.splits;
-      answered = s.taken.answered;
-    }
+    input = s.input;
+    lines = s.taken.lines;
+    begun = s.taken.line;
+    new = now;
+    read = s.read;
+    splits = s.taken.splits;
+    answered = s.taken.answered;
+  }
 
   at_end : Consumes r' r'' [] → Consumes r r'' s.input
   at_end none = subst (Consumes r r'') (append-nil s.input) (Consumes-trans r r' r'' s.input [] s.read none)
@@ -218,14 +218,14 @@ module _ (start now : Script) (r r' r'' w w' begun : Option (List ℕ)) (s : Ser
   -- the input ends behind an LF, or with a line that is answered
   pub serves-ends : (w'' : Option (List ℕ)) (new : Script) → Consumes r' r'' [] → IsAtEnd r'' → Finishes now begun w' w'' new → Ends start r r'' w w''
   serves-ends w'' new none end (inl f) = record {
-      input = s.input;
-      lines = s.taken.lines;
-      new = now;
-      read = at_end none;
-      at_end = end;
-      are_lines = (s.taken.lines, s.taken.line, s.taken.splits, ap (ended s.taken.lines) (sym (same-line f.0)));
-      answered = subst (λ v. Answered start s.taken.lines w v now) (sym f.2) s.taken.answered;
-    }
+    input = s.input;
+    lines = s.taken.lines;
+    new = now;
+    read = at_end none;
+    at_end = end;
+    are_lines = (s.taken.lines, s.taken.line, s.taken.splits, ap (ended s.taken.lines) (sym (same-line f.0)));
+    answered = subst (λ v. Answered start s.taken.lines w v now) (sym f.2) s.taken.answered;
+  }
   serves-ends w'' new none end (inr f) =
       let g = f s.taken.line s.taken.keeps in
       record {
@@ -241,35 +241,35 @@ module _ (start now : Script) (r r' r'' w w' begun : Option (List ℕ)) (s : Ser
   -- the last line falters
   pub serves-falters : (w'' : Option (List ℕ)) → Consumes r' r'' [] → ((line : List ℕ) → begun ≡ kept line → Falters now line w' w'') → StopsWriting start r r'' w w''
   serves-falters w'' none falters = record {
-      input = s.input;
-      lines = s.taken.lines;
-      rest = s.taken.line;
-      line = s.taken.line;
-      read = at_end none;
-      begins = s.taken.splits.begins;
-      next = (s.taken.splits.rest, inl refl);
-      breaks = Breaks-push start now s.taken.lines s.taken.line w w' w'' s.taken.answered (falters s.taken.line s.taken.keeps);
-    }
+    input = s.input;
+    lines = s.taken.lines;
+    rest = s.taken.line;
+    line = s.taken.line;
+    read = at_end none;
+    begins = s.taken.splits.begins;
+    next = (s.taken.splits.rest, inl refl);
+    breaks = Breaks-push start now s.taken.lines s.taken.line w w' w'' s.taken.answered (falters s.taken.line s.taken.keeps);
+  }
 
   -- memory is wanted for the last line
   pub serves-short : (w'' : Option (List ℕ)) → Consumes r' r'' [] → Appends w' w'' [] → StopsForMemory start r r'' w w''
   serves-short w'' none kept = record {
-      input = s.input;
-      lines = s.taken.lines;
-      rest = s.taken.line;
-      new = now;
-      read = at_end none;
-      begins = s.taken.splits.begins;
-      answered = Answered-kept start now s.taken.lines w w' w'' s.taken.answered kept;
-    }
+    input = s.input;
+    lines = s.taken.lines;
+    rest = s.taken.line;
+    new = now;
+    read = at_end none;
+    begins = s.taken.splits.begins;
+    answered = Answered-kept start now s.taken.lines w w' w'' s.taken.answered kept;
+  }
 
   -- a piece is taken
   pub serves-piece : (piece : List ℕ) (w'' begun' : Option (List ℕ)) (new : Script) → Consumes r' r'' piece → Feeds now begun piece w' w'' begun' new → Serves start r r'' w w'' begun' new
   serves-piece piece w'' begun' new read fed = record {
-      input = s.input ++ piece;
-      read = Consumes-trans r r' r'' s.input piece s.read read;
-      taken = fed start s.input w s.taken;
-    }
+    input = s.input ++ piece;
+    read = Consumes-trans r r' r'' s.input piece s.read read;
+    taken = fed start s.input w s.taken;
+  }
 
   pub serves-breaks : (piece : List ℕ) (w'' : Option (List ℕ)) → Consumes r' r'' piece → FeedBreaks now begun piece w' w'' → StopsWriting start r r'' w w''
   serves-breaks piece w'' read fed =
@@ -301,28 +301,28 @@ module _ (start now : Script) (r r' r'' w w' begun : Option (List ℕ)) (s : Ser
 -- before the first read
 pub serves-none : (start : Script) (r w begun : Option (List ℕ)) → begun ≡ kept [] → Serves start r r w w begun start
 serves-none start r w begun e = record {
-    input = [];
-    read = Consumes-same r;
-    taken = record {
-      lines = [];
-      line = [];
-      splits = record { begins = record { whole = refl; unbroken = tt }; rest = tt };
-      keeps = e;
-      answered = record { output = []; outputs = (refl, refl); written = Appends-same w };
-    };
-  }
+  input = [];
+  read = Consumes-same r;
+  taken = record {
+    lines = [];
+    line = [];
+    splits = record { begins = record { whole = refl; unbroken = tt }; rest = tt };
+    keeps = e;
+    answered = record { output = []; outputs = (refl, refl); written = Appends-same w };
+  };
+}
 
 -- nothing was read
 pub stops-at_once : (start : Script) (r w : Option (List ℕ)) → StopsForMemory start r r w w
 stops-at_once start r w = record {
-    input = [];
-    lines = [];
-    rest = [];
-    new = start;
-    read = Consumes-same r;
-    begins = record { whole = refl; unbroken = tt };
-    answered = record { output = []; outputs = (refl, refl); written = Appends-same w };
-  }
+  input = [];
+  lines = [];
+  rest = [];
+  new = start;
+  read = Consumes-same r;
+  begins = record { whole = refl; unbroken = tt };
+  answered = record { output = []; outputs = (refl, refl); written = Appends-same w };
+}
 
 pub on_ok : {T E P Q : Type 0} (r : Result T E) → (P → Q) → OnOk r P → OnOk r Q
 on_ok (Ok x) f p = f p

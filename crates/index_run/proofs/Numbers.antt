@@ -129,12 +129,12 @@ read_text line (requests.Faulty faults.Busy) short text asks = absurd asks
 -- what is kept of a line says whether it is too long
 pub kept_none : (line : List ℕ) → None ≡ kept line → 65536 < length line
 kept_none line e = (elim (nat_le (length line) 65536) as (λ b. nat_le (length line) 65536 ≡ b → None ≡ cond b (Some line) None → 65536 < length line) [
-    | true ↦ λ is e. absurd cc
-    | false ↦ λ is e. grind (arith, nat_tests)
-  ]) refl e
+  | true ↦ λ is e. absurd cc
+  | false ↦ λ is e. grind (arith, nat_tests)
+]) refl e
 
 pub kept_some : (bytes line : List ℕ) → Some bytes ≡ kept line → (bytes ≡ line) × (length line ≤ 65536)
 kept_some bytes line e = (elim (nat_le (length line) 65536) as (λ b. nat_le (length line) 65536 ≡ b → Some bytes ≡ cond b (Some line) None → (bytes ≡ line) × (length line ≤ 65536)) [
-    | true ↦ λ is e. (cc, grind (arith, nat_tests))
-    | false ↦ λ is e. absurd cc
-  ]) refl e
+  | true ↦ λ is e. (cc, grind (arith, nat_tests))
+  | false ↦ λ is e. absurd cc
+]) refl e

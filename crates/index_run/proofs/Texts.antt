@@ -14,7 +14,7 @@ told_push (y ∷ xs) x = ap (λ t. told_text y ++ t) (told_push xs x) ∙ sym (a
 pub told_more : (number : ℕ) (replies : List Reply) (i : ℕ) (text text' word : List ℕ) → i < length replies → text ≡ codes "ok " ++ decimal number ++ told_texts (take i replies) → word ≡ told_text (get_or replies i Inserted) → text' ≡ text ++ word → text' ≡ codes "ok " ++ decimal number ++ told_texts (take (i + 1) replies)
 told_more number replies i text text' word lt before told grown =
     let all : told_texts (take (i + 1) replies) ≡ told_texts (take i replies) ++ word =
-        ap told_texts (take_more replies i Inserted lt) ∙ told_push (take i replies) (get_or replies i Inserted) ∙ ap (λ w. told_texts (take i replies) ++ w) (sym told) in
+    ap told_texts (take_more replies i Inserted lt) ∙ told_push (take i replies) (get_or replies i Inserted) ∙ ap (λ w. told_texts (take i replies) ++ w) (sym told) in
     grown ∙ ap (λ t. t ++ word) before ∙ ap (λ t. codes "ok " ++ t) (append_assoc (decimal number) (told_texts (take i replies)) word ∙ ap (λ t. decimal number ++ t) (sym all))
 
 -- what all writes were told, and the end of the line

@@ -21,13 +21,13 @@ pub record Script : Type 0 where
 -- before the first line: no commit, no session, nothing staged
 abbrev pub fresh : ℕ → Script
 fresh places = record {
-    machine = record {
-      index = record { history = []; places = replicate places None; last = 2 ^ 64 - 1 };
-      desk = replicate places None;
-    };
-    staged = [];
-    line = 0;
-  }
+  machine = record {
+    index = record { history = []; places = replicate places None; last = 2 ^ 64 - 1 };
+    desk = replicate places None;
+  };
+  staged = [];
+  line = 0;
+}
 
 -- an accepted commit takes what was staged; nothing else does
 abbrev pub left_staged : DeskReply ℕ (List ℕ) → List (Write ℕ (List ℕ)) → List (Write ℕ (List ℕ))

@@ -90,7 +90,7 @@ fn serve<const S: usize, R: Read, W: Write>(
             return Err(stopped);
         }
     }
-    Err(RunError::Read)
+    Err(RunError::Read) // the last read that a run makes still gave bytes
 }
 
 // Answers the lines that end in the piece.

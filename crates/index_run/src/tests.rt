@@ -8,11 +8,12 @@ use std::str;
 use std::test::Fail;
 
 const FIRST: &[u8] = b"insert 1 ten\ncommit -\nopen 7\nget 7 1\nclose 7\n";
+
 const FIRST_OUTPUT: &str = "staged 1\nok 1 inserted\nopen 7 at 1\nsome ten\nclosed 7\n";
 
 // The last line has no LF.
-const SECOND: &[u8] =
-    b"insert 1 ten\ninsert 1 x\ncommit -\nopen 7\nget 7 1\nget 9 1\nclose 7";
+const SECOND: &[u8] = b"insert 1 ten\ninsert 1 x\ncommit -\nopen 7\nget 7 1\nget 9 1\nclose 7";
+
 const SECOND_OUTPUT: &str =
     "staged 1\nstaged 2\nok 1 inserted duplicate\nopen 7 at 1\nsome ten\nline 6: session\nclosed 7\n";
 
@@ -39,7 +40,9 @@ struct Cut {
 impl Read for Cut {
     fn read(&mut self, buf: &mut [u8]) -> io::Result<usize> {
         let rest = self.input.get(self.given..).unwrap_or(b"");
-        let front = rest.get(..self.cut.saturating_sub(self.given)).unwrap_or(b"");
+        let front = rest
+            .get(..self.cut.saturating_sub(self.given))
+            .unwrap_or(b"");
         let mut part = if front.is_empty() { rest } else { front };
         let count = part.read(buf)?;
         self.given = self.given.saturating_add(count);
@@ -175,7 +178,10 @@ fn lines_at_fault_are_told_and_counted(rt: HostRuntime) -> Result<(), Fail> {
         (b"open 007\n", "line 1: number\n"),
         (b"open +7\n", "line 1: number\n"),
         (b"open 0\n", "open 0 at 0\n"),
-        (b"open 18446744073709551615\n", "open 18446744073709551615 at 0\n"),
+        (
+            b"open 18446744073709551615\n",
+            "open 18446744073709551615 at 0\n",
+        ),
         (b"open 18446744073709551616\n", "line 1: number\n"),
         (b"insert 1 \xff\n", "line 1: text\n"),
         (b"open 1\r", "line 1: number\n"),
@@ -189,22 +195,40 @@ fn lines_at_fault_are_told_and_counted(rt: HostRuntime) -> Result<(), Fail> {
 
 #[test]
 fn lines_are_numbered_bad_ones_too(rt: HostRuntime) -> Result<(), Fail> {
-    let out = output(rt.alloc(), b"x\n\ncommit -\nopen 1\nopen 1\nget 2 1\nclose 2")?;
-    assert_eq!(rt; text_of(&out), "line 1: command\nline 2: command\nok 1\nopen 1 at 1\nline 5: busy\nline 6: session\nline 7: session\n");
+    let out = output(
+        rt.alloc(),
+        b"x\n\ncommit -\nopen 1\nopen 1\nget 2 1\nclose 2",
+    )?;
+    assert_eq!(rt;
+        text_of(&out),
+        "line 1: command\nline 2: command\nok 1\nopen 1 at 1\nline 5: busy\nline 6: session\nline 7: session\n"
+    );
     Ok(())
 }
 
 #[test]
 fn a_session_reads_the_list_at_its_opening(rt: HostRuntime) -> Result<(), Fail> {
-    let out = output(rt.alloc(), b"open 1\ninsert 5 \xc3\xa9 x\ncommit 1\nget 1 5\nopen 2\nget 2 5\nopen 3\nopen 1\nclose 1\nopen 3\n")?;
-    assert_eq!(rt; text_of(&out), "open 1 at 0\nstaged 1\nok 1 inserted\nnone\nopen 2 at 1\nsome \u{e9} x\nnoplace\nline 8: busy\nclosed 1\nopen 3 at 1\n");
+    let out = output(
+        rt.alloc(),
+        b"open 1\ninsert 5 \xc3\xa9 x\ncommit 1\nget 1 5\nopen 2\nget 2 5\nopen 3\nopen 1\nclose 1\nopen 3\n",
+    )?;
+    assert_eq!(rt;
+        text_of(&out),
+        "open 1 at 0\nstaged 1\nok 1 inserted\nnone\nopen 2 at 1\nsome \u{e9} x\nnoplace\nline 8: busy\nclosed 1\nopen 3 at 1\n"
+    );
     Ok(())
 }
 
 #[test]
 fn an_accepted_commit_takes_the_staged_writes_and_no_other(rt: HostRuntime) -> Result<(), Fail> {
-    let out = output(rt.alloc(), b"insert 1 a\ncommit 9\ninsert 2 b\ncommit -\ncommit -\ninsert 1 c\ncommit -\n")?;
-    assert_eq!(rt; text_of(&out), "staged 1\nline 2: session\nstaged 2\nok 1 inserted inserted\nok 2\nstaged 1\nok 3 duplicate\n");
+    let out = output(
+        rt.alloc(),
+        b"insert 1 a\ncommit 9\ninsert 2 b\ncommit -\ncommit -\ninsert 1 c\ncommit -\n",
+    )?;
+    assert_eq!(rt;
+        text_of(&out),
+        "staged 1\nline 2: session\nstaged 2\nok 1 inserted inserted\nok 2\nstaged 1\nok 3 duplicate\n"
+    );
     Ok(())
 }
 
@@ -212,8 +236,14 @@ fn an_accepted_commit_takes_the_staged_writes_and_no_other(rt: HostRuntime) -> R
 fn long_line(alloc: Global, value: usize) -> Result<Vec<u8>, RunError> {
     let mut input = Vec::from_elem(alloc, b'v', value).map_err(|_| RunError::Memory)?;
     let mut script = Vec::new(alloc);
-    for part in [b"insert 1 ".as_slice(), input.as_slice(), b"\ncommit -\n".as_slice()] {
-        script.extend_from_slice(part).map_err(|_| RunError::Memory)?;
+    for part in [
+        b"insert 1 ".as_slice(),
+        input.as_slice(),
+        b"\ncommit -\n".as_slice(),
+    ] {
+        script
+            .extend_from_slice(part)
+            .map_err(|_| RunError::Memory)?;
     }
     input.clear();
     output(alloc, script.as_slice())
@@ -261,7 +291,9 @@ fn a_failed_read_drops_the_begun_line(rt: HostRuntime) -> Result<(), Fail> {
             };
             let ended = run::<64, _, _>(rt.alloc(), &mut reader, &mut out, 16, 4096);
             assert_eq!(rt; ended, Err(RunError::Read), "at {at}");
-            let told = SECOND_OUTPUT.get(..answered(SECOND.get(..at).unwrap_or(b""), SECOND_OUTPUT));
+            let told = SECOND_OUTPUT.get(
+                ..answered(SECOND.get(..at).unwrap_or(b""), SECOND_OUTPUT),
+            );
             assert_eq!(rt; Some(text_of(&out)), told, "at {at}");
         }
     }
@@ -280,7 +312,11 @@ fn a_failed_write_leaves_a_beginning_of_the_output(rt: HostRuntime) -> Result<()
             };
             let ended = run::<64, _, _>(rt.alloc(), &mut reader, &mut writer, 16, 4096);
             assert_eq!(rt; ended, Err(RunError::Write), "at {at}");
-            assert_eq!(rt; Some(text_of(&writer.taken)), SECOND_OUTPUT.get(..at), "at {at}");
+            assert_eq!(rt;
+                Some(text_of(&writer.taken)),
+                SECOND_OUTPUT.get(..at),
+                "at {at}"
+            );
         }
     }
     Ok(())

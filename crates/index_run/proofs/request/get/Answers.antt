@@ -10,6 +10,6 @@ returns-in-Some-split_word c =
     inr (inr (inr (inl (
       inr (c.args.rest.now, refl),
       λ label key w.
-        not_two c.args.rest.now c.in-Some.label.now c.in-Some.key.now c.in-Some-split_word.field-0.0.now c.in-Some-split_word.field-0.1.now label key
-        c.in-Some.ensures.some c.in-Some-split_word.ensures.some.0 w,
+          not_two c.args.rest.now c.in-Some.label.now c.in-Some.key.now c.in-Some-split_word.field-0.0.now c.in-Some-split_word.field-0.1.now label key
+          c.in-Some.ensures.some c.in-Some-split_word.ensures.some.0 w,
     ))))

@@ -24,7 +24,7 @@ lines-preserved g c =
       regroup c.args.piece.now i.0 _ c.in-Some.part.now c.in-Some.behind.now i.1 cut.0,
       omega (arith, c.in_default-end_line.ensures.counted, i.2, length-append i.0 (c.in-Some.part.now ++ 10 ∷ []), length-append c.in-Some.part.now (10 ∷ [])),
       Feeds-line c.args.script.now c.lines.script c.end_line.new.script c.args.begun.now c.lines.begun c.end_line.new.begun _ (g.W.Write.contents c.lines.writer) _ i.0 c.in-Some.part.now i.3 cut.1
-      c.in_default-end_line.ensures.ok c.in_default-end_line.ensures.begun,
+          c.in_default-end_line.ensures.ok c.in_default-end_line.ensures.begun,
     )
 
 pub returns-clause-ok : goal.returns-clause-ok

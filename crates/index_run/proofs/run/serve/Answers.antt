@@ -8,7 +8,7 @@ returns-then-count-eq0-clause-done g c =
     let i = c.loop-read.invariant in
     let read = c.in-Ok.ensures.bytes in
     let none : Consumes (g.R.Read.remaining c.loop-read.reader) (g.R.Read.remaining c.read.new.self) [] =
-        subst (λ n. Consumes (g.R.Read.remaining c.loop-read.reader) (g.R.Read.remaining c.read.new.self) (take n c.read.new.buf)) c.if-count-eq0.true read.0 in
+    subst (λ n. Consumes (g.R.Read.remaining c.loop-read.reader) (g.R.Read.remaining c.read.new.self) (take n c.read.new.buf)) c.if-count-eq0.true read.0 in
     on_ok c.finish.result
     (serves-ends c.args.script.now c.loop-read.script _ (g.R.Read.remaining c.loop-read.reader) _ _ (g.W.Write.contents c.loop-read.writer) c.loop-read.begun i.served _ _ none (read.1 c.if-count-eq0.true (search rules)))
     c.finish.ensures.ok
@@ -17,7 +17,7 @@ pub returns-then-count-eq0-clause-write : goal.returns-then-count-eq0-clause-wri
 returns-then-count-eq0-clause-write g c = λ e.
     let i = c.loop-read.invariant in
     let none : Consumes (g.R.Read.remaining c.loop-read.reader) (g.R.Read.remaining c.read.new.self) [] =
-        subst (λ n. Consumes (g.R.Read.remaining c.loop-read.reader) (g.R.Read.remaining c.read.new.self) (take n c.read.new.buf)) c.if-count-eq0.true c.in-Ok.ensures.bytes.0 in
+    subst (λ n. Consumes (g.R.Read.remaining c.loop-read.reader) (g.R.Read.remaining c.read.new.self) (take n c.read.new.buf)) c.if-count-eq0.true c.in-Ok.ensures.bytes.0 in
     serves-falters c.args.script.now c.loop-read.script _ (g.R.Read.remaining c.loop-read.reader) _ _ (g.W.Write.contents c.loop-read.writer) c.loop-read.begun i.served _ none (c.finish.ensures.write e)
 
 pub returns-in-Err-clause-write : goal.returns-in-Err-clause-write
