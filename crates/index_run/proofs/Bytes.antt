@@ -1,12 +1,12 @@
 -- Known bytes, lines, and what was taken of an input.
-use Rattle.std.proofs.Common.{◌≡◌, ◌≢◌, ℕ, zero, suc, ◌+◌, ◌-◌, ◌<◌, ◌≤◌, List, [], ◌∷◌, ◌++◌, length, take, drop, refl, sym, ap, ◌∙◌, subst, arith, append_assoc, append-nil, inl, inr, ◌⊎◌, Option, Some, None, Result, Ok, Err, OnOk}
+use Rattle.std.proofs.Common.{◌≡◌, ◌≢◌, ℕ, ◌+◌, ◌-◌, List, [], ◌∷◌, ◌++◌, length, take, drop, refl, sym, ap, ◌∙◌, subst, arith, append_assoc, append-nil, inl, inr, Option, Some, None, Result, Ok, Err, OnOk}
 use Rattle.std.proofs.lemmas.List.{take_all, length-drop}
 use Rattle.std.proofs.Math.Seq.{take-add}
 use Rattle.std.specs.Io.KnownBytes.{Consumes, Appends, Keeps, IsAtEnd}
 use Rattle.std.specs.List.{AllByRecursion}
-use Rattle.index_run.specs.Lines.{Lacks, joined, Begins, Splits, ended, AreLines, kept}
+use Rattle.index_run.specs.Lines.{Lacks, joined, Begins, ended, kept}
 use Rattle.index_run.specs.Script.{Script, Acts, Outputs}
-use Rattle.index_run.specs.Runs.{Answered, Breaks, IsNext, Ends, StopsReading, StopsWriting, StopsForMemory}
+use Rattle.index_run.specs.Runs.{Answered, Breaks, Ends, StopsReading, StopsWriting, StopsForMemory}
 use Rattle.index_run.specs.Inside.{Answers, Falters, Taken, Feeds, BreaksOff, FeedBreaks, StopsShort, FeedStops, Serves, Finishes}
 use Rattle.index_run.proofs.Numbers.{kept_some}
 

@@ -1,11 +1,11 @@
 -- Words and numbers.
 use Rattle.std.proofs.lemmas.Bool.{false≢true}
 use Rattle.std.proofs.lemmas.Bool.Decides.{nat_tests}
-use Rattle.std.proofs.Common.{◌≡◌, ◌≢◌, ◌==◌, ◌⊎◌, Bool, true, false, ℕ, zero, suc, ◌<◌, ◌≤◌, ◌^◌, List, [], ◌∷◌, ◌++◌, length, get_or, refl, sym, ap, ◌∙◌, subst, arith, inl, inr, decimal, Ok, Err, Result, lit<}
+use Rattle.std.proofs.Common.{◌≡◌, ◌≢◌, ◌==◌, ◌⊎◌, true, false, ℕ, zero, suc, ◌<◌, ◌≤◌, ◌^◌, List, [], ◌∷◌, ◌++◌, length, get_or, refl, sym, ap, ◌∙◌, subst, arith, inl, inr, decimal, Ok, Err, Result}
 use Rattle.std.proofs.lemmas.Fmt.{decimal_nonempty, decimal_digit, first_decimal, decimal-digits_value, parse-decimal}
 use Rattle.std.proofs.lemmas.Str.Parse.{numerals_by_value, tells_digits, without_leading_plus_none}
 use Rattle.std.specs.Str.Parse.{ParsesUnsigned, AllDigits, digits_value}
-use Rattle.std.specs.Prelude.{codes, Option, Some, None, nat_le, cond}
+use Rattle.std.specs.Prelude.{codes, Some, None, nat_le, cond}
 use Rattle.std.specs.Str.{IsUtf8}
 use Rattle.index_run.specs.Lines.{Lacks, kept}
 use Rattle.index_run.specs.Requests.{IsNumber, HasFirst, IsWithValue, IsWithTwo, Asks, Reads}

@@ -2,7 +2,7 @@
 use Rattle.std.specs.Prelude.{◌≡◌, ◌≢◌, ℕ, ◌⊎◌, Option, List, [], ◌++◌, take}
 use Rattle.std.specs.Io.KnownBytes.{Consumes, Appends}
 use Rattle.index_run.specs.Lines.{Begins, Splits, kept}
-use Rattle.index_run.specs.Script.{Script, Acts, Outputs}
+use Rattle.index_run.specs.Script.{Script, Acts}
 use Rattle.index_run.specs.Runs.{Answered, Breaks, IsNext}
 use Rattle.ordered_index.specs.declared.write.Write.{Write}
 use Rattle.ordered_index.specs.declared.play.DeskCall.{DeskCall}

@@ -1,8 +1,8 @@
 -- What a line of a script asks for, by the texts of the requests.
-use Rattle.std.specs.Prelude.{◌≡◌, ◌≢◌, ℕ, ◌<◌, ◌^◌, Option, Some, None, List, [], ◌∷◌, ◌++◌, length, codes, ◌⊎◌, ◌≤◌}
+use Rattle.std.specs.Prelude.{◌≡◌, ◌≢◌, ℕ, ◌<◌, ◌^◌, Some, None, List, ◌∷◌, ◌++◌, length, codes, ◌⊎◌, ◌≤◌}
 use Rattle.std.specs.Fmt.{decimal}
 use Rattle.std.specs.Str.{IsUtf8}
-use Rattle.index_run.specs.Lines.{Lacks, kept}
+use Rattle.index_run.specs.Lines.{Lacks}
 use Rattle.index_run.specs.declared.request.Request.{Request}
 use Rattle.index_run.specs.declared.request.Request.TheVariants as requests
 use Rattle.index_run.specs.declared.request.Fault.{Fault}

@@ -3,7 +3,7 @@ use Rattle.std.specs.Prelude.{◌≡◌, ℕ, ◌⊎◌, Option, List, [], ◌�
 use Rattle.std.specs.Io.KnownBytes.{Consumes, Appends, IsAtEnd}
 use Rattle.index_run.specs.declared.run.RunError.{RunError}
 use Rattle.index_run.specs.declared.run.RunError.TheVariants as errors
-use Rattle.index_run.specs.Lines.{Lacks, Begins, Splits, AreLines, kept}
+use Rattle.index_run.specs.Lines.{Lacks, Begins, Splits, AreLines}
 use Rattle.index_run.specs.Script.{Script, Acts, Outputs}
 
 -- the output of these lines was written

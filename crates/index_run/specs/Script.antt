@@ -1,5 +1,5 @@
 -- What the lines of a script do, and what is written for them.
-use Rattle.std.specs.Prelude.{◌≡◌, ℕ, ◌+◌, ◌-◌, ◌^◌, List, [], ◌∷◌, ◌++◌, length, replicate, Option, Some, None}
+use Rattle.std.specs.Prelude.{◌≡◌, ℕ, ◌+◌, ◌-◌, ◌^◌, List, [], ◌∷◌, ◌++◌, length, replicate, Some, None}
 use Rattle.std.specs.Ordering.{nat_cmp}
 use Rattle.ordered_index.specs.Desk.{Machine, OpenStep, CloseStep, GetStep, CommitStep}
 use Rattle.ordered_index.specs.declared.write.Write.{Write}

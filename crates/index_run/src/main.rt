@@ -21,4 +21,6 @@ fn main(rt: HostRuntime) -> ExitCode {
 }
 
 #[cfg(test)]
+mod refusals;
+#[cfg(test)]
 mod tests;

@@ -1,4 +1,4 @@
-use Rattle.std.proofs.Common.{refl, sym, ◌∙◌, ap, lit<, arith}
+use Rattle.std.proofs.Common.{lit<, arith}
 use Rattle.index_run.proofs.Texts.{told_more, accepted_whole}
 use Rattle.index_run.proofs.reply.accepted_text.Goals as goal
 

@@ -1,5 +1,5 @@
-use Rattle.std.proofs.Common.{◌++◌, ◌∷◌, [], refl, arith, length-append, ap, length}
-use Rattle.index_run.proofs.Bytes.{Appends-same, Feeds-none, Feeds-line, Feeds-part, Feeds-breaks, Feeds-stops, regroup}
+use Rattle.std.proofs.Common.{◌++◌, ◌∷◌, [], arith, length-append}
+use Rattle.index_run.proofs.Bytes.{Appends-same, Feeds-line, Feeds-part, Feeds-breaks, Feeds-stops, regroup}
 use Rattle.index_run.proofs.run.feed.Goals as goal
 
 pub returns-in-Err-clause-write : goal.returns-in-Err-clause-write

@@ -1,6 +1,6 @@
-use Rattle.std.proofs.Common.{◌++◌, ◌∷◌, [], refl, arith, length-append, ap, length, take, subst, rules}
+use Rattle.std.proofs.Common.{[], take, subst, rules}
 use Rattle.std.specs.Io.KnownBytes.{Consumes}
-use Rattle.index_run.proofs.Bytes.{on_ok, serves-fails, serves-stops, serves-ends, serves-falters, serves-short, serves-piece, serves-breaks, serves-runs_out, serves-none}
+use Rattle.index_run.proofs.Bytes.{on_ok, serves-ends, serves-falters, serves-piece, serves-breaks, serves-runs_out}
 use Rattle.index_run.proofs.run.serve.Goals as goal
 
 pub returns-then-count-eq0-clause-done : goal.returns-then-count-eq0-clause-done

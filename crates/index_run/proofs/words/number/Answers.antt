@@ -1,4 +1,4 @@
-use Rattle.std.proofs.Common.{◌≡◌, ◌<◌, ℕ, get_or, arith, length, sym, ap, ◌∙◌, subst, inl, inr}
+use Rattle.std.proofs.Common.{◌<◌, get_or, length, sym, ap, ◌∙◌, subst}
 use Rattle.index_run.proofs.Numbers.{not_empty, not_plus, not_zero_first, parsed, not_parsed, empty_length, alone}
 use Rattle.index_run.proofs.words.number.Goals as goal
 

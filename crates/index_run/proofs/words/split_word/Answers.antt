@@ -1,4 +1,4 @@
-use Rattle.std.proofs.Common.{◌≡◌, ◌≢◌, ℕ, ◌<◌, List, Option, None, Some, ◌++◌, ◌∷◌, length, get_or, lit<, Bor, IfSome, IfNone, arith}
+use Rattle.std.proofs.Common.{◌≡◌, ℕ, List, Option, None, Some, ◌++◌, ◌∷◌, Bor, IfSome, IfNone, arith}
 use Rattle.std.proofs.lemmas.Str.Pattern.{split_parts, IsSplitOnceResult}
 use Rattle.index_run.specs.Lines.{Lacks}
 use Rattle.index_run.proofs.Numbers.{lacks_by_index}
