@@ -1,0 +1,108 @@
+//! A place of one thread: items in numbered slots, kept in plain safe storage.
+//!
+//! Clauses see a world as its `State`. What a call leaves alone is its clause `keeps`: the values of items that have an
+//! owner, and what an open guard protects.
+
+ghost use Rattle.std.specs.Prelude.{◌≡◌, ◌⊎◌, ℕ, IsOk, IfOk, IfErr, IfNone, IfSome, IsTrue, ◌↔◌, Some, None, is_some};
+ghost use Rattle.sdd_base.specs.State.{fresh, in_use, value_at, IsUnused};
+ghost use Rattle.sdd_base.specs.Steps.{AllSwept, NoneOpen};
+ghost use Rattle.sdd_base.specs.Place.{IsPlace, IsOpen, IsReadable, IsSized};
+ghost use Rattle.sdd_base.specs.Tokens.{ptr_slot};
+
+use crate::holds::Holds;
+use crate::pointer::Ptr;
+use crate::reclaim;
+use crate::sizes::Sizes;
+use crate::table::Table;
+use std::alloc::{AllocError, Global};
+use std::marker::Model;
+
+pub mod atomic_owned;
+pub mod atomic_raw;
+pub mod atomic_shared;
+pub mod guard;
+pub mod owned;
+pub mod ptr;
+pub mod raw_ptr;
+pub mod shared;
+
+/// A place of one thread, with room for all that its sizes name.
+#[derive(Drop)]
+pub struct World<T> {
+    table: Table<T>,
+}
+
+impl<T> Model for World<T> {
+    ghost use Rattle.sdd_base.specs.State.{State};
+
+    ghost Value = { State T };
+
+    ghost use Rattle.sdd_base.specs.Place.{IsPlace};
+
+    ghost view = { λ w. w.table };
+
+    ghost invariant = { λ w. IsPlace w.table };
+}
+
+impl<T> World<T> {
+    /// A place without items, whose participants are named by 0, 1, .. . It takes all the memory that the place will
+    /// ever use; without memory nothing is kept.
+    pub fn new(alloc: Global, sizes: Sizes) -> Result<World<T>, AllocError>
+        requires { IsSized sizes }
+        ensures { IfOk result (λ w. w ≡ fresh sizes) }
+    {
+        Ok(World {
+            table: Table::new(alloc, &sizes)?,
+        })
+    }
+
+    /// Ends the place: everything that waits is reclaimed, and what that leaves. It is handed back as it was while a
+    /// guard is open, and handed back with nothing waiting if an owner or a cell is still out.
+    pub fn close(self) -> Result<(), World<T>>
+    where
+        T: Holds,
+        ensures ended { IsOk result → NoneOpen self × (w : _) × AllSwept T.holds self w × IsUnused w }
+        ensures back { IfErr result (λ w. (((p : ℕ) × IsOpen self p) × (w ≡ self)) ⊎ (NoneOpen self × AllSwept T.holds self w × (¬ IsUnused w))) }
+    {
+        let World { mut table } = self;
+        if table.any_open() {
+            return Err(World { table });
+        }
+        reclaim::sweep_all(&mut table);
+        if !table.is_unused() {
+            return Err(World { table });
+        }
+        table.end();
+        Ok(())
+    }
+
+    /// How many slots have an item, those that wait to be reclaimed counted.
+    pub fn slots_in_use(&self) -> usize
+        ensures { result ≡ in_use self.now }
+    {
+        self.table.used()
+    }
+
+    /// Whether `read` may be asked for `at`.
+    pub fn is_readable(&self, at: &Ptr<'static, T>) -> bool
+        ensures { IsTrue result ↔ IsReadable self.now (ptr_slot at.now) }
+    {
+        match at.slot {
+            None => true,
+            Some(i) => self.table.status_of(i).has_item(),
+        }
+    }
+
+    /// The item that `at` names, or none for null. Condition: it is there.
+    pub fn read(&self, at: &Ptr<'static, T>) -> Option<&T>
+        requires { IsReadable self.now (ptr_slot at.now) }
+        ensures null { IfNone (ptr_slot at.now) (result ≡ None) }
+        ensures item { IfSome (ptr_slot at.now) (λ i. IfSome result (λ v. Some v.now ≡ value_at self.now i)) }
+        ensures same { is_some result ≡ is_some (ptr_slot at.now) }
+    {
+        match at.slot {
+            None => None,
+            Some(i) => Some(self.table.value(i)),
+        }
+    }
+}
