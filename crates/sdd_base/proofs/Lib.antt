@@ -1,0 +1,4 @@
+pub mod Lists
+pub mod Slots
+pub mod Sounds
+pub mod Turns

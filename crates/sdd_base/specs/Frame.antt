@@ -1,0 +1,44 @@
+-- what a call leaves alone: values of live items, and what open guards protect
+use Rattle.std.specs.Prelude.{◌≡◌, ◌≢◌, ℕ, ◌<◌, ◌≤◌, Bool, true, false, List, length}
+use Rattle.sdd_base.specs.State.{State, Member, status_at, value_at, member_at, marks_at, is_used}
+use Rattle.sdd_base.specs.Steps.{times}
+use Rattle.sdd_base.specs.Place.{IsOpen}
+use Rattle.sdd_base.specs.declared.status.Status.{Status}
+use Rattle.sdd_base.specs.declared.status.Status.TheVariants as status
+
+-- an item with this use has an owner, or is out as a raw pointer
+abbrev pub has_owner : Status → Bool
+has_owner status.Free = false
+has_owner status.Owned = true
+has_owner (status.Shared n) = true
+has_owner status.Raw = true
+has_owner (status.Collected n) = false
+has_owner status.Retired = false
+has_owner status.Idle = false
+has_owner status.Deferred = false
+
+-- slot i has an item with an owner
+abbrev pub IsLive : {T : Type 0} → State T → ℕ → Type 0
+IsLive w i = has_owner (status_at w i) ≡ true
+
+-- the open guard of q protects the item in slot i: its retirer, if it has one, can't come to its reclaim while the guard is open
+pub record Protects {T : Type 0} (w : State T) (q i : ℕ) : Type 0 where
+  pub used : is_used (status_at w i) ≡ true
+  pub prior : (k : ℕ) → 1 ≤ times i (member_at w k).prior → (marks_at w q).published ≤ (marks_at w k).previous
+  pub oldest : (k : ℕ) → 1 ≤ times i (member_at w k).oldest → (marks_at w q).published < (marks_at w k).previous
+  pub noted : (n : ℕ) → status_at w i ≡ status.Collected n → (marks_at w q).published ≤ n
+
+-- what every call leaves
+pub record Keeps {T : Type 0} (w w' : State T) : Type 0 where
+  -- how many places, cells and participants there are
+  pub states : length w'.states ≡ length w.states
+  pub cells : length w'.cells ≡ length w.cells
+  pub members : length w'.members ≡ length w.members
+  -- the value of an item with an owner
+  pub lives : (i : ℕ) → IsLive w i → value_at w' i ≡ value_at w i
+  -- the value of an item that a guard protects which stays open, and that it does
+  pub protects : (q i : ℕ) → IsOpen w q → IsOpen w' q → Protects w q i → (value_at w' i ≡ value_at w i) × Protects w' q i
+
+-- only participant p is changed
+abbrev pub OnlyOf : {T : Type 0} → ℕ → State T → State T → Type 0
+OnlyOf p w w' = (k : ℕ) → k ≢ p → member_at w' k ≡ member_at w k

@@ -1,0 +1,8 @@
+-- what an item holds, by the numbers of slots and cells
+use Rattle.std.specs.Prelude.{ℕ, Bool, true, false, ◌==◌}
+
+pub data Hold : Type 0 where
+  OwnedItem : ℕ → Hold
+  SharedItem : ℕ → Hold
+  OwnedIn : ℕ → Hold
+  SharedIn : ℕ → Hold

@@ -1,0 +1,206 @@
+-- the state of a place of one thread, as callers see it, and its smallest changes
+use Rattle.std.specs.Prelude.{◌≡◌, ◌≢◌, ◌<◌, ℕ, ◌+◌, ◌==◌, ◌||◌, Bool, true, false, not, cond, Option, None, Some, List, [], ◌∷◌, ◌++◌, get_or, set, length, map, replicate, reverse, sum_by}
+use Rattle.sdd_base.specs.declared.status.Status.{Status}
+use Rattle.sdd_base.specs.declared.status.Status.TheVariants as status
+use Rattle.sdd_base.specs.declared.status.Cell.{Cell}
+use Rattle.sdd_base.specs.declared.status.Cell.TheVariants as cell
+use Rattle.sdd_base.specs.declared.status.Marks.{Marks}
+use Rattle.sdd_base.specs.declared.sizes.Sizes.{Sizes}
+
+-- a participant: its notes on itself, the places in its three bags (of age 0, 1 and 2), and those that are being reclaimed
+pub record Member : Type 0 where
+  pub marks : Marks
+  pub current : List ℕ
+  pub prior : List ℕ
+  pub oldest : List ℕ
+  pub due : List ℕ
+
+-- the count of raises, the value and the use of each place (item slots, then job places), the cells, the participants
+pub record State (T : Type 0) : Type 0 where
+  pub count : ℕ
+  pub values : List (Option T)
+  pub states : List Status
+  pub cells : List Cell
+  pub members : List Member
+
+-- reading: numbers out of range name nothing
+abbrev pub no_marks : Marks
+no_marks = record { nesting = 0; published = 0; previous = 0; accelerated = false; garbage = false; closings = 0 }
+
+abbrev pub nobody : Member
+nobody = record { marks = no_marks; current = []; prior = []; oldest = []; due = [] }
+
+abbrev pub value_at : {T : Type 0} → State T → ℕ → Option T
+value_at w i = get_or w.values i None
+
+abbrev pub status_at : {T : Type 0} → State T → ℕ → Status
+status_at w i = get_or w.states i status.Free
+
+abbrev pub cell_at : {T : Type 0} → State T → ℕ → Cell
+cell_at w c = get_or w.cells c cell.Free
+
+abbrev pub member_at : {T : Type 0} → State T → ℕ → Member
+member_at w p = get_or w.members p nobody
+
+abbrev pub marks_at : {T : Type 0} → State T → ℕ → Marks
+marks_at w p = (member_at w p).marks
+
+-- an item is in the slot
+abbrev pub is_used : Status → Bool
+is_used status.Free = false
+is_used status.Owned = true
+is_used (status.Shared n) = true
+is_used status.Raw = true
+is_used (status.Collected n) = true
+is_used status.Retired = true
+is_used status.Idle = false
+is_used status.Deferred = false
+
+-- 1 for a slot with an item
+abbrev pub usage : Status → ℕ
+usage s = cond (is_used s) 1 0
+
+-- 1 for a place that waits in an ordinary bag
+abbrev pub weight : Status → ℕ
+weight status.Free = 0
+weight status.Owned = 0
+weight (status.Shared n) = 0
+weight status.Raw = 0
+weight (status.Collected n) = 0
+weight status.Retired = 1
+weight status.Idle = 0
+weight status.Deferred = 1
+
+-- 1 for a free slot
+abbrev pub vacancy : Status → ℕ
+vacancy status.Free = 1
+vacancy status.Owned = 0
+vacancy (status.Shared n) = 0
+vacancy status.Raw = 0
+vacancy (status.Collected n) = 0
+vacancy status.Retired = 0
+vacancy status.Idle = 0
+vacancy status.Deferred = 0
+
+-- 1 for a job place without a job
+abbrev pub idleness : Status → ℕ
+idleness status.Free = 0
+idleness status.Owned = 0
+idleness (status.Shared n) = 0
+idleness status.Raw = 0
+idleness (status.Collected n) = 0
+idleness status.Retired = 0
+idleness status.Idle = 1
+idleness status.Deferred = 0
+
+-- 1 for a free cell
+abbrev pub emptiness : Cell → ℕ
+emptiness cell.Free = 1
+emptiness (cell.OfOwned o t) = 0
+emptiness (cell.OfShared o t) = 0
+emptiness (cell.OfRaw o t) = 0
+
+-- what a place is once it was reclaimed
+abbrev pub vacated : Status → Status
+vacated status.Free = status.Free
+vacated status.Owned = status.Free
+vacated (status.Shared n) = status.Free
+vacated status.Raw = status.Free
+vacated (status.Collected n) = status.Free
+vacated status.Retired = status.Free
+vacated status.Idle = status.Idle
+vacated status.Deferred = status.Idle
+
+abbrev pub IsFree : {T : Type 0} → State T → ℕ → Type 0
+IsFree w i = (i < length w.states) × (status_at w i ≡ status.Free)
+
+abbrev pub NoneFree : {T : Type 0} → State T → Type 0
+NoneFree w = (i : ℕ) → i < length w.states → status_at w i ≢ status.Free
+
+abbrev pub IsFreeCell : {T : Type 0} → State T → ℕ → Type 0
+IsFreeCell w c = (c < length w.cells) × (cell_at w c ≡ cell.Free)
+
+abbrev pub NoCellFree : {T : Type 0} → State T → Type 0
+NoCellFree w = (c : ℕ) → c < length w.cells → cell_at w c ≢ cell.Free
+
+-- how many slots have an item
+abbrev pub in_use : {T : Type 0} → State T → ℕ
+in_use w = sum_by usage w.states
+
+-- no slot has an item
+abbrev pub NoneUsed : {T : Type 0} → State T → Type 0
+NoneUsed w = (i : ℕ) → is_used (status_at w i) ≡ false
+
+-- changing
+abbrev pub with_status : {T : Type 0} → ℕ → Status → State T → State T
+with_status i s w = record w { states = set w.states i s }
+
+abbrev pub with_cell : {T : Type 0} → ℕ → Cell → State T → State T
+with_cell c k w = record w { cells = set w.cells c k }
+
+abbrev pub placed : {T : Type 0} → ℕ → T → Status → State T → State T
+placed i v s w = record w { values = set w.values i (Some v); states = set w.states i s }
+
+-- slot i is free, and its value is gone
+abbrev pub removed : {T : Type 0} → ℕ → State T → State T
+removed i w = record w { values = set w.values i None; states = set w.states i status.Free }
+
+abbrev pub raised : {T : Type 0} → State T → State T
+raised w = record w { count = w.count + 1 }
+
+-- participant p is changed by f
+abbrev pub changing : {T : Type 0} → ℕ → (Member → Member) → State T → State T
+changing p f w = record w { members = set w.members p (f (member_at w p)) }
+
+abbrev pub marked : Marks → Member → Member
+marked k m = record m { marks = k }
+
+abbrev pub with_marks : {T : Type 0} → ℕ → Marks → State T → State T
+with_marks p k w = changing p (marked k) w
+
+-- place i waits in the current bag of m, which has garbage from now on
+abbrev pub put_member : ℕ → Member → Member
+put_member i m = record m { marks = record m.marks { garbage = true }; current = m.current ++ i ∷ [] }
+
+-- participant p retires what is in place i; s is Retired for an item, Deferred for a job
+abbrev pub waiting_as : {T : Type 0} → Status → ℕ → ℕ → State T → State T
+waiting_as s p i w = record w { states = set w.states i s; members = set w.members p (put_member i (member_at w p)) }
+
+abbrev pub retired : {T : Type 0} → ℕ → ℕ → State T → State T
+retired p i w = waiting_as status.Retired p i w
+
+-- the bags move on, and what was in the oldest is due
+abbrev pub turned : Member → Member
+turned m = record m { due = reverse m.oldest; oldest = m.prior; prior = m.current; current = [] }
+
+abbrev pub rotated_bags : {T : Type 0} → ℕ → State T → State T
+rotated_bags p w = changing p turned w
+
+abbrev pub left_due : List ℕ → Member → Member
+left_due is m = record m { due = is }
+
+-- place i is vacated, and is are still due to p
+abbrev pub taken : {T : Type 0} → ℕ → ℕ → List ℕ → State T → State T
+taken p i is w = record w { values = set w.values i None; states = set w.states i (vacated (status_at w i)); members = set w.members p (left_due is (member_at w p)) }
+
+-- the next place that was due to p is vacated, and v was there
+pub record TakesDue {T : Type 0} (p : ℕ) (v : Option T) (w w' : State T) : Type 0 where
+  pub place : ℕ
+  pub rest : List ℕ
+  pub was : (member_at w p).due ≡ place ∷ rest
+  pub value : value_at w place ≡ v
+  pub now : w' ≡ taken p place rest w
+
+-- an open guard of m published the count n
+abbrev pub is_present : ℕ → Member → Bool
+is_present n m = (m.marks.nesting == 0) || (m.marks.published == n)
+
+-- a new place
+abbrev pub fresh : {T : Type 0} → Sizes → State T
+fresh n = record {
+  count = 0;
+  values = replicate (n.slots + n.jobs) None;
+  states = replicate n.slots status.Free ++ replicate n.jobs status.Idle;
+  cells = replicate n.cells cell.Free;
+  members = replicate n.participants nobody;
+}

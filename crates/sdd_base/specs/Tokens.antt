@@ -1,0 +1,43 @@
+-- what the tokens that callers keep show to clauses: numbers of slots, cells and participants
+use Rattle.std.specs.Prelude.{ℕ, Option}
+use Rattle.sdd_base.specs.Holding.{Hold, OwnedItem, SharedItem, OwnedIn, SharedIn}
+use Rattle.sdd_base.specs.declared.owner.Owned.{Owned}
+use Rattle.sdd_base.specs.declared.owner.Shared.{Shared}
+use Rattle.sdd_base.specs.declared.cell.AtomicOwned.{AtomicOwned}
+use Rattle.sdd_base.specs.declared.cell.AtomicShared.{AtomicShared}
+use Rattle.sdd_base.specs.declared.cell.AtomicRaw.{AtomicRaw}
+use Rattle.sdd_base.specs.declared.pointer.RawPtr.{RawPtr}
+use Rattle.sdd_base.specs.declared.holds.Held.{Held}
+use Rattle.sdd_base.specs.declared.holds.Held.TheVariants as held
+use Rattle.sdd_base.specs.declared.tag.Tag.{Tag}
+
+-- the slot of an item
+abbrev pub owned_slot : {T : Type 0} → Owned T → ℕ
+owned_slot o = o.slot
+
+abbrev pub shared_slot : {T : Type 0} → Shared T → ℕ
+shared_slot s = s.slot
+
+-- the number of a cell
+abbrev pub owned_cell : {T : Type 0} → AtomicOwned T → ℕ
+owned_cell c = c.cell
+
+abbrev pub shared_cell : {T : Type 0} → AtomicShared T → ℕ
+shared_cell c = c.cell
+
+abbrev pub raw_cell : {T : Type 0} → AtomicRaw T → ℕ
+raw_cell c = c.cell
+
+-- the slot that a raw pointer names, or none, and its tag
+abbrev pub raw_slot : {T : Type 0} → RawPtr T → Option ℕ
+raw_slot r = r.slot
+
+abbrev pub raw_tag : {T : Type 0} → RawPtr T → Tag
+raw_tag r = r.tag
+
+-- an owner or a cell as what an item holds
+abbrev pub hold_of : {T : Type 0} → Held T → Hold
+hold_of (held.Owned o) = OwnedItem (owned_slot o)
+hold_of (held.Shared s) = SharedItem (shared_slot s)
+hold_of (held.OwnedCell c) = OwnedIn (owned_cell c)
+hold_of (held.SharedCell c) = SharedIn (shared_cell c)

@@ -1,0 +1,55 @@
+-- how the fields of the store show its state, and what is always true of them
+use Rattle.std.specs.Prelude.{is_some, reverse, ◌≡◌, ℕ, ◌≤◌, ◌+◌, ◌==◌, List, length, map, get_or, sum_by, vec_capacity, All, cond}
+use Rattle.std.specs.Global.{Vec}
+use Rattle.sdd_base.specs.State.{State, Member, weight, is_used, usage, vacancy, idleness, emptiness}
+use Rattle.sdd_base.specs.Steps.{times}
+use Rattle.sdd_base.specs.declared.table.Table.TheInside.{Inside}
+use Rattle.sdd_base.specs.declared.bags.Participant.{Participant}
+
+abbrev pub member_of : Participant → Member
+member_of p = record {
+  marks = p.marks;
+  current = p.current.items;
+  prior = p.prior.items;
+  oldest = p.oldest.items;
+  due = reverse p.due.items;
+}
+
+abbrev pub state_of : {T : Type 0} → Inside T → State T
+state_of w = record {
+  count = w.count;
+  values = w.values.items;
+  states = w.states.items;
+  cells = w.cells.items;
+  members = map member_of w.members.items;
+}
+
+-- how many places wait in the bags of a participant
+abbrev pub waiting : Participant → ℕ
+waiting p = length p.current.items + length p.prior.items + length p.oldest.items + length p.due.items
+
+-- each bag of a participant has room for n places
+pub record HasRoom (n : ℕ) (p : Participant) : Type 0 where
+  pub current : n ≤ vec_capacity p.current
+  pub prior : n ≤ vec_capacity p.prior
+  pub oldest : n ≤ vec_capacity p.oldest
+  pub due : n ≤ vec_capacity p.due
+
+-- a list names each place once whose use weighs 1, and no other
+pub record Lists {X : Type 0} (f : X → ℕ) (all : List X) (names : List ℕ) : Type 0 where
+  pub each : (j : ℕ) → times j names ≡ get_or (map f all) j 0
+  pub count : length names ≡ sum_by f all
+
+-- a stack of such names, with room for all
+pub record IsStack {X : Type 0} (f : X → ℕ) (all : List X) (stack : Vec ℕ) : Type 0 where
+  pub lists : Lists f all stack.items
+  pub room : length all ≤ vec_capacity stack
+
+pub record IsTable {T : Type 0} (w : Inside T) : Type 0 where
+  pub filled : map is_some w.values.items ≡ map is_used w.states.items
+  pub tally : w.used ≡ sum_by usage w.states.items
+  pub room : All (HasRoom (length w.states.items)) w.members.items
+  pub waits : sum_by waiting w.members.items ≤ sum_by weight w.states.items
+  pub slots : IsStack vacancy w.states.items w.free
+  pub places : IsStack idleness w.states.items w.idle
+  pub cells : IsStack emptiness w.cells.items w.free_cells

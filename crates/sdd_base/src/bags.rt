@@ -1,0 +1,78 @@
+//! The bags of a participant, with room for every place from the start.
+
+ghost use Rattle.std.specs.Prelude.{◌≡◌, ℕ, ◌+◌, ◌<◌, ◌≤◌, List, [], ◌∷◌, length, MatchOption, IfOk, vec_capacity};
+ghost use Rattle.sdd_base.specs.State.{nobody, put_member, turned, left_due};
+ghost use Rattle.sdd_base.specs.View.{HasRoom, member_of, waiting};
+
+use crate::status::Marks;
+use std::alloc::{AllocError, Global};
+use std::mem;
+
+/// A participant: its notes, and the places that wait for it.
+#[derive(Drop)]
+pub(crate) struct Participant {
+    pub(crate) marks: Marks,
+    pub(crate) current: Vec<usize>,
+    pub(crate) prior: Vec<usize>,
+    pub(crate) oldest: Vec<usize>,
+    pub(crate) due: Vec<usize>,
+}
+
+impl Participant {
+    /// A participant whose bags have room for `n` places each.
+    pub(crate) fn new(alloc: Global, n: usize) -> Result<Participant, AllocError>
+        ensures shown { IfOk result (λ q. member_of q ≡ nobody) }
+        ensures room { IfOk result (λ q. HasRoom n q) }
+        ensures waits { IfOk result (λ q. waiting q ≡ 0) }
+    {
+        Ok(Participant {
+            marks: Marks {
+                nesting: 0,
+                published: 0,
+                previous: 0,
+                accelerated: false,
+                garbage: false,
+                closings: 0,
+            },
+            current: Vec::with_capacity(alloc, n)?,
+            prior: Vec::with_capacity(alloc, n)?,
+            oldest: Vec::with_capacity(alloc, n)?,
+            due: Vec::with_capacity(alloc, n)?,
+        })
+    }
+
+    /// Place `i` waits in the current bag, which has room for it.
+    pub(crate) fn put(&mut self, i: usize)
+        requires { length self.old.current.items < vec_capacity self.old.current }
+        ensures shown { member_of self.new ≡ put_member i (member_of self.old) }
+        ensures room { (n : ℕ) → HasRoom n self.old → HasRoom n self.new }
+        ensures waits { waiting self.new ≡ waiting self.old + 1 }
+    {
+        self.marks.garbage = true;
+        match self.current.push(i) {
+            Ok(()) => {}
+            Err(_) => unreachable!(),
+        }
+    }
+
+    /// The next place that is due.
+    pub(crate) fn next(&mut self) -> Option<usize>
+        ensures shown { MatchOption result (((member_of self.old).due ≡ []) × (member_of self.new ≡ member_of self.old)) (λ i. (is : List ℕ) × ((member_of self.old).due ≡ i ∷ is) × (member_of self.new ≡ left_due is (member_of self.old))) }
+        ensures room { (n : ℕ) → HasRoom n self.old → HasRoom n self.new }
+        ensures waits { MatchOption result (waiting self.new ≡ waiting self.old) (λ _. waiting self.new + 1 ≡ waiting self.old) }
+    {
+        self.due.pop()
+    }
+
+    /// The bags move on, and the oldest is due.
+    pub(crate) fn turn(&mut self)
+        requires { length self.old.due.items ≡ 0 }
+        ensures shown { member_of self.new ≡ turned (member_of self.old) }
+        ensures room { (n : ℕ) → HasRoom n self.old → HasRoom n self.new }
+        ensures waits { waiting self.new ≡ waiting self.old }
+    {
+        mem::swap(&mut self.due, &mut self.oldest);
+        mem::swap(&mut self.oldest, &mut self.prior);
+        mem::swap(&mut self.prior, &mut self.current);
+    }
+}

@@ -1,0 +1,18 @@
+//! The reclamation core of one thread: epochs, guards, owners, pointers and cells.
+//!
+//! A [`World`](world::World) keeps items in numbered slots. Owners and cells name an item; a guard that is open keeps
+//! each item readable that had an owner when it was opened. What its last owner gives back waits in a bag of the
+//! participant that retired it, and is reclaimed when no guard can still name it.
+#![tactic(auto)]
+
+mod bags;
+pub mod cell;
+pub mod epoch;
+pub mod holds;
+pub mod owner;
+pub mod pointer;
+mod reclaim;
+pub mod sizes;
+pub mod status;
+mod table;
+pub mod tag;

@@ -1,0 +1,214 @@
+//! What a rotation, an opening and a closing do to the store, with the bags open in between.
+
+ghost use Rattle.std.specs.Prelude.{◌≡◌, ◌+◌, ◌-◌, ◌<◌, ℕ, List, [], ◌∷◌, length, leb, IsTrue, IsFalse};
+ghost use Rattle.sdd_base.specs.State.{status_at, member_at, marks_at, weight};
+ghost use Rattle.sdd_base.specs.Steps.{released, disowned, owned_ended, shared_ended, given, given_all, rotated, opened, closed, begun, scanned, IsNext, closings_after, scans as scans_at};
+ghost use Rattle.sdd_base.specs.Place.{Sound};
+ghost use Rattle.sdd_base.specs.Tokens.{hold_of};
+
+use crate::cell::{AtomicOwned, AtomicShared};
+use crate::holds::{Held, Holds};
+use crate::owner::{Owned, Shared};
+use crate::status::{Cell, Marks, Status};
+use crate::table::Table;
+
+/// Gives one owner of slot `i` back, and answers whether it was the last.
+pub(crate) fn release<T>(table: &mut Table<T>, p: usize, i: usize) -> bool
+    requires member { p < length table.old.members }
+    requires slot { i < length table.old.states }
+    requires shared { (n : ℕ) × (status_at table.old i ≡ Status.Shared n) }
+    ensures state { table.new ≡ released p i table.old }
+    ensures last { (n : ℕ) → status_at table.old i ≡ Status.Shared n → result ≡ leb n 1 }
+{
+    match table.status(i) {
+        Status::Shared(owners) => {
+            if owners <= 1 {
+                table.retire(p, i);
+                true
+            } else {
+                table.set_status(i, Status::Shared(owners - 1));
+                false
+            }
+        }
+        _ => unreachable!(),
+    }
+}
+
+/// Participant `p` gives back what an item held that it reclaims.
+fn give<T>(table: &mut Table<T>, p: usize, held: Held<T>)
+    requires { p < length table.old.members }
+    ensures { table.new ≡ given p (hold_of held) table.old }
+{
+    match held {
+        Held::Owned(Owned { slot, of: _ }) => give_owned(table, p, slot),
+        Held::Shared(Shared { slot, of: _ }) => give_shared(table, p, slot),
+        Held::OwnedCell(AtomicOwned { cell, of: _ }) => end_owned(table, p, cell),
+        Held::SharedCell(AtomicShared { cell, of: _ }) => end_shared(table, p, cell),
+    }
+}
+
+/// Retires slot `slot`, where it has one owner.
+pub(crate) fn give_owned<T>(table: &mut Table<T>, p: usize, slot: usize)
+    requires { p < length table.old.members }
+    ensures { table.new ≡ disowned p slot table.old }
+{
+    if let Status::Owned = table.status_of(slot) {
+        table.retire(p, slot);
+    }
+}
+
+/// Gives one owner of slot `slot` back, where it has some.
+pub(crate) fn give_shared<T>(table: &mut Table<T>, p: usize, slot: usize)
+    requires { p < length table.old.members }
+    ensures { table.new ≡ released p slot table.old }
+{
+    if let Status::Shared(_) = table.status_of(slot) {
+        release(table, p, slot);
+    }
+}
+
+/// Ends a cell of owned items, and gives back what it keeps.
+pub(crate) fn end_owned<T>(table: &mut Table<T>, p: usize, cell: usize)
+    requires { p < length table.old.members }
+    ensures { table.new ≡ owned_ended p cell table.old }
+{
+    if let Cell::OfOwned(item, _) = table.cell_of(cell) {
+        table.free_cell(cell);
+        if let Some(slot) = item {
+            give_owned(table, p, slot);
+        }
+    }
+}
+
+/// Ends a cell of shared items, and gives back what it keeps.
+pub(crate) fn end_shared<T>(table: &mut Table<T>, p: usize, cell: usize)
+    requires { p < length table.old.members }
+    ensures { table.new ≡ shared_ended p cell table.old }
+{
+    if let Cell::OfShared(item, _) = table.cell_of(cell) {
+        table.free_cell(cell);
+        if let Some(slot) = item {
+            give_shared(table, p, slot);
+        }
+    }
+}
+
+/// Everything that `value` holds is given back by `p`, and the value ends.
+pub(crate) fn give_all<T: Holds>(table: &mut Table<T>, p: usize, mut value: T)
+    requires { p < length table.old.members }
+    ensures { table.new ≡ given_all p (T.holds value) table.old }
+{
+    while let Some(held) = value.give_up() {
+        give(table, p, held);
+    }
+    value.end();
+}
+
+/// The next place that is due to `p` is reclaimed, if there is one.
+fn reclaim_next<T: Holds>(table: &mut Table<T>, p: usize) -> bool
+    requires member { p < length table.old.members }
+    requires waits { (i : ℕ) (is : List ℕ) → (member_at table.old p).due ≡ i ∷ is → (i < length table.old.states) × (weight (status_at table.old i) ≡ 1) }
+    ensures some { IsTrue result → IsNext T.holds p table.old table.new }
+    ensures none { IsFalse result → ((member_at table.old p).due ≡ []) × (table.new ≡ table.old) }
+{
+    match table.take_due(p) {
+        None => false,
+        Some(None) => true,
+        Some(Some(value)) => {
+            give_all(table, p, value);
+            true
+        }
+    }
+}
+
+/// What was in the oldest bag of `p` is reclaimed, and the bags have moved on.
+pub(crate) fn turn_over<T: Holds>(table: &mut Table<T>, p: usize)
+    requires member { p < length table.old.members }
+    requires sound { Sound table.old }
+    requires idle { (member_at table.old p).due ≡ [] }
+    ensures { table.new ≡ rotated T.holds p table.old }
+{
+    table.turn(p);
+    while reclaim_next(table, p) {}
+    let mut marks = table.marks(p);
+    marks.garbage = marks.garbage && !table.bags_are_empty(p);
+    table.set_marks(p, marks);
+}
+
+/// Whether this outermost closing of `marks` scans, where `closings` counts it.
+fn scans(marks: &Marks, closings: u8) -> bool
+    ensures { closings ≡ closings_after marks.now → result ≡ scans_at marks.now }
+{
+    marks.accelerated || marks.garbage && closings >= 64
+}
+
+/// Participant `p` publishes the count.
+fn begin<T>(table: &mut Table<T>, p: usize)
+    requires { p < length table.old.members }
+    ensures { table.new ≡ begun p table.old }
+{
+    let count = table.count();
+    let mut marks = table.marks(p);
+    marks.nesting = 1;
+    marks.published = count;
+    marks.previous = count;
+    marks.accelerated = false;
+    table.set_marks(p, marks);
+}
+
+/// Raises the count, if every open guard published it.
+fn scan<T>(table: &mut Table<T>)
+    ensures { table.new ≡ scanned table.old }
+{
+    if table.all_present() && table.count() < u64::MAX {
+        table.raise();
+    }
+}
+
+/// Opens a guard of `p`, which isn't at its end.
+pub(crate) fn open<T: Holds>(table: &mut Table<T>, p: usize)
+    requires member { p < length table.old.members }
+    requires sound { Sound table.old }
+    requires idle { (member_at table.old p).due ≡ [] }
+    requires room { (marks_at table.old p).nesting < 4294967295 }
+    ensures { table.new ≡ opened T.holds p table.old }
+{
+    let mut marks = table.marks(p);
+    if marks.nesting == 0 {
+        let turns = marks.previous != table.count();
+        begin(table, p);
+        if turns {
+            turn_over(table, p);
+        }
+    } else {
+        marks.nesting += 1;
+        table.set_marks(p, marks);
+    }
+}
+
+/// Closes a guard of `p`.
+pub(crate) fn close<T>(table: &mut Table<T>, p: usize)
+    requires member { p < length table.old.members }
+    requires open { 0 < (marks_at table.old p).nesting }
+    ensures { table.new ≡ closed p table.old }
+{
+    let mut marks = table.marks(p);
+    if marks.nesting == 1 {
+        let closings = if marks.closings < 64 {
+            marks.closings + 1
+        } else {
+            64
+        };
+        let scanning = scans(&marks, closings);
+        marks.nesting = 0;
+        if scanning {
+            scan(table);
+            marks.closings = 0;
+        } else {
+            marks.closings = closings;
+        }
+    } else {
+        marks.nesting -= 1;
+    }
+    table.set_marks(p, marks);
+}

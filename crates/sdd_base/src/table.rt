@@ -1,0 +1,398 @@
+//! The store of a place: numbered slots, job places and cells, and the participants. Nothing here takes memory but
+//! the making, and nothing walks all slots.
+
+ghost use Rattle.std.specs.Prelude.{◌≡◌, ◌≢◌, ℕ, ◌+◌, ◌<◌, ◌≤◌, ◌^◌, ◌-◌, List, length, MatchOption, MatchResult, Some, None, IfSome, IfNone, IfOk, IfErr, [], ◌∷◌, false, true, replicate, IsTrue, IsFalse, sum_by, vec_capacity, vec_len, ◌++◌, map, All};
+ghost use Rattle.sdd_base.specs.State.{with_status, with_marks, IsFree, NoneFree, IsFreeCell, NoCellFree, NoneUsed, waiting_as, status_at, member_at, value_at, cell_at, rotated_bags, placed, raised, nobody, TakesDue, with_cell, is_present, is_used, weight, idleness, vacancy, emptiness, fresh, removed, usage};
+ghost use Rattle.std.specs.List.{list_all};
+ghost use Rattle.sdd_base.specs.View.{Lists, IsStack, HasRoom, member_of, waiting};
+ghost use Rattle.sdd_base.specs.Steps.{bags_empty};
+
+use crate::bags::Participant;
+use crate::sizes::Sizes;
+use crate::status::{Cell, Marks, Status};
+use std::alloc::{AllocError, Global};
+use std::marker::Model;
+use std::mem;
+
+/// Numbered slots, cells and participants, with room for what waits.
+#[derive(Drop)]
+pub(crate) struct Table<T> {
+    count: u64,
+    /// How many slots have an item.
+    used: usize,
+    values: Vec<Option<T>>,
+    states: Vec<Status>,
+    cells: Vec<Cell>,
+    members: Vec<Participant>,
+    /// The free slots, the job places without a job and the free cells.
+    free: Vec<usize>,
+    idle: Vec<usize>,
+    free_cells: Vec<usize>,
+}
+
+impl<T> Model for Table<T> {
+    ghost use Rattle.sdd_base.specs.State.{State};
+
+    ghost Value = { State T };
+
+    ghost use Rattle.sdd_base.specs.View.{state_of, IsTable};
+
+    ghost view = { state_of };
+
+    ghost invariant = { IsTable };
+}
+
+impl<T> Table<T> {
+    /// How many slots have an item.
+    pub(crate) fn used(&self) -> usize
+        ensures { result ≡ sum_by usage self.now.states }
+    {
+        self.used
+    }
+
+    /// Whether no slot is free.
+    pub(crate) fn is_full(&self) -> bool
+        ensures full { IsTrue result → NoneFree self.now }
+        ensures free { IsFalse result → (i : ℕ) × IsFree self.now i }
+    {
+        self.free.is_empty()
+    }
+
+    pub(crate) fn status(&self, i: usize) -> Status
+        requires { i < length self.now.states }
+        ensures { result ≡ status_at self.now i }
+    {
+        self.states[i]
+    }
+
+    /// The use of place `i`, `Free` where there is none.
+    pub(crate) fn status_of(&self, i: usize) -> Status
+        ensures { result ≡ status_at self.now i }
+    {
+        match self.states.get(i) {
+            Some(status) => *status,
+            None => Status::Free,
+        }
+    }
+
+    pub(crate) fn marks(&self, p: usize) -> Marks
+        requires { p < length self.now.members }
+        ensures { result ≡ (member_at self.now p).marks }
+    {
+        self.members[p].marks
+    }
+
+    pub(crate) fn set_marks(&mut self, p: usize, marks: Marks)
+        requires { p < length self.old.members }
+        ensures { self.new ≡ with_marks p marks self.old }
+    {
+        self.members[p].marks = marks;
+    }
+
+    /// What is in slot `i` waits in the current bag of `p`.
+    pub(crate) fn retire(&mut self, p: usize, i: usize)
+        requires member { p < length self.old.members }
+        requires slot { i < length self.old.states }
+        requires used { is_used (status_at self.old i) ≡ true }
+        requires waits_not { weight (status_at self.old i) ≡ 0 }
+        ensures { self.new ≡ waiting_as Status.Retired p i self.old }
+    {
+        self.states[i] = Status::Retired;
+        self.members[p].put(i);
+    }
+
+    pub(crate) fn turn(&mut self, p: usize)
+        requires member { p < length self.old.members }
+        requires due { (member_at self.old p).due ≡ [] }
+        ensures { self.new ≡ rotated_bags p self.old }
+    {
+        self.members[p].turn();
+    }
+
+    /// Puts a value into a free slot, if there is one.
+    pub(crate) fn place(&mut self, value: T, status: Status) -> Result<usize, T>
+        requires used { is_used status ≡ true }
+        requires waits_not { weight status ≡ 0 }
+        ensures placed { IfOk result (λ i. IsFree self.old i × (self.new ≡ placed i value status self.old)) }
+        ensures refused { IfErr result (λ v. (v ≡ value) × (self.new ≡ self.old) × NoneFree self.old) }
+    {
+        let Some(i) = self.free.pop() else {
+            return Err(value);
+        };
+        self.states[i] = status;
+        self.used += 1;
+        match mem::replace(&mut self.values[i], Some(value)) {
+            None => Ok(i),
+            Some(_) => unreachable!(),
+        }
+    }
+
+    /// Uses slot `i`, which has an item, in another way.
+    pub(crate) fn set_status(&mut self, i: usize, status: Status)
+        requires slot { i < length self.old.states }
+        requires was_used { is_used (status_at self.old i) ≡ true }
+        requires waited_not { weight (status_at self.old i) ≡ 0 }
+        requires used { is_used status ≡ true }
+        requires waits_not { weight status ≡ 0 }
+        ensures { self.new ≡ with_status i status self.old }
+    {
+        self.states[i] = status;
+    }
+
+    /// The next slot that is due is free from now on, and its value is taken.
+    pub(crate) fn take_due(&mut self, p: usize) -> Option<Option<T>>
+        requires member { p < length self.old.members }
+        requires waits { (i : ℕ) (is : List ℕ) → (member_at self.old p).due ≡ i ∷ is → (i < length self.old.states) × (weight (status_at self.old i) ≡ 1) }
+        ensures { MatchOption result (((member_at self.old p).due ≡ []) × (self.new ≡ self.old)) (λ v. TakesDue p v self.old self.new) }
+    {
+        match self.members[p].next() {
+            None => None,
+            Some(i) => {
+                if self.states[i].has_item() {
+                    self.states[i] = Status::Free;
+                    self.used -= 1;
+                    keep_name(&mut self.free, i);
+                    return Some(self.values[i].take());
+                }
+                self.states[i] = Status::Idle;
+                keep_name(&mut self.idle, i);
+                Some(self.values[i].take())
+            }
+        }
+    }
+
+    pub(crate) fn count(&self) -> u64
+        ensures { result ≡ self.now.count }
+    {
+        self.count
+    }
+
+    pub(crate) fn raise(&mut self)
+        requires { self.old.count < 2 ^ 64 - 1 }
+        ensures { self.new ≡ raised self.old }
+    {
+        self.count += 1;
+    }
+
+    /// Whether every open guard published the present count.
+    pub(crate) fn all_present(&self) -> bool
+        ensures { result ≡ list_all (is_present self.now.count) self.now.members }
+    {
+        for m in &self.members {
+            if m.marks.nesting != 0 && m.marks.published != self.count {
+                return false;
+            }
+        }
+        true
+    }
+
+    pub(crate) fn value(&self, i: usize) -> &T
+        requires slot { i < length self.now.states }
+        requires used { is_used (status_at self.now i) ≡ true }
+        ensures { Some result.now ≡ value_at self.now i }
+    {
+        match &self.values[i] {
+            None => unreachable!(),
+            Some(value) => value,
+        }
+    }
+
+    /// What cell `c` keeps, `Free` where there is none.
+    pub(crate) fn cell_of(&self, c: usize) -> Cell
+        ensures { result ≡ cell_at self.now c }
+    {
+        match self.cells.get(c) {
+            Some(cell) => *cell,
+            None => Cell::Free,
+        }
+    }
+
+    pub(crate) fn cell(&self, c: usize) -> Cell
+        requires { c < length self.now.cells }
+        ensures { result ≡ cell_at self.now c }
+    {
+        self.cells[c]
+    }
+
+    /// Takes a free cell, if there is one.
+    pub(crate) fn claim_cell(&mut self, cell: Cell) -> Option<usize>
+        requires { emptiness cell ≡ 0 }
+        ensures claimed { IfSome result (λ c. IsFreeCell self.old c × (self.new ≡ with_cell c cell self.old)) }
+        ensures refused { IfNone result ((self.new ≡ self.old) × NoCellFree self.old) }
+    {
+        let c = self.free_cells.pop()?;
+        self.cells[c] = cell;
+        Some(c)
+    }
+
+    /// Changes what cell `c` keeps, which is in use and stays so.
+    pub(crate) fn set_cell(&mut self, c: usize, cell: Cell)
+        requires inside { c < length self.old.cells }
+        requires was_used { emptiness (cell_at self.old c) ≡ 0 }
+        requires used { emptiness cell ≡ 0 }
+        ensures { self.new ≡ with_cell c cell self.old }
+    {
+        self.cells[c] = cell;
+    }
+
+    /// Gives cell `c` back.
+    pub(crate) fn free_cell(&mut self, c: usize)
+        requires inside { c < length self.old.cells }
+        requires was_used { emptiness (cell_at self.old c) ≡ 0 }
+        ensures { self.new ≡ with_cell c Cell.Free self.old }
+    {
+        self.cells[c] = Cell::Free;
+        keep_name(&mut self.free_cells, c);
+    }
+
+    pub(crate) fn bags_are_empty(&self, p: usize) -> bool
+        requires { p < length self.now.members }
+        ensures { result ≡ bags_empty (member_at self.now p) }
+    {
+        let m = &self.members[p];
+        m.current.is_empty() && m.prior.is_empty() && m.oldest.is_empty()
+    }
+
+    /// Rooms for all that the sizes name.
+    pub(crate) fn new(alloc: Global, sizes: &Sizes) -> Result<Table<T>, AllocError>
+        requires { sizes.now.slots + sizes.now.jobs < 2 ^ 64 }
+        ensures { IfOk result (λ w. w ≡ fresh sizes.now) }
+    {
+        let places = sizes.slots + sizes.jobs;
+        let (mut states, free) = free_slots(alloc, sizes.slots, places)?;
+        let idle = idle_places(alloc, &mut states, sizes.jobs, places)?;
+        let (cells, free_cells) = free_cells(alloc, sizes.cells)?;
+        let members = participants(alloc, sizes.participants, places)?;
+        let values = empty_slots(alloc, places)?;
+        Ok(Table {
+            count: 0,
+            used: 0,
+            values,
+            states,
+            cells,
+            members,
+            free,
+            idle,
+            free_cells,
+        })
+    }
+
+    /// Gives the room back, where no slot has an item.
+    pub(crate) fn end(self)
+        requires { NoneUsed self }
+    {
+        let Table {
+            count: _,
+            used: _,
+            mut values,
+            states: _,
+            cells: _,
+            members: _,
+            free: _,
+            idle: _,
+            free_cells: _,
+        } = self;
+        while let Some(value) = values.pop() {
+            match value {
+                None => {}
+                Some(_) => unreachable!(),
+            }
+        }
+        values.destroy_empty();
+    }
+}
+
+/// Adds a name to a stack, which has room for it.
+fn keep_name(stack: &mut Vec<usize>, i: usize)
+    requires { vec_len stack.old < vec_capacity stack.old }
+    ensures items { stack.new.items ≡ stack.old.items ++ i ∷ [] }
+    ensures room { vec_capacity stack.old ≤ vec_capacity stack.new }
+{
+    match stack.push(i) {
+        Ok(()) => {}
+        Err(_) => unreachable!(),
+    }
+}
+
+/// `n` free slots, and their names, with room for `places` of them.
+fn free_slots(
+    alloc: Global,
+    n: usize,
+    places: usize,
+) -> Result<(Vec<Status>, Vec<usize>), AllocError>
+    requires { n ≤ places }
+    ensures states { IfOk result (λ r. r.0.items ≡ replicate n Status.Free) }
+    ensures room { IfOk result (λ r. (places ≤ vec_capacity r.0) × (places ≤ vec_capacity r.1)) }
+    ensures free { IfOk result (λ r. Lists vacancy r.0.items r.1.items) }
+    ensures idle { IfOk result (λ r. Lists idleness r.0.items []) }
+{
+    let mut states = Vec::with_capacity(alloc, places)?;
+    let mut free = Vec::with_capacity(alloc, places)?;
+    for i in 0..n {
+        states.push(Status::Free)?;
+        free.push(i)?;
+    }
+    Ok((states, free))
+}
+
+/// Adds `n` job places without a job to the slots, and gives their names.
+fn idle_places(
+    alloc: Global,
+    states: &mut Vec<Status>,
+    n: usize,
+    places: usize,
+) -> Result<Vec<usize>, AllocError>
+    requires idle { Lists idleness states.old.items [] }
+    ensures states { IfOk result (λ _. states.new.items ≡ states.old.items ++ replicate n Status.Idle) }
+    ensures room { IfOk result (λ r. places ≤ vec_capacity r) }
+    ensures free { (names : List ℕ) → Lists vacancy states.old.items names → IfOk result (λ _. Lists vacancy states.new.items names) }
+    ensures idle { IfOk result (λ r. Lists idleness states.new.items r.items) }
+{
+    let mut idle = Vec::with_capacity(alloc, places)?;
+    for _ in 0..n {
+        idle.push(states.len())?;
+        states.push(Status::Idle)?;
+    }
+    Ok(idle)
+}
+
+/// `n` free cells, and their names.
+fn free_cells(alloc: Global, n: usize) -> Result<(Vec<Cell>, Vec<usize>), AllocError>
+    ensures cells { IfOk result (λ r. r.0.items ≡ replicate n Cell.Free) }
+    ensures free { IfOk result (λ r. IsStack emptiness r.0.items r.1) }
+{
+    let mut cells = Vec::with_capacity(alloc, n)?;
+    let mut free = Vec::with_capacity(alloc, n)?;
+    for i in 0..n {
+        cells.push(Cell::Free)?;
+        free.push(i)?;
+    }
+    Ok((cells, free))
+}
+
+/// `n` participants whose bags have room for `places` places.
+fn participants(alloc: Global, n: usize, places: usize) -> Result<Vec<Participant>, AllocError>
+    ensures members { IfOk result (λ r. map member_of r.items ≡ replicate n nobody) }
+    ensures room { IfOk result (λ r. All (HasRoom places) r.items) }
+    ensures waits { IfOk result (λ r. sum_by waiting r.items ≡ 0) }
+{
+    let mut members = Vec::with_capacity(alloc, n)?;
+    for _ in 0..n {
+        members.push(Participant::new(alloc, places)?)?;
+    }
+    Ok(members)
+}
+
+/// Room for `n` values, and none there.
+fn empty_slots<T>(alloc: Global, n: usize) -> Result<Vec<Option<T>>, AllocError>
+    ensures { IfOk result (λ v. v.items ≡ replicate n None) }
+{
+    let mut values = Vec::with_capacity(alloc, n)?;
+    for _ in 0..n {
+        match values.push(None) {
+            Ok(()) => {}
+            Err(_) => unreachable!(),
+        }
+    }
+    Ok(values)
+}
