@@ -2,3 +2,4 @@ pub mod Lists
 pub mod Slots
 pub mod Sounds
 pub mod Turns
+pub mod Places
