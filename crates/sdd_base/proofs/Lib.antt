@@ -3,3 +3,4 @@ pub mod Slots
 pub mod Sounds
 pub mod Turns
 pub mod Places
+pub mod Frames

@@ -1,0 +1,230 @@
+-- what each call leaves alone
+use Rattle.std.proofs.Common.{◌≡◌, ◌≢◌, ℕ, zero, suc, ◌+◌, ◌-◌, ◌<◌, ◌≤◌, ◌==◌, ◌&&◌, Bool, true, false, Option, None, Some, List, [], ◌∷◌, length, get_or, set, refl, sym, ap, ◌∙◌, arith, length-set, subst, cond, get_or-set_same, get_or-set_other, inl, inr, is_some, ltb}
+use Rattle.std.specs.List.{list_all}
+use Rattle.std.proofs.lemmas.Bool.{false≢true}
+use Rattle.std.proofs.lemmas.Bool.Decides.{eqb_tells}
+use Rattle.sdd_base.specs.Holding.{Hold}
+use Rattle.sdd_base.specs.State.{State, Member, nobody, status_at, value_at, member_at, marks_at, is_used, weight, with_marks, marked, with_status, placed, removed, raised, is_present}
+use Rattle.sdd_base.specs.Steps.{times, begun, rotated, opened, closed, scanned, scans, closings_after}
+use Rattle.sdd_base.specs.Place.{Sound, IsPlace, IsOpen, held_times}
+use Rattle.sdd_base.specs.Frame.{has_owner, IsLive, Protects, Keeps, OnlyOf}
+use Rattle.sdd_base.specs.declared.status.Status.{Status}
+use Rattle.sdd_base.specs.declared.status.Status.TheVariants as status
+use Rattle.sdd_base.specs.declared.status.Marks.{Marks}
+use Rattle.sdd_base.proofs.Sounds.{Gives, Calm, calm, bag_waits, weight_same}
+use Rattle.sdd_base.proofs.Places.{calm_at, Rotates, rotates, place_begun, scanned-known, place_by}
+
+pub keeps_refl : {T : Type 0} (w : State T) → Keeps w w
+keeps_refl w = record { states = refl; cells = refl; members = refl; lives = λ i l. refl; protects = λ q i o o' h. (refl, h) }
+
+-- the same of equal states
+pub kept : {T : Type 0} (w v x y : State T) → w ≡ v → x ≡ y → Keeps w y → Keeps v x
+kept {T} w v x y e f h = subst (λ (s : State T). Keeps s x) e (subst (λ (s : State T). Keeps w s) (sym f) h)
+
+pub only_of : {T : Type 0} (p : ℕ) (w v x y : State T) → w ≡ v → x ≡ y → OnlyOf p w y → OnlyOf p v x
+only_of {T} p w v x y e f h = subst (λ (s : State T). OnlyOf p s x) e (subst (λ (s : State T). OnlyOf p w s) (sym f) h)
+
+pub is_place : {T : Type 0} (x y : State T) → x ≡ y → IsPlace y → IsPlace x
+is_place {T} x y f h = subst (λ (s : State T). IsPlace s) (sym f) h
+
+pub keeps_gives : {T : Type 0} (p : ℕ) (w w' : State T) → Sound w → Gives p w w' → Keeps w w'
+keeps_gives {T} p w w' h g =
+    let same : (i : ℕ) → value_at w' i ≡ value_at w i = λ i. ap (λ (vs : List (Option T)). get_or vs i None) g.values in
+    record {
+      states = g.places;
+      cells = g.cells;
+      members = g.known;
+      lives = λ i l. same i;
+      protects = λ q i o o' k.
+          let published = ap (λ (c : Calm). c.published) (calm_at p w w' g q) in
+          (same i, record {
+            used = sym (g.sound.filled i) ∙ ap is_some (same i) ∙ h.filled i ∙ k.used;
+            prior = λ j some.
+                let c = calm_at p w w' g j in
+                let bag = ap (λ (c : Calm). times i c.prior) c in
+                let previous = ap (λ (c : Calm). c.previous) c in
+                omega (arith, published, previous, k.prior j (omega (arith, some, bag)));
+            oldest = λ j some.
+                let c = calm_at p w w' g j in
+                let bag = ap (λ (c : Calm). times i c.oldest) c in
+                let previous = ap (λ (c : Calm). c.previous) c in
+                omega (arith, published, previous, k.oldest j (omega (arith, some, bag)));
+            noted = λ n e. omega (arith, published, k.noted n (g.noted i n e));
+          });
+    }
+
+pub only_gives : {T : Type 0} (p : ℕ) (w w' : State T) → Gives p w w' → OnlyOf p w w'
+only_gives p w w' g = g.others
+
+-- the marks of p are others: an open guard publishes the same, and what was found before doesn't fall
+pub keeps_marks : {T : Type 0} (w : State T) (p : ℕ) (k : Marks) → p < length w.members → (IsOpen w p → k.published ≡ (marks_at w p).published) → (marks_at w p).previous ≤ k.previous → Keeps w (with_marks p k w)
+keeps_marks {T} w p k known same rises =
+    let w' : State T = with_marks p k w in
+    let at : member_at w' p ≡ marked k (member_at w p) = get_or-set_same w.members p (marked k (member_at w p)) nobody known in
+    let other : (j : ℕ) → j ≢ p → member_at w' j ≡ member_at w j = λ j n. get_or-set_other w.members p j (marked k (member_at w p)) nobody n in
+    record {
+      states = refl;
+      cells = refl;
+      members = length-set w.members p (marked k (member_at w p));
+      lives = λ i l. refl;
+      protects = λ q i o o' h.
+          let published : (marks_at w' q).published ≡ (marks_at w q).published = elim (eqb_tells q p) [
+            | inl t ↦ let P : ℕ → Type 0 = λ j. IsOpen w j → (marks_at w' j).published ≡ (marks_at w j).published in let here : P p = λ x. ap (λ (m : Member). m.marks.published) at ∙ same x in subst P (sym t.1) here o
+            | inr t ↦ ap (λ (m : Member). m.marks.published) (other q t.1)
+          ] in
+          (refl, record {
+            used = h.used;
+            prior = λ j some. elim (eqb_tells j p) [
+              | inl t ↦
+                  let P : ℕ → Type 0 = λ x. 1 ≤ times i (member_at w' x).prior → (marks_at w' q).published ≤ (marks_at w' x).previous in
+                  let here : P p = λ s. let bag = ap (λ (m : Member). times i m.prior) at in let previous = ap (λ (m : Member). m.marks.previous) at in omega (arith, published, previous, rises, h.prior p (omega (arith, s, bag))) in
+                  subst P (sym t.1) here some
+              | inr t ↦ let bag = ap (λ (m : Member). times i m.prior) (other j t.1) in let previous = ap (λ (m : Member). m.marks.previous) (other j t.1) in omega (arith, published, previous, h.prior j (omega (arith, some, bag)))
+            ];
+            oldest = λ j some. elim (eqb_tells j p) [
+              | inl t ↦
+                  let P : ℕ → Type 0 = λ x. 1 ≤ times i (member_at w' x).oldest → (marks_at w' q).published < (marks_at w' x).previous in
+                  let here : P p = λ s. let bag = ap (λ (m : Member). times i m.oldest) at in let previous = ap (λ (m : Member). m.marks.previous) at in omega (arith, published, previous, rises, h.oldest p (omega (arith, s, bag))) in
+                  subst P (sym t.1) here some
+              | inr t ↦ let bag = ap (λ (m : Member). times i m.oldest) (other j t.1) in let previous = ap (λ (m : Member). m.marks.previous) (other j t.1) in omega (arith, published, previous, h.oldest j (omega (arith, some, bag)))
+            ];
+            noted = λ n e. omega (arith, published, h.noted n e);
+          });
+    }
+
+pub only_marks : {T : Type 0} (w : State T) (p : ℕ) (k : Marks) → OnlyOf p w (with_marks p k w)
+only_marks w p k = λ j n. get_or-set_other w.members p j (marked k (member_at w p)) nobody n
+
+-- a live item is in no bag
+pub live_light : (s : Status) → has_owner s ≡ true → weight s ≡ 0
+live_light status.Free h = refl
+live_light status.Owned h = refl
+live_light (status.Shared n) h = refl
+live_light status.Raw h = refl
+live_light (status.Collected n) h = refl
+live_light status.Retired h = absurd (false≢true h)
+live_light status.Idle h = refl
+live_light status.Deferred h = absurd (false≢true h)
+
+pub live_used : (s : Status) → has_owner s ≡ true → is_used s ≡ true
+live_used status.Free h = h
+live_used status.Owned h = refl
+live_used (status.Shared n) h = refl
+live_used status.Raw h = refl
+live_used (status.Collected n) h = refl
+live_used status.Retired h = refl
+live_used status.Idle h = h
+live_used status.Deferred h = h
+
+-- an outermost opening that rotates
+pub keeps_turned : {T : Type 0} (holds : T → List Hold) (w : State T) (p : ℕ) → IsPlace w → p < length w.members → (marks_at w p).nesting ≡ 0 → (marks_at w p).previous ≢ w.count → Keeps w (rotated holds p (begun p w)) × OnlyOf p w (rotated holds p (begun p w))
+keeps_turned {T} holds w p h known closed' differs =
+    let k : Marks = record (marks_at w p) { nesting = 1; published = w.count; previous = w.count; accelerated = false } in
+    let b : State T = begun p w in
+    let hb = place_begun w p h known in
+    let atb : member_at b p ≡ marked k (member_at w p) = get_or-set_same w.members p (marked k (member_at w p)) nobody known in
+    let otherb : (j : ℕ) → j ≢ p → member_at b j ≡ member_at w j = λ j n. get_or-set_other w.members p j (marked k (member_at w p)) nobody n in
+    let sizeb : length b.members ≡ length w.members = length-set w.members p (marked k (member_at w p)) in
+    let r = rotates holds b p hb (omega (arith, sizeb)) in
+    let w' : State T = rotated holds p b in
+    let other : (j : ℕ) → j ≢ p → member_at w' j ≡ member_at w j = λ j n. r.others j n ∙ otherb j n in
+    let behind : (marks_at w p).previous < w.count = omega (arith, h.past p, differs) in
+    let previous : (marks_at w' p).previous ≡ w.count = r.previous ∙ ap (λ (m : Member). m.marks.previous) atb in
+    let prior : (i : ℕ) → times i (member_at w' p).prior ≡ times i (member_at w p).current = λ i. ap (times i) (r.prior ∙ ap (λ (m : Member). m.current) atb) in
+    let oldest : (i : ℕ) → times i (member_at w' p).oldest ≡ times i (member_at w p).prior = λ i. ap (times i) (r.oldest ∙ ap (λ (m : Member). m.prior) atb) in
+    let stays : (i : ℕ) → times i (member_at w p).oldest ≡ 0 → value_at w' i ≡ value_at w i = λ i none. r.stays i (ap (λ (m : Member). times i m.oldest) atb ∙ none) in
+    (record {
+      states = r.places;
+      cells = r.cells;
+      members = r.known ∙ sizeb;
+      lives = λ i l. stays i (let bag = bag_waits w p i h.sound known in let light = live_light (status_at w i) l in omega (arith, bag, light));
+      protects = λ q i o o' g.
+          let apart : q ≢ p = λ e. let P : ℕ → Type 0 = λ j. 0 < (marks_at w j).nesting in let x : P p = subst P e o in absurd (omega (arith, x, closed')) in
+          let published = ap (λ (m : Member). m.marks.published) (other q apart) in
+          let out : times i (member_at w p).oldest ≡ 0 = elim (eqb_tells (times i (member_at w p).oldest) 0) [
+            | inl t ↦ t.1
+            | inr t ↦ absurd (omega (arith, g.oldest p (omega (arith, t.1)), behind, h.near q o))
+          ] in
+          (stays i out, record {
+            used = sym (r.place.sound.filled i) ∙ ap is_some (stays i out) ∙ h.sound.filled i ∙ g.used;
+            prior = λ j some. elim (eqb_tells j p) [
+              | inl t ↦
+                  let P : ℕ → Type 0 = λ x. (marks_at w' q).published ≤ (marks_at w' x).previous in
+                  let here : P p = omega (arith, published, previous, h.began q o) in
+                  subst P (sym t.1) here
+              | inr t ↦ let bag = ap (λ (m : Member). times i m.prior) (other j t.1) in let before = ap (λ (m : Member). m.marks.previous) (other j t.1) in omega (arith, published, before, g.prior j (omega (arith, some, bag)))
+            ];
+            oldest = λ j some. elim (eqb_tells j p) [
+              | inl t ↦
+                  let P : ℕ → Type 0 = λ x. 1 ≤ times i (member_at w' x).oldest → (marks_at w' q).published < (marks_at w' x).previous in
+                  let here : P p = λ s. omega (arith, published, previous, behind, g.prior p (omega (arith, s, oldest i))) in
+                  subst P (sym t.1) here some
+              | inr t ↦ let bag = ap (λ (m : Member). times i m.oldest) (other j t.1) in let before = ap (λ (m : Member). m.marks.previous) (other j t.1) in omega (arith, published, before, g.oldest j (omega (arith, some, bag)))
+            ];
+            noted = λ n e. omega (arith, published, g.noted n (r.noted i n e));
+          });
+    }, other)
+
+pub keeps_opened : {T : Type 0} (holds : T → List Hold) (w : State T) (p : ℕ) → IsPlace w → p < length w.members → Keeps w (opened holds p w) × OnlyOf p w (opened holds p w)
+keeps_opened {T} holds w p h known =
+    let m = marks_at w p in
+    let b : State T = begun p w in
+    let n : State T = with_marks p (record m { nesting = m.nesting + 1 }) w in
+    let G : State T → Type 0 = λ x. Keeps w x × OnlyOf p w x in
+    elim (eqb_tells m.nesting 0) [
+      | inl t ↦ subst (λ (c : Bool). G (cond c (cond (m.previous == w.count) b (rotated holds p b)) n)) (sym t.0)
+          (elim (eqb_tells m.previous w.count) [
+            | inl s ↦ subst (λ (c : Bool). G (cond c b (rotated holds p b))) (sym s.0) (keeps_marks w p _ known (λ o. absurd (omega (arith, o, t.1))) (h.past p), only_marks w p _)
+            | inr s ↦ subst (λ (c : Bool). G (cond c b (rotated holds p b))) (sym s.0) (keeps_turned holds w p h known t.1 s.1)
+          ])
+      | inr t ↦ subst (λ (c : Bool). G (cond c (cond (m.previous == w.count) b (rotated holds p b)) n)) (sym t.0) (keeps_marks w p _ known (λ o. refl) (omega arith), only_marks w p _)
+    ]
+
+pub keeps_closed : {T : Type 0} (w : State T) (p : ℕ) → p < length w.members → Keeps w (closed p w) × OnlyOf p w (closed p w)
+keeps_closed {T} w p known =
+    let m = marks_at w p in
+    let G : State T → Type 0 = λ x. Keeps w x × OnlyOf p w x in
+    let by : (k : Marks) → k.published ≡ m.published → k.previous ≡ m.previous → G (with_marks p k w) = λ k e f. (keeps_marks w p k known (λ o. e) (omega (arith, f)), only_marks w p k) in
+    let up : (k : Marks) → G (with_marks p k w) → G (with_marks p k (raised w)) = λ k g. (record { states = g.0.states; cells = g.0.cells; members = g.0.members; lives = g.0.lives; protects = λ q i o o' h. let x = g.0.protects q i o o' h in (x.0, record { used = x.1.used; prior = x.1.prior; oldest = x.1.oldest; noted = x.1.noted }) }, g.1) in
+    let k1 : Marks = record m { nesting = 0; closings = 0 } in
+    let k2 : Marks = record m { nesting = 0; closings = closings_after m } in
+    let k3 : Marks = record m { nesting = m.nesting - 1 } in
+    let yes : G (with_marks p k1 (scanned w)) = elim (list_all (is_present w.count) w.members && ltb w.count 18446744073709551615) as (λ c. G (with_marks p k1 (cond c (raised w) w))) [ true ↦ up k1 (by k1 refl refl) | false ↦ by k1 refl refl ] in
+    let outer : G (cond (scans m) (with_marks p k1 (scanned w)) (with_marks p k2 w)) = elim (scans m) as (λ c. G (cond c (with_marks p k1 (scanned w)) (with_marks p k2 w))) [ true ↦ yes | false ↦ by k2 refl refl ] in
+    elim (m.nesting == 1) as (λ c. G (cond c (cond (scans m) (with_marks p k1 (scanned w)) (with_marks p k2 w)) (with_marks p k3 w))) [ true ↦ outer | false ↦ by k3 refl refl ]
+
+-- an item in a slot that was free
+pub place_placed : {T : Type 0} (w : State T) (i : ℕ) (v : T) (s : Status) → IsPlace w → i < length w.states → status_at w i ≡ status.Free → weight s ≡ 0 → is_used s ≡ true → IsPlace (placed i v s w)
+place_placed {T} w i v s h inside was light used =
+    let within : i < length w.values = omega (arith, h.sound.sizes, inside) in
+    record {
+      sound = record {
+        sizes = length-set w.values i (Some v) ∙ h.sound.sizes ∙ sym (length-set w.states i s);
+        once = λ j. h.sound.once j ∙ sym (weight_same w.states i j s inside (light ∙ sym (ap weight was)));
+        filled = λ j. elim (eqb_tells j i) [
+          | inl t ↦
+              let P : ℕ → Type 0 = λ k. is_some (get_or (set w.values i (Some v)) k None) ≡ is_used (get_or (set w.states i s) k status.Free) in
+              let here : P i = ap is_some (get_or-set_same w.values i (Some v) None within) ∙ sym (ap is_used (get_or-set_same w.states i s status.Free inside) ∙ used) in
+              subst P (sym t.1) here
+          | inr t ↦ ap is_some (get_or-set_other w.values i j (Some v) None t.1) ∙ h.sound.filled j ∙ sym (ap is_used (get_or-set_other w.states i j s status.Free t.1))
+        ];
+      };
+      idle = h.idle;
+      past = h.past;
+      began = h.began;
+      near = h.near;
+    }
+
+pub keeps_placed : {T : Type 0} (w : State T) (i : ℕ) (v : T) (s : Status) → status_at w i ≡ status.Free → Keeps w (placed i v s w)
+keeps_placed {T} w i v s was =
+    let far : (j : ℕ) → is_used (status_at w j) ≡ true → j ≢ i = λ j u e. let P : ℕ → Type 0 = λ k. is_used (status_at w k) ≡ true in let x : P i = subst P e u in false≢true (sym (ap is_used was) ∙ x) in
+    record {
+      states = length-set w.states i s;
+      cells = refl;
+      members = refl;
+      lives = λ j l. get_or-set_other w.values i j (Some v) None (far j (live_used (status_at w j) l));
+      protects = λ q j o o' h.
+          let n = far j h.used in
+          let same = get_or-set_other w.states i j s status.Free n in
+          (get_or-set_other w.values i j (Some v) None n, record { used = ap is_used same ∙ h.used; prior = h.prior; oldest = h.oldest; noted = λ m e. h.noted m (sym same ∙ e) });
+    }
