@@ -1,8 +1,10 @@
 -- what holds of every place of one thread between two calls
-use Rattle.std.specs.Prelude.{◌≡◌, ◌≢◌, ℕ, ◌+◌, ◌<◌, ◌≤◌, List, [], length, is_some}
+use Rattle.std.specs.Prelude.{◌≡◌, ◌≢◌, ℕ, ◌+◌, ◌<◌, ◌≤◌, List, [], length, is_some, Option, None, Some, true}
 use Rattle.std.specs.List.{sum_by}
 use Rattle.sdd_base.specs.State.{State, Member, status_at, value_at, cell_at, member_at, marks_at, weight, is_used}
 use Rattle.sdd_base.specs.Steps.{times}
+use Rattle.sdd_base.specs.declared.tag.Tag.{Tag}
+use Rattle.sdd_base.specs.declared.sizes.Sizes.{Sizes}
 use Rattle.sdd_base.specs.declared.status.Status.TheVariants as status
 use Rattle.sdd_base.specs.declared.status.Cell.TheVariants as cell
 
@@ -39,3 +41,37 @@ pub record IsShared {T : Type 0} (w : State T) (i : ℕ) : Type 0 where
 pub record IsOwned {T : Type 0} (w : State T) (i : ℕ) : Type 0 where
   pub inside : i < length w.states
   pub is : status_at w i ≡ status.Owned
+
+-- cell c keeps the owner of an item, or none, with a tag
+pub record IsOwnedCell {T : Type 0} (w : State T) (c : ℕ) : Type 0 where
+  pub inside : c < length w.cells
+  pub item : Option ℕ
+  pub tag : Tag
+  pub is : cell_at w c ≡ cell.OfOwned item tag
+
+-- cell c keeps an owner of a shared item, or none, with a tag
+pub record IsSharedCell {T : Type 0} (w : State T) (c : ℕ) : Type 0 where
+  pub inside : c < length w.cells
+  pub item : Option ℕ
+  pub tag : Tag
+  pub is : cell_at w c ≡ cell.OfShared item tag
+
+-- cell c names an item that it doesn't own, or none, with a tag
+pub record IsRawCell {T : Type 0} (w : State T) (c : ℕ) : Type 0 where
+  pub inside : c < length w.cells
+  pub item : Option ℕ
+  pub tag : Tag
+  pub is : cell_at w c ≡ cell.OfRaw item tag
+
+-- a pointer is null, or names an item that is there
+abbrev pub IsReadable : {T : Type 0} → State T → Option ℕ → Type 0
+IsReadable w None = Unit {0}
+IsReadable w (Some i) = (i < length w.states) × (is_used (status_at w i) ≡ true)
+
+-- the sizes that a place may have
+pub record IsSized (n : Sizes) : Type 0 where
+  pub some : 1 ≤ n.participants
+  pub participants : n.participants ≤ 1073741824
+  pub slots : n.slots ≤ 1073741824
+  pub cells : n.cells ≤ 1073741824
+  pub jobs : n.jobs ≤ 1073741824

@@ -6,7 +6,10 @@ use Rattle.sdd_base.specs.declared.owner.Shared.{Shared}
 use Rattle.sdd_base.specs.declared.cell.AtomicOwned.{AtomicOwned}
 use Rattle.sdd_base.specs.declared.cell.AtomicShared.{AtomicShared}
 use Rattle.sdd_base.specs.declared.cell.AtomicRaw.{AtomicRaw}
+use Rattle.std.specs.Option.{option_map}
 use Rattle.sdd_base.specs.declared.pointer.RawPtr.{RawPtr}
+use Rattle.sdd_base.specs.declared.pointer.Ptr.{Ptr}
+use Rattle.sdd_base.specs.declared.guard.WorldGuard.{WorldGuard}
 use Rattle.sdd_base.specs.declared.holds.Held.{Held}
 use Rattle.sdd_base.specs.declared.holds.Held.TheVariants as held
 use Rattle.sdd_base.specs.declared.tag.Tag.{Tag}
@@ -41,3 +44,21 @@ hold_of (held.Owned o) = OwnedItem (owned_slot o)
 hold_of (held.Shared s) = SharedItem (shared_slot s)
 hold_of (held.OwnedCell c) = OwnedIn (owned_cell c)
 hold_of (held.SharedCell c) = SharedIn (shared_cell c)
+
+-- the slot that a pointer names, or none, and its tag
+abbrev pub ptr_slot : {T : Type 0} → Ptr T → Option ℕ
+ptr_slot r = r.slot
+
+abbrev pub ptr_tag : {T : Type 0} → Ptr T → Tag
+ptr_tag r = r.tag
+
+-- the participant whose guard it is
+abbrev pub participant_of : WorldGuard → ℕ
+participant_of g = g.participant
+
+-- the slots of owners that may be there
+abbrev pub owned_slots : {T : Type 0} → Option (Owned T) → Option ℕ
+owned_slots o = option_map owned_slot o
+
+abbrev pub shared_slots : {T : Type 0} → Option (Shared T) → Option ℕ
+shared_slots s = option_map shared_slot s

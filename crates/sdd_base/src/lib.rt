@@ -8,11 +8,14 @@
 mod bags;
 pub mod cell;
 pub mod epoch;
+pub mod guard;
 pub mod holds;
 pub mod owner;
 pub mod pointer;
 mod reclaim;
+pub mod refusal;
 pub mod sizes;
 pub mod status;
 mod table;
 pub mod tag;
+pub mod world;

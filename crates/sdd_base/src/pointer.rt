@@ -1,6 +1,7 @@
 //! Pointers to items: plain data, a slot or none, and a tag.
 
-ghost use Rattle.std.specs.Prelude.{◌≡◌, ◌↔◌, IsTrue, None, Some};
+ghost use Rattle.std.specs.Prelude.{◌≡◌, IsTrue, None, Some, ◌↔◌};
+ghost use Rattle.sdd_base.specs.Tokens.{ptr_slot, ptr_tag, raw_slot, raw_tag};
 
 use crate::tag::Tag;
 use std::marker::PhantomData;
@@ -19,4 +20,126 @@ pub struct RawPtr<T> {
     pub(crate) slot: Option<usize>,
     pub(crate) tag: Tag,
     pub(crate) of: PhantomData<T>,
+}
+
+impl<'g, T> Ptr<'g, T> {
+    /// The pointer to nothing, without a tag.
+    pub fn null() -> Ptr<'g, T>
+        ensures slot { ptr_slot result ≡ None }
+        ensures tag { ptr_tag result ≡ Tag.None }
+    {
+        Ptr {
+            slot: None,
+            tag: Tag::None,
+            of: PhantomData,
+        }
+    }
+
+    /// Whether it points to nothing, whatever its tag.
+    pub fn is_null(self) -> bool
+        ensures { IsTrue result ↔ (ptr_slot self.entry ≡ None) }
+    {
+        self.slot.is_none()
+    }
+
+    pub fn tag(self) -> Tag
+        ensures { result ≡ ptr_tag self.entry }
+    {
+        self.tag
+    }
+
+    pub fn set_tag(&mut self, tag: Tag)
+        ensures slot { ptr_slot self.new ≡ ptr_slot self.old }
+        ensures tag { ptr_tag self.new ≡ tag }
+    {
+        self.tag = tag;
+    }
+
+    pub fn unset_tag(&mut self)
+        ensures slot { ptr_slot self.new ≡ ptr_slot self.old }
+        ensures tag { ptr_tag self.new ≡ Tag.None }
+    {
+        self.tag = Tag::None;
+    }
+
+    /// The same pointer with another tag.
+    pub fn with_tag(self, tag: Tag) -> Ptr<'g, T>
+        ensures slot { ptr_slot result ≡ ptr_slot self.entry }
+        ensures tag { ptr_tag result ≡ tag }
+    {
+        Ptr {
+            slot: self.slot,
+            tag,
+            of: PhantomData,
+        }
+    }
+
+    /// The same pointer without a tag.
+    pub fn without_tag(self) -> Ptr<'g, T>
+        ensures slot { ptr_slot result ≡ ptr_slot self.entry }
+        ensures tag { ptr_tag result ≡ Tag.None }
+    {
+        self.with_tag(Tag::None)
+    }
+}
+
+impl<T> RawPtr<T> {
+    /// The pointer to nothing, without a tag.
+    pub fn null() -> RawPtr<T>
+        ensures slot { raw_slot result ≡ None }
+        ensures tag { raw_tag result ≡ Tag.None }
+    {
+        RawPtr {
+            slot: None,
+            tag: Tag::None,
+            of: PhantomData,
+        }
+    }
+
+    /// Whether it points to nothing, whatever its tag.
+    pub fn is_null(self) -> bool
+        ensures { IsTrue result ↔ (raw_slot self ≡ None) }
+    {
+        self.slot.is_none()
+    }
+
+    pub fn tag(self) -> Tag
+        ensures { result ≡ raw_tag self }
+    {
+        self.tag
+    }
+
+    pub fn set_tag(&mut self, tag: Tag)
+        ensures slot { raw_slot self.new ≡ raw_slot self.old }
+        ensures tag { raw_tag self.new ≡ tag }
+    {
+        self.tag = tag;
+    }
+
+    pub fn unset_tag(&mut self)
+        ensures slot { raw_slot self.new ≡ raw_slot self.old }
+        ensures tag { raw_tag self.new ≡ Tag.None }
+    {
+        self.tag = Tag::None;
+    }
+
+    /// The same pointer with another tag.
+    pub fn with_tag(self, tag: Tag) -> RawPtr<T>
+        ensures slot { raw_slot result ≡ raw_slot self }
+        ensures tag { raw_tag result ≡ tag }
+    {
+        RawPtr {
+            slot: self.slot,
+            tag,
+            of: PhantomData,
+        }
+    }
+
+    /// The same pointer without a tag.
+    pub fn without_tag(self) -> RawPtr<T>
+        ensures slot { raw_slot result ≡ raw_slot self }
+        ensures tag { raw_tag result ≡ Tag.None }
+    {
+        self.with_tag(Tag::None)
+    }
 }

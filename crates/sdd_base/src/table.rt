@@ -58,6 +58,14 @@ impl<T> Table<T> {
         self.free.is_empty()
     }
 
+    /// Whether no cell is free.
+    pub(crate) fn has_no_cell(&self) -> bool
+        ensures full { IsTrue result → NoCellFree self.now }
+        ensures free { IsFalse result → (c : ℕ) × IsFreeCell self.now c }
+    {
+        self.free_cells.is_empty()
+    }
+
     pub(crate) fn status(&self, i: usize) -> Status
         requires { i < length self.now.states }
         ensures { result ≡ status_at self.now i }

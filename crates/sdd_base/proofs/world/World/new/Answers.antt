@@ -1,0 +1,5 @@
+use Rattle.sdd_base.proofs.Places.{place_fresh}
+use Rattle.sdd_base.proofs.world.World.new.Goals as goal
+
+pub invariant_of-result : goal.invariant_of-result
+invariant_of-result g c = place_fresh c.args.sizes c.in_ok-new.field-0 c.in_ok-new.ensures

@@ -1,0 +1,263 @@
+//! Cells that keep the owner of an item, or none, with a tag.
+
+ghost use Rattle.std.specs.Prelude.{◌≡◌, ◌≢◌, ◌<◌, ℕ, length, IfOk, IfErr, IfSome, IfNone, OnErr, Some, None, IsTrue, IsFalse, ◌↔◌, ◌⊎◌, MatchResult, Option};
+ghost use Rattle.sdd_base.specs.State.{IsFree, NoneFree, IsFreeCell, NoCellFree, placed, with_cell, cell_at};
+ghost use Rattle.sdd_base.specs.Steps.{owned_ended};
+ghost use Rattle.sdd_base.specs.Frame.{Keeps, OnlyOf};
+ghost use Rattle.sdd_base.specs.Place.{IsOwnedCell};
+ghost use Rattle.sdd_base.specs.Tokens.{owned_cell, owned_slot, owned_slots, ptr_slot, ptr_tag};
+
+use crate::cell::AtomicOwned;
+use crate::guard::WorldGuard;
+use crate::owner::Owned;
+use crate::pointer::Ptr;
+use crate::reclaim;
+use crate::refusal::NoSlot;
+use crate::status::{Cell, Status};
+use crate::tag::Tag;
+use crate::world::World;
+use std::marker::PhantomData;
+
+/// Makes an item of `value` and a cell that keeps it, without a tag, exactly if a slot and a cell are free; else
+/// `value` comes back.
+pub fn new<T>(w: &mut World<T>, value: T) -> Result<AtomicOwned<T>, T>
+    ensures made { IfOk result (λ c. IsFreeCell w.old (owned_cell c) × (i : ℕ) × IsFree w.old i × (w.new ≡ with_cell (owned_cell c) (Cell.OfOwned (Some i) Tag.None) (placed i value Status.Owned w.old))) }
+    ensures refused { IfErr result (λ v. (v ≡ value) × (w.new ≡ w.old) × (NoneFree w.old ⊎ NoCellFree w.old)) }
+    ensures keeps { Keeps w.old w.new }
+{
+    if w.table.is_full() || w.table.has_no_cell() {
+        return Err(value);
+    }
+    match w.table.place(value, Status::Owned) {
+        Ok(slot) => match w.table.claim_cell(Cell::OfOwned(Some(slot), Tag::None)) {
+            Some(cell) => Ok(AtomicOwned::of_cell(cell)),
+            None => unreachable!(),
+        },
+        Err(_) => unreachable!(),
+    }
+}
+
+/// A cell that keeps owned, without a tag, exactly if a cell is free; else owned comes back.
+pub fn from<T>(w: &mut World<T>, owned: Owned<T>) -> Result<AtomicOwned<T>, Owned<T>>
+    ensures made { IfOk result (λ c. IsFreeCell w.old (owned_cell c) × (w.new ≡ with_cell (owned_cell c) (Cell.OfOwned (Some (owned_slot owned)) Tag.None) w.old)) }
+    ensures refused { IfErr result (λ o. (owned_slot o ≡ owned_slot owned) × (w.new ≡ w.old) × NoCellFree w.old) }
+    ensures keeps { Keeps w.old w.new }
+{
+    match w.table.claim_cell(Cell::OfOwned(Some(owned.slot), Tag::None)) {
+        None => Err(owned),
+        Some(cell) => {
+            let Owned { slot: _, of: _ } = owned;
+            Ok(AtomicOwned::of_cell(cell))
+        }
+    }
+}
+
+/// A cell that keeps nothing, without a tag, exactly if a cell is free.
+pub fn null<T>(w: &mut World<T>) -> Result<AtomicOwned<T>, NoSlot>
+    ensures made { IfOk result (λ c. IsFreeCell w.old (owned_cell c) × (w.new ≡ with_cell (owned_cell c) (Cell.OfOwned None Tag.None) w.old)) }
+    ensures refused { OnErr result ((w.new ≡ w.old) × NoCellFree w.old) }
+    ensures keeps { Keeps w.old w.new }
+{
+    match w.table.claim_cell(Cell::OfOwned(None, Tag::None)) {
+        None => Err(NoSlot),
+        Some(cell) => Ok(AtomicOwned::of_cell(cell)),
+    }
+}
+
+/// What the cell keeps, as a pointer.
+pub fn load<T>(w: &World<T>, cell: &AtomicOwned<T>, _guard: &WorldGuard) -> Ptr<'static, T>
+    requires { IsOwnedCell w.now (owned_cell cell.now) }
+    ensures { cell_at w.now (owned_cell cell.now) ≡ Cell.OfOwned (ptr_slot result) (ptr_tag result) }
+{
+    match w.table.cell(cell.cell) {
+        Cell::OfOwned(slot, tag) => Ptr {
+            slot,
+            tag,
+            of: PhantomData,
+        },
+        _ => unreachable!(),
+    }
+}
+
+/// Whether the cell keeps nothing.
+pub fn is_null<T>(w: &World<T>, cell: &AtomicOwned<T>) -> bool
+    requires { IsOwnedCell w.now (owned_cell cell.now) }
+    ensures { (item : Option ℕ) (tag : Tag) → cell_at w.now (owned_cell cell.now) ≡ Cell.OfOwned item tag → IsTrue result ↔ (item ≡ None) }
+{
+    match w.table.cell(cell.cell) {
+        Cell::OfOwned(slot, _) => slot.is_none(),
+        _ => unreachable!(),
+    }
+}
+
+/// The tag of the cell.
+pub fn tag<T>(w: &World<T>, cell: &AtomicOwned<T>) -> Tag
+    requires { IsOwnedCell w.now (owned_cell cell.now) }
+    ensures { (item : Option ℕ) (tag : Tag) → cell_at w.now (owned_cell cell.now) ≡ Cell.OfOwned item tag → result ≡ tag }
+{
+    match w.table.cell(cell.cell) {
+        Cell::OfOwned(_, tag) => tag,
+        _ => unreachable!(),
+    }
+}
+
+/// Puts another item and tag into the cell, and gives the old ones.
+pub fn swap<T>(
+    w: &mut World<T>,
+    cell: &AtomicOwned<T>,
+    new: (Option<Owned<T>>, Tag),
+) -> (Option<Owned<T>>, Tag)
+    requires { IsOwnedCell w.old (owned_cell cell.now) }
+    ensures was { cell_at w.old (owned_cell cell.now) ≡ Cell.OfOwned (owned_slots result.0) result.1 }
+    ensures now { w.new ≡ with_cell (owned_cell cell.now) (Cell.OfOwned (owned_slots new.0) new.1) w.old }
+    ensures keeps { Keeps w.old w.new }
+{
+    let (item, tag) = new;
+    let slot = into_slot(item);
+    match w.table.cell(cell.cell) {
+        Cell::OfOwned(old, old_tag) => {
+            w.table.set_cell(cell.cell, Cell::OfOwned(slot, tag));
+            (of_slot(old), old_tag)
+        }
+        _ => unreachable!(),
+    }
+}
+
+/// Sets the tag if `f` answers true for what the cell keeps, and answers what `f` did. It is called once.
+pub fn update_tag_if<T, F: FnOnce(Ptr<'static, T>) -> bool>(
+    w: &mut World<T>,
+    cell: &AtomicOwned<T>,
+    tag: Tag,
+    f: F,
+) -> bool
+    requires cell { IsOwnedCell w.old (owned_cell cell.now) }
+    requires callable { F.IsAlwaysCallable f }
+    ensures asked { (r : Ptr _) × (cell_at w.old (owned_cell cell.now) ≡ Cell.OfOwned (ptr_slot r) (ptr_tag r)) × F.post f r result × (IsTrue result → w.new ≡ with_cell (owned_cell cell.now) (Cell.OfOwned (ptr_slot r) tag) w.old) }
+    ensures kept { IsFalse result → w.new ≡ w.old }
+    ensures keeps { Keeps w.old w.new }
+{
+    match w.table.cell(cell.cell) {
+        Cell::OfOwned(slot, old) => {
+            let found = Ptr {
+                slot,
+                tag: old,
+                of: PhantomData,
+            };
+            if !f(found) {
+                return false;
+            }
+            w.table.set_cell(cell.cell, Cell::OfOwned(slot, tag));
+            true
+        }
+        _ => unreachable!(),
+    }
+}
+
+/// Puts another item and tag into the cell if item and tag are both those of `current`, and gives the old owner and
+/// the new pointer; else the new owner comes back, with the pointer found.
+pub fn compare_exchange<T>(
+    w: &mut World<T>,
+    cell: &AtomicOwned<T>,
+    current: Ptr<'static, T>,
+    new: (Option<Owned<T>>, Tag),
+    _guard: &WorldGuard,
+) -> Result<(Option<Owned<T>>, Ptr<'static, T>), (Option<Owned<T>>, Ptr<'static, T>)>
+    requires { IsOwnedCell w.old (owned_cell cell.now) }
+    ensures exchanged { IfOk result (λ r. (cell_at w.old (owned_cell cell.now) ≡ Cell.OfOwned (ptr_slot current.entry) (ptr_tag current.entry)) × (owned_slots r.0 ≡ ptr_slot current.entry) × (ptr_slot r.1 ≡ owned_slots new.0) × (ptr_tag r.1 ≡ new.1) × (w.new ≡ with_cell (owned_cell cell.now) (Cell.OfOwned (owned_slots new.0) new.1) w.old)) }
+    ensures found { IfErr result (λ r. (cell_at w.old (owned_cell cell.now) ≡ Cell.OfOwned (ptr_slot r.1) (ptr_tag r.1)) × (owned_slots r.0 ≡ owned_slots new.0) × (w.new ≡ w.old)) }
+    ensures differs { OnErr result (cell_at w.old (owned_cell cell.now) ≢ Cell.OfOwned (ptr_slot current.entry) (ptr_tag current.entry)) }
+    ensures keeps { Keeps w.old w.new }
+{
+    match w.table.cell(cell.cell) {
+        Cell::OfOwned(old, old_tag) => {
+            let (item, tag) = new;
+            if old != current.slot || old_tag != current.tag {
+                return Err((
+                    item,
+                    Ptr {
+                        slot: old,
+                        tag: old_tag,
+                        of: PhantomData,
+                    },
+                ));
+            }
+            let slot = into_slot(item);
+            w.table.set_cell(cell.cell, Cell::OfOwned(slot, tag));
+            Ok((
+                of_slot(old),
+                Ptr {
+                    slot,
+                    tag,
+                    of: PhantomData,
+                },
+            ))
+        }
+        _ => unreachable!(),
+    }
+}
+
+/// As `compare_exchange`: it fails for no other reason.
+pub fn compare_exchange_weak<T>(
+    w: &mut World<T>,
+    cell: &AtomicOwned<T>,
+    current: Ptr<'static, T>,
+    new: (Option<Owned<T>>, Tag),
+    guard: &WorldGuard,
+) -> Result<(Option<Owned<T>>, Ptr<'static, T>), (Option<Owned<T>>, Ptr<'static, T>)>
+    requires { IsOwnedCell w.old (owned_cell cell.now) }
+    ensures exchanged { IfOk result (λ r. (cell_at w.old (owned_cell cell.now) ≡ Cell.OfOwned (ptr_slot current.entry) (ptr_tag current.entry)) × (owned_slots r.0 ≡ ptr_slot current.entry) × (ptr_slot r.1 ≡ owned_slots new.0) × (ptr_tag r.1 ≡ new.1) × (w.new ≡ with_cell (owned_cell cell.now) (Cell.OfOwned (owned_slots new.0) new.1) w.old)) }
+    ensures found { IfErr result (λ r. (cell_at w.old (owned_cell cell.now) ≡ Cell.OfOwned (ptr_slot r.1) (ptr_tag r.1)) × (owned_slots r.0 ≡ owned_slots new.0) × (w.new ≡ w.old)) }
+    ensures differs { OnErr result (cell_at w.old (owned_cell cell.now) ≢ Cell.OfOwned (ptr_slot current.entry) (ptr_tag current.entry)) }
+    ensures keeps { Keeps w.old w.new }
+{
+    compare_exchange(w, cell, current, new, guard)
+}
+
+/// Ends the cell, and gives the owner that it kept.
+pub fn into_owned<T>(w: &mut World<T>, cell: AtomicOwned<T>) -> Option<Owned<T>>
+    requires { IsOwnedCell w.old (owned_cell cell) }
+    ensures was { (tag : Tag) × (cell_at w.old (owned_cell cell) ≡ Cell.OfOwned (owned_slots result) tag) }
+    ensures ended { w.new ≡ with_cell (owned_cell cell) Cell.Free w.old }
+    ensures keeps { Keeps w.old w.new }
+{
+    let AtomicOwned { cell, of: _ } = cell;
+    match w.table.cell(cell) {
+        Cell::OfOwned(slot, _) => {
+            w.table.free_cell(cell);
+            of_slot(slot)
+        }
+        _ => unreachable!(),
+    }
+}
+
+/// Ends the cell, and gives the owner that it kept back: the item is retired by participant `p`.
+pub fn retire<T>(w: &mut World<T>, cell: AtomicOwned<T>, p: usize)
+    requires member { p < length w.old.members }
+    requires cell { IsOwnedCell w.old (owned_cell cell) }
+    ensures ended { w.new ≡ owned_ended p (owned_cell cell) w.old }
+    ensures keeps { Keeps w.old w.new }
+    ensures only { OnlyOf p w.old w.new }
+{
+    let AtomicOwned { cell, of: _ } = cell;
+    reclaim::end_owned(&mut w.table, p, cell);
+}
+
+/// The slot of an owner that may be there, which is spent.
+fn into_slot<T>(item: Option<Owned<T>>) -> Option<usize>
+    ensures { result ≡ owned_slots item }
+{
+    match item {
+        None => None,
+        Some(Owned { slot, of: _ }) => Some(slot),
+    }
+}
+
+/// The owner that a cell kept.
+fn of_slot<T>(slot: Option<usize>) -> Option<Owned<T>>
+    ensures { owned_slots result ≡ slot }
+{
+    match slot {
+        None => None,
+        Some(slot) => Some(Owned::of_slot(slot)),
+    }
+}

@@ -1,0 +1,274 @@
+//! Cells that keep one owner of an item, or none, with a tag.
+
+ghost use Rattle.std.specs.Prelude.{◌≡◌, ◌≢◌, ◌<◌, ℕ, ◌+◌, length, IfOk, IfErr, IfSome, IfNone, OnErr, Some, None, IsTrue, IsFalse, ◌↔◌, ◌⊎◌, MatchResult, Option};
+ghost use Rattle.sdd_base.specs.State.{IsFree, NoneFree, IsFreeCell, NoCellFree, placed, with_cell, cell_at, status_at, with_status};
+ghost use Rattle.sdd_base.specs.Steps.{shared_ended};
+ghost use Rattle.sdd_base.specs.Frame.{Keeps, OnlyOf};
+ghost use Rattle.sdd_base.specs.Place.{IsSharedCell};
+ghost use Rattle.sdd_base.specs.Tokens.{shared_cell, shared_slot, shared_slots, ptr_slot, ptr_tag};
+
+use crate::cell::AtomicShared;
+use crate::guard::WorldGuard;
+use crate::owner::Shared;
+use crate::pointer::Ptr;
+use crate::reclaim;
+use crate::refusal::NoSlot;
+use crate::status::{Cell, Status};
+use crate::tag::Tag;
+use crate::world::{World, ptr};
+use std::marker::PhantomData;
+
+/// Makes an item of `value` and a cell that keeps it, without a tag, exactly if a slot and a cell are free; else
+/// `value` comes back.
+pub fn new<T>(w: &mut World<T>, value: T) -> Result<AtomicShared<T>, T>
+    ensures made { IfOk result (λ c. IsFreeCell w.old (shared_cell c) × (i : ℕ) × IsFree w.old i × (w.new ≡ with_cell (shared_cell c) (Cell.OfShared (Some i) Tag.None) (placed i value (Status.Shared 1) w.old))) }
+    ensures refused { IfErr result (λ v. (v ≡ value) × (w.new ≡ w.old) × (NoneFree w.old ⊎ NoCellFree w.old)) }
+    ensures keeps { Keeps w.old w.new }
+{
+    if w.table.is_full() || w.table.has_no_cell() {
+        return Err(value);
+    }
+    match w.table.place(value, Status::Shared(1)) {
+        Ok(slot) => match w.table.claim_cell(Cell::OfShared(Some(slot), Tag::None)) {
+            Some(cell) => Ok(AtomicShared::of_cell(cell)),
+            None => unreachable!(),
+        },
+        Err(_) => unreachable!(),
+    }
+}
+
+/// A cell that keeps shared, without a tag, exactly if a cell is free; else shared comes back.
+pub fn from<T>(w: &mut World<T>, shared: Shared<T>) -> Result<AtomicShared<T>, Shared<T>>
+    ensures made { IfOk result (λ c. IsFreeCell w.old (shared_cell c) × (w.new ≡ with_cell (shared_cell c) (Cell.OfShared (Some (shared_slot shared)) Tag.None) w.old)) }
+    ensures refused { IfErr result (λ o. (shared_slot o ≡ shared_slot shared) × (w.new ≡ w.old) × NoCellFree w.old) }
+    ensures keeps { Keeps w.old w.new }
+{
+    match w.table.claim_cell(Cell::OfShared(Some(shared.slot), Tag::None)) {
+        None => Err(shared),
+        Some(cell) => {
+            let Shared { slot: _, of: _ } = shared;
+            Ok(AtomicShared::of_cell(cell))
+        }
+    }
+}
+
+/// A cell that keeps nothing, without a tag, exactly if a cell is free.
+pub fn null<T>(w: &mut World<T>) -> Result<AtomicShared<T>, NoSlot>
+    ensures made { IfOk result (λ c. IsFreeCell w.old (shared_cell c) × (w.new ≡ with_cell (shared_cell c) (Cell.OfShared None Tag.None) w.old)) }
+    ensures refused { OnErr result ((w.new ≡ w.old) × NoCellFree w.old) }
+    ensures keeps { Keeps w.old w.new }
+{
+    match w.table.claim_cell(Cell::OfShared(None, Tag::None)) {
+        None => Err(NoSlot),
+        Some(cell) => Ok(AtomicShared::of_cell(cell)),
+    }
+}
+
+/// What the cell keeps, as a pointer.
+pub fn load<T>(w: &World<T>, cell: &AtomicShared<T>, _guard: &WorldGuard) -> Ptr<'static, T>
+    requires { IsSharedCell w.now (shared_cell cell.now) }
+    ensures { cell_at w.now (shared_cell cell.now) ≡ Cell.OfShared (ptr_slot result) (ptr_tag result) }
+{
+    match w.table.cell(cell.cell) {
+        Cell::OfShared(slot, tag) => Ptr {
+            slot,
+            tag,
+            of: PhantomData,
+        },
+        _ => unreachable!(),
+    }
+}
+
+/// Whether the cell keeps nothing.
+pub fn is_null<T>(w: &World<T>, cell: &AtomicShared<T>) -> bool
+    requires { IsSharedCell w.now (shared_cell cell.now) }
+    ensures { (item : Option ℕ) (tag : Tag) → cell_at w.now (shared_cell cell.now) ≡ Cell.OfShared item tag → IsTrue result ↔ (item ≡ None) }
+{
+    match w.table.cell(cell.cell) {
+        Cell::OfShared(slot, _) => slot.is_none(),
+        _ => unreachable!(),
+    }
+}
+
+/// The tag of the cell.
+pub fn tag<T>(w: &World<T>, cell: &AtomicShared<T>) -> Tag
+    requires { IsSharedCell w.now (shared_cell cell.now) }
+    ensures { (item : Option ℕ) (tag : Tag) → cell_at w.now (shared_cell cell.now) ≡ Cell.OfShared item tag → result ≡ tag }
+{
+    match w.table.cell(cell.cell) {
+        Cell::OfShared(_, tag) => tag,
+        _ => unreachable!(),
+    }
+}
+
+/// Puts another item and tag into the cell, and gives the old ones.
+pub fn swap<T>(
+    w: &mut World<T>,
+    cell: &AtomicShared<T>,
+    new: (Option<Shared<T>>, Tag),
+) -> (Option<Shared<T>>, Tag)
+    requires { IsSharedCell w.old (shared_cell cell.now) }
+    ensures was { cell_at w.old (shared_cell cell.now) ≡ Cell.OfShared (shared_slots result.0) result.1 }
+    ensures now { w.new ≡ with_cell (shared_cell cell.now) (Cell.OfShared (shared_slots new.0) new.1) w.old }
+    ensures keeps { Keeps w.old w.new }
+{
+    let (item, tag) = new;
+    let slot = into_slot(item);
+    match w.table.cell(cell.cell) {
+        Cell::OfShared(old, old_tag) => {
+            w.table.set_cell(cell.cell, Cell::OfShared(slot, tag));
+            (of_slot(old), old_tag)
+        }
+        _ => unreachable!(),
+    }
+}
+
+/// Sets the tag if `f` answers true for what the cell keeps, and answers what `f` did. It is called once.
+pub fn update_tag_if<T, F: FnOnce(Ptr<'static, T>) -> bool>(
+    w: &mut World<T>,
+    cell: &AtomicShared<T>,
+    tag: Tag,
+    f: F,
+) -> bool
+    requires cell { IsSharedCell w.old (shared_cell cell.now) }
+    requires callable { F.IsAlwaysCallable f }
+    ensures asked { (r : Ptr _) × (cell_at w.old (shared_cell cell.now) ≡ Cell.OfShared (ptr_slot r) (ptr_tag r)) × F.post f r result × (IsTrue result → w.new ≡ with_cell (shared_cell cell.now) (Cell.OfShared (ptr_slot r) tag) w.old) }
+    ensures kept { IsFalse result → w.new ≡ w.old }
+    ensures keeps { Keeps w.old w.new }
+{
+    match w.table.cell(cell.cell) {
+        Cell::OfShared(slot, old) => {
+            let found = Ptr {
+                slot,
+                tag: old,
+                of: PhantomData,
+            };
+            if !f(found) {
+                return false;
+            }
+            w.table.set_cell(cell.cell, Cell::OfShared(slot, tag));
+            true
+        }
+        _ => unreachable!(),
+    }
+}
+
+/// Puts another item and tag into the cell if item and tag are both those of `current`, and gives the old owner and
+/// the new pointer; else the new owner comes back, with the pointer found.
+pub fn compare_exchange<T>(
+    w: &mut World<T>,
+    cell: &AtomicShared<T>,
+    current: Ptr<'static, T>,
+    new: (Option<Shared<T>>, Tag),
+    _guard: &WorldGuard,
+) -> Result<(Option<Shared<T>>, Ptr<'static, T>), (Option<Shared<T>>, Ptr<'static, T>)>
+    requires { IsSharedCell w.old (shared_cell cell.now) }
+    ensures exchanged { IfOk result (λ r. (cell_at w.old (shared_cell cell.now) ≡ Cell.OfShared (ptr_slot current.entry) (ptr_tag current.entry)) × (shared_slots r.0 ≡ ptr_slot current.entry) × (ptr_slot r.1 ≡ shared_slots new.0) × (ptr_tag r.1 ≡ new.1) × (w.new ≡ with_cell (shared_cell cell.now) (Cell.OfShared (shared_slots new.0) new.1) w.old)) }
+    ensures found { IfErr result (λ r. (cell_at w.old (shared_cell cell.now) ≡ Cell.OfShared (ptr_slot r.1) (ptr_tag r.1)) × (shared_slots r.0 ≡ shared_slots new.0) × (w.new ≡ w.old)) }
+    ensures differs { OnErr result (cell_at w.old (shared_cell cell.now) ≢ Cell.OfShared (ptr_slot current.entry) (ptr_tag current.entry)) }
+    ensures keeps { Keeps w.old w.new }
+{
+    match w.table.cell(cell.cell) {
+        Cell::OfShared(old, old_tag) => {
+            let (item, tag) = new;
+            if old != current.slot || old_tag != current.tag {
+                return Err((
+                    item,
+                    Ptr {
+                        slot: old,
+                        tag: old_tag,
+                        of: PhantomData,
+                    },
+                ));
+            }
+            let slot = into_slot(item);
+            w.table.set_cell(cell.cell, Cell::OfShared(slot, tag));
+            Ok((
+                of_slot(old),
+                Ptr {
+                    slot,
+                    tag,
+                    of: PhantomData,
+                },
+            ))
+        }
+        _ => unreachable!(),
+    }
+}
+
+/// As `compare_exchange`: it fails for no other reason.
+pub fn compare_exchange_weak<T>(
+    w: &mut World<T>,
+    cell: &AtomicShared<T>,
+    current: Ptr<'static, T>,
+    new: (Option<Shared<T>>, Tag),
+    guard: &WorldGuard,
+) -> Result<(Option<Shared<T>>, Ptr<'static, T>), (Option<Shared<T>>, Ptr<'static, T>)>
+    requires { IsSharedCell w.old (shared_cell cell.now) }
+    ensures exchanged { IfOk result (λ r. (cell_at w.old (shared_cell cell.now) ≡ Cell.OfShared (ptr_slot current.entry) (ptr_tag current.entry)) × (shared_slots r.0 ≡ ptr_slot current.entry) × (ptr_slot r.1 ≡ shared_slots new.0) × (ptr_tag r.1 ≡ new.1) × (w.new ≡ with_cell (shared_cell cell.now) (Cell.OfShared (shared_slots new.0) new.1) w.old)) }
+    ensures found { IfErr result (λ r. (cell_at w.old (shared_cell cell.now) ≡ Cell.OfShared (ptr_slot r.1) (ptr_tag r.1)) × (shared_slots r.0 ≡ shared_slots new.0) × (w.new ≡ w.old)) }
+    ensures differs { OnErr result (cell_at w.old (shared_cell cell.now) ≢ Cell.OfShared (ptr_slot current.entry) (ptr_tag current.entry)) }
+    ensures keeps { Keeps w.old w.new }
+{
+    compare_exchange(w, cell, current, new, guard)
+}
+
+/// One more owner of the item that the cell keeps; none where it keeps none, and at the greatest count of owners.
+pub fn get_shared<T>(w: &mut World<T>, cell: &AtomicShared<T>, guard: &WorldGuard) -> Option<Shared<T>>
+    requires { IsSharedCell w.old (shared_cell cell.now) }
+    ensures more { IfSome result (λ s. (tag : Tag) × (cell_at w.old (shared_cell cell.now) ≡ Cell.OfShared (Some (shared_slot s)) tag) × (n : ℕ) × (status_at w.old (shared_slot s) ≡ Status.Shared n) × (w.new ≡ with_status (shared_slot s) (Status.Shared (n + 1)) w.old)) }
+    ensures none { IfNone result ((w.new ≡ w.old) × ((i n : ℕ) (tag : Tag) → cell_at w.old (shared_cell cell.now) ≡ Cell.OfShared (Some i) tag → n < 4294967295 → status_at w.old i ≢ Status.Shared n)) }
+    ensures keeps { Keeps w.old w.new }
+{
+    let at = load(w, cell, guard);
+    ptr::get_shared(w, at)
+}
+
+/// Ends the cell, and gives the owner that it kept.
+pub fn into_shared<T>(w: &mut World<T>, cell: AtomicShared<T>) -> Option<Shared<T>>
+    requires { IsSharedCell w.old (shared_cell cell) }
+    ensures was { (tag : Tag) × (cell_at w.old (shared_cell cell) ≡ Cell.OfShared (shared_slots result) tag) }
+    ensures ended { w.new ≡ with_cell (shared_cell cell) Cell.Free w.old }
+    ensures keeps { Keeps w.old w.new }
+{
+    let AtomicShared { cell, of: _ } = cell;
+    match w.table.cell(cell) {
+        Cell::OfShared(slot, _) => {
+            w.table.free_cell(cell);
+            of_slot(slot)
+        }
+        _ => unreachable!(),
+    }
+}
+
+/// Ends the cell, and gives the owner that it kept back: a last owner is retired by participant `p`.
+pub fn retire<T>(w: &mut World<T>, cell: AtomicShared<T>, p: usize)
+    requires member { p < length w.old.members }
+    requires cell { IsSharedCell w.old (shared_cell cell) }
+    ensures ended { w.new ≡ shared_ended p (shared_cell cell) w.old }
+    ensures keeps { Keeps w.old w.new }
+    ensures only { OnlyOf p w.old w.new }
+{
+    let AtomicShared { cell, of: _ } = cell;
+    reclaim::end_shared(&mut w.table, p, cell);
+}
+
+/// The slot of an owner that may be there, which is spent.
+fn into_slot<T>(item: Option<Shared<T>>) -> Option<usize>
+    ensures { result ≡ shared_slots item }
+{
+    match item {
+        None => None,
+        Some(Shared { slot, of: _ }) => Some(slot),
+    }
+}
+
+/// The owner that a cell kept.
+fn of_slot<T>(slot: Option<usize>) -> Option<Shared<T>>
+    ensures { shared_slots result ≡ slot }
+{
+    match slot {
+        None => None,
+        Some(slot) => Some(Shared::of_slot(slot)),
+    }
+}

@@ -1,0 +1,84 @@
+//! Opening and closing guards.
+
+ghost use Rattle.std.specs.Prelude.{◌≡◌, ◌<◌, ◌%◌, true, ℕ, length, IfOk, OnErr, IsErr, ◌↔◌};
+ghost use Rattle.sdd_base.specs.State.{with_marks, marks_at};
+ghost use Rattle.sdd_base.specs.Steps.{opened, closed};
+ghost use Rattle.sdd_base.specs.Frame.{Keeps, OnlyOf};
+ghost use Rattle.sdd_base.specs.Place.{IsOpen};
+ghost use Rattle.sdd_base.specs.Tokens.{participant_of};
+
+use crate::epoch::Epoch;
+use crate::guard::WorldGuard;
+use crate::holds::Holds;
+use crate::reclaim;
+use crate::refusal::Nested;
+use crate::world::World;
+
+/// Opens a guard of participant `p`, within those that are open. An outermost opening publishes the count of raises
+/// and, where that isn't the one found before, moves the bags of `p` on and reclaims what was in the oldest.
+pub fn new<T: Holds>(w: &mut World<T>, p: usize) -> Result<WorldGuard, Nested>
+    requires { p < length w.old.members }
+    ensures opened { IfOk result (λ g. (participant_of g ≡ p) × (w.new ≡ opened T.holds p w.old)) }
+    ensures nested { IsErr result ↔ ((marks_at w.old p).nesting ≡ 4294967295) }
+    ensures refused { OnErr result (w.new ≡ w.old) }
+    ensures keeps { Keeps w.old w.new }
+    ensures only { OnlyOf p w.old w.new }
+{
+    if w.table.marks(p).nesting == u32::MAX {
+        return Err(Nested);
+    }
+    reclaim::open(&mut w.table, p);
+    Ok(WorldGuard { participant: p })
+}
+
+/// Asks that the outermost closing of this nesting scans.
+pub fn accelerate<T>(w: &mut World<T>, guard: &WorldGuard)
+    requires { participant_of guard.now < length w.old.members }
+    ensures set { w.new ≡ with_marks (participant_of guard.now) (record (marks_at w.old (participant_of guard.now)) { accelerated = true }) w.old }
+    ensures keeps { Keeps w.old w.new }
+    ensures only { OnlyOf (participant_of guard.now) w.old w.new }
+{
+    let mut marks = w.table.marks(guard.participant);
+    marks.accelerated = true;
+    w.table.set_marks(guard.participant, marks);
+}
+
+/// Whether something was retired by the participant, or the flag set, since its bags were last found empty.
+pub fn has_garbage<T>(w: &World<T>, guard: &WorldGuard) -> bool
+    requires { participant_of guard.now < length w.now.members }
+    ensures { result ≡ (marks_at w.now (participant_of guard.now)).garbage }
+{
+    w.table.marks(guard.participant).garbage
+}
+
+/// Sets that flag, so that a later closing scans.
+pub fn set_has_garbage<T>(w: &mut World<T>, guard: &WorldGuard)
+    requires { participant_of guard.now < length w.old.members }
+    ensures set { w.new ≡ with_marks (participant_of guard.now) (record (marks_at w.old (participant_of guard.now)) { garbage = true }) w.old }
+    ensures keeps { Keeps w.old w.new }
+    ensures only { OnlyOf (participant_of guard.now) w.old w.new }
+{
+    let mut marks = w.table.marks(guard.participant);
+    marks.garbage = true;
+    w.table.set_marks(guard.participant, marks);
+}
+
+/// The epoch of the place: its count of raises modulo 64.
+pub fn epoch<T>(w: &World<T>, _guard: &WorldGuard) -> Epoch
+    ensures { result ≡ w.now.count % 64 }
+{
+    Epoch::of_count(w.table.count())
+}
+
+/// Closes a guard. An outermost closing scans, if a guard of the nesting was accelerated or this is the 64th since the
+/// last scan with garbage there: the count is raised by one if every open guard published it.
+pub fn close<T>(w: &mut World<T>, guard: WorldGuard)
+    requires member { participant_of guard < length w.old.members }
+    requires open { IsOpen w.old (participant_of guard) }
+    ensures closed { w.new ≡ closed (participant_of guard) w.old }
+    ensures keeps { Keeps w.old w.new }
+    ensures only { OnlyOf (participant_of guard) w.old w.new }
+{
+    let WorldGuard { participant } = guard;
+    reclaim::close(&mut w.table, participant);
+}

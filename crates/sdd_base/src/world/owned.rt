@@ -1,0 +1,114 @@
+//! Items with one owner.
+
+ghost use Rattle.std.specs.Prelude.{◌≡◌, ◌≢◌, ◌<◌, length, IfOk, IfErr, IfSome, OnErr, Some, None, ◌↔◌, IsSome, IfNone};
+ghost use Rattle.sdd_base.specs.State.{IsFree, NoneFree, placed, value_at, retired, with_status, status_at};
+ghost use Rattle.sdd_base.specs.Frame.{Keeps, OnlyOf};
+ghost use Rattle.sdd_base.specs.Place.{IsOwned};
+ghost use Rattle.sdd_base.specs.Tokens.{owned_slot, ptr_slot, ptr_tag, raw_slot, raw_tag};
+
+use crate::guard::WorldGuard;
+use crate::owner::Owned;
+use crate::pointer::{Ptr, RawPtr};
+use crate::refusal::NoSlot;
+use crate::status::Status;
+use crate::tag::Tag;
+use crate::world::World;
+use std::marker::PhantomData;
+
+/// Makes an item of `value`, exactly if a slot is free; else `value` comes back.
+pub fn new<T>(w: &mut World<T>, value: T) -> Result<Owned<T>, T>
+    ensures placed { IfOk result (λ o. IsFree w.old (owned_slot o) × (w.new ≡ placed (owned_slot o) value Status.Owned w.old)) }
+    ensures refused { IfErr result (λ v. (v ≡ value) × (w.new ≡ w.old) × NoneFree w.old) }
+    ensures keeps { Keeps w.old w.new }
+{
+    Ok(Owned::of_slot(w.table.place(value, Status::Owned)?))
+}
+
+/// Makes an item of what `f` gives, exactly if a slot is free; else `f` isn't called.
+pub fn new_with<T, F: FnOnce() -> T + Drop>(w: &mut World<T>, f: F) -> Result<Owned<T>, NoSlot>
+    requires { F.pre f }
+    ensures placed { IfOk result (λ o. IsFree w.old (owned_slot o) × (v : T) × F.post f v × (w.new ≡ placed (owned_slot o) v Status.Owned w.old)) }
+    ensures refused { OnErr result ((w.new ≡ w.old) × NoneFree w.old) }
+    ensures keeps { Keeps w.old w.new }
+{
+    if w.table.is_full() {
+        return Err(NoSlot);
+    }
+    match w.table.place(f(), Status::Owned) {
+        Ok(slot) => Ok(Owned::of_slot(slot)),
+        Err(_) => unreachable!(),
+    }
+}
+
+/// The value of an item.
+pub fn as_ref<'w, T>(w: &'w World<T>, owned: &Owned<T>) -> &'w T
+    requires { IsOwned w.now (owned_slot owned.now) }
+    ensures { Some result.now ≡ value_at w.now (owned_slot owned.now) }
+{
+    w.table.value(owned.slot)
+}
+
+/// A pointer to the item, without a tag.
+pub fn get_guarded_ptr<T>(owned: &Owned<T>, _guard: &WorldGuard) -> Ptr<'static, T>
+    ensures slot { ptr_slot result ≡ Some (owned_slot owned.now) }
+    ensures tag { ptr_tag result ≡ Tag.None }
+{
+    Ptr {
+        slot: Some(owned.slot),
+        tag: Tag::None,
+        of: PhantomData,
+    }
+}
+
+/// The value of an item, as `as_ref`.
+pub fn get_guarded_ref<'w, T>(w: &'w World<T>, owned: &Owned<T>, _guard: &WorldGuard) -> &'w T
+    requires { IsOwned w.now (owned_slot owned.now) }
+    ensures { Some result.now ≡ value_at w.now (owned_slot owned.now) }
+{
+    w.table.value(owned.slot)
+}
+
+/// The item is out as a raw pointer, and its owner is spent.
+pub fn into_raw<T>(w: &mut World<T>, owned: Owned<T>) -> RawPtr<T>
+    requires { IsOwned w.old (owned_slot owned) }
+    ensures slot { raw_slot result ≡ Some (owned_slot owned) }
+    ensures tag { raw_tag result ≡ Tag.None }
+    ensures state { w.new ≡ with_status (owned_slot owned) Status.Raw w.old }
+    ensures keeps { Keeps w.old w.new }
+{
+    let Owned { slot, of: _ } = owned;
+    w.table.set_status(slot, Status::Raw);
+    RawPtr {
+        slot: Some(slot),
+        tag: Tag::None,
+        of: PhantomData,
+    }
+}
+
+/// The owner of an item that is out as a raw pointer; none where the pointer is null or names another item.
+pub fn from_raw<T>(w: &mut World<T>, ptr: RawPtr<T>) -> Option<Owned<T>>
+    ensures some { IfSome result (λ o. (raw_slot ptr ≡ Some (owned_slot o)) × (status_at w.old (owned_slot o) ≡ Status.Raw) × (w.new ≡ with_status (owned_slot o) Status.Owned w.old)) }
+    ensures none { IfNone result ((w.new ≡ w.old) × IfSome (raw_slot ptr) (λ i. status_at w.old i ≢ Status.Raw)) }
+    ensures keeps { Keeps w.old w.new }
+{
+    let slot = ptr.slot?;
+    match w.table.status_of(slot) {
+        Status::Raw => {
+            w.table.set_status(slot, Status::Owned);
+            Some(Owned::of_slot(slot))
+        }
+        _ => None,
+    }
+}
+
+/// Retires the item: it waits in the current bag of participant `p`.
+pub fn retire<T>(w: &mut World<T>, owned: Owned<T>, p: usize)
+    requires member { p < length w.old.members }
+    requires live { IsOwned w.old (owned_slot owned) }
+    ensures retired { w.new ≡ retired p (owned_slot owned) w.old }
+    ensures keeps { Keeps w.old w.new }
+    ensures only { OnlyOf p w.old w.new }
+{
+    let Owned { slot, of: _ } = owned;
+    w.table.retire(p, slot);
+}

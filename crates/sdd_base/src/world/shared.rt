@@ -1,0 +1,122 @@
+//! Items with counted owners.
+
+ghost use Rattle.std.specs.Prelude.{◌≡◌, ◌≢◌, ◌<◌, ◌+◌, ℕ, length, leb, IfOk, IfErr, IfSome, OnErr, Some, None, IfNone, IsTrue, ◌↔◌};
+ghost use Rattle.sdd_base.specs.State.{IsFree, NoneFree, placed, value_at, with_status, status_at};
+ghost use Rattle.sdd_base.specs.Steps.{released};
+ghost use Rattle.sdd_base.specs.Frame.{Keeps, OnlyOf};
+ghost use Rattle.sdd_base.specs.Place.{IsShared};
+ghost use Rattle.sdd_base.specs.Tokens.{shared_slot, ptr_slot, ptr_tag};
+
+use crate::guard::WorldGuard;
+use crate::owner::Shared;
+use crate::pointer::Ptr;
+use crate::reclaim;
+use crate::refusal::NoSlot;
+use crate::status::Status;
+use crate::tag::Tag;
+use crate::world::{World, ptr};
+use std::marker::PhantomData;
+
+/// Makes an item of `value` with one owner, exactly if a slot is free; else `value` comes back.
+pub fn new<T>(w: &mut World<T>, value: T) -> Result<Shared<T>, T>
+    ensures placed { IfOk result (λ s. IsFree w.old (shared_slot s) × (w.new ≡ placed (shared_slot s) value (Status.Shared 1) w.old)) }
+    ensures refused { IfErr result (λ v. (v ≡ value) × (w.new ≡ w.old) × NoneFree w.old) }
+    ensures keeps { Keeps w.old w.new }
+{
+    Ok(Shared::of_slot(w.table.place(value, Status::Shared(1))?))
+}
+
+/// Makes an item of what `f` gives, exactly if a slot is free; else `f` isn't called.
+pub fn new_with<T, F: FnOnce() -> T + Drop>(w: &mut World<T>, f: F) -> Result<Shared<T>, NoSlot>
+    requires { F.pre f }
+    ensures placed { IfOk result (λ s. IsFree w.old (shared_slot s) × (v : T) × F.post f v × (w.new ≡ placed (shared_slot s) v (Status.Shared 1) w.old)) }
+    ensures refused { OnErr result ((w.new ≡ w.old) × NoneFree w.old) }
+    ensures keeps { Keeps w.old w.new }
+{
+    if w.table.is_full() {
+        return Err(NoSlot);
+    }
+    match w.table.place(f(), Status::Shared(1)) {
+        Ok(slot) => Ok(Shared::of_slot(slot)),
+        Err(_) => unreachable!(),
+    }
+}
+
+/// One more owner of the item; none where it has `2^32 - 1` of them.
+pub fn clone<T>(w: &mut World<T>, shared: &Shared<T>) -> Option<Shared<T>>
+    requires { IsShared w.old (shared_slot shared.now) }
+    ensures more { IfSome result (λ s. (shared_slot s ≡ shared_slot shared.now) × (n : ℕ) × (status_at w.old (shared_slot s) ≡ Status.Shared n) × (w.new ≡ with_status (shared_slot s) (Status.Shared (n + 1)) w.old)) }
+    ensures full { IfNone result ((w.new ≡ w.old) × (status_at w.old (shared_slot shared.now) ≡ Status.Shared 4294967295)) }
+    ensures keeps { Keeps w.old w.new }
+{
+    let slot = shared.slot;
+    match w.table.status(slot) {
+        Status::Shared(owners) => {
+            if owners == u32::MAX {
+                return None;
+            }
+            w.table.set_status(slot, Status::Shared(owners + 1));
+            Some(Shared::of_slot(slot))
+        }
+        _ => unreachable!(),
+    }
+}
+
+/// Gives an owner back, and answers whether it was the last, those of cells and items counted. The last one retires
+/// the item, which waits in the current bag of participant `p`.
+pub fn release<T>(w: &mut World<T>, shared: Shared<T>, p: usize) -> bool
+    requires member { p < length w.old.members }
+    requires live { IsShared w.old (shared_slot shared) }
+    ensures released { w.new ≡ released p (shared_slot shared) w.old }
+    ensures last { (n : ℕ) → status_at w.old (shared_slot shared) ≡ Status.Shared n → result ≡ leb n 1 }
+    ensures keeps { Keeps w.old w.new }
+    ensures only { OnlyOf p w.old w.new }
+{
+    let Shared { slot, of: _ } = shared;
+    reclaim::release(&mut w.table, p, slot)
+}
+
+/// The value of an item.
+pub fn as_ref<'w, T>(w: &'w World<T>, shared: &Shared<T>) -> &'w T
+    requires { IsShared w.now (shared_slot shared.now) }
+    ensures { Some result.now ≡ value_at w.now (shared_slot shared.now) }
+{
+    w.table.value(shared.slot)
+}
+
+/// A pointer to the item, without a tag.
+pub fn get_guarded_ptr<T>(shared: &Shared<T>, _guard: &WorldGuard) -> Ptr<'static, T>
+    ensures slot { ptr_slot result ≡ Some (shared_slot shared.now) }
+    ensures tag { ptr_tag result ≡ Tag.None }
+{
+    Ptr {
+        slot: Some(shared.slot),
+        tag: Tag::None,
+        of: PhantomData,
+    }
+}
+
+/// The value of an item, as `as_ref`.
+pub fn get_guarded_ref<'w, T>(w: &'w World<T>, shared: &Shared<T>, _guard: &WorldGuard) -> &'w T
+    requires { IsShared w.now (shared_slot shared.now) }
+    ensures { Some result.now ≡ value_at w.now (shared_slot shared.now) }
+{
+    w.table.value(shared.slot)
+}
+
+/// One more owner of the item that `at` names, as `ptr::get_shared`; where there is none, `at` comes back.
+pub fn try_from<T>(w: &mut World<T>, at: Ptr<'static, T>) -> Result<Shared<T>, Ptr<'static, T>>
+    ensures more { IfOk result (λ s. (ptr_slot at.entry ≡ Some (shared_slot s)) × (n : ℕ) × (status_at w.old (shared_slot s) ≡ Status.Shared n) × (w.new ≡ with_status (shared_slot s) (Status.Shared (n + 1)) w.old)) }
+    ensures back { IfErr result (λ r. (ptr_slot r ≡ ptr_slot at.entry) × (ptr_tag r ≡ ptr_tag at.entry) × (w.new ≡ w.old)) }
+    ensures none { OnErr result (IfSome (ptr_slot at.entry) (λ i. (n : ℕ) → n < 4294967295 → status_at w.old i ≢ Status.Shared n)) }
+    ensures keeps { Keeps w.old w.new }
+{
+    if let Some(shared) = ptr::get_shared(w, at) {
+        return Ok(shared);
+    }
+    Err(Ptr {
+        slot: at.slot,
+        tag: at.tag,
+        of: PhantomData,
+    })
+}
