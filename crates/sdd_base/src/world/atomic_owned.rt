@@ -124,7 +124,7 @@ pub fn swap<T>(
 }
 
 /// Sets the tag if `f` answers true for what the cell keeps, and answers what `f` did. It is called once.
-pub fn update_tag_if<T, F: FnOnce(Ptr<'static, T>) -> bool>(
+pub fn update_tag_if<'g, T: 'g, F: FnOnce(Ptr<'g, T>) -> bool>(
     w: &mut World<T>,
     cell: &AtomicOwned<T>,
     tag: Tag,

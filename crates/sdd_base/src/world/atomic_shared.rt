@@ -124,7 +124,7 @@ pub fn swap<T>(
 }
 
 /// Sets the tag if `f` answers true for what the cell keeps, and answers what `f` did. It is called once.
-pub fn update_tag_if<T, F: FnOnce(Ptr<'static, T>) -> bool>(
+pub fn update_tag_if<'g, T: 'g, F: FnOnce(Ptr<'g, T>) -> bool>(
     w: &mut World<T>,
     cell: &AtomicShared<T>,
     tag: Tag,
@@ -214,14 +214,17 @@ pub fn compare_exchange_weak<T>(
 }
 
 /// One more owner of the item that the cell keeps; none where it keeps none, and at the greatest count of owners.
-pub fn get_shared<T>(w: &mut World<T>, cell: &AtomicShared<T>, guard: &WorldGuard) -> Option<Shared<T>>
+pub fn get_shared<T>(w: &mut World<T>, cell: &AtomicShared<T>, _guard: &WorldGuard) -> Option<Shared<T>>
     requires { IsSharedCell w.old (shared_cell cell.now) }
     ensures more { IfSome result (λ s. (tag : Tag) × (cell_at w.old (shared_cell cell.now) ≡ Cell.OfShared (Some (shared_slot s)) tag) × (n : ℕ) × (status_at w.old (shared_slot s) ≡ Status.Shared n) × (w.new ≡ with_status (shared_slot s) (Status.Shared (n + 1)) w.old)) }
     ensures none { IfNone result ((w.new ≡ w.old) × ((i n : ℕ) (tag : Tag) → cell_at w.old (shared_cell cell.now) ≡ Cell.OfShared (Some i) tag → n < 4294967295 → status_at w.old i ≢ Status.Shared n)) }
     ensures keeps { Keeps w.old w.new }
 {
-    let at = load(w, cell, guard);
-    ptr::get_shared(w, at)
+    match w.table.cell(cell.cell) {
+        Cell::OfShared(None, _) => None,
+        Cell::OfShared(Some(slot), _) => ptr::add_owner(w, slot),
+        _ => unreachable!(),
+    }
 }
 
 /// Ends the cell, and gives the owner that it kept.

@@ -111,12 +111,11 @@ pub fn try_from<T>(w: &mut World<T>, at: Ptr<'static, T>) -> Result<Shared<T>, P
     ensures none { OnErr result (IfSome (ptr_slot at.entry) (λ i. (n : ℕ) → n < 4294967295 → status_at w.old i ≢ Status.Shared n)) }
     ensures keeps { Keeps w.old w.new }
 {
-    if let Some(shared) = ptr::get_shared(w, at) {
-        return Ok(shared);
+    match at.slot {
+        None => Err(at),
+        Some(slot) => match ptr::add_owner(w, slot) {
+            Some(shared) => Ok(shared),
+            None => Err(at),
+        },
     }
-    Err(Ptr {
-        slot: at.slot,
-        tag: at.tag,
-        of: PhantomData,
-    })
 }

@@ -1,0 +1,24 @@
+use Rattle.std.proofs.Common.{subst, sym, ◌<◌, length}
+use Rattle.sdd_base.specs.State.{State}
+use Rattle.sdd_base.specs.Steps.{owned_ended}
+use Rattle.sdd_base.specs.Tokens.{owned_cell}
+use Rattle.sdd_base.proofs.Sounds.{gives_owned_ended_as}
+use Rattle.sdd_base.proofs.Places.{place_by}
+use Rattle.sdd_base.proofs.Frames.{keeps_gives, kept, is_place}
+use Rattle.sdd_base.proofs.world.atomic_owned.retire.Goals as goal
+
+pub invariant_of-w : goal.invariant_of-w
+invariant_of-w g c =
+    let w = c.w.inside.table in
+    let p = c.args.p in
+    let i = owned_cell c.args.cell in
+    let known : p < length w.members = subst (λ (w : State _). p < length w.members) (sym c.w.view_is) c.requires.member in
+    is_place _ (owned_ended p i w) c.end_owned.ensures (place_by w (owned_ended p i w) p c.w.invariant (gives_owned_ended_as w p i _ c.w.invariant.sound known))
+
+pub returns-clause-keeps : goal.returns-clause-keeps
+returns-clause-keeps g c =
+    let w = c.w.inside.table in
+    let p = c.args.p in
+    let i = owned_cell c.args.cell in
+    let known : p < length w.members = subst (λ (w : State _). p < length w.members) (sym c.w.view_is) c.requires.member in
+    kept w _ _ (owned_ended p i w) c.w.view_is c.end_owned.ensures (keeps_gives p w (owned_ended p i w) c.w.invariant.sound (gives_owned_ended_as w p i _ c.w.invariant.sound known))
