@@ -1,17 +1,19 @@
 -- what each call leaves alone
 use Rattle.std.proofs.Common.{◌≡◌, ◌≢◌, ℕ, zero, suc, ◌+◌, ◌-◌, ◌<◌, ◌≤◌, ◌==◌, ◌&&◌, Bool, true, false, Option, None, Some, List, [], ◌∷◌, length, get_or, set, refl, sym, ap, ◌∙◌, arith, length-set, subst, cond, get_or-set_same, get_or-set_other, inl, inr, is_some, ltb}
-use Rattle.std.specs.List.{list_all}
+use Rattle.std.specs.List.{list_all, sum_by}
+use Rattle.std.proofs.lemmas.List.Sums.{sum_by-cons}
 use Rattle.std.proofs.lemmas.Bool.{false≢true}
 use Rattle.std.proofs.lemmas.Bool.Decides.{eqb_tells}
 use Rattle.sdd_base.specs.Holding.{Hold}
 use Rattle.sdd_base.specs.State.{State, Member, nobody, status_at, value_at, member_at, marks_at, is_used, weight, with_marks, marked, with_status, placed, removed, raised, is_present}
 use Rattle.sdd_base.specs.Steps.{times, begun, rotated, opened, closed, scanned, scans, closings_after}
 use Rattle.sdd_base.specs.Place.{Sound, IsPlace, IsOpen, held_times}
-use Rattle.sdd_base.specs.Frame.{has_owner, IsLive, Protects, Keeps, OnlyOf}
+use Rattle.sdd_base.specs.Frame.{has_owner, IsLive, Protects, Keeps, OnlyOf, IsRun, last_of}
 use Rattle.sdd_base.specs.declared.status.Status.{Status}
 use Rattle.sdd_base.specs.declared.status.Status.TheVariants as status
 use Rattle.sdd_base.specs.declared.status.Marks.{Marks}
 use Rattle.sdd_base.proofs.Sounds.{Gives, Calm, calm, bag_waits, weight_same}
+use Rattle.sdd_base.proofs.Slots.{at_most}
 use Rattle.sdd_base.proofs.Places.{calm_at, Rotates, rotates, place_begun, scanned-known, place_by}
 
 pub keeps_refl : {T : Type 0} (w : State T) → Keeps w w
@@ -228,3 +230,23 @@ keeps_placed {T} w i v s was =
           let same = get_or-set_other w.states i j s status.Free n in
           (get_or-set_other w.values i j (Some v) None n, record { used = ap is_used same ∙ h.used; prior = h.prior; oldest = h.oldest; noted = λ m e. h.noted m (sym same ∙ e) });
     }
+
+-- the bags of one participant are among those of all
+pub held_within : {T : Type 0} (w : State T) (k i : ℕ) → held_times i (member_at w k) ≤ sum_by (held_times i) w.members
+held_within w k i = at_most (held_times i) w.members k nobody (omega arith)
+
+-- a live item is in no bag, and no count is noted of it
+pub owned_protected : {T : Type 0} (w : State T) (q i : ℕ) → IsPlace w → IsLive w i → Protects w q i
+owned_protected w q i h live =
+    let light = live_light (status_at w i) live in
+    let out : (k : ℕ) → held_times i (member_at w k) ≡ 0 = λ k. omega (arith, held_within w k i, h.sound.once i, light) in
+    record {
+      used = live_used (status_at w i) live;
+      prior = λ k some. absurd (omega (arith, some, out k));
+      oldest = λ k some. absurd (omega (arith, some, out k));
+      noted = λ n e. absurd (false≢true (sym (ap has_owner e) ∙ live));
+    }
+
+pub stays_until_closed : {T : Type 0} (q i : ℕ) (w : State T) (later : List (State T)) → IsOpen w q → Protects w q i → IsRun q w later → value_at (last_of w later) i ≡ value_at w i
+stays_until_closed q i w [] opens h run = refl
+stays_until_closed q i w (v ∷ vs) opens h run = let s = run.0.protects q i opens run.1 h in stays_until_closed q i v vs run.1 s.1 run.2 ∙ s.0

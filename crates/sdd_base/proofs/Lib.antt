@@ -4,3 +4,4 @@ pub mod Sounds
 pub mod Turns
 pub mod Places
 pub mod Frames
+pub mod Sweeps

@@ -6,7 +6,7 @@ use Rattle.std.proofs.lemmas.Bool.Decides.{eqb_tells, nat_tests}
 use Rattle.std.proofs.lemmas.List.{length-reverse, length-replicate, length-append}
 use Rattle.std.proofs.lemmas.List.Folds.{sum_by-replicate}
 use Rattle.sdd_base.specs.Holding.{Hold}
-use Rattle.sdd_base.specs.State.{State, Member, member_at, nobody, turned, rotated_bags, with_marks, marked, placed, weight, status_at, value_at, is_used, marks_at, raised, is_present, fresh}
+use Rattle.sdd_base.specs.State.{State, Member, member_at, nobody, turned, rotated_bags, with_marks, marked, placed, weight, status_at, value_at, is_used, marks_at, raised, is_present, fresh, occupied}
 use Rattle.sdd_base.specs.Steps.{times, reclaimed, due_reclaimed, rotated, settled, begun, opened, closed, scanned, bags_empty, scans, closings_after}
 use Rattle.sdd_base.specs.Place.{Sound, IsPlace, IsOpen, held_times}
 use Rattle.sdd_base.specs.declared.sizes.Sizes.{Sizes}
@@ -87,6 +87,8 @@ pub record Rotates {T : Type 0} (p : ℕ) (w w' : State T) : Type 0 where
   pub previous : (marks_at w' p).previous ≡ (marks_at w p).previous
   pub others : (k : ℕ) → k ≢ p → member_at w' k ≡ member_at w k
   pub noted : (i n : ℕ) → status_at w' i ≡ status.Collected n → status_at w i ≡ status.Collected n
+  pub occupied : sum_by occupied w'.states + length (member_at w p).oldest ≡ sum_by occupied w.states
+  pub current : (member_at w p).oldest ≡ [] → (member_at w' p).current ≡ []
   pub place : IsPlace w'
 
 pub rotates : {T : Type 0} (holds : T → List Hold) (w : State T) (p : ℕ) → IsPlace w → p < length w.members → Rotates p w (rotated holds p w)
@@ -139,6 +141,8 @@ rotates {T} holds w p h known =
       previous = ap (λ (m : Member). m.marks.previous) atx ∙ previousr;
       others = λ k n. get_or-set_other r.members p k (marked mark (member_at r p)) nobody n ∙ othersr k n;
       noted = o.noted;
+      occupied = omega (arith, o.occupied, ap length due, length-reverse m.oldest);
+      current = λ e. ap (λ (m : Member). m.current) atx ∙ ap (λ (xs : List ℕ). (member_at (reclaimed holds p (length xs) u) p).current) e ∙ ap (λ (m : Member). m.current) at;
       place = place_marks r p mark placer knownr (record { past = placer.past p; began = placer.began p; near = placer.near p });
     }
 

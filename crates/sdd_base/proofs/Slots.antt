@@ -467,3 +467,23 @@ table_fresh a m n u v s room none free roomy idle roomier cells =
       places = record { lists = idle; room = omega (arith, size, roomier) };
       cells = cells;
     }
+
+-- an element weighs at most what all do
+pub at_most : {X : Type 0} (f : X → ℕ) (xs : List X) (k : ℕ) (d : X) → f d ≡ 0 → f (get_or xs k d) ≤ sum_by f xs
+at_most f [] k d none = omega (arith, none)
+at_most f (x ∷ xs) zero d none = omega (arith, sum_by-cons f x xs)
+at_most f (x ∷ xs) (suc k) d none = omega (arith, sum_by-cons f x xs, at_most f xs k d none)
+
+pub unused_if : (b : Bool) → ◌≡◌ {A = ℕ} (cond b 1 0) 0 → b ≡ false
+unused_if true h = absurd (omega (arith, h))
+unused_if false h = refl
+
+-- no slot has an item
+pub unused_all : {T : Type 0} (a : Inside T) (k : ℕ) → sum_by usage a.states.items ≡ 0 → is_used (get_or a.states.items k status.Free) ≡ false
+unused_all a k none = unused_if _ (let m = at_most usage a.states.items k status.Free refl in omega (arith, m, none))
+
+-- no guard is open
+pub none_open : (ms : List Participant) → ((k : ℕ) (d : Participant) → k < length ms → (get_or ms k d).marks.nesting ≡ 0) → (p : ℕ) → (get_or (map member_of ms) p nobody).marks.nesting ≡ 0
+none_open [] h p = refl
+none_open (m ∷ ms) h zero = h 0 m (omega arith)
+none_open (m ∷ ms) h (suc p) = none_open ms (λ k d lt. h (suc k) d (omega (arith, lt))) p

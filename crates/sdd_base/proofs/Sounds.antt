@@ -2,11 +2,12 @@
 use Rattle.std.proofs.Common.{◌≡◌, ◌≢◌, ℕ, zero, suc, ◌+◌, ◌-◌, ◌<◌, ◌≤◌, ◌==◌, Bool, true, false, Option, None, Some, List, [], ◌∷◌, ◌++◌, length, map, get_or, set, refl, sym, ap, ◌∙◌, arith, length-set, subst, reverse, cond, get_or-set_other, get_or-set_same, leb, inl, inr, is_some}
 use Rattle.std.specs.List.{sum_by, All}
 use Rattle.std.proofs.lemmas.List.Sums.{sum_by-set, sum_by-cons, sum_by-append, get_or-le-sum_by}
+use Rattle.std.proofs.lemmas.Bool.{false≢true}
 use Rattle.std.proofs.lemmas.Bool.Decides.{nat_tests, eqb_tells}
 use Rattle.std.proofs.lemmas.List.Sorted.{IsPermutation-reverse, sum_by-IsPermutation}
 use Rattle.std.proofs.lemmas.List.{nil_from_length}
 use Rattle.sdd_base.specs.Holding.{Hold, OwnedItem, SharedItem, OwnedIn, SharedIn}
-use Rattle.sdd_base.specs.State.{State, Member, put_member, retired, waiting_as, nobody, status_at, value_at, member_at, left_due, changing, is_used, taken, weight, turned, rotated_bags, with_status, with_cell, cell_at, with_marks, vacated}
+use Rattle.sdd_base.specs.State.{State, Member, put_member, retired, waiting_as, nobody, status_at, value_at, member_at, left_due, changing, is_used, taken, weight, turned, rotated_bags, with_status, with_cell, cell_at, with_marks, vacated, occupied}
 use Rattle.sdd_base.specs.Steps.{times, hit, released_as, released, disowned_as, disowned, owned_ended_as, shared_ended_as, given, given_all, due_reclaimed_as, due_reclaimed, reclaimed, held_in}
 use Rattle.sdd_base.specs.Place.{Sound, held_times}
 use Rattle.sdd_base.specs.declared.status.Status.{Status}
@@ -120,6 +121,36 @@ vacated-new status.Retired m e = cc
 vacated-new status.Idle m e = cc
 vacated-new status.Deferred m e = cc
 
+pub used-occupied : (s : Status) → is_used s ≡ true → occupied s ≡ 1
+used-occupied status.Free h = absurd (false≢true h)
+used-occupied status.Owned h = refl
+used-occupied (status.Shared n) h = refl
+used-occupied status.Raw h = refl
+used-occupied (status.Collected n) h = refl
+used-occupied status.Retired h = refl
+used-occupied status.Idle h = absurd (false≢true h)
+used-occupied status.Deferred h = absurd (false≢true h)
+
+pub heavy-occupied : (s : Status) → weight s ≡ 1 → occupied s ≡ 1
+heavy-occupied status.Free h = absurd (omega (arith, h))
+heavy-occupied status.Owned h = absurd (omega (arith, h))
+heavy-occupied (status.Shared n) h = absurd (omega (arith, h))
+heavy-occupied status.Raw h = absurd (omega (arith, h))
+heavy-occupied (status.Collected n) h = absurd (omega (arith, h))
+heavy-occupied status.Retired h = refl
+heavy-occupied status.Idle h = absurd (omega (arith, h))
+heavy-occupied status.Deferred h = refl
+
+pub vacated-empty : (s : Status) → occupied (vacated s) ≡ 0
+vacated-empty status.Free = refl
+vacated-empty status.Owned = refl
+vacated-empty (status.Shared n) = refl
+vacated-empty status.Raw = refl
+vacated-empty (status.Collected n) = refl
+vacated-empty status.Retired = refl
+vacated-empty status.Idle = refl
+vacated-empty status.Deferred = refl
+
 -- how often a place waits where participant p changes
 pub times_set : (ms : List Member) (p j : ℕ) (m : Member) → p < length ms → sum_by (held_times j) (set ms p m) + held_times j (get_or ms p nobody) ≡ sum_by (held_times j) ms + held_times j m
 times_set ms p j m known = sum_by-set (held_times j) ms p m nobody known
@@ -219,10 +250,11 @@ pub record Gives {T : Type 0} (p : ℕ) (w w' : State T) : Type 0 where
   pub calm : calm (member_at w' p) ≡ calm (member_at w p)
   pub others : (k : ℕ) → k ≢ p → member_at w' k ≡ member_at w k
   pub noted : (i n : ℕ) → status_at w' i ≡ status.Collected n → status_at w i ≡ status.Collected n
+  pub occupied : sum_by occupied w'.states ≡ sum_by occupied w.states
   pub sound : Sound w'
 
 pub gives_refl : {T : Type 0} (p : ℕ) (w : State T) → Sound w → Gives p w w
-gives_refl p w h = record { count = refl; values = refl; places = refl; cells = refl; known = refl; due = refl; calm = refl; others = λ k n. refl; noted = λ i n e. e; sound = h }
+gives_refl p w h = record { count = refl; values = refl; places = refl; cells = refl; known = refl; due = refl; calm = refl; others = λ k n. refl; noted = λ i n e. e; occupied = refl; sound = h }
 
 pub gives_then : {T : Type 0} (p : ℕ) (u v w : State T) → Gives p u v → Gives p v w → Gives p u w
 gives_then p u v w a b = record {
@@ -235,6 +267,7 @@ gives_then p u v w a b = record {
   calm = b.calm ∙ a.calm;
   others = λ k n. b.others k n ∙ a.others k n;
   noted = λ i n e. a.noted i n (b.noted i n e);
+  occupied = b.occupied ∙ a.occupied;
   sound = b.sound;
 }
 
@@ -251,6 +284,7 @@ gives_retired w p i h known inside light used =
       calm = ap calm at;
       others = λ k n. get_or-set_other w.members p k (put_member i (member_at w p)) nobody n;
       noted = λ j n e. noted_set w.states i j n status.Retired inside (λ m f. cc) e;
+      occupied = omega (arith, sum_by-set occupied w.states i status.Retired status.Free inside, used-occupied _ used);
       sound = sound_waiting w p i status.Retired h known inside light refl (sym used);
     }
 
@@ -265,6 +299,7 @@ gives_status w p i s h inside light even used same new = record {
   calm = refl;
   others = λ k n. refl;
   noted = λ j n e. noted_set w.states i j n s inside new e;
+  occupied = omega (arith, sum_by-set occupied w.states i s status.Free inside, used-occupied _ used, used-occupied s same);
   sound = sound_status w i s h inside (even ∙ sym light) (same ∙ sym used);
 }
 
@@ -301,7 +336,7 @@ gives_disowned_as w p i status.Idle e h known = gives_refl p w h
 gives_disowned_as w p i status.Deferred e h known = gives_refl p w h
 
 pub gives_cell : {T : Type 0} (w : State T) (p c : ℕ) (k : Cell) → Sound w → Gives p w (with_cell c k w)
-gives_cell w p c k h = record { count = refl; values = refl; places = refl; cells = length-set w.cells c k; known = refl; due = refl; calm = refl; others = λ k n. refl; noted = λ i n e. e; sound = record { sizes = h.sizes; once = h.once; filled = h.filled } }
+gives_cell w p c k h = record { count = refl; values = refl; places = refl; cells = length-set w.cells c k; known = refl; due = refl; calm = refl; others = λ k n. refl; noted = λ i n e. e; occupied = refl; sound = record { sizes = h.sizes; once = h.once; filled = h.filled } }
 
 pub gives_owned_ended_as : {T : Type 0} (w : State T) (p c : ℕ) (k : Cell) → Sound w → p < length w.members → Gives p w (owned_ended_as k p c w)
 gives_owned_ended_as w p c cell.Free h known = gives_refl p w h
@@ -345,6 +380,7 @@ pub record Reclaims {T : Type 0} (p i : ℕ) (is : List ℕ) (w w' : State T) : 
   pub calm : calm (member_at w' p) ≡ calm (member_at w p)
   pub others : (k : ℕ) → k ≢ p → member_at w' k ≡ member_at w k
   pub noted : (i n : ℕ) → status_at w' i ≡ status.Collected n → status_at w i ≡ status.Collected n
+  pub occupied : sum_by occupied w'.states + 1 ≡ sum_by occupied w.states
   pub sound : Sound w'
 
 pub reclaims_next : {T : Type 0} (holds : T → List Hold) (w : State T) (p i : ℕ) (is : List ℕ) → Sound w → p < length w.members → (member_at w p).due ≡ i ∷ is → Reclaims p i is w (due_reclaimed holds p w)
@@ -366,6 +402,7 @@ reclaims_next {T} holds w p i is h known was =
       calm = gu.calm ∙ ap calm at;
       others = λ k n. gu.others k n ∙ get_or-set_other w.members p k (left_due is (member_at w p)) nobody n;
       noted = λ j n e. noted_set w.states i j n s r.0 (vacated-new (status_at w i)) (gu.noted j n e);
+      occupied = let same = gu.occupied in omega (arith, same, sum_by-set occupied w.states i s status.Free r.0, heavy-occupied _ r.1, vacated-empty (status_at w i));
       sound = gu.sound;
     } in
     subst (λ (xs : List ℕ). Reclaims p i is w (due_reclaimed_as holds p xs w)) (sym was) whole
@@ -381,10 +418,11 @@ pub record RunsOut {T : Type 0} (p : ℕ) (w w' : State T) : Type 0 where
   pub calm : calm (member_at w' p) ≡ calm (member_at w p)
   pub others : (k : ℕ) → k ≢ p → member_at w' k ≡ member_at w k
   pub noted : (i n : ℕ) → status_at w' i ≡ status.Collected n → status_at w i ≡ status.Collected n
+  pub occupied : sum_by occupied w'.states + length (member_at w p).due ≡ sum_by occupied w.states
   pub sound : Sound w'
 
 pub runs_out : {T : Type 0} (holds : T → List Hold) (p n : ℕ) (w : State T) (due : List ℕ) → due ≡ (member_at w p).due → length due ≡ n → Sound w → p < length w.members → RunsOut p w (reclaimed holds p n w)
-runs_out holds p zero w due e size h known = record { count = refl; stays = λ j none. refl; places = refl; cells = refl; known = refl; due = sym e ∙ nil_from_length due size; calm = refl; others = λ k n. refl; noted = λ i n e. e; sound = h }
+runs_out holds p zero w due e size h known = record { count = refl; stays = λ j none. refl; places = refl; cells = refl; known = refl; due = sym e ∙ nil_from_length due size; calm = refl; others = λ k n. refl; noted = λ i n e. e; occupied = omega (arith, ap length e, size); sound = h }
 runs_out holds p (suc n) w [] e size h known = absurd (omega arith)
 runs_out holds p (suc n) w (i ∷ is) e size h known =
     let r = reclaims_next holds w p i is h known (sym e) in
@@ -406,5 +444,6 @@ runs_out holds p (suc n) w (i ∷ is) e size h known =
       calm = o.calm ∙ r.calm;
       others = λ k n. o.others k n ∙ r.others k n;
       noted = λ j m f. r.noted j m (o.noted j m f);
+      occupied = omega (arith, o.occupied, r.occupied, ap length e, ap length r.due);
       sound = o.sound;
     }

@@ -1,8 +1,8 @@
 -- what a call leaves alone: values of live items, and what open guards protect
-use Rattle.std.specs.Prelude.{◌≡◌, ◌≢◌, ℕ, ◌<◌, ◌≤◌, Bool, true, false, List, length}
+use Rattle.std.specs.Prelude.{◌≡◌, ◌≢◌, ℕ, ◌<◌, ◌≤◌, Bool, true, false, List, [], ◌∷◌, length}
 use Rattle.sdd_base.specs.State.{State, Member, status_at, value_at, member_at, marks_at, is_used}
 use Rattle.sdd_base.specs.Steps.{times}
-use Rattle.sdd_base.specs.Place.{IsOpen}
+use Rattle.sdd_base.specs.Place.{IsOpen, IsPlace}
 use Rattle.sdd_base.specs.declared.status.Status.{Status}
 use Rattle.sdd_base.specs.declared.status.Status.TheVariants as status
 
@@ -42,3 +42,20 @@ pub record Keeps {T : Type 0} (w w' : State T) : Type 0 where
 -- only participant p is changed
 abbrev pub OnlyOf : {T : Type 0} → ℕ → State T → State T → Type 0
 OnlyOf p w w' = (k : ℕ) → k ≢ p → member_at w' k ≡ member_at w k
+
+-- states one after another, each call leaving what it has to leave, with the guard of q open in all of them
+abbrev pub IsRun : {T : Type 0} → ℕ → State T → List (State T) → Type 0
+IsRun q w [] = Unit {0}
+IsRun q w (v ∷ vs) = Keeps w v × IsOpen v q × IsRun q v vs
+
+abbrev pub last_of : {T : Type 0} → State T → List (State T) → State T
+last_of w [] = w
+last_of w (v ∷ vs) = last_of v vs
+
+-- an open guard protects every item that has an owner
+abbrev pub OwnedIsProtected : Type 0 → Type 0
+OwnedIsProtected T = (w : State T) (q i : ℕ) → IsPlace w → IsLive w i → Protects w q i
+
+-- what was live while a guard was open stays as it was until that guard closes
+abbrev pub StaysUntilClosed : Type 0 → Type 0
+StaysUntilClosed T = (q i : ℕ) (w : State T) (later : List (State T)) → IsPlace w → IsOpen w q → IsLive w i → IsRun q w later → value_at (last_of w later) i ≡ value_at w i

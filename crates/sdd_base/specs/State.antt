@@ -71,6 +71,17 @@ weight status.Retired = 1
 weight status.Idle = 0
 weight status.Deferred = 1
 
+-- 1 for a place with an item or a job
+abbrev pub occupied : Status → ℕ
+occupied status.Free = 0
+occupied status.Owned = 1
+occupied (status.Shared n) = 1
+occupied status.Raw = 1
+occupied (status.Collected n) = 1
+occupied status.Retired = 1
+occupied status.Idle = 0
+occupied status.Deferred = 1
+
 -- 1 for a free slot
 abbrev pub vacancy : Status → ℕ
 vacancy status.Free = 1
@@ -127,9 +138,9 @@ NoCellFree w = (c : ℕ) → c < length w.cells → cell_at w c ≢ cell.Free
 abbrev pub in_use : {T : Type 0} → State T → ℕ
 in_use w = sum_by usage w.states
 
--- no slot has an item
-abbrev pub NoneUsed : {T : Type 0} → State T → Type 0
-NoneUsed w = (i : ℕ) → is_used (status_at w i) ≡ false
+-- no slot has an item, and every cell is free
+abbrev pub IsUnused : {T : Type 0} → State T → Type 0
+IsUnused w = (in_use w ≡ 0) × (sum_by emptiness w.cells ≡ length w.cells)
 
 -- changing
 abbrev pub with_status : {T : Type 0} → ℕ → Status → State T → State T

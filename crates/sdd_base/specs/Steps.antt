@@ -1,5 +1,5 @@
 -- what each call of a place makes of its state
-use Rattle.std.specs.Prelude.{◌≡◌, ◌≢◌, ℕ, zero, suc, ◌+◌, ◌-◌, ◌==◌, Bool, true, false, not, ◌&&◌, ◌||◌, cond, Option, None, Some, List, [], ◌∷◌, get_or, set, length, min, leb, ltb, ◌<◌, ◌≤◌}
+use Rattle.std.specs.Prelude.{◌≡◌, ◌≢◌, ℕ, zero, suc, ◌+◌, ◌-◌, ◌==◌, Bool, true, false, not, ◌&&◌, ◌||◌, cond, Option, None, Some, List, [], ◌∷◌, get_or, set, length, replicate, min, leb, ltb, ◌<◌, ◌≤◌}
 use Rattle.std.specs.List.{list_all, sum_by}
 use Rattle.sdd_base.specs.Holding.{Hold, OwnedItem, SharedItem, OwnedIn, SharedIn}
 use Rattle.sdd_base.specs.State.{State, Member, status_at, value_at, cell_at, member_at, marks_at, with_status, with_cell, with_marks, retired, rotated_bags, taken, raised, is_present}
@@ -148,3 +148,24 @@ closed p w =
     (with_marks p (record (marks_at w p) { nesting = 0; closings = 0 }) (scanned w))
     (with_marks p (record (marks_at w p) { nesting = 0; closings = closings_after (marks_at w p) }) w))
     (with_marks p (record (marks_at w p) { nesting = (marks_at w p).nesting - 1 }) w)
+
+-- participants rotate one after the other
+abbrev pub rotated_each : {T : Type 0} → (T → List Hold) → List ℕ → State T → State T
+rotated_each holds [] w = w
+rotated_each holds (p ∷ ps) w = rotated_each holds ps (rotated holds p w)
+
+-- p rotated until its bags were empty
+pub record Swept {T : Type 0} (holds : T → List Hold) (p : ℕ) (w w' : State T) : Type 0 where
+  pub turns : ℕ
+  pub now : w' ≡ rotated_each holds (replicate turns p) w
+  pub empty : bags_empty (member_at w' p) ≡ true
+
+-- every participant rotated until all bags were empty
+pub record AllSwept {T : Type 0} (holds : T → List Hold) (w w' : State T) : Type 0 where
+  pub turns : List ℕ
+  pub now : w' ≡ rotated_each holds turns w
+  pub empty : (p : ℕ) → bags_empty (member_at w' p) ≡ true
+
+-- no guard is open
+abbrev pub NoneOpen : {T : Type 0} → State T → Type 0
+NoneOpen w = (p : ℕ) → (marks_at w p).nesting ≡ 0

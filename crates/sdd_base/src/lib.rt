@@ -12,6 +12,7 @@ pub mod guard;
 pub mod holds;
 pub mod owner;
 pub mod pointer;
+pub mod laws;
 mod reclaim;
 pub mod refusal;
 pub mod sizes;

@@ -2,8 +2,9 @@
 
 ghost use Rattle.std.specs.Prelude.{◌≡◌, ◌+◌, ◌-◌, ◌<◌, ℕ, List, [], ◌∷◌, length, leb, IsTrue, IsFalse};
 ghost use Rattle.sdd_base.specs.State.{status_at, member_at, marks_at, weight};
-ghost use Rattle.sdd_base.specs.Steps.{released, disowned, owned_ended, shared_ended, given, given_all, rotated, opened, closed, begun, scanned, IsNext, closings_after, scans as scans_at};
-ghost use Rattle.sdd_base.specs.Place.{Sound};
+ghost use Rattle.sdd_base.specs.Steps.{released, disowned, owned_ended, shared_ended, given, given_all, rotated, opened, closed, begun, scanned, IsNext, Swept, AllSwept, closings_after, scans as scans_at};
+ghost use Rattle.sdd_base.specs.Place.{Sound, IsPlace};
+ghost use Rattle.sdd_base.specs.Frame.{OnlyOf};
 ghost use Rattle.sdd_base.specs.Tokens.{hold_of};
 
 use crate::cell::{AtomicOwned, AtomicShared};
@@ -211,4 +212,29 @@ pub(crate) fn close<T>(table: &mut Table<T>, p: usize)
         marks.nesting -= 1;
     }
     table.set_marks(p, marks);
+}
+
+/// Participant `p` rotates until its bags are empty.
+pub(crate) fn sweep<T: Holds>(table: &mut Table<T>, p: usize)
+    requires member { p < length table.old.members }
+    requires place { IsPlace table.old }
+    ensures place { IsPlace table.new }
+    ensures swept { Swept T.holds p table.old table.new }
+    ensures known { length table.new.members ≡ length table.old.members }
+    ensures only { OnlyOf p table.old table.new }
+{
+    while !table.bags_are_empty(p) {
+        turn_over(table, p);
+    }
+}
+
+/// All participants rotate until nothing waits.
+pub(crate) fn sweep_all<T: Holds>(table: &mut Table<T>)
+    requires { IsPlace table.old }
+    ensures place { IsPlace table.new }
+    ensures swept { AllSwept T.holds table.old table.new }
+{
+    for p in 0..table.participants() {
+        sweep(table, p);
+    }
 }

@@ -1,11 +1,12 @@
 //! The store of a place: numbered slots, job places and cells, and the participants. Nothing here takes memory but
 //! the making, and nothing walks all slots.
 
-ghost use Rattle.std.specs.Prelude.{◌≡◌, ◌≢◌, ℕ, ◌+◌, ◌<◌, ◌≤◌, ◌^◌, ◌-◌, List, length, MatchOption, MatchResult, Some, None, IfSome, IfNone, IfOk, IfErr, [], ◌∷◌, false, true, replicate, IsTrue, IsFalse, sum_by, vec_capacity, vec_len, ◌++◌, map, All};
-ghost use Rattle.sdd_base.specs.State.{with_status, with_marks, IsFree, NoneFree, IsFreeCell, NoCellFree, NoneUsed, waiting_as, status_at, member_at, value_at, cell_at, rotated_bags, placed, raised, nobody, TakesDue, with_cell, is_present, is_used, weight, idleness, vacancy, emptiness, fresh, removed, usage};
+ghost use Rattle.std.specs.Prelude.{◌≡◌, ◌≢◌, ℕ, ◌+◌, ◌<◌, ◌≤◌, ◌^◌, ◌-◌, List, length, MatchOption, MatchResult, Some, None, IfSome, IfNone, IfOk, IfErr, [], ◌∷◌, false, true, replicate, IsTrue, IsFalse, ◌↔◌, sum_by, vec_capacity, vec_len, ◌++◌, map, All};
+ghost use Rattle.sdd_base.specs.State.{with_status, with_marks, IsFree, NoneFree, IsFreeCell, NoCellFree, in_use, IsUnused, waiting_as, status_at, member_at, value_at, cell_at, rotated_bags, placed, raised, nobody, TakesDue, with_cell, is_present, is_used, weight, idleness, vacancy, emptiness, fresh, removed, usage};
 ghost use Rattle.std.specs.List.{list_all};
 ghost use Rattle.sdd_base.specs.View.{Lists, IsStack, HasRoom, member_of, waiting};
-ghost use Rattle.sdd_base.specs.Steps.{bags_empty};
+ghost use Rattle.sdd_base.specs.Steps.{bags_empty, NoneOpen};
+ghost use Rattle.sdd_base.specs.Place.{IsOpen};
 
 use crate::bags::Participant;
 use crate::sizes::Sizes;
@@ -194,6 +195,32 @@ impl<T> Table<T> {
         true
     }
 
+    /// Whether a guard is open.
+    pub(crate) fn any_open(&self) -> bool
+        ensures open { IsTrue result → (p : ℕ) × IsOpen self.now p }
+        ensures none { IsFalse result → NoneOpen self.now }
+    {
+        for m in &self.members {
+            if m.marks.nesting != 0 {
+                return true;
+            }
+        }
+        false
+    }
+
+    /// Whether no slot has an item, and every cell is free.
+    pub(crate) fn is_unused(&self) -> bool
+        ensures { IsTrue result ↔ IsUnused self.now }
+    {
+        self.used == 0 && self.free_cells.len() == self.cells.len()
+    }
+
+    pub(crate) fn participants(&self) -> usize
+        ensures { result ≡ length self.now.members }
+    {
+        self.members.len()
+    }
+
     pub(crate) fn value(&self, i: usize) -> &T
         requires slot { i < length self.now.states }
         requires used { is_used (status_at self.now i) ≡ true }
@@ -287,7 +314,7 @@ impl<T> Table<T> {
 
     /// Gives the room back, where no slot has an item.
     pub(crate) fn end(self)
-        requires { NoneUsed self }
+        requires { in_use self ≡ 0 }
     {
         let Table {
             count: _,

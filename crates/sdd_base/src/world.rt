@@ -3,12 +3,15 @@
 //! Clauses see a world as its `State`. What a call leaves alone is its clause `keeps`: the values of items that have an
 //! owner, and what an open guard protects.
 
-ghost use Rattle.std.specs.Prelude.{◌≡◌, IfOk, IfNone, IfSome, Some, None, is_some};
-ghost use Rattle.sdd_base.specs.State.{fresh, in_use, value_at};
-ghost use Rattle.sdd_base.specs.Place.{IsPlace, IsReadable, IsSized};
+ghost use Rattle.std.specs.Prelude.{◌≡◌, ◌⊎◌, ℕ, IsOk, IfOk, IfErr, IfNone, IfSome, Some, None, is_some};
+ghost use Rattle.sdd_base.specs.State.{fresh, in_use, value_at, IsUnused};
+ghost use Rattle.sdd_base.specs.Steps.{AllSwept, NoneOpen};
+ghost use Rattle.sdd_base.specs.Place.{IsPlace, IsOpen, IsReadable, IsSized};
 ghost use Rattle.sdd_base.specs.Tokens.{ptr_slot};
 
+use crate::holds::Holds;
 use crate::pointer::Ptr;
+use crate::reclaim;
 use crate::sizes::Sizes;
 use crate::table::Table;
 use std::alloc::{AllocError, Global};
@@ -51,6 +54,26 @@ impl<T> World<T> {
         Ok(World {
             table: Table::new(alloc, &sizes)?,
         })
+    }
+
+    /// Ends the place: everything that waits is reclaimed, and what that leaves. It is handed back as it was while a
+    /// guard is open, and handed back with nothing waiting if an owner or a cell is still out.
+    pub fn close(self) -> Result<(), World<T>>
+    where
+        T: Holds,
+        ensures ended { IsOk result → NoneOpen self × (w : _) × AllSwept T.holds self w × IsUnused w }
+        ensures back { IfErr result (λ w. (((p : ℕ) × IsOpen self p) × (w ≡ self)) ⊎ (NoneOpen self × AllSwept T.holds self w × (¬ IsUnused w))) }
+    {
+        let World { mut table } = self;
+        if table.any_open() {
+            return Err(World { table });
+        }
+        reclaim::sweep_all(&mut table);
+        if !table.is_unused() {
+            return Err(World { table });
+        }
+        table.end();
+        Ok(())
     }
 
     /// How many slots have an item, those that wait to be reclaimed counted.

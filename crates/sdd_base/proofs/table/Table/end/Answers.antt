@@ -1,9 +1,10 @@
 use Rattle.std.proofs.Common.{◌≡◌, ◌∙◌, ap, sym, get_or, length, None, Option, List, ◌++◌, ◌∷◌, [], is_some, true, false, Bool}
-use Rattle.sdd_base.proofs.Slots.{value_there, used_in, last_value}
+use Rattle.sdd_base.proofs.Slots.{value_there, unused_all, last_value}
+use Rattle.sdd_base.specs.State.{State, in_use}
 use Rattle.sdd_base.proofs.table.Table.end.Goals as goal
 
 pub loop-value-init : goal.loop-value-init
-loop-value-init g c = λ k. value_there c.self.inside k c.self.invariant ∙ used_in c.self.inside c.args.self k _ c.self.view_is (c.requires k)
+loop-value-init g c = λ k. value_there c.self.inside k c.self.invariant ∙ unused_all c.self.inside k (ap (λ (w : State _). in_use w) c.self.view_is ∙ c.requires)
 
 pub unreachable-requires : goal.unreachable-requires
 unreachable-requires g c =

@@ -1,0 +1,6 @@
+use Rattle.std.proofs.Common.{◌≡◌, length}
+use Rattle.sdd_base.proofs.Sweeps.{SweepingAll}
+use Rattle.sdd_base.proofs.reclaim.sweep_all.Given as goal
+
+abbrev pub invariant-loop-p : goal.invariant-loop-p
+invariant-loop-p g l = SweepingAll g.T.Holds.holds l.p l.initial.table l.table
