@@ -19,4 +19,6 @@ pub mod sizes;
 pub mod status;
 mod table;
 pub mod tag;
+#[cfg(test)]
+mod tests;
 pub mod world;

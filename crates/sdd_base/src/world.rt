@@ -3,7 +3,7 @@
 //! Clauses see a world as its `State`. What a call leaves alone is its clause `keeps`: the values of items that have an
 //! owner, and what an open guard protects.
 
-ghost use Rattle.std.specs.Prelude.{◌≡◌, ◌⊎◌, ℕ, IsOk, IfOk, IfErr, IfNone, IfSome, Some, None, is_some};
+ghost use Rattle.std.specs.Prelude.{◌≡◌, ◌⊎◌, ℕ, IsOk, IfOk, IfErr, IfNone, IfSome, IsTrue, ◌↔◌, Some, None, is_some};
 ghost use Rattle.sdd_base.specs.State.{fresh, in_use, value_at, IsUnused};
 ghost use Rattle.sdd_base.specs.Steps.{AllSwept, NoneOpen};
 ghost use Rattle.sdd_base.specs.Place.{IsPlace, IsOpen, IsReadable, IsSized};
@@ -81,6 +81,16 @@ impl<T> World<T> {
         ensures { result ≡ in_use self.now }
     {
         self.table.used()
+    }
+
+    /// Whether `read` may be asked for `at`.
+    pub fn is_readable(&self, at: Ptr<'static, T>) -> bool
+        ensures { IsTrue result ↔ IsReadable self.now (ptr_slot at.entry) }
+    {
+        match at.slot {
+            None => true,
+            Some(i) => self.table.status_of(i).has_item(),
+        }
     }
 
     /// The item that `at` names, or none for null. Condition: it is there.

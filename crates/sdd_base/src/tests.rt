@@ -1,0 +1,282 @@
+ghost use Rattle.std.specs.Prelude.{◌≡◌, ◌<◌, ◌≤◌, length, IfOk};
+ghost use Rattle.sdd_base.specs.State.{fresh};
+
+use crate::epoch::Epoch;
+use crate::holds::{Held, Holds};
+use crate::owner::Shared;
+use crate::pointer::Ptr;
+use crate::refusal::NoSlot;
+use crate::sizes::Sizes;
+use crate::tag::Tag;
+use crate::world;
+use crate::world::World;
+use std::alloc::{AllocError, Global};
+use std::process::Abort;
+use std::test::Fail;
+
+/// A world of numbers with two participants.
+fn numbers(alloc: Global, slots: usize, cells: usize) -> Result<World<u64>, AllocError>
+    requires slots { slots ≤ 8 }
+    requires cells { cells ≤ 8 }
+    ensures { IfOk result (λ w. w ≡ fresh (record { participants = 2; slots = slots; cells = cells; jobs = 0 })) }
+{
+    let sizes = Sizes {
+        participants: 2,
+        slots,
+        cells,
+        jobs: 0,
+    };
+    World::new(alloc, sizes)
+}
+
+#[test]
+fn epochs_turn_over_after_64(rt: HostRuntime) -> Result<(), Fail> {
+    let last = Epoch::try_from(63).ok().ok_or("63 is an epoch")?;
+    assert_eq!(rt; u8::from(last.next()), 0);
+    assert_eq!(rt; u8::from(last.next().prev()), 63);
+    let before = Epoch::try_from(62).ok().ok_or("62 is an epoch")?;
+    assert_eq!(rt; u8::from(before.next_generation()), 1);
+    assert_eq!(rt; Epoch::try_from(64).err(), Some(64));
+    assert_eq!(rt; Epoch::try_from(255).err(), Some(255));
+    assert_eq!(rt; u8::from(Epoch::of_count(u64::MAX)), 63);
+    Ok(())
+}
+
+#[test]
+fn a_generation_is_three_epochs(rt: HostRuntime) -> Result<(), Fail> {
+    let zero = Epoch::default();
+    let two = zero.next().next();
+    assert!(rt; zero.in_same_generation(zero));
+    assert!(rt; zero.in_same_generation(two));
+    assert!(rt; !zero.in_same_generation(two.next()));
+    assert!(rt; !two.in_same_generation(zero));
+    Ok(())
+}
+
+#[test]
+fn tags_have_numbers(rt: HostRuntime) -> Result<(), Fail> {
+    assert_eq!(rt; u8::from(Tag::None), 0);
+    assert_eq!(rt; u8::from(Tag::First), 1);
+    assert_eq!(rt; u8::from(Tag::Second), 2);
+    assert_eq!(rt; u8::from(Tag::Both), 3);
+    assert_eq!(rt; Tag::try_from(0).ok(), Some(Tag::None));
+    assert_eq!(rt; Tag::try_from(3).ok(), Some(Tag::Both));
+    assert_eq!(rt; Tag::try_from(4).err(), Some(4));
+    Ok(())
+}
+
+/// One accelerated guard of participant `p`.
+fn pass<T: Holds>(w: &mut World<T>, p: usize) -> bool
+    requires { p < length w.old.members }
+    ensures { length w.new.members ≡ length w.old.members }
+{
+    match world::guard::new(w, p) {
+        Ok(guard) => {
+            world::guard::accelerate(w, &guard);
+            world::guard::close(w, guard);
+            true
+        }
+        Err(_) => false,
+    }
+}
+
+/// `n` accelerated guards of participant `p`, one by one.
+fn passes<T: Holds>(w: &mut World<T>, p: usize, n: usize) -> bool
+    requires { p < length w.old.members }
+    ensures { length w.new.members ≡ length w.old.members }
+{
+    let mut open = true;
+    for _ in 0..n {
+        open = pass(w, p) && open;
+    }
+    open
+}
+
+#[test]
+fn an_owned_cell_is_swapped(rt: HostRuntime) -> Result<(), Fail> {
+    let mut w = numbers(rt.alloc(), 2, 1)?;
+    let Ok(cell) = world::atomic_owned::new(&mut w, 14) else {
+        panic!(rt; "a slot and a cell are free");
+    };
+    let Ok(other) = world::owned::new(&mut w, 15) else {
+        panic!(rt; "a slot is free");
+    };
+    let (first, tag) = world::atomic_owned::swap(&mut w, &cell, (Some(other), Tag::Second));
+    assert_eq!(rt; tag, Tag::None);
+    let Some(first) = first else {
+        panic!(rt; "14 was there");
+    };
+    assert_eq!(rt; *world::owned::as_ref(&w, &first), 14);
+    world::owned::retire(&mut w, first, 0);
+    let (second, tag) = world::atomic_owned::swap(&mut w, &cell, (None, Tag::First));
+    assert_eq!(rt; tag, Tag::Second);
+    let Some(second) = second else {
+        panic!(rt; "15 was there");
+    };
+    assert_eq!(rt; *world::owned::as_ref(&w, &second), 15);
+    world::owned::retire(&mut w, second, 0);
+    let (third, tag) = world::atomic_owned::swap(&mut w, &cell, (None, Tag::None));
+    assert_eq!(rt; tag, Tag::First);
+    if let Some(third) = third {
+        world::owned::retire(&mut w, third, 0);
+        panic!(rt; "nothing was there");
+    }
+    world::atomic_owned::retire(&mut w, cell, 0);
+    match w.close() {
+        Ok(()) => Ok(()),
+        Err(_) => panic!(rt; "nothing is out"),
+    }
+}
+
+#[test]
+fn the_last_of_two_owners_is_told(rt: HostRuntime) -> Result<(), Fail> {
+    let mut w = numbers(rt.alloc(), 1, 0)?;
+    let Ok(first) = world::shared::new(&mut w, 47) else {
+        panic!(rt; "a slot is free");
+    };
+    assert_eq!(rt; *world::shared::as_ref(&w, &first), 47);
+    let Some(second) = world::shared::clone(&mut w, &first) else {
+        panic!(rt; "few owners are out");
+    };
+    assert!(rt; !world::shared::release(&mut w, first, 0));
+    assert!(rt; world::shared::release(&mut w, second, 0));
+    assert_eq!(rt; w.slots_in_use(), 1);
+    Ok(())
+}
+
+#[test]
+fn a_guard_keeps_what_it_names(rt: HostRuntime) -> Result<(), Fail> {
+    let mut w = numbers(rt.alloc(), 2, 0)?;
+    let Ok(guard) = world::guard::new(&mut w, 0) else {
+        panic!(rt; "no guard is open");
+    };
+    let Ok(owned) = world::owned::new(&mut w, 5) else {
+        panic!(rt; "a slot is free");
+    };
+    let at = world::owned::get_guarded_ptr(&owned, &guard);
+    world::owned::retire(&mut w, owned, 1);
+    assert!(rt; passes(&mut w, 1, 6));
+    assert_eq!(rt; w.slots_in_use(), 1);
+    assert!(rt; reads(&w, at, 5));
+    world::guard::close(&mut w, guard);
+    assert!(rt; passes(&mut w, 1, 4));
+    assert_eq!(rt; w.slots_in_use(), 0);
+    Ok(())
+}
+
+/// Whether `at` names an item of this value; false where it names none.
+fn reads(w: &World<u64>, at: Ptr<'static, u64>, value: u64) -> bool {
+    w.is_readable(at) && w.read(at).copied() == Some(value)
+}
+
+/// A directory of segments, or a segment.
+enum Item {
+    Directory(Vec<Shared<Item>>),
+    Segment(u64),
+}
+
+impl Holds for Item {
+    ghost use Rattle.std.specs.Prelude.{List, [], map, reverse};
+    ghost use Rattle.sdd_base.specs.Holding.{Hold, SharedItem};
+    ghost use Rattle.sdd_base.specs.Tokens.{shared_slot};
+    ghost use Rattle.sdd_base.specs.declared.tests.Item.{Item, out-Item};
+    ghost use Rattle.sdd_base.specs.declared.tests.Item.TheOpen.{Item-F};
+    ghost use Rattle.sdd_base.specs.declared.tests.Item.TheOpen as open1;
+
+    ghost holds = { λ i. elim (out-Item i) as (λ _. List Hold) [ open1.Directory segments ↦ reverse (map (λ s. SharedItem (shared_slot s)) segments.items) | open1.Segment n ↦ [] ] };
+
+    fn give_up(&mut self) -> Option<Held<Item>> {
+        match self {
+            Item::Directory(segments) => match segments.pop() {
+                Some(segment) => Some(Held::Shared(segment)),
+                None => None,
+            },
+            Item::Segment(_) => None,
+        }
+    }
+
+    fn end(self) {
+        match self {
+            Item::Directory(segments) => segments.destroy_empty(),
+            Item::Segment(_) => {}
+        }
+    }
+}
+
+/// A directory that holds the only owner of a segment, given back by participant 0 with no guard open.
+fn give_directory<R: Abort>(rt: &R, w: &mut World<Item>, mut segments: Vec<Shared<Item>>)
+    requires { 0 < length w.old.members }
+    ensures { length w.new.members ≡ length w.old.members }
+{
+    match world::shared::new(w, Item::Segment(7)) {
+        Ok(segment) => match segments.push(segment) {
+            Ok(()) => {}
+            Err(_) => panic!(rt; "there is room"),
+        },
+        Err(_) => panic!(rt; "a slot is free"),
+    }
+    match world::shared::new(w, Item::Directory(segments)) {
+        Ok(directory) => world::shared::release(w, directory, 0),
+        Err(_) => panic!(rt; "a slot is free"),
+    };
+}
+
+#[test]
+fn an_item_is_reclaimed_before_what_it_held(rt: HostRuntime) -> Result<(), Fail> {
+    let sizes = Sizes {
+        participants: 1,
+        slots: 2,
+        cells: 0,
+        jobs: 0,
+    };
+    let mut w: World<Item> = match World::new(rt.alloc(), sizes) {
+        Ok(w) => w,
+        Err(e) => return Err(e.into()),
+    };
+    let segments = Vec::new(rt.alloc());
+    give_directory(&rt, &mut w, segments);
+    let mut seen = [0usize; 7];
+    for n in 0..7 {
+        pass(&mut w, 0);
+        seen[n] = w.slots_in_use();
+    }
+    match w.close() {
+        Ok(()) => {}
+        Err(_) => panic!(rt; "nothing is out"),
+    }
+    assert_eq!(rt; seen, [2, 2, 2, 1, 1, 1, 0]);
+    Ok(())
+}
+
+#[test]
+fn refusals_give_the_value_back(rt: HostRuntime) -> Result<(), Fail> {
+    let mut w = numbers(rt.alloc(), 1, 1)?;
+    let Ok(first) = world::owned::new(&mut w, 1) else {
+        panic!(rt; "a slot is free");
+    };
+    match world::owned::new(&mut w, 2) {
+        Err(value) => assert_eq!(rt; value, 2),
+        Ok(_) => panic!(rt; "nothing is free"),
+    }
+    match world::shared::new(&mut w, 3) {
+        Err(value) => assert_eq!(rt; value, 3),
+        Ok(_) => panic!(rt; "nothing is free"),
+    }
+    match world::atomic_owned::new(&mut w, 4) {
+        Err(value) => assert_eq!(rt; value, 4),
+        Ok(_) => panic!(rt; "nothing is free"),
+    }
+    let cell = match world::atomic_owned::from(&mut w, first) {
+        Ok(cell) => cell,
+        Err(_) => panic!(rt; "a cell is free"),
+    };
+    match world::atomic_shared::null(&mut w) {
+        Err(refusal) => assert_eq!(rt; refusal, NoSlot),
+        Ok(_) => panic!(rt; "no cell is free"),
+    }
+    assert_eq!(rt; w.slots_in_use(), 1);
+    world::atomic_owned::retire(&mut w, cell, 1);
+    assert!(rt; passes(&mut w, 1, 4));
+    assert_eq!(rt; w.slots_in_use(), 0);
+    Ok(())
+}
