@@ -5,3 +5,4 @@ pub mod Turns
 pub mod Places
 pub mod Frames
 pub mod Sweeps
+pub mod Counts

@@ -6,3 +6,4 @@ pub mod Steps
 pub mod Place
 pub mod View
 pub mod Frame
+pub mod Counting
