@@ -1,11 +1,11 @@
 -- owners stay counted over every call
-use Rattle.std.proofs.Common.{◌≡◌, ◌≢◌, ℕ, zero, suc, ◌+◌, ◌-◌, ◌<◌, ◌≤◌, ◌==◌, Bool, true, false, Option, None, Some, List, [], ◌∷◌, ◌++◌, length, get_or, set, refl, sym, ap, ◌∙◌, arith, length-set, subst, cond, get_or-set_other, get_or-set_same, leb, inl, inr, is_some}
+use Rattle.std.proofs.Common.{◌≡◌, ◌≢◌, ℕ, zero, suc, ◌+◌, ◌-◌, ◌<◌, ◌≤◌, ◌==◌, Bool, true, false, Option, None, Some, List, [], ◌∷◌, ◌++◌, length, get_or, set, refl, sym, ap, ◌∙◌, arith, length-set, subst, cond, get_or-set_other, get_or-set_same, leb, inl, inr, is_some, reverse, ltb, ◌&&◌, replicate}
 use Rattle.std.specs.List.{sum_by}
 use Rattle.std.proofs.lemmas.List.Sums.{sum_by-set, sum_by-cons, sum_by-append}
 use Rattle.std.proofs.lemmas.Bool.{false≢true}
 use Rattle.std.proofs.lemmas.Bool.Decides.{nat_tests, eqb_tells}
 use Rattle.sdd_base.specs.Holding.{Hold, OwnedItem, SharedItem, OwnedIn, SharedIn}
-use Rattle.sdd_base.specs.State.{State, Member, status_at, value_at, cell_at, member_at, marks_at, placed, with_status, with_cell, with_marks, retired, taken, vacated, weight, is_used, IsFree, IsFreeCell, rotated_bags, turned, raised, is_present}
+use Rattle.sdd_base.specs.State.{State, Member, status_at, value_at, cell_at, member_at, marks_at, placed, with_status, with_cell, with_marks, retired, taken, vacated, weight, is_used, IsFree, IsFreeCell, rotated_bags, turned, raised, is_present, nobody, marked, fresh}
 use Rattle.sdd_base.specs.Steps.{hit, held_in, given, given_all, released_as, disowned_as, owned_ended_as, shared_ended_as, due_reclaimed, due_reclaimed_as, reclaimed, rotated, begun, opened, closed, scanned, scans, closings_after}
 use Rattle.sdd_base.specs.Place.{Sound, IsPlace, IsShared, IsOwned}
 use Rattle.sdd_base.specs.Counting.{same_hold, tally, kept_by, single_owner, shared_owners, keeps_owned, keeps_shared, owners_of, Counted, OwnersAreCounted}
@@ -18,6 +18,10 @@ use Rattle.sdd_base.specs.declared.tag.Tag.{Tag}
 use Rattle.sdd_base.proofs.Lists.{hit-same, hit-other}
 use Rattle.sdd_base.proofs.Sounds.{inside_by, due_waiting, reclaims_next, sound_turned}
 use Rattle.std.specs.List.{list_all}
+use Rattle.std.proofs.lemmas.List.{length-reverse}
+use Rattle.sdd_base.proofs.Places.{place_begun, get_or-replicate_default}
+use Rattle.std.proofs.lemmas.List.Folds.{sum_by-replicate}
+use Rattle.sdd_base.specs.declared.sizes.Sizes.{Sizes}
 
 -- what an element weighs where one is changed
 module _ {X : Type 0} (f : X → ℕ) where
@@ -130,6 +134,62 @@ module _ {T : Type 0} where
 
 last_one : (n : ℕ) → leb n 1 ≡ true → 1 ≤ n → n ≡ 1
 last_one n t h = grind (arith, nat_tests)
+
+-- what waits has no owner, before and after it is vacated
+waits_single : (s : Status) → weight s ≡ 1 → single_owner (vacated s) ≡ single_owner s
+waits_single status.Free h = absurd (omega (arith, h))
+waits_single status.Owned h = absurd (omega (arith, h))
+waits_single (status.Shared n) h = absurd (omega (arith, h))
+waits_single status.Raw h = absurd (omega (arith, h))
+waits_single (status.Collected n) h = absurd (omega (arith, h))
+waits_single status.Retired h = refl
+waits_single status.Idle h = absurd (omega (arith, h))
+waits_single status.Deferred h = refl
+
+waits_shared : (s : Status) → weight s ≡ 1 → shared_owners (vacated s) ≡ shared_owners s
+waits_shared status.Free h = absurd (omega (arith, h))
+waits_shared status.Owned h = absurd (omega (arith, h))
+waits_shared (status.Shared n) h = absurd (omega (arith, h))
+waits_shared status.Raw h = absurd (omega (arith, h))
+waits_shared (status.Collected n) h = absurd (omega (arith, h))
+waits_shared status.Retired h = refl
+waits_shared status.Idle h = absurd (omega (arith, h))
+waits_shared status.Deferred h = refl
+
+-- what has owners is there
+shared_there : {T : Type 0} (w : State T) (i : ℕ) (s : Status) → s ≡ status_at w i → 1 ≤ shared_owners s → IsShared w i
+shared_there w i status.Free e h = absurd (omega (arith, h))
+shared_there w i status.Owned e h = absurd (omega (arith, h))
+shared_there w i (status.Shared n) e h = record { inside = inside_by w.states i (status.Shared n) e (λ f. cc); owners = n; is = sym e }
+shared_there w i status.Raw e h = absurd (omega (arith, h))
+shared_there w i (status.Collected n) e h = absurd (omega (arith, h))
+shared_there w i status.Retired e h = absurd (omega (arith, h))
+shared_there w i status.Idle e h = absurd (omega (arith, h))
+shared_there w i status.Deferred e h = absurd (omega (arith, h))
+
+owned_there : {T : Type 0} (w : State T) (i : ℕ) (s : Status) → s ≡ status_at w i → 1 ≤ single_owner s → IsOwned w i
+owned_there w i status.Free e h = absurd (omega (arith, h))
+owned_there w i status.Owned e h = record { inside = inside_by w.states i status.Owned e (λ f. cc); is = sym e }
+owned_there w i (status.Shared n) e h = absurd (omega (arith, h))
+owned_there w i status.Raw e h = absurd (omega (arith, h))
+owned_there w i (status.Collected n) e h = absurd (omega (arith, h))
+owned_there w i status.Retired e h = absurd (omega (arith, h))
+owned_there w i status.Idle e h = absurd (omega (arith, h))
+owned_there w i status.Deferred e h = absurd (omega (arith, h))
+
+unowned_single : (m n j : ℕ) → single_owner (get_or (replicate m status.Free ++ replicate n status.Idle) j status.Free) ≡ 0
+unowned_single zero zero j = refl
+unowned_single zero (suc n) zero = refl
+unowned_single zero (suc n) (suc j) = unowned_single zero n j
+unowned_single (suc m) n zero = refl
+unowned_single (suc m) n (suc j) = unowned_single m n j
+
+unowned_shared : (m n j : ℕ) → shared_owners (get_or (replicate m status.Free ++ replicate n status.Idle) j status.Free) ≡ 0
+unowned_shared zero zero j = refl
+unowned_shared zero (suc n) zero = refl
+unowned_shared zero (suc n) (suc j) = unowned_shared zero n j
+unowned_shared (suc m) n zero = refl
+unowned_shared (suc m) n (suc j) = unowned_shared m n j
 
 -- a cell in use is one of the place's
 cell_inside : (cs : List Cell) (c : ℕ) → get_or cs c cell.Free ≢ cell.Free → c < length cs
@@ -261,3 +321,153 @@ module _ {T : Type 0} (holds : T → List Hold) where
   counted_all : (p : ℕ) (hs hand : List Hold) (w : State T) → Counted holds (hs ++ hand) w → Counted holds hand (given_all p hs w)
   counted_all p [] hand w h = h
   counted_all p (x ∷ hs) hand w h = counted_all p hs hand (given p x w) (counted_given p x (hs ++ hand) w h)
+
+  none_there : (o : Option T) → is_some o ≡ false → o ≡ None
+  none_there None h = refl
+  none_there (Some v) h = absurd (false≢true (sym h))
+
+  -- a free slot is filled with what was to be held
+  fill : (i : ℕ) (v : T) (hand : List Hold) (w : State T) (k : Hold) → IsPlace w → IsFree w i → sum_by (λ v. tally k (held_in holds v)) (set w.values i (Some v)) ≡ sum_by (λ v. tally k (held_in holds v)) w.values + tally k (holds v)
+  fill i v hand w k place free =
+      let none : value_at w i ≡ None = none_there (value_at w i) (place.sound.filled i ∙ ap is_used free.1) in
+      let empty = ap (λ (o : Option T). tally k (held_in holds o)) none in
+      omega (arith, sum_by-set (λ v. tally k (held_in holds v)) w.values i (Some v) None (omega (arith, place.sound.sizes, free.0)), empty)
+
+  pub counted_placed_shared : (i : ℕ) (v : T) (hand : List Hold) (w : State T) → IsPlace w → IsFree w i → Counted holds (holds v ++ hand) w → Counted holds (SharedItem i ∷ hand) (placed i v (status.Shared 1) w)
+  counted_placed_shared i v hand w place free h = record {
+    each = λ k.
+        let u : Uses w (placed i v (status.Shared 1) w) i (status.Shared 1) = record { states = refl; cells = refl; inside = free.0 } in
+        omega (arith, h.each k, tally-append k (holds v) hand, tally-cons k (SharedItem i) hand, fill i v hand w k place free, uses_shared_more k w (placed i v (status.Shared 1) w) i (status.Shared 1) u (omega (arith, ap shared_owners free.1)) (sym (ap single_owner free.1)));
+  }
+
+  pub counted_placed_owned : (i : ℕ) (v : T) (hand : List Hold) (w : State T) → IsPlace w → IsFree w i → Counted holds (holds v ++ hand) w → Counted holds (OwnedItem i ∷ hand) (placed i v status.Owned w)
+  counted_placed_owned i v hand w place free h = record {
+    each = λ k.
+        let u : Uses w (placed i v status.Owned w) i status.Owned = record { states = refl; cells = refl; inside = free.0 } in
+        omega (arith, h.each k, tally-append k (holds v) hand, tally-cons k (OwnedItem i) hand, fill i v hand w k place free, uses_single_more k w (placed i v status.Owned w) i status.Owned u (omega (arith, ap single_owner free.1)) (sym (ap shared_owners free.1)));
+  }
+
+  pub counted_cloned : (i n : ℕ) (hand : List Hold) (w : State T) → status_at w i ≡ status.Shared n → i < length w.states → Counted holds hand w → Counted holds (SharedItem i ∷ hand) (with_status i (status.Shared (n + 1)) w)
+  counted_cloned i n hand w is inside h = record {
+    each = λ k.
+        let u : Uses w (with_status i (status.Shared (n + 1)) w) i (status.Shared (n + 1)) = record { states = refl; cells = refl; inside = inside } in
+        omega (arith, h.each k, tally-cons k (SharedItem i) hand, uses_shared_more k w (with_status i (status.Shared (n + 1)) w) i (status.Shared (n + 1)) u (omega (arith, ap shared_owners is)) (sym (ap single_owner is)));
+  }
+
+  pub cell_made_shared : (c : ℕ) (o : Option ℕ) (t : Tag) (hand : List Hold) (w : State T) → IsFreeCell w c → Counted holds (kept_by (cell.OfShared o t) ++ hand) w → Counted holds (SharedIn c ∷ hand) (with_cell c (cell.OfShared o t) w)
+  cell_made_shared c o t hand w free h = record {
+    each = λ k.
+        let x : Cell = cell.OfShared o t in
+        let u : Turns w (with_cell c x w) c x = record { states = refl; cells = refl; values = refl; inside = free.0 } in
+        let was : tally k (kept_by (cell_at w c)) ≡ 0 = ap (λ (y : Cell). tally k (kept_by y)) free.1 in
+        omega (arith, h.each k, was, cells_sum k w (with_cell c x w) c x u, tally-cons k (SharedIn c) hand, tally-append k (kept_by x) hand, turns_shared_more k w (with_cell c x w) c x u (omega (arith, ap keeps_shared free.1)) (sym (ap keeps_owned free.1)));
+  }
+
+  pub cell_made_owned : (c : ℕ) (o : Option ℕ) (t : Tag) (hand : List Hold) (w : State T) → IsFreeCell w c → Counted holds (kept_by (cell.OfOwned o t) ++ hand) w → Counted holds (OwnedIn c ∷ hand) (with_cell c (cell.OfOwned o t) w)
+  cell_made_owned c o t hand w free h = record {
+    each = λ k.
+        let x : Cell = cell.OfOwned o t in
+        let u : Turns w (with_cell c x w) c x = record { states = refl; cells = refl; values = refl; inside = free.0 } in
+        let was : tally k (kept_by (cell_at w c)) ≡ 0 = ap (λ (y : Cell). tally k (kept_by y)) free.1 in
+        omega (arith, h.each k, was, cells_sum k w (with_cell c x w) c x u, tally-cons k (OwnedIn c) hand, tally-append k (kept_by x) hand, turns_owned_more k w (with_cell c x w) c x u (omega (arith, ap keeps_owned free.1)) (sym (ap keeps_shared free.1)));
+  }
+
+  -- a cell keeps something else, of the same kind
+  pub cell_changed : (c : ℕ) (old new : Cell) (hand : List Hold) (w : State T) → c < length w.cells → cell_at w c ≡ old → keeps_shared new ≡ keeps_shared old → keeps_owned new ≡ keeps_owned old → Counted holds (kept_by new ++ hand) w → Counted holds (kept_by old ++ hand) (with_cell c new w)
+  cell_changed c old new hand w inside is a b h = record {
+    each = λ k.
+        let u : Turns w (with_cell c new w) c new = record { states = refl; cells = refl; values = refl; inside = inside } in
+        let was : tally k (kept_by (cell_at w c)) ≡ tally k (kept_by old) = ap (λ (y : Cell). tally k (kept_by y)) is in
+        omega (arith, h.each k, was, cells_sum k w (with_cell c new w) c new u, tally-append k (kept_by old) hand, tally-append k (kept_by new) hand, turns_same k w (with_cell c new w) c new u (a ∙ sym (ap keeps_shared is)) (b ∙ sym (ap keeps_owned is)));
+  }
+
+  -- what is due is taken: what it held is in hand
+  counted_taken : (p i : ℕ) (is : List ℕ) (hand : List Hold) (w : State T) → Sound w → i < length w.states → weight (status_at w i) ≡ 1 → Counted holds hand w → Counted holds (held_in holds (value_at w i) ++ hand) (taken p i is w)
+  counted_taken p i is hand w sound inside heavy h = record {
+    each = λ k.
+        let u : Uses w (taken p i is w) i (vacated (status_at w i)) = record { states = refl; cells = refl; inside = inside } in
+        omega (arith, h.each k, tally-append k (held_in holds (value_at w i)) hand, sum_by-set (λ v. tally k (held_in holds v)) w.values i None None (omega (arith, sound.sizes, inside)), uses_same k w (taken p i is w) i (vacated (status_at w i)) u (waits_single (status_at w i) heavy) (waits_shared (status_at w i) heavy));
+  }
+
+  counted_next : (p i : ℕ) (is : List ℕ) (hand : List Hold) (w : State T) → Sound w → p < length w.members → (member_at w p).due ≡ i ∷ is → Counted holds hand w → Counted holds hand (due_reclaimed holds p w)
+  counted_next p i is hand w sound known was h =
+      let d = due_waiting w p i is sound known was in
+      let one : Counted holds hand (due_reclaimed_as holds p (i ∷ is) w) = counted_all p (held_in holds (value_at w i)) hand (taken p i is w) (counted_taken p i is hand w sound d.0 d.1 h) in
+      subst (λ (xs : List ℕ). Counted holds hand (due_reclaimed_as holds p xs w)) (sym was) one
+
+  counted_reclaimed : (p n : ℕ) (hand : List Hold) (w : State T) (due : List ℕ) → due ≡ (member_at w p).due → length due ≡ n → Sound w → p < length w.members → Counted holds hand w → Counted holds hand (reclaimed holds p n w)
+  counted_reclaimed p zero hand w due e size sound known h = h
+  counted_reclaimed p (suc n) hand w [] e size sound known h = absurd (omega arith)
+  counted_reclaimed p (suc n) hand w (i ∷ is) e size sound known h =
+      let r = reclaims_next holds w p i is sound known (sym e) in
+      counted_reclaimed p n hand (due_reclaimed holds p w) is (sym r.due) (omega (arith, size)) r.sound (omega (arith, r.known)) (counted_next p i is hand w sound known (sym e) h)
+
+  counted_rotated : (p : ℕ) (hand : List Hold) (w : State T) → IsPlace w → p < length w.members → Counted holds hand w → Counted holds hand (rotated holds p w)
+  counted_rotated p hand w place known h =
+      let m = member_at w p in
+      let u : State T = rotated_bags p w in
+      let at : member_at u p ≡ turned m = get_or-set_same w.members p (turned m) nobody known in
+      let due : (member_at u p).due ≡ reverse m.oldest = ap (λ (m : Member). m.due) at in
+      let r : State T = reclaimed holds p (length m.oldest) u in
+      let hr : Counted holds hand r = counted_reclaimed p (length m.oldest) hand u (member_at u p).due refl (ap length due ∙ length-reverse m.oldest) (sound_turned w p place.sound known (place.idle p)) (omega (arith, length-set w.members p (turned m))) (counted_same hand w u refl refl refl h) in
+      counted_same hand r _ refl refl refl hr
+
+  pub counted_opened : (p : ℕ) (hand : List Hold) (w : State T) → IsPlace w → p < length w.members → Counted holds hand w → Counted holds hand (opened holds p w)
+  counted_opened p hand w place known h =
+      let m = marks_at w p in
+      let b : State T = begun p w in
+      let n : State T = with_marks p (record m { nesting = m.nesting + 1 }) w in
+      let first : Counted holds hand b = counted_same hand w b refl refl refl h in
+      let kb : p < length b.members = omega (arith, length-set w.members p (marked (record m { nesting = 1; published = w.count; previous = w.count; accelerated = false }) (member_at w p))) in
+      let third : Counted holds hand (rotated holds p b) = counted_rotated p hand b (place_begun w p place known) kb first in
+      let outer : Counted holds hand (cond (m.previous == w.count) b (rotated holds p b)) = elim (m.previous == w.count) as (λ c. Counted holds hand (cond c b (rotated holds p b))) [ true ↦ first | false ↦ third ] in
+      elim (m.nesting == 0) as (λ c. Counted holds hand (cond c (cond (m.previous == w.count) b (rotated holds p b)) n)) [ true ↦ outer | false ↦ counted_same hand w n refl refl refl h ]
+
+  pub counted_closed : (p : ℕ) (hand : List Hold) (w : State T) → Counted holds hand w → Counted holds hand (closed p w)
+  counted_closed p hand w h =
+      let m = marks_at w p in
+      let k1 : Marks = record m { nesting = 0; closings = 0 } in
+      let k2 : Marks = record m { nesting = 0; closings = closings_after m } in
+      let k3 : Marks = record m { nesting = m.nesting - 1 } in
+      let yes : Counted holds hand (with_marks p k1 (scanned w)) = elim (list_all (is_present w.count) w.members && ltb w.count 18446744073709551615) as (λ c. Counted holds hand (with_marks p k1 (cond c (raised w) w))) [ true ↦ counted_same hand w _ refl refl refl h | false ↦ counted_same hand w _ refl refl refl h ] in
+      let outer : Counted holds hand (cond (scans m) (with_marks p k1 (scanned w)) (with_marks p k2 w)) = elim (scans m) as (λ c. Counted holds hand (cond c (with_marks p k1 (scanned w)) (with_marks p k2 w))) [ true ↦ yes | false ↦ counted_same hand w _ refl refl refl h ] in
+      elim (m.nesting == 1) as (λ c. Counted holds hand (cond c (cond (scans m) (with_marks p k1 (scanned w)) (with_marks p k2 w)) (with_marks p k3 w))) [ true ↦ outer | false ↦ counted_same hand w _ refl refl refl h ]
+
+  pub names_shared : (i : ℕ) (hand : List Hold) (w : State T) → Counted holds (SharedItem i ∷ hand) w → IsShared w i
+  names_shared i hand w h = shared_there w i (status_at w i) refl (has_one_shared i hand w h)
+
+  pub names_owned : (i : ℕ) (hand : List Hold) (w : State T) → Counted holds (OwnedItem i ∷ hand) w → IsOwned w i
+  names_owned i hand w h = owned_there w i (status_at w i) refl (has_one_single i hand w h)
+
+  counted_fresh : (n : Sizes) → Counted holds [] (fresh n)
+  counted_fresh n = record {
+    each = λ k.
+        let v = sum_by-replicate (λ v. tally k (held_in holds v)) (n.slots + n.jobs) None in
+        let c = sum_by-replicate (λ c. tally k (kept_by c)) n.cells cell.Free in
+        omega (arith, v, c, fresh_owners k n);
+  }
+    where
+      fresh_owners : (k : Hold) (n : Sizes) → owners_of k (fresh {T = T} n) ≡ 0
+      fresh_owners (OwnedItem j) n = unowned_single n.slots n.jobs j
+      fresh_owners (SharedItem j) n = unowned_shared n.slots n.jobs j
+      fresh_owners (OwnedIn j) n = ap keeps_owned (get_or-replicate_default n.cells j cell.Free)
+      fresh_owners (SharedIn j) n = ap keeps_shared (get_or-replicate_default n.cells j cell.Free)
+
+  pub owners_are_counted : OwnersAreCounted holds
+  owners_are_counted = record {
+    shared = names_shared;
+    owned = names_owned;
+    placed_shared = counted_placed_shared;
+    placed_owned = counted_placed_owned;
+    cloned = counted_cloned;
+    given = counted_given;
+    opened = counted_opened;
+    closed = counted_closed;
+    cell_made = cell_made_shared;
+    owned_cell_made = cell_made_owned;
+    cell_swapped = λ c o o' t t' hand w inside is h. cell_changed c (cell.OfShared o t) (cell.OfShared o' t') hand w inside is refl refl h;
+    owned_cell_swapped = λ c o o' t t' hand w inside is h. cell_changed c (cell.OfOwned o t) (cell.OfOwned o' t') hand w inside is refl refl h;
+    cell_ended = end_shared;
+    owned_cell_ended = end_owned;
+    fresh = counted_fresh;
+  }

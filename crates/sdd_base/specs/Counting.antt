@@ -2,9 +2,10 @@
 use Rattle.std.specs.Prelude.{◌≡◌, ◌≢◌, ℕ, ◌+◌, ◌<◌, Bool, true, false, cond, Option, None, Some, List, [], ◌∷◌, ◌++◌, length}
 use Rattle.std.specs.List.{sum_by}
 use Rattle.sdd_base.specs.Holding.{Hold, OwnedItem, SharedItem, OwnedIn, SharedIn}
-use Rattle.sdd_base.specs.State.{State, status_at, value_at, cell_at, placed, with_status, with_cell, IsFree, IsFreeCell}
+use Rattle.sdd_base.specs.State.{State, status_at, value_at, cell_at, placed, with_status, with_cell, IsFree, IsFreeCell, fresh}
 use Rattle.sdd_base.specs.Steps.{hit, held_in, given, opened, closed}
 use Rattle.sdd_base.specs.Place.{IsPlace, IsShared, IsOwned}
+use Rattle.sdd_base.specs.declared.sizes.Sizes.{Sizes}
 use Rattle.sdd_base.specs.declared.tag.Tag.{Tag}
 use Rattle.sdd_base.specs.declared.status.Status.{Status}
 use Rattle.sdd_base.specs.declared.status.Status.TheVariants as status
@@ -90,6 +91,8 @@ pub record Counted {T : Type 0} (holds : T → List Hold) (hand : List Hold) (w 
 
 -- the owners that are out, whoever has them, stay counted over every call
 pub record OwnersAreCounted {T : Type 0} (holds : T → List Hold) : Type 0 where
+  -- nothing is held in a new place
+  pub fresh : (n : Sizes) → Counted holds [] (fresh n)
   -- an owner in hand names an item that is there
   pub shared : (i : ℕ) (hand : List Hold) (w : State T) → Counted holds (SharedItem i ∷ hand) w → IsShared w i
   pub owned : (i : ℕ) (hand : List Hold) (w : State T) → Counted holds (OwnedItem i ∷ hand) w → IsOwned w i
@@ -107,3 +110,7 @@ pub record OwnersAreCounted {T : Type 0} (holds : T → List Hold) : Type 0 wher
   pub cell_made : (c : ℕ) (o : Option ℕ) (t : Tag) (hand : List Hold) (w : State T) → IsFreeCell w c → Counted holds (kept_by (cell.OfShared o t) ++ hand) w → Counted holds (SharedIn c ∷ hand) (with_cell c (cell.OfShared o t) w)
   pub cell_swapped : (c : ℕ) (o o' : Option ℕ) (t t' : Tag) (hand : List Hold) (w : State T) → c < length w.cells → cell_at w c ≡ cell.OfShared o t → Counted holds (kept_by (cell.OfShared o' t') ++ hand) w → Counted holds (kept_by (cell.OfShared o t) ++ hand) (with_cell c (cell.OfShared o' t') w)
   pub cell_ended : (c : ℕ) (o : Option ℕ) (t : Tag) (hand : List Hold) (w : State T) → c < length w.cells → cell_at w c ≡ cell.OfShared o t → Counted holds (SharedIn c ∷ hand) w → Counted holds (kept_by (cell.OfShared o t) ++ hand) (with_cell c cell.Free w)
+  -- a cell of owned items is made, changed and ended
+  pub owned_cell_made : (c : ℕ) (o : Option ℕ) (t : Tag) (hand : List Hold) (w : State T) → IsFreeCell w c → Counted holds (kept_by (cell.OfOwned o t) ++ hand) w → Counted holds (OwnedIn c ∷ hand) (with_cell c (cell.OfOwned o t) w)
+  pub owned_cell_swapped : (c : ℕ) (o o' : Option ℕ) (t t' : Tag) (hand : List Hold) (w : State T) → c < length w.cells → cell_at w c ≡ cell.OfOwned o t → Counted holds (kept_by (cell.OfOwned o' t') ++ hand) w → Counted holds (kept_by (cell.OfOwned o t) ++ hand) (with_cell c (cell.OfOwned o' t') w)
+  pub owned_cell_ended : (c : ℕ) (o : Option ℕ) (t : Tag) (hand : List Hold) (w : State T) → c < length w.cells → cell_at w c ≡ cell.OfOwned o t → Counted holds (OwnedIn c ∷ hand) w → Counted holds (kept_by (cell.OfOwned o t) ++ hand) (with_cell c cell.Free w)

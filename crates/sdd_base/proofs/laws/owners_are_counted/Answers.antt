@@ -1,0 +1,5 @@
+use Rattle.sdd_base.proofs.Counts.{owners_are_counted}
+use Rattle.sdd_base.proofs.laws.owners_are_counted.Goals as goal
+
+pub returns : goal.returns
+returns g c = owners_are_counted g.T.Holds.holds
