@@ -38,21 +38,23 @@ keeps_gives {T} p w w' h g =
       members = g.known;
       lives = λ i l. same i;
       protects = λ q i o o' k.
-          let published = ap (λ (c : Calm). c.published) (calm_at p w w' g q) in
-          (same i, record {
-            used = sym (g.sound.filled i) ∙ ap is_some (same i) ∙ h.filled i ∙ k.used;
-            prior = λ j some.
-                let c = calm_at p w w' g j in
-                let bag = ap (λ (c : Calm). times i c.prior) c in
-                let previous = ap (λ (c : Calm). c.previous) c in
-                omega (arith, published, previous, k.prior j (omega (arith, some, bag)));
-            oldest = λ j some.
-                let c = calm_at p w w' g j in
-                let bag = ap (λ (c : Calm). times i c.oldest) c in
-                let previous = ap (λ (c : Calm). c.previous) c in
-                omega (arith, published, previous, k.oldest j (omega (arith, some, bag)));
-            noted = λ n e. omega (arith, published, k.noted n (g.noted i n e));
-          });
+          let published = ap (λ (c : Calm). c.published) (calm_at p w w' g q) in (
+            same i,
+            record {
+              used = sym (g.sound.filled i) ∙ ap is_some (same i) ∙ h.filled i ∙ k.used;
+              prior = λ j some.
+                  let c = calm_at p w w' g j in
+                  let bag = ap (λ (c : Calm). times i c.prior) c in
+                  let previous = ap (λ (c : Calm). c.previous) c in
+                  omega (arith, published, previous, k.prior j (omega (arith, some, bag)));
+              oldest = λ j some.
+                  let c = calm_at p w w' g j in
+                  let bag = ap (λ (c : Calm). times i c.oldest) c in
+                  let previous = ap (λ (c : Calm). c.previous) c in
+                  omega (arith, published, previous, k.oldest j (omega (arith, some, bag)));
+              noted = λ n e. omega (arith, published, k.noted n (g.noted i n e));
+            },
+          );
     }
 
 pub only_gives : {T : Type 0} (p : ℕ) (w w' : State T) → Gives p w w' → OnlyOf p w w'
@@ -73,25 +75,27 @@ keeps_marks {T} w p k known same rises =
           let published : (marks_at w' q).published ≡ (marks_at w q).published = elim (eqb_tells q p) [
             | inl t ↦ let P : ℕ → Type 0 = λ j. IsOpen w j → (marks_at w' j).published ≡ (marks_at w j).published in let here : P p = λ x. ap (λ (m : Member). m.marks.published) at ∙ same x in subst P (sym t.1) here o
             | inr t ↦ ap (λ (m : Member). m.marks.published) (other q t.1)
-          ] in
-          (refl, record {
-            used = h.used;
-            prior = λ j some. elim (eqb_tells j p) [
-              | inl t ↦
-                  let P : ℕ → Type 0 = λ x. 1 ≤ times i (member_at w' x).prior → (marks_at w' q).published ≤ (marks_at w' x).previous in
-                  let here : P p = λ s. let bag = ap (λ (m : Member). times i m.prior) at in let previous = ap (λ (m : Member). m.marks.previous) at in omega (arith, published, previous, rises, h.prior p (omega (arith, s, bag))) in
-                  subst P (sym t.1) here some
-              | inr t ↦ let bag = ap (λ (m : Member). times i m.prior) (other j t.1) in let previous = ap (λ (m : Member). m.marks.previous) (other j t.1) in omega (arith, published, previous, h.prior j (omega (arith, some, bag)))
-            ];
-            oldest = λ j some. elim (eqb_tells j p) [
-              | inl t ↦
-                  let P : ℕ → Type 0 = λ x. 1 ≤ times i (member_at w' x).oldest → (marks_at w' q).published < (marks_at w' x).previous in
-                  let here : P p = λ s. let bag = ap (λ (m : Member). times i m.oldest) at in let previous = ap (λ (m : Member). m.marks.previous) at in omega (arith, published, previous, rises, h.oldest p (omega (arith, s, bag))) in
-                  subst P (sym t.1) here some
-              | inr t ↦ let bag = ap (λ (m : Member). times i m.oldest) (other j t.1) in let previous = ap (λ (m : Member). m.marks.previous) (other j t.1) in omega (arith, published, previous, h.oldest j (omega (arith, some, bag)))
-            ];
-            noted = λ n e. omega (arith, published, h.noted n e);
-          });
+          ] in (
+            refl,
+            record {
+              used = h.used;
+              prior = λ j some. elim (eqb_tells j p) [
+                | inl t ↦
+                    let P : ℕ → Type 0 = λ x. 1 ≤ times i (member_at w' x).prior → (marks_at w' q).published ≤ (marks_at w' x).previous in
+                    let here : P p = λ s. let bag = ap (λ (m : Member). times i m.prior) at in let previous = ap (λ (m : Member). m.marks.previous) at in omega (arith, published, previous, rises, h.prior p (omega (arith, s, bag))) in
+                    subst P (sym t.1) here some
+                | inr t ↦ let bag = ap (λ (m : Member). times i m.prior) (other j t.1) in let previous = ap (λ (m : Member). m.marks.previous) (other j t.1) in omega (arith, published, previous, h.prior j (omega (arith, some, bag)))
+              ];
+              oldest = λ j some. elim (eqb_tells j p) [
+                | inl t ↦
+                    let P : ℕ → Type 0 = λ x. 1 ≤ times i (member_at w' x).oldest → (marks_at w' q).published < (marks_at w' x).previous in
+                    let here : P p = λ s. let bag = ap (λ (m : Member). times i m.oldest) at in let previous = ap (λ (m : Member). m.marks.previous) at in omega (arith, published, previous, rises, h.oldest p (omega (arith, s, bag))) in
+                    subst P (sym t.1) here some
+                | inr t ↦ let bag = ap (λ (m : Member). times i m.oldest) (other j t.1) in let previous = ap (λ (m : Member). m.marks.previous) (other j t.1) in omega (arith, published, previous, h.oldest j (omega (arith, some, bag)))
+              ];
+              noted = λ n e. omega (arith, published, h.noted n e);
+            },
+          );
     }
 
 pub only_marks : {T : Type 0} (w : State T) (p : ℕ) (k : Marks) → OnlyOf p w (with_marks p k w)
@@ -134,38 +138,42 @@ keeps_turned {T} holds w p h known closed' differs =
     let previous : (marks_at w' p).previous ≡ w.count = r.previous ∙ ap (λ (m : Member). m.marks.previous) atb in
     let prior : (i : ℕ) → times i (member_at w' p).prior ≡ times i (member_at w p).current = λ i. ap (times i) (r.prior ∙ ap (λ (m : Member). m.current) atb) in
     let oldest : (i : ℕ) → times i (member_at w' p).oldest ≡ times i (member_at w p).prior = λ i. ap (times i) (r.oldest ∙ ap (λ (m : Member). m.prior) atb) in
-    let stays : (i : ℕ) → times i (member_at w p).oldest ≡ 0 → value_at w' i ≡ value_at w i = λ i none. r.stays i (ap (λ (m : Member). times i m.oldest) atb ∙ none) in
-    (record {
-      states = r.places;
-      cells = r.cells;
-      members = r.known ∙ sizeb;
-      lives = λ i l. stays i (let bag = bag_waits w p i h.sound known in let light = live_light (status_at w i) l in omega (arith, bag, light));
-      protects = λ q i o o' g.
-          let apart : q ≢ p = λ e. let P : ℕ → Type 0 = λ j. 0 < (marks_at w j).nesting in let x : P p = subst P e o in absurd (omega (arith, x, closed')) in
-          let published = ap (λ (m : Member). m.marks.published) (other q apart) in
-          let out : times i (member_at w p).oldest ≡ 0 = elim (eqb_tells (times i (member_at w p).oldest) 0) [
-            | inl t ↦ t.1
-            | inr t ↦ absurd (omega (arith, g.oldest p (omega (arith, t.1)), behind, h.near q o))
-          ] in
-          (stays i out, record {
-            used = sym (r.place.sound.filled i) ∙ ap is_some (stays i out) ∙ h.sound.filled i ∙ g.used;
-            prior = λ j some. elim (eqb_tells j p) [
-              | inl t ↦
-                  let P : ℕ → Type 0 = λ x. (marks_at w' q).published ≤ (marks_at w' x).previous in
-                  let here : P p = omega (arith, published, previous, h.began q o) in
-                  subst P (sym t.1) here
-              | inr t ↦ let bag = ap (λ (m : Member). times i m.prior) (other j t.1) in let before = ap (λ (m : Member). m.marks.previous) (other j t.1) in omega (arith, published, before, g.prior j (omega (arith, some, bag)))
-            ];
-            oldest = λ j some. elim (eqb_tells j p) [
-              | inl t ↦
-                  let P : ℕ → Type 0 = λ x. 1 ≤ times i (member_at w' x).oldest → (marks_at w' q).published < (marks_at w' x).previous in
-                  let here : P p = λ s. omega (arith, published, previous, behind, g.prior p (omega (arith, s, oldest i))) in
-                  subst P (sym t.1) here some
-              | inr t ↦ let bag = ap (λ (m : Member). times i m.oldest) (other j t.1) in let before = ap (λ (m : Member). m.marks.previous) (other j t.1) in omega (arith, published, before, g.oldest j (omega (arith, some, bag)))
-            ];
-            noted = λ n e. omega (arith, published, g.noted n (r.noted i n e));
-          });
-    }, other)
+    let stays : (i : ℕ) → times i (member_at w p).oldest ≡ 0 → value_at w' i ≡ value_at w i = λ i none. r.stays i (ap (λ (m : Member). times i m.oldest) atb ∙ none) in (
+      record {
+        states = r.places;
+        cells = r.cells;
+        members = r.known ∙ sizeb;
+        lives = λ i l. stays i (let bag = bag_waits w p i h.sound known in let light = live_light (status_at w i) l in omega (arith, bag, light));
+        protects = λ q i o o' g.
+            let apart : q ≢ p = λ e. let P : ℕ → Type 0 = λ j. 0 < (marks_at w j).nesting in let x : P p = subst P e o in absurd (omega (arith, x, closed')) in
+            let published = ap (λ (m : Member). m.marks.published) (other q apart) in
+            let out : times i (member_at w p).oldest ≡ 0 = elim (eqb_tells (times i (member_at w p).oldest) 0) [
+              | inl t ↦ t.1
+              | inr t ↦ absurd (omega (arith, g.oldest p (omega (arith, t.1)), behind, h.near q o))
+            ] in (
+              stays i out,
+              record {
+                used = sym (r.place.sound.filled i) ∙ ap is_some (stays i out) ∙ h.sound.filled i ∙ g.used;
+                prior = λ j some. elim (eqb_tells j p) [
+                  | inl t ↦
+                      let P : ℕ → Type 0 = λ x. (marks_at w' q).published ≤ (marks_at w' x).previous in
+                      let here : P p = omega (arith, published, previous, h.began q o) in
+                      subst P (sym t.1) here
+                  | inr t ↦ let bag = ap (λ (m : Member). times i m.prior) (other j t.1) in let before = ap (λ (m : Member). m.marks.previous) (other j t.1) in omega (arith, published, before, g.prior j (omega (arith, some, bag)))
+                ];
+                oldest = λ j some. elim (eqb_tells j p) [
+                  | inl t ↦
+                      let P : ℕ → Type 0 = λ x. 1 ≤ times i (member_at w' x).oldest → (marks_at w' q).published < (marks_at w' x).previous in
+                      let here : P p = λ s. omega (arith, published, previous, behind, g.prior p (omega (arith, s, oldest i))) in
+                      subst P (sym t.1) here some
+                  | inr t ↦ let bag = ap (λ (m : Member). times i m.oldest) (other j t.1) in let before = ap (λ (m : Member). m.marks.previous) (other j t.1) in omega (arith, published, before, g.oldest j (omega (arith, some, bag)))
+                ];
+                noted = λ n e. omega (arith, published, g.noted n (r.noted i n e));
+              },
+            );
+      },
+      other,
+    )
 
 pub keeps_opened : {T : Type 0} (holds : T → List Hold) (w : State T) (p : ℕ) → IsPlace w → p < length w.members → Keeps w (opened holds p w) × OnlyOf p w (opened holds p w)
 keeps_opened {T} holds w p h known =

@@ -161,7 +161,7 @@ place_opened {T} holds w p h known =
           (elim ((marks_at w p).previous == w.count) as (λ c. IsPlace (cond c b (rotated holds p b))) [ true ↦ first | false ↦ third ])
       | inr t ↦ subst (λ (c : Bool). IsPlace (cond c (cond ((marks_at w p).previous == w.count) b (rotated holds p b)) n)) (sym t.0)
           (let some : 0 < (marks_at w p).nesting = omega (arith, t.1) in
-           place_marks w p _ h known (record { past = h.past p; began = λ o. h.began p some; near = λ o. h.near p some }))
+          place_marks w p _ h known (record { past = h.past p; began = λ o. h.began p some; near = λ o. h.near p some }))
     ]
 
 pub first_one : (a b : Bool) → (a && b) ≡ true → a ≡ true

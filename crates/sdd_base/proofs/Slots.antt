@@ -153,8 +153,8 @@ status_invariant a i s h inside was is even =
     let before = h.waits in
     let t = h.tally in
     states_invariant a a.values a.used a.members a.free a.idle i s h (filled_same a i s h (is ∙ sym was)) (omega (arith, t, tallies, one, other)) h.room (omega (arith, before, sums, even))
-        (lists_same vacancy a.states.items i s status.Free a.free.items inside (used-vacancy s is ∙ sym (used-vacancy _ was)) h.slots.lists) h.slots.room
-        (lists_same idleness a.states.items i s status.Free a.idle.items inside (used-idleness s is ∙ sym (used-idleness _ was)) h.places.lists) h.places.room
+    (lists_same vacancy a.states.items i s status.Free a.free.items inside (used-vacancy s is ∙ sym (used-vacancy _ was)) h.slots.lists) h.slots.room
+    (lists_same idleness a.states.items i s status.Free a.idle.items inside (used-idleness s is ∙ sym (used-idleness _ was)) h.places.lists) h.places.room
 
 -- a slot that is used has a value
 pub value_there : {T : Type 0} (a : Inside T) (i : ℕ) → IsTable a → is_some (get_or a.values.items i None) ≡ is_used (get_or a.states.items i status.Free)
@@ -178,8 +178,8 @@ retired_invariant a p i q q' h known inside was light is keeps more =
     let before = h.waits in
     let t = h.tally in
     states_invariant a a.values a.used (with_item a.members p q') a.free a.idle i s h (filled_same a i s h (sym was)) (omega (arith, t, tallies, one)) (room_set (length a.states.items) a.members.items p q q' h.room known is (keeps _)) (omega (arith, before, sums, parts, same, light, more))
-        (lists_same vacancy a.states.items i s status.Free a.free.items inside (sym (used-vacancy _ was)) h.slots.lists) h.slots.room
-        (lists_same idleness a.states.items i s status.Free a.idle.items inside (sym (used-idleness _ was)) h.places.lists) h.places.room
+    (lists_same vacancy a.states.items i s status.Free a.free.items inside (sym (used-vacancy _ was)) h.slots.lists) h.slots.room
+    (lists_same idleness a.states.items i s status.Free a.idle.items inside (sym (used-idleness _ was)) h.places.lists) h.places.room
 
 -- what is asked of the state, of the fields
 pub known_in : {T : Type 0} (a : Inside T) (w : State T) (p : ℕ) → state_of a ≡ w → p < length w.members → p < length a.members.items
@@ -366,8 +366,8 @@ placed_invariant a x i s fr h inside was some is light popped cap =
     let before = h.waits in
     let t = h.tally in
     states_invariant a (with_item a.values i x) (a.used + 1) a.members fr a.idle i s h (filled_set a i x s h (some ∙ sym is)) (omega (arith, t, tallies, one, none)) h.room (omega (arith, before, sums, light, heavy))
-        (lists_pop vacancy a.states.items i s status.Free a.free.items fr.items popped inside vacant (used-vacancy s is) h.slots.lists) (omega (arith, h.slots.room, cap))
-        (lists_same idleness a.states.items i s status.Free a.idle.items inside (used-idleness s is ∙ sym busy) h.places.lists) h.places.room
+    (lists_pop vacancy a.states.items i s status.Free a.free.items fr.items popped inside vacant (used-vacancy s is) h.slots.lists) (omega (arith, h.slots.room, cap))
+    (lists_same idleness a.states.items i s status.Free a.idle.items inside (used-idleness s is ∙ sym busy) h.places.lists) h.places.room
 
 -- what waits is an item or a job
 pub waits_item : (s : Status) → weight s ≡ 1 → is_used s ≡ true → s ≡ status.Retired
@@ -405,8 +405,8 @@ vacated_invariant a x p i q q' fr h known inside was gone is keeps less pushed c
     let before = h.waits in
     let t = h.tally in
     states_invariant a (with_item a.values i x) (a.used - 1) (with_item a.members p q') fr a.idle i s h (filled_set a i x s h (ap is_some gone)) (omega (arith, t, tallies, one)) (room_set (length a.states.items) a.members.items p q q' h.room known is (keeps _)) (omega (arith, before, sums, parts, same, heavy, less))
-        (lists_push vacancy a.states.items i s status.Free a.free.items fr.items pushed inside full refl h.slots.lists) (omega (arith, h.slots.room, cap))
-        (lists_same idleness a.states.items i s status.Free a.idle.items inside (sym busy) h.places.lists) h.places.room
+    (lists_push vacancy a.states.items i s status.Free a.free.items fr.items pushed inside full refl h.slots.lists) (omega (arith, h.slots.room, cap))
+    (lists_same idleness a.states.items i s status.Free a.idle.items inside (sym busy) h.places.lists) h.places.room
 
 -- a job that was due is gone
 pub run_invariant : {T : Type 0} (a : Inside T) (x : Option T) (p i : ℕ) (q q' : Participant) (idl : Vec ℕ) → IsTable a → p < length a.members.items → i < length a.states.items → get_or a.states.items i status.Free ≡ status.Deferred → x ≡ None → q ≡ get_or a.members.items p q → ((n : ℕ) → HasRoom n q → HasRoom n q') → waiting q' + 1 ≡ waiting q → idl.items ≡ a.idle.items ++ i ∷ [] → vec_capacity a.idle ≤ vec_capacity idl → IsTable (record a { values = with_item a.values i x; states = with_item a.states i status.Idle; members = with_item a.members p q'; idle = idl })
@@ -423,8 +423,8 @@ run_invariant a x p i q q' idl h known inside was gone is keeps less pushed cap 
     let before = h.waits in
     let t = h.tally in
     states_invariant a (with_item a.values i x) a.used (with_item a.members p q') a.free idl i s h (filled_set a i x s h (ap is_some gone)) (omega (arith, t, tallies, none)) (room_set (length a.states.items) a.members.items p q q' h.room known is (keeps _)) (omega (arith, before, sums, parts, same, heavy, less))
-        (lists_same vacancy a.states.items i s status.Free a.free.items inside (sym full) h.slots.lists) h.slots.room
-        (lists_push idleness a.states.items i s status.Free a.idle.items idl.items pushed inside busy refl h.places.lists) (omega (arith, h.places.room, cap))
+    (lists_same vacancy a.states.items i s status.Free a.free.items inside (sym full) h.slots.lists) h.slots.room
+    (lists_push idleness a.states.items i s status.Free a.idle.items idl.items pushed inside busy refl h.places.lists) (omega (arith, h.places.room, cap))
 
 -- a cell is used in another way
 pub cell_invariant : {T : Type 0} (a : Inside T) (c : ℕ) (k : Cell) (fr : Vec ℕ) → IsTable a → Lists emptiness (set a.cells.items c k) fr.items → length a.cells.items ≤ vec_capacity fr → IsTable (record a { cells = with_item a.cells c k; free_cells = fr })

@@ -312,7 +312,7 @@ inside_by (x ∷ ss) (suc i) s e h = let r = inside_by ss i s e h in omega (arit
 pub gives_released_as : {T : Type 0} (w : State T) (p i : ℕ) (s : Status) → s ≡ status_at w i → Sound w → p < length w.members → Gives p w (released_as s p i w)
 gives_released_as w p i status.Free e h known = gives_refl p w h
 gives_released_as w p i status.Owned e h known = gives_refl p w h
-gives_released_as w p i (status.Shared n) e h known = 
+gives_released_as w p i (status.Shared n) e h known =
     let inside = inside_by w.states i (status.Shared n) e (λ f. cc) in
     let light : weight (status_at w i) ≡ 0 = ap weight (sym e) in
     let used : is_used (status_at w i) ≡ true = ap is_used (sym e) in
@@ -341,7 +341,7 @@ gives_cell w p c k h = record { count = refl; values = refl; places = refl; cell
 pub gives_owned_ended_as : {T : Type 0} (w : State T) (p c : ℕ) (k : Cell) → Sound w → p < length w.members → Gives p w (owned_ended_as k p c w)
 gives_owned_ended_as w p c cell.Free h known = gives_refl p w h
 gives_owned_ended_as w p c (cell.OfOwned None t) h known = gives_cell w p c cell.Free h
-gives_owned_ended_as w p c (cell.OfOwned (Some i) t) h known = 
+gives_owned_ended_as w p c (cell.OfOwned (Some i) t) h known =
     let first = gives_cell w p c cell.Free h in
     gives_then p w (with_cell c cell.Free w) _ first (gives_disowned_as (with_cell c cell.Free w) p i _ refl first.sound known)
 gives_owned_ended_as w p c (cell.OfShared o t) h known = gives_refl p w h
@@ -351,7 +351,7 @@ pub gives_shared_ended_as : {T : Type 0} (w : State T) (p c : ℕ) (k : Cell) �
 gives_shared_ended_as w p c cell.Free h known = gives_refl p w h
 gives_shared_ended_as w p c (cell.OfOwned o t) h known = gives_refl p w h
 gives_shared_ended_as w p c (cell.OfShared None t) h known = gives_cell w p c cell.Free h
-gives_shared_ended_as w p c (cell.OfShared (Some i) t) h known = 
+gives_shared_ended_as w p c (cell.OfShared (Some i) t) h known =
     let first = gives_cell w p c cell.Free h in
     gives_then p w (with_cell c cell.Free w) _ first (gives_released_as (with_cell c cell.Free w) p i _ refl first.sound known)
 gives_shared_ended_as w p c (cell.OfRaw o t) h known = gives_refl p w h

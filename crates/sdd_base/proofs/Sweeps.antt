@@ -106,7 +106,7 @@ sweeping_all_next {T} holds p w v v' h place s known only = record {
 le_or : (k p : ℕ) → (k < p) ⊎ (p ≤ k)
 le_or k zero = inr (omega arith)
 le_or zero (suc p) = inl (omega arith)
-le_or (suc k) (suc p) = elim (le_or k p) [ | inl a ↦ inl (omega (arith, a)) | inr b ↦ inr (omega (arith, b)) ]
+le_or (suc k) (suc p) = elim (le_or k p) [ inl a ↦ inl (omega (arith, a)) | inr b ↦ inr (omega (arith, b)) ]
 
 out_of_range : (ms : List Member) (k : ℕ) → length ms ≤ k → get_or ms k nobody ≡ nobody
 out_of_range [] k h = refl

@@ -9,13 +9,11 @@ use crate::holds::Holds;
 /// owner always names an item that is there, and an item with an owner isn't reclaimed.
 pub fn owners_are_counted<T: Holds>()
     ensures { OwnersAreCounted T.holds }
-{
-}
+{}
 
 /// What a guard protects: every item that has an owner while it is open; and what it protects stays as it was until
 /// it closes, whatever calls come in between.
 pub fn guards_protect<T>()
     ensures owned { OwnedIsProtected T }
     ensures stays { StaysUntilClosed T }
-{
-}
+{}

@@ -43,7 +43,10 @@ pub fn from<T>(w: &mut World<T>, owned: Owned<T>) -> Result<AtomicOwned<T>, Owne
     ensures refused { IfErr result (λ o. (owned_slot o ≡ owned_slot owned) × (w.new ≡ w.old) × NoCellFree w.old) }
     ensures keeps { Keeps w.old w.new }
 {
-    match w.table.claim_cell(Cell::OfOwned(Some(owned.slot), Tag::None)) {
+    match w
+        .table
+        .claim_cell(Cell::OfOwned(Some(owned.slot), Tag::None))
+    {
         None => Err(owned),
         Some(cell) => {
             let Owned { slot: _, of: _ } = owned;

@@ -86,7 +86,12 @@ pub fn store<T>(w: &mut World<T>, cell: &AtomicRaw<T>, ptr: RawPtr<T>)
 }
 
 /// Puts another pointer into the cell, and gives the old one.
-pub fn swap<T>(w: &mut World<T>, cell: &AtomicRaw<T>, ptr: RawPtr<T>, guard: &WorldGuard) -> RawPtr<T>
+pub fn swap<T>(
+    w: &mut World<T>,
+    cell: &AtomicRaw<T>,
+    ptr: RawPtr<T>,
+    guard: &WorldGuard,
+) -> RawPtr<T>
     requires { IsRawCell w.old (raw_cell cell.now) }
     ensures was { cell_at w.old (raw_cell cell.now) ≡ Cell.OfRaw (raw_slot result) (raw_tag result) }
     ensures now { w.new ≡ with_cell (raw_cell cell.now) (Cell.OfRaw (raw_slot ptr) (raw_tag ptr)) w.old }
@@ -98,7 +103,12 @@ pub fn swap<T>(w: &mut World<T>, cell: &AtomicRaw<T>, ptr: RawPtr<T>, guard: &Wo
 }
 
 /// Sets the tag if `f` answers true for what the cell keeps, and answers what `f` did. It is called once.
-pub fn update_tag_if<T, F: FnOnce(RawPtr<T>) -> bool>(w: &mut World<T>, cell: &AtomicRaw<T>, tag: Tag, f: F) -> bool
+pub fn update_tag_if<T, F: FnOnce(RawPtr<T>) -> bool>(
+    w: &mut World<T>,
+    cell: &AtomicRaw<T>,
+    tag: Tag,
+    f: F,
+) -> bool
     requires cell { IsRawCell w.old (raw_cell cell.now) }
     requires callable { F.IsAlwaysCallable f }
     ensures asked { (r : RawPtr _) × (cell_at w.old (raw_cell cell.now) ≡ Cell.OfRaw (raw_slot r) (raw_tag r)) × F.post f r result × (IsTrue result → w.new ≡ with_cell (raw_cell cell.now) (Cell.OfRaw (raw_slot r) tag) w.old) }

@@ -43,7 +43,10 @@ pub fn from<T>(w: &mut World<T>, shared: Shared<T>) -> Result<AtomicShared<T>, S
     ensures refused { IfErr result (λ o. (shared_slot o ≡ shared_slot shared) × (w.new ≡ w.old) × NoCellFree w.old) }
     ensures keeps { Keeps w.old w.new }
 {
-    match w.table.claim_cell(Cell::OfShared(Some(shared.slot), Tag::None)) {
+    match w
+        .table
+        .claim_cell(Cell::OfShared(Some(shared.slot), Tag::None))
+    {
         None => Err(shared),
         Some(cell) => {
             let Shared { slot: _, of: _ } = shared;
@@ -214,7 +217,11 @@ pub fn compare_exchange_weak<T>(
 }
 
 /// One more owner of the item that the cell keeps; none where it keeps none, and at the greatest count of owners.
-pub fn get_shared<T>(w: &mut World<T>, cell: &AtomicShared<T>, _guard: &WorldGuard) -> Option<Shared<T>>
+pub fn get_shared<T>(
+    w: &mut World<T>,
+    cell: &AtomicShared<T>,
+    _guard: &WorldGuard,
+) -> Option<Shared<T>>
     requires { IsSharedCell w.old (shared_cell cell.now) }
     ensures more { IfSome result (λ s. (tag : Tag) × (cell_at w.old (shared_cell cell.now) ≡ Cell.OfShared (Some (shared_slot s)) tag) × (n : ℕ) × (status_at w.old (shared_slot s) ≡ Status.Shared n) × (w.new ≡ with_status (shared_slot s) (Status.Shared (n + 1)) w.old)) }
     ensures none { IfNone result ((w.new ≡ w.old) × ((i n : ℕ) (tag : Tag) → cell_at w.old (shared_cell cell.now) ≡ Cell.OfShared (Some i) tag → n < 4294967295 → status_at w.old i ≢ Status.Shared n)) }
