@@ -258,3 +258,25 @@ owned_protected w q i h live =
 pub stays_until_closed : {T : Type 0} (q i : ℕ) (w : State T) (later : List (State T)) → IsOpen w q → Protects w q i → IsRun q w later → value_at (last_of w later) i ≡ value_at w i
 stays_until_closed q i w [] opens h run = refl
 stays_until_closed q i w (v ∷ vs) opens h run = let s = run.0.protects q i opens run.1 h in stays_until_closed q i v vs run.1 s.1 run.2 ∙ s.0
+
+-- what was opened is open
+pub opened_open : {T : Type 0} (holds : T → List Hold) (w : State T) (p : ℕ) → IsPlace w → p < length w.members → IsOpen (opened holds p w) p
+opened_open {T} holds w p h known =
+    let m = marks_at w p in
+    let k : Marks = record m { nesting = 1; published = w.count; previous = w.count; accelerated = false } in
+    let b : State T = begun p w in
+    let n : State T = with_marks p (record m { nesting = m.nesting + 1 }) w in
+    let kb : p < length b.members = omega (arith, length-set w.members p (marked k (member_at w p))) in
+    let atb : (marks_at b p).nesting ≡ 1 = ap (λ (m : Member). m.marks.nesting) (get_or-set_same w.members p (marked k (member_at w p)) nobody known) in
+    let atn : (marks_at n p).nesting ≡ m.nesting + 1 = ap (λ (m : Member). m.marks.nesting) (get_or-set_same w.members p (marked (record m { nesting = m.nesting + 1 }) (member_at w p)) nobody known) in
+    let first : IsOpen b p = omega (arith, atb) in
+    let third : IsOpen (rotated holds p b) p = let r = (rotates holds b p (place_begun w p h known) kb).nesting in omega (arith, r, atb) in
+    let outer : IsOpen (cond (m.previous == w.count) b (rotated holds p b)) p = elim (m.previous == w.count) as (λ c. IsOpen (cond c b (rotated holds p b)) p) [ true ↦ first | false ↦ third ] in
+    elim (m.nesting == 0) as (λ c. IsOpen (cond c (cond (m.previous == w.count) b (rotated holds p b)) n) p) [ true ↦ outer | false ↦ omega (arith, atn) ]
+
+-- marks that leave the nesting leave it of all
+pub nests_marks : {T : Type 0} (w : State T) (p : ℕ) (k : Marks) → p < length w.members → k.nesting ≡ (marks_at w p).nesting → (q : ℕ) → (marks_at (with_marks p k w) q).nesting ≡ (marks_at w q).nesting
+nests_marks {T} w p k known same q = elim (eqb_tells q p) [
+  | inl t ↦ let P : ℕ → Type 0 = λ j. (marks_at (with_marks p k w) j).nesting ≡ (marks_at w j).nesting in let here : P p = ap (λ (m : Member). m.marks.nesting) (get_or-set_same w.members p (marked k (member_at w p)) nobody known) ∙ same in subst P (sym t.1) here
+  | inr t ↦ ap (λ (m : Member). m.marks.nesting) (get_or-set_other w.members p q (marked k (member_at w p)) nobody t.1)
+]

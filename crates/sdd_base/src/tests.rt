@@ -4,7 +4,6 @@ ghost use Rattle.sdd_base.specs.State.{fresh};
 use crate::epoch::Epoch;
 use crate::holds::{Held, Holds};
 use crate::owner::Shared;
-use crate::pointer::Ptr;
 use crate::refusal::NoSlot;
 use crate::sizes::Sizes;
 use crate::tag::Tag;
@@ -157,16 +156,14 @@ fn a_guard_keeps_what_it_names(rt: HostRuntime) -> Result<(), Fail> {
     world::owned::retire(&mut w, owned, 1);
     assert!(rt; passes(&mut w, 1, 6));
     assert_eq!(rt; w.slots_in_use(), 1);
-    assert!(rt; reads(&w, at, 5));
+    if !w.is_readable(at) {
+        panic!(rt; "a guard is open");
+    }
+    assert_eq!(rt; w.read(at).copied(), Some(5));
     world::guard::close(&mut w, guard);
     assert!(rt; passes(&mut w, 1, 4));
     assert_eq!(rt; w.slots_in_use(), 0);
     Ok(())
-}
-
-/// Whether `at` names an item of this value; false where it names none.
-fn reads(w: &World<u64>, at: Ptr<'static, u64>, value: u64) -> bool {
-    w.is_readable(at) && w.read(at).copied() == Some(value)
 }
 
 /// A directory of segments, or a segment.

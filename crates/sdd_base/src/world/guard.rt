@@ -19,6 +19,7 @@ use crate::world::World;
 pub fn new<T: Holds>(w: &mut World<T>, p: usize) -> Result<WorldGuard, Nested>
     requires { p < length w.old.members }
     ensures opened { IfOk result (λ g. (participant_of g ≡ p) × (w.new ≡ opened T.holds p w.old)) }
+    ensures open { IfOk result (λ _. IsOpen w.new p) }
     ensures nested { IsErr result ↔ ((marks_at w.old p).nesting ≡ 4294967295) }
     ensures refused { OnErr result (w.new ≡ w.old) }
     ensures keeps { Keeps w.old w.new }
@@ -35,6 +36,7 @@ pub fn new<T: Holds>(w: &mut World<T>, p: usize) -> Result<WorldGuard, Nested>
 pub fn accelerate<T>(w: &mut World<T>, guard: &WorldGuard)
     requires { participant_of guard.now < length w.old.members }
     ensures set { w.new ≡ with_marks (participant_of guard.now) (record (marks_at w.old (participant_of guard.now)) { accelerated = true }) w.old }
+    ensures nests { (q : ℕ) → (marks_at w.new q).nesting ≡ (marks_at w.old q).nesting }
     ensures keeps { Keeps w.old w.new }
     ensures only { OnlyOf (participant_of guard.now) w.old w.new }
 {
@@ -55,6 +57,7 @@ pub fn has_garbage<T>(w: &World<T>, guard: &WorldGuard) -> bool
 pub fn set_has_garbage<T>(w: &mut World<T>, guard: &WorldGuard)
     requires { participant_of guard.now < length w.old.members }
     ensures set { w.new ≡ with_marks (participant_of guard.now) (record (marks_at w.old (participant_of guard.now)) { garbage = true }) w.old }
+    ensures nests { (q : ℕ) → (marks_at w.new q).nesting ≡ (marks_at w.old q).nesting }
     ensures keeps { Keeps w.old w.new }
     ensures only { OnlyOf (participant_of guard.now) w.old w.new }
 {
