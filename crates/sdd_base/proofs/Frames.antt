@@ -5,9 +5,11 @@ use Rattle.std.proofs.lemmas.List.Sums.{sum_by-cons}
 use Rattle.std.proofs.lemmas.Bool.{false≢true}
 use Rattle.std.proofs.lemmas.Bool.Decides.{eqb_tells}
 use Rattle.sdd_base.specs.Holding.{Hold}
-use Rattle.sdd_base.specs.State.{State, Member, nobody, status_at, value_at, member_at, marks_at, is_used, weight, with_marks, marked, with_status, placed, removed, raised, is_present}
+use Rattle.sdd_base.specs.State.{State, Member, nobody, status_at, value_at, member_at, marks_at, is_used, weight, with_marks, marked, with_status, placed, removed, with_cell, raised, is_present}
 use Rattle.sdd_base.specs.Steps.{times, begun, rotated, opened, closed, scanned, scans, closings_after}
-use Rattle.sdd_base.specs.Place.{Sound, IsPlace, IsOpen, held_times}
+use Rattle.sdd_base.specs.Place.{Sound, IsPlace, IsOpen, IsShared, IsOwnedCell, IsSharedCell, held_times}
+use Rattle.sdd_base.specs.declared.tag.Tag.{Tag}
+use Rattle.sdd_base.specs.declared.status.Cell.TheVariants as cell
 use Rattle.sdd_base.specs.Frame.{has_owner, IsLive, Protects, Keeps, OnlyOf, IsRun, last_of}
 use Rattle.sdd_base.specs.declared.status.Status.{Status}
 use Rattle.sdd_base.specs.declared.status.Status.TheVariants as status
@@ -280,3 +282,16 @@ nests_marks {T} w p k known same q = elim (eqb_tells q p) [
   | inl t ↦ let P : ℕ → Type 0 = λ j. (marks_at (with_marks p k w) j).nesting ≡ (marks_at w j).nesting in let here : P p = ap (λ (m : Member). m.marks.nesting) (get_or-set_same w.members p (marked k (member_at w p)) nobody known) ∙ same in subst P (sym t.1) here
   | inr t ↦ ap (λ (m : Member). m.marks.nesting) (get_or-set_other w.members p q (marked k (member_at w p)) nobody t.1)
 ]
+
+-- what was made is there
+pub shared_placed : {T : Type 0} (w w' : State T) (i : ℕ) (v : T) → i < length w.states → w' ≡ placed i v (status.Shared 1) w → IsShared w' i
+shared_placed {T} w w' i v inside e = subst (λ (x : State T). IsShared x i) (sym e) (record { inside = omega (arith, length-set w.states i (status.Shared 1), inside); owners = 1; is = get_or-set_same w.states i (status.Shared 1) status.Free inside })
+
+pub shared_more : {T : Type 0} (w w' : State T) (i n : ℕ) → i < length w.states → w' ≡ with_status i (status.Shared n) w → IsShared w' i
+shared_more {T} w w' i n inside e = subst (λ (x : State T). IsShared x i) (sym e) (record { inside = omega (arith, length-set w.states i (status.Shared n), inside); owners = n; is = get_or-set_same w.states i (status.Shared n) status.Free inside })
+
+pub owned_cell_used : {T : Type 0} (w w' : State T) (c : ℕ) (o : Option ℕ) (t : Tag) → c < length w.cells → w' ≡ with_cell c (cell.OfOwned o t) w → IsOwnedCell w' c
+owned_cell_used {T} w w' c o t inside e = subst (λ (x : State T). IsOwnedCell x c) (sym e) (record { inside = omega (arith, length-set w.cells c (cell.OfOwned o t), inside); item = o; tag = t; is = get_or-set_same w.cells c (cell.OfOwned o t) cell.Free inside })
+
+pub shared_cell_used : {T : Type 0} (w w' : State T) (c : ℕ) (o : Option ℕ) (t : Tag) → c < length w.cells → w' ≡ with_cell c (cell.OfShared o t) w → IsSharedCell w' c
+shared_cell_used {T} w w' c o t inside e = subst (λ (x : State T). IsSharedCell x c) (sym e) (record { inside = omega (arith, length-set w.cells c (cell.OfShared o t), inside); item = o; tag = t; is = get_or-set_same w.cells c (cell.OfShared o t) cell.Free inside })

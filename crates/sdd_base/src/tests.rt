@@ -1,9 +1,11 @@
 ghost use Rattle.std.specs.Prelude.{◌≡◌, ◌<◌, ◌≤◌, length, IfOk};
 ghost use Rattle.sdd_base.specs.State.{fresh};
+ghost use Rattle.sdd_base.specs.Frame.{OnlyOf};
 
 use crate::epoch::Epoch;
+use crate::guard::WorldGuard;
 use crate::holds::{Held, Holds};
-use crate::owner::Shared;
+use crate::owner::{Owned, Shared};
 use crate::refusal::NoSlot;
 use crate::sizes::Sizes;
 use crate::tag::Tag;
@@ -67,7 +69,8 @@ fn tags_have_numbers(rt: HostRuntime) -> Result<(), Fail> {
 /// One accelerated guard of participant `p`.
 fn pass<T: Holds>(w: &mut World<T>, p: usize) -> bool
     requires { p < length w.old.members }
-    ensures { length w.new.members ≡ length w.old.members }
+    ensures members { length w.new.members ≡ length w.old.members }
+    ensures only { OnlyOf p w.old w.new }
 {
     match world::guard::new(w, p) {
         Ok(guard) => {
@@ -82,7 +85,8 @@ fn pass<T: Holds>(w: &mut World<T>, p: usize) -> bool
 /// `n` accelerated guards of participant `p`, one by one.
 fn passes<T: Holds>(w: &mut World<T>, p: usize, n: usize) -> bool
     requires { p < length w.old.members }
-    ensures { length w.new.members ≡ length w.old.members }
+    ensures members { length w.new.members ≡ length w.old.members }
+    ensures only { OnlyOf p w.old w.new }
 {
     let mut open = true;
     for _ in 0..n {
@@ -91,40 +95,57 @@ fn passes<T: Holds>(w: &mut World<T>, p: usize, n: usize) -> bool
     open
 }
 
+/// The value of an item that was kept, which participant 0 retires.
+fn spent<R: Abort>(
+    rt: &R,
+    w: &mut World<u64>,
+    item: Option<Owned<u64>>,
+    guard: &WorldGuard,
+) -> Option<u64>
+    requires { 0 < length w.old.members }
+    ensures { length w.new.members ≡ length w.old.members }
+{
+    let Some(owned) = item else {
+        return None;
+    };
+    let cell = match world::atomic_owned::from(w, owned) {
+        Ok(cell) => cell,
+        Err(_) => panic!(rt; "a cell is free"),
+    };
+    let at = world::atomic_owned::load(w, &cell, guard);
+    if !w.is_readable(&at) {
+        panic!(rt; "it has an owner");
+    }
+    let value = w.read(&at).copied();
+    world::atomic_owned::retire(w, cell, 0);
+    value
+}
+
 #[test]
 fn an_owned_cell_is_swapped(rt: HostRuntime) -> Result<(), Fail> {
-    let mut w = numbers(rt.alloc(), 2, 1)?;
+    let mut w = numbers(rt.alloc(), 2, 2)?;
+    let Ok(guard) = world::guard::new(&mut w, 1) else {
+        panic!(rt; "no guard is open");
+    };
     let Ok(cell) = world::atomic_owned::new(&mut w, 14) else {
         panic!(rt; "a slot and a cell are free");
     };
     let Ok(other) = world::owned::new(&mut w, 15) else {
         panic!(rt; "a slot is free");
     };
-    let (first, tag) = world::atomic_owned::swap(&mut w, &cell, (Some(other), Tag::Second));
-    assert_eq!(rt; tag, Tag::None);
-    let Some(first) = first else {
-        panic!(rt; "14 was there");
-    };
-    assert_eq!(rt; *world::owned::as_ref(&w, &first), 14);
-    world::owned::retire(&mut w, first, 0);
-    let (second, tag) = world::atomic_owned::swap(&mut w, &cell, (None, Tag::First));
-    assert_eq!(rt; tag, Tag::Second);
-    let Some(second) = second else {
-        panic!(rt; "15 was there");
-    };
-    assert_eq!(rt; *world::owned::as_ref(&w, &second), 15);
-    world::owned::retire(&mut w, second, 0);
-    let (third, tag) = world::atomic_owned::swap(&mut w, &cell, (None, Tag::None));
-    assert_eq!(rt; tag, Tag::First);
-    if let Some(third) = third {
-        world::owned::retire(&mut w, third, 0);
-        panic!(rt; "nothing was there");
-    }
+    let (first, first_tag) = world::atomic_owned::swap(&mut w, &cell, (Some(other), Tag::Second));
+    let (second, second_tag) = world::atomic_owned::swap(&mut w, &cell, (None, Tag::First));
+    let (third, third_tag) = world::atomic_owned::swap(&mut w, &cell, (None, Tag::None));
     world::atomic_owned::retire(&mut w, cell, 0);
-    match w.close() {
-        Ok(()) => Ok(()),
-        Err(_) => panic!(rt; "nothing is out"),
-    }
+    assert_eq!(rt; spent(&rt, &mut w, first, &guard), Some(14));
+    assert_eq!(rt; spent(&rt, &mut w, second, &guard), Some(15));
+    assert_eq!(rt; spent(&rt, &mut w, third, &guard), None);
+    assert_eq!(rt;
+        (first_tag, second_tag, third_tag),
+        (Tag::None, Tag::Second, Tag::First)
+    );
+    let WorldGuard { participant: _ } = guard;
+    Ok(())
 }
 
 #[test]
@@ -156,10 +177,10 @@ fn a_guard_keeps_what_it_names(rt: HostRuntime) -> Result<(), Fail> {
     world::owned::retire(&mut w, owned, 1);
     assert!(rt; passes(&mut w, 1, 6));
     assert_eq!(rt; w.slots_in_use(), 1);
-    if !w.is_readable(at) {
+    if !w.is_readable(&at) {
         panic!(rt; "a guard is open");
     }
-    assert_eq!(rt; w.read(at).copied(), Some(5));
+    assert_eq!(rt; w.read(&at).copied(), Some(5));
     world::guard::close(&mut w, guard);
     assert!(rt; passes(&mut w, 1, 4));
     assert_eq!(rt; w.slots_in_use(), 0);

@@ -84,8 +84,8 @@ impl<T> World<T> {
     }
 
     /// Whether `read` may be asked for `at`.
-    pub fn is_readable(&self, at: Ptr<'static, T>) -> bool
-        ensures { IsTrue result ↔ IsReadable self.now (ptr_slot at.entry) }
+    pub fn is_readable(&self, at: &Ptr<'static, T>) -> bool
+        ensures { IsTrue result ↔ IsReadable self.now (ptr_slot at.now) }
     {
         match at.slot {
             None => true,
@@ -94,11 +94,11 @@ impl<T> World<T> {
     }
 
     /// The item that `at` names, or none for null. Condition: it is there.
-    pub fn read(&self, at: Ptr<'static, T>) -> Option<&T>
-        requires { IsReadable self.now (ptr_slot at) }
-        ensures null { IfNone (ptr_slot at.entry) (result ≡ None) }
-        ensures item { IfSome (ptr_slot at.entry) (λ i. IfSome result (λ v. Some v.now ≡ value_at self.now i)) }
-        ensures same { is_some result ≡ is_some (ptr_slot at.entry) }
+    pub fn read(&self, at: &Ptr<'static, T>) -> Option<&T>
+        requires { IsReadable self.now (ptr_slot at.now) }
+        ensures null { IfNone (ptr_slot at.now) (result ≡ None) }
+        ensures item { IfSome (ptr_slot at.now) (λ i. IfSome result (λ v. Some v.now ≡ value_at self.now i)) }
+        ensures same { is_some result ≡ is_some (ptr_slot at.now) }
     {
         match at.slot {
             None => None,

@@ -23,6 +23,7 @@ use std::marker::PhantomData;
 pub fn new<T>(w: &mut World<T>, value: T) -> Result<AtomicOwned<T>, T>
     ensures made { IfOk result (λ c. IsFreeCell w.old (owned_cell c) × (i : ℕ) × IsFree w.old i × (w.new ≡ with_cell (owned_cell c) (Cell.OfOwned (Some i) Tag.None) (placed i value Status.Owned w.old))) }
     ensures refused { IfErr result (λ v. (v ≡ value) × (w.new ≡ w.old) × (NoneFree w.old ⊎ NoCellFree w.old)) }
+    ensures used { IfOk result (λ c. IsOwnedCell w.new (owned_cell c)) }
     ensures keeps { Keeps w.old w.new }
 {
     if w.table.is_full() || w.table.has_no_cell() {
@@ -38,9 +39,11 @@ pub fn new<T>(w: &mut World<T>, value: T) -> Result<AtomicOwned<T>, T>
 }
 
 /// A cell that keeps owned, without a tag, exactly if a cell is free; else owned comes back.
+#[tactic(auto, using(crate::proofs::Frames::owned_cell_used))]
 pub fn from<T>(w: &mut World<T>, owned: Owned<T>) -> Result<AtomicOwned<T>, Owned<T>>
     ensures made { IfOk result (λ c. IsFreeCell w.old (owned_cell c) × (w.new ≡ with_cell (owned_cell c) (Cell.OfOwned (Some (owned_slot owned)) Tag.None) w.old)) }
     ensures refused { IfErr result (λ o. (owned_slot o ≡ owned_slot owned) × (w.new ≡ w.old) × NoCellFree w.old) }
+    ensures used { IfOk result (λ c. IsOwnedCell w.new (owned_cell c)) }
     ensures keeps { Keeps w.old w.new }
 {
     match w
@@ -59,6 +62,7 @@ pub fn from<T>(w: &mut World<T>, owned: Owned<T>) -> Result<AtomicOwned<T>, Owne
 pub fn null<T>(w: &mut World<T>) -> Result<AtomicOwned<T>, NoSlot>
     ensures made { IfOk result (λ c. IsFreeCell w.old (owned_cell c) × (w.new ≡ with_cell (owned_cell c) (Cell.OfOwned None Tag.None) w.old)) }
     ensures refused { OnErr result ((w.new ≡ w.old) × NoCellFree w.old) }
+    ensures used { IfOk result (λ c. IsOwnedCell w.new (owned_cell c)) }
     ensures keeps { Keeps w.old w.new }
 {
     match w.table.claim_cell(Cell::OfOwned(None, Tag::None)) {
@@ -105,6 +109,7 @@ pub fn tag<T>(w: &World<T>, cell: &AtomicOwned<T>) -> Tag
 }
 
 /// Puts another item and tag into the cell, and gives the old ones.
+#[tactic(auto, using(crate::proofs::Frames::owned_cell_used))]
 pub fn swap<T>(
     w: &mut World<T>,
     cell: &AtomicOwned<T>,
@@ -113,6 +118,7 @@ pub fn swap<T>(
     requires { IsOwnedCell w.old (owned_cell cell.now) }
     ensures was { cell_at w.old (owned_cell cell.now) ≡ Cell.OfOwned (owned_slots result.0) result.1 }
     ensures now { w.new ≡ with_cell (owned_cell cell.now) (Cell.OfOwned (owned_slots new.0) new.1) w.old }
+    ensures used { IsOwnedCell w.new (owned_cell cell.now) }
     ensures keeps { Keeps w.old w.new }
 {
     let (item, tag) = new;

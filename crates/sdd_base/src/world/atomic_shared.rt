@@ -23,6 +23,7 @@ use std::marker::PhantomData;
 pub fn new<T>(w: &mut World<T>, value: T) -> Result<AtomicShared<T>, T>
     ensures made { IfOk result (λ c. IsFreeCell w.old (shared_cell c) × (i : ℕ) × IsFree w.old i × (w.new ≡ with_cell (shared_cell c) (Cell.OfShared (Some i) Tag.None) (placed i value (Status.Shared 1) w.old))) }
     ensures refused { IfErr result (λ v. (v ≡ value) × (w.new ≡ w.old) × (NoneFree w.old ⊎ NoCellFree w.old)) }
+    ensures used { IfOk result (λ c. IsSharedCell w.new (shared_cell c)) }
     ensures keeps { Keeps w.old w.new }
 {
     if w.table.is_full() || w.table.has_no_cell() {
@@ -38,9 +39,11 @@ pub fn new<T>(w: &mut World<T>, value: T) -> Result<AtomicShared<T>, T>
 }
 
 /// A cell that keeps shared, without a tag, exactly if a cell is free; else shared comes back.
+#[tactic(auto, using(crate::proofs::Frames::shared_cell_used))]
 pub fn from<T>(w: &mut World<T>, shared: Shared<T>) -> Result<AtomicShared<T>, Shared<T>>
     ensures made { IfOk result (λ c. IsFreeCell w.old (shared_cell c) × (w.new ≡ with_cell (shared_cell c) (Cell.OfShared (Some (shared_slot shared)) Tag.None) w.old)) }
     ensures refused { IfErr result (λ o. (shared_slot o ≡ shared_slot shared) × (w.new ≡ w.old) × NoCellFree w.old) }
+    ensures used { IfOk result (λ c. IsSharedCell w.new (shared_cell c)) }
     ensures keeps { Keeps w.old w.new }
 {
     match w
@@ -59,6 +62,7 @@ pub fn from<T>(w: &mut World<T>, shared: Shared<T>) -> Result<AtomicShared<T>, S
 pub fn null<T>(w: &mut World<T>) -> Result<AtomicShared<T>, NoSlot>
     ensures made { IfOk result (λ c. IsFreeCell w.old (shared_cell c) × (w.new ≡ with_cell (shared_cell c) (Cell.OfShared None Tag.None) w.old)) }
     ensures refused { OnErr result ((w.new ≡ w.old) × NoCellFree w.old) }
+    ensures used { IfOk result (λ c. IsSharedCell w.new (shared_cell c)) }
     ensures keeps { Keeps w.old w.new }
 {
     match w.table.claim_cell(Cell::OfShared(None, Tag::None)) {
@@ -105,6 +109,7 @@ pub fn tag<T>(w: &World<T>, cell: &AtomicShared<T>) -> Tag
 }
 
 /// Puts another item and tag into the cell, and gives the old ones.
+#[tactic(auto, using(crate::proofs::Frames::shared_cell_used))]
 pub fn swap<T>(
     w: &mut World<T>,
     cell: &AtomicShared<T>,
@@ -113,6 +118,7 @@ pub fn swap<T>(
     requires { IsSharedCell w.old (shared_cell cell.now) }
     ensures was { cell_at w.old (shared_cell cell.now) ≡ Cell.OfShared (shared_slots result.0) result.1 }
     ensures now { w.new ≡ with_cell (shared_cell cell.now) (Cell.OfShared (shared_slots new.0) new.1) w.old }
+    ensures used { IsSharedCell w.new (shared_cell cell.now) }
     ensures keeps { Keeps w.old w.new }
 {
     let (item, tag) = new;

@@ -21,6 +21,7 @@ use std::marker::PhantomData;
 pub fn new<T>(w: &mut World<T>, value: T) -> Result<Shared<T>, T>
     ensures placed { IfOk result (λ s. IsFree w.old (shared_slot s) × (w.new ≡ placed (shared_slot s) value (Status.Shared 1) w.old)) }
     ensures refused { IfErr result (λ v. (v ≡ value) × (w.new ≡ w.old) × NoneFree w.old) }
+    ensures live { IfOk result (λ s. IsShared w.new (shared_slot s)) }
     ensures keeps { Keeps w.old w.new }
 {
     Ok(Shared::of_slot(w.table.place(value, Status::Shared(1))?))
@@ -43,10 +44,12 @@ pub fn new_with<T, F: FnOnce() -> T + Drop>(w: &mut World<T>, f: F) -> Result<Sh
 }
 
 /// One more owner of the item; none where it has `2^32 - 1` of them.
+#[tactic(auto, using(crate::proofs::Frames::shared_more))]
 pub fn clone<T>(w: &mut World<T>, shared: &Shared<T>) -> Option<Shared<T>>
     requires { IsShared w.old (shared_slot shared.now) }
     ensures more { IfSome result (λ s. (shared_slot s ≡ shared_slot shared.now) × (n : ℕ) × (status_at w.old (shared_slot s) ≡ Status.Shared n) × (w.new ≡ with_status (shared_slot s) (Status.Shared (n + 1)) w.old)) }
     ensures full { IfNone result ((w.new ≡ w.old) × (status_at w.old (shared_slot shared.now) ≡ Status.Shared 4294967295)) }
+    ensures live { IsShared w.new (shared_slot shared.now) }
     ensures keeps { Keeps w.old w.new }
 {
     let slot = shared.slot;
