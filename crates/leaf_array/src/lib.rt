@@ -1,0 +1,4 @@
+//! Arrays of the leaves of a tree.
+#![tactic(auto)]
+
+mod slots;
