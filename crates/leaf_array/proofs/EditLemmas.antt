@@ -1,5 +1,6 @@
 -- What an edit of a row of places does to its pairs, labels and slots.
 use Rattle.std.proofs.Common.{rules, arith, ◌≡◌, ℕ, zero, suc, ◌+◌, ◌==◌, ◌<◌, ◌≤◌, ◌++◌, ◌∷◌, [], List, Bool, true, false, cond, length, take, drop, refl, ap, ◌∙◌, sym, subst, map, append_assoc, Option, Some, None, IsSome}
+use Rattle.std.specs.List.{remove}
 use Rattle.leaf_array.specs.declared.slots.Place.{Place}
 use Rattle.leaf_array.specs.declared.slots.Place.TheVariants.{Empty, Dead, Live}
 use Rattle.std.specs.declared.cmp.Ordering.{Ordering}
@@ -245,3 +246,227 @@ module _ {K V : Type 0} where
     packed_bury (Empty ∷ ps) h = h
     packed_bury (Dead t k v ∷ ps) h = h
     packed_bury (Live t g k v ∷ ps) h = packed_bury ps h
+
+  -- ---- the live place behind n live ones, buried
+
+  module _ (t : ℕ) (key : K) (val : V) where
+    labels_sunk : (low : ℕ) (ps : List (Place K V)) → labels_above low (sunk (Dead t key val) ps) ≡ labels_above low ps
+    labels_sunk low [] = refl
+    labels_sunk low (Empty ∷ ps) = refl
+    labels_sunk low (Dead s k v ∷ ps) = refl
+    labels_sunk low (Live s g k v ∷ ps) = ap (λ ls. (s, low + g + 1) ∷ ls) (labels_sunk (low + g + 1) ps)
+
+    dead_sunk : (ps : List (Place K V)) → dead_pairs (sunk (Dead t key val) ps) ≡ (t, (key, val)) ∷ dead_pairs ps
+    dead_sunk [] = refl
+    dead_sunk (Empty ∷ ps) = refl
+    dead_sunk (Dead s k v ∷ ps) = refl
+    dead_sunk (Live s g k v ∷ ps) = dead_sunk ps
+
+    top_sunk : (ps : List (Place K V)) → top (sunk (Dead t key val) ps) ≡ top ps
+    top_sunk [] = refl
+    top_sunk (Empty ∷ ps) = refl
+    top_sunk (Dead s k v ∷ ps) = refl
+    top_sunk (Live s g k v ∷ ps) = ap (λ n. g + 1 + n) (top_sunk ps)
+
+    uses_sunk : (slot : ℕ) (ps : List (Place K V)) → uses slot (sunk (Dead t key val) ps) ≡ cond (t == slot) 1 0 + uses slot ps
+    uses_sunk slot [] = refl
+    uses_sunk slot (Empty ∷ ps) = refl
+    uses_sunk slot (Dead s k v ∷ ps) = refl
+    uses_sunk slot (Live s g k v ∷ ps) = omega (arith, uses_sunk slot ps)
+
+    packed_sunk : (ps : List (Place K V)) → IsPacked ps → IsPacked (sunk (Dead t key val) ps)
+    packed_sunk [] h = tt
+    packed_sunk (Empty ∷ ps) h = h
+    packed_sunk (Dead s k v ∷ ps) h = h
+    packed_sunk (Live s g k v ∷ ps) h = packed_sunk ps h
+
+    live_sunk : (ps : List (Place K V)) → live_pairs (sunk (Dead t key val) ps) ≡ live_pairs ps
+    live_sunk [] = refl
+    live_sunk (Empty ∷ ps) = refl
+    live_sunk (Dead s k v ∷ ps) = refl
+    live_sunk (Live s g k v ∷ ps) = ap (λ qs. (k, v) ∷ qs) (live_sunk ps)
+
+  labels_widened : (low n : ℕ) (ps : List (Place K V)) → labels_above low (widened n ps) ≡ labels_above (low + n) ps
+  labels_widened low n [] = refl
+  labels_widened low n (Empty ∷ ps) = refl
+  labels_widened low n (Dead s k v ∷ ps) = refl
+  labels_widened low n (Live s g k v ∷ ps) = let e : low + (g + n) + 1 ≡ low + n + g + 1 = omega arith in rw e refl
+
+  dead_widened : (n : ℕ) (ps : List (Place K V)) → dead_pairs (widened n ps) ≡ dead_pairs ps
+  dead_widened n [] = refl
+  dead_widened n (Empty ∷ ps) = refl
+  dead_widened n (Dead s k v ∷ ps) = refl
+  dead_widened n (Live s g k v ∷ ps) = refl
+
+  top_widened : (n : ℕ) (ps : List (Place K V)) → top (widened n ps) ≤ n + top ps
+  top_widened n [] = omega arith
+  top_widened n (Empty ∷ ps) = omega arith
+  top_widened n (Dead s k v ∷ ps) = omega arith
+  top_widened n (Live s g k v ∷ ps) = omega arith
+
+  uses_widened : (slot n : ℕ) (ps : List (Place K V)) → uses slot (widened n ps) ≡ uses slot ps
+  uses_widened slot n [] = refl
+  uses_widened slot n (Empty ∷ ps) = refl
+  uses_widened slot n (Dead s k v ∷ ps) = refl
+  uses_widened slot n (Live s g k v ∷ ps) = refl
+
+  packed_widened : (n : ℕ) (ps : List (Place K V)) → IsPacked ps → IsPacked (widened n ps)
+  packed_widened n [] h = tt
+  packed_widened n (Empty ∷ ps) h = h
+  packed_widened n (Dead s k v ∷ ps) h = h
+  packed_widened n (Live s g k v ∷ ps) h = h
+
+  live_widened : (n : ℕ) (ps : List (Place K V)) → live_pairs (widened n ps) ≡ live_pairs ps
+  live_widened n [] = refl
+  live_widened n (Empty ∷ ps) = refl
+  live_widened n (Dead s k v ∷ ps) = refl
+  live_widened n (Live s g k v ∷ ps) = refl
+
+  pub live_buried : (s g : ℕ) (k : K) (v : V) (ps : List (Place K V)) → live_pairs (buried (Live s g k v ∷ ps)) ≡ live_pairs ps
+  live_buried s g k v ps = live_widened (g + 1) (sunk (Dead s k v) ps) ∙ live_sunk s k v ps
+
+  pub labels_remove : (low n : ℕ) (ps : List (Place K V)) → n < length (live_pairs ps) → labels_above low (take n ps ++ buried (drop n ps)) ≡ remove (labels_above low ps) n
+  labels_remove low zero [] lt = absurd (omega (arith, lt))
+  labels_remove low (suc n) [] lt = absurd (omega (arith, lt))
+  labels_remove low zero (Empty ∷ ps) lt = absurd (omega (arith, lt))
+  labels_remove low (suc n) (Empty ∷ ps) lt = absurd (omega (arith, lt))
+  labels_remove low zero (Dead s k v ∷ ps) lt = absurd (omega (arith, lt))
+  labels_remove low (suc n) (Dead s k v ∷ ps) lt = absurd (omega (arith, lt))
+  labels_remove low zero (Live s g k v ∷ ps) lt =
+      let e : low + (g + 1) ≡ low + g + 1 = omega arith in
+      labels_widened low (g + 1) (sunk (Dead s k v) ps) ∙ labels_sunk s k v (low + (g + 1)) ps ∙ ap (λ n. labels_above n ps) e
+  labels_remove low (suc n) (Live s g k v ∷ ps) lt = ap (λ ls. (s, low + g + 1) ∷ ls) (labels_remove (low + g + 1) n ps (omega (arith, lt)))
+
+  pub dead_remove : (low n : ℕ) (ps : List (Place K V)) → n < length (live_pairs ps) → dead_pairs (take n ps ++ buried (drop n ps)) ≡ fallen n (labels_above low ps) (live_pairs ps) ++ dead_pairs ps
+  dead_remove low zero [] lt = absurd (omega (arith, lt))
+  dead_remove low (suc n) [] lt = absurd (omega (arith, lt))
+  dead_remove low zero (Empty ∷ ps) lt = absurd (omega (arith, lt))
+  dead_remove low (suc n) (Empty ∷ ps) lt = absurd (omega (arith, lt))
+  dead_remove low zero (Dead s k v ∷ ps) lt = absurd (omega (arith, lt))
+  dead_remove low (suc n) (Dead s k v ∷ ps) lt = absurd (omega (arith, lt))
+  dead_remove low zero (Live s g k v ∷ ps) lt = dead_widened (g + 1) (sunk (Dead s k v) ps) ∙ dead_sunk s k v ps
+  dead_remove low (suc n) (Live s g k v ∷ ps) lt = dead_remove (low + g + 1) n ps (omega (arith, lt))
+
+  pub top_remove : (n : ℕ) (ps : List (Place K V)) → n < length (live_pairs ps) → top (take n ps ++ buried (drop n ps)) ≤ top ps
+  top_remove zero [] lt = absurd (omega (arith, lt))
+  top_remove (suc n) [] lt = absurd (omega (arith, lt))
+  top_remove zero (Empty ∷ ps) lt = absurd (omega (arith, lt))
+  top_remove (suc n) (Empty ∷ ps) lt = absurd (omega (arith, lt))
+  top_remove zero (Dead s k v ∷ ps) lt = absurd (omega (arith, lt))
+  top_remove (suc n) (Dead s k v ∷ ps) lt = absurd (omega (arith, lt))
+  top_remove zero (Live s g k v ∷ ps) lt = omega (arith, top_widened (g + 1) (sunk (Dead s k v) ps), top_sunk s k v ps)
+  top_remove (suc n) (Live s g k v ∷ ps) lt = let h : n < length (live_pairs ps) = omega (arith, lt) in omega (arith, top_remove n ps h)
+
+  pub uses_remove : (slot n : ℕ) (ps : List (Place K V)) → n < length (live_pairs ps) → uses slot (take n ps ++ buried (drop n ps)) ≡ uses slot ps
+  uses_remove slot zero [] lt = absurd (omega (arith, lt))
+  uses_remove slot (suc n) [] lt = absurd (omega (arith, lt))
+  uses_remove slot zero (Empty ∷ ps) lt = absurd (omega (arith, lt))
+  uses_remove slot (suc n) (Empty ∷ ps) lt = absurd (omega (arith, lt))
+  uses_remove slot zero (Dead s k v ∷ ps) lt = absurd (omega (arith, lt))
+  uses_remove slot (suc n) (Dead s k v ∷ ps) lt = absurd (omega (arith, lt))
+  uses_remove slot zero (Live s g k v ∷ ps) lt = uses_widened slot (g + 1) (sunk (Dead s k v) ps) ∙ uses_sunk s k v slot ps
+  uses_remove slot (suc n) (Live s g k v ∷ ps) lt = let h : n < length (live_pairs ps) = omega (arith, lt) in omega (arith, uses_remove slot n ps h)
+
+  pub packed_remove : (n : ℕ) (ps : List (Place K V)) → n < length (live_pairs ps) → IsPacked ps → IsPacked (take n ps ++ buried (drop n ps))
+  packed_remove zero [] lt h = absurd (omega (arith, lt))
+  packed_remove (suc n) [] lt h = absurd (omega (arith, lt))
+  packed_remove zero (Empty ∷ ps) lt h = absurd (omega (arith, lt))
+  packed_remove (suc n) (Empty ∷ ps) lt h = absurd (omega (arith, lt))
+  packed_remove zero (Dead s k v ∷ ps) lt h = absurd (omega (arith, lt))
+  packed_remove (suc n) (Dead s k v ∷ ps) lt h = absurd (omega (arith, lt))
+  packed_remove zero (Live s g k v ∷ ps) lt h = packed_widened (g + 1) (sunk (Dead s k v) ps) (packed_sunk s k v ps h)
+  packed_remove (suc n) (Live s g k v ∷ ps) lt h = packed_remove n ps (omega (arith, lt)) h
+
+  pub length_remove : (n : ℕ) (ps : List (Place K V)) → n < length (live_pairs ps) → length (live_pairs (take n ps ++ buried (drop n ps))) + 1 ≡ length (live_pairs ps)
+  length_remove zero [] lt = absurd (omega (arith, lt))
+  length_remove (suc n) [] lt = absurd (omega (arith, lt))
+  length_remove zero (Empty ∷ ps) lt = absurd (omega (arith, lt))
+  length_remove (suc n) (Empty ∷ ps) lt = absurd (omega (arith, lt))
+  length_remove zero (Dead s k v ∷ ps) lt = absurd (omega (arith, lt))
+  length_remove (suc n) (Dead s k v ∷ ps) lt = absurd (omega (arith, lt))
+  length_remove zero (Live s g k v ∷ ps) lt = omega (arith, ap length (live_widened (g + 1) (sunk (Dead s k v) ps)), ap length (live_sunk s k v ps))
+  length_remove (suc n) (Live s g k v ∷ ps) lt = let h : n < length (live_pairs ps) = omega (arith, lt) in omega (arith, length_remove n ps h)
+
+  pub length_fallen : (low n : ℕ) (ps : List (Place K V)) → n < length (live_pairs ps) → length (fallen n (labels_above low ps) (live_pairs ps)) ≡ 1
+  length_fallen low zero [] lt = absurd (omega (arith, lt))
+  length_fallen low (suc n) [] lt = absurd (omega (arith, lt))
+  length_fallen low zero (Empty ∷ ps) lt = absurd (omega (arith, lt))
+  length_fallen low (suc n) (Empty ∷ ps) lt = absurd (omega (arith, lt))
+  length_fallen low zero (Dead s k v ∷ ps) lt = absurd (omega (arith, lt))
+  length_fallen low (suc n) (Dead s k v ∷ ps) lt = absurd (omega (arith, lt))
+  length_fallen low zero (Live s g k v ∷ ps) lt = refl
+  length_fallen low (suc n) (Live s g k v ∷ ps) lt = length_fallen (low + g + 1) n ps (omega (arith, lt))
+
+  -- ---- the live place behind n live ones, with another slot and pair
+
+  module _ (s : ℕ) (key : K) (val : V) where
+    pub labels_renew : (low n : ℕ) (ps : List (Place K V)) → n < length (live_pairs ps) → labels_above low (take n ps ++ renewed s key val (drop n ps)) ≡ handed_on n s (labels_above low ps)
+    labels_renew low zero [] lt = absurd (omega (arith, lt))
+    labels_renew low (suc n) [] lt = absurd (omega (arith, lt))
+    labels_renew low zero (Empty ∷ ps) lt = absurd (omega (arith, lt))
+    labels_renew low (suc n) (Empty ∷ ps) lt = absurd (omega (arith, lt))
+    labels_renew low zero (Dead t k v ∷ ps) lt = absurd (omega (arith, lt))
+    labels_renew low (suc n) (Dead t k v ∷ ps) lt = absurd (omega (arith, lt))
+    labels_renew low zero (Live t g k v ∷ ps) lt = refl
+    labels_renew low (suc n) (Live t g k v ∷ ps) lt = ap (λ ls. (t, low + g + 1) ∷ ls) (labels_renew (low + g + 1) n ps (omega (arith, lt)))
+
+    pub dead_renew : (n : ℕ) (ps : List (Place K V)) → dead_pairs (take n ps ++ renewed s key val (drop n ps)) ≡ dead_pairs ps
+    dead_renew zero [] = refl
+    dead_renew zero (Empty ∷ ps) = refl
+    dead_renew zero (Dead t k v ∷ ps) = refl
+    dead_renew zero (Live t g k v ∷ ps) = refl
+    dead_renew (suc n) [] = refl
+    dead_renew (suc n) (Empty ∷ ps) = dead_renew n ps
+    dead_renew (suc n) (Dead t k v ∷ ps) = ap (λ ds. (t, (k, v)) ∷ ds) (dead_renew n ps)
+    dead_renew (suc n) (Live t g k v ∷ ps) = dead_renew n ps
+
+    pub top_renew : (n : ℕ) (ps : List (Place K V)) → top (take n ps ++ renewed s key val (drop n ps)) ≡ top ps
+    top_renew zero [] = refl
+    top_renew zero (Empty ∷ ps) = refl
+    top_renew zero (Dead t k v ∷ ps) = refl
+    top_renew zero (Live t g k v ∷ ps) = refl
+    top_renew (suc n) [] = refl
+    top_renew (suc n) (Empty ∷ ps) = refl
+    top_renew (suc n) (Dead t k v ∷ ps) = refl
+    top_renew (suc n) (Live t g k v ∷ ps) = ap (λ m. g + 1 + m) (top_renew n ps)
+
+    pub length_renew : (n : ℕ) (ps : List (Place K V)) → length (live_pairs (take n ps ++ renewed s key val (drop n ps))) ≡ length (live_pairs ps)
+    length_renew zero [] = refl
+    length_renew zero (Empty ∷ ps) = refl
+    length_renew zero (Dead t k v ∷ ps) = refl
+    length_renew zero (Live t g k v ∷ ps) = refl
+    length_renew (suc n) [] = refl
+    length_renew (suc n) (Empty ∷ ps) = refl
+    length_renew (suc n) (Dead t k v ∷ ps) = refl
+    length_renew (suc n) (Live t g k v ∷ ps) = omega (arith, length_renew n ps)
+
+    pub packed_renew : (n : ℕ) (ps : List (Place K V)) → n < length (live_pairs ps) → IsPacked ps → IsPacked (take n ps ++ renewed s key val (drop n ps))
+    packed_renew zero [] lt h = h
+    packed_renew zero (Empty ∷ ps) lt h = h
+    packed_renew zero (Dead t k v ∷ ps) lt h = h
+    packed_renew zero (Live t g k v ∷ ps) lt h = h
+    packed_renew (suc n) [] lt h = h
+    packed_renew (suc n) (Empty ∷ ps) lt h = absurd (omega (arith, lt))
+    packed_renew (suc n) (Dead t k v ∷ ps) lt h = absurd (omega (arith, lt))
+    packed_renew (suc n) (Live t g k v ∷ ps) lt h = packed_renew n ps (omega (arith, lt)) h
+
+  -- what it was
+  pub record WasLive (low n : ℕ) (ps : List (Place K V)) : Type 0 where
+    pub slot : ℕ
+    pub key : K
+    pub val : V
+    pub died_is : died (drop n ps) ≡ Dead slot key val
+    pub fallen_is : fallen n (labels_above low ps) (live_pairs ps) ≡ (slot, (key, val)) ∷ []
+    pub uses_is : (s : ℕ) (k : K) (v : V) (other : ℕ) → uses other (take n ps ++ renewed s k v (drop n ps)) + cond (slot == other) 1 0 ≡ cond (s == other) 1 0 + uses other ps
+
+  pub was_live : (low n : ℕ) (ps : List (Place K V)) → n < length (live_pairs ps) → WasLive low n ps
+  was_live low zero [] lt = absurd (omega (arith, lt))
+  was_live low (suc n) [] lt = absurd (omega (arith, lt))
+  was_live low zero (Empty ∷ ps) lt = absurd (omega (arith, lt))
+  was_live low (suc n) (Empty ∷ ps) lt = absurd (omega (arith, lt))
+  was_live low zero (Dead t k v ∷ ps) lt = absurd (omega (arith, lt))
+  was_live low (suc n) (Dead t k v ∷ ps) lt = absurd (omega (arith, lt))
+  was_live low zero (Live t g k v ∷ ps) lt = record { slot = t; key = k; val = v; died_is = refl; fallen_is = refl; uses_is = λ s l w other. omega arith }
+  was_live low (suc n) (Live t g k v ∷ ps) lt =
+      let w = was_live (low + g + 1) n ps (omega (arith, lt)) in
+      record { slot = w.slot; key = w.key; val = w.val; died_is = w.died_is; fallen_is = w.fallen_is; uses_is = λ s l x other. omega (arith, w.uses_is s l x other) }

@@ -63,6 +63,16 @@ module _ {K V : Type 0} where
   abbrev pub no_cells : Bool → Cells K V
   no_cells frozen = record { pairs = []; used = 0; frozen = frozen; retired = false; labels = []; buried = [] }
 
+  -- without the pair behind n others; an array that loses its last pair retires, unless it is frozen
+  abbrev pub removed_at : ℕ → Cells K V → Cells K V
+  removed_at n a =
+      record a {
+        pairs = remove a.pairs n;
+        retired = a.retired || is_nil (remove a.pairs n) && not a.frozen;
+        labels = remove a.labels n;
+        buried = fallen n a.labels a.pairs ++ a.buried;
+      }
+
   module _ (cmp : K → K → Ordering) (key : K) where
     -- how many pairs at the front have a lesser key
     abbrev pub lesser : List (K × V) → ℕ
@@ -89,11 +99,4 @@ module _ {K V : Type 0} where
 
     -- without the pair that has the key
     abbrev pub removed : Cells K V → Cells K V
-    removed a =
-        let left : List (K × V) = remove_entry (is_at (cmp key)) a.pairs in
-        record a {
-          pairs = left;
-          retired = a.retired || is_nil left;
-          labels = remove a.labels (lesser a.pairs);
-          buried = fallen (lesser a.pairs) a.labels a.pairs ++ a.buried;
-        }
+    removed a = record (removed_at (lesser a.pairs) a) { pairs = remove_entry (is_at (cmp key)) a.pairs }

@@ -7,7 +7,7 @@ use Rattle.std.specs.List.Sorted.{IsStrictlySortedBy}
 use Rattle.std.specs.Map.{keys_of}
 use Rattle.leaf_array.specs.declared.slots.Place.{Place}
 use Rattle.leaf_array.specs.declared.slots.Place.TheVariants.{Empty, Dead, Live}
-use Rattle.leaf_array.specs.Cells.{slot_of}
+use Rattle.leaf_array.specs.Cells.{Cells, slot_of}
 
 module _ {K V : Type 0} where
   abbrev pub is_empty : Place K V → Bool
@@ -176,3 +176,8 @@ pub record IsSound {K V : Type 0} (cmp : K → K → Ordering) (ps : List (Place
   pub within : used ≤ 15
   pub ranks : top ps ≤ used
   pub slots : (slot : ℕ) → uses slot ps ≡ uses_below slot used
+
+-- what a contract sees of an array with these places
+abbrev pub cells_of : {K V : Type 0} → List (Place K V) → ℕ → Bool → Bool → Cells K V
+cells_of ps used frozen retired =
+    record { pairs = live_pairs ps; used = used; frozen = frozen; retired = retired; labels = labels_above 0 ps; buried = dead_pairs ps }

@@ -1,4 +1,9 @@
 //! Arrays of the leaves of a tree.
 #![tactic(auto)]
 
+mod array;
+mod result;
 mod slots;
+
+pub use array::Array;
+pub use result::{DIMENSION, Dimension, InsertResult, RemoveResult};

@@ -6,8 +6,8 @@
 ghost use Rattle.std.specs.Prelude.{◌≡◌, ℕ, ◌+◌, ◌<◌, ◌≤◌, ◌++◌, ◌∷◌, ◌↔◌, [], List, length, take, drop, IsTrue, IsSome, Some, None, MatchOption, IfOk, IfErr, slice_index_or};
 ghost use Rattle.std.specs.Ordering.{is_lt};
 ghost use Rattle.leaf_array.specs.declared.slots.Place.TheVariants.{Empty};
-ghost use Rattle.leaf_array.specs.Cells.{slot_of, rank_in};
-ghost use Rattle.leaf_array.specs.Places.{is_empty, live_pair, live_pairs, labels_above, dead_pairs, top, has_room, pushed, sunk, widened, buried, renewed, died, packed, pair_at_slot, below, least, no_places, IsPacked, IsHit, IsMiss};
+ghost use Rattle.leaf_array.specs.Cells.{slot_of, rank_in, lesser};
+ghost use Rattle.leaf_array.specs.Places.{is_empty, live_pair, live_pairs, labels_above, dead_pairs, top, has_room, pushed, sunk, widened, buried, renewed, died, packed, pair_at_slot, below, least, no_places, IsPacked};
 
 use std::cmp::Ordering;
 use std::marker::Model;
@@ -38,7 +38,11 @@ pub(crate) fn slot_of(place: u8) -> u8
     ensures slot { result ≡ slot_of place }
     ensures within { result < 15 }
 {
-    if place < 12 { place - place % 4 + (place + 1) % 4 } else { place }
+    if place < 12 {
+        place - place % 4 + (place + 1) % 4
+    } else {
+        place
+    }
 }
 
 /// Puts a place where an empty one is.
@@ -60,7 +64,17 @@ fn widened<K, V>(place: Place<K, V>, more: u8) -> Place<K, V>
     ensures { result ∷ [] ≡ widened more (place ∷ []) }
 {
     match place {
-        Place::Live { slot, gap, key, value } => Place::Live { slot, gap: gap + more, key, value },
+        Place::Live {
+            slot,
+            gap,
+            key,
+            value,
+        } => Place::Live {
+            slot,
+            gap: gap + more,
+            key,
+            value,
+        },
         other => other,
     }
 }
@@ -216,7 +230,10 @@ impl<K: Ord, V, R: Row<K, V>> Row<K, V> for Link<K, V, R> {
 
     #[inline(always)]
     fn new() -> Self {
-        Link { head: Place::Empty, rest: R::new() }
+        Link {
+            head: Place::Empty,
+            rest: R::new(),
+        }
     }
 
     #[inline(always)]
@@ -233,7 +250,11 @@ impl<K: Ord, V, R: Row<K, V>> Row<K, V> for Link<K, V, R> {
     #[inline(always)]
     fn lower(&self, at: usize, key: &K) -> (usize, Option<(&K, &V)>) {
         match &self.head {
-            Place::Live { key: stored, value, .. } => {
+            Place::Live {
+                key: stored,
+                value,
+                ..
+            } => {
                 if compare(stored, key) == Ordering::Less {
                     self.rest.lower(at + 1, key)
                 } else {
@@ -249,7 +270,11 @@ impl<K: Ord, V, R: Row<K, V>> Row<K, V> for Link<K, V, R> {
         match &self.head {
             Place::Live { slot: own, gap, .. } => {
                 let rank = low + *gap + 1;
-                if *own == slot { rank } else { self.rest.rank_of(slot, rank) }
+                if *own == slot {
+                    rank
+                } else {
+                    self.rest.rank_of(slot, rank)
+                }
             },
             _ => 0,
         }
@@ -258,8 +283,17 @@ impl<K: Ord, V, R: Row<K, V>> Row<K, V> for Link<K, V, R> {
     #[inline(always)]
     fn in_slot(&self, slot: u8) -> Option<(&K, &V)> {
         match &self.head {
-            Place::Live { slot: own, key, value, .. } if *own == slot => Some((key, value)),
-            Place::Dead { slot: own, key, value } if *own == slot => Some((key, value)),
+            Place::Live {
+                slot: own,
+                key,
+                value,
+                ..
+            } if *own == slot => Some((key, value)),
+            Place::Dead {
+                slot: own,
+                key,
+                value,
+            } if *own == slot => Some((key, value)),
             _ => self.rest.in_slot(slot),
         }
     }
@@ -307,7 +341,12 @@ impl<K: Ord, V, R: Row<K, V>> Row<K, V> for Link<K, V, R> {
             return;
         }
         match mem::replace(&mut self.head, Place::Empty) {
-            Place::Live { slot, gap, key, value } => {
+            Place::Live {
+                slot,
+                gap,
+                key,
+                value,
+            } => {
                 let next = self.rest.pull(Place::Dead { slot, key, value });
                 fill(&mut self.head, widened(next, gap + 1));
             },
@@ -325,16 +364,38 @@ impl<K: Ord, V, R: Row<K, V>> Row<K, V> for Link<K, V, R> {
             return self.rest.renew(at - 1, slot, key, value);
         }
         match mem::replace(&mut self.head, Place::Empty) {
-            Place::Live { slot: old, gap, key: k, value: v } => {
-                fill(&mut self.head, Place::Live { slot, gap, key, value });
-                Place::Dead { slot: old, key: k, value: v }
+            Place::Live {
+                slot: old,
+                gap,
+                key: k,
+                value: v,
+            } => {
+                fill(
+                    &mut self.head,
+                    Place::Live {
+                        slot,
+                        gap,
+                        key,
+                        value,
+                    },
+                );
+                Place::Dead {
+                    slot: old,
+                    key: k,
+                    value: v,
+                }
             },
             _ => unreachable!(),
         }
     }
 }
 
-type Seven<K, V, R> = Link<K, V, Link<K, V, Link<K, V, Link<K, V, Link<K, V, Link<K, V, Link<K, V, R>>>>>>>;
+type Seven<K, V, R> = Link<
+    K,
+    V,
+    Link<K, V, Link<K, V, Link<K, V, Link<K, V, Link<K, V, Link<K, V, R>>>>>>,
+>;
+
 type Upper<K, V> = Link<K, V, Seven<K, V, End>>;
 
 /// Fifteen places: live ones by rising keys, then dead ones, then empty ones.
@@ -354,7 +415,10 @@ impl<K, V> Model for Slots<K, V> {
 
 impl<K: Ord, V> Slots<K, V> {
     ghost use Rattle.std.specs.List.Sorted.{IsStrictlySortedBy};
-    ghost use Rattle.std.specs.Map.{keys_of};
+    ghost use Rattle.std.specs.Map.{keys_of, lookup};
+    ghost use Rattle.std.specs.BTreeMap.{is_at};
+    ghost use Rattle.std.specs.Option.{is_some};
+    ghost use Rattle.std.specs.Prelude.{true, false};
 
     #[inline(always)]
     pub(crate) fn new() -> Self
@@ -394,8 +458,8 @@ impl<K: Ord, V> Slots<K, V> {
     pub(crate) fn find(&self, key: &K) -> Result<usize, usize>
         requires packed { IsPacked self.now }
         requires sorted { IsStrictlySortedBy K.cmp (keys_of (live_pairs self.now)) }
-        ensures hit { IfOk result (λ at. (at ≡ below K.cmp key.now self.now) × IsHit K.cmp key.now self.now) }
-        ensures miss { IfErr result (λ at. (at ≡ below K.cmp key.now self.now) × IsMiss K.cmp key.now self.now) }
+        ensures hit { IfOk result (λ at. (at ≡ lesser K.cmp key.now (live_pairs self.now)) × (is_some (lookup (is_at (K.cmp key.now)) (live_pairs self.now)) ≡ true)) }
+        ensures miss { IfErr result (λ at. (at ≡ lesser K.cmp key.now (live_pairs self.now)) × (is_some (lookup (is_at (K.cmp key.now)) (live_pairs self.now)) ≡ false)) }
     {
         let (at, pair) = self.lower(key);
         match pair {

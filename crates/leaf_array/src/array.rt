@@ -1,0 +1,262 @@
+//! An array of at most fifteen pairs, by rising keys.
+
+ghost use Rattle.std.specs.Prelude.{◌≡◌, ◌↔◌, ℕ, ◌+◌, ◌==◌, ◌<◌, ◌≤◌, ◌||◌, ◌&&◌, not, IsTrue, IsSome, [], length, slice_get, true, false, Some, None, MatchOption, IfSome, IfOk, IfErr};
+ghost use Rattle.std.specs.BTreeMap.{is_at};
+ghost use Rattle.std.specs.Map.{lookup_entry, lookup, keys_of};
+ghost use Rattle.std.specs.List.Sorted.{IsStrictlySortedBy};
+ghost use Rattle.std.specs.Fn.{FnOnceReturnsAt};
+ghost use Rattle.leaf_array.specs.Cells.{no_cells, is_nil, lesser, has, inserted, replaced, removed, removed_at};
+ghost use Rattle.leaf_array.specs.Results.{IsSuccess, IsDuplicate, IsFull, given_back, is_repeated, is_refused, is_removal};
+ghost use Rattle.leaf_array.specs.declared.result.RemoveResult.TheVariants.{Retired, Fail, Frozen};
+
+use crate::result::{InsertResult, RemoveResult};
+use crate::slots::{Place, Slots, compare, slot_of};
+use std::cmp::Ordering;
+use std::marker::Model;
+
+/// At most fifteen pairs, by rising keys.
+///
+/// The live places come first and rise, then the dead ones, then the empty ones.
+#[derive(Drop)]
+pub struct Array<K: Ord, V> {
+    len: u8,
+    used: u8,
+    frozen: bool,
+    retired: bool,
+    slots: Slots<K, V>,
+}
+
+impl<K: Ord, V> Model for Array<K, V> {
+    ghost use Rattle.leaf_array.specs.Cells.{Cells, cells_code};
+    ghost use Rattle.leaf_array.specs.Places.{IsSound, cells_of};
+
+    ghost Value = { Cells K V };
+
+    ghost coded = { cells_code K.code V.code };
+
+    ghost view = { λ a. cells_of a.slots a.used a.frozen a.retired };
+
+    ghost invariant = { λ a. IsSound K.cmp a.slots a.len a.used };
+}
+
+impl<K: Ord, V> Array<K, V> {
+    /// An array without pairs.
+    #[inline]
+    pub fn new() -> Self
+        ensures { result ≡ no_cells false }
+    {
+        Array {
+            len: 0,
+            used: 0,
+            frozen: false,
+            retired: false,
+            slots: Slots::new(),
+        }
+    }
+
+    /// An array without pairs that takes none before it is unfrozen.
+    #[inline]
+    pub fn new_frozen() -> Self
+        ensures { result ≡ no_cells true }
+    {
+        Array {
+            len: 0,
+            used: 0,
+            frozen: true,
+            retired: false,
+            slots: Slots::new(),
+        }
+    }
+
+    /// How many pairs can be reached.
+    #[inline(always)]
+    pub fn len(&self) -> usize
+        ensures { result ≡ length self.now.pairs }
+    {
+        usize::from(self.len)
+    }
+
+    /// Whether no pair can be reached.
+    #[inline(always)]
+    pub fn is_empty(&self) -> bool
+        ensures { result ≡ is_nil self.now.pairs }
+    {
+        self.len == 0
+    }
+
+    /// Whether all fifteen places are used, or the array is retired.
+    #[inline(always)]
+    pub fn is_full(&self) -> bool
+        ensures { result ≡ (self.now.used == 15 || self.now.retired) }
+    {
+        self.used == 15 || self.retired
+    }
+
+    /// Whether the last pair was removed.
+    #[inline(always)]
+    pub fn is_retired(&self) -> bool
+        ensures { result ≡ self.now.retired }
+    {
+        self.retired
+    }
+
+    /// The place of the pair with this key, and the pair.
+    #[inline(always)]
+    fn found(&self, key: &K) -> Option<(usize, (&K, &V))>
+        ensures { MatchOption result (lookup_entry (is_at (K.cmp key.now)) self.now.pairs ≡ None) (λ f. (f.0 ≡ lesser K.cmp key.now self.now.pairs) × (f.0 < length self.now.pairs) × (lookup_entry (is_at (K.cmp key.now)) self.now.pairs ≡ Some (f.1.0.now, f.1.1.now))) }
+    {
+        let (at, pair) = self.slots.lower(key);
+        match pair {
+            Some((stored, value)) => match compare(stored, key) {
+                Ordering::Equal => Some((at, (stored, value))),
+                _ => None,
+            },
+            None => None,
+        }
+    }
+
+    /// The place of the pair with this key, or the place that a new one would take.
+    #[inline(always)]
+    fn find(&self, key: &K) -> Result<usize, usize>
+        ensures hit { IfOk result (λ at. (at ≡ lesser K.cmp key.now self.now.pairs) × (has K.cmp key.now self.now ≡ true)) }
+        ensures miss { IfErr result (λ at. (at ≡ lesser K.cmp key.now self.now.pairs) × (has K.cmp key.now self.now ≡ false)) }
+    {
+        self.slots.find(key)
+    }
+
+    /// Puts a new pair in at `at`.
+    #[inline(always)]
+    fn place(&mut self, at: usize, key: K, val: V)
+        requires room { self.old.used < 15 }
+        requires place { at ≡ lesser K.cmp key self.old.pairs }
+        requires absent { has K.cmp key self.old ≡ false }
+        ensures { self.new ≡ inserted K.cmp key val self.old }
+    {
+        let slot = slot_of(self.used);
+        self.slots.insert(
+            at,
+            Place::Live {
+                slot,
+                gap: 0,
+                key,
+                value: val,
+            },
+        );
+        self.len += 1;
+        self.used += 1;
+    }
+
+    /// Puts a pair in the place of the one at `at`, which has its key.
+    fn replace(&mut self, at: usize, key: K, val: V)
+        requires room { self.old.used < 15 }
+        requires place { at ≡ lesser K.cmp key self.old.pairs }
+        requires there { has K.cmp key self.old ≡ true }
+        ensures { self.new ≡ replaced K.cmp key val self.old }
+    {
+        let dead = self.slots.renew(at, slot_of(self.used), key, val);
+        self.slots.insert(usize::from(self.len), dead);
+        self.used += 1;
+    }
+
+    /// Removes the pair at `at`.
+    #[inline(always)]
+    fn bury(&mut self, at: usize)
+        requires { at < length self.old.pairs }
+        ensures { self.new ≡ removed_at at self.old }
+    {
+        self.slots.bury(at);
+        self.len -= 1;
+        self.retired = retires(self.retired, self.len, self.frozen);
+    }
+
+    /// The pair with this key.
+    #[inline(always)]
+    pub fn search_entry(&self, key: &K) -> Option<(&K, &V)>
+        ensures { MatchOption result (lookup_entry (is_at (K.cmp key.now)) self.now.pairs ≡ None) (λ e. lookup_entry (is_at (K.cmp key.now)) self.now.pairs ≡ Some (e.0.now, e.1.now)) }
+    {
+        match self.found(key) {
+            Some((_, pair)) => Some(pair),
+            None => None,
+        }
+    }
+
+    /// Inserts a pair, and where `UPSERT` is true puts it in the place of the one that has its key.
+    #[inline]
+    pub fn insert<const UPSERT: bool>(&mut self, key: K, val: V) -> InsertResult<K, V>
+        ensures full { IsFull result ↔ IsTrue (is_refused UPSERT K.cmp key self.old) }
+        ensures duplicate { IsDuplicate result ↔ IsTrue (is_repeated UPSERT K.cmp key self.old) }
+        ensures back { IfSome (given_back result) (λ p. p ≡ (key, val)) }
+        ensures kept { IsSome (given_back result) → self.new ≡ self.old }
+        ensures inserted { IsSuccess result → has K.cmp key self.old ≡ false → self.new ≡ inserted K.cmp key val self.old }
+        ensures replaced { IsSuccess result → has K.cmp key self.old ≡ true → self.new ≡ replaced K.cmp key val self.old }
+    {
+        if self.frozen || self.retired {
+            return InsertResult::Full(key, val);
+        }
+        match self.find(&key) {
+            Ok(at) => {
+                if !UPSERT {
+                    return InsertResult::Duplicate(key, val);
+                }
+                if self.used == 15 {
+                    return InsertResult::Full(key, val);
+                }
+                self.replace(at, key, val);
+            },
+            Err(at) => {
+                if self.used == 15 {
+                    return InsertResult::Full(key, val);
+                }
+                self.place(at, key, val);
+            },
+        }
+        InsertResult::Success
+    }
+
+    /// Removes the pair with this key, if the condition answers true of its value.
+    #[inline]
+    pub fn remove_if<F: FnOnce(&V) -> bool>(&mut self, key: &K, condition: F) -> RemoveResult
+    where
+        F: Drop,
+        requires { F.IsAlwaysCallable condition }
+        ensures frozen { result ≡ Frozen ↔ self.old.frozen ≡ true }
+        ensures absent { self.old.frozen ≡ false → lookup_entry (is_at (K.cmp key.now)) self.old.pairs ≡ None → result ≡ Fail }
+        ensures asked { self.old.frozen ≡ false → IfSome (lookup_entry (is_at (K.cmp key.now)) self.old.pairs) (λ e. FnOnceReturnsAt F.FnOnce condition e.1 (is_removal result)) }
+        ensures removed { is_removal result ≡ true → self.new ≡ removed K.cmp key.now self.old }
+        ensures kept { is_removal result ≡ false → self.new ≡ self.old }
+        ensures last { is_removal result ≡ true → (result ≡ Retired ↔ self.new.pairs ≡ []) }
+    {
+        if self.frozen {
+            return RemoveResult::Frozen;
+        }
+        let Some((at, (_, value))) = self.found(key) else {
+            return RemoveResult::Fail;
+        };
+        if !answer(condition, value) {
+            return RemoveResult::Fail;
+        }
+        self.bury(at);
+        if self.len == 0 {
+            RemoveResult::Retired
+        } else {
+            RemoveResult::Success
+        }
+    }
+}
+
+/// Whether an array with `len` pairs is retired after a removal.
+#[inline(always)]
+fn retires(retired: bool, len: u8, frozen: bool) -> bool
+    ensures { result ≡ (retired || len == 0 && not frozen) }
+{
+    retired || len == 0 && !frozen
+}
+
+/// What the condition answers, asked once.
+#[inline(always)]
+fn answer<T, F: FnOnce(&T) -> bool>(condition: F, value: &T) -> bool
+    requires { F.IsAlwaysCallable condition }
+    ensures { FnOnceReturnsAt F.FnOnce condition value.now result }
+{
+    condition(value)
+}
