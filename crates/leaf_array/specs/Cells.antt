@@ -47,6 +47,11 @@ handed_on n slot [] = []
 handed_on zero slot (l ∷ ls) = (slot, l.1) ∷ ls
 handed_on (suc n) slot (l ∷ ls) = l ∷ handed_on n slot ls
 
+-- the labels of n pairs in the slots of the bitmap places from this one on, without gaps
+abbrev pub fresh_labels : ℕ → ℕ → List (ℕ × ℕ)
+fresh_labels place zero = []
+fresh_labels place (suc n) = (slot_of place, place + 1) ∷ fresh_labels (place + 1) n
+
 -- slot and pair behind n others
 abbrev pub fallen : {K V : Type 0} → ℕ → List (ℕ × ℕ) → List (K × V) → List (ℕ × (K × V))
 fallen n [] ps = []
@@ -62,6 +67,10 @@ module _ {K V : Type 0} where
   -- an array without pairs
   abbrev pub no_cells : Bool → Cells K V
   no_cells frozen = record { pairs = []; used = 0; frozen = frozen; retired = false; labels = []; buried = [] }
+
+  -- an array with these pairs in the lowest places, and nothing else
+  abbrev pub filled : Bool → List (K × V) → Cells K V
+  filled frozen pairs = record { pairs = pairs; used = length pairs; frozen = frozen; retired = false; labels = fresh_labels 0 (length pairs); buried = [] }
 
   -- without the pair behind n others; an array that loses its last pair retires, unless it is frozen
   abbrev pub removed_at : ℕ → Cells K V → Cells K V

@@ -93,6 +93,13 @@ module _ {K V : Type 0} where
   died (Dead s k v ∷ ps) = Empty
   died (Live s g k v ∷ ps) = Dead s k v
 
+  -- the first place, if it is live, empty
+  abbrev pub vacated : List (Place K V) → List (Place K V)
+  vacated [] = []
+  vacated (Empty ∷ ps) = Empty ∷ ps
+  vacated (Dead s k v ∷ ps) = Dead s k v ∷ ps
+  vacated (Live s g k v ∷ ps) = Empty ∷ ps
+
   -- numbered anew from the bitmap place n on, the dead ones empty
   abbrev pub packed : ℕ → List (Place K V) → List (Place K V)
   packed n [] = []
@@ -109,6 +116,10 @@ module _ {K V : Type 0} where
 
   abbrev pub no_places : List (Place K V)
   no_places = Empty ∷ Empty ∷ Empty ∷ Empty ∷ Empty ∷ Empty ∷ Empty ∷ Empty ∷ Empty ∷ Empty ∷ Empty ∷ Empty ∷ Empty ∷ Empty ∷ Empty ∷ []
+
+  -- seven empty places
+  abbrev pub no_half : List (Place K V)
+  no_half = Empty ∷ Empty ∷ Empty ∷ Empty ∷ Empty ∷ Empty ∷ Empty ∷ []
 
   -- all are empty
   abbrev pub IsEmptied : List (Place K V) → Type 0

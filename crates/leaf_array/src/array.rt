@@ -1,11 +1,11 @@
 //! An array of at most fifteen pairs, by rising keys.
 
-ghost use Rattle.std.specs.Prelude.{◌≡◌, ◌↔◌, ℕ, ◌+◌, ◌==◌, ◌<◌, ◌≤◌, ◌||◌, ◌&&◌, not, IsTrue, IsSome, [], length, slice_get, true, false, Some, None, MatchOption, IfSome, IfOk, IfErr};
+ghost use Rattle.std.specs.Prelude.{◌≡◌, ◌↔◌, ℕ, ◌+◌, ◌==◌, ◌<◌, ◌≤◌, ◌||◌, ◌&&◌, ◌-◌, not, take, drop, IsTrue, IsSome, [], length, slice_get, true, false, Some, None, MatchOption, IfSome, IfOk, IfErr};
 ghost use Rattle.std.specs.BTreeMap.{is_at};
 ghost use Rattle.std.specs.Map.{lookup_entry, lookup, keys_of};
 ghost use Rattle.std.specs.List.Sorted.{IsStrictlySortedBy};
 ghost use Rattle.std.specs.Fn.{FnOnceReturnsAt};
-ghost use Rattle.leaf_array.specs.Cells.{no_cells, is_nil, lesser, has, inserted, replaced, removed, removed_at};
+ghost use Rattle.leaf_array.specs.Cells.{no_cells, is_nil, lesser, has, inserted, replaced, removed, removed_at, filled};
 ghost use Rattle.leaf_array.specs.Results.{IsSuccess, IsDuplicate, IsFull, given_back, is_repeated, is_refused, is_removal};
 ghost use Rattle.leaf_array.specs.declared.result.RemoveResult.TheVariants.{Retired, Fail, Frozen};
 
@@ -71,7 +71,10 @@ impl<K: Ord, V> Array<K, V> {
     /// How many pairs can be reached.
     #[inline(always)]
     pub fn len(&self) -> usize
-        ensures { result ≡ length self.now.pairs }
+        ensures count { result ≡ length self.now.pairs }
+        ensures ordered { IsStrictlySortedBy K.cmp (keys_of self.now.pairs) }
+        ensures used { self.now.used ≡ length self.now.pairs + length self.now.buried }
+        ensures within { self.now.used ≤ 15 }
     {
         usize::from(self.len)
     }
@@ -178,6 +181,90 @@ impl<K: Ord, V> Array<K, V> {
             Some((_, pair)) => Some(pair),
             None => None,
         }
+    }
+
+    /// The value of the pair with this key.
+    #[inline(always)]
+    pub fn search_val(&self, key: &K) -> Option<&V>
+        ensures { MatchOption result (lookup_entry (is_at (K.cmp key.now)) self.now.pairs ≡ None) (λ v. (k : K) × (lookup_entry (is_at (K.cmp key.now)) self.now.pairs ≡ Some (k, v.now))) }
+    {
+        match self.found(key) {
+            Some((_, (_, value))) => Some(value),
+            None => None,
+        }
+    }
+
+    /// How many keys are less, and the pair behind theirs: the least one whose key isn't less.
+    #[inline(always)]
+    pub fn lower_bound(&self, key: &K) -> (usize, Option<(&K, &V)>)
+        ensures place { result.0 ≡ lesser K.cmp key.now self.now.pairs }
+        ensures pair { MatchOption result.1 (slice_get self.now.pairs (lesser K.cmp key.now self.now.pairs) ≡ None) (λ e. slice_get self.now.pairs (lesser K.cmp key.now self.now.pairs) ≡ Some (e.0.now, e.1.now)) }
+    {
+        self.slots.lower(key)
+    }
+
+    /// The pair that comes behind `at` others.
+    #[inline(always)]
+    pub fn pair(&self, at: usize) -> Option<(&K, &V)>
+        ensures { MatchOption result (slice_get self.now.pairs at ≡ None) (λ e. slice_get self.now.pairs at ≡ Some (e.0.now, e.1.now)) }
+    {
+        let _ = &self.len;
+        if at < 15 { self.slots.pair(at) } else { None }
+    }
+
+    /// Drops what was removed or replaced, so that all its places are clear again. A retired array takes pairs again.
+    pub fn pack(&mut self)
+    where
+        K: Drop,
+        V: Drop,
+        ensures { self.new ≡ filled self.old.frozen self.old.pairs }
+    {
+        self.slots.renumber();
+        self.used = self.len;
+        self.retired = false;
+    }
+
+    /// Moves the eight least pairs to an array of their own. Both are packed.
+    pub fn split_half(&mut self) -> Self
+    where
+        K: Drop,
+        V: Drop,
+        ensures lower { result ≡ filled false (take 8 self.old.pairs) }
+        ensures upper { self.new ≡ filled self.old.frozen (drop 8 self.old.pairs) }
+    {
+        let mut slots = self.slots.split_half();
+        slots.renumber();
+        self.slots.renumber();
+        let len = self.len.min(8);
+        self.len -= len;
+        self.used = self.len;
+        self.retired = false;
+        Array {
+            len,
+            used: len,
+            frozen: false,
+            retired: false,
+            slots,
+        }
+    }
+
+    /// Takes the greatest pair out of the array, which is packed then.
+    pub fn pop_last(&mut self) -> Option<(K, V)>
+    where
+        K: Drop,
+        V: Drop,
+        ensures pair { result ≡ slice_get self.old.pairs (length self.old.pairs - 1) }
+        ensures rest { self.new ≡ filled self.old.frozen (take (length self.old.pairs - 1) self.old.pairs) }
+    {
+        self.slots.renumber();
+        self.retired = false;
+        self.used = self.len;
+        if self.len == 0 {
+            return None;
+        }
+        self.len -= 1;
+        self.used = self.len;
+        Some(self.slots.vacate(usize::from(self.len)))
     }
 
     /// Inserts a pair, and where `UPSERT` is true puts it in the place of the one that has its key.

@@ -7,7 +7,7 @@ ghost use Rattle.std.specs.Prelude.{◌≡◌, ℕ, ◌+◌, ◌<◌, ◌≤◌,
 ghost use Rattle.std.specs.Ordering.{is_lt};
 ghost use Rattle.leaf_array.specs.declared.slots.Place.TheVariants.{Empty};
 ghost use Rattle.leaf_array.specs.Cells.{slot_of, rank_in, lesser};
-ghost use Rattle.leaf_array.specs.Places.{is_empty, live_pair, live_pairs, labels_above, dead_pairs, top, has_room, pushed, sunk, widened, buried, renewed, died, packed, pair_at_slot, below, least, no_places, IsPacked};
+ghost use Rattle.leaf_array.specs.Places.{is_empty, live_pair, live_pairs, labels_above, dead_pairs, top, has_room, pushed, sunk, widened, buried, renewed, died, vacated, packed, pair_at_slot, below, least, no_places, no_half, IsPacked};
 
 use std::cmp::Ordering;
 use std::marker::Model;
@@ -136,6 +136,12 @@ pub(crate) trait Row<K: Ord, V> {
         requires { IsSome (live_pair (slice_index_or (places self.old) at Empty)) }
         ensures old { result ≡ died (drop at (places self.old)) }
         ensures new { places self.new ≡ take at (places self.old) ++ renewed slot key value (drop at (places self.old)) };
+
+    /// Takes the pair of the live place `at` out.
+    fn vacate(&mut self, at: usize) -> (K, V)
+        requires { IsSome (live_pair (slice_index_or (places self.old) at Empty)) }
+        ensures pair { Some result ≡ live_pair (slice_index_or (places self.old) at Empty) }
+        ensures places { places self.new ≡ take at (places self.old) ++ vacated (drop at (places self.old)) };
 }
 
 /// The end of a row.
@@ -215,6 +221,15 @@ impl<K: Ord, V> Row<K, V> for End {
         requires { IsSome (live_pair {K = K} {V = V} (slice_index_or [] at Empty)) }
         ensures old { result ≡ died (drop at []) }
         ensures new { [] ≡ take at [] ++ renewed slot key value (drop at []) }
+    {
+        unreachable!()
+    }
+
+    #[inline(always)]
+    fn vacate(&mut self, at: usize) -> (K, V)
+        requires { IsSome (live_pair {K = K} {V = V} (slice_index_or [] at Empty)) }
+        ensures pair { Some result ≡ live_pair {K = K} {V = V} (slice_index_or [] at Empty) }
+        ensures places { [] ≡ take at [] ++ vacated {K = K} {V = V} (drop at []) }
     {
         unreachable!()
     }
@@ -388,6 +403,26 @@ impl<K: Ord, V, R: Row<K, V>> Row<K, V> for Link<K, V, R> {
             _ => unreachable!(),
         }
     }
+
+    #[inline(always)]
+    fn vacate(&mut self, at: usize) -> (K, V)
+        requires { IsSome (live_pair (slice_index_or (self.old.head ∷ R.places self.old.rest) at Empty)) }
+        ensures pair { Some result ≡ live_pair (slice_index_or (self.old.head ∷ R.places self.old.rest) at Empty) }
+        ensures places { self.new.head ∷ R.places self.new.rest ≡ take at (self.old.head ∷ R.places self.old.rest) ++ vacated (drop at (self.old.head ∷ R.places self.old.rest)) }
+    {
+        if at > 0 {
+            return self.rest.vacate(at - 1);
+        }
+        match mem::replace(&mut self.head, Place::Empty) {
+            Place::Live {
+                slot: _,
+                gap: _,
+                key,
+                value,
+            } => (key, value),
+            _ => unreachable!(),
+        }
+    }
 }
 
 type Seven<K, V, R> = Link<
@@ -524,5 +559,141 @@ fn precedes<K: Ord, V>(place: &Place<K, V>, key: &K) -> bool
     match place {
         Place::Live { key: stored, .. } => compare(stored, key) == Ordering::Less,
         _ => false,
+    }
+}
+
+/// A row whose pairs can be let go.
+pub(crate) trait Renumber<K: Ord + Drop, V: Drop> {
+    ghost use Rattle.leaf_array.specs.declared.slots.Place.{Place};
+
+    ghost places: { Self → List (Place K V) };
+
+    /// Drops the dead pairs, and gives the live ones the slots from the bitmap place `from` on, without gaps.
+    fn renumber(&mut self, from: u8)
+        requires { from + length (places self.old) ≤ 15 }
+        ensures { places self.new ≡ packed from (places self.old) };
+}
+
+impl<K: Ord + Drop, V: Drop> Renumber<K, V> for End {
+    ghost use Rattle.std.specs.Prelude.{[]};
+
+    ghost places = { λ e. [] };
+
+    #[inline(always)]
+    fn renumber(&mut self, from: u8) {}
+}
+
+impl<K: Ord + Drop, V: Drop, R: Renumber<K, V>> Renumber<K, V> for Link<K, V, R> {
+    ghost use Rattle.std.specs.Prelude.{◌∷◌};
+
+    ghost places = { λ l. l.head ∷ R.places l.rest };
+
+    #[inline(always)]
+    fn renumber(&mut self, from: u8) {
+        match mem::replace(&mut self.head, Place::Empty) {
+            Place::Live {
+                slot: _,
+                gap: _,
+                key,
+                value,
+            } => {
+                fill(
+                    &mut self.head,
+                    Place::Live {
+                        slot: slot_of(from),
+                        gap: 0,
+                        key,
+                        value,
+                    },
+                );
+                self.rest.renumber(from + 1);
+            },
+            _ => self.rest.renumber(from),
+        }
+    }
+}
+
+/// A row that changes places with the front of another.
+pub(crate) trait Exchange<K: Ord, V, S> {
+    ghost use Rattle.leaf_array.specs.declared.slots.Place.{Place};
+
+    ghost mine: { Self → List (Place K V) };
+
+    ghost others: { S → List (Place K V) };
+
+    fn exchange(&mut self, other: &mut S)
+        ensures other { others other.new ≡ mine self.old ++ drop (length (mine self.old)) (others other.old) }
+        ensures mine { mine self.new ≡ take (length (mine self.old)) (others other.old) };
+}
+
+impl<K: Ord, V, S: Row<K, V>> Exchange<K, V, S> for End {
+    ghost use Rattle.std.specs.Prelude.{[]};
+
+    ghost mine = { λ e. [] };
+
+    ghost others = { λ s. S.places s };
+
+    #[inline(always)]
+    fn exchange(&mut self, other: &mut S) {}
+}
+
+impl<K: Ord, V, R: Exchange<K, V, S>, S> Exchange<K, V, Link<K, V, S>> for Link<K, V, R> {
+    ghost use Rattle.std.specs.Prelude.{◌∷◌};
+
+    ghost mine = { λ l. l.head ∷ R.mine l.rest };
+
+    ghost others = { λ l. l.head ∷ R.others l.rest };
+
+    #[inline(always)]
+    fn exchange(&mut self, other: &mut Link<K, V, S>) {
+        mem::swap(&mut self.head, &mut other.head);
+        self.rest.exchange(&mut other.rest);
+    }
+}
+
+impl<K: Ord, V> Slots<K, V> {
+    ghost use Rattle.std.specs.Prelude.{[], ◌∷◌};
+
+    #[inline(always)]
+    pub(crate) fn vacate(&mut self, at: usize) -> (K, V)
+        requires { IsSome (live_pair (slice_index_or self.old at Empty)) }
+        ensures count { length self.new ≡ 15 }
+        ensures pair { Some result ≡ live_pair (slice_index_or self.old at Empty) }
+        ensures places { self.new ≡ take at self.old ++ vacated (drop at self.old) }
+    {
+        self.all.vacate(at)
+    }
+
+    /// Drops the dead pairs, and gives the live ones the lowest slots.
+    pub(crate) fn renumber(&mut self)
+    where
+        K: Drop,
+        V: Drop,
+        ensures count { length self.new ≡ 15 }
+        ensures places { self.new ≡ packed 0 self.old }
+    {
+        self.all.renumber(0);
+    }
+
+    /// Moves the eight lower places out, and the others down.
+    #[inline]
+    pub(crate) fn split_half(&mut self) -> Self
+        ensures mine_count { length self.new ≡ 15 }
+        ensures lower_count { length result ≡ 15 }
+        ensures mine { self.new ≡ drop 8 self.old ++ Empty ∷ no_half }
+        ensures lower { result ≡ take 8 self.old ++ no_half }
+    {
+        let mut upper = Slots::new();
+        self.all
+            .rest
+            .rest
+            .rest
+            .rest
+            .rest
+            .rest
+            .rest
+            .rest
+            .exchange(&mut upper.all);
+        mem::replace(self, upper)
     }
 }
