@@ -1,3 +1,4 @@
 pub mod Cells
 pub mod Places
 pub mod Results
+pub mod Words

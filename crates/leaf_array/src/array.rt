@@ -5,7 +5,8 @@ ghost use Rattle.std.specs.BTreeMap.{is_at};
 ghost use Rattle.std.specs.Map.{lookup_entry, lookup, keys_of};
 ghost use Rattle.std.specs.List.Sorted.{IsStrictlySortedBy};
 ghost use Rattle.std.specs.Fn.{FnOnceReturnsAt};
-ghost use Rattle.leaf_array.specs.Cells.{no_cells, is_nil, lesser, has, inserted, replaced, removed, removed_at, filled};
+ghost use Rattle.leaf_array.specs.Cells.{no_cells, is_nil, rank_in, lesser, has, inserted, replaced, removed, removed_at, filled};
+ghost use Rattle.leaf_array.specs.Words.{word};
 ghost use Rattle.leaf_array.specs.Results.{IsSuccess, IsDuplicate, IsFull, given_back, is_repeated, is_refused, is_removal};
 ghost use Rattle.leaf_array.specs.declared.result.RemoveResult.TheVariants.{Retired, Fail, Frozen};
 
@@ -101,6 +102,43 @@ impl<K: Ord, V> Array<K, V> {
         ensures { result ≡ self.now.retired }
     {
         self.retired
+    }
+
+    /// Whether the array takes no pair until it is unfrozen.
+    #[inline(always)]
+    pub fn is_frozen(&self) -> bool
+        ensures { result ≡ self.now.frozen }
+    {
+        self.frozen
+    }
+
+    /// Freezes the array, and gives the word before.
+    pub fn freeze(&mut self) -> usize
+        requires { self.old.frozen ≡ false }
+        ensures word { result ≡ word self.old }
+        ensures frozen { self.new ≡ record self.old { frozen = true } }
+    {
+        let word = self.metadata();
+        self.frozen = true;
+        word
+    }
+
+    /// Lets a frozen array take pairs again.
+    pub fn unfreeze(&mut self)
+        requires { self.old.frozen ≡ true }
+        ensures { self.new ≡ record self.old { frozen = false } }
+    {
+        self.frozen = false;
+    }
+
+    /// The rank of a slot, 0 if its pair can't be reached.
+    #[inline]
+    pub(crate) fn rank_of(&self, slot: u8) -> u8
+        ensures rank { result ≡ rank_in slot self.now.labels }
+        ensures within { result ≤ 15 }
+    {
+        let _ = &self.len;
+        self.slots.rank_of(slot)
     }
 
     /// The place of the pair with this key, and the pair.

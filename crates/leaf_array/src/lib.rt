@@ -4,6 +4,7 @@
 mod array;
 mod result;
 mod slots;
+mod word;
 
 pub use array::Array;
 pub use result::{DIMENSION, Dimension, InsertResult, RemoveResult};
