@@ -59,6 +59,12 @@ fallen n (l ∷ ls) [] = []
 fallen zero (l ∷ ls) (p ∷ ps) = (l.0, p) ∷ []
 fallen (suc n) (l ∷ ls) (p ∷ ps) = fallen n ls ps
 
+-- the labels of the pairs whose keys fail a test
+abbrev pub labels_left : {K V : Type 0} → (K → Bool) → List (K × V) → List (ℕ × ℕ) → List (ℕ × ℕ)
+labels_left test [] ls = []
+labels_left test (p ∷ ps) [] = []
+labels_left test (p ∷ ps) (l ∷ ls) = cond (test p.0) (labels_left test ps ls) (l ∷ labels_left test ps ls)
+
 abbrev pub is_nil : {X : Type 0} → List X → Bool
 is_nil [] = true
 is_nil (x ∷ xs) = false

@@ -76,6 +76,7 @@ impl<K: Ord, V> Array<K, V> {
         ensures ordered { IsStrictlySortedBy K.cmp (keys_of self.now.pairs) }
         ensures used { self.now.used ≡ length self.now.pairs + length self.now.buried }
         ensures within { self.now.used ≤ 15 }
+        ensures labels { length self.now.labels ≡ length self.now.pairs }
     {
         usize::from(self.len)
     }
@@ -201,7 +202,7 @@ impl<K: Ord, V> Array<K, V> {
 
     /// Removes the pair at `at`.
     #[inline(always)]
-    fn bury(&mut self, at: usize)
+    pub(crate) fn bury(&mut self, at: usize)
         requires { at < length self.old.pairs }
         ensures { self.new ≡ removed_at at self.old }
     {

@@ -2,8 +2,11 @@
 #![tactic(auto)]
 
 mod array;
+mod range;
 mod result;
 mod slots;
+#[cfg(test)]
+mod tests;
 mod word;
 
 pub use array::Array;
