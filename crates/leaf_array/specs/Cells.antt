@@ -2,7 +2,7 @@
 use Rattle.std.specs.Prelude.{◌≡◌, refl, ℕ, zero, suc, ◌+◌, ◌-◌, ◌*◌, ◌%◌, ◌==◌, ◌<◌, ◌||◌, ◌&&◌, not, Bool, true, false, cond, nat_lt, List, [], ◌∷◌, ◌++◌, map, Option, Some, None, length}
 use Rattle.std.specs.declared.cmp.Ordering.{Ordering}
 use Rattle.std.specs.Ordering.{is_lt}
-use Rattle.std.specs.Option.{is_some}
+use Rattle.std.specs.Option.{is_some, option_or}
 use Rattle.std.specs.Map.{lookup, lookup_entry, remove_entry}
 use Rattle.std.specs.BTreeMap.{insert_entry, is_at}
 use Rattle.std.specs.List.{remove}
@@ -26,6 +26,16 @@ cells_code {K} {V} k v =
     (λ p. record { pairs = p.0; used = p.1.0; frozen = p.1.1.0; retired = p.1.1.1.0; labels = p.1.1.1.1.0; buried = p.1.1.1.1.1 })
     (λ _. refl)
 
+-- what a contract sees of an iterator: the labels that it goes through, the word taken at its start, and the rank at which it stands
+pub record Tour : Type 0 where
+  pub labels : List (ℕ × ℕ)
+  pub word : ℕ
+  pub rank : ℕ
+
+abbrev pub tour_code : Coded Tour
+tour_code =
+    code_by (List (ℕ × ℕ) × (ℕ × ℕ)) (coded× (coded_list (coded× coded_ℕ coded_ℕ)) (coded× coded_ℕ coded_ℕ)) (λ t. (t.labels, (t.word, t.rank))) (λ p. record { labels = p.0; word = p.1.0; rank = p.1.1 }) (λ _. refl)
+
 -- the slot of a bitmap place
 abbrev pub slot_of : ℕ → ℕ
 slot_of place = cond (nat_lt place 12) (place - place % 4 + (place + 1) % 4) place
@@ -34,6 +44,27 @@ slot_of place = cond (nat_lt place 12) (place - place % 4 + (place + 1) % 4) pla
 abbrev pub rank_in : ℕ → List (ℕ × ℕ) → ℕ
 rank_in slot [] = 0
 rank_in slot (l ∷ ls) = cond (l.0 == slot) l.1 (rank_in slot ls)
+
+-- the first label above a rank
+abbrev pub first_above : ℕ → List (ℕ × ℕ) → Option (ℕ × ℕ)
+first_above rank [] = None
+first_above rank (l ∷ ls) = cond (nat_lt rank l.1) (Some l) (first_above rank ls)
+
+-- the last label below a rank, or the last one of all if that is 0
+abbrev pub last_below : ℕ → List (ℕ × ℕ) → Option (ℕ × ℕ)
+last_below rank [] = None
+last_below rank (l ∷ ls) = cond (nat_lt 0 rank && not (nat_lt l.1 rank)) None (option_or (last_below rank ls) (Some l))
+
+-- the pair behind a slot among those that can be reached
+abbrev pub reachable_in : {K V : Type 0} → ℕ → List (ℕ × ℕ) → List (K × V) → Option (K × V)
+reachable_in slot [] ps = None
+reachable_in slot (l ∷ ls) [] = None
+reachable_in slot (l ∷ ls) (p ∷ ps) = cond (l.0 == slot) (Some p) (reachable_in slot ls ps)
+
+-- the pair that was buried in a slot
+abbrev pub buried_in : {K V : Type 0} → ℕ → List (ℕ × (K × V)) → Option (K × V)
+buried_in slot [] = None
+buried_in slot (b ∷ bs) = cond (b.0 == slot) (Some b.1) (buried_in slot bs)
 
 -- the labels with a new slot behind n others: its rank is one above theirs, and the ranks behind it rise by one
 abbrev pub entered : ℕ → ℕ → ℕ → List (ℕ × ℕ) → List (ℕ × ℕ)

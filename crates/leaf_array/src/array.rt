@@ -5,7 +5,7 @@ ghost use Rattle.std.specs.BTreeMap.{is_at};
 ghost use Rattle.std.specs.Map.{lookup_entry, lookup, keys_of};
 ghost use Rattle.std.specs.List.Sorted.{IsStrictlySortedBy};
 ghost use Rattle.std.specs.Fn.{FnOnceReturnsAt};
-ghost use Rattle.leaf_array.specs.Cells.{no_cells, is_nil, rank_in, lesser, has, inserted, replaced, removed, removed_at, filled};
+ghost use Rattle.leaf_array.specs.Cells.{no_cells, is_nil, rank_in, first_above, last_below, lesser, has, inserted, replaced, removed, removed_at, filled};
 ghost use Rattle.leaf_array.specs.Words.{word};
 ghost use Rattle.leaf_array.specs.Results.{IsSuccess, IsDuplicate, IsFull, given_back, is_repeated, is_refused, is_removal};
 ghost use Rattle.leaf_array.specs.declared.result.RemoveResult.TheVariants.{Retired, Fail, Frozen};
@@ -140,6 +140,24 @@ impl<K: Ord, V> Array<K, V> {
     {
         let _ = &self.len;
         self.slots.rank_of(slot)
+    }
+
+    /// Slot and rank of the first reachable pair above a rank.
+    #[inline]
+    pub(crate) fn above(&self, rank: u8) -> Option<(u8, u8)>
+        ensures { result ≡ first_above rank self.now.labels }
+    {
+        let _ = &self.len;
+        self.slots.above(rank)
+    }
+
+    /// Slot and rank of the last reachable pair below a rank, or of the last one of all if that is 0.
+    #[inline]
+    pub(crate) fn under(&self, rank: u8) -> Option<(u8, u8)>
+        ensures { result ≡ last_below rank self.now.labels }
+    {
+        let _ = &self.len;
+        self.slots.under(rank)
     }
 
     /// The place of the pair with this key, and the pair.

@@ -2,6 +2,7 @@
 #![tactic(auto)]
 
 mod array;
+mod iter;
 mod range;
 mod result;
 mod slots;
@@ -10,4 +11,5 @@ mod tests;
 mod word;
 
 pub use array::Array;
+pub use iter::{ArrayIter, ArrayRevIter};
 pub use result::{DIMENSION, Dimension, InsertResult, RemoveResult};

@@ -6,7 +6,7 @@
 ghost use Rattle.std.specs.Prelude.{◌≡◌, ℕ, ◌+◌, ◌<◌, ◌≤◌, ◌++◌, ◌∷◌, ◌↔◌, [], List, length, take, drop, IsTrue, IsSome, Some, None, MatchOption, IfOk, IfErr, slice_index_or};
 ghost use Rattle.std.specs.Ordering.{is_lt};
 ghost use Rattle.leaf_array.specs.declared.slots.Place.TheVariants.{Empty};
-ghost use Rattle.leaf_array.specs.Cells.{slot_of, rank_in, lesser};
+ghost use Rattle.leaf_array.specs.Cells.{slot_of, rank_in, first_above, last_below, lesser};
 ghost use Rattle.leaf_array.specs.Places.{is_empty, live_pair, live_pairs, labels_above, dead_pairs, top, has_room, pushed, sunk, widened, buried, renewed, died, vacated, packed, pair_at_slot, below, least, no_places, no_half, IsPacked};
 
 use std::cmp::Ordering;
@@ -107,6 +107,16 @@ pub(crate) trait Row<K: Ord, V> {
         requires { low + top (places self.now) ≤ 15 }
         ensures { result ≡ rank_in slot (labels_above low (places self.now)) };
 
+    /// Slot and rank of the first live place above a rank, where those before the row go up to `low`.
+    fn above(&self, rank: u8, low: u8) -> Option<(u8, u8)>
+        requires { low + top (places self.now) ≤ 15 }
+        ensures { result ≡ first_above rank (labels_above low (places self.now)) };
+
+    /// Slot and rank of the last live place below a rank, or of the last one of all if that is 0.
+    fn under(&self, rank: u8, low: u8) -> Option<(u8, u8)>
+        requires { low + top (places self.now) ≤ 15 }
+        ensures { result ≡ last_below rank (labels_above low (places self.now)) };
+
     /// The pair with this slot, dead or alive.
     fn in_slot(&self, slot: u8) -> Option<(&K, &V)>
         ensures { MatchOption result (pair_at_slot slot (places self.now) ≡ None) (λ e. pair_at_slot slot (places self.now) ≡ Some (e.0.now, e.1.now)) };
@@ -181,6 +191,16 @@ impl<K: Ord, V> Row<K, V> for End {
     #[inline(always)]
     fn rank_of(&self, slot: u8, low: u8) -> u8 {
         0
+    }
+
+    #[inline(always)]
+    fn above(&self, rank: u8, low: u8) -> Option<(u8, u8)> {
+        None
+    }
+
+    #[inline(always)]
+    fn under(&self, rank: u8, low: u8) -> Option<(u8, u8)> {
+        None
     }
 
     #[inline(always)]
@@ -292,6 +312,38 @@ impl<K: Ord, V, R: Row<K, V>> Row<K, V> for Link<K, V, R> {
                 }
             },
             _ => 0,
+        }
+    }
+
+    #[inline(always)]
+    fn above(&self, rank: u8, low: u8) -> Option<(u8, u8)> {
+        match &self.head {
+            Place::Live { slot, gap, .. } => {
+                let own = low + *gap + 1;
+                if rank < own {
+                    Some((*slot, own))
+                } else {
+                    self.rest.above(rank, own)
+                }
+            },
+            _ => None,
+        }
+    }
+
+    #[inline(always)]
+    fn under(&self, rank: u8, low: u8) -> Option<(u8, u8)> {
+        match &self.head {
+            Place::Live { slot, gap, .. } => {
+                let own = low + *gap + 1;
+                if rank > 0 && own >= rank {
+                    return None;
+                }
+                match self.rest.under(rank, own) {
+                    Some(later) => Some(later),
+                    None => Some((*slot, own)),
+                }
+            },
+            _ => None,
         }
     }
 
@@ -512,6 +564,22 @@ impl<K: Ord, V> Slots<K, V> {
         ensures { result ≡ rank_in slot (labels_above 0 self.now) }
     {
         self.all.rank_of(slot, 0)
+    }
+
+    #[inline(always)]
+    pub(crate) fn above(&self, rank: u8) -> Option<(u8, u8)>
+        requires { top self.now ≤ 15 }
+        ensures { result ≡ first_above rank (labels_above 0 self.now) }
+    {
+        self.all.above(rank, 0)
+    }
+
+    #[inline(always)]
+    pub(crate) fn under(&self, rank: u8) -> Option<(u8, u8)>
+        requires { top self.now ≤ 15 }
+        ensures { result ≡ last_below rank (labels_above 0 self.now) }
+    {
+        self.all.under(rank, 0)
     }
 
     #[inline(always)]
