@@ -1,4 +1,18 @@
 //! Arrays of the leaves of a tree.
+//!
+//! An [`Array`] has fifteen places. Its reachable pairs stand there by rising keys, so a search is a handful of comparisons and an insertion moves what is greater up by one.
+//! A pair that is removed or replaced keeps its place, its slot and its bit until the array is packed, halved or dropped: so an array with few pairs can be full.
+//! Each place has a slot, which is given out in the order of insertion, and each reachable one a rank, which rises with the keys.
+//! The word of ranks by slots is worked out where a call asks for it.
+//!
+//! ```
+//! let mut array: Array<u64, &str> = Array::new();
+//! array.insert::<false>(2, "two");
+//! array.insert::<false>(1, "one");
+//! array.search_val(&1); // Some(&"one")
+//! array.remove_if(&2, |_| true); // RemoveResult::Success
+//! array.remove_if(&1, |_| true); // RemoveResult::Retired
+//! ```
 #![tactic(auto)]
 
 mod array;

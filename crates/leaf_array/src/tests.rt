@@ -231,3 +231,32 @@ fn a_range_of_all_keys_retires(rt: HostRuntime) {
     none.remove_range(Bound::Unbounded, Bound::Unbounded);
     assert!(rt; !none.is_retired());
 }
+
+#[test]
+fn iterators_follow_the_ranks(rt: HostRuntime) {
+    let mut array: Array<&str, &str> = Array::new();
+    for key in [
+        "M", "G", "0", "1", "2", "3", "4", "5", "6", "7", "8", "9", "10", "11", "12",
+    ] {
+        assert_eq!(rt; answer(array.insert::<false>(key, key)), 0);
+    }
+    for key in ["10", "11", "12", "G", "M"] {
+        assert_eq!(rt; array.remove_if(&key, |_| true), RemoveResult::Success);
+    }
+    let mut rising = ArrayIter::new(&array);
+    assert_eq!(rt; rising.metadata(), array.metadata());
+    for slot in [3u8, 0, 5, 6, 7, 4, 9, 10, 11, 8] {
+        assert_eq!(rt; rising.next(), Some(slot));
+    }
+    assert_eq!(rt; rising.next(), None);
+    assert_eq!(rt; rising.next(), None);
+    let mut falling = rising.clone().rev();
+    assert_eq!(rt; falling.metadata(), array.metadata());
+    assert_eq!(rt; falling.next(), Some(11));
+    falling.rewind();
+    assert_eq!(rt; falling.next(), Some(8));
+    assert_eq!(rt; falling.clone().rev().next(), None);
+    rising.rewind();
+    assert_eq!(rt; rising.next(), Some(3));
+    assert_eq!(rt; ArrayRevIter::new(&array).next(), Some(8));
+}
