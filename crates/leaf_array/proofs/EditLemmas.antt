@@ -1,13 +1,12 @@
 -- What an edit of a row of places does to its pairs, labels and slots.
-use Rattle.std.proofs.Common.{rules, arith, ◌≡◌, ℕ, zero, suc, ◌+◌, ◌==◌, ◌<◌, ◌≤◌, ◌++◌, ◌∷◌, [], List, Bool, true, false, cond, length, take, drop, refl, ap, ◌∙◌, sym, subst, map, append_assoc, Option, Some, None, IsSome}
+use Rattle.std.proofs.Common.{arith, ◌≡◌, ℕ, zero, suc, ◌+◌, ◌==◌, ◌<◌, ◌≤◌, ◌++◌, ◌∷◌, [], List, true, false, cond, length, take, drop, refl, ap, ◌∙◌, map, append_assoc}
 use Rattle.std.specs.List.{remove}
 use Rattle.leaf_array.specs.declared.slots.Place.{Place}
 use Rattle.leaf_array.specs.declared.slots.Place.TheVariants.{Empty, Dead, Live}
 use Rattle.std.specs.declared.cmp.Ordering.{Ordering}
-use Rattle.std.specs.declared.cmp.Ordering.TheVariants.{Less, Equal, Greater}
-use Rattle.std.specs.Ordering.{is_lt, is_eq}
-use Rattle.leaf_array.specs.Cells.{entered, handed_on, fallen, slot_of}
-use Rattle.leaf_array.specs.Places.{is_empty, live_pairs, labels_above, dead_pairs, top, has_room, pushed, sunk, widened, buried, renewed, died, packed, below, least, uses, uses_below, IsEmptied, IsDeparted, IsPacked}
+use Rattle.std.specs.Ordering.{is_lt}
+use Rattle.leaf_array.specs.Cells.{entered, handed_on, fallen}
+use Rattle.leaf_array.specs.Places.{live_pairs, labels_above, dead_pairs, top, has_room, pushed, sunk, widened, buried, renewed, died, below, uses, IsEmptied, IsDeparted, IsPacked}
 
 module _ {K V : Type 0} where
   -- behind an empty place all are empty

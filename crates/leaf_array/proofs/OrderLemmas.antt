@@ -1,10 +1,9 @@
 -- Edits at the place where a search ends, in the words of maps.
-use Rattle.std.proofs.Common.{rules, arith, ◌≡◌, ℕ, zero, suc, ◌+◌, ◌==◌, ◌<◌, ◌≤◌, ◌++◌, ◌∷◌, [], List, Bool, true, false, cond, length, take, drop, refl, ap, ◌∙◌, sym, subst, map, append_assoc, Option, Some, None, IsSome}
+use Rattle.std.proofs.Common.{arith, ◌≡◌, ℕ, suc, ◌<◌, ◌++◌, ◌∷◌, [], List, true, false, cond, length, take, drop, refl, ap, ◌∙◌, sym, Some, None}
 use Rattle.std.specs.declared.cmp.Ordering.{Ordering}
 use Rattle.std.specs.declared.cmp.Ordering.TheVariants.{Less, Equal, Greater}
-use Rattle.std.specs.Ordering.{is_lt, is_eq, match_ordering}
+use Rattle.std.specs.Ordering.{is_lt, is_eq}
 use Rattle.std.specs.Cmp.{IsTotalOrder}
-use Rattle.std.specs.List.{AllByRecursion, remove}
 use Rattle.std.specs.List.Sorted.{IsStrictlySortedBy}
 use Rattle.std.specs.Map.{keys_of, lookup, lookup_entry, remove_entry}
 use Rattle.std.specs.BTreeMap.{insert_entry, is_at}
@@ -13,8 +12,8 @@ use Rattle.std.proofs.lemmas.Map.Entries.{none_below_head}
 use Rattle.std.proofs.lemmas.Map.Keys.{sorted_head, sorted_tail}
 use Rattle.leaf_array.specs.declared.slots.Place.{Place}
 use Rattle.leaf_array.specs.declared.slots.Place.TheVariants.{Empty, Dead, Live}
-use Rattle.leaf_array.specs.Cells.{entered, handed_on, fallen, slot_of, lesser}
-use Rattle.leaf_array.specs.Places.{live_pairs, labels_above, dead_pairs, top, sunk, widened, buried, renewed, died, below, least, uses, IsEmptied, IsDeparted, IsPacked, IsHit, IsMiss}
+use Rattle.leaf_array.specs.Cells.{lesser}
+use Rattle.leaf_array.specs.Places.{live_pairs, renewed, below, least, IsHit, IsMiss}
 
 less_of : (o : Ordering) → is_lt o ≡ true → o ≡ Less
 less_of Less h = refl

@@ -1,15 +1,15 @@
 -- Rows that are cut and numbered anew.
-use Rattle.std.proofs.Common.{rules, arith, ◌≡◌, ℕ, zero, suc, ◌+◌, ◌-◌, ◌==◌, ◌<◌, ◌≤◌, ◌++◌, ◌∷◌, [], List, Bool, true, false, cond, length, take, drop, refl, ap, ◌∙◌, sym, subst, Option, Some, None, IsSome, slice_get, slice_index_or, length-take, length-drop, min}
+use Rattle.std.proofs.Common.{arith, ◌≡◌, ℕ, zero, suc, ◌+◌, ◌-◌, ◌==◌, ◌<◌, ◌≤◌, ◌++◌, ◌∷◌, [], List, Bool, true, false, cond, length, take, drop, refl, ap, ◌∙◌, sym, Some, None, IsSome, slice_get, slice_index_or, length-take, length-drop, min}
 use Rattle.std.specs.declared.cmp.Ordering.{Ordering}
-use Rattle.std.specs.declared.cmp.Ordering.TheVariants.{Less, Equal, Greater}
+use Rattle.std.specs.declared.cmp.Ordering.TheVariants.{Less}
 use Rattle.std.specs.Ordering.{is_lt}
 use Rattle.std.specs.List.{AllByRecursion}
 use Rattle.std.specs.List.Sorted.{IsStrictlySortedBy}
 use Rattle.std.specs.Map.{keys_of}
 use Rattle.leaf_array.specs.declared.slots.Place.{Place}
 use Rattle.leaf_array.specs.declared.slots.Place.TheVariants.{Empty, Dead, Live}
-use Rattle.leaf_array.specs.Cells.{Cells, lesser, slot_of, fresh_labels, filled}
-use Rattle.leaf_array.specs.Places.{live_pair, live_pairs, labels_above, dead_pairs, packed, vacated, below, least, top, uses, uses_below, no_half, IsEmptied, IsDeparted, IsPacked, IsSound, cells_of}
+use Rattle.leaf_array.specs.Cells.{lesser, slot_of, fresh_labels, filled}
+use Rattle.leaf_array.specs.Places.{live_pair, live_pairs, labels_above, dead_pairs, packed, vacated, least, top, uses, uses_below, no_half, IsEmptied, IsDeparted, IsPacked, IsSound, cells_of}
 
 past_end : {X : Type 0} (xs : List X) (n : ℕ) → length xs ≤ n → slice_get xs n ≡ None
 past_end [] zero le = refl

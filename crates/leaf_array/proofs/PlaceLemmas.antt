@@ -1,8 +1,8 @@
 -- Rows of places under their edits.
-use Rattle.std.proofs.Common.{rules, arith, ◌≡◌, ℕ, ◌+◌, ◌<◌, ◌≤◌, ◌++◌, ◌∷◌, [], List, length, take, drop, refl, ap, ◌∙◌, sym}
+use Rattle.std.proofs.Common.{arith, ◌≡◌, ℕ, ◌+◌, ◌≤◌, ◌∷◌, [], List, drop, refl, ap}
 use Rattle.leaf_array.specs.declared.slots.Place.{Place}
 use Rattle.leaf_array.specs.declared.slots.Place.TheVariants.{Empty, Dead, Live}
-use Rattle.leaf_array.specs.Places.{live_pairs, labels_above, dead_pairs, top, has_room, pushed, sunk, widened, buried, renewed, died, packed, below, least}
+use Rattle.leaf_array.specs.Places.{top, sunk}
 
 module _ {K V : Type 0} where
   pub top-sunk : (s : ℕ) (k : K) (v : V) (ps : List (Place K V)) → top (sunk (Dead s k v) ps) ≡ top ps

@@ -1,5 +1,5 @@
 -- Pairs removed one at a time, from the front on, as far as a test passes.
-use Rattle.std.proofs.Common.{rules, arith, ◌≡◌, ℕ, zero, suc, ◌+◌, ◌<◌, ◌≤◌, ◌∷◌, ◌||◌, ◌&&◌, not, [], List, Bool, true, false, cond, length, take, drop, refl, ap, ◌∙◌, sym, Option, Some, None, slice_get, MatchOption}
+use Rattle.std.proofs.Common.{arith, ◌≡◌, ℕ, zero, suc, ◌+◌, ◌<◌, ◌≤◌, ◌∷◌, ◌||◌, ◌&&◌, not, [], List, Bool, true, false, cond, length, take, refl, ap, ◌∙◌, sym, Some, slice_get, MatchOption}
 use Rattle.std.specs.List.{filter, remove, AllByRecursion}
 use Rattle.std.proofs.lemmas.Bool.{false≢true}
 use Rattle.leaf_array.specs.declared.slots.Place.{Place}

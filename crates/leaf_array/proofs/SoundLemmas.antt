@@ -1,5 +1,5 @@
 -- The edits of an array keep its invariant, and are those of its cells.
-use Rattle.std.proofs.Common.{rules, arith, ◌≡◌, ℕ, zero, suc, ◌+◌, ◌<◌, ◌≤◌, ◌++◌, ◌-◌, length-append, ◌∷◌, ◌||◌, ◌&&◌, ◌==◌, not, IsSome, slice_index_or, [], List, Bool, true, false, cond, length, take, drop, refl, ap, ◌∙◌, sym, subst, Option, Some, None}
+use Rattle.std.proofs.Common.{arith, ◌≡◌, ℕ, zero, suc, ◌+◌, ◌<◌, ◌≤◌, ◌++◌, ◌-◌, length-append, ◌∷◌, ◌||◌, ◌&&◌, ◌==◌, not, IsSome, slice_index_or, [], List, Bool, true, false, length, take, drop, refl, ap, ◌∙◌, sym, subst, Option, Some, None}
 use Rattle.std.specs.declared.cmp.Ordering.{Ordering}
 use Rattle.std.specs.declared.cmp.Ordering.TheVariants.{Less, Equal, Greater}
 use Rattle.std.specs.Option.{is_some}
@@ -12,8 +12,8 @@ use Rattle.std.proofs.lemmas.Bool.{false≢true}
 use Rattle.std.proofs.lemmas.Bool.Decides.{nat_tests}
 use Rattle.leaf_array.specs.declared.slots.Place.{Place}
 use Rattle.leaf_array.specs.declared.slots.Place.TheVariants.{Empty, Dead, Live}
-use Rattle.leaf_array.specs.Cells.{Cells, is_nil, lesser, slot_of, has, inserted, replaced, removed, removed_at, entered, handed_on, fallen}
-use Rattle.leaf_array.specs.Places.{live_pair, live_pairs, labels_above, dead_pairs, has_room, pushed, buried, renewed, died, below, least, top, uses, uses_below, no_places, IsPacked, IsHit, IsMiss, IsSound, cells_of}
+use Rattle.leaf_array.specs.Cells.{Cells, is_nil, lesser, slot_of, inserted, replaced, removed, removed_at, entered, handed_on, fallen}
+use Rattle.leaf_array.specs.Places.{live_pair, live_pairs, labels_above, dead_pairs, has_room, pushed, buried, renewed, died, below, least, top, uses, no_places, IsPacked, IsHit, IsMiss, IsSound, cells_of}
 use Rattle.leaf_array.proofs.SearchLemmas.{least_not_lesser, missed}
 use Rattle.leaf_array.proofs.OrderLemmas.{below_lesser, found_entry, missing, hit_within, pairs_insert, pairs_renew}
 use Rattle.leaf_array.proofs.EditLemmas as edit

@@ -1,9 +1,9 @@
 -- What a contract sees of an array: its reachable pairs by rising keys, and where they stand.
-use Rattle.std.specs.Prelude.{◌≡◌, refl, ℕ, zero, suc, ◌+◌, ◌-◌, ◌*◌, ◌%◌, ◌==◌, ◌<◌, ◌||◌, ◌&&◌, not, Bool, true, false, cond, nat_lt, List, [], ◌∷◌, ◌++◌, map, Option, Some, None, length}
+use Rattle.std.specs.Prelude.{◌≡◌, refl, ℕ, zero, suc, ◌+◌, ◌-◌, ◌%◌, ◌==◌, ◌<◌, ◌||◌, ◌&&◌, not, Bool, true, false, cond, nat_lt, List, [], ◌∷◌, ◌++◌, map, Option, Some, None, length}
 use Rattle.std.specs.declared.cmp.Ordering.{Ordering}
 use Rattle.std.specs.Ordering.{is_lt}
 use Rattle.std.specs.Option.{is_some, option_or}
-use Rattle.std.specs.Map.{lookup, lookup_entry, remove_entry}
+use Rattle.std.specs.Map.{lookup, remove_entry}
 use Rattle.std.specs.BTreeMap.{insert_entry, is_at}
 use Rattle.std.specs.List.{remove}
 use Rattle.std.specs.Coded.{Coded, code_by, coded×, coded_ℕ, coded_bool, coded_list}
@@ -101,6 +101,14 @@ is_nil [] = true
 is_nil (x ∷ xs) = false
 
 module _ {K V : Type 0} where
+  -- the pair in a slot, reachable or buried
+  abbrev pub in_slot : ℕ → Cells K V → Option (K × V)
+  in_slot slot a = option_or (reachable_in slot a.labels a.pairs) (buried_in slot a.buried)
+
+  -- the bit of a slot is set
+  abbrev pub IsUsed : ℕ → Cells K V → Type 0
+  IsUsed slot a = (place : ℕ) × (place < a.used) × (slot_of place ≡ slot)
+
   -- an array without pairs
   abbrev pub no_cells : Bool → Cells K V
   no_cells frozen = record { pairs = []; used = 0; frozen = frozen; retired = false; labels = []; buried = [] }

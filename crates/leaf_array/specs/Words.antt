@@ -1,5 +1,5 @@
 -- The word of an array: the rank of each slot in four bits, and two flags. And where a full array is best split.
-use Rattle.std.specs.Prelude.{ℕ, zero, suc, ◌+◌, ◌*◌, ◌/◌, ◌^◌, ◌==◌, ◌&&◌, Bool, true, false, cond, nat_lt, List, [], ◌∷◌, length}
+use Rattle.std.specs.Prelude.{ℕ, zero, suc, ◌+◌, ◌*◌, ◌/◌, ◌^◌, ◌==◌, ◌&&◌, Bool, false, cond, nat_lt, List, [], ◌∷◌, length}
 use Rattle.leaf_array.specs.Cells.{Cells, slot_of, rank_in}
 
 -- the ranks of n slots from this one on, the first one lowest

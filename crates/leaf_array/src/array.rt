@@ -5,7 +5,7 @@ ghost use Rattle.std.specs.BTreeMap.{is_at};
 ghost use Rattle.std.specs.Map.{lookup_entry, lookup, keys_of};
 ghost use Rattle.std.specs.List.Sorted.{IsStrictlySortedBy};
 ghost use Rattle.std.specs.Fn.{FnOnceReturnsAt};
-ghost use Rattle.leaf_array.specs.Cells.{no_cells, is_nil, rank_in, first_above, last_below, lesser, has, inserted, replaced, removed, removed_at, filled};
+ghost use Rattle.leaf_array.specs.Cells.{no_cells, in_slot, IsUsed, is_nil, rank_in, first_above, last_below, lesser, has, inserted, replaced, removed, removed_at, filled};
 ghost use Rattle.leaf_array.specs.Words.{word};
 ghost use Rattle.leaf_array.specs.Results.{IsSuccess, IsDuplicate, IsFull, given_back, is_repeated, is_refused, is_removal};
 ghost use Rattle.leaf_array.specs.declared.result.RemoveResult.TheVariants.{Retired, Fail, Frozen};
@@ -130,6 +130,37 @@ impl<K: Ord, V> Array<K, V> {
         ensures { self.new ≡ record self.old { frozen = false } }
     {
         self.frozen = false;
+    }
+
+    /// The key in a slot whose bit is set, of a pair that can be reached or not.
+    pub fn key(&self, slot: u8) -> &K
+        requires { IsUsed slot self.now }
+        ensures { IfSome (in_slot slot self.now) (λ e. result.now ≡ e.0) }
+    {
+        match self.entry(slot) {
+            Some((key, _)) => key,
+            None => unreachable!(),
+        }
+    }
+
+    /// The value in a slot whose bit is set, of a pair that can be reached or not.
+    pub fn val(&self, slot: u8) -> &V
+        requires { IsUsed slot self.now }
+        ensures { IfSome (in_slot slot self.now) (λ e. result.now ≡ e.1) }
+    {
+        match self.entry(slot) {
+            Some((_, value)) => value,
+            None => unreachable!(),
+        }
+    }
+
+    /// The pair in a slot.
+    fn entry(&self, slot: u8) -> Option<(&K, &V)>
+        ensures pair { MatchOption result (in_slot slot self.now ≡ None) (λ e. in_slot slot self.now ≡ Some (e.0.now, e.1.now)) }
+        ensures used { IsUsed slot self.now → IsSome result }
+    {
+        let _ = &self.len;
+        self.slots.in_slot(slot)
     }
 
     /// The rank of a slot, 0 if its pair can't be reached.

@@ -1,4 +1,4 @@
-use Rattle.std.proofs.Common.{◌∙◌, ap, sym, arith, ◌||◌, ◌&&◌, not}
+use Rattle.std.proofs.Common.{◌∙◌, ap, arith, ◌||◌, ◌&&◌, not}
 use Rattle.std.specs.Range.Bound.{bound_map}
 use Rattle.std.specs.BTreeMap.Range.{range_contains}
 use Rattle.std.specs.List.{remove}

@@ -1,5 +1,4 @@
-use Rattle.std.proofs.Common.{sym, ◌∙◌, ap, Some}
-use Rattle.std.specs.Option.{is_some}
+use Rattle.std.proofs.Common.{sym, ◌∙◌}
 use Rattle.leaf_array.proofs.SearchLemmas.{missed}
 use Rattle.leaf_array.proofs.OrderLemmas.{below_lesser}
 use Rattle.leaf_array.proofs.SoundLemmas.{has_from, missing_from, missed_all}

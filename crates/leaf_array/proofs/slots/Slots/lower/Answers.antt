@@ -1,4 +1,4 @@
-use Rattle.std.proofs.Common.{◌∙◌, sym, refl, ◌<◌, ◌∷◌, [], Some, None, MatchOption, ◌≡◌, slice_index_or}
+use Rattle.std.proofs.Common.{refl, ◌<◌, ◌∷◌, [], slice_index_or}
 use Rattle.leaf_array.specs.declared.slots.Place.TheVariants.{Empty}
 use Rattle.leaf_array.specs.Places.{below}
 use Rattle.leaf_array.proofs.SearchLemmas.{below_past}
