@@ -260,3 +260,16 @@ fn iterators_follow_the_ranks(rt: HostRuntime) {
     assert_eq!(rt; rising.next(), Some(3));
     assert_eq!(rt; ArrayRevIter::new(&array).next(), Some(8));
 }
+
+#[test]
+fn a_slot_shows_its_pair(rt: HostRuntime) {
+    let mut array: Array<u64, u64> = Array::new();
+    match array.insert::<false>(5, 50) {
+        // the lowest bitmap place has slot 1
+        InsertResult::Success => {
+            assert_eq!(rt; array.key(1), &5);
+            assert_eq!(rt; array.val(1), &50);
+        },
+        _ => assert!(rt; false),
+    }
+}
