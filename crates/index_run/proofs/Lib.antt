@@ -1,0 +1,4 @@
+pub mod Numbers
+pub mod Sessions
+pub mod Texts
+pub mod Bytes

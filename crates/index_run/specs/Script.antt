@@ -1,0 +1,72 @@
+-- What the lines of a script do, and what is written for them.
+use Rattle.std.specs.Prelude.{◌≡◌, ℕ, ◌+◌, ◌-◌, ◌^◌, List, [], ◌∷◌, ◌++◌, length, replicate, Some, None}
+use Rattle.std.specs.Ordering.{nat_cmp}
+use Rattle.ordered_index.specs.Desk.{Machine, OpenStep, CloseStep, GetStep, CommitStep}
+use Rattle.ordered_index.specs.declared.write.Write.{Write}
+use Rattle.ordered_index.specs.declared.write.Write.TheVariants as writes
+use Rattle.ordered_index.specs.declared.play.ReadSet.TheVariants as sets
+use Rattle.ordered_index.specs.declared.play.DeskReply.{DeskReply}
+use Rattle.ordered_index.specs.declared.play.DeskReply.TheVariants as replies
+use Rattle.index_run.specs.declared.request.Request.{Request}
+use Rattle.index_run.specs.declared.request.Request.TheVariants as requests
+use Rattle.index_run.specs.Requests.{Reads}
+use Rattle.index_run.specs.Replies.{fault_text, staged_text, Prints}
+
+-- the index with its desk, the staged writes, and the number of the present line
+pub record Script : Type 0 where
+  pub machine : Machine ℕ (List ℕ)
+  pub staged : List (Write ℕ (List ℕ))
+  pub line : ℕ
+
+-- before the first line: no commit, no session, nothing staged
+abbrev pub fresh : ℕ → Script
+fresh places = record {
+  machine = record {
+    index = record { history = []; places = replicate places None; last = 2 ^ 64 - 1 };
+    desk = replicate places None;
+  };
+  staged = [];
+  line = 0;
+}
+
+-- an accepted commit takes what was staged; nothing else does
+abbrev pub left_staged : DeskReply ℕ (List ℕ) → List (Write ℕ (List ℕ)) → List (Write ℕ (List ℕ))
+left_staged (replies.Accepted told) staged = []
+left_staged reply staged = staged
+
+-- a call is made, its reply is printed, and what it leaves staged stays
+pub record Plays (old : Script) (label : ℕ) (step : DeskReply ℕ (List ℕ) → Machine ℕ (List ℕ) → Type 0) (text : List ℕ) (new : Script) : Type 0 where
+  pub reply : DeskReply ℕ (List ℕ)
+  pub stepped : step reply new.machine
+  pub printed : Prints old.line label reply text
+  pub left : new.staged ≡ left_staged reply old.staged
+  pub same_line : new.line ≡ old.line
+
+-- a write is staged behind the others
+pub record Stages (old : Script) (write : Write ℕ (List ℕ)) (text : List ℕ) (new : Script) : Type 0 where
+  pub changed : new ≡ record old { staged = old.staged ++ write ∷ [] }
+  pub told : text ≡ staged_text (length new.staged)
+
+-- a request is met with this reply; the replies to a commit name no label
+abbrev pub Meets : Script → Request → List ℕ → Script → Type 0
+Meets old (requests.Insert key value) text new = Stages old (writes.Insert key value) text new
+Meets old (requests.Commit None) text new = Plays old 0 (CommitStep nat_cmp old.machine sets.Empty old.staged) text new
+Meets old (requests.Commit (Some label)) text new = Plays old 0 (CommitStep nat_cmp old.machine (sets.Session label) old.staged) text new
+Meets old (requests.Open label) text new = Plays old label (OpenStep nat_cmp old.machine label) text new
+Meets old (requests.Get label key) text new = Plays old label (GetStep nat_cmp old.machine label key) text new
+Meets old (requests.Close label) text new = Plays old label (CloseStep nat_cmp old.machine label) text new
+Meets old (requests.Faulty fault) text new = (new ≡ old) × (text ≡ fault_text old.line fault)
+
+-- the script at its next line
+abbrev pub at_next : Script → Script
+at_next old = record old { line = old.line + 1 }
+
+-- a line has this reply, and the script goes on so
+abbrev pub Acts : Script → List ℕ → List ℕ → Script → Type 0
+Acts old line text new = (request : Request) × Reads line request × Meets (at_next old) request text new
+
+-- lines have this output, the reply of each behind that of the line before
+abbrev pub Outputs : Script → List (List ℕ) → List ℕ → Script → Type 0
+Outputs old [] output new = (output ≡ []) × (new ≡ old)
+Outputs old (line ∷ lines) output new =
+    (mid : Script) × (text : List ℕ) × (rest : List ℕ) × (output ≡ text ++ rest) × Acts old line text mid × Outputs mid lines rest new

@@ -1,0 +1,182 @@
+//! What a line of a script asks for.
+
+ghost use Rattle.std.specs.Prelude.{◌≡◌, ◌++◌, List, ℕ, IfOk, IfErr, codes};
+ghost use Rattle.std.specs.Fmt.{decimal};
+ghost use Rattle.std.specs.Option.{option_copied};
+ghost use Rattle.index_run.specs.Lines.{Lacks, kept};
+ghost use Rattle.index_run.specs.Replies.{word_of};
+ghost use Rattle.index_run.specs.Requests.{Asks, IsNoNumber, Reads};
+
+use crate::text::Text;
+use crate::words::{number, split_word};
+use std::alloc::{AllocError, Global};
+use std::str;
+
+/// What is wrong with a line, in the order in which it is decided.
+#[derive(Clone, Copy, Debug, PartialEq, Eq)]
+pub enum Fault {
+    /// It has more than 65,536 bytes.
+    Long,
+    /// It isn't UTF-8.
+    Text,
+    /// Its first word is unknown.
+    Command,
+    /// It has another number of words than belong to the first.
+    Words,
+    /// A word that is to be a number isn't.
+    Number,
+    /// Its label has no session.
+    Session,
+    /// Its label has a session already.
+    Busy,
+}
+
+impl Fault {
+    /// The word that tells it.
+    pub fn word(self) -> &'static str
+        ensures { result.now ≡ word_of self }
+    {
+        match self {
+            Fault::Long => "long",
+            Fault::Text => "text",
+            Fault::Command => "command",
+            Fault::Words => "words",
+            Fault::Number => "number",
+            Fault::Session => "session",
+            Fault::Busy => "busy",
+        }
+    }
+}
+
+/// What a line asks for.
+#[derive(Drop)]
+pub enum Request {
+    /// To stage an insert of this key and this value.
+    Insert(u64, Text),
+    /// To commit what is staged, on the reads of the session with this label or on none.
+    Commit(Option<u64>),
+    /// To open a session under this label.
+    Open(u64),
+    /// To read this key by the session with this label, which comes first.
+    Get(u64, u64),
+    /// To close the session with this label.
+    Close(u64),
+    /// Nothing: the line is at fault.
+    Faulty(Fault),
+}
+
+/// What a line asks for, by its bytes, or by none where it is longer than it may be.
+pub fn read_line(alloc: Global, line: Option<&[u8]>) -> Result<Request, AllocError>
+    ensures { IfOk result (λ request. (whole : List ℕ) → option_copied line.entry ≡ kept whole → Reads whole request) }
+{
+    let Some(bytes) = line else {
+        return Ok(Request::Faulty(Fault::Long));
+    };
+    let Ok(text) = str::from_utf8(bytes) else {
+        return Ok(Request::Faulty(Fault::Text));
+    };
+    let request = read_text(alloc, text)?;
+    Ok(request)
+}
+
+// What a text asks for.
+fn read_text(alloc: Global, line: &str) -> Result<Request, AllocError>
+    ensures { IfOk result (λ request. Asks line.now request) }
+{
+    let Some((word, rest)) = split_word(line) else {
+        return Ok(bare(line));
+    };
+    match word {
+        "insert" => insert(alloc, rest),
+        "commit" => Ok(commit(rest)),
+        "open" => Ok(open(rest)),
+        "get" => Ok(get(rest)),
+        "close" => Ok(close(rest)),
+        _ => Ok(Request::Faulty(Fault::Command)),
+    }
+}
+
+// A line of one word: each request has more.
+fn bare(word: &str) -> Request
+    requires { Lacks 32 word.now }
+    ensures { Asks word.now result }
+{
+    match word {
+        "insert" | "commit" | "open" | "get" | "close" => Request::Faulty(Fault::Words),
+        _ => Request::Faulty(Fault::Command),
+    }
+}
+
+fn insert(alloc: Global, rest: &str) -> Result<Request, AllocError>
+    ensures { IfOk result (Asks (codes "insert " ++ rest.now)) }
+{
+    let Some((key, value)) = split_word(rest) else {
+        return Ok(Request::Faulty(Fault::Words));
+    };
+    let Some(key) = number(key) else {
+        return Ok(Request::Faulty(Fault::Number));
+    };
+    Ok(Request::Insert(key, Text::new(alloc, value)?))
+}
+
+fn commit(rest: &str) -> Request
+    ensures { Asks (codes "commit " ++ rest.now) result }
+{
+    if rest == "-" {
+        return Request::Commit(None);
+    }
+    match only_number(rest) {
+        Ok(label) => Request::Commit(Some(label)),
+        Err(fault) => Request::Faulty(fault),
+    }
+}
+
+fn open(rest: &str) -> Request
+    ensures { Asks (codes "open " ++ rest.now) result }
+{
+    match only_number(rest) {
+        Ok(label) => Request::Open(label),
+        Err(fault) => Request::Faulty(fault),
+    }
+}
+
+fn get(rest: &str) -> Request
+    ensures { Asks (codes "get " ++ rest.now) result }
+{
+    let Some((label, key)) = split_word(rest) else {
+        return Request::Faulty(Fault::Words);
+    };
+    if let Some(_) = split_word(key) {
+        return Request::Faulty(Fault::Words);
+    }
+    let Some(label) = number(label) else {
+        return Request::Faulty(Fault::Number);
+    };
+    let Some(key) = number(key) else {
+        return Request::Faulty(Fault::Number);
+    };
+    Request::Get(label, key)
+}
+
+fn close(rest: &str) -> Request
+    ensures { Asks (codes "close " ++ rest.now) result }
+{
+    match only_number(rest) {
+        Ok(label) => Request::Close(label),
+        Err(fault) => Request::Faulty(fault),
+    }
+}
+
+// The number that is the only word here.
+fn only_number(rest: &str) -> Result<u64, Fault>
+    ensures ok { IfOk result (λ n. rest.now ≡ decimal n) }
+    ensures err { IfErr result (IsNoNumber rest.now) }
+{
+    if let Some(_) = split_word(rest) {
+        return Err(Fault::Words);
+    }
+    match number(rest) {
+        Some(number) => Ok(number),
+        None => Err(Fault::Number),
+    }
+}

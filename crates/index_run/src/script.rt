@@ -1,0 +1,177 @@
+//! A script's index, desk and staged writes.
+
+ghost use Rattle.std.specs.Prelude.{◌≡◌, ◌+◌, ◌<◌, ◌^◌, ◌≤◌, [], ◌∷◌, ◌++◌, ℕ, List, IfOk, OnOk};
+ghost use Rattle.std.specs.Option.{option_copied};
+ghost use Rattle.std.specs.String.{string_bytes};
+ghost use Rattle.std.specs.Ordering.{nat_cmp};
+ghost use Rattle.ordered_index.specs.Desk.{Step, CommitStep};
+ghost use Rattle.ordered_index.specs.Sizes.{IsSized};
+ghost use Rattle.ordered_index.specs.State.{IsIdle};
+ghost use Rattle.index_run.specs.Lines.{kept};
+ghost use Rattle.index_run.specs.Inside.{IsNoCommit, given_back};
+ghost use Rattle.index_run.specs.Script.{Script, Acts, Meets, Plays, Stages, at_next, fresh};
+
+use crate::reply::{fault_text, reply_text, staged_text};
+use crate::request::{Request, read_line};
+use crate::text::Text;
+use ordered_index::{Desk, DeskCall, DeskReply, LocalIndex, ReadSet, Write, play_all};
+use std::alloc::{AllocError, Global};
+use std::marker::Model;
+use std::mem;
+
+/// What the lines of a script act on: an index, the sessions that they opened, by label, and the
+/// writes that they staged. It must be spent, by [`end`](Script::end).
+pub struct Script<const S: usize> {
+    alloc: Global,
+    index: LocalIndex<u64, Text, S>,
+    desk: Desk<u64, Text>,
+    staged: Vec<Write<u64, Text>>,
+    line: u64,
+}
+
+impl<const S: usize> Model for Script<S> {
+    ghost use Rattle.ordered_index.specs.Desk.{Serves, KeepsAll};
+    ghost use Rattle.index_run.specs.Script.{Script};
+
+    ghost Value = { Script };
+
+    ghost view = { λ s. record { machine = record { index = s.index; desk = s.desk }; staged = s.staged.items; line = s.line } };
+
+    ghost invariant = { λ s. Serves (record { index = s.index; desk = s.desk }) × KeepsAll (record { index = s.index; desk = s.desk }) };
+}
+
+impl<const S: usize> Script<S> {
+    /// A script before its first line, on an empty index. Refused where memory is.
+    pub fn new(alloc: Global, places: usize, slots: usize) -> Result<Self, AllocError>
+        requires { IsSized places slots S }
+        ensures { IfOk result (λ script. script ≡ fresh places) }
+    {
+        let index = LocalIndex::new(alloc, places, slots)?;
+        match Desk::new(alloc, places) {
+            Ok(desk) => Ok(Script {
+                alloc,
+                index,
+                desk,
+                staged: Vec::new(alloc),
+                line: 0,
+            }),
+            Err(refused) => {
+                end_index(index);
+                Err(refused)
+            }
+        }
+    }
+
+    /// Acts on the next line, given by its bytes, or by none where it is longer than it may be, and
+    /// gives its reply. Refused where memory is.
+    pub fn act(&mut self, line: Option<&[u8]>) -> Result<String, AllocError>
+        requires { self.old.line + 1 < 2 ^ 64 }
+        ensures ok { IfOk result (λ text. (whole : List ℕ) → option_copied line.entry ≡ kept whole → Acts self.old whole (string_bytes text) self.new) }
+        ensures counted { OnOk result (self.new.line ≡ self.old.line + 1) }
+    {
+        let request = read_line(self.alloc, line)?;
+        self.line += 1;
+        let text = self.meet(request)?;
+        Ok(text)
+    }
+
+    /// Closes what the script opened, and ends its index.
+    pub fn end(self) {
+        let Script {
+            alloc: _,
+            mut index,
+            desk,
+            staged: _,
+            line: _,
+        } = self;
+        desk.end(&mut index);
+        end_index(index);
+    }
+
+    // Does what a line asks for.
+    fn meet(&mut self, request: Request) -> Result<String, AllocError>
+        ensures ok { IfOk result (λ text. Meets self.old request (string_bytes text) self.new) }
+        ensures line { self.new.line ≡ self.old.line }
+    {
+        match request {
+            Request::Insert(key, value) => self.stage(Write::Insert(key, value)),
+            Request::Commit(None) => self.commit(ReadSet::Empty),
+            Request::Commit(Some(label)) => self.commit(ReadSet::Session(label)),
+            Request::Open(label) => self.call(label, DeskCall::Open(label)),
+            Request::Get(label, key) => self.call(label, DeskCall::Get(label, key)),
+            Request::Close(label) => self.call(label, DeskCall::Close(label)),
+            Request::Faulty(fault) => fault_text(self.alloc, self.line, fault),
+        }
+    }
+
+    fn stage(&mut self, write: Write<u64, Text>) -> Result<String, AllocError>
+        ensures ok { IfOk result (λ text. Stages self.old write (string_bytes text) self.new) }
+        ensures line { self.new.line ≡ self.old.line }
+    {
+        self.staged.push(write)?;
+        let text = staged_text(self.alloc, self.staged.len())?;
+        Ok(text)
+    }
+
+    // Makes a call that isn't a commit.
+    fn call(&mut self, label: u64, call: DeskCall<u64, Text>) -> Result<String, AllocError>
+        requires { IsNoCommit call }
+        ensures ok { IfOk result (λ text. Plays self.old label (Step nat_cmp self.old.machine call) (string_bytes text) self.new) }
+        ensures line { self.new.line ≡ self.old.line }
+    {
+        let reply = self.play(call)?;
+        let text = reply_text(self.alloc, self.line, label, &reply)?;
+        Ok(text)
+    }
+
+    // Commits what is staged.
+    fn commit(&mut self, on: ReadSet<u64, Text>) -> Result<String, AllocError>
+        ensures ok { IfOk result (λ text. Plays self.old 0 (CommitStep nat_cmp self.old.machine on self.old.staged) (string_bytes text) self.new) }
+        ensures line { self.new.line ≡ self.old.line }
+    {
+        let writes = mem::replace(&mut self.staged, Vec::new(self.alloc));
+        let reply = self.play(DeskCall::Commit(on, writes))?;
+        let text = reply_text(self.alloc, self.line, 0, &reply)?;
+        self.take_back(reply);
+        Ok(text)
+    }
+
+    // Makes one call.
+    fn play(&mut self, call: DeskCall<u64, Text>) -> Result<DeskReply<u64, Text>, AllocError>
+        ensures step { IfOk result (λ reply. Step nat_cmp self.old.machine call reply self.new.machine) }
+        ensures staged { self.new.staged ≡ self.old.staged }
+        ensures line { self.new.line ≡ self.old.line }
+    {
+        let calls = vec![in self.alloc; call]?;
+        match play_all(self.alloc, &mut self.index, &mut self.desk, calls) {
+            Ok(mut replies) => match replies.pop() {
+                Some(reply) => Ok(reply),
+                None => unreachable!(),
+            },
+            Err((_, refused)) => Err(refused),
+        }
+    }
+
+    // Stages again what a refused commit gives back.
+    fn take_back(&mut self, reply: DeskReply<u64, Text>)
+        ensures machine { self.new.machine ≡ self.old.machine }
+        ensures staged { self.new.staged ≡ given_back reply self.old.staged }
+        ensures line { self.new.line ≡ self.old.line }
+    {
+        match reply {
+            DeskReply::Refused(refused) => self.staged = refused.writes,
+            DeskReply::NoSession(writes) => self.staged = writes,
+            _ => {}
+        }
+    }
+}
+
+// Ends an index without sessions.
+fn end_index<const S: usize>(index: LocalIndex<u64, Text, S>)
+    requires { IsIdle index }
+{
+    match index.close() {
+        Ok(()) => {}
+        Err(_index) => unreachable!(),
+    }
+}

@@ -1,0 +1,339 @@
+//! Scripts and their outputs, readers that cut and fail, writers that fail.
+
+use crate::line::LONGEST;
+use crate::run::{RunError, outcome, run};
+use std::alloc::Global;
+use std::io::{self, Read, Write};
+use std::str;
+use std::test::Fail;
+
+const FIRST: &[u8] = b"insert 1 ten\ncommit -\nopen 7\nget 7 1\nclose 7\n";
+
+const FIRST_OUTPUT: &str = "staged 1\nok 1 inserted\nopen 7 at 1\nsome ten\nclosed 7\n";
+
+// The last line has no LF.
+const SECOND: &[u8] = b"insert 1 ten\ninsert 1 x\ncommit -\nopen 7\nget 7 1\nget 9 1\nclose 7";
+
+const SECOND_OUTPUT: &str =
+    "staged 1\nstaged 2\nok 1 inserted duplicate\nopen 7 at 1\nsome ten\nline 6: session\nclosed 7\n";
+
+fn text_of(bytes: &[u8]) -> &str {
+    str::from_utf8(bytes).unwrap_or("not a text")
+}
+
+// What a script of two places writes, or why it ended before.
+fn output(alloc: Global, input: &[u8]) -> Result<Vec<u8>, RunError> {
+    let mut reader = input;
+    let mut out = Vec::new(alloc);
+    run::<64, _, _>(alloc, &mut reader, &mut out, 2, 16)?;
+    Ok(out)
+}
+
+// Gives its bytes up to a cut, and then the others.
+#[derive(Drop)]
+struct Cut {
+    input: &'static [u8],
+    given: usize,
+    cut: usize,
+}
+
+impl Read for Cut {
+    fn read(&mut self, buf: &mut [u8]) -> io::Result<usize> {
+        let rest = self.input.get(self.given..).unwrap_or(b"");
+        let front = rest
+            .get(..self.cut.saturating_sub(self.given))
+            .unwrap_or(b"");
+        let mut part = if front.is_empty() { rest } else { front };
+        let count = part.read(buf)?;
+        self.given = self.given.saturating_add(count);
+        Ok(count)
+    }
+}
+
+// Gives one byte at a time, and fails once so many are given.
+#[derive(Drop)]
+struct Fails {
+    input: &'static [u8],
+    given: usize,
+    at: usize,
+    kind: io::ErrorKind,
+}
+
+impl Read for Fails {
+    fn read(&mut self, buf: &mut [u8]) -> io::Result<usize> {
+        if self.given == self.at {
+            self.at = usize::MAX;
+            return Err(self.kind.into());
+        }
+        match (self.input.get(self.given), buf.first_mut()) {
+            (Some(byte), Some(place)) => {
+                *place = *byte;
+                self.given = self.given.saturating_add(1);
+                Ok(1)
+            }
+            _ => Ok(0),
+        }
+    }
+}
+
+// Takes one byte at a time, and once so many are taken, none or an error.
+#[derive(Drop)]
+struct Falters {
+    taken: Vec<u8>,
+    at: usize,
+    is_error: bool,
+}
+
+impl Write for Falters {
+    fn write(&mut self, buf: &[u8]) -> io::Result<usize> {
+        let Some(byte) = buf.first() else {
+            return Ok(0);
+        };
+        if self.taken.len() == self.at {
+            if self.is_error {
+                return Err(io::ErrorKind::Other.into());
+            }
+            return Ok(0);
+        }
+        match self.taken.push(*byte) {
+            Ok(()) => Ok(1),
+            Err(_) => Ok(0),
+        }
+    }
+
+    fn flush(&mut self) -> io::Result<()> {
+        Ok(())
+    }
+}
+
+#[test]
+fn a_script_inserts_commits_and_reads(rt: HostRuntime) -> Result<(), Fail> {
+    let out = output(rt.alloc(), FIRST)?;
+    assert_eq!(rt; text_of(&out), FIRST_OUTPUT);
+    Ok(())
+}
+
+#[test]
+fn no_input_gives_no_output(rt: HostRuntime) -> Result<(), Fail> {
+    let out = output(rt.alloc(), b"")?;
+    assert_eq!(rt; text_of(&out), "");
+    Ok(())
+}
+
+#[test]
+fn the_cut_of_the_input_changes_nothing(rt: HostRuntime) -> Result<(), Fail> {
+    for cut in 0..SECOND.len() {
+        let mut out = Vec::new(rt.alloc());
+        let mut reader = Cut {
+            input: SECOND,
+            given: 0,
+            cut,
+        };
+        let ended = run::<64, _, _>(rt.alloc(), &mut reader, &mut out, 16, 4096);
+        assert_eq!(rt; ended, Ok(()), "cut at {cut}");
+        assert_eq!(rt; text_of(&out), SECOND_OUTPUT, "cut at {cut}");
+    }
+    Ok(())
+}
+
+#[test]
+fn bytes_come_one_by_one(rt: HostRuntime) -> Result<(), Fail> {
+    let mut out = Vec::new(rt.alloc());
+    let mut reader = Fails {
+        input: SECOND,
+        given: 0,
+        at: usize::MAX,
+        kind: io::ErrorKind::Other,
+    };
+    let ended = run::<64, _, _>(rt.alloc(), &mut reader, &mut out, 16, 4096);
+    assert_eq!(rt; ended, Ok(()));
+    assert_eq!(rt; text_of(&out), SECOND_OUTPUT);
+    Ok(())
+}
+
+#[test]
+fn lines_at_fault_are_told_and_counted(rt: HostRuntime) -> Result<(), Fail> {
+    let cases: [(&[u8], &str); 28] = [
+        (b"\n", "line 1: command\n"),
+        (b"upsert 1 a\n", "line 1: command\n"),
+        (b" insert 1 a\n", "line 1: command\n"),
+        (b"Insert 1 a\n", "line 1: command\n"),
+        (b"commit -\r\n", "line 1: number\n"),
+        (b"insert\n", "line 1: words\n"),
+        (b"insert 1\n", "line 1: words\n"),
+        (b"insert 1 \n", "staged 1\n"),
+        (b"insert 1  a \n", "staged 1\n"),
+        (b"insert  1 a\n", "line 1: number\n"),
+        (b"commit\n", "line 1: words\n"),
+        (b"commit \n", "line 1: number\n"),
+        (b"commit - -\n", "line 1: words\n"),
+        (b"commit 1\n", "line 1: session\n"),
+        (b"open 7 \n", "line 1: words\n"),
+        (b"open  7\n", "line 1: words\n"),
+        (b"get 7\n", "line 1: words\n"),
+        (b"get 7 1 2\n", "line 1: words\n"),
+        (b"get x 1\n", "line 1: number\n"),
+        (b"get 7 x\n", "line 1: number\n"),
+        (b"close x\n", "line 1: number\n"),
+        (b"open 007\n", "line 1: number\n"),
+        (b"open +7\n", "line 1: number\n"),
+        (b"open 0\n", "open 0 at 0\n"),
+        (
+            b"open 18446744073709551615\n",
+            "open 18446744073709551615 at 0\n",
+        ),
+        (b"open 18446744073709551616\n", "line 1: number\n"),
+        (b"insert 1 \xff\n", "line 1: text\n"),
+        (b"open 1\r", "line 1: number\n"),
+    ];
+    for (input, told) in cases {
+        let out = output(rt.alloc(), input)?;
+        assert_eq!(rt; text_of(&out), told, "{input:?}");
+    }
+    Ok(())
+}
+
+#[test]
+fn lines_are_numbered_bad_ones_too(rt: HostRuntime) -> Result<(), Fail> {
+    let out = output(
+        rt.alloc(),
+        b"x\n\ncommit -\nopen 1\nopen 1\nget 2 1\nclose 2",
+    )?;
+    assert_eq!(rt;
+        text_of(&out),
+        "line 1: command\nline 2: command\nok 1\nopen 1 at 1\nline 5: busy\nline 6: session\nline 7: session\n"
+    );
+    Ok(())
+}
+
+#[test]
+fn a_session_reads_the_list_at_its_opening(rt: HostRuntime) -> Result<(), Fail> {
+    let out = output(
+        rt.alloc(),
+        b"open 1\ninsert 5 \xc3\xa9 x\ncommit 1\nget 1 5\nopen 2\nget 2 5\nopen 3\nopen 1\nclose 1\nopen 3\n",
+    )?;
+    assert_eq!(rt;
+        text_of(&out),
+        "open 1 at 0\nstaged 1\nok 1 inserted\nnone\nopen 2 at 1\nsome \u{e9} x\nnoplace\nline 8: busy\nclosed 1\nopen 3 at 1\n"
+    );
+    Ok(())
+}
+
+#[test]
+fn an_accepted_commit_takes_the_staged_writes_and_no_other(rt: HostRuntime) -> Result<(), Fail> {
+    let out = output(
+        rt.alloc(),
+        b"insert 1 a\ncommit 9\ninsert 2 b\ncommit -\ncommit -\ninsert 1 c\ncommit -\n",
+    )?;
+    assert_eq!(rt;
+        text_of(&out),
+        "staged 1\nline 2: session\nstaged 2\nok 1 inserted inserted\nok 2\nstaged 1\nok 3 duplicate\n"
+    );
+    Ok(())
+}
+
+// A line `insert 1 ` with a value of so many bytes, and a short one behind it.
+fn long_line(alloc: Global, value: usize) -> Result<Vec<u8>, RunError> {
+    let mut input = Vec::from_elem(alloc, b'v', value).map_err(|_| RunError::Memory)?;
+    let mut script = Vec::new(alloc);
+    for part in [
+        b"insert 1 ".as_slice(),
+        input.as_slice(),
+        b"\ncommit -\n".as_slice(),
+    ] {
+        script
+            .extend_from_slice(part)
+            .map_err(|_| RunError::Memory)?;
+    }
+    input.clear();
+    output(alloc, script.as_slice())
+}
+
+#[test]
+fn a_line_has_at_most_65_536_bytes(rt: HostRuntime) -> Result<(), Fail> {
+    assert_eq!(rt; LONGEST, 65_536);
+    let out = long_line(rt.alloc(), 65_527)?;
+    assert_eq!(rt; text_of(&out), "staged 1\nok 1 inserted\n");
+    let out = long_line(rt.alloc(), 65_528)?;
+    assert_eq!(rt; text_of(&out), "line 1: long\nok 1\n");
+    let out = long_line(rt.alloc(), 300_000)?;
+    assert_eq!(rt; text_of(&out), "line 1: long\nok 1\n");
+    Ok(())
+}
+
+// How many bytes of the output the complete lines of a beginning of the input have.
+fn answered(input: &[u8], output: &str) -> usize {
+    let lines = input.iter().filter(|byte| **byte == b'\n').count();
+    let mut seen = 0usize;
+    let mut at = 0usize;
+    for byte in output.as_bytes() {
+        if seen == lines {
+            return at;
+        }
+        at = at.saturating_add(1);
+        if *byte == b'\n' {
+            seen = seen.saturating_add(1);
+        }
+    }
+    at
+}
+
+#[test]
+fn a_failed_read_drops_the_begun_line(rt: HostRuntime) -> Result<(), Fail> {
+    for kind in [io::ErrorKind::Other, io::ErrorKind::Interrupted] {
+        for at in 0..SECOND.len() {
+            let mut out = Vec::new(rt.alloc());
+            let mut reader = Fails {
+                input: SECOND,
+                given: 0,
+                at,
+                kind,
+            };
+            let ended = run::<64, _, _>(rt.alloc(), &mut reader, &mut out, 16, 4096);
+            assert_eq!(rt; ended, Err(RunError::Read), "at {at}");
+            let told = SECOND_OUTPUT.get(
+                ..answered(SECOND.get(..at).unwrap_or(b""), SECOND_OUTPUT),
+            );
+            assert_eq!(rt; Some(text_of(&out)), told, "at {at}");
+        }
+    }
+    Ok(())
+}
+
+#[test]
+fn a_failed_write_leaves_a_beginning_of_the_output(rt: HostRuntime) -> Result<(), Fail> {
+    for is_error in [false, true] {
+        for at in 0..SECOND_OUTPUT.len() {
+            let mut reader = SECOND;
+            let mut writer = Falters {
+                taken: Vec::new(rt.alloc()),
+                at,
+                is_error,
+            };
+            let ended = run::<64, _, _>(rt.alloc(), &mut reader, &mut writer, 16, 4096);
+            assert_eq!(rt; ended, Err(RunError::Write), "at {at}");
+            assert_eq!(rt;
+                Some(text_of(&writer.taken)),
+                SECOND_OUTPUT.get(..at),
+                "at {at}"
+            );
+        }
+    }
+    Ok(())
+}
+
+#[test]
+fn a_run_has_a_status_and_a_complaint(rt: HostRuntime) {
+    assert_eq!(rt; outcome(&Ok(())), (0, ""));
+    assert_eq!(rt; outcome(&Err(RunError::Read)), (1, "index_run: read\n"));
+    assert_eq!(rt; outcome(&Err(RunError::Write)), (1, "index_run: write\n"));
+    assert_eq!(rt; outcome(&Err(RunError::Memory)), (2, "index_run: memory\n"));
+}
+
+#[test]
+fn errors_are_told_by_one_word(rt: HostRuntime) -> Result<(), Fail> {
+    assert_eq!(rt; RunError::Read.to_string(rt.alloc())?.as_str(), "read");
+    assert_eq!(rt; RunError::Write.to_string(rt.alloc())?.as_str(), "write");
+    assert_eq!(rt; RunError::Memory.to_string(rt.alloc())?.as_str(), "memory");
+    Ok(())
+}

@@ -1,0 +1,36 @@
+//! Words and numbers of a line.
+
+ghost use Rattle.std.specs.Prelude.{◌≡◌, ◌++◌, ◌∷◌, IfSome, IfNone};
+ghost use Rattle.std.specs.Fmt.{decimal};
+ghost use Rattle.index_run.specs.Lines.{Lacks};
+ghost use Rattle.index_run.specs.Requests.{IsNumber};
+
+/// The text before the first space, and the text behind it.
+pub fn split_word(text: &str) -> Option<(&str, &str)>
+    ensures some { IfSome result (λ parts. (text.now ≡ parts.0.now ++ 32 ∷ parts.1.now) × Lacks 32 parts.0.now) }
+    ensures none { IfNone result (Lacks 32 text.now) }
+{
+    text.split_once(' ')
+}
+
+/// The number that a word writes: its digits, of which the first is 0 for 0 alone.
+pub fn number(word: &str) -> Option<u64>
+    ensures some { IfSome result (λ n. word.now ≡ decimal n) }
+    ensures none { IfNone result (IsNumber word.now → ⊥) }
+{
+    let bytes = word.as_bytes();
+    if bytes.is_empty() {
+        return None;
+    }
+    // `parse` takes a plus and leading zeros too
+    if bytes[0] == b'+' {
+        return None;
+    }
+    if bytes[0] == b'0' && bytes.len() > 1 {
+        return None;
+    }
+    match word.parse::<u64>() {
+        Ok(number) => Some(number),
+        Err(_) => None,
+    }
+}

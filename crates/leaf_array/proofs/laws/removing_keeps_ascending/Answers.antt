@@ -1,0 +1,5 @@
+use Rattle.leaf_array.proofs.Lists.{IsAscending-removed}
+use Rattle.leaf_array.proofs.laws.removing_keeps_ascending.Goals as goal
+
+pub returns : goal.returns
+returns g c = IsAscending-removed g.met.K.Ord.total

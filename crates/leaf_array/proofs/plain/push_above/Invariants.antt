@@ -1,0 +1,7 @@
+use Rattle.std.proofs.Common.{◌≡◌, ◌++◌, drop}
+use Rattle.leaf_array.specs.Edits.{above}
+use Rattle.leaf_array.proofs.plain.push_above.Given as goal
+
+-- what is copied, and what is yet to be
+abbrev pub invariant-loop-pair : goal.invariant-loop-pair
+invariant-loop-pair g l = l.out.items ++ above g.K.Ord.cmp l.key (drop l.pair-index l.pairs) ≡ l.fn.out.items ++ above g.K.Ord.cmp l.key l.pairs

@@ -1,0 +1,7 @@
+use Rattle.std.proofs.Common.{◌≡◌, ◌++◌, drop}
+use Rattle.leaf_array.specs.Edits.{removed}
+use Rattle.leaf_array.proofs.plain.remove.Given as goal
+
+-- what is copied, and what is yet to be
+abbrev pub invariant-loop-pair : goal.invariant-loop-pair
+invariant-loop-pair g l = l.out.items ++ removed g.K.Ord.cmp l.key (drop l.pair-index l.pairs) ≡ removed g.K.Ord.cmp l.key l.pairs

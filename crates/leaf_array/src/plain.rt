@@ -1,0 +1,158 @@
+//! Lists of pairs written and read in the plainest way: one pass each, and a copy for each write.
+
+ghost use Rattle.std.specs.Prelude.{◌≡◌, ◌++◌, IfOk, OnOk};
+ghost use Rattle.std.specs.Option.{option_copied};
+ghost use Rattle.leaf_array.specs.Edits.{above, below, inserted, removed, upserted};
+ghost use Rattle.leaf_array.specs.Pairs.{has_key, value_at};
+ghost use Rattle.leaf_array.specs.Values.{ClonesAreSame};
+
+use std::alloc::{AllocError, Global};
+
+/// The value of the pair with the key, as `BTreeMap::get` finds it.
+pub fn find_value<'a, K: Ord, V>(pairs: &'a [(K, V)], key: &K) -> Option<&'a V>
+    ensures { option_copied result ≡ value_at K.cmp key.now pairs.now }
+{
+    for pair in pairs {
+        if key.cmp(&pair.0).is_eq() {
+            return Some(&pair.1);
+        }
+    }
+    None
+}
+
+/// Whether some pair has the key, as `BTreeMap::contains_key` says it.
+pub fn contains_key<K: Ord, V>(pairs: &[(K, V)], key: &K) -> bool
+    ensures { result ≡ has_key K.cmp key.now pairs.now }
+{
+    for pair in pairs {
+        if key.cmp(&pair.0).is_eq() {
+            return true;
+        }
+    }
+    false
+}
+
+/// A copy of the list with the pair at its place, instead of any pair with its key.
+pub fn upsert<K: Clone + Ord, V: Clone>(
+    alloc: Global,
+    pairs: &[(K, V)],
+    key: &K,
+    value: &V,
+) -> Result<Vec<(K, V)>, AllocError>
+    requires keys { ClonesAreSame K.is_clone }
+    requires values { ClonesAreSame V.is_clone }
+    ensures { IfOk result (λ out. out.items ≡ upserted K.cmp key.now value.now pairs.now) }
+{
+    let mut out = Vec::new(alloc);
+    push_below(&mut out, pairs, key)?;
+    out.push((key.clone()?, value.clone()?))?;
+    push_above(&mut out, pairs, key)?;
+    Ok(out)
+}
+
+/// A copy of the list with the pair at its place, or of the list alone if its key is there.
+pub fn insert<K: Clone + Ord, V: Clone>(
+    alloc: Global,
+    pairs: &[(K, V)],
+    key: &K,
+    value: &V,
+) -> Result<Vec<(K, V)>, AllocError>
+    requires keys { ClonesAreSame K.is_clone }
+    requires values { ClonesAreSame V.is_clone }
+    ensures { IfOk result (λ out. out.items ≡ inserted K.cmp key.now value.now pairs.now) }
+{
+    if contains_key(pairs, key) {
+        Vec::from_clones(alloc, pairs)
+    } else {
+        upsert(alloc, pairs, key, value)
+    }
+}
+
+/// A copy of the list without the pair that has the key.
+pub fn remove<K: Clone + Ord, V: Clone>(
+    alloc: Global,
+    pairs: &[(K, V)],
+    key: &K,
+) -> Result<Vec<(K, V)>, AllocError>
+    requires keys { ClonesAreSame K.is_clone }
+    requires values { ClonesAreSame V.is_clone }
+    ensures { IfOk result (λ out. out.items ≡ removed K.cmp key.now pairs.now) }
+{
+    let mut out = Vec::new(alloc);
+    for pair in pairs {
+        if !key.cmp(&pair.0).is_eq() {
+            out.push(pair.clone()?)?;
+        }
+    }
+    Ok(out)
+}
+
+/// Copies the pairs with a key below this one to the end of `out`.
+fn push_below<K: Clone + Ord, V: Clone>(
+    out: &mut Vec<(K, V)>,
+    pairs: &[(K, V)],
+    key: &K,
+) -> Result<(), AllocError>
+    requires keys { ClonesAreSame K.is_clone }
+    requires values { ClonesAreSame V.is_clone }
+    ensures { OnOk result (out.new.items ≡ out.old.items ++ below K.cmp key.now pairs.now) }
+{
+    for pair in pairs {
+        if key.cmp(&pair.0).is_gt() {
+            out.push(pair.clone()?)?;
+        }
+    }
+    Ok(())
+}
+
+/// Copies the pairs with a key above this one to the end of `out`.
+fn push_above<K: Clone + Ord, V: Clone>(
+    out: &mut Vec<(K, V)>,
+    pairs: &[(K, V)],
+    key: &K,
+) -> Result<(), AllocError>
+    requires keys { ClonesAreSame K.is_clone }
+    requires values { ClonesAreSame V.is_clone }
+    ensures { OnOk result (out.new.items ≡ out.old.items ++ above K.cmp key.now pairs.now) }
+{
+    for pair in pairs {
+        if key.cmp(&pair.0).is_lt() {
+            out.push(pair.clone()?)?;
+        }
+    }
+    Ok(())
+}
+
+#[cfg(test)]
+mod tests {
+    use super::{contains_key, find_value, insert, remove, upsert};
+    use std::test::Fail;
+
+    #[test]
+    fn a_duplicate_insert_keeps_the_list(rt: HostRuntime) -> Result<(), Fail> {
+        let one = insert::<u64, u64>(rt.alloc(), &[], &1, &10)?;
+        let two = insert(rt.alloc(), one.as_slice(), &1, &11)?;
+        assert_eq!(rt; two.as_slice(), &[(1, 10)][..]);
+        assert_eq!(rt; find_value(two.as_slice(), &1).copied(), Some(10));
+        Ok(())
+    }
+
+    #[test]
+    fn writes_keep_the_order_of_keys(rt: HostRuntime) -> Result<(), Fail> {
+        let start: [(u64, u64); 2] = [(2, 1), (4, 1)];
+        let five = insert(rt.alloc(), &start, &5, &1)?;
+        assert_eq!(rt; five.as_slice(), &[(2, 1), (4, 1), (5, 1)][..]);
+        let three = insert(rt.alloc(), five.as_slice(), &3, &7)?;
+        assert_eq!(rt; three.as_slice(), &[(2, 1), (3, 7), (4, 1), (5, 1)][..]);
+        let replaced = upsert(rt.alloc(), three.as_slice(), &4, &9)?;
+        assert_eq!(rt; replaced.as_slice(), &[(2, 1), (3, 7), (4, 9), (5, 1)][..]);
+        let less = remove(rt.alloc(), replaced.as_slice(), &3)?;
+        assert_eq!(rt; less.as_slice(), &[(2, 1), (4, 9), (5, 1)][..]);
+        let same = remove(rt.alloc(), less.as_slice(), &3)?;
+        assert_eq!(rt; same.as_slice(), &[(2, 1), (4, 9), (5, 1)][..]);
+        assert!(rt; contains_key(same.as_slice(), &5));
+        assert!(rt; !contains_key(same.as_slice(), &3));
+        assert_eq!(rt; find_value(same.as_slice(), &3).copied(), None);
+        Ok(())
+    }
+}

@@ -1,0 +1,129 @@
+-- A desk keeps sessions of an index by labels, each in the seat of its place. Calls of both, and runs of calls.
+use Rattle.std.specs.Prelude.{◌≡◌, ◌≢◌, ℕ, ◌≤◌, List, [], ◌∷◌, length, Option, Some, None, slice_get, slice_set}
+use Rattle.std.specs.declared.cmp.Ordering.{Ordering}
+use Rattle.ordered_index.specs.Serial.{Read, answer_to}
+use Rattle.ordered_index.specs.State.{State, OpenSession, IsOpen, IsOpenAt, IsFull, Opens, Closes, list_at, Accepts, Refuses}
+use Rattle.ordered_index.specs.declared.query.Query.TheVariants as queries
+use Rattle.ordered_index.specs.declared.write.Write.{Write}
+use Rattle.ordered_index.specs.declared.transaction.Receipt.{Receipt}
+use Rattle.ordered_index.specs.declared.commit.Cause.TheVariants as causes
+use Rattle.ordered_index.specs.declared.desk.Seat.{Seat}
+use Rattle.ordered_index.specs.declared.play.ReadSet.{ReadSet}
+use Rattle.ordered_index.specs.declared.play.ReadSet.TheVariants as sets
+use Rattle.ordered_index.specs.declared.play.DeskCall.{DeskCall}
+use Rattle.ordered_index.specs.declared.play.DeskCall.TheVariants as calls
+use Rattle.ordered_index.specs.declared.play.DeskReply.{DeskReply}
+use Rattle.ordered_index.specs.declared.play.DeskReply.TheVariants as replies
+
+-- an index, and a desk of sessions of it: the seat of a place has the session that is open there, with its label
+pub record Machine (K V : Type 0) : Type 0 where
+  pub index : State K V
+  pub desk : List (Option (Seat K V))
+
+module _ {K V : Type 0} where
+  -- the seat of this place is taken by this session, under this label
+  pub record SitsAt (desk : List (Option (Seat K V))) (label place : ℕ) (seat : Seat K V) : Type 0 where
+    pub there : slice_get desk place ≡ Some (Some seat)
+    pub labelled : seat.label ≡ label
+
+  -- no session has the label
+  abbrev pub IsUnknown : List (Option (Seat K V)) → ℕ → Type 0
+  IsUnknown desk label = (place : ℕ) (seat : Seat K V) → SitsAt desk label place seat → ⊥
+
+  -- some session has the label
+  abbrev pub IsKnown : List (Option (Seat K V)) → ℕ → Type 0
+  IsKnown desk label = (place : ℕ) × (seat : Seat K V) × SitsAt desk label place seat
+
+  -- the desk has a seat for each place, and its sessions are those of the index
+  pub record Serves (m : Machine K V) : Type 0 where
+    pub room : length m.index.places ≤ length m.desk
+    pub placed : (place : ℕ) (seat : Seat K V) → slice_get m.desk place ≡ Some (Some seat) → seat.session.place ≡ place
+    pub opened : (place : ℕ) (seat : Seat K V) → slice_get m.desk place ≡ Some (Some seat) → IsOpen m.index seat.session
+
+  -- each session of the index sits at the desk
+  abbrev pub KeepsAll : Machine K V → Type 0
+  KeepsAll m = (place number : ℕ) → IsOpenAt m.index place number → (seat : Seat K V) × (slice_get m.desk place ≡ Some (Some seat))
+
+  -- the places, with those free whose seat is taken
+  abbrev pub cleared : List (Option (Seat K V)) → List (Option ℕ) → List (Option ℕ)
+  cleared [] places = places
+  cleared (seat ∷ seats) [] = []
+  cleared (None ∷ seats) (place ∷ places) = place ∷ cleared seats places
+  cleared (Some seat ∷ seats) (place ∷ places) = None ∷ cleared seats places
+
+  -- the sessions of a desk close, and no other
+  abbrev pub Clears : State K V → List (Option (Seat K V)) → State K V → Type 0
+  Clears old desk new = new ≡ record old { places = cleared desk old.places }
+
+  -- a session opens, and sits down under the label
+  pub record TakesSeat (old : Machine K V) (label number : ℕ) (new : Machine K V) : Type 0 where
+    pub unknown : IsUnknown old.desk label
+    pub session : OpenSession K V
+    pub opens : Opens old.index session new.index
+    pub told : number ≡ session.receipt.number
+    pub seated : new.desk ≡ slice_set old.desk session.place (Some (record { label = label; session = session }))
+
+  -- the session under the label closes, and gives this receipt
+  pub record LeavesSeat (old : Machine K V) (label : ℕ) (receipt : Receipt K V) (new : Machine K V) : Type 0 where
+    pub place : ℕ
+    pub seat : Seat K V
+    pub sat : SitsAt old.desk label place seat
+    pub gives : receipt ≡ seat.session.receipt
+    pub closes : Closes old.index place new.index
+    pub left : new.desk ≡ slice_set old.desk place None
+
+  -- the reads that a commit rests on
+  abbrev pub RestsOn : List (Option (Seat K V)) → ReadSet K V → List (Read K V) → Type 0
+  RestsOn desk sets.Empty reads = reads ≡ []
+  RestsOn desk (sets.Receipt receipt) reads = reads ≡ receipt.reads
+  RestsOn desk (sets.Session label) reads = (place : ℕ) × (seat : Seat K V) × SitsAt desk label place seat × (reads ≡ seat.session.receipt.reads)
+
+  -- they are a session's, and there is no such session
+  abbrev pub RestsOnNone : List (Option (Seat K V)) → ReadSet K V → Type 0
+  RestsOnNone desk sets.Empty = ⊥
+  RestsOnNone desk (sets.Receipt receipt) = ⊥
+  RestsOnNone desk (sets.Session label) = IsUnknown desk label
+
+  module _ (cmp : K → K → Ordering) where
+    -- a used label is busy, before a place is sought
+    abbrev pub OpenStep : Machine K V → ℕ → DeskReply K V → Machine K V → Type 0
+    OpenStep old label (replies.Opened number) new = TakesSeat old label number new
+    OpenStep old label replies.NoPlace new = IsUnknown old.desk label × IsFull old.index × (new ≡ old)
+    OpenStep old label replies.Busy new = IsKnown old.desk label × (new ≡ old)
+    OpenStep old label reply new = ⊥
+
+    abbrev pub CloseStep : Machine K V → ℕ → DeskReply K V → Machine K V → Type 0
+    CloseStep old label (replies.Closed receipt) new = LeavesSeat old label receipt new
+    CloseStep old label (replies.NoSession back) new = IsUnknown old.desk label × (back.items ≡ []) × (new ≡ old)
+    CloseStep old label reply new = ⊥
+
+    -- the answer is that of the list at the session's opening
+    abbrev pub GetStep : Machine K V → ℕ → K → DeskReply K V → Machine K V → Type 0
+    GetStep old label key (replies.Answer answer) new =
+        (place : ℕ) × (seat : Seat K V) × SitsAt old.desk label place seat
+        × (answer ≡ answer_to cmp (queries.Get key) (list_at cmp old.index seat.session.receipt.number)) × (new ≡ old)
+    GetStep old label key (replies.NoSession back) new = IsUnknown old.desk label × (back.items ≡ []) × (new ≡ old)
+    GetStep old label key reply new = ⊥
+
+    -- a commit that is refused memory has no reply
+    abbrev pub CommitStep : Machine K V → ReadSet K V → List (Write K V) → DeskReply K V → Machine K V → Type 0
+    CommitStep old on writes (replies.Accepted told) new =
+        (reads : List (Read K V)) × RestsOn old.desk on reads × Accepts cmp old.index reads writes told new.index × (new.desk ≡ old.desk)
+    CommitStep old on writes (replies.Refused back) new =
+        (reads : List (Read K V)) × RestsOn old.desk on reads × Refuses cmp old.index reads writes back new.index × (new.desk ≡ old.desk) × (back.cause ≢ causes.Memory)
+    CommitStep old on writes (replies.NoSession back) new = RestsOnNone old.desk on × (back.items ≡ writes) × (new ≡ old)
+    CommitStep old on writes reply new = ⊥
+
+    -- from old, the call may be given this reply and lead to new
+    abbrev pub Step : Machine K V → DeskCall K V → DeskReply K V → Machine K V → Type 0
+    Step old (calls.Open label) reply new = OpenStep old label reply new
+    Step old (calls.Close label) reply new = CloseStep old label reply new
+    Step old (calls.Get label key) reply new = GetStep old label key reply new
+    Step old (calls.Commit on writes) reply new = CommitStep old on writes.items reply new
+
+    -- these calls may be given these replies, one after the other
+    abbrev pub Run : Machine K V → List (DeskCall K V) → List (DeskReply K V) → Machine K V → Type 0
+    Run old [] [] new = new ≡ old
+    Run old (call ∷ calls) (reply ∷ replies) new = (mid : Machine K V) × Step old call reply mid × Run mid calls replies new
+    Run old [] (reply ∷ replies) new = ⊥
+    Run old (call ∷ calls) [] new = ⊥

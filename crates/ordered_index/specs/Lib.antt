@@ -1,0 +1,5 @@
+pub mod Serial
+pub mod State
+pub mod Sizes
+pub mod Inside
+pub mod Desk

@@ -1,0 +1,10 @@
+-- How large an index may be made.
+use Rattle.std.specs.Prelude.{ℕ, ◌≤◌, ◌<◌, ◌^◌}
+
+-- so many places for sessions, so many slots, and at most s pairs in a segment
+pub record IsSized (places slots s : ℕ) : Type 0 where
+  pub places_fit : places < 2 ^ 30
+  pub some_slot : 1 ≤ slots
+  pub slots_fit : slots ≤ 2 ^ 30
+  pub some_pair : 1 ≤ s
+  pub segment_fits : s ≤ 225

@@ -1,0 +1,97 @@
+-- The state of an index, and its steps.
+use Rattle.std.specs.Prelude.{◌≡◌, ◌≢◌, ℕ, ◌+◌, List, [], ◌∷◌, ◌++◌, length, take, Option, Some, None, Result, Ok, Err, slice_get, slice_set, IsSome}
+use Rattle.std.specs.declared.cmp.Ordering.{Ordering}
+use Rattle.std.specs.List.{All}
+use Rattle.ordered_index.specs.Serial.{Read, after_all, replies_to, Holds, IsFirstConflict}
+use Rattle.ordered_index.specs.declared.write.Write.{Write}
+use Rattle.ordered_index.specs.declared.transaction.Transaction.{Transaction}
+use Rattle.ordered_index.specs.declared.transaction.Receipt.{Receipt}
+use Rattle.ordered_index.specs.declared.commit.Accepted.{Accepted}
+use Rattle.ordered_index.specs.declared.commit.Refused.{Refused}
+use Rattle.ordered_index.specs.declared.commit.Cause.{Cause}
+use Rattle.ordered_index.specs.declared.commit.Cause.TheVariants as causes
+
+-- the accepted transactions; at each place the number of the session that is open there; the last number
+pub record State (K V : Type 0) : Type 0 where
+  pub history : List (Transaction K V)
+  pub places : List (Option ℕ)
+  pub last : ℕ
+
+-- an open session: its place, and its receipt, which has its number
+pub record OpenSession (K V : Type 0) : Type 0 where
+  pub place : ℕ
+  pub receipt : Receipt K V
+
+module _ {K V : Type 0} where
+  -- the number of the present list
+  abbrev pub number_of : State K V → ℕ
+  number_of s = length s.history
+
+  -- a session with this number is open at this place
+  abbrev pub IsOpenAt : State K V → ℕ → ℕ → Type 0
+  IsOpenAt s place number = slice_get s.places place ≡ Some (Some number)
+
+  -- the session is one of the index
+  abbrev pub IsOpen : State K V → OpenSession K V → Type 0
+  IsOpen s session = IsOpenAt s session.place session.receipt.number
+
+  -- no place is free
+  abbrev pub IsFull : State K V → Type 0
+  IsFull s = All IsSome s.places
+
+  -- no session is open
+  abbrev pub IsIdle : State K V → Type 0
+  IsIdle s = All (λ p. p ≡ None) s.places
+
+  -- a session opens at a free place, with the present number and a receipt without reads
+  pub record Opens (old : State K V) (session : OpenSession K V) (new : State K V) : Type 0 where
+    pub free : slice_get old.places session.place ≡ Some None
+    pub present : session.receipt.number ≡ number_of old
+    pub unread : session.receipt.reads ≡ []
+    pub changed : new ≡ record old { places = slice_set old.places session.place (Some session.receipt.number) }
+
+  -- the session at this place closes
+  abbrev pub Closes : State K V → ℕ → State K V → Type 0
+  Closes old place new = new ≡ record old { places = slice_set old.places place None }
+
+  module _ (cmp : K → K → Ordering) where
+    -- the list after the first i transactions
+    abbrev pub list_at : State K V → ℕ → List (K × V)
+    list_at s i = after_all cmp (take i s.history) []
+
+    -- the present list
+    abbrev pub present : State K V → List (K × V)
+    present s = list_at s (number_of s)
+
+    -- what these reads and writes add to the history
+    abbrev pub transaction_of : State K V → List (Read K V) → List (Write K V) → Transaction K V
+    transaction_of s reads writes = record { reads = reads; writes = writes; replies = replies_to cmp writes (present s) }
+
+    -- each read holds, and the last number isn't reached
+    pub record MayAccept (s : State K V) (reads : List (Read K V)) : Type 0 where
+      pub reads_hold : All (Holds cmp (present s)) reads
+      pub not_last : number_of s ≢ s.last
+
+    -- why a commit of these reads may be refused
+    abbrev pub MayRefuse : State K V → List (Read K V) → Cause → Type 0
+    MayRefuse s reads (causes.Conflict place) = IsFirstConflict cmp (present s) reads place
+    MayRefuse s reads causes.Exhausted = All (Holds cmp (present s)) reads × (number_of s ≡ s.last)
+    MayRefuse s reads causes.Memory = MayAccept s reads
+
+    -- the writes are made, and the transaction is the last one of the history
+    pub record Accepts (old : State K V) (reads : List (Read K V)) (writes : List (Write K V)) (told : Accepted) (new : State K V) : Type 0 where
+      pub may : MayAccept old reads
+      pub number : told.number ≡ number_of old + 1
+      pub replies : told.replies.items ≡ replies_to cmp writes (present old)
+      pub changed : new ≡ record old { history = old.history ++ transaction_of old reads writes ∷ [] }
+
+    -- the writes are given back, and nothing changes
+    pub record Refuses (old : State K V) (reads : List (Read K V)) (writes : List (Write K V)) (back : Refused K V) (new : State K V) : Type 0 where
+      pub may : MayRefuse old reads back.cause
+      pub given_back : back.writes.items ≡ writes
+      pub unchanged : new ≡ old
+
+    -- a commit of these reads and writes
+    abbrev pub Commits : State K V → List (Read K V) → List (Write K V) → Result Accepted (Refused K V) → State K V → Type 0
+    Commits old reads writes (Ok told) new = Accepts old reads writes told new
+    Commits old reads writes (Err back) new = Refuses old reads writes back new

@@ -1,0 +1,32 @@
+//! What a commit is answered.
+
+use crate::write::{Reply, Write};
+
+/// An accepted commit.
+#[derive(Debug, Drop)]
+pub struct Accepted {
+    /// The number of the list that it left, one above that of the list before.
+    pub number: u64,
+    /// What each of its writes was told, in order.
+    pub replies: Vec<Reply>,
+}
+
+/// Why a commit was refused. The causes are decided in this order.
+#[derive(Clone, Copy, Debug, PartialEq, Eq)]
+pub enum Cause {
+    /// The first recorded read, counted from 0, whose answer isn't that of the present list.
+    Conflict(usize),
+    /// The last number is reached.
+    Exhausted,
+    /// A growth or a clone was refused.
+    Memory,
+}
+
+/// A refused commit. The index is as it was before.
+#[derive(Debug, Drop)]
+pub struct Refused<K, V> {
+    /// Why.
+    pub cause: Cause,
+    /// The writes, as they were handed in.
+    pub writes: Vec<Write<K, V>>,
+}

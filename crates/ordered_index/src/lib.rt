@@ -1,0 +1,42 @@
+//! A transactional ordered index of one thread.
+//!
+//! Sessions read one version of an ordered list of pairs from their opening to their close, while
+//! commits replace it. A commit is accepted exactly where the reads that it rests on still hold of
+//! the present list, so that the accepted commits are one serial history (optimistic concurrency
+//! control, validated by answers). `specs/` has the model: [`LocalIndex`] is a `State` of it, and
+//! each call one of its steps.
+//!
+//! ```text
+//! let mut index = LocalIndex::<u64, u64, 64>::new(alloc, 16, 4096)?;
+//! index.commit(&Receipt::blank(alloc), vec![in alloc; Write::Insert(1, 10)]?)?;   // number 1
+//! let session = index.open()?;
+//! index.get(&session, &1);                                                         // Some(&10)
+//! let receipt = index.close_session(session);
+//! ```
+#![tactic(auto)]
+
+mod commit;
+mod desk;
+mod index;
+mod listed;
+mod play;
+mod query;
+mod serial;
+mod session;
+mod transaction;
+mod write;
+
+pub use commit::{Accepted, Cause, Refused};
+pub use desk::Desk;
+pub use index::{LocalIndex, NoPlace};
+pub use listed::{Listed, clones_of_lists, equals_of_lists};
+pub use play::{DeskCall, DeskReply, ReadSet, play_all};
+pub use query::{Answer, Query};
+pub use session::Session;
+pub use transaction::{Receipt, Recorded, Transaction};
+pub use write::{Reply, Write};
+
+#[cfg(test)]
+mod refusals;
+#[cfg(test)]
+mod tests;

@@ -1,0 +1,231 @@
+//! Lists of calls, made one after the other.
+
+ghost use Rattle.std.specs.Prelude.{◌≡◌, ◌<◌, [], ℕ, IfOk, IfErr, IfSome, IfNone, OnErr, OnOk, take, length};
+ghost use Rattle.leaf_array.specs.Values.{ClonesAreSame, EqualsAreSame};
+ghost use Rattle.ordered_index.specs.Desk.{Serves, KeepsAll, RestsOn, RestsOnNone, OpenStep, CloseStep, GetStep, CommitStep, Step, Run};
+
+use crate::commit::{Accepted, Cause, Refused};
+use crate::desk::{Desk, Seat};
+use crate::index::{LocalIndex, NoPlace, put};
+use crate::query::Answer;
+use crate::transaction::Receipt;
+use crate::write::Write;
+use std::alloc::{AllocError, Global};
+
+/// The reads that a commit rests on.
+#[derive(Debug, Drop)]
+pub enum ReadSet<K, V> {
+    /// None.
+    Empty,
+    /// Those of the session with this label.
+    Session(u64),
+    /// Those of a receipt.
+    Receipt(Receipt<K, V>),
+}
+
+/// A call. A session is named by its label.
+#[derive(Debug, Drop)]
+pub enum DeskCall<K, V> {
+    /// Opens a session under the label.
+    Open(u64),
+    /// Closes the session with the label.
+    Close(u64),
+    /// Reads the value of the pair with the key.
+    Get(u64, K),
+    /// Commits the writes, on these reads.
+    Commit(ReadSet<K, V>, Vec<Write<K, V>>),
+}
+
+/// The reply to a [`DeskCall`].
+#[derive(Debug, Drop)]
+pub enum DeskReply<K, V> {
+    /// The session is open, on the list with this number.
+    Opened(u64),
+    /// No place is free for the session. Nothing changed.
+    NoPlace,
+    /// The label has a session already. Nothing changed.
+    Busy,
+    /// The session is closed, and this is its receipt.
+    Closed(Receipt<K, V>),
+    /// The label has no session. Nothing changed; the writes of a commit come back.
+    NoSession(Vec<Write<K, V>>),
+    /// What the session's list answers.
+    Answer(Answer<V>),
+    /// The commit was accepted.
+    Accepted(Accepted),
+    /// The commit was refused. Nothing changed.
+    Refused(Refused<K, V>),
+}
+
+/// Makes the calls, one after the other, each at most once.
+///
+/// The replies and what becomes of index and desk are a run of the model. Where memory is refused,
+/// also to a commit, the list ends: the replies so far are given, and the call that met it changed
+/// nothing. The desk has at least the index's places, and its sessions are the index's
+/// (`Serves`); the index may have other sessions too.
+pub fn play_all<K: Clone + Ord, V: Clone + Eq, const S: usize>(
+    alloc: Global,
+    index: &mut LocalIndex<K, V, S>,
+    desk: &mut Desk<K, V>,
+    calls: Vec<DeskCall<K, V>>,
+) -> Result<Vec<DeskReply<K, V>>, (Vec<DeskReply<K, V>>, AllocError)>
+    requires serves { Serves (record { index = index.old; desk = desk.old }) }
+    requires keys { ClonesAreSame K.is_clone }
+    requires values { ClonesAreSame V.is_clone }
+    requires equals { EqualsAreSame V.eq }
+    ensures run { IfOk result (λ replies. Run K.cmp (record { index = index.old; desk = desk.old }) calls.items replies.items (record { index = index.new; desk = desk.new })) }
+    ensures stopped { IfErr result (λ stop. (n : ℕ) × (n < length calls.items) × Run K.cmp (record { index = index.old; desk = desk.old }) (take n calls.items) stop.0.items (record { index = index.new; desk = desk.new })) }
+    ensures serves { Serves (record { index = index.new; desk = desk.new }) }
+    ensures keeps_all { KeepsAll (record { index = index.old; desk = desk.old }) → KeepsAll (record { index = index.new; desk = desk.new }) }
+{
+    let mut replies = Vec::new(alloc);
+    for call in calls {
+        let Ok(()) = replies.reserve(1) else {
+            return Err((replies, AllocError));
+        };
+        match play(alloc, index, desk, call) {
+            Ok(reply) => put(&mut replies, reply),
+            Err(refused) => return Err((replies, refused)),
+        }
+    }
+    Ok(replies)
+}
+
+// Makes one call. Where memory is wanted, nothing changes.
+fn play<K: Clone + Ord, V: Clone + Eq, const S: usize>(
+    alloc: Global,
+    index: &mut LocalIndex<K, V, S>,
+    desk: &mut Desk<K, V>,
+    call: DeskCall<K, V>,
+) -> Result<DeskReply<K, V>, AllocError>
+    requires serves { Serves (record { index = index.old; desk = desk.old }) }
+    requires keys { ClonesAreSame K.is_clone }
+    requires values { ClonesAreSame V.is_clone }
+    requires equals { EqualsAreSame V.eq }
+    ensures step { IfOk result (λ reply. Step K.cmp (record { index = index.old; desk = desk.old }) call reply (record { index = index.new; desk = desk.new })) }
+    ensures index_kept { OnErr result (index.new ≡ index.old) }
+    ensures desk_kept { OnErr result (desk.new ≡ desk.old) }
+    ensures serves { Serves (record { index = index.new; desk = desk.new }) }
+    ensures keeps_all { KeepsAll (record { index = index.old; desk = desk.old }) → KeepsAll (record { index = index.new; desk = desk.new }) }
+{
+    match call {
+        DeskCall::Open(label) => Ok(play_open(index, desk, label)),
+        DeskCall::Close(label) => Ok(play_close(alloc, index, desk, label)),
+        DeskCall::Get(label, key) => play_get(alloc, index, desk, label, &key),
+        DeskCall::Commit(on, writes) => play_commit(alloc, index, desk, &on, writes),
+    }
+}
+
+// Opens a session under a label.
+fn play_open<K: Clone + Ord, V: Clone + Eq, const S: usize>(
+    index: &mut LocalIndex<K, V, S>,
+    desk: &mut Desk<K, V>,
+    label: u64,
+) -> DeskReply<K, V>
+    requires { Serves (record { index = index.old; desk = desk.old }) }
+    ensures step { OpenStep K.cmp (record { index = index.old; desk = desk.old }) label result (record { index = index.new; desk = desk.new }) }
+    ensures serves { Serves (record { index = index.new; desk = desk.new }) }
+    ensures keeps_all { KeepsAll (record { index = index.old; desk = desk.old }) → KeepsAll (record { index = index.new; desk = desk.new }) }
+{
+    if let Some(_) = desk.seat(label) {
+        return DeskReply::Busy;
+    }
+    match index.open() {
+        Ok(session) => {
+            let number = index.number(&session);
+            desk.sit(label, session);
+            DeskReply::Opened(number)
+        }
+        Err(NoPlace) => DeskReply::NoPlace,
+    }
+}
+
+// Closes the session under a label.
+fn play_close<K: Clone + Ord, V: Clone + Eq, const S: usize>(
+    alloc: Global,
+    index: &mut LocalIndex<K, V, S>,
+    desk: &mut Desk<K, V>,
+    label: u64,
+) -> DeskReply<K, V>
+    requires { Serves (record { index = index.old; desk = desk.old }) }
+    ensures step { CloseStep K.cmp (record { index = index.old; desk = desk.old }) label result (record { index = index.new; desk = desk.new }) }
+    ensures serves { Serves (record { index = index.new; desk = desk.new }) }
+    ensures keeps_all { KeepsAll (record { index = index.old; desk = desk.old }) → KeepsAll (record { index = index.new; desk = desk.new }) }
+{
+    match desk.leave(label) {
+        Some(Seat { label: _, session }) => DeskReply::Closed(index.close_session(session)),
+        None => DeskReply::NoSession(Vec::new(alloc)),
+    }
+}
+
+// Reads a value by the session under a label.
+fn play_get<K: Clone + Ord, V: Clone + Eq, const S: usize>(
+    alloc: Global,
+    index: &LocalIndex<K, V, S>,
+    desk: &Desk<K, V>,
+    label: u64,
+    key: &K,
+) -> Result<DeskReply<K, V>, AllocError>
+    requires serves { Serves (record { index = index.now; desk = desk.now }) }
+    requires values { ClonesAreSame V.is_clone }
+    ensures { IfOk result (λ reply. GetStep K.cmp (record { index = index.now; desk = desk.now }) label key.now reply (record { index = index.now; desk = desk.now })) }
+{
+    let Some(seat) = desk.seat(label) else {
+        return Ok(DeskReply::NoSession(Vec::new(alloc)));
+    };
+    let found = match index.get(&seat.session, key) {
+        Some(value) => Some(value.clone()?),
+        None => None,
+    };
+    Ok(DeskReply::Answer(Answer::Get(found)))
+}
+
+// Commits writes on these reads.
+fn play_commit<K: Clone + Ord, V: Clone + Eq, const S: usize>(
+    alloc: Global,
+    index: &mut LocalIndex<K, V, S>,
+    desk: &Desk<K, V>,
+    on: &ReadSet<K, V>,
+    writes: Vec<Write<K, V>>,
+) -> Result<DeskReply<K, V>, AllocError>
+    requires serves { Serves (record { index = index.old; desk = desk.now }) }
+    requires keys { ClonesAreSame K.is_clone }
+    requires values { ClonesAreSame V.is_clone }
+    requires equals { EqualsAreSame V.eq }
+    ensures step { IfOk result (λ reply. CommitStep K.cmp (record { index = index.old; desk = desk.now }) on.now writes.items reply (record { index = index.new; desk = desk.now })) }
+    ensures err { OnErr result (index.new ≡ index.old) }
+    ensures serves { Serves (record { index = index.new; desk = desk.now }) }
+    ensures keeps_all { KeepsAll (record { index = index.old; desk = desk.now }) → KeepsAll (record { index = index.new; desk = desk.now }) }
+{
+    let blank = Receipt::blank(alloc);
+    let Some(receipt) = reads_of(desk, on, &blank) else {
+        return Ok(DeskReply::NoSession(writes));
+    };
+    match index.commit(receipt, writes) {
+        Ok(accepted) => Ok(DeskReply::Accepted(accepted)),
+        Err(refused) => match refused.cause {
+            Cause::Memory => Err(AllocError),
+            _ => Ok(DeskReply::Refused(refused)),
+        },
+    }
+}
+
+// The receipt with the reads that a commit rests on, if it has a session where it names one.
+fn reads_of<'a, K, V>(
+    desk: &'a Desk<K, V>,
+    on: &'a ReadSet<K, V>,
+    blank: &'a Receipt<K, V>,
+) -> Option<&'a Receipt<K, V>>
+    requires { blank.now.reads ≡ [] }
+    ensures some { IfSome result (λ receipt. RestsOn desk.now on.now receipt.now.reads) }
+    ensures none { IfNone result (RestsOnNone desk.now on.now) }
+{
+    match on {
+        ReadSet::Empty => Some(blank),
+        ReadSet::Receipt(receipt) => Some(receipt),
+        ReadSet::Session(label) => match desk.seat(*label) {
+            Some(seat) => Some(seat.session.receipt()),
+            None => None,
+        },
+    }
+}

@@ -1,0 +1,189 @@
+//! Runs in which any one allocation may be refused. A script has each refused in turn: whatever is
+//! refused, nothing has changed, and the same call then succeeds.
+
+ghost use Rattle.std.specs.Prelude.{◌≡◌, [], None, replicate, ◌^◌, ◌-◌};
+
+use crate::{
+    Accepted, Cause, Desk, DeskCall, DeskReply, LocalIndex, ReadSet, Receipt, Reply, Write,
+    play_all,
+};
+use std::alloc::{AllocError, Global};
+use std::process::Abort;
+
+type Numbers = LocalIndex<u64, u64, 2>;
+
+const TWICE: &str = "memory was refused twice";
+
+// An index with one place, whose making is tried again where memory was refused.
+fn numbers<R: Abort>(rt: &R, alloc: Global, met: &mut bool) -> Numbers
+    ensures { result ≡ record { history = []; places = replicate 1 None; last = 2 ^ 64 - 1 } }
+{
+    match Numbers::new(alloc, 1, 16) {
+        Ok(index) => index,
+        Err(AllocError) => {
+            *met = true;
+            Numbers::new(alloc, 1, 16).expect(rt, TWICE)
+        }
+    }
+}
+
+// A desk for one session, tried again likewise.
+fn desk<R: Abort>(rt: &R, alloc: Global, met: &mut bool) -> Desk<u64, u64>
+    ensures { result ≡ replicate 1 None }
+{
+    match Desk::new(alloc, 1) {
+        Ok(desk) => desk,
+        Err(AllocError) => {
+            *met = true;
+            Desk::new(alloc, 1).expect(rt, TWICE)
+        }
+    }
+}
+
+fn two_inserts(alloc: Global) -> Result<Vec<Write<u64, u64>>, AllocError> {
+    let writes = vec![in alloc; Write::Insert(1, 10), Write::Insert(1, 11)]?;
+    Ok(writes)
+}
+
+// Two inserts of one key, tried again likewise.
+fn writes<R: Abort>(rt: &R, alloc: Global, met: &mut bool) -> Vec<Write<u64, u64>> {
+    match two_inserts(alloc) {
+        Ok(writes) => writes,
+        Err(AllocError) => {
+            *met = true;
+            two_inserts(alloc).expect(rt, TWICE)
+        }
+    }
+}
+
+// Commits two inserts, again where memory was refused, and looks whether anything had changed then.
+fn commit<R: Abort>(rt: &R, alloc: Global, index: &mut Numbers, met: &mut bool) -> Accepted {
+    let blank = Receipt::blank(alloc);
+    let writes = writes(rt, alloc, met);
+    let refused = match index.commit(&blank, writes) {
+        Ok(accepted) => return accepted,
+        Err(refused) => refused,
+    };
+    *met = true;
+    assert!(rt; refused.cause == Cause::Memory);
+    assert!(rt; refused.writes.as_slice() == &[Write::Insert(1, 10), Write::Insert(1, 11)][..]);
+    let session = index.open().expect(rt, "a free place");
+    assert!(rt; index.number(&session) == 0);
+    assert!(rt; index.get(&session, &1).is_none());
+    let _receipt = index.close_session(session);
+    index.commit(&blank, refused.writes).expect(rt, TWICE)
+}
+
+// Whether an allocation was refused while an index was made, written and read.
+fn writes_and_reads<R: Abort>(rt: &R, alloc: Global) -> bool {
+    let mut met = false;
+    let mut index = numbers(rt, alloc, &mut met);
+    let accepted = commit(rt, alloc, &mut index, &mut met);
+    assert!(rt; accepted.number == 1);
+    assert!(rt; accepted.replies.as_slice() == &[Reply::Inserted, Reply::Duplicate][..]);
+    let session = index.open().expect(rt, "a free place");
+    assert!(rt; index.get(&session, &1) == Some(&10));
+    let _receipt = index.close_session(session);
+    match index.close() {
+        Ok(()) => met,
+        Err(_open) => panic!(rt; "a session is open"),
+    }
+}
+
+// A commit, a session, a read and a commit on it.
+fn all_calls(alloc: Global) -> Result<Vec<DeskCall<u64, u64>>, AllocError> {
+    let mut calls = Vec::with_capacity(alloc, 4)?;
+    calls.push(DeskCall::Commit(ReadSet::Empty, two_inserts(alloc)?))?;
+    calls.push(DeskCall::Open(7))?;
+    calls.push(DeskCall::Get(7, 1))?;
+    calls.push(DeskCall::Commit(ReadSet::Session(7), two_inserts(alloc)?))?;
+    Ok(calls)
+}
+
+// The calls after so many of them.
+fn calls_after(alloc: Global, done: usize) -> Result<Vec<DeskCall<u64, u64>>, AllocError> {
+    let mut rest = Vec::with_capacity(alloc, 4)?;
+    for call in all_calls(alloc)?.into_iter().skip(done) {
+        rest.push(call)?;
+    }
+    Ok(rest)
+}
+
+fn calls<R: Abort>(rt: &R, alloc: Global, done: usize, met: &mut bool) -> Vec<DeskCall<u64, u64>> {
+    match calls_after(alloc, done) {
+        Ok(calls) => calls,
+        Err(AllocError) => {
+            *met = true;
+            calls_after(alloc, done).expect(rt, TWICE)
+        }
+    }
+}
+
+// Which of the calls a reply belongs to.
+fn place_of(reply: &DeskReply<u64, u64>) -> usize {
+    match reply {
+        DeskReply::Accepted(accepted) if accepted.number == 1 => 0,
+        DeskReply::Opened(1) => 1,
+        DeskReply::Answer(_) => 2,
+        DeskReply::Accepted(accepted) if accepted.number == 2 => 3,
+        _ => 4,
+    }
+}
+
+fn are_in_order(replies: &[DeskReply<u64, u64>], first: usize) -> bool {
+    replies
+        .iter()
+        .enumerate()
+        .all(|(i, reply)| place_of(reply) == first.saturating_add(i))
+}
+
+// Whether an allocation was refused while calls were played. The calls from the refused one on are
+// played again, as if it had not been met.
+fn plays<R: Abort>(rt: &R, alloc: Global) -> bool {
+    let mut met = false;
+    let mut index = numbers(rt, alloc, &mut met);
+    let mut desk = desk(rt, alloc, &mut met);
+    let all = calls(rt, alloc, 0, &mut met);
+    match play_all(alloc, &mut index, &mut desk, all) {
+        Ok(replies) => {
+            assert!(rt; replies.len() == 4);
+            assert!(rt; are_in_order(replies.as_slice(), 0));
+        }
+        Err((replies, AllocError)) => {
+            met = true;
+            assert!(rt; are_in_order(replies.as_slice(), 0));
+            let rest = calls(rt, alloc, replies.len(), &mut met);
+            match play_all(alloc, &mut index, &mut desk, rest) {
+                Ok(others) => assert!(rt; are_in_order(others.as_slice(), replies.len())),
+                Err(_stopped) => panic!(rt; "memory was refused twice"),
+            }
+        }
+    }
+    desk.end(&mut index);
+    match index.close() {
+        Ok(()) => met,
+        Err(_open) => panic!(rt; "a session is open"),
+    }
+}
+
+#[test]
+fn a_refusal_of_memory_changes_nothing(rt: HostRuntime) {
+    let _met = writes_and_reads(&rt, rt.alloc());
+}
+
+#[test]
+fn a_refusal_of_memory_changes_nothing_in_a_list_of_calls(rt: HostRuntime) {
+    let _met = plays(&rt, rt.alloc());
+}
+
+// These two fail as long as an allocation is refused, so that a script knows when to stop.
+
+#[test]
+fn no_memory_is_refused(rt: HostRuntime) {
+    assert!(rt; !writes_and_reads(&rt, rt.alloc()));
+}
+
+#[test]
+fn no_memory_is_refused_in_a_list_of_calls(rt: HostRuntime) {
+    assert!(rt; !plays(&rt, rt.alloc()));
+}

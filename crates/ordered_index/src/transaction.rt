@@ -1,0 +1,47 @@
+//! What sessions read, and what accepted commits leave behind.
+
+ghost use Rattle.std.specs.Prelude.{◌≡◌, []};
+
+use crate::listed::Listed;
+use crate::query::{Answer, Query};
+use crate::write::{Reply, Write};
+use std::alloc::Global;
+
+/// A recorded read: a query, and the answer that was given to it or is claimed of it.
+pub type Recorded<K, V> = (Query<K>, Answer<V>);
+
+/// What a session read, and at which number: plain data, that anybody may make.
+///
+/// A commit takes a receipt for its reads, and trusts neither its number nor its answers: it tests
+/// each answer on the present list (a read set, as optimistic concurrency control has it).
+#[derive(Debug, Drop)]
+pub struct Receipt<K, V> {
+    /// The number of the list that was read.
+    pub number: u64,
+    /// The reads, in order.
+    pub reads: Listed<Recorded<K, V>>,
+}
+
+impl<K, V> Receipt<K, V> {
+    /// A receipt of number 0 without reads: a commit that rests on it conflicts with nothing.
+    pub fn blank(alloc: Global) -> Self
+        ensures number { result.number ≡ 0 }
+        ensures reads { result.reads ≡ [] }
+    {
+        Receipt {
+            number: 0,
+            reads: Listed::new(alloc),
+        }
+    }
+}
+
+/// What an accepted commit read, wrote and was told: an entry of the history.
+#[derive(Debug, Drop)]
+pub struct Transaction<K, V> {
+    /// The reads that it rested on.
+    pub reads: Listed<Recorded<K, V>>,
+    /// Its writes, in order.
+    pub writes: Listed<Write<K, V>>,
+    /// What each write was told.
+    pub replies: Listed<Reply>,
+}
