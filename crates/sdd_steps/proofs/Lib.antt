@@ -1,0 +1,6 @@
+pub mod Lists
+pub mod Counts
+pub mod Facts
+pub mod Told
+pub mod Keeps
+pub mod Whole
