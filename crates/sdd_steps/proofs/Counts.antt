@@ -4,10 +4,10 @@ use lib.ListN.{length-map}
 use mathlib.Core.Logic.{dite}
 use mathlib.Core.Option.{some, some-injective, some-ne-none}
 use native.Mathlib.Decide.{ℕ_discrete}
-use Rattle.sdd_steps.specs.declared.snapshot.Item.{Item}
-use Rattle.sdd_steps.specs.declared.snapshot.Cell.{Cell}
-use Rattle.sdd_steps.specs.declared.snapshot.Fate.{Fate}
-use Rattle.sdd_steps.specs.declared.snapshot.Fate.TheVariants.{Live, Due, Retired, Collected, Waiting, Reclaimed}
+use Rattle.sdd_steps.specs.declared.item.Item.{Item}
+use Rattle.sdd_steps.specs.declared.item.Cell.{Cell}
+use Rattle.sdd_steps.specs.declared.item.Fate.{Fate}
+use Rattle.sdd_steps.specs.declared.item.Fate.TheVariants.{Live, Due, Retired, Collected, Waiting, Reclaimed}
 use Rattle.sdd_steps.specs.State.{At, Has, has, tally, times, without, no_item, empty_cell}
 use Rattle.sdd_steps.specs.Steps.{handed, unhanded, paid, placed, taken_up, all_handy}
 use Rattle.sdd_steps.specs.Kept.{points, uses, held, names_of, Owned, Counted}

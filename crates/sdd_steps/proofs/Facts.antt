@@ -2,15 +2,15 @@
 use Rattle.std.proofs.Common.{◌≡◌, ◌≢◌, ◌⊎◌, ℕ, zero, suc, ◌+◌, ◌<◌, ◌≤◌, List, [], ◌∷◌, length, map, get_or, set, sym, refl, ap, ◌∙◌, subst, ⊎_elim, inl, inr, arith, Option, Some, None}
 use mathlib.Core.Logic.{dite}
 use native.Mathlib.Decide.{ℕ_discrete}
-use Rattle.sdd_steps.specs.declared.snapshot.Phase.{Phase}
-use Rattle.sdd_steps.specs.declared.snapshot.Phase.TheVariants.{Idle, HasRead, Opened}
-use Rattle.sdd_steps.specs.declared.snapshot.Fate.{Fate}
-use Rattle.sdd_steps.specs.declared.snapshot.Fate.TheVariants.{Live, Due, Retired, Collected, Waiting, Reclaimed}
-use Rattle.sdd_steps.specs.declared.snapshot.Seen.{Seen}
-use Rattle.sdd_steps.specs.declared.snapshot.Loaded.{Loaded}
-use Rattle.sdd_steps.specs.declared.snapshot.Participant.{Participant}
-use Rattle.sdd_steps.specs.declared.snapshot.Item.{Item}
-use Rattle.sdd_steps.specs.declared.snapshot.Cell.{Cell}
+use Rattle.sdd_steps.specs.declared.participant.Phase.{Phase}
+use Rattle.sdd_steps.specs.declared.participant.Phase.TheVariants.{Idle, HasRead, Opened}
+use Rattle.sdd_steps.specs.declared.item.Fate.{Fate}
+use Rattle.sdd_steps.specs.declared.item.Fate.TheVariants.{Live, Due, Retired, Collected, Waiting, Reclaimed}
+use Rattle.sdd_steps.specs.declared.participant.Seen.{Seen}
+use Rattle.sdd_steps.specs.declared.participant.Loaded.{Loaded}
+use Rattle.sdd_steps.specs.declared.participant.Participant.{Participant}
+use Rattle.sdd_steps.specs.declared.item.Item.{Item}
+use Rattle.sdd_steps.specs.declared.item.Cell.{Cell}
 use Rattle.sdd_steps.specs.State.{State, At, Has, no_item, with_participant}
 use Rattle.sdd_steps.specs.Steps.{seen}
 use Rattle.sdd_steps.specs.Kept.{Guarded, Ageing, Same, Standing, Facts}

@@ -2,14 +2,14 @@
 use Rattle.std.proofs.Common.{true, ◌≡◌, ◌≢◌, ◌⊎◌, ℕ, zero, suc, ◌+◌, ◌-◌, ◌^◌, ◌<◌, ◌≤◌, ◌==◌, cond, List, [], ◌∷◌, ◌++◌, map, length, get_or, set, sym, refl, ap, ◌∙◌, subst, ⊎_elim, inl, inr, arith, Option, Some, None, length-set, eq-eqb, ne_eqb}
 use mathlib.Core.Logic.{dite}
 use native.Mathlib.Decide.{ℕ_discrete}
-use Rattle.sdd_steps.specs.declared.snapshot.Phase.{Phase}
-use Rattle.sdd_steps.specs.declared.snapshot.Phase.TheVariants.{Idle, HasRead, Opened}
-use Rattle.sdd_steps.specs.declared.snapshot.Fate.{Fate}
-use Rattle.sdd_steps.specs.declared.snapshot.Fate.TheVariants.{Live, Due, Retired, Collected, Waiting, Reclaimed}
-use Rattle.sdd_steps.specs.declared.snapshot.Loaded.{Loaded}
-use Rattle.sdd_steps.specs.declared.snapshot.Participant.{Participant}
-use Rattle.sdd_steps.specs.declared.snapshot.Item.{Item}
-use Rattle.sdd_steps.specs.declared.snapshot.Cell.{Cell}
+use Rattle.sdd_steps.specs.declared.participant.Phase.{Phase}
+use Rattle.sdd_steps.specs.declared.participant.Phase.TheVariants.{Idle, HasRead, Opened}
+use Rattle.sdd_steps.specs.declared.item.Fate.{Fate}
+use Rattle.sdd_steps.specs.declared.item.Fate.TheVariants.{Live, Due, Retired, Collected, Waiting, Reclaimed}
+use Rattle.sdd_steps.specs.declared.participant.Loaded.{Loaded}
+use Rattle.sdd_steps.specs.declared.participant.Participant.{Participant}
+use Rattle.sdd_steps.specs.declared.item.Item.{Item}
+use Rattle.sdd_steps.specs.declared.item.Cell.{Cell}
 use Rattle.sdd_steps.specs.State.{State, At, Has, times, without, cell_at, item_at, with_participant, with_item, with_cell, no_item, empty_cell}
 use Rattle.sdd_steps.specs.Steps.{loaded_as, handed, unhanded, emptied, filled, after_release, count_of, older, aged, left, left_by, let_go, noted, paid, placed, taken_up, all_handy}
 use Rattle.sdd_steps.specs.Kept.{Guarded, Ageing, Owned, Counted, Same, Standing, Facts, Inv, points, uses, names_of}

@@ -91,6 +91,15 @@ module _ {A : Type 0} where
   get_at (x ∷ xs) zero d a e = some-injective x a e
   get_at (x ∷ xs) (suc i) d a e = get_at xs i d a e
 
+  pub read_at : (l : List A) (i : ℕ) (d x : A) → i < length l → x ≡ get_or l i x → get_or l i d ≡ x
+  read_at l i d x h e = get_at l i d x (subst (At l i) (sym e) (at_get l i x h))
+
+  -- what is read is there, or the default
+  pub read_or : (P : A → Type 0) (l : List A) (i : ℕ) (d : A) → P d → ((x : A) → At l i x → P x) → P (get_or l i d)
+  read_or P [] i d none there = none
+  read_or P (x ∷ l) zero d none there = there x refl
+  read_or P (x ∷ l) (suc i) d none there = read_or P l i d none there
+
   pub same_at : (l : List A) (i : ℕ) (x y : A) → At l i x → At l i y → x ≡ y
   same_at l i x y a b = some-injective x y (sym a ∙ b)
 

@@ -1,18 +1,19 @@
 -- the laws: every step keeps the invariant, the start meets it, and it keeps the promise
 use Rattle.std.proofs.Common.{◌≡◌, ◌≢◌, ◌⊎◌, ◌&&◌, ◌||◌, ◌==◌, nat_lt, true, not, is_some, ℕ, ◌+◌, ◌-◌, ◌^◌, ◌<◌, List, [], ◌∷◌, map, length, replicate, sym, refl, ap, ◌∙◌, subst, ⊎_elim, arith, Option, Some, None, eqb-true, ltb-true}
-use Rattle.sdd_steps.specs.declared.snapshot.Phase.TheVariants.{Idle, HasRead, Opened}
-use Rattle.sdd_steps.specs.declared.snapshot.Fate.{Fate}
-use Rattle.sdd_steps.specs.declared.snapshot.Fate.TheVariants.{Live, Due, Retired, Collected, Waiting, Reclaimed}
-use Rattle.sdd_steps.specs.declared.snapshot.Seen.{Seen}
-use Rattle.sdd_steps.specs.declared.snapshot.Participant.{Participant}
-use Rattle.sdd_steps.specs.declared.snapshot.Item.{Item}
-use Rattle.sdd_steps.specs.declared.snapshot.Cell.{Cell}
+use Rattle.sdd_steps.specs.declared.participant.Phase.TheVariants.{Idle, HasRead, Opened}
+use Rattle.sdd_steps.specs.declared.item.Fate.{Fate}
+use Rattle.sdd_steps.specs.declared.item.Fate.TheVariants.{Live, Due, Retired, Collected, Waiting, Reclaimed}
+use Rattle.sdd_steps.specs.declared.participant.Seen.{Seen}
+use Rattle.sdd_steps.specs.declared.participant.Participant.{Participant}
+use Rattle.sdd_steps.specs.declared.item.Item.{Item}
+use Rattle.sdd_steps.specs.declared.item.Cell.{Cell}
 use Rattle.sdd_steps.specs.declared.step.Step.{Step}
 use Rattle.sdd_steps.specs.declared.step.Step.TheVariants.{ReadEpoch, Publish, Rotate, LoadCell, LoadInHand, ReadSegment, SwapCell, Release, Retire, Collect, Look, Raise, Reclaim, GiveUp, GiveUpCell, Close, Place, RaiseOwners, Reread, End, TakeOver}
 use Rattle.sdd_steps.specs.State.{State, At, Has, has, participant_at, cell_at, item_at, participant_is, cell_is, item_is, with_item, newcomer, empty_cell, no_item, start}
 use Rattle.sdd_steps.specs.Steps.{enabled, after, Steps, Schedule, is_idle, is_reading, is_turning, is_inside, is_ready, is_handy, is_full, is_live, is_due, is_reclaimed, is_left, is_ripe, is_offered, is_at_hand, is_within, agrees, all_looked, all_handy, all_alone, none_due, segment_loaded, holder_is, count_of, named, noted, let_go, emptied, filled, seen, with_fate}
 use Rattle.sdd_steps.specs.Kept.{Counted, Facts, Guarded, Standing, Inv, Intact, Safe, names_of}
-use Rattle.sdd_steps.proofs.Lists.{both, at_inside, at_mapped, at_replicate, find_at, get_at, has_map}
+use Rattle.sdd_steps.specs.Inside.{CanAge, HasRoom}
+use Rattle.sdd_steps.proofs.Lists.{both, at_inside, at_mapped, at_replicate, find_at, get_at, has_map, read_or}
 use Rattle.sdd_steps.proofs.Counts.{has_has, times_has, held_some, names_reheld, names_kept}
 use Rattle.sdd_steps.proofs.Told.{participant_there, cell_there, item_there, idle_is, reading_is, turning_is, inside_is, ready_is, agrees_is, looked_is, due_is, live_is, reclaimed_is, left_dead, ripe_is, some_is}
 use Rattle.sdd_steps.proofs.Keeps.{named_there, live_in_hand, reads, publishes, closes, loads, looks_at, rereads, rotates, ends, raises, retires, collects, reclaims, adds_owner, releases, places, reholds, empties_cell, emptied_cell, emptied_hand, fills_cell, gives_up_owner}
@@ -137,3 +138,19 @@ schedules s t (a ∷ later) i h = schedules h.0 t later (keeps s a h.0 h.1 i) h.
 
 pub all_safe : (participants cells : ℕ) (steps : List Step) (t : State) → Schedule (start participants cells) steps t → Safe t
 all_safe participants cells steps t h = safe t (schedules (start participants cells) t steps (starts participants cells) h)
+
+-- the parts of a start
+pub starts_as : (ps : List Participant) (cs : List Cell) (items : List Item) (p c : ℕ) → ps ≡ replicate p newcomer → cs ≡ replicate c empty_cell → items ≡ [] → Inv (record { count = 0; participants = ps; cells = cs; items = items })
+starts_as ps cs items p c is_p is_c is_i = subst (λ (z : List Participant × (List Cell × List Item)). Inv (record { count = 0; participants = z.0; cells = z.1.0; items = z.1.1 })) (λ j. (sym is_p j, (sym is_c j, sym is_i j))) (starts p c)
+
+-- in a state that meets the invariant no number is at its end
+pub has_room : (s : State) → Inv s → HasRoom s
+has_room s (k, (b, n, f)) = let few : (i : ℕ) → ((item_at s i).hand < 2 ^ 64 - 1) × ((item_at s i).owners < 2 ^ 64 - 1) = (λ i. read_or (λ (z : Item). (z.hand < 2 ^ 64 - 1) × (z.owners < 2 ^ 64 - 1)) s.items i no_item (omega arith, omega arith)
+    (λ it at. let o = k.owned i it at in let c = o.counted in let l = o.limit in (omega arith, omega arith))) in record {
+      hands = λ i. (few i).0;
+      owners = λ i. (few i).1;
+      ages = λ p. read_or (λ (x : Participant). is_turning x ≡ true → CanAge p s.items) s.participants p newcomer (λ h. absurd (cc))
+          (λ x at h i a. read_or (λ (z : Item). z.fate ≡ Retired p a → a < 2 ^ 64 - 1) s.items i no_item (λ e. absurd (cc))
+          (λ it at_i e. let t = turning_is x h in let y = (f.ageing i it p a x at_i e at).young in let g = (f.guards p x at).inside (count_of x.phase) t.0 in let differs = t.1 in
+          let g0 = g.0 in let g1 = g.1 in let g2 = g.2 in let fits = f.fits in omega arith));
+    }

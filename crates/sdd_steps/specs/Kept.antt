@@ -1,14 +1,14 @@
 -- what every state keeps that steps leave, and the promise that follows from it
 use Rattle.std.specs.Prelude.{◌≡◌, ◌≢◌, ℕ, ◌+◌, ◌-◌, ◌^◌, ◌<◌, ◌≤◌, true, List, [], ◌∷◌, length, map, Option, None, Some}
-use Rattle.sdd_steps.specs.declared.snapshot.Phase.{Phase}
-use Rattle.sdd_steps.specs.declared.snapshot.Phase.TheVariants.{HasRead, Opened}
-use Rattle.sdd_steps.specs.declared.snapshot.Fate.{Fate}
-use Rattle.sdd_steps.specs.declared.snapshot.Fate.TheVariants.{Live, Due, Retired, Collected, Waiting, Reclaimed}
-use Rattle.sdd_steps.specs.declared.snapshot.Seen.{Seen}
-use Rattle.sdd_steps.specs.declared.snapshot.Loaded.{Loaded}
-use Rattle.sdd_steps.specs.declared.snapshot.Participant.{Participant}
-use Rattle.sdd_steps.specs.declared.snapshot.Item.{Item}
-use Rattle.sdd_steps.specs.declared.snapshot.Cell.{Cell}
+use Rattle.sdd_steps.specs.declared.participant.Phase.{Phase}
+use Rattle.sdd_steps.specs.declared.participant.Phase.TheVariants.{HasRead, Opened}
+use Rattle.sdd_steps.specs.declared.item.Fate.{Fate}
+use Rattle.sdd_steps.specs.declared.item.Fate.TheVariants.{Live, Due, Retired, Collected, Waiting, Reclaimed}
+use Rattle.sdd_steps.specs.declared.participant.Seen.{Seen}
+use Rattle.sdd_steps.specs.declared.participant.Loaded.{Loaded}
+use Rattle.sdd_steps.specs.declared.participant.Participant.{Participant}
+use Rattle.sdd_steps.specs.declared.item.Item.{Item}
+use Rattle.sdd_steps.specs.declared.item.Cell.{Cell}
 use Rattle.sdd_steps.specs.declared.step.Step.{Step}
 use Rattle.sdd_steps.specs.State.{State, At, Has, tally, times, start}
 use Rattle.sdd_steps.specs.Steps.{Steps, Schedule, seen, opened}

@@ -1,14 +1,14 @@
 -- the single steps: where each is enabled, and what it makes of a state
 use Rattle.std.specs.Prelude.{◌≡◌, ℕ, zero, suc, ◌+◌, ◌-◌, ◌^◌, ◌==◌, ◌||◌, ◌&&◌, not, nat_lt, nat_le, is_some, Bool, true, false, cond, Option, None, Some, List, [], ◌∷◌, ◌++◌, get_or, set, length, map}
-use Rattle.sdd_steps.specs.declared.snapshot.Phase.{Phase}
-use Rattle.sdd_steps.specs.declared.snapshot.Phase.TheVariants.{Idle, HasRead, Opened}
-use Rattle.sdd_steps.specs.declared.snapshot.Fate.{Fate}
-use Rattle.sdd_steps.specs.declared.snapshot.Fate.TheVariants.{Live, Due, Retired, Collected, Waiting, Reclaimed}
-use Rattle.sdd_steps.specs.declared.snapshot.Seen.{Seen}
-use Rattle.sdd_steps.specs.declared.snapshot.Loaded.{Loaded}
-use Rattle.sdd_steps.specs.declared.snapshot.Participant.{Participant}
-use Rattle.sdd_steps.specs.declared.snapshot.Item.{Item}
-use Rattle.sdd_steps.specs.declared.snapshot.Cell.{Cell}
+use Rattle.sdd_steps.specs.declared.participant.Phase.{Phase}
+use Rattle.sdd_steps.specs.declared.participant.Phase.TheVariants.{Idle, HasRead, Opened}
+use Rattle.sdd_steps.specs.declared.item.Fate.{Fate}
+use Rattle.sdd_steps.specs.declared.item.Fate.TheVariants.{Live, Due, Retired, Collected, Waiting, Reclaimed}
+use Rattle.sdd_steps.specs.declared.participant.Seen.{Seen}
+use Rattle.sdd_steps.specs.declared.participant.Loaded.{Loaded}
+use Rattle.sdd_steps.specs.declared.participant.Participant.{Participant}
+use Rattle.sdd_steps.specs.declared.item.Item.{Item}
+use Rattle.sdd_steps.specs.declared.item.Cell.{Cell}
 use Rattle.sdd_steps.specs.declared.step.Step.{Step}
 use Rattle.sdd_steps.specs.declared.step.Step.TheVariants.{ReadEpoch, Publish, Rotate, LoadCell, LoadInHand, ReadSegment, SwapCell, Release, Retire, Collect, Look, Raise, Reclaim, GiveUp, GiveUpCell, Close, Place, RaiseOwners, Reread, End, TakeOver}
 use Rattle.sdd_steps.specs.State.{State, participant_at, cell_at, item_at, participant_is, cell_is, item_is, with_participant, with_cell, with_item, has, times, without, no_item, empty_cell}

@@ -1,83 +1,201 @@
-//! What a state is made of.
+//! What a state is made of, before it is known that it keeps its promise.
 
+ghost use Rattle.std.specs.Prelude.{◌≡◌, ◌<◌, length, IfOk};
+ghost use Rattle.sdd_steps.specs.State.{newcomer, participant_at, cell_at, item_at, with_participant, with_cell, with_item};
+ghost use Rattle.sdd_steps.specs.Inside.{shown};
+
+use crate::item::{Cell, Fate, Item};
 use crate::listed::Listed;
+use crate::participant::{Loaded, Participant, Phase, Seen};
+use std::alloc::{AllocError, Global};
 
-/// How far a participant's opening has come. The number is the count that it read.
-#[derive(Clone, Copy, PartialEq, Eq, Drop, Debug)]
-pub enum Phase {
-    /// Without a guard.
-    Idle,
-    /// It has read the count, and hasn't published it yet.
-    HasRead(u64),
-    /// Its guard is open with the count that it published.
-    Opened(u64),
-}
-
-/// An item that another one held when that was loaded, with its value then.
-#[derive(Clone, Copy, PartialEq, Eq, Drop, Debug)]
-pub struct Seen {
-    pub item: usize,
-    pub value: u64,
-}
-
-/// An item that was loaded, with its value and what it held then, in order.
+/// The parts of a state.
 #[derive(Drop)]
-pub struct Loaded {
-    pub item: usize,
-    pub value: u64,
-    pub holds: Listed<Seen>,
+pub(crate) struct Snapshot {
+    pub(crate) count: u64,
+    pub(crate) participants: Vec<Participant>,
+    pub(crate) cells: Vec<Cell>,
+    pub(crate) items: Vec<Item>,
 }
 
-/// A participant.
-#[derive(Drop)]
-pub struct Participant {
-    pub phase: Phase,
-    /// The count that its previous opening found, after the rotation that was due. At first 0.
-    pub found: u64,
-    /// The count that it last read again under its open guard.
-    pub reread: Option<u64>,
-    /// Whom it has looked at under its open guard.
-    pub looked: Listed<usize>,
-    /// What it has loaded under its open guard.
-    pub loaded: Listed<Loaded>,
+/// What can be copied as it is, where memory suffices.
+pub(crate) trait Copied: Drop {
+    fn copied(&self, alloc: Global) -> Result<Self, AllocError>
+        ensures { IfOk result (λ y. y ≡ self.now) };
 }
 
-/// What has become of an item.
-#[derive(Clone, Copy, PartialEq, Eq, Drop, Debug)]
-pub enum Fate {
-    /// It has an owner.
-    Live,
-    /// This participant gave its last owner back and is to retire it.
-    Due(usize),
-    /// The participant that retired it, and its age: how often that participant has rotated since.
-    Retired(usize, u64),
-    /// It is in a private bag, with the count that was last read again before.
-    Collected(u64),
-    /// The participant that retired it has ended.
-    Waiting,
-    /// This participant reclaims it: it gives up what it still holds.
-    Reclaimed(usize),
+impl Copied for usize {
+    fn copied(&self, _alloc: Global) -> Result<usize, AllocError> {
+        Ok(*self)
+    }
 }
 
-/// An item. Its number is the number of items that were placed before it.
-#[derive(Drop)]
-pub struct Item {
-    /// What stands in it; of a segment, what stands for its pairs. It never changes.
-    pub value: u64,
-    /// Its owners that are out, whoever has them.
-    pub hand: u64,
-    /// All its owners: in hand, in cells and in items.
-    pub owners: u64,
-    /// The items of which it holds an owner, in order.
-    pub holds: Listed<usize>,
-    pub fate: Fate,
+impl Copied for Seen {
+    fn copied(&self, _alloc: Global) -> Result<Seen, AllocError> {
+        Ok(*self)
+    }
 }
 
-/// A cell.
-#[derive(Clone, Copy, PartialEq, Eq, Drop, Debug)]
-pub struct Cell {
-    /// The item that holds the cell. A cell without one stands by itself.
-    pub holder: Option<usize>,
-    /// The item of which the cell keeps an owner.
-    pub names: Option<usize>,
+impl Copied for Cell {
+    fn copied(&self, _alloc: Global) -> Result<Cell, AllocError> {
+        Ok(*self)
+    }
+}
+
+pub(crate) fn copy_all<T: Copied>(alloc: Global, items: &[T]) -> Result<Vec<T>, AllocError>
+    ensures { IfOk result (λ all. all.items ≡ items.now) }
+{
+    let mut all = Vec::new(alloc);
+    for item in items {
+        all.push(item.copied(alloc)?)?;
+    }
+    Ok(all)
+}
+
+impl<T: Copied> Copied for Listed<T> {
+    fn copied(&self, alloc: Global) -> Result<Self, AllocError> {
+        Ok(Listed::from_vec(copy_all(alloc, self.as_slice())?))
+    }
+}
+
+impl Copied for Loaded {
+    fn copied(&self, alloc: Global) -> Result<Loaded, AllocError> {
+        Ok(Loaded {
+            item: self.item,
+            value: self.value,
+            holds: self.holds.copied(alloc)?,
+        })
+    }
+}
+
+impl Copied for Participant {
+    fn copied(&self, alloc: Global) -> Result<Participant, AllocError> {
+        Ok(Participant {
+            phase: self.phase,
+            found: self.found,
+            reread: self.reread,
+            looked: self.looked.copied(alloc)?,
+            loaded: self.loaded.copied(alloc)?,
+        })
+    }
+}
+
+impl Copied for Item {
+    fn copied(&self, alloc: Global) -> Result<Item, AllocError> {
+        Ok(Item {
+            value: self.value,
+            hand: self.hand,
+            owners: self.owners,
+            holds: self.holds.copied(alloc)?,
+            fate: self.fate,
+        })
+    }
+}
+
+impl Snapshot {
+    pub(crate) fn copied(&self, alloc: Global) -> Result<Snapshot, AllocError>
+        ensures { IfOk result (λ t. shown t ≡ shown self.now) }
+    {
+        Ok(Snapshot {
+            count: self.count,
+            participants: copy_all(alloc, &self.participants)?,
+            cells: copy_all(alloc, &self.cells)?,
+            items: copy_all(alloc, &self.items)?,
+        })
+    }
+
+    pub(crate) fn participant(&self, p: usize) -> &Participant
+        requires { p < length self.now.participants.items }
+        ensures { result.now ≡ participant_at (shown self.now) p }
+    {
+        &self.participants[p]
+    }
+
+    pub(crate) fn cell(&self, c: usize) -> Cell
+        ensures { result ≡ cell_at (shown self.now) c }
+    {
+        match self.cells.get(c) {
+            Some(o) => *o,
+            None => Cell {
+                holder: None,
+                names: None,
+            },
+        }
+    }
+
+    pub(crate) fn item(&self, i: usize) -> &Item
+        requires { i < length self.now.items.items }
+        ensures { result.now ≡ item_at (shown self.now) i }
+    {
+        &self.items[i]
+    }
+
+    /// A participant as it is, to be changed and set again.
+    pub(crate) fn participant_copy(
+        &self,
+        alloc: Global,
+        p: usize,
+    ) -> Result<Participant, AllocError>
+        ensures { IfOk result (λ x. x ≡ participant_at (shown self.now) p) }
+    {
+        match self.participants.get(p) {
+            Some(x) => x.copied(alloc),
+            None => Ok(Participant::new(alloc)),
+        }
+    }
+
+    /// An item as it is, to be changed and set again.
+    pub(crate) fn item_copy(&self, alloc: Global, i: usize) -> Result<Item, AllocError>
+        ensures { IfOk result (λ it. it ≡ item_at (shown self.now) i) }
+    {
+        match self.items.get(i) {
+            Some(item) => item.copied(alloc),
+            None => Ok(Item {
+                value: 0,
+                hand: 0,
+                owners: 0,
+                holds: Listed::new(alloc),
+                fate: Fate::Waiting,
+            }),
+        }
+    }
+
+    pub(crate) fn set_participant(&mut self, p: usize, x: Participant)
+        ensures { shown self.new ≡ with_participant (shown self.old) p x }
+    {
+        if p < self.participants.len() {
+            self.participants[p] = x;
+        }
+    }
+
+    pub(crate) fn set_cell(&mut self, c: usize, o: Cell)
+        ensures { shown self.new ≡ with_cell (shown self.old) c o }
+    {
+        if c < self.cells.len() {
+            self.cells[c] = o;
+        }
+    }
+
+    pub(crate) fn set_item(&mut self, i: usize, item: Item)
+        ensures { shown self.new ≡ with_item (shown self.old) i item }
+    {
+        if i < self.items.len() {
+            self.items[i] = item;
+        }
+    }
+}
+
+impl Participant {
+    /// A participant that never had a guard.
+    pub(crate) fn new(alloc: Global) -> Self
+        ensures { result ≡ newcomer }
+    {
+        Participant {
+            phase: Phase::Idle,
+            found: 0,
+            reread: None,
+            looked: Listed::new(alloc),
+            loaded: Listed::new(alloc),
+        }
+    }
 }
