@@ -3,4 +3,4 @@ pub mod Counts
 pub mod Facts
 pub mod Told
 pub mod Keeps
-pub mod Whole
+pub mod Law

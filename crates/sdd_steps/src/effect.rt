@@ -144,12 +144,12 @@ impl Snapshot {
     fn publish(&mut self, alloc: Global, p: usize) -> Result<(), AllocError>
         ensures { OnOk result (shown self.new ≡ after (shown self.old) (step.Publish p)) }
     {
-        let mut x = self.participant_copy(alloc, p)?;
-        x.phase = Phase::Opened(x.phase.count());
-        x.reread = None;
-        x.looked = Listed::new(alloc);
-        x.loaded = Listed::new(alloc);
-        self.set_participant(p, x);
+        let mut opened = self.participant_copy(alloc, p)?;
+        opened.phase = Phase::Opened(opened.phase.count());
+        opened.reread = None;
+        opened.looked = Listed::new(alloc);
+        opened.loaded = Listed::new(alloc);
+        self.set_participant(p, opened);
         Ok(())
     }
 
@@ -356,12 +356,12 @@ impl Snapshot {
     fn close(&mut self, alloc: Global, p: usize) -> Result<(), AllocError>
         ensures { OnOk result (shown self.new ≡ after (shown self.old) (step.Close p)) }
     {
-        let mut x = self.participant_copy(alloc, p)?;
-        x.phase = Phase::Idle;
-        x.reread = None;
-        x.looked = Listed::new(alloc);
-        x.loaded = Listed::new(alloc);
-        self.set_participant(p, x);
+        let mut closed = self.participant_copy(alloc, p)?;
+        closed.phase = Phase::Idle;
+        closed.reread = None;
+        closed.looked = Listed::new(alloc);
+        closed.loaded = Listed::new(alloc);
+        self.set_participant(p, closed);
         Ok(())
     }
 

@@ -2,7 +2,7 @@ use Rattle.std.proofs.Common.{sym, subst, ◌∙◌, ap, ◌≡◌, true}
 use Rattle.sdd_steps.specs.State.{State}
 use Rattle.sdd_steps.specs.Steps.{after, enabled}
 use Rattle.sdd_steps.specs.Inside.{HasRoom, shown}
-use Rattle.sdd_steps.proofs.Whole.{keeps, has_room}
+use Rattle.sdd_steps.proofs.Law.{keeps, has_room}
 use Rattle.sdd_steps.proofs.state.apply.Goals as goal
 
 pub take-requires-clause-room : goal.take-requires-clause-room

@@ -1,6 +1,6 @@
 use Rattle.std.proofs.Common.{subst}
 use Rattle.sdd_steps.specs.Kept.{Safe}
-use Rattle.sdd_steps.proofs.Whole.{safe}
+use Rattle.sdd_steps.proofs.Law.{safe}
 use Rattle.sdd_steps.proofs.state.State.keeps_its_promise.Goals as goal
 
 pub returns : goal.returns

@@ -1,5 +1,5 @@
 use Rattle.std.proofs.Common.{arith}
-use Rattle.sdd_steps.proofs.Whole.{starts_as}
+use Rattle.sdd_steps.proofs.Law.{starts_as}
 use Rattle.sdd_steps.proofs.state.State.start.Goals as goal
 
 pub invariant_of-result : goal.invariant_of-result
