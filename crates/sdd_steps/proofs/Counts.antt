@@ -1,5 +1,5 @@
 -- how often cells and items hold an item, and what a change of one cell or item makes of that
-use Rattle.std.proofs.Common.{◌≡◌, ◌≢◌, ◌⊎◌, ◌||◌, Bool, true, false, ℕ, zero, suc, ◌+◌, ◌-◌, ◌^◌, ◌<◌, ◌≤◌, ◌==◌, cond, eqb, nat_eq, List, [], ◌∷◌, ◌++◌, map, length, get_or, set, sym, refl, ap, ◌∙◌, subst, ⊎_elim, inl, inr, arith, eq-eqb, ne_eqb, eqb-true, ltb-true, leb-true, nat_lt, nat_le, ◌&&◌, Option, Some, None, length-set, length-append}
+use Rattle.std.proofs.Common.{◌≡◌, ◌≢◌, ◌⊎◌, true, ℕ, zero, suc, ◌+◌, ◌-◌, ◌^◌, ◌<◌, ◌≤◌, ◌==◌, cond, List, [], ◌∷◌, ◌++◌, map, length, get_or, set, sym, refl, ap, ◌∙◌, subst, ⊎_elim, inl, inr, arith, eq-eqb, ne_eqb, eqb-true, ltb-true, leb-true, nat_lt, nat_le, ◌&&◌, Option, Some, None, length-set, length-append}
 use lib.ListN.{length-map}
 use mathlib.Core.Logic.{dite}
 use mathlib.Core.Option.{some, some-injective, some-ne-none}
@@ -7,11 +7,11 @@ use native.Mathlib.Decide.{ℕ_discrete}
 use Rattle.sdd_steps.specs.declared.item.Item.{Item}
 use Rattle.sdd_steps.specs.declared.item.Cell.{Cell}
 use Rattle.sdd_steps.specs.declared.item.Fate.{Fate}
-use Rattle.sdd_steps.specs.declared.item.Fate.TheVariants.{Live, Due, Retired, Collected, Waiting, Reclaimed}
+use Rattle.sdd_steps.specs.declared.item.Fate.TheVariants.{Live, Reclaimed}
 use Rattle.sdd_steps.specs.State.{At, Has, has, tally, times, without, no_item, empty_cell}
 use Rattle.sdd_steps.specs.Steps.{handed, unhanded, paid, placed, taken_up, all_handy}
 use Rattle.sdd_steps.specs.Kept.{points, uses, held, names_of, Owned, Counted}
-use Rattle.sdd_steps.proofs.Lists.{set_all, set_here, set_else, same_at, find_at, at_inside, at_map, at_mapped, at_end, at_get, get_at, either, both}
+use Rattle.sdd_steps.proofs.Lists.{set_all, set_here, set_else, same_at, find_at, at_inside, at_mapped, at_end, get_at, either, both}
 
 pub uses_set : (i : ℕ) (names : List (Option ℕ)) (c : ℕ) (o o' : Option ℕ) → At names c o → uses i (set names c o') + points i o ≡ uses i names + points i o'
 uses_set i [] c o o' at = absurd (some-ne-none o (sym at))

@@ -1,11 +1,7 @@
 -- a step that changes one participant, or items and cells alone, keeps what is known of guards and ages
-use Rattle.std.proofs.Common.{◌≡◌, ◌≢◌, ◌⊎◌, ℕ, zero, suc, ◌+◌, ◌<◌, ◌≤◌, List, [], ◌∷◌, length, map, get_or, set, sym, refl, ap, ◌∙◌, subst, ⊎_elim, inl, inr, arith, Option, Some, None}
-use mathlib.Core.Logic.{dite}
-use native.Mathlib.Decide.{ℕ_discrete}
-use Rattle.sdd_steps.specs.declared.participant.Phase.{Phase}
-use Rattle.sdd_steps.specs.declared.participant.Phase.TheVariants.{Idle, HasRead, Opened}
-use Rattle.sdd_steps.specs.declared.item.Fate.{Fate}
-use Rattle.sdd_steps.specs.declared.item.Fate.TheVariants.{Live, Due, Retired, Collected, Waiting, Reclaimed}
+use Rattle.std.proofs.Common.{◌≡◌, ◌≢◌, ◌⊎◌, ℕ, ◌+◌, ◌<◌, ◌≤◌, List, length, map, get_or, set, sym, refl, ap, ◌∙◌, subst, ⊎_elim, arith}
+use Rattle.sdd_steps.specs.declared.participant.Phase.TheVariants.{Opened}
+use Rattle.sdd_steps.specs.declared.item.Fate.TheVariants.{Retired, Collected}
 use Rattle.sdd_steps.specs.declared.participant.Seen.{Seen}
 use Rattle.sdd_steps.specs.declared.participant.Loaded.{Loaded}
 use Rattle.sdd_steps.specs.declared.participant.Participant.{Participant}
@@ -14,7 +10,7 @@ use Rattle.sdd_steps.specs.declared.item.Cell.{Cell}
 use Rattle.sdd_steps.specs.State.{State, At, Has, no_item, with_participant}
 use Rattle.sdd_steps.specs.Steps.{seen}
 use Rattle.sdd_steps.specs.Kept.{Guarded, Ageing, Same, Standing, Facts}
-use Rattle.sdd_steps.proofs.Lists.{put, put_here, put_else, put_at_most, set_all, each_set, find_at, get_at, map_alike, same_at}
+use Rattle.sdd_steps.proofs.Lists.{put, put_here, put_else, put_at_most, set_all, each_set, find_at, get_at, map_alike}
 
 abbrev as_seen : ℕ → ℕ → Seen
 as_seen m v = record { item = m; value = v }

@@ -1,22 +1,21 @@
 -- each step keeps the invariant, one change at a time
-use Rattle.std.proofs.Common.{true, ◌≡◌, ◌≢◌, ◌⊎◌, ℕ, zero, suc, ◌+◌, ◌-◌, ◌^◌, ◌<◌, ◌≤◌, ◌==◌, cond, List, [], ◌∷◌, ◌++◌, map, length, get_or, set, sym, refl, ap, ◌∙◌, subst, ⊎_elim, inl, inr, arith, Option, Some, None, length-set, eq-eqb, ne_eqb}
+use Rattle.std.proofs.Common.{true, ◌≡◌, ◌≢◌, ℕ, ◌+◌, ◌-◌, ◌^◌, ◌<◌, ◌≤◌, cond, List, [], ◌∷◌, ◌++◌, map, length, get_or, set, sym, refl, ap, ◌∙◌, subst, ⊎_elim, inl, inr, arith, Option, Some, None, length-set, eq-eqb, ne_eqb}
 use mathlib.Core.Logic.{dite}
 use native.Mathlib.Decide.{ℕ_discrete}
-use Rattle.sdd_steps.specs.declared.participant.Phase.{Phase}
 use Rattle.sdd_steps.specs.declared.participant.Phase.TheVariants.{Idle, HasRead, Opened}
 use Rattle.sdd_steps.specs.declared.item.Fate.{Fate}
-use Rattle.sdd_steps.specs.declared.item.Fate.TheVariants.{Live, Due, Retired, Collected, Waiting, Reclaimed}
+use Rattle.sdd_steps.specs.declared.item.Fate.TheVariants.{Live, Due, Retired, Collected, Reclaimed}
 use Rattle.sdd_steps.specs.declared.participant.Loaded.{Loaded}
 use Rattle.sdd_steps.specs.declared.participant.Participant.{Participant}
 use Rattle.sdd_steps.specs.declared.item.Item.{Item}
 use Rattle.sdd_steps.specs.declared.item.Cell.{Cell}
-use Rattle.sdd_steps.specs.State.{State, At, Has, times, without, cell_at, item_at, with_participant, with_item, with_cell, no_item, empty_cell}
-use Rattle.sdd_steps.specs.Steps.{loaded_as, handed, unhanded, emptied, filled, after_release, count_of, older, aged, left, left_by, let_go, noted, paid, placed, taken_up, all_handy}
-use Rattle.sdd_steps.specs.Kept.{Guarded, Ageing, Owned, Counted, Same, Standing, Facts, Inv, points, uses, names_of}
-use Rattle.sdd_steps.proofs.Lists.{put, put_here, put_else, put_at_most, set_all, set_here, set_else, same_at, at_inside, at_get, get_at, find_at, at_mapped, at_map, at_longer, each_set, has_end}
-use Rattle.sdd_steps.proofs.Counts.{uses_set, uses_some, points_self, points_other, times_has, times_some, held_some, counted_step, counted_give_up, counted_fates, counted_placed, placed_all, paid_at, names_set, names_reheld, names_taken_up, names_kept, handy_has, has_without}
-use Rattle.sdd_steps.proofs.Facts.{Becomes, Holding, participant_step, items_step, item_step, same_fate, cells_step}
-use Rattle.sdd_steps.proofs.Told.{Inside, Ready, Ripe, noted_dead, noted_unretired, aged_from, aged_standing, aged_live, aged_noted, left_from, left_standing, left_live, left_noted}
+use Rattle.sdd_steps.specs.State.{State, At, Has, times, without, cell_at, item_at, with_participant, with_item, no_item, empty_cell}
+use Rattle.sdd_steps.specs.Steps.{loaded_as, handed, unhanded, emptied, filled, after_release, count_of, older, aged, left, left_by, noted, paid, placed, taken_up, all_handy}
+use Rattle.sdd_steps.specs.Kept.{Ageing, Counted, Same, Standing, Facts, Inv, names_of}
+use Rattle.sdd_steps.proofs.Lists.{put, set_all, set_here, set_else, same_at, at_inside, at_get, get_at, at_mapped, at_map, at_longer, has_end}
+use Rattle.sdd_steps.proofs.Counts.{uses_set, uses_some, points_self, points_other, times_some, counted_step, counted_give_up, counted_fates, counted_placed, placed_all, paid_at, names_set, names_taken_up, handy_has, has_without}
+use Rattle.sdd_steps.proofs.Facts.{Holding, participant_step, items_step, item_step, same_fate, cells_step}
+use Rattle.sdd_steps.proofs.Told.{Inside, Ready, Ripe, aged_from, aged_standing, aged_live, aged_noted, left_from, left_standing, left_live, left_noted}
 
 module _ (s : State) (k : Counted (names_of s.cells) s.items) (born since : ℕ → ℕ) (f : Facts s born since) where
   abbrev More : State → Type 0

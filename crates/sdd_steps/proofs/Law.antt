@@ -1,6 +1,6 @@
 -- the laws: every step keeps the invariant, the start meets it, and it keeps the promise
-use Rattle.std.proofs.Common.{◌≡◌, ◌≢◌, ◌⊎◌, ◌&&◌, ◌||◌, ◌==◌, nat_lt, true, not, is_some, ℕ, ◌+◌, ◌-◌, ◌^◌, ◌<◌, List, [], ◌∷◌, map, length, replicate, sym, refl, ap, ◌∙◌, subst, ⊎_elim, arith, Option, Some, None, eqb-true, ltb-true}
-use Rattle.sdd_steps.specs.declared.participant.Phase.TheVariants.{Idle, HasRead, Opened}
+use Rattle.std.proofs.Common.{◌≡◌, ◌≢◌, ◌&&◌, ◌||◌, ◌==◌, nat_lt, true, not, is_some, ℕ, ◌-◌, ◌^◌, ◌<◌, List, [], ◌∷◌, map, length, replicate, sym, refl, ap, ◌∙◌, subst, arith, Option, Some, None, eqb-true, ltb-true}
+use Rattle.sdd_steps.specs.declared.participant.Phase.TheVariants.{Idle, Opened}
 use Rattle.sdd_steps.specs.declared.item.Fate.{Fate}
 use Rattle.sdd_steps.specs.declared.item.Fate.TheVariants.{Live, Due, Retired, Collected, Waiting, Reclaimed}
 use Rattle.sdd_steps.specs.declared.participant.Seen.{Seen}
@@ -9,9 +9,9 @@ use Rattle.sdd_steps.specs.declared.item.Item.{Item}
 use Rattle.sdd_steps.specs.declared.item.Cell.{Cell}
 use Rattle.sdd_steps.specs.declared.step.Step.{Step}
 use Rattle.sdd_steps.specs.declared.step.Step.TheVariants.{ReadEpoch, Publish, Rotate, LoadCell, LoadInHand, ReadSegment, SwapCell, Release, Retire, Collect, Look, Raise, Reclaim, GiveUp, GiveUpCell, Close, Place, RaiseOwners, Reread, End, TakeOver}
-use Rattle.sdd_steps.specs.State.{State, At, Has, has, participant_at, cell_at, item_at, participant_is, cell_is, item_is, with_item, newcomer, empty_cell, no_item, start}
-use Rattle.sdd_steps.specs.Steps.{enabled, after, Steps, Schedule, is_idle, is_reading, is_turning, is_inside, is_ready, is_handy, is_full, is_live, is_due, is_reclaimed, is_left, is_ripe, is_offered, is_at_hand, is_within, agrees, all_looked, all_handy, all_alone, none_due, segment_loaded, holder_is, count_of, named, noted, let_go, emptied, filled, seen, with_fate}
-use Rattle.sdd_steps.specs.Kept.{Counted, Facts, Guarded, Standing, Inv, Intact, Safe, names_of}
+use Rattle.sdd_steps.specs.State.{State, At, Has, has, participant_at, cell_at, item_at, participant_is, cell_is, item_is, newcomer, empty_cell, no_item, start}
+use Rattle.sdd_steps.specs.Steps.{enabled, after, Steps, Schedule, is_idle, is_reading, is_turning, is_inside, is_ready, is_handy, is_full, is_live, is_due, is_reclaimed, is_left, is_ripe, is_offered, is_at_hand, is_within, agrees, all_looked, all_handy, all_alone, none_due, holder_is, count_of, named, let_go, emptied, filled, seen, with_fate}
+use Rattle.sdd_steps.specs.Kept.{Counted, Facts, Guarded, Standing, Inv, Safe, names_of}
 use Rattle.sdd_steps.specs.Inside.{CanAge, HasRoom}
 use Rattle.sdd_steps.proofs.Lists.{both, at_inside, at_mapped, at_replicate, find_at, get_at, has_map, read_or}
 use Rattle.sdd_steps.proofs.Counts.{has_has, times_has, held_some, names_reheld, names_kept}

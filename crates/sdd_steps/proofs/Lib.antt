@@ -4,3 +4,4 @@ pub mod Facts
 pub mod Told
 pub mod Keeps
 pub mod Law
+pub mod Enabling

@@ -1,5 +1,5 @@
 -- what the tests of participants, items and fates tell where they answer yes
-use Rattle.std.proofs.Common.{◌≡◌, ◌≢◌, ◌⊎◌, ◌&&◌, ◌||◌, ◌==◌, Bool, true, false, not, ℕ, zero, suc, ◌+◌, ◌<◌, ◌≤◌, cond, nat_lt, nat_le, List, [], ◌∷◌, length, get_or, sym, refl, ap, ◌∙◌, subst, ⊎_elim, inl, inr, arith, eqb-true, ltb-true, leb-true, eq-eqb, ne_eqb, Option, Some, None, is_some}
+use Rattle.std.proofs.Common.{◌≡◌, ◌≢◌, ◌⊎◌, ◌||◌, ◌==◌, Bool, true, false, not, ℕ, zero, suc, ◌+◌, ◌<◌, ◌≤◌, cond, nat_lt, List, length, sym, refl, ap, ◌∙◌, subst, ⊎_elim, inl, inr, arith, eqb-true, ltb-true, leb-true, eq-eqb, ne_eqb, Option, Some, None, is_some}
 use mathlib.Core.Logic.{dite}
 use native.Mathlib.Decide.{ℕ_discrete}
 use Rattle.sdd_steps.specs.declared.participant.Phase.{Phase}
@@ -10,7 +10,7 @@ use Rattle.sdd_steps.specs.declared.participant.Participant.{Participant}
 use Rattle.sdd_steps.specs.declared.item.Item.{Item}
 use Rattle.sdd_steps.specs.declared.item.Cell.{Cell}
 use Rattle.sdd_steps.specs.State.{State, At, Has, has, participant_at, cell_at, item_at, participant_is, cell_is, item_is, newcomer, empty_cell, no_item}
-use Rattle.sdd_steps.specs.Steps.{idle, reading, opened, count_of, is_idle, is_turning, is_inside, is_ready, agrees, all_looked, is_live, is_due, is_reclaimed, is_left, is_past, is_ripe, is_full, named, noted, aged, left}
+use Rattle.sdd_steps.specs.Steps.{idle, reading, opened, count_of, is_idle, is_turning, is_inside, is_ready, agrees, all_looked, is_live, is_due, is_reclaimed, is_left, is_past, is_ripe, named, noted, aged, left}
 use Rattle.sdd_steps.specs.Kept.{Standing}
 use Rattle.sdd_steps.proofs.Lists.{at_get, both, either, unless}
 use Rattle.sdd_steps.proofs.Counts.{has_has}

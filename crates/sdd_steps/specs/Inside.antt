@@ -4,7 +4,6 @@ use Rattle.sdd_steps.specs.State.{State, participant_at, item_at, no_item}
 use Rattle.sdd_steps.specs.Steps.{is_turning}
 use Rattle.sdd_steps.specs.declared.snapshot.Snapshot.{Snapshot}
 use Rattle.sdd_steps.specs.declared.item.Item.{Item}
-use Rattle.sdd_steps.specs.declared.item.Fate.{Fate}
 use Rattle.sdd_steps.specs.declared.item.Fate.TheVariants.{Retired}
 
 abbrev pub shown : Snapshot → State

@@ -1,5 +1,5 @@
 -- what every state keeps that steps leave, and the promise that follows from it
-use Rattle.std.specs.Prelude.{◌≡◌, ◌≢◌, ℕ, ◌+◌, ◌-◌, ◌^◌, ◌<◌, ◌≤◌, true, List, [], ◌∷◌, length, map, Option, None, Some}
+use Rattle.std.specs.Prelude.{◌≡◌, ◌≢◌, ℕ, ◌+◌, ◌-◌, ◌^◌, ◌<◌, ◌≤◌, List, [], ◌∷◌, length, map, Option, None, Some}
 use Rattle.sdd_steps.specs.declared.participant.Phase.{Phase}
 use Rattle.sdd_steps.specs.declared.participant.Phase.TheVariants.{HasRead, Opened}
 use Rattle.sdd_steps.specs.declared.item.Fate.{Fate}
@@ -11,7 +11,7 @@ use Rattle.sdd_steps.specs.declared.item.Item.{Item}
 use Rattle.sdd_steps.specs.declared.item.Cell.{Cell}
 use Rattle.sdd_steps.specs.declared.step.Step.{Step}
 use Rattle.sdd_steps.specs.State.{State, At, Has, tally, times, start}
-use Rattle.sdd_steps.specs.Steps.{Steps, Schedule, seen, opened}
+use Rattle.sdd_steps.specs.Steps.{Steps, Schedule, seen}
 
 -- How often cells name the item i, and how often items hold it, half reclaimed ones with what they still hold
 abbrev pub points : ℕ → Option ℕ → ℕ

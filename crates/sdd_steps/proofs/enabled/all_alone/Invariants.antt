@@ -1,4 +1,4 @@
-use Rattle.std.proofs.Common.{◌≡◌, drop, ◌+◌, ◌≤◌, length}
+use Rattle.std.proofs.Common.{◌≡◌, drop}
 use Rattle.sdd_steps.specs.Steps.{all_alone}
 use Rattle.sdd_steps.proofs.enabled.all_alone.Given as goal
 

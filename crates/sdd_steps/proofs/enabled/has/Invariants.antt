@@ -1,4 +1,4 @@
-use Rattle.std.proofs.Common.{◌≡◌, drop, ◌+◌, ◌≤◌, length}
+use Rattle.std.proofs.Common.{◌≡◌, drop}
 use Rattle.sdd_steps.specs.State.{has}
 use Rattle.sdd_steps.proofs.enabled.has.Given as goal
 

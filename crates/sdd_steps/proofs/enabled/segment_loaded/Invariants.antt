@@ -1,4 +1,4 @@
-use Rattle.std.proofs.Common.{◌≡◌, drop, ◌+◌, ◌≤◌, length}
+use Rattle.std.proofs.Common.{◌≡◌, drop}
 use Rattle.sdd_steps.specs.Steps.{segment_loaded}
 use Rattle.sdd_steps.proofs.enabled.segment_loaded.Given as goal
 

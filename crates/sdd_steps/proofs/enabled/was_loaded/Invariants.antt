@@ -1,4 +1,4 @@
-use Rattle.std.proofs.Common.{◌≡◌, drop, ◌+◌, ◌≤◌, length}
+use Rattle.std.proofs.Common.{◌≡◌, drop}
 use Rattle.sdd_steps.specs.Steps.{was_loaded}
 use Rattle.sdd_steps.proofs.enabled.was_loaded.Given as goal
 

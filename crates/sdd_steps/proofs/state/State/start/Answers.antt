@@ -1,4 +1,3 @@
-use Rattle.std.proofs.Common.{arith}
 use Rattle.sdd_steps.proofs.Law.{starts_as}
 use Rattle.sdd_steps.proofs.state.State.start.Goals as goal
 

@@ -1,4 +1,4 @@
-use Rattle.std.proofs.Common.{◌≡◌, replicate, []}
+use Rattle.std.proofs.Common.{◌≡◌, replicate}
 use Rattle.sdd_steps.specs.State.{newcomer, empty_cell}
 use Rattle.sdd_steps.proofs.state.State.start.Given as goal
 
