@@ -33,7 +33,7 @@ pub struct Item {
     pub fate: Fate,
 }
 
-/// A cell.
+/// A cell. An item that is out as a raw pointer counts as in a cell of its own.
 #[derive(Clone, Copy, PartialEq, Eq, Drop, Debug)]
 pub struct Cell {
     /// The item that holds the cell. A cell without one stands by itself.

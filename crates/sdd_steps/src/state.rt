@@ -102,7 +102,16 @@ impl State {
     }
 }
 
-/// The next state, exactly where the step is enabled, else `None`. Refused where memory is.
+/// The next state, exactly where the step is enabled, else `None`. Refused where memory is, and where so many items
+/// were placed that one more can't be kept. The state that is given stays as it is in each case.
+///
+/// ```text
+/// let state = State::start(alloc, 2, 1)?;
+/// match apply(alloc, &state, Step::ReadEpoch(0))? {
+///     Some(next) => ..,   // participant 0 remembers the count
+///     None => ..,         // not here: it has no guard, so it may read
+/// }
+/// ```
 pub fn apply(alloc: Global, state: &State, step: Step) -> Result<Option<State>, AllocError>
     ensures { IfOk result (λ o. MatchOption o (enabled state.now step ≡ false) (λ t. Steps state.now step t)) }
 {
