@@ -1,7 +1,7 @@
 //! Where each step is refused, and the promise over random lists of steps.
 
 use crate::moves::{Move, after, all_refused, is_enabled, play};
-use crate::{Cell, Fate, Item, Loaded, Participant, Phase, Seen, State};
+use crate::{Cell, Fate, Item, Listed, Loaded, Participant, Phase, Seen, State};
 use std::alloc::Global;
 use std::process::Abort;
 
@@ -570,4 +570,12 @@ fn random_lists_of_steps_keep_the_promise(rt: HostRuntime) {
     }
     assert!(rt; taken > 5000);
     assert!(rt; reclaimed > 20);
+}
+
+#[test]
+fn a_list_is_made_from_a_vec_and_gives_it_back(rt: HostRuntime) {
+    let mut list: Listed<usize> = Listed::from_vec(Vec::new(rt.alloc()));
+    list.push(7).expect(&rt, "memory");
+    assert!(rt; list.as_slice().first().copied() == Some(7));
+    assert!(rt; list.into_vec().len() == 1);
 }
