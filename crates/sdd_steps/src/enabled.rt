@@ -1,0 +1,448 @@
+//! Where a step is enabled.
+
+ghost use Rattle.std.specs.Prelude.{◌≡◌, ◌<◌, ◌||◌, ◌&&◌, ◌==◌, ◌^◌, ◌-◌, nat_lt, not, is_some, length};
+ghost use Rattle.sdd_steps.specs.State.{participant_is, cell_is, item_is, participant_at, has, times};
+ghost use Rattle.sdd_steps.specs.Steps.{idle, reading, opened, count_of, is_idle, is_reading, is_turning, is_inside, is_ready, is_full, is_live, is_due, is_reclaimed, is_left, is_past, is_ripe, is_handy, is_offered, is_at_hand, is_within, stands_alone, holder_is, agrees, all_looked, all_handy, all_alone, none_due, was_loaded, was_held, segment_loaded, enabled};
+ghost use Rattle.sdd_steps.specs.Inside.{shown};
+
+use crate::item::{Cell, Fate, Item};
+use crate::participant::{Loaded, Participant, Phase, Seen};
+use crate::snapshot::Snapshot;
+use crate::step::Step;
+
+impl Phase {
+    fn is_idle(self) -> bool
+        ensures { result ≡ idle self }
+    {
+        match self {
+            Phase::Idle => true,
+            Phase::HasRead(_) | Phase::Opened(_) => false,
+        }
+    }
+
+    fn is_reading(self) -> bool
+        ensures { result ≡ reading self }
+    {
+        match self {
+            Phase::HasRead(_) => true,
+            Phase::Idle | Phase::Opened(_) => false,
+        }
+    }
+
+    fn is_opened(self) -> bool
+        ensures { result ≡ opened self }
+    {
+        match self {
+            Phase::Opened(_) => true,
+            Phase::Idle | Phase::HasRead(_) => false,
+        }
+    }
+
+    // The count that was read, 0 where none is.
+    pub(crate) fn count(self) -> u64
+        ensures { result ≡ count_of self }
+    {
+        match self {
+            Phase::Idle => 0,
+            Phase::HasRead(count) | Phase::Opened(count) => count,
+        }
+    }
+}
+
+impl Participant {
+    fn is_turning(&self) -> bool
+        ensures { result ≡ is_turning self.now }
+    {
+        self.phase.is_opened() && self.phase.count() != self.found
+    }
+
+    fn is_inside(&self) -> bool
+        ensures { result ≡ is_inside self.now }
+    {
+        self.phase.is_opened() && self.phase.count() == self.found
+    }
+
+    fn is_ready(&self) -> bool
+        ensures { result ≡ is_ready self.now }
+    {
+        self.phase.is_idle() || self.is_inside()
+    }
+
+    fn agrees(&self, count: u64) -> bool
+        ensures { result ≡ agrees count self.now }
+    {
+        !self.phase.is_opened() || self.phase.count() == count
+    }
+}
+
+impl Fate {
+    fn is_live(self) -> bool
+        ensures { result ≡ is_live self }
+    {
+        match self {
+            Fate::Live => true,
+            Fate::Due(_) | Fate::Retired(_, _) | Fate::Collected(_) => false,
+            Fate::Waiting | Fate::Reclaimed(_) => false,
+        }
+    }
+
+    fn is_due(self, p: usize) -> bool
+        ensures { result ≡ is_due p self }
+    {
+        match self {
+            Fate::Due(q) => q == p,
+            Fate::Live | Fate::Retired(_, _) | Fate::Collected(_) => false,
+            Fate::Waiting | Fate::Reclaimed(_) => false,
+        }
+    }
+
+    fn is_reclaimed(self, p: usize) -> bool
+        ensures { result ≡ is_reclaimed p self }
+    {
+        match self {
+            Fate::Reclaimed(q) => q == p,
+            Fate::Live | Fate::Due(_) | Fate::Retired(_, _) => false,
+            Fate::Collected(_) | Fate::Waiting => false,
+        }
+    }
+
+    fn is_left(self) -> bool
+        ensures { result ≡ is_left self }
+    {
+        match self {
+            Fate::Collected(_) | Fate::Waiting => true,
+            Fate::Live | Fate::Due(_) | Fate::Retired(_, _) | Fate::Reclaimed(_) => false,
+        }
+    }
+
+    fn is_ripe(self, p: usize, x: &Participant) -> bool
+        ensures { result ≡ is_ripe p x.now self }
+    {
+        match self {
+            Fate::Retired(q, age) => q == p && age == 3,
+            Fate::Collected(note) => x.is_inside() && is_past(note, x.reread),
+            Fate::Live | Fate::Due(_) | Fate::Waiting | Fate::Reclaimed(_) => false,
+        }
+    }
+}
+
+fn is_past(note: u64, reread: Option<u64>) -> bool
+    ensures { result ≡ is_past note reread }
+{
+    match reread {
+        None => false,
+        Some(count) => count >= 3 && count - 3 >= note,
+    }
+}
+
+fn has(i: usize, numbers: &[usize]) -> bool
+    ensures { result ≡ has i numbers.now }
+{
+    for j in numbers {
+        if *j == i {
+            return true;
+        }
+    }
+    false
+}
+
+fn times(i: usize, numbers: &[usize]) -> usize
+    ensures { result ≡ times i numbers.now }
+{
+    let mut count = 0;
+    for j in numbers {
+        if *j == i {
+            count += 1;
+        }
+    }
+    count
+}
+
+fn all_looked(p: usize, looked: &[usize], n: usize) -> bool
+    ensures { result ≡ all_looked p looked.now n }
+{
+    let mut left = n;
+    while left > 0 {
+        left -= 1;
+        if left != p && !has(left, looked) {
+            return false;
+        }
+    }
+    true
+}
+
+fn was_loaded(i: usize, loaded: &[Loaded]) -> bool
+    ensures { result ≡ was_loaded i loaded.now }
+{
+    for h in loaded {
+        if h.item == i {
+            return true;
+        }
+    }
+    false
+}
+
+fn was_held(k: usize, seen: &[Seen]) -> bool
+    ensures { result ≡ was_held k seen.now }
+{
+    for z in seen {
+        if z.item == k {
+            return true;
+        }
+    }
+    false
+}
+
+fn segment_loaded(i: usize, k: usize, loaded: &[Loaded]) -> bool
+    ensures { result ≡ segment_loaded i k loaded.now }
+{
+    for h in loaded {
+        if h.item == i && was_held(k, h.holds.as_slice()) {
+            return true;
+        }
+    }
+    false
+}
+
+fn none_due(p: usize, items: &[Item]) -> bool
+    ensures { result ≡ none_due p items.now }
+{
+    for item in items {
+        if item.fate.is_due(p) {
+            return false;
+        }
+    }
+    true
+}
+
+fn all_handy(items: &[Item], all: &[usize], some: &[usize]) -> bool
+    ensures { result ≡ all_handy items.now all.now some.now }
+{
+    for k in some {
+        if *k >= items.len() || times(*k, all) as u64 > items[*k].hand {
+            return false;
+        }
+    }
+    true
+}
+
+fn all_alone(cells: &[Cell], some: &[usize]) -> bool
+    ensures { result ≡ all_alone cells.now some.now }
+{
+    for c in some {
+        if *c >= cells.len() || !cells[*c].stands_alone() {
+            return false;
+        }
+    }
+    true
+}
+
+impl Cell {
+    fn stands_alone(self) -> bool
+        ensures { result ≡ stands_alone self }
+    {
+        self.holder.is_none()
+    }
+
+    fn is_full(self) -> bool
+        ensures { result ≡ is_full self }
+    {
+        self.names.is_some()
+    }
+}
+
+impl Snapshot {
+    fn is_idle(&self, p: usize) -> bool
+        ensures { result ≡ participant_is is_idle (shown self.now) p }
+    {
+        p < self.participants.len() && self.participant(p).phase.is_idle()
+    }
+
+    fn is_reading(&self, p: usize) -> bool
+        ensures { result ≡ participant_is is_reading (shown self.now) p }
+    {
+        p < self.participants.len() && self.participant(p).phase.is_reading()
+    }
+
+    fn is_turning(&self, p: usize) -> bool
+        ensures { result ≡ participant_is is_turning (shown self.now) p }
+    {
+        p < self.participants.len() && self.participant(p).is_turning()
+    }
+
+    fn is_inside(&self, p: usize) -> bool
+        ensures { result ≡ participant_is is_inside (shown self.now) p }
+    {
+        p < self.participants.len() && self.participant(p).is_inside()
+    }
+
+    fn is_ready(&self, p: usize) -> bool
+        ensures { result ≡ participant_is is_ready (shown self.now) p }
+    {
+        p < self.participants.len() && self.participant(p).is_ready()
+    }
+
+    fn agrees(&self, q: usize) -> bool
+        ensures { result ≡ participant_is (agrees self.now.count) (shown self.now) q }
+    {
+        q < self.participants.len() && self.participant(q).agrees(self.count)
+    }
+
+    fn has_reread(&self, p: usize) -> bool
+        ensures { result ≡ participant_is (λ x. is_inside x && is_some x.reread) (shown self.now) p }
+    {
+        self.is_inside(p) && self.participant(p).reread.is_some()
+    }
+
+    fn has_segment(&self, p: usize, i: usize, k: usize) -> bool
+        ensures { result ≡ participant_is (λ x. is_inside x && segment_loaded i k x.loaded) (shown self.now) p }
+    {
+        self.is_inside(p) && segment_loaded(i, k, self.participant(p).loaded.as_slice())
+    }
+
+    // The participant published the present count and has looked at all others.
+    fn has_looked(&self, p: usize) -> bool
+        ensures { result ≡ participant_is (λ x. is_inside x && (count_of x.phase == self.now.count) && all_looked p x.looked (length self.now.participants.items)) (shown self.now) p }
+    {
+        if !self.is_inside(p) {
+            return false;
+        }
+        let x = self.participant(p);
+        x.phase.count() == self.count && all_looked(p, x.looked.as_slice(), self.participants.len())
+    }
+
+    fn is_handy(&self, i: usize) -> bool
+        ensures { result ≡ item_is is_handy (shown self.now) i }
+    {
+        i < self.items.len() && self.item(i).hand > 0
+    }
+
+    fn is_due(&self, p: usize, i: usize) -> bool
+        ensures { result ≡ item_is (λ it. is_due p it.fate) (shown self.now) i }
+    {
+        i < self.items.len() && self.item(i).fate.is_due(p)
+    }
+
+    fn is_ripe(&self, p: usize, i: usize) -> bool
+        requires { p < length self.now.participants.items }
+        ensures { result ≡ item_is (λ it. is_ripe p (participant_at (shown self.now) p) it.fate) (shown self.now) i }
+    {
+        i < self.items.len() && self.item(i).fate.is_ripe(p, self.participant(p))
+    }
+
+    fn is_left(&self, i: usize) -> bool
+        ensures { result ≡ item_is (λ it. is_left it.fate) (shown self.now) i }
+    {
+        i < self.items.len() && self.item(i).fate.is_left()
+    }
+
+    fn may_raise_owners(&self, i: usize) -> bool
+        ensures { result ≡ item_is (λ it. is_live it.fate && nat_lt it.owners (2 ^ 32 - 1)) (shown self.now) i }
+    {
+        i < self.items.len()
+            && self.item(i).fate.is_live()
+            && self.item(i).owners < u64::from(u32::MAX)
+    }
+
+    fn is_reclaimed(&self, p: usize, j: usize) -> bool
+        ensures { result ≡ item_is (λ w. is_reclaimed p w.fate) (shown self.now) j }
+    {
+        j < self.items.len() && self.item(j).fate.is_reclaimed(p)
+    }
+
+    fn gives_up(&self, p: usize, j: usize, i: usize) -> bool
+        ensures { result ≡ item_is (λ w. is_reclaimed p w.fate && has i w.holds) (shown self.now) j }
+    {
+        self.is_reclaimed(p, j) && has(i, self.item(j).holds.as_slice())
+    }
+
+    fn is_offered(&self, new: Option<usize>) -> bool
+        ensures { result ≡ is_offered (shown self.now) new }
+    {
+        match new {
+            None => true,
+            Some(i) => self.is_handy(i),
+        }
+    }
+
+    fn is_at_hand(&self, o: Cell) -> bool
+        ensures { result ≡ is_at_hand (shown self.now) o }
+    {
+        match o.holder {
+            None => true,
+            Some(j) => self.is_handy(j),
+        }
+    }
+
+    fn is_within(&self, p: usize, o: Cell) -> bool
+        ensures { result ≡ is_within (shown self.now) p o }
+    {
+        match o.holder {
+            Some(j) => { self.is_inside(p) && was_loaded(j, self.participant(p).loaded.as_slice()) }
+            None => false,
+        }
+    }
+
+    fn reaches(&self, p: usize, c: usize) -> bool
+        ensures { result ≡ cell_is (λ o. is_at_hand (shown self.now) o || is_within (shown self.now) p o) (shown self.now) c }
+    {
+        if c >= self.cells.len() {
+            return false;
+        }
+        let o = self.cell(c);
+        self.is_at_hand(o) || self.is_within(p, o)
+    }
+
+    fn may_load(&self, p: usize, c: usize) -> bool
+        ensures { result ≡ cell_is (λ o. is_full o && (is_at_hand (shown self.now) o || is_within (shown self.now) p o)) (shown self.now) c }
+    {
+        c < self.cells.len() && self.cell(c).is_full() && self.reaches(p, c)
+    }
+
+    fn gives_up_cell(&self, p: usize, c: usize) -> bool
+        ensures { result ≡ cell_is (λ o. is_full o && holder_is (item_is (λ w. is_reclaimed p w.fate) (shown self.now)) o.holder) (shown self.now) c }
+    {
+        if c >= self.cells.len() || !self.cell(c).is_full() {
+            return false;
+        }
+        match self.cell(c).holder {
+            None => false,
+            Some(j) => self.is_reclaimed(p, j),
+        }
+    }
+
+    /// Whether a step is enabled.
+    pub(crate) fn is_enabled(&self, step: &Step) -> bool
+        ensures { result ≡ enabled (shown self.now) step.now }
+    {
+        match step {
+            Step::ReadEpoch(p) => self.is_idle(*p),
+            Step::Publish(p) => self.is_reading(*p),
+            Step::Rotate(p) => self.is_turning(*p),
+            Step::LoadCell(p, c) => self.is_inside(*p) && self.may_load(*p, *c),
+            Step::LoadInHand(p, i) => self.is_inside(*p) && self.is_handy(*i),
+            Step::ReadSegment(p, i, k) => self.has_segment(*p, *i, *k),
+            Step::SwapCell(p, c, new) => {
+                self.is_ready(*p) && self.reaches(*p, *c) && self.is_offered(*new)
+            }
+            Step::Release(p, i) => self.is_ready(*p) && self.is_handy(*i),
+            Step::Retire(p, i) => self.is_ready(*p) && self.is_due(*p, *i),
+            Step::Collect(p, i) => self.has_reread(*p) && self.is_due(*p, *i),
+            Step::Look(p, q) => self.is_inside(*p) && q != p && self.agrees(*q),
+            Step::Raise(p) => self.has_looked(*p) && self.count < u64::MAX,
+            Step::Reclaim(p, i) => self.is_ready(*p) && self.is_ripe(*p, *i),
+            Step::GiveUp(p, j, i) => self.is_ready(*p) && self.gives_up(*p, *j, *i),
+            Step::GiveUpCell(p, c) => self.is_ready(*p) && self.gives_up_cell(*p, *c),
+            Step::Close(p) => self.is_inside(*p),
+            Step::Place(p, _, holds, cells) => {
+                self.is_ready(*p)
+                    && all_handy(&self.items, holds.as_slice(), holds.as_slice())
+                    && all_alone(&self.cells, cells.as_slice())
+            }
+            Step::RaiseOwners(p, i) => self.is_ready(*p) && self.may_raise_owners(*i),
+            Step::Reread(p) => self.is_inside(*p),
+            Step::End(p) => self.is_idle(*p) && none_due(*p, &self.items),
+            Step::TakeOver(p, i) => self.is_ready(*p) && self.is_left(*i),
+        }
+    }
+}

@@ -1,0 +1,31 @@
+//! The single steps of the reclamation core, as plain data.
+//!
+//! A [`State`] holds what participants have published and loaded, the cells, and the items with their owners. A
+//! [`Step`] is one indivisible event of one participant. [`apply`] answers the next state exactly where the step is
+//! enabled. Whatever steps are taken, in whatever order: what an open guard has loaded isn't reclaimed, and stands
+//! as it was when it was loaded ([`State::keeps_its_promise`], and the [`laws`]).
+#![tactic(auto)]
+
+mod effect;
+mod enabled;
+mod item;
+pub mod laws;
+mod listed;
+#[cfg(test)]
+mod moves;
+mod participant;
+#[cfg(test)]
+mod refusals;
+#[cfg(test)]
+mod schedules;
+mod snapshot;
+mod state;
+mod step;
+#[cfg(test)]
+mod tests;
+
+pub use item::{Cell, Fate, Item};
+pub use listed::Listed;
+pub use participant::{Loaded, Participant, Phase, Seen};
+pub use state::{State, apply};
+pub use step::Step;

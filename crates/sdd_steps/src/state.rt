@@ -1,0 +1,124 @@
+//! States that keep their promise, and the steps between them.
+
+ghost use Rattle.std.specs.Prelude.{◌≡◌, ◌<◌, ◌≤◌, ◌^◌, false, true, length, IfOk, MatchOption};
+ghost use Rattle.sdd_steps.specs.State.{start};
+ghost use Rattle.sdd_steps.specs.Steps.{enabled, Steps};
+ghost use Rattle.sdd_steps.specs.Kept.{Safe};
+ghost use Rattle.sdd_steps.specs.Inside.{shown};
+
+use crate::item::{Cell, Item};
+use crate::participant::Participant;
+use crate::snapshot::Snapshot;
+use crate::step::Step;
+use std::alloc::{AllocError, Global};
+use std::marker::Model;
+
+/// A state that steps leave, from its start on.
+///
+/// Contracts see it as its count of raises, its participants, cells and items. Its type keeps the promise over all
+/// schedules: see [`keeps_its_promise`](State::keeps_its_promise).
+#[derive(Drop)]
+pub struct State {
+    snapshot: Snapshot,
+}
+
+impl Model for State {
+    ghost use Rattle.sdd_steps.specs.State as core;
+
+    ghost Value = { core.State };
+
+    ghost use Rattle.sdd_steps.specs.Kept.{Inv};
+    ghost use Rattle.sdd_steps.specs.Inside.{shown};
+
+    ghost view = { λ s. shown s.snapshot };
+
+    ghost invariant = { λ s. Inv (shown s.snapshot) };
+}
+
+impl State {
+    /// The start: the count is 0, no participant has a guard, all cells are empty and stand by themselves, and there
+    /// is no item. Cell 0 is the root. Refused where memory is.
+    pub fn start(alloc: Global, participants: usize, cells: usize) -> Result<State, AllocError>
+        requires participants { (1 ≤ participants) × (participants ≤ 2 ^ 30) }
+        requires cells { (1 ≤ cells) × (cells ≤ 2 ^ 30) }
+        ensures { IfOk result (λ s. s ≡ start participants cells) }
+    {
+        let mut all = Vec::new(alloc);
+        for _p in 0..participants {
+            all.push(Participant::new(alloc))?;
+        }
+        let mut row = Vec::new(alloc);
+        for _c in 0..cells {
+            row.push(Cell {
+                holder: None,
+                names: None,
+            })?;
+        }
+        Ok(State {
+            snapshot: Snapshot {
+                count: 0,
+                participants: all,
+                cells: row,
+                items: Vec::new(alloc),
+            },
+        })
+    }
+
+    /// How often the count was raised.
+    pub fn count(&self) -> u64
+        ensures { result ≡ self.now.count }
+    {
+        self.snapshot.count
+    }
+
+    /// The participants, in the order of their numbers.
+    pub fn participants(&self) -> &[Participant]
+        ensures { result.now ≡ self.now.participants }
+    {
+        self.snapshot.participants.as_slice()
+    }
+
+    /// The cells, in the order of their numbers. Cell 0 is the root.
+    pub fn cells(&self) -> &[Cell]
+        ensures { result.now ≡ self.now.cells }
+    {
+        self.snapshot.cells.as_slice()
+    }
+
+    /// The items, in the order of placing.
+    pub fn items(&self) -> &[Item]
+        ensures { result.now ≡ self.now.items }
+    {
+        self.snapshot.items.as_slice()
+    }
+
+    /// The promise over all schedules, which the type keeps: for every open guard nothing that it loaded is
+    /// reclaimed, what it loaded still holds all that it held, each of these has an owner, and all values are as when
+    /// loaded.
+    pub fn keeps_its_promise(&self)
+        ensures { Safe self.now }
+    {
+        let _ = &self.snapshot;
+    }
+}
+
+/// The next state, exactly where the step is enabled, else `None`. Refused where memory is, and where so many items
+/// were placed that one more can't be kept. The state that is given stays as it is in each case.
+///
+/// ```text
+/// let state = State::start(alloc, 2, 1)?;
+/// match apply(alloc, &state, Step::ReadEpoch(0))? {
+///     Some(next) => ..,   // participant 0 remembers the count
+///     None => ..,         // not here: it has no guard, so it may read
+/// }
+/// ```
+pub fn apply(alloc: Global, state: &State, step: Step) -> Result<Option<State>, AllocError>
+    ensures { IfOk result (λ o. MatchOption o (enabled state.now step ≡ false) (λ t. Steps state.now step t)) }
+{
+    if !state.snapshot.is_enabled(&step) {
+        return Ok(None);
+    }
+    let mut next = state.snapshot.copied(alloc)?;
+    next.take(alloc, step)?;
+    Ok(Some(State { snapshot: next }))
+}
