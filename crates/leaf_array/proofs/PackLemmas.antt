@@ -6,8 +6,8 @@ use Rattle.std.specs.Ordering.{is_lt}
 use Rattle.std.specs.List.{AllByRecursion}
 use Rattle.std.specs.List.Sorted.{IsStrictlySortedBy}
 use Rattle.std.specs.Map.{keys_of}
-use Rattle.leaf_array.specs.declared.slots.Place.{Place}
-use Rattle.leaf_array.specs.declared.slots.Place.TheVariants.{Empty, Dead, Live}
+use Rattle.leaf_array.specs.declared.place.Place.{Place}
+use Rattle.leaf_array.specs.declared.place.Place.TheVariants.{Empty, Dead, Live}
 use Rattle.leaf_array.specs.Cells.{lesser, slot_of, fresh_labels, filled}
 use Rattle.leaf_array.specs.Places.{live_pair, live_pairs, labels_above, dead_pairs, packed, vacated, least, top, uses, uses_below, no_half, IsEmptied, IsDeparted, IsPacked, IsSound, cells_of}
 

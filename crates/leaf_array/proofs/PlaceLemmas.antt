@@ -1,7 +1,7 @@
 -- Rows of places under their edits.
 use Rattle.std.proofs.Common.{arith, ◌≡◌, ℕ, ◌+◌, ◌≤◌, ◌∷◌, [], List, drop, refl, ap}
-use Rattle.leaf_array.specs.declared.slots.Place.{Place}
-use Rattle.leaf_array.specs.declared.slots.Place.TheVariants.{Empty, Dead, Live}
+use Rattle.leaf_array.specs.declared.place.Place.{Place}
+use Rattle.leaf_array.specs.declared.place.Place.TheVariants.{Empty, Dead, Live}
 use Rattle.leaf_array.specs.Places.{top, sunk}
 
 module _ {K V : Type 0} where

@@ -4,8 +4,8 @@ use Rattle.std.specs.Option.{option_or}
 use Rattle.std.proofs.Common.{inl, inr, MatchOption}
 use Rattle.std.proofs.lemmas.Bool.{cases_lt}
 use Rattle.std.proofs.lemmas.Bool.Decides.{nat_tests}
-use Rattle.leaf_array.specs.declared.slots.Place.{Place}
-use Rattle.leaf_array.specs.declared.slots.Place.TheVariants.{Empty, Dead, Live}
+use Rattle.leaf_array.specs.declared.place.Place.{Place}
+use Rattle.leaf_array.specs.declared.place.Place.TheVariants.{Empty, Dead, Live}
 use Rattle.leaf_array.specs.Cells.{slot_of, reachable_in, buried_in}
 use Rattle.leaf_array.specs.Places.{live_pairs, labels_above, dead_pairs, pair_at_slot, uses, uses_below, IsEmptied, IsDeparted, IsPacked}
 

@@ -10,8 +10,8 @@ use Rattle.std.specs.Map.{keys_of, lookup, lookup_entry, remove_entry}
 use Rattle.std.specs.BTreeMap.{insert_entry, is_at}
 use Rattle.std.proofs.lemmas.Bool.{false≢true}
 use Rattle.std.proofs.lemmas.Bool.Decides.{nat_tests}
-use Rattle.leaf_array.specs.declared.slots.Place.{Place}
-use Rattle.leaf_array.specs.declared.slots.Place.TheVariants.{Empty, Dead, Live}
+use Rattle.leaf_array.specs.declared.place.Place.{Place}
+use Rattle.leaf_array.specs.declared.place.Place.TheVariants.{Empty, Dead, Live}
 use Rattle.leaf_array.specs.Cells.{Cells, is_nil, lesser, slot_of, inserted, replaced, removed, removed_at, entered, handed_on, fallen}
 use Rattle.leaf_array.specs.Places.{live_pair, live_pairs, labels_above, dead_pairs, has_room, pushed, buried, renewed, died, below, least, top, uses, no_places, IsPacked, IsHit, IsMiss, IsSound, cells_of}
 use Rattle.leaf_array.proofs.SearchLemmas.{least_not_lesser, missed}

@@ -1,8 +1,8 @@
 -- The word of ranks, a slot at a time.
 use Rattle.std.proofs.Common.{arith, ◌≡◌, ℕ, zero, suc, ◌+◌, ◌-◌, ◌*◌, ◌==◌, ◌<◌, ◌≤◌, ◌∷◌, [], ◌&&◌, List, true, false, cond, nat_lt, refl, ap, ◌∙◌, sym}
 use Rattle.std.proofs.lemmas.Bool.Decides.{nat_tests}
-use Rattle.leaf_array.specs.declared.slots.Place.{Place}
-use Rattle.leaf_array.specs.declared.slots.Place.TheVariants.{Empty, Dead, Live}
+use Rattle.leaf_array.specs.declared.place.Place.{Place}
+use Rattle.leaf_array.specs.declared.place.Place.TheVariants.{Empty, Dead, Live}
 use Rattle.leaf_array.specs.Cells.{rank_in, slot_of}
 use Rattle.leaf_array.specs.Places.{labels_above, top}
 use Rattle.leaf_array.specs.Words.{ranks_from, ranks_in_order, rises}

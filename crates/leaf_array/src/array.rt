@@ -1,8 +1,8 @@
 //! An array of at most fifteen pairs, by rising keys.
 
-ghost use Rattle.std.specs.Prelude.{◌≡◌, ◌↔◌, ℕ, ◌+◌, ◌==◌, ◌<◌, ◌≤◌, ◌||◌, ◌&&◌, ◌-◌, not, take, drop, IsTrue, IsSome, [], length, slice_get, true, false, Some, None, MatchOption, IfSome, IfOk, IfErr};
+ghost use Rattle.std.specs.Prelude.{◌≡◌, ◌↔◌, ◌+◌, ◌==◌, ◌<◌, ◌≤◌, ◌||◌, ◌&&◌, ◌-◌, not, take, drop, IsTrue, IsSome, [], length, slice_get, true, false, Some, None, MatchOption, IfSome, IfOk, IfErr};
 ghost use Rattle.std.specs.BTreeMap.{is_at};
-ghost use Rattle.std.specs.Map.{lookup_entry, lookup, keys_of};
+ghost use Rattle.std.specs.Map.{lookup_entry, keys_of};
 ghost use Rattle.std.specs.List.Sorted.{IsStrictlySortedBy};
 ghost use Rattle.std.specs.Fn.{FnOnceReturnsAt};
 ghost use Rattle.leaf_array.specs.Cells.{no_cells, in_slot, IsUsed, is_nil, rank_in, first_above, last_below, lesser, has, inserted, replaced, removed, removed_at, filled};
@@ -10,8 +10,9 @@ ghost use Rattle.leaf_array.specs.Words.{word};
 ghost use Rattle.leaf_array.specs.Results.{IsSuccess, IsDuplicate, IsFull, given_back, is_repeated, is_refused, is_removal};
 ghost use Rattle.leaf_array.specs.declared.result.RemoveResult.TheVariants.{Retired, Fail, Frozen};
 
+use crate::place::{Place, compare, slot_of};
 use crate::result::{InsertResult, RemoveResult};
-use crate::slots::{Place, Slots, compare, slot_of};
+use crate::slots::Slots;
 use std::cmp::Ordering;
 use std::marker::Model;
 

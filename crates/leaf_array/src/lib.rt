@@ -24,9 +24,11 @@
 mod array;
 mod iter;
 mod laws;
+mod place;
 pub mod plain;
 mod range;
 mod result;
+mod row;
 mod slots;
 #[cfg(test)]
 mod tests;

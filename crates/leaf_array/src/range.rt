@@ -7,7 +7,7 @@ ghost use Rattle.std.specs.BTreeMap.Range.{range_contains, is_from_start, is_pas
 ghost use Rattle.leaf_array.specs.Cells.{is_nil, labels_left};
 
 use crate::array::Array;
-use crate::slots::compare;
+use crate::place::compare;
 use std::ops::Bound;
 
 impl<K: Ord, V> Array<K, V> {

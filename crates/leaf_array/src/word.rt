@@ -1,11 +1,11 @@
 //! The word of ranks by slots, and what is read off it.
 
-ghost use Rattle.std.specs.Prelude.{◌≡◌, ◌≤◌, ◌<◌, ◌&&◌, cond, nat_lt, true, false, Some, None, MatchOption, slice_get};
-ghost use Rattle.leaf_array.specs.Cells.{rank_in, lesser};
+ghost use Rattle.std.specs.Prelude.{◌≡◌, ◌≤◌, ◌<◌, ◌&&◌, cond, nat_lt, false, Some, None, MatchOption, slice_get};
+ghost use Rattle.leaf_array.specs.Cells.{lesser};
 ghost use Rattle.leaf_array.specs.Words.{ranks_from, word, score, boundary};
 
 use crate::array::Array;
-use crate::slots::slot_of;
+use crate::place::slot_of;
 
 /// The bit of a retired array.
 const RETIRED: usize = 0x4000000000000000;

@@ -1,5 +1,5 @@
 use Rattle.std.proofs.Common.{refl, ◌<◌, ◌∷◌, [], slice_index_or}
-use Rattle.leaf_array.specs.declared.slots.Place.TheVariants.{Empty}
+use Rattle.leaf_array.specs.declared.place.Place.TheVariants.{Empty}
 use Rattle.leaf_array.specs.Places.{below}
 use Rattle.leaf_array.proofs.SearchLemmas.{below_past}
 use Rattle.leaf_array.proofs.slots.Slots.lower.Goals as goal

@@ -1,6 +1,6 @@
 use Rattle.std.proofs.Common.{sym, ◌∙◌}
 use Rattle.leaf_array.proofs.PlaceLemmas.{room_for_gap}
-use Rattle.leaf_array.proofs.slots.LinkRow.bury.Goals as goal
+use Rattle.leaf_array.proofs.row.LinkRow.bury.Goals as goal
 
 -- the place that comes to the front was the next one, and the gaps of both lie below its rank
 pub widened-requires : goal.widened-requires
