@@ -141,15 +141,15 @@ module _ {K V : Type 0} where
 
   -- ---- a new live place behind n live ones
 
-  module _ (s : ℕ) (key : K) (val : V) where
-    labels_higher : (low : ℕ) (ps : List (Place K V)) → labels_above (low + 1) ps ≡ map (λ l. (l.0, l.1 + 1)) (labels_above low ps)
-    labels_higher low [] = refl
-    labels_higher low (Empty ∷ ps) = refl
-    labels_higher low (Dead t k v ∷ ps) = refl
-    labels_higher low (Live t g k v ∷ ps) =
-        let e : low + 1 + g + 1 ≡ low + g + 1 + 1 = omega arith in
-        rw e (ap (λ ls. (t, low + g + 1 + 1) ∷ ls) (labels_higher (low + g + 1) ps))
+  pub labels_higher : (low : ℕ) (ps : List (Place K V)) → labels_above (low + 1) ps ≡ map (λ l. (l.0, l.1 + 1)) (labels_above low ps)
+  labels_higher low [] = refl
+  labels_higher low (Empty ∷ ps) = refl
+  labels_higher low (Dead t k v ∷ ps) = refl
+  labels_higher low (Live t g k v ∷ ps) =
+      let e : low + 1 + g + 1 ≡ low + g + 1 + 1 = omega arith in
+      rw e (ap (λ ls. (t, low + g + 1 + 1) ∷ ls) (labels_higher (low + g + 1) ps))
 
+  module _ (s : ℕ) (key : K) (val : V) where
     pub labels_insert : (low n : ℕ) (ps : List (Place K V)) → n ≤ length (live_pairs ps) → labels_above low (take n ps ++ Live s 0 key val ∷ drop n ps) ≡ entered low n s (labels_above low ps)
     labels_insert low zero ps le = let e : low + 0 + 1 ≡ low + 1 = omega arith in rw e (ap (λ ls. (s, low + 1) ∷ ls) (labels_higher low ps))
     labels_insert low (suc n) [] le = absurd (omega (arith, le))
@@ -157,12 +157,12 @@ module _ {K V : Type 0} where
     labels_insert low (suc n) (Dead t k v ∷ ps) le = absurd (omega (arith, le))
     labels_insert low (suc n) (Live t g k v ∷ ps) le = ap (λ ls. (t, low + g + 1) ∷ ls) (labels_insert (low + g + 1) n ps (omega (arith, le)))
 
-    pub dead_insert : (n : ℕ) (ps : List (Place K V)) → dead_pairs (take n ps ++ Live s 0 key val ∷ drop n ps) ≡ dead_pairs ps
-    dead_insert zero ps = refl
-    dead_insert (suc n) [] = refl
-    dead_insert (suc n) (Empty ∷ ps) = dead_insert n ps
-    dead_insert (suc n) (Dead t k v ∷ ps) = ap (λ ds. (t, (k, v)) ∷ ds) (dead_insert n ps)
-    dead_insert (suc n) (Live t g k v ∷ ps) = dead_insert n ps
+    pub dead_insert : (h n : ℕ) (ps : List (Place K V)) → dead_pairs (take n ps ++ Live s h key val ∷ drop n ps) ≡ dead_pairs ps
+    dead_insert h zero ps = refl
+    dead_insert h (suc n) [] = refl
+    dead_insert h (suc n) (Empty ∷ ps) = dead_insert h n ps
+    dead_insert h (suc n) (Dead t k v ∷ ps) = ap (λ ds. (t, (k, v)) ∷ ds) (dead_insert h n ps)
+    dead_insert h (suc n) (Live t g k v ∷ ps) = dead_insert h n ps
 
     pub top_insert : (n : ℕ) (ps : List (Place K V)) → n ≤ length (live_pairs ps) → top (take n ps ++ Live s 0 key val ∷ drop n ps) ≡ top ps + 1
     top_insert zero ps le = omega arith
@@ -171,29 +171,60 @@ module _ {K V : Type 0} where
     top_insert (suc n) (Dead t k v ∷ ps) le = absurd (omega (arith, le))
     top_insert (suc n) (Live t g k v ∷ ps) le = let h : n ≤ length (live_pairs ps) = omega (arith, le) in omega (arith, top_insert n ps h)
 
-    pub uses_insert : (slot n : ℕ) (ps : List (Place K V)) → uses slot (take n ps ++ Live s 0 key val ∷ drop n ps) ≡ cond (s == slot) 1 0 + uses slot ps
-    uses_insert slot zero ps = refl
-    uses_insert slot (suc n) [] = refl
-    uses_insert slot (suc n) (Empty ∷ ps) = uses_insert slot n ps
-    uses_insert slot (suc n) (Dead t k v ∷ ps) = omega (arith, uses_insert slot n ps)
-    uses_insert slot (suc n) (Live t g k v ∷ ps) = omega (arith, uses_insert slot n ps)
+    pub uses_insert : (h slot n : ℕ) (ps : List (Place K V)) → uses slot (take n ps ++ Live s h key val ∷ drop n ps) ≡ cond (s == slot) 1 0 + uses slot ps
+    uses_insert h slot zero ps = refl
+    uses_insert h slot (suc n) [] = refl
+    uses_insert h slot (suc n) (Empty ∷ ps) = uses_insert h slot n ps
+    uses_insert h slot (suc n) (Dead t k v ∷ ps) = omega (arith, uses_insert h slot n ps)
+    uses_insert h slot (suc n) (Live t g k v ∷ ps) = omega (arith, uses_insert h slot n ps)
 
-    packed_behind : (ps : List (Place K V)) → IsPacked ps → IsPacked (Live s 0 key val ∷ ps)
-    packed_behind ps h = h
+    pub packed_insert : (h n : ℕ) (ps : List (Place K V)) → n ≤ length (live_pairs ps) → IsPacked ps → IsPacked (take n ps ++ Live s h key val ∷ drop n ps)
+    packed_insert h zero ps le pk = pk
+    packed_insert h (suc n) [] le pk = absurd (omega (arith, le))
+    packed_insert h (suc n) (Empty ∷ ps) le pk = absurd (omega (arith, le))
+    packed_insert h (suc n) (Dead t k v ∷ ps) le pk = absurd (omega (arith, le))
+    packed_insert h (suc n) (Live t g k v ∷ ps) le pk = packed_insert h n ps (omega (arith, le)) pk
 
-    pub packed_insert : (n : ℕ) (ps : List (Place K V)) → n ≤ length (live_pairs ps) → IsPacked ps → IsPacked (take n ps ++ Live s 0 key val ∷ drop n ps)
-    packed_insert zero ps le h = h
-    packed_insert (suc n) [] le h = absurd (omega (arith, le))
-    packed_insert (suc n) (Empty ∷ ps) le h = absurd (omega (arith, le))
-    packed_insert (suc n) (Dead t k v ∷ ps) le h = absurd (omega (arith, le))
-    packed_insert (suc n) (Live t g k v ∷ ps) le h = packed_insert n ps (omega (arith, le)) h
+    pub length_insert : (h n : ℕ) (ps : List (Place K V)) → n ≤ length (live_pairs ps) → length (live_pairs (take n ps ++ Live s h key val ∷ drop n ps)) ≡ length (live_pairs ps) + 1
+    length_insert h zero ps le = omega arith
+    length_insert h (suc n) [] le = absurd (omega (arith, le))
+    length_insert h (suc n) (Empty ∷ ps) le = absurd (omega (arith, le))
+    length_insert h (suc n) (Dead t k v ∷ ps) le = absurd (omega (arith, le))
+    length_insert h (suc n) (Live t g k v ∷ ps) le = let shorter : n ≤ length (live_pairs ps) = omega (arith, le) in omega (arith, length_insert h n ps shorter)
 
-    pub length_insert : (n : ℕ) (ps : List (Place K V)) → n ≤ length (live_pairs ps) → length (live_pairs (take n ps ++ Live s 0 key val ∷ drop n ps)) ≡ length (live_pairs ps) + 1
-    length_insert zero ps le = omega arith
-    length_insert (suc n) [] le = absurd (omega (arith, le))
-    length_insert (suc n) (Empty ∷ ps) le = absurd (omega (arith, le))
-    length_insert (suc n) (Dead t k v ∷ ps) le = absurd (omega (arith, le))
-    length_insert (suc n) (Live t g k v ∷ ps) le = let h : n ≤ length (live_pairs ps) = omega (arith, le) in omega (arith, length_insert n ps h)
+    -- ---- behind all others, with a gap
+
+    pub labels_last : (h low n : ℕ) (ps : List (Place K V)) → n ≡ length (live_pairs ps) → labels_above low (take n ps ++ Live s h key val ∷ drop n ps) ≡ labels_above low ps ++ (s, low + top ps + h + 1) ∷ []
+    labels_last h low zero [] e = let f : low + 0 + h + 1 ≡ low + h + 1 = omega arith in rw f refl
+    labels_last h low zero (Empty ∷ ps) e = let f : low + 0 + h + 1 ≡ low + h + 1 = omega arith in rw f refl
+    labels_last h low zero (Dead t k v ∷ ps) e = let f : low + 0 + h + 1 ≡ low + h + 1 = omega arith in rw f refl
+    labels_last h low zero (Live t g k v ∷ ps) e = absurd (omega (arith, e))
+    labels_last h low (suc n) [] e = absurd (omega (arith, e))
+    labels_last h low (suc n) (Empty ∷ ps) e = absurd (omega (arith, e))
+    labels_last h low (suc n) (Dead t k v ∷ ps) e = absurd (omega (arith, e))
+    labels_last h low (suc n) (Live t g k v ∷ ps) e =
+        let f : low + (g + 1 + top ps) + h + 1 ≡ low + g + 1 + top ps + h + 1 = omega arith in
+        rw f (ap (λ ls. (t, low + g + 1) ∷ ls) (labels_last h (low + g + 1) n ps (omega (arith, e))))
+
+    pub top_last : (h n : ℕ) (ps : List (Place K V)) → n ≡ length (live_pairs ps) → top (take n ps ++ Live s h key val ∷ drop n ps) ≡ top ps + h + 1
+    top_last h zero [] e = omega arith
+    top_last h zero (Empty ∷ ps) e = omega arith
+    top_last h zero (Dead t k v ∷ ps) e = omega arith
+    top_last h zero (Live t g k v ∷ ps) e = absurd (omega (arith, e))
+    top_last h (suc n) [] e = absurd (omega (arith, e))
+    top_last h (suc n) (Empty ∷ ps) e = absurd (omega (arith, e))
+    top_last h (suc n) (Dead t k v ∷ ps) e = absurd (omega (arith, e))
+    top_last h (suc n) (Live t g k v ∷ ps) e = let f : n ≡ length (live_pairs ps) = omega (arith, e) in omega (arith, top_last h n ps f)
+
+    pub live_last : (h n : ℕ) (ps : List (Place K V)) → n ≡ length (live_pairs ps) → live_pairs (take n ps ++ Live s h key val ∷ drop n ps) ≡ live_pairs ps ++ (key, val) ∷ []
+    live_last h zero [] e = refl
+    live_last h zero (Empty ∷ ps) e = refl
+    live_last h zero (Dead t k v ∷ ps) e = refl
+    live_last h zero (Live t g k v ∷ ps) e = absurd (omega (arith, e))
+    live_last h (suc n) [] e = absurd (omega (arith, e))
+    live_last h (suc n) (Empty ∷ ps) e = absurd (omega (arith, e))
+    live_last h (suc n) (Dead t k v ∷ ps) e = absurd (omega (arith, e))
+    live_last h (suc n) (Live t g k v ∷ ps) e = ap (λ qs. (k, v) ∷ qs) (live_last h n ps (omega (arith, e)))
 
     -- ---- a dead place behind the live ones
 

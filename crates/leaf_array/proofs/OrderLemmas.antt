@@ -74,15 +74,15 @@ module _ {K V : Type 0} (cmp : K → K → Ordering) (laws : IsTotalOrder cmp) (
 
   -- ---- a new pair
 
-  pub pairs_insert : (s : ℕ) (val : V) (ps : List (Place K V)) → IsMiss cmp key ps
-      → live_pairs (take (below cmp key ps) ps ++ Live s 0 key val ∷ drop (below cmp key ps) ps) ≡ insert_entry cmp (live_pairs ps) key val
-  pairs_insert s val [] = λ m. refl
-  pairs_insert s val (Empty ∷ ps) = λ m. refl
-  pairs_insert s val (Dead t k v ∷ ps) = λ m. refl
-  pairs_insert s val (Live t g k v ∷ ps) =
+  pub pairs_insert : (s h : ℕ) (val : V) (ps : List (Place K V)) → IsMiss cmp key ps
+      → live_pairs (take (below cmp key ps) ps ++ Live s h key val ∷ drop (below cmp key ps) ps) ≡ insert_entry cmp (live_pairs ps) key val
+  pairs_insert s h val [] = λ m. refl
+  pairs_insert s h val (Empty ∷ ps) = λ m. refl
+  pairs_insert s h val (Dead t k v ∷ ps) = λ m. refl
+  pairs_insert s h val (Live t g k v ∷ ps) =
       (elim (is_lt (cmp k key)) as (λ b. is_lt (cmp k key) ≡ b → ((e : K × V) → cond b (least cmp key ps) (Some (k, v)) ≡ Some e → cmp e.0 key ≡ Greater)
-      → live_pairs (take (cond b (suc (below cmp key ps)) 0) (Live t g k v ∷ ps) ++ Live s 0 key val ∷ drop (cond b (suc (below cmp key ps)) 0) (Live t g k v ∷ ps)) ≡ insert_entry cmp ((k, v) ∷ live_pairs ps) key val) [
-        | true ↦ λ b m. let u = turn_less cmp laws k key (less_of (cmp k key) b) in rw u (ap (λ qs. (k, v) ∷ qs) (pairs_insert s val ps m))
+      → live_pairs (take (cond b (suc (below cmp key ps)) 0) (Live t g k v ∷ ps) ++ Live s h key val ∷ drop (cond b (suc (below cmp key ps)) 0) (Live t g k v ∷ ps)) ≡ insert_entry cmp ((k, v) ∷ live_pairs ps) key val) [
+        | true ↦ λ b m. let u = turn_less cmp laws k key (less_of (cmp k key) b) in rw u (ap (λ qs. (k, v) ∷ qs) (pairs_insert s h val ps m))
         | false ↦ λ b m. let u = turn_greater cmp laws k key (m (k, v) refl) in rw u refl
       ]) refl
 

@@ -9,9 +9,9 @@ use Rattle.std.specs.Map.{keys_of}
 use Rattle.leaf_array.specs.declared.place.Place.{Place}
 use Rattle.leaf_array.specs.declared.place.Place.TheVariants.{Empty, Dead, Live}
 use Rattle.leaf_array.specs.Cells.{lesser, slot_of, fresh_labels, filled}
-use Rattle.leaf_array.specs.Places.{live_pair, live_pairs, labels_above, dead_pairs, packed, vacated, least, top, uses, uses_below, no_half, IsEmptied, IsDeparted, IsPacked, IsSound, cells_of}
+use Rattle.leaf_array.specs.Places.{live_pair, live_pairs, labels_above, dead_pairs, packed, vacated, least, top, uses, uses_below, no_half, no_places, IsEmptied, IsDeparted, IsPacked, IsSound, cells_of}
 
-past_end : {X : Type 0} (xs : List X) (n : ℕ) → length xs ≤ n → slice_get xs n ≡ None
+pub past_end : {X : Type 0} (xs : List X) (n : ℕ) → length xs ≤ n → slice_get xs n ≡ None
 past_end [] zero le = refl
 past_end [] (suc n) le = refl
 past_end (x ∷ xs) zero le = absurd (omega (arith, le))
@@ -331,26 +331,40 @@ module _ {K V : Type 0} where
       let len2 : length (live_pairs ts) ≡ n = ap length live ∙ length-take-le n (live_pairs ps) (omega (arith, len)) in
       rw (← live) (sound_packed cmp ts qs n (packed_join (take n ps) (blank (drop n ps)) (packed_take n ps pk) (emptied_blank (drop n ps))) (length_blank n ps ∙ count) (rw live (sorted_take cmp n (live_pairs ps) so)) (omega (arith, len2, lt)) (sym len2) is)
 
+  -- the two parts of a row
+  pub sound_parts : (cmp : K → K → Ordering) (ps lower upper es fs qs rs : List (Place K V)) (len used n low : ℕ) → IsSound cmp ps len used
+      → lower ≡ take n ps ++ es → upper ≡ drop n ps ++ fs → IsEmptied es → IsEmptied fs → length lower ≡ 15 → length upper ≡ 15 → low ≡ length (take n (live_pairs ps)) → qs ≡ packed 0 lower → rs ≡ packed 0 upper
+      → (IsSound cmp qs low low × ((f : Bool) → cells_of qs low f false ≡ filled f (take n (live_pairs ps))))
+      × (IsSound cmp rs (len - low) (len - low) × ((f : Bool) → cells_of rs (len - low) f false ≡ filled f (drop n (live_pairs ps))))
+  sound_parts cmp ps lower upper es fs qs rs len used n low s lower_is upper_is es_empty fs_empty lower_count upper_count low_is qs_is rs_is =
+      let live_low : live_pairs lower ≡ take n (live_pairs ps) = ap live_pairs lower_is ∙ live_join (take n ps) es es_empty ∙ live_take n ps in
+      let live_up : live_pairs upper ≡ drop n (live_pairs ps) = ap live_pairs upper_is ∙ live_join (drop n ps) fs fs_empty ∙ live_drop n ps s.packed in
+      let pk_low : IsPacked lower = rw lower_is (packed_join (take n ps) es (packed_take n ps s.packed) es_empty) in
+      let pk_up : IsPacked upper = rw upper_is (packed_join (drop n ps) fs (packed_drop n ps s.packed) fs_empty) in
+      let both : length (take n (live_pairs ps)) + length (drop n (live_pairs ps)) ≡ length (live_pairs ps) = simp (length-take, length-drop) (omega arith) in
+      let le : length (live_pairs ps) ≤ 15 = omega (arith, s.all, s.within) in (
+        rw (← live_low) (sound_packed cmp lower qs low pk_low lower_count (rw live_low (sorted_take cmp n (live_pairs ps) s.sorted)) (omega (arith, ap length live_low, both, le)) (low_is ∙ ap length (sym live_low)) qs_is),
+        rw (← live_up) (sound_packed cmp upper rs (len - low) pk_up upper_count (rw live_up (sorted_drop cmp n (live_pairs ps) s.sorted)) (omega (arith, ap length live_up, both, le)) (omega (arith, ap length live_up, both, low_is, s.live)) rs_is),
+      )
+
   -- the two halves of a row
   pub sound_halves : (cmp : K → K → Ordering) (ps mine lower qs rs : List (Place K V)) (len used low : ℕ) → IsSound cmp ps len used
       → mine ≡ drop 8 ps ++ Empty ∷ no_half → lower ≡ take 8 ps ++ no_half → length mine ≡ 15 → length lower ≡ 15 → low ≡ length (take 8 (live_pairs ps)) → qs ≡ packed 0 lower → rs ≡ packed 0 mine
       → (IsSound cmp qs low low × ((f : Bool) → cells_of qs low f false ≡ filled f (take 8 (live_pairs ps))))
       × (IsSound cmp rs (len - low) (len - low) × ((f : Bool) → cells_of rs (len - low) f false ≡ filled f (drop 8 (live_pairs ps))))
-  sound_halves cmp ps mine lower qs rs len used low s mine_is lower_is mine_count lower_count low_is qs_is rs_is =
-      let half : List (Place K V) = no_half in
-      let tail : List (Place K V) = Empty ∷ no_half in
-      let live_low : live_pairs lower ≡ take 8 (live_pairs ps) = ap live_pairs lower_is ∙ live_join (take 8 ps) half tt ∙ live_take 8 ps in
-      let live_mine : live_pairs mine ≡ drop 8 (live_pairs ps) = ap live_pairs mine_is ∙ live_join (drop 8 ps) tail tt ∙ live_drop 8 ps s.packed in
-      let pk_low : IsPacked lower = rw lower_is (packed_join (take 8 ps) half (packed_take 8 ps s.packed) tt) in
-      let pk_mine : IsPacked mine = rw mine_is (packed_join (drop 8 ps) tail (packed_drop 8 ps s.packed) tt) in
-      let both : length (take 8 (live_pairs ps)) + length (drop 8 (live_pairs ps)) ≡ length (live_pairs ps) = simp (length-take, length-drop) (omega arith) in
-      let le : length (live_pairs ps) ≤ 15 = omega (arith, s.all, s.within) in (
-        rw (← live_low) (sound_packed cmp lower qs low pk_low lower_count (rw live_low (sorted_take cmp 8 (live_pairs ps) s.sorted)) (omega (arith, ap length live_low, both, le)) (low_is ∙ ap length (sym live_low)) qs_is),
-        rw (← live_mine) (sound_packed cmp mine rs (len - low) pk_mine mine_count (rw live_mine (sorted_drop cmp 8 (live_pairs ps) s.sorted)) (omega (arith, ap length live_mine, both, le)) (omega (arith, ap length live_mine, both, low_is, s.live)) rs_is),
-      )
+  sound_halves cmp ps mine lower qs rs len used low s mine_is lower_is mine_count lower_count low_is qs_is rs_is = sound_parts cmp ps lower mine no_half (Empty ∷ no_half) qs rs len used 8 low s lower_is mine_is tt tt lower_count mine_count low_is qs_is rs_is
 
-  pub low_length : (xs : List (K × V)) (low len : ℕ) → len ≡ length xs → low ≡ min len 8 → low ≡ length (take 8 xs)
-  low_length xs low len e h = simp length-take (omega (arith, e, h))
+  -- cut behind n places
+  pub sound_cut : (cmp : K → K → Ordering) (ps lower upper qs rs : List (Place K V)) (len used n low : ℕ) → IsSound cmp ps len used
+      → lower ≡ take n ps ++ take (length (drop n ps)) no_places → upper ≡ drop n ps ++ drop (length (drop n ps)) no_places → length lower ≡ 15 → length upper ≡ 15 → low ≡ length (take n (live_pairs ps)) → qs ≡ packed 0 lower → rs ≡ packed 0 upper
+      → (IsSound cmp qs low low × ((f : Bool) → cells_of qs low f false ≡ filled f (take n (live_pairs ps))))
+      × (IsSound cmp rs (len - low) (len - low) × ((f : Bool) → cells_of rs (len - low) f false ≡ filled f (drop n (live_pairs ps))))
+  sound_cut cmp ps lower upper qs rs len used n low s lower_is upper_is lower_count upper_count low_is qs_is rs_is =
+      sound_parts cmp ps lower upper (take (length (drop n ps)) no_places) (drop (length (drop n ps)) no_places) qs rs len used n low s lower_is upper_is
+      (emptied_take (length (drop n ps)) no_places tt) (emptied_drop (length (drop n ps)) no_places tt) lower_count upper_count low_is qs_is rs_is
+
+  pub low_length : (xs : List (K × V)) (low len n : ℕ) → len ≡ length xs → low ≡ min len n → low ≡ length (take n xs)
+  low_length xs low len n e h = simp length-take (omega (arith, e, h))
 
   pub vacated_pair : (ps rs : List (Place K V)) (n : ℕ) → IsPacked ps → rs ≡ packed 0 ps → live_pair (slice_index_or rs n Empty) ≡ slice_get (live_pairs ps) n
   vacated_pair ps rs n pk is = rw is (live_get n (packed 0 ps) (packed_packed 0 ps pk) ∙ ap (λ xs. slice_get xs n) (live_packed 0 ps pk))

@@ -12,10 +12,11 @@ use Rattle.std.proofs.lemmas.Bool.{false≢true}
 use Rattle.std.proofs.lemmas.Bool.Decides.{nat_tests}
 use Rattle.leaf_array.specs.declared.place.Place.{Place}
 use Rattle.leaf_array.specs.declared.place.Place.TheVariants.{Empty, Dead, Live}
-use Rattle.leaf_array.specs.Cells.{Cells, is_nil, lesser, slot_of, inserted, replaced, removed, removed_at, entered, handed_on, fallen}
+use Rattle.leaf_array.specs.Cells.{Cells, is_nil, lesser, slot_of, inserted, replaced, removed, removed_at, appended, entered, handed_on, fallen}
 use Rattle.leaf_array.specs.Places.{live_pair, live_pairs, labels_above, dead_pairs, has_room, pushed, buried, renewed, died, below, least, top, uses, no_places, IsPacked, IsHit, IsMiss, IsSound, cells_of}
 use Rattle.leaf_array.proofs.SearchLemmas.{least_not_lesser, missed}
 use Rattle.leaf_array.proofs.OrderLemmas.{below_lesser, found_entry, missing, hit_within, pairs_insert, pairs_renew}
+use Rattle.leaf_array.proofs.PackLemmas.{least_at, past_end}
 use Rattle.leaf_array.proofs.EditLemmas as edit
 use Rattle.leaf_array.proofs.SortLemmas as sort
 
@@ -84,35 +85,76 @@ module _ {K V : Type 0} (cmp : K → K → Ordering) (laws : IsTotalOrder cmp) (
 
   -- ---- a new pair
 
+  -- a row with a new live place behind n others, h ranks above the place before it
+  pub record IsPut (val : V) (h : ℕ) (ps qs : List (Place K V)) (len used : ℕ) : Type 0 where
+    pub sound : IsSound cmp qs (len + 1) (used + 1)
+    pub entries : live_pairs qs ≡ insert_entry cmp (live_pairs ps) key val
+    pub pairs : live_pairs qs ≡ live_pairs (take (below cmp key ps) ps ++ Live (slot_of used) h key val ∷ drop (below cmp key ps) ps)
+    pub labels : labels_above 0 qs ≡ labels_above 0 (take (below cmp key ps) ps ++ Live (slot_of used) h key val ∷ drop (below cmp key ps) ps)
+    pub dead : dead_pairs qs ≡ dead_pairs ps
+
+  sound_put : (val : V) (h : ℕ) (ps qs : List (Place K V)) (len used at : ℕ) → IsSound cmp ps len used → used < 15 → at ≡ lesser cmp key (live_pairs ps)
+      → is_some (lookup (is_at (cmp key)) (live_pairs ps)) ≡ false → length qs ≡ 15 → qs ≡ take at ps ++ pushed (Live (slot_of used) h key val) (drop at ps)
+      → top (take (below cmp key ps) ps ++ Live (slot_of used) h key val ∷ drop (below cmp key ps) ps) ≤ used + 1 → IsPut val h ps qs len used
+  sound_put val h ps qs len used at s lt e absent count is low =
+      let n = below cmp key ps in
+      let en : at ≡ n = e ∙ sym (below_lesser cmp key ps) in
+      let le : n ≤ length (live_pairs ps) = edit.below_live cmp key ps in
+      let room : length (live_pairs ps) + length (dead_pairs ps) < length ps = omega (arith, s.all, s.count, lt) in
+      let new : List (Place K V) = take n ps ++ Live (slot_of used) h key val ∷ drop n ps in
+      let is2 : qs ≡ take n ps ++ pushed (Live (slot_of used) h key val) (drop n ps) = rw en at is in
+      let turn : qs ++ Empty ∷ [] ≡ new = rw is2 (edit.insert_turn n (Live (slot_of used) h key val) ps (edit.tailed_packed ps s.packed) (edit.room_behind n ps s.packed le room)) in
+      let pairs : live_pairs qs ≡ live_pairs new = sym (edit.live_end qs) ∙ ap live_pairs turn in
+      let entries : live_pairs qs ≡ insert_entry cmp (live_pairs ps) key val = pairs ∙ pairs_insert cmp laws key (slot_of used) h val ps (miss_from ps absent) in
+      let dead : dead_pairs qs ≡ dead_pairs ps = sym (edit.dead_end qs) ∙ ap dead_pairs turn ∙ edit.dead_insert (slot_of used) key val h n ps in
+      let longer : length (live_pairs qs) ≡ length (live_pairs ps) + 1 = ap length pairs ∙ edit.length_insert (slot_of used) key val h n ps le in
+      record {
+        sound = record {
+          count = count;
+          packed = edit.packed_end qs (subst IsPacked (sym turn) (edit.packed_insert (slot_of used) key val h n ps le s.packed));
+          sorted = rw entries (sort.sorted_insert cmp laws (live_pairs ps) key val s.sorted);
+          live = omega (arith, longer, s.live);
+          all = omega (arith, longer, s.all, ap length dead);
+          within = omega (arith, lt);
+          ranks = omega (arith, edit.top_end qs, ap top turn, low);
+          slots = λ slot. let e1 : used + 1 ≡ suc used = omega arith in rw e1 (omega (arith, edit.uses_end slot qs, ap (uses slot) turn, edit.uses_insert (slot_of used) key val h slot n ps, s.slots slot));
+        };
+        entries = entries;
+        pairs = pairs;
+        labels = sym (edit.labels_end 0 qs) ∙ ap (labels_above 0) turn;
+        dead = dead;
+      }
+
   pub sound_place : (val : V) (ps qs : List (Place K V)) (len used at : ℕ) → IsSound cmp ps len used → used < 15 → at ≡ lesser cmp key (live_pairs ps)
       → is_some (lookup (is_at (cmp key)) (live_pairs ps)) ≡ false → length qs ≡ 15 → qs ≡ take at ps ++ pushed (Live (slot_of used) 0 key val) (drop at ps)
       → IsSound cmp qs (len + 1) (used + 1)
       × ((f r : Bool) → cells_of qs (used + 1) f r ≡ inserted cmp key val (cells_of ps used f r))
   sound_place val ps qs len used at s lt e absent count is =
       let n = below cmp key ps in
-      let en : at ≡ n = e ∙ sym (below_lesser cmp key ps) in
       let le : n ≤ length (live_pairs ps) = edit.below_live cmp key ps in
-      let room : length (live_pairs ps) + length (dead_pairs ps) < length ps = omega (arith, s.all, s.count, lt) in
-      let new : List (Place K V) = take n ps ++ Live (slot_of used) 0 key val ∷ drop n ps in
-      let is2 : qs ≡ take n ps ++ pushed (Live (slot_of used) 0 key val) (drop n ps) = rw en at is in
-      let turn : qs ++ Empty ∷ [] ≡ new = rw is2 (edit.insert_turn n (Live (slot_of used) 0 key val) ps (edit.tailed_packed ps s.packed) (edit.room_behind n ps s.packed le room)) in
-      let live : live_pairs qs ≡ insert_entry cmp (live_pairs ps) key val = sym (edit.live_end qs) ∙ ap live_pairs turn ∙ pairs_insert cmp laws key (slot_of used) val ps (miss_from ps absent) in
-      let dead : dead_pairs qs ≡ dead_pairs ps = sym (edit.dead_end qs) ∙ ap dead_pairs turn ∙ edit.dead_insert (slot_of used) key val n ps in
+      let put = sound_put val 0 ps qs len used at s lt e absent count is (omega (arith, edit.top_insert (slot_of used) key val n ps le, s.ranks)) in
       let labels : labels_above 0 qs ≡ entered 0 (lesser cmp key (live_pairs ps)) (slot_of used) (labels_above 0 ps) =
-      sym (edit.labels_end 0 qs) ∙ ap (labels_above 0) turn ∙ edit.labels_insert (slot_of used) key val 0 n ps le ∙ ap (λ m. entered 0 m (slot_of used) (labels_above 0 ps)) (below_lesser cmp key ps) in
-      let longer : length (live_pairs qs) ≡ length (live_pairs ps) + 1 = ap length (sym (edit.live_end qs) ∙ ap live_pairs turn) ∙ edit.length_insert (slot_of used) key val n ps le in (
-        record {
-          count = count;
-          packed = edit.packed_end qs (subst IsPacked (sym turn) (edit.packed_insert (slot_of used) key val n ps le s.packed));
-          sorted = rw live (sort.sorted_insert cmp laws (live_pairs ps) key val s.sorted);
-          live = omega (arith, longer, s.live);
-          all = omega (arith, longer, s.all, ap length dead);
-          within = omega (arith, lt);
-          ranks = omega (arith, edit.top_end qs, ap top turn, edit.top_insert (slot_of used) key val n ps le, s.ranks);
-          slots = λ slot. let e1 : used + 1 ≡ suc used = omega arith in rw e1 (omega (arith, edit.uses_end slot qs, ap (uses slot) turn, edit.uses_insert (slot_of used) key val slot n ps, s.slots slot));
-        },
-        λ f r. rw (live, labels, dead) refl,
-      )
+      put.labels ∙ edit.labels_insert (slot_of used) key val 0 n ps le ∙ ap (λ m. entered 0 m (slot_of used) (labels_above 0 ps)) (below_lesser cmp key ps) in
+      (put.sound, λ f r. rw (put.entries, labels, put.dead) refl)
+
+  -- a key that all are less than isn't there
+  pub absent_last : (ps : List (Place K V)) → IsStrictlySortedBy cmp (keys_of (live_pairs ps)) → lesser cmp key (live_pairs ps) ≡ length (live_pairs ps)
+      → is_some (lookup (is_at (cmp key)) (live_pairs ps)) ≡ false
+  absent_last ps so last = missing_from ps so (missed_all ps (least_at cmp key ps ∙ past_end (live_pairs ps) (lesser cmp key (live_pairs ps)) (omega (arith, last))))
+
+  pub sound_append : (val : V) (ps qs : List (Place K V)) (len used h : ℕ) → IsSound cmp ps len used → used < 15 → lesser cmp key (live_pairs ps) ≡ length (live_pairs ps)
+      → h ≡ used - top ps → length qs ≡ 15 → qs ≡ take len ps ++ pushed (Live (slot_of used) h key val) (drop len ps)
+      → IsSound cmp qs (len + 1) (used + 1)
+      × ((f r : Bool) → cells_of qs (used + 1) f r ≡ appended key val (cells_of ps used f r))
+  sound_append val ps qs len used h s lt last gap count is =
+      let n = below cmp key ps in
+      let end : n ≡ length (live_pairs ps) = below_lesser cmp key ps ∙ last in
+      let up : top ps + h + 1 ≡ used + 1 = omega (arith, gap, s.ranks) in
+      let put = sound_put val h ps qs len used len s lt (s.live ∙ sym last) (absent_last ps s.sorted last) count is (omega (arith, edit.top_last (slot_of used) key val h n ps end, up)) in
+      let pairs : live_pairs qs ≡ live_pairs ps ++ (key, val) ∷ [] = put.pairs ∙ edit.live_last (slot_of used) key val h n ps end in
+      let up0 : 0 + top ps + h + 1 ≡ used + 1 = omega (arith, up) in
+      let labels : labels_above 0 qs ≡ labels_above 0 ps ++ (slot_of used, used + 1) ∷ [] = put.labels ∙ edit.labels_last (slot_of used) key val h 0 n ps end ∙ ap (λ r. labels_above 0 ps ++ (slot_of used, r) ∷ []) up0 in
+      (put.sound, λ f r. rw (pairs, labels, put.dead) refl)
 
   -- ---- another pair for the one that has the key
 

@@ -83,6 +83,11 @@ abbrev pub fresh_labels : ℕ → ℕ → List (ℕ × ℕ)
 fresh_labels place zero = []
 fresh_labels place (suc n) = (slot_of place, place + 1) ∷ fresh_labels (place + 1) n
 
+-- how many labels stand before the one of a slot
+abbrev pub standing : ℕ → List (ℕ × ℕ) → ℕ
+standing slot [] = 0
+standing slot (l ∷ ls) = cond (l.0 == slot) 0 (suc (standing slot ls))
+
 -- slot and pair behind n others
 abbrev pub fallen : {K V : Type 0} → ℕ → List (ℕ × ℕ) → List (K × V) → List (ℕ × (K × V))
 fallen n [] ps = []
@@ -126,6 +131,10 @@ module _ {K V : Type 0} where
         labels = remove a.labels n;
         buried = fallen n a.labels a.pairs ++ a.buried;
       }
+
+  -- with a new pair behind all others, in the lowest clear bitmap place; its rank is one above that
+  abbrev pub appended : K → V → Cells K V → Cells K V
+  appended key val a = record a { pairs = a.pairs ++ (key, val) ∷ []; used = a.used + 1; labels = a.labels ++ (slot_of a.used, a.used + 1) ∷ [] }
 
   module _ (cmp : K → K → Ordering) (key : K) where
     -- how many pairs at the front have a lesser key

@@ -5,3 +5,4 @@ pub mod Cells
 pub mod Places
 pub mod Results
 pub mod Words
+pub mod Calls

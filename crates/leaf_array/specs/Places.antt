@@ -107,6 +107,13 @@ module _ {K V : Type 0} where
   packed n (Dead s k v ∷ ps) = Empty ∷ packed n ps
   packed n (Live s g k v ∷ ps) = Live (slot_of n) 0 k v ∷ packed (n + 1) ps
 
+  -- how many live places at the front stand before the one with a slot
+  abbrev pub stands : ℕ → List (Place K V) → ℕ
+  stands slot [] = 0
+  stands slot (Empty ∷ ps) = 0
+  stands slot (Dead s k v ∷ ps) = 0
+  stands slot (Live s g k v ∷ ps) = cond (s == slot) 0 (suc (stands slot ps))
+
   -- the first place that has a slot
   abbrev pub pair_at_slot : ℕ → List (Place K V) → Option (K × V)
   pair_at_slot slot [] = None

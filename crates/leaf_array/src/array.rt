@@ -5,7 +5,7 @@ ghost use Rattle.std.specs.BTreeMap.{is_at};
 ghost use Rattle.std.specs.Map.{lookup_entry, keys_of};
 ghost use Rattle.std.specs.List.Sorted.{IsStrictlySortedBy};
 ghost use Rattle.std.specs.Fn.{FnOnceReturnsAt};
-ghost use Rattle.leaf_array.specs.Cells.{no_cells, in_slot, IsUsed, is_nil, rank_in, first_above, last_below, lesser, has, inserted, replaced, removed, removed_at, filled};
+ghost use Rattle.leaf_array.specs.Cells.{no_cells, in_slot, IsUsed, is_nil, entered, standing, rank_in, slot_of, first_above, last_below, lesser, has, inserted, appended, replaced, removed, removed_at, filled};
 ghost use Rattle.leaf_array.specs.Words.{word};
 ghost use Rattle.leaf_array.specs.Results.{IsSuccess, IsDuplicate, IsFull, given_back, is_repeated, is_refused, is_removal};
 ghost use Rattle.leaf_array.specs.declared.result.RemoveResult.TheVariants.{Retired, Fail, Frozen};
@@ -156,7 +156,7 @@ impl<K: Ord, V> Array<K, V> {
     }
 
     /// The pair in a slot.
-    fn entry(&self, slot: u8) -> Option<(&K, &V)>
+    pub(crate) fn entry(&self, slot: u8) -> Option<(&K, &V)>
         ensures pair { MatchOption result (in_slot slot self.now ≡ None) (λ e. in_slot slot self.now ≡ Some (e.0.now, e.1.now)) }
         ensures used { IsUsed slot self.now → IsSome result }
     {
@@ -192,6 +192,33 @@ impl<K: Ord, V> Array<K, V> {
         self.slots.under(rank)
     }
 
+    /// How many bits are set.
+    #[inline(always)]
+    pub(crate) fn used(&self) -> u8
+        ensures count { result ≡ self.now.used }
+        ensures within { result ≤ 15 }
+    {
+        self.used
+    }
+
+    /// The rank that a slot would have if a new pair came in at `at`.
+    pub(crate) fn rank_beside(&self, at: usize, slot: u8) -> u8
+        requires { self.now.used < 15 }
+        ensures rank { result ≡ rank_in slot (entered 0 at (slot_of self.now.used) self.now.labels) }
+        ensures within { result ≤ 15 }
+    {
+        self.slots.rank_beside(at, slot_of(self.used), slot)
+    }
+
+    /// How many reachable pairs come before the one in this slot.
+    pub(crate) fn position(&self, slot: u8) -> usize
+        ensures place { result ≡ standing slot self.now.labels }
+        ensures within { 0 < rank_in slot self.now.labels → result < length self.now.pairs }
+    {
+        let _ = &self.len;
+        self.slots.position(slot)
+    }
+
     /// The place of the pair with this key, and the pair.
     #[inline(always)]
     fn found(&self, key: &K) -> Option<(usize, (&K, &V))>
@@ -218,7 +245,7 @@ impl<K: Ord, V> Array<K, V> {
 
     /// Puts a new pair in at `at`.
     #[inline(always)]
-    fn place(&mut self, at: usize, key: K, val: V)
+    pub(crate) fn place(&mut self, at: usize, key: K, val: V)
         requires room { self.old.used < 15 }
         requires place { at ≡ lesser K.cmp key self.old.pairs }
         requires absent { has K.cmp key self.old ≡ false }
@@ -230,6 +257,27 @@ impl<K: Ord, V> Array<K, V> {
             Place::Live {
                 slot,
                 gap: 0,
+                key,
+                value: val,
+            },
+        );
+        self.len += 1;
+        self.used += 1;
+    }
+
+    /// Puts a new pair in behind all others, with a rank one above its bitmap place.
+    pub(crate) fn append(&mut self, key: K, val: V)
+        requires room { self.old.used < 15 }
+        requires last { lesser K.cmp key self.old.pairs ≡ length self.old.pairs }
+        ensures { self.new ≡ appended key val self.old }
+    {
+        let slot = slot_of(self.used);
+        let gap = self.used - self.slots.top();
+        self.slots.insert(
+            usize::from(self.len),
+            Place::Live {
+                slot,
+                gap,
                 key,
                 value: val,
             },

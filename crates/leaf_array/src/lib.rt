@@ -32,6 +32,8 @@ mod row;
 mod slots;
 #[cfg(test)]
 mod tests;
+mod unchecked;
+mod walk;
 mod word;
 
 pub use array::Array;

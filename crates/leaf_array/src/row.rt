@@ -5,8 +5,8 @@
 
 ghost use Rattle.std.specs.Prelude.{◌≡◌, ◌+◌, ◌<◌, ◌≤◌, ◌++◌, ◌∷◌, [], List, length, take, drop, IsTrue, IsSome, Some, None, MatchOption, slice_index_or};
 ghost use Rattle.leaf_array.specs.declared.place.Place.TheVariants.{Empty};
-ghost use Rattle.leaf_array.specs.Cells.{rank_in, first_above, last_below};
-ghost use Rattle.leaf_array.specs.Places.{live_pair, labels_above, top, has_room, pushed, sunk, buried, renewed, died, vacated, packed, pair_at_slot, below, least};
+ghost use Rattle.leaf_array.specs.Cells.{rank_in, first_above, last_below, entered};
+ghost use Rattle.leaf_array.specs.Places.{live_pair, labels_above, top, has_room, pushed, sunk, buried, renewed, died, vacated, packed, pair_at_slot, stands, below, least};
 
 use crate::place::{Place, compare, fill, renew, slot_of, vacate, widened};
 use std::cmp::Ordering;
@@ -49,6 +49,21 @@ pub(crate) trait Row<K: Ord, V> {
     fn under(&self, rank: u8, low: u8) -> Option<(u8, u8)>
         requires { low + top (places self.now) ≤ 15 }
         ensures { result ≡ last_below rank (labels_above low (places self.now)) };
+
+    /// The rank of the last live place, where those before the row go up to `low`.
+    fn top(&self, low: u8) -> u8
+        requires { low + top (places self.now) ≤ 15 }
+        ensures { result ≡ low + top (places self.now) };
+
+    /// The rank that a slot would have if a live place with the slot `fresh` came in at `at`, where those before the row go up to `low`.
+    fn rank_beside(&self, at: usize, fresh: u8, slot: u8, low: u8) -> u8
+        requires { low + top (places self.now) < 15 }
+        ensures { result ≡ rank_in slot (entered low at fresh (labels_above low (places self.now))) };
+
+    /// How many live places at the front stand before the one with this slot, counted from `at`.
+    fn position(&self, slot: u8, at: usize) -> usize
+        requires { at + length (places self.now) ≤ 15 }
+        ensures { result ≡ at + stands slot (places self.now) };
 
     /// The pair with this slot, dead or alive.
     fn in_slot(&self, slot: u8) -> Option<(&K, &V)>
@@ -169,6 +184,50 @@ impl<K: Ord, V> Row<K, V> for Last<K, V> {
                 Some((*slot, own))
             },
             _ => None,
+        }
+    }
+
+    #[inline(always)]
+    fn top(&self, low: u8) -> u8 {
+        match &self.head {
+            Place::Live { gap, .. } => low + *gap + 1,
+            _ => low,
+        }
+    }
+
+    #[inline(always)]
+    #[tactic(auto, using(crate::proofs::EditLemmas::labels_higher))]
+    fn rank_beside(&self, at: usize, fresh: u8, slot: u8, low: u8) -> u8 {
+        if at > 1 {
+            return Row::<K, V>::rank_of(self, slot, low);
+        }
+        if at == 0 {
+            return if fresh == slot {
+                low + 1
+            } else {
+                Row::<K, V>::rank_of(self, slot, low + 1)
+            };
+        }
+        match &self.head {
+            Place::Live { slot: own, gap, .. } => {
+                let rank = low + *gap + 1;
+                if *own == slot {
+                    rank
+                } else if fresh == slot {
+                    rank + 1
+                } else {
+                    0
+                }
+            },
+            _ => 0,
+        }
+    }
+
+    #[inline(always)]
+    fn position(&self, slot: u8, at: usize) -> usize {
+        match &self.head {
+            Place::Live { slot: own, .. } if *own != slot => at + 1,
+            _ => at,
         }
     }
 
@@ -364,6 +423,45 @@ impl<K: Ord, V, R: Row<K, V>> Row<K, V> for Link<K, V, R> {
                 value,
             } if *own == slot => Some((key, value)),
             _ => self.rest.in_slot(slot),
+        }
+    }
+
+    #[inline(always)]
+    fn top(&self, low: u8) -> u8 {
+        match &self.head {
+            Place::Live { gap, .. } => self.rest.top(low + *gap + 1),
+            _ => low,
+        }
+    }
+
+    #[inline(always)]
+    #[tactic(auto, using(crate::proofs::EditLemmas::labels_higher))]
+    fn rank_beside(&self, at: usize, fresh: u8, slot: u8, low: u8) -> u8 {
+        if at > 0 {
+            return match &self.head {
+                Place::Live { slot: own, gap, .. } => {
+                    let own_rank = low + *gap + 1;
+                    if *own == slot {
+                        own_rank
+                    } else {
+                        self.rest.rank_beside(at - 1, fresh, slot, own_rank)
+                    }
+                },
+                _ => 0,
+            };
+        }
+        if fresh == slot {
+            low + 1
+        } else {
+            self.rank_of(slot, low + 1)
+        }
+    }
+
+    #[inline(always)]
+    fn position(&self, slot: u8, at: usize) -> usize {
+        match &self.head {
+            Place::Live { slot: own, .. } if *own != slot => { self.rest.position(slot, at + 1) },
+            _ => at,
         }
     }
 

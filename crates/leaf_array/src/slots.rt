@@ -2,8 +2,8 @@
 
 ghost use Rattle.std.specs.Prelude.{◌≡◌, ◌+◌, ◌<◌, ◌≤◌, ◌++◌, ◌∷◌, [], length, take, drop, IsTrue, IsSome, Some, None, MatchOption, IfOk, IfErr, slice_index_or};
 ghost use Rattle.leaf_array.specs.declared.place.Place.TheVariants.{Empty};
-ghost use Rattle.leaf_array.specs.Cells.{rank_in, first_above, last_below, lesser};
-ghost use Rattle.leaf_array.specs.Places.{live_pair, live_pairs, labels_above, top, has_room, pushed, buried, renewed, died, vacated, packed, pair_at_slot, below, least, no_places, no_half, IsPacked};
+ghost use Rattle.leaf_array.specs.Cells.{rank_in, first_above, last_below, lesser, entered};
+ghost use Rattle.leaf_array.specs.Places.{live_pair, live_pairs, labels_above, top, has_room, pushed, buried, renewed, died, vacated, packed, pair_at_slot, stands, below, least, no_places, no_half, IsPacked};
 
 use crate::place::{Place, compare, precedes};
 use crate::row::{Exchange, Last, Link, Renumber, Row};
@@ -110,6 +110,32 @@ impl<K: Ord, V> Slots<K, V> {
         ensures { result ≡ last_below rank (labels_above 0 self.now) }
     {
         self.all.under(rank, 0)
+    }
+
+    /// The rank of the last live place, 0 if there is none.
+    #[inline(always)]
+    pub(crate) fn top(&self) -> u8
+        requires { top self.now ≤ 15 }
+        ensures { result ≡ top self.now }
+    {
+        self.all.top(0)
+    }
+
+    /// The rank that a slot would have if a live place with the slot `fresh` came in at `at`.
+    #[inline(always)]
+    pub(crate) fn rank_beside(&self, at: usize, fresh: u8, slot: u8) -> u8
+        requires { top self.now < 15 }
+        ensures { result ≡ rank_in slot (entered 0 at fresh (labels_above 0 self.now)) }
+    {
+        self.all.rank_beside(at, fresh, slot, 0)
+    }
+
+    /// How many live places stand before the one with this slot.
+    #[inline(always)]
+    pub(crate) fn position(&self, slot: u8) -> usize
+        ensures { result ≡ stands slot self.now }
+    {
+        self.all.position(slot, 0)
     }
 
     #[inline(always)]

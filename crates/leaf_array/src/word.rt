@@ -1,7 +1,7 @@
 //! The word of ranks by slots, and what is read off it.
 
-ghost use Rattle.std.specs.Prelude.{◌≡◌, ◌≤◌, ◌<◌, ◌&&◌, cond, nat_lt, false, Some, None, MatchOption, slice_get};
-ghost use Rattle.leaf_array.specs.Cells.{lesser};
+ghost use Rattle.std.specs.Prelude.{◌≡◌, ◌≤◌, ◌<◌, ◌+◌, ◌^◌, ◌&&◌, cond, nat_lt, false, Some, None, MatchOption, slice_get};
+ghost use Rattle.leaf_array.specs.Cells.{lesser, entered, slot_of};
 ghost use Rattle.leaf_array.specs.Words.{ranks_from, word, score, boundary};
 
 use crate::array::Array;
@@ -18,9 +18,24 @@ impl<K: Ord, V> Array<K, V> {
     pub fn metadata(&self) -> usize
         ensures { result ≡ word self.now }
     {
+        self.ranks() + self.flags()
+    }
+
+    /// The word that the array would have if a new pair came in at `at`.
+    pub(crate) fn word_beside(&self, at: usize) -> usize
+        requires { self.now.used < 15 }
+        ensures { result ≡ word (record self.now { labels = entered 0 at (slot_of self.now.used) self.now.labels }) }
+    {
+        self.ranks_beside(at) + self.flags()
+    }
+
+    /// The two highest bits of the word.
+    fn flags(&self) -> usize
+        ensures { result ≡ cond self.now.retired (2 ^ 62) 0 + cond self.now.frozen (2 ^ 63) 0 }
+    {
         let retired = if self.is_retired() { RETIRED } else { 0 };
         let frozen = if self.is_frozen() { FROZEN } else { 0 };
-        self.ranks() + retired + frozen
+        retired + frozen
     }
 
     /// The ranks of all slots.
@@ -31,6 +46,19 @@ impl<K: Ord, V> Array<K, V> {
         let mut word: usize = 0;
         for back in 0..15u8 {
             word = word * 16 + usize::from(self.rank_of(14 - back));
+        }
+        word
+    }
+
+    /// The ranks that all slots would have if a new pair came in at `at`.
+    fn ranks_beside(&self, at: usize) -> usize
+        requires { self.now.used < 15 }
+        ensures ranks { result ≡ ranks_from 0 15 (entered 0 at (slot_of self.now.used) self.now.labels) }
+        ensures within { result < 1152921504606846976 }
+    {
+        let mut word: usize = 0;
+        for back in 0..15u8 {
+            word = word * 16 + usize::from(self.rank_beside(at, 14 - back));
         }
         word
     }
