@@ -38,5 +38,9 @@ mod word;
 
 pub use array::Array;
 pub use iter::{ArrayIter, ArrayRevIter};
-pub use laws::{removing_keeps_ascending, replacing_keeps_ascending, upserting_is_found};
+pub use laws::{
+    entering_is_inserting, exchanging_is_upserting, finding_is_looking_up,
+    removing_keeps_ascending, replacing_keeps_ascending, taking_out_is_removing,
+    upserting_is_found,
+};
 pub use result::{DIMENSION, Dimension, InsertResult, RemoveResult};

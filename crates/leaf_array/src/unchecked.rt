@@ -1,6 +1,6 @@
 //! Insertions and removals for a caller that knows already where a pair belongs.
 
-ghost use Rattle.std.specs.Prelude.{◌≡◌, ◌≢◌, ◌<◌, ◌&&◌, not, true, false, cond, length};
+ghost use Rattle.std.specs.Prelude.{◌≡◌, ◌≢◌, ◌<◌, ◌++◌, ◌∷◌, ◌&&◌, [], not, true, false, cond, length};
 ghost use Rattle.leaf_array.specs.Cells.{slot_of, rank_in, lesser, has, is_nil, standing, inserted, appended, removed_at};
 ghost use Rattle.leaf_array.specs.Words.{word};
 ghost use Rattle.leaf_array.specs.declared.result.RemoveResult.TheVariants.{Success, Retired};
@@ -42,6 +42,17 @@ impl<K: Ord, V> Array<K, V> {
             self.place(at, key, val);
         }
         slot_of(place)
+    }
+
+    /// Inserts a new pair behind all others, without a search.
+    pub fn push_last(&mut self, key: K, val: V)
+        requires room { self.old.used < 15 }
+        requires last { lesser K.cmp key self.old.pairs ≡ length self.old.pairs }
+        ensures cells { self.new ≡ inserted K.cmp key val self.old }
+        ensures pairs { self.new.pairs ≡ self.old.pairs ++ (key, val) ∷ [] }
+    {
+        let at = self.len();
+        self.place(at, key, val);
     }
 
     /// Removes the reachable pair in a slot, of a frozen array too.
