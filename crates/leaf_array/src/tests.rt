@@ -1,5 +1,6 @@
 use super::*;
 use std::ops::Bound;
+use std::test::Fail;
 
 const ASCENDING: [u64; 15] = [0, 1, 2, 3, 4, 5, 6, 7, 8, 9, 10, 11, 12, 13, 14];
 
@@ -272,4 +273,275 @@ fn a_slot_shows_its_pair(rt: HostRuntime) {
         },
         _ => assert!(rt; false),
     }
+}
+
+/// Inserts a new pair by the place and word that a dry run gives. Answers 15 where it can't.
+fn insert_by_slot(array: &mut Array<u64, u64>, key: u64, val: u64) -> u8 {
+    if array.used() == 15 {
+        return 15;
+    }
+    match array.search_entry(&key) {
+        Some(_) => return 15,
+        None => {},
+    }
+    let (place, word) = array.insert_dry(&key);
+    if word == 0 {
+        return 15;
+    }
+    let slot = array.insert_unchecked(key, val, place, word);
+    if array.metadata() == word { slot } else { 15 }
+}
+
+/// Puts a pair behind all others of a frozen array, at a place. Answers 15 where it can't.
+fn put_at(array: &mut Array<u64, u64>, key: u64, val: u64, place: u8) -> u8 {
+    if !array.is_frozen() || array.used() == 15 || array.used() != place {
+        return 15;
+    }
+    if array.lower_bound(&key).0 != array.len() {
+        return 15;
+    }
+    array.insert_unchecked(key, val, place, 0)
+}
+
+/// Removes the pair in a slot, if it can be reached.
+fn remove_slot(array: &mut Array<u64, u64>, slot: u8) -> RemoveResult {
+    if array.rank_of(slot) == 0 {
+        return RemoveResult::Fail;
+    }
+    array.remove_unchecked(slot)
+}
+
+#[test]
+fn a_dry_run_says_where_a_pair_goes(rt: HostRuntime) {
+    let mut array: Array<u64, u64> = Array::new();
+    // the bitmap places 0 to 5 have the slots 1, 2, 3, 0, 5, 6
+    for (key, slot) in [(3u64, 1u8), (2, 2), (1, 3), (7, 0), (6, 5), (5, 6)] {
+        assert_eq!(rt; insert_by_slot(&mut array, key, key), slot);
+    }
+    for key in [1u64, 2, 3, 5, 6, 7] {
+        assert_eq!(rt; array.search_val(&key), Some(&key));
+    }
+    assert_eq!(rt; array.len(), 6);
+    // slots 0 to 6, the lowest one first: 7, 3, 2, 1, none, 6, 5
+    assert_eq!(rt; array.metadata(), 0x4501236);
+}
+
+#[test]
+fn a_removed_slot_leaves_the_other_ranks(rt: HostRuntime) {
+    let mut array = holding(&[10, 20]);
+    assert_eq!(rt; remove_slot(&mut array, 1), RemoveResult::Success);
+    assert_eq!(rt; array.metadata(), 0x200);
+    // the least pair has rank 2, so a lesser one takes rank 1
+    assert_eq!(rt; insert_by_slot(&mut array, 5, 5), 3);
+    assert_eq!(rt; array.metadata(), 0x1300);
+    assert_eq!(rt; remove_slot(&mut array, 3), RemoveResult::Success);
+    assert_eq!(rt; remove_slot(&mut array, 3), RemoveResult::Fail);
+    assert_eq!(rt; remove_slot(&mut array, 2), RemoveResult::Retired);
+    let mut frozen = holding(&[10]);
+    if !frozen.is_frozen() {
+        let _ = frozen.freeze();
+    }
+    assert_eq!(rt; remove_slot(&mut frozen, 1), RemoveResult::Success);
+    assert!(rt; !frozen.is_retired());
+}
+
+#[test]
+fn pairs_are_pushed_at_the_end(rt: HostRuntime) {
+    let mut array = holding(&[1, 3]);
+    assert_eq!(rt; array.remove_if(&3, |_| true), RemoveResult::Success);
+    if array.used() < 15 && array.lower_bound(&7).0 == array.len() {
+        array.push_last(7, 70);
+    }
+    assert_eq!(rt; array.pair(1), Some((&7, &70)));
+    // slot 3 has the rank behind that of slot 1
+    assert_eq!(rt; array.metadata(), 0x2010);
+}
+
+#[test]
+fn a_distributed_array_gives_its_pairs_to_others(rt: HostRuntime) {
+    let mut old: Array<u64, u64> = Array::new();
+    for key in [11u64, 19, 32, 20, 1, 0] {
+        assert_eq!(rt; answer(old.insert::<false>(key, 17)), 0);
+    }
+    let mut low: Array<u64, u64> = Array::new_frozen();
+    let mut high: Array<u64, u64> = Array::new_frozen();
+    let mut seen = (0, 0, true);
+    let mut refused: u8 = 0;
+    if !old.is_frozen() {
+        let done = old.distribute(
+            |boundary, len, ordered| {
+                seen = (boundary, len, ordered);
+                true
+            },
+            |key, val, boundary, place| {
+                let slot = if *key < 20 {
+                    put_at(&mut low, *key, *val, place)
+                } else {
+                    put_at(&mut high, *key, *val, place.saturating_sub(4))
+                };
+                if slot == 15 || boundary != 15 {
+                    refused = refused.saturating_add(1);
+                }
+            },
+        );
+        assert!(rt; done);
+    }
+    assert_eq!(rt; seen, (15, 6, false));
+    assert_eq!(rt; refused, 0);
+    assert_eq!(rt; answer(low.insert::<false>(5, 5)), 2);
+    if low.is_frozen() && high.is_frozen() {
+        low.unfreeze();
+        high.unfreeze();
+    }
+    assert_eq!(rt; (low.len(), high.len()), (4, 2));
+    assert_eq!(rt;
+        (low.search_val(&0), low.search_val(&1)),
+        (Some(&17), Some(&17))
+    );
+    assert_eq!(rt;
+        (high.search_val(&20), high.search_val(&32)),
+        (Some(&17), Some(&17))
+    );
+    assert_eq!(rt; answer(old.insert::<false>(1, 0)), 2);
+    assert_eq!(rt; answer(old.insert::<false>(3, 0)), 2);
+    assert_eq!(rt; old.remove_if(&17, |_| true), RemoveResult::Frozen);
+    if old.is_frozen() {
+        old.unfreeze();
+    }
+    assert_eq!(rt; answer(old.insert::<false>(3, 7)), 0);
+    assert_eq!(rt; old.remove_if(&1, |_| true), RemoveResult::Success);
+    let mut gone: u64 = 0;
+    let mut there: u64 = 0;
+    let shown = old.for_each_all(
+        |frozen, retired| !frozen && !retired,
+        |_, rank, pair, removed| {
+            match pair {
+                Some((key, _)) if removed && rank == 0 => gone = gone.saturating_add(*key),
+                Some(_) => there = there.saturating_add(1),
+                None => return Err(()),
+            }
+            Ok(())
+        },
+    );
+    assert!(rt; shown.is_ok());
+    assert_eq!(rt; (gone, there), (1, 6));
+    for key in [0u64, 3, 11, 19, 20] {
+        assert_eq!(rt; old.remove_if(&key, |_| true), RemoveResult::Success);
+    }
+    assert_eq!(rt; old.remove_if(&32, |_| true), RemoveResult::Retired);
+    assert_eq!(rt; answer(old.insert::<false>(5, 5)), 2);
+}
+
+#[test]
+fn a_refused_preparation_distributes_nothing(rt: HostRuntime) {
+    let mut array = holding(&[1, 2]);
+    let mut dealt: u8 = 0;
+    if !array.is_frozen() {
+        let done = array.distribute(
+            |_, _, _| false,
+            |_, _, _, _| dealt = dealt.saturating_add(1),
+        );
+        assert!(rt; !done);
+    }
+    assert_eq!(rt; dealt, 0);
+    assert!(rt; array.is_frozen());
+}
+
+#[test]
+fn reachable_slots_are_shown_rising(rt: HostRuntime) {
+    let mut array = holding(&[10, 20, 30, 40, 50]);
+    assert_eq!(rt; array.remove_if(&20, |_| true), RemoveResult::Success);
+    let mut slots: u64 = 0;
+    array.for_each_pos(
+        |frozen| !frozen,
+        |slot| slots = slots.wrapping_mul(16).wrapping_add(u64::from(slot)),
+    );
+    // slot 2 had the removed pair
+    assert_eq!(rt; slots, 0x135);
+    array.for_each_pos(|frozen| frozen, |_| slots = 0);
+    assert_eq!(rt; slots, 0x135);
+}
+
+#[test]
+fn the_first_error_ends_a_showing(rt: HostRuntime) {
+    let array = holding(&[10, 20, 30]);
+    let mut calls: u8 = 0;
+    let shown = array.for_each_all(
+        |_, _| true,
+        |slot, _, _, _| {
+            calls = calls.saturating_add(1);
+            if slot == 2 { Err(slot) } else { Ok(()) }
+        },
+    );
+    assert_eq!(rt; shown, Err(2));
+    assert_eq!(rt; calls, 2);
+    let unasked = array.for_each_all(|_, _| false, |slot, _, _, _| Err(slot));
+    assert_eq!(rt; unasked, Ok(()));
+}
+
+#[test]
+fn a_fold_goes_through_the_pairs_by_key(rt: HostRuntime) {
+    let mut array = reversed(&[1, 2, 3, 4]);
+    assert_eq!(rt; array.remove_if(&3, |_| true), RemoveResult::Success);
+    let digits = array.fold(0u64, |made, key, val| {
+        made.wrapping_mul(100)
+            .wrapping_add(key.wrapping_mul(10))
+            .wrapping_add(*val)
+    });
+    assert_eq!(rt; digits, 112244);
+}
+
+/// A number from the one before, as in Knuth's MMIX.
+fn following(seed: u64) -> u64 {
+    seed.wrapping_mul(6364136223846793005)
+        .wrapping_add(1442695040888963407)
+}
+
+#[test]
+fn random_calls_answer_as_a_plain_list_does(rt: HostRuntime) -> Result<(), Fail> {
+    let mut array: Array<u64, u64> = Array::new();
+    let mut list: Vec<(u64, u64)> = Vec::new(rt.alloc());
+    let mut seed = 1;
+    for _ in 0..300 {
+        seed = following(seed);
+        let key = (seed >> 33) % 20;
+        let val = (seed >> 40) % 1000;
+        match (seed >> 59) % 4 {
+            0 => {
+                let there = plain::contains_key(list.as_slice(), &key);
+                let gone = array.remove_if(&key, |_| true);
+                assert_eq!(rt; gone != RemoveResult::Fail, there);
+                list = plain::remove(rt.alloc(), list.as_slice(), &key)?;
+            },
+            1 => {
+                if array.is_full() {
+                    array.pack();
+                }
+                if !array.is_full() {
+                    assert_eq!(rt; answer(array.insert::<true>(key, val)), 0);
+                    list = plain::upsert(rt.alloc(), list.as_slice(), &key, &val)?;
+                }
+            },
+            _ => {
+                if array.is_full() {
+                    array.pack();
+                }
+                let there = plain::contains_key(list.as_slice(), &key);
+                if !array.is_full() {
+                    assert_eq!(rt; answer(array.insert::<false>(key, val)), u8::from(there));
+                    list = plain::insert(rt.alloc(), list.as_slice(), &key, &val)?;
+                }
+            },
+        }
+        assert_eq!(rt; array.len(), list.len());
+        assert_eq!(rt;
+            array.search_val(&key),
+            plain::find_value(list.as_slice(), &key)
+        );
+        for at in 0..15usize {
+            let pair = list.get(at);
+            assert_eq!(rt; array.pair(at), pair.map(|p| (&p.0, &p.1)));
+        }
+    }
+    Ok(())
 }
