@@ -1,5 +1,5 @@
 -- Calls at the elements of a list, one after the other.
-use Rattle.std.proofs.Common.{arith, ◌≡◌, ℕ, zero, suc, ◌+◌, ◌-◌, ◌==◌, ◌<◌, ◌∷◌, [], List, Bool, true, false, cond, length, drop, refl, ap, ◌∙◌, sym, map, nat_lt, Option, Some, None, Result, slice_get}
+use Rattle.std.proofs.Common.{arith, ◌≡◌, ℕ, zero, suc, ◌+◌, ◌-◌, ◌==◌, ◌<◌, ◌∷◌, [], List, Bool, true, false, drop, refl, map, nat_lt, Option, Some, None, Result, slice_get}
 use Rattle.std.proofs.lemmas.Bool.Decides.{nat_tests}
 use Rattle.std.specs.List.{FoldsTo, enumerate_from, filter, range_with_len}
 use Rattle.std.specs.Fn.{Called, Mut}

@@ -1,5 +1,5 @@
 -- The words of std's maps and those of the edits of lists agree where keys ascend.
-use Rattle.std.proofs.Common.{arith, ◌≡◌, ℕ, suc, ◌++◌, ◌∷◌, ◌||◌, [], List, Bool, true, false, cond, not, length, refl, sym, ap, ◌∙◌, Some}
+use Rattle.std.proofs.Common.{arith, ◌≡◌, suc, ◌++◌, ◌∷◌, ◌||◌, [], List, true, false, cond, not, length, refl, sym, ap, ◌∙◌, Some}
 use Rattle.std.specs.declared.cmp.Ordering.{Ordering}
 use Rattle.std.specs.declared.cmp.Ordering.TheVariants.{Less, Equal, Greater}
 use Rattle.std.specs.Ordering.{is_lt, is_gt, is_eq, match_ordering}
@@ -10,7 +10,7 @@ use Rattle.std.specs.List.Sorted.{IsStrictlySortedBy}
 use Rattle.std.specs.Map.{keys_of, lookup, lookup_entry, remove_entry}
 use Rattle.std.specs.BTreeMap.{insert_entry, is_at}
 use Rattle.leaf_array.specs.Cells.{lesser}
-use Rattle.leaf_array.specs.Edits.{above, below, inserted, removed, upserted}
+use Rattle.leaf_array.specs.Edits.{above, below, removed, upserted}
 use Rattle.leaf_array.specs.Pairs.{IsAscending, has_key, value_at}
 use Rattle.leaf_array.proofs.Lists.{IsAscending-removed}
 use Rattle.leaf_array.proofs.OrderLemmas.{turn_less}

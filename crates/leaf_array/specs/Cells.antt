@@ -1,11 +1,11 @@
 -- What a contract sees of an array: its reachable pairs by rising keys, and where they stand.
-use Rattle.std.specs.Prelude.{◌≡◌, refl, ℕ, zero, suc, ◌+◌, ◌-◌, ◌%◌, ◌==◌, ◌<◌, ◌||◌, ◌&&◌, not, Bool, true, false, cond, nat_lt, List, [], ◌∷◌, ◌++◌, map, Option, Some, None, length}
+use Rattle.std.specs.Prelude.{◌≡◌, refl, ℕ, zero, suc, ◌+◌, ◌-◌, ◌%◌, ◌==◌, ◌<◌, ◌||◌, ◌&&◌, not, Bool, true, false, cond, nat_lt, List, [], ◌∷◌, ◌++◌, map, Option, Some, None, MatchOption, length}
 use Rattle.std.specs.declared.cmp.Ordering.{Ordering}
 use Rattle.std.specs.Ordering.{is_lt}
 use Rattle.std.specs.Option.{is_some, option_or}
 use Rattle.std.specs.Map.{lookup, remove_entry}
 use Rattle.std.specs.BTreeMap.{insert_entry, is_at}
-use Rattle.std.specs.List.{remove}
+use Rattle.std.specs.List.{remove, filter}
 use Rattle.std.specs.Coded.{Coded, code_by, coded×, coded_ℕ, coded_bool, coded_list}
 
 -- labels are the slot and the rank of each pair, buried are slot and pair of what was removed or replaced, the newest first
@@ -54,6 +54,18 @@ first_above rank (l ∷ ls) = cond (nat_lt rank l.1) (Some l) (first_above rank 
 abbrev pub last_below : ℕ → List (ℕ × ℕ) → Option (ℕ × ℕ)
 last_below rank [] = None
 last_below rank (l ∷ ls) = cond (nat_lt 0 rank && not (nat_lt l.1 rank)) None (option_or (last_below rank ls) (Some l))
+
+-- how many labels have a rank above this one
+abbrev pub higher : ℕ → List (ℕ × ℕ) → ℕ
+higher rank labels = length (filter (λ l. nat_lt rank l.1) labels)
+
+-- how many labels have a rank below this one, where all are below 0
+abbrev pub lower : ℕ → List (ℕ × ℕ) → ℕ
+lower rank labels = cond (rank == 0) (length labels) (length (filter (λ l. nat_lt l.1 rank) labels))
+
+-- an iterator goes to the label that it seeks and gives its slot, or stays where there is none
+abbrev pub StepsTo : (Tour → Option (ℕ × ℕ)) → Tour → Option ℕ → Tour → Type 0
+StepsTo seek s slot t = MatchOption (seek s) ((slot ≡ None) × (t ≡ s)) (λ l. (slot ≡ Some l.0) × (t ≡ record s { rank = l.1 }))
 
 -- the pair behind a slot among those that can be reached
 abbrev pub reachable_in : {K V : Type 0} → ℕ → List (ℕ × ℕ) → List (K × V) → Option (K × V)

@@ -186,7 +186,8 @@ impl<K: Ord, V> Array<K, V> {
     /// Slot and rank of the last reachable pair below a rank, or of the last one of all if that is 0.
     #[inline]
     pub(crate) fn under(&self, rank: u8) -> Option<(u8, u8)>
-        ensures { result ≡ last_below rank self.now.labels }
+        ensures label { result ≡ last_below rank self.now.labels }
+        ensures ranked { IfSome result (λ l. 0 < l.1) }
     {
         let _ = &self.len;
         self.slots.under(rank)

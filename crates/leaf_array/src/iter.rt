@@ -1,6 +1,6 @@
 //! Iterators over the reachable slots of an array, by rising or falling rank.
 
-ghost use Rattle.std.specs.Prelude.{◌≡◌, Some, None, MatchOption};
+ghost use Rattle.std.specs.Prelude.{◌≡◌};
 ghost use Rattle.leaf_array.specs.Cells.{first_above, last_below};
 ghost use Rattle.leaf_array.specs.Words.{word};
 
@@ -44,16 +44,6 @@ impl<'a, K: Ord, V> ArrayIter<'a, K, V> {
         self.word
     }
 
-    /// The slot of the next reachable rank above its own. Where there is none it stays.
-    pub fn next(&mut self) -> Option<u8>
-        ensures next { MatchOption (first_above self.old.rank self.old.labels) (result ≡ None) (λ l. result ≡ Some l.0) }
-        ensures rank { MatchOption (first_above self.old.rank self.old.labels) (self.new ≡ self.old) (λ l. self.new ≡ record self.old { rank = l.1 }) }
-    {
-        let (slot, rank) = self.array.above(self.rank)?;
-        self.rank = rank;
-        Some(slot)
-    }
-
     /// Goes back to the start.
     pub fn rewind(&mut self)
         ensures { self.new ≡ record self.old { rank = 0 } }
@@ -81,6 +71,24 @@ impl<'a, K: Ord, V> ArrayIter<'a, K, V> {
             word: self.word,
             rank: self.rank,
         }
+    }
+}
+
+impl<'a, K: Ord, V> Iterator for ArrayIter<'a, K, V> {
+    ghost use Rattle.leaf_array.specs.Cells.{StepsTo, higher};
+    ghost use Rattle.std.specs.Iterator.{at_most};
+
+    type Item = u8;
+
+    ghost next_gives = { StepsTo (λ s. first_above s.rank s.labels) };
+
+    ghost remaining = { λ s. at_most (higher s.rank s.labels) };
+
+    /// The slot of the next reachable rank above its own. Where there is none it stays.
+    fn next(&mut self) -> Option<u8> {
+        let (slot, rank) = self.array.above(self.rank)?;
+        self.rank = rank;
+        Some(slot)
     }
 }
 
@@ -121,16 +129,6 @@ impl<'a, K: Ord, V> ArrayRevIter<'a, K, V> {
         self.word
     }
 
-    /// The slot of the next reachable rank below its own, or of the last one of all from the start. Where there is none it stays.
-    pub fn next(&mut self) -> Option<u8>
-        ensures next { MatchOption (last_below self.old.rank self.old.labels) (result ≡ None) (λ l. result ≡ Some l.0) }
-        ensures rank { MatchOption (last_below self.old.rank self.old.labels) (self.new ≡ self.old) (λ l. self.new ≡ record self.old { rank = l.1 }) }
-    {
-        let (slot, rank) = self.array.under(self.rank)?;
-        self.rank = rank;
-        Some(slot)
-    }
-
     /// Goes back to the start.
     pub fn rewind(&mut self)
         ensures { self.new ≡ record self.old { rank = 0 } }
@@ -158,5 +156,23 @@ impl<'a, K: Ord, V> ArrayRevIter<'a, K, V> {
             word: self.word,
             rank: self.rank,
         }
+    }
+}
+
+impl<'a, K: Ord, V> Iterator for ArrayRevIter<'a, K, V> {
+    ghost use Rattle.leaf_array.specs.Cells.{StepsTo, lower};
+    ghost use Rattle.std.specs.Iterator.{at_most};
+
+    type Item = u8;
+
+    ghost next_gives = { StepsTo (λ s. last_below s.rank s.labels) };
+
+    ghost remaining = { λ s. at_most (lower s.rank s.labels) };
+
+    /// The slot of the next reachable rank below its own, or of the last one of all from the start. Where there is none it stays.
+    fn next(&mut self) -> Option<u8> {
+        let (slot, rank) = self.array.under(self.rank)?;
+        self.rank = rank;
+        Some(slot)
     }
 }

@@ -545,3 +545,18 @@ fn random_calls_answer_as_a_plain_list_does(rt: HostRuntime) -> Result<(), Fail>
     }
     Ok(())
 }
+
+#[test]
+fn an_iterator_ends(rt: HostRuntime) {
+    let mut array = holding(&[10, 20, 30]);
+    assert_eq!(rt; array.remove_if(&20, |_| true), RemoveResult::Success);
+    let mut slots: u64 = 0;
+    for slot in ArrayIter::new(&array) {
+        slots = slots.wrapping_mul(16).wrapping_add(u64::from(slot));
+    }
+    assert_eq!(rt; slots, 0x13);
+    for slot in ArrayRevIter::new(&array) {
+        slots = slots.wrapping_mul(16).wrapping_add(u64::from(slot));
+    }
+    assert_eq!(rt; slots, 0x1331);
+}

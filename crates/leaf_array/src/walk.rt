@@ -2,7 +2,6 @@
 
 ghost use Rattle.std.specs.Prelude.{◌≡◌, IsTrue, Bool, true, false, Ok};
 ghost use Rattle.std.specs.List.{FoldsTo, enumerate_from};
-ghost use Rattle.leaf_array.specs.Cells.{Cells};
 ghost use Rattle.leaf_array.specs.Words.{boundary};
 ghost use Rattle.leaf_array.specs.Calls.{ranked_slots, slots_in_order, IsDealt, IsFolded, IsShown, TriesEach};
 

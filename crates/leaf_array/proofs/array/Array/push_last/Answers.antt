@@ -1,4 +1,3 @@
-use Rattle.std.proofs.Common.{sym, ◌∙◌, ap}
 use Rattle.leaf_array.proofs.EntryLemmas.{absent_behind, entry_last}
 use Rattle.leaf_array.proofs.array.Array.push_last.Goals as goal
 
