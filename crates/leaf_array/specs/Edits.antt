@@ -1,5 +1,5 @@
 -- The list that each write of a list of pairs leaves.
-use Rattle.std.specs.Prelude.{Bool, cond, not, List, ◌∷◌, ◌++◌}
+use Rattle.std.specs.Prelude.{cond, not, List, ◌∷◌, ◌++◌}
 use Rattle.std.specs.declared.cmp.Ordering.{Ordering}
 use Rattle.std.specs.BTreeMap.{is_at}
 use Rattle.std.specs.Ordering.{is_lt, is_gt}

@@ -1,8 +1,11 @@
 //! What the definitions of lists and writes promise of each other.
 
-ghost use Rattle.std.specs.Prelude.{◌≡◌, List, Some};
-ghost use Rattle.leaf_array.specs.Edits.{removed, upserted};
-ghost use Rattle.leaf_array.specs.Pairs.{IsAscending, value_at};
+ghost use Rattle.std.specs.Prelude.{◌≡◌, List, Some, false};
+ghost use Rattle.std.specs.BTreeMap.{insert_entry, is_at};
+ghost use Rattle.std.specs.Map.{lookup, lookup_entry, remove_entry};
+ghost use Rattle.std.specs.Option.{is_some, option_map};
+ghost use Rattle.leaf_array.specs.Edits.{inserted, removed, upserted};
+ghost use Rattle.leaf_array.specs.Pairs.{IsAscending, has_key, value_at};
 
 /// An ascending list stays ascending when a pair is put at its place, so also where an insert adds
 /// one.
@@ -18,4 +21,25 @@ pub fn removing_keeps_ascending<K: Ord, V>()
 /// A pair that was put at its place is what its key finds.
 pub fn upserting_is_found<K: Ord, V>()
     ensures { (key : K) (value : V) (pairs : List (K × V)) → value_at K.cmp key (upserted K.cmp key value pairs) ≡ Some value }
+{}
+
+/// An entry put into an ascending list that doesn't have its key, in the words of std's maps, is an insert.
+pub fn entering_is_inserting<K: Ord, V>()
+    ensures { (key : K) (value : V) (pairs : List (K × V)) → IsAscending K.cmp pairs → has_key K.cmp key pairs ≡ false → insert_entry K.cmp pairs key value ≡ inserted K.cmp key value pairs }
+{}
+
+/// An entry put into an ascending list in the place of any with its key is an upsert.
+pub fn exchanging_is_upserting<K: Ord, V>()
+    ensures { (key : K) (value : V) (pairs : List (K × V)) → IsAscending K.cmp pairs → insert_entry K.cmp (remove_entry (is_at (K.cmp key)) pairs) key value ≡ upserted K.cmp key value pairs }
+{}
+
+/// An entry taken out of an ascending list is a removal.
+pub fn taking_out_is_removing<K: Ord, V>()
+    ensures { (key : K) (pairs : List (K × V)) → IsAscending K.cmp pairs → remove_entry (is_at (K.cmp key)) pairs ≡ removed K.cmp key pairs }
+{}
+
+/// A list has a key exactly if std's look-up finds something, and its value is that of the entry found.
+pub fn finding_is_looking_up<K: Ord, V>()
+    ensures has { (key : K) (pairs : List (K × V)) → has_key K.cmp key pairs ≡ is_some (lookup (is_at (K.cmp key)) pairs) }
+    ensures value { (key : K) (pairs : List (K × V)) → value_at K.cmp key pairs ≡ option_map (λ e. e.1) (lookup_entry (is_at (K.cmp key)) pairs) }
 {}

@@ -1,15 +1,46 @@
-//! Lists of pairs in the order of their keys, and what writes and reads of them mean.
+//! Lists of pairs in the order of their keys, and arrays of the leaves of a tree.
 //!
-//! The definitions (`specs/`) say it of plain lists: what a list of pairs is, which list a write
-//! leaves, and what a read of a list answers. Every structure of the crates above, from a leaf to
-//! the index, states itself by them. [`plain`] computes them slowly, and is what faster bodies are
-//! tested against.
+//! The definitions (`specs/`) say of plain lists what a list of pairs is, which list a write leaves,
+//! and what a read of a list answers; every structure of the crates above states itself by them.
+//! [`plain`] computes them slowly, and is what faster bodies are tested against.
+//!
+//! An [`Array`] has fifteen places. Its reachable pairs stand there by rising keys, so a search is a
+//! handful of comparisons and an insertion moves what is greater up by one. A pair that is removed
+//! or replaced keeps its place, its slot and its bit until the array is packed, halved or dropped:
+//! so an array with few pairs can be full. Each place has a slot, which is given out in the order of
+//! insertion, and each reachable one a rank, which rises with the keys. The word of ranks by slots
+//! is worked out where a call asks for it.
+//!
+//! ```
+//! let mut array: Array<u64, &str> = Array::new();
+//! array.insert::<false>(2, "two");
+//! array.insert::<false>(1, "one");
+//! array.search_val(&1); // Some(&"one")
+//! array.remove_if(&2, |_| true); // RemoveResult::Success
+//! array.remove_if(&1, |_| true); // RemoveResult::Retired
+//! ```
 #![tactic(auto)]
 
+mod array;
+mod iter;
 mod laws;
+mod place;
 pub mod plain;
-
-pub use laws::{removing_keeps_ascending, replacing_keeps_ascending, upserting_is_found};
-
+mod range;
+mod result;
+mod row;
+mod slots;
 #[cfg(test)]
 mod tests;
+mod unchecked;
+mod walk;
+mod word;
+
+pub use array::Array;
+pub use iter::{ArrayIter, ArrayRevIter};
+pub use laws::{
+    entering_is_inserting, exchanging_is_upserting, finding_is_looking_up,
+    removing_keeps_ascending, replacing_keeps_ascending, taking_out_is_removing,
+    upserting_is_found,
+};
+pub use result::{DIMENSION, Dimension, InsertResult, RemoveResult};

@@ -1,0 +1,11 @@
+use Rattle.std.proofs.Common.{◌≡◌, ◌-◌, ◌<◌}
+use Rattle.leaf_array.specs.Cells.{entered, slot_of}
+use Rattle.leaf_array.specs.Words.{ranks_from}
+use Rattle.leaf_array.proofs.WordLemmas.{limit}
+use Rattle.leaf_array.proofs.array.Array.ranks_beside.Given as goal
+
+abbrev pub invariant-loop-back : goal.invariant-loop-back
+invariant-loop-back g l = record {
+  word : l.word ≡ ranks_from (15 - l.back) l.back (entered 0 l.at (slot_of l.self.used) l.self.labels);
+  within : l.word < limit l.back;
+}

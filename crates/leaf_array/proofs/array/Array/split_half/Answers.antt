@@ -1,0 +1,23 @@
+use Rattle.std.proofs.Common.{false}
+use Rattle.leaf_array.proofs.PackLemmas.{sound_halves, low_length}
+use Rattle.leaf_array.proofs.array.Array.split_half.Goals as goal
+
+pub invariant_of-self : goal.invariant_of-self
+invariant_of-self g c =
+    (sound_halves g.K.Ord.cmp c.self.inside.slots c.split_half-slots.new.self c.split_half-slots.result c.renumber.new.self c.renumber-2.new.self c.self.inside.len c.self.inside.used c.min-len.result c.self.invariant c.split_half-slots.ensures.mine c.split_half-slots.ensures.lower
+    c.split_half-slots.ensures.mine_count c.split_half-slots.ensures.lower_count (low_length _ _ c.self.inside.len 8 c.self.invariant.live c.min-len.ensures) c.renumber.ensures.places c.renumber-2.ensures.places).1.0
+
+pub invariant_of-result : goal.invariant_of-result
+invariant_of-result g c =
+    (sound_halves g.K.Ord.cmp c.self.inside.slots c.split_half-slots.new.self c.split_half-slots.result c.renumber.new.self c.renumber-2.new.self c.self.inside.len c.self.inside.used c.min-len.result c.self.invariant c.split_half-slots.ensures.mine c.split_half-slots.ensures.lower
+    c.split_half-slots.ensures.mine_count c.split_half-slots.ensures.lower_count (low_length _ _ c.self.inside.len 8 c.self.invariant.live c.min-len.ensures) c.renumber.ensures.places c.renumber-2.ensures.places).0.0
+
+pub returns-clause-lower : goal.returns-clause-lower
+returns-clause-lower g c =
+    rw (← c.self.view_is) ((sound_halves g.K.Ord.cmp c.self.inside.slots c.split_half-slots.new.self c.split_half-slots.result c.renumber.new.self c.renumber-2.new.self c.self.inside.len c.self.inside.used c.min-len.result c.self.invariant c.split_half-slots.ensures.mine c.split_half-slots.ensures.lower
+    c.split_half-slots.ensures.mine_count c.split_half-slots.ensures.lower_count (low_length _ _ c.self.inside.len 8 c.self.invariant.live c.min-len.ensures) c.renumber.ensures.places c.renumber-2.ensures.places).0.1 false)
+
+pub returns-clause-upper : goal.returns-clause-upper
+returns-clause-upper g c =
+    rw (← c.self.view_is) ((sound_halves g.K.Ord.cmp c.self.inside.slots c.split_half-slots.new.self c.split_half-slots.result c.renumber.new.self c.renumber-2.new.self c.self.inside.len c.self.inside.used c.min-len.result c.self.invariant c.split_half-slots.ensures.mine c.split_half-slots.ensures.lower
+    c.split_half-slots.ensures.mine_count c.split_half-slots.ensures.lower_count (low_length _ _ c.self.inside.len 8 c.self.invariant.live c.min-len.ensures) c.renumber.ensures.places c.renumber-2.ensures.places).1.1 c.self.inside.frozen)

@@ -1,0 +1,177 @@
+-- What a contract sees of an array: its reachable pairs by rising keys, and where they stand.
+use Rattle.std.specs.Prelude.{◌≡◌, refl, ℕ, zero, suc, ◌+◌, ◌-◌, ◌%◌, ◌==◌, ◌<◌, ◌||◌, ◌&&◌, not, Bool, true, false, cond, nat_lt, List, [], ◌∷◌, ◌++◌, map, Option, Some, None, MatchOption, length}
+use Rattle.std.specs.declared.cmp.Ordering.{Ordering}
+use Rattle.std.specs.Ordering.{is_lt}
+use Rattle.std.specs.Option.{is_some, option_or}
+use Rattle.std.specs.Map.{lookup, remove_entry}
+use Rattle.std.specs.BTreeMap.{insert_entry, is_at}
+use Rattle.std.specs.List.{remove, filter}
+use Rattle.std.specs.Coded.{Coded, code_by, coded×, coded_ℕ, coded_bool, coded_list}
+
+-- labels are the slot and the rank of each pair, buried are slot and pair of what was removed or replaced, the newest first
+pub record Cells (K V : Type 0) : Type 0 where
+  pub pairs : List (K × V)
+  pub used : ℕ
+  pub frozen : Bool
+  pub retired : Bool
+  pub labels : List (ℕ × ℕ)
+  pub buried : List (ℕ × (K × V))
+
+abbrev pub cells_code : {K V : Type 0} → Coded K → Coded V → Coded (Cells K V)
+cells_code {K} {V} k v =
+    code_by
+    (List (K × V) × (ℕ × (Bool × (Bool × (List (ℕ × ℕ) × List (ℕ × (K × V)))))))
+    (coded× (coded_list (coded× k v)) (coded× coded_ℕ (coded× coded_bool (coded× coded_bool (coded× (coded_list (coded× coded_ℕ coded_ℕ)) (coded_list (coded× coded_ℕ (coded× k v))))))))
+    (λ a. (a.pairs, (a.used, (a.frozen, (a.retired, (a.labels, a.buried))))))
+    (λ p. record { pairs = p.0; used = p.1.0; frozen = p.1.1.0; retired = p.1.1.1.0; labels = p.1.1.1.1.0; buried = p.1.1.1.1.1 })
+    (λ _. refl)
+
+-- what a contract sees of an iterator: the labels that it goes through, the word taken at its start, and the rank at which it stands
+pub record Tour : Type 0 where
+  pub labels : List (ℕ × ℕ)
+  pub word : ℕ
+  pub rank : ℕ
+
+abbrev pub tour_code : Coded Tour
+tour_code =
+    code_by (List (ℕ × ℕ) × (ℕ × ℕ)) (coded× (coded_list (coded× coded_ℕ coded_ℕ)) (coded× coded_ℕ coded_ℕ)) (λ t. (t.labels, (t.word, t.rank))) (λ p. record { labels = p.0; word = p.1.0; rank = p.1.1 }) (λ _. refl)
+
+-- the slot of a bitmap place
+abbrev pub slot_of : ℕ → ℕ
+slot_of place = cond (nat_lt place 12) (place - place % 4 + (place + 1) % 4) place
+
+-- the rank of a slot, 0 if it has none
+abbrev pub rank_in : ℕ → List (ℕ × ℕ) → ℕ
+rank_in slot [] = 0
+rank_in slot (l ∷ ls) = cond (l.0 == slot) l.1 (rank_in slot ls)
+
+-- the first label above a rank
+abbrev pub first_above : ℕ → List (ℕ × ℕ) → Option (ℕ × ℕ)
+first_above rank [] = None
+first_above rank (l ∷ ls) = cond (nat_lt rank l.1) (Some l) (first_above rank ls)
+
+-- the last label below a rank, or the last one of all if that is 0
+abbrev pub last_below : ℕ → List (ℕ × ℕ) → Option (ℕ × ℕ)
+last_below rank [] = None
+last_below rank (l ∷ ls) = cond (nat_lt 0 rank && not (nat_lt l.1 rank)) None (option_or (last_below rank ls) (Some l))
+
+-- how many labels have a rank above this one
+abbrev pub higher : ℕ → List (ℕ × ℕ) → ℕ
+higher rank labels = length (filter (λ l. nat_lt rank l.1) labels)
+
+-- how many labels have a rank below this one, where all are below 0
+abbrev pub lower : ℕ → List (ℕ × ℕ) → ℕ
+lower rank labels = cond (rank == 0) (length labels) (length (filter (λ l. nat_lt l.1 rank) labels))
+
+-- an iterator goes to the label that it seeks and gives its slot, or stays where there is none
+abbrev pub StepsTo : (Tour → Option (ℕ × ℕ)) → Tour → Option ℕ → Tour → Type 0
+StepsTo seek s slot t = MatchOption (seek s) ((slot ≡ None) × (t ≡ s)) (λ l. (slot ≡ Some l.0) × (t ≡ record s { rank = l.1 }))
+
+-- the pair behind a slot among those that can be reached
+abbrev pub reachable_in : {K V : Type 0} → ℕ → List (ℕ × ℕ) → List (K × V) → Option (K × V)
+reachable_in slot [] ps = None
+reachable_in slot (l ∷ ls) [] = None
+reachable_in slot (l ∷ ls) (p ∷ ps) = cond (l.0 == slot) (Some p) (reachable_in slot ls ps)
+
+-- the pair that was buried in a slot
+abbrev pub buried_in : {K V : Type 0} → ℕ → List (ℕ × (K × V)) → Option (K × V)
+buried_in slot [] = None
+buried_in slot (b ∷ bs) = cond (b.0 == slot) (Some b.1) (buried_in slot bs)
+
+-- the labels with a new slot behind n others: its rank is one above theirs, and the ranks behind it rise by one
+abbrev pub entered : ℕ → ℕ → ℕ → List (ℕ × ℕ) → List (ℕ × ℕ)
+entered low zero slot ls = (slot, low + 1) ∷ map (λ l. (l.0, l.1 + 1)) ls
+entered low (suc n) slot [] = []
+entered low (suc n) slot (l ∷ ls) = l ∷ entered l.1 n slot ls
+
+-- the labels with another slot for the one behind n others: its rank stays
+abbrev pub handed_on : ℕ → ℕ → List (ℕ × ℕ) → List (ℕ × ℕ)
+handed_on n slot [] = []
+handed_on zero slot (l ∷ ls) = (slot, l.1) ∷ ls
+handed_on (suc n) slot (l ∷ ls) = l ∷ handed_on n slot ls
+
+-- the labels of n pairs in the slots of the bitmap places from this one on, without gaps
+abbrev pub fresh_labels : ℕ → ℕ → List (ℕ × ℕ)
+fresh_labels place zero = []
+fresh_labels place (suc n) = (slot_of place, place + 1) ∷ fresh_labels (place + 1) n
+
+-- how many labels stand before the one of a slot
+abbrev pub standing : ℕ → List (ℕ × ℕ) → ℕ
+standing slot [] = 0
+standing slot (l ∷ ls) = cond (l.0 == slot) 0 (suc (standing slot ls))
+
+-- slot and pair behind n others
+abbrev pub fallen : {K V : Type 0} → ℕ → List (ℕ × ℕ) → List (K × V) → List (ℕ × (K × V))
+fallen n [] ps = []
+fallen n (l ∷ ls) [] = []
+fallen zero (l ∷ ls) (p ∷ ps) = (l.0, p) ∷ []
+fallen (suc n) (l ∷ ls) (p ∷ ps) = fallen n ls ps
+
+-- the labels of the pairs whose keys fail a test
+abbrev pub labels_left : {K V : Type 0} → (K → Bool) → List (K × V) → List (ℕ × ℕ) → List (ℕ × ℕ)
+labels_left test [] ls = []
+labels_left test (p ∷ ps) [] = []
+labels_left test (p ∷ ps) (l ∷ ls) = cond (test p.0) (labels_left test ps ls) (l ∷ labels_left test ps ls)
+
+abbrev pub is_nil : {X : Type 0} → List X → Bool
+is_nil [] = true
+is_nil (x ∷ xs) = false
+
+module _ {K V : Type 0} where
+  -- the pair in a slot, reachable or buried
+  abbrev pub in_slot : ℕ → Cells K V → Option (K × V)
+  in_slot slot a = option_or (reachable_in slot a.labels a.pairs) (buried_in slot a.buried)
+
+  -- the bit of a slot is set
+  abbrev pub IsUsed : ℕ → Cells K V → Type 0
+  IsUsed slot a = (place : ℕ) × (place < a.used) × (slot_of place ≡ slot)
+
+  -- an array without pairs
+  abbrev pub no_cells : Bool → Cells K V
+  no_cells frozen = record { pairs = []; used = 0; frozen = frozen; retired = false; labels = []; buried = [] }
+
+  -- an array with these pairs in the lowest places, and nothing else
+  abbrev pub filled : Bool → List (K × V) → Cells K V
+  filled frozen pairs = record { pairs = pairs; used = length pairs; frozen = frozen; retired = false; labels = fresh_labels 0 (length pairs); buried = [] }
+
+  -- without the pair behind n others; an array that loses its last pair retires, unless it is frozen
+  abbrev pub removed_at : ℕ → Cells K V → Cells K V
+  removed_at n a =
+      record a {
+        pairs = remove a.pairs n;
+        retired = a.retired || is_nil (remove a.pairs n) && not a.frozen;
+        labels = remove a.labels n;
+        buried = fallen n a.labels a.pairs ++ a.buried;
+      }
+
+  -- with a new pair behind all others, in the lowest clear bitmap place; its rank is one above that
+  abbrev pub appended : K → V → Cells K V → Cells K V
+  appended key val a = record a { pairs = a.pairs ++ (key, val) ∷ []; used = a.used + 1; labels = a.labels ++ (slot_of a.used, a.used + 1) ∷ [] }
+
+  module _ (cmp : K → K → Ordering) (key : K) where
+    -- how many pairs at the front have a lesser key
+    abbrev pub lesser : List (K × V) → ℕ
+    lesser [] = 0
+    lesser (p ∷ ps) = cond (is_lt (cmp p.0 key)) (suc (lesser ps)) 0
+
+    -- whether a pair has the key
+    abbrev pub has : Cells K V → Bool
+    has a = is_some (lookup (is_at (cmp key)) a.pairs)
+
+    -- with a new pair, which takes the lowest clear bitmap place
+    abbrev pub inserted : V → Cells K V → Cells K V
+    inserted val a = record a { pairs = insert_entry cmp a.pairs key val; used = a.used + 1; labels = entered 0 (lesser a.pairs) (slot_of a.used) a.labels }
+
+    -- with a new pair for the one that has the key, whose rank it takes over
+    abbrev pub replaced : V → Cells K V → Cells K V
+    replaced val a =
+        record a {
+          pairs = insert_entry cmp (remove_entry (is_at (cmp key)) a.pairs) key val;
+          used = a.used + 1;
+          labels = handed_on (lesser a.pairs) (slot_of a.used) a.labels;
+          buried = fallen (lesser a.pairs) a.labels a.pairs ++ a.buried;
+        }
+
+    -- without the pair that has the key
+    abbrev pub removed : Cells K V → Cells K V
+    removed a = record (removed_at (lesser a.pairs) a) { pairs = remove_entry (is_at (cmp key)) a.pairs }

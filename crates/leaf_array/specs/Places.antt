@@ -1,0 +1,201 @@
+-- Rows of places: what a row holds, and what its edits leave.
+use Rattle.std.specs.Prelude.{◌≡◌, ℕ, zero, suc, ◌+◌, ◌==◌, Bool, true, false, cond, ◌||◌, List, [], ◌∷◌, length, ◌≤◌, Option, Some, None}
+use Rattle.std.specs.declared.cmp.Ordering.{Ordering}
+use Rattle.std.specs.declared.cmp.Ordering.TheVariants.{Equal, Greater}
+use Rattle.std.specs.Ordering.{is_lt}
+use Rattle.std.specs.List.Sorted.{IsStrictlySortedBy}
+use Rattle.std.specs.Map.{keys_of}
+use Rattle.leaf_array.specs.declared.place.Place.{Place}
+use Rattle.leaf_array.specs.declared.place.Place.TheVariants.{Empty, Dead, Live}
+use Rattle.leaf_array.specs.Cells.{Cells, slot_of}
+
+module _ {K V : Type 0} where
+  abbrev pub is_empty : Place K V → Bool
+  is_empty Empty = true
+  is_empty (Dead s k v) = false
+  is_empty (Live s g k v) = false
+
+  -- the pair of a live place
+  abbrev pub live_pair : Place K V → Option (K × V)
+  live_pair Empty = None
+  live_pair (Dead s k v) = None
+  live_pair (Live s g k v) = Some (k, v)
+
+  -- the pairs of the live places at the front
+  abbrev pub live_pairs : List (Place K V) → List (K × V)
+  live_pairs [] = []
+  live_pairs (Empty ∷ ps) = []
+  live_pairs (Dead s k v ∷ ps) = []
+  live_pairs (Live s g k v ∷ ps) = (k, v) ∷ live_pairs ps
+
+  -- slot and rank of each live place at the front, above the rank `low`
+  abbrev pub labels_above : ℕ → List (Place K V) → List (ℕ × ℕ)
+  labels_above low [] = []
+  labels_above low (Empty ∷ ps) = []
+  labels_above low (Dead s k v ∷ ps) = []
+  labels_above low (Live s g k v ∷ ps) = (s, low + g + 1) ∷ labels_above (low + g + 1) ps
+
+  -- slot and pair of each dead place
+  abbrev pub dead_pairs : List (Place K V) → List (ℕ × (K × V))
+  dead_pairs [] = []
+  dead_pairs (Empty ∷ ps) = dead_pairs ps
+  dead_pairs (Dead s k v ∷ ps) = (s, (k, v)) ∷ dead_pairs ps
+  dead_pairs (Live s g k v ∷ ps) = dead_pairs ps
+
+  -- the rank of the last live place at the front
+  abbrev pub top : List (Place K V) → ℕ
+  top [] = 0
+  top (Empty ∷ ps) = 0
+  top (Dead s k v ∷ ps) = 0
+  top (Live s g k v ∷ ps) = g + 1 + top ps
+
+  abbrev pub has_room : List (Place K V) → Bool
+  has_room [] = false
+  has_room (p ∷ ps) = is_empty p || has_room ps
+
+  -- one place more at the front; the first empty one is taken up
+  abbrev pub pushed : Place K V → List (Place K V) → List (Place K V)
+  pushed p [] = []
+  pushed p (q ∷ qs) = p ∷ cond (is_empty q) qs (pushed q qs)
+
+  -- one place more behind the live ones at the front
+  abbrev pub sunk : Place K V → List (Place K V) → List (Place K V)
+  sunk p [] = p ∷ []
+  sunk p (Empty ∷ qs) = p ∷ Empty ∷ qs
+  sunk p (Dead s k v ∷ qs) = p ∷ Dead s k v ∷ qs
+  sunk p (Live s g k v ∷ qs) = Live s g k v ∷ sunk p qs
+
+  -- with a greater gap below the first place, if it is live
+  abbrev pub widened : ℕ → List (Place K V) → List (Place K V)
+  widened n [] = []
+  widened n (Empty ∷ ps) = Empty ∷ ps
+  widened n (Dead s k v ∷ ps) = Dead s k v ∷ ps
+  widened n (Live s g k v ∷ ps) = Live s (g + n) k v ∷ ps
+
+  -- the first place, if it is live, dead and behind the live ones
+  abbrev pub buried : List (Place K V) → List (Place K V)
+  buried [] = []
+  buried (Empty ∷ ps) = Empty ∷ ps
+  buried (Dead s k v ∷ ps) = Dead s k v ∷ ps
+  buried (Live s g k v ∷ ps) = widened (g + 1) (sunk (Dead s k v) ps)
+
+  -- the first place, if it is live, with another slot and pair
+  abbrev pub renewed : ℕ → K → V → List (Place K V) → List (Place K V)
+  renewed slot key val [] = []
+  renewed slot key val (Empty ∷ ps) = Empty ∷ ps
+  renewed slot key val (Dead s k v ∷ ps) = Dead s k v ∷ ps
+  renewed slot key val (Live s g k v ∷ ps) = Live slot g key val ∷ ps
+
+  -- the first place, if it is live, as a dead one
+  abbrev pub died : List (Place K V) → Place K V
+  died [] = Empty
+  died (Empty ∷ ps) = Empty
+  died (Dead s k v ∷ ps) = Empty
+  died (Live s g k v ∷ ps) = Dead s k v
+
+  -- the first place, if it is live, empty
+  abbrev pub vacated : List (Place K V) → List (Place K V)
+  vacated [] = []
+  vacated (Empty ∷ ps) = Empty ∷ ps
+  vacated (Dead s k v ∷ ps) = Dead s k v ∷ ps
+  vacated (Live s g k v ∷ ps) = Empty ∷ ps
+
+  -- numbered anew from the bitmap place n on, the dead ones empty
+  abbrev pub packed : ℕ → List (Place K V) → List (Place K V)
+  packed n [] = []
+  packed n (Empty ∷ ps) = Empty ∷ packed n ps
+  packed n (Dead s k v ∷ ps) = Empty ∷ packed n ps
+  packed n (Live s g k v ∷ ps) = Live (slot_of n) 0 k v ∷ packed (n + 1) ps
+
+  -- how many live places at the front stand before the one with a slot
+  abbrev pub stands : ℕ → List (Place K V) → ℕ
+  stands slot [] = 0
+  stands slot (Empty ∷ ps) = 0
+  stands slot (Dead s k v ∷ ps) = 0
+  stands slot (Live s g k v ∷ ps) = cond (s == slot) 0 (suc (stands slot ps))
+
+  -- the first place that has a slot
+  abbrev pub pair_at_slot : ℕ → List (Place K V) → Option (K × V)
+  pair_at_slot slot [] = None
+  pair_at_slot slot (Empty ∷ ps) = pair_at_slot slot ps
+  pair_at_slot slot (Dead s k v ∷ ps) = cond (s == slot) (Some (k, v)) (pair_at_slot slot ps)
+  pair_at_slot slot (Live s g k v ∷ ps) = cond (s == slot) (Some (k, v)) (pair_at_slot slot ps)
+
+  abbrev pub no_places : List (Place K V)
+  no_places = Empty ∷ Empty ∷ Empty ∷ Empty ∷ Empty ∷ Empty ∷ Empty ∷ Empty ∷ Empty ∷ Empty ∷ Empty ∷ Empty ∷ Empty ∷ Empty ∷ Empty ∷ []
+
+  -- seven empty places
+  abbrev pub no_half : List (Place K V)
+  no_half = Empty ∷ Empty ∷ Empty ∷ Empty ∷ Empty ∷ Empty ∷ Empty ∷ []
+
+  -- all are empty
+  abbrev pub IsEmptied : List (Place K V) → Type 0
+  IsEmptied [] = Unit {0}
+  IsEmptied (Empty ∷ ps) = IsEmptied ps
+  IsEmptied (Dead s k v ∷ ps) = ⊥
+  IsEmptied (Live s g k v ∷ ps) = ⊥
+
+  -- dead ones, and then empty ones
+  abbrev pub IsDeparted : List (Place K V) → Type 0
+  IsDeparted [] = Unit {0}
+  IsDeparted (Empty ∷ ps) = IsEmptied ps
+  IsDeparted (Dead s k v ∷ ps) = IsDeparted ps
+  IsDeparted (Live s g k v ∷ ps) = ⊥
+
+  -- live ones, then dead ones, and then empty ones
+  abbrev pub IsPacked : List (Place K V) → Type 0
+  IsPacked [] = Unit {0}
+  IsPacked (Empty ∷ ps) = IsEmptied ps
+  IsPacked (Dead s k v ∷ ps) = IsDeparted ps
+  IsPacked (Live s g k v ∷ ps) = IsPacked ps
+
+  module _ (cmp : K → K → Ordering) (key : K) where
+    -- how many of the live places at the front have a lesser key
+    abbrev pub below : List (Place K V) → ℕ
+    below [] = 0
+    below (Empty ∷ ps) = 0
+    below (Dead s k v ∷ ps) = 0
+    below (Live s g k v ∷ ps) = cond (is_lt (cmp k key)) (suc (below ps)) 0
+
+    -- the pair behind these
+    abbrev pub least : List (Place K V) → Option (K × V)
+    least [] = None
+    least (Empty ∷ ps) = None
+    least (Dead s k v ∷ ps) = None
+    least (Live s g k v ∷ ps) = cond (is_lt (cmp k key)) (least ps) (Some (k, v))
+
+    -- the first that isn't lesser has the key
+    abbrev pub IsHit : List (Place K V) → Type 0
+    IsHit ps = (e : K × V) × (least ps ≡ Some e) × (cmp e.0 key ≡ Equal)
+
+    -- the first that isn't lesser, if there is one, is greater
+    abbrev pub IsMiss : List (Place K V) → Type 0
+    IsMiss ps = (e : K × V) → least ps ≡ Some e → cmp e.0 key ≡ Greater
+
+-- how many places have a slot
+abbrev pub uses : {K V : Type 0} → ℕ → List (Place K V) → ℕ
+uses slot [] = 0
+uses slot (Empty ∷ ps) = uses slot ps
+uses slot (Dead s k v ∷ ps) = cond (s == slot) 1 0 + uses slot ps
+uses slot (Live s g k v ∷ ps) = cond (s == slot) 1 0 + uses slot ps
+
+-- how many of the n lowest bitmap places have a slot
+abbrev pub uses_below : ℕ → ℕ → ℕ
+uses_below slot zero = 0
+uses_below slot (suc n) = cond (slot_of n == slot) 1 0 + uses_below slot n
+
+-- the places of an array
+pub record IsSound {K V : Type 0} (cmp : K → K → Ordering) (ps : List (Place K V)) (len used : ℕ) : Type 0 where
+  pub count : length ps ≡ 15
+  pub packed : IsPacked ps
+  pub sorted : IsStrictlySortedBy cmp (keys_of (live_pairs ps))
+  pub live : len ≡ length (live_pairs ps)
+  pub all : used ≡ length (live_pairs ps) + length (dead_pairs ps)
+  pub within : used ≤ 15
+  pub ranks : top ps ≤ used
+  pub slots : (slot : ℕ) → uses slot ps ≡ uses_below slot used
+
+-- what a contract sees of an array with these places
+abbrev pub cells_of : {K V : Type 0} → List (Place K V) → ℕ → Bool → Bool → Cells K V
+cells_of ps used frozen retired =
+    record { pairs = live_pairs ps; used = used; frozen = frozen; retired = retired; labels = labels_above 0 ps; buried = dead_pairs ps }

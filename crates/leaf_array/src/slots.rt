@@ -1,0 +1,219 @@
+//! The fifteen places of an array.
+
+ghost use Rattle.std.specs.Prelude.{◌≡◌, ◌+◌, ◌<◌, ◌≤◌, ◌++◌, ◌∷◌, [], length, take, drop, IsTrue, IsSome, Some, None, MatchOption, IfOk, IfErr, slice_index_or};
+ghost use Rattle.leaf_array.specs.declared.place.Place.TheVariants.{Empty};
+ghost use Rattle.leaf_array.specs.Cells.{rank_in, first_above, last_below, lesser, entered};
+ghost use Rattle.leaf_array.specs.Places.{live_pair, live_pairs, labels_above, top, has_room, pushed, buried, renewed, died, vacated, packed, pair_at_slot, stands, below, least, no_places, no_half, IsPacked};
+
+use crate::place::{Place, compare, precedes};
+use crate::row::{Exchange, Last, Link, Renumber, Row};
+use std::cmp::Ordering;
+use std::marker::Model;
+use std::mem;
+
+type Six<K, V, R> = Link<K, V, Link<K, V, Link<K, V, Link<K, V, Link<K, V, Link<K, V, R>>>>>>;
+
+type Upper<K, V> = Link<K, V, Six<K, V, Last<K, V>>>;
+
+/// Fifteen places: live ones by rising keys, then dead ones, then empty ones.
+#[derive(Drop)]
+pub(crate) struct Slots<K, V> {
+    all: Link<K, V, Six<K, V, Upper<K, V>>>,
+}
+
+impl<K, V> Model for Slots<K, V> {
+    ghost use Rattle.std.specs.Prelude.{List, [], ◌∷◌};
+    ghost use Rattle.leaf_array.specs.declared.place.Place.{Place};
+
+    ghost Value = { List (Place K V) };
+
+    ghost view = { λ a. a.all.head ∷ a.all.rest.head ∷ a.all.rest.rest.head ∷ a.all.rest.rest.rest.head ∷ a.all.rest.rest.rest.rest.head ∷ a.all.rest.rest.rest.rest.rest.head ∷ a.all.rest.rest.rest.rest.rest.rest.head ∷ a.all.rest.rest.rest.rest.rest.rest.rest.head ∷ a.all.rest.rest.rest.rest.rest.rest.rest.rest.head ∷ a.all.rest.rest.rest.rest.rest.rest.rest.rest.rest.head ∷ a.all.rest.rest.rest.rest.rest.rest.rest.rest.rest.rest.head ∷ a.all.rest.rest.rest.rest.rest.rest.rest.rest.rest.rest.rest.head ∷ a.all.rest.rest.rest.rest.rest.rest.rest.rest.rest.rest.rest.rest.head ∷ a.all.rest.rest.rest.rest.rest.rest.rest.rest.rest.rest.rest.rest.rest.head ∷ a.all.rest.rest.rest.rest.rest.rest.rest.rest.rest.rest.rest.rest.rest.rest.head ∷ [] };
+}
+
+impl<K: Ord, V> Slots<K, V> {
+    ghost use Rattle.std.specs.List.Sorted.{IsStrictlySortedBy};
+    ghost use Rattle.std.specs.Map.{keys_of, lookup};
+    ghost use Rattle.std.specs.BTreeMap.{is_at};
+    ghost use Rattle.std.specs.Option.{is_some};
+    ghost use Rattle.std.specs.Prelude.{true, false};
+
+    #[inline(always)]
+    pub(crate) fn new() -> Self
+        ensures { result ≡ no_places }
+    {
+        Slots { all: Link::new() }
+    }
+
+    /// The pair of the live place `at`.
+    #[inline(always)]
+    pub(crate) fn pair(&self, at: usize) -> Option<(&K, &V)>
+        requires { at < 15 }
+        ensures { MatchOption result (live_pair (slice_index_or self.now at Empty) ≡ None) (λ e. live_pair (slice_index_or self.now at Empty) ≡ Some (e.0.now, e.1.now)) }
+    {
+        self.all.pair(at)
+    }
+
+    /// The first live place whose key isn't less, and its pair.
+    ///
+    /// The eighth place says in which half it is: at most nine comparisons.
+    #[inline(always)]
+    pub(crate) fn lower(&self, key: &K) -> (usize, Option<(&K, &V)>)
+        requires packed { IsPacked self.now }
+        requires sorted { IsStrictlySortedBy K.cmp (keys_of (live_pairs self.now)) }
+        ensures place { result.0 ≡ below K.cmp key.now self.now }
+        ensures pair { MatchOption result.1 (least K.cmp key.now self.now ≡ None) (λ e. least K.cmp key.now self.now ≡ Some (e.0.now, e.1.now)) }
+    {
+        let upper = &self.all.rest.rest.rest.rest.rest.rest.rest;
+        if precedes(&upper.head, key) {
+            return upper.rest.lower(8, key);
+        }
+        self.all.lower(0, key)
+    }
+
+    /// The live place that has the key, or the one that a new pair with it would take.
+    #[inline(always)]
+    pub(crate) fn find(&self, key: &K) -> Result<usize, usize>
+        requires packed { IsPacked self.now }
+        requires sorted { IsStrictlySortedBy K.cmp (keys_of (live_pairs self.now)) }
+        ensures hit { IfOk result (λ at. (at ≡ lesser K.cmp key.now (live_pairs self.now)) × (is_some (lookup (is_at (K.cmp key.now)) (live_pairs self.now)) ≡ true)) }
+        ensures miss { IfErr result (λ at. (at ≡ lesser K.cmp key.now (live_pairs self.now)) × (is_some (lookup (is_at (K.cmp key.now)) (live_pairs self.now)) ≡ false)) }
+    {
+        let (at, pair) = self.lower(key);
+        match pair {
+            Some((stored, _)) => match compare(stored, key) {
+                Ordering::Equal => Ok(at),
+                _ => Err(at),
+            },
+            None => Err(at),
+        }
+    }
+
+    #[inline(always)]
+    pub(crate) fn rank_of(&self, slot: u8) -> u8
+        requires { top self.now ≤ 15 }
+        ensures { result ≡ rank_in slot (labels_above 0 self.now) }
+    {
+        self.all.rank_of(slot, 0)
+    }
+
+    #[inline(always)]
+    pub(crate) fn above(&self, rank: u8) -> Option<(u8, u8)>
+        requires { top self.now ≤ 15 }
+        ensures { result ≡ first_above rank (labels_above 0 self.now) }
+    {
+        self.all.above(rank, 0)
+    }
+
+    #[inline(always)]
+    pub(crate) fn under(&self, rank: u8) -> Option<(u8, u8)>
+        requires { top self.now ≤ 15 }
+        ensures { result ≡ last_below rank (labels_above 0 self.now) }
+    {
+        self.all.under(rank, 0)
+    }
+
+    /// The rank of the last live place, 0 if there is none.
+    #[inline(always)]
+    pub(crate) fn top(&self) -> u8
+        requires { top self.now ≤ 15 }
+        ensures { result ≡ top self.now }
+    {
+        self.all.top(0)
+    }
+
+    /// The rank that a slot would have if a live place with the slot `fresh` came in at `at`.
+    #[inline(always)]
+    pub(crate) fn rank_beside(&self, at: usize, fresh: u8, slot: u8) -> u8
+        requires { top self.now < 15 }
+        ensures { result ≡ rank_in slot (entered 0 at fresh (labels_above 0 self.now)) }
+    {
+        self.all.rank_beside(at, fresh, slot, 0)
+    }
+
+    /// How many live places stand before the one with this slot.
+    #[inline(always)]
+    pub(crate) fn position(&self, slot: u8) -> usize
+        ensures { result ≡ stands slot self.now }
+    {
+        self.all.position(slot, 0)
+    }
+
+    #[inline(always)]
+    pub(crate) fn in_slot(&self, slot: u8) -> Option<(&K, &V)>
+        ensures { MatchOption result (pair_at_slot slot self.now ≡ None) (λ e. pair_at_slot slot self.now ≡ Some (e.0.now, e.1.now)) }
+    {
+        self.all.in_slot(slot)
+    }
+
+    #[inline(always)]
+    pub(crate) fn insert(&mut self, at: usize, place: Place<K, V>)
+        requires { IsTrue (has_room (drop at self.old)) }
+        ensures count { length self.new ≡ 15 }
+        ensures places { self.new ≡ take at self.old ++ pushed place (drop at self.old) }
+    {
+        self.all.insert(at, place);
+    }
+
+    #[inline(always)]
+    pub(crate) fn bury(&mut self, at: usize)
+        requires rank { top (drop at self.old) ≤ 15 }
+        requires place { at < 15 }
+        ensures count { length self.new ≡ 15 }
+        ensures places { self.new ≡ take at self.old ++ buried (drop at self.old) }
+    {
+        self.all.bury(at);
+    }
+
+    #[inline(always)]
+    pub(crate) fn renew(&mut self, at: usize, slot: u8, key: K, value: V) -> Place<K, V>
+        requires { IsSome (live_pair (slice_index_or self.old at Empty)) }
+        ensures count { length self.new ≡ 15 }
+        ensures old { result ≡ died (drop at self.old) }
+        ensures places { self.new ≡ take at self.old ++ renewed slot key value (drop at self.old) }
+    {
+        self.all.renew(at, slot, key, value)
+    }
+
+    #[inline(always)]
+    pub(crate) fn vacate(&mut self, at: usize) -> (K, V)
+        requires { IsSome (live_pair (slice_index_or self.old at Empty)) }
+        ensures count { length self.new ≡ 15 }
+        ensures pair { Some result ≡ live_pair (slice_index_or self.old at Empty) }
+        ensures places { self.new ≡ take at self.old ++ vacated (drop at self.old) }
+    {
+        self.all.vacate(at)
+    }
+
+    /// Drops the dead pairs, and gives the live ones the lowest slots.
+    pub(crate) fn renumber(&mut self)
+    where
+        K: Drop,
+        V: Drop,
+        ensures count { length self.new ≡ 15 }
+        ensures places { self.new ≡ packed 0 self.old }
+    {
+        self.all.renumber(0);
+    }
+
+    /// Moves the eight lower places out, and the others down.
+    #[inline]
+    pub(crate) fn split_half(&mut self) -> Self
+        ensures mine_count { length self.new ≡ 15 }
+        ensures lower_count { length result ≡ 15 }
+        ensures mine { self.new ≡ drop 8 self.old ++ Empty ∷ no_half }
+        ensures lower { result ≡ take 8 self.old ++ no_half }
+    {
+        let mut upper = Slots::new();
+        self.all
+            .rest
+            .rest
+            .rest
+            .rest
+            .rest
+            .rest
+            .rest
+            .rest
+            .exchange(&mut upper.all);
+        mem::replace(self, upper)
+    }
+}

@@ -1,0 +1,74 @@
+//! Insertions and removals for a caller that knows already where a pair belongs.
+
+ghost use Rattle.std.specs.Prelude.{◌≡◌, ◌≢◌, ◌<◌, ◌++◌, ◌∷◌, ◌&&◌, [], not, true, false, cond, length};
+ghost use Rattle.leaf_array.specs.Cells.{slot_of, rank_in, lesser, has, is_nil, standing, inserted, appended, removed_at};
+ghost use Rattle.leaf_array.specs.Words.{word};
+ghost use Rattle.leaf_array.specs.declared.result.RemoveResult.TheVariants.{Success, Retired};
+
+use crate::array::Array;
+use crate::place::slot_of;
+use crate::result::RemoveResult;
+
+impl<K: Ord, V> Array<K, V> {
+    /// The bitmap place that a new pair with this key would take, and the word that the array would have then.
+    pub fn insert_dry(&self, key: &K) -> (u8, usize)
+        requires { self.now.used < 15 }
+        ensures place { result.0 ≡ self.now.used }
+        ensures word { (val : V) → result.1 ≡ word (inserted K.cmp key.now val self.now) }
+    {
+        let at = self.lower_bound(key).0;
+        (self.used(), self.word_beside(at))
+    }
+
+    /// Inserts a new pair at a bitmap place, and gives its slot.
+    ///
+    /// Place and word are those that [`Array::insert_dry`] gives now. In a frozen array whose
+    /// reachable keys are all less, the word may be 0: then the new pair's rank is one above its
+    /// bitmap place.
+    pub fn insert_unchecked(&mut self, key: K, val: V, place: u8, metadata: usize) -> u8
+        requires room { self.old.used < 15 }
+        requires absent { has K.cmp key self.old ≡ false }
+        requires place { place ≡ self.old.used }
+        requires dry { metadata ≢ 0 → metadata ≡ word (inserted K.cmp key val self.old) }
+        requires last { metadata ≡ 0 → (self.old.frozen ≡ true) × (lesser K.cmp key self.old.pairs ≡ length self.old.pairs) }
+        ensures slot { result ≡ slot_of place }
+        ensures inserted { metadata ≢ 0 → self.new ≡ inserted K.cmp key val self.old }
+        ensures appended { metadata ≡ 0 → self.new ≡ appended key val self.old }
+    {
+        if metadata == 0 {
+            self.append(key, val);
+        } else {
+            let at = self.lower_bound(&key).0;
+            self.place(at, key, val);
+        }
+        slot_of(place)
+    }
+
+    /// Inserts a new pair behind all others, without a search.
+    pub fn push_last(&mut self, key: K, val: V)
+        requires room { self.old.used < 15 }
+        requires last { lesser K.cmp key self.old.pairs ≡ length self.old.pairs }
+        ensures cells { self.new ≡ inserted K.cmp key val self.old }
+        ensures pairs { self.new.pairs ≡ self.old.pairs ++ (key, val) ∷ [] }
+    {
+        let at = self.len();
+        self.place(at, key, val);
+    }
+
+    /// Removes the reachable pair in a slot, of a frozen array too.
+    ///
+    /// An array that isn't frozen and so loses its last pair retires.
+    pub fn remove_unchecked(&mut self, slot: u8) -> RemoveResult
+        requires { 0 < rank_in slot self.old.labels }
+        ensures removed { self.new ≡ removed_at (standing slot self.old.labels) self.old }
+        ensures last { result ≡ cond (is_nil self.new.pairs && not self.new.frozen) Retired Success }
+    {
+        let at = self.position(slot);
+        self.bury(at);
+        if self.is_empty() && !self.is_frozen() {
+            RemoveResult::Retired
+        } else {
+            RemoveResult::Success
+        }
+    }
+}
