@@ -1,0 +1,184 @@
+-- A leaf of the arenas that is split in two.
+use Rattle.std.proofs.Common.{◌≡◌, ◌≢◌, ◌≤◌, ◌<◌, ◌⊎◌, inl, inr, ℕ, zero, suc, ◌+◌, ◌-◌, ◌==◌, Bool, true, false, cond, ◌&&◌, List, [], ◌∷◌, ◌++◌, length, take, drop, Option, Some, None, refl, sym, ap, ◌∙◌, subst, arith}
+use Rattle.std.specs.Option.{option_map}
+use Rattle.std.specs.declared.cmp.Ordering.{Ordering}
+use Rattle.std.specs.declared.cmp.Ordering.TheVariants.{Less}
+use Rattle.std.specs.Ordering.{is_lt}
+use Rattle.std.specs.Cmp.{IsTotalOrder}
+use Rattle.std.specs.Map.{lookup}
+use Rattle.std.specs.BTreeMap.{insert_entry, is_at}
+use Rattle.std.proofs.lemmas.List.{take-append-drop}
+use Rattle.std.proofs.lemmas.Bool.{eq-eqb}
+use Rattle.std.proofs.lemmas.Bool.Decides.{eqb_tells}
+use Rattle.slab.specs.Slab.{Slab, get, with_value, Updates, slab_len}
+use Rattle.slab.proofs.SlabLemmas.{Updates-with_value}
+use Rattle.leaf_array.specs.Cells.{Cells}
+use Rattle.leaf_array.specs.Pairs.{IsAscending}
+use Rattle.tree_index.specs.declared.leaf.Leaf.{Leaf}
+use Rattle.tree_index.specs.declared.leaf.Cut.{Cut}
+use Rattle.tree_index.specs.declared.node.Branches.{Branches}
+use Rattle.tree_index.specs.declared.arenas.Arenas.{Arenas}
+use Rattle.tree_index.specs.Cuts.{IsCut}
+use Rattle.tree_index.specs.Shape.{Content, AllKeys, IsWithin, way, child_in, leaf_pairs, pairs_under, leaf_times, node_times, IsLeaf, IsNode, IsTree, Stands}
+use Rattle.tree_index.specs.Content.{content, content_of, pairs_of, IsSound, HasRoom, AreSameArrays}
+use Rattle.tree_index.proofs.ShapeLemmas.{self_once}
+use Rattle.tree_index.proofs.FocusLemmas.{over, over_is}
+use Rattle.tree_index.proofs.WayLemmas.{some_same}
+use Rattle.tree_index.proofs.SplitLemmas.{around_parent, around_child, parent, child, kids, last, IsSplit, divided}
+use Rattle.tree_index.proofs.NodeSplitLemmas.{way_more}
+use Rattle.tree_index.proofs.NodeLemmas.{planted, leaf_content, node_content, same_len}
+use Rattle.tree_index.proofs.CutLemmas.{Sides, sides}
+
+array_some : {K V : Type 0} (x : Option (Leaf K V)) (c : Cells K V) → option_map (λ (l : Leaf K V). l.array) x ≡ Some c → (l : Leaf K V) × (x ≡ Some l) × (l.array ≡ c)
+array_some None c h = absurd (let e : None ≡ Some c = h in cc)
+array_some (Some l) c h = (l, refl, some_same h)
+
+module _ {K V : Type 0} (cmp : K → K → Ordering) (o : IsTotalOrder cmp) (key : K) (a : Arenas K V) (s : IsSound cmp a) (planted_ : a.height ≢ 0)
+    (above at : ℕ) (on_above : above ≡ way cmp (content_of a) key (a.height - 1) a.root) (on_child : at ≡ way cmp (content_of a) key a.height a.root)
+    (whole upper low : Leaf K V) (here : get a.leaves at ≡ Some whole) (cut : Cut K) (fits : IsCut cmp key whole.array.pairs cut) (rising : IsAscending cmp whole.array.pairs) where
+  abbrev c : Content K V
+  c = content_of a
+
+  abbrev steps : ℕ
+  steps = a.height - 1
+
+  abbrev n : ℕ
+  n = cond cut.whole (length whole.array.pairs) 8
+
+  height_is : over steps 1 ≡ a.height
+  height_is = omega (arith, over_is steps 1, planted_)
+
+  abbrev stands : Stands cmp c (over steps 1) a.root
+  stands = subst (λ (n : ℕ). Stands cmp c n a.root) (sym height_is) (planted cmp o key a s planted_)
+
+  abbrev kid : ℕ
+  kid = child cmp o c key 0 steps a.root stands
+
+  at_is : at ≡ kid
+  at_is = on_child ∙ ap (λ (n : ℕ). way cmp c key n a.root) (sym height_is) ∙ way_more cmp c key steps 1 a.root ∙ ap (child_in cmp key (parent cmp o c key 0 steps a.root stands)) (around_parent cmp o c key 0 steps a.root stands).tree.1
+
+  there : c.leaf kid ≡ Some whole.array
+  there = ap c.leaf (sym at_is) ∙ leaf_content cmp o key a at (Some whole) here
+
+  leaf_is : (around_child cmp o c key 0 steps a.root stands).tree.0 ≡ whole.array
+  leaf_is = some_same (sym (around_child cmp o c key 0 steps a.root stands).tree.1 ∙ there)
+
+  leaf_stands : IsLeaf cmp (around_child cmp o c key 0 steps a.root stands).from (around_child cmp o c key 0 steps a.root stands).upto whole.array
+  leaf_stands = subst (λ (x : Cells K V). IsLeaf cmp (around_child cmp o c key 0 steps a.root stands).from (around_child cmp o c key 0 steps a.root stands).upto x) leaf_is (around_child cmp o c key 0 steps a.root stands).tree.2
+
+  pub was_thawed : whole.array.frozen ≡ false
+  was_thawed = leaf_stands.thawed
+
+  two : Sides cmp o (around_child cmp o c key 0 steps a.root stands).from (around_child cmp o c key 0 steps a.root stands).upto cut.separator n whole.array.pairs
+  two = sides cmp o key (around_child cmp o c key 0 steps a.root stands).from (around_child cmp o c key 0 steps a.root stands).upto whole.array.pairs cut rising leaf_stands.within (around_child cmp o c key 0 steps a.root stands).key_within fits
+
+  module _ (old : Branches K) (node_there : get a.nodes above ≡ Some old) where
+    parent_is : (around_parent cmp o c key 0 steps a.root stands).tree.0 ≡ (old.children, old.last)
+    parent_is = some_same (sym (around_parent cmp o c key 0 steps a.root stands).tree.1 ∙ ap c.node (sym on_above) ∙ node_content cmp o key a above (Some old) node_there)
+
+    pub old_node : IsNode old.children
+    old_node = subst (λ (x : Cells K ℕ × ℕ). IsNode x.0) parent_is (around_parent cmp o c key 0 steps a.root stands).tree.2
+
+    pub absent_above : lookup (is_at (cmp cut.separator)) old.children.pairs ≡ None
+    absent_above = subst (λ (x : Cells K ℕ × ℕ). lookup (is_at (cmp cut.separator)) x.0.pairs ≡ None) parent_is ((around_child cmp o c key 0 steps a.root stands).absent cut.separator two.within two.under)
+
+    module _ (lower_pairs : low.array.pairs ≡ take n whole.array.pairs) (upper_pairs : upper.array.pairs ≡ drop n whole.array.pairs) (lower_rising : IsAscending cmp low.array.pairs) (upper_rising : IsAscending cmp upper.array.pairs)
+        (lower_thawed : low.array.frozen ≡ false) (upper_thawed : upper.array.frozen ≡ false) (lower_living : low.array.retired ≡ (cut.whole && whole.array.retired)) (upper_living : upper.array.retired ≡ false)
+        (lower_used : cut.whole ≡ false → low.array.used ≤ 8) (upper_used : upper.array.used ≤ 7)
+        (leaves linked : Slab (Leaf K V)) (fresh : ℕ) (added : Updates (with_value a.leaves at upper) leaves fresh (Some low)) (vacant : get (with_value a.leaves at upper) fresh ≡ None) (links : AreSameArrays leaves linked)
+        (m : Branches K) (m_node : IsNode m.children) (m_pairs : m.children.pairs ≡ insert_entry cmp old.children.pairs cut.separator fresh) (m_last : m.last ≡ old.last) where
+      abbrev pub done : Arenas K V
+      done = record { leaves = linked; nodes = with_value a.nodes above m; root = a.root; height = a.height; len = a.len }
+
+      abbrev b : Content K V
+      b = content_of done
+
+      abbrev array : Option (Leaf K V) → Option (Cells K V)
+      array = option_map (λ (l : Leaf K V). l.array)
+
+      turned : Updates a.leaves (with_value a.leaves at upper) at (Some upper)
+      turned = Updates-with_value a.leaves at upper (rw here refl)
+
+      node_turned : Updates a.nodes (with_value a.nodes above m) above (Some m)
+      node_turned = Updates-with_value a.nodes above m (rw node_there refl)
+
+      fresh_not_at : fresh ≢ at
+      fresh_not_at e = let x : None ≡ Some upper = sym vacant ∙ ap (get (with_value a.leaves at upper)) e ∙ turned.changed in cc
+
+      absent : c.leaf fresh ≡ None
+      absent = ap array (sym (turned.others fresh fresh_not_at) ∙ vacant)
+
+      at_fresh : b.leaf fresh ≡ Some low.array
+      at_fresh = links fresh ∙ ap array added.changed
+
+      at_kid : b.leaf kid ≡ Some upper.array
+      at_kid = ap b.leaf (sym at_is) ∙ links at ∙ ap array (added.others at (λ e. fresh_not_at (sym e)) ∙ turned.changed)
+
+      others : (k : ℕ) → k ≢ fresh → k ≢ kid → b.leaf k ≡ c.leaf k
+      others k f q = links k ∙ ap array (added.others k f ∙ turned.others k (λ e. q (e ∙ at_is)))
+
+      split : IsSplit cmp o c key 0 steps a.root stands b cut.separator fresh m.children
+      split = record {
+        within = two.within;
+        under = two.under;
+        lower = (low.array, at_fresh, record { thawed = lower_thawed; rising = lower_rising; within = subst (λ (ps : List (K × V)). AllKeys (IsWithin cmp (around_child cmp o c key 0 steps a.root stands).from (Some cut.separator)) ps) (sym lower_pairs) two.lower });
+        upper = (upper.array, at_kid, record { thawed = upper_thawed; rising = upper_rising; within = subst (λ (ps : List (K × V)). AllKeys (IsWithin cmp (Some cut.separator) (around_child cmp o c key 0 steps a.root stands).upto) ps) (sym upper_pairs) two.upper });
+        pairs = rw (at_fresh, at_kid, there, lower_pairs, upper_pairs) (take-append-drop n whole.array.pairs);
+        leaf_same = λ k z e. others k (λ f. e (ap c.leaf f ∙ absent)) (λ f. self_once kid 0 (subst (λ (j : ℕ). cond (kid == j) 1 0 + 0 ≡ 0) f (omega (arith, z))));
+        node_same = λ k z q e. ap (option_map (λ (n : Branches K). (n.children, n.last))) (node_turned.others k (λ f. q (f ∙ on_above)));
+        leaf_moved = λ k e. moved k e (eqb_tells fresh k);
+        node_moved = λ k e. refl;
+        leaf_most = λ k. most k (eqb_tells fresh k) (eqb_tells kid k);
+        node_most = λ k e. omega arith;
+        there = ap b.node (sym on_above) ∙ ap (option_map (λ (n : Branches K). (n.children, n.last))) node_turned.changed ∙ ap (λ (j : ℕ). Some (m.children, j)) (m_last ∙ sym (ap (λ (x : Cells K ℕ × ℕ). x.1) parent_is));
+        separators = m_pairs ∙ ap (λ (x : Cells K ℕ × ℕ). insert_entry cmp x.0.pairs cut.separator fresh) (sym parent_is);
+        is_node = m_node;
+      }
+        where
+          moved : (k : ℕ) → c.leaf k ≢ None → ((fresh == k) ≡ true × (fresh ≡ k)) ⊎ ((fresh == k) ≡ false × (fresh ≢ k)) → leaf_times b k 0 fresh + leaf_times b k 0 kid ≡ leaf_times c k 0 kid
+          moved k e (inl f) = absurd (e (ap c.leaf (sym f.1) ∙ absent))
+          moved k e (inr f) = rw f.0 (omega arith)
+
+          most : (k : ℕ) → ((fresh == k) ≡ true × (fresh ≡ k)) ⊎ ((fresh == k) ≡ false × (fresh ≢ k)) → ((kid == k) ≡ true × (kid ≡ k)) ⊎ ((kid == k) ≡ false × (kid ≢ k)) → leaf_times b k 0 fresh + leaf_times b k 0 kid ≤ 1
+          most k (inl f) (inl q) = absurd (fresh_not_at (f.1 ∙ sym q.1 ∙ sym at_is))
+          most k (inl f) (inr q) = rw (f.0, q.0) (omega arith)
+          most k (inr f) (inl q) = rw (f.0, q.0) (omega arith)
+          most k (inr f) (inr q) = rw (f.0, q.0) (omega arith)
+
+      pub done_pairs : pairs_of done ≡ pairs_of a
+      done_pairs = subst (λ (n : ℕ). pairs_under b n a.root ≡ pairs_under c n a.root) height_is (divided cmp o c key 0 steps a.root stands b cut.separator fresh m.children split).pairs
+
+      pub done_sound : IsSound cmp done
+      done_sound = record {
+        stands = inr (planted_, subst (λ (n : ℕ). Stands cmp b n a.root) height_is (divided cmp o c key 0 steps a.root stands b cut.separator fresh m.children split).stands);
+        tall = omega (arith, s.tall, same_len a.nodes above old m node_there);
+        count = s.count ∙ sym (ap length done_pairs);
+      }
+
+      next_way : way cmp b key (over steps 1) a.root ≡ cond (is_lt (cmp cut.separator key)) kid fresh
+      next_way =
+          let d = divided cmp o c key 0 steps a.root stands b cut.separator fresh m.children split in
+          way_more cmp b key steps 1 a.root ∙ ap (λ k. child_in cmp key k (b.node k)) d.same_way ∙ ap (child_in cmp key (parent cmp o c key 0 steps a.root stands)) split.there ∙ d.next
+
+      abbrev IsRoomy : ℕ → Type 0
+      IsRoomy k = (x : Cells K V) × (b.leaf k ≡ Some x) × (x.retired ≡ false) × (x.used < 15)
+
+      halved : is_lt (cmp cut.separator key) ≡ false → cut.whole ≡ false
+      halved h =
+          (elim cut.whole as (λ w. cut.whole ≡ w → w ≡ false) [
+            | true ↦ λ w. let l : is_lt (cmp cut.separator key) ≡ true = ap is_lt (fits.beyond w) in let e : true ≡ false = sym l ∙ h in cc
+            | false ↦ λ w. refl
+          ]) refl
+
+      roomy : IsRoomy (way cmp b key (over steps 1) a.root)
+      roomy =
+          rw next_way ((elim (is_lt (cmp cut.separator key)) as (λ q. is_lt (cmp cut.separator key) ≡ q → IsRoomy (cond q kid fresh)) [
+            | true ↦ λ q. (upper.array, at_kid, upper_living, omega (arith, upper_used))
+            | false ↦ λ q. (low.array, at_fresh, lower_living ∙ ap (λ w. w && whole.array.retired) (halved q), omega (arith, lower_used (halved q)))
+          ]) refl)
+
+      pub done_room : HasRoom cmp key done
+      done_room =
+          let r : IsRoomy (way cmp b key a.height a.root) = subst (λ (n : ℕ). IsRoomy (way cmp b key n a.root)) height_is roomy in
+          let l = array_some (get linked (way cmp b key a.height a.root)) r.0 r.1 in
+          record { leaf = l.0; there = l.1; living = ap (λ (x : Cells K V). x.retired) l.2 ∙ r.2; room = subst (λ (x : Cells K V). x.used < 15) (sym l.2) r.3 }

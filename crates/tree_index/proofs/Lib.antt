@@ -1,0 +1,14 @@
+pub mod ChildLemmas
+pub mod ShapeLemmas
+pub mod FocusLemmas
+pub mod LeafLemmas
+pub mod WayLemmas
+pub mod SplitLemmas
+pub mod ArenaLemmas
+pub mod HalfLemmas
+pub mod GrowLemmas
+pub mod NodeSplitLemmas
+pub mod CutLemmas
+pub mod NodeLemmas
+pub mod NodeArenaLemmas
+pub mod LeafArenaLemmas

@@ -1,0 +1,157 @@
+use Rattle.std.proofs.Common.{◌≡◌, ℕ, ◌+◌, ◌-◌, ◌≤◌, ◌<◌, false, Option, Some, None, inr, sym, ap, ◌∙◌, subst, arith}
+use Rattle.std.specs.Prelude.{length}
+use Rattle.slab.specs.Slab.{get}
+use Rattle.leaf_array.specs.Cells.{Cells}
+use Rattle.leaf_array.specs.Pairs.{IsAscending}
+use Rattle.tree_index.specs.declared.leaf.Leaf.{Leaf}
+use Rattle.tree_index.specs.Content.{content_of, pairs_of, HasRoom}
+use Rattle.tree_index.proofs.WayLemmas.{Written, some_same}
+use Rattle.tree_index.proofs.ArenaLemmas.{on_way, IsPut, put_of, put_length, thawed_on_way, leaf_counted, put_written, still_sound, has_written, upserted_written, kept_written, with_leaf}
+use Rattle.tree_index.proofs.LeafLemmas.{roomy}
+use Rattle.tree_index.proofs.arenas.Arenas.insert.Goals as goal
+
+pub insert-answer-requires : goal.insert-answer-requires
+insert-answer-requires g c =
+    let cmp = g.K.Ord.cmp in
+    let o = g.met.K.Ord.total in
+    let key = c.args.key in
+    let a = c.args.self.now in
+    let l : Leaf g.row.K.Denot g.row.V.Denot = c.in-Some.leaf.now in
+    let n = c.leaf_of-at.result in
+    let on = c.leaf_of-at.ensures in
+    let here : get a.leaves n ≡ Some l = sym c.in-Some.ensures.value in
+    let s = c.requires.sound in
+    thawed_on_way cmp o key a s n on l here
+
+pub overflow_sub-self : goal.overflow_sub-self
+overflow_sub-self g c =
+    let cmp = g.K.Ord.cmp in
+    let o = g.met.K.Ord.total in
+    let key = c.args.key in
+    let a = c.args.self.now in
+    let l : Leaf g.row.K.Denot g.row.V.Denot = c.in-Some.leaf.now in
+    let n = c.leaf_of-at.result in
+    let on = c.leaf_of-at.ensures in
+    let here : get a.leaves n ≡ Some l = sym c.in-Some.ensures.value in
+    let s = c.requires.sound in
+    rw c.len-before.ensures.count (leaf_counted cmp o key a s n on l here)
+
+pub overflow_add-self : goal.overflow_add-self
+overflow_add-self g c =
+    let cmp = g.K.Ord.cmp in
+    let o = g.met.K.Ord.total in
+    let key = c.args.key in
+    let a = c.args.self.now in
+    let l : Leaf g.row.K.Denot g.row.V.Denot = c.in-Some.leaf.now in
+    let n = c.leaf_of-at.result in
+    let on = c.leaf_of-at.ensures in
+    let here : get a.leaves n ≡ Some l = sym c.in-Some.ensures.value in
+    let s = c.requires.sound in
+    let m : Leaf g.row.K.Denot g.row.V.Denot = c.insert-answer.new.self in
+    let put : IsPut cmp key c.args.val l.array.pairs m.array.pairs = put_of cmp key c.args.val c.insert-answer.result l.array m.array c.insert-answer.ensures.done c.insert-answer.ensures.kept in
+    let len : ℕ = a.len - c.len-before.result + c.len.result in
+    let w = put_written cmp o key a s n on l here c.args.val m len put c.insert-answer.ensures.thawed c.len.ensures.rising in
+    let shorter = leaf_counted cmp o key a s n on l here in
+    let longer : length m.array.pairs ≤ length l.array.pairs + 1 = put_length cmp key c.args.val l.array.pairs m.array.pairs put in
+    omega (arith, c.len-before.ensures.count, c.len.ensures.count, c.requires.countable, shorter, longer)
+
+pub returns-in-Some-clause-sound : goal.returns-in-Some-clause-sound
+returns-in-Some-clause-sound g c =
+    let cmp = g.K.Ord.cmp in
+    let o = g.met.K.Ord.total in
+    let key = c.args.key in
+    let a = c.args.self.now in
+    let l : Leaf g.row.K.Denot g.row.V.Denot = c.in-Some.leaf.now in
+    let n = c.leaf_of-at.result in
+    let on = c.leaf_of-at.ensures in
+    let here : get a.leaves n ≡ Some l = sym c.in-Some.ensures.value in
+    let s = c.requires.sound in
+    let m : Leaf g.row.K.Denot g.row.V.Denot = c.insert-answer.new.self in
+    let put : IsPut cmp key c.args.val l.array.pairs m.array.pairs = put_of cmp key c.args.val c.insert-answer.result l.array m.array c.insert-answer.ensures.done c.insert-answer.ensures.kept in
+    let len : ℕ = a.len - c.len-before.result + c.len.result in
+    let w = put_written cmp o key a s n on l here c.args.val m len put c.insert-answer.ensures.thawed c.len.ensures.rising in
+    still_sound cmp o key a s n on l here m c.len-before.result c.len.result c.len-before.ensures.count c.len.ensures.count w
+
+pub returns-in-Some-clause-kept : goal.returns-in-Some-clause-kept
+returns-in-Some-clause-kept g c k =
+    let cmp = g.K.Ord.cmp in
+    let o = g.met.K.Ord.total in
+    let key = c.args.key in
+    let a = c.args.self.now in
+    let l : Leaf g.row.K.Denot g.row.V.Denot = c.in-Some.leaf.now in
+    let n = c.leaf_of-at.result in
+    let on = c.leaf_of-at.ensures in
+    let here : get a.leaves n ≡ Some l = sym c.in-Some.ensures.value in
+    let s = c.requires.sound in
+    let m : Leaf g.row.K.Denot g.row.V.Denot = c.insert-answer.new.self in
+    let put : IsPut cmp key c.args.val l.array.pairs m.array.pairs = put_of cmp key c.args.val c.insert-answer.result l.array m.array c.insert-answer.ensures.done c.insert-answer.ensures.kept in
+    let len : ℕ = a.len - c.len-before.result + c.len.result in
+    let w = put_written cmp o key a s n on l here c.args.val m len put c.insert-answer.ensures.thawed c.len.ensures.rising in
+    kept_written cmp o key a s n on l here m len w (ap (λ (d : Cells g.row.K.Denot g.row.V.Denot). d.pairs) (c.insert-answer.ensures.kept k))
+
+pub returns-in-Some-clause-full : goal.returns-in-Some-clause-full
+returns-in-Some-clause-full g c f r =
+    let cmp = g.K.Ord.cmp in
+    let o = g.met.K.Ord.total in
+    let key = c.args.key in
+    let a = c.args.self.now in
+    let l : Leaf g.row.K.Denot g.row.V.Denot = c.in-Some.leaf.now in
+    let n = c.leaf_of-at.result in
+    let on = c.leaf_of-at.ensures in
+    let here : get a.leaves n ≡ Some l = sym c.in-Some.ensures.value in
+    let s = c.requires.sound in
+    let same : r.leaf ≡ l = some_same (sym r.there ∙ ap (get a.leaves) (sym on) ∙ here) in
+    let closed = c.insert-answer.ensures.full f in
+    let living : l.array.retired ≡ false = subst (λ (x : Leaf g.row.K.Denot g.row.V.Denot). x.array.retired ≡ false) same r.living in
+    roomy l.array.retired l.array.used living (subst (λ (x : Leaf g.row.K.Denot g.row.V.Denot). x.array.used < 15) same r.room) closed
+
+pub returns-in-Some-clause-duplicate : goal.returns-in-Some-clause-duplicate
+returns-in-Some-clause-duplicate g c d =
+    let cmp = g.K.Ord.cmp in
+    let o = g.met.K.Ord.total in
+    let key = c.args.key in
+    let a = c.args.self.now in
+    let l : Leaf g.row.K.Denot g.row.V.Denot = c.in-Some.leaf.now in
+    let n = c.leaf_of-at.result in
+    let on = c.leaf_of-at.ensures in
+    let here : get a.leaves n ≡ Some l = sym c.in-Some.ensures.value in
+    let s = c.requires.sound in
+    let m : Leaf g.row.K.Denot g.row.V.Denot = c.insert-answer.new.self in
+    let put : IsPut cmp key c.args.val l.array.pairs m.array.pairs = put_of cmp key c.args.val c.insert-answer.result l.array m.array c.insert-answer.ensures.done c.insert-answer.ensures.kept in
+    let len : ℕ = a.len - c.len-before.result + c.len.result in
+    let w = put_written cmp o key a s n on l here c.args.val m len put c.insert-answer.ensures.thawed c.len.ensures.rising in
+    has_written cmp o key a s n on l here m len w ∙ c.insert-answer.ensures.duplicate d
+
+pub returns-in-Some-clause-unique : goal.returns-in-Some-clause-unique
+returns-in-Some-clause-unique g c d u =
+    let cmp = g.K.Ord.cmp in
+    let o = g.met.K.Ord.total in
+    let key = c.args.key in
+    let a = c.args.self.now in
+    let l : Leaf g.row.K.Denot g.row.V.Denot = c.in-Some.leaf.now in
+    let n = c.leaf_of-at.result in
+    let on = c.leaf_of-at.ensures in
+    let here : get a.leaves n ≡ Some l = sym c.in-Some.ensures.value in
+    let s = c.requires.sound in
+    let m : Leaf g.row.K.Denot g.row.V.Denot = c.insert-answer.new.self in
+    let put : IsPut cmp key c.args.val l.array.pairs m.array.pairs = put_of cmp key c.args.val c.insert-answer.result l.array m.array c.insert-answer.ensures.done c.insert-answer.ensures.kept in
+    let len : ℕ = a.len - c.len-before.result + c.len.result in
+    let w = put_written cmp o key a s n on l here c.args.val m len put c.insert-answer.ensures.thawed c.len.ensures.rising in
+    has_written cmp o key a s n on l here m len w ∙ c.insert-answer.ensures.unique d u
+
+pub returns-in-Some-clause-done : goal.returns-in-Some-clause-done
+returns-in-Some-clause-done g c d =
+    let cmp = g.K.Ord.cmp in
+    let o = g.met.K.Ord.total in
+    let key = c.args.key in
+    let a = c.args.self.now in
+    let l : Leaf g.row.K.Denot g.row.V.Denot = c.in-Some.leaf.now in
+    let n = c.leaf_of-at.result in
+    let on = c.leaf_of-at.ensures in
+    let here : get a.leaves n ≡ Some l = sym c.in-Some.ensures.value in
+    let s = c.requires.sound in
+    let m : Leaf g.row.K.Denot g.row.V.Denot = c.insert-answer.new.self in
+    let put : IsPut cmp key c.args.val l.array.pairs m.array.pairs = put_of cmp key c.args.val c.insert-answer.result l.array m.array c.insert-answer.ensures.done c.insert-answer.ensures.kept in
+    let len : ℕ = a.len - c.len-before.result + c.len.result in
+    let w = put_written cmp o key a s n on l here c.args.val m len put c.insert-answer.ensures.thawed c.len.ensures.rising in
+    upserted_written cmp o key a s n on l here m len w c.args.val (c.insert-answer.ensures.done d)

@@ -1,0 +1,139 @@
+use Rattle.std.proofs.Common.{◌≡◌, ◌⊎◌, ℕ, ◌+◌, ◌-◌, ◌≤◌, Option, Some, None, sym, ap, ◌∙◌, arith}
+use Rattle.std.specs.Prelude.{length, IfSome}
+use Rattle.std.specs.Fn.{FnOnceReturnsAt}
+use Rattle.std.specs.BTreeMap.{is_at}
+use Rattle.std.specs.Map.{lookup_entry}
+use Rattle.slab.specs.Slab.{get}
+use Rattle.leaf_array.specs.Cells.{Cells}
+use Rattle.leaf_array.specs.Edits.{removed}
+use Rattle.tree_index.specs.declared.leaf.Leaf.{Leaf}
+use Rattle.tree_index.proofs.ArenaLemmas.{thawed_on_way, leaf_counted, taken_of, taken_written, removed_length, still_sound, kept_written, removed_written, lookup_written, none_sound, bare_pairs}
+use Rattle.tree_index.proofs.arenas.Arenas.remove_if.Goals as goal
+
+pub remove_if-answer-requires-clause-thawed : goal.remove_if-answer-requires-clause-thawed
+remove_if-answer-requires-clause-thawed g c =
+    let cmp = g.K.Ord.cmp in
+    let o = g.met.K.Ord.total in
+    let key = c.args.key.now in
+    let a = c.args.self.now in
+    let l : Leaf g.row.K.Denot g.row.V.Denot = c.in-Some.leaf.now in
+    let n = c.leaf_of-at.result in
+    let on = c.leaf_of-at.ensures in
+    let here : get a.leaves n ≡ Some l = sym c.in-Some.ensures.value in
+    let s = c.requires.sound in
+    thawed_on_way cmp o key a s n on l here
+
+pub overflow_sub-self : goal.overflow_sub-self
+overflow_sub-self g c =
+    let cmp = g.K.Ord.cmp in
+    let o = g.met.K.Ord.total in
+    let key = c.args.key.now in
+    let a = c.args.self.now in
+    let l : Leaf g.row.K.Denot g.row.V.Denot = c.in-Some.leaf.now in
+    let n = c.leaf_of-at.result in
+    let on = c.leaf_of-at.ensures in
+    let here : get a.leaves n ≡ Some l = sym c.in-Some.ensures.value in
+    let s = c.requires.sound in
+    rw c.len-before.ensures.count (leaf_counted cmp o key a s n on l here)
+
+pub overflow_add-self : goal.overflow_add-self
+overflow_add-self g c =
+    let cmp = g.K.Ord.cmp in
+    let o = g.met.K.Ord.total in
+    let key = c.args.key.now in
+    let a = c.args.self.now in
+    let l : Leaf g.row.K.Denot g.row.V.Denot = c.in-Some.leaf.now in
+    let n = c.leaf_of-at.result in
+    let on = c.leaf_of-at.ensures in
+    let here : get a.leaves n ≡ Some l = sym c.in-Some.ensures.value in
+    let s = c.requires.sound in
+    let m : Leaf g.row.K.Denot g.row.V.Denot = c.remove_if-answer.new.self in
+    let taken = taken_of c.remove_if-answer.result l.array.pairs m.array.pairs (removed cmp key l.array.pairs) c.remove_if-answer.ensures.removed (λ e. ap (λ (x : Cells g.row.K.Denot g.row.V.Denot). x.pairs) (c.remove_if-answer.ensures.kept e)) in
+    let len : ℕ = a.len - c.len-before.result + c.len.result in
+    let w = taken_written cmp o key a s n on l here m len taken c.remove_if-answer.ensures.thawed c.len.ensures.rising in
+    let shorter = leaf_counted cmp o key a s n on l here in
+    let fewer : length m.array.pairs ≤ length l.array.pairs = removed_length cmp key l.array.pairs m.array.pairs taken in
+    omega (arith, c.len-before.ensures.count, c.len.ensures.count, shorter, fewer)
+
+pub returns-in-Some-clause-sound : goal.returns-in-Some-clause-sound
+returns-in-Some-clause-sound g c =
+    let cmp = g.K.Ord.cmp in
+    let o = g.met.K.Ord.total in
+    let key = c.args.key.now in
+    let a = c.args.self.now in
+    let l : Leaf g.row.K.Denot g.row.V.Denot = c.in-Some.leaf.now in
+    let n = c.leaf_of-at.result in
+    let on = c.leaf_of-at.ensures in
+    let here : get a.leaves n ≡ Some l = sym c.in-Some.ensures.value in
+    let s = c.requires.sound in
+    let m : Leaf g.row.K.Denot g.row.V.Denot = c.remove_if-answer.new.self in
+    let taken = taken_of c.remove_if-answer.result l.array.pairs m.array.pairs (removed cmp key l.array.pairs) c.remove_if-answer.ensures.removed (λ e. ap (λ (x : Cells g.row.K.Denot g.row.V.Denot). x.pairs) (c.remove_if-answer.ensures.kept e)) in
+    let len : ℕ = a.len - c.len-before.result + c.len.result in
+    let w = taken_written cmp o key a s n on l here m len taken c.remove_if-answer.ensures.thawed c.len.ensures.rising in
+    still_sound cmp o key a s n on l here m c.len-before.result c.len.result c.len-before.ensures.count c.len.ensures.count w
+
+pub returns-in-Some-clause-absent : goal.returns-in-Some-clause-absent
+returns-in-Some-clause-absent g c e =
+    let cmp = g.K.Ord.cmp in
+    let o = g.met.K.Ord.total in
+    let key = c.args.key.now in
+    let a = c.args.self.now in
+    let l : Leaf g.row.K.Denot g.row.V.Denot = c.in-Some.leaf.now in
+    let n = c.leaf_of-at.result in
+    let on = c.leaf_of-at.ensures in
+    let here : get a.leaves n ≡ Some l = sym c.in-Some.ensures.value in
+    let s = c.requires.sound in
+    c.remove_if-answer.ensures.absent (sym (lookup_written cmp o key a s n on l here) ∙ e)
+
+pub returns-in-Some-clause-asked : goal.returns-in-Some-clause-asked
+returns-in-Some-clause-asked g c =
+    let cmp = g.K.Ord.cmp in
+    let o = g.met.K.Ord.total in
+    let key = c.args.key.now in
+    let a = c.args.self.now in
+    let l : Leaf g.row.K.Denot g.row.V.Denot = c.in-Some.leaf.now in
+    let n = c.leaf_of-at.result in
+    let on = c.leaf_of-at.ensures in
+    let here : get a.leaves n ≡ Some l = sym c.in-Some.ensures.value in
+    let s = c.requires.sound in
+    rw (lookup_written cmp o key a s n on l here) c.remove_if-answer.ensures.asked
+
+pub returns-in-Some-clause-removed : goal.returns-in-Some-clause-removed
+returns-in-Some-clause-removed g c r =
+    let cmp = g.K.Ord.cmp in
+    let o = g.met.K.Ord.total in
+    let key = c.args.key.now in
+    let a = c.args.self.now in
+    let l : Leaf g.row.K.Denot g.row.V.Denot = c.in-Some.leaf.now in
+    let n = c.leaf_of-at.result in
+    let on = c.leaf_of-at.ensures in
+    let here : get a.leaves n ≡ Some l = sym c.in-Some.ensures.value in
+    let s = c.requires.sound in
+    let m : Leaf g.row.K.Denot g.row.V.Denot = c.remove_if-answer.new.self in
+    let taken = taken_of c.remove_if-answer.result l.array.pairs m.array.pairs (removed cmp key l.array.pairs) c.remove_if-answer.ensures.removed (λ e. ap (λ (x : Cells g.row.K.Denot g.row.V.Denot). x.pairs) (c.remove_if-answer.ensures.kept e)) in
+    let len : ℕ = a.len - c.len-before.result + c.len.result in
+    let w = taken_written cmp o key a s n on l here m len taken c.remove_if-answer.ensures.thawed c.len.ensures.rising in
+    removed_written cmp o key a s n on l here m len w (c.remove_if-answer.ensures.removed r)
+
+pub returns-in-Some-clause-kept : goal.returns-in-Some-clause-kept
+returns-in-Some-clause-kept g c r =
+    let cmp = g.K.Ord.cmp in
+    let o = g.met.K.Ord.total in
+    let key = c.args.key.now in
+    let a = c.args.self.now in
+    let l : Leaf g.row.K.Denot g.row.V.Denot = c.in-Some.leaf.now in
+    let n = c.leaf_of-at.result in
+    let on = c.leaf_of-at.ensures in
+    let here : get a.leaves n ≡ Some l = sym c.in-Some.ensures.value in
+    let s = c.requires.sound in
+    let m : Leaf g.row.K.Denot g.row.V.Denot = c.remove_if-answer.new.self in
+    let taken = taken_of c.remove_if-answer.result l.array.pairs m.array.pairs (removed cmp key l.array.pairs) c.remove_if-answer.ensures.removed (λ e. ap (λ (x : Cells g.row.K.Denot g.row.V.Denot). x.pairs) (c.remove_if-answer.ensures.kept e)) in
+    let len : ℕ = a.len - c.len-before.result + c.len.result in
+    let w = taken_written cmp o key a s n on l here m len taken c.remove_if-answer.ensures.thawed c.len.ensures.rising in
+    kept_written cmp o key a s n on l here m len w (ap (λ (x : Cells g.row.K.Denot g.row.V.Denot). x.pairs) (c.remove_if-answer.ensures.kept r))
+
+pub returns-in-None-clause-asked : goal.returns-in-None-clause-asked
+returns-in-None-clause-asked g c =
+    let here = sym (rw c.in-None.is at c.get_mut.ensures.value) in
+    let none = ap (lookup_entry (is_at (g.K.Ord.cmp c.args.key.now))) (bare_pairs g.K.Ord.cmp g.met.K.Ord.total c.args.key.now c.args.self.now (none_sound g.K.Ord.cmp g.met.K.Ord.total c.args.key.now c.args.self.now (rw c.leaf_of-at.ensures at here) c.requires.sound)) in
+    rw none tt

@@ -1,0 +1,12 @@
+use Rattle.std.proofs.Common.{◌≡◌, ◌∙◌, sym, ap, None}
+use Rattle.std.specs.BTreeMap.{is_at}
+use Rattle.std.specs.Map.{lookup_entry}
+use Rattle.tree_index.specs.Content.{pairs_of}
+use Rattle.tree_index.proofs.LeafLemmas.{value_entry, value_asked, value_none}
+use Rattle.tree_index.proofs.index.TreeIndex.remove_if_sync.Goals as goal
+
+pub returns-clause-absent : goal.returns-clause-absent
+returns-clause-absent g c = rw (sym c.self.view_is) (λ e. c.remove_if.ensures.absent (value_none g.K.Ord.cmp c.args.key.now (pairs_of c.self.inside.arenas) e))
+
+pub returns-clause-asked : goal.returns-clause-asked
+returns-clause-asked g c = rw (sym c.self.view_is) (value_asked g.K.Ord.cmp c.args.key.now (pairs_of c.self.inside.arenas) _ c.remove_if.ensures.asked)

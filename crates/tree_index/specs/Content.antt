@@ -1,0 +1,71 @@
+-- What the arenas of a tree hold.
+use Rattle.std.specs.Prelude.{◌≡◌, ◌≢◌, ◌≤◌, ◌<◌, ◌-◌, ◌⊎◌, ℕ, List, length, Option, Some, None, false}
+use Rattle.std.specs.declared.cmp.Ordering.{Ordering}
+use Rattle.std.specs.Option.{option_map}
+use Rattle.slab.specs.Slab.{Slab, get, slab_len}
+use Rattle.leaf_array.specs.Cells.{Cells}
+use Rattle.tree_index.specs.declared.leaf.Leaf.{Leaf}
+use Rattle.tree_index.specs.declared.node.Branches.{Branches}
+use Rattle.tree_index.specs.declared.arenas.Arenas.{Arenas}
+use Rattle.tree_index.specs.declared.leaf.Cut.{Cut}
+use Rattle.tree_index.specs.Cuts.{IsCut}
+use Rattle.tree_index.specs.Shape.{Content, pairs_under, way, Stands}
+
+module _ {K V : Type 0} where
+  -- the arrays in two arenas
+  abbrev pub content : Slab (Leaf K V) → Slab (Branches K) → Content K V
+  content leaves nodes = record {
+    leaf = λ at. option_map (λ l. l.array) (get leaves at);
+    node = λ at. option_map (λ n. (n.children, n.last)) (get nodes at);
+  }
+
+  abbrev pub content_of : Arenas K V → Content K V
+  content_of a = content a.leaves a.nodes
+
+  -- the pairs in order
+  abbrev pub pairs_of : Arenas K V → List (K × V)
+  pairs_of a = pairs_under (content_of a) a.height a.root
+
+  -- nothing is planted
+  pub record IsBare (a : Arenas K V) : Type 0 where
+    pub flat : a.height ≡ 0
+    pub empty : (at : ℕ) → get a.leaves at ≡ None
+
+  -- nothing is planted, or a tree of at least one node stands
+  pub record IsSound (cmp : K → K → Ordering) (a : Arenas K V) : Type 0 where
+    pub stands : IsBare a ⊎ (a.height ≢ 0) × Stands cmp (content_of a) a.height a.root
+    pub tall : a.height ≤ slab_len a.nodes
+    pub count : a.len ≡ length (pairs_of a)
+
+  -- the leaf on the way to a key takes one more pair
+  pub record HasRoom (cmp : K → K → Ordering) (key : K) (a : Arenas K V) : Type 0 where
+    pub leaf : Leaf K V
+    pub there : get a.leaves (way cmp (content_of a) key a.height a.root) ≡ Some leaf
+    pub living : leaf.array.retired ≡ false
+    pub room : leaf.array.used < 15
+
+  -- each number holds the same array
+  abbrev pub AreSameArrays : Slab (Leaf K V) → Slab (Leaf K V) → Type 0
+  AreSameArrays old new = (n : ℕ) → option_map (λ l. l.array) (get new n) ≡ option_map (λ l. l.array) (get old n)
+
+  -- the node at this height on the way to a key is full
+  pub record IsNodeFull (cmp : K → K → Ordering) (key : K) (a : Arenas K V) (left : ℕ) : Type 0 where
+    pub node : Branches K
+    pub there : get a.nodes (way cmp (content_of a) key (a.height - left) a.root) ≡ Some node
+    pub full : node.children.used ≡ 15
+
+  -- the node at this height on the way to a key has room for one more child
+  pub record NodeHasRoom (cmp : K → K → Ordering) (key : K) (a : Arenas K V) (left : ℕ) : Type 0 where
+    pub node : Branches K
+    pub there : get a.nodes (way cmp (content_of a) key (a.height - left) a.root) ≡ Some node
+    pub room : node.children.used < 15
+
+  -- the leaf on the way to a key is to be cut there
+  pub record IsCutThere (cmp : K → K → Ordering) (key : K) (a : Arenas K V) (cut : Cut K) : Type 0 where
+    pub leaf : Leaf K V
+    pub there : get a.leaves (way cmp (content_of a) key a.height a.root) ≡ Some leaf
+    pub fits : IsCut cmp key leaf.array.pairs cut
+
+  -- the leaf on the way to a key
+  abbrev pub leaf_on_way : (K → K → Ordering) → K → Arenas K V → ℕ
+  leaf_on_way cmp key a = way cmp (content_of a) key a.height a.root

@@ -1,0 +1,17 @@
+-- Where a leaf is cut in two.
+use Rattle.std.specs.Prelude.{◌≡◌, ◌≤◌, ◌-◌, ℕ, List, length, slice_get, Option, Some, true, false}
+use Rattle.std.specs.declared.cmp.Ordering.{Ordering}
+use Rattle.std.specs.declared.cmp.Ordering.TheVariants.{Less}
+use Rattle.std.specs.Option.{option_map}
+use Rattle.tree_index.specs.declared.leaf.Cut.{Cut}
+
+-- the key of the pair at a place
+abbrev pub key_at : {K V : Type 0} → List (K × V) → ℕ → Option K
+key_at pairs n = option_map (λ p. p.0) (slice_get pairs n)
+
+-- the separator is the greatest key, if the leaf stays whole below it because the new key is greater, and else the eighth
+pub record IsCut {K V : Type 0} (cmp : K → K → Ordering) (key : K) (pairs : List (K × V)) (cut : Cut K) : Type 0 where
+  pub crowded : 12 ≤ length pairs
+  pub whole : cut.whole ≡ true → key_at pairs (length pairs - 1) ≡ Some cut.separator
+  pub beyond : cut.whole ≡ true → cmp cut.separator key ≡ Less
+  pub halves : cut.whole ≡ false → key_at pairs 7 ≡ Some cut.separator

@@ -1,0 +1,7 @@
+pub mod Shape
+pub mod Cuts
+pub mod Content
+pub use Rattle.leaf_array.specs.Pairs
+pub use Rattle.leaf_array.specs.Edits
+pub use Rattle.leaf_array.specs.Values
+pub mod Tree

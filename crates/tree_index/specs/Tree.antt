@@ -1,0 +1,23 @@
+-- What a contract sees of a tree.
+use Rattle.std.specs.Prelude.{◌≡◌, refl, ℕ, List}
+use Rattle.std.specs.Coded.{Coded, code_by, coded×, coded_ℕ, coded_list}
+use Rattle.tree_index.specs.declared.index.InsertRefused.{InsertRefused}
+use Rattle.tree_index.specs.declared.index.InsertRefused.TheVariants.{Duplicate, Memory}
+
+-- its pairs by rising keys, and how many nodes lie above a leaf
+pub record Tree (K V : Type 0) : Type 0 where
+  pub pairs : List (K × V)
+  pub depth : ℕ
+
+abbrev pub tree_code : {K V : Type 0} → Coded K → Coded V → Coded (Tree K V)
+tree_code {K} {V} k v = code_by (List (K × V) × ℕ) (coded× (coded_list (coded× k v)) coded_ℕ) (λ t. (t.pairs, t.depth)) (λ p. record { pairs = p.0; depth = p.1 }) (λ _. refl)
+
+module _ {K V : Type 0} where
+  abbrev pub IsDuplicate : InsertRefused K V → Type 0
+  IsDuplicate (Duplicate k v) = Unit {0}
+  IsDuplicate (Memory k v) = ⊥
+
+  -- the pair that comes back
+  abbrev pub given_back : InsertRefused K V → K × V
+  given_back (Duplicate k v) = (k, v)
+  given_back (Memory k v) = (k, v)

@@ -1,0 +1,224 @@
+//! Leaves and nodes in their arenas, and the way down to a key.
+
+ghost use Rattle.std.specs.Prelude.{◌≡◌, ◌≢◌, ◌≤◌, ◌<◌, ◌+◌, ◌-◌, ◌^◌, ◌⊎◌, ◌↔◌, IsTrue, IsSome, IfSome, Some, None, MatchOption, [], true, false, OnOk, OnErr, IfOk};
+ghost use Rattle.std.specs.BTreeMap.{is_at};
+ghost use Rattle.std.specs.Map.{lookup_entry};
+ghost use Rattle.tree_index.specs.Shape.{way};
+ghost use Rattle.tree_index.specs.Content.{content_of, pairs_of, IsSound, HasRoom, leaf_on_way};
+ghost use Rattle.leaf_array.specs.Edits.{removed, upserted};
+ghost use Rattle.std.specs.Fn.{FnOnceReturnsAt};
+ghost use Rattle.leaf_array.specs.Pairs.{has_key};
+ghost use Rattle.leaf_array.specs.Values.{ClonesAreSame};
+ghost use Rattle.leaf_array.specs.Results.{IsSuccess, IsDuplicate, IsFull, given_back};
+
+use crate::leaf::{Leaf, NONE};
+use crate::node::Branches;
+use leaf_array::{Array, InsertResult, RemoveResult};
+use slab::Slab;
+use std::alloc::{AllocError, Global};
+use std::cmp::Ordering;
+use std::mem;
+
+/// The leaves, the nodes, where the way down starts, how many nodes it has, and how many pairs there are.
+///
+/// Nothing is planted while the height is 0.
+#[derive(Drop)]
+pub(crate) struct Arenas<K: Ord, V> {
+    pub(crate) leaves: Slab<Leaf<K, V>>,
+    pub(crate) nodes: Slab<Branches<K>>,
+    pub(crate) root: usize,
+    pub(crate) height: usize,
+    pub(crate) len: usize,
+}
+
+impl<K: Ord, V> Arenas<K, V> {
+    pub(crate) fn new(alloc: Global) -> Self
+        ensures sound { IsSound K.cmp result }
+        ensures empty { pairs_of result ≡ [] }
+        ensures flat { result.height ≡ 0 }
+    {
+        Arenas {
+            leaves: Slab::new(alloc),
+            nodes: Slab::new(alloc),
+            root: 0,
+            height: 0,
+            len: 0,
+        }
+    }
+
+    /// The number of what stands at a height on the way to a key: a node, or at the height 0 a leaf.
+    #[inline(always)]
+    pub(crate) fn node_at(&self, left: usize, key: &K) -> usize
+        requires sound { IsSound K.cmp self.now }
+        requires within { left ≤ self.now.height }
+        ensures { result ≡ way K.cmp (content_of self.now) key.now (self.now.height - left) self.now.root }
+    {
+        let mut at = self.root;
+        let mut height = self.height;
+        while height > left {
+            match self.nodes.get(at) {
+                Some(node) => at = node.child(key),
+                None => unreachable!(),
+            }
+            height -= 1;
+        }
+        at
+    }
+
+    /// The number of the leaf on the way to a key.
+    #[inline(always)]
+    pub(crate) fn leaf_of(&self, key: &K) -> usize
+        requires { IsSound K.cmp self.now }
+        ensures { result ≡ leaf_on_way K.cmp key.now self.now }
+    {
+        self.node_at(0, key)
+    }
+
+    /// The pair with this key.
+    #[inline]
+    pub(crate) fn search_entry(&self, key: &K) -> Option<(&K, &V)>
+        requires { IsSound K.cmp self.now }
+        ensures { MatchOption result (lookup_entry (is_at (K.cmp key.now)) (pairs_of self.now) ≡ None) (λ e. lookup_entry (is_at (K.cmp key.now)) (pairs_of self.now) ≡ Some (e.0.now, e.1.now)) }
+    {
+        match self.leaves.get(self.leaf_of(key)) {
+            Some(leaf) => leaf.array.search_entry(key),
+            None => None,
+        }
+    }
+
+    /// Inserts a pair into the leaf on the way to its key, and where `UPSERT` is true puts it in the
+    /// place of the one that has its key. It is full where that leaf has no room, or there is none.
+    #[inline]
+    pub(crate) fn insert<const UPSERT: bool>(&mut self, key: K, val: V) -> InsertResult<K, V>
+        requires sound { IsSound K.cmp self.old }
+        requires countable { self.old.len + 1 < 2 ^ 64 }
+        ensures sound { IsSound K.cmp self.new }
+        ensures depth { self.new.height ≡ self.old.height }
+        ensures back { IfSome (given_back result) (λ p. p ≡ (key, val)) }
+        ensures kept { IsSome (given_back result) → pairs_of self.new ≡ pairs_of self.old }
+        ensures full { IsFull result → HasRoom K.cmp key self.old → ⊥ }
+        ensures duplicate { IsDuplicate result → has_key K.cmp key (pairs_of self.old) ≡ true }
+        ensures repeated { IsDuplicate result → UPSERT ≡ false }
+        ensures unique { IsSuccess result → UPSERT ≡ false → has_key K.cmp key (pairs_of self.old) ≡ false }
+        ensures done { IsSuccess result → pairs_of self.new ≡ upserted K.cmp key val (pairs_of self.old) }
+    {
+        let at = self.leaf_of(&key);
+        match self.leaves.get_mut(at) {
+            Some(leaf) => {
+                let before = leaf.len();
+                let answer = leaf.insert::<UPSERT>(key, val);
+                self.len = self.len - before + leaf.len();
+                answer
+            },
+            None => InsertResult::Full(key, val),
+        }
+    }
+
+    /// Inserts a pair, and where `UPSERT` is true puts it in the place of the one that has its key. It is
+    /// full where memory is refused, or no more pairs can be counted.
+    #[inline]
+    pub(crate) fn put<const UPSERT: bool>(&mut self, key: K, val: V) -> InsertResult<K, V>
+    where
+        K: Clone + Drop,
+        V: Drop,
+        requires sound { IsSound K.cmp self.old }
+        requires clones { ClonesAreSame K.is_clone }
+        ensures sound { IsSound K.cmp self.new }
+        ensures back { IfSome (given_back result) (λ p. p ≡ (key, val)) }
+        ensures kept { IsSome (given_back result) → pairs_of self.new ≡ pairs_of self.old }
+        ensures depth { IsSome (given_back result) → self.new.height ≡ self.old.height }
+        ensures duplicate { IsDuplicate result → has_key K.cmp key (pairs_of self.old) ≡ true }
+        ensures repeated { IsDuplicate result → UPSERT ≡ false }
+        ensures unique { IsSuccess result → UPSERT ≡ false → has_key K.cmp key (pairs_of self.old) ≡ false }
+        ensures done { IsSuccess result → pairs_of self.new ≡ upserted K.cmp key val (pairs_of self.old) }
+    {
+        if self.len == usize::MAX {
+            return InsertResult::Full(key, val);
+        }
+        match self.insert::<UPSERT>(key, val) {
+            InsertResult::Full(key, val) => self.put_full::<UPSERT>(key, val),
+            answer => answer,
+        }
+    }
+
+    /// The same where the leaf on the way has no room.
+    #[cold]
+    #[inline(never)]
+    fn put_full<const UPSERT: bool>(&mut self, key: K, val: V) -> InsertResult<K, V>
+    where
+        K: Clone + Drop,
+        V: Drop,
+        requires sound { IsSound K.cmp self.old }
+        requires countable { self.old.len + 1 < 2 ^ 64 }
+        requires clones { ClonesAreSame K.is_clone }
+        ensures sound { IsSound K.cmp self.new }
+        ensures back { IfSome (given_back result) (λ p. p ≡ (key, val)) }
+        ensures kept { IsSome (given_back result) → pairs_of self.new ≡ pairs_of self.old }
+        ensures depth { IsSome (given_back result) → self.new.height ≡ self.old.height }
+        ensures duplicate { IsDuplicate result → has_key K.cmp key (pairs_of self.old) ≡ true }
+        ensures repeated { IsDuplicate result → UPSERT ≡ false }
+        ensures unique { IsSuccess result → UPSERT ≡ false → has_key K.cmp key (pairs_of self.old) ≡ false }
+        ensures done { IsSuccess result → pairs_of self.new ≡ upserted K.cmp key val (pairs_of self.old) }
+    {
+        if !UPSERT && self.contains(&key) {
+            return InsertResult::Duplicate(key, val);
+        }
+        match self.make_room(&key) {
+            Ok(()) => self.insert::<UPSERT>(key, val),
+            Err(_) => InsertResult::Full(key, val),
+        }
+    }
+
+    /// Whether a pair has this key.
+    pub(crate) fn contains(&self, key: &K) -> bool
+        requires { IsSound K.cmp self.now }
+        ensures { result ≡ has_key K.cmp key.now (pairs_of self.now) }
+    {
+        match self.search_entry(key) {
+            Some(_) => true,
+            None => false,
+        }
+    }
+
+    /// Drops all leaves and nodes.
+    pub(crate) fn clear(&mut self)
+    where
+        K: Drop,
+        V: Drop,
+        ensures sound { IsSound K.cmp self.new }
+        ensures empty { pairs_of self.new ≡ [] }
+        ensures flat { self.new.height ≡ 0 }
+    {
+        self.leaves.clear();
+        self.nodes.clear();
+        self.root = 0;
+        self.height = 0;
+        self.len = 0;
+    }
+
+    /// Removes the pair with this key, if the condition answers true of its value.
+    #[inline]
+    pub(crate) fn remove_if<F: FnOnce(&V) -> bool>(&mut self, key: &K, condition: F) -> bool
+    where
+        F: Drop,
+        requires callable { F.IsAlwaysCallable condition }
+        requires sound { IsSound K.cmp self.old }
+        ensures sound { IsSound K.cmp self.new }
+        ensures depth { self.new.height ≡ self.old.height }
+        ensures absent { lookup_entry (is_at (K.cmp key.now)) (pairs_of self.old) ≡ None → result ≡ false }
+        ensures asked { IfSome (lookup_entry (is_at (K.cmp key.now)) (pairs_of self.old)) (λ e. FnOnceReturnsAt F.FnOnce condition e.1 result) }
+        ensures removed { result ≡ true → pairs_of self.new ≡ removed K.cmp key.now (pairs_of self.old) }
+        ensures kept { result ≡ false → pairs_of self.new ≡ pairs_of self.old }
+    {
+        let at = self.leaf_of(key);
+        match self.leaves.get_mut(at) {
+            Some(leaf) => {
+                let before = leaf.len();
+                let answer = leaf.remove_if(key, condition);
+                self.len = self.len - before + leaf.len();
+                answer
+            },
+            None => false,
+        }
+    }
+}

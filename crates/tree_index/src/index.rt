@@ -1,0 +1,208 @@
+//! The tree as users see it.
+
+ghost use Rattle.std.specs.Prelude.{◌≡◌, ◌<◌, ◌^◌, ◌+◌, ◌==◌, IfSome, IfErr, OnOk, OnErr, IsOk, IfOk, MatchOption, [], Some, None, true, false, length, option_copied};
+ghost use Rattle.std.specs.BTreeMap.{is_at};
+ghost use Rattle.std.specs.Map.{lookup_entry};
+ghost use Rattle.std.specs.Fn.{FnOnceReturnsAt};
+ghost use Rattle.leaf_array.specs.Edits.{inserted, removed, upserted};
+ghost use Rattle.leaf_array.specs.Pairs.{has_key, value_at};
+ghost use Rattle.leaf_array.specs.Values.{ClonesAreSame};
+ghost use Rattle.tree_index.specs.Tree.{IsDuplicate, given_back};
+
+use crate::arenas::Arenas;
+use leaf_array::InsertResult;
+use std::alloc::Global;
+use std::marker::Model;
+
+/// An ordered index: a B+ tree with at most fifteen pairs in a leaf and sixteen children in a node.
+///
+/// Leaves and nodes stand in two arenas and name each other by numbers. A look-up follows one path and
+/// clones nothing; an insertion touches one path and clones one key where a leaf is split; reads and
+/// removals take no memory.
+#[derive(Drop)]
+pub struct TreeIndex<K: Ord, V> {
+    arenas: Arenas<K, V>,
+}
+
+impl<K: Ord, V> Model for TreeIndex<K, V> {
+    ghost use Rattle.tree_index.specs.Tree.{Tree, tree_code};
+    ghost use Rattle.tree_index.specs.Content.{pairs_of, IsSound};
+
+    ghost Value = { Tree K V };
+
+    ghost coded = { tree_code K.code V.code };
+
+    ghost view = { λ t. record { pairs = pairs_of t.arenas; depth = t.arenas.height } };
+
+    ghost invariant = { λ t. IsSound K.cmp t.arenas };
+}
+
+/// Why a pair wasn't inserted. It comes back.
+#[derive(Drop)]
+pub enum InsertRefused<K, V> {
+    /// A pair has the key already.
+    Duplicate(K, V),
+    /// Memory was refused.
+    Memory(K, V),
+}
+
+impl<K: Ord, V> TreeIndex<K, V> {
+    /// A tree without pairs. It takes no memory.
+    pub fn new(alloc: Global) -> Self
+        ensures empty { result.pairs ≡ [] }
+        ensures flat { result.depth ≡ 0 }
+    {
+        TreeIndex {
+            arenas: Arenas::new(alloc),
+        }
+    }
+
+    /// Drops all pairs. The depth is 0 again.
+    pub fn clear(&mut self)
+    where
+        K: Drop,
+        V: Drop,
+        ensures empty { self.new.pairs ≡ [] }
+        ensures flat { self.new.depth ≡ 0 }
+    {
+        self.arenas.clear();
+    }
+
+    /// How many nodes lie above a leaf: 0 for a tree that is new or cleared.
+    pub fn depth(&self) -> usize
+        ensures { result ≡ self.now.depth }
+    {
+        self.arenas.height
+    }
+
+    /// How many pairs there are, from a count that the tree keeps.
+    pub fn len(&self) -> usize
+        ensures { result ≡ length self.now.pairs }
+    {
+        self.arenas.len
+    }
+
+    /// Whether there are no pairs.
+    pub fn is_empty(&self) -> bool
+        ensures { result ≡ (length self.now.pairs == 0) }
+    {
+        self.arenas.len == 0
+    }
+
+    /// Inserts a pair whose key isn't there. A refused pair comes back, and the tree stays as it was.
+    ///
+    /// Where its leaf has no room, one key is cloned and room is taken for the leaves and nodes of one
+    /// path, before anything is changed. A tree of `usize::MAX` pairs takes no more: that is answered
+    /// as memory.
+    pub fn insert_sync(&mut self, key: K, val: V) -> Result<(), InsertRefused<K, V>>
+    where
+        K: Clone + Drop,
+        V: Drop,
+        requires clones { ClonesAreSame K.is_clone }
+        ensures inserted { OnOk result (self.new.pairs ≡ inserted K.cmp key val self.old.pairs) }
+        ensures absent { IsOk result → has_key K.cmp key self.old.pairs ≡ false }
+        ensures duplicate { IfErr result (λ e. IsDuplicate e → has_key K.cmp key self.old.pairs ≡ true) }
+        ensures back { IfErr result (λ e. given_back e ≡ (key, val)) }
+        ensures refused { OnErr result (self.new ≡ self.old) }
+    {
+        match self.arenas.put::<false>(key, val) {
+            InsertResult::Success => Ok(()),
+            InsertResult::Duplicate(key, val) => Err(InsertRefused::Duplicate(key, val)),
+            InsertResult::Full(key, val) => Err(InsertRefused::Memory(key, val)),
+        }
+    }
+
+    /// Puts a pair in, in the place of the one that has its key, if there is one. Where memory is refused
+    /// the pair comes back, and the tree stays as it was.
+    pub fn upsert_sync(&mut self, key: K, val: V) -> Result<(), (K, V)>
+    where
+        K: Clone + Drop,
+        V: Drop,
+        requires clones { ClonesAreSame K.is_clone }
+        ensures upserted { OnOk result (self.new.pairs ≡ upserted K.cmp key val self.old.pairs) }
+        ensures back { IfErr result (λ e. e ≡ (key, val)) }
+        ensures refused { OnErr result (self.new ≡ self.old) }
+    {
+        match self.arenas.put::<true>(key, val) {
+            InsertResult::Success => Ok(()),
+            InsertResult::Duplicate(key, val) => Err((key, val)),
+            InsertResult::Full(key, val) => Err((key, val)),
+        }
+    }
+
+    /// Removes the pair with this key, and says whether there was one.
+    pub fn remove_sync(&mut self, key: &K) -> bool
+        ensures found { result ≡ has_key K.cmp key.now self.old.pairs }
+        ensures removed { self.new.pairs ≡ removed K.cmp key.now self.old.pairs }
+        ensures depth { self.new.depth ≡ self.old.depth }
+    {
+        self.arenas.remove_if(
+            key,
+            |_: &V| -> bool
+                ensures { result ≡ true }
+            { true },
+        )
+    }
+
+    /// The pair with this key.
+    pub fn peek_entry(&self, key: &K) -> Option<(&K, &V)>
+        ensures { MatchOption result (lookup_entry (is_at (K.cmp key.now)) self.now.pairs ≡ None) (λ e. lookup_entry (is_at (K.cmp key.now)) self.now.pairs ≡ Some (e.0.now, e.1.now)) }
+    {
+        self.arenas.search_entry(key)
+    }
+
+    /// The value at this key.
+    pub fn peek(&self, key: &K) -> Option<&V>
+        ensures { option_copied result ≡ value_at K.cmp key.now self.now.pairs }
+    {
+        match self.arenas.search_entry(key) {
+            Some((_, value)) => Some(value),
+            None => None,
+        }
+    }
+
+    /// Calls `f` on the pair with this key, once, and gives what it answers.
+    pub fn peek_with<R, F: FnOnce(&K, &V) -> R>(&self, key: &K, f: F) -> Option<R>
+    where
+        F: Drop,
+        requires { F.IsAlwaysCallable f }
+        ensures { MatchOption result (lookup_entry (is_at (K.cmp key.now)) self.now.pairs ≡ None) (λ r. (k : _) × (v : _) × (lookup_entry (is_at (K.cmp key.now)) self.now.pairs ≡ Some (k.now, v.now)) × F.post f k v r) }
+    {
+        match self.arenas.search_entry(key) {
+            Some((stored, value)) => Some(f(stored, value)),
+            None => None,
+        }
+    }
+
+    /// Calls `f` on the pair with this key, once, and gives what it answers. No lock is taken.
+    pub fn read_sync<R, F: FnOnce(&K, &V) -> R>(&self, key: &K, f: F) -> Option<R>
+    where
+        F: Drop,
+        requires { F.IsAlwaysCallable f }
+        ensures { MatchOption result (lookup_entry (is_at (K.cmp key.now)) self.now.pairs ≡ None) (λ r. (k : _) × (v : _) × (lookup_entry (is_at (K.cmp key.now)) self.now.pairs ≡ Some (k.now, v.now)) × F.post f k v r) }
+    {
+        self.peek_with(key, f)
+    }
+
+    /// Whether a pair has this key.
+    pub fn contains(&self, key: &K) -> bool
+        ensures { result ≡ has_key K.cmp key.now self.now.pairs }
+    {
+        self.arenas.contains(key)
+    }
+
+    /// Removes the pair with this key, if the condition answers true of its value: it is asked once where
+    /// the key is there, else not at all.
+    pub fn remove_if_sync<F: FnOnce(&V) -> bool>(&mut self, key: &K, condition: F) -> bool
+    where
+        F: Drop,
+        requires { F.IsAlwaysCallable condition }
+        ensures absent { value_at K.cmp key.now self.old.pairs ≡ None → result ≡ false }
+        ensures asked { IfSome (value_at K.cmp key.now self.old.pairs) (λ v. FnOnceReturnsAt F.FnOnce condition v result) }
+        ensures removed { result ≡ true → self.new.pairs ≡ removed K.cmp key.now self.old.pairs }
+        ensures kept { result ≡ false → self.new.pairs ≡ self.old.pairs }
+        ensures depth { self.new.depth ≡ self.old.depth }
+    {
+        self.arenas.remove_if(key, condition)
+    }
+}

@@ -1,0 +1,173 @@
+//! A leaf of the tree.
+
+ghost use Rattle.std.specs.Prelude.{◌≡◌, ◌≤◌, ◌<◌, ◌-◌, ◌||◌, ◌&&◌, ◌==◌, IsTrue, IsSome, IfSome, IfOk, Some, None, true, false, cond, length, take, drop};
+ghost use Rattle.std.specs.BTreeMap.{is_at};
+ghost use Rattle.std.specs.Map.{lookup_entry};
+ghost use Rattle.std.specs.Fn.{FnOnceReturnsAt};
+ghost use Rattle.leaf_array.specs.Edits.{removed, upserted};
+ghost use Rattle.leaf_array.specs.Pairs.{has_key, IsAscending};
+ghost use Rattle.leaf_array.specs.Values.{ClonesAreSame};
+ghost use Rattle.tree_index.specs.Cuts.{IsCut, key_at};
+ghost use Rattle.leaf_array.specs.Results.{is_removal, IsSuccess, IsDuplicate, IsFull, given_back};
+
+use leaf_array::{Array, InsertResult, RemoveResult};
+use std::alloc::AllocError;
+use std::cmp::Ordering;
+use std::mem;
+
+/// An array of pairs, and the numbers of the leaves before and behind it.
+#[derive(Drop)]
+pub struct Leaf<K: Ord, V> {
+    pub(crate) array: Array<K, V>,
+    pub(crate) prev: usize,
+    pub(crate) next: usize,
+}
+
+/// The number before the first leaf, and behind the last.
+pub(crate) const NONE: usize = usize::MAX;
+
+impl<K: Ord, V> Leaf<K, V> {
+    /// Inserts a pair, and where `UPSERT` is true puts it in the place of the one that has its key.
+    #[inline(always)]
+    pub(crate) fn insert<const UPSERT: bool>(&mut self, key: K, val: V) -> InsertResult<K, V>
+        requires { self.old.array.frozen ≡ false }
+        ensures thawed { self.new.array.frozen ≡ false }
+        ensures prev { self.new.prev ≡ self.old.prev }
+        ensures next { self.new.next ≡ self.old.next }
+        ensures back { IfSome (given_back result) (λ p. p ≡ (key, val)) }
+        ensures kept { IsSome (given_back result) → self.new.array ≡ self.old.array }
+        ensures full { IsFull result → IsTrue (self.old.array.retired || self.old.array.used == 15) }
+        ensures duplicate { IsDuplicate result → has_key K.cmp key self.old.array.pairs ≡ true }
+        ensures repeated { IsDuplicate result → UPSERT ≡ false }
+        ensures unique { IsSuccess result → UPSERT ≡ false → has_key K.cmp key self.old.array.pairs ≡ false }
+        ensures done { IsSuccess result → self.new.array.pairs ≡ upserted K.cmp key val self.old.array.pairs }
+    {
+        let _ = self.array.len();
+        self.array.insert::<UPSERT>(key, val)
+    }
+
+    /// Removes the pair with this key, if the condition answers true of its value.
+    #[inline(always)]
+    pub(crate) fn remove_if<F: FnOnce(&V) -> bool>(&mut self, key: &K, condition: F) -> bool
+    where
+        F: Drop,
+        requires callable { F.IsAlwaysCallable condition }
+        requires thawed { self.old.array.frozen ≡ false }
+        ensures thawed { self.new.array.frozen ≡ false }
+        ensures prev { self.new.prev ≡ self.old.prev }
+        ensures next { self.new.next ≡ self.old.next }
+        ensures absent { lookup_entry (is_at (K.cmp key.now)) self.old.array.pairs ≡ None → result ≡ false }
+        ensures asked { IfSome (lookup_entry (is_at (K.cmp key.now)) self.old.array.pairs) (λ e. FnOnceReturnsAt F.FnOnce condition e.1 result) }
+        ensures removed { result ≡ true → self.new.array.pairs ≡ removed K.cmp key.now self.old.array.pairs }
+        ensures kept { result ≡ false → self.new.array ≡ self.old.array }
+    {
+        let _ = self.array.len();
+        is_removal(self.array.remove_if(key, condition))
+    }
+
+    /// How many pairs the leaf has. They rise.
+    #[inline(always)]
+    pub(crate) fn len(&self) -> usize
+        ensures count { result ≡ length self.now.array.pairs }
+        ensures rising { IsAscending K.cmp self.now.array.pairs }
+        ensures within { result ≤ 15 }
+    {
+        self.array.len()
+    }
+
+    /// Drops what was removed or replaced, so that its places are clear again.
+    pub(crate) fn pack(&mut self)
+    where
+        K: Drop,
+        V: Drop,
+        ensures pairs { self.new.array.pairs ≡ self.old.array.pairs }
+        ensures thawed { self.new.array.frozen ≡ self.old.array.frozen }
+        ensures living { self.new.array.retired ≡ false }
+        ensures used { self.new.array.used ≡ length self.old.array.pairs }
+        ensures prev { self.new.prev ≡ self.old.prev }
+        ensures next { self.new.next ≡ self.old.next }
+    {
+        self.array.pack();
+    }
+
+    /// Where the leaf is cut so that the key has room: behind its greatest pair if the key is greater
+    /// still, so that pairs which come by rising keys fill their leaves, else in its middle.
+    pub(crate) fn cut(&self, key: &K) -> Result<Cut<K>, AllocError>
+    where
+        K: Clone,
+        requires clones { ClonesAreSame K.is_clone }
+        requires crowded { 12 ≤ length self.now.array.pairs }
+        ensures { IfOk result (λ cut. IsCut K.cmp key.now self.now.array.pairs cut) }
+    {
+        let greatest = self.key(self.array.len() - 1);
+        match greatest.cmp(key) {
+            Ordering::Less => Ok(Cut {
+                separator: greatest.clone()?,
+                whole: true,
+            }),
+            _ => Ok(Cut {
+                separator: self.key(7).clone()?,
+                whole: false,
+            }),
+        }
+    }
+
+    /// The key of the pair at a place.
+    fn key(&self, at: usize) -> &K
+        requires { at < length self.now.array.pairs }
+        ensures { key_at self.now.array.pairs at ≡ Some result.now }
+    {
+        match self.array.pair(at) {
+            Some((key, _)) => key,
+            None => unreachable!(),
+        }
+    }
+
+    /// Moves the pairs up to the cut to an array of their own.
+    pub(crate) fn split(&mut self, whole: bool) -> Array<K, V>
+    where
+        K: Drop,
+        V: Drop,
+        ensures lower { result.pairs ≡ take (cond whole (length self.old.array.pairs) 8) self.old.array.pairs }
+        ensures upper { self.new.array.pairs ≡ drop (cond whole (length self.old.array.pairs) 8) self.old.array.pairs }
+        ensures lower_thawed { self.old.array.frozen ≡ false → result.frozen ≡ false }
+        ensures upper_thawed { self.old.array.frozen ≡ false → self.new.array.frozen ≡ false }
+        ensures lower_living { result.retired ≡ (whole && self.old.array.retired) }
+        ensures upper_living { self.new.array.retired ≡ false }
+        ensures lower_used { whole ≡ false → result.used ≤ 8 }
+        ensures upper_used { self.new.array.used ≤ 7 }
+        ensures rising { IsAscending K.cmp self.old.array.pairs }
+        ensures lower_rising { IsAscending K.cmp result.pairs }
+        ensures upper_rising { IsAscending K.cmp self.new.array.pairs }
+        ensures prev { self.new.prev ≡ self.old.prev }
+        ensures next { self.new.next ≡ self.old.next }
+    {
+        let _ = self.array.len();
+        let lower = if whole {
+            mem::replace(&mut self.array, Array::new())
+        } else {
+            self.array.split_half()
+        };
+        let _ = lower.len();
+        let _ = self.array.len();
+        lower
+    }
+}
+
+/// Whether a pair was removed.
+#[inline(always)]
+fn is_removal(answer: RemoveResult) -> bool
+    ensures { result ≡ is_removal answer }
+{
+    match answer {
+        RemoveResult::Success | RemoveResult::Retired => true,
+        RemoveResult::Fail | RemoveResult::Frozen => false,
+    }
+}
+
+/// Where a leaf is cut: the greatest key below the cut, and whether all of its pairs are below it.
+#[derive(Drop)]
+pub(crate) struct Cut<K> {
+    pub(crate) separator: K,
+    pub(crate) whole: bool,
+}

@@ -1,0 +1,27 @@
+//! An ordered index: a B+ tree whose leaves and nodes stand in two arenas.
+//!
+//! [`TreeIndex`] is one list of pairs, strictly ascending by key, to every contract; under it stand
+//! leaves of at most fifteen pairs and nodes of at most sixteen children (`leaf_array::Array`). A
+//! look-up follows one path and clones nothing. An insertion that finds its leaf full makes room
+//! first: it packs the leaf or splits it, and the full nodes above it, and needs memory for that
+//! before anything is changed; so a refused one leaves the tree as it was. Reads, removals and
+//! `clear` take no memory.
+//!
+//! ```
+//! let mut tree = TreeIndex::new(alloc);
+//! tree.insert_sync(2, "two")?;
+//! tree.upsert_sync(1, "one")?;
+//! tree.peek(&1); // Some(&"one")
+//! tree.remove_sync(&2); // true
+//! ```
+#![tactic(auto)]
+
+mod arenas;
+mod index;
+mod leaf;
+mod node;
+mod split;
+#[cfg(test)]
+mod tests;
+
+pub use index::{InsertRefused, TreeIndex};

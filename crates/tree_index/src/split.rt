@@ -1,0 +1,287 @@
+//! Room for one more pair: what is full on the way to its key is split.
+
+ghost use Rattle.std.specs.Prelude.{◌≡◌, ◌≢◌, ◌≤◌, ◌<◌, ◌+◌, ◌-◌, IfSome, IfOk, OnOk, OnErr, true, false, not, nat_lt, length};
+ghost use Rattle.leaf_array.specs.Values.{ClonesAreSame};
+ghost use Rattle.slab.specs.Slab.{get, HasRoomFor, slab_len};
+ghost use Rattle.tree_index.specs.Content.{pairs_of, IsSound, HasRoom, NodeHasRoom, IsNodeFull, IsCutThere, AreSameArrays, leaf_on_way};
+
+use crate::arenas::Arenas;
+use crate::leaf::{Cut, Leaf, NONE};
+use crate::node::Branches;
+use leaf_array::Array;
+use slab::Slab;
+use std::alloc::AllocError;
+
+/// A leaf with fewer pairs than this is packed where it has no room, one with as many is split.
+const CROWDED: usize = 12;
+
+impl<K: Ord, V> Arenas<K, V> {
+    /// Makes room for one more pair in the leaf on the way to a key. The pairs stay as they are, and so
+    /// does the height where memory is refused.
+    #[cold]
+    #[inline(never)]
+    pub(crate) fn make_room(&mut self, key: &K) -> Result<(), AllocError>
+    where
+        K: Clone + Drop,
+        V: Drop,
+        requires sound { IsSound K.cmp self.old }
+        requires clones { ClonesAreSame K.is_clone }
+        ensures sound { IsSound K.cmp self.new }
+        ensures pairs { pairs_of self.new ≡ pairs_of self.old }
+        ensures room { OnOk result (HasRoom K.cmp key.now self.new) }
+        ensures refused { OnErr result (self.new.height ≡ self.old.height) }
+    {
+        if self.height == 0 {
+            return self.plant(key);
+        }
+        if !self.is_crowded(key) {
+            self.pack(key);
+            return Ok(());
+        }
+        let cut = self.cut(key)?;
+        self.leaves.reserve(1)?;
+        self.nodes.reserve(1)?;
+        let _ = self.nodes.capacity();
+        self.nodes.reserve(self.height + 1)?;
+        self.split_nodes(key);
+        self.split_leaf(key, cut);
+        Ok(())
+    }
+
+    /// Plants a first leaf under a first node.
+    fn plant(&mut self, key: &K) -> Result<(), AllocError>
+    where
+        K: Drop,
+        V: Drop,
+        requires sound { IsSound K.cmp self.old }
+        requires bare { self.old.height ≡ 0 }
+        ensures sound { IsSound K.cmp self.new }
+        ensures pairs { pairs_of self.new ≡ pairs_of self.old }
+        ensures room { OnOk result (HasRoom K.cmp key.now self.new) }
+        ensures refused { OnErr result (self.new.height ≡ self.old.height) }
+    {
+        let _ = key;
+        self.leaves.reserve(1)?;
+        self.nodes.reserve(1)?;
+        let leaf = self.leaves.insert_reserved(Leaf {
+            array: Array::new(),
+            prev: NONE,
+            next: NONE,
+        });
+        self.root = self.nodes.insert_reserved(Branches {
+            children: Array::new(),
+            last: leaf,
+        });
+        self.height = 1;
+        Ok(())
+    }
+
+    /// Whether the leaf on the way to a key has so many pairs that it is to be split.
+    fn is_crowded(&self, key: &K) -> bool
+        requires sound { IsSound K.cmp self.now }
+        requires planted { self.now.height ≢ 0 }
+        ensures { IfSome (get self.now.leaves (leaf_on_way K.cmp key.now self.now)) (λ l. result ≡ not (nat_lt (length l.array.pairs) 12)) }
+    {
+        match self.leaves.get(self.leaf_of(key)) {
+            Some(leaf) => leaf.len() >= CROWDED,
+            None => unreachable!(),
+        }
+    }
+
+    /// Packs the leaf on the way to a key.
+    fn pack(&mut self, key: &K)
+    where
+        K: Drop,
+        V: Drop,
+        requires sound { IsSound K.cmp self.old }
+        requires planted { self.old.height ≢ 0 }
+        requires sparse { IfSome (get self.old.leaves (leaf_on_way K.cmp key.now self.old)) (λ l. length l.array.pairs < 12) }
+        ensures sound { IsSound K.cmp self.new }
+        ensures pairs { pairs_of self.new ≡ pairs_of self.old }
+        ensures room { HasRoom K.cmp key.now self.new }
+        ensures height { self.new.height ≡ self.old.height }
+    {
+        let at = self.leaf_of(key);
+        match self.leaves.get_mut(at) {
+            Some(leaf) => {
+                let _ = leaf.len();
+                leaf.pack();
+            },
+            None => unreachable!(),
+        }
+    }
+
+    /// Where the leaf on the way to a key is cut.
+    fn cut(&self, key: &K) -> Result<Cut<K>, AllocError>
+    where
+        K: Clone,
+        requires sound { IsSound K.cmp self.now }
+        requires planted { self.now.height ≢ 0 }
+        requires clones { ClonesAreSame K.is_clone }
+        requires crowded { IfSome (get self.now.leaves (leaf_on_way K.cmp key.now self.now)) (λ l. 12 ≤ length l.array.pairs) }
+        ensures { IfOk result (λ cut. IsCutThere K.cmp key.now self.now cut) }
+    {
+        match self.leaves.get(self.leaf_of(key)) {
+            Some(leaf) => leaf.cut(key),
+            None => unreachable!(),
+        }
+    }
+
+    /// Whether the node at a height on the way to a key is full.
+    fn is_full(&self, left: usize, key: &K) -> bool
+        requires sound { IsSound K.cmp self.now }
+        requires least { 0 < left }
+        requires most { left ≤ self.now.height }
+        ensures full { result ≡ true → IsNodeFull K.cmp key.now self.now left }
+        ensures room { result ≡ false → NodeHasRoom K.cmp key.now self.now left }
+    {
+        match self.nodes.get(self.node_at(left, key)) {
+            Some(node) => node.is_full(),
+            None => unreachable!(),
+        }
+    }
+
+    /// Makes room in the lowest node on the way to a key: where it is full, all that are full are split.
+    fn split_nodes(&mut self, key: &K)
+    where
+        K: Drop,
+        requires sound { IsSound K.cmp self.old }
+        requires planted { self.old.height ≢ 0 }
+        requires nodes { HasRoomFor self.old.nodes (self.old.height + 1) }
+        ensures sound { IsSound K.cmp self.new }
+        ensures pairs { pairs_of self.new ≡ pairs_of self.old }
+        ensures leaves { self.new.leaves ≡ self.old.leaves }
+        ensures leaf { leaf_on_way K.cmp key.now self.new ≡ leaf_on_way K.cmp key.now self.old }
+        ensures room { NodeHasRoom K.cmp key.now self.new 1 }
+        ensures planted { self.new.height ≢ 0 }
+    {
+        if !self.is_full(1, key) {
+            return;
+        }
+        if self.is_full(self.height, key) {
+            self.raise(key);
+        }
+        let mut left = self.height;
+        while left > 1 {
+            left -= 1;
+            if self.is_full(left, key) {
+                self.split_node(left, key);
+            }
+        }
+    }
+
+    /// Puts a new root above the present one.
+    fn raise(&mut self, key: &K)
+    where
+        K: Drop,
+        requires sound { IsSound K.cmp self.old }
+        requires planted { self.old.height ≢ 0 }
+        requires room { HasRoomFor self.old.nodes 1 }
+        ensures sound { IsSound K.cmp self.new }
+        ensures pairs { pairs_of self.new ≡ pairs_of self.old }
+        ensures leaves { self.new.leaves ≡ self.old.leaves }
+        ensures leaf { leaf_on_way K.cmp key.now self.new ≡ leaf_on_way K.cmp key.now self.old }
+        ensures height { self.new.height ≡ self.old.height + 1 }
+        ensures room { NodeHasRoom K.cmp key.now self.new self.new.height }
+        ensures used { slab_len self.new.nodes ≡ slab_len self.old.nodes + 1 }
+        ensures capacity { self.new.nodes.capacity ≡ self.old.nodes.capacity }
+    {
+        let _ = key;
+        self.root = self.nodes.insert_reserved(Branches {
+            children: Array::new(),
+            last: self.root,
+        });
+        let _ = self.nodes.len();
+        self.height += 1;
+    }
+
+    /// Splits the full node at a height on the way to a key, whose parent has room.
+    fn split_node(&mut self, left: usize, key: &K)
+    where
+        K: Drop,
+        requires sound { IsSound K.cmp self.old }
+        requires least { 0 < left }
+        requires most { left < self.old.height }
+        requires full { IsNodeFull K.cmp key.now self.old left }
+        requires parent { NodeHasRoom K.cmp key.now self.old (left + 1) }
+        requires room { HasRoomFor self.old.nodes 1 }
+        ensures sound { IsSound K.cmp self.new }
+        ensures pairs { pairs_of self.new ≡ pairs_of self.old }
+        ensures leaves { self.new.leaves ≡ self.old.leaves }
+        ensures leaf { leaf_on_way K.cmp key.now self.new ≡ leaf_on_way K.cmp key.now self.old }
+        ensures height { self.new.height ≡ self.old.height }
+        ensures node { NodeHasRoom K.cmp key.now self.new left }
+        ensures used { slab_len self.new.nodes ≡ slab_len self.old.nodes + 1 }
+        ensures capacity { self.new.nodes.capacity ≡ self.old.nodes.capacity }
+    {
+        let above = self.node_at(left + 1, key);
+        let child = self.node_at(left, key);
+        let (separator, lower) = match self.nodes.get_mut(child) {
+            Some(node) => node.split(),
+            None => unreachable!(),
+        };
+        let fresh = self.nodes.insert_reserved(lower);
+        match self.nodes.get_mut(above) {
+            Some(node) => node.insert(separator, fresh),
+            None => unreachable!(),
+        }
+    }
+
+    /// Splits the leaf on the way to a key, whose node has room.
+    fn split_leaf(&mut self, key: &K, cut: Cut<K>)
+    where
+        K: Drop,
+        V: Drop,
+        requires sound { IsSound K.cmp self.old }
+        requires planted { self.old.height ≢ 0 }
+        requires cut { IsCutThere K.cmp key.now self.old cut }
+        requires parent { NodeHasRoom K.cmp key.now self.old 1 }
+        requires room { HasRoomFor self.old.leaves 1 }
+        ensures sound { IsSound K.cmp self.new }
+        ensures pairs { pairs_of self.new ≡ pairs_of self.old }
+        ensures room { HasRoom K.cmp key.now self.new }
+    {
+        let above = self.node_at(1, key);
+        let child = self.leaf_of(key);
+        let (lower, before) = match self.leaves.get_mut(child) {
+            Some(leaf) => (leaf.split(cut.whole), leaf.prev),
+            None => unreachable!(),
+        };
+        let fresh = self.leaves.insert_reserved(Leaf {
+            array: lower,
+            prev: before,
+            next: child,
+        });
+        link(&mut self.leaves, before, fresh, child);
+        match self.nodes.get_mut(above) {
+            Some(node) => node.insert(cut.separator, fresh),
+            None => unreachable!(),
+        }
+    }
+}
+
+/// Links a new leaf in between two.
+fn link<K: Ord, V>(leaves: &mut Slab<Leaf<K, V>>, before: usize, fresh: usize, behind: usize)
+    ensures { AreSameArrays leaves.old leaves.new }
+{
+    set_prev(leaves, behind, fresh);
+    set_next(leaves, before, fresh);
+}
+
+/// Names the leaf before one, if that is there.
+fn set_prev<K: Ord, V>(leaves: &mut Slab<Leaf<K, V>>, at: usize, prev: usize)
+    ensures { AreSameArrays leaves.old leaves.new }
+{
+    if let Some(leaf) = leaves.get_mut(at) {
+        leaf.prev = prev;
+    }
+}
+
+/// Names the leaf behind one, if that is there.
+fn set_next<K: Ord, V>(leaves: &mut Slab<Leaf<K, V>>, at: usize, next: usize)
+    ensures { AreSameArrays leaves.old leaves.new }
+{
+    if let Some(leaf) = leaves.get_mut(at) {
+        leaf.next = next;
+    }
+}

@@ -1,0 +1,86 @@
+//! Trees by example.
+
+use super::*;
+use std::test::Fail;
+
+#[test]
+fn a_new_tree_has_depth_0_and_one_pair_makes_it_1(rt: HostRuntime) -> Result<(), Fail> {
+    let mut tree: TreeIndex<u64, u64> = TreeIndex::new(rt.alloc());
+    assert_eq!(rt; tree.depth(), 0);
+    assert!(rt; tree.insert_sync(1, 10).is_ok());
+    match tree.insert_sync(1, 11) {
+        Err(InsertRefused::Duplicate(key, val)) => assert_eq!(rt; (key, val), (1, 11)),
+        _ => panic!(rt; "not refused"),
+    }
+    assert_eq!(rt; tree.peek(&1), Some(&10));
+    assert_eq!(rt; tree.depth(), 1);
+    Ok(())
+}
+
+#[test]
+fn ascending_keys_up_to_225_make_one_node(rt: HostRuntime) -> Result<(), Fail> {
+    let mut tree: TreeIndex<u64, u64> = TreeIndex::new(rt.alloc());
+    for key in 1..=225u64 {
+        assert!(rt; tree.insert_sync(key, key).is_ok());
+        assert_eq!(rt; tree.depth(), 1);
+    }
+    assert_eq!(rt; tree.len(), 225);
+    for key in 0..=226u64 {
+        assert_eq!(rt; tree.peek(&key).is_some(), 1 <= key && key <= 225);
+    }
+    Ok(())
+}
+
+#[test]
+fn keys_in_any_order_are_found_and_removed(rt: HostRuntime) -> Result<(), Fail> {
+    let mut tree: TreeIndex<u64, u64> = TreeIndex::new(rt.alloc());
+    let mut key = 1u64;
+    for _ in 0..6000u32 {
+        key = key
+            .wrapping_mul(6364136223846793005)
+            .wrapping_add(1442695040888963407);
+        assert!(rt; tree.insert_sync(key, !key).is_ok());
+    }
+    assert_eq!(rt; tree.len(), 6000);
+    assert!(rt; tree.depth() >= 3);
+    key = 1;
+    for _ in 0..6000u32 {
+        key = key
+            .wrapping_mul(6364136223846793005)
+            .wrapping_add(1442695040888963407);
+        assert_eq!(rt; tree.peek(&key), Some(&!key));
+        assert!(rt; tree.peek(&key.wrapping_add(1)).is_none());
+        if key % 3 == 0 {
+            assert!(rt; tree.remove_sync(&key));
+            assert!(rt; !tree.remove_sync(&key));
+        }
+    }
+    key = 1;
+    for _ in 0..6000u32 {
+        key = key
+            .wrapping_mul(6364136223846793005)
+            .wrapping_add(1442695040888963407);
+        assert_eq!(rt; tree.peek(&key).is_some(), key % 3 != 0);
+        assert!(rt; tree.upsert_sync(key, key).is_ok());
+        assert_eq!(rt; tree.peek(&key), Some(&key));
+    }
+    assert_eq!(rt; tree.len(), 6000);
+    tree.clear();
+    assert_eq!(rt; tree.depth(), 0);
+    assert!(rt; tree.is_empty());
+    Ok(())
+}
+
+#[test]
+fn an_upsert_replaces_the_value(rt: HostRuntime) -> Result<(), Fail> {
+    let mut tree: TreeIndex<u64, u64> = TreeIndex::new(rt.alloc());
+    for val in 10..13u64 {
+        assert!(rt; tree.upsert_sync(1, val).is_ok());
+        assert_eq!(rt; tree.peek(&1), Some(&val));
+    }
+    for _ in 0..100u32 {
+        assert!(rt; tree.upsert_sync(1, 7).is_ok());
+    }
+    assert_eq!(rt; tree.len(), 1);
+    Ok(())
+}
