@@ -6,3 +6,4 @@ pub mod Places
 pub mod Frames
 pub mod Sweeps
 pub mod Counts
+pub mod Privates

@@ -7,9 +7,11 @@
 
 mod bags;
 pub mod cell;
+pub mod collector;
 pub mod epoch;
 pub mod guard;
 pub mod holds;
+pub mod job;
 pub mod laws;
 pub mod owner;
 pub mod pointer;

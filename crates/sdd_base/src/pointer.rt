@@ -1,6 +1,6 @@
 //! Pointers to items: plain data, a slot or none, and a tag.
 
-ghost use Rattle.std.specs.Prelude.{◌≡◌, IsTrue, None, Some, ◌↔◌};
+ghost use Rattle.std.specs.Prelude.{◌≡◌, ℕ, Option, IsTrue, None, Some, ◌↔◌};
 ghost use Rattle.sdd_base.specs.Tokens.{ptr_slot, ptr_tag, raw_slot, raw_tag};
 
 use crate::tag::Tag;
@@ -20,6 +20,34 @@ pub struct RawPtr<T> {
     pub(crate) slot: Option<usize>,
     pub(crate) tag: Tag,
     pub(crate) of: PhantomData<T>,
+}
+
+/// Pointers that a call makes of what it found, to lend them to a closure.
+pub trait Found<T>: Sized {
+    ghost use Rattle.sdd_base.specs.declared.tag.Tag.{Tag};
+
+    /// The slot that it names, or none, and its tag.
+    ghost names: { Self → Option ℕ };
+
+    ghost tagged: { Self → Tag };
+
+    fn found(slot: Option<usize>, tag: Tag) -> Self
+        ensures names { names result ≡ slot }
+        ensures tagged { tagged result ≡ tag };
+}
+
+impl<'g, T> Found<T> for Ptr<'g, T> {
+    ghost names = { λ r. ptr_slot r };
+
+    ghost tagged = { λ r. ptr_tag r };
+
+    fn found(slot: Option<usize>, tag: Tag) -> Ptr<'g, T> {
+        Ptr {
+            slot,
+            tag,
+            of: PhantomData,
+        }
+    }
 }
 
 impl<'g, T> Ptr<'g, T> {

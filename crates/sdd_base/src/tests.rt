@@ -2,9 +2,11 @@ ghost use Rattle.std.specs.Prelude.{◌≡◌, ◌<◌, ◌≤◌, length, IfOk}
 ghost use Rattle.sdd_base.specs.State.{fresh};
 ghost use Rattle.sdd_base.specs.Frame.{OnlyOf};
 
+use crate::collector::PrivateCollector;
 use crate::epoch::Epoch;
 use crate::guard::WorldGuard;
 use crate::holds::{Held, Holds};
+use crate::job::{Job, Task};
 use crate::owner::{Owned, Shared};
 use crate::refusal::NoSlot;
 use crate::sizes::Sizes;
@@ -13,6 +15,8 @@ use crate::world;
 use crate::world::World;
 use std::alloc::{AllocError, Global};
 use std::process::Abort;
+use std::sync::Arc;
+use std::sync::atomic::{AtomicU32, Ordering};
 use std::test::Fail;
 
 /// A world of numbers with two participants.
@@ -294,6 +298,118 @@ fn refusals_give_the_value_back(rt: HostRuntime) -> Result<(), Fail> {
     }
     assert_eq!(rt; w.slots_in_use(), 1);
     world::atomic_owned::retire(&mut w, cell, 1);
+    assert!(rt; passes(&mut w, 1, 4));
+    assert_eq!(rt; w.slots_in_use(), 0);
+    Ok(())
+}
+
+/// Counts how often it runs.
+#[derive(Drop)]
+struct Count {
+    runs: Arc<AtomicU32>,
+}
+
+impl Task for Count {
+    fn run(&mut self) {
+        self.runs.fetch_add(1, Ordering::SeqCst);
+    }
+}
+
+/// A job that counts how often it runs.
+fn counting(alloc: Global, runs: &Arc<AtomicU32>) -> Result<Job, AllocError> {
+    let count = Count {
+        runs: runs.clone()?,
+    };
+    Ok(Job::new(Box::new(alloc, count)?))
+}
+
+#[test]
+fn a_job_runs_once_when_the_fourth_guard_opens(rt: HostRuntime) -> Result<(), Fail> {
+    let sizes = Sizes {
+        participants: 1,
+        slots: 0,
+        cells: 0,
+        jobs: 1,
+    };
+    let mut w: World<u64> = World::new(rt.alloc(), sizes)?;
+    let runs = Arc::new(rt.alloc(), AtomicU32::new(0))?;
+    let other = Arc::new(rt.alloc(), AtomicU32::new(0))?;
+    let job = counting(rt.alloc(), &runs)?;
+    let another = counting(rt.alloc(), &other)?;
+    let Ok(first) = world::guard::new(&mut w, 0) else {
+        panic!(rt; "no guard is open");
+    };
+    world::guard::accelerate(&mut w, &first);
+    assert!(rt; world::guard::defer_execute(&mut w, &first, job).is_ok());
+    match world::guard::defer_execute(&mut w, &first, another) {
+        Err(job) => job.run(),
+        Ok(()) => panic!(rt; "the one place has a job"),
+    }
+    assert_eq!(rt; other.load(Ordering::SeqCst), 1);
+    world::guard::close(&mut w, first);
+    assert!(rt; passes(&mut w, 0, 2));
+    assert_eq!(rt; runs.load(Ordering::SeqCst), 0);
+    let Ok(fourth) = world::guard::new(&mut w, 0) else {
+        panic!(rt; "no guard is open");
+    };
+    assert_eq!(rt; runs.load(Ordering::SeqCst), 1);
+    world::guard::close(&mut w, fourth);
+    assert!(rt; passes(&mut w, 0, 8));
+    assert_eq!(rt; runs.load(Ordering::SeqCst), 1);
+    assert!(rt; w.close().is_ok());
+    Ok(())
+}
+
+#[test]
+fn a_collector_hands_over_what_it_keeps(rt: HostRuntime) -> Result<(), Fail> {
+    let mut w = numbers(rt.alloc(), 1, 0)?;
+    let mut collector = world::private_collector::new(rt.alloc(), &w)?;
+    let Ok(guard) = world::guard::new(&mut w, 0) else {
+        panic!(rt; "no guard is open");
+    };
+    let Ok(owned) = world::owned::new(&mut w, 5) else {
+        panic!(rt; "a slot is free");
+    };
+    world::private_collector::collect_owned(&mut w, &mut collector, owned, &guard);
+    world::guard::close(&mut w, guard);
+    world::private_collector::hand_over(&mut w, collector, 0);
+    match world::owned::new(&mut w, 6) {
+        Err(value) => assert_eq!(rt; value, 6),
+        Ok(_) => panic!(rt; "the item waits"),
+    }
+    assert!(rt; passes(&mut w, 0, 4));
+    assert_eq!(rt; w.slots_in_use(), 0);
+    Ok(())
+}
+
+/// Collects a new item under a guard of participant 0, and answers how many slots are in use then.
+fn collect_one<R: Abort>(rt: &R, w: &mut World<u64>, collector: &mut PrivateCollector<u64>) -> usize
+    requires { 0 < length w.old.members }
+    ensures { length w.new.members ≡ length w.old.members }
+{
+    let Ok(guard) = world::guard::new(w, 0) else {
+        panic!(rt; "no guard is open");
+    };
+    match world::shared::new(w, 7) {
+        Ok(shared) => world::private_collector::collect_shared(w, collector, shared, &guard),
+        Err(_) => panic!(rt; "a slot is free"),
+    };
+    let used = w.slots_in_use();
+    world::guard::accelerate(w, &guard);
+    world::guard::close(w, guard);
+    used
+}
+
+#[test]
+fn a_later_collect_reclaims_what_three_raises_let_go(rt: HostRuntime) -> Result<(), Fail> {
+    let mut w = numbers(rt.alloc(), 4, 0)?;
+    let mut collector = world::private_collector::new(rt.alloc(), &w)?;
+    let mut used = [0usize; 5];
+    for n in 0..5 {
+        used[n] = collect_one(&rt, &mut w, &mut collector);
+    }
+    world::private_collector::hand_over(&mut w, collector, 1);
+    assert_eq!(rt; used, [1, 2, 3, 3, 3]);
     assert!(rt; passes(&mut w, 1, 4));
     assert_eq!(rt; w.slots_in_use(), 0);
     Ok(())

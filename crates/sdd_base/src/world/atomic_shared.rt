@@ -1,7 +1,7 @@
 //! Cells that keep one owner of an item, or none, with a tag.
 
 ghost use Rattle.std.specs.Prelude.{◌≡◌, ◌≢◌, ◌<◌, ℕ, ◌+◌, length, IfOk, IfErr, IfSome, IfNone, OnErr, Some, None, IsTrue, IsFalse, ◌↔◌, ◌⊎◌, MatchResult, Option};
-ghost use Rattle.sdd_base.specs.State.{IsFree, NoneFree, IsFreeCell, NoCellFree, placed, with_cell, cell_at, status_at, with_status};
+ghost use Rattle.sdd_base.specs.State.{marks_at, IsFree, NoneFree, IsFreeCell, NoCellFree, placed, with_cell, cell_at, status_at, with_status};
 ghost use Rattle.sdd_base.specs.Steps.{shared_ended};
 ghost use Rattle.sdd_base.specs.Frame.{Keeps, OnlyOf};
 ghost use Rattle.sdd_base.specs.Place.{IsSharedCell};
@@ -10,7 +10,7 @@ ghost use Rattle.sdd_base.specs.Tokens.{shared_cell, shared_slot, shared_slots, 
 use crate::cell::AtomicShared;
 use crate::guard::WorldGuard;
 use crate::owner::Shared;
-use crate::pointer::Ptr;
+use crate::pointer::{Found, Ptr};
 use crate::reclaim;
 use crate::refusal::NoSlot;
 use crate::status::{Cell, Status};
@@ -133,7 +133,7 @@ pub fn swap<T>(
 }
 
 /// Sets the tag if `f` answers true for what the cell keeps, and answers what `f` did. It is called once.
-pub fn update_tag_if<'g, T: 'g, F: FnOnce(Ptr<'g, T>) -> bool>(
+pub fn update_tag_if<T, P: Found<T>, F: FnOnce(P) -> bool>(
     w: &mut World<T>,
     cell: &AtomicShared<T>,
     tag: Tag,
@@ -141,18 +141,13 @@ pub fn update_tag_if<'g, T: 'g, F: FnOnce(Ptr<'g, T>) -> bool>(
 ) -> bool
     requires cell { IsSharedCell w.old (shared_cell cell.now) }
     requires callable { F.IsAlwaysCallable f }
-    ensures asked { (r : Ptr _) × (cell_at w.old (shared_cell cell.now) ≡ Cell.OfShared (ptr_slot r) (ptr_tag r)) × F.post f r result × (IsTrue result → w.new ≡ with_cell (shared_cell cell.now) (Cell.OfShared (ptr_slot r) tag) w.old) }
+    ensures asked { (r : P) × (cell_at w.old (shared_cell cell.now) ≡ Cell.OfShared (P.names r) (P.tagged r)) × F.post f r result × (IsTrue result → w.new ≡ with_cell (shared_cell cell.now) (Cell.OfShared (P.names r) tag) w.old) }
     ensures kept { IsFalse result → w.new ≡ w.old }
     ensures keeps { Keeps w.old w.new }
 {
     match w.table.cell(cell.cell) {
         Cell::OfShared(slot, old) => {
-            let found = Ptr {
-                slot,
-                tag: old,
-                of: PhantomData,
-            };
-            if !f(found) {
+            if !f(P::found(slot, old)) {
                 return false;
             }
             w.table.set_cell(cell.cell, Cell::OfShared(slot, tag));
@@ -262,6 +257,7 @@ pub fn retire<T>(w: &mut World<T>, cell: AtomicShared<T>, p: usize)
     requires member { p < length w.old.members }
     requires cell { IsSharedCell w.old (shared_cell cell) }
     ensures ended { w.new ≡ shared_ended p (shared_cell cell) w.old }
+    ensures nests { (q : ℕ) → (marks_at w.new q).nesting ≡ (marks_at w.old q).nesting }
     ensures keeps { Keeps w.old w.new }
     ensures only { OnlyOf p w.old w.new }
 {
