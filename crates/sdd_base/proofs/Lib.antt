@@ -7,3 +7,4 @@ pub mod Frames
 pub mod Sweeps
 pub mod Counts
 pub mod Privates
+pub mod Passes
