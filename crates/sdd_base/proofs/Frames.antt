@@ -7,7 +7,7 @@ use Rattle.std.proofs.lemmas.Bool.Decides.{eqb_tells}
 use Rattle.sdd_base.specs.Holding.{Hold}
 use Rattle.sdd_base.specs.State.{State, Member, nobody, status_at, value_at, member_at, marks_at, is_used, weight, with_marks, marked, with_status, placed, removed, with_cell, raised, is_present}
 use Rattle.sdd_base.specs.Steps.{times, begun, rotated, opened, closed, scanned, scans, closings_after}
-use Rattle.sdd_base.specs.Place.{Sound, IsPlace, IsOpen, IsShared, IsOwnedCell, IsSharedCell, held_times}
+use Rattle.sdd_base.specs.Place.{Sound, IsPlace, IsOpen, IsShared, IsOwnedCell, IsSharedCell, IsRawCell, held_times}
 use Rattle.sdd_base.specs.declared.tag.Tag.{Tag}
 use Rattle.sdd_base.specs.declared.status.Cell.TheVariants as cell
 use Rattle.sdd_base.specs.Frame.{has_owner, IsLive, Protects, Keeps, OnlyOf, IsRun, last_of}
@@ -302,3 +302,6 @@ owned_cell_used {T} w w' c o t inside e = subst (λ (x : State T). IsOwnedCell x
 
 pub shared_cell_used : {T : Type 0} (w w' : State T) (c : ℕ) (o : Option ℕ) (t : Tag) → c < length w.cells → w' ≡ with_cell c (cell.OfShared o t) w → IsSharedCell w' c
 shared_cell_used {T} w w' c o t inside e = subst (λ (x : State T). IsSharedCell x c) (sym e) (record { inside = omega (arith, length-set w.cells c (cell.OfShared o t), inside); item = o; tag = t; is = get_or-set_same w.cells c (cell.OfShared o t) cell.Free inside })
+
+pub raw_cell_used : {T : Type 0} (w w' : State T) (c : ℕ) (o : Option ℕ) (t : Tag) → c < length w.cells → w' ≡ with_cell c (cell.OfRaw o t) w → IsRawCell w' c
+raw_cell_used {T} w w' c o t inside e = subst (λ (x : State T). IsRawCell x c) (sym e) (record { inside = omega (arith, length-set w.cells c (cell.OfRaw o t), inside); item = o; tag = t; is = get_or-set_same w.cells c (cell.OfRaw o t) cell.Free inside })

@@ -547,10 +547,10 @@ all_three false b c e f g = e
 empties : {T : Type 0} (level : T → ℕ) (p : ℕ) (w : State T) → IsPlace w → p < length w.members → NoJobWaits w → WaitsBelow level 0 p w → bags_empty (member_at w p) ≡ true
 empties level p w h known jobs below =
     let none : (j : ℕ) → 1 ≤ held_times j (member_at w p) → ⊥ = λ j s.
-        let used = waits_used (status_at w j) (let bag = bag_waits w p j h.sound known in omega (arith, s, bag)) (jobs j) in
-        let v = some_value (value_at w j) (h.sound.filled j ∙ used) in
-        let less = below j v.0 s v.1 in
-        omega (arith, less) in
+    let used = waits_used (status_at w j) (let bag = bag_waits w p j h.sound known in omega (arith, s, bag)) (jobs j) in
+    let v = some_value (value_at w j) (h.sound.filled j ∙ used) in
+    let less = below j v.0 s v.1 in
+    omega (arith, less) in
     all_three _ _ _ (no_names (member_at w p).current (λ j s. none j (omega (arith, s)))) (no_names (member_at w p).prior (λ j s. none j (omega (arith, s)))) (no_names (member_at w p).oldest (λ j s. none j (omega (arith, s))))
 
 pub passes_reclaim : {T : Type 0} (holds : T → List Hold) → PassesReclaim holds

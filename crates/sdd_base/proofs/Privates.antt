@@ -89,7 +89,7 @@ timely_set c ss i j s inside new old = elim (eqb_tells j i) [
 ]
 
 module _ {T : Type 0} (holds : T → List Hold) where
-  purges_next : (p i : ℕ) (w : State T) → Sound w → p < length w.members → overdue w.count (status_at w i) ≡ true → Purges p w (given_all p (held_in holds (value_at w i)) (removed i w))
+  pub purges_next : (p i : ℕ) (w : State T) → Sound w → p < length w.members → overdue w.count (status_at w i) ≡ true → Purges p w (given_all p (held_in holds (value_at w i)) (removed i w))
   purges_next p i w h known late =
       let n = overdue_noted w.count (status_at w i) late in
       let inside : i < length w.states = inside_by w.states i (status.Collected n.note) (sym n.is) (λ e. cc) in

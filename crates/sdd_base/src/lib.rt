@@ -17,6 +17,8 @@ pub mod owner;
 pub mod pointer;
 mod reclaim;
 pub mod refusal;
+#[cfg(test)]
+mod refusals;
 pub mod sizes;
 pub mod status;
 mod table;

@@ -133,6 +133,7 @@ pub fn swap<T>(
 }
 
 /// Sets the tag if `f` answers true for what the cell keeps, and answers what `f` did. It is called once.
+#[tactic(auto, using(crate::proofs::Frames::owned_cell_used))]
 pub fn update_tag_if<T, P: Found<T>, F: FnOnce(P) -> bool>(
     w: &mut World<T>,
     cell: &AtomicOwned<T>,
@@ -143,6 +144,7 @@ pub fn update_tag_if<T, P: Found<T>, F: FnOnce(P) -> bool>(
     requires callable { F.IsAlwaysCallable f }
     ensures asked { (r : P) × (cell_at w.old (owned_cell cell.now) ≡ Cell.OfOwned (P.names r) (P.tagged r)) × F.post f r result × (IsTrue result → w.new ≡ with_cell (owned_cell cell.now) (Cell.OfOwned (P.names r) tag) w.old) }
     ensures kept { IsFalse result → w.new ≡ w.old }
+    ensures used { IsOwnedCell w.new (owned_cell cell.now) }
     ensures keeps { Keeps w.old w.new }
 {
     match w.table.cell(cell.cell) {
@@ -170,6 +172,7 @@ pub fn compare_exchange<T>(
     ensures exchanged { IfOk result (λ r. (cell_at w.old (owned_cell cell.now) ≡ Cell.OfOwned (ptr_slot current.entry) (ptr_tag current.entry)) × (owned_slots r.0 ≡ ptr_slot current.entry) × (ptr_slot r.1 ≡ owned_slots new.0) × (ptr_tag r.1 ≡ new.1) × (w.new ≡ with_cell (owned_cell cell.now) (Cell.OfOwned (owned_slots new.0) new.1) w.old)) }
     ensures found { IfErr result (λ r. (cell_at w.old (owned_cell cell.now) ≡ Cell.OfOwned (ptr_slot r.1) (ptr_tag r.1)) × (owned_slots r.0 ≡ owned_slots new.0) × (w.new ≡ w.old)) }
     ensures differs { OnErr result (cell_at w.old (owned_cell cell.now) ≢ Cell.OfOwned (ptr_slot current.entry) (ptr_tag current.entry)) }
+    ensures used { IsOwnedCell w.new (owned_cell cell.now) }
     ensures keeps { Keeps w.old w.new }
 {
     match w.table.cell(cell.cell) {
@@ -212,6 +215,7 @@ pub fn compare_exchange_weak<T>(
     ensures exchanged { IfOk result (λ r. (cell_at w.old (owned_cell cell.now) ≡ Cell.OfOwned (ptr_slot current.entry) (ptr_tag current.entry)) × (owned_slots r.0 ≡ ptr_slot current.entry) × (ptr_slot r.1 ≡ owned_slots new.0) × (ptr_tag r.1 ≡ new.1) × (w.new ≡ with_cell (owned_cell cell.now) (Cell.OfOwned (owned_slots new.0) new.1) w.old)) }
     ensures found { IfErr result (λ r. (cell_at w.old (owned_cell cell.now) ≡ Cell.OfOwned (ptr_slot r.1) (ptr_tag r.1)) × (owned_slots r.0 ≡ owned_slots new.0) × (w.new ≡ w.old)) }
     ensures differs { OnErr result (cell_at w.old (owned_cell cell.now) ≢ Cell.OfOwned (ptr_slot current.entry) (ptr_tag current.entry)) }
+    ensures used { IsOwnedCell w.new (owned_cell cell.now) }
     ensures keeps { Keeps w.old w.new }
 {
     compare_exchange(w, cell, current, new, guard)

@@ -133,6 +133,7 @@ pub fn swap<T>(
 }
 
 /// Sets the tag if `f` answers true for what the cell keeps, and answers what `f` did. It is called once.
+#[tactic(auto, using(crate::proofs::Frames::shared_cell_used))]
 pub fn update_tag_if<T, P: Found<T>, F: FnOnce(P) -> bool>(
     w: &mut World<T>,
     cell: &AtomicShared<T>,
@@ -143,6 +144,7 @@ pub fn update_tag_if<T, P: Found<T>, F: FnOnce(P) -> bool>(
     requires callable { F.IsAlwaysCallable f }
     ensures asked { (r : P) × (cell_at w.old (shared_cell cell.now) ≡ Cell.OfShared (P.names r) (P.tagged r)) × F.post f r result × (IsTrue result → w.new ≡ with_cell (shared_cell cell.now) (Cell.OfShared (P.names r) tag) w.old) }
     ensures kept { IsFalse result → w.new ≡ w.old }
+    ensures used { IsSharedCell w.new (shared_cell cell.now) }
     ensures keeps { Keeps w.old w.new }
 {
     match w.table.cell(cell.cell) {
@@ -170,6 +172,7 @@ pub fn compare_exchange<T>(
     ensures exchanged { IfOk result (λ r. (cell_at w.old (shared_cell cell.now) ≡ Cell.OfShared (ptr_slot current.entry) (ptr_tag current.entry)) × (shared_slots r.0 ≡ ptr_slot current.entry) × (ptr_slot r.1 ≡ shared_slots new.0) × (ptr_tag r.1 ≡ new.1) × (w.new ≡ with_cell (shared_cell cell.now) (Cell.OfShared (shared_slots new.0) new.1) w.old)) }
     ensures found { IfErr result (λ r. (cell_at w.old (shared_cell cell.now) ≡ Cell.OfShared (ptr_slot r.1) (ptr_tag r.1)) × (shared_slots r.0 ≡ shared_slots new.0) × (w.new ≡ w.old)) }
     ensures differs { OnErr result (cell_at w.old (shared_cell cell.now) ≢ Cell.OfShared (ptr_slot current.entry) (ptr_tag current.entry)) }
+    ensures used { IsSharedCell w.new (shared_cell cell.now) }
     ensures keeps { Keeps w.old w.new }
 {
     match w.table.cell(cell.cell) {
@@ -212,6 +215,7 @@ pub fn compare_exchange_weak<T>(
     ensures exchanged { IfOk result (λ r. (cell_at w.old (shared_cell cell.now) ≡ Cell.OfShared (ptr_slot current.entry) (ptr_tag current.entry)) × (shared_slots r.0 ≡ ptr_slot current.entry) × (ptr_slot r.1 ≡ shared_slots new.0) × (ptr_tag r.1 ≡ new.1) × (w.new ≡ with_cell (shared_cell cell.now) (Cell.OfShared (shared_slots new.0) new.1) w.old)) }
     ensures found { IfErr result (λ r. (cell_at w.old (shared_cell cell.now) ≡ Cell.OfShared (ptr_slot r.1) (ptr_tag r.1)) × (shared_slots r.0 ≡ shared_slots new.0) × (w.new ≡ w.old)) }
     ensures differs { OnErr result (cell_at w.old (shared_cell cell.now) ≢ Cell.OfShared (ptr_slot current.entry) (ptr_tag current.entry)) }
+    ensures used { IsSharedCell w.new (shared_cell cell.now) }
     ensures keeps { Keeps w.old w.new }
 {
     compare_exchange(w, cell, current, new, guard)
@@ -232,6 +236,31 @@ pub fn get_shared<T>(
         Cell::OfShared(None, _) => None,
         Cell::OfShared(Some(slot), _) => ptr::add_owner(w, slot),
         _ => unreachable!(),
+    }
+}
+
+/// Another cell that keeps an owner of the same item, with the same tag, exactly if a cell is free; it keeps none where
+/// `get_shared` gives none.
+pub fn clone<T>(
+    w: &mut World<T>,
+    cell: &AtomicShared<T>,
+    guard: &WorldGuard,
+) -> Result<AtomicShared<T>, NoSlot>
+    requires { IsSharedCell w.old (shared_cell cell.now) }
+    ensures free { IfOk result (λ c. IsFreeCell w.old (shared_cell c)) }
+    ensures refused { OnErr result ((w.new ≡ w.old) × NoCellFree w.old) }
+    ensures more { (i n : ℕ) (tag : Tag) → cell_at w.old (shared_cell cell.now) ≡ Cell.OfShared (Some i) tag → status_at w.old i ≡ Status.Shared n → n < 4294967295 → IfOk result (λ c. w.new ≡ with_cell (shared_cell c) (Cell.OfShared (Some i) tag) (with_status i (Status.Shared (n + 1)) w.old)) }
+    ensures null { (tag : Tag) → cell_at w.old (shared_cell cell.now) ≡ Cell.OfShared None tag → IfOk result (λ c. w.new ≡ with_cell (shared_cell c) (Cell.OfShared None tag) w.old) }
+    ensures keeps { Keeps w.old w.new }
+{
+    if w.table.has_no_cell() {
+        return Err(NoSlot);
+    }
+    let tag = tag(w, cell);
+    let shared = get_shared(w, cell, guard);
+    match w.table.claim_cell(Cell::OfShared(into_slot(shared), tag)) {
+        Some(cell) => Ok(AtomicShared::of_cell(cell)),
+        None => unreachable!(),
     }
 }
 
