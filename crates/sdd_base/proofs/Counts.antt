@@ -5,8 +5,8 @@ use Rattle.std.proofs.lemmas.List.Sums.{sum_by-set, sum_by-cons, sum_by-append}
 use Rattle.std.proofs.lemmas.Bool.{false≢true}
 use Rattle.std.proofs.lemmas.Bool.Decides.{nat_tests, eqb_tells}
 use Rattle.sdd_base.specs.Holding.{Hold, OwnedItem, SharedItem, OwnedIn, SharedIn}
-use Rattle.sdd_base.specs.State.{State, Member, status_at, value_at, cell_at, member_at, marks_at, placed, with_status, with_cell, with_marks, retired, taken, vacated, weight, is_used, IsFree, IsFreeCell, rotated_bags, turned, raised, is_present, nobody, marked, fresh}
-use Rattle.sdd_base.specs.Steps.{hit, held_in, given, given_all, released_as, disowned_as, owned_ended_as, shared_ended_as, due_reclaimed, due_reclaimed_as, reclaimed, rotated, begun, opened, closed, scanned, scans, closings_after}
+use Rattle.sdd_base.specs.State.{State, Member, status_at, value_at, cell_at, member_at, marks_at, placed, removed, waiting_as, IsIdle, with_status, with_cell, with_marks, retired, taken, vacated, weight, is_used, IsFree, IsFreeCell, rotated_bags, turned, raised, is_present, nobody, marked, fresh}
+use Rattle.sdd_base.specs.Steps.{overdue, purged, set_aside, handed, handed_as, hit, held_in, given, given_all, released_as, disowned_as, owned_ended_as, shared_ended_as, due_reclaimed, due_reclaimed_as, reclaimed, rotated, begun, opened, closed, scanned, scans, closings_after}
 use Rattle.sdd_base.specs.Place.{Sound, IsPlace, IsShared, IsOwned}
 use Rattle.sdd_base.specs.Counting.{same_hold, tally, kept_by, single_owner, shared_owners, keeps_owned, keeps_shared, owners_of, Counted, OwnersAreCounted}
 use Rattle.sdd_base.specs.declared.status.Status.{Status}
@@ -18,6 +18,7 @@ use Rattle.sdd_base.specs.declared.tag.Tag.{Tag}
 use Rattle.sdd_base.proofs.Lists.{hit-same, hit-other}
 use Rattle.sdd_base.proofs.Sounds.{inside_by, due_waiting, reclaims_next, sound_turned}
 use Rattle.std.specs.List.{list_all}
+use Rattle.sdd_base.proofs.Privates.{overdue_noted, purges_next}
 use Rattle.std.proofs.lemmas.List.{length-reverse}
 use Rattle.sdd_base.proofs.Places.{place_begun, get_or-replicate_default}
 use Rattle.std.proofs.lemmas.List.Folds.{sum_by-replicate}
@@ -453,6 +454,81 @@ module _ {T : Type 0} (holds : T → List Hold) where
       fresh_owners (OwnedIn j) n = ap keeps_owned (get_or-replicate_default n.cells j cell.Free)
       fresh_owners (SharedIn j) n = ap keeps_shared (get_or-replicate_default n.cells j cell.Free)
 
+  -- the use of one item changes, and its owners don't
+  use_changed : (i : ℕ) (s : Status) (hand : List Hold) (w w' : State T) → Uses w w' i s → w'.values ≡ w.values → single_owner s ≡ single_owner (status_at w i) → shared_owners s ≡ shared_owners (status_at w i) → Counted holds hand w → Counted holds hand w'
+  use_changed i s hand w w' u v a b h = record {
+    each = λ k.
+        let x = ap (sum_by (λ v. tally k (held_in holds v))) v in
+        let y = ap (sum_by (λ c. tally k (kept_by c))) u.cells in
+        omega (arith, x, y, h.each k, uses_same k w w' i s u a b);
+  }
+
+  out_raw : (i : ℕ) (hand : List Hold) (w : State T) → Counted holds (OwnedItem i ∷ hand) w → Counted holds hand (with_status i status.Raw w)
+  out_raw i hand w h =
+      let o = names_owned i hand w h in
+      drop_owned i status.Raw hand w (with_status i status.Raw w) (record { states = refl; cells = refl; inside = o.inside }) refl (sym (ap single_owner o.is)) (sym (ap shared_owners o.is)) h
+
+  back_raw : (i : ℕ) (hand : List Hold) (w : State T) → status_at w i ≡ status.Raw → Counted holds hand w → Counted holds (OwnedItem i ∷ hand) (with_status i status.Owned w)
+  back_raw i hand w is h = record {
+    each = λ k.
+        let u : Uses w (with_status i status.Owned w) i status.Owned = record { states = refl; cells = refl; inside = inside_by w.states i status.Raw (sym is) (λ f. cc) } in
+        omega (arith, h.each k, tally-cons k (OwnedItem i) hand, uses_single_more k w (with_status i status.Owned w) i status.Owned u (omega (arith, ap single_owner is)) (sym (ap shared_owners is)));
+  }
+
+  collects_owned : (p n i : ℕ) (is : List ℕ) (hand : List Hold) (w : State T) → Counted holds (OwnedItem i ∷ hand) w → Counted holds hand (set_aside p n is i w)
+  collects_owned p n i is hand w h =
+      let o = names_owned i hand w h in
+      let s = status.Collected w.count in
+      let put : Counted holds hand (with_status i s w) = drop_owned i s hand w (with_status i s w) (record { states = refl; cells = refl; inside = o.inside }) refl (sym (ap single_owner o.is)) (sym (ap shared_owners o.is)) h in
+      let out : Counted holds hand (retired p i w) = drop_owned i status.Retired hand w (retired p i w) (record { states = refl; cells = refl; inside = o.inside }) refl (sym (ap single_owner o.is)) (sym (ap shared_owners o.is)) h in
+      elim (ltb (length is) n) as (λ b. Counted holds hand (cond b (with_status i s w) (retired p i w))) [ true ↦ put | false ↦ out ]
+
+  collects_shared : (p n i : ℕ) (is : List ℕ) (hand : List Hold) (w : State T) → status_at w i ≡ status.Shared 1 → Counted holds (SharedItem i ∷ hand) w → Counted holds hand (set_aside p n is i w)
+  collects_shared p n i is hand w one h =
+      let inside = inside_by w.states i (status.Shared 1) (sym one) (λ f. cc) in
+      let s = status.Collected w.count in
+      let put : Counted holds hand (with_status i s w) = drop_shared i s hand w (with_status i s w) (record { states = refl; cells = refl; inside = inside }) refl (sym (ap shared_owners one)) (sym (ap single_owner one)) h in
+      let out : Counted holds hand (retired p i w) = drop_shared i status.Retired hand w (retired p i w) (record { states = refl; cells = refl; inside = inside }) refl (sym (ap shared_owners one)) (sym (ap single_owner one)) h in
+      elim (ltb (length is) n) as (λ b. Counted holds hand (cond b (with_status i s w) (retired p i w))) [ true ↦ put | false ↦ out ]
+
+  -- what was collected is taken: what it held is in hand
+  counted_removed : (i n : ℕ) (hand : List Hold) (w : State T) → Sound w → status_at w i ≡ status.Collected n → Counted holds hand w → Counted holds (held_in holds (value_at w i) ++ hand) (removed i w)
+  counted_removed i n hand w sound is h = record {
+    each = λ k.
+        let inside = inside_by w.states i (status.Collected n) (sym is) (λ f. cc) in
+        let u : Uses w (removed i w) i status.Free = record { states = refl; cells = refl; inside = inside } in
+        omega (arith, h.each k, tally-append k (held_in holds (value_at w i)) hand, sum_by-set (λ v. tally k (held_in holds v)) w.values i None None (omega (arith, sound.sizes, inside)), uses_same k w (removed i w) i status.Free u (sym (ap single_owner is)) (sym (ap shared_owners is)));
+  }
+
+  counted_purged : (p : ℕ) (is : List ℕ) (hand : List Hold) (w : State T) → Sound w → p < length w.members → Counted holds hand w → Counted holds hand (purged holds p is w)
+  counted_purged p [] hand w sound known h = h
+  counted_purged p (i ∷ is) hand w sound known h =
+      let v : State T = given_all p (held_in holds (value_at w i)) (removed i w) in
+      (elim (overdue w.count (status_at w i)) as (λ b. overdue w.count (status_at w i) ≡ b → Counted holds hand (cond b (purged holds p is v) w)) [
+        | true ↦ λ e.
+            let n = overdue_noted w.count (status_at w i) e in
+            let g = purges_next holds p i w sound known e in
+            counted_purged p is hand v g.sound (omega (arith, g.known, known)) (counted_all p (held_in holds (value_at w i)) hand (removed i w) (counted_removed i n.note hand w sound n.is h))
+        | false ↦ λ e. h
+      ]) refl
+
+  counted_handed_as : (s : Status) (p i : ℕ) (hand : List Hold) (w : State T) → s ≡ status_at w i → Counted holds hand w → Counted holds hand (handed_as s p i w)
+  counted_handed_as status.Free p i hand w e h = h
+  counted_handed_as status.Owned p i hand w e h = h
+  counted_handed_as (status.Shared n) p i hand w e h = h
+  counted_handed_as status.Raw p i hand w e h = h
+  counted_handed_as (status.Collected n) p i hand w e h = use_changed i status.Retired hand w (retired p i w) (record { states = refl; cells = refl; inside = inside_by w.states i (status.Collected n) e (λ f. cc) }) refl (ap single_owner e) (ap shared_owners e) h
+  counted_handed_as status.Retired p i hand w e h = h
+  counted_handed_as status.Idle p i hand w e h = h
+  counted_handed_as status.Deferred p i hand w e h = h
+
+  counted_handed : (p : ℕ) (is : List ℕ) (hand : List Hold) (w : State T) → Counted holds hand w → Counted holds hand (handed p is w)
+  counted_handed p [] hand w h = h
+  counted_handed p (i ∷ is) hand w h = counted_handed p is hand (handed_as (status_at w i) p i w) (counted_handed_as (status_at w i) p i hand w refl h)
+
+  counted_deferred : (p i : ℕ) (hand : List Hold) (w : State T) → IsIdle w i → Counted holds hand w → Counted holds hand (waiting_as status.Deferred p i w)
+  counted_deferred p i hand w idle h = use_changed i status.Deferred hand w (waiting_as status.Deferred p i w) (record { states = refl; cells = refl; inside = idle.0 }) refl (sym (ap single_owner idle.1)) (sym (ap shared_owners idle.1)) h
+
   pub owners_are_counted : OwnersAreCounted holds
   owners_are_counted = record {
     shared = names_shared;
@@ -470,4 +546,14 @@ module _ {T : Type 0} (holds : T → List Hold) where
     cell_ended = end_shared;
     owned_cell_ended = end_owned;
     fresh = counted_fresh;
+    raw_out = out_raw;
+    raw_back = back_raw;
+    raw_cell_made = λ c o t hand w free h. cell_changed c cell.Free (cell.OfRaw o t) hand w free.0 free.1 refl refl h;
+    raw_cell_changed = λ c o o' t t' hand w inside is h. cell_changed c (cell.OfRaw o t) (cell.OfRaw o' t') hand w inside is refl refl h;
+    raw_cell_ended = λ c o t hand w inside is h. cell_changed c (cell.OfRaw o t) cell.Free hand w inside is refl refl h;
+    collected_owned = collects_owned;
+    collected_shared = collects_shared;
+    purged = λ p is hand w place known h. counted_purged p is hand w place.sound known h;
+    handed = counted_handed;
+    deferred = counted_deferred;
   }

@@ -7,14 +7,14 @@ use Rattle.std.proofs.lemmas.Bool.Decides.{eqb_tells}
 use Rattle.sdd_base.specs.Holding.{Hold}
 use Rattle.sdd_base.specs.State.{State, Member, nobody, status_at, value_at, member_at, marks_at, is_used, weight, with_marks, marked, with_status, placed, removed, with_cell, raised, is_present}
 use Rattle.sdd_base.specs.Steps.{times, begun, rotated, opened, closed, scanned, scans, closings_after}
-use Rattle.sdd_base.specs.Place.{Sound, IsPlace, IsOpen, IsShared, IsOwnedCell, IsSharedCell, held_times}
+use Rattle.sdd_base.specs.Place.{Sound, IsPlace, IsOpen, IsShared, IsOwnedCell, IsSharedCell, IsRawCell, held_times}
 use Rattle.sdd_base.specs.declared.tag.Tag.{Tag}
 use Rattle.sdd_base.specs.declared.status.Cell.TheVariants as cell
 use Rattle.sdd_base.specs.Frame.{has_owner, IsLive, Protects, Keeps, OnlyOf, IsRun, last_of}
 use Rattle.sdd_base.specs.declared.status.Status.{Status}
 use Rattle.sdd_base.specs.declared.status.Status.TheVariants as status
 use Rattle.sdd_base.specs.declared.status.Marks.{Marks}
-use Rattle.sdd_base.proofs.Sounds.{Gives, Calm, calm, bag_waits, weight_same}
+use Rattle.sdd_base.proofs.Sounds.{Gives, Leaves, leaves, Calms, calms, Calm, calm, bag_waits, weight_same}
 use Rattle.sdd_base.proofs.Slots.{at_most}
 use Rattle.sdd_base.proofs.Places.{calm_at, Rotates, rotates, place_begun, scanned-known, place_by}
 
@@ -31,8 +31,8 @@ only_of {T} p w v x y e f h = subst (λ (s : State T). OnlyOf p s x) e (subst (�
 pub is_place : {T : Type 0} (x y : State T) → x ≡ y → IsPlace y → IsPlace x
 is_place {T} x y f h = subst (λ (s : State T). IsPlace s) (sym f) h
 
-pub keeps_gives : {T : Type 0} (p : ℕ) (w w' : State T) → Sound w → Gives p w w' → Keeps w w'
-keeps_gives {T} p w w' h g =
+pub keeps_leaves : {T : Type 0} (p : ℕ) (w w' : State T) → Sound w → Leaves p w w' → Keeps w w'
+keeps_leaves {T} p w w' h g =
     let same : (i : ℕ) → value_at w' i ≡ value_at w i = λ i. ap (λ (vs : List (Option T)). get_or vs i None) g.values in
     record {
       states = g.places;
@@ -40,17 +40,17 @@ keeps_gives {T} p w w' h g =
       members = g.known;
       lives = λ i l. same i;
       protects = λ q i o o' k.
-          let published = ap (λ (c : Calm). c.published) (calm_at p w w' g q) in (
+          let published = ap (λ (c : Calm). c.published) (calm_at p w w' (calms p w w' g) q) in (
             same i,
             record {
               used = sym (g.sound.filled i) ∙ ap is_some (same i) ∙ h.filled i ∙ k.used;
               prior = λ j some.
-                  let c = calm_at p w w' g j in
+                  let c = calm_at p w w' (calms p w w' g) j in
                   let bag = ap (λ (c : Calm). times i c.prior) c in
                   let previous = ap (λ (c : Calm). c.previous) c in
                   omega (arith, published, previous, k.prior j (omega (arith, some, bag)));
               oldest = λ j some.
-                  let c = calm_at p w w' g j in
+                  let c = calm_at p w w' (calms p w w' g) j in
                   let bag = ap (λ (c : Calm). times i c.oldest) c in
                   let previous = ap (λ (c : Calm). c.previous) c in
                   omega (arith, published, previous, k.oldest j (omega (arith, some, bag)));
@@ -58,6 +58,13 @@ keeps_gives {T} p w w' h g =
             },
           );
     }
+
+-- what leaves a participant calm leaves its guards
+pub nests_calms : {T : Type 0} (p : ℕ) (w v x y : State T) → w ≡ v → x ≡ y → Calms p w y → (q : ℕ) → (marks_at x q).nesting ≡ (marks_at v q).nesting
+nests_calms {T} p w v x y e f g q = ap (λ (s : State T). (marks_at s q).nesting) f ∙ ap (λ (c : Calm). c.nesting) (calm_at p w y g q) ∙ ap (λ (s : State T). (marks_at s q).nesting) e
+
+pub keeps_gives : {T : Type 0} (p : ℕ) (w w' : State T) → Sound w → Gives p w w' → Keeps w w'
+keeps_gives p w w' h g = keeps_leaves p w w' h (leaves p w w' g)
 
 pub only_gives : {T : Type 0} (p : ℕ) (w w' : State T) → Gives p w w' → OnlyOf p w w'
 only_gives p w w' g = g.others
@@ -295,3 +302,6 @@ owned_cell_used {T} w w' c o t inside e = subst (λ (x : State T). IsOwnedCell x
 
 pub shared_cell_used : {T : Type 0} (w w' : State T) (c : ℕ) (o : Option ℕ) (t : Tag) → c < length w.cells → w' ≡ with_cell c (cell.OfShared o t) w → IsSharedCell w' c
 shared_cell_used {T} w w' c o t inside e = subst (λ (x : State T). IsSharedCell x c) (sym e) (record { inside = omega (arith, length-set w.cells c (cell.OfShared o t), inside); item = o; tag = t; is = get_or-set_same w.cells c (cell.OfShared o t) cell.Free inside })
+
+pub raw_cell_used : {T : Type 0} (w w' : State T) (c : ℕ) (o : Option ℕ) (t : Tag) → c < length w.cells → w' ≡ with_cell c (cell.OfRaw o t) w → IsRawCell w' c
+raw_cell_used {T} w w' c o t inside e = subst (λ (x : State T). IsRawCell x c) (sym e) (record { inside = omega (arith, length-set w.cells c (cell.OfRaw o t), inside); item = o; tag = t; is = get_or-set_same w.cells c (cell.OfRaw o t) cell.Free inside })

@@ -6,3 +6,5 @@ pub mod Places
 pub mod Frames
 pub mod Sweeps
 pub mod Counts
+pub mod Privates
+pub mod Passes

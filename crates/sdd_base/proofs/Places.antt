@@ -14,18 +14,18 @@ use Rattle.sdd_base.specs.declared.status.Status.{Status}
 use Rattle.sdd_base.specs.declared.status.Status.TheVariants as status
 use Rattle.sdd_base.specs.declared.status.Cell.TheVariants as cell
 use Rattle.sdd_base.specs.declared.status.Marks.{Marks}
-use Rattle.sdd_base.proofs.Sounds.{sound_turned, sound_marks, times_reversed, Gives, Calm, calm, RunsOut, runs_out}
+use Rattle.sdd_base.proofs.Sounds.{sound_turned, sound_marks, times_reversed, Gives, Leaves, leaves, Calms, calms, Calm, calm, RunsOut, runs_out}
 
 -- what giving leaves of every participant
-pub calm_at : {T : Type 0} (p : ℕ) (w w' : State T) → Gives p w w' → (k : ℕ) → calm (member_at w' k) ≡ calm (member_at w k)
+pub calm_at : {T : Type 0} (p : ℕ) (w w' : State T) → Calms p w w' → (k : ℕ) → calm (member_at w' k) ≡ calm (member_at w k)
 calm_at p w w' g k =
     elim (eqb_tells k p) [
       | inl t ↦ let P : ℕ → Type 0 = λ j. calm (member_at w' j) ≡ calm (member_at w j) in let here : P p = g.calm in subst P (sym t.1) here
       | inr t ↦ ap calm (g.others k t.1)
     ]
 
-pub place_by : {T : Type 0} (w w' : State T) (p : ℕ) → IsPlace w → Gives p w w' → IsPlace w'
-place_by w w' p h g = record {
+pub place_calms : {T : Type 0} (w w' : State T) (p : ℕ) → IsPlace w → Calms p w w' → IsPlace w'
+place_calms w w' p h g = record {
   sound = g.sound;
   idle = λ k. elim (eqb_tells k p) [
     | inl t ↦ let P : ℕ → Type 0 = λ j. (member_at w' j).due ≡ [] in let here : P p = g.due ∙ h.idle p in subst P (sym t.1) here
@@ -41,6 +41,12 @@ place_by w w' p h g = record {
       let open' = ap (λ (c : Calm). c.nesting) (calm_at p w w' g k) in
       omega (arith, same, h.near k (omega (arith, o, open')), g.count);
 }
+
+pub place_leaves : {T : Type 0} (w w' : State T) (p : ℕ) → IsPlace w → Leaves p w w' → IsPlace w'
+place_leaves w w' p h g = place_calms w w' p h (calms p w w' g)
+
+pub place_by : {T : Type 0} (w w' : State T) (p : ℕ) → IsPlace w → Gives p w w' → IsPlace w'
+place_by w w' p h g = place_leaves w w' p h (leaves p w w' g)
 
 -- the marks of p are others, which keep the order of counts
 pub record Fits {T : Type 0} (w : State T) (k : Marks) : Type 0 where

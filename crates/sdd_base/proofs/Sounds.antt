@@ -253,6 +253,67 @@ pub record Gives {T : Type 0} (p : ℕ) (w w' : State T) : Type 0 where
   pub occupied : sum_by occupied w'.states ≡ sum_by occupied w.states
   pub sound : Sound w'
 
+-- the same, where a job may have come too
+pub record Leaves {T : Type 0} (p : ℕ) (w w' : State T) : Type 0 where
+  pub count : w'.count ≡ w.count
+  pub values : w'.values ≡ w.values
+  pub places : length w'.states ≡ length w.states
+  pub cells : length w'.cells ≡ length w.cells
+  pub known : length w'.members ≡ length w.members
+  pub due : (member_at w' p).due ≡ (member_at w p).due
+  pub calm : calm (member_at w' p) ≡ calm (member_at w p)
+  pub others : (k : ℕ) → k ≢ p → member_at w' k ≡ member_at w k
+  pub noted : (i n : ℕ) → status_at w' i ≡ status.Collected n → status_at w i ≡ status.Collected n
+  pub sound : Sound w'
+
+pub leaves : {T : Type 0} (p : ℕ) (w w' : State T) → Gives p w w' → Leaves p w w'
+leaves p w w' g = record { count = g.count; values = g.values; places = g.places; cells = g.cells; known = g.known; due = g.due; calm = g.calm; others = g.others; noted = g.noted; sound = g.sound }
+
+pub leaves_refl : {T : Type 0} (p : ℕ) (w : State T) → Sound w → Leaves p w w
+leaves_refl p w h = record { count = refl; values = refl; places = refl; cells = refl; known = refl; due = refl; calm = refl; others = λ k n. refl; noted = λ i n e. e; sound = h }
+
+pub leaves_then : {T : Type 0} (p : ℕ) (u v w : State T) → Leaves p u v → Leaves p v w → Leaves p u w
+leaves_then p u v w a b = record {
+  count = b.count ∙ a.count;
+  values = b.values ∙ a.values;
+  places = b.places ∙ a.places;
+  cells = b.cells ∙ a.cells;
+  known = b.known ∙ a.known;
+  due = b.due ∙ a.due;
+  calm = b.calm ∙ a.calm;
+  others = λ k n. b.others k n ∙ a.others k n;
+  noted = λ i n e. a.noted i n (b.noted i n e);
+  sound = b.sound;
+}
+
+-- what the participants keep of it
+pub record Calms {T : Type 0} (p : ℕ) (w w' : State T) : Type 0 where
+  pub count : w'.count ≡ w.count
+  pub due : (member_at w' p).due ≡ (member_at w p).due
+  pub calm : calm (member_at w' p) ≡ calm (member_at w p)
+  pub others : (k : ℕ) → k ≢ p → member_at w' k ≡ member_at w k
+  pub sound : Sound w'
+
+pub calms : {T : Type 0} (p : ℕ) (w w' : State T) → Leaves p w w' → Calms p w w'
+calms p w w' g = record { count = g.count; due = g.due; calm = g.calm; others = g.others; sound = g.sound }
+
+-- place i, which didn't wait, waits
+pub leaves_waiting : {T : Type 0} (w : State T) (p i : ℕ) (s : Status) → Sound w → p < length w.members → i < length w.states → weight (status_at w i) ≡ 0 → weight s ≡ 1 → is_used s ≡ is_used (status_at w i) → ((m : ℕ) → s ≢ status.Collected m) → Leaves p w (waiting_as s p i w)
+leaves_waiting w p i s h known inside light heavy even new =
+    let at : member_at (waiting_as s p i w) p ≡ put_member i (member_at w p) = get_or-set_same w.members p (put_member i (member_at w p)) nobody known in
+    record {
+      count = refl;
+      values = refl;
+      places = length-set w.states i s;
+      cells = refl;
+      known = length-set w.members p (put_member i (member_at w p));
+      due = ap (λ (m : Member). m.due) at;
+      calm = ap calm at;
+      others = λ k n. get_or-set_other w.members p k (put_member i (member_at w p)) nobody n;
+      noted = λ j n e. noted_set w.states i j n s inside new e;
+      sound = sound_waiting w p i s h known inside light heavy even;
+    }
+
 pub gives_refl : {T : Type 0} (p : ℕ) (w : State T) → Sound w → Gives p w w
 gives_refl p w h = record { count = refl; values = refl; places = refl; cells = refl; known = refl; due = refl; calm = refl; others = λ k n. refl; noted = λ i n e. e; occupied = refl; sound = h }
 

@@ -2,8 +2,8 @@
 use Rattle.std.specs.Prelude.{◌≡◌, ◌≢◌, ℕ, ◌+◌, ◌<◌, Bool, true, false, cond, Option, None, Some, List, [], ◌∷◌, ◌++◌, length}
 use Rattle.std.specs.List.{sum_by}
 use Rattle.sdd_base.specs.Holding.{Hold, OwnedItem, SharedItem, OwnedIn, SharedIn}
-use Rattle.sdd_base.specs.State.{State, status_at, value_at, cell_at, placed, with_status, with_cell, IsFree, IsFreeCell, fresh}
-use Rattle.sdd_base.specs.Steps.{hit, held_in, given, opened, closed}
+use Rattle.sdd_base.specs.State.{State, status_at, value_at, cell_at, placed, with_status, with_cell, waiting_as, IsFree, IsFreeCell, IsIdle, fresh}
+use Rattle.sdd_base.specs.Steps.{hit, held_in, given, opened, closed, set_aside, purged, handed}
 use Rattle.sdd_base.specs.Place.{IsPlace, IsShared, IsOwned}
 use Rattle.sdd_base.specs.declared.sizes.Sizes.{Sizes}
 use Rattle.sdd_base.specs.declared.tag.Tag.{Tag}
@@ -114,3 +114,17 @@ pub record OwnersAreCounted {T : Type 0} (holds : T → List Hold) : Type 0 wher
   pub owned_cell_made : (c : ℕ) (o : Option ℕ) (t : Tag) (hand : List Hold) (w : State T) → IsFreeCell w c → Counted holds (kept_by (cell.OfOwned o t) ++ hand) w → Counted holds (OwnedIn c ∷ hand) (with_cell c (cell.OfOwned o t) w)
   pub owned_cell_swapped : (c : ℕ) (o o' : Option ℕ) (t t' : Tag) (hand : List Hold) (w : State T) → c < length w.cells → cell_at w c ≡ cell.OfOwned o t → Counted holds (kept_by (cell.OfOwned o' t') ++ hand) w → Counted holds (kept_by (cell.OfOwned o t) ++ hand) (with_cell c (cell.OfOwned o' t') w)
   pub owned_cell_ended : (c : ℕ) (o : Option ℕ) (t : Tag) (hand : List Hold) (w : State T) → c < length w.cells → cell_at w c ≡ cell.OfOwned o t → Counted holds (OwnedIn c ∷ hand) w → Counted holds (kept_by (cell.OfOwned o t) ++ hand) (with_cell c cell.Free w)
+  -- an owner is out as a raw pointer, and comes back
+  pub raw_out : (i : ℕ) (hand : List Hold) (w : State T) → Counted holds (OwnedItem i ∷ hand) w → Counted holds hand (with_status i status.Raw w)
+  pub raw_back : (i : ℕ) (hand : List Hold) (w : State T) → status_at w i ≡ status.Raw → Counted holds hand w → Counted holds (OwnedItem i ∷ hand) (with_status i status.Owned w)
+  -- a cell of raw pointers is made, changed and ended
+  pub raw_cell_made : (c : ℕ) (o : Option ℕ) (t : Tag) (hand : List Hold) (w : State T) → IsFreeCell w c → Counted holds hand w → Counted holds hand (with_cell c (cell.OfRaw o t) w)
+  pub raw_cell_changed : (c : ℕ) (o o' : Option ℕ) (t t' : Tag) (hand : List Hold) (w : State T) → c < length w.cells → cell_at w c ≡ cell.OfRaw o t → Counted holds hand w → Counted holds hand (with_cell c (cell.OfRaw o' t') w)
+  pub raw_cell_ended : (c : ℕ) (o : Option ℕ) (t : Tag) (hand : List Hold) (w : State T) → c < length w.cells → cell_at w c ≡ cell.OfRaw o t → Counted holds hand w → Counted holds hand (with_cell c cell.Free w)
+  -- an item is collected by its last owner, what is overdue is reclaimed, and the rest is handed over
+  pub collected_owned : (p n i : ℕ) (is : List ℕ) (hand : List Hold) (w : State T) → Counted holds (OwnedItem i ∷ hand) w → Counted holds hand (set_aside p n is i w)
+  pub collected_shared : (p n i : ℕ) (is : List ℕ) (hand : List Hold) (w : State T) → status_at w i ≡ status.Shared 1 → Counted holds (SharedItem i ∷ hand) w → Counted holds hand (set_aside p n is i w)
+  pub purged : (p : ℕ) (is : List ℕ) (hand : List Hold) (w : State T) → IsPlace w → p < length w.members → Counted holds hand w → Counted holds hand (purged holds p is w)
+  pub handed : (p : ℕ) (is : List ℕ) (hand : List Hold) (w : State T) → Counted holds hand w → Counted holds hand (handed p is w)
+  -- a job waits
+  pub deferred : (p i : ℕ) (hand : List Hold) (w : State T) → IsIdle w i → Counted holds hand w → Counted holds hand (waiting_as status.Deferred p i w)

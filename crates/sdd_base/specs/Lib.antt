@@ -7,3 +7,4 @@ pub mod Place
 pub mod View
 pub mod Frame
 pub mod Counting
+pub mod Passing

@@ -104,6 +104,17 @@ idleness status.Retired = 0
 idleness status.Idle = 1
 idleness status.Deferred = 0
 
+-- a place for jobs, with one or without
+abbrev pub is_job : Status → Bool
+is_job status.Free = false
+is_job status.Owned = false
+is_job (status.Shared n) = false
+is_job status.Raw = false
+is_job (status.Collected n) = false
+is_job status.Retired = false
+is_job status.Idle = true
+is_job status.Deferred = true
+
 -- 1 for a free cell
 abbrev pub emptiness : Cell → ℕ
 emptiness cell.Free = 1
@@ -127,6 +138,13 @@ IsFree w i = (i < length w.states) × (status_at w i ≡ status.Free)
 
 abbrev pub NoneFree : {T : Type 0} → State T → Type 0
 NoneFree w = (i : ℕ) → i < length w.states → status_at w i ≢ status.Free
+
+-- place i is for jobs, and has none
+abbrev pub IsIdle : {T : Type 0} → State T → ℕ → Type 0
+IsIdle w i = (i < length w.states) × (status_at w i ≡ status.Idle)
+
+abbrev pub NoneIdle : {T : Type 0} → State T → Type 0
+NoneIdle w = (i : ℕ) → i < length w.states → status_at w i ≢ status.Idle
 
 abbrev pub IsFreeCell : {T : Type 0} → State T → ℕ → Type 0
 IsFreeCell w c = (c < length w.cells) × (cell_at w c ≡ cell.Free)

@@ -1,8 +1,8 @@
 -- what each call of a place makes of its state
-use Rattle.std.specs.Prelude.{◌≡◌, ◌≢◌, ℕ, zero, suc, ◌+◌, ◌-◌, ◌==◌, Bool, true, false, not, ◌&&◌, ◌||◌, cond, Option, None, Some, List, [], ◌∷◌, get_or, set, length, replicate, min, leb, ltb, ◌<◌, ◌≤◌}
+use Rattle.std.specs.Prelude.{◌≡◌, ◌≢◌, ℕ, zero, suc, ◌+◌, ◌-◌, ◌==◌, Bool, true, false, not, ◌&&◌, ◌||◌, cond, Option, None, Some, List, [], ◌∷◌, ◌++◌, get_or, set, length, replicate, min, leb, ltb, ◌<◌, ◌≤◌}
 use Rattle.std.specs.List.{list_all, sum_by}
 use Rattle.sdd_base.specs.Holding.{Hold, OwnedItem, SharedItem, OwnedIn, SharedIn}
-use Rattle.sdd_base.specs.State.{State, Member, status_at, value_at, cell_at, member_at, marks_at, with_status, with_cell, with_marks, retired, rotated_bags, taken, raised, is_present}
+use Rattle.sdd_base.specs.State.{State, Member, status_at, value_at, cell_at, member_at, marks_at, with_status, with_cell, with_marks, retired, removed, rotated_bags, taken, raised, is_present}
 use Rattle.sdd_base.specs.declared.status.Status.{Status}
 use Rattle.sdd_base.specs.declared.status.Status.TheVariants as status
 use Rattle.sdd_base.specs.declared.status.Cell.{Cell}
@@ -148,6 +148,54 @@ closed p w =
     (with_marks p (record (marks_at w p) { nesting = 0; closings = 0 }) (scanned w))
     (with_marks p (record (marks_at w p) { nesting = 0; closings = closings_after (marks_at w p) }) w))
     (with_marks p (record (marks_at w p) { nesting = (marks_at w p).nesting - 1 }) w)
+
+-- what was collected at least three raises ago can be reclaimed: no guard that is open can name it
+abbrev pub overdue : ℕ → Status → Bool
+overdue count status.Free = false
+overdue count status.Owned = false
+overdue count (status.Shared n) = false
+overdue count status.Raw = false
+overdue count (status.Collected n) = leb (n + 3) count
+overdue count status.Retired = false
+overdue count status.Idle = false
+overdue count status.Deferred = false
+
+-- the first place of a private bag, if there is one, isn't overdue
+abbrev pub IsTimely : {T : Type 0} → State T → List ℕ → Type 0
+IsTimely w [] = Unit {0}
+IsTimely w (i ∷ is) = overdue w.count (status_at w i) ≡ false
+
+-- p reclaims what is overdue at the front of a private bag
+abbrev pub purged : {T : Type 0} → (T → List Hold) → ℕ → List ℕ → State T → State T
+purged holds p [] w = w
+purged holds p (i ∷ is) w = cond (overdue w.count (status_at w i)) (purged holds p is (given_all p (held_in holds (value_at w i)) (removed i w))) w
+
+-- what that leaves in the bag
+abbrev pub left_waiting : {T : Type 0} → (T → List Hold) → ℕ → List ℕ → State T → List ℕ
+left_waiting holds p [] w = []
+left_waiting holds p (i ∷ is) w = cond (overdue w.count (status_at w i)) (left_waiting holds p is (given_all p (held_in holds (value_at w i)) (removed i w))) (i ∷ is)
+
+-- an item waits in a private bag with room for n, which notes the count; where that is full, p retires it
+abbrev pub set_aside : {T : Type 0} → ℕ → ℕ → List ℕ → ℕ → State T → State T
+set_aside p n is i w = cond (ltb (length is) n) (with_status i (status.Collected w.count) w) (retired p i w)
+
+abbrev pub enqueued : ℕ → List ℕ → ℕ → List ℕ
+enqueued n is i = cond (ltb (length is) n) (is ++ i ∷ []) is
+
+-- what waits in a private bag is retired by p
+abbrev pub handed_as : {T : Type 0} → Status → ℕ → ℕ → State T → State T
+handed_as status.Free p i w = w
+handed_as status.Owned p i w = w
+handed_as (status.Shared n) p i w = w
+handed_as status.Raw p i w = w
+handed_as (status.Collected n) p i w = retired p i w
+handed_as status.Retired p i w = w
+handed_as status.Idle p i w = w
+handed_as status.Deferred p i w = w
+
+abbrev pub handed : {T : Type 0} → ℕ → List ℕ → State T → State T
+handed p [] w = w
+handed p (i ∷ is) w = handed p is (handed_as (status_at w i) p i w)
 
 -- participants rotate one after the other
 abbrev pub rotated_each : {T : Type 0} → (T → List Hold) → List ℕ → State T → State T

@@ -1,5 +1,6 @@
 -- what the tokens that callers keep show to clauses: numbers of slots, cells and participants
-use Rattle.std.specs.Prelude.{ℕ, Option}
+use Rattle.std.specs.Prelude.{ℕ, Option, List}
+use Rattle.std.specs.VecDeque.{deque_capacity}
 use Rattle.sdd_base.specs.Holding.{Hold, OwnedItem, SharedItem, OwnedIn, SharedIn}
 use Rattle.sdd_base.specs.declared.owner.Owned.{Owned}
 use Rattle.sdd_base.specs.declared.owner.Shared.{Shared}
@@ -9,6 +10,7 @@ use Rattle.sdd_base.specs.declared.cell.AtomicRaw.{AtomicRaw}
 use Rattle.std.specs.Option.{option_map}
 use Rattle.sdd_base.specs.declared.pointer.RawPtr.{RawPtr}
 use Rattle.sdd_base.specs.declared.pointer.Ptr.{Ptr}
+use Rattle.sdd_base.specs.declared.collector.PrivateCollector.{PrivateCollector}
 use Rattle.sdd_base.specs.declared.guard.WorldGuard.{WorldGuard}
 use Rattle.sdd_base.specs.declared.holds.Held.{Held}
 use Rattle.sdd_base.specs.declared.holds.Held.TheVariants as held
@@ -55,6 +57,13 @@ ptr_tag r = r.tag
 -- the participant whose guard it is
 abbrev pub participant_of : WorldGuard → ℕ
 participant_of g = g.participant
+
+-- the slots that wait in a private bag, in the order in which they came, and for how many it has room
+abbrev pub waiting_in : {T : Type 0} → PrivateCollector T → List ℕ
+waiting_in c = c.waiting.items
+
+abbrev pub room_of : {T : Type 0} → PrivateCollector T → ℕ
+room_of c = deque_capacity c.waiting
 
 -- the slots of owners that may be there
 abbrev pub owned_slots : {T : Type 0} → Option (Owned T) → Option ℕ

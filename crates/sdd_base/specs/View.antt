@@ -1,7 +1,7 @@
 -- how the fields of the store show its state, and what is always true of them
-use Rattle.std.specs.Prelude.{is_some, reverse, ◌≡◌, ℕ, ◌≤◌, ◌+◌, ◌==◌, List, length, map, get_or, sum_by, vec_capacity, All, cond}
+use Rattle.std.specs.Prelude.{is_some, reverse, ◌≡◌, ℕ, ◌≤◌, ◌+◌, ◌==◌, List, length, map, get_or, sum_by, vec_capacity, All, cond, replicate, ◌++◌, true, false}
 use Rattle.std.specs.Global.{Vec}
-use Rattle.sdd_base.specs.State.{State, Member, weight, is_used, usage, vacancy, idleness, emptiness}
+use Rattle.sdd_base.specs.State.{State, Member, weight, is_used, usage, vacancy, idleness, emptiness, is_job}
 use Rattle.sdd_base.specs.Steps.{times}
 use Rattle.sdd_base.specs.declared.table.Table.TheInside.{Inside}
 use Rattle.sdd_base.specs.declared.bags.Participant.{Participant}
@@ -15,7 +15,7 @@ member_of p = record {
   due = reverse p.due.items;
 }
 
-abbrev pub state_of : {T : Type 0} → Inside T → State T
+abbrev pub state_of : {T X : Type 0} {V : X → Type 0} → Inside T X V → State T
 state_of w = record {
   count = w.count;
   values = w.values.items;
@@ -45,11 +45,13 @@ pub record IsStack {X : Type 0} (f : X → ℕ) (all : List X) (stack : Vec ℕ)
   pub lists : Lists f all stack.items
   pub room : length all ≤ vec_capacity stack
 
-pub record IsTable {T : Type 0} (w : Inside T) : Type 0 where
+pub record IsTable {T X : Type 0} {V : X → Type 0} (w : Inside T X V) : Type 0 where
   pub filled : map is_some w.values.items ≡ map is_used w.states.items
   pub tally : w.used ≡ sum_by usage w.states.items
   pub room : All (HasRoom (length w.states.items)) w.members.items
   pub waits : sum_by waiting w.members.items ≤ sum_by weight w.states.items
+  -- the slots come first, then the job places
+  pub kinds : map is_job w.states.items ≡ replicate w.slots false ++ replicate (length w.jobs.items) true
   pub slots : IsStack vacancy w.states.items w.free
   pub places : IsStack idleness w.states.items w.idle
   pub cells : IsStack emptiness w.cells.items w.free_cells

@@ -2,6 +2,7 @@
 
 ghost use Rattle.sdd_base.specs.Counting.{OwnersAreCounted};
 ghost use Rattle.sdd_base.specs.Frame.{OwnedIsProtected, StaysUntilClosed};
+ghost use Rattle.sdd_base.specs.Passing.{PassesReclaim};
 
 use crate::holds::Holds;
 
@@ -16,4 +17,11 @@ pub fn owners_are_counted<T: Holds>()
 pub fn guards_protect<T>()
     ensures owned { OwnedIsProtected T }
     ensures stays { StaysUntilClosed T }
+{}
+
+/// What accelerated guards reclaim, opened and closed one by one by a participant where no other guard is open: each
+/// raises the count, and four of them reclaim all that waited in its bags; what waits then was held by that. So four
+/// for each level of items that hold items empty the bags.
+pub fn passes_reclaim<T: Holds>()
+    ensures { PassesReclaim T.holds }
 {}

@@ -7,14 +7,18 @@
 
 mod bags;
 pub mod cell;
+pub mod collector;
 pub mod epoch;
 pub mod guard;
 pub mod holds;
+pub mod job;
 pub mod laws;
 pub mod owner;
 pub mod pointer;
 mod reclaim;
 pub mod refusal;
+#[cfg(test)]
+mod refusals;
 pub mod sizes;
 pub mod status;
 mod table;

@@ -1,25 +1,75 @@
 //! Pointers to items: plain data, a slot or none, and a tag.
 
-ghost use Rattle.std.specs.Prelude.{◌≡◌, IsTrue, None, Some, ◌↔◌};
+ghost use Rattle.std.specs.Prelude.{◌≡◌, ℕ, Option, IsTrue, None, Some, ◌↔◌};
 ghost use Rattle.sdd_base.specs.Tokens.{ptr_slot, ptr_tag, raw_slot, raw_tag};
 
 use crate::tag::Tag;
 use std::marker::PhantomData;
 
-/// Where an item was found, or null, with a tag.
-#[derive_where(Clone, Copy)]
+/// Where an item was found, or null, with a tag. Pointers are equal where slot and tag both are.
+#[derive_where(Clone, Copy, PartialEq, Eq)]
 pub struct Ptr<'g, T> {
     pub(crate) slot: Option<usize>,
     pub(crate) tag: Tag,
     pub(crate) of: PhantomData<&'g T>,
 }
 
-/// Where an item is that is out as a raw pointer, or null, with a tag.
-#[derive_where(Clone, Copy)]
+/// Where an item is that is out as a raw pointer, or null, with a tag. They are equal where slot and tag both are.
+#[derive_where(Clone, Copy, PartialEq, Eq)]
 pub struct RawPtr<T> {
     pub(crate) slot: Option<usize>,
     pub(crate) tag: Tag,
     pub(crate) of: PhantomData<T>,
+}
+
+/// Pointers that a call makes of what it found, to lend them to a closure.
+pub trait Found<T>: Sized {
+    ghost use Rattle.sdd_base.specs.declared.tag.Tag.{Tag};
+
+    /// The slot that it names, or none, and its tag.
+    ghost names: { Self → Option ℕ };
+
+    ghost tagged: { Self → Tag };
+
+    fn found(slot: Option<usize>, tag: Tag) -> Self
+        ensures names { names result ≡ slot }
+        ensures tagged { tagged result ≡ tag };
+}
+
+impl<'g, T> Found<T> for Ptr<'g, T> {
+    ghost names = { λ r. ptr_slot r };
+
+    ghost tagged = { λ r. ptr_tag r };
+
+    fn found(slot: Option<usize>, tag: Tag) -> Ptr<'g, T> {
+        Ptr {
+            slot,
+            tag,
+            of: PhantomData,
+        }
+    }
+}
+
+/// The pointer to nothing, without a tag.
+impl<'g, T> Default for Ptr<'g, T> {
+    ghost use Rattle.sdd_base.specs.declared.tag.Tag.TheVariants as tags;
+
+    ghost is_default = { λ r. (ptr_slot r ≡ None) × (ptr_tag r ≡ tags.None) };
+
+    fn default() -> Ptr<'g, T> {
+        Ptr::null()
+    }
+}
+
+/// The pointer to nothing, without a tag.
+impl<T> Default for RawPtr<T> {
+    ghost use Rattle.sdd_base.specs.declared.tag.Tag.TheVariants as tags;
+
+    ghost is_default = { λ r. (raw_slot r ≡ None) × (raw_tag r ≡ tags.None) };
+
+    fn default() -> RawPtr<T> {
+        RawPtr::null()
+    }
 }
 
 impl<'g, T> Ptr<'g, T> {

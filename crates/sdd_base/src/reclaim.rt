@@ -1,9 +1,10 @@
 //! What a rotation, an opening and a closing do to the store, with the bags open in between.
 
-ghost use Rattle.std.specs.Prelude.{◌≡◌, ◌+◌, ◌-◌, ◌<◌, ℕ, List, [], ◌∷◌, length, leb, IsTrue, IsFalse};
-ghost use Rattle.sdd_base.specs.State.{status_at, member_at, marks_at, weight};
-ghost use Rattle.sdd_base.specs.Steps.{released, disowned, owned_ended, shared_ended, given, given_all, rotated, opened, closed, begun, scanned, IsNext, Swept, AllSwept, closings_after, scans as scans_at};
-ghost use Rattle.sdd_base.specs.Place.{Sound, IsPlace};
+ghost use Rattle.std.specs.Prelude.{◌≡◌, ◌+◌, ◌-◌, ◌<◌, ℕ, List, [], ◌∷◌, length, leb, IsTrue, IsFalse, IfSome, IfNone, true};
+ghost use Rattle.std.specs.VecDeque.{deque_capacity};
+ghost use Rattle.sdd_base.specs.State.{is_used, status_at, member_at, marks_at, weight};
+ghost use Rattle.sdd_base.specs.Steps.{released, disowned, owned_ended, shared_ended, given, given_all, rotated, opened, closed, begun, scanned, IsNext, Swept, AllSwept, purged, left_waiting, enqueued, set_aside, handed, overdue, IsTimely, closings_after, scans as scans_at};
+ghost use Rattle.sdd_base.specs.Place.{Sound, IsPlace, IsShared};
 ghost use Rattle.sdd_base.specs.Frame.{OnlyOf};
 ghost use Rattle.sdd_base.specs.Tokens.{hold_of};
 
@@ -11,7 +12,8 @@ use crate::cell::{AtomicOwned, AtomicShared};
 use crate::holds::{Held, Holds};
 use crate::owner::{Owned, Shared};
 use crate::status::{Cell, Marks, Status};
-use crate::table::Table;
+use crate::table::{Due, Table};
+use std::collections::VecDeque;
 
 /// Gives one owner of slot `i` back, and answers whether it was the last.
 pub(crate) fn release<T>(table: &mut Table<T>, p: usize, i: usize) -> bool
@@ -97,7 +99,8 @@ pub(crate) fn end_shared<T>(table: &mut Table<T>, p: usize, cell: usize)
 /// Everything that `value` holds is given back by `p`, and the value ends.
 pub(crate) fn give_all<T: Holds>(table: &mut Table<T>, p: usize, mut value: T)
     requires { p < length table.old.members }
-    ensures { table.new ≡ given_all p (T.holds value) table.old }
+    ensures state { table.new ≡ given_all p (T.holds value) table.old }
+    ensures known { length table.new.members ≡ length table.old.members }
 {
     while let Some(held) = value.give_up() {
         give(table, p, held);
@@ -114,9 +117,13 @@ fn reclaim_next<T: Holds>(table: &mut Table<T>, p: usize) -> bool
 {
     match table.take_due(p) {
         None => false,
-        Some(None) => true,
-        Some(Some(value)) => {
-            give_all(table, p, value);
+        Some(Due { value, job }) => {
+            if let Some(job) = job {
+                job.run();
+            }
+            if let Some(value) = value {
+                give_all(table, p, value);
+            }
             true
         }
     }
@@ -134,6 +141,110 @@ pub(crate) fn turn_over<T: Holds>(table: &mut Table<T>, p: usize)
     let mut marks = table.marks(p);
     marks.garbage = marks.garbage && !table.bags_are_empty(p);
     table.set_marks(p, marks);
+}
+
+/// What is in `slot` waits at the end of a private bag, and the count is noted; where that is full, `p` retires it.
+pub(crate) fn set_apart<T>(
+    table: &mut Table<T>,
+    p: usize,
+    waiting: &mut VecDeque<usize>,
+    slot: usize,
+)
+    requires member { p < length table.old.members }
+    requires slot { slot < length table.old.states }
+    requires used { is_used (status_at table.old slot) ≡ true }
+    requires waits_not { weight (status_at table.old slot) ≡ 0 }
+    ensures state { table.new ≡ set_aside p (deque_capacity waiting.old) waiting.old.items slot table.old }
+    ensures bag { waiting.new.items ≡ enqueued (deque_capacity waiting.old) waiting.old.items slot }
+    ensures room { deque_capacity waiting.new ≡ deque_capacity waiting.old }
+{
+    if waiting.len() < waiting.capacity() {
+        let note = table.count();
+        table.set_status(slot, Status::Collected(note));
+        match waiting.push_back(slot) {
+            Ok(()) => {}
+            Err(_) => unreachable!(),
+        }
+    } else {
+        table.retire(p, slot);
+    }
+}
+
+/// Gives one owner of slot `slot` back, and answers whether it was the last, which leaves the item in a private bag.
+pub(crate) fn leave<T>(
+    table: &mut Table<T>,
+    p: usize,
+    waiting: &mut VecDeque<usize>,
+    slot: usize,
+) -> bool
+    requires member { p < length table.old.members }
+    requires shared { IsShared table.old slot }
+    ensures last { (n : ℕ) → status_at table.old slot ≡ Status.Shared n → result ≡ leb n 1 }
+    ensures apart { IsTrue result → table.new ≡ set_aside p (deque_capacity waiting.old) waiting.old.items slot table.old }
+    ensures bag { IsTrue result → waiting.new.items ≡ enqueued (deque_capacity waiting.old) waiting.old.items slot }
+    ensures given { IsFalse result → table.new ≡ released p slot table.old }
+    ensures same { IsFalse result → waiting.new.items ≡ waiting.old.items }
+    ensures room { deque_capacity waiting.new ≡ deque_capacity waiting.old }
+{
+    match table.status(slot) {
+        Status::Shared(owners) => {
+            if owners > 1 {
+                table.set_status(slot, Status::Shared(owners - 1));
+                return false;
+            }
+            set_apart(table, p, waiting, slot);
+            true
+        }
+        _ => unreachable!(),
+    }
+}
+
+/// Whether an item with this status can be reclaimed out of a private bag.
+fn is_overdue(count: u64, status: Status) -> bool
+    ensures { result ≡ overdue count status }
+{
+    match status {
+        Status::Collected(note) => note <= count && count - note >= 3,
+        _ => false,
+    }
+}
+
+/// The first place of a private bag leaves it, if it is overdue.
+fn next_overdue<T>(table: &Table<T>, waiting: &mut VecDeque<usize>) -> Option<usize>
+    ensures some { IfSome result (λ i. (waiting.old.items ≡ i ∷ waiting.new.items) × (overdue table.now.count (status_at table.now i) ≡ true)) }
+    ensures none { IfNone result ((waiting.new.items ≡ waiting.old.items) × IsTimely table.now waiting.old.items) }
+    ensures room { deque_capacity waiting.new ≡ deque_capacity waiting.old }
+{
+    let slot = *waiting.front()?;
+    if !is_overdue(table.count(), table.status_of(slot)) {
+        return None;
+    }
+    waiting.pop_front()
+}
+
+/// What is overdue at the front of a private bag is reclaimed by `p`.
+pub(crate) fn purge<T: Holds>(table: &mut Table<T>, p: usize, waiting: &mut VecDeque<usize>)
+    requires { p < length table.old.members }
+    ensures state { table.new ≡ purged T.holds p waiting.old.items table.old }
+    ensures left { waiting.new.items ≡ left_waiting T.holds p waiting.old.items table.old }
+    ensures room { deque_capacity waiting.new ≡ deque_capacity waiting.old }
+{
+    while let Some(slot) = next_overdue(table, waiting) {
+        let value = table.remove(slot);
+        give_all(table, p, value);
+    }
+}
+
+/// What waits in a private bag is retired by `p`.
+pub(crate) fn hand_over<T>(table: &mut Table<T>, p: usize, waiting: &mut VecDeque<usize>)
+    requires { p < length table.old.members }
+    ensures { table.new ≡ handed p waiting.old.items table.old }
+{
+    while let Some(slot) = waiting.pop_front() {
+        if let Status::Collected(_) = table.status_of(slot) {
+            table.retire(p, slot);
+        }
+    }
 }
 
 /// Whether this outermost closing of `marks` scans, where `closings` counts it.

@@ -1,19 +1,26 @@
 //! The store of a place: numbered slots, job places and cells, and the participants. Nothing here takes memory but
 //! the making, and nothing walks all slots.
 
-ghost use Rattle.std.specs.Prelude.{◌≡◌, ◌≢◌, ℕ, ◌+◌, ◌<◌, ◌≤◌, ◌^◌, ◌-◌, List, length, MatchOption, MatchResult, Some, None, IfSome, IfNone, IfOk, IfErr, [], ◌∷◌, false, true, replicate, IsTrue, IsFalse, ◌↔◌, sum_by, vec_capacity, vec_len, ◌++◌, map, All};
-ghost use Rattle.sdd_base.specs.State.{with_status, with_marks, IsFree, NoneFree, IsFreeCell, NoCellFree, in_use, IsUnused, waiting_as, status_at, member_at, value_at, cell_at, rotated_bags, placed, raised, nobody, TakesDue, with_cell, is_present, is_used, weight, idleness, vacancy, emptiness, fresh, removed, usage};
+ghost use Rattle.std.specs.Prelude.{◌≡◌, ◌≢◌, ℕ, ◌+◌, ◌<◌, ◌≤◌, ◌^◌, ◌-◌, List, length, MatchOption, MatchResult, Some, None, OnOk, IfSome, IfNone, IfOk, IfErr, [], ◌∷◌, false, true, replicate, IsTrue, IsFalse, ◌↔◌, sum_by, vec_capacity, vec_len, ◌++◌, map, All};
+ghost use Rattle.sdd_base.specs.State.{IsIdle, NoneIdle, with_status, with_marks, IsFree, NoneFree, IsFreeCell, NoCellFree, in_use, IsUnused, waiting_as, status_at, member_at, value_at, cell_at, rotated_bags, placed, raised, nobody, TakesDue, with_cell, is_present, is_used, weight, idleness, vacancy, emptiness, fresh, removed, usage};
 ghost use Rattle.std.specs.List.{list_all};
 ghost use Rattle.sdd_base.specs.View.{Lists, IsStack, HasRoom, member_of, waiting};
 ghost use Rattle.sdd_base.specs.Steps.{bags_empty, NoneOpen};
 ghost use Rattle.sdd_base.specs.Place.{IsOpen};
 
 use crate::bags::Participant;
+use crate::job::Job;
 use crate::sizes::Sizes;
 use crate::status::{Cell, Marks, Status};
 use std::alloc::{AllocError, Global};
 use std::marker::Model;
 use std::mem;
+
+/// What was in a place that was due: an item, or a job.
+pub(crate) struct Due<T> {
+    pub(crate) value: Option<T>,
+    pub(crate) job: Option<Job>,
+}
 
 /// Numbered slots, cells and participants, with room for what waits.
 #[derive(Drop)]
@@ -21,7 +28,10 @@ pub(crate) struct Table<T> {
     count: u64,
     /// How many slots have an item.
     used: usize,
+    /// How many slots there are; the job places are numbered behind them.
+    slots: usize,
     values: Vec<Option<T>>,
+    jobs: Vec<Option<Job>>,
     states: Vec<Status>,
     cells: Vec<Cell>,
     members: Vec<Participant>,
@@ -110,6 +120,21 @@ impl<T> Table<T> {
         self.members[p].put(i);
     }
 
+    /// Puts a job into a job place that has none, if there is one; it waits in the current bag of `p`.
+    pub(crate) fn defer(&mut self, p: usize, job: Job) -> Result<(), Job>
+        requires { p < length self.old.members }
+        ensures deferred { OnOk result ((i : ℕ) × IsIdle self.old i × (self.new ≡ waiting_as Status.Deferred p i self.old)) }
+        ensures refused { IfErr result (λ j. (j ≡ job) × (self.new ≡ self.old) × NoneIdle self.old) }
+    {
+        let Some(i) = self.idle.pop() else {
+            return Err(job);
+        };
+        self.states[i] = Status::Deferred;
+        self.jobs[i - self.slots] = Some(job);
+        self.members[p].put(i);
+        Ok(())
+    }
+
     pub(crate) fn turn(&mut self, p: usize)
         requires member { p < length self.old.members }
         requires due { (member_at self.old p).due ≡ [] }
@@ -148,11 +173,11 @@ impl<T> Table<T> {
         self.states[i] = status;
     }
 
-    /// The next slot that is due is free from now on, and its value is taken.
-    pub(crate) fn take_due(&mut self, p: usize) -> Option<Option<T>>
+    /// The next place that is due has nothing from now on, and what it had is taken.
+    pub(crate) fn take_due(&mut self, p: usize) -> Option<Due<T>>
         requires member { p < length self.old.members }
         requires waits { (i : ℕ) (is : List ℕ) → (member_at self.old p).due ≡ i ∷ is → (i < length self.old.states) × (weight (status_at self.old i) ≡ 1) }
-        ensures { MatchOption result (((member_at self.old p).due ≡ []) × (self.new ≡ self.old)) (λ v. TakesDue p v self.old self.new) }
+        ensures { MatchOption result (((member_at self.old p).due ≡ []) × (self.new ≡ self.old)) (λ d. TakesDue p d.value self.old self.new) }
     {
         match self.members[p].next() {
             None => None,
@@ -161,12 +186,32 @@ impl<T> Table<T> {
                     self.states[i] = Status::Free;
                     self.used -= 1;
                     keep_name(&mut self.free, i);
-                    return Some(self.values[i].take());
+                    let value = self.values[i].take();
+                    return Some(Due { value, job: None });
                 }
                 self.states[i] = Status::Idle;
                 keep_name(&mut self.idle, i);
-                Some(self.values[i].take())
+                let job = self.jobs[i - self.slots].take();
+                let value = self.values[i].take();
+                Some(Due { value, job })
             }
+        }
+    }
+
+    /// Slot `i`, whose item waits in no bag, is free from now on, and its value is given.
+    pub(crate) fn remove(&mut self, i: usize) -> T
+        requires slot { i < length self.old.states }
+        requires used { is_used (status_at self.old i) ≡ true }
+        requires waits_not { weight (status_at self.old i) ≡ 0 }
+        ensures value { Some result ≡ value_at self.old i }
+        ensures state { self.new ≡ removed i self.old }
+    {
+        self.states[i] = Status::Free;
+        self.used -= 1;
+        keep_name(&mut self.free, i);
+        match self.values[i].take() {
+            Some(value) => value,
+            None => unreachable!(),
         }
     }
 
@@ -219,6 +264,13 @@ impl<T> Table<T> {
         ensures { result ≡ length self.now.members }
     {
         self.members.len()
+    }
+
+    /// How many slots and job places there are.
+    pub(crate) fn places(&self) -> usize
+        ensures { result ≡ length self.now.states }
+    {
+        self.states.len()
     }
 
     pub(crate) fn value(&self, i: usize) -> &T
@@ -298,11 +350,14 @@ impl<T> Table<T> {
         let idle = idle_places(alloc, &mut states, sizes.jobs, places)?;
         let (cells, free_cells) = free_cells(alloc, sizes.cells)?;
         let members = participants(alloc, sizes.participants, places)?;
+        let jobs = empty_slots(alloc, sizes.jobs)?;
         let values = empty_slots(alloc, places)?;
         Ok(Table {
             count: 0,
             used: 0,
+            slots: sizes.slots,
             values,
+            jobs,
             states,
             cells,
             members,
@@ -319,7 +374,9 @@ impl<T> Table<T> {
         let Table {
             count: _,
             used: _,
+            slots: _,
             mut values,
+            jobs: _,
             states: _,
             cells: _,
             members: _,

@@ -1,11 +1,17 @@
 ghost use Rattle.std.specs.Prelude.{◌≡◌, ◌<◌, ◌≤◌, length, IfOk};
 ghost use Rattle.sdd_base.specs.State.{fresh};
 ghost use Rattle.sdd_base.specs.Frame.{OnlyOf};
+ghost use Rattle.sdd_base.specs.Place.{IsOpen, IsSharedCell};
+ghost use Rattle.sdd_base.specs.Tokens.{participant_of, shared_cell};
 
+use crate::cell::{AtomicOwned, AtomicRaw, AtomicShared};
+use crate::collector::PrivateCollector;
 use crate::epoch::Epoch;
 use crate::guard::WorldGuard;
 use crate::holds::{Held, Holds};
+use crate::job::{Job, Task};
 use crate::owner::{Owned, Shared};
+use crate::pointer::{Ptr, RawPtr};
 use crate::refusal::NoSlot;
 use crate::sizes::Sizes;
 use crate::tag::Tag;
@@ -13,6 +19,8 @@ use crate::world;
 use crate::world::World;
 use std::alloc::{AllocError, Global};
 use std::process::Abort;
+use std::sync::Arc;
+use std::sync::atomic::{AtomicU32, Ordering};
 use std::test::Fail;
 
 /// A world of numbers with two participants.
@@ -296,5 +304,307 @@ fn refusals_give_the_value_back(rt: HostRuntime) -> Result<(), Fail> {
     world::atomic_owned::retire(&mut w, cell, 1);
     assert!(rt; passes(&mut w, 1, 4));
     assert_eq!(rt; w.slots_in_use(), 0);
+    Ok(())
+}
+
+/// Counts how often it runs.
+#[derive(Drop)]
+struct Count {
+    runs: Arc<AtomicU32>,
+}
+
+impl Task for Count {
+    fn run(&mut self) {
+        self.runs.fetch_add(1, Ordering::SeqCst);
+    }
+}
+
+#[test]
+fn a_job_runs_once_when_the_fourth_guard_opens(rt: HostRuntime) -> Result<(), Fail> {
+    let sizes = Sizes {
+        participants: 1,
+        slots: 0,
+        cells: 0,
+        jobs: 1,
+    };
+    let mut w: World<u64> = World::new(rt.alloc(), sizes)?;
+    let runs = Arc::new(rt.alloc(), AtomicU32::new(0))?;
+    let other = Arc::new(rt.alloc(), AtomicU32::new(0))?;
+    let counted = Count {
+        runs: runs.clone()?,
+    };
+    let job = Job::new(Box::new(rt.alloc(), counted)?);
+    let refused = Count {
+        runs: other.clone()?,
+    };
+    let another = Job::new(Box::new(rt.alloc(), refused)?);
+    let Ok(first) = world::guard::new(&mut w, 0) else {
+        panic!(rt; "no guard is open");
+    };
+    world::guard::accelerate(&mut w, &first);
+    assert!(rt; world::guard::defer_execute(&mut w, &first, job).is_ok());
+    match world::guard::defer_execute(&mut w, &first, another) {
+        Err(job) => job.run(),
+        Ok(()) => panic!(rt; "the one place has a job"),
+    }
+    assert_eq!(rt; other.load(Ordering::SeqCst), 1);
+    world::guard::close(&mut w, first);
+    assert!(rt; passes(&mut w, 0, 2));
+    assert_eq!(rt; runs.load(Ordering::SeqCst), 0);
+    let Ok(fourth) = world::guard::new(&mut w, 0) else {
+        panic!(rt; "no guard is open");
+    };
+    assert_eq!(rt; runs.load(Ordering::SeqCst), 1);
+    world::guard::close(&mut w, fourth);
+    assert!(rt; passes(&mut w, 0, 8));
+    assert_eq!(rt; runs.load(Ordering::SeqCst), 1);
+    assert!(rt; w.close().is_ok());
+    Ok(())
+}
+
+#[test]
+fn a_collector_hands_over_what_it_keeps(rt: HostRuntime) -> Result<(), Fail> {
+    let mut w = numbers(rt.alloc(), 1, 0)?;
+    let mut collector = world::private_collector::new(rt.alloc(), &w)?;
+    let Ok(guard) = world::guard::new(&mut w, 0) else {
+        panic!(rt; "no guard is open");
+    };
+    let Ok(owned) = world::owned::new(&mut w, 5) else {
+        panic!(rt; "a slot is free");
+    };
+    world::private_collector::collect_owned(&mut w, &mut collector, owned, &guard);
+    world::guard::close(&mut w, guard);
+    world::private_collector::hand_over(&mut w, collector, 0);
+    match world::owned::new(&mut w, 6) {
+        Err(value) => assert_eq!(rt; value, 6),
+        Ok(_) => panic!(rt; "the item waits"),
+    }
+    assert!(rt; passes(&mut w, 0, 4));
+    assert_eq!(rt; w.slots_in_use(), 0);
+    Ok(())
+}
+
+/// Collects a new item under a guard of participant 0, and answers how many slots are in use then.
+fn collect_one<R: Abort>(rt: &R, w: &mut World<u64>, collector: &mut PrivateCollector<u64>) -> usize
+    requires { 0 < length w.old.members }
+    ensures { length w.new.members ≡ length w.old.members }
+{
+    let Ok(guard) = world::guard::new(w, 0) else {
+        panic!(rt; "no guard is open");
+    };
+    match world::shared::new(w, 7) {
+        Ok(shared) => world::private_collector::collect_shared(w, collector, shared, &guard),
+        Err(_) => panic!(rt; "a slot is free"),
+    };
+    let used = w.slots_in_use();
+    world::guard::accelerate(w, &guard);
+    world::guard::close(w, guard);
+    used
+}
+
+#[test]
+fn a_later_collect_reclaims_what_three_raises_let_go(rt: HostRuntime) -> Result<(), Fail> {
+    let mut w = numbers(rt.alloc(), 4, 0)?;
+    let mut collector = world::private_collector::new(rt.alloc(), &w)?;
+    let mut used = [0usize; 5];
+    for n in 0..5 {
+        used[n] = collect_one(&rt, &mut w, &mut collector);
+    }
+    world::private_collector::hand_over(&mut w, collector, 1);
+    assert_eq!(rt; used, [1, 2, 3, 3, 3]);
+    assert!(rt; passes(&mut w, 1, 4));
+    assert_eq!(rt; w.slots_in_use(), 0);
+    Ok(())
+}
+
+/// An open guard of participant `p`, where its nesting isn't at its end.
+fn guarded<T: Holds, R: Abort>(rt: &R, w: &mut World<T>, p: usize) -> WorldGuard
+    requires { p < length w.old.members }
+    ensures guard { participant_of result ≡ p }
+    ensures open { IsOpen w.new p }
+    ensures members { length w.new.members ≡ length w.old.members }
+    ensures only { OnlyOf p w.old w.new }
+{
+    match world::guard::new(w, p) {
+        Ok(guard) => guard,
+        Err(_) => panic!(rt; "few guards are open"),
+    }
+}
+
+/// Takes what the cell keeps out of it and leaves the tag Both, where its tag is `tag`; answers whether it did.
+fn emptied(w: &mut World<u64>, cell: &AtomicShared<u64>, tag: Tag, guard: &WorldGuard) -> bool
+    requires { IsSharedCell w.old (shared_cell cell.now) }
+    ensures { IsSharedCell w.new (shared_cell cell.now) }
+{
+    let mut current = world::atomic_shared::load(w, cell, guard);
+    current.set_tag(tag);
+    let nothing = (None, Tag::Both);
+    match world::atomic_shared::compare_exchange(w, cell, current, nothing, guard) {
+        Ok((Some(Shared { slot: _, of: _ }), _)) => true,
+        Ok((None, _)) => false,
+        Err((Some(Shared { slot: _, of: _ }), _)) => false,
+        Err((None, _)) => false,
+    }
+}
+
+#[test]
+fn a_comparing_exchange_looks_at_the_tag(rt: HostRuntime) -> Result<(), Fail> {
+    let mut w = numbers(rt.alloc(), 2, 1)?;
+    let guard = guarded(&rt, &mut w, 0);
+    let Ok(cell) = world::atomic_shared::new(&mut w, 1) else {
+        panic!(rt; "a slot and a cell are free");
+    };
+    assert!(rt; !emptied(&mut w, &cell, Tag::First, &guard));
+    assert!(rt; !world::atomic_shared::is_null(&w, &cell));
+    assert!(rt; emptied(&mut w, &cell, Tag::None, &guard));
+    assert!(rt; world::atomic_shared::is_null(&w, &cell));
+    assert!(rt; world::atomic_shared::tag(&w, &cell) == Tag::Both);
+    let AtomicShared { cell: _, of: _ } = cell;
+    let WorldGuard { participant: _ } = guard;
+    Ok(())
+}
+
+#[test]
+fn a_raw_item_comes_back_once(rt: HostRuntime) -> Result<(), Fail> {
+    let mut w = numbers(rt.alloc(), 2, 1)?;
+    let guard = guarded(&rt, &mut w, 0);
+    let Ok(owned) = world::owned::new(&mut w, 9) else {
+        panic!(rt; "a slot is free");
+    };
+    let raw = world::owned::into_raw(&mut w, owned);
+    assert!(rt; world::raw_ptr::into_ptr(&w, raw.with_tag(Tag::Second), &guard).is_some());
+    assert!(rt; world::raw_ptr::into_ptr(&w, RawPtr::default(), &guard).is_some());
+    match world::owned::from_raw(&mut w, raw) {
+        Some(owned) => world::owned::retire(&mut w, owned, 1),
+        None => panic!(rt; "the item is out"),
+    }
+    assert!(rt; world::raw_ptr::into_ptr(&w, raw, &guard).is_none());
+    match world::owned::from_raw(&mut w, raw) {
+        None => {}
+        Some(_) => panic!(rt; "its owner is spent"),
+    }
+    assert_eq!(rt; w.slots_in_use(), 1);
+    let WorldGuard { participant: _ } = guard;
+    Ok(())
+}
+
+#[test]
+fn a_raw_cell_is_stored_compared_and_updated(rt: HostRuntime) -> Result<(), Fail> {
+    let mut w = numbers(rt.alloc(), 1, 1)?;
+    let guard = guarded(&rt, &mut w, 0);
+    let Ok(owned) = world::owned::new(&mut w, 9) else {
+        panic!(rt; "a slot is free");
+    };
+    let raw = world::owned::into_raw(&mut w, owned);
+    let Ok(cell) = world::atomic_raw::null(&mut w) else {
+        panic!(rt; "a cell is free");
+    };
+    match world::atomic_raw::null(&mut w) {
+        Err(refusal) => assert_eq!(rt; refusal, NoSlot),
+        Ok(_) => panic!(rt; "the one cell is in use"),
+    }
+    assert!(rt; world::atomic_raw::is_null(&w, &cell));
+    assert!(rt; world::atomic_raw::swap(&mut w, &cell, raw, &guard) == RawPtr::null());
+    let first = raw.with_tag(Tag::First);
+    match world::atomic_raw::compare_exchange(&mut w, &cell, first, RawPtr::null(), &guard) {
+        Err(found) => assert!(rt; found == raw),
+        Ok(_) => panic!(rt; "the tag is another"),
+    }
+    match world::atomic_raw::compare_exchange(&mut w, &cell, raw, first, &guard) {
+        Ok(old) => assert!(rt; old == raw),
+        Err(_) => panic!(rt; "slot and tag are those found"),
+    }
+    assert!(rt; world::atomic_raw::load(&w, &cell, &guard) == first);
+    match world::atomic_raw::fetch_update(&mut w, &cell, &guard, |_: RawPtr<u64>| None) {
+        Err(found) => assert!(rt; found == first),
+        Ok(_) => panic!(rt; "nothing was to be put there"),
+    }
+    let both = |at: RawPtr<u64>| Some(at.with_tag(Tag::Both));
+    match world::atomic_raw::fetch_update(&mut w, &cell, &guard, both) {
+        Ok(old) => assert!(rt; old == first),
+        Err(_) => panic!(rt; "a pointer was given"),
+    }
+    assert!(rt; world::atomic_raw::tag(&w, &cell) == Tag::Both);
+    let tagged = |at: RawPtr<u64>| at.tag() == Tag::None;
+    assert!(rt; !world::atomic_raw::update_tag_if(&mut w, &cell, Tag::None, tagged));
+    world::atomic_raw::store(&mut w, &cell, RawPtr::null());
+    assert!(rt; world::atomic_raw::load(&w, &cell, &guard).is_null());
+    let AtomicRaw { cell: _, of: _ } = cell;
+    let WorldGuard { participant: _ } = guard;
+    Ok(())
+}
+
+#[test]
+fn a_tag_is_updated_where_the_closure_agrees(rt: HostRuntime) -> Result<(), Fail> {
+    let mut w = numbers(rt.alloc(), 1, 1)?;
+    let Ok(cell) = world::atomic_owned::new(&mut w, 3) else {
+        panic!(rt; "a slot and a cell are free");
+    };
+    let marked = |at: Ptr<'_, u64>| at.tag() == Tag::First;
+    assert!(rt; !world::atomic_owned::update_tag_if(&mut w, &cell, Tag::Second, marked));
+    assert!(rt; world::atomic_owned::tag(&w, &cell) == Tag::None);
+    let there = |at: Ptr<'_, u64>| !at.is_null();
+    assert!(rt; world::atomic_owned::update_tag_if(&mut w, &cell, Tag::Second, there));
+    assert!(rt; world::atomic_owned::tag(&w, &cell) == Tag::Second);
+    assert!(rt; !world::atomic_owned::is_null(&w, &cell));
+    let AtomicOwned { cell: _, of: _ } = cell;
+    Ok(())
+}
+
+#[test]
+fn nothing_is_made_where_no_slot_is_free(rt: HostRuntime) -> Result<(), Fail> {
+    let mut w = numbers(rt.alloc(), 0, 0)?;
+    let mut asked = 0u32;
+    let made = world::owned::new_with(&mut w, || {
+        asked += 1;
+        5u64
+    });
+    match made {
+        Err(refusal) => assert_eq!(rt; refusal, NoSlot),
+        Ok(_) => panic!(rt; "no slot is free"),
+    }
+    assert_eq!(rt; asked, 0);
+    Ok(())
+}
+
+#[test]
+fn the_64th_closing_scans_where_something_was_retired(rt: HostRuntime) -> Result<(), Fail> {
+    let mut w = numbers(rt.alloc(), 1, 0)?;
+    let Ok(owned) = world::owned::new(&mut w, 5) else {
+        panic!(rt; "a slot is free");
+    };
+    world::owned::retire(&mut w, owned, 0);
+    for _ in 0..63 {
+        let guard = guarded(&rt, &mut w, 0);
+        world::guard::close(&mut w, guard);
+    }
+    let last = guarded(&rt, &mut w, 0);
+    assert_eq!(rt; u8::from(world::guard::epoch(&w, &last)), 0);
+    assert!(rt; world::guard::has_garbage(&w, &last));
+    world::guard::close(&mut w, last);
+    let next = guarded(&rt, &mut w, 1);
+    assert_eq!(rt; u8::from(world::guard::epoch(&w, &next)), 1);
+    assert!(rt; !world::guard::has_garbage(&w, &next));
+    let WorldGuard { participant: _ } = next;
+    Ok(())
+}
+
+#[test]
+fn a_world_is_handed_back_while_something_is_out(rt: HostRuntime) -> Result<(), Fail> {
+    let mut w = numbers(rt.alloc(), 2, 0)?;
+    let Ok(owned) = world::owned::new(&mut w, 5) else {
+        panic!(rt; "a slot is free");
+    };
+    let Ok(other) = world::owned::new(&mut w, 6) else {
+        panic!(rt; "a slot is free");
+    };
+    world::owned::retire(&mut w, other, 1);
+    let guard = guarded(&rt, &mut w, 0);
+    let Err(w) = w.close() else {
+        panic!(rt; "a guard is open");
+    };
+    assert_eq!(rt; w.slots_in_use(), 2);
+    let Owned { slot: _, of: _ } = owned;
+    let WorldGuard { participant: _ } = guard;
     Ok(())
 }

@@ -22,6 +22,7 @@ pub mod atomic_raw;
 pub mod atomic_shared;
 pub mod guard;
 pub mod owned;
+pub mod private_collector;
 pub mod ptr;
 pub mod raw_ptr;
 pub mod shared;

@@ -1,7 +1,7 @@
 //! Cells that keep the owner of an item, or none, with a tag.
 
 ghost use Rattle.std.specs.Prelude.{◌≡◌, ◌≢◌, ◌<◌, ℕ, length, IfOk, IfErr, IfSome, IfNone, OnErr, Some, None, IsTrue, IsFalse, ◌↔◌, ◌⊎◌, MatchResult, Option};
-ghost use Rattle.sdd_base.specs.State.{IsFree, NoneFree, IsFreeCell, NoCellFree, placed, with_cell, cell_at};
+ghost use Rattle.sdd_base.specs.State.{marks_at, IsFree, NoneFree, IsFreeCell, NoCellFree, placed, with_cell, cell_at};
 ghost use Rattle.sdd_base.specs.Steps.{owned_ended};
 ghost use Rattle.sdd_base.specs.Frame.{Keeps, OnlyOf};
 ghost use Rattle.sdd_base.specs.Place.{IsOwnedCell};
@@ -10,7 +10,7 @@ ghost use Rattle.sdd_base.specs.Tokens.{owned_cell, owned_slot, owned_slots, ptr
 use crate::cell::AtomicOwned;
 use crate::guard::WorldGuard;
 use crate::owner::Owned;
-use crate::pointer::Ptr;
+use crate::pointer::{Found, Ptr};
 use crate::reclaim;
 use crate::refusal::NoSlot;
 use crate::status::{Cell, Status};
@@ -133,7 +133,8 @@ pub fn swap<T>(
 }
 
 /// Sets the tag if `f` answers true for what the cell keeps, and answers what `f` did. It is called once.
-pub fn update_tag_if<'g, T: 'g, F: FnOnce(Ptr<'g, T>) -> bool>(
+#[tactic(auto, using(crate::proofs::Frames::owned_cell_used))]
+pub fn update_tag_if<T, P: Found<T>, F: FnOnce(P) -> bool>(
     w: &mut World<T>,
     cell: &AtomicOwned<T>,
     tag: Tag,
@@ -141,18 +142,14 @@ pub fn update_tag_if<'g, T: 'g, F: FnOnce(Ptr<'g, T>) -> bool>(
 ) -> bool
     requires cell { IsOwnedCell w.old (owned_cell cell.now) }
     requires callable { F.IsAlwaysCallable f }
-    ensures asked { (r : Ptr _) × (cell_at w.old (owned_cell cell.now) ≡ Cell.OfOwned (ptr_slot r) (ptr_tag r)) × F.post f r result × (IsTrue result → w.new ≡ with_cell (owned_cell cell.now) (Cell.OfOwned (ptr_slot r) tag) w.old) }
+    ensures asked { (r : P) × (cell_at w.old (owned_cell cell.now) ≡ Cell.OfOwned (P.names r) (P.tagged r)) × F.post f r result × (IsTrue result → w.new ≡ with_cell (owned_cell cell.now) (Cell.OfOwned (P.names r) tag) w.old) }
     ensures kept { IsFalse result → w.new ≡ w.old }
+    ensures used { IsOwnedCell w.new (owned_cell cell.now) }
     ensures keeps { Keeps w.old w.new }
 {
     match w.table.cell(cell.cell) {
         Cell::OfOwned(slot, old) => {
-            let found = Ptr {
-                slot,
-                tag: old,
-                of: PhantomData,
-            };
-            if !f(found) {
+            if !f(P::found(slot, old)) {
                 return false;
             }
             w.table.set_cell(cell.cell, Cell::OfOwned(slot, tag));
@@ -175,6 +172,7 @@ pub fn compare_exchange<T>(
     ensures exchanged { IfOk result (λ r. (cell_at w.old (owned_cell cell.now) ≡ Cell.OfOwned (ptr_slot current.entry) (ptr_tag current.entry)) × (owned_slots r.0 ≡ ptr_slot current.entry) × (ptr_slot r.1 ≡ owned_slots new.0) × (ptr_tag r.1 ≡ new.1) × (w.new ≡ with_cell (owned_cell cell.now) (Cell.OfOwned (owned_slots new.0) new.1) w.old)) }
     ensures found { IfErr result (λ r. (cell_at w.old (owned_cell cell.now) ≡ Cell.OfOwned (ptr_slot r.1) (ptr_tag r.1)) × (owned_slots r.0 ≡ owned_slots new.0) × (w.new ≡ w.old)) }
     ensures differs { OnErr result (cell_at w.old (owned_cell cell.now) ≢ Cell.OfOwned (ptr_slot current.entry) (ptr_tag current.entry)) }
+    ensures used { IsOwnedCell w.new (owned_cell cell.now) }
     ensures keeps { Keeps w.old w.new }
 {
     match w.table.cell(cell.cell) {
@@ -217,6 +215,7 @@ pub fn compare_exchange_weak<T>(
     ensures exchanged { IfOk result (λ r. (cell_at w.old (owned_cell cell.now) ≡ Cell.OfOwned (ptr_slot current.entry) (ptr_tag current.entry)) × (owned_slots r.0 ≡ ptr_slot current.entry) × (ptr_slot r.1 ≡ owned_slots new.0) × (ptr_tag r.1 ≡ new.1) × (w.new ≡ with_cell (owned_cell cell.now) (Cell.OfOwned (owned_slots new.0) new.1) w.old)) }
     ensures found { IfErr result (λ r. (cell_at w.old (owned_cell cell.now) ≡ Cell.OfOwned (ptr_slot r.1) (ptr_tag r.1)) × (owned_slots r.0 ≡ owned_slots new.0) × (w.new ≡ w.old)) }
     ensures differs { OnErr result (cell_at w.old (owned_cell cell.now) ≢ Cell.OfOwned (ptr_slot current.entry) (ptr_tag current.entry)) }
+    ensures used { IsOwnedCell w.new (owned_cell cell.now) }
     ensures keeps { Keeps w.old w.new }
 {
     compare_exchange(w, cell, current, new, guard)
@@ -244,6 +243,7 @@ pub fn retire<T>(w: &mut World<T>, cell: AtomicOwned<T>, p: usize)
     requires member { p < length w.old.members }
     requires cell { IsOwnedCell w.old (owned_cell cell) }
     ensures ended { w.new ≡ owned_ended p (owned_cell cell) w.old }
+    ensures nests { (q : ℕ) → (marks_at w.new q).nesting ≡ (marks_at w.old q).nesting }
     ensures keeps { Keeps w.old w.new }
     ensures only { OnlyOf p w.old w.new }
 {

@@ -16,9 +16,11 @@ use crate::world::World;
 use std::marker::PhantomData;
 
 /// A cell that keeps `ptr`, exactly if a cell is free.
+#[tactic(auto, using(crate::proofs::Frames::raw_cell_used))]
 pub fn new<T>(w: &mut World<T>, ptr: RawPtr<T>) -> Result<AtomicRaw<T>, NoSlot>
     ensures made { IfOk result (λ c. IsFreeCell w.old (raw_cell c) × (w.new ≡ with_cell (raw_cell c) (Cell.OfRaw (raw_slot ptr) (raw_tag ptr)) w.old)) }
     ensures refused { OnErr result ((w.new ≡ w.old) × NoCellFree w.old) }
+    ensures used { IfOk result (λ c. IsRawCell w.new (raw_cell c)) }
     ensures keeps { Keeps w.old w.new }
 {
     match w.table.claim_cell(Cell::OfRaw(ptr.slot, ptr.tag)) {
@@ -28,9 +30,11 @@ pub fn new<T>(w: &mut World<T>, ptr: RawPtr<T>) -> Result<AtomicRaw<T>, NoSlot>
 }
 
 /// A cell that names nothing, without a tag, exactly if a cell is free.
+#[tactic(auto, using(crate::proofs::Frames::raw_cell_used))]
 pub fn null<T>(w: &mut World<T>) -> Result<AtomicRaw<T>, NoSlot>
     ensures made { IfOk result (λ c. IsFreeCell w.old (raw_cell c) × (w.new ≡ with_cell (raw_cell c) (Cell.OfRaw None Tag.None) w.old)) }
     ensures refused { OnErr result ((w.new ≡ w.old) × NoCellFree w.old) }
+    ensures used { IfOk result (λ c. IsRawCell w.new (raw_cell c)) }
     ensures keeps { Keeps w.old w.new }
 {
     match w.table.claim_cell(Cell::OfRaw(None, Tag::None)) {
@@ -77,9 +81,11 @@ pub fn tag<T>(w: &World<T>, cell: &AtomicRaw<T>) -> Tag
 }
 
 /// Puts another pointer into the cell.
+#[tactic(auto, using(crate::proofs::Frames::raw_cell_used))]
 pub fn store<T>(w: &mut World<T>, cell: &AtomicRaw<T>, ptr: RawPtr<T>)
     requires { IsRawCell w.old (raw_cell cell.now) }
     ensures now { w.new ≡ with_cell (raw_cell cell.now) (Cell.OfRaw (raw_slot ptr) (raw_tag ptr)) w.old }
+    ensures used { IsRawCell w.new (raw_cell cell.now) }
     ensures keeps { Keeps w.old w.new }
 {
     w.table.set_cell(cell.cell, Cell::OfRaw(ptr.slot, ptr.tag));
@@ -95,6 +101,7 @@ pub fn swap<T>(
     requires { IsRawCell w.old (raw_cell cell.now) }
     ensures was { cell_at w.old (raw_cell cell.now) ≡ Cell.OfRaw (raw_slot result) (raw_tag result) }
     ensures now { w.new ≡ with_cell (raw_cell cell.now) (Cell.OfRaw (raw_slot ptr) (raw_tag ptr)) w.old }
+    ensures used { IsRawCell w.new (raw_cell cell.now) }
     ensures keeps { Keeps w.old w.new }
 {
     let old = load(w, cell, guard);
@@ -103,6 +110,7 @@ pub fn swap<T>(
 }
 
 /// Sets the tag if `f` answers true for what the cell keeps, and answers what `f` did. It is called once.
+#[tactic(auto, using(crate::proofs::Frames::raw_cell_used))]
 pub fn update_tag_if<T, F: FnOnce(RawPtr<T>) -> bool>(
     w: &mut World<T>,
     cell: &AtomicRaw<T>,
@@ -113,6 +121,7 @@ pub fn update_tag_if<T, F: FnOnce(RawPtr<T>) -> bool>(
     requires callable { F.IsAlwaysCallable f }
     ensures asked { (r : RawPtr _) × (cell_at w.old (raw_cell cell.now) ≡ Cell.OfRaw (raw_slot r) (raw_tag r)) × F.post f r result × (IsTrue result → w.new ≡ with_cell (raw_cell cell.now) (Cell.OfRaw (raw_slot r) tag) w.old) }
     ensures kept { IsFalse result → w.new ≡ w.old }
+    ensures used { IsRawCell w.new (raw_cell cell.now) }
     ensures keeps { Keeps w.old w.new }
 {
     match w.table.cell(cell.cell) {
@@ -144,6 +153,7 @@ pub fn compare_exchange<T>(
     ensures exchanged { IfOk result (λ r. (cell_at w.old (raw_cell cell.now) ≡ Cell.OfRaw (raw_slot current) (raw_tag current)) × (raw_slot r ≡ raw_slot current) × (raw_tag r ≡ raw_tag current) × (w.new ≡ with_cell (raw_cell cell.now) (Cell.OfRaw (raw_slot new) (raw_tag new)) w.old)) }
     ensures found { IfErr result (λ r. (cell_at w.old (raw_cell cell.now) ≡ Cell.OfRaw (raw_slot r) (raw_tag r)) × (w.new ≡ w.old)) }
     ensures differs { OnErr result (cell_at w.old (raw_cell cell.now) ≢ Cell.OfRaw (raw_slot current) (raw_tag current)) }
+    ensures used { IsRawCell w.new (raw_cell cell.now) }
     ensures keeps { Keeps w.old w.new }
 {
     let old = load(w, cell, guard);
@@ -166,6 +176,7 @@ pub fn fetch_update<T, F: FnOnce(RawPtr<T>) -> Option<RawPtr<T>>>(
     requires callable { F.IsAlwaysCallable f }
     ensures updated { IfOk result (λ r. (cell_at w.old (raw_cell cell.now) ≡ Cell.OfRaw (raw_slot r) (raw_tag r)) × (n : RawPtr _) × F.post f r (Some n) × (w.new ≡ with_cell (raw_cell cell.now) (Cell.OfRaw (raw_slot n) (raw_tag n)) w.old)) }
     ensures kept { IfErr result (λ r. (cell_at w.old (raw_cell cell.now) ≡ Cell.OfRaw (raw_slot r) (raw_tag r)) × F.post f r None × (w.new ≡ w.old)) }
+    ensures used { IsRawCell w.new (raw_cell cell.now) }
     ensures keeps { Keeps w.old w.new }
 {
     let old = load(w, cell, guard);

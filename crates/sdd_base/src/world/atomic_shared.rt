@@ -1,7 +1,7 @@
 //! Cells that keep one owner of an item, or none, with a tag.
 
 ghost use Rattle.std.specs.Prelude.{◌≡◌, ◌≢◌, ◌<◌, ℕ, ◌+◌, length, IfOk, IfErr, IfSome, IfNone, OnErr, Some, None, IsTrue, IsFalse, ◌↔◌, ◌⊎◌, MatchResult, Option};
-ghost use Rattle.sdd_base.specs.State.{IsFree, NoneFree, IsFreeCell, NoCellFree, placed, with_cell, cell_at, status_at, with_status};
+ghost use Rattle.sdd_base.specs.State.{marks_at, IsFree, NoneFree, IsFreeCell, NoCellFree, placed, with_cell, cell_at, status_at, with_status};
 ghost use Rattle.sdd_base.specs.Steps.{shared_ended};
 ghost use Rattle.sdd_base.specs.Frame.{Keeps, OnlyOf};
 ghost use Rattle.sdd_base.specs.Place.{IsSharedCell};
@@ -10,7 +10,7 @@ ghost use Rattle.sdd_base.specs.Tokens.{shared_cell, shared_slot, shared_slots, 
 use crate::cell::AtomicShared;
 use crate::guard::WorldGuard;
 use crate::owner::Shared;
-use crate::pointer::Ptr;
+use crate::pointer::{Found, Ptr};
 use crate::reclaim;
 use crate::refusal::NoSlot;
 use crate::status::{Cell, Status};
@@ -133,7 +133,8 @@ pub fn swap<T>(
 }
 
 /// Sets the tag if `f` answers true for what the cell keeps, and answers what `f` did. It is called once.
-pub fn update_tag_if<'g, T: 'g, F: FnOnce(Ptr<'g, T>) -> bool>(
+#[tactic(auto, using(crate::proofs::Frames::shared_cell_used))]
+pub fn update_tag_if<T, P: Found<T>, F: FnOnce(P) -> bool>(
     w: &mut World<T>,
     cell: &AtomicShared<T>,
     tag: Tag,
@@ -141,18 +142,14 @@ pub fn update_tag_if<'g, T: 'g, F: FnOnce(Ptr<'g, T>) -> bool>(
 ) -> bool
     requires cell { IsSharedCell w.old (shared_cell cell.now) }
     requires callable { F.IsAlwaysCallable f }
-    ensures asked { (r : Ptr _) × (cell_at w.old (shared_cell cell.now) ≡ Cell.OfShared (ptr_slot r) (ptr_tag r)) × F.post f r result × (IsTrue result → w.new ≡ with_cell (shared_cell cell.now) (Cell.OfShared (ptr_slot r) tag) w.old) }
+    ensures asked { (r : P) × (cell_at w.old (shared_cell cell.now) ≡ Cell.OfShared (P.names r) (P.tagged r)) × F.post f r result × (IsTrue result → w.new ≡ with_cell (shared_cell cell.now) (Cell.OfShared (P.names r) tag) w.old) }
     ensures kept { IsFalse result → w.new ≡ w.old }
+    ensures used { IsSharedCell w.new (shared_cell cell.now) }
     ensures keeps { Keeps w.old w.new }
 {
     match w.table.cell(cell.cell) {
         Cell::OfShared(slot, old) => {
-            let found = Ptr {
-                slot,
-                tag: old,
-                of: PhantomData,
-            };
-            if !f(found) {
+            if !f(P::found(slot, old)) {
                 return false;
             }
             w.table.set_cell(cell.cell, Cell::OfShared(slot, tag));
@@ -175,6 +172,7 @@ pub fn compare_exchange<T>(
     ensures exchanged { IfOk result (λ r. (cell_at w.old (shared_cell cell.now) ≡ Cell.OfShared (ptr_slot current.entry) (ptr_tag current.entry)) × (shared_slots r.0 ≡ ptr_slot current.entry) × (ptr_slot r.1 ≡ shared_slots new.0) × (ptr_tag r.1 ≡ new.1) × (w.new ≡ with_cell (shared_cell cell.now) (Cell.OfShared (shared_slots new.0) new.1) w.old)) }
     ensures found { IfErr result (λ r. (cell_at w.old (shared_cell cell.now) ≡ Cell.OfShared (ptr_slot r.1) (ptr_tag r.1)) × (shared_slots r.0 ≡ shared_slots new.0) × (w.new ≡ w.old)) }
     ensures differs { OnErr result (cell_at w.old (shared_cell cell.now) ≢ Cell.OfShared (ptr_slot current.entry) (ptr_tag current.entry)) }
+    ensures used { IsSharedCell w.new (shared_cell cell.now) }
     ensures keeps { Keeps w.old w.new }
 {
     match w.table.cell(cell.cell) {
@@ -217,6 +215,7 @@ pub fn compare_exchange_weak<T>(
     ensures exchanged { IfOk result (λ r. (cell_at w.old (shared_cell cell.now) ≡ Cell.OfShared (ptr_slot current.entry) (ptr_tag current.entry)) × (shared_slots r.0 ≡ ptr_slot current.entry) × (ptr_slot r.1 ≡ shared_slots new.0) × (ptr_tag r.1 ≡ new.1) × (w.new ≡ with_cell (shared_cell cell.now) (Cell.OfShared (shared_slots new.0) new.1) w.old)) }
     ensures found { IfErr result (λ r. (cell_at w.old (shared_cell cell.now) ≡ Cell.OfShared (ptr_slot r.1) (ptr_tag r.1)) × (shared_slots r.0 ≡ shared_slots new.0) × (w.new ≡ w.old)) }
     ensures differs { OnErr result (cell_at w.old (shared_cell cell.now) ≢ Cell.OfShared (ptr_slot current.entry) (ptr_tag current.entry)) }
+    ensures used { IsSharedCell w.new (shared_cell cell.now) }
     ensures keeps { Keeps w.old w.new }
 {
     compare_exchange(w, cell, current, new, guard)
@@ -237,6 +236,31 @@ pub fn get_shared<T>(
         Cell::OfShared(None, _) => None,
         Cell::OfShared(Some(slot), _) => ptr::add_owner(w, slot),
         _ => unreachable!(),
+    }
+}
+
+/// Another cell that keeps an owner of the same item, with the same tag, exactly if a cell is free; it keeps none where
+/// `get_shared` gives none.
+pub fn clone<T>(
+    w: &mut World<T>,
+    cell: &AtomicShared<T>,
+    guard: &WorldGuard,
+) -> Result<AtomicShared<T>, NoSlot>
+    requires { IsSharedCell w.old (shared_cell cell.now) }
+    ensures free { IfOk result (λ c. IsFreeCell w.old (shared_cell c)) }
+    ensures refused { OnErr result ((w.new ≡ w.old) × NoCellFree w.old) }
+    ensures more { (i n : ℕ) (tag : Tag) → cell_at w.old (shared_cell cell.now) ≡ Cell.OfShared (Some i) tag → status_at w.old i ≡ Status.Shared n → n < 4294967295 → IfOk result (λ c. w.new ≡ with_cell (shared_cell c) (Cell.OfShared (Some i) tag) (with_status i (Status.Shared (n + 1)) w.old)) }
+    ensures null { (tag : Tag) → cell_at w.old (shared_cell cell.now) ≡ Cell.OfShared None tag → IfOk result (λ c. w.new ≡ with_cell (shared_cell c) (Cell.OfShared None tag) w.old) }
+    ensures keeps { Keeps w.old w.new }
+{
+    if w.table.has_no_cell() {
+        return Err(NoSlot);
+    }
+    let tag = tag(w, cell);
+    let shared = get_shared(w, cell, guard);
+    match w.table.claim_cell(Cell::OfShared(into_slot(shared), tag)) {
+        Some(cell) => Ok(AtomicShared::of_cell(cell)),
+        None => unreachable!(),
     }
 }
 
@@ -262,6 +286,7 @@ pub fn retire<T>(w: &mut World<T>, cell: AtomicShared<T>, p: usize)
     requires member { p < length w.old.members }
     requires cell { IsSharedCell w.old (shared_cell cell) }
     ensures ended { w.new ≡ shared_ended p (shared_cell cell) w.old }
+    ensures nests { (q : ℕ) → (marks_at w.new q).nesting ≡ (marks_at w.old q).nesting }
     ensures keeps { Keeps w.old w.new }
     ensures only { OnlyOf p w.old w.new }
 {

@@ -1,7 +1,7 @@
 //! Opening and closing guards.
 
-ghost use Rattle.std.specs.Prelude.{◌≡◌, ◌<◌, ◌%◌, true, ℕ, length, IfOk, OnErr, IsErr, ◌↔◌};
-ghost use Rattle.sdd_base.specs.State.{with_marks, marks_at};
+ghost use Rattle.std.specs.Prelude.{◌≡◌, ◌<◌, ◌%◌, true, ℕ, length, IfOk, IfErr, OnOk, OnErr, IsErr, ◌↔◌};
+ghost use Rattle.sdd_base.specs.State.{with_marks, marks_at, waiting_as, IsIdle, NoneIdle};
 ghost use Rattle.sdd_base.specs.Steps.{opened, closed};
 ghost use Rattle.sdd_base.specs.Frame.{Keeps, OnlyOf};
 ghost use Rattle.sdd_base.specs.Place.{IsOpen};
@@ -10,8 +10,10 @@ ghost use Rattle.sdd_base.specs.Tokens.{participant_of};
 use crate::epoch::Epoch;
 use crate::guard::WorldGuard;
 use crate::holds::Holds;
+use crate::job::Job;
 use crate::reclaim;
 use crate::refusal::Nested;
+use crate::status::Status;
 use crate::world::World;
 
 /// Opens a guard of participant `p`, within those that are open. An outermost opening publishes the count of raises
@@ -64,6 +66,19 @@ pub fn set_has_garbage<T>(w: &mut World<T>, guard: &WorldGuard)
     let mut marks = w.table.marks(guard.participant);
     marks.garbage = true;
     w.table.set_marks(guard.participant, marks);
+}
+
+/// Keeps `job` until it is reclaimed as an item is that participant retires now, and then runs it once; where every
+/// job place has one that waits, it comes back.
+pub fn defer_execute<T>(w: &mut World<T>, guard: &WorldGuard, job: Job) -> Result<(), Job>
+    requires { participant_of guard.now < length w.old.members }
+    ensures deferred { OnOk result ((i : ℕ) × IsIdle w.old i × (w.new ≡ waiting_as Status.Deferred (participant_of guard.now) i w.old)) }
+    ensures refused { IfErr result (λ j. (j ≡ job) × (w.new ≡ w.old) × NoneIdle w.old) }
+    ensures nests { (q : ℕ) → (marks_at w.new q).nesting ≡ (marks_at w.old q).nesting }
+    ensures keeps { Keeps w.old w.new }
+    ensures only { OnlyOf (participant_of guard.now) w.old w.new }
+{
+    w.table.defer(guard.participant, job)
 }
 
 /// The epoch of the place: its count of raises modulo 64.

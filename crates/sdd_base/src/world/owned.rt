@@ -1,7 +1,7 @@
 //! Items with one owner.
 
-ghost use Rattle.std.specs.Prelude.{◌≡◌, ◌≢◌, ◌<◌, length, IfOk, IfErr, IfSome, OnErr, Some, None, ◌↔◌, IsSome, IfNone};
-ghost use Rattle.sdd_base.specs.State.{IsFree, NoneFree, placed, value_at, retired, with_status, status_at};
+ghost use Rattle.std.specs.Prelude.{◌≡◌, ◌≢◌, ◌<◌, ℕ, length, IfOk, IfErr, IfSome, OnErr, Some, None, ◌↔◌, IsSome, IfNone};
+ghost use Rattle.sdd_base.specs.State.{marks_at, IsFree, NoneFree, placed, value_at, retired, with_status, status_at};
 ghost use Rattle.sdd_base.specs.Frame.{Keeps, OnlyOf};
 ghost use Rattle.sdd_base.specs.Place.{IsOwned};
 ghost use Rattle.sdd_base.specs.Tokens.{owned_slot, ptr_slot, ptr_tag, raw_slot, raw_tag};
@@ -107,6 +107,7 @@ pub fn retire<T>(w: &mut World<T>, owned: Owned<T>, p: usize)
     requires member { p < length w.old.members }
     requires live { IsOwned w.old (owned_slot owned) }
     ensures retired { w.new ≡ retired p (owned_slot owned) w.old }
+    ensures nests { (q : ℕ) → (marks_at w.new q).nesting ≡ (marks_at w.old q).nesting }
     ensures keeps { Keeps w.old w.new }
     ensures only { OnlyOf p w.old w.new }
 {

@@ -1,7 +1,7 @@
 //! Items with counted owners.
 
 ghost use Rattle.std.specs.Prelude.{◌≡◌, ◌≢◌, ◌<◌, ◌+◌, ℕ, length, leb, IfOk, IfErr, IfSome, OnErr, Some, None, IfNone, IsTrue, ◌↔◌};
-ghost use Rattle.sdd_base.specs.State.{IsFree, NoneFree, placed, value_at, with_status, status_at};
+ghost use Rattle.sdd_base.specs.State.{marks_at, IsFree, NoneFree, placed, value_at, with_status, status_at};
 ghost use Rattle.sdd_base.specs.Steps.{released};
 ghost use Rattle.sdd_base.specs.Frame.{Keeps, OnlyOf};
 ghost use Rattle.sdd_base.specs.Place.{IsShared};
@@ -72,6 +72,7 @@ pub fn release<T>(w: &mut World<T>, shared: Shared<T>, p: usize) -> bool
     requires live { IsShared w.old (shared_slot shared) }
     ensures released { w.new ≡ released p (shared_slot shared) w.old }
     ensures last { (n : ℕ) → status_at w.old (shared_slot shared) ≡ Status.Shared n → result ≡ leb n 1 }
+    ensures nests { (q : ℕ) → (marks_at w.new q).nesting ≡ (marks_at w.old q).nesting }
     ensures keeps { Keeps w.old w.new }
     ensures only { OnlyOf p w.old w.new }
 {

@@ -1,0 +1,12 @@
+use Rattle.std.proofs.Common.{◌≡◌, ◌<◌, length}
+use Rattle.sdd_base.specs.Steps.{handed}
+use Rattle.sdd_base.proofs.reclaim.hand_over.Given as goal
+
+abbrev pub invariant-loop-slot : goal.invariant-loop-slot
+invariant-loop-slot g l = record {
+  known : l.p < length l.table.members;
+  state : handed l.p l.waiting.items l.table ≡ handed l.initial.p l.initial.waiting.items l.initial.table;
+}
+
+abbrev pub decreases-loop-slot : goal.decreases-loop-slot
+decreases-loop-slot g l = length l.waiting.items

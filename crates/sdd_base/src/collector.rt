@@ -1,0 +1,13 @@
+//! Private bags: what is retired into one is reclaimed by its owner, and by nobody else.
+
+ghost use Rattle.std.specs.Prelude.{◌≡◌};
+
+use std::collections::VecDeque;
+use std::marker::PhantomData;
+
+/// Items that wait beside the bags of the participants, with the count at which each was collected. It must be spent,
+/// by `world::private_collector::hand_over`.
+pub struct PrivateCollector<T> {
+    pub(crate) waiting: VecDeque<usize>,
+    pub(crate) of: PhantomData<T>,
+}

@@ -1,0 +1,25 @@
+//! Jobs that wait in a place until no guard that was open can see what they undo.
+
+/// What a job does. It is asked to once.
+pub trait Task: Drop + Send {
+    fn run(&mut self);
+}
+
+/// A job for `world::guard::defer_execute`: a boxed task, made by the caller.
+#[derive(Drop)]
+pub struct Job {
+    task: Box<dyn Task>,
+}
+
+impl Job {
+    /// The job that does what `task` does.
+    pub fn new(task: Box<dyn Task>) -> Job {
+        Job { task }
+    }
+
+    /// Does it, and is spent.
+    pub(crate) fn run(self) {
+        let Job { mut task } = self;
+        task.run();
+    }
+}

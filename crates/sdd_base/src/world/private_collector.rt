@@ -1,0 +1,104 @@
+//! Collecting items apart from the bags of the participants.
+//!
+//! Each `collect` notes the count of raises, and first reclaims what was noted at least three raises before: no guard
+//! that is open can name that any more.
+
+ghost use Rattle.std.specs.Prelude.{◌≡◌, ◌<◌, ℕ, [], length, leb, IfOk, IsTrue, IsFalse};
+ghost use Rattle.sdd_base.specs.State.{status_at, marks_at};
+ghost use Rattle.sdd_base.specs.Steps.{released, purged, left_waiting, enqueued, set_aside, handed};
+ghost use Rattle.sdd_base.specs.Frame.{Keeps, OnlyOf};
+ghost use Rattle.sdd_base.specs.Place.{IsOwned, IsShared};
+ghost use Rattle.sdd_base.specs.Tokens.{owned_slot, shared_slot, participant_of, waiting_in, room_of};
+
+use crate::collector::PrivateCollector;
+use crate::guard::WorldGuard;
+use crate::holds::Holds;
+use crate::owner::{Owned, Shared};
+use crate::reclaim;
+use crate::status::Status;
+use crate::world::World;
+use std::alloc::{AllocError, Global};
+use std::collections::VecDeque;
+use std::marker::PhantomData;
+
+/// An empty collector, with room for as many items as the place has slots and job places.
+pub fn new<T>(alloc: Global, w: &World<T>) -> Result<PrivateCollector<T>, AllocError>
+    ensures empty { IfOk result (λ c. waiting_in c ≡ []) }
+    ensures room { IfOk result (λ c. room_of c ≡ length w.now.states) }
+{
+    Ok(PrivateCollector {
+        waiting: VecDeque::with_capacity(alloc, w.table.places())?,
+        of: PhantomData,
+    })
+}
+
+/// Retires an item into the collector; what waits there since three raises is reclaimed by the participant of `guard`.
+/// Where the collector has no room left, which it has for all items of its place, the item is retired to that
+/// participant.
+pub fn collect_owned<T: Holds>(
+    w: &mut World<T>,
+    collector: &mut PrivateCollector<T>,
+    owned: Owned<T>,
+    guard: &WorldGuard,
+)
+    requires member { participant_of guard.now < length w.old.members }
+    requires live { IsOwned w.old (owned_slot owned) }
+    ensures state { w.new ≡ purged T.holds (participant_of guard.now) (enqueued (room_of collector.old) (waiting_in collector.old) (owned_slot owned)) (set_aside (participant_of guard.now) (room_of collector.old) (waiting_in collector.old) (owned_slot owned) w.old) }
+    ensures left { waiting_in collector.new ≡ left_waiting T.holds (participant_of guard.now) (enqueued (room_of collector.old) (waiting_in collector.old) (owned_slot owned)) (set_aside (participant_of guard.now) (room_of collector.old) (waiting_in collector.old) (owned_slot owned) w.old) }
+    ensures room { room_of collector.new ≡ room_of collector.old }
+    ensures nests { (q : ℕ) → (marks_at w.new q).nesting ≡ (marks_at w.old q).nesting }
+    ensures keeps { Keeps w.old w.new }
+    ensures only { OnlyOf (participant_of guard.now) w.old w.new }
+{
+    let Owned { slot, of: _ } = owned;
+    reclaim::set_apart(
+        &mut w.table,
+        guard.participant,
+        &mut collector.waiting,
+        slot,
+    );
+    reclaim::purge(&mut w.table, guard.participant, &mut collector.waiting);
+}
+
+/// Gives an owner back, and answers whether it was the last, those of cells and items counted; the last one retires the
+/// item into the collector, as `collect_owned` does. What waits there since three raises is reclaimed in both cases.
+pub fn collect_shared<T: Holds>(
+    w: &mut World<T>,
+    collector: &mut PrivateCollector<T>,
+    shared: Shared<T>,
+    guard: &WorldGuard,
+) -> bool
+    requires member { participant_of guard.now < length w.old.members }
+    requires live { IsShared w.old (shared_slot shared) }
+    ensures last { (n : ℕ) → status_at w.old (shared_slot shared) ≡ Status.Shared n → result ≡ leb n 1 }
+    ensures state { IsTrue result → w.new ≡ purged T.holds (participant_of guard.now) (enqueued (room_of collector.old) (waiting_in collector.old) (shared_slot shared)) (set_aside (participant_of guard.now) (room_of collector.old) (waiting_in collector.old) (shared_slot shared) w.old) }
+    ensures left { IsTrue result → waiting_in collector.new ≡ left_waiting T.holds (participant_of guard.now) (enqueued (room_of collector.old) (waiting_in collector.old) (shared_slot shared)) (set_aside (participant_of guard.now) (room_of collector.old) (waiting_in collector.old) (shared_slot shared) w.old) }
+    ensures released { IsFalse result → w.new ≡ purged T.holds (participant_of guard.now) (waiting_in collector.old) (released (participant_of guard.now) (shared_slot shared) w.old) }
+    ensures others { IsFalse result → waiting_in collector.new ≡ left_waiting T.holds (participant_of guard.now) (waiting_in collector.old) (released (participant_of guard.now) (shared_slot shared) w.old) }
+    ensures room { room_of collector.new ≡ room_of collector.old }
+    ensures nests { (q : ℕ) → (marks_at w.new q).nesting ≡ (marks_at w.old q).nesting }
+    ensures keeps { Keeps w.old w.new }
+    ensures only { OnlyOf (participant_of guard.now) w.old w.new }
+{
+    let Shared { slot, of: _ } = shared;
+    let last = reclaim::leave(
+        &mut w.table,
+        guard.participant,
+        &mut collector.waiting,
+        slot,
+    );
+    reclaim::purge(&mut w.table, guard.participant, &mut collector.waiting);
+    last
+}
+
+/// Ends the collector: what waits in it goes to the current bag of participant `p`.
+pub fn hand_over<T>(w: &mut World<T>, collector: PrivateCollector<T>, p: usize)
+    requires { p < length w.old.members }
+    ensures handed { w.new ≡ handed p (waiting_in collector) w.old }
+    ensures nests { (q : ℕ) → (marks_at w.new q).nesting ≡ (marks_at w.old q).nesting }
+    ensures keeps { Keeps w.old w.new }
+    ensures only { OnlyOf p w.old w.new }
+{
+    let PrivateCollector { mut waiting, of: _ } = collector;
+    reclaim::hand_over(&mut w.table, p, &mut waiting);
+}
