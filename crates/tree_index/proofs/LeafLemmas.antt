@@ -16,6 +16,7 @@ use Rattle.leaf_array.specs.declared.result.InsertResult.{InsertResult}
 use Rattle.leaf_array.specs.declared.result.InsertResult.TheVariants.{Success, Duplicate, Full}
 use Rattle.leaf_array.specs.Cells.{Cells, has, inserted, replaced}
 use Rattle.leaf_array.specs.Results.{IsSuccess, IsDuplicate, IsFull, is_closed, is_repeated}
+use Rattle.leaf_array.proofs.EntryLemmas.{insert_upserted, exchange_upserted, has_lookup}
 use Rattle.tree_index.specs.Shape.{AllKeys}
 use Rattle.tree_index.proofs.ShapeLemmas.{all_weaken, turned}
 
@@ -32,15 +33,6 @@ module _ {K V : Type 0} where
   filter_none test [] a = refl
   filter_none test (p ∷ ps) a = rw a.0 (filter_none test ps a.1)
 
-  -- whether a pair has the key, as a look-up says it
-  pub has_is_some : (cmp : K → K → Ordering) (key : K) (ps : List (K × V)) → has_key cmp key ps ≡ is_some (lookup (is_at (cmp key)) ps)
-  has_is_some cmp key [] = refl
-  has_is_some cmp key (p ∷ ps) =
-      elim (is_at (cmp key) p.0) as (λ b. (b || has_key cmp key ps) ≡ is_some (cond b (Some p.1) (lookup (is_at (cmp key)) ps))) [
-        | true ↦ refl
-        | false ↦ has_is_some cmp key ps
-      ]
-
   pub has_entry : (cmp : K → K → Ordering) (key : K) (ps : List (K × V)) → has_key cmp key ps ≡ is_some (lookup_entry (is_at (cmp key)) ps)
   has_entry cmp key [] = refl
   has_entry cmp key (p ∷ ps) =
@@ -49,69 +41,10 @@ module _ {K V : Type 0} where
         | false ↦ has_entry cmp key ps
       ]
 
-  pub value_entry : (cmp : K → K → Ordering) (key : K) (ps : List (K × V)) → value_at cmp key ps ≡ option_map (λ p. p.1) (lookup_entry (is_at (cmp key)) ps)
-  value_entry cmp key [] = refl
-  value_entry cmp key (p ∷ ps) =
-      elim (is_at (cmp key) p.0) as (λ b. cond b (Some p.1) (value_at cmp key ps) ≡ option_map (λ p. p.1) (cond b (Some p) (lookup_entry (is_at (cmp key)) ps))) [
-        | true ↦ refl
-        | false ↦ value_entry cmp key ps
-      ]
-
 module _ {K V : Type 0} (cmp : K → K → Ordering) (o : IsTotalOrder cmp) (key : K) where
   -- the keys behind the first of an ascending list
   pub over_head : (p : K × V) (ps : List (K × V)) → IsAscending cmp (p ∷ ps) → AllKeys (λ k. cmp p.0 k ≡ Less) ps
   over_head p ps up = all_of_keys (λ k. cmp p.0 k ≡ Less) ps (sorted_head cmp p.0 (keys_of ps) up)
-
-  -- a key below all
-  upserted_front : (val : V) (ps : List (K × V)) → AllKeys (λ k. cmp key k ≡ Less) ps → upserted cmp key val ps ≡ (key, val) ∷ ps
-  upserted_front val ps a =
-      rw (
-        filter_none (λ k. is_gt (cmp key k)) ps (all_weaken (λ k. cmp key k ≡ Less) (λ k. is_gt (cmp key k) ≡ false) (λ k h. ap is_gt h) ps a),
-        filter_all (λ k. is_lt (cmp key k)) ps (all_weaken (λ k. cmp key k ≡ Less) (λ k. is_lt (cmp key k) ≡ true) (λ k h. ap is_lt h) ps a),
-      ) refl
-
-  pub insert_is : (val : V) (ps : List (K × V)) → IsAscending cmp ps → lookup (is_at (cmp key)) ps ≡ None → insert_entry cmp ps key val ≡ upserted cmp key val ps
-  insert_is val [] up h = refl
-  insert_is val (p ∷ ps) up h =
-      (elim (cmp key p.0) as (λ r. cmp key p.0 ≡ r → lookup (is_at (cmp key)) (p ∷ ps) ≡ None → insert_entry cmp (p ∷ ps) key val ≡ upserted cmp key val (p ∷ ps)) [
-        | Less ↦ λ r h.
-            let far : AllKeys (λ k. cmp key k ≡ Less) (p ∷ ps) = (r, all_weaken (λ k. cmp p.0 k ≡ Less) (λ k. cmp key k ≡ Less) (λ k l. o.trans key p.0 k r l) ps (over_head p ps up)) in
-            rw (upserted_front val (p ∷ ps) far, r) refl
-        | Equal ↦ λ r h. let e : ◌≡◌ {A = Option V} (Some p.1) None = rw r at h in cc
-        | Greater ↦ λ r h. rw r (ap (λ qs. p ∷ qs) (insert_is val ps (sorted_tail cmp p.0 (keys_of ps) up) (rw r at h)))
-      ]) refl h
-
-  pub replace_is : (val : V) (ps : List (K × V)) → IsAscending cmp ps → insert_entry cmp (remove_entry (is_at (cmp key)) ps) key val ≡ upserted cmp key val ps
-  replace_is val [] up = refl
-  replace_is val (p ∷ ps) up =
-      (elim (cmp key p.0) as (λ r. cmp key p.0 ≡ r → insert_entry cmp (remove_entry (is_at (cmp key)) (p ∷ ps)) key val ≡ upserted cmp key val (p ∷ ps)) [
-        | Less ↦ λ r.
-            let far : AllKeys (λ k. cmp key k ≡ Less) (p ∷ ps) = (r, all_weaken (λ k. cmp p.0 k ≡ Less) (λ k. cmp key k ≡ Less) (λ k l. o.trans key p.0 k r l) ps (over_head p ps up)) in
-            rw (upserted_front val (p ∷ ps) far, r) (rw r (ap (λ qs. (key, val) ∷ p ∷ qs) (remove_none ps far.1)))
-        | Equal ↦ λ r.
-            let far = all_weaken (λ k. cmp p.0 k ≡ Less) (λ k. cmp key k ≡ Less) (λ k l. o.congr key p.0 k r ∙ l) ps (over_head p ps up) in
-            rw r (insert_front val ps far ∙ sym (upserted_front val ps far))
-        | Greater ↦ λ r. rw r (rw r (ap (λ qs. p ∷ qs) (replace_is val ps (sorted_tail cmp p.0 (keys_of ps) up))))
-      ]) refl
-    where
-      insert_front : (val : V) (qs : List (K × V)) → AllKeys (λ k. cmp key k ≡ Less) qs → insert_entry cmp qs key val ≡ (key, val) ∷ qs
-      insert_front val [] a = refl
-      insert_front val (q ∷ qs) a = rw a.0 refl
-
-      remove_none : (qs : List (K × V)) → AllKeys (λ k. cmp key k ≡ Less) qs → remove_entry (is_at (cmp key)) qs ≡ qs
-      remove_none [] a = refl
-      remove_none (q ∷ qs) a = rw a.0 (ap (λ rs. q ∷ rs) (remove_none qs a.1))
-
-  pub remove_is : (ps : List (K × V)) → IsAscending cmp ps → remove_entry (is_at (cmp key)) ps ≡ removed cmp key ps
-  remove_is [] up = refl
-  remove_is (p ∷ ps) up =
-      (elim (cmp key p.0) as (λ r. cmp key p.0 ≡ r → remove_entry (is_at (cmp key)) (p ∷ ps) ≡ removed cmp key (p ∷ ps)) [
-        | Less ↦ λ r. rw r (ap (λ qs. p ∷ qs) (remove_is ps (sorted_tail cmp p.0 (keys_of ps) up)))
-        | Equal ↦ λ r.
-            let far = all_weaken (λ k. cmp p.0 k ≡ Less) (λ k. not (is_at (cmp key) k) ≡ true) (λ k l. ap (λ q. not (is_eq q)) (o.congr key p.0 k r ∙ l)) ps (over_head p ps up) in
-            rw r (sym (filter_all (λ k. not (is_at (cmp key) k)) ps far))
-        | Greater ↦ λ r. rw r (ap (λ qs. p ∷ qs) (remove_is ps (sorted_tail cmp p.0 (keys_of ps) up)))
-      ]) refl
 
 -- ---- what an array answers to an insertion
 
@@ -134,17 +67,13 @@ unique Success closed full upsert there a b s e = unique_of closed full upsert t
 unique (Duplicate k v) closed full upsert there a b s e = absurd s
 unique (Full k v) closed full upsert there a b s e = absurd s
 
-pub none_of : {X : Type 0} (x : Option X) → is_some x ≡ false → x ≡ None
-none_of None h = refl
-none_of (Some y) h = cc
-
 module _ {K V : Type 0} (cmp : K → K → Ordering) (o : IsTotalOrder cmp) (key : K) (val : V) where
   -- a pair that is put into an array is put into its list
   pub put_is : (old new : Cells K V) → IsAscending cmp old.pairs → (has cmp key old ≡ false → new ≡ inserted cmp key val old) → (has cmp key old ≡ true → new ≡ replaced cmp key val old) → new.pairs ≡ upserted cmp key val old.pairs
   put_is old new up absent there =
       (elim (has cmp key old) as (λ b. has cmp key old ≡ b → new.pairs ≡ upserted cmp key val old.pairs) [
-        | true ↦ λ b. ap (λ (c : Cells K V). c.pairs) (there b) ∙ replace_is cmp o key val old.pairs up
-        | false ↦ λ b. ap (λ (c : Cells K V). c.pairs) (absent b) ∙ insert_is cmp o key val old.pairs up (none_of (lookup (is_at (cmp key)) old.pairs) b)
+        | true ↦ λ b. ap (λ (c : Cells K V). c.pairs) (there b) ∙ exchange_upserted cmp o key val old.pairs up
+        | false ↦ λ b. ap (λ (c : Cells K V). c.pairs) (absent b) ∙ insert_upserted cmp o key val old.pairs up (has_lookup cmp key old.pairs ∙ b)
       ]) refl
 
 -- an array with room that is not retired

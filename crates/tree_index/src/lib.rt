@@ -20,6 +20,8 @@ mod arenas;
 mod index;
 mod leaf;
 mod node;
+#[cfg(test)]
+mod refusals;
 mod split;
 #[cfg(test)]
 mod tests;

@@ -1,6 +1,8 @@
 //! Trees by example.
 
 use super::*;
+use std::collections::BTreeMap;
+use std::process::Abort;
 use std::test::Fail;
 
 #[test]
@@ -82,5 +84,91 @@ fn an_upsert_replaces_the_value(rt: HostRuntime) -> Result<(), Fail> {
         assert!(rt; tree.upsert_sync(1, 7).is_ok());
     }
     assert_eq!(rt; tree.len(), 1);
+    Ok(())
+}
+
+#[test]
+fn closures_are_asked_of_the_pair_that_is_there(rt: HostRuntime) -> Result<(), Fail> {
+    let mut tree: TreeIndex<u64, u64> = TreeIndex::new(rt.alloc());
+    assert!(rt; tree.insert_sync(3, 30).is_ok());
+    assert_eq!(rt; tree.peek_entry(&3), Some((&3, &30)));
+    assert_eq!(rt;
+        tree.peek_with(&3, |key, val| *key == 3 && *val == 30),
+        Some(true)
+    );
+    assert_eq!(rt; tree.read_sync(&3, |_, val| *val), Some(30));
+    assert!(rt; tree.peek_with(&4, |_, _| ()).is_none());
+    assert!(rt; tree.read_sync(&4, |_, _| ()).is_none());
+    assert!(rt; !tree.remove_if_sync(&3, |val| *val == 31));
+    assert!(rt; tree.contains(&3));
+    assert!(rt; !tree.remove_if_sync(&4, |_| true));
+    assert!(rt; tree.remove_if_sync(&3, |val| *val == 30));
+    assert!(rt; !tree.contains(&3));
+    assert!(rt; tree.is_empty());
+    Ok(())
+}
+
+/// One call of each kind in turn, on a tree and on a map of std.
+fn act<R: Abort>(
+    rt: &R,
+    tree: &mut TreeIndex<u64, u64>,
+    map: &mut BTreeMap<u64, u64>,
+    kind: u64,
+    key: u64,
+    val: u64,
+) -> Result<(), Fail> {
+    let there = map.contains_key(&key);
+    match kind {
+        0 => {
+            assert_eq!(rt; tree.insert_sync(key, val).is_ok(), !there);
+            if !there {
+                map.insert(key, val)?;
+            }
+        }
+        1 => {
+            assert!(rt; tree.upsert_sync(key, val).is_ok());
+            map.insert(key, val)?;
+        }
+        2 => assert_eq!(rt; tree.remove_sync(&key), map.remove(&key).is_some()),
+        _ => assert_eq!(rt; tree.peek(&key), map.get(&key)),
+    }
+    Ok(())
+}
+
+#[test]
+fn random_calls_answer_as_on_a_map_of_std(rt: HostRuntime) -> Result<(), Fail> {
+    let mut tree: TreeIndex<u64, u64> = TreeIndex::new(rt.alloc());
+    let mut map = BTreeMap::new(rt.alloc());
+    let mut seed = 7u64;
+    for _ in 0..6000u32 {
+        seed = seed
+            .wrapping_mul(6364136223846793005)
+            .wrapping_add(1442695040888963407);
+        act(
+            &rt,
+            &mut tree,
+            &mut map,
+            (seed >> 33) % 4,
+            (seed >> 40) % 300,
+            seed >> 8,
+        )?;
+        assert_eq!(rt; tree.len(), map.len());
+    }
+    for key in 0..300u64 {
+        assert_eq!(rt; tree.peek(&key), map.get(&key));
+    }
+    Ok(())
+}
+
+#[test]
+fn falling_keys_are_found(rt: HostRuntime) -> Result<(), Fail> {
+    let mut tree: TreeIndex<u64, u64> = TreeIndex::new(rt.alloc());
+    for key in 0..2000u64 {
+        assert!(rt; tree.insert_sync(2000 - key, key).is_ok());
+    }
+    for key in 0..2000u64 {
+        assert_eq!(rt; tree.peek(&(2000 - key)), Some(&key));
+    }
+    assert!(rt; tree.peek(&0).is_none());
     Ok(())
 }

@@ -2,17 +2,18 @@ use Rattle.std.proofs.Common.{◌≡◌, ◌∙◌, ◌==◌, ◌||◌, not, nat
 use denote.Param.{value_of, number}
 use Rattle.leaf_array.specs.Results.{is_closed}
 use Rattle.leaf_array.specs.Cells.{has}
-use Rattle.tree_index.proofs.LeafLemmas.{has_is_some, repeated_has, unique, put_is}
+use Rattle.leaf_array.proofs.EntryLemmas.{has_lookup}
+use Rattle.tree_index.proofs.LeafLemmas.{repeated_has, unique, put_is}
 use Rattle.tree_index.proofs.leaf.Leaf.insert.Goals as goal
 
 pub returns-clause-duplicate : goal.returns-clause-duplicate
 returns-clause-duplicate g c r =
-    has_is_some g.K.Ord.cmp c.args.key c.args.self.now.array.pairs ∙ repeated_has (not (nat_eq (value_of (number g.row.UPSERT)) 0)) g.K.Ord.cmp c.args.key c.args.self.now.array (c.insert.ensures.duplicate.0 r)
+    has_lookup g.K.Ord.cmp c.args.key c.args.self.now.array.pairs ∙ repeated_has (not (nat_eq (value_of (number g.row.UPSERT)) 0)) g.K.Ord.cmp c.args.key c.args.self.now.array (c.insert.ensures.duplicate.0 r)
 
 pub returns-clause-unique : goal.returns-clause-unique
 returns-clause-unique g c s e =
     let a = c.args.self.now.array in
-    has_is_some g.K.Ord.cmp c.args.key a.pairs ∙ unique c.insert.result (is_closed a) (a.used == 15) (not (nat_eq (value_of (number g.row.UPSERT)) 0)) (has g.K.Ord.cmp c.args.key a) c.insert.ensures.full.1 c.insert.ensures.duplicate.1 s e
+    has_lookup g.K.Ord.cmp c.args.key a.pairs ∙ unique c.insert.result (is_closed a) (a.used == 15) (not (nat_eq (value_of (number g.row.UPSERT)) 0)) (has g.K.Ord.cmp c.args.key a) c.insert.ensures.full.1 c.insert.ensures.duplicate.1 s e
 
 pub returns-clause-done : goal.returns-clause-done
 returns-clause-done g c s =

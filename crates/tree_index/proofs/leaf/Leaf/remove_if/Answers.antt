@@ -1,6 +1,6 @@
 use Rattle.std.proofs.Common.{◌≡◌, ◌∙◌, sym, ap}
 use Rattle.leaf_array.specs.Cells.{Cells}
-use Rattle.tree_index.proofs.LeafLemmas.{remove_is}
+use Rattle.leaf_array.proofs.EntryLemmas.{remove_removed}
 use Rattle.tree_index.proofs.leaf.Leaf.remove_if.Goals as goal
 
 pub returns-clause-asked : goal.returns-clause-asked
@@ -9,4 +9,4 @@ returns-clause-asked g c = rw c.is_removal.ensures (c.remove_if.ensures.asked c.
 pub returns-clause-removed : goal.returns-clause-removed
 returns-clause-removed g c r =
     ap (λ (x : Cells g.row.K.Denot g.row.V.Denot). x.pairs) (c.remove_if.ensures.removed (sym c.is_removal.ensures ∙ r))
-    ∙ remove_is g.K.Ord.cmp g.met.K.Ord.total c.args.key.now c.args.self.now.array.pairs c.len.ensures.ordered
+    ∙ remove_removed g.K.Ord.cmp g.met.K.Ord.total c.args.key.now c.args.self.now.array.pairs c.len.ensures.ordered

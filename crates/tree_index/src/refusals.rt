@@ -1,0 +1,56 @@
+//! Runs in which any one allocation may be refused. A script has each refused in turn: whatever is
+//! refused, nothing has changed, and the same call then succeeds.
+
+use super::*;
+use std::alloc::Global;
+use std::process::Abort;
+
+/// Inserts a pair, again where memory was refused, and looks whether anything had changed then.
+fn insert<R: Abort>(rt: &R, tree: &mut TreeIndex<u64, u64>, key: u64, met: &mut bool) {
+    let depth = tree.depth();
+    let len = tree.len();
+    match tree.insert_sync(key, !key) {
+        Ok(()) => {}
+        Err(InsertRefused::Duplicate(_, _)) => panic!(rt; "the key isn't there"),
+        Err(InsertRefused::Memory(back, val)) => {
+            *met = true;
+            assert!(rt; back == key && val == !key);
+            assert!(rt; tree.depth() == depth && tree.len() == len);
+            assert!(rt; !tree.contains(&key));
+            assert!(rt; tree.upsert_sync(back, val).is_ok());
+        }
+    }
+}
+
+/// Whether an allocation was refused while a tree grew.
+fn grows<R: Abort>(rt: &R, alloc: Global) -> bool {
+    let mut met = false;
+    let mut tree: TreeIndex<u64, u64> = TreeIndex::new(alloc);
+    let mut key = 1u64;
+    for _ in 0..700u32 {
+        key = key
+            .wrapping_mul(6364136223846793005)
+            .wrapping_add(1442695040888963407);
+        insert(rt, &mut tree, key, &mut met);
+    }
+    assert!(rt; tree.len() == 700);
+    key = 1;
+    for _ in 0..700u32 {
+        key = key
+            .wrapping_mul(6364136223846793005)
+            .wrapping_add(1442695040888963407);
+        assert!(rt; tree.peek(&key) == Some(&!key));
+    }
+    met
+}
+
+#[test]
+fn a_refusal_of_memory_changes_nothing(rt: HostRuntime) {
+    let _met = grows(&rt, rt.alloc());
+}
+
+#[test]
+fn no_memory_is_refused_to_a_growing_tree(rt: HostRuntime) {
+    let met = grows(&rt, rt.alloc());
+    assert!(rt; !met);
+}
