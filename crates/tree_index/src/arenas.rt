@@ -11,13 +11,11 @@ ghost use Rattle.leaf_array.specs.Pairs.{has_key};
 ghost use Rattle.leaf_array.specs.Values.{ClonesAreSame};
 ghost use Rattle.leaf_array.specs.Results.{IsSuccess, IsDuplicate, IsFull, given_back};
 
-use crate::leaf::{Leaf, NONE};
+use crate::leaf::Leaf;
 use crate::node::Branches;
-use leaf_array::{Array, InsertResult, RemoveResult};
+use leaf_array::InsertResult;
 use slab::Slab;
-use std::alloc::{AllocError, Global};
-use std::cmp::Ordering;
-use std::mem;
+use std::alloc::Global;
 
 /// The leaves, the nodes, where the way down starts, how many nodes it has, and how many pairs there are.
 ///
