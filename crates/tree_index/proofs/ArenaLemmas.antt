@@ -1,5 +1,5 @@
 -- What stands in the arenas of a sound tree.
-use Rattle.std.proofs.Common.{◌≡◌, ◌≢◌, ◌⊎◌, inl, inr, ℕ, ◌+◌, ◌-◌, ◌<◌, ◌≤◌, Bool, true, false, cond, not, IsSome, Option, Some, None, List, [], ◌∷◌, ◌++◌, refl, sym, ap, ◌∙◌, subst, arith}
+use Rattle.std.proofs.Common.{◌≡◌, ◌≢◌, ◌⊎◌, inl, inr, ℕ, ◌+◌, ◌-◌, ◌≤◌, Bool, true, false, cond, not, IsSome, Option, Some, None, List, [], ◌∷◌, ◌++◌, refl, sym, ap, ◌∙◌, subst, arith}
 use Rattle.std.specs.Prelude.{length}
 use Rattle.std.specs.Option.{option_map}
 use Rattle.std.specs.declared.cmp.Ordering.{Ordering}
@@ -20,8 +20,11 @@ use Rattle.leaf_array.specs.declared.result.InsertResult.{InsertResult}
 use Rattle.leaf_array.specs.declared.result.InsertResult.TheVariants.{Success, Duplicate, Full}
 use Rattle.tree_index.specs.declared.leaf.Leaf.{Leaf}
 use Rattle.tree_index.specs.declared.arenas.Arenas.{Arenas}
-use Rattle.tree_index.specs.Shape.{Content, IsWithin, AllKeys, way, leaf_pairs, pairs_under, Stands}
-use Rattle.tree_index.specs.Content.{content_of, pairs_of, IsBare, IsSound}
+use Rattle.tree_index.specs.Shape.{IsWithin, AllKeys, way, leaf_pairs, pairs_under, Stands}
+use Rattle.tree_index.specs.Chain.{links, IsLinked}
+use Rattle.tree_index.proofs.ChainLemmas.{linked_kept}
+use Rattle.tree_index.proofs.LinkLemmas.{links_kept}
+use Rattle.tree_index.specs.Content.{content_of, pairs_of, leaves_of, IsBare, IsSound}
 use Rattle.tree_index.proofs.WayLemmas.{around, leaf_thawed, lookup_way, leaf_there, Written, written, upserted_middle, removed_middle, has_middle}
 use Rattle.tree_index.proofs.ShapeLemmas.{all_append}
 
@@ -129,11 +132,16 @@ module _ {K V : Type 0} (cmp : K → K → Ordering) (o : IsTotalOrder cmp) (key
       (λ k. refl)
       thawed rising keys
 
-  pub still_sound : (m : Leaf K V) (before after : ℕ) → before ≡ length l.array.pairs → after ≡ length m.array.pairs → Rewritten m (a.len - before + after) → IsSound cmp (with_leaf m (a.len - before + after))
-  still_sound m before after b f w =
+  still_linked : (m : Leaf K V) (len : ℕ) → m.prev ≡ l.prev → m.next ≡ l.next → Rewritten m len → a.height ≢ 0 → IsLinked (links (with_value a.leaves n m)) None (leaves_of (with_leaf m len)) None
+  still_linked m len p q w h =
+      subst (λ ns. IsLinked (links (with_value a.leaves n m)) None ns None) (sym w.order) (linked_kept (links a.leaves) (links (with_value a.leaves n m)) None (leaves_of a) None (λ k d. links_kept a.leaves n l m here p q k) (s.linked h))
+
+  pub still_sound : (m : Leaf K V) (before after : ℕ) → m.prev ≡ l.prev → m.next ≡ l.next → before ≡ length l.array.pairs → after ≡ length m.array.pairs → Rewritten m (a.len - before + after) → IsSound cmp (with_leaf m (a.len - before + after))
+  still_sound m before after p q b f w =
       let t = (middle_length w.front l.array.pairs m.array.pairs w.back a.len (s.count ∙ ap length w.old)).1 in
       record {
         stands = inr ((stands_with cmp o key a l here_on_way s).0, w.stands);
+        linked = still_linked m (a.len - before + after) p q w;
         tall = s.tall;
         count = rw (b, f) (t ∙ sym (ap length w.new));
       }
@@ -164,9 +172,10 @@ module _ {K V : Type 0} (cmp : K → K → Ordering) (o : IsTotalOrder cmp) (key
   kept_written m len w p = w.new ∙ ap (λ ps. w.front ++ (ps ++ w.back)) p ∙ sym w.old
 
   -- a leaf with the same pairs in the place of the one on the way
-  pub same_sound : (m : Leaf K V) → Rewritten m a.len → m.array.pairs ≡ l.array.pairs → IsSound cmp (with_leaf m a.len)
-  same_sound m w p = record {
+  pub same_sound : (m : Leaf K V) → m.prev ≡ l.prev → m.next ≡ l.next → Rewritten m a.len → m.array.pairs ≡ l.array.pairs → IsSound cmp (with_leaf m a.len)
+  same_sound m q r w p = record {
     stands = inr ((stands_with cmp o key a l here_on_way s).0, w.stands);
+    linked = still_linked m a.len q r w;
     tall = s.tall;
     count = s.count ∙ sym (ap length (kept_written m a.len w p));
   }

@@ -1,15 +1,15 @@
 -- A tree around the child on the way to a key: what stands before and behind it, and what the whole is when the child changes.
-use Rattle.std.proofs.Common.{◌≡◌, ◌≢◌, ℕ, zero, suc, ◌+◌, ◌==◌, Bool, true, false, cond, List, [], ◌∷◌, ◌++◌, Option, Some, None, refl, sym, ap, ◌∙◌, subst, arith, append_assoc}
+use Rattle.std.proofs.Common.{◌≡◌, ℕ, zero, suc, ◌+◌, ◌==◌, true, false, cond, List, [], ◌∷◌, ◌++◌, Option, Some, None, refl, sym, ap, ◌∙◌, subst, arith, append_assoc}
 use Rattle.std.specs.declared.cmp.Ordering.{Ordering}
-use Rattle.std.specs.declared.cmp.Ordering.TheVariants.{Less, Equal, Greater}
-use Rattle.std.specs.Ordering.{is_gt, is_lt, is_eq}
+use Rattle.std.specs.declared.cmp.Ordering.TheVariants.{Less, Greater}
+use Rattle.std.specs.Ordering.{is_gt, is_lt}
 use Rattle.std.specs.Cmp.{IsTotalOrder}
 use Rattle.std.specs.Map.{lookup}
 use Rattle.std.specs.BTreeMap.{insert_entry, is_at}
 use Rattle.std.proofs.lemmas.List.{append-nil}
 use Rattle.leaf_array.specs.Cells.{Cells}
-use Rattle.tree_index.specs.Shape.{Content, IsOver, IsUpTo, IsWithin, AreBetween, AllKeys, child_for, child_in, way, pairs_along, sum_along, leaf_pairs, node_pairs, node_sum, pairs_under, leaf_times, node_times, IsLeaf, IsNode, IsTree}
-use Rattle.tree_index.proofs.ShapeLemmas.{over_trans, upto_trans, turned, passed, not_passed, upto_less, less_upto, all_append, all_weaken, self_once, Agrees, bounded, bounded_along, IsSame, AreSame, kept, kept_along}
+use Rattle.tree_index.specs.Shape.{Content, IsWithin, AreBetween, AllKeys, child_for, child_in, way, joined_along, sum_along, node_joined, node_sum, pairs_under, leaves_under, leaf_times, node_times, IsNode, IsTree}
+use Rattle.tree_index.proofs.ShapeLemmas.{over_trans, upto_trans, turned, passed, not_passed, upto_less, all_append, all_weaken, self_once, Agrees, bounded, bounded_along, IsSame, kept, kept_along}
 
 -- so many steps above a height
 abbrev pub over : ℕ → ℕ → ℕ
@@ -27,17 +27,19 @@ IsUnder cmp (Some high) k = cmp k high ≡ Less
 
 module _ {K V : Type 0} (cmp : K → K → Ordering) (a : Content K V) (key : K) (height : ℕ) where
   -- what the children are when the one on the way to the key changes, and nothing else does
-  pub record Again (b : Content K V) (es : List (K × ℕ)) (last : ℕ) (low high : Option K) (front back : List (K × V)) (leaves nodes : ℕ → ℕ) : Type 0 where
+  pub record Again (b : Content K V) (es : List (K × ℕ)) (last : ℕ) (low high : Option K) (front back : List (K × V)) (lefts rights : List ℕ) (leaves nodes : ℕ → ℕ) : Type 0 where
     pub between : AreBetween cmp (IsTree cmp b height) es last low high
-    pub pairs : pairs_along (pairs_under b height) es last ≡ front ++ pairs_under b height (child_for cmp key es last) ++ back
+    pub pairs : joined_along (pairs_under b height) es last ≡ front ++ pairs_under b height (child_for cmp key es last) ++ back
+    pub order : joined_along (leaves_under b height) es last ≡ lefts ++ leaves_under b height (child_for cmp key es last) ++ rights
     pub leaf : (n : ℕ) → sum_along (leaf_times b n height) es last ≡ leaves n + leaf_times b n height (child_for cmp key es last)
     pub node : (n : ℕ) → sum_along (node_times b n height) es last ≡ nodes n + node_times b n height (child_for cmp key es last)
 
   -- the same, where a new child comes before it
-  pub record Parted (b : Content K V) (sep : K) (fresh : ℕ) (es : List (K × ℕ)) (last : ℕ) (low high : Option K) (front back : List (K × V)) (leaves nodes : ℕ → ℕ) : Type 0 where
+  pub record Parted (b : Content K V) (sep : K) (fresh : ℕ) (es : List (K × ℕ)) (last : ℕ) (low high : Option K) (front back : List (K × V)) (lefts rights : List ℕ) (leaves nodes : ℕ → ℕ) : Type 0 where
     pub child : child_for cmp key (insert_entry cmp es sep fresh) last ≡ cond (is_lt (cmp sep key)) (child_for cmp key es last) fresh
     pub between : AreBetween cmp (IsTree cmp b height) (insert_entry cmp es sep fresh) last low high
-    pub pairs : pairs_along (pairs_under b height) (insert_entry cmp es sep fresh) last ≡ front ++ (pairs_under b height fresh ++ pairs_under b height (child_for cmp key es last)) ++ back
+    pub pairs : joined_along (pairs_under b height) (insert_entry cmp es sep fresh) last ≡ front ++ (pairs_under b height fresh ++ pairs_under b height (child_for cmp key es last)) ++ back
+    pub order : joined_along (leaves_under b height) (insert_entry cmp es sep fresh) last ≡ lefts ++ (leaves_under b height fresh ++ leaves_under b height (child_for cmp key es last)) ++ rights
     pub leaf : (n : ℕ) → sum_along (leaf_times b n height) (insert_entry cmp es sep fresh) last ≡ leaves n + (leaf_times b n height fresh + leaf_times b n height (child_for cmp key es last))
     pub node : (n : ℕ) → sum_along (node_times b n height) (insert_entry cmp es sep fresh) last ≡ nodes n + (node_times b n height fresh + node_times b n height (child_for cmp key es last))
 
@@ -47,6 +49,8 @@ module _ {K V : Type 0} (cmp : K → K → Ordering) (a : Content K V) (key : K)
     pub upto : Option K
     pub front : List (K × V)
     pub back : List (K × V)
+    pub lefts : List ℕ
+    pub rights : List ℕ
     pub leaves : ℕ → ℕ
     pub nodes : ℕ → ℕ
     pub tree : IsTree cmp a height (child_for cmp key es last) from upto
@@ -55,8 +59,8 @@ module _ {K V : Type 0} (cmp : K → K → Ordering) (a : Content K V) (key : K)
     pub absent : (sep : K) → IsWithin cmp from upto sep → IsUnder cmp upto sep → lookup (is_at (cmp sep)) es ≡ None
     pub before : AllKeys (λ k. cmp k key ≡ Less) front
     pub behind : AllKeys (λ k. cmp key k ≡ Less) back
-    pub again : (b : Content K V) → Agrees a b leaves nodes → IsTree cmp b height (child_for cmp key es last) from upto → Again b es last low high front back leaves nodes
-    pub parted : (b : Content K V) (sep : K) (fresh : ℕ) → Agrees a b leaves nodes → IsWithin cmp from upto sep → IsUnder cmp upto sep → IsTree cmp b height fresh from (Some sep) → IsTree cmp b height (child_for cmp key es last) (Some sep) upto → Parted b sep fresh es last low high front back leaves nodes
+    pub again : (b : Content K V) → Agrees a b leaves nodes → IsTree cmp b height (child_for cmp key es last) from upto → Again b es last low high front back lefts rights leaves nodes
+    pub parted : (b : Content K V) (sep : K) (fresh : ℕ) → Agrees a b leaves nodes → IsWithin cmp from upto sep → IsUnder cmp upto sep → IsTree cmp b height fresh from (Some sep) → IsTree cmp b height (child_for cmp key es last) (Some sep) upto → Parted b sep fresh es last low high front back lefts rights leaves nodes
 
 module _ {K : Type 0} (cmp : K → K → Ordering) (o : IsTotalOrder cmp) where
   -- no separator above a bound is a key below it
@@ -73,6 +77,8 @@ module _ {K V : Type 0} (cmp : K → K → Ordering) (o : IsTotalOrder cmp) (a :
     upto = high;
     front = [];
     back = [];
+    lefts = [];
+    rights = [];
     leaves = λ n. 0;
     nodes = λ n. 0;
     tree = t;
@@ -81,11 +87,12 @@ module _ {K V : Type 0} (cmp : K → K → Ordering) (o : IsTotalOrder cmp) (a :
     absent = λ sep v under. refl;
     before = tt;
     behind = tt;
-    again = λ b s u. record { between = u; pairs = sym (append-nil (pairs_under b height last)); leaf = λ n. omega arith; node = λ n. omega arith };
+    again = λ b s u. record { between = u; pairs = sym (append-nil (pairs_under b height last)); order = sym (append-nil (leaves_under b height last)); leaf = λ n. omega arith; node = λ n. omega arith };
     parted = λ b sep fresh s v under lower upper. record {
       child = refl;
       between = (v, lower, upper);
       pairs = sym (append-nil (pairs_under b height fresh ++ pairs_under b height last));
+      order = sym (append-nil (leaves_under b height fresh ++ leaves_under b height last));
       leaf = λ n. omega arith;
       node = λ n. omega arith;
     };
@@ -100,7 +107,9 @@ module _ {K V : Type 0} (cmp : K → K → Ordering) (o : IsTotalOrder cmp) (a :
         from = low;
         upto = Some e.0;
         front = [];
-        back = pairs_along (pairs_under a height) es last;
+        back = joined_along (pairs_under a height) es last;
+        lefts = [];
+        rights = joined_along (leaves_under a height) es last;
         leaves = λ n. sum_along (leaf_times a n height) es last;
         nodes = λ n. sum_along (node_times a n height) es last;
         tree = rw c t.1;
@@ -114,6 +123,7 @@ module _ {K V : Type 0} (cmp : K → K → Ordering) (o : IsTotalOrder cmp) (a :
             record {
               between = (t.0, subst (λ (n : ℕ). IsTree cmp b height n low (Some e.0)) c u, rest.between);
               pairs = rw (c, rest.pairs) refl;
+              order = rw (c, rest.order) refl;
               leaf = λ n. rw (c, rest.leaves n) (omega arith);
               node = λ n. rw (c, rest.nodes n) (omega arith);
             };
@@ -123,6 +133,7 @@ module _ {K V : Type 0} (cmp : K → K → Ordering) (o : IsTotalOrder cmp) (a :
               child = rw (under, c) refl;
               between = rw under ((v.0, upto_trans o high e.0 sep v.1 t.0.1), lower, ((under, t.0.1), subst (λ (n : ℕ). IsTree cmp b height n (Some sep) (Some e.0)) c upper, rest.between));
               pairs = rw (under, c, rest.pairs) (simp append_assoc);
+              order = rw (under, c, rest.order) (simp append_assoc);
               leaf = λ n. rw (under, c, rest.leaves n) (omega arith);
               node = λ n. rw (under, c, rest.nodes n) (omega arith);
             };
@@ -142,6 +153,8 @@ module _ {K V : Type 0} (cmp : K → K → Ordering) (o : IsTotalOrder cmp) (a :
         upto = r.upto;
         front = pairs_under a height e.1 ++ r.front;
         back = r.back;
+        lefts = leaves_under a height e.1 ++ r.lefts;
+        rights = r.rights;
         leaves = λ n. leaf_times a n height e.1 + r.leaves n;
         nodes = λ n. node_times a n height e.1 + r.nodes n;
         tree = rw c r.tree;
@@ -156,6 +169,7 @@ module _ {K V : Type 0} (cmp : K → K → Ordering) (o : IsTotalOrder cmp) (a :
             record {
               between = (t.0, f.tree, n.between);
               pairs = rw (c, f.pairs, n.pairs) (simp append_assoc);
+              order = rw (c, f.order, n.order) (simp append_assoc);
               leaf = λ m. rw (c, f.leaves m, n.leaf m) (omega arith);
               node = λ m. rw (c, f.nodes m, n.node m) (omega arith);
             };
@@ -168,6 +182,7 @@ module _ {K V : Type 0} (cmp : K → K → Ordering) (o : IsTotalOrder cmp) (a :
               child = rw (turn, h) n.child;
               between = rw turn (t.0, f.tree, n.between);
               pairs = rw (turn, c, f.pairs, n.pairs) (simp append_assoc);
+              order = rw (turn, c, f.order, n.order) (simp append_assoc);
               leaf = λ m. rw (turn, c, f.leaves m, n.leaf m) (omega arith);
               node = λ m. rw (turn, c, f.nodes m, n.node m) (omega arith);
             };
@@ -183,10 +198,11 @@ module _ {K V : Type 0} (cmp : K → K → Ordering) (o : IsTotalOrder cmp) (a :
 
 module _ {K V : Type 0} (cmp : K → K → Ordering) (a : Content K V) (key : K) (height : ℕ) where
   -- what a tree is when what stands so many steps down on the way to the key changes, and nothing else does
-  pub record Rebuilt (b : Content K V) (steps at : ℕ) (low high : Option K) (front back : List (K × V)) (leaves nodes : ℕ → ℕ) : Type 0 where
+  pub record Rebuilt (b : Content K V) (steps at : ℕ) (low high : Option K) (front back : List (K × V)) (lefts rights : List ℕ) (leaves nodes : ℕ → ℕ) : Type 0 where
     pub same_way : way cmp b key steps at ≡ way cmp a key steps at
     pub tree : IsTree cmp b (over steps height) at low high
     pub pairs : pairs_under b (over steps height) at ≡ front ++ pairs_under b height (way cmp a key steps at) ++ back
+    pub order : leaves_under b (over steps height) at ≡ lefts ++ leaves_under b height (way cmp a key steps at) ++ rights
     pub leaf : (n : ℕ) → leaf_times b n (over steps height) at ≡ leaves n + leaf_times b n height (way cmp a key steps at)
     pub node : (n : ℕ) → node_times b n (over steps height) at ≡ nodes n + node_times b n height (way cmp a key steps at)
 
@@ -196,13 +212,15 @@ module _ {K V : Type 0} (cmp : K → K → Ordering) (a : Content K V) (key : K)
     pub upto : Option K
     pub front : List (K × V)
     pub back : List (K × V)
+    pub lefts : List ℕ
+    pub rights : List ℕ
     pub leaves : ℕ → ℕ
     pub nodes : ℕ → ℕ
     pub tree : IsTree cmp a height (way cmp a key steps at) from upto
     pub key_within : IsWithin cmp from upto key
     pub before : AllKeys (λ k. cmp k key ≡ Less) front
     pub behind : AllKeys (λ k. cmp key k ≡ Less) back
-    pub rebuilt : (b : Content K V) → Agrees a b leaves nodes → IsTree cmp b height (way cmp a key steps at) from upto → Rebuilt b steps at low high front back leaves nodes
+    pub rebuilt : (b : Content K V) → Agrees a b leaves nodes → IsTree cmp b height (way cmp a key steps at) from upto → Rebuilt b steps at low high front back lefts rights leaves nodes
 
 module _ {K V : Type 0} (cmp : K → K → Ordering) (o : IsTotalOrder cmp) (a : Content K V) (key : K) (height : ℕ) where
   focus_here : (at : ℕ) (low high : Option K) → IsTree cmp a height at low high → IsWithin cmp low high key → Focus cmp a key height 0 at low high
@@ -211,6 +229,8 @@ module _ {K V : Type 0} (cmp : K → K → Ordering) (o : IsTotalOrder cmp) (a :
     upto = high;
     front = [];
     back = [];
+    lefts = [];
+    rights = [];
     leaves = λ n. 0;
     nodes = λ n. 0;
     tree = t;
@@ -221,6 +241,7 @@ module _ {K V : Type 0} (cmp : K → K → Ordering) (o : IsTotalOrder cmp) (a :
       same_way = refl;
       tree = u;
       pairs = sym (append-nil (pairs_under b height at));
+      order = sym (append-nil (leaves_under b height at));
       leaf = λ n. omega arith;
       node = λ n. omega arith;
     };
@@ -235,6 +256,8 @@ module _ {K V : Type 0} (cmp : K → K → Ordering) (o : IsTotalOrder cmp) (a :
         upto = f.upto;
         front = r.front ++ f.front;
         back = f.back ++ r.back;
+        lefts = r.lefts ++ f.lefts;
+        rights = f.rights ++ r.rights;
         leaves = λ m. r.leaves m + f.leaves m;
         nodes = λ m. cond (at == m) 1 0 + (r.nodes m + f.nodes m);
         tree = rw c f.tree;
@@ -248,7 +271,8 @@ module _ {K V : Type 0} (cmp : K → K → Ordering) (o : IsTotalOrder cmp) (a :
             record {
               same_way = ap (λ m. way cmp b key steps (child_in cmp key at m)) still ∙ v.same_way ∙ sym c;
               tree = (n, still, is, w.between);
-              pairs = ap (node_pairs (pairs_under b (over steps height))) still ∙ w.pairs ∙ rw (v.pairs, c) (simp append_assoc);
+              pairs = ap (node_joined (pairs_under b (over steps height))) still ∙ w.pairs ∙ rw (v.pairs, c) (simp append_assoc);
+              order = ap (node_joined (leaves_under b (over steps height))) still ∙ w.order ∙ rw (v.order, c) (simp append_assoc);
               leaf = λ m. ap (node_sum (leaf_times b m (over steps height))) still ∙ w.leaf m ∙ rw c (omega (arith, v.leaf m));
               node = λ m. ap (λ k. cond (at == m) 1 0 + node_sum (node_times b m (over steps height)) k) still ∙ rw c (omega (arith, w.node m, v.node m));
             };

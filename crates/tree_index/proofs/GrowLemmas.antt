@@ -2,10 +2,9 @@
 use Rattle.std.proofs.Common.{◌≡◌, ◌≢◌, ◌≤◌, ◌⊎◌, inl, inr, ℕ, zero, suc, ◌+◌, ◌==◌, Bool, true, false, cond, Option, Some, None, List, [], ◌∷◌, refl, sym, ap, ◌∙◌, subst, arith}
 use Rattle.std.specs.declared.cmp.Ordering.{Ordering}
 use Rattle.std.specs.Ordering.{is_lt}
-use Rattle.std.specs.Cmp.{IsTotalOrder}
 use Rattle.std.specs.List.Sorted.{IsStrictlySortedBy}
-use Rattle.leaf_array.specs.Cells.{Cells, no_cells}
-use Rattle.tree_index.specs.Shape.{Content, AreBetween, child_for, child_in, way, pairs_along, sum_along, node_pairs, node_sum, pairs_under, leaf_times, node_times, IsNode, IsLeaf, IsTree, Stands}
+use Rattle.leaf_array.specs.Cells.{no_cells}
+use Rattle.tree_index.specs.Shape.{Content, child_for, child_in, way, sum_along, node_sum, pairs_under, leaves_under, leaf_times, node_times, IsNode, IsTree, Stands}
 use Rattle.std.proofs.lemmas.Bool.Decides.{eqb_tells}
 use Rattle.tree_index.proofs.ShapeLemmas.{self_once, Agrees, kept}
 use Rattle.tree_index.proofs.WayLemmas.{tree_below}
@@ -33,6 +32,9 @@ module _ {K V : Type 0} (cmp : K → K → Ordering) (b : Content K V) where
 
   pub one_pairs : (leaf root : ℕ) → b.leaf leaf ≡ Some (no_cells false) → b.node root ≡ Some (no_cells false, leaf) → pairs_under b 1 root ≡ []
   one_pairs leaf root l n = rw n (rw l refl)
+
+  pub one_order : (leaf root : ℕ) → b.node root ≡ Some (no_cells false, leaf) → leaves_under b 1 root ≡ leaf ∷ []
+  one_order leaf root n = rw n refl
 
 module _ {K V : Type 0} (cmp : K → K → Ordering) (a b : Content K V) where
   -- a tree whose numbers hold the same has the same ways
@@ -83,6 +85,9 @@ module _ {K V : Type 0} (cmp : K → K → Ordering) (a b : Content K V) (height
 
   pub raised_pairs : pairs_under b (suc height) fresh ≡ pairs_under a height root
   raised_pairs = rw there (kept cmp a b height root None None s.tree agrees).pairs
+
+  pub raised_order : leaves_under b (suc height) fresh ≡ leaves_under a height root
+  raised_order = rw there (kept cmp a b height root None None s.tree agrees).order
 
   pub raised_way : (key : K) → way cmp b key (suc height) fresh ≡ way cmp a key height root
   raised_way key = ap (λ m. way cmp b key height (child_in cmp key fresh m)) there ∙ way_kept cmp a b height root None None s.tree agrees key

@@ -1,17 +1,15 @@
 -- Lists of children and of pairs, in two parts.
-use Rattle.std.proofs.Common.{◌≡◌, ◌≢◌, ◌≤◌, ◌<◌, ℕ, zero, suc, ◌+◌, Bool, true, false, cond, List, [], ◌∷◌, ◌++◌, length, take, drop, Option, Some, None, refl, sym, ap, ◌∙◌, subst, arith, append_assoc}
-use Rattle.std.specs.Prelude.{slice_get}
+use Rattle.std.proofs.Common.{◌≡◌, ℕ, zero, suc, ◌+◌, true, false, cond, List, [], ◌∷◌, ◌++◌, take, drop, Option, Some, None, refl, sym, ap, ◌∙◌, subst, arith, append_assoc}
 use Rattle.std.specs.declared.cmp.Ordering.{Ordering}
 use Rattle.std.specs.declared.cmp.Ordering.TheVariants.{Less, Equal, Greater}
-use Rattle.std.specs.Option.{option_map}
 use Rattle.std.specs.Ordering.{is_gt, is_lt}
 use Rattle.std.specs.Cmp.{IsTotalOrder, tied_itself}
 use Rattle.std.specs.Map.{keys_of}
 use Rattle.std.proofs.lemmas.Map.Keys.{sorted_tail}
 use Rattle.leaf_array.specs.Pairs.{IsAscending}
-use Rattle.tree_index.specs.Shape.{IsOver, IsUpTo, IsWithin, AreBetween, AllKeys, child_for, pairs_along, sum_along}
+use Rattle.tree_index.specs.Shape.{IsOver, IsUpTo, IsWithin, AreBetween, AllKeys, child_for, joined_along, sum_along}
 use Rattle.tree_index.specs.Cuts.{key_at}
-use Rattle.tree_index.proofs.ShapeLemmas.{upto_trans, passed, not_passed, upto_less, less_upto, turned}
+use Rattle.tree_index.proofs.ShapeLemmas.{not_passed, upto_less, less_upto, turned}
 use Rattle.tree_index.proofs.LeafLemmas.{over_head}
 use Rattle.tree_index.proofs.FocusLemmas.{IsUnder}
 use Rattle.tree_index.proofs.WayLemmas.{some_same}
@@ -47,7 +45,7 @@ module _ {K : Type 0} (cmp : K → K → Ordering) (o : IsTotalOrder cmp) (P : �
       below Equal q g = let r : cmp h e ≡ Greater = sym (o.congr y.0 h e q) ∙ turned o e y.0 t.0.0 in rw r at (o.antisymm e h)
       below Greater q g = cc
 
-pub along_halves : {K V : Type 0} (f : ℕ → List (K × V)) (xs : List (K × ℕ)) (e : K × ℕ) (ys : List (K × ℕ)) (last : ℕ) → pairs_along f (xs ++ e ∷ ys) last ≡ pairs_along f xs e.1 ++ pairs_along f ys last
+pub along_halves : {K X : Type 0} (f : ℕ → List X) (xs : List (K × ℕ)) (e : K × ℕ) (ys : List (K × ℕ)) (last : ℕ) → joined_along f (xs ++ e ∷ ys) last ≡ joined_along f xs e.1 ++ joined_along f ys last
 along_halves f [] e ys last = refl
 along_halves f (x ∷ xs) e ys last = rw (along_halves f xs e ys last) (simp append_assoc)
 

@@ -1,16 +1,14 @@
 -- A leaf of the arenas that is split in two.
-use Rattle.std.proofs.Common.{◌≡◌, ◌≢◌, ◌≤◌, ◌<◌, ◌⊎◌, inl, inr, ℕ, zero, suc, ◌+◌, ◌-◌, ◌==◌, Bool, true, false, cond, ◌&&◌, List, [], ◌∷◌, ◌++◌, length, take, drop, Option, Some, None, refl, sym, ap, ◌∙◌, subst, arith}
+use Rattle.std.proofs.Common.{◌≡◌, ◌≢◌, ◌≤◌, ◌<◌, ◌⊎◌, inl, inr, ℕ, ◌+◌, ◌-◌, ◌==◌, true, false, cond, ◌&&◌, List, [], ◌∷◌, ◌++◌, length, take, drop, Option, Some, None, refl, sym, ap, ◌∙◌, subst, arith, append_assoc}
 use Rattle.std.specs.Option.{option_map}
 use Rattle.std.specs.declared.cmp.Ordering.{Ordering}
-use Rattle.std.specs.declared.cmp.Ordering.TheVariants.{Less}
 use Rattle.std.specs.Ordering.{is_lt}
 use Rattle.std.specs.Cmp.{IsTotalOrder}
 use Rattle.std.specs.Map.{lookup}
 use Rattle.std.specs.BTreeMap.{insert_entry, is_at}
 use Rattle.std.proofs.lemmas.List.{take-append-drop}
-use Rattle.std.proofs.lemmas.Bool.{eq-eqb}
 use Rattle.std.proofs.lemmas.Bool.Decides.{eqb_tells}
-use Rattle.slab.specs.Slab.{Slab, get, with_value, Updates, slab_len}
+use Rattle.slab.specs.Slab.{Slab, get, with_value, Updates}
 use Rattle.slab.proofs.SlabLemmas.{Updates-with_value}
 use Rattle.leaf_array.specs.Cells.{Cells}
 use Rattle.leaf_array.specs.Pairs.{IsAscending}
@@ -19,12 +17,15 @@ use Rattle.tree_index.specs.declared.leaf.Cut.{Cut}
 use Rattle.tree_index.specs.declared.node.Branches.{Branches}
 use Rattle.tree_index.specs.declared.arenas.Arenas.{Arenas}
 use Rattle.tree_index.specs.Cuts.{IsCut}
-use Rattle.tree_index.specs.Shape.{Content, AllKeys, IsWithin, way, child_in, leaf_pairs, pairs_under, leaf_times, node_times, IsLeaf, IsNode, IsTree, Stands}
-use Rattle.tree_index.specs.Content.{content, content_of, pairs_of, IsSound, HasRoom, AreSameArrays}
+use Rattle.tree_index.specs.Shape.{Content, AllKeys, IsWithin, way, child_in, pairs_under, leaves_under, leaf_times, IsLeaf, IsNode, Stands}
+use Rattle.tree_index.specs.Content.{content_of, pairs_of, leaves_of, IsSound, HasRoom, AreSameArrays}
+use Rattle.tree_index.specs.Chain.{links, IsLinked, linked_in}
+use Rattle.tree_index.proofs.ChainLemmas.{times, times_counted, linked_split}
+use Rattle.tree_index.proofs.LinkLemmas.{links_kept}
 use Rattle.tree_index.proofs.ShapeLemmas.{self_once}
 use Rattle.tree_index.proofs.FocusLemmas.{over, over_is}
 use Rattle.tree_index.proofs.WayLemmas.{some_same}
-use Rattle.tree_index.proofs.SplitLemmas.{around_parent, around_child, parent, child, kids, last, IsSplit, divided}
+use Rattle.tree_index.proofs.SplitLemmas.{around_parent, around_child, parent, child, IsSplit, divided, order_total, none_leaf}
 use Rattle.tree_index.proofs.NodeSplitLemmas.{way_more}
 use Rattle.tree_index.proofs.NodeLemmas.{planted, leaf_content, node_content, same_len}
 use Rattle.tree_index.proofs.CutLemmas.{Sides, sides}
@@ -85,7 +86,7 @@ module _ {K V : Type 0} (cmp : K → K → Ordering) (o : IsTotalOrder cmp) (key
     module _ (lower_pairs : low.array.pairs ≡ take n whole.array.pairs) (upper_pairs : upper.array.pairs ≡ drop n whole.array.pairs) (lower_rising : IsAscending cmp low.array.pairs) (upper_rising : IsAscending cmp upper.array.pairs)
         (lower_thawed : low.array.frozen ≡ false) (upper_thawed : upper.array.frozen ≡ false) (lower_living : low.array.retired ≡ (cut.whole && whole.array.retired)) (upper_living : upper.array.retired ≡ false)
         (lower_used : cut.whole ≡ false → low.array.used ≤ 8) (upper_used : upper.array.used ≤ 7)
-        (leaves linked : Slab (Leaf K V)) (fresh : ℕ) (added : Updates (with_value a.leaves at upper) leaves fresh (Some low)) (vacant : get (with_value a.leaves at upper) fresh ≡ None) (links : AreSameArrays leaves linked)
+        (leaves linked : Slab (Leaf K V)) (fresh : ℕ) (added : Updates (with_value a.leaves at upper) leaves fresh (Some low)) (vacant : get (with_value a.leaves at upper) fresh ≡ None) (arrays : AreSameArrays leaves linked) (named : (n : ℕ) → links linked n ≡ linked_in fresh upper.prev at (links leaves) n) (upper_prev : upper.prev ≡ whole.prev) (upper_next : upper.next ≡ whole.next) (low_prev : low.prev ≡ upper.prev) (low_next : low.next ≡ Some at)
         (m : Branches K) (m_node : IsNode m.children) (m_pairs : m.children.pairs ≡ insert_entry cmp old.children.pairs cut.separator fresh) (m_last : m.last ≡ old.last) where
       abbrev pub done : Arenas K V
       done = record { leaves = linked; nodes = with_value a.nodes above m; root = a.root; height = a.height; len = a.len }
@@ -109,13 +110,13 @@ module _ {K V : Type 0} (cmp : K → K → Ordering) (o : IsTotalOrder cmp) (key
       absent = ap array (sym (turned.others fresh fresh_not_at) ∙ vacant)
 
       at_fresh : b.leaf fresh ≡ Some low.array
-      at_fresh = links fresh ∙ ap array added.changed
+      at_fresh = arrays fresh ∙ ap array added.changed
 
       at_kid : b.leaf kid ≡ Some upper.array
-      at_kid = ap b.leaf (sym at_is) ∙ links at ∙ ap array (added.others at (λ e. fresh_not_at (sym e)) ∙ turned.changed)
+      at_kid = ap b.leaf (sym at_is) ∙ arrays at ∙ ap array (added.others at (λ e. fresh_not_at (sym e)) ∙ turned.changed)
 
       others : (k : ℕ) → k ≢ fresh → k ≢ kid → b.leaf k ≡ c.leaf k
-      others k f q = links k ∙ ap array (added.others k f ∙ turned.others k (λ e. q (e ∙ at_is)))
+      others k f q = arrays k ∙ ap array (added.others k f ∙ turned.others k (λ e. q (e ∙ at_is)))
 
       split : IsSplit cmp o c key 0 steps a.root stands b cut.separator fresh m.children
       split = record {
@@ -148,9 +149,48 @@ module _ {K V : Type 0} (cmp : K → K → Ordering) (o : IsTotalOrder cmp) (key
       pub done_pairs : pairs_of done ≡ pairs_of a
       done_pairs = subst (λ (n : ℕ). pairs_under b n a.root ≡ pairs_under c n a.root) height_is (divided cmp o c key 0 steps a.root stands b cut.separator fresh m.children split).pairs
 
+      -- the leaves before and behind the one that is split
+      abbrev lefts : List ℕ
+      lefts = (around_parent cmp o c key 0 steps a.root stands).lefts ++ (around_child cmp o c key 0 steps a.root stands).lefts
+
+      abbrev rights : List ℕ
+      rights = (around_child cmp o c key 0 steps a.root stands).rights ++ (around_parent cmp o c key 0 steps a.root stands).rights
+
+      old_order : leaves_of a ≡ lefts ++ at ∷ rights
+      old_order = subst (λ (n : ℕ). leaves_under c n a.root ≡ lefts ++ at ∷ rights) height_is (order_total cmp o c key 0 steps a.root stands ∙ ap (λ (k : ℕ). (lefts ++ (k ∷ [])) ++ rights) (sym at_is) ∙ simp append_assoc)
+
+      new_order : leaves_of done ≡ lefts ++ fresh ∷ (at ∷ rights)
+      new_order = subst (λ (n : ℕ). leaves_under b n a.root ≡ lefts ++ fresh ∷ (at ∷ rights)) height_is ((divided cmp o c key 0 steps a.root stands b cut.separator fresh m.children split).order ∙ ap (λ (k : ℕ). (lefts ++ (fresh ∷ (k ∷ []))) ++ rights) (sym at_is) ∙ simp append_assoc)
+
+      counted : (k : ℕ) → times k (lefts ++ at ∷ rights) ≡ leaf_times c k a.height a.root
+      counted k = ap (times k) (sym old_order) ∙ times_counted c k a.height a.root
+
+      fresh_unused : leaf_times c fresh a.height a.root ≡ 0
+      fresh_unused = subst (λ (n : ℕ). leaf_times c fresh n a.root ≡ 0) height_is (none_leaf cmp o c key 0 steps a.root stands fresh absent)
+
+      once : (k : ℕ) → leaf_times c k a.height a.root ≤ 1
+      once k = subst (λ (n : ℕ). leaf_times c k n a.root ≤ 1) height_is (stands.leaf_once k)
+
+      abbrev named_by : Option (Leaf K V) → Option (Option ℕ × Option ℕ)
+      named_by = option_map (λ (l : Leaf K V). (l.prev, l.next))
+
+      done_linked : IsLinked (links linked) None (leaves_of done) None
+      done_linked =
+          subst (λ ns. IsLinked (links linked) None ns None) (sym new_order)
+          (linked_split (links a.leaves) (links leaves) (links linked) fresh at whole.prev whole.next (ap named_by here)
+            (λ k d. ap named_by (added.others k d) ∙ links_kept a.leaves at whole upper here upper_prev upper_next k)
+            (ap named_by added.changed ∙ rw (low_prev, upper_prev, low_next) refl)
+            (λ k. named k ∙ ap (λ (p : Option ℕ). linked_in fresh p at (links leaves) k) upper_prev)
+            rights None None lefts
+            (subst (λ ns. IsLinked (links a.leaves) None ns None) old_order (s.linked planted_))
+            (λ k. omega (arith, counted k, once k))
+            (omega (arith, counted fresh, fresh_unused))
+            (λ k e. cc))
+
       pub done_sound : IsSound cmp done
       done_sound = record {
         stands = inr (planted_, subst (λ (n : ℕ). Stands cmp b n a.root) height_is (divided cmp o c key 0 steps a.root stands b cut.separator fresh m.children split).stands);
+        linked = λ h. done_linked;
         tall = omega (arith, s.tall, same_len a.nodes above old m node_there);
         count = s.count ∙ sym (ap length done_pairs);
       }

@@ -1,16 +1,15 @@
 -- What an array answers in the words of maps, in the words of writes.
-use Rattle.std.proofs.Common.{◌≡◌, ℕ, ◌<◌, ◌==◌, arith, Bool, true, false, cond, not, ◌||◌, ◌&&◌, IsTrue, List, [], ◌∷◌, ◌++◌, Option, Some, None, refl, sym, ap, ◌∙◌, subst}
+use Rattle.std.proofs.Common.{◌≡◌, ℕ, ◌<◌, ◌==◌, arith, Bool, true, false, cond, not, ◌||◌, ◌&&◌, IsTrue, List, [], ◌∷◌, Option, Some, None, refl, sym, ap, ◌∙◌}
 use Rattle.std.proofs.lemmas.Bool.{eqb-true}
-use Rattle.std.specs.List.{AllByRecursion, filter, list_any}
-use Rattle.std.specs.BTreeMap.{insert_entry, is_at}
+use Rattle.std.specs.List.{AllByRecursion, filter}
+use Rattle.std.specs.BTreeMap.{is_at}
 use Rattle.std.specs.Cmp.{IsTotalOrder}
 use Rattle.std.specs.declared.cmp.Ordering.{Ordering}
-use Rattle.std.specs.declared.cmp.Ordering.TheVariants.{Less, Equal, Greater}
-use Rattle.std.specs.Map.{keys_of, lookup, lookup_entry, remove_entry}
-use Rattle.std.specs.Option.{is_some, option_map, IfSome}
-use Rattle.std.specs.Ordering.{is_eq, is_gt, is_lt}
-use Rattle.std.proofs.lemmas.Map.Keys.{sorted_head, sorted_tail}
-use Rattle.leaf_array.specs.Edits.{above, below, removed, upserted}
+use Rattle.std.specs.declared.cmp.Ordering.TheVariants.{Less}
+use Rattle.std.specs.Map.{keys_of, lookup_entry}
+use Rattle.std.specs.Option.{is_some, IfSome}
+use Rattle.std.proofs.lemmas.Map.Keys.{sorted_head}
+use Rattle.leaf_array.specs.Edits.{removed, upserted}
 use Rattle.leaf_array.specs.Pairs.{IsAscending, has_key, value_at}
 use Rattle.leaf_array.specs.declared.result.InsertResult.{InsertResult}
 use Rattle.leaf_array.specs.declared.result.InsertResult.TheVariants.{Success, Duplicate, Full}
@@ -18,7 +17,6 @@ use Rattle.leaf_array.specs.Cells.{Cells, has, inserted, replaced}
 use Rattle.leaf_array.specs.Results.{IsSuccess, IsDuplicate, IsFull, is_closed, is_repeated}
 use Rattle.leaf_array.proofs.EntryLemmas.{insert_upserted, exchange_upserted, has_lookup}
 use Rattle.tree_index.specs.Shape.{AllKeys}
-use Rattle.tree_index.proofs.ShapeLemmas.{all_weaken, turned}
 
 module _ {K V : Type 0} where
   all_of_keys : (P : K → Type 0) (ps : List (K × V)) → AllByRecursion P (keys_of ps) → AllKeys P ps

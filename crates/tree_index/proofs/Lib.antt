@@ -3,6 +3,8 @@ pub mod ShapeLemmas
 pub mod FocusLemmas
 pub mod LeafLemmas
 pub mod WayLemmas
+pub mod ChainLemmas
+pub mod LinkLemmas
 pub mod SplitLemmas
 pub mod ArenaLemmas
 pub mod HalfLemmas

@@ -1,5 +1,5 @@
 -- A node of the arenas that is split in two.
-use Rattle.std.proofs.Common.{◌≡◌, ◌≢◌, ◌≤◌, ◌<◌, ◌⊎◌, inl, inr, ℕ, zero, suc, ◌+◌, ◌-◌, ◌==◌, Bool, true, false, cond, List, [], ◌∷◌, ◌++◌, Option, Some, None, refl, sym, ap, ◌∙◌, subst, arith}
+use Rattle.std.proofs.Common.{◌≡◌, ◌≢◌, ◌≤◌, ◌<◌, inr, ℕ, suc, ◌+◌, ◌-◌, List, [], ◌∷◌, ◌++◌, Option, Some, None, refl, sym, ap, ◌∙◌, subst, arith}
 use Rattle.std.specs.Prelude.{length}
 use Rattle.std.specs.Option.{option_map}
 use Rattle.std.specs.declared.cmp.Ordering.{Ordering}
@@ -9,15 +9,15 @@ use Rattle.std.specs.BTreeMap.{insert_entry, is_at}
 use Rattle.slab.specs.Slab.{Slab, get, with_value, Updates, slab_len}
 use Rattle.slab.proofs.SlabLemmas.{Updates-with_value}
 use Rattle.leaf_array.specs.Cells.{Cells}
-use Rattle.tree_index.specs.declared.leaf.Leaf.{Leaf}
 use Rattle.tree_index.specs.declared.node.Branches.{Branches}
 use Rattle.tree_index.specs.declared.arenas.Arenas.{Arenas}
-use Rattle.tree_index.specs.Shape.{Content, way, pairs_under, IsNode, Stands}
-use Rattle.tree_index.specs.Content.{content, content_of, pairs_of, IsSound, NodeHasRoom}
+use Rattle.tree_index.specs.Shape.{Content, way, pairs_under, leaves_under, IsNode, Stands}
+use Rattle.tree_index.specs.Chain.{links, IsLinked}
+use Rattle.tree_index.specs.Content.{content_of, pairs_of, leaves_of, IsSound, NodeHasRoom}
 use Rattle.tree_index.proofs.FocusLemmas.{over, over_is}
 use Rattle.tree_index.proofs.WayLemmas.{some_same}
-use Rattle.tree_index.proofs.SplitLemmas.{around_parent, around_child, parent, child, kids, last}
-use Rattle.tree_index.proofs.NodeSplitLemmas.{IsNodeSplit, node_divided, leaf_way, by_side, child_apart, child_is, not_above}
+use Rattle.tree_index.proofs.SplitLemmas.{around_parent, around_child, child}
+use Rattle.tree_index.proofs.NodeSplitLemmas.{IsNodeSplit, node_divided, same_order, leaf_way, by_side, child_apart, child_is, not_above}
 use Rattle.tree_index.proofs.NodeLemmas.{planted, node_content}
 
 -- a list of seven has a first
@@ -137,9 +137,13 @@ module _ {K V : Type 0} (cmp : K → K → Ordering) (o : IsTotalOrder cmp) (key
     pub done_pairs : pairs_of done ≡ pairs_of a
     done_pairs = subst (λ (n : ℕ). pairs_under b n a.root ≡ pairs_under c n a.root) height_is (node_divided cmp o c key l steps a.root stands b fresh low.children up.children m.children sep low.last y ys split).pairs
 
+    done_order : leaves_of done ≡ leaves_of a
+    done_order = subst (λ (n : ℕ). leaves_under b n a.root ≡ leaves_under c n a.root) height_is (same_order cmp o c key l steps a.root stands b fresh low.children up.children m.children sep low.last y ys split)
+
     pub done_sound : slab_len a.nodes ≤ slab_len done.nodes → IsSound cmp done
     done_sound more = record {
       stands = inr ((λ e. omega (arith, e)), subst (λ (n : ℕ). Stands cmp b n a.root) height_is (node_divided cmp o c key l steps a.root stands b fresh low.children up.children m.children sep low.last y ys split).stands);
+      linked = λ h. subst (λ ns. IsLinked (links a.leaves) None ns None) (sym done_order) (s.linked h);
       tall = omega (arith, s.tall, more);
       count = s.count ∙ sym (ap length done_pairs);
     }

@@ -1,5 +1,5 @@
 -- What stands on the way to a key in the arenas of a planted tree.
-use Rattle.std.proofs.Common.{◌≡◌, ◌≢◌, ◌≤◌, ◌<◌, ◌⊎◌, inl, inr, ℕ, zero, suc, ◌+◌, ◌-◌, ◌==◌, Option, Some, None, true, false, cond, List, [], refl, sym, ap, ◌∙◌, subst, arith}
+use Rattle.std.proofs.Common.{◌≡◌, ◌≢◌, ◌≤◌, ◌<◌, ◌⊎◌, inl, inr, ℕ, suc, ◌-◌, ◌==◌, Option, Some, None, true, false, cond, List, refl, sym, ap, ◌∙◌, subst, arith}
 use Rattle.std.specs.Option.{option_map}
 use Rattle.std.specs.declared.cmp.Ordering.{Ordering}
 use Rattle.std.specs.Cmp.{IsTotalOrder}
@@ -12,8 +12,8 @@ use Rattle.leaf_array.specs.Cells.{Cells}
 use Rattle.tree_index.specs.declared.leaf.Leaf.{Leaf}
 use Rattle.tree_index.specs.declared.node.Branches.{Branches}
 use Rattle.tree_index.specs.declared.arenas.Arenas.{Arenas}
-use Rattle.tree_index.specs.Shape.{Content, way, IsNode, IsTree, Stands}
-use Rattle.tree_index.specs.Content.{content_of, pairs_of, IsBare, IsSound, AreSameArrays}
+use Rattle.tree_index.specs.Shape.{way, IsNode, IsTree, Stands}
+use Rattle.tree_index.specs.Content.{content_of, IsBare, IsSound, AreSameArrays}
 use Rattle.tree_index.proofs.FocusLemmas.{over, over_is, focus}
 use Rattle.tree_index.proofs.WayLemmas.{some_same, leaf_there, leaf_thawed}
 
@@ -108,7 +108,7 @@ module _ {K V : Type 0} (cmp : K → K → Ordering) (a : Arenas K V) (leaves : 
       }
 
   same_slots : IsSound cmp a → IsSound cmp (roomier a.leaves.slots a.nodes.slots)
-  same_slots s = record { stands = split s.stands; tall = s.tall; count = s.count }
+  same_slots s = record { stands = split s.stands; linked = s.linked; tall = s.tall; count = s.count }
     where
       split : IsBare a ⊎ (a.height ≢ 0) × Stands cmp (content_of a) a.height a.root → IsBare (roomier a.leaves.slots a.nodes.slots) ⊎ (a.height ≢ 0) × Stands cmp (content_of a) a.height a.root
       split (inl bare) = inl (record { flat = bare.flat; empty = bare.empty })

@@ -1,20 +1,19 @@
 -- A full node that is split in two.
-use Rattle.std.proofs.Common.{◌≡◌, ◌≢◌, ◌≤◌, ◌⊎◌, inl, inr, ℕ, zero, suc, ◌+◌, ◌-◌, ◌==◌, Bool, true, false, cond, List, [], ◌∷◌, ◌++◌, Option, Some, None, refl, sym, ap, ◌∙◌, subst, arith}
+use Rattle.std.proofs.Common.{◌≡◌, ◌≢◌, ◌≤◌, ◌⊎◌, inl, inr, ℕ, zero, suc, ◌+◌, ◌==◌, true, false, cond, List, ◌∷◌, ◌++◌, Some, None, refl, sym, ap, ◌∙◌, subst, arith}
 use Rattle.std.specs.declared.cmp.Ordering.{Ordering}
 use Rattle.std.specs.Ordering.{is_lt}
 use Rattle.std.specs.Cmp.{IsTotalOrder}
 use Rattle.std.specs.Map.{lookup}
 use Rattle.std.specs.BTreeMap.{insert_entry, is_at}
-use Rattle.std.proofs.lemmas.Bool.{eq-eqb}
 use Rattle.std.proofs.lemmas.Bool.Decides.{eqb_tells}
 use Rattle.leaf_array.specs.Cells.{Cells}
-use Rattle.tree_index.specs.Shape.{Content, AreBetween, child_for, child_in, way, pairs_along, sum_along, node_pairs, node_sum, pairs_under, leaf_times, node_times, IsNode, IsTree, Stands}
+use Rattle.tree_index.specs.Shape.{Content, child_for, child_in, way, joined_along, sum_along, node_joined, node_sum, pairs_under, leaves_under, leaf_times, node_times, IsNode, IsTree, Stands}
 use Rattle.tree_index.proofs.ShapeLemmas.{self_once, Agrees, AreSame, kept, kept_along}
-use Rattle.tree_index.proofs.FocusLemmas.{over, over_is}
+use Rattle.tree_index.proofs.FocusLemmas.{over}
 use Rattle.tree_index.proofs.WayLemmas.{tree_below}
 use Rattle.tree_index.proofs.HalfLemmas.{Halves, halves, under, along_halves, sum_halves, child_halves}
 use Rattle.tree_index.proofs.GrowLemmas.{at_most_one, child_counted, way_kept}
-use Rattle.tree_index.proofs.SplitLemmas.{parent, kids, last, child, around_parent, around_child, IsSplit, IsDivided, divided, leaf_total, node_total, none_node, at_parent}
+use Rattle.tree_index.proofs.SplitLemmas.{parent, kids, last, child, around_parent, around_child, IsSplit, IsDivided, divided, leaf_total, node_total, none_node, at_parent, order_total}
 
 -- a way in two parts
 pub way_more : {K V : Type 0} (cmp : K → K → Ordering) (a : Content K V) (key : K) (steps more at : ℕ) → way cmp a key (over steps more) at ≡ way cmp a key more (way cmp a key steps at)
@@ -126,7 +125,7 @@ module _ {K V : Type 0} (cmp : K → K → Ordering) (o : IsTotalOrder cmp) (a :
         lower = ((lower, mid), t.at_fresh, t.lower_node, two.lower);
         upper = ((upper, full.1), t.at_child, t.upper_node, rw t.rest two.upper);
         pairs =
-            rw (t.at_fresh, t.at_child, t.rest) (sym (along_halves (pairs_under b left) lower.pairs (sep, mid) (y ∷ ys) full.1) ∙ ap (λ es. pairs_along (pairs_under b left) es full.1) (sym t.parts) ∙ same.pairs ∙ sym (ap (node_pairs (pairs_under a left)) here));
+            rw (t.at_fresh, t.at_child, t.rest) (sym (along_halves (pairs_under b left) lower.pairs (sep, mid) (y ∷ ys) full.1) ∙ ap (λ es. joined_along (pairs_under b left) es full.1) (sym t.parts) ∙ same.pairs ∙ sym (ap (node_joined (pairs_under a left)) here));
         leaf_same = λ n z e. t.leaves n;
         node_same = λ n z q e. t.others n (λ f. e (ap a.node f ∙ t.absent)) (λ f. self_once c 0 (subst (λ (k : ℕ). cond (c == k) 1 0 + 0 ≡ 0) f (omega (arith, z)))) q;
         leaf_moved = λ n e. leaf_sums n;
@@ -152,6 +151,16 @@ module _ {K V : Type 0} (cmp : K → K → Ordering) (o : IsTotalOrder cmp) (a :
 
       pub node_divided : IsDivided cmp o a key (suc left) steps root s b sep fresh node
       node_divided = divided cmp o a key (suc left) steps root s b sep fresh node split
+
+      leaves_joined : leaves_under b (suc left) fresh ++ leaves_under b (suc left) c ≡ leaves_under a (suc left) c
+      leaves_joined = rw (t.at_fresh, t.at_child, t.rest) (sym (along_halves (leaves_under b left) lower.pairs (sep, mid) (y ∷ ys) full.1) ∙ ap (λ es. joined_along (leaves_under b left) es full.1) (sym t.parts) ∙ same.order ∙ sym (ap (node_joined (leaves_under a left)) here))
+
+      -- the leaves are as they were
+      pub same_order : leaves_under b (over steps (suc (suc left))) root ≡ leaves_under a (over steps (suc (suc left))) root
+      same_order =
+          let f = around_parent cmp o a key (suc left) steps root s in
+          let g = around_child cmp o a key (suc left) steps root s in
+          node_divided.order ∙ ap (λ ns. (f.lefts ++ g.lefts) ++ ns ++ (g.rights ++ f.rights)) leaves_joined ∙ sym (order_total cmp o a key (suc left) steps root s)
 
       next_way : way cmp b key (over steps 1) root ≡ cond (is_lt (cmp sep key)) c fresh
       next_way = way_more cmp b key steps 1 root ∙ ap (λ n. child_in cmp key n (b.node n)) node_divided.same_way ∙ ap (child_in cmp key p) t.at_parent ∙ node_divided.next

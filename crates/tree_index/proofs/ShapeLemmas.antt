@@ -1,13 +1,12 @@
 -- Keys between bounds, and what stays of a tree when others change.
-use Rattle.std.proofs.Common.{◌≡◌, ◌≢◌, ℕ, zero, suc, ◌+◌, ◌==◌, Bool, true, false, cond, List, [], ◌∷◌, ◌++◌, Option, Some, None, refl, sym, ap, ◌∙◌, subst, arith}
+use Rattle.std.proofs.Common.{◌≡◌, ◌≢◌, ℕ, zero, suc, ◌+◌, ◌==◌, true, false, cond, List, [], ◌∷◌, ◌++◌, Option, Some, None, refl, sym, ap, ◌∙◌, arith}
 use Rattle.std.specs.declared.cmp.Ordering.{Ordering}
 use Rattle.std.specs.declared.cmp.Ordering.TheVariants.{Less, Equal, Greater}
-use Rattle.std.specs.Ordering.{is_gt, is_lt, is_eq, ordering_reverse}
+use Rattle.std.specs.Ordering.{is_gt, is_lt}
 use Rattle.std.specs.Cmp.{IsTotalOrder}
 use Rattle.std.proofs.lemmas.Cmp.{upto}
-use Rattle.std.proofs.lemmas.Bool.{false≢true, eq-eqb}
-use Rattle.leaf_array.specs.Cells.{Cells}
-use Rattle.tree_index.specs.Shape.{Content, IsOver, IsUpTo, IsWithin, AreBetween, AllKeys, pairs_along, sum_along, leaf_pairs, node_pairs, node_sum, pairs_under, leaf_times, node_times, IsLeaf, IsNode, IsTree}
+use Rattle.std.proofs.lemmas.Bool.{eq-eqb}
+use Rattle.tree_index.specs.Shape.{Content, IsOver, IsUpTo, IsWithin, AreBetween, AllKeys, joined_along, sum_along, leaf_pairs, node_joined, node_sum, pairs_under, leaves_under, leaf_times, node_times, IsTree}
 
 module _ {K : Type 0} {cmp : K → K → Ordering} (o : IsTotalOrder cmp) where
   pub over_trans : (low : Option K) (m k : K) → IsOver cmp low m → cmp m k ≡ Less → IsOver cmp low k
@@ -77,10 +76,10 @@ module _ {K V : Type 0} where
   agrees_less a b leaves nodes fewer few f h s = record { leaf = λ n e. s.leaf n (f n e); node = λ n e. s.node n (h n e) }
 
 module _ {K V : Type 0} {cmp : K → K → Ordering} (o : IsTotalOrder cmp) (a : Content K V) where
-  pub bounded_along : (f : ℕ → List (K × V)) (P : ℕ → Option K → Option K → Type 0) → ((at : ℕ) (low high : Option K) → P at low high → AllKeys (IsWithin cmp low high) (f at)) → (es : List (K × ℕ)) (last : ℕ) (low high : Option K) → AreBetween cmp P es last low high → AllKeys (IsWithin cmp low high) (pairs_along f es last)
+  pub bounded_along : (f : ℕ → List (K × V)) (P : ℕ → Option K → Option K → Type 0) → ((at : ℕ) (low high : Option K) → P at low high → AllKeys (IsWithin cmp low high) (f at)) → (es : List (K × ℕ)) (last : ℕ) (low high : Option K) → AreBetween cmp P es last low high → AllKeys (IsWithin cmp low high) (joined_along f es last)
   bounded_along f P each [] last low high b = each last low high b
   bounded_along f P each (e ∷ es) last low high b =
-      all_append (IsWithin cmp low high) (f e.1) (pairs_along f es last)
+      all_append (IsWithin cmp low high) (f e.1) (joined_along f es last)
       (all_weaken (IsWithin cmp low (Some e.0)) (IsWithin cmp low high) (λ k w. (w.0, upto_trans o high e.0 k w.1 b.0.1)) _ (each e.1 low (Some e.0) b.1))
       (all_weaken (IsWithin cmp (Some e.0) high) (IsWithin cmp low high) (λ k w. (over_trans o low e.0 k b.0.0 w.0, w.1)) _ (bounded_along f P each es last (Some e.0) high b.2))
 
@@ -94,12 +93,14 @@ module _ {K V : Type 0} (cmp : K → K → Ordering) (a b : Content K V) where
   pub record IsSame (height at : ℕ) (low high : Option K) : Type 0 where
     pub tree : IsTree cmp b height at low high
     pub pairs : pairs_under b height at ≡ pairs_under a height at
+    pub order : leaves_under b height at ≡ leaves_under a height at
     pub leaves : (n : ℕ) → leaf_times b n height at ≡ leaf_times a n height at
     pub nodes : (n : ℕ) → node_times b n height at ≡ node_times a n height at
 
   pub record AreSame (height : ℕ) (es : List (K × ℕ)) (last : ℕ) (low high : Option K) : Type 0 where
     pub between : AreBetween cmp (IsTree cmp b height) es last low high
-    pub pairs : pairs_along (pairs_under b height) es last ≡ pairs_along (pairs_under a height) es last
+    pub pairs : joined_along (pairs_under b height) es last ≡ joined_along (pairs_under a height) es last
+    pub order : joined_along (leaves_under b height) es last ≡ joined_along (leaves_under a height) es last
     pub leaves : (n : ℕ) → sum_along (leaf_times b n height) es last ≡ sum_along (leaf_times a n height) es last
     pub nodes : (n : ℕ) → sum_along (node_times b n height) es last ≡ sum_along (node_times a n height) es last
 
@@ -110,13 +111,14 @@ module _ {K V : Type 0} (cmp : K → K → Ordering) (a b : Content K V) where
       → Agrees a b (λ n. sum_along (leaf_times a n height) es last) (λ n. sum_along (node_times a n height) es last) → AreSame height es last low high
   kept_along height keeps [] last low high t s =
       let k = keeps last low high t s in
-      record { between = k.tree; pairs = k.pairs; leaves = k.leaves; nodes = k.nodes }
+      record { between = k.tree; pairs = k.pairs; order = k.order; leaves = k.leaves; nodes = k.nodes }
   kept_along height keeps (e ∷ es) last low high t s =
       let first = keeps e.1 low (Some e.0) t.1 (record { leaf = λ n h. s.leaf n (omega (arith, h)); node = λ n h. s.node n (omega (arith, h)) }) in
       let rest = kept_along height keeps es last (Some e.0) high t.2 (record { leaf = λ n h. s.leaf n (omega (arith, h)); node = λ n h. s.node n (omega (arith, h)) }) in
       record {
         between = (t.0, first.tree, rest.between);
         pairs = rw (first.pairs, rest.pairs) refl;
+        order = rw (first.order, rest.order) refl;
         leaves = λ n. rw (first.leaves n, rest.leaves n) refl;
         nodes = λ n. rw (first.nodes n, rest.nodes n) refl;
       }
@@ -124,7 +126,7 @@ module _ {K V : Type 0} (cmp : K → K → Ordering) (a b : Content K V) where
   pub kept : (height : ℕ) → Keeps height
   kept zero at low high t s =
       let here : b.leaf at ≡ a.leaf at = s.leaf at (λ e. self_once at 0 (omega (arith, e))) in
-      record { tree = (t.0, here ∙ t.1, t.2); pairs = ap leaf_pairs here; leaves = λ n. refl; nodes = λ n. refl }
+      record { tree = (t.0, here ∙ t.1, t.2); pairs = ap leaf_pairs here; order = refl; leaves = λ n. refl; nodes = λ n. refl }
   kept (suc height) at low high t s =
       let here : b.node at ≡ a.node at = s.node at (self_once at (node_sum (node_times a at height) (a.node at))) in
       let es = t.0.0.pairs in
@@ -137,7 +139,8 @@ module _ {K V : Type 0} (cmp : K → K → Ordering) (a b : Content K V) where
       }) in
       record {
         tree = (t.0, here ∙ t.1, t.2, rest.between);
-        pairs = ap (node_pairs (pairs_under b height)) (here ∙ t.1) ∙ rest.pairs ∙ sym (ap (node_pairs (pairs_under a height)) t.1);
+        pairs = ap (node_joined (pairs_under b height)) (here ∙ t.1) ∙ rest.pairs ∙ sym (ap (node_joined (pairs_under a height)) t.1);
+        order = ap (node_joined (leaves_under b height)) (here ∙ t.1) ∙ rest.order ∙ sym (ap (node_joined (leaves_under a height)) t.1);
         leaves = λ n. ap (node_sum (leaf_times b n height)) (here ∙ t.1) ∙ rest.leaves n ∙ sym (leaves_here n);
         nodes = λ n. ap (λ m. cond (at == n) 1 0 + m) (ap (node_sum (node_times b n height)) (here ∙ t.1) ∙ rest.nodes n ∙ sym (nodes_here n));
       }

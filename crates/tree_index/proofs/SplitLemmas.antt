@@ -1,18 +1,15 @@
 -- A child that is split in two under a node with room.
-use Rattle.std.proofs.Common.{◌≡◌, ◌≢◌, ◌≤◌, ℕ, zero, suc, ◌+◌, ◌-◌, ◌==◌, Bool, true, false, cond, List, [], ◌∷◌, ◌++◌, Option, Some, None, inl, inr, ◌⊎◌, refl, sym, ap, ◌∙◌, subst, arith, append_assoc}
+use Rattle.std.proofs.Common.{◌≡◌, ◌≢◌, ◌≤◌, ℕ, zero, suc, ◌+◌, ◌==◌, true, false, cond, List, [], ◌∷◌, ◌++◌, Option, Some, None, inl, inr, ◌⊎◌, refl, sym, ap, ◌∙◌, arith, append_assoc}
 use Rattle.std.specs.declared.cmp.Ordering.{Ordering}
-use Rattle.std.specs.declared.cmp.Ordering.TheVariants.{Less, Equal, Greater}
-use Rattle.std.specs.Ordering.{is_gt, is_lt}
+use Rattle.std.specs.Ordering.{is_lt}
 use Rattle.std.specs.Cmp.{IsTotalOrder}
-use Rattle.std.specs.Map.{lookup}
-use Rattle.std.specs.BTreeMap.{insert_entry, is_at}
+use Rattle.std.specs.BTreeMap.{insert_entry}
 use Rattle.std.proofs.lemmas.Bool.{eq-eqb}
 use Rattle.std.proofs.lemmas.Bool.Decides.{eqb_tells}
 use Rattle.leaf_array.specs.Cells.{Cells}
-use Rattle.tree_index.specs.Shape.{Content, IsWithin, AreBetween, AllKeys, child_for, child_in, way, pairs_along, sum_along, leaf_pairs, node_pairs, node_sum, pairs_under, leaf_times, node_times, IsLeaf, IsNode, IsTree, Stands}
-use Rattle.tree_index.proofs.ShapeLemmas.{self_once, Agrees}
-use Rattle.tree_index.proofs.FocusLemmas.{over, over_is, IsUnder, Turn, turn, Focus, focus, Parted}
-use Rattle.tree_index.proofs.WayLemmas.{some_same}
+use Rattle.tree_index.specs.Shape.{Content, IsWithin, AreBetween, child_for, way, joined_along, sum_along, node_joined, node_sum, pairs_under, leaves_under, leaf_times, node_times, IsNode, IsTree, Stands}
+use Rattle.tree_index.proofs.ShapeLemmas.{Agrees}
+use Rattle.tree_index.proofs.FocusLemmas.{over, IsUnder, Turn, turn, Focus, focus, Parted}
 
 module _ {K V : Type 0} (cmp : K → K → Ordering) (a : Content K V) where
   absent_along : (f : ℕ → ℕ) (P : ℕ → Option K → Option K → Type 0) → ((at : ℕ) (low high : Option K) → P at low high → f at ≡ 0) → (es : List (K × ℕ)) (last : ℕ) (low high : Option K) → AreBetween cmp P es last low high → sum_along f es last ≡ 0
@@ -86,6 +83,7 @@ module _ {K V : Type 0} (cmp : K → K → Ordering) (o : IsTotalOrder cmp) (a :
   pub record IsDivided (b : Content K V) (sep : K) (fresh : ℕ) (node : Cells K ℕ) : Type 0 where
     pub stands : Stands cmp b (over steps (suc left)) root
     pub pairs : pairs_under b (over steps (suc left)) root ≡ pairs_under a (over steps (suc left)) root
+    pub order : leaves_under b (over steps (suc left)) root ≡ (around_parent.lefts ++ around_child.lefts) ++ (leaves_under b left fresh ++ leaves_under b left child) ++ (around_child.rights ++ around_parent.rights)
     pub same_way : way cmp b key steps root ≡ parent
     pub next : child_for cmp key node.pairs last ≡ cond (is_lt (cmp sep key)) child fresh
 
@@ -104,7 +102,14 @@ module _ {K V : Type 0} (cmp : K → K → Ordering) (o : IsTotalOrder cmp) (a :
   pairs_total : pairs_under a (suc left) parent ≡ around_child.front ++ pairs_under a left child ++ around_child.back
   pairs_total =
       let t = around_child.again a (record { leaf = λ n d. refl; node = λ n d. refl }) around_child.tree in
-      ap (node_pairs (pairs_under a left)) around_parent.tree.1 ∙ t.pairs
+      ap (node_joined (pairs_under a left)) around_parent.tree.1 ∙ t.pairs
+
+  -- the leaves around those of the child
+  pub order_total : leaves_under a (over steps (suc left)) root ≡ (around_parent.lefts ++ around_child.lefts) ++ leaves_under a left child ++ (around_child.rights ++ around_parent.rights)
+  order_total =
+      let r = around_parent.rebuilt a (record { leaf = λ n d. refl; node = λ n d. refl }) around_parent.tree in
+      let t = around_child.again a (record { leaf = λ n d. refl; node = λ n d. refl }) around_child.tree in
+      r.order ∙ ap (λ ns. around_parent.lefts ++ ns ++ around_parent.rights) (ap (node_joined (leaves_under a left)) around_parent.tree.1 ∙ t.order) ∙ simp append_assoc
 
   pub none_leaf : (n : ℕ) → a.leaf n ≡ None → leaf_times a n (over steps (suc left)) root ≡ 0
   none_leaf n e = leaf_absent cmp a n e (over steps (suc left)) root None None s.tree
@@ -128,7 +133,7 @@ module _ {K V : Type 0} (cmp : K → K → Ordering) (o : IsTotalOrder cmp) (a :
       node = λ n d. t.node_same n (omega (arith, d, node_total n, s.node_once n)) (λ e. at_parent n e (omega (arith, d, node_total n, s.node_once n))) (λ e. d (omega (arith, node_total n, none_node n e)));
     }
 
-    parts : Parted cmp a key left b sep fresh kids last around_parent.from around_parent.upto around_child.front around_child.back around_child.leaves around_child.nodes
+    parts : Parted cmp a key left b sep fresh kids last around_parent.from around_parent.upto around_child.front around_child.back around_child.lefts around_child.rights around_child.leaves around_child.nodes
     parts = around_child.parted b sep fresh agrees_child t.within t.under t.lower t.upper
 
     pub divided : IsDivided b sep fresh node
@@ -151,9 +156,13 @@ module _ {K V : Type 0} (cmp : K → K → Ordering) (o : IsTotalOrder cmp) (a :
           };
           pairs =
               r.pairs ∙ ap (λ ps. around_parent.front ++ ps ++ around_parent.back) (
-              ap (node_pairs (pairs_under b left)) t.there ∙ ap (λ es. pairs_along (pairs_under b left) es last) t.separators ∙ parts.pairs
+              ap (node_joined (pairs_under b left)) t.there ∙ ap (λ es. joined_along (pairs_under b left) es last) t.separators ∙ parts.pairs
               ∙ ap (λ ps. around_child.front ++ ps ++ around_child.back) t.pairs ∙ sym pairs_total
               ) ∙ sym (around_parent.rebuilt a (record { leaf = λ n d. refl; node = λ n d. refl }) around_parent.tree).pairs;
+          order =
+              r.order ∙ ap (λ ns. around_parent.lefts ++ ns ++ around_parent.rights) (
+              ap (node_joined (leaves_under b left)) t.there ∙ ap (λ es. joined_along (leaves_under b left) es last) t.separators ∙ parts.order
+              ) ∙ simp append_assoc;
           same_way = r.same_way;
           next = ap (λ es. child_for cmp key es last) t.separators ∙ parts.child;
         }

@@ -1,20 +1,19 @@
 -- Reads and writes at the leaf on the way to a key.
-use Rattle.std.proofs.Common.{◌≡◌, ◌≢◌, ℕ, zero, suc, ◌+◌, ◌-◌, ◌≤◌, ◌==◌, Bool, true, false, cond, not, ◌||◌, List, [], ◌∷◌, ◌++◌, Option, Some, None, refl, sym, ap, ◌∙◌, subst, arith, append_assoc}
+use Rattle.std.proofs.Common.{◌≡◌, ◌≢◌, ℕ, suc, ◌-◌, Bool, true, false, cond, not, ◌||◌, List, [], ◌∷◌, ◌++◌, Option, Some, None, refl, sym, ap, ◌∙◌, subst, arith, append_assoc}
 use Rattle.std.specs.declared.cmp.Ordering.{Ordering}
-use Rattle.std.specs.declared.cmp.Ordering.TheVariants.{Less, Equal, Greater}
+use Rattle.std.specs.declared.cmp.Ordering.TheVariants.{Less}
 use Rattle.std.specs.Ordering.{is_gt, is_lt, is_eq}
 use Rattle.std.specs.Cmp.{IsTotalOrder}
-use Rattle.std.specs.List.{filter, list_any}
+use Rattle.std.specs.List.{filter}
 use Rattle.std.specs.Map.{lookup_entry}
 use Rattle.std.specs.BTreeMap.{is_at}
-use Rattle.std.proofs.lemmas.Bool.{eq-eqb}
 use Rattle.std.proofs.lemmas.List.{append-nil}
 use Rattle.std.proofs.lemmas.List.Elements.{filter-append}
 use Rattle.leaf_array.specs.Cells.{Cells}
-use Rattle.leaf_array.specs.Edits.{above, below, removed, upserted}
+use Rattle.leaf_array.specs.Edits.{below, removed, upserted}
 use Rattle.leaf_array.specs.Pairs.{IsAscending, has_key}
-use Rattle.tree_index.specs.Shape.{Content, IsWithin, AreBetween, AllKeys, child_for, child_in, way, leaf_pairs, pairs_under, leaf_times, node_times, IsLeaf, IsTree, Stands}
-use Rattle.tree_index.proofs.ShapeLemmas.{all_weaken, turned, self_once, Agrees}
+use Rattle.tree_index.specs.Shape.{Content, IsWithin, AreBetween, AllKeys, child_for, child_in, way, leaf_pairs, pairs_under, leaves_under, IsTree, Stands}
+use Rattle.tree_index.proofs.ShapeLemmas.{all_weaken, turned, self_once}
 use Rattle.tree_index.proofs.LeafLemmas.{filter_all, filter_none}
 use Rattle.tree_index.proofs.FocusLemmas.{over, over_is, Focus, focus}
 
@@ -138,6 +137,7 @@ module _ {K V : Type 0} (cmp : K → K → Ordering) (o : IsTotalOrder cmp) (key
     pub new : pairs_under b height root ≡ front ++ (d.pairs ++ back)
     pub stands : Stands cmp b height root
     pub same_way : way cmp b key steps root ≡ way cmp a key steps root
+    pub order : leaves_under b height root ≡ leaves_under a height root
 
   written_over : (b : Content K V) (height root : ℕ) (c d : Cells K V) → Stands cmp a (over height 0) root → a.leaf (way cmp a key height root) ≡ Some c → b.leaf (way cmp a key height root) ≡ Some d
       → ((n : ℕ) → n ≢ way cmp a key height root → b.leaf n ≡ a.leaf n) → ((n : ℕ) → b.node n ≡ a.node n)
@@ -165,6 +165,7 @@ module _ {K V : Type 0} (cmp : K → K → Ordering) (o : IsTotalOrder cmp) (key
           node_once = λ n. omega (arith, u.node n, r.node n, s.node_once n);
         };
         same_way = u.same_way;
+        order = u.order ∙ sym r.order;
       }
 
   pub written : (b : Content K V) (height root : ℕ) (c d : Cells K V) → Stands cmp a height root → a.leaf (way cmp a key height root) ≡ Some c → b.leaf (way cmp a key height root) ≡ Some d

@@ -1,15 +1,15 @@
 -- What the arenas of a tree hold.
-use Rattle.std.specs.Prelude.{◌≡◌, ◌≢◌, ◌≤◌, ◌<◌, ◌-◌, ◌⊎◌, ℕ, List, length, Option, Some, None, false}
+use Rattle.std.specs.Prelude.{◌≡◌, ◌≢◌, ◌≤◌, ◌<◌, ◌-◌, ◌⊎◌, ℕ, List, length, Some, None, false}
 use Rattle.std.specs.declared.cmp.Ordering.{Ordering}
 use Rattle.std.specs.Option.{option_map}
 use Rattle.slab.specs.Slab.{Slab, get, slab_len}
-use Rattle.leaf_array.specs.Cells.{Cells}
 use Rattle.tree_index.specs.declared.leaf.Leaf.{Leaf}
 use Rattle.tree_index.specs.declared.node.Branches.{Branches}
 use Rattle.tree_index.specs.declared.arenas.Arenas.{Arenas}
 use Rattle.tree_index.specs.declared.leaf.Cut.{Cut}
 use Rattle.tree_index.specs.Cuts.{IsCut}
-use Rattle.tree_index.specs.Shape.{Content, pairs_under, way, Stands}
+use Rattle.tree_index.specs.Shape.{Content, pairs_under, leaves_under, way, Stands}
+use Rattle.tree_index.specs.Chain.{links, IsLinked}
 
 module _ {K V : Type 0} where
   -- the arrays in two arenas
@@ -26,6 +26,10 @@ module _ {K V : Type 0} where
   abbrev pub pairs_of : Arenas K V → List (K × V)
   pairs_of a = pairs_under (content_of a) a.height a.root
 
+  -- the numbers of the leaves in order
+  abbrev pub leaves_of : Arenas K V → List ℕ
+  leaves_of a = leaves_under (content_of a) a.height a.root
+
   -- nothing is planted
   pub record IsBare (a : Arenas K V) : Type 0 where
     pub flat : a.height ≡ 0
@@ -34,6 +38,7 @@ module _ {K V : Type 0} where
   -- nothing is planted, or a tree of at least one node stands
   pub record IsSound (cmp : K → K → Ordering) (a : Arenas K V) : Type 0 where
     pub stands : IsBare a ⊎ (a.height ≢ 0) × Stands cmp (content_of a) a.height a.root
+    pub linked : a.height ≢ 0 → IsLinked (links a.leaves) None (leaves_of a) None
     pub tall : a.height ≤ slab_len a.nodes
     pub count : a.len ≡ length (pairs_of a)
 

@@ -1,4 +1,5 @@
 pub mod Shape
+pub mod Chain
 pub mod Cuts
 pub mod Content
 pub use Rattle.leaf_array.specs.Pairs

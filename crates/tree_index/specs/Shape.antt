@@ -1,5 +1,5 @@
 -- The shape of a tree, over what its arenas hold at each number.
-use Rattle.std.specs.Prelude.{◌≡◌, ◌≤◌, ℕ, zero, suc, ◌+◌, ◌==◌, Bool, false, cond, List, [], ◌∷◌, ◌++◌, length, Option, Some, None}
+use Rattle.std.specs.Prelude.{◌≡◌, ◌≤◌, ℕ, zero, suc, ◌+◌, ◌==◌, false, cond, List, [], ◌∷◌, ◌++◌, length, Option, Some, None}
 use Rattle.std.specs.declared.cmp.Ordering.{Ordering}
 use Rattle.std.specs.declared.cmp.Ordering.TheVariants.{Less}
 use Rattle.std.specs.Ordering.{is_gt, is_lt}
@@ -41,9 +41,9 @@ AllKeys P [] = Unit {0}
 AllKeys P (p ∷ ps) = P p.0 × AllKeys P ps
 
 -- what the children hold, in order
-abbrev pub pairs_along : {K V : Type 0} → (ℕ → List (K × V)) → List (K × ℕ) → ℕ → List (K × V)
-pairs_along f [] last = f last
-pairs_along f (e ∷ es) last = f e.1 ++ pairs_along f es last
+abbrev pub joined_along : {K X : Type 0} → (ℕ → List X) → List (K × ℕ) → ℕ → List X
+joined_along f [] last = f last
+joined_along f (e ∷ es) last = f e.1 ++ joined_along f es last
 
 -- the sum over the children
 abbrev pub sum_along : {K : Type 0} → (ℕ → ℕ) → List (K × ℕ) → ℕ → ℕ
@@ -66,19 +66,24 @@ module _ {K : Type 0} where
     pub living : n.retired ≡ false
     pub packed : n.used ≡ length n.pairs
 
+abbrev pub node_joined : {K X : Type 0} → (ℕ → List X) → Option (Cells K ℕ × ℕ) → List X
+node_joined f None = []
+node_joined f (Some n) = joined_along f n.0.pairs n.1
+
 module _ {K V : Type 0} where
   abbrev pub leaf_pairs : Option (Cells K V) → List (K × V)
   leaf_pairs None = []
   leaf_pairs (Some c) = c.pairs
 
-  abbrev pub node_pairs : (ℕ → List (K × V)) → Option (Cells K ℕ × ℕ) → List (K × V)
-  node_pairs f None = []
-  node_pairs f (Some n) = pairs_along f n.0.pairs n.1
-
   -- the pairs under a number at this height, in order
   abbrev pub pairs_under : Content K V → ℕ → ℕ → List (K × V)
   pairs_under a zero at = leaf_pairs (a.leaf at)
-  pairs_under a (suc height) at = node_pairs (pairs_under a height) (a.node at)
+  pairs_under a (suc height) at = node_joined (pairs_under a height) (a.node at)
+
+  -- the numbers of the leaves under a number at this height, in order
+  abbrev pub leaves_under : Content K V → ℕ → ℕ → List ℕ
+  leaves_under a zero at = at ∷ []
+  leaves_under a (suc height) at = node_joined (leaves_under a height) (a.node at)
 
   -- how often a leaf, and how often a node, stands under a number at this height
   abbrev pub leaf_times : Content K V → ℕ → ℕ → ℕ → ℕ

@@ -1,5 +1,5 @@
 -- What a contract sees of a tree.
-use Rattle.std.specs.Prelude.{◌≡◌, refl, ℕ, List}
+use Rattle.std.specs.Prelude.{refl, ℕ, List}
 use Rattle.std.specs.Coded.{Coded, code_by, coded×, coded_ℕ, coded_list}
 use Rattle.tree_index.specs.declared.index.InsertRefused.{InsertRefused}
 use Rattle.tree_index.specs.declared.index.InsertRefused.TheVariants.{Duplicate, Memory}

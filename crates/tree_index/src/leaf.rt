@@ -19,12 +19,9 @@ use std::mem;
 #[derive(Drop)]
 pub struct Leaf<K: Ord, V> {
     pub(crate) array: Array<K, V>,
-    pub(crate) prev: usize,
-    pub(crate) next: usize,
+    pub(crate) prev: Option<usize>,
+    pub(crate) next: Option<usize>,
 }
-
-/// The number before the first leaf, and behind the last.
-pub(crate) const NONE: usize = usize::MAX;
 
 impl<K: Ord, V> Leaf<K, V> {
     /// Inserts a pair, and where `UPSERT` is true puts it in the place of the one that has its key.

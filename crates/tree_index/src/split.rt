@@ -1,12 +1,14 @@
 //! Room for one more pair: what is full on the way to its key is split.
 
-ghost use Rattle.std.specs.Prelude.{◌≡◌, ◌≢◌, ◌≤◌, ◌<◌, ◌+◌, ◌-◌, IfSome, IfOk, OnOk, OnErr, true, false, not, nat_lt, length};
+ghost use Rattle.std.specs.Prelude.{◌≡◌, ◌≢◌, ◌≤◌, ◌<◌, ◌+◌, ◌-◌, ◌==◌, ℕ, IfSome, IfOk, OnOk, OnErr, Some, None, true, false, not, nat_lt, cond, length};
+ghost use Rattle.std.specs.Option.{option_map};
 ghost use Rattle.leaf_array.specs.Values.{ClonesAreSame};
 ghost use Rattle.slab.specs.Slab.{get, HasRoomFor, slab_len};
+ghost use Rattle.tree_index.specs.Chain.{links, linked_in};
 ghost use Rattle.tree_index.specs.Content.{pairs_of, IsSound, HasRoom, NodeHasRoom, IsNodeFull, IsCutThere, AreSameArrays, leaf_on_way};
 
 use crate::arenas::Arenas;
-use crate::leaf::{Cut, Leaf, NONE};
+use crate::leaf::{Cut, Leaf};
 use crate::node::Branches;
 use leaf_array::Array;
 use slab::Slab;
@@ -65,8 +67,8 @@ impl<K: Ord, V> Arenas<K, V> {
         self.nodes.reserve(1)?;
         let leaf = self.leaves.insert_reserved(Leaf {
             array: Array::new(),
-            prev: NONE,
-            next: NONE,
+            prev: None,
+            next: None,
         });
         self.root = self.nodes.insert_reserved(Branches {
             children: Array::new(),
@@ -250,7 +252,7 @@ impl<K: Ord, V> Arenas<K, V> {
         let fresh = self.leaves.insert_reserved(Leaf {
             array: lower,
             prev: before,
-            next: child,
+            next: Some(child),
         });
         link(&mut self.leaves, before, fresh, child);
         match self.nodes.get_mut(above) {
@@ -260,28 +262,33 @@ impl<K: Ord, V> Arenas<K, V> {
     }
 }
 
-/// Links a new leaf in between two.
-fn link<K: Ord, V>(leaves: &mut Slab<Leaf<K, V>>, before: usize, fresh: usize, behind: usize)
-    ensures { AreSameArrays leaves.old leaves.new }
+/// Links a new leaf in between two, of which the first may be missing.
+fn link<K: Ord, V>(leaves: &mut Slab<Leaf<K, V>>, before: Option<usize>, fresh: usize, behind: usize)
+    ensures arrays { AreSameArrays leaves.old leaves.new }
+    ensures links { (n : ℕ) → links leaves.new n ≡ linked_in fresh before behind (links leaves.old) n }
 {
     set_prev(leaves, behind, fresh);
-    set_next(leaves, before, fresh);
+    if let Some(at) = before {
+        set_next(leaves, at, fresh);
+    }
 }
 
 /// Names the leaf before one, if that is there.
 fn set_prev<K: Ord, V>(leaves: &mut Slab<Leaf<K, V>>, at: usize, prev: usize)
-    ensures { AreSameArrays leaves.old leaves.new }
+    ensures arrays { AreSameArrays leaves.old leaves.new }
+    ensures links { (n : ℕ) → links leaves.new n ≡ linked_in prev None at (links leaves.old) n }
 {
     if let Some(leaf) = leaves.get_mut(at) {
-        leaf.prev = prev;
+        leaf.prev = Some(prev);
     }
 }
 
 /// Names the leaf behind one, if that is there.
 fn set_next<K: Ord, V>(leaves: &mut Slab<Leaf<K, V>>, at: usize, next: usize)
-    ensures { AreSameArrays leaves.old leaves.new }
+    ensures arrays { AreSameArrays leaves.old leaves.new }
+    ensures links { (n : ℕ) → links leaves.new n ≡ option_map (λ l. (l.0, cond (at == n) (Some next) l.1)) (links leaves.old n) }
 {
     if let Some(leaf) = leaves.get_mut(at) {
-        leaf.next = next;
+        leaf.next = Some(next);
     }
 }

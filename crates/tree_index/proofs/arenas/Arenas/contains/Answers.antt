@@ -1,4 +1,4 @@
-use Rattle.std.proofs.Common.{◌≡◌, ◌∙◌, sym, ap}
+use Rattle.std.proofs.Common.{◌∙◌, sym, ap}
 use Rattle.std.specs.Option.{is_some}
 use Rattle.tree_index.specs.Content.{pairs_of}
 use Rattle.tree_index.proofs.LeafLemmas.{has_entry}

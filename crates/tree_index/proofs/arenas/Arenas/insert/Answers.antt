@@ -1,12 +1,10 @@
-use Rattle.std.proofs.Common.{◌≡◌, ℕ, ◌+◌, ◌-◌, ◌≤◌, ◌<◌, false, Option, Some, None, inr, sym, ap, ◌∙◌, subst, arith}
+use Rattle.std.proofs.Common.{◌≡◌, ℕ, ◌+◌, ◌-◌, ◌≤◌, ◌<◌, false, Some, sym, ap, ◌∙◌, subst, arith}
 use Rattle.std.specs.Prelude.{length}
 use Rattle.slab.specs.Slab.{get}
 use Rattle.leaf_array.specs.Cells.{Cells}
-use Rattle.leaf_array.specs.Pairs.{IsAscending}
 use Rattle.tree_index.specs.declared.leaf.Leaf.{Leaf}
-use Rattle.tree_index.specs.Content.{content_of, pairs_of, HasRoom}
-use Rattle.tree_index.proofs.WayLemmas.{Written, some_same}
-use Rattle.tree_index.proofs.ArenaLemmas.{on_way, IsPut, put_of, put_length, thawed_on_way, leaf_counted, put_written, still_sound, has_written, upserted_written, kept_written, with_leaf}
+use Rattle.tree_index.proofs.WayLemmas.{some_same}
+use Rattle.tree_index.proofs.ArenaLemmas.{IsPut, put_of, put_length, thawed_on_way, leaf_counted, put_written, still_sound, has_written, upserted_written, kept_written}
 use Rattle.tree_index.proofs.LeafLemmas.{roomy}
 use Rattle.tree_index.proofs.arenas.Arenas.insert.Goals as goal
 
@@ -70,7 +68,7 @@ returns-in-Some-clause-sound g c =
     let put : IsPut cmp key c.args.val l.array.pairs m.array.pairs = put_of cmp key c.args.val c.insert-answer.result l.array m.array c.insert-answer.ensures.done c.insert-answer.ensures.kept in
     let len : ℕ = a.len - c.len-before.result + c.len.result in
     let w = put_written cmp o key a s n on l here c.args.val m len put c.insert-answer.ensures.thawed c.len.ensures.rising in
-    still_sound cmp o key a s n on l here m c.len-before.result c.len.result c.len-before.ensures.count c.len.ensures.count w
+    still_sound cmp o key a s n on l here m c.len-before.result c.len.result c.insert-answer.ensures.prev c.insert-answer.ensures.next c.len-before.ensures.count c.len.ensures.count w
 
 pub returns-in-Some-clause-kept : goal.returns-in-Some-clause-kept
 returns-in-Some-clause-kept g c k =

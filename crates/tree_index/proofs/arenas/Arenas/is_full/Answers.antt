@@ -1,4 +1,4 @@
-use Rattle.std.proofs.Common.{◌≡◌, ◌≢◌, ◌<◌, ◌==◌, false, ℕ, sym, subst, arith, ◌∙◌, ap}
+use Rattle.std.proofs.Common.{◌≡◌, ◌≢◌, ◌==◌, false, sym, arith, ◌∙◌}
 use Rattle.std.proofs.lemmas.Bool.{eqb-false}
 use Rattle.tree_index.proofs.NodeLemmas.{node_is, node_not_none}
 use Rattle.tree_index.proofs.arenas.Arenas.is_full.Goals as goal

@@ -1,4 +1,4 @@
-use Rattle.std.proofs.Common.{◌≡◌, ◌≢◌, ◌≤◌, ◌-◌, ℕ, Option}
+use Rattle.std.proofs.Common.{◌≡◌, ◌≢◌, ◌≤◌, ◌-◌, Option}
 use Rattle.tree_index.specs.Shape.{IsTree, way}
 use Rattle.tree_index.specs.Content.{content_of}
 use Rattle.tree_index.proofs.arenas.Arenas.node_at.Given as goal

@@ -1,7 +1,6 @@
-use Rattle.std.proofs.Common.{◌≡◌, ◌≢◌, ◌≤◌, ◌<◌, ℕ, Option, Some, None, sym, ap, ◌∙◌, subst, arith}
+use Rattle.std.proofs.Common.{◌≡◌, ◌<◌, Option, Some, sym, ap, ◌∙◌, subst, arith}
 use Rattle.std.specs.Prelude.{length, IfSome}
 use Rattle.slab.specs.Slab.{get}
-use Rattle.leaf_array.specs.Cells.{Cells}
 use Rattle.leaf_array.specs.Pairs.{IsAscending}
 use Rattle.tree_index.specs.declared.leaf.Leaf.{Leaf}
 use Rattle.tree_index.specs.Shape.{AllKeys, IsWithin}
@@ -27,7 +26,7 @@ returns-clause-sound g c =
     let m : Leaf g.row.K.Denot g.row.V.Denot = c.pack.new.self in
     let p : m.array.pairs ≡ l.array.pairs = c.pack.ensures.pairs in
     let w = rewritten cmp o key a s n on l here m a.len (c.pack.ensures.thawed ∙ leaf_open cmp o key a s c.requires.planted n on l here) (subst (IsAscending cmp) (sym p) c.len.ensures.rising) (λ low high within all. subst (AllKeys (IsWithin cmp low high)) (sym p) all) in
-    same_sound cmp o key a s n on l here m w p
+    same_sound cmp o key a s n on l here m c.pack.ensures.prev c.pack.ensures.next w p
 
 pub returns-clause-pairs : goal.returns-clause-pairs
 returns-clause-pairs g c =

@@ -1,4 +1,4 @@
-use Rattle.std.proofs.Common.{◌≡◌, ◌≢◌, ◌≤◌, ℕ, Option, Some, false, sym, ap, ◌∙◌, refl, arith, inr}
+use Rattle.std.proofs.Common.{◌≡◌, ◌≢◌, ℕ, Some, None, false, sym, ap, ◌∙◌, refl, arith, inr}
 use Rattle.std.specs.Prelude.{length}
 use Rattle.std.specs.Option.{option_map}
 use Rattle.leaf_array.specs.Cells.{Cells, no_cells}
@@ -8,7 +8,7 @@ use Rattle.tree_index.specs.Shape.{Content, way}
 use Rattle.tree_index.specs.Content.{content}
 use Rattle.tree_index.proofs.ArenaLemmas.{bare_pairs}
 use Rattle.tree_index.proofs.NodeLemmas.{bare_of}
-use Rattle.tree_index.proofs.GrowLemmas.{one_node, one_pairs}
+use Rattle.tree_index.proofs.GrowLemmas.{one_node, one_pairs, one_order}
 use Rattle.tree_index.proofs.arenas.Arenas.plant.Goals as goal
 
 pub returns-clause-sound : goal.returns-clause-sound
@@ -24,6 +24,7 @@ returns-clause-sound g c =
     let one : ◌≢◌ {A = ℕ} 1 0 = λ e. omega (arith, e) in
     record {
       stands = inr (one, one_node cmp b leaf root l n);
+      linked = λ h. rw (one_order cmp b leaf root n) (ap (option_map (λ (l : Leaf g.row.K.Denot g.row.V.Denot). (l.prev, l.next))) c.insert_reserved-leaf.ensures.updates.changed, tt);
       tall = omega (arith, c.insert_reserved-self.ensures.len);
       count = c.requires.sound.count ∙ ap length none ∙ sym (ap length (one_pairs cmp b leaf root l n));
     }
@@ -36,5 +37,5 @@ returns-clause-room g c =
     let b : Content g.row.K.Denot g.row.V.Denot = content c.insert_reserved-leaf.new.self c.insert_reserved-self.new.self in
     let n : b.node root ≡ Some (no_cells false, leaf) = ap (option_map (λ (n : Branches g.row.K.Denot). (n.children, n.last))) c.insert_reserved-self.ensures.updates.changed ∙ ap (λ (d : Cells g.row.K.Denot ℕ). Some (d, leaf)) c.new-2.ensures in
     let on : way cmp b c.args.key.now 1 root ≡ leaf = rw n refl in
-    let m : Leaf g.row.K.Denot g.row.V.Denot = record { array = c.new.result; prev = 18446744073709551615; next = 18446744073709551615 } in
+    let m : Leaf g.row.K.Denot g.row.V.Denot = record { array = c.new.result; prev = None; next = None } in
     record { leaf = m; there = rw on c.insert_reserved-leaf.ensures.updates.changed; living = rw c.new.ensures refl; room = rw c.new.ensures (omega arith) }

@@ -1,13 +1,14 @@
-use Rattle.std.proofs.Common.{◌≡◌, ◌≢◌, ◌≤◌, ◌+◌, ◌-◌, ℕ, suc, zero, Option, Some, None, false, sym, ap, ◌∙◌, refl, arith, inr, subst}
+use Rattle.std.proofs.Common.{◌≡◌, ◌+◌, ◌-◌, ℕ, suc, Option, Some, None, false, sym, ap, ◌∙◌, refl, arith, inr, subst}
 use Rattle.std.specs.Prelude.{length}
 use Rattle.std.specs.Option.{option_map}
 use Rattle.slab.specs.Slab.{get}
 use Rattle.leaf_array.specs.Cells.{Cells, no_cells}
 use Rattle.tree_index.specs.declared.node.Branches.{Branches}
-use Rattle.tree_index.specs.Shape.{Content, way, pairs_under, Stands}
+use Rattle.tree_index.specs.Shape.{Content, way, pairs_under, leaves_under, Stands}
+use Rattle.tree_index.specs.Chain.{links, IsLinked}
 use Rattle.tree_index.specs.Content.{content, content_of}
 use Rattle.tree_index.proofs.NodeLemmas.{planted}
-use Rattle.tree_index.proofs.GrowLemmas.{raised, raised_pairs, raised_way}
+use Rattle.tree_index.proofs.GrowLemmas.{raised, raised_pairs, raised_order, raised_way}
 use Rattle.tree_index.proofs.arenas.Arenas.raise.Goals as goal
 
 pub overflow_add-self : goal.overflow_add-self
@@ -29,6 +30,7 @@ returns-clause-sound g c =
     let pairs = raised_pairs cmp (content_of a) b a.height a.root fresh s absent there (λ n d. ap node (up.others n d)) (λ n. refl) in
     record {
       stands = inr (λ e. omega (arith, e), subst (λ (n : ℕ). Stands cmp b n fresh) (sym more) (raised cmp (content_of a) b a.height a.root fresh s absent there (λ n d. ap node (up.others n d)) (λ n. refl)));
+      linked = λ h. subst (λ ns. IsLinked (links a.leaves) None ns None) (sym (ap (λ (n : ℕ). leaves_under b n fresh) more ∙ raised_order cmp (content_of a) b a.height a.root fresh s absent there (λ n d. ap node (up.others n d)) (λ n. refl))) (c.requires.sound.linked c.requires.planted);
       tall = omega (arith, c.requires.sound.tall, c.insert_reserved-self.ensures.len);
       count = c.requires.sound.count ∙ sym (ap length (ap (λ (n : ℕ). pairs_under b n fresh) more ∙ pairs));
     }

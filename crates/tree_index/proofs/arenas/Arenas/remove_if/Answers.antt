@@ -1,6 +1,5 @@
-use Rattle.std.proofs.Common.{◌≡◌, ◌⊎◌, ℕ, ◌+◌, ◌-◌, ◌≤◌, Option, Some, None, sym, ap, ◌∙◌, arith}
-use Rattle.std.specs.Prelude.{length, IfSome}
-use Rattle.std.specs.Fn.{FnOnceReturnsAt}
+use Rattle.std.proofs.Common.{◌≡◌, ℕ, ◌+◌, ◌-◌, ◌≤◌, Some, sym, ap, ◌∙◌, arith}
+use Rattle.std.specs.Prelude.{length}
 use Rattle.std.specs.BTreeMap.{is_at}
 use Rattle.std.specs.Map.{lookup_entry}
 use Rattle.slab.specs.Slab.{get}
@@ -70,7 +69,7 @@ returns-in-Some-clause-sound g c =
     let taken = taken_of c.remove_if-answer.result l.array.pairs m.array.pairs (removed cmp key l.array.pairs) c.remove_if-answer.ensures.removed (λ e. ap (λ (x : Cells g.row.K.Denot g.row.V.Denot). x.pairs) (c.remove_if-answer.ensures.kept e)) in
     let len : ℕ = a.len - c.len-before.result + c.len.result in
     let w = taken_written cmp o key a s n on l here m len taken c.remove_if-answer.ensures.thawed c.len.ensures.rising in
-    still_sound cmp o key a s n on l here m c.len-before.result c.len.result c.len-before.ensures.count c.len.ensures.count w
+    still_sound cmp o key a s n on l here m c.len-before.result c.len.result c.remove_if-answer.ensures.prev c.remove_if-answer.ensures.next c.len-before.ensures.count c.len.ensures.count w
 
 pub returns-in-Some-clause-absent : goal.returns-in-Some-clause-absent
 returns-in-Some-clause-absent g c e =

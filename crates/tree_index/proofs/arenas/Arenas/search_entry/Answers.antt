@@ -1,7 +1,6 @@
-use Rattle.std.proofs.Common.{◌≡◌, ℕ, None, sym, ap, ◌∙◌, subst}
+use Rattle.std.proofs.Common.{sym, ap}
 use Rattle.std.specs.BTreeMap.{is_at}
 use Rattle.std.specs.Map.{lookup_entry}
-use Rattle.slab.specs.Slab.{get}
 use Rattle.tree_index.proofs.ArenaLemmas.{lookup_sound, none_sound, bare_pairs}
 use Rattle.tree_index.proofs.arenas.Arenas.search_entry.Goals as goal
 

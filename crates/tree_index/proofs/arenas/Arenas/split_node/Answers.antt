@@ -1,10 +1,8 @@
-use Rattle.std.proofs.Common.{◌≡◌, ◌≤◌, ℕ, ◌+◌, Option, Some, sym, ap, ◌∙◌, arith, subst}
-use Rattle.slab.specs.Slab.{get, slab_len}
-use Rattle.slab.proofs.SlabLemmas.{Updates-with_value}
+use Rattle.std.proofs.Common.{◌≡◌, Some, sym, arith}
+use Rattle.slab.specs.Slab.{get}
 use Rattle.tree_index.specs.declared.node.Branches.{Branches}
-use Rattle.tree_index.proofs.WayLemmas.{some_same}
-use Rattle.tree_index.proofs.NodeLemmas.{node_is, node_not_none, same_len}
-use Rattle.tree_index.proofs.NodeArenaLemmas.{old_there, old_node, absent_above, done_pairs, done_sound, done_way, done_room}
+use Rattle.tree_index.proofs.NodeLemmas.{node_is, same_len}
+use Rattle.tree_index.proofs.NodeArenaLemmas.{old_node, absent_above, done_pairs, done_sound, done_way, done_room}
 use Rattle.tree_index.proofs.arenas.Arenas.split_node.Goals as goal
 
 pub split-requires-clause-node : goal.split-requires-clause-node

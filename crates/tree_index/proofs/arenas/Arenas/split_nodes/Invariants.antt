@@ -1,4 +1,4 @@
-use Rattle.std.proofs.Common.{◌≡◌, ◌≢◌, ◌≤◌, ◌<◌, ◌-◌, ℕ}
+use Rattle.std.proofs.Common.{◌≡◌, ◌≤◌, ◌<◌, ◌-◌}
 use Rattle.slab.specs.Slab.{HasRoomFor}
 use Rattle.tree_index.specs.Content.{pairs_of, IsSound, NodeHasRoom, leaf_on_way}
 use Rattle.tree_index.proofs.arenas.Arenas.split_nodes.Given as goal

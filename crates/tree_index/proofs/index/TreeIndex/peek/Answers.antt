@@ -1,4 +1,4 @@
-use Rattle.std.proofs.Common.{◌≡◌, ◌∙◌, sym, ap}
+use Rattle.std.proofs.Common.{◌∙◌, sym, ap}
 use Rattle.std.specs.Option.{option_map}
 use Rattle.tree_index.specs.Content.{pairs_of}
 use Rattle.leaf_array.proofs.EntryLemmas.{value_lookup}

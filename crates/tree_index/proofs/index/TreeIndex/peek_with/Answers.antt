@@ -1,4 +1,4 @@
-use Rattle.std.proofs.Common.{◌≡◌, sym}
+use Rattle.std.proofs.Common.{sym}
 use Rattle.tree_index.proofs.index.TreeIndex.peek_with.Goals as goal
 
 pub returns-in-Some : goal.returns-in-Some

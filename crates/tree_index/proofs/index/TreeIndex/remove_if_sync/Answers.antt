@@ -1,6 +1,4 @@
-use Rattle.std.proofs.Common.{◌≡◌, ◌∙◌, sym, ap, None}
-use Rattle.std.specs.BTreeMap.{is_at}
-use Rattle.std.specs.Map.{lookup_entry}
+use Rattle.std.proofs.Common.{sym}
 use Rattle.tree_index.specs.Content.{pairs_of}
 use Rattle.tree_index.proofs.LeafLemmas.{value_asked, value_none}
 use Rattle.tree_index.proofs.index.TreeIndex.remove_if_sync.Goals as goal

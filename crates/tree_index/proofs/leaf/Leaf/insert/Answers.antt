@@ -1,4 +1,4 @@
-use Rattle.std.proofs.Common.{◌≡◌, ◌∙◌, ◌==◌, ◌||◌, not, nat_eq}
+use Rattle.std.proofs.Common.{◌∙◌, ◌==◌, not, nat_eq}
 use denote.Param.{value_of, number}
 use Rattle.leaf_array.specs.Results.{is_closed}
 use Rattle.leaf_array.specs.Cells.{has}

@@ -1,4 +1,4 @@
-use Rattle.std.proofs.Common.{◌≡◌, ◌∙◌, sym, ap}
+use Rattle.std.proofs.Common.{◌∙◌, sym, ap}
 use Rattle.leaf_array.specs.Cells.{Cells}
 use Rattle.leaf_array.proofs.EntryLemmas.{remove_removed}
 use Rattle.tree_index.proofs.leaf.Leaf.remove_if.Goals as goal

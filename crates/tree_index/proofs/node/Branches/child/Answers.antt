@@ -1,4 +1,4 @@
-use Rattle.std.proofs.Common.{◌≡◌, sym, ap, ◌∙◌}
+use Rattle.std.proofs.Common.{sym, ap, ◌∙◌}
 use Rattle.tree_index.proofs.ChildLemmas.{child_at_place, child_or}
 use Rattle.tree_index.proofs.node.Branches.child.Goals as goal
 
