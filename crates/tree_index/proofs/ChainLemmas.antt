@@ -5,13 +5,8 @@ use Rattle.std.proofs.lemmas.Bool.{eq-eqb}
 use Rattle.std.proofs.lemmas.Bool.Decides.{eqb_tells}
 use Rattle.leaf_array.specs.Cells.{Cells}
 use Rattle.tree_index.specs.Shape.{Content, joined_along, node_joined, sum_along, node_sum, leaves_under, leaf_times}
-use Rattle.tree_index.specs.Chain.{Links, first_or, IsLinked, is_named, linked_in}
+use Rattle.tree_index.specs.Chain.{Links, times, first_or, IsLinked, is_named, linked_in}
 use Rattle.tree_index.proofs.WayLemmas.{some_same}
-
--- how often a number stands in a list
-abbrev pub times : ℕ → List ℕ → ℕ
-times n [] = 0
-times n (m ∷ ms) = cond (m == n) 1 0 + times n ms
 
 pub times_append : (n : ℕ) (xs ys : List ℕ) → times n (xs ++ ys) ≡ times n xs + times n ys
 times_append n [] ys = omega arith
@@ -86,21 +81,25 @@ module _ (f old g : Links) (fresh at : ℕ) (p q : Option ℕ) (here : f at ≡ 
       let e_q : q ≡ first_or behind ys = ap (λ (r : Option ℕ × Option ℕ). r.1) e in
       let one = first_times at ys in
       let apart : fresh ≢ at = λ d. apart_times at fresh (at ∷ ys) (λ z. omega (arith, one, z)) none (sym d) in
-      let far : p ≢ Some at = λ d. let z = (outside at (sym e_p ∙ d)).0 in omega (arith, one, z) in
-      (at_fresh apart (λ d. (outside fresh (sym e_p ∙ d)).1 refl) ∙ ap (λ (r : Option ℕ). Some (r, Some at)) e_p,
-      (at_behind apart far ∙ ap (λ (r : Option ℕ). Some (Some fresh, r)) e_q,
-      linked_kept f g (Some at) ys behind (λ n d. others n
-          (apart_times n fresh ys d (omega (arith, none)))
-          (λ r. d (subst (λ (k : ℕ). times k ys ≡ 0) (sym r) (omega (arith, one, once at))))
-          (λ r. d (omega (arith, (outside n (sym e_p ∙ r)).0)))) l.1))
+      let far : p ≢ Some at = λ d. let z = (outside at (sym e_p ∙ d)).0 in omega (arith, one, z) in (
+        at_fresh apart (λ d. (outside fresh (sym e_p ∙ d)).1 refl) ∙ ap (λ (r : Option ℕ). Some (r, Some at)) e_p,
+        (
+          at_behind apart far ∙ ap (λ (r : Option ℕ). Some (Some fresh, r)) e_q,
+          linked_kept f g (Some at) ys behind (λ n d. others n
+              (apart_times n fresh ys d (omega (arith, none)))
+              (λ r. d (subst (λ (k : ℕ). times k ys ≡ 0) (sym r) (omega (arith, one, once at))))
+              (λ r. d (omega (arith, (outside n (sym e_p ∙ r)).0)))) l.1,
+        ),
+      )
   linked_split before (x ∷ xs) l once none outside =
       let one = first_times x (xs ++ at ∷ ys) in
       let two = first_times at ys in
       let three = times_append at xs (at ∷ ys) in
       let apart_fresh : x ≢ fresh = apart_times x fresh (x ∷ (xs ++ at ∷ ys)) (λ z. omega (arith, one, z)) none in
-      let apart_at : x ≢ at = apart_times x at (x ∷ []) (λ z. omega (arith, first_times x [], z)) (omega (arith, two, three, once at)) in
-      (head xs l.0 l apart_fresh apart_at (λ n d. omega (arith, once n, times_append n xs (at ∷ ys), d)) ,
-      linked_split (Some x) xs l.1 (λ n. omega (arith, once n)) (omega (arith, none)) (λ n e. (subst (λ (k : ℕ). times k (xs ++ at ∷ ys) ≡ 0) (some_same e) (omega (arith, one, once x)), λ d. apart_fresh (some_same e ∙ d))))
+      let apart_at : x ≢ at = apart_times x at (x ∷ []) (λ z. omega (arith, first_times x [], z)) (omega (arith, two, three, once at)) in (
+        head xs l.0 l apart_fresh apart_at (λ n d. omega (arith, once n, times_append n xs (at ∷ ys), d)),
+        linked_split (Some x) xs l.1 (λ n. omega (arith, once n)) (omega (arith, none)) (λ n e. (subst (λ (k : ℕ). times k (xs ++ at ∷ ys) ≡ 0) (some_same e) (omega (arith, one, once x)), λ d. apart_fresh (some_same e ∙ d))),
+      )
     where
       head : (zs : List ℕ) → f x ≡ Some (before, first_or behind (zs ++ at ∷ ys)) → IsLinked f before ((x ∷ zs) ++ at ∷ ys) behind → x ≢ fresh → x ≢ at → ((n : ℕ) → times n zs ≢ 0 → ◌≡◌ {A = ℕ} (cond (x == n) 1 0) 0) → g x ≡ Some (before, first_or behind (zs ++ fresh ∷ (at ∷ ys)))
       head [] h m a b c =

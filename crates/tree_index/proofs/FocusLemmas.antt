@@ -8,8 +8,8 @@ use Rattle.std.specs.Map.{lookup}
 use Rattle.std.specs.BTreeMap.{insert_entry, is_at}
 use Rattle.std.proofs.lemmas.List.{append-nil}
 use Rattle.leaf_array.specs.Cells.{Cells}
-use Rattle.tree_index.specs.Shape.{Content, IsWithin, AreBetween, AllKeys, child_for, child_in, way, joined_along, sum_along, node_joined, node_sum, pairs_under, leaves_under, leaf_times, node_times, IsNode, IsTree}
-use Rattle.tree_index.proofs.ShapeLemmas.{over_trans, upto_trans, turned, passed, not_passed, upto_less, all_append, all_weaken, self_once, Agrees, bounded, bounded_along, IsSame, kept, kept_along}
+use Rattle.tree_index.specs.Shape.{Content, IsWithin, AreBetween, AllKeys, child_for, child_in, way, joined_along, gathered, leaf_pairs, sum_along, node_joined, node_sum, pairs_under, leaves_under, leaf_times, node_times, IsNode, IsTree}
+use Rattle.tree_index.proofs.ShapeLemmas.{over_trans, upto_trans, turned, passed, not_passed, upto_less, all_append, all_weaken, gathered_append, held_under, self_once, Agrees, bounded, bounded_along, IsSame, kept, kept_along}
 
 -- so many steps above a height
 abbrev pub over : ℕ → ℕ → ℕ
@@ -51,6 +51,7 @@ module _ {K V : Type 0} (cmp : K → K → Ordering) (a : Content K V) (key : K)
     pub back : List (K × V)
     pub lefts : List ℕ
     pub rights : List ℕ
+    pub fore : front ≡ gathered (λ n. leaf_pairs (a.leaf n)) lefts
     pub leaves : ℕ → ℕ
     pub nodes : ℕ → ℕ
     pub tree : IsTree cmp a height (child_for cmp key es last) from upto
@@ -79,6 +80,7 @@ module _ {K V : Type 0} (cmp : K → K → Ordering) (o : IsTotalOrder cmp) (a :
     back = [];
     lefts = [];
     rights = [];
+    fore = refl;
     leaves = λ n. 0;
     nodes = λ n. 0;
     tree = t;
@@ -110,6 +112,7 @@ module _ {K V : Type 0} (cmp : K → K → Ordering) (o : IsTotalOrder cmp) (a :
         back = joined_along (pairs_under a height) es last;
         lefts = [];
         rights = joined_along (leaves_under a height) es last;
+        fore = refl;
         leaves = λ n. sum_along (leaf_times a n height) es last;
         nodes = λ n. sum_along (node_times a n height) es last;
         tree = rw c t.1;
@@ -155,6 +158,7 @@ module _ {K V : Type 0} (cmp : K → K → Ordering) (o : IsTotalOrder cmp) (a :
         back = r.back;
         lefts = leaves_under a height e.1 ++ r.lefts;
         rights = r.rights;
+        fore = rw (held_under a height e.1, r.fore) (sym (gathered_append (λ n. leaf_pairs (a.leaf n)) (leaves_under a height e.1) r.lefts));
         leaves = λ n. leaf_times a n height e.1 + r.leaves n;
         nodes = λ n. node_times a n height e.1 + r.nodes n;
         tree = rw c r.tree;
@@ -214,6 +218,7 @@ module _ {K V : Type 0} (cmp : K → K → Ordering) (a : Content K V) (key : K)
     pub back : List (K × V)
     pub lefts : List ℕ
     pub rights : List ℕ
+    pub fore : front ≡ gathered (λ n. leaf_pairs (a.leaf n)) lefts
     pub leaves : ℕ → ℕ
     pub nodes : ℕ → ℕ
     pub tree : IsTree cmp a height (way cmp a key steps at) from upto
@@ -231,6 +236,7 @@ module _ {K V : Type 0} (cmp : K → K → Ordering) (o : IsTotalOrder cmp) (a :
     back = [];
     lefts = [];
     rights = [];
+    fore = refl;
     leaves = λ n. 0;
     nodes = λ n. 0;
     tree = t;
@@ -258,6 +264,7 @@ module _ {K V : Type 0} (cmp : K → K → Ordering) (o : IsTotalOrder cmp) (a :
         back = f.back ++ r.back;
         lefts = r.lefts ++ f.lefts;
         rights = f.rights ++ r.rights;
+        fore = rw (r.fore, f.fore) (sym (gathered_append (λ n. leaf_pairs (a.leaf n)) r.lefts f.lefts));
         leaves = λ m. r.leaves m + f.leaves m;
         nodes = λ m. cond (at == m) 1 0 + (r.nodes m + f.nodes m);
         tree = rw c f.tree;

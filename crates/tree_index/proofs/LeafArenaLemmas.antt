@@ -19,8 +19,8 @@ use Rattle.tree_index.specs.declared.arenas.Arenas.{Arenas}
 use Rattle.tree_index.specs.Cuts.{IsCut}
 use Rattle.tree_index.specs.Shape.{Content, AllKeys, IsWithin, way, child_in, pairs_under, leaves_under, leaf_times, IsLeaf, IsNode, Stands}
 use Rattle.tree_index.specs.Content.{content_of, pairs_of, leaves_of, IsSound, HasRoom, AreSameArrays}
-use Rattle.tree_index.specs.Chain.{links, IsLinked, linked_in}
-use Rattle.tree_index.proofs.ChainLemmas.{times, times_counted, linked_split}
+use Rattle.tree_index.specs.Chain.{links, times, IsLinked, linked_in}
+use Rattle.tree_index.proofs.ChainLemmas.{times_counted, linked_split}
 use Rattle.tree_index.proofs.LinkLemmas.{links_kept}
 use Rattle.tree_index.proofs.ShapeLemmas.{self_once}
 use Rattle.tree_index.proofs.FocusLemmas.{over, over_is}
@@ -178,14 +178,14 @@ module _ {K V : Type 0} (cmp : K → K → Ordering) (o : IsTotalOrder cmp) (key
       done_linked =
           subst (λ ns. IsLinked (links linked) None ns None) (sym new_order)
           (linked_split (links a.leaves) (links leaves) (links linked) fresh at whole.prev whole.next (ap named_by here)
-            (λ k d. ap named_by (added.others k d) ∙ links_kept a.leaves at whole upper here upper_prev upper_next k)
-            (ap named_by added.changed ∙ rw (low_prev, upper_prev, low_next) refl)
-            (λ k. named k ∙ ap (λ (p : Option ℕ). linked_in fresh p at (links leaves) k) upper_prev)
-            rights None None lefts
-            (subst (λ ns. IsLinked (links a.leaves) None ns None) old_order (s.linked planted_))
-            (λ k. omega (arith, counted k, once k))
-            (omega (arith, counted fresh, fresh_unused))
-            (λ k e. cc))
+          (λ k d. ap named_by (added.others k d) ∙ links_kept a.leaves at whole upper here upper_prev upper_next k)
+          (ap named_by added.changed ∙ rw (low_prev, upper_prev, low_next) refl)
+          (λ k. named k ∙ ap (λ (p : Option ℕ). linked_in fresh p at (links leaves) k) upper_prev)
+          rights None None lefts
+          (subst (λ ns. IsLinked (links a.leaves) None ns None) old_order (s.linked planted_))
+          (λ k. omega (arith, counted k, once k))
+          (omega (arith, counted fresh, fresh_unused))
+          (λ k e. cc))
 
       pub done_sound : IsSound cmp done
       done_sound = record {

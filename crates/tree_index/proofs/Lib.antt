@@ -5,6 +5,7 @@ pub mod LeafLemmas
 pub mod WayLemmas
 pub mod ChainLemmas
 pub mod LinkLemmas
+pub mod RowLemmas
 pub mod SplitLemmas
 pub mod ArenaLemmas
 pub mod HalfLemmas
@@ -13,4 +14,8 @@ pub mod NodeSplitLemmas
 pub mod CutLemmas
 pub mod NodeLemmas
 pub mod NodeArenaLemmas
+pub mod RisingLemmas
+pub mod GapLemmas
+pub mod WalkLemmas
+pub mod EndLemmas
 pub mod LeafArenaLemmas

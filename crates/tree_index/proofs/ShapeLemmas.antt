@@ -1,12 +1,13 @@
 -- Keys between bounds, and what stays of a tree when others change.
-use Rattle.std.proofs.Common.{◌≡◌, ◌≢◌, ℕ, zero, suc, ◌+◌, ◌==◌, true, false, cond, List, [], ◌∷◌, ◌++◌, Option, Some, None, refl, sym, ap, ◌∙◌, arith}
+use Rattle.std.proofs.Common.{◌≡◌, ◌≢◌, ℕ, zero, suc, ◌+◌, ◌==◌, true, false, cond, List, [], ◌∷◌, ◌++◌, Option, Some, None, refl, sym, ap, ◌∙◌, arith, append_assoc, append-nil}
 use Rattle.std.specs.declared.cmp.Ordering.{Ordering}
 use Rattle.std.specs.declared.cmp.Ordering.TheVariants.{Less, Equal, Greater}
 use Rattle.std.specs.Ordering.{is_gt, is_lt}
 use Rattle.std.specs.Cmp.{IsTotalOrder}
 use Rattle.std.proofs.lemmas.Cmp.{upto}
 use Rattle.std.proofs.lemmas.Bool.{eq-eqb}
-use Rattle.tree_index.specs.Shape.{Content, IsOver, IsUpTo, IsWithin, AreBetween, AllKeys, joined_along, sum_along, leaf_pairs, node_joined, node_sum, pairs_under, leaves_under, leaf_times, node_times, IsTree}
+use Rattle.leaf_array.specs.Cells.{Cells}
+use Rattle.tree_index.specs.Shape.{Content, IsOver, IsUpTo, IsWithin, AreBetween, AllKeys, joined_along, gathered, sum_along, leaf_pairs, node_joined, node_sum, pairs_under, leaves_under, leaf_times, node_times, IsTree}
 
 module _ {K : Type 0} {cmp : K → K → Ordering} (o : IsTotalOrder cmp) where
   pub over_trans : (low : Option K) (m k : K) → IsOver cmp low m → cmp m k ≡ Less → IsOver cmp low k
@@ -58,6 +59,10 @@ self_once at more e =
     let one : ◌≡◌ {A = ℕ} (cond (at == at) 1 0) (suc zero) = ap (λ c. cond c (suc zero) zero) (eq-eqb at at refl) in
     omega (arith, one, e)
 
+pub gathered_append : {X : Type 0} (f : ℕ → List X) (xs ys : List ℕ) → gathered f (xs ++ ys) ≡ gathered f xs ++ gathered f ys
+gathered_append f [] ys = refl
+gathered_append f (x ∷ xs) ys = rw (gathered_append f xs ys) (simp append_assoc)
+
 module _ {K V : Type 0} where
   pub all_append : (P : K → Type 0) (xs ys : List (K × V)) → AllKeys P xs → AllKeys P ys → AllKeys P (xs ++ ys)
   all_append P [] ys a b = b
@@ -66,6 +71,19 @@ module _ {K V : Type 0} where
   pub all_weaken : (P Q : K → Type 0) → ((k : K) → P k → Q k) → (xs : List (K × V)) → AllKeys P xs → AllKeys Q xs
   all_weaken P Q f [] a = tt
   all_weaken P Q f (x ∷ xs) a = (f x.0 a.0, all_weaken P Q f xs a.1)
+
+  -- the pairs of a tree are those of its leaves
+  held_along : (f : ℕ → List (K × V)) (g : ℕ → List ℕ) (h : ℕ → List (K × V)) → ((at : ℕ) → f at ≡ gathered h (g at)) → (es : List (K × ℕ)) (last : ℕ) → joined_along f es last ≡ gathered h (joined_along g es last)
+  held_along f g h each [] last = each last
+  held_along f g h each (e ∷ es) last = rw (each e.1, held_along f g h each es last) (sym (gathered_append h (g e.1) (joined_along g es last)))
+
+  held_node : (f : ℕ → List (K × V)) (g : ℕ → List ℕ) (h : ℕ → List (K × V)) → ((at : ℕ) → f at ≡ gathered h (g at)) → (n : Option (Cells K ℕ × ℕ)) → node_joined f n ≡ gathered h (node_joined g n)
+  held_node f g h each None = refl
+  held_node f g h each (Some n) = held_along f g h each n.0.pairs n.1
+
+  pub held_under : (a : Content K V) (height at : ℕ) → pairs_under a height at ≡ gathered (λ n. leaf_pairs (a.leaf n)) (leaves_under a height at)
+  held_under a zero at = sym (append-nil (leaf_pairs (a.leaf at)))
+  held_under a (suc height) at = held_node (pairs_under a height) (leaves_under a height) (λ n. leaf_pairs (a.leaf n)) (held_under a height) (a.node at)
 
   -- two contents hold the same at all numbers that are counted
   pub record Agrees (a b : Content K V) (leaves nodes : ℕ → ℕ) : Type 0 where

@@ -12,7 +12,7 @@ use Rattle.std.proofs.lemmas.List.Elements.{filter-append}
 use Rattle.leaf_array.specs.Cells.{Cells}
 use Rattle.leaf_array.specs.Edits.{below, removed, upserted}
 use Rattle.leaf_array.specs.Pairs.{IsAscending, has_key}
-use Rattle.tree_index.specs.Shape.{Content, IsWithin, AreBetween, AllKeys, child_for, child_in, way, leaf_pairs, pairs_under, leaves_under, IsTree, Stands}
+use Rattle.tree_index.specs.Shape.{Content, gathered, IsWithin, AreBetween, AllKeys, child_for, child_in, way, leaf_pairs, pairs_under, leaves_under, IsTree, Stands}
 use Rattle.tree_index.proofs.ShapeLemmas.{all_weaken, turned, self_once}
 use Rattle.tree_index.proofs.LeafLemmas.{filter_all, filter_none}
 use Rattle.tree_index.proofs.FocusLemmas.{over, over_is, Focus, focus}
@@ -96,24 +96,28 @@ over_zero steps = omega (arith, over_is steps 0)
 
 module _ {K V : Type 0} (cmp : K → K → Ordering) (o : IsTotalOrder cmp) (key : K) (a : Content K V) where
   -- the pairs around those of the leaf on the way
-  pub record Around (height root : ℕ) (c : Cells K V) : Type 0 where
+  pub record Around (height root at : ℕ) (c : Cells K V) : Type 0 where
     pub front : List (K × V)
     pub back : List (K × V)
     pub before : AllKeys (λ k. cmp k key ≡ Less) front
     pub behind : AllKeys (λ k. cmp key k ≡ Less) back
     pub pairs : pairs_under a height root ≡ front ++ (c.pairs ++ back)
+    pub lefts : List ℕ
+    pub rights : List ℕ
+    pub fore : front ≡ gathered (λ n. leaf_pairs (a.leaf n)) lefts
+    pub order : leaves_under a height root ≡ lefts ++ at ∷ rights
 
   focus_leaf : (height root : ℕ) → IsTree cmp a (over height 0) root None None → Focus cmp a key 0 height root None None
   focus_leaf height root t = focus cmp o a key 0 height root None None t (tt, tt)
 
-  around_over : (height root : ℕ) (c : Cells K V) → IsTree cmp a (over height 0) root None None → a.leaf (way cmp a key height root) ≡ Some c → Around (over height 0) root c
+  around_over : (height root : ℕ) (c : Cells K V) → IsTree cmp a (over height 0) root None None → a.leaf (way cmp a key height root) ≡ Some c → Around (over height 0) root (way cmp a key height root) c
   around_over height root c t here =
       let f = focus_leaf height root t in
       let r = f.rebuilt a (record { leaf = λ n d. refl; node = λ n d. refl }) f.tree in
-      record { front = f.front; back = f.back; before = f.before; behind = f.behind; pairs = r.pairs ∙ ap (λ m. f.front ++ leaf_pairs m ++ f.back) here ∙ simp append_assoc }
+      record { front = f.front; back = f.back; before = f.before; behind = f.behind; pairs = r.pairs ∙ ap (λ m. f.front ++ leaf_pairs m ++ f.back) here ∙ simp append_assoc; lefts = f.lefts; rights = f.rights; fore = f.fore; order = r.order ∙ simp append_assoc }
 
-  pub around : (height root : ℕ) (c : Cells K V) → IsTree cmp a height root None None → a.leaf (way cmp a key height root) ≡ Some c → Around height root c
-  around height root c t here = subst (λ (n : ℕ). Around n root c) (over_zero height) (around_over height root c (subst (λ (n : ℕ). IsTree cmp a n root None None) (sym (over_zero height)) t) here)
+  pub around : (height root : ℕ) (c : Cells K V) → IsTree cmp a height root None None → a.leaf (way cmp a key height root) ≡ Some c → Around height root (way cmp a key height root) c
+  around height root c t here = subst (λ (n : ℕ). Around n root (way cmp a key height root) c) (over_zero height) (around_over height root c (subst (λ (n : ℕ). IsTree cmp a n root None None) (sym (over_zero height)) t) here)
 
   -- there is a leaf on the way
   pub leaf_there : (height root : ℕ) → IsTree cmp a height root None None → (c : Cells K V) × (a.leaf (way cmp a key height root) ≡ Some c)

@@ -1,5 +1,5 @@
 -- Leaves in a row, each naming the one before it and the one behind it.
-use Rattle.std.specs.Prelude.{◌≡◌, ℕ, ◌==◌, Bool, false, cond, List, [], ◌∷◌, Option, Some, None}
+use Rattle.std.specs.Prelude.{◌≡◌, ℕ, ◌+◌, ◌==◌, Bool, false, cond, List, [], ◌∷◌, Option, Some, None}
 use Rattle.std.specs.Option.{option_map}
 use Rattle.slab.specs.Slab.{Slab, get}
 use Rattle.tree_index.specs.declared.leaf.Leaf.{Leaf}
@@ -21,6 +21,11 @@ first_or other (n ∷ ns) = Some n
 abbrev pub IsLinked : Links → Option ℕ → List ℕ → Option ℕ → Type 0
 IsLinked f before [] behind = Unit {0}
 IsLinked f before (n ∷ ns) behind = (f n ≡ Some (before, first_or behind ns)) × IsLinked f (Some n) ns behind
+
+-- how often a number stands in a list
+abbrev pub times : ℕ → List ℕ → ℕ
+times n [] = 0
+times n (m ∷ ms) = cond (m == n) 1 0 + times n ms
 
 abbrev pub is_named : Option ℕ → ℕ → Bool
 is_named None n = false

@@ -1,5 +1,6 @@
 -- Where a leaf is cut in two.
-use Rattle.std.specs.Prelude.{◌≡◌, ◌≤◌, ◌-◌, ℕ, List, length, slice_get, Option, Some, true, false}
+use Rattle.std.specs.Prelude.{◌≡◌, ◌≤◌, ◌-◌, ℕ, List, length, slice_get, Option, Some, None, Bool, true, false}
+use Rattle.std.specs.Ordering.{is_eq}
 use Rattle.std.specs.declared.cmp.Ordering.{Ordering}
 use Rattle.std.specs.declared.cmp.Ordering.TheVariants.{Less}
 use Rattle.std.specs.Option.{option_map}
@@ -8,6 +9,11 @@ use Rattle.tree_index.specs.declared.leaf.Cut.{Cut}
 -- the key of the pair at a place
 abbrev pub key_at : {K V : Type 0} → List (K × V) → ℕ → Option K
 key_at pairs n = option_map (λ p. p.0) (slice_get pairs n)
+
+-- there is a pair, and it has the key
+abbrev pub is_keyed : {K V : Type 0} → (K → K → Ordering) → K → Option (K × V) → Bool
+is_keyed cmp key None = false
+is_keyed cmp key (Some p) = is_eq (cmp p.0 key)
 
 -- the separator is the greatest key, if the leaf stays whole below it because the new key is greater, and else the eighth
 pub record IsCut {K V : Type 0} (cmp : K → K → Ordering) (key : K) (pairs : List (K × V)) (cut : Cut K) : Type 0 where

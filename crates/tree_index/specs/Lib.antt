@@ -2,6 +2,9 @@ pub mod Shape
 pub mod Chain
 pub mod Cuts
 pub mod Content
+pub mod Walk
+pub mod Cursor
+pub mod Ends
 pub use Rattle.leaf_array.specs.Pairs
 pub use Rattle.leaf_array.specs.Edits
 pub use Rattle.leaf_array.specs.Values

@@ -35,6 +35,10 @@ module _ {K : Type 0} (cmp : K → K → Ordering) where
   AreBetween P [] last low high = P last low high
   AreBetween P (e ∷ es) last low high = IsWithin low high e.0 × P e.1 low (Some e.0) × AreBetween P es last (Some e.0) high
 
+abbrev pub first_child : {K : Type 0} → List (K × ℕ) → ℕ → ℕ
+first_child [] last = last
+first_child (e ∷ es) last = e.1
+
 -- every key of a list of pairs
 abbrev pub AllKeys : {K V : Type 0} → (K → Type 0) → List (K × V) → Type 0
 AllKeys P [] = Unit {0}
@@ -44,6 +48,11 @@ AllKeys P (p ∷ ps) = P p.0 × AllKeys P ps
 abbrev pub joined_along : {K X : Type 0} → (ℕ → List X) → List (K × ℕ) → ℕ → List X
 joined_along f [] last = f last
 joined_along f (e ∷ es) last = f e.1 ++ joined_along f es last
+
+-- what numbers hold, in their order
+abbrev pub gathered : {X : Type 0} → (ℕ → List X) → List ℕ → List X
+gathered f [] = []
+gathered f (n ∷ ns) = f n ++ gathered f ns
 
 -- the sum over the children
 abbrev pub sum_along : {K : Type 0} → (ℕ → ℕ) → List (K × ℕ) → ℕ → ℕ

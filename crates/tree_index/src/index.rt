@@ -7,12 +7,19 @@ ghost use Rattle.std.specs.Fn.{FnOnceReturnsAt};
 ghost use Rattle.leaf_array.specs.Edits.{inserted, removed, upserted};
 ghost use Rattle.leaf_array.specs.Pairs.{has_key, value_at};
 ghost use Rattle.leaf_array.specs.Values.{ClonesAreSame};
+ghost use Rattle.std.specs.Range.Bound.{bound_map};
+ghost use Rattle.tree_index.specs.declared.cursor.End.TheVariants.{Unopened};
+ghost use Rattle.tree_index.specs.Cursor.{whole};
 ghost use Rattle.tree_index.specs.Tree.{IsDuplicate, given_back};
 
 use crate::arenas::Arenas;
+use crate::cursor::Ends;
+use crate::iter::Iter;
+use crate::range::Range;
 use leaf_array::InsertResult;
 use std::alloc::Global;
 use std::marker::Model;
+use std::ops::Bound;
 
 /// An ordered index: a B+ tree with at most fifteen pairs in a leaf and sixteen children in a node.
 ///
@@ -189,6 +196,26 @@ impl<K: Ord, V> TreeIndex<K, V> {
         ensures { result ≡ has_key K.cmp key.now self.now.pairs }
     {
         self.arenas.contains(key)
+    }
+
+    /// A cursor over all pairs.
+    pub fn iter(&self) -> Iter<'_, K, V>
+        ensures { result ≡ whole self.now.pairs Unopened Unopened }
+    {
+        Iter {
+            ends: Ends::new(&self.arenas),
+        }
+    }
+
+    /// A cursor over the pairs within two bounds. Reversed bounds contain none.
+    pub fn range<'t>(&'t self, lower: Bound<&'t K>, upper: Bound<&'t K>) -> Range<'t, K, V>
+        ensures { result ≡ record { pairs = self.now.pairs; lower = bound_map (λ k. k.now) lower.entry; upper = bound_map (λ k. k.now) upper.entry; forward = Unopened; backward = Unopened } }
+    {
+        Range {
+            ends: Ends::new(&self.arenas),
+            lower,
+            upper,
+        }
     }
 
     /// Removes the pair with this key, if the condition answers true of its value: it is asked once where

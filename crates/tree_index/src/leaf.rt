@@ -1,13 +1,15 @@
 //! A leaf of the tree.
 
-ghost use Rattle.std.specs.Prelude.{◌≡◌, ◌≤◌, ◌<◌, ◌-◌, ◌||◌, ◌&&◌, ◌==◌, IsTrue, IsSome, IfSome, IfOk, Some, None, true, false, cond, length, take, drop};
+ghost use Rattle.std.specs.Prelude.{◌≡◌, ◌≤◌, ◌<◌, ◌-◌, ◌||◌, ◌&&◌, ◌==◌, IsTrue, IsSome, IfSome, IfOk, Some, None, true, false, cond, length, slice_get, take, drop};
 ghost use Rattle.std.specs.BTreeMap.{is_at};
 ghost use Rattle.std.specs.Map.{lookup_entry};
 ghost use Rattle.std.specs.Fn.{FnOnceReturnsAt};
 ghost use Rattle.leaf_array.specs.Edits.{removed, upserted};
 ghost use Rattle.leaf_array.specs.Pairs.{has_key, IsAscending};
 ghost use Rattle.leaf_array.specs.Values.{ClonesAreSame};
-ghost use Rattle.tree_index.specs.Cuts.{IsCut, key_at};
+ghost use Rattle.std.specs.declared.ops.Bound.TheVariants.{Included, Excluded};
+ghost use Rattle.tree_index.specs.Cursor.{before_start};
+ghost use Rattle.tree_index.specs.Cuts.{IsCut, key_at, is_keyed};
 ghost use Rattle.leaf_array.specs.Results.{is_removal, IsSuccess, IsDuplicate, IsFull, given_back};
 
 use leaf_array::{Array, InsertResult, RemoveResult};
@@ -70,6 +72,31 @@ impl<K: Ord, V> Leaf<K, V> {
         ensures within { result ≤ 15 }
     {
         self.array.len()
+    }
+
+    /// How many pairs have a lesser key, or where it is asked `beyond` the key, one that isn't greater.
+    #[inline]
+    pub(crate) fn gap(&self, key: &K, beyond: bool) -> usize
+        ensures place { result ≡ before_start K.cmp (cond beyond (Excluded key.now) (Included key.now)) self.now.array.pairs }
+        ensures most { result ≤ length self.now.array.pairs }
+    {
+        let _ = self.array.len();
+        let place = self.array.lower_bound(key).0;
+        if beyond && self.stands_at(place, key) {
+            place + 1
+        } else {
+            place
+        }
+    }
+
+    /// Whether the pair at a place has the key.
+    fn stands_at(&self, place: usize, key: &K) -> bool
+        ensures { result ≡ is_keyed K.cmp key.now (slice_get self.now.array.pairs place) }
+    {
+        match self.array.pair(place) {
+            Some((stored, _)) => stored.cmp(key).is_eq(),
+            None => false,
+        }
     }
 
     /// Drops what was removed or replaced, so that its places are clear again.

@@ -17,13 +17,21 @@
 #![tactic(auto)]
 
 mod arenas;
+mod cursor;
+#[cfg(test)]
+mod cursor_tests;
 mod index;
+mod iter;
 mod leaf;
 mod node;
+mod range;
 #[cfg(test)]
 mod refusals;
 mod split;
 #[cfg(test)]
 mod tests;
+mod walk;
 
 pub use index::{InsertRefused, TreeIndex};
+pub use iter::Iter;
+pub use range::Range;

@@ -3,7 +3,7 @@
 ghost use Rattle.std.specs.Prelude.{◌≡◌, ◌<◌, ◌≤◌, ◌==◌, ◌++◌, ◌∷◌, None};
 ghost use Rattle.std.specs.BTreeMap.{is_at, insert_entry};
 ghost use Rattle.std.specs.Map.{lookup};
-ghost use Rattle.tree_index.specs.Shape.{child_for, IsNode};
+ghost use Rattle.tree_index.specs.Shape.{child_for, first_child, IsNode};
 
 use leaf_array::{Array, InsertResult};
 
@@ -22,6 +22,17 @@ impl<K: Ord> Branches<K> {
         ensures { result ≡ child_for K.cmp key.now self.now.children.pairs self.now.last }
     {
         match self.children.lower_bound(key).1 {
+            Some((_, child)) => *child,
+            None => self.last,
+        }
+    }
+
+    /// The first child.
+    #[inline]
+    pub(crate) fn first(&self) -> usize
+        ensures { result ≡ first_child self.now.children.pairs self.now.last }
+    {
+        match self.children.pair(0) {
             Some((_, child)) => *child,
             None => self.last,
         }

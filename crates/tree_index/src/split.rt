@@ -263,7 +263,12 @@ impl<K: Ord, V> Arenas<K, V> {
 }
 
 /// Links a new leaf in between two, of which the first may be missing.
-fn link<K: Ord, V>(leaves: &mut Slab<Leaf<K, V>>, before: Option<usize>, fresh: usize, behind: usize)
+fn link<K: Ord, V>(
+    leaves: &mut Slab<Leaf<K, V>>,
+    before: Option<usize>,
+    fresh: usize,
+    behind: usize,
+)
     ensures arrays { AreSameArrays leaves.old leaves.new }
     ensures links { (n : ℕ) → links leaves.new n ≡ linked_in fresh before behind (links leaves.old) n }
 {

@@ -1,0 +1,33 @@
+-- The two ends of a cursor in the leaves of a tree.
+use Rattle.std.specs.Prelude.{ℕ, List}
+use Rattle.std.specs.declared.cmp.Ordering.{Ordering}
+use Rattle.std.specs.declared.ops.Bound.{Bound}
+use Rattle.tree_index.specs.declared.arenas.Arenas.{Arenas}
+use Rattle.tree_index.specs.declared.walk.Spot.{Spot}
+use Rattle.tree_index.specs.declared.cursor.End.{End}
+use Rattle.tree_index.specs.declared.cursor.End.TheVariants.{Unopened, At, Done}
+use Rattle.tree_index.specs.declared.cursor.Ends.{Ends}
+use Rattle.tree_index.specs.Content.{pairs_of, IsSound}
+use Rattle.tree_index.specs.Walk.{position, IsSpot}
+use Rattle.tree_index.specs.Cursor.{Cursor}
+
+module _ {K V : Type 0} where
+  -- an end that stands somewhere stands at a pair
+  abbrev pub IsEnd : Arenas K V → End (Spot K V) → Type 0
+  IsEnd a Unopened = Unit {0}
+  IsEnd a (At s) = IsSpot a s
+  IsEnd a Done = Unit {0}
+
+  abbrev pub place_of : Arenas K V → End (Spot K V) → End ℕ
+  place_of a Unopened = Unopened
+  place_of a (At s) = At (position a s)
+  place_of a Done = Done
+
+  pub record IsReady (cmp : K → K → Ordering) (e : Ends K V) : Type 0 where
+    pub sound : IsSound cmp e.arenas.now
+    pub forward : IsEnd e.arenas.now e.forward
+    pub backward : IsEnd e.arenas.now e.backward
+
+  -- the cursor that two ends and two bounds make
+  abbrev pub cursor_of : Ends K V → Bound K → Bound K → Cursor K V
+  cursor_of e lower upper = record { pairs = pairs_of e.arenas.now; lower = lower; upper = upper; forward = place_of e.arenas.now e.forward; backward = place_of e.arenas.now e.backward }

@@ -1,0 +1,47 @@
+-- Places in the leaves of a tree.
+use Rattle.std.specs.Prelude.{◌≡◌, ◌≢◌, ◌≤◌, ◌<◌, ◌+◌, ℕ, ◌==◌, cond, List, [], ◌∷◌, length, Option, Some, None}
+use Rattle.slab.specs.Slab.{get}
+use Rattle.tree_index.specs.declared.arenas.Arenas.{Arenas}
+use Rattle.tree_index.specs.declared.walk.Spot.{Spot}
+use Rattle.tree_index.specs.Shape.{leaf_pairs}
+use Rattle.tree_index.specs.Chain.{times}
+use Rattle.tree_index.specs.Content.{content_of, pairs_of, leaves_of}
+
+-- how many pairs stand in the leaves before one
+abbrev pub pairs_before : {X : Type 0} → (ℕ → List X) → ℕ → List ℕ → ℕ
+pairs_before f n [] = 0
+pairs_before f n (m ∷ ms) = cond (m == n) 0 (length (f m) + pairs_before f n ms)
+
+module _ {K V : Type 0} where
+  abbrev pub held : Arenas K V → ℕ → List (K × V)
+  held a n = leaf_pairs ((content_of a).leaf n)
+
+  -- how many pairs come before a place
+  abbrev pub position : Arenas K V → Spot K V → ℕ
+  position a s = pairs_before (held a) s.at (leaves_of a) + s.place
+
+  -- how many pairs come before the leaf with this number: all, where none is named
+  abbrev pub starts_at : Arenas K V → Option ℕ → ℕ
+  starts_at a None = length (pairs_of a)
+  starts_at a (Some n) = pairs_before (held a) n (leaves_of a)
+
+  -- how many pairs there are up to the end of the leaf with this number: none, where none is named
+  abbrev pub ends_at : Arenas K V → Option ℕ → ℕ
+  ends_at a None = 0
+  ends_at a (Some n) = pairs_before (held a) n (leaves_of a) + length (held a n)
+
+  -- the number, if there is one, is that of a leaf of the tree
+  abbrev pub IsOwn : Arenas K V → Option ℕ → Type 0
+  IsOwn a None = Unit {0}
+  IsOwn a (Some n) = (a.height ≢ 0) × (times n (leaves_of a) ≢ 0)
+
+  -- a place in a leaf of the tree, at one of its pairs or behind them
+  pub record IsGap (a : Arenas K V) (s : Spot K V) : Type 0 where
+    pub there : get a.leaves s.at ≡ Some s.leaf.now
+    pub own : IsOwn a (Some s.at)
+    pub most : s.place ≤ length s.leaf.now.array.pairs
+
+  -- the place of a pair
+  pub record IsSpot (a : Arenas K V) (s : Spot K V) : Type 0 where
+    pub gap : IsGap a s
+    pub within : s.place < length s.leaf.now.array.pairs

@@ -1,0 +1,246 @@
+//! A cursor: two ends that go along the pairs of a tree, one forward and one backward.
+
+ghost use Rattle.std.specs.Prelude.{◌≡◌, Some, None};
+ghost use Rattle.std.specs.Range.Bound.{bound_map};
+ghost use Rattle.tree_index.specs.Content.{pairs_of, IsSound};
+ghost use Rattle.tree_index.specs.Cursor.{forth, back, lies_before, pair_at, kept_below, kept_above, moved_forth, moved_back, next_of, next_back_of, shown, shown_back, can_turn, turned, referred};
+ghost use Rattle.tree_index.specs.declared.cursor.End.TheVariants.{Unopened};
+ghost use Rattle.tree_index.specs.Ends.{IsEnd, IsReady, place_of, cursor_of};
+
+use crate::arenas::Arenas;
+use crate::walk::Spot;
+use std::ops::Bound;
+
+/// Where an end of a cursor stands: nowhere yet, at a place, or past all of them for good.
+#[derive(Clone, Copy)]
+pub(crate) enum End<S> {
+    Unopened,
+    At(S),
+    Done,
+}
+
+/// Two ends over the pairs of a tree. The bounds are its callers' to give, the same ones at every call.
+#[derive_where(Clone, Copy)]
+pub(crate) struct Ends<'t, K: Ord, V> {
+    pub(crate) arenas: &'t Arenas<K, V>,
+    pub(crate) forward: End<Spot<'t, K, V>>,
+    pub(crate) backward: End<Spot<'t, K, V>>,
+}
+
+impl<'t, K: Ord, V> Ends<'t, K, V> {
+    /// Two ends that haven't been asked.
+    pub(crate) fn new(arenas: &'t Arenas<K, V>) -> Self
+        requires { IsSound K.cmp arenas.now }
+        ensures ready { IsReady K.cmp result }
+        ensures tree { result.arenas.now ≡ arenas.now }
+        ensures forward { result.forward ≡ Unopened }
+        ensures backward { result.backward ≡ Unopened }
+    {
+        Ends {
+            arenas,
+            forward: End::Unopened,
+            backward: End::Unopened,
+        }
+    }
+
+    /// Moves the forward end, and gives its pair if it lies within the upper bound and before the
+    /// backward end.
+    #[inline(always)]
+    pub(crate) fn next(
+        &mut self,
+        lower: Bound<&'t K>,
+        upper: Bound<&'t K>,
+    ) -> Option<(&'t K, &'t V)>
+        requires { IsReady K.cmp self.old }
+        ensures ready { IsReady K.cmp self.new }
+        ensures moved { cursor_of self.new (bound_map (λ k. k.now) lower.entry) (bound_map (λ k. k.now) upper.entry) ≡ moved_forth K.cmp (cursor_of self.old (bound_map (λ k. k.now) lower.entry) (bound_map (λ k. k.now) upper.entry)) }
+        ensures answer { referred result ≡ next_of K.cmp (cursor_of self.old (bound_map (λ k. k.now) lower.entry) (bound_map (λ k. k.now) upper.entry)) }
+    {
+        self.forward = self.forth(lower);
+        if self.arenas.lies_before(self.forward, self.backward) {
+            self.arenas.shown(self.forward, upper)
+        } else {
+            None
+        }
+    }
+
+    /// Moves the backward end, and gives its pair if it lies within the lower bound and behind the
+    /// forward end.
+    #[inline(always)]
+    pub(crate) fn next_back(
+        &mut self,
+        lower: Bound<&'t K>,
+        upper: Bound<&'t K>,
+    ) -> Option<(&'t K, &'t V)>
+        requires { IsReady K.cmp self.old }
+        ensures ready { IsReady K.cmp self.new }
+        ensures moved { cursor_of self.new (bound_map (λ k. k.now) lower.entry) (bound_map (λ k. k.now) upper.entry) ≡ moved_back K.cmp (cursor_of self.old (bound_map (λ k. k.now) lower.entry) (bound_map (λ k. k.now) upper.entry)) }
+        ensures answer { referred result ≡ next_back_of K.cmp (cursor_of self.old (bound_map (λ k. k.now) lower.entry) (bound_map (λ k. k.now) upper.entry)) }
+    {
+        self.backward = self.back(upper);
+        if self.arenas.lies_before(self.forward, self.backward) {
+            self.arenas.shown_back(self.backward, lower)
+        } else {
+            None
+        }
+    }
+
+    /// The pair of the forward end, if it lies within the upper bound.
+    pub(crate) fn get(&self, upper: Bound<&'t K>) -> Option<(&'t K, &'t V)>
+        requires { IsReady K.cmp self.now }
+        ensures { referred result ≡ kept_below K.cmp (bound_map (λ k. k.now) upper.entry) (pair_at (pairs_of self.now.arenas.now) (place_of self.now.arenas.now self.now.forward)) }
+    {
+        self.arenas.shown(self.forward, upper)
+    }
+
+    /// The pair of the backward end, if it lies within the lower bound.
+    pub(crate) fn get_back(&self, lower: Bound<&'t K>) -> Option<(&'t K, &'t V)>
+        requires { IsReady K.cmp self.now }
+        ensures { referred result ≡ kept_above K.cmp (bound_map (λ k. k.now) lower.entry) (pair_at (pairs_of self.now.arenas.now) (place_of self.now.arenas.now self.now.backward)) }
+    {
+        self.arenas.shown_back(self.backward, lower)
+    }
+
+    /// Lets the ends change places, where one alone is open and shows a pair, or none is.
+    pub(crate) fn flip(&mut self, lower: Bound<&'t K>, upper: Bound<&'t K>) -> bool
+        requires { IsReady K.cmp self.old }
+        ensures ready { IsReady K.cmp self.new }
+        ensures answer { result ≡ can_turn K.cmp (cursor_of self.old (bound_map (λ k. k.now) lower.entry) (bound_map (λ k. k.now) upper.entry)) }
+        ensures turned { cursor_of self.new (bound_map (λ k. k.now) lower.entry) (bound_map (λ k. k.now) upper.entry) ≡ turned K.cmp (cursor_of self.old (bound_map (λ k. k.now) lower.entry) (bound_map (λ k. k.now) upper.entry)) }
+    {
+        let turns = self.can_turn(lower, upper);
+        if turns {
+            let forward = self.forward;
+            self.forward = self.backward;
+            self.backward = forward;
+        }
+        turns
+    }
+
+    /// Whether one end alone is open and shows a pair, or none is.
+    fn can_turn(&self, lower: Bound<&'t K>, upper: Bound<&'t K>) -> bool
+        requires { IsReady K.cmp self.now }
+        ensures { result ≡ can_turn K.cmp (cursor_of self.now (bound_map (λ k. k.now) lower.entry) (bound_map (λ k. k.now) upper.entry)) }
+    {
+        match (&self.forward, &self.backward) {
+            (End::Unopened, End::Unopened) => true,
+            (_, End::Unopened) => self.get(upper).is_some(),
+            (End::Unopened, _) => self.get_back(lower).is_some(),
+            _ => false,
+        }
+    }
+
+    /// Where the forward end goes.
+    #[inline(always)]
+    fn forth(&self, lower: Bound<&'t K>) -> End<Spot<'t, K, V>>
+        requires { IsReady K.cmp self.now }
+        ensures end { IsEnd self.now.arenas.now result }
+        ensures place { place_of self.now.arenas.now result ≡ forth K.cmp (bound_map (λ k. k.now) lower.entry) (pairs_of self.now.arenas.now) (place_of self.now.arenas.now self.now.forward) }
+    {
+        match self.forward {
+            End::Unopened => match self.arenas.first_within(lower) {
+                Some(spot) => End::At(spot),
+                None => End::Unopened,
+            },
+            End::At(spot) => match self.arenas.behind(spot) {
+                Some(next) => End::At(next),
+                None => End::Done,
+            },
+            End::Done => End::Done,
+        }
+    }
+
+    /// Where the backward end goes.
+    #[inline(always)]
+    fn back(&self, upper: Bound<&'t K>) -> End<Spot<'t, K, V>>
+        requires { IsReady K.cmp self.now }
+        ensures end { IsEnd self.now.arenas.now result }
+        ensures place { place_of self.now.arenas.now result ≡ back K.cmp (bound_map (λ k. k.now) upper.entry) (pairs_of self.now.arenas.now) (place_of self.now.arenas.now self.now.backward) }
+    {
+        match self.backward {
+            End::Unopened => match self.arenas.last_within(upper) {
+                Some(spot) => End::At(spot),
+                None => End::Unopened,
+            },
+            End::At(spot) => match self.arenas.before(spot) {
+                Some(next) => End::At(next),
+                None => End::Done,
+            },
+            End::Done => End::Done,
+        }
+    }
+}
+
+impl<K: Ord, V> Arenas<K, V> {
+    /// Whether one end lies before another, as far as both stand at pairs.
+    #[inline(always)]
+    fn lies_before(&self, a: End<Spot<'_, K, V>>, b: End<Spot<'_, K, V>>) -> bool
+        requires sound { IsSound K.cmp self.now }
+        requires first { IsEnd self.now a }
+        requires second { IsEnd self.now b }
+        ensures { result ≡ lies_before (place_of self.now a.entry) (place_of self.now b.entry) }
+    {
+        match (a, b) {
+            (_, End::Unopened) => true,
+            (End::Unopened, _) => true,
+            (End::At(x), End::At(y)) => x.pair().0.cmp(y.pair().0).is_lt(),
+            _ => false,
+        }
+    }
+
+    /// The pair of an end, if it lies within the upper bound.
+    #[inline(always)]
+    fn shown<'t>(&'t self, end: End<Spot<'t, K, V>>, upper: Bound<&'t K>) -> Option<(&'t K, &'t V)>
+        requires sound { IsSound K.cmp self.now }
+        requires end { IsEnd self.now end }
+        ensures { referred result ≡ kept_below K.cmp (bound_map (λ k. k.now) upper.entry) (pair_at (pairs_of self.now) (place_of self.now end.entry)) }
+    {
+        match end {
+            End::At(spot) => below(spot.pair(), upper),
+            _ => None,
+        }
+    }
+
+    /// The pair of an end, if it lies within the lower bound.
+    #[inline(always)]
+    fn shown_back<'t>(
+        &'t self,
+        end: End<Spot<'t, K, V>>,
+        lower: Bound<&'t K>,
+    ) -> Option<(&'t K, &'t V)>
+        requires sound { IsSound K.cmp self.now }
+        requires end { IsEnd self.now end }
+        ensures { referred result ≡ kept_above K.cmp (bound_map (λ k. k.now) lower.entry) (pair_at (pairs_of self.now) (place_of self.now end.entry)) }
+    {
+        match end {
+            End::At(spot) => above(spot.pair(), lower),
+            _ => None,
+        }
+    }
+}
+
+/// A pair, if it lies within an upper bound.
+#[inline(always)]
+fn below<'t, K: Ord, V>(pair: (&'t K, &'t V), upper: Bound<&'t K>) -> Option<(&'t K, &'t V)>
+    ensures { referred result ≡ kept_below K.cmp (bound_map (λ k. k.now) upper.entry) (Some (pair.entry.0.now, pair.entry.1.now)) }
+{
+    let past = match upper {
+        Bound::Included(high) => high.cmp(pair.0).is_lt(),
+        Bound::Excluded(high) => high.cmp(pair.0).is_le(),
+        Bound::Unbounded => false,
+    };
+    if past { None } else { Some(pair) }
+}
+
+/// A pair, if it lies within a lower bound.
+#[inline(always)]
+fn above<'t, K: Ord, V>(pair: (&'t K, &'t V), lower: Bound<&'t K>) -> Option<(&'t K, &'t V)>
+    ensures { referred result ≡ kept_above K.cmp (bound_map (λ k. k.now) lower.entry) (Some (pair.entry.0.now, pair.entry.1.now)) }
+{
+    let within = match lower {
+        Bound::Included(low) => low.cmp(pair.0).is_le(),
+        Bound::Excluded(low) => low.cmp(pair.0).is_lt(),
+        Bound::Unbounded => true,
+    };
+    if within { Some(pair) } else { None }
+}

@@ -1,0 +1,103 @@
+//! A cursor over all pairs of a tree.
+
+ghost use Rattle.std.specs.Prelude.{◌≡◌};
+ghost use Rattle.std.specs.declared.ops.Bound.TheVariants.{Unbounded};
+ghost use Rattle.tree_index.specs.Cursor.{shown, shown_back, can_turn, turned, referred};
+
+use crate::cursor::Ends;
+use crate::range::Range;
+use std::marker::Model;
+use std::ops::Bound;
+
+/// Goes through all pairs of a tree: by rising keys from its forward end, by falling keys from its
+/// backward end. (`scc`'s `tree_index::Iter`.)
+///
+/// An end is unopened, stands at a pair, or is done. The ends don't pass one another, and an end that
+/// went past the last pair gives none for good. A step visits the leaf of its pair and those emptied
+/// leaves that it passes over, and takes no memory.
+#[derive(Drop)]
+pub struct Iter<'t, K: Ord, V> {
+    pub(crate) ends: Ends<'t, K, V>,
+}
+
+impl<'t, K: Ord, V> Model for Iter<'t, K, V> {
+    ghost use Rattle.std.specs.declared.ops.Bound.TheVariants.{Unbounded};
+    ghost use Rattle.tree_index.specs.Cursor.{Cursor, cursor_code};
+    ghost use Rattle.tree_index.specs.Ends.{IsReady, cursor_of};
+
+    ghost Value = { Cursor K V };
+
+    ghost coded = { cursor_code K.code V.code };
+
+    ghost view = { λ i. cursor_of i.ends Unbounded Unbounded };
+
+    ghost invariant = { λ i. IsReady K.cmp i.ends };
+}
+
+impl<'t, K: Ord, V> Iter<'t, K, V> {
+    /// The pair of the forward end, if it stands at one.
+    pub fn get(&self) -> Option<(&'t K, &'t V)>
+        ensures { referred result ≡ shown K.cmp self.now }
+    {
+        self.ends.get(Bound::Unbounded)
+    }
+
+    /// The pair of the backward end, if it stands at one.
+    pub fn get_back(&self) -> Option<(&'t K, &'t V)>
+        ensures { referred result ≡ shown_back K.cmp self.now }
+    {
+        self.ends.get_back(Bound::Unbounded)
+    }
+
+    /// Lets the two ends change places, and says whether it did: where one end alone is open and shows a
+    /// pair, or none is open.
+    pub fn flip(&mut self) -> bool
+        ensures answer { result ≡ can_turn K.cmp self.old }
+        ensures turned { self.new ≡ turned K.cmp self.old }
+    {
+        self.ends.flip(Bound::Unbounded, Bound::Unbounded)
+    }
+
+    /// Another cursor with its ends at the same places.
+    pub fn clone(&self) -> Self
+        ensures { result ≡ self.now }
+    {
+        Iter { ends: self.ends }
+    }
+}
+
+impl<'t, K: Ord, V> Iterator for Iter<'t, K, V> {
+    ghost use Rattle.std.specs.Iterator.{at_most};
+    ghost use Rattle.tree_index.specs.Cursor.{GoesForth, between};
+
+    type Item = (&'t K, &'t V);
+
+    ghost next_gives = { GoesForth K.cmp };
+
+    ghost remaining = { λ c. at_most (between c) };
+
+    /// Moves the forward end to the next pair, and gives it unless the ends met.
+    #[inline]
+    fn next(&mut self) -> Option<(&'t K, &'t V)> {
+        self.ends.next(Bound::Unbounded, Bound::Unbounded)
+    }
+}
+
+impl<'t, K: Ord, V> DoubleEndedIterator for Iter<'t, K, V> {
+    ghost use Rattle.tree_index.specs.Cursor.{GoesBack};
+
+    ghost next_back_gives = { GoesBack K.cmp };
+
+    /// Moves the backward end to the pair before it, and gives it unless the ends met.
+    #[inline]
+    fn next_back(&mut self) -> Option<(&'t K, &'t V)> {
+        self.ends.next_back(Bound::Unbounded, Bound::Unbounded)
+    }
+}
+
+impl<'t, K: Ord, V> From<Range<'t, K, V>> for Iter<'t, K, V> {
+    /// Keeps the ends of a range and drops its bounds.
+    fn from(range: Range<'t, K, V>) -> Self {
+        Iter { ends: range.ends }
+    }
+}

@@ -1,0 +1,244 @@
+//! From pair to pair, along the leaves.
+
+ghost use Rattle.std.specs.Prelude.{◌≡◌, ◌≢◌, ◌≤◌, ◌<◌, ◌+◌, ◌-◌, ◌||◌, MatchOption, IfSome, IfNone, Some, None, [], suc, cond, length, slice_get};
+ghost use Rattle.std.specs.Range.Bound.{bound_map};
+ghost use Rattle.std.specs.declared.ops.Bound.TheVariants.{Included, Excluded, Unbounded};
+ghost use Rattle.tree_index.specs.Chain.{first_or};
+ghost use Rattle.tree_index.specs.Content.{pairs_of, leaves_of, IsSound};
+ghost use Rattle.tree_index.specs.Cursor.{before_start, up_to_end};
+ghost use Rattle.tree_index.specs.Walk.{position, starts_at, ends_at, IsOwn, IsGap, IsSpot};
+
+use crate::arenas::Arenas;
+use crate::leaf::Leaf;
+use std::cmp::Ordering;
+use std::ops::Bound;
+
+/// A place in a leaf, and the leaf with its number.
+#[derive_where(Clone, Copy)]
+pub(crate) struct Spot<'t, K: Ord, V> {
+    pub(crate) leaf: &'t Leaf<K, V>,
+    pub(crate) at: usize,
+    pub(crate) place: usize,
+}
+
+impl<'t, K: Ord, V> Spot<'t, K, V> {
+    /// The pair at the place.
+    #[inline(always)]
+    pub(crate) fn pair(&self) -> (&'t K, &'t V)
+        requires { self.now.place < length self.now.leaf.now.array.pairs }
+        ensures { slice_get self.now.leaf.now.array.pairs self.now.place ≡ Some (result.0.now, result.1.now) }
+    {
+        match self.leaf.array.pair(self.place) {
+            Some(pair) => pair,
+            None => unreachable!(),
+        }
+    }
+}
+
+impl<K: Ord, V> Arenas<K, V> {
+    /// The first leaf, if one is planted.
+    pub(crate) fn first_leaf(&self) -> Option<usize>
+        requires { IsSound K.cmp self.now }
+        ensures own { IsOwn self.now result }
+        ensures first { starts_at self.now result ≡ 0 }
+    {
+        if self.height == 0 {
+            return None;
+        }
+        let mut at = self.root;
+        let mut height = self.height;
+        while height > 0 {
+            match self.nodes.get(at) {
+                Some(node) => at = node.first(),
+                None => unreachable!(),
+            }
+            height -= 1;
+        }
+        Some(at)
+    }
+
+    /// The last leaf, if one is planted.
+    pub(crate) fn last_leaf(&self) -> Option<usize>
+        requires { IsSound K.cmp self.now }
+        ensures own { IsOwn self.now result }
+        ensures last { ends_at self.now result ≡ length (pairs_of self.now) }
+    {
+        if self.height == 0 {
+            return None;
+        }
+        let mut at = self.root;
+        let mut height = self.height;
+        while height > 0 {
+            match self.nodes.get(at) {
+                Some(node) => at = node.last,
+                None => unreachable!(),
+            }
+            height -= 1;
+        }
+        Some(at)
+    }
+
+    /// The first pair of the leaf with this number and those behind it.
+    pub(crate) fn first_from(&self, from: Option<usize>) -> Option<Spot<'_, K, V>>
+        requires sound { IsSound K.cmp self.now }
+        requires own { IsOwn self.now from }
+        ensures none { IfNone result (starts_at self.now from ≡ length (pairs_of self.now)) }
+        ensures spot { IfSome result (λ s. IsSpot self.now s) }
+        ensures there { IfSome result (λ s. position self.now s ≡ starts_at self.now from) }
+    {
+        let mut next = from;
+        while let Some(at) = next {
+            match self.leaves.get(at) {
+                Some(leaf) => {
+                    if leaf.len() > 0 {
+                        return Some(Spot { leaf, at, place: 0 });
+                    }
+                    next = leaf.next;
+                },
+                None => unreachable!(),
+            }
+        }
+        None
+    }
+
+    /// The last pair of the leaf with this number and those before it.
+    pub(crate) fn last_from(&self, from: Option<usize>) -> Option<Spot<'_, K, V>>
+        requires sound { IsSound K.cmp self.now }
+        requires own { IsOwn self.now from }
+        ensures none { IfNone result (ends_at self.now from ≡ 0) }
+        ensures spot { IfSome result (λ s. IsSpot self.now s) }
+        ensures there { IfSome result (λ s. position self.now s + 1 ≡ ends_at self.now from) }
+    {
+        let mut prev = from;
+        while let Some(at) = prev {
+            match self.leaves.get(at) {
+                Some(leaf) => {
+                    let len = leaf.len();
+                    if len > 0 {
+                        return Some(Spot {
+                            leaf,
+                            at,
+                            place: len - 1,
+                        });
+                    }
+                    prev = leaf.prev;
+                },
+                None => unreachable!(),
+            }
+        }
+        None
+    }
+
+    /// The pair behind one.
+    #[inline(always)]
+    pub(crate) fn behind<'t>(&'t self, spot: Spot<'t, K, V>) -> Option<Spot<'t, K, V>>
+        requires sound { IsSound K.cmp self.now }
+        requires spot { IsSpot self.now spot }
+        ensures none { IfNone result (position self.now spot.entry + 1 ≡ length (pairs_of self.now)) }
+        ensures spot { IfSome result (λ s. IsSpot self.now s) }
+        ensures there { IfSome result (λ s. position self.now s ≡ position self.now spot.entry + 1) }
+    {
+        let len = spot.leaf.len();
+        if spot.place + 1 < len {
+            return Some(Spot {
+                leaf: spot.leaf,
+                at: spot.at,
+                place: spot.place + 1,
+            });
+        }
+        self.first_from(spot.leaf.next)
+    }
+
+    /// The pair before one.
+    #[inline(always)]
+    pub(crate) fn before<'t>(&'t self, spot: Spot<'t, K, V>) -> Option<Spot<'t, K, V>>
+        requires sound { IsSound K.cmp self.now }
+        requires gap { IsGap self.now spot }
+        ensures none { IfNone result (position self.now spot.entry ≡ 0) }
+        ensures spot { IfSome result (λ s. IsSpot self.now s) }
+        ensures there { IfSome result (λ s. position self.now s + 1 ≡ position self.now spot.entry) }
+    {
+        if spot.place > 0 {
+            return Some(Spot {
+                leaf: spot.leaf,
+                at: spot.at,
+                place: spot.place - 1,
+            });
+        }
+        self.last_from(spot.leaf.prev)
+    }
+
+    /// The place in the leaf on the way to a key behind all pairs with a lesser key, and where it is
+    /// asked for behind the one with the key too. It may be behind the last pair of the leaf.
+    fn gap(&self, key: &K, beyond: bool) -> Option<Spot<'_, K, V>>
+        requires { IsSound K.cmp self.now }
+        ensures none { IfNone result (pairs_of self.now ≡ []) }
+        ensures gap { IfSome result (λ s. IsGap self.now s) }
+        ensures there { IfSome result (λ s. position self.now s ≡ before_start K.cmp (cond beyond (Excluded key.now) (Included key.now)) (pairs_of self.now)) }
+    {
+        let at = self.leaf_of(key);
+        match self.leaves.get(at) {
+            Some(leaf) => Some(Spot {
+                leaf,
+                at,
+                place: leaf.gap(key, beyond),
+            }),
+            None => None,
+        }
+    }
+
+    /// The first pair whose key isn't less than a key, or where it is asked `beyond` the key, is greater.
+    fn first_past(&self, key: &K, beyond: bool) -> Option<Spot<'_, K, V>>
+        requires { IsSound K.cmp self.now }
+        ensures none { IfNone result (before_start K.cmp (cond beyond (Excluded key.now) (Included key.now)) (pairs_of self.now) ≡ length (pairs_of self.now)) }
+        ensures spot { IfSome result (λ s. IsSpot self.now s) }
+        ensures there { IfSome result (λ s. position self.now s ≡ before_start K.cmp (cond beyond (Excluded key.now) (Included key.now)) (pairs_of self.now)) }
+    {
+        match self.gap(key, beyond) {
+            Some(gap) if gap.place < gap.leaf.len() => Some(gap),
+            Some(gap) => self.first_from(gap.leaf.next),
+            None => None,
+        }
+    }
+
+    /// The last pair whose key is less than a key, or where it is asked `beyond` the key, isn't greater.
+    fn last_up_to(&self, key: &K, beyond: bool) -> Option<Spot<'_, K, V>>
+        requires { IsSound K.cmp self.now }
+        ensures none { IfNone result (before_start K.cmp (cond beyond (Excluded key.now) (Included key.now)) (pairs_of self.now) ≡ 0) }
+        ensures spot { IfSome result (λ s. IsSpot self.now s) }
+        ensures there { IfSome result (λ s. position self.now s + 1 ≡ before_start K.cmp (cond beyond (Excluded key.now) (Included key.now)) (pairs_of self.now)) }
+    {
+        match self.gap(key, beyond) {
+            Some(gap) => self.before(gap),
+            None => None,
+        }
+    }
+
+    /// The first pair within a lower bound.
+    pub(crate) fn first_within(&self, lower: Bound<&K>) -> Option<Spot<'_, K, V>>
+        requires { IsSound K.cmp self.now }
+        ensures none { IfNone result (before_start K.cmp (bound_map (λ k. k.now) lower.entry) (pairs_of self.now) ≡ length (pairs_of self.now)) }
+        ensures spot { IfSome result (λ s. IsSpot self.now s) }
+        ensures there { IfSome result (λ s. position self.now s ≡ before_start K.cmp (bound_map (λ k. k.now) lower.entry) (pairs_of self.now)) }
+    {
+        match lower {
+            Bound::Included(key) => self.first_past(key, false),
+            Bound::Excluded(key) => self.first_past(key, true),
+            Bound::Unbounded => self.first_from(self.first_leaf()),
+        }
+    }
+
+    /// The last pair within an upper bound.
+    pub(crate) fn last_within(&self, upper: Bound<&K>) -> Option<Spot<'_, K, V>>
+        requires { IsSound K.cmp self.now }
+        ensures none { IfNone result (up_to_end K.cmp (bound_map (λ k. k.now) upper.entry) (pairs_of self.now) ≡ 0) }
+        ensures spot { IfSome result (λ s. IsSpot self.now s) }
+        ensures there { IfSome result (λ s. position self.now s + 1 ≡ up_to_end K.cmp (bound_map (λ k. k.now) upper.entry) (pairs_of self.now)) }
+    {
+        match upper {
+            Bound::Included(key) => self.last_up_to(key, true),
+            Bound::Excluded(key) => self.last_up_to(key, false),
+            Bound::Unbounded => self.last_from(self.last_leaf()),
+        }
+    }
+}
