@@ -10,7 +10,10 @@ use Rattle.std.proofs.lemmas.Bool.{lt-ltb}
 use Rattle.std.proofs.lemmas.Bool.Decides.{leb_tells}
 use Rattle.std.proofs.lemmas.List.{length-append}
 use Rattle.leaf_array.specs.Cells.{Cells}
-use Rattle.leaf_array.specs.Pairs.{IsAscending}
+use Rattle.leaf_array.specs.Pairs.{IsAscending, has_key}
+use Rattle.leaf_array.specs.Cells.{lesser}
+use Rattle.tree_index.specs.Cuts.{is_keyed}
+use Rattle.tree_index.proofs.GapLemmas.{has_keyed}
 use Rattle.tree_index.specs.declared.leaf.Leaf.{Leaf}
 use Rattle.tree_index.specs.declared.walk.Spot.{Spot}
 use Rattle.tree_index.specs.declared.cursor.End.{End}
@@ -74,6 +77,11 @@ module _ {K V : Type 0} (cmp : K → K → Ordering) (o : IsTotalOrder cmp) (a :
         split : slice_get (pairs_of a) (position a x) ≡ Some p → slice_get (pairs_of a) (position a y) ≡ Some q → ((nat_lt (position a x) (position a y) ≡ true) × (suc (position a x) ≤ position a y)) ⊎ ((nat_lt (position a x) (position a y) ≡ false) × (position a y < suc (position a x))) → is_lt (cmp p.0 q.0) ≡ nat_lt (position a x) (position a y)
         split first second (inl d) = ap is_lt (earlier o (pairs_of a) (position a x) (position a y) p q rising_of first second (omega (arith, d.1))) ∙ sym d.0
         split first second (inr d) = not_earlier o (pairs_of a) (position a x) (position a y) p q rising_of first second (omega (arith, d.1)) ∙ sym d.0
+
+  -- a key is there where the pair behind the lesser ones has it
+  pub has_there : (key : K) (x : Spot K V) → IsSpot a x → position a x ≡ lesser cmp key (pairs_of a) → has_key cmp key (pairs_of a) ≡ is_keyed cmp key (slice_get x.leaf.now.array.pairs x.place)
+  has_there key x is e =
+      has_keyed cmp o key (pairs_of a) rising_of ∙ ap (λ n. is_keyed cmp key (slice_get (pairs_of a) n)) (sym e) ∙ ap (is_keyed cmp key) (spot_pair cmp a s x is).0
 
 module _ {K V : Type 0} (cmp : K → K → Ordering) (lower : Bound K) (pairs : List (K × V)) (n : ℕ) (within : n < length pairs) where
   pub forth_first : n ≡ before_start cmp lower pairs → ◌≡◌ {A = End ℕ} (At n) (forth cmp lower pairs Unopened)

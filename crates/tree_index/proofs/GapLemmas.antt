@@ -1,5 +1,5 @@
 -- How many pairs lie before a bound.
-use Rattle.std.proofs.Common.{◌≡◌, ◌≢◌, ◌≤◌, ◌<◌, ℕ, zero, suc, ◌+◌, Bool, true, false, cond, not, ◌&&◌, List, [], ◌∷◌, ◌++◌, length, Option, Some, None, refl, sym, ap, ◌∙◌, subst, arith}
+use Rattle.std.proofs.Common.{◌≡◌, ◌≢◌, ◌≤◌, ◌<◌, ℕ, zero, suc, ◌+◌, Bool, true, false, cond, not, ◌||◌, List, [], ◌∷◌, ◌++◌, length, Option, Some, None, refl, sym, ap, ◌∙◌, subst, arith}
 use Rattle.std.specs.Prelude.{slice_get}
 use Rattle.std.specs.declared.cmp.Ordering.{Ordering}
 use Rattle.std.specs.declared.cmp.Ordering.TheVariants.{Less, Equal, Greater}
@@ -12,7 +12,7 @@ use Rattle.std.specs.Map.{keys_of}
 use Rattle.std.proofs.lemmas.Map.Keys.{sorted_head, sorted_tail}
 use Rattle.std.specs.List.{AllByRecursion}
 use Rattle.leaf_array.specs.Cells.{lesser}
-use Rattle.leaf_array.specs.Pairs.{IsAscending}
+use Rattle.leaf_array.specs.Pairs.{IsAscending, has_key}
 use Rattle.tree_index.specs.Shape.{AllKeys}
 use Rattle.tree_index.specs.Cuts.{is_keyed}
 use Rattle.tree_index.specs.Cursor.{before_start, up_to_end}
@@ -133,3 +133,20 @@ module _ {K V : Type 0} (cmp : K → K → Ordering) (o : IsTotalOrder cmp) (key
 
     pub gap_before : beyond ≡ false → n ≡ before_start cmp (bound_at key beyond) ps
     gap_before b = rw b (there ∙ sym (included_is ps))
+
+  none_has : (p : K) (ps : List (K × V)) → cmp key p ≡ Less → AllByRecursion (λ k. cmp p k ≡ Less) (keys_of ps) → has_key cmp key ps ≡ false
+  none_has p [] e a = refl
+  none_has p (q ∷ ps) e a = ap (λ r. is_eq r || has_key cmp key ps) (o.trans key p q.0 e a.0) ∙ none_has p ps e a.1
+
+  -- a list has a key where the pair behind those with lesser keys has it
+  pub has_keyed : (ps : List (K × V)) → IsAscending cmp ps → has_key cmp key ps ≡ is_keyed cmp key (slice_get ps (lesser cmp key ps))
+  has_keyed [] up = refl
+  has_keyed (p ∷ ps) up =
+      let more = has_keyed ps (sorted_tail cmp p.0 (keys_of ps) up) in
+      let head = sorted_head cmp p.0 (keys_of ps) up in
+      let at : Ordering → ℕ = λ r. cond (is_lt r) (suc (lesser cmp key ps)) 0 in
+      rw (o.antisymm key p.0) ((elim (cmp p.0 key) as (λ r. cmp p.0 key ≡ r → (is_eq (ordering_reverse r) || has_key cmp key ps) ≡ is_keyed cmp key (slice_get (p ∷ ps) (at r))) [
+        | Less ↦ λ e. more
+        | Equal ↦ λ e. rw e refl
+        | Greater ↦ λ e. let l : cmp key p.0 ≡ Less = o.antisymm key p.0 ∙ ap ordering_reverse e in rw e (none_has p.0 ps l head)
+      ]) refl)

@@ -40,8 +40,8 @@ module _ {K V : Type 0} {cmp : K → K → Ordering} (o : IsTotalOrder cmp) wher
   rising_append m (x ∷ xs) ys a b c d =
       rising_cons x (xs ++ ys)
       (from_keys (λ y. cmp x.0 y ≡ Less) (xs ++ ys) (all_append (λ y. cmp x.0 y ≡ Less) xs ys
-        (to_keys (λ y. cmp x.0 y ≡ Less) xs (sorted_head cmp x.0 (keys_of xs) a))
-        (all_weaken (λ k. cmp m k ≡ Less) (λ y. cmp x.0 y ≡ Less) (λ k l. upto_less o x.0 m k c.0 l) ys d)))
+      (to_keys (λ y. cmp x.0 y ≡ Less) xs (sorted_head cmp x.0 (keys_of xs) a))
+      (all_weaken (λ k. cmp m k ≡ Less) (λ y. cmp x.0 y ≡ Less) (λ k l. upto_less o x.0 m k c.0 l) ys d)))
       (rising_append m xs ys (sorted_tail cmp x.0 (keys_of xs) a) b c.1 d)
 
   rising_along : (a : Content K V) (height : ℕ) → ((at : ℕ) (low high : Option K) → IsTree cmp a height at low high → IsAscending cmp (pairs_under a height at)) → (es : List (K × ℕ)) (last : ℕ) (low high : Option K) → AreBetween cmp (IsTree cmp a height) es last low high → IsAscending cmp (joined_along (pairs_under a height) es last)

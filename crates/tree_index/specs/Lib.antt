@@ -5,6 +5,7 @@ pub mod Content
 pub mod Walk
 pub mod Cursor
 pub mod Ends
+pub mod Proximity
 pub use Rattle.leaf_array.specs.Pairs
 pub use Rattle.leaf_array.specs.Edits
 pub use Rattle.leaf_array.specs.Values

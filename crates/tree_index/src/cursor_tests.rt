@@ -313,3 +313,43 @@ fn random_steps_answer_as_the_plain_machine(rt: HostRuntime) -> Result<(), Fail>
     }
     Ok(())
 }
+
+#[test]
+fn locate_finds_a_pair_or_its_neighbours(rt: HostRuntime) -> Result<(), Fail> {
+    let mut tree = tree_of(&rt, rt.alloc(), &[(1, 1), (3, 2), (5, 3), (7, 4)]);
+    match tree.locate(&2) {
+        Proximity::Between(mut iter) => {
+            assert_eq!(rt; iter.get(), Some((&1, &1)));
+            assert_eq!(rt; iter.get_back(), Some((&3, &2)));
+            assert!(rt; iter.next().is_none());
+            assert_eq!(rt; iter.get(), Some((&3, &2)));
+            assert!(rt; iter.next_back().is_none());
+            assert_eq!(rt; iter.get_back(), Some((&1, &1)));
+        }
+        _ => panic!(rt; "not between"),
+    }
+    match tree.locate(&5) {
+        Proximity::Exact(iter) => assert_eq!(rt; iter.get(), Some((&5, &3))),
+        _ => panic!(rt; "not exact"),
+    }
+    match tree.locate(&8) {
+        Proximity::Smaller(iter) => {
+            assert_eq!(rt; iter.get_back(), Some((&7, &4)));
+            assert!(rt; iter.get().is_none());
+        }
+        _ => panic!(rt; "not smaller"),
+    }
+    match tree.locate(&0) {
+        Proximity::Larger(iter) => {
+            assert_eq!(rt; iter.get(), Some((&1, &1)));
+            assert!(rt; iter.get_back().is_none());
+        }
+        _ => panic!(rt; "not larger"),
+    }
+    tree.clear();
+    match tree.locate(&3) {
+        Proximity::Empty => {}
+        _ => panic!(rt; "not empty"),
+    }
+    Ok(())
+}

@@ -10,11 +10,13 @@ ghost use Rattle.leaf_array.specs.Values.{ClonesAreSame};
 ghost use Rattle.std.specs.Range.Bound.{bound_map};
 ghost use Rattle.tree_index.specs.declared.cursor.End.TheVariants.{Unopened};
 ghost use Rattle.tree_index.specs.Cursor.{whole};
+ghost use Rattle.tree_index.specs.Proximity.{IsLocated};
 ghost use Rattle.tree_index.specs.Tree.{IsDuplicate, given_back};
 
 use crate::arenas::Arenas;
 use crate::cursor::Ends;
 use crate::iter::Iter;
+use crate::proximity::Proximity;
 use crate::range::Range;
 use leaf_array::InsertResult;
 use std::alloc::Global;
@@ -216,6 +218,13 @@ impl<K: Ord, V> TreeIndex<K, V> {
             lower,
             upper,
         }
+    }
+
+    /// Where a key stands: at its pair, or between its neighbours, with a cursor there. It goes down once.
+    pub fn locate(&self, key: &K) -> Proximity<'_, K, V>
+        ensures { IsLocated K.cmp key.now self.now.pairs result }
+    {
+        self.arenas.locate(key)
     }
 
     /// Removes the pair with this key, if the condition answers true of its value: it is asked once where

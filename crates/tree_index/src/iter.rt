@@ -96,6 +96,10 @@ impl<'t, K: Ord, V> DoubleEndedIterator for Iter<'t, K, V> {
 }
 
 impl<'t, K: Ord, V> From<Range<'t, K, V>> for Iter<'t, K, V> {
+    ghost use Rattle.std.specs.declared.ops.Bound.TheVariants.{Unbounded};
+
+    ghost from_gives = { λ r i. i ≡ record r { lower = Unbounded; upper = Unbounded } };
+
     /// Keeps the ends of a range and drops its bounds.
     fn from(range: Range<'t, K, V>) -> Self {
         Iter { ends: range.ends }

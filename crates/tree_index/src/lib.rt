@@ -24,6 +24,7 @@ mod index;
 mod iter;
 mod leaf;
 mod node;
+mod proximity;
 mod range;
 #[cfg(test)]
 mod refusals;
@@ -34,4 +35,5 @@ mod walk;
 
 pub use index::{InsertRefused, TreeIndex};
 pub use iter::Iter;
+pub use proximity::Proximity;
 pub use range::Range;

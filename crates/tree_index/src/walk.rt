@@ -168,9 +168,23 @@ impl<K: Ord, V> Arenas<K, V> {
         self.last_from(spot.leaf.prev)
     }
 
+    /// The pair at a place of a leaf, or the first one behind it.
+    pub(crate) fn first_at<'t>(&'t self, gap: Spot<'t, K, V>) -> Option<Spot<'t, K, V>>
+        requires sound { IsSound K.cmp self.now }
+        requires gap { IsGap self.now gap }
+        ensures none { IfNone result (position self.now gap.entry ≡ length (pairs_of self.now)) }
+        ensures spot { IfSome result (λ s. IsSpot self.now s) }
+        ensures there { IfSome result (λ s. position self.now s ≡ position self.now gap.entry) }
+    {
+        if gap.place < gap.leaf.len() {
+            return Some(gap);
+        }
+        self.first_from(gap.leaf.next)
+    }
+
     /// The place in the leaf on the way to a key behind all pairs with a lesser key, and where it is
     /// asked for behind the one with the key too. It may be behind the last pair of the leaf.
-    fn gap(&self, key: &K, beyond: bool) -> Option<Spot<'_, K, V>>
+    pub(crate) fn gap(&self, key: &K, beyond: bool) -> Option<Spot<'_, K, V>>
         requires { IsSound K.cmp self.now }
         ensures none { IfNone result (pairs_of self.now ≡ []) }
         ensures gap { IfSome result (λ s. IsGap self.now s) }
@@ -195,8 +209,7 @@ impl<K: Ord, V> Arenas<K, V> {
         ensures there { IfSome result (λ s. position self.now s ≡ before_start K.cmp (cond beyond (Excluded key.now) (Included key.now)) (pairs_of self.now)) }
     {
         match self.gap(key, beyond) {
-            Some(gap) if gap.place < gap.leaf.len() => Some(gap),
-            Some(gap) => self.first_from(gap.leaf.next),
+            Some(gap) => self.first_at(gap),
             None => None,
         }
     }

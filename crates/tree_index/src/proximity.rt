@@ -1,0 +1,106 @@
+//! Where a key stands among the pairs of a tree.
+
+ghost use Rattle.std.specs.Prelude.{◌≡◌, ◌<◌, length, slice_get};
+ghost use Rattle.tree_index.specs.Cuts.{is_keyed};
+ghost use Rattle.tree_index.specs.Proximity.{IsLocated};
+ghost use Rattle.tree_index.specs.Content.{pairs_of, IsSound};
+ghost use Rattle.tree_index.specs.Cursor.{whole};
+ghost use Rattle.leaf_array.specs.Cells.{lesser};
+ghost use Rattle.tree_index.specs.Ends.{IsEnd, place_of};
+ghost use Rattle.tree_index.specs.Walk.{position, IsGap, IsSpot};
+
+use crate::arenas::Arenas;
+use crate::cursor::{End, Ends};
+use crate::iter::Iter;
+use crate::walk::Spot;
+
+/// What [`locate`](crate::TreeIndex::locate) finds around a key, with a cursor there.
+/// (`scc`'s `tree_index::Proximity`.)
+#[derive(Drop)]
+pub enum Proximity<'t, K: Ord, V> {
+    /// A pair has the key: the forward end stands at it.
+    Exact(Iter<'t, K, V>),
+    /// None has it: the forward end stands at the nearest smaller pair, the backward end at the nearest
+    /// larger one.
+    Between(Iter<'t, K, V>),
+    /// All pairs are smaller: the backward end stands at the last one.
+    Smaller(Iter<'t, K, V>),
+    /// All pairs are larger: the forward end stands at the first one.
+    Larger(Iter<'t, K, V>),
+    /// There are no pairs.
+    Empty,
+}
+
+impl<K: Ord, V> Arenas<K, V> {
+    /// Where a key stands. It goes down once.
+    pub(crate) fn locate(&self, key: &K) -> Proximity<'_, K, V>
+        requires { IsSound K.cmp self.now }
+        ensures { IsLocated K.cmp key.now (pairs_of self.now) result }
+    {
+        let Some(gap) = self.gap(key, false) else {
+            return Proximity::Empty;
+        };
+        match self.first_at(gap) {
+            Some(larger) => self.locate_before(key, gap, larger),
+            None => match self.before(gap) {
+                Some(smaller) => {
+                    Proximity::Smaller(self.cursor(End::Unopened, End::At(smaller)))
+                },
+                None => Proximity::Empty,
+            },
+        }
+    }
+
+    /// Where a key stands, at a pair whose key isn't less or before it.
+    fn locate_before<'t>(
+        &'t self,
+        key: &K,
+        gap: Spot<'t, K, V>,
+        larger: Spot<'t, K, V>,
+    ) -> Proximity<'t, K, V>
+        requires sound { IsSound K.cmp self.now }
+        requires gap { IsGap self.now gap }
+        requires spot { IsSpot self.now larger }
+        requires first { position self.now gap ≡ lesser K.cmp key.now (pairs_of self.now) }
+        requires same { position self.now larger ≡ position self.now gap }
+        ensures { IsLocated K.cmp key.now (pairs_of self.now) result }
+    {
+        if larger.has_key(key) {
+            return Proximity::Exact(self.cursor(End::At(larger), End::Unopened));
+        }
+        match self.before(gap) {
+            Some(smaller) => Proximity::Between(self.cursor(End::At(smaller), End::At(larger))),
+            None => Proximity::Larger(self.cursor(End::At(larger), End::Unopened)),
+        }
+    }
+
+    /// A cursor with its ends at these places.
+    fn cursor<'t>(
+        &'t self,
+        forward: End<Spot<'t, K, V>>,
+        backward: End<Spot<'t, K, V>>,
+    ) -> Iter<'t, K, V>
+        requires sound { IsSound K.cmp self.now }
+        requires forward { IsEnd self.now forward }
+        requires backward { IsEnd self.now backward }
+        ensures { result ≡ whole (pairs_of self.now) (place_of self.now forward.entry) (place_of self.now backward.entry) }
+    {
+        Iter {
+            ends: Ends {
+                arenas: self,
+                forward,
+                backward,
+            },
+        }
+    }
+}
+
+impl<'t, K: Ord, V> Spot<'t, K, V> {
+    /// Whether the pair at the place has a key.
+    fn has_key(&self, key: &K) -> bool
+        requires { self.now.place < length self.now.leaf.now.array.pairs }
+        ensures { result ≡ is_keyed K.cmp key.now (slice_get self.now.leaf.now.array.pairs self.now.place) }
+    {
+        self.pair().0.cmp(key).is_eq()
+    }
+}
