@@ -63,7 +63,7 @@ module _ {K V : Type 0} (cmp : K → K → Ordering) (o : IsTotalOrder cmp) (key
 -- ---- what an edit of a leaf leaves
 
 module _ {K V : Type 0} where
-  all_filtered : (P : K → Type 0) (test : K → Bool) (ps : List (K × V)) → AllKeys P ps → AllKeys P (filter (λ p. test p.0) ps)
+  pub all_filtered : (P : K → Type 0) (test : K → Bool) (ps : List (K × V)) → AllKeys P ps → AllKeys P (filter (λ p. test p.0) ps)
   all_filtered P test [] a = tt
   all_filtered P test (p ∷ ps) a =
       elim (test p.0) as (λ b. AllKeys P (cond b (p ∷ filter (λ p. test p.0) ps) (filter (λ p. test p.0) ps))) [
@@ -100,7 +100,7 @@ module _ {K V : Type 0} (cmp : K → K → Ordering) (key : K) (val : V) where
       subst (AllKeys P) (sym p) (all_append P (below cmp key old) ((key, val) ∷ above cmp key old) (all_filtered P (λ k. is_gt (cmp key k)) old a) (k, all_filtered P (λ k. is_lt (cmp key k)) old a))
   put_keys P old new (inr p) k a = subst (AllKeys P) (sym p) a
 
-middle_length : {X : Type 0} (front old new back : List X) (len : ℕ) → len ≡ length (front ++ (old ++ back)) → (length old ≤ len) × (len - length old + length new ≡ length (front ++ (new ++ back)))
+pub middle_length : {X : Type 0} (front old new back : List X) (len : ℕ) → len ≡ length (front ++ (old ++ back)) → (length old ≤ len) × (len - length old + length new ≡ length (front ++ (new ++ back)))
 middle_length front old new back len h =
     let a : length (front ++ (old ++ back)) ≡ length front + (length old + length back) = simp length-append in
     let b : length (front ++ (new ++ back)) ≡ length front + (length new + length back) = simp length-append in

@@ -59,7 +59,7 @@ abbrev pub bound_at : {K : Type 0} → K → Bool → Bound K
 bound_at key beyond = cond beyond (Excluded key) (Included key)
 
 module _ {K : Type 0} (cmp : K → K → Ordering) (o : IsTotalOrder cmp) (key : K) where
-  before_bound : (beyond : Bool) (k : K) → cmp k key ≡ Less → is_from_start cmp (bound_at key beyond) k ≡ false
+  pub before_bound : (beyond : Bool) (k : K) → cmp k key ≡ Less → is_from_start cmp (bound_at key beyond) k ≡ false
   before_bound true k h = ap is_lt (turned o k key h)
   before_bound false k h = ap is_le (turned o k key h)
 

@@ -18,4 +18,6 @@ pub mod RisingLemmas
 pub mod GapLemmas
 pub mod WalkLemmas
 pub mod EndLemmas
+pub mod ThinLemmas
+pub mod RemovalLemmas
 pub mod LeafArenaLemmas

@@ -16,7 +16,7 @@ use Rattle.tree_index.proofs.ShapeLemmas.{turned, upto_less, all_append, all_wea
 use Rattle.tree_index.proofs.WayLemmas.{some_same}
 
 module _ {K V : Type 0} (P : K → Type 0) where
-  to_keys : (ps : List (K × V)) → AllByRecursion P (keys_of ps) → AllKeys P ps
+  pub to_keys : (ps : List (K × V)) → AllByRecursion P (keys_of ps) → AllKeys P ps
   to_keys [] a = tt
   to_keys (p ∷ ps) a = (a.0, to_keys ps a.1)
 

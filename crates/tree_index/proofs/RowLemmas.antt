@@ -5,7 +5,7 @@ use Rattle.std.proofs.lemmas.Bool.Decides.{eqb_tells}
 use Rattle.std.proofs.lemmas.List.{append-nil, length-append}
 use Rattle.tree_index.specs.Shape.{gathered}
 use Rattle.tree_index.specs.Chain.{Links, times, first_or, IsLinked}
-use Rattle.tree_index.specs.Walk.{pairs_before}
+use Rattle.tree_index.specs.Walk.{pairs_before, rest}
 use Rattle.tree_index.proofs.ShapeLemmas.{gathered_append}
 use Rattle.tree_index.proofs.WayLemmas.{some_same}
 use Rattle.tree_index.proofs.ChainLemmas.{times_append, first_times, linked_rest}
@@ -51,7 +51,7 @@ module _ {X : Type 0} (f : ℕ → List X) where
   pub gathered_parted : (n : ℕ) (ns xs ys : List ℕ) → ns ≡ xs ++ n ∷ ys → gathered f ns ≡ gathered f xs ++ (f n ++ gathered f ys)
   gathered_parted n ns xs ys e = ap (gathered f) e ∙ gathered_append f xs (n ∷ ys)
 
-linked_at : (g : Links) (before behind : Option ℕ) (n : ℕ) (xs ys : List ℕ) → IsLinked g before (xs ++ n ∷ ys) behind → g n ≡ Some (last_or before xs, first_or behind ys)
+pub linked_at : (g : Links) (before behind : Option ℕ) (n : ℕ) (xs ys : List ℕ) → IsLinked g before (xs ++ n ∷ ys) behind → g n ≡ Some (last_or before xs, first_or behind ys)
 linked_at g before behind n [] ys l = l.0
 linked_at g before behind n (x ∷ xs) ys l = linked_at g (Some x) behind n xs ys l.1
 
@@ -68,11 +68,7 @@ last_append : (b : Option ℕ) (ys : List ℕ) (n : ℕ) → last_or b (ys ++ n 
 last_append b [] n = refl
 last_append b (y ∷ ys) n = last_append (Some y) ys n
 
--- how many come from a number on, and up to it
-abbrev pub rest : List ℕ → Option ℕ → ℕ
-rest ns None = 0
-rest ns (Some n) = suc (length ns - pairs_before (λ k. k ∷ []) n ns)
-
+-- how many come up to a number
 abbrev pub reach : List ℕ → Option ℕ → ℕ
 reach ns None = 0
 reach ns (Some n) = suc (pairs_before (λ k. k ∷ []) n ns)

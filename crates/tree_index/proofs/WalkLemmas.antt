@@ -15,10 +15,10 @@ use Rattle.tree_index.specs.Shape.{Content, AreBetween, joined_along, node_joine
 use Rattle.tree_index.specs.Chain.{links, times, IsLinked, first_or}
 use Rattle.tree_index.specs.Content.{content_of, pairs_of, leaves_of, IsBare, IsSound}
 use Rattle.tree_index.specs.Cursor.{before_start}
-use Rattle.tree_index.specs.Walk.{pairs_before, held, position, starts_at, ends_at, IsOwn, IsGap, IsSpot}
+use Rattle.tree_index.specs.Walk.{pairs_before, rest, held, position, starts_at, ends_at, IsOwn, IsGap, IsSpot}
 use Rattle.tree_index.proofs.ShapeLemmas.{held_under}
 use Rattle.tree_index.proofs.ChainLemmas.{times_counted, times_append, first_times}
-use Rattle.tree_index.proofs.RowLemmas.{Own, starts, ends, rest, reach, Neighbours, neighbours, before_parted, linked_there, last_or, last_joined, first_own, last_own}
+use Rattle.tree_index.proofs.RowLemmas.{Own, starts, ends, reach, Neighbours, neighbours, parting, gathered_parted, before_parted, linked_there, last_or, last_joined, first_own, last_own}
 use Rattle.tree_index.proofs.WayLemmas.{some_same, around}
 use Rattle.tree_index.proofs.NodeLemmas.{leaf_content}
 use Rattle.tree_index.proofs.GapLemmas.{bound_at, bound_middle}
@@ -145,6 +145,14 @@ module _ {K V : Type 0} (cmp : K → K → Ordering) (a : Content K V) where
     last_step =
         let r = last_along height n.0.pairs n.1 low high between in
         record { low = r.0; high = r.1; tree = r.2; same = r.3 ∙ sym (ap (λ m. last_or None (node_joined (leaves_under a height) m)) here) }
+
+-- a leaf of a sound tree has no more pairs than are counted
+pub leaf_counted : {K V : Type 0} (cmp : K → K → Ordering) (a : Arenas K V) (s : IsSound cmp a) (n : ℕ) (own : IsOwn a (Some n)) (l : Leaf K V) → get a.leaves n ≡ Some l → length l.array.pairs ≤ a.len
+leaf_counted cmp a s n own l here =
+    let p = parting n (leaves_of a) own.1 in
+    let whole : length (pairs_of a) ≡ length (gathered (held a) p.fore) + (length (held a n) + length (gathered (held a) p.rear)) = ap length (all_held a ∙ gathered_parted (held a) n (leaves_of a) p.fore p.rear p.all) ∙ simp length-append in
+    let same : length (held a n) ≡ length l.array.pairs = ap length (held_is a n l here) in
+    omega (arith, s.count, whole, same)
 
 -- where the first and the last leaf of a sound tree stand
 module _ {K V : Type 0} (cmp : K → K → Ordering) (a : Arenas K V) (s : IsSound cmp a) (h : a.height ≢ 0) (n : ℕ) where

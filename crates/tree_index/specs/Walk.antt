@@ -1,16 +1,21 @@
 -- Places in the leaves of a tree.
-use Rattle.std.specs.Prelude.{◌≡◌, ◌≢◌, ◌≤◌, ◌<◌, ◌+◌, ℕ, ◌==◌, cond, List, [], ◌∷◌, length, Option, Some, None}
+use Rattle.std.specs.Prelude.{◌≡◌, ◌≢◌, ◌≤◌, ◌<◌, ◌+◌, ◌-◌, ℕ, suc, ◌==◌, cond, List, [], ◌∷◌, ◌++◌, length, Option, Some, None}
 use Rattle.slab.specs.Slab.{get}
 use Rattle.tree_index.specs.declared.arenas.Arenas.{Arenas}
 use Rattle.tree_index.specs.declared.walk.Spot.{Spot}
-use Rattle.tree_index.specs.Shape.{leaf_pairs}
-use Rattle.tree_index.specs.Chain.{times}
+use Rattle.tree_index.specs.Shape.{AllKeys, gathered, leaf_pairs}
+use Rattle.tree_index.specs.Chain.{times, first_or}
 use Rattle.tree_index.specs.Content.{content_of, pairs_of, leaves_of}
 
 -- how many pairs stand in the leaves before one
 abbrev pub pairs_before : {X : Type 0} → (ℕ → List X) → ℕ → List ℕ → ℕ
 pairs_before f n [] = 0
 pairs_before f n (m ∷ ms) = cond (m == n) 0 (length (f m) + pairs_before f n ms)
+
+-- how many numbers come from one on
+abbrev pub rest : List ℕ → Option ℕ → ℕ
+rest ns None = 0
+rest ns (Some n) = suc (length ns - pairs_before (λ k. k ∷ []) n ns)
 
 module _ {K V : Type 0} where
   abbrev pub held : Arenas K V → ℕ → List (K × V)
@@ -45,3 +50,11 @@ module _ {K V : Type 0} where
   pub record IsSpot (a : Arenas K V) (s : Spot K V) : Type 0 where
     pub gap : IsGap a s
     pub within : s.place < length s.leaf.now.array.pairs
+
+  -- the leaves up to the one with this number, or all if none is named, hold only such keys
+  pub record IsPassed (P : K → Type 0) (a : Arenas K V) (next : Option ℕ) : Type 0 where
+    pub fore : List ℕ
+    pub rear : List ℕ
+    pub all : leaves_of a ≡ fore ++ rear
+    pub first : next ≡ first_or None rear
+    pub keys : AllKeys P (gathered (held a) fore)

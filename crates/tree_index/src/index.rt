@@ -1,9 +1,11 @@
 //! The tree as users see it.
 
-ghost use Rattle.std.specs.Prelude.{◌≡◌, ◌<◌, ◌^◌, ◌+◌, ◌==◌, IfSome, IfErr, OnOk, OnErr, IsOk, IfOk, MatchOption, [], Some, None, true, false, length, option_copied};
+ghost use Rattle.std.specs.Prelude.{◌≡◌, ◌<◌, ◌^◌, ◌+◌, ◌==◌, IfSome, IfErr, OnOk, OnErr, IsOk, IfOk, MatchOption, [], Some, None, true, false, not, length, option_copied};
 ghost use Rattle.std.specs.BTreeMap.{is_at};
 ghost use Rattle.std.specs.Map.{lookup_entry};
 ghost use Rattle.std.specs.Fn.{FnOnceReturnsAt};
+ghost use Rattle.std.specs.List.{filter};
+ghost use Rattle.std.specs.BTreeMap.Range.{range_contains};
 ghost use Rattle.leaf_array.specs.Edits.{inserted, removed, upserted};
 ghost use Rattle.leaf_array.specs.Pairs.{has_key, value_at};
 ghost use Rattle.leaf_array.specs.Values.{ClonesAreSame};
@@ -198,6 +200,14 @@ impl<K: Ord, V> TreeIndex<K, V> {
         ensures { result ≡ has_key K.cmp key.now self.now.pairs }
     {
         self.arenas.contains(key)
+    }
+
+    /// Removes the pairs whose keys lie within two bounds. Reversed bounds contain none.
+    pub fn remove_range_sync(&mut self, lower: Bound<&K>, upper: Bound<&K>)
+        ensures removed { self.new.pairs ≡ filter (λ p. not (range_contains K.cmp (bound_map (λ k. k.now) lower.entry) (bound_map (λ k. k.now) upper.entry) p.0)) self.old.pairs }
+        ensures depth { self.new.depth ≡ self.old.depth }
+    {
+        self.arenas.remove_range(lower, upper);
     }
 
     /// A cursor over all pairs.

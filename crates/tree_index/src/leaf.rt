@@ -1,9 +1,12 @@
 //! A leaf of the tree.
 
-ghost use Rattle.std.specs.Prelude.{◌≡◌, ◌≤◌, ◌<◌, ◌-◌, ◌||◌, ◌&&◌, ◌==◌, IsTrue, IsSome, IfSome, IfOk, Some, None, true, false, cond, length, slice_get, take, drop};
+ghost use Rattle.std.specs.Prelude.{◌≡◌, ◌≤◌, ◌<◌, ◌-◌, ◌||◌, ◌&&◌, ◌==◌, IsTrue, IsSome, IfSome, IfOk, Some, None, true, false, not, cond, length, slice_get, take, drop};
 ghost use Rattle.std.specs.BTreeMap.{is_at};
 ghost use Rattle.std.specs.Map.{lookup_entry};
 ghost use Rattle.std.specs.Fn.{FnOnceReturnsAt};
+ghost use Rattle.std.specs.List.{filter};
+ghost use Rattle.std.specs.Range.Bound.{bound_map};
+ghost use Rattle.std.specs.BTreeMap.Range.{range_contains, is_past_end};
 ghost use Rattle.leaf_array.specs.Edits.{removed, upserted};
 ghost use Rattle.leaf_array.specs.Pairs.{has_key, IsAscending};
 ghost use Rattle.leaf_array.specs.Values.{ClonesAreSame};
@@ -16,6 +19,7 @@ use leaf_array::{Array, InsertResult, RemoveResult};
 use std::alloc::AllocError;
 use std::cmp::Ordering;
 use std::mem;
+use std::ops::Bound;
 
 /// An array of pairs, and the numbers of the leaves before and behind it.
 #[derive(Drop)]
@@ -62,6 +66,32 @@ impl<K: Ord, V> Leaf<K, V> {
     {
         let _ = self.array.len();
         is_removal(self.array.remove_if(key, condition))
+    }
+
+    /// Removes the pairs whose keys lie within two bounds.
+    pub(crate) fn remove_range(&mut self, lower: Bound<&K>, upper: Bound<&K>)
+        ensures pairs { self.new.array.pairs ≡ filter (λ p. not (range_contains K.cmp (bound_map (λ k. k.now) lower.entry) (bound_map (λ k. k.now) upper.entry) p.0)) self.old.array.pairs }
+        ensures thawed { self.new.array.frozen ≡ self.old.array.frozen }
+        ensures prev { self.new.prev ≡ self.old.prev }
+        ensures next { self.new.next ≡ self.old.next }
+    {
+        self.array.remove_range(lower, upper);
+    }
+
+    /// Whether the leaf has a pair past an upper bound.
+    pub(crate) fn ends_past(&self, upper: &Bound<&K>) -> bool
+        ensures { result ≡ true → IfSome (key_at self.now.array.pairs (length self.now.array.pairs - 1)) (λ k. is_past_end K.cmp (bound_map (λ k. k.now) upper.now) k ≡ true) × (0 < length self.now.array.pairs) }
+    {
+        let len = self.array.len();
+        if len == 0 {
+            return false;
+        }
+        let last = self.key(len - 1);
+        match upper {
+            Bound::Included(high) => (*high).cmp(last).is_lt(),
+            Bound::Excluded(high) => (*high).cmp(last).is_le(),
+            Bound::Unbounded => false,
+        }
     }
 
     /// How many pairs the leaf has. They rise.

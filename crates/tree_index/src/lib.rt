@@ -28,6 +28,9 @@ mod proximity;
 mod range;
 #[cfg(test)]
 mod refusals;
+mod removal;
+#[cfg(test)]
+mod removal_tests;
 mod split;
 #[cfg(test)]
 mod tests;

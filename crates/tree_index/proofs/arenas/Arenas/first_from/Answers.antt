@@ -3,7 +3,7 @@ use Rattle.slab.specs.Slab.{get}
 use Rattle.tree_index.specs.declared.leaf.Leaf.{Leaf}
 use Rattle.tree_index.specs.Content.{leaves_of}
 use Rattle.tree_index.specs.Walk.{starts_at, IsOwn}
-use Rattle.tree_index.proofs.RowLemmas.{rest}
+use Rattle.tree_index.specs.Walk.{rest}
 use Rattle.tree_index.proofs.WalkLemmas.{leaf_around, own_there}
 use Rattle.tree_index.proofs.arenas.Arenas.first_from.Goals as goal
 

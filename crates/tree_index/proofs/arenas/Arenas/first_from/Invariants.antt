@@ -1,7 +1,7 @@
 use Rattle.std.proofs.Common.{◌≡◌}
 use Rattle.tree_index.specs.Content.{leaves_of}
 use Rattle.tree_index.specs.Walk.{starts_at, IsOwn}
-use Rattle.tree_index.proofs.RowLemmas.{rest}
+use Rattle.tree_index.specs.Walk.{rest}
 use Rattle.tree_index.proofs.arenas.Arenas.first_from.Given as goal
 
 -- no pair lies in the leaves passed over
