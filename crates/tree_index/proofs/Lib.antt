@@ -18,6 +18,7 @@ pub mod RisingLemmas
 pub mod GapLemmas
 pub mod WalkLemmas
 pub mod EndLemmas
+pub mod EqualLemmas
 pub mod ThinLemmas
 pub mod RemovalLemmas
 pub mod LeafArenaLemmas

@@ -32,7 +32,7 @@ use std::ops::Bound;
 /// removals take no memory.
 #[derive(Drop)]
 pub struct TreeIndex<K: Ord, V> {
-    arenas: Arenas<K, V>,
+    pub(crate) arenas: Arenas<K, V>,
 }
 
 impl<K: Ord, V> Model for TreeIndex<K, V> {

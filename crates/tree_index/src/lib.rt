@@ -20,6 +20,7 @@ mod arenas;
 mod cursor;
 #[cfg(test)]
 mod cursor_tests;
+mod equal;
 mod index;
 mod iter;
 mod leaf;

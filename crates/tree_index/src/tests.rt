@@ -172,3 +172,25 @@ fn falling_keys_are_found(rt: HostRuntime) -> Result<(), Fail> {
     assert!(rt; tree.peek(&0).is_none());
     Ok(())
 }
+
+#[test]
+fn trees_are_equal_by_their_lists(rt: HostRuntime) -> Result<(), Fail> {
+    let mut rising: TreeIndex<u64, u64> = TreeIndex::new(rt.alloc());
+    let mut falling: TreeIndex<u64, u64> = TreeIndex::new(rt.alloc());
+    assert!(rt; rising == falling);
+    for key in 0..100u64 {
+        assert!(rt; rising.insert_sync(key, key).is_ok());
+        assert!(rt; falling.insert_sync(99 - key, 99 - key).is_ok());
+        assert_eq!(rt; rising == falling, key == 99);
+    }
+    assert!(rt; falling.upsert_sync(50, 51).is_ok());
+    assert!(rt; rising != falling);
+    assert!(rt; falling.remove_sync(&50));
+    assert!(rt; rising != falling);
+    assert!(rt; rising.remove_sync(&50));
+    assert!(rt; rising == falling);
+    assert!(rt; falling.remove_sync(&98));
+    assert!(rt; rising.remove_sync(&97));
+    assert!(rt; rising != falling);
+    Ok(())
+}
