@@ -19,6 +19,7 @@ pub mod GapLemmas
 pub mod WalkLemmas
 pub mod EndLemmas
 pub mod EqualLemmas
+pub mod CopyLemmas
 pub mod ThinLemmas
 pub mod RemovalLemmas
 pub mod LeafArenaLemmas

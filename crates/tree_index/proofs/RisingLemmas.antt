@@ -24,7 +24,7 @@ module _ {K V : Type 0} (P : K → Type 0) where
   from_keys [] a = tt
   from_keys (p ∷ ps) a = (a.0, from_keys ps a.1)
 
-  key_in : (ps : List (K × V)) (n : ℕ) (p : K × V) → AllByRecursion P (keys_of ps) → slice_get ps n ≡ Some p → P p.0
+  pub key_in : (ps : List (K × V)) (n : ℕ) (p : K × V) → AllByRecursion P (keys_of ps) → slice_get ps n ≡ Some p → P p.0
   key_in [] n p a h = absurd (let e : None ≡ Some p = h in cc)
   key_in (q ∷ ps) zero p a h = subst (λ (x : K × V). P x.0) (some_same h) a.0
   key_in (q ∷ ps) (suc n) p a h = key_in ps n p a.1 h

@@ -17,6 +17,7 @@
 #![tactic(auto)]
 
 mod arenas;
+mod copy;
 mod cursor;
 #[cfg(test)]
 mod cursor_tests;

@@ -194,3 +194,20 @@ fn trees_are_equal_by_their_lists(rt: HostRuntime) -> Result<(), Fail> {
     assert!(rt; rising != falling);
     Ok(())
 }
+
+#[test]
+fn a_clone_is_equal_until_one_of_them_changes(rt: HostRuntime) -> Result<(), Fail> {
+    let mut tree: TreeIndex<u64, u64> = TreeIndex::new(rt.alloc());
+    for key in 1..10u64 {
+        assert!(rt; tree.insert_sync(key, key).is_ok());
+    }
+    let mut copy = tree.clone(rt.alloc())?;
+    assert!(rt; copy == tree);
+    assert!(rt; copy.remove_sync(&9));
+    assert!(rt; copy != tree);
+    for key in 10..500u64 {
+        assert!(rt; tree.insert_sync(key * 7 % 500, key).is_ok() || key * 7 % 500 < 10);
+    }
+    assert!(rt; tree.clone(rt.alloc())? == tree);
+    Ok(())
+}

@@ -1,0 +1,31 @@
+//! Clones of trees.
+
+ghost use Rattle.std.specs.Prelude.{◌≡◌, IfOk};
+ghost use Rattle.leaf_array.specs.Values.{ClonesAreSame};
+
+use crate::index::TreeIndex;
+use std::alloc::{AllocError, Global};
+
+impl<K: Ord, V> TreeIndex<K, V> {
+    /// A tree with clones of all pairs, by one pass over them. Where memory is refused there is none, and
+    /// what was cloned is dropped.
+    pub fn clone(&self, alloc: Global) -> Result<TreeIndex<K, V>, AllocError>
+    where
+        K: Clone + Drop,
+        V: Clone + Drop,
+        requires keys { ClonesAreSame K.is_clone }
+        requires values { ClonesAreSame V.is_clone }
+        ensures { IfOk result (λ t. t.pairs ≡ self.now.pairs) }
+    {
+        let mut copy = TreeIndex::new(alloc);
+        let mut next = self.arenas.first_from(self.arenas.first_leaf());
+        while let Some(spot) = next {
+            let (key, val) = spot.pair();
+            match copy.upsert_sync(key.clone()?, val.clone()?) {
+                Ok(()) => next = self.arenas.behind(spot),
+                Err(_) => return Err(AllocError),
+            }
+        }
+        Ok(copy)
+    }
+}
