@@ -1,5 +1,5 @@
 -- A list that grows behind its greatest key.
-use Rattle.std.proofs.Common.{◌≡◌, ◌≢◌, ◌≤◌, ◌<◌, ℕ, zero, suc, ◌+◌, true, false, List, [], ◌∷◌, ◌++◌, length, take, Option, Some, None, refl, sym, ap, ◌∙◌, subst, arith}
+use Rattle.std.proofs.Common.{◌≡◌, ℕ, zero, suc, ◌+◌, true, false, List, [], ◌∷◌, ◌++◌, take, Some, None, refl, sym, ap, ◌∙◌, arith}
 use Rattle.std.specs.Prelude.{slice_get}
 use Rattle.std.specs.declared.cmp.Ordering.{Ordering}
 use Rattle.std.specs.declared.cmp.Ordering.TheVariants.{Less}
@@ -19,8 +19,10 @@ module _ {K V : Type 0} {cmp : K → K → Ordering} (o : IsTotalOrder cmp) wher
   -- an upsert of a key above all others puts its pair behind them
   pub upserted_behind : (key : K) (val : V) (ps : List (K × V)) → AllKeys (λ k. cmp k key ≡ Less) ps → upserted cmp key val ps ≡ ps ++ (key, val) ∷ []
   upserted_behind key val ps less =
-      rw (filter_all (λ k. is_gt (cmp key k)) ps (all_weaken (λ k. cmp k key ≡ Less) (λ k. is_gt (cmp key k) ≡ true) (λ k h. ap is_gt (turned o k key h)) ps less),
-        filter_none (λ k. is_lt (cmp key k)) ps (all_weaken (λ k. cmp k key ≡ Less) (λ k. is_lt (cmp key k) ≡ false) (λ k h. ap is_lt (turned o k key h)) ps less)) refl
+      rw (
+        filter_all (λ k. is_gt (cmp key k)) ps (all_weaken (λ k. cmp k key ≡ Less) (λ k. is_gt (cmp key k) ≡ true) (λ k h. ap is_gt (turned o k key h)) ps less),
+        filter_none (λ k. is_lt (cmp key k)) ps (all_weaken (λ k. cmp k key ≡ Less) (λ k. is_lt (cmp key k) ≡ false) (λ k h. ap is_lt (turned o k key h)) ps less),
+      ) refl
 
   front_less : (n : ℕ) (ps : List (K × V)) (p : K × V) → IsAscending cmp ps → slice_get ps n ≡ Some p → AllKeys (λ k. cmp k p.0 ≡ Less) (take n ps)
   front_less n [] p up h = absurd (let e : None ≡ Some p = h in cc)

@@ -1,5 +1,5 @@
 -- The pairs at the ends of a cursor.
-use Rattle.std.proofs.Common.{◌≡◌, ◌≢◌, ◌≤◌, ◌<◌, ◌⊎◌, inl, inr, ℕ, zero, suc, ◌+◌, Bool, true, false, cond, List, [], ◌∷◌, ◌++◌, length, Option, Some, None, refl, sym, ap, ◌∙◌, subst, arith}
+use Rattle.std.proofs.Common.{◌≡◌, ◌≢◌, ◌≤◌, ◌<◌, ◌⊎◌, inl, inr, ℕ, zero, suc, ◌+◌, true, false, cond, List, [], ◌∷◌, ◌++◌, length, Some, None, refl, sym, ap, ◌∙◌, subst, arith}
 use Rattle.std.specs.Prelude.{slice_get, nat_lt}
 use Rattle.std.specs.Option.{option_map}
 use Rattle.std.specs.declared.cmp.Ordering.{Ordering}
@@ -9,7 +9,6 @@ use Rattle.std.specs.declared.ops.Bound.{Bound}
 use Rattle.std.proofs.lemmas.Bool.{lt-ltb}
 use Rattle.std.proofs.lemmas.Bool.Decides.{leb_tells}
 use Rattle.std.proofs.lemmas.List.{length-append}
-use Rattle.leaf_array.specs.Cells.{Cells}
 use Rattle.leaf_array.specs.Pairs.{IsAscending, has_key}
 use Rattle.leaf_array.specs.Cells.{lesser}
 use Rattle.tree_index.specs.Cuts.{is_keyed}
@@ -21,9 +20,8 @@ use Rattle.tree_index.specs.declared.cursor.End.TheVariants.{Unopened, At, Done}
 use Rattle.tree_index.specs.declared.arenas.Arenas.{Arenas}
 use Rattle.tree_index.specs.Shape.{gathered, leaf_pairs, pairs_under, Stands}
 use Rattle.tree_index.specs.Content.{content_of, pairs_of, leaves_of, IsBare, IsSound}
-use Rattle.tree_index.specs.Cursor.{before_start, forth, lies_before, pair_at}
-use Rattle.tree_index.specs.Walk.{pairs_before, held, position, IsSpot}
-use Rattle.tree_index.specs.Ends.{place_of}
+use Rattle.tree_index.specs.Cursor.{before_start, forth}
+use Rattle.tree_index.specs.Walk.{held, position, IsSpot}
 use Rattle.tree_index.proofs.RowLemmas.{parting, before_parted, gathered_parted}
 use Rattle.tree_index.proofs.WalkLemmas.{once, all_held, held_is}
 use Rattle.tree_index.proofs.RisingLemmas.{rising_under, earlier, not_earlier}

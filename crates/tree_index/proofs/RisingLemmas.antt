@@ -1,8 +1,8 @@
 -- The keys of a tree rise.
-use Rattle.std.proofs.Common.{◌≡◌, ◌≢◌, ◌≤◌, ◌<◌, ℕ, zero, suc, ◌+◌, true, false, cond, List, [], ◌∷◌, ◌++◌, length, Option, Some, None, refl, sym, ap, ◌∙◌, subst, arith}
+use Rattle.std.proofs.Common.{◌≡◌, ◌≤◌, ◌<◌, ℕ, zero, suc, false, List, [], ◌∷◌, ◌++◌, Option, Some, None, sym, ap, ◌∙◌, subst, arith}
 use Rattle.std.specs.Prelude.{slice_get}
 use Rattle.std.specs.declared.cmp.Ordering.{Ordering}
-use Rattle.std.specs.declared.cmp.Ordering.TheVariants.{Less, Equal, Greater}
+use Rattle.std.specs.declared.cmp.Ordering.TheVariants.{Less}
 use Rattle.std.specs.Ordering.{is_lt, is_gt}
 use Rattle.std.specs.Cmp.{IsTotalOrder, tied_itself}
 use Rattle.std.specs.List.{AllByRecursion}
@@ -11,7 +11,7 @@ use Rattle.std.specs.Map.{keys_of}
 use Rattle.std.proofs.lemmas.Map.Keys.{sorted_head, sorted_tail}
 use Rattle.leaf_array.specs.Pairs.{IsAscending}
 use Rattle.leaf_array.specs.Cells.{Cells}
-use Rattle.tree_index.specs.Shape.{Content, AreBetween, AllKeys, IsOver, IsUpTo, IsWithin, joined_along, node_joined, leaf_pairs, pairs_under, IsTree}
+use Rattle.tree_index.specs.Shape.{Content, AreBetween, AllKeys, IsWithin, joined_along, node_joined, leaf_pairs, pairs_under, IsTree}
 use Rattle.tree_index.proofs.ShapeLemmas.{turned, upto_less, all_append, all_weaken, bounded, bounded_along}
 use Rattle.tree_index.proofs.WayLemmas.{some_same}
 

@@ -1,14 +1,14 @@
 -- A row of leaves that stand in it once: what comes before each, and what each names.
-use Rattle.std.proofs.Common.{◌≡◌, ◌≢◌, ◌≤◌, ◌<◌, ◌⊎◌, inl, inr, ℕ, zero, suc, ◌+◌, ◌-◌, ◌==◌, Bool, true, false, cond, List, [], ◌∷◌, ◌++◌, length, Option, Some, None, refl, sym, ap, ◌∙◌, subst, arith, append_assoc}
+use Rattle.std.proofs.Common.{◌≡◌, ◌≢◌, ◌≤◌, ◌<◌, ◌⊎◌, inl, inr, ℕ, suc, ◌+◌, ◌==◌, true, false, cond, List, [], ◌∷◌, ◌++◌, length, Option, Some, None, refl, sym, ap, ◌∙◌, subst, arith, append_assoc}
 use Rattle.std.proofs.lemmas.Bool.{eq-eqb}
 use Rattle.std.proofs.lemmas.Bool.Decides.{eqb_tells}
-use Rattle.std.proofs.lemmas.List.{append-nil, length-append}
+use Rattle.std.proofs.lemmas.List.{length-append}
 use Rattle.tree_index.specs.Shape.{gathered}
 use Rattle.tree_index.specs.Chain.{Links, times, first_or, IsLinked}
 use Rattle.tree_index.specs.Walk.{pairs_before, rest}
 use Rattle.tree_index.proofs.ShapeLemmas.{gathered_append}
 use Rattle.tree_index.proofs.WayLemmas.{some_same}
-use Rattle.tree_index.proofs.ChainLemmas.{times_append, first_times, linked_rest}
+use Rattle.tree_index.proofs.ChainLemmas.{times_append, first_times}
 
 -- the last of a list, or the other where it is empty
 abbrev pub last_or : Option ℕ → List ℕ → Option ℕ

@@ -1,10 +1,9 @@
 -- A tree in which leaves lose pairs and nothing else changes.
-use Rattle.std.proofs.Common.{◌≡◌, ◌≢◌, ◌≤◌, ◌<◌, ◌⊎◌, inl, inr, ℕ, zero, suc, ◌+◌, ◌-◌, ◌==◌, Bool, true, false, cond, not, ◌&&◌, List, [], ◌∷◌, ◌++◌, length, Option, Some, None, refl, sym, ap, ◌∙◌, subst, arith, append_assoc}
+use Rattle.std.proofs.Common.{◌≡◌, ◌≢◌, ◌≤◌, ◌⊎◌, inl, inr, ℕ, zero, suc, ◌+◌, ◌-◌, ◌==◌, Bool, true, false, cond, List, [], ◌∷◌, ◌++◌, length, Option, Some, None, refl, sym, ap, ◌∙◌, subst, arith}
 use Rattle.std.specs.Option.{option_map}
 use Rattle.std.specs.declared.cmp.Ordering.{Ordering}
 use Rattle.std.specs.List.{filter}
 use Rattle.std.proofs.lemmas.List.Elements.{filter-append}
-use Rattle.std.proofs.lemmas.List.{length-append}
 use Rattle.std.proofs.lemmas.Bool.{eq-eqb}
 use Rattle.std.proofs.lemmas.Bool.Decides.{eqb_tells}
 use Rattle.slab.specs.Slab.{get, with_value, Updates}
@@ -13,15 +12,14 @@ use Rattle.leaf_array.specs.Cells.{Cells}
 use Rattle.leaf_array.specs.Pairs.{IsAscending}
 use Rattle.tree_index.specs.declared.leaf.Leaf.{Leaf}
 use Rattle.tree_index.specs.declared.arenas.Arenas.{Arenas}
-use Rattle.tree_index.specs.Shape.{Content, AreBetween, AllKeys, IsWithin, joined_along, node_joined, sum_along, node_sum, gathered, leaf_pairs, pairs_under, leaves_under, leaf_times, node_times, IsLeaf, IsTree, Stands}
+use Rattle.tree_index.specs.Shape.{Content, AreBetween, AllKeys, IsWithin, joined_along, node_joined, sum_along, node_sum, gathered, leaf_pairs, leaves_under, leaf_times, node_times, IsLeaf, IsTree, Stands}
 use Rattle.tree_index.specs.Chain.{links, times, IsLinked}
-use Rattle.tree_index.specs.Content.{content_of, pairs_of, leaves_of, IsBare, IsSound}
+use Rattle.tree_index.specs.Content.{content_of, pairs_of, leaves_of, IsSound}
 use Rattle.tree_index.specs.Walk.{held, IsOwn}
-use Rattle.tree_index.proofs.ShapeLemmas.{gathered_append}
 use Rattle.tree_index.proofs.WayLemmas.{some_same}
 use Rattle.tree_index.proofs.ChainLemmas.{linked_kept, times_append, first_times}
 use Rattle.tree_index.proofs.LinkLemmas.{links_kept}
-use Rattle.tree_index.proofs.RowLemmas.{gathered_parted, parting}
+use Rattle.tree_index.proofs.RowLemmas.{gathered_parted}
 use Rattle.tree_index.proofs.WalkLemmas.{once, all_held, held_is, stands_of}
 use Rattle.tree_index.proofs.ArenaLemmas.{all_filtered, middle_length}
 

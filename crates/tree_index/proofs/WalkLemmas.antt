@@ -1,24 +1,22 @@
 -- Places in the leaves of a sound tree.
-use Rattle.std.proofs.Common.{◌≡◌, ◌≢◌, ◌≤◌, ◌<◌, ◌⊎◌, inl, inr, ℕ, zero, suc, ◌+◌, ◌-◌, Bool, true, false, cond, List, [], ◌∷◌, ◌++◌, length, Option, Some, None, refl, sym, ap, ◌∙◌, subst, arith}
-use Rattle.std.specs.Prelude.{slice_get, IfSome, IfNone}
+use Rattle.std.proofs.Common.{◌≡◌, ◌≢◌, ◌≤◌, ◌<◌, ◌⊎◌, inl, inr, ℕ, zero, suc, ◌+◌, Bool, List, [], ◌∷◌, ◌++◌, length, Option, Some, None, refl, sym, ap, ◌∙◌, subst, arith}
+use Rattle.std.specs.Prelude.{IfSome, IfNone}
 use Rattle.std.specs.Option.{option_map}
 use Rattle.std.specs.declared.cmp.Ordering.{Ordering}
 use Rattle.std.specs.Cmp.{IsTotalOrder}
-use Rattle.std.specs.declared.ops.Bound.TheVariants.{Included, Excluded}
 use Rattle.std.proofs.lemmas.List.{length-append}
 use Rattle.slab.specs.Slab.{get}
 use Rattle.leaf_array.specs.Cells.{Cells}
 use Rattle.tree_index.specs.declared.leaf.Leaf.{Leaf}
-use Rattle.tree_index.specs.declared.walk.Spot.{Spot}
 use Rattle.tree_index.specs.declared.arenas.Arenas.{Arenas}
-use Rattle.tree_index.specs.Shape.{Content, AreBetween, joined_along, node_joined, first_child, gathered, way, leaf_pairs, pairs_under, leaves_under, leaf_times, IsTree, Stands}
-use Rattle.tree_index.specs.Chain.{links, times, IsLinked, first_or}
+use Rattle.tree_index.specs.Shape.{Content, AreBetween, joined_along, node_joined, first_child, gathered, way, leaf_pairs, leaves_under, IsTree, Stands}
+use Rattle.tree_index.specs.Chain.{links, times, first_or}
 use Rattle.tree_index.specs.Content.{content_of, pairs_of, leaves_of, IsBare, IsSound}
 use Rattle.tree_index.specs.Cursor.{before_start}
-use Rattle.tree_index.specs.Walk.{pairs_before, rest, held, position, starts_at, ends_at, IsOwn, IsGap, IsSpot}
+use Rattle.tree_index.specs.Walk.{pairs_before, rest, held, starts_at, ends_at, IsOwn}
 use Rattle.tree_index.proofs.ShapeLemmas.{held_under}
 use Rattle.tree_index.proofs.ChainLemmas.{times_counted, times_append, first_times}
-use Rattle.tree_index.proofs.RowLemmas.{Own, starts, ends, reach, Neighbours, neighbours, parting, gathered_parted, before_parted, linked_there, last_or, last_joined, first_own, last_own}
+use Rattle.tree_index.proofs.RowLemmas.{Own, starts, ends, reach, neighbours, parting, gathered_parted, before_parted, linked_there, last_or, last_joined, first_own, last_own}
 use Rattle.tree_index.proofs.WayLemmas.{some_same, around}
 use Rattle.tree_index.proofs.NodeLemmas.{leaf_content}
 use Rattle.tree_index.proofs.GapLemmas.{bound_at, bound_middle}

@@ -1,5 +1,5 @@
 -- The two ends of a cursor in the leaves of a tree.
-use Rattle.std.specs.Prelude.{ℕ, List}
+use Rattle.std.specs.Prelude.{ℕ}
 use Rattle.std.specs.declared.cmp.Ordering.{Ordering}
 use Rattle.std.specs.declared.ops.Bound.{Bound}
 use Rattle.tree_index.specs.declared.arenas.Arenas.{Arenas}

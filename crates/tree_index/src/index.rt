@@ -7,7 +7,7 @@ ghost use Rattle.std.specs.Fn.{FnOnceReturnsAt};
 ghost use Rattle.std.specs.List.{filter};
 ghost use Rattle.std.specs.BTreeMap.Range.{range_contains};
 ghost use Rattle.leaf_array.specs.Edits.{inserted, removed, upserted};
-ghost use Rattle.leaf_array.specs.Pairs.{has_key, value_at};
+ghost use Rattle.leaf_array.specs.Pairs.{has_key, value_at, IsAscending};
 ghost use Rattle.leaf_array.specs.Values.{ClonesAreSame};
 ghost use Rattle.std.specs.Range.Bound.{bound_map};
 ghost use Rattle.tree_index.specs.declared.cursor.End.TheVariants.{Unopened};
@@ -86,9 +86,10 @@ impl<K: Ord, V> TreeIndex<K, V> {
         self.arenas.height
     }
 
-    /// How many pairs there are, from a count that the tree keeps.
+    /// How many pairs there are, from a count that the tree keeps. They are strictly ascending by key.
     pub fn len(&self) -> usize
-        ensures { result ≡ length self.now.pairs }
+        ensures count { result ≡ length self.now.pairs }
+        ensures rising { IsAscending K.cmp self.now.pairs }
     {
         self.arenas.len
     }

@@ -33,7 +33,7 @@ impl<K: Ord> Branches<K> {
         ensures { result ≡ first_child self.now.children.pairs self.now.last }
     {
         match self.children.pair(0) {
-            Some((_, child)) => *child,
+            Some(first) => *first.1,
             None => self.last,
         }
     }

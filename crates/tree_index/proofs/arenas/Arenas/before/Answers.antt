@@ -1,4 +1,4 @@
-use Rattle.std.proofs.Common.{◌≡◌, ◌≤◌, ◌<◌, ℕ, ◌+◌, length, arith}
+use Rattle.std.proofs.Common.{arith}
 use Rattle.tree_index.proofs.WalkLemmas.{leaf_around, if_none, if_some}
 use Rattle.tree_index.proofs.arenas.Arenas.before.Goals as goal
 

@@ -1,7 +1,4 @@
-use Rattle.std.proofs.Common.{◌≡◌, ◌≤◌, ◌<◌, ℕ, ◌+◌, length, arith}
-use Rattle.tree_index.specs.declared.walk.Spot.{Spot}
-use Rattle.tree_index.specs.Content.{pairs_of}
-use Rattle.tree_index.specs.Walk.{position, starts_at}
+use Rattle.std.proofs.Common.{arith}
 use Rattle.tree_index.proofs.WalkLemmas.{leaf_around, if_none, if_some}
 use Rattle.tree_index.proofs.arenas.Arenas.behind.Goals as goal
 

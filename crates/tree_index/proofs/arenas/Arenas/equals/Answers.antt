@@ -1,6 +1,5 @@
-use Rattle.std.proofs.Common.{◌≡◌, ◌<◌, ◌+◌, ◌-◌, ◌&&◌, ℕ, Bool, true, false, Option, Some, length, drop, refl, sym, ap, ◌∙◌, subst, arith}
+use Rattle.std.proofs.Common.{◌≡◌, ◌+◌, ◌&&◌, ℕ, Bool, drop, sym, ap, ◌∙◌, subst, arith}
 use Rattle.std.specs.Cmp.Lexicographic.{pointwise}
-use Rattle.tree_index.specs.declared.walk.Spot.{Spot}
 use Rattle.tree_index.specs.Content.{pairs_of}
 use Rattle.tree_index.specs.Walk.{position, IsSpot}
 use Rattle.tree_index.proofs.EndLemmas.{spot_pair}

@@ -1,5 +1,4 @@
-use Rattle.std.proofs.Common.{◌≡◌, ◌<◌, ◌-◌, ◌+◌, ℕ, length, sym, ap, ◌∙◌, arith}
-use Rattle.leaf_array.specs.Cells.{lesser}
+use Rattle.std.proofs.Common.{◌≡◌, ◌-◌, ℕ, length, sym, ap, ◌∙◌, arith}
 use Rattle.tree_index.specs.declared.cursor.End.TheVariants.{Unopened, At}
 use Rattle.tree_index.specs.Content.{pairs_of}
 use Rattle.tree_index.specs.Cursor.{whole}

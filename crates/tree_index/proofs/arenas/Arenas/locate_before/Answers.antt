@@ -1,9 +1,8 @@
-use Rattle.std.proofs.Common.{◌≡◌, ◌<◌, ◌-◌, ◌+◌, ℕ, length, sym, ap, ◌∙◌, arith}
+use Rattle.std.proofs.Common.{◌≡◌, ◌-◌, ℕ, sym, ap, ◌∙◌, arith}
 use Rattle.leaf_array.specs.Cells.{lesser}
-use Rattle.tree_index.specs.declared.cursor.End.{End}
 use Rattle.tree_index.specs.declared.cursor.End.TheVariants.{Unopened, At}
 use Rattle.tree_index.specs.Content.{pairs_of}
-use Rattle.tree_index.specs.Cursor.{Cursor, whole}
+use Rattle.tree_index.specs.Cursor.{whole}
 use Rattle.tree_index.specs.Walk.{position}
 use Rattle.tree_index.proofs.EndLemmas.{spot_pair, has_there}
 use Rattle.tree_index.proofs.arenas.Arenas.locate_before.Goals as goal

@@ -1,4 +1,4 @@
-use Rattle.std.proofs.Common.{not, List, subst, ◌≡◌, ◌≤◌, ◌<◌, ◌-◌, ◌+◌, ℕ, length, Option, Some, None, sym, ap, ◌∙◌, arith}
+use Rattle.std.proofs.Common.{not, List, subst, ◌≡◌, ◌<◌, ◌-◌, ◌+◌, ℕ, length, Option, Some, sym, ap, arith}
 use Rattle.std.specs.Range.Bound.{bound_map}
 use Rattle.std.specs.Borrow.{Bor}
 use Rattle.std.specs.BTreeMap.Range.{range_contains}

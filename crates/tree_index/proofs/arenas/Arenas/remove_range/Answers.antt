@@ -3,7 +3,6 @@ use Rattle.std.specs.Range.Bound.{bound_map}
 use Rattle.std.specs.BTreeMap.Range.{is_from_start}
 use Rattle.std.specs.Borrow.{Bor}
 use Rattle.tree_index.specs.Walk.{IsPassed}
-use Rattle.tree_index.proofs.ShapeLemmas.{all_weaken}
 use Rattle.tree_index.proofs.RemovalLemmas.{IsOutside, before_outside, all_passed, passed_less}
 use Rattle.tree_index.proofs.arenas.Arenas.remove_range.Goals as goal
 

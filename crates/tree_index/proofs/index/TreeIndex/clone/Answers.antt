@@ -1,4 +1,4 @@
-use Rattle.std.proofs.Common.{◌≡◌, ◌<◌, ◌+◌, ◌-◌, ℕ, List, [], length, take, refl, sym, ap, ◌∙◌, subst, arith}
+use Rattle.std.proofs.Common.{◌≡◌, ◌+◌, ℕ, List, take, sym, ap, ◌∙◌, subst, arith}
 use Rattle.leaf_array.specs.Edits.{upserted}
 use Rattle.tree_index.specs.Content.{pairs_of}
 use Rattle.tree_index.specs.Walk.{position, IsSpot}

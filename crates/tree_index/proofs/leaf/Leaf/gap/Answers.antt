@@ -1,4 +1,4 @@
-use Rattle.std.proofs.Common.{◌≡◌, ◌≤◌, ℕ, ◌+◌, sym, ◌∙◌, subst, arith}
+use Rattle.std.proofs.Common.{◌≤◌, ℕ, sym, ◌∙◌, subst}
 use Rattle.std.specs.Prelude.{length}
 use Rattle.tree_index.proofs.GapLemmas.{bound_at, gap_past, gap_apart, gap_before, start_all}
 use Rattle.tree_index.proofs.leaf.Leaf.gap.Goals.{else-beyond-via-then-beyond+else-stands_at, else-beyond-via-else-beyond}

@@ -1,6 +1,3 @@
-use Rattle.std.proofs.Common.{◌≡◌, ℕ, List, [], ◌∷◌, Option, Some, None, refl, sym, ap, ◌∙◌}
-use Rattle.std.specs.Prelude.{slice_get}
-use Rattle.tree_index.specs.Shape.{first_child}
 use Rattle.tree_index.proofs.ChildLemmas.{first_is, first_none}
 use Rattle.tree_index.proofs.node.Branches.first.Goals as goal
 
