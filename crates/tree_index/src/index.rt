@@ -213,8 +213,10 @@ impl<K: Ord, V> TreeIndex<K, V> {
 
     /// A cursor over all pairs.
     pub fn iter(&self) -> Iter<'_, K, V>
-        ensures { result ≡ whole self.now.pairs Unopened Unopened }
+        ensures cursor { result ≡ whole self.now.pairs Unopened Unopened }
+        ensures countable { length self.now.pairs < 2 ^ 64 }
     {
+        let _ = self.len();
         Iter {
             ends: Ends::new(&self.arenas),
         }
@@ -222,8 +224,10 @@ impl<K: Ord, V> TreeIndex<K, V> {
 
     /// A cursor over the pairs within two bounds. Reversed bounds contain none.
     pub fn range<'t>(&'t self, lower: Bound<&'t K>, upper: Bound<&'t K>) -> Range<'t, K, V>
-        ensures { result ≡ record { pairs = self.now.pairs; lower = bound_map (λ k. k.now) lower.entry; upper = bound_map (λ k. k.now) upper.entry; forward = Unopened; backward = Unopened } }
+        ensures countable { length self.now.pairs < 2 ^ 64 }
+        ensures cursor { result ≡ record { pairs = self.now.pairs; lower = bound_map (λ k. k.now) lower.entry; upper = bound_map (λ k. k.now) upper.entry; forward = Unopened; backward = Unopened } }
     {
+        let _ = self.len();
         Range {
             ends: Ends::new(&self.arenas),
             lower,

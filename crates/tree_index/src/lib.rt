@@ -4,14 +4,15 @@
 //! leaves of at most fifteen pairs and nodes of at most sixteen children (`leaf_array::Array`). A
 //! look-up follows one path and clones nothing. An insertion that finds its leaf full makes room
 //! first: it packs the leaf or splits it, and the full nodes above it, and needs memory for that
-//! before anything is changed; so a refused one leaves the tree as it was. Reads, removals and
-//! `clear` take no memory.
+//! before anything is changed; so a refused one leaves the tree as it was. A cursor goes along the
+//! leaves, each of which names its neighbours. Reads, cursors, removals and `clear` take no memory.
 //!
 //! ```
 //! let mut tree = TreeIndex::new(alloc);
 //! tree.insert_sync(2, "two")?;
 //! tree.upsert_sync(1, "one")?;
 //! tree.peek(&1); // Some(&"one")
+//! tree.iter().next_back(); // Some((&2, &"two"))
 //! tree.remove_sync(&2); // true
 //! ```
 #![tactic(auto)]

@@ -44,9 +44,37 @@ fn grows<R: Abort>(rt: &R, alloc: Global) -> bool {
     met
 }
 
+/// Whether an allocation was refused while a tree was cloned.
+fn clones<R: Abort>(rt: &R, alloc: Global) -> bool {
+    let mut met = false;
+    let mut tree: TreeIndex<u64, u64> = TreeIndex::new(alloc);
+    for key in 0..100u64 {
+        insert(rt, &mut tree, key, &mut met);
+    }
+    match tree.clone(alloc) {
+        Ok(copy) => assert!(rt; copy == tree),
+        Err(_) => {
+            met = true;
+            assert!(rt; tree.len() == 100);
+        }
+    }
+    met
+}
+
 #[test]
 fn a_refusal_of_memory_changes_nothing(rt: HostRuntime) {
     let _met = grows(&rt, rt.alloc());
+}
+
+#[test]
+fn a_refusal_of_memory_to_a_clone_leaves_the_tree(rt: HostRuntime) {
+    let _met = clones(&rt, rt.alloc());
+}
+
+#[test]
+fn no_memory_is_refused_to_a_clone(rt: HostRuntime) {
+    let met = clones(&rt, rt.alloc());
+    assert!(rt; !met);
 }
 
 #[test]

@@ -2,6 +2,7 @@
 
 use super::*;
 use std::collections::BTreeMap;
+use std::ops::Bound;
 use std::process::Abort;
 use std::test::Fail;
 
@@ -209,5 +210,26 @@ fn a_clone_is_equal_until_one_of_them_changes(rt: HostRuntime) -> Result<(), Fai
         assert!(rt; tree.insert_sync(key * 7 % 500, key).is_ok() || key * 7 % 500 < 10);
     }
     assert!(rt; tree.clone(rt.alloc())? == tree);
+    Ok(())
+}
+
+#[test]
+fn a_day_is_kept_in_a_tree(rt: HostRuntime) -> Result<(), Fail> {
+    let mut day: TreeIndex<u64, &str> = TreeIndex::new(rt.alloc());
+    assert!(rt; day.upsert_sync(930, "dentist").is_ok());
+    assert!(rt; day.upsert_sync(1100, "review").is_ok());
+    assert!(rt; day.upsert_sync(1530, "train").is_ok());
+    assert_eq!(rt; day.peek(&1100), Some(&"review"));
+    let morning = day.range(Bound::Included(&900), Bound::Excluded(&1200));
+    assert_eq!(rt; morning.count(), 2);
+    match day.locate(&1300) {
+        Proximity::Between(near) => {
+            assert_eq!(rt; near.get(), Some((&1100, &"review")));
+            assert_eq!(rt; near.get_back(), Some((&1530, &"train")));
+        }
+        _ => panic!(rt; "not between"),
+    }
+    day.remove_range_sync(Bound::Unbounded, Bound::Excluded(&1000));
+    assert_eq!(rt; day.len(), 2);
     Ok(())
 }
