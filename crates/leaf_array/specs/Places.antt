@@ -103,8 +103,8 @@ module _ {K V : Type 0} where
   -- numbered anew from the bitmap place n on, the dead ones empty
   abbrev pub packed : ℕ → List (Place K V) → List (Place K V)
   packed n [] = []
-  packed n (Empty ∷ ps) = Empty ∷ packed n ps
-  packed n (Dead s k v ∷ ps) = Empty ∷ packed n ps
+  packed n (Empty ∷ ps) = Empty ∷ packed (n + 1) ps
+  packed n (Dead s k v ∷ ps) = Empty ∷ packed (n + 1) ps
   packed n (Live s g k v ∷ ps) = Live (slot_of n) 0 k v ∷ packed (n + 1) ps
 
   -- how many live places at the front stand before the one with a slot

@@ -89,7 +89,7 @@ impl<K: Ord, V> Slots<K, V> {
     }
 
     #[inline(always)]
-    pub(crate) fn rank_of(&self, slot: u8) -> u8
+    pub(crate) fn rank_of(&self, slot: u8) -> u16
         requires { top self.now ≤ 15 }
         ensures { result ≡ rank_in slot (labels_above 0 self.now) }
     {
@@ -97,7 +97,7 @@ impl<K: Ord, V> Slots<K, V> {
     }
 
     #[inline(always)]
-    pub(crate) fn above(&self, rank: u8) -> Option<(u8, u8)>
+    pub(crate) fn above(&self, rank: u16) -> Option<(u8, u16)>
         requires { top self.now ≤ 15 }
         ensures { result ≡ first_above rank (labels_above 0 self.now) }
     {
@@ -105,7 +105,7 @@ impl<K: Ord, V> Slots<K, V> {
     }
 
     #[inline(always)]
-    pub(crate) fn under(&self, rank: u8) -> Option<(u8, u8)>
+    pub(crate) fn under(&self, rank: u16) -> Option<(u8, u16)>
         requires { top self.now ≤ 15 }
         ensures { result ≡ last_below rank (labels_above 0 self.now) }
     {
@@ -114,7 +114,7 @@ impl<K: Ord, V> Slots<K, V> {
 
     /// The rank of the last live place, 0 if there is none.
     #[inline(always)]
-    pub(crate) fn top(&self) -> u8
+    pub(crate) fn top(&self) -> u16
         requires { top self.now ≤ 15 }
         ensures { result ≡ top self.now }
     {
@@ -123,7 +123,7 @@ impl<K: Ord, V> Slots<K, V> {
 
     /// The rank that a slot would have if a live place with the slot `fresh` came in at `at`.
     #[inline(always)]
-    pub(crate) fn rank_beside(&self, at: usize, fresh: u8, slot: u8) -> u8
+    pub(crate) fn rank_beside(&self, at: usize, fresh: u8, slot: u8) -> u16
         requires { top self.now < 15 }
         ensures { result ≡ rank_in slot (entered 0 at fresh (labels_above 0 self.now)) }
     {
@@ -185,6 +185,8 @@ impl<K: Ord, V> Slots<K, V> {
     }
 
     /// Drops the dead pairs, and gives the live ones the lowest slots.
+    // Out of line, or a caller that has the places by value works on copies of them.
+    #[inline(never)]
     pub(crate) fn renumber(&mut self)
     where
         K: Drop,
@@ -196,7 +198,7 @@ impl<K: Ord, V> Slots<K, V> {
     }
 
     /// Moves the eight lower places out, and the others down.
-    #[inline]
+    #[inline(never)]
     pub(crate) fn split_half(&mut self) -> Self
         ensures mine_count { length self.new ≡ 15 }
         ensures lower_count { length result ≡ 15 }
