@@ -210,7 +210,7 @@ module _ {K V : Type 0} where
   packed_drop (suc n) (Dead s k v ∷ ps) h = packed_departed (drop n ps) (departed_drop n ps h)
   packed_drop (suc n) (Live s g k v ∷ ps) h = packed_drop n ps h
 
-  emptied_take : (n : ℕ) (ps : List (Place K V)) → IsEmptied ps → IsEmptied (take n ps)
+  pub emptied_take : (n : ℕ) (ps : List (Place K V)) → IsEmptied ps → IsEmptied (take n ps)
   emptied_take zero ps h = tt
   emptied_take (suc n) [] h = tt
   emptied_take (suc n) (Empty ∷ ps) h = emptied_take n ps h
@@ -362,6 +362,9 @@ module _ {K V : Type 0} where
   sound_cut cmp ps lower upper qs rs len used n low s lower_is upper_is lower_count upper_count low_is qs_is rs_is =
       sound_parts cmp ps lower upper (take (length (drop n ps)) no_places) (drop (length (drop n ps)) no_places) qs rs len used n low s lower_is upper_is
       (emptied_take (length (drop n ps)) no_places tt) (emptied_drop (length (drop n ps)) no_places tt) lower_count upper_count low_is qs_is rs_is
+
+  pub whole_take : (n : ℕ) (xs : List (K × V)) → n ≤ length xs → n ≡ length (take n xs)
+  whole_take n xs le = sym (length-take-le n xs le)
 
   pub low_length : (xs : List (K × V)) (low len n : ℕ) → len ≡ length xs → low ≡ min len n → low ≡ length (take n xs)
   low_length xs low len n e h = simp length-take (omega (arith, e, h))

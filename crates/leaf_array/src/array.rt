@@ -391,6 +391,32 @@ impl<K: Ord, V> Array<K, V> {
         }
     }
 
+    /// Moves the pairs behind the first `at` to an array of their own. Both are packed.
+    pub fn split_off(&mut self, at: usize) -> Self
+    where
+        K: Drop,
+        V: Drop,
+        requires { at ≤ length self.old.pairs }
+        ensures lower { self.new ≡ filled self.old.frozen (take at self.old.pairs) }
+        ensures upper { result ≡ filled false (drop at self.old.pairs) }
+    {
+        let mut slots = self.slots.cut(at);
+        slots.renumber();
+        self.slots.renumber();
+        let low = at as u8;
+        let len = self.len - low;
+        self.len = low;
+        self.used = low;
+        self.retired = false;
+        Array {
+            len,
+            used: len,
+            frozen: false,
+            retired: false,
+            slots,
+        }
+    }
+
     /// Takes the greatest pair out of the array, which is packed then.
     pub fn pop_last(&mut self) -> Option<(K, V)>
     where

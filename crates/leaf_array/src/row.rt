@@ -95,6 +95,12 @@ pub(crate) trait Row<K: Ord, V> {
         ensures old { result ≡ died (drop at (places self.old)) }
         ensures new { places self.new ≡ take at (places self.old) ++ renewed slot key value (drop at (places self.old)) };
 
+    /// Puts a place where the one at `at` is, and gives that one.
+    fn put(&mut self, at: usize, place: Place<K, V>) -> Place<K, V>
+        requires { at < length (places self.old) }
+        ensures old { result ≡ slice_index_or (places self.old) at Empty }
+        ensures new { places self.new ≡ take at (places self.old) ++ place ∷ drop (at + 1) (places self.old) };
+
     /// Takes the pair of the live place `at` out.
     fn vacate(&mut self, at: usize) -> (K, V)
         requires { IsSome (live_pair (slice_index_or (places self.old) at Empty)) }
@@ -285,6 +291,15 @@ impl<K: Ord, V> Row<K, V> for Last<K, V> {
             unreachable!();
         }
         renew(&mut self.head, slot, key, value)
+    }
+
+    #[inline(always)]
+    fn put(&mut self, at: usize, place: Place<K, V>) -> Place<K, V>
+        requires { at < length (self.old.head ∷ []) }
+        ensures old { result ≡ slice_index_or (self.old.head ∷ []) at Empty }
+        ensures new { self.new.head ∷ [] ≡ take at (self.old.head ∷ []) ++ place ∷ drop (at + 1) (self.old.head ∷ []) }
+    {
+        mem::replace(&mut self.head, place)
     }
 
     #[inline(always)]
@@ -502,6 +517,18 @@ impl<K: Ord, V, R: Row<K, V>> Row<K, V> for Link<K, V, R> {
             return self.rest.renew(at - 1, slot, key, value);
         }
         renew(&mut self.head, slot, key, value)
+    }
+
+    #[inline(always)]
+    fn put(&mut self, at: usize, place: Place<K, V>) -> Place<K, V>
+        requires { at < length (self.old.head ∷ R.places self.old.rest) }
+        ensures old { result ≡ slice_index_or (self.old.head ∷ R.places self.old.rest) at Empty }
+        ensures new { self.new.head ∷ R.places self.new.rest ≡ take at (self.old.head ∷ R.places self.old.rest) ++ place ∷ drop (at + 1) (self.old.head ∷ R.places self.old.rest) }
+    {
+        if at > 0 {
+            return self.rest.put(at - 1, place);
+        }
+        mem::replace(&mut self.head, place)
     }
 
     #[inline(always)]

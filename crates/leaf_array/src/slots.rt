@@ -184,6 +184,37 @@ impl<K: Ord, V> Slots<K, V> {
         self.all.vacate(at)
     }
 
+    fn put(&mut self, at: usize, place: Place<K, V>) -> Place<K, V>
+        requires { at < 15 }
+        ensures count { length self.new ≡ 15 }
+        ensures old { result ≡ slice_index_or self.old at Empty }
+        ensures places { self.new ≡ take at self.old ++ place ∷ drop (at + 1) self.old }
+    {
+        self.all.put(at, place)
+    }
+
+    /// Moves the places from `at` on to the front of other ones.
+    pub(crate) fn cut(&mut self, at: usize) -> Self
+        requires within { at ≤ 15 }
+        requires count { length self.old ≡ 15 }
+        ensures lower_count { length self.new ≡ 15 }
+        ensures upper_count { length result ≡ 15 }
+        ensures lower { self.new ≡ take at self.old ++ take (length (drop at self.old)) no_places }
+        ensures upper { result ≡ drop at self.old ++ drop (length (drop at self.old)) no_places }
+    {
+        let mut upper = Slots::new();
+        let mut from = at;
+        while from < 15 {
+            let place = self.put(from, Place::Empty);
+            match upper.put(from - at, place) {
+                Place::Empty => {},
+                _ => unreachable!(),
+            }
+            from += 1;
+        }
+        upper
+    }
+
     /// Drops the dead pairs, and gives the live ones the lowest slots.
     // Out of line, or a caller that has the places by value works on copies of them.
     #[inline(never)]

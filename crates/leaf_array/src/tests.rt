@@ -223,6 +223,24 @@ fn an_array_is_halved_by_moves(rt: HostRuntime) {
 }
 
 #[test]
+fn an_array_is_cut_at_each_boundary(rt: HostRuntime) {
+    let left: [u64; 14] = [0, 1, 2, 3, 4, 5, 6, 7, 8, 10, 11, 12, 13, 14];
+    for at in 0..15usize {
+        let mut lower = reversed(&ASCENDING);
+        assert_eq!(rt; lower.remove_if(&9, |_| true), RemoveResult::Success);
+        if at <= lower.len() {
+            let upper = lower.split_off(at);
+            // both are as if their keys had come by themselves, in their order
+            let (first, rest) = left.split_at(at.min(14));
+            assert_eq!(rt; digits(&lower), digits(&holding(first)));
+            assert_eq!(rt; lower.metadata(), holding(first).metadata());
+            assert_eq!(rt; digits(&upper), digits(&holding(rest)));
+            assert_eq!(rt; upper.metadata(), holding(rest).metadata());
+        }
+    }
+}
+
+#[test]
 fn the_greatest_pair_is_taken_out(rt: HostRuntime) {
     let mut array = holding(&[3, 1, 2]);
     assert_eq!(rt; array.remove_if(&2, |_| true), RemoveResult::Success);
