@@ -440,6 +440,7 @@ impl<K: Ord, V> Array<K, V> {
     #[inline(always)]
     pub fn insert<const UPSERT: bool>(&mut self, key: K, val: V) -> InsertResult<K, V>
         ensures full { IsFull result ↔ IsTrue (is_refused UPSERT K.cmp key self.old) }
+        ensures absent { IsFull result → UPSERT ≡ false → self.old.frozen ≡ false → has K.cmp key self.old ≡ false }
         ensures duplicate { IsDuplicate result ↔ IsTrue (is_repeated UPSERT K.cmp key self.old) }
         ensures back { IfSome (given_back result) (λ p. p ≡ (key, val)) }
         ensures kept { IsSome (given_back result) → self.new ≡ self.old }

@@ -236,8 +236,9 @@ impl<K: Ord, V> Slots<K, V> {
         ensures mine { self.new ≡ drop 8 self.old ++ Empty ∷ no_half }
         ensures lower { result ≡ take 8 self.old ++ no_half }
     {
-        let mut upper = Slots::new();
-        self.all
+        let mut lower = mem::replace(self, Slots::new());
+        lower
+            .all
             .rest
             .rest
             .rest
@@ -246,7 +247,7 @@ impl<K: Ord, V> Slots<K, V> {
             .rest
             .rest
             .rest
-            .exchange(&mut upper.all);
-        mem::replace(self, upper)
+            .exchange(&mut self.all);
+        lower
     }
 }

@@ -1,4 +1,4 @@
-use Rattle.std.proofs.Common.{arith, ◌≡◌, ap, ◌∙◌, length}
+use Rattle.std.proofs.Common.{arith, ap, ◌∙◌, length}
 use Rattle.leaf_array.proofs.CutLemmas.{length_lower, length_upper, lower_step, upper_step, lower_end, upper_end}
 use Rattle.leaf_array.proofs.slots.Slots.cut.Goals as goal
 

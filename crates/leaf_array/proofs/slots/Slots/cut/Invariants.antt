@@ -1,4 +1,4 @@
-use Rattle.std.proofs.Common.{◌≡◌, ◌≤◌, ◌-◌, ◌++◌, length, take, drop}
+use Rattle.std.proofs.Common.{◌≡◌, ◌≤◌, ◌-◌, ◌++◌, take, drop}
 use Rattle.leaf_array.specs.Places.{no_places}
 use Rattle.leaf_array.proofs.CutLemmas.{lower_part, upper_part}
 use Rattle.leaf_array.proofs.slots.Slots.cut.Given as goal
