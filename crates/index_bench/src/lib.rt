@@ -24,12 +24,7 @@ pub extern "C" fn index_bench_insert(alloc: Global, keys: &[u64]) -> usize {
 
 /// Looks each probe up in a tree of these keys, `rounds` times, and gives the sum of the values found.
 #[unsafe(no_mangle)]
-pub extern "C" fn index_bench_get(
-    alloc: Global,
-    keys: &[u64],
-    probes: &[u64],
-    rounds: u32,
-) -> u64 {
+pub extern "C" fn index_bench_get(alloc: Global, keys: &[u64], probes: &[u64], rounds: u32) -> u64 {
     let tree = built(alloc, keys);
     let mut sum = 0;
     for _ in 0..rounds {
@@ -54,7 +49,8 @@ fn get_all(tree: &TreeIndex<u64, u64>, probes: &[u64], sum: u64) -> u64
 {
     let mut total = sum;
     for probe in probes {
-        total = total.wrapping_add(found(tree, probe));
+        let value = found(tree, probe);
+        total = total.wrapping_add(value);
     }
     total
 }
