@@ -78,20 +78,20 @@ module _ {K V : Type 0} where
 
   emptied_packed : (n : ℕ) (ps : List (Place K V)) → IsEmptied ps → IsEmptied (packed n ps)
   emptied_packed n [] h = tt
-  emptied_packed n (Empty ∷ ps) h = emptied_packed n ps h
+  emptied_packed n (Empty ∷ ps) h = emptied_packed (n + 1) ps h
   emptied_packed n (Dead s k v ∷ ps) h = absurd h
   emptied_packed n (Live s g k v ∷ ps) h = absurd h
 
   departed_packed : (n : ℕ) (ps : List (Place K V)) → IsDeparted ps → IsEmptied (packed n ps)
   departed_packed n [] h = tt
-  departed_packed n (Empty ∷ ps) h = emptied_packed n ps h
-  departed_packed n (Dead s k v ∷ ps) h = departed_packed n ps h
+  departed_packed n (Empty ∷ ps) h = emptied_packed (n + 1) ps h
+  departed_packed n (Dead s k v ∷ ps) h = departed_packed (n + 1) ps h
   departed_packed n (Live s g k v ∷ ps) h = absurd h
 
   pub packed_packed : (n : ℕ) (ps : List (Place K V)) → IsPacked ps → IsPacked (packed n ps)
   packed_packed n [] h = tt
-  packed_packed n (Empty ∷ ps) h = emptied_packed n ps h
-  packed_packed n (Dead s k v ∷ ps) h = departed_packed n ps h
+  packed_packed n (Empty ∷ ps) h = emptied_packed (n + 1) ps h
+  packed_packed n (Dead s k v ∷ ps) h = departed_packed (n + 1) ps h
   packed_packed n (Live s g k v ∷ ps) h = packed_packed (n + 1) ps h
 
   pub live_packed : (n : ℕ) (ps : List (Place K V)) → IsPacked ps → live_pairs (packed n ps) ≡ live_pairs ps
@@ -108,8 +108,8 @@ module _ {K V : Type 0} where
 
   pub dead_packed : (n : ℕ) (ps : List (Place K V)) → dead_pairs (packed n ps) ≡ []
   dead_packed n [] = refl
-  dead_packed n (Empty ∷ ps) = dead_packed n ps
-  dead_packed n (Dead s k v ∷ ps) = dead_packed n ps
+  dead_packed n (Empty ∷ ps) = dead_packed (n + 1) ps
+  dead_packed n (Dead s k v ∷ ps) = dead_packed (n + 1) ps
   dead_packed n (Live s g k v ∷ ps) = dead_packed (n + 1) ps
 
   pub top_packed : (n : ℕ) (ps : List (Place K V)) → top (packed n ps) ≡ length (live_pairs ps)
@@ -126,8 +126,8 @@ module _ {K V : Type 0} where
 
   pub uses_packed : (slot n : ℕ) (ps : List (Place K V)) → IsPacked ps → uses slot (packed n ps) + uses_below slot n ≡ uses_below slot (n + length (live_pairs ps))
   uses_packed slot n [] h = let e : n + 0 ≡ n = omega arith in rw e (omega arith)
-  uses_packed slot n (Empty ∷ ps) h = let e : n + 0 ≡ n = omega arith in rw e (omega (arith, uses_emptied slot (packed n ps) (emptied_packed n ps h)))
-  uses_packed slot n (Dead s k v ∷ ps) h = let e : n + 0 ≡ n = omega arith in rw e (omega (arith, uses_emptied slot (packed n ps) (departed_packed n ps h)))
+  uses_packed slot n (Empty ∷ ps) h = let e : n + 0 ≡ n = omega arith in rw e (omega (arith, uses_emptied slot (packed (n + 1) ps) (emptied_packed (n + 1) ps h)))
+  uses_packed slot n (Dead s k v ∷ ps) h = let e : n + 0 ≡ n = omega arith in rw e (omega (arith, uses_emptied slot (packed (n + 1) ps) (departed_packed (n + 1) ps h)))
   uses_packed slot n (Live s g k v ∷ ps) h =
       let e : n + suc (length (live_pairs ps)) ≡ n + 1 + length (live_pairs ps) = omega arith in
       let e1 : uses_below slot (n + 1) ≡ cond (slot_of n == slot) 1 0 + uses_below slot n = let e2 : n + 1 ≡ suc n = omega arith in ap (uses_below slot) e2 in
@@ -135,8 +135,8 @@ module _ {K V : Type 0} where
 
   pub length_packed : (n : ℕ) (ps : List (Place K V)) → length (packed n ps) ≡ length ps
   length_packed n [] = refl
-  length_packed n (Empty ∷ ps) = omega (arith, length_packed n ps)
-  length_packed n (Dead s k v ∷ ps) = omega (arith, length_packed n ps)
+  length_packed n (Empty ∷ ps) = omega (arith, length_packed (n + 1) ps)
+  length_packed n (Dead s k v ∷ ps) = omega (arith, length_packed (n + 1) ps)
   length_packed n (Live s g k v ∷ ps) = omega (arith, length_packed (n + 1) ps)
 
   -- ---- cut
@@ -210,7 +210,7 @@ module _ {K V : Type 0} where
   packed_drop (suc n) (Dead s k v ∷ ps) h = packed_departed (drop n ps) (departed_drop n ps h)
   packed_drop (suc n) (Live s g k v ∷ ps) h = packed_drop n ps h
 
-  emptied_take : (n : ℕ) (ps : List (Place K V)) → IsEmptied ps → IsEmptied (take n ps)
+  pub emptied_take : (n : ℕ) (ps : List (Place K V)) → IsEmptied ps → IsEmptied (take n ps)
   emptied_take zero ps h = tt
   emptied_take (suc n) [] h = tt
   emptied_take (suc n) (Empty ∷ ps) h = emptied_take n ps h
@@ -296,12 +296,12 @@ module _ {K V : Type 0} where
 
   packed_blank : (n : ℕ) (ps : List (Place K V)) → packed n (blank ps) ≡ blank ps
   packed_blank n [] = refl
-  packed_blank n (p ∷ ps) = ap (λ qs. Empty ∷ qs) (packed_blank n ps)
+  packed_blank n (p ∷ ps) = ap (λ qs. Empty ∷ qs) (packed_blank (n + 1) ps)
 
   packed_none : (n : ℕ) (ps : List (Place K V)) → IsPacked ps → 0 ≡ length (live_pairs ps) → packed n ps ≡ blank ps
   packed_none n [] pk e = refl
-  packed_none n (Empty ∷ ps) pk e = ap (λ qs. Empty ∷ qs) (packed_none n ps (packed_departed ps (departed_emptied ps pk)) (ap length (sym (emptied_live ps pk))))
-  packed_none n (Dead s k v ∷ ps) pk e = ap (λ qs. Empty ∷ qs) (packed_none n ps (packed_departed ps pk) (ap length (sym (departed_live ps pk))))
+  packed_none n (Empty ∷ ps) pk e = ap (λ qs. Empty ∷ qs) (packed_none (n + 1) ps (packed_departed ps (departed_emptied ps pk)) (ap length (sym (emptied_live ps pk))))
+  packed_none n (Dead s k v ∷ ps) pk e = ap (λ qs. Empty ∷ qs) (packed_none (n + 1) ps (packed_departed ps pk) (ap length (sym (departed_live ps pk))))
   packed_none n (Live s g k v ∷ ps) pk e = absurd (omega (arith, e))
 
   vacated_packed : (m n : ℕ) (ps : List (Place K V)) → IsPacked ps → suc n ≡ length (live_pairs ps) → take n (packed m ps) ++ vacated (drop n (packed m ps)) ≡ packed m (take n ps ++ blank (drop n ps))
@@ -311,7 +311,7 @@ module _ {K V : Type 0} where
   vacated_packed m (suc n) (Empty ∷ ps) pk e = absurd (omega (arith, e))
   vacated_packed m zero (Dead s k v ∷ ps) pk e = absurd (omega (arith, e))
   vacated_packed m (suc n) (Dead s k v ∷ ps) pk e = absurd (omega (arith, e))
-  vacated_packed m zero (Live s g k v ∷ ps) pk e = ap (λ qs. Empty ∷ qs) (packed_none (m + 1) ps pk (omega (arith, e)) ∙ sym (packed_blank m ps))
+  vacated_packed m zero (Live s g k v ∷ ps) pk e = ap (λ qs. Empty ∷ qs) (packed_none (m + 1) ps pk (omega (arith, e)) ∙ sym (packed_blank (m + 1) ps))
   vacated_packed m (suc n) (Live s g k v ∷ ps) pk e = ap (λ qs. Live (slot_of m) 0 k v ∷ qs) (vacated_packed (m + 1) n ps pk (omega (arith, e)))
 
   length_blank : (n : ℕ) (ps : List (Place K V)) → length (take n ps ++ blank (drop n ps)) ≡ length ps
@@ -362,6 +362,9 @@ module _ {K V : Type 0} where
   sound_cut cmp ps lower upper qs rs len used n low s lower_is upper_is lower_count upper_count low_is qs_is rs_is =
       sound_parts cmp ps lower upper (take (length (drop n ps)) no_places) (drop (length (drop n ps)) no_places) qs rs len used n low s lower_is upper_is
       (emptied_take (length (drop n ps)) no_places tt) (emptied_drop (length (drop n ps)) no_places tt) lower_count upper_count low_is qs_is rs_is
+
+  pub whole_take : (n : ℕ) (xs : List (K × V)) → n ≤ length xs → n ≡ length (take n xs)
+  whole_take n xs le = sym (length-take-le n xs le)
 
   pub low_length : (xs : List (K × V)) (low len n : ℕ) → len ≡ length xs → low ≡ min len n → low ≡ length (take n xs)
   low_length xs low len n e h = simp length-take (omega (arith, e, h))

@@ -128,7 +128,7 @@ module _ {K V : Type 0} (cmp : K → K → Ordering) (laws : IsTotalOrder cmp) (
   pub sound_place : (val : V) (ps qs : List (Place K V)) (len used at : ℕ) → IsSound cmp ps len used → used < 15 → at ≡ lesser cmp key (live_pairs ps)
       → is_some (lookup (is_at (cmp key)) (live_pairs ps)) ≡ false → length qs ≡ 15 → qs ≡ take at ps ++ pushed (Live (slot_of used) 0 key val) (drop at ps)
       → IsSound cmp qs (len + 1) (used + 1)
-      × ((f r : Bool) → cells_of qs (used + 1) f r ≡ inserted cmp key val (cells_of ps used f r))
+      × ((f r : Bool) → cells_of qs (used + 1) f false ≡ inserted cmp key val (cells_of ps used f r))
   sound_place val ps qs len used at s lt e absent count is =
       let n = below cmp key ps in
       let le : n ≤ length (live_pairs ps) = edit.below_live cmp key ps in
@@ -145,7 +145,7 @@ module _ {K V : Type 0} (cmp : K → K → Ordering) (laws : IsTotalOrder cmp) (
   pub sound_append : (val : V) (ps qs : List (Place K V)) (len used h : ℕ) → IsSound cmp ps len used → used < 15 → lesser cmp key (live_pairs ps) ≡ length (live_pairs ps)
       → h ≡ used - top ps → length qs ≡ 15 → qs ≡ take len ps ++ pushed (Live (slot_of used) h key val) (drop len ps)
       → IsSound cmp qs (len + 1) (used + 1)
-      × ((f r : Bool) → cells_of qs (used + 1) f r ≡ appended key val (cells_of ps used f r))
+      × ((f r : Bool) → cells_of qs (used + 1) f false ≡ appended key val (cells_of ps used f r))
   sound_append val ps qs len used h s lt last gap count is =
       let n = below cmp key ps in
       let end : n ≡ length (live_pairs ps) = below_lesser cmp key ps ∙ last in

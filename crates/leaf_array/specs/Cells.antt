@@ -144,9 +144,9 @@ module _ {K V : Type 0} where
         buried = fallen n a.labels a.pairs ++ a.buried;
       }
 
-  -- with a new pair behind all others, in the lowest clear bitmap place; its rank is one above that
+  -- with a new pair behind all others, in the lowest clear bitmap place; its rank is one above that, and the array isn't retired
   abbrev pub appended : K → V → Cells K V → Cells K V
-  appended key val a = record a { pairs = a.pairs ++ (key, val) ∷ []; used = a.used + 1; labels = a.labels ++ (slot_of a.used, a.used + 1) ∷ [] }
+  appended key val a = record a { pairs = a.pairs ++ (key, val) ∷ []; used = a.used + 1; retired = false; labels = a.labels ++ (slot_of a.used, a.used + 1) ∷ [] }
 
   module _ (cmp : K → K → Ordering) (key : K) where
     -- how many pairs at the front have a lesser key
@@ -158,9 +158,9 @@ module _ {K V : Type 0} where
     abbrev pub has : Cells K V → Bool
     has a = is_some (lookup (is_at (cmp key)) a.pairs)
 
-    -- with a new pair, which takes the lowest clear bitmap place
+    -- with a new pair, which takes the lowest clear bitmap place; the array isn't retired
     abbrev pub inserted : V → Cells K V → Cells K V
-    inserted val a = record a { pairs = insert_entry cmp a.pairs key val; used = a.used + 1; labels = entered 0 (lesser a.pairs) (slot_of a.used) a.labels }
+    inserted val a = record a { pairs = insert_entry cmp a.pairs key val; used = a.used + 1; retired = false; labels = entered 0 (lesser a.pairs) (slot_of a.used) a.labels }
 
     -- with a new pair for the one that has the key, whose rank it takes over
     abbrev pub replaced : V → Cells K V → Cells K V

@@ -100,11 +100,11 @@ module _ {K V : Type 0} where
   vacated (Dead s k v ∷ ps) = Dead s k v ∷ ps
   vacated (Live s g k v ∷ ps) = Empty ∷ ps
 
-  -- numbered anew from the bitmap place n on, the dead ones empty
+  -- each live place with no gap and the slot of the bitmap place that it stands at, counted from n; the others empty
   abbrev pub packed : ℕ → List (Place K V) → List (Place K V)
   packed n [] = []
-  packed n (Empty ∷ ps) = Empty ∷ packed n ps
-  packed n (Dead s k v ∷ ps) = Empty ∷ packed n ps
+  packed n (Empty ∷ ps) = Empty ∷ packed (n + 1) ps
+  packed n (Dead s k v ∷ ps) = Empty ∷ packed (n + 1) ps
   packed n (Live s g k v ∷ ps) = Live (slot_of n) 0 k v ∷ packed (n + 1) ps
 
   -- how many live places at the front stand before the one with a slot

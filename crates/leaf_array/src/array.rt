@@ -26,6 +26,7 @@ pub struct Array<K: Ord, V> {
     frozen: bool,
     retired: bool,
     slots: Slots<K, V>,
+    ghost retired_empty: { IsTrue retired → len ≡ 0 },
 }
 
 impl<K: Ord, V> Model for Array<K, V> {
@@ -78,6 +79,7 @@ impl<K: Ord, V> Array<K, V> {
         ensures used { self.now.used ≡ length self.now.pairs + length self.now.buried }
         ensures within { self.now.used ≤ 15 }
         ensures labels { length self.now.labels ≡ length self.now.pairs }
+        ensures retired { self.now.retired ≡ true → self.now.pairs ≡ [] }
     {
         usize::from(self.len)
     }
@@ -87,7 +89,7 @@ impl<K: Ord, V> Array<K, V> {
     pub fn is_empty(&self) -> bool
         ensures { result ≡ is_nil self.now.pairs }
     {
-        self.len == 0
+        self.len() == 0
     }
 
     /// Whether all fifteen places are used, or the array is retired.
@@ -98,10 +100,11 @@ impl<K: Ord, V> Array<K, V> {
         self.used == 15 || self.retired
     }
 
-    /// Whether the last pair was removed.
+    /// Whether the last pair was removed. Then there is none.
     #[inline(always)]
     pub fn is_retired(&self) -> bool
-        ensures { result ≡ self.now.retired }
+        ensures retired { result ≡ self.now.retired }
+        ensures empty { result ≡ true → self.now.pairs ≡ [] }
     {
         self.retired
     }
@@ -171,12 +174,12 @@ impl<K: Ord, V> Array<K, V> {
         ensures within { result ≤ 15 }
     {
         let _ = &self.len;
-        self.slots.rank_of(slot)
+        narrowed(self.slots.rank_of(slot))
     }
 
     /// Slot and rank of the first reachable pair above a rank.
     #[inline]
-    pub(crate) fn above(&self, rank: u8) -> Option<(u8, u8)>
+    pub(crate) fn above(&self, rank: u16) -> Option<(u8, u16)>
         ensures { result ≡ first_above rank self.now.labels }
     {
         let _ = &self.len;
@@ -185,7 +188,7 @@ impl<K: Ord, V> Array<K, V> {
 
     /// Slot and rank of the last reachable pair below a rank, or of the last one of all if that is 0.
     #[inline]
-    pub(crate) fn under(&self, rank: u8) -> Option<(u8, u8)>
+    pub(crate) fn under(&self, rank: u16) -> Option<(u8, u16)>
         ensures label { result ≡ last_below rank self.now.labels }
         ensures ranked { IfSome result (λ l. 0 < l.1) }
     {
@@ -208,7 +211,7 @@ impl<K: Ord, V> Array<K, V> {
         ensures rank { result ≡ rank_in slot (entered 0 at (slot_of self.now.used) self.now.labels) }
         ensures within { result ≤ 15 }
     {
-        self.slots.rank_beside(at, slot_of(self.used), slot)
+        narrowed(self.slots.rank_beside(at, slot_of(self.used), slot))
     }
 
     /// How many reachable pairs come before the one in this slot.
@@ -244,7 +247,7 @@ impl<K: Ord, V> Array<K, V> {
         self.slots.find(key)
     }
 
-    /// Puts a new pair in at `at`.
+    /// Puts a new pair in at `at`. A retired array is so no more.
     #[inline(always)]
     pub(crate) fn place(&mut self, at: usize, key: K, val: V)
         requires room { self.old.used < 15 }
@@ -264,16 +267,17 @@ impl<K: Ord, V> Array<K, V> {
         );
         self.len += 1;
         self.used += 1;
+        self.retired = false;
     }
 
-    /// Puts a new pair in behind all others, with a rank one above its bitmap place.
+    /// Puts a new pair in behind all others, with a rank one above its bitmap place. A retired array is so no more.
     pub(crate) fn append(&mut self, key: K, val: V)
         requires room { self.old.used < 15 }
         requires last { lesser K.cmp key self.old.pairs ≡ length self.old.pairs }
         ensures { self.new ≡ appended key val self.old }
     {
         let slot = slot_of(self.used);
-        let gap = self.used - self.slots.top();
+        let gap = u16::from(self.used) - self.slots.top();
         self.slots.insert(
             usize::from(self.len),
             Place::Live {
@@ -285,6 +289,7 @@ impl<K: Ord, V> Array<K, V> {
         );
         self.len += 1;
         self.used += 1;
+        self.retired = false;
     }
 
     /// Puts a pair in the place of the one at `at`, which has its key.
@@ -386,6 +391,32 @@ impl<K: Ord, V> Array<K, V> {
         }
     }
 
+    /// Moves the pairs behind the first `at` to an array of their own. Both are packed.
+    pub fn split_off(&mut self, at: usize) -> Self
+    where
+        K: Drop,
+        V: Drop,
+        requires { at ≤ length self.old.pairs }
+        ensures lower { self.new ≡ filled self.old.frozen (take at self.old.pairs) }
+        ensures upper { result ≡ filled false (drop at self.old.pairs) }
+    {
+        let mut slots = self.slots.cut(at);
+        slots.renumber();
+        self.slots.renumber();
+        let low = at as u8;
+        let len = self.len - low;
+        self.len = low;
+        self.used = low;
+        self.retired = false;
+        Array {
+            len,
+            used: len,
+            frozen: false,
+            retired: false,
+            slots,
+        }
+    }
+
     /// Takes the greatest pair out of the array, which is packed then.
     pub fn pop_last(&mut self) -> Option<(K, V)>
     where
@@ -406,9 +437,10 @@ impl<K: Ord, V> Array<K, V> {
     }
 
     /// Inserts a pair, and where `UPSERT` is true puts it in the place of the one that has its key.
-    #[inline]
+    #[inline(always)]
     pub fn insert<const UPSERT: bool>(&mut self, key: K, val: V) -> InsertResult<K, V>
         ensures full { IsFull result ↔ IsTrue (is_refused UPSERT K.cmp key self.old) }
+        ensures absent { IsFull result → UPSERT ≡ false → self.old.frozen ≡ false → has K.cmp key self.old ≡ false }
         ensures duplicate { IsDuplicate result ↔ IsTrue (is_repeated UPSERT K.cmp key self.old) }
         ensures back { IfSome (given_back result) (λ p. p ≡ (key, val)) }
         ensures kept { IsSome (given_back result) → self.new ≡ self.old }
@@ -467,6 +499,15 @@ impl<K: Ord, V> Array<K, V> {
             RemoveResult::Success
         }
     }
+}
+
+/// A rank in a byte.
+#[inline(always)]
+fn narrowed(rank: u16) -> u8
+    requires { rank ≤ 15 }
+    ensures { result ≡ rank }
+{
+    rank as u8
 }
 
 /// Whether an array with `len` pairs is retired after a removal.

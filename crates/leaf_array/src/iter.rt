@@ -12,7 +12,7 @@ use std::marker::Model;
 pub struct ArrayIter<'a, K: Ord, V> {
     array: &'a Array<K, V>,
     word: usize,
-    rank: u8,
+    rank: u16,
 }
 
 impl<'a, K: Ord, V> Model for ArrayIter<'a, K, V> {
@@ -97,7 +97,7 @@ impl<'a, K: Ord, V> Iterator for ArrayIter<'a, K, V> {
 pub struct ArrayRevIter<'a, K: Ord, V> {
     array: &'a Array<K, V>,
     word: usize,
-    rank: u8,
+    rank: u16,
 }
 
 impl<'a, K: Ord, V> Model for ArrayRevIter<'a, K, V> {

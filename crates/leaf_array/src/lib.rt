@@ -6,7 +6,7 @@
 //!
 //! An [`Array`] has fifteen places. Its reachable pairs stand there by rising keys, so a search is a
 //! handful of comparisons and an insertion moves what is greater up by one. A pair that is removed
-//! or replaced keeps its place, its slot and its bit until the array is packed, halved or dropped:
+//! or replaced keeps its place, its slot and its bit until the array is packed, cut or dropped:
 //! so an array with few pairs can be full. Each place has a slot, which is given out in the order of
 //! insertion, and each reachable one a rank, which rises with the keys. The word of ranks by slots
 //! is worked out where a call asks for it.

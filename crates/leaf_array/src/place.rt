@@ -1,10 +1,10 @@
 //! A place of an array, and the one comparison of keys.
 
-ghost use Rattle.std.specs.Prelude.{◌≡◌, ◌+◌, ◌<◌, ◌≤◌, ◌∷◌, ◌↔◌, [], List, Some, IsSome, IsTrue};
+ghost use Rattle.std.specs.Prelude.{◌≡◌, ◌+◌, ◌<◌, ◌≤◌, ◌∷◌, ◌↔◌, [], List, Some, None, IsSome, IsTrue, MatchOption};
 ghost use Rattle.leaf_array.specs.declared.place.Place.{Place};
 ghost use Rattle.leaf_array.specs.declared.place.Place.TheVariants.{Empty};
 ghost use Rattle.leaf_array.specs.Cells.{slot_of};
-ghost use Rattle.leaf_array.specs.Places.{top, widened, below, live_pair, died, renewed, vacated};
+ghost use Rattle.leaf_array.specs.Places.{top, widened, below, live_pair, died, renewed, vacated, packed, pair_at_slot};
 
 use std::cmp::Ordering;
 use std::mem;
@@ -12,11 +12,21 @@ use std::mem;
 /// A place of an array.
 ///
 /// A live pair can be reached, and `gap` ranks below its own are taken by no other. A dead one was removed or replaced.
+// A gap has two bytes, so that no odd number of bytes is left over, which copies would go through one by one.
 #[derive(Drop)]
 pub(crate) enum Place<K, V> {
     Empty,
-    Dead { slot: u8, key: K, value: V },
-    Live { slot: u8, gap: u8, key: K, value: V },
+    Dead {
+        slot: u8,
+        key: K,
+        value: V,
+    },
+    Live {
+        slot: u8,
+        gap: u16,
+        key: K,
+        value: V,
+    },
 }
 
 /// The one comparison of keys. Every search is made of it.
@@ -55,7 +65,7 @@ pub(crate) fn fill<K, V>(place: &mut Place<K, V>, with: Place<K, V>)
 
 /// The place with `more` ranks more below its own, if it is live.
 #[inline(always)]
-pub(crate) fn widened<K, V>(place: Place<K, V>, more: u8) -> Place<K, V>
+pub(crate) fn widened<K, V>(place: Place<K, V>, more: u16) -> Place<K, V>
     requires { top (place ∷ []) + more ≤ 15 }
     ensures { result ∷ [] ≡ widened more (place ∷ []) }
 {
@@ -82,6 +92,38 @@ pub(crate) fn precedes<K: Ord, V>(place: &Place<K, V>, key: &K) -> bool
     match place {
         Place::Live { key: stored, .. } => compare(stored, key) == Ordering::Less,
         _ => false,
+    }
+}
+
+/// The pair of a live place.
+#[inline(always)]
+pub(crate) fn pair_of<K, V>(place: &Place<K, V>) -> Option<(&K, &V)>
+    ensures { MatchOption result (live_pair place.now ≡ None) (λ e. live_pair place.now ≡ Some (e.0.now, e.1.now)) }
+{
+    match place {
+        Place::Live { key, value, .. } => Some((key, value)),
+        _ => None,
+    }
+}
+
+/// The pair of a place that has this slot, dead or alive.
+#[inline(always)]
+pub(crate) fn pair_in_slot<K, V>(place: &Place<K, V>, slot: u8) -> Option<(&K, &V)>
+    ensures { (rest : List (Place K V)) → MatchOption result (pair_at_slot slot (place.now ∷ rest) ≡ pair_at_slot slot rest) (λ e. pair_at_slot slot (place.now ∷ rest) ≡ Some (e.0.now, e.1.now)) }
+{
+    match place {
+        Place::Live {
+            slot: own,
+            key,
+            value,
+            ..
+        } if *own == slot => Some((key, value)),
+        Place::Dead {
+            slot: own,
+            key,
+            value,
+        } if *own == slot => Some((key, value)),
+        _ => None,
     }
 }
 
@@ -115,6 +157,23 @@ pub(crate) fn renew<K, V>(place: &mut Place<K, V>, slot: u8, key: K, value: V) -
             }
         },
         _ => unreachable!(),
+    }
+}
+
+/// Gives a live place the slot of a bitmap place and no gap. A dead pair is dropped.
+#[inline(always)]
+pub(crate) fn renumber<K: Drop, V: Drop>(place: &mut Place<K, V>, bitmap: u8)
+    requires { bitmap < 15 }
+    ensures { (rest : List (Place K V)) → place.new ∷ packed (bitmap + 1) rest ≡ packed bitmap (place.old ∷ rest) }
+{
+    match place {
+        Place::Live { slot, gap, .. } => {
+            *slot = slot_of(bitmap);
+            *gap = 0;
+        },
+        _ => {
+            let _dead = mem::replace(place, Place::Empty);
+        },
     }
 }
 

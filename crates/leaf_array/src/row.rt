@@ -8,7 +8,7 @@ ghost use Rattle.leaf_array.specs.declared.place.Place.TheVariants.{Empty};
 ghost use Rattle.leaf_array.specs.Cells.{rank_in, first_above, last_below, entered};
 ghost use Rattle.leaf_array.specs.Places.{live_pair, labels_above, top, has_room, pushed, sunk, buried, renewed, died, vacated, packed, pair_at_slot, stands, below, least};
 
-use crate::place::{Place, compare, fill, renew, slot_of, vacate, widened};
+use crate::place::{Place, compare, fill, pair_in_slot, pair_of, renew, renumber, vacate, widened};
 use std::cmp::Ordering;
 use std::mem;
 
@@ -36,27 +36,27 @@ pub(crate) trait Row<K: Ord, V> {
         ensures pair { MatchOption result.1 (least K.cmp key.now (places self.now) ≡ None) (λ e. least K.cmp key.now (places self.now) ≡ Some (e.0.now, e.1.now)) };
 
     /// The rank of the live place with this slot, 0 if none has it, where those before the row go up to `low`.
-    fn rank_of(&self, slot: u8, low: u8) -> u8
+    fn rank_of(&self, slot: u8, low: u16) -> u16
         requires { low + top (places self.now) ≤ 15 }
         ensures { result ≡ rank_in slot (labels_above low (places self.now)) };
 
     /// Slot and rank of the first live place above a rank, where those before the row go up to `low`.
-    fn above(&self, rank: u8, low: u8) -> Option<(u8, u8)>
+    fn above(&self, rank: u16, low: u16) -> Option<(u8, u16)>
         requires { low + top (places self.now) ≤ 15 }
         ensures { result ≡ first_above rank (labels_above low (places self.now)) };
 
     /// Slot and rank of the last live place below a rank, or of the last one of all if that is 0.
-    fn under(&self, rank: u8, low: u8) -> Option<(u8, u8)>
+    fn under(&self, rank: u16, low: u16) -> Option<(u8, u16)>
         requires { low + top (places self.now) ≤ 15 }
         ensures { result ≡ last_below rank (labels_above low (places self.now)) };
 
     /// The rank of the last live place, where those before the row go up to `low`.
-    fn top(&self, low: u8) -> u8
+    fn top(&self, low: u16) -> u16
         requires { low + top (places self.now) ≤ 15 }
         ensures { result ≡ low + top (places self.now) };
 
     /// The rank that a slot would have if a live place with the slot `fresh` came in at `at`, where those before the row go up to `low`.
-    fn rank_beside(&self, at: usize, fresh: u8, slot: u8, low: u8) -> u8
+    fn rank_beside(&self, at: usize, fresh: u8, slot: u8, low: u16) -> u16
         requires { low + top (places self.now) < 15 }
         ensures { result ≡ rank_in slot (entered low at fresh (labels_above low (places self.now))) };
 
@@ -95,6 +95,12 @@ pub(crate) trait Row<K: Ord, V> {
         ensures old { result ≡ died (drop at (places self.old)) }
         ensures new { places self.new ≡ take at (places self.old) ++ renewed slot key value (drop at (places self.old)) };
 
+    /// Puts a place where the one at `at` is, and gives that one.
+    fn put(&mut self, at: usize, place: Place<K, V>) -> Place<K, V>
+        requires { at < length (places self.old) }
+        ensures old { result ≡ slice_index_or (places self.old) at Empty }
+        ensures new { places self.new ≡ take at (places self.old) ++ place ∷ drop (at + 1) (places self.old) };
+
     /// Takes the pair of the live place `at` out.
     fn vacate(&mut self, at: usize) -> (K, V)
         requires { IsSome (live_pair (slice_index_or (places self.old) at Empty)) }
@@ -130,10 +136,7 @@ impl<K: Ord, V> Row<K, V> for Last<K, V> {
 
     #[inline(always)]
     fn pair(&self, at: usize) -> Option<(&K, &V)> {
-        match &self.head {
-            Place::Live { key, value, .. } => Some((key, value)),
-            _ => None,
-        }
+        pair_of(&self.head)
     }
 
     #[inline(always)]
@@ -155,7 +158,7 @@ impl<K: Ord, V> Row<K, V> for Last<K, V> {
     }
 
     #[inline(always)]
-    fn rank_of(&self, slot: u8, low: u8) -> u8 {
+    fn rank_of(&self, slot: u8, low: u16) -> u16 {
         match &self.head {
             Place::Live { slot: own, gap, .. } if *own == slot => low + *gap + 1,
             _ => 0,
@@ -163,7 +166,7 @@ impl<K: Ord, V> Row<K, V> for Last<K, V> {
     }
 
     #[inline(always)]
-    fn above(&self, rank: u8, low: u8) -> Option<(u8, u8)> {
+    fn above(&self, rank: u16, low: u16) -> Option<(u8, u16)> {
         match &self.head {
             Place::Live { slot, gap, .. } => {
                 let own = low + *gap + 1;
@@ -174,7 +177,7 @@ impl<K: Ord, V> Row<K, V> for Last<K, V> {
     }
 
     #[inline(always)]
-    fn under(&self, rank: u8, low: u8) -> Option<(u8, u8)> {
+    fn under(&self, rank: u16, low: u16) -> Option<(u8, u16)> {
         match &self.head {
             Place::Live { slot, gap, .. } => {
                 let own = low + *gap + 1;
@@ -188,7 +191,7 @@ impl<K: Ord, V> Row<K, V> for Last<K, V> {
     }
 
     #[inline(always)]
-    fn top(&self, low: u8) -> u8 {
+    fn top(&self, low: u16) -> u16 {
         match &self.head {
             Place::Live { gap, .. } => low + *gap + 1,
             _ => low,
@@ -197,7 +200,7 @@ impl<K: Ord, V> Row<K, V> for Last<K, V> {
 
     #[inline(always)]
     #[tactic(auto, using(crate::proofs::EditLemmas::labels_higher))]
-    fn rank_beside(&self, at: usize, fresh: u8, slot: u8, low: u8) -> u8 {
+    fn rank_beside(&self, at: usize, fresh: u8, slot: u8, low: u16) -> u16 {
         if at > 1 {
             return Row::<K, V>::rank_of(self, slot, low);
         }
@@ -233,20 +236,7 @@ impl<K: Ord, V> Row<K, V> for Last<K, V> {
 
     #[inline(always)]
     fn in_slot(&self, slot: u8) -> Option<(&K, &V)> {
-        match &self.head {
-            Place::Live {
-                slot: own,
-                key,
-                value,
-                ..
-            } if *own == slot => Some((key, value)),
-            Place::Dead {
-                slot: own,
-                key,
-                value,
-            } if *own == slot => Some((key, value)),
-            _ => None,
-        }
+        pair_in_slot(&self.head, slot)
     }
 
     #[inline(always)]
@@ -304,6 +294,15 @@ impl<K: Ord, V> Row<K, V> for Last<K, V> {
     }
 
     #[inline(always)]
+    fn put(&mut self, at: usize, place: Place<K, V>) -> Place<K, V>
+        requires { at < length (self.old.head ∷ []) }
+        ensures old { result ≡ slice_index_or (self.old.head ∷ []) at Empty }
+        ensures new { self.new.head ∷ [] ≡ take at (self.old.head ∷ []) ++ place ∷ drop (at + 1) (self.old.head ∷ []) }
+    {
+        mem::replace(&mut self.head, place)
+    }
+
+    #[inline(always)]
     fn vacate(&mut self, at: usize) -> (K, V)
         requires { IsSome (live_pair (slice_index_or (self.old.head ∷ []) at Empty)) }
         ensures pair { Some result ≡ live_pair (slice_index_or (self.old.head ∷ []) at Empty) }
@@ -335,10 +334,7 @@ impl<K: Ord, V, R: Row<K, V>> Row<K, V> for Link<K, V, R> {
     #[inline(always)]
     fn pair(&self, at: usize) -> Option<(&K, &V)> {
         if at == 0 {
-            return match &self.head {
-                Place::Live { key, value, .. } => Some((key, value)),
-                _ => None,
-            };
+            return pair_of(&self.head);
         }
         self.rest.pair(at - 1)
     }
@@ -362,7 +358,7 @@ impl<K: Ord, V, R: Row<K, V>> Row<K, V> for Link<K, V, R> {
     }
 
     #[inline(always)]
-    fn rank_of(&self, slot: u8, low: u8) -> u8 {
+    fn rank_of(&self, slot: u8, low: u16) -> u16 {
         match &self.head {
             Place::Live { slot: own, gap, .. } => {
                 let rank = low + *gap + 1;
@@ -377,7 +373,7 @@ impl<K: Ord, V, R: Row<K, V>> Row<K, V> for Link<K, V, R> {
     }
 
     #[inline(always)]
-    fn above(&self, rank: u8, low: u8) -> Option<(u8, u8)> {
+    fn above(&self, rank: u16, low: u16) -> Option<(u8, u16)> {
         match &self.head {
             Place::Live { slot, gap, .. } => {
                 let own = low + *gap + 1;
@@ -392,7 +388,7 @@ impl<K: Ord, V, R: Row<K, V>> Row<K, V> for Link<K, V, R> {
     }
 
     #[inline(always)]
-    fn under(&self, rank: u8, low: u8) -> Option<(u8, u8)> {
+    fn under(&self, rank: u16, low: u16) -> Option<(u8, u16)> {
         match &self.head {
             Place::Live { slot, gap, .. } => {
                 let own = low + *gap + 1;
@@ -410,24 +406,14 @@ impl<K: Ord, V, R: Row<K, V>> Row<K, V> for Link<K, V, R> {
 
     #[inline(always)]
     fn in_slot(&self, slot: u8) -> Option<(&K, &V)> {
-        match &self.head {
-            Place::Live {
-                slot: own,
-                key,
-                value,
-                ..
-            } if *own == slot => Some((key, value)),
-            Place::Dead {
-                slot: own,
-                key,
-                value,
-            } if *own == slot => Some((key, value)),
-            _ => self.rest.in_slot(slot),
+        match pair_in_slot(&self.head, slot) {
+            Some(pair) => Some(pair),
+            None => self.rest.in_slot(slot),
         }
     }
 
     #[inline(always)]
-    fn top(&self, low: u8) -> u8 {
+    fn top(&self, low: u16) -> u16 {
         match &self.head {
             Place::Live { gap, .. } => self.rest.top(low + *gap + 1),
             _ => low,
@@ -436,7 +422,7 @@ impl<K: Ord, V, R: Row<K, V>> Row<K, V> for Link<K, V, R> {
 
     #[inline(always)]
     #[tactic(auto, using(crate::proofs::EditLemmas::labels_higher))]
-    fn rank_beside(&self, at: usize, fresh: u8, slot: u8, low: u8) -> u8 {
+    fn rank_beside(&self, at: usize, fresh: u8, slot: u8, low: u16) -> u16 {
         if at > 0 {
             return match &self.head {
                 Place::Live { slot: own, gap, .. } => {
@@ -534,6 +520,18 @@ impl<K: Ord, V, R: Row<K, V>> Row<K, V> for Link<K, V, R> {
     }
 
     #[inline(always)]
+    fn put(&mut self, at: usize, place: Place<K, V>) -> Place<K, V>
+        requires { at < length (self.old.head ∷ R.places self.old.rest) }
+        ensures old { result ≡ slice_index_or (self.old.head ∷ R.places self.old.rest) at Empty }
+        ensures new { self.new.head ∷ R.places self.new.rest ≡ take at (self.old.head ∷ R.places self.old.rest) ++ place ∷ drop (at + 1) (self.old.head ∷ R.places self.old.rest) }
+    {
+        if at > 0 {
+            return self.rest.put(at - 1, place);
+        }
+        mem::replace(&mut self.head, place)
+    }
+
+    #[inline(always)]
     fn vacate(&mut self, at: usize) -> (K, V)
         requires { IsSome (live_pair (slice_index_or (self.old.head ∷ R.places self.old.rest) at Empty)) }
         ensures pair { Some result ≡ live_pair (slice_index_or (self.old.head ∷ R.places self.old.rest) at Empty) }
@@ -552,7 +550,7 @@ pub(crate) trait Renumber<K: Ord + Drop, V: Drop> {
 
     ghost places: { Self → List (Place K V) };
 
-    /// Drops the dead pairs, and gives the live ones the slots from the bitmap place `from` on, without gaps.
+    /// Drops the dead pairs, and gives the live ones the slots of the bitmap places from `from` on, without gaps.
     fn renumber(&mut self, from: u8)
         requires { from + length (places self.old) ≤ 15 }
         ensures { places self.new ≡ packed from (places self.old) };
@@ -565,23 +563,7 @@ impl<K: Ord + Drop, V: Drop> Renumber<K, V> for Last<K, V> {
 
     #[inline(always)]
     fn renumber(&mut self, from: u8) {
-        match mem::replace(&mut self.head, Place::Empty) {
-            Place::Live {
-                slot: _,
-                gap: _,
-                key,
-                value,
-            } => fill(
-                &mut self.head,
-                Place::Live {
-                    slot: slot_of(from),
-                    gap: 0,
-                    key,
-                    value,
-                },
-            ),
-            _ => {},
-        }
+        renumber(&mut self.head, from);
     }
 }
 
@@ -592,26 +574,8 @@ impl<K: Ord + Drop, V: Drop, R: Renumber<K, V>> Renumber<K, V> for Link<K, V, R>
 
     #[inline(always)]
     fn renumber(&mut self, from: u8) {
-        match mem::replace(&mut self.head, Place::Empty) {
-            Place::Live {
-                slot: _,
-                gap: _,
-                key,
-                value,
-            } => {
-                fill(
-                    &mut self.head,
-                    Place::Live {
-                        slot: slot_of(from),
-                        gap: 0,
-                        key,
-                        value,
-                    },
-                );
-                self.rest.renumber(from + 1);
-            },
-            _ => self.rest.renumber(from),
-        }
+        renumber(&mut self.head, from);
+        self.rest.renumber(from + 1);
     }
 }
 

@@ -89,7 +89,7 @@ impl<K: Ord, V> Slots<K, V> {
     }
 
     #[inline(always)]
-    pub(crate) fn rank_of(&self, slot: u8) -> u8
+    pub(crate) fn rank_of(&self, slot: u8) -> u16
         requires { top self.now ≤ 15 }
         ensures { result ≡ rank_in slot (labels_above 0 self.now) }
     {
@@ -97,7 +97,7 @@ impl<K: Ord, V> Slots<K, V> {
     }
 
     #[inline(always)]
-    pub(crate) fn above(&self, rank: u8) -> Option<(u8, u8)>
+    pub(crate) fn above(&self, rank: u16) -> Option<(u8, u16)>
         requires { top self.now ≤ 15 }
         ensures { result ≡ first_above rank (labels_above 0 self.now) }
     {
@@ -105,7 +105,7 @@ impl<K: Ord, V> Slots<K, V> {
     }
 
     #[inline(always)]
-    pub(crate) fn under(&self, rank: u8) -> Option<(u8, u8)>
+    pub(crate) fn under(&self, rank: u16) -> Option<(u8, u16)>
         requires { top self.now ≤ 15 }
         ensures { result ≡ last_below rank (labels_above 0 self.now) }
     {
@@ -114,7 +114,7 @@ impl<K: Ord, V> Slots<K, V> {
 
     /// The rank of the last live place, 0 if there is none.
     #[inline(always)]
-    pub(crate) fn top(&self) -> u8
+    pub(crate) fn top(&self) -> u16
         requires { top self.now ≤ 15 }
         ensures { result ≡ top self.now }
     {
@@ -123,7 +123,7 @@ impl<K: Ord, V> Slots<K, V> {
 
     /// The rank that a slot would have if a live place with the slot `fresh` came in at `at`.
     #[inline(always)]
-    pub(crate) fn rank_beside(&self, at: usize, fresh: u8, slot: u8) -> u8
+    pub(crate) fn rank_beside(&self, at: usize, fresh: u8, slot: u8) -> u16
         requires { top self.now < 15 }
         ensures { result ≡ rank_in slot (entered 0 at fresh (labels_above 0 self.now)) }
     {
@@ -184,7 +184,40 @@ impl<K: Ord, V> Slots<K, V> {
         self.all.vacate(at)
     }
 
+    fn put(&mut self, at: usize, place: Place<K, V>) -> Place<K, V>
+        requires { at < 15 }
+        ensures count { length self.new ≡ 15 }
+        ensures old { result ≡ slice_index_or self.old at Empty }
+        ensures places { self.new ≡ take at self.old ++ place ∷ drop (at + 1) self.old }
+    {
+        self.all.put(at, place)
+    }
+
+    /// Moves the places from `at` on to the front of other ones.
+    pub(crate) fn cut(&mut self, at: usize) -> Self
+        requires within { at ≤ 15 }
+        requires count { length self.old ≡ 15 }
+        ensures lower_count { length self.new ≡ 15 }
+        ensures upper_count { length result ≡ 15 }
+        ensures lower { self.new ≡ take at self.old ++ take (length (drop at self.old)) no_places }
+        ensures upper { result ≡ drop at self.old ++ drop (length (drop at self.old)) no_places }
+    {
+        let mut upper = Slots::new();
+        let mut from = at;
+        while from < 15 {
+            let place = self.put(from, Place::Empty);
+            match upper.put(from - at, place) {
+                Place::Empty => {},
+                _ => unreachable!(),
+            }
+            from += 1;
+        }
+        upper
+    }
+
     /// Drops the dead pairs, and gives the live ones the lowest slots.
+    // Out of line, or a caller that has the places by value works on copies of them.
+    #[inline(never)]
     pub(crate) fn renumber(&mut self)
     where
         K: Drop,
@@ -196,15 +229,16 @@ impl<K: Ord, V> Slots<K, V> {
     }
 
     /// Moves the eight lower places out, and the others down.
-    #[inline]
+    #[inline(never)]
     pub(crate) fn split_half(&mut self) -> Self
         ensures mine_count { length self.new ≡ 15 }
         ensures lower_count { length result ≡ 15 }
         ensures mine { self.new ≡ drop 8 self.old ++ Empty ∷ no_half }
         ensures lower { result ≡ take 8 self.old ++ no_half }
     {
-        let mut upper = Slots::new();
-        self.all
+        let mut lower = mem::replace(self, Slots::new());
+        lower
+            .all
             .rest
             .rest
             .rest
@@ -213,7 +247,7 @@ impl<K: Ord, V> Slots<K, V> {
             .rest
             .rest
             .rest
-            .exchange(&mut upper.all);
-        mem::replace(self, upper)
+            .exchange(&mut self.all);
+        lower
     }
 }

@@ -116,26 +116,47 @@ fn an_array_without_its_last_pair_retires(rt: HostRuntime) {
     assert_eq!(rt; answer(array.insert::<false>(5, 5)), 0);
 }
 
-#[test]
-fn text_keys_are_ordered_as_text(rt: HostRuntime) {
-    let mut array: Array<&str, &str> = Array::new();
-    for key in [
-        "M", "G", "0", "1", "2", "3", "4", "5", "6", "7", "8", "9", "10", "11", "12",
-    ] {
-        assert_eq!(rt; answer(array.insert::<false>(key, key)), 0);
+/// A text that comes first, one that comes last, and the numbers in their order as texts.
+const TEXTS: [&str; 15] = [
+    "M", "G", "0", "1", "2", "3", "4", "5", "6", "7", "8", "9", "10", "11", "12",
+];
+
+/// An array of these texts, each its own value.
+fn texts() -> Array<&'static str, &'static str> {
+    let mut array = Array::new();
+    for text in &TEXTS {
+        let _ = answer(array.insert::<false>(*text, *text));
     }
+    array
+}
+
+/// Removes texts whose value is themselves, and gives how many of the removals answered Success.
+fn without(array: &mut Array<&'static str, &'static str>, gone: &[&'static str]) -> u8 {
+    let mut count: u8 = 0;
+    for text in gone {
+        if array.remove_if(text, |value| *value == *text) == RemoveResult::Success {
+            count = count.saturating_add(1);
+        }
+    }
+    count
+}
+
+#[test]
+fn a_full_array_gives_a_pair_back(rt: HostRuntime) {
+    let mut array = texts();
+    assert_eq!(rt; array.len(), 15);
     match array.insert::<false>("13", "13") {
         InsertResult::Full(key, value) => assert_eq!(rt; (key, value), ("13", "13")),
         _ => assert!(rt; false),
     }
     assert_eq!(rt; array.remove_if(&"0", |_| false), RemoveResult::Fail);
     assert_eq!(rt; array.remove_if(&"13", |_| true), RemoveResult::Fail);
-    for key in ["10", "11", "12", "G", "M"] {
-        assert_eq!(rt;
-            array.remove_if(&key, |value| *value == key),
-            RemoveResult::Success
-        );
-    }
+}
+
+#[test]
+fn text_keys_are_ordered_as_text(rt: HostRuntime) {
+    let mut array = texts();
+    assert_eq!(rt; without(&mut array, &["10", "11", "12", "G", "M"]), 5);
     assert_eq!(rt; answer(array.insert::<false>("1", "1")), 1);
     assert_eq!(rt; answer(array.insert::<false>("100", "100")), 2);
     assert_eq!(rt; array.len(), 10);
@@ -183,22 +204,52 @@ fn a_new_pair_pushes_the_greater_ranks_up(rt: HostRuntime) {
     assert_eq!(rt; array.lower_bound(&31), (3, None));
 }
 
+/// The keys in their order, each a hexadecimal digit.
+fn digits(array: &Array<u64, u64>) -> u64 {
+    array.fold(
+        0u64,
+        |made, key, _| made.wrapping_mul(16).wrapping_add(*key),
+    )
+}
+
 #[test]
 fn an_array_is_halved_by_moves(rt: HostRuntime) {
     let mut upper = reversed(&ASCENDING);
     assert_eq!(rt; upper.remove_if(&9, |_| true), RemoveResult::Success);
-    let mut lower = upper.split_half();
-    assert_eq!(rt; lower.len(), 8);
-    assert_eq!(rt; upper.len(), 6);
-    assert_eq!(rt; lower.pair(7), Some((&7, &7)));
-    assert_eq!(rt; lower.pair(8), None);
-    assert_eq!(rt; upper.pair(0), Some((&8, &8)));
-    assert_eq!(rt; upper.pair(1), Some((&10, &10)));
-    assert_eq!(rt; upper.pair(15), None);
+    let lower = upper.split_half();
+    assert_eq!(rt; (lower.len(), upper.len()), (8, 6));
+    assert_eq!(rt; (digits(&lower), digits(&upper)), (0x01234567, 0x8ABCDE));
     assert_eq!(rt; upper.metadata(), 0x6503214);
-    assert_eq!(rt; lower.pop_last(), Some((7, 7)));
-    assert_eq!(rt; lower.len(), 7);
-    assert_eq!(rt; holding(&[]).pop_last(), None);
+}
+
+#[test]
+fn an_array_is_cut_at_each_boundary(rt: HostRuntime) {
+    let left: [u64; 14] = [0, 1, 2, 3, 4, 5, 6, 7, 8, 10, 11, 12, 13, 14];
+    for at in 0..15usize {
+        let mut lower = reversed(&ASCENDING);
+        assert_eq!(rt; lower.remove_if(&9, |_| true), RemoveResult::Success);
+        if at <= lower.len() {
+            let upper = lower.split_off(at);
+            // both are as if their keys had come by themselves, in their order
+            let (first, rest) = left.split_at(at.min(14));
+            assert_eq!(rt; digits(&lower), digits(&holding(first)));
+            assert_eq!(rt; lower.metadata(), holding(first).metadata());
+            assert_eq!(rt; digits(&upper), digits(&holding(rest)));
+            assert_eq!(rt; upper.metadata(), holding(rest).metadata());
+        }
+    }
+}
+
+#[test]
+fn the_greatest_pair_is_taken_out(rt: HostRuntime) {
+    let mut array = holding(&[3, 1, 2]);
+    assert_eq!(rt; array.remove_if(&2, |_| true), RemoveResult::Success);
+    assert_eq!(rt; array.pop_last(), Some((3, 3)));
+    assert_eq!(rt; array.pair(0), Some((&1, &1)));
+    assert_eq!(rt; array.pair(1), None);
+    assert_eq!(rt; array.pair(15), None);
+    assert_eq!(rt; array.pop_last(), Some((1, 1)));
+    assert_eq!(rt; array.pop_last(), None);
 }
 
 #[test]
@@ -233,33 +284,61 @@ fn a_range_of_all_keys_retires(rt: HostRuntime) {
     assert!(rt; !none.is_retired());
 }
 
+/// The slots of an iterator by rising rank, each a hexadecimal digit.
+fn rising(array: &Array<&'static str, &'static str>) -> u64 {
+    let mut slots: u64 = 0;
+    for slot in ArrayIter::new(array) {
+        slots = slots.wrapping_mul(16).wrapping_add(u64::from(slot));
+    }
+    slots
+}
+
+/// The slots of an iterator by falling rank.
+fn falling(array: &Array<&'static str, &'static str>) -> u64 {
+    let mut slots: u64 = 0;
+    for slot in ArrayRevIter::new(array) {
+        slots = slots.wrapping_mul(16).wrapping_add(u64::from(slot));
+    }
+    slots
+}
+
 #[test]
 fn iterators_follow_the_ranks(rt: HostRuntime) {
-    let mut array: Array<&str, &str> = Array::new();
-    for key in [
-        "M", "G", "0", "1", "2", "3", "4", "5", "6", "7", "8", "9", "10", "11", "12",
-    ] {
-        assert_eq!(rt; answer(array.insert::<false>(key, key)), 0);
-    }
-    for key in ["10", "11", "12", "G", "M"] {
-        assert_eq!(rt; array.remove_if(&key, |_| true), RemoveResult::Success);
-    }
+    let mut array = texts();
+    assert_eq!(rt; without(&mut array, &["10", "11", "12", "G", "M"]), 5);
+    // the slots of "0" to "9"
+    assert_eq!(rt; rising(&array), 0x3056749AB8);
+    assert_eq!(rt; falling(&array), 0x8BA9476503);
+}
+
+#[test]
+fn an_iterator_at_its_end_stays(rt: HostRuntime) {
+    let array = holding(&[10, 20, 30]);
     let mut rising = ArrayIter::new(&array);
     assert_eq!(rt; rising.metadata(), array.metadata());
-    for slot in [3u8, 0, 5, 6, 7, 4, 9, 10, 11, 8] {
-        assert_eq!(rt; rising.next(), Some(slot));
+    for slot in [Some(1u8), Some(2), Some(3), None, None] {
+        assert_eq!(rt; rising.next(), slot);
     }
-    assert_eq!(rt; rising.next(), None);
-    assert_eq!(rt; rising.next(), None);
-    let mut falling = rising.clone().rev();
-    assert_eq!(rt; falling.metadata(), array.metadata());
-    assert_eq!(rt; falling.next(), Some(11));
-    falling.rewind();
-    assert_eq!(rt; falling.next(), Some(8));
-    assert_eq!(rt; falling.clone().rev().next(), None);
     rising.rewind();
+    assert_eq!(rt; rising.next(), Some(1));
+    let mut falling = ArrayRevIter::new(&array);
+    assert_eq!(rt; falling.metadata(), array.metadata());
+    for slot in [Some(3u8), Some(2), Some(1), None, None] {
+        assert_eq!(rt; falling.next(), slot);
+    }
+    falling.rewind();
+    assert_eq!(rt; falling.next(), Some(3));
+}
+
+#[test]
+fn an_iterator_turns_at_its_rank(rt: HostRuntime) {
+    let array = holding(&[10, 20, 30]);
+    let mut rising = ArrayIter::new(&array);
+    assert_eq!(rt; (rising.next(), rising.next()), (Some(1), Some(2)));
+    let mut falling = rising.clone().rev();
+    assert_eq!(rt; falling.next(), Some(1));
+    assert_eq!(rt; falling.clone().rev().next(), Some(2));
     assert_eq!(rt; rising.next(), Some(3));
-    assert_eq!(rt; ArrayRevIter::new(&array).next(), Some(8));
 }
 
 #[test]
@@ -357,62 +436,96 @@ fn pairs_are_pushed_at_the_end(rt: HostRuntime) {
     assert_eq!(rt; array.metadata(), 0x2010);
 }
 
+/// Deals the pairs below 20 to `low` at their place, and the others to `high` four places lower. Gives
+/// what the preparation was told, and how many pairs found no place.
+fn deal(
+    array: &mut Array<u64, u64>,
+    low: &mut Array<u64, u64>,
+    high: &mut Array<u64, u64>,
+) -> ((u8, usize, bool), u8) {
+    let mut told = (0, 0, true);
+    let mut refused: u8 = 0;
+    if array.is_frozen() {
+        return (told, 15);
+    }
+    let done = array.distribute(
+        |boundary, len, ordered| {
+            told = (boundary, len, ordered);
+            true
+        },
+        |key, val, boundary, place| {
+            let slot = if *key < 20 {
+                put_at(low, *key, *val, place)
+            } else {
+                put_at(high, *key, *val, place.saturating_sub(4))
+            };
+            if slot == 15 || boundary != 15 {
+                refused = refused.saturating_add(1);
+            }
+        },
+    );
+    (told, if done { refused } else { 15 })
+}
+
+/// An array to be dealt out: not in the order of its keys, and with one value.
+fn mixed() -> Array<u64, u64> {
+    let mut array = Array::new();
+    for key in [11u64, 19, 32, 20, 1, 0] {
+        let _ = answer(array.insert::<false>(key, 17));
+    }
+    array
+}
+
 #[test]
 fn a_distributed_array_gives_its_pairs_to_others(rt: HostRuntime) {
-    let mut old: Array<u64, u64> = Array::new();
-    for key in [11u64, 19, 32, 20, 1, 0] {
-        assert_eq!(rt; answer(old.insert::<false>(key, 17)), 0);
-    }
+    let mut old = mixed();
     let mut low: Array<u64, u64> = Array::new_frozen();
     let mut high: Array<u64, u64> = Array::new_frozen();
-    let mut seen = (0, 0, true);
-    let mut refused: u8 = 0;
-    if !old.is_frozen() {
-        let done = old.distribute(
-            |boundary, len, ordered| {
-                seen = (boundary, len, ordered);
-                true
-            },
-            |key, val, boundary, place| {
-                let slot = if *key < 20 {
-                    put_at(&mut low, *key, *val, place)
-                } else {
-                    put_at(&mut high, *key, *val, place.saturating_sub(4))
-                };
-                if slot == 15 || boundary != 15 {
-                    refused = refused.saturating_add(1);
-                }
-            },
-        );
-        assert!(rt; done);
-    }
-    assert_eq!(rt; seen, (15, 6, false));
-    assert_eq!(rt; refused, 0);
+    assert_eq!(rt; deal(&mut old, &mut low, &mut high), ((15, 6, false), 0));
     assert_eq!(rt; answer(low.insert::<false>(5, 5)), 2);
     if low.is_frozen() && high.is_frozen() {
         low.unfreeze();
         high.unfreeze();
     }
     assert_eq!(rt; (low.len(), high.len()), (4, 2));
-    assert_eq!(rt;
-        (low.search_val(&0), low.search_val(&1)),
-        (Some(&17), Some(&17))
-    );
-    assert_eq!(rt;
-        (high.search_val(&20), high.search_val(&32)),
-        (Some(&17), Some(&17))
-    );
-    assert_eq!(rt; answer(old.insert::<false>(1, 0)), 2);
-    assert_eq!(rt; answer(old.insert::<false>(3, 0)), 2);
+    for key in [0u64, 1, 11, 19] {
+        assert_eq!(rt; low.search_val(&key), Some(&17));
+    }
+    for key in [20u64, 32] {
+        assert_eq!(rt; high.search_val(&key), Some(&17));
+    }
+    assert_eq!(rt; answer(high.insert::<false>(5, 5)), 0);
+}
+
+#[test]
+fn a_distributed_array_stays_as_it_was_and_frozen(rt: HostRuntime) {
+    let mut old = mixed();
+    if !old.is_frozen() {
+        let _ = old.distribute(|_, _, _| true, |_, _, _, _| {});
+    }
+    for key in [1u64, 3] {
+        assert_eq!(rt; answer(old.insert::<false>(key, 0)), 2);
+    }
     assert_eq!(rt; old.remove_if(&17, |_| true), RemoveResult::Frozen);
     if old.is_frozen() {
         old.unfreeze();
     }
     assert_eq!(rt; answer(old.insert::<false>(3, 7)), 0);
-    assert_eq!(rt; old.remove_if(&1, |_| true), RemoveResult::Success);
+    for key in [0u64, 1, 3, 11, 19, 20] {
+        assert_eq!(rt; old.remove_if(&key, |_| true), RemoveResult::Success);
+    }
+    assert_eq!(rt; old.remove_if(&32, |_| true), RemoveResult::Retired);
+    assert_eq!(rt; answer(old.insert::<false>(5, 5)), 2);
+}
+
+#[test]
+fn a_showing_tells_removed_pairs_from_others(rt: HostRuntime) {
+    let mut array = mixed();
+    assert_eq!(rt; answer(array.insert::<false>(3, 7)), 0);
+    assert_eq!(rt; array.remove_if(&1, |_| true), RemoveResult::Success);
     let mut gone: u64 = 0;
     let mut there: u64 = 0;
-    let shown = old.for_each_all(
+    let shown = array.for_each_all(
         |frozen, retired| !frozen && !retired,
         |_, rank, pair, removed| {
             match pair {
@@ -425,11 +538,6 @@ fn a_distributed_array_gives_its_pairs_to_others(rt: HostRuntime) {
     );
     assert!(rt; shown.is_ok());
     assert_eq!(rt; (gone, there), (1, 6));
-    for key in [0u64, 3, 11, 19, 20] {
-        assert_eq!(rt; old.remove_if(&key, |_| true), RemoveResult::Success);
-    }
-    assert_eq!(rt; old.remove_if(&32, |_| true), RemoveResult::Retired);
-    assert_eq!(rt; answer(old.insert::<false>(5, 5)), 2);
 }
 
 #[test]
@@ -547,16 +655,11 @@ fn random_calls_answer_as_a_plain_list_does(rt: HostRuntime) -> Result<(), Fail>
 }
 
 #[test]
-fn an_iterator_ends(rt: HostRuntime) {
-    let mut array = holding(&[10, 20, 30]);
-    assert_eq!(rt; array.remove_if(&20, |_| true), RemoveResult::Success);
-    let mut slots: u64 = 0;
-    for slot in ArrayIter::new(&array) {
-        slots = slots.wrapping_mul(16).wrapping_add(u64::from(slot));
+fn iterators_pass_over_what_was_removed(rt: HostRuntime) {
+    let mut array = Array::new();
+    for text in ["10", "20", "30"] {
+        assert_eq!(rt; answer(array.insert::<false>(text, text)), 0);
     }
-    assert_eq!(rt; slots, 0x13);
-    for slot in ArrayRevIter::new(&array) {
-        slots = slots.wrapping_mul(16).wrapping_add(u64::from(slot));
-    }
-    assert_eq!(rt; slots, 0x1331);
+    assert_eq!(rt; without(&mut array, &["20"]), 1);
+    assert_eq!(rt; (rising(&array), falling(&array)), (0x13, 0x31));
 }

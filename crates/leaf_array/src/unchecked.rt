@@ -10,7 +10,7 @@ use crate::place::slot_of;
 use crate::result::RemoveResult;
 
 impl<K: Ord, V> Array<K, V> {
-    /// The bitmap place that a new pair with this key would take, and the word that the array would have then.
+    /// The bitmap place that a new pair with this key would take, and the word that the array would have then. No array with a pair is retired.
     pub fn insert_dry(&self, key: &K) -> (u8, usize)
         requires { self.now.used < 15 }
         ensures place { result.0 ≡ self.now.used }
@@ -24,7 +24,7 @@ impl<K: Ord, V> Array<K, V> {
     ///
     /// Place and word are those that [`Array::insert_dry`] gives now. In a frozen array whose
     /// reachable keys are all less, the word may be 0: then the new pair's rank is one above its
-    /// bitmap place.
+    /// bitmap place. A retired array takes the pair, and is retired no more.
     pub fn insert_unchecked(&mut self, key: K, val: V, place: u8, metadata: usize) -> u8
         requires room { self.old.used < 15 }
         requires absent { has K.cmp key self.old ≡ false }
@@ -44,7 +44,7 @@ impl<K: Ord, V> Array<K, V> {
         slot_of(place)
     }
 
-    /// Inserts a new pair behind all others, without a search.
+    /// Inserts a new pair behind all others, without a search. A retired array takes it, and is retired no more.
     pub fn push_last(&mut self, key: K, val: V)
         requires room { self.old.used < 15 }
         requires last { lesser K.cmp key self.old.pairs ≡ length self.old.pairs }

@@ -24,9 +24,9 @@ impl<K: Ord, V> Array<K, V> {
     /// The word that the array would have if a new pair came in at `at`.
     pub(crate) fn word_beside(&self, at: usize) -> usize
         requires { self.now.used < 15 }
-        ensures { result ≡ word (record self.now { labels = entered 0 at (slot_of self.now.used) self.now.labels }) }
+        ensures { result ≡ word (record self.now { retired = false; labels = entered 0 at (slot_of self.now.used) self.now.labels }) }
     {
-        self.ranks_beside(at) + self.flags()
+        self.ranks_beside(at) + self.frozen_bit()
     }
 
     /// The two highest bits of the word.
@@ -34,8 +34,14 @@ impl<K: Ord, V> Array<K, V> {
         ensures { result ≡ cond self.now.retired (2 ^ 62) 0 + cond self.now.frozen (2 ^ 63) 0 }
     {
         let retired = if self.is_retired() { RETIRED } else { 0 };
-        let frozen = if self.is_frozen() { FROZEN } else { 0 };
-        retired + frozen
+        retired + self.frozen_bit()
+    }
+
+    /// The highest bit of the word.
+    fn frozen_bit(&self) -> usize
+        ensures { result ≡ cond self.now.frozen (2 ^ 63) 0 }
+    {
+        if self.is_frozen() { FROZEN } else { 0 }
     }
 
     /// The ranks of all slots.

@@ -7,8 +7,8 @@ invariant_of-self g c =
     (sound_halves g.K.Ord.cmp c.self.inside.slots c.split_half-slots.new.self c.split_half-slots.result c.renumber.new.self c.renumber-2.new.self c.self.inside.len c.self.inside.used c.min-len.result c.self.invariant c.split_half-slots.ensures.mine c.split_half-slots.ensures.lower
     c.split_half-slots.ensures.mine_count c.split_half-slots.ensures.lower_count (low_length _ _ c.self.inside.len 8 c.self.invariant.live c.min-len.ensures) c.renumber.ensures.places c.renumber-2.ensures.places).1.0
 
-pub invariant_of-result : goal.invariant_of-result
-invariant_of-result g c =
+pub invariant_of-result-2 : goal.invariant_of-result-2
+invariant_of-result-2 g c =
     (sound_halves g.K.Ord.cmp c.self.inside.slots c.split_half-slots.new.self c.split_half-slots.result c.renumber.new.self c.renumber-2.new.self c.self.inside.len c.self.inside.used c.min-len.result c.self.invariant c.split_half-slots.ensures.mine c.split_half-slots.ensures.lower
     c.split_half-slots.ensures.mine_count c.split_half-slots.ensures.lower_count (low_length _ _ c.self.inside.len 8 c.self.invariant.live c.min-len.ensures) c.renumber.ensures.places c.renumber-2.ensures.places).0.0
 

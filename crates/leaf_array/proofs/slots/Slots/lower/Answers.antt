@@ -1,4 +1,4 @@
-use Rattle.std.proofs.Common.{refl, ◌<◌, ◌∷◌, [], slice_index_or}
+use Rattle.std.proofs.Common.{arith, refl, ◌<◌, ◌∷◌, [], slice_index_or}
 use Rattle.leaf_array.specs.declared.place.Place.TheVariants.{Empty}
 use Rattle.leaf_array.specs.Places.{below}
 use Rattle.leaf_array.proofs.SearchLemmas.{below_past}
@@ -15,3 +15,6 @@ returns-then-precedes-clause-pair g c =
     let eighth : 0 < below g.K.Ord.cmp c.args.key.now (slice_index_or c.args.self.now 7 Empty ∷ []) = rw (← c.self.view_is) (c.if-precedes.ensures.0 refl) in
     let past = below_past g.K.Ord.cmp c.args.key.now g.met.K.Ord.total 7 c.args.self.now c.requires.packed c.requires.sorted eighth in
     rw (past.1, ← c.self.view_is) c.lower.ensures.pair
+
+pub returns-clause-place : goal.returns-clause-place
+returns-clause-place g c = rw (← c.self.view_is) (omega (arith, c.lower-2.ensures.place))

@@ -1,0 +1,167 @@
+//! Tasks on ordered maps with keys of 64 bits, for `measure`: std's `BTreeMap` beside the tree behind
+//! the exports of the crate `index_bench`.
+//!
+//! `driver task MAP TASK ORDER N ROUNDS` runs one task alone, whose instructions another program
+//! counts. `driver times N..` prints for each order and number of keys the nanoseconds of a look-up in
+//! each map.
+use std::collections::BTreeMap;
+use std::hint::black_box;
+
+// Nothing checks these against the crate's source. A slice crosses as a pointer and a length.
+unsafe extern "C" {
+    fn index_bench_insert(keys: *const u64, len: usize) -> usize;
+    fn index_bench_get(
+        keys: *const u64,
+        len: usize,
+        probes: *const u64,
+        count: usize,
+        rounds: u32,
+    ) -> u64;
+}
+
+/// How many look-ups a round has.
+const PROBES: u64 = 10_000;
+
+#[derive(Clone, Copy, PartialEq)]
+enum Map {
+    Std,
+    Index,
+}
+
+impl Map {
+    const ALL: [Map; 2] = [Map::Std, Map::Index];
+
+    /// Inserts each key, drops the map, and gives how many keys it had.
+    fn insert(self, keys: &[u64]) -> usize {
+        match self {
+            Map::Std => built(keys).len(),
+            // SAFETY: the call has no conditions, and the slice is live in it.
+            Map::Index => unsafe { index_bench_insert(keys.as_ptr(), keys.len()) },
+        }
+    }
+
+    /// Looks each probe up in a map of these keys, `rounds` times, and sums what it finds.
+    fn get(self, keys: &[u64], probes: &[u64], rounds: u32) -> u64 {
+        match self {
+            Map::Std => {
+                let map = built(keys);
+                (0..rounds).fold(0, |sum, _| get_all(&map, probes, sum))
+            }
+            // SAFETY: the call has no conditions, and the slices are live in it.
+            Map::Index => unsafe {
+                index_bench_get(
+                    keys.as_ptr(),
+                    keys.len(),
+                    probes.as_ptr(),
+                    probes.len(),
+                    rounds,
+                )
+            },
+        }
+    }
+}
+
+fn built(keys: &[u64]) -> BTreeMap<u64, u64> {
+    let mut map = BTreeMap::new();
+    for key in keys {
+        map.insert(*key, *key);
+    }
+    map
+}
+
+#[inline(never)]
+fn get_all(map: &BTreeMap<u64, u64>, probes: &[u64], sum: u64) -> u64 {
+    let mut total = sum;
+    for probe in probes {
+        total = total.wrapping_add(map.get(probe).map_or(0, |value| *value));
+    }
+    total
+}
+
+/// A number for each number, in no order (the last step of SplitMix64).
+fn mixed(number: u64) -> u64 {
+    let mut bits = number.wrapping_add(1).wrapping_mul(0x9E37_79B9_7F4A_7C15);
+    bits = (bits ^ (bits >> 30)).wrapping_mul(0xBF58_476D_1CE4_E5B9);
+    bits = (bits ^ (bits >> 27)).wrapping_mul(0x94D0_49BB_1331_11EB);
+    bits ^ (bits >> 31)
+}
+
+fn keys(order: &str, count: u64) -> Vec<u64> {
+    match order {
+        "ascending" => (0..count).map(|i| i * 1000).collect(),
+        "random" => (0..count).map(mixed).collect(),
+        _ => panic!("no order: {order}"),
+    }
+}
+
+fn probes(keys: &[u64]) -> Vec<u64> {
+    let count = keys.len() as u64;
+    let place = |i| (mixed(i ^ 0xabcdef) % count) as usize;
+    (0..PROBES).map(|i| keys[place(i)]).collect()
+}
+
+/// The nanoseconds that this process has had of a processor.
+fn processor_time() -> f64 {
+    #[repr(C)]
+    struct Time {
+        seconds: i64,
+        nanoseconds: i64,
+    }
+    unsafe extern "C" {
+        fn clock_gettime(clock: i32, time: *mut Time) -> i32;
+    }
+    const PROCESS: i32 = 2;
+    let mut time = Time {
+        seconds: 0,
+        nanoseconds: 0,
+    };
+    // SAFETY: `time` is a place for the answer.
+    unsafe { clock_gettime(PROCESS, &mut time) };
+    time.seconds as f64 * 1e9 + time.nanoseconds as f64
+}
+
+/// The nanoseconds of a look-up in each map: the least of several runs, which take turns.
+fn times(order: &str, count: u64) -> [f64; 2] {
+    let keys = keys(order, count);
+    let probes = probes(&keys);
+    let rounds = if count > 50_000 { 20 } else { 50 };
+    let mut least = [f64::MAX; 2];
+    for _ in 0..9 {
+        let mut sums = [0; 2];
+        for map in Map::ALL {
+            let start = processor_time();
+            black_box(map.get(&keys, &probes, 0));
+            let built = processor_time();
+            sums[map as usize] = map.get(&keys, &probes, rounds);
+            let looked = (processor_time() - built) - (built - start);
+            let each = looked / (PROBES * u64::from(rounds)) as f64;
+            least[map as usize] = least[map as usize].min(each);
+        }
+        assert_eq!(sums[0], sums[1], "the maps differ: {order} {count}");
+    }
+    least
+}
+
+fn main() {
+    let words: Vec<String> = std::env::args().skip(1).collect();
+    let number = |at: usize| -> u64 { words[at].parse().expect("a number") };
+    match words[0].as_str() {
+        "task" => {
+            let map = if words[1] == "std" { Map::Std } else { Map::Index };
+            let keys = keys(&words[3], number(4));
+            let answer = match words[2].as_str() {
+                "insert" => map.insert(&keys) as u64,
+                _ => map.get(&keys, &probes(&keys), number(5) as u32),
+            };
+            println!("{answer}");
+        }
+        _ => {
+            for at in 1..words.len() {
+                for order in ["ascending", "random"] {
+                    let [std, index] = times(order, number(at));
+                    println!("{order} {} {std:.1} {index:.1}", number(at));
+                }
+            }
+        }
+    }
+}

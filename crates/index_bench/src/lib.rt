@@ -1,0 +1,88 @@
+//! What a driver in another language measures of a tree.
+//!
+//! A static library can hand out nothing that owns memory. So each export builds a tree of its own,
+//! runs one task on it some number of rounds, and gives a sum that depends on each answer; the cost
+//! of the task is what those rounds cost above none. Where memory is refused the tree has fewer pairs,
+//! and the sum differs from that of another map.
+#![tactic(auto)]
+
+ghost use Rattle.std.specs.Prelude.{◌≡◌};
+ghost use Rattle.std.specs.Option.{unwrap_or};
+ghost use Rattle.std.specs.Ordering.{nat_cmp};
+ghost use Rattle.leaf_array.specs.Pairs.{value_at};
+ghost use Rattle.index_bench.specs.Sums.{sum_found};
+
+use std::alloc::Global;
+use tree_index::TreeIndex;
+
+/// Inserts each key, with itself as value, and gives how many pairs there are then.
+#[unsafe(no_mangle)]
+pub extern "C" fn index_bench_insert(alloc: Global, keys: &[u64]) -> usize {
+    let tree = built(alloc, keys);
+    tree.len()
+}
+
+/// Looks each probe up in a tree of these keys, `rounds` times, and gives the sum of the values found.
+#[unsafe(no_mangle)]
+pub extern "C" fn index_bench_get(alloc: Global, keys: &[u64], probes: &[u64], rounds: u32) -> u64 {
+    let tree = built(alloc, keys);
+    let mut sum = 0;
+    for _ in 0..rounds {
+        sum = get_all(&tree, probes, sum);
+    }
+    sum
+}
+
+/// A tree of these keys, each with itself as value.
+fn built(alloc: Global, keys: &[u64]) -> TreeIndex<u64, u64> {
+    let mut tree = TreeIndex::new(alloc);
+    for key in keys {
+        let _ = tree.insert_sync(*key, *key);
+    }
+    tree
+}
+
+/// The sum of the values at the probes, and one before, without carry.
+#[inline(never)]
+fn get_all(tree: &TreeIndex<u64, u64>, probes: &[u64], sum: u64) -> u64
+    ensures { result ≡ sum_found tree.now.pairs probes.now sum }
+{
+    let mut total = sum;
+    for probe in probes {
+        let value = found(tree, probe);
+        total = total.wrapping_add(value);
+    }
+    total
+}
+
+/// The value at a key, 0 where there is none.
+#[inline(always)]
+fn found(tree: &TreeIndex<u64, u64>, key: &u64) -> u64
+    ensures { result ≡ unwrap_or (value_at nat_cmp key.now tree.now.pairs) 0 }
+{
+    match tree.peek(key) {
+        Some(value) => *value,
+        None => 0,
+    }
+}
+
+#[cfg(test)]
+mod tests {
+    use super::*;
+
+    #[test]
+    fn each_key_is_inserted_once(rt: HostRuntime) {
+        assert_eq!(rt; index_bench_insert(rt.alloc(), &[]), 0);
+        assert_eq!(rt; index_bench_insert(rt.alloc(), &[5, 3, 5, 9]), 3);
+    }
+
+    #[test]
+    fn the_values_found_are_summed_in_each_round(rt: HostRuntime) {
+        let keys = [5, 3, 9];
+        assert_eq!(rt; index_bench_get(rt.alloc(), &keys, &[3, 4, 9, 9], 0), 0);
+        assert_eq!(rt; index_bench_get(rt.alloc(), &keys, &[3, 4, 9, 9], 1), 21);
+        assert_eq!(rt; index_bench_get(rt.alloc(), &keys, &[3, 4, 9, 9], 2), 42);
+        let most = [u64::MAX];
+        assert_eq!(rt; index_bench_get(rt.alloc(), &most, &most, 2), u64::MAX - 1);
+    }
+}
