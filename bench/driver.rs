@@ -17,6 +17,14 @@ unsafe extern "C" {
         count: usize,
         rounds: u32,
     ) -> u64;
+    fn index_bench_walk(keys: *const u64, len: usize, rounds: u32) -> u64;
+    fn index_bench_scan(
+        keys: *const u64,
+        len: usize,
+        probes: *const u64,
+        count: usize,
+        rounds: u32,
+    ) -> u64;
 }
 
 /// How many look-ups a round has.
@@ -59,6 +67,40 @@ impl Map {
             },
         }
     }
+
+    /// Goes through a map of these keys, `rounds` times, and sums the values.
+    fn walk(self, keys: &[u64], rounds: u32) -> u64 {
+        match self {
+            Map::Std => {
+                let map = built(keys);
+                (0..rounds).fold(0, |sum, _| walk(&map, sum))
+            }
+            // SAFETY: the call has no conditions, and the slice is live in it.
+            Map::Index => unsafe { index_bench_walk(keys.as_ptr(), keys.len(), rounds) },
+        }
+    }
+
+    /// Takes a hundred pairs from each probe on, `rounds` times, and sums the values.
+    fn scan(self, keys: &[u64], probes: &[u64], rounds: u32) -> u64 {
+        match self {
+            Map::Std => {
+                let map = built(keys);
+                (0..rounds).fold(0, |sum, _| {
+                    probes.iter().fold(sum, |sum, probe| scan(&map, probe, sum))
+                })
+            }
+            // SAFETY: the call has no conditions, and the slices are live in it.
+            Map::Index => unsafe {
+                index_bench_scan(
+                    keys.as_ptr(),
+                    keys.len(),
+                    probes.as_ptr(),
+                    probes.len(),
+                    rounds,
+                )
+            },
+        }
+    }
 }
 
 fn built(keys: &[u64]) -> BTreeMap<u64, u64> {
@@ -74,6 +116,24 @@ fn get_all(map: &BTreeMap<u64, u64>, probes: &[u64], sum: u64) -> u64 {
     let mut total = sum;
     for probe in probes {
         total = total.wrapping_add(map.get(probe).map_or(0, |value| *value));
+    }
+    total
+}
+
+#[inline(never)]
+fn walk(map: &BTreeMap<u64, u64>, sum: u64) -> u64 {
+    let mut total = sum;
+    for (_, value) in map.iter() {
+        total = total.wrapping_add(*value);
+    }
+    total
+}
+
+#[inline(never)]
+fn scan(map: &BTreeMap<u64, u64>, from: &u64, sum: u64) -> u64 {
+    let mut total = sum;
+    for (_, value) in map.range(from..).take(100) {
+        total = total.wrapping_add(*value);
     }
     total
 }
@@ -151,6 +211,8 @@ fn main() {
             let keys = keys(&words[3], number(4));
             let answer = match words[2].as_str() {
                 "insert" => map.insert(&keys) as u64,
+                "walk" => map.walk(&keys, number(5) as u32),
+                "scan" => map.scan(&keys, &probes(&keys)[..1000], number(5) as u32),
                 _ => map.get(&keys, &probes(&keys), number(5) as u32),
             };
             println!("{answer}");

@@ -13,6 +13,7 @@ ghost use Rattle.leaf_array.specs.Pairs.{value_at};
 ghost use Rattle.index_bench.specs.Sums.{sum_found};
 
 use std::alloc::Global;
+use std::ops::Bound;
 use tree_index::TreeIndex;
 
 /// Inserts each key, with itself as value, and gives how many pairs there are then.
@@ -29,6 +30,36 @@ pub extern "C" fn index_bench_get(alloc: Global, keys: &[u64], probes: &[u64], r
     let mut sum = 0;
     for _ in 0..rounds {
         sum = get_all(&tree, probes, sum);
+    }
+    sum
+}
+
+/// Goes through a tree of these keys, `rounds` times, and gives the sum of the values.
+#[unsafe(no_mangle)]
+pub extern "C" fn index_bench_walk(alloc: Global, keys: &[u64], rounds: u32) -> u64 {
+    let tree = built(alloc, keys);
+    let mut sum = 0;
+    for _ in 0..rounds {
+        sum = walk(&tree, sum);
+    }
+    sum
+}
+
+/// Takes up to a hundred pairs from each probe on in a tree of these keys, `rounds` times, and gives the
+/// sum of the values.
+#[unsafe(no_mangle)]
+pub extern "C" fn index_bench_scan(
+    alloc: Global,
+    keys: &[u64],
+    probes: &[u64],
+    rounds: u32,
+) -> u64 {
+    let tree = built(alloc, keys);
+    let mut sum = 0;
+    for _ in 0..rounds {
+        for probe in probes {
+            sum = scan(&tree, probe, sum);
+        }
     }
     sum
 }
@@ -51,6 +82,29 @@ fn get_all(tree: &TreeIndex<u64, u64>, probes: &[u64], sum: u64) -> u64
     for probe in probes {
         let value = found(tree, probe);
         total = total.wrapping_add(value);
+    }
+    total
+}
+
+/// The sum of all values, and one before, without carry.
+#[inline(never)]
+fn walk(tree: &TreeIndex<u64, u64>, sum: u64) -> u64 {
+    let mut total = sum;
+    for (_, value) in tree.iter() {
+        total = total.wrapping_add(*value);
+    }
+    total
+}
+
+/// The sum of the values of a hundred pairs from a key on, and one before, without carry.
+#[inline(never)]
+fn scan<'t>(tree: &'t TreeIndex<u64, u64>, from: &'t u64, sum: u64) -> u64 {
+    let mut total = sum;
+    for (_, value) in tree
+        .range(Bound::Included(from), Bound::Unbounded)
+        .take(100)
+    {
+        total = total.wrapping_add(*value);
     }
     total
 }
@@ -84,5 +138,12 @@ mod tests {
         assert_eq!(rt; index_bench_get(rt.alloc(), &keys, &[3, 4, 9, 9], 2), 42);
         let most = [u64::MAX];
         assert_eq!(rt; index_bench_get(rt.alloc(), &most, &most, 2), u64::MAX - 1);
+    }
+
+    #[test]
+    fn a_walk_and_a_scan_sum_the_values_they_pass(rt: HostRuntime) {
+        let keys = [5, 3, 9];
+        assert_eq!(rt; index_bench_walk(rt.alloc(), &keys, 2), 34);
+        assert_eq!(rt; index_bench_scan(rt.alloc(), &keys, &[4, 9, 10], 1), 23);
     }
 }
