@@ -32,7 +32,7 @@ module _ {K V : Type 0} where
   all_map P Q f (p ∷ ps) a = (f p.0 a.0, all_map P Q f ps a.1)
 
   -- the first key behind a place
-  behind : (n : ℕ) (ps : List (K × V)) → n < length ps → (k : K) × (key_at ps n ≡ Some k)
+  pub behind : (n : ℕ) (ps : List (K × V)) → n < length ps → (k : K) × (key_at ps n ≡ Some k)
   behind n [] h = absurd (omega (arith, h))
   behind zero (p ∷ ps) h = (p.0, refl)
   behind (suc n) (p ∷ ps) h = behind n ps (omega (arith, h))

@@ -1,5 +1,5 @@
 -- A leaf of the arenas that is split in two.
-use Rattle.std.proofs.Common.{◌≡◌, ◌≢◌, ◌≤◌, ◌<◌, ◌⊎◌, inl, inr, ℕ, ◌+◌, ◌-◌, ◌==◌, true, false, cond, ◌&&◌, List, [], ◌∷◌, ◌++◌, length, take, drop, Option, Some, None, refl, sym, ap, ◌∙◌, subst, arith, append_assoc}
+use Rattle.std.proofs.Common.{suc, ◌≡◌, ◌≢◌, ◌≤◌, ◌<◌, ◌⊎◌, inl, inr, ℕ, ◌+◌, ◌-◌, ◌==◌, true, false, cond, ◌&&◌, List, [], ◌∷◌, ◌++◌, length, take, drop, Option, Some, None, refl, sym, ap, ◌∙◌, subst, arith, append_assoc}
 use Rattle.std.specs.Option.{option_map}
 use Rattle.std.specs.declared.cmp.Ordering.{Ordering}
 use Rattle.std.specs.Ordering.{is_lt}
@@ -16,19 +16,26 @@ use Rattle.tree_index.specs.declared.leaf.Leaf.{Leaf}
 use Rattle.tree_index.specs.declared.leaf.Cut.{Cut}
 use Rattle.tree_index.specs.declared.node.Branches.{Branches}
 use Rattle.tree_index.specs.declared.arenas.Arenas.{Arenas}
-use Rattle.tree_index.specs.Cuts.{IsCut}
+use Rattle.tree_index.specs.Cuts.{IsCut, key_at}
 use Rattle.tree_index.specs.Shape.{Content, AllKeys, IsWithin, way, child_in, pairs_under, leaves_under, leaf_times, IsLeaf, IsNode, Stands}
-use Rattle.tree_index.specs.Content.{content_of, pairs_of, leaves_of, IsSound, HasRoom, AreSameArrays}
+use Rattle.tree_index.specs.Content.{content_of, pairs_of, leaves_of, IsSound, HasRoom, IsLeafFull, AreSameArrays}
 use Rattle.tree_index.specs.Chain.{links, times, IsLinked, linked_in}
 use Rattle.tree_index.proofs.ChainLemmas.{times_counted, linked_split}
 use Rattle.tree_index.proofs.LinkLemmas.{links_kept}
 use Rattle.tree_index.proofs.ShapeLemmas.{self_once}
 use Rattle.tree_index.proofs.FocusLemmas.{over, over_is}
-use Rattle.tree_index.proofs.WayLemmas.{some_same}
+use Rattle.tree_index.proofs.WayLemmas.{some_same, around}
 use Rattle.tree_index.proofs.SplitLemmas.{around_parent, around_child, parent, child, IsSplit, divided, order_total, none_leaf}
 use Rattle.tree_index.proofs.NodeSplitLemmas.{way_more}
 use Rattle.tree_index.proofs.NodeLemmas.{planted, leaf_content, node_content, same_len}
-use Rattle.tree_index.proofs.CutLemmas.{Sides, sides}
+use Rattle.tree_index.proofs.CutLemmas.{Sides, sides, behind}
+use Rattle.tree_index.proofs.HalfLemmas.{all_at}
+use Rattle.tree_index.proofs.DepthLemmas.{any_at, any_fore, any_rear, all_middle, by_root, room_is, last_way, reached_entry, length_entry}
+use Rattle.tree_index.specs.Depth.{IsAbove, leaf_room, is_reached, root_room}
+use Rattle.std.specs.Prelude.{IfSome}
+use Rattle.std.specs.List.{list_any}
+use Rattle.std.specs.Ordering.{is_le}
+use Rattle.std.specs.declared.cmp.Ordering.TheVariants.{Less}
 
 array_some : {K V : Type 0} (x : Option (Leaf K V)) (c : Cells K V) → option_map (λ (l : Leaf K V). l.array) x ≡ Some c → (l : Leaf K V) × (x ≡ Some l) × (l.array ≡ c)
 array_some None c h = absurd (let e : None ≡ Some c = h in cc)
@@ -222,3 +229,55 @@ module _ {K V : Type 0} (cmp : K → K → Ordering) (o : IsTotalOrder cmp) (key
           let r : IsRoomy (way cmp b key a.height a.root) = subst (λ (n : ℕ). IsRoomy (way cmp b key n a.root)) height_is roomy in
           let l = array_some (get linked (way cmp b key a.height a.root)) r.0 r.1 in
           record { leaf = l.0; there = l.1; living = ap (λ (x : Cells K V). x.retired) l.2 ∙ r.2; room = subst (λ (x : Cells K V). x.used < 15) (sym l.2) r.3 }
+
+      -- a pair above all others, split off a full leaf, takes no place of a flat tree
+      module _ (flat : a.height ≡ 1) (over_all : IsAbove cmp key (pairs_of a)) (crowd : IsLeafFull cmp key a) (clear : cut.whole ≡ true → upper.array.used ≡ 0) where
+        root_above : above ≡ a.root
+        root_above = let none : steps ≡ 0 = omega (arith, flat) in on_above ∙ ap (λ (k : ℕ). way cmp c key k a.root) none
+
+        root_there : get a.nodes a.root ≡ Some old
+        root_there = ap (get a.nodes) (sym root_above) ∙ node_there
+
+        was_full : whole.array.used ≡ 15
+        was_full =
+            let same : crowd.leaf ≡ whole = some_same (sym crowd.there ∙ ap (get a.leaves) (sym on_child) ∙ here) in
+            subst (λ (x : Leaf K V). x.array.used ≡ 15) same crowd.full
+
+        -- the pairs of the leaf among all
+        in_all : (front : List (K × V)) × (back : List (K × V)) × (pairs_of a ≡ front ++ (whole.array.pairs ++ back))
+        in_all =
+            let r = around cmp o key c a.height a.root whole.array (planted cmp o key a s planted_).tree (ap c.leaf (sym on_child) ∙ leaf_content cmp o key a at (Some whole) here) in
+            (r.front, r.back, r.pairs)
+
+        greatest : (k : K) × (key_at whole.array.pairs (length whole.array.pairs - 1) ≡ Some k)
+        greatest = behind (length whole.array.pairs - 1) whole.array.pairs (omega (arith, fits.crowded))
+
+        is_whole : cut.whole ≡ true
+        is_whole =
+            let less : AllKeys (λ k. cmp k key ≡ Less) whole.array.pairs = all_middle (λ k. cmp k key ≡ Less) in_all.0 whole.array.pairs in_all.1 (subst (IsAbove cmp key) in_all.2 over_all) in
+            let below : cmp greatest.0 key ≡ Less = all_at cmp o (λ k. cmp k key ≡ Less) whole.array.pairs (length whole.array.pairs - 1) greatest.0 less greatest.1 in
+            (subst (λ (x : Option K). IfSome x (λ k. cmp k key ≡ Less → cut.whole ≡ true)) greatest.1 fits.rising) below
+
+        sep_reached : list_any (λ (p : K × V). is_le (cmp cut.separator p.0)) (pairs_of a) ≡ true
+        sep_reached =
+            let here_any = any_at cmp o whole.array.pairs (length whole.array.pairs - 1) cut.separator (fits.whole is_whole) in
+            subst (λ ps. list_any (λ (p : K × V). is_le (cmp cut.separator p.0)) ps ≡ true) (sym in_all.2) (any_rear (λ (p : K × V). is_le (cmp cut.separator p.0)) in_all.0 (whole.array.pairs ++ in_all.1) (any_fore (λ (p : K × V). is_le (cmp cut.separator p.0)) whole.array.pairs in_all.1 here_any))
+
+        last_room : old.last ≡ at → leaf_room (get linked m.last) ≡ 15
+        last_room e =
+            let x = array_some (get linked at) upper.array (arrays at ∙ ap array (added.others at (λ f. fresh_not_at (sym f)) ∙ turned.changed)) in
+            let used : x.0.array.used ≡ 0 = ap (λ (y : Cells K V). y.used) x.2 ∙ clear is_whole in
+            ap (λ (k : ℕ). leaf_room (get linked k)) (m_last ∙ e) ∙ ap leaf_room x.1 ∙ ap (λ (k : ℕ). 15 - k) used
+
+        pub done_room_kept : 0 < root_room cmp a → root_room cmp a ≤ root_room cmp done
+        done_room_kept =
+            by_root cmp a (λ r. 0 < r → r ≤ root_room cmp done) (λ z. absurd (omega (arith, z))) (λ t there reached some.
+              let same : t ≡ old = some_same (sym there ∙ root_there) in
+              let es_reached : is_reached cmp (pairs_of a) old.children.pairs ≡ true = subst (λ (x : Branches K). is_reached cmp (pairs_of a) x.children.pairs ≡ true) same reached in
+              let last : old.last ≡ at = sym (on_child ∙ last_way cmp o key a old flat root_there over_all es_reached) in
+              let room = room_is cmp done m (ap (get (with_value a.nodes above m)) (sym root_above) ∙ node_turned.changed)
+              (subst (λ ps. is_reached cmp ps m.children.pairs ≡ true) (sym done_pairs) (subst (λ es. is_reached cmp (pairs_of a) es ≡ true) (sym m_pairs) (reached_entry cmp (pairs_of a) cut.separator fresh sep_reached old.children.pairs es_reached))) in
+              let old_used : t.children.used ≡ old.children.used = ap (λ (x : Branches K). x.children.used) same in
+              let more : m.children.used ≡ suc old.children.used = m_node.packed ∙ ap length m_pairs ∙ length_entry cmp old.children.pairs cut.separator fresh absent_above ∙ ap suc (sym old_node.packed) in
+              let none : leaf_room (get a.leaves t.last) ≡ 0 = ap (λ (x : Branches K). leaf_room (get a.leaves x.last)) same ∙ ap (λ (k : ℕ). leaf_room (get a.leaves k)) last ∙ ap leaf_room here ∙ ap (λ (k : ℕ). 15 - k) was_full in
+              omega (arith, room, more, none, old_used, some, last_room last))

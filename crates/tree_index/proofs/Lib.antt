@@ -22,4 +22,5 @@ pub mod EqualLemmas
 pub mod CopyLemmas
 pub mod ThinLemmas
 pub mod RemovalLemmas
+pub mod DepthLemmas
 pub mod LeafArenaLemmas

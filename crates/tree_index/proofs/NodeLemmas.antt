@@ -13,7 +13,8 @@ use Rattle.tree_index.specs.declared.leaf.Leaf.{Leaf}
 use Rattle.tree_index.specs.declared.node.Branches.{Branches}
 use Rattle.tree_index.specs.declared.arenas.Arenas.{Arenas}
 use Rattle.tree_index.specs.Shape.{way, IsNode, IsTree, Stands}
-use Rattle.tree_index.specs.Content.{content_of, IsBare, IsSound, AreSameArrays}
+use Rattle.tree_index.specs.Content.{content_of, pairs_of, IsLeafFull, IsBare, IsSound, AreSameArrays}
+use Rattle.tree_index.specs.Depth.{ascents}
 use Rattle.tree_index.proofs.FocusLemmas.{over, over_is, focus}
 use Rattle.tree_index.proofs.WayLemmas.{some_same, leaf_there, leaf_thawed}
 
@@ -113,6 +114,16 @@ module _ {K V : Type 0} (cmp : K → K → Ordering) (a : Arenas K V) (leaves : 
       split : IsBare a ⊎ (a.height ≢ 0) × Stands cmp (content_of a) a.height a.root → IsBare (roomier a.leaves.slots a.nodes.slots) ⊎ (a.height ≢ 0) × Stands cmp (content_of a) a.height a.root
       split (inl bare) = inl (record { flat = bare.flat; empty = bare.empty })
       split (inr stands) = inr stands
+
+  pub roomier_ascents : leaves.slots ≡ a.leaves.slots → nodes.slots ≡ a.nodes.slots → ascents cmp (record { leaves = leaves; nodes = nodes; root = a.root; height = a.height; len = a.len }) ≡ ascents cmp a
+  roomier_ascents e f = subst (λ ls. ascents cmp (roomier ls nodes.slots) ≡ ascents cmp a) (sym e) (subst (λ ns. ascents cmp (roomier a.leaves.slots ns) ≡ ascents cmp a) (sym f) refl)
+
+  pub roomier_pairs : leaves.slots ≡ a.leaves.slots → nodes.slots ≡ a.nodes.slots → pairs_of (record { leaves = leaves; nodes = nodes; root = a.root; height = a.height; len = a.len }) ≡ pairs_of a
+  roomier_pairs e f = subst (λ ls. pairs_of (roomier ls nodes.slots) ≡ pairs_of a) (sym e) (subst (λ ns. pairs_of (roomier a.leaves.slots ns) ≡ pairs_of a) (sym f) refl)
+
+  pub roomier_full : (key : K) → leaves.slots ≡ a.leaves.slots → nodes.slots ≡ a.nodes.slots → IsLeafFull cmp key a → IsLeafFull cmp key (record { leaves = leaves; nodes = nodes; root = a.root; height = a.height; len = a.len })
+  roomier_full key e f full =
+      subst (λ ls. IsLeafFull cmp key (roomier ls nodes.slots)) (sym e) (subst (λ ns. IsLeafFull cmp key (roomier a.leaves.slots ns)) (sym f) (record { leaf = full.leaf; there = full.there; full = full.full }))
 
   pub roomier_sound : leaves.slots ≡ a.leaves.slots → nodes.slots ≡ a.nodes.slots → IsSound cmp a → IsSound cmp (record { leaves = leaves; nodes = nodes; root = a.root; height = a.height; len = a.len })
   roomier_sound e f s = subst (λ ls. IsSound cmp (roomier ls nodes.slots)) (sym e) (subst (λ ns. IsSound cmp (roomier a.leaves.slots ns)) (sym f) (same_slots s))

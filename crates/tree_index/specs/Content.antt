@@ -49,6 +49,12 @@ module _ {K V : Type 0} where
     pub living : leaf.array.retired ≡ false
     pub room : leaf.array.used < 15
 
+  -- all places of the leaf on the way to a key are used
+  pub record IsLeafFull (cmp : K → K → Ordering) (key : K) (a : Arenas K V) : Type 0 where
+    pub leaf : Leaf K V
+    pub there : get a.leaves (way cmp (content_of a) key a.height a.root) ≡ Some leaf
+    pub full : leaf.array.used ≡ 15
+
   -- each number holds the same array
   abbrev pub AreSameArrays : Slab (Leaf K V) → Slab (Leaf K V) → Type 0
   AreSameArrays old new = (n : ℕ) → option_map (λ l. l.array) (get new n) ≡ option_map (λ l. l.array) (get old n)

@@ -1,5 +1,5 @@
 -- Where a leaf is cut in two.
-use Rattle.std.specs.Prelude.{◌≡◌, ◌≤◌, ◌-◌, ℕ, List, length, slice_get, Option, Some, None, Bool, true, false}
+use Rattle.std.specs.Prelude.{◌≡◌, ◌≤◌, ◌-◌, ℕ, List, length, slice_get, IfSome, Option, Some, None, Bool, true, false}
 use Rattle.std.specs.Ordering.{is_eq}
 use Rattle.std.specs.declared.cmp.Ordering.{Ordering}
 use Rattle.std.specs.declared.cmp.Ordering.TheVariants.{Less}
@@ -20,4 +20,5 @@ pub record IsCut {K V : Type 0} (cmp : K → K → Ordering) (key : K) (pairs : 
   pub crowded : 12 ≤ length pairs
   pub whole : cut.whole ≡ true → key_at pairs (length pairs - 1) ≡ Some cut.separator
   pub beyond : cut.whole ≡ true → cmp cut.separator key ≡ Less
+  pub rising : IfSome (key_at pairs (length pairs - 1)) (λ k. cmp k key ≡ Less → cut.whole ≡ true)
   pub halves : cut.whole ≡ false → key_at pairs 7 ≡ Some cut.separator

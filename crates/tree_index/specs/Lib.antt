@@ -2,6 +2,7 @@ pub mod Shape
 pub mod Chain
 pub mod Cuts
 pub mod Content
+pub mod Depth
 pub mod Walk
 pub mod Cursor
 pub mod Ends

@@ -4,6 +4,7 @@ ghost use Rattle.std.specs.Prelude.{◌≡◌, ◌≢◌, ◌≤◌, ◌<◌, �
 ghost use Rattle.std.specs.BTreeMap.{is_at};
 ghost use Rattle.std.specs.Map.{lookup_entry};
 ghost use Rattle.tree_index.specs.Shape.{way};
+ghost use Rattle.tree_index.specs.Depth.{IsAbove, ascents};
 ghost use Rattle.tree_index.specs.Content.{content_of, pairs_of, IsSound, HasRoom, leaf_on_way};
 ghost use Rattle.leaf_array.specs.Edits.{removed, upserted};
 ghost use Rattle.std.specs.Fn.{FnOnceReturnsAt};
@@ -99,6 +100,9 @@ impl<K: Ord, V> Arenas<K, V> {
         ensures repeated { IsDuplicate result → UPSERT ≡ false }
         ensures unique { IsSuccess result → UPSERT ≡ false → has_key K.cmp key (pairs_of self.old) ≡ false }
         ensures done { IsSuccess result → pairs_of self.new ≡ upserted K.cmp key val (pairs_of self.old) }
+        ensures still { IsFull result → HasRoom K.cmp key self.new → ⊥ }
+        ensures ascents { IsSome (given_back result) → ascents K.cmp self.new ≡ ascents K.cmp self.old }
+        ensures ascending { IsSuccess result → IsAbove K.cmp key (pairs_of self.old) → ascents K.cmp self.old ≤ ascents K.cmp self.new + 1 }
     {
         let at = self.leaf_of(&key);
         match self.leaves.get_mut(at) {
@@ -129,6 +133,8 @@ impl<K: Ord, V> Arenas<K, V> {
         ensures repeated { IsDuplicate result → UPSERT ≡ false }
         ensures unique { IsSuccess result → UPSERT ≡ false → has_key K.cmp key (pairs_of self.old) ≡ false }
         ensures done { IsSuccess result → pairs_of self.new ≡ upserted K.cmp key val (pairs_of self.old) }
+        ensures ascents { IsSome (given_back result) → ascents K.cmp self.new ≡ ascents K.cmp self.old }
+        ensures ascending { IsSuccess result → IsAbove K.cmp key (pairs_of self.old) → ascents K.cmp self.old ≤ ascents K.cmp self.new + 1 }
     {
         if self.len == usize::MAX {
             return InsertResult::Full(key, val);
@@ -149,6 +155,7 @@ impl<K: Ord, V> Arenas<K, V> {
         requires sound { IsSound K.cmp self.old }
         requires countable { self.old.len + 1 < 2 ^ 64 }
         requires clones { ClonesAreSame K.is_clone }
+        requires full { HasRoom K.cmp key self.old → ⊥ }
         ensures sound { IsSound K.cmp self.new }
         ensures back { IfSome (given_back result) (λ p. p ≡ (key, val)) }
         ensures kept { IsSome (given_back result) → pairs_of self.new ≡ pairs_of self.old }
@@ -157,6 +164,8 @@ impl<K: Ord, V> Arenas<K, V> {
         ensures repeated { IsDuplicate result → UPSERT ≡ false }
         ensures unique { IsSuccess result → UPSERT ≡ false → has_key K.cmp key (pairs_of self.old) ≡ false }
         ensures done { IsSuccess result → pairs_of self.new ≡ upserted K.cmp key val (pairs_of self.old) }
+        ensures ascents { IsSome (given_back result) → ascents K.cmp self.new ≡ ascents K.cmp self.old }
+        ensures ascending { IsSuccess result → IsAbove K.cmp key (pairs_of self.old) → ascents K.cmp self.old ≤ ascents K.cmp self.new + 1 }
     {
         if !UPSERT && self.contains(&key) {
             return InsertResult::Duplicate(key, val);

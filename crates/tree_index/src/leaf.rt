@@ -1,6 +1,6 @@
 //! A leaf of the tree.
 
-ghost use Rattle.std.specs.Prelude.{◌≡◌, ◌≤◌, ◌<◌, ◌-◌, ◌||◌, ◌&&◌, ◌==◌, IsTrue, IsSome, IfSome, IfOk, Some, None, true, false, not, cond, length, slice_get, take, drop};
+ghost use Rattle.std.specs.Prelude.{◌≡◌, ◌≤◌, ◌<◌, ◌+◌, ◌-◌, ◌||◌, ◌&&◌, ◌==◌, IsTrue, IsSome, IfSome, IfOk, Some, None, true, false, not, cond, length, slice_get, take, drop};
 ghost use Rattle.std.specs.BTreeMap.{is_at};
 ghost use Rattle.std.specs.Map.{lookup_entry};
 ghost use Rattle.std.specs.Fn.{FnOnceReturnsAt};
@@ -44,6 +44,7 @@ impl<K: Ord, V> Leaf<K, V> {
         ensures repeated { IsDuplicate result → UPSERT ≡ false }
         ensures unique { IsSuccess result → UPSERT ≡ false → has_key K.cmp key self.old.array.pairs ≡ false }
         ensures done { IsSuccess result → self.new.array.pairs ≡ upserted K.cmp key val self.old.array.pairs }
+        ensures used { IsSuccess result → self.new.array.used ≡ self.old.array.used + 1 }
     {
         let _ = self.array.len();
         self.array.insert::<UPSERT>(key, val)
@@ -100,6 +101,9 @@ impl<K: Ord, V> Leaf<K, V> {
         ensures count { result ≡ length self.now.array.pairs }
         ensures rising { IsAscending K.cmp self.now.array.pairs }
         ensures within { result ≤ 15 }
+        ensures used { result ≤ self.now.array.used }
+        ensures most { self.now.array.used ≤ 15 }
+        ensures living { self.now.array.retired ≡ true → result ≡ 0 }
     {
         self.array.len()
     }
@@ -190,6 +194,7 @@ impl<K: Ord, V> Leaf<K, V> {
         ensures upper_living { self.new.array.retired ≡ false }
         ensures lower_used { whole ≡ false → result.used ≤ 8 }
         ensures upper_used { self.new.array.used ≤ 7 }
+        ensures upper_clear { whole ≡ true → self.new.array.used ≡ 0 }
         ensures rising { IsAscending K.cmp self.old.array.pairs }
         ensures lower_rising { IsAscending K.cmp result.pairs }
         ensures upper_rising { IsAscending K.cmp self.new.array.pairs }

@@ -5,7 +5,8 @@ ghost use Rattle.std.specs.Option.{option_map};
 ghost use Rattle.leaf_array.specs.Values.{ClonesAreSame};
 ghost use Rattle.slab.specs.Slab.{get, HasRoomFor, slab_len};
 ghost use Rattle.tree_index.specs.Chain.{links, linked_in};
-ghost use Rattle.tree_index.specs.Content.{pairs_of, IsSound, HasRoom, NodeHasRoom, IsNodeFull, IsCutThere, AreSameArrays, leaf_on_way};
+ghost use Rattle.tree_index.specs.Depth.{IsAbove, ascents};
+ghost use Rattle.tree_index.specs.Content.{pairs_of, IsSound, HasRoom, NodeHasRoom, IsNodeFull, IsLeafFull, IsCutThere, AreSameArrays, leaf_on_way};
 
 use crate::arenas::Arenas;
 use crate::leaf::{Cut, Leaf};
@@ -28,10 +29,13 @@ impl<K: Ord, V> Arenas<K, V> {
         V: Drop,
         requires sound { IsSound K.cmp self.old }
         requires clones { ClonesAreSame K.is_clone }
+        requires full { HasRoom K.cmp key.now self.old → ⊥ }
         ensures sound { IsSound K.cmp self.new }
         ensures pairs { pairs_of self.new ≡ pairs_of self.old }
         ensures room { OnOk result (HasRoom K.cmp key.now self.new) }
         ensures refused { OnErr result (self.new.height ≡ self.old.height) }
+        ensures ascents { OnErr result (ascents K.cmp self.new ≡ ascents K.cmp self.old) }
+        ensures ascending { OnOk result (IsAbove K.cmp key.now (pairs_of self.old) → 1 < ascents K.cmp self.old → ascents K.cmp self.old ≤ ascents K.cmp self.new) }
     {
         if self.height == 0 {
             return self.plant(key);
@@ -61,6 +65,8 @@ impl<K: Ord, V> Arenas<K, V> {
         ensures pairs { pairs_of self.new ≡ pairs_of self.old }
         ensures room { OnOk result (HasRoom K.cmp key.now self.new) }
         ensures refused { OnErr result (self.new.height ≡ self.old.height) }
+        ensures ascents { OnErr result (ascents K.cmp self.new ≡ ascents K.cmp self.old) }
+        ensures ascending { OnOk result (ascents K.cmp self.old ≤ ascents K.cmp self.new) }
     {
         let _ = key;
         self.leaves.reserve(1)?;
@@ -82,7 +88,8 @@ impl<K: Ord, V> Arenas<K, V> {
     fn is_crowded(&self, key: &K) -> bool
         requires sound { IsSound K.cmp self.now }
         requires planted { self.now.height ≢ 0 }
-        ensures { IfSome (get self.now.leaves (leaf_on_way K.cmp key.now self.now)) (λ l. result ≡ not (nat_lt (length l.array.pairs) 12)) }
+        ensures crowded { IfSome (get self.now.leaves (leaf_on_way K.cmp key.now self.now)) (λ l. result ≡ not (nat_lt (length l.array.pairs) 12)) }
+        ensures full { result ≡ true → (HasRoom K.cmp key.now self.now → ⊥) → IsLeafFull K.cmp key.now self.now }
     {
         match self.leaves.get(self.leaf_of(key)) {
             Some(leaf) => leaf.len() >= CROWDED,
@@ -102,6 +109,7 @@ impl<K: Ord, V> Arenas<K, V> {
         ensures pairs { pairs_of self.new ≡ pairs_of self.old }
         ensures room { HasRoom K.cmp key.now self.new }
         ensures height { self.new.height ≡ self.old.height }
+        ensures ascending { ascents K.cmp self.old ≤ ascents K.cmp self.new }
     {
         let at = self.leaf_of(key);
         match self.leaves.get_mut(at) {
@@ -156,6 +164,7 @@ impl<K: Ord, V> Arenas<K, V> {
         ensures leaf { leaf_on_way K.cmp key.now self.new ≡ leaf_on_way K.cmp key.now self.old }
         ensures room { NodeHasRoom K.cmp key.now self.new 1 }
         ensures planted { self.new.height ≢ 0 }
+        ensures still { NodeHasRoom K.cmp key.now self.old 1 → self.new ≡ self.old }
     {
         if !self.is_full(1, key) {
             return;
@@ -242,6 +251,7 @@ impl<K: Ord, V> Arenas<K, V> {
         ensures sound { IsSound K.cmp self.new }
         ensures pairs { pairs_of self.new ≡ pairs_of self.old }
         ensures room { HasRoom K.cmp key.now self.new }
+        ensures ascending { IsAbove K.cmp key.now (pairs_of self.old) → IsLeafFull K.cmp key.now self.old → 1 < ascents K.cmp self.old → ascents K.cmp self.old ≤ ascents K.cmp self.new }
     {
         let above = self.node_at(1, key);
         let child = self.leaf_of(key);

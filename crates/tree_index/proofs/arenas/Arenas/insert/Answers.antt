@@ -1,11 +1,15 @@
-use Rattle.std.proofs.Common.{◌≡◌, ℕ, ◌+◌, ◌-◌, ◌≤◌, ◌<◌, false, Some, sym, ap, ◌∙◌, subst, arith}
+use Rattle.std.proofs.Common.{◌≡◌, ℕ, ◌+◌, ◌-◌, ◌≤◌, ◌<◌, false, Some, refl, sym, ap, ◌∙◌, subst, arith}
 use Rattle.std.specs.Prelude.{length}
-use Rattle.slab.specs.Slab.{get}
+use Rattle.slab.specs.Slab.{get, with_value}
+use Rattle.slab.proofs.SlabLemmas.{Updates-with_value}
 use Rattle.leaf_array.specs.Cells.{Cells}
 use Rattle.tree_index.specs.declared.leaf.Leaf.{Leaf}
 use Rattle.tree_index.proofs.WayLemmas.{some_same}
-use Rattle.tree_index.proofs.ArenaLemmas.{IsPut, put_of, put_length, thawed_on_way, leaf_counted, put_written, still_sound, has_written, upserted_written, kept_written}
+use Rattle.tree_index.proofs.ArenaLemmas.{IsPut, put_of, put_length, thawed_on_way, leaf_counted, put_written, still_sound, has_written, upserted_written, kept_written, with_leaf, written_there}
+use Rattle.tree_index.specs.declared.arenas.Arenas.{Arenas}
+use Rattle.tree_index.specs.Depth.{root_room, rises}
 use Rattle.tree_index.proofs.LeafLemmas.{roomy}
+use Rattle.tree_index.proofs.DepthLemmas.{full_back, root_less, room_less, room_more, insert_room, rises_less}
 use Rattle.tree_index.proofs.arenas.Arenas.insert.Goals as goal
 
 pub insert-answer-requires : goal.insert-answer-requires
@@ -153,3 +157,69 @@ returns-in-Some-clause-done g c d =
     let len : ℕ = a.len - c.len-before.result + c.len.result in
     let w = put_written cmp o key a s n on l here c.args.val m len put c.insert-answer.ensures.thawed c.len.ensures.rising in
     upserted_written cmp o key a s n on l here m len w c.args.val (c.insert-answer.ensures.done d)
+
+pub returns-in-Some-clause-still : goal.returns-in-Some-clause-still
+returns-in-Some-clause-still g c f r =
+    let cmp = g.K.Ord.cmp in
+    let o = g.met.K.Ord.total in
+    let key = c.args.key in
+    let a = c.args.self.now in
+    let l : Leaf g.row.K.Denot g.row.V.Denot = c.in-Some.leaf.now in
+    let n = c.leaf_of-at.result in
+    let on = c.leaf_of-at.ensures in
+    let here : get a.leaves n ≡ Some l = sym c.in-Some.ensures.value in
+    let s = c.requires.sound in
+    let m : Leaf g.row.K.Denot g.row.V.Denot = c.insert-answer.new.self in
+    let put : IsPut cmp key c.args.val l.array.pairs m.array.pairs = put_of cmp key c.args.val c.insert-answer.result l.array m.array c.insert-answer.ensures.done c.insert-answer.ensures.kept in
+    let len : ℕ = a.len - c.len-before.result + c.len.result in
+    let w = put_written cmp o key a s n on l here c.args.val m len put c.insert-answer.ensures.thawed c.len.ensures.rising in
+    let there = written_there cmp o key a s n on l here m len w in
+    let same : r.leaf ≡ m = some_same (sym r.there ∙ there) in
+    let kept : m.array ≡ l.array = c.insert-answer.ensures.kept (full_back c.insert-answer.result f) in
+    let closed = c.insert-answer.ensures.full f in
+    let living : l.array.retired ≡ false = ap (λ (d : Cells g.row.K.Denot g.row.V.Denot). d.retired) (sym kept) ∙ subst (λ (x : Leaf g.row.K.Denot g.row.V.Denot). x.array.retired ≡ false) same r.living in
+    roomy l.array.retired l.array.used living (subst (λ (d : Cells g.row.K.Denot g.row.V.Denot). d.used < 15) kept (subst (λ (x : Leaf g.row.K.Denot g.row.V.Denot). x.array.used < 15) same r.room)) closed
+
+pub returns-in-Some-clause-ascents : goal.returns-in-Some-clause-ascents
+returns-in-Some-clause-ascents g c k =
+    let cmp = g.K.Ord.cmp in
+    let o = g.met.K.Ord.total in
+    let key = c.args.key in
+    let a = c.args.self.now in
+    let l : Leaf g.row.K.Denot g.row.V.Denot = c.in-Some.leaf.now in
+    let n = c.leaf_of-at.result in
+    let on = c.leaf_of-at.ensures in
+    let here : get a.leaves n ≡ Some l = sym c.in-Some.ensures.value in
+    let s = c.requires.sound in
+    let m : Leaf g.row.K.Denot g.row.V.Denot = c.insert-answer.new.self in
+    let put : IsPut cmp key c.args.val l.array.pairs m.array.pairs = put_of cmp key c.args.val c.insert-answer.result l.array m.array c.insert-answer.ensures.done c.insert-answer.ensures.kept in
+    let len : ℕ = a.len - c.len-before.result + c.len.result in
+    let w = put_written cmp o key a s n on l here c.args.val m len put c.insert-answer.ensures.thawed c.len.ensures.rising in
+    let kept : m.array ≡ l.array = c.insert-answer.ensures.kept k in
+    let used : m.array.used ≡ l.array.used = ap (λ (d : Cells g.row.K.Denot g.row.V.Denot). d.used) kept in
+    let pairs = kept_written cmp o key a s n on l here m len w (ap (λ (d : Cells g.row.K.Denot g.row.V.Denot). d.pairs) kept) in
+    let b : Arenas g.row.K.Denot g.row.V.Denot = with_leaf cmp o key a s n on l here m len in
+    let less = root_less cmp a b pairs refl (room_less a.leaves n l m here (omega (arith, used))) in
+    let more = root_less cmp b a (sym pairs) refl (room_more a.leaves n l m here used) in
+    let same : root_room cmp b ≡ root_room cmp a = omega (arith, less, more) in
+    ap (rises a.height) same
+
+pub returns-in-Some-clause-ascending : goal.returns-in-Some-clause-ascending
+returns-in-Some-clause-ascending g c d above =
+    let cmp = g.K.Ord.cmp in
+    let o = g.met.K.Ord.total in
+    let key = c.args.key in
+    let a = c.args.self.now in
+    let l : Leaf g.row.K.Denot g.row.V.Denot = c.in-Some.leaf.now in
+    let n = c.leaf_of-at.result in
+    let on = c.leaf_of-at.ensures in
+    let here : get a.leaves n ≡ Some l = sym c.in-Some.ensures.value in
+    let s = c.requires.sound in
+    let m : Leaf g.row.K.Denot g.row.V.Denot = c.insert-answer.new.self in
+    let put : IsPut cmp key c.args.val l.array.pairs m.array.pairs = put_of cmp key c.args.val c.insert-answer.result l.array m.array c.insert-answer.ensures.done c.insert-answer.ensures.kept in
+    let len : ℕ = a.len - c.len-before.result + c.len.result in
+    let w = put_written cmp o key a s n on l here c.args.val m len put c.insert-answer.ensures.thawed c.len.ensures.rising in
+    let b : Arenas g.row.K.Denot g.row.V.Denot = with_leaf cmp o key a s n on l here m len in
+    let pairs = upserted_written cmp o key a s n on l here m len w c.args.val (c.insert-answer.ensures.done d) in
+    let there = (Updates-with_value a.leaves n m (rw here refl)).changed in
+    rises_less a.height (root_room cmp a) (root_room cmp b) 1 (insert_room cmp o key c.args.val a b above refl pairs n on l m here there (c.insert-answer.ensures.used d))

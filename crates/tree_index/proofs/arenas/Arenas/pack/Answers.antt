@@ -1,6 +1,9 @@
-use Rattle.std.proofs.Common.{◌≡◌, ◌<◌, Option, Some, sym, ap, ◌∙◌, subst, arith}
+use Rattle.std.proofs.Common.{refl, ◌≡◌, ◌<◌, Option, Some, sym, ap, ◌∙◌, subst, arith}
 use Rattle.std.specs.Prelude.{length, IfSome}
-use Rattle.slab.specs.Slab.{get}
+use Rattle.slab.specs.Slab.{get, with_value}
+use Rattle.tree_index.specs.declared.arenas.Arenas.{Arenas}
+use Rattle.tree_index.specs.Depth.{root_room}
+use Rattle.tree_index.proofs.DepthLemmas.{root_less, room_less, rises_less}
 use Rattle.leaf_array.specs.Pairs.{IsAscending}
 use Rattle.tree_index.specs.declared.leaf.Leaf.{Leaf}
 use Rattle.tree_index.specs.Shape.{AllKeys, IsWithin}
@@ -60,3 +63,16 @@ returns-clause-room g c =
     let w = rewritten cmp o key a s n on l here m a.len (c.pack.ensures.thawed ∙ leaf_open cmp o key a s c.requires.planted n on l here) (subst (IsAscending cmp) (sym p) c.len.ensures.rising) (λ low high within all. subst (AllKeys (IsWithin cmp low high)) (sym p) all) in
     let few : length l.array.pairs < 12 = subst (λ (x : Option (Leaf g.row.K.Denot g.row.V.Denot)). IfSome x (λ l. length l.array.pairs < 12)) (ap (get a.leaves) (sym on) ∙ here) c.requires.sparse in
     record { leaf = m; there = written_there cmp o key a s n on l here m a.len w; living = c.pack.ensures.living; room = omega (arith, few, c.pack.ensures.used) }
+
+pub returns-clause-ascending : goal.returns-clause-ascending
+returns-clause-ascending g c =
+    let cmp = g.K.Ord.cmp in
+    let a = c.args.self.now in
+    let n = c.leaf_of-at.result in
+    let l : Leaf g.row.K.Denot g.row.V.Denot = c.in-Some.leaf.now in
+    let here : get a.leaves n ≡ Some l = sym c.in-Some.ensures.value in
+    let m : Leaf g.row.K.Denot g.row.V.Denot = c.pack.new.self in
+    let b : Arenas g.row.K.Denot g.row.V.Denot = record { leaves = with_value a.leaves n m; nodes = a.nodes; root = a.root; height = a.height; len = a.len } in
+    let room = root_less cmp a b (returns-clause-pairs g c) refl (room_less a.leaves n l m here (omega (arith, c.pack.ensures.used, c.len.ensures.count, c.len.ensures.used))) in
+    let less = rises_less a.height (root_room cmp a) (root_room cmp b) 0 (λ h. omega (arith, room)) in
+    omega (arith, less)
