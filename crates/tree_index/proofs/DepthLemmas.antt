@@ -180,12 +180,12 @@ module _ {K V : Type 0} (cmp : K → K → Ordering) (o : IsTotalOrder cmp) (key
   pub insert_room : a.height ≡ 1 → root_room cmp a ≤ root_room cmp b + 1
   insert_room flat =
       by_root cmp a (λ r. r ≤ root_room cmp b + 1) (omega arith) (λ t there reached.
-        let last : n ≡ t.last = on ∙ last_way cmp o key a t flat there above reached in
-        let more : is_reached cmp (pairs_of b) t.children.pairs ≡ true = reached_more cmp (pairs_of a) (pairs_of b) (λ s h. subst (λ ps. list_any (λ (p : K × V). is_le (cmp s p.0)) ps ≡ true) (sym (pairs ∙ upserted_behind o key val (pairs_of a) above)) (any_fore (λ p. is_le (cmp s p.0)) (pairs_of a) ((key, val) ∷ []) h)) t.children.pairs reached in
-        let room = room_is cmp b t (nodes ∙ there) more in
-        let before : leaf_room (get a.leaves t.last) ≡ 15 - l.array.used = ap (λ (k : ℕ). leaf_room (get a.leaves k)) (sym last) ∙ ap leaf_room old in
-        let after : leaf_room (get b.leaves t.last) ≡ 15 - m.array.used = ap (λ (k : ℕ). leaf_room (get b.leaves k)) (sym last) ∙ ap leaf_room new in
-        omega (arith, room, before, after, used))
+      let last : n ≡ t.last = on ∙ last_way cmp o key a t flat there above reached in
+      let more : is_reached cmp (pairs_of b) t.children.pairs ≡ true = reached_more cmp (pairs_of a) (pairs_of b) (λ s h. subst (λ ps. list_any (λ (p : K × V). is_le (cmp s p.0)) ps ≡ true) (sym (pairs ∙ upserted_behind o key val (pairs_of a) above)) (any_fore (λ p. is_le (cmp s p.0)) (pairs_of a) ((key, val) ∷ []) h)) t.children.pairs reached in
+      let room = room_is cmp b t (nodes ∙ there) more in
+      let before : leaf_room (get a.leaves t.last) ≡ 15 - l.array.used = ap (λ (k : ℕ). leaf_room (get a.leaves k)) (sym last) ∙ ap leaf_room old in
+      let after : leaf_room (get b.leaves t.last) ≡ 15 - m.array.used = ap (λ (k : ℕ). leaf_room (get b.leaves k)) (sym last) ∙ ap leaf_room new in
+      omega (arith, room, before, after, used))
 
 -- an array that is full gives the pair back
 pub full_back : {K V : Type 0} (r : InsertResult K V) → IsFull r → IsSome (given_back r)
@@ -223,10 +223,10 @@ module _ {K V : Type 0} (cmp : K → K → Ordering) (o : IsTotalOrder cmp) (key
   flat_node some planted above full =
       let one = rises_one a.height (root_room cmp a) some planted in
       by_root cmp a (λ r. 0 < r → NodeHasRoom cmp key a 1) (λ z. absurd (omega (arith, z))) (λ t there reached room.
-        let last = last_way cmp o key a t one.0 there above reached in
-        let none : leaf_room (get a.leaves t.last) ≡ 0 = ap (λ (k : ℕ). leaf_room (get a.leaves k)) (sym last) ∙ ap leaf_room full.there ∙ ap (λ (k : ℕ). 15 - k) full.full in
-        let top : a.height - 1 ≡ 0 = omega (arith, one.0) in
-        record { node = t; there = ap (λ (k : ℕ). get a.nodes (way cmp (content_of a) key k a.root)) top ∙ there; room = omega (arith, room, none) }) one.1
+      let last = last_way cmp o key a t one.0 there above reached in
+      let none : leaf_room (get a.leaves t.last) ≡ 0 = ap (λ (k : ℕ). leaf_room (get a.leaves k)) (sym last) ∙ ap leaf_room full.there ∙ ap (λ (k : ℕ). 15 - k) full.full in
+      let top : a.height - 1 ≡ 0 = omega (arith, one.0) in
+      record { node = t; there = ap (λ (k : ℕ). get a.nodes (way cmp (content_of a) key k a.root)) top ∙ there; room = omega (arith, room, none) }) one.1
 
   -- a leaf on the way without room that isn't retired is full
   pub full_of : (l : Leaf K V) → get a.leaves (way cmp (content_of a) key a.height a.root) ≡ Some l → l.array.used ≤ 15 → 12 ≤ length l.array.pairs → (l.array.retired ≡ true → length l.array.pairs ≡ 0) → (HasRoom cmp key a → ⊥) → IsLeafFull cmp key a

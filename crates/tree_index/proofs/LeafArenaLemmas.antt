@@ -272,12 +272,12 @@ module _ {K V : Type 0} (cmp : K → K → Ordering) (o : IsTotalOrder cmp) (key
         pub done_room_kept : 0 < root_room cmp a → root_room cmp a ≤ root_room cmp done
         done_room_kept =
             by_root cmp a (λ r. 0 < r → r ≤ root_room cmp done) (λ z. absurd (omega (arith, z))) (λ t there reached some.
-              let same : t ≡ old = some_same (sym there ∙ root_there) in
-              let es_reached : is_reached cmp (pairs_of a) old.children.pairs ≡ true = subst (λ (x : Branches K). is_reached cmp (pairs_of a) x.children.pairs ≡ true) same reached in
-              let last : old.last ≡ at = sym (on_child ∙ last_way cmp o key a old flat root_there over_all es_reached) in
-              let room = room_is cmp done m (ap (get (with_value a.nodes above m)) (sym root_above) ∙ node_turned.changed)
-              (subst (λ ps. is_reached cmp ps m.children.pairs ≡ true) (sym done_pairs) (subst (λ es. is_reached cmp (pairs_of a) es ≡ true) (sym m_pairs) (reached_entry cmp (pairs_of a) cut.separator fresh sep_reached old.children.pairs es_reached))) in
-              let old_used : t.children.used ≡ old.children.used = ap (λ (x : Branches K). x.children.used) same in
-              let more : m.children.used ≡ suc old.children.used = m_node.packed ∙ ap length m_pairs ∙ length_entry cmp old.children.pairs cut.separator fresh absent_above ∙ ap suc (sym old_node.packed) in
-              let none : leaf_room (get a.leaves t.last) ≡ 0 = ap (λ (x : Branches K). leaf_room (get a.leaves x.last)) same ∙ ap (λ (k : ℕ). leaf_room (get a.leaves k)) last ∙ ap leaf_room here ∙ ap (λ (k : ℕ). 15 - k) was_full in
-              omega (arith, room, more, none, old_used, some, last_room last))
+            let same : t ≡ old = some_same (sym there ∙ root_there) in
+            let es_reached : is_reached cmp (pairs_of a) old.children.pairs ≡ true = subst (λ (x : Branches K). is_reached cmp (pairs_of a) x.children.pairs ≡ true) same reached in
+            let last : old.last ≡ at = sym (on_child ∙ last_way cmp o key a old flat root_there over_all es_reached) in
+            let room = room_is cmp done m (ap (get (with_value a.nodes above m)) (sym root_above) ∙ node_turned.changed)
+            (subst (λ ps. is_reached cmp ps m.children.pairs ≡ true) (sym done_pairs) (subst (λ es. is_reached cmp (pairs_of a) es ≡ true) (sym m_pairs) (reached_entry cmp (pairs_of a) cut.separator fresh sep_reached old.children.pairs es_reached))) in
+            let old_used : t.children.used ≡ old.children.used = ap (λ (x : Branches K). x.children.used) same in
+            let more : m.children.used ≡ suc old.children.used = m_node.packed ∙ ap length m_pairs ∙ length_entry cmp old.children.pairs cut.separator fresh absent_above ∙ ap suc (sym old_node.packed) in
+            let none : leaf_room (get a.leaves t.last) ≡ 0 = ap (λ (x : Branches K). leaf_room (get a.leaves x.last)) same ∙ ap (λ (k : ℕ). leaf_room (get a.leaves k)) last ∙ ap leaf_room here ∙ ap (λ (k : ℕ). 15 - k) was_full in
+            omega (arith, room, more, none, old_used, some, last_room last))

@@ -1,6 +1,6 @@
 //! The tree as users see it.
 
-ghost use Rattle.std.specs.Prelude.{◌≡◌, ◌<◌, ◌^◌, ◌+◌, ◌==◌, IfSome, IfErr, OnOk, OnErr, IsOk, IfOk, MatchOption, [], Some, None, true, false, not, length, option_copied};
+ghost use Rattle.std.specs.Prelude.{◌≡◌, ◌≤◌, ◌<◌, ◌^◌, ◌+◌, ◌==◌, IfSome, IfErr, OnOk, OnErr, IsOk, IfOk, MatchOption, [], Some, None, true, false, not, length, option_copied};
 ghost use Rattle.std.specs.BTreeMap.{is_at};
 ghost use Rattle.std.specs.Map.{lookup_entry};
 ghost use Rattle.std.specs.Fn.{FnOnceReturnsAt};
@@ -13,6 +13,7 @@ ghost use Rattle.std.specs.Range.Bound.{bound_map};
 ghost use Rattle.tree_index.specs.declared.cursor.End.TheVariants.{Unopened};
 ghost use Rattle.tree_index.specs.Cursor.{whole};
 ghost use Rattle.tree_index.specs.Proximity.{IsLocated};
+ghost use Rattle.tree_index.specs.Depth.{IsAbove};
 ghost use Rattle.tree_index.specs.Tree.{IsDuplicate, given_back};
 
 use crate::arenas::Arenas;
@@ -38,12 +39,13 @@ pub struct TreeIndex<K: Ord, V> {
 impl<K: Ord, V> Model for TreeIndex<K, V> {
     ghost use Rattle.tree_index.specs.Tree.{Tree, tree_code};
     ghost use Rattle.tree_index.specs.Content.{pairs_of, IsSound};
+    ghost use Rattle.tree_index.specs.Depth.{ascents};
 
     ghost Value = { Tree K V };
 
     ghost coded = { tree_code K.code V.code };
 
-    ghost view = { λ t. record { pairs = pairs_of t.arenas; depth = t.arenas.height } };
+    ghost view = { λ t. record { pairs = pairs_of t.arenas; depth = t.arenas.height; ascents = ascents K.cmp t.arenas } };
 
     ghost invariant = { λ t. IsSound K.cmp t.arenas };
 }
@@ -62,6 +64,7 @@ impl<K: Ord, V> TreeIndex<K, V> {
     pub fn new(alloc: Global) -> Self
         ensures empty { result.pairs ≡ [] }
         ensures flat { result.depth ≡ 0 }
+        ensures ascents { result.ascents ≡ 241 }
     {
         TreeIndex {
             arenas: Arenas::new(alloc),
@@ -75,13 +78,18 @@ impl<K: Ord, V> TreeIndex<K, V> {
         V: Drop,
         ensures empty { self.new.pairs ≡ [] }
         ensures flat { self.new.depth ≡ 0 }
+        ensures ascents { self.new.ascents ≡ 241 }
     {
         self.arenas.clear();
     }
 
     /// How many nodes lie above a leaf: 0 for a tree that is new or cleared.
+    ///
+    /// Pairs inserted by ascending keys into a new tree fill one node, up to 240 of them, before the
+    /// depth is more than 1.
     pub fn depth(&self) -> usize
-        ensures { result ≡ self.now.depth }
+        ensures value { result ≡ self.now.depth }
+        ensures flat { 0 < self.now.ascents → result ≤ 1 }
     {
         self.arenas.height
     }
@@ -116,6 +124,7 @@ impl<K: Ord, V> TreeIndex<K, V> {
         ensures duplicate { IfErr result (λ e. IsDuplicate e → has_key K.cmp key self.old.pairs ≡ true) }
         ensures back { IfErr result (λ e. given_back e ≡ (key, val)) }
         ensures refused { OnErr result (self.new ≡ self.old) }
+        ensures ascending { IsOk result → IsAbove K.cmp key self.old.pairs → self.old.ascents ≤ self.new.ascents + 1 }
     {
         match self.arenas.put::<false>(key, val) {
             InsertResult::Success => Ok(()),
