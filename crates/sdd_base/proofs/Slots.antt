@@ -236,6 +236,24 @@ no_value a i x h is e n =
     let f : false ≡ is_some (get_or a.values.items i None) = ap is_some there in
     cc
 
+-- a slot that is used has a value
+pub some_value : {T X : Type 0} {V : X → Type 0} (a : Inside T X V) (i : ℕ) (x : Option T) → IsTable a → is_used (get_or a.states.items i status.Free) ≡ true → x ≡ get_or a.values.items i x → is_some x ≡ true
+some_value a i None h is e = absurd (no_value a i None h is e refl)
+some_value a i (Some v) h is e = refl
+
+-- another value in a slot that is used
+pub written_invariant : {T X : Type 0} {V : X → Type 0} (a : Inside T X V) (i : ℕ) (v : T) → IsTable a → is_used (get_or a.states.items i status.Free) ≡ true → IsTable (record a { values = with_item a.values i (Some v) })
+written_invariant a i v h is = record {
+  filled = map-set_same is_some a.values.items i (Some v) None (sym (value_there a i h ∙ is)) ∙ h.filled;
+  tally = h.tally;
+  room = h.room;
+  waits = h.waits;
+  kinds = h.kinds;
+  slots = h.slots;
+  places = h.places;
+  cells = h.cells;
+}
+
 pub a_value : {T X : Type 0} {V : X → Type 0} (a : Inside T X V) (i : ℕ) (x : Option T) (v : T) → IsTable a → i < length a.states.items → is_used (get_or a.states.items i status.Free) ≡ false → x ≡ get_or a.values.items i x → x ≡ Some v → ⊥
 a_value a i x v h inside is e n =
     let sizes : length (map is_some a.values.items) ≡ length (map is_used a.states.items) = ap length h.filled in

@@ -63,6 +63,15 @@ pub record IsRawCell {T : Type 0} (w : State T) (c : ℕ) : Type 0 where
   pub tag : Tag
   pub is : cell_at w c ≡ cell.OfRaw item tag
 
+-- slot i has an item
+pub record HasItem {T : Type 0} (w : State T) (i : ℕ) : Type 0 where
+  pub inside : i < length w.states
+  pub used : is_used (status_at w i) ≡ true
+
+-- slot i has a shared item with one owner alone
+abbrev pub HasOneOwner : {T : Type 0} → State T → ℕ → Type 0
+HasOneOwner w i = (n : ℕ) × (status_at w i ≡ status.Shared n) × (n ≤ 1)
+
 -- a pointer is null, or names an item that is there
 abbrev pub IsReadable : {T : Type 0} → State T → Option ℕ → Type 0
 IsReadable w None = Unit {0}

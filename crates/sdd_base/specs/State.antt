@@ -170,6 +170,10 @@ with_cell c k w = record w { cells = set w.cells c k }
 abbrev pub placed : {T : Type 0} → ℕ → T → Status → State T → State T
 placed i v s w = record w { values = set w.values i (Some v); states = set w.states i s }
 
+-- the item in slot i is v
+abbrev pub with_value : {T : Type 0} → ℕ → T → State T → State T
+with_value i v w = record w { values = set w.values i (Some v) }
+
 -- slot i is free, and its value is gone
 abbrev pub removed : {T : Type 0} → ℕ → State T → State T
 removed i w = record w { values = set w.values i None; states = set w.states i status.Free }

@@ -13,6 +13,7 @@ pub mod guard;
 pub mod holds;
 pub mod job;
 pub mod laws;
+pub mod lender;
 pub mod owner;
 pub mod pointer;
 mod reclaim;

@@ -12,7 +12,7 @@ use crate::holds::{Held, Holds};
 use crate::job::{Job, Task};
 use crate::owner::{Owned, Shared};
 use crate::pointer::{Ptr, RawPtr};
-use crate::refusal::NoSlot;
+use crate::refusal::{GuardsOpen, NoSlot, NotLent};
 use crate::sizes::Sizes;
 use crate::tag::Tag;
 use crate::world;
@@ -605,6 +605,59 @@ fn a_world_is_handed_back_while_something_is_out(rt: HostRuntime) -> Result<(), 
     };
     assert_eq!(rt; w.slots_in_use(), 2);
     let Owned { slot: _, of: _ } = owned;
+    let WorldGuard { participant: _ } = guard;
+    Ok(())
+}
+
+#[test]
+fn an_owned_value_is_written(rt: HostRuntime) -> Result<(), Fail> {
+    let mut w = numbers(rt.alloc(), 1, 0)?;
+    let Ok(owned) = world::owned::new(&mut w, 5) else {
+        panic!(rt; "a slot is free");
+    };
+    match world::owned::get_mut(&mut w, &owned) {
+        Ok(value) => *value += 2,
+        Err(_) => panic!(rt; "no guard is open"),
+    }
+    assert_eq!(rt; *world::owned::as_ref(&w, &owned), 7);
+    let Owned { slot: _, of: _ } = owned;
+    Ok(())
+}
+
+#[test]
+fn a_shared_value_is_written_by_its_one_owner(rt: HostRuntime) -> Result<(), Fail> {
+    let mut w = numbers(rt.alloc(), 1, 0)?;
+    let Ok(first) = world::shared::new(&mut w, 5) else {
+        panic!(rt; "a slot is free");
+    };
+    let Some(second) = world::shared::clone(&mut w, &first) else {
+        panic!(rt; "few owners are out");
+    };
+    assert_eq!(rt; world::shared::get_mut(&mut w, &first).err(), Some(NotLent::NotSole));
+    assert!(rt; !world::shared::release(&mut w, second, 0));
+    match world::shared::get_mut(&mut w, &first) {
+        Ok(value) => *value += 2,
+        Err(_) => panic!(rt; "no guard is open"),
+    }
+    assert_eq!(rt; *world::shared::as_ref(&w, &first), 7);
+    let Shared { slot: _, of: _ } = first;
+    Ok(())
+}
+
+#[test]
+fn nothing_is_written_under_a_guard(rt: HostRuntime) -> Result<(), Fail> {
+    let mut w = numbers(rt.alloc(), 2, 0)?;
+    let guard = guarded(&rt, &mut w, 1);
+    let Ok(owned) = world::owned::new(&mut w, 5) else {
+        panic!(rt; "a slot is free");
+    };
+    assert_eq!(rt; world::owned::get_mut(&mut w, &owned).err(), Some(GuardsOpen));
+    let Ok(shared) = world::shared::new(&mut w, 6) else {
+        panic!(rt; "a slot is free");
+    };
+    assert_eq!(rt; world::shared::get_mut(&mut w, &shared).err(), Some(NotLent::GuardsOpen));
+    let Owned { slot: _, of: _ } = owned;
+    let Shared { slot: _, of: _ } = shared;
     let WorldGuard { participant: _ } = guard;
     Ok(())
 }

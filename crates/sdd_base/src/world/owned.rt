@@ -1,15 +1,17 @@
 //! Items with one owner.
 
-ghost use Rattle.std.specs.Prelude.{◌≡◌, ◌≢◌, ◌<◌, ℕ, length, IfOk, IfErr, IfSome, OnErr, Some, None, ◌↔◌, IsSome, IfNone};
+ghost use Rattle.std.specs.Prelude.{◌≡◌, ◌≢◌, ◌<◌, ℕ, length, IfOk, IfErr, IfSome, OnErr, Some, None, ◌↔◌, IsSome, IfNone, IsErr};
+ghost use Rattle.std.specs.Borrow.{LendsIfOk, sem};
 ghost use Rattle.sdd_base.specs.State.{marks_at, IsFree, NoneFree, placed, value_at, retired, with_status, status_at};
 ghost use Rattle.sdd_base.specs.Frame.{Keeps, OnlyOf};
-ghost use Rattle.sdd_base.specs.Place.{IsOwned};
+ghost use Rattle.sdd_base.specs.Place.{IsOpen, IsOwned};
 ghost use Rattle.sdd_base.specs.Tokens.{owned_slot, ptr_slot, ptr_tag, raw_slot, raw_tag};
 
 use crate::guard::WorldGuard;
+use crate::lender::Lender;
 use crate::owner::Owned;
 use crate::pointer::{Ptr, RawPtr};
-use crate::refusal::NoSlot;
+use crate::refusal::{GuardsOpen, NoSlot};
 use crate::status::Status;
 use crate::tag::Tag;
 use crate::world::World;
@@ -47,6 +49,19 @@ pub fn as_ref<'w, T>(w: &'w World<T>, owned: &Owned<T>) -> &'w T
     ensures { Some result.now ≡ value_at w.now (owned_slot owned.now) }
 {
     w.table.value(owned.slot)
+}
+
+/// The value of an item, for writing; refused while a guard is open. Once the borrow is over, the item is what was last
+/// written, and nothing else has changed.
+///
+/// `W` is `World<T>`: the place is named by what it does, since a clause on a borrow can't name the type of a `World`.
+pub fn get_mut<'w, T, W: Lender<T>>(w: &'w mut W, owned: &Owned<T>) -> Result<&'w mut T, GuardsOpen>
+    requires { IsOwned (W.state w.old) (owned_slot owned.now) }
+    ensures* writes { sem 𝓛 (LendsIfOk W.row T.row w.entry result (λ v. W.with_item (owned_slot owned.now) v w.entry.now) w.entry.now) }
+    ensures value { IfOk result (λ v. value_at (W.state w.old) (owned_slot owned.now) ≡ Some v.now) }
+    ensures open { IsErr result ↔ ((p : ℕ) × IsOpen (W.state w.old) p) }
+{
+    w.owned_mut(owned)
 }
 
 /// A pointer to the item, without a tag.

@@ -1,17 +1,19 @@
 //! Items with counted owners.
 
-ghost use Rattle.std.specs.Prelude.{◌≡◌, ◌≢◌, ◌<◌, ◌+◌, ℕ, length, leb, IfOk, IfErr, IfSome, OnErr, Some, None, IfNone, IsTrue, ◌↔◌};
+ghost use Rattle.std.specs.Prelude.{◌≡◌, ◌≢◌, ◌<◌, ◌+◌, ℕ, length, leb, IfOk, IfErr, IfSome, OnErr, Some, None, IfNone, IsTrue, ◌↔◌, OnOk, IsErrOf};
+ghost use Rattle.std.specs.Borrow.{LendsIfOk, sem};
 ghost use Rattle.sdd_base.specs.State.{marks_at, IsFree, NoneFree, placed, value_at, with_status, status_at};
 ghost use Rattle.sdd_base.specs.Steps.{released};
 ghost use Rattle.sdd_base.specs.Frame.{Keeps, OnlyOf};
-ghost use Rattle.sdd_base.specs.Place.{IsShared};
+ghost use Rattle.sdd_base.specs.Place.{IsOpen, IsShared, HasOneOwner};
 ghost use Rattle.sdd_base.specs.Tokens.{shared_slot, ptr_slot, ptr_tag};
 
 use crate::guard::WorldGuard;
+use crate::lender::Lender;
 use crate::owner::Shared;
 use crate::pointer::Ptr;
 use crate::reclaim;
-use crate::refusal::NoSlot;
+use crate::refusal::{NoSlot, NotLent};
 use crate::status::Status;
 use crate::tag::Tag;
 use crate::world::{World, ptr};
@@ -86,6 +88,21 @@ pub fn as_ref<'w, T>(w: &'w World<T>, shared: &Shared<T>) -> &'w T
     ensures { Some result.now ≡ value_at w.now (shared_slot shared.now) }
 {
     w.table.value(shared.slot)
+}
+
+/// The value of an item, for writing; refused while a guard is open, and where `shared` isn't its one owner. Once the
+/// borrow is over, the item is what was last written, and nothing else has changed.
+///
+/// `W` is `World<T>`: the place is named by what it does, since a clause on a borrow can't name the type of a `World`.
+pub fn get_mut<'w, T, W: Lender<T>>(w: &'w mut W, shared: &Shared<T>) -> Result<&'w mut T, NotLent>
+    requires { IsShared (W.state w.old) (shared_slot shared.now) }
+    ensures* writes { sem 𝓛 (LendsIfOk W.row T.row w.entry result (λ v. W.with_item (shared_slot shared.now) v w.entry.now) w.entry.now) }
+    ensures value { IfOk result (λ v. value_at (W.state w.old) (shared_slot shared.now) ≡ Some v.now) }
+    ensures sole { OnOk result (HasOneOwner (W.state w.old) (shared_slot shared.now)) }
+    ensures others { IsErrOf result NotLent.NotSole → ¬ HasOneOwner (W.state w.old) (shared_slot shared.now) }
+    ensures open { IsErrOf result NotLent.GuardsOpen ↔ ((p : ℕ) × IsOpen (W.state w.old) p) }
+{
+    w.shared_mut(shared)
 }
 
 /// A pointer to the item, without a tag.
