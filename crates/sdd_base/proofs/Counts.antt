@@ -5,7 +5,7 @@ use Rattle.std.proofs.lemmas.List.Sums.{sum_by-set, sum_by-cons, sum_by-append}
 use Rattle.std.proofs.lemmas.Bool.{false≢true}
 use Rattle.std.proofs.lemmas.Bool.Decides.{nat_tests, eqb_tells}
 use Rattle.sdd_base.specs.Holding.{Hold, OwnedItem, SharedItem, OwnedIn, SharedIn}
-use Rattle.sdd_base.specs.State.{State, Member, status_at, value_at, cell_at, member_at, marks_at, placed, removed, waiting_as, IsIdle, with_status, with_cell, with_marks, retired, taken, vacated, weight, is_used, IsFree, IsFreeCell, rotated_bags, turned, raised, is_present, nobody, marked, fresh}
+use Rattle.sdd_base.specs.State.{State, Member, status_at, value_at, cell_at, member_at, marks_at, placed, with_value, changing, recalled, removed, waiting_as, IsIdle, with_status, with_cell, with_marks, retired, taken, vacated, weight, is_used, IsFree, IsFreeCell, rotated_bags, turned, raised, is_present, nobody, marked, fresh}
 use Rattle.sdd_base.specs.Steps.{overdue, purged, set_aside, handed, handed_as, hit, held_in, given, given_all, released_as, disowned_as, owned_ended_as, shared_ended_as, due_reclaimed, due_reclaimed_as, reclaimed, rotated, begun, opened, closed, scanned, scans, closings_after}
 use Rattle.sdd_base.specs.Place.{Sound, IsPlace, IsShared, IsOwned}
 use Rattle.sdd_base.specs.Counting.{same_hold, tally, kept_by, single_owner, shared_owners, keeps_owned, keeps_shared, owners_of, Counted, OwnersAreCounted}
@@ -16,7 +16,9 @@ use Rattle.sdd_base.specs.declared.status.Cell.TheVariants as cell
 use Rattle.sdd_base.specs.declared.status.Marks.{Marks}
 use Rattle.sdd_base.specs.declared.tag.Tag.{Tag}
 use Rattle.sdd_base.proofs.Lists.{hit-same, hit-other}
-use Rattle.sdd_base.proofs.Sounds.{inside_by, due_waiting, reclaims_next, sound_turned}
+use Rattle.sdd_base.specs.Dropping.{Dropped, undone, undone_times}
+use Rattle.sdd_base.proofs.Drops.{calls_recalled}
+use Rattle.sdd_base.proofs.Sounds.{inside_by, due_waiting, gives_given, reclaims_next, sound_turned}
 use Rattle.std.specs.List.{list_all}
 use Rattle.sdd_base.proofs.Privates.{overdue_noted, purges_next}
 use Rattle.std.proofs.lemmas.List.{length-reverse}
@@ -205,6 +207,12 @@ module _ {T : Type 0} (holds : T → List Hold) where
   tally-append : (h : Hold) (ks ls : List Hold) → tally h (ks ++ ls) ≡ tally h ks + tally h ls
   tally-append h ks ls = sum_by-append (λ k. same_hold h k) ks ls
 
+  same_owners : (k : Hold) (w w' : State T) → w'.states ≡ w.states → w'.cells ≡ w.cells → owners_of k w' ≡ owners_of k w
+  same_owners (OwnedItem j) w w' b c = ap (λ (ss : List Status). single_owner (get_or ss j status.Free)) b
+  same_owners (SharedItem j) w w' b c = ap (λ (ss : List Status). shared_owners (get_or ss j status.Free)) b
+  same_owners (OwnedIn j) w w' b c = ap (λ (cs : List Cell). keeps_owned (get_or cs j cell.Free)) c
+  same_owners (SharedIn j) w w' b c = ap (λ (cs : List Cell). keeps_shared (get_or cs j cell.Free)) c
+
   pub counted_same : (hand : List Hold) (w w' : State T) → w'.values ≡ w.values → w'.states ≡ w.states → w'.cells ≡ w.cells → Counted holds hand w → Counted holds hand w'
   counted_same hand w w' a b c h = record {
     each = λ k.
@@ -212,12 +220,6 @@ module _ {T : Type 0} (holds : T → List Hold) where
         let e = ap (sum_by (λ c. tally k (kept_by c))) c in
         omega (arith, v, e, h.each k, same_owners k w w' b c);
   }
-    where
-      same_owners : (k : Hold) (w w' : State T) → w'.states ≡ w.states → w'.cells ≡ w.cells → owners_of k w' ≡ owners_of k w
-      same_owners (OwnedItem j) w w' b c = ap (λ (ss : List Status). single_owner (get_or ss j status.Free)) b
-      same_owners (SharedItem j) w w' b c = ap (λ (ss : List Status). shared_owners (get_or ss j status.Free)) b
-      same_owners (OwnedIn j) w w' b c = ap (λ (cs : List Cell). keeps_owned (get_or cs j cell.Free)) c
-      same_owners (SharedIn j) w w' b c = ap (λ (cs : List Cell). keeps_shared (get_or cs j cell.Free)) c
 
   has_one_single : (i : ℕ) (hand : List Hold) (w : State T) → Counted holds (OwnedItem i ∷ hand) w → 1 ≤ single_owner (status_at w i)
   has_one_single i hand w h = let e = h.each (OwnedItem i) in omega (arith, e, tally-cons (OwnedItem i) (OwnedItem i) hand, hit-same i)
@@ -413,6 +415,46 @@ module _ {T : Type 0} (holds : T → List Hold) where
       let hr : Counted holds hand r = counted_reclaimed p (length m.oldest) hand u (member_at u p).due refl (ap length due ∙ length-reverse m.oldest) (sound_turned w p place.sound known (place.idle p)) (omega (arith, length-set w.members p (turned m))) (counted_same hand w u refl refl refl h) in
       counted_same hand r _ refl refl refl hr
 
+  -- what dropping goes through
+  record Dropping (p : ℕ) (hand : List Hold) (w : State T) : Type 0 where
+    pub known : p < length w.members
+    pub sound : Sound w
+    pub idle : (member_at w p).due ≡ []
+    pub counted : Counted holds hand w
+
+  dropping_next : (p : ℕ) (hand : List Hold) (w : State T) → Dropping p hand w → Dropping p hand (undone holds p w)
+  dropping_next p hand w d =
+      let r : State T = changing p recalled w in
+      let c = calls_recalled w p d.sound d.known d.idle in
+      let h : Counted holds hand r = counted_same hand w r refl refl refl d.counted in
+      elim c.due [
+        | inl e ↦
+            let same : Dropping p hand r = record { known = c.known; sound = c.sound; idle = e; counted = h } in
+            subst (λ (is : List ℕ). Dropping p hand (due_reclaimed_as holds p is r)) (sym e) same
+        | inr e ↦
+            let x = reclaims_next holds r p e.0 [] c.sound c.known e.1 in
+            record { known = omega (arith, x.known, c.known); sound = x.sound; idle = x.due; counted = counted_next p e.0 [] hand r c.sound c.known e.1 h }
+      ]
+
+  dropping_all : (n p : ℕ) (hand : List Hold) (w : State T) → Dropping p hand w → Dropping p hand (undone_times holds p n w)
+  dropping_all zero p hand w d = d
+  dropping_all (suc n) p hand w d = dropping_next p hand (undone_times holds p n w) (dropping_all n p hand w d)
+
+  counted_dropped : (h : Hold) (hand : List Hold) (w w' : State T) → IsPlace w → Counted holds (h ∷ hand) w → Dropped holds h w w' → Counted holds hand w'
+  counted_dropped h hand w w' place c d =
+      let g = gives_given w 0 h place.sound place.some in
+      let start : Dropping 0 hand (given 0 h w) = record { known = omega (arith, g.known, place.some); sound = g.sound; idle = g.due ∙ place.idle 0; counted = counted_given 0 h hand w c } in
+      let v : State T = undone_times holds 0 d.turns (given 0 h w) in
+      let end : Counted holds hand (with_marks 0 (marks_at w 0) v) = counted_same hand v _ refl refl refl (dropping_all d.turns 0 hand (given 0 h w) start).counted in
+      subst (λ (s : State T). Counted holds hand s) (sym d.now) end
+
+  counted_written : (i : ℕ) (u v : T) (hand : List Hold) (w : State T) → i < length w.values → value_at w i ≡ Some u → Counted holds (holds v ++ hand) w → Counted holds (holds u ++ hand) (with_value i v w)
+  counted_written i u v hand w inside was h = record {
+    each = λ k.
+        let old = ap (λ (o : Option T). tally k (held_in holds o)) was in
+        omega (arith, h.each k, old, same_owners k w (with_value i v w) refl refl, tally-append k (holds v) hand, tally-append k (holds u) hand, sum_by-set (λ o. tally k (held_in holds o)) w.values i (Some v) None inside);
+  }
+
   pub counted_opened : (p : ℕ) (hand : List Hold) (w : State T) → IsPlace w → p < length w.members → Counted holds hand w → Counted holds hand (opened holds p w)
   counted_opened p hand w place known h =
       let m = marks_at w p in
@@ -537,6 +579,8 @@ module _ {T : Type 0} (holds : T → List Hold) where
     placed_owned = counted_placed_owned;
     cloned = counted_cloned;
     given = counted_given;
+    dropped = counted_dropped;
+    written = counted_written;
     opened = counted_opened;
     closed = counted_closed;
     cell_made = cell_made_shared;

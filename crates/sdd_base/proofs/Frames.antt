@@ -228,6 +228,7 @@ place_placed {T} w i v s h inside was light used =
           | inr t ↦ ap is_some (get_or-set_other w.values i j (Some v) None t.1) ∙ h.sound.filled j ∙ sym (ap is_used (get_or-set_other w.states i j s status.Free t.1))
         ];
       };
+      some = h.some;
       idle = h.idle;
       past = h.past;
       began = h.began;

@@ -8,3 +8,4 @@ pub mod Sweeps
 pub mod Counts
 pub mod Privates
 pub mod Passes
+pub mod Drops

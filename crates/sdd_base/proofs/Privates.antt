@@ -136,7 +136,7 @@ module _ {T : Type 0} (holds : T → List Hold) where
 
 module _ {T : Type 0} where
   purges_calm : (p : ℕ) (w w' : State T) → Purges p w w' → Calms p w w'
-  purges_calm p w w' g = record { count = g.count; due = g.due; calm = g.calm; others = g.others; sound = g.sound }
+  purges_calm p w w' g = record { count = g.count; known = g.known; due = g.due; calm = g.calm; others = g.others; sound = g.sound }
 
   pub place_purged : (p : ℕ) (w w' : State T) → IsPlace w → Purges p w w' → IsPlace w'
   place_purged p w w' h g = place_calms w w' p h (purges_calm p w w' g)
@@ -218,8 +218,8 @@ module _ {T : Type 0} where
           );
         };
         only = λ k n. refl;
-        calm = record { count = refl; due = refl; calm = refl; others = λ k n. refl; sound = sound_status w i s h.sound inside (sym light) (sym used) };
-        place = record { sound = sound_status w i s h.sound inside (sym light) (sym used); idle = h.idle; past = h.past; began = h.began; near = h.near };
+        calm = record { count = refl; known = refl; due = refl; calm = refl; others = λ k n. refl; sound = sound_status w i s h.sound inside (sym light) (sym used) };
+        place = record { sound = sound_status w i s h.sound inside (sym light) (sym used); some = h.some; idle = h.idle; past = h.past; began = h.began; near = h.near };
         timely = λ j l. timely_set w.count w.states i j s inside new (live_timely w.count (status_at w j) l);
       }
 

@@ -106,6 +106,17 @@ has_room n ss ms i p q e waits room inside light known is =
     let caps = ap (λ (x : Participant). vec_capacity x.current) is in
     omega arith
 
+-- where a place waits in the current bag, there is room for it among what is due
+pub due_room : (n : ℕ) (ss : List Status) (ms : List Participant) (p : ℕ) (q : Participant) → n ≡ length ss → sum_by waiting ms ≤ sum_by weight ss → All (HasRoom n) ms → p < length ms → q ≡ get_or ms p q → length q.current.items ≢ 0 → length q.due.items < vec_capacity q.due
+due_room n ss ms p q e waits room known is some =
+    let all = weight-le ss in
+    let part = get_or-le-sum_by waiting ms p q known in
+    let mine : HasRoom n (get_or ms p q) = All-get_or (HasRoom n) ms p q known room in
+    let cap = mine.due in
+    let same = ap waiting is in
+    let caps = ap (λ (x : Participant). vec_capacity x.due) is in
+    omega arith
+
 pub get_or-map_at : (ms : List Participant) (p : ℕ) (q : Participant) → p < length ms → q ≡ get_or ms p q → get_or (map member_of ms) p nobody ≡ member_of q
 get_or-map_at ms p q known is = get_or-map member_of ms p q nobody known ∙ ap member_of (sym is)
 

@@ -289,13 +289,14 @@ leaves_then p u v w a b = record {
 -- what the participants keep of it
 pub record Calms {T : Type 0} (p : ℕ) (w w' : State T) : Type 0 where
   pub count : w'.count ≡ w.count
+  pub known : length w'.members ≡ length w.members
   pub due : (member_at w' p).due ≡ (member_at w p).due
   pub calm : calm (member_at w' p) ≡ calm (member_at w p)
   pub others : (k : ℕ) → k ≢ p → member_at w' k ≡ member_at w k
   pub sound : Sound w'
 
 pub calms : {T : Type 0} (p : ℕ) (w w' : State T) → Leaves p w w' → Calms p w w'
-calms p w w' g = record { count = g.count; due = g.due; calm = g.calm; others = g.others; sound = g.sound }
+calms p w w' g = record { count = g.count; known = g.known; due = g.due; calm = g.calm; others = g.others; sound = g.sound }
 
 -- place i, which didn't wait, waits
 pub leaves_waiting : {T : Type 0} (w : State T) (p i : ℕ) (s : Status) → Sound w → p < length w.members → i < length w.states → weight (status_at w i) ≡ 0 → weight s ≡ 1 → is_used s ≡ is_used (status_at w i) → ((m : ℕ) → s ≢ status.Collected m) → Leaves p w (waiting_as s p i w)
@@ -434,6 +435,7 @@ gives_all w p (x ∷ hs) h known =
 pub record Reclaims {T : Type 0} (p i : ℕ) (is : List ℕ) (w w' : State T) : Type 0 where
   pub count : w'.count ≡ w.count
   pub stays : (j : ℕ) → j ≢ i → value_at w' j ≡ value_at w j
+  pub gone : value_at w' i ≡ None
   pub places : length w'.states ≡ length w.states
   pub cells : length w'.cells ≡ length w.cells
   pub known : length w'.members ≡ length w.members
@@ -456,6 +458,7 @@ reclaims_next {T} holds w p i is h known was =
     let whole : Reclaims p i is w (due_reclaimed_as holds p (i ∷ is) w) = record {
       count = gu.count;
       stays = λ j n. ap (λ (vs : List (Option T)). get_or vs j None) gu.values ∙ get_or-set_other w.values i j None None n;
+      gone = ap (λ (vs : List (Option T)). get_or vs i None) gu.values ∙ gone_at w.values i;
       places = gu.places ∙ length-set w.states i s;
       cells = gu.cells;
       known = gu.known ∙ size;

@@ -2,8 +2,9 @@
 use Rattle.std.specs.Prelude.{◌≡◌, ◌≢◌, ℕ, ◌+◌, ◌<◌, Bool, true, false, cond, Option, None, Some, List, [], ◌∷◌, ◌++◌, length}
 use Rattle.std.specs.List.{sum_by}
 use Rattle.sdd_base.specs.Holding.{Hold, OwnedItem, SharedItem, OwnedIn, SharedIn}
-use Rattle.sdd_base.specs.State.{State, status_at, value_at, cell_at, placed, with_status, with_cell, waiting_as, IsFree, IsFreeCell, IsIdle, fresh}
+use Rattle.sdd_base.specs.State.{State, status_at, value_at, cell_at, placed, with_value, with_status, with_cell, waiting_as, IsFree, IsFreeCell, IsIdle, fresh}
 use Rattle.sdd_base.specs.Steps.{hit, held_in, given, opened, closed, set_aside, purged, handed}
+use Rattle.sdd_base.specs.Dropping.{Dropped}
 use Rattle.sdd_base.specs.Place.{IsPlace, IsShared, IsOwned}
 use Rattle.sdd_base.specs.declared.sizes.Sizes.{Sizes}
 use Rattle.sdd_base.specs.declared.tag.Tag.{Tag}
@@ -103,6 +104,10 @@ pub record OwnersAreCounted {T : Type 0} (holds : T → List Hold) : Type 0 wher
   pub cloned : (i n : ℕ) (hand : List Hold) (w : State T) → status_at w i ≡ status.Shared n → i < length w.states → Counted holds hand w → Counted holds (SharedItem i ∷ hand) (with_status i (status.Shared (n + 1)) w)
   -- an owner, or a cell with what it keeps, is given back
   pub given : (p : ℕ) (h : Hold) (hand : List Hold) (w : State T) → Counted holds (h ∷ hand) w → Counted holds hand (given p h w)
+  -- an owner is given back at once, with all that only it held
+  pub dropped : (h : Hold) (hand : List Hold) (w w' : State T) → IsPlace w → Counted holds (h ∷ hand) w → Dropped holds h w w' → Counted holds hand w'
+  -- an item is written: what it will hold comes out of the hand, and what it held into it
+  pub written : (i : ℕ) (u v : T) (hand : List Hold) (w : State T) → i < length w.values → value_at w i ≡ Some u → Counted holds (holds v ++ hand) w → Counted holds (holds u ++ hand) (with_value i v w)
   -- guards open and close
   pub opened : (p : ℕ) (hand : List Hold) (w : State T) → IsPlace w → p < length w.members → Counted holds hand w → Counted holds hand (opened holds p w)
   pub closed : (p : ℕ) (hand : List Hold) (w : State T) → Counted holds hand w → Counted holds hand (closed p w)

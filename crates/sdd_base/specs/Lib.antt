@@ -8,3 +8,4 @@ pub mod View
 pub mod Frame
 pub mod Counting
 pub mod Passing
+pub mod Dropping

@@ -24,6 +24,8 @@ IsOpen w p = 0 < (marks_at w p).nesting
 
 pub record IsPlace {T : Type 0} (w : State T) : Type 0 where
   pub sound : Sound w
+  -- there is a participant
+  pub some : 0 < length w.members
   -- nothing is being reclaimed
   pub idle : (k : ℕ) → (member_at w k).due ≡ []
   -- no participant is ahead of the count, and it is at most one ahead of an open guard

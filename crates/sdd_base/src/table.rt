@@ -4,7 +4,7 @@
 ghost use Rattle.std.specs.Prelude.{◌≡◌, ◌≢◌, ℕ, ◌+◌, ◌<◌, ◌≤◌, ◌^◌, ◌-◌, List, length, MatchOption, MatchResult, Some, None, OnOk, IfSome, IfNone, IfOk, IfErr, [], ◌∷◌, false, true, replicate, IsTrue, IsFalse, ◌↔◌, sum_by, vec_capacity, vec_len, ◌++◌, map, All, IsSome};
 ghost use Rattle.std.specs.Borrow.{sem};
 ghost use Rattle.std.specs.Option.Follows.{option_follows_value};
-ghost use Rattle.sdd_base.specs.State.{IsIdle, NoneIdle, with_status, with_marks, IsFree, NoneFree, IsFreeCell, NoCellFree, in_use, IsUnused, waiting_as, status_at, member_at, value_at, cell_at, rotated_bags, placed, raised, nobody, TakesDue, with_cell, is_present, is_used, weight, idleness, vacancy, emptiness, fresh, removed, usage};
+ghost use Rattle.sdd_base.specs.State.{changing, recalled, IsIdle, NoneIdle, with_status, with_marks, IsFree, NoneFree, IsFreeCell, NoCellFree, in_use, IsUnused, waiting_as, status_at, member_at, value_at, cell_at, rotated_bags, placed, raised, nobody, TakesDue, with_cell, is_present, is_used, weight, idleness, vacancy, emptiness, fresh, removed, usage};
 ghost use Rattle.std.specs.List.{list_all};
 ghost use Rattle.sdd_base.specs.View.{Lists, IsStack, HasRoom, member_of, waiting};
 ghost use Rattle.sdd_base.specs.Steps.{bags_empty, NoneOpen};
@@ -144,6 +144,22 @@ impl<T> Table<T> {
         ensures { self.new ≡ rotated_bags p self.old }
     {
         self.members[p].turn();
+    }
+
+    /// How many places wait in the current bag of `p`.
+    pub(crate) fn newest(&self, p: usize) -> usize
+        requires { p < length self.now.members }
+        ensures { result ≡ length (member_at self.now p).current }
+    {
+        self.members[p].current.len()
+    }
+
+    /// What `p` retired last is due.
+    pub(crate) fn recall(&mut self, p: usize)
+        requires { p < length self.old.members }
+        ensures { self.new ≡ changing p recalled self.old }
+    {
+        self.members[p].recall();
     }
 
     /// Puts a value into a free slot, if there is one.

@@ -633,7 +633,10 @@ fn a_shared_value_is_written_by_its_one_owner(rt: HostRuntime) -> Result<(), Fai
     let Some(second) = world::shared::clone(&mut w, &first) else {
         panic!(rt; "few owners are out");
     };
-    assert_eq!(rt; world::shared::get_mut(&mut w, &first).err(), Some(NotLent::NotSole));
+    assert_eq!(rt;
+        world::shared::get_mut(&mut w, &first).err(),
+        Some(NotLent::NotSole)
+    );
     assert!(rt; !world::shared::release(&mut w, second, 0));
     match world::shared::get_mut(&mut w, &first) {
         Ok(value) => *value += 2,
@@ -651,11 +654,17 @@ fn nothing_is_written_under_a_guard(rt: HostRuntime) -> Result<(), Fail> {
     let Ok(owned) = world::owned::new(&mut w, 5) else {
         panic!(rt; "a slot is free");
     };
-    assert_eq!(rt; world::owned::get_mut(&mut w, &owned).err(), Some(GuardsOpen));
+    assert_eq!(rt;
+        world::owned::get_mut(&mut w, &owned).err(),
+        Some(GuardsOpen)
+    );
     let Ok(shared) = world::shared::new(&mut w, 6) else {
         panic!(rt; "a slot is free");
     };
-    assert_eq!(rt; world::shared::get_mut(&mut w, &shared).err(), Some(NotLent::GuardsOpen));
+    assert_eq!(rt;
+        world::shared::get_mut(&mut w, &shared).err(),
+        Some(NotLent::GuardsOpen)
+    );
     let Owned { slot: _, of: _ } = owned;
     let Shared { slot: _, of: _ } = shared;
     let WorldGuard { participant: _ } = guard;

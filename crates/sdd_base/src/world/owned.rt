@@ -1,16 +1,20 @@
 //! Items with one owner.
 
-ghost use Rattle.std.specs.Prelude.{◌≡◌, ◌≢◌, ◌<◌, ℕ, length, IfOk, IfErr, IfSome, OnErr, Some, None, ◌↔◌, IsSome, IfNone, IsErr};
+ghost use Rattle.std.specs.Prelude.{◌≡◌, ◌≢◌, ◌<◌, ℕ, length, IfOk, IfErr, IfSome, OnOk, OnErr, Some, None, ◌↔◌, IsSome, IfNone, IsErr};
 ghost use Rattle.std.specs.Borrow.{LendsIfOk, sem};
 ghost use Rattle.sdd_base.specs.State.{marks_at, IsFree, NoneFree, placed, value_at, retired, with_status, status_at};
 ghost use Rattle.sdd_base.specs.Frame.{Keeps, OnlyOf};
+ghost use Rattle.sdd_base.specs.Dropping.{Dropped};
+ghost use Rattle.sdd_base.specs.Holding.{OwnedItem};
 ghost use Rattle.sdd_base.specs.Place.{IsOpen, IsOwned};
 ghost use Rattle.sdd_base.specs.Tokens.{owned_slot, ptr_slot, ptr_tag, raw_slot, raw_tag};
 
 use crate::guard::WorldGuard;
+use crate::holds::{Held, Holds};
 use crate::lender::Lender;
 use crate::owner::Owned;
 use crate::pointer::{Ptr, RawPtr};
+use crate::reclaim;
 use crate::refusal::{GuardsOpen, NoSlot};
 use crate::status::Status;
 use crate::tag::Tag;
@@ -115,6 +119,21 @@ pub fn from_raw<T>(w: &mut World<T>, ptr: RawPtr<T>) -> Option<Owned<T>>
         }
         _ => None,
     }
+}
+
+/// Ends the item now, without waiting for anybody, and with it what it alone held; what others own of that stays. It is
+/// handed back while a guard is open.
+pub fn drop_in_place<T: Holds>(w: &mut World<T>, owned: Owned<T>) -> Result<(), Owned<T>>
+    requires { IsOwned w.old (owned_slot owned) }
+    ensures dropped { OnOk result (Dropped T.holds (OwnedItem (owned_slot owned)) w.old w.new) }
+    ensures back { IfErr result (λ o. (owned_slot o ≡ owned_slot owned) × (w.new ≡ w.old)) }
+    ensures open { IsErr result ↔ ((p : ℕ) × IsOpen w.old p) }
+{
+    if w.table.any_open() {
+        return Err(owned);
+    }
+    reclaim::drop_now(&mut w.table, Held::Owned(owned));
+    Ok(())
 }
 
 /// Retires the item: it waits in the current bag of participant `p`.

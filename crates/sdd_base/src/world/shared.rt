@@ -1,14 +1,17 @@
 //! Items with counted owners.
 
-ghost use Rattle.std.specs.Prelude.{◌≡◌, ◌≢◌, ◌<◌, ◌+◌, ℕ, length, leb, IfOk, IfErr, IfSome, OnErr, Some, None, IfNone, IsTrue, ◌↔◌, OnOk, IsErrOf};
+ghost use Rattle.std.specs.Prelude.{◌≡◌, ◌≢◌, ◌<◌, ◌+◌, ℕ, length, leb, IfOk, IfErr, IfSome, OnErr, Some, None, IfNone, IsTrue, ◌↔◌, OnOk, IsErr, IsErrOf};
 ghost use Rattle.std.specs.Borrow.{LendsIfOk, sem};
 ghost use Rattle.sdd_base.specs.State.{marks_at, IsFree, NoneFree, placed, value_at, with_status, status_at};
 ghost use Rattle.sdd_base.specs.Steps.{released};
 ghost use Rattle.sdd_base.specs.Frame.{Keeps, OnlyOf};
+ghost use Rattle.sdd_base.specs.Dropping.{Dropped};
+ghost use Rattle.sdd_base.specs.Holding.{SharedItem};
 ghost use Rattle.sdd_base.specs.Place.{IsOpen, IsShared, HasOneOwner};
 ghost use Rattle.sdd_base.specs.Tokens.{shared_slot, ptr_slot, ptr_tag};
 
 use crate::guard::WorldGuard;
+use crate::holds::{Held, Holds};
 use crate::lender::Lender;
 use crate::owner::Shared;
 use crate::pointer::Ptr;
@@ -80,6 +83,24 @@ pub fn release<T>(w: &mut World<T>, shared: Shared<T>, p: usize) -> bool
 {
     let Shared { slot, of: _ } = shared;
     reclaim::release(&mut w.table, p, slot)
+}
+
+/// Gives an owner back, and answers whether it was the last, those of cells and items counted. With the last one the
+/// item ends now, without waiting for anybody, and with it what it alone held; what others own of that stays. The owner
+/// is handed back while a guard is open.
+pub fn drop_in_place<T: Holds>(w: &mut World<T>, shared: Shared<T>) -> Result<bool, Shared<T>>
+    requires { IsShared w.old (shared_slot shared) }
+    ensures dropped { OnOk result (Dropped T.holds (SharedItem (shared_slot shared)) w.old w.new) }
+    ensures last { IfOk result (λ last. (n : ℕ) → status_at w.old (shared_slot shared) ≡ Status.Shared n → last ≡ leb n 1) }
+    ensures back { IfErr result (λ s. (shared_slot s ≡ shared_slot shared) × (w.new ≡ w.old)) }
+    ensures open { IsErr result ↔ ((p : ℕ) × IsOpen w.old p) }
+{
+    if w.table.any_open() {
+        return Err(shared);
+    }
+    let last = matches!(w.table.status(shared.slot), Status::Shared(0 | 1));
+    reclaim::drop_now(&mut w.table, Held::Shared(shared));
+    Ok(last)
 }
 
 /// The value of an item.
