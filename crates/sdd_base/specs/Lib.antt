@@ -9,3 +9,4 @@ pub mod Frame
 pub mod Counting
 pub mod Passing
 pub mod Dropping
+pub mod Collecting

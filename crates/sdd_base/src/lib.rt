@@ -11,6 +11,8 @@ pub mod collector;
 pub mod epoch;
 pub mod guard;
 pub mod holds;
+#[cfg(test)]
+mod in_place;
 pub mod job;
 pub mod laws;
 pub mod lender;

@@ -1,8 +1,8 @@
-ghost use Rattle.std.specs.Prelude.{◌≡◌, ◌<◌, ◌≤◌, length, IfOk};
+ghost use Rattle.std.specs.Prelude.{◌≡◌, ◌<◌, ◌≤◌, length, IfOk, IsTrue};
 ghost use Rattle.sdd_base.specs.State.{fresh};
 ghost use Rattle.sdd_base.specs.Frame.{OnlyOf};
-ghost use Rattle.sdd_base.specs.Place.{IsOpen, IsSharedCell};
-ghost use Rattle.sdd_base.specs.Tokens.{participant_of, shared_cell};
+ghost use Rattle.sdd_base.specs.Place.{IsOpen, IsShared, IsSharedCell};
+ghost use Rattle.sdd_base.specs.Tokens.{participant_of, shared_cell, shared_slot};
 
 use crate::cell::{AtomicOwned, AtomicRaw, AtomicShared};
 use crate::collector::PrivateCollector;
@@ -12,8 +12,9 @@ use crate::holds::{Held, Holds};
 use crate::job::{Job, Task};
 use crate::owner::{Owned, Shared};
 use crate::pointer::{Ptr, RawPtr};
-use crate::refusal::{GuardsOpen, NoSlot, NotLent};
+use crate::refusal::NoSlot;
 use crate::sizes::Sizes;
+use crate::status::Status;
 use crate::tag::Tag;
 use crate::world;
 use crate::world::World;
@@ -24,7 +25,7 @@ use std::sync::atomic::{AtomicU32, Ordering};
 use std::test::Fail;
 
 /// A world of numbers with two participants.
-fn numbers(alloc: Global, slots: usize, cells: usize) -> Result<World<u64>, AllocError>
+pub(crate) fn numbers(alloc: Global, slots: usize, cells: usize) -> Result<World<u64>, AllocError>
     requires slots { slots ≤ 8 }
     requires cells { cells ≤ 8 }
     ensures { IfOk result (λ w. w ≡ fresh (record { participants = 2; slots = slots; cells = cells; jobs = 0 })) }
@@ -75,7 +76,7 @@ fn tags_have_numbers(rt: HostRuntime) -> Result<(), Fail> {
 }
 
 /// One accelerated guard of participant `p`.
-fn pass<T: Holds>(w: &mut World<T>, p: usize) -> bool
+pub(crate) fn pass<T: Holds>(w: &mut World<T>, p: usize) -> bool
     requires { p < length w.old.members }
     ensures members { length w.new.members ≡ length w.old.members }
     ensures only { OnlyOf p w.old w.new }
@@ -91,7 +92,7 @@ fn pass<T: Holds>(w: &mut World<T>, p: usize) -> bool
 }
 
 /// `n` accelerated guards of participant `p`, one by one.
-fn passes<T: Holds>(w: &mut World<T>, p: usize, n: usize) -> bool
+pub(crate) fn passes<T: Holds>(w: &mut World<T>, p: usize, n: usize) -> bool
     requires { p < length w.old.members }
     ensures members { length w.new.members ≡ length w.old.members }
     ensures only { OnlyOf p w.old w.new }
@@ -196,7 +197,7 @@ fn a_guard_keeps_what_it_names(rt: HostRuntime) -> Result<(), Fail> {
 }
 
 /// A directory of segments, or a segment.
-enum Item {
+pub(crate) enum Item {
     Directory(Vec<Shared<Item>>),
     Segment(u64),
 }
@@ -417,8 +418,15 @@ fn a_later_collect_reclaims_what_three_raises_let_go(rt: HostRuntime) -> Result<
     Ok(())
 }
 
+/// Whether `shared` is an owner of an item that is there, as every owner is.
+pub(crate) fn is_live<T>(w: &World<T>, shared: &Shared<T>) -> bool
+    ensures { IsTrue result → IsShared w.now (shared_slot shared.now) }
+{
+    shared.slot < w.table.places() && matches!(w.table.status(shared.slot), Status::Shared(_))
+}
+
 /// An open guard of participant `p`, where its nesting isn't at its end.
-fn guarded<T: Holds, R: Abort>(rt: &R, w: &mut World<T>, p: usize) -> WorldGuard
+pub(crate) fn guarded<T: Holds, R: Abort>(rt: &R, w: &mut World<T>, p: usize) -> WorldGuard
     requires { p < length w.old.members }
     ensures guard { participant_of result ≡ p }
     ensures open { IsOpen w.new p }
@@ -605,68 +613,6 @@ fn a_world_is_handed_back_while_something_is_out(rt: HostRuntime) -> Result<(), 
     };
     assert_eq!(rt; w.slots_in_use(), 2);
     let Owned { slot: _, of: _ } = owned;
-    let WorldGuard { participant: _ } = guard;
-    Ok(())
-}
-
-#[test]
-fn an_owned_value_is_written(rt: HostRuntime) -> Result<(), Fail> {
-    let mut w = numbers(rt.alloc(), 1, 0)?;
-    let Ok(owned) = world::owned::new(&mut w, 5) else {
-        panic!(rt; "a slot is free");
-    };
-    match world::owned::get_mut(&mut w, &owned) {
-        Ok(value) => *value += 2,
-        Err(_) => panic!(rt; "no guard is open"),
-    }
-    assert_eq!(rt; *world::owned::as_ref(&w, &owned), 7);
-    let Owned { slot: _, of: _ } = owned;
-    Ok(())
-}
-
-#[test]
-fn a_shared_value_is_written_by_its_one_owner(rt: HostRuntime) -> Result<(), Fail> {
-    let mut w = numbers(rt.alloc(), 1, 0)?;
-    let Ok(first) = world::shared::new(&mut w, 5) else {
-        panic!(rt; "a slot is free");
-    };
-    let Some(second) = world::shared::clone(&mut w, &first) else {
-        panic!(rt; "few owners are out");
-    };
-    assert_eq!(rt;
-        world::shared::get_mut(&mut w, &first).err(),
-        Some(NotLent::NotSole)
-    );
-    assert!(rt; !world::shared::release(&mut w, second, 0));
-    match world::shared::get_mut(&mut w, &first) {
-        Ok(value) => *value += 2,
-        Err(_) => panic!(rt; "no guard is open"),
-    }
-    assert_eq!(rt; *world::shared::as_ref(&w, &first), 7);
-    let Shared { slot: _, of: _ } = first;
-    Ok(())
-}
-
-#[test]
-fn nothing_is_written_under_a_guard(rt: HostRuntime) -> Result<(), Fail> {
-    let mut w = numbers(rt.alloc(), 2, 0)?;
-    let guard = guarded(&rt, &mut w, 1);
-    let Ok(owned) = world::owned::new(&mut w, 5) else {
-        panic!(rt; "a slot is free");
-    };
-    assert_eq!(rt;
-        world::owned::get_mut(&mut w, &owned).err(),
-        Some(GuardsOpen)
-    );
-    let Ok(shared) = world::shared::new(&mut w, 6) else {
-        panic!(rt; "a slot is free");
-    };
-    assert_eq!(rt;
-        world::shared::get_mut(&mut w, &shared).err(),
-        Some(NotLent::GuardsOpen)
-    );
-    let Owned { slot: _, of: _ } = owned;
-    let Shared { slot: _, of: _ } = shared;
     let WorldGuard { participant: _ } = guard;
     Ok(())
 }

@@ -33,7 +33,7 @@ pub mod shared;
 /// A place of one thread, with room for all that its sizes name.
 #[derive(Drop)]
 pub struct World<T> {
-    table: Table<T>,
+    pub(crate) table: Table<T>,
 }
 
 impl<T> Model for World<T> {

@@ -229,6 +229,7 @@ pub fn get_shared<T>(
 ) -> Option<Shared<T>>
     requires { IsSharedCell w.old (shared_cell cell.now) }
     ensures more { IfSome result (λ s. (tag : Tag) × (cell_at w.old (shared_cell cell.now) ≡ Cell.OfShared (Some (shared_slot s)) tag) × (n : ℕ) × (status_at w.old (shared_slot s) ≡ Status.Shared n) × (w.new ≡ with_status (shared_slot s) (Status.Shared (n + 1)) w.old)) }
+    ensures room { IfSome result (λ s. (n : ℕ) → status_at w.old (shared_slot s) ≡ Status.Shared n → n < 4294967295) }
     ensures none { IfNone result ((w.new ≡ w.old) × ((i n : ℕ) (tag : Tag) → cell_at w.old (shared_cell cell.now) ≡ Cell.OfShared (Some i) tag → n < 4294967295 → status_at w.old i ≢ Status.Shared n)) }
     ensures keeps { Keeps w.old w.new }
 {
@@ -248,8 +249,10 @@ pub fn clone<T>(
 ) -> Result<AtomicShared<T>, NoSlot>
     requires { IsSharedCell w.old (shared_cell cell.now) }
     ensures free { IfOk result (λ c. IsFreeCell w.old (shared_cell c)) }
+    ensures used { IfOk result (λ c. IsSharedCell w.new (shared_cell c)) }
     ensures refused { OnErr result ((w.new ≡ w.old) × NoCellFree w.old) }
     ensures more { (i n : ℕ) (tag : Tag) → cell_at w.old (shared_cell cell.now) ≡ Cell.OfShared (Some i) tag → status_at w.old i ≡ Status.Shared n → n < 4294967295 → IfOk result (λ c. w.new ≡ with_cell (shared_cell c) (Cell.OfShared (Some i) tag) (with_status i (Status.Shared (n + 1)) w.old)) }
+    ensures none { (i : ℕ) (tag : Tag) → cell_at w.old (shared_cell cell.now) ≡ Cell.OfShared (Some i) tag → ((n : ℕ) → n < 4294967295 → status_at w.old i ≢ Status.Shared n) → IfOk result (λ c. w.new ≡ with_cell (shared_cell c) (Cell.OfShared None tag) w.old) }
     ensures null { (tag : Tag) → cell_at w.old (shared_cell cell.now) ≡ Cell.OfShared None tag → IfOk result (λ c. w.new ≡ with_cell (shared_cell c) (Cell.OfShared None tag) w.old) }
     ensures keeps { Keeps w.old w.new }
 {

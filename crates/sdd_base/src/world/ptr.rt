@@ -13,6 +13,7 @@ use crate::world::World;
 /// One more owner of the item in `slot`, where it is a `Shared` one below the greatest count.
 pub(crate) fn add_owner<T>(w: &mut World<T>, slot: usize) -> Option<Shared<T>>
     ensures more { IfSome result (λ s. (shared_slot s ≡ slot) × (n : ℕ) × (status_at w.old slot ≡ Status.Shared n) × (w.new ≡ with_status slot (Status.Shared (n + 1)) w.old)) }
+    ensures room { IfSome result (λ s. (n : ℕ) → status_at w.old (shared_slot s) ≡ Status.Shared n → n < 4294967295) }
     ensures none { IfNone result ((w.new ≡ w.old) × ((n : ℕ) → n < 4294967295 → status_at w.old slot ≢ Status.Shared n)) }
     ensures keeps { Keeps w.old w.new }
 {
@@ -32,6 +33,7 @@ pub(crate) fn add_owner<T>(w: &mut World<T>, slot: usize) -> Option<Shared<T>>
 /// greatest count of owners.
 pub fn get_shared<T>(w: &mut World<T>, at: Ptr<'static, T>) -> Option<Shared<T>>
     ensures more { IfSome result (λ s. (ptr_slot at.entry ≡ Some (shared_slot s)) × (n : ℕ) × (status_at w.old (shared_slot s) ≡ Status.Shared n) × (w.new ≡ with_status (shared_slot s) (Status.Shared (n + 1)) w.old)) }
+    ensures room { IfSome result (λ s. (n : ℕ) → status_at w.old (shared_slot s) ≡ Status.Shared n → n < 4294967295) }
     ensures none { IfNone result ((w.new ≡ w.old) × IfSome (ptr_slot at.entry) (λ i. (n : ℕ) → n < 4294967295 → status_at w.old i ≢ Status.Shared n)) }
     ensures keeps { Keeps w.old w.new }
 {

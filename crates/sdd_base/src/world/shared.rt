@@ -150,6 +150,7 @@ pub fn get_guarded_ref<'w, T>(w: &'w World<T>, shared: &Shared<T>, _guard: &Worl
 pub fn try_from<T>(w: &mut World<T>, at: Ptr<'static, T>) -> Result<Shared<T>, Ptr<'static, T>>
     ensures more { IfOk result (λ s. (ptr_slot at.entry ≡ Some (shared_slot s)) × (n : ℕ) × (status_at w.old (shared_slot s) ≡ Status.Shared n) × (w.new ≡ with_status (shared_slot s) (Status.Shared (n + 1)) w.old)) }
     ensures back { IfErr result (λ r. (ptr_slot r ≡ ptr_slot at.entry) × (ptr_tag r ≡ ptr_tag at.entry) × (w.new ≡ w.old)) }
+    ensures room { IfOk result (λ s. (n : ℕ) → status_at w.old (shared_slot s) ≡ Status.Shared n → n < 4294967295) }
     ensures none { OnErr result (IfSome (ptr_slot at.entry) (λ i. (n : ℕ) → n < 4294967295 → status_at w.old i ≢ Status.Shared n)) }
     ensures keeps { Keeps w.old w.new }
 {
