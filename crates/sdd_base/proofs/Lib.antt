@@ -9,3 +9,4 @@ pub mod Counts
 pub mod Privates
 pub mod Passes
 pub mod Drops
+pub mod Notes

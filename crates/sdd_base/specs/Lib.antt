@@ -10,3 +10,4 @@ pub mod Counting
 pub mod Passing
 pub mod Dropping
 pub mod Collecting
+pub mod Notes

@@ -2,6 +2,7 @@
 
 ghost use Rattle.sdd_base.specs.Counting.{OwnersAreCounted};
 ghost use Rattle.sdd_base.specs.Frame.{OwnedIsProtected, StaysUntilClosed};
+ghost use Rattle.sdd_base.specs.Notes.{CollectorsAreInOrder};
 ghost use Rattle.sdd_base.specs.Passing.{PassesReclaim};
 
 use crate::holds::Holds;
@@ -24,4 +25,11 @@ pub fn guards_protect<T>()
 /// for each level of items that hold items empty the bags.
 pub fn passes_reclaim<T: Holds>()
     ensures { PassesReclaim T.holds }
+{}
+
+/// Collectors are in order, over every call: each item that waits in one is named by one of them once, and the counts
+/// that were noted rise along it. So a collector with room for all places always has room, and after a `collect` nothing
+/// in it is overdue.
+pub fn collectors_are_in_order<T: Holds>()
+    ensures { CollectorsAreInOrder T.holds }
 {}
