@@ -6,7 +6,7 @@ use Rattle.std.proofs.lemmas.Bool.Decides.{nat_tests, eqb_tells}
 use Rattle.std.proofs.lemmas.List.{length-append, length-reverse}
 use Rattle.std.proofs.lemmas.List.Sums.{sum_by-set, sum_by-cons, sum_by-append}
 use Rattle.sdd_base.specs.Holding.{Hold, OwnedItem, SharedItem, OwnedIn, SharedIn}
-use Rattle.sdd_base.specs.State.{State, Member, status_at, value_at, cell_at, member_at, marks_at, placed, with_status, with_cell, with_marks, waiting_as, retired, taken, vacated, weight, IsFree, IsIdle, rotated_bags, turned, raised, is_present, nobody, marked, fresh, removed}
+use Rattle.sdd_base.specs.State.{State, Member, status_at, value_at, cell_at, member_at, marks_at, placed, with_status, with_cell, with_marks, waiting_as, retired, taken, vacated, weight, IsFree, IsIdle, rotated_bags, turned, raised, is_present, nobody, marked, fresh, removed, changing, recalled}
 use Rattle.sdd_base.specs.Steps.{times, hit, given, given_all, released_as, disowned_as, owned_ended_as, shared_ended_as, due_reclaimed, due_reclaimed_as, held_in, reclaimed, rotated, begun, opened, closed, scanned, scans, closings_after, overdue, set_aside, enqueued, purged, left_waiting, handed, handed_as, IsTimely}
 use Rattle.sdd_base.specs.Place.{Sound, IsPlace}
 use Rattle.sdd_base.specs.Notes.{note_of, note_at, noted, AreCollected, NotesRise, SameNotes, IsInOrder, NoneOverdue, CollectorsAreInOrder}
@@ -18,7 +18,9 @@ use Rattle.sdd_base.specs.declared.status.Cell.{Cell}
 use Rattle.sdd_base.specs.declared.status.Cell.TheVariants as cell
 use Rattle.sdd_base.proofs.Lists.{hit-same, hit-other, times-append}
 use Rattle.sdd_base.proofs.Slots.{light_sum}
-use Rattle.sdd_base.proofs.Sounds.{inside_by, due_waiting, reclaims_next, sound_turned}
+use Rattle.sdd_base.specs.Dropping.{Dropped, undone, undone_times}
+use Rattle.sdd_base.proofs.Drops.{calls_recalled}
+use Rattle.sdd_base.proofs.Sounds.{gives_given, inside_by, due_waiting, reclaims_next, sound_turned}
 use Rattle.sdd_base.proofs.Places.{place_begun}
 use Rattle.sdd_base.proofs.Privates.{overdue_noted}
 
@@ -355,6 +357,39 @@ module _ {T : Type 0} (holds : T → List Hold) where
       let outer : SameNotes w (cond (scans m) (with_marks p k1 (scanned w)) (with_marks p k2 w)) = elim (scans m) as (λ c. SameNotes w (cond c (with_marks p k1 (scanned w)) (with_marks p k2 w))) [ true ↦ yes | false ↦ plain k2 ] in
       elim (m.nesting == 1) as (λ c. SameNotes w (cond c (cond (scans m) (with_marks p k1 (scanned w)) (with_marks p k2 w)) (with_marks p (record m { nesting = m.nesting - 1 }) w))) [ true ↦ outer | false ↦ plain (record m { nesting = m.nesting - 1 }) ]
 
+  -- as far as dropping has come
+  record Still (p : ℕ) (w v : State T) : Type 0 where
+    known : p < length v.members
+    sound : Sound v
+    idle : (member_at v p).due ≡ []
+    quiet : Quiet w v
+
+  still_next : (p : ℕ) (w v : State T) → Still p w v → Still p w (undone holds p v)
+  still_next p w v s =
+      let r : State T = changing p recalled v in
+      let c = calls_recalled v p s.sound s.known s.idle in
+      let first : Quiet w r = record { count = s.quiet.count; notes = s.quiet.notes } in
+      elim c.due [
+        | inl e ↦
+            let same : Still p w r = record { known = c.known; sound = c.sound; idle = e; quiet = first } in
+            subst (λ (is : List ℕ). Still p w (due_reclaimed_as holds p is r)) (sym e) same
+        | inr e ↦
+            let x = reclaims_next holds r p e.0 [] c.sound c.known e.1 in
+            record { known = omega (arith, x.known, c.known); sound = x.sound; idle = x.due; quiet = same_then w r (due_reclaimed holds p r) first (same_next p e.0 [] r c.sound c.known e.1) }
+      ]
+
+  still_all : (n p : ℕ) (w v : State T) → Still p w v → Still p w (undone_times holds p n v)
+  still_all zero p w v s = s
+  still_all (suc n) p w v s = still_next p w (undone_times holds p n v) (still_all n p w v s)
+
+  same_dropped : (h : Hold) (w w' : State T) → IsPlace w → Dropped holds h w w' → SameNotes w w'
+  same_dropped h w w' place d =
+      let g = gives_given w 0 h place.sound place.some in
+      let start : Still 0 w (given 0 h w) = record { known = omega (arith, g.known, place.some); sound = g.sound; idle = g.due ∙ place.idle 0; quiet = same_given 0 h w } in
+      let end = (still_all d.turns 0 w (given 0 h w) start).quiet in
+      let there : SameNotes w (with_marks 0 (marks_at w 0) (undone_times holds 0 d.turns (given 0 h w))) = record { count = omega (arith, end.count); notes = end.notes } in
+      subst (λ (s : State T). SameNotes w s) (sym d.now) there
+
   pub collectors_are_in_order : CollectorsAreInOrder holds
   collectors_are_in_order = record {
     fresh = λ n j. sym (fresh_noted n.slots n.jobs j);
@@ -363,6 +398,7 @@ module _ {T : Type 0} (holds : T → List Hold) where
     used = λ i s w inside old new. quiet w (with_status i s w) (same_status i s w inside (new ∙ sym old));
     celled = λ c k w. quiet w (with_cell c k w) (same_cell c k w);
     given = λ p h w. quiet w (given p h w) (same_given p h w);
+    dropped = same_dropped;
     deferred = λ p i w idle. quiet w (waiting_as status.Deferred p i w) (same_waiting p i status.Deferred w idle.0 (sym (ap note_of idle.1)));
     opened = same_opened;
     closed = same_closed;

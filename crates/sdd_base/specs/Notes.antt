@@ -3,6 +3,7 @@ use Rattle.std.specs.Prelude.{◌≡◌, ℕ, ◌+◌, ◌<◌, ◌≤◌, false
 use Rattle.sdd_base.specs.Holding.{Hold}
 use Rattle.sdd_base.specs.State.{State, status_at, placed, with_value, with_status, with_cell, waiting_as, IsFree, IsIdle, fresh}
 use Rattle.sdd_base.specs.Steps.{times, given, opened, closed, overdue, set_aside, enqueued, purged, left_waiting, handed}
+use Rattle.sdd_base.specs.Dropping.{Dropped}
 use Rattle.sdd_base.specs.Place.{IsPlace}
 use Rattle.sdd_base.specs.declared.sizes.Sizes.{Sizes}
 use Rattle.sdd_base.specs.declared.status.Status.{Status}
@@ -59,6 +60,7 @@ pub record CollectorsAreInOrder {T : Type 0} (holds : T → List Hold) : Type 0 
   pub used : (i : ℕ) (s : Status) (w : State T) → i < length w.states → note_at w i ≡ None → note_of s ≡ None → SameNotes w (with_status i s w)
   pub celled : (c : ℕ) (k : Cell) (w : State T) → SameNotes w (with_cell c k w)
   pub given : (p : ℕ) (h : Hold) (w : State T) → SameNotes w (given p h w)
+  pub dropped : (h : Hold) (w w' : State T) → IsPlace w → Dropped holds h w w' → SameNotes w w'
   pub deferred : (p i : ℕ) (w : State T) → IsIdle w i → SameNotes w (waiting_as status.Deferred p i w)
   pub opened : (p : ℕ) (w : State T) → IsPlace w → p < length w.members → SameNotes w (opened holds p w)
   pub closed : (p : ℕ) (w : State T) → SameNotes w (closed p w)
