@@ -85,8 +85,8 @@ names_fit (i ∷ is) ss h =
     let one : noted (get_or ss i status.Free) ≡ 1 = omega (arith, h i, mine, hit-same i, noted-one (get_or ss i status.Free)) in
     let inside = noted_inside ss i (omega (arith, one)) in
     let each : (j : ℕ) → times j is ≤ noted (get_or ss' j status.Free) = λ j.
-        let whole : times j (i ∷ is) ≡ hit i j + times j is = sum_by-cons (λ k. hit k j) i is in
-        omega (arith, h j, whole, noted_down ss i j status.Free inside one refl) in
+    let whole : times j (i ∷ is) ≡ hit i j + times j is = sum_by-cons (λ k. hit k j) i is in
+    omega (arith, h j, whole, noted_down ss i j status.Free inside one refl) in
     let less = sum_by-set noted ss i status.Free status.Free inside in
     let rest = names_fit is ss' each in
     omega (arith, less, rest, one)
@@ -263,8 +263,8 @@ module _ {T : Type 0} (holds : T → List Hold) where
       let split : times i (is ++ others) ≡ times i is + times i others = sum_by-append (λ k. hit k i) is others in
       let none : times i is ≡ 0 = omega (arith, named i, here, hit-same i, one, split) in
       let nu : AreCollected (is ++ others) u = λ j.
-          let whole : times j ((i ∷ is) ++ others) ≡ hit i j + times j (is ++ others) = sum_by-cons (λ k. hit k j) i (is ++ others) in
-          omega (arith, named j, whole, noted_down w.states i j status.Free inside one refl) in
+      let whole : times j ((i ∷ is) ++ others) ≡ hit i j + times j (is ++ others) = sum_by-cons (λ k. hit k j) i (is ++ others) in
+      omega (arith, named j, whole, noted_down w.states i j status.Free inside one refl) in
       let ru : NotesRise u 0 is = rise_other 0 i is w u refl none (λ j n. get_or-set_other w.states i j status.Free status.Free n) (rise_low 0 rise.0 is w (omega arith) rise.3) in
       let q = same_all p (held_in holds (value_at w i)) u in
       let s = quiet u v q in
@@ -304,8 +304,8 @@ module _ {T : Type 0} (holds : T → List Hold) where
       let one : noted (status_at w i) ≡ 1 = omega (arith, h i, here, hit-same i, noted-one (status_at w i)) in
       let inside = noted_inside w.states i (omega (arith, one)) in
       let next : AreCollected (is ++ others) (retired p i w) = λ j.
-          let whole : times j ((i ∷ is) ++ others) ≡ hit i j + times j (is ++ others) = sum_by-cons (λ k. hit k j) i (is ++ others) in
-          omega (arith, h j, whole, noted_down w.states i j status.Retired inside one refl) in
+      let whole : times j ((i ∷ is) ++ others) ≡ hit i j + times j (is ++ others) = sum_by-cons (λ k. hit k j) i (is ++ others) in
+      omega (arith, h j, whole, noted_down w.states i j status.Retired inside one refl) in
       let to : AreCollected others (handed p is (retired p i w)) = hands_over p is others (retired p i w) next in
       subst (λ (v : State T). AreCollected others (handed p is v)) (sym (handed_noted p i w (status_at w i) one)) to
 

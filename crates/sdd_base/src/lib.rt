@@ -8,6 +8,8 @@
 mod bags;
 pub mod cell;
 pub mod collector;
+#[cfg(test)]
+mod ends;
 pub mod epoch;
 pub mod guard;
 pub mod holds;
@@ -18,6 +20,8 @@ pub mod laws;
 pub mod lender;
 pub mod owner;
 pub mod pointer;
+#[cfg(test)]
+mod random;
 mod reclaim;
 pub mod refusal;
 #[cfg(test)]

@@ -285,6 +285,14 @@ impl<T> Table<T> {
         self.members.len()
     }
 
+    /// How many cells there are.
+    #[cfg(test)]
+    pub(crate) fn cells(&self) -> usize
+        ensures { result ≡ length self.now.cells }
+    {
+        self.cells.len()
+    }
+
     /// How many slots and job places there are.
     pub(crate) fn places(&self) -> usize
         ensures { result ≡ length self.now.states }

@@ -1,8 +1,8 @@
 ghost use Rattle.std.specs.Prelude.{◌≡◌, ◌<◌, ◌≤◌, length, IfOk, IsTrue};
 ghost use Rattle.sdd_base.specs.State.{fresh};
 ghost use Rattle.sdd_base.specs.Frame.{OnlyOf};
-ghost use Rattle.sdd_base.specs.Place.{IsOpen, IsShared, IsSharedCell};
-ghost use Rattle.sdd_base.specs.Tokens.{participant_of, shared_cell, shared_slot};
+ghost use Rattle.sdd_base.specs.Place.{IsOpen, IsShared, IsOwnedCell, IsSharedCell};
+ghost use Rattle.sdd_base.specs.Tokens.{owned_cell, participant_of, shared_cell, shared_slot};
 
 use crate::cell::{AtomicOwned, AtomicRaw, AtomicShared};
 use crate::collector::PrivateCollector;
@@ -468,6 +468,55 @@ fn a_comparing_exchange_looks_at_the_tag(rt: HostRuntime) -> Result<(), Fail> {
     assert!(rt; world::atomic_shared::is_null(&w, &cell));
     assert!(rt; world::atomic_shared::tag(&w, &cell) == Tag::Both);
     let AtomicShared { cell: _, of: _ } = cell;
+    let WorldGuard { participant: _ } = guard;
+    Ok(())
+}
+
+/// Puts nothing into the cell, with the tag Both, where it keeps the item of `other`, or its own if there is none, with
+/// the tag `tag`; answers whether it did.
+fn exchanged(
+    w: &mut World<u64>,
+    cell: &AtomicOwned<u64>,
+    other: Option<&Owned<u64>>,
+    tag: Tag,
+    guard: &WorldGuard,
+) -> bool
+    requires { IsOwnedCell w.old (owned_cell cell.now) }
+    ensures { IsOwnedCell w.new (owned_cell cell.now) }
+{
+    let mut current = match other {
+        Some(owned) => world::owned::get_guarded_ptr(owned, guard),
+        None => world::atomic_owned::load(w, cell, guard),
+    };
+    current.set_tag(tag);
+    let nothing = (None, Tag::Both);
+    match world::atomic_owned::compare_exchange(w, cell, current, nothing, guard) {
+        Ok((Some(Owned { slot: _, of: _ }), _)) => true,
+        Ok((None, _)) => false,
+        Err((Some(Owned { slot: _, of: _ }), _)) => false,
+        Err((None, _)) => false,
+    }
+}
+
+#[test]
+fn a_comparing_exchange_looks_at_item_and_tag(rt: HostRuntime) -> Result<(), Fail> {
+    let mut w = numbers(rt.alloc(), 2, 1)?;
+    let guard = guarded(&rt, &mut w, 0);
+    let Ok(other) = world::owned::new(&mut w, 2) else {
+        panic!(rt; "a slot is free");
+    };
+    let Ok(cell) = world::atomic_owned::new(&mut w, 1) else {
+        panic!(rt; "a slot and a cell are free");
+    };
+    assert!(rt; !exchanged(&mut w, &cell, Some(&other), Tag::None, &guard));
+    assert!(rt; !exchanged(&mut w, &cell, None, Tag::Second, &guard));
+    assert!(rt; !world::atomic_owned::is_null(&w, &cell));
+    assert!(rt; world::atomic_owned::tag(&w, &cell) == Tag::None);
+    assert!(rt; exchanged(&mut w, &cell, None, Tag::None, &guard));
+    assert!(rt; world::atomic_owned::is_null(&w, &cell));
+    assert!(rt; world::atomic_owned::tag(&w, &cell) == Tag::Both);
+    let AtomicOwned { cell: _, of: _ } = cell;
+    let Owned { slot: _, of: _ } = other;
     let WorldGuard { participant: _ } = guard;
     Ok(())
 }
