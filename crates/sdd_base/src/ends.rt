@@ -10,7 +10,7 @@ use crate::guard::WorldGuard;
 use crate::owner::Shared;
 use crate::refusal::Nested;
 use crate::status::Status;
-use crate::tests::{guarded, is_live, numbers};
+use crate::tests::{guarded, is_live, numbers, shared_item};
 use crate::world;
 use crate::world::World;
 use std::test::Fail;
@@ -64,9 +64,7 @@ fn is_given_back(w: &mut World<u64>, shared: &Shared<u64>, guard: &WorldGuard) -
 fn owners_come_to_their_end(rt: HostRuntime) -> Result<(), Fail> {
     let mut w = numbers(rt.alloc(), 1, 1)?;
     let guard = guarded(&rt, &mut w, 0);
-    let Ok(first) = world::shared::new(&mut w, 5) else {
-        panic!(rt; "a slot is free");
-    };
+    let first = shared_item(&rt, &mut w, 5);
     own(&mut w, &first, u32::MAX - 1);
     if !is_live(&w, &first) {
         panic!(rt; "it has owners");
@@ -94,9 +92,7 @@ fn owners_come_to_their_end(rt: HostRuntime) -> Result<(), Fail> {
 fn a_clone_of_a_cell_is_null_where_no_owner_is_left(rt: HostRuntime) -> Result<(), Fail> {
     let mut w = numbers(rt.alloc(), 1, 2)?;
     let guard = guarded(&rt, &mut w, 0);
-    let Ok(first) = world::shared::new(&mut w, 5) else {
-        panic!(rt; "a slot is free");
-    };
+    let first = shared_item(&rt, &mut w, 5);
     own(&mut w, &first, u32::MAX);
     let cell = match world::atomic_shared::from(&mut w, first) {
         Ok(cell) => cell,

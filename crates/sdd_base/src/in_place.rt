@@ -10,7 +10,7 @@ use crate::holds::Holds;
 use crate::owner::{Owned, Shared};
 use crate::refusal::{GuardsOpen, NotLent};
 use crate::sizes::Sizes;
-use crate::tests::{Item, guarded, is_live, numbers, passes};
+use crate::tests::{Item, guarded, is_live, numbers, owned_item, passes, shared_item};
 use crate::world;
 use crate::world::World;
 use std::alloc::{AllocError, Global};
@@ -127,9 +127,7 @@ fn what_has_another_owner_stays(rt: HostRuntime) -> Result<(), Fail> {
 #[test]
 fn one_of_two_owners_is_given_back(rt: HostRuntime) -> Result<(), Fail> {
     let mut w = numbers(rt.alloc(), 1, 0)?;
-    let Ok(first) = world::shared::new(&mut w, 5) else {
-        panic!(rt; "a slot is free");
-    };
+    let first = shared_item(&rt, &mut w, 5);
     let Some(second) = world::shared::clone(&mut w, &first) else {
         panic!(rt; "few owners are out");
     };
@@ -146,13 +144,9 @@ fn one_of_two_owners_is_given_back(rt: HostRuntime) -> Result<(), Fail> {
 #[test]
 fn what_waits_waits_on(rt: HostRuntime) -> Result<(), Fail> {
     let mut w = numbers(rt.alloc(), 3, 0)?;
-    let Ok(first) = world::owned::new(&mut w, 5) else {
-        panic!(rt; "a slot is free");
-    };
+    let first = owned_item(&rt, &mut w, 5);
     world::owned::retire(&mut w, first, 0);
-    let Ok(second) = world::owned::new(&mut w, 6) else {
-        panic!(rt; "a slot is free");
-    };
+    let second = owned_item(&rt, &mut w, 6);
     match world::owned::drop_in_place(&mut w, second) {
         Ok(()) => {}
         Err(_) => panic!(rt; "no guard is open"),
@@ -166,25 +160,29 @@ fn what_waits_waits_on(rt: HostRuntime) -> Result<(), Fail> {
 }
 
 #[test]
-fn nothing_is_dropped_under_a_guard(rt: HostRuntime) -> Result<(), Fail> {
-    let mut w = numbers(rt.alloc(), 2, 0)?;
+fn no_owned_item_is_dropped_under_a_guard(rt: HostRuntime) -> Result<(), Fail> {
+    let mut w = numbers(rt.alloc(), 1, 0)?;
     let guard = guarded(&rt, &mut w, 1);
-    let Ok(owned) = world::owned::new(&mut w, 5) else {
-        panic!(rt; "a slot is free");
-    };
+    let owned = owned_item(&rt, &mut w, 5);
     let Err(owned) = world::owned::drop_in_place(&mut w, owned) else {
         panic!(rt; "a guard is open");
     };
     assert_eq!(rt; *world::owned::as_ref(&w, &owned), 5);
-    world::owned::retire(&mut w, owned, 1);
-    let Ok(shared) = world::shared::new(&mut w, 6) else {
-        panic!(rt; "a slot is free");
-    };
+    let Owned { slot: _, of: _ } = owned;
+    let WorldGuard { participant: _ } = guard;
+    Ok(())
+}
+
+#[test]
+fn no_shared_item_is_dropped_under_a_guard(rt: HostRuntime) -> Result<(), Fail> {
+    let mut w = numbers(rt.alloc(), 1, 0)?;
+    let guard = guarded(&rt, &mut w, 1);
+    let shared = shared_item(&rt, &mut w, 6);
     let Err(shared) = world::shared::drop_in_place(&mut w, shared) else {
         panic!(rt; "a guard is open");
     };
     assert_eq!(rt; *world::shared::as_ref(&w, &shared), 6);
-    assert!(rt; world::shared::release(&mut w, shared, 1));
+    let Shared { slot: _, of: _ } = shared;
     let WorldGuard { participant: _ } = guard;
     Ok(())
 }
@@ -192,11 +190,9 @@ fn nothing_is_dropped_under_a_guard(rt: HostRuntime) -> Result<(), Fail> {
 #[test]
 fn an_owned_value_is_written(rt: HostRuntime) -> Result<(), Fail> {
     let mut w = numbers(rt.alloc(), 1, 0)?;
-    let Ok(owned) = world::owned::new(&mut w, 5) else {
-        panic!(rt; "a slot is free");
-    };
+    let owned = owned_item(&rt, &mut w, 5);
     match world::owned::get_mut(&mut w, &owned) {
-        Ok(value) => *value += 2,
+        Ok(value) => *value = 7,
         Err(_) => panic!(rt; "no guard is open"),
     }
     assert_eq!(rt; *world::owned::as_ref(&w, &owned), 7);
@@ -207,9 +203,7 @@ fn an_owned_value_is_written(rt: HostRuntime) -> Result<(), Fail> {
 #[test]
 fn a_shared_value_is_written_by_its_one_owner(rt: HostRuntime) -> Result<(), Fail> {
     let mut w = numbers(rt.alloc(), 1, 0)?;
-    let Ok(first) = world::shared::new(&mut w, 5) else {
-        panic!(rt; "a slot is free");
-    };
+    let first = shared_item(&rt, &mut w, 5);
     let Some(second) = world::shared::clone(&mut w, &first) else {
         panic!(rt; "few owners are out");
     };
@@ -219,7 +213,7 @@ fn a_shared_value_is_written_by_its_one_owner(rt: HostRuntime) -> Result<(), Fai
     );
     assert!(rt; !world::shared::release(&mut w, second, 0));
     match world::shared::get_mut(&mut w, &first) {
-        Ok(value) => *value += 2,
+        Ok(value) => *value = 7,
         Err(_) => panic!(rt; "no guard is open"),
     }
     assert_eq!(rt; *world::shared::as_ref(&w, &first), 7);
@@ -231,16 +225,12 @@ fn a_shared_value_is_written_by_its_one_owner(rt: HostRuntime) -> Result<(), Fai
 fn nothing_is_written_under_a_guard(rt: HostRuntime) -> Result<(), Fail> {
     let mut w = numbers(rt.alloc(), 2, 0)?;
     let guard = guarded(&rt, &mut w, 1);
-    let Ok(owned) = world::owned::new(&mut w, 5) else {
-        panic!(rt; "a slot is free");
-    };
+    let owned = owned_item(&rt, &mut w, 5);
     assert_eq!(rt;
         world::owned::get_mut(&mut w, &owned).err(),
         Some(GuardsOpen)
     );
-    let Ok(shared) = world::shared::new(&mut w, 6) else {
-        panic!(rt; "a slot is free");
-    };
+    let shared = shared_item(&rt, &mut w, 6);
     assert_eq!(rt;
         world::shared::get_mut(&mut w, &shared).err(),
         Some(NotLent::GuardsOpen)

@@ -1,8 +1,8 @@
 ghost use Rattle.std.specs.Prelude.{◌≡◌, ◌<◌, ◌≤◌, length, IfOk, IsTrue};
 ghost use Rattle.sdd_base.specs.State.{fresh};
 ghost use Rattle.sdd_base.specs.Frame.{OnlyOf};
-ghost use Rattle.sdd_base.specs.Place.{IsOpen, IsShared, IsOwnedCell, IsSharedCell};
-ghost use Rattle.sdd_base.specs.Tokens.{owned_cell, participant_of, shared_cell, shared_slot};
+ghost use Rattle.sdd_base.specs.Place.{IsOpen, IsOwned, IsShared, IsOwnedCell, IsSharedCell};
+ghost use Rattle.sdd_base.specs.Tokens.{owned_cell, owned_slot, participant_of, shared_cell, shared_slot};
 
 use crate::cell::{AtomicOwned, AtomicRaw, AtomicShared};
 use crate::collector::PrivateCollector;
@@ -65,13 +65,12 @@ fn a_generation_is_three_epochs(rt: HostRuntime) -> Result<(), Fail> {
 
 #[test]
 fn tags_have_numbers(rt: HostRuntime) -> Result<(), Fail> {
-    assert_eq!(rt; u8::from(Tag::None), 0);
-    assert_eq!(rt; u8::from(Tag::First), 1);
-    assert_eq!(rt; u8::from(Tag::Second), 2);
-    assert_eq!(rt; u8::from(Tag::Both), 3);
-    assert_eq!(rt; Tag::try_from(0).ok(), Some(Tag::None));
-    assert_eq!(rt; Tag::try_from(3).ok(), Some(Tag::Both));
-    assert_eq!(rt; Tag::try_from(4).err(), Some(4));
+    let tags = [Tag::None, Tag::First, Tag::Second, Tag::Both];
+    for n in 0..4u8 {
+        assert_eq!(rt; u8::from(tags[usize::from(n)]), n);
+        assert_eq!(rt; Tag::try_from(n), Ok(tags[usize::from(n)]));
+    }
+    assert_eq!(rt; Tag::try_from(4), Err(4));
     Ok(())
 }
 
@@ -176,12 +175,8 @@ fn the_last_of_two_owners_is_told(rt: HostRuntime) -> Result<(), Fail> {
 #[test]
 fn a_guard_keeps_what_it_names(rt: HostRuntime) -> Result<(), Fail> {
     let mut w = numbers(rt.alloc(), 2, 0)?;
-    let Ok(guard) = world::guard::new(&mut w, 0) else {
-        panic!(rt; "no guard is open");
-    };
-    let Ok(owned) = world::owned::new(&mut w, 5) else {
-        panic!(rt; "a slot is free");
-    };
+    let guard = guarded(&rt, &mut w, 0);
+    let owned = owned_item(&rt, &mut w, 5);
     let at = world::owned::get_guarded_ptr(&owned, &guard);
     world::owned::retire(&mut w, owned, 1);
     assert!(rt; passes(&mut w, 1, 6));
@@ -367,12 +362,8 @@ fn a_job_runs_once_when_the_fourth_guard_opens(rt: HostRuntime) -> Result<(), Fa
 fn a_collector_hands_over_what_it_keeps(rt: HostRuntime) -> Result<(), Fail> {
     let mut w = numbers(rt.alloc(), 1, 0)?;
     let mut collector = world::private_collector::new(rt.alloc(), &w)?;
-    let Ok(guard) = world::guard::new(&mut w, 0) else {
-        panic!(rt; "no guard is open");
-    };
-    let Ok(owned) = world::owned::new(&mut w, 5) else {
-        panic!(rt; "a slot is free");
-    };
+    let guard = guarded(&rt, &mut w, 0);
+    let owned = owned_item(&rt, &mut w, 5);
     world::private_collector::collect_owned(&mut w, &mut collector, owned, &guard);
     world::guard::close(&mut w, guard);
     world::private_collector::hand_over(&mut w, collector, 0);
@@ -416,6 +407,28 @@ fn a_later_collect_reclaims_what_three_raises_let_go(rt: HostRuntime) -> Result<
     assert!(rt; passes(&mut w, 1, 4));
     assert_eq!(rt; w.slots_in_use(), 0);
     Ok(())
+}
+
+/// A new item with one owner, where a slot is free.
+pub(crate) fn owned_item<R: Abort>(rt: &R, w: &mut World<u64>, value: u64) -> Owned<u64>
+    ensures live { IsOwned w.new (owned_slot result) }
+    ensures members { w.new.members ≡ w.old.members }
+{
+    match world::owned::new(w, value) {
+        Ok(owned) => owned,
+        Err(_) => panic!(rt; "a slot is free"),
+    }
+}
+
+/// A new item with counted owners, where a slot is free.
+pub(crate) fn shared_item<R: Abort>(rt: &R, w: &mut World<u64>, value: u64) -> Shared<u64>
+    ensures live { IsShared w.new (shared_slot result) }
+    ensures members { w.new.members ≡ w.old.members }
+{
+    match world::shared::new(w, value) {
+        Ok(shared) => shared,
+        Err(_) => panic!(rt; "a slot is free"),
+    }
 }
 
 /// Whether `shared` is an owner of an item that is there, as every owner is.
