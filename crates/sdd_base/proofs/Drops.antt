@@ -1,13 +1,13 @@
 -- what dropping an item in place does to the store
-use Rattle.std.proofs.Common.{◌≡◌, ◌≢◌, ℕ, zero, suc, ◌+◌, ◌-◌, ◌<◌, ◌≤◌, Bool, true, false, List, [], ◌∷◌, ◌++◌, length, take, drop, get_or, set, refl, sym, ap, ◌∙◌, arith, length-set, subst, cond, get_or-set_same, get_or-set_other, inl, inr, ◌⊎◌, leb, Some, None, Option, is_some}
+use Rattle.std.proofs.Common.{◌≡◌, ◌≢◌, ℕ, suc, ◌+◌, ◌-◌, ◌<◌, ◌≤◌, true, false, List, [], ◌∷◌, ◌++◌, length, take, drop, get_or, refl, sym, ap, ◌∙◌, arith, length-set, subst, cond, get_or-set_same, get_or-set_other, inl, inr, ◌⊎◌, leb, Some, None, Option, is_some}
 use Rattle.std.proofs.lemmas.Bool.{false≢true}
 use Rattle.std.specs.List.{sum_by}
 use Rattle.std.proofs.Math.Seq.{take-append-add}
 use Rattle.std.proofs.lemmas.List.{take-append-drop, ext_get_or, append_assoc, append-nil, nil_from_length, length-append, length-drop, drop_more}
-use Rattle.std.proofs.lemmas.List.Sums.{sum_by-append, sum_by-set}
+use Rattle.std.proofs.lemmas.List.Sums.{sum_by-append}
 use Rattle.std.proofs.lemmas.Bool.Decides.{eqb_tells}
 use Rattle.sdd_base.specs.Holding.{Hold, OwnedItem, SharedItem, OwnedIn, SharedIn}
-use Rattle.sdd_base.specs.State.{State, Member, member_at, nobody, changing, recalled, marked, marks_at, with_marks, with_cell, with_status, status_at, value_at, cell_at, put_member, retired, taken, vacated, left_due, occupied, weight}
+use Rattle.sdd_base.specs.State.{State, Member, member_at, nobody, changing, recalled, marked, marks_at, with_marks, with_cell, with_status, status_at, value_at, cell_at, put_member, retired, taken, left_due, occupied, weight}
 use Rattle.sdd_base.specs.Steps.{times, hit, given, given_all, released_as, disowned_as, owned_ended_as, shared_ended_as, due_reclaimed, due_reclaimed_as, held_in}
 use Rattle.sdd_base.specs.Dropping.{undone, undone_times, Dropped}
 use Rattle.sdd_base.specs.Place.{Sound, IsPlace, held_times}
@@ -16,7 +16,7 @@ use Rattle.sdd_base.specs.declared.status.Status.TheVariants as status
 use Rattle.sdd_base.specs.declared.status.Cell.{Cell}
 use Rattle.sdd_base.specs.declared.status.Cell.TheVariants as cell
 use Rattle.sdd_base.specs.declared.status.Marks.{Marks}
-use Rattle.sdd_base.proofs.Sounds.{Calm, calm, Reclaims, reclaims_next, due_waiting, sound_taken, gives_given, gives_all, times_set, sound_marks}
+use Rattle.sdd_base.proofs.Sounds.{Calm, calm, reclaims_next, due_waiting, sound_taken, gives_given, times_set, sound_marks}
 
 -- what giving owners back adds to the current bag of p
 abbrev pub Grows : {T : Type 0} → ℕ → State T → State T → Type 0

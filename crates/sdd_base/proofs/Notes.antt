@@ -1,16 +1,14 @@
 -- the notes of collectors, over every call
 use Rattle.std.proofs.Common.{◌≡◌, ◌≢◌, ℕ, zero, suc, ◌+◌, ◌-◌, ◌<◌, ◌≤◌, ◌==◌, ◌&&◌, Bool, true, false, Option, None, Some, List, [], ◌∷◌, ◌++◌, length, get_or, set, refl, sym, ap, ◌∙◌, arith, length-set, subst, reverse, cond, get_or-set_other, get_or-set_same, leb, ltb, inl, inr, is_some, replicate}
 use Rattle.std.specs.List.{sum_by, list_all}
-use Rattle.std.proofs.lemmas.Bool.{false≢true}
 use Rattle.std.proofs.lemmas.Bool.Decides.{nat_tests, eqb_tells}
 use Rattle.std.proofs.lemmas.List.{length-append, length-reverse}
 use Rattle.std.proofs.lemmas.List.Sums.{sum_by-set, sum_by-cons, sum_by-append}
 use Rattle.sdd_base.specs.Holding.{Hold, OwnedItem, SharedItem, OwnedIn, SharedIn}
-use Rattle.sdd_base.specs.State.{State, Member, status_at, value_at, cell_at, member_at, marks_at, placed, with_status, with_cell, with_marks, waiting_as, retired, taken, vacated, weight, IsFree, IsIdle, rotated_bags, turned, raised, is_present, nobody, marked, fresh, removed, changing, recalled}
+use Rattle.sdd_base.specs.State.{State, Member, status_at, value_at, cell_at, member_at, marks_at, with_status, with_cell, with_marks, waiting_as, retired, taken, vacated, weight, rotated_bags, turned, raised, is_present, nobody, marked, removed, changing, recalled}
 use Rattle.sdd_base.specs.Steps.{times, hit, given, given_all, released_as, disowned_as, owned_ended_as, shared_ended_as, due_reclaimed, due_reclaimed_as, held_in, reclaimed, rotated, begun, opened, closed, scanned, scans, closings_after, overdue, set_aside, enqueued, purged, left_waiting, handed, handed_as, IsTimely}
 use Rattle.sdd_base.specs.Place.{Sound, IsPlace}
 use Rattle.sdd_base.specs.Notes.{note_of, note_at, noted, AreCollected, NotesRise, SameNotes, IsInOrder, NoneOverdue, CollectorsAreInOrder}
-use Rattle.sdd_base.specs.declared.sizes.Sizes.{Sizes}
 use Rattle.sdd_base.specs.declared.status.Status.{Status}
 use Rattle.sdd_base.specs.declared.status.Status.TheVariants as status
 use Rattle.sdd_base.specs.declared.status.Marks.{Marks}
@@ -22,7 +20,6 @@ use Rattle.sdd_base.specs.Dropping.{Dropped, undone, undone_times}
 use Rattle.sdd_base.proofs.Drops.{calls_recalled}
 use Rattle.sdd_base.proofs.Sounds.{gives_given, inside_by, due_waiting, reclaims_next, sound_turned}
 use Rattle.sdd_base.proofs.Places.{place_begun}
-use Rattle.sdd_base.proofs.Privates.{overdue_noted}
 
 -- where a use changes and the note doesn't
 note_set : (ss : List Status) (i j : ℕ) (s : Status) → i < length ss → note_of s ≡ note_of (get_or ss i status.Free) → note_of (get_or (set ss i s) j status.Free) ≡ note_of (get_or ss j status.Free)

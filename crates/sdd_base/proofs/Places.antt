@@ -1,20 +1,18 @@
 -- each call leaves a place of one thread
-use Rattle.std.proofs.Common.{◌≡◌, ◌≢◌, ℕ, zero, suc, ◌+◌, ◌-◌, ◌<◌, ◌≤◌, ◌==◌, ◌&&◌, Bool, true, false, List, [], ◌∷◌, ◌++◌, length, get_or, set, refl, sym, ap, ◌∙◌, arith, length-set, subst, reverse, cond, get_or-set_same, get_or-set_other, inl, inr, not, Some, None, Option, ltb, replicate, map, is_some}
-use Rattle.std.specs.List.{list_all, sum_by, All}
+use Rattle.std.proofs.Common.{◌≡◌, ◌≢◌, ℕ, zero, suc, ◌+◌, ◌-◌, ◌<◌, ◌≤◌, ◌==◌, ◌&&◌, Bool, true, false, List, [], ◌∷◌, ◌++◌, length, get_or, refl, sym, ap, ◌∙◌, arith, length-set, subst, reverse, cond, get_or-set_same, get_or-set_other, inl, inr, not, None, ltb, replicate, is_some}
+use Rattle.std.specs.List.{list_all, sum_by}
 use Rattle.std.proofs.lemmas.Bool.{false≢true}
 use Rattle.std.proofs.lemmas.Bool.Decides.{eqb_tells, nat_tests}
 use Rattle.std.proofs.lemmas.List.{length-reverse, length-replicate, length-append}
 use Rattle.std.proofs.lemmas.List.Folds.{sum_by-replicate}
 use Rattle.sdd_base.specs.Holding.{Hold}
-use Rattle.sdd_base.specs.State.{State, Member, member_at, nobody, turned, rotated_bags, with_marks, marked, placed, weight, status_at, value_at, is_used, marks_at, raised, is_present, fresh, occupied}
-use Rattle.sdd_base.specs.Steps.{times, reclaimed, due_reclaimed, rotated, settled, begun, opened, closed, scanned, bags_empty, scans, closings_after}
-use Rattle.sdd_base.specs.Place.{Sound, IsPlace, IsOpen, held_times}
+use Rattle.sdd_base.specs.State.{State, Member, member_at, nobody, turned, rotated_bags, with_marks, marked, weight, status_at, value_at, is_used, marks_at, raised, is_present, fresh, occupied}
+use Rattle.sdd_base.specs.Steps.{times, reclaimed, rotated, begun, opened, closed, scanned, bags_empty, scans, closings_after}
+use Rattle.sdd_base.specs.Place.{IsPlace, IsOpen, held_times}
 use Rattle.sdd_base.specs.declared.sizes.Sizes.{Sizes}
-use Rattle.sdd_base.specs.declared.status.Status.{Status}
 use Rattle.sdd_base.specs.declared.status.Status.TheVariants as status
-use Rattle.sdd_base.specs.declared.status.Cell.TheVariants as cell
 use Rattle.sdd_base.specs.declared.status.Marks.{Marks}
-use Rattle.sdd_base.proofs.Sounds.{sound_turned, sound_marks, times_reversed, Gives, Leaves, leaves, Calms, calms, Calm, calm, RunsOut, runs_out}
+use Rattle.sdd_base.proofs.Sounds.{sound_turned, sound_marks, times_reversed, Gives, Leaves, leaves, Calms, calms, Calm, calm, runs_out}
 
 -- what giving leaves of every participant
 pub calm_at : {T : Type 0} (p : ℕ) (w w' : State T) → Calms p w w' → (k : ℕ) → calm (member_at w' k) ≡ calm (member_at w k)

@@ -1,5 +1,5 @@
 -- what a change of one place and one participant leaves of the store
-use Rattle.std.proofs.Common.{◌≡◌, ◌≢◌, ℕ, zero, suc, ◌+◌, ◌<◌, ◌≤◌, ◌-◌, ◌*◌, ◌==◌, Bool, true, false, Option, List, [], ◌∷◌, ◌++◌, length, map, get_or, set, refl, sym, ap, ◌∙◌, arith, length-set, vec_capacity, vec_len, is_some, subst, reverse, ◌&&◌, None, Some, MatchOption, cond, replicate}
+use Rattle.std.proofs.Common.{◌≡◌, ◌≢◌, ℕ, zero, suc, ◌+◌, ◌<◌, ◌≤◌, ◌-◌, ◌==◌, Bool, true, false, Option, List, [], ◌∷◌, ◌++◌, length, map, get_or, set, refl, sym, ap, ◌∙◌, arith, length-set, vec_capacity, vec_len, is_some, subst, reverse, ◌&&◌, None, Some, MatchOption, cond, replicate}
 use Rattle.std.specs.List.{sum_by, All, list_all}
 use Rattle.std.proofs.lemmas.List.{map-set, get_or-map, length-map}
 use Rattle.std.specs.Vec.{with_item}

@@ -1,5 +1,5 @@
 -- what collectors keep: the slots that they name, and the counts that were noted of them
-use Rattle.std.specs.Prelude.{◌≡◌, ℕ, ◌+◌, ◌<◌, ◌≤◌, false, true, cond, is_some, Option, None, Some, List, [], ◌∷◌, ◌++◌, length}
+use Rattle.std.specs.Prelude.{◌≡◌, ℕ, ◌<◌, ◌≤◌, false, cond, is_some, Option, None, Some, List, [], ◌∷◌, ◌++◌, length}
 use Rattle.sdd_base.specs.Holding.{Hold}
 use Rattle.sdd_base.specs.State.{State, status_at, placed, with_value, with_status, with_cell, waiting_as, IsFree, IsIdle, fresh}
 use Rattle.sdd_base.specs.Steps.{times, given, opened, closed, overdue, set_aside, enqueued, purged, left_waiting, handed}

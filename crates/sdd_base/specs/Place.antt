@@ -1,5 +1,5 @@
 -- what holds of every place of one thread between two calls
-use Rattle.std.specs.Prelude.{◌≡◌, ◌≢◌, ℕ, ◌+◌, ◌<◌, ◌≤◌, List, [], length, is_some, Option, None, Some, true}
+use Rattle.std.specs.Prelude.{◌≡◌, ℕ, ◌+◌, ◌<◌, ◌≤◌, [], length, is_some, Option, None, Some, true}
 use Rattle.std.specs.List.{sum_by}
 use Rattle.sdd_base.specs.State.{State, Member, status_at, value_at, cell_at, member_at, marks_at, weight, is_used}
 use Rattle.sdd_base.specs.Steps.{times}

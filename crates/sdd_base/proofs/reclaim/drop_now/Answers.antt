@@ -1,7 +1,7 @@
-use Rattle.std.proofs.Common.{◌≡◌, ◌<◌, ◌≤◌, ◌∙◌, ap, arith, length}
-use Rattle.sdd_base.specs.State.{State, member_at, marks_at, with_marks}
+use Rattle.std.proofs.Common.{◌<◌, ◌≤◌, arith, length}
+use Rattle.sdd_base.specs.State.{member_at}
 use Rattle.sdd_base.specs.Tokens.{hold_of}
-use Rattle.sdd_base.proofs.Drops.{Undone, undoing_start, undoing_next, undoing_end}
+use Rattle.sdd_base.proofs.Drops.{undoing_start, undoing_next, undoing_end}
 use Rattle.sdd_base.proofs.reclaim.drop_now.Goals as goal
 
 pub loop-init : goal.loop-init
