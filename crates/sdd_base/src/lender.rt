@@ -29,7 +29,8 @@ pub(crate) trait Store<T> {
         ensures sole { IsSome result ↔ HasOneOwner (stored self.old) i };
 }
 
-/// A place that lends the value of an item for writing, while no guard is open: a `World`.
+/// A place that lends the value of an item for writing, while no guard is open: a `World`. It is asked by
+/// `world::owned::get_mut` and `world::shared::get_mut`. A trait, since its clauses name the type of the place by `Self`.
 pub trait Lender<T> {
     /// The place as clauses see it.
     ghost state: { Self → State T };

@@ -4,7 +4,7 @@ ghost use Rattle.std.specs.Prelude.{◌≡◌, ◌≢◌, ◌<◌, ℕ, ◌+◌,
 ghost use Rattle.sdd_base.specs.State.{marks_at, IsFree, NoneFree, IsFreeCell, NoCellFree, placed, with_cell, cell_at, status_at, with_status};
 ghost use Rattle.sdd_base.specs.Steps.{shared_ended};
 ghost use Rattle.sdd_base.specs.Frame.{Keeps, OnlyOf};
-ghost use Rattle.sdd_base.specs.Place.{IsSharedCell};
+ghost use Rattle.sdd_base.specs.Place.{IsShared, IsSharedCell};
 ghost use Rattle.sdd_base.specs.Tokens.{shared_cell, shared_slot, shared_slots, ptr_slot, ptr_tag};
 
 use crate::cell::AtomicShared;
@@ -231,6 +231,7 @@ pub fn get_shared<T>(
     ensures more { IfSome result (λ s. (tag : Tag) × (cell_at w.old (shared_cell cell.now) ≡ Cell.OfShared (Some (shared_slot s)) tag) × (n : ℕ) × (status_at w.old (shared_slot s) ≡ Status.Shared n) × (w.new ≡ with_status (shared_slot s) (Status.Shared (n + 1)) w.old)) }
     ensures room { IfSome result (λ s. (n : ℕ) → status_at w.old (shared_slot s) ≡ Status.Shared n → n < 4294967295) }
     ensures none { IfNone result ((w.new ≡ w.old) × ((i n : ℕ) (tag : Tag) → cell_at w.old (shared_cell cell.now) ≡ Cell.OfShared (Some i) tag → n < 4294967295 → status_at w.old i ≢ Status.Shared n)) }
+    ensures live { IfSome result (λ s. IsShared w.new (shared_slot s)) }
     ensures keeps { Keeps w.old w.new }
 {
     match w.table.cell(cell.cell) {

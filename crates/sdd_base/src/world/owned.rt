@@ -55,10 +55,17 @@ pub fn as_ref<'w, T>(w: &'w World<T>, owned: &Owned<T>) -> &'w T
     w.table.value(owned.slot)
 }
 
-/// The value of an item, for writing; refused while a guard is open. Once the borrow is over, the item is what was last
-/// written, and nothing else has changed.
+/// The value of an item, for writing; refused while a guard of any participant is open, and then nothing has changed.
+/// Once the borrow is over, the item is what was last written, and nothing else has changed. Rust's `Owned::get_mut` is
+/// unsafe, and asks of its caller that nobody reads.
 ///
 /// `W` is `World<T>`: the place is named by what it does, since a clause on a borrow can't name the type of a `World`.
+///
+/// ```
+/// if let Ok(value) = world::owned::get_mut(&mut w, &owned) {
+///     *value = 7;
+/// }
+/// ```
 pub fn get_mut<'w, T, W: Lender<T>>(w: &'w mut W, owned: &Owned<T>) -> Result<&'w mut T, GuardsOpen>
     requires { IsOwned (W.state w.old) (owned_slot owned.now) }
     ensures* writes { sem 𝓛 (LendsIfOk W.row T.row w.entry result (λ v. W.with_item (owned_slot owned.now) v w.entry.now) w.entry.now) }
@@ -109,6 +116,7 @@ pub fn into_raw<T>(w: &mut World<T>, owned: Owned<T>) -> RawPtr<T>
 pub fn from_raw<T>(w: &mut World<T>, ptr: RawPtr<T>) -> Option<Owned<T>>
     ensures some { IfSome result (λ o. (raw_slot ptr ≡ Some (owned_slot o)) × (status_at w.old (owned_slot o) ≡ Status.Raw) × (w.new ≡ with_status (owned_slot o) Status.Owned w.old)) }
     ensures none { IfNone result ((w.new ≡ w.old) × IfSome (raw_slot ptr) (λ i. status_at w.old i ≢ Status.Raw)) }
+    ensures live { IfSome result (λ o. IsOwned w.new (owned_slot o)) }
     ensures keeps { Keeps w.old w.new }
 {
     let slot = ptr.slot?;
@@ -121,8 +129,9 @@ pub fn from_raw<T>(w: &mut World<T>, ptr: RawPtr<T>) -> Option<Owned<T>>
     }
 }
 
-/// Ends the item now, without waiting for anybody, and with it what it alone held; what others own of that stays. It is
-/// handed back while a guard is open.
+/// Ends the item now, without waiting for anybody, and with it what it alone held; what others own of that stays, and
+/// what waits waits on. It is handed back while a guard of any participant is open, and then nothing has changed. Rust's
+/// `Owned::drop_in_place` is unsafe, and retires what the item held.
 pub fn drop_in_place<T: Holds>(w: &mut World<T>, owned: Owned<T>) -> Result<(), Owned<T>>
     requires { IsOwned w.old (owned_slot owned) }
     ensures dropped { OnOk result (Dropped T.holds (OwnedItem (owned_slot owned)) w.old w.new) }

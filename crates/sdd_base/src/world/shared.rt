@@ -86,8 +86,8 @@ pub fn release<T>(w: &mut World<T>, shared: Shared<T>, p: usize) -> bool
 }
 
 /// Gives an owner back, and answers whether it was the last, those of cells and items counted. With the last one the
-/// item ends now, without waiting for anybody, and with it what it alone held; what others own of that stays. The owner
-/// is handed back while a guard is open.
+/// item ends now, without waiting for anybody, and with it what it alone held; what others own of that stays, and what
+/// waits waits on. The owner is handed back while a guard of any participant is open, and then nothing has changed.
 pub fn drop_in_place<T: Holds>(w: &mut World<T>, shared: Shared<T>) -> Result<bool, Shared<T>>
     requires { IsShared w.old (shared_slot shared) }
     ensures dropped { OnOk result (Dropped T.holds (SharedItem (shared_slot shared)) w.old w.new) }
@@ -111,8 +111,9 @@ pub fn as_ref<'w, T>(w: &'w World<T>, shared: &Shared<T>) -> &'w T
     w.table.value(shared.slot)
 }
 
-/// The value of an item, for writing; refused while a guard is open, and where `shared` isn't its one owner. Once the
-/// borrow is over, the item is what was last written, and nothing else has changed.
+/// The value of an item, for writing; refused while a guard of any participant is open, and where `shared` isn't its one
+/// owner, those of cells and items counted; then nothing has changed. Once the borrow is over, the item is what was last
+/// written, and nothing else has changed. Rust's `Shared::get_mut` is unsafe, and answers none beside other owners.
 ///
 /// `W` is `World<T>`: the place is named by what it does, since a clause on a borrow can't name the type of a `World`.
 pub fn get_mut<'w, T, W: Lender<T>>(w: &'w mut W, shared: &Shared<T>) -> Result<&'w mut T, NotLent>
@@ -152,6 +153,7 @@ pub fn try_from<T>(w: &mut World<T>, at: Ptr<'static, T>) -> Result<Shared<T>, P
     ensures back { IfErr result (λ r. (ptr_slot r ≡ ptr_slot at.entry) × (ptr_tag r ≡ ptr_tag at.entry) × (w.new ≡ w.old)) }
     ensures room { IfOk result (λ s. (n : ℕ) → status_at w.old (shared_slot s) ≡ Status.Shared n → n < 4294967295) }
     ensures none { OnErr result (IfSome (ptr_slot at.entry) (λ i. (n : ℕ) → n < 4294967295 → status_at w.old i ≢ Status.Shared n)) }
+    ensures live { IfOk result (λ s. IsShared w.new (shared_slot s)) }
     ensures keeps { Keeps w.old w.new }
 {
     match at.slot {
