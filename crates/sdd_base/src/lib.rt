@@ -18,6 +18,7 @@ mod in_place;
 pub mod job;
 pub mod laws;
 pub mod lender;
+pub mod link;
 pub mod owner;
 pub mod pointer;
 #[cfg(test)]

@@ -10,6 +10,7 @@ use crate::epoch::Epoch;
 use crate::guard::WorldGuard;
 use crate::holds::{Held, Holds};
 use crate::job::{Job, Task};
+use crate::link::Link;
 use crate::owner::{Owned, Shared};
 use crate::pointer::{Ptr, RawPtr};
 use crate::refusal::NoSlot;
@@ -530,6 +531,36 @@ fn a_comparing_exchange_looks_at_item_and_tag(rt: HostRuntime) -> Result<(), Fai
     assert!(rt; world::atomic_owned::tag(&w, &cell) == Tag::Both);
     let AtomicOwned { cell: _, of: _ } = cell;
     let Owned { slot: _, of: _ } = other;
+    let WorldGuard { participant: _ } = guard;
+    Ok(())
+}
+
+#[test]
+fn a_link_names_its_cell(rt: HostRuntime) -> Result<(), Fail> {
+    let mut w = numbers(rt.alloc(), 1, 2)?;
+    let Ok(other) = world::atomic_shared::null(&mut w) else {
+        panic!(rt; "a cell is free");
+    };
+    let nothing = Link::of(&other);
+    assert!(rt; world::atomic_shared::as_ref(&w, nothing.cell()).is_none());
+    let Ok(cell) = world::atomic_shared::new(&mut w, 5) else {
+        panic!(rt; "a slot and a cell are free");
+    };
+    let link = Link::of(&cell);
+    assert_eq!(rt;
+        world::atomic_shared::as_ref(&w, link.cell()).copied(),
+        Some(5)
+    );
+    let AtomicShared { cell: _, of: _ } = other;
+    let AtomicShared { cell: _, of: _ } = cell;
+    Ok(())
+}
+
+#[test]
+fn a_guard_tells_its_participant(rt: HostRuntime) -> Result<(), Fail> {
+    let mut w = numbers(rt.alloc(), 0, 0)?;
+    let guard = guarded(&rt, &mut w, 1);
+    assert_eq!(rt; guard.participant(), 1);
     let WorldGuard { participant: _ } = guard;
     Ok(())
 }

@@ -26,6 +26,7 @@ pub fn new<T>(w: &mut World<T>, value: T) -> Result<Owned<T>, T>
     ensures placed { IfOk result (λ o. IsFree w.old (owned_slot o) × (w.new ≡ placed (owned_slot o) value Status.Owned w.old)) }
     ensures refused { IfErr result (λ v. (v ≡ value) × (w.new ≡ w.old) × NoneFree w.old) }
     ensures live { IfOk result (λ o. IsOwned w.new (owned_slot o)) }
+    ensures value { IfOk result (λ o. value_at w.new (owned_slot o) ≡ Some value) }
     ensures keeps { Keeps w.old w.new }
 {
     Ok(Owned::of_slot(w.table.place(value, Status::Owned)?))

@@ -27,6 +27,7 @@ pub fn new<T>(w: &mut World<T>, value: T) -> Result<Shared<T>, T>
     ensures placed { IfOk result (λ s. IsFree w.old (shared_slot s) × (w.new ≡ placed (shared_slot s) value (Status.Shared 1) w.old)) }
     ensures refused { IfErr result (λ v. (v ≡ value) × (w.new ≡ w.old) × NoneFree w.old) }
     ensures live { IfOk result (λ s. IsShared w.new (shared_slot s)) }
+    ensures value { IfOk result (λ o. value_at w.new (shared_slot o) ≡ Some value) }
     ensures keeps { Keeps w.old w.new }
 {
     Ok(Shared::of_slot(w.table.place(value, Status::Shared(1))?))
