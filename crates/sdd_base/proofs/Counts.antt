@@ -201,10 +201,10 @@ cell_inside (x ∷ cs) zero h = omega arith
 cell_inside (x ∷ cs) (suc c) h = let r = cell_inside cs c h in omega (arith, r)
 
 module _ {T : Type 0} (holds : T → List Hold) where
-  tally-cons : (h k : Hold) (ks : List Hold) → tally h (k ∷ ks) ≡ same_hold h k + tally h ks
+  pub tally-cons : (h k : Hold) (ks : List Hold) → tally h (k ∷ ks) ≡ same_hold h k + tally h ks
   tally-cons h k ks = sum_by-cons (λ k. same_hold h k) k ks
 
-  tally-append : (h : Hold) (ks ls : List Hold) → tally h (ks ++ ls) ≡ tally h ks + tally h ls
+  pub tally-append : (h : Hold) (ks ls : List Hold) → tally h (ks ++ ls) ≡ tally h ks + tally h ls
   tally-append h ks ls = sum_by-append (λ k. same_hold h k) ks ls
 
   same_owners : (k : Hold) (w w' : State T) → w'.states ≡ w.states → w'.cells ≡ w.cells → owners_of k w' ≡ owners_of k w
@@ -385,7 +385,7 @@ module _ {T : Type 0} (holds : T → List Hold) where
   }
 
   -- what is due is taken: what it held is in hand
-  counted_taken : (p i : ℕ) (is : List ℕ) (hand : List Hold) (w : State T) → Sound w → i < length w.states → weight (status_at w i) ≡ 1 → Counted holds hand w → Counted holds (held_in holds (value_at w i) ++ hand) (taken p i is w)
+  pub counted_taken : (p i : ℕ) (is : List ℕ) (hand : List Hold) (w : State T) → Sound w → i < length w.states → weight (status_at w i) ≡ 1 → Counted holds hand w → Counted holds (held_in holds (value_at w i) ++ hand) (taken p i is w)
   counted_taken p i is hand w sound inside heavy h = record {
     each = λ k.
         let u : Uses w (taken p i is w) i (vacated (status_at w i)) = record { states = refl; cells = refl; inside = inside } in

@@ -10,3 +10,4 @@ pub mod Privates
 pub mod Passes
 pub mod Drops
 pub mod Notes
+pub mod Cells

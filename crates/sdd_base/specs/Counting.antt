@@ -1,5 +1,5 @@
 -- owners and cells, counted over all that hold them
-use Rattle.std.specs.Prelude.{◌≡◌, ℕ, ◌+◌, ◌<◌, Option, None, Some, List, [], ◌∷◌, ◌++◌, length}
+use Rattle.std.specs.Prelude.{◌≡◌, ℕ, ◌+◌, ◌<◌, ◌≤◌, Option, None, Some, List, [], ◌∷◌, ◌++◌, length}
 use Rattle.std.specs.List.{sum_by}
 use Rattle.sdd_base.specs.Holding.{Hold, OwnedItem, SharedItem, OwnedIn, SharedIn}
 use Rattle.sdd_base.specs.State.{State, status_at, value_at, cell_at, placed, with_value, with_status, with_cell, waiting_as, IsFree, IsFreeCell, IsIdle, fresh}
@@ -133,3 +133,7 @@ pub record OwnersAreCounted {T : Type 0} (holds : T → List Hold) : Type 0 wher
   pub handed : (p : ℕ) (is : List ℕ) (hand : List Hold) (w : State T) → Counted holds hand w → Counted holds hand (handed p is w)
   -- a job waits
   pub deferred : (p i : ℕ) (hand : List Hold) (w : State T) → IsIdle w i → Counted holds hand w → Counted holds hand (waiting_as status.Deferred p i w)
+
+-- a cell whose owner is in hand keeps what it keeps while a guard opens, whatever that reclaims
+abbrev pub HeldCellsStay : {T : Type 0} → (T → List Hold) → Type 0
+HeldCellsStay {T} holds = (c p : ℕ) (hand : List Hold) (w : State T) → IsPlace w → p < length w.members → 1 ≤ tally (SharedIn c) hand → Counted holds hand w → cell_at (opened holds p w) c ≡ cell_at w c

@@ -1,6 +1,6 @@
 //! What follows from the clauses of the calls, for every state and every order of calls. Nothing here runs.
 
-ghost use Rattle.sdd_base.specs.Counting.{OwnersAreCounted};
+ghost use Rattle.sdd_base.specs.Counting.{HeldCellsStay, OwnersAreCounted};
 ghost use Rattle.sdd_base.specs.Frame.{OwnedIsProtected, StaysUntilClosed};
 ghost use Rattle.sdd_base.specs.Notes.{CollectorsAreInOrder};
 ghost use Rattle.sdd_base.specs.Passing.{PassesReclaim};
@@ -11,6 +11,12 @@ use crate::holds::Holds;
 /// owner always names an item that is there, and an item with an owner isn't reclaimed.
 pub fn owners_are_counted<T: Holds>()
     ensures { OwnersAreCounted T.holds }
+{}
+
+/// What a cell keeps whose owner is in hand stays while a guard opens, though that reclaims items, which give up owners
+/// and cells.
+pub fn held_cells_stay<T: Holds>()
+    ensures { HeldCellsStay T.holds }
 {}
 
 /// What a guard protects: every item that has an owner while it is open; and what it protects stays as it was until
