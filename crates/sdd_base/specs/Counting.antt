@@ -5,6 +5,7 @@ use Rattle.sdd_base.specs.Holding.{Hold, OwnedItem, SharedItem, OwnedIn, SharedI
 use Rattle.sdd_base.specs.State.{State, status_at, value_at, cell_at, placed, with_value, with_status, with_cell, waiting_as, IsFree, IsFreeCell, IsIdle, fresh}
 use Rattle.sdd_base.specs.Steps.{hit, held_in, given, opened, closed, set_aside, purged, handed}
 use Rattle.sdd_base.specs.Dropping.{Dropped}
+use Rattle.sdd_base.specs.Frame.{IsLive}
 use Rattle.sdd_base.specs.Place.{IsPlace, IsShared, IsOwned}
 use Rattle.sdd_base.specs.declared.sizes.Sizes.{Sizes}
 use Rattle.sdd_base.specs.declared.tag.Tag.{Tag}
@@ -134,6 +135,9 @@ pub record OwnersAreCounted {T : Type 0} (holds : T → List Hold) : Type 0 wher
   -- a job waits
   pub deferred : (p i : ℕ) (hand : List Hold) (w : State T) → IsIdle w i → Counted holds hand w → Counted holds hand (waiting_as status.Deferred p i w)
 
--- a cell whose owner is in hand keeps what it keeps while a guard opens, whatever that reclaims
-abbrev pub HeldCellsStay : {T : Type 0} → (T → List Hold) → Type 0
-HeldCellsStay {T} holds = (c p : ℕ) (hand : List Hold) (w : State T) → IsPlace w → p < length w.members → 1 ≤ tally (SharedIn c) hand → Counted holds hand w → cell_at (opened holds p w) c ≡ cell_at w c
+-- what a cell keeps stays while a guard opens, whatever that reclaims
+pub record HeldCellsStay {T : Type 0} (holds : T → List Hold) : Type 0 where
+  -- where the cell's owner is in hand
+  pub hand : (c p : ℕ) (hand : List Hold) (w : State T) → IsPlace w → p < length w.members → 1 ≤ tally (SharedIn c) hand → Counted holds hand w → cell_at (opened holds p w) c ≡ cell_at w c
+  -- where it is in an item that has an owner
+  pub item : (c i p : ℕ) (hand : List Hold) (w : State T) → IsPlace w → p < length w.members → IsLive w i → 1 ≤ tally (SharedIn c) (held_in holds (value_at w i)) → Counted holds hand w → cell_at (opened holds p w) c ≡ cell_at w c

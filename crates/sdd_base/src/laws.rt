@@ -13,8 +13,8 @@ pub fn owners_are_counted<T: Holds>()
     ensures { OwnersAreCounted T.holds }
 {}
 
-/// What a cell keeps whose owner is in hand stays while a guard opens, though that reclaims items, which give up owners
-/// and cells.
+/// What a cell keeps whose owner is in hand, or in an item that has an owner, stays while a guard opens, though that
+/// reclaims items, which give up owners and cells.
 pub fn held_cells_stay<T: Holds>()
     ensures { HeldCellsStay T.holds }
 {}
