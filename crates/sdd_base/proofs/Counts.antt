@@ -7,7 +7,8 @@ use Rattle.std.proofs.lemmas.Bool.Decides.{nat_tests, eqb_tells}
 use Rattle.sdd_base.specs.Holding.{Hold, OwnedItem, SharedItem, OwnedIn, SharedIn}
 use Rattle.sdd_base.specs.State.{State, Member, status_at, value_at, cell_at, member_at, marks_at, placed, with_value, changing, recalled, removed, waiting_as, IsIdle, with_status, with_cell, with_marks, retired, taken, vacated, weight, is_used, IsFree, IsFreeCell, rotated_bags, turned, raised, is_present, nobody, marked, fresh}
 use Rattle.sdd_base.specs.Steps.{overdue, purged, set_aside, handed, handed_as, hit, held_in, given, given_all, released_as, disowned_as, owned_ended_as, shared_ended_as, due_reclaimed, due_reclaimed_as, reclaimed, rotated, begun, opened, closed, scanned, scans, closings_after}
-use Rattle.sdd_base.specs.Place.{Sound, IsPlace, IsShared, IsOwned}
+use Rattle.sdd_base.proofs.Slots.{at_most}
+use Rattle.sdd_base.specs.Place.{Sound, IsPlace, IsShared, IsOwned, IsSharedCell}
 use Rattle.sdd_base.specs.Counting.{same_hold, tally, kept_by, single_owner, shared_owners, keeps_owned, keeps_shared, owners_of, Counted, OwnersAreCounted}
 use Rattle.sdd_base.specs.declared.status.Status.{Status}
 use Rattle.sdd_base.specs.declared.status.Status.TheVariants as status
@@ -482,6 +483,33 @@ module _ {T : Type 0} (holds : T → List Hold) where
   pub names_owned : (i : ℕ) (hand : List Hold) (w : State T) → Counted holds (OwnedItem i ∷ hand) w → IsOwned w i
   names_owned i hand w h = owned_there w i (status_at w i) refl (has_one_single i hand w h)
 
+  shared_cell_there : (w : State T) (c : ℕ) (k : Cell) → k ≡ cell_at w c → 1 ≤ keeps_shared k → IsSharedCell w c
+  shared_cell_there w c cell.Free e h = absurd (omega (arith, h))
+  shared_cell_there w c (cell.OfOwned o t) e h = absurd (omega (arith, h))
+  shared_cell_there w c (cell.OfShared o t) e h = record { inside = cell_inside w.cells c (λ f. let g : cell.OfShared o t ≡ cell.Free = e ∙ f in cc); item = o; tag = t; is = sym e }
+  shared_cell_there w c (cell.OfRaw o t) e h = absurd (omega (arith, h))
+
+  kept_there : (c i : ℕ) (t : Tag) (hand : List Hold) (w : State T) → cell_at w c ≡ cell.OfShared (Some i) t → Counted holds hand w → IsShared w i
+  kept_there c i t hand w is h =
+      let m = at_most (λ k. tally (SharedItem i) (kept_by k)) w.cells c cell.Free refl in
+      let was : tally (SharedItem i) (kept_by (cell_at w c)) ≡ tally (SharedItem i) (SharedItem i ∷ []) = ap (λ (k : Cell). tally (SharedItem i) (kept_by k)) is in
+      let e = h.each (SharedItem i) in
+      shared_there w i (status_at w i) refl (omega (arith, m, was, e, tally-cons (SharedItem i) (SharedItem i) [], hit-same i))
+
+  held_there : (i j : ℕ) (v : T) (hand : List Hold) (w : State T) → value_at w j ≡ Some v → 1 ≤ tally (SharedItem i) (holds v) → Counted holds hand w → IsShared w i
+  held_there i j v hand w was some h =
+      let m = at_most (λ o. tally (SharedItem i) (held_in holds o)) w.values j None refl in
+      let is = ap (λ (o : Option T). tally (SharedItem i) (held_in holds o)) was in
+      let e = h.each (SharedItem i) in
+      shared_there w i (status_at w i) refl (omega (arith, m, is, e, some))
+
+  cell_there : (c j : ℕ) (v : T) (hand : List Hold) (w : State T) → value_at w j ≡ Some v → 1 ≤ tally (SharedIn c) (holds v) → Counted holds hand w → IsSharedCell w c
+  cell_there c j v hand w was some h =
+      let m = at_most (λ o. tally (SharedIn c) (held_in holds o)) w.values j None refl in
+      let is = ap (λ (o : Option T). tally (SharedIn c) (held_in holds o)) was in
+      let e = h.each (SharedIn c) in
+      shared_cell_there w c (cell_at w c) refl (omega (arith, m, is, e, some))
+
   counted_fresh : (n : Sizes) → Counted holds [] (fresh n)
   counted_fresh n = record {
     each = λ k.
@@ -575,6 +603,10 @@ module _ {T : Type 0} (holds : T → List Hold) where
   owners_are_counted = record {
     shared = names_shared;
     owned = names_owned;
+    kept = kept_there;
+    held = held_there;
+    cell_in_hand = λ c hand w h. shared_cell_there w c (cell_at w c) refl (has_shared_cell c hand w h);
+    cell_in_item = cell_there;
     placed_shared = counted_placed_shared;
     placed_owned = counted_placed_owned;
     cloned = counted_cloned;

@@ -6,7 +6,7 @@ use Rattle.sdd_base.specs.State.{State, status_at, value_at, cell_at, placed, wi
 use Rattle.sdd_base.specs.Steps.{hit, held_in, given, opened, closed, set_aside, purged, handed}
 use Rattle.sdd_base.specs.Dropping.{Dropped}
 use Rattle.sdd_base.specs.Frame.{IsLive}
-use Rattle.sdd_base.specs.Place.{IsPlace, IsShared, IsOwned}
+use Rattle.sdd_base.specs.Place.{IsPlace, IsShared, IsOwned, IsSharedCell}
 use Rattle.sdd_base.specs.declared.sizes.Sizes.{Sizes}
 use Rattle.sdd_base.specs.declared.tag.Tag.{Tag}
 use Rattle.sdd_base.specs.declared.status.Status.{Status}
@@ -98,6 +98,12 @@ pub record OwnersAreCounted {T : Type 0} (holds : T → List Hold) : Type 0 wher
   -- an owner in hand names an item that is there
   pub shared : (i : ℕ) (hand : List Hold) (w : State T) → Counted holds (SharedItem i ∷ hand) w → IsShared w i
   pub owned : (i : ℕ) (hand : List Hold) (w : State T) → Counted holds (OwnedItem i ∷ hand) w → IsOwned w i
+  -- and so does one in a cell, or in an item
+  pub kept : (c i : ℕ) (t : Tag) (hand : List Hold) (w : State T) → cell_at w c ≡ cell.OfShared (Some i) t → Counted holds hand w → IsShared w i
+  pub held : (i j : ℕ) (v : T) (hand : List Hold) (w : State T) → value_at w j ≡ Some v → 1 ≤ tally (SharedItem i) (holds v) → Counted holds hand w → IsShared w i
+  -- a cell in hand, or in an item, is in use
+  pub cell_in_hand : (c : ℕ) (hand : List Hold) (w : State T) → Counted holds (SharedIn c ∷ hand) w → IsSharedCell w c
+  pub cell_in_item : (c j : ℕ) (v : T) (hand : List Hold) (w : State T) → value_at w j ≡ Some v → 1 ≤ tally (SharedIn c) (holds v) → Counted holds hand w → IsSharedCell w c
   -- an item is made of what it will hold
   pub placed_shared : (i : ℕ) (v : T) (hand : List Hold) (w : State T) → IsPlace w → IsFree w i → Counted holds (holds v ++ hand) w → Counted holds (SharedItem i ∷ hand) (placed i v (status.Shared 1) w)
   pub placed_owned : (i : ℕ) (v : T) (hand : List Hold) (w : State T) → IsPlace w → IsFree w i → Counted holds (holds v ++ hand) w → Counted holds (OwnedItem i ∷ hand) (placed i v status.Owned w)
