@@ -1,6 +1,5 @@
 -- what an opening leaves of a cell whose owner is in hand
-use Rattle.std.proofs.Common.{◌≡◌, ◌≢◌, ℕ, zero, suc, ◌+◌, ◌-◌, ◌<◌, ◌≤◌, ◌==◌, Bool, true, false, Option, None, Some, List, [], ◌∷◌, ◌++◌, length, get_or, set, refl, sym, ap, ◌∙◌, arith, length-set, subst, cond, reverse, get_or-set_other, get_or-set_same, leb}
-use Rattle.std.specs.List.{sum_by}
+use Rattle.std.proofs.Common.{◌≡◌, ◌≢◌, ℕ, zero, suc, ◌+◌, ◌-◌, ◌<◌, ◌≤◌, ◌==◌, true, false, Option, None, Some, List, [], ◌∷◌, ◌++◌, length, get_or, refl, sym, ap, ◌∙◌, arith, length-set, subst, cond, reverse, get_or-set_other, get_or-set_same, leb}
 use Rattle.std.proofs.lemmas.List.{length-reverse}
 use Rattle.sdd_base.specs.Holding.{Hold, OwnedItem, SharedItem, OwnedIn, SharedIn}
 use Rattle.sdd_base.specs.State.{State, Member, status_at, value_at, cell_at, member_at, marks_at, with_status, with_cell, with_marks, retired, taken, rotated_bags, turned, nobody, marked, left_due, weight}
@@ -11,7 +10,6 @@ use Rattle.sdd_base.specs.declared.status.Status.{Status}
 use Rattle.sdd_base.specs.declared.status.Status.TheVariants as status
 use Rattle.sdd_base.specs.declared.status.Cell.{Cell}
 use Rattle.sdd_base.specs.declared.status.Cell.TheVariants as cell
-use Rattle.sdd_base.specs.declared.status.Marks.{Marks}
 use Rattle.sdd_base.proofs.Lists.{hit-same}
 use Rattle.sdd_base.proofs.Slots.{at_most}
 use Rattle.sdd_base.proofs.Sounds.{due_waiting, reclaims_next, sound_turned, sound_taken, gives_given, times_reversed, bag_waits}
