@@ -6,6 +6,7 @@ ghost use Rattle.sdd_base.specs.Place.{IsOpen, IsOwned, IsSharedCell};
 ghost use Rattle.sdd_base.specs.Tokens.{owned_slot, participant_of, shared_cell};
 
 use crate::cell::AtomicShared;
+use crate::collector::PrivateCollector;
 use crate::guard::WorldGuard;
 use crate::owner::{Owned, Shared};
 use crate::pointer::Ptr;
@@ -61,10 +62,18 @@ struct Member {
     closings: u32,
 }
 
-/// The items that have a slot, the participants, and the count of raises.
+/// What waits in a collector: the value of an item, and the count when it was collected.
+#[derive(Clone, Copy, Drop)]
+struct Apart {
+    value: u64,
+    note: u64,
+}
+
+/// The items that have a slot, those that wait in the collector, the participants, and the count of raises.
 #[derive(Drop)]
 struct Plain {
     items: Vec<Known>,
+    apart: Vec<Apart>,
     members: Vec<Member>,
     count: u64,
 }
@@ -84,6 +93,7 @@ impl Plain {
         }
         Ok(Plain {
             items: Vec::new(alloc),
+            apart: Vec::new(alloc),
             members,
             count: 0,
         })
@@ -174,6 +184,26 @@ impl Plain {
         }
     }
 
+    /// One owner is given back, and with the last one the item waits in the collector; what was collected three raises
+    /// ago goes.
+    fn collect(&mut self, value: u64) -> bool {
+        let note = self.count;
+        self.give(value, usize::MAX);
+        let last = self.owners(value) == 0;
+        if last {
+            let _kept = self.apart.push(Apart { value, note });
+        }
+        for _ in 0..self.apart.len() {
+            if let Some(first) = self.apart.first().copied()
+                && first.note.saturating_add(3) <= note
+            {
+                self.apart.remove(0);
+                self.forget(first.value);
+            }
+        }
+        last
+    }
+
     /// What `p` retired is older by one.
     fn grow_old(&mut self, p: usize) {
         let mut waits = false;
@@ -248,6 +278,7 @@ struct Hand {
     owned: Vec<Owned<u64>>,
     shared: Vec<Shared<u64>>,
     guards: Vec<WorldGuard>,
+    collector: PrivateCollector<u64>,
     sights: Vec<Sight>,
     next: u64,
 }
@@ -411,6 +442,30 @@ fn drop_one<R: Abort>(
     }
 }
 
+fn collect_one<R: Abort>(
+    rt: &R,
+    w: &mut World<u64>,
+    hand: &mut Hand,
+    plain: &mut Plain,
+    dice: &mut Dice,
+) {
+    let Some(guard) = any_guard(hand, dice) else {
+        return;
+    };
+    if let Some(shared) = any_shared(hand, dice) {
+        let value = value_of(rt, w, &shared);
+        if !is_live(w, &shared) || !is_open(w, &guard) {
+            panic!(rt; "an owner's item is there, and a guard in hand is open");
+        }
+        let last = world::private_collector::collect_shared(w, &mut hand.collector, shared, &guard);
+        assert!(rt; last == plain.collect(value));
+    }
+    match hand.guards.push(guard) {
+        Ok(()) => {}
+        Err(_) => panic!(rt; "memory"),
+    }
+}
+
 fn retire_one<R: Abort>(
     rt: &R,
     w: &mut World<u64>,
@@ -563,7 +618,7 @@ fn step<R: Abort>(
     dice: &mut Dice,
 ) {
     let p = dice.roll(3);
-    match dice.roll(16) {
+    match dice.roll(17) {
         0 => make(rt, w, hand, plain, true),
         1 | 2 => make(rt, w, hand, plain, false),
         3 => clone_one(rt, w, hand, plain, dice),
@@ -574,6 +629,7 @@ fn step<R: Abort>(
         9 | 10 => open_one(rt, w, hand, plain, p),
         11 | 12 | 13 => close_one(rt, w, hand, plain, dice),
         14 => see_one(rt, w, hand, dice),
+        15 => collect_one(rt, w, hand, plain, dice),
         _ => swap_one(rt, w, hand, cell, dice),
     }
 }
@@ -584,6 +640,7 @@ fn spend<R: Abort>(rt: &R, w: &mut World<u64>, hand: Hand, cell: AtomicShared<u6
         mut owned,
         mut shared,
         mut guards,
+        collector,
         sights: _,
         next: _,
     } = hand;
@@ -609,6 +666,7 @@ fn spend<R: Abort>(rt: &R, w: &mut World<u64>, hand: Hand, cell: AtomicShared<u6
         panic!(rt; "the cell is in use");
     }
     world::atomic_shared::retire(w, cell, 0);
+    world::private_collector::hand_over(w, collector, 0);
     guards.destroy_empty();
     owned.destroy_empty();
     shared.destroy_empty();
@@ -629,6 +687,7 @@ fn play<R: Abort>(
     };
     let mut plain = Plain::new(alloc)?;
     let mut w = World::new(alloc, sizes)?;
+    let collector = world::private_collector::new(alloc, &w)?;
     let Ok(cell) = world::atomic_shared::null(&mut w) else {
         panic!(rt; "a cell is free");
     };
@@ -636,6 +695,7 @@ fn play<R: Abort>(
         owned: Vec::new(alloc),
         shared: Vec::new(alloc),
         guards: Vec::new(alloc),
+        collector,
         sights: Vec::new(alloc),
         next: 1,
     };
