@@ -634,42 +634,54 @@ fn step<R: Abort>(
     }
 }
 
-/// Everything in hand is given back, by participant 0.
-fn spend<R: Abort>(rt: &R, w: &mut World<u64>, hand: Hand, cell: AtomicShared<u64>) {
-    let Hand {
-        mut owned,
-        mut shared,
-        mut guards,
-        collector,
-        sights: _,
-        next: _,
-    } = hand;
+fn close_all<R: Abort>(rt: &R, w: &mut World<u64>, mut guards: Vec<WorldGuard>) {
     while let Some(guard) = guards.pop() {
         if !is_open(w, &guard) {
             panic!(rt; "a guard in hand is open");
         }
         world::guard::close(w, guard);
     }
+    guards.destroy_empty();
+}
+
+fn retire_all<R: Abort>(rt: &R, w: &mut World<u64>, mut owned: Vec<Owned<u64>>) {
     while let Some(sole) = owned.pop() {
         if !is_sole(w, &sole) || w.table.participants() == 0 {
             panic!(rt; "an owner's item is there");
         }
         world::owned::retire(w, sole, 0);
     }
+    owned.destroy_empty();
+}
+
+fn release_all<R: Abort>(rt: &R, w: &mut World<u64>, mut shared: Vec<Shared<u64>>) {
     while let Some(one) = shared.pop() {
         if !is_live(w, &one) || w.table.participants() == 0 {
             panic!(rt; "an owner's item is there");
         }
         world::shared::release(w, one, 0);
     }
+    shared.destroy_empty();
+}
+
+/// Everything in hand is given back, by participant 0.
+fn spend<R: Abort>(rt: &R, w: &mut World<u64>, hand: Hand, cell: AtomicShared<u64>) {
+    let Hand {
+        owned,
+        shared,
+        guards,
+        collector,
+        sights: _,
+        next: _,
+    } = hand;
+    close_all(rt, w, guards);
+    retire_all(rt, w, owned);
+    release_all(rt, w, shared);
     if !is_used(w, &cell) || w.table.participants() == 0 {
         panic!(rt; "the cell is in use");
     }
     world::atomic_shared::retire(w, cell, 0);
     world::private_collector::hand_over(w, collector, 0);
-    guards.destroy_empty();
-    owned.destroy_empty();
-    shared.destroy_empty();
 }
 
 /// So many random calls.
