@@ -27,8 +27,9 @@ unsafe extern "C" {
     ) -> u64;
 }
 
-/// How many look-ups a round has.
-const PROBES: u64 = 10_000;
+/// How many look-ups a round has whose instructions are counted, and one whose time is taken.
+const COUNTED: u64 = 10_000;
+const TIMED: u64 = 200_000;
 
 #[derive(Clone, Copy, PartialEq)]
 enum Map {
@@ -154,10 +155,10 @@ fn keys(order: &str, count: u64) -> Vec<u64> {
     }
 }
 
-fn probes(keys: &[u64]) -> Vec<u64> {
+fn probes(keys: &[u64], wanted: u64) -> Vec<u64> {
     let count = keys.len() as u64;
     let place = |i| (mixed(i ^ 0xabcdef) % count) as usize;
-    (0..PROBES).map(|i| keys[place(i)]).collect()
+    (0..wanted).map(|i| keys[place(i)]).collect()
 }
 
 /// The nanoseconds that this process has had of a processor.
@@ -180,26 +181,25 @@ fn processor_time() -> f64 {
     time.seconds as f64 * 1e9 + time.nanoseconds as f64
 }
 
-/// The nanoseconds of a look-up in each map: the least of several runs, which take turns.
+/// The nanoseconds of a look-up in each map: the least time of some runs, which take turns, less the
+/// least time without look-ups.
 fn times(order: &str, count: u64) -> [f64; 2] {
+    const ROUNDS: u32 = 10;
     let keys = keys(order, count);
-    let probes = probes(&keys);
-    let rounds = if count > 50_000 { 20 } else { 50 };
-    let mut least = [f64::MAX; 2];
-    for _ in 0..9 {
+    let probes = probes(&keys, TIMED);
+    let mut least = [[f64::MAX; 2]; 2];
+    for _ in 0..7 {
         let mut sums = [0; 2];
         for map in Map::ALL {
-            let start = processor_time();
-            black_box(map.get(&keys, &probes, 0));
-            let built = processor_time();
-            sums[map as usize] = map.get(&keys, &probes, rounds);
-            let looked = (processor_time() - built) - (built - start);
-            let each = looked / (PROBES * u64::from(rounds)) as f64;
-            least[map as usize] = least[map as usize].min(each);
+            for (rounds, least) in [0, ROUNDS].iter().zip(&mut least[map as usize]) {
+                let start = processor_time();
+                sums[map as usize] = black_box(map.get(&keys, &probes, *rounds));
+                *least = least.min(processor_time() - start);
+            }
         }
         assert_eq!(sums[0], sums[1], "the maps differ: {order} {count}");
     }
-    least
+    least.map(|[without, with]| (with - without) / (TIMED * u64::from(ROUNDS)) as f64)
 }
 
 fn main() {
@@ -212,8 +212,8 @@ fn main() {
             let answer = match words[2].as_str() {
                 "insert" => map.insert(&keys) as u64,
                 "walk" => map.walk(&keys, number(5) as u32),
-                "scan" => map.scan(&keys, &probes(&keys)[..1000], number(5) as u32),
-                _ => map.get(&keys, &probes(&keys), number(5) as u32),
+                "scan" => map.scan(&keys, &probes(&keys, 1000), number(5) as u32),
+                _ => map.get(&keys, &probes(&keys, COUNTED), number(5) as u32),
             };
             println!("{answer}");
         }

@@ -247,7 +247,7 @@ impl<K: Ord, V> Array<K, V> {
         self.slots.find(key)
     }
 
-    /// Puts a new pair in at `at`. A retired array is so no more.
+    /// Puts a new pair in at `at`. A retired array is then open again.
     #[inline(always)]
     pub(crate) fn place(&mut self, at: usize, key: K, val: V)
         requires room { self.old.used < 15 }
@@ -270,7 +270,7 @@ impl<K: Ord, V> Array<K, V> {
         self.retired = false;
     }
 
-    /// Puts a new pair in behind all others, with a rank one above its bitmap place. A retired array is so no more.
+    /// Puts a new pair in behind all others, with a rank one above its bitmap place. A retired array is then open again.
     pub(crate) fn append(&mut self, key: K, val: V)
         requires room { self.old.used < 15 }
         requires last { lesser K.cmp key self.old.pairs ≡ length self.old.pairs }
@@ -391,7 +391,12 @@ impl<K: Ord, V> Array<K, V> {
         }
     }
 
-    /// Moves the pairs behind the first `at` to an array of their own. Both are packed.
+    /// Moves the pairs behind the first `at` to an array of their own, as `Vec::split_off` does. Both are packed.
+    ///
+    /// ```
+    /// // of the keys 1 to 5
+    /// let upper = array.split_off(2); // 3, 4, 5; the array keeps 1, 2
+    /// ```
     pub fn split_off(&mut self, at: usize) -> Self
     where
         K: Drop,

@@ -184,6 +184,7 @@ impl<K: Ord, V> Slots<K, V> {
         self.all.vacate(at)
     }
 
+    /// Puts a place where the one at `at` is, and gives that one.
     fn put(&mut self, at: usize, place: Place<K, V>) -> Place<K, V>
         requires { at < 15 }
         ensures count { length self.new ≡ 15 }

@@ -425,6 +425,17 @@ fn a_removed_slot_leaves_the_other_ranks(rt: HostRuntime) {
 }
 
 #[test]
+fn an_insertion_by_place_opens_a_retired_array(rt: HostRuntime) {
+    let mut array = holding(&[5]);
+    assert_eq!(rt; array.remove_if(&5, |_| true), RemoveResult::Retired);
+    // slot 1 keeps the removed pair
+    assert_eq!(rt; insert_by_slot(&mut array, 6, 60), 2);
+    assert!(rt; !array.is_retired());
+    assert_eq!(rt; array.metadata(), 0x100);
+    assert_eq!(rt; answer(array.insert::<false>(7, 70)), 0);
+}
+
+#[test]
 fn pairs_are_pushed_at_the_end(rt: HostRuntime) {
     let mut array = holding(&[1, 3]);
     assert_eq!(rt; array.remove_if(&3, |_| true), RemoveResult::Success);
