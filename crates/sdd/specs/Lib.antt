@@ -1,0 +1,5 @@
+pub mod Entries
+pub mod Chain
+pub mod Stacks
+pub mod Owners
+pub mod Queues

@@ -1,0 +1,8 @@
+//! The calls over a `World`.
+
+mod chain;
+mod entries;
+pub mod linked_entry;
+pub mod queue;
+pub mod stack;
+mod tail;

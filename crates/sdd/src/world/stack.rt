@@ -1,0 +1,149 @@
+//! Stacks over a `World`: the newest entry comes first.
+
+ghost use Rattle.std.specs.Prelude.{◌≡◌, ◌<◌, ◌⊎◌, ◌↔◌, ℕ, List, [], ◌∷◌, length, IfOk, IfErr, OnErr, OnOk, IfSome, MatchOption, IsTrue};
+ghost use Rattle.sdd_base.specs.State.{IsFreeCell, NoneFree, NoCellFree};
+ghost use Rattle.sdd_base.specs.Place.{IsShared};
+ghost use Rattle.sdd_base.specs.Tokens.{shared_slot, ptr_slot};
+ghost use Rattle.sdd.specs.Chain.{Entry, Leaves, Stays, undeleted, first_slot, links, slots};
+ghost use Rattle.sdd.specs.Stacks.{stack_cell, IsStack, IsSomeStack, Pushes, Pops};
+ghost use Rattle.sdd.specs.declared.linked_entry.LinkedEntry.{LinkedEntry};
+
+use crate::linked_entry::LinkedEntry;
+use crate::stack::Stack;
+use crate::world::{chain, entries};
+use sdd_base::guard::WorldGuard;
+use sdd_base::owner::Shared;
+use sdd_base::pointer::Ptr;
+use sdd_base::refusal::NoSlot;
+use sdd_base::world::{World, atomic_shared};
+
+/// An empty stack, exactly if a cell is free.
+pub fn new<T>(w: &mut World<LinkedEntry<T>>) -> Result<Stack<T>, NoSlot>
+    ensures made { IfOk result (λ s. IsStack w.new (stack_cell s) []) }
+    ensures fresh { IfOk result (λ s. IsFreeCell w.old (stack_cell s)) }
+    ensures list { IfOk result (λ s. IsSomeStack w.new (stack_cell s)) }
+    ensures refused { OnErr result ((w.new ≡ w.old) × NoCellFree w.old) }
+    ensures leaves { Leaves [] [] w.old w.new }
+    ensures stays { Stays w.old w.new }
+{
+    match atomic_shared::null(w) {
+        Ok(newest) => Ok(Stack { newest }),
+        Err(e) => Err(e),
+    }
+}
+
+/// Puts `value` in front, in an entry of its own, and gives another owner of that, exactly if a slot and a cell are
+/// free; else `value` comes back and nothing changes.
+pub fn push<T>(
+    w: &mut World<LinkedEntry<T>>,
+    stack: &Stack<T>,
+    value: T,
+) -> Result<Shared<LinkedEntry<T>>, T>
+    requires { IsSomeStack w.old (stack_cell stack.now) }
+    ensures pushed { IfOk result (λ s. Pushes w.old w.new value (stack_cell stack.now) (shared_slot s)) }
+    ensures refused { IfErr result (λ v. (v ≡ value) × (w.new ≡ w.old) × (NoneFree w.old ⊎ NoCellFree w.old)) }
+    ensures live { IfOk result (λ s. IsShared w.new (shared_slot s)) }
+    ensures list { IsSomeStack w.new (stack_cell stack.now) }
+    ensures leaves { Leaves (stack_cell stack.now ∷ []) [] w.old w.new }
+    ensures stays { Stays w.old w.new }
+{
+    match entries::make(w, value) {
+        Err(value) => Err(value),
+        Ok((entry, first)) => {
+            chain::put_first(w, &stack.newest, first);
+            Ok(entry)
+        }
+    }
+}
+
+/// Takes the first undeleted entry, which is deleted by that, and gives an owner of it; deleted entries before it are
+/// given back by participant `p`.
+pub fn pop<T>(
+    w: &mut World<LinkedEntry<T>>,
+    stack: &Stack<T>,
+    p: usize,
+) -> Option<Shared<LinkedEntry<T>>>
+    requires member { p < length w.old.members }
+    requires list { IsSomeStack w.old (stack_cell stack.now) }
+    ensures popped { (es : List (Entry (LinkedEntry T))) → IsStack w.old (stack_cell stack.now) es → MatchOption result ((undeleted es ≡ []) × IsStack w.new (stack_cell stack.now) []) (λ s. Pops w.new (stack_cell stack.now) (shared_slot s) es) }
+    ensures live { IfSome result (λ s. IsShared w.new (shared_slot s)) }
+    ensures list { IsSomeStack w.new (stack_cell stack.now) }
+    ensures leaves { (es : List (Entry (LinkedEntry T))) → IsStack w.old (stack_cell stack.now) es → Leaves (stack_cell stack.now ∷ links es) (slots es) w.old w.new }
+    ensures stays { Stays w.old w.new }
+{
+    chain::skip_deleted(w, &stack.newest, p);
+    match chain::take_first(w, &stack.newest) {
+        None => None,
+        Some(first) => {
+            chain::delete(w, &first);
+            Some(first)
+        }
+    }
+}
+
+/// A pointer to the first undeleted entry, or null, with the tag of the cell that keeps it.
+pub fn peek<T>(
+    w: &World<LinkedEntry<T>>,
+    stack: &Stack<T>,
+    guard: &WorldGuard,
+) -> Ptr<'static, LinkedEntry<T>>
+    requires { IsSomeStack w.now (stack_cell stack.now) }
+    ensures { (es : List (Entry (LinkedEntry T))) → IsStack w.now (stack_cell stack.now) es → ptr_slot result ≡ first_slot (undeleted es) }
+{
+    atomic_shared::load(w, chain::skip_from(w, &stack.newest), guard)
+}
+
+/// How many entries aren't deleted.
+pub fn len<T>(w: &World<LinkedEntry<T>>, stack: &Stack<T>) -> usize
+    requires { IsSomeStack w.now (stack_cell stack.now) }
+    ensures { (es : List (Entry (LinkedEntry T))) → IsStack w.now (stack_cell stack.now) es → result ≡ length (undeleted es) }
+{
+    chain::count(w, &stack.newest)
+}
+
+/// Whether every entry is deleted.
+pub fn is_empty<T>(w: &World<LinkedEntry<T>>, stack: &Stack<T>) -> bool
+    requires { IsSomeStack w.now (stack_cell stack.now) }
+    ensures { (es : List (Entry (LinkedEntry T))) → IsStack w.now (stack_cell stack.now) es → IsTrue result ↔ (undeleted es ≡ []) }
+{
+    atomic_shared::is_null(w, chain::skip_from(w, &stack.newest))
+}
+
+/// Moves all entries to a new stack, exactly if a cell is free. Participant `_p` gives nothing back.
+pub fn pop_all<T>(
+    w: &mut World<LinkedEntry<T>>,
+    stack: &Stack<T>,
+    _p: usize,
+) -> Result<Stack<T>, NoSlot>
+    requires { IsSomeStack w.old (stack_cell stack.now) }
+    ensures moved { IfOk result (λ s. (es : List (Entry (LinkedEntry T))) → IsStack w.old (stack_cell stack.now) es → IsStack w.new (stack_cell s) es) }
+    ensures emptied { OnOk result (IsStack w.new (stack_cell stack.now) []) }
+    ensures fresh { IfOk result (λ s. IsFreeCell w.old (stack_cell s)) }
+    ensures refused { OnErr result ((w.new ≡ w.old) × NoCellFree w.old) }
+    ensures list { IsSomeStack w.new (stack_cell stack.now) }
+    ensures lists { IfOk result (λ s. IsSomeStack w.new (stack_cell s)) }
+    ensures leaves { Leaves (stack_cell stack.now ∷ []) [] w.old w.new }
+    ensures stays { Stays w.old w.new }
+{
+    match atomic_shared::null(w) {
+        Err(e) => Err(e),
+        Ok(newest) => {
+            let first = chain::take(w, &stack.newest);
+            chain::fill(w, &newest, first);
+            Ok(Stack { newest })
+        }
+    }
+}
+
+/// Ends the stack: participant `p` gives all its entries back, and its cell is free.
+pub fn retire<T>(w: &mut World<LinkedEntry<T>>, stack: Stack<T>, p: usize)
+    requires member { p < length w.old.members }
+    requires list { IsSomeStack w.old (stack_cell stack) }
+    ensures ended { IsFreeCell w.new (stack_cell stack) }
+    ensures leaves { (es : List (Entry (LinkedEntry T))) → IsStack w.old (stack_cell stack) es → Leaves (stack_cell stack ∷ links es) (slots es) w.old w.new }
+    ensures stays { Stays w.old w.new }
+{
+    let Stack { newest } = stack;
+    chain::clear(w, &newest, p);
+    chain::end(w, newest);
+}
