@@ -313,7 +313,7 @@ freed_again {L} w c k free = ap (λ (cs : List Cell). record w { cells = cs }) (
 pub some_nothing : {Y : Type 0} (y : Y) → ◌≡◌ {A = Option Y} (Some y) None → ⊥
 some_nothing y e = cc
 
-the_same : {Y : Type 0} (y z : Y) → ◌≡◌ {A = Option Y} (Some y) (Some z) → y ≡ z
+pub the_same : {Y : Type 0} (y z : Y) → ◌≡◌ {A = Option Y} (Some y) (Some z) → y ≡ z
 the_same y z e = cc
 
 pub full_empty : (o : Option ℕ) (i : ℕ) (t u : Tag) → cell.OfShared None t ≡ cell.OfShared (Some i) u → ⊥

@@ -5,3 +5,4 @@ pub mod Releases
 pub mod Fronts
 pub mod Tails
 pub mod Queues
+pub mod Nodes

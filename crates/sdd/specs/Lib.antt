@@ -3,3 +3,4 @@ pub mod Chain
 pub mod Stacks
 pub mod Owners
 pub mod Queues
+pub mod Nodes
