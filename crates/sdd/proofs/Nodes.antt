@@ -1,15 +1,17 @@
 -- entries whose tag changes
-use Rattle.std.proofs.Common.{◌≡◌, ◌≢◌, ◌==◌, ℕ, zero, suc, ◌+◌, ◌<◌, Bool, true, false, Option, None, Some, List, [], ◌∷◌, length, refl, sym, ap, ◌∙◌, arith, subst, cond, inl, inr, set, get_or}
+use Rattle.std.proofs.Common.{◌≡◌, ◌≢◌, ◌==◌, ℕ, zero, suc, ◌+◌, ◌<◌, Bool, true, false, Option, None, Some, List, [], ◌∷◌, length, refl, sym, ap, ◌∙◌, arith, subst, cond, inl, inr, set, get_or, IfSome, is_some}
 use Rattle.std.proofs.lemmas.List.{set-set}
+use Rattle.std.proofs.lemmas.Bool.{false≢true}
 use Rattle.std.proofs.lemmas.Bool.Decides.{eqb_tells}
 use Rattle.sdd_base.specs.State.{State, status_at, value_at, cell_at, with_cell}
 use Rattle.sdd_base.specs.Place.{IsSharedCell, IsReadable}
 use Rattle.sdd_base.specs.declared.tag.Tag.{Tag}
+use Rattle.sdd_base.specs.declared.tag.Tag.TheVariants as tag
 use Rattle.sdd_base.specs.declared.status.Cell.{Cell}
 use Rattle.sdd_base.specs.declared.status.Cell.TheVariants as cell
-use Rattle.sdd.specs.Chain.{Entry, slots, links, IsOut, IsItem, IsHung, Leaves, first_slot}
+use Rattle.sdd.specs.Chain.{Entry, slots, links, IsOut, IsItem, IsHung, Leaves, first_slot, undeleted, deleted}
 use Rattle.sdd.specs.Nodes.{IsNode, IsSomeNode, Retags, retagged, Has}
-use Rattle.sdd.proofs.Chains.{hung_left, cell_left, item_left, item_readable, leaves_write, leaves_all, out_of_none, wrote_same, wrote_other, inside_cells, some_same, the_same, hung_out, hung_first, kept_same, rehung}
+use Rattle.sdd.proofs.Chains.{hung_left, cell_left, item_left, item_readable, leaves_write, leaves_all, out_of_none, wrote_same, wrote_other, inside_cells, some_same, the_same, hung_out, hung_first, kept_same, rehung, some_nothing}
 use Rattle.sdd.proofs.Releases.{out_of_one}
 
 retagged_links : {L : Type 0} (i j : ℕ) (u : Tag) (es : List (Entry L)) → IsOut j (links es) → IsOut j (links (retagged i u es))
@@ -96,3 +98,38 @@ set_state {L} w w1 w2 d d2 l o r t t' u at at2 kept was e1 filled =
     let empty : cell_at w1 d2 ≡ cell.OfShared None u = ap (λ (j : ℕ). cell_at w1 j) at2 ∙ ap (λ (v : State L). cell_at v l) e ∙ wrote_same w l (cell.OfShared None u) (inside_cells w.cells l o t kept) in
     let twice : with_cell l (cell.OfShared o u) (with_cell l (cell.OfShared None u) w) ≡ with_cell l (cell.OfShared o u) w = ap (λ (cs : List Cell). record w { cells = cs }) (set-set w.cells l (cell.OfShared None u) (cell.OfShared o u)) in
     filled u empty ∙ ap (λ (j : ℕ). with_cell j (cell.OfShared r u) w1) at2 ∙ ap (λ (p : Option ℕ). with_cell l (cell.OfShared p u) w1) same ∙ ap (λ (v : State L). with_cell l (cell.OfShared o u) v) e ∙ twice
+
+-- the first entry of a list is one that a pointer may name
+module _ {L : Type 0} (link : L → Option ℕ) where
+  first_node : (w : State L) (c i : ℕ) (t : Tag) (es : List (Entry L)) → IsHung link w c t es → first_slot es ≡ Some i → IsSomeNode link w (Some i)
+  first_node w c i t [] h is = absurd (some_nothing i (sym is))
+  first_node w c i t (e ∷ es) h is = record { entry = e; is = record { names = sym is; item = h.1; next = first_slot es; kept = hung_first link w e.link e.tag es h.4 } }
+
+  node_by : (w : State L) (c : ℕ) (t : Tag) (es : List (Entry L)) → IsHung link w c t es → (o : Option ℕ) → first_slot es ≡ o → IfSome o (λ i. IsSomeNode link w (Some i))
+  node_by w c t es h None is = tt
+  node_by w c t es h (Some i) is = first_node w c i t es h is
+
+  pub hung_node : (w : State L) (c : ℕ) (t u : Tag) (es : List (Entry L)) → IsHung link w c t es → (o : Option ℕ) → cell_at w c ≡ cell.OfShared o u → IfSome o (λ i. IsSomeNode link w (Some i))
+  hung_node w c t u es h o kept = node_by w c t es h o (kept_same (first_slot es) o t u (sym (hung_first link w c t es h) ∙ kept))
+
+pub has_first : {L : Type 0} (i : ℕ) (es : List (Entry L)) → first_slot (undeleted es) ≡ Some i → Has i es
+has_first i [] is = absurd (some_nothing i (sym is))
+has_first i (e ∷ es) is = (elim (deleted e.tag) as (λ v. first_slot (cond v (undeleted es) (e ∷ undeleted es)) ≡ Some i → Has i (e ∷ es)) [ true ↦ λ k out. has_first i es k out.1 | false ↦ λ k out. out.0 (sym (some_same e.slot i k)) ]) is
+
+-- the first undeleted entry was asked to be deleted: some list hangs there still
+module _ {L : Type 0} (link : L → Option ℕ) (w w' : State L) (c : ℕ) (t : Tag) (es : List (Entry L)) (h : IsHung link w c t es) where
+  pub record Hung : Type 0 where
+    pub entries : List (Entry L)
+    pub is : IsHung link w' c t entries
+
+  deleted_by : (o : Option ℕ) (i : ℕ) → o ≡ Some i → o ≡ first_slot (undeleted es) → (n : IsSomeNode link w (Some i)) → (r : Bool) → (r ≡ true → (e : Entry L) → IsNode link w o e → Retags link w w' e tag.Second) → (r ≡ false → w' ≡ w) → Hung
+  deleted_by o i is first n true did kept =
+      let m = n.is in
+      let node : IsNode link w o n.entry = record { names = is ∙ m.names; item = m.item; next = m.next; kept = m.kept } in
+      let at : first_slot (undeleted es) ≡ Some n.entry.slot = sym first ∙ is ∙ m.names in
+      record { entries = retagged n.entry.slot tag.Second es; is = (did refl n.entry node).lists c t es h (has_first n.entry.slot es at) }
+  deleted_by o i is first n false did kept = record { entries = es; is = subst (λ (v : State L). IsHung link v c t es) (sym (kept refl)) h }
+
+  pub deleted_first : (o : Option ℕ) → o ≡ first_slot (undeleted es) → IfSome o (λ i. IsSomeNode link w (Some i)) → true ≡ is_some o → (r : Bool) → (r ≡ true → (e : Entry L) → IsNode link w o e → Retags link w w' e tag.Second) → (r ≡ false → w' ≡ w) → Hung
+  deleted_first None first n some r did kept = absurd (false≢true (sym some))
+  deleted_first (Some i) first n some r did kept = deleted_by (Some i) i refl first n r did kept

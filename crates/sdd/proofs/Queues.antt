@@ -1,5 +1,5 @@
 -- queues, as their calls change them
-use Rattle.std.proofs.Common.{◌≡◌, ◌≢◌, ◌≤◌, ℕ, zero, suc, ◌+◌, ◌<◌, ◌-◌, Bool, true, false, Option, None, Some, List, [], ◌∷◌, ◌++◌, length, refl, sym, ap, ◌∙◌, arith, subst, cond, length-set, inl, inr}
+use Rattle.std.proofs.Common.{◌≡◌, ◌≢◌, ◌≤◌, ℕ, zero, suc, ◌+◌, ◌<◌, ◌-◌, Bool, true, false, Option, None, Some, List, [], ◌∷◌, ◌++◌, length, refl, sym, ap, ◌∙◌, arith, subst, cond, length-set, inl, inr, get_or-set_same}
 use Rattle.std.proofs.lemmas.Bool.Decides.{eqb_tells}
 use Rattle.sdd_base.specs.State.{State, status_at, value_at, cell_at, with_cell, emptiness, vacancy, IsFreeCell}
 use Rattle.sdd_base.specs.Steps.{released}
@@ -15,7 +15,7 @@ use Rattle.sdd.specs.Entries.{entry_link}
 use Rattle.sdd.specs.declared.linked_entry.LinkedEntry.{LinkedEntry}
 use Rattle.sdd.proofs.Chains.{hung_left, cell_left, item_left, leaves_then, leaves_more, leaves_all, leaves_write, out_of_none, wrote_same, wrote_other, inside_cells, inside_states, some_same, some_nothing, head_cell, kept_same, free_cell_out, free_slot_out}
 use Rattle.sdd.proofs.Fronts.{leaves_free, none_skipped, first_skipped, first_none, TookSome, popped_left, popped_gone, popped_leaves, skipped_links}
-use Rattle.sdd.proofs.Releases.{leaves_released, spare_owner, spare_item, out_of_one}
+use Rattle.sdd.proofs.Releases.{leaves_released, spare_owner, spare_item, spare_state, out_of_one}
 
 pub two_shared : {L : Type 0} (w : State L) (i : ℕ) → HasTwo w i → IsShared w i
 two_shared w i h = record { inside = inside_states w.states i h.owners h.is; owners = h.owners; is = h.is }
@@ -215,3 +215,34 @@ module _ {L : Type 0} (link : L → Option ℕ) (w w1 w2 w3 : State L) (c d i p 
 
   pub settled : (w4 : State L) → ((j : ℕ) (t : Tag) → cell_at w3 c ≡ cell.OfShared (Some j) t → w4 ≡ w3) → ((o : Option ℕ) (t : Tag) → cell_at w3 c ≡ cell.OfShared None t → cell_at w3 d ≡ cell.OfShared o tag.None → w4 ≡ vacated p d o w3) → Settled w4
   settled w4 some none = settled_by w4 some none k.rest refl
+
+-- one owner of at least three is given back
+module _ {L : Type 0} (link : L → Option ℕ) where
+  spare_two : (p i n j : ℕ) (w : State L) → status_at w i ≡ status.Shared n → 3 ≤ n → HasTwo w j → HasTwo (released p i w) j
+  spare_two p i n j w is more h = elim (eqb_tells j i) [
+    | inl q ↦
+        let at : status_at (released p i w) i ≡ status.Shared (n - 1) = ap (λ (v : State L). status_at v i) (spare_state p i n w is (omega (arith, more))) ∙ get_or-set_same w.states i (status.Shared (n - 1)) status.Free (inside_states w.states i n is) in
+        record { owners = n - 1; is = ap (λ (k : ℕ). status_at (released p i w) k) q.1 ∙ at; two = omega (arith, more) }
+    | inr q ↦ record { owners = h.owners; is = (leaves_released p i w).uses j (q.1, tt) (ap vacancy h.is) ∙ h.is; two = h.two }
+  ]
+
+  pub spare_queue_owner : (p i n c d : ℕ) (es : List (Entry L)) (w : State L) → status_at w i ≡ status.Shared n → 3 ≤ n → IsQueue link w c d es → IsQueue link (released p i w) c d es
+  spare_queue_owner p i n c d es w is more q = record {
+    hung = spare_owner link p i n c tag.None es w is (omega (arith, more)) q.hung;
+    newest = cell_left link [] (i ∷ []) w (released p i w) d (last_slot es) tag.None (leaves_released p i w) tt q.newest;
+    apart = q.apart;
+    out = q.out;
+    spare = λ j at. spare_two p i n j w is more (q.spare j at);
+  }
+
+  -- an owner of an item that isn't in the queue is given back
+  pub queue_apart : (p i c d : ℕ) (es : List (Entry L)) (w : State L) → IsOut i (slots es) → IsQueue link w c d es → IsQueue link (released p i w) c d es
+  queue_apart p i c d es w out q =
+      let l = leaves_released p i w in
+      record {
+        hung = hung_left link [] (i ∷ []) w (released p i w) c tag.None es l tt (out_of_none (links es)) (out_of_one (slots es) i out) q.hung;
+        newest = cell_left link [] (i ∷ []) w (released p i w) d (last_slot es) tag.None l tt q.newest;
+        apart = q.apart;
+        out = q.out;
+        spare = λ j at. let h = q.spare j at in record { owners = h.owners; is = l.uses j (λ e. last_in es j i at out (sym e), tt) (ap vacancy h.is) ∙ h.is; two = h.two };
+      }

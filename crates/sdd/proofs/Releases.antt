@@ -67,7 +67,7 @@ module _ {L : Type 0} (p i : ℕ) (w : State L) where
     protects = λ q j o h. (k.protects q j o (let n = nests q in omega (arith, o, n)) h).1;
   }
 
-spare_state : {L : Type 0} (p i n : ℕ) (w : State L) → status_at w i ≡ status.Shared n → 2 ≤ n → released p i w ≡ with_status i (status.Shared (n - 1)) w
+pub spare_state : {L : Type 0} (p i n : ℕ) (w : State L) → status_at w i ≡ status.Shared n → 2 ≤ n → released p i w ≡ with_status i (status.Shared (n - 1)) w
 spare_state p i n w is more = ap (λ (s : Status). released_as s p i w) is ∙ ap (λ (b : Bool). cond b (retired p i w) (with_status i (status.Shared (n - 1)) w)) (not_one n more)
 
 pub out_of_one : (xs : List ℕ) (i : ℕ) → IsOut i xs → AreOut xs (i ∷ [])

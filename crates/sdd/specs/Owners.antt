@@ -4,6 +4,7 @@ use Rattle.sdd_base.specs.State.{State, status_at}
 use Rattle.sdd_base.specs.Steps.{released}
 use Rattle.sdd_base.specs.declared.tag.Tag.{Tag}
 use Rattle.sdd_base.specs.declared.status.Status.TheVariants as status
+use Rattle.sdd.specs.Queues.{IsQueue}
 use Rattle.sdd.specs.Chain.{Entry, IsHung, Leaves, AreOut, IsOut, links, slots}
 
 -- giving back one owner of several leaves every list
@@ -17,3 +18,7 @@ ListsStay {L} link = (cs is : List ℕ) (c : ℕ) (t : Tag) (es : List (Entry L)
 -- giving an owner back changes no other item, and no cell
 abbrev pub ReleasesLeave : Type 0 → Type 0
 ReleasesLeave L = (p i : ℕ) (w : State L) → Leaves [] (i ∷ []) w (released p i w)
+
+-- giving back one owner of at least three leaves every queue
+abbrev pub SpareQueueOwners : {L : Type 0} → (L → Option ℕ) → Type 0
+SpareQueueOwners {L} link = (p i n c d : ℕ) (es : List (Entry L)) (w : State L) → status_at w i ≡ status.Shared n → 3 ≤ n → IsQueue link w c d es → IsQueue link (released p i w) c d es

@@ -1,6 +1,6 @@
 //! What follows from the clauses of the calls, for every state. Nothing here runs.
 
-ghost use Rattle.sdd.specs.Owners.{SpareOwners, ListsStay, ReleasesLeave};
+ghost use Rattle.sdd.specs.Owners.{SpareOwners, SpareQueueOwners, ListsStay, ReleasesLeave};
 
 use crate::linked_list::LinkedList;
 
@@ -8,6 +8,12 @@ use crate::linked_list::LinkedList;
 /// given back at once.
 pub fn spare_owners<L: LinkedList>()
     ensures { SpareOwners L.link }
+{}
+
+/// An owner of an entry can be given back while there are two others: every queue stays. So what `push` gives can be
+/// given back at once.
+pub fn spare_queue_owners<L: LinkedList>()
+    ensures { SpareQueueOwners L.link }
 {}
 
 /// A call that changes some cells and items leaves each list that has none of them.

@@ -1,10 +1,15 @@
-ghost use Rattle.std.specs.Prelude.{◌≡◌, ◌<◌, ◌≤◌, length, IfOk};
+ghost use Rattle.std.specs.Prelude.{◌≡◌, ◌<◌, ◌≤◌, length, IfOk, IsTrue};
 ghost use Rattle.sdd_base.specs.State.{fresh};
+ghost use Rattle.sdd_base.specs.Place.{IsOpen};
+ghost use Rattle.sdd.specs.Entries.{entry_link};
 ghost use Rattle.sdd.specs.Stacks.{IsSomeStack, stack_cell};
+ghost use Rattle.sdd.specs.Queues.{IsSomeQueue, oldest_cell, newest_cell};
 
 use crate::linked_entry::LinkedEntry;
+use crate::queue::Queue;
 use crate::stack::Stack;
 use crate::world;
+use sdd_base::guard::WorldGuard;
 use sdd_base::sizes::Sizes;
 use sdd_base::world as place;
 use sdd_base::world::World;
@@ -14,19 +19,17 @@ use std::test::Fail;
 
 /// A world of entries of numbers with one participant.
 fn numbers(alloc: Global, slots: usize, cells: usize) -> Result<World<LinkedEntry<u64>>, AllocError>
-    requires slots { slots ≤ 16 }
-    requires cells { cells ≤ 16 }
+    requires slots { slots ≤ 64 }
+    requires cells { cells ≤ 64 }
     ensures { IfOk result (λ w. w ≡ fresh (record { participants = 1; slots = slots; cells = cells; jobs = 0 })) }
 {
-    World::new(
-        alloc,
-        Sizes {
-            participants: 1,
-            slots,
-            cells,
-            jobs: 0,
-        },
-    )
+    let sizes = Sizes {
+        participants: 1,
+        slots,
+        cells,
+        jobs: 0,
+    };
+    World::new(alloc, sizes)
 }
 
 /// Ends a world in which nothing is left.
@@ -42,6 +45,7 @@ fn push(w: &mut World<LinkedEntry<u64>>, stack: &Stack<u64>, value: u64) -> Resu
     requires member { 0 < length w.old.members }
     requires list { IsSomeStack w.old (stack_cell stack.now) }
     ensures member { 0 < length w.new.members }
+    ensures open { IsOpen w.old 0 → IsOpen w.new 0 }
     ensures list { IsSomeStack w.new (stack_cell stack.now) }
 {
     match world::stack::push(w, stack, value) {
@@ -58,6 +62,7 @@ fn pop(w: &mut World<LinkedEntry<u64>>, stack: &Stack<u64>) -> Option<u64>
     requires member { 0 < length w.old.members }
     requires list { IsSomeStack w.old (stack_cell stack.now) }
     ensures member { 0 < length w.new.members }
+    ensures open { IsOpen w.old 0 → IsOpen w.new 0 }
     ensures list { IsSomeStack w.new (stack_cell stack.now) }
 {
     match world::stack::pop(w, stack, 0) {
@@ -67,6 +72,71 @@ fn pop(w: &mut World<LinkedEntry<u64>>, stack: &Stack<u64>) -> Option<u64>
             place::shared::release(w, entry, 0);
             Some(value)
         }
+    }
+}
+
+/// Puts a value behind all others and gives the owner back.
+fn append(w: &mut World<LinkedEntry<u64>>, queue: &Queue<u64>, value: u64) -> Result<(), u64>
+    requires member { 0 < length w.old.members }
+    requires list { IsSomeQueue entry_link w.old (oldest_cell queue.now) (newest_cell queue.now) }
+    ensures member { 0 < length w.new.members }
+    ensures list { IsSomeQueue entry_link w.new (oldest_cell queue.now) (newest_cell queue.now) }
+{
+    match world::queue::push(w, queue, value) {
+        Ok(entry) => {
+            place::shared::release(w, entry, 0);
+            Ok(())
+        }
+        Err(value) => Err(value),
+    }
+}
+
+/// The value of the first undeleted entry, which is given back.
+fn take(w: &mut World<LinkedEntry<u64>>, queue: &Queue<u64>) -> Option<u64>
+    requires member { 0 < length w.old.members }
+    requires list { IsSomeQueue entry_link w.old (oldest_cell queue.now) (newest_cell queue.now) }
+    ensures member { 0 < length w.new.members }
+    ensures list { IsSomeQueue entry_link w.new (oldest_cell queue.now) (newest_cell queue.now) }
+{
+    match world::queue::pop(w, queue, 0) {
+        None => None,
+        Some(entry) => {
+            let value = *place::shared::as_ref(w, &entry).as_ref();
+            place::shared::release(w, entry, 0);
+            Some(value)
+        }
+    }
+}
+
+/// Deletes the first undeleted entry, which stays linked.
+fn delete(w: &mut World<LinkedEntry<u64>>, stack: &Stack<u64>, guard: &WorldGuard) -> bool
+    requires member { 0 < length w.old.members }
+    requires list { IsSomeStack w.old (stack_cell stack.now) }
+    ensures member { 0 < length w.new.members }
+    ensures open { IsOpen w.old 0 → IsOpen w.new 0 }
+    ensures list { IsSomeStack w.new (stack_cell stack.now) }
+{
+    let first = world::stack::peek(w, stack, guard);
+    match w.read(&first) {
+        None => return false,
+        Some(_) => {}
+    }
+    world::linked_list::delete_self(w, first)
+}
+
+/// Moves all entries to another stack, and ends the old one.
+fn moved(w: &mut World<LinkedEntry<u64>>, stack: Stack<u64>) -> Result<Stack<u64>, Stack<u64>>
+    requires member { 0 < length w.old.members }
+    requires list { IsSomeStack w.old (stack_cell stack) }
+    ensures member { 0 < length w.new.members }
+    ensures list { IfOk result (λ s. IsSomeStack w.new (stack_cell s)) }
+{
+    match world::stack::pop_all(w, &stack, 0) {
+        Ok(other) => {
+            world::stack::retire(w, stack, 0);
+            Ok(other)
+        }
+        Err(_) => Err(stack),
     }
 }
 
@@ -83,7 +153,105 @@ fn a_stack_gives_the_newest_first(rt: HostRuntime) -> Result<(), Fail> {
     assert_eq!(rt; push(&mut w, &stack, 4), Err(4));
     assert_eq!(rt; world::stack::len(&w, &stack), 3);
     assert_eq!(rt; pop(&mut w, &stack), Some(3));
+    assert_eq!(rt; pop(&mut w, &stack), Some(2));
+    assert!(rt; !world::stack::is_empty(&w, &stack));
     world::stack::retire(&mut w, stack, 0);
+    end(&rt, w);
+    Ok(())
+}
+
+#[test]
+fn a_queue_gives_the_oldest_first(rt: HostRuntime) -> Result<(), Fail> {
+    let mut w = numbers(rt.alloc(), 3, 5)?;
+    let Ok(queue) = world::queue::new(&mut w) else {
+        panic!(rt; "two cells are free");
+    };
+    assert_eq!(rt; take(&mut w, &queue), None);
+    assert_eq!(rt; append(&mut w, &queue, 1), Ok(()));
+    assert_eq!(rt; append(&mut w, &queue, 2), Ok(()));
+    assert_eq!(rt; append(&mut w, &queue, 3), Ok(()));
+    assert_eq!(rt; take(&mut w, &queue), Some(1));
+    assert_eq!(rt; take(&mut w, &queue), Some(2));
+    assert_eq!(rt; take(&mut w, &queue), Some(3));
+    assert_eq!(rt; take(&mut w, &queue), None);
+    world::queue::retire(&mut w, queue, 0);
+    end(&rt, w);
+    Ok(())
+}
+
+#[test]
+fn a_queue_without_room_hands_the_value_back(rt: HostRuntime) -> Result<(), Fail> {
+    let mut w = numbers(rt.alloc(), 2, 4)?;
+    let Ok(queue) = world::queue::new(&mut w) else {
+        panic!(rt; "two cells are free");
+    };
+    assert_eq!(rt; append(&mut w, &queue, 1), Ok(()));
+    assert_eq!(rt; append(&mut w, &queue, 2), Ok(()));
+    assert_eq!(rt; append(&mut w, &queue, 3), Err(3));
+    assert_eq!(rt; world::queue::len(&w, &queue), 2);
+    assert!(rt; !world::queue::is_empty(&w, &queue));
+    world::queue::retire(&mut w, queue, 0);
+    end(&rt, w);
+    Ok(())
+}
+
+#[test]
+fn a_queue_takes_two_cells(rt: HostRuntime) -> Result<(), Fail> {
+    let mut w = numbers(rt.alloc(), 1, 1)?;
+    match world::queue::new(&mut w) {
+        Ok(_) => panic!(rt; "one cell is free"),
+        Err(_) => {}
+    }
+    let Ok(stack) = world::stack::new(&mut w) else {
+        panic!(rt; "a cell is free");
+    };
+    assert_eq!(rt; push(&mut w, &stack, 1), Err(1));
+    world::stack::retire(&mut w, stack, 0);
+    end(&rt, w);
+    Ok(())
+}
+
+#[test]
+fn deleted_entries_are_passed_over(rt: HostRuntime) -> Result<(), Fail> {
+    let mut w = numbers(rt.alloc(), 4, 8)?;
+    let Ok(guard) = place::guard::new(&mut w, 0) else {
+        panic!(rt; "no guard is open");
+    };
+    let Ok(stack) = world::stack::new(&mut w) else {
+        panic!(rt; "a cell is free");
+    };
+    assert!(rt; !delete(&mut w, &stack, &guard));
+    assert_eq!(rt; push(&mut w, &stack, 1), Ok(()));
+    assert_eq!(rt; push(&mut w, &stack, 2), Ok(()));
+    assert_eq!(rt; push(&mut w, &stack, 3), Ok(()));
+    assert!(rt; delete(&mut w, &stack, &guard));
+    assert!(rt; delete(&mut w, &stack, &guard));
+    assert_eq!(rt; world::stack::len(&w, &stack), 1);
+    assert_eq!(rt; push(&mut w, &stack, 4), Ok(()));
+    assert_eq!(rt; pop(&mut w, &stack), Some(4));
+    assert_eq!(rt; pop(&mut w, &stack), Some(1));
+    assert_eq!(rt; pop(&mut w, &stack), None);
+    world::stack::retire(&mut w, stack, 0);
+    place::guard::close(&mut w, guard);
+    end(&rt, w);
+    Ok(())
+}
+
+#[test]
+fn all_entries_move_to_another_stack(rt: HostRuntime) -> Result<(), Fail> {
+    let mut w = numbers(rt.alloc(), 2, 4)?;
+    let Ok(stack) = world::stack::new(&mut w) else {
+        panic!(rt; "a cell is free");
+    };
+    assert_eq!(rt; push(&mut w, &stack, 1), Ok(()));
+    assert_eq!(rt; push(&mut w, &stack, 2), Ok(()));
+    let other = match moved(&mut w, stack) {
+        Ok(other) => other,
+        Err(_) => panic!(rt; "a cell is free"),
+    };
+    assert_eq!(rt; world::stack::len(&w, &other), 2);
+    assert_eq!(rt; pop(&mut w, &other), Some(2));
+    world::stack::retire(&mut w, other, 0);
     end(&rt, w);
     Ok(())
 }

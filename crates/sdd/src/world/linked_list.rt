@@ -1,6 +1,6 @@
 //! The calls of `LinkedList` over a `World`: an entry is named by a pointer.
 
-ghost use Rattle.std.specs.Prelude.{◌≡◌, ℕ, List, [], ◌∷◌, Some, IsTrue, IsFalse, not};
+ghost use Rattle.std.specs.Prelude.{◌≡◌, ℕ, List, [], ◌∷◌, Some, IfSome, IsTrue, IsFalse, not};
 ghost use Rattle.sdd_base.specs.Tokens.{ptr_slot, link_cell};
 ghost use Rattle.sdd_base.specs.State.{cell_at, with_cell};
 ghost use Rattle.sdd.specs.Chain.{Entry, IsHung, Leaves, Stays, deleted, undeleted, first_slot};
@@ -145,7 +145,8 @@ pub fn next_ptr<L: LinkedList>(
     guard: &WorldGuard,
 ) -> Ptr<'static, L>
     requires { (e : Entry L) × (es : List (Entry L)) × IsNode L.link w.now (ptr_slot at) e × IsHung L.link w.now e.link e.tag es }
-    ensures { (e : Entry L) (es : List (Entry L)) → IsNode L.link w.now (ptr_slot at.entry) e → IsHung L.link w.now e.link e.tag es → ptr_slot result ≡ first_slot (undeleted es) }
+    ensures next { (e : Entry L) (es : List (Entry L)) → IsNode L.link w.now (ptr_slot at.entry) e → IsHung L.link w.now e.link e.tag es → ptr_slot result ≡ first_slot (undeleted es) }
+    ensures node { IfSome (ptr_slot result) (λ i. IsSomeNode L.link w.now (Some i)) }
 {
     match w.read(&at) {
         Some(item) => atomic_shared::load(w, chain::skip_from(w, item.link_ref()), guard),

@@ -1,9 +1,10 @@
 //! Queues over a `World`: the oldest entry comes first.
 
-ghost use Rattle.std.specs.Prelude.{◌≡◌, ◌<◌, ◌⊎◌, ◌↔◌, ℕ, List, [], ◌∷◌, length, IfOk, IfErr, OnErr, IfSome, MatchOption, IsTrue};
+ghost use Rattle.std.specs.Prelude.{◌≡◌, ◌<◌, ◌⊎◌, ◌↔◌, ℕ, List, [], ◌∷◌, length, IfOk, IfErr, OnErr, Some, IfSome, MatchOption, IsTrue};
 ghost use Rattle.sdd_base.specs.State.{IsFreeCell, NoneFree, NoCellFree};
 ghost use Rattle.sdd_base.specs.Place.{IsShared};
 ghost use Rattle.sdd_base.specs.Tokens.{shared_slot, ptr_slot};
+ghost use Rattle.sdd.specs.Nodes.{IsSomeNode};
 ghost use Rattle.sdd.specs.Chain.{Entry, Leaves, Stays, undeleted, first_slot, links, slots};
 ghost use Rattle.sdd.specs.Entries.{entry_link};
 ghost use Rattle.sdd.specs.Queues.{oldest_cell, newest_cell, IsQueue, IsSomeQueue, Appends, Takes};
@@ -102,7 +103,8 @@ pub fn peek<T>(
     guard: &WorldGuard,
 ) -> Ptr<'static, LinkedEntry<T>>
     requires { IsSomeQueue entry_link w.now (oldest_cell queue.now) (newest_cell queue.now) }
-    ensures { (es : List (Entry (LinkedEntry T))) → IsQueue entry_link w.now (oldest_cell queue.now) (newest_cell queue.now) es → ptr_slot result ≡ first_slot (undeleted es) }
+    ensures first { (es : List (Entry (LinkedEntry T))) → IsQueue entry_link w.now (oldest_cell queue.now) (newest_cell queue.now) es → ptr_slot result ≡ first_slot (undeleted es) }
+    ensures node { IfSome (ptr_slot result) (λ i. IsSomeNode entry_link w.now (Some i)) }
 {
     atomic_shared::load(w, chain::skip_from(w, &queue.oldest), guard)
 }

@@ -1,10 +1,12 @@
 //! Stacks over a `World`: the newest entry comes first.
 
-ghost use Rattle.std.specs.Prelude.{◌≡◌, ◌<◌, ◌⊎◌, ◌↔◌, ℕ, List, [], ◌∷◌, length, IfOk, IfErr, OnErr, OnOk, IfSome, MatchOption, IsTrue};
+ghost use Rattle.std.specs.Prelude.{◌≡◌, ◌<◌, ◌⊎◌, ◌↔◌, ℕ, List, [], ◌∷◌, length, IfOk, IfErr, OnErr, OnOk, Some, IfSome, MatchOption, IsTrue};
 ghost use Rattle.sdd_base.specs.State.{IsFreeCell, NoneFree, NoCellFree};
 ghost use Rattle.sdd_base.specs.Place.{IsShared};
 ghost use Rattle.sdd_base.specs.Tokens.{shared_slot, ptr_slot};
+ghost use Rattle.sdd.specs.Nodes.{IsSomeNode};
 ghost use Rattle.sdd.specs.Chain.{Entry, Leaves, Stays, undeleted, first_slot, links, slots};
+ghost use Rattle.sdd.specs.Entries.{entry_link};
 ghost use Rattle.sdd.specs.Stacks.{stack_cell, IsStack, IsSomeStack, Pushes, Pops};
 ghost use Rattle.sdd.specs.declared.linked_entry.LinkedEntry.{LinkedEntry};
 
@@ -88,7 +90,8 @@ pub fn peek<T>(
     guard: &WorldGuard,
 ) -> Ptr<'static, LinkedEntry<T>>
     requires { IsSomeStack w.now (stack_cell stack.now) }
-    ensures { (es : List (Entry (LinkedEntry T))) → IsStack w.now (stack_cell stack.now) es → ptr_slot result ≡ first_slot (undeleted es) }
+    ensures first { (es : List (Entry (LinkedEntry T))) → IsStack w.now (stack_cell stack.now) es → ptr_slot result ≡ first_slot (undeleted es) }
+    ensures node { IfSome (ptr_slot result) (λ i. IsSomeNode entry_link w.now (Some i)) }
 {
     atomic_shared::load(w, chain::skip_from(w, &stack.newest), guard)
 }
