@@ -2,6 +2,7 @@
 
 ghost use Rattle.std.specs.Prelude.{◌≡◌, Some, None, Option, List, ◌∷◌, [], ℕ, length, IfNone, IfSome, cond, ◌+◌, ◌<◌};
 ghost use Rattle.sdd_base.specs.State.{State, IsFreeCell, cell_at, with_cell};
+ghost use Rattle.sdd_base.specs.Frame.{OnlyOf};
 ghost use Rattle.sdd_base.specs.Place.{IsSharedCell};
 ghost use Rattle.sdd_base.specs.Tokens.{shared_cell, shared_slot, shared_slots, link_cell};
 ghost use Rattle.sdd.specs.Chain.{Entry, IsItem, IsHung, Hangs, HasLink, IsLoose, Fits, TookFirst, Leaves, Stays, CanHang, deleted, Begins, skip, undeleted, links, slots, SameUses};
@@ -26,6 +27,7 @@ pub(crate) fn link_of<L: LinkedList>(w: &World<L>, owner: &Shared<L>) -> Link<L>
 pub(crate) fn take<L>(w: &mut World<L>, cell: &AtomicShared<L>) -> Option<Shared<L>>
     requires { IsSharedCell w.old (shared_cell cell.now) }
     ensures took { (o : Option ℕ) (t : Tag) → cell_at w.old (shared_cell cell.now) ≡ Cell.OfShared o t → (shared_slots result ≡ o) × (w.new ≡ with_cell (shared_cell cell.now) (Cell.OfShared None t) w.old) }
+    ensures members { w.new.members ≡ w.old.members }
     ensures stays { Stays w.old w.new }
 {
     let tag = atomic_shared::tag(w, cell);
@@ -37,6 +39,7 @@ pub(crate) fn take<L>(w: &mut World<L>, cell: &AtomicShared<L>) -> Option<Shared
 pub(crate) fn fill<L>(w: &mut World<L>, cell: &AtomicShared<L>, item: Option<Shared<L>>)
     requires { (t : Tag) × (cell_at w.old (shared_cell cell.now) ≡ Cell.OfShared None t) }
     ensures filled { (t : Tag) → cell_at w.old (shared_cell cell.now) ≡ Cell.OfShared None t → w.new ≡ with_cell (shared_cell cell.now) (Cell.OfShared (shared_slots item) t) w.old }
+    ensures members { w.new.members ≡ w.old.members }
     ensures stays { Stays w.old w.new }
 {
     let tag = atomic_shared::tag(w, cell);
@@ -54,6 +57,7 @@ pub(crate) fn take_first<L: LinkedList>(
 ) -> Option<Shared<L>>
     requires { Hangs L.link w.old (shared_cell cell.now) }
     ensures took { (t : Tag) (es : List (Entry L)) → IsHung L.link w.old (shared_cell cell.now) t es → TookFirst L.link w.old w.new (shared_cell cell.now) t es (shared_slots result) }
+    ensures members { w.new.members ≡ w.old.members }
     ensures stays { Stays w.old w.new }
 {
     let Some(first) = take(w, cell) else {
@@ -69,6 +73,7 @@ pub(crate) fn take_first<L: LinkedList>(
 pub(crate) fn put_first<L: LinkedList>(w: &mut World<L>, cell: &AtomicShared<L>, first: Shared<L>)
     requires { CanHang L.link w.old (shared_cell cell.now) (shared_slot first) }
     ensures put { (t : Tag) (es : List (Entry L)) (e : Entry L) → IsHung L.link w.old (shared_cell cell.now) t es → IsLoose L.link w.old e → Fits (shared_cell cell.now) es e → shared_slot first ≡ e.slot → IsHung L.link w.new (shared_cell cell.now) t (e ∷ es) × Leaves (shared_cell cell.now ∷ e.link ∷ []) [] w.old w.new }
+    ensures members { w.new.members ≡ w.old.members }
     ensures stays { Stays w.old w.new }
 {
     let link = link_of(w, &first);
@@ -171,6 +176,7 @@ fn drop_first<L: LinkedList>(w: &mut World<L>, cell: &AtomicShared<L>, p: usize)
     requires member { p < length w.old.members }
     requires list { Hangs L.link w.old (shared_cell cell.now) }
     ensures dropped { (t : Tag) (e : Entry L) (es : List (Entry L)) → IsHung L.link w.old (shared_cell cell.now) t (e ∷ es) → IsHung L.link w.new (shared_cell cell.now) t es × Leaves (shared_cell cell.now ∷ e.link ∷ []) (e.slot ∷ []) w.old w.new }
+    ensures only { OnlyOf p w.old w.new }
     ensures stays { Stays w.old w.new }
 {
     match take_first(w, cell) {
@@ -188,13 +194,14 @@ pub(crate) fn skip_deleted<L: LinkedList>(w: &mut World<L>, cell: &AtomicShared<
     ensures skipped { (t : Tag) (es : List (Entry L)) → IsHung L.link w.old (shared_cell cell.now) t es → IsHung L.link w.new (shared_cell cell.now) t (skip es) }
     ensures leaves { (t : Tag) (es : List (Entry L)) → IsHung L.link w.old (shared_cell cell.now) t es → Leaves (shared_cell cell.now ∷ links es) (slots es) w.old w.new }
     ensures same { (t : Tag) (es : List (Entry L)) → IsHung L.link w.old (shared_cell cell.now) t es → SameUses w.old w.new (slots (skip es)) }
+    ensures only { OnlyOf p w.old w.new }
     ensures stays { Stays w.old w.new }
 {
     for _passed in 0..w.slots_in_use() {
         match first(w, cell) {
             None => return,
-            Some(entry) => {
-                if !entry.deleted {
+            Some(front) => {
+                if !front.deleted {
                     return;
                 }
             }
@@ -207,6 +214,7 @@ pub(crate) fn skip_deleted<L: LinkedList>(w: &mut World<L>, cell: &AtomicShared<
 pub(crate) fn delete<L: LinkedList>(w: &mut World<L>, owner: &Shared<L>)
     requires { (e : Entry L) × IsLoose L.link w.old e × (shared_slot owner.now ≡ e.slot) }
     ensures deleted { (e : Entry L) → IsLoose L.link w.old e → shared_slot owner.now ≡ e.slot → w.new ≡ with_cell e.link (Cell.OfShared None Tag.Second) w.old }
+    ensures members { w.new.members ≡ w.old.members }
     ensures stays { Stays w.old w.new }
 {
     let link = link_of(w, owner);
@@ -223,6 +231,7 @@ pub(crate) fn clear<L: LinkedList>(w: &mut World<L>, cell: &AtomicShared<L>, p: 
     requires list { Hangs L.link w.old (shared_cell cell.now) }
     ensures cleared { (t : Tag) (es : List (Entry L)) → IsHung L.link w.old (shared_cell cell.now) t es → IsHung L.link w.new (shared_cell cell.now) t [] }
     ensures leaves { (t : Tag) (es : List (Entry L)) → IsHung L.link w.old (shared_cell cell.now) t es → Leaves (shared_cell cell.now ∷ links es) (slots es) w.old w.new }
+    ensures only { OnlyOf p w.old w.new }
     ensures stays { Stays w.old w.new }
 {
     for _passed in 0..w.slots_in_use() {
@@ -238,6 +247,7 @@ pub(crate) fn end<L>(w: &mut World<L>, cell: AtomicShared<L>)
     requires { (t : Tag) × (cell_at w.old (shared_cell cell) ≡ Cell.OfShared None t) }
     ensures ended { w.new ≡ with_cell (shared_cell cell) Cell.Free w.old }
     ensures free { IsFreeCell w.new (shared_cell cell) }
+    ensures members { w.new.members ≡ w.old.members }
     ensures stays { Stays w.old w.new }
 {
     match atomic_shared::into_shared(w, cell) {

@@ -22,6 +22,7 @@ pub(crate) fn link<T>(w: &mut World<LinkedEntry<T>>, value: T) -> Result<LinkedE
     ensures made { IfOk result (λ e. (c : _) × IsFreeCell w.old c × (entry_value e ≡ value) × (entry_link e ≡ Some c) × (w.new ≡ with_cell c (Cell.OfShared None Tag.None) w.old)) }
     ensures refused { IfErr result (λ v. (v ≡ value) × (w.new ≡ w.old) × NoCellFree w.old) }
     ensures leaves { Leaves [] [] w.old w.new }
+    ensures members { w.new.members ≡ w.old.members }
     ensures stays { Stays w.old w.new }
 {
     match atomic_shared::null(w) {
@@ -59,6 +60,7 @@ pub(crate) fn make_one<T>(
     ensures one { IfOk result (λ s. status_at w.new (shared_slot s) ≡ Status.Shared 1) }
     ensures refused { IfErr result (λ v. (v ≡ value) × (w.new ≡ w.old) × (NoneFree w.old ⊎ NoCellFree w.old)) }
     ensures leaves { Leaves [] [] w.old w.new }
+    ensures members { w.new.members ≡ w.old.members }
     ensures stays { Stays w.old w.new }
 {
     match link(w, value) {
@@ -85,6 +87,7 @@ pub(crate) fn make<T>(
     ensures two { IfOk result (λ s. status_at w.new (shared_slot s.0) ≡ Status.Shared 2) }
     ensures refused { IfErr result (λ v. (v ≡ value) × (w.new ≡ w.old) × (NoneFree w.old ⊎ NoCellFree w.old)) }
     ensures leaves { Leaves [] [] w.old w.new }
+    ensures members { w.new.members ≡ w.old.members }
     ensures stays { Stays w.old w.new }
 {
     match make_one(w, value) {
@@ -115,6 +118,7 @@ pub(crate) fn make_three<T>(
     ensures three { IfOk result (λ s. status_at w.new (shared_slot s.0) ≡ Status.Shared 3) }
     ensures refused { IfErr result (λ v. (v ≡ value) × (w.new ≡ w.old) × (NoneFree w.old ⊎ NoCellFree w.old)) }
     ensures leaves { Leaves [] [] w.old w.new }
+    ensures members { w.new.members ≡ w.old.members }
     ensures stays { Stays w.old w.new }
 {
     match make(w, value) {

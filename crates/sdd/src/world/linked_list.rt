@@ -38,6 +38,7 @@ fn set_tag<L: LinkedList>(w: &mut World<L>, at: &Ptr<'static, L>, tag: Tag)
     requires { IsSomeNode L.link w.old (ptr_slot at.now) }
     ensures retags { (e : Entry L) → IsNode L.link w.old (ptr_slot at.now) e → Retags L.link w.old w.new e tag }
     ensures leaves { (e : Entry L) → IsNode L.link w.old (ptr_slot at.now) e → Leaves (e.link ∷ []) [] w.old w.new }
+    ensures members { w.new.members ≡ w.old.members }
     ensures stays { Stays w.old w.new }
 {
     let link = link_at(w, at);
@@ -96,6 +97,7 @@ pub fn mark<L: LinkedList>(w: &mut World<L>, at: Ptr<'static, L>) -> bool
     ensures marked { IsTrue result → (e : Entry L) → IsNode L.link w.old (ptr_slot at.entry) e → Retags L.link w.old w.new e Tag.First }
     ensures kept { IsFalse result → w.new ≡ w.old }
     ensures leaves { (e : Entry L) → IsNode L.link w.old (ptr_slot at.entry) e → Leaves (e.link ∷ []) [] w.old w.new }
+    ensures members { w.new.members ≡ w.old.members }
     ensures stays { Stays w.old w.new }
 {
     if !is_clear_tag(tag_of(w, &at)) {
@@ -112,6 +114,7 @@ pub fn unmark<L: LinkedList>(w: &mut World<L>, at: Ptr<'static, L>) -> bool
     ensures cleared { IsTrue result → (e : Entry L) → IsNode L.link w.old (ptr_slot at.entry) e → Retags L.link w.old w.new e Tag.None }
     ensures kept { IsFalse result → w.new ≡ w.old }
     ensures leaves { (e : Entry L) → IsNode L.link w.old (ptr_slot at.entry) e → Leaves (e.link ∷ []) [] w.old w.new }
+    ensures members { w.new.members ≡ w.old.members }
     ensures stays { Stays w.old w.new }
 {
     if !is_marked_tag(tag_of(w, &at)) {
@@ -129,6 +132,7 @@ pub fn delete_self<L: LinkedList>(w: &mut World<L>, at: Ptr<'static, L>) -> bool
     ensures deleted { IsTrue result → (e : Entry L) → IsNode L.link w.old (ptr_slot at.entry) e → Retags L.link w.old w.new e Tag.Second }
     ensures kept { IsFalse result → w.new ≡ w.old }
     ensures leaves { (e : Entry L) → IsNode L.link w.old (ptr_slot at.entry) e → Leaves (e.link ∷ []) [] w.old w.new }
+    ensures members { w.new.members ≡ w.old.members }
     ensures stays { Stays w.old w.new }
 {
     if chain::is_deleted(tag_of(w, &at)) {

@@ -2,6 +2,7 @@
 
 ghost use Rattle.std.specs.Prelude.{◌≡◌, ◌<◌, ◌⊎◌, ◌↔◌, ℕ, List, [], ◌∷◌, length, IfOk, IfErr, OnErr, Some, IfSome, MatchOption, IsTrue};
 ghost use Rattle.sdd_base.specs.State.{IsFreeCell, NoneFree, NoCellFree};
+ghost use Rattle.sdd_base.specs.Frame.{OnlyOf};
 ghost use Rattle.sdd_base.specs.Place.{IsShared};
 ghost use Rattle.sdd_base.specs.Tokens.{shared_slot, ptr_slot};
 ghost use Rattle.sdd.specs.Nodes.{IsSomeNode};
@@ -54,6 +55,7 @@ pub fn push<T>(
     ensures live { IfOk result (λ s. IsShared w.new (shared_slot s)) }
     ensures list { IsSomeQueue entry_link w.new (oldest_cell queue.now) (newest_cell queue.now) }
     ensures leaves { (es : List (Entry (LinkedEntry T))) → IsQueue entry_link w.old (oldest_cell queue.now) (newest_cell queue.now) es → Leaves (oldest_cell queue.now ∷ newest_cell queue.now ∷ links es) (slots es) w.old w.new }
+    ensures only { OnlyOf 0 w.old w.new }
     ensures stays { Stays w.old w.new }
 {
     match entries::make_three(w, value) {
@@ -78,6 +80,7 @@ pub fn pop<T>(
     ensures live { IfSome result (λ s. IsShared w.new (shared_slot s)) }
     ensures list { IsSomeQueue entry_link w.new (oldest_cell queue.now) (newest_cell queue.now) }
     ensures leaves { (es : List (Entry (LinkedEntry T))) → IsQueue entry_link w.old (oldest_cell queue.now) (newest_cell queue.now) es → Leaves (oldest_cell queue.now ∷ newest_cell queue.now ∷ links es) (slots es) w.old w.new }
+    ensures only { OnlyOf p w.old w.new }
     ensures stays { Stays w.old w.new }
 {
     if is_empty(w, queue) {
@@ -131,6 +134,7 @@ pub fn retire<T>(w: &mut World<LinkedEntry<T>>, queue: Queue<T>, p: usize)
     requires list { IsSomeQueue entry_link w.old (oldest_cell queue) (newest_cell queue) }
     ensures ended { IsFreeCell w.new (oldest_cell queue) × IsFreeCell w.new (newest_cell queue) }
     ensures leaves { (es : List (Entry (LinkedEntry T))) → IsQueue entry_link w.old (oldest_cell queue) (newest_cell queue) es → Leaves (oldest_cell queue ∷ newest_cell queue ∷ links es) (slots es) w.old w.new }
+    ensures only { OnlyOf p w.old w.new }
     ensures stays { Stays w.old w.new }
 {
     let Queue { oldest, newest } = queue;

@@ -2,6 +2,7 @@
 
 ghost use Rattle.std.specs.Prelude.{◌≡◌, ◌<◌, ◌⊎◌, ◌↔◌, ℕ, List, [], ◌∷◌, length, IfOk, IfErr, OnErr, OnOk, Some, IfSome, MatchOption, IsTrue};
 ghost use Rattle.sdd_base.specs.State.{IsFreeCell, NoneFree, NoCellFree};
+ghost use Rattle.sdd_base.specs.Frame.{OnlyOf};
 ghost use Rattle.sdd_base.specs.Place.{IsShared};
 ghost use Rattle.sdd_base.specs.Tokens.{shared_slot, ptr_slot};
 ghost use Rattle.sdd.specs.Nodes.{IsSomeNode};
@@ -47,6 +48,7 @@ pub fn push<T>(
     ensures live { IfOk result (λ s. IsShared w.new (shared_slot s)) }
     ensures list { IsSomeStack w.new (stack_cell stack.now) }
     ensures leaves { Leaves (stack_cell stack.now ∷ []) [] w.old w.new }
+    ensures members { w.new.members ≡ w.old.members }
     ensures stays { Stays w.old w.new }
 {
     match entries::make(w, value) {
@@ -71,6 +73,7 @@ pub fn pop<T>(
     ensures live { IfSome result (λ s. IsShared w.new (shared_slot s)) }
     ensures list { IsSomeStack w.new (stack_cell stack.now) }
     ensures leaves { (es : List (Entry (LinkedEntry T))) → IsStack w.old (stack_cell stack.now) es → Leaves (stack_cell stack.now ∷ links es) (slots es) w.old w.new }
+    ensures only { OnlyOf p w.old w.new }
     ensures stays { Stays w.old w.new }
 {
     chain::skip_deleted(w, &stack.newest, p);
@@ -126,6 +129,7 @@ pub fn pop_all<T>(
     ensures list { IsSomeStack w.new (stack_cell stack.now) }
     ensures lists { IfOk result (λ s. IsSomeStack w.new (stack_cell s)) }
     ensures leaves { Leaves (stack_cell stack.now ∷ []) [] w.old w.new }
+    ensures members { w.new.members ≡ w.old.members }
     ensures stays { Stays w.old w.new }
 {
     match atomic_shared::null(w) {
@@ -144,6 +148,7 @@ pub fn retire<T>(w: &mut World<LinkedEntry<T>>, stack: Stack<T>, p: usize)
     requires list { IsSomeStack w.old (stack_cell stack) }
     ensures ended { IsFreeCell w.new (stack_cell stack) }
     ensures leaves { (es : List (Entry (LinkedEntry T))) → IsStack w.old (stack_cell stack) es → Leaves (stack_cell stack ∷ links es) (slots es) w.old w.new }
+    ensures only { OnlyOf p w.old w.new }
     ensures stays { Stays w.old w.new }
 {
     let Stack { newest } = stack;
