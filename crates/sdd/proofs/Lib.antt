@@ -6,3 +6,4 @@ pub mod Fronts
 pub mod Tails
 pub mod Queues
 pub mod Nodes
+pub mod Firsts

@@ -165,3 +165,8 @@ pub record Cut {L : Type 0} (link : L → Option ℕ) (w w' : State L) (c : ℕ)
 pub record Dropped {L : Type 0} (link : L → Option ℕ) (w w' : State L) (c : ℕ) (t : Tag) (es : List (Entry L)) (n : ℕ) : Type 0 where
   pub cut : Cut link w w' c t es n
   pub skipped : skip cut.rest ≡ skip es
+
+-- the item of the first entry, if there is one
+abbrev pub first_item : {L : Type 0} → List (Entry L) → Option L
+first_item [] = None
+first_item (e ∷ es) = Some e.item

@@ -4,3 +4,4 @@ pub mod Stacks
 pub mod Owners
 pub mod Queues
 pub mod Nodes
+pub mod Refusals

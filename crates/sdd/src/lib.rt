@@ -7,6 +7,7 @@ pub mod laws;
 pub mod linked_entry;
 pub mod linked_list;
 pub mod queue;
+pub mod refusal;
 pub mod stack;
 #[cfg(test)]
 mod tests;

@@ -1,11 +1,12 @@
 //! Single changes of a list that hangs from a cell.
 
 ghost use Rattle.std.specs.Prelude.{◌≡◌, Some, None, Option, List, ◌∷◌, [], ℕ, length, IfNone, IfSome, cond, ◌+◌, ◌<◌};
+ghost use Rattle.std.specs.Option.{option_copied};
 ghost use Rattle.sdd_base.specs.State.{State, IsFreeCell, cell_at, with_cell};
 ghost use Rattle.sdd_base.specs.Frame.{OnlyOf};
 ghost use Rattle.sdd_base.specs.Place.{IsSharedCell};
 ghost use Rattle.sdd_base.specs.Tokens.{shared_cell, shared_slot, shared_slots, link_cell};
-ghost use Rattle.sdd.specs.Chain.{Entry, IsItem, IsHung, Hangs, HasLink, IsLoose, Fits, TookFirst, Leaves, Stays, CanHang, deleted, Begins, skip, undeleted, links, slots, SameUses};
+ghost use Rattle.sdd.specs.Chain.{Entry, IsItem, IsHung, Hangs, HasLink, IsLoose, Fits, TookFirst, Leaves, Stays, CanHang, deleted, Begins, skip, undeleted, first_item, links, slots, SameUses};
 
 use crate::linked_list::LinkedList;
 use sdd_base::cell::AtomicShared;
@@ -142,6 +143,20 @@ pub(crate) fn skip_from<'w, L: LinkedList>(
         }
     }
     at
+}
+
+/// The first undeleted entry of a list, if there is one.
+pub(crate) fn first_undeleted<'w, L: LinkedList>(
+    w: &'w World<L>,
+    cell: &'w AtomicShared<L>,
+) -> Option<&'w L>
+    requires { Hangs L.link w.now (shared_cell cell.now) }
+    ensures { (t : Tag) (es : List (Entry L)) → IsHung L.link w.now (shared_cell cell.now) t es → option_copied result ≡ first_item (undeleted es) }
+{
+    match atomic_shared::as_ref(w, skip_from(w, cell)) {
+        None => None,
+        Some(item) => Some(item),
+    }
 }
 
 /// One more, unless the entry is deleted.

@@ -6,7 +6,8 @@ ghost use Rattle.sdd_base.specs.Frame.{OnlyOf};
 ghost use Rattle.sdd_base.specs.Place.{IsShared};
 ghost use Rattle.sdd_base.specs.Tokens.{shared_slot, ptr_slot};
 ghost use Rattle.sdd.specs.Nodes.{IsSomeNode};
-ghost use Rattle.sdd.specs.Chain.{Entry, Leaves, Stays, undeleted, first_slot, links, slots};
+ghost use Rattle.std.specs.Option.{option_copied};
+ghost use Rattle.sdd.specs.Chain.{Entry, Leaves, Stays, undeleted, first_item, first_slot, links, slots};
 ghost use Rattle.sdd.specs.Entries.{entry_link};
 ghost use Rattle.sdd.specs.Queues.{oldest_cell, newest_cell, IsQueue, IsSomeQueue, Appends, Takes};
 ghost use Rattle.sdd.specs.declared.linked_entry.LinkedEntry.{LinkedEntry};
@@ -142,4 +143,17 @@ pub fn retire<T>(w: &mut World<LinkedEntry<T>>, queue: Queue<T>, p: usize)
     chain::clear(w, &oldest, p);
     chain::end(w, oldest);
     chain::end(w, newest);
+}
+
+/// Calls `f` once with the first undeleted entry, or none, and gives what it answers.
+pub fn peek_with<T, R, F: FnOnce(Option<&LinkedEntry<T>>) -> R>(
+    w: &World<LinkedEntry<T>>,
+    queue: &Queue<T>,
+    f: F,
+) -> R
+    requires callable { F.IsAlwaysCallable f }
+    requires list { IsSomeQueue entry_link w.now (oldest_cell queue.now) (newest_cell queue.now) }
+    ensures { (es : List (Entry (LinkedEntry T))) → IsQueue entry_link w.now (oldest_cell queue.now) (newest_cell queue.now) es → (o : _) × (option_copied o ≡ first_item (undeleted es)) × F.post f o result }
+{
+    f(chain::first_undeleted(w, &queue.oldest))
 }

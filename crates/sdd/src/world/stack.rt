@@ -1,17 +1,20 @@
 //! Stacks over a `World`: the newest entry comes first.
 
-ghost use Rattle.std.specs.Prelude.{◌≡◌, ◌<◌, ◌⊎◌, ◌↔◌, ℕ, List, [], ◌∷◌, length, IfOk, IfErr, OnErr, OnOk, Some, IfSome, MatchOption, IsTrue};
+ghost use Rattle.std.specs.Prelude.{◌≡◌, ◌<◌, ◌⊎◌, ◌↔◌, ℕ, List, [], ◌∷◌, length, IfOk, IfErr, OnErr, OnOk, Some, IfSome, MatchOption, IsTrue, IsErrAnd, Bool, false};
 ghost use Rattle.sdd_base.specs.State.{IsFreeCell, NoneFree, NoCellFree};
 ghost use Rattle.sdd_base.specs.Frame.{OnlyOf};
 ghost use Rattle.sdd_base.specs.Place.{IsShared};
 ghost use Rattle.sdd_base.specs.Tokens.{shared_slot, ptr_slot};
 ghost use Rattle.sdd.specs.Nodes.{IsSomeNode};
-ghost use Rattle.sdd.specs.Chain.{Entry, Leaves, Stays, undeleted, first_slot, links, slots};
+ghost use Rattle.std.specs.Option.{option_copied};
+ghost use Rattle.sdd.specs.Chain.{Entry, Leaves, Stays, undeleted, first_item, first_slot, links, slots};
 ghost use Rattle.sdd.specs.Entries.{entry_link};
+ghost use Rattle.sdd.specs.Refusals.{refused_value, IsCondition, IsNoSlot};
 ghost use Rattle.sdd.specs.Stacks.{stack_cell, IsStack, IsSomeStack, Pushes, Pops};
 ghost use Rattle.sdd.specs.declared.linked_entry.LinkedEntry.{LinkedEntry};
 
 use crate::linked_entry::LinkedEntry;
+use crate::refusal::PushRefused;
 use crate::stack::Stack;
 use crate::world::{chain, entries};
 use sdd_base::guard::WorldGuard;
@@ -154,4 +157,45 @@ pub fn retire<T>(w: &mut World<LinkedEntry<T>>, stack: Stack<T>, p: usize)
     let Stack { newest } = stack;
     chain::clear(w, &newest, p);
     chain::end(w, newest);
+}
+
+/// Calls `f` once with the first undeleted entry, or none, and gives what it answers.
+pub fn peek_with<T, R, F: FnOnce(Option<&LinkedEntry<T>>) -> R>(
+    w: &World<LinkedEntry<T>>,
+    stack: &Stack<T>,
+    f: F,
+) -> R
+    requires callable { F.IsAlwaysCallable f }
+    requires list { IsSomeStack w.now (stack_cell stack.now) }
+    ensures { (es : List (Entry (LinkedEntry T))) → IsStack w.now (stack_cell stack.now) es → (o : _) × (option_copied o ≡ first_item (undeleted es)) × F.post f o result }
+{
+    f(chain::first_undeleted(w, &stack.newest))
+}
+
+/// As `push`, if `f` answers true for the first undeleted entry, or none. It is called once.
+pub fn push_if<T, F: FnOnce(Option<&LinkedEntry<T>>) -> bool>(
+    w: &mut World<LinkedEntry<T>>,
+    stack: &Stack<T>,
+    value: T,
+    f: F,
+) -> Result<Shared<LinkedEntry<T>>, PushRefused<T>>
+    requires callable { F.IsAlwaysCallable f }
+    requires list { IsSomeStack w.old (stack_cell stack.now) }
+    ensures asked { (es : List (Entry (LinkedEntry T))) → IsStack w.old (stack_cell stack.now) es → (o : _) × (r : Bool) × (option_copied o ≡ first_item (undeleted es)) × F.post f o r × (IsErrAnd result IsCondition ↔ (r ≡ false)) }
+    ensures pushed { IfOk result (λ s. Pushes w.old w.new value (stack_cell stack.now) (shared_slot s)) }
+    ensures back { IfErr result (λ e. (refused_value e ≡ value) × (w.new ≡ w.old)) }
+    ensures full { IfErr result (λ e. IsNoSlot e → NoneFree w.old ⊎ NoCellFree w.old) }
+    ensures live { IfOk result (λ s. IsShared w.new (shared_slot s)) }
+    ensures list { IsSomeStack w.new (stack_cell stack.now) }
+    ensures leaves { Leaves (stack_cell stack.now ∷ []) [] w.old w.new }
+    ensures members { w.new.members ≡ w.old.members }
+    ensures stays { Stays w.old w.new }
+{
+    if !peek_with(w, stack, f) {
+        return Err(PushRefused::Condition(value));
+    }
+    match push(w, stack, value) {
+        Ok(entry) => Ok(entry),
+        Err(value) => Err(PushRefused::NoSlot(value)),
+    }
 }
