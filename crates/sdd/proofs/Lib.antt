@@ -7,3 +7,4 @@ pub mod Tails
 pub mod Queues
 pub mod Nodes
 pub mod Firsts
+pub mod Shares

@@ -24,6 +24,20 @@ set_used (x ∷ xs) zero (suc j) s new old = old
 set_used (x ∷ xs) (suc i) zero s new old = old
 set_used (x ∷ xs) (suc i) (suc j) s new old = set_used xs i j s new old
 
+-- another number of owners leaves what every call leaves
+pub stays_owners : {L : Type 0} (w w' : State L) (i m : ℕ) → w' ≡ with_status i (status.Shared m) w → Keeps w w' → Stays w w'
+stays_owners {L} w w' i m e k =
+    let nests : (q : ℕ) → (marks_at w' q).nesting ≡ (marks_at w q).nesting = λ q. ap (λ (v : State L). (marks_at v q).nesting) e in
+    record {
+      states = k.states;
+      cells = k.cells;
+      members = k.members;
+      values = λ j u. ap (λ (v : State L). value_at v j) e;
+      used = λ j u. subst (λ (v : State L). is_used (status_at v j) ≡ true) (sym e) (set_used w.states i j (status.Shared m) refl u);
+      nests = nests;
+      protects = λ q j o h. (k.protects q j o (let n = nests q in omega (arith, o, n)) h).1;
+    }
+
 not_one : (n : ℕ) → 2 ≤ n → leb n 1 ≡ false
 not_one n h = grind (arith, nat_tests)
 
@@ -169,13 +183,13 @@ module _ {L : Type 0} (link : L → Option ℕ) where
   drop_hangs w1 w2 c d item gone h b step = record { tag = h.tag; entries = b.rest; is = (step h.tag b.first b.rest (subst (λ (xs : List (Entry L)). IsHung link w1 c h.tag xs) b.is h.is)).0 }
 
   -- another number of owners
-  item_owners : (i m : ℕ) (w : State L) (e : Entry L) → i < length w.states → IsItem link w e → IsItem link (with_status i (status.Shared m) w) e
+  pub item_owners : (i m : ℕ) (w : State L) (e : Entry L) → i < length w.states → IsItem link w e → IsItem link (with_status i (status.Shared m) w) e
   item_owners i m w e lt h = elim (eqb_tells e.slot i) [
     | inl q ↦ record { owners = m; shared = subst (λ (j : ℕ). get_or (set w.states i (status.Shared m)) j status.Free ≡ status.Shared m) (sym q.1) (get_or-set_same w.states i (status.Shared m) status.Free lt); here = h.here; linked = h.linked }
     | inr q ↦ record { owners = h.owners; shared = get_or-set_other w.states i e.slot (status.Shared m) status.Free q.1 ∙ h.shared; here = h.here; linked = h.linked }
   ]
 
-  hung_owners : (i m c : ℕ) (t : Tag) (es : List (Entry L)) (w : State L) → i < length w.states → IsHung link w c t es → IsHung link (with_status i (status.Shared m) w) c t es
+  pub hung_owners : (i m c : ℕ) (t : Tag) (es : List (Entry L)) (w : State L) → i < length w.states → IsHung link w c t es → IsHung link (with_status i (status.Shared m) w) c t es
   hung_owners i m c t [] w lt h = h
   hung_owners i m c t (e ∷ es) w lt h = (h.0, item_owners i m w e lt h.1, h.2, h.3, hung_owners i m e.link e.tag es w lt h.4)
 

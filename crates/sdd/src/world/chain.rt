@@ -2,17 +2,17 @@
 
 ghost use Rattle.std.specs.Prelude.{◌≡◌, Some, None, Option, List, ◌∷◌, [], ℕ, length, IfNone, IfSome, cond, ◌+◌, ◌<◌};
 ghost use Rattle.std.specs.Option.{option_copied};
-ghost use Rattle.sdd_base.specs.State.{State, IsFreeCell, cell_at, with_cell};
+ghost use Rattle.sdd_base.specs.State.{State, IsFreeCell, cell_at, status_at, with_cell};
 ghost use Rattle.sdd_base.specs.Frame.{OnlyOf};
 ghost use Rattle.sdd_base.specs.Place.{IsSharedCell};
 ghost use Rattle.sdd_base.specs.Tokens.{shared_cell, shared_slot, shared_slots, link_cell};
-ghost use Rattle.sdd.specs.Chain.{Entry, IsItem, IsHung, Hangs, HasLink, IsLoose, Fits, TookFirst, Leaves, Stays, CanHang, deleted, Begins, skip, undeleted, first_item, links, slots, SameUses};
+ghost use Rattle.sdd.specs.Chain.{Entry, IsItem, IsHung, Hangs, HasLink, IsLoose, Fits, TookFirst, Leaves, Stays, CanHang, deleted, Begins, skip, undeleted, first_item, first_slot, links, slots, SameUses};
 
 use crate::linked_list::LinkedList;
 use sdd_base::cell::AtomicShared;
 use sdd_base::link::Link;
 use sdd_base::owner::Shared;
-use sdd_base::status::Cell;
+use sdd_base::status::{Cell, Status};
 use sdd_base::tag::Tag;
 use sdd_base::world::{World, atomic_shared, shared};
 
@@ -237,6 +237,34 @@ pub(crate) fn delete<L: LinkedList>(w: &mut World<L>, owner: &Shared<L>)
     match next {
         None => {}
         Some(_) => unreachable!(),
+    }
+}
+
+/// Another owner of the first entry of a list; none where the list is empty, and at the greatest count of owners.
+pub(crate) fn share_first<L: LinkedList>(
+    w: &mut World<L>,
+    cell: &AtomicShared<L>,
+) -> Option<Shared<L>>
+    requires { Hangs L.link w.old (shared_cell cell.now) }
+    ensures hung { (t : Tag) (es : List (Entry L)) → IsHung L.link w.old (shared_cell cell.now) t es → IsHung L.link w.new (shared_cell cell.now) t es }
+    ensures some { IfSome result (λ s. (t : Tag) (es : List (Entry L)) → IsHung L.link w.old (shared_cell cell.now) t es → Some (shared_slot s) ≡ first_slot es) }
+    ensures none { IfNone result ((t : Tag) (es : List (Entry L)) → IsHung L.link w.old (shared_cell cell.now) t es → IfSome (first_slot es) (λ i. status_at w.old i ≡ Status.Shared 4294967295)) }
+    ensures leaves { (t : Tag) (es : List (Entry L)) → IsHung L.link w.old (shared_cell cell.now) t es → Leaves (shared_cell cell.now ∷ links es) (slots es) w.old w.new }
+    ensures members { w.new.members ≡ w.old.members }
+    ensures stays { Stays w.old w.new }
+{
+    let Some(first) = take_first(w, cell) else {
+        return None;
+    };
+    match shared::clone(w, &first) {
+        None => {
+            put_first(w, cell, first);
+            None
+        }
+        Some(other) => {
+            put_first(w, cell, first);
+            Some(other)
+        }
     }
 }
 
