@@ -7,6 +7,8 @@ pub mod laws;
 pub mod linked_entry;
 pub mod linked_list;
 pub mod queue;
+#[cfg(test)]
+mod random;
 pub mod refusal;
 pub mod stack;
 #[cfg(test)]

@@ -18,9 +18,13 @@ use std::process::Abort;
 use std::test::Fail;
 
 /// A world of entries of numbers with one participant.
-fn numbers(alloc: Global, slots: usize, cells: usize) -> Result<World<LinkedEntry<u64>>, AllocError>
-    requires slots { slots ≤ 64 }
-    requires cells { cells ≤ 64 }
+pub(crate) fn numbers(
+    alloc: Global,
+    slots: usize,
+    cells: usize,
+) -> Result<World<LinkedEntry<u64>>, AllocError>
+    requires slots { slots ≤ 1000 }
+    requires cells { cells ≤ 1000 }
     ensures { IfOk result (λ w. w ≡ fresh (record { participants = 1; slots = slots; cells = cells; jobs = 0 })) }
 {
     let sizes = Sizes {
@@ -33,7 +37,7 @@ fn numbers(alloc: Global, slots: usize, cells: usize) -> Result<World<LinkedEntr
 }
 
 /// Ends a world in which nothing is left.
-fn end<R: Abort>(rt: &R, w: World<LinkedEntry<u64>>) {
+pub(crate) fn end<R: Abort>(rt: &R, w: World<LinkedEntry<u64>>) {
     match w.close() {
         Ok(()) => {}
         Err(_) => panic!(rt; "something is left"),
@@ -41,7 +45,11 @@ fn end<R: Abort>(rt: &R, w: World<LinkedEntry<u64>>) {
 }
 
 /// Puts a value in front and gives the owner back.
-fn push(w: &mut World<LinkedEntry<u64>>, stack: &Stack<u64>, value: u64) -> Result<(), u64>
+pub(crate) fn push(
+    w: &mut World<LinkedEntry<u64>>,
+    stack: &Stack<u64>,
+    value: u64,
+) -> Result<(), u64>
     requires member { 0 < length w.old.members }
     requires list { IsSomeStack w.old (stack_cell stack.now) }
     ensures member { 0 < length w.new.members }
@@ -58,7 +66,7 @@ fn push(w: &mut World<LinkedEntry<u64>>, stack: &Stack<u64>, value: u64) -> Resu
 }
 
 /// The value of the first undeleted entry, which is given back.
-fn pop(w: &mut World<LinkedEntry<u64>>, stack: &Stack<u64>) -> Option<u64>
+pub(crate) fn pop(w: &mut World<LinkedEntry<u64>>, stack: &Stack<u64>) -> Option<u64>
     requires member { 0 < length w.old.members }
     requires list { IsSomeStack w.old (stack_cell stack.now) }
     ensures member { 0 < length w.new.members }
@@ -76,7 +84,11 @@ fn pop(w: &mut World<LinkedEntry<u64>>, stack: &Stack<u64>) -> Option<u64>
 }
 
 /// Puts a value behind all others and gives the owner back.
-fn append(w: &mut World<LinkedEntry<u64>>, queue: &Queue<u64>, value: u64) -> Result<(), u64>
+pub(crate) fn append(
+    w: &mut World<LinkedEntry<u64>>,
+    queue: &Queue<u64>,
+    value: u64,
+) -> Result<(), u64>
     requires member { 0 < length w.old.members }
     requires list { IsSomeQueue entry_link w.old (oldest_cell queue.now) (newest_cell queue.now) }
     ensures member { 0 < length w.new.members }
@@ -92,7 +104,7 @@ fn append(w: &mut World<LinkedEntry<u64>>, queue: &Queue<u64>, value: u64) -> Re
 }
 
 /// The value of the first undeleted entry, which is given back.
-fn take(w: &mut World<LinkedEntry<u64>>, queue: &Queue<u64>) -> Option<u64>
+pub(crate) fn take(w: &mut World<LinkedEntry<u64>>, queue: &Queue<u64>) -> Option<u64>
     requires member { 0 < length w.old.members }
     requires list { IsSomeQueue entry_link w.old (oldest_cell queue.now) (newest_cell queue.now) }
     ensures member { 0 < length w.new.members }
