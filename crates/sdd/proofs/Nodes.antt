@@ -6,7 +6,6 @@ use Rattle.std.proofs.lemmas.Bool.Decides.{eqb_tells}
 use Rattle.sdd_base.specs.State.{State, status_at, value_at, cell_at, with_cell}
 use Rattle.sdd_base.specs.Place.{IsSharedCell, IsReadable}
 use Rattle.sdd_base.specs.declared.tag.Tag.{Tag}
-use Rattle.sdd_base.specs.declared.tag.Tag.TheVariants as tag
 use Rattle.sdd_base.specs.declared.status.Cell.{Cell}
 use Rattle.sdd_base.specs.declared.status.Cell.TheVariants as cell
 use Rattle.sdd.specs.Chain.{Entry, slots, links, IsOut, IsItem, IsHung, Leaves, first_slot, undeleted, deleted}
@@ -116,20 +115,20 @@ pub has_first : {L : Type 0} (i : ℕ) (es : List (Entry L)) → first_slot (und
 has_first i [] is = absurd (some_nothing i (sym is))
 has_first i (e ∷ es) is = (elim (deleted e.tag) as (λ v. first_slot (cond v (undeleted es) (e ∷ undeleted es)) ≡ Some i → Has i (e ∷ es)) [ true ↦ λ k out. has_first i es k out.1 | false ↦ λ k out. out.0 (sym (some_same e.slot i k)) ]) is
 
--- the first undeleted entry was asked to be deleted: some list hangs there still
-module _ {L : Type 0} (link : L → Option ℕ) (w w' : State L) (c : ℕ) (t : Tag) (es : List (Entry L)) (h : IsHung link w c t es) where
+-- the first undeleted entry was given another tag, or not: some list hangs there still
+module _ {L : Type 0} (link : L → Option ℕ) (w w' : State L) (c : ℕ) (t u : Tag) (es : List (Entry L)) (h : IsHung link w c t es) where
   pub record Hung : Type 0 where
     pub entries : List (Entry L)
     pub is : IsHung link w' c t entries
 
-  deleted_by : (o : Option ℕ) (i : ℕ) → o ≡ Some i → o ≡ first_slot (undeleted es) → (n : IsSomeNode link w (Some i)) → (r : Bool) → (r ≡ true → (e : Entry L) → IsNode link w o e → Retags link w w' e tag.Second) → (r ≡ false → w' ≡ w) → Hung
-  deleted_by o i is first n true did kept =
+  retagged_by : (o : Option ℕ) (i : ℕ) → o ≡ Some i → o ≡ first_slot (undeleted es) → (n : IsSomeNode link w (Some i)) → (r : Bool) → (r ≡ true → (e : Entry L) → IsNode link w o e → Retags link w w' e u) → (r ≡ false → w' ≡ w) → Hung
+  retagged_by o i is first n true did kept =
       let m = n.is in
       let node : IsNode link w o n.entry = record { names = is ∙ m.names; item = m.item; next = m.next; kept = m.kept } in
       let at : first_slot (undeleted es) ≡ Some n.entry.slot = sym first ∙ is ∙ m.names in
-      record { entries = retagged n.entry.slot tag.Second es; is = (did refl n.entry node).lists c t es h (has_first n.entry.slot es at) }
-  deleted_by o i is first n false did kept = record { entries = es; is = subst (λ (v : State L). IsHung link v c t es) (sym (kept refl)) h }
+      record { entries = retagged n.entry.slot u es; is = (did refl n.entry node).lists c t es h (has_first n.entry.slot es at) }
+  retagged_by o i is first n false did kept = record { entries = es; is = subst (λ (v : State L). IsHung link v c t es) (sym (kept refl)) h }
 
-  pub deleted_first : (o : Option ℕ) → o ≡ first_slot (undeleted es) → IfSome o (λ i. IsSomeNode link w (Some i)) → true ≡ is_some o → (r : Bool) → (r ≡ true → (e : Entry L) → IsNode link w o e → Retags link w w' e tag.Second) → (r ≡ false → w' ≡ w) → Hung
-  deleted_first None first n some r did kept = absurd (false≢true (sym some))
-  deleted_first (Some i) first n some r did kept = deleted_by (Some i) i refl first n r did kept
+  pub retagged_first : (o : Option ℕ) → o ≡ first_slot (undeleted es) → IfSome o (λ i. IsSomeNode link w (Some i)) → true ≡ is_some o → (r : Bool) → (r ≡ true → (e : Entry L) → IsNode link w o e → Retags link w w' e u) → (r ≡ false → w' ≡ w) → Hung
+  retagged_first None first n some r did kept = absurd (false≢true (sym some))
+  retagged_first (Some i) first n some r did kept = retagged_by (Some i) i refl first n r did kept

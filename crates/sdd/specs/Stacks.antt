@@ -1,5 +1,5 @@
 -- stacks: entries of values that hang from one cell, the newest first
-use Rattle.std.specs.Prelude.{◌≡◌, ℕ, Option, None, Some, List, [], ◌∷◌}
+use Rattle.std.specs.Prelude.{◌≡◌, ℕ, Bool, true, false, Option, None, Some, Result, Ok, Err, List, [], ◌∷◌}
 use Rattle.sdd_base.specs.State.{State, status_at, IsFree, IsFreeCell}
 use Rattle.sdd_base.specs.Tokens.{shared_cell}
 use Rattle.sdd_base.specs.declared.status.Status.TheVariants as status
@@ -54,3 +54,9 @@ pub record Pops {T : Type 0} (w' : State (LinkedEntry T)) (c i : ℕ) (es : List
   pub left : IsStack w' c rest
   pub apart : IsOut entry.slot (slots rest)
   pub gone : IsLoose entry_link w' (record entry { tag = tag.Second })
+
+-- whether a call with a condition took an entry
+abbrev pub taken : {S E : Type 0} → Result (Option S) E → Bool
+taken (Ok None) = false
+taken (Ok (Some s)) = true
+taken (Err e) = false

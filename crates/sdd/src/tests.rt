@@ -152,6 +152,82 @@ fn moved(w: &mut World<LinkedEntry<u64>>, stack: Stack<u64>) -> Result<Stack<u64
     }
 }
 
+/// Marks the first undeleted entry.
+fn mark(w: &mut World<LinkedEntry<u64>>, stack: &Stack<u64>, guard: &WorldGuard) -> bool
+    requires member { 0 < length w.old.members }
+    requires list { IsSomeStack w.old (stack_cell stack.now) }
+    ensures member { 0 < length w.new.members }
+    ensures open { IsOpen w.old 0 → IsOpen w.new 0 }
+    ensures list { IsSomeStack w.new (stack_cell stack.now) }
+{
+    let first = world::stack::peek(w, stack, guard);
+    match w.read(&first) {
+        None => return false,
+        Some(_) => {}
+    }
+    world::linked_list::mark(w, first)
+}
+
+/// Clears the first undeleted entry.
+fn unmark(w: &mut World<LinkedEntry<u64>>, stack: &Stack<u64>, guard: &WorldGuard) -> bool
+    requires member { 0 < length w.old.members }
+    requires list { IsSomeStack w.old (stack_cell stack.now) }
+    ensures member { 0 < length w.new.members }
+    ensures open { IsOpen w.old 0 → IsOpen w.new 0 }
+    ensures list { IsSomeStack w.new (stack_cell stack.now) }
+{
+    let first = world::stack::peek(w, stack, guard);
+    match w.read(&first) {
+        None => return false,
+        Some(_) => {}
+    }
+    world::linked_list::unmark(w, first)
+}
+
+/// Whether the first undeleted entry is clear.
+fn is_clear(w: &World<LinkedEntry<u64>>, stack: &Stack<u64>, guard: &WorldGuard) -> bool
+    requires { IsSomeStack w.now (stack_cell stack.now) }
+{
+    let first = world::stack::peek(w, stack, guard);
+    match w.read(&first) {
+        None => return false,
+        Some(_) => {}
+    }
+    world::linked_list::is_clear(w, first)
+}
+
+/// Whether the first undeleted entry is marked.
+fn is_marked(w: &World<LinkedEntry<u64>>, stack: &Stack<u64>, guard: &WorldGuard) -> bool
+    requires { IsSomeStack w.now (stack_cell stack.now) }
+{
+    let first = world::stack::peek(w, stack, guard);
+    match w.read(&first) {
+        None => return false,
+        Some(_) => {}
+    }
+    world::linked_list::is_marked(w, first)
+}
+
+/// Whether the first undeleted entry is deleted.
+fn is_deleted(w: &World<LinkedEntry<u64>>, stack: &Stack<u64>, guard: &WorldGuard) -> bool
+    requires { IsSomeStack w.now (stack_cell stack.now) }
+{
+    let first = world::stack::peek(w, stack, guard);
+    match w.read(&first) {
+        None => return false,
+        Some(_) => {}
+    }
+    world::linked_list::is_deleted(w, first)
+}
+
+/// The value of an entry, or 0.
+fn value_of(entry: Option<&LinkedEntry<u64>>) -> u64 {
+    match entry {
+        None => 0,
+        Some(entry) => *entry.as_ref(),
+    }
+}
+
 #[test]
 fn a_stack_gives_the_newest_first(rt: HostRuntime) -> Result<(), Fail> {
     let mut w = numbers(rt.alloc(), 3, 4)?;
@@ -264,6 +340,52 @@ fn all_entries_move_to_another_stack(rt: HostRuntime) -> Result<(), Fail> {
     assert_eq!(rt; world::stack::len(&w, &other), 2);
     assert_eq!(rt; pop(&mut w, &other), Some(2));
     world::stack::retire(&mut w, other, 0);
+    end(&rt, w);
+    Ok(())
+}
+
+#[test]
+fn an_entry_has_one_tag_at_a_time(rt: HostRuntime) -> Result<(), Fail> {
+    let mut w = numbers(rt.alloc(), 1, 2)?;
+    let Ok(guard) = place::guard::new(&mut w, 0) else {
+        panic!(rt; "no guard is open");
+    };
+    let Ok(stack) = world::stack::new(&mut w) else {
+        panic!(rt; "a cell is free");
+    };
+    assert_eq!(rt; push(&mut w, &stack, 1), Ok(()));
+    assert!(rt; is_clear(&w, &stack, &guard));
+    assert!(rt; !unmark(&mut w, &stack, &guard));
+    assert!(rt; mark(&mut w, &stack, &guard));
+    assert!(rt; !mark(&mut w, &stack, &guard));
+    assert!(rt; is_marked(&w, &stack, &guard));
+    assert!(rt; !is_clear(&w, &stack, &guard));
+    assert!(rt; unmark(&mut w, &stack, &guard));
+    assert!(rt; is_clear(&w, &stack, &guard));
+    assert!(rt; !is_marked(&w, &stack, &guard));
+    assert!(rt; !is_deleted(&w, &stack, &guard));
+    assert!(rt; mark(&mut w, &stack, &guard));
+    assert_eq!(rt; world::stack::len(&w, &stack), 1);
+    assert!(rt; delete(&mut w, &stack, &guard));
+    assert!(rt; world::stack::is_empty(&w, &stack));
+    world::stack::retire(&mut w, stack, 0);
+    place::guard::close(&mut w, guard);
+    end(&rt, w);
+    Ok(())
+}
+
+#[test]
+fn conditions_see_the_first_undeleted_entry(rt: HostRuntime) -> Result<(), Fail> {
+    let mut w = numbers(rt.alloc(), 3, 4)?;
+    let Ok(stack) = world::stack::new(&mut w) else {
+        panic!(rt; "a cell is free");
+    };
+    assert!(rt; world::stack::peek_with(&w, &stack, |_: Option<&LinkedEntry<u64>>| true));
+    assert_eq!(rt; push(&mut w, &stack, 5), Ok(()));
+    assert_eq!(rt; world::stack::peek_with(&w, &stack, value_of), 5);
+    assert_eq!(rt; push(&mut w, &stack, 6), Ok(()));
+    assert_eq!(rt; world::stack::peek_with(&w, &stack, value_of), 6);
+    world::stack::retire(&mut w, stack, 0);
     end(&rt, w);
     Ok(())
 }

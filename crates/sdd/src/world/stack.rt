@@ -7,10 +7,11 @@ ghost use Rattle.sdd_base.specs.Place.{IsShared};
 ghost use Rattle.sdd_base.specs.Tokens.{shared_slot, ptr_slot};
 ghost use Rattle.sdd.specs.Nodes.{IsSomeNode};
 ghost use Rattle.std.specs.Option.{option_copied};
-ghost use Rattle.sdd.specs.Chain.{Entry, Leaves, Stays, undeleted, first_item, first_slot, links, slots};
+ghost use Rattle.std.specs.Fn.{FnOnceReturnsAt};
+ghost use Rattle.sdd.specs.Chain.{Entry, Leaves, Stays, undeleted, first_item, first_slot, skip, links, slots};
 ghost use Rattle.sdd.specs.Entries.{entry_link};
 ghost use Rattle.sdd.specs.Refusals.{refused_value, IsCondition, IsNoSlot};
-ghost use Rattle.sdd.specs.Stacks.{stack_cell, IsStack, IsSomeStack, Pushes, Pops};
+ghost use Rattle.sdd.specs.Stacks.{stack_cell, taken, IsStack, IsSomeStack, Pushes, Pops};
 ghost use Rattle.sdd.specs.declared.linked_entry.LinkedEntry.{LinkedEntry};
 
 use crate::linked_entry::LinkedEntry;
@@ -198,4 +199,48 @@ pub fn push_if<T, F: FnOnce(Option<&LinkedEntry<T>>) -> bool>(
         Ok(entry) => Ok(entry),
         Err(value) => Err(PushRefused::NoSlot(value)),
     }
+}
+
+/// As `pop`, if `f` answers true for the first undeleted entry; else another owner of that is given, and nothing is
+/// taken. Where every entry is deleted, `f` isn't called. Where the entry has `2^32 - 1` owners, a refusal answers none.
+pub fn pop_if<T, F: FnOnce(&LinkedEntry<T>) -> bool + Drop>(
+    w: &mut World<LinkedEntry<T>>,
+    stack: &Stack<T>,
+    p: usize,
+    f: F,
+) -> Result<Option<Shared<LinkedEntry<T>>>, Shared<LinkedEntry<T>>>
+    requires callable { F.IsAlwaysCallable f }
+    requires member { p < length w.old.members }
+    requires list { IsSomeStack w.old (stack_cell stack.now) }
+    ensures asked { (es : List (Entry (LinkedEntry T))) → IsStack w.old (stack_cell stack.now) es → IfSome (first_item (undeleted es)) (λ v. FnOnceReturnsAt F.FnOnce f v (taken result)) }
+    ensures popped { (es : List (Entry (LinkedEntry T))) → IsStack w.old (stack_cell stack.now) es → IfOk result (λ r. IfSome r (λ s. Pops w.new (stack_cell stack.now) (shared_slot s) es)) }
+    ensures kept { taken result ≡ false → (es : List (Entry (LinkedEntry T))) → IsStack w.old (stack_cell stack.now) es → IsStack w.new (stack_cell stack.now) (skip es) }
+    ensures refused { IfErr result (λ s. (es : List (Entry (LinkedEntry T))) → IsStack w.old (stack_cell stack.now) es → Some (shared_slot s) ≡ first_slot (undeleted es)) }
+    ensures list { IsSomeStack w.new (stack_cell stack.now) }
+    ensures leaves { (es : List (Entry (LinkedEntry T))) → IsStack w.old (stack_cell stack.now) es → Leaves (stack_cell stack.now ∷ links es) (slots es) w.old w.new }
+    ensures only { OnlyOf p w.old w.new }
+    ensures stays { Stays w.old w.new }
+{
+    chain::skip_deleted(w, &stack.newest, p);
+    let Some(entry) = chain::first_undeleted(w, &stack.newest) else {
+        return Ok(None);
+    };
+    if !answer(f, entry) {
+        return match chain::share_first(w, &stack.newest) {
+            Some(owner) => Err(owner),
+            None => Ok(None),
+        };
+    }
+    match pop(w, stack, p) {
+        Some(owner) => Ok(Some(owner)),
+        None => unreachable!(),
+    }
+}
+
+/// What a condition answers for an entry.
+fn answer<E, F: FnOnce(&E) -> bool>(condition: F, entry: &E) -> bool
+    requires { F.IsAlwaysCallable condition }
+    ensures { FnOnceReturnsAt F.FnOnce condition entry.now result }
+{
+    condition(entry)
 }
