@@ -92,6 +92,7 @@ pub(crate) fn append(
     requires member { 0 < length w.old.members }
     requires list { IsSomeQueue entry_link w.old (oldest_cell queue.now) (newest_cell queue.now) }
     ensures member { 0 < length w.new.members }
+    ensures open { IsOpen w.old 0 → IsOpen w.new 0 }
     ensures list { IsSomeQueue entry_link w.new (oldest_cell queue.now) (newest_cell queue.now) }
 {
     match world::queue::push(w, queue, value) {
@@ -218,6 +219,34 @@ fn is_deleted(w: &World<LinkedEntry<u64>>, stack: &Stack<u64>, guard: &WorldGuar
         Some(_) => {}
     }
     world::linked_list::is_deleted(w, first)
+}
+
+/// Puts a value in front if there is none yet, and gives the owner back.
+fn push_first(w: &mut World<LinkedEntry<u64>>, stack: &Stack<u64>, value: u64) -> bool
+    requires member { 0 < length w.old.members }
+    requires list { IsSomeStack w.old (stack_cell stack.now) }
+    ensures member { 0 < length w.new.members }
+    ensures list { IsSomeStack w.new (stack_cell stack.now) }
+{
+    let none = |first: Option<&LinkedEntry<u64>>| first.is_none();
+    match world::stack::push_if(w, stack, value, none) {
+        Ok(entry) => {
+            place::shared::release(w, entry, 0);
+            true
+        }
+        Err(_) => false,
+    }
+}
+
+/// The value that a pointer to the oldest entry names.
+fn oldest(w: &World<LinkedEntry<u64>>, queue: &Queue<u64>, guard: &WorldGuard) -> Option<u64>
+    requires { IsSomeQueue entry_link w.now (oldest_cell queue.now) (newest_cell queue.now) }
+{
+    let first = world::queue::peek(w, queue, guard);
+    match w.read(&first) {
+        None => None,
+        Some(entry) => Some(*entry.as_ref()),
+    }
 }
 
 /// The value of an entry, or 0.
@@ -386,6 +415,89 @@ fn conditions_see_the_first_undeleted_entry(rt: HostRuntime) -> Result<(), Fail>
     assert_eq!(rt; push(&mut w, &stack, 6), Ok(()));
     assert_eq!(rt; world::stack::peek_with(&w, &stack, value_of), 6);
     world::stack::retire(&mut w, stack, 0);
+    end(&rt, w);
+    Ok(())
+}
+
+#[test]
+fn a_value_is_pushed_on_a_condition(rt: HostRuntime) -> Result<(), Fail> {
+    let mut w = numbers(rt.alloc(), 2, 3)?;
+    let Ok(stack) = world::stack::new(&mut w) else {
+        panic!(rt; "a cell is free");
+    };
+    assert!(rt; push_first(&mut w, &stack, 5));
+    assert!(rt; !push_first(&mut w, &stack, 6));
+    assert_eq!(rt; world::stack::len(&w, &stack), 1);
+    assert_eq!(rt; pop(&mut w, &stack), Some(5));
+    assert!(rt; push_first(&mut w, &stack, 7));
+    world::stack::retire(&mut w, stack, 0);
+    end(&rt, w);
+    Ok(())
+}
+
+#[test]
+fn a_refused_pop_takes_nothing(rt: HostRuntime) -> Result<(), Fail> {
+    let mut w = numbers(rt.alloc(), 2, 4)?;
+    let Ok(stack) = world::stack::new(&mut w) else {
+        panic!(rt; "a cell is free");
+    };
+    assert_eq!(rt; push(&mut w, &stack, 5), Ok(()));
+    let no = |entry: &LinkedEntry<u64>| *entry.as_ref() == 6;
+    let owner = match world::stack::pop_if(&mut w, &stack, 0, no) {
+        Err(owner) => owner,
+        Ok(_) => panic!(rt; "the value is another"),
+    };
+    assert_eq!(rt; world::stack::len(&w, &stack), 1);
+    assert_eq!(rt; world::stack::peek_with(&w, &stack, value_of), 5);
+    world::stack::retire(&mut w, stack, 0);
+    let cell = match place::atomic_shared::from(&mut w, owner) {
+        Ok(cell) => cell,
+        Err(_) => panic!(rt; "a cell is free"),
+    };
+    place::atomic_shared::retire(&mut w, cell, 0);
+    end(&rt, w);
+    Ok(())
+}
+
+#[test]
+fn an_entry_is_popped_on_a_condition(rt: HostRuntime) -> Result<(), Fail> {
+    let mut w = numbers(rt.alloc(), 2, 4)?;
+    let Ok(stack) = world::stack::new(&mut w) else {
+        panic!(rt; "a cell is free");
+    };
+    assert_eq!(rt; push(&mut w, &stack, 5), Ok(()));
+    let yes = |entry: &LinkedEntry<u64>| *entry.as_ref() == 5;
+    let owner = match world::stack::pop_if(&mut w, &stack, 0, yes) {
+        Ok(Some(owner)) => owner,
+        _ => panic!(rt; "the value is this one"),
+    };
+    assert!(rt; world::stack::is_empty(&w, &stack));
+    world::stack::retire(&mut w, stack, 0);
+    let cell = match place::atomic_shared::from(&mut w, owner) {
+        Ok(cell) => cell,
+        Err(_) => panic!(rt; "a cell is free"),
+    };
+    place::atomic_shared::retire(&mut w, cell, 0);
+    end(&rt, w);
+    Ok(())
+}
+
+#[test]
+fn a_queue_is_peeked_at_its_oldest(rt: HostRuntime) -> Result<(), Fail> {
+    let mut w = numbers(rt.alloc(), 2, 4)?;
+    let Ok(guard) = place::guard::new(&mut w, 0) else {
+        panic!(rt; "no guard is open");
+    };
+    let Ok(queue) = world::queue::new(&mut w) else {
+        panic!(rt; "two cells are free");
+    };
+    assert_eq!(rt; world::queue::peek_with(&w, &queue, value_of), 0);
+    assert_eq!(rt; append(&mut w, &queue, 8), Ok(()));
+    assert_eq!(rt; append(&mut w, &queue, 9), Ok(()));
+    assert_eq!(rt; world::queue::peek_with(&w, &queue, value_of), 8);
+    assert_eq!(rt; oldest(&w, &queue, &guard), Some(8));
+    world::queue::retire(&mut w, queue, 0);
+    place::guard::close(&mut w, guard);
     end(&rt, w);
     Ok(())
 }
