@@ -1,16 +1,15 @@
 -- lists that hang in a place, as the place changes
-use Rattle.std.proofs.Common.{◌≡◌, ◌≢◌, ℕ, zero, suc, ◌+◌, ◌<◌, Bool, true, false, Option, None, Some, List, [], ◌∷◌, ◌++◌, length, get_or, set, refl, sym, ap, ◌∙◌, arith, length-set, subst, get_or-set_same, get_or-set_other, inl, inr}
+use Rattle.std.proofs.Common.{◌≡◌, ◌≢◌, ℕ, zero, suc, ◌<◌, Bool, true, false, Option, None, Some, List, [], ◌∷◌, length, get_or, set, refl, sym, ap, ◌∙◌, arith, length-set, subst, get_or-set_same, get_or-set_other}
 use Rattle.std.proofs.lemmas.List.{set-get_or, set-set}
 use Rattle.std.proofs.lemmas.Bool.{false≢true}
-use Rattle.std.proofs.lemmas.Bool.Decides.{eqb_tells}
-use Rattle.sdd_base.specs.State.{State, status_at, value_at, cell_at, vacancy, emptiness, placed, with_cell, with_status, IsFree, IsFreeCell, is_used}
+use Rattle.sdd_base.specs.State.{State, status_at, value_at, cell_at, vacancy, emptiness, with_cell, IsFreeCell, is_used}
 use Rattle.sdd_base.specs.Place.{IsShared, IsSharedCell, IsReadable}
 use Rattle.sdd_base.specs.declared.tag.Tag.{Tag}
 use Rattle.sdd_base.specs.declared.status.Status.{Status}
 use Rattle.sdd_base.specs.declared.status.Status.TheVariants as status
 use Rattle.sdd_base.specs.declared.status.Cell.{Cell}
 use Rattle.sdd_base.specs.declared.status.Cell.TheVariants as cell
-use Rattle.sdd.specs.Chain.{Entry, slots, links, IsOut, AreOut, IsItem, IsHung, IsLoose, Fits, TookFirst, first_slot, Leaves, Stays, HasLink, Hangs, Begins, deleted}
+use Rattle.sdd.specs.Chain.{Entry, slots, links, IsOut, AreOut, IsItem, IsHung, IsLoose, Fits, TookFirst, first_slot, Leaves, Stays, HasLink, Begins, deleted}
 
 -- what isn't the default lies within the list
 pub inside_cells : (cs : List Cell) (c : ℕ) (o : Option ℕ) (t : Tag) → get_or cs c cell.Free ≡ cell.OfShared o t → c < length cs

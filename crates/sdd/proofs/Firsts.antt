@@ -1,5 +1,5 @@
 -- the first undeleted entry of a list
-use Rattle.std.proofs.Common.{◌≡◌, ℕ, Bool, true, false, Option, None, Some, List, [], ◌∷◌, sym, ap, ◌∙◌, refl, cond}
+use Rattle.std.proofs.Common.{◌≡◌, ℕ, true, false, Option, None, Some, List, [], ◌∷◌, sym, ap, ◌∙◌, refl, cond}
 use Rattle.sdd_base.specs.State.{State, value_at, cell_at}
 use Rattle.sdd_base.specs.declared.tag.Tag.{Tag}
 use Rattle.sdd_base.specs.declared.status.Cell.TheVariants as cell

@@ -1,18 +1,17 @@
 -- the front of a list: what is skipped, taken off and put there
-use Rattle.std.proofs.Common.{◌≡◌, ◌≢◌, ℕ, zero, suc, ◌+◌, ◌<◌, Bool, true, false, Option, None, Some, List, [], ◌∷◌, length, refl, sym, ap, ◌∙◌, arith, subst, cond}
-use Rattle.std.proofs.lemmas.Bool.{false≢true}
-use Rattle.sdd_base.specs.State.{State, status_at, value_at, cell_at, with_cell, emptiness, vacancy}
-use Rattle.sdd_base.specs.Place.{IsShared, IsSharedCell}
+use Rattle.std.proofs.Common.{◌≡◌, ◌≢◌, ℕ, ◌<◌, true, false, Option, None, Some, List, [], ◌∷◌, length, refl, sym, ap, ◌∙◌, arith, subst, cond}
+use Rattle.sdd_base.specs.State.{State, status_at, cell_at, with_cell, emptiness, vacancy}
+use Rattle.sdd_base.specs.Place.{IsSharedCell}
 use Rattle.sdd_base.specs.declared.tag.Tag.{Tag}
 use Rattle.sdd_base.specs.declared.tag.Tag.TheVariants as tag
 use Rattle.sdd_base.specs.declared.status.Status.TheVariants as status
 use Rattle.sdd_base.specs.declared.status.Cell.TheVariants as cell
-use Rattle.sdd.specs.Chain.{Entry, slots, links, IsOut, AreOut, IsItem, IsHung, IsLoose, Leaves, TookFirst, Fits, CanHang, first_slot, skip, undeleted, deleted}
+use Rattle.sdd.specs.Chain.{Entry, slots, links, IsOut, IsHung, IsLoose, Leaves, TookFirst, Fits, CanHang, first_slot, skip, undeleted, deleted}
 use Rattle.sdd.specs.Entries.{entry_link}
 use Rattle.sdd.specs.Stacks.{IsNew, IsMade}
 use Rattle.sdd.specs.declared.linked_entry.LinkedEntry.{LinkedEntry}
 use Rattle.sdd.proofs.Releases.{out_of_one}
-use Rattle.sdd.proofs.Chains.{hung_left, hung_first, hung_out, leaves_then, leaves_more, leaves_all, leaves_write, out_of_none, free_cell_out, free_slot_out, item_left, wrote_same, inside_cells, some_same, some_nothing, head_cell, Took, Filled, written2, wrote_last, wrote_second, wrote_other, rehung, out_of_two}
+use Rattle.sdd.proofs.Chains.{hung_left, hung_first, hung_out, leaves_then, leaves_more, leaves_all, leaves_write, out_of_none, free_cell_out, free_slot_out, item_left, wrote_same, inside_cells, some_same, some_nothing, Took, Filled, written2, wrote_last, wrote_second, wrote_other, rehung, out_of_two}
 
 -- what is skipped is deleted
 pub first_skipped : {L : Type 0} (es : List (Entry L)) → first_slot (skip es) ≡ first_slot (undeleted es)

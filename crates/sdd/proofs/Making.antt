@@ -1,16 +1,15 @@
 -- new entries
-use Rattle.std.proofs.Common.{◌≡◌, ◌≢◌, ◌⊎◌, ℕ, zero, suc, ◌+◌, ◌<◌, Bool, true, false, Option, None, Some, List, [], ◌∷◌, length, get_or, set, refl, sym, ap, ◌∙◌, arith, length-set, subst, get_or-set_same, IfSome, inl, inr}
+use Rattle.std.proofs.Common.{◌≡◌, ◌≢◌, ◌⊎◌, ℕ, zero, suc, ◌+◌, ◌<◌, Option, None, Some, List, [], ◌∷◌, length, get_or, set, refl, ap, ◌∙◌, subst, get_or-set_same, IfSome, inl}
 use Rattle.sdd_base.specs.State.{State, status_at, value_at, cell_at, placed, with_cell, with_status, IsFree, IsFreeCell, NoneFree, NoCellFree}
 use Rattle.sdd_base.specs.declared.tag.Tag.TheVariants as tag
 use Rattle.sdd_base.specs.declared.status.Status.{Status}
 use Rattle.sdd_base.specs.declared.status.Status.TheVariants as status
 use Rattle.sdd_base.specs.declared.status.Cell.{Cell}
 use Rattle.sdd_base.specs.declared.status.Cell.TheVariants as cell
-use Rattle.sdd.specs.Chain.{Entry, IsItem, IsLoose}
 use Rattle.sdd.specs.Entries.{entry_value, entry_link}
-use Rattle.sdd.specs.Stacks.{IsNew, IsMade}
+use Rattle.sdd.specs.Stacks.{IsMade}
 use Rattle.sdd.specs.declared.linked_entry.LinkedEntry.{LinkedEntry}
-use Rattle.sdd.proofs.Chains.{wrote_same, wrote_other, freed_again}
+use Rattle.sdd.proofs.Chains.{freed_again}
 
 some_of : {X : Type 0} (r : X) → ◌≡◌ {A = Option X} (Some r) None → ⊥
 some_of r h = cc

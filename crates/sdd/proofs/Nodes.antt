@@ -1,16 +1,16 @@
 -- entries whose tag changes
-use Rattle.std.proofs.Common.{◌≡◌, ◌≢◌, ◌==◌, ℕ, zero, suc, ◌+◌, ◌<◌, Bool, true, false, Option, None, Some, List, [], ◌∷◌, length, refl, sym, ap, ◌∙◌, arith, subst, cond, inl, inr, set, get_or, IfSome, is_some}
+use Rattle.std.proofs.Common.{◌≡◌, ◌≢◌, ◌==◌, ℕ, Bool, true, false, Option, None, Some, List, [], ◌∷◌, refl, sym, ap, ◌∙◌, subst, cond, inl, inr, IfSome, is_some}
 use Rattle.std.proofs.lemmas.List.{set-set}
 use Rattle.std.proofs.lemmas.Bool.{false≢true}
 use Rattle.std.proofs.lemmas.Bool.Decides.{eqb_tells}
-use Rattle.sdd_base.specs.State.{State, status_at, value_at, cell_at, with_cell}
+use Rattle.sdd_base.specs.State.{State, value_at, cell_at, with_cell}
 use Rattle.sdd_base.specs.Place.{IsSharedCell, IsReadable}
 use Rattle.sdd_base.specs.declared.tag.Tag.{Tag}
 use Rattle.sdd_base.specs.declared.status.Cell.{Cell}
 use Rattle.sdd_base.specs.declared.status.Cell.TheVariants as cell
 use Rattle.sdd.specs.Chain.{Entry, slots, links, IsOut, IsItem, IsHung, Leaves, first_slot, undeleted, deleted}
 use Rattle.sdd.specs.Nodes.{IsNode, IsSomeNode, Retags, retagged, Has}
-use Rattle.sdd.proofs.Chains.{hung_left, cell_left, item_left, item_readable, leaves_write, leaves_all, out_of_none, wrote_same, wrote_other, inside_cells, some_same, the_same, hung_out, hung_first, kept_same, rehung, some_nothing}
+use Rattle.sdd.proofs.Chains.{cell_left, item_left, item_readable, leaves_write, leaves_all, out_of_none, wrote_same, inside_cells, some_same, the_same, hung_out, hung_first, kept_same, rehung, some_nothing}
 use Rattle.sdd.proofs.Releases.{out_of_one}
 
 retagged_links : {L : Type 0} (i j : ℕ) (u : Tag) (es : List (Entry L)) → IsOut j (links es) → IsOut j (links (retagged i u es))

@@ -1,20 +1,20 @@
 -- queues, as their calls change them
-use Rattle.std.proofs.Common.{◌≡◌, ◌≢◌, ◌≤◌, ℕ, zero, suc, ◌+◌, ◌<◌, ◌-◌, Bool, true, false, Option, None, Some, List, [], ◌∷◌, ◌++◌, length, refl, sym, ap, ◌∙◌, arith, subst, cond, length-set, inl, inr, get_or-set_same}
+use Rattle.std.proofs.Common.{◌≡◌, ◌≢◌, ◌≤◌, ℕ, ◌<◌, ◌-◌, true, false, Option, None, Some, List, [], ◌∷◌, length, refl, sym, ap, ◌∙◌, arith, subst, cond, length-set, inl, inr, get_or-set_same}
 use Rattle.std.proofs.lemmas.Bool.Decides.{eqb_tells}
-use Rattle.sdd_base.specs.State.{State, status_at, value_at, cell_at, with_cell, emptiness, vacancy, IsFreeCell}
+use Rattle.sdd_base.specs.State.{State, status_at, cell_at, with_cell, emptiness, vacancy, IsFreeCell}
 use Rattle.sdd_base.specs.Steps.{released}
 use Rattle.sdd_base.specs.Place.{IsShared, IsSharedCell}
 use Rattle.sdd_base.specs.declared.tag.Tag.{Tag}
 use Rattle.sdd_base.specs.declared.tag.Tag.TheVariants as tag
 use Rattle.sdd_base.specs.declared.status.Status.TheVariants as status
 use Rattle.sdd_base.specs.declared.status.Cell.TheVariants as cell
-use Rattle.sdd.specs.Chain.{Entry, slots, links, IsOut, AreOut, IsItem, IsHung, IsLoose, Leaves, SameUses, skip, undeleted, deleted, first_slot}
+use Rattle.sdd.specs.Chain.{Entry, slots, links, IsOut, IsItem, IsHung, IsLoose, Leaves, SameUses, skip, undeleted, deleted, first_slot}
 use Rattle.sdd.specs.Queues.{last_slot, HasTwo, IsQueue, Follows, CanFollow, vacated}
 use Rattle.sdd.specs.Stacks.{IsNew, IsMade}
 use Rattle.sdd.specs.Entries.{entry_link}
 use Rattle.sdd.specs.declared.linked_entry.LinkedEntry.{LinkedEntry}
-use Rattle.sdd.proofs.Chains.{hung_left, cell_left, item_left, leaves_then, leaves_more, leaves_all, leaves_write, out_of_none, wrote_same, wrote_other, inside_cells, inside_states, some_same, some_nothing, head_cell, kept_same, free_cell_out, free_slot_out}
-use Rattle.sdd.proofs.Fronts.{leaves_free, none_skipped, first_skipped, first_none, TookSome, popped_left, popped_gone, popped_leaves, skipped_links}
+use Rattle.sdd.proofs.Chains.{hung_left, cell_left, item_left, leaves_then, leaves_more, leaves_all, leaves_write, out_of_none, wrote_same, wrote_other, inside_cells, inside_states, some_same, head_cell, kept_same, free_cell_out, free_slot_out}
+use Rattle.sdd.proofs.Fronts.{leaves_free, first_skipped, first_none, TookSome, popped_left, popped_gone, popped_leaves, skipped_links}
 use Rattle.sdd.proofs.Releases.{leaves_released, spare_owner, spare_item, spare_state, out_of_one}
 
 pub two_shared : {L : Type 0} (w : State L) (i : ℕ) → HasTwo w i → IsShared w i

@@ -1,18 +1,16 @@
 -- owners that are given back
-use Rattle.std.proofs.Common.{◌≡◌, ◌≢◌, ℕ, zero, suc, ◌+◌, ◌-◌, ◌<◌, ◌≤◌, Bool, true, false, Option, None, Some, List, [], ◌∷◌, length, get_or, set, refl, sym, ap, ◌∙◌, arith, length-set, subst, get_or-set_same, get_or-set_other, cond, leb, inl, inr}
-use Rattle.std.proofs.lemmas.Bool.{false≢true}
+use Rattle.std.proofs.Common.{◌≡◌, ℕ, zero, suc, ◌+◌, ◌-◌, ◌<◌, ◌≤◌, Bool, true, false, Option, None, Some, List, [], ◌∷◌, length, get_or, set, refl, sym, ap, ◌∙◌, arith, subst, get_or-set_same, get_or-set_other, cond, leb, inl, inr}
 use Rattle.std.proofs.lemmas.Bool.Decides.{eqb_tells, nat_tests}
-use Rattle.sdd_base.specs.State.{State, Member, status_at, value_at, cell_at, member_at, marks_at, nobody, with_status, with_cell, retired, put_member, is_used, vacancy, in_use}
+use Rattle.sdd_base.specs.State.{State, status_at, value_at, marks_at, with_status, retired, is_used, vacancy, in_use}
 use Rattle.sdd_base.specs.Steps.{released, released_as}
-use Rattle.sdd_base.specs.Frame.{Keeps, Protects}
-use Rattle.sdd_base.specs.Place.{IsOpen, IsSharedCell}
+use Rattle.sdd_base.specs.Frame.{Keeps}
+use Rattle.sdd_base.specs.Place.{IsSharedCell}
 use Rattle.sdd_base.specs.declared.tag.Tag.{Tag}
-use Rattle.sdd_base.specs.declared.tag.Tag.TheVariants as tag
 use Rattle.sdd_base.specs.declared.status.Status.{Status}
 use Rattle.sdd_base.specs.declared.status.Status.TheVariants as status
 use Rattle.sdd_base.specs.declared.status.Cell.TheVariants as cell
-use Rattle.sdd.specs.Chain.{Entry, slots, links, IsOut, AreOut, IsItem, IsHung, IsLoose, Leaves, Stays, TookFirst, Hangs, Begins, Cut, Dropped, SameUses, skip, deleted}
-use Rattle.sdd.proofs.Chains.{hung_left, leaves_then, leaves_more, leaves_all, out_of_none, stays_refl, some_same, inside_cells, inside_states}
+use Rattle.sdd.specs.Chain.{Entry, slots, links, IsOut, AreOut, IsItem, IsHung, IsLoose, Leaves, Stays, TookFirst, Hangs, Begins, Cut, Dropped, SameUses, skip}
+use Rattle.sdd.proofs.Chains.{hung_left, leaves_then, leaves_more, leaves_all, out_of_none, some_same, inside_cells, inside_states}
 use Rattle.sdd.proofs.Walks.{skipped_first, kept_first, hung_length}
 use Rattle.std.proofs.lemmas.List.{nil_from_length}
 

@@ -1,13 +1,12 @@
 -- the first entry of a list is taken off, shared and put back
-use Rattle.std.proofs.Common.{◌≡◌, ◌≢◌, ℕ, zero, suc, ◌+◌, ◌<◌, Bool, true, false, Option, None, Some, List, [], ◌∷◌, length, refl, sym, ap, ◌∙◌, arith, subst, IfSome, get_or, set, get_or-set_other}
-use Rattle.sdd_base.specs.State.{State, status_at, value_at, cell_at, with_cell, with_status, vacancy, emptiness}
+use Rattle.std.proofs.Common.{◌≡◌, ◌≢◌, ℕ, Option, Some, List, [], ◌∷◌, refl, sym, ap, ◌∙◌, subst, get_or-set_other}
+use Rattle.sdd_base.specs.State.{State, status_at, with_status}
 use Rattle.sdd_base.specs.declared.tag.Tag.{Tag}
 use Rattle.sdd_base.specs.declared.status.Status.TheVariants as status
-use Rattle.sdd_base.specs.declared.status.Cell.TheVariants as cell
-use Rattle.sdd.specs.Chain.{Entry, slots, links, IsOut, IsItem, IsHung, IsLoose, Leaves, Fits, CanHang, TookFirst, first_slot}
-use Rattle.sdd.proofs.Chains.{hung_out, leaves_then, leaves_more, leaves_all, inside_states, some_same}
+use Rattle.sdd.specs.Chain.{Entry, slots, links, IsOut, IsHung, IsLoose, Leaves, Fits, CanHang, first_slot}
+use Rattle.sdd.proofs.Chains.{hung_out, leaves_then, leaves_more, leaves_all, inside_states}
 use Rattle.sdd.proofs.Releases.{item_owners, hung_owners}
-use Rattle.sdd.proofs.Fronts.{TookSome, took_some}
+use Rattle.sdd.proofs.Fronts.{TookSome}
 
 leaves_owners : {L : Type 0} (w : State L) (i m : ℕ) → Leaves [] (i ∷ []) w (with_status i (status.Shared m) w)
 leaves_owners w i m = record {

@@ -1,15 +1,15 @@
 -- the end of a list, and the cell that keeps its last entry
-use Rattle.std.proofs.Common.{◌≡◌, ◌≢◌, ◌≤◌, ℕ, zero, suc, ◌+◌, ◌<◌, Bool, true, false, Option, None, Some, List, [], ◌∷◌, ◌++◌, length, refl, sym, ap, ◌∙◌, arith, subst, cond}
-use Rattle.sdd_base.specs.State.{State, status_at, value_at, cell_at, with_cell, emptiness, vacancy}
+use Rattle.std.proofs.Common.{◌≡◌, ◌≢◌, ℕ, Option, None, Some, List, [], ◌∷◌, ◌++◌, refl, sym, ap, ◌∙◌, subst}
+use Rattle.sdd_base.specs.State.{State, status_at, cell_at, with_cell, vacancy}
 use Rattle.sdd_base.specs.Steps.{released}
-use Rattle.sdd_base.specs.Place.{IsShared, IsSharedCell}
+use Rattle.sdd_base.specs.Place.{IsShared}
 use Rattle.sdd_base.specs.declared.tag.Tag.{Tag}
 use Rattle.sdd_base.specs.declared.tag.Tag.TheVariants as tag
 use Rattle.sdd_base.specs.declared.status.Status.TheVariants as status
 use Rattle.sdd_base.specs.declared.status.Cell.TheVariants as cell
-use Rattle.sdd.specs.Chain.{Entry, slots, links, IsOut, AreOut, IsItem, IsHung, IsLoose, HasLink, Leaves, Fits, CanHang}
+use Rattle.sdd.specs.Chain.{Entry, slots, links, IsOut, IsItem, IsHung, IsLoose, HasLink, Leaves, Fits, CanHang}
 use Rattle.sdd.specs.Queues.{last_slot, HasTwo, IsQueue, Follows}
-use Rattle.sdd.proofs.Chains.{hung_left, cell_left, item_left, item_shared, leaves_then, leaves_more, leaves_all, leaves_write, out_of_none, wrote_same, wrote_other, inside_cells, inside_states, some_same, some_nothing, head_cell, kept_same, Names}
+use Rattle.sdd.proofs.Chains.{hung_left, cell_left, item_left, leaves_then, leaves_more, leaves_all, leaves_write, out_of_none, wrote_same, inside_cells, inside_states, some_same, some_nothing, kept_same, Names}
 use Rattle.sdd.proofs.Releases.{leaves_released, spare_owner, out_of_one}
 
 -- the cell at the end of a list, and its tag

@@ -1,13 +1,13 @@
 -- walks along a list that hangs in a place
-use Rattle.std.proofs.Common.{◌≡◌, ◌≢◌, ℕ, zero, suc, ◌+◌, ◌<◌, ◌≤◌, Bool, true, false, Option, None, Some, List, [], ◌∷◌, length, get_or, set, refl, sym, ap, ◌∙◌, arith, length-set, subst, get_or-set_same, get_or-set_other, cond}
+use Rattle.std.proofs.Common.{◌≡◌, ℕ, zero, suc, ◌+◌, ◌<◌, ◌≤◌, Bool, true, false, Option, List, [], ◌∷◌, length, get_or, set, refl, sym, ap, ◌∙◌, arith, subst, get_or-set_other, cond}
 use Rattle.std.specs.List.{sum_by}
 use Rattle.std.proofs.lemmas.List.{nil_from_length}
 use Rattle.std.proofs.lemmas.List.Sums.{sum_by-set}
-use Rattle.sdd_base.specs.State.{State, status_at, usage, in_use}
+use Rattle.sdd_base.specs.State.{State, usage, in_use}
 use Rattle.sdd_base.specs.declared.tag.Tag.{Tag}
 use Rattle.sdd_base.specs.declared.status.Status.{Status}
 use Rattle.sdd_base.specs.declared.status.Status.TheVariants as status
-use Rattle.sdd.specs.Chain.{Entry, slots, links, IsOut, IsHung, Hangs, Begins, Skipped, Counted, deleted, skip, undeleted}
+use Rattle.sdd.specs.Chain.{Entry, slots, IsOut, IsHung, Hangs, Begins, Skipped, Counted, deleted, skip, undeleted}
 
 -- slots with items, none of them twice
 abbrev AreUsed : List Status → List ℕ → Type 0

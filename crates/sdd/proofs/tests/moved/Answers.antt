@@ -1,5 +1,4 @@
-use Rattle.std.proofs.Common.{[], ◌∷◌, sym}
-use Rattle.sdd_base.specs.Tokens.{shared_cell}
+use Rattle.std.proofs.Common.{[], ◌∷◌}
 use Rattle.sdd_base.specs.declared.tag.Tag.TheVariants as tag
 use Rattle.sdd.specs.Chain.{links, slots}
 use Rattle.sdd.specs.Entries.{entry_link}

@@ -1,5 +1,4 @@
 use Rattle.std.proofs.Common.{refl, ◌∙◌, arith}
-use Rattle.sdd_base.specs.Tokens.{shared_cell}
 use Rattle.sdd.proofs.Chains.{stays_then, stays_refl}
 use Rattle.sdd.proofs.Releases.{cut_start, cut_next, cleared_all, drop_hangs}
 use Rattle.sdd.proofs.world.chain.clear.Goals as goal

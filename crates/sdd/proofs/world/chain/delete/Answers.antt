@@ -1,4 +1,4 @@
-use Rattle.std.proofs.Common.{◌∙◌, ap, sym, ℕ, None, Some, Option}
+use Rattle.std.proofs.Common.{◌∙◌, ap, sym, ℕ, None, Option}
 use Rattle.sdd_base.specs.State.{cell_at, with_cell}
 use Rattle.sdd_base.specs.Tokens.{shared_cell, shared_slots}
 use Rattle.sdd_base.specs.declared.owner.Shared.{Shared}

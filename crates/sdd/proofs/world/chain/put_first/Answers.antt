@@ -1,5 +1,4 @@
 use Rattle.sdd_base.specs.Tokens.{shared_cell}
-use Rattle.sdd.specs.Chain.{HasLink}
 use Rattle.sdd.proofs.Chains.{head_cell, put_link, put_back, put_all}
 use Rattle.sdd.proofs.world.chain.put_first.Goals as goal
 

@@ -1,4 +1,4 @@
-use Rattle.std.proofs.Common.{◌≡◌, ◌∙◌, ◌+◌, ap, sym, ℕ}
+use Rattle.std.proofs.Common.{◌∙◌, ◌+◌, ap, sym, ℕ}
 use Rattle.sdd_base.specs.State.{status_at, with_status}
 use Rattle.sdd_base.specs.Tokens.{shared_cell}
 use Rattle.sdd_base.specs.declared.status.Status.TheVariants as status

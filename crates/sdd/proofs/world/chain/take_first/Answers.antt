@@ -1,6 +1,4 @@
-use Rattle.std.proofs.Common.{refl, sym}
 use Rattle.sdd_base.specs.Tokens.{shared_cell}
-use Rattle.sdd.specs.Chain.{IsHung}
 use Rattle.sdd.proofs.Chains.{head_cell, takes, took_linked, took_cell, took_back, took_all, took_none}
 use Rattle.sdd.proofs.world.chain.take_first.Goals as goal
 

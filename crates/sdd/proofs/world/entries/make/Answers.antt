@@ -1,4 +1,4 @@
-use Rattle.std.proofs.Common.{◌≡◌, ◌∙◌, sym, arith}
+use Rattle.std.proofs.Common.{◌∙◌, sym, arith}
 use Rattle.sdd.proofs.Making.{one_owner}
 use Rattle.sdd.proofs.world.entries.make.Goals as goal
 

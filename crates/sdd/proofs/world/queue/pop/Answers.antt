@@ -1,8 +1,8 @@
-use Rattle.std.proofs.Common.{◌≡◌, ◌∷◌, [], ◌∙◌, ap, sym, subst, ℕ, List, None}
+use Rattle.std.proofs.Common.{[], ◌∙◌, sym, subst, ℕ}
 use Rattle.std.proofs.lemmas.Bool.{false≢true}
 use Rattle.sdd_base.specs.Place.{IsShared}
 use Rattle.sdd_base.specs.declared.tag.Tag.TheVariants as tag
-use Rattle.sdd.specs.Chain.{Entry, skip, first_slot, undeleted, IsHung}
+use Rattle.sdd.specs.Chain.{skip}
 use Rattle.sdd.specs.Entries.{entry_link}
 use Rattle.sdd.specs.Queues.{oldest_cell, newest_cell, last_slot}
 use Rattle.sdd.proofs.Chains.{item_shared}

@@ -1,8 +1,5 @@
-use Rattle.std.proofs.Common.{List, [], ◌∷◌, ◌++◌, ◌∙◌, ap, sym, subst, ℕ}
-use Rattle.sdd_base.specs.Tokens.{shared_cell}
-use Rattle.sdd_base.specs.Place.{IsShared}
+use Rattle.std.proofs.Common.{List, [], ◌∷◌, ◌++◌, ◌∙◌, ap, sym, ℕ}
 use Rattle.sdd_base.specs.State.{vacancy, status_at}
-use Rattle.sdd_base.specs.declared.status.Status.TheVariants as status
 use Rattle.sdd.specs.Chain.{Entry, links, slots}
 use Rattle.sdd.specs.Entries.{entry_link}
 use Rattle.sdd.specs.Queues.{IsQueue, oldest_cell, newest_cell}

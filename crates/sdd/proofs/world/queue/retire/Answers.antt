@@ -1,12 +1,11 @@
-use Rattle.std.proofs.Common.{◌∷◌, [], ◌∙◌, ap, sym, subst, ℕ, List, None}
-use Rattle.sdd_base.specs.Tokens.{shared_cell}
+use Rattle.std.proofs.Common.{◌∷◌, ◌∙◌, ap, sym, subst, None}
 use Rattle.sdd_base.specs.declared.tag.Tag.TheVariants as tag
-use Rattle.sdd_base.specs.State.{State, IsFreeCell, cell_at, with_cell}
+use Rattle.sdd_base.specs.State.{State, IsFreeCell, cell_at}
 use Rattle.sdd_base.specs.declared.status.Cell.TheVariants as cell
 use Rattle.sdd.specs.Chain.{links, slots, Leaves}
 use Rattle.sdd.specs.Entries.{entry_link}
 use Rattle.sdd.specs.Queues.{oldest_cell, newest_cell, last_slot}
-use Rattle.sdd.proofs.Chains.{cell_left, free_other, wrote_other, leaves_then, leaves_more, leaves_write}
+use Rattle.sdd.proofs.Chains.{cell_left, free_other, wrote_other, leaves_write}
 use Rattle.sdd.proofs.Queues.{newest_live, forgot, emptied_leaves}
 use Rattle.sdd.proofs.world.queue.retire.Goals as goal
 

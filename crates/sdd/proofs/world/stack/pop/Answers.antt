@@ -1,4 +1,4 @@
-use Rattle.std.proofs.Common.{◌∷◌, [], ◌∙◌, sym, subst, ℕ, refl}
+use Rattle.std.proofs.Common.{◌∷◌, [], sym, subst, ℕ, refl}
 use Rattle.sdd_base.specs.Tokens.{shared_cell}
 use Rattle.sdd_base.specs.Place.{IsShared}
 use Rattle.sdd_base.specs.declared.tag.Tag.TheVariants as tag
