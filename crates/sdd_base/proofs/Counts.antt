@@ -1,13 +1,14 @@
 -- owners stay counted over every call
-use Rattle.std.proofs.Common.{◌≡◌, ◌≢◌, ℕ, zero, suc, ◌+◌, ◌-◌, ◌<◌, ◌≤◌, ◌==◌, Bool, true, false, Option, None, Some, List, [], ◌∷◌, ◌++◌, length, get_or, set, refl, sym, ap, ◌∙◌, arith, length-set, subst, cond, get_or-set_other, get_or-set_same, leb, inl, inr, is_some, reverse, ltb, ◌&&◌, replicate}
+use Rattle.std.proofs.Common.{◌≡◌, ◌≢◌, ℕ, zero, suc, ◌+◌, ◌-◌, ◌<◌, ◌≤◌, ◌==◌, true, false, Option, None, Some, List, [], ◌∷◌, ◌++◌, length, get_or, set, refl, sym, ap, ◌∙◌, arith, length-set, subst, cond, get_or-set_other, get_or-set_same, leb, inl, inr, is_some, reverse, ltb, ◌&&◌, replicate}
 use Rattle.std.specs.List.{sum_by}
 use Rattle.std.proofs.lemmas.List.Sums.{sum_by-set, sum_by-cons, sum_by-append}
 use Rattle.std.proofs.lemmas.Bool.{false≢true}
 use Rattle.std.proofs.lemmas.Bool.Decides.{nat_tests, eqb_tells}
 use Rattle.sdd_base.specs.Holding.{Hold, OwnedItem, SharedItem, OwnedIn, SharedIn}
-use Rattle.sdd_base.specs.State.{State, Member, status_at, value_at, cell_at, member_at, marks_at, placed, removed, waiting_as, IsIdle, with_status, with_cell, with_marks, retired, taken, vacated, weight, is_used, IsFree, IsFreeCell, rotated_bags, turned, raised, is_present, nobody, marked, fresh}
+use Rattle.sdd_base.specs.State.{State, Member, status_at, value_at, cell_at, member_at, marks_at, placed, with_value, changing, recalled, removed, waiting_as, IsIdle, with_status, with_cell, with_marks, retired, taken, vacated, weight, is_used, IsFree, IsFreeCell, rotated_bags, turned, raised, is_present, nobody, marked, fresh}
 use Rattle.sdd_base.specs.Steps.{overdue, purged, set_aside, handed, handed_as, hit, held_in, given, given_all, released_as, disowned_as, owned_ended_as, shared_ended_as, due_reclaimed, due_reclaimed_as, reclaimed, rotated, begun, opened, closed, scanned, scans, closings_after}
-use Rattle.sdd_base.specs.Place.{Sound, IsPlace, IsShared, IsOwned}
+use Rattle.sdd_base.proofs.Slots.{at_most}
+use Rattle.sdd_base.specs.Place.{Sound, IsPlace, IsShared, IsOwned, IsSharedCell}
 use Rattle.sdd_base.specs.Counting.{same_hold, tally, kept_by, single_owner, shared_owners, keeps_owned, keeps_shared, owners_of, Counted, OwnersAreCounted}
 use Rattle.sdd_base.specs.declared.status.Status.{Status}
 use Rattle.sdd_base.specs.declared.status.Status.TheVariants as status
@@ -16,7 +17,9 @@ use Rattle.sdd_base.specs.declared.status.Cell.TheVariants as cell
 use Rattle.sdd_base.specs.declared.status.Marks.{Marks}
 use Rattle.sdd_base.specs.declared.tag.Tag.{Tag}
 use Rattle.sdd_base.proofs.Lists.{hit-same, hit-other}
-use Rattle.sdd_base.proofs.Sounds.{inside_by, due_waiting, reclaims_next, sound_turned}
+use Rattle.sdd_base.specs.Dropping.{Dropped, undone, undone_times}
+use Rattle.sdd_base.proofs.Drops.{calls_recalled}
+use Rattle.sdd_base.proofs.Sounds.{inside_by, due_waiting, gives_given, reclaims_next, sound_turned}
 use Rattle.std.specs.List.{list_all}
 use Rattle.sdd_base.proofs.Privates.{overdue_noted, purges_next}
 use Rattle.std.proofs.lemmas.List.{length-reverse}
@@ -199,11 +202,17 @@ cell_inside (x ∷ cs) zero h = omega arith
 cell_inside (x ∷ cs) (suc c) h = let r = cell_inside cs c h in omega (arith, r)
 
 module _ {T : Type 0} (holds : T → List Hold) where
-  tally-cons : (h k : Hold) (ks : List Hold) → tally h (k ∷ ks) ≡ same_hold h k + tally h ks
+  pub tally-cons : (h k : Hold) (ks : List Hold) → tally h (k ∷ ks) ≡ same_hold h k + tally h ks
   tally-cons h k ks = sum_by-cons (λ k. same_hold h k) k ks
 
-  tally-append : (h : Hold) (ks ls : List Hold) → tally h (ks ++ ls) ≡ tally h ks + tally h ls
+  pub tally-append : (h : Hold) (ks ls : List Hold) → tally h (ks ++ ls) ≡ tally h ks + tally h ls
   tally-append h ks ls = sum_by-append (λ k. same_hold h k) ks ls
+
+  same_owners : (k : Hold) (w w' : State T) → w'.states ≡ w.states → w'.cells ≡ w.cells → owners_of k w' ≡ owners_of k w
+  same_owners (OwnedItem j) w w' b c = ap (λ (ss : List Status). single_owner (get_or ss j status.Free)) b
+  same_owners (SharedItem j) w w' b c = ap (λ (ss : List Status). shared_owners (get_or ss j status.Free)) b
+  same_owners (OwnedIn j) w w' b c = ap (λ (cs : List Cell). keeps_owned (get_or cs j cell.Free)) c
+  same_owners (SharedIn j) w w' b c = ap (λ (cs : List Cell). keeps_shared (get_or cs j cell.Free)) c
 
   pub counted_same : (hand : List Hold) (w w' : State T) → w'.values ≡ w.values → w'.states ≡ w.states → w'.cells ≡ w.cells → Counted holds hand w → Counted holds hand w'
   counted_same hand w w' a b c h = record {
@@ -212,12 +221,6 @@ module _ {T : Type 0} (holds : T → List Hold) where
         let e = ap (sum_by (λ c. tally k (kept_by c))) c in
         omega (arith, v, e, h.each k, same_owners k w w' b c);
   }
-    where
-      same_owners : (k : Hold) (w w' : State T) → w'.states ≡ w.states → w'.cells ≡ w.cells → owners_of k w' ≡ owners_of k w
-      same_owners (OwnedItem j) w w' b c = ap (λ (ss : List Status). single_owner (get_or ss j status.Free)) b
-      same_owners (SharedItem j) w w' b c = ap (λ (ss : List Status). shared_owners (get_or ss j status.Free)) b
-      same_owners (OwnedIn j) w w' b c = ap (λ (cs : List Cell). keeps_owned (get_or cs j cell.Free)) c
-      same_owners (SharedIn j) w w' b c = ap (λ (cs : List Cell). keeps_shared (get_or cs j cell.Free)) c
 
   has_one_single : (i : ℕ) (hand : List Hold) (w : State T) → Counted holds (OwnedItem i ∷ hand) w → 1 ≤ single_owner (status_at w i)
   has_one_single i hand w h = let e = h.each (OwnedItem i) in omega (arith, e, tally-cons (OwnedItem i) (OwnedItem i) hand, hit-same i)
@@ -383,7 +386,7 @@ module _ {T : Type 0} (holds : T → List Hold) where
   }
 
   -- what is due is taken: what it held is in hand
-  counted_taken : (p i : ℕ) (is : List ℕ) (hand : List Hold) (w : State T) → Sound w → i < length w.states → weight (status_at w i) ≡ 1 → Counted holds hand w → Counted holds (held_in holds (value_at w i) ++ hand) (taken p i is w)
+  pub counted_taken : (p i : ℕ) (is : List ℕ) (hand : List Hold) (w : State T) → Sound w → i < length w.states → weight (status_at w i) ≡ 1 → Counted holds hand w → Counted holds (held_in holds (value_at w i) ++ hand) (taken p i is w)
   counted_taken p i is hand w sound inside heavy h = record {
     each = λ k.
         let u : Uses w (taken p i is w) i (vacated (status_at w i)) = record { states = refl; cells = refl; inside = inside } in
@@ -413,6 +416,46 @@ module _ {T : Type 0} (holds : T → List Hold) where
       let hr : Counted holds hand r = counted_reclaimed p (length m.oldest) hand u (member_at u p).due refl (ap length due ∙ length-reverse m.oldest) (sound_turned w p place.sound known (place.idle p)) (omega (arith, length-set w.members p (turned m))) (counted_same hand w u refl refl refl h) in
       counted_same hand r _ refl refl refl hr
 
+  -- what dropping goes through
+  record Dropping (p : ℕ) (hand : List Hold) (w : State T) : Type 0 where
+    pub known : p < length w.members
+    pub sound : Sound w
+    pub idle : (member_at w p).due ≡ []
+    pub counted : Counted holds hand w
+
+  dropping_next : (p : ℕ) (hand : List Hold) (w : State T) → Dropping p hand w → Dropping p hand (undone holds p w)
+  dropping_next p hand w d =
+      let r : State T = changing p recalled w in
+      let c = calls_recalled w p d.sound d.known d.idle in
+      let h : Counted holds hand r = counted_same hand w r refl refl refl d.counted in
+      elim c.due [
+        | inl e ↦
+            let same : Dropping p hand r = record { known = c.known; sound = c.sound; idle = e; counted = h } in
+            subst (λ (is : List ℕ). Dropping p hand (due_reclaimed_as holds p is r)) (sym e) same
+        | inr e ↦
+            let x = reclaims_next holds r p e.0 [] c.sound c.known e.1 in
+            record { known = omega (arith, x.known, c.known); sound = x.sound; idle = x.due; counted = counted_next p e.0 [] hand r c.sound c.known e.1 h }
+      ]
+
+  dropping_all : (n p : ℕ) (hand : List Hold) (w : State T) → Dropping p hand w → Dropping p hand (undone_times holds p n w)
+  dropping_all zero p hand w d = d
+  dropping_all (suc n) p hand w d = dropping_next p hand (undone_times holds p n w) (dropping_all n p hand w d)
+
+  counted_dropped : (h : Hold) (hand : List Hold) (w w' : State T) → IsPlace w → Counted holds (h ∷ hand) w → Dropped holds h w w' → Counted holds hand w'
+  counted_dropped h hand w w' place c d =
+      let g = gives_given w 0 h place.sound place.some in
+      let start : Dropping 0 hand (given 0 h w) = record { known = omega (arith, g.known, place.some); sound = g.sound; idle = g.due ∙ place.idle 0; counted = counted_given 0 h hand w c } in
+      let v : State T = undone_times holds 0 d.turns (given 0 h w) in
+      let end : Counted holds hand (with_marks 0 (marks_at w 0) v) = counted_same hand v _ refl refl refl (dropping_all d.turns 0 hand (given 0 h w) start).counted in
+      subst (λ (s : State T). Counted holds hand s) (sym d.now) end
+
+  counted_written : (i : ℕ) (u v : T) (hand : List Hold) (w : State T) → i < length w.values → value_at w i ≡ Some u → Counted holds (holds v ++ hand) w → Counted holds (holds u ++ hand) (with_value i v w)
+  counted_written i u v hand w inside was h = record {
+    each = λ k.
+        let old = ap (λ (o : Option T). tally k (held_in holds o)) was in
+        omega (arith, h.each k, old, same_owners k w (with_value i v w) refl refl, tally-append k (holds v) hand, tally-append k (holds u) hand, sum_by-set (λ o. tally k (held_in holds o)) w.values i (Some v) None inside);
+  }
+
   pub counted_opened : (p : ℕ) (hand : List Hold) (w : State T) → IsPlace w → p < length w.members → Counted holds hand w → Counted holds hand (opened holds p w)
   counted_opened p hand w place known h =
       let m = marks_at w p in
@@ -439,6 +482,33 @@ module _ {T : Type 0} (holds : T → List Hold) where
 
   pub names_owned : (i : ℕ) (hand : List Hold) (w : State T) → Counted holds (OwnedItem i ∷ hand) w → IsOwned w i
   names_owned i hand w h = owned_there w i (status_at w i) refl (has_one_single i hand w h)
+
+  shared_cell_there : (w : State T) (c : ℕ) (k : Cell) → k ≡ cell_at w c → 1 ≤ keeps_shared k → IsSharedCell w c
+  shared_cell_there w c cell.Free e h = absurd (omega (arith, h))
+  shared_cell_there w c (cell.OfOwned o t) e h = absurd (omega (arith, h))
+  shared_cell_there w c (cell.OfShared o t) e h = record { inside = cell_inside w.cells c (λ f. let g : cell.OfShared o t ≡ cell.Free = e ∙ f in cc); item = o; tag = t; is = sym e }
+  shared_cell_there w c (cell.OfRaw o t) e h = absurd (omega (arith, h))
+
+  kept_there : (c i : ℕ) (t : Tag) (hand : List Hold) (w : State T) → cell_at w c ≡ cell.OfShared (Some i) t → Counted holds hand w → IsShared w i
+  kept_there c i t hand w is h =
+      let m = at_most (λ k. tally (SharedItem i) (kept_by k)) w.cells c cell.Free refl in
+      let was : tally (SharedItem i) (kept_by (cell_at w c)) ≡ tally (SharedItem i) (SharedItem i ∷ []) = ap (λ (k : Cell). tally (SharedItem i) (kept_by k)) is in
+      let e = h.each (SharedItem i) in
+      shared_there w i (status_at w i) refl (omega (arith, m, was, e, tally-cons (SharedItem i) (SharedItem i) [], hit-same i))
+
+  held_there : (i j : ℕ) (v : T) (hand : List Hold) (w : State T) → value_at w j ≡ Some v → 1 ≤ tally (SharedItem i) (holds v) → Counted holds hand w → IsShared w i
+  held_there i j v hand w was some h =
+      let m = at_most (λ o. tally (SharedItem i) (held_in holds o)) w.values j None refl in
+      let is = ap (λ (o : Option T). tally (SharedItem i) (held_in holds o)) was in
+      let e = h.each (SharedItem i) in
+      shared_there w i (status_at w i) refl (omega (arith, m, is, e, some))
+
+  cell_there : (c j : ℕ) (v : T) (hand : List Hold) (w : State T) → value_at w j ≡ Some v → 1 ≤ tally (SharedIn c) (holds v) → Counted holds hand w → IsSharedCell w c
+  cell_there c j v hand w was some h =
+      let m = at_most (λ o. tally (SharedIn c) (held_in holds o)) w.values j None refl in
+      let is = ap (λ (o : Option T). tally (SharedIn c) (held_in holds o)) was in
+      let e = h.each (SharedIn c) in
+      shared_cell_there w c (cell_at w c) refl (omega (arith, m, is, e, some))
 
   counted_fresh : (n : Sizes) → Counted holds [] (fresh n)
   counted_fresh n = record {
@@ -533,10 +603,16 @@ module _ {T : Type 0} (holds : T → List Hold) where
   owners_are_counted = record {
     shared = names_shared;
     owned = names_owned;
+    kept = kept_there;
+    held = held_there;
+    cell_in_hand = λ c hand w h. shared_cell_there w c (cell_at w c) refl (has_shared_cell c hand w h);
+    cell_in_item = cell_there;
     placed_shared = counted_placed_shared;
     placed_owned = counted_placed_owned;
     cloned = counted_cloned;
     given = counted_given;
+    dropped = counted_dropped;
+    written = counted_written;
     opened = counted_opened;
     closed = counted_closed;
     cell_made = cell_made_shared;

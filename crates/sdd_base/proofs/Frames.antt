@@ -1,11 +1,10 @@
 -- what each call leaves alone
-use Rattle.std.proofs.Common.{◌≡◌, ◌≢◌, ℕ, zero, suc, ◌+◌, ◌-◌, ◌<◌, ◌≤◌, ◌==◌, ◌&&◌, Bool, true, false, Option, None, Some, List, [], ◌∷◌, length, get_or, set, refl, sym, ap, ◌∙◌, arith, length-set, subst, cond, get_or-set_same, get_or-set_other, inl, inr, is_some, ltb}
+use Rattle.std.proofs.Common.{◌≡◌, ◌≢◌, ℕ, ◌+◌, ◌-◌, ◌<◌, ◌≤◌, ◌==◌, ◌&&◌, Bool, true, false, Option, None, Some, List, [], ◌∷◌, length, get_or, set, refl, sym, ap, ◌∙◌, arith, length-set, subst, cond, get_or-set_same, get_or-set_other, inl, inr, is_some, ltb}
 use Rattle.std.specs.List.{list_all, sum_by}
-use Rattle.std.proofs.lemmas.List.Sums.{sum_by-cons}
 use Rattle.std.proofs.lemmas.Bool.{false≢true}
 use Rattle.std.proofs.lemmas.Bool.Decides.{eqb_tells}
 use Rattle.sdd_base.specs.Holding.{Hold}
-use Rattle.sdd_base.specs.State.{State, Member, nobody, status_at, value_at, member_at, marks_at, is_used, weight, with_marks, marked, with_status, placed, removed, with_cell, raised, is_present}
+use Rattle.sdd_base.specs.State.{State, Member, nobody, status_at, value_at, member_at, marks_at, is_used, weight, with_marks, marked, with_status, placed, with_cell, raised, is_present}
 use Rattle.sdd_base.specs.Steps.{times, begun, rotated, opened, closed, scanned, scans, closings_after}
 use Rattle.sdd_base.specs.Place.{Sound, IsPlace, IsOpen, IsShared, IsOwnedCell, IsSharedCell, IsRawCell, held_times}
 use Rattle.sdd_base.specs.declared.tag.Tag.{Tag}
@@ -14,9 +13,9 @@ use Rattle.sdd_base.specs.Frame.{has_owner, IsLive, Protects, Keeps, OnlyOf, IsR
 use Rattle.sdd_base.specs.declared.status.Status.{Status}
 use Rattle.sdd_base.specs.declared.status.Status.TheVariants as status
 use Rattle.sdd_base.specs.declared.status.Marks.{Marks}
-use Rattle.sdd_base.proofs.Sounds.{Gives, Leaves, leaves, Calms, calms, Calm, calm, bag_waits, weight_same}
+use Rattle.sdd_base.proofs.Sounds.{Gives, Leaves, leaves, Calms, calms, Calm, bag_waits, weight_same}
 use Rattle.sdd_base.proofs.Slots.{at_most}
-use Rattle.sdd_base.proofs.Places.{calm_at, Rotates, rotates, place_begun, scanned-known, place_by}
+use Rattle.sdd_base.proofs.Places.{calm_at, rotates, place_begun}
 
 pub keeps_refl : {T : Type 0} (w : State T) → Keeps w w
 keeps_refl w = record { states = refl; cells = refl; members = refl; lives = λ i l. refl; protects = λ q i o o' h. (refl, h) }
@@ -228,6 +227,7 @@ place_placed {T} w i v s h inside was light used =
           | inr t ↦ ap is_some (get_or-set_other w.values i j (Some v) None t.1) ∙ h.sound.filled j ∙ sym (ap is_used (get_or-set_other w.states i j s status.Free t.1))
         ];
       };
+      some = h.some;
       idle = h.idle;
       past = h.past;
       began = h.began;

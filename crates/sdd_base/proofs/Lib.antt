@@ -8,3 +8,6 @@ pub mod Sweeps
 pub mod Counts
 pub mod Privates
 pub mod Passes
+pub mod Drops
+pub mod Notes
+pub mod Cells

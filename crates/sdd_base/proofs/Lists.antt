@@ -1,14 +1,12 @@
 -- names of the places whose use weighs 1, as that use changes
-use Rattle.std.proofs.Common.{◌≡◌, ◌≢◌, ℕ, zero, suc, ◌+◌, ◌<◌, ◌≤◌, List, [], ◌∷◌, ◌++◌, length, map, get_or, set, refl, sym, ap, ◌∙◌, arith, length-set, subst, get_or-set_same, get_or-set_other, inl, inr, vec_capacity}
-use Rattle.std.specs.List.{sum_by}
-use Rattle.std.specs.Global.{Vec}
-use Rattle.std.proofs.lemmas.List.{map-set, length-map, length-append, get_or-map, get_or_append_left, get_or-append_right}
+use Rattle.std.proofs.Common.{◌≡◌, ◌≢◌, ℕ, zero, suc, ◌+◌, ◌<◌, ◌≤◌, List, [], ◌∷◌, ◌++◌, length, map, get_or, set, refl, sym, ap, ◌∙◌, arith, subst, get_or-set_same, get_or-set_other, inl, inr}
+use Rattle.std.proofs.lemmas.List.{map-set, length-map, length-append, get_or-map}
 use Rattle.std.proofs.lemmas.List.{map-append}
-use Rattle.std.proofs.lemmas.List.Sums.{sum_by-set, sum_by-cons, sum_by-append, get_or-le-sum_by}
+use Rattle.std.proofs.lemmas.List.Sums.{sum_by-set, sum_by-cons, sum_by-append}
 use Rattle.std.proofs.lemmas.Bool.Decides.{nat_tests, eqb_tells}
 use Rattle.std.proofs.Math.Seq.{map-set_same}
 use Rattle.sdd_base.specs.Steps.{times, hit}
-use Rattle.sdd_base.specs.View.{Lists, IsStack}
+use Rattle.sdd_base.specs.View.{Lists}
 
 pub hit-same : (i : ℕ) → hit i i ≡ 1
 hit-same i = grind (arith, nat_tests)

@@ -1,13 +1,13 @@
 -- accelerated guards of one participant reclaim level by level
-use Rattle.std.proofs.Common.{◌≡◌, ◌≢◌, ℕ, zero, suc, ◌+◌, ◌-◌, ◌<◌, ◌≤◌, ◌==◌, ◌&&◌, ◌||◌, Bool, true, false, Option, None, Some, List, [], ◌∷◌, ◌++◌, length, get_or, set, reverse, refl, sym, ap, ◌∙◌, arith, length-set, subst, cond, get_or-set_same, get_or-set_other, inl, inr, ◌⊎◌, leb, ltb, is_some, not}
-use Rattle.std.specs.List.{list_all, sum_by}
+use Rattle.std.proofs.Common.{◌≡◌, ◌≢◌, ℕ, zero, suc, ◌+◌, ◌-◌, ◌<◌, ◌≤◌, ◌==◌, ◌&&◌, ◌||◌, Bool, true, false, Option, None, Some, List, [], ◌∷◌, length, get_or, set, reverse, refl, sym, ap, ◌∙◌, arith, length-set, subst, cond, get_or-set_same, get_or-set_other, inl, inr, ◌⊎◌, leb, ltb, is_some, not}
+use Rattle.std.specs.List.{list_all}
 use Rattle.std.proofs.lemmas.Bool.{false≢true}
 use Rattle.std.proofs.lemmas.Bool.Decides.{eqb_tells, nat_tests}
 use Rattle.std.proofs.lemmas.List.{length-reverse}
 use Rattle.std.proofs.lemmas.List.Sums.{sum_by-cons}
 use Rattle.sdd_base.specs.Holding.{Hold, OwnedItem, SharedItem, OwnedIn, SharedIn}
 use Rattle.sdd_base.specs.State.{State, Member, nobody, status_at, value_at, cell_at, member_at, marks_at, with_marks, marked, with_status, with_cell, retired, put_member, taken, left_due, vacated, rotated_bags, turned, raised, is_present, is_used, weight}
-use Rattle.sdd_base.specs.Steps.{hit, times, released_as, disowned_as, owned_ended_as, shared_ended_as, given, given_all, held_in, due_reclaimed, due_reclaimed_as, reclaimed, rotated, settled, begun, opened, closed, scanned, scans, closings_after, bags_empty, is_nil, NoneOpen}
+use Rattle.sdd_base.specs.Steps.{hit, times, released_as, disowned_as, owned_ended_as, shared_ended_as, given, given_all, held_in, due_reclaimed, due_reclaimed_as, reclaimed, rotated, begun, opened, closed, scanned, scans, closings_after, bags_empty, is_nil}
 use Rattle.sdd_base.specs.Place.{Sound, IsPlace, IsOpen, held_times}
 use Rattle.sdd_base.specs.Frame.{OnlyOf}
 use Rattle.sdd_base.specs.Counting.{tally, same_hold}
@@ -19,7 +19,7 @@ use Rattle.sdd_base.specs.declared.status.Cell.TheVariants as cell
 use Rattle.sdd_base.specs.declared.status.Marks.{Marks}
 use Rattle.sdd_base.proofs.Lists.{hit-same, hit-other, times-append}
 use Rattle.sdd_base.proofs.Sounds.{reclaims_next, sound_turned, sound_taken, due_waiting, times_reversed, bag_waits, gives_given}
-use Rattle.sdd_base.proofs.Places.{Rotates, rotates, place_opened, place_marks, place_closed, place_begun, all_present}
+use Rattle.sdd_base.proofs.Places.{rotates, place_marks, place_closed, place_begun}
 
 -- what is set in a list of statuses or cells was there, or is what is set
 status_before : (ss : List Status) (i j : ℕ) (s : Status) → s ≢ status.Deferred → get_or (set ss i s) j status.Free ≡ status.Deferred → get_or ss j status.Free ≡ status.Deferred

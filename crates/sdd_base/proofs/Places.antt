@@ -1,20 +1,18 @@
 -- each call leaves a place of one thread
-use Rattle.std.proofs.Common.{◌≡◌, ◌≢◌, ℕ, zero, suc, ◌+◌, ◌-◌, ◌<◌, ◌≤◌, ◌==◌, ◌&&◌, Bool, true, false, List, [], ◌∷◌, ◌++◌, length, get_or, set, refl, sym, ap, ◌∙◌, arith, length-set, subst, reverse, cond, get_or-set_same, get_or-set_other, inl, inr, not, Some, None, Option, ltb, replicate, map, is_some}
-use Rattle.std.specs.List.{list_all, sum_by, All}
+use Rattle.std.proofs.Common.{◌≡◌, ◌≢◌, ℕ, zero, suc, ◌+◌, ◌-◌, ◌<◌, ◌≤◌, ◌==◌, ◌&&◌, Bool, true, false, List, [], ◌∷◌, ◌++◌, length, get_or, refl, sym, ap, ◌∙◌, arith, length-set, subst, reverse, cond, get_or-set_same, get_or-set_other, inl, inr, not, None, ltb, replicate, is_some}
+use Rattle.std.specs.List.{list_all, sum_by}
 use Rattle.std.proofs.lemmas.Bool.{false≢true}
 use Rattle.std.proofs.lemmas.Bool.Decides.{eqb_tells, nat_tests}
 use Rattle.std.proofs.lemmas.List.{length-reverse, length-replicate, length-append}
 use Rattle.std.proofs.lemmas.List.Folds.{sum_by-replicate}
 use Rattle.sdd_base.specs.Holding.{Hold}
-use Rattle.sdd_base.specs.State.{State, Member, member_at, nobody, turned, rotated_bags, with_marks, marked, placed, weight, status_at, value_at, is_used, marks_at, raised, is_present, fresh, occupied}
-use Rattle.sdd_base.specs.Steps.{times, reclaimed, due_reclaimed, rotated, settled, begun, opened, closed, scanned, bags_empty, scans, closings_after}
-use Rattle.sdd_base.specs.Place.{Sound, IsPlace, IsOpen, held_times}
+use Rattle.sdd_base.specs.State.{State, Member, member_at, nobody, turned, rotated_bags, with_marks, marked, weight, status_at, value_at, is_used, marks_at, raised, is_present, fresh, occupied}
+use Rattle.sdd_base.specs.Steps.{times, reclaimed, rotated, begun, opened, closed, scanned, bags_empty, scans, closings_after}
+use Rattle.sdd_base.specs.Place.{IsPlace, IsOpen, held_times}
 use Rattle.sdd_base.specs.declared.sizes.Sizes.{Sizes}
-use Rattle.sdd_base.specs.declared.status.Status.{Status}
 use Rattle.sdd_base.specs.declared.status.Status.TheVariants as status
-use Rattle.sdd_base.specs.declared.status.Cell.TheVariants as cell
 use Rattle.sdd_base.specs.declared.status.Marks.{Marks}
-use Rattle.sdd_base.proofs.Sounds.{sound_turned, sound_marks, times_reversed, Gives, Leaves, leaves, Calms, calms, Calm, calm, RunsOut, runs_out}
+use Rattle.sdd_base.proofs.Sounds.{sound_turned, sound_marks, times_reversed, Gives, Leaves, leaves, Calms, calms, Calm, calm, runs_out}
 
 -- what giving leaves of every participant
 pub calm_at : {T : Type 0} (p : ℕ) (w w' : State T) → Calms p w w' → (k : ℕ) → calm (member_at w' k) ≡ calm (member_at w k)
@@ -27,6 +25,7 @@ calm_at p w w' g k =
 pub place_calms : {T : Type 0} (w w' : State T) (p : ℕ) → IsPlace w → Calms p w w' → IsPlace w'
 place_calms w w' p h g = record {
   sound = g.sound;
+  some = omega (arith, g.known, h.some);
   idle = λ k. elim (eqb_tells k p) [
     | inl t ↦ let P : ℕ → Type 0 = λ j. (member_at w' j).due ≡ [] in let here : P p = g.due ∙ h.idle p in subst P (sym t.1) here
     | inr t ↦ ap (λ (m : Member). m.due) (g.others k t.1) ∙ h.idle k
@@ -61,6 +60,7 @@ place_marks {T} w p k h known f =
     let other : (j : ℕ) → j ≢ p → member_at w' j ≡ member_at w j = λ j n. get_or-set_other w.members p j (marked k (member_at w p)) nobody n in
     record {
       sound = sound_marks w p k h.sound known;
+      some = omega (arith, h.some, length-set w.members p (marked k (member_at w p)));
       idle = λ j. elim (eqb_tells j p) [
         | inl t ↦ let P : ℕ → Type 0 = λ i. (member_at w' i).due ≡ [] in let here : P p = ap (λ (m : Member). m.due) at ∙ h.idle p in subst P (sym t.1) here
         | inr t ↦ ap (λ (m : Member). m.due) (other j t.1) ∙ h.idle j
@@ -114,6 +114,7 @@ rotates {T} holds w p h known =
     let knownr : p < length r.members = omega (arith, o.known, sizeu) in
     let placer : IsPlace r = record {
       sound = o.sound;
+      some = omega (arith, h.some, o.known, sizeu);
       idle = λ k. elim (eqb_tells k p) [
         | inl t ↦ let P : ℕ → Type 0 = λ j. (member_at r j).due ≡ [] in let here : P p = o.due in subst P (sym t.1) here
         | inr t ↦ ap (λ (m : Member). m.due) (othersr k t.1) ∙ h.idle k
@@ -200,6 +201,7 @@ place_scanned {T} w h =
           let all : list_all (is_present w.count) w.members ≡ true = first_one _ _ e in
           record {
             sound = record { sizes = h.sound.sizes; once = h.sound.once; filled = h.sound.filled };
+            some = h.some;
             idle = h.idle;
             past = λ k. omega (arith, h.past k);
             began = λ k o. omega (arith, h.began k o);
@@ -234,8 +236,8 @@ fresh_status zero (suc n) (suc j) = fresh_status zero n j
 fresh_status (suc m) n zero = (refl, refl)
 fresh_status (suc m) n (suc j) = fresh_status m n j
 
-pub place_fresh : {T : Type 0} (n : Sizes) (w : State T) → w ≡ fresh n → IsPlace w
-place_fresh {T} n w e =
+pub place_fresh : {T : Type 0} (n : Sizes) (w : State T) → 1 ≤ n.participants → w ≡ fresh n → IsPlace w
+place_fresh {T} n w some e =
     let u : State T = fresh n in
     let who : (k : ℕ) → member_at u k ≡ nobody = λ k. get_or-replicate_default n.participants k nobody in
     let closed' : (k : ℕ) → (marks_at u k).nesting ≡ 0 = λ k. ap (λ (m : Member). m.marks.nesting) (who k) in
@@ -245,6 +247,7 @@ place_fresh {T} n w e =
         once = λ j. sum_by-replicate (held_times j) n.participants nobody ∙ omega arith ∙ sym (fresh_status n.slots n.jobs j).0;
         filled = λ j. ap is_some (get_or-replicate_default (n.slots + n.jobs) j None) ∙ sym (fresh_status n.slots n.jobs j).1;
       };
+      some = omega (arith, some, length-replicate n.participants nobody);
       idle = λ k. ap (λ (m : Member). m.due) (who k);
       past = λ k. let same = ap (λ (m : Member). m.marks.previous) (who k) in omega (arith, same);
       began = λ k o. absurd (omega (arith, closed' k, o));

@@ -1,18 +1,17 @@
 -- what private bags leave of a place
-use Rattle.std.proofs.Common.{◌≡◌, ◌≢◌, ℕ, zero, suc, ◌+◌, ◌-◌, ◌<◌, ◌≤◌, ◌==◌, Bool, true, false, Option, None, Some, List, [], ◌∷◌, ◌++◌, length, get_or, set, refl, sym, ap, ◌∙◌, arith, length-set, subst, cond, get_or-set_other, get_or-set_same, leb, ltb, inl, inr, is_some}
-use Rattle.std.specs.List.{sum_by}
+use Rattle.std.proofs.Common.{◌≡◌, ◌≢◌, ℕ, ◌+◌, ◌-◌, ◌<◌, ◌≤◌, Bool, true, false, Option, None, List, [], ◌∷◌, length, get_or, set, refl, sym, ap, ◌∙◌, arith, length-set, subst, cond, get_or-set_other, get_or-set_same, leb, ltb, inl, inr, is_some}
 use Rattle.std.proofs.lemmas.Bool.{false≢true}
 use Rattle.std.proofs.lemmas.Bool.Decides.{nat_tests, eqb_tells}
 use Rattle.sdd_base.specs.Holding.{Hold}
-use Rattle.sdd_base.specs.State.{State, Member, status_at, value_at, member_at, marks_at, is_used, weight, with_status, retired, removed}
+use Rattle.sdd_base.specs.State.{State, status_at, value_at, member_at, marks_at, is_used, weight, with_status, retired, removed}
 use Rattle.sdd_base.specs.Steps.{given_all, held_in, overdue, IsTimely, purged, left_waiting, set_aside, handed, handed_as, times, released, released_as}
 use Rattle.sdd_base.specs.Place.{Sound, IsPlace, IsOpen, IsShared}
 use Rattle.sdd_base.specs.Frame.{has_owner, IsLive, Protects, Keeps, OnlyOf}
 use Rattle.sdd_base.specs.declared.status.Status.{Status}
 use Rattle.sdd_base.specs.declared.status.Status.TheVariants as status
-use Rattle.sdd_base.proofs.Sounds.{Gives, Leaves, leaves, Calms, calms, leaves_refl, leaves_then, leaves_waiting, gives_all, gives_retired, gives_status, Calm, calm, weight_same, noted_set, gone_at, inside_by, sound_status}
+use Rattle.sdd_base.proofs.Sounds.{Leaves, leaves, Calms, calms, leaves_refl, leaves_then, gives_all, gives_retired, gives_status, Calm, calm, weight_same, noted_set, gone_at, inside_by, sound_status}
 use Rattle.sdd_base.proofs.Places.{calm_at, place_calms, place_leaves}
-use Rattle.sdd_base.proofs.Frames.{keeps_leaves, live_light, live_used}
+use Rattle.sdd_base.proofs.Frames.{keeps_leaves}
 
 module _ {T : Type 0} where
   -- a slot that waited in no bag is free
@@ -136,7 +135,7 @@ module _ {T : Type 0} (holds : T → List Hold) where
 
 module _ {T : Type 0} where
   purges_calm : (p : ℕ) (w w' : State T) → Purges p w w' → Calms p w w'
-  purges_calm p w w' g = record { count = g.count; due = g.due; calm = g.calm; others = g.others; sound = g.sound }
+  purges_calm p w w' g = record { count = g.count; known = g.known; due = g.due; calm = g.calm; others = g.others; sound = g.sound }
 
   pub place_purged : (p : ℕ) (w w' : State T) → IsPlace w → Purges p w w' → IsPlace w'
   place_purged p w w' h g = place_calms w w' p h (purges_calm p w w' g)
@@ -218,8 +217,8 @@ module _ {T : Type 0} where
           );
         };
         only = λ k n. refl;
-        calm = record { count = refl; due = refl; calm = refl; others = λ k n. refl; sound = sound_status w i s h.sound inside (sym light) (sym used) };
-        place = record { sound = sound_status w i s h.sound inside (sym light) (sym used); idle = h.idle; past = h.past; began = h.began; near = h.near };
+        calm = record { count = refl; known = refl; due = refl; calm = refl; others = λ k n. refl; sound = sound_status w i s h.sound inside (sym light) (sym used) };
+        place = record { sound = sound_status w i s h.sound inside (sym light) (sym used); some = h.some; idle = h.idle; past = h.past; began = h.began; near = h.near };
         timely = λ j l. timely_set w.count w.states i j s inside new (live_timely w.count (status_at w j) l);
       }
 

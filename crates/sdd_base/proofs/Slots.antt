@@ -1,5 +1,5 @@
 -- what a change of one place and one participant leaves of the store
-use Rattle.std.proofs.Common.{◌≡◌, ◌≢◌, ℕ, zero, suc, ◌+◌, ◌<◌, ◌≤◌, ◌-◌, ◌*◌, ◌==◌, Bool, true, false, Option, List, [], ◌∷◌, ◌++◌, length, map, get_or, set, refl, sym, ap, ◌∙◌, arith, length-set, vec_capacity, vec_len, is_some, subst, reverse, ◌&&◌, None, Some, MatchOption, cond, replicate}
+use Rattle.std.proofs.Common.{◌≡◌, ◌≢◌, ℕ, zero, suc, ◌+◌, ◌<◌, ◌≤◌, ◌-◌, ◌==◌, Bool, true, false, Option, List, [], ◌∷◌, ◌++◌, length, map, get_or, set, refl, sym, ap, ◌∙◌, arith, length-set, vec_capacity, vec_len, is_some, subst, reverse, ◌&&◌, None, Some, MatchOption, cond, replicate}
 use Rattle.std.specs.List.{sum_by, All, list_all}
 use Rattle.std.proofs.lemmas.List.{map-set, get_or-map, length-map}
 use Rattle.std.specs.Vec.{with_item}
@@ -104,6 +104,17 @@ has_room n ss ms i p q e waits room inside light known is =
     let cap = mine.current in
     let same = ap waiting is in
     let caps = ap (λ (x : Participant). vec_capacity x.current) is in
+    omega arith
+
+-- where a place waits in the current bag, there is room for it among what is due
+pub due_room : (n : ℕ) (ss : List Status) (ms : List Participant) (p : ℕ) (q : Participant) → n ≡ length ss → sum_by waiting ms ≤ sum_by weight ss → All (HasRoom n) ms → p < length ms → q ≡ get_or ms p q → length q.current.items ≢ 0 → length q.due.items < vec_capacity q.due
+due_room n ss ms p q e waits room known is some =
+    let all = weight-le ss in
+    let part = get_or-le-sum_by waiting ms p q known in
+    let mine : HasRoom n (get_or ms p q) = All-get_or (HasRoom n) ms p q known room in
+    let cap = mine.due in
+    let same = ap waiting is in
+    let caps = ap (λ (x : Participant). vec_capacity x.due) is in
     omega arith
 
 pub get_or-map_at : (ms : List Participant) (p : ℕ) (q : Participant) → p < length ms → q ≡ get_or ms p q → get_or (map member_of ms) p nobody ≡ member_of q
@@ -235,6 +246,24 @@ no_value a i x h is e n =
     let t = value_there a i h in
     let f : false ≡ is_some (get_or a.values.items i None) = ap is_some there in
     cc
+
+-- a slot that is used has a value
+pub some_value : {T X : Type 0} {V : X → Type 0} (a : Inside T X V) (i : ℕ) (x : Option T) → IsTable a → is_used (get_or a.states.items i status.Free) ≡ true → x ≡ get_or a.values.items i x → is_some x ≡ true
+some_value a i None h is e = absurd (no_value a i None h is e refl)
+some_value a i (Some v) h is e = refl
+
+-- another value in a slot that is used
+pub written_invariant : {T X : Type 0} {V : X → Type 0} (a : Inside T X V) (i : ℕ) (v : T) → IsTable a → is_used (get_or a.states.items i status.Free) ≡ true → IsTable (record a { values = with_item a.values i (Some v) })
+written_invariant a i v h is = record {
+  filled = map-set_same is_some a.values.items i (Some v) None (sym (value_there a i h ∙ is)) ∙ h.filled;
+  tally = h.tally;
+  room = h.room;
+  waits = h.waits;
+  kinds = h.kinds;
+  slots = h.slots;
+  places = h.places;
+  cells = h.cells;
+}
 
 pub a_value : {T X : Type 0} {V : X → Type 0} (a : Inside T X V) (i : ℕ) (x : Option T) (v : T) → IsTable a → i < length a.states.items → is_used (get_or a.states.items i status.Free) ≡ false → x ≡ get_or a.values.items i x → x ≡ Some v → ⊥
 a_value a i x v h inside is e n =

@@ -1,14 +1,14 @@
 -- what each step of a participant leaves: lengths, other participants, times, and that a place which waits is in one bag
-use Rattle.std.proofs.Common.{◌≡◌, ◌≢◌, ℕ, zero, suc, ◌+◌, ◌-◌, ◌<◌, ◌≤◌, ◌==◌, Bool, true, false, Option, None, Some, List, [], ◌∷◌, ◌++◌, length, map, get_or, set, refl, sym, ap, ◌∙◌, arith, length-set, subst, reverse, cond, get_or-set_other, get_or-set_same, leb, inl, inr, is_some}
-use Rattle.std.specs.List.{sum_by, All}
-use Rattle.std.proofs.lemmas.List.Sums.{sum_by-set, sum_by-cons, sum_by-append, get_or-le-sum_by}
+use Rattle.std.proofs.Common.{◌≡◌, ◌≢◌, ℕ, zero, suc, ◌+◌, ◌-◌, ◌<◌, ◌≤◌, true, false, Option, None, Some, List, [], ◌∷◌, length, get_or, set, refl, sym, ap, ◌∙◌, arith, length-set, subst, reverse, cond, get_or-set_other, get_or-set_same, leb, inl, inr, is_some}
+use Rattle.std.specs.List.{sum_by}
+use Rattle.std.proofs.lemmas.List.Sums.{sum_by-set, sum_by-cons, get_or-le-sum_by}
 use Rattle.std.proofs.lemmas.Bool.{false≢true}
-use Rattle.std.proofs.lemmas.Bool.Decides.{nat_tests, eqb_tells}
+use Rattle.std.proofs.lemmas.Bool.Decides.{eqb_tells}
 use Rattle.std.proofs.lemmas.List.Sorted.{IsPermutation-reverse, sum_by-IsPermutation}
 use Rattle.std.proofs.lemmas.List.{nil_from_length}
 use Rattle.sdd_base.specs.Holding.{Hold, OwnedItem, SharedItem, OwnedIn, SharedIn}
-use Rattle.sdd_base.specs.State.{State, Member, put_member, retired, waiting_as, nobody, status_at, value_at, member_at, left_due, changing, is_used, taken, weight, turned, rotated_bags, with_status, with_cell, cell_at, with_marks, vacated, occupied}
-use Rattle.sdd_base.specs.Steps.{times, hit, released_as, released, disowned_as, disowned, owned_ended_as, shared_ended_as, given, given_all, due_reclaimed_as, due_reclaimed, reclaimed, held_in}
+use Rattle.sdd_base.specs.State.{State, Member, put_member, retired, waiting_as, nobody, status_at, value_at, member_at, left_due, is_used, taken, weight, turned, rotated_bags, with_status, with_cell, with_marks, vacated, occupied}
+use Rattle.sdd_base.specs.Steps.{times, hit, released_as, disowned_as, owned_ended_as, shared_ended_as, given, given_all, due_reclaimed_as, due_reclaimed, reclaimed, held_in}
 use Rattle.sdd_base.specs.Place.{Sound, held_times}
 use Rattle.sdd_base.specs.declared.status.Status.{Status}
 use Rattle.sdd_base.specs.declared.status.Status.TheVariants as status
@@ -289,13 +289,14 @@ leaves_then p u v w a b = record {
 -- what the participants keep of it
 pub record Calms {T : Type 0} (p : ℕ) (w w' : State T) : Type 0 where
   pub count : w'.count ≡ w.count
+  pub known : length w'.members ≡ length w.members
   pub due : (member_at w' p).due ≡ (member_at w p).due
   pub calm : calm (member_at w' p) ≡ calm (member_at w p)
   pub others : (k : ℕ) → k ≢ p → member_at w' k ≡ member_at w k
   pub sound : Sound w'
 
 pub calms : {T : Type 0} (p : ℕ) (w w' : State T) → Leaves p w w' → Calms p w w'
-calms p w w' g = record { count = g.count; due = g.due; calm = g.calm; others = g.others; sound = g.sound }
+calms p w w' g = record { count = g.count; known = g.known; due = g.due; calm = g.calm; others = g.others; sound = g.sound }
 
 -- place i, which didn't wait, waits
 pub leaves_waiting : {T : Type 0} (w : State T) (p i : ℕ) (s : Status) → Sound w → p < length w.members → i < length w.states → weight (status_at w i) ≡ 0 → weight s ≡ 1 → is_used s ≡ is_used (status_at w i) → ((m : ℕ) → s ≢ status.Collected m) → Leaves p w (waiting_as s p i w)
@@ -434,6 +435,7 @@ gives_all w p (x ∷ hs) h known =
 pub record Reclaims {T : Type 0} (p i : ℕ) (is : List ℕ) (w w' : State T) : Type 0 where
   pub count : w'.count ≡ w.count
   pub stays : (j : ℕ) → j ≢ i → value_at w' j ≡ value_at w j
+  pub gone : value_at w' i ≡ None
   pub places : length w'.states ≡ length w.states
   pub cells : length w'.cells ≡ length w.cells
   pub known : length w'.members ≡ length w.members
@@ -456,6 +458,7 @@ reclaims_next {T} holds w p i is h known was =
     let whole : Reclaims p i is w (due_reclaimed_as holds p (i ∷ is) w) = record {
       count = gu.count;
       stays = λ j n. ap (λ (vs : List (Option T)). get_or vs j None) gu.values ∙ get_or-set_other w.values i j None None n;
+      gone = ap (λ (vs : List (Option T)). get_or vs i None) gu.values ∙ gone_at w.values i;
       places = gu.places ∙ length-set w.states i s;
       cells = gu.cells;
       known = gu.known ∙ size;

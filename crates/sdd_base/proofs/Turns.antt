@@ -1,5 +1,5 @@
 -- the loop of a rotation
-use Rattle.std.proofs.Common.{◌≡◌, ◌≢◌, ℕ, zero, suc, ◌+◌, ◌<◌, ◌≤◌, List, [], ◌∷◌, length, get_or, set, refl, sym, ap, ◌∙◌, arith, length-set, subst, reverse, get_or-set_same}
+use Rattle.std.proofs.Common.{◌≡◌, ℕ, suc, ◌+◌, ◌<◌, List, [], length, refl, sym, ap, ◌∙◌, arith, length-set, subst, get_or-set_same}
 use Rattle.std.proofs.lemmas.List.{length-reverse}
 use Rattle.sdd_base.specs.Holding.{Hold}
 use Rattle.sdd_base.specs.State.{State, Member, member_at, nobody, turned, rotated_bags}

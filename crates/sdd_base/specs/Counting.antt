@@ -1,10 +1,12 @@
 -- owners and cells, counted over all that hold them
-use Rattle.std.specs.Prelude.{◌≡◌, ◌≢◌, ℕ, ◌+◌, ◌<◌, Bool, true, false, cond, Option, None, Some, List, [], ◌∷◌, ◌++◌, length}
+use Rattle.std.specs.Prelude.{◌≡◌, ℕ, ◌+◌, ◌<◌, ◌≤◌, Option, None, Some, List, [], ◌∷◌, ◌++◌, length}
 use Rattle.std.specs.List.{sum_by}
 use Rattle.sdd_base.specs.Holding.{Hold, OwnedItem, SharedItem, OwnedIn, SharedIn}
-use Rattle.sdd_base.specs.State.{State, status_at, value_at, cell_at, placed, with_status, with_cell, waiting_as, IsFree, IsFreeCell, IsIdle, fresh}
+use Rattle.sdd_base.specs.State.{State, status_at, value_at, cell_at, placed, with_value, with_status, with_cell, waiting_as, IsFree, IsFreeCell, IsIdle, fresh}
 use Rattle.sdd_base.specs.Steps.{hit, held_in, given, opened, closed, set_aside, purged, handed}
-use Rattle.sdd_base.specs.Place.{IsPlace, IsShared, IsOwned}
+use Rattle.sdd_base.specs.Dropping.{Dropped}
+use Rattle.sdd_base.specs.Frame.{IsLive}
+use Rattle.sdd_base.specs.Place.{IsPlace, IsShared, IsOwned, IsSharedCell}
 use Rattle.sdd_base.specs.declared.sizes.Sizes.{Sizes}
 use Rattle.sdd_base.specs.declared.tag.Tag.{Tag}
 use Rattle.sdd_base.specs.declared.status.Status.{Status}
@@ -96,6 +98,12 @@ pub record OwnersAreCounted {T : Type 0} (holds : T → List Hold) : Type 0 wher
   -- an owner in hand names an item that is there
   pub shared : (i : ℕ) (hand : List Hold) (w : State T) → Counted holds (SharedItem i ∷ hand) w → IsShared w i
   pub owned : (i : ℕ) (hand : List Hold) (w : State T) → Counted holds (OwnedItem i ∷ hand) w → IsOwned w i
+  -- and so does one in a cell, or in an item
+  pub kept : (c i : ℕ) (t : Tag) (hand : List Hold) (w : State T) → cell_at w c ≡ cell.OfShared (Some i) t → Counted holds hand w → IsShared w i
+  pub held : (i j : ℕ) (v : T) (hand : List Hold) (w : State T) → value_at w j ≡ Some v → 1 ≤ tally (SharedItem i) (holds v) → Counted holds hand w → IsShared w i
+  -- a cell in hand, or in an item, is in use
+  pub cell_in_hand : (c : ℕ) (hand : List Hold) (w : State T) → Counted holds (SharedIn c ∷ hand) w → IsSharedCell w c
+  pub cell_in_item : (c j : ℕ) (v : T) (hand : List Hold) (w : State T) → value_at w j ≡ Some v → 1 ≤ tally (SharedIn c) (holds v) → Counted holds hand w → IsSharedCell w c
   -- an item is made of what it will hold
   pub placed_shared : (i : ℕ) (v : T) (hand : List Hold) (w : State T) → IsPlace w → IsFree w i → Counted holds (holds v ++ hand) w → Counted holds (SharedItem i ∷ hand) (placed i v (status.Shared 1) w)
   pub placed_owned : (i : ℕ) (v : T) (hand : List Hold) (w : State T) → IsPlace w → IsFree w i → Counted holds (holds v ++ hand) w → Counted holds (OwnedItem i ∷ hand) (placed i v status.Owned w)
@@ -103,6 +111,10 @@ pub record OwnersAreCounted {T : Type 0} (holds : T → List Hold) : Type 0 wher
   pub cloned : (i n : ℕ) (hand : List Hold) (w : State T) → status_at w i ≡ status.Shared n → i < length w.states → Counted holds hand w → Counted holds (SharedItem i ∷ hand) (with_status i (status.Shared (n + 1)) w)
   -- an owner, or a cell with what it keeps, is given back
   pub given : (p : ℕ) (h : Hold) (hand : List Hold) (w : State T) → Counted holds (h ∷ hand) w → Counted holds hand (given p h w)
+  -- an owner is given back at once, with all that only it held
+  pub dropped : (h : Hold) (hand : List Hold) (w w' : State T) → IsPlace w → Counted holds (h ∷ hand) w → Dropped holds h w w' → Counted holds hand w'
+  -- an item is written: what it will hold comes out of the hand, and what it held into it
+  pub written : (i : ℕ) (u v : T) (hand : List Hold) (w : State T) → i < length w.values → value_at w i ≡ Some u → Counted holds (holds v ++ hand) w → Counted holds (holds u ++ hand) (with_value i v w)
   -- guards open and close
   pub opened : (p : ℕ) (hand : List Hold) (w : State T) → IsPlace w → p < length w.members → Counted holds hand w → Counted holds hand (opened holds p w)
   pub closed : (p : ℕ) (hand : List Hold) (w : State T) → Counted holds hand w → Counted holds hand (closed p w)
@@ -128,3 +140,10 @@ pub record OwnersAreCounted {T : Type 0} (holds : T → List Hold) : Type 0 wher
   pub handed : (p : ℕ) (is : List ℕ) (hand : List Hold) (w : State T) → Counted holds hand w → Counted holds hand (handed p is w)
   -- a job waits
   pub deferred : (p i : ℕ) (hand : List Hold) (w : State T) → IsIdle w i → Counted holds hand w → Counted holds hand (waiting_as status.Deferred p i w)
+
+-- what a cell keeps stays while a guard opens, whatever that reclaims
+pub record HeldCellsStay {T : Type 0} (holds : T → List Hold) : Type 0 where
+  -- where the cell's owner is in hand
+  pub hand : (c p : ℕ) (hand : List Hold) (w : State T) → IsPlace w → p < length w.members → 1 ≤ tally (SharedIn c) hand → Counted holds hand w → cell_at (opened holds p w) c ≡ cell_at w c
+  -- where it is in an item that has an owner
+  pub item : (c i p : ℕ) (hand : List Hold) (w : State T) → IsPlace w → p < length w.members → IsLive w i → 1 ≤ tally (SharedIn c) (held_in holds (value_at w i)) → Counted holds hand w → cell_at (opened holds p w) c ≡ cell_at w c

@@ -1,6 +1,6 @@
 -- what a call leaves alone: values of live items, and what open guards protect
 use Rattle.std.specs.Prelude.{◌≡◌, ◌≢◌, ℕ, ◌<◌, ◌≤◌, Bool, true, false, List, [], ◌∷◌, length}
-use Rattle.sdd_base.specs.State.{State, Member, status_at, value_at, member_at, marks_at, is_used}
+use Rattle.sdd_base.specs.State.{State, status_at, value_at, member_at, marks_at, is_used}
 use Rattle.sdd_base.specs.Steps.{times}
 use Rattle.sdd_base.specs.Place.{IsOpen, IsPlace}
 use Rattle.sdd_base.specs.declared.status.Status.{Status}

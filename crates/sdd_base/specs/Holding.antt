@@ -1,5 +1,5 @@
 -- what an item holds, by the numbers of slots and cells
-use Rattle.std.specs.Prelude.{ℕ, Bool, true, false, ◌==◌}
+use Rattle.std.specs.Prelude.{ℕ}
 
 pub data Hold : Type 0 where
   OwnedItem : ℕ → Hold

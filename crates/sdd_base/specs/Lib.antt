@@ -8,3 +8,6 @@ pub mod View
 pub mod Frame
 pub mod Counting
 pub mod Passing
+pub mod Dropping
+pub mod Collecting
+pub mod Notes

@@ -2,11 +2,10 @@
 use Rattle.std.specs.Prelude.{◌≡◌, ◌≢◌, ℕ, zero, suc, ◌+◌, ◌<◌, ◌≤◌, true, Option, None, Some, List, length}
 use Rattle.sdd_base.specs.Holding.{Hold, OwnedItem, SharedItem, OwnedIn, SharedIn}
 use Rattle.sdd_base.specs.State.{State, member_at, marks_at, status_at, value_at, cell_at, with_marks}
-use Rattle.sdd_base.specs.Steps.{opened, closed, bags_empty, NoneOpen, times}
+use Rattle.sdd_base.specs.Steps.{opened, closed, bags_empty, NoneOpen}
 use Rattle.sdd_base.specs.Place.{IsPlace, held_times}
 use Rattle.sdd_base.specs.Frame.{OnlyOf}
 use Rattle.sdd_base.specs.Counting.{tally}
-use Rattle.sdd_base.specs.declared.tag.Tag.{Tag}
 use Rattle.sdd_base.specs.declared.status.Status.TheVariants as status
 use Rattle.sdd_base.specs.declared.status.Cell.{Cell}
 use Rattle.sdd_base.specs.declared.status.Cell.TheVariants as cell

@@ -1,5 +1,5 @@
 -- what holds of every place of one thread between two calls
-use Rattle.std.specs.Prelude.{◌≡◌, ◌≢◌, ℕ, ◌+◌, ◌<◌, ◌≤◌, List, [], length, is_some, Option, None, Some, true}
+use Rattle.std.specs.Prelude.{◌≡◌, ℕ, ◌+◌, ◌<◌, ◌≤◌, [], length, is_some, Option, None, Some, true}
 use Rattle.std.specs.List.{sum_by}
 use Rattle.sdd_base.specs.State.{State, Member, status_at, value_at, cell_at, member_at, marks_at, weight, is_used}
 use Rattle.sdd_base.specs.Steps.{times}
@@ -24,6 +24,8 @@ IsOpen w p = 0 < (marks_at w p).nesting
 
 pub record IsPlace {T : Type 0} (w : State T) : Type 0 where
   pub sound : Sound w
+  -- there is a participant
+  pub some : 0 < length w.members
   -- nothing is being reclaimed
   pub idle : (k : ℕ) → (member_at w k).due ≡ []
   -- no participant is ahead of the count, and it is at most one ahead of an open guard
@@ -62,6 +64,15 @@ pub record IsRawCell {T : Type 0} (w : State T) (c : ℕ) : Type 0 where
   pub item : Option ℕ
   pub tag : Tag
   pub is : cell_at w c ≡ cell.OfRaw item tag
+
+-- slot i has an item
+pub record HasItem {T : Type 0} (w : State T) (i : ℕ) : Type 0 where
+  pub inside : i < length w.states
+  pub used : is_used (status_at w i) ≡ true
+
+-- slot i has a shared item with one owner alone
+abbrev pub HasOneOwner : {T : Type 0} → State T → ℕ → Type 0
+HasOneOwner w i = (n : ℕ) × (status_at w i ≡ status.Shared n) × (n ≤ 1)
 
 -- a pointer is null, or names an item that is there
 abbrev pub IsReadable : {T : Type 0} → State T → Option ℕ → Type 0

@@ -1,5 +1,5 @@
 -- the state of a place of one thread, as callers see it, and its smallest changes
-use Rattle.std.specs.Prelude.{◌≡◌, ◌≢◌, ◌<◌, ℕ, ◌+◌, ◌==◌, ◌||◌, Bool, true, false, not, cond, Option, None, Some, List, [], ◌∷◌, ◌++◌, get_or, set, length, map, replicate, reverse, sum_by}
+use Rattle.std.specs.Prelude.{◌≡◌, ◌≢◌, ◌<◌, ℕ, ◌+◌, ◌==◌, ◌||◌, Bool, true, false, cond, Option, None, Some, List, [], ◌∷◌, ◌++◌, get_or, set, length, replicate, reverse, sum_by, take, drop, ◌-◌}
 use Rattle.sdd_base.specs.declared.status.Status.{Status}
 use Rattle.sdd_base.specs.declared.status.Status.TheVariants as status
 use Rattle.sdd_base.specs.declared.status.Cell.{Cell}
@@ -170,6 +170,10 @@ with_cell c k w = record w { cells = set w.cells c k }
 abbrev pub placed : {T : Type 0} → ℕ → T → Status → State T → State T
 placed i v s w = record w { values = set w.values i (Some v); states = set w.states i s }
 
+-- the item in slot i is v
+abbrev pub with_value : {T : Type 0} → ℕ → T → State T → State T
+with_value i v w = record w { values = set w.values i (Some v) }
+
 -- slot i is free, and its value is gone
 abbrev pub removed : {T : Type 0} → ℕ → State T → State T
 removed i w = record w { values = set w.values i None; states = set w.states i status.Free }
@@ -204,6 +208,10 @@ turned m = record m { due = reverse m.oldest; oldest = m.prior; prior = m.curren
 
 abbrev pub rotated_bags : {T : Type 0} → ℕ → State T → State T
 rotated_bags p w = changing p turned w
+
+-- the place that came last into the current bag is due
+abbrev pub recalled : Member → Member
+recalled m = record m { current = take (length m.current - 1) m.current; due = drop (length m.current - 1) m.current ++ m.due }
 
 abbrev pub left_due : List ℕ → Member → Member
 left_due is m = record m { due = is }

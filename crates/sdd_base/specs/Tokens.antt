@@ -7,6 +7,7 @@ use Rattle.sdd_base.specs.declared.owner.Shared.{Shared}
 use Rattle.sdd_base.specs.declared.cell.AtomicOwned.{AtomicOwned}
 use Rattle.sdd_base.specs.declared.cell.AtomicShared.{AtomicShared}
 use Rattle.sdd_base.specs.declared.cell.AtomicRaw.{AtomicRaw}
+use Rattle.sdd_base.specs.declared.link.Link.{Link}
 use Rattle.std.specs.Option.{option_map}
 use Rattle.sdd_base.specs.declared.pointer.RawPtr.{RawPtr}
 use Rattle.sdd_base.specs.declared.pointer.Ptr.{Ptr}
@@ -71,3 +72,7 @@ owned_slots o = option_map owned_slot o
 
 abbrev pub shared_slots : {T : Type 0} → Option (Shared T) → Option ℕ
 shared_slots s = option_map shared_slot s
+
+-- the cell that a link names
+abbrev pub link_cell : {T : Type 0} → Link T → ℕ
+link_cell l = shared_cell l.cell

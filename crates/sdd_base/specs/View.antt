@@ -1,5 +1,5 @@
 -- how the fields of the store show its state, and what is always true of them
-use Rattle.std.specs.Prelude.{is_some, reverse, ◌≡◌, ℕ, ◌≤◌, ◌+◌, ◌==◌, List, length, map, get_or, sum_by, vec_capacity, All, cond, replicate, ◌++◌, true, false}
+use Rattle.std.specs.Prelude.{is_some, reverse, ◌≡◌, ℕ, ◌≤◌, ◌+◌, List, length, map, get_or, sum_by, vec_capacity, All, replicate, ◌++◌, true, false}
 use Rattle.std.specs.Global.{Vec}
 use Rattle.sdd_base.specs.State.{State, Member, weight, is_used, usage, vacancy, idleness, emptiness, is_job}
 use Rattle.sdd_base.specs.Steps.{times}

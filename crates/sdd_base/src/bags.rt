@@ -1,7 +1,7 @@
 //! The bags of a participant, with room for every place from the start.
 
-ghost use Rattle.std.specs.Prelude.{◌≡◌, ℕ, ◌+◌, ◌<◌, ◌≤◌, List, [], ◌∷◌, length, MatchOption, IfOk, vec_capacity};
-ghost use Rattle.sdd_base.specs.State.{nobody, put_member, turned, left_due};
+ghost use Rattle.std.specs.Prelude.{◌≡◌, ◌≢◌, ℕ, ◌+◌, ◌<◌, ◌≤◌, List, [], ◌∷◌, length, MatchOption, IfOk, vec_capacity};
+ghost use Rattle.sdd_base.specs.State.{nobody, put_member, turned, left_due, recalled};
 ghost use Rattle.sdd_base.specs.View.{HasRoom, member_of, waiting};
 
 use crate::status::Marks;
@@ -62,6 +62,22 @@ impl Participant {
         ensures waits { MatchOption result (waiting self.new ≡ waiting self.old) (λ _. waiting self.new + 1 ≡ waiting self.old) }
     {
         self.due.pop()
+    }
+
+    /// The place that came last into the current bag is due; there is room for it.
+    pub(crate) fn recall(&mut self)
+        requires { length self.old.current.items ≢ 0 → length self.old.due.items < vec_capacity self.old.due }
+        ensures shown { member_of self.new ≡ recalled (member_of self.old) }
+        ensures room { (n : ℕ) → HasRoom n self.old → HasRoom n self.new }
+        ensures waits { waiting self.new ≡ waiting self.old }
+    {
+        let Some(i) = self.current.pop() else {
+            return;
+        };
+        match self.due.push(i) {
+            Ok(()) => {}
+            Err(_) => unreachable!(),
+        }
     }
 
     /// The bags move on, and the oldest is due.

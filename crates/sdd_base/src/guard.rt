@@ -1,6 +1,18 @@
 //! Guards of a place of one thread.
 
+ghost use Rattle.std.specs.Prelude.{◌≡◌};
+ghost use Rattle.sdd_base.specs.Tokens.{participant_of};
+
 /// An open guard of a participant. It must be spent by `world::guard::close`.
 pub struct WorldGuard {
     pub(crate) participant: usize,
+}
+
+impl WorldGuard {
+    /// The participant whose guard it is.
+    pub fn participant(&self) -> usize
+        ensures { result ≡ participant_of self.now }
+    {
+        self.participant
+    }
 }

@@ -1,7 +1,8 @@
 //! What follows from the clauses of the calls, for every state and every order of calls. Nothing here runs.
 
-ghost use Rattle.sdd_base.specs.Counting.{OwnersAreCounted};
+ghost use Rattle.sdd_base.specs.Counting.{HeldCellsStay, OwnersAreCounted};
 ghost use Rattle.sdd_base.specs.Frame.{OwnedIsProtected, StaysUntilClosed};
+ghost use Rattle.sdd_base.specs.Notes.{CollectorsAreInOrder};
 ghost use Rattle.sdd_base.specs.Passing.{PassesReclaim};
 
 use crate::holds::Holds;
@@ -10,6 +11,12 @@ use crate::holds::Holds;
 /// owner always names an item that is there, and an item with an owner isn't reclaimed.
 pub fn owners_are_counted<T: Holds>()
     ensures { OwnersAreCounted T.holds }
+{}
+
+/// What a cell keeps whose owner is in hand, or in an item that has an owner, stays while a guard opens, though that
+/// reclaims items, which give up owners and cells.
+pub fn held_cells_stay<T: Holds>()
+    ensures { HeldCellsStay T.holds }
 {}
 
 /// What a guard protects: every item that has an owner while it is open; and what it protects stays as it was until
@@ -24,4 +31,11 @@ pub fn guards_protect<T>()
 /// for each level of items that hold items empty the bags.
 pub fn passes_reclaim<T: Holds>()
     ensures { PassesReclaim T.holds }
+{}
+
+/// Collectors are in order, over every call: each item that waits in one is named by one of them once, and the counts
+/// that were noted rise along it. So a collector with room for all places always has room, and after a `collect` nothing
+/// in it is overdue.
+pub fn collectors_are_in_order<T: Holds>()
+    ensures { CollectorsAreInOrder T.holds }
 {}

@@ -8,13 +8,21 @@
 mod bags;
 pub mod cell;
 pub mod collector;
+#[cfg(test)]
+mod ends;
 pub mod epoch;
 pub mod guard;
 pub mod holds;
+#[cfg(test)]
+mod in_place;
 pub mod job;
 pub mod laws;
+pub mod lender;
+pub mod link;
 pub mod owner;
 pub mod pointer;
+#[cfg(test)]
+mod random;
 mod reclaim;
 pub mod refusal;
 #[cfg(test)]

@@ -1,9 +1,10 @@
 //! What a rotation, an opening and a closing do to the store, with the bags open in between.
 
-ghost use Rattle.std.specs.Prelude.{◌≡◌, ◌+◌, ◌-◌, ◌<◌, ℕ, List, [], ◌∷◌, length, leb, IsTrue, IsFalse, IfSome, IfNone, true};
+ghost use Rattle.std.specs.Prelude.{◌≡◌, ◌+◌, ◌-◌, ◌<◌, ◌≤◌, ℕ, List, [], ◌∷◌, length, leb, IsTrue, IsFalse, IfSome, IfNone, true};
 ghost use Rattle.std.specs.VecDeque.{deque_capacity};
 ghost use Rattle.sdd_base.specs.State.{is_used, status_at, member_at, marks_at, weight};
 ghost use Rattle.sdd_base.specs.Steps.{released, disowned, owned_ended, shared_ended, given, given_all, rotated, opened, closed, begun, scanned, IsNext, Swept, AllSwept, purged, left_waiting, enqueued, set_aside, handed, overdue, IsTimely, closings_after, scans as scans_at};
+ghost use Rattle.sdd_base.specs.Dropping.{undone, Dropped};
 ghost use Rattle.sdd_base.specs.Place.{Sound, IsPlace, IsShared};
 ghost use Rattle.sdd_base.specs.Frame.{OnlyOf};
 ghost use Rattle.sdd_base.specs.Tokens.{hold_of};
@@ -141,6 +142,37 @@ pub(crate) fn turn_over<T: Holds>(table: &mut Table<T>, p: usize)
     let mut marks = table.marks(p);
     marks.garbage = marks.garbage && !table.bags_are_empty(p);
     table.set_marks(p, marks);
+}
+
+/// What `p` retired last is reclaimed, where more than `kept` places wait in its current bag.
+fn undo<T: Holds>(table: &mut Table<T>, p: usize, kept: usize) -> bool
+    requires member { p < length table.old.members }
+    requires sound { Sound table.old }
+    requires idle { (member_at table.old p).due ≡ [] }
+    ensures more { IsTrue result → kept < length (member_at table.old p).current }
+    ensures some { IsTrue result → table.new ≡ undone T.holds p table.old }
+    ensures last { IsFalse result → length (member_at table.old p).current ≤ kept }
+    ensures none { IsFalse result → table.new ≡ table.old }
+{
+    if table.newest(p) <= kept {
+        return false;
+    }
+    table.recall(p);
+    reclaim_next(table, p);
+    true
+}
+
+/// An owner is given back, and what that leaves without one is reclaimed at once. Participant 0 lends its current bag.
+pub(crate) fn drop_now<T: Holds>(table: &mut Table<T>, held: Held<T>)
+    requires { IsPlace table.old }
+    ensures dropped { Dropped T.holds (hold_of held) table.old table.new }
+    ensures place { IsPlace table.new }
+{
+    let marks = table.marks(0);
+    let kept = table.newest(0);
+    give(table, 0, held);
+    while undo(table, 0, kept) {}
+    table.set_marks(0, marks);
 }
 
 /// What is in `slot` waits at the end of a private bag, and the count is noted; where that is full, `p` retires it.

@@ -11,3 +11,12 @@ pub struct Nested;
 /// A guard is open.
 #[derive(Clone, Copy, PartialEq, Eq, Debug)]
 pub struct GuardsOpen;
+
+/// Why the value of an item isn't lent for writing.
+#[derive(Clone, Copy, PartialEq, Eq, Debug)]
+pub enum NotLent {
+    /// A guard is open.
+    GuardsOpen,
+    /// The item has other owners.
+    NotSole,
+}

@@ -1,8 +1,10 @@
 //! The store of a place: numbered slots, job places and cells, and the participants. Nothing here takes memory but
 //! the making, and nothing walks all slots.
 
-ghost use Rattle.std.specs.Prelude.{◌≡◌, ◌≢◌, ℕ, ◌+◌, ◌<◌, ◌≤◌, ◌^◌, ◌-◌, List, length, MatchOption, MatchResult, Some, None, OnOk, IfSome, IfNone, IfOk, IfErr, [], ◌∷◌, false, true, replicate, IsTrue, IsFalse, ◌↔◌, sum_by, vec_capacity, vec_len, ◌++◌, map, All};
-ghost use Rattle.sdd_base.specs.State.{IsIdle, NoneIdle, with_status, with_marks, IsFree, NoneFree, IsFreeCell, NoCellFree, in_use, IsUnused, waiting_as, status_at, member_at, value_at, cell_at, rotated_bags, placed, raised, nobody, TakesDue, with_cell, is_present, is_used, weight, idleness, vacancy, emptiness, fresh, removed, usage};
+ghost use Rattle.std.specs.Prelude.{◌≡◌, ◌≢◌, ℕ, ◌+◌, ◌<◌, ◌≤◌, ◌^◌, ◌-◌, List, length, MatchOption, MatchResult, Some, None, OnOk, IfSome, IfNone, IfOk, IfErr, [], ◌∷◌, false, true, replicate, IsTrue, IsFalse, ◌↔◌, sum_by, vec_capacity, vec_len, ◌++◌, map, All, IsSome};
+ghost use Rattle.std.specs.Borrow.{sem};
+ghost use Rattle.std.specs.Option.Follows.{option_follows_value};
+ghost use Rattle.sdd_base.specs.State.{changing, recalled, IsIdle, NoneIdle, with_status, with_marks, IsFree, NoneFree, IsFreeCell, NoCellFree, in_use, IsUnused, waiting_as, status_at, member_at, value_at, cell_at, rotated_bags, placed, raised, nobody, TakesDue, with_cell, is_present, is_used, weight, idleness, vacancy, emptiness, fresh, removed, usage};
 ghost use Rattle.std.specs.List.{list_all};
 ghost use Rattle.sdd_base.specs.View.{Lists, IsStack, HasRoom, member_of, waiting};
 ghost use Rattle.sdd_base.specs.Steps.{bags_empty, NoneOpen};
@@ -10,6 +12,7 @@ ghost use Rattle.sdd_base.specs.Place.{IsOpen};
 
 use crate::bags::Participant;
 use crate::job::Job;
+use crate::lender::Store;
 use crate::sizes::Sizes;
 use crate::status::{Cell, Marks, Status};
 use std::alloc::{AllocError, Global};
@@ -143,6 +146,22 @@ impl<T> Table<T> {
         self.members[p].turn();
     }
 
+    /// How many places wait in the current bag of `p`.
+    pub(crate) fn newest(&self, p: usize) -> usize
+        requires { p < length self.now.members }
+        ensures { result ≡ length (member_at self.now p).current }
+    {
+        self.members[p].current.len()
+    }
+
+    /// What `p` retired last is due.
+    pub(crate) fn recall(&mut self, p: usize)
+        requires { p < length self.old.members }
+        ensures { self.new ≡ changing p recalled self.old }
+    {
+        self.members[p].recall();
+    }
+
     /// Puts a value into a free slot, if there is one.
     pub(crate) fn place(&mut self, value: T, status: Status) -> Result<usize, T>
         requires used { is_used status ≡ true }
@@ -264,6 +283,14 @@ impl<T> Table<T> {
         ensures { result ≡ length self.now.members }
     {
         self.members.len()
+    }
+
+    /// How many cells there are.
+    #[cfg(test)]
+    pub(crate) fn cells(&self) -> usize
+        ensures { result ≡ length self.now.cells }
+    {
+        self.cells.len()
     }
 
     /// How many slots and job places there are.
@@ -391,6 +418,37 @@ impl<T> Table<T> {
             }
         }
         values.destroy_empty();
+    }
+}
+
+impl<T> Store<T> for Table<T> {
+    ghost use Rattle.sdd_base.specs.State.{with_value};
+
+    ghost stored = { λ w. w };
+
+    ghost with_stored = { with_value };
+
+    fn item_mut(&mut self, i: usize) -> &mut T {
+        filled(&mut self.values[i])
+    }
+
+    fn lone_mut(&mut self, i: usize) -> Option<&mut T> {
+        match self.status(i) {
+            Status::Shared(0 | 1) => Some(self.item_mut(i)),
+            _ => None,
+        }
+    }
+}
+
+/// What is in a slot that has a value.
+fn filled<T>(slot: &mut Option<T>) -> &mut T
+    requires { IsSome slot.old }
+    ensures* lends { sem 𝓛 (option_follows_value T.row slot.entry result) }
+    ensures value { slot.old ≡ Some result.now }
+{
+    match slot {
+        Some(value) => value,
+        None => unreachable!(),
     }
 }
 

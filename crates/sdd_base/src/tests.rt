@@ -1,8 +1,8 @@
-ghost use Rattle.std.specs.Prelude.{◌≡◌, ◌<◌, ◌≤◌, length, IfOk};
+ghost use Rattle.std.specs.Prelude.{◌≡◌, ◌<◌, ◌≤◌, length, IfOk, IsTrue};
 ghost use Rattle.sdd_base.specs.State.{fresh};
 ghost use Rattle.sdd_base.specs.Frame.{OnlyOf};
-ghost use Rattle.sdd_base.specs.Place.{IsOpen, IsSharedCell};
-ghost use Rattle.sdd_base.specs.Tokens.{participant_of, shared_cell};
+ghost use Rattle.sdd_base.specs.Place.{IsOpen, IsOwned, IsShared, IsOwnedCell, IsSharedCell};
+ghost use Rattle.sdd_base.specs.Tokens.{owned_cell, owned_slot, participant_of, shared_cell, shared_slot};
 
 use crate::cell::{AtomicOwned, AtomicRaw, AtomicShared};
 use crate::collector::PrivateCollector;
@@ -10,10 +10,12 @@ use crate::epoch::Epoch;
 use crate::guard::WorldGuard;
 use crate::holds::{Held, Holds};
 use crate::job::{Job, Task};
+use crate::link::Link;
 use crate::owner::{Owned, Shared};
 use crate::pointer::{Ptr, RawPtr};
 use crate::refusal::NoSlot;
 use crate::sizes::Sizes;
+use crate::status::Status;
 use crate::tag::Tag;
 use crate::world;
 use crate::world::World;
@@ -24,7 +26,7 @@ use std::sync::atomic::{AtomicU32, Ordering};
 use std::test::Fail;
 
 /// A world of numbers with two participants.
-fn numbers(alloc: Global, slots: usize, cells: usize) -> Result<World<u64>, AllocError>
+pub(crate) fn numbers(alloc: Global, slots: usize, cells: usize) -> Result<World<u64>, AllocError>
     requires slots { slots ≤ 8 }
     requires cells { cells ≤ 8 }
     ensures { IfOk result (λ w. w ≡ fresh (record { participants = 2; slots = slots; cells = cells; jobs = 0 })) }
@@ -64,18 +66,17 @@ fn a_generation_is_three_epochs(rt: HostRuntime) -> Result<(), Fail> {
 
 #[test]
 fn tags_have_numbers(rt: HostRuntime) -> Result<(), Fail> {
-    assert_eq!(rt; u8::from(Tag::None), 0);
-    assert_eq!(rt; u8::from(Tag::First), 1);
-    assert_eq!(rt; u8::from(Tag::Second), 2);
-    assert_eq!(rt; u8::from(Tag::Both), 3);
-    assert_eq!(rt; Tag::try_from(0).ok(), Some(Tag::None));
-    assert_eq!(rt; Tag::try_from(3).ok(), Some(Tag::Both));
-    assert_eq!(rt; Tag::try_from(4).err(), Some(4));
+    let tags = [Tag::None, Tag::First, Tag::Second, Tag::Both];
+    for n in 0..4u8 {
+        assert_eq!(rt; u8::from(tags[usize::from(n)]), n);
+        assert_eq!(rt; Tag::try_from(n), Ok(tags[usize::from(n)]));
+    }
+    assert_eq!(rt; Tag::try_from(4), Err(4));
     Ok(())
 }
 
 /// One accelerated guard of participant `p`.
-fn pass<T: Holds>(w: &mut World<T>, p: usize) -> bool
+pub(crate) fn pass<T: Holds>(w: &mut World<T>, p: usize) -> bool
     requires { p < length w.old.members }
     ensures members { length w.new.members ≡ length w.old.members }
     ensures only { OnlyOf p w.old w.new }
@@ -91,7 +92,7 @@ fn pass<T: Holds>(w: &mut World<T>, p: usize) -> bool
 }
 
 /// `n` accelerated guards of participant `p`, one by one.
-fn passes<T: Holds>(w: &mut World<T>, p: usize, n: usize) -> bool
+pub(crate) fn passes<T: Holds>(w: &mut World<T>, p: usize, n: usize) -> bool
     requires { p < length w.old.members }
     ensures members { length w.new.members ≡ length w.old.members }
     ensures only { OnlyOf p w.old w.new }
@@ -175,12 +176,8 @@ fn the_last_of_two_owners_is_told(rt: HostRuntime) -> Result<(), Fail> {
 #[test]
 fn a_guard_keeps_what_it_names(rt: HostRuntime) -> Result<(), Fail> {
     let mut w = numbers(rt.alloc(), 2, 0)?;
-    let Ok(guard) = world::guard::new(&mut w, 0) else {
-        panic!(rt; "no guard is open");
-    };
-    let Ok(owned) = world::owned::new(&mut w, 5) else {
-        panic!(rt; "a slot is free");
-    };
+    let guard = guarded(&rt, &mut w, 0);
+    let owned = owned_item(&rt, &mut w, 5);
     let at = world::owned::get_guarded_ptr(&owned, &guard);
     world::owned::retire(&mut w, owned, 1);
     assert!(rt; passes(&mut w, 1, 6));
@@ -196,7 +193,7 @@ fn a_guard_keeps_what_it_names(rt: HostRuntime) -> Result<(), Fail> {
 }
 
 /// A directory of segments, or a segment.
-enum Item {
+pub(crate) enum Item {
     Directory(Vec<Shared<Item>>),
     Segment(u64),
 }
@@ -366,12 +363,8 @@ fn a_job_runs_once_when_the_fourth_guard_opens(rt: HostRuntime) -> Result<(), Fa
 fn a_collector_hands_over_what_it_keeps(rt: HostRuntime) -> Result<(), Fail> {
     let mut w = numbers(rt.alloc(), 1, 0)?;
     let mut collector = world::private_collector::new(rt.alloc(), &w)?;
-    let Ok(guard) = world::guard::new(&mut w, 0) else {
-        panic!(rt; "no guard is open");
-    };
-    let Ok(owned) = world::owned::new(&mut w, 5) else {
-        panic!(rt; "a slot is free");
-    };
+    let guard = guarded(&rt, &mut w, 0);
+    let owned = owned_item(&rt, &mut w, 5);
     world::private_collector::collect_owned(&mut w, &mut collector, owned, &guard);
     world::guard::close(&mut w, guard);
     world::private_collector::hand_over(&mut w, collector, 0);
@@ -417,8 +410,37 @@ fn a_later_collect_reclaims_what_three_raises_let_go(rt: HostRuntime) -> Result<
     Ok(())
 }
 
+/// A new item with one owner, where a slot is free.
+pub(crate) fn owned_item<R: Abort>(rt: &R, w: &mut World<u64>, value: u64) -> Owned<u64>
+    ensures live { IsOwned w.new (owned_slot result) }
+    ensures members { w.new.members ≡ w.old.members }
+{
+    match world::owned::new(w, value) {
+        Ok(owned) => owned,
+        Err(_) => panic!(rt; "a slot is free"),
+    }
+}
+
+/// A new item with counted owners, where a slot is free.
+pub(crate) fn shared_item<R: Abort>(rt: &R, w: &mut World<u64>, value: u64) -> Shared<u64>
+    ensures live { IsShared w.new (shared_slot result) }
+    ensures members { w.new.members ≡ w.old.members }
+{
+    match world::shared::new(w, value) {
+        Ok(shared) => shared,
+        Err(_) => panic!(rt; "a slot is free"),
+    }
+}
+
+/// Whether `shared` is an owner of an item that is there, as every owner is.
+pub(crate) fn is_live<T>(w: &World<T>, shared: &Shared<T>) -> bool
+    ensures { IsTrue result → IsShared w.now (shared_slot shared.now) }
+{
+    shared.slot < w.table.places() && matches!(w.table.status(shared.slot), Status::Shared(_))
+}
+
 /// An open guard of participant `p`, where its nesting isn't at its end.
-fn guarded<T: Holds, R: Abort>(rt: &R, w: &mut World<T>, p: usize) -> WorldGuard
+pub(crate) fn guarded<T: Holds, R: Abort>(rt: &R, w: &mut World<T>, p: usize) -> WorldGuard
     requires { p < length w.old.members }
     ensures guard { participant_of result ≡ p }
     ensures open { IsOpen w.new p }
@@ -460,6 +482,85 @@ fn a_comparing_exchange_looks_at_the_tag(rt: HostRuntime) -> Result<(), Fail> {
     assert!(rt; world::atomic_shared::is_null(&w, &cell));
     assert!(rt; world::atomic_shared::tag(&w, &cell) == Tag::Both);
     let AtomicShared { cell: _, of: _ } = cell;
+    let WorldGuard { participant: _ } = guard;
+    Ok(())
+}
+
+/// Puts nothing into the cell, with the tag Both, where it keeps the item of `other`, or its own if there is none, with
+/// the tag `tag`; answers whether it did.
+fn exchanged(
+    w: &mut World<u64>,
+    cell: &AtomicOwned<u64>,
+    other: Option<&Owned<u64>>,
+    tag: Tag,
+    guard: &WorldGuard,
+) -> bool
+    requires { IsOwnedCell w.old (owned_cell cell.now) }
+    ensures { IsOwnedCell w.new (owned_cell cell.now) }
+{
+    let mut current = match other {
+        Some(owned) => world::owned::get_guarded_ptr(owned, guard),
+        None => world::atomic_owned::load(w, cell, guard),
+    };
+    current.set_tag(tag);
+    let nothing = (None, Tag::Both);
+    match world::atomic_owned::compare_exchange(w, cell, current, nothing, guard) {
+        Ok((Some(Owned { slot: _, of: _ }), _)) => true,
+        Ok((None, _)) => false,
+        Err((Some(Owned { slot: _, of: _ }), _)) => false,
+        Err((None, _)) => false,
+    }
+}
+
+#[test]
+fn a_comparing_exchange_looks_at_item_and_tag(rt: HostRuntime) -> Result<(), Fail> {
+    let mut w = numbers(rt.alloc(), 2, 1)?;
+    let guard = guarded(&rt, &mut w, 0);
+    let Ok(other) = world::owned::new(&mut w, 2) else {
+        panic!(rt; "a slot is free");
+    };
+    let Ok(cell) = world::atomic_owned::new(&mut w, 1) else {
+        panic!(rt; "a slot and a cell are free");
+    };
+    assert!(rt; !exchanged(&mut w, &cell, Some(&other), Tag::None, &guard));
+    assert!(rt; !exchanged(&mut w, &cell, None, Tag::Second, &guard));
+    assert!(rt; !world::atomic_owned::is_null(&w, &cell));
+    assert!(rt; world::atomic_owned::tag(&w, &cell) == Tag::None);
+    assert!(rt; exchanged(&mut w, &cell, None, Tag::None, &guard));
+    assert!(rt; world::atomic_owned::is_null(&w, &cell));
+    assert!(rt; world::atomic_owned::tag(&w, &cell) == Tag::Both);
+    let AtomicOwned { cell: _, of: _ } = cell;
+    let Owned { slot: _, of: _ } = other;
+    let WorldGuard { participant: _ } = guard;
+    Ok(())
+}
+
+#[test]
+fn a_link_names_its_cell(rt: HostRuntime) -> Result<(), Fail> {
+    let mut w = numbers(rt.alloc(), 1, 2)?;
+    let Ok(other) = world::atomic_shared::null(&mut w) else {
+        panic!(rt; "a cell is free");
+    };
+    let nothing = Link::of(&other);
+    assert!(rt; world::atomic_shared::as_ref(&w, nothing.cell()).is_none());
+    let Ok(cell) = world::atomic_shared::new(&mut w, 5) else {
+        panic!(rt; "a slot and a cell are free");
+    };
+    let link = Link::of(&cell);
+    assert_eq!(rt;
+        world::atomic_shared::as_ref(&w, link.cell()).copied(),
+        Some(5)
+    );
+    let AtomicShared { cell: _, of: _ } = other;
+    let AtomicShared { cell: _, of: _ } = cell;
+    Ok(())
+}
+
+#[test]
+fn a_guard_tells_its_participant(rt: HostRuntime) -> Result<(), Fail> {
+    let mut w = numbers(rt.alloc(), 0, 0)?;
+    let guard = guarded(&rt, &mut w, 1);
+    assert_eq!(rt; guard.participant(), 1);
     let WorldGuard { participant: _ } = guard;
     Ok(())
 }

@@ -10,8 +10,11 @@ ghost use Rattle.sdd_base.specs.Place.{IsPlace, IsOpen, IsReadable, IsSized};
 ghost use Rattle.sdd_base.specs.Tokens.{ptr_slot};
 
 use crate::holds::Holds;
+use crate::lender::{Lender, Store};
+use crate::owner::{Owned, Shared};
 use crate::pointer::Ptr;
 use crate::reclaim;
+use crate::refusal::{GuardsOpen, NotLent};
 use crate::sizes::Sizes;
 use crate::table::Table;
 use std::alloc::{AllocError, Global};
@@ -30,7 +33,7 @@ pub mod shared;
 /// A place of one thread, with room for all that its sizes name.
 #[derive(Drop)]
 pub struct World<T> {
-    table: Table<T>,
+    pub(crate) table: Table<T>,
 }
 
 impl<T> Model for World<T> {
@@ -104,6 +107,31 @@ impl<T> World<T> {
         match at.slot {
             None => None,
             Some(i) => Some(self.table.value(i)),
+        }
+    }
+}
+
+impl<T> Lender<T> for World<T> {
+    ghost use Rattle.sdd_base.specs.State.{with_value};
+
+    ghost state = { λ w. w };
+
+    ghost with_item = { with_value };
+
+    fn owned_mut(&mut self, owned: &Owned<T>) -> Result<&mut T, GuardsOpen> {
+        if self.table.any_open() {
+            return Err(GuardsOpen);
+        }
+        Ok(self.table.item_mut(owned.slot))
+    }
+
+    fn shared_mut(&mut self, shared: &Shared<T>) -> Result<&mut T, NotLent> {
+        if self.table.any_open() {
+            return Err(NotLent::GuardsOpen);
+        }
+        match self.table.lone_mut(shared.slot) {
+            Some(value) => Ok(value),
+            None => Err(NotLent::NotSole),
         }
     }
 }

@@ -1,10 +1,10 @@
 //! Cells that keep one owner of an item, or none, with a tag.
 
-ghost use Rattle.std.specs.Prelude.{◌≡◌, ◌≢◌, ◌<◌, ℕ, ◌+◌, length, IfOk, IfErr, IfSome, IfNone, OnErr, Some, None, IsTrue, IsFalse, ◌↔◌, ◌⊎◌, MatchResult, Option};
-ghost use Rattle.sdd_base.specs.State.{marks_at, IsFree, NoneFree, IsFreeCell, NoCellFree, placed, with_cell, cell_at, status_at, with_status};
+ghost use Rattle.std.specs.Prelude.{◌≡◌, ◌≢◌, ◌<◌, ℕ, ◌+◌, length, IfOk, IfErr, IfSome, IfNone, OnErr, Some, None, IsTrue, IsFalse, ◌↔◌, ◌⊎◌, MatchResult, Option, is_some, true};
+ghost use Rattle.sdd_base.specs.State.{marks_at, IsFree, NoneFree, IsFreeCell, NoCellFree, placed, value_at, with_cell, cell_at, status_at, with_status};
 ghost use Rattle.sdd_base.specs.Steps.{shared_ended};
 ghost use Rattle.sdd_base.specs.Frame.{Keeps, OnlyOf};
-ghost use Rattle.sdd_base.specs.Place.{IsSharedCell};
+ghost use Rattle.sdd_base.specs.Place.{IsReadable, IsShared, IsSharedCell};
 ghost use Rattle.sdd_base.specs.Tokens.{shared_cell, shared_slot, shared_slots, ptr_slot, ptr_tag};
 
 use crate::cell::AtomicShared;
@@ -82,6 +82,21 @@ pub fn load<T>(w: &World<T>, cell: &AtomicShared<T>, _guard: &WorldGuard) -> Ptr
             tag,
             of: PhantomData,
         },
+        _ => unreachable!(),
+    }
+}
+
+/// The value of the item that the cell keeps, or none. Condition: it is there.
+pub fn as_ref<'w, T>(w: &'w World<T>, cell: &AtomicShared<T>) -> Option<&'w T>
+    requires cell { IsSharedCell w.now (shared_cell cell.now) }
+    requires there { (i : ℕ) (tag : Tag) → cell_at w.now (shared_cell cell.now) ≡ Cell.OfShared (Some i) tag → IsReadable w.now (Some i) }
+    ensures null { (tag : Tag) → cell_at w.now (shared_cell cell.now) ≡ Cell.OfShared None tag → result ≡ None }
+    ensures item { (i : ℕ) (tag : Tag) → cell_at w.now (shared_cell cell.now) ≡ Cell.OfShared (Some i) tag → is_some result ≡ true }
+    ensures value { (i : ℕ) (tag : Tag) → cell_at w.now (shared_cell cell.now) ≡ Cell.OfShared (Some i) tag → IfSome result (λ v. Some v.now ≡ value_at w.now i) }
+{
+    match w.table.cell(cell.cell) {
+        Cell::OfShared(None, _) => None,
+        Cell::OfShared(Some(slot), _) => Some(w.table.value(slot)),
         _ => unreachable!(),
     }
 }
@@ -229,7 +244,9 @@ pub fn get_shared<T>(
 ) -> Option<Shared<T>>
     requires { IsSharedCell w.old (shared_cell cell.now) }
     ensures more { IfSome result (λ s. (tag : Tag) × (cell_at w.old (shared_cell cell.now) ≡ Cell.OfShared (Some (shared_slot s)) tag) × (n : ℕ) × (status_at w.old (shared_slot s) ≡ Status.Shared n) × (w.new ≡ with_status (shared_slot s) (Status.Shared (n + 1)) w.old)) }
+    ensures room { IfSome result (λ s. (n : ℕ) → status_at w.old (shared_slot s) ≡ Status.Shared n → n < 4294967295) }
     ensures none { IfNone result ((w.new ≡ w.old) × ((i n : ℕ) (tag : Tag) → cell_at w.old (shared_cell cell.now) ≡ Cell.OfShared (Some i) tag → n < 4294967295 → status_at w.old i ≢ Status.Shared n)) }
+    ensures live { IfSome result (λ s. IsShared w.new (shared_slot s)) }
     ensures keeps { Keeps w.old w.new }
 {
     match w.table.cell(cell.cell) {
@@ -248,8 +265,10 @@ pub fn clone<T>(
 ) -> Result<AtomicShared<T>, NoSlot>
     requires { IsSharedCell w.old (shared_cell cell.now) }
     ensures free { IfOk result (λ c. IsFreeCell w.old (shared_cell c)) }
+    ensures used { IfOk result (λ c. IsSharedCell w.new (shared_cell c)) }
     ensures refused { OnErr result ((w.new ≡ w.old) × NoCellFree w.old) }
     ensures more { (i n : ℕ) (tag : Tag) → cell_at w.old (shared_cell cell.now) ≡ Cell.OfShared (Some i) tag → status_at w.old i ≡ Status.Shared n → n < 4294967295 → IfOk result (λ c. w.new ≡ with_cell (shared_cell c) (Cell.OfShared (Some i) tag) (with_status i (Status.Shared (n + 1)) w.old)) }
+    ensures none { (i : ℕ) (tag : Tag) → cell_at w.old (shared_cell cell.now) ≡ Cell.OfShared (Some i) tag → ((n : ℕ) → n < 4294967295 → status_at w.old i ≢ Status.Shared n) → IfOk result (λ c. w.new ≡ with_cell (shared_cell c) (Cell.OfShared None tag) w.old) }
     ensures null { (tag : Tag) → cell_at w.old (shared_cell cell.now) ≡ Cell.OfShared None tag → IfOk result (λ c. w.new ≡ with_cell (shared_cell c) (Cell.OfShared None tag) w.old) }
     ensures keeps { Keeps w.old w.new }
 {

@@ -1,15 +1,21 @@
 //! Items with one owner.
 
-ghost use Rattle.std.specs.Prelude.{◌≡◌, ◌≢◌, ◌<◌, ℕ, length, IfOk, IfErr, IfSome, OnErr, Some, None, ◌↔◌, IsSome, IfNone};
+ghost use Rattle.std.specs.Prelude.{◌≡◌, ◌≢◌, ◌<◌, ℕ, length, IfOk, IfErr, IfSome, OnOk, OnErr, Some, None, ◌↔◌, IsSome, IfNone, IsErr};
+ghost use Rattle.std.specs.Borrow.{LendsIfOk, sem};
 ghost use Rattle.sdd_base.specs.State.{marks_at, IsFree, NoneFree, placed, value_at, retired, with_status, status_at};
 ghost use Rattle.sdd_base.specs.Frame.{Keeps, OnlyOf};
-ghost use Rattle.sdd_base.specs.Place.{IsOwned};
+ghost use Rattle.sdd_base.specs.Dropping.{Dropped};
+ghost use Rattle.sdd_base.specs.Holding.{OwnedItem};
+ghost use Rattle.sdd_base.specs.Place.{IsOpen, IsOwned};
 ghost use Rattle.sdd_base.specs.Tokens.{owned_slot, ptr_slot, ptr_tag, raw_slot, raw_tag};
 
 use crate::guard::WorldGuard;
+use crate::holds::{Held, Holds};
+use crate::lender::Lender;
 use crate::owner::Owned;
 use crate::pointer::{Ptr, RawPtr};
-use crate::refusal::NoSlot;
+use crate::reclaim;
+use crate::refusal::{GuardsOpen, NoSlot};
 use crate::status::Status;
 use crate::tag::Tag;
 use crate::world::World;
@@ -20,6 +26,7 @@ pub fn new<T>(w: &mut World<T>, value: T) -> Result<Owned<T>, T>
     ensures placed { IfOk result (λ o. IsFree w.old (owned_slot o) × (w.new ≡ placed (owned_slot o) value Status.Owned w.old)) }
     ensures refused { IfErr result (λ v. (v ≡ value) × (w.new ≡ w.old) × NoneFree w.old) }
     ensures live { IfOk result (λ o. IsOwned w.new (owned_slot o)) }
+    ensures value { IfOk result (λ o. value_at w.new (owned_slot o) ≡ Some value) }
     ensures keeps { Keeps w.old w.new }
 {
     Ok(Owned::of_slot(w.table.place(value, Status::Owned)?))
@@ -47,6 +54,26 @@ pub fn as_ref<'w, T>(w: &'w World<T>, owned: &Owned<T>) -> &'w T
     ensures { Some result.now ≡ value_at w.now (owned_slot owned.now) }
 {
     w.table.value(owned.slot)
+}
+
+/// The value of an item, for writing; refused while a guard of any participant is open, and then nothing has changed.
+/// Once the borrow is over, the item is what was last written, and nothing else has changed. Rust's `Owned::get_mut` is
+/// unsafe, and asks of its caller that nobody reads.
+///
+/// `W` is `World<T>`: the place is named by what it does, since a clause on a borrow can't name the type of a `World`.
+///
+/// ```
+/// if let Ok(value) = world::owned::get_mut(&mut w, &owned) {
+///     *value = 7;
+/// }
+/// ```
+pub fn get_mut<'w, T, W: Lender<T>>(w: &'w mut W, owned: &Owned<T>) -> Result<&'w mut T, GuardsOpen>
+    requires { IsOwned (W.state w.old) (owned_slot owned.now) }
+    ensures* writes { sem 𝓛 (LendsIfOk W.row T.row w.entry result (λ v. W.with_item (owned_slot owned.now) v w.entry.now) w.entry.now) }
+    ensures value { IfOk result (λ v. value_at (W.state w.old) (owned_slot owned.now) ≡ Some v.now) }
+    ensures open { IsErr result ↔ ((p : ℕ) × IsOpen (W.state w.old) p) }
+{
+    w.owned_mut(owned)
 }
 
 /// A pointer to the item, without a tag.
@@ -90,6 +117,7 @@ pub fn into_raw<T>(w: &mut World<T>, owned: Owned<T>) -> RawPtr<T>
 pub fn from_raw<T>(w: &mut World<T>, ptr: RawPtr<T>) -> Option<Owned<T>>
     ensures some { IfSome result (λ o. (raw_slot ptr ≡ Some (owned_slot o)) × (status_at w.old (owned_slot o) ≡ Status.Raw) × (w.new ≡ with_status (owned_slot o) Status.Owned w.old)) }
     ensures none { IfNone result ((w.new ≡ w.old) × IfSome (raw_slot ptr) (λ i. status_at w.old i ≢ Status.Raw)) }
+    ensures live { IfSome result (λ o. IsOwned w.new (owned_slot o)) }
     ensures keeps { Keeps w.old w.new }
 {
     let slot = ptr.slot?;
@@ -100,6 +128,22 @@ pub fn from_raw<T>(w: &mut World<T>, ptr: RawPtr<T>) -> Option<Owned<T>>
         }
         _ => None,
     }
+}
+
+/// Ends the item now, without waiting for anybody, and with it what it alone held; what others own of that stays, and
+/// what waits waits on. It is handed back while a guard of any participant is open, and then nothing has changed. Rust's
+/// `Owned::drop_in_place` is unsafe, and retires what the item held.
+pub fn drop_in_place<T: Holds>(w: &mut World<T>, owned: Owned<T>) -> Result<(), Owned<T>>
+    requires { IsOwned w.old (owned_slot owned) }
+    ensures dropped { OnOk result (Dropped T.holds (OwnedItem (owned_slot owned)) w.old w.new) }
+    ensures back { IfErr result (λ o. (owned_slot o ≡ owned_slot owned) × (w.new ≡ w.old)) }
+    ensures open { IsErr result ↔ ((p : ℕ) × IsOpen w.old p) }
+{
+    if w.table.any_open() {
+        return Err(owned);
+    }
+    reclaim::drop_now(&mut w.table, Held::Owned(owned));
+    Ok(())
 }
 
 /// Retires the item: it waits in the current bag of participant `p`.

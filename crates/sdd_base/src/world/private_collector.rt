@@ -5,7 +5,8 @@
 
 ghost use Rattle.std.specs.Prelude.{◌≡◌, ◌<◌, ℕ, [], length, leb, IfOk, IsTrue, IsFalse};
 ghost use Rattle.sdd_base.specs.State.{status_at, marks_at};
-ghost use Rattle.sdd_base.specs.Steps.{released, purged, left_waiting, enqueued, set_aside, handed};
+ghost use Rattle.sdd_base.specs.Steps.{released, handed};
+ghost use Rattle.sdd_base.specs.Collecting.{collected, left_with, swept_by, left_in};
 ghost use Rattle.sdd_base.specs.Frame.{Keeps, OnlyOf};
 ghost use Rattle.sdd_base.specs.Place.{IsOwned, IsShared};
 ghost use Rattle.sdd_base.specs.Tokens.{owned_slot, shared_slot, participant_of, waiting_in, room_of};
@@ -43,8 +44,8 @@ pub fn collect_owned<T: Holds>(
 )
     requires member { participant_of guard.now < length w.old.members }
     requires live { IsOwned w.old (owned_slot owned) }
-    ensures state { w.new ≡ purged T.holds (participant_of guard.now) (enqueued (room_of collector.old) (waiting_in collector.old) (owned_slot owned)) (set_aside (participant_of guard.now) (room_of collector.old) (waiting_in collector.old) (owned_slot owned) w.old) }
-    ensures left { waiting_in collector.new ≡ left_waiting T.holds (participant_of guard.now) (enqueued (room_of collector.old) (waiting_in collector.old) (owned_slot owned)) (set_aside (participant_of guard.now) (room_of collector.old) (waiting_in collector.old) (owned_slot owned) w.old) }
+    ensures state { w.new ≡ collected T.holds (participant_of guard.now) collector.old (owned_slot owned) w.old }
+    ensures left { waiting_in collector.new ≡ left_with T.holds (participant_of guard.now) collector.old (owned_slot owned) w.old }
     ensures room { room_of collector.new ≡ room_of collector.old }
     ensures nests { (q : ℕ) → (marks_at w.new q).nesting ≡ (marks_at w.old q).nesting }
     ensures keeps { Keeps w.old w.new }
@@ -71,10 +72,10 @@ pub fn collect_shared<T: Holds>(
     requires member { participant_of guard.now < length w.old.members }
     requires live { IsShared w.old (shared_slot shared) }
     ensures last { (n : ℕ) → status_at w.old (shared_slot shared) ≡ Status.Shared n → result ≡ leb n 1 }
-    ensures state { IsTrue result → w.new ≡ purged T.holds (participant_of guard.now) (enqueued (room_of collector.old) (waiting_in collector.old) (shared_slot shared)) (set_aside (participant_of guard.now) (room_of collector.old) (waiting_in collector.old) (shared_slot shared) w.old) }
-    ensures left { IsTrue result → waiting_in collector.new ≡ left_waiting T.holds (participant_of guard.now) (enqueued (room_of collector.old) (waiting_in collector.old) (shared_slot shared)) (set_aside (participant_of guard.now) (room_of collector.old) (waiting_in collector.old) (shared_slot shared) w.old) }
-    ensures released { IsFalse result → w.new ≡ purged T.holds (participant_of guard.now) (waiting_in collector.old) (released (participant_of guard.now) (shared_slot shared) w.old) }
-    ensures others { IsFalse result → waiting_in collector.new ≡ left_waiting T.holds (participant_of guard.now) (waiting_in collector.old) (released (participant_of guard.now) (shared_slot shared) w.old) }
+    ensures state { IsTrue result → w.new ≡ collected T.holds (participant_of guard.now) collector.old (shared_slot shared) w.old }
+    ensures left { IsTrue result → waiting_in collector.new ≡ left_with T.holds (participant_of guard.now) collector.old (shared_slot shared) w.old }
+    ensures released { IsFalse result → w.new ≡ swept_by T.holds (participant_of guard.now) collector.old (released (participant_of guard.now) (shared_slot shared) w.old) }
+    ensures others { IsFalse result → waiting_in collector.new ≡ left_in T.holds (participant_of guard.now) collector.old (released (participant_of guard.now) (shared_slot shared) w.old) }
     ensures room { room_of collector.new ≡ room_of collector.old }
     ensures nests { (q : ℕ) → (marks_at w.new q).nesting ≡ (marks_at w.old q).nesting }
     ensures keeps { Keeps w.old w.new }

@@ -1,17 +1,22 @@
 //! Items with counted owners.
 
-ghost use Rattle.std.specs.Prelude.{◌≡◌, ◌≢◌, ◌<◌, ◌+◌, ℕ, length, leb, IfOk, IfErr, IfSome, OnErr, Some, None, IfNone, IsTrue, ◌↔◌};
+ghost use Rattle.std.specs.Prelude.{◌≡◌, ◌≢◌, ◌<◌, ◌+◌, ℕ, length, leb, IfOk, IfErr, IfSome, OnErr, Some, None, IfNone, IsTrue, ◌↔◌, OnOk, IsErr, IsErrOf};
+ghost use Rattle.std.specs.Borrow.{LendsIfOk, sem};
 ghost use Rattle.sdd_base.specs.State.{marks_at, IsFree, NoneFree, placed, value_at, with_status, status_at};
 ghost use Rattle.sdd_base.specs.Steps.{released};
 ghost use Rattle.sdd_base.specs.Frame.{Keeps, OnlyOf};
-ghost use Rattle.sdd_base.specs.Place.{IsShared};
+ghost use Rattle.sdd_base.specs.Dropping.{Dropped};
+ghost use Rattle.sdd_base.specs.Holding.{SharedItem};
+ghost use Rattle.sdd_base.specs.Place.{IsOpen, IsShared, HasOneOwner};
 ghost use Rattle.sdd_base.specs.Tokens.{shared_slot, ptr_slot, ptr_tag};
 
 use crate::guard::WorldGuard;
+use crate::holds::{Held, Holds};
+use crate::lender::Lender;
 use crate::owner::Shared;
 use crate::pointer::Ptr;
 use crate::reclaim;
-use crate::refusal::NoSlot;
+use crate::refusal::{NoSlot, NotLent};
 use crate::status::Status;
 use crate::tag::Tag;
 use crate::world::{World, ptr};
@@ -22,6 +27,7 @@ pub fn new<T>(w: &mut World<T>, value: T) -> Result<Shared<T>, T>
     ensures placed { IfOk result (λ s. IsFree w.old (shared_slot s) × (w.new ≡ placed (shared_slot s) value (Status.Shared 1) w.old)) }
     ensures refused { IfErr result (λ v. (v ≡ value) × (w.new ≡ w.old) × NoneFree w.old) }
     ensures live { IfOk result (λ s. IsShared w.new (shared_slot s)) }
+    ensures value { IfOk result (λ o. value_at w.new (shared_slot o) ≡ Some value) }
     ensures keeps { Keeps w.old w.new }
 {
     Ok(Shared::of_slot(w.table.place(value, Status::Shared(1))?))
@@ -80,12 +86,46 @@ pub fn release<T>(w: &mut World<T>, shared: Shared<T>, p: usize) -> bool
     reclaim::release(&mut w.table, p, slot)
 }
 
+/// Gives an owner back, and answers whether it was the last, those of cells and items counted. With the last one the
+/// item ends now, without waiting for anybody, and with it what it alone held; what others own of that stays, and what
+/// waits waits on. The owner is handed back while a guard of any participant is open, and then nothing has changed.
+pub fn drop_in_place<T: Holds>(w: &mut World<T>, shared: Shared<T>) -> Result<bool, Shared<T>>
+    requires { IsShared w.old (shared_slot shared) }
+    ensures dropped { OnOk result (Dropped T.holds (SharedItem (shared_slot shared)) w.old w.new) }
+    ensures last { IfOk result (λ last. (n : ℕ) → status_at w.old (shared_slot shared) ≡ Status.Shared n → last ≡ leb n 1) }
+    ensures back { IfErr result (λ s. (shared_slot s ≡ shared_slot shared) × (w.new ≡ w.old)) }
+    ensures open { IsErr result ↔ ((p : ℕ) × IsOpen w.old p) }
+{
+    if w.table.any_open() {
+        return Err(shared);
+    }
+    let last = matches!(w.table.status(shared.slot), Status::Shared(0 | 1));
+    reclaim::drop_now(&mut w.table, Held::Shared(shared));
+    Ok(last)
+}
+
 /// The value of an item.
 pub fn as_ref<'w, T>(w: &'w World<T>, shared: &Shared<T>) -> &'w T
     requires { IsShared w.now (shared_slot shared.now) }
     ensures { Some result.now ≡ value_at w.now (shared_slot shared.now) }
 {
     w.table.value(shared.slot)
+}
+
+/// The value of an item, for writing; refused while a guard of any participant is open, and where `shared` isn't its one
+/// owner, those of cells and items counted; then nothing has changed. Once the borrow is over, the item is what was last
+/// written, and nothing else has changed. Rust's `Shared::get_mut` is unsafe, and answers none beside other owners.
+///
+/// `W` is `World<T>`: the place is named by what it does, since a clause on a borrow can't name the type of a `World`.
+pub fn get_mut<'w, T, W: Lender<T>>(w: &'w mut W, shared: &Shared<T>) -> Result<&'w mut T, NotLent>
+    requires { IsShared (W.state w.old) (shared_slot shared.now) }
+    ensures* writes { sem 𝓛 (LendsIfOk W.row T.row w.entry result (λ v. W.with_item (shared_slot shared.now) v w.entry.now) w.entry.now) }
+    ensures value { IfOk result (λ v. value_at (W.state w.old) (shared_slot shared.now) ≡ Some v.now) }
+    ensures sole { OnOk result (HasOneOwner (W.state w.old) (shared_slot shared.now)) }
+    ensures others { IsErrOf result NotLent.NotSole → ¬ HasOneOwner (W.state w.old) (shared_slot shared.now) }
+    ensures open { IsErrOf result NotLent.GuardsOpen ↔ ((p : ℕ) × IsOpen (W.state w.old) p) }
+{
+    w.shared_mut(shared)
 }
 
 /// A pointer to the item, without a tag.
@@ -112,7 +152,9 @@ pub fn get_guarded_ref<'w, T>(w: &'w World<T>, shared: &Shared<T>, _guard: &Worl
 pub fn try_from<T>(w: &mut World<T>, at: Ptr<'static, T>) -> Result<Shared<T>, Ptr<'static, T>>
     ensures more { IfOk result (λ s. (ptr_slot at.entry ≡ Some (shared_slot s)) × (n : ℕ) × (status_at w.old (shared_slot s) ≡ Status.Shared n) × (w.new ≡ with_status (shared_slot s) (Status.Shared (n + 1)) w.old)) }
     ensures back { IfErr result (λ r. (ptr_slot r ≡ ptr_slot at.entry) × (ptr_tag r ≡ ptr_tag at.entry) × (w.new ≡ w.old)) }
+    ensures room { IfOk result (λ s. (n : ℕ) → status_at w.old (shared_slot s) ≡ Status.Shared n → n < 4294967295) }
     ensures none { OnErr result (IfSome (ptr_slot at.entry) (λ i. (n : ℕ) → n < 4294967295 → status_at w.old i ≢ Status.Shared n)) }
+    ensures live { IfOk result (λ s. IsShared w.new (shared_slot s)) }
     ensures keeps { Keeps w.old w.new }
 {
     match at.slot {

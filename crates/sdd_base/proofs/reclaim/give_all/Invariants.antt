@@ -1,4 +1,4 @@
-use Rattle.std.proofs.Common.{◌≡◌, ◌<◌, ℕ, length}
+use Rattle.std.proofs.Common.{◌≡◌, ◌<◌, length}
 use Rattle.sdd_base.specs.Steps.{given_all}
 use Rattle.sdd_base.proofs.reclaim.give_all.Given as goal
 

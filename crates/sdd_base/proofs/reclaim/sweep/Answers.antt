@@ -1,5 +1,5 @@
 use Rattle.std.proofs.Common.{sym}
-use Rattle.sdd_base.proofs.Sweeps.{Sweeping, sweeping_start, sweeping_next}
+use Rattle.sdd_base.proofs.Sweeps.{sweeping_start, sweeping_next}
 use Rattle.sdd_base.proofs.reclaim.sweep.Goals as goal
 
 pub loop-table-init : goal.loop-table-init

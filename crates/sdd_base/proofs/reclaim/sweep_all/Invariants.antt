@@ -1,4 +1,3 @@
-use Rattle.std.proofs.Common.{◌≡◌, length}
 use Rattle.sdd_base.proofs.Sweeps.{SweepingAll}
 use Rattle.sdd_base.proofs.reclaim.sweep_all.Given as goal
 

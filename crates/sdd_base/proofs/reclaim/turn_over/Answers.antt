@@ -1,6 +1,5 @@
-use Rattle.std.proofs.Common.{arith, ◌∙◌, ◌≡◌}
 use Rattle.sdd_base.proofs.Sounds.{due_waiting}
-use Rattle.sdd_base.proofs.Turns.{Turning, turning_start, turning_next, turning_end}
+use Rattle.sdd_base.proofs.Turns.{turning_start, turning_next}
 use Rattle.sdd_base.proofs.reclaim.turn_over.Goals as goal
 
 pub loop-init : goal.loop-init

@@ -1,7 +1,6 @@
-use Rattle.std.proofs.Common.{refl, ap, sym, ◌∙◌, arith, length, subst, List, ◌++◌, ◌∷◌, []}
+use Rattle.std.proofs.Common.{refl, ap, sym, ◌∙◌, arith, length, List, ◌++◌, ◌∷◌, []}
 use Rattle.std.proofs.lemmas.List.{length-replicate}
 use Rattle.sdd_base.specs.State.{vacancy, idleness}
-use Rattle.sdd_base.specs.View.{Lists}
 use Rattle.sdd_base.specs.declared.status.Status.{Status}
 use Rattle.sdd_base.specs.declared.status.Status.TheVariants as status
 use Rattle.sdd_base.proofs.Lists.{lists_grow, lists_skip}

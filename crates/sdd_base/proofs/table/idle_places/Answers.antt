@@ -1,4 +1,4 @@
-use Rattle.std.proofs.Common.{refl, ap, sym, ◌∙◌, arith, length, List, ◌++◌, ◌∷◌, [], replicate}
+use Rattle.std.proofs.Common.{refl, ap, sym, ◌∙◌, arith, List, ◌++◌, ◌∷◌, [], replicate}
 use Rattle.std.proofs.lemmas.List.{append_assoc}
 use Rattle.sdd_base.specs.State.{vacancy, idleness}
 use Rattle.sdd_base.specs.declared.status.Status.{Status}

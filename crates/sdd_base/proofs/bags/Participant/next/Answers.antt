@@ -1,4 +1,3 @@
-use Rattle.std.proofs.Common.{Option, None, Some, MatchOption, ◌≡◌, length, List, ℕ}
 use Rattle.sdd_base.proofs.Slots.{next_shown, empty_then}
 use Rattle.sdd_base.proofs.bags.Participant.next.Goals as goal
 

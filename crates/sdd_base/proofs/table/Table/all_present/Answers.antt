@@ -1,6 +1,6 @@
-use Rattle.std.proofs.Common.{rules, arith, ◌≡◌, ◌∙◌, ℕ, ◌<◌, ◌≤◌, true, false, get_or, map, length, sym, ap, subst, Bool, List}
+use Rattle.std.proofs.Common.{arith, ◌≡◌, ◌∙◌, ◌<◌, ◌≤◌, true, false, get_or, length, sym, ap, subst, List}
 use Rattle.std.specs.List.{list_all}
-use Rattle.sdd_base.specs.State.{is_present, State, Member}
+use Rattle.sdd_base.specs.State.{is_present, State}
 use Rattle.sdd_base.specs.View.{member_of}
 use Rattle.sdd_base.specs.declared.bags.Participant.{Participant}
 use Rattle.sdd_base.proofs.Slots.{list_all_members, passes, fails, absent}

@@ -1,4 +1,4 @@
-use Rattle.std.proofs.Common.{refl, arith, ap, ◌≡◌, ◌<◌, ◌≤◌, length, subst}
+use Rattle.std.proofs.Common.{arith, ap, ◌≡◌, ◌<◌, length, subst}
 use Rattle.sdd_base.specs.State.{State, emptiness, cell_at, with_cell}
 use Rattle.sdd_base.specs.declared.status.Cell.TheVariants as cell
 use Rattle.sdd_base.proofs.Lists.{lists_pop}

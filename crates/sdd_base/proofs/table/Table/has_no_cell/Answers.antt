@@ -1,4 +1,4 @@
-use Rattle.std.proofs.Common.{subst, ◌≡◌, ◌<◌, ℕ, length}
+use Rattle.std.proofs.Common.{subst, ◌≡◌, ◌<◌, length}
 use Rattle.sdd_base.specs.State.{State, cell_at, emptiness}
 use Rattle.sdd_base.specs.declared.status.Cell.TheVariants as cell
 use Rattle.sdd_base.proofs.Lists.{lists_some}

@@ -1,4 +1,4 @@
-use Rattle.std.proofs.Common.{sym, subst, ◌≡◌, ◌<◌, ℕ, length, arith, get_or}
+use Rattle.std.proofs.Common.{subst, ◌≡◌, ◌<◌, length}
 use Rattle.sdd_base.specs.State.{State, status_at, vacancy}
 use Rattle.sdd_base.specs.declared.status.Status.TheVariants as status
 use Rattle.sdd_base.proofs.Lists.{lists_some}

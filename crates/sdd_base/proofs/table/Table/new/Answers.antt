@@ -1,4 +1,4 @@
-use Rattle.std.proofs.Common.{refl, ap, sym, ◌∙◌, arith, List, ◌++◌, replicate, ℕ, length, None}
+use Rattle.std.proofs.Common.{refl, ap, ◌∙◌, List, ◌++◌, replicate, length, None}
 use Rattle.std.proofs.lemmas.List.{length-replicate}
 use Rattle.sdd_base.specs.declared.status.Status.{Status}
 use Rattle.sdd_base.specs.declared.status.Status.TheVariants as status

@@ -1,5 +1,5 @@
 use Rattle.std.proofs.Common.{ap, ◌∙◌, length, refl}
-use Rattle.sdd_base.specs.State.{State, retired}
+use Rattle.sdd_base.specs.State.{retired}
 use Rattle.sdd_base.proofs.Slots.{has_room, retired_view, retired_invariant, known_in, slot_in, used_in, weight_in}
 use Rattle.sdd_base.proofs.table.Table.retire.Goals as goal
 

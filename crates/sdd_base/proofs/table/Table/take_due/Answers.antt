@@ -1,7 +1,7 @@
-use Rattle.std.proofs.Common.{length-set, refl, ap, sym, ◌∙◌, arith, length, ◌≤◌, ◌<◌, ◌≡◌, ◌≢◌, is_some, subst, ℕ, List, ◌∷◌, [], vec_len, get_or, Option, cond, Bool, ◌-◌, true, false, ◌+◌}
+use Rattle.std.proofs.Common.{length-set, ap, sym, ◌∙◌, arith, ◌≡◌, subst, get_or, Option, ◌-◌, true, false}
 use Rattle.std.proofs.lemmas.List.{get_or_default}
 use Rattle.std.proofs.lemmas.List.Sums.{get_or-le-sum_by}
-use Rattle.sdd_base.specs.State.{State, member_at, status_at, left_due, Member, weight, vacancy, idleness, usage, is_used, is_job, vacated}
+use Rattle.sdd_base.specs.State.{State, member_at, Member, vacancy, idleness, usage, is_used, is_job, vacated}
 use Rattle.sdd_base.specs.declared.status.Status.TheVariants as status
 use Rattle.sdd_base.proofs.Slots.{known_in, same_view, changed_invariant, taken_result, due_in, due_waits, within_values, vacated_invariant, run_invariant, stack_room, vacancy-one, idleness-one, waits_item, waits_job, job_room}
 use Rattle.sdd_base.proofs.table.Table.take_due.Goals as goal

@@ -1,4 +1,4 @@
-use Rattle.std.proofs.Common.{ap, ◌∙◌, refl, arith, ◌≤◌}
+use Rattle.std.proofs.Common.{ap, ◌∙◌, arith}
 use Rattle.sdd_base.specs.State.{turned, changing}
 use Rattle.sdd_base.proofs.Slots.{changed_view, changed_invariant, known_in}
 use Rattle.sdd_base.proofs.table.Table.turn.Goals as goal

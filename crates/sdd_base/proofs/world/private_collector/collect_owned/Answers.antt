@@ -1,6 +1,5 @@
-use Rattle.std.proofs.Common.{subst, ap, sym, ◌<◌, ◌≡◌, length}
+use Rattle.std.proofs.Common.{subst, ap, sym, ◌<◌, length}
 use Rattle.sdd_base.specs.State.{State, is_used, weight}
-use Rattle.sdd_base.specs.Steps.{purged}
 use Rattle.sdd_base.specs.Place.{IsOwned}
 use Rattle.sdd_base.specs.Tokens.{owned_slot, participant_of, room_of, waiting_in}
 use Rattle.sdd_base.proofs.Frames.{kept, only_of, is_place}

@@ -1,10 +1,9 @@
-use Rattle.std.proofs.Common.{subst, sym, ◌<◌, ◌≡◌, length}
+use Rattle.std.proofs.Common.{subst, sym, ◌<◌, length}
 use Rattle.sdd_base.specs.State.{State}
-use Rattle.sdd_base.specs.Steps.{purged}
 use Rattle.sdd_base.specs.Place.{IsShared}
 use Rattle.sdd_base.specs.Tokens.{shared_slot, participant_of, room_of, waiting_in}
 use Rattle.sdd_base.proofs.Frames.{kept, only_of, is_place}
-use Rattle.sdd_base.proofs.Privates.{Sets, sets_left, place_swept, keeps_swept, only_swept, nests_swept}
+use Rattle.sdd_base.proofs.Privates.{sets_left, place_swept, keeps_swept, only_swept, nests_swept}
 use Rattle.sdd_base.proofs.world.private_collector.collect_shared.Goals as goal
 
 pub invariant_of-w : goal.invariant_of-w

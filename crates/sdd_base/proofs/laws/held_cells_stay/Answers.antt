@@ -1,0 +1,5 @@
+use Rattle.sdd_base.proofs.Cells.{held_cells_stay}
+use Rattle.sdd_base.proofs.laws.held_cells_stay.Goals as goal
+
+pub returns : goal.returns
+returns g c = held_cells_stay g.T.Holds.holds
