@@ -1,0 +1,10 @@
+pub mod Chains
+pub mod Making
+pub mod Walks
+pub mod Releases
+pub mod Fronts
+pub mod Tails
+pub mod Queues
+pub mod Nodes
+pub mod Firsts
+pub mod Shares

@@ -1,0 +1,64 @@
+-- the first entry of a list is taken off, shared and put back
+use Rattle.std.proofs.Common.{◌≡◌, ◌≢◌, ℕ, Option, Some, List, [], ◌∷◌, refl, sym, ap, ◌∙◌, subst, get_or-set_other}
+use Rattle.sdd_base.specs.State.{State, status_at, with_status}
+use Rattle.sdd_base.specs.declared.tag.Tag.{Tag}
+use Rattle.sdd_base.specs.declared.status.Status.TheVariants as status
+use Rattle.sdd.specs.Chain.{Entry, slots, links, IsOut, IsHung, IsLoose, Leaves, Fits, CanHang, first_slot}
+use Rattle.sdd.proofs.Chains.{hung_out, leaves_then, leaves_more, leaves_all, inside_states}
+use Rattle.sdd.proofs.Releases.{item_owners, hung_owners}
+use Rattle.sdd.proofs.Fronts.{TookSome}
+
+leaves_owners : {L : Type 0} (w : State L) (i m : ℕ) → Leaves [] (i ∷ []) w (with_status i (status.Shared m) w)
+leaves_owners w i m = record {
+  cells = λ j out used. refl;
+  uses = λ j out used. get_or-set_other w.states i j (status.Shared m) status.Free out.0;
+  values = λ j out used. refl;
+}
+
+module _ {L : Type 0} (link : L → Option ℕ) (w w1 w2 : State L) (c i : ℕ) (t : Tag) (es : List (Entry L)) (h : IsHung link w c t es) (k : TookSome link w w1 c i t es) where
+  -- the list and its first entry, while that is off: its owners were counted, or not
+  pub record Off : Type 0 where
+    pub left : IsHung link w2 c t k.rest
+    pub loose : IsLoose link w2 k.entry
+    pub leaves : Leaves [] (i ∷ []) w1 w2
+
+  pub off_same : w2 ≡ w1 → Off
+  off_same e = record {
+    left = subst (λ (v : State L). IsHung link v c t k.rest) (sym e) k.left;
+    loose = subst (λ (v : State L). IsLoose link v k.entry) (sym e) k.loose;
+    leaves = subst (λ (v : State L). Leaves [] (i ∷ []) w1 v) (sym e) (leaves_all [] (i ∷ []) w1);
+  }
+
+  pub off_more : (n m : ℕ) → status_at w1 i ≡ status.Shared n → w2 ≡ with_status i (status.Shared m) w1 → Off
+  off_more n m is e =
+      let lt = inside_states w1.states i n is in
+      record {
+        left = subst (λ (v : State L). IsHung link v c t k.rest) (sym e) (hung_owners link i m c t k.rest w1 lt k.left);
+        loose = subst (λ (v : State L). IsLoose link v k.entry) (sym e) (record { item = item_owners link i m w1 k.entry lt k.loose.item; empty = k.loose.empty });
+        leaves = subst (λ (v : State L). Leaves [] (i ∷ []) w1 v) (sym e) (leaves_owners w1 i m);
+      }
+
+  fits_off : IsHung link w2 c t k.rest → Fits c k.rest k.entry
+  fits_off g = record { cell = (k.apart, hung_out link w2 c t k.rest g); link = k.out; slot = k.alone }
+
+  pub can_return : Off → CanHang link w2 c i
+  can_return o = record { tag = t; entries = k.rest; entry = k.entry; hung = o.left; loose = o.loose; fits = fits_off o.left; at = k.at }
+
+  module _ (w3 : State L) (o : Off) (put : (u : Tag) (xs : List (Entry L)) (x : Entry L) → IsHung link w2 c u xs → IsLoose link w2 x → Fits c xs x → i ≡ x.slot → IsHung link w3 c u (x ∷ xs) × Leaves (c ∷ x.link ∷ []) [] w2 w3) where
+    back : IsHung link w3 c t (k.entry ∷ k.rest) × Leaves (c ∷ k.entry.link ∷ []) [] w2 w3
+    back = put t k.rest k.entry o.left o.loose (fits_off o.left) k.at
+
+    pub shared_hung : IsHung link w3 c t es
+    shared_hung = subst (λ (xs : List (Entry L)). IsHung link w3 c t xs) (sym k.is) back.0
+
+    pub shared_leaves : Leaves (c ∷ links es) (slots es) w w3
+    shared_leaves =
+        let inside : (j : ℕ) → IsOut j (links es) → IsOut j (links (k.entry ∷ k.rest)) = λ j out. subst (λ (ys : List (Entry L)). IsOut j (links ys)) k.is out in
+        let inside' : (j : ℕ) → IsOut j (slots es) → j ≢ i = λ j out. subst (λ (m : ℕ). j ≢ m) (sym k.at) (subst (λ (ys : List (Entry L)). IsOut j (slots ys)) k.is out).0 in
+        let one = leaves_more (c ∷ k.entry.link ∷ []) [] (c ∷ links es) (slots es) w w1 (λ j out. (out.0, ((inside j out.1).0, tt))) (λ j out. tt) k.leaves in
+        let two = leaves_more [] (i ∷ []) (c ∷ links es) (slots es) w1 w2 (λ j out. tt) (λ j out. (inside' j out, tt)) o.leaves in
+        let three = leaves_more (c ∷ k.entry.link ∷ []) [] (c ∷ links es) (slots es) w2 w3 (λ j out. (out.0, ((inside j out.1).0, tt))) (λ j out. tt) back.1 in
+        leaves_then (c ∷ links es) (slots es) w w2 w3 (leaves_then (c ∷ links es) (slots es) w w1 w2 one two) three
+
+    pub shared_slot_is : Some i ≡ first_slot es
+    shared_slot_is = ap (λ (m : ℕ). Some m) k.at ∙ ap first_slot (sym k.is)

@@ -1,0 +1,5 @@
+use Rattle.sdd.proofs.Releases.{leaves_released}
+use Rattle.sdd.proofs.laws.releases_leave.Goals as goal
+
+pub returns : goal.returns
+returns g c = λ p i w. leaves_released p i w

@@ -1,0 +1,5 @@
+use Rattle.sdd.proofs.Releases.{spare_owner}
+use Rattle.sdd.proofs.laws.spare_owners.Goals as goal
+
+pub returns : goal.returns
+returns g c = spare_owner g.L.LinkedList.link

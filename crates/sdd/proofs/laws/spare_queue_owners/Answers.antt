@@ -1,0 +1,5 @@
+use Rattle.sdd.proofs.Queues.{spare_queue_owner}
+use Rattle.sdd.proofs.laws.spare_queue_owners.Goals as goal
+
+pub returns : goal.returns
+returns g c = spare_queue_owner g.L.LinkedList.link

@@ -1,0 +1,31 @@
+use Rattle.std.proofs.Common.{◌≡◌, ◌∙◌, sym, subst, ℕ, Option, Some, IfSome}
+use Rattle.sdd_base.specs.State.{value_at}
+use Rattle.sdd_base.specs.Tokens.{shared_cell}
+use Rattle.sdd.specs.Chain.{IsHung, skip}
+use Rattle.sdd.proofs.Chains.{head_cell, kept_same, some_same}
+use Rattle.sdd.proofs.Fronts.{skipped_first}
+use Rattle.sdd.proofs.Nodes.{node_item, hung_node}
+use Rattle.sdd.proofs.world.linked_list.next_ptr.Goals as goal
+
+pub load-requires-after_bounds : goal.load-requires-after_bounds
+load-requires-after_bounds g c = λ _ _.
+    let r = c.requires in
+    let item = node_item g.L.LinkedList.link c.args.w.now _ r.0 c.in-Some.item.now r.2 (λ i is. subst (λ (o : Option ℕ). IfSome o (λ j. Some c.in-Some.item.now ≡ value_at c.args.w.now j)) is c.in-Some.ensures.item) in
+    let at = some_same r.0.link (shared_cell c.link_ref.result.now) (sym item ∙ c.link_ref.ensures) in
+    let k = c.skip_from.ensures r.0.tag r.1 (subst (λ (d : ℕ). IsHung g.L.LinkedList.link c.args.w.now d r.0.tag r.1) at r.3) in
+    head_cell g.L.LinkedList.link c.args.w.now (shared_cell c.skip_from.result.now) k.0 (skip r.1) k.1
+
+pub returns-clause-next : goal.returns-clause-next
+returns-clause-next g c = λ e es n h.
+    let item = node_item g.L.LinkedList.link c.args.w.now _ e c.in-Some.item.now n (λ i is. subst (λ (o : Option ℕ). IfSome o (λ j. Some c.in-Some.item.now ≡ value_at c.args.w.now j)) is c.in-Some.ensures.item) in
+    let at = some_same e.link (shared_cell c.link_ref.result.now) (sym item ∙ c.link_ref.ensures) in
+    let k = c.skip_from.ensures e.tag es (subst (λ (d : ℕ). IsHung g.L.LinkedList.link c.args.w.now d e.tag es) at h) in
+    kept_same _ _ _ _ (sym c.load.ensures ∙ skipped_first g.L.LinkedList.link c.args.w.now (shared_cell c.skip_from.result.now) k.0 es k.1)
+
+pub returns-clause-node : goal.returns-clause-node
+returns-clause-node g c =
+    let r = c.requires in
+    let item = node_item g.L.LinkedList.link c.args.w.now _ r.0 c.in-Some.item.now r.2 (λ i is. subst (λ (o : Option ℕ). IfSome o (λ j. Some c.in-Some.item.now ≡ value_at c.args.w.now j)) is c.in-Some.ensures.item) in
+    let at = some_same r.0.link (shared_cell c.link_ref.result.now) (sym item ∙ c.link_ref.ensures) in
+    let k = c.skip_from.ensures r.0.tag r.1 (subst (λ (d : ℕ). IsHung g.L.LinkedList.link c.args.w.now d r.0.tag r.1) at r.3) in
+    hung_node g.L.LinkedList.link c.args.w.now (shared_cell c.skip_from.result.now) k.0 _ (skip r.1) k.1 _ c.load.ensures

@@ -1,0 +1,5 @@
+use Rattle.sdd_base.specs.declared.tag.Tag.TheVariants as tag
+use Rattle.sdd.proofs.world.queue.peek_with.Goals as goal
+
+pub returns : goal.returns
+returns g c = λ es q. (c.first_undeleted.result, c.first_undeleted.ensures tag.None es q.hung, c.f.ensures)

@@ -1,0 +1,20 @@
+use Rattle.std.proofs.Common.{◌∙◌, sym}
+use Rattle.sdd_base.specs.Tokens.{shared_cell}
+use Rattle.sdd_base.specs.declared.tag.Tag.TheVariants as tag
+use Rattle.sdd.specs.Entries.{entry_link}
+use Rattle.sdd.specs.Chain.{skip}
+use Rattle.sdd.proofs.Chains.{head_cell, kept_same}
+use Rattle.sdd.proofs.Nodes.{hung_node}
+use Rattle.sdd.proofs.Fronts.{skipped_first}
+use Rattle.sdd.proofs.world.stack.peek.Goals as goal
+
+pub load-requires-after_bounds : goal.load-requires-after_bounds
+load-requires-after_bounds g c = λ _ _. let r = c.skip_from.ensures tag.None c.requires.entries c.requires.is in head_cell entry_link c.args.w.now (shared_cell c.skip_from.result.now) r.0 (skip c.requires.entries) r.1
+
+pub returns-clause-first : goal.returns-clause-first
+returns-clause-first g c = λ es h.
+    let r = c.skip_from.ensures tag.None es h in
+    kept_same _ _ _ _ (sym c.load.ensures ∙ skipped_first entry_link c.args.w.now (shared_cell c.skip_from.result.now) r.0 es r.1)
+
+pub returns-clause-node : goal.returns-clause-node
+returns-clause-node g c = let r = c.skip_from.ensures tag.None c.requires.entries c.requires.is in hung_node entry_link c.args.w.now (shared_cell c.skip_from.result.now) r.0 _ (skip c.requires.entries) r.1 _ c.load.ensures

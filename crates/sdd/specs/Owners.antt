@@ -1,0 +1,24 @@
+-- owners that are given back beside a list
+use Rattle.std.specs.Prelude.{◌≡◌, ℕ, ◌≤◌, Option, List, [], ◌∷◌}
+use Rattle.sdd_base.specs.State.{State, status_at}
+use Rattle.sdd_base.specs.Steps.{released}
+use Rattle.sdd_base.specs.declared.tag.Tag.{Tag}
+use Rattle.sdd_base.specs.declared.status.Status.TheVariants as status
+use Rattle.sdd.specs.Queues.{IsQueue}
+use Rattle.sdd.specs.Chain.{Entry, IsHung, Leaves, AreOut, IsOut, links, slots}
+
+-- giving back one owner of several leaves every list
+abbrev pub SpareOwners : {L : Type 0} → (L → Option ℕ) → Type 0
+SpareOwners {L} link = (p i n c : ℕ) (t : Tag) (es : List (Entry L)) (w : State L) → status_at w i ≡ status.Shared n → 2 ≤ n → IsHung link w c t es → IsHung link (released p i w) c t es
+
+-- a list stays where a call leaves its cells and its items
+abbrev pub ListsStay : {L : Type 0} → (L → Option ℕ) → Type 0
+ListsStay {L} link = (cs is : List ℕ) (c : ℕ) (t : Tag) (es : List (Entry L)) (w w' : State L) → Leaves cs is w w' → IsOut c cs → AreOut (links es) cs → AreOut (slots es) is → IsHung link w c t es → IsHung link w' c t es
+
+-- giving an owner back changes no other item, and no cell
+abbrev pub ReleasesLeave : Type 0 → Type 0
+ReleasesLeave L = (p i : ℕ) (w : State L) → Leaves [] (i ∷ []) w (released p i w)
+
+-- giving back one owner of at least three leaves every queue
+abbrev pub SpareQueueOwners : {L : Type 0} → (L → Option ℕ) → Type 0
+SpareQueueOwners {L} link = (p i n c d : ℕ) (es : List (Entry L)) (w : State L) → status_at w i ≡ status.Shared n → 3 ≤ n → IsQueue link w c d es → IsQueue link (released p i w) c d es

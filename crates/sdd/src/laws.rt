@@ -1,0 +1,27 @@
+//! What follows from the clauses of the calls, for every state. Nothing here runs.
+
+ghost use Rattle.sdd.specs.Owners.{SpareOwners, SpareQueueOwners, ListsStay, ReleasesLeave};
+
+use crate::linked_list::LinkedList;
+
+/// An owner of an entry can be given back while there is another one: every list stays. So what `push` gives can be
+/// given back at once.
+pub fn spare_owners<L: LinkedList>()
+    ensures { SpareOwners L.link }
+{}
+
+/// An owner of an entry can be given back while there are two others: every queue stays. So what `push` gives can be
+/// given back at once.
+pub fn spare_queue_owners<L: LinkedList>()
+    ensures { SpareQueueOwners L.link }
+{}
+
+/// A call that changes some cells and items leaves each list that has none of them.
+pub fn lists_stay<L: LinkedList>()
+    ensures { ListsStay L.link }
+{}
+
+/// Giving an owner back changes no other item, and no cell.
+pub fn releases_leave<L>()
+    ensures { ReleasesLeave L }
+{}

@@ -1,0 +1,30 @@
+//! Linked lists, queues and stacks of items of a place, each value in an entry of its own.
+//!
+//! The calls over a place of one thread stand in [`world`]: `Type::call` of a container is `world::type::call`, with the
+//! world first. Clauses see a list as its [`Entry`](linked_entry::LinkedEntry)s in order, each with its slot, the cell
+//! of its link and its tag; the list that a user sees is what isn't deleted of these. A clause is stated for every list
+//! that hangs there, so that it says the same of any list of entries before a call.
+//!
+//! What one call changes of a place is its clause `leaves`: the cells and the items of its own list, and no other. So
+//! containers beside each other stay as they are ([`laws::lists_stay`]). Owners that a call gives can be given back by
+//! [`laws::spare_owners`], [`laws::spare_queue_owners`] and [`laws::releases_leave`].
+//!
+//! Not there yet: bags; iterators; `clone` and `from_iter`; `LinkedList::push_back` and `next_shared`; conditions of a
+//! queue's `push` and `pop`; `as_mut`, `clone` and equality of an entry. A deleted entry stays linked until it is passed
+//! at the front of its list, since `next_ptr` only reads. No clause says what an opening guard leaves of a list: open
+//! guards before a container is made, or show that the list stays by the laws of the place.
+#![tactic(auto)]
+
+pub use sdd_base;
+
+pub mod laws;
+pub mod linked_entry;
+pub mod linked_list;
+pub mod queue;
+#[cfg(test)]
+mod random;
+pub mod refusal;
+pub mod stack;
+#[cfg(test)]
+mod tests;
+pub mod world;

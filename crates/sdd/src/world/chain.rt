@@ -1,0 +1,300 @@
+//! Single changes of a list that hangs from a cell.
+
+ghost use Rattle.std.specs.Prelude.{◌≡◌, Some, None, Option, List, ◌∷◌, [], ℕ, length, IfNone, IfSome, cond, ◌+◌, ◌<◌};
+ghost use Rattle.std.specs.Option.{option_copied};
+ghost use Rattle.sdd_base.specs.State.{State, IsFreeCell, cell_at, status_at, with_cell};
+ghost use Rattle.sdd_base.specs.Frame.{OnlyOf};
+ghost use Rattle.sdd_base.specs.Place.{IsSharedCell};
+ghost use Rattle.sdd_base.specs.Tokens.{shared_cell, shared_slot, shared_slots, link_cell};
+ghost use Rattle.sdd.specs.Chain.{Entry, IsItem, IsHung, Hangs, HasLink, IsLoose, Fits, TookFirst, Leaves, Stays, CanHang, deleted, Begins, skip, undeleted, first_item, first_slot, links, slots, SameUses};
+
+use crate::linked_list::LinkedList;
+use sdd_base::cell::AtomicShared;
+use sdd_base::link::Link;
+use sdd_base::owner::Shared;
+use sdd_base::status::{Cell, Status};
+use sdd_base::tag::Tag;
+use sdd_base::world::{World, atomic_shared, shared};
+
+/// The link of an item that is owned.
+pub(crate) fn link_of<L: LinkedList>(w: &World<L>, owner: &Shared<L>) -> Link<L>
+    requires { HasLink L.link w.now (shared_slot owner.now) }
+    ensures { (e : Entry L) → IsItem L.link w.now e → shared_slot owner.now ≡ e.slot → link_cell result ≡ e.link }
+{
+    Link::of(shared::as_ref(w, owner).link_ref())
+}
+
+/// Empties a cell, which keeps its tag.
+pub(crate) fn take<L>(w: &mut World<L>, cell: &AtomicShared<L>) -> Option<Shared<L>>
+    requires { IsSharedCell w.old (shared_cell cell.now) }
+    ensures took { (o : Option ℕ) (t : Tag) → cell_at w.old (shared_cell cell.now) ≡ Cell.OfShared o t → (shared_slots result ≡ o) × (w.new ≡ with_cell (shared_cell cell.now) (Cell.OfShared None t) w.old) }
+    ensures members { w.new.members ≡ w.old.members }
+    ensures stays { Stays w.old w.new }
+{
+    let tag = atomic_shared::tag(w, cell);
+    let (item, _old_tag) = atomic_shared::swap(w, cell, (None, tag));
+    item
+}
+
+/// Fills an empty cell, which keeps its tag.
+pub(crate) fn fill<L>(w: &mut World<L>, cell: &AtomicShared<L>, item: Option<Shared<L>>)
+    requires { (t : Tag) × (cell_at w.old (shared_cell cell.now) ≡ Cell.OfShared None t) }
+    ensures filled { (t : Tag) → cell_at w.old (shared_cell cell.now) ≡ Cell.OfShared None t → w.new ≡ with_cell (shared_cell cell.now) (Cell.OfShared (shared_slots item) t) w.old }
+    ensures members { w.new.members ≡ w.old.members }
+    ensures stays { Stays w.old w.new }
+{
+    let tag = atomic_shared::tag(w, cell);
+    let (old, _old_tag) = atomic_shared::swap(w, cell, (item, tag));
+    match old {
+        None => {}
+        Some(_) => unreachable!(),
+    }
+}
+
+/// Takes the first entry of a list off, whose link is then empty.
+pub(crate) fn take_first<L: LinkedList>(
+    w: &mut World<L>,
+    cell: &AtomicShared<L>,
+) -> Option<Shared<L>>
+    requires { Hangs L.link w.old (shared_cell cell.now) }
+    ensures took { (t : Tag) (es : List (Entry L)) → IsHung L.link w.old (shared_cell cell.now) t es → TookFirst L.link w.old w.new (shared_cell cell.now) t es (shared_slots result) }
+    ensures members { w.new.members ≡ w.old.members }
+    ensures stays { Stays w.old w.new }
+{
+    let Some(first) = take(w, cell) else {
+        return None;
+    };
+    let link = link_of(w, &first);
+    let next = take(w, link.cell());
+    fill(w, cell, next);
+    Some(first)
+}
+
+/// Hangs an entry before all others.
+pub(crate) fn put_first<L: LinkedList>(w: &mut World<L>, cell: &AtomicShared<L>, first: Shared<L>)
+    requires { CanHang L.link w.old (shared_cell cell.now) (shared_slot first) }
+    ensures put { (t : Tag) (es : List (Entry L)) (e : Entry L) → IsHung L.link w.old (shared_cell cell.now) t es → IsLoose L.link w.old e → Fits (shared_cell cell.now) es e → shared_slot first ≡ e.slot → IsHung L.link w.new (shared_cell cell.now) t (e ∷ es) × Leaves (shared_cell cell.now ∷ e.link ∷ []) [] w.old w.new }
+    ensures members { w.new.members ≡ w.old.members }
+    ensures stays { Stays w.old w.new }
+{
+    let link = link_of(w, &first);
+    let next = take(w, cell);
+    fill(w, link.cell(), next);
+    fill(w, cell, Some(first));
+}
+
+/// Whether a tag is that of a deleted item.
+pub(crate) fn is_deleted(tag: Tag) -> bool
+    ensures { result ≡ deleted tag }
+{
+    match tag {
+        Tag::None | Tag::First => false,
+        Tag::Second | Tag::Both => true,
+    }
+}
+
+/// The first entry of a list.
+#[derive(Drop)]
+pub(crate) struct Front<'w, L> {
+    pub(crate) item: &'w L,
+    pub(crate) link: &'w AtomicShared<L>,
+    pub(crate) deleted: bool,
+}
+
+/// The first entry of a list, if there is one.
+pub(crate) fn first<'w, L: LinkedList>(
+    w: &'w World<L>,
+    cell: &AtomicShared<L>,
+) -> Option<Front<'w, L>>
+    requires { Hangs L.link w.now (shared_cell cell.now) }
+    ensures none { IfNone result ((t : Tag) (es : List (Entry L)) → IsHung L.link w.now (shared_cell cell.now) t es → es ≡ []) }
+    ensures some { IfSome result (λ f. (t : Tag) (es : List (Entry L)) → IsHung L.link w.now (shared_cell cell.now) t es → Begins es f.item.now (shared_cell f.link.now) f.deleted) }
+{
+    let Some(item) = atomic_shared::as_ref(w, cell) else {
+        return None;
+    };
+    let link = item.link_ref();
+    let deleted = is_deleted(atomic_shared::tag(w, link));
+    Some(Front {
+        item,
+        link,
+        deleted,
+    })
+}
+
+/// The cell behind the deleted entries at the front of a list: it keeps the first undeleted one, or nothing.
+pub(crate) fn skip_from<'w, L: LinkedList>(
+    w: &'w World<L>,
+    cell: &'w AtomicShared<L>,
+) -> &'w AtomicShared<L>
+    requires { Hangs L.link w.now (shared_cell cell.now) }
+    ensures { (t : Tag) (es : List (Entry L)) → IsHung L.link w.now (shared_cell cell.now) t es → (u : Tag) × IsHung L.link w.now (shared_cell result.now) u (skip es) }
+{
+    let mut at = cell;
+    for _passed in 0..w.slots_in_use() {
+        match first(w, at) {
+            None => return at,
+            Some(entry) => {
+                if !entry.deleted {
+                    return at;
+                }
+                at = entry.link;
+            }
+        }
+    }
+    at
+}
+
+/// The first undeleted entry of a list, if there is one.
+pub(crate) fn first_undeleted<'w, L: LinkedList>(
+    w: &'w World<L>,
+    cell: &'w AtomicShared<L>,
+) -> Option<&'w L>
+    requires { Hangs L.link w.now (shared_cell cell.now) }
+    ensures { (t : Tag) (es : List (Entry L)) → IsHung L.link w.now (shared_cell cell.now) t es → option_copied result ≡ first_item (undeleted es) }
+{
+    match atomic_shared::as_ref(w, skip_from(w, cell)) {
+        None => None,
+        Some(item) => Some(item),
+    }
+}
+
+/// One more, unless the entry is deleted.
+fn counted(count: usize, deleted: bool) -> usize
+    requires { count < 18446744073709551615 }
+    ensures { result ≡ cond deleted count (count + 1) }
+{
+    if deleted { count } else { count + 1 }
+}
+
+/// How many entries of a list aren't deleted.
+pub(crate) fn count<L: LinkedList>(w: &World<L>, cell: &AtomicShared<L>) -> usize
+    requires { Hangs L.link w.now (shared_cell cell.now) }
+    ensures { (t : Tag) (es : List (Entry L)) → IsHung L.link w.now (shared_cell cell.now) t es → result ≡ length (undeleted es) }
+{
+    let mut at = cell;
+    let mut count = 0;
+    for _passed in 0..w.slots_in_use() {
+        match first(w, at) {
+            None => return count,
+            Some(entry) => {
+                count = counted(count, entry.deleted);
+                at = entry.link;
+            }
+        }
+    }
+    count
+}
+
+/// Gives the first entry of a list back.
+fn drop_first<L: LinkedList>(w: &mut World<L>, cell: &AtomicShared<L>, p: usize)
+    requires member { p < length w.old.members }
+    requires list { Hangs L.link w.old (shared_cell cell.now) }
+    ensures dropped { (t : Tag) (e : Entry L) (es : List (Entry L)) → IsHung L.link w.old (shared_cell cell.now) t (e ∷ es) → IsHung L.link w.new (shared_cell cell.now) t es × Leaves (shared_cell cell.now ∷ e.link ∷ []) (e.slot ∷ []) w.old w.new }
+    ensures only { OnlyOf p w.old w.new }
+    ensures stays { Stays w.old w.new }
+{
+    match take_first(w, cell) {
+        None => {}
+        Some(first) => {
+            shared::release(w, first, p);
+        }
+    }
+}
+
+/// Gives the deleted entries at the front of a list back.
+pub(crate) fn skip_deleted<L: LinkedList>(w: &mut World<L>, cell: &AtomicShared<L>, p: usize)
+    requires member { p < length w.old.members }
+    requires list { Hangs L.link w.old (shared_cell cell.now) }
+    ensures skipped { (t : Tag) (es : List (Entry L)) → IsHung L.link w.old (shared_cell cell.now) t es → IsHung L.link w.new (shared_cell cell.now) t (skip es) }
+    ensures leaves { (t : Tag) (es : List (Entry L)) → IsHung L.link w.old (shared_cell cell.now) t es → Leaves (shared_cell cell.now ∷ links es) (slots es) w.old w.new }
+    ensures same { (t : Tag) (es : List (Entry L)) → IsHung L.link w.old (shared_cell cell.now) t es → SameUses w.old w.new (slots (skip es)) }
+    ensures only { OnlyOf p w.old w.new }
+    ensures stays { Stays w.old w.new }
+{
+    for _passed in 0..w.slots_in_use() {
+        match first(w, cell) {
+            None => return,
+            Some(front) => {
+                if !front.deleted {
+                    return;
+                }
+            }
+        }
+        drop_first(w, cell, p);
+    }
+}
+
+/// Marks an entry that is in no list as deleted.
+pub(crate) fn delete<L: LinkedList>(w: &mut World<L>, owner: &Shared<L>)
+    requires { (e : Entry L) × IsLoose L.link w.old e × (shared_slot owner.now ≡ e.slot) }
+    ensures deleted { (e : Entry L) → IsLoose L.link w.old e → shared_slot owner.now ≡ e.slot → w.new ≡ with_cell e.link (Cell.OfShared None Tag.Second) w.old }
+    ensures members { w.new.members ≡ w.old.members }
+    ensures stays { Stays w.old w.new }
+{
+    let link = link_of(w, owner);
+    let (next, _tag) = atomic_shared::swap(w, link.cell(), (None, Tag::Second));
+    match next {
+        None => {}
+        Some(_) => unreachable!(),
+    }
+}
+
+/// Another owner of the first entry of a list; none where the list is empty, and at the greatest count of owners.
+pub(crate) fn share_first<L: LinkedList>(
+    w: &mut World<L>,
+    cell: &AtomicShared<L>,
+) -> Option<Shared<L>>
+    requires { Hangs L.link w.old (shared_cell cell.now) }
+    ensures hung { (t : Tag) (es : List (Entry L)) → IsHung L.link w.old (shared_cell cell.now) t es → IsHung L.link w.new (shared_cell cell.now) t es }
+    ensures some { IfSome result (λ s. (t : Tag) (es : List (Entry L)) → IsHung L.link w.old (shared_cell cell.now) t es → Some (shared_slot s) ≡ first_slot es) }
+    ensures none { IfNone result ((t : Tag) (es : List (Entry L)) → IsHung L.link w.old (shared_cell cell.now) t es → IfSome (first_slot es) (λ i. status_at w.old i ≡ Status.Shared 4294967295)) }
+    ensures leaves { (t : Tag) (es : List (Entry L)) → IsHung L.link w.old (shared_cell cell.now) t es → Leaves (shared_cell cell.now ∷ links es) (slots es) w.old w.new }
+    ensures members { w.new.members ≡ w.old.members }
+    ensures stays { Stays w.old w.new }
+{
+    let Some(first) = take_first(w, cell) else {
+        return None;
+    };
+    match shared::clone(w, &first) {
+        None => {
+            put_first(w, cell, first);
+            None
+        }
+        Some(other) => {
+            put_first(w, cell, first);
+            Some(other)
+        }
+    }
+}
+
+/// Gives all entries of a list back.
+pub(crate) fn clear<L: LinkedList>(w: &mut World<L>, cell: &AtomicShared<L>, p: usize)
+    requires member { p < length w.old.members }
+    requires list { Hangs L.link w.old (shared_cell cell.now) }
+    ensures cleared { (t : Tag) (es : List (Entry L)) → IsHung L.link w.old (shared_cell cell.now) t es → IsHung L.link w.new (shared_cell cell.now) t [] }
+    ensures leaves { (t : Tag) (es : List (Entry L)) → IsHung L.link w.old (shared_cell cell.now) t es → Leaves (shared_cell cell.now ∷ links es) (slots es) w.old w.new }
+    ensures only { OnlyOf p w.old w.new }
+    ensures stays { Stays w.old w.new }
+{
+    for _passed in 0..w.slots_in_use() {
+        let Some(_entry) = first(w, cell) else {
+            return;
+        };
+        drop_first(w, cell, p);
+    }
+}
+
+/// Ends an empty cell.
+pub(crate) fn end<L>(w: &mut World<L>, cell: AtomicShared<L>)
+    requires { (t : Tag) × (cell_at w.old (shared_cell cell) ≡ Cell.OfShared None t) }
+    ensures ended { w.new ≡ with_cell (shared_cell cell) Cell.Free w.old }
+    ensures free { IsFreeCell w.new (shared_cell cell) }
+    ensures members { w.new.members ≡ w.old.members }
+    ensures stays { Stays w.old w.new }
+{
+    match atomic_shared::into_shared(w, cell) {
+        None => {}
+        Some(_) => unreachable!(),
+    }
+}

@@ -1,0 +1,159 @@
+//! Queues over a `World`: the oldest entry comes first.
+
+ghost use Rattle.std.specs.Prelude.{◌≡◌, ◌<◌, ◌⊎◌, ◌↔◌, ℕ, List, [], ◌∷◌, length, IfOk, IfErr, OnErr, Some, IfSome, MatchOption, IsTrue};
+ghost use Rattle.sdd_base.specs.State.{IsFreeCell, NoneFree, NoCellFree};
+ghost use Rattle.sdd_base.specs.Frame.{OnlyOf};
+ghost use Rattle.sdd_base.specs.Place.{IsShared};
+ghost use Rattle.sdd_base.specs.Tokens.{shared_slot, ptr_slot};
+ghost use Rattle.sdd.specs.Nodes.{IsSomeNode};
+ghost use Rattle.std.specs.Option.{option_copied};
+ghost use Rattle.sdd.specs.Chain.{Entry, Leaves, Stays, undeleted, first_item, first_slot, links, slots};
+ghost use Rattle.sdd.specs.Entries.{entry_link};
+ghost use Rattle.sdd.specs.Queues.{oldest_cell, newest_cell, IsQueue, IsSomeQueue, Appends, Takes};
+ghost use Rattle.sdd.specs.declared.linked_entry.LinkedEntry.{LinkedEntry};
+
+use crate::linked_entry::LinkedEntry;
+use crate::queue::Queue;
+use crate::world::{chain, entries, tail};
+use sdd_base::guard::WorldGuard;
+use sdd_base::owner::Shared;
+use sdd_base::pointer::Ptr;
+use sdd_base::refusal::NoSlot;
+use sdd_base::world::{World, atomic_shared};
+
+/// An empty queue, exactly if two cells are free.
+pub fn new<T>(w: &mut World<LinkedEntry<T>>) -> Result<Queue<T>, NoSlot>
+    ensures made { IfOk result (λ q. IsQueue entry_link w.new (oldest_cell q) (newest_cell q) []) }
+    ensures fresh { IfOk result (λ q. IsFreeCell w.old (oldest_cell q) × IsFreeCell w.old (newest_cell q)) }
+    ensures list { IfOk result (λ q. IsSomeQueue entry_link w.new (oldest_cell q) (newest_cell q)) }
+    ensures refused { OnErr result ((w.new ≡ w.old) × ((c : ℕ) (d : ℕ) → IsFreeCell w.old c → IsFreeCell w.old d → c ≡ d)) }
+    ensures leaves { Leaves [] [] w.old w.new }
+    ensures stays { Stays w.old w.new }
+{
+    match atomic_shared::null(w) {
+        Err(e) => Err(e),
+        Ok(oldest) => match atomic_shared::null(w) {
+            Ok(newest) => Ok(Queue { oldest, newest }),
+            Err(e) => {
+                chain::end(w, oldest);
+                Err(e)
+            }
+        },
+    }
+}
+
+/// Puts `value` behind all others, in an entry of its own, and gives another owner of that, exactly if a slot and a
+/// cell are free; else `value` comes back and nothing changes.
+pub fn push<T>(
+    w: &mut World<LinkedEntry<T>>,
+    queue: &Queue<T>,
+    value: T,
+) -> Result<Shared<LinkedEntry<T>>, T>
+    requires member { 0 < length w.old.members }
+    requires list { IsSomeQueue entry_link w.old (oldest_cell queue.now) (newest_cell queue.now) }
+    ensures pushed { IfOk result (λ s. Appends w.old w.new value (oldest_cell queue.now) (newest_cell queue.now) (shared_slot s)) }
+    ensures refused { IfErr result (λ v. (v ≡ value) × (w.new ≡ w.old) × (NoneFree w.old ⊎ NoCellFree w.old)) }
+    ensures live { IfOk result (λ s. IsShared w.new (shared_slot s)) }
+    ensures list { IsSomeQueue entry_link w.new (oldest_cell queue.now) (newest_cell queue.now) }
+    ensures leaves { (es : List (Entry (LinkedEntry T))) → IsQueue entry_link w.old (oldest_cell queue.now) (newest_cell queue.now) es → Leaves (oldest_cell queue.now ∷ newest_cell queue.now ∷ links es) (slots es) w.old w.new }
+    ensures only { OnlyOf 0 w.old w.new }
+    ensures stays { Stays w.old w.new }
+{
+    match entries::make_three(w, value) {
+        Err(value) => Err(value),
+        Ok((entry, link, last)) => {
+            tail::append(w, &queue.oldest, &queue.newest, link, last);
+            Ok(entry)
+        }
+    }
+}
+
+/// Takes the first undeleted entry, which is deleted by that, and gives an owner of it; deleted entries before it are
+/// given back by participant `p`.
+pub fn pop<T>(
+    w: &mut World<LinkedEntry<T>>,
+    queue: &Queue<T>,
+    p: usize,
+) -> Option<Shared<LinkedEntry<T>>>
+    requires member { p < length w.old.members }
+    requires list { IsSomeQueue entry_link w.old (oldest_cell queue.now) (newest_cell queue.now) }
+    ensures popped { (es : List (Entry (LinkedEntry T))) → IsQueue entry_link w.old (oldest_cell queue.now) (newest_cell queue.now) es → MatchOption result ((undeleted es ≡ []) × IsQueue entry_link w.new (oldest_cell queue.now) (newest_cell queue.now) []) (λ s. Takes w.new (oldest_cell queue.now) (newest_cell queue.now) (shared_slot s) es) }
+    ensures live { IfSome result (λ s. IsShared w.new (shared_slot s)) }
+    ensures list { IsSomeQueue entry_link w.new (oldest_cell queue.now) (newest_cell queue.now) }
+    ensures leaves { (es : List (Entry (LinkedEntry T))) → IsQueue entry_link w.old (oldest_cell queue.now) (newest_cell queue.now) es → Leaves (oldest_cell queue.now ∷ newest_cell queue.now ∷ links es) (slots es) w.old w.new }
+    ensures only { OnlyOf p w.old w.new }
+    ensures stays { Stays w.old w.new }
+{
+    if is_empty(w, queue) {
+        tail::forget(w, &queue.newest, p);
+        chain::skip_deleted(w, &queue.oldest, p);
+        return None;
+    }
+    chain::skip_deleted(w, &queue.oldest, p);
+    match chain::take_first(w, &queue.oldest) {
+        None => unreachable!(),
+        Some(first) => {
+            chain::delete(w, &first);
+            tail::settle(w, &queue.oldest, &queue.newest, p);
+            Some(first)
+        }
+    }
+}
+
+/// A pointer to the first undeleted entry, or null, with the tag of the cell that keeps it.
+pub fn peek<T>(
+    w: &World<LinkedEntry<T>>,
+    queue: &Queue<T>,
+    guard: &WorldGuard,
+) -> Ptr<'static, LinkedEntry<T>>
+    requires { IsSomeQueue entry_link w.now (oldest_cell queue.now) (newest_cell queue.now) }
+    ensures first { (es : List (Entry (LinkedEntry T))) → IsQueue entry_link w.now (oldest_cell queue.now) (newest_cell queue.now) es → ptr_slot result ≡ first_slot (undeleted es) }
+    ensures node { IfSome (ptr_slot result) (λ i. IsSomeNode entry_link w.now (Some i)) }
+{
+    atomic_shared::load(w, chain::skip_from(w, &queue.oldest), guard)
+}
+
+/// How many entries aren't deleted.
+pub fn len<T>(w: &World<LinkedEntry<T>>, queue: &Queue<T>) -> usize
+    requires { IsSomeQueue entry_link w.now (oldest_cell queue.now) (newest_cell queue.now) }
+    ensures { (es : List (Entry (LinkedEntry T))) → IsQueue entry_link w.now (oldest_cell queue.now) (newest_cell queue.now) es → result ≡ length (undeleted es) }
+{
+    chain::count(w, &queue.oldest)
+}
+
+/// Whether every entry is deleted.
+pub fn is_empty<T>(w: &World<LinkedEntry<T>>, queue: &Queue<T>) -> bool
+    requires { IsSomeQueue entry_link w.now (oldest_cell queue.now) (newest_cell queue.now) }
+    ensures { (es : List (Entry (LinkedEntry T))) → IsQueue entry_link w.now (oldest_cell queue.now) (newest_cell queue.now) es → IsTrue result ↔ (undeleted es ≡ []) }
+{
+    atomic_shared::is_null(w, chain::skip_from(w, &queue.oldest))
+}
+
+/// Ends the queue: participant `p` gives all its entries back, and its two cells are free.
+pub fn retire<T>(w: &mut World<LinkedEntry<T>>, queue: Queue<T>, p: usize)
+    requires member { p < length w.old.members }
+    requires list { IsSomeQueue entry_link w.old (oldest_cell queue) (newest_cell queue) }
+    ensures ended { IsFreeCell w.new (oldest_cell queue) × IsFreeCell w.new (newest_cell queue) }
+    ensures leaves { (es : List (Entry (LinkedEntry T))) → IsQueue entry_link w.old (oldest_cell queue) (newest_cell queue) es → Leaves (oldest_cell queue ∷ newest_cell queue ∷ links es) (slots es) w.old w.new }
+    ensures only { OnlyOf p w.old w.new }
+    ensures stays { Stays w.old w.new }
+{
+    let Queue { oldest, newest } = queue;
+    tail::forget(w, &newest, p);
+    chain::clear(w, &oldest, p);
+    chain::end(w, oldest);
+    chain::end(w, newest);
+}
+
+/// Calls `f` once with the first undeleted entry, or none, and gives what it answers.
+pub fn peek_with<T, R, F: FnOnce(Option<&LinkedEntry<T>>) -> R>(
+    w: &World<LinkedEntry<T>>,
+    queue: &Queue<T>,
+    f: F,
+) -> R
+    requires callable { F.IsAlwaysCallable f }
+    requires list { IsSomeQueue entry_link w.now (oldest_cell queue.now) (newest_cell queue.now) }
+    ensures { (es : List (Entry (LinkedEntry T))) → IsQueue entry_link w.now (oldest_cell queue.now) (newest_cell queue.now) es → (o : _) × (option_copied o ≡ first_item (undeleted es)) × F.post f o result }
+{
+    f(chain::first_undeleted(w, &queue.oldest))
+}

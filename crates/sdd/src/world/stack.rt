@@ -1,0 +1,246 @@
+//! Stacks over a `World`: the newest entry comes first.
+
+ghost use Rattle.std.specs.Prelude.{◌≡◌, ◌<◌, ◌⊎◌, ◌↔◌, ℕ, List, [], ◌∷◌, length, IfOk, IfErr, OnErr, OnOk, Some, IfSome, MatchOption, IsTrue, IsErrAnd, Bool, false};
+ghost use Rattle.sdd_base.specs.State.{IsFreeCell, NoneFree, NoCellFree};
+ghost use Rattle.sdd_base.specs.Frame.{OnlyOf};
+ghost use Rattle.sdd_base.specs.Place.{IsShared};
+ghost use Rattle.sdd_base.specs.Tokens.{shared_slot, ptr_slot};
+ghost use Rattle.sdd.specs.Nodes.{IsSomeNode};
+ghost use Rattle.std.specs.Option.{option_copied};
+ghost use Rattle.std.specs.Fn.{FnOnceReturnsAt};
+ghost use Rattle.sdd.specs.Chain.{Entry, Leaves, Stays, undeleted, first_item, first_slot, skip, links, slots};
+ghost use Rattle.sdd.specs.Entries.{entry_link};
+ghost use Rattle.sdd.specs.Refusals.{refused_value, IsCondition, IsNoSlot};
+ghost use Rattle.sdd.specs.Stacks.{stack_cell, taken, IsStack, IsSomeStack, Pushes, Pops};
+ghost use Rattle.sdd.specs.declared.linked_entry.LinkedEntry.{LinkedEntry};
+
+use crate::linked_entry::LinkedEntry;
+use crate::refusal::PushRefused;
+use crate::stack::Stack;
+use crate::world::{chain, entries};
+use sdd_base::guard::WorldGuard;
+use sdd_base::owner::Shared;
+use sdd_base::pointer::Ptr;
+use sdd_base::refusal::NoSlot;
+use sdd_base::world::{World, atomic_shared};
+
+/// An empty stack, exactly if a cell is free.
+pub fn new<T>(w: &mut World<LinkedEntry<T>>) -> Result<Stack<T>, NoSlot>
+    ensures made { IfOk result (λ s. IsStack w.new (stack_cell s) []) }
+    ensures fresh { IfOk result (λ s. IsFreeCell w.old (stack_cell s)) }
+    ensures list { IfOk result (λ s. IsSomeStack w.new (stack_cell s)) }
+    ensures refused { OnErr result ((w.new ≡ w.old) × NoCellFree w.old) }
+    ensures leaves { Leaves [] [] w.old w.new }
+    ensures stays { Stays w.old w.new }
+{
+    match atomic_shared::null(w) {
+        Ok(newest) => Ok(Stack { newest }),
+        Err(e) => Err(e),
+    }
+}
+
+/// Puts `value` in front, in an entry of its own, and gives another owner of that, exactly if a slot and a cell are
+/// free; else `value` comes back and nothing changes.
+pub fn push<T>(
+    w: &mut World<LinkedEntry<T>>,
+    stack: &Stack<T>,
+    value: T,
+) -> Result<Shared<LinkedEntry<T>>, T>
+    requires { IsSomeStack w.old (stack_cell stack.now) }
+    ensures pushed { IfOk result (λ s. Pushes w.old w.new value (stack_cell stack.now) (shared_slot s)) }
+    ensures refused { IfErr result (λ v. (v ≡ value) × (w.new ≡ w.old) × (NoneFree w.old ⊎ NoCellFree w.old)) }
+    ensures live { IfOk result (λ s. IsShared w.new (shared_slot s)) }
+    ensures list { IsSomeStack w.new (stack_cell stack.now) }
+    ensures leaves { Leaves (stack_cell stack.now ∷ []) [] w.old w.new }
+    ensures members { w.new.members ≡ w.old.members }
+    ensures stays { Stays w.old w.new }
+{
+    match entries::make(w, value) {
+        Err(value) => Err(value),
+        Ok((entry, first)) => {
+            chain::put_first(w, &stack.newest, first);
+            Ok(entry)
+        }
+    }
+}
+
+/// Takes the first undeleted entry, which is deleted by that, and gives an owner of it; deleted entries before it are
+/// given back by participant `p`.
+pub fn pop<T>(
+    w: &mut World<LinkedEntry<T>>,
+    stack: &Stack<T>,
+    p: usize,
+) -> Option<Shared<LinkedEntry<T>>>
+    requires member { p < length w.old.members }
+    requires list { IsSomeStack w.old (stack_cell stack.now) }
+    ensures popped { (es : List (Entry (LinkedEntry T))) → IsStack w.old (stack_cell stack.now) es → MatchOption result ((undeleted es ≡ []) × IsStack w.new (stack_cell stack.now) []) (λ s. Pops w.new (stack_cell stack.now) (shared_slot s) es) }
+    ensures live { IfSome result (λ s. IsShared w.new (shared_slot s)) }
+    ensures list { IsSomeStack w.new (stack_cell stack.now) }
+    ensures leaves { (es : List (Entry (LinkedEntry T))) → IsStack w.old (stack_cell stack.now) es → Leaves (stack_cell stack.now ∷ links es) (slots es) w.old w.new }
+    ensures only { OnlyOf p w.old w.new }
+    ensures stays { Stays w.old w.new }
+{
+    chain::skip_deleted(w, &stack.newest, p);
+    match chain::take_first(w, &stack.newest) {
+        None => None,
+        Some(first) => {
+            chain::delete(w, &first);
+            Some(first)
+        }
+    }
+}
+
+/// A pointer to the first undeleted entry, or null, with the tag of the cell that keeps it.
+pub fn peek<T>(
+    w: &World<LinkedEntry<T>>,
+    stack: &Stack<T>,
+    guard: &WorldGuard,
+) -> Ptr<'static, LinkedEntry<T>>
+    requires { IsSomeStack w.now (stack_cell stack.now) }
+    ensures first { (es : List (Entry (LinkedEntry T))) → IsStack w.now (stack_cell stack.now) es → ptr_slot result ≡ first_slot (undeleted es) }
+    ensures node { IfSome (ptr_slot result) (λ i. IsSomeNode entry_link w.now (Some i)) }
+{
+    atomic_shared::load(w, chain::skip_from(w, &stack.newest), guard)
+}
+
+/// How many entries aren't deleted.
+pub fn len<T>(w: &World<LinkedEntry<T>>, stack: &Stack<T>) -> usize
+    requires { IsSomeStack w.now (stack_cell stack.now) }
+    ensures { (es : List (Entry (LinkedEntry T))) → IsStack w.now (stack_cell stack.now) es → result ≡ length (undeleted es) }
+{
+    chain::count(w, &stack.newest)
+}
+
+/// Whether every entry is deleted.
+pub fn is_empty<T>(w: &World<LinkedEntry<T>>, stack: &Stack<T>) -> bool
+    requires { IsSomeStack w.now (stack_cell stack.now) }
+    ensures { (es : List (Entry (LinkedEntry T))) → IsStack w.now (stack_cell stack.now) es → IsTrue result ↔ (undeleted es ≡ []) }
+{
+    atomic_shared::is_null(w, chain::skip_from(w, &stack.newest))
+}
+
+/// Moves all entries to a new stack, exactly if a cell is free. Participant `_p` gives nothing back.
+pub fn pop_all<T>(
+    w: &mut World<LinkedEntry<T>>,
+    stack: &Stack<T>,
+    _p: usize,
+) -> Result<Stack<T>, NoSlot>
+    requires { IsSomeStack w.old (stack_cell stack.now) }
+    ensures moved { IfOk result (λ s. (es : List (Entry (LinkedEntry T))) → IsStack w.old (stack_cell stack.now) es → IsStack w.new (stack_cell s) es) }
+    ensures emptied { OnOk result (IsStack w.new (stack_cell stack.now) []) }
+    ensures fresh { IfOk result (λ s. IsFreeCell w.old (stack_cell s)) }
+    ensures refused { OnErr result ((w.new ≡ w.old) × NoCellFree w.old) }
+    ensures list { IsSomeStack w.new (stack_cell stack.now) }
+    ensures lists { IfOk result (λ s. IsSomeStack w.new (stack_cell s)) }
+    ensures leaves { Leaves (stack_cell stack.now ∷ []) [] w.old w.new }
+    ensures members { w.new.members ≡ w.old.members }
+    ensures stays { Stays w.old w.new }
+{
+    match atomic_shared::null(w) {
+        Err(e) => Err(e),
+        Ok(newest) => {
+            let first = chain::take(w, &stack.newest);
+            chain::fill(w, &newest, first);
+            Ok(Stack { newest })
+        }
+    }
+}
+
+/// Ends the stack: participant `p` gives all its entries back, and its cell is free.
+pub fn retire<T>(w: &mut World<LinkedEntry<T>>, stack: Stack<T>, p: usize)
+    requires member { p < length w.old.members }
+    requires list { IsSomeStack w.old (stack_cell stack) }
+    ensures ended { IsFreeCell w.new (stack_cell stack) }
+    ensures leaves { (es : List (Entry (LinkedEntry T))) → IsStack w.old (stack_cell stack) es → Leaves (stack_cell stack ∷ links es) (slots es) w.old w.new }
+    ensures only { OnlyOf p w.old w.new }
+    ensures stays { Stays w.old w.new }
+{
+    let Stack { newest } = stack;
+    chain::clear(w, &newest, p);
+    chain::end(w, newest);
+}
+
+/// Calls `f` once with the first undeleted entry, or none, and gives what it answers.
+pub fn peek_with<T, R, F: FnOnce(Option<&LinkedEntry<T>>) -> R>(
+    w: &World<LinkedEntry<T>>,
+    stack: &Stack<T>,
+    f: F,
+) -> R
+    requires callable { F.IsAlwaysCallable f }
+    requires list { IsSomeStack w.now (stack_cell stack.now) }
+    ensures { (es : List (Entry (LinkedEntry T))) → IsStack w.now (stack_cell stack.now) es → (o : _) × (option_copied o ≡ first_item (undeleted es)) × F.post f o result }
+{
+    f(chain::first_undeleted(w, &stack.newest))
+}
+
+/// As `push`, if `f` answers true for the first undeleted entry, or none. It is called once.
+pub fn push_if<T, F: FnOnce(Option<&LinkedEntry<T>>) -> bool>(
+    w: &mut World<LinkedEntry<T>>,
+    stack: &Stack<T>,
+    value: T,
+    f: F,
+) -> Result<Shared<LinkedEntry<T>>, PushRefused<T>>
+    requires callable { F.IsAlwaysCallable f }
+    requires list { IsSomeStack w.old (stack_cell stack.now) }
+    ensures asked { (es : List (Entry (LinkedEntry T))) → IsStack w.old (stack_cell stack.now) es → (o : _) × (r : Bool) × (option_copied o ≡ first_item (undeleted es)) × F.post f o r × (IsErrAnd result IsCondition ↔ (r ≡ false)) }
+    ensures pushed { IfOk result (λ s. Pushes w.old w.new value (stack_cell stack.now) (shared_slot s)) }
+    ensures back { IfErr result (λ e. (refused_value e ≡ value) × (w.new ≡ w.old)) }
+    ensures full { IfErr result (λ e. IsNoSlot e → NoneFree w.old ⊎ NoCellFree w.old) }
+    ensures live { IfOk result (λ s. IsShared w.new (shared_slot s)) }
+    ensures list { IsSomeStack w.new (stack_cell stack.now) }
+    ensures leaves { Leaves (stack_cell stack.now ∷ []) [] w.old w.new }
+    ensures members { w.new.members ≡ w.old.members }
+    ensures stays { Stays w.old w.new }
+{
+    if !peek_with(w, stack, f) {
+        return Err(PushRefused::Condition(value));
+    }
+    match push(w, stack, value) {
+        Ok(entry) => Ok(entry),
+        Err(value) => Err(PushRefused::NoSlot(value)),
+    }
+}
+
+/// As `pop`, if `f` answers true for the first undeleted entry; else another owner of that is given, and nothing is
+/// taken. Where every entry is deleted, `f` isn't called. Where the entry has `2^32 - 1` owners, a refusal answers none.
+pub fn pop_if<T, F: FnOnce(&LinkedEntry<T>) -> bool + Drop>(
+    w: &mut World<LinkedEntry<T>>,
+    stack: &Stack<T>,
+    p: usize,
+    f: F,
+) -> Result<Option<Shared<LinkedEntry<T>>>, Shared<LinkedEntry<T>>>
+    requires callable { F.IsAlwaysCallable f }
+    requires member { p < length w.old.members }
+    requires list { IsSomeStack w.old (stack_cell stack.now) }
+    ensures asked { (es : List (Entry (LinkedEntry T))) → IsStack w.old (stack_cell stack.now) es → IfSome (first_item (undeleted es)) (λ v. FnOnceReturnsAt F.FnOnce f v (taken result)) }
+    ensures popped { (es : List (Entry (LinkedEntry T))) → IsStack w.old (stack_cell stack.now) es → IfOk result (λ r. IfSome r (λ s. Pops w.new (stack_cell stack.now) (shared_slot s) es)) }
+    ensures kept { taken result ≡ false → (es : List (Entry (LinkedEntry T))) → IsStack w.old (stack_cell stack.now) es → IsStack w.new (stack_cell stack.now) (skip es) }
+    ensures refused { IfErr result (λ s. (es : List (Entry (LinkedEntry T))) → IsStack w.old (stack_cell stack.now) es → Some (shared_slot s) ≡ first_slot (undeleted es)) }
+    ensures list { IsSomeStack w.new (stack_cell stack.now) }
+    ensures leaves { (es : List (Entry (LinkedEntry T))) → IsStack w.old (stack_cell stack.now) es → Leaves (stack_cell stack.now ∷ links es) (slots es) w.old w.new }
+    ensures only { OnlyOf p w.old w.new }
+    ensures stays { Stays w.old w.new }
+{
+    chain::skip_deleted(w, &stack.newest, p);
+    let Some(entry) = chain::first_undeleted(w, &stack.newest) else {
+        return Ok(None);
+    };
+    if !answer(f, entry) {
+        return match chain::share_first(w, &stack.newest) {
+            Some(owner) => Err(owner),
+            None => Ok(None),
+        };
+    }
+    match pop(w, stack, p) {
+        Some(owner) => Ok(Some(owner)),
+        None => unreachable!(),
+    }
+}
+
+/// What a condition answers for an entry.
+fn answer<E, F: FnOnce(&E) -> bool>(condition: F, entry: &E) -> bool
+    requires { F.IsAlwaysCallable condition }
+    ensures { FnOnceReturnsAt F.FnOnce condition entry.now result }
+{
+    condition(entry)
+}

@@ -1,0 +1,83 @@
+//! The end of a list whose last entry is kept by a second cell.
+
+ghost use Rattle.std.specs.Prelude.{◌≡◌, ◌<◌, Some, None, Option, List, ◌∷◌, ◌++◌, [], ℕ, length};
+ghost use Rattle.sdd_base.specs.State.{State, cell_at, status_at};
+ghost use Rattle.sdd_base.specs.Frame.{OnlyOf};
+ghost use Rattle.sdd_base.specs.Place.{IsShared, IsSharedCell};
+ghost use Rattle.sdd_base.specs.Tokens.{shared_cell, shared_slot};
+ghost use Rattle.sdd.specs.Chain.{Entry, IsHung, Hangs, IsLoose, Leaves, Stays, links, slots};
+ghost use Rattle.sdd.specs.Queues.{IsQueue, Follows, CanFollow, HasTwo, vacated};
+
+use crate::linked_list::LinkedList;
+use crate::world::chain;
+use sdd_base::cell::AtomicShared;
+use sdd_base::owner::Shared;
+use sdd_base::status::Cell;
+use sdd_base::tag::Tag;
+use sdd_base::world::{World, atomic_shared, shared};
+
+/// Puts an entry behind the last one: `link` goes into the list, and `last` to the cell of the newest.
+pub(crate) fn append<L: LinkedList>(
+    w: &mut World<L>,
+    oldest: &AtomicShared<L>,
+    newest: &AtomicShared<L>,
+    link: Shared<L>,
+    last: Shared<L>,
+)
+    requires member { 0 < length w.old.members }
+    requires queue { CanFollow L.link w.old (shared_cell oldest.now) (shared_cell newest.now) (shared_slot link) }
+    requires last { shared_slot last ≡ shared_slot link }
+    requires two { HasTwo w.old (shared_slot link) }
+    ensures appended { (es : List (Entry L)) (e : Entry L) → IsQueue L.link w.old (shared_cell oldest.now) (shared_cell newest.now) es → IsLoose L.link w.old e → Follows (shared_cell oldest.now) (shared_cell newest.now) es e → shared_slot link ≡ e.slot → IsQueue L.link w.new (shared_cell oldest.now) (shared_cell newest.now) (es ++ e ∷ []) × Leaves (e.link ∷ shared_cell oldest.now ∷ shared_cell newest.now ∷ links es) (slots es) w.old w.new }
+    ensures only { OnlyOf 0 w.old w.new }
+    ensures stays { Stays w.old w.new }
+{
+    let (previous, _tag) = atomic_shared::swap(w, newest, (Some(last), Tag::None));
+    match previous {
+        None => chain::put_first(w, oldest, link),
+        Some(previous) => {
+            let tail = chain::link_of(w, &previous);
+            chain::put_first(w, tail.cell(), link);
+            // The list owns it still, so that nothing is retired.
+            shared::release(w, previous, 0);
+        }
+    }
+}
+
+/// Empties the cell of the newest entry.
+pub(crate) fn forget<L>(w: &mut World<L>, newest: &AtomicShared<L>, p: usize)
+    requires member { p < length w.old.members }
+    requires newest { (o : Option ℕ) × (cell_at w.old (shared_cell newest.now) ≡ Cell.OfShared o Tag.None) }
+    requires last { (i : ℕ) → cell_at w.old (shared_cell newest.now) ≡ Cell.OfShared (Some i) Tag.None → IsShared w.old i }
+    ensures forgot { (o : Option ℕ) → cell_at w.old (shared_cell newest.now) ≡ Cell.OfShared o Tag.None → w.new ≡ vacated p (shared_cell newest.now) o w.old }
+    ensures only { OnlyOf p w.old w.new }
+    ensures stays { Stays w.old w.new }
+{
+    match chain::take(w, newest) {
+        None => {}
+        Some(last) => {
+            shared::release(w, last, p);
+        }
+    }
+}
+
+/// Empties the cell of the newest entry where the list is empty.
+pub(crate) fn settle<L>(
+    w: &mut World<L>,
+    oldest: &AtomicShared<L>,
+    newest: &AtomicShared<L>,
+    p: usize,
+)
+    requires member { p < length w.old.members }
+    requires oldest { IsSharedCell w.old (shared_cell oldest.now) }
+    requires newest { (o : Option ℕ) × (cell_at w.old (shared_cell newest.now) ≡ Cell.OfShared o Tag.None) }
+    requires last { (i : ℕ) → cell_at w.old (shared_cell newest.now) ≡ Cell.OfShared (Some i) Tag.None → IsShared w.old i }
+    ensures some { (i : ℕ) (t : Tag) → cell_at w.old (shared_cell oldest.now) ≡ Cell.OfShared (Some i) t → w.new ≡ w.old }
+    ensures none { (o : Option ℕ) (t : Tag) → cell_at w.old (shared_cell oldest.now) ≡ Cell.OfShared None t → cell_at w.old (shared_cell newest.now) ≡ Cell.OfShared o Tag.None → w.new ≡ vacated p (shared_cell newest.now) o w.old }
+    ensures only { OnlyOf p w.old w.new }
+    ensures stays { Stays w.old w.new }
+{
+    if atomic_shared::is_null(w, oldest) {
+        forget(w, newest, p);
+    }
+}
