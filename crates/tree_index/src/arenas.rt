@@ -74,7 +74,7 @@ impl<K: Ord, V> Arenas<K, V> {
     }
 
     /// The pair with this key.
-    #[inline]
+    #[inline(always)]
     pub(crate) fn search_entry(&self, key: &K) -> Option<(&K, &V)>
         requires { IsSound K.cmp self.now }
         ensures { MatchOption result (lookup_entry (is_at (K.cmp key.now)) (pairs_of self.now) ≡ None) (λ e. lookup_entry (is_at (K.cmp key.now)) (pairs_of self.now) ≡ Some (e.0.now, e.1.now)) }
@@ -87,7 +87,7 @@ impl<K: Ord, V> Arenas<K, V> {
 
     /// Inserts a pair into the leaf on the way to its key, and where `UPSERT` is true puts it in the
     /// place of the one that has its key. It is full where that leaf has no room, or there is none.
-    #[inline]
+    #[inline(always)]
     pub(crate) fn insert<const UPSERT: bool>(&mut self, key: K, val: V) -> InsertResult<K, V>
         requires sound { IsSound K.cmp self.old }
         requires countable { self.old.len + 1 < 2 ^ 64 }
@@ -118,7 +118,7 @@ impl<K: Ord, V> Arenas<K, V> {
 
     /// Inserts a pair, and where `UPSERT` is true puts it in the place of the one that has its key. It is
     /// full where memory is refused, or no more pairs can be counted.
-    #[inline]
+    #[inline(always)]
     pub(crate) fn put<const UPSERT: bool>(&mut self, key: K, val: V) -> InsertResult<K, V>
     where
         K: Clone + Drop,

@@ -114,6 +114,7 @@ impl<K: Ord, V> TreeIndex<K, V> {
     /// Where its leaf has no room, one key is cloned and room is taken for the leaves and nodes of one
     /// path, before anything is changed. A tree of `usize::MAX` pairs takes no more: that is answered
     /// as memory.
+    #[inline]
     pub fn insert_sync(&mut self, key: K, val: V) -> Result<(), InsertRefused<K, V>>
     where
         K: Clone + Drop,
@@ -173,6 +174,7 @@ impl<K: Ord, V> TreeIndex<K, V> {
     }
 
     /// The value at this key.
+    #[inline]
     pub fn peek(&self, key: &K) -> Option<&V>
         ensures { option_copied result ≡ value_at K.cmp key.now self.now.pairs }
     {
