@@ -9,7 +9,7 @@ use Rattle.sdd_base.specs.declared.tag.Tag.{Tag}
 use Rattle.sdd_base.specs.declared.status.Cell.{Cell}
 use Rattle.sdd_base.specs.declared.status.Cell.TheVariants as cell
 use Rattle.sdd.specs.Chain.{Entry, slots, links, IsOut, IsItem, IsHung, Leaves, first_slot, undeleted, deleted}
-use Rattle.sdd.specs.Nodes.{IsNode, IsSomeNode, Retags, retagged, Has}
+use Rattle.sdd.specs.Nodes.{IsNode, IsSomeNode, IsListed, Retags, retagged, Has}
 use Rattle.sdd.proofs.Chains.{cell_left, item_left, item_readable, leaves_write, leaves_all, out_of_none, wrote_same, inside_cells, some_same, the_same, hung_out, hung_first, kept_same, rehung, some_nothing}
 use Rattle.sdd.proofs.Releases.{out_of_one}
 
@@ -110,6 +110,19 @@ module _ {L : Type 0} (link : L → Option ℕ) where
 
   pub hung_node : (w : State L) (c : ℕ) (t u : Tag) (es : List (Entry L)) → IsHung link w c t es → (o : Option ℕ) → cell_at w c ≡ cell.OfShared o u → IfSome o (λ i. IsSomeNode link w (Some i))
   hung_node w c t u es h o kept = node_by w c t es h o (kept_same (first_slot es) o t u (sym (hung_first link w c t es h) ∙ kept))
+
+-- some list hangs behind the first entry of a list
+module _ {L : Type 0} (link : L → Option ℕ) where
+  first_listed : (w : State L) (c i : ℕ) (t : Tag) (es : List (Entry L)) → IsHung link w c t es → first_slot es ≡ Some i → IsListed link w (Some i)
+  first_listed w c i t [] h is = absurd (some_nothing i (sym is))
+  first_listed w c i t (e ∷ es) h is = record { entry = e; rest = es; is = record { names = sym is; item = h.1; next = first_slot es; kept = hung_first link w e.link e.tag es h.4 }; hung = h.4 }
+
+  listed_by : (w : State L) (c : ℕ) (t : Tag) (es : List (Entry L)) → IsHung link w c t es → (o : Option ℕ) → first_slot es ≡ o → IfSome o (λ i. IsListed link w (Some i))
+  listed_by w c t es h None is = tt
+  listed_by w c t es h (Some i) is = first_listed w c i t es h is
+
+  pub hung_listed : (w : State L) (c : ℕ) (t u : Tag) (es : List (Entry L)) → IsHung link w c t es → (o : Option ℕ) → cell_at w c ≡ cell.OfShared o u → IfSome o (λ i. IsListed link w (Some i))
+  hung_listed w c t u es h o kept = listed_by w c t es h o (kept_same (first_slot es) o t u (sym (hung_first link w c t es h) ∙ kept))
 
 pub has_first : {L : Type 0} (i : ℕ) (es : List (Entry L)) → first_slot (undeleted es) ≡ Some i → Has i es
 has_first i [] is = absurd (some_nothing i (sym is))

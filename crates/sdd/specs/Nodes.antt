@@ -18,6 +18,13 @@ pub record IsSomeNode {L : Type 0} (link : L → Option ℕ) (w : State L) (o : 
   pub entry : Entry L
   pub is : IsNode link w o entry
 
+-- it names an entry, and some list hangs behind that
+pub record IsListed {L : Type 0} (link : L → Option ℕ) (w : State L) (o : Option ℕ) : Type 0 where
+  pub entry : Entry L
+  pub rest : List (Entry L)
+  pub is : IsNode link w o entry
+  pub hung : IsHung link w entry.link entry.tag rest
+
 abbrev pub clear : Tag → Bool
 clear tag.None = true
 clear tag.First = false

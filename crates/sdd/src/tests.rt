@@ -249,6 +249,22 @@ fn oldest(w: &World<LinkedEntry<u64>>, queue: &Queue<u64>, guard: &WorldGuard) -
     }
 }
 
+/// The value of the second undeleted entry.
+fn second(w: &World<LinkedEntry<u64>>, stack: &Stack<u64>, guard: &WorldGuard) -> Option<u64>
+    requires { IsSomeStack w.now (stack_cell stack.now) }
+{
+    let first = world::stack::peek(w, stack, guard);
+    match w.read(&first) {
+        None => return None,
+        Some(_) => {}
+    }
+    let next = world::linked_list::next_ptr(w, first, guard);
+    match w.read(&next) {
+        None => None,
+        Some(entry) => Some(*entry.as_ref()),
+    }
+}
+
 /// The value of an entry, or 0.
 fn value_of(entry: Option<&LinkedEntry<u64>>) -> u64 {
     match entry {
@@ -498,6 +514,49 @@ fn a_queue_is_peeked_at_its_oldest(rt: HostRuntime) -> Result<(), Fail> {
     assert_eq!(rt; oldest(&w, &queue, &guard), Some(8));
     world::queue::retire(&mut w, queue, 0);
     place::guard::close(&mut w, guard);
+    end(&rt, w);
+    Ok(())
+}
+
+#[test]
+fn the_next_entry_is_one_that_is_not_deleted(rt: HostRuntime) -> Result<(), Fail> {
+    let mut w = numbers(rt.alloc(), 4, 5)?;
+    let Ok(guard) = place::guard::new(&mut w, 0) else {
+        panic!(rt; "no guard is open");
+    };
+    let Ok(stack) = world::stack::new(&mut w) else {
+        panic!(rt; "a cell is free");
+    };
+    assert_eq!(rt; push(&mut w, &stack, 1), Ok(()));
+    assert_eq!(rt; second(&w, &stack, &guard), None);
+    assert_eq!(rt; push(&mut w, &stack, 2), Ok(()));
+    assert_eq!(rt; second(&w, &stack, &guard), Some(1));
+    assert!(rt; delete(&mut w, &stack, &guard));
+    assert_eq!(rt; push(&mut w, &stack, 3), Ok(()));
+    assert_eq!(rt; second(&w, &stack, &guard), Some(1));
+    world::stack::retire(&mut w, stack, 0);
+    place::guard::close(&mut w, guard);
+    end(&rt, w);
+    Ok(())
+}
+
+#[test]
+fn an_entry_is_made_where_a_cell_is_free(rt: HostRuntime) -> Result<(), Fail> {
+    let mut w = numbers(rt.alloc(), 1, 1)?;
+    let Ok(entry) = world::linked_entry::new(&mut w, 5) else {
+        panic!(rt; "a cell is free");
+    };
+    assert_eq!(rt; *entry.as_ref(), 5);
+    match world::linked_entry::new(&mut w, 6) {
+        Ok(_) => panic!(rt; "the cell is taken"),
+        Err(back) => assert_eq!(rt; back, 6),
+    }
+    match place::shared::new(&mut w, entry) {
+        Ok(owner) => {
+            place::shared::release(&mut w, owner, 0);
+        }
+        Err(_) => panic!(rt; "a slot is free"),
+    }
     end(&rt, w);
     Ok(())
 }

@@ -66,11 +66,7 @@ pub(crate) fn make_one<T>(
     match link(w, value) {
         Err(value) => Err(value),
         Ok(entry) => match shared::new(w, entry) {
-            Ok(owner) => {
-                // Reading it shows that it is there.
-                let _entry = shared::as_ref(w, &owner);
-                Ok(owner)
-            }
+            Ok(owner) => Ok(owner),
             Err(entry) => Err(undo(w, entry)),
         },
     }

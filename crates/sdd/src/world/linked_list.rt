@@ -4,7 +4,7 @@ ghost use Rattle.std.specs.Prelude.{◌≡◌, ℕ, List, [], ◌∷◌, Some, I
 ghost use Rattle.sdd_base.specs.Tokens.{ptr_slot, link_cell};
 ghost use Rattle.sdd_base.specs.State.{cell_at, with_cell};
 ghost use Rattle.sdd.specs.Chain.{Entry, IsHung, Leaves, Stays, deleted, undeleted, first_slot};
-ghost use Rattle.sdd.specs.Nodes.{IsNode, IsSomeNode, Retags, clear, marked};
+ghost use Rattle.sdd.specs.Nodes.{IsNode, IsSomeNode, IsListed, Retags, clear, marked};
 
 use crate::linked_list::LinkedList;
 use crate::world::chain;
@@ -148,9 +148,10 @@ pub fn next_ptr<L: LinkedList>(
     at: Ptr<'static, L>,
     guard: &WorldGuard,
 ) -> Ptr<'static, L>
-    requires { (e : Entry L) × (es : List (Entry L)) × IsNode L.link w.now (ptr_slot at) e × IsHung L.link w.now e.link e.tag es }
+    requires { IsListed L.link w.now (ptr_slot at) }
     ensures next { (e : Entry L) (es : List (Entry L)) → IsNode L.link w.now (ptr_slot at.entry) e → IsHung L.link w.now e.link e.tag es → ptr_slot result ≡ first_slot (undeleted es) }
     ensures node { IfSome (ptr_slot result) (λ i. IsSomeNode L.link w.now (Some i)) }
+    ensures listed { IfSome (ptr_slot result) (λ i. IsListed L.link w.now (Some i)) }
 {
     match w.read(&at) {
         Some(item) => atomic_shared::load(w, chain::skip_from(w, item.link_ref()), guard),

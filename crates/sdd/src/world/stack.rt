@@ -5,7 +5,7 @@ ghost use Rattle.sdd_base.specs.State.{IsFreeCell, NoneFree, NoCellFree};
 ghost use Rattle.sdd_base.specs.Frame.{OnlyOf};
 ghost use Rattle.sdd_base.specs.Place.{IsShared};
 ghost use Rattle.sdd_base.specs.Tokens.{shared_slot, ptr_slot};
-ghost use Rattle.sdd.specs.Nodes.{IsSomeNode};
+ghost use Rattle.sdd.specs.Nodes.{IsSomeNode, IsListed};
 ghost use Rattle.std.specs.Option.{option_copied};
 ghost use Rattle.std.specs.Fn.{FnOnceReturnsAt};
 ghost use Rattle.sdd.specs.Chain.{Entry, Leaves, Stays, undeleted, first_item, first_slot, skip, links, slots};
@@ -99,6 +99,7 @@ pub fn peek<T>(
     requires { IsSomeStack w.now (stack_cell stack.now) }
     ensures first { (es : List (Entry (LinkedEntry T))) → IsStack w.now (stack_cell stack.now) es → ptr_slot result ≡ first_slot (undeleted es) }
     ensures node { IfSome (ptr_slot result) (λ i. IsSomeNode entry_link w.now (Some i)) }
+    ensures listed { IfSome (ptr_slot result) (λ i. IsListed entry_link w.now (Some i)) }
 {
     atomic_shared::load(w, chain::skip_from(w, &stack.newest), guard)
 }

@@ -4,16 +4,16 @@ use Rattle.sdd_base.specs.Tokens.{shared_cell}
 use Rattle.sdd.specs.Chain.{IsHung, skip}
 use Rattle.sdd.proofs.Chains.{head_cell, kept_same, some_same}
 use Rattle.sdd.proofs.Fronts.{skipped_first}
-use Rattle.sdd.proofs.Nodes.{node_item, hung_node}
+use Rattle.sdd.proofs.Nodes.{node_item, hung_node, hung_listed}
 use Rattle.sdd.proofs.world.linked_list.next_ptr.Goals as goal
 
 pub load-requires-after_bounds : goal.load-requires-after_bounds
 load-requires-after_bounds g c = λ _ _.
     let r = c.requires in
-    let item = node_item g.L.LinkedList.link c.args.w.now _ r.0 c.in-Some.item.now r.2 (λ i is. subst (λ (o : Option ℕ). IfSome o (λ j. Some c.in-Some.item.now ≡ value_at c.args.w.now j)) is c.in-Some.ensures.item) in
-    let at = some_same r.0.link (shared_cell c.link_ref.result.now) (sym item ∙ c.link_ref.ensures) in
-    let k = c.skip_from.ensures r.0.tag r.1 (subst (λ (d : ℕ). IsHung g.L.LinkedList.link c.args.w.now d r.0.tag r.1) at r.3) in
-    head_cell g.L.LinkedList.link c.args.w.now (shared_cell c.skip_from.result.now) k.0 (skip r.1) k.1
+    let item = node_item g.L.LinkedList.link c.args.w.now _ r.entry c.in-Some.item.now r.is (λ i is. subst (λ (o : Option ℕ). IfSome o (λ j. Some c.in-Some.item.now ≡ value_at c.args.w.now j)) is c.in-Some.ensures.item) in
+    let at = some_same r.entry.link (shared_cell c.link_ref.result.now) (sym item ∙ c.link_ref.ensures) in
+    let k = c.skip_from.ensures r.entry.tag r.rest (subst (λ (d : ℕ). IsHung g.L.LinkedList.link c.args.w.now d r.entry.tag r.rest) at r.hung) in
+    head_cell g.L.LinkedList.link c.args.w.now (shared_cell c.skip_from.result.now) k.0 (skip r.rest) k.1
 
 pub returns-clause-next : goal.returns-clause-next
 returns-clause-next g c = λ e es n h.
@@ -25,7 +25,15 @@ returns-clause-next g c = λ e es n h.
 pub returns-clause-node : goal.returns-clause-node
 returns-clause-node g c =
     let r = c.requires in
-    let item = node_item g.L.LinkedList.link c.args.w.now _ r.0 c.in-Some.item.now r.2 (λ i is. subst (λ (o : Option ℕ). IfSome o (λ j. Some c.in-Some.item.now ≡ value_at c.args.w.now j)) is c.in-Some.ensures.item) in
-    let at = some_same r.0.link (shared_cell c.link_ref.result.now) (sym item ∙ c.link_ref.ensures) in
-    let k = c.skip_from.ensures r.0.tag r.1 (subst (λ (d : ℕ). IsHung g.L.LinkedList.link c.args.w.now d r.0.tag r.1) at r.3) in
-    hung_node g.L.LinkedList.link c.args.w.now (shared_cell c.skip_from.result.now) k.0 _ (skip r.1) k.1 _ c.load.ensures
+    let item = node_item g.L.LinkedList.link c.args.w.now _ r.entry c.in-Some.item.now r.is (λ i is. subst (λ (o : Option ℕ). IfSome o (λ j. Some c.in-Some.item.now ≡ value_at c.args.w.now j)) is c.in-Some.ensures.item) in
+    let at = some_same r.entry.link (shared_cell c.link_ref.result.now) (sym item ∙ c.link_ref.ensures) in
+    let k = c.skip_from.ensures r.entry.tag r.rest (subst (λ (d : ℕ). IsHung g.L.LinkedList.link c.args.w.now d r.entry.tag r.rest) at r.hung) in
+    hung_node g.L.LinkedList.link c.args.w.now (shared_cell c.skip_from.result.now) k.0 _ (skip r.rest) k.1 _ c.load.ensures
+
+pub returns-clause-listed : goal.returns-clause-listed
+returns-clause-listed g c =
+    let r = c.requires in
+    let item = node_item g.L.LinkedList.link c.args.w.now _ r.entry c.in-Some.item.now r.is (λ i is. subst (λ (o : Option ℕ). IfSome o (λ j. Some c.in-Some.item.now ≡ value_at c.args.w.now j)) is c.in-Some.ensures.item) in
+    let at = some_same r.entry.link (shared_cell c.link_ref.result.now) (sym item ∙ c.link_ref.ensures) in
+    let k = c.skip_from.ensures r.entry.tag r.rest (subst (λ (d : ℕ). IsHung g.L.LinkedList.link c.args.w.now d r.entry.tag r.rest) at r.hung) in
+    hung_listed g.L.LinkedList.link c.args.w.now (shared_cell c.skip_from.result.now) k.0 _ (skip r.rest) k.1 _ c.load.ensures

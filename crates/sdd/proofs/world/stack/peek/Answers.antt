@@ -4,7 +4,7 @@ use Rattle.sdd_base.specs.declared.tag.Tag.TheVariants as tag
 use Rattle.sdd.specs.Entries.{entry_link}
 use Rattle.sdd.specs.Chain.{skip}
 use Rattle.sdd.proofs.Chains.{head_cell, kept_same}
-use Rattle.sdd.proofs.Nodes.{hung_node}
+use Rattle.sdd.proofs.Nodes.{hung_node, hung_listed}
 use Rattle.sdd.proofs.Fronts.{skipped_first}
 use Rattle.sdd.proofs.world.stack.peek.Goals as goal
 
@@ -18,3 +18,6 @@ returns-clause-first g c = λ es h.
 
 pub returns-clause-node : goal.returns-clause-node
 returns-clause-node g c = let r = c.skip_from.ensures tag.None c.requires.entries c.requires.is in hung_node entry_link c.args.w.now (shared_cell c.skip_from.result.now) r.0 _ (skip c.requires.entries) r.1 _ c.load.ensures
+
+pub returns-clause-listed : goal.returns-clause-listed
+returns-clause-listed g c = let r = c.skip_from.ensures tag.None c.requires.entries c.requires.is in hung_listed entry_link c.args.w.now (shared_cell c.skip_from.result.now) r.0 _ (skip c.requires.entries) r.1 _ c.load.ensures
