@@ -48,6 +48,7 @@ fn guards_nest_to_their_end(rt: HostRuntime) -> Result<(), Fail> {
     }
     let WorldGuard { participant: _ } = outer;
     let WorldGuard { participant: _ } = last;
+    let World { table: _ } = w;
     Ok(())
 }
 
@@ -85,6 +86,7 @@ fn owners_come_to_their_end(rt: HostRuntime) -> Result<(), Fail> {
     let Shared { slot: _, of: _ } = first;
     let Shared { slot: _, of: _ } = last;
     let WorldGuard { participant: _ } = guard;
+    let World { table: _ } = w;
     Ok(())
 }
 
@@ -109,5 +111,6 @@ fn a_clone_of_a_cell_is_null_where_no_owner_is_left(rt: HostRuntime) -> Result<(
     let AtomicShared { cell: _, of: _ } = cell;
     let AtomicShared { cell: _, of: _ } = other;
     let WorldGuard { participant: _ } = guard;
+    let World { table: _ } = w;
     Ok(())
 }

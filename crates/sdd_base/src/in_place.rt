@@ -10,7 +10,7 @@ use crate::holds::Holds;
 use crate::owner::{Owned, Shared};
 use crate::refusal::{GuardsOpen, NotLent};
 use crate::sizes::Sizes;
-use crate::tests::{Item, guarded, is_live, numbers, owned_item, passes, shared_item};
+use crate::tests::{Item, end, guarded, is_live, numbers, owned_item, passes, shared_item};
 use crate::world;
 use crate::world::World;
 use std::alloc::{AllocError, Global};
@@ -138,6 +138,7 @@ fn one_of_two_owners_is_given_back(rt: HostRuntime) -> Result<(), Fail> {
     }
     assert!(rt; dropped(&rt, &mut w, second));
     assert_eq!(rt; w.slots_in_use(), 0);
+    end(&rt, w);
     Ok(())
 }
 
@@ -156,6 +157,7 @@ fn what_waits_waits_on(rt: HostRuntime) -> Result<(), Fail> {
     assert_eq!(rt; w.slots_in_use(), 1);
     assert!(rt; passes(&mut w, 0, 1));
     assert_eq!(rt; w.slots_in_use(), 0);
+    end(&rt, w);
     Ok(())
 }
 
@@ -170,6 +172,7 @@ fn no_owned_item_is_dropped_under_a_guard(rt: HostRuntime) -> Result<(), Fail> {
     assert_eq!(rt; *world::owned::as_ref(&w, &owned), 5);
     let Owned { slot: _, of: _ } = owned;
     let WorldGuard { participant: _ } = guard;
+    let World { table: _ } = w;
     Ok(())
 }
 
@@ -184,6 +187,7 @@ fn no_shared_item_is_dropped_under_a_guard(rt: HostRuntime) -> Result<(), Fail> 
     assert_eq!(rt; *world::shared::as_ref(&w, &shared), 6);
     let Shared { slot: _, of: _ } = shared;
     let WorldGuard { participant: _ } = guard;
+    let World { table: _ } = w;
     Ok(())
 }
 
@@ -197,6 +201,7 @@ fn an_owned_value_is_written(rt: HostRuntime) -> Result<(), Fail> {
     }
     assert_eq!(rt; *world::owned::as_ref(&w, &owned), 7);
     let Owned { slot: _, of: _ } = owned;
+    let World { table: _ } = w;
     Ok(())
 }
 
@@ -218,6 +223,7 @@ fn a_shared_value_is_written_by_its_one_owner(rt: HostRuntime) -> Result<(), Fai
     }
     assert_eq!(rt; *world::shared::as_ref(&w, &first), 7);
     let Shared { slot: _, of: _ } = first;
+    let World { table: _ } = w;
     Ok(())
 }
 
@@ -238,5 +244,6 @@ fn nothing_is_written_under_a_guard(rt: HostRuntime) -> Result<(), Fail> {
     let Owned { slot: _, of: _ } = owned;
     let Shared { slot: _, of: _ } = shared;
     let WorldGuard { participant: _ } = guard;
+    let World { table: _ } = w;
     Ok(())
 }

@@ -13,7 +13,7 @@ use crate::pointer::Ptr;
 use crate::sizes::Sizes;
 use crate::status::{Cell, Status};
 use crate::tag::Tag;
-use crate::tests::is_live;
+use crate::tests::{end, is_live};
 use crate::world;
 use crate::world::World;
 use std::alloc::{AllocError, Global};
@@ -699,7 +699,9 @@ fn play<R: Abort>(
     };
     let mut plain = Plain::new(alloc)?;
     let mut w = World::new(alloc, sizes)?;
-    let collector = world::private_collector::new(alloc, &w)?;
+    let Ok(collector) = world::private_collector::new(alloc, &w) else {
+        panic!(rt; "memory is ample");
+    };
     let Ok(cell) = world::atomic_shared::null(&mut w) else {
         panic!(rt; "a cell is free");
     };
@@ -722,7 +724,7 @@ fn play<R: Abort>(
 #[test]
 fn random_calls_agree_with_a_plain_model(rt: HostRuntime) -> Result<(), Fail> {
     let w = play(&rt, rt.alloc(), Dice { seed: 1, haste: 2 }, 1500)?;
-    assert!(rt; w.close().is_ok());
+    end(&rt, w);
     Ok(())
 }
 
@@ -733,6 +735,6 @@ fn random_calls_agree_where_few_closings_are_accelerated(rt: HostRuntime) -> Res
         haste: 400,
     };
     let w = play(&rt, rt.alloc(), dice, 2500)?;
-    assert!(rt; w.close().is_ok());
+    end(&rt, w);
     Ok(())
 }

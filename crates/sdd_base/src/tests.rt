@@ -75,6 +75,14 @@ fn tags_have_numbers(rt: HostRuntime) -> Result<(), Fail> {
     Ok(())
 }
 
+/// Ends a world in which nothing is out.
+pub(crate) fn end<T: Holds, R: Abort>(rt: &R, w: World<T>) {
+    match w.close() {
+        Ok(()) => {}
+        Err(_) => panic!(rt; "nothing is out"),
+    }
+}
+
 /// One accelerated guard of participant `p`.
 pub(crate) fn pass<T: Holds>(w: &mut World<T>, p: usize) -> bool
     requires { p < length w.old.members }
@@ -154,6 +162,7 @@ fn an_owned_cell_is_swapped(rt: HostRuntime) -> Result<(), Fail> {
         (Tag::None, Tag::Second, Tag::First)
     );
     let WorldGuard { participant: _ } = guard;
+    let World { table: _ } = w;
     Ok(())
 }
 
@@ -170,6 +179,7 @@ fn the_last_of_two_owners_is_told(rt: HostRuntime) -> Result<(), Fail> {
     assert!(rt; !world::shared::release(&mut w, first, 0));
     assert!(rt; world::shared::release(&mut w, second, 0));
     assert_eq!(rt; w.slots_in_use(), 1);
+    end(&rt, w);
     Ok(())
 }
 
@@ -189,6 +199,7 @@ fn a_guard_keeps_what_it_names(rt: HostRuntime) -> Result<(), Fail> {
     world::guard::close(&mut w, guard);
     assert!(rt; passes(&mut w, 1, 4));
     assert_eq!(rt; w.slots_in_use(), 0);
+    end(&rt, w);
     Ok(())
 }
 
@@ -301,6 +312,7 @@ fn refusals_give_the_value_back(rt: HostRuntime) -> Result<(), Fail> {
     world::atomic_owned::retire(&mut w, cell, 1);
     assert!(rt; passes(&mut w, 1, 4));
     assert_eq!(rt; w.slots_in_use(), 0);
+    end(&rt, w);
     Ok(())
 }
 
@@ -324,7 +336,6 @@ fn a_job_runs_once_when_the_fourth_guard_opens(rt: HostRuntime) -> Result<(), Fa
         cells: 0,
         jobs: 1,
     };
-    let mut w: World<u64> = World::new(rt.alloc(), sizes)?;
     let runs = Arc::new(rt.alloc(), AtomicU32::new(0))?;
     let other = Arc::new(rt.alloc(), AtomicU32::new(0))?;
     let counted = Count {
@@ -335,6 +346,7 @@ fn a_job_runs_once_when_the_fourth_guard_opens(rt: HostRuntime) -> Result<(), Fa
         runs: other.clone()?,
     };
     let another = Job::new(Box::new(rt.alloc(), refused)?);
+    let mut w: World<u64> = World::new(rt.alloc(), sizes)?;
     let Ok(first) = world::guard::new(&mut w, 0) else {
         panic!(rt; "no guard is open");
     };
@@ -355,14 +367,16 @@ fn a_job_runs_once_when_the_fourth_guard_opens(rt: HostRuntime) -> Result<(), Fa
     world::guard::close(&mut w, fourth);
     assert!(rt; passes(&mut w, 0, 8));
     assert_eq!(rt; runs.load(Ordering::SeqCst), 1);
-    assert!(rt; w.close().is_ok());
+    end(&rt, w);
     Ok(())
 }
 
 #[test]
 fn a_collector_hands_over_what_it_keeps(rt: HostRuntime) -> Result<(), Fail> {
     let mut w = numbers(rt.alloc(), 1, 0)?;
-    let mut collector = world::private_collector::new(rt.alloc(), &w)?;
+    let Ok(mut collector) = world::private_collector::new(rt.alloc(), &w) else {
+        panic!(rt; "memory is ample");
+    };
     let guard = guarded(&rt, &mut w, 0);
     let owned = owned_item(&rt, &mut w, 5);
     world::private_collector::collect_owned(&mut w, &mut collector, owned, &guard);
@@ -374,6 +388,7 @@ fn a_collector_hands_over_what_it_keeps(rt: HostRuntime) -> Result<(), Fail> {
     }
     assert!(rt; passes(&mut w, 0, 4));
     assert_eq!(rt; w.slots_in_use(), 0);
+    end(&rt, w);
     Ok(())
 }
 
@@ -398,7 +413,9 @@ fn collect_one<R: Abort>(rt: &R, w: &mut World<u64>, collector: &mut PrivateColl
 #[test]
 fn a_later_collect_reclaims_what_three_raises_let_go(rt: HostRuntime) -> Result<(), Fail> {
     let mut w = numbers(rt.alloc(), 4, 0)?;
-    let mut collector = world::private_collector::new(rt.alloc(), &w)?;
+    let Ok(mut collector) = world::private_collector::new(rt.alloc(), &w) else {
+        panic!(rt; "memory is ample");
+    };
     let mut used = [0usize; 5];
     for n in 0..5 {
         used[n] = collect_one(&rt, &mut w, &mut collector);
@@ -407,6 +424,7 @@ fn a_later_collect_reclaims_what_three_raises_let_go(rt: HostRuntime) -> Result<
     assert_eq!(rt; used, [1, 2, 3, 3, 3]);
     assert!(rt; passes(&mut w, 1, 4));
     assert_eq!(rt; w.slots_in_use(), 0);
+    end(&rt, w);
     Ok(())
 }
 
@@ -483,6 +501,7 @@ fn a_comparing_exchange_looks_at_the_tag(rt: HostRuntime) -> Result<(), Fail> {
     assert!(rt; world::atomic_shared::tag(&w, &cell) == Tag::Both);
     let AtomicShared { cell: _, of: _ } = cell;
     let WorldGuard { participant: _ } = guard;
+    let World { table: _ } = w;
     Ok(())
 }
 
@@ -532,6 +551,7 @@ fn a_comparing_exchange_looks_at_item_and_tag(rt: HostRuntime) -> Result<(), Fai
     let AtomicOwned { cell: _, of: _ } = cell;
     let Owned { slot: _, of: _ } = other;
     let WorldGuard { participant: _ } = guard;
+    let World { table: _ } = w;
     Ok(())
 }
 
@@ -553,6 +573,7 @@ fn a_link_names_its_cell(rt: HostRuntime) -> Result<(), Fail> {
     );
     let AtomicShared { cell: _, of: _ } = other;
     let AtomicShared { cell: _, of: _ } = cell;
+    let World { table: _ } = w;
     Ok(())
 }
 
@@ -562,6 +583,7 @@ fn a_guard_tells_its_participant(rt: HostRuntime) -> Result<(), Fail> {
     let guard = guarded(&rt, &mut w, 1);
     assert_eq!(rt; guard.participant(), 1);
     let WorldGuard { participant: _ } = guard;
+    let World { table: _ } = w;
     Ok(())
 }
 
@@ -586,6 +608,7 @@ fn a_raw_item_comes_back_once(rt: HostRuntime) -> Result<(), Fail> {
     }
     assert_eq!(rt; w.slots_in_use(), 1);
     let WorldGuard { participant: _ } = guard;
+    let World { table: _ } = w;
     Ok(())
 }
 
@@ -632,6 +655,7 @@ fn a_raw_cell_is_stored_compared_and_updated(rt: HostRuntime) -> Result<(), Fail
     assert!(rt; world::atomic_raw::load(&w, &cell, &guard).is_null());
     let AtomicRaw { cell: _, of: _ } = cell;
     let WorldGuard { participant: _ } = guard;
+    let World { table: _ } = w;
     Ok(())
 }
 
@@ -649,6 +673,7 @@ fn a_tag_is_updated_where_the_closure_agrees(rt: HostRuntime) -> Result<(), Fail
     assert!(rt; world::atomic_owned::tag(&w, &cell) == Tag::Second);
     assert!(rt; !world::atomic_owned::is_null(&w, &cell));
     let AtomicOwned { cell: _, of: _ } = cell;
+    let World { table: _ } = w;
     Ok(())
 }
 
@@ -665,6 +690,7 @@ fn nothing_is_made_where_no_slot_is_free(rt: HostRuntime) -> Result<(), Fail> {
         Ok(_) => panic!(rt; "no slot is free"),
     }
     assert_eq!(rt; asked, 0);
+    end(&rt, w);
     Ok(())
 }
 
@@ -687,6 +713,7 @@ fn the_64th_closing_scans_where_something_was_retired(rt: HostRuntime) -> Result
     assert_eq!(rt; u8::from(world::guard::epoch(&w, &next)), 1);
     assert!(rt; !world::guard::has_garbage(&w, &next));
     let WorldGuard { participant: _ } = next;
+    let World { table: _ } = w;
     Ok(())
 }
 
@@ -707,5 +734,6 @@ fn a_world_is_handed_back_while_something_is_out(rt: HostRuntime) -> Result<(), 
     assert_eq!(rt; w.slots_in_use(), 2);
     let Owned { slot: _, of: _ } = owned;
     let WorldGuard { participant: _ } = guard;
+    let World { table: _ } = w;
     Ok(())
 }

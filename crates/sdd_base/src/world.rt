@@ -30,8 +30,7 @@ pub mod ptr;
 pub mod raw_ptr;
 pub mod shared;
 
-/// A place of one thread, with room for all that its sizes name.
-#[derive(Drop)]
+/// A place of one thread, with room for all that its sizes name. It can't be let go: `close` ends it.
 pub struct World<T> {
     pub(crate) table: Table<T>,
 }
