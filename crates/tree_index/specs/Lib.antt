@@ -6,6 +6,7 @@ pub mod Depth
 pub mod Walk
 pub mod Cursor
 pub mod Ends
+pub mod LeafCursor
 pub mod Proximity
 pub use Rattle.leaf_array.specs.Pairs
 pub use Rattle.leaf_array.specs.Edits

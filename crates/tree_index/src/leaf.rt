@@ -1,4 +1,13 @@
-//! A leaf of the tree.
+//! Leaves of a tree, and cursors over the pairs of one.
+//!
+//! ```
+//! let mut leaf: Leaf<u64, &str> = Leaf::new();
+//! leaf.array.insert::<false>(2, "two");
+//! leaf.array.insert::<false>(1, "one");
+//! let mut pairs = leaf::Iter::new(&leaf);
+//! pairs.next(); // Some((&1, &"one"))
+//! pairs.max_key(); // Some(&2)
+//! ```
 
 ghost use Rattle.std.specs.Prelude.{◌≡◌, ◌≤◌, ◌<◌, ◌+◌, ◌-◌, ◌||◌, ◌&&◌, ◌==◌, IsTrue, IsSome, IfSome, IfOk, Some, None, true, false, not, cond, length, slice_get, take, drop};
 ghost use Rattle.std.specs.BTreeMap.{is_at};
@@ -7,6 +16,7 @@ ghost use Rattle.std.specs.Fn.{FnOnceReturnsAt};
 ghost use Rattle.std.specs.List.{filter};
 ghost use Rattle.std.specs.Range.Bound.{bound_map};
 ghost use Rattle.std.specs.BTreeMap.Range.{range_contains, is_past_end};
+ghost use Rattle.leaf_array.specs.Cells.{no_cells};
 ghost use Rattle.leaf_array.specs.Edits.{removed, upserted};
 ghost use Rattle.leaf_array.specs.Pairs.{has_key, IsAscending};
 ghost use Rattle.leaf_array.specs.Values.{ClonesAreSame};
@@ -21,15 +31,43 @@ use std::cmp::Ordering;
 use std::mem;
 use std::ops::Bound;
 
-/// An array of pairs, and the numbers of the leaves before and behind it.
+mod iter;
+mod rev_iter;
+mod stand;
+
+pub use iter::Iter;
+pub use rev_iter::RevIter;
+pub(crate) use stand::Stand;
+
+/// A leaf of a tree: at most fifteen pairs by rising keys, and the numbers of its neighbours.
+/// (`scc`'s `tree_index::leaf::Leaf`.)
+///
+/// The pairs are read and written by the calls of its [`Array`].
 #[derive(Drop)]
 pub struct Leaf<K: Ord, V> {
-    pub(crate) array: Array<K, V>,
-    pub(crate) prev: Option<usize>,
-    pub(crate) next: Option<usize>,
+    /// The pairs.
+    pub array: Array<K, V>,
+    /// The number of the leaf before it in the arena of its tree, if there is one.
+    pub prev: Option<usize>,
+    /// The number of the leaf behind it, if there is one.
+    pub next: Option<usize>,
 }
 
 impl<K: Ord, V> Leaf<K, V> {
+    /// A leaf without pairs and without neighbours.
+    #[inline]
+    pub fn new() -> Self
+        ensures array { result.array ≡ no_cells false }
+        ensures prev { result.prev ≡ None }
+        ensures next { result.next ≡ None }
+    {
+        Leaf {
+            array: Array::new(),
+            prev: None,
+            next: None,
+        }
+    }
+
     /// Inserts a pair, and where `UPSERT` is true puts it in the place of the one that has its key.
     #[inline(always)]
     pub(crate) fn insert<const UPSERT: bool>(&mut self, key: K, val: V) -> InsertResult<K, V>

@@ -25,7 +25,9 @@ mod cursor_tests;
 mod equal;
 mod index;
 mod iter;
-mod leaf;
+pub mod leaf;
+#[cfg(test)]
+mod leaf_tests;
 mod node;
 mod proximity;
 mod range;

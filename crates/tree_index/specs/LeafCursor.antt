@@ -1,0 +1,46 @@
+-- A cursor over the pairs of one leaf.
+use Rattle.std.specs.Prelude.{◌≡◌, refl, ℕ, ◌+◌, ◌-◌, ◌==◌, cond, nat_lt, List, length, slice_get, Option, Some, None, MatchOption}
+use Rattle.std.specs.Borrow.{Bor}
+use Rattle.std.specs.Coded.{Coded, code_by, coded×, coded_ℕ, coded_list}
+use Rattle.tree_index.specs.Cursor.{referred}
+use Rattle.tree_index.specs.declared.leaf.stand.Stand.{Stand}
+
+-- the pairs by rising keys, and the rank at which it stands: the first pair has the rank 1, and 0 is the start
+pub record LeafCursor (K V : Type 0) : Type 0 where
+  pub pairs : List (K × V)
+  pub rank : ℕ
+
+abbrev pub leaf_cursor_code : {K V : Type 0} → Coded K → Coded V → Coded (LeafCursor K V)
+leaf_cursor_code {K} {V} k v =
+    code_by (List (K × V) × ℕ) (coded× (coded_list (coded× k v)) coded_ℕ) (λ c. (c.pairs, c.rank)) (λ p. record { pairs = p.0; rank = p.1 }) (λ _. refl)
+
+module _ {K V : Type 0} where
+  -- a cursor at the start
+  abbrev pub at_start : List (K × V) → LeafCursor K V
+  at_start pairs = record { pairs = pairs; rank = 0 }
+
+  -- the cursor that a leaf and a rank make
+  abbrev pub cursor_at : Stand K V → LeafCursor K V
+  cursor_at s = record { pairs = s.leaf.now.array.pairs; rank = s.rank }
+
+  -- the pair at a rank
+  abbrev pub ranked : ℕ → List (K × V) → Option (K × V)
+  ranked rank pairs = cond (rank == 0) None (slice_get pairs (rank - 1))
+
+  -- how many pairs are above, and how many below, where all are below the start
+  abbrev pub pairs_above : LeafCursor K V → ℕ
+  pairs_above c = length c.pairs - c.rank
+
+  abbrev pub pairs_below : LeafCursor K V → ℕ
+  pairs_below c = cond (c.rank == 0) (length c.pairs) (c.rank - 1)
+
+  -- the rank above, and the rank below
+  abbrev pub rank_above : LeafCursor K V → Option ℕ
+  rank_above c = cond (nat_lt 0 (pairs_above c)) (Some (c.rank + 1)) None
+
+  abbrev pub rank_below : LeafCursor K V → Option ℕ
+  rank_below c = cond (nat_lt 0 (pairs_below c)) (Some (pairs_below c)) None
+
+  -- a cursor goes to the rank that it seeks and gives its pair, or stays where there is none
+  abbrev pub MovesTo : (LeafCursor K V → Option ℕ) → LeafCursor K V → Option (Bor K × Bor V) → LeafCursor K V → Type 0
+  MovesTo seek c answer d = MatchOption (seek c) ((answer ≡ None) × (d ≡ c)) (λ n. (referred answer ≡ ranked n c.pairs) × (d ≡ record c { rank = n }))

@@ -1,0 +1,108 @@
+//! A cursor over the pairs of one leaf, by rising keys.
+
+ghost use Rattle.std.specs.Prelude.{◌≡◌, ◌-◌, length, option_copied};
+ghost use Rattle.tree_index.specs.Cursor.{referred};
+ghost use Rattle.tree_index.specs.Cuts.{key_at};
+ghost use Rattle.tree_index.specs.LeafCursor.{at_start, ranked};
+
+use crate::leaf::{Leaf, RevIter, Stand};
+use std::marker::Model;
+
+/// Goes through the pairs of a leaf by rising keys. (`scc`'s `tree_index::leaf::Iter`.)
+///
+/// It stands at the start, before all pairs, or at a pair; past the last one it gives none and stays
+/// where it is.
+///
+/// ```
+/// // of the keys 1 and 2
+/// let mut pairs = Iter::new(&leaf);
+/// pairs.get(); // None
+/// pairs.next(); // Some((&1, ..))
+/// pairs.next(); // Some((&2, ..))
+/// pairs.next(); // None
+/// pairs.get(); // Some((&2, ..))
+/// ```
+#[derive(Drop)]
+pub struct Iter<'l, K: Ord, V> {
+    pub(crate) stand: Stand<'l, K, V>,
+}
+
+impl<'l, K: Ord, V> Model for Iter<'l, K, V> {
+    ghost use Rattle.tree_index.specs.LeafCursor.{LeafCursor, leaf_cursor_code, cursor_at};
+
+    ghost Value = { LeafCursor K V };
+
+    ghost coded = { leaf_cursor_code K.code V.code };
+
+    ghost view = { λ i. cursor_at i.stand };
+}
+
+impl<'l, K: Ord, V> Iter<'l, K, V> {
+    /// A cursor at the start of a leaf.
+    pub fn new(leaf: &'l Leaf<K, V>) -> Self
+        ensures { result ≡ at_start leaf.now.array.pairs }
+    {
+        Iter {
+            stand: Stand { leaf, rank: 0 },
+        }
+    }
+
+    /// The pair at which it stands; none at the start.
+    pub fn get(&self) -> Option<(&'l K, &'l V)>
+        ensures { referred result ≡ ranked self.now.rank self.now.pairs }
+    {
+        self.stand.pair()
+    }
+
+    /// The greatest key of the leaf, wherever it stands; none where the leaf has no pair.
+    pub fn max_key(&self) -> Option<&'l K>
+        ensures { option_copied result ≡ key_at self.now.pairs (length self.now.pairs - 1) }
+    {
+        match self.stand.leaf.ranked(self.stand.leaf.array.len()) {
+            Some((key, _)) => Some(key),
+            None => None,
+        }
+    }
+
+    /// Goes back to the start.
+    pub fn rewind(&mut self)
+        ensures { self.new ≡ at_start self.old.pairs }
+    {
+        self.stand.rank = 0;
+    }
+
+    /// Turns round: a cursor that stands where it stands and goes by falling keys.
+    pub fn rev(self) -> RevIter<'l, K, V>
+        ensures { result ≡ self.entry }
+    {
+        RevIter { stand: self.stand }
+    }
+
+    /// Another cursor that stands where it stands.
+    pub fn clone(&self) -> Self
+        ensures { result ≡ self.now }
+    {
+        Self { stand: self.stand }
+    }
+}
+
+impl<'l, K: Ord, V> Iterator for Iter<'l, K, V> {
+    ghost use Rattle.std.specs.Iterator.{at_most};
+    ghost use Rattle.tree_index.specs.LeafCursor.{MovesTo, pairs_above, rank_above};
+
+    type Item = (&'l K, &'l V);
+
+    ghost next_gives = { MovesTo rank_above };
+
+    ghost remaining = { λ c. at_most (pairs_above c) };
+
+    /// The pair with the next greater key. Where there is none it stays.
+    fn next(&mut self) -> Option<(&'l K, &'l V)> {
+        if self.stand.rank < self.stand.leaf.array.len() {
+            self.stand.rank += 1;
+            self.get()
+        } else {
+            None
+        }
+    }
+}

@@ -1,0 +1,110 @@
+//! A cursor over the pairs of one leaf, by falling keys.
+
+ghost use Rattle.std.specs.Prelude.{◌≡◌, option_copied};
+ghost use Rattle.tree_index.specs.Cursor.{referred};
+ghost use Rattle.tree_index.specs.Cuts.{key_at};
+ghost use Rattle.tree_index.specs.LeafCursor.{at_start, ranked};
+
+use crate::leaf::{Iter, Leaf, Stand};
+use std::marker::Model;
+
+/// Goes through the pairs of a leaf by falling keys. (`scc`'s `tree_index::leaf::RevIter`.)
+///
+/// It stands at the start, behind all pairs, or at a pair; past the first one it gives none and stays
+/// where it is.
+///
+/// ```
+/// // of the keys 1 and 2
+/// let mut pairs = RevIter::new(&leaf);
+/// pairs.next(); // Some((&2, ..))
+/// pairs.rev().get(); // Some((&2, ..))
+/// ```
+#[derive(Drop)]
+pub struct RevIter<'l, K: Ord, V> {
+    pub(crate) stand: Stand<'l, K, V>,
+}
+
+impl<'l, K: Ord, V> Model for RevIter<'l, K, V> {
+    ghost use Rattle.tree_index.specs.LeafCursor.{LeafCursor, leaf_cursor_code, cursor_at};
+
+    ghost Value = { LeafCursor K V };
+
+    ghost coded = { leaf_cursor_code K.code V.code };
+
+    ghost view = { λ i. cursor_at i.stand };
+}
+
+impl<'l, K: Ord, V> RevIter<'l, K, V> {
+    /// A cursor at the start of a leaf.
+    pub fn new(leaf: &'l Leaf<K, V>) -> Self
+        ensures { result ≡ at_start leaf.now.array.pairs }
+    {
+        RevIter {
+            stand: Stand { leaf, rank: 0 },
+        }
+    }
+
+    /// The pair at which it stands; none at the start.
+    pub fn get(&self) -> Option<(&'l K, &'l V)>
+        ensures { referred result ≡ ranked self.now.rank self.now.pairs }
+    {
+        self.stand.pair()
+    }
+
+    /// The least key of the leaf, wherever it stands; none where the leaf has no pair.
+    pub fn min_key(&self) -> Option<&'l K>
+        ensures { option_copied result ≡ key_at self.now.pairs 0 }
+    {
+        match self.stand.leaf.ranked(1) {
+            Some((key, _)) => Some(key),
+            None => None,
+        }
+    }
+
+    /// Goes back to the start.
+    pub fn rewind(&mut self)
+        ensures { self.new ≡ at_start self.old.pairs }
+    {
+        self.stand.rank = 0;
+    }
+
+    /// Turns round: a cursor that stands where it stands and goes by rising keys.
+    pub fn rev(self) -> Iter<'l, K, V>
+        ensures { result ≡ self.entry }
+    {
+        Iter { stand: self.stand }
+    }
+
+    /// Another cursor that stands where it stands.
+    pub fn clone(&self) -> Self
+        ensures { result ≡ self.now }
+    {
+        Self { stand: self.stand }
+    }
+}
+
+impl<'l, K: Ord, V> Iterator for RevIter<'l, K, V> {
+    ghost use Rattle.std.specs.Iterator.{at_most};
+    ghost use Rattle.tree_index.specs.LeafCursor.{MovesTo, pairs_below, rank_below};
+
+    type Item = (&'l K, &'l V);
+
+    ghost next_gives = { MovesTo rank_below };
+
+    ghost remaining = { λ c. at_most (pairs_below c) };
+
+    /// The pair with the next smaller key; from the start that with the greatest one. Where there is none
+    /// it stays.
+    fn next(&mut self) -> Option<(&'l K, &'l V)> {
+        let below = if self.stand.rank == 0 {
+            self.stand.leaf.array.len()
+        } else {
+            self.stand.rank - 1
+        };
+        if below == 0 {
+            return None;
+        }
+        self.stand.rank = below;
+        self.get()
+    }
+}
