@@ -13,7 +13,6 @@ use Rattle.slab.specs.Slab.{Slab, get, with_value, Updates}
 use Rattle.slab.proofs.SlabLemmas.{Updates-with_value}
 use Rattle.std.proofs.lemmas.Bool.Decides.{eqb_tells, leb_tells}
 use Rattle.std.proofs.Math.Dec.{leb}
-use Rattle.leaf_array.specs.Cells.{Cells}
 use Rattle.leaf_array.specs.Edits.{upserted}
 use Rattle.leaf_array.specs.Results.{IsFull, given_back}
 use Rattle.leaf_array.specs.declared.result.InsertResult.{InsertResult}
@@ -21,7 +20,7 @@ use Rattle.leaf_array.specs.declared.result.InsertResult.TheVariants.{Success, D
 use Rattle.tree_index.specs.declared.leaf.Leaf.{Leaf}
 use Rattle.tree_index.specs.declared.node.Branches.{Branches}
 use Rattle.tree_index.specs.declared.arenas.Arenas.{Arenas}
-use Rattle.tree_index.specs.Shape.{Content, AllKeys, child_for, child_in, way}
+use Rattle.tree_index.specs.Shape.{AllKeys, child_for, child_in, way}
 use Rattle.tree_index.specs.Content.{content_of, pairs_of, HasRoom, NodeHasRoom, IsLeafFull}
 use Rattle.tree_index.specs.Cuts.{key_at}
 use Rattle.tree_index.proofs.WayLemmas.{some_same}

@@ -24,3 +24,4 @@ pub mod ThinLemmas
 pub mod RemovalLemmas
 pub mod DepthLemmas
 pub mod LeafArenaLemmas
+pub mod LeafCursorLemmas

@@ -1,9 +1,19 @@
 -- A cursor over the pairs of one leaf.
-use Rattle.std.specs.Prelude.{◌≡◌, refl, ℕ, ◌+◌, ◌-◌, ◌==◌, cond, nat_lt, List, length, slice_get, Option, Some, None, MatchOption}
+use Rattle.std.specs.Prelude.{◌≡◌, refl, ℕ, ◌+◌, ◌-◌, ◌==◌, ◌++◌, cond, nat_lt, List, length, slice_get, Option, Some, None, MatchOption}
 use Rattle.std.specs.Borrow.{Bor}
 use Rattle.std.specs.Coded.{Coded, code_by, coded×, coded_ℕ, coded_list}
 use Rattle.tree_index.specs.Cursor.{referred}
+use Rattle.tree_index.specs.declared.arenas.Arenas.{Arenas}
+use Rattle.tree_index.specs.declared.walk.Spot.{Spot}
+use Rattle.tree_index.specs.Content.{pairs_of}
+use Rattle.tree_index.specs.Walk.{position}
 use Rattle.tree_index.specs.declared.leaf.stand.Stand.{Stand}
+
+-- a list stands as a whole within another one
+pub record IsPart {X : Type 0} (part whole : List X) : Type 0 where
+  pub fore : List X
+  pub rear : List X
+  pub all : whole ≡ fore ++ (part ++ rear)
 
 -- the pairs by rising keys, and the rank at which it stands: the first pair has the rank 1, and 0 is the start
 pub record LeafCursor (K V : Type 0) : Type 0 where
@@ -34,6 +44,11 @@ module _ {K V : Type 0} where
   abbrev pub pairs_below : LeafCursor K V → ℕ
   pairs_below c = cond (c.rank == 0) (length c.pairs) (c.rank - 1)
 
+  -- the pair of a cursor that may be there
+  abbrev pub stood : Option (Stand K V) → Option (K × V)
+  stood None = None
+  stood (Some s) = ranked s.rank s.leaf.now.array.pairs
+
   -- the rank above, and the rank below
   abbrev pub rank_above : LeafCursor K V → Option ℕ
   rank_above c = cond (nat_lt 0 (pairs_above c)) (Some (c.rank + 1)) None
@@ -44,3 +59,13 @@ module _ {K V : Type 0} where
   -- a cursor goes to the rank that it seeks and gives its pair, or stays where there is none
   abbrev pub MovesTo : (LeafCursor K V → Option ℕ) → LeafCursor K V → Option (Bor K × Bor V) → LeafCursor K V → Type 0
   MovesTo seek c answer d = MatchOption (seek c) ((answer ≡ None) × (d ≡ c)) (λ n. (referred answer ≡ ranked n c.pairs) × (d ≡ record c { rank = n }))
+
+  -- the place behind n pairs, if there is a pair
+  abbrev pub IsFirstSpot : Arenas K V → ℕ → Option (Spot K V) → Type 0
+  IsFirstSpot a n None = n ≡ length (pairs_of a)
+  IsFirstSpot a n (Some s) = position a s ≡ n
+
+  -- the place of the last of the first n pairs, if there is one
+  abbrev pub IsLastSpot : Arenas K V → ℕ → Option (Spot K V) → Type 0
+  IsLastSpot a n None = n ≡ 0
+  IsLastSpot a n (Some s) = position a s + 1 ≡ n

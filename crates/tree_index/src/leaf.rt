@@ -32,6 +32,7 @@ use std::mem;
 use std::ops::Bound;
 
 mod iter;
+mod jump;
 mod rev_iter;
 mod stand;
 
@@ -209,7 +210,7 @@ impl<K: Ord, V> Leaf<K, V> {
     }
 
     /// The key of the pair at a place.
-    fn key(&self, at: usize) -> &K
+    pub(crate) fn key(&self, at: usize) -> &K
         requires { at < length self.now.array.pairs }
         ensures { key_at self.now.array.pairs at ≡ Some result.now }
     {

@@ -1,5 +1,6 @@
 //! Leaves and their cursors by example.
 
+use crate::TreeIndex;
 use crate::leaf::{Iter, Leaf, RevIter};
 use leaf_array::{InsertResult, RemoveResult};
 use std::process::Abort;
@@ -152,4 +153,84 @@ fn goes_along<R: Abort>(rt: &R, leaf: &Leaf<u64, u64>, keys: &[u64], seed: &mut 
     }
     assert_eq!(rt; forth.max_key(), keys.last());
     assert_eq!(rt; forth.rev().min_key(), keys.first());
+}
+
+/// The leaf of a tree on the way to a key.
+fn leaf_at<'t, R: Abort>(rt: &R, tree: &'t TreeIndex<u64, u64>, key: u64) -> &'t Leaf<u64, u64> {
+    match tree.arenas.leaves.get(tree.arenas.leaf_of(&key)) {
+        Some(leaf) => leaf,
+        None => panic!(rt; "no leaf"),
+    }
+}
+
+/// Goes through all leaves of a tree from the one of its least key on, and back from that of its
+/// greatest, by jumps from leaf to leaf. The tree has the keys up to `last` outside of a gap.
+fn jumps_along<R: Abort>(rt: &R, tree: &TreeIndex<u64, u64>, last: u64, gap: (u64, u64)) {
+    let mut forth = Iter::new(leaf_at(rt, tree, 0));
+    for key in 0..=last {
+        if key < gap.0 || gap.1 <= key {
+            match forth.next() {
+                Some(pair) => assert_eq!(rt; pair, (&key, &!key)),
+                None => {
+                    assert_eq!(rt; forth.jump(tree), Some((&key, &!key)));
+                    assert!(rt; forth.clone().rev().next().is_none());
+                },
+            }
+            assert_eq!(rt; forth.get(), Some((&key, &!key)));
+        }
+    }
+    assert!(rt; forth.jump(tree).is_none());
+    assert_eq!(rt; forth.get(), Some((&last, &!last)));
+    let mut back = RevIter::new(leaf_at(rt, tree, last));
+    for down in 0..=last {
+        let key = last - down;
+        if key < gap.0 || gap.1 <= key {
+            match back.next() {
+                Some(pair) => assert_eq!(rt; pair, (&key, &!key)),
+                None => {
+                    assert_eq!(rt; back.jump(tree), Some((&key, &!key)));
+                    assert!(rt; back.clone().rev().next().is_none());
+                },
+            }
+            assert_eq!(rt; back.get(), Some((&key, &!key)));
+        }
+    }
+    assert!(rt; back.jump(tree).is_none());
+    assert_eq!(rt; back.get(), Some((&0, &!0)));
+}
+
+#[test]
+fn jumps_go_over_leaves_that_were_emptied(rt: HostRuntime) -> Result<(), Fail> {
+    let mut tree: TreeIndex<u64, u64> = TreeIndex::new(rt.alloc());
+    for key in 0..150u64 {
+        assert!(rt; tree.insert_sync(key, !key).is_ok());
+    }
+    jumps_along(&rt, &tree, 149, (0, 0));
+    for key in 40..110u64 {
+        assert!(rt; tree.remove_sync(&key));
+    }
+    jumps_along(&rt, &tree, 149, (40, 110));
+    let emptied = leaf_at(&rt, &tree, 70);
+    assert!(rt; emptied.array.is_empty());
+    let mut forth = Iter::new(emptied);
+    assert_eq!(rt; forth.jump(&tree), Some((&110, &!110)));
+    let mut back = RevIter::new(emptied);
+    assert_eq!(rt; back.jump(&tree), Some((&39, &!39)));
+    Ok(())
+}
+
+#[test]
+fn a_cursor_over_emptied_leaves_alone_stays(rt: HostRuntime) -> Result<(), Fail> {
+    let mut tree: TreeIndex<u64, u64> = TreeIndex::new(rt.alloc());
+    for key in 0..40u64 {
+        assert!(rt; tree.insert_sync(key, key).is_ok());
+    }
+    for key in 0..40u64 {
+        assert!(rt; tree.remove_sync(&key));
+    }
+    let mut forth = Iter::new(leaf_at(&rt, &tree, 20));
+    assert!(rt; forth.jump(&tree).is_none() && forth.get().is_none());
+    let mut back = forth.rev();
+    assert!(rt; back.jump(&tree).is_none() && back.get().is_none());
+    Ok(())
 }

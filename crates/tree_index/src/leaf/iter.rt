@@ -1,10 +1,12 @@
 //! A cursor over the pairs of one leaf, by rising keys.
 
-ghost use Rattle.std.specs.Prelude.{◌≡◌, ◌-◌, length, option_copied};
-ghost use Rattle.tree_index.specs.Cursor.{referred};
+ghost use Rattle.std.specs.Prelude.{◌≡◌, ◌-◌, IfNone, IfSome, Some, length, option_copied, slice_get};
+ghost use Rattle.std.specs.declared.ops.Bound.TheVariants.{Excluded};
+ghost use Rattle.tree_index.specs.Cursor.{before_start, referred};
 ghost use Rattle.tree_index.specs.Cuts.{key_at};
-ghost use Rattle.tree_index.specs.LeafCursor.{at_start, ranked};
+ghost use Rattle.tree_index.specs.LeafCursor.{at_start, ranked, IsPart};
 
+use crate::index::TreeIndex;
 use crate::leaf::{Leaf, RevIter, Stand};
 use std::marker::Model;
 
@@ -60,6 +62,27 @@ impl<'l, K: Ord, V> Iter<'l, K, V> {
     {
         match self.stand.leaf.ranked(self.stand.leaf.array.len()) {
             Some((key, _)) => Some(key),
+            None => None,
+        }
+    }
+
+    /// Goes to the first pair of the next leaf of the tree that has one, and gives it. Where there is none
+    /// it stays.
+    ///
+    /// The tree is the one that the leaf is of; for another leaf it is searched for the pairs whose keys are
+    /// greater than all of the leaf's. A leaf without pairs has no key to go from: there the links are
+    /// followed, and no clause says where they lead.
+    pub fn jump(&mut self, tree: &'l TreeIndex<K, V>) -> Option<(&'l K, &'l V)>
+        ensures next { IfSome (key_at self.old.pairs (length self.old.pairs - 1)) (λ k. referred result ≡ slice_get tree.now.pairs (before_start K.cmp (Excluded k) tree.now.pairs)) }
+        ensures shown { IfSome result (λ p. ranked self.new.rank self.new.pairs ≡ Some (p.0.now, p.1.now)) }
+        ensures leaf { IfSome result (λ p. IsPart self.new.pairs tree.now.pairs) }
+        ensures stays { IfNone result (self.new ≡ self.old) }
+    {
+        match self.stand.past(&tree.arenas) {
+            Some(stand) => {
+                self.stand = stand;
+                self.get()
+            },
             None => None,
         }
     }

@@ -1,10 +1,12 @@
 //! A cursor over the pairs of one leaf, by falling keys.
 
-ghost use Rattle.std.specs.Prelude.{◌≡◌, option_copied};
-ghost use Rattle.tree_index.specs.Cursor.{referred};
+ghost use Rattle.std.specs.Prelude.{◌≡◌, IfNone, IfSome, Some, option_copied};
+ghost use Rattle.std.specs.declared.ops.Bound.TheVariants.{Excluded};
+ghost use Rattle.tree_index.specs.Cursor.{referred, up_to_end};
 ghost use Rattle.tree_index.specs.Cuts.{key_at};
-ghost use Rattle.tree_index.specs.LeafCursor.{at_start, ranked};
+ghost use Rattle.tree_index.specs.LeafCursor.{at_start, ranked, IsPart};
 
+use crate::index::TreeIndex;
 use crate::leaf::{Iter, Leaf, Stand};
 use std::marker::Model;
 
@@ -57,6 +59,27 @@ impl<'l, K: Ord, V> RevIter<'l, K, V> {
     {
         match self.stand.leaf.ranked(1) {
             Some((key, _)) => Some(key),
+            None => None,
+        }
+    }
+
+    /// Goes to the last pair of the next leaf before it in the tree that has one, and gives it. Where there
+    /// is none it stays.
+    ///
+    /// The tree is the one that the leaf is of; for another leaf it is searched for the pairs whose keys are
+    /// less than all of the leaf's. A leaf without pairs has no key to go from: there the links are
+    /// followed, and no clause says where they lead.
+    pub fn jump(&mut self, tree: &'l TreeIndex<K, V>) -> Option<(&'l K, &'l V)>
+        ensures next { IfSome (key_at self.old.pairs 0) (λ k. referred result ≡ ranked (up_to_end K.cmp (Excluded k) tree.now.pairs) tree.now.pairs) }
+        ensures shown { IfSome result (λ p. ranked self.new.rank self.new.pairs ≡ Some (p.0.now, p.1.now)) }
+        ensures leaf { IfSome result (λ p. IsPart self.new.pairs tree.now.pairs) }
+        ensures stays { IfNone result (self.new ≡ self.old) }
+    {
+        match self.stand.short_of(&tree.arenas) {
+            Some(stand) => {
+                self.stand = stand;
+                self.get()
+            },
             None => None,
         }
     }
