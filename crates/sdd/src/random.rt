@@ -8,7 +8,7 @@ ghost use Rattle.sdd.specs.Queues.{IsSomeQueue, oldest_cell, newest_cell};
 use crate::linked_entry::LinkedEntry;
 use crate::queue::Queue;
 use crate::stack::Stack;
-use crate::tests::{append, end, numbers, pop, push, take};
+use crate::tests::{append, end, pop, push, sizes, take};
 use crate::world;
 use sdd_base::world as place;
 use sdd_base::world::World;
@@ -88,7 +88,7 @@ fn queue_call<R: Abort>(
 
 #[test]
 fn a_stack_is_a_list_whose_end_comes_first(rt: HostRuntime) -> Result<(), Fail> {
-    let mut w = numbers(rt.alloc(), 400, 401)?;
+    let mut w: World<LinkedEntry<u64>> = World::new(rt.alloc(), sizes(400, 401))?;
     let mut list = Vec::new(rt.alloc());
     let mut room = 400;
     let mut seed = 1;
@@ -107,7 +107,7 @@ fn a_stack_is_a_list_whose_end_comes_first(rt: HostRuntime) -> Result<(), Fail> 
 
 #[test]
 fn a_queue_is_a_list(rt: HostRuntime) -> Result<(), Fail> {
-    let mut w = numbers(rt.alloc(), 400, 402)?;
+    let mut w: World<LinkedEntry<u64>> = World::new(rt.alloc(), sizes(400, 402))?;
     let mut list = Vec::new(rt.alloc());
     let mut room = 400;
     let mut seed = 2;

@@ -1,5 +1,4 @@
-ghost use Rattle.std.specs.Prelude.{◌≡◌, ◌<◌, ◌≤◌, length, IfOk, IsTrue};
-ghost use Rattle.sdd_base.specs.State.{fresh};
+ghost use Rattle.std.specs.Prelude.{◌≡◌, ◌<◌, length, IfOk, IsTrue};
 ghost use Rattle.sdd_base.specs.Place.{IsOpen};
 ghost use Rattle.sdd.specs.Entries.{entry_link};
 ghost use Rattle.sdd.specs.Stacks.{IsSomeStack, stack_cell};
@@ -13,27 +12,19 @@ use sdd_base::guard::WorldGuard;
 use sdd_base::sizes::Sizes;
 use sdd_base::world as place;
 use sdd_base::world::World;
-use std::alloc::{AllocError, Global};
 use std::process::Abort;
 use std::test::Fail;
 
-/// A world of entries of numbers with one participant.
-pub(crate) fn numbers(
-    alloc: Global,
-    slots: usize,
-    cells: usize,
-) -> Result<World<LinkedEntry<u64>>, AllocError>
-    requires slots { slots ≤ 1000 }
-    requires cells { cells ≤ 1000 }
-    ensures { IfOk result (λ w. w ≡ fresh (record { participants = 1; slots = slots; cells = cells; jobs = 0 })) }
+/// The sizes of a place with one participant.
+pub(crate) fn sizes(slots: usize, cells: usize) -> Sizes
+    ensures { result ≡ record { participants = 1; slots = slots; cells = cells; jobs = 0 } }
 {
-    let sizes = Sizes {
+    Sizes {
         participants: 1,
         slots,
         cells,
         jobs: 0,
-    };
-    World::new(alloc, sizes)
+    }
 }
 
 /// Ends a world in which nothing is left.
@@ -275,7 +266,7 @@ fn value_of(entry: Option<&LinkedEntry<u64>>) -> u64 {
 
 #[test]
 fn a_stack_gives_the_newest_first(rt: HostRuntime) -> Result<(), Fail> {
-    let mut w = numbers(rt.alloc(), 3, 4)?;
+    let mut w: World<LinkedEntry<u64>> = World::new(rt.alloc(), sizes(3, 4))?;
     let Ok(stack) = world::stack::new(&mut w) else {
         panic!(rt; "a cell is free");
     };
@@ -295,7 +286,7 @@ fn a_stack_gives_the_newest_first(rt: HostRuntime) -> Result<(), Fail> {
 
 #[test]
 fn a_queue_gives_the_oldest_first(rt: HostRuntime) -> Result<(), Fail> {
-    let mut w = numbers(rt.alloc(), 3, 5)?;
+    let mut w: World<LinkedEntry<u64>> = World::new(rt.alloc(), sizes(3, 5))?;
     let Ok(queue) = world::queue::new(&mut w) else {
         panic!(rt; "two cells are free");
     };
@@ -314,7 +305,7 @@ fn a_queue_gives_the_oldest_first(rt: HostRuntime) -> Result<(), Fail> {
 
 #[test]
 fn a_queue_without_room_hands_the_value_back(rt: HostRuntime) -> Result<(), Fail> {
-    let mut w = numbers(rt.alloc(), 2, 4)?;
+    let mut w: World<LinkedEntry<u64>> = World::new(rt.alloc(), sizes(2, 4))?;
     let Ok(queue) = world::queue::new(&mut w) else {
         panic!(rt; "two cells are free");
     };
@@ -330,7 +321,7 @@ fn a_queue_without_room_hands_the_value_back(rt: HostRuntime) -> Result<(), Fail
 
 #[test]
 fn a_queue_takes_two_cells(rt: HostRuntime) -> Result<(), Fail> {
-    let mut w = numbers(rt.alloc(), 1, 1)?;
+    let mut w: World<LinkedEntry<u64>> = World::new(rt.alloc(), sizes(1, 1))?;
     match world::queue::new(&mut w) {
         Ok(_) => panic!(rt; "one cell is free"),
         Err(_) => {}
@@ -346,7 +337,7 @@ fn a_queue_takes_two_cells(rt: HostRuntime) -> Result<(), Fail> {
 
 #[test]
 fn deleted_entries_are_passed_over(rt: HostRuntime) -> Result<(), Fail> {
-    let mut w = numbers(rt.alloc(), 4, 8)?;
+    let mut w: World<LinkedEntry<u64>> = World::new(rt.alloc(), sizes(4, 8))?;
     let Ok(guard) = place::guard::new(&mut w, 0) else {
         panic!(rt; "no guard is open");
     };
@@ -372,7 +363,7 @@ fn deleted_entries_are_passed_over(rt: HostRuntime) -> Result<(), Fail> {
 
 #[test]
 fn all_entries_move_to_another_stack(rt: HostRuntime) -> Result<(), Fail> {
-    let mut w = numbers(rt.alloc(), 2, 4)?;
+    let mut w: World<LinkedEntry<u64>> = World::new(rt.alloc(), sizes(2, 4))?;
     let Ok(stack) = world::stack::new(&mut w) else {
         panic!(rt; "a cell is free");
     };
@@ -391,7 +382,7 @@ fn all_entries_move_to_another_stack(rt: HostRuntime) -> Result<(), Fail> {
 
 #[test]
 fn an_entry_has_one_tag_at_a_time(rt: HostRuntime) -> Result<(), Fail> {
-    let mut w = numbers(rt.alloc(), 1, 2)?;
+    let mut w: World<LinkedEntry<u64>> = World::new(rt.alloc(), sizes(1, 2))?;
     let Ok(guard) = place::guard::new(&mut w, 0) else {
         panic!(rt; "no guard is open");
     };
@@ -421,7 +412,7 @@ fn an_entry_has_one_tag_at_a_time(rt: HostRuntime) -> Result<(), Fail> {
 
 #[test]
 fn conditions_see_the_first_undeleted_entry(rt: HostRuntime) -> Result<(), Fail> {
-    let mut w = numbers(rt.alloc(), 3, 4)?;
+    let mut w: World<LinkedEntry<u64>> = World::new(rt.alloc(), sizes(3, 4))?;
     let Ok(stack) = world::stack::new(&mut w) else {
         panic!(rt; "a cell is free");
     };
@@ -437,7 +428,7 @@ fn conditions_see_the_first_undeleted_entry(rt: HostRuntime) -> Result<(), Fail>
 
 #[test]
 fn a_value_is_pushed_on_a_condition(rt: HostRuntime) -> Result<(), Fail> {
-    let mut w = numbers(rt.alloc(), 2, 3)?;
+    let mut w: World<LinkedEntry<u64>> = World::new(rt.alloc(), sizes(2, 3))?;
     let Ok(stack) = world::stack::new(&mut w) else {
         panic!(rt; "a cell is free");
     };
@@ -453,7 +444,7 @@ fn a_value_is_pushed_on_a_condition(rt: HostRuntime) -> Result<(), Fail> {
 
 #[test]
 fn a_refused_pop_takes_nothing(rt: HostRuntime) -> Result<(), Fail> {
-    let mut w = numbers(rt.alloc(), 2, 4)?;
+    let mut w: World<LinkedEntry<u64>> = World::new(rt.alloc(), sizes(2, 4))?;
     let Ok(stack) = world::stack::new(&mut w) else {
         panic!(rt; "a cell is free");
     };
@@ -477,7 +468,7 @@ fn a_refused_pop_takes_nothing(rt: HostRuntime) -> Result<(), Fail> {
 
 #[test]
 fn an_entry_is_popped_on_a_condition(rt: HostRuntime) -> Result<(), Fail> {
-    let mut w = numbers(rt.alloc(), 2, 4)?;
+    let mut w: World<LinkedEntry<u64>> = World::new(rt.alloc(), sizes(2, 4))?;
     let Ok(stack) = world::stack::new(&mut w) else {
         panic!(rt; "a cell is free");
     };
@@ -500,7 +491,7 @@ fn an_entry_is_popped_on_a_condition(rt: HostRuntime) -> Result<(), Fail> {
 
 #[test]
 fn a_queue_is_peeked_at_its_oldest(rt: HostRuntime) -> Result<(), Fail> {
-    let mut w = numbers(rt.alloc(), 2, 4)?;
+    let mut w: World<LinkedEntry<u64>> = World::new(rt.alloc(), sizes(2, 4))?;
     let Ok(guard) = place::guard::new(&mut w, 0) else {
         panic!(rt; "no guard is open");
     };
@@ -520,7 +511,7 @@ fn a_queue_is_peeked_at_its_oldest(rt: HostRuntime) -> Result<(), Fail> {
 
 #[test]
 fn the_next_entry_is_one_that_is_not_deleted(rt: HostRuntime) -> Result<(), Fail> {
-    let mut w = numbers(rt.alloc(), 4, 5)?;
+    let mut w: World<LinkedEntry<u64>> = World::new(rt.alloc(), sizes(4, 5))?;
     let Ok(guard) = place::guard::new(&mut w, 0) else {
         panic!(rt; "no guard is open");
     };
@@ -542,7 +533,7 @@ fn the_next_entry_is_one_that_is_not_deleted(rt: HostRuntime) -> Result<(), Fail
 
 #[test]
 fn an_entry_is_made_where_a_cell_is_free(rt: HostRuntime) -> Result<(), Fail> {
-    let mut w = numbers(rt.alloc(), 1, 1)?;
+    let mut w: World<LinkedEntry<u64>> = World::new(rt.alloc(), sizes(1, 1))?;
     let Ok(entry) = world::linked_entry::new(&mut w, 5) else {
         panic!(rt; "a cell is free");
     };

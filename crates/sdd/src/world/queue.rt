@@ -1,6 +1,6 @@
 //! Queues over a `World`: the oldest entry comes first.
 
-ghost use Rattle.std.specs.Prelude.{◌≡◌, ◌<◌, ◌⊎◌, ◌↔◌, ℕ, List, [], ◌∷◌, length, IfOk, IfErr, OnErr, Some, IfSome, MatchOption, IsTrue};
+ghost use Rattle.std.specs.Prelude.{◌≤◌, ◌≡◌, ◌<◌, ◌⊎◌, ◌↔◌, ℕ, List, [], ◌∷◌, length, IfOk, IfErr, OnErr, Some, IfSome, MatchOption, IsTrue};
 ghost use Rattle.sdd_base.specs.State.{IsFreeCell, NoneFree, NoCellFree};
 ghost use Rattle.sdd_base.specs.Frame.{OnlyOf};
 ghost use Rattle.sdd_base.specs.Place.{IsShared};
@@ -23,6 +23,7 @@ use sdd_base::world::{World, atomic_shared};
 
 /// An empty queue, exactly if two cells are free.
 pub fn new<T>(w: &mut World<LinkedEntry<T>>) -> Result<Queue<T>, NoSlot>
+    requires { 0 ≤ length w.old.cells }
     ensures made { IfOk result (λ q. IsQueue entry_link w.new (oldest_cell q) (newest_cell q) []) }
     ensures fresh { IfOk result (λ q. IsFreeCell w.old (oldest_cell q) × IsFreeCell w.old (newest_cell q)) }
     ensures list { IfOk result (λ q. IsSomeQueue entry_link w.new (oldest_cell q) (newest_cell q)) }

@@ -1,6 +1,6 @@
 //! Stacks over a `World`: the newest entry comes first.
 
-ghost use Rattle.std.specs.Prelude.{◌≡◌, ◌<◌, ◌⊎◌, ◌↔◌, ℕ, List, [], ◌∷◌, length, IfOk, IfErr, OnErr, OnOk, Some, IfSome, MatchOption, IsTrue, IsErrAnd, Bool, false};
+ghost use Rattle.std.specs.Prelude.{◌≤◌, ◌≡◌, ◌<◌, ◌⊎◌, ◌↔◌, ℕ, List, [], ◌∷◌, length, IfOk, IfErr, OnErr, OnOk, Some, IfSome, MatchOption, IsTrue, IsErrAnd, Bool, false};
 ghost use Rattle.sdd_base.specs.State.{IsFreeCell, NoneFree, NoCellFree};
 ghost use Rattle.sdd_base.specs.Frame.{OnlyOf};
 ghost use Rattle.sdd_base.specs.Place.{IsShared};
@@ -26,6 +26,7 @@ use sdd_base::world::{World, atomic_shared};
 
 /// An empty stack, exactly if a cell is free.
 pub fn new<T>(w: &mut World<LinkedEntry<T>>) -> Result<Stack<T>, NoSlot>
+    requires { 0 ≤ length w.old.cells }
     ensures made { IfOk result (λ s. IsStack w.new (stack_cell s) []) }
     ensures fresh { IfOk result (λ s. IsFreeCell w.old (stack_cell s)) }
     ensures list { IfOk result (λ s. IsSomeStack w.new (stack_cell s)) }
