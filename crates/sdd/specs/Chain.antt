@@ -32,7 +32,7 @@ abbrev pub AreOut : List ℕ → List ℕ → Type 0
 AreOut [] js = Unit {0}
 AreOut (i ∷ is) js = IsOut i js × AreOut is js
 
--- a list that may be written out
+-- the tag of an entry that was deleted
 abbrev pub deleted : Tag → Bool
 deleted tag.None = false
 deleted tag.First = false
