@@ -1,22 +1,35 @@
 -- the front of a list: what is skipped, taken off and put there
-use Rattle.std.proofs.Common.{◌≡◌, ◌≢◌, ℕ, ◌<◌, true, false, Option, None, Some, List, [], ◌∷◌, length, refl, sym, ap, ◌∙◌, arith, subst, cond}
+use Rattle.std.proofs.Common.{◌≡◌, ◌≢◌, ℕ, ◌<◌, true, false, Option, None, Some, IfSome, List, [], ◌∷◌, length, refl, sym, ap, ◌∙◌, arith, subst, cond}
 use Rattle.sdd_base.specs.State.{State, status_at, cell_at, with_cell, emptiness, vacancy}
 use Rattle.sdd_base.specs.Place.{IsSharedCell}
 use Rattle.sdd_base.specs.declared.tag.Tag.{Tag}
 use Rattle.sdd_base.specs.declared.tag.Tag.TheVariants as tag
 use Rattle.sdd_base.specs.declared.status.Status.TheVariants as status
 use Rattle.sdd_base.specs.declared.status.Cell.TheVariants as cell
-use Rattle.sdd.specs.Chain.{Entry, slots, links, IsOut, IsHung, IsLoose, Leaves, TookFirst, Fits, CanHang, first_slot, skip, undeleted, deleted}
+use Rattle.sdd.specs.Chain.{Entry, slots, links, IsOut, IsHung, IsLoose, Leaves, SameUses, TookFirst, Fits, CanHang, first_item, first_slot, skip, undeleted, deleted}
 use Rattle.sdd.specs.Entries.{entry_link}
 use Rattle.sdd.specs.Stacks.{IsNew, IsMade}
 use Rattle.sdd.specs.declared.linked_entry.LinkedEntry.{LinkedEntry}
 use Rattle.sdd.proofs.Releases.{out_of_one}
 use Rattle.sdd.proofs.Chains.{hung_left, hung_first, hung_out, leaves_then, leaves_more, leaves_all, leaves_write, out_of_none, free_cell_out, free_slot_out, item_left, wrote_same, inside_cells, some_same, some_nothing, Took, Filled, written2, wrote_last, wrote_second, wrote_other, rehung, out_of_two}
 
+-- the first entry of a list, if there is one, has a slot
+pub no_first : {L : Type 0} (es : List (Entry L)) → first_item es ≡ None → first_slot es ≡ None
+no_first [] h = refl
+no_first (e ∷ es) h = absurd (some_nothing e.item h)
+
 -- what is skipped is deleted
 pub first_skipped : {L : Type 0} (es : List (Entry L)) → first_slot (skip es) ≡ first_slot (undeleted es)
 first_skipped [] = refl
 first_skipped (e ∷ es) = elim (deleted e.tag) as (λ v. first_slot (cond v (skip es) (e ∷ es)) ≡ first_slot (cond v (undeleted es) (e ∷ undeleted es))) [ true ↦ first_skipped es | false ↦ refl ]
+
+-- the use of the first undeleted entry is as it was before what was skipped was given back
+pub first_use : {L : Type 0} (n : ℕ) (es : List (Entry L)) (w w' : State L) → SameUses w w' (slots (skip es)) → IfSome (first_slot (skip es)) (λ i. status_at w' i ≡ status.Shared n) → IfSome (first_slot (undeleted es)) (λ i. status_at w i ≡ status.Shared n)
+first_use {L} n es w w' same h = subst (λ o. IfSome o (λ i. status_at w i ≡ status.Shared n)) (first_skipped es) (before (skip es) same h)
+  where
+    before : (fs : List (Entry L)) → SameUses w w' (slots fs) → IfSome (first_slot fs) (λ i. status_at w' i ≡ status.Shared n) → IfSome (first_slot fs) (λ i. status_at w i ≡ status.Shared n)
+    before [] s k = tt
+    before (f ∷ fs) s k = sym s.0 ∙ k
 
 pub none_skipped : {L : Type 0} (es : List (Entry L)) → skip es ≡ [] → undeleted es ≡ []
 none_skipped [] h = refl

@@ -1,7 +1,7 @@
 //! Stacks over a `World`: the newest entry comes first.
 
-ghost use Rattle.std.specs.Prelude.{◌≤◌, ◌≡◌, ◌<◌, ◌⊎◌, ◌↔◌, ℕ, List, [], ◌∷◌, length, IfOk, IfErr, OnErr, OnOk, Some, IfSome, MatchOption, IsTrue, IsErrAnd, Bool, false};
-ghost use Rattle.sdd_base.specs.State.{IsFreeCell, NoneFree, NoCellFree};
+ghost use Rattle.std.specs.Prelude.{◌≤◌, ◌≡◌, ◌<◌, ◌⊎◌, ◌↔◌, ℕ, List, [], ◌∷◌, length, IfOk, IfErr, OnErr, OnOk, Some, IfSome, IfNone, MatchOption, IsTrue, IsErrAnd, Bool, false};
+ghost use Rattle.sdd_base.specs.State.{status_at, IsFreeCell, NoneFree, NoCellFree};
 ghost use Rattle.sdd_base.specs.Frame.{OnlyOf};
 ghost use Rattle.sdd_base.specs.Place.{IsShared};
 ghost use Rattle.sdd_base.specs.Tokens.{shared_slot, ptr_slot};
@@ -22,6 +22,7 @@ use sdd_base::guard::WorldGuard;
 use sdd_base::owner::Shared;
 use sdd_base::pointer::Ptr;
 use sdd_base::refusal::NoSlot;
+use sdd_base::status::Status;
 use sdd_base::world::{World, atomic_shared};
 
 /// An empty stack, exactly if a cell is free.
@@ -218,6 +219,7 @@ pub fn pop_if<T, F: FnOnce(&LinkedEntry<T>) -> bool + Drop>(
     ensures popped { (es : List (Entry (LinkedEntry T))) → IsStack w.old (stack_cell stack.now) es → IfOk result (λ r. IfSome r (λ s. Pops w.new (stack_cell stack.now) (shared_slot s) es)) }
     ensures kept { taken result ≡ false → (es : List (Entry (LinkedEntry T))) → IsStack w.old (stack_cell stack.now) es → IsStack w.new (stack_cell stack.now) (skip es) }
     ensures refused { IfErr result (λ s. (es : List (Entry (LinkedEntry T))) → IsStack w.old (stack_cell stack.now) es → Some (shared_slot s) ≡ first_slot (undeleted es)) }
+    ensures full { (es : List (Entry (LinkedEntry T))) → IsStack w.old (stack_cell stack.now) es → IfOk result (λ r. IfNone r (IfSome (first_slot (undeleted es)) (λ i. status_at w.old i ≡ Status.Shared 4294967295))) }
     ensures list { IsSomeStack w.new (stack_cell stack.now) }
     ensures leaves { (es : List (Entry (LinkedEntry T))) → IsStack w.old (stack_cell stack.now) es → Leaves (stack_cell stack.now ∷ links es) (slots es) w.old w.new }
     ensures only { OnlyOf p w.old w.new }

@@ -1,9 +1,11 @@
-use Rattle.std.proofs.Common.{◌∙◌, sym, ap, subst, Bool, Option, IfSome, false, true}
+use Rattle.std.proofs.Common.{◌≡◌, ◌∙◌, sym, ap, subst, Bool, Option, IfSome, false, true}
 use Rattle.std.specs.Fn.{FnOnceReturnsAt}
 use Rattle.sdd_base.specs.declared.tag.Tag.TheVariants as tag
+use Rattle.sdd_base.specs.State.{status_at}
+use Rattle.sdd_base.specs.declared.status.Status.TheVariants as status
 use Rattle.sdd.specs.Chain.{skip, undeleted, first_item}
 use Rattle.sdd.specs.Stacks.{stack_cell}
-use Rattle.sdd.proofs.Fronts.{first_skipped}
+use Rattle.sdd.proofs.Fronts.{first_skipped, first_use, no_first}
 use Rattle.sdd.proofs.Firsts.{undeleted_skip, not_empty, skipped_leaves}
 use Rattle.sdd.proofs.world.stack.pop_if.Goals as goal
 
@@ -79,3 +81,12 @@ returns-in-None-clause-leaves g c = λ es h. skipped_leaves _ _ _ (stack_cell c.
 
 pub returns-clause-leaves : goal.returns-clause-leaves
 returns-clause-leaves g c = λ es h. skipped_leaves _ _ _ (stack_cell c.args.stack.now) es (c.skip_deleted.ensures.leaves tag.None es h) (c.in-Some-pop.ensures.leaves (skip es) (c.skip_deleted.ensures.skipped tag.None es h))
+
+pub returns-in_default-clause-full : goal.returns-in_default-clause-full
+returns-in_default-clause-full g c = λ es h.
+    let item = c.in_default.ensures tag.None (skip es) (c.skip_deleted.ensures.skipped tag.None es h) ∙ ap first_item (undeleted_skip es) in
+    subst (λ (o : Option _). IfSome o (λ i. status_at c.args.w.now i ≡ status.Shared 4294967295)) (sym (no_first (undeleted es) (sym item))) tt
+
+pub returns-in-None-clause-full : goal.returns-in-None-clause-full
+returns-in-None-clause-full g c = λ es h.
+    first_use 4294967295 es c.args.w.now c.skip_deleted.new.w (c.skip_deleted.ensures.same tag.None es h) (c.in-None.ensures.none tag.None (skip es) (c.skip_deleted.ensures.skipped tag.None es h))
