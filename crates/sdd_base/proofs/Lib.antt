@@ -11,3 +11,4 @@ pub mod Passes
 pub mod Drops
 pub mod Notes
 pub mod Cells
+pub mod Quiets

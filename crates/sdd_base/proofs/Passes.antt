@@ -11,7 +11,7 @@ use Rattle.sdd_base.specs.Steps.{hit, times, released_as, disowned_as, owned_end
 use Rattle.sdd_base.specs.Place.{Sound, IsPlace, IsOpen, held_times}
 use Rattle.sdd_base.specs.Frame.{OnlyOf}
 use Rattle.sdd_base.specs.Counting.{tally, same_hold}
-use Rattle.sdd_base.specs.Passing.{accelerated, passed, passed_times, CanPass, slot_kept, slot_held, IsLayered, WaitsBelow, NoJobWaits, PassesReclaim}
+use Rattle.sdd_base.specs.Passing.{accelerated, passed, passed_times, CanPass, slot_kept, slot_held, IsLayered, WaitsBelow, NoJobWaits, PassesReclaim, is_plain, IsPlain, Shrinks}
 use Rattle.sdd_base.specs.declared.status.Status.{Status}
 use Rattle.sdd_base.specs.declared.status.Status.TheVariants as status
 use Rattle.sdd_base.specs.declared.status.Cell.{Cell}
@@ -53,17 +53,29 @@ vacated_idle status.Retired e = cc
 vacated_idle status.Idle e = cc
 vacated_idle status.Deferred e = cc
 
--- values, what cells name, and jobs only go
-record Shrinks {T : Type 0} (w w' : State T) : Type 0 where
-  pub values : (j : ℕ) (u : T) → value_at w' j ≡ Some u → value_at w j ≡ Some u
-  pub cells : (c j : ℕ) → slot_kept (cell_at w' c) ≡ Some j → slot_kept (cell_at w c) ≡ Some j
-  pub jobs : (j : ℕ) → status_at w' j ≡ status.Deferred → status_at w j ≡ status.Deferred
+-- what was plain is plain, or what is set is
+plain_after : (ss : List Status) (i j : ℕ) (s : Status) → (is_plain (get_or ss i status.Free) ≡ true → is_plain s ≡ true) → is_plain (get_or ss j status.Free) ≡ true → is_plain (get_or (set ss i s) j status.Free) ≡ true
+plain_after [] i j s new e = e
+plain_after (x ∷ ss) zero zero s new e = new e
+plain_after (x ∷ ss) zero (suc j) s new e = e
+plain_after (x ∷ ss) (suc i) zero s new e = e
+plain_after (x ∷ ss) (suc i) (suc j) s new e = plain_after ss i j s new e
 
-shrinks_refl : {T : Type 0} (w : State T) → Shrinks w w
-shrinks_refl w = record { values = λ j u e. e; cells = λ c j e. e; jobs = λ j e. e }
+plain_vacated : (s : Status) → is_plain s ≡ true → is_plain (vacated s) ≡ true
+plain_vacated status.Free e = refl
+plain_vacated status.Owned e = refl
+plain_vacated (status.Shared n) e = refl
+plain_vacated status.Raw e = refl
+plain_vacated (status.Collected n) e = refl
+plain_vacated status.Retired e = refl
+plain_vacated status.Idle e = absurd (false≢true e)
+plain_vacated status.Deferred e = absurd (false≢true e)
 
-shrinks_then : {T : Type 0} (u v w : State T) → Shrinks u v → Shrinks v w → Shrinks u w
-shrinks_then u v w a b = record { values = λ j x e. a.values j x (b.values j x e); cells = λ c j e. a.cells c j (b.cells c j e); jobs = λ j e. a.jobs j (b.jobs j e) }
+pub shrinks_refl : {T : Type 0} (w : State T) → Shrinks w w
+shrinks_refl w = record { values = λ j u e. e; cells = λ c j e. e; jobs = λ j e. e; plain = λ j e. e }
+
+pub shrinks_then : {T : Type 0} (u v w : State T) → Shrinks u v → Shrinks v w → Shrinks u w
+shrinks_then u v w a b = record { values = λ j x e. a.values j x (b.values j x e); cells = λ c j e. a.cells c j (b.cells c j e); jobs = λ j e. a.jobs j (b.jobs j e); plain = λ j e. b.plain j (a.plain j e) }
 
 held_before : {T : Type 0} (w w' : State T) → Shrinks w w' → (h : Hold) (j : ℕ) → slot_held w' h ≡ Some j → slot_held w h ≡ Some j
 held_before w w' s (OwnedItem i) j e = e
@@ -75,7 +87,7 @@ layered_after : {T : Type 0} (holds : T → List Hold) (level : T → ℕ) (w w'
 layered_after holds level w w' s l i j v u h a b c d = l i j v u h (s.values i v a) b (held_before w w' s h j c) (s.values j u d)
 
 -- what giving an owner back adds to the current bag of p: at most the place o names
-record Adds {T : Type 0} (p : ℕ) (o : Option ℕ) (w w' : State T) : Type 0 where
+pub record Adds {T : Type 0} (p : ℕ) (o : Option ℕ) (w w' : State T) : Type 0 where
   pub shrinks : Shrinks w w'
   pub added : (j : ℕ) → 1 ≤ times j (member_at w' p).current → (1 ≤ times j (member_at w p).current) ⊎ (o ≡ Some j)
 
@@ -86,20 +98,25 @@ adds_retired : {T : Type 0} (w : State T) (p i : ℕ) → p < length w.members �
 adds_retired w p i known =
     let at : member_at (retired p i w) p ≡ put_member i (member_at w p) = get_or-set_same w.members p (put_member i (member_at w p)) nobody known in
     record {
-      shrinks = record { values = λ j u e. e; cells = λ c j e. e; jobs = λ j e. status_before w.states i j status.Retired (λ f. cc) e };
+      shrinks = record { values = λ j u e. e; cells = λ c j e. e; jobs = λ j e. status_before w.states i j status.Retired (λ f. cc) e; plain = λ j e. plain_after w.states i j status.Retired (λ f. refl) e };
       added = λ j s. elim (eqb_tells j i) [
         | inl t ↦ inr (ap (λ (k : ℕ). Some k) (sym t.1))
         | inr t ↦ let bag = ap (λ (m : Member). times j m.current) at in let more = times-append j (member_at w p).current i in let none = hit-other i j t.1 in inl (omega (arith, s, bag, more, none))
       ];
     }
 
-adds_status : {T : Type 0} (w : State T) (p i n : ℕ) (o : Option ℕ) → Adds p o w (with_status i (status.Shared n) w)
-adds_status w p i n o = record { shrinks = record { values = λ j u e. e; cells = λ c j e. e; jobs = λ j e. status_before w.states i j (status.Shared n) (λ f. cc) e }; added = λ j s. inl s }
+adds_status : {T : Type 0} (w : State T) (p i n : ℕ) (o : Option ℕ) → ltb 0 n ≡ true → Adds p o w (with_status i (status.Shared n) w)
+adds_status w p i n o some = record { shrinks = record { values = λ j u e. e; cells = λ c j e. e; jobs = λ j e. status_before w.states i j (status.Shared n) (λ f. cc) e; plain = λ j e. plain_after w.states i j (status.Shared n) (λ f. some) e }; added = λ j s. inl s }
 
-adds_released : {T : Type 0} (w : State T) (p i : ℕ) (s : Status) → p < length w.members → Adds p (Some i) w (released_as s p i w)
+left_some : (n : ℕ) → leb n 1 ≡ false → ltb 0 (n - 1) ≡ true
+left_some zero e = absurd (false≢true (sym e))
+left_some (suc zero) e = absurd (false≢true (sym e))
+left_some (suc (suc n)) e = grind (arith, nat_tests)
+
+pub adds_released : {T : Type 0} (w : State T) (p i : ℕ) (s : Status) → p < length w.members → Adds p (Some i) w (released_as s p i w)
 adds_released w p i status.Free known = adds_refl p (Some i) w
 adds_released w p i status.Owned known = adds_refl p (Some i) w
-adds_released w p i (status.Shared n) known = elim (leb n 1) as (λ b. Adds p (Some i) w (cond b (retired p i w) (with_status i (status.Shared (n - 1)) w))) [ true ↦ adds_retired w p i known | false ↦ adds_status w p i (n - 1) (Some i) ]
+adds_released w p i (status.Shared n) known = (elim (leb n 1) as (λ b. leb n 1 ≡ b → Adds p (Some i) w (cond b (retired p i w) (with_status i (status.Shared (n - 1)) w))) [ true ↦ λ e. adds_retired w p i known | false ↦ λ e. adds_status w p i (n - 1) (Some i) (left_some n e) ]) refl
 adds_released w p i status.Raw known = adds_refl p (Some i) w
 adds_released w p i (status.Collected n) known = adds_refl p (Some i) w
 adds_released w p i status.Retired known = adds_refl p (Some i) w
@@ -117,7 +134,7 @@ adds_disowned w p i status.Idle known = adds_refl p (Some i) w
 adds_disowned w p i status.Deferred known = adds_refl p (Some i) w
 
 adds_cell : {T : Type 0} (w : State T) (p c : ℕ) (o : Option ℕ) → Adds p o w (with_cell c cell.Free w)
-adds_cell w p c o = record { shrinks = record { values = λ j u e. e; cells = λ d j e. cell_before w.cells c d j e; jobs = λ j e. e }; added = λ j s. inl s }
+adds_cell w p c o = record { shrinks = record { values = λ j u e. e; cells = λ d j e. cell_before w.cells c d j e; jobs = λ j e. e; plain = λ j e. e }; added = λ j s. inl s }
 
 -- a cell ends first
 adds_after : {T : Type 0} (w w' : State T) (p c : ℕ) (o : Option ℕ) → Adds p o (with_cell c cell.Free w) w' → Adds p o w w'
@@ -179,7 +196,7 @@ holder holds (Some v) h s = (v, refl, s)
 
 module _ {T : Type 0} (holds : T → List Hold) where
   shrinks_taken : (p i : ℕ) (is : List ℕ) (w : State T) → Shrinks w (taken p i is w)
-  shrinks_taken p i is w = record { values = λ j u e. value_before w.values i j u e; cells = λ c j e. e; jobs = λ j e. status_before w.states i j (vacated (status_at w i)) (vacated_idle (status_at w i)) e }
+  shrinks_taken p i is w = record { values = λ j u e. value_before w.values i j u e; cells = λ c j e. e; jobs = λ j e. status_before w.states i j (vacated (status_at w i)) (vacated_idle (status_at w i)) e; plain = λ j e. plain_after w.states i j (vacated (status_at w i)) (plain_vacated (status_at w i)) e }
 
   adds_due : (p i : ℕ) (is : List ℕ) (w : State T) → Sound w → p < length w.members → (member_at w p).due ≡ i ∷ is → AddsAll p (held_in holds (value_at w i)) (taken p i is w) (due_reclaimed holds p w)
   adds_due p i is w h known was =
@@ -208,7 +225,7 @@ module _ {T : Type 0} (holds : T → List Hold) where
       let size : length u.members ≡ length w.members = length-set w.members p (turned (member_at w p)) in
       let due = due_turned w p known in
       let s = shrinks_runs p (length (member_at w p).oldest) u (member_at u p).due refl (ap length due ∙ length-reverse (member_at w p).oldest) (sound_turned w p h.sound known (h.idle p)) (omega (arith, size, known)) in
-      record { values = s.values; cells = s.cells; jobs = s.jobs }
+      record { values = s.values; cells = s.cells; jobs = s.jobs; plain = s.plain }
 
 module _ {T : Type 0} (holds : T → List Hold) (level : T → ℕ) where
   -- what is in a list of places has a level below n
@@ -270,7 +287,7 @@ module _ {T : Type 0} (holds : T → List Hold) (level : T → ℕ) where
       }
 
 -- an outermost opening
-record Opens {T : Type 0} (p : ℕ) (w o : State T) : Type 0 where
+pub record Opens {T : Type 0} (p : ℕ) (w o : State T) : Type 0 where
   pub count : o.count ≡ w.count
   pub nesting : (marks_at o p).nesting ≡ 1
   pub published : (marks_at o p).published ≡ w.count
@@ -302,7 +319,7 @@ module _ {T : Type 0} (holds : T → List Hold) (w : State T) (p : ℕ) (h : IsP
     others = λ k n. get_or-set_other w.members p k (marked begin_marks (member_at w p)) nobody n;
     members = length-set w.members p (marked begin_marks (member_at w p));
     place = place_begun w p h known;
-    shrinks = record { values = λ j u e. e; cells = λ c j e. e; jobs = λ j e. e };
+    shrinks = record { values = λ j u e. e; cells = λ c j e. e; jobs = λ j e. e; plain = λ j e. e };
   }
 
   opens_turned : Opens p w (rotated holds p (begun p w))
@@ -318,10 +335,10 @@ module _ {T : Type 0} (holds : T → List Hold) (w : State T) (p : ℕ) (h : IsP
         others = λ k n. r.others k n ∙ b.others k n;
         members = r.known ∙ b.members;
         place = r.place;
-        shrinks = record { values = s.values; cells = s.cells; jobs = s.jobs };
+        shrinks = record { values = s.values; cells = s.cells; jobs = s.jobs; plain = s.plain };
       }
 
-  opens : Opens p w (opened holds p w)
+  pub opens : Opens p w (opened holds p w)
   opens = subst (λ (x : State T). Opens p w x) (sym (opened_first holds w p none)) (elim ((marks_at w p).previous == w.count) as (λ b. Opens p w (cond b (begun p w) (rotated holds p (begun p w)))) [ true ↦ opens_begun | false ↦ opens_turned ])
 
   module _ (level : T → ℕ) (layered : IsLayered holds level w) where
@@ -426,7 +443,7 @@ module _ {T : Type 0} (holds : T → List Hold) where
         prior = ap (λ (m : Member). m.prior) atx ∙ ap (λ (m : Member). m.prior) ata;
         oldest = ap (λ (m : Member). m.oldest) atx ∙ ap (λ (m : Member). m.oldest) ata;
         values = refl;
-        shrinks = record { values = O.shrinks.values; cells = O.shrinks.cells; jobs = O.shrinks.jobs };
+        shrinks = record { values = O.shrinks.values; cells = O.shrinks.cells; jobs = O.shrinks.jobs; plain = O.shrinks.plain };
         place = placex;
       } in
       subst (λ (s : State T). IsPassed p w o s) (sym is) whole

@@ -1,14 +1,69 @@
 -- what accelerated guards, opened and closed one by one, make of what waits
-use Rattle.std.specs.Prelude.{◌≡◌, ◌≢◌, ℕ, zero, suc, ◌+◌, ◌<◌, ◌≤◌, true, Option, None, Some, List, length}
+use Rattle.std.specs.Prelude.{◌≡◌, ◌≢◌, ℕ, zero, suc, ◌+◌, ◌-◌, ◌<◌, ◌≤◌, Bool, true, false, ltb, Option, None, Some, List, length}
 use Rattle.sdd_base.specs.Holding.{Hold, OwnedItem, SharedItem, OwnedIn, SharedIn}
-use Rattle.sdd_base.specs.State.{State, member_at, marks_at, status_at, value_at, cell_at, with_marks}
-use Rattle.sdd_base.specs.Steps.{opened, closed, bags_empty, NoneOpen}
+use Rattle.sdd_base.specs.State.{State, member_at, marks_at, status_at, value_at, cell_at, with_marks, in_use}
+use Rattle.sdd_base.specs.Steps.{opened, closed, released, bags_empty, NoneOpen}
 use Rattle.sdd_base.specs.Place.{IsPlace, held_times}
 use Rattle.sdd_base.specs.Frame.{OnlyOf}
 use Rattle.sdd_base.specs.Counting.{tally}
+use Rattle.sdd_base.specs.declared.status.Status.{Status}
 use Rattle.sdd_base.specs.declared.status.Status.TheVariants as status
 use Rattle.sdd_base.specs.declared.status.Cell.{Cell}
 use Rattle.sdd_base.specs.declared.status.Cell.TheVariants as cell
+
+-- the slot that a cell names
+abbrev pub slot_kept : Cell → Option ℕ
+slot_kept cell.Free = None
+slot_kept (cell.OfOwned o t) = o
+slot_kept (cell.OfShared o t) = o
+slot_kept (cell.OfRaw o t) = o
+
+-- an item with owners, an item that waits, or no item: what there is in a place that keeps shared items alone
+abbrev pub is_plain : Status → Bool
+is_plain status.Free = true
+is_plain status.Owned = false
+is_plain (status.Shared n) = ltb 0 n
+is_plain status.Raw = false
+is_plain (status.Collected n) = false
+is_plain status.Retired = true
+is_plain status.Idle = false
+is_plain status.Deferred = false
+
+-- every place is so
+abbrev pub IsPlain : {T : Type 0} → State T → Type 0
+IsPlain w = (j : ℕ) → is_plain (status_at w j) ≡ true
+
+-- values, what cells name, and jobs only go; a plain place stays plain
+pub record Shrinks {T : Type 0} (w w' : State T) : Type 0 where
+  pub values : (j : ℕ) (u : T) → value_at w' j ≡ Some u → value_at w j ≡ Some u
+  pub cells : (c j : ℕ) → slot_kept (cell_at w' c) ≡ Some j → slot_kept (cell_at w c) ≡ Some j
+  pub jobs : (j : ℕ) → status_at w' j ≡ status.Deferred → status_at w j ≡ status.Deferred
+  pub plain : (j : ℕ) → is_plain (status_at w j) ≡ true → is_plain (status_at w' j) ≡ true
+
+-- nothing waits for p, it has nothing to scan for, and no guard of its last nesting was accelerated
+pub record IsQuiet {T : Type 0} (w : State T) (p : ℕ) : Type 0 where
+  pub empty : bags_empty (member_at w p) ≡ true
+  pub clean : (marks_at w p).garbage ≡ false
+  pub slow : (marks_at w p).accelerated ≡ false
+
+-- all but the participants stands as it was
+pub record Stands {T : Type 0} (w w' : State T) : Type 0 where
+  pub count : w'.count ≡ w.count
+  pub values : w'.values ≡ w.values
+  pub states : w'.states ≡ w.states
+  pub cells : w'.cells ≡ w.cells
+
+-- what guards and owners that are given back leave
+pub record GivesOnly {T : Type 0} (holds : T → List Hold) : Type 0 where
+  -- a guard that opens only takes away; it counts
+  pub opening : (p : ℕ) (w : State T) → IsPlace w → p < length w.members → Shrinks w (opened holds p w) × (in_use (opened holds p w) ≤ in_use w) × ((marks_at (opened holds p w) p).nesting ≡ (marks_at w p).nesting + 1)
+  -- one that closes leaves all items and cells
+  pub closing : (p : ℕ) (w : State T) → p < length w.members → ((closed p w).values ≡ w.values) × ((closed p w).states ≡ w.states) × ((closed p w).cells ≡ w.cells) × ((marks_at (closed p w) p).nesting ≡ (marks_at w p).nesting - 1)
+  -- where nothing waits for p, its guards leave the count too, and nothing waits for it
+  pub quiet_opening : (p : ℕ) (w : State T) → IsPlace w → p < length w.members → IsQuiet w p → Stands w (opened holds p w) × IsQuiet (opened holds p w) p
+  pub quiet_closing : (p : ℕ) (w : State T) → p < length w.members → IsQuiet w p → Stands w (closed p w) × IsQuiet (closed p w) p
+  -- an owner that is given back takes nothing away yet
+  pub giving_back : (p i : ℕ) (w : State T) → IsPlace w → p < length w.members → Shrinks w (released p i w) × (in_use (released p i w) ≡ in_use w) × ((released p i w).count ≡ w.count)
 
 -- p asks that its closing scans
 abbrev pub accelerated : {T : Type 0} → ℕ → State T → State T
@@ -29,13 +84,6 @@ pub record CanPass {T : Type 0} (n p : ℕ) (w : State T) : Type 0 where
   pub known : p < length w.members
   pub none_open : NoneOpen w
   pub room : w.count + n ≤ 18446744073709551615
-
--- the slot that a cell names
-abbrev pub slot_kept : Cell → Option ℕ
-slot_kept cell.Free = None
-slot_kept (cell.OfOwned o t) = o
-slot_kept (cell.OfShared o t) = o
-slot_kept (cell.OfRaw o t) = o
 
 -- the slot of an owner, or of what a cell keeps
 abbrev pub slot_held : {T : Type 0} → State T → Hold → Option ℕ

@@ -4,6 +4,7 @@ use Rattle.std.specs.VecDeque.{deque_capacity}
 use Rattle.sdd_base.specs.Holding.{Hold, OwnedItem, SharedItem, OwnedIn, SharedIn}
 use Rattle.sdd_base.specs.declared.owner.Owned.{Owned}
 use Rattle.sdd_base.specs.declared.owner.Shared.{Shared}
+use Rattle.sdd_base.specs.declared.owner.Kept.{Kept}
 use Rattle.sdd_base.specs.declared.cell.AtomicOwned.{AtomicOwned}
 use Rattle.sdd_base.specs.declared.cell.AtomicShared.{AtomicShared}
 use Rattle.sdd_base.specs.declared.cell.AtomicRaw.{AtomicRaw}
@@ -23,6 +24,9 @@ owned_slot o = o.slot
 
 abbrev pub shared_slot : {T : Type 0} → Shared T → ℕ
 shared_slot s = s.slot
+
+abbrev pub kept_slot : Kept → ℕ
+kept_slot k = k.slot
 
 -- the number of a cell
 abbrev pub owned_cell : {T : Type 0} → AtomicOwned T → ℕ

@@ -3,7 +3,7 @@
 ghost use Rattle.sdd_base.specs.Counting.{HeldCellsStay, OwnersAreCounted};
 ghost use Rattle.sdd_base.specs.Frame.{OwnedIsProtected, StaysUntilClosed};
 ghost use Rattle.sdd_base.specs.Notes.{CollectorsAreInOrder};
-ghost use Rattle.sdd_base.specs.Passing.{PassesReclaim};
+ghost use Rattle.sdd_base.specs.Passing.{GivesOnly, PassesReclaim};
 
 use crate::holds::Holds;
 
@@ -31,6 +31,12 @@ pub fn guards_protect<T>()
 /// for each level of items that hold items empty the bags.
 pub fn passes_reclaim<T: Holds>()
     ensures { PassesReclaim T.holds }
+{}
+
+/// What opens and closes guards, and gives owners back, only takes away; and a participant for which nothing waits takes
+/// nothing away, nor raises the count.
+pub fn gives_only<T: Holds>()
+    ensures { GivesOnly T.holds }
 {}
 
 /// Collectors are in order, over every call: each item that waits in one is named by one of them once, and the counts

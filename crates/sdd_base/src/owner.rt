@@ -1,7 +1,7 @@
 //! Owners of items. They must be spent: given back, put into a cell, or moved into an item.
 
 ghost use Rattle.std.specs.Prelude.{◌≡◌};
-ghost use Rattle.sdd_base.specs.Tokens.{owned_slot, shared_slot};
+ghost use Rattle.sdd_base.specs.Tokens.{kept_slot, owned_slot, shared_slot};
 
 use std::marker::PhantomData;
 
@@ -38,5 +38,29 @@ impl<T> Shared<T> {
             slot,
             of: PhantomData,
         }
+    }
+}
+
+/// One of the owners of an item, as an item of the same type keeps it: without the type, which would lead back to itself.
+/// It must be spent, by [`into_shared`](Kept::into_shared).
+pub struct Kept {
+    pub(crate) slot: usize,
+}
+
+impl Kept {
+    /// Keeps an owner.
+    pub fn of<T>(shared: Shared<T>) -> Kept
+        ensures { kept_slot result ≡ shared_slot shared }
+    {
+        let Shared { slot, of: _ } = shared;
+        Kept { slot }
+    }
+
+    /// The owner that was kept. Condition on what is done with it: its item is one of this type.
+    pub fn into_shared<T>(self) -> Shared<T>
+        ensures { shared_slot result ≡ kept_slot self }
+    {
+        let Kept { slot } = self;
+        Shared::of_slot(slot)
     }
 }

@@ -64,6 +64,13 @@ impl<T> Table<T> {
         self.used
     }
 
+    /// How many slots are free.
+    pub(crate) fn free_count(&self) -> usize
+        ensures { result ≡ sum_by vacancy self.now.states }
+    {
+        self.free.len()
+    }
+
     /// Whether no slot is free.
     pub(crate) fn is_full(&self) -> bool
         ensures full { IsTrue result → NoneFree self.now }

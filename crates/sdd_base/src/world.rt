@@ -3,8 +3,8 @@
 //! Clauses see a world as its `State`. What a call leaves alone is its clause `keeps`: the values of items that have an
 //! owner, and what an open guard protects.
 
-ghost use Rattle.std.specs.Prelude.{◌≡◌, ◌⊎◌, ℕ, IsOk, IfOk, IfErr, IfNone, IfSome, IsTrue, ◌↔◌, Some, None, is_some};
-ghost use Rattle.sdd_base.specs.State.{fresh, in_use, value_at, IsUnused};
+ghost use Rattle.std.specs.Prelude.{◌≡◌, ◌⊎◌, ℕ, IsOk, IfOk, IfErr, IfNone, IfSome, IsTrue, ◌↔◌, Some, None, is_some, sum_by};
+ghost use Rattle.sdd_base.specs.State.{fresh, in_use, value_at, vacancy, IsUnused};
 ghost use Rattle.sdd_base.specs.Steps.{AllSwept, NoneOpen};
 ghost use Rattle.sdd_base.specs.Place.{IsPlace, IsOpen, IsReadable, IsSized};
 ghost use Rattle.sdd_base.specs.Tokens.{ptr_slot};
@@ -84,6 +84,13 @@ impl<T> World<T> {
         ensures { result ≡ in_use self.now }
     {
         self.table.used()
+    }
+
+    /// How many slots are free.
+    pub fn free_slots(&self) -> usize
+        ensures { result ≡ sum_by vacancy self.now.states }
+    {
+        self.table.free_count()
     }
 
     /// Whether `read` may be asked for `at`.

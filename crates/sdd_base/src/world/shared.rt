@@ -8,12 +8,12 @@ ghost use Rattle.sdd_base.specs.Frame.{Keeps, OnlyOf};
 ghost use Rattle.sdd_base.specs.Dropping.{Dropped};
 ghost use Rattle.sdd_base.specs.Holding.{SharedItem};
 ghost use Rattle.sdd_base.specs.Place.{IsOpen, IsShared, HasOneOwner};
-ghost use Rattle.sdd_base.specs.Tokens.{shared_slot, ptr_slot, ptr_tag};
+ghost use Rattle.sdd_base.specs.Tokens.{kept_slot, shared_slot, ptr_slot, ptr_tag};
 
 use crate::guard::WorldGuard;
 use crate::holds::{Held, Holds};
 use crate::lender::Lender;
-use crate::owner::Shared;
+use crate::owner::{Kept, Shared};
 use crate::pointer::Ptr;
 use crate::reclaim;
 use crate::refusal::{NoSlot, NotLent};
@@ -110,6 +110,14 @@ pub fn as_ref<'w, T>(w: &'w World<T>, shared: &Shared<T>) -> &'w T
     ensures { Some result.now ≡ value_at w.now (shared_slot shared.now) }
 {
     w.table.value(shared.slot)
+}
+
+/// The value of an item whose owner an item keeps.
+pub fn kept_ref<'w, T>(w: &'w World<T>, kept: &Kept) -> &'w T
+    requires { IsShared w.now (kept_slot kept.now) }
+    ensures { Some result.now ≡ value_at w.now (kept_slot kept.now) }
+{
+    w.table.value(kept.slot)
 }
 
 /// The value of an item, for writing; refused while a guard of any participant is open, and where `shared` isn't its one
