@@ -16,10 +16,10 @@ impl Job {
     pub fn new(task: Box<dyn Task>) -> Job {
         Job { task }
     }
+}
 
-    /// Does it, and is spent.
-    pub(crate) fn run(self) {
-        let Job { mut task } = self;
-        task.run();
+impl Task for Job {
+    fn run(&mut self) {
+        self.task.run();
     }
 }

@@ -10,6 +10,7 @@ ghost use Rattle.sdd_base.specs.Place.{IsPlace, IsOpen, IsReadable, IsSized};
 ghost use Rattle.sdd_base.specs.Tokens.{ptr_slot};
 
 use crate::holds::Holds;
+use crate::job::{Job, Task};
 use crate::lender::{Lender, Store};
 use crate::owner::{Owned, Shared};
 use crate::pointer::Ptr;
@@ -31,11 +32,11 @@ pub mod raw_ptr;
 pub mod shared;
 
 /// A place of one thread, with room for all that its sizes name. It can't be let go: `close` ends it.
-pub struct World<T> {
-    pub(crate) table: Table<T>,
+pub struct World<T, J: Task = Job> {
+    pub(crate) table: Table<T, J>,
 }
 
-impl<T> Model for World<T> {
+impl<T, J: Task> Model for World<T, J> {
     ghost use Rattle.sdd_base.specs.State.{State};
 
     ghost Value = { State T };
@@ -47,10 +48,10 @@ impl<T> Model for World<T> {
     ghost invariant = { λ w. IsPlace w.table };
 }
 
-impl<T> World<T> {
+impl<T, J: Task> World<T, J> {
     /// A place without items, whose participants are named by 0, 1, .. . It takes all the memory that the place will
     /// ever use; without memory nothing is kept.
-    pub fn new(alloc: Global, sizes: Sizes) -> Result<World<T>, AllocError>
+    pub fn new(alloc: Global, sizes: Sizes) -> Result<World<T, J>, AllocError>
         requires { IsSized sizes }
         ensures { IfOk result (λ w. w ≡ fresh sizes) }
     {
@@ -61,7 +62,7 @@ impl<T> World<T> {
 
     /// Ends the place: everything that waits is reclaimed, and what that leaves. It is handed back as it was while a
     /// guard is open, and handed back with nothing waiting if an owner or a cell is still out.
-    pub fn close(self) -> Result<(), World<T>>
+    pub fn close(self) -> Result<(), World<T, J>>
     where
         T: Holds,
         ensures ended { IsOk result → NoneOpen self × (w : _) × AllSwept T.holds self w × IsUnused w }
@@ -125,7 +126,7 @@ impl<T> World<T> {
     }
 }
 
-impl<T> Lender<T> for World<T> {
+impl<T, J: Task> Lender<T> for World<T, J> {
     ghost use Rattle.sdd_base.specs.State.{with_value};
 
     ghost state = { λ w. w };
