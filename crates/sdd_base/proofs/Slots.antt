@@ -9,7 +9,6 @@ use Rattle.std.proofs.lemmas.List.Elements.{All-set, All-get_or}
 use Rattle.std.proofs.lemmas.List.Sums.{sum_by-set, sum_by-cons, sum_by-append, get_or-le-sum_by}
 use Rattle.sdd_base.specs.State.{State, Member, put_member, retired, waiting_as, is_job, nobody, status_at, member_at, left_due, changing, is_present, TakesDue, taken, is_used, usage, vacancy, idleness, emptiness, vacated, cell_at}
 use Rattle.sdd_base.proofs.Lists.{lists_same, lists_names, lists_pop, lists_push}
-use Rattle.sdd_base.specs.declared.job.Job.{Job}
 use Rattle.std.proofs.lemmas.Bool.{false≢true}
 use Rattle.sdd_base.specs.declared.status.Cell.{Cell}
 use Rattle.sdd_base.specs.declared.status.Cell.TheVariants as cell
@@ -164,7 +163,7 @@ changed_invariant a p q q' h known is keeps less =
     }
 
 -- place i is used in another way, whatever else changes
-pub states_invariant : {T J : Type 0} (a : Inside T J) (v : Vec (Option T)) (jb : Vec (Option (J))) (u : ℕ) (ms : Vec Participant) (fr idl : Vec ℕ) (i : ℕ) (s : Status) → IsTable a → length jb.items ≡ length a.jobs.items → is_job s ≡ is_job (get_or a.states.items i status.Free) → map is_some v.items ≡ map is_used (set a.states.items i s) → u ≡ sum_by usage (set a.states.items i s) → All (HasRoom (length a.states.items)) ms.items → sum_by waiting ms.items ≤ sum_by weight (set a.states.items i s) → Lists vacancy (set a.states.items i s) fr.items → length a.states.items ≤ vec_capacity fr → Lists idleness (set a.states.items i s) idl.items → length a.states.items ≤ vec_capacity idl → IsTable (record a { used = u; values = v; jobs = jb; states = with_item a.states i s; members = ms; free = fr; idle = idl })
+pub states_invariant : {T J : Type 0} (a : Inside T J) (v : Vec (Option T)) (jb : Vec (Option J)) (u : ℕ) (ms : Vec Participant) (fr idl : Vec ℕ) (i : ℕ) (s : Status) → IsTable a → length jb.items ≡ length a.jobs.items → is_job s ≡ is_job (get_or a.states.items i status.Free) → map is_some v.items ≡ map is_used (set a.states.items i s) → u ≡ sum_by usage (set a.states.items i s) → All (HasRoom (length a.states.items)) ms.items → sum_by waiting ms.items ≤ sum_by weight (set a.states.items i s) → Lists vacancy (set a.states.items i s) fr.items → length a.states.items ≤ vec_capacity fr → Lists idleness (set a.states.items i s) idl.items → length a.states.items ≤ vec_capacity idl → IsTable (record a { used = u; values = v; jobs = jb; states = with_item a.states i s; members = ms; free = fr; idle = idl })
 states_invariant a v jb u ms fr idl i s h many kind fill tally room waits slots roomy places roomier =
     let size = length-set {A = Status} a.states.items i s in
     record {
@@ -292,7 +291,7 @@ due_in a p q known is = get_or-map_at a.members.items p q known is
 
 -- place i was due and is vacated, whatever the stacks are
 pub taken_result : {T J : Type 0} (a : Inside T J) (w : State T) (p i : ℕ) (is : List ℕ) (q q' : Participant) (x y : Option T) (s : Status) (u : ℕ) (fr idl : Vec ℕ) → state_of a ≡ w → IsTable a → p < length a.members.items → q ≡ get_or a.members.items p q → (member_of q).due ≡ i ∷ is → member_of q' ≡ left_due is (member_of q) → i < length a.states.items → s ≡ vacated (get_or a.states.items i status.Free) → x ≡ get_or a.values.items i x → y ≡ None → TakesDue p x w (state_of (record a { used = u; values = with_item a.values i y; states = with_item a.states i s; members = with_item a.members p q'; free = fr; idle = idl }))
-taken_result {T} {X} {V} a w p i is q q' x y s u fr idl e h known at was shown inside left val gone =
+taken_result {T} {J} a w p i is q q' x y s u fr idl e h known at was shown inside left val gone =
     let sizes : length (map is_some a.values.items) ≡ length (map is_used a.states.items) = ap length h.filled in
     let within : i < length a.values.items = omega (arith, length-map a.values.items is_some, length-map a.states.items is_used) in
     let b : Inside T J = record a { used = u; values = with_item a.values i y; states = with_item a.states i s; members = with_item a.members p q'; free = fr; idle = idl } in
@@ -463,7 +462,7 @@ job_room a i h is =
     (r.0, omega (arith, r.1, a.jobs.ok.0))
 
 -- a job is put into a place
-pub deferred_invariant : {T J : Type 0} (a : Inside T J) (p i : ℕ) (q q' : Participant) (jb : Vec (Option (J))) (idl : Vec ℕ) → IsTable a → p < length a.members.items → i < length a.states.items → get_or a.states.items i status.Free ≡ status.Idle → length jb.items ≡ length a.jobs.items → q ≡ get_or a.members.items p q → ((n : ℕ) → HasRoom n q → HasRoom n q') → waiting q' ≡ waiting q + 1 → a.idle.items ≡ idl.items ++ i ∷ [] → vec_capacity a.idle ≤ vec_capacity idl → IsTable (record a { states = with_item a.states i status.Deferred; jobs = jb; members = with_item a.members p q'; idle = idl })
+pub deferred_invariant : {T J : Type 0} (a : Inside T J) (p i : ℕ) (q q' : Participant) (jb : Vec (Option J)) (idl : Vec ℕ) → IsTable a → p < length a.members.items → i < length a.states.items → get_or a.states.items i status.Free ≡ status.Idle → length jb.items ≡ length a.jobs.items → q ≡ get_or a.members.items p q → ((n : ℕ) → HasRoom n q → HasRoom n q') → waiting q' ≡ waiting q + 1 → a.idle.items ≡ idl.items ++ i ∷ [] → vec_capacity a.idle ≤ vec_capacity idl → IsTable (record a { states = with_item a.states i status.Deferred; jobs = jb; members = with_item a.members p q'; idle = idl })
 deferred_invariant a p i q q' jb idl h known inside was many is keeps more popped cap =
     let s = status.Deferred in
     let sums = sum_by-set weight a.states.items i s status.Free inside in
@@ -516,7 +515,7 @@ removed_invariant a x i fr h inside was light gone pushed cap =
     (lists_same idleness a.states.items i s status.Free a.idle.items inside (sym (used-idleness _ was)) h.places.lists) h.places.room
 
 -- a job that was due is gone
-pub run_invariant : {T J : Type 0} (a : Inside T J) (x : Option T) (jb : Vec (Option (J))) (p i : ℕ) (q q' : Participant) (idl : Vec ℕ) → IsTable a → length jb.items ≡ length a.jobs.items → p < length a.members.items → i < length a.states.items → get_or a.states.items i status.Free ≡ status.Deferred → x ≡ None → q ≡ get_or a.members.items p q → ((n : ℕ) → HasRoom n q → HasRoom n q') → waiting q' + 1 ≡ waiting q → idl.items ≡ a.idle.items ++ i ∷ [] → vec_capacity a.idle ≤ vec_capacity idl → IsTable (record a { values = with_item a.values i x; jobs = jb; states = with_item a.states i status.Idle; members = with_item a.members p q'; idle = idl })
+pub run_invariant : {T J : Type 0} (a : Inside T J) (x : Option T) (jb : Vec (Option J)) (p i : ℕ) (q q' : Participant) (idl : Vec ℕ) → IsTable a → length jb.items ≡ length a.jobs.items → p < length a.members.items → i < length a.states.items → get_or a.states.items i status.Free ≡ status.Deferred → x ≡ None → q ≡ get_or a.members.items p q → ((n : ℕ) → HasRoom n q → HasRoom n q') → waiting q' + 1 ≡ waiting q → idl.items ≡ a.idle.items ++ i ∷ [] → vec_capacity a.idle ≤ vec_capacity idl → IsTable (record a { values = with_item a.values i x; jobs = jb; states = with_item a.states i status.Idle; members = with_item a.members p q'; idle = idl })
 run_invariant a x jb p i q q' idl h many known inside was gone is keeps less pushed cap =
     let s = status.Idle in
     let sums = sum_by-set weight a.states.items i s status.Free inside in

@@ -9,9 +9,9 @@ ghost use Rattle.sdd_base.specs.Place.{Sound, IsPlace, IsShared};
 ghost use Rattle.sdd_base.specs.Frame.{OnlyOf};
 ghost use Rattle.sdd_base.specs.Tokens.{hold_of};
 
-use crate::job::Task;
 use crate::cell::{AtomicOwned, AtomicShared};
 use crate::holds::{Held, Holds};
+use crate::job::Task;
 use crate::owner::{Owned, Shared};
 use crate::status::{Cell, Marks, Status};
 use crate::table::{Due, Table};
@@ -256,7 +256,11 @@ fn next_overdue<T, J: Task>(table: &Table<T, J>, waiting: &mut VecDeque<usize>) 
 }
 
 /// What is overdue at the front of a private bag is reclaimed by `p`.
-pub(crate) fn purge<T: Holds, J: Task>(table: &mut Table<T, J>, p: usize, waiting: &mut VecDeque<usize>)
+pub(crate) fn purge<T: Holds, J: Task>(
+    table: &mut Table<T, J>,
+    p: usize,
+    waiting: &mut VecDeque<usize>,
+)
     requires { p < length table.old.members }
     ensures state { table.new ≡ purged T.holds p waiting.old.items table.old }
     ensures left { waiting.new.items ≡ left_waiting T.holds p waiting.old.items table.old }
@@ -269,7 +273,11 @@ pub(crate) fn purge<T: Holds, J: Task>(table: &mut Table<T, J>, p: usize, waitin
 }
 
 /// What waits in a private bag is retired by `p`.
-pub(crate) fn hand_over<T, J: Task>(table: &mut Table<T, J>, p: usize, waiting: &mut VecDeque<usize>)
+pub(crate) fn hand_over<T, J: Task>(
+    table: &mut Table<T, J>,
+    p: usize,
+    waiting: &mut VecDeque<usize>,
+)
     requires { p < length table.old.members }
     ensures { table.new ≡ handed p waiting.old.items table.old }
 {

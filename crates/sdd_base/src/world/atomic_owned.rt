@@ -7,9 +7,9 @@ ghost use Rattle.sdd_base.specs.Frame.{Keeps, OnlyOf};
 ghost use Rattle.sdd_base.specs.Place.{IsOwnedCell};
 ghost use Rattle.sdd_base.specs.Tokens.{owned_cell, owned_slot, owned_slots, ptr_slot, ptr_tag};
 
-use crate::job::Task;
 use crate::cell::AtomicOwned;
 use crate::guard::WorldGuard;
+use crate::job::Task;
 use crate::owner::Owned;
 use crate::pointer::{Found, Ptr};
 use crate::reclaim;
@@ -73,7 +73,11 @@ pub fn null<T, J: Task>(w: &mut World<T, J>) -> Result<AtomicOwned<T>, NoSlot>
 }
 
 /// What the cell keeps, as a pointer.
-pub fn load<T, J: Task>(w: &World<T, J>, cell: &AtomicOwned<T>, _guard: &WorldGuard) -> Ptr<'static, T>
+pub fn load<T, J: Task>(
+    w: &World<T, J>,
+    cell: &AtomicOwned<T>,
+    _guard: &WorldGuard,
+) -> Ptr<'static, T>
     requires { IsOwnedCell w.now (owned_cell cell.now) }
     ensures { cell_at w.now (owned_cell cell.now) ≡ Cell.OfOwned (ptr_slot result) (ptr_tag result) }
 {

@@ -6,9 +6,9 @@ ghost use Rattle.sdd_base.specs.Frame.{Keeps};
 ghost use Rattle.sdd_base.specs.Place.{IsRawCell};
 ghost use Rattle.sdd_base.specs.Tokens.{raw_cell, raw_slot, raw_tag};
 
-use crate::job::Task;
 use crate::cell::AtomicRaw;
 use crate::guard::WorldGuard;
+use crate::job::Task;
 use crate::pointer::RawPtr;
 use crate::refusal::NoSlot;
 use crate::status::Cell;

@@ -7,9 +7,9 @@ ghost use Rattle.sdd_base.specs.Frame.{Keeps, OnlyOf};
 ghost use Rattle.sdd_base.specs.Place.{IsReadable, IsShared, IsSharedCell};
 ghost use Rattle.sdd_base.specs.Tokens.{shared_cell, shared_slot, shared_slots, ptr_slot, ptr_tag};
 
-use crate::job::Task;
 use crate::cell::AtomicShared;
 use crate::guard::WorldGuard;
+use crate::job::Task;
 use crate::owner::Shared;
 use crate::pointer::{Found, Ptr};
 use crate::reclaim;
@@ -41,7 +41,10 @@ pub fn new<T, J: Task>(w: &mut World<T, J>, value: T) -> Result<AtomicShared<T>,
 
 /// A cell that keeps shared, without a tag, exactly if a cell is free; else shared comes back.
 #[tactic(auto, using(crate::proofs::Frames::shared_cell_used))]
-pub fn from<T, J: Task>(w: &mut World<T, J>, shared: Shared<T>) -> Result<AtomicShared<T>, Shared<T>>
+pub fn from<T, J: Task>(
+    w: &mut World<T, J>,
+    shared: Shared<T>,
+) -> Result<AtomicShared<T>, Shared<T>>
     ensures made { IfOk result (λ c. IsFreeCell w.old (shared_cell c) × (w.new ≡ with_cell (shared_cell c) (Cell.OfShared (Some (shared_slot shared)) Tag.None) w.old)) }
     ensures refused { IfErr result (λ o. (shared_slot o ≡ shared_slot shared) × (w.new ≡ w.old) × NoCellFree w.old) }
     ensures used { IfOk result (λ c. IsSharedCell w.new (shared_cell c)) }
@@ -73,7 +76,11 @@ pub fn null<T, J: Task>(w: &mut World<T, J>) -> Result<AtomicShared<T>, NoSlot>
 }
 
 /// What the cell keeps, as a pointer.
-pub fn load<T, J: Task>(w: &World<T, J>, cell: &AtomicShared<T>, _guard: &WorldGuard) -> Ptr<'static, T>
+pub fn load<T, J: Task>(
+    w: &World<T, J>,
+    cell: &AtomicShared<T>,
+    _guard: &WorldGuard,
+) -> Ptr<'static, T>
     requires { IsSharedCell w.now (shared_cell cell.now) }
     ensures { cell_at w.now (shared_cell cell.now) ≡ Cell.OfShared (ptr_slot result) (ptr_tag result) }
 {

@@ -9,9 +9,9 @@ ghost use Rattle.sdd_base.specs.Holding.{OwnedItem};
 ghost use Rattle.sdd_base.specs.Place.{IsOpen, IsOwned};
 ghost use Rattle.sdd_base.specs.Tokens.{owned_slot, ptr_slot, ptr_tag, raw_slot, raw_tag};
 
-use crate::job::Task;
 use crate::guard::WorldGuard;
 use crate::holds::{Held, Holds};
+use crate::job::Task;
 use crate::lender::Lender;
 use crate::owner::Owned;
 use crate::pointer::{Ptr, RawPtr};
@@ -34,7 +34,10 @@ pub fn new<T, J: Task>(w: &mut World<T, J>, value: T) -> Result<Owned<T>, T>
 }
 
 /// Makes an item of what `f` gives, exactly if a slot is free; else `f` isn't called.
-pub fn new_with<T, J: Task, F: FnOnce() -> T + Drop>(w: &mut World<T, J>, f: F) -> Result<Owned<T>, NoSlot>
+pub fn new_with<T, J: Task, F: FnOnce() -> T + Drop>(
+    w: &mut World<T, J>,
+    f: F,
+) -> Result<Owned<T>, NoSlot>
     requires { F.pre f }
     ensures placed { IfOk result (λ o. IsFree w.old (owned_slot o) × (v : T) × F.post f v × (w.new ≡ placed (owned_slot o) v Status.Owned w.old)) }
     ensures refused { OnErr result ((w.new ≡ w.old) × NoneFree w.old) }
@@ -90,7 +93,11 @@ pub fn get_guarded_ptr<T>(owned: &Owned<T>, _guard: &WorldGuard) -> Ptr<'static,
 }
 
 /// The value of an item, as `as_ref`.
-pub fn get_guarded_ref<'w, T, J: Task>(w: &'w World<T, J>, owned: &Owned<T>, _guard: &WorldGuard) -> &'w T
+pub fn get_guarded_ref<'w, T, J: Task>(
+    w: &'w World<T, J>,
+    owned: &Owned<T>,
+    _guard: &WorldGuard,
+) -> &'w T
     requires { IsOwned w.now (owned_slot owned.now) }
     ensures { Some result.now ≡ value_at w.now (owned_slot owned.now) }
 {
@@ -134,7 +141,10 @@ pub fn from_raw<T, J: Task>(w: &mut World<T, J>, ptr: RawPtr<T>) -> Option<Owned
 /// Ends the item now, without waiting for anybody, and with it what it alone held; what others own of that stays, and
 /// what waits waits on. It is handed back while a guard of any participant is open, and then nothing has changed. Rust's
 /// `Owned::drop_in_place` is unsafe, and retires what the item held.
-pub fn drop_in_place<T: Holds, J: Task>(w: &mut World<T, J>, owned: Owned<T>) -> Result<(), Owned<T>>
+pub fn drop_in_place<T: Holds, J: Task>(
+    w: &mut World<T, J>,
+    owned: Owned<T>,
+) -> Result<(), Owned<T>>
     requires { IsOwned w.old (owned_slot owned) }
     ensures dropped { OnOk result (Dropped T.holds (OwnedItem (owned_slot owned)) w.old w.new) }
     ensures back { IfErr result (λ o. (owned_slot o ≡ owned_slot owned) × (w.new ≡ w.old)) }

@@ -11,10 +11,10 @@ ghost use Rattle.sdd_base.specs.Frame.{Keeps, OnlyOf};
 ghost use Rattle.sdd_base.specs.Place.{IsOwned, IsShared};
 ghost use Rattle.sdd_base.specs.Tokens.{owned_slot, shared_slot, participant_of, waiting_in, room_of};
 
-use crate::job::Task;
 use crate::collector::PrivateCollector;
 use crate::guard::WorldGuard;
 use crate::holds::Holds;
+use crate::job::Task;
 use crate::owner::{Owned, Shared};
 use crate::reclaim;
 use crate::status::Status;

@@ -10,9 +10,9 @@ ghost use Rattle.sdd_base.specs.Holding.{SharedItem};
 ghost use Rattle.sdd_base.specs.Place.{IsOpen, IsShared, HasOneOwner};
 ghost use Rattle.sdd_base.specs.Tokens.{kept_slot, shared_slot, ptr_slot, ptr_tag};
 
-use crate::job::Task;
 use crate::guard::WorldGuard;
 use crate::holds::{Held, Holds};
+use crate::job::Task;
 use crate::lender::Lender;
 use crate::owner::{Kept, Shared};
 use crate::pointer::Ptr;
@@ -35,7 +35,10 @@ pub fn new<T, J: Task>(w: &mut World<T, J>, value: T) -> Result<Shared<T>, T>
 }
 
 /// Makes an item of what `f` gives, exactly if a slot is free; else `f` isn't called.
-pub fn new_with<T, J: Task, F: FnOnce() -> T + Drop>(w: &mut World<T, J>, f: F) -> Result<Shared<T>, NoSlot>
+pub fn new_with<T, J: Task, F: FnOnce() -> T + Drop>(
+    w: &mut World<T, J>,
+    f: F,
+) -> Result<Shared<T>, NoSlot>
     requires { F.pre f }
     ensures placed { IfOk result (λ s. IsFree w.old (shared_slot s) × (v : T) × F.post f v × (w.new ≡ placed (shared_slot s) v (Status.Shared 1) w.old)) }
     ensures refused { OnErr result ((w.new ≡ w.old) × NoneFree w.old) }
@@ -90,7 +93,10 @@ pub fn release<T, J: Task>(w: &mut World<T, J>, shared: Shared<T>, p: usize) -> 
 /// Gives an owner back, and answers whether it was the last, those of cells and items counted. With the last one the
 /// item ends now, without waiting for anybody, and with it what it alone held; what others own of that stays, and what
 /// waits waits on. The owner is handed back while a guard of any participant is open, and then nothing has changed.
-pub fn drop_in_place<T: Holds, J: Task>(w: &mut World<T, J>, shared: Shared<T>) -> Result<bool, Shared<T>>
+pub fn drop_in_place<T: Holds, J: Task>(
+    w: &mut World<T, J>,
+    shared: Shared<T>,
+) -> Result<bool, Shared<T>>
     requires { IsShared w.old (shared_slot shared) }
     ensures dropped { OnOk result (Dropped T.holds (SharedItem (shared_slot shared)) w.old w.new) }
     ensures last { IfOk result (λ last. (n : ℕ) → status_at w.old (shared_slot shared) ≡ Status.Shared n → last ≡ leb n 1) }
@@ -150,7 +156,11 @@ pub fn get_guarded_ptr<T>(shared: &Shared<T>, _guard: &WorldGuard) -> Ptr<'stati
 }
 
 /// The value of an item, as `as_ref`.
-pub fn get_guarded_ref<'w, T, J: Task>(w: &'w World<T, J>, shared: &Shared<T>, _guard: &WorldGuard) -> &'w T
+pub fn get_guarded_ref<'w, T, J: Task>(
+    w: &'w World<T, J>,
+    shared: &Shared<T>,
+    _guard: &WorldGuard,
+) -> &'w T
     requires { IsShared w.now (shared_slot shared.now) }
     ensures { Some result.now ≡ value_at w.now (shared_slot shared.now) }
 {
@@ -158,7 +168,10 @@ pub fn get_guarded_ref<'w, T, J: Task>(w: &'w World<T, J>, shared: &Shared<T>, _
 }
 
 /// One more owner of the item that `at` names, as `ptr::get_shared`; where there is none, `at` comes back.
-pub fn try_from<T, J: Task>(w: &mut World<T, J>, at: Ptr<'static, T>) -> Result<Shared<T>, Ptr<'static, T>>
+pub fn try_from<T, J: Task>(
+    w: &mut World<T, J>,
+    at: Ptr<'static, T>,
+) -> Result<Shared<T>, Ptr<'static, T>>
     ensures more { IfOk result (λ s. (ptr_slot at.entry ≡ Some (shared_slot s)) × (n : ℕ) × (status_at w.old (shared_slot s) ≡ Status.Shared n) × (w.new ≡ with_status (shared_slot s) (Status.Shared (n + 1)) w.old)) }
     ensures back { IfErr result (λ r. (ptr_slot r ≡ ptr_slot at.entry) × (ptr_tag r ≡ ptr_tag at.entry) × (w.new ≡ w.old)) }
     ensures room { IfOk result (λ s. (n : ℕ) → status_at w.old (shared_slot s) ≡ Status.Shared n → n < 4294967295) }
