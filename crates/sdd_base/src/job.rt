@@ -1,10 +1,16 @@
 //! Jobs that wait in a place until no guard that was open can see what they undo.
 //!
-//! What a place keeps of a job is a type parameter of it, `World<T, J>`, which is `Job` where none is named. A `Job` is
-//! a box round any task. A structure that defers none keeps a `World<T, NoJob>`, which has no boxed task among its
-//! parts: a struct round it may then have a model that speaks of the order of its keys.
+//! What a place keeps as a job is a type parameter of it, `World<T, J>`, and is `Job` where none is named. A `Job` is a
+//! box round any task. A structure that defers no job keeps a `World<T, NoJob>`, which has no boxed task among its
+//! parts: so its own model may speak of the order of its keys.
 
-/// What a job does. It is asked to once.
+/// What can wait in a place and is run once: it is spent by that.
+pub trait Deferred: Sized + Drop {
+    /// Does it.
+    fn run(self);
+}
+
+/// What a `Job` does. It is asked to once.
 pub trait Task: Drop {
     fn run(&mut self);
 }
@@ -22,9 +28,10 @@ impl Job {
     }
 }
 
-impl Task for Job {
-    fn run(&mut self) {
-        self.task.run();
+impl Deferred for Job {
+    fn run(self) {
+        let Job { mut task } = self;
+        task.run();
     }
 }
 
@@ -32,8 +39,8 @@ impl Task for Job {
 #[derive(Drop)]
 pub enum NoJob {}
 
-impl Task for NoJob {
-    fn run(&mut self) {
-        match *self {}
+impl Deferred for NoJob {
+    fn run(self) {
+        match self {}
     }
 }

@@ -11,7 +11,7 @@ ghost use Rattle.sdd_base.specs.Steps.{bags_empty, NoneOpen};
 ghost use Rattle.sdd_base.specs.Place.{IsOpen};
 
 use crate::bags::Participant;
-use crate::job::Task;
+use crate::job::Deferred;
 use crate::lender::Store;
 use crate::sizes::Sizes;
 use crate::status::{Cell, Marks, Status};
@@ -27,7 +27,7 @@ pub(crate) struct Due<T, J> {
 
 /// Numbered slots, cells and participants, with room for what waits.
 #[derive(Drop)]
-pub(crate) struct Table<T, J: Task> {
+pub(crate) struct Table<T, J: Deferred> {
     count: u64,
     /// How many slots have an item.
     used: usize,
@@ -44,7 +44,7 @@ pub(crate) struct Table<T, J: Task> {
     free_cells: Vec<usize>,
 }
 
-impl<T, J: Task> Model for Table<T, J> {
+impl<T, J: Deferred> Model for Table<T, J> {
     ghost use Rattle.sdd_base.specs.State.{State};
 
     ghost Value = { State T };
@@ -56,7 +56,7 @@ impl<T, J: Task> Model for Table<T, J> {
     ghost invariant = { IsTable };
 }
 
-impl<T, J: Task> Table<T, J> {
+impl<T, J: Deferred> Table<T, J> {
     /// How many slots have an item.
     pub(crate) fn used(&self) -> usize
         ensures { result ≡ sum_by usage self.now.states }
@@ -428,7 +428,7 @@ impl<T, J: Task> Table<T, J> {
     }
 }
 
-impl<T, J: Task> Store<T> for Table<T, J> {
+impl<T, J: Deferred> Store<T> for Table<T, J> {
     ghost use Rattle.sdd_base.specs.State.{with_value};
 
     ghost stored = { λ w. w };

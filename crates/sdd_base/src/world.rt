@@ -10,7 +10,7 @@ ghost use Rattle.sdd_base.specs.Place.{IsPlace, IsOpen, IsReadable, IsSized};
 ghost use Rattle.sdd_base.specs.Tokens.{ptr_slot};
 
 use crate::holds::Holds;
-use crate::job::{Job, Task};
+use crate::job::{Deferred, Job};
 use crate::lender::{Lender, Store};
 use crate::owner::{Owned, Shared};
 use crate::pointer::Ptr;
@@ -32,11 +32,12 @@ pub mod raw_ptr;
 pub mod shared;
 
 /// A place of one thread, with room for all that its sizes name. It can't be let go: `close` ends it.
-pub struct World<T, J: Task = Job> {
+/// `J` is what it keeps as jobs: a structure that defers none takes `NoJob`.
+pub struct World<T, J: Deferred = Job> {
     pub(crate) table: Table<T, J>,
 }
 
-impl<T, J: Task> Model for World<T, J> {
+impl<T, J: Deferred> Model for World<T, J> {
     ghost use Rattle.sdd_base.specs.State.{State};
 
     ghost Value = { State T };
@@ -48,7 +49,7 @@ impl<T, J: Task> Model for World<T, J> {
     ghost invariant = { λ w. IsPlace w.table };
 }
 
-impl<T, J: Task> World<T, J> {
+impl<T, J: Deferred> World<T, J> {
     /// A place without items, whose participants are named by 0, 1, .. . It takes all the memory that the place will
     /// ever use; without memory nothing is kept.
     pub fn new(alloc: Global, sizes: Sizes) -> Result<World<T, J>, AllocError>
@@ -126,7 +127,7 @@ impl<T, J: Task> World<T, J> {
     }
 }
 
-impl<T, J: Task> Lender<T> for World<T, J> {
+impl<T, J: Deferred> Lender<T> for World<T, J> {
     ghost use Rattle.sdd_base.specs.State.{with_value};
 
     ghost state = { λ w. w };

@@ -9,7 +9,7 @@ ghost use Rattle.sdd_base.specs.Tokens.{owned_cell, owned_slot, owned_slots, ptr
 
 use crate::cell::AtomicOwned;
 use crate::guard::WorldGuard;
-use crate::job::Task;
+use crate::job::Deferred;
 use crate::owner::Owned;
 use crate::pointer::{Found, Ptr};
 use crate::reclaim;
@@ -21,7 +21,7 @@ use std::marker::PhantomData;
 
 /// Makes an item of `value` and a cell that keeps it, without a tag, exactly if a slot and a cell are free; else
 /// `value` comes back.
-pub fn new<T, J: Task>(w: &mut World<T, J>, value: T) -> Result<AtomicOwned<T>, T>
+pub fn new<T, J: Deferred>(w: &mut World<T, J>, value: T) -> Result<AtomicOwned<T>, T>
     ensures made { IfOk result (λ c. IsFreeCell w.old (owned_cell c) × (i : ℕ) × IsFree w.old i × (w.new ≡ with_cell (owned_cell c) (Cell.OfOwned (Some i) Tag.None) (placed i value Status.Owned w.old))) }
     ensures refused { IfErr result (λ v. (v ≡ value) × (w.new ≡ w.old) × (NoneFree w.old ⊎ NoCellFree w.old)) }
     ensures used { IfOk result (λ c. IsOwnedCell w.new (owned_cell c)) }
@@ -41,7 +41,10 @@ pub fn new<T, J: Task>(w: &mut World<T, J>, value: T) -> Result<AtomicOwned<T>, 
 
 /// A cell that keeps owned, without a tag, exactly if a cell is free; else owned comes back.
 #[tactic(auto, using(crate::proofs::Frames::owned_cell_used))]
-pub fn from<T, J: Task>(w: &mut World<T, J>, owned: Owned<T>) -> Result<AtomicOwned<T>, Owned<T>>
+pub fn from<T, J: Deferred>(
+    w: &mut World<T, J>,
+    owned: Owned<T>,
+) -> Result<AtomicOwned<T>, Owned<T>>
     ensures made { IfOk result (λ c. IsFreeCell w.old (owned_cell c) × (w.new ≡ with_cell (owned_cell c) (Cell.OfOwned (Some (owned_slot owned)) Tag.None) w.old)) }
     ensures refused { IfErr result (λ o. (owned_slot o ≡ owned_slot owned) × (w.new ≡ w.old) × NoCellFree w.old) }
     ensures used { IfOk result (λ c. IsOwnedCell w.new (owned_cell c)) }
@@ -60,7 +63,7 @@ pub fn from<T, J: Task>(w: &mut World<T, J>, owned: Owned<T>) -> Result<AtomicOw
 }
 
 /// A cell that keeps nothing, without a tag, exactly if a cell is free.
-pub fn null<T, J: Task>(w: &mut World<T, J>) -> Result<AtomicOwned<T>, NoSlot>
+pub fn null<T, J: Deferred>(w: &mut World<T, J>) -> Result<AtomicOwned<T>, NoSlot>
     ensures made { IfOk result (λ c. IsFreeCell w.old (owned_cell c) × (w.new ≡ with_cell (owned_cell c) (Cell.OfOwned None Tag.None) w.old)) }
     ensures refused { OnErr result ((w.new ≡ w.old) × NoCellFree w.old) }
     ensures used { IfOk result (λ c. IsOwnedCell w.new (owned_cell c)) }
@@ -73,7 +76,7 @@ pub fn null<T, J: Task>(w: &mut World<T, J>) -> Result<AtomicOwned<T>, NoSlot>
 }
 
 /// What the cell keeps, as a pointer.
-pub fn load<T, J: Task>(
+pub fn load<T, J: Deferred>(
     w: &World<T, J>,
     cell: &AtomicOwned<T>,
     _guard: &WorldGuard,
@@ -92,7 +95,7 @@ pub fn load<T, J: Task>(
 }
 
 /// Whether the cell keeps nothing.
-pub fn is_null<T, J: Task>(w: &World<T, J>, cell: &AtomicOwned<T>) -> bool
+pub fn is_null<T, J: Deferred>(w: &World<T, J>, cell: &AtomicOwned<T>) -> bool
     requires { IsOwnedCell w.now (owned_cell cell.now) }
     ensures { (item : Option ℕ) (tag : Tag) → cell_at w.now (owned_cell cell.now) ≡ Cell.OfOwned item tag → IsTrue result ↔ (item ≡ None) }
 {
@@ -103,7 +106,7 @@ pub fn is_null<T, J: Task>(w: &World<T, J>, cell: &AtomicOwned<T>) -> bool
 }
 
 /// The tag of the cell.
-pub fn tag<T, J: Task>(w: &World<T, J>, cell: &AtomicOwned<T>) -> Tag
+pub fn tag<T, J: Deferred>(w: &World<T, J>, cell: &AtomicOwned<T>) -> Tag
     requires { IsOwnedCell w.now (owned_cell cell.now) }
     ensures { (item : Option ℕ) (tag : Tag) → cell_at w.now (owned_cell cell.now) ≡ Cell.OfOwned item tag → result ≡ tag }
 {
@@ -115,7 +118,7 @@ pub fn tag<T, J: Task>(w: &World<T, J>, cell: &AtomicOwned<T>) -> Tag
 
 /// Puts another item and tag into the cell, and gives the old ones.
 #[tactic(auto, using(crate::proofs::Frames::owned_cell_used))]
-pub fn swap<T, J: Task>(
+pub fn swap<T, J: Deferred>(
     w: &mut World<T, J>,
     cell: &AtomicOwned<T>,
     new: (Option<Owned<T>>, Tag),
@@ -139,7 +142,7 @@ pub fn swap<T, J: Task>(
 
 /// Sets the tag if `f` answers true for what the cell keeps, and answers what `f` did. It is called once.
 #[tactic(auto, using(crate::proofs::Frames::owned_cell_used))]
-pub fn update_tag_if<T, J: Task, P: Found<T>, F: FnOnce(P) -> bool>(
+pub fn update_tag_if<T, J: Deferred, P: Found<T>, F: FnOnce(P) -> bool>(
     w: &mut World<T, J>,
     cell: &AtomicOwned<T>,
     tag: Tag,
@@ -166,7 +169,7 @@ pub fn update_tag_if<T, J: Task, P: Found<T>, F: FnOnce(P) -> bool>(
 
 /// Puts another item and tag into the cell if item and tag are both those of `current`, and gives the old owner and
 /// the new pointer; else the new owner comes back, with the pointer found.
-pub fn compare_exchange<T, J: Task>(
+pub fn compare_exchange<T, J: Deferred>(
     w: &mut World<T, J>,
     cell: &AtomicOwned<T>,
     current: Ptr<'static, T>,
@@ -209,7 +212,7 @@ pub fn compare_exchange<T, J: Task>(
 }
 
 /// As `compare_exchange`: it fails for no other reason.
-pub fn compare_exchange_weak<T, J: Task>(
+pub fn compare_exchange_weak<T, J: Deferred>(
     w: &mut World<T, J>,
     cell: &AtomicOwned<T>,
     current: Ptr<'static, T>,
@@ -227,7 +230,7 @@ pub fn compare_exchange_weak<T, J: Task>(
 }
 
 /// Ends the cell, and gives the owner that it kept.
-pub fn into_owned<T, J: Task>(w: &mut World<T, J>, cell: AtomicOwned<T>) -> Option<Owned<T>>
+pub fn into_owned<T, J: Deferred>(w: &mut World<T, J>, cell: AtomicOwned<T>) -> Option<Owned<T>>
     requires { IsOwnedCell w.old (owned_cell cell) }
     ensures was { (tag : Tag) × (cell_at w.old (owned_cell cell) ≡ Cell.OfOwned (owned_slots result) tag) }
     ensures ended { w.new ≡ with_cell (owned_cell cell) Cell.Free w.old }
@@ -244,7 +247,7 @@ pub fn into_owned<T, J: Task>(w: &mut World<T, J>, cell: AtomicOwned<T>) -> Opti
 }
 
 /// Ends the cell, and gives the owner that it kept back: the item is retired by participant `p`.
-pub fn retire<T, J: Task>(w: &mut World<T, J>, cell: AtomicOwned<T>, p: usize)
+pub fn retire<T, J: Deferred>(w: &mut World<T, J>, cell: AtomicOwned<T>, p: usize)
     requires member { p < length w.old.members }
     requires cell { IsOwnedCell w.old (owned_cell cell) }
     ensures ended { w.new ≡ owned_ended p (owned_cell cell) w.old }

@@ -9,7 +9,7 @@ ghost use Rattle.sdd_base.specs.Tokens.{shared_cell, shared_slot, shared_slots, 
 
 use crate::cell::AtomicShared;
 use crate::guard::WorldGuard;
-use crate::job::Task;
+use crate::job::Deferred;
 use crate::owner::Shared;
 use crate::pointer::{Found, Ptr};
 use crate::reclaim;
@@ -21,7 +21,7 @@ use std::marker::PhantomData;
 
 /// Makes an item of `value` and a cell that keeps it, without a tag, exactly if a slot and a cell are free; else
 /// `value` comes back.
-pub fn new<T, J: Task>(w: &mut World<T, J>, value: T) -> Result<AtomicShared<T>, T>
+pub fn new<T, J: Deferred>(w: &mut World<T, J>, value: T) -> Result<AtomicShared<T>, T>
     ensures made { IfOk result (λ c. IsFreeCell w.old (shared_cell c) × (i : ℕ) × IsFree w.old i × (w.new ≡ with_cell (shared_cell c) (Cell.OfShared (Some i) Tag.None) (placed i value (Status.Shared 1) w.old))) }
     ensures refused { IfErr result (λ v. (v ≡ value) × (w.new ≡ w.old) × (NoneFree w.old ⊎ NoCellFree w.old)) }
     ensures used { IfOk result (λ c. IsSharedCell w.new (shared_cell c)) }
@@ -41,7 +41,7 @@ pub fn new<T, J: Task>(w: &mut World<T, J>, value: T) -> Result<AtomicShared<T>,
 
 /// A cell that keeps shared, without a tag, exactly if a cell is free; else shared comes back.
 #[tactic(auto, using(crate::proofs::Frames::shared_cell_used))]
-pub fn from<T, J: Task>(
+pub fn from<T, J: Deferred>(
     w: &mut World<T, J>,
     shared: Shared<T>,
 ) -> Result<AtomicShared<T>, Shared<T>>
@@ -63,7 +63,7 @@ pub fn from<T, J: Task>(
 }
 
 /// A cell that keeps nothing, without a tag, exactly if a cell is free.
-pub fn null<T, J: Task>(w: &mut World<T, J>) -> Result<AtomicShared<T>, NoSlot>
+pub fn null<T, J: Deferred>(w: &mut World<T, J>) -> Result<AtomicShared<T>, NoSlot>
     ensures made { IfOk result (λ c. IsFreeCell w.old (shared_cell c) × (w.new ≡ with_cell (shared_cell c) (Cell.OfShared None Tag.None) w.old)) }
     ensures refused { OnErr result ((w.new ≡ w.old) × NoCellFree w.old) }
     ensures used { IfOk result (λ c. IsSharedCell w.new (shared_cell c)) }
@@ -76,7 +76,7 @@ pub fn null<T, J: Task>(w: &mut World<T, J>) -> Result<AtomicShared<T>, NoSlot>
 }
 
 /// What the cell keeps, as a pointer.
-pub fn load<T, J: Task>(
+pub fn load<T, J: Deferred>(
     w: &World<T, J>,
     cell: &AtomicShared<T>,
     _guard: &WorldGuard,
@@ -95,7 +95,7 @@ pub fn load<T, J: Task>(
 }
 
 /// The value of the item that the cell keeps, or none. Condition: it is there.
-pub fn as_ref<'w, T, J: Task>(w: &'w World<T, J>, cell: &AtomicShared<T>) -> Option<&'w T>
+pub fn as_ref<'w, T, J: Deferred>(w: &'w World<T, J>, cell: &AtomicShared<T>) -> Option<&'w T>
     requires cell { IsSharedCell w.now (shared_cell cell.now) }
     requires there { (i : ℕ) (tag : Tag) → cell_at w.now (shared_cell cell.now) ≡ Cell.OfShared (Some i) tag → IsReadable w.now (Some i) }
     ensures null { (tag : Tag) → cell_at w.now (shared_cell cell.now) ≡ Cell.OfShared None tag → result ≡ None }
@@ -110,7 +110,7 @@ pub fn as_ref<'w, T, J: Task>(w: &'w World<T, J>, cell: &AtomicShared<T>) -> Opt
 }
 
 /// Whether the cell keeps nothing.
-pub fn is_null<T, J: Task>(w: &World<T, J>, cell: &AtomicShared<T>) -> bool
+pub fn is_null<T, J: Deferred>(w: &World<T, J>, cell: &AtomicShared<T>) -> bool
     requires { IsSharedCell w.now (shared_cell cell.now) }
     ensures { (item : Option ℕ) (tag : Tag) → cell_at w.now (shared_cell cell.now) ≡ Cell.OfShared item tag → IsTrue result ↔ (item ≡ None) }
 {
@@ -121,7 +121,7 @@ pub fn is_null<T, J: Task>(w: &World<T, J>, cell: &AtomicShared<T>) -> bool
 }
 
 /// The tag of the cell.
-pub fn tag<T, J: Task>(w: &World<T, J>, cell: &AtomicShared<T>) -> Tag
+pub fn tag<T, J: Deferred>(w: &World<T, J>, cell: &AtomicShared<T>) -> Tag
     requires { IsSharedCell w.now (shared_cell cell.now) }
     ensures { (item : Option ℕ) (tag : Tag) → cell_at w.now (shared_cell cell.now) ≡ Cell.OfShared item tag → result ≡ tag }
 {
@@ -133,7 +133,7 @@ pub fn tag<T, J: Task>(w: &World<T, J>, cell: &AtomicShared<T>) -> Tag
 
 /// Puts another item and tag into the cell, and gives the old ones.
 #[tactic(auto, using(crate::proofs::Frames::shared_cell_used))]
-pub fn swap<T, J: Task>(
+pub fn swap<T, J: Deferred>(
     w: &mut World<T, J>,
     cell: &AtomicShared<T>,
     new: (Option<Shared<T>>, Tag),
@@ -157,7 +157,7 @@ pub fn swap<T, J: Task>(
 
 /// Sets the tag if `f` answers true for what the cell keeps, and answers what `f` did. It is called once.
 #[tactic(auto, using(crate::proofs::Frames::shared_cell_used))]
-pub fn update_tag_if<T, J: Task, P: Found<T>, F: FnOnce(P) -> bool>(
+pub fn update_tag_if<T, J: Deferred, P: Found<T>, F: FnOnce(P) -> bool>(
     w: &mut World<T, J>,
     cell: &AtomicShared<T>,
     tag: Tag,
@@ -184,7 +184,7 @@ pub fn update_tag_if<T, J: Task, P: Found<T>, F: FnOnce(P) -> bool>(
 
 /// Puts another item and tag into the cell if item and tag are both those of `current`, and gives the old owner and
 /// the new pointer; else the new owner comes back, with the pointer found.
-pub fn compare_exchange<T, J: Task>(
+pub fn compare_exchange<T, J: Deferred>(
     w: &mut World<T, J>,
     cell: &AtomicShared<T>,
     current: Ptr<'static, T>,
@@ -227,7 +227,7 @@ pub fn compare_exchange<T, J: Task>(
 }
 
 /// As `compare_exchange`: it fails for no other reason.
-pub fn compare_exchange_weak<T, J: Task>(
+pub fn compare_exchange_weak<T, J: Deferred>(
     w: &mut World<T, J>,
     cell: &AtomicShared<T>,
     current: Ptr<'static, T>,
@@ -245,7 +245,7 @@ pub fn compare_exchange_weak<T, J: Task>(
 }
 
 /// One more owner of the item that the cell keeps; none where it keeps none, and at the greatest count of owners.
-pub fn get_shared<T, J: Task>(
+pub fn get_shared<T, J: Deferred>(
     w: &mut World<T, J>,
     cell: &AtomicShared<T>,
     _guard: &WorldGuard,
@@ -266,7 +266,7 @@ pub fn get_shared<T, J: Task>(
 
 /// Another cell that keeps an owner of the same item, with the same tag, exactly if a cell is free; it keeps none where
 /// `get_shared` gives none.
-pub fn clone<T, J: Task>(
+pub fn clone<T, J: Deferred>(
     w: &mut World<T, J>,
     cell: &AtomicShared<T>,
     guard: &WorldGuard,
@@ -292,7 +292,7 @@ pub fn clone<T, J: Task>(
 }
 
 /// Ends the cell, and gives the owner that it kept.
-pub fn into_shared<T, J: Task>(w: &mut World<T, J>, cell: AtomicShared<T>) -> Option<Shared<T>>
+pub fn into_shared<T, J: Deferred>(w: &mut World<T, J>, cell: AtomicShared<T>) -> Option<Shared<T>>
     requires { IsSharedCell w.old (shared_cell cell) }
     ensures was { (tag : Tag) × (cell_at w.old (shared_cell cell) ≡ Cell.OfShared (shared_slots result) tag) }
     ensures ended { w.new ≡ with_cell (shared_cell cell) Cell.Free w.old }
@@ -309,7 +309,7 @@ pub fn into_shared<T, J: Task>(w: &mut World<T, J>, cell: AtomicShared<T>) -> Op
 }
 
 /// Ends the cell, and gives the owner that it kept back: a last owner is retired by participant `p`.
-pub fn retire<T, J: Task>(w: &mut World<T, J>, cell: AtomicShared<T>, p: usize)
+pub fn retire<T, J: Deferred>(w: &mut World<T, J>, cell: AtomicShared<T>, p: usize)
     requires member { p < length w.old.members }
     requires cell { IsSharedCell w.old (shared_cell cell) }
     ensures ended { w.new ≡ shared_ended p (shared_cell cell) w.old }

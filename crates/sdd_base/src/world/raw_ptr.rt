@@ -5,14 +5,14 @@ ghost use Rattle.sdd_base.specs.State.{status_at};
 ghost use Rattle.sdd_base.specs.Tokens.{ptr_slot, ptr_tag, raw_slot, raw_tag};
 
 use crate::guard::WorldGuard;
-use crate::job::Task;
+use crate::job::Deferred;
 use crate::pointer::{Ptr, RawPtr};
 use crate::status::Status;
 use crate::world::World;
 use std::marker::PhantomData;
 
 /// The same pointer, to be read under a guard; none unless it is null or its item is out as a raw one.
-pub fn into_ptr<T, J: Task>(
+pub fn into_ptr<T, J: Deferred>(
     w: &World<T, J>,
     raw: RawPtr<T>,
     _guard: &WorldGuard,
