@@ -35,12 +35,10 @@ impl Deferred for Job {
     }
 }
 
-/// A job that nobody can make, for a place that defers none.
+/// A job that does nothing, for a place that defers none.
 #[derive(Drop)]
-pub enum NoJob {}
+pub struct NoJob;
 
 impl Deferred for NoJob {
-    fn run(self) {
-        match self {}
-    }
+    fn run(self) {}
 }
