@@ -1,0 +1,46 @@
+//! Items.
+
+ghost use Rattle.std.specs.Prelude.{◌≡◌};
+
+use crate::directory::Directory;
+use sdd_base::holds::{Held, Holds};
+use sdd_base::owner::Kept;
+use tree_index::TreeIndex;
+
+/// What stands in a slot: a version, or a segment of versions.
+pub enum Item<K: Ord, V, const S: usize> {
+    Directory(Directory<K>),
+    Segment(TreeIndex<K, V>),
+}
+
+/// A directory gives its segments up, from the last one on; a segment holds nothing.
+impl<K: Ord + Drop, V: Drop, const S: usize> Holds for Item<K, V, S> {
+    ghost use Rattle.versions.specs.Items.{held_by};
+
+    ghost holds = { held_by };
+
+    fn give_up(&mut self) -> Option<Held<Item<K, V, S>>> {
+        match self {
+            Item::Directory(directory) => match directory.segments.pop() {
+                Some(segment) => Some(Held::Shared(segment.into_shared())),
+                None => None,
+            },
+            Item::Segment(_) => None,
+        }
+    }
+
+    fn end(self) {
+        match self {
+            Item::Directory(directory) => {
+                let Directory {
+                    number: _,
+                    length: _,
+                    segments,
+                    separators: _,
+                } = directory;
+                segments.destroy_empty();
+            }
+            Item::Segment(_) => {}
+        }
+    }
+}

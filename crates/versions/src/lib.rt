@@ -1,0 +1,5 @@
+//! Versions.
+#![tactic(auto)]
+
+pub mod directory;
+pub mod item;
