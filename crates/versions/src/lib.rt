@@ -1,0 +1,14 @@
+//! Versions of an ordered list of pairs, each a directory of segments.
+//!
+//! A segment is a tree of 1 to `S` pairs, and two neighbours together hold more than `S`: so `n` pairs
+//! lie in at most `2 * (n / (S + 1)) + 1` of them.
+#![tactic(auto)]
+
+mod changes;
+mod draft;
+mod laws;
+mod segments;
+mod write;
+
+pub use laws::segments_are_few;
+pub use write::{Reply, Write};
