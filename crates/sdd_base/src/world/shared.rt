@@ -1,6 +1,6 @@
 //! Items with counted owners.
 
-ghost use Rattle.std.specs.Prelude.{◌≡◌, ◌≢◌, ◌<◌, ◌+◌, ℕ, length, leb, IfOk, IfErr, IfSome, OnErr, Some, None, IfNone, IsTrue, ◌↔◌, OnOk, IsErr, IsErrOf};
+ghost use Rattle.std.specs.Prelude.{◌≡◌, ◌≢◌, ◌<◌, ◌+◌, ℕ, length, leb, IfOk, IfErr, IfSome, OnErr, Some, None, IfNone, IsTrue, ◌↔◌, OnOk, IsErr, IsErrOf, IsSome};
 ghost use Rattle.std.specs.Borrow.{LendsIfOk, sem};
 ghost use Rattle.sdd_base.specs.State.{marks_at, IsFree, NoneFree, placed, value_at, with_status, status_at};
 ghost use Rattle.sdd_base.specs.Steps.{released};
@@ -112,9 +112,9 @@ pub fn as_ref<'w, T>(w: &'w World<T>, shared: &Shared<T>) -> &'w T
     w.table.value(shared.slot)
 }
 
-/// The value of an item whose owner an item keeps.
+/// The value of an item whose owner an item keeps. Condition: it is there.
 pub fn kept_ref<'w, T>(w: &'w World<T>, kept: &Kept) -> &'w T
-    requires { IsShared w.now (kept_slot kept.now) }
+    requires { IsSome (value_at w.now (kept_slot kept.now)) }
     ensures { Some result.now ≡ value_at w.now (kept_slot kept.now) }
 {
     w.table.value(kept.slot)
