@@ -86,6 +86,14 @@ impl<T> World<T> {
         self.table.used()
     }
 
+    /// What always holds of a place: each item that waits is in one bag, once, and no guard is behind its count. Nothing
+    /// runs.
+    pub fn laws(&self)
+        ensures { IsPlace self.now }
+    {
+        let _table = &self.table;
+    }
+
     /// How many slots are free.
     pub fn free_slots(&self) -> usize
         ensures { result ≡ sum_by vacancy self.now.states }
