@@ -1,1 +1,4 @@
-
+pub mod Blocks
+pub mod Placings
+pub mod Seeking
+pub mod BlockLemmas

@@ -3,16 +3,16 @@ use Rattle.std.specs.Prelude.{◌≡◌, ◌≢◌, ℕ, ◌+◌, ◌∷◌, ◌
 use Rattle.std.specs.declared.cmp.Ordering.{Ordering}
 use Rattle.std.specs.List.{All}
 use Rattle.sdd_base.specs.Counting.{Counted}
-use Rattle.sdd_base.specs.Frame.{Keeps}
+use Rattle.sdd_base.specs.Frame.{Keeps, IsLive}
 use Rattle.sdd_base.specs.Holding.{Hold, SharedItem}
-use Rattle.sdd_base.specs.Passing.{IsLayered, IsPlain}
+use Rattle.sdd_base.specs.Passing.{IsPlain}
 use Rattle.sdd_base.specs.Place.{IsShared}
 use Rattle.sdd_base.specs.State.{State, value_at, vacancy, in_use, with_cell}
 use Rattle.sdd_base.specs.Steps.{released}
 use Rattle.sdd_base.specs.declared.status.Cell.TheVariants as cell
 use Rattle.sdd_base.specs.declared.tag.Tag.TheVariants as tag
 use Rattle.versions.specs.Cuts.{pairs_in}
-use Rattle.versions.specs.Items.{held_by}
+use Rattle.versions.specs.Items.{held_by, slots_of}
 use Rattle.versions.specs.Versions.{IsSegment, IsVersion, pairs_of, list_of}
 use Rattle.versions.specs.declared.directory.Directory.{Directory}
 use Rattle.versions.specs.declared.item.Item.{Item}
@@ -28,14 +28,14 @@ abbrev pub slots_for : {K V : Type 0} → Plan K V → ℕ
 slots_for p = length p.blocks + 1
 
 module _ {K V : Type 0} {s : ℕ} where
-  -- a directory is above its segments
-  abbrev pub level : Item K V s → ℕ
-  level (items.Directory d) = 1
-  level (items.Segment t) = 0
+  abbrev pub IsNoDirectory : Option (Item K V s) → Type 0
+  IsNoDirectory None = Unit {0}
+  IsNoDirectory (Some (items.Directory d)) = ⊥
+  IsNoDirectory (Some (items.Segment t)) = Unit {0}
 
-  -- every directory that is there, also one that waits, holds segments alone
+  -- no directory that is there, also one that waits, holds a directory
   abbrev pub IsLevelled : State (Item K V s) → Type 0
-  IsLevelled w = IsLayered held_by level w
+  IsLevelled w = (i : ℕ) (d : Directory K) → value_at w i ≡ Some (items.Directory d) → All (λ j. IsNoDirectory (value_at w j)) (slots_of d)
 
   -- n items more, and all else as it was
   pub record Adds (n : ℕ) (w w' : State (Item K V s)) : Type 0 where
@@ -43,6 +43,7 @@ module _ {K V : Type 0} {s : ℕ} where
     pub members : w'.members ≡ w.members
     pub cells : w'.cells ≡ w.cells
     pub keeps : Keeps w w'
+    pub lives : (i : ℕ) → IsLive w i → IsLive w' i
     pub uses : in_use w' ≡ in_use w + n
     pub frees : sum_by vacancy w'.states + n ≡ sum_by vacancy w.states
     pub plain : IsPlain w → IsPlain w'
@@ -52,7 +53,8 @@ module _ {K V : Type 0} {s : ℕ} where
   pub record StandsIn (slots : List ℕ) (blocks : List (List (K × V))) (w w' : State (Item K V s)) : Type 0 where
     pub adds : Adds (length blocks) w w'
     pub segments : All (λ i. IsSegment (value_at w' i)) slots
-    pub blocks : map (λ i. pairs_of (value_at w' i)) slots ≡ blocks
+    pub lives : All (λ i. IsLive w' i) slots
+    pub hold : map (λ i. pairs_of (value_at w' i)) slots ≡ blocks
     pub counted : (hand : List Hold) → Counted held_by hand w → Counted held_by (reverse (map SharedItem slots) ++ hand) w'
 
   -- a directory stands in this slot, which is the version of that number with that list

@@ -2,6 +2,7 @@
 
 ghost use Rattle.std.specs.Prelude.{◌≡◌, ◌≤◌, ◌<◌, ◌+◌, ◌*◌, ◌/◌, ◌-◌, ◌^◌, IfOk, length, map, vec_capacity};
 ghost use Rattle.leaf_array.specs.Values.{ClonesAreSame};
+ghost use Rattle.sdd_base.specs.State.{value_at};
 ghost use Rattle.versions.specs.Cuts.{pairs_in, IsCut};
 ghost use Rattle.versions.specs.Placing.{slots_for};
 ghost use Rattle.versions.specs.Built.{IsBuilt};
@@ -10,13 +11,14 @@ ghost use Rattle.versions.specs.Writes.{after_writes, replies_to};
 
 use crate::directory::Directory;
 use crate::draft::drafted;
+use crate::item::Item;
 use crate::read::Reading;
 use crate::segments::Segments;
-use crate::source::Source;
 use crate::write::{Reply, Write};
 use sdd_base::owner::Kept;
+use sdd_base::world::World;
 use std::alloc::{AllocError, Global};
-use std::marker::{Model, PhantomData};
+use std::marker::Model;
 
 /// A version that isn't placed yet: the number of its list, and its segments.
 pub struct Built<K: Ord, V, const S: usize> {
@@ -73,26 +75,22 @@ impl<K: Ord + Drop, V: Drop, const S: usize> Drop for Built<K, V, S> {
 
 /// The version that writes make of an older one, under the next number, and what they are told; refused where memory is.
 /// Nothing is placed yet.
-pub fn build<K: Clone + Ord + Drop, V: Clone + Drop, R: Source<K, V, S>, const S: usize>(
+pub fn build<K: Clone + Ord + Drop, V: Clone + Drop, const S: usize>(
     alloc: Global,
-    src: &R,
+    w: &World<Item<K, V, S>>,
     dir: &Directory<K>,
     writes: &[Write<K, V>],
 ) -> Result<(Built<K, V, S>, Vec<Reply>), AllocError>
-    requires version { IsVersion K.cmp (R.items src.now) dir.now }
+    requires version { IsVersion K.cmp (value_at w.now) dir.now }
     requires size { (1 ≤ S) × (S ≤ 225) }
     requires last { dir.now.number < 2 ^ 64 - 1 }
     requires keys { ClonesAreSame K.is_clone }
     requires values { ClonesAreSame V.is_clone }
     ensures number { IfOk result (λ made. made.0.number ≡ dir.now.number + 1) }
-    ensures list { IfOk result (λ made. pairs_in made.0.blocks ≡ after_writes K.cmp writes.now (list_of (R.items src.now) dir.now)) }
-    ensures replies { IfOk result (λ made. made.1.items ≡ replies_to K.cmp writes.now (list_of (R.items src.now) dir.now)) }
+    ensures list { IfOk result (λ made. pairs_in made.0.blocks ≡ after_writes K.cmp writes.now (list_of (value_at w.now) dir.now)) }
+    ensures replies { IfOk result (λ made. made.1.items ≡ replies_to K.cmp writes.now (list_of (value_at w.now) dir.now)) }
 {
-    let old = Reading::<K, V, R, S> {
-        src,
-        dir,
-        of: PhantomData,
-    };
+    let old = Reading::new(alloc, w, dir)?;
     let (segments, replies) = drafted::<K, V, _, S>(alloc, &old, writes)?;
     let owners = Vec::with_capacity(alloc, segments.trees.len())?;
     let number = dir.number + 1;

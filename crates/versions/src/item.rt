@@ -1,6 +1,7 @@
 //! Items.
 
-ghost use Rattle.std.specs.Prelude.{◌≡◌};
+ghost use Rattle.std.specs.Prelude.{◌≡◌, Some};
+ghost use Rattle.versions.specs.Versions.{IsSegment, pairs_of};
 
 use crate::directory::Directory;
 use sdd_base::holds::{Held, Holds};
@@ -11,6 +12,19 @@ use tree_index::TreeIndex;
 pub enum Item<K: Ord, V, const S: usize> {
     Directory(Directory<K>),
     Segment(TreeIndex<K, V>),
+}
+
+impl<K: Ord, V, const S: usize> Item<K, V, S> {
+    /// The tree of a segment. Condition: it is one.
+    pub(crate) fn segment(&self) -> &TreeIndex<K, V>
+        requires { IsSegment (Some self.now) }
+        ensures { result.now.pairs ≡ pairs_of (Some self.now) }
+    {
+        match self {
+            Item::Segment(tree) => tree,
+            Item::Directory(_) => unreachable!(),
+        }
+    }
 }
 
 /// A directory gives its segments up, from the last one on; a segment holds nothing.

@@ -5,23 +5,23 @@
 //! published by an exchange of the root; who reads an older one reads on.
 #![tactic(auto)]
 
-pub mod build;
+mod built;
 mod changes;
-pub mod directory;
+mod directory;
 mod draft;
-pub mod item;
-pub mod laws;
-pub mod place;
-pub mod read;
+mod item;
+mod laws;
+mod placing;
+mod read;
 mod segments;
-pub mod source;
+mod source;
 mod write;
 
-pub use build::{Built, build};
+pub use built::{Built, build};
 pub use directory::Directory;
 pub use item::Item;
 pub use laws::segments_are_few;
-pub use place::{place, publish};
-pub use read::look_up;
+pub use placing::{place, publish};
+pub use read::{len, look_up};
 pub use source::Source;
 pub use write::{Reply, Write};

@@ -1,19 +1,19 @@
 //! Placing versions, and publishing them.
 
-ghost use Rattle.std.specs.Prelude.{◌≡◌, ◌<◌, ◌≤◌, ◌+◌, ℕ, Option, None, Some, IfOk, IfErr, IsOk, OnErr, length, sum_by, vec_len, vec_capacity, map};
+ghost use Rattle.std.specs.Prelude.{◌≡◌, ◌<◌, ◌≤◌, ◌+◌, ◌∷◌, [], ℕ, Option, None, Some, IfOk, IfErr, IsOk, OnErr, length, sum_by, vec_len, vec_capacity, map};
 ghost use Rattle.sdd_base.specs.Frame.{Keeps, OnlyOf};
 ghost use Rattle.sdd_base.specs.Place.{IsShared, IsSharedCell};
-ghost use Rattle.sdd_base.specs.State.{cell_at, with_cell, vacancy};
+ghost use Rattle.sdd_base.specs.State.{IsFree, cell_at, placed, with_cell, vacancy};
 ghost use Rattle.sdd_base.specs.Tokens.{kept_slot, shared_cell, shared_slot};
 ghost use Rattle.versions.specs.Placing.{Places, StandsIn, slots_for, given_back};
 
-use crate::build::Built;
+use crate::built::Built;
 use crate::directory::Directory;
 use crate::item::Item;
 use crate::segments::Segments;
 use sdd_base::cell::AtomicShared;
 use sdd_base::owner::{Kept, Shared};
-use sdd_base::status::Cell;
+use sdd_base::status::{Cell, Status};
 use sdd_base::tag::Tag;
 use sdd_base::world::{World, atomic_shared, shared};
 use tree_index::TreeIndex;
@@ -41,6 +41,7 @@ pub fn place<K: Ord + Drop, V: Drop, const S: usize>(
         length,
     } = segments;
     let segments = place_segments(w, trees, owners);
+    w.laws();
     let directory = Directory {
         number,
         length,
@@ -65,6 +66,7 @@ fn place_segments<K: Ord + Drop, V: Drop, const S: usize>(
     ensures { StandsIn (map kept_slot result.items) (map (λ t. t.pairs) trees.items) w.old w.new }
 {
     for tree in trees {
+        w.laws();
         let owner = place_segment(w, tree);
         owners.push(owner).unwrap();
     }
@@ -77,7 +79,9 @@ fn place_segment<K: Ord + Drop, V: Drop, const S: usize>(
     tree: TreeIndex<K, V>,
 ) -> Kept
     requires { 1 ≤ sum_by vacancy w.old.states }
-    ensures { StandsIn (kept_slot result ∷ []) (tree.pairs ∷ []) w.old w.new }
+    ensures free { IsFree w.old (kept_slot result) }
+    ensures placed { w.new ≡ placed (kept_slot result) (Item.Segment tree) (Status.Shared 1) w.old }
+    ensures keeps { Keeps w.old w.new }
 {
     match shared::new(w, Item::Segment(tree)) {
         Ok(owner) => Kept::of(owner),

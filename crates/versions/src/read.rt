@@ -1,57 +1,58 @@
 //! Reading a version.
 
-ghost use Rattle.std.specs.Prelude.{◌≡◌, ◌<◌, ◌≤◌, ◌≢◌, ℕ, None, Some, MatchOption, IsSome, length, get_or, take, drop, All, slice_get};
+ghost use Rattle.std.specs.Prelude.{◌≡◌, ◌<◌, None, Some, MatchOption, IfOk, length, slice_get};
 ghost use Rattle.std.specs.BTreeMap.{is_at};
 ghost use Rattle.std.specs.Map.{lookup_entry};
-ghost use Rattle.leaf_array.specs.Pairs.{has_key};
-ghost use Rattle.versions.specs.Cuts.{pairs_in};
+ghost use Rattle.sdd_base.specs.State.{value_at};
 ghost use Rattle.versions.specs.Items.{slots_of};
 ghost use Rattle.versions.specs.Reading.{IsPlaceOf};
-ghost use Rattle.versions.specs.Versions.{IsVersion, blocks_of, list_of, pairs_of};
+ghost use Rattle.versions.specs.Versions.{IsVersion, blocks_of, list_of};
 
 use crate::directory::Directory;
 use crate::draft::Old;
 use crate::item::Item;
 use crate::source::Source;
+use sdd_base::world::World;
+use std::alloc::{AllocError, Global};
 use std::cmp::Ordering;
-use std::marker::{Model, PhantomData};
+use std::marker::Model;
 use tree_index::TreeIndex;
 
 /// The pair with this key in the list of a version: one search of the directory by halving, and one of a tree. It clones
 /// nothing.
-pub fn look_up<'s, K: Ord, V, R: Source<K, V, S>, const S: usize>(
-    src: &'s R,
+pub fn look_up<'s, K: Ord, V, const S: usize>(
+    w: &'s World<Item<K, V, S>>,
     dir: &Directory<K>,
     key: &K,
 ) -> Option<(&'s K, &'s V)>
-    requires { IsVersion K.cmp (R.items src.now) dir.now }
-    ensures { MatchOption result (lookup_entry (is_at (K.cmp key.now)) (list_of (R.items src.now) dir.now) ≡ None) (λ e. lookup_entry (is_at (K.cmp key.now)) (list_of (R.items src.now) dir.now) ≡ Some (e.0.now, e.1.now)) }
+    requires { IsVersion K.cmp (value_at w.now) dir.now }
+    ensures { MatchOption result (lookup_entry (is_at (K.cmp key.now)) (list_of (value_at w.now) dir.now) ≡ None) (λ e. lookup_entry (is_at (K.cmp key.now)) (list_of (value_at w.now) dir.now) ≡ Some (e.0.now, e.1.now)) }
 {
     if dir.segments.is_empty() {
         return None;
     }
-    let place = place_of(dir, key);
-    segment::<K, V, R, S>(src, dir, place).peek_entry(key)
+    let place = place_of(&dir.separators, key);
+    segment::<K, V, S>(w, dir, place).peek_entry(key)
 }
 
 /// How many pairs the list of a version has.
-pub fn len<K: Ord, V, R: Source<K, V, S>, const S: usize>(src: &R, dir: &Directory<K>) -> usize
-    requires { IsVersion K.cmp (R.items src.now) dir.now }
-    ensures { result ≡ length (list_of (R.items src.now) dir.now) }
+pub fn len<K: Ord, V, const S: usize>(w: &World<Item<K, V, S>>, dir: &Directory<K>) -> usize
+    requires { IsVersion K.cmp (value_at w.now) dir.now }
+    ensures { result ≡ length (list_of (value_at w.now) dir.now) }
 {
-    let _ = src;
+    let _ = w;
     dir.length
 }
 
 /// The segment whose keys are the last ones that the key may be among.
-fn place_of<K: Ord>(dir: &Directory<K>, key: &K) -> usize
-    ensures { IsPlaceOf K.cmp key.now dir.now.separators.items result }
+fn place_of<K: Ord>(separators: &[K], key: &K) -> usize
+    ensures { IsPlaceOf K.cmp key.now separators.now result }
 {
     let mut low = 0;
-    let mut high = dir.separators.len();
+    let mut high = separators.len();
     while low < high {
         let middle = low + (high - low) / 2;
-        if dir.separators[middle].cmp(key) == Ordering::Less {
+        if separators[middle].cmp(key) == Ordering::Less {
             low = middle + 1;
         } else {
             high = middle;
@@ -61,52 +62,72 @@ fn place_of<K: Ord>(dir: &Directory<K>, key: &K) -> usize
 }
 
 /// The tree of a segment.
-pub(crate) fn segment<'s, K: Ord, V, R: Source<K, V, S>, const S: usize>(
-    src: &'s R,
+pub(crate) fn segment<'s, K: Ord, V, const S: usize>(
+    w: &'s World<Item<K, V, S>>,
     dir: &Directory<K>,
     place: usize,
 ) -> &'s TreeIndex<K, V>
-    requires version { IsVersion K.cmp (R.items src.now) dir.now }
+    requires version { IsVersion K.cmp (value_at w.now) dir.now }
     requires within { place < length (slots_of dir.now) }
-    ensures { Some result.now.pairs ≡ slice_get (blocks_of (R.items src.now) dir.now) place }
+    ensures { Some result.now.pairs ≡ slice_get (blocks_of (value_at w.now) dir.now) place }
 {
-    match src.item(&dir.segments[place]) {
-        Item::Segment(tree) => tree,
-        Item::Directory(_) => unreachable!(),
-    }
+    w.item(&dir.segments[place]).segment()
 }
 
-/// A version that is read: what there is of it to build another.
+/// The segments of a version, gathered to build another one of them.
 #[derive(Drop)]
-pub(crate) struct Reading<'a, K: Ord, V, R: Source<K, V, S>, const S: usize> {
-    pub(crate) src: &'a R,
-    pub(crate) dir: &'a Directory<K>,
-    pub(crate) of: PhantomData<V>,
+pub(crate) struct Reading<'a, K: Ord, V> {
+    trees: Vec<&'a TreeIndex<K, V>>,
+    separators: &'a [K],
 }
 
-impl<'a, K: Ord, V, R: Source<K, V, S>, const S: usize> Model for Reading<'a, K, V, R, S> {
+impl<'a, K: Ord, V> Model for Reading<'a, K, V> {
     ghost use Rattle.std.specs.Prelude.{List};
-    ghost use Rattle.versions.specs.Versions.{IsVersion, blocks_of};
+    ghost use Rattle.versions.specs.Reading.{trees_of, IsOrdered};
 
     ghost Value = { List (List (K × V)) };
 
-    ghost view = { λ a. blocks_of (R.items a.src.now) a.dir.now };
+    ghost view = { λ a. trees_of a.trees.items };
 
-    ghost invariant = { λ a. IsVersion K.cmp (R.items a.src.now) a.dir.now };
+    ghost invariant = { λ a. IsOrdered K.cmp (trees_of a.trees.items) a.separators.now };
 }
 
-impl<'a, K: Ord, V, R: Source<K, V, S>, const S: usize> Old<K, V> for Reading<'a, K, V, R, S> {
+impl<'a, K: Ord, V> Reading<'a, K, V> {
+    /// The segments of a version.
+    pub(crate) fn new<const S: usize>(
+        alloc: Global,
+        w: &'a World<Item<K, V, S>>,
+        dir: &'a Directory<K>,
+    ) -> Result<Self, AllocError>
+        requires { IsVersion K.cmp (value_at w.now) dir.now }
+        ensures { IfOk result (λ a. a ≡ blocks_of (value_at w.now) dir.now) }
+    {
+        let mut trees = Vec::with_capacity(alloc, dir.segments.len())?;
+        for place in 0..dir.segments.len() {
+            trees.push(segment(w, dir, place)).unwrap();
+        }
+        Ok(Reading {
+            trees,
+            separators: dir.separators.as_slice(),
+        })
+    }
+}
+
+impl<'a, K: Ord, V> Old<K, V> for Reading<'a, K, V> {
     ghost blocks = { λ a. a };
 
     fn count(&self) -> usize {
-        self.dir.segments.len()
+        self.trees.len()
     }
 
     fn segment(&self, place: usize) -> &TreeIndex<K, V> {
-        segment::<K, V, R, S>(self.src, self.dir, place)
+        self.trees[place]
     }
 
     fn contains(&self, key: &K) -> bool {
-        look_up::<K, V, R, S>(self.src, self.dir, key).is_some()
+        if self.trees.is_empty() {
+            return false;
+        }
+        self.trees[place_of(self.separators, key)].contains(key)
     }
 }

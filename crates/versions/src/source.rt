@@ -3,27 +3,26 @@
 ghost use Rattle.std.specs.Prelude.{◌≡◌, ℕ, Option, Some, IsSome};
 ghost use Rattle.sdd_base.specs.Tokens.{kept_slot};
 
-use crate::item::Item;
 use sdd_base::owner::Kept;
 use sdd_base::world::{World, shared};
 
 /// A place whose items can be read.
-pub trait Source<K: Ord, V, const S: usize> {
+pub trait Source<T> {
     /// The item in each slot.
-    ghost items: { Self → ℕ → Option (Item K V S) };
+    ghost items: { Self → ℕ → Option T };
 
     /// The item whose owner is kept. Condition: it is there.
-    fn item(&self, at: &Kept) -> &Item<K, V, S>
+    fn item(&self, at: &Kept) -> &T
         requires { IsSome (items self.now (kept_slot at.now)) }
         ensures { Some result.now ≡ items self.now (kept_slot at.now) };
 }
 
-impl<K: Ord, V, const S: usize> Source<K, V, S> for World<Item<K, V, S>> {
+impl<T> Source<T> for World<T> {
     ghost use Rattle.sdd_base.specs.State.{value_at};
 
     ghost items = { λ w i. value_at w i };
 
-    fn item(&self, at: &Kept) -> &Item<K, V, S> {
+    fn item(&self, at: &Kept) -> &T {
         shared::kept_ref(self, at)
     }
 }
