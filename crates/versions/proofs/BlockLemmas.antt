@@ -1,6 +1,9 @@
 -- segments of a directory, by their places
 use Rattle.std.proofs.Common.{◌≡◌, ℕ, zero, suc, ◌+◌, ◌-◌, ◌<◌, ◌≤◌, Option, None, Some, List, [], ◌∷◌, ◌++◌, length, map, take, get_or, slice_get, refl, sym, ap, ◌∙◌, arith, subst}
+use Rattle.std.specs.declared.cmp.Ordering.{Ordering}
 use Rattle.std.specs.List.{All}
+use Rattle.std.specs.List.Sorted.{IsStrictlySortedBy}
+use Rattle.leaf_array.specs.Pairs.{IsAscending}
 use Rattle.std.specs.Option.{IsSome}
 use Rattle.std.proofs.lemmas.List.{length-map, length-take}
 use Rattle.sdd_base.specs.Tokens.{kept_slot}
@@ -65,3 +68,16 @@ place_inside blocks keys place sep h some =
     let size = sym (length-map keys Some) ∙ ap length sep ∙ length-map (take (length blocks - 1) blocks) greatest_key in
     let taken = length-take (length blocks - 1) blocks in
     omega (arith, size, taken, h, some)
+
+-- no pairs are cut into no blocks
+rising_nil : (K V : Type 0) (cmp : K → K → Ordering) → IsAscending {K = K} {V = V} cmp []
+unfolding IsStrictlySortedBy
+rising_nil K V cmp = tt
+
+pub cut_nil : {K V : Type 0} (cmp : K → K → Ordering) (s : ℕ) → IsCut {K = K} {V = V} cmp s [] []
+cut_nil {K} {V} cmp s = record {
+  sizes = λ k d h. absurd (omega (arith, h));
+  tight = tt;
+  rising = rising_nil K V cmp;
+  separated = (let nil : List (List (K × V)) = [] in let none : 0 ≡ length nil - 1 = omega arith in ap (λ n. map greatest_key (take n nil)) none);
+}

@@ -2,3 +2,4 @@ pub mod Blocks
 pub mod Placings
 pub mod Seeking
 pub mod BlockLemmas
+pub mod Staying

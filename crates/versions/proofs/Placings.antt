@@ -48,7 +48,7 @@ no_vacancy (x ∷ ss) none =
     full status.Deferred ne = refl
 
 -- a list of owners names each of its slots
-named_at : (xs : List ℕ) (k d : ℕ) → k < length xs → 1 ≤ tally (SharedItem (get_or xs k d)) (map SharedItem xs)
+pub named_at : (xs : List ℕ) (k d : ℕ) → k < length xs → 1 ≤ tally (SharedItem (get_or xs k d)) (map SharedItem xs)
 named_at [] k d h = absurd (omega (arith, h))
 named_at (x ∷ xs) zero d h =
     let one : same_hold (SharedItem x) (SharedItem x) ≡ 1 = hit-same x in
@@ -59,7 +59,7 @@ named_at (x ∷ xs) (suc k) d h =
     let sum = sum_by-cons (λ y. same_hold (SharedItem (get_or xs k d)) y) (SharedItem x) (map SharedItem xs) in
     omega (arith, rest, sum)
 
-tally_reverse : (h : Hold) (ks : List Hold) → tally h (reverse ks) ≡ tally h ks
+pub tally_reverse : (h : Hold) (ks : List Hold) → tally h (reverse ks) ≡ tally h ks
 tally_reverse h [] = refl
 tally_reverse h (k ∷ ks) =
     let turned = ap (tally h) (reverse-append (k ∷ []) ks) in
@@ -68,7 +68,7 @@ tally_reverse h (k ∷ ks) =
     let more = sum_by-cons (λ x. same_hold h x) k ks in
     omega (arith, tally_reverse h ks, turned, split, one, more)
 
-map_same : {Y : Type 0} (f g : ℕ → Y) (xs : List ℕ) → All (λ x. f x ≡ g x) xs → map f xs ≡ map g xs
+pub map_same : {Y : Type 0} (f g : ℕ → Y) (xs : List ℕ) → All (λ x. f x ≡ g x) xs → map f xs ≡ map g xs
 map_same f g [] a = refl
 map_same f g (x ∷ xs) a =
     let here : f x ≡ g x = a 0 0 (omega arith) in
@@ -108,6 +108,9 @@ module _ {K V : Type 0} {s : ℕ} where
     shared_here : IsShared w' i
     shared_here = record { inside = (let size = length-set w.states i (status.Shared 1) in let inside = free.0 in omega (arith, size, inside)); owners = 1; is = status_here }
 
+    owned_still : (j : ℕ) → IsShared w j → IsShared w' j
+    owned_still j sh = record { inside = (let size = length-set w.states i (status.Shared 1) in let inside = sh.inside in omega (arith, size, inside)); owners = sh.owners; is = status_there j (live_apart j (ap has_owner sh.is)) ∙ sh.is }
+
     adds_one : Keeps w w' → ((hand : List Hold) → Counted held_by hand w → IsLevelled w → IsLevelled w') → Adds 1 w w'
     adds_one keeps levelled = record {
       count = refl;
@@ -115,6 +118,7 @@ module _ {K V : Type 0} {s : ℕ} where
       cells = refl;
       keeps = keeps;
       lives = live_still;
+      owned = owned_still;
       uses = (let sum = sum_by-set usage w.states i (status.Shared 1) status.Free free.0 in let none = ap usage free.1 in omega (arith, sum, none));
       frees = (let sum = sum_by-set vacancy w.states i (status.Shared 1) status.Free free.0 in let one = ap vacancy free.1 in omega (arith, sum, one));
       plain = λ plain j. plain_after w.states i j (status.Shared 1) (λ e. refl) (plain j);
@@ -194,6 +198,7 @@ module _ {K V : Type 0} {s : ℕ} where
     cells = b.cells ∙ a.cells;
     keeps = keeps_then u v w a.members a.lives a.keeps b.keeps;
     lives = λ i l. b.lives i (a.lives i l);
+    owned = λ i sh. b.owned i (a.owned i sh);
     uses = (let x = a.uses in let y = b.uses in omega (arith, x, y));
     frees = (let x = a.frees in let y = b.frees in omega (arith, x, y));
     plain = λ p. b.plain (a.plain p);
@@ -201,7 +206,7 @@ module _ {K V : Type 0} {s : ℕ} where
   }
 
   adds_none : (w : State (Item K V s)) → Keeps w w → Adds 0 w w
-  adds_none w keeps = record { count = refl; members = refl; cells = refl; keeps = keeps; lives = λ i l. l; uses = omega arith; frees = omega arith; plain = λ p. p; levelled = λ hand c l. l }
+  adds_none w keeps = record { count = refl; members = refl; cells = refl; keeps = keeps; lives = λ i l. l; owned = λ i sh. sh; uses = omega arith; frees = omega arith; plain = λ p. p; levelled = λ hand c l. l }
 
   keeps_refl : (w : State (Item K V s)) → Keeps w w
   keeps_refl w = record { states = refl; cells = refl; members = refl; lives = λ i l. refl; protects = λ q i o o' k. (refl, k) }

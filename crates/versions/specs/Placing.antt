@@ -44,6 +44,7 @@ module _ {K V : Type 0} {s : ℕ} where
     pub cells : w'.cells ≡ w.cells
     pub keeps : Keeps w w'
     pub lives : (i : ℕ) → IsLive w i → IsLive w' i
+    pub owned : (i : ℕ) → IsShared w i → IsShared w' i
     pub uses : in_use w' ≡ in_use w + n
     pub frees : sum_by vacancy w'.states + n ≡ sum_by vacancy w.states
     pub plain : IsPlain w → IsPlain w'

@@ -1,6 +1,6 @@
 //! Building versions.
 
-ghost use Rattle.std.specs.Prelude.{◌≡◌, ◌≤◌, ◌<◌, ◌+◌, ◌*◌, ◌/◌, ◌-◌, ◌^◌, IfOk, length, map, vec_capacity};
+ghost use Rattle.std.specs.Prelude.{◌≡◌, ◌≤◌, ◌<◌, ◌+◌, ◌*◌, [], ◌/◌, ◌-◌, ◌^◌, IfOk, length, map, vec_capacity};
 ghost use Rattle.leaf_array.specs.Values.{ClonesAreSame};
 ghost use Rattle.sdd_base.specs.State.{value_at};
 ghost use Rattle.versions.specs.Cuts.{pairs_in, IsCut};
@@ -42,6 +42,21 @@ impl<K: Ord, V, const S: usize> Model for Built<K, V, S> {
 }
 
 impl<K: Ord, V, const S: usize> Built<K, V, S> {
+    /// The empty list, with number 0. It takes no memory.
+    pub fn empty(alloc: Global) -> Self
+        ensures { result ≡ record { number = 0; blocks = [] } }
+    {
+        Built {
+            number: 0,
+            segments: Segments {
+                trees: Vec::new(alloc),
+                separators: Vec::new(alloc),
+                length: 0,
+            },
+            owners: Vec::new(alloc),
+        }
+    }
+
     /// How many slots it takes: one for each segment, and one for its directory. A list of `n` pairs takes at most
     /// `2 * (n / (S + 1)) + 2`.
     pub fn slots(&self) -> usize

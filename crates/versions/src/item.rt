@@ -1,6 +1,6 @@
 //! Items.
 
-ghost use Rattle.std.specs.Prelude.{◌≡◌, Some};
+ghost use Rattle.std.specs.Prelude.{◌≡◌, Some, IfSome, IfNone};
 ghost use Rattle.versions.specs.Versions.{IsSegment, pairs_of};
 
 use crate::directory::Directory;
@@ -15,6 +15,17 @@ pub enum Item<K: Ord, V, const S: usize> {
 }
 
 impl<K: Ord, V, const S: usize> Item<K, V, S> {
+    /// The directory of a version, or none where it is a segment.
+    pub fn directory(&self) -> Option<&Directory<K>>
+        ensures some { IfSome result (λ d. self.now ≡ Item.Directory d.now) }
+        ensures none { IfNone result (IsSegment (Some self.now)) }
+    {
+        match self {
+            Item::Directory(directory) => Some(directory),
+            Item::Segment(_) => None,
+        }
+    }
+
     /// The tree of a segment. Condition: it is one.
     pub(crate) fn segment(&self) -> &TreeIndex<K, V>
         requires { IsSegment (Some self.now) }

@@ -1,10 +1,13 @@
 //! Reading a version.
 
-ghost use Rattle.std.specs.Prelude.{◌≡◌, ◌<◌, None, Some, MatchOption, IfOk, length, slice_get};
+ghost use Rattle.std.specs.Prelude.{◌≡◌, ◌<◌, ℕ, List, None, Some, MatchOption, IfOk, length, slice_get};
 ghost use Rattle.std.specs.BTreeMap.{is_at};
 ghost use Rattle.std.specs.Map.{lookup_entry};
+ghost use Rattle.sdd_base.specs.Place.{IsReadable, IsShared};
 ghost use Rattle.sdd_base.specs.State.{value_at};
+ghost use Rattle.sdd_base.specs.Tokens.{ptr_slot, shared_slot};
 ghost use Rattle.versions.specs.Items.{slots_of};
+ghost use Rattle.versions.specs.Placing.{HasVersion};
 ghost use Rattle.versions.specs.Reading.{IsPlaceOf};
 ghost use Rattle.versions.specs.Versions.{IsVersion, blocks_of, list_of};
 
@@ -12,7 +15,9 @@ use crate::directory::Directory;
 use crate::draft::Old;
 use crate::item::Item;
 use crate::source::Source;
-use sdd_base::world::World;
+use sdd_base::owner::Shared;
+use sdd_base::pointer::Ptr;
+use sdd_base::world::{World, shared};
 use std::alloc::{AllocError, Global};
 use std::cmp::Ordering;
 use std::marker::Model;
@@ -33,6 +38,41 @@ pub fn look_up<'s, K: Ord, V, const S: usize>(
     }
     let place = place_of(&dir.separators, key);
     segment::<K, V, S>(w, dir, place).peek_entry(key)
+}
+
+/// The directory of a version that has an owner.
+pub fn version<'w, K: Ord, V, const S: usize>(
+    w: &'w World<Item<K, V, S>>,
+    root: &Shared<Item<K, V, S>>,
+) -> &'w Directory<K>
+    requires shared { IsShared w.now (shared_slot root.now) }
+    requires version { (n : ℕ) × (ps : List (K × V)) × HasVersion K.cmp w.now (shared_slot root.now) n ps }
+    ensures version { IsVersion K.cmp (value_at w.now) result.now }
+    ensures is { (n : ℕ) (ps : List (K × V)) → HasVersion K.cmp w.now (shared_slot root.now) n ps → (list_of (value_at w.now) result.now ≡ ps) × (result.now.number ≡ n) }
+{
+    match shared::as_ref(w, root).directory() {
+        Some(directory) => directory,
+        None => unreachable!(),
+    }
+}
+
+/// The directory of a version that an open guard protects, by a pointer that was loaded under it.
+pub fn version_at<'w, K: Ord, V, const S: usize>(
+    w: &'w World<Item<K, V, S>>,
+    at: &Ptr<'static, Item<K, V, S>>,
+) -> &'w Directory<K>
+    requires readable { IsReadable w.now (ptr_slot at.now) }
+    requires version { (i n : ℕ) × (ps : List (K × V)) × (ptr_slot at.now ≡ Some i) × HasVersion K.cmp w.now i n ps }
+    ensures version { IsVersion K.cmp (value_at w.now) result.now }
+    ensures is { (i n : ℕ) (ps : List (K × V)) → ptr_slot at.now ≡ Some i → HasVersion K.cmp w.now i n ps → (list_of (value_at w.now) result.now ≡ ps) × (result.now.number ≡ n) }
+{
+    match w.read(at) {
+        Some(item) => match item.directory() {
+            Some(directory) => directory,
+            None => unreachable!(),
+        },
+        None => unreachable!(),
+    }
 }
 
 /// How many pairs the list of a version has.
