@@ -15,6 +15,8 @@ mod placing;
 mod read;
 mod segments;
 mod source;
+#[cfg(test)]
+mod tests;
 mod write;
 
 pub use built::{Built, build};

@@ -101,6 +101,7 @@ pub fn publish<K: Ord, V, const S: usize>(
     requires root { IsSharedCell w.old (shared_cell root.now) }
     requires owned { (i : ℕ) (tag : Tag) → cell_at w.old (shared_cell root.now) ≡ Cell.OfShared (Some i) tag → IsShared w.old i }
     ensures published { (o : Option ℕ) (tag : Tag) → cell_at w.old (shared_cell root.now) ≡ Cell.OfShared o tag → w.new ≡ given_back p o (with_cell (shared_cell root.now) (Cell.OfShared (Some (shared_slot new)) Tag.None) w.old) }
+    ensures used { IsSharedCell w.new (shared_cell root.now) }
     ensures keeps { Keeps w.old w.new }
     ensures only { OnlyOf p w.old w.new }
 {
