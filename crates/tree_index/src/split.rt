@@ -40,17 +40,18 @@ impl<K: Ord, V> Arenas<K, V> {
         if self.height == 0 {
             return self.plant(key);
         }
-        if !self.is_crowded(key) {
-            self.pack(key);
+        let at = self.leaf_of(key);
+        if !self.is_crowded(at, key) {
+            self.pack(at, key);
             return Ok(());
         }
-        let cut = self.cut(key)?;
+        let cut = self.cut(at, key)?;
         self.leaves.reserve(1)?;
         self.nodes.reserve(1)?;
         let _ = self.nodes.capacity();
         self.nodes.reserve(self.height + 1)?;
         self.split_nodes(key);
-        self.split_leaf(key, cut);
+        self.split_leaf(at, key, cut);
         Ok(())
     }
 
@@ -85,25 +86,28 @@ impl<K: Ord, V> Arenas<K, V> {
     }
 
     /// Whether the leaf on the way to a key has so many pairs that it is to be split.
-    fn is_crowded(&self, key: &K) -> bool
+    fn is_crowded(&self, at: usize, key: &K) -> bool
         requires sound { IsSound K.cmp self.now }
         requires planted { self.now.height ≢ 0 }
+        requires on { at ≡ leaf_on_way K.cmp key.now self.now }
         ensures crowded { IfSome (get self.now.leaves (leaf_on_way K.cmp key.now self.now)) (λ l. result ≡ not (nat_lt (length l.array.pairs) 12)) }
         ensures full { result ≡ true → (HasRoom K.cmp key.now self.now → ⊥) → IsLeafFull K.cmp key.now self.now }
     {
-        match self.leaves.get(self.leaf_of(key)) {
+        let _ = key;
+        match self.leaves.get(at) {
             Some(leaf) => leaf.len() >= CROWDED,
             None => unreachable!(),
         }
     }
 
     /// Packs the leaf on the way to a key.
-    fn pack(&mut self, key: &K)
+    fn pack(&mut self, at: usize, key: &K)
     where
         K: Drop,
         V: Drop,
         requires sound { IsSound K.cmp self.old }
         requires planted { self.old.height ≢ 0 }
+        requires on { at ≡ leaf_on_way K.cmp key.now self.old }
         requires sparse { IfSome (get self.old.leaves (leaf_on_way K.cmp key.now self.old)) (λ l. length l.array.pairs < 12) }
         ensures sound { IsSound K.cmp self.new }
         ensures pairs { pairs_of self.new ≡ pairs_of self.old }
@@ -111,7 +115,7 @@ impl<K: Ord, V> Arenas<K, V> {
         ensures height { self.new.height ≡ self.old.height }
         ensures ascending { ascents K.cmp self.old ≤ ascents K.cmp self.new }
     {
-        let at = self.leaf_of(key);
+        let _ = key;
         match self.leaves.get_mut(at) {
             Some(leaf) => {
                 let _ = leaf.len();
@@ -122,16 +126,17 @@ impl<K: Ord, V> Arenas<K, V> {
     }
 
     /// Where the leaf on the way to a key is cut.
-    fn cut(&self, key: &K) -> Result<Cut<K>, AllocError>
+    fn cut(&self, at: usize, key: &K) -> Result<Cut<K>, AllocError>
     where
         K: Clone,
         requires sound { IsSound K.cmp self.now }
         requires planted { self.now.height ≢ 0 }
+        requires on { at ≡ leaf_on_way K.cmp key.now self.now }
         requires clones { ClonesAreSame K.is_clone }
         requires crowded { IfSome (get self.now.leaves (leaf_on_way K.cmp key.now self.now)) (λ l. 12 ≤ length l.array.pairs) }
         ensures { IfOk result (λ cut. IsCutThere K.cmp key.now self.now cut) }
     {
-        match self.leaves.get(self.leaf_of(key)) {
+        match self.leaves.get(at) {
             Some(leaf) => leaf.cut(key),
             None => unreachable!(),
         }
@@ -239,12 +244,13 @@ impl<K: Ord, V> Arenas<K, V> {
     }
 
     /// Splits the leaf on the way to a key, whose node has room.
-    fn split_leaf(&mut self, key: &K, cut: Cut<K>)
+    fn split_leaf(&mut self, child: usize, key: &K, cut: Cut<K>)
     where
         K: Drop,
         V: Drop,
         requires sound { IsSound K.cmp self.old }
         requires planted { self.old.height ≢ 0 }
+        requires on { child ≡ leaf_on_way K.cmp key.now self.old }
         requires cut { IsCutThere K.cmp key.now self.old cut }
         requires parent { NodeHasRoom K.cmp key.now self.old 1 }
         requires room { HasRoomFor self.old.leaves 1 }
@@ -254,7 +260,6 @@ impl<K: Ord, V> Arenas<K, V> {
         ensures ascending { IsAbove K.cmp key.now (pairs_of self.old) → IsLeafFull K.cmp key.now self.old → 1 < ascents K.cmp self.old → ascents K.cmp self.old ≤ ascents K.cmp self.new }
     {
         let above = self.node_at(1, key);
-        let child = self.leaf_of(key);
         let (lower, before) = match self.leaves.get_mut(child) {
             Some(leaf) => (leaf.split(cut.whole), leaf.prev),
             None => unreachable!(),
