@@ -6,7 +6,8 @@ ghost use Rattle.leaf_array.specs.Values.{ClonesAreSame};
 ghost use Rattle.slab.specs.Slab.{get, HasRoomFor, slab_len};
 ghost use Rattle.tree_index.specs.Chain.{links, linked_in};
 ghost use Rattle.tree_index.specs.Depth.{IsAbove, ascents};
-ghost use Rattle.tree_index.specs.Content.{pairs_of, IsSound, HasRoom, NodeHasRoom, IsNodeFull, IsLeafFull, IsCutThere, AreSameArrays, leaf_on_way};
+ghost use Rattle.tree_index.specs.Shape.{way};
+ghost use Rattle.tree_index.specs.Content.{content_of, pairs_of, IsSound, HasRoom, NodeHasRoom, IsNodeFull, IsLeafFull, IsCutThere, AreSameArrays, leaf_on_way};
 
 use crate::arenas::Arenas;
 use crate::leaf::{Cut, Leaf};
@@ -50,8 +51,8 @@ impl<K: Ord, V> Arenas<K, V> {
         self.nodes.reserve(1)?;
         let _ = self.nodes.capacity();
         self.nodes.reserve(self.height + 1)?;
-        self.split_nodes(key);
-        self.split_leaf(at, key, cut);
+        let above = self.split_nodes(key);
+        self.split_leaf(above, at, key, cut);
         Ok(())
     }
 
@@ -143,21 +144,25 @@ impl<K: Ord, V> Arenas<K, V> {
     }
 
     /// Whether the node at a height on the way to a key is full.
-    fn is_full(&self, left: usize, key: &K) -> bool
+    fn is_full(&self, at: usize, left: usize, key: &K) -> bool
         requires sound { IsSound K.cmp self.now }
         requires least { 0 < left }
         requires most { left ≤ self.now.height }
+        requires on { at ≡ way K.cmp (content_of self.now) key.now (self.now.height - left) self.now.root }
         ensures full { result ≡ true → IsNodeFull K.cmp key.now self.now left }
         ensures room { result ≡ false → NodeHasRoom K.cmp key.now self.now left }
     {
-        match self.nodes.get(self.node_at(left, key)) {
+        let _ = left;
+        let _ = key;
+        match self.nodes.get(at) {
             Some(node) => node.is_full(),
             None => unreachable!(),
         }
     }
 
     /// Makes room in the lowest node on the way to a key: where it is full, all that are full are split.
-    fn split_nodes(&mut self, key: &K)
+    /// It gives the number of the lowest one then.
+    fn split_nodes(&mut self, key: &K) -> usize
     where
         K: Drop,
         requires sound { IsSound K.cmp self.old }
@@ -170,20 +175,23 @@ impl<K: Ord, V> Arenas<K, V> {
         ensures room { NodeHasRoom K.cmp key.now self.new 1 }
         ensures planted { self.new.height ≢ 0 }
         ensures still { NodeHasRoom K.cmp key.now self.old 1 → self.new ≡ self.old }
+        ensures lowest { result ≡ way K.cmp (content_of self.new) key.now (self.new.height - 1) self.new.root }
     {
-        if !self.is_full(1, key) {
-            return;
+        let above = self.node_at(1, key);
+        if !self.is_full(above, 1, key) {
+            return above;
         }
-        if self.is_full(self.height, key) {
+        if self.is_full(self.node_at(self.height, key), self.height, key) {
             self.raise(key);
         }
         let mut left = self.height;
         while left > 1 {
             left -= 1;
-            if self.is_full(left, key) {
+            if self.is_full(self.node_at(left, key), left, key) {
                 self.split_node(left, key);
             }
         }
+        self.node_at(1, key)
     }
 
     /// Puts a new root above the present one.
@@ -244,12 +252,13 @@ impl<K: Ord, V> Arenas<K, V> {
     }
 
     /// Splits the leaf on the way to a key, whose node has room.
-    fn split_leaf(&mut self, child: usize, key: &K, cut: Cut<K>)
+    fn split_leaf(&mut self, above: usize, child: usize, key: &K, cut: Cut<K>)
     where
         K: Drop,
         V: Drop,
         requires sound { IsSound K.cmp self.old }
         requires planted { self.old.height ≢ 0 }
+        requires lowest { above ≡ way K.cmp (content_of self.old) key.now (self.old.height - 1) self.old.root }
         requires on { child ≡ leaf_on_way K.cmp key.now self.old }
         requires cut { IsCutThere K.cmp key.now self.old cut }
         requires parent { NodeHasRoom K.cmp key.now self.old 1 }
@@ -259,7 +268,7 @@ impl<K: Ord, V> Arenas<K, V> {
         ensures room { HasRoom K.cmp key.now self.new }
         ensures ascending { IsAbove K.cmp key.now (pairs_of self.old) → IsLeafFull K.cmp key.now self.old → 1 < ascents K.cmp self.old → ascents K.cmp self.old ≤ ascents K.cmp self.new }
     {
-        let above = self.node_at(1, key);
+        let _ = key;
         let (lower, before) = match self.leaves.get_mut(child) {
             Some(leaf) => (leaf.split(cut.whole), leaf.prev),
             None => unreachable!(),
