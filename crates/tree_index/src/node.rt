@@ -2,9 +2,10 @@
 //!
 //! ```
 //! // of a tree with the pairs (1, "one") and (2, "two")
-//! let root = tree.root(); // Some(Node::Leaf(..)): one node, over leaves
-//! root.read_entry(&2, |_, name| *name); // Some("two")
-//! root.read_entry(&3, |_, name| *name); // None
+//! if let Some(root) = tree.root() {
+//!     root.read_entry(&2, |_, name| *name); // Some("two")
+//!     root.read_entry(&3, |_, name| *name); // None
+//! }
 //! ```
 
 ghost use Rattle.std.specs.Prelude.{◌≡◌, ◌≢◌, ◌<◌, ◌≤◌, ◌==◌, ◌++◌, ◌∷◌, ◌↔◌, IsTrue, MatchOption, Some, None};
@@ -67,6 +68,7 @@ impl<'t, K: Ord, V> Node<'t, K, V> {
     }
 }
 
+// Here and not beside the struct, since its clauses name the enum that holds the struct.
 impl<'t, K: Ord, V> InternalNode<'t, K, V> {
     /// The child on the way to a key: if a pair under this node has the key, it is under that child.
     pub fn child(&self, key: &K) -> Node<'t, K, V>
