@@ -5,3 +5,4 @@ pub mod Owners
 pub mod Queues
 pub mod Nodes
 pub mod Refusals
+pub mod Bags

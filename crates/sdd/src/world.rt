@@ -1,9 +1,11 @@
 //! The calls over a `World`.
 
+pub mod bag;
 mod chain;
 mod entries;
 pub mod linked_entry;
 pub mod linked_list;
 pub mod queue;
+mod row;
 pub mod stack;
 mod tail;
