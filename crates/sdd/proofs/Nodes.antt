@@ -145,3 +145,8 @@ module _ {L : Type 0} (link : L → Option ℕ) (w w' : State L) (c : ℕ) (t u 
   pub retagged_first : (o : Option ℕ) → o ≡ first_slot (undeleted es) → IfSome o (λ i. IsSomeNode link w (Some i)) → true ≡ is_some o → (r : Bool) → (r ≡ true → (e : Entry L) → IsNode link w o e → Retags link w w' e u) → (r ≡ false → w' ≡ w) → Hung
   retagged_first None first n some r did kept = absurd (false≢true (sym some))
   retagged_first (Some i) first n some r did kept = retagged_by (Some i) i refl first n r did kept
+
+-- what holds of the pointer of a list that isn't null
+pub not_null : (P : Option ℕ → Type 0) (o : Option ℕ) → true ≡ is_some o → IfSome o (λ i. P (Some i)) → P o
+not_null P None some h = absurd (false≢true (sym some))
+not_null P (Some i) some h = h

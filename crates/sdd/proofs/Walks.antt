@@ -51,7 +51,7 @@ module _ {L : Type 0} (link : L → Option ℕ) where
   hung_length w c t es h = let r = used_slots w.states (slots es) (hung_used w c t es h) in omega (arith, r, length-slots es)
 
   -- the rest behind the first entry
-  behind : (w : State L) (c d : ℕ) (t : Tag) (item : L) (gone : Bool) (es : List (Entry L)) → IsHung link w c t es → (b : Begins es item d gone) → IsHung link w d b.first.tag b.rest
+  pub behind : (w : State L) (c d : ℕ) (t : Tag) (item : L) (gone : Bool) (es : List (Entry L)) → IsHung link w c t es → (b : Begins es item d gone) → IsHung link w d b.first.tag b.rest
   behind w c d t item gone es h b =
       let g = subst (λ (xs : List (Entry L)). IsHung link w c t xs) b.is h in
       subst (λ (j : ℕ). IsHung link w j b.first.tag b.rest) (sym b.link_is) g.4

@@ -13,6 +13,7 @@ use Rattle.sdd.specs.Stacks.{IsNew, IsStack}
 use Rattle.sdd.specs.Entries.{entry_link}
 use Rattle.sdd.specs.declared.linked_entry.LinkedEntry.{LinkedEntry}
 use Rattle.sdd.specs.declared.bag.Bag.{Bag}
+use Rattle.sdd.specs.declared.bag.IntoIter.{IntoIter}
 
 -- how many values the primary of a bag may keep
 pub record IsLength (n : ℕ) : Type 0 where
@@ -61,6 +62,10 @@ AreOwn w (e ∷ es) = (e.tag ≡ tag.None) × (status_at w e.slot ≡ status.Sha
 -- the cells of a bag
 abbrev pub bag_cells : {T : Type 0} {n : ℕ} → Bag T n → List ℕ
 bag_cells b = map shared_cell b.cells.items
+
+-- the cells of a bag that is taken apart
+abbrev pub into_cells : {T : Type 0} {n : ℕ} → IntoIter T n → List ℕ
+into_cells i = bag_cells i.bag
 
 -- a bag of these entries, those of the primary and those of the overflow, each in some order
 pub record IsBag {T : Type 0} (n : ℕ) (w : State (LinkedEntry T)) (cs : List ℕ) (primary overflow : List (Entry (LinkedEntry T))) : Type 0 where

@@ -6,3 +6,4 @@ pub mod Queues
 pub mod Nodes
 pub mod Refusals
 pub mod Bags
+pub mod Iters

@@ -10,3 +10,8 @@ pub struct Bag<T, const ARRAY_LEN: usize> {
     // The cell of the overflow, and those of the primary, each of which keeps an entry or none.
     pub(crate) cells: Vec<AtomicShared<LinkedEntry<T>>>,
 }
+
+/// A bag that is taken apart, one owner after another. It must be spent by `retire`.
+pub struct IntoIter<T, const ARRAY_LEN: usize> {
+    pub(crate) bag: Bag<T, ARRAY_LEN>,
+}

@@ -1,9 +1,9 @@
 //! Bags beside the multisets that they are.
 
 ghost use Rattle.std.specs.Prelude.{◌≡◌, ◌<◌, length};
-ghost use Rattle.sdd.specs.Bags.{IsSomeBag, bag_cells};
+ghost use Rattle.sdd.specs.Bags.{IsSomeBag, bag_cells, into_cells};
 
-use crate::bag::Bag;
+use crate::bag::{Bag, IntoIter};
 use crate::linked_entry::LinkedEntry;
 use crate::refusal::NotMade;
 use crate::tests::{end, sizes};
@@ -103,6 +103,94 @@ fn nothing_is_folded_of_an_empty_bag(rt: HostRuntime) -> Result<(), Fail> {
     }
     kept.destroy_empty();
     world::bag::retire(&mut w, bag, 0);
+    end(&rt, w);
+    Ok(())
+}
+
+/// Gives the last owner of a list back, and answers whether there was one.
+fn give_back<R: Abort>(
+    rt: &R,
+    w: &mut World<LinkedEntry<u64>>,
+    owners: &mut Vec<Shared<LinkedEntry<u64>>>,
+) -> bool
+    requires { 0 < length w.old.members }
+    ensures { 0 < length w.new.members }
+{
+    let owner = match owners.pop() {
+        None => return false,
+        Some(owner) => owner,
+    };
+    let cell = match place::atomic_shared::from(w, owner) {
+        Ok(cell) => cell,
+        Err(_) => panic!(rt; "a cell is free"),
+    };
+    place::atomic_shared::retire(w, cell, 0);
+    true
+}
+
+#[test]
+fn every_owner_is_folded_once(rt: HostRuntime) -> Result<(), Fail> {
+    let mut w: World<LinkedEntry<u64>> = World::new(rt.alloc(), sizes(3, 6))?;
+    let Ok(bag) = world::bag::new::<u64, 2>(rt.alloc(), &mut w) else {
+        panic!(rt; "six cells are free");
+    };
+    assert_eq!(rt; world::bag::push(&mut w, &bag, 1), Ok(()));
+    assert_eq!(rt; world::bag::push(&mut w, &bag, 2), Ok(()));
+    assert_eq!(rt; world::bag::push(&mut w, &bag, 3), Ok(()));
+    let none: Vec<Shared<LinkedEntry<u64>>> = Vec::new(rt.alloc());
+    let keep = |mut kept: Vec<Shared<LinkedEntry<u64>>>, owner: Shared<LinkedEntry<u64>>| {
+        match kept.push(owner) {
+            Ok(()) => kept,
+            Err(_) => panic!(rt; "memory"),
+        }
+    };
+    let mut kept = world::bag::pop_all(&mut w, &bag, 0, none, keep);
+    assert!(rt; world::bag::is_empty(&w, &bag));
+    world::bag::retire(&mut w, bag, 0);
+    assert!(rt; give_back(&rt, &mut w, &mut kept));
+    assert!(rt; give_back(&rt, &mut w, &mut kept));
+    assert!(rt; give_back(&rt, &mut w, &mut kept));
+    if !kept.is_empty() {
+        panic!(rt; "there were three");
+    }
+    kept.destroy_empty();
+    end(&rt, w);
+    Ok(())
+}
+
+/// The value of the next entry of a bag that is taken apart, which is given back.
+fn take_apart<const N: usize>(
+    w: &mut World<LinkedEntry<u64>>,
+    iter: &IntoIter<u64, N>,
+) -> Option<u64>
+    requires member { 0 < length w.old.members }
+    requires list { IsSomeBag N w.old (into_cells iter.now) }
+    ensures member { 0 < length w.new.members }
+    ensures list { IsSomeBag N w.new (into_cells iter.now) }
+{
+    match world::into_iter::next(w, iter, 0) {
+        None => None,
+        Some(entry) => {
+            let value = *place::shared::as_ref(w, &entry).as_ref();
+            place::shared::release(w, entry, 0);
+            Some(value)
+        }
+    }
+}
+
+#[test]
+fn a_bag_is_taken_apart(rt: HostRuntime) -> Result<(), Fail> {
+    let mut w: World<LinkedEntry<u64>> = World::new(rt.alloc(), sizes(3, 5))?;
+    let Ok(bag) = world::bag::new::<u64, 1>(rt.alloc(), &mut w) else {
+        panic!(rt; "five cells are free");
+    };
+    assert_eq!(rt; world::bag::push(&mut w, &bag, 1), Ok(()));
+    assert_eq!(rt; world::bag::push(&mut w, &bag, 2), Ok(()));
+    let iter = world::bag::into_iter(&w, bag);
+    assert_eq!(rt; take_apart(&mut w, &iter), Some(2));
+    assert_eq!(rt; take_apart(&mut w, &iter), Some(1));
+    assert_eq!(rt; take_apart(&mut w, &iter), None);
+    world::into_iter::retire(&mut w, iter, 0);
     end(&rt, w);
     Ok(())
 }

@@ -11,10 +11,10 @@
 //!
 //! A bag is two multisets, each as a list in some order: clauses say which entry is added or taken.
 //!
-//! Not there yet: iterators; `clone` and `from_iter`; `LinkedList::push_back` and `next_shared`; conditions of a
-//! queue's `push` and `pop`; `as_mut`, `clone` and equality of an entry. A deleted entry stays linked until it is passed
-//! at the front of its list, since `next_ptr` only reads. No clause says what an opening guard leaves of a list: open
-//! guards before a container is made, or show that the list stays by the laws of the place.
+//! Not there yet: `clone`, `from_iter` and `iter_mut` of the containers; `LinkedList::push_back`; `as_mut` and `clone` of
+//! an entry. A deleted entry stays linked until it is passed at the front of its list, since `next_ptr` only reads. No
+//! clause says what an opening guard leaves of a list: open guards before a container is made, or show that the list
+//! stays by the laws of the place.
 #![tactic(auto)]
 
 pub use sdd_base;
@@ -22,6 +22,7 @@ pub use sdd_base;
 pub mod bag;
 #[cfg(test)]
 mod bag_tests;
+pub mod iter;
 pub mod laws;
 pub mod linked_entry;
 pub mod linked_list;
@@ -32,4 +33,6 @@ pub mod refusal;
 pub mod stack;
 #[cfg(test)]
 mod tests;
+#[cfg(test)]
+mod walk_tests;
 pub mod world;

@@ -3,6 +3,8 @@
 pub mod bag;
 mod chain;
 mod entries;
+pub mod into_iter;
+pub mod iter;
 pub mod linked_entry;
 pub mod linked_list;
 pub mod queue;

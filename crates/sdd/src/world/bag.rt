@@ -6,10 +6,10 @@ ghost use Rattle.sdd_base.specs.Frame.{OnlyOf};
 ghost use Rattle.std.specs.List.{sum_by, FoldsTo};
 ghost use Rattle.sdd_base.specs.Tokens.{shared_slot};
 ghost use Rattle.sdd.specs.Chain.{Entry, Leaves, Stays, links, slots};
-ghost use Rattle.sdd.specs.Bags.{IsLength, IsBag, IsSomeBag, PutsPrimary, PutsOverflow, TakesOne, IsSameBag, CallsWith, AreOwn, AreFreeCells, bag_cells};
+ghost use Rattle.sdd.specs.Bags.{IsLength, IsBag, IsSomeBag, PutsPrimary, PutsOverflow, TakesOne, IsSameBag, CallsWith, AreOwn, AreFreeCells, bag_cells, into_cells};
 ghost use Rattle.sdd.specs.declared.linked_entry.LinkedEntry.{LinkedEntry};
 
-use crate::bag::Bag;
+use crate::bag::{Bag, IntoIter};
 use crate::linked_entry::LinkedEntry;
 use crate::refusal::NotMade;
 use crate::world::{chain, row};
@@ -165,4 +165,15 @@ pub fn retire<T, const ARRAY_LEN: usize>(
     let Bag { cells } = bag;
     row::clear_all(w, &cells, p);
     row::end_all(w, cells);
+}
+
+/// The bag, to be taken apart by `into_iter::next`.
+pub fn into_iter<T, const ARRAY_LEN: usize>(
+    _w: &World<LinkedEntry<T>>,
+    bag: Bag<T, ARRAY_LEN>,
+) -> IntoIter<T, ARRAY_LEN>
+    requires { IsSomeBag ARRAY_LEN _w.now (bag_cells bag) }
+    ensures { into_cells result ≡ bag_cells bag }
+{
+    IntoIter { bag }
 }
