@@ -17,7 +17,8 @@ use sdd_base::owner::Shared;
 use sdd_base::world::World;
 use std::alloc::Global;
 
-/// An empty bag, exactly if `ARRAY_LEN + 1` cells are free and there is memory for as many names of cells.
+/// An empty bag, exactly if `ARRAY_LEN + 1` cells are free and there is memory for as many names of cells; else nothing
+/// changes. Condition: `ARRAY_LEN` is 1 to 32.
 pub fn new<T, const ARRAY_LEN: usize>(
     alloc: Global,
     w: &mut World<LinkedEntry<T>>,
