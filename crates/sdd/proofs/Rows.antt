@@ -253,12 +253,6 @@ told_not true false h = refl
 told_not false true h = refl
 told_not false false h = absurd (false≢true (sym h))
 
-pub told : (a b : Bool) → beq a b ≡ true → a ≡ b
-told true true h = refl
-told true false h = sym h
-told false true h = h
-told false false h = refl
-
 -- the cells and the items of one list of a row are among all of them
 links_both : {L : Type 0} (j : ℕ) (es fs : List (Entry L)) → IsOut j (links (es ++ fs)) → IsOut j (links es) × IsOut j (links fs)
 links_both j [] fs out = (tt, out)

@@ -1,10 +1,10 @@
 -- the first entry of a list is taken off, shared and put back
 use Rattle.std.proofs.lemmas.Bool.{cases_eq}
-use Rattle.std.proofs.Common.{◌≤◌, ◌+◌, None, arith, get_or-set_same, inl, inr, ◌≡◌, ◌≢◌, ℕ, Option, Some, List, [], ◌∷◌, refl, sym, ap, ◌∙◌, subst, get_or-set_other}
+use Rattle.std.proofs.Common.{◌≤◌, ◌+◌, None, arith, get_or-set_same, inl, inr, ◌≡◌, ◌≢◌, ℕ, Option, List, [], ◌∷◌, refl, sym, ap, ◌∙◌, subst, get_or-set_other}
 use Rattle.sdd_base.specs.State.{State, status_at, with_status}
 use Rattle.sdd_base.specs.declared.tag.Tag.{Tag}
 use Rattle.sdd_base.specs.declared.status.Status.TheVariants as status
-use Rattle.sdd.specs.Chain.{Entry, slots, links, IsOut, IsHung, IsLoose, Leaves, Fits, CanHang, TookFirst, MoreOwners, first_slot}
+use Rattle.sdd.specs.Chain.{Entry, slots, links, IsOut, IsHung, IsLoose, Leaves, Fits, CanHang, TookFirst, MoreOwners}
 use Rattle.sdd.proofs.Chains.{hung_out, leaves_then, leaves_more, leaves_all, inside_states}
 use Rattle.sdd.proofs.Releases.{item_owners, hung_owners}
 use Rattle.sdd.proofs.Fronts.{TookSome, took_nothing, same_use}
@@ -66,9 +66,6 @@ module _ {L : Type 0} (link : L → Option ℕ) (w w1 w2 : State L) (c i : ℕ) 
         let two = leaves_more [] (i ∷ []) (c ∷ links es) (slots es) w1 w2 (λ j out. tt) (λ j out. (inside' j out, tt)) o.leaves in
         let three = leaves_more (c ∷ k.entry.link ∷ []) [] (c ∷ links es) (slots es) w2 w3 (λ j out. (out.0, ((inside j out.1).0, tt))) (λ j out. tt) back.1 in
         leaves_then (c ∷ links es) (slots es) w w2 w3 (leaves_then (c ∷ links es) (slots es) w w1 w2 one two) three
-
-    pub shared_slot_is : Some i ≡ first_slot es
-    shared_slot_is = ap (λ (m : ℕ). Some m) k.at ∙ ap first_slot (sym k.is)
 
 shared_same : (n m : ℕ) → status.Shared n ≡ status.Shared m → n ≡ m
 shared_same n m e = cc
