@@ -4,10 +4,15 @@
 //! lie in at most `2 * (n / (S + 1)) + 1` of them.
 #![tactic(auto)]
 
+mod bounds;
 mod changes;
 mod draft;
+mod flow;
 mod laws;
+mod merge;
+pub mod plain;
 mod segments;
+mod stream;
 mod write;
 
 pub use laws::segments_are_few;
