@@ -6,6 +6,8 @@ ghost use Rattle.leaf_array.specs.Values.{ClonesAreSame};
 ghost use Rattle.versions.specs.Cuts.{IsCut, pairs_in};
 ghost use Rattle.versions.specs.Writes.{after_writes, replies_to};
 
+use crate::changes::apply;
+use crate::merge::merged;
 use crate::segments::Segments;
 use crate::write::{Reply, Write};
 use std::alloc::{AllocError, Global};
@@ -44,7 +46,11 @@ pub(crate) fn drafted<K: Clone + Ord + Drop, V: Clone + Drop, O: Old<K, V>, cons
     ensures length { IfOk result (λ made. made.0.length ≡ length (pairs_in (map (λ t. t.pairs) made.0.trees.items))) }
     ensures replies { IfOk result (λ made. made.1.items ≡ replies_to K.cmp writes.now (pairs_in (O.blocks old.now))) }
 {
-    let _ = (old.count(), writes.len());
-    let _ = alloc;
-    Err(AllocError)
+    let mut changes = TreeIndex::new(alloc);
+    let mut replies = Vec::new(alloc);
+    for write in writes {
+        replies.push(apply(&mut changes, old, write)?)?;
+    }
+    let segments = merged::<K, V, O, S>(alloc, old, &changes)?;
+    Ok((segments, replies))
 }

@@ -1,5 +1,5 @@
 use Rattle.std.proofs.Common.{ap, arith, ◌≤◌}
-use Rattle.versions.proofs.tests.a_version_that_finds_no_room_comes_back.Goals as goal
+use Rattle.versions.proofs.placing_tests.a_version_that_finds_no_room_comes_back.Goals as goal
 
 pub build-requires : goal.build-requires
 build-requires g c =

@@ -6,7 +6,7 @@ use Rattle.sdd_base.specs.Tokens.{shared_cell, shared_slot}
 use Rattle.sdd_base.specs.declared.status.Cell.TheVariants as cell
 use Rattle.sdd_base.specs.declared.tag.Tag.{Tag}
 use Rattle.sdd_base.specs.declared.tag.Tag.TheVariants as tag
-use Rattle.versions.proofs.tests.a_version_takes_a_slot_for_each_segment_and_one.Goals as goal
+use Rattle.versions.proofs.placing_tests.a_version_takes_a_slot_for_each_segment_and_one.Goals as goal
 
 pub build-requires : goal.build-requires
 build-requires g c =
