@@ -17,3 +17,6 @@ mod write;
 
 pub use laws::segments_are_few;
 pub use write::{Reply, Write};
+
+#[cfg(test)]
+mod tests;
