@@ -40,3 +40,6 @@ pub use placing::{place, publish};
 pub use read::{len, look_up, version, version_at};
 pub use source::Source;
 pub use write::{Reply, Write};
+
+#[cfg(test)]
+mod tests;
