@@ -162,17 +162,17 @@ module _ {K V : Type 0} {s : ℕ} where
         | inl t ↦
             let same : slots_of e ≡ slots_of d = slots_same (value_at w' j) e d is (ap (λ (n : ℕ). value_at w' n) t.1 ∙ value_here w i v place free) in
             subst (λ (xs : List ℕ). All (λ k. IsNoDirectory (value_at w' k)) xs) (sym same) (λ n x h.
-                let k = get_or (slots_of d) n x in
-                subst (λ (o : Option (Item K V s)). IsNoDirectory o) (sym (there k (live_apart w i v place free k (lives n x h)))) (no_directory_of (value_at w k) (segments n x h)))
+            let k = get_or (slots_of d) n x in
+            subst (λ (o : Option (Item K V s)). IsNoDirectory o) (sym (there k (live_apart w i v place free k (lives n x h)))) (no_directory_of (value_at w k) (segments n x h)))
         | inr t ↦
             let was : value_at w j ≡ Some (items.Directory e) = sym (there j t.1) ∙ is in
             let before = levelled j e was in
             λ n x h.
-                let k = get_or (slots_of e) n x in
-                let above : Item K V s = items.Directory e in
-                let some : 1 ≤ tally (SharedItem k) (held_by above) = (let named = named_at (slots_of e) n x h in let turned = tally_reverse (SharedItem k) (map SharedItem (slots_of e)) in omega (arith, named, turned)) in
-                let sh : IsShared w k = (owners_are_counted held_by).held k j (items.Directory e) hand w was some counted in
-                subst (λ (o : Option (Item K V s)). IsNoDirectory o) (sym (there k (shared_not_free w i k free sh))) (before n x h)
+            let k = get_or (slots_of e) n x in
+            let above : Item K V s = items.Directory e in
+            let some : 1 ≤ tally (SharedItem k) (held_by above) = (let named = named_at (slots_of e) n x h in let turned = tally_reverse (SharedItem k) (map SharedItem (slots_of e)) in omega (arith, named, turned)) in
+            let sh : IsShared w k = (owners_are_counted held_by).held k j (items.Directory e) hand w was some counted in
+            subst (λ (o : Option (Item K V s)). IsNoDirectory o) (sym (there k (shared_not_free w i k free sh))) (before n x h)
       ]
     where
       slots_same : (o : Option (Item K V s)) (e d : Directory K) → o ≡ Some (items.Directory e) → o ≡ Some (items.Directory d) → slots_of e ≡ slots_of d

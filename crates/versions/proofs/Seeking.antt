@@ -137,6 +137,7 @@ module _ {K V : Type 0} where
           key_named : (o : Option K) (q : Option K) → option_map Some o ≡ Some q → (k : K) × (o ≡ Some k) × (q ≡ Some k)
           key_named None q e = absurd (cc)
           key_named (Some k) q e = (k, refl, cc)
+
           pair_named : (o : Option (K × V)) (k : K) → option_map (λ p. p.0) o ≡ Some k → (p : K × V) × (o ≡ Some p) × (p.0 ≡ k)
           pair_named None k e = absurd (cc)
           pair_named (Some p) k e = (p, refl, cc)

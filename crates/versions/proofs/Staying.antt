@@ -66,8 +66,7 @@ module _ {K V : Type 0} {s : ℕ} (cmp : K → K → Ordering) where
   unfolding same_version
   seen_stays w w' q i number pairs opens opens' v seen keeps =
       let here = keeps.protects q i opens opens' seen.item in
-      let there : (k e : ℕ) → k < length (slots_of v.directory) → (value_at w' (get_or (slots_of v.directory) k e) ≡ value_at w (get_or (slots_of v.directory) k e)) × Protects w' q (get_or (slots_of v.directory) k e) = λ k e h. keeps.protects q (get_or (slots_of v.directory) k e) opens opens' (seen.segments k e h) in
-      (
+      let there : (k e : ℕ) → k < length (slots_of v.directory) → (value_at w' (get_or (slots_of v.directory) k e) ≡ value_at w (get_or (slots_of v.directory) k e)) × Protects w' q (get_or (slots_of v.directory) k e) = λ k e h. keeps.protects q (get_or (slots_of v.directory) k e) opens opens' (seen.segments k e h) in (
         same_version w w' i number pairs v here.0 (λ k e h. (there k e h).0),
         record { item = here.1; segments = λ k e h. (there k e h).1 },
       )

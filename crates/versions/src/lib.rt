@@ -30,6 +30,8 @@ mod read;
 mod segments;
 mod source;
 mod stream;
+#[cfg(test)]
+mod tests;
 mod write;
 
 pub use built::{Built, build};
@@ -40,6 +42,3 @@ pub use placing::{place, publish};
 pub use read::{len, look_up, version, version_at};
 pub use source::Source;
 pub use write::{Reply, Write};
-
-#[cfg(test)]
-mod tests;

@@ -31,8 +31,7 @@ publish-requires g c =
     let sized = ap (λ n. n.participants) c.sizes.ensures in
     let kept : cell_at c.from.new.w root ≡ cell.OfShared (Some first) tag.None = ap (λ w. cell_at w root) rooted.1 ∙ get_or-set_same c.place.new.w.cells root (cell.OfShared (Some first) tag.None) cell.Free rooted.0.0 in
     let sh = placed-first.shared in
-    let owned : IsShared c.from.new.w first = subst (λ w. IsShared w first) (sym rooted.1) (record { inside = sh.inside; owners = sh.owners; is = sh.is }) in
-    (
+    let owned : IsShared c.from.new.w first = subst (λ w. IsShared w first) (sym rooted.1) (record { inside = sh.inside; owners = sh.owners; is = sh.is }) in (
       omega arith,
       (
         omega (arith, members, one, sized),
