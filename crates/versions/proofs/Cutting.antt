@@ -13,7 +13,7 @@ use Rattle.tree_index.proofs.CopyLemmas.{upserted_behind}
 use Rattle.versions.specs.Cuts.{greatest_key, pairs_in, IsCut, IsTight, IsSeparated, OutgrowsWith}
 use Rattle.versions.specs.Cutting.{IsCutting}
 use Rattle.versions.proofs.Blocks.{pairs_in-append}
-use Rattle.versions.proofs.Filters.{rising_under, rising_rear, rising_none, all_rear}
+use Rattle.versions.proofs.Filters.{rising_under, rising_none, all_rear}
 
 none_in : {X : Type 0} (xs : List X) → length xs ≡ 0 → xs ≡ []
 none_in [] h = refl

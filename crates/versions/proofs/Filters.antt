@@ -95,10 +95,6 @@ module _ {K X : Type 0} where
     rising_front [] ys up = rising_none X cmp
     rising_front (x ∷ xs) ys up = rising_cons x xs (all_front _ xs ys (rising_head x (xs ++ ys) up)) (rising_front xs ys (rising_tail x (xs ++ ys) up))
 
-    pub rising_rear : (xs ys : List (K × X)) → IsAscending cmp (xs ++ ys) → IsAscending cmp ys
-    rising_rear [] ys up = up
-    rising_rear (x ∷ xs) ys up = rising_rear xs ys (rising_tail x (xs ++ ys) up)
-
     -- all keys but the last are below it
     pub rising_under : (xs : List (K × X)) (p : K × X) → IsAscending cmp (xs ++ p ∷ []) → AllKeys (λ y. cmp y p.0 ≡ Less) xs
     rising_under [] p up = tt

@@ -18,10 +18,6 @@ module _ {X : Type 0} where
   none_of [] h = refl
   none_of (y ∷ xs) h = cc
 
-  pub shorter : (xs : List X) (x : X) → xs ≡ x ∷ drop 1 xs → length (drop 1 xs) + 1 ≡ length xs
-  shorter [] x h = cc
-  shorter (y ∷ xs) x h = omega arith
-
   -- what is taken from the front goes to the end
   pub taken : (out more front rest whole : List X) → more ≡ out ++ front → whole ≡ front ++ rest → more ++ rest ≡ out ++ whole
   taken out more front rest whole e f = rw (e, f) (append_assoc out front rest)
