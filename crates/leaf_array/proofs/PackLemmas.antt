@@ -22,7 +22,7 @@ length-take-le zero xs le = refl
 length-take-le (suc n) [] le = absurd (omega (arith, le))
 length-take-le (suc n) (x ∷ xs) le = ap suc (length-take-le n xs (omega (arith, le)))
 
-within_some : {X : Type 0} (xs : List X) (n : ℕ) → n < length xs → IsSome (slice_get xs n)
+pub within_some : {X : Type 0} (xs : List X) (n : ℕ) → n < length xs → IsSome (slice_get xs n)
 within_some [] n lt = absurd (omega (arith, lt))
 within_some (x ∷ xs) zero lt = refl
 within_some (x ∷ xs) (suc n) lt = within_some xs n (omega (arith, lt))
@@ -64,9 +64,6 @@ module _ {K V : Type 0} where
         | true ↦ least_at cmp key ps
         | false ↦ refl
       ]
-
-  pub none_past : (xs : List (K × V)) (n : ℕ) → length xs ≤ 15 → 15 ≤ n → slice_get xs n ≡ None
-  none_past xs n h le = past_end xs n (omega (arith, h, le))
 
   -- ---- numbered anew
 

@@ -352,7 +352,7 @@ impl<K: Ord, V> Array<K, V> {
         ensures { MatchOption result (slice_get self.now.pairs at ≡ None) (λ e. slice_get self.now.pairs at ≡ Some (e.0.now, e.1.now)) }
     {
         let _ = &self.len;
-        if at < 15 { self.slots.pair(at) } else { None }
+        self.slots.pair(at)
     }
 
     /// Drops what was removed or replaced, so that all its places are clear again. A retired array takes pairs again.

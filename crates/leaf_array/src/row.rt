@@ -26,7 +26,6 @@ pub(crate) trait Row<K: Ord, V> {
 
     /// The pair of the live place `at`.
     fn pair(&self, at: usize) -> Option<(&K, &V)>
-        requires { at < length (places self.now) }
         ensures { MatchOption result (live_pair (slice_index_or (places self.now) at Empty) ≡ None) (λ e. live_pair (slice_index_or (places self.now) at Empty) ≡ Some (e.0.now, e.1.now)) };
 
     /// The first live place whose key isn't less, counted from `at`, and its pair.
@@ -136,6 +135,9 @@ impl<K: Ord, V> Row<K, V> for Last<K, V> {
 
     #[inline(always)]
     fn pair(&self, at: usize) -> Option<(&K, &V)> {
+        if at > 0 {
+            return None;
+        }
         pair_of(&self.head)
     }
 

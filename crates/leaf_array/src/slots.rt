@@ -47,7 +47,6 @@ impl<K: Ord, V> Slots<K, V> {
     /// The pair of the live place `at`.
     #[inline(always)]
     pub(crate) fn pair(&self, at: usize) -> Option<(&K, &V)>
-        requires { at < 15 }
         ensures { MatchOption result (live_pair (slice_index_or self.now at Empty) ≡ None) (λ e. live_pair (slice_index_or self.now at Empty) ≡ Some (e.0.now, e.1.now)) }
     {
         self.all.pair(at)

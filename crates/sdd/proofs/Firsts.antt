@@ -1,6 +1,7 @@
 -- the first undeleted entry of a list
-use Rattle.std.proofs.Common.{◌≡◌, ℕ, true, false, Option, None, Some, List, [], ◌∷◌, sym, ap, ◌∙◌, refl, cond}
-use Rattle.sdd_base.specs.State.{State, value_at, cell_at}
+use Rattle.std.proofs.Common.{◌≡◌, ◌≢◌, ◌<◌, IfSome, ℕ, true, false, Option, None, Some, List, [], ◌∷◌, sym, ap, ◌∙◌, refl, cond}
+use Rattle.sdd_base.specs.State.{State, value_at, status_at, cell_at}
+use Rattle.sdd_base.specs.declared.status.Status.TheVariants as status
 use Rattle.sdd_base.specs.declared.tag.Tag.{Tag}
 use Rattle.sdd_base.specs.declared.status.Cell.TheVariants as cell
 use Rattle.sdd.specs.Chain.{Entry, IsHung, IsOut, Leaves, links, slots, skip, undeleted, deleted, first_item}
@@ -36,3 +37,8 @@ skipped_slots j (e ∷ es) out = elim (deleted e.tag) as (λ v. IsOut j (slots (
 -- what is done to a list behind its deleted entries is done to the list
 pub skipped_leaves : {L : Type 0} (w w1 w2 : State L) (c : ℕ) (es : List (Entry L)) → Leaves (c ∷ links es) (slots es) w w1 → Leaves (c ∷ links (skip es)) (slots (skip es)) w1 w2 → Leaves (c ∷ links es) (slots es) w w2
 skipped_leaves w w1 w2 c es a b = leaves_then (c ∷ links es) (slots es) w w1 w2 a (leaves_more (c ∷ links (skip es)) (slots (skip es)) (c ∷ links es) (slots es) w1 w2 (λ j out. (out.0, skipped_links j es out.1)) (λ j out. skipped_slots j es out) b)
+
+-- why a cell that keeps an item gives no more owners of it
+pub none_more : {L : Type 0} (w : State L) (c : ℕ) (t : Tag) (o : Option ℕ) → cell_at w c ≡ cell.OfShared o t → ((i n : ℕ) (u : Tag) → cell_at w c ≡ cell.OfShared (Some i) u → n < 4294967295 → status_at w i ≢ status.Shared n) → IfSome o (λ i. (n : ℕ) → n < 4294967295 → status_at w i ≢ status.Shared n)
+none_more w c t None is none = tt
+none_more w c t (Some i) is none = λ n lt. none i n t is lt

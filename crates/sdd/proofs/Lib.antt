@@ -8,3 +8,8 @@ pub mod Queues
 pub mod Nodes
 pub mod Firsts
 pub mod Shares
+pub mod Rows
+pub mod Bags
+pub mod Claims
+pub mod Amounts
+pub mod Folds

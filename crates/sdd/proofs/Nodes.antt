@@ -4,13 +4,13 @@ use Rattle.std.proofs.lemmas.List.{set-set}
 use Rattle.std.proofs.lemmas.Bool.{false≢true}
 use Rattle.std.proofs.lemmas.Bool.Decides.{eqb_tells}
 use Rattle.sdd_base.specs.State.{State, value_at, cell_at, with_cell}
-use Rattle.sdd_base.specs.Place.{IsSharedCell, IsReadable}
+use Rattle.sdd_base.specs.Place.{IsSharedCell}
 use Rattle.sdd_base.specs.declared.tag.Tag.{Tag}
 use Rattle.sdd_base.specs.declared.status.Cell.{Cell}
 use Rattle.sdd_base.specs.declared.status.Cell.TheVariants as cell
 use Rattle.sdd.specs.Chain.{Entry, slots, links, IsOut, IsItem, IsHung, Leaves, first_slot, undeleted, deleted}
 use Rattle.sdd.specs.Nodes.{IsNode, IsSomeNode, IsListed, Retags, retagged, Has}
-use Rattle.sdd.proofs.Chains.{cell_left, item_left, item_readable, leaves_write, leaves_all, out_of_none, wrote_same, inside_cells, some_same, the_same, hung_out, hung_first, kept_same, rehung, some_nothing}
+use Rattle.sdd.proofs.Chains.{cell_left, item_left, leaves_write, leaves_all, out_of_none, wrote_same, inside_cells, some_same, the_same, hung_out, hung_first, kept_same, rehung, some_nothing}
 use Rattle.sdd.proofs.Releases.{out_of_one}
 
 retagged_links : {L : Type 0} (i j : ℕ) (u : Tag) (es : List (Entry L)) → IsOut j (links es) → IsOut j (links (retagged i u es))
@@ -22,9 +22,6 @@ retagged_slots i j u [] out = tt
 retagged_slots i j u (e ∷ es) out = elim (e.slot == i) as (λ v. IsOut j (slots (cond v (record e { tag = u } ∷ es) (e ∷ retagged i u es)))) [ true ↦ out | false ↦ (out.0, retagged_slots i j u es out.1) ]
 
 module _ {L : Type 0} (link : L → Option ℕ) where
-  pub node_readable : (w : State L) (o : Option ℕ) (e : Entry L) → IsNode link w o e → IsReadable w o
-  node_readable w o e n = subst (λ (p : Option ℕ). IsReadable w p) (sym n.names) (item_readable link w e n.item)
-
   -- what is read there is the entry's item
   pub node_item : (w : State L) (o : Option ℕ) (e : Entry L) (item : L) → IsNode link w o e → ((i : ℕ) → o ≡ Some i → Some item ≡ value_at w i) → link item ≡ Some e.link
   node_item w o e item n read = ap link (the_same item e.item (read e.slot n.names ∙ n.item.here)) ∙ n.item.linked
@@ -145,3 +142,8 @@ module _ {L : Type 0} (link : L → Option ℕ) (w w' : State L) (c : ℕ) (t u 
   pub retagged_first : (o : Option ℕ) → o ≡ first_slot (undeleted es) → IfSome o (λ i. IsSomeNode link w (Some i)) → true ≡ is_some o → (r : Bool) → (r ≡ true → (e : Entry L) → IsNode link w o e → Retags link w w' e u) → (r ≡ false → w' ≡ w) → Hung
   retagged_first None first n some r did kept = absurd (false≢true (sym some))
   retagged_first (Some i) first n some r did kept = retagged_by (Some i) i refl first n r did kept
+
+-- what holds of the pointer of a list that isn't null
+pub not_null : (P : Option ℕ → Type 0) (o : Option ℕ) → true ≡ is_some o → IfSome o (λ i. P (Some i)) → P o
+not_null P None some h = absurd (false≢true (sym some))
+not_null P (Some i) some h = h

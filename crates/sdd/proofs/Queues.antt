@@ -8,13 +8,13 @@ use Rattle.sdd_base.specs.declared.tag.Tag.{Tag}
 use Rattle.sdd_base.specs.declared.tag.Tag.TheVariants as tag
 use Rattle.sdd_base.specs.declared.status.Status.TheVariants as status
 use Rattle.sdd_base.specs.declared.status.Cell.TheVariants as cell
-use Rattle.sdd.specs.Chain.{Entry, slots, links, IsOut, IsItem, IsHung, IsLoose, Leaves, SameUses, skip, undeleted, deleted, first_slot}
+use Rattle.sdd.specs.Chain.{Entry, slots, links, IsOut, IsItem, IsHung, IsLoose, Leaves, SameUses, skip, undeleted, deleted, first_slot, MoreOwners}
 use Rattle.sdd.specs.Queues.{last_slot, HasTwo, IsQueue, Follows, CanFollow, vacated}
 use Rattle.sdd.specs.Stacks.{IsNew, IsMade}
 use Rattle.sdd.specs.Entries.{entry_link}
 use Rattle.sdd.specs.declared.linked_entry.LinkedEntry.{LinkedEntry}
 use Rattle.sdd.proofs.Chains.{hung_left, cell_left, item_left, leaves_then, leaves_more, leaves_all, leaves_write, out_of_none, wrote_same, wrote_other, inside_cells, inside_states, some_same, head_cell, kept_same, free_cell_out, free_slot_out}
-use Rattle.sdd.proofs.Fronts.{leaves_free, first_skipped, first_none, TookSome, popped_left, popped_gone, popped_leaves, skipped_links}
+use Rattle.sdd.proofs.Fronts.{leaves_free, first_skipped, first_none, TookSome, popped_left, popped_gone, popped_leaves, skipped_links, none_skipped}
 use Rattle.sdd.proofs.Releases.{leaves_released, spare_owner, spare_item, spare_state, out_of_one}
 
 pub two_shared : {L : Type 0} (w : State L) (i : ℕ) → HasTwo w i → IsShared w i
@@ -246,3 +246,32 @@ module _ {L : Type 0} (link : L → Option ℕ) where
         out = q.out;
         spare = λ j at. let h = q.spare j at in record { owners = h.owners; is = l.uses j (λ e. last_in es j i at out (sym e), tt) (ap vacancy h.is) ∙ h.is; two = h.two };
       }
+
+-- a queue without the deleted entries at its front, and one whose entries got more owners
+module _ {L : Type 0} (link : L → Option ℕ) (w w1 : State L) (c d : ℕ) (es : List (Entry L)) (q : IsQueue link w c d es) (l : Leaves (c ∷ links es) (slots es) w w1) where
+  kept_newest : cell_at w1 d ≡ cell.OfShared (last_slot es) tag.None
+  kept_newest = cell_left link (c ∷ links es) (slots es) w w1 d (last_slot es) tag.None l (q.apart, q.out) q.newest
+
+  skipped_by : IsHung link w1 c tag.None (skip es) → SameUses w w1 (slots (skip es)) → (xs : List (Entry L)) → skip es ≡ xs → undeleted es ≢ [] → IsQueue link w1 c d (skip es)
+  skipped_by h same [] is some = absurd (some (none_skipped es is))
+  skipped_by h same (f ∷ fs) is some =
+      let last : last_slot es ≡ last_slot (skip es) = last_skipped f fs es is ∙ ap last_slot (sym is) in
+      record {
+        hung = h;
+        newest = kept_newest ∙ ap (λ (o : Option ℕ). cell.OfShared o tag.None) last;
+        apart = q.apart;
+        out = skipped_links d es q.out;
+        spare = λ j at. let k = q.spare j (last ∙ at) in record { owners = k.owners; is = same_last w w1 j (skip es) same at ∙ k.is; two = k.two };
+      }
+
+  pub skipped_queue : IsHung link w1 c tag.None (skip es) → SameUses w w1 (slots (skip es)) → undeleted es ≢ [] → IsQueue link w1 c d (skip es)
+  skipped_queue h same some = skipped_by h same (skip es) refl some
+
+  pub owned_queue : IsHung link w1 c tag.None es → MoreOwners w w1 → IsQueue link w1 c d es
+  owned_queue h more = record {
+    hung = h;
+    newest = kept_newest;
+    apart = q.apart;
+    out = q.out;
+    spare = λ j at. let k = q.spare j at in let m = more j k.owners k.is in record { owners = m.0; is = m.1; two = let a = k.two in let b = m.2 in omega (arith, a, b) };
+  }

@@ -1,12 +1,13 @@
 -- the first entry of a list is taken off, shared and put back
-use Rattle.std.proofs.Common.{◌≡◌, ◌≢◌, ℕ, Option, Some, List, [], ◌∷◌, refl, sym, ap, ◌∙◌, subst, get_or-set_other}
+use Rattle.std.proofs.lemmas.Bool.{cases_eq}
+use Rattle.std.proofs.Common.{◌≤◌, ◌+◌, None, arith, get_or-set_same, inl, inr, ◌≡◌, ◌≢◌, ℕ, Option, List, [], ◌∷◌, refl, sym, ap, ◌∙◌, subst, get_or-set_other}
 use Rattle.sdd_base.specs.State.{State, status_at, with_status}
 use Rattle.sdd_base.specs.declared.tag.Tag.{Tag}
 use Rattle.sdd_base.specs.declared.status.Status.TheVariants as status
-use Rattle.sdd.specs.Chain.{Entry, slots, links, IsOut, IsHung, IsLoose, Leaves, Fits, CanHang, first_slot}
+use Rattle.sdd.specs.Chain.{Entry, slots, links, IsOut, IsHung, IsLoose, Leaves, Fits, CanHang, TookFirst, MoreOwners}
 use Rattle.sdd.proofs.Chains.{hung_out, leaves_then, leaves_more, leaves_all, inside_states}
 use Rattle.sdd.proofs.Releases.{item_owners, hung_owners}
-use Rattle.sdd.proofs.Fronts.{TookSome}
+use Rattle.sdd.proofs.Fronts.{TookSome, took_nothing, same_use}
 
 leaves_owners : {L : Type 0} (w : State L) (i m : ℕ) → Leaves [] (i ∷ []) w (with_status i (status.Shared m) w)
 leaves_owners w i m = record {
@@ -51,6 +52,12 @@ module _ {L : Type 0} (link : L → Option ℕ) (w w1 w2 : State L) (c i : ℕ) 
     pub shared_hung : IsHung link w3 c t es
     shared_hung = subst (λ (xs : List (Entry L)). IsHung link w3 c t xs) (sym k.is) back.0
 
+    -- no owners are lost
+    pub shared_owners : MoreOwners w1 w2 → MoreOwners w w3
+    shared_owners grow = λ j n is.
+        let b = grow j n (same_use w w1 (c ∷ k.entry.link ∷ []) j n k.leaves is) in
+        (b.0, same_use w2 w3 (c ∷ k.entry.link ∷ []) j b.0 back.1 b.1, b.2)
+
     pub shared_leaves : Leaves (c ∷ links es) (slots es) w w3
     shared_leaves =
         let inside : (j : ℕ) → IsOut j (links es) → IsOut j (links (k.entry ∷ k.rest)) = λ j out. subst (λ (ys : List (Entry L)). IsOut j (links ys)) k.is out in
@@ -60,5 +67,19 @@ module _ {L : Type 0} (link : L → Option ℕ) (w w1 w2 : State L) (c i : ℕ) 
         let three = leaves_more (c ∷ k.entry.link ∷ []) [] (c ∷ links es) (slots es) w2 w3 (λ j out. (out.0, ((inside j out.1).0, tt))) (λ j out. tt) back.1 in
         leaves_then (c ∷ links es) (slots es) w w2 w3 (leaves_then (c ∷ links es) (slots es) w w1 w2 one two) three
 
-    pub shared_slot_is : Some i ≡ first_slot es
-    shared_slot_is = ap (λ (m : ℕ). Some m) k.at ∙ ap first_slot (sym k.is)
+shared_same : (n m : ℕ) → status.Shared n ≡ status.Shared m → n ≡ m
+shared_same n m e = cc
+
+pub owners_same : {L : Type 0} (w w' : State L) → w' ≡ w → MoreOwners w w'
+owners_same {L} w w' e = λ j n is. (n, ap (λ (v : State L). status_at v j) e ∙ is, omega arith)
+
+pub owners_more : {L : Type 0} (w w' : State L) (i m : ℕ) → status_at w i ≡ status.Shared m → w' ≡ with_status i (status.Shared (m + 1)) w → MoreOwners w w'
+owners_more {L} w w' i m at e = λ j n is. elim (cases_eq j i) as (λ _. (k : ℕ) × (status_at w' j ≡ status.Shared k) × (n ≤ k)) [
+  | inl q ↦
+      let same : n ≡ m = shared_same n m (sym is ∙ ap (λ (k : ℕ). status_at w k) q ∙ at) in
+      (m + 1, ap (λ (v : State L). status_at v j) e ∙ ap (λ (k : ℕ). status_at (with_status i (status.Shared (m + 1)) w) k) q ∙ get_or-set_same w.states i (status.Shared (m + 1)) status.Free (inside_states w.states i m at), omega (arith, same))
+  | inr ne ↦ (n, ap (λ (v : State L). status_at v j) e ∙ get_or-set_other w.states i j (status.Shared (m + 1)) status.Free ne ∙ is, omega arith)
+]
+
+pub owners_none : {L : Type 0} (link : L → Option ℕ) (w w1 : State L) (c : ℕ) (t : Tag) (es : List (Entry L)) → TookFirst link w w1 c t es None → MoreOwners w w1
+owners_none link w w1 c t es k = λ j n is. (n, same_use w w1 [] j n (took_nothing link w w1 c t es k).2 is, omega arith)

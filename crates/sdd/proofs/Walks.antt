@@ -10,7 +10,7 @@ use Rattle.sdd_base.specs.declared.status.Status.TheVariants as status
 use Rattle.sdd.specs.Chain.{Entry, slots, IsOut, IsHung, Hangs, Begins, Skipped, Counted, deleted, skip, undeleted}
 
 -- slots with items, none of them twice
-abbrev AreUsed : List Status → List ℕ → Type 0
+abbrev pub AreUsed : List Status → List ℕ → Type 0
 AreUsed ss [] = Unit {0}
 AreUsed ss (i ∷ is) = (usage (get_or ss i status.Free) ≡ 1) × IsOut i is × AreUsed ss is
 
@@ -24,14 +24,14 @@ used_but ss i [] out h = tt
 used_but ss i (j ∷ js) out h = (ap usage (get_or-set_other ss i j status.Free status.Free (λ q. out.0 (sym q))) ∙ h.0, h.1, used_but ss i js out.1 h.2)
 
 -- there are at most as many as slots with items
-used_slots : (ss : List Status) (is : List ℕ) → AreUsed ss is → length is ≤ sum_by usage ss
+pub used_slots : (ss : List Status) (is : List ℕ) → AreUsed ss is → length is ≤ sum_by usage ss
 used_slots ss [] h = omega arith
 used_slots ss (i ∷ is) h =
     let less = sum_by-set usage ss i status.Free status.Free (inside_used ss i h.0) in
     let rest = used_slots (set ss i status.Free) is (used_but ss i is h.1 h.2) in
     omega (arith, less, rest, h.0)
 
-length-slots : {L : Type 0} (es : List (Entry L)) → length (slots es) ≡ length es
+pub length-slots : {L : Type 0} (es : List (Entry L)) → length (slots es) ≡ length es
 length-slots [] = refl
 length-slots (e ∷ es) = let r = length-slots es in omega (arith, r)
 
@@ -42,7 +42,7 @@ pub kept_first : {L : Type 0} (first : Entry L) (rest : List (Entry L)) → dele
 kept_first first rest e = rw e refl
 
 module _ {L : Type 0} (link : L → Option ℕ) where
-  hung_used : (w : State L) (c : ℕ) (t : Tag) (es : List (Entry L)) → IsHung link w c t es → AreUsed w.states (slots es)
+  pub hung_used : (w : State L) (c : ℕ) (t : Tag) (es : List (Entry L)) → IsHung link w c t es → AreUsed w.states (slots es)
   hung_used w c t [] h = tt
   hung_used w c t (e ∷ es) h = (ap usage h.1.shared, h.3, hung_used w e.link e.tag es h.4)
 
@@ -51,7 +51,7 @@ module _ {L : Type 0} (link : L → Option ℕ) where
   hung_length w c t es h = let r = used_slots w.states (slots es) (hung_used w c t es h) in omega (arith, r, length-slots es)
 
   -- the rest behind the first entry
-  behind : (w : State L) (c d : ℕ) (t : Tag) (item : L) (gone : Bool) (es : List (Entry L)) → IsHung link w c t es → (b : Begins es item d gone) → IsHung link w d b.first.tag b.rest
+  pub behind : (w : State L) (c d : ℕ) (t : Tag) (item : L) (gone : Bool) (es : List (Entry L)) → IsHung link w c t es → (b : Begins es item d gone) → IsHung link w d b.first.tag b.rest
   behind w c d t item gone es h b =
       let g = subst (λ (xs : List (Entry L)). IsHung link w c t xs) b.is h in
       subst (λ (j : ℕ). IsHung link w j b.first.tag b.rest) (sym b.link_is) g.4

@@ -1,5 +1,5 @@
 -- lists of entries that hang in a place, and what a change of the place leaves of them
-use Rattle.std.specs.Prelude.{◌≡◌, ◌≢◌, ℕ, Bool, true, false, Option, None, Some, List, [], ◌∷◌, cond, length, ◌+◌}
+use Rattle.std.specs.Prelude.{◌≡◌, ◌≢◌, ◌≤◌, ℕ, Bool, true, false, Option, None, Some, List, [], ◌∷◌, cond, length, ◌+◌}
 use Rattle.sdd_base.specs.Frame.{Protects}
 use Rattle.sdd_base.specs.Place.{IsOpen}
 use Rattle.sdd_base.specs.State.{State, marks_at, status_at, value_at, cell_at, vacancy, emptiness, is_used}
@@ -150,6 +150,10 @@ pub record Counted {L : Type 0} (link : L → Option ℕ) (w : State L) (es : Li
 abbrev pub SameUses : {L : Type 0} → State L → State L → List ℕ → Type 0
 SameUses w w' [] = Unit {0}
 SameUses w w' (i ∷ is) = (status_at w' i ≡ status_at w i) × SameUses w w' is
+
+-- no item with owners has fewer of them
+abbrev pub MoreOwners : {L : Type 0} → State L → State L → Type 0
+MoreOwners w w' = (i n : ℕ) → status_at w i ≡ status.Shared n → (m : ℕ) × (status_at w' i ≡ status.Shared m) × (n ≤ m)
 
 -- n entries at the front of a list were given back
 pub record Cut {L : Type 0} (link : L → Option ℕ) (w w' : State L) (c : ℕ) (t : Tag) (es : List (Entry L)) (n : ℕ) : Type 0 where

@@ -5,3 +5,5 @@ pub mod Owners
 pub mod Queues
 pub mod Nodes
 pub mod Refusals
+pub mod Bags
+pub mod Iters

@@ -1,10 +1,12 @@
 -- owners that are given back beside a list
-use Rattle.std.specs.Prelude.{◌≡◌, ℕ, ◌≤◌, Option, List, [], ◌∷◌}
+use Rattle.std.specs.Prelude.{◌≡◌, ℕ, ◌≤◌, ◌++◌, Option, List, [], ◌∷◌}
 use Rattle.sdd_base.specs.State.{State, status_at}
 use Rattle.sdd_base.specs.Steps.{released}
 use Rattle.sdd_base.specs.declared.tag.Tag.{Tag}
 use Rattle.sdd_base.specs.declared.status.Status.TheVariants as status
 use Rattle.sdd.specs.Queues.{IsQueue}
+use Rattle.sdd.specs.Bags.{IsBag}
+use Rattle.sdd.specs.declared.linked_entry.LinkedEntry.{LinkedEntry}
 use Rattle.sdd.specs.Chain.{Entry, IsHung, Leaves, AreOut, IsOut, links, slots}
 
 -- giving back one owner of several leaves every list
@@ -14,6 +16,10 @@ SpareOwners {L} link = (p i n c : ℕ) (t : Tag) (es : List (Entry L)) (w : Stat
 -- a list stays where a call leaves its cells and its items
 abbrev pub ListsStay : {L : Type 0} → (L → Option ℕ) → Type 0
 ListsStay {L} link = (cs is : List ℕ) (c : ℕ) (t : Tag) (es : List (Entry L)) (w w' : State L) → Leaves cs is w w' → IsOut c cs → AreOut (links es) cs → AreOut (slots es) is → IsHung link w c t es → IsHung link w' c t es
+
+-- a bag stays where a call leaves its cells and its items
+abbrev pub BagsStay : Type 0 → Type 0
+BagsStay T = (n : ℕ) (cs is ds : List ℕ) (ps os : List (Entry (LinkedEntry T))) (w w' : State (LinkedEntry T)) → Leaves cs is w w' → AreOut (ds ++ links (os ++ ps)) cs → AreOut (slots (os ++ ps)) is → IsBag n w ds ps os → IsBag n w' ds ps os
 
 -- giving an owner back changes no other item, and no cell
 abbrev pub ReleasesLeave : Type 0 → Type 0

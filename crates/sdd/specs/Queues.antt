@@ -44,6 +44,18 @@ pub record IsSomeQueue {L : Type 0} (link : L → Option ℕ) (w : State L) (c d
   pub entries : List (Entry L)
   pub is : IsQueue link w c d entries
 
+-- some queue with an undeleted entry hangs from the cells
+pub record HasOldest {L : Type 0} (link : L → Option ℕ) (w : State L) (c d : ℕ) : Type 0 where
+  pub entries : List (Entry L)
+  pub is : IsQueue link w c d entries
+  pub some : undeleted entries ≢ []
+
+-- a queue has the same undeleted entries
+pub record KeepsQueue {L : Type 0} (link : L → Option ℕ) (w' : State L) (c d : ℕ) (es : List (Entry L)) : Type 0 where
+  pub rest : List (Entry L)
+  pub same : undeleted rest ≡ undeleted es
+  pub left : IsQueue link w' c d rest
+
 -- an entry can come behind the last one of a queue
 pub record Follows {L : Type 0} (c d : ℕ) (es : List (Entry L)) (e : Entry L) : Type 0 where
   pub oldest : e.link ≢ c

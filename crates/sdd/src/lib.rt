@@ -1,4 +1,4 @@
-//! Linked lists, queues and stacks of items of a place, each value in an entry of its own.
+//! Linked lists, queues, stacks and bags of items of a place, each value in an entry of its own.
 //!
 //! The calls over a place of one thread stand in [`world`]: `Type::call` of a container is `world::type::call`, with the
 //! world first. Clauses see a list as its [`Entry`](linked_entry::LinkedEntry)s in order, each with its slot, the cell
@@ -7,16 +7,22 @@
 //!
 //! What one call changes of a place is its clause `leaves`: the cells and the items of its own list, and no other. So
 //! containers beside each other stay as they are ([`laws::lists_stay`]). Owners that a call gives can be given back by
-//! [`laws::spare_owners`], [`laws::spare_queue_owners`] and [`laws::releases_leave`].
+//! [`laws::spare_owners`], [`laws::spare_queue_owners`], [`laws::bags_stay`] and [`laws::releases_leave`].
 //!
-//! Not there yet: bags; iterators; `clone` and `from_iter`; `LinkedList::push_back` and `next_shared`; conditions of a
-//! queue's `push` and `pop`; `as_mut`, `clone` and equality of an entry. A deleted entry stays linked until it is passed
-//! at the front of its list, since `next_ptr` only reads. No clause says what an opening guard leaves of a list: open
-//! guards before a container is made, or show that the list stays by the laws of the place.
+//! A bag is two multisets, each as a list in some order: clauses say which entry is added or taken.
+//!
+//! Not there yet: `clone`, `from_iter` and `iter_mut` of the containers; `LinkedList::push_back`; `as_mut` and `clone` of
+//! an entry. A deleted entry stays linked until it is passed at the front of its list, since `next_ptr` only reads. No
+//! clause says what an opening guard leaves of a list: open guards before a container is made, or show that the list
+//! stays by the laws of the place.
 #![tactic(auto)]
 
 pub use sdd_base;
 
+pub mod bag;
+#[cfg(test)]
+mod bag_tests;
+pub mod iter;
 pub mod laws;
 pub mod linked_entry;
 pub mod linked_list;
@@ -27,4 +33,6 @@ pub mod refusal;
 pub mod stack;
 #[cfg(test)]
 mod tests;
+#[cfg(test)]
+mod walk_tests;
 pub mod world;

@@ -6,6 +6,8 @@ ghost use Rattle.sdd.specs.Entries.{entry_value, entry_link};
 use crate::linked_list::LinkedList;
 use sdd_base::cell::AtomicShared;
 use sdd_base::holds::{Held, Holds};
+use std::fmt;
+use std::fmt::{Debug, Display};
 
 /// A value with a link to the next entry. It must be spent, as its link.
 pub struct LinkedEntry<T> {
@@ -52,5 +54,50 @@ impl<T: Drop> Holds for LinkedEntry<T> {
             Some(_) => unreachable!(),
             None => drop(instance),
         }
+    }
+}
+
+/// Entries are equal where their values are.
+impl<T: PartialEq> PartialEq for LinkedEntry<T> {
+    ghost use Rattle.sdd.specs.Entries.{entry_value};
+    ghost use Rattle.std.specs.Cmp.{on_per};
+
+    ghost eq = { λ x y. T.eq (entry_value x) (entry_value y) };
+
+    ghost laws = { on_per entry_value T.laws };
+
+    fn eq(&self, other: &LinkedEntry<T>) -> bool {
+        self.instance == other.instance
+    }
+}
+
+impl<T: Eq> Eq for LinkedEntry<T> {
+    ghost use Rattle.sdd.specs.Entries.{entry_value};
+    ghost use Rattle.std.specs.Cmp.{on_equiv};
+
+    ghost laws = { on_equiv entry_value T.Eq.laws };
+}
+
+/// Writes the text of the value.
+impl<T: Display> Display for LinkedEntry<T> {
+    ghost use Rattle.sdd.specs.Entries.{entry_value};
+
+    ghost output = { λ e. T.output (entry_value e) };
+
+    ghost styled_output = { λ e. T.styled_output (entry_value e) };
+
+    fn fmt<W: fmt::Write>(&self, f: &mut fmt::Formatter<W>) -> fmt::Result {
+        Display::fmt(&self.instance, f)
+    }
+}
+
+/// Writes the text of the value.
+impl<T: Debug> Debug for LinkedEntry<T> {
+    ghost use Rattle.sdd.specs.Entries.{entry_value};
+
+    ghost debug_output = { λ e. T.debug_output (entry_value e) };
+
+    fn fmt<W: fmt::Write>(&self, f: &mut fmt::Formatter<W>) -> fmt::Result {
+        Debug::fmt(&self.instance, f)
     }
 }

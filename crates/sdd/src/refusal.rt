@@ -8,3 +8,12 @@ pub enum PushRefused<T> {
     /// No slot or no cell is free.
     NoSlot(T),
 }
+
+/// Why a bag wasn't made, or an entry wasn't copied.
+#[derive(Clone, Copy, Debug, PartialEq, Eq)]
+pub enum NotMade {
+    /// There is no memory for it.
+    Memory,
+    /// Too few cells are free.
+    NoSlot,
+}

@@ -113,7 +113,11 @@ pub(crate) fn take(w: &mut World<LinkedEntry<u64>>, queue: &Queue<u64>) -> Optio
 }
 
 /// Deletes the first undeleted entry, which stays linked.
-fn delete(w: &mut World<LinkedEntry<u64>>, stack: &Stack<u64>, guard: &WorldGuard) -> bool
+pub(crate) fn delete(
+    w: &mut World<LinkedEntry<u64>>,
+    stack: &Stack<u64>,
+    guard: &WorldGuard,
+) -> bool
     requires member { 0 < length w.old.members }
     requires list { IsSomeStack w.old (stack_cell stack.now) }
     ensures member { 0 < length w.new.members }

@@ -1,9 +1,13 @@
 //! The calls over a `World`.
 
+pub mod bag;
 mod chain;
 mod entries;
+pub mod into_iter;
+pub mod iter;
 pub mod linked_entry;
 pub mod linked_list;
 pub mod queue;
+mod row;
 pub mod stack;
 mod tail;

@@ -54,7 +54,7 @@ vacated_idle status.Idle e = cc
 vacated_idle status.Deferred e = cc
 
 -- what was plain is plain, or what is set is
-plain_after : (ss : List Status) (i j : ℕ) (s : Status) → (is_plain (get_or ss i status.Free) ≡ true → is_plain s ≡ true) → is_plain (get_or ss j status.Free) ≡ true → is_plain (get_or (set ss i s) j status.Free) ≡ true
+pub plain_after : (ss : List Status) (i j : ℕ) (s : Status) → (is_plain (get_or ss i status.Free) ≡ true → is_plain s ≡ true) → is_plain (get_or ss j status.Free) ≡ true → is_plain (get_or (set ss i s) j status.Free) ≡ true
 plain_after [] i j s new e = e
 plain_after (x ∷ ss) zero zero s new e = new e
 plain_after (x ∷ ss) zero (suc j) s new e = e

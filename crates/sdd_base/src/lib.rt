@@ -16,6 +16,8 @@ pub mod holds;
 #[cfg(test)]
 mod in_place;
 pub mod job;
+#[cfg(test)]
+mod kept_tests;
 pub mod laws;
 pub mod lender;
 pub mod link;

@@ -1,6 +1,6 @@
 -- Places in the leaves of a tree, as ranks.
-use Rattle.std.proofs.Common.{◌≡◌, ℕ, zero, suc, ◌+◌, ◌-◌, ◌<◌, List, [], ◌∷◌, ◌++◌, length, refl, ap, ◌∙◌, arith}
-use Rattle.std.specs.Prelude.{◌==◌, slice_get, IsSome, false}
+use Rattle.std.proofs.Common.{◌≡◌, ℕ, ◌+◌, ◌-◌, List, ◌++◌, ap, ◌∙◌, arith}
+use Rattle.std.specs.Prelude.{◌==◌, slice_get, false}
 use Rattle.std.proofs.lemmas.Grind.{common_steps}
 use Rattle.tree_index.specs.declared.walk.Spot.{Spot}
 use Rattle.tree_index.specs.declared.arenas.Arenas.{Arenas}
@@ -17,11 +17,6 @@ module _ {K V : Type 0} where
       let away : (n + 1 == 0) ≡ false = grind (arith, common_steps) in
       let back : n + 1 - 1 ≡ n = omega arith in
       rw away (ap (slice_get ps) back)
-
-  pub there_within : (n : ℕ) (ps : List (K × V)) → n < length ps → IsSome (slice_get ps n)
-  there_within n [] h = absurd (omega (arith, h))
-  there_within zero (p ∷ ps) h = refl
-  there_within (suc n) (p ∷ ps) h = there_within n ps (omega (arith, h))
 
   -- the pairs of the leaf of a place stand within those of the tree
   pub spot_part : (a : Arenas K V) (spot : Spot K V) → IsSpot a spot → IsPart spot.leaf.now.array.pairs (pairs_of a)

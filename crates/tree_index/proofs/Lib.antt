@@ -25,3 +25,4 @@ pub mod RemovalLemmas
 pub mod DepthLemmas
 pub mod LeafArenaLemmas
 pub mod LeafCursorLemmas
+pub mod StandingLemmas

@@ -168,3 +168,7 @@ if_none (Some x) f p = tt
 pub if_some : {X : Type 0} {P Q : X → Type 0} (r : Option X) → ((x : X) → P x → Q x) → IfSome r P → IfSome r Q
 if_some None f p = tt
 if_some (Some x) f p = f x p
+
+pub if_both : {X : Type 0} {P Q R : X → Type 0} (r : Option X) → ((x : X) → P x → Q x → R x) → IfSome r P → IfSome r Q → IfSome r R
+if_both None f p q = tt
+if_both (Some x) f p q = f x p q

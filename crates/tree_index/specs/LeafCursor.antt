@@ -3,10 +3,6 @@ use Rattle.std.specs.Prelude.{◌≡◌, refl, ℕ, ◌+◌, ◌-◌, ◌==◌, 
 use Rattle.std.specs.Borrow.{Bor}
 use Rattle.std.specs.Coded.{Coded, code_by, coded×, coded_ℕ, coded_list}
 use Rattle.tree_index.specs.Cursor.{referred}
-use Rattle.tree_index.specs.declared.arenas.Arenas.{Arenas}
-use Rattle.tree_index.specs.declared.walk.Spot.{Spot}
-use Rattle.tree_index.specs.Content.{pairs_of}
-use Rattle.tree_index.specs.Walk.{position}
 use Rattle.tree_index.specs.declared.leaf.stand.Stand.{Stand}
 
 -- a list stands as a whole within another one
@@ -59,13 +55,3 @@ module _ {K V : Type 0} where
   -- a cursor goes to the rank that it seeks and gives its pair, or stays where there is none
   abbrev pub MovesTo : (LeafCursor K V → Option ℕ) → LeafCursor K V → Option (Bor K × Bor V) → LeafCursor K V → Type 0
   MovesTo seek c answer d = MatchOption (seek c) ((answer ≡ None) × (d ≡ c)) (λ n. (referred answer ≡ ranked n c.pairs) × (d ≡ record c { rank = n }))
-
-  -- the place behind n pairs, if there is a pair
-  abbrev pub IsFirstSpot : Arenas K V → ℕ → Option (Spot K V) → Type 0
-  IsFirstSpot a n None = n ≡ length (pairs_of a)
-  IsFirstSpot a n (Some s) = position a s ≡ n
-
-  -- the place of the last of the first n pairs, if there is one
-  abbrev pub IsLastSpot : Arenas K V → ℕ → Option (Spot K V) → Type 0
-  IsLastSpot a n None = n ≡ 0
-  IsLastSpot a n (Some s) = position a s + 1 ≡ n

@@ -7,6 +7,8 @@ pub mod Walk
 pub mod Cursor
 pub mod Ends
 pub mod LeafCursor
+pub mod Standing
+pub mod Nodes
 pub mod Proximity
 pub use Rattle.leaf_array.specs.Pairs
 pub use Rattle.leaf_array.specs.Edits

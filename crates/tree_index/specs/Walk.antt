@@ -58,3 +58,13 @@ module _ {K V : Type 0} where
     pub all : leaves_of a ≡ fore ++ rear
     pub first : next ≡ first_or None rear
     pub keys : AllKeys P (gathered (held a) fore)
+
+  -- the place behind n pairs, if there is a pair
+  abbrev pub IsFirstSpot : Arenas K V → ℕ → Option (Spot K V) → Type 0
+  IsFirstSpot a n None = n ≡ length (pairs_of a)
+  IsFirstSpot a n (Some s) = position a s ≡ n
+
+  -- the place of the last of the first n pairs, if there is one
+  abbrev pub IsLastSpot : Arenas K V → ℕ → Option (Spot K V) → Type 0
+  IsLastSpot a n None = n ≡ 0
+  IsLastSpot a n (Some s) = position a s + 1 ≡ n

@@ -96,6 +96,7 @@ impl<K: Ord, V> Arenas<K, V> {
         ensures back { IfSome (given_back result) (λ p. p ≡ (key, val)) }
         ensures kept { IsSome (given_back result) → pairs_of self.new ≡ pairs_of self.old }
         ensures full { IsFull result → HasRoom K.cmp key self.old → ⊥ }
+        ensures absent { IsFull result → UPSERT ≡ false → has_key K.cmp key (pairs_of self.old) ≡ false }
         ensures duplicate { IsDuplicate result → has_key K.cmp key (pairs_of self.old) ≡ true }
         ensures repeated { IsDuplicate result → UPSERT ≡ false }
         ensures unique { IsSuccess result → UPSERT ≡ false → has_key K.cmp key (pairs_of self.old) ≡ false }
@@ -145,7 +146,7 @@ impl<K: Ord, V> Arenas<K, V> {
         }
     }
 
-    /// The same where the leaf on the way has no room.
+    /// The same where the leaf on the way has no room, and where no pair may be replaced none has the key.
     #[cold]
     #[inline(never)]
     fn put_full<const UPSERT: bool>(&mut self, key: K, val: V) -> InsertResult<K, V>
@@ -156,6 +157,7 @@ impl<K: Ord, V> Arenas<K, V> {
         requires countable { self.old.len + 1 < 2 ^ 64 }
         requires clones { ClonesAreSame K.is_clone }
         requires full { HasRoom K.cmp key self.old → ⊥ }
+        requires absent { UPSERT ≡ false → has_key K.cmp key (pairs_of self.old) ≡ false }
         ensures sound { IsSound K.cmp self.new }
         ensures back { IfSome (given_back result) (λ p. p ≡ (key, val)) }
         ensures kept { IsSome (given_back result) → pairs_of self.new ≡ pairs_of self.old }
@@ -167,9 +169,6 @@ impl<K: Ord, V> Arenas<K, V> {
         ensures ascents { IsSome (given_back result) → ascents K.cmp self.new ≡ ascents K.cmp self.old }
         ensures ascending { IsSuccess result → IsAbove K.cmp key (pairs_of self.old) → ascents K.cmp self.old ≤ ascents K.cmp self.new + 1 }
     {
-        if !UPSERT && self.contains(&key) {
-            return InsertResult::Duplicate(key, val);
-        }
         match self.make_room(&key) {
             Ok(()) => self.insert::<UPSERT>(key, val),
             Err(_) => InsertResult::Full(key, val),

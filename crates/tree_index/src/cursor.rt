@@ -1,11 +1,13 @@
 //! A cursor: two ends that go along the pairs of a tree, one forward and one backward.
 
-ghost use Rattle.std.specs.Prelude.{◌≡◌, Some, None};
+ghost use Rattle.std.specs.Prelude.{◌≡◌, IfSome, Some, None, cond, nat_lt, slice_get};
+ghost use Rattle.std.specs.declared.ops.Bound.{Bound};
 ghost use Rattle.std.specs.Range.Bound.{bound_map};
 ghost use Rattle.tree_index.specs.Content.{pairs_of, IsSound};
 ghost use Rattle.tree_index.specs.Cursor.{forth, back, lies_before, pair_at, kept_below, kept_above, moved_forth, moved_back, next_of, next_back_of, shown, shown_back, can_turn, turned, referred};
-ghost use Rattle.tree_index.specs.declared.cursor.End.TheVariants.{Unopened};
+ghost use Rattle.tree_index.specs.declared.cursor.End.TheVariants.{Unopened, At};
 ghost use Rattle.tree_index.specs.Ends.{IsEnd, IsReady, place_of, cursor_of};
+ghost use Rattle.tree_index.specs.Walk.{position, IsSpot};
 
 use crate::arenas::Arenas;
 use crate::walk::Spot;
@@ -56,11 +58,15 @@ impl<'t, K: Ord, V> Ends<'t, K, V> {
         ensures moved { cursor_of self.new (bound_map (λ k. k.now) lower.entry) (bound_map (λ k. k.now) upper.entry) ≡ moved_forth K.cmp (cursor_of self.old (bound_map (λ k. k.now) lower.entry) (bound_map (λ k. k.now) upper.entry)) }
         ensures answer { referred result ≡ next_of K.cmp (cursor_of self.old (bound_map (λ k. k.now) lower.entry) (bound_map (λ k. k.now) upper.entry)) }
     {
+        // Most steps stay in their leaf: there one look at the place says whether a pair is there and finds it.
+        if let Some((spot, pair)) = self.beside() {
+            self.forward = End::At(spot);
+            return self.arenas.given(spot, pair, self.backward, upper);
+        }
         self.forward = self.forth(lower);
-        if self.arenas.lies_before(self.forward, self.backward) {
-            self.arenas.shown(self.forward, upper)
-        } else {
-            None
+        match self.forward {
+            End::At(spot) => self.arenas.given(spot, spot.pair(), self.backward, upper),
+            _ => None,
         }
     }
 
@@ -130,6 +136,20 @@ impl<'t, K: Ord, V> Ends<'t, K, V> {
         }
     }
 
+    /// Where the forward end goes and the pair there, if it stays in its leaf.
+    #[inline(always)]
+    fn beside(&self) -> Option<(Spot<'t, K, V>, (&'t K, &'t V))>
+        requires { IsReady K.cmp self.now }
+        ensures end { IfSome result (λ n. IsEnd self.now.arenas.now (At n.0)) }
+        ensures place { IfSome result (λ n. (lower : Bound K) → place_of self.now.arenas.now (At n.0) ≡ forth K.cmp lower (pairs_of self.now.arenas.now) (place_of self.now.arenas.now self.now.forward)) }
+        ensures pair { IfSome result (λ n. slice_get n.0.leaf.now.array.pairs n.0.place ≡ Some (n.1.0.now, n.1.1.now)) }
+    {
+        match self.forward {
+            End::At(spot) => self.arenas.beside(spot),
+            _ => None,
+        }
+    }
+
     /// Where the forward end goes.
     #[inline(always)]
     fn forth(&self, lower: Bound<&'t K>) -> End<Spot<'t, K, V>>
@@ -172,6 +192,68 @@ impl<'t, K: Ord, V> Ends<'t, K, V> {
 }
 
 impl<K: Ord, V> Arenas<K, V> {
+    /// The pair of a place, if it lies within the upper bound and before a backward end.
+    #[inline(always)]
+    fn given<'t>(
+        &'t self,
+        spot: Spot<'t, K, V>,
+        own: (&'t K, &'t V),
+        backward: End<Spot<'t, K, V>>,
+        upper: Bound<&'t K>,
+    ) -> Option<(&'t K, &'t V)>
+        requires sound { IsSound K.cmp self.now }
+        requires spot { IsSpot self.now spot }
+        requires backward { IsEnd self.now backward }
+        requires own { slice_get spot.leaf.now.array.pairs spot.place ≡ Some (own.0.now, own.1.now) }
+        ensures { referred result ≡ cond (lies_before (At (position self.now spot.entry)) (place_of self.now backward.entry)) (kept_below K.cmp (bound_map (λ k. k.now) upper.entry) (slice_get (pairs_of self.now) (position self.now spot.entry))) None }
+    {
+        if self.precedes(spot, own, backward) {
+            below(own, upper)
+        } else {
+            None
+        }
+    }
+
+    /// Whether a place lies before a backward end, as far as that stands at a pair.
+    #[inline(always)]
+    fn precedes<'t>(
+        &'t self,
+        spot: Spot<'t, K, V>,
+        own: (&'t K, &'t V),
+        backward: End<Spot<'t, K, V>>,
+    ) -> bool
+        requires sound { IsSound K.cmp self.now }
+        requires spot { IsSpot self.now spot }
+        requires backward { IsEnd self.now backward }
+        requires own { slice_get spot.leaf.now.array.pairs spot.place ≡ Some (own.0.now, own.1.now) }
+        ensures { result ≡ lies_before (At (position self.now spot.entry)) (place_of self.now backward.entry) }
+    {
+        match backward {
+            End::Unopened => true,
+            End::At(other) => self.comes_first(spot, own, other),
+            End::Done => false,
+        }
+    }
+
+    /// Whether a place lies before another.
+    // Out of line: most cursors have one end alone.
+    #[inline(never)]
+    fn comes_first<'t>(
+        &'t self,
+        spot: Spot<'t, K, V>,
+        own: (&'t K, &'t V),
+        other: Spot<'t, K, V>,
+    ) -> bool
+        requires sound { IsSound K.cmp self.now }
+        requires spot { IsSpot self.now spot }
+        requires other { IsSpot self.now other }
+        requires own { slice_get spot.leaf.now.array.pairs spot.place ≡ Some (own.0.now, own.1.now) }
+        ensures { result ≡ nat_lt (position self.now spot.entry) (position self.now other.entry) }
+    {
+        let _ = spot;
+        own.0.cmp(other.pair().0).is_lt()
+    }
+
     /// Whether one end lies before another, as far as both stand at pairs.
     #[inline(always)]
     fn lies_before(&self, a: End<Spot<'_, K, V>>, b: End<Spot<'_, K, V>>) -> bool

@@ -1,6 +1,6 @@
 //! The tree as users see it.
 
-ghost use Rattle.std.specs.Prelude.{◌≡◌, ◌≤◌, ◌<◌, ◌^◌, ◌+◌, ◌==◌, IfSome, IfErr, OnOk, OnErr, IsOk, IfOk, MatchOption, [], Some, None, true, false, not, length, option_copied};
+ghost use Rattle.std.specs.Prelude.{◌≡◌, ◌≤◌, ◌<◌, ◌^◌, ◌+◌, ◌==◌, ◌↔◌, IsTrue, IsSome, IfSome, IfErr, OnOk, OnErr, IsOk, IfOk, MatchOption, [], Some, None, true, false, not, length, option_copied};
 ghost use Rattle.std.specs.BTreeMap.{is_at};
 ghost use Rattle.std.specs.Map.{lookup_entry};
 ghost use Rattle.std.specs.Fn.{FnOnceReturnsAt};
@@ -12,6 +12,7 @@ ghost use Rattle.leaf_array.specs.Values.{ClonesAreSame};
 ghost use Rattle.std.specs.Range.Bound.{bound_map};
 ghost use Rattle.tree_index.specs.declared.cursor.End.TheVariants.{Unopened};
 ghost use Rattle.tree_index.specs.Cursor.{whole};
+ghost use Rattle.tree_index.specs.Nodes.{is_internal, pairs_in};
 ghost use Rattle.tree_index.specs.Proximity.{IsLocated};
 ghost use Rattle.tree_index.specs.Depth.{IsAbove};
 ghost use Rattle.tree_index.specs.Tree.{IsDuplicate, given_back};
@@ -19,6 +20,7 @@ ghost use Rattle.tree_index.specs.Tree.{IsDuplicate, given_back};
 use crate::arenas::Arenas;
 use crate::cursor::Ends;
 use crate::iter::Iter;
+use crate::node::{Node, Standing};
 use crate::proximity::Proximity;
 use crate::range::Range;
 use leaf_array::InsertResult;
@@ -244,6 +246,23 @@ impl<K: Ord, V> TreeIndex<K, V> {
             lower,
             upper,
         }
+    }
+
+    /// The root node, if there is one: none while nothing was inserted since the tree was new or cleared.
+    pub fn root(&self) -> Option<Node<'_, K, V>>
+        ensures planted { IsSome result ↔ (0 < self.now.depth) }
+        ensures pairs { IfSome result (λ n. pairs_in n ≡ self.now.pairs) }
+        ensures kind { IfSome result (λ n. IsTrue (is_internal n) ↔ (1 < self.now.depth)) }
+    {
+        let arenas = &self.arenas;
+        if arenas.height == 0 {
+            return None;
+        }
+        Some(Node::over(Standing {
+            arenas,
+            at: arenas.root,
+            height: arenas.height,
+        }))
     }
 
     /// Where a key stands: at its pair, or between its neighbours, with a cursor there. It goes down once.

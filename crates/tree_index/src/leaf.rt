@@ -79,6 +79,7 @@ impl<K: Ord, V> Leaf<K, V> {
         ensures back { IfSome (given_back result) (λ p. p ≡ (key, val)) }
         ensures kept { IsSome (given_back result) → self.new.array ≡ self.old.array }
         ensures full { IsFull result → IsTrue (self.old.array.retired || self.old.array.used == 15) }
+        ensures absent { IsFull result → UPSERT ≡ false → has_key K.cmp key self.old.array.pairs ≡ false }
         ensures duplicate { IsDuplicate result → has_key K.cmp key self.old.array.pairs ≡ true }
         ensures repeated { IsDuplicate result → UPSERT ≡ false }
         ensures unique { IsSuccess result → UPSERT ≡ false → has_key K.cmp key self.old.array.pairs ≡ false }

@@ -28,7 +28,9 @@ mod iter;
 pub mod leaf;
 #[cfg(test)]
 mod leaf_tests;
-mod node;
+pub mod node;
+#[cfg(test)]
+mod node_tests;
 mod proximity;
 mod range;
 #[cfg(test)]
@@ -43,5 +45,6 @@ mod walk;
 
 pub use index::{InsertRefused, TreeIndex};
 pub use iter::Iter;
+pub use node::{InternalNode, LeafNode, Node};
 pub use proximity::Proximity;
 pub use range::Range;

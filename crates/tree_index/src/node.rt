@@ -1,16 +1,88 @@
-//! The inner nodes of the tree.
+//! The inner nodes of the tree: as they stand in their arena, and as a tree lends them.
+//!
+//! ```
+//! // of a tree with the pairs (1, "one") and (2, "two")
+//! if let Some(root) = tree.root() {
+//!     root.read_entry(&2, |_, name| *name); // Some("two")
+//!     root.read_entry(&3, |_, name| *name); // None
+//! }
+//! ```
 
-ghost use Rattle.std.specs.Prelude.{◌≡◌, ◌<◌, ◌≤◌, ◌==◌, ◌++◌, ◌∷◌, None};
+ghost use Rattle.std.specs.Prelude.{◌≡◌, ◌≢◌, ◌<◌, ◌≤◌, ◌==◌, ◌++◌, ◌∷◌, ◌↔◌, IsTrue, MatchOption, Some, None};
 ghost use Rattle.std.specs.BTreeMap.{is_at, insert_entry};
-ghost use Rattle.std.specs.Map.{lookup};
+ghost use Rattle.std.specs.Map.{lookup, lookup_entry};
+ghost use Rattle.tree_index.specs.LeafCursor.{IsPart};
+ghost use Rattle.tree_index.specs.Nodes.{is_internal, pairs_in};
+ghost use Rattle.tree_index.specs.Standing.{pairs_below, IsStanding};
 ghost use Rattle.tree_index.specs.Shape.{child_for, first_child, IsNode};
 
 use leaf_array::{Array, InsertResult};
 
+mod internal_node;
+mod leaf_node;
+mod standing;
+
+pub use internal_node::InternalNode;
+pub use leaf_node::LeafNode;
+pub(crate) use standing::Standing;
+
+/// A node of a tree, lent by the tree. (`scc`'s `tree_index::node::Node`.)
+///
+/// [`TreeIndex::root`](crate::TreeIndex::root) lends the first one, and each its children. While a node is
+/// held the tree can't change.
+#[derive(Drop)]
+pub enum Node<'t, K: Ord, V> {
+    /// Its children are nodes.
+    Internal(InternalNode<'t, K, V>),
+    /// Its children are leaves.
+    Leaf(LeafNode<'t, K, V>),
+}
+
+impl<'t, K: Ord, V> Node<'t, K, V> {
+    /// The node that stands at a number.
+    pub(crate) fn over(standing: Standing<'t, K, V>) -> Self
+        requires stands { IsStanding K.cmp standing }
+        requires node { standing.height ≢ 0 }
+        ensures pairs { pairs_in result ≡ pairs_below standing.entry }
+        ensures kind { IsTrue (is_internal result) ↔ (1 < standing.entry.height) }
+    {
+        if standing.height > 1 {
+            Node::Internal(InternalNode { standing })
+        } else {
+            Node::Leaf(LeafNode { standing })
+        }
+    }
+
+    /// Calls `f` on the pair with this key, once, and gives what it answers, if the key is under this node.
+    /// Else `f` isn't called.
+    pub fn read_entry<R, F: FnOnce(&K, &V) -> R>(&self, key: &K, f: F) -> Option<R>
+    where
+        F: Drop,
+        requires { F.IsAlwaysCallable f }
+        ensures { MatchOption result (lookup_entry (is_at (K.cmp key.now)) (pairs_in self.now) ≡ None) (λ r. (k : _) × (v : _) × (lookup_entry (is_at (K.cmp key.now)) (pairs_in self.now) ≡ Some (k.now, v.now)) × F.post f k v r) }
+    {
+        match self {
+            Node::Internal(node) => node.read_entry(key, f),
+            Node::Leaf(node) => node.read_entry(key, f),
+        }
+    }
+}
+
+// Here and not beside the struct, since its clauses name the enum that holds the struct.
+impl<'t, K: Ord, V> InternalNode<'t, K, V> {
+    /// The child on the way to a key: if a pair under this node has the key, it is under that child.
+    pub fn child(&self, key: &K) -> Node<'t, K, V>
+        ensures found { lookup_entry (is_at (K.cmp key.now)) self.now ≡ lookup_entry (is_at (K.cmp key.now)) (pairs_in result) }
+        ensures part { IsPart (pairs_in result) self.now }
+    {
+        Node::over(self.standing.child(key))
+    }
+}
+
 /// At most fifteen children with their separators, the greatest keys that they may hold, and one
 /// child behind them. All are named by their numbers.
 #[derive(Drop)]
-pub struct Branches<K: Ord> {
+pub(crate) struct Branches<K: Ord> {
     pub(crate) children: Array<K, usize>,
     pub(crate) last: usize,
 }

@@ -6,7 +6,8 @@ ghost use Rattle.leaf_array.specs.Values.{ClonesAreSame};
 ghost use Rattle.slab.specs.Slab.{get, HasRoomFor, slab_len};
 ghost use Rattle.tree_index.specs.Chain.{links, linked_in};
 ghost use Rattle.tree_index.specs.Depth.{IsAbove, ascents};
-ghost use Rattle.tree_index.specs.Content.{pairs_of, IsSound, HasRoom, NodeHasRoom, IsNodeFull, IsLeafFull, IsCutThere, AreSameArrays, leaf_on_way};
+ghost use Rattle.tree_index.specs.Shape.{way};
+ghost use Rattle.tree_index.specs.Content.{content_of, pairs_of, IsSound, HasRoom, NodeHasRoom, IsNodeFull, IsLeafFull, IsCutThere, AreSameArrays, leaf_on_way};
 
 use crate::arenas::Arenas;
 use crate::leaf::{Cut, Leaf};
@@ -40,17 +41,18 @@ impl<K: Ord, V> Arenas<K, V> {
         if self.height == 0 {
             return self.plant(key);
         }
-        if !self.is_crowded(key) {
-            self.pack(key);
+        let at = self.leaf_of(key);
+        if !self.is_crowded(at, key) {
+            self.pack(at, key);
             return Ok(());
         }
-        let cut = self.cut(key)?;
+        let cut = self.cut(at, key)?;
         self.leaves.reserve(1)?;
         self.nodes.reserve(1)?;
         let _ = self.nodes.capacity();
         self.nodes.reserve(self.height + 1)?;
-        self.split_nodes(key);
-        self.split_leaf(key, cut);
+        let above = self.split_nodes(key);
+        self.split_leaf(above, at, key, cut);
         Ok(())
     }
 
@@ -85,25 +87,28 @@ impl<K: Ord, V> Arenas<K, V> {
     }
 
     /// Whether the leaf on the way to a key has so many pairs that it is to be split.
-    fn is_crowded(&self, key: &K) -> bool
+    fn is_crowded(&self, at: usize, key: &K) -> bool
         requires sound { IsSound K.cmp self.now }
         requires planted { self.now.height ≢ 0 }
+        requires on { at ≡ leaf_on_way K.cmp key.now self.now }
         ensures crowded { IfSome (get self.now.leaves (leaf_on_way K.cmp key.now self.now)) (λ l. result ≡ not (nat_lt (length l.array.pairs) 12)) }
         ensures full { result ≡ true → (HasRoom K.cmp key.now self.now → ⊥) → IsLeafFull K.cmp key.now self.now }
     {
-        match self.leaves.get(self.leaf_of(key)) {
+        let _ = key;
+        match self.leaves.get(at) {
             Some(leaf) => leaf.len() >= CROWDED,
             None => unreachable!(),
         }
     }
 
     /// Packs the leaf on the way to a key.
-    fn pack(&mut self, key: &K)
+    fn pack(&mut self, at: usize, key: &K)
     where
         K: Drop,
         V: Drop,
         requires sound { IsSound K.cmp self.old }
         requires planted { self.old.height ≢ 0 }
+        requires on { at ≡ leaf_on_way K.cmp key.now self.old }
         requires sparse { IfSome (get self.old.leaves (leaf_on_way K.cmp key.now self.old)) (λ l. length l.array.pairs < 12) }
         ensures sound { IsSound K.cmp self.new }
         ensures pairs { pairs_of self.new ≡ pairs_of self.old }
@@ -111,7 +116,7 @@ impl<K: Ord, V> Arenas<K, V> {
         ensures height { self.new.height ≡ self.old.height }
         ensures ascending { ascents K.cmp self.old ≤ ascents K.cmp self.new }
     {
-        let at = self.leaf_of(key);
+        let _ = key;
         match self.leaves.get_mut(at) {
             Some(leaf) => {
                 let _ = leaf.len();
@@ -122,37 +127,42 @@ impl<K: Ord, V> Arenas<K, V> {
     }
 
     /// Where the leaf on the way to a key is cut.
-    fn cut(&self, key: &K) -> Result<Cut<K>, AllocError>
+    fn cut(&self, at: usize, key: &K) -> Result<Cut<K>, AllocError>
     where
         K: Clone,
         requires sound { IsSound K.cmp self.now }
         requires planted { self.now.height ≢ 0 }
+        requires on { at ≡ leaf_on_way K.cmp key.now self.now }
         requires clones { ClonesAreSame K.is_clone }
         requires crowded { IfSome (get self.now.leaves (leaf_on_way K.cmp key.now self.now)) (λ l. 12 ≤ length l.array.pairs) }
         ensures { IfOk result (λ cut. IsCutThere K.cmp key.now self.now cut) }
     {
-        match self.leaves.get(self.leaf_of(key)) {
+        match self.leaves.get(at) {
             Some(leaf) => leaf.cut(key),
             None => unreachable!(),
         }
     }
 
     /// Whether the node at a height on the way to a key is full.
-    fn is_full(&self, left: usize, key: &K) -> bool
+    fn is_full(&self, at: usize, left: usize, key: &K) -> bool
         requires sound { IsSound K.cmp self.now }
         requires least { 0 < left }
         requires most { left ≤ self.now.height }
+        requires on { at ≡ way K.cmp (content_of self.now) key.now (self.now.height - left) self.now.root }
         ensures full { result ≡ true → IsNodeFull K.cmp key.now self.now left }
         ensures room { result ≡ false → NodeHasRoom K.cmp key.now self.now left }
     {
-        match self.nodes.get(self.node_at(left, key)) {
+        let _ = left;
+        let _ = key;
+        match self.nodes.get(at) {
             Some(node) => node.is_full(),
             None => unreachable!(),
         }
     }
 
     /// Makes room in the lowest node on the way to a key: where it is full, all that are full are split.
-    fn split_nodes(&mut self, key: &K)
+    /// It gives the number of the lowest one then.
+    fn split_nodes(&mut self, key: &K) -> usize
     where
         K: Drop,
         requires sound { IsSound K.cmp self.old }
@@ -165,20 +175,23 @@ impl<K: Ord, V> Arenas<K, V> {
         ensures room { NodeHasRoom K.cmp key.now self.new 1 }
         ensures planted { self.new.height ≢ 0 }
         ensures still { NodeHasRoom K.cmp key.now self.old 1 → self.new ≡ self.old }
+        ensures lowest { result ≡ way K.cmp (content_of self.new) key.now (self.new.height - 1) self.new.root }
     {
-        if !self.is_full(1, key) {
-            return;
+        let above = self.node_at(1, key);
+        if !self.is_full(above, 1, key) {
+            return above;
         }
-        if self.is_full(self.height, key) {
+        if self.is_full(self.node_at(self.height, key), self.height, key) {
             self.raise(key);
         }
         let mut left = self.height;
         while left > 1 {
             left -= 1;
-            if self.is_full(left, key) {
+            if self.is_full(self.node_at(left, key), left, key) {
                 self.split_node(left, key);
             }
         }
+        self.node_at(1, key)
     }
 
     /// Puts a new root above the present one.
@@ -239,12 +252,14 @@ impl<K: Ord, V> Arenas<K, V> {
     }
 
     /// Splits the leaf on the way to a key, whose node has room.
-    fn split_leaf(&mut self, key: &K, cut: Cut<K>)
+    fn split_leaf(&mut self, above: usize, child: usize, key: &K, cut: Cut<K>)
     where
         K: Drop,
         V: Drop,
         requires sound { IsSound K.cmp self.old }
         requires planted { self.old.height ≢ 0 }
+        requires lowest { above ≡ way K.cmp (content_of self.old) key.now (self.old.height - 1) self.old.root }
+        requires on { child ≡ leaf_on_way K.cmp key.now self.old }
         requires cut { IsCutThere K.cmp key.now self.old cut }
         requires parent { NodeHasRoom K.cmp key.now self.old 1 }
         requires room { HasRoomFor self.old.leaves 1 }
@@ -253,8 +268,7 @@ impl<K: Ord, V> Arenas<K, V> {
         ensures room { HasRoom K.cmp key.now self.new }
         ensures ascending { IsAbove K.cmp key.now (pairs_of self.old) → IsLeafFull K.cmp key.now self.old → 1 < ascents K.cmp self.old → ascents K.cmp self.old ≤ ascents K.cmp self.new }
     {
-        let above = self.node_at(1, key);
-        let child = self.leaf_of(key);
+        let _ = key;
         let (lower, before) = match self.leaves.get_mut(child) {
             Some(leaf) => (leaf.split(cut.whole), leaf.prev),
             None => unreachable!(),

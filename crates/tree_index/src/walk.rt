@@ -79,12 +79,15 @@ impl<K: Ord, V> Arenas<K, V> {
     }
 
     /// The first pair of the leaf with this number and those behind it.
+    // Out of line, so that the loop around a step along one leaf stays small.
+    #[inline(never)]
     pub(crate) fn first_from(&self, from: Option<usize>) -> Option<Spot<'_, K, V>>
         requires sound { IsSound K.cmp self.now }
         requires own { IsOwn self.now from }
         ensures none { IfNone result (starts_at self.now from ≡ length (pairs_of self.now)) }
         ensures spot { IfSome result (λ s. IsSpot self.now s) }
         ensures there { IfSome result (λ s. position self.now s ≡ starts_at self.now from) }
+        ensures front { IfSome result (λ s. s.place ≡ 0) }
     {
         let mut next = from;
         while let Some(at) = next {
@@ -146,7 +149,42 @@ impl<K: Ord, V> Arenas<K, V> {
                 place: spot.place + 1,
             });
         }
-        self.first_from(spot.leaf.next)
+        match self.first_from(spot.leaf.next) {
+            // The place is written out, so that a caller knows it beforehand.
+            Some(first) => Some(Spot {
+                leaf: first.leaf,
+                at: first.at,
+                place: 0,
+            }),
+            None => None,
+        }
+    }
+
+    /// The place of the pair behind one, and that pair, if both are in one leaf.
+    #[inline(always)]
+    pub(crate) fn beside<'t>(
+        &'t self,
+        spot: Spot<'t, K, V>,
+    ) -> Option<(Spot<'t, K, V>, (&'t K, &'t V))>
+        requires sound { IsSound K.cmp self.now }
+        requires spot { IsSpot self.now spot }
+        ensures spot { IfSome result (λ n. IsSpot self.now n.0) }
+        ensures there { IfSome result (λ n. position self.now n.0 ≡ position self.now spot.entry + 1) }
+        ensures pair { IfSome result (λ n. slice_get n.0.leaf.now.array.pairs n.0.place ≡ Some (n.1.0.now, n.1.1.now)) }
+    {
+        let _ = spot.leaf.len();
+        let place = spot.place + 1;
+        match spot.leaf.array.pair(place) {
+            Some(pair) => Some((
+                Spot {
+                    leaf: spot.leaf,
+                    at: spot.at,
+                    place,
+                },
+                pair,
+            )),
+            None => None,
+        }
     }
 
     /// The pair before one.
@@ -228,6 +266,7 @@ impl<K: Ord, V> Arenas<K, V> {
     }
 
     /// The first pair within a lower bound.
+    #[inline(never)]
     pub(crate) fn first_within(&self, lower: Bound<&K>) -> Option<Spot<'_, K, V>>
         requires { IsSound K.cmp self.now }
         ensures none { IfNone result (before_start K.cmp (bound_map (λ k. k.now) lower.entry) (pairs_of self.now) ≡ length (pairs_of self.now)) }

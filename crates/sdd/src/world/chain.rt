@@ -1,12 +1,13 @@
 //! Single changes of a list that hangs from a cell.
 
 ghost use Rattle.std.specs.Prelude.{◌≡◌, Some, None, Option, List, ◌∷◌, [], ℕ, length, IfNone, IfSome, cond, ◌+◌, ◌<◌};
+ghost use Rattle.std.specs.Fn.{FnOnceReturnsAt};
 ghost use Rattle.std.specs.Option.{option_copied};
 ghost use Rattle.sdd_base.specs.State.{State, IsFreeCell, cell_at, status_at, with_cell};
 ghost use Rattle.sdd_base.specs.Frame.{OnlyOf};
 ghost use Rattle.sdd_base.specs.Place.{IsSharedCell};
 ghost use Rattle.sdd_base.specs.Tokens.{shared_cell, shared_slot, shared_slots, link_cell};
-ghost use Rattle.sdd.specs.Chain.{Entry, IsItem, IsHung, Hangs, HasLink, IsLoose, Fits, TookFirst, Leaves, Stays, CanHang, deleted, Begins, skip, undeleted, first_item, first_slot, links, slots, SameUses};
+ghost use Rattle.sdd.specs.Chain.{Entry, IsItem, IsHung, Hangs, HasLink, IsLoose, Fits, TookFirst, Leaves, Stays, CanHang, deleted, Begins, skip, undeleted, first_item, first_slot, links, slots, SameUses, MoreOwners};
 
 use crate::linked_list::LinkedList;
 use sdd_base::cell::AtomicShared;
@@ -250,6 +251,7 @@ pub(crate) fn share_first<L: LinkedList>(
     ensures some { IfSome result (λ s. (t : Tag) (es : List (Entry L)) → IsHung L.link w.old (shared_cell cell.now) t es → Some (shared_slot s) ≡ first_slot es) }
     ensures none { IfNone result ((t : Tag) (es : List (Entry L)) → IsHung L.link w.old (shared_cell cell.now) t es → IfSome (first_slot es) (λ i. status_at w.old i ≡ Status.Shared 4294967295)) }
     ensures leaves { (t : Tag) (es : List (Entry L)) → IsHung L.link w.old (shared_cell cell.now) t es → Leaves (shared_cell cell.now ∷ links es) (slots es) w.old w.new }
+    ensures owners { MoreOwners w.old w.new }
     ensures members { w.new.members ≡ w.old.members }
     ensures stays { Stays w.old w.new }
 {
@@ -297,4 +299,12 @@ pub(crate) fn end<L>(w: &mut World<L>, cell: AtomicShared<L>)
         None => {}
         Some(_) => unreachable!(),
     }
+}
+
+/// What a condition answers for an entry.
+pub(crate) fn answer<E, F: FnOnce(&E) -> bool>(condition: F, entry: &E) -> bool
+    requires { F.IsAlwaysCallable condition }
+    ensures { FnOnceReturnsAt F.FnOnce condition entry.now result }
+{
+    condition(entry)
 }

@@ -1,16 +1,20 @@
 //! The calls of `LinkedList` over a `World`: an entry is named by a pointer.
 
-ghost use Rattle.std.specs.Prelude.{◌≡◌, ℕ, List, [], ◌∷◌, Some, IfSome, IsTrue, IsFalse, not};
-ghost use Rattle.sdd_base.specs.Tokens.{ptr_slot, link_cell};
-ghost use Rattle.sdd_base.specs.State.{cell_at, with_cell};
-ghost use Rattle.sdd.specs.Chain.{Entry, IsHung, Leaves, Stays, deleted, undeleted, first_slot};
+ghost use Rattle.std.specs.Prelude.{◌≡◌, ◌≢◌, ◌<◌, ◌+◌, ℕ, List, [], ◌∷◌, Some, IfSome, IfNone, IsTrue, IsFalse, not};
+ghost use Rattle.sdd_base.specs.Tokens.{ptr_slot, link_cell, shared_slot};
+ghost use Rattle.sdd_base.specs.State.{cell_at, status_at, with_cell, with_status};
+ghost use Rattle.sdd_base.specs.Place.{IsShared};
+ghost use Rattle.sdd_base.specs.declared.tag.Tag.{Tag};
+ghost use Rattle.sdd.specs.Chain.{Entry, IsHung, Leaves, Stays, deleted, undeleted, skip, first_slot};
 ghost use Rattle.sdd.specs.Nodes.{IsNode, IsSomeNode, IsListed, Retags, clear, marked};
 
 use crate::linked_list::LinkedList;
 use crate::world::chain;
 use sdd_base::guard::WorldGuard;
 use sdd_base::link::Link;
+use sdd_base::owner::Shared;
 use sdd_base::pointer::Ptr;
+use sdd_base::status::Status;
 use sdd_base::tag::Tag;
 use sdd_base::world::{World, atomic_shared};
 
@@ -156,5 +160,38 @@ pub fn next_ptr<L: LinkedList>(
     match w.read(&at) {
         Some(item) => atomic_shared::load(w, chain::skip_from(w, item.link_ref()), guard),
         None => unreachable!(),
+    }
+}
+
+/// The link behind the entry that `at` names and the deleted ones after it.
+fn next_link<L: LinkedList>(w: &World<L>, at: &Ptr<'static, L>) -> Link<L>
+    requires { IsListed L.link w.now (ptr_slot at.now) }
+    ensures { (e : Entry L) (es : List (Entry L)) → IsNode L.link w.now (ptr_slot at.now) e → IsHung L.link w.now e.link e.tag es → (u : Tag) × IsHung L.link w.now (link_cell result) u (skip es) }
+{
+    match w.read(at) {
+        Some(item) => Link::of(chain::skip_from(w, item.link_ref())),
+        None => unreachable!(),
+    }
+}
+
+/// Another owner of the next entry that isn't deleted; none where there is no such entry, and at the greatest count of
+/// owners. Every list stays.
+pub fn next_shared<L: LinkedList>(
+    w: &mut World<L>,
+    at: Ptr<'static, L>,
+    guard: &WorldGuard,
+) -> Option<Shared<L>>
+    requires { IsListed L.link w.old (ptr_slot at) }
+    ensures next { IfSome result (λ s. (e : Entry L) (es : List (Entry L)) → IsNode L.link w.old (ptr_slot at.entry) e → IsHung L.link w.old e.link e.tag es → Some (shared_slot s) ≡ first_slot (undeleted es)) }
+    ensures more { IfSome result (λ s. (n : ℕ) × (status_at w.old (shared_slot s) ≡ Status.Shared n) × (w.new ≡ with_status (shared_slot s) (Status.Shared (n + 1)) w.old)) }
+    ensures none { IfNone result ((w.new ≡ w.old) × ((e : Entry L) (es : List (Entry L)) → IsNode L.link w.old (ptr_slot at.entry) e → IsHung L.link w.old e.link e.tag es → IfSome (first_slot (undeleted es)) (λ i. (n : ℕ) → n < 4294967295 → status_at w.old i ≢ Status.Shared n))) }
+    ensures lists { (c : ℕ) (t : Tag) (es : List (Entry L)) → IsHung L.link w.old c t es → IsHung L.link w.new c t es }
+    ensures live { IfSome result (λ s. IsShared w.new (shared_slot s)) }
+    ensures stays { Stays w.old w.new }
+{
+    let link = next_link(w, &at);
+    match atomic_shared::get_shared(w, link.cell(), guard) {
+        Some(next) => Some(next),
+        None => None,
     }
 }

@@ -1,24 +1,33 @@
 //! Queues over a `World`: the oldest entry comes first.
 
-ghost use Rattle.std.specs.Prelude.{◌≤◌, ◌≡◌, ◌<◌, ◌⊎◌, ◌↔◌, ℕ, List, [], ◌∷◌, length, IfOk, IfErr, OnErr, Some, IfSome, MatchOption, IsTrue};
-ghost use Rattle.sdd_base.specs.State.{IsFreeCell, NoneFree, NoCellFree};
+ghost use Rattle.std.specs.Prelude.{◌≤◌, ◌≡◌, ◌<◌, ◌⊎◌, ◌↔◌, ℕ, List, [], ◌∷◌, length, IfOk, IfErr, OnErr, Some, IfSome, IfNone, ◌≢◌, MatchOption, IsTrue, IsErrAnd, Bool, false};
+ghost use Rattle.sdd_base.specs.State.{status_at, IsFreeCell, NoneFree, NoCellFree};
 ghost use Rattle.sdd_base.specs.Frame.{OnlyOf};
 ghost use Rattle.sdd_base.specs.Place.{IsShared};
 ghost use Rattle.sdd_base.specs.Tokens.{shared_slot, ptr_slot};
 ghost use Rattle.sdd.specs.Nodes.{IsSomeNode, IsListed};
+ghost use Rattle.std.specs.Fn.{FnOnceReturnsAt};
 ghost use Rattle.std.specs.Option.{option_copied};
-ghost use Rattle.sdd.specs.Chain.{Entry, Leaves, Stays, undeleted, first_item, first_slot, links, slots};
+ghost use Rattle.sdd.specs.Stacks.{taken};
+ghost use Rattle.sdd.specs.Chain.{Entry, Hangs, IsHung, Leaves, Stays, undeleted, first_item, first_slot, skip, links, slots};
 ghost use Rattle.sdd.specs.Entries.{entry_link};
-ghost use Rattle.sdd.specs.Queues.{oldest_cell, newest_cell, IsQueue, IsSomeQueue, Appends, Takes};
+ghost use Rattle.sdd.specs.Iters.{iter_cell};
+ghost use Rattle.sdd.specs.Refusals.{refused_value, IsCondition, IsNoSlot};
+ghost use Rattle.sdd.specs.Queues.{oldest_cell, newest_cell, IsQueue, IsSomeQueue, HasOldest, KeepsQueue, Appends, Takes};
 ghost use Rattle.sdd.specs.declared.linked_entry.LinkedEntry.{LinkedEntry};
 
+use crate::iter::Iter;
 use crate::linked_entry::LinkedEntry;
 use crate::queue::Queue;
+use crate::refusal::PushRefused;
 use crate::world::{chain, entries, tail};
 use sdd_base::guard::WorldGuard;
+use sdd_base::link::Link;
 use sdd_base::owner::Shared;
 use sdd_base::pointer::Ptr;
 use sdd_base::refusal::NoSlot;
+use sdd_base::status::Status;
+use sdd_base::tag::Tag;
 use sdd_base::world::{World, atomic_shared};
 
 /// An empty queue, exactly if two cells are free.
@@ -158,4 +167,103 @@ pub fn peek_with<T, R, F: FnOnce(Option<&LinkedEntry<T>>) -> R>(
     ensures { (es : List (Entry (LinkedEntry T))) → IsQueue entry_link w.now (oldest_cell queue.now) (newest_cell queue.now) es → (o : _) × (option_copied o ≡ first_item (undeleted es)) × F.post f o result }
 {
     f(chain::first_undeleted(w, &queue.oldest))
+}
+
+/// As `push`, if `f` answers true for the first undeleted entry, or none. It is called once.
+pub fn push_if<T, F: FnOnce(Option<&LinkedEntry<T>>) -> bool>(
+    w: &mut World<LinkedEntry<T>>,
+    queue: &Queue<T>,
+    value: T,
+    f: F,
+) -> Result<Shared<LinkedEntry<T>>, PushRefused<T>>
+    requires callable { F.IsAlwaysCallable f }
+    requires member { 0 < length w.old.members }
+    requires list { IsSomeQueue entry_link w.old (oldest_cell queue.now) (newest_cell queue.now) }
+    ensures asked { (es : List (Entry (LinkedEntry T))) → IsQueue entry_link w.old (oldest_cell queue.now) (newest_cell queue.now) es → (o : _) × (r : Bool) × (option_copied o ≡ first_item (undeleted es)) × F.post f o r × (IsErrAnd result IsCondition ↔ (r ≡ false)) }
+    ensures pushed { IfOk result (λ s. Appends w.old w.new value (oldest_cell queue.now) (newest_cell queue.now) (shared_slot s)) }
+    ensures back { IfErr result (λ e. (refused_value e ≡ value) × (w.new ≡ w.old)) }
+    ensures full { IfErr result (λ e. IsNoSlot e → NoneFree w.old ⊎ NoCellFree w.old) }
+    ensures live { IfOk result (λ s. IsShared w.new (shared_slot s)) }
+    ensures list { IsSomeQueue entry_link w.new (oldest_cell queue.now) (newest_cell queue.now) }
+    ensures leaves { (es : List (Entry (LinkedEntry T))) → IsQueue entry_link w.old (oldest_cell queue.now) (newest_cell queue.now) es → Leaves (oldest_cell queue.now ∷ newest_cell queue.now ∷ links es) (slots es) w.old w.new }
+    ensures only { OnlyOf 0 w.old w.new }
+    ensures stays { Stays w.old w.new }
+{
+    if !peek_with(w, queue, f) {
+        return Err(PushRefused::Condition(value));
+    }
+    match push(w, queue, value) {
+        Ok(entry) => Ok(entry),
+        Err(value) => Err(PushRefused::NoSlot(value)),
+    }
+}
+
+/// A walk along its entries that aren't deleted, the oldest first.
+pub fn iter<T>(_w: &World<LinkedEntry<T>>, queue: &Queue<T>) -> Iter<T>
+    requires { IsSomeQueue entry_link _w.now (oldest_cell queue.now) (newest_cell queue.now) }
+    ensures starts { (es : List (Entry (LinkedEntry T))) → IsQueue entry_link _w.now (oldest_cell queue.now) (newest_cell queue.now) es → IsHung entry_link _w.now (iter_cell result) Tag.None es }
+    ensures hangs { Hangs entry_link _w.now (iter_cell result) }
+{
+    Iter {
+        at: Link::of(&queue.oldest),
+    }
+}
+
+/// Another owner of the first undeleted entry, or none at the greatest count of owners; deleted entries before it are
+/// given back by participant `p`.
+fn share_oldest<T>(
+    w: &mut World<LinkedEntry<T>>,
+    queue: &Queue<T>,
+    p: usize,
+) -> Option<Shared<LinkedEntry<T>>>
+    requires member { p < length w.old.members }
+    requires list { HasOldest entry_link w.old (oldest_cell queue.now) (newest_cell queue.now) }
+    ensures kept { (es : List (Entry (LinkedEntry T))) → IsQueue entry_link w.old (oldest_cell queue.now) (newest_cell queue.now) es → undeleted es ≢ [] → IsQueue entry_link w.new (oldest_cell queue.now) (newest_cell queue.now) (skip es) }
+    ensures some { IfSome result (λ s. (es : List (Entry (LinkedEntry T))) → IsQueue entry_link w.old (oldest_cell queue.now) (newest_cell queue.now) es → Some (shared_slot s) ≡ first_slot (undeleted es)) }
+    ensures none { IfNone result ((es : List (Entry (LinkedEntry T))) → IsQueue entry_link w.old (oldest_cell queue.now) (newest_cell queue.now) es → IfSome (first_slot (undeleted es)) (λ i. status_at w.old i ≡ Status.Shared 4294967295)) }
+    ensures leaves { (es : List (Entry (LinkedEntry T))) → IsQueue entry_link w.old (oldest_cell queue.now) (newest_cell queue.now) es → Leaves (oldest_cell queue.now ∷ links es) (slots es) w.old w.new }
+    ensures only { OnlyOf p w.old w.new }
+    ensures stays { Stays w.old w.new }
+{
+    chain::skip_deleted(w, &queue.oldest, p);
+    match chain::share_first(w, &queue.oldest) {
+        Some(owner) => Some(owner),
+        None => None,
+    }
+}
+
+/// As `pop`, if `f` answers true for the first undeleted entry; else another owner of that is given, and nothing is
+/// taken. Where every entry is deleted, `f` isn't called. Where the entry has `2^32 - 1` owners, a refusal answers none.
+pub fn pop_if<T, F: FnOnce(&LinkedEntry<T>) -> bool + Drop>(
+    w: &mut World<LinkedEntry<T>>,
+    queue: &Queue<T>,
+    p: usize,
+    f: F,
+) -> Result<Option<Shared<LinkedEntry<T>>>, Shared<LinkedEntry<T>>>
+    requires callable { F.IsAlwaysCallable f }
+    requires member { p < length w.old.members }
+    requires list { IsSomeQueue entry_link w.old (oldest_cell queue.now) (newest_cell queue.now) }
+    ensures asked { (es : List (Entry (LinkedEntry T))) → IsQueue entry_link w.old (oldest_cell queue.now) (newest_cell queue.now) es → IfSome (first_item (undeleted es)) (λ v. FnOnceReturnsAt F.FnOnce f v (taken result)) }
+    ensures popped { (es : List (Entry (LinkedEntry T))) → IsQueue entry_link w.old (oldest_cell queue.now) (newest_cell queue.now) es → IfOk result (λ r. IfSome r (λ s. Takes w.new (oldest_cell queue.now) (newest_cell queue.now) (shared_slot s) es)) }
+    ensures kept { taken result ≡ false → (es : List (Entry (LinkedEntry T))) → IsQueue entry_link w.old (oldest_cell queue.now) (newest_cell queue.now) es → KeepsQueue entry_link w.new (oldest_cell queue.now) (newest_cell queue.now) es }
+    ensures refused { IfErr result (λ s. (es : List (Entry (LinkedEntry T))) → IsQueue entry_link w.old (oldest_cell queue.now) (newest_cell queue.now) es → Some (shared_slot s) ≡ first_slot (undeleted es)) }
+    ensures full { (es : List (Entry (LinkedEntry T))) → IsQueue entry_link w.old (oldest_cell queue.now) (newest_cell queue.now) es → IfOk result (λ r. IfNone r (IfSome (first_slot (undeleted es)) (λ i. status_at w.old i ≡ Status.Shared 4294967295))) }
+    ensures list { IsSomeQueue entry_link w.new (oldest_cell queue.now) (newest_cell queue.now) }
+    ensures leaves { (es : List (Entry (LinkedEntry T))) → IsQueue entry_link w.old (oldest_cell queue.now) (newest_cell queue.now) es → Leaves (oldest_cell queue.now ∷ newest_cell queue.now ∷ links es) (slots es) w.old w.new }
+    ensures only { OnlyOf p w.old w.new }
+    ensures stays { Stays w.old w.new }
+{
+    let Some(entry) = chain::first_undeleted(w, &queue.oldest) else {
+        return Ok(None);
+    };
+    if !chain::answer(f, entry) {
+        return match share_oldest(w, queue, p) {
+            Some(owner) => Err(owner),
+            None => Ok(None),
+        };
+    }
+    match pop(w, queue, p) {
+        Some(owner) => Ok(Some(owner)),
+        None => unreachable!(),
+    }
 }

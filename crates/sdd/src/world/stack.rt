@@ -8,21 +8,25 @@ ghost use Rattle.sdd_base.specs.Tokens.{shared_slot, ptr_slot};
 ghost use Rattle.sdd.specs.Nodes.{IsSomeNode, IsListed};
 ghost use Rattle.std.specs.Option.{option_copied};
 ghost use Rattle.std.specs.Fn.{FnOnceReturnsAt};
-ghost use Rattle.sdd.specs.Chain.{Entry, Leaves, Stays, undeleted, first_item, first_slot, skip, links, slots};
+ghost use Rattle.sdd.specs.Chain.{Entry, Hangs, IsHung, Leaves, Stays, undeleted, first_item, first_slot, skip, links, slots};
 ghost use Rattle.sdd.specs.Entries.{entry_link};
+ghost use Rattle.sdd.specs.Iters.{iter_cell};
 ghost use Rattle.sdd.specs.Refusals.{refused_value, IsCondition, IsNoSlot};
 ghost use Rattle.sdd.specs.Stacks.{stack_cell, taken, IsStack, IsSomeStack, Pushes, Pops};
 ghost use Rattle.sdd.specs.declared.linked_entry.LinkedEntry.{LinkedEntry};
 
+use crate::iter::Iter;
 use crate::linked_entry::LinkedEntry;
 use crate::refusal::PushRefused;
 use crate::stack::Stack;
 use crate::world::{chain, entries};
 use sdd_base::guard::WorldGuard;
+use sdd_base::link::Link;
 use sdd_base::owner::Shared;
 use sdd_base::pointer::Ptr;
 use sdd_base::refusal::NoSlot;
 use sdd_base::status::Status;
+use sdd_base::tag::Tag;
 use sdd_base::world::{World, atomic_shared};
 
 /// An empty stack, exactly if a cell is free.
@@ -229,7 +233,7 @@ pub fn pop_if<T, F: FnOnce(&LinkedEntry<T>) -> bool + Drop>(
     let Some(entry) = chain::first_undeleted(w, &stack.newest) else {
         return Ok(None);
     };
-    if !answer(f, entry) {
+    if !chain::answer(f, entry) {
         return match chain::share_first(w, &stack.newest) {
             Some(owner) => Err(owner),
             None => Ok(None),
@@ -241,10 +245,13 @@ pub fn pop_if<T, F: FnOnce(&LinkedEntry<T>) -> bool + Drop>(
     }
 }
 
-/// What a condition answers for an entry.
-fn answer<E, F: FnOnce(&E) -> bool>(condition: F, entry: &E) -> bool
-    requires { F.IsAlwaysCallable condition }
-    ensures { FnOnceReturnsAt F.FnOnce condition entry.now result }
+/// A walk along its entries that aren't deleted, the newest first.
+pub fn iter<T>(_w: &World<LinkedEntry<T>>, stack: &Stack<T>) -> Iter<T>
+    requires { IsSomeStack _w.now (stack_cell stack.now) }
+    ensures starts { (es : List (Entry (LinkedEntry T))) → IsStack _w.now (stack_cell stack.now) es → IsHung entry_link _w.now (iter_cell result) Tag.None es }
+    ensures hangs { Hangs entry_link _w.now (iter_cell result) }
 {
-    condition(entry)
+    Iter {
+        at: Link::of(&stack.newest),
+    }
 }

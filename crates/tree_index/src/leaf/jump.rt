@@ -5,8 +5,8 @@ ghost use Rattle.std.specs.declared.ops.Bound.TheVariants.{Excluded};
 ghost use Rattle.tree_index.specs.Content.{pairs_of, IsSound};
 ghost use Rattle.tree_index.specs.Cursor.{before_start, up_to_end};
 ghost use Rattle.tree_index.specs.Cuts.{key_at};
-ghost use Rattle.tree_index.specs.LeafCursor.{IsFirstSpot, IsLastSpot, IsPart, ranked, stood};
-ghost use Rattle.tree_index.specs.Walk.{position, IsSpot};
+ghost use Rattle.tree_index.specs.LeafCursor.{IsPart, ranked, stood};
+ghost use Rattle.tree_index.specs.Walk.{position, IsFirstSpot, IsLastSpot, IsSpot};
 
 use crate::arenas::Arenas;
 use crate::leaf::{Leaf, Stand};

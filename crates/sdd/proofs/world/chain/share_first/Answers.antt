@@ -5,7 +5,7 @@ use Rattle.sdd_base.specs.declared.status.Status.TheVariants as status
 use Rattle.sdd.proofs.Chains.{stays_then}
 use Rattle.sdd.proofs.Releases.{stays_owners}
 use Rattle.sdd.proofs.Fronts.{took_some}
-use Rattle.sdd.proofs.Shares.{off_same, off_more, can_return, shared_hung, shared_leaves}
+use Rattle.sdd.proofs.Shares.{off_same, off_more, can_return, shared_hung, shared_leaves, shared_owners, owners_same, owners_more, owners_none}
 use Rattle.sdd.proofs.world.chain.share_first.Goals as goal
 
 pub put_first-requires : goal.put_first-requires
@@ -59,3 +59,25 @@ pub returns-in-Some-clone-clause-stays : goal.returns-in-Some-clone-clause-stays
 returns-in-Some-clone-clause-stays g c =
     let m = c.in-Some-clone.ensures in
     stays_then _ _ _ (stays_then _ _ _ c.in-Some.ensures.stays (stays_owners _ _ _ (m.more.1 + 1) m.more.3 m.keeps)) c.put_first-in-Some-clone.ensures.stays
+
+pub returns-in_default-clause-owners : goal.returns-in_default-clause-owners
+returns-in_default-clause-owners g c = let r = c.requires in owners_none g.L.LinkedList.link c.args.w.now c.take_first.new.w (shared_cell c.args.cell.now) r.tag r.entries (c.in_default.ensures.took r.tag r.entries r.is)
+
+pub returns-in-None-clause-owners : goal.returns-in-None-clause-owners
+returns-in-None-clause-owners g c =
+    let at = shared_cell c.args.cell.now in
+    let r = c.requires in
+    let k = took_some g.L.LinkedList.link c.args.w.now c.take_first.new.w at c.in-Some.first.slot r.tag r.entries r.is (c.in-Some.ensures.took r.tag r.entries r.is) in
+    let o = off_same g.L.LinkedList.link c.args.w.now c.take_first.new.w c.clone.new.w at c.in-Some.first.slot r.tag r.entries r.is k c.in-None.ensures.full.0 in
+    shared_owners g.L.LinkedList.link c.args.w.now c.take_first.new.w c.clone.new.w at c.in-Some.first.slot r.tag r.entries r.is k c.put_first.new.w o c.put_first.ensures.put (owners_same c.take_first.new.w c.clone.new.w c.in-None.ensures.full.0)
+
+pub returns-in-Some-clone-clause-owners : goal.returns-in-Some-clone-clause-owners
+returns-in-Some-clone-clause-owners g c =
+    let at = shared_cell c.args.cell.now in
+    let r = c.requires in
+    let k = took_some g.L.LinkedList.link c.args.w.now c.take_first.new.w at c.in-Some.first.slot r.tag r.entries r.is (c.in-Some.ensures.took r.tag r.entries r.is) in
+    let m = c.in-Some-clone.ensures.more in
+    let is = ap (λ (j : ℕ). status_at c.take_first.new.w j) (sym m.0) ∙ m.2 in
+    let now = m.3 ∙ ap (λ (j : ℕ). with_status j (status.Shared (m.1 + 1)) c.take_first.new.w) m.0 in
+    let o = off_more g.L.LinkedList.link c.args.w.now c.take_first.new.w c.clone.new.w at c.in-Some.first.slot r.tag r.entries r.is k m.1 (m.1 + 1) is now in
+    shared_owners g.L.LinkedList.link c.args.w.now c.take_first.new.w c.clone.new.w at c.in-Some.first.slot r.tag r.entries r.is k c.put_first-in-Some-clone.new.w o c.put_first-in-Some-clone.ensures.put (owners_more c.take_first.new.w c.clone.new.w c.in-Some.first.slot m.1 is now)

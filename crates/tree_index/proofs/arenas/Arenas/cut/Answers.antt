@@ -4,4 +4,4 @@ use Rattle.tree_index.proofs.arenas.Arenas.cut.Goals as goal
 
 pub unreachable-requires : goal.unreachable-requires
 unreachable-requires g c =
-    leaf_not_none g.K.Ord.cmp g.met.K.Ord.total c.args.key.now c.args.self.now c.requires.sound c.requires.planted c.leaf_of.result c.leaf_of.ensures (sym (rw c.in-None.is at c.get.ensures))
+    leaf_not_none g.K.Ord.cmp g.met.K.Ord.total c.args.key.now c.args.self.now c.requires.sound c.requires.planted c.args.at c.requires.on (sym (rw c.in-None.is at c.get.ensures))

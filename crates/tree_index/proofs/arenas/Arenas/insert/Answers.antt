@@ -5,7 +5,8 @@ use Rattle.slab.proofs.SlabLemmas.{Updates-with_value}
 use Rattle.leaf_array.specs.Cells.{Cells}
 use Rattle.tree_index.specs.declared.leaf.Leaf.{Leaf}
 use Rattle.tree_index.proofs.WayLemmas.{some_same}
-use Rattle.tree_index.proofs.ArenaLemmas.{IsPut, put_of, put_length, thawed_on_way, leaf_counted, put_written, still_sound, has_written, upserted_written, kept_written, with_leaf, written_there}
+use Rattle.tree_index.proofs.ArenaLemmas.{IsPut, put_of, put_length, thawed_on_way, leaf_counted, put_written, still_sound, has_written, upserted_written, kept_written, with_leaf, written_there, none_sound, bare_pairs}
+use Rattle.leaf_array.specs.Pairs.{has_key}
 use Rattle.tree_index.specs.declared.arenas.Arenas.{Arenas}
 use Rattle.tree_index.specs.Depth.{root_room, rises}
 use Rattle.tree_index.proofs.LeafLemmas.{roomy}
@@ -106,6 +107,32 @@ returns-in-Some-clause-full g c f r =
     let closed = c.insert-answer.ensures.full f in
     let living : l.array.retired ≡ false = subst (λ (x : Leaf g.row.K.Denot g.row.V.Denot). x.array.retired ≡ false) same r.living in
     roomy l.array.retired l.array.used living (subst (λ (x : Leaf g.row.K.Denot g.row.V.Denot). x.array.used < 15) same r.room) closed
+
+pub returns-in-Some-clause-absent : goal.returns-in-Some-clause-absent
+returns-in-Some-clause-absent g c f u =
+    let cmp = g.K.Ord.cmp in
+    let o = g.met.K.Ord.total in
+    let key = c.args.key in
+    let a = c.args.self.now in
+    let l : Leaf g.row.K.Denot g.row.V.Denot = c.in-Some.leaf.now in
+    let n = c.leaf_of-at.result in
+    let on = c.leaf_of-at.ensures in
+    let here : get a.leaves n ≡ Some l = sym c.in-Some.ensures.value in
+    let s = c.requires.sound in
+    let m : Leaf g.row.K.Denot g.row.V.Denot = c.insert-answer.new.self in
+    let put : IsPut cmp key c.args.val l.array.pairs m.array.pairs = put_of cmp key c.args.val c.insert-answer.result l.array m.array c.insert-answer.ensures.done c.insert-answer.ensures.kept in
+    let len : ℕ = a.len - c.len-before.result + c.len.result in
+    let w = put_written cmp o key a s n on l here c.args.val m len put c.insert-answer.ensures.thawed c.len.ensures.rising in
+    has_written cmp o key a s n on l here m len w ∙ c.insert-answer.ensures.absent f u
+
+pub returns-in-None-clause-absent : goal.returns-in-None-clause-absent
+returns-in-None-clause-absent g c f u =
+    let cmp = g.K.Ord.cmp in
+    let o = g.met.K.Ord.total in
+    let key = c.args.key in
+    let a = c.args.self.now in
+    let here = sym (rw c.in-None.is at c.get_mut.ensures.value) in
+    ap (has_key cmp key) (bare_pairs cmp o key a (none_sound cmp o key a (rw c.leaf_of-at.ensures at here) c.requires.sound))
 
 pub returns-in-Some-clause-duplicate : goal.returns-in-Some-clause-duplicate
 returns-in-Some-clause-duplicate g c d =

@@ -21,8 +21,8 @@ pub returns-in_err-reserve-3-clause-sound : goal.returns-in_err-reserve-3-clause
 returns-in_err-reserve-3-clause-sound g c =
     roomier_sound g.K.Ord.cmp c.args.self.now c.reserve.new.self c.reserve-3.new.self (ap (λ (s : Slab (Leaf g.row.K.Denot g.row.V.Denot)). s.slots) c.reserve.ensures.rest_kept) (ap (λ (s : Slab (Branches g.row.K.Denot)). s.slots) c.reserve-3.ensures.rest_kept ∙ ap (λ (s : Slab (Branches g.row.K.Denot)). s.slots) c.reserve-2.ensures.rest_kept) c.requires.sound
 
-pub split_nodes-requires-clause-sound : goal.split_nodes-requires-clause-sound
-split_nodes-requires-clause-sound g c =
+pub split_nodes-above-requires-clause-sound : goal.split_nodes-above-requires-clause-sound
+split_nodes-above-requires-clause-sound g c =
     roomier_sound g.K.Ord.cmp c.args.self.now c.reserve.new.self c.reserve-3.new.self (ap (λ (s : Slab (Leaf g.row.K.Denot g.row.V.Denot)). s.slots) c.reserve.ensures.rest_kept) (ap (λ (s : Slab (Branches g.row.K.Denot)). s.slots) c.reserve-3.ensures.rest_kept ∙ ap (λ (s : Slab (Branches g.row.K.Denot)). s.slots) c.reserve-2.ensures.rest_kept) c.requires.sound
 
 pub returns-in_err-reserve-clause-ascents : goal.returns-in_err-reserve-clause-ascents
@@ -39,7 +39,7 @@ returns-in_err-reserve-3-clause-ascents g c =
 
 pub returns-clause-pairs : goal.returns-clause-pairs
 returns-clause-pairs g c =
-    c.split_leaf.ensures.pairs ∙ c.split_nodes.ensures.pairs ∙ roomier_pairs g.K.Ord.cmp c.args.self.now c.reserve.new.self c.reserve-3.new.self (ap (λ (s : Slab (Leaf g.row.K.Denot g.row.V.Denot)). s.slots) c.reserve.ensures.rest_kept) (ap (λ (s : Slab (Branches g.row.K.Denot)). s.slots) c.reserve-3.ensures.rest_kept ∙ ap (λ (s : Slab (Branches g.row.K.Denot)). s.slots) c.reserve-2.ensures.rest_kept)
+    c.split_leaf.ensures.pairs ∙ c.split_nodes-above.ensures.pairs ∙ roomier_pairs g.K.Ord.cmp c.args.self.now c.reserve.new.self c.reserve-3.new.self (ap (λ (s : Slab (Leaf g.row.K.Denot g.row.V.Denot)). s.slots) c.reserve.ensures.rest_kept) (ap (λ (s : Slab (Branches g.row.K.Denot)). s.slots) c.reserve-3.ensures.rest_kept ∙ ap (λ (s : Slab (Branches g.row.K.Denot)). s.slots) c.reserve-2.ensures.rest_kept)
 
 pub returns-clause-ascending : goal.returns-clause-ascending
 returns-clause-ascending g c above some =
@@ -53,7 +53,7 @@ returns-clause-ascending g c above some =
     let full : IsLeafFull cmp key b = roomier_full cmp a c.reserve.new.self c.reserve-3.new.self key (ap (λ (s : Slab (Leaf g.row.K.Denot g.row.V.Denot)). s.slots) c.reserve.ensures.rest_kept) (ap (λ (s : Slab (Branches g.row.K.Denot)). s.slots) c.reserve-3.ensures.rest_kept ∙ ap (λ (s : Slab (Branches g.row.K.Denot)). s.slots) c.reserve-2.ensures.rest_kept) (c.is_crowded.ensures.full c.if-not-is_crowded.false c.requires.full) in
     let over_b : IsAbove cmp key (pairs_of b) = subst (IsAbove cmp key) (sym pairs) above in
     let more : 1 < ascents cmp b = omega (arith, same, some) in
-    let still : c.split_nodes.new.self ≡ b = c.split_nodes.ensures.still (flat_node cmp o key b more c.if-self-eq0.false over_b full) in
-    let grown : ascents cmp c.split_nodes.new.self ≤ ascents cmp c.split_leaf.new.self = c.split_leaf.ensures.ascending (subst (λ (x : Arenas g.row.K.Denot g.row.V.Denot). IsAbove cmp key (pairs_of x)) (sym still) over_b) (subst (IsLeafFull cmp key) (sym still) full) (subst (λ (x : Arenas g.row.K.Denot g.row.V.Denot). 1 < ascents cmp x) (sym still) more) in
-    let to : ascents cmp c.split_nodes.new.self ≡ ascents cmp b = ap (ascents cmp) still in
+    let still : c.split_nodes-above.new.self ≡ b = c.split_nodes-above.ensures.still (flat_node cmp o key b more c.if-self-eq0.false over_b full) in
+    let grown : ascents cmp c.split_nodes-above.new.self ≤ ascents cmp c.split_leaf.new.self = c.split_leaf.ensures.ascending (subst (λ (x : Arenas g.row.K.Denot g.row.V.Denot). IsAbove cmp key (pairs_of x)) (sym still) over_b) (subst (IsLeafFull cmp key) (sym still) full) (subst (λ (x : Arenas g.row.K.Denot g.row.V.Denot). 1 < ascents cmp x) (sym still) more) in
+    let to : ascents cmp c.split_nodes-above.new.self ≡ ascents cmp b = ap (ascents cmp) still in
     omega (arith, grown, to, same)

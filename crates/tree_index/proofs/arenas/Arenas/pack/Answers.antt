@@ -13,7 +13,7 @@ use Rattle.tree_index.proofs.arenas.Arenas.pack.Goals as goal
 
 pub unreachable-requires : goal.unreachable-requires
 unreachable-requires g c =
-    leaf_not_none g.K.Ord.cmp g.met.K.Ord.total c.args.key.now c.args.self.now c.requires.sound c.requires.planted c.leaf_of-at.result c.leaf_of-at.ensures (sym (rw c.in-None.is at c.get_mut.ensures.value))
+    leaf_not_none g.K.Ord.cmp g.met.K.Ord.total c.args.key.now c.args.self.now c.requires.sound c.requires.planted c.args.at c.requires.on (sym (rw c.in-None.is at c.get_mut.ensures.value))
 
 pub returns-clause-sound : goal.returns-clause-sound
 returns-clause-sound g c =
@@ -22,8 +22,8 @@ returns-clause-sound g c =
     let key = c.args.key.now in
     let a = c.args.self.now in
     let s = c.requires.sound in
-    let n = c.leaf_of-at.result in
-    let on = c.leaf_of-at.ensures in
+    let n = c.args.at in
+    let on = c.requires.on in
     let l : Leaf g.row.K.Denot g.row.V.Denot = c.in-Some.leaf.now in
     let here : get a.leaves n ≡ Some l = sym c.in-Some.ensures.value in
     let m : Leaf g.row.K.Denot g.row.V.Denot = c.pack.new.self in
@@ -38,8 +38,8 @@ returns-clause-pairs g c =
     let key = c.args.key.now in
     let a = c.args.self.now in
     let s = c.requires.sound in
-    let n = c.leaf_of-at.result in
-    let on = c.leaf_of-at.ensures in
+    let n = c.args.at in
+    let on = c.requires.on in
     let l : Leaf g.row.K.Denot g.row.V.Denot = c.in-Some.leaf.now in
     let here : get a.leaves n ≡ Some l = sym c.in-Some.ensures.value in
     let m : Leaf g.row.K.Denot g.row.V.Denot = c.pack.new.self in
@@ -54,8 +54,8 @@ returns-clause-room g c =
     let key = c.args.key.now in
     let a = c.args.self.now in
     let s = c.requires.sound in
-    let n = c.leaf_of-at.result in
-    let on = c.leaf_of-at.ensures in
+    let n = c.args.at in
+    let on = c.requires.on in
     let l : Leaf g.row.K.Denot g.row.V.Denot = c.in-Some.leaf.now in
     let here : get a.leaves n ≡ Some l = sym c.in-Some.ensures.value in
     let m : Leaf g.row.K.Denot g.row.V.Denot = c.pack.new.self in
@@ -68,7 +68,7 @@ pub returns-clause-ascending : goal.returns-clause-ascending
 returns-clause-ascending g c =
     let cmp = g.K.Ord.cmp in
     let a = c.args.self.now in
-    let n = c.leaf_of-at.result in
+    let n = c.args.at in
     let l : Leaf g.row.K.Denot g.row.V.Denot = c.in-Some.leaf.now in
     let here : get a.leaves n ≡ Some l = sym c.in-Some.ensures.value in
     let m : Leaf g.row.K.Denot g.row.V.Denot = c.pack.new.self in

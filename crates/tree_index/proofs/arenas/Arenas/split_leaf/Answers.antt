@@ -17,14 +17,14 @@ insert-requires-clause-node g c =
     let cut = c.args.cut in
     let whole : Leaf g.row.K.Denot g.row.V.Denot = c.in-Some.leaf.now in
     let upper : Leaf g.row.K.Denot g.row.V.Denot = c.split.new.self in
-    let low : Leaf g.row.K.Denot g.row.V.Denot = record { array = c.split.result; prev = c.split.new.self.prev; next = Some c.leaf_of-child.result } in
-    let here : get a.leaves c.leaf_of-child.result ≡ Some whole = sym c.in-Some.ensures.value in
-    let same : c.requires.cut.leaf ≡ whole = some_same (sym c.requires.cut.there ∙ ap (get a.leaves) (sym c.leaf_of-child.ensures) ∙ here) in
+    let low : Leaf g.row.K.Denot g.row.V.Denot = record { array = c.split.result; prev = c.split.new.self.prev; next = Some c.args.child } in
+    let here : get a.leaves c.args.child ≡ Some whole = sym c.in-Some.ensures.value in
+    let same : c.requires.cut.leaf ≡ whole = some_same (sym c.requires.cut.there ∙ ap (get a.leaves) (sym c.requires.on) ∙ here) in
     let fits : IsCut cmp key whole.array.pairs cut = subst (λ (l : Leaf g.row.K.Denot g.row.V.Denot). IsCut cmp key l.array.pairs cut) same c.requires.cut.fits in
     let old : Branches g.row.K.Denot = c.in-Some-get_mut.node.now in
-    let there : get a.nodes c.node_at-above.result ≡ Some old = sym c.in-Some-get_mut.ensures.value in
-    let thawed = was_thawed cmp o key a c.requires.sound c.requires.planted c.node_at-above.result c.leaf_of-child.result c.node_at-above.ensures c.leaf_of-child.ensures whole upper low here cut fits c.split.ensures.rising in
-    old_node cmp o key a c.requires.sound c.requires.planted c.node_at-above.result c.leaf_of-child.result c.node_at-above.ensures c.leaf_of-child.ensures whole upper low here cut fits c.split.ensures.rising old there
+    let there : get a.nodes c.args.above ≡ Some old = sym c.in-Some-get_mut.ensures.value in
+    let thawed = was_thawed cmp o key a c.requires.sound c.requires.planted c.args.above c.args.child c.requires.lowest c.requires.on whole upper low here cut fits c.split.ensures.rising in
+    old_node cmp o key a c.requires.sound c.requires.planted c.args.above c.args.child c.requires.lowest c.requires.on whole upper low here cut fits c.split.ensures.rising old there
 
 pub insert-requires-clause-absent : goal.insert-requires-clause-absent
 insert-requires-clause-absent g c =
@@ -35,14 +35,14 @@ insert-requires-clause-absent g c =
     let cut = c.args.cut in
     let whole : Leaf g.row.K.Denot g.row.V.Denot = c.in-Some.leaf.now in
     let upper : Leaf g.row.K.Denot g.row.V.Denot = c.split.new.self in
-    let low : Leaf g.row.K.Denot g.row.V.Denot = record { array = c.split.result; prev = c.split.new.self.prev; next = Some c.leaf_of-child.result } in
-    let here : get a.leaves c.leaf_of-child.result ≡ Some whole = sym c.in-Some.ensures.value in
-    let same : c.requires.cut.leaf ≡ whole = some_same (sym c.requires.cut.there ∙ ap (get a.leaves) (sym c.leaf_of-child.ensures) ∙ here) in
+    let low : Leaf g.row.K.Denot g.row.V.Denot = record { array = c.split.result; prev = c.split.new.self.prev; next = Some c.args.child } in
+    let here : get a.leaves c.args.child ≡ Some whole = sym c.in-Some.ensures.value in
+    let same : c.requires.cut.leaf ≡ whole = some_same (sym c.requires.cut.there ∙ ap (get a.leaves) (sym c.requires.on) ∙ here) in
     let fits : IsCut cmp key whole.array.pairs cut = subst (λ (l : Leaf g.row.K.Denot g.row.V.Denot). IsCut cmp key l.array.pairs cut) same c.requires.cut.fits in
     let old : Branches g.row.K.Denot = c.in-Some-get_mut.node.now in
-    let there : get a.nodes c.node_at-above.result ≡ Some old = sym c.in-Some-get_mut.ensures.value in
-    let thawed = was_thawed cmp o key a c.requires.sound c.requires.planted c.node_at-above.result c.leaf_of-child.result c.node_at-above.ensures c.leaf_of-child.ensures whole upper low here cut fits c.split.ensures.rising in
-    absent_above cmp o key a c.requires.sound c.requires.planted c.node_at-above.result c.leaf_of-child.result c.node_at-above.ensures c.leaf_of-child.ensures whole upper low here cut fits c.split.ensures.rising old there
+    let there : get a.nodes c.args.above ≡ Some old = sym c.in-Some-get_mut.ensures.value in
+    let thawed = was_thawed cmp o key a c.requires.sound c.requires.planted c.args.above c.args.child c.requires.lowest c.requires.on whole upper low here cut fits c.split.ensures.rising in
+    absent_above cmp o key a c.requires.sound c.requires.planted c.args.above c.args.child c.requires.lowest c.requires.on whole upper low here cut fits c.split.ensures.rising old there
 
 pub returns-clause-sound : goal.returns-clause-sound
 returns-clause-sound g c =
@@ -53,14 +53,14 @@ returns-clause-sound g c =
     let cut = c.args.cut in
     let whole : Leaf g.row.K.Denot g.row.V.Denot = c.in-Some.leaf.now in
     let upper : Leaf g.row.K.Denot g.row.V.Denot = c.split.new.self in
-    let low : Leaf g.row.K.Denot g.row.V.Denot = record { array = c.split.result; prev = c.split.new.self.prev; next = Some c.leaf_of-child.result } in
-    let here : get a.leaves c.leaf_of-child.result ≡ Some whole = sym c.in-Some.ensures.value in
-    let same : c.requires.cut.leaf ≡ whole = some_same (sym c.requires.cut.there ∙ ap (get a.leaves) (sym c.leaf_of-child.ensures) ∙ here) in
+    let low : Leaf g.row.K.Denot g.row.V.Denot = record { array = c.split.result; prev = c.split.new.self.prev; next = Some c.args.child } in
+    let here : get a.leaves c.args.child ≡ Some whole = sym c.in-Some.ensures.value in
+    let same : c.requires.cut.leaf ≡ whole = some_same (sym c.requires.cut.there ∙ ap (get a.leaves) (sym c.requires.on) ∙ here) in
     let fits : IsCut cmp key whole.array.pairs cut = subst (λ (l : Leaf g.row.K.Denot g.row.V.Denot). IsCut cmp key l.array.pairs cut) same c.requires.cut.fits in
     let old : Branches g.row.K.Denot = c.in-Some-get_mut.node.now in
-    let there : get a.nodes c.node_at-above.result ≡ Some old = sym c.in-Some-get_mut.ensures.value in
-    let thawed = was_thawed cmp o key a c.requires.sound c.requires.planted c.node_at-above.result c.leaf_of-child.result c.node_at-above.ensures c.leaf_of-child.ensures whole upper low here cut fits c.split.ensures.rising in
-    done_sound cmp o key a c.requires.sound c.requires.planted c.node_at-above.result c.leaf_of-child.result c.node_at-above.ensures c.leaf_of-child.ensures whole upper low here cut fits c.split.ensures.rising old there c.split.ensures.lower c.split.ensures.upper c.split.ensures.lower_rising c.split.ensures.upper_rising (c.split.ensures.lower_thawed thawed) (c.split.ensures.upper_thawed thawed) c.split.ensures.lower_living c.split.ensures.upper_living c.split.ensures.lower_used c.split.ensures.upper_used c.insert_reserved-fresh.new.self c.link.new.leaves c.insert_reserved-fresh.result c.insert_reserved-fresh.ensures.updates c.insert_reserved-fresh.ensures.was_vacant c.link.ensures.arrays c.link.ensures.links c.split.ensures.prev c.split.ensures.next refl refl c.insert.new.self c.insert.ensures.node c.insert.ensures.separators c.insert.ensures.last
+    let there : get a.nodes c.args.above ≡ Some old = sym c.in-Some-get_mut.ensures.value in
+    let thawed = was_thawed cmp o key a c.requires.sound c.requires.planted c.args.above c.args.child c.requires.lowest c.requires.on whole upper low here cut fits c.split.ensures.rising in
+    done_sound cmp o key a c.requires.sound c.requires.planted c.args.above c.args.child c.requires.lowest c.requires.on whole upper low here cut fits c.split.ensures.rising old there c.split.ensures.lower c.split.ensures.upper c.split.ensures.lower_rising c.split.ensures.upper_rising (c.split.ensures.lower_thawed thawed) (c.split.ensures.upper_thawed thawed) c.split.ensures.lower_living c.split.ensures.upper_living c.split.ensures.lower_used c.split.ensures.upper_used c.insert_reserved-fresh.new.self c.link.new.leaves c.insert_reserved-fresh.result c.insert_reserved-fresh.ensures.updates c.insert_reserved-fresh.ensures.was_vacant c.link.ensures.arrays c.link.ensures.links c.split.ensures.prev c.split.ensures.next refl refl c.insert.new.self c.insert.ensures.node c.insert.ensures.separators c.insert.ensures.last
 
 pub returns-clause-pairs : goal.returns-clause-pairs
 returns-clause-pairs g c =
@@ -71,14 +71,14 @@ returns-clause-pairs g c =
     let cut = c.args.cut in
     let whole : Leaf g.row.K.Denot g.row.V.Denot = c.in-Some.leaf.now in
     let upper : Leaf g.row.K.Denot g.row.V.Denot = c.split.new.self in
-    let low : Leaf g.row.K.Denot g.row.V.Denot = record { array = c.split.result; prev = c.split.new.self.prev; next = Some c.leaf_of-child.result } in
-    let here : get a.leaves c.leaf_of-child.result ≡ Some whole = sym c.in-Some.ensures.value in
-    let same : c.requires.cut.leaf ≡ whole = some_same (sym c.requires.cut.there ∙ ap (get a.leaves) (sym c.leaf_of-child.ensures) ∙ here) in
+    let low : Leaf g.row.K.Denot g.row.V.Denot = record { array = c.split.result; prev = c.split.new.self.prev; next = Some c.args.child } in
+    let here : get a.leaves c.args.child ≡ Some whole = sym c.in-Some.ensures.value in
+    let same : c.requires.cut.leaf ≡ whole = some_same (sym c.requires.cut.there ∙ ap (get a.leaves) (sym c.requires.on) ∙ here) in
     let fits : IsCut cmp key whole.array.pairs cut = subst (λ (l : Leaf g.row.K.Denot g.row.V.Denot). IsCut cmp key l.array.pairs cut) same c.requires.cut.fits in
     let old : Branches g.row.K.Denot = c.in-Some-get_mut.node.now in
-    let there : get a.nodes c.node_at-above.result ≡ Some old = sym c.in-Some-get_mut.ensures.value in
-    let thawed = was_thawed cmp o key a c.requires.sound c.requires.planted c.node_at-above.result c.leaf_of-child.result c.node_at-above.ensures c.leaf_of-child.ensures whole upper low here cut fits c.split.ensures.rising in
-    done_pairs cmp o key a c.requires.sound c.requires.planted c.node_at-above.result c.leaf_of-child.result c.node_at-above.ensures c.leaf_of-child.ensures whole upper low here cut fits c.split.ensures.rising old there c.split.ensures.lower c.split.ensures.upper c.split.ensures.lower_rising c.split.ensures.upper_rising (c.split.ensures.lower_thawed thawed) (c.split.ensures.upper_thawed thawed) c.split.ensures.lower_living c.split.ensures.upper_living c.split.ensures.lower_used c.split.ensures.upper_used c.insert_reserved-fresh.new.self c.link.new.leaves c.insert_reserved-fresh.result c.insert_reserved-fresh.ensures.updates c.insert_reserved-fresh.ensures.was_vacant c.link.ensures.arrays c.link.ensures.links c.split.ensures.prev c.split.ensures.next refl refl c.insert.new.self c.insert.ensures.node c.insert.ensures.separators c.insert.ensures.last
+    let there : get a.nodes c.args.above ≡ Some old = sym c.in-Some-get_mut.ensures.value in
+    let thawed = was_thawed cmp o key a c.requires.sound c.requires.planted c.args.above c.args.child c.requires.lowest c.requires.on whole upper low here cut fits c.split.ensures.rising in
+    done_pairs cmp o key a c.requires.sound c.requires.planted c.args.above c.args.child c.requires.lowest c.requires.on whole upper low here cut fits c.split.ensures.rising old there c.split.ensures.lower c.split.ensures.upper c.split.ensures.lower_rising c.split.ensures.upper_rising (c.split.ensures.lower_thawed thawed) (c.split.ensures.upper_thawed thawed) c.split.ensures.lower_living c.split.ensures.upper_living c.split.ensures.lower_used c.split.ensures.upper_used c.insert_reserved-fresh.new.self c.link.new.leaves c.insert_reserved-fresh.result c.insert_reserved-fresh.ensures.updates c.insert_reserved-fresh.ensures.was_vacant c.link.ensures.arrays c.link.ensures.links c.split.ensures.prev c.split.ensures.next refl refl c.insert.new.self c.insert.ensures.node c.insert.ensures.separators c.insert.ensures.last
 
 pub returns-clause-room : goal.returns-clause-room
 returns-clause-room g c =
@@ -89,14 +89,14 @@ returns-clause-room g c =
     let cut = c.args.cut in
     let whole : Leaf g.row.K.Denot g.row.V.Denot = c.in-Some.leaf.now in
     let upper : Leaf g.row.K.Denot g.row.V.Denot = c.split.new.self in
-    let low : Leaf g.row.K.Denot g.row.V.Denot = record { array = c.split.result; prev = c.split.new.self.prev; next = Some c.leaf_of-child.result } in
-    let here : get a.leaves c.leaf_of-child.result ≡ Some whole = sym c.in-Some.ensures.value in
-    let same : c.requires.cut.leaf ≡ whole = some_same (sym c.requires.cut.there ∙ ap (get a.leaves) (sym c.leaf_of-child.ensures) ∙ here) in
+    let low : Leaf g.row.K.Denot g.row.V.Denot = record { array = c.split.result; prev = c.split.new.self.prev; next = Some c.args.child } in
+    let here : get a.leaves c.args.child ≡ Some whole = sym c.in-Some.ensures.value in
+    let same : c.requires.cut.leaf ≡ whole = some_same (sym c.requires.cut.there ∙ ap (get a.leaves) (sym c.requires.on) ∙ here) in
     let fits : IsCut cmp key whole.array.pairs cut = subst (λ (l : Leaf g.row.K.Denot g.row.V.Denot). IsCut cmp key l.array.pairs cut) same c.requires.cut.fits in
     let old : Branches g.row.K.Denot = c.in-Some-get_mut.node.now in
-    let there : get a.nodes c.node_at-above.result ≡ Some old = sym c.in-Some-get_mut.ensures.value in
-    let thawed = was_thawed cmp o key a c.requires.sound c.requires.planted c.node_at-above.result c.leaf_of-child.result c.node_at-above.ensures c.leaf_of-child.ensures whole upper low here cut fits c.split.ensures.rising in
-    done_room cmp o key a c.requires.sound c.requires.planted c.node_at-above.result c.leaf_of-child.result c.node_at-above.ensures c.leaf_of-child.ensures whole upper low here cut fits c.split.ensures.rising old there c.split.ensures.lower c.split.ensures.upper c.split.ensures.lower_rising c.split.ensures.upper_rising (c.split.ensures.lower_thawed thawed) (c.split.ensures.upper_thawed thawed) c.split.ensures.lower_living c.split.ensures.upper_living c.split.ensures.lower_used c.split.ensures.upper_used c.insert_reserved-fresh.new.self c.link.new.leaves c.insert_reserved-fresh.result c.insert_reserved-fresh.ensures.updates c.insert_reserved-fresh.ensures.was_vacant c.link.ensures.arrays c.link.ensures.links c.split.ensures.prev c.split.ensures.next refl refl c.insert.new.self c.insert.ensures.node c.insert.ensures.separators c.insert.ensures.last
+    let there : get a.nodes c.args.above ≡ Some old = sym c.in-Some-get_mut.ensures.value in
+    let thawed = was_thawed cmp o key a c.requires.sound c.requires.planted c.args.above c.args.child c.requires.lowest c.requires.on whole upper low here cut fits c.split.ensures.rising in
+    done_room cmp o key a c.requires.sound c.requires.planted c.args.above c.args.child c.requires.lowest c.requires.on whole upper low here cut fits c.split.ensures.rising old there c.split.ensures.lower c.split.ensures.upper c.split.ensures.lower_rising c.split.ensures.upper_rising (c.split.ensures.lower_thawed thawed) (c.split.ensures.upper_thawed thawed) c.split.ensures.lower_living c.split.ensures.upper_living c.split.ensures.lower_used c.split.ensures.upper_used c.insert_reserved-fresh.new.self c.link.new.leaves c.insert_reserved-fresh.result c.insert_reserved-fresh.ensures.updates c.insert_reserved-fresh.ensures.was_vacant c.link.ensures.arrays c.link.ensures.links c.split.ensures.prev c.split.ensures.next refl refl c.insert.new.self c.insert.ensures.node c.insert.ensures.separators c.insert.ensures.last
 
 pub returns-clause-ascending : goal.returns-clause-ascending
 returns-clause-ascending g c over_all crowd some =
@@ -107,11 +107,11 @@ returns-clause-ascending g c over_all crowd some =
     let cut = c.args.cut in
     let whole : Leaf g.row.K.Denot g.row.V.Denot = c.in-Some.leaf.now in
     let upper : Leaf g.row.K.Denot g.row.V.Denot = c.split.new.self in
-    let low : Leaf g.row.K.Denot g.row.V.Denot = record { array = c.split.result; prev = c.split.new.self.prev; next = Some c.leaf_of-child.result } in
-    let here : get a.leaves c.leaf_of-child.result ≡ Some whole = sym c.in-Some.ensures.value in
-    let same : c.requires.cut.leaf ≡ whole = some_same (sym c.requires.cut.there ∙ ap (get a.leaves) (sym c.leaf_of-child.ensures) ∙ here) in
+    let low : Leaf g.row.K.Denot g.row.V.Denot = record { array = c.split.result; prev = c.split.new.self.prev; next = Some c.args.child } in
+    let here : get a.leaves c.args.child ≡ Some whole = sym c.in-Some.ensures.value in
+    let same : c.requires.cut.leaf ≡ whole = some_same (sym c.requires.cut.there ∙ ap (get a.leaves) (sym c.requires.on) ∙ here) in
     let fits : IsCut cmp key whole.array.pairs cut = subst (λ (l : Leaf g.row.K.Denot g.row.V.Denot). IsCut cmp key l.array.pairs cut) same c.requires.cut.fits in
     let old : Branches g.row.K.Denot = c.in-Some-get_mut.node.now in
-    let there : get a.nodes c.node_at-above.result ≡ Some old = sym c.in-Some-get_mut.ensures.value in
-    let thawed = was_thawed cmp o key a c.requires.sound c.requires.planted c.node_at-above.result c.leaf_of-child.result c.node_at-above.ensures c.leaf_of-child.ensures whole upper low here cut fits c.split.ensures.rising in
-    rises_more a.height _ _ (λ flat room. done_room_kept cmp o key a c.requires.sound c.requires.planted c.node_at-above.result c.leaf_of-child.result c.node_at-above.ensures c.leaf_of-child.ensures whole upper low here cut fits c.split.ensures.rising old there c.split.ensures.lower c.split.ensures.upper c.split.ensures.lower_rising c.split.ensures.upper_rising (c.split.ensures.lower_thawed thawed) (c.split.ensures.upper_thawed thawed) c.split.ensures.lower_living c.split.ensures.upper_living c.split.ensures.lower_used c.split.ensures.upper_used c.insert_reserved-fresh.new.self c.link.new.leaves c.insert_reserved-fresh.result c.insert_reserved-fresh.ensures.updates c.insert_reserved-fresh.ensures.was_vacant c.link.ensures.arrays c.link.ensures.links c.split.ensures.prev c.split.ensures.next refl refl c.insert.new.self c.insert.ensures.node c.insert.ensures.separators c.insert.ensures.last flat over_all crowd c.split.ensures.upper_clear room) some
+    let there : get a.nodes c.args.above ≡ Some old = sym c.in-Some-get_mut.ensures.value in
+    let thawed = was_thawed cmp o key a c.requires.sound c.requires.planted c.args.above c.args.child c.requires.lowest c.requires.on whole upper low here cut fits c.split.ensures.rising in
+    rises_more a.height _ _ (λ flat room. done_room_kept cmp o key a c.requires.sound c.requires.planted c.args.above c.args.child c.requires.lowest c.requires.on whole upper low here cut fits c.split.ensures.rising old there c.split.ensures.lower c.split.ensures.upper c.split.ensures.lower_rising c.split.ensures.upper_rising (c.split.ensures.lower_thawed thawed) (c.split.ensures.upper_thawed thawed) c.split.ensures.lower_living c.split.ensures.upper_living c.split.ensures.lower_used c.split.ensures.upper_used c.insert_reserved-fresh.new.self c.link.new.leaves c.insert_reserved-fresh.result c.insert_reserved-fresh.ensures.updates c.insert_reserved-fresh.ensures.was_vacant c.link.ensures.arrays c.link.ensures.links c.split.ensures.prev c.split.ensures.next refl refl c.insert.new.self c.insert.ensures.node c.insert.ensures.separators c.insert.ensures.last flat over_all crowd c.split.ensures.upper_clear room) some

@@ -1,13 +1,14 @@
 use Rattle.std.proofs.Common.{sym, ◌∙◌}
+use Rattle.leaf_array.proofs.PackLemmas.{within_some}
 use Rattle.tree_index.proofs.EndLemmas.{spot_pair}
-use Rattle.tree_index.proofs.LeafCursorLemmas.{ranked_above, there_within, spot_part}
+use Rattle.tree_index.proofs.LeafCursorLemmas.{ranked_above, spot_part}
 use Rattle.tree_index.proofs.arenas.Arenas.stand.Goals as goal
 
 pub returns-clause-pair : goal.returns-clause-pair
 returns-clause-pair g c = ranked_above c.args.spot.place c.args.spot.leaf.now.array.pairs ∙ sym (spot_pair g.K.Ord.cmp c.args.self.now c.requires.sound c.args.spot c.requires.spot).0
 
 pub returns-clause-there : goal.returns-clause-there
-returns-clause-there g c = rw (ranked_above c.args.spot.place c.args.spot.leaf.now.array.pairs) (there_within c.args.spot.place c.args.spot.leaf.now.array.pairs c.requires.spot.within)
+returns-clause-there g c = rw (ranked_above c.args.spot.place c.args.spot.leaf.now.array.pairs) (within_some c.args.spot.leaf.now.array.pairs c.args.spot.place c.requires.spot.within)
 
 pub returns-clause-part : goal.returns-clause-part
 returns-clause-part g c = spot_part c.args.self.now c.args.spot c.requires.spot

@@ -18,3 +18,6 @@ returns-clause-unique g c s e =
 pub returns-clause-done : goal.returns-clause-done
 returns-clause-done g c s =
     put_is g.K.Ord.cmp g.met.K.Ord.total c.args.key c.args.val c.args.self.now.array c.insert.new.self c.len.ensures.ordered (c.insert.ensures.inserted s) (c.insert.ensures.replaced s)
+
+pub returns-clause-absent : goal.returns-clause-absent
+returns-clause-absent g c f u = has_lookup g.K.Ord.cmp c.args.key c.args.self.now.array.pairs ∙ c.insert.ensures.absent f u c.requires

@@ -1,0 +1,90 @@
+-- entries of a bag that are taken one after another
+use Rattle.std.proofs.Common.{◌≡◌, ◌++◌, ℕ, ◌+◌, ◌≤◌, List, [], ◌∷◌, length, refl, sym, ap, ◌∙◌, arith, subst, inl, inr}
+use Rattle.std.proofs.lemmas.List.{append_assoc, length-append}
+use Rattle.std.specs.List.{FoldsTo}
+use Rattle.std.proofs.lemmas.Fn.{FoldsTo-push}
+use Rattle.sdd_base.specs.State.{State}
+use Rattle.sdd_base.specs.Tokens.{shared_slot}
+use Rattle.sdd_base.specs.declared.owner.Shared.{Shared}
+use Rattle.sdd.specs.Chain.{Entry, Leaves, links}
+use Rattle.sdd.specs.Bags.{IsBag, AreOwn, Adds, Removes, CallsWith, TakesOne}
+use Rattle.sdd.specs.declared.linked_entry.LinkedEntry.{LinkedEntry}
+use Rattle.sdd.proofs.Rows.{own_left, own_both}
+
+module _ {X : Type 0} where
+  removes_last : (xs : List X) (x : X) (ys zs rest : List X) → Removes xs ys zs → Adds x rest zs → Removes (xs ++ x ∷ []) ys rest
+  removes_last [] x ys zs rest h a = (rest, subst (λ (es : List X). Adds x rest es) h a, refl)
+  removes_last (e ∷ xs) x ys zs rest h a = (h.0, h.1, removes_last xs x h.0 zs rest h.2 a)
+
+  adds_front : (x : X) (xs ys zs : List X) → Adds x xs ys → Adds x (xs ++ zs) (ys ++ zs)
+  adds_front x xs ys zs a = record {
+    before = a.before;
+    after = a.after ++ zs;
+    was = ap (λ (es : List X). es ++ zs) a.was ∙ append_assoc a.before a.after zs;
+    now = ap (λ (es : List X). es ++ zs) a.now ∙ append_assoc a.before (x ∷ a.after) zs;
+  }
+
+  adds_length : (x : X) (xs ys : List X) → Adds x xs ys → length ys ≡ length xs + 1
+  adds_length x xs ys a =
+      let p : length xs ≡ length (a.before ++ a.after) = ap length a.was in
+      let q : length ys ≡ length (a.before ++ x ∷ a.after) = ap length a.now in
+      let m = length-append a.before a.after in
+      let n = length-append a.before (x ∷ a.after) in
+      omega (arith, p, q, m, n)
+
+module _ {T : Type 0} (n : ℕ) (cs : List ℕ) where
+  -- a bag with one entry fewer
+  record Less (w : State (LinkedEntry T)) (e : Entry (LinkedEntry T)) (all : List (Entry (LinkedEntry T))) : Type 0 where
+    primary : List (Entry (LinkedEntry T))
+    overflow : List (Entry (LinkedEntry T))
+    is : IsBag n w cs primary overflow
+    adds : Adds e (overflow ++ primary) all
+
+  less : (w : State (LinkedEntry T)) (i : ℕ) (ps os : List (Entry (LinkedEntry T))) → (t : TakesOne n w cs i ps os) → Less w t.entry (os ++ ps)
+  less w i ps os t = elim t.left [
+    | inl l ↦ record { primary = ps; overflow = t.rest; is = l.1; adds = adds_front t.entry t.rest os ps l.0 }
+    | inr l ↦ record { primary = t.rest; overflow = []; is = l.2; adds = subst (λ (es : List (Entry (LinkedEntry T))). Adds t.entry t.rest (es ++ ps)) (sym l.0) l.1 }
+  ]
+
+  module _ {B F : Type 0} (step : F → B → Shared (LinkedEntry T) → B → F → Type 0) where
+    -- k entries were taken, and a closure was called with each owner
+    pub record Popped (w : State (LinkedEntry T)) (ps os : List (Entry (LinkedEntry T))) (start now : B × F) (k : ℕ) : Type 0 where
+      pub taken : List (Entry (LinkedEntry T))
+      pub primary : List (Entry (LinkedEntry T))
+      pub overflow : List (Entry (LinkedEntry T))
+      pub is : IsBag n w cs primary overflow
+      pub removes : Removes taken (os ++ ps) (overflow ++ primary)
+      pub size : k + length (overflow ++ primary) ≡ length (os ++ ps)
+      pub own : AreOwn w taken
+      pub folds : FoldsTo (CallsWith step) start taken now
+
+    pub popped_start : (w : State (LinkedEntry T)) (ps os : List (Entry (LinkedEntry T))) (start : B × F) → IsBag n w cs ps os → Popped w ps os start start 0
+    popped_start w ps os start b = record { taken = []; primary = ps; overflow = os; is = b; removes = refl; size = omega arith; own = tt; folds = refl }
+
+    pub popped_next : (w w' : State (LinkedEntry T)) (ps os : List (Entry (LinkedEntry T))) (start now next : B × F) (k : ℕ) (o : Shared (LinkedEntry T)) → (p : Popped w ps os start now k) → ((ps' os' : List (Entry (LinkedEntry T))) → IsBag n w cs ps' os' → TakesOne n w' cs (shared_slot o) ps' os') → ((ps' os' : List (Entry (LinkedEntry T))) → IsBag n w cs ps' os' → Leaves (cs ++ links (os' ++ ps')) [] w w') → step now.1 now.0 o next.0 next.1 → Popped w' ps os start next (k + 1)
+    popped_next w w' ps os start now next k o p takes leaves called =
+        let t = takes p.primary p.overflow p.is in
+        let l = less w' (shared_slot o) p.primary p.overflow t in
+        record {
+          taken = p.taken ++ t.entry ∷ [];
+          primary = l.primary;
+          overflow = l.overflow;
+          is = l.is;
+          removes = removes_last p.taken t.entry (os ++ ps) (p.overflow ++ p.primary) (l.overflow ++ l.primary) p.removes l.adds;
+          size = let a = adds_length t.entry (l.overflow ++ l.primary) (p.overflow ++ p.primary) l.adds in let s = p.size in omega (arith, a, s);
+          own = own_both w' p.taken (t.entry ∷ []) (own_left w w' (cs ++ links (p.overflow ++ p.primary)) p.taken (leaves p.primary p.overflow p.is) p.own) (t.clear, t.owners, tt);
+          folds = FoldsTo-push (CallsWith step) start p.taken now t.entry next p.folds (o, t.at, called);
+        }
+
+-- nothing is left
+pub popped_all : {X : Type 0} (ps os : List X) → length (os ++ ps) ≡ 0 → (ps ≡ []) × (os ≡ []) × (os ++ ps ≡ [])
+popped_all [] [] h = (refl, refl, refl)
+popped_all (p ∷ ps) [] h = absurd (omega (arith, h))
+popped_all ps (o ∷ os) h = absurd (omega (arith, h))
+
+pub popped_none : {X : Type 0} (ps os : List X) → ps ≡ [] → os ≡ [] → 1 ≤ length (os ++ ps) → ⊥
+popped_none ps os e f some =
+    let p : length ps ≡ 0 = ap length e in
+    let o : length os ≡ 0 = ap length f in
+    let b = length-append os ps in
+    omega (arith, p, o, b, some)

@@ -1,0 +1,15 @@
+use Rattle.std.proofs.Common.{◌≡◌, ◌≤◌, length, map}
+use Rattle.std.specs.Vec.{vec_capacity}
+use Rattle.sdd_base.specs.Tokens.{shared_cell}
+use Rattle.sdd.specs.Chain.{Stays}
+use Rattle.sdd.specs.Bags.{IsClaimed}
+use Rattle.sdd.proofs.world.row.claim_all.Given as goal
+
+abbrev pub invariant-loop-made : goal.invariant-loop-made
+invariant-loop-made g l = record {
+  claimed : IsClaimed l.initial.w (map shared_cell l.cells.items) l.w;
+  number : length l.cells.items ≡ l._made;
+  room : l.number ≤ vec_capacity l.cells;
+  members : l.w.members ≡ l.initial.w.members;
+  stays : Stays l.initial.w l.w;
+}

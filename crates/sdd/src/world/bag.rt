@@ -1,0 +1,180 @@
+//! Bags over a `World`.
+
+ghost use Rattle.std.specs.Prelude.{◌≡◌, ◌<◌, ◌≤◌, ◌⊎◌, ◌↔◌, ◌++◌, List, [], length, IfOk, IfErr, OnErr, OnOk, MatchOption, IsTrue, IsErrOf};
+ghost use Rattle.sdd_base.specs.State.{NoneFree, NoCellFree, emptiness};
+ghost use Rattle.sdd_base.specs.Frame.{OnlyOf};
+ghost use Rattle.std.specs.List.{sum_by, FoldsTo};
+ghost use Rattle.sdd_base.specs.Tokens.{shared_slot};
+ghost use Rattle.sdd.specs.Chain.{Entry, Leaves, Stays, links, slots};
+ghost use Rattle.sdd.specs.Bags.{IsLength, IsBag, IsSomeBag, PutsPrimary, PutsOverflow, TakesOne, IsSameBag, CallsWith, AreOwn, AreFreeCells, bag_cells, into_cells};
+ghost use Rattle.sdd.specs.declared.linked_entry.LinkedEntry.{LinkedEntry};
+
+use crate::bag::{Bag, IntoIter};
+use crate::linked_entry::LinkedEntry;
+use crate::refusal::NotMade;
+use crate::world::{chain, row};
+use sdd_base::owner::Shared;
+use sdd_base::world::World;
+use std::alloc::Global;
+
+/// An empty bag, exactly if `ARRAY_LEN + 1` cells are free and there is memory for as many names of cells; else nothing
+/// changes. Condition: `ARRAY_LEN` is 1 to 32.
+pub fn new<T, const ARRAY_LEN: usize>(
+    alloc: Global,
+    w: &mut World<LinkedEntry<T>>,
+) -> Result<Bag<T, ARRAY_LEN>, NotMade>
+    requires { IsLength ARRAY_LEN }
+    ensures made { IfOk result (λ b. IsBag ARRAY_LEN w.new (bag_cells b) [] []) }
+    ensures list { IfOk result (λ b. IsSomeBag ARRAY_LEN w.new (bag_cells b)) }
+    ensures fresh { IfOk result (λ b. AreFreeCells w.old (bag_cells b)) }
+    ensures back { OnErr result (w.new ≡ w.old) }
+    ensures refused { IsErrOf result NotMade.NoSlot → sum_by emptiness w.old.cells ≤ ARRAY_LEN }
+    ensures leaves { Leaves [] [] w.old w.new }
+    ensures members { w.new.members ≡ w.old.members }
+    ensures stays { Stays w.old w.new }
+{
+    match row::claim_all(alloc, w, ARRAY_LEN + 1) {
+        Ok(cells) => Ok(Bag { cells }),
+        Err(refused) => Err(refused),
+    }
+}
+
+/// Puts `value` into the primary, in an entry of its own, exactly if that has fewer than `ARRAY_LEN` values and a slot
+/// and a cell are free; else `value` comes back and nothing changes.
+pub fn try_push<T, const ARRAY_LEN: usize>(
+    w: &mut World<LinkedEntry<T>>,
+    bag: &Bag<T, ARRAY_LEN>,
+    value: T,
+) -> Result<(), T>
+    requires { IsSomeBag ARRAY_LEN w.old (bag_cells bag.now) }
+    ensures pushed { OnOk result ((ps : List (Entry (LinkedEntry T))) (os : List (Entry (LinkedEntry T))) → IsBag ARRAY_LEN w.old (bag_cells bag.now) ps os → (length ps < ARRAY_LEN) × PutsPrimary ARRAY_LEN w.old w.new value (bag_cells bag.now) ps os) }
+    ensures refused { IfErr result (λ v. (v ≡ value) × (w.new ≡ w.old)) }
+    ensures full { OnErr result ((ps : List (Entry (LinkedEntry T))) (os : List (Entry (LinkedEntry T))) → IsBag ARRAY_LEN w.old (bag_cells bag.now) ps os → (length ps ≡ ARRAY_LEN) ⊎ (NoneFree w.old ⊎ NoCellFree w.old)) }
+    ensures list { IsSomeBag ARRAY_LEN w.new (bag_cells bag.now) }
+    ensures leaves { Leaves (bag_cells bag.now) [] w.old w.new }
+    ensures members { w.new.members ≡ w.old.members }
+    ensures stays { Stays w.old w.new }
+{
+    match row::find(w, &bag.cells, 1, true) {
+        None => Err(value),
+        Some(at) => row::put(w, &bag.cells[at], value),
+    }
+}
+
+/// Puts `value` into the primary, in an entry of its own, or into the overflow if the primary has `ARRAY_LEN` values,
+/// exactly if a slot and a cell are free; else `value` comes back and nothing changes.
+pub fn push<T, const ARRAY_LEN: usize>(
+    w: &mut World<LinkedEntry<T>>,
+    bag: &Bag<T, ARRAY_LEN>,
+    value: T,
+) -> Result<(), T>
+    requires { IsSomeBag ARRAY_LEN w.old (bag_cells bag.now) }
+    ensures pushed { OnOk result ((ps : List (Entry (LinkedEntry T))) (os : List (Entry (LinkedEntry T))) → IsBag ARRAY_LEN w.old (bag_cells bag.now) ps os → ((length ps < ARRAY_LEN) × PutsPrimary ARRAY_LEN w.old w.new value (bag_cells bag.now) ps os) ⊎ ((length ps ≡ ARRAY_LEN) × PutsOverflow ARRAY_LEN w.old w.new value (bag_cells bag.now) ps os)) }
+    ensures refused { IfErr result (λ v. (v ≡ value) × (w.new ≡ w.old) × (NoneFree w.old ⊎ NoCellFree w.old)) }
+    ensures list { IsSomeBag ARRAY_LEN w.new (bag_cells bag.now) }
+    ensures leaves { Leaves (bag_cells bag.now) [] w.old w.new }
+    ensures members { w.new.members ≡ w.old.members }
+    ensures stays { Stays w.old w.new }
+{
+    match row::find(w, &bag.cells, 1, true) {
+        None => row::put(w, &bag.cells[0], value),
+        Some(at) => row::put(w, &bag.cells[at], value),
+    }
+}
+
+/// Takes an entry, from the overflow while that has any, and gives the owner of it. It is in no list then, and nobody
+/// else owns it. Participant `_p` gives nothing back.
+pub fn pop<T, const ARRAY_LEN: usize>(
+    w: &mut World<LinkedEntry<T>>,
+    bag: &Bag<T, ARRAY_LEN>,
+    _p: usize,
+) -> Option<Shared<LinkedEntry<T>>>
+    requires { IsSomeBag ARRAY_LEN w.old (bag_cells bag.now) }
+    ensures popped { (ps : List (Entry (LinkedEntry T))) (os : List (Entry (LinkedEntry T))) → IsBag ARRAY_LEN w.old (bag_cells bag.now) ps os → MatchOption result ((ps ≡ []) × (os ≡ []) × IsBag ARRAY_LEN w.new (bag_cells bag.now) [] []) (λ s. TakesOne ARRAY_LEN w.new (bag_cells bag.now) (shared_slot s) ps os) }
+    ensures list { IsSomeBag ARRAY_LEN w.new (bag_cells bag.now) }
+    ensures leaves { (ps : List (Entry (LinkedEntry T))) (os : List (Entry (LinkedEntry T))) → IsBag ARRAY_LEN w.old (bag_cells bag.now) ps os → Leaves (bag_cells bag.now ++ links (os ++ ps)) [] w.old w.new }
+    ensures members { w.new.members ≡ w.old.members }
+    ensures stays { Stays w.old w.new }
+{
+    match row::find(w, &bag.cells, 0, false) {
+        None => None,
+        Some(at) => chain::take_first(w, &bag.cells[at]),
+    }
+}
+
+/// How many values it has.
+pub fn len<T, const ARRAY_LEN: usize>(w: &World<LinkedEntry<T>>, bag: &Bag<T, ARRAY_LEN>) -> usize
+    requires { IsSomeBag ARRAY_LEN w.now (bag_cells bag.now) }
+    ensures { (ps : List (Entry (LinkedEntry T))) (os : List (Entry (LinkedEntry T))) → IsBag ARRAY_LEN w.now (bag_cells bag.now) ps os → result ≡ length (os ++ ps) }
+{
+    row::count_all(w, &bag.cells)
+}
+
+/// Whether it has no value.
+pub fn is_empty<T, const ARRAY_LEN: usize>(
+    w: &World<LinkedEntry<T>>,
+    bag: &Bag<T, ARRAY_LEN>,
+) -> bool
+    requires { IsSomeBag ARRAY_LEN w.now (bag_cells bag.now) }
+    ensures { (ps : List (Entry (LinkedEntry T))) (os : List (Entry (LinkedEntry T))) → IsBag ARRAY_LEN w.now (bag_cells bag.now) ps os → IsTrue result ↔ (os ++ ps ≡ []) }
+{
+    let found = row::find(w, &bag.cells, 0, false);
+    match found {
+        None => true,
+        Some(_) => false,
+    }
+}
+
+/// Takes every entry and folds the owners of them: `f` is called once with each. Participant `p` gives nothing back.
+pub fn pop_all<T, B, F: FnMut(B, Shared<LinkedEntry<T>>) -> B, const ARRAY_LEN: usize>(
+    w: &mut World<LinkedEntry<T>>,
+    bag: &Bag<T, ARRAY_LEN>,
+    p: usize,
+    init: B,
+    mut f: F,
+) -> B
+    requires callable { F.IsAlwaysCallable f }
+    requires list { IsSomeBag ARRAY_LEN w.old (bag_cells bag.now) }
+    ensures folded { (ps : List (Entry (LinkedEntry T))) (os : List (Entry (LinkedEntry T))) → IsBag ARRAY_LEN w.old (bag_cells bag.now) ps os → (es : List (Entry (LinkedEntry T))) × IsSameBag es (os ++ ps) × AreOwn w.new es × (last : F) × FoldsTo (CallsWith F.step) (init, f) es (result, last) }
+    ensures emptied { IsBag ARRAY_LEN w.new (bag_cells bag.now) [] [] }
+    ensures members { w.new.members ≡ w.old.members }
+    ensures stays { Stays w.old w.new }
+{
+    let mut folded = init;
+    for _popped in 0..len(w, bag) {
+        match pop(w, bag, p) {
+            None => unreachable!(),
+            Some(owner) => folded = f(folded, owner),
+        }
+    }
+    folded
+}
+
+/// Ends the bag: participant `p` gives all its entries back, and its `ARRAY_LEN + 1` cells are free.
+pub fn retire<T, const ARRAY_LEN: usize>(
+    w: &mut World<LinkedEntry<T>>,
+    bag: Bag<T, ARRAY_LEN>,
+    p: usize,
+)
+    requires member { p < length w.old.members }
+    requires list { IsSomeBag ARRAY_LEN w.old (bag_cells bag) }
+    ensures ended { AreFreeCells w.new (bag_cells bag) }
+    ensures leaves { (ps : List (Entry (LinkedEntry T))) (os : List (Entry (LinkedEntry T))) → IsBag ARRAY_LEN w.old (bag_cells bag) ps os → Leaves (bag_cells bag ++ links (os ++ ps)) (slots (os ++ ps)) w.old w.new }
+    ensures only { OnlyOf p w.old w.new }
+    ensures stays { Stays w.old w.new }
+{
+    let Bag { cells } = bag;
+    row::clear_all(w, &cells, p);
+    row::end_all(w, cells);
+}
+
+/// The bag, to be taken apart by `into_iter::next`.
+pub fn into_iter<T, const ARRAY_LEN: usize>(
+    _w: &World<LinkedEntry<T>>,
+    bag: Bag<T, ARRAY_LEN>,
+) -> IntoIter<T, ARRAY_LEN>
+    requires { IsSomeBag ARRAY_LEN _w.now (bag_cells bag) }
+    ensures { into_cells result ≡ bag_cells bag }
+{
+    IntoIter { bag }
+}

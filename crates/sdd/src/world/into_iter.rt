@@ -1,0 +1,47 @@
+//! Taking a bag apart over a `World`.
+
+ghost use Rattle.std.specs.Prelude.{◌≡◌, ◌<◌, ◌++◌, List, [], length, MatchOption};
+ghost use Rattle.sdd_base.specs.Frame.{OnlyOf};
+ghost use Rattle.sdd_base.specs.Tokens.{shared_slot};
+ghost use Rattle.sdd.specs.Chain.{Entry, Leaves, Stays, links, slots};
+ghost use Rattle.sdd.specs.Bags.{IsBag, IsSomeBag, TakesOne, AreFreeCells, into_cells};
+ghost use Rattle.sdd.specs.declared.linked_entry.LinkedEntry.{LinkedEntry};
+
+use crate::bag::IntoIter;
+use crate::linked_entry::LinkedEntry;
+use crate::world::bag;
+use sdd_base::owner::Shared;
+use sdd_base::world::World;
+
+/// The owner of the next entry, or none at the end, as `pop` of the bag gives it. Participant `p` gives nothing back.
+pub fn next<T, const ARRAY_LEN: usize>(
+    w: &mut World<LinkedEntry<T>>,
+    iter: &IntoIter<T, ARRAY_LEN>,
+    p: usize,
+) -> Option<Shared<LinkedEntry<T>>>
+    requires { IsSomeBag ARRAY_LEN w.old (into_cells iter.now) }
+    ensures popped { (ps : List (Entry (LinkedEntry T))) (os : List (Entry (LinkedEntry T))) → IsBag ARRAY_LEN w.old (into_cells iter.now) ps os → MatchOption result ((ps ≡ []) × (os ≡ []) × IsBag ARRAY_LEN w.new (into_cells iter.now) [] []) (λ s. TakesOne ARRAY_LEN w.new (into_cells iter.now) (shared_slot s) ps os) }
+    ensures list { IsSomeBag ARRAY_LEN w.new (into_cells iter.now) }
+    ensures leaves { (ps : List (Entry (LinkedEntry T))) (os : List (Entry (LinkedEntry T))) → IsBag ARRAY_LEN w.old (into_cells iter.now) ps os → Leaves (into_cells iter.now ++ links (os ++ ps)) [] w.old w.new }
+    ensures members { w.new.members ≡ w.old.members }
+    ensures stays { Stays w.old w.new }
+{
+    bag::pop(w, &iter.bag, p)
+}
+
+/// Ends the bag: participant `p` gives back what is left of its entries, and its cells are free.
+pub fn retire<T, const ARRAY_LEN: usize>(
+    w: &mut World<LinkedEntry<T>>,
+    iter: IntoIter<T, ARRAY_LEN>,
+    p: usize,
+)
+    requires member { p < length w.old.members }
+    requires list { IsSomeBag ARRAY_LEN w.old (into_cells iter) }
+    ensures ended { AreFreeCells w.new (into_cells iter) }
+    ensures leaves { (ps : List (Entry (LinkedEntry T))) (os : List (Entry (LinkedEntry T))) → IsBag ARRAY_LEN w.old (into_cells iter) ps os → Leaves (into_cells iter ++ links (os ++ ps)) (slots (os ++ ps)) w.old w.new }
+    ensures only { OnlyOf p w.old w.new }
+    ensures stays { Stays w.old w.new }
+{
+    let IntoIter { bag } = iter;
+    bag::retire(w, bag, p);
+}

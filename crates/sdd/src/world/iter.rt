@@ -1,0 +1,36 @@
+//! Walks along the containers of a `World`.
+
+ghost use Rattle.std.specs.Prelude.{◌≡◌, List};
+ghost use Rattle.std.specs.Option.{option_copied};
+ghost use Rattle.sdd_base.specs.declared.tag.Tag.{Tag};
+ghost use Rattle.sdd.specs.Chain.{Entry, IsHung, Hangs, undeleted};
+ghost use Rattle.sdd.specs.Entries.{entry_link};
+ghost use Rattle.sdd.specs.Iters.{iter_cell, first_value, Moves};
+ghost use Rattle.sdd.specs.declared.linked_entry.LinkedEntry.{LinkedEntry};
+
+use crate::iter::Iter;
+use crate::linked_entry::LinkedEntry;
+use crate::world::chain;
+use sdd_base::link::Link;
+use sdd_base::world::World;
+
+/// The value of the next entry that isn't deleted, or none at the end. Condition: what is left of the list hangs where
+/// the walk stands, as `iter` leaves it and every call of `next`, while nothing else changes the list.
+pub fn next<'w, T>(w: &'w World<LinkedEntry<T>>, iter: &mut Iter<T>) -> Option<&'w T>
+    requires { Hangs entry_link w.now (iter_cell iter.old) }
+    ensures gives { (t : Tag) (es : List (Entry (LinkedEntry T))) → IsHung entry_link w.now (iter_cell iter.old) t es → option_copied result ≡ first_value (undeleted es) }
+    ensures moves { (t : Tag) (es : List (Entry (LinkedEntry T))) → IsHung entry_link w.now (iter_cell iter.old) t es → Moves w.now (iter_cell iter.new) es }
+    ensures hangs { Hangs entry_link w.now (iter_cell iter.new) }
+{
+    let at = Link::of(chain::skip_from(w, iter.at.cell()));
+    match chain::first(w, at.cell()) {
+        None => {
+            iter.at = at;
+            None
+        }
+        Some(front) => {
+            iter.at = Link::of(front.link);
+            Some(front.item.as_ref())
+        }
+    }
+}

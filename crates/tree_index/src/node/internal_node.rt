@@ -1,0 +1,44 @@
+//! A node over other nodes.
+
+ghost use Rattle.std.specs.Prelude.{◌≡◌, MatchOption, Some, None};
+ghost use Rattle.std.specs.BTreeMap.{is_at};
+ghost use Rattle.std.specs.Map.{lookup_entry};
+
+use crate::node::Standing;
+use std::marker::Model;
+
+/// A node of a tree whose children are nodes: at most fifteen with the greatest keys that they may hold,
+/// and one behind them. (`scc`'s `tree_index::internal_node::InternalNode`.)
+///
+/// To contracts it is the list of the pairs under it, by rising keys.
+#[derive(Drop)]
+pub struct InternalNode<'t, K: Ord, V> {
+    pub(crate) standing: Standing<'t, K, V>,
+}
+
+impl<'t, K: Ord, V> Model for InternalNode<'t, K, V> {
+    ghost use Rattle.std.specs.Prelude.{List, ◌<◌};
+    ghost use Rattle.std.specs.Coded.{coded×, coded_list};
+    ghost use Rattle.tree_index.specs.Standing.{pairs_below, IsStanding};
+
+    ghost Value = { List (K × V) };
+
+    ghost coded = { coded_list (coded× K.code V.code) };
+
+    ghost view = { λ n. pairs_below n.standing };
+
+    ghost invariant = { λ n. IsStanding K.cmp n.standing × (1 < n.standing.height) };
+}
+
+impl<'t, K: Ord, V> InternalNode<'t, K, V> {
+    /// Calls `f` on the pair with this key, once, and gives what it answers, if the key is under this node.
+    /// Else `f` isn't called.
+    pub fn read_entry<R, F: FnOnce(&K, &V) -> R>(&self, key: &K, f: F) -> Option<R>
+    where
+        F: Drop,
+        requires { F.IsAlwaysCallable f }
+        ensures { MatchOption result (lookup_entry (is_at (K.cmp key.now)) self.now ≡ None) (λ r. (k : _) × (v : _) × (lookup_entry (is_at (K.cmp key.now)) self.now ≡ Some (k.now, v.now)) × F.post f k v r) }
+    {
+        self.standing.read_entry(key, f)
+    }
+}

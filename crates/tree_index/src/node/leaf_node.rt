@@ -1,0 +1,54 @@
+//! A node over leaves.
+
+ghost use Rattle.std.specs.Prelude.{◌≡◌, MatchOption, Some, None};
+ghost use Rattle.std.specs.BTreeMap.{is_at};
+ghost use Rattle.std.specs.Map.{lookup_entry};
+ghost use Rattle.tree_index.specs.LeafCursor.{IsPart};
+
+use crate::leaf::Leaf;
+use crate::node::Standing;
+use std::marker::Model;
+
+/// A node of a tree whose children are leaves: at most fifteen with the greatest keys that they may hold,
+/// and one behind them. (`scc`'s `tree_index::leaf_node::LeafNode`.)
+///
+/// To contracts it is the list of the pairs under it, by rising keys.
+#[derive(Drop)]
+pub struct LeafNode<'t, K: Ord, V> {
+    pub(crate) standing: Standing<'t, K, V>,
+}
+
+impl<'t, K: Ord, V> Model for LeafNode<'t, K, V> {
+    ghost use Rattle.std.specs.Prelude.{List, ◌≡◌};
+    ghost use Rattle.std.specs.Coded.{coded×, coded_list};
+    ghost use Rattle.tree_index.specs.Standing.{pairs_below, IsStanding};
+
+    ghost Value = { List (K × V) };
+
+    ghost coded = { coded_list (coded× K.code V.code) };
+
+    ghost view = { λ n. pairs_below n.standing };
+
+    ghost invariant = { λ n. IsStanding K.cmp n.standing × (n.standing.height ≡ 1) };
+}
+
+impl<'t, K: Ord, V> LeafNode<'t, K, V> {
+    /// Calls `f` on the pair with this key, once, and gives what it answers, if the key is under this node.
+    /// Else `f` isn't called.
+    pub fn read_entry<R, F: FnOnce(&K, &V) -> R>(&self, key: &K, f: F) -> Option<R>
+    where
+        F: Drop,
+        requires { F.IsAlwaysCallable f }
+        ensures { MatchOption result (lookup_entry (is_at (K.cmp key.now)) self.now ≡ None) (λ r. (k : _) × (v : _) × (lookup_entry (is_at (K.cmp key.now)) self.now ≡ Some (k.now, v.now)) × F.post f k v r) }
+    {
+        self.standing.read_entry(key, f)
+    }
+
+    /// The leaf on the way to a key: if a pair under this node has the key, it is in that leaf.
+    pub fn leaf(&self, key: &K) -> &'t Leaf<K, V>
+        ensures found { lookup_entry (is_at (K.cmp key.now)) self.now ≡ lookup_entry (is_at (K.cmp key.now)) result.now.array.pairs }
+        ensures part { IsPart result.now.array.pairs self.now }
+    {
+        self.standing.leaf(key)
+    }
+}

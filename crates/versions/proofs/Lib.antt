@@ -1,0 +1,11 @@
+pub mod Blocks
+pub mod Placings
+pub mod Seeking
+pub mod BlockLemmas
+pub mod Staying
+pub mod Filters
+pub mod Amends
+pub mod Ranges
+pub mod Cutting
+pub mod Streams
+pub mod Merging

@@ -1,0 +1,5 @@
+use Rattle.versions.proofs.Blocks.{blocks_fit}
+use Rattle.versions.proofs.laws.segments_are_few.Goals as goal
+
+pub returns : goal.returns
+returns g c = blocks_fit

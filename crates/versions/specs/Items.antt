@@ -1,0 +1,16 @@
+-- what items hold
+use Rattle.std.specs.Prelude.{ℕ, List, [], map, reverse}
+use Rattle.sdd_base.specs.Holding.{Hold, SharedItem}
+use Rattle.sdd_base.specs.Tokens.{kept_slot}
+use Rattle.versions.specs.declared.directory.Directory.{Directory}
+use Rattle.versions.specs.declared.item.Item.{Item}
+use Rattle.versions.specs.declared.item.Item.TheVariants as items
+
+-- the slots of the segments of a directory, in order
+abbrev pub slots_of : {K : Type 0} → Directory K → List ℕ
+slots_of d = map kept_slot d.segments.items
+
+-- a directory gives its segments up from the last one on
+abbrev pub held_by : {K V : Type 0} {s : ℕ} → Item K V s → List Hold
+held_by (items.Directory d) = reverse (map SharedItem (slots_of d))
+held_by (items.Segment t) = []

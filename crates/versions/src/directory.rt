@@ -1,0 +1,15 @@
+//! Directories: versions of a list, as segments in order.
+
+use sdd_base::owner::Kept;
+
+/// A version of a list: the owners of its segments in order.
+///
+/// A segment has 1 to `S` pairs, two neighbours together more than `S`; a separator is the greatest key of its segment,
+/// and the last segment has none.
+pub struct Directory<K> {
+    pub(crate) number: u64,
+    // how many pairs there are
+    pub(crate) length: usize,
+    pub(crate) segments: Vec<Kept>,
+    pub(crate) separators: Vec<K>,
+}

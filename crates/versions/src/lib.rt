@@ -1,0 +1,44 @@
+//! Versions of an ordered list of pairs, each a directory of segments.
+//!
+//! A segment is a tree of 1 to `S` pairs, and two neighbours together hold more than `S`: so `n` pairs lie in at most
+//! `2 * (n / (S + 1)) + 1` of them. A version is built beside the place, placed whole or not at all, and published by an
+//! exchange of the root; who reads an older one reads on.
+//!
+//! ```text
+//! let first = place(&mut world, Built::empty(alloc))?;                    // the empty list, in one slot
+//! let (built, replies) = build(alloc, &world, version(&world, &first), &writes)?;
+//! let second = place(&mut world, built)?;                                 // refused, it comes back
+//! look_up(&world, version(&world, &second), &key);                        // one search of the directory, one of a tree
+//! publish(&mut world, &root, second, writer);
+//! ```
+#![tactic(auto)]
+
+mod bounds;
+mod built;
+mod changes;
+mod directory;
+mod draft;
+mod flow;
+mod item;
+mod laws;
+mod merge;
+mod placing;
+#[cfg(test)]
+mod placing_tests;
+pub mod plain;
+mod read;
+mod segments;
+mod source;
+mod stream;
+#[cfg(test)]
+mod tests;
+mod write;
+
+pub use built::{Built, build};
+pub use directory::Directory;
+pub use item::Item;
+pub use laws::{segments_are_few, versions_stay};
+pub use placing::{place, publish};
+pub use read::{len, look_up, version, version_at};
+pub use source::Source;
+pub use write::{Reply, Write};
