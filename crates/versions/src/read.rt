@@ -84,7 +84,7 @@ pub fn len<K: Ord, V, const S: usize>(w: &World<Item<K, V, S>>, dir: &Directory<
     dir.length
 }
 
-/// The segment whose keys are the last ones that the key may be among.
+/// Which segment alone may have the key: that behind the separators that are less than it.
 fn place_of<K: Ord>(separators: &[K], key: &K) -> usize
     ensures { IsPlaceOf K.cmp key.now separators.now result }
 {
