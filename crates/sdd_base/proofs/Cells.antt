@@ -25,7 +25,7 @@ keeps-one (cell.OfShared o t) = omega arith
 keeps-one (cell.OfRaw o t) = omega arith
 
 module _ {T : Type 0} where
-  cells_released_as : (s : Status) (p i : ℕ) (w : State T) → (released_as s p i w).cells ≡ w.cells
+  pub cells_released_as : (s : Status) (p i : ℕ) (w : State T) → (released_as s p i w).cells ≡ w.cells
   cells_released_as status.Free p i w = refl
   cells_released_as status.Owned p i w = refl
   cells_released_as (status.Shared n) p i w = elim (leb n 1) as (λ b. (cond b (retired p i w) (with_status i (status.Shared (n - 1)) w)).cells ≡ w.cells) [ true ↦ refl | false ↦ refl ]

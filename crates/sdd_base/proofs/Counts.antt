@@ -406,7 +406,7 @@ module _ {T : Type 0} (holds : T → List Hold) where
       let r = reclaims_next holds w p i is sound known (sym e) in
       counted_reclaimed p n hand (due_reclaimed holds p w) is (sym r.due) (omega (arith, size)) r.sound (omega (arith, r.known)) (counted_next p i is hand w sound known (sym e) h)
 
-  counted_rotated : (p : ℕ) (hand : List Hold) (w : State T) → IsPlace w → p < length w.members → Counted holds hand w → Counted holds hand (rotated holds p w)
+  pub counted_rotated : (p : ℕ) (hand : List Hold) (w : State T) → IsPlace w → p < length w.members → Counted holds hand w → Counted holds hand (rotated holds p w)
   counted_rotated p hand w place known h =
       let m = member_at w p in
       let u : State T = rotated_bags p w in

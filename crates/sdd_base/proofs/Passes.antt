@@ -11,7 +11,7 @@ use Rattle.sdd_base.specs.Steps.{hit, times, released_as, disowned_as, owned_end
 use Rattle.sdd_base.specs.Place.{Sound, IsPlace, IsOpen, held_times}
 use Rattle.sdd_base.specs.Frame.{OnlyOf}
 use Rattle.sdd_base.specs.Counting.{tally, same_hold}
-use Rattle.sdd_base.specs.Passing.{accelerated, passed, passed_times, CanPass, slot_kept, slot_held, IsLayered, WaitsBelow, NoJobWaits, PassesReclaim, is_plain, IsPlain, Shrinks}
+use Rattle.sdd_base.specs.Passing.{accelerated, passed, passed_times, CanPass, slot_kept, slot_held, IsLayered, WaitsBelow, NoJobWaits, PassesReclaim, is_plain, Shrinks}
 use Rattle.sdd_base.specs.declared.status.Status.{Status}
 use Rattle.sdd_base.specs.declared.status.Status.TheVariants as status
 use Rattle.sdd_base.specs.declared.status.Cell.{Cell}
@@ -219,7 +219,7 @@ module _ {T : Type 0} (holds : T → List Hold) where
   due_turned : (w : State T) (p : ℕ) → p < length w.members → (member_at (rotated_bags p w) p).due ≡ reverse (member_at w p).oldest
   due_turned w p known = ap (λ (m : Member). m.due) (get_or-set_same w.members p (turned (member_at w p)) nobody known)
 
-  shrinks_rotated : (w : State T) (p : ℕ) → IsPlace w → p < length w.members → Shrinks w (rotated holds p w)
+  pub shrinks_rotated : (w : State T) (p : ℕ) → IsPlace w → p < length w.members → Shrinks w (rotated holds p w)
   shrinks_rotated w p h known =
       let u : State T = rotated_bags p w in
       let size : length u.members ≡ length w.members = length-set w.members p (turned (member_at w p)) in

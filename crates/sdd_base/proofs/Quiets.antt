@@ -1,11 +1,11 @@
 -- what guards and owners that are given back leave of items, cells and quiet participants
-use Rattle.std.proofs.Common.{◌≡◌, ◌≢◌, ℕ, zero, suc, ◌+◌, ◌-◌, ◌<◌, ◌≤◌, ◌==◌, ◌&&◌, ◌||◌, Bool, true, false, Option, None, Some, List, [], ◌∷◌, length, get_or, reverse, refl, sym, ap, ◌∙◌, arith, length-set, subst, cond, get_or-set_same, leb, ltb, is_some, not, sum_by, inl, inr, set}
+use Rattle.std.proofs.Common.{◌≡◌, ℕ, suc, ◌+◌, ◌-◌, ◌<◌, ◌≤◌, ◌==◌, ◌&&◌, ◌||◌, Bool, true, false, Option, None, Some, List, [], ◌∷◌, length, get_or, refl, sym, ap, ◌∙◌, arith, length-set, subst, cond, get_or-set_same, leb, ltb, is_some, not, sum_by, inl, inr}
 use Rattle.std.specs.List.{list_all}
 use Rattle.std.proofs.lemmas.Bool.{false≢true}
-use Rattle.std.proofs.lemmas.Bool.Decides.{eqb_tells, nat_tests}
+use Rattle.std.proofs.lemmas.Bool.Decides.{eqb_tells}
 use Rattle.std.proofs.lemmas.List.Sums.{sum_by-cons}
 use Rattle.sdd_base.specs.Holding.{Hold}
-use Rattle.sdd_base.specs.State.{State, Member, nobody, status_at, value_at, cell_at, member_at, marks_at, with_marks, marked, with_status, retired, rotated_bags, turned, raised, is_present, is_used, usage, in_use}
+use Rattle.sdd_base.specs.State.{State, Member, nobody, status_at, value_at, member_at, marks_at, with_marks, marked, with_status, retired, rotated_bags, turned, raised, is_present, is_used, usage, in_use}
 use Rattle.sdd_base.specs.Steps.{reclaimed, rotated, begun, opened, closed, settled, scanned, scans, closings_after, bags_empty, is_nil, released, released_as}
 use Rattle.sdd_base.specs.Place.{IsPlace}
 use Rattle.sdd_base.specs.Passing.{Shrinks, IsQuiet, Stands, GivesOnly}
@@ -13,7 +13,7 @@ use Rattle.sdd_base.specs.declared.status.Status.{Status}
 use Rattle.sdd_base.specs.declared.status.Status.TheVariants as status
 use Rattle.sdd_base.specs.declared.status.Marks.{Marks}
 use Rattle.sdd_base.proofs.Sounds.{gives_released_as}
-use Rattle.sdd_base.proofs.Places.{place_opened, place_by}
+use Rattle.sdd_base.proofs.Places.{place_by}
 use Rattle.sdd_base.proofs.Frames.{keeps_opened, keeps_gives}
 use Rattle.sdd_base.proofs.Passes.{opens, adds_released}
 

@@ -9,7 +9,6 @@ use Rattle.std.proofs.lemmas.List.Elements.{All-set, All-get_or}
 use Rattle.std.proofs.lemmas.List.Sums.{sum_by-set, sum_by-cons, sum_by-append, get_or-le-sum_by}
 use Rattle.sdd_base.specs.State.{State, Member, put_member, retired, waiting_as, is_job, nobody, status_at, member_at, left_due, changing, is_present, TakesDue, taken, is_used, usage, vacancy, idleness, emptiness, vacated, cell_at}
 use Rattle.sdd_base.proofs.Lists.{lists_same, lists_names, lists_pop, lists_push}
-use Rattle.sdd_base.specs.declared.job.Job.{Job}
 use Rattle.std.proofs.lemmas.Bool.{false≢true}
 use Rattle.sdd_base.specs.declared.status.Cell.{Cell}
 use Rattle.sdd_base.specs.declared.status.Cell.TheVariants as cell
@@ -90,7 +89,7 @@ vacant-is status.Retired h = absurd (omega arith)
 vacant-is status.Idle h = absurd (omega arith)
 vacant-is status.Deferred h = absurd (omega arith)
 
-pub filled_same : {T X : Type 0} {V : X → Type 0} (a : Inside T X V) (i : ℕ) (s : Status) → IsTable a → is_used s ≡ is_used (get_or a.states.items i status.Free) → map is_some a.values.items ≡ map is_used (set a.states.items i s)
+pub filled_same : {T J : Type 0} (a : Inside T J) (i : ℕ) (s : Status) → IsTable a → is_used s ≡ is_used (get_or a.states.items i status.Free) → map is_some a.values.items ≡ map is_used (set a.states.items i s)
 filled_same a i s h e = h.filled ∙ sym (map-set_same is_used a.states.items i s status.Free e)
 
 -- where a place doesn't wait yet, a bag has room for it
@@ -135,7 +134,7 @@ next_shown q v None e z =
 next_shown q v (Some i) e z = (reverse v.items, ap reverse e ∙ reverse-append v.items (i ∷ []), refl)
 
 -- a change of one participant alone
-pub changed_view : {T X : Type 0} {V : X → Type 0} (a : Inside T X V) (p : ℕ) (f : Member → Member) (q q' : Participant) → p < length a.members.items → q ≡ get_or a.members.items p q → member_of q' ≡ f (member_of q) → state_of (record a { members = with_item a.members p q' }) ≡ changing p f (state_of a)
+pub changed_view : {T J : Type 0} (a : Inside T J) (p : ℕ) (f : Member → Member) (q q' : Participant) → p < length a.members.items → q ≡ get_or a.members.items p q → member_of q' ≡ f (member_of q) → state_of (record a { members = with_item a.members p q' }) ≡ changing p f (state_of a)
 changed_view a p f q q' known is shown =
     let w = state_of a in
     let put : State _ → List Member → State _ = λ (s : State _) (ms : List Member). record s { members = ms } in
@@ -147,7 +146,7 @@ room_set n ms p q q' all known is keeps =
     let mine' : HasRoom n q = subst (λ (x : Participant). HasRoom n x) (sym is) mine in
     All-set (HasRoom n) ms p q' (keeps mine') all
 
-pub changed_invariant : {T X : Type 0} {V : X → Type 0} (a : Inside T X V) (p : ℕ) (q q' : Participant) → IsTable a → p < length a.members.items → q ≡ get_or a.members.items p q → (HasRoom (length a.states.items) q → HasRoom (length a.states.items) q') → waiting q' ≤ waiting q → IsTable (record a { members = with_item a.members p q' })
+pub changed_invariant : {T J : Type 0} (a : Inside T J) (p : ℕ) (q q' : Participant) → IsTable a → p < length a.members.items → q ≡ get_or a.members.items p q → (HasRoom (length a.states.items) q → HasRoom (length a.states.items) q') → waiting q' ≤ waiting q → IsTable (record a { members = with_item a.members p q' })
 changed_invariant a p q q' h known is keeps less =
     let parts = sum_by-set waiting a.members.items p q' q known in
     let same = ap waiting is in
@@ -164,7 +163,7 @@ changed_invariant a p q q' h known is keeps less =
     }
 
 -- place i is used in another way, whatever else changes
-pub states_invariant : {T X : Type 0} {V : X → Type 0} (a : Inside T X V) (v : Vec (Option T)) (jb : Vec (Option (Job X V))) (u : ℕ) (ms : Vec Participant) (fr idl : Vec ℕ) (i : ℕ) (s : Status) → IsTable a → length jb.items ≡ length a.jobs.items → is_job s ≡ is_job (get_or a.states.items i status.Free) → map is_some v.items ≡ map is_used (set a.states.items i s) → u ≡ sum_by usage (set a.states.items i s) → All (HasRoom (length a.states.items)) ms.items → sum_by waiting ms.items ≤ sum_by weight (set a.states.items i s) → Lists vacancy (set a.states.items i s) fr.items → length a.states.items ≤ vec_capacity fr → Lists idleness (set a.states.items i s) idl.items → length a.states.items ≤ vec_capacity idl → IsTable (record a { used = u; values = v; jobs = jb; states = with_item a.states i s; members = ms; free = fr; idle = idl })
+pub states_invariant : {T J : Type 0} (a : Inside T J) (v : Vec (Option T)) (jb : Vec (Option J)) (u : ℕ) (ms : Vec Participant) (fr idl : Vec ℕ) (i : ℕ) (s : Status) → IsTable a → length jb.items ≡ length a.jobs.items → is_job s ≡ is_job (get_or a.states.items i status.Free) → map is_some v.items ≡ map is_used (set a.states.items i s) → u ≡ sum_by usage (set a.states.items i s) → All (HasRoom (length a.states.items)) ms.items → sum_by waiting ms.items ≤ sum_by weight (set a.states.items i s) → Lists vacancy (set a.states.items i s) fr.items → length a.states.items ≤ vec_capacity fr → Lists idleness (set a.states.items i s) idl.items → length a.states.items ≤ vec_capacity idl → IsTable (record a { used = u; values = v; jobs = jb; states = with_item a.states i s; members = ms; free = fr; idle = idl })
 states_invariant a v jb u ms fr idl i s h many kind fill tally room waits slots roomy places roomier =
     let size = length-set {A = Status} a.states.items i s in
     record {
@@ -179,7 +178,7 @@ states_invariant a v jb u ms fr idl i s h many kind fill tally room waits slots 
     }
 
 -- an item's use is another one, and it waits neither before nor after
-pub status_invariant : {T X : Type 0} {V : X → Type 0} (a : Inside T X V) (i : ℕ) (s : Status) → IsTable a → i < length a.states.items → is_used (get_or a.states.items i status.Free) ≡ true → is_used s ≡ true → weight (get_or a.states.items i status.Free) ≡ weight s → IsTable (record a { states = with_item a.states i s })
+pub status_invariant : {T J : Type 0} (a : Inside T J) (i : ℕ) (s : Status) → IsTable a → i < length a.states.items → is_used (get_or a.states.items i status.Free) ≡ true → is_used s ≡ true → weight (get_or a.states.items i status.Free) ≡ weight s → IsTable (record a { states = with_item a.states i s })
 status_invariant a i s h inside was is even =
     let sums = sum_by-set weight a.states.items i s status.Free inside in
     let tallies = sum_by-set usage a.states.items i s status.Free inside in
@@ -192,17 +191,17 @@ status_invariant a i s h inside was is even =
     (lists_same idleness a.states.items i s status.Free a.idle.items inside (used-idleness s is ∙ sym (used-idleness _ was)) h.places.lists) h.places.room
 
 -- a slot that is used has a value
-pub value_there : {T X : Type 0} {V : X → Type 0} (a : Inside T X V) (i : ℕ) → IsTable a → is_some (get_or a.values.items i None) ≡ is_used (get_or a.states.items i status.Free)
+pub value_there : {T J : Type 0} (a : Inside T J) (i : ℕ) → IsTable a → is_some (get_or a.values.items i None) ≡ is_used (get_or a.states.items i status.Free)
 value_there a i h =
     sym (at_map is_some a.values.items i None) ∙ ap (λ (bs : List Bool). get_or bs i false) h.filled ∙ at_map is_used a.states.items i status.Free
 
-pub retired_view : {T X : Type 0} {V : X → Type 0} (a : Inside T X V) (p i : ℕ) (q q' : Participant) → p < length a.members.items → q ≡ get_or a.members.items p q → member_of q' ≡ put_member i (member_of q) → state_of (record a { states = with_item a.states i status.Retired; members = with_item a.members p q' }) ≡ retired p i (state_of a)
+pub retired_view : {T J : Type 0} (a : Inside T J) (p i : ℕ) (q q' : Participant) → p < length a.members.items → q ≡ get_or a.members.items p q → member_of q' ≡ put_member i (member_of q) → state_of (record a { states = with_item a.states i status.Retired; members = with_item a.members p q' }) ≡ retired p i (state_of a)
 retired_view a p i q q' known is shown =
     let w = state_of a in
     let put : State _ → List Member → State _ = λ (s : State _) (ms : List Member). record s { states = set a.states.items i status.Retired; members = ms } in
     ap (put w) (members_after (put_member i) a.members.items p q q' known is shown)
 
-pub retired_invariant : {T X : Type 0} {V : X → Type 0} (a : Inside T X V) (p i : ℕ) (q q' : Participant) → IsTable a → p < length a.members.items → i < length a.states.items → is_used (get_or a.states.items i status.Free) ≡ true → weight (get_or a.states.items i status.Free) ≡ 0 → q ≡ get_or a.members.items p q → ((n : ℕ) → HasRoom n q → HasRoom n q') → waiting q' ≡ waiting q + 1 → IsTable (record a { states = with_item a.states i status.Retired; members = with_item a.members p q' })
+pub retired_invariant : {T J : Type 0} (a : Inside T J) (p i : ℕ) (q q' : Participant) → IsTable a → p < length a.members.items → i < length a.states.items → is_used (get_or a.states.items i status.Free) ≡ true → weight (get_or a.states.items i status.Free) ≡ 0 → q ≡ get_or a.members.items p q → ((n : ℕ) → HasRoom n q → HasRoom n q') → waiting q' ≡ waiting q + 1 → IsTable (record a { states = with_item a.states i status.Retired; members = with_item a.members p q' })
 retired_invariant a p i q q' h known inside was light is keeps more =
     let s = status.Retired in
     let sums = sum_by-set weight a.states.items i s status.Free inside in
@@ -217,29 +216,29 @@ retired_invariant a p i q q' h known inside was light is keeps more =
     (lists_same idleness a.states.items i s status.Free a.idle.items inside (sym (used-idleness _ was)) h.places.lists) h.places.room
 
 -- what is asked of the state, of the fields
-pub known_in : {T X : Type 0} {V : X → Type 0} (a : Inside T X V) (w : State T) (p : ℕ) → state_of a ≡ w → p < length w.members → p < length a.members.items
+pub known_in : {T J : Type 0} (a : Inside T J) (w : State T) (p : ℕ) → state_of a ≡ w → p < length w.members → p < length a.members.items
 known_in a w p e h =
     let P : State _ → Type 0 = λ s. p < length s.members in
     let k : p < length (map member_of a.members.items) = subst P (sym e) h in
     rw length-map at k
 
-pub slot_in : {T X : Type 0} {V : X → Type 0} (a : Inside T X V) (w : State T) (i : ℕ) → state_of a ≡ w → i < length w.states → i < length a.states.items
+pub slot_in : {T J : Type 0} (a : Inside T J) (w : State T) (i : ℕ) → state_of a ≡ w → i < length w.states → i < length a.states.items
 slot_in a w i e h = let P : State _ → Type 0 = λ s. i < length s.states in subst P (sym e) h
 
-pub is_in : {T X : Type 0} {V : X → Type 0} (a : Inside T X V) (w : State T) (i : ℕ) (s : Status) → state_of a ≡ w → status_at w i ≡ s → get_or a.states.items i status.Free ≡ s
+pub is_in : {T J : Type 0} (a : Inside T J) (w : State T) (i : ℕ) (s : Status) → state_of a ≡ w → status_at w i ≡ s → get_or a.states.items i status.Free ≡ s
 is_in a w i s e h = let P : State _ → Type 0 = λ t. status_at t i ≡ s in subst P (sym e) h
 
-pub used_in : {T X : Type 0} {V : X → Type 0} (a : Inside T X V) (w : State T) (i : ℕ) (b : Bool) → state_of a ≡ w → is_used (status_at w i) ≡ b → is_used (get_or a.states.items i status.Free) ≡ b
+pub used_in : {T J : Type 0} (a : Inside T J) (w : State T) (i : ℕ) (b : Bool) → state_of a ≡ w → is_used (status_at w i) ≡ b → is_used (get_or a.states.items i status.Free) ≡ b
 used_in a w i b e h = let P : State _ → Type 0 = λ t. is_used (status_at t i) ≡ b in subst P (sym e) h
 
-pub weight_in : {T X : Type 0} {V : X → Type 0} (a : Inside T X V) (w : State T) (i n : ℕ) → state_of a ≡ w → weight (status_at w i) ≡ n → weight (get_or a.states.items i status.Free) ≡ n
+pub weight_in : {T J : Type 0} (a : Inside T J) (w : State T) (i n : ℕ) → state_of a ≡ w → weight (status_at w i) ≡ n → weight (get_or a.states.items i status.Free) ≡ n
 weight_in a w i n e h = let P : State _ → Type 0 = λ t. weight (status_at t i) ≡ n in subst P (sym e) h
 
 pub empty_then : (r : Option ℕ) (v v' : Vec ℕ) → MatchOption r ((vec_len v ≡ 0) × (vec_len v' ≡ 0)) (λ _. vec_len v' + 1 ≡ vec_len v) → MatchOption r (length v.items ≡ 0) (λ _. Unit {0})
 empty_then None v v' h = sym v.ok.0 ∙ h.0
 empty_then (Some i) v v' h = tt
 
-pub no_value : {T X : Type 0} {V : X → Type 0} (a : Inside T X V) (i : ℕ) (x : Option T) → IsTable a → is_used (get_or a.states.items i status.Free) ≡ true → x ≡ get_or a.values.items i x → x ≡ None → ⊥
+pub no_value : {T J : Type 0} (a : Inside T J) (i : ℕ) (x : Option T) → IsTable a → is_used (get_or a.states.items i status.Free) ≡ true → x ≡ get_or a.values.items i x → x ≡ None → ⊥
 no_value a i x h is e n =
     let P : Option _ → Type 0 = λ y. y ≡ get_or a.values.items i y in
     let there : None ≡ get_or a.values.items i None = subst P n e in
@@ -248,12 +247,12 @@ no_value a i x h is e n =
     cc
 
 -- a slot that is used has a value
-pub some_value : {T X : Type 0} {V : X → Type 0} (a : Inside T X V) (i : ℕ) (x : Option T) → IsTable a → is_used (get_or a.states.items i status.Free) ≡ true → x ≡ get_or a.values.items i x → is_some x ≡ true
+pub some_value : {T J : Type 0} (a : Inside T J) (i : ℕ) (x : Option T) → IsTable a → is_used (get_or a.states.items i status.Free) ≡ true → x ≡ get_or a.values.items i x → is_some x ≡ true
 some_value a i None h is e = absurd (no_value a i None h is e refl)
 some_value a i (Some v) h is e = refl
 
 -- another value in a slot that is used
-pub written_invariant : {T X : Type 0} {V : X → Type 0} (a : Inside T X V) (i : ℕ) (v : T) → IsTable a → is_used (get_or a.states.items i status.Free) ≡ true → IsTable (record a { values = with_item a.values i (Some v) })
+pub written_invariant : {T J : Type 0} (a : Inside T J) (i : ℕ) (v : T) → IsTable a → is_used (get_or a.states.items i status.Free) ≡ true → IsTable (record a { values = with_item a.values i (Some v) })
 written_invariant a i v h is = record {
   filled = map-set_same is_some a.values.items i (Some v) None (sym (value_there a i h ∙ is)) ∙ h.filled;
   tally = h.tally;
@@ -265,7 +264,7 @@ written_invariant a i v h is = record {
   cells = h.cells;
 }
 
-pub a_value : {T X : Type 0} {V : X → Type 0} (a : Inside T X V) (i : ℕ) (x : Option T) (v : T) → IsTable a → i < length a.states.items → is_used (get_or a.states.items i status.Free) ≡ false → x ≡ get_or a.values.items i x → x ≡ Some v → ⊥
+pub a_value : {T J : Type 0} (a : Inside T J) (i : ℕ) (x : Option T) (v : T) → IsTable a → i < length a.states.items → is_used (get_or a.states.items i status.Free) ≡ false → x ≡ get_or a.values.items i x → x ≡ Some v → ⊥
 a_value a i x v h inside is e n =
     let sizes : length (map is_some a.values.items) ≡ length (map is_used a.states.items) = ap length h.filled in
     let within : i < length a.values.items = omega (arith, length-map a.values.items is_some, length-map a.states.items is_used) in
@@ -278,24 +277,24 @@ pub list_all_members : (n : ℕ) (ms : List Participant) → list_all (is_presen
 list_all_members n [] = refl
 list_all_members n (m ∷ ms) = ap (λ (b : Bool). is_present n (member_of m) && b) (list_all_members n ms)
 
-pub filled_set : {T X : Type 0} {V : X → Type 0} (a : Inside T X V) (i : ℕ) (x : Option T) (s : Status) → IsTable a → is_some x ≡ is_used s → map is_some (set a.values.items i x) ≡ map is_used (set a.states.items i s)
+pub filled_set : {T J : Type 0} (a : Inside T J) (i : ℕ) (x : Option T) (s : Status) → IsTable a → is_some x ≡ is_used s → map is_some (set a.values.items i x) ≡ map is_used (set a.states.items i s)
 filled_set a i x s h e =
     map-set is_some a.values.items i x ∙ ap (λ (bs : List Bool). set bs i (is_some x)) h.filled ∙ ap (λ (b : Bool). set (map is_used a.states.items) i b) e ∙ sym (map-set is_used a.states.items i s)
 
-pub same_view : {T X : Type 0} {V : X → Type 0} (a : Inside T X V) (p : ℕ) (q q' : Participant) → p < length a.members.items → q ≡ get_or a.members.items p q → member_of q' ≡ member_of q → state_of (record a { members = with_item a.members p q' }) ≡ state_of a
+pub same_view : {T J : Type 0} (a : Inside T J) (p : ℕ) (q q' : Participant) → p < length a.members.items → q ≡ get_or a.members.items p q → member_of q' ≡ member_of q → state_of (record a { members = with_item a.members p q' }) ≡ state_of a
 same_view a p q q' known is shown =
     let put : List Member → State _ = λ (ms : List Member). record (state_of a) { members = ms } in
     changed_view a p (λ m. m) q q' known is shown ∙ ap put (set-get_or (map member_of a.members.items) p nobody)
 
-pub due_in : {T X : Type 0} {V : X → Type 0} (a : Inside T X V) (p : ℕ) (q : Participant) → p < length a.members.items → q ≡ get_or a.members.items p q → member_at (state_of a) p ≡ member_of q
+pub due_in : {T J : Type 0} (a : Inside T J) (p : ℕ) (q : Participant) → p < length a.members.items → q ≡ get_or a.members.items p q → member_at (state_of a) p ≡ member_of q
 due_in a p q known is = get_or-map_at a.members.items p q known is
 
 -- place i was due and is vacated, whatever the stacks are
-pub taken_result : {T X : Type 0} {V : X → Type 0} (a : Inside T X V) (w : State T) (p i : ℕ) (is : List ℕ) (q q' : Participant) (x y : Option T) (s : Status) (u : ℕ) (fr idl : Vec ℕ) → state_of a ≡ w → IsTable a → p < length a.members.items → q ≡ get_or a.members.items p q → (member_of q).due ≡ i ∷ is → member_of q' ≡ left_due is (member_of q) → i < length a.states.items → s ≡ vacated (get_or a.states.items i status.Free) → x ≡ get_or a.values.items i x → y ≡ None → TakesDue p x w (state_of (record a { used = u; values = with_item a.values i y; states = with_item a.states i s; members = with_item a.members p q'; free = fr; idle = idl }))
-taken_result {T} {X} {V} a w p i is q q' x y s u fr idl e h known at was shown inside left val gone =
+pub taken_result : {T J : Type 0} (a : Inside T J) (w : State T) (p i : ℕ) (is : List ℕ) (q q' : Participant) (x y : Option T) (s : Status) (u : ℕ) (fr idl : Vec ℕ) → state_of a ≡ w → IsTable a → p < length a.members.items → q ≡ get_or a.members.items p q → (member_of q).due ≡ i ∷ is → member_of q' ≡ left_due is (member_of q) → i < length a.states.items → s ≡ vacated (get_or a.states.items i status.Free) → x ≡ get_or a.values.items i x → y ≡ None → TakesDue p x w (state_of (record a { used = u; values = with_item a.values i y; states = with_item a.states i s; members = with_item a.members p q'; free = fr; idle = idl }))
+taken_result {T} {J} a w p i is q q' x y s u fr idl e h known at was shown inside left val gone =
     let sizes : length (map is_some a.values.items) ≡ length (map is_used a.states.items) = ap length h.filled in
     let within : i < length a.values.items = omega (arith, length-map a.values.items is_some, length-map a.states.items is_used) in
-    let b : Inside T X V = record a { used = u; values = with_item a.values i y; states = with_item a.states i s; members = with_item a.members p q'; free = fr; idle = idl } in
+    let b : Inside T J = record a { used = u; values = with_item a.values i y; states = with_item a.states i s; members = with_item a.members p q'; free = fr; idle = idl } in
     let put : List (Option T) → List Status → List Member → State T = λ (vs : List (Option T)) (ss : List Status) (ms : List Member). record (state_of a) { values = vs; states = ss; members = ms } in
     let now : state_of b ≡ taken p i is (state_of a) = ap (λ (z : Option T). put (set a.values.items i z) (set a.states.items i s) (map member_of (set a.members.items p q'))) gone ∙ ap (λ (z : Status). put (set a.values.items i None) (set a.states.items i z) (map member_of (set a.members.items p q'))) left ∙ ap (put (set a.values.items i None) (set a.states.items i (vacated (get_or a.states.items i status.Free)))) (members_after (left_due is) a.members.items p q q' known at shown) in
     let result : TakesDue p x (state_of a) (state_of b) = record {
@@ -350,14 +349,14 @@ emptiness-one (cell.OfOwned o t) = omega arith
 emptiness-one (cell.OfShared o t) = omega arith
 emptiness-one (cell.OfRaw o t) = omega arith
 
-pub within_values : {T X : Type 0} {V : X → Type 0} (a : Inside T X V) (i : ℕ) → IsTable a → i < length a.states.items → i < vec_len a.values
+pub within_values : {T J : Type 0} (a : Inside T J) (i : ℕ) → IsTable a → i < length a.states.items → i < vec_len a.values
 within_values a i h inside =
     let sizes : length (map is_some a.values.items) ≡ length (map is_used a.states.items) = ap length h.filled in
     let size = a.values.ok.0 in
     omega (arith, length-map a.values.items is_some, length-map a.states.items is_used)
 
 -- slot i is due to p, so it waits
-pub due_waits : {T X : Type 0} {V : X → Type 0} (a : Inside T X V) (w : State T) (p : ℕ) (q : Participant) (i : ℕ) (is : List ℕ) → state_of a ≡ w → p < length a.members.items → q ≡ get_or a.members.items p q → (member_of q).due ≡ i ∷ is → ((i : ℕ) (is : List ℕ) → (member_at w p).due ≡ i ∷ is → (i < length w.states) × (weight (status_at w i) ≡ 1)) → (i < length a.states.items) × (weight (get_or a.states.items i status.Free) ≡ 1)
+pub due_waits : {T J : Type 0} (a : Inside T J) (w : State T) (p : ℕ) (q : Participant) (i : ℕ) (is : List ℕ) → state_of a ≡ w → p < length a.members.items → q ≡ get_or a.members.items p q → (member_of q).due ≡ i ∷ is → ((i : ℕ) (is : List ℕ) → (member_at w p).due ≡ i ∷ is → (i < length w.states) × (weight (status_at w i) ≡ 1)) → (i < length a.states.items) × (weight (get_or a.states.items i status.Free) ≡ 1)
 due_waits a w p q i is e known at was waits =
     let there : (member_at w p).due ≡ i ∷ is = ap (λ (s : State _). (member_at s p).due) (sym e) ∙ ap (λ (m : Member). m.due) (due_in a p q known at) ∙ was in
     let r = waits i is there in
@@ -385,7 +384,7 @@ last_value [] x v e = ap is_some e
 last_value (y ∷ ys) x v e = last_value ys x v e
 
 -- the last name on the stack of free slots
-pub named_slot : {T X : Type 0} {V : X → Type 0} (a : Inside T X V) (names : List ℕ) (i : ℕ) → IsTable a → a.free.items ≡ names ++ i ∷ [] → (i < length a.states.items) × (get_or a.states.items i status.Free ≡ status.Free)
+pub named_slot : {T J : Type 0} (a : Inside T J) (names : List ℕ) (i : ℕ) → IsTable a → a.free.items ≡ names ++ i ∷ [] → (i < length a.states.items) × (get_or a.states.items i status.Free ≡ status.Free)
 named_slot a names i h e =
     let r = lists_names vacancy a.states.items i status.Free a.free.items names e h.slots.lists in
     (r.0, vacant-is _ r.1)
@@ -396,18 +395,18 @@ empty-is (cell.OfOwned o t) h = absurd (omega arith)
 empty-is (cell.OfShared o t) h = absurd (omega arith)
 empty-is (cell.OfRaw o t) h = absurd (omega arith)
 
-pub named_cell : {T X : Type 0} {V : X → Type 0} (a : Inside T X V) (names : List ℕ) (c : ℕ) → IsTable a → a.free_cells.items ≡ names ++ c ∷ [] → (c < length a.cells.items) × (get_or a.cells.items c cell.Free ≡ cell.Free)
+pub named_cell : {T J : Type 0} (a : Inside T J) (names : List ℕ) (c : ℕ) → IsTable a → a.free_cells.items ≡ names ++ c ∷ [] → (c < length a.cells.items) × (get_or a.cells.items c cell.Free ≡ cell.Free)
 named_cell a names c h e =
     let r = lists_names emptiness a.cells.items c cell.Free a.free_cells.items names e h.cells.lists in
     (r.0, empty-is _ r.1)
 
 -- one slot more is used, so their number fits
-pub used_room : {T X : Type 0} {V : X → Type 0} (a : Inside T X V) (i : ℕ) → IsTable a → i < length a.states.items → is_used (get_or a.states.items i status.Free) ≡ false → a.used < length a.states.items
+pub used_room : {T J : Type 0} (a : Inside T J) (i : ℕ) → IsTable a → i < length a.states.items → is_used (get_or a.states.items i status.Free) ≡ false → a.used < length a.states.items
 used_room a i h inside not =
     let none : usage (get_or a.states.items i status.Free) ≡ 0 = ap (λ (b : Bool). cond b 1 0) not in
     omega (arith, h.tally, light_sum usage usage-one a.states.items i status.Free inside none)
 
-pub placed_invariant : {T X : Type 0} {V : X → Type 0} (a : Inside T X V) (x : Option T) (i : ℕ) (s : Status) (fr : Vec ℕ) → IsTable a → i < length a.states.items → get_or a.states.items i status.Free ≡ status.Free → is_some x ≡ true → is_used s ≡ true → weight s ≡ 0 → a.free.items ≡ fr.items ++ i ∷ [] → vec_capacity a.free ≤ vec_capacity fr → IsTable (record a { used = a.used + 1; values = with_item a.values i x; states = with_item a.states i s; free = fr })
+pub placed_invariant : {T J : Type 0} (a : Inside T J) (x : Option T) (i : ℕ) (s : Status) (fr : Vec ℕ) → IsTable a → i < length a.states.items → get_or a.states.items i status.Free ≡ status.Free → is_some x ≡ true → is_used s ≡ true → weight s ≡ 0 → a.free.items ≡ fr.items ++ i ∷ [] → vec_capacity a.free ≤ vec_capacity fr → IsTable (record a { used = a.used + 1; values = with_item a.values i x; states = with_item a.states i s; free = fr })
 placed_invariant a x i s fr h inside was some is light popped cap =
     let sums = sum_by-set weight a.states.items i s status.Free inside in
     let tallies = sum_by-set usage a.states.items i s status.Free inside in
@@ -444,7 +443,7 @@ waits_job status.Idle h u = absurd (omega (arith, h))
 waits_job status.Deferred h u = refl
 
 -- the last name on the stack of job places without a job
-pub named_idle : {T X : Type 0} {V : X → Type 0} (a : Inside T X V) (names : List ℕ) (i : ℕ) → IsTable a → a.idle.items ≡ names ++ i ∷ [] → (i < length a.states.items) × (get_or a.states.items i status.Free ≡ status.Idle)
+pub named_idle : {T J : Type 0} (a : Inside T J) (names : List ℕ) (i : ℕ) → IsTable a → a.idle.items ≡ names ++ i ∷ [] → (i < length a.states.items) × (get_or a.states.items i status.Free ≡ status.Idle)
 named_idle a names i h e =
     let r = lists_names idleness a.states.items i status.Free a.idle.items names e h.places.lists in
     (r.0, idle-is _ r.1)
@@ -457,13 +456,13 @@ in_tail (suc m) n zero h = absurd (false≢true h)
 in_tail (suc m) n (suc i) h = let r = in_tail m n i h in (omega (arith, r.0), omega (arith, r.1))
 
 -- a job place has a room for a job
-pub job_room : {T X : Type 0} {V : X → Type 0} (a : Inside T X V) (i : ℕ) → IsTable a → is_job (get_or a.states.items i status.Free) ≡ true → (a.slots ≤ i) × (i - a.slots < vec_len a.jobs)
+pub job_room : {T J : Type 0} (a : Inside T J) (i : ℕ) → IsTable a → is_job (get_or a.states.items i status.Free) ≡ true → (a.slots ≤ i) × (i - a.slots < vec_len a.jobs)
 job_room a i h is =
     let r = in_tail a.slots (length a.jobs.items) i (ap (λ (bs : List Bool). get_or bs i false) (sym h.kinds) ∙ at_map is_job a.states.items i status.Free ∙ is) in
     (r.0, omega (arith, r.1, a.jobs.ok.0))
 
 -- a job is put into a place
-pub deferred_invariant : {T X : Type 0} {V : X → Type 0} (a : Inside T X V) (p i : ℕ) (q q' : Participant) (jb : Vec (Option (Job X V))) (idl : Vec ℕ) → IsTable a → p < length a.members.items → i < length a.states.items → get_or a.states.items i status.Free ≡ status.Idle → length jb.items ≡ length a.jobs.items → q ≡ get_or a.members.items p q → ((n : ℕ) → HasRoom n q → HasRoom n q') → waiting q' ≡ waiting q + 1 → a.idle.items ≡ idl.items ++ i ∷ [] → vec_capacity a.idle ≤ vec_capacity idl → IsTable (record a { states = with_item a.states i status.Deferred; jobs = jb; members = with_item a.members p q'; idle = idl })
+pub deferred_invariant : {T J : Type 0} (a : Inside T J) (p i : ℕ) (q q' : Participant) (jb : Vec (Option J)) (idl : Vec ℕ) → IsTable a → p < length a.members.items → i < length a.states.items → get_or a.states.items i status.Free ≡ status.Idle → length jb.items ≡ length a.jobs.items → q ≡ get_or a.members.items p q → ((n : ℕ) → HasRoom n q → HasRoom n q') → waiting q' ≡ waiting q + 1 → a.idle.items ≡ idl.items ++ i ∷ [] → vec_capacity a.idle ≤ vec_capacity idl → IsTable (record a { states = with_item a.states i status.Deferred; jobs = jb; members = with_item a.members p q'; idle = idl })
 deferred_invariant a p i q q' jb idl h known inside was many is keeps more popped cap =
     let s = status.Deferred in
     let sums = sum_by-set weight a.states.items i s status.Free inside in
@@ -478,14 +477,14 @@ deferred_invariant a p i q q' jb idl h known inside was many is keeps more poppe
     (lists_same vacancy a.states.items i s status.Free a.free.items inside (sym (ap vacancy was)) h.slots.lists) h.slots.room
     (lists_pop idleness a.states.items i s status.Free a.idle.items idl.items popped inside (ap idleness was) refl h.places.lists) (omega (arith, h.places.room, cap))
 
-pub deferred_view : {T X : Type 0} {V : X → Type 0} (a : Inside T X V) (p i : ℕ) (q q' : Participant) → p < length a.members.items → q ≡ get_or a.members.items p q → member_of q' ≡ put_member i (member_of q) → state_of (record a { states = with_item a.states i status.Deferred; members = with_item a.members p q' }) ≡ waiting_as status.Deferred p i (state_of a)
+pub deferred_view : {T J : Type 0} (a : Inside T J) (p i : ℕ) (q q' : Participant) → p < length a.members.items → q ≡ get_or a.members.items p q → member_of q' ≡ put_member i (member_of q) → state_of (record a { states = with_item a.states i status.Deferred; members = with_item a.members p q' }) ≡ waiting_as status.Deferred p i (state_of a)
 deferred_view a p i q q' known is shown =
     let w = state_of a in
     let put : State _ → List Member → State _ = λ (s : State _) (ms : List Member). record s { states = set a.states.items i status.Deferred; members = ms } in
     ap (put w) (members_after (put_member i) a.members.items p q q' known is shown)
 
 -- an item that was due is gone
-pub vacated_invariant : {T X : Type 0} {V : X → Type 0} (a : Inside T X V) (x : Option T) (p i : ℕ) (q q' : Participant) (fr : Vec ℕ) → IsTable a → p < length a.members.items → i < length a.states.items → get_or a.states.items i status.Free ≡ status.Retired → x ≡ None → q ≡ get_or a.members.items p q → ((n : ℕ) → HasRoom n q → HasRoom n q') → waiting q' + 1 ≡ waiting q → fr.items ≡ a.free.items ++ i ∷ [] → vec_capacity a.free ≤ vec_capacity fr → IsTable (record a { used = a.used - 1; values = with_item a.values i x; states = with_item a.states i status.Free; members = with_item a.members p q'; free = fr })
+pub vacated_invariant : {T J : Type 0} (a : Inside T J) (x : Option T) (p i : ℕ) (q q' : Participant) (fr : Vec ℕ) → IsTable a → p < length a.members.items → i < length a.states.items → get_or a.states.items i status.Free ≡ status.Retired → x ≡ None → q ≡ get_or a.members.items p q → ((n : ℕ) → HasRoom n q → HasRoom n q') → waiting q' + 1 ≡ waiting q → fr.items ≡ a.free.items ++ i ∷ [] → vec_capacity a.free ≤ vec_capacity fr → IsTable (record a { used = a.used - 1; values = with_item a.values i x; states = with_item a.states i status.Free; members = with_item a.members p q'; free = fr })
 vacated_invariant a x p i q q' fr h known inside was gone is keeps less pushed cap =
     let s = status.Free in
     let sums = sum_by-set weight a.states.items i s status.Free inside in
@@ -503,7 +502,7 @@ vacated_invariant a x p i q q' fr h known inside was gone is keeps less pushed c
     (lists_same idleness a.states.items i s status.Free a.idle.items inside (sym busy) h.places.lists) h.places.room
 
 -- an item that waited in no bag is gone
-pub removed_invariant : {T X : Type 0} {V : X → Type 0} (a : Inside T X V) (x : Option T) (i : ℕ) (fr : Vec ℕ) → IsTable a → i < length a.states.items → is_used (get_or a.states.items i status.Free) ≡ true → weight (get_or a.states.items i status.Free) ≡ 0 → x ≡ None → fr.items ≡ a.free.items ++ i ∷ [] → vec_capacity a.free ≤ vec_capacity fr → IsTable (record a { used = a.used - 1; values = with_item a.values i x; states = with_item a.states i status.Free; free = fr })
+pub removed_invariant : {T J : Type 0} (a : Inside T J) (x : Option T) (i : ℕ) (fr : Vec ℕ) → IsTable a → i < length a.states.items → is_used (get_or a.states.items i status.Free) ≡ true → weight (get_or a.states.items i status.Free) ≡ 0 → x ≡ None → fr.items ≡ a.free.items ++ i ∷ [] → vec_capacity a.free ≤ vec_capacity fr → IsTable (record a { used = a.used - 1; values = with_item a.values i x; states = with_item a.states i status.Free; free = fr })
 removed_invariant a x i fr h inside was light gone pushed cap =
     let s = status.Free in
     let sums = sum_by-set weight a.states.items i s status.Free inside in
@@ -516,7 +515,7 @@ removed_invariant a x i fr h inside was light gone pushed cap =
     (lists_same idleness a.states.items i s status.Free a.idle.items inside (sym (used-idleness _ was)) h.places.lists) h.places.room
 
 -- a job that was due is gone
-pub run_invariant : {T X : Type 0} {V : X → Type 0} (a : Inside T X V) (x : Option T) (jb : Vec (Option (Job X V))) (p i : ℕ) (q q' : Participant) (idl : Vec ℕ) → IsTable a → length jb.items ≡ length a.jobs.items → p < length a.members.items → i < length a.states.items → get_or a.states.items i status.Free ≡ status.Deferred → x ≡ None → q ≡ get_or a.members.items p q → ((n : ℕ) → HasRoom n q → HasRoom n q') → waiting q' + 1 ≡ waiting q → idl.items ≡ a.idle.items ++ i ∷ [] → vec_capacity a.idle ≤ vec_capacity idl → IsTable (record a { values = with_item a.values i x; jobs = jb; states = with_item a.states i status.Idle; members = with_item a.members p q'; idle = idl })
+pub run_invariant : {T J : Type 0} (a : Inside T J) (x : Option T) (jb : Vec (Option J)) (p i : ℕ) (q q' : Participant) (idl : Vec ℕ) → IsTable a → length jb.items ≡ length a.jobs.items → p < length a.members.items → i < length a.states.items → get_or a.states.items i status.Free ≡ status.Deferred → x ≡ None → q ≡ get_or a.members.items p q → ((n : ℕ) → HasRoom n q → HasRoom n q') → waiting q' + 1 ≡ waiting q → idl.items ≡ a.idle.items ++ i ∷ [] → vec_capacity a.idle ≤ vec_capacity idl → IsTable (record a { values = with_item a.values i x; jobs = jb; states = with_item a.states i status.Idle; members = with_item a.members p q'; idle = idl })
 run_invariant a x jb p i q q' idl h many known inside was gone is keeps less pushed cap =
     let s = status.Idle in
     let sums = sum_by-set weight a.states.items i s status.Free inside in
@@ -534,15 +533,15 @@ run_invariant a x jb p i q q' idl h many known inside was gone is keeps less pus
     (lists_push idleness a.states.items i s status.Free a.idle.items idl.items pushed inside busy refl h.places.lists) (omega (arith, h.places.room, cap))
 
 -- a cell is used in another way
-pub cell_invariant : {T X : Type 0} {V : X → Type 0} (a : Inside T X V) (c : ℕ) (k : Cell) (fr : Vec ℕ) → IsTable a → Lists emptiness (set a.cells.items c k) fr.items → length a.cells.items ≤ vec_capacity fr → IsTable (record a { cells = with_item a.cells c k; free_cells = fr })
+pub cell_invariant : {T J : Type 0} (a : Inside T J) (c : ℕ) (k : Cell) (fr : Vec ℕ) → IsTable a → Lists emptiness (set a.cells.items c k) fr.items → length a.cells.items ≤ vec_capacity fr → IsTable (record a { cells = with_item a.cells c k; free_cells = fr })
 cell_invariant a c k fr h lists cap =
     let size = length-set {A = Cell} a.cells.items c k in
     record { filled = h.filled; tally = h.tally; room = h.room; waits = h.waits; kinds = h.kinds; slots = h.slots; places = h.places; cells = record { lists = lists; room = omega (arith, size, cap) } }
 
-pub cell_in : {T X : Type 0} {V : X → Type 0} (a : Inside T X V) (w : State T) (c : ℕ) → state_of a ≡ w → c < length w.cells → c < length a.cells.items
+pub cell_in : {T J : Type 0} (a : Inside T J) (w : State T) (c : ℕ) → state_of a ≡ w → c < length w.cells → c < length a.cells.items
 cell_in a w c e h = let P : State _ → Type 0 = λ s. c < length s.cells in subst P (sym e) h
 
-pub emptiness_in : {T X : Type 0} {V : X → Type 0} (a : Inside T X V) (w : State T) (c n : ℕ) → state_of a ≡ w → emptiness (cell_at w c) ≡ n → emptiness (get_or a.cells.items c cell.Free) ≡ n
+pub emptiness_in : {T J : Type 0} (a : Inside T J) (w : State T) (c n : ℕ) → state_of a ≡ w → emptiness (cell_at w c) ≡ n → emptiness (get_or a.cells.items c cell.Free) ≡ n
 emptiness_in a w c n e h = let P : State _ → Type 0 = λ s. emptiness (cell_at s c) ≡ n in subst P (sym e) h
 
 pub some_left : (v : Vec ℕ) (b : Bool) → b ≡ (vec_len v == 0) → b ≡ false → length v.items ≢ 0
@@ -561,7 +560,7 @@ replicate-add zero n x = let e : 0 + n ≡ n = omega arith in ap (λ (k : ℕ). 
 replicate-add {X} (suc m) n x = let e : suc m + n ≡ suc (m + n) = omega arith in ap (λ (k : ℕ). replicate k x) e ∙ ap (λ (xs : List X). x ∷ xs) (replicate-add m n x)
 
 -- a new store
-pub table_fresh : {T X : Type 0} {V : X → Type 0} (a : Inside T X V) (m n : ℕ) → a.used ≡ 0 → a.slots ≡ m → length a.jobs.items ≡ n → a.values.items ≡ replicate (m + n) None → a.states.items ≡ replicate m status.Free ++ replicate n status.Idle → All (HasRoom (m + n)) a.members.items → sum_by waiting a.members.items ≡ 0 → Lists vacancy a.states.items a.free.items → m + n ≤ vec_capacity a.free → Lists idleness a.states.items a.idle.items → m + n ≤ vec_capacity a.idle → IsStack emptiness a.cells.items a.free_cells → IsTable a
+pub table_fresh : {T J : Type 0} (a : Inside T J) (m n : ℕ) → a.used ≡ 0 → a.slots ≡ m → length a.jobs.items ≡ n → a.values.items ≡ replicate (m + n) None → a.states.items ≡ replicate m status.Free ++ replicate n status.Idle → All (HasRoom (m + n)) a.members.items → sum_by waiting a.members.items ≡ 0 → Lists vacancy a.states.items a.free.items → m + n ≤ vec_capacity a.free → Lists idleness a.states.items a.idle.items → m + n ≤ vec_capacity a.idle → IsStack emptiness a.cells.items a.free_cells → IsTable a
 table_fresh a m n u first many v s room none free roomy idle roomier cells =
     let size : length a.states.items ≡ m + n = ap length s ∙ length-append (replicate m status.Free) (replicate n status.Idle) ∙ omega (arith, length-replicate m status.Free, length-replicate n status.Idle) in
     let count : sum_by usage a.states.items ≡ 0 = ap (sum_by usage) s ∙ sum_by-append usage (replicate m status.Free) (replicate n status.Idle) ∙ omega (arith, sum_by-replicate usage m status.Free, sum_by-replicate usage n status.Idle) in
@@ -587,7 +586,7 @@ unused_if true h = absurd (omega (arith, h))
 unused_if false h = refl
 
 -- no slot has an item
-pub unused_all : {T X : Type 0} {V : X → Type 0} (a : Inside T X V) (k : ℕ) → sum_by usage a.states.items ≡ 0 → is_used (get_or a.states.items k status.Free) ≡ false
+pub unused_all : {T J : Type 0} (a : Inside T J) (k : ℕ) → sum_by usage a.states.items ≡ 0 → is_used (get_or a.states.items k status.Free) ≡ false
 unused_all a k none = unused_if _ (let m = at_most usage a.states.items k status.Free refl in omega (arith, m, none))
 
 -- no guard is open

@@ -12,6 +12,7 @@ use Rattle.sdd_base.specs.declared.link.Link.{Link}
 use Rattle.std.specs.Option.{option_map}
 use Rattle.sdd_base.specs.declared.pointer.RawPtr.{RawPtr}
 use Rattle.sdd_base.specs.declared.pointer.Ptr.{Ptr}
+use Rattle.sdd_base.specs.declared.pointer.Loaded.{Loaded}
 use Rattle.sdd_base.specs.declared.collector.PrivateCollector.{PrivateCollector}
 use Rattle.sdd_base.specs.declared.guard.WorldGuard.{WorldGuard}
 use Rattle.sdd_base.specs.declared.holds.Held.{Held}
@@ -58,6 +59,10 @@ ptr_slot r = r.slot
 
 abbrev pub ptr_tag : {T : Type 0} → Ptr T → Tag
 ptr_tag r = r.tag
+
+-- the slot of what was loaded, or none
+abbrev pub loaded_slot : {T : Type 0} → Loaded T → Option ℕ
+loaded_slot r = r.slot
 
 -- the participant whose guard it is
 abbrev pub participant_of : WorldGuard → ℕ

@@ -15,7 +15,7 @@ member_of p = record {
   due = reverse p.due.items;
 }
 
-abbrev pub state_of : {T X : Type 0} {V : X → Type 0} → Inside T X V → State T
+abbrev pub state_of : {T J : Type 0} → Inside T J → State T
 state_of w = record {
   count = w.count;
   values = w.values.items;
@@ -45,7 +45,7 @@ pub record IsStack {X : Type 0} (f : X → ℕ) (all : List X) (stack : Vec ℕ)
   pub lists : Lists f all stack.items
   pub room : length all ≤ vec_capacity stack
 
-pub record IsTable {T X : Type 0} {V : X → Type 0} (w : Inside T X V) : Type 0 where
+pub record IsTable {T J : Type 0} (w : Inside T J) : Type 0 where
   pub filled : map is_some w.values.items ≡ map is_used w.states.items
   pub tally : w.used ≡ sum_by usage w.states.items
   pub room : All (HasRoom (length w.states.items)) w.members.items

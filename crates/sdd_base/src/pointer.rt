@@ -14,6 +14,14 @@ pub struct Ptr<'g, T> {
     pub(crate) of: PhantomData<&'g T>,
 }
 
+/// What a cell was found to keep under a guard, as plain data without a borrow: a structure may keep it beside that guard.
+/// It names an item or nothing, and has no tag.
+#[derive_where(Clone, Copy, PartialEq, Eq)]
+pub struct Loaded<T> {
+    pub(crate) slot: Option<usize>,
+    pub(crate) of: PhantomData<T>,
+}
+
 /// Where an item is that is out as a raw pointer, or null, with a tag. They are equal where slot and tag both are.
 #[derive_where(Clone, Copy, PartialEq, Eq)]
 pub struct RawPtr<T> {

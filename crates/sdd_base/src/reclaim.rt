@@ -11,13 +11,14 @@ ghost use Rattle.sdd_base.specs.Tokens.{hold_of};
 
 use crate::cell::{AtomicOwned, AtomicShared};
 use crate::holds::{Held, Holds};
+use crate::job::Deferred;
 use crate::owner::{Owned, Shared};
 use crate::status::{Cell, Marks, Status};
 use crate::table::{Due, Table};
 use std::collections::VecDeque;
 
 /// Gives one owner of slot `i` back, and answers whether it was the last.
-pub(crate) fn release<T>(table: &mut Table<T>, p: usize, i: usize) -> bool
+pub(crate) fn release<T, J: Deferred>(table: &mut Table<T, J>, p: usize, i: usize) -> bool
     requires member { p < length table.old.members }
     requires slot { i < length table.old.states }
     requires shared { (n : ℕ) × (status_at table.old i ≡ Status.Shared n) }
@@ -39,7 +40,7 @@ pub(crate) fn release<T>(table: &mut Table<T>, p: usize, i: usize) -> bool
 }
 
 /// Participant `p` gives back what an item held that it reclaims.
-fn give<T>(table: &mut Table<T>, p: usize, held: Held<T>)
+fn give<T, J: Deferred>(table: &mut Table<T, J>, p: usize, held: Held<T>)
     requires { p < length table.old.members }
     ensures { table.new ≡ given p (hold_of held) table.old }
 {
@@ -52,7 +53,7 @@ fn give<T>(table: &mut Table<T>, p: usize, held: Held<T>)
 }
 
 /// Retires slot `slot`, where it has one owner.
-pub(crate) fn give_owned<T>(table: &mut Table<T>, p: usize, slot: usize)
+pub(crate) fn give_owned<T, J: Deferred>(table: &mut Table<T, J>, p: usize, slot: usize)
     requires { p < length table.old.members }
     ensures { table.new ≡ disowned p slot table.old }
 {
@@ -62,7 +63,7 @@ pub(crate) fn give_owned<T>(table: &mut Table<T>, p: usize, slot: usize)
 }
 
 /// Gives one owner of slot `slot` back, where it has some.
-pub(crate) fn give_shared<T>(table: &mut Table<T>, p: usize, slot: usize)
+pub(crate) fn give_shared<T, J: Deferred>(table: &mut Table<T, J>, p: usize, slot: usize)
     requires { p < length table.old.members }
     ensures { table.new ≡ released p slot table.old }
 {
@@ -72,7 +73,7 @@ pub(crate) fn give_shared<T>(table: &mut Table<T>, p: usize, slot: usize)
 }
 
 /// Ends a cell of owned items, and gives back what it keeps.
-pub(crate) fn end_owned<T>(table: &mut Table<T>, p: usize, cell: usize)
+pub(crate) fn end_owned<T, J: Deferred>(table: &mut Table<T, J>, p: usize, cell: usize)
     requires { p < length table.old.members }
     ensures { table.new ≡ owned_ended p cell table.old }
 {
@@ -85,7 +86,7 @@ pub(crate) fn end_owned<T>(table: &mut Table<T>, p: usize, cell: usize)
 }
 
 /// Ends a cell of shared items, and gives back what it keeps.
-pub(crate) fn end_shared<T>(table: &mut Table<T>, p: usize, cell: usize)
+pub(crate) fn end_shared<T, J: Deferred>(table: &mut Table<T, J>, p: usize, cell: usize)
     requires { p < length table.old.members }
     ensures { table.new ≡ shared_ended p cell table.old }
 {
@@ -98,7 +99,7 @@ pub(crate) fn end_shared<T>(table: &mut Table<T>, p: usize, cell: usize)
 }
 
 /// Everything that `value` holds is given back by `p`, and the value ends.
-pub(crate) fn give_all<T: Holds>(table: &mut Table<T>, p: usize, mut value: T)
+pub(crate) fn give_all<T: Holds, J: Deferred>(table: &mut Table<T, J>, p: usize, mut value: T)
     requires { p < length table.old.members }
     ensures state { table.new ≡ given_all p (T.holds value) table.old }
     ensures known { length table.new.members ≡ length table.old.members }
@@ -110,7 +111,7 @@ pub(crate) fn give_all<T: Holds>(table: &mut Table<T>, p: usize, mut value: T)
 }
 
 /// The next place that is due to `p` is reclaimed, if there is one.
-fn reclaim_next<T: Holds>(table: &mut Table<T>, p: usize) -> bool
+fn reclaim_next<T: Holds, J: Deferred>(table: &mut Table<T, J>, p: usize) -> bool
     requires member { p < length table.old.members }
     requires waits { (i : ℕ) (is : List ℕ) → (member_at table.old p).due ≡ i ∷ is → (i < length table.old.states) × (weight (status_at table.old i) ≡ 1) }
     ensures some { IsTrue result → IsNext T.holds p table.old table.new }
@@ -131,7 +132,7 @@ fn reclaim_next<T: Holds>(table: &mut Table<T>, p: usize) -> bool
 }
 
 /// What was in the oldest bag of `p` is reclaimed, and the bags have moved on.
-pub(crate) fn turn_over<T: Holds>(table: &mut Table<T>, p: usize)
+pub(crate) fn turn_over<T: Holds, J: Deferred>(table: &mut Table<T, J>, p: usize)
     requires member { p < length table.old.members }
     requires sound { Sound table.old }
     requires idle { (member_at table.old p).due ≡ [] }
@@ -145,7 +146,7 @@ pub(crate) fn turn_over<T: Holds>(table: &mut Table<T>, p: usize)
 }
 
 /// What `p` retired last is reclaimed, where more than `kept` places wait in its current bag.
-fn undo<T: Holds>(table: &mut Table<T>, p: usize, kept: usize) -> bool
+fn undo<T: Holds, J: Deferred>(table: &mut Table<T, J>, p: usize, kept: usize) -> bool
     requires member { p < length table.old.members }
     requires sound { Sound table.old }
     requires idle { (member_at table.old p).due ≡ [] }
@@ -163,7 +164,7 @@ fn undo<T: Holds>(table: &mut Table<T>, p: usize, kept: usize) -> bool
 }
 
 /// An owner is given back, and what that leaves without one is reclaimed at once. Participant 0 lends its current bag.
-pub(crate) fn drop_now<T: Holds>(table: &mut Table<T>, held: Held<T>)
+pub(crate) fn drop_now<T: Holds, J: Deferred>(table: &mut Table<T, J>, held: Held<T>)
     requires { IsPlace table.old }
     ensures dropped { Dropped T.holds (hold_of held) table.old table.new }
     ensures place { IsPlace table.new }
@@ -176,8 +177,8 @@ pub(crate) fn drop_now<T: Holds>(table: &mut Table<T>, held: Held<T>)
 }
 
 /// What is in `slot` waits at the end of a private bag, and the count is noted; where that is full, `p` retires it.
-pub(crate) fn set_apart<T>(
-    table: &mut Table<T>,
+pub(crate) fn set_apart<T, J: Deferred>(
+    table: &mut Table<T, J>,
     p: usize,
     waiting: &mut VecDeque<usize>,
     slot: usize,
@@ -203,8 +204,8 @@ pub(crate) fn set_apart<T>(
 }
 
 /// Gives one owner of slot `slot` back, and answers whether it was the last, which leaves the item in a private bag.
-pub(crate) fn leave<T>(
-    table: &mut Table<T>,
+pub(crate) fn leave<T, J: Deferred>(
+    table: &mut Table<T, J>,
     p: usize,
     waiting: &mut VecDeque<usize>,
     slot: usize,
@@ -242,7 +243,7 @@ fn is_overdue(count: u64, status: Status) -> bool
 }
 
 /// The first place of a private bag leaves it, if it is overdue.
-fn next_overdue<T>(table: &Table<T>, waiting: &mut VecDeque<usize>) -> Option<usize>
+fn next_overdue<T, J: Deferred>(table: &Table<T, J>, waiting: &mut VecDeque<usize>) -> Option<usize>
     ensures some { IfSome result (λ i. (waiting.old.items ≡ i ∷ waiting.new.items) × (overdue table.now.count (status_at table.now i) ≡ true)) }
     ensures none { IfNone result ((waiting.new.items ≡ waiting.old.items) × IsTimely table.now waiting.old.items) }
     ensures room { deque_capacity waiting.new ≡ deque_capacity waiting.old }
@@ -255,7 +256,11 @@ fn next_overdue<T>(table: &Table<T>, waiting: &mut VecDeque<usize>) -> Option<us
 }
 
 /// What is overdue at the front of a private bag is reclaimed by `p`.
-pub(crate) fn purge<T: Holds>(table: &mut Table<T>, p: usize, waiting: &mut VecDeque<usize>)
+pub(crate) fn purge<T: Holds, J: Deferred>(
+    table: &mut Table<T, J>,
+    p: usize,
+    waiting: &mut VecDeque<usize>,
+)
     requires { p < length table.old.members }
     ensures state { table.new ≡ purged T.holds p waiting.old.items table.old }
     ensures left { waiting.new.items ≡ left_waiting T.holds p waiting.old.items table.old }
@@ -268,7 +273,11 @@ pub(crate) fn purge<T: Holds>(table: &mut Table<T>, p: usize, waiting: &mut VecD
 }
 
 /// What waits in a private bag is retired by `p`.
-pub(crate) fn hand_over<T>(table: &mut Table<T>, p: usize, waiting: &mut VecDeque<usize>)
+pub(crate) fn hand_over<T, J: Deferred>(
+    table: &mut Table<T, J>,
+    p: usize,
+    waiting: &mut VecDeque<usize>,
+)
     requires { p < length table.old.members }
     ensures { table.new ≡ handed p waiting.old.items table.old }
 {
@@ -287,7 +296,7 @@ fn scans(marks: &Marks, closings: u8) -> bool
 }
 
 /// Participant `p` publishes the count.
-fn begin<T>(table: &mut Table<T>, p: usize)
+fn begin<T, J: Deferred>(table: &mut Table<T, J>, p: usize)
     requires { p < length table.old.members }
     ensures { table.new ≡ begun p table.old }
 {
@@ -301,7 +310,7 @@ fn begin<T>(table: &mut Table<T>, p: usize)
 }
 
 /// Raises the count, if every open guard published it.
-fn scan<T>(table: &mut Table<T>)
+fn scan<T, J: Deferred>(table: &mut Table<T, J>)
     ensures { table.new ≡ scanned table.old }
 {
     if table.all_present() && table.count() < u64::MAX {
@@ -310,7 +319,7 @@ fn scan<T>(table: &mut Table<T>)
 }
 
 /// Opens a guard of `p`, which isn't at its end.
-pub(crate) fn open<T: Holds>(table: &mut Table<T>, p: usize)
+pub(crate) fn open<T: Holds, J: Deferred>(table: &mut Table<T, J>, p: usize)
     requires member { p < length table.old.members }
     requires sound { Sound table.old }
     requires idle { (member_at table.old p).due ≡ [] }
@@ -331,7 +340,7 @@ pub(crate) fn open<T: Holds>(table: &mut Table<T>, p: usize)
 }
 
 /// Closes a guard of `p`.
-pub(crate) fn close<T>(table: &mut Table<T>, p: usize)
+pub(crate) fn close<T, J: Deferred>(table: &mut Table<T, J>, p: usize)
     requires member { p < length table.old.members }
     requires open { 0 < (marks_at table.old p).nesting }
     ensures { table.new ≡ closed p table.old }
@@ -358,7 +367,7 @@ pub(crate) fn close<T>(table: &mut Table<T>, p: usize)
 }
 
 /// Participant `p` rotates until its bags are empty.
-pub(crate) fn sweep<T: Holds>(table: &mut Table<T>, p: usize)
+pub(crate) fn sweep<T: Holds, J: Deferred>(table: &mut Table<T, J>, p: usize)
     requires member { p < length table.old.members }
     requires place { IsPlace table.old }
     ensures place { IsPlace table.new }
@@ -372,7 +381,7 @@ pub(crate) fn sweep<T: Holds>(table: &mut Table<T>, p: usize)
 }
 
 /// All participants rotate until nothing waits.
-pub(crate) fn sweep_all<T: Holds>(table: &mut Table<T>)
+pub(crate) fn sweep_all<T: Holds, J: Deferred>(table: &mut Table<T, J>)
     requires { IsPlace table.old }
     ensures place { IsPlace table.new }
     ensures swept { AllSwept T.holds table.old table.new }

@@ -11,7 +11,7 @@ ghost use Rattle.sdd_base.specs.Steps.{bags_empty, NoneOpen};
 ghost use Rattle.sdd_base.specs.Place.{IsOpen};
 
 use crate::bags::Participant;
-use crate::job::Job;
+use crate::job::Deferred;
 use crate::lender::Store;
 use crate::sizes::Sizes;
 use crate::status::{Cell, Marks, Status};
@@ -20,21 +20,21 @@ use std::marker::Model;
 use std::mem;
 
 /// What was in a place that was due: an item, or a job.
-pub(crate) struct Due<T> {
+pub(crate) struct Due<T, J> {
     pub(crate) value: Option<T>,
-    pub(crate) job: Option<Job>,
+    pub(crate) job: Option<J>,
 }
 
 /// Numbered slots, cells and participants, with room for what waits.
 #[derive(Drop)]
-pub(crate) struct Table<T> {
+pub(crate) struct Table<T, J: Deferred> {
     count: u64,
     /// How many slots have an item.
     used: usize,
     /// How many slots there are; the job places are numbered behind them.
     slots: usize,
     values: Vec<Option<T>>,
-    jobs: Vec<Option<Job>>,
+    jobs: Vec<Option<J>>,
     states: Vec<Status>,
     cells: Vec<Cell>,
     members: Vec<Participant>,
@@ -44,7 +44,7 @@ pub(crate) struct Table<T> {
     free_cells: Vec<usize>,
 }
 
-impl<T> Model for Table<T> {
+impl<T, J: Deferred> Model for Table<T, J> {
     ghost use Rattle.sdd_base.specs.State.{State};
 
     ghost Value = { State T };
@@ -56,7 +56,7 @@ impl<T> Model for Table<T> {
     ghost invariant = { IsTable };
 }
 
-impl<T> Table<T> {
+impl<T, J: Deferred> Table<T, J> {
     /// How many slots have an item.
     pub(crate) fn used(&self) -> usize
         ensures { result ≡ sum_by usage self.now.states }
@@ -131,7 +131,7 @@ impl<T> Table<T> {
     }
 
     /// Puts a job into a job place that has none, if there is one; it waits in the current bag of `p`.
-    pub(crate) fn defer(&mut self, p: usize, job: Job) -> Result<(), Job>
+    pub(crate) fn defer(&mut self, p: usize, job: J) -> Result<(), J>
         requires { p < length self.old.members }
         ensures deferred { OnOk result ((i : ℕ) × IsIdle self.old i × (self.new ≡ waiting_as Status.Deferred p i self.old)) }
         ensures refused { IfErr result (λ j. (j ≡ job) × (self.new ≡ self.old) × NoneIdle self.old) }
@@ -200,7 +200,7 @@ impl<T> Table<T> {
     }
 
     /// The next place that is due has nothing from now on, and what it had is taken.
-    pub(crate) fn take_due(&mut self, p: usize) -> Option<Due<T>>
+    pub(crate) fn take_due(&mut self, p: usize) -> Option<Due<T, J>>
         requires member { p < length self.old.members }
         requires waits { (i : ℕ) (is : List ℕ) → (member_at self.old p).due ≡ i ∷ is → (i < length self.old.states) × (weight (status_at self.old i) ≡ 1) }
         ensures { MatchOption result (((member_at self.old p).due ≡ []) × (self.new ≡ self.old)) (λ d. TakesDue p d.value self.old self.new) }
@@ -375,7 +375,7 @@ impl<T> Table<T> {
     }
 
     /// Rooms for all that the sizes name.
-    pub(crate) fn new(alloc: Global, sizes: &Sizes) -> Result<Table<T>, AllocError>
+    pub(crate) fn new(alloc: Global, sizes: &Sizes) -> Result<Table<T, J>, AllocError>
         requires { sizes.now.slots + sizes.now.jobs < 2 ^ 64 }
         ensures { IfOk result (λ w. w ≡ fresh sizes.now) }
     {
@@ -428,7 +428,7 @@ impl<T> Table<T> {
     }
 }
 
-impl<T> Store<T> for Table<T> {
+impl<T, J: Deferred> Store<T> for Table<T, J> {
     ghost use Rattle.sdd_base.specs.State.{with_value};
 
     ghost stored = { λ w. w };

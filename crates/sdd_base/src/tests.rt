@@ -9,7 +9,7 @@ use crate::collector::PrivateCollector;
 use crate::epoch::Epoch;
 use crate::guard::WorldGuard;
 use crate::holds::{Held, Holds};
-use crate::job::{Job, Task};
+use crate::job::{Deferred, Job, NoJob, Task};
 use crate::link::Link;
 use crate::owner::{Owned, Shared};
 use crate::pointer::{Ptr, RawPtr};
@@ -369,6 +369,27 @@ fn a_job_runs_once_when_the_fourth_guard_opens(rt: HostRuntime) -> Result<(), Fa
     assert_eq!(rt; runs.load(Ordering::SeqCst), 1);
     end(&rt, w);
     Ok(())
+}
+
+#[test]
+fn a_place_without_jobs_reclaims_its_items(rt: HostRuntime) -> Result<(), Fail> {
+    let sizes = Sizes {
+        participants: 1,
+        slots: 1,
+        cells: 0,
+        jobs: 0,
+    };
+    let mut w: World<u64, NoJob> = World::new(rt.alloc(), sizes)?;
+    let Ok(owned) = world::owned::new(&mut w, 5) else {
+        panic!(rt; "a slot is free");
+    };
+    assert_eq!(rt; *world::owned::as_ref(&w, &owned), 5);
+    world::owned::retire(&mut w, owned, 0);
+    assert_eq!(rt; w.slots_in_use(), 1);
+    match w.close() {
+        Ok(()) => Ok(()),
+        Err(_) => panic!(rt; "no owner is out"),
+    }
 }
 
 #[test]

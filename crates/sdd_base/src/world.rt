@@ -7,12 +7,13 @@ ghost use Rattle.std.specs.Prelude.{◌≡◌, ◌⊎◌, ℕ, IsOk, IfOk, IfErr
 ghost use Rattle.sdd_base.specs.State.{fresh, in_use, value_at, vacancy, IsUnused};
 ghost use Rattle.sdd_base.specs.Steps.{AllSwept, NoneOpen};
 ghost use Rattle.sdd_base.specs.Place.{IsPlace, IsOpen, IsReadable, IsSized};
-ghost use Rattle.sdd_base.specs.Tokens.{ptr_slot};
+ghost use Rattle.sdd_base.specs.Tokens.{loaded_slot, ptr_slot};
 
 use crate::holds::Holds;
+use crate::job::{Deferred, Job};
 use crate::lender::{Lender, Store};
 use crate::owner::{Owned, Shared};
-use crate::pointer::Ptr;
+use crate::pointer::{Loaded, Ptr};
 use crate::reclaim;
 use crate::refusal::{GuardsOpen, NotLent};
 use crate::sizes::Sizes;
@@ -31,11 +32,12 @@ pub mod raw_ptr;
 pub mod shared;
 
 /// A place of one thread, with room for all that its sizes name. It can't be let go: `close` ends it.
-pub struct World<T> {
-    pub(crate) table: Table<T>,
+/// `J` is what it keeps as jobs: a structure that defers none takes `NoJob`.
+pub struct World<T, J: Deferred = Job> {
+    pub(crate) table: Table<T, J>,
 }
 
-impl<T> Model for World<T> {
+impl<T, J: Deferred> Model for World<T, J> {
     ghost use Rattle.sdd_base.specs.State.{State};
 
     ghost Value = { State T };
@@ -47,10 +49,10 @@ impl<T> Model for World<T> {
     ghost invariant = { λ w. IsPlace w.table };
 }
 
-impl<T> World<T> {
+impl<T, J: Deferred> World<T, J> {
     /// A place without items, whose participants are named by 0, 1, .. . It takes all the memory that the place will
     /// ever use; without memory nothing is kept.
-    pub fn new(alloc: Global, sizes: Sizes) -> Result<World<T>, AllocError>
+    pub fn new(alloc: Global, sizes: Sizes) -> Result<World<T, J>, AllocError>
         requires { IsSized sizes }
         ensures { IfOk result (λ w. w ≡ fresh sizes) }
     {
@@ -61,7 +63,7 @@ impl<T> World<T> {
 
     /// Ends the place: everything that waits is reclaimed, and what that leaves. It is handed back as it was while a
     /// guard is open, and handed back with nothing waiting if an owner or a cell is still out.
-    pub fn close(self) -> Result<(), World<T>>
+    pub fn close(self) -> Result<(), World<T, J>>
     where
         T: Holds,
         ensures ended { IsOk result → NoneOpen self × (w : _) × AllSwept T.holds self w × IsUnused w }
@@ -123,9 +125,22 @@ impl<T> World<T> {
             Some(i) => Some(self.table.value(i)),
         }
     }
+
+    /// The item that was loaded, or none for null. Condition: it is there.
+    pub fn read_loaded(&self, at: &Loaded<T>) -> Option<&T>
+        requires { IsReadable self.now (loaded_slot at.now) }
+        ensures null { IfNone (loaded_slot at.now) (result ≡ None) }
+        ensures item { IfSome (loaded_slot at.now) (λ i. IfSome result (λ v. Some v.now ≡ value_at self.now i)) }
+        ensures same { is_some result ≡ is_some (loaded_slot at.now) }
+    {
+        match at.slot {
+            None => None,
+            Some(slot) => Some(self.table.value(slot)),
+        }
+    }
 }
 
-impl<T> Lender<T> for World<T> {
+impl<T, J: Deferred> Lender<T> for World<T, J> {
     ghost use Rattle.sdd_base.specs.State.{with_value};
 
     ghost state = { λ w. w };

@@ -9,6 +9,7 @@ ghost use Rattle.sdd_base.specs.Tokens.{owned_cell, owned_slot, owned_slots, ptr
 
 use crate::cell::AtomicOwned;
 use crate::guard::WorldGuard;
+use crate::job::Deferred;
 use crate::owner::Owned;
 use crate::pointer::{Found, Ptr};
 use crate::reclaim;
@@ -20,7 +21,7 @@ use std::marker::PhantomData;
 
 /// Makes an item of `value` and a cell that keeps it, without a tag, exactly if a slot and a cell are free; else
 /// `value` comes back.
-pub fn new<T>(w: &mut World<T>, value: T) -> Result<AtomicOwned<T>, T>
+pub fn new<T, J: Deferred>(w: &mut World<T, J>, value: T) -> Result<AtomicOwned<T>, T>
     ensures made { IfOk result (λ c. IsFreeCell w.old (owned_cell c) × (i : ℕ) × IsFree w.old i × (w.new ≡ with_cell (owned_cell c) (Cell.OfOwned (Some i) Tag.None) (placed i value Status.Owned w.old))) }
     ensures refused { IfErr result (λ v. (v ≡ value) × (w.new ≡ w.old) × (NoneFree w.old ⊎ NoCellFree w.old)) }
     ensures used { IfOk result (λ c. IsOwnedCell w.new (owned_cell c)) }
@@ -40,7 +41,10 @@ pub fn new<T>(w: &mut World<T>, value: T) -> Result<AtomicOwned<T>, T>
 
 /// A cell that keeps owned, without a tag, exactly if a cell is free; else owned comes back.
 #[tactic(auto, using(crate::proofs::Frames::owned_cell_used))]
-pub fn from<T>(w: &mut World<T>, owned: Owned<T>) -> Result<AtomicOwned<T>, Owned<T>>
+pub fn from<T, J: Deferred>(
+    w: &mut World<T, J>,
+    owned: Owned<T>,
+) -> Result<AtomicOwned<T>, Owned<T>>
     ensures made { IfOk result (λ c. IsFreeCell w.old (owned_cell c) × (w.new ≡ with_cell (owned_cell c) (Cell.OfOwned (Some (owned_slot owned)) Tag.None) w.old)) }
     ensures refused { IfErr result (λ o. (owned_slot o ≡ owned_slot owned) × (w.new ≡ w.old) × NoCellFree w.old) }
     ensures used { IfOk result (λ c. IsOwnedCell w.new (owned_cell c)) }
@@ -59,7 +63,7 @@ pub fn from<T>(w: &mut World<T>, owned: Owned<T>) -> Result<AtomicOwned<T>, Owne
 }
 
 /// A cell that keeps nothing, without a tag, exactly if a cell is free.
-pub fn null<T>(w: &mut World<T>) -> Result<AtomicOwned<T>, NoSlot>
+pub fn null<T, J: Deferred>(w: &mut World<T, J>) -> Result<AtomicOwned<T>, NoSlot>
     ensures made { IfOk result (λ c. IsFreeCell w.old (owned_cell c) × (w.new ≡ with_cell (owned_cell c) (Cell.OfOwned None Tag.None) w.old)) }
     ensures refused { OnErr result ((w.new ≡ w.old) × NoCellFree w.old) }
     ensures used { IfOk result (λ c. IsOwnedCell w.new (owned_cell c)) }
@@ -72,7 +76,11 @@ pub fn null<T>(w: &mut World<T>) -> Result<AtomicOwned<T>, NoSlot>
 }
 
 /// What the cell keeps, as a pointer.
-pub fn load<T>(w: &World<T>, cell: &AtomicOwned<T>, _guard: &WorldGuard) -> Ptr<'static, T>
+pub fn load<T, J: Deferred>(
+    w: &World<T, J>,
+    cell: &AtomicOwned<T>,
+    _guard: &WorldGuard,
+) -> Ptr<'static, T>
     requires { IsOwnedCell w.now (owned_cell cell.now) }
     ensures { cell_at w.now (owned_cell cell.now) ≡ Cell.OfOwned (ptr_slot result) (ptr_tag result) }
 {
@@ -87,7 +95,7 @@ pub fn load<T>(w: &World<T>, cell: &AtomicOwned<T>, _guard: &WorldGuard) -> Ptr<
 }
 
 /// Whether the cell keeps nothing.
-pub fn is_null<T>(w: &World<T>, cell: &AtomicOwned<T>) -> bool
+pub fn is_null<T, J: Deferred>(w: &World<T, J>, cell: &AtomicOwned<T>) -> bool
     requires { IsOwnedCell w.now (owned_cell cell.now) }
     ensures { (item : Option ℕ) (tag : Tag) → cell_at w.now (owned_cell cell.now) ≡ Cell.OfOwned item tag → IsTrue result ↔ (item ≡ None) }
 {
@@ -98,7 +106,7 @@ pub fn is_null<T>(w: &World<T>, cell: &AtomicOwned<T>) -> bool
 }
 
 /// The tag of the cell.
-pub fn tag<T>(w: &World<T>, cell: &AtomicOwned<T>) -> Tag
+pub fn tag<T, J: Deferred>(w: &World<T, J>, cell: &AtomicOwned<T>) -> Tag
     requires { IsOwnedCell w.now (owned_cell cell.now) }
     ensures { (item : Option ℕ) (tag : Tag) → cell_at w.now (owned_cell cell.now) ≡ Cell.OfOwned item tag → result ≡ tag }
 {
@@ -110,8 +118,8 @@ pub fn tag<T>(w: &World<T>, cell: &AtomicOwned<T>) -> Tag
 
 /// Puts another item and tag into the cell, and gives the old ones.
 #[tactic(auto, using(crate::proofs::Frames::owned_cell_used))]
-pub fn swap<T>(
-    w: &mut World<T>,
+pub fn swap<T, J: Deferred>(
+    w: &mut World<T, J>,
     cell: &AtomicOwned<T>,
     new: (Option<Owned<T>>, Tag),
 ) -> (Option<Owned<T>>, Tag)
@@ -134,8 +142,8 @@ pub fn swap<T>(
 
 /// Sets the tag if `f` answers true for what the cell keeps, and answers what `f` did. It is called once.
 #[tactic(auto, using(crate::proofs::Frames::owned_cell_used))]
-pub fn update_tag_if<T, P: Found<T>, F: FnOnce(P) -> bool>(
-    w: &mut World<T>,
+pub fn update_tag_if<T, J: Deferred, P: Found<T>, F: FnOnce(P) -> bool>(
+    w: &mut World<T, J>,
     cell: &AtomicOwned<T>,
     tag: Tag,
     f: F,
@@ -161,8 +169,8 @@ pub fn update_tag_if<T, P: Found<T>, F: FnOnce(P) -> bool>(
 
 /// Puts another item and tag into the cell if item and tag are both those of `current`, and gives the old owner and
 /// the new pointer; else the new owner comes back, with the pointer found.
-pub fn compare_exchange<T>(
-    w: &mut World<T>,
+pub fn compare_exchange<T, J: Deferred>(
+    w: &mut World<T, J>,
     cell: &AtomicOwned<T>,
     current: Ptr<'static, T>,
     new: (Option<Owned<T>>, Tag),
@@ -204,8 +212,8 @@ pub fn compare_exchange<T>(
 }
 
 /// As `compare_exchange`: it fails for no other reason.
-pub fn compare_exchange_weak<T>(
-    w: &mut World<T>,
+pub fn compare_exchange_weak<T, J: Deferred>(
+    w: &mut World<T, J>,
     cell: &AtomicOwned<T>,
     current: Ptr<'static, T>,
     new: (Option<Owned<T>>, Tag),
@@ -222,7 +230,7 @@ pub fn compare_exchange_weak<T>(
 }
 
 /// Ends the cell, and gives the owner that it kept.
-pub fn into_owned<T>(w: &mut World<T>, cell: AtomicOwned<T>) -> Option<Owned<T>>
+pub fn into_owned<T, J: Deferred>(w: &mut World<T, J>, cell: AtomicOwned<T>) -> Option<Owned<T>>
     requires { IsOwnedCell w.old (owned_cell cell) }
     ensures was { (tag : Tag) × (cell_at w.old (owned_cell cell) ≡ Cell.OfOwned (owned_slots result) tag) }
     ensures ended { w.new ≡ with_cell (owned_cell cell) Cell.Free w.old }
@@ -239,7 +247,7 @@ pub fn into_owned<T>(w: &mut World<T>, cell: AtomicOwned<T>) -> Option<Owned<T>>
 }
 
 /// Ends the cell, and gives the owner that it kept back: the item is retired by participant `p`.
-pub fn retire<T>(w: &mut World<T>, cell: AtomicOwned<T>, p: usize)
+pub fn retire<T, J: Deferred>(w: &mut World<T, J>, cell: AtomicOwned<T>, p: usize)
     requires member { p < length w.old.members }
     requires cell { IsOwnedCell w.old (owned_cell cell) }
     ensures ended { w.new ≡ owned_ended p (owned_cell cell) w.old }

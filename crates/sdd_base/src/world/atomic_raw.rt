@@ -8,6 +8,7 @@ ghost use Rattle.sdd_base.specs.Tokens.{raw_cell, raw_slot, raw_tag};
 
 use crate::cell::AtomicRaw;
 use crate::guard::WorldGuard;
+use crate::job::Deferred;
 use crate::pointer::RawPtr;
 use crate::refusal::NoSlot;
 use crate::status::Cell;
@@ -17,7 +18,7 @@ use std::marker::PhantomData;
 
 /// A cell that keeps `ptr`, exactly if a cell is free.
 #[tactic(auto, using(crate::proofs::Frames::raw_cell_used))]
-pub fn new<T>(w: &mut World<T>, ptr: RawPtr<T>) -> Result<AtomicRaw<T>, NoSlot>
+pub fn new<T, J: Deferred>(w: &mut World<T, J>, ptr: RawPtr<T>) -> Result<AtomicRaw<T>, NoSlot>
     ensures made { IfOk result (λ c. IsFreeCell w.old (raw_cell c) × (w.new ≡ with_cell (raw_cell c) (Cell.OfRaw (raw_slot ptr) (raw_tag ptr)) w.old)) }
     ensures refused { OnErr result ((w.new ≡ w.old) × NoCellFree w.old) }
     ensures used { IfOk result (λ c. IsRawCell w.new (raw_cell c)) }
@@ -31,7 +32,7 @@ pub fn new<T>(w: &mut World<T>, ptr: RawPtr<T>) -> Result<AtomicRaw<T>, NoSlot>
 
 /// A cell that names nothing, without a tag, exactly if a cell is free.
 #[tactic(auto, using(crate::proofs::Frames::raw_cell_used))]
-pub fn null<T>(w: &mut World<T>) -> Result<AtomicRaw<T>, NoSlot>
+pub fn null<T, J: Deferred>(w: &mut World<T, J>) -> Result<AtomicRaw<T>, NoSlot>
     ensures made { IfOk result (λ c. IsFreeCell w.old (raw_cell c) × (w.new ≡ with_cell (raw_cell c) (Cell.OfRaw None Tag.None) w.old)) }
     ensures refused { OnErr result ((w.new ≡ w.old) × NoCellFree w.old) }
     ensures used { IfOk result (λ c. IsRawCell w.new (raw_cell c)) }
@@ -44,7 +45,7 @@ pub fn null<T>(w: &mut World<T>) -> Result<AtomicRaw<T>, NoSlot>
 }
 
 /// What the cell keeps.
-pub fn load<T>(w: &World<T>, cell: &AtomicRaw<T>, _guard: &WorldGuard) -> RawPtr<T>
+pub fn load<T, J: Deferred>(w: &World<T, J>, cell: &AtomicRaw<T>, _guard: &WorldGuard) -> RawPtr<T>
     requires { IsRawCell w.now (raw_cell cell.now) }
     ensures { cell_at w.now (raw_cell cell.now) ≡ Cell.OfRaw (raw_slot result) (raw_tag result) }
 {
@@ -59,7 +60,7 @@ pub fn load<T>(w: &World<T>, cell: &AtomicRaw<T>, _guard: &WorldGuard) -> RawPtr
 }
 
 /// Whether the cell names nothing.
-pub fn is_null<T>(w: &World<T>, cell: &AtomicRaw<T>) -> bool
+pub fn is_null<T, J: Deferred>(w: &World<T, J>, cell: &AtomicRaw<T>) -> bool
     requires { IsRawCell w.now (raw_cell cell.now) }
     ensures { (item : Option ℕ) (tag : Tag) → cell_at w.now (raw_cell cell.now) ≡ Cell.OfRaw item tag → IsTrue result ↔ (item ≡ None) }
 {
@@ -70,7 +71,7 @@ pub fn is_null<T>(w: &World<T>, cell: &AtomicRaw<T>) -> bool
 }
 
 /// The tag of the cell.
-pub fn tag<T>(w: &World<T>, cell: &AtomicRaw<T>) -> Tag
+pub fn tag<T, J: Deferred>(w: &World<T, J>, cell: &AtomicRaw<T>) -> Tag
     requires { IsRawCell w.now (raw_cell cell.now) }
     ensures { (item : Option ℕ) (tag : Tag) → cell_at w.now (raw_cell cell.now) ≡ Cell.OfRaw item tag → result ≡ tag }
 {
@@ -82,7 +83,7 @@ pub fn tag<T>(w: &World<T>, cell: &AtomicRaw<T>) -> Tag
 
 /// Puts another pointer into the cell.
 #[tactic(auto, using(crate::proofs::Frames::raw_cell_used))]
-pub fn store<T>(w: &mut World<T>, cell: &AtomicRaw<T>, ptr: RawPtr<T>)
+pub fn store<T, J: Deferred>(w: &mut World<T, J>, cell: &AtomicRaw<T>, ptr: RawPtr<T>)
     requires { IsRawCell w.old (raw_cell cell.now) }
     ensures now { w.new ≡ with_cell (raw_cell cell.now) (Cell.OfRaw (raw_slot ptr) (raw_tag ptr)) w.old }
     ensures used { IsRawCell w.new (raw_cell cell.now) }
@@ -92,8 +93,8 @@ pub fn store<T>(w: &mut World<T>, cell: &AtomicRaw<T>, ptr: RawPtr<T>)
 }
 
 /// Puts another pointer into the cell, and gives the old one.
-pub fn swap<T>(
-    w: &mut World<T>,
+pub fn swap<T, J: Deferred>(
+    w: &mut World<T, J>,
     cell: &AtomicRaw<T>,
     ptr: RawPtr<T>,
     guard: &WorldGuard,
@@ -111,8 +112,8 @@ pub fn swap<T>(
 
 /// Sets the tag if `f` answers true for what the cell keeps, and answers what `f` did. It is called once.
 #[tactic(auto, using(crate::proofs::Frames::raw_cell_used))]
-pub fn update_tag_if<T, F: FnOnce(RawPtr<T>) -> bool>(
-    w: &mut World<T>,
+pub fn update_tag_if<T, J: Deferred, F: FnOnce(RawPtr<T>) -> bool>(
+    w: &mut World<T, J>,
     cell: &AtomicRaw<T>,
     tag: Tag,
     f: F,
@@ -142,8 +143,8 @@ pub fn update_tag_if<T, F: FnOnce(RawPtr<T>) -> bool>(
 }
 
 /// Puts `new` into the cell if it keeps `current`, tag counted, and gives the old pointer; else gives the one found.
-pub fn compare_exchange<T>(
-    w: &mut World<T>,
+pub fn compare_exchange<T, J: Deferred>(
+    w: &mut World<T, J>,
     cell: &AtomicRaw<T>,
     current: RawPtr<T>,
     new: RawPtr<T>,
@@ -166,8 +167,8 @@ pub fn compare_exchange<T>(
 
 /// Puts what `f` makes of the pointer into the cell, and gives the old one; gives the one found where `f` answers None.
 /// It is called once.
-pub fn fetch_update<T, F: FnOnce(RawPtr<T>) -> Option<RawPtr<T>>>(
-    w: &mut World<T>,
+pub fn fetch_update<T, J: Deferred, F: FnOnce(RawPtr<T>) -> Option<RawPtr<T>>>(
+    w: &mut World<T, J>,
     cell: &AtomicRaw<T>,
     guard: &WorldGuard,
     f: F,
@@ -190,7 +191,7 @@ pub fn fetch_update<T, F: FnOnce(RawPtr<T>) -> Option<RawPtr<T>>>(
 }
 
 /// Ends the cell.
-pub fn end<T>(w: &mut World<T>, cell: AtomicRaw<T>)
+pub fn end<T, J: Deferred>(w: &mut World<T, J>, cell: AtomicRaw<T>)
     requires { IsRawCell w.old (raw_cell cell) }
     ensures ended { w.new ≡ with_cell (raw_cell cell) Cell.Free w.old }
     ensures keeps { Keeps w.old w.new }

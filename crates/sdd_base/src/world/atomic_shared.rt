@@ -5,12 +5,13 @@ ghost use Rattle.sdd_base.specs.State.{marks_at, IsFree, NoneFree, IsFreeCell, N
 ghost use Rattle.sdd_base.specs.Steps.{shared_ended};
 ghost use Rattle.sdd_base.specs.Frame.{Keeps, OnlyOf};
 ghost use Rattle.sdd_base.specs.Place.{IsReadable, IsShared, IsSharedCell};
-ghost use Rattle.sdd_base.specs.Tokens.{shared_cell, shared_slot, shared_slots, ptr_slot, ptr_tag};
+ghost use Rattle.sdd_base.specs.Tokens.{loaded_slot, shared_cell, shared_slot, shared_slots, ptr_slot, ptr_tag};
 
 use crate::cell::AtomicShared;
 use crate::guard::WorldGuard;
+use crate::job::Deferred;
 use crate::owner::Shared;
-use crate::pointer::{Found, Ptr};
+use crate::pointer::{Found, Loaded, Ptr};
 use crate::reclaim;
 use crate::refusal::NoSlot;
 use crate::status::{Cell, Status};
@@ -20,7 +21,7 @@ use std::marker::PhantomData;
 
 /// Makes an item of `value` and a cell that keeps it, without a tag, exactly if a slot and a cell are free; else
 /// `value` comes back.
-pub fn new<T>(w: &mut World<T>, value: T) -> Result<AtomicShared<T>, T>
+pub fn new<T, J: Deferred>(w: &mut World<T, J>, value: T) -> Result<AtomicShared<T>, T>
     ensures made { IfOk result (λ c. IsFreeCell w.old (shared_cell c) × (i : ℕ) × IsFree w.old i × (w.new ≡ with_cell (shared_cell c) (Cell.OfShared (Some i) Tag.None) (placed i value (Status.Shared 1) w.old))) }
     ensures refused { IfErr result (λ v. (v ≡ value) × (w.new ≡ w.old) × (NoneFree w.old ⊎ NoCellFree w.old)) }
     ensures used { IfOk result (λ c. IsSharedCell w.new (shared_cell c)) }
@@ -40,7 +41,10 @@ pub fn new<T>(w: &mut World<T>, value: T) -> Result<AtomicShared<T>, T>
 
 /// A cell that keeps shared, without a tag, exactly if a cell is free; else shared comes back.
 #[tactic(auto, using(crate::proofs::Frames::shared_cell_used))]
-pub fn from<T>(w: &mut World<T>, shared: Shared<T>) -> Result<AtomicShared<T>, Shared<T>>
+pub fn from<T, J: Deferred>(
+    w: &mut World<T, J>,
+    shared: Shared<T>,
+) -> Result<AtomicShared<T>, Shared<T>>
     ensures made { IfOk result (λ c. IsFreeCell w.old (shared_cell c) × (w.new ≡ with_cell (shared_cell c) (Cell.OfShared (Some (shared_slot shared)) Tag.None) w.old)) }
     ensures refused { IfErr result (λ o. (shared_slot o ≡ shared_slot shared) × (w.new ≡ w.old) × NoCellFree w.old) }
     ensures used { IfOk result (λ c. IsSharedCell w.new (shared_cell c)) }
@@ -59,7 +63,7 @@ pub fn from<T>(w: &mut World<T>, shared: Shared<T>) -> Result<AtomicShared<T>, S
 }
 
 /// A cell that keeps nothing, without a tag, exactly if a cell is free.
-pub fn null<T>(w: &mut World<T>) -> Result<AtomicShared<T>, NoSlot>
+pub fn null<T, J: Deferred>(w: &mut World<T, J>) -> Result<AtomicShared<T>, NoSlot>
     ensures made { IfOk result (λ c. IsFreeCell w.old (shared_cell c) × (w.new ≡ with_cell (shared_cell c) (Cell.OfShared None Tag.None) w.old)) }
     ensures refused { OnErr result ((w.new ≡ w.old) × NoCellFree w.old) }
     ensures used { IfOk result (λ c. IsSharedCell w.new (shared_cell c)) }
@@ -72,7 +76,11 @@ pub fn null<T>(w: &mut World<T>) -> Result<AtomicShared<T>, NoSlot>
 }
 
 /// What the cell keeps, as a pointer.
-pub fn load<T>(w: &World<T>, cell: &AtomicShared<T>, _guard: &WorldGuard) -> Ptr<'static, T>
+pub fn load<T, J: Deferred>(
+    w: &World<T, J>,
+    cell: &AtomicShared<T>,
+    _guard: &WorldGuard,
+) -> Ptr<'static, T>
     requires { IsSharedCell w.now (shared_cell cell.now) }
     ensures { cell_at w.now (shared_cell cell.now) ≡ Cell.OfShared (ptr_slot result) (ptr_tag result) }
 {
@@ -86,8 +94,26 @@ pub fn load<T>(w: &World<T>, cell: &AtomicShared<T>, _guard: &WorldGuard) -> Ptr
     }
 }
 
+/// What the cell keeps, without its tag and without a borrow, for a structure that keeps it beside the guard.
+pub fn loaded<T, J: Deferred>(
+    w: &World<T, J>,
+    cell: &AtomicShared<T>,
+    _guard: &WorldGuard,
+) -> Loaded<T>
+    requires { IsSharedCell w.now (shared_cell cell.now) }
+    ensures { (tag : Tag) × (cell_at w.now (shared_cell cell.now) ≡ Cell.OfShared (loaded_slot result) tag) }
+{
+    match w.table.cell(cell.cell) {
+        Cell::OfShared(slot, _) => Loaded {
+            slot,
+            of: PhantomData,
+        },
+        _ => unreachable!(),
+    }
+}
+
 /// The value of the item that the cell keeps, or none. Condition: it is there.
-pub fn as_ref<'w, T>(w: &'w World<T>, cell: &AtomicShared<T>) -> Option<&'w T>
+pub fn as_ref<'w, T, J: Deferred>(w: &'w World<T, J>, cell: &AtomicShared<T>) -> Option<&'w T>
     requires cell { IsSharedCell w.now (shared_cell cell.now) }
     requires there { (i : ℕ) (tag : Tag) → cell_at w.now (shared_cell cell.now) ≡ Cell.OfShared (Some i) tag → IsReadable w.now (Some i) }
     ensures null { (tag : Tag) → cell_at w.now (shared_cell cell.now) ≡ Cell.OfShared None tag → result ≡ None }
@@ -102,7 +128,7 @@ pub fn as_ref<'w, T>(w: &'w World<T>, cell: &AtomicShared<T>) -> Option<&'w T>
 }
 
 /// Whether the cell keeps nothing.
-pub fn is_null<T>(w: &World<T>, cell: &AtomicShared<T>) -> bool
+pub fn is_null<T, J: Deferred>(w: &World<T, J>, cell: &AtomicShared<T>) -> bool
     requires { IsSharedCell w.now (shared_cell cell.now) }
     ensures { (item : Option ℕ) (tag : Tag) → cell_at w.now (shared_cell cell.now) ≡ Cell.OfShared item tag → IsTrue result ↔ (item ≡ None) }
 {
@@ -113,7 +139,7 @@ pub fn is_null<T>(w: &World<T>, cell: &AtomicShared<T>) -> bool
 }
 
 /// The tag of the cell.
-pub fn tag<T>(w: &World<T>, cell: &AtomicShared<T>) -> Tag
+pub fn tag<T, J: Deferred>(w: &World<T, J>, cell: &AtomicShared<T>) -> Tag
     requires { IsSharedCell w.now (shared_cell cell.now) }
     ensures { (item : Option ℕ) (tag : Tag) → cell_at w.now (shared_cell cell.now) ≡ Cell.OfShared item tag → result ≡ tag }
 {
@@ -125,8 +151,8 @@ pub fn tag<T>(w: &World<T>, cell: &AtomicShared<T>) -> Tag
 
 /// Puts another item and tag into the cell, and gives the old ones.
 #[tactic(auto, using(crate::proofs::Frames::shared_cell_used))]
-pub fn swap<T>(
-    w: &mut World<T>,
+pub fn swap<T, J: Deferred>(
+    w: &mut World<T, J>,
     cell: &AtomicShared<T>,
     new: (Option<Shared<T>>, Tag),
 ) -> (Option<Shared<T>>, Tag)
@@ -149,8 +175,8 @@ pub fn swap<T>(
 
 /// Sets the tag if `f` answers true for what the cell keeps, and answers what `f` did. It is called once.
 #[tactic(auto, using(crate::proofs::Frames::shared_cell_used))]
-pub fn update_tag_if<T, P: Found<T>, F: FnOnce(P) -> bool>(
-    w: &mut World<T>,
+pub fn update_tag_if<T, J: Deferred, P: Found<T>, F: FnOnce(P) -> bool>(
+    w: &mut World<T, J>,
     cell: &AtomicShared<T>,
     tag: Tag,
     f: F,
@@ -176,8 +202,8 @@ pub fn update_tag_if<T, P: Found<T>, F: FnOnce(P) -> bool>(
 
 /// Puts another item and tag into the cell if item and tag are both those of `current`, and gives the old owner and
 /// the new pointer; else the new owner comes back, with the pointer found.
-pub fn compare_exchange<T>(
-    w: &mut World<T>,
+pub fn compare_exchange<T, J: Deferred>(
+    w: &mut World<T, J>,
     cell: &AtomicShared<T>,
     current: Ptr<'static, T>,
     new: (Option<Shared<T>>, Tag),
@@ -219,8 +245,8 @@ pub fn compare_exchange<T>(
 }
 
 /// As `compare_exchange`: it fails for no other reason.
-pub fn compare_exchange_weak<T>(
-    w: &mut World<T>,
+pub fn compare_exchange_weak<T, J: Deferred>(
+    w: &mut World<T, J>,
     cell: &AtomicShared<T>,
     current: Ptr<'static, T>,
     new: (Option<Shared<T>>, Tag),
@@ -237,8 +263,8 @@ pub fn compare_exchange_weak<T>(
 }
 
 /// One more owner of the item that the cell keeps; none where it keeps none, and at the greatest count of owners.
-pub fn get_shared<T>(
-    w: &mut World<T>,
+pub fn get_shared<T, J: Deferred>(
+    w: &mut World<T, J>,
     cell: &AtomicShared<T>,
     _guard: &WorldGuard,
 ) -> Option<Shared<T>>
@@ -258,8 +284,8 @@ pub fn get_shared<T>(
 
 /// Another cell that keeps an owner of the same item, with the same tag, exactly if a cell is free; it keeps none where
 /// `get_shared` gives none.
-pub fn clone<T>(
-    w: &mut World<T>,
+pub fn clone<T, J: Deferred>(
+    w: &mut World<T, J>,
     cell: &AtomicShared<T>,
     guard: &WorldGuard,
 ) -> Result<AtomicShared<T>, NoSlot>
@@ -284,7 +310,7 @@ pub fn clone<T>(
 }
 
 /// Ends the cell, and gives the owner that it kept.
-pub fn into_shared<T>(w: &mut World<T>, cell: AtomicShared<T>) -> Option<Shared<T>>
+pub fn into_shared<T, J: Deferred>(w: &mut World<T, J>, cell: AtomicShared<T>) -> Option<Shared<T>>
     requires { IsSharedCell w.old (shared_cell cell) }
     ensures was { (tag : Tag) × (cell_at w.old (shared_cell cell) ≡ Cell.OfShared (shared_slots result) tag) }
     ensures ended { w.new ≡ with_cell (shared_cell cell) Cell.Free w.old }
@@ -301,7 +327,7 @@ pub fn into_shared<T>(w: &mut World<T>, cell: AtomicShared<T>) -> Option<Shared<
 }
 
 /// Ends the cell, and gives the owner that it kept back: a last owner is retired by participant `p`.
-pub fn retire<T>(w: &mut World<T>, cell: AtomicShared<T>, p: usize)
+pub fn retire<T, J: Deferred>(w: &mut World<T, J>, cell: AtomicShared<T>, p: usize)
     requires member { p < length w.old.members }
     requires cell { IsSharedCell w.old (shared_cell cell) }
     ensures ended { w.new ≡ shared_ended p (shared_cell cell) w.old }

@@ -10,7 +10,7 @@ ghost use Rattle.sdd_base.specs.Tokens.{participant_of};
 use crate::epoch::Epoch;
 use crate::guard::WorldGuard;
 use crate::holds::Holds;
-use crate::job::Job;
+use crate::job::Deferred;
 use crate::reclaim;
 use crate::refusal::Nested;
 use crate::status::Status;
@@ -18,7 +18,7 @@ use crate::world::World;
 
 /// Opens a guard of participant `p`, within those that are open. An outermost opening publishes the count of raises
 /// and, where that isn't the one found before, moves the bags of `p` on and reclaims what was in the oldest.
-pub fn new<T: Holds>(w: &mut World<T>, p: usize) -> Result<WorldGuard, Nested>
+pub fn new<T: Holds, J: Deferred>(w: &mut World<T, J>, p: usize) -> Result<WorldGuard, Nested>
     requires { p < length w.old.members }
     ensures opened { IfOk result (λ g. (participant_of g ≡ p) × (w.new ≡ opened T.holds p w.old)) }
     ensures open { IfOk result (λ _. IsOpen w.new p) }
@@ -35,7 +35,7 @@ pub fn new<T: Holds>(w: &mut World<T>, p: usize) -> Result<WorldGuard, Nested>
 }
 
 /// Asks that the outermost closing of this nesting scans.
-pub fn accelerate<T>(w: &mut World<T>, guard: &WorldGuard)
+pub fn accelerate<T, J: Deferred>(w: &mut World<T, J>, guard: &WorldGuard)
     requires { participant_of guard.now < length w.old.members }
     ensures set { w.new ≡ with_marks (participant_of guard.now) (record (marks_at w.old (participant_of guard.now)) { accelerated = true }) w.old }
     ensures nests { (q : ℕ) → (marks_at w.new q).nesting ≡ (marks_at w.old q).nesting }
@@ -48,7 +48,7 @@ pub fn accelerate<T>(w: &mut World<T>, guard: &WorldGuard)
 }
 
 /// Whether something was retired by the participant, or the flag set, since its bags were last found empty.
-pub fn has_garbage<T>(w: &World<T>, guard: &WorldGuard) -> bool
+pub fn has_garbage<T, J: Deferred>(w: &World<T, J>, guard: &WorldGuard) -> bool
     requires { participant_of guard.now < length w.now.members }
     ensures { result ≡ (marks_at w.now (participant_of guard.now)).garbage }
 {
@@ -56,7 +56,7 @@ pub fn has_garbage<T>(w: &World<T>, guard: &WorldGuard) -> bool
 }
 
 /// Sets that flag, so that a later closing scans.
-pub fn set_has_garbage<T>(w: &mut World<T>, guard: &WorldGuard)
+pub fn set_has_garbage<T, J: Deferred>(w: &mut World<T, J>, guard: &WorldGuard)
     requires { participant_of guard.now < length w.old.members }
     ensures set { w.new ≡ with_marks (participant_of guard.now) (record (marks_at w.old (participant_of guard.now)) { garbage = true }) w.old }
     ensures nests { (q : ℕ) → (marks_at w.new q).nesting ≡ (marks_at w.old q).nesting }
@@ -70,7 +70,11 @@ pub fn set_has_garbage<T>(w: &mut World<T>, guard: &WorldGuard)
 
 /// Keeps `job` until it is reclaimed as an item is that participant retires now, and then runs it once; where every
 /// job place has one that waits, it comes back.
-pub fn defer_execute<T>(w: &mut World<T>, guard: &WorldGuard, job: Job) -> Result<(), Job>
+pub fn defer_execute<T, J: Deferred>(
+    w: &mut World<T, J>,
+    guard: &WorldGuard,
+    job: J,
+) -> Result<(), J>
     requires { participant_of guard.now < length w.old.members }
     ensures deferred { OnOk result ((i : ℕ) × IsIdle w.old i × (w.new ≡ waiting_as Status.Deferred (participant_of guard.now) i w.old)) }
     ensures refused { IfErr result (λ j. (j ≡ job) × (w.new ≡ w.old) × NoneIdle w.old) }
@@ -82,7 +86,7 @@ pub fn defer_execute<T>(w: &mut World<T>, guard: &WorldGuard, job: Job) -> Resul
 }
 
 /// The epoch of the place: its count of raises modulo 64.
-pub fn epoch<T>(w: &World<T>, _guard: &WorldGuard) -> Epoch
+pub fn epoch<T, J: Deferred>(w: &World<T, J>, _guard: &WorldGuard) -> Epoch
     ensures { result ≡ w.now.count % 64 }
 {
     Epoch::of_count(w.table.count())
@@ -90,7 +94,7 @@ pub fn epoch<T>(w: &World<T>, _guard: &WorldGuard) -> Epoch
 
 /// Closes a guard. An outermost closing scans, if a guard of the nesting was accelerated or this is the 64th since the
 /// last scan with garbage there: the count is raised by one if every open guard published it.
-pub fn close<T>(w: &mut World<T>, guard: WorldGuard)
+pub fn close<T, J: Deferred>(w: &mut World<T, J>, guard: WorldGuard)
     requires member { participant_of guard < length w.old.members }
     requires open { IsOpen w.old (participant_of guard) }
     ensures closed { w.new ≡ closed (participant_of guard) w.old }

@@ -11,6 +11,7 @@ ghost use Rattle.sdd_base.specs.Tokens.{owned_slot, ptr_slot, ptr_tag, raw_slot,
 
 use crate::guard::WorldGuard;
 use crate::holds::{Held, Holds};
+use crate::job::Deferred;
 use crate::lender::Lender;
 use crate::owner::Owned;
 use crate::pointer::{Ptr, RawPtr};
@@ -22,7 +23,7 @@ use crate::world::World;
 use std::marker::PhantomData;
 
 /// Makes an item of `value`, exactly if a slot is free; else `value` comes back.
-pub fn new<T>(w: &mut World<T>, value: T) -> Result<Owned<T>, T>
+pub fn new<T, J: Deferred>(w: &mut World<T, J>, value: T) -> Result<Owned<T>, T>
     ensures placed { IfOk result (λ o. IsFree w.old (owned_slot o) × (w.new ≡ placed (owned_slot o) value Status.Owned w.old)) }
     ensures refused { IfErr result (λ v. (v ≡ value) × (w.new ≡ w.old) × NoneFree w.old) }
     ensures live { IfOk result (λ o. IsOwned w.new (owned_slot o)) }
@@ -33,7 +34,10 @@ pub fn new<T>(w: &mut World<T>, value: T) -> Result<Owned<T>, T>
 }
 
 /// Makes an item of what `f` gives, exactly if a slot is free; else `f` isn't called.
-pub fn new_with<T, F: FnOnce() -> T + Drop>(w: &mut World<T>, f: F) -> Result<Owned<T>, NoSlot>
+pub fn new_with<T, J: Deferred, F: FnOnce() -> T + Drop>(
+    w: &mut World<T, J>,
+    f: F,
+) -> Result<Owned<T>, NoSlot>
     requires { F.pre f }
     ensures placed { IfOk result (λ o. IsFree w.old (owned_slot o) × (v : T) × F.post f v × (w.new ≡ placed (owned_slot o) v Status.Owned w.old)) }
     ensures refused { OnErr result ((w.new ≡ w.old) × NoneFree w.old) }
@@ -49,7 +53,7 @@ pub fn new_with<T, F: FnOnce() -> T + Drop>(w: &mut World<T>, f: F) -> Result<Ow
 }
 
 /// The value of an item.
-pub fn as_ref<'w, T>(w: &'w World<T>, owned: &Owned<T>) -> &'w T
+pub fn as_ref<'w, T, J: Deferred>(w: &'w World<T, J>, owned: &Owned<T>) -> &'w T
     requires { IsOwned w.now (owned_slot owned.now) }
     ensures { Some result.now ≡ value_at w.now (owned_slot owned.now) }
 {
@@ -89,7 +93,11 @@ pub fn get_guarded_ptr<T>(owned: &Owned<T>, _guard: &WorldGuard) -> Ptr<'static,
 }
 
 /// The value of an item, as `as_ref`.
-pub fn get_guarded_ref<'w, T>(w: &'w World<T>, owned: &Owned<T>, _guard: &WorldGuard) -> &'w T
+pub fn get_guarded_ref<'w, T, J: Deferred>(
+    w: &'w World<T, J>,
+    owned: &Owned<T>,
+    _guard: &WorldGuard,
+) -> &'w T
     requires { IsOwned w.now (owned_slot owned.now) }
     ensures { Some result.now ≡ value_at w.now (owned_slot owned.now) }
 {
@@ -97,7 +105,7 @@ pub fn get_guarded_ref<'w, T>(w: &'w World<T>, owned: &Owned<T>, _guard: &WorldG
 }
 
 /// The item is out as a raw pointer, and its owner is spent.
-pub fn into_raw<T>(w: &mut World<T>, owned: Owned<T>) -> RawPtr<T>
+pub fn into_raw<T, J: Deferred>(w: &mut World<T, J>, owned: Owned<T>) -> RawPtr<T>
     requires { IsOwned w.old (owned_slot owned) }
     ensures slot { raw_slot result ≡ Some (owned_slot owned) }
     ensures tag { raw_tag result ≡ Tag.None }
@@ -114,7 +122,7 @@ pub fn into_raw<T>(w: &mut World<T>, owned: Owned<T>) -> RawPtr<T>
 }
 
 /// The owner of an item that is out as a raw pointer; none where the pointer is null or names another item.
-pub fn from_raw<T>(w: &mut World<T>, ptr: RawPtr<T>) -> Option<Owned<T>>
+pub fn from_raw<T, J: Deferred>(w: &mut World<T, J>, ptr: RawPtr<T>) -> Option<Owned<T>>
     ensures some { IfSome result (λ o. (raw_slot ptr ≡ Some (owned_slot o)) × (status_at w.old (owned_slot o) ≡ Status.Raw) × (w.new ≡ with_status (owned_slot o) Status.Owned w.old)) }
     ensures none { IfNone result ((w.new ≡ w.old) × IfSome (raw_slot ptr) (λ i. status_at w.old i ≢ Status.Raw)) }
     ensures live { IfSome result (λ o. IsOwned w.new (owned_slot o)) }
@@ -133,7 +141,10 @@ pub fn from_raw<T>(w: &mut World<T>, ptr: RawPtr<T>) -> Option<Owned<T>>
 /// Ends the item now, without waiting for anybody, and with it what it alone held; what others own of that stays, and
 /// what waits waits on. It is handed back while a guard of any participant is open, and then nothing has changed. Rust's
 /// `Owned::drop_in_place` is unsafe, and retires what the item held.
-pub fn drop_in_place<T: Holds>(w: &mut World<T>, owned: Owned<T>) -> Result<(), Owned<T>>
+pub fn drop_in_place<T: Holds, J: Deferred>(
+    w: &mut World<T, J>,
+    owned: Owned<T>,
+) -> Result<(), Owned<T>>
     requires { IsOwned w.old (owned_slot owned) }
     ensures dropped { OnOk result (Dropped T.holds (OwnedItem (owned_slot owned)) w.old w.new) }
     ensures back { IfErr result (λ o. (owned_slot o ≡ owned_slot owned) × (w.new ≡ w.old)) }
@@ -147,7 +158,7 @@ pub fn drop_in_place<T: Holds>(w: &mut World<T>, owned: Owned<T>) -> Result<(), 
 }
 
 /// Retires the item: it waits in the current bag of participant `p`.
-pub fn retire<T>(w: &mut World<T>, owned: Owned<T>, p: usize)
+pub fn retire<T, J: Deferred>(w: &mut World<T, J>, owned: Owned<T>, p: usize)
     requires member { p < length w.old.members }
     requires live { IsOwned w.old (owned_slot owned) }
     ensures retired { w.new ≡ retired p (owned_slot owned) w.old }

@@ -14,6 +14,7 @@ ghost use Rattle.sdd_base.specs.Tokens.{owned_slot, shared_slot, participant_of,
 use crate::collector::PrivateCollector;
 use crate::guard::WorldGuard;
 use crate::holds::Holds;
+use crate::job::Deferred;
 use crate::owner::{Owned, Shared};
 use crate::reclaim;
 use crate::status::Status;
@@ -23,7 +24,10 @@ use std::collections::VecDeque;
 use std::marker::PhantomData;
 
 /// An empty collector, with room for as many items as the place has slots and job places.
-pub fn new<T>(alloc: Global, w: &World<T>) -> Result<PrivateCollector<T>, AllocError>
+pub fn new<T, J: Deferred>(
+    alloc: Global,
+    w: &World<T, J>,
+) -> Result<PrivateCollector<T>, AllocError>
     ensures empty { IfOk result (λ c. waiting_in c ≡ []) }
     ensures room { IfOk result (λ c. room_of c ≡ length w.now.states) }
 {
@@ -36,8 +40,8 @@ pub fn new<T>(alloc: Global, w: &World<T>) -> Result<PrivateCollector<T>, AllocE
 /// Retires an item into the collector; what waits there since three raises is reclaimed by the participant of `guard`.
 /// Where the collector has no room left, which it has for all items of its place, the item is retired to that
 /// participant.
-pub fn collect_owned<T: Holds>(
-    w: &mut World<T>,
+pub fn collect_owned<T: Holds, J: Deferred>(
+    w: &mut World<T, J>,
     collector: &mut PrivateCollector<T>,
     owned: Owned<T>,
     guard: &WorldGuard,
@@ -63,8 +67,8 @@ pub fn collect_owned<T: Holds>(
 
 /// Gives an owner back, and answers whether it was the last, those of cells and items counted; the last one retires the
 /// item into the collector, as `collect_owned` does. What waits there since three raises is reclaimed in both cases.
-pub fn collect_shared<T: Holds>(
-    w: &mut World<T>,
+pub fn collect_shared<T: Holds, J: Deferred>(
+    w: &mut World<T, J>,
     collector: &mut PrivateCollector<T>,
     shared: Shared<T>,
     guard: &WorldGuard,
@@ -93,7 +97,7 @@ pub fn collect_shared<T: Holds>(
 }
 
 /// Ends the collector: what waits in it goes to the current bag of participant `p`.
-pub fn hand_over<T>(w: &mut World<T>, collector: PrivateCollector<T>, p: usize)
+pub fn hand_over<T, J: Deferred>(w: &mut World<T, J>, collector: PrivateCollector<T>, p: usize)
     requires { p < length w.old.members }
     ensures handed { w.new ≡ handed p (waiting_in collector) w.old }
     ensures nests { (q : ℕ) → (marks_at w.new q).nesting ≡ (marks_at w.old q).nesting }

@@ -6,13 +6,14 @@ ghost use Rattle.sdd_base.specs.Frame.{Keeps};
 ghost use Rattle.sdd_base.specs.Place.{IsShared};
 ghost use Rattle.sdd_base.specs.Tokens.{shared_slot, ptr_slot};
 
+use crate::job::Deferred;
 use crate::owner::Shared;
 use crate::pointer::Ptr;
 use crate::status::Status;
 use crate::world::World;
 
 /// One more owner of the item in `slot`, where it is a `Shared` one below the greatest count.
-pub(crate) fn add_owner<T>(w: &mut World<T>, slot: usize) -> Option<Shared<T>>
+pub(crate) fn add_owner<T, J: Deferred>(w: &mut World<T, J>, slot: usize) -> Option<Shared<T>>
     ensures more { IfSome result (λ s. (shared_slot s ≡ slot) × (n : ℕ) × (status_at w.old slot ≡ Status.Shared n) × (w.new ≡ with_status slot (Status.Shared (n + 1)) w.old)) }
     ensures room { IfSome result (λ s. (n : ℕ) → status_at w.old (shared_slot s) ≡ Status.Shared n → n < 4294967295) }
     ensures none { IfNone result ((w.new ≡ w.old) × ((n : ℕ) → n < 4294967295 → status_at w.old slot ≢ Status.Shared n)) }
@@ -33,7 +34,7 @@ pub(crate) fn add_owner<T>(w: &mut World<T>, slot: usize) -> Option<Shared<T>>
 
 /// One more owner of the item that `at` names; none on null, on an `Owned` item, on one that was retired, and at the
 /// greatest count of owners.
-pub fn get_shared<T>(w: &mut World<T>, at: Ptr<'static, T>) -> Option<Shared<T>>
+pub fn get_shared<T, J: Deferred>(w: &mut World<T, J>, at: Ptr<'static, T>) -> Option<Shared<T>>
     ensures more { IfSome result (λ s. (ptr_slot at.entry ≡ Some (shared_slot s)) × (n : ℕ) × (status_at w.old (shared_slot s) ≡ Status.Shared n) × (w.new ≡ with_status (shared_slot s) (Status.Shared (n + 1)) w.old)) }
     ensures room { IfSome result (λ s. (n : ℕ) → status_at w.old (shared_slot s) ≡ Status.Shared n → n < 4294967295) }
     ensures none { IfNone result ((w.new ≡ w.old) × IfSome (ptr_slot at.entry) (λ i. (n : ℕ) → n < 4294967295 → status_at w.old i ≢ Status.Shared n)) }

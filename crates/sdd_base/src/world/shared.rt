@@ -12,6 +12,7 @@ ghost use Rattle.sdd_base.specs.Tokens.{kept_slot, shared_slot, ptr_slot, ptr_ta
 
 use crate::guard::WorldGuard;
 use crate::holds::{Held, Holds};
+use crate::job::Deferred;
 use crate::lender::Lender;
 use crate::owner::{Kept, Shared};
 use crate::pointer::Ptr;
@@ -23,7 +24,7 @@ use crate::world::{World, ptr};
 use std::marker::PhantomData;
 
 /// Makes an item of `value` with one owner, exactly if a slot is free; else `value` comes back.
-pub fn new<T>(w: &mut World<T>, value: T) -> Result<Shared<T>, T>
+pub fn new<T, J: Deferred>(w: &mut World<T, J>, value: T) -> Result<Shared<T>, T>
     ensures placed { IfOk result (λ s. IsFree w.old (shared_slot s) × (w.new ≡ placed (shared_slot s) value (Status.Shared 1) w.old)) }
     ensures refused { IfErr result (λ v. (v ≡ value) × (w.new ≡ w.old) × NoneFree w.old) }
     ensures live { IfOk result (λ s. IsShared w.new (shared_slot s)) }
@@ -34,7 +35,10 @@ pub fn new<T>(w: &mut World<T>, value: T) -> Result<Shared<T>, T>
 }
 
 /// Makes an item of what `f` gives, exactly if a slot is free; else `f` isn't called.
-pub fn new_with<T, F: FnOnce() -> T + Drop>(w: &mut World<T>, f: F) -> Result<Shared<T>, NoSlot>
+pub fn new_with<T, J: Deferred, F: FnOnce() -> T + Drop>(
+    w: &mut World<T, J>,
+    f: F,
+) -> Result<Shared<T>, NoSlot>
     requires { F.pre f }
     ensures placed { IfOk result (λ s. IsFree w.old (shared_slot s) × (v : T) × F.post f v × (w.new ≡ placed (shared_slot s) v (Status.Shared 1) w.old)) }
     ensures refused { OnErr result ((w.new ≡ w.old) × NoneFree w.old) }
@@ -51,7 +55,7 @@ pub fn new_with<T, F: FnOnce() -> T + Drop>(w: &mut World<T>, f: F) -> Result<Sh
 
 /// One more owner of the item; none where it has `2^32 - 1` of them.
 #[tactic(auto, using(crate::proofs::Frames::shared_more))]
-pub fn clone<T>(w: &mut World<T>, shared: &Shared<T>) -> Option<Shared<T>>
+pub fn clone<T, J: Deferred>(w: &mut World<T, J>, shared: &Shared<T>) -> Option<Shared<T>>
     requires { IsShared w.old (shared_slot shared.now) }
     ensures more { IfSome result (λ s. (shared_slot s ≡ shared_slot shared.now) × (n : ℕ) × (status_at w.old (shared_slot s) ≡ Status.Shared n) × (w.new ≡ with_status (shared_slot s) (Status.Shared (n + 1)) w.old)) }
     ensures full { IfNone result ((w.new ≡ w.old) × (status_at w.old (shared_slot shared.now) ≡ Status.Shared 4294967295)) }
@@ -73,7 +77,7 @@ pub fn clone<T>(w: &mut World<T>, shared: &Shared<T>) -> Option<Shared<T>>
 
 /// Gives an owner back, and answers whether it was the last, those of cells and items counted. The last one retires
 /// the item, which waits in the current bag of participant `p`.
-pub fn release<T>(w: &mut World<T>, shared: Shared<T>, p: usize) -> bool
+pub fn release<T, J: Deferred>(w: &mut World<T, J>, shared: Shared<T>, p: usize) -> bool
     requires member { p < length w.old.members }
     requires live { IsShared w.old (shared_slot shared) }
     ensures released { w.new ≡ released p (shared_slot shared) w.old }
@@ -89,7 +93,10 @@ pub fn release<T>(w: &mut World<T>, shared: Shared<T>, p: usize) -> bool
 /// Gives an owner back, and answers whether it was the last, those of cells and items counted. With the last one the
 /// item ends now, without waiting for anybody, and with it what it alone held; what others own of that stays, and what
 /// waits waits on. The owner is handed back while a guard of any participant is open, and then nothing has changed.
-pub fn drop_in_place<T: Holds>(w: &mut World<T>, shared: Shared<T>) -> Result<bool, Shared<T>>
+pub fn drop_in_place<T: Holds, J: Deferred>(
+    w: &mut World<T, J>,
+    shared: Shared<T>,
+) -> Result<bool, Shared<T>>
     requires { IsShared w.old (shared_slot shared) }
     ensures dropped { OnOk result (Dropped T.holds (SharedItem (shared_slot shared)) w.old w.new) }
     ensures last { IfOk result (λ last. (n : ℕ) → status_at w.old (shared_slot shared) ≡ Status.Shared n → last ≡ leb n 1) }
@@ -105,7 +112,7 @@ pub fn drop_in_place<T: Holds>(w: &mut World<T>, shared: Shared<T>) -> Result<bo
 }
 
 /// The value of an item.
-pub fn as_ref<'w, T>(w: &'w World<T>, shared: &Shared<T>) -> &'w T
+pub fn as_ref<'w, T, J: Deferred>(w: &'w World<T, J>, shared: &Shared<T>) -> &'w T
     requires { IsShared w.now (shared_slot shared.now) }
     ensures { Some result.now ≡ value_at w.now (shared_slot shared.now) }
 {
@@ -113,7 +120,7 @@ pub fn as_ref<'w, T>(w: &'w World<T>, shared: &Shared<T>) -> &'w T
 }
 
 /// The value of an item whose owner an item keeps. Condition: it is there.
-pub fn kept_ref<'w, T>(w: &'w World<T>, kept: &Kept) -> &'w T
+pub fn kept_ref<'w, T, J: Deferred>(w: &'w World<T, J>, kept: &Kept) -> &'w T
     requires { IsSome (value_at w.now (kept_slot kept.now)) }
     ensures { Some result.now ≡ value_at w.now (kept_slot kept.now) }
 {
@@ -149,7 +156,11 @@ pub fn get_guarded_ptr<T>(shared: &Shared<T>, _guard: &WorldGuard) -> Ptr<'stati
 }
 
 /// The value of an item, as `as_ref`.
-pub fn get_guarded_ref<'w, T>(w: &'w World<T>, shared: &Shared<T>, _guard: &WorldGuard) -> &'w T
+pub fn get_guarded_ref<'w, T, J: Deferred>(
+    w: &'w World<T, J>,
+    shared: &Shared<T>,
+    _guard: &WorldGuard,
+) -> &'w T
     requires { IsShared w.now (shared_slot shared.now) }
     ensures { Some result.now ≡ value_at w.now (shared_slot shared.now) }
 {
@@ -157,7 +168,10 @@ pub fn get_guarded_ref<'w, T>(w: &'w World<T>, shared: &Shared<T>, _guard: &Worl
 }
 
 /// One more owner of the item that `at` names, as `ptr::get_shared`; where there is none, `at` comes back.
-pub fn try_from<T>(w: &mut World<T>, at: Ptr<'static, T>) -> Result<Shared<T>, Ptr<'static, T>>
+pub fn try_from<T, J: Deferred>(
+    w: &mut World<T, J>,
+    at: Ptr<'static, T>,
+) -> Result<Shared<T>, Ptr<'static, T>>
     ensures more { IfOk result (λ s. (ptr_slot at.entry ≡ Some (shared_slot s)) × (n : ℕ) × (status_at w.old (shared_slot s) ≡ Status.Shared n) × (w.new ≡ with_status (shared_slot s) (Status.Shared (n + 1)) w.old)) }
     ensures back { IfErr result (λ r. (ptr_slot r ≡ ptr_slot at.entry) × (ptr_tag r ≡ ptr_tag at.entry) × (w.new ≡ w.old)) }
     ensures room { IfOk result (λ s. (n : ℕ) → status_at w.old (shared_slot s) ≡ Status.Shared n → n < 4294967295) }

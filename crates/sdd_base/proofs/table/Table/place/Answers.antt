@@ -7,7 +7,7 @@ use Rattle.sdd_base.specs.declared.status.Status.{Status}
 use Rattle.sdd_base.specs.declared.table.Table.TheInside.{Inside}
 use Rattle.sdd_base.proofs.table.Table.place.Goals as goal
 
-abbrev placed_by : {T X : Type 0} {V : X → Type 0} (a : Inside T X V) (i : ℕ) (x : Option T) (s : Status) → State T
+abbrev placed_by : {T J : Type 0} (a : Inside T J) (i : ℕ) (x : Option T) (s : Status) → State T
 placed_by a i x s = record (state_of a) { values = set a.values.items i x; states = set a.states.items i s }
 
 pub index_mut-requires : goal.index_mut-requires
