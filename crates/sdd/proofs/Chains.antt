@@ -133,7 +133,7 @@ module _ {L : Type 0} (link : L → Option ℕ) where
   pub item_left : (cs is : List ℕ) (w w' : State L) (e : Entry L) → Leaves cs is w w' → IsOut e.slot is → IsItem link w e → IsItem link w' e
   item_left cs is w w' e l out h =
       let used : vacancy (status_at w e.slot) ≡ 0 = ap vacancy h.shared in
-      record { owners = h.owners; shared = l.uses e.slot out used ∙ h.shared; here = l.values e.slot out used ∙ h.here; linked = h.linked }
+      record { owners = h.owners; shared = l.uses e.slot out used ∙ h.shared; owned = h.owned; here = l.values e.slot out used ∙ h.here; linked = h.linked }
 
   pub cell_left : (cs is : List ℕ) (w w' : State L) (c : ℕ) (o : Option ℕ) (t : Tag) → Leaves cs is w w' → IsOut c cs → cell_at w c ≡ cell.OfShared o t → cell_at w' c ≡ cell.OfShared o t
   cell_left cs is w w' c o t l out h = l.cells c out (ap emptiness h) ∙ h

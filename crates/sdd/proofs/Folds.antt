@@ -16,7 +16,7 @@ module _ {X : Type 0} where
   removes_last [] x ys zs rest h a = (rest, subst (λ (es : List X). Adds x rest es) h a, refl)
   removes_last (e ∷ xs) x ys zs rest h a = (h.0, h.1, removes_last xs x h.0 zs rest h.2 a)
 
-  adds_front : (x : X) (xs ys zs : List X) → Adds x xs ys → Adds x (xs ++ zs) (ys ++ zs)
+  pub adds_front : (x : X) (xs ys zs : List X) → Adds x xs ys → Adds x (xs ++ zs) (ys ++ zs)
   adds_front x xs ys zs a = record {
     before = a.before;
     after = a.after ++ zs;
@@ -24,7 +24,7 @@ module _ {X : Type 0} where
     now = ap (λ (es : List X). es ++ zs) a.now ∙ append_assoc a.before (x ∷ a.after) zs;
   }
 
-  adds_length : (x : X) (xs ys : List X) → Adds x xs ys → length ys ≡ length xs + 1
+  pub adds_length : (x : X) (xs ys : List X) → Adds x xs ys → length ys ≡ length xs + 1
   adds_length x xs ys a =
       let p : length xs ≡ length (a.before ++ a.after) = ap length a.was in
       let q : length ys ≡ length (a.before ++ x ∷ a.after) = ap length a.now in

@@ -127,7 +127,7 @@ module _ {L : Type 0} (link : L → Option ℕ) where
     popped_gone =
         let item = item_left link (k.entry.link ∷ []) [] w2 w3 k.entry marked tt k.loose.item in
         record {
-          item = record { owners = item.owners; shared = item.shared; here = item.here; linked = item.linked };
+          item = record { owners = item.owners; shared = item.shared; owned = item.owned; here = item.here; linked = item.linked };
           empty = ap (λ (v : State L). cell_at v k.entry.link) is ∙ wrote_same w2 k.entry.link (cell.OfShared None tag.Second) (inside_cells w2.cells k.entry.link None k.entry.tag k.loose.empty);
         }
 

@@ -8,6 +8,8 @@ pub mod Queues
 pub mod Nodes
 pub mod Firsts
 pub mod Shares
+pub mod Fillings
+pub mod Inserting
 pub mod Rows
 pub mod Bags
 pub mod Claims

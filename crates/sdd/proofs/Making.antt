@@ -1,5 +1,5 @@
 -- new entries
-use Rattle.std.proofs.Common.{◌≡◌, ◌≢◌, ◌⊎◌, ℕ, zero, suc, ◌+◌, ◌<◌, Option, None, Some, List, [], ◌∷◌, length, get_or, set, refl, ap, ◌∙◌, subst, get_or-set_same, IfSome, inl}
+use Rattle.std.proofs.Common.{◌≡◌, ◌≢◌, ◌⊎◌, ℕ, zero, suc, ◌+◌, ◌<◌, Option, None, Some, List, [], ◌∷◌, length, get_or, set, refl, ap, ◌∙◌, subst, get_or-set_same, IfSome, inl, arith}
 use Rattle.sdd_base.specs.State.{State, status_at, value_at, cell_at, placed, with_cell, with_status, IsFree, IsFreeCell, NoneFree, NoCellFree}
 use Rattle.sdd_base.specs.declared.tag.Tag.TheVariants as tag
 use Rattle.sdd_base.specs.declared.status.Status.{Status}
@@ -35,6 +35,7 @@ module _ {T : Type 0} (w w1 w2 : State (LinkedEntry T)) (c i : ℕ) (v : T) (ite
         loose = record {
           item = record {
             owners = 1;
+            owned = omega arith;
             shared = ap (λ (ss : List Status). get_or ss i status.Free) states2 ∙ get_or-set_same w1.states i (status.Shared 1) status.Free freed.0;
             here = now ∙ written w1.values i item r (read ∙ now);
             linked = link;
@@ -57,6 +58,7 @@ module _ {T : Type 0} (w w1 w2 : State (LinkedEntry T)) (v : T) (i n : ℕ) wher
         loose = record {
           item = record {
             owners = n + 1;
+            owned = omega arith;
             shared = subst (λ (j : ℕ). status_at w2 j ≡ status.Shared (n + 1)) m.at shared;
             here = ap (λ (s : State (LinkedEntry T)). value_at s m.entry.slot) e ∙ k.item.here;
             linked = k.item.linked;

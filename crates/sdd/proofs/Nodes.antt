@@ -13,11 +13,11 @@ use Rattle.sdd.specs.Nodes.{IsNode, IsSomeNode, IsListed, Retags, retagged, Has}
 use Rattle.sdd.proofs.Chains.{cell_left, item_left, leaves_write, leaves_all, out_of_none, wrote_same, inside_cells, some_same, the_same, hung_out, hung_first, kept_same, rehung, some_nothing}
 use Rattle.sdd.proofs.Releases.{out_of_one}
 
-retagged_links : {L : Type 0} (i j : ℕ) (u : Tag) (es : List (Entry L)) → IsOut j (links es) → IsOut j (links (retagged i u es))
+pub retagged_links : {L : Type 0} (i j : ℕ) (u : Tag) (es : List (Entry L)) → IsOut j (links es) → IsOut j (links (retagged i u es))
 retagged_links i j u [] out = tt
 retagged_links i j u (e ∷ es) out = elim (e.slot == i) as (λ v. IsOut j (links (cond v (record e { tag = u } ∷ es) (e ∷ retagged i u es)))) [ true ↦ out | false ↦ (out.0, retagged_links i j u es out.1) ]
 
-retagged_slots : {L : Type 0} (i j : ℕ) (u : Tag) (es : List (Entry L)) → IsOut j (slots es) → IsOut j (slots (retagged i u es))
+pub retagged_slots : {L : Type 0} (i j : ℕ) (u : Tag) (es : List (Entry L)) → IsOut j (slots es) → IsOut j (slots (retagged i u es))
 retagged_slots i j u [] out = tt
 retagged_slots i j u (e ∷ es) out = elim (e.slot == i) as (λ v. IsOut j (slots (cond v (record e { tag = u } ∷ es) (e ∷ retagged i u es)))) [ true ↦ out | false ↦ (out.0, retagged_slots i j u es out.1) ]
 
@@ -29,6 +29,19 @@ module _ {L : Type 0} (link : L → Option ℕ) where
   pub node_cell : (w : State L) (o : Option ℕ) (e : Entry L) (d : ℕ) → IsNode link w o e → d ≡ e.link → IsSharedCell w d
   node_cell w o e d n at = subst (λ (j : ℕ). IsSharedCell w j) (sym at) (record { inside = inside_cells w.cells e.link n.next e.tag n.kept; item = n.next; tag = e.tag; is = n.kept })
 
+  -- an item has one link
+  module _ (w : State L) (e : Entry L) (k : IsItem link w e) where
+    pub same_link : (f : Entry L) → IsItem link w f → f.slot ≡ e.slot → f.link ≡ e.link
+    same_link f h at = some_same f.link e.link (sym h.linked ∙ ap link (the_same f.item e.item (sym h.here ∙ ap (λ (i : ℕ). value_at w i) at ∙ k.here)) ∙ k.linked)
+
+    -- a cell that no link of a list with the entry is, isn't the entry's link
+    pub link_in : (a b : ℕ) (t : Tag) (es : List (Entry L)) → IsHung link w b t es → Has e.slot es → IsOut a (links es) → a ≢ e.link
+    link_in a b t [] h has out = absurd (has tt)
+    link_in a b t (f ∷ fs) h has out = elim (eqb_tells f.slot e.slot) [
+      | inl q ↦ subst (λ (j : ℕ). a ≢ j) (same_link f h.1 q.1) out.0
+      | inr q ↦ link_in a f.link f.tag fs h.4 (λ rest. has (λ p. q.1 (sym p), rest)) out.1
+    ]
+
   module _ (w w' : State L) (e : Entry L) (u : Tag) (o : Option ℕ) (n : IsNode link w o e) (is : w' ≡ with_cell e.link (cell.OfShared n.next u) w) where
     pub retag_leaves : Leaves (e.link ∷ []) [] w w'
     retag_leaves = subst (λ (v : State L). Leaves (e.link ∷ []) [] w v) (sym is) (leaves_write (e.link ∷ []) [] w w e.link (cell.OfShared n.next u) (λ j out. out.0) (leaves_all (e.link ∷ []) [] w))
@@ -39,26 +52,15 @@ module _ {L : Type 0} (link : L → Option ℕ) where
     item_now : (f : Entry L) → IsItem link w f → IsItem link w' f
     item_now f h = item_left link (e.link ∷ []) [] w w' f retag_leaves tt h
 
-    same_link : (f : Entry L) → IsItem link w f → f.slot ≡ e.slot → f.link ≡ e.link
-    same_link f h at = some_same f.link e.link (sym h.linked ∙ ap link (the_same f.item e.item (sym h.here ∙ ap (λ (i : ℕ). value_at w i) at ∙ n.item.here)) ∙ n.item.linked)
-
-    -- a cell that no link of a list with the entry is, isn't the entry's link
-    link_in : (a b : ℕ) (t : Tag) (es : List (Entry L)) → IsHung link w b t es → Has e.slot es → IsOut a (links es) → a ≢ e.link
-    link_in a b t [] h has out = absurd (has tt)
-    link_in a b t (f ∷ fs) h has out = elim (eqb_tells f.slot e.slot) [
-      | inl q ↦ subst (λ (j : ℕ). a ≢ j) (same_link f h.1 q.1) out.0
-      | inr q ↦ link_in a f.link f.tag fs h.4 (λ rest. has (λ p. q.1 (sym p), rest)) out.1
-    ]
-
     retag_first : (c : ℕ) (t : Tag) (f : Entry L) (fs : List (Entry L)) → IsHung link w c t (f ∷ fs) → f.slot ≡ e.slot → IsHung link w' c t (record f { tag = u } ∷ fs)
     retag_first c t f fs h at =
-        let same = same_link f h.1 at in
+        let same = same_link w e n.item f h.1 at in
         let next : n.next ≡ first_slot fs = kept_same n.next (first_slot fs) e.tag f.tag (sym n.kept ∙ ap (λ (j : ℕ). cell_at w j) (sym same) ∙ hung_first link w f.link f.tag fs h.4) in
         let out : IsOut f.link (links fs) = hung_out link w f.link f.tag fs h.4 in
         let now : cell_at w' f.link ≡ cell.OfShared (first_slot fs) u = ap (λ (j : ℕ). cell_at w' j) same ∙ now_kept ∙ ap (λ (p : Option ℕ). cell.OfShared p u) next in
         let i = item_now f h.1 in (
           cell_left link (e.link ∷ []) [] w w' c (Some f.slot) t retag_leaves (subst (λ (j : ℕ). c ≢ j) same h.2.0, tt) h.0,
-          record { owners = i.owners; shared = i.shared; here = i.here; linked = i.linked },
+          record { owners = i.owners; shared = i.shared; owned = i.owned; here = i.here; linked = i.linked },
           h.2,
           h.3,
           rehung link (e.link ∷ []) [] w w' f.link f.link f.tag u fs h.4 now retag_leaves (out_of_one (links fs) e.link (subst (λ (j : ℕ). IsOut j (links fs)) same out)) (out_of_none (slots fs)) out,
@@ -70,7 +72,7 @@ module _ {L : Type 0} (link : L → Option ℕ) where
       | inl q ↦ subst (λ (b : Bool). IsHung link w' c t (cond b (record f { tag = u } ∷ fs) (f ∷ retagged e.slot u fs))) (sym q.0) (retag_first c t f fs h q.1)
       | inr q ↦
           let rest : Has e.slot fs = λ out. has (λ p. q.1 (sym p), out) in
-          let ne : c ≢ e.link = link_in c f.link f.tag fs h.4 rest h.2.1 in
+          let ne : c ≢ e.link = link_in w e n.item c f.link f.tag fs h.4 rest h.2.1 in
           let all : IsHung link w' c t (f ∷ retagged e.slot u fs) = (
             cell_left link (e.link ∷ []) [] w w' c (Some f.slot) t retag_leaves (ne, tt) h.0,
             item_now f h.1,
@@ -81,10 +83,16 @@ module _ {L : Type 0} (link : L → Option ℕ) where
           subst (λ (b : Bool). IsHung link w' c t (cond b (record f { tag = u } ∷ fs) (f ∷ retagged e.slot u fs))) (sym q.0) all
     ]
 
+    pub retag_behind : (es : List (Entry L)) → IsHung link w e.link e.tag es → IsHung link w' e.link u es
+    retag_behind es h =
+        let next : n.next ≡ first_slot es = kept_same n.next (first_slot es) e.tag e.tag (sym n.kept ∙ hung_first link w e.link e.tag es h) in
+        let out : IsOut e.link (links es) = hung_out link w e.link e.tag es h in
+        rehung link (e.link ∷ []) [] w w' e.link e.link e.tag u es h (now_kept ∙ ap (λ (p : Option ℕ). cell.OfShared p u) next) retag_leaves (out_of_one (links es) e.link out) (out_of_none (slots es)) out
+
     pub retags : Retags link w w' e u
     retags =
         let i = item_now e n.item in
-        record { node = record { names = refl; item = record { owners = i.owners; shared = i.shared; here = i.here; linked = i.linked }; next = n.next; kept = now_kept }; lists = retag_hung }
+        record { node = record { names = refl; item = record { owners = i.owners; shared = i.shared; owned = i.owned; here = i.here; linked = i.linked }; next = n.next; kept = now_kept }; lists = retag_hung; behind = retag_behind }
 
 -- a cell was emptied with a new tag, and filled again
 pub set_state : {L : Type 0} (w w1 w2 : State L) (d d2 l : ℕ) (o r : Option ℕ) (t t' u : Tag) → d ≡ l → d2 ≡ l → cell_at w l ≡ cell.OfShared o t → cell_at w d ≡ cell.OfShared r t' → w1 ≡ with_cell d (cell.OfShared None u) w → ((v : Tag) → cell_at w1 d2 ≡ cell.OfShared None v → w2 ≡ with_cell d2 (cell.OfShared r v) w1) → w2 ≡ with_cell l (cell.OfShared o u) w

@@ -1,5 +1,5 @@
 -- queues, as their calls change them
-use Rattle.std.proofs.Common.{◌≡◌, ◌≢◌, ◌≤◌, ℕ, ◌<◌, ◌-◌, true, false, Option, None, Some, List, [], ◌∷◌, length, refl, sym, ap, ◌∙◌, arith, subst, cond, length-set, inl, inr, get_or-set_same}
+use Rattle.std.proofs.Common.{◌≡◌, ◌≢◌, ◌≤◌, ℕ, ◌<◌, ◌+◌, ◌-◌, true, false, Option, None, Some, List, [], ◌∷◌, length, refl, sym, ap, ◌∙◌, arith, subst, cond, length-set, inl, inr, get_or-set_same}
 use Rattle.std.proofs.lemmas.Bool.Decides.{eqb_tells}
 use Rattle.sdd_base.specs.State.{State, status_at, cell_at, with_cell, emptiness, vacancy, IsFreeCell}
 use Rattle.sdd_base.specs.Steps.{released}
@@ -8,13 +8,14 @@ use Rattle.sdd_base.specs.declared.tag.Tag.{Tag}
 use Rattle.sdd_base.specs.declared.tag.Tag.TheVariants as tag
 use Rattle.sdd_base.specs.declared.status.Status.TheVariants as status
 use Rattle.sdd_base.specs.declared.status.Cell.TheVariants as cell
-use Rattle.sdd.specs.Chain.{Entry, slots, links, IsOut, IsItem, IsHung, IsLoose, Leaves, SameUses, skip, undeleted, deleted, first_slot, MoreOwners}
+use Rattle.sdd.specs.Chain.{Entry, slots, links, IsOut, AreOut, IsItem, IsHung, IsLoose, Leaves, SameUses, skip, undeleted, deleted, first_slot, MoreOwners, OneMore}
 use Rattle.sdd.specs.Queues.{last_slot, HasTwo, IsQueue, Follows, CanFollow, vacated}
 use Rattle.sdd.specs.Stacks.{IsNew, IsMade}
 use Rattle.sdd.specs.Entries.{entry_link}
 use Rattle.sdd.specs.declared.linked_entry.LinkedEntry.{LinkedEntry}
 use Rattle.sdd.proofs.Chains.{hung_left, cell_left, item_left, leaves_then, leaves_more, leaves_all, leaves_write, out_of_none, wrote_same, wrote_other, inside_cells, inside_states, some_same, head_cell, kept_same, free_cell_out, free_slot_out}
 use Rattle.sdd.proofs.Fronts.{leaves_free, first_skipped, first_none, TookSome, popped_left, popped_gone, popped_leaves, skipped_links, none_skipped}
+use Rattle.sdd.proofs.Shares.{shared_same}
 use Rattle.sdd.proofs.Releases.{leaves_released, spare_owner, spare_item, spare_state, out_of_one}
 
 pub two_shared : {L : Type 0} (w : State L) (i : ℕ) → HasTwo w i → IsShared w i
@@ -28,19 +29,28 @@ last_in [] i j is out = λ q. absurd (nothing_some i is)
 last_in (e ∷ []) i j is out = subst (λ (k : ℕ). j ≢ k) (some_same e.slot i is) out.0
 last_in (e ∷ f ∷ es) i j is out = last_in (f ∷ es) i j is out.1
 
+last_apart : {L : Type 0} (es : List (Entry L)) (i : ℕ) (is : List ℕ) → last_slot es ≡ Some i → AreOut (slots es) is → IsOut i is
+last_apart [] i is at out = absurd (nothing_some i at)
+last_apart (e ∷ []) i is at out = subst (λ (k : ℕ). IsOut k is) (some_same e.slot i at) out.0
+last_apart (e ∷ f ∷ es) i is at out = last_apart (f ∷ es) i is at out.1
+
 module _ {L : Type 0} (link : L → Option ℕ) where
   -- what a queue needs where its list is empty
   pub empty_queue : (w : State L) (c d : ℕ) → cell_at w c ≡ cell.OfShared None tag.None → cell_at w d ≡ cell.OfShared None tag.None → d ≢ c → IsQueue link w c d []
   empty_queue w c d h k ne = record { hung = h; newest = k; apart = ne; out = tt; spare = λ i q. absurd (nothing_some i q) }
 
-  pub queue_left : (w w1 : State L) (c d : ℕ) (es : List (Entry L)) → Leaves [] [] w w1 → IsQueue link w c d es → IsQueue link w1 c d es
-  queue_left w w1 c d es l q = record {
-    hung = hung_left link [] [] w w1 c tag.None es l tt (out_of_none (links es)) (out_of_none (slots es)) q.hung;
-    newest = cell_left link [] [] w w1 d (last_slot es) tag.None l tt q.newest;
+  -- a queue stays where its cells and items are left alone
+  pub queue_stays : (cs is : List ℕ) (c d : ℕ) (es : List (Entry L)) (w w1 : State L) → Leaves cs is w w1 → IsOut c cs → IsOut d cs → AreOut (links es) cs → AreOut (slots es) is → IsQueue link w c d es → IsQueue link w1 c d es
+  queue_stays cs is c d es w w1 l out out' outs apart q = record {
+    hung = hung_left link cs is w w1 c tag.None es l out outs apart q.hung;
+    newest = cell_left link cs is w w1 d (last_slot es) tag.None l out' q.newest;
     apart = q.apart;
     out = q.out;
-    spare = λ i is. let h = q.spare i is in record { owners = h.owners; is = l.uses i tt (ap vacancy h.is) ∙ h.is; two = h.two };
+    spare = λ i at. let h = q.spare i at in record { owners = h.owners; is = l.uses i (last_apart es i is at apart) (ap vacancy h.is) ∙ h.is; two = h.two };
   }
+
+  pub queue_left : (w w1 : State L) (c d : ℕ) (es : List (Entry L)) → Leaves [] [] w w1 → IsQueue link w c d es → IsQueue link w1 c d es
+  queue_left w w1 c d es l q = queue_stays [] [] c d es w w1 l tt tt (out_of_none (links es)) (out_of_none (slots es)) q
 
   newest_shared : (w : State L) (c d : ℕ) (es : List (Entry L)) → IsQueue link w c d es → (i : ℕ) → cell_at w d ≡ cell.OfShared (Some i) tag.None → HasTwo w i
   newest_shared w c d es q i k = q.spare i (kept_same (last_slot es) (Some i) tag.None tag.None (sym q.newest ∙ k))
@@ -233,6 +243,25 @@ module _ {L : Type 0} (link : L → Option ℕ) where
     apart = q.apart;
     out = q.out;
     spare = λ j at. spare_two p i n j w is more (q.spare j at);
+  }
+
+  -- an owner that was given comes back
+  back_two : (p i j : ℕ) (w w' : State L) → OneMore w w' i → HasTwo w j → HasTwo w' j → HasTwo (released p i w') j
+  back_two p i j w w' m h h' = elim (eqb_tells j i) [
+    | inl q ↦
+        let same : m.owners ≡ h.owners = shared_same m.owners h.owners (sym m.was ∙ ap (λ (k : ℕ). status_at w k) (sym q.1) ∙ h.is) in
+        let at : status_at (released p i w') i ≡ status.Shared (m.owners + 1 - 1) = ap (λ (v : State L). status_at v i) (spare_state p i (m.owners + 1) w' m.now (let some = m.had in omega (arith, some))) ∙ get_or-set_same w'.states i (status.Shared (m.owners + 1 - 1)) status.Free (inside_states w'.states i (m.owners + 1) m.now) in
+        record { owners = m.owners + 1 - 1; is = ap (λ (k : ℕ). status_at (released p i w') k) q.1 ∙ at; two = let t = h.two in omega (arith, same, t) }
+    | inr q ↦ record { owners = h'.owners; is = (leaves_released p i w').uses j (q.1, tt) (ap vacancy h'.is) ∙ h'.is; two = h'.two }
+  ]
+
+  pub queue_back : (p i c d : ℕ) (es : List (Entry L)) (w w' : State L) → OneMore w w' i → IsQueue link w c d es → IsQueue link w' c d es → IsQueue link (released p i w') c d es
+  queue_back p i c d es w w' m q q' = record {
+    hung = spare_owner link p i (m.owners + 1) c tag.None es w' m.now (let some = m.had in omega (arith, some)) q'.hung;
+    newest = cell_left link [] (i ∷ []) w' (released p i w') d (last_slot es) tag.None (leaves_released p i w') tt q'.newest;
+    apart = q'.apart;
+    out = q'.out;
+    spare = λ j at. back_two p i j w w' m (q.spare j at) (q'.spare j at);
   }
 
   -- an owner of an item that isn't in the queue is given back

@@ -4,15 +4,15 @@ use Rattle.std.proofs.lemmas.Bool.Decides.{eqb_tells, nat_tests}
 use Rattle.sdd_base.specs.State.{State, status_at, value_at, marks_at, with_status, retired, is_used, vacancy, in_use}
 use Rattle.sdd_base.specs.Steps.{released, released_as}
 use Rattle.sdd_base.specs.Frame.{Keeps}
-use Rattle.sdd_base.specs.Place.{IsSharedCell}
+use Rattle.sdd_base.specs.Place.{IsShared, IsSharedCell}
 use Rattle.sdd_base.specs.declared.tag.Tag.{Tag}
 use Rattle.sdd_base.specs.declared.status.Status.{Status}
 use Rattle.sdd_base.specs.declared.status.Status.TheVariants as status
 use Rattle.sdd_base.specs.declared.status.Cell.TheVariants as cell
-use Rattle.sdd.specs.Chain.{Entry, slots, links, IsOut, AreOut, IsItem, IsHung, IsLoose, Leaves, Stays, TookFirst, Hangs, Begins, Cut, Dropped, SameUses, skip}
+use Rattle.sdd.specs.Chain.{Entry, slots, links, IsOut, AreOut, IsItem, IsHung, IsLoose, Leaves, Stays, TookFirst, Hangs, Begins, Cut, Dropped, SameUses, OneMore, skip}
 use Rattle.sdd.proofs.Chains.{hung_left, leaves_then, leaves_more, leaves_all, out_of_none, some_same, inside_cells, inside_states}
 use Rattle.sdd.proofs.Walks.{skipped_first, kept_first, hung_length}
-use Rattle.std.proofs.lemmas.List.{nil_from_length}
+use Rattle.std.proofs.lemmas.List.{nil_from_length, set-get_or, set-set}
 
 -- a use that has an item stays one
 set_used : (ss : List Status) (i j : ℕ) (s : Status) → is_used s ≡ true → is_used (get_or ss j status.Free) ≡ true → is_used (get_or (set ss i s) j status.Free) ≡ true
@@ -81,6 +81,20 @@ module _ {L : Type 0} (p i : ℕ) (w : State L) where
 
 pub spare_state : {L : Type 0} (p i n : ℕ) (w : State L) → status_at w i ≡ status.Shared n → 2 ≤ n → released p i w ≡ with_status i (status.Shared (n - 1)) w
 spare_state p i n w is more = ap (λ (s : Status). released_as s p i w) is ∙ ap (λ (b : Bool). cond b (retired p i w) (with_status i (status.Shared (n - 1)) w)) (not_one n more)
+
+-- an item with one owner more has owners
+pub more_shared : {L : Type 0} (w w' : State L) (i : ℕ) → OneMore w w' i → IsShared w' i
+more_shared w w' i m = record { inside = inside_states w'.states i (m.owners + 1) m.now; owners = m.owners + 1; is = m.now }
+
+-- the owner that was added to others comes back
+pub added_back : {L : Type 0} (p i n : ℕ) (w w' : State L) → status_at w i ≡ status.Shared n → 1 ≤ n → w' ≡ with_status i (status.Shared (n + 1)) w → released p i w' ≡ w
+added_back {L} p i n w w' is some e =
+    let at : status_at (with_status i (status.Shared (n + 1)) w) i ≡ status.Shared (n + 1) = get_or-set_same w.states i (status.Shared (n + 1)) status.Free (inside_states w.states i n is) in
+    let less : n + 1 - 1 ≡ n = omega arith in
+    ap (λ (v : State L). released p i v) e
+    ∙ spare_state p i (n + 1) (with_status i (status.Shared (n + 1)) w) at (omega (arith, some))
+    ∙ ap (λ (m : ℕ). with_status i (status.Shared m) (with_status i (status.Shared (n + 1)) w)) less
+    ∙ ap (λ (ss : List Status). record w { states = ss }) (set-set w.states i (status.Shared (n + 1)) (status.Shared n) ∙ rw (sym is) (set-get_or w.states i status.Free))
 
 pub out_of_one : (xs : List ℕ) (i : ℕ) → IsOut i xs → AreOut xs (i ∷ [])
 out_of_one [] i out = tt
@@ -181,18 +195,18 @@ module _ {L : Type 0} (link : L → Option ℕ) where
   drop_hangs w1 w2 c d item gone h b step = record { tag = h.tag; entries = b.rest; is = (step h.tag b.first b.rest (subst (λ (xs : List (Entry L)). IsHung link w1 c h.tag xs) b.is h.is)).0 }
 
   -- another number of owners
-  pub item_owners : (i m : ℕ) (w : State L) (e : Entry L) → i < length w.states → IsItem link w e → IsItem link (with_status i (status.Shared m) w) e
-  item_owners i m w e lt h = elim (eqb_tells e.slot i) [
-    | inl q ↦ record { owners = m; shared = subst (λ (j : ℕ). get_or (set w.states i (status.Shared m)) j status.Free ≡ status.Shared m) (sym q.1) (get_or-set_same w.states i (status.Shared m) status.Free lt); here = h.here; linked = h.linked }
-    | inr q ↦ record { owners = h.owners; shared = get_or-set_other w.states i e.slot (status.Shared m) status.Free q.1 ∙ h.shared; here = h.here; linked = h.linked }
+  pub item_owners : (i m : ℕ) (w : State L) (e : Entry L) → 1 ≤ m → i < length w.states → IsItem link w e → IsItem link (with_status i (status.Shared m) w) e
+  item_owners i m w e some lt h = elim (eqb_tells e.slot i) [
+    | inl q ↦ record { owners = m; shared = subst (λ (j : ℕ). get_or (set w.states i (status.Shared m)) j status.Free ≡ status.Shared m) (sym q.1) (get_or-set_same w.states i (status.Shared m) status.Free lt); owned = some; here = h.here; linked = h.linked }
+    | inr q ↦ record { owners = h.owners; shared = get_or-set_other w.states i e.slot (status.Shared m) status.Free q.1 ∙ h.shared; owned = h.owned; here = h.here; linked = h.linked }
   ]
 
-  pub hung_owners : (i m c : ℕ) (t : Tag) (es : List (Entry L)) (w : State L) → i < length w.states → IsHung link w c t es → IsHung link (with_status i (status.Shared m) w) c t es
-  hung_owners i m c t [] w lt h = h
-  hung_owners i m c t (e ∷ es) w lt h = (h.0, item_owners i m w e lt h.1, h.2, h.3, hung_owners i m e.link e.tag es w lt h.4)
+  pub hung_owners : (i m c : ℕ) (t : Tag) (es : List (Entry L)) (w : State L) → 1 ≤ m → i < length w.states → IsHung link w c t es → IsHung link (with_status i (status.Shared m) w) c t es
+  hung_owners i m c t [] w some lt h = h
+  hung_owners i m c t (e ∷ es) w some lt h = (h.0, item_owners i m w e some lt h.1, h.2, h.3, hung_owners i m e.link e.tag es w some lt h.4)
 
   pub spare_owner : (p i n c : ℕ) (t : Tag) (es : List (Entry L)) (w : State L) → status_at w i ≡ status.Shared n → 2 ≤ n → IsHung link w c t es → IsHung link (released p i w) c t es
-  spare_owner p i n c t es w is more h = subst (λ (v : State L). IsHung link v c t es) (sym (spare_state p i n w is more)) (hung_owners i (n - 1) c t es w (inside_states w.states i n is) h)
+  spare_owner p i n c t es w is more h = subst (λ (v : State L). IsHung link v c t es) (sym (spare_state p i n w is more)) (hung_owners i (n - 1) c t es w (omega (arith, more)) (inside_states w.states i n is) h)
 
   pub spare_item : (p i n : ℕ) (w : State L) (e : Entry L) → status_at w i ≡ status.Shared n → 2 ≤ n → IsItem link w e → IsItem link (released p i w) e
-  spare_item p i n w e is more h = subst (λ (v : State L). IsItem link v e) (sym (spare_state p i n w is more)) (item_owners i (n - 1) w e (inside_states w.states i n is) h)
+  spare_item p i n w e is more h = subst (λ (v : State L). IsItem link v e) (sym (spare_state p i n w is more)) (item_owners i (n - 1) w e (omega (arith, more)) (inside_states w.states i n is) h)

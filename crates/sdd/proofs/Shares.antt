@@ -1,13 +1,17 @@
 -- the first entry of a list is taken off, shared and put back
 use Rattle.std.proofs.lemmas.Bool.{cases_eq}
-use Rattle.std.proofs.Common.{◌≤◌, ◌+◌, None, arith, get_or-set_same, inl, inr, ◌≡◌, ◌≢◌, ℕ, Option, List, [], ◌∷◌, refl, sym, ap, ◌∙◌, subst, get_or-set_other}
-use Rattle.sdd_base.specs.State.{State, status_at, with_status}
+use Rattle.std.proofs.Common.{◌≤◌, ◌+◌, None, Some, arith, get_or-set_same, inl, inr, ◌≡◌, ◌≢◌, ℕ, Option, List, [], ◌∷◌, refl, sym, ap, ◌∙◌, subst, get_or-set_other}
+use Rattle.sdd_base.specs.State.{State, status_at, cell_at, with_status}
 use Rattle.sdd_base.specs.declared.tag.Tag.{Tag}
 use Rattle.sdd_base.specs.declared.status.Status.TheVariants as status
-use Rattle.sdd.specs.Chain.{Entry, slots, links, IsOut, IsHung, IsLoose, Leaves, Fits, CanHang, TookFirst, MoreOwners}
-use Rattle.sdd.proofs.Chains.{hung_out, leaves_then, leaves_more, leaves_all, inside_states}
+use Rattle.sdd_base.specs.declared.status.Cell.TheVariants as cell
+use Rattle.sdd.specs.Chain.{Entry, slots, links, IsOut, IsHung, IsLoose, Leaves, Fits, CanHang, TookFirst, MoreOwners, OneMore}
+use Rattle.sdd.proofs.Chains.{full_empty, kept_same, some_same, hung_out, leaves_then, leaves_more, leaves_all, inside_states}
 use Rattle.sdd.proofs.Releases.{item_owners, hung_owners}
 use Rattle.sdd.proofs.Fronts.{TookSome, took_nothing, same_use}
+
+pub shared_same : (n m : ℕ) → status.Shared n ≡ status.Shared m → n ≡ m
+shared_same n m e = cc
 
 leaves_owners : {L : Type 0} (w : State L) (i m : ℕ) → Leaves [] (i ∷ []) w (with_status i (status.Shared m) w)
 leaves_owners w i m = record {
@@ -30,12 +34,12 @@ module _ {L : Type 0} (link : L → Option ℕ) (w w1 w2 : State L) (c i : ℕ) 
     leaves = subst (λ (v : State L). Leaves [] (i ∷ []) w1 v) (sym e) (leaves_all [] (i ∷ []) w1);
   }
 
-  pub off_more : (n m : ℕ) → status_at w1 i ≡ status.Shared n → w2 ≡ with_status i (status.Shared m) w1 → Off
-  off_more n m is e =
+  pub off_more : (n m : ℕ) → 1 ≤ m → status_at w1 i ≡ status.Shared n → w2 ≡ with_status i (status.Shared m) w1 → Off
+  off_more n m some is e =
       let lt = inside_states w1.states i n is in
       record {
-        left = subst (λ (v : State L). IsHung link v c t k.rest) (sym e) (hung_owners link i m c t k.rest w1 lt k.left);
-        loose = subst (λ (v : State L). IsLoose link v k.entry) (sym e) (record { item = item_owners link i m w1 k.entry lt k.loose.item; empty = k.loose.empty });
+        left = subst (λ (v : State L). IsHung link v c t k.rest) (sym e) (hung_owners link i m c t k.rest w1 some lt k.left);
+        loose = subst (λ (v : State L). IsLoose link v k.entry) (sym e) (record { item = item_owners link i m w1 k.entry some lt k.loose.item; empty = k.loose.empty });
         leaves = subst (λ (v : State L). Leaves [] (i ∷ []) w1 v) (sym e) (leaves_owners w1 i m);
       }
 
@@ -52,6 +56,20 @@ module _ {L : Type 0} (link : L → Option ℕ) (w w1 w2 : State L) (c i : ℕ) 
     pub shared_hung : IsHung link w3 c t es
     shared_hung = subst (λ (xs : List (Entry L)). IsHung link w3 c t xs) (sym k.is) back.0
 
+    -- the first entry has one owner more
+    pub one_more : (n : ℕ) → status_at w1 i ≡ status.Shared n → w2 ≡ with_status i (status.Shared (n + 1)) w1 → OneMore w w3 i
+    one_more n is e =
+        let item = (subst (λ (xs : List (Entry L)). IsHung link w c t xs) k.is h).1 in
+        let was : status_at w i ≡ status.Shared item.owners = ap (λ (j : ℕ). status_at w j) k.at ∙ item.shared in
+        let same : n ≡ item.owners = shared_same n item.owners (sym is ∙ same_use w w1 (c ∷ k.entry.link ∷ []) i item.owners k.leaves was) in
+        let two : status_at w2 i ≡ status.Shared (n + 1) = ap (λ (v : State L). status_at v i) e ∙ get_or-set_same w1.states i (status.Shared (n + 1)) status.Free (inside_states w1.states i n is) in
+        record {
+          owners = n;
+          was = was ∙ ap status.Shared (sym same);
+          had = let o = item.owned in omega (arith, same, o);
+          now = same_use w2 w3 (c ∷ k.entry.link ∷ []) i (n + 1) back.1 two;
+        }
+
     -- no owners are lost
     pub shared_owners : MoreOwners w1 w2 → MoreOwners w w3
     shared_owners grow = λ j n is.
@@ -67,9 +85,6 @@ module _ {L : Type 0} (link : L → Option ℕ) (w w1 w2 : State L) (c i : ℕ) 
         let three = leaves_more (c ∷ k.entry.link ∷ []) [] (c ∷ links es) (slots es) w2 w3 (λ j out. (out.0, ((inside j out.1).0, tt))) (λ j out. tt) back.1 in
         leaves_then (c ∷ links es) (slots es) w w2 w3 (leaves_then (c ∷ links es) (slots es) w w1 w2 one two) three
 
-shared_same : (n m : ℕ) → status.Shared n ≡ status.Shared m → n ≡ m
-shared_same n m e = cc
-
 pub owners_same : {L : Type 0} (w w' : State L) → w' ≡ w → MoreOwners w w'
 owners_same {L} w w' e = λ j n is. (n, ap (λ (v : State L). status_at v j) e ∙ is, omega arith)
 
@@ -83,3 +98,12 @@ owners_more {L} w w' i m at e = λ j n is. elim (cases_eq j i) as (λ _. (k : �
 
 pub owners_none : {L : Type 0} (link : L → Option ℕ) (w w1 : State L) (c : ℕ) (t : Tag) (es : List (Entry L)) → TookFirst link w w1 c t es None → MoreOwners w w1
 owners_none link w w1 c t es k = λ j n is. (n, same_use w w1 [] j n (took_nothing link w w1 c t es k).2 is, omega arith)
+
+-- the first entry of a list has an owner
+pub hung_owned : {L : Type 0} (link : L → Option ℕ) (w : State L) (c i n : ℕ) (t u : Tag) (es : List (Entry L)) → IsHung link w c t es → cell_at w c ≡ cell.OfShared (Some i) u → status_at w i ≡ status.Shared n → 1 ≤ n
+hung_owned link w c i n t u [] h kept is = absurd (full_empty None i t u (sym h ∙ kept))
+hung_owned link w c i n t u (e ∷ es) h kept is =
+    let at : e.slot ≡ i = some_same e.slot i (kept_same (Some e.slot) (Some i) t u (sym h.0 ∙ kept)) in
+    let same : n ≡ h.1.owners = shared_same n h.1.owners (sym is ∙ ap (λ (j : ℕ). status_at w j) (sym at) ∙ h.1.shared) in
+    let o = h.1.owned in
+    omega (arith, same, o)

@@ -7,16 +7,12 @@ use Rattle.sdd_base.specs.declared.tag.Tag.{Tag}
 use Rattle.sdd_base.specs.declared.tag.Tag.TheVariants as tag
 use Rattle.sdd_base.specs.declared.status.Status.TheVariants as status
 use Rattle.sdd_base.specs.declared.status.Cell.TheVariants as cell
-use Rattle.sdd.specs.Chain.{Entry, slots, links, IsOut, IsItem, IsHung, IsLoose, HasLink, Leaves, Fits, CanHang}
+use Rattle.sdd.specs.Chain.{Entry, slots, links, IsOut, IsItem, IsHung, IsLoose, HasLink, Leaves, Fits, CanHang, end_cell}
 use Rattle.sdd.specs.Queues.{last_slot, HasTwo, IsQueue, Follows}
 use Rattle.sdd.proofs.Chains.{hung_left, cell_left, item_left, leaves_then, leaves_more, leaves_all, leaves_write, out_of_none, wrote_same, inside_cells, inside_states, some_same, some_nothing, kept_same, Names}
 use Rattle.sdd.proofs.Releases.{leaves_released, spare_owner, out_of_one}
 
--- the cell at the end of a list, and its tag
-abbrev pub end_cell : {L : Type 0} → ℕ → List (Entry L) → ℕ
-end_cell c [] = c
-end_cell c (e ∷ es) = end_cell e.link es
-
+-- the tag of the cell at the end of a list
 abbrev pub end_tag : {L : Type 0} → Tag → List (Entry L) → Tag
 end_tag t [] = t
 end_tag t (e ∷ es) = end_tag e.tag es
@@ -52,7 +48,7 @@ last_out j k (e ∷ []) h out = subst (λ (i : ℕ). k ≢ i) (some_same e.slot 
 last_out j k (e ∷ f ∷ es) h out = last_out j k (f ∷ es) h out.1
 
 module _ {L : Type 0} (link : L → Option ℕ) where
-  hung_end : (w : State L) (c : ℕ) (t : Tag) (es : List (Entry L)) → IsHung link w c t es → IsHung link w (end_cell c es) (end_tag t es) []
+  pub hung_end : (w : State L) (c : ℕ) (t : Tag) (es : List (Entry L)) → IsHung link w c t es → IsHung link w (end_cell c es) (end_tag t es) []
   hung_end w c t [] h = h
   hung_end w c t (e ∷ es) h = hung_end w e.link e.tag es h.4
 
@@ -69,7 +65,7 @@ module _ {L : Type 0} (link : L → Option ℕ) where
   last_of w c j t (e ∷ f ∷ es) h is = let r = last_of w e.link j e.tag (f ∷ es) h.4 is in record { entry = r.entry; item = r.item; at = r.at; end = r.end }
 
   -- what hangs from the cell at the end is part of the list
-  hung_append : (w w' : State L) (c : ℕ) (t : Tag) (es : List (Entry L)) (e : Entry L) → IsHung link w c t es → IsHung link w' (end_cell c es) (end_tag t es) (e ∷ []) → Leaves (end_cell c es ∷ e.link ∷ []) [] w w' → e.link ≢ c → IsOut e.link (links es) → IsOut e.slot (slots es) → IsHung link w' c t (es ++ e ∷ [])
+  pub hung_append : (w w' : State L) (c : ℕ) (t : Tag) (es : List (Entry L)) (e : Entry L) → IsHung link w c t es → IsHung link w' (end_cell c es) (end_tag t es) (e ∷ []) → Leaves (end_cell c es ∷ e.link ∷ []) [] w w' → e.link ≢ c → IsOut e.link (links es) → IsOut e.slot (slots es) → IsHung link w' c t (es ++ e ∷ [])
   hung_append w w' c t [] e h now l ne out alone = now
   hung_append w w' c t (f ∷ es) e h now l ne out alone =
       let cs : List ℕ = end_cell f.link es ∷ e.link ∷ [] in

@@ -43,6 +43,7 @@ deleted tag.Both = true
 pub record IsItem {L : Type 0} (link : L → Option ℕ) (w : State L) (e : Entry L) : Type 0 where
   pub owners : ℕ
   pub shared : status_at w e.slot ≡ status.Shared owners
+  pub owned : 1 ≤ owners
   pub here : value_at w e.slot ≡ Some e.item
   pub linked : link e.item ≡ Some e.link
 
@@ -155,6 +156,13 @@ SameUses w w' (i ∷ is) = (status_at w' i ≡ status_at w i) × SameUses w w' i
 abbrev pub MoreOwners : {L : Type 0} → State L → State L → Type 0
 MoreOwners w w' = (i n : ℕ) → status_at w i ≡ status.Shared n → (m : ℕ) × (status_at w' i ≡ status.Shared m) × (n ≤ m)
 
+-- the item in slot i has one owner more, beside those that it had
+pub record OneMore {L : Type 0} (w w' : State L) (i : ℕ) : Type 0 where
+  pub owners : ℕ
+  pub was : status_at w i ≡ status.Shared owners
+  pub had : 1 ≤ owners
+  pub now : status_at w' i ≡ status.Shared (owners + 1)
+
 -- n entries at the front of a list were given back
 pub record Cut {L : Type 0} (link : L → Option ℕ) (w w' : State L) (c : ℕ) (t : Tag) (es : List (Entry L)) (n : ℕ) : Type 0 where
   pub rest : List (Entry L)
@@ -169,6 +177,11 @@ pub record Cut {L : Type 0} (link : L → Option ℕ) (w w' : State L) (c : ℕ)
 pub record Dropped {L : Type 0} (link : L → Option ℕ) (w w' : State L) (c : ℕ) (t : Tag) (es : List (Entry L)) (n : ℕ) : Type 0 where
   pub cut : Cut link w w' c t es n
   pub skipped : skip cut.rest ≡ skip es
+
+-- the cell at the end of a list that hangs from cell c
+abbrev pub end_cell : {L : Type 0} → ℕ → List (Entry L) → ℕ
+end_cell c [] = c
+end_cell c (e ∷ es) = end_cell e.link es
 
 -- the item of the first entry, if there is one
 abbrev pub first_item : {L : Type 0} → List (Entry L) → Option L

@@ -3,10 +3,14 @@ use Rattle.std.specs.Prelude.{ℕ, Option, None, Some, List, [], ◌∷◌}
 use Rattle.std.specs.Option.{option_map}
 use Rattle.sdd_base.specs.Holding.{Hold, SharedIn}
 use Rattle.sdd_base.specs.Tokens.{shared_cell}
-use Rattle.sdd.specs.declared.linked_entry.LinkedEntry.{LinkedEntry, out-LinkedEntry}
+use Rattle.sdd.specs.declared.linked_entry.LinkedEntry.{LinkedEntry, out-LinkedEntry, roll-LinkedEntry}
 
 abbrev pub entry_value : {T : Type 0} → LinkedEntry T → T
 entry_value {T} e = (out-LinkedEntry T e).instance
+
+-- the entry with another value
+abbrev pub with_value : {T : Type 0} → T → LinkedEntry T → LinkedEntry T
+with_value {T} v e = roll-LinkedEntry T (record (out-LinkedEntry T e) { instance = v })
 
 -- the link is gone once the entry gave it up
 abbrev pub entry_link : {T : Type 0} → LinkedEntry T → Option ℕ

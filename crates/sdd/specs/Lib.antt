@@ -7,3 +7,5 @@ pub mod Nodes
 pub mod Refusals
 pub mod Bags
 pub mod Iters
+pub mod Copies
+pub mod Fillings

@@ -1,10 +1,10 @@
 -- single entries, as the calls of a linked list see and change them
-use Rattle.std.specs.Prelude.{◌≡◌, ℕ, Bool, true, false, Option, Some, List, [], ◌∷◌, ◌==◌, cond}
+use Rattle.std.specs.Prelude.{◌≡◌, ◌≢◌, ℕ, Bool, true, false, Option, Some, List, [], ◌∷◌, ◌==◌, cond}
 use Rattle.sdd_base.specs.State.{State, cell_at}
 use Rattle.sdd_base.specs.declared.tag.Tag.{Tag}
 use Rattle.sdd_base.specs.declared.tag.Tag.TheVariants as tag
 use Rattle.sdd_base.specs.declared.status.Cell.TheVariants as cell
-use Rattle.sdd.specs.Chain.{Entry, IsItem, IsHung, IsOut, slots}
+use Rattle.sdd.specs.Chain.{Entry, IsItem, IsHung, IsLoose, IsOut, slots, links}
 
 -- a pointer to slot o names this entry: its item is there, and its link keeps a next one or none
 pub record IsNode {L : Type 0} (link : L → Option ℕ) (w : State L) (o : Option ℕ) (e : Entry L) : Type 0 where
@@ -46,7 +46,37 @@ retagged i u (e ∷ es) = cond (e.slot == i) (record e { tag = u } ∷ es) (e �
 abbrev pub Has : {L : Type 0} → ℕ → List (Entry L) → Type 0
 Has i es = IsOut i (slots es) → ⊥
 
--- the tag of an entry was changed, alone and in each list that has it
+-- a list in which entry x comes behind the one in slot i
+abbrev pub inserted : {L : Type 0} → ℕ → Entry L → List (Entry L) → List (Entry L)
+inserted i x [] = []
+inserted i x (e ∷ es) = cond (e.slot == i) (e ∷ x ∷ es) (e ∷ inserted i x es)
+
+-- an entry isn't in a list that hangs from cell c
+pub record IsApart {L : Type 0} (c : ℕ) (es : List (Entry L)) (x : Entry L) : Type 0 where
+  pub cell : c ≢ x.link
+  pub link : IsOut x.link (links es)
+  pub slot : IsOut x.slot (slots es)
+
+-- the item in slot i is a clear entry without a next one, and isn't among an entry that o names and those behind it
+pub record CanInsert {L : Type 0} (link : L → Option ℕ) (w : State L) (o : Option ℕ) (i : ℕ) : Type 0 where
+  pub entry : Entry L
+  pub rest : List (Entry L)
+  pub is : IsNode link w o entry
+  pub hung : IsHung link w entry.link entry.tag rest
+  pub new : Entry L
+  pub at : i ≡ new.slot
+  pub loose : IsLoose link w new
+  pub clear : new.tag ≡ tag.None
+  pub other : new.slot ≢ entry.slot
+  pub apart : IsApart entry.link rest new
+
+-- entry x was put behind entry e, which has another tag now
+pub record Inserts {L : Type 0} (link : L → Option ℕ) (w w' : State L) (e : Entry L) (u : Tag) (x : Entry L) : Type 0 where
+  pub lists : (c : ℕ) (t : Tag) (es : List (Entry L)) → IsHung link w c t es → Has e.slot es → IsApart c es x → IsHung link w' c t (inserted e.slot x (retagged e.slot u es))
+  pub behind : (es : List (Entry L)) → IsHung link w e.link e.tag es → IsApart e.link es x → IsHung link w' e.link u (x ∷ es)
+
+-- the tag of an entry was changed, alone and in each list that has it, and what is behind it stays
 pub record Retags {L : Type 0} (link : L → Option ℕ) (w w' : State L) (e : Entry L) (u : Tag) : Type 0 where
   pub node : IsNode link w' (Some e.slot) (record e { tag = u })
   pub lists : (c : ℕ) (t : Tag) (es : List (Entry L)) → IsHung link w c t es → Has e.slot es → IsHung link w' c t (retagged e.slot u es)
+  pub behind : (es : List (Entry L)) → IsHung link w e.link e.tag es → IsHung link w' e.link u es

@@ -17,6 +17,10 @@ SpareOwners {L} link = (p i n c : ℕ) (t : Tag) (es : List (Entry L)) (w : Stat
 abbrev pub ListsStay : {L : Type 0} → (L → Option ℕ) → Type 0
 ListsStay {L} link = (cs is : List ℕ) (c : ℕ) (t : Tag) (es : List (Entry L)) (w w' : State L) → Leaves cs is w w' → IsOut c cs → AreOut (links es) cs → AreOut (slots es) is → IsHung link w c t es → IsHung link w' c t es
 
+-- a queue stays where a call leaves its cells and its items
+abbrev pub QueuesStay : {L : Type 0} → (L → Option ℕ) → Type 0
+QueuesStay {L} link = (cs is : List ℕ) (c d : ℕ) (es : List (Entry L)) (w w' : State L) → Leaves cs is w w' → IsOut c cs → IsOut d cs → AreOut (links es) cs → AreOut (slots es) is → IsQueue link w c d es → IsQueue link w' c d es
+
 -- a bag stays where a call leaves its cells and its items
 abbrev pub BagsStay : Type 0 → Type 0
 BagsStay T = (n : ℕ) (cs is ds : List ℕ) (ps os : List (Entry (LinkedEntry T))) (w w' : State (LinkedEntry T)) → Leaves cs is w w' → AreOut (ds ++ links (os ++ ps)) cs → AreOut (slots (os ++ ps)) is → IsBag n w ds ps os → IsBag n w' ds ps os

@@ -5,7 +5,7 @@ ghost use Rattle.sdd.specs.Bags.{IsSomeBag, bag_cells, into_cells};
 
 use crate::bag::{Bag, IntoIter};
 use crate::linked_entry::LinkedEntry;
-use crate::refusal::NotMade;
+use crate::refusal::{FromIterRefused, NotMade};
 use crate::tests::{end, sizes};
 use crate::world;
 use sdd_base::owner::Shared;
@@ -339,6 +339,40 @@ fn a_bag_is_two_multisets(rt: HostRuntime) -> Result<(), Fail> {
     }
     assert_eq!(rt; room, 0);
     world::bag::retire(&mut w, bag, 0);
+    end(&rt, w);
+    Ok(())
+}
+
+#[test]
+fn values_become_a_bag(rt: HostRuntime) -> Result<(), Fail> {
+    let mut w: World<LinkedEntry<u64>> = World::new(rt.alloc(), sizes(5, 9))?;
+    let bag = match world::bag::from_iter::<u64, 2, _>(rt.alloc(), &mut w, 1..6) {
+        Ok(bag) => bag,
+        _ => panic!(rt; "there is room"),
+    };
+    assert_eq!(rt; world::bag::len(&w, &bag), 5);
+    let (third, fourth, fifth) = (pop(&mut w, &bag), pop(&mut w, &bag), pop(&mut w, &bag));
+    assert!(rt; third.is_some() && fourth.is_some() && fifth.is_some());
+    assert_eq!(rt; pop(&mut w, &bag), Some(1));
+    assert_eq!(rt; pop(&mut w, &bag), Some(2));
+    assert_eq!(rt; pop(&mut w, &bag), None);
+    world::bag::retire(&mut w, bag, 0);
+    end(&rt, w);
+    Ok(())
+}
+
+#[test]
+fn a_bag_without_room_hands_back_what_was_built(rt: HostRuntime) -> Result<(), Fail> {
+    let mut w: World<LinkedEntry<u64>> = World::new(rt.alloc(), sizes(3, 9))?;
+    match world::bag::from_iter::<u64, 2, _>(rt.alloc(), &mut w, 1..6) {
+        Err(FromIterRefused::NoSlot(bag, value)) => {
+            assert!(rt; value == 4);
+            assert_eq!(rt; world::bag::len(&w, &bag), 3);
+            assert_eq!(rt; pop(&mut w, &bag), Some(3));
+            world::bag::retire(&mut w, bag, 0);
+        }
+        _ => panic!(rt; "three slots are free"),
+    }
     end(&rt, w);
     Ok(())
 }

@@ -1,6 +1,6 @@
 //! What follows from the clauses of the calls, for every state. Nothing here runs.
 
-ghost use Rattle.sdd.specs.Owners.{SpareOwners, SpareQueueOwners, ListsStay, BagsStay, ReleasesLeave};
+ghost use Rattle.sdd.specs.Owners.{SpareOwners, SpareQueueOwners, ListsStay, QueuesStay, BagsStay, ReleasesLeave};
 
 use crate::linked_list::LinkedList;
 
@@ -19,6 +19,11 @@ pub fn spare_queue_owners<L: LinkedList>()
 /// A call that changes some cells and items leaves each list that has none of them.
 pub fn lists_stay<L: LinkedList>()
     ensures { ListsStay L.link }
+{}
+
+/// A call that changes some cells and items leaves each queue that has none of them.
+pub fn queues_stay<L: LinkedList>()
+    ensures { QueuesStay L.link }
 {}
 
 /// A call that changes some cells and items leaves each bag that has none of them. So an owner that a bag's `pop` gives

@@ -7,14 +7,17 @@
 //!
 //! What one call changes of a place is its clause `leaves`: the cells and the items of its own list, and no other. So
 //! containers beside each other stay as they are ([`laws::lists_stay`]). Owners that a call gives can be given back by
-//! [`laws::spare_owners`], [`laws::spare_queue_owners`], [`laws::bags_stay`] and [`laws::releases_leave`].
+//! [`laws::spare_owners`], [`laws::spare_queue_owners`], [`laws::bags_stay`] and [`laws::releases_leave`]; those that a
+//! refused `pop_if` and `next_shared` give, by the clauses `spare` of these.
+//!
+//! `from_iter` and `clone` of a container make new entries alone: a refused one hands back what it built, and changes
+//! nothing else (clauses `leaves`).
 //!
 //! A bag is two multisets, each as a list in some order: clauses say which entry is added or taken.
 //!
-//! Not there yet: `clone`, `from_iter` and `iter_mut` of the containers; `LinkedList::push_back`; `as_mut` and `clone` of
-//! an entry. A deleted entry stays linked until it is passed at the front of its list, since `next_ptr` only reads. No
-//! clause says what an opening guard leaves of a list: open guards before a container is made, or show that the list
-//! stays by the laws of the place.
+//! Not there yet: `iter_mut` of a bag. A deleted entry stays linked until it is passed at the front of its list, since
+//! `next_ptr` only reads. No clause says what an opening guard leaves of a list: open guards
+//! before a container is made, or show that the list stays by the laws of the place.
 #![tactic(auto)]
 
 pub use sdd_base;
@@ -22,6 +25,10 @@ pub use sdd_base;
 pub mod bag;
 #[cfg(test)]
 mod bag_tests;
+#[cfg(test)]
+mod entry_tests;
+#[cfg(test)]
+mod filling_tests;
 pub mod iter;
 pub mod laws;
 pub mod linked_entry;

@@ -9,7 +9,23 @@ pub enum PushRefused<T> {
     NoSlot(T),
 }
 
-/// Why a bag wasn't made, or an entry wasn't copied.
+/// Why a container of the values of an iterator wasn't made, with what was built of it.
+pub enum FromIterRefused<C, T, I> {
+    /// Not even an empty container could be made. Nothing has changed, and what was to give the values comes back.
+    Unmade(NotMade, I),
+    /// There is no slot or no cell for this value: the container of those before it, and the value.
+    NoSlot(C, T),
+}
+
+/// Why a container wasn't cloned, with what was built of the clone.
+pub enum CloneRefused<C> {
+    /// Not even an empty container could be made. Nothing has changed.
+    Unmade(NotMade),
+    /// Why there is no clone of the next value, and the container of the clones before it.
+    Partly(C, NotMade),
+}
+
+/// Why a bag wasn't made, or a value wasn't cloned.
 #[derive(Clone, Copy, Debug, PartialEq, Eq)]
 pub enum NotMade {
     /// There is no memory for it.

@@ -19,7 +19,7 @@ use std::process::Abort;
 use std::test::Fail;
 
 /// The first three values that a walk along a stack gives.
-fn three_of_stack(
+pub(crate) fn three_of_stack(
     w: &World<LinkedEntry<u64>>,
     stack: &Stack<u64>,
 ) -> (Option<u64>, Option<u64>, Option<u64>)
@@ -33,7 +33,7 @@ fn three_of_stack(
 }
 
 /// The first three values that a walk along a queue gives.
-fn three_of_queue(
+pub(crate) fn three_of_queue(
     w: &World<LinkedEntry<u64>>,
     queue: &Queue<u64>,
 ) -> (Option<u64>, Option<u64>, Option<u64>)
@@ -119,7 +119,11 @@ fn a_walk_passes_deleted_entries(rt: HostRuntime) -> Result<(), Fail> {
 }
 
 /// Gives an owner back.
-fn give<R: Abort>(rt: &R, w: &mut World<LinkedEntry<u64>>, owner: Shared<LinkedEntry<u64>>)
+pub(crate) fn give<R: Abort>(
+    rt: &R,
+    w: &mut World<LinkedEntry<u64>>,
+    owner: Shared<LinkedEntry<u64>>,
+)
     requires { 0 < length w.old.members }
     ensures member { 0 < length w.new.members }
     ensures open { IsOpen w.old 0 → IsOpen w.new 0 }

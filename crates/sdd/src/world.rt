@@ -2,7 +2,8 @@
 
 pub mod bag;
 mod chain;
-mod entries;
+mod copies;
+pub(crate) mod entries;
 pub mod into_iter;
 pub mod iter;
 pub mod linked_entry;

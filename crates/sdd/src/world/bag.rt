@@ -1,17 +1,19 @@
 //! Bags over a `World`.
 
-ghost use Rattle.std.specs.Prelude.{◌≡◌, ◌<◌, ◌≤◌, ◌⊎◌, ◌↔◌, ◌++◌, List, [], length, IfOk, IfErr, OnErr, OnOk, MatchOption, IsTrue, IsErrOf};
+ghost use Rattle.std.specs.Prelude.{◌≡◌, ◌<◌, ◌≤◌, ◌⊎◌, ◌↔◌, ◌++◌, List, [], length, IfOk, IfErr, OnErr, OnOk, Some, MatchOption, IsTrue, IsErrOf};
 ghost use Rattle.sdd_base.specs.State.{NoneFree, NoCellFree, emptiness};
 ghost use Rattle.sdd_base.specs.Frame.{OnlyOf};
 ghost use Rattle.std.specs.List.{sum_by, FoldsTo};
 ghost use Rattle.sdd_base.specs.Tokens.{shared_slot};
 ghost use Rattle.sdd.specs.Chain.{Entry, Leaves, Stays, links, slots};
 ghost use Rattle.sdd.specs.Bags.{IsLength, IsBag, IsSomeBag, PutsPrimary, PutsOverflow, TakesOne, IsSameBag, CallsWith, AreOwn, AreFreeCells, bag_cells, into_cells};
+ghost use Rattle.std.specs.Iterator.{Drains, YieldsThen, IsFiniteIterable};
+ghost use Rattle.sdd.specs.Fillings.{FillsBag, IfUnmade, IfNoSlot};
 ghost use Rattle.sdd.specs.declared.linked_entry.LinkedEntry.{LinkedEntry};
 
 use crate::bag::{Bag, IntoIter};
 use crate::linked_entry::LinkedEntry;
-use crate::refusal::NotMade;
+use crate::refusal::{FromIterRefused, NotMade};
 use crate::world::{chain, row};
 use sdd_base::owner::Shared;
 use sdd_base::world::World;
@@ -80,6 +82,38 @@ pub fn push<T, const ARRAY_LEN: usize>(
         None => row::put(w, &bag.cells[0], value),
         Some(at) => row::put(w, &bag.cells[at], value),
     }
+}
+
+/// A bag of the values, each in an entry of its own, the first `ARRAY_LEN` of them in the primary. Where no empty bag can
+/// be made, nothing has changed and `values` comes back. The first value for which no slot or no cell is free comes back
+/// with the bag of those before it. Conditions: `ARRAY_LEN` is 1 to 32, and the values end.
+pub fn from_iter<T, const ARRAY_LEN: usize, I: IntoIterator<Item = T>>(
+    alloc: Global,
+    w: &mut World<LinkedEntry<T>>,
+    values: I,
+) -> Result<Bag<T, ARRAY_LEN>, FromIterRefused<Bag<T, ARRAY_LEN>, T, I>>
+    requires length { IsLength ARRAY_LEN }
+    requires ends { IsFiniteIterable I.into_iter_gives I.IntoIter.can_next I.IntoIter.remaining values }
+    ensures filled { IfOk result (λ b. (it : I.IntoIter) × (vs : List T) × I.into_iter_gives values it × Drains I.IntoIter.next_gives it vs × FillsBag ARRAY_LEN w.old w.new (bag_cells b) vs) }
+    ensures partly { IfErr result (λ e. IfNoSlot e (λ b v. (it : I.IntoIter) × (vs : List T) × (rest : I.IntoIter) × I.into_iter_gives values it × YieldsThen I.IntoIter.next_gives it vs (Some v) rest × FillsBag ARRAY_LEN w.old w.new (bag_cells b) vs × (NoneFree w.new ⊎ NoCellFree w.new))) }
+    ensures none { IfErr result (λ e. IfUnmade e (λ r back. (back ≡ values) × (w.new ≡ w.old) × (r ≡ NotMade.NoSlot → sum_by emptiness w.old.cells ≤ ARRAY_LEN))) }
+    ensures list { IfOk result (λ b. IsSomeBag ARRAY_LEN w.new (bag_cells b)) }
+    ensures built { IfErr result (λ e. IfNoSlot e (λ b _. IsSomeBag ARRAY_LEN w.new (bag_cells b))) }
+    ensures leaves { Leaves [] [] w.old w.new }
+    ensures members { w.new.members ≡ w.old.members }
+    ensures stays { Stays w.old w.new }
+{
+    let bag = match new(alloc, w) {
+        Ok(bag) => bag,
+        Err(refused) => return Err(FromIterRefused::Unmade(refused, values)),
+    };
+    for value in values {
+        match push(w, &bag, value) {
+            Ok(()) => {}
+            Err(value) => return Err(FromIterRefused::NoSlot(bag, value)),
+        }
+    }
+    Ok(bag)
 }
 
 /// Takes an entry, from the overflow while that has any, and gives the owner of it. It is in no list then, and nobody

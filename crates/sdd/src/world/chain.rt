@@ -7,7 +7,7 @@ ghost use Rattle.sdd_base.specs.State.{State, IsFreeCell, cell_at, status_at, wi
 ghost use Rattle.sdd_base.specs.Frame.{OnlyOf};
 ghost use Rattle.sdd_base.specs.Place.{IsSharedCell};
 ghost use Rattle.sdd_base.specs.Tokens.{shared_cell, shared_slot, shared_slots, link_cell};
-ghost use Rattle.sdd.specs.Chain.{Entry, IsItem, IsHung, Hangs, HasLink, IsLoose, Fits, TookFirst, Leaves, Stays, CanHang, deleted, Begins, skip, undeleted, first_item, first_slot, links, slots, SameUses, MoreOwners};
+ghost use Rattle.sdd.specs.Chain.{Entry, IsItem, IsHung, Hangs, HasLink, IsLoose, Fits, TookFirst, Leaves, Stays, CanHang, deleted, Begins, skip, undeleted, first_item, first_slot, links, slots, SameUses, MoreOwners, OneMore};
 
 use crate::linked_list::LinkedList;
 use sdd_base::cell::AtomicShared;
@@ -252,6 +252,7 @@ pub(crate) fn share_first<L: LinkedList>(
     ensures none { IfNone result ((t : Tag) (es : List (Entry L)) → IsHung L.link w.old (shared_cell cell.now) t es → IfSome (first_slot es) (λ i. status_at w.old i ≡ Status.Shared 4294967295)) }
     ensures leaves { (t : Tag) (es : List (Entry L)) → IsHung L.link w.old (shared_cell cell.now) t es → Leaves (shared_cell cell.now ∷ links es) (slots es) w.old w.new }
     ensures owners { MoreOwners w.old w.new }
+    ensures more { IfSome result (λ s. OneMore w.old w.new (shared_slot s)) }
     ensures members { w.new.members ≡ w.old.members }
     ensures stays { Stays w.old w.new }
 {

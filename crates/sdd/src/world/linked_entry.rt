@@ -1,11 +1,13 @@
 //! Making entries.
 
-ghost use Rattle.std.specs.Prelude.{◌≡◌, IfOk, IfErr, Some, None, []};
+ghost use Rattle.std.specs.Prelude.{◌≡◌, IfOk, IfErr, OnErr, IsErrOf, Some, None, []};
 ghost use Rattle.sdd_base.specs.State.{IsFreeCell, NoCellFree, with_cell};
 ghost use Rattle.sdd.specs.Chain.{Leaves, Stays};
+ghost use Rattle.sdd.specs.Copies.{ClonesAreSame};
 ghost use Rattle.sdd.specs.Entries.{entry_value, entry_link};
 
 use crate::linked_entry::LinkedEntry;
+use crate::refusal::NotMade;
 use crate::world::entries;
 use sdd_base::status::Cell;
 use sdd_base::tag::Tag;
@@ -19,4 +21,27 @@ pub fn new<T>(w: &mut World<LinkedEntry<T>>, value: T) -> Result<LinkedEntry<T>,
     ensures stays { Stays w.old w.new }
 {
     entries::link(w, value)
+}
+
+/// An entry of a clone of the value, which is clear and has no next one. Refused where the value's clone is, and where no
+/// cell is free; then nothing has changed. Condition: a clone is the value itself.
+pub fn clone<T: Clone>(
+    w: &mut World<LinkedEntry<T>>,
+    entry: &LinkedEntry<T>,
+) -> Result<LinkedEntry<T>, NotMade>
+    requires { ClonesAreSame T.is_clone }
+    ensures made { IfOk result (λ e. (c : _) × IsFreeCell w.old c × (entry_value e ≡ entry_value entry.now) × (entry_link e ≡ Some c) × (w.new ≡ with_cell c (Cell.OfShared None Tag.None) w.old)) }
+    ensures back { OnErr result (w.new ≡ w.old) }
+    ensures full { IsErrOf result NotMade.NoSlot → NoCellFree w.old }
+    ensures memory { IsErrOf result NotMade.Memory → ¬ T.is_infallible (entry_value entry.now) }
+    ensures leaves { Leaves [] [] w.old w.new }
+    ensures stays { Stays w.old w.new }
+{
+    match entry.as_ref().clone() {
+        Err(_) => Err(NotMade::Memory),
+        Ok(value) => match entries::link(w, value) {
+            Ok(copy) => Ok(copy),
+            Err(_) => Err(NotMade::NoSlot),
+        },
+    }
 }

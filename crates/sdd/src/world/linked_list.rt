@@ -1,12 +1,13 @@
 //! The calls of `LinkedList` over a `World`: an entry is named by a pointer.
 
-ghost use Rattle.std.specs.Prelude.{◌≡◌, ◌≢◌, ◌<◌, ◌+◌, ℕ, List, [], ◌∷◌, Some, IfSome, IfNone, IsTrue, IsFalse, not};
-ghost use Rattle.sdd_base.specs.Tokens.{ptr_slot, link_cell, shared_slot};
+ghost use Rattle.std.specs.Prelude.{◌≡◌, ◌≢◌, ◌<◌, ◌+◌, ℕ, List, [], ◌∷◌, true, ◌↔◌, cond, Some, IfSome, IfNone, IfOk, IfErr, OnOk, IsErr, IsTrue, IsFalse, not};
+ghost use Rattle.sdd_base.specs.Tokens.{ptr_slot, ptr_tag, link_cell, shared_slot};
 ghost use Rattle.sdd_base.specs.State.{cell_at, status_at, with_cell, with_status};
 ghost use Rattle.sdd_base.specs.Place.{IsShared};
+ghost use Rattle.sdd_base.specs.Steps.{released};
 ghost use Rattle.sdd_base.specs.declared.tag.Tag.{Tag};
-ghost use Rattle.sdd.specs.Chain.{Entry, IsHung, Leaves, Stays, deleted, undeleted, skip, first_slot};
-ghost use Rattle.sdd.specs.Nodes.{IsNode, IsSomeNode, IsListed, Retags, clear, marked};
+ghost use Rattle.sdd.specs.Chain.{Entry, IsHung, IsLoose, Leaves, Stays, deleted, undeleted, skip, first_slot};
+ghost use Rattle.sdd.specs.Nodes.{IsNode, IsSomeNode, IsListed, CanInsert, Inserts, IsApart, Retags, clear, marked};
 
 use crate::linked_list::LinkedList;
 use crate::world::chain;
@@ -146,6 +147,41 @@ pub fn delete_self<L: LinkedList>(w: &mut World<L>, at: Ptr<'static, L>) -> bool
     true
 }
 
+/// The tag of a marked entry, or of a clear one.
+fn mark_of(mark: bool) -> Tag
+    ensures { result ≡ cond mark Tag.First Tag.None }
+{
+    if mark { Tag::First } else { Tag::None }
+}
+
+/// Puts `entry` behind the entry that `at` names, which is marked by that if `mark` is true and clear otherwise, and gives
+/// a pointer to it with the same tag. Where the entry that `at` names is deleted, `entry` comes back and nothing has
+/// changed. Conditions: `entry` is clear, has no next one, is in no list and isn't the one that `at` names.
+pub fn push_back<L: LinkedList>(
+    w: &mut World<L>,
+    at: Ptr<'static, L>,
+    entry: Shared<L>,
+    mark: bool,
+    guard: &WorldGuard,
+) -> Result<Ptr<'static, L>, Shared<L>>
+    requires { CanInsert L.link w.old (ptr_slot at) (shared_slot entry) }
+    ensures when { (e : Entry L) → IsNode L.link w.old (ptr_slot at.entry) e → IsErr result ↔ (deleted e.tag ≡ true) }
+    ensures back { IfErr result (λ s. (shared_slot s ≡ shared_slot entry) × (w.new ≡ w.old)) }
+    ensures pointer { IfOk result (λ r. (ptr_slot r ≡ Some (shared_slot entry)) × (ptr_tag r ≡ cond mark Tag.First Tag.None)) }
+    ensures pushed { OnOk result ((e : Entry L) (x : Entry L) (es : List (Entry L)) → IsNode L.link w.old (ptr_slot at.entry) e → IsHung L.link w.old e.link e.tag es → IsLoose L.link w.old x → shared_slot entry ≡ x.slot → IsApart e.link es x → Inserts L.link w.old w.new e (cond mark Tag.First Tag.None) x) }
+    ensures leaves { (e : Entry L) (x : Entry L) (es : List (Entry L)) → IsNode L.link w.old (ptr_slot at.entry) e → IsHung L.link w.old e.link e.tag es → IsLoose L.link w.old x → shared_slot entry ≡ x.slot → IsApart e.link es x → Leaves (e.link ∷ x.link ∷ []) [] w.old w.new }
+    ensures members { w.new.members ≡ w.old.members }
+    ensures stays { Stays w.old w.new }
+{
+    let link = link_at(w, &at);
+    if chain::is_deleted(atomic_shared::tag(w, link.cell())) {
+        return Err(entry);
+    }
+    set_tag(w, &at, mark_of(mark));
+    chain::put_first(w, link.cell(), entry);
+    Ok(atomic_shared::load(w, link.cell(), guard))
+}
+
 /// The next entry that isn't deleted, with the tag of the cell that keeps it, or null. It changes nothing.
 pub fn next_ptr<L: LinkedList>(
     w: &World<L>,
@@ -175,7 +211,7 @@ fn next_link<L: LinkedList>(w: &World<L>, at: &Ptr<'static, L>) -> Link<L>
 }
 
 /// Another owner of the next entry that isn't deleted; none where there is no such entry, and at the greatest count of
-/// owners. Every list stays.
+/// owners. Every list stays, and once the owner is given back, all is as it was.
 pub fn next_shared<L: LinkedList>(
     w: &mut World<L>,
     at: Ptr<'static, L>,
@@ -187,6 +223,7 @@ pub fn next_shared<L: LinkedList>(
     ensures none { IfNone result ((w.new ≡ w.old) × ((e : Entry L) (es : List (Entry L)) → IsNode L.link w.old (ptr_slot at.entry) e → IsHung L.link w.old e.link e.tag es → IfSome (first_slot (undeleted es)) (λ i. (n : ℕ) → n < 4294967295 → status_at w.old i ≢ Status.Shared n))) }
     ensures lists { (c : ℕ) (t : Tag) (es : List (Entry L)) → IsHung L.link w.old c t es → IsHung L.link w.new c t es }
     ensures live { IfSome result (λ s. IsShared w.new (shared_slot s)) }
+    ensures spare { IfSome result (λ s. (p : ℕ) → released p (shared_slot s) w.new ≡ w.old) }
     ensures stays { Stays w.old w.new }
 {
     let link = next_link(w, &at);

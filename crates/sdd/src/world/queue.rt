@@ -1,9 +1,10 @@
 //! Queues over a `World`: the oldest entry comes first.
 
-ghost use Rattle.std.specs.Prelude.{◌≤◌, ◌≡◌, ◌<◌, ◌⊎◌, ◌↔◌, ℕ, List, [], ◌∷◌, length, IfOk, IfErr, OnErr, Some, IfSome, IfNone, ◌≢◌, MatchOption, IsTrue, IsErrAnd, Bool, false};
+ghost use Rattle.std.specs.Prelude.{◌≤◌, ◌≡◌, ◌<◌, ◌⊎◌, ◌↔◌, ℕ, List, [], ◌∷◌, length, IfOk, IfErr, OnErr, OnOk, ◌++◌, Some, IfSome, IfNone, ◌≢◌, MatchOption, IsTrue, IsErrAnd, Bool, false};
 ghost use Rattle.sdd_base.specs.State.{status_at, IsFreeCell, NoneFree, NoCellFree};
 ghost use Rattle.sdd_base.specs.Frame.{OnlyOf};
 ghost use Rattle.sdd_base.specs.Place.{IsShared};
+ghost use Rattle.sdd_base.specs.Steps.{released};
 ghost use Rattle.sdd_base.specs.Tokens.{shared_slot, ptr_slot};
 ghost use Rattle.sdd.specs.Nodes.{IsSomeNode, IsListed};
 ghost use Rattle.std.specs.Fn.{FnOnceReturnsAt};
@@ -12,6 +13,9 @@ ghost use Rattle.sdd.specs.Stacks.{taken};
 ghost use Rattle.sdd.specs.Chain.{Entry, Hangs, IsHung, Leaves, Stays, undeleted, first_item, first_slot, skip, links, slots};
 ghost use Rattle.sdd.specs.Entries.{entry_link};
 ghost use Rattle.sdd.specs.Iters.{iter_cell};
+ghost use Rattle.std.specs.Iterator.{Drains, YieldsThen, IsFiniteIterable};
+ghost use Rattle.sdd.specs.Copies.{ClonesAreSame};
+ghost use Rattle.sdd.specs.Fillings.{entry_values, Extends, FillsQueue, IfUnmade, IfNoSlot, IfUncopied, IfPartly};
 ghost use Rattle.sdd.specs.Refusals.{refused_value, IsCondition, IsNoSlot};
 ghost use Rattle.sdd.specs.Queues.{oldest_cell, newest_cell, IsQueue, IsSomeQueue, HasOldest, KeepsQueue, Appends, Takes};
 ghost use Rattle.sdd.specs.declared.linked_entry.LinkedEntry.{LinkedEntry};
@@ -19,8 +23,9 @@ ghost use Rattle.sdd.specs.declared.linked_entry.LinkedEntry.{LinkedEntry};
 use crate::iter::Iter;
 use crate::linked_entry::LinkedEntry;
 use crate::queue::Queue;
-use crate::refusal::PushRefused;
-use crate::world::{chain, entries, tail};
+use crate::refusal::{CloneRefused, FromIterRefused, NotMade, PushRefused};
+use crate::world::copies::Copied;
+use crate::world::{chain, copies, entries, tail};
 use sdd_base::guard::WorldGuard;
 use sdd_base::link::Link;
 use sdd_base::owner::Shared;
@@ -38,6 +43,7 @@ pub fn new<T>(w: &mut World<LinkedEntry<T>>) -> Result<Queue<T>, NoSlot>
     ensures list { IfOk result (λ q. IsSomeQueue entry_link w.new (oldest_cell q) (newest_cell q)) }
     ensures refused { OnErr result ((w.new ≡ w.old) × ((c : ℕ) (d : ℕ) → IsFreeCell w.old c → IsFreeCell w.old d → c ≡ d)) }
     ensures leaves { Leaves [] [] w.old w.new }
+    ensures members { w.new.members ≡ w.old.members }
     ensures stays { Stays w.old w.new }
 {
     match atomic_shared::null(w) {
@@ -76,6 +82,101 @@ pub fn push<T>(
             Ok(entry)
         }
     }
+}
+
+/// As `push`, without another owner, and without a value it does nothing.
+fn add<T>(w: &mut World<LinkedEntry<T>>, queue: &Queue<T>, value: Option<T>) -> Result<(), T>
+    requires member { 0 < length w.old.members }
+    requires list { IsSomeQueue entry_link w.old (oldest_cell queue.now) (newest_cell queue.now) }
+    ensures added { OnOk result (MatchOption value (w.new ≡ w.old) (λ v. Extends w.old w.new v (oldest_cell queue.now) (newest_cell queue.now))) }
+    ensures refused { IfErr result (λ v. (value ≡ Some v) × (w.new ≡ w.old) × (NoneFree w.old ⊎ NoCellFree w.old)) }
+    ensures leaves { (es : List (Entry (LinkedEntry T))) → IsQueue entry_link w.old (oldest_cell queue.now) (newest_cell queue.now) es → Leaves (oldest_cell queue.now ∷ newest_cell queue.now ∷ links es) (slots es) w.old w.new }
+    ensures only { OnlyOf 0 w.old w.new }
+    ensures stays { Stays w.old w.new }
+{
+    let Some(value) = value else {
+        return Ok(());
+    };
+    match entries::make(w, value) {
+        Err(value) => Err(value),
+        Ok((link, last)) => {
+            tail::append(w, &queue.oldest, &queue.newest, link, last);
+            Ok(())
+        }
+    }
+}
+
+/// A queue of the values, in their order, each in an entry of its own. Where two cells for it aren't free, nothing has
+/// changed and `values` comes back. The first value for which no slot or no cell is free comes back with the queue of
+/// those before it. Condition: the values end.
+pub fn from_iter<T, I: IntoIterator<Item = T>>(
+    w: &mut World<LinkedEntry<T>>,
+    values: I,
+) -> Result<Queue<T>, FromIterRefused<Queue<T>, T, I>>
+    requires member { 0 < length w.old.members }
+    requires ends { IsFiniteIterable I.into_iter_gives I.IntoIter.can_next I.IntoIter.remaining values }
+    ensures filled { IfOk result (λ q. (it : I.IntoIter) × (vs : List T) × I.into_iter_gives values it × Drains I.IntoIter.next_gives it vs × FillsQueue w.old w.new (oldest_cell q) (newest_cell q) vs) }
+    ensures partly { IfErr result (λ e. IfNoSlot e (λ q v. (it : I.IntoIter) × (vs : List T) × (rest : I.IntoIter) × I.into_iter_gives values it × YieldsThen I.IntoIter.next_gives it vs (Some v) rest × FillsQueue w.old w.new (oldest_cell q) (newest_cell q) vs × (NoneFree w.new ⊎ NoCellFree w.new))) }
+    ensures none { IfErr result (λ e. IfUnmade e (λ r back. (r ≡ NotMade.NoSlot) × (back ≡ values) × (w.new ≡ w.old) × ((c : ℕ) (d : ℕ) → IsFreeCell w.old c → IsFreeCell w.old d → c ≡ d))) }
+    ensures list { IfOk result (λ q. IsSomeQueue entry_link w.new (oldest_cell q) (newest_cell q)) }
+    ensures built { IfErr result (λ e. IfNoSlot e (λ q _. IsSomeQueue entry_link w.new (oldest_cell q) (newest_cell q))) }
+    ensures leaves { Leaves [] [] w.old w.new }
+    ensures only { OnlyOf 0 w.old w.new }
+    ensures stays { Stays w.old w.new }
+{
+    let queue = match new(w) {
+        Ok(queue) => queue,
+        Err(_) => return Err(FromIterRefused::Unmade(NotMade::NoSlot, values)),
+    };
+    for value in values {
+        match add(w, &queue, Some(value)) {
+            Ok(()) => {}
+            Err(value) => return Err(FromIterRefused::NoSlot(queue, value)),
+        }
+    }
+    Ok(queue)
+}
+
+/// A queue of clones of the values that aren't deleted, in their order, each in a clear entry of its own. Where two
+/// cells for it aren't free, nothing has changed. Where a clone is refused, or no slot or no cell is free for one, the
+/// queue of those before it comes back. Condition: a clone is the value itself.
+pub fn clone<T: Clone>(
+    w: &mut World<LinkedEntry<T>>,
+    queue: &Queue<T>,
+) -> Result<Queue<T>, CloneRefused<Queue<T>>>
+    requires clones { ClonesAreSame T.is_clone }
+    requires member { 0 < length w.old.members }
+    requires list { IsSomeQueue entry_link w.old (oldest_cell queue.now) (newest_cell queue.now) }
+    ensures cloned { (es : List (Entry (LinkedEntry T))) → IsQueue entry_link w.old (oldest_cell queue.now) (newest_cell queue.now) es → IfOk result (λ q. FillsQueue w.old w.new (oldest_cell q) (newest_cell q) (entry_values (undeleted es))) }
+    ensures partly { (es : List (Entry (LinkedEntry T))) → IsQueue entry_link w.old (oldest_cell queue.now) (newest_cell queue.now) es → IfErr result (λ e. IfPartly e (λ q r. (vs : List T) × (v : T) × (more : List T) × (entry_values (undeleted es) ≡ vs ++ v ∷ more) × FillsQueue w.old w.new (oldest_cell q) (newest_cell q) vs × (r ≡ NotMade.NoSlot → NoneFree w.new ⊎ NoCellFree w.new) × (r ≡ NotMade.Memory → ¬ T.is_infallible v))) }
+    ensures none { IfErr result (λ e. IfUncopied e (λ r. (r ≡ NotMade.NoSlot) × (w.new ≡ w.old) × ((c : ℕ) (d : ℕ) → IsFreeCell w.old c → IsFreeCell w.old d → c ≡ d))) }
+    ensures kept { (es : List (Entry (LinkedEntry T))) → IsQueue entry_link w.old (oldest_cell queue.now) (newest_cell queue.now) es → IsQueue entry_link w.new (oldest_cell queue.now) (newest_cell queue.now) es }
+    ensures list { IfOk result (λ q. IsSomeQueue entry_link w.new (oldest_cell q) (newest_cell q)) }
+    ensures built { IfErr result (λ e. IfPartly e (λ q _. IsSomeQueue entry_link w.new (oldest_cell q) (newest_cell q))) }
+    ensures leaves { Leaves [] [] w.old w.new }
+    ensures only { OnlyOf 0 w.old w.new }
+    ensures stays { Stays w.old w.new }
+{
+    let copy = match new(w) {
+        Ok(copy) => copy,
+        Err(_) => return Err(CloneRefused::Unmade(NotMade::NoSlot)),
+    };
+    let mut at = Link::of(&queue.oldest);
+    for _passed in 0..w.slots_in_use() {
+        let Ok(next) = copies::first(w, at.cell()) else {
+            return Err(CloneRefused::Partly(copy, NotMade::Memory));
+        };
+        let Some(next) = next else {
+            return Ok(copy);
+        };
+        let Copied { link, value } = next;
+        at = link;
+        match add(w, &copy, value) {
+            Ok(()) => {}
+            Err(_) => return Err(CloneRefused::Partly(copy, NotMade::NoSlot)),
+        }
+    }
+    Ok(copy)
 }
 
 /// Takes the first undeleted entry, which is deleted by that, and gives an owner of it; deleted entries before it are
@@ -220,6 +321,8 @@ fn share_oldest<T>(
     requires list { HasOldest entry_link w.old (oldest_cell queue.now) (newest_cell queue.now) }
     ensures kept { (es : List (Entry (LinkedEntry T))) → IsQueue entry_link w.old (oldest_cell queue.now) (newest_cell queue.now) es → undeleted es ≢ [] → IsQueue entry_link w.new (oldest_cell queue.now) (newest_cell queue.now) (skip es) }
     ensures some { IfSome result (λ s. (es : List (Entry (LinkedEntry T))) → IsQueue entry_link w.old (oldest_cell queue.now) (newest_cell queue.now) es → Some (shared_slot s) ≡ first_slot (undeleted es)) }
+    ensures owner { IfSome result (λ s. IsShared w.new (shared_slot s)) }
+    ensures spare { IfSome result (λ s. (p : ℕ) (es : List (Entry (LinkedEntry T))) → IsQueue entry_link w.old (oldest_cell queue.now) (newest_cell queue.now) es → undeleted es ≢ [] → IsQueue entry_link (released p (shared_slot s) w.new) (oldest_cell queue.now) (newest_cell queue.now) (skip es)) }
     ensures none { IfNone result ((es : List (Entry (LinkedEntry T))) → IsQueue entry_link w.old (oldest_cell queue.now) (newest_cell queue.now) es → IfSome (first_slot (undeleted es)) (λ i. status_at w.old i ≡ Status.Shared 4294967295)) }
     ensures leaves { (es : List (Entry (LinkedEntry T))) → IsQueue entry_link w.old (oldest_cell queue.now) (newest_cell queue.now) es → Leaves (oldest_cell queue.now ∷ links es) (slots es) w.old w.new }
     ensures only { OnlyOf p w.old w.new }
@@ -233,7 +336,8 @@ fn share_oldest<T>(
 }
 
 /// As `pop`, if `f` answers true for the first undeleted entry; else another owner of that is given, and nothing is
-/// taken. Where every entry is deleted, `f` isn't called. Where the entry has `2^32 - 1` owners, a refusal answers none.
+/// taken: it can be given back at once. Where every entry is deleted, `f` isn't called. Where the entry has `2^32 - 1`
+/// owners, a refusal answers none.
 pub fn pop_if<T, F: FnOnce(&LinkedEntry<T>) -> bool + Drop>(
     w: &mut World<LinkedEntry<T>>,
     queue: &Queue<T>,
@@ -245,6 +349,9 @@ pub fn pop_if<T, F: FnOnce(&LinkedEntry<T>) -> bool + Drop>(
     requires list { IsSomeQueue entry_link w.old (oldest_cell queue.now) (newest_cell queue.now) }
     ensures asked { (es : List (Entry (LinkedEntry T))) → IsQueue entry_link w.old (oldest_cell queue.now) (newest_cell queue.now) es → IfSome (first_item (undeleted es)) (λ v. FnOnceReturnsAt F.FnOnce f v (taken result)) }
     ensures popped { (es : List (Entry (LinkedEntry T))) → IsQueue entry_link w.old (oldest_cell queue.now) (newest_cell queue.now) es → IfOk result (λ r. IfSome r (λ s. Takes w.new (oldest_cell queue.now) (newest_cell queue.now) (shared_slot s) es)) }
+    ensures live { IfOk result (λ r. IfSome r (λ s. IsShared w.new (shared_slot s))) }
+    ensures owner { IfErr result (λ s. IsShared w.new (shared_slot s)) }
+    ensures spare { IfErr result (λ s. (p : ℕ) (es : List (Entry (LinkedEntry T))) → IsQueue entry_link w.old (oldest_cell queue.now) (newest_cell queue.now) es → KeepsQueue entry_link (released p (shared_slot s) w.new) (oldest_cell queue.now) (newest_cell queue.now) es) }
     ensures kept { taken result ≡ false → (es : List (Entry (LinkedEntry T))) → IsQueue entry_link w.old (oldest_cell queue.now) (newest_cell queue.now) es → KeepsQueue entry_link w.new (oldest_cell queue.now) (newest_cell queue.now) es }
     ensures refused { IfErr result (λ s. (es : List (Entry (LinkedEntry T))) → IsQueue entry_link w.old (oldest_cell queue.now) (newest_cell queue.now) es → Some (shared_slot s) ≡ first_slot (undeleted es)) }
     ensures full { (es : List (Entry (LinkedEntry T))) → IsQueue entry_link w.old (oldest_cell queue.now) (newest_cell queue.now) es → IfOk result (λ r. IfNone r (IfSome (first_slot (undeleted es)) (λ i. status_at w.old i ≡ Status.Shared 4294967295))) }

@@ -1,31 +1,36 @@
 //! Stacks over a `World`: the newest entry comes first.
 
-ghost use Rattle.std.specs.Prelude.{◌≤◌, ◌≡◌, ◌<◌, ◌⊎◌, ◌↔◌, ℕ, List, [], ◌∷◌, length, IfOk, IfErr, OnErr, OnOk, Some, IfSome, IfNone, MatchOption, IsTrue, IsErrAnd, Bool, false};
-ghost use Rattle.sdd_base.specs.State.{status_at, IsFreeCell, NoneFree, NoCellFree};
+ghost use Rattle.std.specs.Prelude.{◌≤◌, ◌≡◌, ◌<◌, ◌⊎◌, ◌↔◌, ℕ, List, [], ◌∷◌, length, IfOk, IfErr, OnErr, OnOk, None, Some, IfSome, IfNone, ◌++◌, reverse, MatchOption, IsTrue, IsErrAnd, Bool, false};
+ghost use Rattle.sdd_base.specs.State.{cell_at, status_at, IsFreeCell, NoneFree, NoCellFree};
 ghost use Rattle.sdd_base.specs.Frame.{OnlyOf};
 ghost use Rattle.sdd_base.specs.Place.{IsShared};
-ghost use Rattle.sdd_base.specs.Tokens.{shared_slot, ptr_slot};
+ghost use Rattle.sdd_base.specs.Steps.{released};
+ghost use Rattle.sdd_base.specs.Tokens.{link_cell, shared_slot, ptr_slot};
 ghost use Rattle.sdd.specs.Nodes.{IsSomeNode, IsListed};
 ghost use Rattle.std.specs.Option.{option_copied};
 ghost use Rattle.std.specs.Fn.{FnOnceReturnsAt};
 ghost use Rattle.sdd.specs.Chain.{Entry, Hangs, IsHung, Leaves, Stays, undeleted, first_item, first_slot, skip, links, slots};
 ghost use Rattle.sdd.specs.Entries.{entry_link};
 ghost use Rattle.sdd.specs.Iters.{iter_cell};
+ghost use Rattle.std.specs.Iterator.{Drains, YieldsThen, IsFiniteIterable};
+ghost use Rattle.sdd.specs.Copies.{ClonesAreSame};
+ghost use Rattle.sdd.specs.Fillings.{entry_values, ExtendsLast, FillsStack, IfUnmade, IfNoSlot, IfUncopied, IfPartly};
 ghost use Rattle.sdd.specs.Refusals.{refused_value, IsCondition, IsNoSlot};
 ghost use Rattle.sdd.specs.Stacks.{stack_cell, taken, IsStack, IsSomeStack, Pushes, Pops};
 ghost use Rattle.sdd.specs.declared.linked_entry.LinkedEntry.{LinkedEntry};
 
 use crate::iter::Iter;
 use crate::linked_entry::LinkedEntry;
-use crate::refusal::PushRefused;
+use crate::refusal::{CloneRefused, FromIterRefused, NotMade, PushRefused};
 use crate::stack::Stack;
-use crate::world::{chain, entries};
+use crate::world::copies::Copied;
+use crate::world::{chain, copies, entries, row};
 use sdd_base::guard::WorldGuard;
 use sdd_base::link::Link;
 use sdd_base::owner::Shared;
 use sdd_base::pointer::Ptr;
 use sdd_base::refusal::NoSlot;
-use sdd_base::status::Status;
+use sdd_base::status::{Cell, Status};
 use sdd_base::tag::Tag;
 use sdd_base::world::{World, atomic_shared};
 
@@ -37,6 +42,7 @@ pub fn new<T>(w: &mut World<LinkedEntry<T>>) -> Result<Stack<T>, NoSlot>
     ensures list { IfOk result (λ s. IsSomeStack w.new (stack_cell s)) }
     ensures refused { OnErr result ((w.new ≡ w.old) × NoCellFree w.old) }
     ensures leaves { Leaves [] [] w.old w.new }
+    ensures members { w.new.members ≡ w.old.members }
     ensures stays { Stays w.old w.new }
 {
     match atomic_shared::null(w) {
@@ -68,6 +74,106 @@ pub fn push<T>(
             Ok(entry)
         }
     }
+}
+
+/// Puts `value` at the end of a list, in an entry of its own; without a value it does nothing. `end` is the cell there,
+/// before and after.
+fn add_last<T>(
+    w: &mut World<LinkedEntry<T>>,
+    end: &mut Link<LinkedEntry<T>>,
+    value: Option<T>,
+) -> Result<(), T>
+    requires { cell_at w.old (link_cell end.old) ≡ Cell.OfShared None Tag.None }
+    ensures added { OnOk result (MatchOption value ((w.new ≡ w.old) × (link_cell end.new ≡ link_cell end.old)) (λ v. ExtendsLast w.old w.new v (link_cell end.old) (link_cell end.new))) }
+    ensures refused { IfErr result (λ v. (value ≡ Some v) × (w.new ≡ w.old) × (NoneFree w.old ⊎ NoCellFree w.old)) }
+    ensures leaves { Leaves (link_cell end.old ∷ []) [] w.old w.new }
+    ensures members { w.new.members ≡ w.old.members }
+    ensures stays { Stays w.old w.new }
+{
+    let Some(value) = value else {
+        return Ok(());
+    };
+    match entries::make_one(w, value) {
+        Err(value) => Err(value),
+        Ok(last) => {
+            let link = chain::link_of(w, &last);
+            chain::put_first(w, end.cell(), last);
+            *end = link;
+            Ok(())
+        }
+    }
+}
+
+/// A stack of the values, the last one in front, each in an entry of its own. Where no cell for it is free, nothing has
+/// changed and `values` comes back. The first value for which no slot or no cell is free comes back with the stack of
+/// those before it. Condition: the values end.
+pub fn from_iter<T, I: IntoIterator<Item = T>>(
+    w: &mut World<LinkedEntry<T>>,
+    values: I,
+) -> Result<Stack<T>, FromIterRefused<Stack<T>, T, I>>
+    requires { IsFiniteIterable I.into_iter_gives I.IntoIter.can_next I.IntoIter.remaining values }
+    ensures filled { IfOk result (λ s. (it : I.IntoIter) × (vs : List T) × I.into_iter_gives values it × Drains I.IntoIter.next_gives it vs × FillsStack w.old w.new (stack_cell s) (reverse vs)) }
+    ensures partly { IfErr result (λ e. IfNoSlot e (λ s v. (it : I.IntoIter) × (vs : List T) × (rest : I.IntoIter) × I.into_iter_gives values it × YieldsThen I.IntoIter.next_gives it vs (Some v) rest × FillsStack w.old w.new (stack_cell s) (reverse vs) × (NoneFree w.new ⊎ NoCellFree w.new))) }
+    ensures none { IfErr result (λ e. IfUnmade e (λ r back. (r ≡ NotMade.NoSlot) × (back ≡ values) × (w.new ≡ w.old) × NoCellFree w.old)) }
+    ensures list { IfOk result (λ s. IsSomeStack w.new (stack_cell s)) }
+    ensures built { IfErr result (λ e. IfNoSlot e (λ s _. IsSomeStack w.new (stack_cell s))) }
+    ensures leaves { Leaves [] [] w.old w.new }
+    ensures members { w.new.members ≡ w.old.members }
+    ensures stays { Stays w.old w.new }
+{
+    let stack = match new(w) {
+        Ok(stack) => stack,
+        Err(_) => return Err(FromIterRefused::Unmade(NotMade::NoSlot, values)),
+    };
+    for value in values {
+        match row::put(w, &stack.newest, value) {
+            Ok(()) => {}
+            Err(value) => return Err(FromIterRefused::NoSlot(stack, value)),
+        }
+    }
+    Ok(stack)
+}
+
+/// A stack of clones of the values that aren't deleted, in their order, each in a clear entry of its own. Where no cell
+/// for it is free, nothing has changed. Where a clone is refused, or no slot or no cell is free for one, the stack of
+/// those before it comes back. Condition: a clone is the value itself.
+pub fn clone<T: Clone>(
+    w: &mut World<LinkedEntry<T>>,
+    stack: &Stack<T>,
+) -> Result<Stack<T>, CloneRefused<Stack<T>>>
+    requires clones { ClonesAreSame T.is_clone }
+    requires list { IsSomeStack w.old (stack_cell stack.now) }
+    ensures cloned { (es : List (Entry (LinkedEntry T))) → IsStack w.old (stack_cell stack.now) es → IfOk result (λ s. FillsStack w.old w.new (stack_cell s) (entry_values (undeleted es))) }
+    ensures partly { (es : List (Entry (LinkedEntry T))) → IsStack w.old (stack_cell stack.now) es → IfErr result (λ e. IfPartly e (λ s r. (vs : List T) × (v : T) × (more : List T) × (entry_values (undeleted es) ≡ vs ++ v ∷ more) × FillsStack w.old w.new (stack_cell s) vs × (r ≡ NotMade.NoSlot → NoneFree w.new ⊎ NoCellFree w.new) × (r ≡ NotMade.Memory → ¬ T.is_infallible v))) }
+    ensures none { IfErr result (λ e. IfUncopied e (λ r. (r ≡ NotMade.NoSlot) × (w.new ≡ w.old) × NoCellFree w.old)) }
+    ensures kept { (es : List (Entry (LinkedEntry T))) → IsStack w.old (stack_cell stack.now) es → IsStack w.new (stack_cell stack.now) es }
+    ensures list { IfOk result (λ s. IsSomeStack w.new (stack_cell s)) }
+    ensures built { IfErr result (λ e. IfPartly e (λ s _. IsSomeStack w.new (stack_cell s))) }
+    ensures leaves { Leaves [] [] w.old w.new }
+    ensures members { w.new.members ≡ w.old.members }
+    ensures stays { Stays w.old w.new }
+{
+    let copy = match new(w) {
+        Ok(copy) => copy,
+        Err(_) => return Err(CloneRefused::Unmade(NotMade::NoSlot)),
+    };
+    let mut at = Link::of(&stack.newest);
+    let mut end = Link::of(&copy.newest);
+    for _passed in 0..w.slots_in_use() {
+        let Ok(next) = copies::first(w, at.cell()) else {
+            return Err(CloneRefused::Partly(copy, NotMade::Memory));
+        };
+        let Some(next) = next else {
+            return Ok(copy);
+        };
+        let Copied { link, value } = next;
+        at = link;
+        match add_last(w, &mut end, value) {
+            Ok(()) => {}
+            Err(_) => return Err(CloneRefused::Partly(copy, NotMade::NoSlot)),
+        }
+    }
+    Ok(copy)
 }
 
 /// Takes the first undeleted entry, which is deleted by that, and gives an owner of it; deleted entries before it are
@@ -209,7 +315,8 @@ pub fn push_if<T, F: FnOnce(Option<&LinkedEntry<T>>) -> bool>(
 }
 
 /// As `pop`, if `f` answers true for the first undeleted entry; else another owner of that is given, and nothing is
-/// taken. Where every entry is deleted, `f` isn't called. Where the entry has `2^32 - 1` owners, a refusal answers none.
+/// taken: it can be given back at once. Where every entry is deleted, `f` isn't called. Where the entry has `2^32 - 1`
+/// owners, a refusal answers none.
 pub fn pop_if<T, F: FnOnce(&LinkedEntry<T>) -> bool + Drop>(
     w: &mut World<LinkedEntry<T>>,
     stack: &Stack<T>,
@@ -222,6 +329,9 @@ pub fn pop_if<T, F: FnOnce(&LinkedEntry<T>) -> bool + Drop>(
     ensures asked { (es : List (Entry (LinkedEntry T))) → IsStack w.old (stack_cell stack.now) es → IfSome (first_item (undeleted es)) (λ v. FnOnceReturnsAt F.FnOnce f v (taken result)) }
     ensures popped { (es : List (Entry (LinkedEntry T))) → IsStack w.old (stack_cell stack.now) es → IfOk result (λ r. IfSome r (λ s. Pops w.new (stack_cell stack.now) (shared_slot s) es)) }
     ensures kept { taken result ≡ false → (es : List (Entry (LinkedEntry T))) → IsStack w.old (stack_cell stack.now) es → IsStack w.new (stack_cell stack.now) (skip es) }
+    ensures live { IfOk result (λ r. IfSome r (λ s. IsShared w.new (shared_slot s))) }
+    ensures owner { IfErr result (λ s. IsShared w.new (shared_slot s)) }
+    ensures spare { IfErr result (λ s. (p : ℕ) (es : List (Entry (LinkedEntry T))) → IsStack w.old (stack_cell stack.now) es → IsStack (released p (shared_slot s) w.new) (stack_cell stack.now) (skip es)) }
     ensures refused { IfErr result (λ s. (es : List (Entry (LinkedEntry T))) → IsStack w.old (stack_cell stack.now) es → Some (shared_slot s) ≡ first_slot (undeleted es)) }
     ensures full { (es : List (Entry (LinkedEntry T))) → IsStack w.old (stack_cell stack.now) es → IfOk result (λ r. IfNone r (IfSome (first_slot (undeleted es)) (λ i. status_at w.old i ≡ Status.Shared 4294967295))) }
     ensures list { IsSomeStack w.new (stack_cell stack.now) }

@@ -1,11 +1,12 @@
-use Rattle.std.proofs.Common.{◌∙◌, ◌+◌, ap, sym, ℕ}
+use Rattle.std.proofs.Common.{◌∙◌, ◌+◌, ap, sym, subst, ℕ, arith}
 use Rattle.sdd_base.specs.State.{status_at, with_status}
 use Rattle.sdd_base.specs.Tokens.{shared_cell}
 use Rattle.sdd_base.specs.declared.status.Status.TheVariants as status
+use Rattle.sdd.specs.Chain.{OneMore}
 use Rattle.sdd.proofs.Chains.{stays_then}
 use Rattle.sdd.proofs.Releases.{stays_owners}
 use Rattle.sdd.proofs.Fronts.{took_some}
-use Rattle.sdd.proofs.Shares.{off_same, off_more, can_return, shared_hung, shared_leaves, shared_owners, owners_same, owners_more, owners_none}
+use Rattle.sdd.proofs.Shares.{off_same, off_more, can_return, shared_hung, shared_leaves, shared_owners, one_more, owners_same, owners_more, owners_none}
 use Rattle.sdd.proofs.world.chain.share_first.Goals as goal
 
 pub put_first-requires : goal.put_first-requires
@@ -22,7 +23,7 @@ put_first-requires-in-Some-clone g c =
     let r = c.requires in
     let k = took_some g.L.LinkedList.link c.args.w.now c.take_first.new.w at c.in-Some.first.slot r.tag r.entries r.is (c.in-Some.ensures.took r.tag r.entries r.is) in
     let m = c.in-Some-clone.ensures.more in
-    let o = off_more g.L.LinkedList.link c.args.w.now c.take_first.new.w c.clone.new.w at c.in-Some.first.slot r.tag r.entries r.is k m.1 (m.1 + 1) (ap (λ (j : ℕ). status_at c.take_first.new.w j) (sym m.0) ∙ m.2) (m.3 ∙ ap (λ (j : ℕ). with_status j (status.Shared (m.1 + 1)) c.take_first.new.w) m.0) in
+    let o = off_more g.L.LinkedList.link c.args.w.now c.take_first.new.w c.clone.new.w at c.in-Some.first.slot r.tag r.entries r.is k m.1 (m.1 + 1) (omega arith) (ap (λ (j : ℕ). status_at c.take_first.new.w j) (sym m.0) ∙ m.2) (m.3 ∙ ap (λ (j : ℕ). with_status j (status.Shared (m.1 + 1)) c.take_first.new.w) m.0) in
     can_return g.L.LinkedList.link c.args.w.now c.take_first.new.w c.clone.new.w at c.in-Some.first.slot r.tag r.entries r.is k o
 
 pub returns-in-None-clause-hung : goal.returns-in-None-clause-hung
@@ -44,7 +45,7 @@ returns-in-Some-clone-clause-hung g c = λ t es h.
     let at = shared_cell c.args.cell.now in
     let k = took_some g.L.LinkedList.link c.args.w.now c.take_first.new.w at c.in-Some.first.slot t es h (c.in-Some.ensures.took t es h) in
     let m = c.in-Some-clone.ensures.more in
-    let o = off_more g.L.LinkedList.link c.args.w.now c.take_first.new.w c.clone.new.w at c.in-Some.first.slot t es h k m.1 (m.1 + 1) (ap (λ (j : ℕ). status_at c.take_first.new.w j) (sym m.0) ∙ m.2) (m.3 ∙ ap (λ (j : ℕ). with_status j (status.Shared (m.1 + 1)) c.take_first.new.w) m.0) in
+    let o = off_more g.L.LinkedList.link c.args.w.now c.take_first.new.w c.clone.new.w at c.in-Some.first.slot t es h k m.1 (m.1 + 1) (omega arith) (ap (λ (j : ℕ). status_at c.take_first.new.w j) (sym m.0) ∙ m.2) (m.3 ∙ ap (λ (j : ℕ). with_status j (status.Shared (m.1 + 1)) c.take_first.new.w) m.0) in
     shared_hung g.L.LinkedList.link c.args.w.now c.take_first.new.w c.clone.new.w at c.in-Some.first.slot t es h k c.put_first-in-Some-clone.new.w o c.put_first-in-Some-clone.ensures.put
 
 pub returns-in-Some-clone-clause-leaves : goal.returns-in-Some-clone-clause-leaves
@@ -52,7 +53,7 @@ returns-in-Some-clone-clause-leaves g c = λ t es h.
     let at = shared_cell c.args.cell.now in
     let k = took_some g.L.LinkedList.link c.args.w.now c.take_first.new.w at c.in-Some.first.slot t es h (c.in-Some.ensures.took t es h) in
     let m = c.in-Some-clone.ensures.more in
-    let o = off_more g.L.LinkedList.link c.args.w.now c.take_first.new.w c.clone.new.w at c.in-Some.first.slot t es h k m.1 (m.1 + 1) (ap (λ (j : ℕ). status_at c.take_first.new.w j) (sym m.0) ∙ m.2) (m.3 ∙ ap (λ (j : ℕ). with_status j (status.Shared (m.1 + 1)) c.take_first.new.w) m.0) in
+    let o = off_more g.L.LinkedList.link c.args.w.now c.take_first.new.w c.clone.new.w at c.in-Some.first.slot t es h k m.1 (m.1 + 1) (omega arith) (ap (λ (j : ℕ). status_at c.take_first.new.w j) (sym m.0) ∙ m.2) (m.3 ∙ ap (λ (j : ℕ). with_status j (status.Shared (m.1 + 1)) c.take_first.new.w) m.0) in
     shared_leaves g.L.LinkedList.link c.args.w.now c.take_first.new.w c.clone.new.w at c.in-Some.first.slot t es h k c.put_first-in-Some-clone.new.w o c.put_first-in-Some-clone.ensures.put
 
 pub returns-in-Some-clone-clause-stays : goal.returns-in-Some-clone-clause-stays
@@ -79,5 +80,16 @@ returns-in-Some-clone-clause-owners g c =
     let m = c.in-Some-clone.ensures.more in
     let is = ap (λ (j : ℕ). status_at c.take_first.new.w j) (sym m.0) ∙ m.2 in
     let now = m.3 ∙ ap (λ (j : ℕ). with_status j (status.Shared (m.1 + 1)) c.take_first.new.w) m.0 in
-    let o = off_more g.L.LinkedList.link c.args.w.now c.take_first.new.w c.clone.new.w at c.in-Some.first.slot r.tag r.entries r.is k m.1 (m.1 + 1) is now in
+    let o = off_more g.L.LinkedList.link c.args.w.now c.take_first.new.w c.clone.new.w at c.in-Some.first.slot r.tag r.entries r.is k m.1 (m.1 + 1) (omega arith) is now in
     shared_owners g.L.LinkedList.link c.args.w.now c.take_first.new.w c.clone.new.w at c.in-Some.first.slot r.tag r.entries r.is k c.put_first-in-Some-clone.new.w o c.put_first-in-Some-clone.ensures.put (owners_more c.take_first.new.w c.clone.new.w c.in-Some.first.slot m.1 is now)
+
+pub returns-in-Some-clone-clause-more : goal.returns-in-Some-clone-clause-more
+returns-in-Some-clone-clause-more g c =
+    let at = shared_cell c.args.cell.now in
+    let r = c.requires in
+    let k = took_some g.L.LinkedList.link c.args.w.now c.take_first.new.w at c.in-Some.first.slot r.tag r.entries r.is (c.in-Some.ensures.took r.tag r.entries r.is) in
+    let m = c.in-Some-clone.ensures.more in
+    let is = ap (λ (j : ℕ). status_at c.take_first.new.w j) (sym m.0) ∙ m.2 in
+    let now = m.3 ∙ ap (λ (j : ℕ). with_status j (status.Shared (m.1 + 1)) c.take_first.new.w) m.0 in
+    let o = off_more g.L.LinkedList.link c.args.w.now c.take_first.new.w c.clone.new.w at c.in-Some.first.slot r.tag r.entries r.is k m.1 (m.1 + 1) (omega arith) is now in
+    subst (λ (j : ℕ). OneMore c.args.w.now c.put_first-in-Some-clone.new.w j) (sym m.0) (one_more g.L.LinkedList.link c.args.w.now c.take_first.new.w c.clone.new.w at c.in-Some.first.slot r.tag r.entries r.is k c.put_first-in-Some-clone.new.w o c.put_first-in-Some-clone.ensures.put m.1 is now)

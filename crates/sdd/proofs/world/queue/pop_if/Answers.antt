@@ -56,3 +56,6 @@ pub unreachable-requires : goal.unreachable-requires
 unreachable-requires g c =
     let r = c.requires.list in
     not_empty c.in-Some.entry.now (undeleted r.entries) (c.in-Some.ensures tag.None r.entries r.is.hung) (c.in-None-pop.ensures.popped r.entries r.is).0
+
+pub returns-in-Some-share_oldest-clause-spare : goal.returns-in-Some-share_oldest-clause-spare
+returns-in-Some-share_oldest-clause-spare g c = λ p es q. record { rest = skip es; same = undeleted_skip es; left = c.in-Some-share_oldest.ensures.spare p es q (λ none. not_empty c.in-Some.entry.now (undeleted es) (c.in-Some.ensures tag.None es q.hung) none) }

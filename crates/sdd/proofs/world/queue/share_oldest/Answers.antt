@@ -1,11 +1,13 @@
 use Rattle.std.proofs.Common.{◌∙◌}
+use Rattle.sdd_base.specs.Tokens.{shared_slot}
 use Rattle.sdd_base.specs.declared.tag.Tag.TheVariants as tag
 use Rattle.sdd.specs.Chain.{skip}
 use Rattle.sdd.specs.Entries.{entry_link}
 use Rattle.sdd.specs.Queues.{oldest_cell, newest_cell}
 use Rattle.sdd.proofs.Fronts.{first_skipped, first_use}
 use Rattle.sdd.proofs.Firsts.{skipped_leaves}
-use Rattle.sdd.proofs.Queues.{skipped_queue, owned_queue}
+use Rattle.sdd.proofs.Queues.{skipped_queue, owned_queue, queue_back}
+use Rattle.sdd.proofs.Releases.{more_shared}
 use Rattle.sdd.proofs.world.queue.share_oldest.Goals as goal
 
 pub share_first-requires : goal.share_first-requires
@@ -36,3 +38,12 @@ returns-in-Some-clause-leaves g c = λ es q. skipped_leaves _ _ _ (oldest_cell c
 
 pub returns-in-None-clause-leaves : goal.returns-in-None-clause-leaves
 returns-in-None-clause-leaves g c = λ es q. skipped_leaves _ _ _ (oldest_cell c.args.queue.now) es (c.skip_deleted.ensures.leaves tag.None es q.hung) (c.share_first.ensures.leaves tag.None (skip es) (c.skip_deleted.ensures.skipped tag.None es q.hung))
+
+pub returns-in-Some-clause-spare : goal.returns-in-Some-clause-spare
+returns-in-Some-clause-spare g c = λ p es q some.
+    let s = c.skip_deleted.ensures in
+    let k = skipped_queue entry_link c.args.w.now c.skip_deleted.new.w (oldest_cell c.args.queue.now) (newest_cell c.args.queue.now) es q (s.leaves tag.None es q.hung) (s.skipped tag.None es q.hung) (s.same tag.None es q.hung) some in
+    queue_back entry_link p (shared_slot c.in-Some.owner) (oldest_cell c.args.queue.now) (newest_cell c.args.queue.now) (skip es) c.skip_deleted.new.w c.share_first.new.w c.in-Some.ensures.more k (returns-in-Some-clause-kept g c es q some)
+
+pub returns-in-Some-clause-owner : goal.returns-in-Some-clause-owner
+returns-in-Some-clause-owner g c = more_shared c.skip_deleted.new.w c.share_first.new.w (shared_slot c.in-Some.owner) c.in-Some.ensures.more

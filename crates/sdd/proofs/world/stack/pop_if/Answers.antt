@@ -1,10 +1,13 @@
-use Rattle.std.proofs.Common.{◌≡◌, ◌∙◌, sym, ap, subst, Bool, Option, IfSome, false, true}
+use Rattle.std.proofs.Common.{◌≡◌, ◌∙◌, ◌+◌, arith, sym, ap, subst, Bool, Option, IfSome, false, true}
 use Rattle.std.specs.Fn.{FnOnceReturnsAt}
 use Rattle.sdd_base.specs.declared.tag.Tag.TheVariants as tag
 use Rattle.sdd_base.specs.State.{status_at}
 use Rattle.sdd_base.specs.declared.status.Status.TheVariants as status
 use Rattle.sdd.specs.Chain.{skip, undeleted, first_item}
+use Rattle.sdd_base.specs.Tokens.{shared_slot}
+use Rattle.sdd.specs.Entries.{entry_link}
 use Rattle.sdd.specs.Stacks.{stack_cell}
+use Rattle.sdd.proofs.Releases.{more_shared, spare_owner}
 use Rattle.sdd.proofs.Fronts.{first_skipped, first_use, no_first}
 use Rattle.sdd.proofs.Firsts.{undeleted_skip, not_empty, skipped_leaves}
 use Rattle.sdd.proofs.world.stack.pop_if.Goals as goal
@@ -90,3 +93,11 @@ returns-in_default-clause-full g c = λ es h.
 pub returns-in-None-clause-full : goal.returns-in-None-clause-full
 returns-in-None-clause-full g c = λ es h.
     first_use 4294967295 es c.args.w.now c.skip_deleted.new.w (c.skip_deleted.ensures.same tag.None es h) (c.in-None.ensures.none tag.None (skip es) (c.skip_deleted.ensures.skipped tag.None es h))
+
+pub returns-in-Some-share_first-clause-owner : goal.returns-in-Some-share_first-clause-owner
+returns-in-Some-share_first-clause-owner g c = more_shared c.skip_deleted.new.w c.share_first.new.w (shared_slot c.in-Some-share_first.owner) c.in-Some-share_first.ensures.more
+
+pub returns-in-Some-share_first-clause-spare : goal.returns-in-Some-share_first-clause-spare
+returns-in-Some-share_first-clause-spare g c = λ p es h.
+    let m = c.in-Some-share_first.ensures.more in
+    spare_owner entry_link p (shared_slot c.in-Some-share_first.owner) (m.owners + 1) (stack_cell c.args.stack.now) tag.None (skip es) c.share_first.new.w m.now (let some = m.had in omega (arith, some)) (c.share_first.ensures.hung tag.None (skip es) (c.skip_deleted.ensures.skipped tag.None es h))

@@ -1,0 +1,5 @@
+use Rattle.sdd.proofs.Queues.{queue_stays}
+use Rattle.sdd.proofs.laws.queues_stay.Goals as goal
+
+pub returns : goal.returns
+returns g c = queue_stays g.L.LinkedList.link

@@ -1,0 +1,50 @@
+//! Clones of the values of a list, one after another.
+
+ghost use Rattle.std.specs.Prelude.{◌≡◌, List, [], IfOk, OnErr, MatchOption};
+ghost use Rattle.sdd_base.specs.Tokens.{link_cell, shared_cell};
+ghost use Rattle.sdd_base.specs.declared.tag.Tag.{Tag};
+ghost use Rattle.sdd.specs.Chain.{Entry, IsHung, Hangs};
+ghost use Rattle.sdd.specs.Copies.{ClonesAreSame};
+ghost use Rattle.sdd.specs.Entries.{entry_link};
+ghost use Rattle.sdd.specs.Fillings.{Copies, CantCopy};
+ghost use Rattle.sdd.specs.declared.linked_entry.LinkedEntry.{LinkedEntry};
+
+use crate::linked_entry::LinkedEntry;
+use crate::world::chain;
+use sdd_base::cell::AtomicShared;
+use sdd_base::link::Link;
+use sdd_base::world::World;
+use std::alloc::AllocError;
+
+/// The link of an entry, and a clone of its value unless it is deleted.
+#[derive(Drop)]
+pub(crate) struct Copied<T> {
+    pub(crate) link: Link<LinkedEntry<T>>,
+    pub(crate) value: Option<T>,
+}
+
+/// The first entry of a list, if there is one. Refused where its value's clone is.
+pub(crate) fn first<T: Clone>(
+    w: &World<LinkedEntry<T>>,
+    cell: &AtomicShared<LinkedEntry<T>>,
+) -> Result<Option<Copied<T>>, AllocError>
+    requires clones { ClonesAreSame T.is_clone }
+    requires list { Hangs entry_link w.now (shared_cell cell.now) }
+    ensures first { IfOk result (λ o. (t : Tag) (es : List (Entry (LinkedEntry T))) → IsHung entry_link w.now (shared_cell cell.now) t es → MatchOption o (es ≡ []) (λ k. Copies es (link_cell k.link) k.value)) }
+    ensures refused { OnErr result ((t : Tag) (es : List (Entry (LinkedEntry T))) → IsHung entry_link w.now (shared_cell cell.now) t es → CantCopy T.is_infallible es) }
+{
+    let Some(front) = chain::first(w, cell) else {
+        return Ok(None);
+    };
+    let link = Link::of(front.link);
+    if front.deleted {
+        return Ok(Some(Copied { link, value: None }));
+    }
+    let Ok(value) = front.item.as_ref().clone() else {
+        return Err(AllocError);
+    };
+    Ok(Some(Copied {
+        link,
+        value: Some(value),
+    }))
+}
