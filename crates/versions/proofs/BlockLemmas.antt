@@ -2,18 +2,16 @@
 use Rattle.std.proofs.Common.{◌≡◌, ℕ, zero, suc, ◌+◌, ◌-◌, ◌<◌, ◌≤◌, Option, None, Some, List, [], ◌∷◌, ◌++◌, length, map, take, get_or, slice_get, refl, sym, ap, ◌∙◌, arith, subst}
 use Rattle.std.specs.declared.cmp.Ordering.{Ordering}
 use Rattle.std.specs.List.{All}
-use Rattle.std.specs.List.Sorted.{IsStrictlySortedBy}
-use Rattle.leaf_array.specs.Pairs.{IsAscending}
 use Rattle.std.specs.Option.{IsSome}
 use Rattle.std.proofs.lemmas.List.{length-map, length-take}
 use Rattle.sdd_base.specs.Tokens.{kept_slot}
 use Rattle.sdd_base.specs.declared.owner.Kept.{Kept}
 use Rattle.tree_index.proofs.WayLemmas.{some_same}
-use Rattle.versions.specs.Cuts.{IsCut, IsSeparated, pairs_in, greatest_key}
-use Rattle.versions.specs.Reading.{IsPlaceOf}
+use Rattle.versions.specs.Cuts.{IsCut, IsSeparated, greatest_key}
 use Rattle.versions.specs.Versions.{IsSegment, pairs_of}
 use Rattle.versions.specs.declared.item.Item.{Item}
 use Rattle.versions.specs.declared.item.Item.TheVariants as items
+use Rattle.versions.proofs.Filters.{rising_none}
 
 pub slice_of : {X : Type 0} (xs : List X) (i : ℕ) (d : X) → i < length xs → slice_get xs i ≡ Some (get_or xs i d)
 slice_of [] i d h = absurd (omega (arith, h))
@@ -70,14 +68,10 @@ place_inside blocks keys place sep h some =
     omega (arith, size, taken, h, some)
 
 -- no pairs are cut into no blocks
-rising_nil : (K V : Type 0) (cmp : K → K → Ordering) → IsAscending {K = K} {V = V} cmp []
-unfolding IsStrictlySortedBy
-rising_nil K V cmp = tt
-
 pub cut_nil : {K V : Type 0} (cmp : K → K → Ordering) (s : ℕ) → IsCut {K = K} {V = V} cmp s [] []
 cut_nil {K} {V} cmp s = record {
   sizes = λ k d h. absurd (omega (arith, h));
   tight = tt;
-  rising = rising_nil K V cmp;
+  rising = rising_none V cmp;
   separated = (let nil : List (List (K × V)) = [] in let none : 0 ≡ length nil - 1 = omega arith in ap (λ n. map greatest_key (take n nil)) none);
 }

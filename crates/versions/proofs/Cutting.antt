@@ -1,16 +1,14 @@
 -- A list that is being cut takes more, and ends.
-use Rattle.std.proofs.Common.{◌≡◌, ◌≢◌, ℕ, ◌+◌, ◌-◌, ◌≤◌, ◌<◌, List, [], ◌∷◌, ◌++◌, Option, Some, length, map, take, append_assoc, append-nil, length-append, refl, sym, ap, ◌∙◌, subst, arith}
+use Rattle.std.proofs.Common.{◌≡◌, ℕ, ◌+◌, ◌-◌, ◌≤◌, ◌<◌, List, [], ◌∷◌, ◌++◌, Some, length, map, append_assoc, append-nil, length-append, refl, sym, ap, ◌∙◌, subst, arith}
 use Rattle.std.proofs.lemmas.List.{map-append, take_at}
 use Rattle.std.proofs.lemmas.List.Elements.{All-push, All-head, All-tail, All-nil, All-weaker}
 use Rattle.std.specs.Cmp.{IsTotalOrder}
 use Rattle.std.specs.declared.cmp.Ordering.{Ordering}
-use Rattle.std.specs.declared.cmp.Ordering.TheVariants.{Less}
 use Rattle.std.specs.List.{All}
 use Rattle.leaf_array.specs.Edits.{upserted}
 use Rattle.leaf_array.specs.Pairs.{IsAscending}
-use Rattle.tree_index.specs.Shape.{AllKeys}
 use Rattle.tree_index.proofs.CopyLemmas.{upserted_behind}
-use Rattle.versions.specs.Cuts.{greatest_key, pairs_in, IsCut, IsTight, IsSeparated, OutgrowsWith}
+use Rattle.versions.specs.Cuts.{greatest_key, pairs_in, IsCut, IsTight, OutgrowsWith}
 use Rattle.versions.specs.Cutting.{IsCutting}
 use Rattle.versions.proofs.Blocks.{pairs_in-append}
 use Rattle.versions.proofs.Filters.{rising_under, rising_none, all_rear}

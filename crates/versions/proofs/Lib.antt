@@ -9,3 +9,6 @@ pub mod Ranges
 pub mod Cutting
 pub mod Streams
 pub mod Merging
+pub mod Remains
+pub mod Reclaiming
+pub mod Sweeping

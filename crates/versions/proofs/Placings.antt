@@ -1,16 +1,15 @@
 -- placing segments, and then the directory that owns them
-use Rattle.std.proofs.Common.{◌≡◌, ◌≢◌, ℕ, zero, suc, ◌+◌, ◌<◌, ◌≤◌, ◌==◌, true, false, Option, None, Some, List, [], ◌∷◌, ◌++◌, length, get_or, set, ◌⊎◌, map, reverse, refl, sym, ap, ◌∙◌, arith, length-set, subst, get_or-set_other, get_or-set_same, inl, inr, is_some, sum_by}
+use Rattle.std.proofs.Common.{◌≡◌, ◌≢◌, ℕ, zero, suc, ◌+◌, ◌<◌, ◌≤◌, Option, None, Some, List, [], ◌∷◌, ◌++◌, length, get_or, map, reverse, refl, sym, ap, ◌∙◌, arith, length-set, subst, get_or-set_other, get_or-set_same, inl, inr, sum_by}
 use Rattle.std.proofs.lemmas.Bool.{false≢true}
-use Rattle.std.proofs.lemmas.Bool.Decides.{eqb_tells, nat_tests}
+use Rattle.std.proofs.lemmas.Bool.Decides.{eqb_tells}
 use Rattle.std.proofs.lemmas.List.{map-append, reverse-append, length-append}
 use Rattle.std.proofs.lemmas.List.Sums.{sum_by-set, sum_by-cons, sum_by-append}
 use Rattle.std.specs.declared.cmp.Ordering.{Ordering}
 use Rattle.sdd_base.specs.Counting.{Counted, tally, same_hold}
-use Rattle.sdd_base.specs.Frame.{Keeps, IsLive, has_owner, Protects}
-use Rattle.sdd_base.specs.Holding.{Hold, OwnedItem, SharedItem, OwnedIn, SharedIn}
-use Rattle.sdd_base.specs.Passing.{IsLayered, IsPlain, is_plain, slot_held}
+use Rattle.sdd_base.specs.Frame.{Keeps, IsLive, has_owner}
+use Rattle.sdd_base.specs.Holding.{Hold, SharedItem}
 use Rattle.sdd_base.specs.Place.{IsPlace, IsShared, IsOpen}
-use Rattle.sdd_base.specs.State.{State, value_at, status_at, vacancy, usage, in_use, placed, is_used, IsFree, Member, nobody}
+use Rattle.sdd_base.specs.State.{State, value_at, status_at, vacancy, usage, placed, IsFree, Member, nobody}
 use Rattle.sdd_base.specs.declared.status.Status.{Status}
 use Rattle.sdd_base.specs.declared.status.Status.TheVariants as status
 use Rattle.sdd_base.proofs.Counts.{counted_placed_shared, owners_are_counted}
@@ -21,8 +20,8 @@ use Rattle.std.specs.List.{All}
 use Rattle.std.proofs.lemmas.List.Elements.{All-push}
 use Rattle.versions.specs.Cuts.{IsCut, pairs_in}
 use Rattle.versions.specs.Items.{held_by, slots_of}
-use Rattle.versions.specs.Placing.{Plan, slots_for, IsNoDirectory, IsLevelled, Adds, StandsIn, HasVersion, Places}
-use Rattle.versions.specs.Versions.{IsSegment, IsVersion, pairs_of, blocks_of, list_of}
+use Rattle.versions.specs.Placing.{IsNoDirectory, IsLevelled, Adds, StandsIn, Places}
+use Rattle.versions.specs.Versions.{IsSegment, pairs_of, blocks_of}
 use Rattle.versions.specs.declared.directory.Directory.{Directory}
 use Rattle.versions.specs.declared.item.Item.{Item}
 use Rattle.versions.specs.declared.item.Item.TheVariants as items
@@ -178,7 +177,7 @@ module _ {K V : Type 0} {s : ℕ} where
       slots_same : (o : Option (Item K V s)) (e d : Directory K) → o ≡ Some (items.Directory e) → o ≡ Some (items.Directory d) → slots_of e ≡ slots_of d
       slots_same o e d h k = cc
 
-  keeps_then : (u v w : State (Item K V s)) → v.members ≡ u.members → ((i : ℕ) → IsLive u i → IsLive v i) → Keeps u v → Keeps v w → Keeps u w
+  pub keeps_then : (u v w : State (Item K V s)) → v.members ≡ u.members → ((i : ℕ) → IsLive u i → IsLive v i) → Keeps u v → Keeps v w → Keeps u w
   keeps_then u v w same still_live a b = record {
     states = b.states ∙ a.states;
     cells = b.cells ∙ a.cells;

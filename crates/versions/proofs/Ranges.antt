@@ -1,5 +1,5 @@
 -- A range that is removed from what changes make of a list.
-use Rattle.std.proofs.Common.{◌≡◌, Bool, true, false, not, cond, ◌&&◌, List, [], ◌∷◌, Option, None, refl, sym, ap, ◌∙◌}
+use Rattle.std.proofs.Common.{◌≡◌, Bool, true, false, not, cond, List, [], ◌∷◌, Option, None, refl, sym, ap, ◌∙◌}
 use Rattle.std.proofs.lemmas.Bool.{false≢true}
 use Rattle.std.proofs.lemmas.Cmp.{alike_right}
 use Rattle.std.specs.BTreeMap.{is_at}
@@ -12,12 +12,11 @@ use Rattle.std.specs.declared.ops.Bound.TheVariants.{Included, Excluded, Unbound
 use Rattle.std.specs.Ordering.{is_lt, is_le, is_eq}
 use Rattle.leaf_array.specs.Edits.{removed, upserted}
 use Rattle.leaf_array.specs.Pairs.{IsAscending}
-use Rattle.tree_index.specs.Shape.{AllKeys}
 use Rattle.tree_index.proofs.ArenaLemmas.{all_filtered}
 use Rattle.tree_index.proofs.LeafLemmas.{filter_all}
 use Rattle.tree_index.proofs.ShapeLemmas.{all_weaken}
 use Rattle.versions.specs.Changes.{amended}
-use Rattle.versions.proofs.Filters.{on_test, kept, kept_swap, kept_narrow, kept_none, rising_head, rising_tail, rising_kept, IsFair}
+use Rattle.versions.proofs.Filters.{kept, kept_swap, kept_narrow, kept_none, rising_head, rising_kept, IsFair}
 use Rattle.versions.proofs.Amends.{kept_amended, noted_none}
 
 abbrev pub outside : {K : Type 0} → (K → Bool) → K → Bool

@@ -1,5 +1,5 @@
 -- a key is sought in the block that its separators name
-use Rattle.std.proofs.Common.{◌≡◌, ◌≢◌, ℕ, zero, suc, ◌+◌, ◌-◌, ◌<◌, ◌≤◌, Option, None, Some, List, [], ◌∷◌, ◌++◌, length, map, take, drop, slice_get, refl, sym, ap, ◌∙◌, arith, subst, append_assoc, append-nil, inl, inr, ◌⊎◌}
+use Rattle.std.proofs.Common.{◌≡◌, ◌≢◌, ℕ, zero, suc, ◌+◌, ◌-◌, ◌<◌, ◌≤◌, Option, None, Some, List, [], ◌∷◌, ◌++◌, length, take, drop, slice_get, refl, sym, ap, ◌∙◌, arith, subst, append_assoc, append-nil, inl, inr, ◌⊎◌}
 use Rattle.std.specs.declared.cmp.Ordering.{Ordering}
 use Rattle.std.specs.declared.cmp.Ordering.TheVariants.{Less, Equal, Greater}
 use Rattle.std.specs.Cmp.{IsTotalOrder}
@@ -17,6 +17,7 @@ use Rattle.tree_index.proofs.WayLemmas.{lookup_middle, has_middle}
 use Rattle.tree_index.proofs.ShapeLemmas.{upto_less}
 use Rattle.versions.specs.Cuts.{pairs_in, greatest_key, IsSeparated}
 use Rattle.versions.specs.Reading.{IsPlaceOf}
+use Rattle.versions.proofs.Filters.{rising_front, rising_rear}
 
 taken_get : {X : Type 0} (xs : List X) (n i : ℕ) → i < n → slice_get (take n xs) i ≡ slice_get xs i
 taken_get [] zero i h = refl
@@ -90,20 +91,6 @@ module _ {K V : Type 0} where
       ∙ ap (option_map greatest_key) (taken_get blocks (length blocks - 1) i (omega (arith, h)))
 
   module _ (cmp : K → K → Ordering) (o : IsTotalOrder cmp) where
-    rising_left : (xs ys : List (K × V)) → IsAscending cmp (xs ++ ys) → IsAscending cmp xs
-    unfolding IsStrictlySortedBy
-    rising_left [] ys h = tt
-    rising_left (x ∷ xs) ys h = (all_left x xs ys h.0, rising_left xs ys h.1)
-      where
-        all_left : (x : K × V) (xs ys : List (K × V)) → AllByRecursion (λ y. cmp x.0 y ≡ Less) (keys_of (xs ++ ys)) → AllByRecursion (λ y. cmp x.0 y ≡ Less) (keys_of xs)
-        all_left x [] ys a = tt
-        all_left x (z ∷ xs) ys a = (a.0, all_left x xs ys a.1)
-
-    rising_right : (xs ys : List (K × V)) → IsAscending cmp (xs ++ ys) → IsAscending cmp ys
-    unfolding IsStrictlySortedBy
-    rising_right [] ys h = h
-    rising_right (x ∷ xs) ys h = rising_right xs ys h.1
-
     last_above : (x : K × V) (xs : List (K × V)) (p : K × V) (ys : List (K × V)) → AllByRecursion (λ y. cmp x.0 y ≡ Less) (keys_of (xs ++ p ∷ ys)) → cmp x.0 p.0 ≡ Less
     last_above x [] p ys a = a.0
     last_above x (z ∷ xs) p ys a = last_above x xs p ys a.1
@@ -149,7 +136,7 @@ module _ {K V : Type 0} where
           let e = ends_in j (omega (arith, inside)) in
           let is : pairs_in (take (suc j) blocks) ≡ (pairs_in (take j blocks) ++ e.2) ++ e.1 ∷ [] = up_to_block blocks j e.0 e.3 ∙ ap (λ c. pairs_in (take j blocks) ++ c) e.5 ∙ sym (append_assoc (pairs_in (take j blocks)) e.2 (e.1 ∷ [])) in
           let whole = around_block blocks (suc j) b here in
-          let up : IsAscending cmp (pairs_in (take (suc j) blocks)) = rising_left (pairs_in (take (suc j) blocks)) (b ++ pairs_in (drop (suc (suc j)) blocks)) (subst (IsAscending cmp) whole rising) in
+          let up : IsAscending cmp (pairs_in (take (suc j) blocks)) = rising_front cmp (pairs_in (take (suc j) blocks)) (b ++ pairs_in (drop (suc (suc j)) blocks)) (subst (IsAscending cmp) whole rising) in
           subst (λ ps. AllKeys (λ k. cmp k key ≡ Less) ps) (sym is) (before_end key (pairs_in (take j blocks) ++ e.2) e.1 (subst (IsAscending cmp) is up) (at.before j e.1.0 (omega arith) e.4))
 
       back_above : (place : ℕ) (b : List (K × V)) → IsPlaceOf cmp key keys place → slice_get blocks place ≡ Some b → AllKeys (λ k. cmp key k ≡ Less) (pairs_in (drop (suc place) blocks))
@@ -160,9 +147,9 @@ module _ {K V : Type 0} where
             let back = pairs_in (drop (suc place) blocks) in
             let same : b ≡ e.2 ++ e.1 ∷ [] = some_block b e.0 (sym here ∙ e.3) ∙ e.5 in
             let whole = around_block blocks place b here in
-            let up : IsAscending cmp (b ++ back) = rising_right (pairs_in (take place blocks)) (b ++ back) (subst (IsAscending cmp) whole rising) in
+            let up : IsAscending cmp (b ++ back) = rising_rear cmp (pairs_in (take place blocks)) (b ++ back) (subst (IsAscending cmp) whole rising) in
             let split : b ++ back ≡ e.2 ++ (e.1 ∷ back) = ap (λ c. c ++ back) same ∙ append_assoc e.2 (e.1 ∷ []) back in
-            let tail : IsAscending cmp (e.1 ∷ back) = rising_right e.2 (e.1 ∷ back) (subst (IsAscending cmp) split up) in
+            let tail : IsAscending cmp (e.1 ∷ back) = rising_rear cmp e.2 (e.1 ∷ back) (subst (IsAscending cmp) split up) in
             behind_end key e.1 back (sorted_head cmp e.1.0 (keys_of back) tail) (at.behind e.1.0 e.4)
       ]
         where

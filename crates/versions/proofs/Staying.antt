@@ -1,5 +1,5 @@
 -- versions stay whole
-use Rattle.std.proofs.Common.{◌≡◌, ℕ, ◌<◌, ◌≤◌, Option, Some, List, get_or, map, sym, ap, ◌∙◌, arith, subst, length, true}
+use Rattle.std.proofs.Common.{◌≡◌, ℕ, ◌<◌, ◌≤◌, Option, Some, List, get_or, map, sym, ap, ◌∙◌, arith, subst, length}
 use Rattle.std.specs.declared.cmp.Ordering.{Ordering}
 use Rattle.std.specs.List.{All}
 use Rattle.sdd_base.specs.Counting.{Counted, tally}
@@ -13,7 +13,7 @@ use Rattle.versions.specs.Cuts.{IsCut, pairs_in}
 use Rattle.versions.specs.Items.{held_by, slots_of}
 use Rattle.versions.specs.Placing.{HasVersion}
 use Rattle.versions.specs.Staying.{IsSeen, VersionsStay}
-use Rattle.versions.specs.Versions.{IsSegment, IsVersion, blocks_of, list_of, pairs_of}
+use Rattle.versions.specs.Versions.{IsSegment, blocks_of, pairs_of}
 use Rattle.versions.specs.declared.directory.Directory.{Directory}
 use Rattle.versions.specs.declared.item.Item.{Item}
 use Rattle.versions.specs.declared.item.Item.TheVariants as items

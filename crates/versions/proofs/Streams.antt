@@ -1,5 +1,5 @@
 -- Pairs that are yet to be read.
-use Rattle.std.proofs.Common.{◌≡◌, ℕ, zero, suc, ◌+◌, ◌-◌, ◌≤◌, ◌<◌, Bool, true, false, cond, nat_lt, List, [], ◌∷◌, ◌++◌, drop, length, Option, Some, None, refl, sym, ap, ◌∙◌, arith}
+use Rattle.std.proofs.Common.{◌≡◌, ℕ, zero, suc, ◌+◌, ◌-◌, ◌≤◌, true, false, cond, nat_lt, List, [], ◌∷◌, ◌++◌, drop, length, Option, Some, None, refl, sym, ap, ◌∙◌, arith}
 use Rattle.std.proofs.lemmas.Bool.{lt-ltb}
 use Rattle.std.proofs.lemmas.Bool.Decides.{nat_tests}
 use Rattle.std.specs.Prelude.{slice_get}
@@ -8,8 +8,8 @@ use Rattle.std.specs.declared.ops.Bound.TheVariants.{Unbounded}
 use Rattle.tree_index.specs.declared.cursor.End.{End}
 use Rattle.tree_index.specs.declared.cursor.End.TheVariants.{Unopened, At, Done}
 use Rattle.std.specs.Borrow.{Bor}
-use Rattle.std.specs.Option.{is_some, option_map}
-use Rattle.tree_index.specs.Cursor.{Cursor, whole, forth, back, up_to_end, kept_below, kept_above, lies_before, pair_at, referred, moved_forth, next_back_of}
+use Rattle.std.specs.Option.{is_some}
+use Rattle.tree_index.specs.Cursor.{Cursor, whole, forth, up_to_end, kept_below, kept_above, pair_at, referred, moved_forth, next_back_of}
 use Rattle.versions.specs.Cuts.{pairs_in}
 use Rattle.versions.specs.Streams.{pairs_from, unread, IsReading}
 

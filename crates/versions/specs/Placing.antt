@@ -1,5 +1,5 @@
 -- what placing a version makes of a place
-use Rattle.std.specs.Prelude.{◌≡◌, ◌≢◌, ℕ, ◌+◌, ◌∷◌, ◌++◌, [], List, map, length, reverse, sum_by, Option, None, Some}
+use Rattle.std.specs.Prelude.{◌≡◌, ℕ, ◌+◌, ◌∷◌, ◌++◌, List, map, length, reverse, sum_by, Option, None, Some}
 use Rattle.std.specs.declared.cmp.Ordering.{Ordering}
 use Rattle.std.specs.List.{All}
 use Rattle.sdd_base.specs.Counting.{Counted}
@@ -7,10 +7,8 @@ use Rattle.sdd_base.specs.Frame.{Keeps, IsLive}
 use Rattle.sdd_base.specs.Holding.{Hold, SharedItem}
 use Rattle.sdd_base.specs.Passing.{IsPlain}
 use Rattle.sdd_base.specs.Place.{IsShared}
-use Rattle.sdd_base.specs.State.{State, value_at, vacancy, in_use, with_cell}
+use Rattle.sdd_base.specs.State.{State, value_at, vacancy, in_use}
 use Rattle.sdd_base.specs.Steps.{released}
-use Rattle.sdd_base.specs.declared.status.Cell.TheVariants as cell
-use Rattle.sdd_base.specs.declared.tag.Tag.TheVariants as tag
 use Rattle.versions.specs.Cuts.{pairs_in}
 use Rattle.versions.specs.Items.{held_by, slots_of}
 use Rattle.versions.specs.Versions.{IsSegment, IsVersion, pairs_of, list_of}

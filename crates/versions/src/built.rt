@@ -15,6 +15,7 @@ use crate::item::Item;
 use crate::read::Reading;
 use crate::segments::Segments;
 use crate::write::{Reply, Write};
+use sdd_base::job::NoJob;
 use sdd_base::owner::Kept;
 use sdd_base::world::World;
 use std::alloc::{AllocError, Global};
@@ -92,7 +93,7 @@ impl<K: Ord + Drop, V: Drop, const S: usize> Drop for Built<K, V, S> {
 /// Nothing is placed yet.
 pub fn build<K: Clone + Ord + Drop, V: Clone + Drop, const S: usize>(
     alloc: Global,
-    w: &World<Item<K, V, S>>,
+    w: &World<Item<K, V, S>, NoJob>,
     dir: &Directory<K>,
     writes: &[Write<K, V>],
 ) -> Result<(Built<K, V, S>, Vec<Reply>), AllocError>

@@ -37,7 +37,7 @@ mod write;
 pub use built::{Built, build};
 pub use directory::Directory;
 pub use item::Item;
-pub use laws::{segments_are_few, versions_stay};
+pub use laws::{passes_leave_one, segments_are_few, sweeps_leave_none, versions_stay};
 pub use placing::{place, publish};
 pub use read::{len, look_up, version, version_at};
 pub use source::Source;

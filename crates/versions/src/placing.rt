@@ -12,6 +12,7 @@ use crate::directory::Directory;
 use crate::item::Item;
 use crate::segments::Segments;
 use sdd_base::cell::AtomicShared;
+use sdd_base::job::NoJob;
 use sdd_base::owner::{Kept, Shared};
 use sdd_base::status::{Cell, Status};
 use sdd_base::tag::Tag;
@@ -21,7 +22,7 @@ use tree_index::TreeIndex;
 /// Places a version: its segments, and then its directory, which owns them. It takes no memory, and succeeds where so
 /// many slots are free as it takes; else nothing has changed, and the version comes back.
 pub fn place<K: Ord + Drop, V: Drop, const S: usize>(
-    w: &mut World<Item<K, V, S>>,
+    w: &mut World<Item<K, V, S>, NoJob>,
     built: Built<K, V, S>,
 ) -> Result<Shared<Item<K, V, S>>, Built<K, V, S>>
     requires { 0 ≤ length w.old.cells }
@@ -56,7 +57,7 @@ pub fn place<K: Ord + Drop, V: Drop, const S: usize>(
 
 /// Places segments, and keeps their owners.
 fn place_segments<K: Ord + Drop, V: Drop, const S: usize>(
-    w: &mut World<Item<K, V, S>>,
+    w: &mut World<Item<K, V, S>, NoJob>,
     trees: Vec<TreeIndex<K, V>>,
     mut owners: Vec<Kept>,
 ) -> Vec<Kept>
@@ -75,7 +76,7 @@ fn place_segments<K: Ord + Drop, V: Drop, const S: usize>(
 
 /// Places a segment where a slot is free.
 fn place_segment<K: Ord + Drop, V: Drop, const S: usize>(
-    w: &mut World<Item<K, V, S>>,
+    w: &mut World<Item<K, V, S>, NoJob>,
     tree: TreeIndex<K, V>,
 ) -> Kept
     requires { 1 ≤ sum_by vacancy w.old.states }
@@ -92,7 +93,7 @@ fn place_segment<K: Ord + Drop, V: Drop, const S: usize>(
 /// Makes a placed version the one that the root names, in one exchange, and gives the owner of the older one back, by
 /// participant `p`.
 pub fn publish<K: Ord, V, const S: usize>(
-    w: &mut World<Item<K, V, S>>,
+    w: &mut World<Item<K, V, S>, NoJob>,
     root: &AtomicShared<Item<K, V, S>>,
     new: Shared<Item<K, V, S>>,
     p: usize,

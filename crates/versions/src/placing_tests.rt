@@ -1,6 +1,10 @@
-ghost use Rattle.std.specs.Prelude.{◌≡◌, ◌<◌, length, Ok};
+ghost use Rattle.std.specs.Prelude.{◌≡◌, ◌<◌, List, length, Ok};
+ghost use Rattle.sdd_base.specs.Counting.{Counted};
+ghost use Rattle.sdd_base.specs.Holding.{Hold};
+ghost use Rattle.versions.specs.Items.{held_by};
 
 use super::*;
+use sdd_base::job::NoJob;
 use sdd_base::owner::Shared;
 use sdd_base::sizes::Sizes;
 use sdd_base::world::{World, atomic_shared, guard, shared};
@@ -32,12 +36,14 @@ fn upserts(alloc: Global, keys: &[u64]) -> Result<Vec<Write<u64, u64>>, AllocErr
     Ok(writes)
 }
 
-// Accelerated guards of participant 0, one by one.
-fn passes(w: &mut World<Two>, n: usize)
+// Accelerated guards of participant 0, one by one. Owners stay counted.
+fn passes(w: &mut World<Two, NoJob>, n: usize)
     requires { 0 < length w.old.members }
-    ensures { 0 < length w.new.members }
+    ensures members { 0 < length w.new.members }
+    ensures counted { (hand : List Hold) → Counted held_by hand w.old → Counted held_by hand w.new }
 {
     for _ in 0..n {
+        w.laws();
         if let Ok(open) = guard::new(w, 0) {
             guard::accelerate(w, &open);
             guard::close(w, open);
@@ -56,7 +62,7 @@ fn placed<R: Abort>(rt: &R, made: Result<Shared<Two>, Built<u64, u64, 2>>) -> Sh
 }
 
 // Ends a place in which nothing is left.
-fn end<R: Abort>(rt: &R, w: World<Two>) {
+fn end<R: Abort>(rt: &R, w: World<Two, NoJob>) {
     match w.close() {
         Ok(()) => {}
         Err(_) => panic!(rt; "something is left"),
@@ -67,7 +73,7 @@ fn end<R: Abort>(rt: &R, w: World<Two>) {
 fn a_version_takes_a_slot_for_each_segment_and_one(rt: HostRuntime) -> Result<(), Fail> {
     let alloc = rt.alloc();
     let writes = upserts(alloc, &[1, 2, 3, 4, 5])?;
-    let mut w: World<Two> = match World::new(alloc, sizes(16)) {
+    let mut w: World<Two, NoJob> = match World::new(alloc, sizes(16)) {
         Ok(w) => w,
         Err(_) => panic!(rt; "no room for a place"),
     };
@@ -94,6 +100,8 @@ fn a_version_takes_a_slot_for_each_segment_and_one(rt: HostRuntime) -> Result<()
     assert_eq!(rt; look_up(&w, dir, &6).map(|p| *p.1), None);
     publish(&mut w, &root, second, 0);
     assert_eq!(rt; w.slots_in_use(), 5);
+    passes(&mut w, 8);
+    assert_eq!(rt; w.slots_in_use(), 4);
     atomic_shared::retire(&mut w, root, 0);
     passes(&mut w, 7);
     assert_eq!(rt; w.slots_in_use(), 0);
@@ -105,7 +113,7 @@ fn a_version_takes_a_slot_for_each_segment_and_one(rt: HostRuntime) -> Result<()
 fn a_version_that_finds_no_room_comes_back(rt: HostRuntime) -> Result<(), Fail> {
     let alloc = rt.alloc();
     let writes = upserts(alloc, &[1, 2, 3, 4, 5])?;
-    let mut w: World<Two> = match World::new(alloc, sizes(4)) {
+    let mut w: World<Two, NoJob> = match World::new(alloc, sizes(4)) {
         Ok(w) => w,
         Err(_) => panic!(rt; "no room for a place"),
     };

@@ -5,7 +5,7 @@ ghost use Rattle.std.specs.BTreeMap.{is_at};
 ghost use Rattle.std.specs.Map.{lookup_entry};
 ghost use Rattle.sdd_base.specs.Place.{IsReadable, IsShared};
 ghost use Rattle.sdd_base.specs.State.{value_at};
-ghost use Rattle.sdd_base.specs.Tokens.{ptr_slot, shared_slot};
+ghost use Rattle.sdd_base.specs.Tokens.{loaded_slot, shared_slot};
 ghost use Rattle.versions.specs.Items.{slots_of};
 ghost use Rattle.versions.specs.Placing.{HasVersion};
 ghost use Rattle.versions.specs.Reading.{IsPlaceOf};
@@ -15,8 +15,9 @@ use crate::directory::Directory;
 use crate::draft::Old;
 use crate::item::Item;
 use crate::source::Source;
+use sdd_base::job::NoJob;
 use sdd_base::owner::Shared;
-use sdd_base::pointer::Ptr;
+use sdd_base::pointer::Loaded;
 use sdd_base::world::{World, shared};
 use std::alloc::{AllocError, Global};
 use std::cmp::Ordering;
@@ -26,7 +27,7 @@ use tree_index::TreeIndex;
 /// The pair with this key in the list of a version: one search of the directory by halving, and one of a tree. It clones
 /// nothing.
 pub fn look_up<'s, K: Ord, V, const S: usize>(
-    w: &'s World<Item<K, V, S>>,
+    w: &'s World<Item<K, V, S>, NoJob>,
     dir: &Directory<K>,
     key: &K,
 ) -> Option<(&'s K, &'s V)>
@@ -42,7 +43,7 @@ pub fn look_up<'s, K: Ord, V, const S: usize>(
 
 /// The directory of a version that has an owner.
 pub fn version<'w, K: Ord, V, const S: usize>(
-    w: &'w World<Item<K, V, S>>,
+    w: &'w World<Item<K, V, S>, NoJob>,
     root: &Shared<Item<K, V, S>>,
 ) -> &'w Directory<K>
     requires shared { IsShared w.now (shared_slot root.now) }
@@ -56,17 +57,17 @@ pub fn version<'w, K: Ord, V, const S: usize>(
     }
 }
 
-/// The directory of a version that an open guard protects, by a pointer that was loaded under it.
+/// The directory of a version that an open guard protects, as it was loaded under it.
 pub fn version_at<'w, K: Ord, V, const S: usize>(
-    w: &'w World<Item<K, V, S>>,
-    at: &Ptr<'static, Item<K, V, S>>,
+    w: &'w World<Item<K, V, S>, NoJob>,
+    at: &Loaded<Item<K, V, S>>,
 ) -> &'w Directory<K>
-    requires readable { IsReadable w.now (ptr_slot at.now) }
-    requires version { (i n : ℕ) × (ps : List (K × V)) × (ptr_slot at.now ≡ Some i) × HasVersion K.cmp w.now i n ps }
+    requires readable { IsReadable w.now (loaded_slot at.now) }
+    requires version { (i n : ℕ) × (ps : List (K × V)) × (loaded_slot at.now ≡ Some i) × HasVersion K.cmp w.now i n ps }
     ensures version { IsVersion K.cmp (value_at w.now) result.now }
-    ensures is { (i n : ℕ) (ps : List (K × V)) → ptr_slot at.now ≡ Some i → HasVersion K.cmp w.now i n ps → (list_of (value_at w.now) result.now ≡ ps) × (result.now.number ≡ n) }
+    ensures is { (i n : ℕ) (ps : List (K × V)) → loaded_slot at.now ≡ Some i → HasVersion K.cmp w.now i n ps → (list_of (value_at w.now) result.now ≡ ps) × (result.now.number ≡ n) }
 {
-    match w.read(at) {
+    match w.read_loaded(at) {
         Some(item) => match item.directory() {
             Some(directory) => directory,
             None => unreachable!(),
@@ -76,7 +77,7 @@ pub fn version_at<'w, K: Ord, V, const S: usize>(
 }
 
 /// How many pairs the list of a version has.
-pub fn len<K: Ord, V, const S: usize>(w: &World<Item<K, V, S>>, dir: &Directory<K>) -> usize
+pub fn len<K: Ord, V, const S: usize>(w: &World<Item<K, V, S>, NoJob>, dir: &Directory<K>) -> usize
     requires { IsVersion K.cmp (value_at w.now) dir.now }
     ensures { result ≡ length (list_of (value_at w.now) dir.now) }
 {
@@ -84,7 +85,7 @@ pub fn len<K: Ord, V, const S: usize>(w: &World<Item<K, V, S>>, dir: &Directory<
     dir.length
 }
 
-/// Which segment alone may have the key: that behind the separators that are less than it.
+/// The segment whose keys are the last ones that the key may be among.
 fn place_of<K: Ord>(separators: &[K], key: &K) -> usize
     ensures { IsPlaceOf K.cmp key.now separators.now result }
 {
@@ -103,7 +104,7 @@ fn place_of<K: Ord>(separators: &[K], key: &K) -> usize
 
 /// The tree of a segment.
 pub(crate) fn segment<'s, K: Ord, V, const S: usize>(
-    w: &'s World<Item<K, V, S>>,
+    w: &'s World<Item<K, V, S>, NoJob>,
     dir: &Directory<K>,
     place: usize,
 ) -> &'s TreeIndex<K, V>
@@ -136,7 +137,7 @@ impl<'a, K: Ord, V> Reading<'a, K, V> {
     /// The segments of a version.
     pub(crate) fn new<const S: usize>(
         alloc: Global,
-        w: &'a World<Item<K, V, S>>,
+        w: &'a World<Item<K, V, S>, NoJob>,
         dir: &'a Directory<K>,
     ) -> Result<Self, AllocError>
         requires { IsVersion K.cmp (value_at w.now) dir.now }

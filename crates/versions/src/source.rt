@@ -3,6 +3,7 @@
 ghost use Rattle.std.specs.Prelude.{◌≡◌, ℕ, Option, Some, IsSome};
 ghost use Rattle.sdd_base.specs.Tokens.{kept_slot};
 
+use sdd_base::job::Deferred;
 use sdd_base::owner::Kept;
 use sdd_base::world::{World, shared};
 
@@ -17,7 +18,7 @@ pub trait Source<T> {
         ensures { Some result.now ≡ items self.now (kept_slot at.now) };
 }
 
-impl<T> Source<T> for World<T> {
+impl<T, J: Deferred> Source<T> for World<T, J> {
     ghost use Rattle.sdd_base.specs.State.{value_at};
 
     ghost items = { λ w i. value_at w i };

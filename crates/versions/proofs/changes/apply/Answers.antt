@@ -1,4 +1,4 @@
-use Rattle.std.proofs.Common.{◌≡◌, cond, Some, sym, ap, ◌∙◌}
+use Rattle.std.proofs.Common.{cond, Some, sym, ap, ◌∙◌}
 use Rattle.leaf_array.specs.Edits.{upserted}
 use Rattle.versions.specs.Changes.{amended}
 use Rattle.versions.specs.Cuts.{pairs_in}

@@ -1,4 +1,4 @@
-use Rattle.std.proofs.Common.{◌≡◌, Some, ◌∙◌, sym, ap}
+use Rattle.std.proofs.Common.{◌∙◌, sym, ap}
 use Rattle.leaf_array.specs.Pairs.{has_key}
 use Rattle.versions.specs.Cuts.{pairs_in}
 use Rattle.versions.proofs.Amends.{found, has_amended}

@@ -1,4 +1,4 @@
-use Rattle.std.proofs.Common.{◌≡◌, true, false, [], drop, refl, sym, ap, ◌∙◌, subst}
+use Rattle.std.proofs.Common.{◌≡◌, true, false, drop, refl, sym, ◌∙◌, subst}
 use Rattle.std.specs.BTreeMap.Range.{range_contains}
 use Rattle.leaf_array.specs.Pairs.{IsAscending}
 use Rattle.versions.specs.Changes.{amended}

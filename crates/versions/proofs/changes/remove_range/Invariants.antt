@@ -1,4 +1,4 @@
-use Rattle.std.proofs.Common.{◌≡◌, length, not}
+use Rattle.std.proofs.Common.{length, not}
 use Rattle.std.specs.BTreeMap.Range.{range_contains}
 use Rattle.std.specs.List.{filter}
 use Rattle.leaf_array.specs.Pairs.{IsAscending}

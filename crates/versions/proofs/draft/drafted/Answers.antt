@@ -1,4 +1,4 @@
-use Rattle.std.proofs.Common.{◌≡◌, ◌≤◌, ◌++◌, [], append-nil, drop, length, sym, ap, ◌∙◌, arith}
+use Rattle.std.proofs.Common.{◌≤◌, ◌++◌, append-nil, length, sym, ap, ◌∙◌, arith}
 use Rattle.versions.specs.Changes.{amended}
 use Rattle.versions.specs.Cuts.{pairs_in}
 use Rattle.versions.specs.Writes.{replies_to}

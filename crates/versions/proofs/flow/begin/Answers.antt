@@ -1,4 +1,4 @@
-use Rattle.std.proofs.Common.{◌≡◌, ◌+◌, ◌≤◌, ◌++◌, [], drop, length, sym, ap, ◌∙◌, arith}
+use Rattle.std.proofs.Common.{◌+◌, ◌++◌, drop, sym, ap, ◌∙◌, arith}
 use Rattle.versions.specs.Cuts.{pairs_in}
 use Rattle.versions.proofs.Streams.{block_at, none_first}
 use Rattle.versions.proofs.flow.begin.Goals as goal

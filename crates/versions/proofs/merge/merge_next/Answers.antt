@@ -1,4 +1,4 @@
-use Rattle.std.proofs.Common.{◌≡◌, ◌<◌, List, [], ◌∷◌, ◌++◌, drop, sym, ap, ◌∙◌, arith}
+use Rattle.std.proofs.Common.{[], ◌∷◌, drop, sym, arith}
 use Rattle.versions.specs.Changes.{amended, pair_left}
 use Rattle.versions.proofs.Merging.{head_of, none_of, taken, rising_part, rising_rest, rest_of_changes, rest_of_pairs, change_first, both_first, pair_first}
 use Rattle.versions.proofs.merge.merge_next.Goals as goal

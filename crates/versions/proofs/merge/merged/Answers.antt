@@ -1,4 +1,4 @@
-use Rattle.std.proofs.Common.{◌≡◌, [], refl, sym, ap, ◌∙◌}
+use Rattle.std.proofs.Common.{◌≡◌, [], refl, sym}
 use Rattle.std.proofs.lemmas.Bool.{false≢true}
 use Rattle.versions.specs.Cuts.{pairs_in}
 use Rattle.versions.proofs.Amends.{rising_amended}

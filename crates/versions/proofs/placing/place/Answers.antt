@@ -1,10 +1,6 @@
-use Rattle.std.proofs.Common.{◌≡◌, sym, ap, ◌∙◌, subst, arith, map, length}
-use Rattle.std.proofs.lemmas.List.{length-map}
-use Rattle.sdd_base.specs.Frame.{Keeps}
-use Rattle.sdd_base.specs.State.{State}
+use Rattle.std.proofs.Common.{◌≡◌, ap, ◌∙◌, subst, arith, map, length}
 use Rattle.sdd_base.specs.Tokens.{shared_slot}
-use Rattle.versions.specs.Placing.{Places, Plan, StandsIn}
-use Rattle.versions.specs.Items.{slots_of}
+use Rattle.versions.specs.Placing.{Places, Plan}
 use Rattle.versions.proofs.Placings.{no_vacancy, places_directory}
 use Rattle.versions.proofs.placing.place.Goals as goal
 

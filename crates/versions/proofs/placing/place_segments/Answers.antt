@@ -1,9 +1,9 @@
-use Rattle.std.proofs.Common.{◌≡◌, ◌∷◌, [], ◌++◌, length, map, sym, ap, ◌∙◌, arith, append_assoc, subst, List}
+use Rattle.std.proofs.Common.{◌≡◌, ◌∷◌, [], ◌++◌, length, map, sym, ap, ◌∙◌, arith, append_assoc, subst}
 use Rattle.std.proofs.lemmas.List.{map-append, length-append}
 use Rattle.std.specs.Vec.Iter.{into_iter_items}
 use Rattle.sdd_base.specs.Tokens.{kept_slot}
 use Rattle.versions.specs.Placing.{StandsIn}
-use Rattle.versions.proofs.Placings.{stands_none, stands_more}
+use Rattle.versions.proofs.Placings.{stands_more}
 use Rattle.versions.proofs.placing.place_segments.Goals as goal
 
 pub loop-tree-preserved : goal.loop-tree-preserved

@@ -1,4 +1,4 @@
-use Rattle.std.proofs.Common.{◌≡◌, ◌<◌, Some, None, sym, ap, ◌∙◌, arith, subst, length}
+use Rattle.std.proofs.Common.{◌≡◌, Some, None, sym, subst}
 use Rattle.std.specs.Option.{MatchOption}
 use Rattle.sdd_base.specs.State.{value_at}
 use Rattle.versions.specs.Reading.{IsPlaceOf}

@@ -1,4 +1,4 @@
-use Rattle.std.proofs.Common.{◌≡◌, Some, sym, ap, ◌∙◌, arith, subst}
+use Rattle.std.proofs.Common.{Some, sym, ap, ◌∙◌, arith, subst}
 use Rattle.sdd_base.specs.State.{value_at}
 use Rattle.versions.specs.Versions.{IsSegment, pairs_of}
 use Rattle.versions.proofs.BlockLemmas.{is_there, segment_at, block_at}

@@ -1,4 +1,4 @@
-use Rattle.std.proofs.Common.{◌≡◌, ◌≤◌, [], List, length, map, ap, subst, arith, sym}
+use Rattle.std.proofs.Common.{[], length, map, ap, subst, arith, sym}
 use Rattle.versions.specs.Cuts.{IsCut, pairs_in}
 use Rattle.versions.proofs.BlockLemmas.{cut_nil}
 use Rattle.versions.proofs.built.Built.empty.Goals as goal

@@ -1,4 +1,4 @@
-use Rattle.std.proofs.Common.{◌≡◌, ◌≤◌, ◌++◌, ◌∙◌, Some, ap, drop, length, subst, slice_get}
+use Rattle.std.proofs.Common.{◌≡◌, ◌≤◌, ◌++◌, ◌∙◌, ap, drop, length, slice_get}
 use Rattle.versions.specs.Cuts.{pairs_in}
 use Rattle.versions.specs.Streams.{begun, IsBegun}
 use Rattle.versions.proofs.Streams.{first_of}

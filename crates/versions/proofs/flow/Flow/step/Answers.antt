@@ -1,4 +1,4 @@
-use Rattle.std.proofs.Common.{◌≡◌, ◌≤◌, ◌++◌, [], drop, length, sym, ap, ◌∙◌}
+use Rattle.std.proofs.Common.{◌≡◌, ◌≤◌, ◌++◌, drop, length, sym, ap, ◌∙◌}
 use Rattle.versions.specs.Cuts.{pairs_in}
 use Rattle.versions.specs.Streams.{begun, IsBegun}
 use Rattle.versions.proofs.Streams.{drop_first, none_first}

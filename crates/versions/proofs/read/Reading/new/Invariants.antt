@@ -1,4 +1,4 @@
-use Rattle.std.proofs.Common.{◌≡◌, ◌≤◌, ℕ, List, length, take, vec_capacity}
+use Rattle.std.proofs.Common.{◌≡◌, ◌≤◌, length, take, vec_capacity}
 use Rattle.sdd_base.specs.State.{value_at}
 use Rattle.versions.specs.Items.{slots_of}
 use Rattle.versions.specs.Reading.{trees_of}

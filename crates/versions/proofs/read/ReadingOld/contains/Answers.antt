@@ -1,6 +1,6 @@
-use Rattle.std.proofs.Common.{◌≡◌, Some, sym, ap, ◌∙◌, arith, subst, length, slice_get, ◌<◌, vec_len, inl, inr}
+use Rattle.std.proofs.Common.{Some, sym, ap, ◌∙◌, arith, length, ◌<◌, vec_len, inl, inr}
 use Rattle.std.proofs.lemmas.Bool.{false≢true}
-use Rattle.std.proofs.lemmas.Bool.Decides.{eqb_tells, nat_tests}
+use Rattle.std.proofs.lemmas.Bool.Decides.{eqb_tells}
 use Rattle.leaf_array.specs.Pairs.{has_key}
 use Rattle.std.proofs.lemmas.List.{length-map}
 use Rattle.versions.specs.Cuts.{pairs_in}

@@ -1,5 +1,5 @@
 use Rattle.std.proofs.Common.{◌∙◌, ap, drop}
-use Rattle.versions.proofs.Streams.{stepped, still_reading}
+use Rattle.versions.proofs.Streams.{stepped}
 use Rattle.versions.proofs.stream.Stream.step.Goals as goal
 
 pub returns : goal.returns

@@ -1,4 +1,4 @@
-use Rattle.std.proofs.Common.{◌≡◌, ℕ, List, map, drop, nat_cmp}
+use Rattle.std.proofs.Common.{◌≡◌, ℕ, map, drop, nat_cmp}
 use Rattle.leaf_array.specs.Pairs.{has_key}
 use Rattle.tree_index.specs.declared.index.TreeIndex.{TreeIndex}
 use Rattle.versions.specs.Cuts.{pairs_in}
