@@ -1,15 +1,13 @@
 -- What a desk keeps, and runs of calls.
-use Rattle.std.proofs.Common.{◌≡◌, ◌≢◌, ℕ, ◌+◌, ◌<◌, ◌≤◌, zero, suc, List, [], ◌∷◌, ◌++◌, length, take, set, refl, sym, ap, ◌∙◌, subst, arith, Option, Some, None, IfSome, MatchOption, slice_get, ◌⊎◌, inl, inr, ⊎_elim, append_assoc, length-append}
+use Rattle.std.proofs.Common.{◌≡◌, ◌≢◌, ℕ, ◌<◌, ◌≤◌, zero, suc, List, [], ◌∷◌, ◌++◌, length, take, set, refl, sym, ap, ◌∙◌, subst, arith, Option, Some, None, IfSome, MatchOption, slice_get, ◌⊎◌, inl, inr, ⊎_elim, length-append}
 use Rattle.std.proofs.lemmas.List.{length-set, take_at}
 use Rattle.std.proofs.lemmas.Option.{slice_get_cases, slice_get_within}
 use Rattle.std.specs.declared.cmp.Ordering.{Ordering}
 use Rattle.ordered_index.specs.State.{State, OpenSession, IsOpen, IsOpenAt, Opens, Closes}
-use Rattle.ordered_index.specs.Desk.{Step, Run, Machine, Serves, KeepsAll, SitsAt, IsUnknown, LeavesSeat, TakesSeat, cleared, Clears}
+use Rattle.ordered_index.specs.Desk.{Step, Run, Machine, Serves, KeepsAll, SitsAt, IsUnknown, LeavesSeat, TakesSeat, cleared}
 use Rattle.ordered_index.specs.declared.desk.Seat.{Seat}
 use Rattle.ordered_index.specs.declared.play.DeskCall.{DeskCall}
-use Rattle.ordered_index.specs.declared.play.DeskCall.TheVariants as calls
 use Rattle.ordered_index.specs.declared.play.DeskReply.{DeskReply}
-use Rattle.ordered_index.specs.declared.play.DeskReply.TheVariants as replies
 use Rattle.ordered_index.specs.declared.transaction.Receipt.{Receipt}
 
 -- what is at a place after a write: the value that was written there, or what was there before
@@ -158,17 +156,15 @@ module _ {K V : Type 0} where
   pub record Closing (desk : List (Option (Seat K V))) (old : State K V) (seats : List (Option (Seat K V))) (new : State K V) : Type 0 where
     pub placed : (place : ℕ) (seat : Seat K V) → slice_get seats place ≡ Some (Some seat) → seat.session.place ≡ place
     pub opened : (place : ℕ) (seat : Seat K V) → slice_get seats place ≡ Some (Some seat) → IsOpen new seat.session
-    pub history : new.history ≡ old.history
     pub places : cleared seats new.places ≡ cleared desk old.places
-    pub last : new.last ≡ old.last
+    pub others : new ≡ record old { places = new.places }
 
   closing-free : (desk : List (Option (Seat K V))) (old : State K V) (seats rest : List (Option (Seat K V))) (new : State K V) → seats ≡ rest ++ None ∷ [] → Closing desk old seats new → Closing desk old rest new
   closing-free desk old seats rest new e c = record {
     placed = λ place seat h. c.placed place seat (rw e (get-front rest (None ∷ []) place (Some seat) h));
     opened = λ place seat h. c.opened place seat (rw e (get-front rest (None ∷ []) place (Some seat) h));
-    history = c.history;
     places = sym (cleared-free rest new.places) ∙ ap (λ s. cleared s new.places) (sym e) ∙ c.places;
-    last = c.last;
+    others = c.others;
   }
 
   closing-seat : (desk : List (Option (Seat K V))) (old : State K V) (seats rest : List (Option (Seat K V))) (seat : Seat K V) (mid new : State K V) → seats ≡ rest ++ Some seat ∷ [] → Closes mid seat.session.place new → Closing desk old seats mid → Closing desk old rest new
@@ -180,11 +176,12 @@ module _ {K V : Type 0} where
         opened = λ place one h.
             let within : place < length rest = slice_get_within rest place (Some one) h in
             kept-seat mid new seat.session.place None place one closes (λ same. omega (arith, within, same, here)) (c.placed place one (front place one h)) (c.opened place one (front place one h));
-        history = ap (λ (s : State K V). s.history) closes ∙ c.history;
         places =
             ap (λ (s : State K V). cleared rest s.places) closes ∙ ap (λ p. cleared rest (set mid.places p None)) here ∙ sym (cleared-last rest seat mid.places)
             ∙ ap (λ s. cleared s mid.places) (sym e) ∙ c.places;
-        last = ap (λ (s : State K V). s.last) closes ∙ c.last;
+        others =
+            closes ∙ ap (λ (m : State K V). record m { places = set mid.places seat.session.place None }) c.others
+            ∙ ap (λ (ps : List (Option ℕ)). record old { places = ps }) (sym (ap (λ (x : State K V). x.places) closes));
       }
 
   -- one seat less is left
@@ -197,22 +194,22 @@ module _ {K V : Type 0} where
   closing-open desk old seats rest None mid e c = tt
   closing-open desk old seats rest (Some seat) mid e c = c.opened (length rest) seat (rw e (get-end rest (Some seat)))
 
-module _ {K V : Type 0} (cmp : K → K → Ordering) where
+module _ {K V : Type 0} (cmp : K → K → Ordering) (width : ℕ) where
   -- a run goes on by one step
-  pub Run-push : (old mid new : Machine K V) (calls : List (DeskCall K V)) (replies : List (DeskReply K V)) (call : DeskCall K V) (reply : DeskReply K V) → Run cmp old calls replies mid → Step cmp mid call reply new → Run cmp old (calls ++ call ∷ []) (replies ++ reply ∷ []) new
-  Run-push old mid new [] [] call reply run step = (new, subst (λ m. Step cmp m call reply new) run step, refl)
+  pub Run-push : (old mid new : Machine K V) (calls : List (DeskCall K V)) (replies : List (DeskReply K V)) (call : DeskCall K V) (reply : DeskReply K V) → Run cmp width old calls replies mid → Step cmp width mid call reply new → Run cmp width old (calls ++ call ∷ []) (replies ++ reply ∷ []) new
+  Run-push old mid new [] [] call reply run step = (new, subst (λ m. Step cmp width m call reply new) run step, refl)
   Run-push old mid new [] (r ∷ replies) call reply run step = absurd run
   Run-push old mid new (c ∷ calls) [] call reply run step = absurd run
   Run-push old mid new (c ∷ calls) (r ∷ replies) call reply run step = (run.0, run.1, Run-push run.0 mid new calls replies call reply run.2 step)
 
   -- one call more was made
-  pub played-more : (old mid new : Machine K V) (done : List (DeskCall K V)) (replies replies' : List (DeskReply K V)) (call : DeskCall K V) (reply : DeskReply K V) → replies' ≡ replies ++ reply ∷ [] → Run cmp old done replies mid → Step cmp mid call reply new → Run cmp old (done ++ call ∷ []) replies' new
-  played-more old mid new done replies replies' call reply e run step = subst (λ rs. Run cmp old (done ++ call ∷ []) rs new) (sym e) (Run-push old mid new done replies call reply run step)
+  pub played-more : (old mid new : Machine K V) (done : List (DeskCall K V)) (replies replies' : List (DeskReply K V)) (call : DeskCall K V) (reply : DeskReply K V) → replies' ≡ replies ++ reply ∷ [] → Run cmp width old done replies mid → Step cmp width mid call reply new → Run cmp width old (done ++ call ∷ []) replies' new
+  played-more old mid new done replies replies' call reply e run step = subst (λ rs. Run cmp width old (done ++ call ∷ []) rs new) (sym e) (Run-push old mid new done replies call reply run step)
 
   -- where the calls in front were made, and one more was taken
-  pub stopped : (old new : Machine K V) (all done rest : List (DeskCall K V)) (call : DeskCall K V) (replies : List (DeskReply K V)) → done ++ call ∷ rest ≡ all → Run cmp old done replies new → (n : ℕ) × (n < length all) × Run cmp old (take n all) replies new
+  pub stopped : (old new : Machine K V) (all done rest : List (DeskCall K V)) (call : DeskCall K V) (replies : List (DeskReply K V)) → done ++ call ∷ rest ≡ all → Run cmp width old done replies new → (n : ℕ) × (n < length all) × Run cmp width old (take n all) replies new
   stopped old new all done rest call replies e run = (
     length done,
     omega (arith, ap length e, length-append done (call ∷ rest)),
-    subst (λ front. Run cmp old front replies new) (sym (ap (take (length done)) (sym e) ∙ take_at done (call ∷ rest) (length done) refl)) run,
+    subst (λ front. Run cmp width old front replies new) (sym (ap (take (length done)) (sym e) ∙ take_at done (call ∷ rest) (length done) refl)) run,
   )

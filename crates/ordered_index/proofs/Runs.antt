@@ -1,86 +1,118 @@
--- Lists and runs of transactions.
-use Rattle.std.proofs.Common.{length-append, ◌≡◌, ℕ, ◌+◌, ◌<◌, ◌≤◌, zero, suc, List, [], ◌∷◌, ◌++◌, length, take, get_or, refl, sym, ap, ◌∙◌, subst, arith, add-one, Option, Some, None, IfSome}
+-- Runs of transactions, and the versions that have their lists.
+use Rattle.std.proofs.Common.{length-append, ◌≡◌, ℕ, ◌+◌, ◌≤◌, zero, suc, List, [], ◌∷◌, ◌++◌, length, take, get_or, map, set, refl, sym, ap, ◌∙◌, subst, arith, Option, Some, None, IfSome}
 use Rattle.std.specs.declared.cmp.Ordering.{Ordering}
-use Rattle.std.specs.List.{All, slice_get, slice_index_or}
-use Rattle.std.specs.Option.{unwrap_or}
-use Rattle.std.proofs.Common.{set}
+use Rattle.std.specs.List.{All, slice_get}
+use Rattle.std.specs.Option.{option_map, unwrap_or}
+use Rattle.std.proofs.lemmas.List.{map-set}
 use Rattle.std.proofs.lemmas.List.Elements.{All-set}
-use Rattle.ordered_index.specs.Inside.{IsKept, lists_of}
 use Rattle.std.proofs.lemmas.Option.{slice_get_within, unwrap_or-slice_get}
-use Rattle.std.proofs.Common.{◌≢◌}
 use Rattle.std.proofs.Math.Seq.{take-length}
-use Rattle.ordered_index.specs.State.{State, present, number_of, MayAccept}
-use Rattle.ordered_index.specs.Serial.{replies_to, after_all, after_writes, IsSerial, IsGood}
+use Rattle.versions.specs.Writes.{after_writes, replies_to}
+use Rattle.ordered_index.specs.Inside.{IsKept, IsOf, state_of}
+use Rattle.ordered_index.proofs.Options.{mapped_some}
+use Rattle.ordered_index.specs.State.{present, list_at, MayAccept}
+use Rattle.ordered_index.specs.Store.{Store, Version}
+use Rattle.ordered_index.specs.Serial.{after_all, IsSerial, IsGood}
 use Rattle.ordered_index.specs.declared.transaction.Transaction.{Transaction}
 
 -- what holds of each element holds of the one that is read
 pub at_get : {X : Type 0} (P : X → Type 0) (xs : List X) (i : ℕ) (x : X) → All P xs → slice_get xs i ≡ Some x → P x
 at_get P xs i x all e = subst P (sym (unwrap_or-slice_get xs i x) ∙ ap (λ o. unwrap_or o x) e) (all i x (slice_get_within xs i x e))
 
--- a number below a history is below a longer one
-grown : {X : Type 0} (xs : List X) (x : X) (p : Option ℕ) → IfSome p (λ number. number ≤ length xs) → IfSome p (λ number. number ≤ length (xs ++ x ∷ []))
-grown xs x None h = h
-grown xs x (Some n) h = omega (arith, h, length-append xs (x ∷ []))
-
 module _ {K V : Type 0} (cmp : K → K → Ordering) where
-  pub length-lists_of : (ts : List (Transaction K V)) (pairs : List (K × V)) → length (lists_of cmp ts pairs) ≡ length ts + 1
-  length-lists_of [] pairs = refl
-  length-lists_of (t ∷ ts) pairs = omega (arith, length-lists_of ts (after_writes cmp t.writes pairs))
-
-  -- the list at each place is that after so many transactions
-  pub get_or-lists_of : (ts : List (Transaction K V)) (pairs d : List (K × V)) (i : ℕ) → i ≤ length ts → get_or (lists_of cmp ts pairs) i d ≡ after_all cmp (take i ts) pairs
-  get_or-lists_of [] pairs d zero h = refl
-  get_or-lists_of [] pairs d (suc i) h = absurd (omega arith)
-  get_or-lists_of (t ∷ ts) pairs d zero h = refl
-  get_or-lists_of (t ∷ ts) pairs d (suc i) h = get_or-lists_of ts (after_writes cmp t.writes pairs) d i (omega arith)
-
   pub after_all-push : (ts : List (Transaction K V)) (t : Transaction K V) (pairs : List (K × V)) → after_all cmp (ts ++ t ∷ []) pairs ≡ after_writes cmp t.writes (after_all cmp ts pairs)
   after_all-push [] t pairs = refl
   after_all-push (u ∷ ts) t pairs = after_all-push ts t (after_writes cmp u.writes pairs)
 
-  pub lists_of-push : (ts : List (Transaction K V)) (t : Transaction K V) (pairs : List (K × V)) → lists_of cmp (ts ++ t ∷ []) pairs ≡ lists_of cmp ts pairs ++ after_writes cmp t.writes (after_all cmp ts pairs) ∷ []
-  lists_of-push [] t pairs = refl
-  lists_of-push (u ∷ ts) t pairs = ap (λ ls. pairs ∷ ls) (lists_of-push ts t (after_writes cmp u.writes pairs))
+  -- the first transactions are the same in a longer history
+  take-push : (ts : List (Transaction K V)) (t : Transaction K V) (n : ℕ) → n ≤ length ts → take n (ts ++ t ∷ []) ≡ take n ts
+  take-push ts t zero h = refl
+  take-push [] t (suc n) h = absurd (omega (arith, h))
+  take-push (u ∷ ts) t (suc n) h = ap (λ us. u ∷ us) (take-push ts t n (omega (arith, h)))
 
   -- a good transaction may be added
   pub IsSerial-push : (ts : List (Transaction K V)) (t : Transaction K V) (pairs : List (K × V)) → IsSerial cmp ts pairs → IsGood cmp (after_all cmp ts pairs) t → IsSerial cmp (ts ++ t ∷ []) pairs
   IsSerial-push [] t pairs s good = (good, tt)
   IsSerial-push (u ∷ ts) t pairs s good = (s.0, IsSerial-push ts t (after_writes cmp u.writes pairs) s.1 good)
 
-  -- what the fields keep, when a place changes
-  pub IsKept-set : {lists : List (List (K × V))} {history : List (Transaction K V)} {places : List (Option ℕ)} {last : ℕ} → IsKept cmp lists history places last → (place : ℕ) (p : Option ℕ) → IfSome p (λ number. number ≤ length history) → IsKept cmp lists history (set places place p) last
-  IsKept-set {history = history} {places = places} kept place p h = record {
-    lists_are = kept.lists_are;
-    serial = kept.serial;
-    numbered = kept.numbered;
-    opened = All-set (λ p. IfSome p (λ number. number ≤ length history)) places place p h kept.opened;
-  }
+  -- a version has the list of its number in a longer history too
+  of_longer : (history : List (Transaction K V)) (t : Transaction K V) (r : Option (Version K V)) → IfSome r (IsOf cmp history) → IfSome r (IsOf cmp (history ++ t ∷ []))
+  of_longer history t None h = h
+  of_longer history t (Some v) h =
+      let within = h.within in
+      record {
+        within = omega (arith, within, length-append history (t ∷ []));
+        list = h.list ∙ ap (λ ts. after_all cmp ts []) (sym (take-push history t v.number within));
+      }
 
-  -- the number of an open session is that of a list
-  pub IsKept-number : {lists : List (List (K × V))} {history : List (Transaction K V)} {places : List (Option ℕ)} {last : ℕ} → IsKept cmp lists history places last → (place number : ℕ) → slice_get places place ≡ Some (Some number) → number ≤ length history
-  IsKept-number {history = history} {places = places} kept place number e = at_get (λ p. IfSome p (λ number. number ≤ length history)) places place (Some number) kept.opened e
+  module _ {width last : ℕ} {store : Store K V} {history : List (Transaction K V)} (kept : IsKept cmp width store history last) where
+    -- the present list is that of the present version
+    pub present_pairs : store.present.pairs ≡ present cmp (state_of store history last)
+    present_pairs = ap (λ (v : Version K V). v.pairs) kept.present ∙ ap (λ ts. after_all cmp ts []) (sym (take-length history))
 
-  pub IsKept-within : {lists : List (List (K × V))} {history : List (Transaction K V)} {places : List (Option ℕ)} {last : ℕ} → IsKept cmp lists history places last → (number : ℕ) → number ≤ length history → number < length lists
-  IsKept-within {history = history} kept number h = omega (arith, ap length kept.lists_are, length-lists_of history [])
+    pub present_number : store.present.number ≡ length history
+    present_number = ap (λ (v : Version K V). v.number) kept.present
 
-  pub IsKept-at : {lists : List (List (K × V))} {history : List (Transaction K V)} {places : List (Option ℕ)} {last : ℕ} → IsKept cmp lists history places last → (number : ℕ) (d : List (K × V)) → number ≤ length history → get_or lists number d ≡ after_all cmp (take number history) []
-  IsKept-at {history = history} kept number d h = ap (λ ls. get_or ls number d) kept.lists_are ∙ get_or-lists_of history [] d number h
+    present_of : IsOf cmp history store.present
+    present_of = record {
+      within = (let n = present_number in omega (arith, n));
+      list = present_pairs ∙ ap (λ n. after_all cmp (take n history) []) (sym present_number);
+    }
 
-  -- what the fields keep, when a good transaction is added
-  pub IsKept-push : {lists : List (List (K × V))} {history : List (Transaction K V)} {places : List (Option ℕ)} {last : ℕ} → IsKept cmp lists history places last → (t : Transaction K V) → IsGood cmp (after_all cmp history []) t → length history < last → IsKept cmp (lists ++ after_writes cmp t.writes (after_all cmp history []) ∷ []) (history ++ t ∷ []) places last
-  IsKept-push {lists = lists} {history = history} {places = places} kept t good more = record {
-    lists_are = ap (λ ls. ls ++ after_writes cmp t.writes (after_all cmp history []) ∷ []) kept.lists_are ∙ sym (lists_of-push history t []);
-    serial = IsSerial-push history t [] kept.serial good;
-    numbered = omega (arith, length-append history (t ∷ []));
-    opened = λ k d h. grown history t (get_or places k d) (kept.opened k d h);
-  }
+    -- what an open session reads has the list of its number
+    pub session_version : (place number : ℕ) → slice_get (map (option_map (λ (v : Version K V). v.number)) store.readers) place ≡ Some (Some number) → (v : Version K V) × (slice_get store.readers place ≡ Some (Some v)) × (v.pairs ≡ list_at cmp (state_of store history last) number)
+    session_version place number e =
+        let r = mapped_some (λ (v : Version K V). v.number) store.readers place number e in
+        let is_of = at_get (λ r. IfSome r (IsOf cmp history)) store.readers place (Some r.0) kept.readers r.1 in
+        (r.0, r.1, is_of.list ∙ ap (λ n. after_all cmp (take n history) []) r.2)
 
-  -- the same, as the code appends
-  pub IsKept-append : {lists lists' : List (List (K × V))} {history history' : List (Transaction K V)} {places : List (Option ℕ)} {last : ℕ} → IsKept cmp lists history places last → (t : Transaction K V) (list : List (K × V)) → lists' ≡ lists ++ list ∷ [] → history' ≡ history ++ t ∷ [] → (s : State K V) → record { history = history; places = places; last = last } ≡ s → list ≡ after_writes cmp t.writes (present cmp s) → MayAccept cmp s t.reads → t.replies ≡ replies_to cmp t.writes (present cmp s) → IsKept cmp lists' history' places last
-  IsKept-append {lists = lists} {lists' = lists'} {history = history} {history' = history'} {places = places} {last = last} kept t list el eh s es made may told =
-      let whole : present cmp s ≡ after_all cmp history [] = ap (present cmp) (sym es) ∙ ap (λ h. after_all cmp h []) (take-length history) in
-      let not_last : length history ≢ last = λ e. may.not_last (ap number_of (sym es) ∙ e ∙ ap (λ s. s.last) es) in
-      let same : lists' ≡ lists ++ after_writes cmp t.writes (after_all cmp history []) ∷ [] = el ∙ ap (λ l. lists ++ l ∷ []) (made ∙ ap (after_writes cmp t.writes) whole) in
-      let good : IsGood cmp (after_all cmp history []) t = subst (λ pairs. IsGood cmp pairs t) whole (record { reads = may.reads_hold; replies = told }) in
-      let more : length history < last = omega (arith, kept.numbered) in
-      subst (λ ls. IsKept cmp ls history' places last) (sym same) (subst (λ h. IsKept cmp (lists ++ after_writes cmp t.writes (after_all cmp history []) ∷ []) h places last) (sym eh) (IsKept-push kept t good more))
+    pub kept_readers : (store' : Store K V) (place : ℕ) (r : Option (Version K V)) → store' ≡ record store { readers = set store.readers place r } → IfSome r (IsOf cmp history) → IsKept cmp width store' history last
+    kept_readers store' place r e h = record {
+      some_pair = kept.some_pair;
+      segment_fits = kept.segment_fits;
+      serial = kept.serial;
+      numbered = kept.numbered;
+      present = ap (λ (x : Store K V). x.present) e ∙ kept.present;
+      readers = subst (λ (x : Store K V). All (λ r. IfSome r (IsOf cmp history)) x.readers) (sym e) (All-set (λ r. IfSome r (IsOf cmp history)) store.readers place r h kept.readers);
+    }
+
+    -- a session opens
+    pub kept_open : (store' : Store K V) (place : ℕ) → store' ≡ record store { readers = set store.readers place (Some store.present) } → IsKept cmp width store' history last
+    kept_open store' place e = kept_readers store' place (Some store.present) e present_of
+
+    -- a session closes
+    pub kept_close : (store' : Store K V) (place : ℕ) → store' ≡ record store { readers = set store.readers place None } → IsKept cmp width store' history last
+    kept_close store' place e = kept_readers store' place None e tt
+
+    -- versions are reclaimed
+    pub kept_same : (store' : Store K V) (used raises : ℕ) → store' ≡ record store { used = used; raises = raises } → IsKept cmp width store' history last
+    kept_same store' used raises e = subst (λ (x : Store K V). IsKept cmp width x history last) (sym e) (record {
+      some_pair = kept.some_pair;
+      segment_fits = kept.segment_fits;
+      serial = kept.serial;
+      numbered = kept.numbered;
+      present = kept.present;
+      readers = kept.readers;
+    })
+
+    -- a transaction is added whose reads hold, and its version is published
+    pub kept_append : (store' : Store K V) (t : Transaction K V) (v : Version K V) (used : ℕ) → store' ≡ record store { present = v; used = used } → v.number ≡ length history + 1 → v.pairs ≡ after_writes cmp t.writes (present cmp (state_of store history last)) → MayAccept cmp (state_of store history last) t.reads → t.replies ≡ replies_to cmp t.writes (present cmp (state_of store history last)) → IsKept cmp width store' (history ++ t ∷ []) last
+    kept_append store' t v used e number list may told =
+        let whole : present cmp (state_of store history last) ≡ after_all cmp history [] = ap (λ h. after_all cmp h []) (take-length history) in
+        let not_last = may.not_last in
+        let below = kept.numbered in
+        let long = length-append history (t ∷ []) in
+        let good : IsGood cmp (after_all cmp history []) t = subst (λ pairs. IsGood cmp pairs t) whole (record { reads = may.reads_hold; replies = told }) in
+        let made : v.pairs ≡ after_all cmp (history ++ t ∷ []) [] = list ∙ ap (after_writes cmp t.writes) whole ∙ sym (after_all-push history t []) in
+        subst (λ (x : Store K V). IsKept cmp width x (history ++ t ∷ []) last) (sym e) (record {
+          some_pair = kept.some_pair;
+          segment_fits = kept.segment_fits;
+          serial = IsSerial-push history t [] kept.serial good;
+          numbered = omega (arith, below, not_last, long);
+          present = ap (λ n. record { number = n; pairs = v.pairs }) (number ∙ sym long) ∙ ap (λ ps. record { number = length (history ++ t ∷ []); pairs = ps }) made;
+          readers = λ k d h. of_longer history t (get_or store.readers k d) (kept.readers k d h);
+        })
+
+  -- what an index shows of a place that is written
+  pub sets_shows : (store : Store K V) (history : List (Transaction K V)) (last place : ℕ) (r : Option (Version K V)) → state_of (record store { readers = set store.readers place r }) history last ≡ record (state_of store history last) { places = set (map (option_map (λ (v : Version K V). v.number)) store.readers) place (option_map (λ (v : Version K V). v.number) r) }
+  sets_shows store history last place r = ap (λ (ps : List (Option ℕ)). record (state_of store history last) { places = ps }) (map-set (option_map (λ (v : Version K V). v.number)) store.readers place r)

@@ -2,9 +2,9 @@
 use Rattle.std.specs.Prelude.{◌≡◌, ◌≢◌, ℕ, ◌≤◌, List, [], ◌∷◌, length, Option, Some, None, slice_get, slice_set}
 use Rattle.std.specs.declared.cmp.Ordering.{Ordering}
 use Rattle.ordered_index.specs.Serial.{Read, answer_to}
-use Rattle.ordered_index.specs.State.{State, OpenSession, IsOpen, IsOpenAt, IsFull, Opens, Closes, list_at, Accepts, Refuses}
+use Rattle.ordered_index.specs.State.{State, OpenSession, IsOpen, IsOpenAt, IsFull, Opens, Closes, list_at, Accepts, Refuses, Reclaims}
 use Rattle.ordered_index.specs.declared.query.Query.TheVariants as queries
-use Rattle.ordered_index.specs.declared.write.Write.{Write}
+use Rattle.versions.specs.declared.write.Write.{Write}
 use Rattle.ordered_index.specs.declared.transaction.Receipt.{Receipt}
 use Rattle.ordered_index.specs.declared.commit.Cause.TheVariants as causes
 use Rattle.ordered_index.specs.declared.desk.Seat.{Seat}
@@ -84,7 +84,7 @@ module _ {K V : Type 0} where
   RestsOnNone desk (sets.Receipt receipt) = ⊥
   RestsOnNone desk (sets.Session label) = IsUnknown desk label
 
-  module _ (cmp : K → K → Ordering) where
+  module _ (cmp : K → K → Ordering) (width : ℕ) where
     -- a used label is busy, before a place is sought
     abbrev pub OpenStep : Machine K V → ℕ → DeskReply K V → Machine K V → Type 0
     OpenStep old label (replies.Opened number) new = TakesSeat old label number new
@@ -108,11 +108,33 @@ module _ {K V : Type 0} where
     -- a commit that is refused memory has no reply
     abbrev pub CommitStep : Machine K V → ReadSet K V → List (Write K V) → DeskReply K V → Machine K V → Type 0
     CommitStep old on writes (replies.Accepted told) new =
-        (reads : List (Read K V)) × RestsOn old.desk on reads × Accepts cmp old.index reads writes told new.index × (new.desk ≡ old.desk)
+        (reads : List (Read K V)) × RestsOn old.desk on reads × Accepts cmp width old.index reads writes told new.index × (new.desk ≡ old.desk)
     CommitStep old on writes (replies.Refused back) new =
-        (reads : List (Read K V)) × RestsOn old.desk on reads × Refuses cmp old.index reads writes back new.index × (new.desk ≡ old.desk) × (back.cause ≢ causes.Memory)
+        (reads : List (Read K V)) × RestsOn old.desk on reads × Refuses cmp width old.index reads writes back new.index × (new.desk ≡ old.desk) × (back.cause ≢ causes.Memory)
     CommitStep old on writes (replies.NoSession back) new = RestsOnNone old.desk on × (back.items ≡ writes) × (new ≡ old)
     CommitStep old on writes reply new = ⊥
+
+    -- sessions stay, and with them the desk
+    abbrev pub ReclaimStep : Machine K V → DeskReply K V → Machine K V → Type 0
+    ReclaimStep old replies.Reclaimed new = Reclaims cmp width old.index new.index × (new.desk ≡ old.desk)
+    ReclaimStep old reply new = ⊥
+
+    abbrev pub SlotsStep : Machine K V → DeskReply K V → Machine K V → Type 0
+    SlotsStep old (replies.Slots count) new = (count ≡ old.index.used) × (new ≡ old)
+    SlotsStep old reply new = ⊥
+
+    abbrev pub NumberStep : Machine K V → ℕ → DeskReply K V → Machine K V → Type 0
+    NumberStep old label (replies.Number number) new =
+        (place : ℕ) × (seat : Seat K V) × SitsAt old.desk label place seat × (number ≡ seat.session.receipt.number) × (new ≡ old)
+    NumberStep old label (replies.NoSession back) new = IsUnknown old.desk label × (back.items ≡ []) × (new ≡ old)
+    NumberStep old label reply new = ⊥
+
+    -- as many pairs as the list has at the session's opening
+    abbrev pub LenStep : Machine K V → ℕ → DeskReply K V → Machine K V → Type 0
+    LenStep old label (replies.Len count) new =
+        (place : ℕ) × (seat : Seat K V) × SitsAt old.desk label place seat × (count ≡ length (list_at cmp old.index seat.session.receipt.number)) × (new ≡ old)
+    LenStep old label (replies.NoSession back) new = IsUnknown old.desk label × (back.items ≡ []) × (new ≡ old)
+    LenStep old label reply new = ⊥
 
     -- from old, the call may be given this reply and lead to new
     abbrev pub Step : Machine K V → DeskCall K V → DeskReply K V → Machine K V → Type 0
@@ -120,6 +142,10 @@ module _ {K V : Type 0} where
     Step old (calls.Close label) reply new = CloseStep old label reply new
     Step old (calls.Get label key) reply new = GetStep old label key reply new
     Step old (calls.Commit on writes) reply new = CommitStep old on writes.items reply new
+    Step old calls.Reclaim reply new = ReclaimStep old reply new
+    Step old calls.Slots reply new = SlotsStep old reply new
+    Step old (calls.Number label) reply new = NumberStep old label reply new
+    Step old (calls.Len label) reply new = LenStep old label reply new
 
     -- these calls may be given these replies, one after the other
     abbrev pub Run : Machine K V → List (DeskCall K V) → List (DeskReply K V) → Machine K V → Type 0

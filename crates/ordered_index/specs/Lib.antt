@@ -1,4 +1,5 @@
 pub mod Serial
+pub mod Store
 pub mod State
 pub mod Sizes
 pub mod Inside

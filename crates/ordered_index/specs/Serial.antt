@@ -1,17 +1,13 @@
--- Writes, answers, transactions and serial runs, on lists of pairs.
-use Rattle.std.specs.Prelude.{◌≡◌, ℕ, ◌<◌, List, [], ◌∷◌, cond, length}
+-- Answers, transactions and serial runs, on lists of pairs.
+use Rattle.std.specs.Prelude.{◌≡◌, ℕ, ◌<◌, List, [], ◌∷◌, length}
 use Rattle.std.specs.declared.cmp.Ordering.{Ordering}
 use Rattle.std.specs.List.{All, AllWithin, HoldsAt}
-use Rattle.leaf_array.specs.Pairs.{has_key, value_at}
-use Rattle.leaf_array.specs.Edits.{inserted}
+use Rattle.leaf_array.specs.Pairs.{value_at}
+use Rattle.versions.specs.Writes.{after_writes, replies_to}
 use Rattle.ordered_index.specs.declared.query.Query.{Query}
 use Rattle.ordered_index.specs.declared.query.Query.TheVariants as queries
 use Rattle.ordered_index.specs.declared.query.Answer.{Answer}
 use Rattle.ordered_index.specs.declared.query.Answer.TheVariants as answers
-use Rattle.ordered_index.specs.declared.write.Write.{Write}
-use Rattle.ordered_index.specs.declared.write.Write.TheVariants as writes
-use Rattle.ordered_index.specs.declared.write.Reply.{Reply}
-use Rattle.ordered_index.specs.declared.write.Reply.TheVariants as replies
 use Rattle.ordered_index.specs.declared.transaction.Transaction.{Transaction}
 
 -- a recorded read: a query and the answer that was given to it
@@ -19,24 +15,6 @@ abbrev pub Read : Type 0 → Type 0 → Type 0
 Read K V = Query K × Answer V
 
 module _ {K V : Type 0} (cmp : K → K → Ordering) where
-  -- the list that a write leaves
-  abbrev pub after_write : Write K V → List (K × V) → List (K × V)
-  after_write (writes.Insert key value) pairs = inserted cmp key value pairs
-
-  -- what a write is told
-  abbrev pub reply_to : Write K V → List (K × V) → Reply
-  reply_to (writes.Insert key value) pairs = cond (has_key cmp key pairs) replies.Duplicate replies.Inserted
-
-  -- the list that writes leave, one after the other
-  abbrev pub after_writes : List (Write K V) → List (K × V) → List (K × V)
-  after_writes [] pairs = pairs
-  after_writes (w ∷ ws) pairs = after_writes ws (after_write w pairs)
-
-  -- what they are told
-  abbrev pub replies_to : List (Write K V) → List (K × V) → List Reply
-  replies_to [] pairs = []
-  replies_to (w ∷ ws) pairs = reply_to w pairs ∷ replies_to ws (after_write w pairs)
-
   -- the answer to a query
   abbrev pub answer_to : Query K → List (K × V) → Answer V
   answer_to (queries.Get key) pairs = answers.Get (value_at cmp key pairs)
@@ -54,14 +32,14 @@ module _ {K V : Type 0} (cmp : K → K → Ordering) where
   -- a transaction is good on a list: its reads hold, and its writes are told what they are told there
   pub record IsGood (pairs : List (K × V)) (t : Transaction K V) : Type 0 where
     pub reads : All (Holds pairs) t.reads
-    pub replies : t.replies ≡ replies_to t.writes pairs
+    pub replies : t.replies ≡ replies_to cmp t.writes pairs
 
   -- the list that transactions leave
   abbrev pub after_all : List (Transaction K V) → List (K × V) → List (K × V)
   after_all [] pairs = pairs
-  after_all (t ∷ ts) pairs = after_all ts (after_writes t.writes pairs)
+  after_all (t ∷ ts) pairs = after_all ts (after_writes cmp t.writes pairs)
 
   -- a serial run: transactions one after the other, each good on the list that those before it leave
   abbrev pub IsSerial : List (Transaction K V) → List (K × V) → Type 0
   IsSerial [] pairs = Unit {0}
-  IsSerial (t ∷ ts) pairs = IsGood pairs t × IsSerial ts (after_writes t.writes pairs)
+  IsSerial (t ∷ ts) pairs = IsGood pairs t × IsSerial ts (after_writes cmp t.writes pairs)

@@ -1,9 +1,11 @@
 -- The state of an index, and its steps.
-use Rattle.std.specs.Prelude.{◌≡◌, ◌≢◌, ℕ, ◌+◌, List, [], ◌∷◌, ◌++◌, length, take, Option, Some, None, Result, Ok, Err, slice_get, slice_set, IsSome}
+use Rattle.std.specs.Prelude.{◌≡◌, ◌≢◌, ℕ, ◌+◌, ◌-◌, ◌<◌, ◌≤◌, ◌^◌, List, [], ◌∷◌, ◌++◌, length, take, Option, Some, None, Result, Ok, Err, slice_get, slice_set, IsSome}
 use Rattle.std.specs.declared.cmp.Ordering.{Ordering}
 use Rattle.std.specs.List.{All}
-use Rattle.ordered_index.specs.Serial.{Read, after_all, replies_to, Holds, IsFirstConflict}
-use Rattle.ordered_index.specs.declared.write.Write.{Write}
+use Rattle.versions.specs.Writes.{after_writes, replies_to}
+use Rattle.versions.specs.declared.write.Write.{Write}
+use Rattle.ordered_index.specs.Serial.{Read, after_all, Holds, IsFirstConflict}
+use Rattle.ordered_index.specs.Sizes.{room_for}
 use Rattle.ordered_index.specs.declared.transaction.Transaction.{Transaction}
 use Rattle.ordered_index.specs.declared.transaction.Receipt.{Receipt}
 use Rattle.ordered_index.specs.declared.commit.Accepted.{Accepted}
@@ -11,11 +13,15 @@ use Rattle.ordered_index.specs.declared.commit.Refused.{Refused}
 use Rattle.ordered_index.specs.declared.commit.Cause.{Cause}
 use Rattle.ordered_index.specs.declared.commit.Cause.TheVariants as causes
 
--- the accepted transactions; at each place the number of the session that is open there; the last number
+-- the accepted transactions; at each place the number of the session that is open there; the last number; how many slots
+-- there are and are in use; how often the epoch was raised
 pub record State (K V : Type 0) : Type 0 where
   pub history : List (Transaction K V)
   pub places : List (Option ℕ)
   pub last : ℕ
+  pub slots : ℕ
+  pub used : ℕ
+  pub raises : ℕ
 
 -- an open session: its place, and its receipt, which has its number
 pub record OpenSession (K V : Type 0) : Type 0 where
@@ -72,26 +78,36 @@ module _ {K V : Type 0} where
       pub reads_hold : All (Holds cmp (present s)) reads
       pub not_last : number_of s ≢ s.last
 
-    -- why a commit of these reads may be refused
-    abbrev pub MayRefuse : State K V → List (Read K V) → Cause → Type 0
-    MayRefuse s reads (causes.Conflict place) = IsFirstConflict cmp (present s) reads place
-    MayRefuse s reads causes.Exhausted = All (Holds cmp (present s)) reads × (number_of s ≡ s.last)
-    MayRefuse s reads causes.Memory = MayAccept s reads
+    module _ (width : ℕ) where
+      -- why a commit of these reads and writes may be refused, with so many pairs in a segment at most
+      abbrev pub MayRefuse : State K V → List (Read K V) → List (Write K V) → Cause → Type 0
+      MayRefuse s reads writes (causes.Conflict place) = IsFirstConflict cmp (present s) reads place
+      MayRefuse s reads writes causes.Exhausted = All (Holds cmp (present s)) reads × (number_of s ≡ s.last)
+      MayRefuse s reads writes causes.Memory = MayAccept s reads
+      MayRefuse s reads writes causes.NoSlot = MayAccept s reads × (s.slots < s.used + room_for width (length (after_writes cmp writes (present s))))
 
-    -- the writes are made, and the transaction is the last one of the history
-    pub record Accepts (old : State K V) (reads : List (Read K V)) (writes : List (Write K V)) (told : Accepted) (new : State K V) : Type 0 where
-      pub may : MayAccept old reads
-      pub number : told.number ≡ number_of old + 1
-      pub replies : told.replies.items ≡ replies_to cmp writes (present old)
-      pub changed : new ≡ record old { history = old.history ++ transaction_of old reads writes ∷ [] }
+      -- the writes are made, and the transaction is the last one of the history
+      pub record Accepts (old : State K V) (reads : List (Read K V)) (writes : List (Write K V)) (told : Accepted) (new : State K V) : Type 0 where
+        pub may : MayAccept old reads
+        pub number : told.number ≡ number_of old + 1
+        pub replies : told.replies.items ≡ replies_to cmp writes (present old)
+        pub changed : new ≡ record old { history = old.history ++ transaction_of old reads writes ∷ []; used = new.used }
+        pub room : new.used ≤ old.used + room_for width (length (after_writes cmp writes (present old)))
 
-    -- the writes are given back, and nothing changes
-    pub record Refuses (old : State K V) (reads : List (Read K V)) (writes : List (Write K V)) (back : Refused K V) (new : State K V) : Type 0 where
-      pub may : MayRefuse old reads back.cause
-      pub given_back : back.writes.items ≡ writes
-      pub unchanged : new ≡ old
+      -- the writes are given back, and nothing changes
+      pub record Refuses (old : State K V) (reads : List (Read K V)) (writes : List (Write K V)) (back : Refused K V) (new : State K V) : Type 0 where
+        pub may : MayRefuse old reads writes back.cause
+        pub given_back : back.writes.items ≡ writes
+        pub unchanged : new ≡ old
 
-    -- a commit of these reads and writes
-    abbrev pub Commits : State K V → List (Read K V) → List (Write K V) → Result Accepted (Refused K V) → State K V → Type 0
-    Commits old reads writes (Ok told) new = Accepts old reads writes told new
-    Commits old reads writes (Err back) new = Refuses old reads writes back new
+      -- a commit of these reads and writes
+      abbrev pub Commits : State K V → List (Read K V) → List (Write K V) → Result Accepted (Refused K V) → State K V → Type 0
+      Commits old reads writes (Ok told) new = Accepts old reads writes told new
+      Commits old reads writes (Err back) new = Refuses old reads writes back new
+
+      -- only slots and the epoch change; where no session is open, and the epoch can be raised eight times, no more
+      -- slots are in use than the present list may take
+      pub record Reclaims (old new : State K V) : Type 0 where
+        pub changed : new ≡ record old { used = new.used; raises = new.raises }
+        pub fewer : new.used ≤ old.used
+        pub left : IsIdle old → old.raises ≤ 2 ^ 64 - 9 → new.used ≤ room_for width (length (present old))

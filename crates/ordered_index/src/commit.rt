@@ -1,6 +1,6 @@
 //! What a commit is answered.
 
-use crate::write::{Reply, Write};
+use versions::{Reply, Write};
 
 /// An accepted commit.
 #[derive(Debug, Drop)]
@@ -20,6 +20,8 @@ pub enum Cause {
     Exhausted,
     /// A growth or a clone was refused.
     Memory,
+    /// Fewer slots are free than the new version takes.
+    NoSlot,
 }
 
 /// A refused commit. The index is as it was before.

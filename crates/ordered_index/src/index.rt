@@ -1,23 +1,23 @@
-//! The index of one thread, over plain lists.
+//! The index of one thread.
 
-ghost use Rattle.std.specs.Prelude.{◌+◌, ◌≢◌, vec_len, vec_capacity, ◌≡◌, [], None, Some, IfSome, IfNone, IsSome, slice_get, IfOk, OnOk, IsErr, IsOk, IsFalse, OnErr, replicate, IfErr, ◌-◌, ◌<◌, ◌^◌, ◌↔◌, ◌++◌, ◌∷◌};
+ghost use Rattle.std.specs.Prelude.{◌+◌, ◌≢◌, ◌≤◌, vec_len, vec_capacity, ◌≡◌, [], None, IfSome, IfNone, IfOk, OnOk, IsErr, IsOk, OnErr, replicate, length, List, IfErr, ◌-◌, ◌<◌, ◌^◌, ◌↔◌, ◌++◌, ◌∷◌};
 ghost use Rattle.std.specs.Option.{option_copied};
-ghost use Rattle.std.specs.List.{All};
-ghost use Rattle.leaf_array.specs.Pairs.{value_at};
+ghost use Rattle.leaf_array.specs.Pairs.{has_key, value_at};
 ghost use Rattle.leaf_array.specs.Values.{ClonesAreSame, EqualsAreSame};
-ghost use Rattle.ordered_index.specs.Serial.{after_writes, replies_to, Holds};
-ghost use Rattle.ordered_index.specs.Sizes.{IsSized};
-ghost use Rattle.ordered_index.specs.State.{State, number_of, IsOpen, IsFull, IsIdle, Opens, Closes, list_at, present, transaction_of, MayAccept, MayRefuse, Commits};
+ghost use Rattle.versions.specs.Cuts.{pairs_in};
+ghost use Rattle.versions.specs.Writes.{after_writes, replies_to};
+ghost use Rattle.ordered_index.specs.Sizes.{IsSized, room_for};
+ghost use Rattle.ordered_index.specs.State.{State, number_of, IsOpen, IsFull, IsIdle, Opens, Closes, list_at, present, transaction_of, MayAccept, MayRefuse, Commits, Refuses, Reclaims};
 
 use crate::commit::{Accepted, Cause, Refused};
+use crate::conflict::first_conflict;
 use crate::listed::Listed;
-use crate::serial::{applied, copied_reads, first_conflict};
 use crate::session::Session;
-use crate::transaction::{Receipt, Recorded, Transaction};
-use crate::write::{Reply, Write};
-use leaf_array::plain;
+use crate::store::Store;
+use crate::transaction::{Receipt, Recorded, Transaction, copied_reads};
 use std::alloc::{AllocError, Global};
 use std::marker::Model;
+use versions::{Built, Reply, Write};
 
 /// No place is free: as many sessions are open as the index has places.
 #[derive(Clone, Copy, Debug, PartialEq, Eq)]
@@ -27,40 +27,40 @@ pub struct NoPlace;
 /// commits replace.
 ///
 /// Contracts see it as a `State`: its history of accepted transactions, the number of the session
-/// that is open at each place, and its last number. The list of a number is what so many
-/// transactions of the history leave; the present list is that of the present number, which is how
-/// many commits were accepted.
+/// that is open at each place, its last number, how many slots there are and are in use, and how
+/// often the epoch was raised. The list of a number is what so many transactions of the history
+/// leave; the present list is that of the present number, which is how many commits were accepted.
+///
+/// Each list is a version: a directory of segments of 1 to `S` pairs, which take a slot each. A
+/// version stays while a session has it, and is reclaimed by [`reclaim`](LocalIndex::reclaim).
 ///
 /// Keys and values are such that a clone is the value itself (asked where a call clones), and
 /// equals are one value (asked where a call compares values). An index must be spent, by
 /// [`close`](LocalIndex::close).
 pub struct LocalIndex<K: Clone + Ord, V: Clone + Eq, const S: usize> {
     alloc: Global,
-    // the list of each number
-    lists: Vec<Listed<(K, V)>>,
+    store: Store<K, V, S>,
     history: Vec<Transaction<K, V>>,
-    // the number of the session that is open there
-    places: Vec<Option<u64>>,
     last: u64,
 }
 
 impl<K: Clone + Ord, V: Clone + Eq, const S: usize> Model for LocalIndex<K, V, S> {
     ghost use Rattle.ordered_index.specs.State.{State};
-    ghost use Rattle.ordered_index.specs.Inside.{IsKept};
+    ghost use Rattle.ordered_index.specs.Inside.{IsKept, state_of};
 
     ghost Value = { State K V };
 
-    ghost view = { λ a. record { history = a.history.items; places = a.places.items; last = a.last } };
+    ghost view = { λ a. state_of a.store a.history.items a.last };
 
-    ghost invariant = { λ a. IsKept K.cmp a.lists.items a.history.items a.places.items a.last };
+    ghost invariant = { λ a. IsKept K.cmp S a.store a.history.items a.last };
 }
 
 impl<K: Clone + Ord, V: Clone + Eq, const S: usize> LocalIndex<K, V, S> {
-    /// An empty index, for so many sessions at a time and with so many slots. Its last number is
-    /// `2^64 - 1`. Refused where memory is.
+    /// An empty index, for so many sessions at a time and with so many slots, of which the empty
+    /// version takes one. Its last number is `2^64 - 1`. Refused where memory is.
     pub fn new(alloc: Global, places: usize, slots: usize) -> Result<Self, AllocError>
         requires { IsSized places slots S }
-        ensures { IfOk result (λ index. index ≡ record { history = []; places = replicate places None; last = 2 ^ 64 - 1 }) }
+        ensures { IfOk result (λ index. index ≡ record { history = []; places = replicate places None; last = 2 ^ 64 - 1; slots = slots; used = 1; raises = 0 }) }
     {
         Self::with_last(alloc, places, slots, u64::MAX)
     }
@@ -74,15 +74,12 @@ impl<K: Clone + Ord, V: Clone + Eq, const S: usize> LocalIndex<K, V, S> {
         last: u64,
     ) -> Result<Self, AllocError>
         requires { IsSized places slots S }
-        ensures { IfOk result (λ index. index ≡ record { history = []; places = replicate places None; last = last }) }
+        ensures { IfOk result (λ index. index ≡ record { history = []; places = replicate places None; last = last; slots = slots; used = 1; raises = 0 }) }
     {
-        let mut lists = Vec::new(alloc);
-        lists.push(Listed::new(alloc))?;
         Ok(LocalIndex {
             alloc,
-            lists,
+            store: Store::new(alloc, places, slots)?,
             history: Vec::new(alloc),
-            places: Vec::from_elem(alloc, None, places)?,
             last,
         })
     }
@@ -96,10 +93,9 @@ impl<K: Clone + Ord, V: Clone + Eq, const S: usize> LocalIndex<K, V, S> {
         ensures err { OnErr result (self.new ≡ self.old) }
     {
         let number = self.history.len() as u64;
-        let Some(place) = free_place(&self.places) else {
+        let Some(place) = self.store.open() else {
             return Err(NoPlace);
         };
-        self.places[place] = Some(number);
         let receipt = Receipt {
             number,
             reads: Listed::new(self.alloc),
@@ -120,7 +116,23 @@ impl<K: Clone + Ord, V: Clone + Eq, const S: usize> LocalIndex<K, V, S> {
         requires { IsOpen self.now session.now }
         ensures { option_copied result ≡ value_at K.cmp key.now (list_at K.cmp self.now session.now.receipt.number) }
     {
-        plain::find_value(self.list_of(session), key)
+        self.store.find(session.place(), key)
+    }
+
+    /// Whether a pair of the session's list has the key. The read isn't recorded.
+    pub fn contains(&self, session: &Session<K, V>, key: &K) -> bool
+        requires { IsOpen self.now session.now }
+        ensures { result ≡ has_key K.cmp key.now (list_at K.cmp self.now session.now.receipt.number) }
+    {
+        self.get(session, key).is_some()
+    }
+
+    /// How many pairs the session's list has.
+    pub fn len(&self, session: &Session<K, V>) -> usize
+        requires { IsOpen self.now session.now }
+        ensures { result ≡ length (list_at K.cmp self.now session.now.receipt.number) }
+    {
+        self.store.len(session.place())
     }
 
     /// What the session recorded, and its number.
@@ -135,7 +147,9 @@ impl<K: Clone + Ord, V: Clone + Eq, const S: usize> LocalIndex<K, V, S> {
     /// nothing and hands the writes back.
     ///
     /// The causes are decided in this order: `Conflict` with the first read whose answer isn't that
-    /// of the present list, whatever its number; `Exhausted` at the last number; `Memory`.
+    /// of the present list, whatever its number; `Exhausted` at the last number; `Memory`; `NoSlot`,
+    /// where fewer slots are free than the new version takes. That of `n` pairs takes at most
+    /// `2 * (n / (S + 1)) + 2`.
     pub fn commit(
         &mut self,
         receipt: &Receipt<K, V>,
@@ -144,25 +158,41 @@ impl<K: Clone + Ord, V: Clone + Eq, const S: usize> LocalIndex<K, V, S> {
         requires keys { ClonesAreSame K.is_clone }
         requires values { ClonesAreSame V.is_clone }
         requires equals { EqualsAreSame V.eq }
-        ensures commits { Commits K.cmp self.old receipt.now.reads writes.items result self.new }
+        ensures commits { Commits K.cmp S self.old receipt.now.reads writes.items result self.new }
         ensures sessions { self.new.places ≡ self.old.places }
     {
-        if let Some(cause) = self.objection(receipt.reads.as_slice()) {
+        let reads = receipt.reads.as_slice();
+        if let Some(cause) = self.objection(reads) {
             return Err(Refused { cause, writes });
         }
         let number = self.next_number();
-        let reads = receipt.reads.as_slice();
-        let Ok(draft) = drafted(self.allocator(), self.present(), reads, writes.as_slice()) else {
+        let Ok(draft) = self.draft(reads, writes.as_slice()) else {
             let cause = Cause::Memory;
             return Err(Refused { cause, writes });
         };
         match self.append(draft, writes) {
             Ok(replies) => Ok(Accepted { number, replies }),
-            Err(writes) => Err(Refused {
-                cause: Cause::Memory,
-                writes,
-            }),
+            Err(refused) => Err(refused),
         }
+    }
+
+    /// How many slots are in use: those of the present version, of versions that sessions have, and
+    /// of what is yet to be reclaimed.
+    pub fn slots_in_use(&self) -> usize
+        ensures { result ≡ self.now.used }
+    {
+        self.store.slots_in_use()
+    }
+
+    /// Reclaims versions that no session has, with their segments: it opens and closes eight
+    /// accelerated guards of the writer. Where no session is open, at most
+    /// `2 * (n / (S + 1)) + 2` slots are in use afterwards, for the `n` present pairs, as long as
+    /// the epoch was raised at most `2^64 - 9` times. While one is open, that may leave more. It takes
+    /// no memory.
+    pub fn reclaim(&mut self)
+        ensures { Reclaims K.cmp S self.old self.new }
+    {
+        self.store.reclaim();
     }
 
     /// Closes a session, and gives its receipt.
@@ -172,7 +202,7 @@ impl<K: Clone + Ord, V: Clone + Eq, const S: usize> LocalIndex<K, V, S> {
         ensures closes { Closes self.old session.place self.new }
     {
         let (place, receipt) = session.into_parts();
-        self.places[place] = None;
+        self.store.close(place);
         receipt
     }
 
@@ -181,34 +211,26 @@ impl<K: Clone + Ord, V: Clone + Eq, const S: usize> LocalIndex<K, V, S> {
         ensures idle { IsOk result ↔ IsIdle self }
         ensures err { IfErr result (λ back. back ≡ self) }
     {
-        if any_taken(&self.places) {
+        if !self.store.is_idle() {
             return Err(self);
         }
         let LocalIndex {
             alloc: _,
-            lists: _,
+            store,
             history: _,
-            places: _,
             last: _,
         } = self;
+        store.end();
         Ok(())
     }
 
-    // The list at the session's opening.
-    fn list_of(&self, session: &Session<K, V>) -> &[(K, V)]
-        requires { IsOpen self.now session.now }
-        ensures { result.now ≡ list_at K.cmp self.now session.now.receipt.number }
-    {
-        self.lists[session.number() as usize].as_slice()
-    }
-
-    // Why a commit of these reads is refused, memory aside.
+    // Why a commit of these reads is refused, whatever it writes.
     fn objection(&self, reads: &[Recorded<K, V>]) -> Option<Cause>
         requires { EqualsAreSame V.eq }
-        ensures some { IfSome result (MayRefuse K.cmp self.now reads.now) }
+        ensures some { IfSome result (λ cause. (writes : List (Write K V)) → MayRefuse K.cmp S self.now reads.now writes cause) }
         ensures none { IfNone result (MayAccept K.cmp self.now reads.now) }
     {
-        match first_conflict(self.present(), reads) {
+        match first_conflict(&self.store, reads) {
             Some(place) => Some(Cause::Conflict(place)),
             None => {
                 if self.present_number() == self.last() {
@@ -218,10 +240,6 @@ impl<K: Clone + Ord, V: Clone + Eq, const S: usize> LocalIndex<K, V, S> {
                 }
             }
         }
-    }
-
-    fn allocator(&self) -> Global {
-        self.alloc
     }
 
     fn last(&self) -> u64
@@ -245,33 +263,57 @@ impl<K: Clone + Ord, V: Clone + Eq, const S: usize> LocalIndex<K, V, S> {
         self.history.len() as u64 + 1
     }
 
-    fn present(&self) -> &[(K, V)]
-        ensures { result.now ≡ present K.cmp self.now }
+    // All that a commit wants memory for, but room in the history.
+    fn draft(
+        &self,
+        reads: &[Recorded<K, V>],
+        writes: &[Write<K, V>],
+    ) -> Result<Draft<K, V, S>, AllocError>
+        requires keys { ClonesAreSame K.is_clone }
+        requires values { ClonesAreSame V.is_clone }
+        requires more { number_of self.now ≢ self.now.last }
+        ensures number { IfOk result (λ draft. draft.built.number ≡ number_of self.now + 1) }
+        ensures list { IfOk result (λ draft. pairs_in draft.built.blocks ≡ after_writes K.cmp writes.now (present K.cmp self.now)) }
+        ensures reads { IfOk result (λ draft. draft.reads ≡ reads.now) }
+        ensures replies { IfOk result (λ draft. draft.replies ≡ replies_to K.cmp writes.now (present K.cmp self.now)) }
+        ensures told { IfOk result (λ draft. draft.told.items ≡ replies_to K.cmp writes.now (present K.cmp self.now)) }
     {
-        self.lists[self.history.len()].as_slice()
+        // what is read here tells the proof that the number is below the last one
+        let _last = self.last;
+        let reads = copied_reads(self.alloc, reads)?;
+        let (built, told) = self.store.build(self.alloc, writes)?;
+        let replies = Vec::from_slice(self.alloc, told.as_slice())?;
+        Ok(Draft {
+            built,
+            reads,
+            replies: Listed::from_vec(replies),
+            told,
+        })
     }
 
     // Adds a transaction whose reads hold. All room is made before anything changes.
     fn append(
         &mut self,
-        draft: Draft<K, V>,
+        draft: Draft<K, V, S>,
         writes: Vec<Write<K, V>>,
-    ) -> Result<Vec<Reply>, Vec<Write<K, V>>>
-        requires list { draft.list ≡ after_writes K.cmp writes.items (present K.cmp self.old) }
+    ) -> Result<Vec<Reply>, Refused<K, V>>
+        requires number { draft.built.number ≡ number_of self.old + 1 }
+        requires list { pairs_in draft.built.blocks ≡ after_writes K.cmp writes.items (present K.cmp self.old) }
         requires replies { draft.replies ≡ replies_to K.cmp writes.items (present K.cmp self.old) }
         requires accepted { MayAccept K.cmp self.old draft.reads }
         ensures told { IfOk result (λ told. told ≡ draft.told) }
-        ensures ok { OnOk result (self.new ≡ record self.old { history = self.old.history ++ transaction_of K.cmp self.old draft.reads writes.items ∷ [] }) }
-        ensures writes { IfErr result (λ back. back.items ≡ writes.items) }
-        ensures err { OnErr result (self.new ≡ self.old) }
+        ensures ok { OnOk result (self.new ≡ record self.old { history = self.old.history ++ transaction_of K.cmp self.old draft.reads writes.items ∷ []; used = self.new.used }) }
+        ensures room { OnOk result (self.new.used ≤ self.old.used + room_for S (length (after_writes K.cmp writes.items (present K.cmp self.old)))) }
+        ensures refused { IfErr result (λ back. Refuses K.cmp S self.old draft.reads writes.items back self.new) }
     {
-        let Ok(()) = self.lists.reserve(1) else {
-            return Err(writes);
-        };
         let Ok(()) = self.history.reserve(1) else {
-            return Err(writes);
+            let cause = Cause::Memory;
+            return Err(Refused { cause, writes });
         };
-        put(&mut self.lists, draft.list);
+        let Ok(()) = self.store.publish(draft.built) else {
+            let cause = Cause::NoSlot;
+            return Err(Refused { cause, writes });
+        };
         let transaction = Transaction {
             reads: draft.reads,
             writes: Listed::from_vec(writes),
@@ -284,67 +326,18 @@ impl<K: Clone + Ord, V: Clone + Eq, const S: usize> LocalIndex<K, V, S> {
 
 // What a commit is to add, and what it is to answer.
 #[derive(Drop)]
-struct Draft<K, V> {
-    list: Listed<(K, V)>,
+struct Draft<K: Clone + Ord, V: Clone, const S: usize> {
+    built: Built<K, V, S>,
     reads: Listed<Recorded<K, V>>,
     replies: Listed<Reply>,
     told: Vec<Reply>,
 }
 
-// All that a commit wants memory for, but room in the history.
-fn drafted<K: Clone + Ord, V: Clone>(
-    alloc: Global,
-    pairs: &[(K, V)],
-    reads: &[Recorded<K, V>],
-    writes: &[Write<K, V>],
-) -> Result<Draft<K, V>, AllocError>
-    requires keys { ClonesAreSame K.is_clone }
-    requires values { ClonesAreSame V.is_clone }
-    ensures list { IfOk result (λ draft. draft.list ≡ after_writes K.cmp writes.now pairs.now) }
-    ensures reads { IfOk result (λ draft. draft.reads ≡ reads.now) }
-    ensures replies { IfOk result (λ draft. draft.replies ≡ replies_to K.cmp writes.now pairs.now) }
-    ensures told { IfOk result (λ draft. draft.told.items ≡ replies_to K.cmp writes.now pairs.now) }
-{
-    let reads = copied_reads(alloc, reads)?;
-    let (list, told) = applied(alloc, pairs, writes)?;
-    let replies = Vec::from_slice(alloc, told.as_slice())?;
-    Ok(Draft {
-        list: Listed::from_vec(list),
-        reads,
-        replies: Listed::from_vec(replies),
-        told,
-    })
-}
-
-// A place where no session is open.
-fn free_place(places: &[Option<u64>]) -> Option<usize>
-    ensures some { IfSome result (λ place. slice_get places.now place ≡ Some None) }
-    ensures none { IfNone result (All IsSome places.now) }
-{
-    for place in 0..places.len() {
-        if places[place].is_none() {
-            return Some(place);
-        }
-    }
-    None
-}
-
-// Whether a session is open at some place.
-fn any_taken(places: &[Option<u64>]) -> bool
-    ensures { IsFalse result ↔ All (λ p. p ≡ None) places.now }
-{
-    for place in places {
-        if place.is_some() {
-            return true;
-        }
-    }
-    false
-}
-
 // Puts an item where room was made.
 pub(crate) fn put<T: Drop>(items: &mut Vec<T>, item: T)
     requires { vec_len items.old < vec_capacity items.old }
-    ensures { items.new.items ≡ items.old.items ++ item ∷ [] }
+    ensures items { items.new.items ≡ items.old.items ++ item ∷ [] }
+    ensures room { vec_capacity items.old ≤ vec_capacity items.new }
 {
     items.push(item).unwrap();
 }

@@ -16,15 +16,16 @@
 #![tactic(auto)]
 
 mod commit;
+pub mod conflict;
 mod desk;
 mod index;
 mod listed;
+pub mod plain;
 mod play;
 mod query;
-mod serial;
 mod session;
+mod store;
 mod transaction;
-mod write;
 
 pub use commit::{Accepted, Cause, Refused};
 pub use desk::Desk;
@@ -34,9 +35,15 @@ pub use play::{DeskCall, DeskReply, ReadSet, play_all};
 pub use query::{Answer, Query};
 pub use session::Session;
 pub use transaction::{Receipt, Recorded, Transaction};
-pub use write::{Reply, Write};
+pub use versions::{Reply, Write};
 
+#[cfg(test)]
+mod call_tests;
+#[cfg(test)]
+mod random_tests;
 #[cfg(test)]
 mod refusals;
 #[cfg(test)]
 mod tests;
+#[cfg(test)]
+mod version_tests;

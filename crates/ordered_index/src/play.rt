@@ -2,15 +2,15 @@
 
 ghost use Rattle.std.specs.Prelude.{◌≡◌, ◌<◌, [], ℕ, IfOk, IfErr, IfSome, IfNone, OnErr, OnOk, take, length};
 ghost use Rattle.leaf_array.specs.Values.{ClonesAreSame, EqualsAreSame};
-ghost use Rattle.ordered_index.specs.Desk.{Serves, KeepsAll, RestsOn, RestsOnNone, OpenStep, CloseStep, GetStep, CommitStep, Step, Run};
+ghost use Rattle.ordered_index.specs.Desk.{Serves, KeepsAll, RestsOn, RestsOnNone, OpenStep, CloseStep, GetStep, NumberStep, LenStep, CommitStep, Step, Run};
 
 use crate::commit::{Accepted, Cause, Refused};
 use crate::desk::{Desk, Seat};
 use crate::index::{LocalIndex, NoPlace, put};
 use crate::query::Answer;
 use crate::transaction::Receipt;
-use crate::write::Write;
 use std::alloc::{AllocError, Global};
+use versions::Write;
 
 /// The reads that a commit rests on.
 #[derive(Debug, Drop)]
@@ -34,6 +34,14 @@ pub enum DeskCall<K, V> {
     Get(u64, K),
     /// Commits the writes, on these reads.
     Commit(ReadSet<K, V>, Vec<Write<K, V>>),
+    /// Reclaims versions that no session has.
+    Reclaim,
+    /// Asks how many slots are in use.
+    Slots,
+    /// Asks for the number of the session's list.
+    Number(u64),
+    /// Asks how many pairs the session's list has.
+    Len(u64),
 }
 
 /// The reply to a [`DeskCall`].
@@ -55,6 +63,14 @@ pub enum DeskReply<K, V> {
     Accepted(Accepted),
     /// The commit was refused. Nothing changed.
     Refused(Refused<K, V>),
+    /// Versions were reclaimed.
+    Reclaimed,
+    /// So many slots are in use.
+    Slots(usize),
+    /// The session's list has this number.
+    Number(u64),
+    /// The session's list has so many pairs.
+    Len(usize),
 }
 
 /// Makes the calls, one after the other, each at most once.
@@ -73,8 +89,8 @@ pub fn play_all<K: Clone + Ord, V: Clone + Eq, const S: usize>(
     requires keys { ClonesAreSame K.is_clone }
     requires values { ClonesAreSame V.is_clone }
     requires equals { EqualsAreSame V.eq }
-    ensures run { IfOk result (λ replies. Run K.cmp (record { index = index.old; desk = desk.old }) calls.items replies.items (record { index = index.new; desk = desk.new })) }
-    ensures stopped { IfErr result (λ stop. (n : ℕ) × (n < length calls.items) × Run K.cmp (record { index = index.old; desk = desk.old }) (take n calls.items) stop.0.items (record { index = index.new; desk = desk.new })) }
+    ensures run { IfOk result (λ replies. Run K.cmp S (record { index = index.old; desk = desk.old }) calls.items replies.items (record { index = index.new; desk = desk.new })) }
+    ensures stopped { IfErr result (λ stop. (n : ℕ) × (n < length calls.items) × Run K.cmp S (record { index = index.old; desk = desk.old }) (take n calls.items) stop.0.items (record { index = index.new; desk = desk.new })) }
     ensures serves { Serves (record { index = index.new; desk = desk.new }) }
     ensures keeps_all { KeepsAll (record { index = index.old; desk = desk.old }) → KeepsAll (record { index = index.new; desk = desk.new }) }
 {
@@ -102,7 +118,7 @@ fn play<K: Clone + Ord, V: Clone + Eq, const S: usize>(
     requires keys { ClonesAreSame K.is_clone }
     requires values { ClonesAreSame V.is_clone }
     requires equals { EqualsAreSame V.eq }
-    ensures step { IfOk result (λ reply. Step K.cmp (record { index = index.old; desk = desk.old }) call reply (record { index = index.new; desk = desk.new })) }
+    ensures step { IfOk result (λ reply. Step K.cmp S (record { index = index.old; desk = desk.old }) call reply (record { index = index.new; desk = desk.new })) }
     ensures index_kept { OnErr result (index.new ≡ index.old) }
     ensures desk_kept { OnErr result (desk.new ≡ desk.old) }
     ensures serves { Serves (record { index = index.new; desk = desk.new }) }
@@ -113,6 +129,13 @@ fn play<K: Clone + Ord, V: Clone + Eq, const S: usize>(
         DeskCall::Close(label) => Ok(play_close(alloc, index, desk, label)),
         DeskCall::Get(label, key) => play_get(alloc, index, desk, label, &key),
         DeskCall::Commit(on, writes) => play_commit(alloc, index, desk, &on, writes),
+        DeskCall::Reclaim => {
+            index.reclaim();
+            Ok(DeskReply::Reclaimed)
+        }
+        DeskCall::Slots => Ok(DeskReply::Slots(index.slots_in_use())),
+        DeskCall::Number(label) => Ok(play_number(alloc, index, desk, label)),
+        DeskCall::Len(label) => Ok(play_len(alloc, index, desk, label)),
     }
 }
 
@@ -123,7 +146,7 @@ fn play_open<K: Clone + Ord, V: Clone + Eq, const S: usize>(
     label: u64,
 ) -> DeskReply<K, V>
     requires { Serves (record { index = index.old; desk = desk.old }) }
-    ensures step { OpenStep K.cmp (record { index = index.old; desk = desk.old }) label result (record { index = index.new; desk = desk.new }) }
+    ensures step { OpenStep K.cmp S (record { index = index.old; desk = desk.old }) label result (record { index = index.new; desk = desk.new }) }
     ensures serves { Serves (record { index = index.new; desk = desk.new }) }
     ensures keeps_all { KeepsAll (record { index = index.old; desk = desk.old }) → KeepsAll (record { index = index.new; desk = desk.new }) }
 {
@@ -148,7 +171,7 @@ fn play_close<K: Clone + Ord, V: Clone + Eq, const S: usize>(
     label: u64,
 ) -> DeskReply<K, V>
     requires { Serves (record { index = index.old; desk = desk.old }) }
-    ensures step { CloseStep K.cmp (record { index = index.old; desk = desk.old }) label result (record { index = index.new; desk = desk.new }) }
+    ensures step { CloseStep K.cmp S (record { index = index.old; desk = desk.old }) label result (record { index = index.new; desk = desk.new }) }
     ensures serves { Serves (record { index = index.new; desk = desk.new }) }
     ensures keeps_all { KeepsAll (record { index = index.old; desk = desk.old }) → KeepsAll (record { index = index.new; desk = desk.new }) }
 {
@@ -168,7 +191,7 @@ fn play_get<K: Clone + Ord, V: Clone + Eq, const S: usize>(
 ) -> Result<DeskReply<K, V>, AllocError>
     requires serves { Serves (record { index = index.now; desk = desk.now }) }
     requires values { ClonesAreSame V.is_clone }
-    ensures { IfOk result (λ reply. GetStep K.cmp (record { index = index.now; desk = desk.now }) label key.now reply (record { index = index.now; desk = desk.now })) }
+    ensures { IfOk result (λ reply. GetStep K.cmp S (record { index = index.now; desk = desk.now }) label key.now reply (record { index = index.now; desk = desk.now })) }
 {
     let Some(seat) = desk.seat(label) else {
         return Ok(DeskReply::NoSession(Vec::new(alloc)));
@@ -178,6 +201,37 @@ fn play_get<K: Clone + Ord, V: Clone + Eq, const S: usize>(
         None => None,
     };
     Ok(DeskReply::Answer(Answer::Get(found)))
+}
+
+// Tells the number of the session under a label.
+fn play_number<K: Clone + Ord, V: Clone + Eq, const S: usize>(
+    alloc: Global,
+    index: &LocalIndex<K, V, S>,
+    desk: &Desk<K, V>,
+    label: u64,
+) -> DeskReply<K, V>
+    ensures { NumberStep K.cmp S (record { index = index.now; desk = desk.now }) label result (record { index = index.now; desk = desk.now }) }
+{
+    let Some(seat) = desk.seat(label) else {
+        return DeskReply::NoSession(Vec::new(alloc));
+    };
+    DeskReply::Number(index.number(&seat.session))
+}
+
+// Tells how many pairs the session under a label reads.
+fn play_len<K: Clone + Ord, V: Clone + Eq, const S: usize>(
+    alloc: Global,
+    index: &LocalIndex<K, V, S>,
+    desk: &Desk<K, V>,
+    label: u64,
+) -> DeskReply<K, V>
+    requires { Serves (record { index = index.now; desk = desk.now }) }
+    ensures { LenStep K.cmp S (record { index = index.now; desk = desk.now }) label result (record { index = index.now; desk = desk.now }) }
+{
+    let Some(seat) = desk.seat(label) else {
+        return DeskReply::NoSession(Vec::new(alloc));
+    };
+    DeskReply::Len(index.len(&seat.session))
 }
 
 // Commits writes on these reads.
@@ -192,7 +246,7 @@ fn play_commit<K: Clone + Ord, V: Clone + Eq, const S: usize>(
     requires keys { ClonesAreSame K.is_clone }
     requires values { ClonesAreSame V.is_clone }
     requires equals { EqualsAreSame V.eq }
-    ensures step { IfOk result (λ reply. CommitStep K.cmp (record { index = index.old; desk = desk.now }) on.now writes.items reply (record { index = index.new; desk = desk.now })) }
+    ensures step { IfOk result (λ reply. CommitStep K.cmp S (record { index = index.old; desk = desk.now }) on.now writes.items reply (record { index = index.new; desk = desk.now })) }
     ensures err { OnErr result (index.new ≡ index.old) }
     ensures serves { Serves (record { index = index.new; desk = desk.now }) }
     ensures keeps_all { KeepsAll (record { index = index.old; desk = desk.now }) → KeepsAll (record { index = index.new; desk = desk.now }) }

@@ -2,6 +2,7 @@
 //! refused, nothing has changed, and the same call then succeeds.
 
 ghost use Rattle.std.specs.Prelude.{◌≡◌, [], None, replicate, ◌^◌, ◌-◌};
+ghost use Rattle.ordered_index.specs.Desk.{Serves};
 
 use crate::{
     Accepted, Cause, Desk, DeskCall, DeskReply, LocalIndex, ReadSet, Receipt, Reply, Write,
@@ -16,7 +17,7 @@ const TWICE: &str = "memory was refused twice";
 
 // An index with one place, whose making is tried again where memory was refused.
 fn numbers<R: Abort>(rt: &R, alloc: Global, met: &mut bool) -> Numbers
-    ensures { result ≡ record { history = []; places = replicate 1 None; last = 2 ^ 64 - 1 } }
+    ensures { result ≡ record { history = []; places = replicate 1 None; last = 2 ^ 64 - 1; slots = 16; used = 1; raises = 0 } }
 {
     match Numbers::new(alloc, 1, 16) {
         Ok(index) => index,
@@ -66,9 +67,11 @@ fn commit<R: Abort>(rt: &R, alloc: Global, index: &mut Numbers, met: &mut bool) 
     };
     *met = true;
     assert!(rt; refused.cause == Cause::Memory);
+    assert!(rt; index.slots_in_use() == 1);
     assert!(rt; refused.writes.as_slice() == &[Write::Insert(1, 10), Write::Insert(1, 11)][..]);
     let session = index.open().expect(rt, "a free place");
     assert!(rt; index.number(&session) == 0);
+    assert!(rt; index.len(&session) == 0);
     assert!(rt; index.get(&session, &1).is_none());
     let _receipt = index.close_session(session);
     index.commit(&blank, refused.writes).expect(rt, TWICE)
@@ -81,6 +84,8 @@ fn writes_and_reads<R: Abort>(rt: &R, alloc: Global) -> bool {
     let accepted = commit(rt, alloc, &mut index, &mut met);
     assert!(rt; accepted.number == 1);
     assert!(rt; accepted.replies.as_slice() == &[Reply::Inserted, Reply::Duplicate][..]);
+    // the empty version, a segment and a directory
+    assert!(rt; index.slots_in_use() == 3);
     let session = index.open().expect(rt, "a free place");
     assert!(rt; index.get(&session, &1) == Some(&10));
     let _receipt = index.close_session(session);
@@ -137,28 +142,41 @@ fn are_in_order(replies: &[DeskReply<u64, u64>], first: usize) -> bool {
         .all(|(i, reply)| place_of(reply) == first.saturating_add(i))
 }
 
-// Whether an allocation was refused while calls were played. The calls from the refused one on are
-// played again, as if it had not been met.
+// Plays all calls, and those from the one on that was refused memory again, as if that had not been.
+fn play_twice<R: Abort>(
+    rt: &R,
+    alloc: Global,
+    index: &mut Numbers,
+    desk: &mut Desk<u64, u64>,
+    met: &mut bool,
+)
+    requires serves { Serves (record { index = index.old; desk = desk.old }) }
+    ensures serves { Serves (record { index = index.new; desk = desk.new }) }
+{
+    let all = calls(rt, alloc, 0, met);
+    let played = match play_all(alloc, index, desk, all) {
+        Ok(replies) => {
+            assert!(rt; replies.len() == 4);
+            assert!(rt; are_in_order(replies.as_slice(), 0));
+            return;
+        }
+        Err((replies, AllocError)) => replies,
+    };
+    *met = true;
+    assert!(rt; are_in_order(played.as_slice(), 0));
+    let rest = calls(rt, alloc, played.len(), met);
+    match play_all(alloc, index, desk, rest) {
+        Ok(others) => assert!(rt; are_in_order(others.as_slice(), played.len())),
+        Err(_stopped) => panic!(rt; "memory was refused twice"),
+    }
+}
+
+// Whether an allocation was refused while calls were played.
 fn plays<R: Abort>(rt: &R, alloc: Global) -> bool {
     let mut met = false;
     let mut index = numbers(rt, alloc, &mut met);
     let mut desk = desk(rt, alloc, &mut met);
-    let all = calls(rt, alloc, 0, &mut met);
-    match play_all(alloc, &mut index, &mut desk, all) {
-        Ok(replies) => {
-            assert!(rt; replies.len() == 4);
-            assert!(rt; are_in_order(replies.as_slice(), 0));
-        }
-        Err((replies, AllocError)) => {
-            met = true;
-            assert!(rt; are_in_order(replies.as_slice(), 0));
-            let rest = calls(rt, alloc, replies.len(), &mut met);
-            match play_all(alloc, &mut index, &mut desk, rest) {
-                Ok(others) => assert!(rt; are_in_order(others.as_slice(), replies.len())),
-                Err(_stopped) => panic!(rt; "memory was refused twice"),
-            }
-        }
-    }
+    play_twice(rt, alloc, &mut index, &mut desk, &mut met);
     desk.end(&mut index);
     match index.close() {
         Ok(()) => met,

@@ -33,7 +33,7 @@ fn a_session_reads_the_list_at_its_opening(rt: HostRuntime) -> Result<(), Fail> 
     let blank = Receipt::blank(alloc);
     let first = inserts(alloc, &[(1, 10), (1, 11)])?;
     let second = inserts(alloc, &[(2, 20)])?;
-    let mut index = Numbers::new(alloc, 2, 16).expect(&rt, "room for an index");
+    let mut index = Numbers::new(alloc, 1, 16).expect(&rt, "room for an index");
     let accepted = index
         .commit(&blank, first)
         .expect(&rt, "an accepted commit");
@@ -53,19 +53,19 @@ fn a_session_reads_the_list_at_its_opening(rt: HostRuntime) -> Result<(), Fail> 
     );
     assert_eq!(rt; index.get(&a, &1).copied(), Some(10));
     assert_eq!(rt; index.get(&a, &2).copied(), None);
+    match index.open() {
+        Err(NoPlace) => {}
+        Ok(_open) => panic!(rt; "a second session was opened"),
+    }
+    let mut index = match index.close() {
+        Ok(()) => panic!(rt; "it was closed with a session open"),
+        Err(index) => index,
+    };
+    assert_eq!(rt; index.close_session(a).number, 1);
     let b = index.open().expect(&rt, "a free place");
     assert_eq!(rt; index.number(&b), 2);
     assert_eq!(rt; index.get(&b, &2).copied(), Some(20));
     assert_eq!(rt; index.receipt(&b).number, 2);
-    match index.open() {
-        Err(NoPlace) => {}
-        Ok(_open) => panic!(rt; "a third session was opened"),
-    }
-    let mut index = match index.close() {
-        Ok(()) => panic!(rt; "it was closed with sessions open"),
-        Err(index) => index,
-    };
-    assert_eq!(rt; index.close_session(a).number, 1);
     assert_eq!(rt; index.close_session(b).reads.as_slice().len(), 0);
     end(&rt, index);
     Ok(())
@@ -78,7 +78,7 @@ fn the_last_number_is_exhausted_after_conflicts(rt: HostRuntime) -> Result<(), F
     let wrong = claims(alloc, 5, Some(1))?;
     let first = inserts(alloc, &[(1, 10)])?;
     let second = inserts(alloc, &[(5, 50)])?;
-    let mut index = Numbers::with_last(alloc, 1, 1, 1).expect(&rt, "room for an index");
+    let mut index = Numbers::with_last(alloc, 1, 16, 1).expect(&rt, "room for an index");
     assert_eq!(rt;
         index
             .commit(&blank, first)
@@ -171,7 +171,12 @@ fn word(reply: &DeskReply<u64, u64>) -> (&'static str, u64) {
             Cause::Conflict(place) => ("conflict", place as u64),
             Cause::Exhausted => ("exhausted", 0),
             Cause::Memory => ("memory", 0),
+            Cause::NoSlot => ("no slot", 0),
         },
+        DeskReply::Reclaimed => ("reclaimed", 0),
+        DeskReply::Slots(count) => ("slots", *count as u64),
+        DeskReply::Number(number) => ("number", *number),
+        DeskReply::Len(count) => ("len", *count as u64),
     }
 }
 

@@ -1,11 +1,12 @@
 //! What sessions read, and what accepted commits leave behind.
 
-ghost use Rattle.std.specs.Prelude.{◌≡◌, []};
+ghost use Rattle.std.specs.Prelude.{◌≡◌, [], IfOk};
+ghost use Rattle.leaf_array.specs.Values.{ClonesAreSame};
 
 use crate::listed::Listed;
 use crate::query::{Answer, Query};
-use crate::write::{Reply, Write};
-use std::alloc::Global;
+use std::alloc::{AllocError, Global};
+use versions::{Reply, Write};
 
 /// A recorded read: a query, and the answer that was given to it or is claimed of it.
 pub type Recorded<K, V> = (Query<K>, Answer<V>);
@@ -44,4 +45,16 @@ pub struct Transaction<K, V> {
     pub writes: Listed<Write<K, V>>,
     /// What each write was told.
     pub replies: Listed<Reply>,
+}
+
+/// A copy of recorded reads.
+pub(crate) fn copied_reads<K: Clone, V: Clone>(
+    alloc: Global,
+    reads: &[Recorded<K, V>],
+) -> Result<Listed<Recorded<K, V>>, AllocError>
+    requires keys { ClonesAreSame K.is_clone }
+    requires values { ClonesAreSame V.is_clone }
+    ensures { IfOk result (λ copy. copy ≡ reads.now) }
+{
+    Ok(Listed::from_vec(Vec::from_clones(alloc, reads)?))
 }

@@ -1,6 +1,5 @@
 use Rattle.std.proofs.Common.{ℕ, ◌<◌}
 use Rattle.ordered_index.specs.Desk.{SitsAt}
-use Rattle.ordered_index.specs.declared.desk.Seat.{Seat}
 use Rattle.ordered_index.proofs.desk.place_of.Given as goal
 
 -- no seat so far has the label

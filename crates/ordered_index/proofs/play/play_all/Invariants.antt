@@ -8,7 +8,7 @@ abbrev pub invariant-loop-call : goal.invariant-loop-call
 invariant-loop-call g l = record {
   whole : l.yielded ++ into_iter_items l.call-iterator ≡ l.fn.calls.items;
   counted : into_iter_len l.call-iterator ≡ length (into_iter_items l.call-iterator);
-  played : Run g.K.Ord.cmp (record { index = l.fn.index; desk = l.fn.desk }) l.yielded l.replies.items (record { index = l.index; desk = l.desk });
+  played : Run g.K.Ord.cmp g.row.S (record { index = l.fn.index; desk = l.fn.desk }) l.yielded l.replies.items (record { index = l.index; desk = l.desk });
   serves : Serves (record { index = l.index; desk = l.desk });
   keeps_all : KeepsAll (record { index = l.fn.index; desk = l.fn.desk }) → KeepsAll (record { index = l.index; desk = l.desk });
 }

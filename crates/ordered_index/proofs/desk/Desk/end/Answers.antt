@@ -1,4 +1,4 @@
-use Rattle.std.proofs.Common.{◌≡◌, ◌∷◌, [], ◌++◌, lit<}
+use Rattle.std.proofs.Common.{lit<}
 use Rattle.ordered_index.proofs.Desks.{closing-one, closing-open}
 use Rattle.ordered_index.proofs.desk.Desk.end.Goals as goal
 

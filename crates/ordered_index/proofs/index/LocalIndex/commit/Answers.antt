@@ -1,22 +1,16 @@
-use Rattle.std.proofs.Common.{◌≡◌, [], ◌∷◌, ◌++◌, ap, ◌∙◌, sym, refl}
-use Rattle.ordered_index.specs.Serial.{replies_to}
-use Rattle.ordered_index.specs.State.{State, MayAccept, transaction_of, present}
+use Rattle.std.proofs.Common.{refl}
 use Rattle.ordered_index.proofs.index.LocalIndex.commit.Goals as goal
 
-pub returns-in-Ok-append-clause-commits : goal.returns-in-Ok-append-clause-commits
-returns-in-Ok-append-clause-commits g c =
-    let cmp = g.K.Ord.cmp in
-    let old = c.args.self.now in
-    record {
-      may = rw c.as_slice.ensures at c.in_default.ensures.none;
-      number = c.next_number-number.ensures;
-      replies = rw c.in-Ok-append.ensures.told (c.in-Ok.ensures.told ∙ rw (c.as_slice-2.ensures.value, c.present.ensures) refl);
-      changed = c.in-Ok-append.ensures.ok ∙ rw (c.in-Ok.ensures.reads, c.as_slice-reads.ensures) refl;
-    }
+pub returns-in-Some-clause-commits : goal.returns-in-Some-clause-commits
+returns-in-Some-clause-commits g c = record {
+  may = rw c.as_slice-reads.ensures at c.in-Some.ensures.some c.args.writes.items;
+  given_back = refl;
+  unchanged = refl;
+}
 
-pub returns-in-Err-clause-commits : goal.returns-in-Err-clause-commits
-returns-in-Err-clause-commits g c = record {
-  may = rw c.as_slice.ensures at c.in_default.ensures.none;
-  given_back = c.in-Err.ensures.writes;
-  unchanged = c.in-Err.ensures.err;
+pub returns-in_default-draft-clause-commits : goal.returns-in_default-draft-clause-commits
+returns-in_default-draft-clause-commits g c = record {
+  may = rw c.as_slice-reads.ensures at c.in_default.ensures.none;
+  given_back = refl;
+  unchanged = refl;
 }

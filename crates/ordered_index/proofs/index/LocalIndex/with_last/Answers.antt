@@ -1,0 +1,9 @@
+use Rattle.std.proofs.Common.{[], None, map, replicate, ap, ◌∙◌}
+use Rattle.std.specs.Option.{option_map}
+use Rattle.ordered_index.specs.Store.{Version}
+use Rattle.ordered_index.proofs.Options.{map-none}
+use Rattle.ordered_index.proofs.index.LocalIndex.with_last.Goals as goal
+
+pub returns : goal.returns
+returns g c =
+    rw c.in_ok-new.ensures (ap (λ ts. record { history = ts; places = map (option_map (λ (v : Version _ _). v.number)) (replicate c.args.places None); last = c.args.last; slots = c.args.slots; used = 1; raises = 0 }) c.new-2.ensures.items ∙ ap (λ ps. record { history = []; places = ps; last = c.args.last; slots = c.args.slots; used = 1; raises = 0 }) (map-none (λ (v : Version _ _). v.number) c.args.places))
