@@ -2,8 +2,8 @@
 use Rattle.std.proofs.Common.{◌≡◌, ℕ, ◌+◌, ◌<◌, ◌≤◌, List, [], ◌∷◌, ◌++◌, length, take, get_or, sym, ap, ◌∙◌, append_assoc, append-nil, decimal}
 use Rattle.std.proofs.lemmas.List.{take_more, take_all}
 use Rattle.std.specs.Prelude.{codes}
-use Rattle.ordered_index.specs.declared.write.Reply.{Reply}
-use Rattle.ordered_index.specs.declared.write.Reply.TheVariants.{Inserted}
+use Rattle.versions.specs.declared.write.Reply.{Reply}
+use Rattle.versions.specs.declared.write.Reply.TheVariants.{Inserted}
 use Rattle.index_run.specs.Replies.{told_text, told_texts}
 
 told_push : (xs : List Reply) (x : Reply) → told_texts (xs ++ x ∷ []) ≡ told_texts xs ++ told_text x

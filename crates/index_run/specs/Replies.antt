@@ -3,12 +3,12 @@ use Rattle.std.specs.Prelude.{◌≡◌, ℕ, Some, None, List, [], ◌∷◌, �
 use Rattle.std.specs.Fmt.{decimal}
 use Rattle.ordered_index.specs.declared.query.Answer.{Answer}
 use Rattle.ordered_index.specs.declared.query.Answer.TheVariants as answers
-use Rattle.ordered_index.specs.declared.write.Reply.{Reply}
-use Rattle.ordered_index.specs.declared.write.Reply.TheVariants as told
 use Rattle.ordered_index.specs.declared.commit.Cause.{Cause}
 use Rattle.ordered_index.specs.declared.commit.Cause.TheVariants as causes
 use Rattle.ordered_index.specs.declared.play.DeskReply.{DeskReply}
 use Rattle.ordered_index.specs.declared.play.DeskReply.TheVariants as replies
+use Rattle.versions.specs.declared.write.Reply.{Reply}
+use Rattle.versions.specs.declared.write.Reply.TheVariants as told
 use Rattle.index_run.specs.declared.request.Fault.{Fault}
 use Rattle.index_run.specs.declared.request.Fault.TheVariants as faults
 
@@ -34,6 +34,11 @@ staged_text count = codes "staged " ++ decimal count ++ codes "\n"
 abbrev pub told_text : Reply → List ℕ
 told_text told.Inserted = codes " inserted"
 told_text told.Duplicate = codes " duplicate"
+told_text told.Upserted = codes " upserted"
+told_text told.Removed = codes " removed"
+told_text told.Absent = codes " absent"
+told_text told.RangeRemoved = codes " deleted"
+told_text told.Cleared = codes " cleared"
 
 abbrev pub told_texts : List Reply → List ℕ
 told_texts [] = []
@@ -44,6 +49,7 @@ abbrev pub CausePrints : Cause → List ℕ → Type 0
 CausePrints (causes.Conflict place) text = text ≡ codes "conflict " ++ decimal place ++ codes "\n"
 CausePrints causes.Exhausted text = text ≡ codes "exhausted\n"
 CausePrints causes.Memory text = ⊥
+CausePrints causes.NoSlot text = text ≡ codes "noslot\n"
 
 -- a value is printed as it is, to the end of the line
 abbrev pub AnswerPrints : Answer (List ℕ) → List ℕ → Type 0
@@ -60,3 +66,7 @@ Prints line label (replies.NoSession back) text = text ≡ fault_text line fault
 Prints line label (replies.Answer answer) text = AnswerPrints answer text
 Prints line label (replies.Accepted accepted) text = text ≡ codes "ok " ++ decimal accepted.number ++ told_texts accepted.replies.items ++ codes "\n"
 Prints line label (replies.Refused refused) text = CausePrints refused.cause text
+Prints line label replies.Reclaimed text = text ≡ codes "reclaimed\n"
+Prints line label (replies.Slots count) text = text ≡ codes "slots " ++ decimal count ++ codes "\n"
+Prints line label (replies.Number number) text = text ≡ codes "number " ++ decimal number ++ codes "\n"
+Prints line label (replies.Len count) text = text ≡ codes "len " ++ decimal count ++ codes "\n"

@@ -1,9 +1,9 @@
 -- What the lines of a script do, and what is written for them.
 use Rattle.std.specs.Prelude.{◌≡◌, ℕ, ◌+◌, ◌-◌, ◌^◌, List, [], ◌∷◌, ◌++◌, length, replicate, Some, None}
 use Rattle.std.specs.Ordering.{nat_cmp}
-use Rattle.ordered_index.specs.Desk.{Machine, OpenStep, CloseStep, GetStep, CommitStep}
-use Rattle.ordered_index.specs.declared.write.Write.{Write}
-use Rattle.ordered_index.specs.declared.write.Write.TheVariants as writes
+use Rattle.ordered_index.specs.Desk.{Machine, OpenStep, CloseStep, GetStep, NumberStep, LenStep, CommitStep, ReclaimStep, SlotsStep}
+use Rattle.versions.specs.declared.write.Write.{Write}
+use Rattle.versions.specs.declared.write.Write.TheVariants as writes
 use Rattle.ordered_index.specs.declared.play.ReadSet.TheVariants as sets
 use Rattle.ordered_index.specs.declared.play.DeskReply.{DeskReply}
 use Rattle.ordered_index.specs.declared.play.DeskReply.TheVariants as replies
@@ -18,11 +18,11 @@ pub record Script : Type 0 where
   pub staged : List (Write ℕ (List ℕ))
   pub line : ℕ
 
--- before the first line: no commit, no session, nothing staged
-abbrev pub fresh : ℕ → Script
-fresh places = record {
+-- before the first line: no commit, no session, nothing staged, and the one slot of the empty version in use
+abbrev pub fresh : ℕ → ℕ → Script
+fresh places slots = record {
   machine = record {
-    index = record { history = []; places = replicate places None; last = 2 ^ 64 - 1 };
+    index = record { history = []; places = replicate places None; last = 2 ^ 64 - 1; slots = slots; used = 1; raises = 0 };
     desk = replicate places None;
   };
   staged = [];
@@ -47,26 +47,35 @@ pub record Stages (old : Script) (write : Write ℕ (List ℕ)) (text : List ℕ
   pub changed : new ≡ record old { staged = old.staged ++ write ∷ [] }
   pub told : text ≡ staged_text (length new.staged)
 
--- a request is met with this reply; the replies to a commit name no label
-abbrev pub Meets : Script → Request → List ℕ → Script → Type 0
-Meets old (requests.Insert key value) text new = Stages old (writes.Insert key value) text new
-Meets old (requests.Commit None) text new = Plays old 0 (CommitStep nat_cmp old.machine sets.Empty old.staged) text new
-Meets old (requests.Commit (Some label)) text new = Plays old 0 (CommitStep nat_cmp old.machine (sets.Session label) old.staged) text new
-Meets old (requests.Open label) text new = Plays old label (OpenStep nat_cmp old.machine label) text new
-Meets old (requests.Get label key) text new = Plays old label (GetStep nat_cmp old.machine label key) text new
-Meets old (requests.Close label) text new = Plays old label (CloseStep nat_cmp old.machine label) text new
-Meets old (requests.Faulty fault) text new = (new ≡ old) × (text ≡ fault_text old.line fault)
-
 -- the script at its next line
 abbrev pub at_next : Script → Script
 at_next old = record old { line = old.line + 1 }
 
--- a line has this reply, and the script goes on so
-abbrev pub Acts : Script → List ℕ → List ℕ → Script → Type 0
-Acts old line text new = (request : Request) × Reads line request × Meets (at_next old) request text new
+-- on an index whose segments have so many pairs at most
+module _ (width : ℕ) where
+  -- a request is met with this reply; where no label is named, none is printed
+  abbrev pub Meets : Script → Request → List ℕ → Script → Type 0
+  Meets old (requests.Insert key value) text new = Stages old (writes.Insert key value) text new
+  Meets old (requests.Upsert key value) text new = Stages old (writes.Upsert key value) text new
+  Meets old (requests.Remove key) text new = Stages old (writes.Remove key) text new
+  Meets old requests.Clear text new = Stages old writes.Clear text new
+  Meets old (requests.Commit None) text new = Plays old 0 (CommitStep nat_cmp width old.machine sets.Empty old.staged) text new
+  Meets old (requests.Commit (Some label)) text new = Plays old 0 (CommitStep nat_cmp width old.machine (sets.Session label) old.staged) text new
+  Meets old (requests.Open label) text new = Plays old label (OpenStep nat_cmp width old.machine label) text new
+  Meets old (requests.Get label key) text new = Plays old label (GetStep nat_cmp width old.machine label key) text new
+  Meets old (requests.Close label) text new = Plays old label (CloseStep nat_cmp width old.machine label) text new
+  Meets old (requests.Len label) text new = Plays old label (LenStep nat_cmp width old.machine label) text new
+  Meets old (requests.Number label) text new = Plays old label (NumberStep nat_cmp width old.machine label) text new
+  Meets old requests.Reclaim text new = Plays old 0 (ReclaimStep nat_cmp width old.machine) text new
+  Meets old requests.Slots text new = Plays old 0 (SlotsStep nat_cmp width old.machine) text new
+  Meets old (requests.Faulty fault) text new = (new ≡ old) × (text ≡ fault_text old.line fault)
 
--- lines have this output, the reply of each behind that of the line before
-abbrev pub Outputs : Script → List (List ℕ) → List ℕ → Script → Type 0
-Outputs old [] output new = (output ≡ []) × (new ≡ old)
-Outputs old (line ∷ lines) output new =
-    (mid : Script) × (text : List ℕ) × (rest : List ℕ) × (output ≡ text ++ rest) × Acts old line text mid × Outputs mid lines rest new
+  -- a line has this reply, and the script goes on so
+  abbrev pub Acts : Script → List ℕ → List ℕ → Script → Type 0
+  Acts old line text new = (request : Request) × Reads line request × Meets (at_next old) request text new
+
+  -- lines have this output, the reply of each behind that of the line before
+  abbrev pub Outputs : Script → List (List ℕ) → List ℕ → Script → Type 0
+  Outputs old [] output new = (output ≡ []) × (new ≡ old)
+  Outputs old (line ∷ lines) output new =
+      (mid : Script) × (text : List ℕ) × (rest : List ℕ) × (output ≡ text ++ rest) × Acts old line text mid × Outputs mid lines rest new

@@ -44,6 +44,10 @@ pub fn reply_text(
         DeskReply::Answer(answer) => answer_text(alloc, answer),
         DeskReply::Accepted(accepted) => accepted_text(alloc, accepted),
         DeskReply::Refused(refused) => cause_text(alloc, refused.cause),
+        DeskReply::Reclaimed => format!(in alloc; "reclaimed\n"),
+        DeskReply::Slots(count) => format!(in alloc; "slots {count}\n"),
+        DeskReply::Number(number) => format!(in alloc; "number {number}\n"),
+        DeskReply::Len(count) => format!(in alloc; "len {count}\n"),
     }
 }
 
@@ -84,6 +88,11 @@ fn told_text(reply: Reply) -> &'static str
     match reply {
         Reply::Inserted => " inserted",
         Reply::Duplicate => " duplicate",
+        Reply::Upserted => " upserted",
+        Reply::Removed => " removed",
+        Reply::Absent => " absent",
+        Reply::RangeRemoved => " deleted",
+        Reply::Cleared => " cleared",
     }
 }
 
@@ -95,5 +104,6 @@ fn cause_text(alloc: Global, cause: Cause) -> Result<String, AllocError>
         Cause::Conflict(place) => format!(in alloc; "conflict {place}\n"),
         Cause::Exhausted => format!(in alloc; "exhausted\n"),
         Cause::Memory => Err(AllocError),
+        Cause::NoSlot => format!(in alloc; "noslot\n"),
     }
 }

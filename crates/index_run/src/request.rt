@@ -1,11 +1,11 @@
 //! What a line of a script asks for.
 
-ghost use Rattle.std.specs.Prelude.{◌≡◌, ◌++◌, List, ℕ, IfOk, IfErr, codes};
+ghost use Rattle.std.specs.Prelude.{◌≡◌, ◌++◌, ◌∷◌, List, ℕ, IfOk, IfErr, codes};
 ghost use Rattle.std.specs.Fmt.{decimal};
 ghost use Rattle.std.specs.Option.{option_copied};
 ghost use Rattle.index_run.specs.Lines.{Lacks, kept};
 ghost use Rattle.index_run.specs.Replies.{word_of};
-ghost use Rattle.index_run.specs.Requests.{Asks, IsNoNumber, Reads};
+ghost use Rattle.index_run.specs.Requests.{Asks, IsNoNumber, IsNoPair, Reads};
 
 use crate::text::Text;
 use crate::words::{number, split_word};
@@ -53,6 +53,12 @@ impl Fault {
 pub enum Request {
     /// To stage an insert of this key and this value.
     Insert(u64, Text),
+    /// To stage an upsert of this key and this value.
+    Upsert(u64, Text),
+    /// To stage a removal of this key.
+    Remove(u64),
+    /// To stage the removal of all keys.
+    Clear,
     /// To commit what is staged, on the reads of the session with this label or on none.
     Commit(Option<u64>),
     /// To open a session under this label.
@@ -61,6 +67,14 @@ pub enum Request {
     Get(u64, u64),
     /// To close the session with this label.
     Close(u64),
+    /// To tell how many pairs the session with this label reads.
+    Len(u64),
+    /// To tell the number of the session with this label.
+    Number(u64),
+    /// To reclaim slots.
+    Reclaim,
+    /// To tell how many slots are in use.
+    Slots,
     /// Nothing: the line is at fault.
     Faulty(Fault),
 }
@@ -88,21 +102,31 @@ fn read_text(alloc: Global, line: &str) -> Result<Request, AllocError>
     };
     match word {
         "insert" => insert(alloc, rest),
+        "upsert" => upsert(alloc, rest),
+        "remove" => Ok(remove(rest)),
         "commit" => Ok(commit(rest)),
         "open" => Ok(open(rest)),
-        "get" => Ok(get(rest)),
         "close" => Ok(close(rest)),
+        "get" => Ok(get(rest)),
+        "len" => Ok(len(rest)),
+        "number" => Ok(number_of(rest)),
+        "clear" | "reclaim" | "slots" => Ok(Request::Faulty(Fault::Words)),
         _ => Ok(Request::Faulty(Fault::Command)),
     }
 }
 
-// A line of one word: each request has more.
+// A line of one word.
 fn bare(word: &str) -> Request
     requires { Lacks 32 word.now }
     ensures { Asks word.now result }
 {
     match word {
-        "insert" | "commit" | "open" | "get" | "close" => Request::Faulty(Fault::Words),
+        "clear" => Request::Clear,
+        "reclaim" => Request::Reclaim,
+        "slots" => Request::Slots,
+        "insert" | "upsert" | "remove" | "commit" | "open" | "close" | "get" | "len" | "number" => {
+            Request::Faulty(Fault::Words)
+        }
         _ => Request::Faulty(Fault::Command),
     }
 }
@@ -110,13 +134,28 @@ fn bare(word: &str) -> Request
 fn insert(alloc: Global, rest: &str) -> Result<Request, AllocError>
     ensures { IfOk result (Asks (codes "insert " ++ rest.now)) }
 {
-    let Some((key, value)) = split_word(rest) else {
-        return Ok(Request::Faulty(Fault::Words));
-    };
-    let Some(key) = number(key) else {
-        return Ok(Request::Faulty(Fault::Number));
-    };
-    Ok(Request::Insert(key, Text::new(alloc, value)?))
+    match pair(rest) {
+        Ok((key, value)) => Ok(Request::Insert(key, Text::new(alloc, value)?)),
+        Err(fault) => Ok(Request::Faulty(fault)),
+    }
+}
+
+fn upsert(alloc: Global, rest: &str) -> Result<Request, AllocError>
+    ensures { IfOk result (Asks (codes "upsert " ++ rest.now)) }
+{
+    match pair(rest) {
+        Ok((key, value)) => Ok(Request::Upsert(key, Text::new(alloc, value)?)),
+        Err(fault) => Ok(Request::Faulty(fault)),
+    }
+}
+
+fn remove(rest: &str) -> Request
+    ensures { Asks (codes "remove " ++ rest.now) result }
+{
+    match only_number(rest) {
+        Ok(key) => Request::Remove(key),
+        Err(fault) => Request::Faulty(fault),
+    }
 }
 
 fn commit(rest: &str) -> Request
@@ -164,6 +203,38 @@ fn close(rest: &str) -> Request
     match only_number(rest) {
         Ok(label) => Request::Close(label),
         Err(fault) => Request::Faulty(fault),
+    }
+}
+
+fn len(rest: &str) -> Request
+    ensures { Asks (codes "len " ++ rest.now) result }
+{
+    match only_number(rest) {
+        Ok(label) => Request::Len(label),
+        Err(fault) => Request::Faulty(fault),
+    }
+}
+
+fn number_of(rest: &str) -> Request
+    ensures { Asks (codes "number " ++ rest.now) result }
+{
+    match only_number(rest) {
+        Ok(label) => Request::Number(label),
+        Err(fault) => Request::Faulty(fault),
+    }
+}
+
+// The number that is the first word here, and the value behind it.
+fn pair(rest: &str) -> Result<(u64, &str), Fault>
+    ensures ok { IfOk result (λ parts. rest.now ≡ decimal parts.0 ++ 32 ∷ parts.1.now) }
+    ensures err { IfErr result (IsNoPair rest.now) }
+{
+    let Some((key, value)) = split_word(rest) else {
+        return Err(Fault::Words);
+    };
+    match number(key) {
+        Some(key) => Ok((key, value)),
+        None => Err(Fault::Number),
     }
 }
 

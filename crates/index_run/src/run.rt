@@ -51,10 +51,10 @@ pub fn run<const S: usize, R: Read, W: Write>(
     slots: usize,
 ) -> Result<(), RunError>
     requires { IsSized places slots S }
-    ensures done { OnOk result (Ends (fresh places) (R.remaining reader.old) (R.remaining reader.new) (W.contents writer.old) (W.contents writer.new)) }
-    ensures read { IsErrOf result RunError.Read → StopsReading (fresh places) (R.remaining reader.old) (R.remaining reader.new) (W.contents writer.old) (W.contents writer.new) }
-    ensures write { IsErrOf result RunError.Write → StopsWriting (fresh places) (R.remaining reader.old) (R.remaining reader.new) (W.contents writer.old) (W.contents writer.new) }
-    ensures memory { IsErrOf result RunError.Memory → StopsForMemory (fresh places) (R.remaining reader.old) (R.remaining reader.new) (W.contents writer.old) (W.contents writer.new) }
+    ensures done { OnOk result (Ends S (fresh places slots) (R.remaining reader.old) (R.remaining reader.new) (W.contents writer.old) (W.contents writer.new)) }
+    ensures read { IsErrOf result RunError.Read → StopsReading S (fresh places slots) (R.remaining reader.old) (R.remaining reader.new) (W.contents writer.old) (W.contents writer.new) }
+    ensures write { IsErrOf result RunError.Write → StopsWriting S (fresh places slots) (R.remaining reader.old) (R.remaining reader.new) (W.contents writer.old) (W.contents writer.new) }
+    ensures memory { IsErrOf result RunError.Memory → StopsForMemory S (fresh places slots) (R.remaining reader.old) (R.remaining reader.new) (W.contents writer.old) (W.contents writer.new) }
 {
     let Ok(mut script) = Script::<S>::new(alloc, places, slots) else {
         return Err(RunError::Memory);
@@ -72,10 +72,10 @@ fn serve<const S: usize, R: Read, W: Write>(
     writer: &mut W,
 ) -> Result<(), RunError>
     requires { script.old.line ≡ 0 }
-    ensures done { OnOk result (Ends script.old (R.remaining reader.old) (R.remaining reader.new) (W.contents writer.old) (W.contents writer.new)) }
-    ensures read { IsErrOf result RunError.Read → StopsReading script.old (R.remaining reader.old) (R.remaining reader.new) (W.contents writer.old) (W.contents writer.new) }
-    ensures write { IsErrOf result RunError.Write → StopsWriting script.old (R.remaining reader.old) (R.remaining reader.new) (W.contents writer.old) (W.contents writer.new) }
-    ensures memory { IsErrOf result RunError.Memory → StopsForMemory script.old (R.remaining reader.old) (R.remaining reader.new) (W.contents writer.old) (W.contents writer.new) }
+    ensures done { OnOk result (Ends S script.old (R.remaining reader.old) (R.remaining reader.new) (W.contents writer.old) (W.contents writer.new)) }
+    ensures read { IsErrOf result RunError.Read → StopsReading S script.old (R.remaining reader.old) (R.remaining reader.new) (W.contents writer.old) (W.contents writer.new) }
+    ensures write { IsErrOf result RunError.Write → StopsWriting S script.old (R.remaining reader.old) (R.remaining reader.new) (W.contents writer.old) (W.contents writer.new) }
+    ensures memory { IsErrOf result RunError.Memory → StopsForMemory S script.old (R.remaining reader.old) (R.remaining reader.new) (W.contents writer.old) (W.contents writer.new) }
 {
     let mut begun = Begun::new(alloc);
     let mut buffer = [0u8; PIECE];
@@ -101,10 +101,10 @@ fn feed<const S: usize, W: Write>(
     writer: &mut W,
 ) -> Result<(), RunError>
     requires { script.old.line + length piece.now < 2 ^ 64 }
-    ensures ok { OnOk result (Feeds script.old begun.old piece.now (W.contents writer.old) (W.contents writer.new) begun.new script.new) }
+    ensures ok { OnOk result (Feeds S script.old begun.old piece.now (W.contents writer.old) (W.contents writer.new) begun.new script.new) }
     ensures counted { OnOk result (script.new.line ≤ script.old.line + length piece.now) }
-    ensures write { IsErrOf result RunError.Write → FeedBreaks script.old begun.old piece.now (W.contents writer.old) (W.contents writer.new) }
-    ensures memory { IsErrOf result RunError.Memory → FeedStops script.old begun.old piece.now (W.contents writer.old) (W.contents writer.new) }
+    ensures write { IsErrOf result RunError.Write → FeedBreaks S script.old begun.old piece.now (W.contents writer.old) (W.contents writer.new) }
+    ensures memory { IsErrOf result RunError.Memory → FeedStops S script.old begun.old piece.now (W.contents writer.old) (W.contents writer.new) }
     ensures read { IsErrOf result RunError.Read → ⊥ }
 {
     let mut rest = piece;
@@ -128,10 +128,10 @@ fn end_line<const S: usize, W: Write>(
     writer: &mut W,
 ) -> Result<(), RunError>
     requires { script.old.line + 1 < 2 ^ 64 }
-    ensures ok { OnOk result ((line : List ℕ) → begun.old ≡ kept line → Answers script.old (line ++ part.now) (W.contents writer.old) (W.contents writer.new) script.new) }
+    ensures ok { OnOk result ((line : List ℕ) → begun.old ≡ kept line → Answers S script.old (line ++ part.now) (W.contents writer.old) (W.contents writer.new) script.new) }
     ensures begun { OnOk result (begun.new ≡ kept []) }
     ensures counted { OnOk result (script.new.line ≡ script.old.line + 1) }
-    ensures write { IsErrOf result RunError.Write → (line : List ℕ) → begun.old ≡ kept line → Falters script.old (line ++ part.now) (W.contents writer.old) (W.contents writer.new) }
+    ensures write { IsErrOf result RunError.Write → (line : List ℕ) → begun.old ≡ kept line → Falters S script.old (line ++ part.now) (W.contents writer.old) (W.contents writer.new) }
     ensures memory { IsErrOf result RunError.Memory → Appends (W.contents writer.old) (W.contents writer.new) [] }
     ensures read { IsErrOf result RunError.Read → ⊥ }
 {
@@ -150,8 +150,8 @@ fn finish<const S: usize, W: Write>(
     writer: &mut W,
 ) -> Result<(), RunError>
     requires { script.old.line + 1 < 2 ^ 64 }
-    ensures ok { OnOk result (Finishes script.old begun.now (W.contents writer.old) (W.contents writer.new) script.new) }
-    ensures write { IsErrOf result RunError.Write → (line : List ℕ) → begun.now ≡ kept line → Falters script.old line (W.contents writer.old) (W.contents writer.new) }
+    ensures ok { OnOk result (Finishes S script.old begun.now (W.contents writer.old) (W.contents writer.new) script.new) }
+    ensures write { IsErrOf result RunError.Write → (line : List ℕ) → begun.now ≡ kept line → Falters S script.old line (W.contents writer.old) (W.contents writer.new) }
     ensures memory { IsErrOf result RunError.Memory → Appends (W.contents writer.old) (W.contents writer.new) [] }
     ensures read { IsErrOf result RunError.Read → ⊥ }
 {
@@ -168,9 +168,9 @@ fn answer<const S: usize, W: Write>(
     writer: &mut W,
 ) -> Result<(), RunError>
     requires { script.old.line + 1 < 2 ^ 64 }
-    ensures ok { OnOk result ((line : List ℕ) → begun.now ≡ kept line → Answers script.old line (W.contents writer.old) (W.contents writer.new) script.new) }
+    ensures ok { OnOk result ((line : List ℕ) → begun.now ≡ kept line → Answers S script.old line (W.contents writer.old) (W.contents writer.new) script.new) }
     ensures counted { OnOk result (script.new.line ≡ script.old.line + 1) }
-    ensures write { IsErrOf result RunError.Write → (line : List ℕ) → begun.now ≡ kept line → Falters script.old line (W.contents writer.old) (W.contents writer.new) }
+    ensures write { IsErrOf result RunError.Write → (line : List ℕ) → begun.now ≡ kept line → Falters S script.old line (W.contents writer.old) (W.contents writer.new) }
     ensures memory { IsErrOf result RunError.Memory → Appends (W.contents writer.old) (W.contents writer.new) [] }
     ensures read { IsErrOf result RunError.Read → ⊥ }
 {

@@ -44,7 +44,7 @@ impl<const S: usize> Script<S> {
     /// A script before its first line, on an empty index. Refused where memory is.
     pub fn new(alloc: Global, places: usize, slots: usize) -> Result<Self, AllocError>
         requires { IsSized places slots S }
-        ensures { IfOk result (λ script. script ≡ fresh places) }
+        ensures { IfOk result (λ script. script ≡ fresh places slots) }
     {
         let index = LocalIndex::new(alloc, places, slots)?;
         match Desk::new(alloc, places) {
@@ -66,7 +66,7 @@ impl<const S: usize> Script<S> {
     /// gives its reply. Refused where memory is.
     pub fn act(&mut self, line: Option<&[u8]>) -> Result<String, AllocError>
         requires { self.old.line + 1 < 2 ^ 64 }
-        ensures ok { IfOk result (λ text. (whole : List ℕ) → option_copied line.entry ≡ kept whole → Acts self.old whole (string_bytes text) self.new) }
+        ensures ok { IfOk result (λ text. (whole : List ℕ) → option_copied line.entry ≡ kept whole → Acts S self.old whole (string_bytes text) self.new) }
         ensures counted { OnOk result (self.new.line ≡ self.old.line + 1) }
     {
         let request = read_line(self.alloc, line)?;
@@ -90,16 +90,23 @@ impl<const S: usize> Script<S> {
 
     // Does what a line asks for.
     fn meet(&mut self, request: Request) -> Result<String, AllocError>
-        ensures ok { IfOk result (λ text. Meets self.old request (string_bytes text) self.new) }
+        ensures ok { IfOk result (λ text. Meets S self.old request (string_bytes text) self.new) }
         ensures line { self.new.line ≡ self.old.line }
     {
         match request {
             Request::Insert(key, value) => self.stage(Write::Insert(key, value)),
+            Request::Upsert(key, value) => self.stage(Write::Upsert(key, value)),
+            Request::Remove(key) => self.stage(Write::Remove(key)),
+            Request::Clear => self.stage(Write::Clear),
             Request::Commit(None) => self.commit(ReadSet::Empty),
             Request::Commit(Some(label)) => self.commit(ReadSet::Session(label)),
             Request::Open(label) => self.call(label, DeskCall::Open(label)),
             Request::Get(label, key) => self.call(label, DeskCall::Get(label, key)),
             Request::Close(label) => self.call(label, DeskCall::Close(label)),
+            Request::Len(label) => self.call(label, DeskCall::Len(label)),
+            Request::Number(label) => self.call(label, DeskCall::Number(label)),
+            Request::Reclaim => self.call(0, DeskCall::Reclaim),
+            Request::Slots => self.call(0, DeskCall::Slots),
             Request::Faulty(fault) => fault_text(self.alloc, self.line, fault),
         }
     }
@@ -116,7 +123,7 @@ impl<const S: usize> Script<S> {
     // Makes a call that isn't a commit.
     fn call(&mut self, label: u64, call: DeskCall<u64, Text>) -> Result<String, AllocError>
         requires { IsNoCommit call }
-        ensures ok { IfOk result (λ text. Plays self.old label (Step nat_cmp self.old.machine call) (string_bytes text) self.new) }
+        ensures ok { IfOk result (λ text. Plays self.old label (Step nat_cmp S self.old.machine call) (string_bytes text) self.new) }
         ensures line { self.new.line ≡ self.old.line }
     {
         let reply = self.play(call)?;
@@ -126,7 +133,7 @@ impl<const S: usize> Script<S> {
 
     // Commits what is staged.
     fn commit(&mut self, on: ReadSet<u64, Text>) -> Result<String, AllocError>
-        ensures ok { IfOk result (λ text. Plays self.old 0 (CommitStep nat_cmp self.old.machine on self.old.staged) (string_bytes text) self.new) }
+        ensures ok { IfOk result (λ text. Plays self.old 0 (CommitStep nat_cmp S self.old.machine on self.old.staged) (string_bytes text) self.new) }
         ensures line { self.new.line ≡ self.old.line }
     {
         let writes = mem::replace(&mut self.staged, Vec::new(self.alloc));
@@ -138,7 +145,7 @@ impl<const S: usize> Script<S> {
 
     // Makes one call.
     fn play(&mut self, call: DeskCall<u64, Text>) -> Result<DeskReply<u64, Text>, AllocError>
-        ensures step { IfOk result (λ reply. Step nat_cmp self.old.machine call reply self.new.machine) }
+        ensures step { IfOk result (λ reply. Step nat_cmp S self.old.machine call reply self.new.machine) }
         ensures staged { self.new.staged ≡ self.old.staged }
         ensures line { self.new.line ≡ self.old.line }
     {

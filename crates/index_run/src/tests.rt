@@ -1,7 +1,9 @@
 //! Scripts and their outputs, readers that cut and fail, writers that fail.
 
 use crate::line::LONGEST;
+use crate::reply::reply_text;
 use crate::run::{RunError, outcome, run};
+use ordered_index::{Accepted, Cause, DeskReply, Refused, Reply};
 use std::alloc::Global;
 use std::io::{self, Read, Write};
 use std::str;
@@ -153,9 +155,26 @@ fn bytes_come_one_by_one(rt: HostRuntime) -> Result<(), Fail> {
 
 #[test]
 fn lines_at_fault_are_told_and_counted(rt: HostRuntime) -> Result<(), Fail> {
-    let cases: [(&[u8], &str); 28] = [
+    let cases: [(&[u8], &str); 45] = [
         (b"\n", "line 1: command\n"),
-        (b"upsert 1 a\n", "line 1: command\n"),
+        (b"upserts 1 a\n", "line 1: command\n"),
+        (b"upsert\n", "line 1: words\n"),
+        (b"upsert 1\n", "line 1: words\n"),
+        (b"upsert x a\n", "line 1: number\n"),
+        (b"upsert 1  a \n", "staged 1\n"),
+        (b"remove\n", "line 1: words\n"),
+        (b"remove 1 2\n", "line 1: words\n"),
+        (b"remove x\n", "line 1: number\n"),
+        (b"remove 1\n", "staged 1\n"),
+        (b"clear\n", "staged 1\n"),
+        (b"clear \n", "line 1: words\n"),
+        (b"reclaim 1\n", "line 1: words\n"),
+        (b"slots 1\n", "line 1: words\n"),
+        (b"len\n", "line 1: words\n"),
+        (b"len 7 1\n", "line 1: words\n"),
+        (b"len x\n", "line 1: number\n"),
+        (b"number 07\n", "line 1: number\n"),
+        (b"number 7 \n", "line 1: words\n"),
         (b" insert 1 a\n", "line 1: command\n"),
         (b"Insert 1 a\n", "line 1: command\n"),
         (b"commit -\r\n", "line 1: number\n"),
@@ -220,6 +239,47 @@ fn a_session_reads_the_list_at_its_opening(rt: HostRuntime) -> Result<(), Fail> 
 }
 
 #[test]
+fn slots_of_former_lists_are_reclaimed(rt: HostRuntime) -> Result<(), Fail> {
+    let out = output(rt.alloc(), b"slots\ncommit -\nreclaim\nslots\n")?;
+    assert_eq!(rt; text_of(&out), "slots 1\nok 1\nreclaimed\nslots 1\n");
+    let out = output(
+        rt.alloc(),
+        b"insert 1 a\ncommit -\ninsert 2 b\ncommit -\nslots\nreclaim\nslots\n",
+    )?;
+    assert_eq!(rt;
+        text_of(&out),
+        "staged 1\nok 1 inserted\nstaged 1\nok 2 inserted\nslots 5\nreclaimed\nslots 2\n"
+    );
+    Ok(())
+}
+
+#[test]
+fn a_session_tells_its_number_and_its_length(rt: HostRuntime) -> Result<(), Fail> {
+    let out = output(
+        rt.alloc(),
+        b"insert 1 a\ninsert 2 b\ncommit -\nopen 7\nclear\ncommit 7\nopen 8\nlen 7\nnumber 7\nlen 8\nnumber 8\nlen 9\nnumber 9\n",
+    )?;
+    assert_eq!(rt;
+        text_of(&out),
+        "staged 1\nstaged 2\nok 1 inserted inserted\nopen 7 at 1\nstaged 1\nok 2 cleared\nopen 8 at 2\nlen 2\nnumber 1\nlen 0\nnumber 2\nline 12: session\nline 13: session\n"
+    );
+    Ok(())
+}
+
+#[test]
+fn writes_of_each_kind_are_staged(rt: HostRuntime) -> Result<(), Fail> {
+    let out = output(
+        rt.alloc(),
+        b"upsert 2 a b\nupsert 2 c\nremove 4\ncommit -\nopen 1\nget 1 2\nremove 2\ncommit 1\nclear\ncommit -\n",
+    )?;
+    assert_eq!(rt;
+        text_of(&out),
+        "staged 1\nstaged 2\nstaged 3\nok 1 upserted upserted absent\nopen 1 at 1\nsome c\nstaged 1\nok 2 removed\nstaged 1\nok 3 cleared\n"
+    );
+    Ok(())
+}
+
+#[test]
 fn an_accepted_commit_takes_the_staged_writes_and_no_other(rt: HostRuntime) -> Result<(), Fail> {
     let out = output(
         rt.alloc(),
@@ -229,6 +289,65 @@ fn an_accepted_commit_takes_the_staged_writes_and_no_other(rt: HostRuntime) -> R
         text_of(&out),
         "staged 1\nline 2: session\nstaged 2\nok 1 inserted inserted\nok 2\nstaged 1\nok 3 duplicate\n"
     );
+    Ok(())
+}
+
+#[test]
+fn a_commit_without_slots_keeps_what_is_staged(rt: HostRuntime) -> Result<(), Fail> {
+    let input: &[u8] =
+        b"insert 1 a\ninsert 2 b\ninsert 3 c\ninsert 4 d\ninsert 5 e\ncommit -\ncommit -\nopen 1\n";
+    let staged = "staged 1\nstaged 2\nstaged 3\nstaged 4\nstaged 5\n";
+    // five pairs take three segments of two pairs at most, and a directory
+    let cases: [(usize, &str); 2] = [
+        (4, "noslot\nnoslot\nopen 1 at 0\n"),
+        (
+            5,
+            "ok 1 inserted inserted inserted inserted inserted\nnoslot\nopen 1 at 1\n",
+        ),
+    ];
+    for (slots, told) in cases {
+        let mut reader = input;
+        let mut out = Vec::new(rt.alloc());
+        assert_eq!(rt;
+            run::<2, _, _>(rt.alloc(), &mut reader, &mut out, 1, slots),
+            Ok(())
+        );
+        assert_eq!(rt; text_of(&out).strip_prefix(staged), Some(told));
+    }
+    Ok(())
+}
+
+#[test]
+fn each_reply_to_a_write_has_a_word(rt: HostRuntime) -> Result<(), Fail> {
+    let replies = vec![in rt.alloc();
+        Reply::Inserted,
+        Reply::Duplicate,
+        Reply::Upserted,
+        Reply::Removed,
+        Reply::Absent,
+        Reply::RangeRemoved,
+        Reply::Cleared,
+    ]?;
+    let accepted = DeskReply::Accepted(Accepted { number: 3, replies });
+    assert_eq!(rt;
+        reply_text(rt.alloc(), 1, 0, &accepted)?.as_str(),
+        "ok 3 inserted duplicate upserted removed absent deleted cleared\n"
+    );
+    Ok(())
+}
+
+#[test]
+fn each_cause_of_a_refusal_has_a_word(rt: HostRuntime) -> Result<(), Fail> {
+    let cases = [
+        (Cause::Conflict(7), "conflict 7\n"),
+        (Cause::Exhausted, "exhausted\n"),
+        (Cause::NoSlot, "noslot\n"),
+    ];
+    for (cause, told) in cases {
+        let writes = Vec::new(rt.alloc());
+        let refused = DeskReply::Refused(Refused { cause, writes });
+        assert_eq!(rt; reply_text(rt.alloc(), 1, 0, &refused)?.as_str(), told);
+    }
     Ok(())
 }
 

@@ -1,6 +1,7 @@
-use Rattle.std.proofs.Common.{refl, inl, inr}
-use Rattle.index_run.proofs.Numbers.{no_value}
+use Rattle.std.proofs.Common.{refl}
+use Rattle.index_run.specs.Requests.{Insert}
+use Rattle.index_run.proofs.Numbers.{no_pair}
 use Rattle.index_run.proofs.request.insert.Goals as goal
 
-pub returns-in_default : goal.returns-in_default
-returns-in_default c = inl (inr (c.args.rest.now, refl), λ key value w. no_value c.args.rest.now key value c.in_default.ensures.none w)
+pub returns-in-Err : goal.returns-in-Err
+returns-in-Err c = no_pair Insert c.args.rest.now c.in-Err.fault refl c.in-Err.ensures.err

@@ -1,14 +1,24 @@
-use Rattle.std.proofs.Common.{rules}
-use Rattle.std.specs.Prelude.{codes}
-use Rattle.index_run.proofs.Numbers.{first_of}
+use Rattle.std.proofs.Common.{◌≡◌}
+use Rattle.index_run.specs.Requests.{Insert, Upsert, Remove, Clear, Commit, Open, Close, Get, Len, Number, Reclaim, Slots, name_of}
+use Rattle.index_run.proofs.Numbers.{unknown_first, only_of_many}
 use Rattle.index_run.proofs.request.read_text.Goals as goal
 
 pub returns-in_default-word : goal.returns-in_default-word
 returns-in_default-word c =
-    let other = first_of c.args.line.now c.in-Some.word.now c.in-Some.rest.now in (
-      λ h. other (codes "insert") c.in-Some.ensures.some (search rules) c.in_default-word.not-insert h,
-      λ h. other (codes "commit") c.in-Some.ensures.some (search rules) c.in_default-word.not-commit h,
-      λ h. other (codes "open") c.in-Some.ensures.some (search rules) c.in_default-word.not-open h,
-      λ h. other (codes "get") c.in-Some.ensures.some (search rules) c.in_default-word.not-get h,
-      λ h. other (codes "close") c.in-Some.ensures.some (search rules) c.in_default-word.not-close h,
-    )
+    unknown_first c.args.line.now c.in-Some.word.now c.in-Some.rest.now c.in-Some.ensures.some (λ command. elim command as (λ k. c.in-Some.word.now ≡ name_of k → ⊥) [
+      | Insert ↦ c.in_default-word.not-insert
+      | Upsert ↦ c.in_default-word.not-upsert
+      | Remove ↦ c.in_default-word.not-remove
+      | Clear ↦ c.in_default-word.not-clear
+      | Commit ↦ c.in_default-word.not-commit
+      | Open ↦ c.in_default-word.not-open
+      | Close ↦ c.in_default-word.not-close
+      | Get ↦ c.in_default-word.not-get
+      | Len ↦ c.in_default-word.not-len
+      | Number ↦ c.in_default-word.not-number
+      | Reclaim ↦ c.in_default-word.not-reclaim
+      | Slots ↦ c.in_default-word.not-slots
+    ])
+
+pub returns-in-clear : goal.returns-in-clear
+returns-in-clear c = only_of_many c.args.line.now c.in-Some.word.now c.in-Some.rest.now c.in-Some.ensures.some c.in-clear.is

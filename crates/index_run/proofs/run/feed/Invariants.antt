@@ -6,7 +6,7 @@ use Rattle.index_run.proofs.run.feed.Given as goal
 abbrev pub invariant-lines : goal.invariant-lines
 invariant-lines g l =
     (done : List ℕ) × (l.piece ≡ done ++ l.rest) × (l.script.line ≤ l.fn.script.line + length done)
-    × Feeds l.fn.script l.fn.begun done (g.W.Write.contents l.fn.writer) (g.W.Write.contents l.writer) l.begun l.script
+    × Feeds g.row.S l.fn.script l.fn.begun done (g.W.Write.contents l.fn.writer) (g.W.Write.contents l.writer) l.begun l.script
 
 abbrev pub decreases-lines : goal.decreases-lines
 decreases-lines g l = length l.rest

@@ -1,0 +1,24 @@
+use Rattle.std.proofs.Common.{◌≡◌}
+use Rattle.index_run.specs.Requests.{Insert, Upsert, Remove, Clear, Commit, Open, Close, Get, Len, Number, Reclaim, Slots, name_of}
+use Rattle.index_run.proofs.Numbers.{unknown_only, first_alone}
+use Rattle.index_run.proofs.request.bare.Goals as goal
+
+pub returns-in_default : goal.returns-in_default
+returns-in_default c =
+    unknown_only c.args.word.now c.requires (λ command. elim command as (λ k. c.args.word.now ≡ name_of k → ⊥) [
+      | Insert ↦ c.in_default.not-insert
+      | Upsert ↦ c.in_default.not-upsert
+      | Remove ↦ c.in_default.not-remove
+      | Clear ↦ c.in_default.not-clear
+      | Commit ↦ c.in_default.not-commit
+      | Open ↦ c.in_default.not-open
+      | Close ↦ c.in_default.not-close
+      | Get ↦ c.in_default.not-get
+      | Len ↦ c.in_default.not-len
+      | Number ↦ c.in_default.not-number
+      | Reclaim ↦ c.in_default.not-reclaim
+      | Slots ↦ c.in_default.not-slots
+    ])
+
+pub returns-in-insert : goal.returns-in-insert
+returns-in-insert c = first_alone c.args.word.now c.requires c.in-insert.is
