@@ -1,6 +1,8 @@
 pub mod Blocks
 pub mod Placings
 pub mod Seeking
+pub mod Places
+pub mod EdgeLemmas
 pub mod BlockLemmas
 pub mod Staying
 pub mod Filters
