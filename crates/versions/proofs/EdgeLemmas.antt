@@ -4,6 +4,11 @@ use Rattle.std.proofs.lemmas.Bool.{lt-ltb}
 use Rattle.std.proofs.lemmas.Bool.Decides.{leb_tells}
 use Rattle.std.proofs.lemmas.Option.{get_or_from_slice_get}
 use Rattle.std.specs.BTreeMap.Range.{is_past_end}
+use Rattle.std.specs.Cmp.{IsTotalOrder}
+use Rattle.std.specs.Ordering.{is_lt}
+use Rattle.leaf_array.specs.Pairs.{IsAscending}
+use Rattle.tree_index.proofs.EndLemmas.{forth_first, forth_next}
+use Rattle.tree_index.proofs.RisingLemmas.{earlier, not_earlier}
 use Rattle.std.specs.Borrow.{Bor}
 use Rattle.std.specs.Prelude.{slice_get}
 use Rattle.std.specs.declared.cmp.Ordering.{Ordering}
@@ -13,7 +18,8 @@ use Rattle.tree_index.specs.declared.cursor.End.{End}
 use Rattle.tree_index.specs.declared.cursor.End.TheVariants.{Unopened, At, Done}
 use Rattle.tree_index.specs.Cursor.{Cursor, whole, forth, back, before_start, up_to_end, kept_above, kept_below, lies_before, moved_back, moved_forth, next_back_of, next_of, pair_at, referred, shown, shown_back}
 use Rattle.versions.specs.Cuts.{pairs_in}
-use Rattle.versions.specs.Edges.{further, pairs_before, AreRising, IsFore, IsForeAt, IsPairAt, IsRear, IsRearAt}
+use Rattle.versions.specs.Edges.{fore_place, further, pairs_before, rear_place, AreRising, IsFore, IsForeAt, IsPairAt, IsRear, IsRearAt}
+use Rattle.versions.specs.declared.edge.Edge.TheVariants as edges
 use Rattle.versions.specs.declared.edge.Spot.{Spot}
 use Rattle.versions.proofs.Places.{next_before, pair_in, place_inside_all}
 use Rattle.versions.proofs.Seeking.{get_some, inside_of}
@@ -132,3 +138,120 @@ module _ {K V : Type 0} (cmp : K → K → Ordering) where
             absurd (some_none (sym (sym (ap referred is) ∙ answer ∙ d.2 ∙ x.1)))
         | inr d ↦ d.0
       ]
+
+-- ---- an end that stands at a pair, and its next step
+
+module _ {K V : Type 0} (cmp : K → K → Ordering) (blocks : List (List (K × V))) (s : Spot K V) where
+  -- the pair of an end is the one at its place
+  pub fore_pair : (h : IsFore blocks s) → (fore_place blocks (edges.At s) ≡ At (pairs_before blocks s.segment + h.place)) × (shown cmp s.cursor ≡ slice_get (pairs_in blocks) (pairs_before blocks s.segment + h.place))
+  fore_pair h = (
+    ap (λ (c : Cursor K V). further (pairs_before blocks s.segment) c.forward) h.is,
+    ap (shown cmp) h.is ∙ kept_all cmp (slice_get s.cursor.pairs h.place) ∙ sym (pair_in blocks s.segment s.cursor.pairs h.here h.place h.within),
+  )
+
+  pub rear_pair : (h : IsRear blocks s) → (rear_place blocks (edges.At s) ≡ At (pairs_before blocks s.segment + h.place)) × (shown_back cmp s.cursor ≡ slice_get (pairs_in blocks) (pairs_before blocks s.segment + h.place))
+  rear_pair h = (
+    ap (λ (c : Cursor K V). further (pairs_before blocks s.segment) c.backward) h.is,
+    ap (shown_back cmp) h.is ∙ above_all cmp (slice_get s.cursor.pairs h.place) ∙ sym (pair_in blocks s.segment s.cursor.pairs h.here h.place h.within),
+  )
+
+  pub record IsForeStep (t : Spot K V) : Type 0 where
+    pub stands : IsFore blocks t
+    pub alone : t.cursor.backward ≡ s.cursor.backward
+    pub place : (lower : Bound K) → fore_place blocks (edges.At t) ≡ forth cmp lower (pairs_in blocks) (fore_place blocks (edges.At s))
+    pub pair : shown cmp t.cursor ≡ pair_at (pairs_in blocks) (fore_place blocks (edges.At t))
+
+  pub record IsRearStep (t : Spot K V) : Type 0 where
+    pub stands : IsRear blocks t
+    pub alone : t.cursor.forward ≡ s.cursor.forward
+    pub place : (upper : Bound K) → rear_place blocks (edges.At t) ≡ back cmp upper (pairs_in blocks) (rear_place blocks (edges.At s))
+    pub pair : shown_back cmp t.cursor ≡ pair_at (pairs_in blocks) (rear_place blocks (edges.At t))
+
+  module _ (t : Spot K V) (same : t.segment ≡ s.segment) where
+    -- a spot with the same segment and this cursor
+    told : (P : Spot K V → Type 0) (c : Cursor K V) → t.cursor ≡ c → P (record { segment = s.segment; cursor = c }) → P t
+    told P c e h = subst (λ n. P (record { segment = n; cursor = t.cursor })) (sym same) (subst (λ d. P (record { segment = s.segment; cursor = d })) (sym e) h)
+
+    -- it goes to the next pair of its segment, or stood at the last one
+    pub stepped_fore : (h : IsFore blocks s) → t.cursor ≡ moved_forth cmp s.cursor → IsForeStep t ⊎ (shown cmp t.cursor ≡ None) × (pairs_before blocks (s.segment + 1) ≡ pairs_before blocks s.segment + h.place + 1)
+    stepped_fore h e =
+        let b = s.cursor.pairs in
+        let p = h.place in
+        let before = pairs_before blocks s.segment in
+        let moved = e ∙ ap (moved_forth cmp) h.is in
+        elim (leb_tells (suc (p + 1)) (length b)) [
+          | inl d ↦
+              let within : p + 1 < length b = omega (arith, d.1) in
+              let inside : before + (p + 1) < length (pairs_in blocks) = place_inside_all blocks s.segment b h.here (p + 1) within in
+              inl (told IsForeStep (whole b (At (p + 1)) s.cursor.backward) (moved ∙ ap (λ f. whole b f s.cursor.backward) (on_less (p + 1) (length b) (At (p + 1)) Done within)) (record {
+                stands = record { place = p + 1; here = h.here; within = within; is = refl };
+                alone = refl;
+                place = λ lower. forth_next cmp lower (pairs_in blocks) (before + (p + 1)) inside (before + p) (omega arith) ∙ ap (forth cmp lower (pairs_in blocks)) (sym (fore_pair h).0);
+                pair = kept_all cmp (slice_get b (p + 1)) ∙ sym (pair_in blocks s.segment b h.here (p + 1) within);
+              }))
+          | inr d ↦
+              let out : length b ≤ p + 1 = omega (arith, d.1) in
+              inr (ap (shown cmp) (moved ∙ ap (λ f. whole b f s.cursor.backward) (on_more (p + 1) (length b) (At (p + 1)) Done out)), omega (arith, next_before blocks s.segment b h.here, out, h.within))
+        ]
+
+    pub stepped_rear : (h : IsRear blocks s) → t.cursor ≡ moved_back cmp s.cursor → IsRearStep t ⊎ (shown_back cmp t.cursor ≡ None) × (h.place ≡ 0)
+    stepped_rear h e =
+        let b = s.cursor.pairs in
+        let p = h.place in
+        let before = pairs_before blocks s.segment in
+        let moved = e ∙ ap (moved_back cmp) h.is in
+        elim (leb_tells 1 p) [
+          | inl d ↦
+              let some : 0 < p = omega (arith, d.1) in
+              let one : before + (p - 1) ≡ before + p - 1 = omega (arith, some) in
+              let within : p - 1 < length b = omega (arith, some, h.within) in
+              inl (told IsRearStep (whole b s.cursor.forward (At (p - 1))) (moved ∙ ap (λ f. whole b s.cursor.forward f) (on_less 0 p (At (p - 1)) Done some)) (record {
+                stands = record { place = p - 1; here = h.here; within = within; is = refl };
+                alone = refl;
+                place = λ upper. ap (λ n. At n) one ∙ sym (on_less 0 (before + p) (At (before + p - 1)) Done (omega (arith, some))) ∙ ap (back cmp upper (pairs_in blocks)) (sym (rear_pair h).0);
+                pair = above_all cmp (slice_get b (p - 1)) ∙ sym (pair_in blocks s.segment b h.here (p - 1) within);
+              }))
+          | inr d ↦
+              let none : p ≡ 0 = omega (arith, d.1) in
+              inr (ap (shown_back cmp) (moved ∙ ap (λ f. whole b s.cursor.forward f) (on_more 0 p (At (p - 1)) Done (omega (arith, none)))), none)
+        ]
+
+  -- such an end shows a pair
+  pub fore_shown : IsFore blocks s → shown cmp s.cursor ≡ None → ⊥
+  fore_shown h none = some_none (sym (get_some s.cursor.pairs h.place h.within).1 ∙ sym (ap (shown cmp) h.is ∙ kept_all cmp (slice_get s.cursor.pairs h.place)) ∙ none)
+
+  pub rear_shown : IsRear blocks s → shown_back cmp s.cursor ≡ None → ⊥
+  rear_shown h none = some_none (sym (get_some s.cursor.pairs h.place h.within).1 ∙ sym (ap (shown_back cmp) h.is ∙ above_all cmp (slice_get s.cursor.pairs h.place)) ∙ none)
+
+module _ {K V : Type 0} (cmp : K → K → Ordering) (blocks : List (List (K × V))) (s t : Spot K V) (same : t.segment ≡ s.segment) (r : Option (Bor K × Bor V)) where
+  -- a step that gives a pair stays in its segment, and one that gives none leaves it
+  pub stays_fore : IsFore blocks s → t.cursor ≡ moved_forth cmp s.cursor → referred r ≡ shown cmp t.cursor → (pair : Bor K × Bor V) → r ≡ Some pair → IsForeStep cmp blocks s t
+  stays_fore h e answer pair is = elim (stepped_fore cmp blocks s t same h e) [
+    | inl d ↦ d
+    | inr d ↦ absurd (some_none (sym (ap referred is) ∙ answer ∙ d.0))
+  ]
+
+  pub leaves_fore : (h : IsFore blocks s) → t.cursor ≡ moved_forth cmp s.cursor → referred r ≡ shown cmp t.cursor → r ≡ None → pairs_before blocks (t.segment + 1) ≡ pairs_before blocks s.segment + h.place + 1
+  leaves_fore h e answer is = elim (stepped_fore cmp blocks s t same h e) [
+    | inl d ↦ absurd (fore_shown cmp blocks t d.stands (sym answer ∙ ap referred is))
+    | inr d ↦ ap (λ i. pairs_before blocks (i + 1)) same ∙ d.1
+  ]
+
+  pub stays_rear : IsRear blocks s → t.cursor ≡ moved_back cmp s.cursor → referred r ≡ shown_back cmp t.cursor → (pair : Bor K × Bor V) → r ≡ Some pair → IsRearStep cmp blocks s t
+  stays_rear h e answer pair is = elim (stepped_rear cmp blocks s t same h e) [
+    | inl d ↦ d
+    | inr d ↦ absurd (some_none (sym (ap referred is) ∙ answer ∙ d.0))
+  ]
+
+  pub leaves_rear : (h : IsRear blocks s) → t.cursor ≡ moved_back cmp s.cursor → referred r ≡ shown_back cmp t.cursor → r ≡ None → pairs_before blocks t.segment ≡ pairs_before blocks s.segment + h.place
+  leaves_rear h e answer is = elim (stepped_rear cmp blocks s t same h e) [
+    | inl d ↦ absurd (rear_shown cmp blocks t d.stands (sym answer ∙ ap referred is))
+    | inr d ↦ ap (pairs_before blocks) same ∙ omega (arith, d.1)
+  ]
+
+-- keys tell which of two places comes first
+pub order_told : {K V : Type 0} {cmp : K → K → Ordering} (o : IsTotalOrder cmp) (ps : List (K × V)) (m n : ℕ) (p q : K × V) → IsAscending cmp ps → slice_get ps m ≡ Some p → slice_get ps n ≡ Some q → is_lt (cmp p.0 q.0) ≡ nat_lt m n
+order_told o ps m n p q up a b = elim (leb_tells (suc m) n) [
+  | inl d ↦ ap is_lt (earlier o ps m n p q up a b (omega (arith, d.1))) ∙ sym d.0
+  | inr d ↦ not_earlier o ps m n p q up a b (omega (arith, d.1)) ∙ sym d.0
+]
