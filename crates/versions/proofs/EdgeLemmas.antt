@@ -155,6 +155,12 @@ module _ {K V : Type 0} (cmp : K → K → Ordering) (blocks : List (List (K × 
     ap (shown_back cmp) h.is ∙ above_all cmp (slice_get s.cursor.pairs h.place) ∙ sym (pair_in blocks s.segment s.cursor.pairs h.here h.place h.within),
   )
 
+  pub fore_shows : IsFore blocks s → pair_at (pairs_in blocks) (fore_place blocks (edges.At s)) ≡ shown cmp s.cursor
+  fore_shows h = ap (pair_at (pairs_in blocks)) (fore_pair h).0 ∙ sym (fore_pair h).1
+
+  pub rear_shows : IsRear blocks s → pair_at (pairs_in blocks) (rear_place blocks (edges.At s)) ≡ shown_back cmp s.cursor
+  rear_shows h = ap (pair_at (pairs_in blocks)) (rear_pair h).0 ∙ sym (rear_pair h).1
+
   pub record IsForeStep (t : Spot K V) : Type 0 where
     pub stands : IsFore blocks t
     pub alone : t.cursor.backward ≡ s.cursor.backward
