@@ -3,6 +3,7 @@ pub mod Placings
 pub mod Seeking
 pub mod Places
 pub mod EdgeLemmas
+pub mod Turns
 pub mod BlockLemmas
 pub mod Staying
 pub mod Filters

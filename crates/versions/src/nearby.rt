@@ -73,8 +73,8 @@ pub fn locate<'a, K: Ord, V, const S: usize>(
 impl<'a, K: Ord, V, W: Trees<K, V>> Pages<'a, K, V, W> {
     /// Where a key stands that is less than the first pair of a segment, and greater than those before it.
     fn before_first(self, first: Spot<'a, K, V>) -> Nearby<'a, K, V, W>
-        requires rising { AreRising K.cmp self.entry }
-        requires first { IsForeAt self.entry (pairs_before self.entry first.entry.segment) first.entry }
+        requires rising { AreRising K.cmp self }
+        requires first { IsForeAt self (pairs_before self first.segment) first }
         ensures { (key : K) → lesser K.cmp key (pairs_in self.entry) ≡ pairs_before self.entry first.entry.segment → has_key K.cmp key (pairs_in self.entry) ≡ false → IsLocated K.cmp key (pairs_in self.entry) (as_proximity result) }
     {
         match self.last_before(first.segment) {
@@ -88,8 +88,8 @@ impl<'a, K: Ord, V, W: Trees<K, V>> Pages<'a, K, V, W> {
 
     /// Where a key stands that is greater than the last pair of a segment, and less than those behind it.
     fn behind_last(self, last: Spot<'a, K, V>) -> Nearby<'a, K, V, W>
-        requires rising { AreRising K.cmp self.entry }
-        requires last { IsRearAt self.entry (pairs_before self.entry (last.entry.segment + 1)) last.entry }
+        requires rising { AreRising K.cmp self }
+        requires last { IsRearAt self (pairs_before self (last.segment + 1)) last }
         ensures { (key : K) → lesser K.cmp key (pairs_in self.entry) ≡ pairs_before self.entry (last.entry.segment + 1) → has_key K.cmp key (pairs_in self.entry) ≡ false → IsLocated K.cmp key (pairs_in self.entry) (as_proximity result) }
     {
         match self.first_behind(last.segment) {
@@ -103,7 +103,7 @@ impl<'a, K: Ord, V, W: Trees<K, V>> Pages<'a, K, V, W> {
 
     /// A walk without bounds whose ends stand there.
     fn walk(self, forward: Edge<'a, K, V>, backward: Edge<'a, K, V>) -> Walk<'a, K, V, W>
-        requires { IsWalking K.cmp self.entry forward.entry backward.entry }
+        requires { IsWalking K.cmp self forward backward }
         ensures { result ≡ whole (pairs_in self.entry) (fore_place self.entry forward.entry) (rear_place self.entry backward.entry) }
     {
         Walk {
