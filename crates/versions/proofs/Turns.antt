@@ -1,20 +1,20 @@
 -- Ends of a walk change places.
-use Rattle.std.proofs.Common.{◌≡◌, ℕ, ◌+◌, true, false, cond, None, Some, List, refl, sym, ap, ◌∙◌, subst}
+use Rattle.std.proofs.Common.{◌≡◌, ℕ, ◌+◌, ◌-◌, ◌<◌, ◌≤◌, true, cond, Some, List, length, refl, sym, ap, ◌∙◌, arith, subst}
 use Rattle.std.proofs.lemmas.Bool.{false≢true}
 use Rattle.std.specs.Option.{is_some}
 use Rattle.std.specs.Prelude.{slice_get}
 use Rattle.std.specs.declared.cmp.Ordering.{Ordering}
 use Rattle.std.specs.declared.ops.Bound.{Bound}
-use Rattle.std.specs.declared.ops.Bound.TheVariants.{Unbounded}
 use Rattle.tree_index.specs.declared.cursor.End.{End}
 use Rattle.tree_index.specs.declared.cursor.End.TheVariants.{Unopened, At, Done}
-use Rattle.tree_index.specs.Cursor.{Cursor, whole, can_turn, shown, shown_back, turned, turns}
+use Rattle.tree_index.specs.Cursor.{Cursor, whole, can_turn, turned, turns}
 use Rattle.versions.specs.Cuts.{pairs_in}
-use Rattle.versions.specs.Edges.{fore_place, further, pairs_before, rear_place, swapped, IsFore, IsRear, IsWalking}
+use Rattle.versions.specs.Edges.{fore_place, pairs_before, rear_place, swapped, AreRising, IsFore, IsForeAt, IsRear, IsRearAt, IsWalking}
 use Rattle.versions.specs.declared.edge.Edge.{Edge}
 use Rattle.versions.specs.declared.edge.Edge.TheVariants as edges
 use Rattle.versions.specs.declared.edge.Spot.{Spot}
 use Rattle.versions.proofs.EdgeLemmas.{fore_pair, rear_pair}
+use Rattle.versions.proofs.Places.{place_inside_all}
 use Rattle.versions.proofs.Seeking.{get_some}
 use Rattle.versions.proofs.Streams.{above_all, kept_all}
 
@@ -115,3 +115,34 @@ module _ {K V : Type 0} (cmp : K → K → Ordering) (blocks : List (List (K × 
         ap (λ x. made x (rear_place blocks (swapped cmp f))) h.forward
         ∙ ap (made (rear_place blocks b)) h.backward
         ∙ sym (ap (λ u. cond u (made (rear_place blocks b) (fore_place blocks f)) (walk_of f b)) t)
+
+-- ---- two ends beside one another
+
+at_same : {m n : ℕ} → ◌≡◌ {A = End ℕ} (At m) (At n) → m ≡ n
+at_same e = cc
+
+module _ {K V : Type 0} (cmp : K → K → Ordering) (blocks : List (List (K × V))) (n : ℕ) where
+  -- the place behind n pairs has a pair
+  pub fore_inside : (s : Spot K V) → IsForeAt blocks n s → n < length (pairs_in blocks)
+  fore_inside s h =
+      let at : pairs_before blocks s.segment + h.stands.place ≡ n = at_same (sym (fore_pair cmp blocks s h.stands).0 ∙ h.place) in
+      subst (λ m. m < length (pairs_in blocks)) at (place_inside_all blocks s.segment s.cursor.pairs h.stands.here h.stands.place h.stands.within)
+
+  pub rear_inside : (s : Spot K V) → IsRearAt blocks n s → n ≤ length (pairs_in blocks)
+  rear_inside s h =
+      let at : pairs_before blocks s.segment + h.stands.place ≡ n - 1 = at_same (sym (rear_pair cmp blocks s h.stands).0 ∙ h.place) in
+      omega (arith, at, h.some, place_inside_all blocks s.segment s.cursor.pairs h.stands.here h.stands.place h.stands.within)
+
+  -- a walk stands between two neighbours, whose ends have changed places
+  pub record StandsBetween (smaller larger : Edge K V) : Type 0 where
+    pub walking : IsWalking cmp blocks smaller larger
+    pub cursor : whole (pairs_in blocks) (fore_place blocks smaller) (rear_place blocks larger) ≡ whole (pairs_in blocks) (At (n - 1)) (At n)
+
+  pub stands_between : (s f : Spot K V) → AreRising cmp blocks → IsRearAt blocks n s → IsForeAt blocks n f → StandsBetween (swapped cmp (edges.At s)) (swapped cmp (edges.At f))
+  stands_between s f rise hs hf =
+      let a = rear_turned cmp blocks s hs.stands hs.alone in
+      let b = fore_turned cmp blocks f hf.stands hf.alone in
+      record {
+        walking = record { blocks_rise = rise; forward_stands = a.stands; backward_stands = b.stands; forward_alone = λ e. a.alone; backward_alone = λ e. b.alone };
+        cursor = ap (λ x. whole (pairs_in blocks) x (rear_place blocks (swapped cmp (edges.At f)))) (a.place ∙ hs.place) ∙ ap (whole (pairs_in blocks) (At (n - 1))) (b.place ∙ hf.place);
+      }

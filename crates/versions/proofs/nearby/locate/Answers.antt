@@ -1,0 +1,1 @@
+use Rattle.versions.proofs.nearby.locate.Goals as goal
