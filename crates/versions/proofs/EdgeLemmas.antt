@@ -83,7 +83,7 @@ module _ {K V : Type 0} (cmp : K → K → Ordering) where
       ]
 
   module _ (blocks : List (List (K × V))) (i : ℕ) (b : List (K × V)) (here : slice_get blocks i ≡ Some b) (n : ℕ) where
-    fore_at : (s : ℕ) (c : Cursor K V) → c ≡ whole b (At s) Unopened → s < length b → n ≡ pairs_before blocks i + s → IsForeAt blocks n (record { segment = i; cursor = c })
+    pub fore_at : (s : ℕ) (c : Cursor K V) → c ≡ whole b (At s) Unopened → s < length b → n ≡ pairs_before blocks i + s → IsForeAt blocks n (record { segment = i; cursor = c })
     fore_at s c e h at =
         subst (λ c. IsForeAt blocks n (record { segment = i; cursor = c })) (sym e) (record {
           stands = record { place = s; here = here; within = h; is = refl };
@@ -91,7 +91,7 @@ module _ {K V : Type 0} (cmp : K → K → Ordering) where
           place = ap (λ m. At m) (sym at);
         })
 
-    rear_at : (s : ℕ) (c : Cursor K V) → c ≡ whole b Unopened (At (s - 1)) → 0 < s → s ≤ length b → n ≡ pairs_before blocks i + s → IsRearAt blocks n (record { segment = i; cursor = c })
+    pub rear_at : (s : ℕ) (c : Cursor K V) → c ≡ whole b Unopened (At (s - 1)) → 0 < s → s ≤ length b → n ≡ pairs_before blocks i + s → IsRearAt blocks n (record { segment = i; cursor = c })
     rear_at s c e some h at =
         let same : pairs_before blocks i + (s - 1) ≡ n - 1 = omega (arith, some, at) in
         subst (λ c. IsRearAt blocks n (record { segment = i; cursor = c })) (sym e) (record {

@@ -4,6 +4,7 @@ pub mod Seeking
 pub mod Places
 pub mod EdgeLemmas
 pub mod Turns
+pub mod Locating
 pub mod BlockLemmas
 pub mod Staying
 pub mod Filters
