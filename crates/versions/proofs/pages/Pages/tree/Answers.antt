@@ -1,7 +1,6 @@
-use Rattle.std.proofs.Common.{◌≡◌, ◌<◌, ℕ, Some, length, map, sym, ap, ◌∙◌, subst}
+use Rattle.std.proofs.Common.{◌<◌, Some, length, sym, ap, ◌∙◌, subst}
 use Rattle.std.specs.Prelude.{slice_get}
 use Rattle.versions.specs.Items.{slots_of}
-use Rattle.versions.specs.Edges.{blocks_at}
 use Rattle.versions.proofs.BlockLemmas.{segment_at, block_at, slots_many}
 use Rattle.versions.proofs.pages.Pages.tree.Goals as goal
 
