@@ -74,7 +74,6 @@ module _ {K V : Type 0} (cmp : K → K → Ordering) (blocks : List (List (K × 
       pub forward : fore_place blocks (swapped cmp b) ≡ rear_place blocks b
       pub backward : rear_place blocks (swapped cmp f) ≡ fore_place blocks f
 
-
     pub ends_turned : (f b : Edge K V) → IsWalking cmp blocks f b → can_turn cmp (walk_of f b) ≡ true → AreTurned f b
     ends_turned edges.Unopened edges.Unopened h t = record {
       walking = record { blocks_rise = h.blocks_rise; forward_stands = tt; backward_stands = tt; forward_alone = λ e. tt; backward_alone = λ e. tt };

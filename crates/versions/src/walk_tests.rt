@@ -1,12 +1,13 @@
 //! Walks by example, and beside a plain machine over a list.
 
-ghost use Rattle.std.specs.Prelude.{◌≡◌, ◌<◌, ◌≤◌, ℕ, List, length};
+ghost use Rattle.std.specs.Prelude.{◌≡◌, ◌<◌, ◌≤◌, ◌∷◌, [], ℕ, List, length};
 ghost use Rattle.std.specs.Ordering.{nat_cmp};
+ghost use Rattle.sdd_base.specs.Counting.{Counted};
+ghost use Rattle.sdd_base.specs.Holding.{SharedItem};
 ghost use Rattle.sdd_base.specs.Place.{IsShared};
-ghost use Rattle.sdd_base.specs.State.{value_at};
 ghost use Rattle.sdd_base.specs.Tokens.{shared_slot};
+ghost use Rattle.versions.specs.Items.{held_by};
 ghost use Rattle.versions.specs.Placing.{HasVersion};
-ghost use Rattle.versions.specs.Versions.{IsVersion};
 
 use super::*;
 use sdd_base::job::NoJob;
@@ -27,6 +28,10 @@ struct Held<const S: usize> {
 
 fn prepared<R: Abort, const S: usize>(rt: &R, alloc: Global, pairs: &[(u64, u64)]) -> Held<S>
     requires { (1 ≤ S) × (S ≤ 225) }
+    ensures members { 0 < length result.w.members }
+    ensures shared { IsShared result.w (shared_slot result.root) }
+    ensures version { (n : ℕ) × (ps : List (ℕ × ℕ)) × HasVersion nat_cmp result.w (shared_slot result.root) n ps }
+    ensures counted { Counted held_by (SharedItem (shared_slot result.root) ∷ SharedItem (shared_slot result.none) ∷ []) result.w }
 {
     let sizes = Sizes {
         participants: 1,
@@ -64,7 +69,10 @@ fn upserts<R: Abort>(rt: &R, alloc: Global, pairs: &[(u64, u64)]) -> Vec<Write<u
 }
 
 // Gives both versions back, and ends the place.
-fn end<R: Abort, const S: usize>(rt: &R, held: Held<S>) {
+fn end<R: Abort, const S: usize>(rt: &R, held: Held<S>)
+    requires members { 0 < length held.w.members }
+    requires counted { Counted held_by (SharedItem (shared_slot held.root) ∷ SharedItem (shared_slot held.none) ∷ []) held.w }
+{
     let Held { mut w, none, root } = held;
     let _ = shared::release(&mut w, root, 0);
     let _ = shared::release(&mut w, none, 0);
@@ -147,10 +155,22 @@ fn neighbours<R: Abort, const S: usize>(rt: &R, alloc: Global)
         }
         _ => panic!(rt; "not larger"),
     }
-    match locate(&held.w, version(&held.w, &held.none), &3) {
+    end(rt, held);
+}
+
+fn no_neighbours<R: Abort, const S: usize>(rt: &R, alloc: Global)
+    requires { (1 ≤ S) × (S ≤ 225) }
+{
+    let held = prepared::<R, S>(rt, alloc, &[]);
+    let dir = version(&held.w, &held.root);
+    match locate(&held.w, dir, &3) {
         Nearby::Empty => {}
         _ => panic!(rt; "not empty"),
     }
+    let mut ends = walk(&held.w, dir, Bound::Unbounded, Bound::Unbounded);
+    assert!(rt; ends.next().is_none());
+    assert!(rt; ends.next_back().is_none());
+    assert!(rt; ends.flip());
     end(rt, held);
 }
 
@@ -159,6 +179,7 @@ fn locate_finds_a_pair_or_its_neighbours(rt: HostRuntime) {
     neighbours::<_, 1>(&rt, rt.alloc());
     neighbours::<_, 2>(&rt, rt.alloc());
     neighbours::<_, 4>(&rt, rt.alloc());
+    no_neighbours::<_, 1>(&rt, rt.alloc());
 }
 
 /// An end of the plain machine.

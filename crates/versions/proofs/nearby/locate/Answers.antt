@@ -114,4 +114,3 @@ unreachable-requires g c =
     let some = block_some cmp blocks i b rise c.tree.ensures in
     let none = ap length c.in-Empty.ensures in
     omega (arith, some, none)
-
