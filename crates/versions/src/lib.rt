@@ -9,6 +9,8 @@
 //! let (built, replies) = build(alloc, &world, version(&world, &first), &writes)?;
 //! let second = place(&mut world, built)?;                                 // refused, it comes back
 //! look_up(&world, version(&world, &second), &key);                        // one search of the directory, one of a tree
+//! walk(&world, version(&world, &second), lower, upper);                   // a cursor over the pairs within two bounds
+//! locate(&world, version(&world, &second), &key);                         // a cursor at a key or at its neighbours
 //! publish(&mut world, &root, second, writer);
 //! ```
 #![tactic(auto)]
