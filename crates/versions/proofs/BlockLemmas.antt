@@ -8,7 +8,7 @@ use Rattle.sdd_base.specs.Tokens.{kept_slot}
 use Rattle.sdd_base.specs.declared.owner.Kept.{Kept}
 use Rattle.tree_index.proofs.WayLemmas.{some_same}
 use Rattle.versions.specs.Cuts.{IsCut, IsSeparated, greatest_key}
-use Rattle.versions.specs.Versions.{IsSegment, pairs_of}
+use Rattle.versions.specs.Versions.{IsSegment}
 use Rattle.versions.specs.declared.item.Item.{Item}
 use Rattle.versions.specs.declared.item.Item.TheVariants as items
 use Rattle.versions.proofs.Filters.{rising_none}
@@ -42,23 +42,27 @@ get_map f [] i d e h = absurd (omega (arith, h))
 get_map f (x ∷ xs) zero d e h = refl
 get_map f (x ∷ xs) (suc i) d e h = get_map f xs i d e (omega (arith, h))
 
-module _ {K V : Type 0} {s : ℕ} (at : ℕ → Option (Item K V s)) where
-  pub is_there : (o : Option (Item K V s)) → IsSegment o → IsSome o
-  is_there None h = absurd h
-  is_there (Some (items.Directory d)) h = absurd h
-  is_there (Some (items.Segment t)) h = refl
+pub is_there : {K V : Type 0} {s : ℕ} (o : Option (Item K V s)) → IsSegment o → IsSome o
+is_there None h = absurd h
+is_there (Some (items.Directory d)) h = absurd h
+is_there (Some (items.Segment t)) h = refl
 
-  pub segment_at : (ks : List Kept) (k : Kept) (place : ℕ) → k ≡ get_or ks place k → place < length (map kept_slot ks) → All (λ i. IsSegment (at i)) (map kept_slot ks) → IsSegment (at (kept_slot k))
-  segment_at ks k place is h all =
+pub slots_many : {X : Type 0} (f : ℕ → X) (slots : List ℕ) (place : ℕ) → place < length (map f slots) → place < length slots
+slots_many f slots place h = let size = length-map slots f in omega (arith, size, h)
+
+-- what stands in the slot of a segment, by its place
+module _ (ks : List Kept) (k : Kept) (place : ℕ) (is : k ≡ get_or ks place k) (h : place < length (map kept_slot ks)) where
+  pub segment_at : (P : ℕ → Type 0) → All P (map kept_slot ks) → P (kept_slot k)
+  segment_at P all =
       let size = length-map ks kept_slot in
       let same : get_or (map kept_slot ks) place 0 ≡ kept_slot k = get_map kept_slot ks place 0 k (omega (arith, size, h)) ∙ sym (ap kept_slot is) in
-      subst (λ i. IsSegment (at i)) same (all place 0 h)
+      subst P same (all place 0 h)
 
-  pub block_at : (ks : List Kept) (k : Kept) (place : ℕ) → k ≡ get_or ks place k → place < length (map kept_slot ks) → slice_get (map (λ i. pairs_of (at i)) (map kept_slot ks)) place ≡ Some (pairs_of (at (kept_slot k)))
-  block_at ks k place is h =
+  pub block_at : {X : Type 0} (f : ℕ → X) → slice_get (map f (map kept_slot ks)) place ≡ Some (f (kept_slot k))
+  block_at f =
       let size = length-map ks kept_slot in
       let here : slice_get ks place ≡ Some k = slice_of ks place k (omega (arith, size, h)) ∙ sym (ap (λ x. Some x) is) in
-      slice_map (λ i. pairs_of (at i)) (map kept_slot ks) place (kept_slot k) (slice_map kept_slot ks place k here)
+      slice_map f (map kept_slot ks) place (kept_slot k) (slice_map kept_slot ks place k here)
 
 -- a place that separators name is one of the blocks
 pub place_inside : {K V : Type 0} (blocks : List (List (K × V))) (keys : List K) (place : ℕ) → IsSeparated blocks keys → place ≤ length keys → 0 < length blocks → place < length blocks

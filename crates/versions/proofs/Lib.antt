@@ -1,6 +1,10 @@
 pub mod Blocks
 pub mod Placings
 pub mod Seeking
+pub mod Places
+pub mod EdgeLemmas
+pub mod Turns
+pub mod Locating
 pub mod BlockLemmas
 pub mod Staying
 pub mod Filters

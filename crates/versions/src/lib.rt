@@ -9,6 +9,8 @@
 //! let (built, replies) = build(alloc, &world, version(&world, &first), &writes)?;
 //! let second = place(&mut world, built)?;                                 // refused, it comes back
 //! look_up(&world, version(&world, &second), &key);                        // one search of the directory, one of a tree
+//! walk(&world, version(&world, &second), lower, upper);                   // a cursor over the pairs within two bounds
+//! locate(&world, version(&world, &second), &key);                         // a cursor at a key or at its neighbours
 //! publish(&mut world, &root, second, writer);
 //! ```
 #![tactic(auto)]
@@ -18,10 +20,14 @@ mod built;
 mod changes;
 mod directory;
 mod draft;
+mod edge;
 mod flow;
 mod item;
 mod laws;
 mod merge;
+mod moves;
+mod nearby;
+mod pages;
 mod placing;
 #[cfg(test)]
 mod placing_tests;
@@ -32,13 +38,18 @@ mod source;
 mod stream;
 #[cfg(test)]
 mod tests;
+#[cfg(test)]
+mod walk_tests;
+mod walking;
 mod write;
 
 pub use built::{Built, build};
 pub use directory::Directory;
 pub use item::Item;
 pub use laws::{passes_leave_one, segments_are_few, sweeps_leave_none, versions_stay};
+pub use nearby::{Nearby, locate};
 pub use placing::{place, publish};
-pub use read::{len, look_up, version, version_at};
-pub use source::Source;
+pub use read::{len, look_up, version, version_at, walk};
+pub use source::{Source, Trees};
+pub use walking::Walk;
 pub use write::{Reply, Write};

@@ -1,11 +1,13 @@
 //! Reading a version.
 
-ghost use Rattle.std.specs.Prelude.{◌≡◌, ◌<◌, ℕ, List, None, Some, MatchOption, IfOk, length, slice_get};
+ghost use Rattle.std.specs.Prelude.{◌≡◌, ◌<◌, ◌^◌, ℕ, List, None, Some, MatchOption, IfOk, length, slice_get};
 ghost use Rattle.std.specs.BTreeMap.{is_at};
 ghost use Rattle.std.specs.Map.{lookup_entry};
+ghost use Rattle.std.specs.Range.Bound.{bound_map};
 ghost use Rattle.sdd_base.specs.Place.{IsReadable, IsShared};
 ghost use Rattle.sdd_base.specs.State.{value_at};
 ghost use Rattle.sdd_base.specs.Tokens.{loaded_slot, shared_slot};
+ghost use Rattle.tree_index.specs.declared.cursor.End.TheVariants.{Unopened};
 ghost use Rattle.versions.specs.Items.{slots_of};
 ghost use Rattle.versions.specs.Placing.{HasVersion};
 ghost use Rattle.versions.specs.Reading.{IsPlaceOf};
@@ -13,8 +15,11 @@ ghost use Rattle.versions.specs.Versions.{IsVersion, blocks_of, list_of};
 
 use crate::directory::Directory;
 use crate::draft::Old;
+use crate::edge::Edge;
 use crate::item::Item;
+use crate::pages::Pages;
 use crate::source::Source;
+use crate::walking::Walk;
 use sdd_base::job::NoJob;
 use sdd_base::owner::Shared;
 use sdd_base::pointer::Loaded;
@@ -22,6 +27,7 @@ use sdd_base::world::{World, shared};
 use std::alloc::{AllocError, Global};
 use std::cmp::Ordering;
 use std::marker::Model;
+use std::ops::Bound;
 use tree_index::TreeIndex;
 
 /// The pair with this key in the list of a version: one search of the directory by halving, and one of a tree. It clones
@@ -85,8 +91,29 @@ pub fn len<K: Ord, V, const S: usize>(w: &World<Item<K, V, S>, NoJob>, dir: &Dir
     dir.length
 }
 
+/// A cursor over the list of a version within two bounds. Reversed bounds contain no pair. It takes no memory.
+pub fn walk<'a, K: Ord, V, const S: usize>(
+    w: &'a World<Item<K, V, S>, NoJob>,
+    dir: &'a Directory<K>,
+    lower: Bound<&'a K>,
+    upper: Bound<&'a K>,
+) -> Walk<'a, K, V, World<Item<K, V, S>, NoJob>>
+    requires { IsVersion K.cmp (value_at w.now) dir.now }
+    ensures countable { length (list_of (value_at w.now) dir.now) < 2 ^ 64 }
+    ensures cursor { result ≡ record { pairs = list_of (value_at w.now) dir.now; lower = bound_map (λ k. k.now) lower.entry; upper = bound_map (λ k. k.now) upper.entry; forward = Unopened; backward = Unopened } }
+{
+    let _ = len(w, dir);
+    Walk {
+        pages: Pages::new(w, dir),
+        lower,
+        upper,
+        forward: Edge::Unopened,
+        backward: Edge::Unopened,
+    }
+}
+
 /// The segment whose keys are the last ones that the key may be among.
-fn place_of<K: Ord>(separators: &[K], key: &K) -> usize
+pub(crate) fn place_of<K: Ord>(separators: &[K], key: &K) -> usize
     ensures { IsPlaceOf K.cmp key.now separators.now result }
 {
     let mut low = 0;
