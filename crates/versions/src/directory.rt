@@ -1,5 +1,7 @@
 //! Directories: versions of a list, as segments in order.
 
+ghost use Rattle.std.specs.Prelude.{◌≡◌};
+
 use sdd_base::owner::Kept;
 
 /// A version of a list: the owners of its segments in order.
@@ -12,4 +14,13 @@ pub struct Directory<K> {
     pub(crate) length: usize,
     pub(crate) segments: Vec<Kept>,
     pub(crate) separators: Vec<K>,
+}
+
+impl<K> Directory<K> {
+    /// The number of the version: how many others were made before it.
+    pub fn number(&self) -> u64
+        ensures { result ≡ self.now.number }
+    {
+        self.number
+    }
 }
