@@ -1,9 +1,13 @@
 -- What a desk keeps, and runs of calls.
 use Rattle.std.proofs.Common.{◌≡◌, ◌≢◌, ℕ, ◌<◌, ◌≤◌, zero, suc, List, [], ◌∷◌, ◌++◌, length, take, set, refl, sym, ap, ◌∙◌, subst, arith, Option, Some, None, IfSome, MatchOption, slice_get, ◌⊎◌, inl, inr, ⊎_elim, length-append}
-use Rattle.std.proofs.lemmas.List.{length-set, take_at}
+use Rattle.std.proofs.lemmas.List.{length-set, set-set, take_at}
 use Rattle.std.proofs.lemmas.Option.{slice_get_cases, slice_get_within}
 use Rattle.std.specs.declared.cmp.Ordering.{Ordering}
-use Rattle.ordered_index.specs.State.{State, OpenSession, IsOpen, IsOpenAt, Opens, Closes}
+use Rattle.std.specs.Prelude.{Result, Ok, Err, IfOk, OnErr}
+use Rattle.std.specs.declared.alloc.AllocError.{AllocError}
+use Rattle.ordered_index.specs.declared.query.Query.{Query}
+use Rattle.ordered_index.specs.declared.query.Answer.{Answer}
+use Rattle.ordered_index.specs.State.{State, OpenSession, IsOpen, IsOpenAt, Opens, Closes, Reads}
 use Rattle.ordered_index.specs.Desk.{Step, Run, Machine, Serves, KeepsAll, SitsAt, IsUnknown, LeavesSeat, TakesSeat, cleared}
 use Rattle.ordered_index.specs.declared.desk.Seat.{Seat}
 use Rattle.ordered_index.specs.declared.play.DeskCall.{DeskCall}
@@ -29,6 +33,18 @@ set-other (y ∷ xs) zero v zero n = absurd (n refl)
 set-other (y ∷ xs) zero v (suc j) n = refl
 set-other (y ∷ xs) (suc i) v zero n = refl
 set-other (y ∷ xs) (suc i) v (suc j) n = set-other xs i v j (λ e. n (omega arith))
+
+set-some : {X : Type 0} (xs : List (Option X)) (i : ℕ) (x : X) (at : ℕ) (y : X) → slice_get xs at ≡ Some (Some y) → (z : X) × (slice_get (set xs i (Some x)) at ≡ Some (Some z))
+set-some [] i x at y h = absurd cc
+set-some (v ∷ xs) zero x zero y h = (x, refl)
+set-some (v ∷ xs) zero x (suc at) y h = (y, h)
+set-some (v ∷ xs) (suc i) x zero y h = (y, h)
+set-some (v ∷ xs) (suc i) x (suc at) y h = set-some xs i x at y h
+
+set-same : {X : Type 0} (xs : List X) (i : ℕ) (x : X) → slice_get xs i ≡ Some x → set xs i x ≡ xs
+set-same [] i x h = absurd cc
+set-same (v ∷ xs) zero x h = ap (λ y. y ∷ xs) cc
+set-same (v ∷ xs) (suc i) x h = ap (λ ys. v ∷ ys) (set-same xs i x h)
 
 pub no_items : {X : Type 0} (xs : List X) → length xs ≡ 0 → xs ≡ []
 no_items [] e = refl
@@ -152,6 +168,31 @@ module _ {K V : Type 0} where
   pub keeps-all-same : (old new : State K V) (desk : List (Option (Seat K V))) → new.places ≡ old.places → KeepsAll (record { index = old; desk = desk }) → KeepsAll (record { index = new; desk = desk })
   keeps-all-same old new desk e keeps place number h = keeps place number (ap (λ ps. slice_get ps place) (sym e) ∙ h)
 
+  -- a session that has read sits where it sat
+  pub serves-read : (index : State K V) (desk : List (Option (Seat K V))) (label place : ℕ) (seat : Seat K V) (session : OpenSession K V) → Serves (record { index = index; desk = desk }) → SitsAt desk label place seat → session.place ≡ seat.session.place → session.receipt.number ≡ seat.session.receipt.number → Serves (record { index = index; desk = set desk place (Some (record seat { session = session })) })
+  serves-read index desk label place seat session s sat same numbered =
+      let moved : Seat K V = record seat { session = session } in
+      let here : IsOpen index session = ap (λ p. slice_get index.places p) same ∙ s.opened place seat sat.there ∙ ap (λ n. Some (Some n)) (sym numbered) in
+      record {
+        room = let k = s.room in omega (arith, k, length-set desk place (Some moved));
+        placed = λ at one h. ⊎_elim
+            (λ q. let is : one ≡ moved = (let d = q.1 in cc) in ap (λ (x : Seat K V). x.session.place) is ∙ same ∙ s.placed place seat sat.there ∙ q.0)
+            (λ q. s.placed at one q.1) (get-set desk place (Some moved) at (Some one) h);
+        opened = λ at one h. ⊎_elim
+            (λ q. let is : one ≡ moved = (let d = q.1 in cc) in subst (λ (x : Seat K V). IsOpen index x.session) (sym is) here)
+            (λ q. s.opened at one q.1) (get-set desk place (Some moved) at (Some one) h);
+      }
+
+  pub keeps-all-read : (index : State K V) (desk : List (Option (Seat K V))) (place : ℕ) (seat : Seat K V) → KeepsAll (record { index = index; desk = desk }) → KeepsAll (record { index = index; desk = set desk place (Some seat) })
+  keeps-all-read index desk place seat keeps at number h = let k = keeps at number h in set-some desk place seat at k.0 k.1
+
+  -- a session that left and sits down again
+  pub sits-again : (desk left desk' : List (Option (Seat K V))) (place : ℕ) (at : ℕ) (seat : Seat K V) → left ≡ set desk place None → at ≡ place → desk' ≡ set left at (Some seat) → desk' ≡ set desk place (Some seat)
+  sits-again desk left desk' place at seat e same sat = sat ∙ ap (λ p. set left p (Some seat)) same ∙ ap (λ d. set d place (Some seat)) e ∙ set-set desk place None (Some seat)
+
+  pub sits-unchanged : (desk desk' : List (Option (Seat K V))) (label place : ℕ) (seat again : Seat K V) → SitsAt desk label place seat → desk' ≡ set desk place (Some again) → again ≡ seat → desk' ≡ desk
+  sits-unchanged desk desk' label place seat again sat e same = e ∙ ap (λ s. set desk place (Some s)) same ∙ set-same desk place (Some seat) sat.there
+
   -- from old with its desk, the sessions behind the seats that are left are closed
   pub record Closing (desk : List (Option (Seat K V))) (old : State K V) (seats : List (Option (Seat K V))) (new : State K V) : Type 0 where
     pub placed : (place : ℕ) (seat : Seat K V) → slice_get seats place ≡ Some (Some seat) → seat.session.place ≡ place
@@ -213,3 +254,8 @@ module _ {K V : Type 0} (cmp : K → K → Ordering) (width : ℕ) where
     omega (arith, ap length e, length-append done (call ∷ rest)),
     subst (λ front. Run cmp width old front replies new) (sym (ap (take (length done)) (sym e) ∙ take_at done (call ∷ rest) (length done) refl)) run,
   )
+
+  -- a session that was read stays where it is, whatever it was answered
+  pub read-there : (s : State K V) (query : Query K) (answer : Result (Answer K V) AllocError) (old new : OpenSession K V) → IfOk answer (λ a. Reads cmp s old query a new) → OnErr answer (new ≡ old) → (new.place ≡ old.place) × (new.receipt.number ≡ old.receipt.number)
+  read-there s query (Ok a) old new reads refused = (ap (λ (x : OpenSession K V). x.place) reads.recorded, ap (λ (x : OpenSession K V). x.receipt.number) reads.recorded)
+  read-there s query (Err e) old new reads refused = (ap (λ (x : OpenSession K V). x.place) refused, ap (λ (x : OpenSession K V). x.receipt.number) refused)

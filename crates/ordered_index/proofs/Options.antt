@@ -23,6 +23,12 @@ none_mapped f (None ∷ xs) zero e = refl
 none_mapped f (Some x ∷ xs) zero e = absurd cc
 none_mapped f (x ∷ xs) (suc i) e = none_mapped f xs i e
 
+pub some_mapped : {X Y : Type 0} (f : X → Y) (xs : List (Option X)) (i : ℕ) (x : X) → slice_get xs i ≡ Some (Some x) → slice_get (map (option_map f) xs) i ≡ Some (Some (f x))
+some_mapped f [] i x e = absurd cc
+some_mapped f (None ∷ xs) zero x e = absurd cc
+some_mapped f (Some y ∷ xs) zero x e = let same : y ≡ x = cc in ap (λ z. Some (Some (f z))) same
+some_mapped f (y ∷ xs) (suc i) x e = some_mapped f xs i x e
+
 -- what is read is there
 pub read_there : {X : Type 0} (xs : List (Option X)) (i : ℕ) (o : Option X) → slice_get xs i ≡ Some o → (i < length xs) × (get_or xs i None ≡ o)
 read_there [] i o e = absurd cc

@@ -1,5 +1,5 @@
 -- Runs of transactions, and the versions that have their lists.
-use Rattle.std.proofs.Common.{length-append, ◌≡◌, ℕ, ◌+◌, ◌≤◌, zero, suc, List, [], ◌∷◌, ◌++◌, length, take, get_or, map, set, refl, sym, ap, ◌∙◌, subst, arith, Option, Some, None, IfSome}
+use Rattle.std.proofs.Common.{length-append, ◌≡◌, ℕ, ◌+◌, ◌≤◌, zero, suc, List, [], ◌∷◌, ◌++◌, length, take, get_or, map, set, refl, sym, ap, ◌∙◌, subst, arith, Option, Some, None, IfSome, ⊎_elim}
 use Rattle.std.specs.declared.cmp.Ordering.{Ordering}
 use Rattle.std.specs.List.{All, slice_get}
 use Rattle.std.specs.Option.{option_map, unwrap_or}
@@ -11,7 +11,7 @@ use Rattle.versions.specs.Writes.{after_writes, replies_to}
 use Rattle.ordered_index.specs.Inside.{IsKept, IsOf, state_of}
 use Rattle.ordered_index.proofs.Options.{mapped_some}
 use Rattle.ordered_index.specs.State.{present, list_at, MayAccept}
-use Rattle.ordered_index.specs.Store.{Store, Version}
+use Rattle.ordered_index.specs.Store.{IsKeptHere, Store, Version}
 use Rattle.ordered_index.specs.Serial.{after_all, IsSerial, IsGood}
 use Rattle.ordered_index.specs.declared.transaction.Transaction.{Transaction}
 
@@ -25,7 +25,7 @@ module _ {K V : Type 0} (cmp : K → K → Ordering) where
   after_all-push (u ∷ ts) t pairs = after_all-push ts t (after_writes cmp u.writes pairs)
 
   -- the first transactions are the same in a longer history
-  take-push : (ts : List (Transaction K V)) (t : Transaction K V) (n : ℕ) → n ≤ length ts → take n (ts ++ t ∷ []) ≡ take n ts
+  pub take-push : (ts : List (Transaction K V)) (t : Transaction K V) (n : ℕ) → n ≤ length ts → take n (ts ++ t ∷ []) ≡ take n ts
   take-push ts t zero h = refl
   take-push [] t (suc n) h = absurd (omega (arith, h))
   take-push (u ∷ ts) t (suc n) h = ap (λ us. u ∷ us) (take-push ts t n (omega (arith, h)))
@@ -65,6 +65,17 @@ module _ {K V : Type 0} (cmp : K → K → Ordering) where
         let r = mapped_some (λ (v : Version K V). v.number) store.readers place number e in
         let is_of = at_get (λ r. IfSome r (IsOf cmp history)) store.readers place (Some r.0) kept.readers r.1 in
         (r.0, r.1, is_of.list ∙ ap (λ n. after_all cmp (take n history) []) r.2)
+
+    -- a version that is kept has the list of its number
+    pub kept_list : (v : Version K V) (n : ℕ) → IsKeptHere v store → v.number ≡ n → v.pairs ≡ list_at cmp (state_of store history last) n
+    kept_list v n here numbered = of_here here ∙ ap (λ m. after_all cmp (take m history) []) numbered
+      where
+        of_here : IsKeptHere v store → v.pairs ≡ after_all cmp (take v.number history) []
+        of_here here =
+            ⊎_elim
+            (λ e. ap (λ (x : Version K V). x.pairs) e ∙ present_of.list ∙ ap (λ m. after_all cmp (take m history) []) (ap (λ (x : Version K V). x.number) (sym e)))
+            (λ r. (at_get (λ r. IfSome r (IsOf cmp history)) store.readers r.0 (Some v) kept.readers r.1).list)
+            here
 
     pub kept_readers : (store' : Store K V) (place : ℕ) (r : Option (Version K V)) → store' ≡ record store { readers = set store.readers place r } → IfSome r (IsOf cmp history) → IsKept cmp width store' history last
     kept_readers store' place r e h = record {

@@ -1,8 +1,8 @@
 -- A desk keeps sessions of an index by labels, each in the seat of its place. Calls of both, and runs of calls.
 use Rattle.std.specs.Prelude.{◌≡◌, ◌≢◌, ℕ, ◌≤◌, List, [], ◌∷◌, length, Option, Some, None, slice_get, slice_set}
 use Rattle.std.specs.declared.cmp.Ordering.{Ordering}
-use Rattle.ordered_index.specs.Serial.{Read, answer_to}
-use Rattle.ordered_index.specs.State.{State, OpenSession, IsOpen, IsOpenAt, IsFull, Opens, Closes, list_at, Accepts, Refuses, Reclaims}
+use Rattle.ordered_index.specs.State.{State, OpenSession, IsOpen, IsOpenAt, IsFull, Opens, Closes, list_at, Accepts, Refuses, Reads, Audits, Reclaims}
+use Rattle.ordered_index.specs.declared.query.Query.{Query}
 use Rattle.ordered_index.specs.declared.query.Query.TheVariants as queries
 use Rattle.versions.specs.declared.write.Write.{Write}
 use Rattle.ordered_index.specs.declared.transaction.Receipt.{Receipt}
@@ -72,11 +72,11 @@ module _ {K V : Type 0} where
     pub closes : Closes old.index place new.index
     pub left : new.desk ≡ slice_set old.desk place None
 
-  -- the reads that a commit rests on
-  abbrev pub RestsOn : List (Option (Seat K V)) → ReadSet K V → List (Read K V) → Type 0
-  RestsOn desk sets.Empty reads = reads ≡ []
-  RestsOn desk (sets.Receipt receipt) reads = reads ≡ receipt.reads
-  RestsOn desk (sets.Session label) reads = (place : ℕ) × (seat : Seat K V) × SitsAt desk label place seat × (reads ≡ seat.session.receipt.reads)
+  -- the receipt with the reads that are meant
+  abbrev pub RestsOn : List (Option (Seat K V)) → ReadSet K V → Receipt K V → Type 0
+  RestsOn desk sets.Empty receipt = (receipt.number ≡ 0) × (receipt.reads ≡ [])
+  RestsOn desk (sets.Receipt own) receipt = receipt ≡ own
+  RestsOn desk (sets.Session label) receipt = (place : ℕ) × (seat : Seat K V) × SitsAt desk label place seat × (receipt ≡ seat.session.receipt)
 
   -- they are a session's, and there is no such session
   abbrev pub RestsOnNone : List (Option (Seat K V)) → ReadSet K V → Type 0
@@ -97,20 +97,25 @@ module _ {K V : Type 0} where
     CloseStep old label (replies.NoSession back) new = IsUnknown old.desk label × (back.items ≡ []) × (new ≡ old)
     CloseStep old label reply new = ⊥
 
-    -- the answer is that of the list at the session's opening
-    abbrev pub GetStep : Machine K V → ℕ → K → DeskReply K V → Machine K V → Type 0
-    GetStep old label key (replies.Answer answer) new =
-        (place : ℕ) × (seat : Seat K V) × SitsAt old.desk label place seat
-        × (answer ≡ answer_to cmp (queries.Get key) (list_at cmp old.index seat.session.receipt.number)) × (new ≡ old)
-    GetStep old label key (replies.NoSession back) new = IsUnknown old.desk label × (back.items ≡ []) × (new ≡ old)
-    GetStep old label key reply new = ⊥
+    -- the answer is that of the list at the session's opening, and the session's receipt has it with its query
+    abbrev pub ReadStep : Machine K V → ℕ → Query K → DeskReply K V → Machine K V → Type 0
+    ReadStep old label query (replies.Answer answer) new =
+        (place : ℕ) × (seat : Seat K V) × (session : OpenSession K V) × SitsAt old.desk label place seat
+        × Reads cmp old.index seat.session query answer session × (new ≡ record old { desk = slice_set old.desk place (Some (record seat { session = session })) })
+    ReadStep old label query (replies.NoSession back) new = IsUnknown old.desk label × (back.items ≡ []) × (new ≡ old)
+    ReadStep old label query reply new = ⊥
+
+    abbrev pub AuditStep : Machine K V → ReadSet K V → DeskReply K V → Machine K V → Type 0
+    AuditStep old on (replies.Audit found) new = (receipt : Receipt K V) × RestsOn old.desk on receipt × Audits cmp old.index receipt found × (new ≡ old)
+    AuditStep old on (replies.NoSession back) new = RestsOnNone old.desk on × (back.items ≡ []) × (new ≡ old)
+    AuditStep old on reply new = ⊥
 
     -- a commit that is refused memory has no reply
     abbrev pub CommitStep : Machine K V → ReadSet K V → List (Write K V) → DeskReply K V → Machine K V → Type 0
     CommitStep old on writes (replies.Accepted told) new =
-        (reads : List (Read K V)) × RestsOn old.desk on reads × Accepts cmp width old.index reads writes told new.index × (new.desk ≡ old.desk)
+        (receipt : Receipt K V) × RestsOn old.desk on receipt × Accepts cmp width old.index receipt.reads writes told new.index × (new.desk ≡ old.desk)
     CommitStep old on writes (replies.Refused back) new =
-        (reads : List (Read K V)) × RestsOn old.desk on reads × Refuses cmp width old.index reads writes back new.index × (new.desk ≡ old.desk) × (back.cause ≢ causes.Memory)
+        (receipt : Receipt K V) × RestsOn old.desk on receipt × Refuses cmp width old.index receipt.reads writes back new.index × (new.desk ≡ old.desk) × (back.cause ≢ causes.Memory)
     CommitStep old on writes (replies.NoSession back) new = RestsOnNone old.desk on × (back.items ≡ writes) × (new ≡ old)
     CommitStep old on writes reply new = ⊥
 
@@ -140,7 +145,11 @@ module _ {K V : Type 0} where
     abbrev pub Step : Machine K V → DeskCall K V → DeskReply K V → Machine K V → Type 0
     Step old (calls.Open label) reply new = OpenStep old label reply new
     Step old (calls.Close label) reply new = CloseStep old label reply new
-    Step old (calls.Get label key) reply new = GetStep old label key reply new
+    Step old (calls.Get label key) reply new = ReadStep old label (queries.Get key) reply new
+    Step old (calls.Contains label key) reply new = ReadStep old label (queries.Contains key) reply new
+    Step old (calls.Range label lower upper) reply new = ReadStep old label (queries.Range lower upper) reply new
+    Step old (calls.Locate label key) reply new = ReadStep old label (queries.Locate key) reply new
+    Step old (calls.Audit on) reply new = AuditStep old on reply new
     Step old (calls.Commit on writes) reply new = CommitStep old on writes.items reply new
     Step old calls.Reclaim reply new = ReclaimStep old reply new
     Step old calls.Slots reply new = SlotsStep old reply new

@@ -1,6 +1,9 @@
+pub mod Answers
+pub mod Stretches
 pub mod Serial
 pub mod Store
 pub mod State
 pub mod Sizes
 pub mod Inside
 pub mod Desk
+pub mod Receipts

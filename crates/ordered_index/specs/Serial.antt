@@ -2,26 +2,20 @@
 use Rattle.std.specs.Prelude.{◌≡◌, ℕ, ◌<◌, List, [], ◌∷◌, length}
 use Rattle.std.specs.declared.cmp.Ordering.{Ordering}
 use Rattle.std.specs.List.{All, AllWithin, HoldsAt}
-use Rattle.leaf_array.specs.Pairs.{value_at}
 use Rattle.versions.specs.Writes.{after_writes, replies_to}
+use Rattle.ordered_index.specs.Answers.{answer_to}
 use Rattle.ordered_index.specs.declared.query.Query.{Query}
-use Rattle.ordered_index.specs.declared.query.Query.TheVariants as queries
 use Rattle.ordered_index.specs.declared.query.Answer.{Answer}
-use Rattle.ordered_index.specs.declared.query.Answer.TheVariants as answers
 use Rattle.ordered_index.specs.declared.transaction.Transaction.{Transaction}
 
 -- a recorded read: a query and the answer that was given to it
 abbrev pub Read : Type 0 → Type 0 → Type 0
-Read K V = Query K × Answer V
+Read K V = Query K × Answer K V
 
 module _ {K V : Type 0} (cmp : K → K → Ordering) where
-  -- the answer to a query
-  abbrev pub answer_to : Query K → List (K × V) → Answer V
-  answer_to (queries.Get key) pairs = answers.Get (value_at cmp key pairs)
-
   -- a recorded read has the answer that the list gives
   abbrev pub Holds : List (K × V) → Read K V → Type 0
-  Holds pairs read = read.1 ≡ answer_to read.0 pairs
+  Holds pairs read = read.1 ≡ answer_to cmp read.0 pairs
 
   -- the read at this place is the first that doesn't hold
   pub record IsFirstConflict (pairs : List (K × V)) (reads : List (Read K V)) (place : ℕ) : Type 0 where

@@ -4,8 +4,13 @@ use Rattle.std.specs.declared.cmp.Ordering.{Ordering}
 use Rattle.std.specs.List.{All}
 use Rattle.versions.specs.Writes.{after_writes, replies_to}
 use Rattle.versions.specs.declared.write.Write.{Write}
+use Rattle.ordered_index.specs.Answers.{answer_to}
 use Rattle.ordered_index.specs.Serial.{Read, after_all, Holds, IsFirstConflict}
 use Rattle.ordered_index.specs.Sizes.{room_for}
+use Rattle.ordered_index.specs.declared.query.Query.{Query}
+use Rattle.ordered_index.specs.declared.query.Answer.{Answer}
+use Rattle.ordered_index.specs.declared.transaction.Audit.{Audit}
+use Rattle.ordered_index.specs.declared.transaction.Audit.TheVariants as audits
 use Rattle.ordered_index.specs.declared.transaction.Transaction.{Transaction}
 use Rattle.ordered_index.specs.declared.transaction.Receipt.{Receipt}
 use Rattle.ordered_index.specs.declared.commit.Accepted.{Accepted}
@@ -72,6 +77,17 @@ module _ {K V : Type 0} where
     -- what these reads and writes add to the history
     abbrev pub transaction_of : State K V → List (Read K V) → List (Write K V) → Transaction K V
     transaction_of s reads writes = record { reads = reads; writes = writes; replies = replies_to cmp writes (present s) }
+
+    -- a query is answered on the list of the session's number, and put at the end of its receipt with the answer
+    pub record Reads (s : State K V) (old : OpenSession K V) (query : Query K) (answer : Answer K V) (new : OpenSession K V) : Type 0 where
+      pub told : answer ≡ answer_to cmp query (list_at s old.receipt.number)
+      pub recorded : new ≡ record old { receipt = record old.receipt { reads = old.receipt.reads ++ (query, answer) ∷ [] } }
+
+    -- whether the reads of a receipt hold of the list of its number, if there is one
+    abbrev pub Audits : State K V → Receipt K V → Audit → Type 0
+    Audits s receipt audits.Yes = (receipt.number ≤ number_of s) × All (Holds cmp (list_at s receipt.number)) receipt.reads
+    Audits s receipt (audits.No place) = (receipt.number ≤ number_of s) × IsFirstConflict cmp (list_at s receipt.number) receipt.reads place
+    Audits s receipt audits.Unknown = number_of s < receipt.number
 
     -- each read holds, and the last number isn't reached
     pub record MayAccept (s : State K V) (reads : List (Read K V)) : Type 0 where

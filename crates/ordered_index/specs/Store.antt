@@ -1,5 +1,5 @@
 -- the versions that an index keeps in a place: the present one, which a root names, and those that readers have open
-use Rattle.std.specs.Prelude.{◌≡◌, ◌≢◌, ℕ, ◌+◌, List, [], ◌∷◌, Option, None, Some, get_or, length, map}
+use Rattle.std.specs.Prelude.{◌≡◌, ◌≢◌, ℕ, ◌+◌, List, [], ◌∷◌, Option, None, Some, get_or, length, map, slice_get, ◌⊎◌}
 use Rattle.std.specs.Option.{option_map}
 use Rattle.std.specs.declared.cmp.Ordering.{Ordering}
 use Rattle.sdd_base.specs.Counting.{Counted}
@@ -31,6 +31,10 @@ pub record Store (K V : Type 0) : Type 0 where
   pub slots : ℕ
   pub used : ℕ
   pub raises : ℕ
+
+-- the version is the present one, or a reader's
+abbrev pub IsKeptHere : {K V : Type 0} → Version K V → Store K V → Type 0
+IsKeptHere v s = (v ≡ s.present) ⊎ (place : ℕ) × (slice_get s.readers place ≡ Some (Some v))
 
 -- 1 for a place without a reader
 abbrev pub gap : {X : Type 0} → Option X → ℕ

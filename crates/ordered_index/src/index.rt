@@ -4,19 +4,30 @@ ghost use Rattle.std.specs.Prelude.{◌+◌, ◌≢◌, ◌≤◌, vec_len, vec_
 ghost use Rattle.std.specs.Option.{option_copied};
 ghost use Rattle.leaf_array.specs.Pairs.{has_key, value_at};
 ghost use Rattle.leaf_array.specs.Values.{ClonesAreSame, EqualsAreSame};
+ghost use Rattle.std.specs.Range.Bound.{bound_map};
+ghost use Rattle.tree_index.specs.Cursor.{whole};
+ghost use Rattle.tree_index.specs.Proximity.{IsLocated};
+ghost use Rattle.tree_index.specs.declared.cursor.End.TheVariants.{Unopened};
+ghost use Rattle.versions.specs.Nearby.{as_proximity};
 ghost use Rattle.versions.specs.Cuts.{pairs_in};
 ghost use Rattle.versions.specs.Writes.{after_writes, replies_to};
+ghost use Rattle.std.specs.List.{All};
+ghost use Rattle.ordered_index.specs.Serial.{Holds, IsFirstConflict};
 ghost use Rattle.ordered_index.specs.Sizes.{IsSized, room_for};
-ghost use Rattle.ordered_index.specs.State.{State, number_of, IsOpen, IsFull, IsIdle, Opens, Closes, list_at, present, transaction_of, MayAccept, MayRefuse, Commits, Refuses, Reclaims};
+ghost use Rattle.ordered_index.specs.State.{State, number_of, IsOpen, IsFull, IsIdle, Opens, Closes, list_at, present, transaction_of, MayAccept, MayRefuse, Commits, Refuses, Reads, Audits, Reclaims};
 
 use crate::commit::{Accepted, Cause, Refused};
-use crate::conflict::first_conflict;
 use crate::listed::Listed;
+use crate::listing::{answer, first_conflict};
+use crate::query::{Answer, Query};
+use crate::replay::replayed;
 use crate::session::Session;
+use crate::snapshot::{Nearby, Snapshot, Walk};
 use crate::store::Store;
-use crate::transaction::{Receipt, Recorded, Transaction, copied_reads};
+use crate::transaction::{Audit, Receipt, Recorded, Transaction, copied_answer, copied_reads};
 use std::alloc::{AllocError, Global};
 use std::marker::Model;
+use std::ops::Bound;
 use versions::{Built, Reply, Write};
 
 /// No place is free: as many sessions are open as the index has places.
@@ -135,6 +146,56 @@ impl<K: Clone + Ord, V: Clone + Eq, const S: usize> LocalIndex<K, V, S> {
         self.store.len(session.place())
     }
 
+    /// Where the key stands in the session's list, with a cursor there (as `locate` of a `TreeIndex`
+    /// gives it). The read isn't recorded.
+    pub fn locate<'a>(&'a self, session: &Session<K, V>, key: &K) -> Nearby<'a, K, V, S>
+        requires { IsOpen self.now session.now }
+        ensures { IsLocated K.cmp key.now (list_at K.cmp self.now session.now.receipt.number) (as_proximity result) }
+    {
+        self.store.locate(session.place(), key)
+    }
+
+    /// A cursor over all pairs of the session's list. What it gives isn't recorded.
+    pub fn iter<'a>(&'a self, session: &Session<K, V>) -> Walk<'a, K, V, S>
+        requires { IsOpen self.now session.now }
+        ensures { result ≡ whole (list_at K.cmp self.now session.now.receipt.number) Unopened Unopened }
+    {
+        self.store
+            .walk(session.place(), Bound::Unbounded, Bound::Unbounded)
+    }
+
+    /// A cursor over the pairs of the session's list within two bounds. What it gives isn't recorded.
+    pub fn range<'a>(
+        &'a self,
+        session: &Session<K, V>,
+        lower: Bound<&'a K>,
+        upper: Bound<&'a K>,
+    ) -> Walk<'a, K, V, S>
+        requires { IsOpen self.now session.now }
+        ensures { result ≡ record { pairs = list_at K.cmp self.now session.now.receipt.number; lower = bound_map (λ k. k.now) lower.entry; upper = bound_map (λ k. k.now) upper.entry; forward = Unopened; backward = Unopened } }
+    {
+        self.store.walk(session.place(), lower, upper)
+    }
+
+    /// The answer to a query on the session's list, which is also recorded as the last read of its
+    /// receipt. Refused where memory is: then the receipt stays as it was.
+    pub fn read(
+        &self,
+        session: &mut Session<K, V>,
+        query: Query<K>,
+    ) -> Result<Answer<K, V>, AllocError>
+        requires session { IsOpen self.now session.old }
+        requires keys { ClonesAreSame K.is_clone }
+        requires values { ClonesAreSame V.is_clone }
+        ensures read { IfOk result (λ answer. Reads K.cmp self.now session.old query answer session.new) }
+        ensures refused { OnErr result (session.new ≡ session.old) }
+    {
+        let told = answer(self.alloc, &self.list_of(session), &query)?;
+        let kept = copied_answer(&told)?;
+        session.note(query, kept)?;
+        Ok(told)
+    }
+
     /// What the session recorded, and its number.
     pub fn receipt<'a>(&self, session: &'a Session<K, V>) -> &'a Receipt<K, V>
         ensures { result.now ≡ session.now.receipt }
@@ -157,7 +218,8 @@ impl<K: Clone + Ord, V: Clone + Eq, const S: usize> LocalIndex<K, V, S> {
     ) -> Result<Accepted, Refused<K, V>>
         requires keys { ClonesAreSame K.is_clone }
         requires values { ClonesAreSame V.is_clone }
-        requires equals { EqualsAreSame V.eq }
+        requires equal_keys { EqualsAreSame K.eq }
+        requires equal_values { EqualsAreSame V.eq }
         ensures commits { Commits K.cmp S self.old receipt.now.reads writes.items result self.new }
         ensures sessions { self.new.places ≡ self.old.places }
     {
@@ -174,6 +236,29 @@ impl<K: Clone + Ord, V: Clone + Eq, const S: usize> LocalIndex<K, V, S> {
             Ok(replies) => Ok(Accepted { number, replies }),
             Err(refused) => Err(refused),
         }
+    }
+
+    /// Whether the reads of a receipt are answered as the list of its number answers them: `Unknown`
+    /// where no list has that number yet, which takes no memory; else the first read that differs, or
+    /// `Yes`. Refused where memory is.
+    ///
+    /// The list is the present one or a session's, where that has the number, and else is made again
+    /// from the transactions up to it.
+    pub fn audit(&self, receipt: &Receipt<K, V>) -> Result<Audit, AllocError>
+        requires keys { ClonesAreSame K.is_clone }
+        requires values { ClonesAreSame V.is_clone }
+        requires equal_keys { EqualsAreSame K.eq }
+        requires equal_values { EqualsAreSame V.eq }
+        ensures audits { IfOk result (Audits K.cmp self.now receipt.now) }
+        ensures unknown { OnErr result (receipt.now.number ≤ number_of self.now) }
+    {
+        if receipt.number > self.present_number() {
+            return Ok(Audit::Unknown);
+        }
+        Ok(match self.conflict_at(receipt)? {
+            Some(place) => Audit::No(place),
+            None => Audit::Yes,
+        })
     }
 
     /// How many slots are in use: those of the present version, of versions that sessions have, and
@@ -224,13 +309,22 @@ impl<K: Clone + Ord, V: Clone + Eq, const S: usize> LocalIndex<K, V, S> {
         Ok(())
     }
 
+    // The version that a session reads.
+    fn list_of(&self, session: &Session<K, V>) -> Snapshot<'_, K, V, S>
+        requires { IsOpen self.now session.now }
+        ensures { result ≡ list_at K.cmp self.now session.now.receipt.number }
+    {
+        self.store.reader(session.place())
+    }
+
     // Why a commit of these reads is refused, whatever it writes.
     fn objection(&self, reads: &[Recorded<K, V>]) -> Option<Cause>
-        requires { EqualsAreSame V.eq }
+        requires keys { EqualsAreSame K.eq }
+        requires values { EqualsAreSame V.eq }
         ensures some { IfSome result (λ cause. (writes : List (Write K V)) → MayRefuse K.cmp S self.now reads.now writes cause) }
         ensures none { IfNone result (MayAccept K.cmp self.now reads.now) }
     {
-        match first_conflict(&self.store, reads) {
+        match first_conflict(&self.store.present(), reads) {
             Some(place) => Some(Cause::Conflict(place)),
             None => {
                 if self.present_number() == self.last() {
@@ -240,6 +334,24 @@ impl<K: Clone + Ord, V: Clone + Eq, const S: usize> LocalIndex<K, V, S> {
                 }
             }
         }
+    }
+
+    // The first read that doesn't hold of the list of the receipt's number.
+    fn conflict_at(&self, receipt: &Receipt<K, V>) -> Result<Option<usize>, AllocError>
+        requires number { receipt.now.number ≤ number_of self.now }
+        requires keys { ClonesAreSame K.is_clone }
+        requires values { ClonesAreSame V.is_clone }
+        requires equal_keys { EqualsAreSame K.eq }
+        requires equal_values { EqualsAreSame V.eq }
+        ensures some { IfOk result (λ r. IfSome r (IsFirstConflict K.cmp (list_at K.cmp self.now receipt.now.number) receipt.now.reads)) }
+        ensures none { IfOk result (λ r. IfNone r (All (Holds K.cmp (list_at K.cmp self.now receipt.now.number)) receipt.now.reads)) }
+    {
+        let reads = receipt.reads.as_slice();
+        if let Some(list) = self.store.of_number(receipt.number) {
+            return Ok(first_conflict(&list, reads));
+        }
+        let list = replayed(self.alloc, &self.history[..receipt.number as usize])?;
+        Ok(first_conflict(&list, reads))
     }
 
     fn last(&self) -> u64

@@ -16,31 +16,40 @@
 #![tactic(auto)]
 
 mod commit;
-pub mod conflict;
 mod desk;
 mod index;
+mod laws;
 mod listed;
-pub mod plain;
+pub mod listing;
 mod play;
 mod query;
+mod replay;
 mod session;
+mod snapshot;
 mod store;
+mod stretch;
 mod transaction;
 
 pub use commit::{Accepted, Cause, Refused};
 pub use desk::Desk;
 pub use index::{LocalIndex, NoPlace};
+pub use laws::own_receipts_audit_yes;
 pub use listed::{Listed, clones_of_lists, equals_of_lists};
 pub use play::{DeskCall, DeskReply, ReadSet, play_all};
-pub use query::{Answer, Query};
+pub use query::{Answer, Near, Query};
 pub use session::Session;
-pub use transaction::{Receipt, Recorded, Transaction};
+pub use snapshot::{Nearby, Walk};
+pub use transaction::{Audit, Receipt, Recorded, Transaction};
 pub use versions::{Reply, Write};
 
 #[cfg(test)]
 mod call_tests;
 #[cfg(test)]
+mod plain;
+#[cfg(test)]
 mod random_tests;
+#[cfg(test)]
+mod read_tests;
 #[cfg(test)]
 mod refusals;
 #[cfg(test)]

@@ -2,20 +2,21 @@
 
 ghost use Rattle.std.specs.Prelude.{◌≡◌, ◌<◌, [], ℕ, IfOk, IfErr, IfSome, IfNone, OnErr, OnOk, take, length};
 ghost use Rattle.leaf_array.specs.Values.{ClonesAreSame, EqualsAreSame};
-ghost use Rattle.ordered_index.specs.Desk.{Serves, KeepsAll, RestsOn, RestsOnNone, OpenStep, CloseStep, GetStep, NumberStep, LenStep, CommitStep, Step, Run};
+ghost use Rattle.ordered_index.specs.Desk.{Serves, KeepsAll, RestsOn, RestsOnNone, OpenStep, CloseStep, ReadStep, AuditStep, NumberStep, LenStep, CommitStep, Step, Run};
 
 use crate::commit::{Accepted, Cause, Refused};
 use crate::desk::{Desk, Seat};
 use crate::index::{LocalIndex, NoPlace, put};
-use crate::query::Answer;
-use crate::transaction::Receipt;
+use crate::query::{Answer, Query};
+use crate::transaction::{Audit, Receipt};
 use std::alloc::{AllocError, Global};
+use std::ops::Bound;
 use versions::Write;
 
-/// The reads that a commit rests on.
+/// The reads that a commit rests on, or that an audit tests.
 #[derive(Debug, Drop)]
 pub enum ReadSet<K, V> {
-    /// None.
+    /// None, at number 0.
     Empty,
     /// Those of the session with this label.
     Session(u64),
@@ -30,8 +31,16 @@ pub enum DeskCall<K, V> {
     Open(u64),
     /// Closes the session with the label.
     Close(u64),
-    /// Reads the value of the pair with the key.
+    /// Reads the value of the pair with the key. This and the next three are recorded.
     Get(u64, K),
+    /// Reads whether a pair has the key.
+    Contains(u64, K),
+    /// Reads the pairs whose keys lie within two bounds.
+    Range(u64, Bound<K>, Bound<K>),
+    /// Reads the pair with the key, or the nearest ones.
+    Locate(u64, K),
+    /// Audits these reads.
+    Audit(ReadSet<K, V>),
     /// Commits the writes, on these reads.
     Commit(ReadSet<K, V>, Vec<Write<K, V>>),
     /// Reclaims versions that no session has.
@@ -58,7 +67,9 @@ pub enum DeskReply<K, V> {
     /// The label has no session. Nothing changed; the writes of a commit come back.
     NoSession(Vec<Write<K, V>>),
     /// What the session's list answers.
-    Answer(Answer<V>),
+    Answer(Answer<K, V>),
+    /// What the audit found.
+    Audit(Audit),
     /// The commit was accepted.
     Accepted(Accepted),
     /// The commit was refused. Nothing changed.
@@ -88,7 +99,8 @@ pub fn play_all<K: Clone + Ord, V: Clone + Eq, const S: usize>(
     requires serves { Serves (record { index = index.old; desk = desk.old }) }
     requires keys { ClonesAreSame K.is_clone }
     requires values { ClonesAreSame V.is_clone }
-    requires equals { EqualsAreSame V.eq }
+    requires equal_keys { EqualsAreSame K.eq }
+    requires equal_values { EqualsAreSame V.eq }
     ensures run { IfOk result (λ replies. Run K.cmp S (record { index = index.old; desk = desk.old }) calls.items replies.items (record { index = index.new; desk = desk.new })) }
     ensures stopped { IfErr result (λ stop. (n : ℕ) × (n < length calls.items) × Run K.cmp S (record { index = index.old; desk = desk.old }) (take n calls.items) stop.0.items (record { index = index.new; desk = desk.new })) }
     ensures serves { Serves (record { index = index.new; desk = desk.new }) }
@@ -117,7 +129,8 @@ fn play<K: Clone + Ord, V: Clone + Eq, const S: usize>(
     requires serves { Serves (record { index = index.old; desk = desk.old }) }
     requires keys { ClonesAreSame K.is_clone }
     requires values { ClonesAreSame V.is_clone }
-    requires equals { EqualsAreSame V.eq }
+    requires equal_keys { EqualsAreSame K.eq }
+    requires equal_values { EqualsAreSame V.eq }
     ensures step { IfOk result (λ reply. Step K.cmp S (record { index = index.old; desk = desk.old }) call reply (record { index = index.new; desk = desk.new })) }
     ensures index_kept { OnErr result (index.new ≡ index.old) }
     ensures desk_kept { OnErr result (desk.new ≡ desk.old) }
@@ -127,7 +140,19 @@ fn play<K: Clone + Ord, V: Clone + Eq, const S: usize>(
     match call {
         DeskCall::Open(label) => Ok(play_open(index, desk, label)),
         DeskCall::Close(label) => Ok(play_close(alloc, index, desk, label)),
-        DeskCall::Get(label, key) => play_get(alloc, index, desk, label, &key),
+        DeskCall::Get(label, key) => play_read(alloc, index, desk, label, Query::Get(key)),
+        DeskCall::Contains(label, key) => play_read(
+            alloc,
+            index,
+            desk,
+            label,
+            Query::Contains(key),
+        ),
+        DeskCall::Range(label, lower, upper) => {
+            play_read(alloc, index, desk, label, Query::Range(lower, upper))
+        }
+        DeskCall::Locate(label, key) => play_read(alloc, index, desk, label, Query::Locate(key)),
+        DeskCall::Audit(on) => play_audit(alloc, index, desk, &on),
         DeskCall::Commit(on, writes) => play_commit(alloc, index, desk, &on, writes),
         DeskCall::Reclaim => {
             index.reclaim();
@@ -181,26 +206,51 @@ fn play_close<K: Clone + Ord, V: Clone + Eq, const S: usize>(
     }
 }
 
-// Reads a value by the session under a label.
-fn play_get<K: Clone + Ord, V: Clone + Eq, const S: usize>(
+// Answers a query by the session under a label, and records it.
+fn play_read<K: Clone + Ord, V: Clone + Eq, const S: usize>(
+    alloc: Global,
+    index: &LocalIndex<K, V, S>,
+    desk: &mut Desk<K, V>,
+    label: u64,
+    query: Query<K>,
+) -> Result<DeskReply<K, V>, AllocError>
+    requires serves { Serves (record { index = index.now; desk = desk.old }) }
+    requires keys { ClonesAreSame K.is_clone }
+    requires values { ClonesAreSame V.is_clone }
+    ensures step { IfOk result (λ reply. ReadStep K.cmp S (record { index = index.now; desk = desk.old }) label query reply (record { index = index.now; desk = desk.new })) }
+    ensures err { OnErr result (desk.new ≡ desk.old) }
+    ensures serves { Serves (record { index = index.now; desk = desk.new }) }
+    ensures keeps_all { KeepsAll (record { index = index.now; desk = desk.old }) → KeepsAll (record { index = index.now; desk = desk.new }) }
+{
+    let Some(Seat { label, mut session }) = desk.leave(label) else {
+        return Ok(DeskReply::NoSession(Vec::new(alloc)));
+    };
+    let answer = index.read(&mut session, query);
+    desk.sit(label, session);
+    match answer {
+        Ok(answer) => Ok(DeskReply::Answer(answer)),
+        Err(refused) => Err(refused),
+    }
+}
+
+// Audits these reads.
+fn play_audit<K: Clone + Ord, V: Clone + Eq, const S: usize>(
     alloc: Global,
     index: &LocalIndex<K, V, S>,
     desk: &Desk<K, V>,
-    label: u64,
-    key: &K,
+    on: &ReadSet<K, V>,
 ) -> Result<DeskReply<K, V>, AllocError>
-    requires serves { Serves (record { index = index.now; desk = desk.now }) }
+    requires keys { ClonesAreSame K.is_clone }
     requires values { ClonesAreSame V.is_clone }
-    ensures { IfOk result (λ reply. GetStep K.cmp S (record { index = index.now; desk = desk.now }) label key.now reply (record { index = index.now; desk = desk.now })) }
+    requires equal_keys { EqualsAreSame K.eq }
+    requires equal_values { EqualsAreSame V.eq }
+    ensures { IfOk result (λ reply. AuditStep K.cmp S (record { index = index.now; desk = desk.now }) on.now reply (record { index = index.now; desk = desk.now })) }
 {
-    let Some(seat) = desk.seat(label) else {
+    let blank = Receipt::blank(alloc);
+    let Some(receipt) = reads_of(desk, on, &blank) else {
         return Ok(DeskReply::NoSession(Vec::new(alloc)));
     };
-    let found = match index.get(&seat.session, key) {
-        Some(value) => Some(value.clone()?),
-        None => None,
-    };
-    Ok(DeskReply::Answer(Answer::Get(found)))
+    Ok(DeskReply::Audit(index.audit(receipt)?))
 }
 
 // Tells the number of the session under a label.
@@ -245,7 +295,8 @@ fn play_commit<K: Clone + Ord, V: Clone + Eq, const S: usize>(
     requires serves { Serves (record { index = index.old; desk = desk.now }) }
     requires keys { ClonesAreSame K.is_clone }
     requires values { ClonesAreSame V.is_clone }
-    requires equals { EqualsAreSame V.eq }
+    requires equal_keys { EqualsAreSame K.eq }
+    requires equal_values { EqualsAreSame V.eq }
     ensures step { IfOk result (λ reply. CommitStep K.cmp S (record { index = index.old; desk = desk.now }) on.now writes.items reply (record { index = index.new; desk = desk.now })) }
     ensures err { OnErr result (index.new ≡ index.old) }
     ensures serves { Serves (record { index = index.new; desk = desk.now }) }
@@ -270,8 +321,9 @@ fn reads_of<'a, K, V>(
     on: &'a ReadSet<K, V>,
     blank: &'a Receipt<K, V>,
 ) -> Option<&'a Receipt<K, V>>
-    requires { blank.now.reads ≡ [] }
-    ensures some { IfSome result (λ receipt. RestsOn desk.now on.now receipt.now.reads) }
+    requires number { blank.now.number ≡ 0 }
+    requires reads { blank.now.reads ≡ [] }
+    ensures some { IfSome result (λ receipt. RestsOn desk.now on.now receipt.now) }
     ensures none { IfNone result (RestsOnNone desk.now on.now) }
 {
     match on {

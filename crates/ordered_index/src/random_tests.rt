@@ -3,10 +3,9 @@
 ghost use Rattle.ordered_index.specs.Desk.{Serves};
 ghost use Rattle.ordered_index.specs.Sizes.{IsSized};
 
-use crate::conflict::first_conflict;
 use crate::{
-    Accepted, Answer, Cause, Desk, DeskCall, DeskReply, Listed, LocalIndex, Query, ReadSet,
-    Receipt, Recorded, Reply, Write, play_all,
+    Accepted, Answer, Audit, Cause, Desk, DeskCall, DeskReply, Listed, LocalIndex, Query, ReadSet,
+    Receipt, Recorded, Reply, Write, plain, play_all,
 };
 use leaf_array::plain::find_value;
 use std::alloc::{AllocError, Global};
@@ -25,7 +24,7 @@ const VALUES: u64 = 3;
 const ROUNDS: usize = 900;
 
 // The last number, low enough to be reached.
-const LAST: u64 = 40;
+const LAST: u64 = 12;
 
 // A linear congruential generator, with the constants of Knuth's MMIX.
 #[derive(Drop)]
@@ -69,23 +68,33 @@ impl Dice {
         Ok(writes)
     }
 
-    // Up to two answers, three in four of them those of the list.
-    fn reads(
+    fn query(&mut self) -> Query<u64> {
+        match self.throw(8) {
+            0 | 1 => Query::Get(self.throw(KEYS)),
+            2 => Query::Contains(self.throw(KEYS)),
+            3 | 4 | 5 => Query::Range(self.bound(), self.bound()),
+            _ => Query::Locate(self.throw(KEYS)),
+        }
+    }
+
+    // Up to two answers, most of them those of the list, and a number that may be too high.
+    fn receipt(
         &mut self,
         alloc: Global,
         pairs: &[(u64, u64)],
+        number: usize,
     ) -> Result<Receipt<u64, u64>, AllocError> {
         let mut reads: Vec<Recorded<u64, u64>> = Vec::new(alloc);
         for _ in 0..self.throw(3) {
-            let key = self.throw(KEYS);
-            let told = match self.throw(4) {
-                0 => Some(self.throw(VALUES)),
-                _ => find_value(pairs, &key).copied(),
+            let query = self.query();
+            let told = match self.throw(6) {
+                0 => Answer::Get(Some(self.throw(VALUES))),
+                _ => plain::answer(alloc, pairs, &query)?,
             };
-            reads.push((Query::Get(key), Answer::Get(told)))?;
+            reads.push((query, told))?;
         }
         Ok(Receipt {
-            number: self.throw(LAST),
+            number: (number as u64).saturating_add(self.throw(8).saturating_sub(6)),
             reads: Listed::from_vec(reads),
         })
     }
@@ -102,13 +111,23 @@ struct Met {
     busy: usize,
     no_session: usize,
     older: usize,
+    unknown: usize,
+    broken: usize,
 }
 
-// What an index has to be: a list for each number, and the sessions, each with its label and its number.
+// A session: its label, its number, and what it recorded.
+#[derive(Drop)]
+struct Sitting {
+    label: u64,
+    number: usize,
+    reads: Vec<Recorded<u64, u64>>,
+}
+
+// What an index has to be: a list for each number, and the sessions.
 #[derive(Drop)]
 struct Lists {
     lists: Vec<Listed<(u64, u64)>>,
-    sessions: Vec<(u64, usize)>,
+    sessions: Vec<Sitting>,
     met: Met,
 }
 
@@ -120,7 +139,8 @@ enum Wanted {
     Busy,
     Closed(usize),
     NoSession,
-    Found(Option<u64>),
+    Answer(Query<u64>, Answer<u64, u64>),
+    Audit(Audit),
     Number(usize),
     Len(usize),
     Slots,
@@ -146,6 +166,8 @@ impl Lists {
                 busy: 0,
                 no_session: 0,
                 older: 0,
+                unknown: 0,
+                broken: 0,
             },
         })
     }
@@ -163,11 +185,11 @@ impl Lists {
         }
     }
 
-    // The number of the session with the label.
-    fn session(&self, label: u64) -> Option<usize> {
+    // The session with the label.
+    fn session(&self, label: u64) -> Option<&Sitting> {
         for session in &self.sessions {
-            if session.0 == label {
-                return Some(session.1);
+            if session.label == label {
+                return Some(session);
             }
         }
         None
@@ -176,33 +198,68 @@ impl Lists {
     fn wanted(&self, alloc: Global, call: &DeskCall<u64, u64>) -> Result<Wanted, AllocError> {
         match call {
             DeskCall::Open(label) => Ok(self.wanted_of_open(*label)),
-            DeskCall::Close(label) => Ok(match self.session(*label) {
-                Some(number) => Wanted::Closed(number),
-                None => Wanted::NoSession,
-            }),
-            DeskCall::Get(label, key) => Ok(match self.session(*label) {
-                Some(number) => Wanted::Found(find_value(self.list(number), key).copied()),
-                None => Wanted::NoSession,
-            }),
-            DeskCall::Number(label) => Ok(match self.session(*label) {
-                Some(number) => Wanted::Number(number),
-                None => Wanted::NoSession,
-            }),
-            DeskCall::Len(label) => Ok(match self.session(*label) {
-                Some(number) => Wanted::Len(self.list(number).len()),
-                None => Wanted::NoSession,
-            }),
             // the dice throw no `Reclaim`: that is asked of the index itself
             DeskCall::Reclaim | DeskCall::Slots => Ok(Wanted::Slots),
             DeskCall::Commit(ReadSet::Session(label), writes) => match self.session(*label) {
-                Some(_number) => self.wanted_of_commit(alloc, &[], writes),
+                Some(session) => self.wanted_of_commit(alloc, &session.reads, writes),
                 None => Ok(Wanted::NoSession),
             },
             DeskCall::Commit(ReadSet::Receipt(receipt), writes) => {
                 self.wanted_of_commit(alloc, receipt.reads.as_slice(), writes)
             }
             DeskCall::Commit(ReadSet::Empty, writes) => self.wanted_of_commit(alloc, &[], writes),
+            DeskCall::Audit(ReadSet::Receipt(receipt)) => self.wanted_of_audit(alloc, receipt),
+            DeskCall::Audit(ReadSet::Empty) => Ok(Wanted::Audit(Audit::Yes)),
+            DeskCall::Audit(ReadSet::Session(label))
+            | DeskCall::Close(label)
+            | DeskCall::Number(label)
+            | DeskCall::Len(label)
+            | DeskCall::Get(label, _)
+            | DeskCall::Contains(label, _)
+            | DeskCall::Range(label, _, _)
+            | DeskCall::Locate(label, _) => match self.session(*label) {
+                Some(session) => self.wanted_of_session(alloc, session, call),
+                None => Ok(Wanted::NoSession),
+            },
         }
+    }
+
+    fn wanted_of_session(
+        &self,
+        alloc: Global,
+        session: &Sitting,
+        call: &DeskCall<u64, u64>,
+    ) -> Result<Wanted, AllocError> {
+        let query = match call {
+            DeskCall::Close(_) => return Ok(Wanted::Closed(session.number)),
+            DeskCall::Number(_) => return Ok(Wanted::Number(session.number)),
+            DeskCall::Len(_) => return Ok(Wanted::Len(self.list(session.number).len())),
+            DeskCall::Get(_, key) => Query::Get(*key),
+            DeskCall::Contains(_, key) => Query::Contains(*key),
+            DeskCall::Range(_, lower, upper) => Query::Range(lower.clone()?, upper.clone()?),
+            DeskCall::Locate(_, key) => Query::Locate(*key),
+            // what a session read itself holds of its list
+            _ => return Ok(Wanted::Audit(Audit::Yes)),
+        };
+        let answer = plain::answer(alloc, self.list(session.number), &query)?;
+        Ok(Wanted::Answer(query, answer))
+    }
+
+    fn wanted_of_audit(
+        &self,
+        alloc: Global,
+        receipt: &Receipt<u64, u64>,
+    ) -> Result<Wanted, AllocError> {
+        let number = receipt.number as usize;
+        if number > self.number() {
+            return Ok(Wanted::Audit(Audit::Unknown));
+        }
+        Ok(Wanted::Audit(
+            match conflict(alloc, self.list(number), receipt.reads.as_slice())? {
+                Some(place) => Audit::No(place),
+                None => Audit::Yes,
+            },
+        ))
     }
 
     fn wanted_of_open(&self, label: u64) -> Wanted {
@@ -222,8 +279,7 @@ impl Lists {
         writes: &[Write<u64, u64>],
     ) -> Result<Wanted, AllocError> {
         let present = self.list(self.number());
-        let list = Listed::from_vec(Vec::from_clones(alloc, present)?);
-        if let Some(place) = first_conflict(&list, reads) {
+        if let Some(place) = conflict(alloc, present, reads)? {
             return Ok(Wanted::Conflict(place));
         }
         if self.number() as u64 == LAST {
@@ -245,6 +301,7 @@ impl Lists {
     fn follow<R: Abort>(
         &mut self,
         rt: &R,
+        alloc: Global,
         label: u64,
         writes: &[Write<u64, u64>],
         wanted: Wanted,
@@ -266,7 +323,7 @@ impl Lists {
             }
             reply => {
                 assert_eq!(rt; room.after, room.before);
-                self.follow_session(rt, label, wanted, &reply, room);
+                self.follow_session(rt, alloc, label, wanted, &reply, room);
             }
         }
     }
@@ -274,6 +331,7 @@ impl Lists {
     fn follow_session<R: Abort>(
         &mut self,
         rt: &R,
+        alloc: Global,
         label: u64,
         wanted: Wanted,
         reply: &DeskReply<u64, u64>,
@@ -281,9 +339,8 @@ impl Lists {
     ) {
         match (wanted, reply) {
             (Wanted::Opened, DeskReply::Opened(told)) => {
-                let number = self.number();
-                assert_eq!(rt; *told, number as u64);
-                self.sessions.push((label, number)).expect(rt, "room");
+                assert_eq!(rt; *told, self.number() as u64);
+                self.sit(rt, alloc, label);
             }
             (Wanted::NoPlace, DeskReply::NoPlace) => {
                 self.met.no_place = self.met.no_place.saturating_add(1);
@@ -293,8 +350,11 @@ impl Lists {
             }
             (Wanted::Closed(number), DeskReply::Closed(receipt)) => {
                 assert_eq!(rt; receipt.number, number as u64);
-                assert_eq!(rt; receipt.reads.as_slice().len(), 0);
-                self.sessions.retain(|session| session.0 != label);
+                let Some(session) = self.session(label) else {
+                    panic!(rt; "no such session");
+                };
+                assert!(rt; receipt.reads.as_slice() == session.reads.as_slice());
+                self.sessions.retain(|session| session.label != label);
             }
             (Wanted::Number(number), DeskReply::Number(told)) => {
                 assert_eq!(rt; *told, number as u64);
@@ -305,10 +365,49 @@ impl Lists {
             (Wanted::Slots, DeskReply::Slots(used)) => {
                 assert_eq!(rt; *used, room.after);
             }
-            (Wanted::Found(value), DeskReply::Answer(Answer::Get(found))) => {
-                assert_eq!(rt; *found, value);
+            (Wanted::Answer(query, answer), DeskReply::Answer(told)) => {
+                assert!(rt; *told == answer);
+                self.note(rt, label, query, answer);
+            }
+            (Wanted::Audit(audit), DeskReply::Audit(told)) => {
+                assert!(rt; *told == audit);
+                self.count(audit);
             }
             _ => panic!(rt; "a reply of another kind"),
+        }
+    }
+
+    // A session opens on the present list.
+    fn sit<R: Abort>(&mut self, rt: &R, alloc: Global, label: u64) {
+        let sitting = Sitting {
+            label,
+            number: self.number(),
+            reads: Vec::new(alloc),
+        };
+        self.sessions.push(sitting).expect(rt, "room");
+    }
+
+    // A session records a read.
+    fn note<R: Abort>(
+        &mut self,
+        rt: &R,
+        label: u64,
+        query: Query<u64>,
+        answer: Answer<u64, u64>,
+    ) {
+        for session in &mut self.sessions {
+            if session.label == label {
+                session.reads.push((query, answer)).expect(rt, "room");
+                return;
+            }
+        }
+    }
+
+    fn count(&mut self, audit: Audit) {
+        match audit {
+            Audit::Unknown => self.met.unknown = self.met.unknown.saturating_add(1),
+            Audit::No(_) => self.met.broken = self.met.broken.saturating_add(1),
+            Audit::Yes => {}
         }
     }
 
@@ -352,6 +451,21 @@ impl Lists {
     }
 }
 
+// The first read that a plain list answers otherwise.
+fn conflict(
+    alloc: Global,
+    pairs: &[(u64, u64)],
+    reads: &[Recorded<u64, u64>],
+) -> Result<Option<usize>, AllocError> {
+    for place in 0..reads.len() {
+        let read = &reads[place];
+        if plain::answer(alloc, pairs, &read.0)? != read.1 {
+            return Ok(Some(place));
+        }
+    }
+    Ok(None)
+}
+
 fn is_no_session(wanted: &Wanted) -> bool {
     match wanted {
         Wanted::NoSession => true,
@@ -389,8 +503,13 @@ fn parts_of(
         | DeskCall::Close(label)
         | DeskCall::Number(label)
         | DeskCall::Len(label)
+        | DeskCall::Contains(label, _)
+        | DeskCall::Range(label, _, _)
+        | DeskCall::Locate(label, _)
         | DeskCall::Get(label, _) => Ok((*label, Vec::new(alloc))),
-        DeskCall::Reclaim | DeskCall::Slots => Ok((LABELS, Vec::new(alloc))),
+        DeskCall::Reclaim | DeskCall::Slots | DeskCall::Audit(_) => {
+            Ok((LABELS, Vec::new(alloc)))
+        }
         DeskCall::Commit(_, writes) => Ok((LABELS, writes.clone()?)),
     }
 }
@@ -423,7 +542,7 @@ fn play<R: Abort, const S: usize>(
         after,
     };
     match replies.pop() {
-        Some(reply) => lists.follow(rt, label, &writes, wanted, reply, &room),
+        Some(reply) => lists.follow(rt, alloc, label, &writes, wanted, reply, &room),
         None => panic!(rt; "a call without a reply"),
     }
     assert!(rt; replies.is_empty());
@@ -461,9 +580,12 @@ fn look<R: Abort, const S: usize>(
 )
     requires { Serves (record { index = index.now; desk = desk.now }) }
 {
-    let Some(number) = lists.session(label) else {
-        assert!(rt; desk.seat(label).is_none());
-        return;
+    let number = match lists.session(label) {
+        Some(session) => session.number,
+        None => {
+            assert!(rt; desk.seat(label).is_none());
+            return;
+        }
     };
     for key in 0..KEYS {
         look_up(
@@ -505,6 +627,16 @@ fn look_up<R: Abort, const S: usize>(
     );
 }
 
+// The call that asks this.
+fn read_of(label: u64, query: Query<u64>) -> DeskCall<u64, u64> {
+    match query {
+        Query::Get(key) => DeskCall::Get(label, key),
+        Query::Contains(key) => DeskCall::Contains(label, key),
+        Query::Range(lower, upper) => DeskCall::Range(label, lower, upper),
+        Query::Locate(key) => DeskCall::Locate(label, key),
+    }
+}
+
 // Makes a call at random.
 fn step<R: Abort, const S: usize>(
     rt: &R,
@@ -520,14 +652,16 @@ fn step<R: Abort, const S: usize>(
 {
     let label = dice.throw(LABELS);
     let call = match dice.throw(16) {
-        0 | 1 | 2 => DeskCall::Open(label),
-        3 | 4 => DeskCall::Close(label),
-        5 => match dice.throw(KEYS) {
+        0 | 1 => DeskCall::Open(label),
+        2 => DeskCall::Close(label),
+        3 => match dice.throw(8) {
             0 | 1 => DeskCall::Number(label),
             2 | 3 => DeskCall::Len(label),
             4 => DeskCall::Slots,
-            key => DeskCall::Get(label, key),
+            5 => DeskCall::Audit(ReadSet::Empty),
+            _ => DeskCall::Audit(ReadSet::Session(label)),
         },
+        4 | 5 => read_of(label, dice.query()),
         6 | 7 => {
             look(rt, index, desk, lists, label);
             return Ok(());
@@ -539,8 +673,12 @@ fn step<R: Abort, const S: usize>(
         10 => DeskCall::Commit(ReadSet::Session(label), dice.writes(alloc)?),
         11 | 12 => DeskCall::Commit(ReadSet::Empty, dice.writes(alloc)?),
         _ => {
-            let receipt = dice.reads(alloc, lists.list(lists.number()))?;
-            DeskCall::Commit(ReadSet::Receipt(receipt), dice.writes(alloc)?)
+            let present = lists.number();
+            let receipt = dice.receipt(alloc, lists.list(present), present)?;
+            match dice.throw(3) {
+                0 => DeskCall::Audit(ReadSet::Receipt(receipt)),
+                _ => DeskCall::Commit(ReadSet::Receipt(receipt), dice.writes(alloc)?),
+            }
         }
     };
     play(rt, alloc, index, desk, lists, slots, call)
@@ -595,6 +733,8 @@ fn plays<R: Abort, const S: usize>(rt: &R, alloc: Global, slots: usize, seed: u6
     assert!(rt; met.busy > 0);
     assert!(rt; met.no_session > 0);
     assert!(rt; met.older > 0);
+    assert!(rt; met.unknown > 0);
+    assert!(rt; met.broken > 0);
 }
 
 #[test]

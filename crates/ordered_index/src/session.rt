@@ -1,8 +1,10 @@
 //! A session's token.
 
-ghost use Rattle.std.specs.Prelude.{◌≡◌, ℕ};
+ghost use Rattle.std.specs.Prelude.{◌≡◌, ◌∷◌, ◌++◌, [], ℕ, OnOk, OnErr};
 
+use crate::query::{Answer, Query};
 use crate::transaction::Receipt;
+use std::alloc::AllocError;
 use std::marker::Model;
 
 /// An open session of an index. It reads the list at its opening until it is closed.
@@ -54,5 +56,18 @@ impl<K, V> Session<K, V> {
     {
         let Session { place, receipt } = self;
         (place, receipt)
+    }
+}
+
+impl<K: Drop, V: Drop> Session<K, V> {
+    // Puts a read at the end of the receipt. Without memory the receipt stays as it was.
+    pub(crate) fn note(&mut self, query: Query<K>, answer: Answer<K, V>) -> Result<(), AllocError>
+        ensures ok { OnOk result (self.new ≡ record self.old { receipt = record self.old.receipt { reads = self.old.receipt.reads ++ (query, answer) ∷ [] } }) }
+        ensures err { OnErr result (self.new ≡ self.old) }
+    {
+        match self.receipt.reads.push((query, answer)) {
+            Ok(()) => Ok(()),
+            Err(_) => Err(AllocError),
+        }
     }
 }

@@ -1,26 +1,29 @@
 //! Versions in a place of one thread: the present one, and those that readers have open.
 
-ghost use Rattle.std.specs.Prelude.{◌≡◌, ◌≢◌, ◌≤◌, ◌<◌, ◌+◌, ◌*◌, ◌/◌, ◌-◌, ◌^◌, ◌∷◌, [], ℕ, List, Option, None, Some, IfOk, IfErr, IfSome, IfNone, IsSome, IsTrue, ◌↔◌, OnOk, OnErr, length, replicate, slice_get, slice_set, vec_capacity};
+ghost use Rattle.std.specs.Prelude.{◌≡◌, ◌≢◌, ◌≤◌, ◌<◌, ◌+◌, ◌*◌, ◌/◌, ◌-◌, ◌^◌, ◌∷◌, [], ℕ, List, Option, None, Some, IfOk, IfErr, IfSome, IfNone, IsSome, IsTrue, ◌↔◌, OnOk, OnErr, length, map, replicate, slice_get, slice_set, vec_capacity};
 ghost use Rattle.std.specs.List.{All};
-ghost use Rattle.std.specs.Option.{option_copied};
+ghost use Rattle.std.specs.Option.{option_copied, option_map};
 ghost use Rattle.leaf_array.specs.Pairs.{value_at};
 ghost use Rattle.leaf_array.specs.Values.{ClonesAreSame};
 ghost use Rattle.sdd_base.specs.Passing.{passed_times, slot_kept};
 ghost use Rattle.sdd_base.specs.State.{cell_at, value_at as value_in};
 ghost use Rattle.sdd_base.specs.Tokens.{shared_cell};
 ghost use Rattle.sdd_base.specs.View.{IsStack};
+ghost use Rattle.std.specs.Range.Bound.{bound_map};
+ghost use Rattle.tree_index.specs.Proximity.{IsLocated};
+ghost use Rattle.tree_index.specs.declared.cursor.End.TheVariants.{Unopened};
+ghost use Rattle.versions.specs.Nearby.{as_proximity};
 ghost use Rattle.versions.specs.Cuts.{pairs_in};
 ghost use Rattle.versions.specs.Items.{held_by};
 ghost use Rattle.versions.specs.Placing.{slots_for};
 ghost use Rattle.versions.specs.Versions.{IsVersion, list_of};
 ghost use Rattle.versions.specs.Writes.{after_writes, replies_to};
 ghost use Rattle.ordered_index.specs.Sizes.{IsSized, room_for};
-ghost use Rattle.ordered_index.specs.Store.{Version, IsStore, gap, no_version, version_in};
+ghost use Rattle.ordered_index.specs.Store.{Version, IsKeptHere, IsStore, Reads, gap, no_version, read_by, version_in};
 ghost use Rattle.ordered_index.specs.declared.store.Opened.{Opened};
 
-use crate::conflict::Tested;
 use crate::index::put;
-use crate::query::{Answer, Query};
+use crate::snapshot::{Nearby, Snapshot, Walk, find_in};
 use sdd_base::cell::AtomicShared;
 use sdd_base::guard::WorldGuard;
 use sdd_base::job::NoJob;
@@ -32,8 +35,9 @@ use sdd_base::world::{World, atomic_shared, guard};
 use std::alloc::{AllocError, Global};
 use std::marker::Model;
 use std::mem;
+use std::ops::Bound;
 use versions::{
-    Built, Directory, Item, Reply, Write, build, len, look_up, place, publish, version_at,
+    Built, Directory, Item, Reply, Write, build, len, locate, place, publish, version_at, walk,
 };
 
 // What the place of a reader has: its guard, and the version that it loaded under it.
@@ -147,13 +151,24 @@ impl<K: Clone + Ord, V: Clone, const S: usize> Store<K, V, S> {
         put(&mut self.free, place);
     }
 
+    // The version that the reader of a place has.
+    pub(crate) fn reader(&self, place: usize) -> Snapshot<'_, K, V, S>
+        requires { (v : Version K V) × (slice_get self.now.readers place ≡ Some (Some v)) }
+        ensures { (v : Version K V) → slice_get self.now.readers place ≡ Some (Some v) → result ≡ v.pairs }
+    {
+        match &self.places[place] {
+            Some(opened) => Snapshot::new(&self.world, seen(&self.world, opened)),
+            None => unreachable!(),
+        }
+    }
+
     // The value of the pair with the key, in the list that the reader of a place has.
     pub(crate) fn find(&self, place: usize, key: &K) -> Option<&V>
         requires { (v : Version K V) × (slice_get self.now.readers place ≡ Some (Some v)) }
         ensures { (v : Version K V) → slice_get self.now.readers place ≡ Some (Some v) → option_copied result ≡ value_at K.cmp key.now v.pairs }
     {
         match &self.places[place] {
-            Some(opened) => find_in(&self.world, version_at(&self.world, &opened.root), key),
+            Some(opened) => find_in(&self.world, seen(&self.world, opened), key),
             None => unreachable!(),
         }
     }
@@ -164,16 +179,57 @@ impl<K: Clone + Ord, V: Clone, const S: usize> Store<K, V, S> {
         ensures { (v : Version K V) → slice_get self.now.readers place ≡ Some (Some v) → result ≡ length v.pairs }
     {
         match &self.places[place] {
-            Some(opened) => len(&self.world, version_at(&self.world, &opened.root)),
+            Some(opened) => len(&self.world, seen(&self.world, opened)),
             None => unreachable!(),
         }
     }
 
-    // The value of the pair with the key, in the present list.
-    pub(crate) fn find_present(&self, key: &K) -> Option<&V>
-        ensures { option_copied result ≡ value_at K.cmp key.now self.now.present.pairs }
+    // A walk along that list within two bounds.
+    pub(crate) fn walk<'a>(
+        &'a self,
+        place: usize,
+        lower: Bound<&'a K>,
+        upper: Bound<&'a K>,
+    ) -> Walk<'a, K, V, S>
+        requires { (v : Version K V) × (slice_get self.now.readers place ≡ Some (Some v)) }
+        ensures { (v : Version K V) → slice_get self.now.readers place ≡ Some (Some v) → result ≡ record { pairs = v.pairs; lower = bound_map (λ k. k.now) lower.entry; upper = bound_map (λ k. k.now) upper.entry; forward = Unopened; backward = Unopened } }
     {
-        find_in(&self.world, present(&self.world, &self.root), key)
+        match &self.places[place] {
+            Some(opened) => walk(&self.world, seen(&self.world, opened), lower, upper),
+            None => unreachable!(),
+        }
+    }
+
+    // Where a key stands in that list.
+    pub(crate) fn locate(&self, place: usize, key: &K) -> Nearby<'_, K, V, S>
+        requires { (v : Version K V) × (slice_get self.now.readers place ≡ Some (Some v)) }
+        ensures { (v : Version K V) → slice_get self.now.readers place ≡ Some (Some v) → IsLocated K.cmp key.now v.pairs (as_proximity result) }
+    {
+        match &self.places[place] {
+            Some(opened) => locate(&self.world, seen(&self.world, opened), key),
+            None => unreachable!(),
+        }
+    }
+
+    // The present version.
+    pub(crate) fn present(&self) -> Snapshot<'_, K, V, S>
+        ensures { result ≡ self.now.present.pairs }
+    {
+        Snapshot::new(&self.world, present(&self.world, &self.root))
+    }
+
+    // A version with this number, if it is the present one or a reader has it.
+    pub(crate) fn of_number(&self, number: u64) -> Option<Snapshot<'_, K, V, S>>
+        ensures { IfSome result (λ s. (v : Version K V) × IsKeptHere v self.now × (v.number ≡ number) × (s ≡ v.pairs)) }
+    {
+        let root = present(&self.world, &self.root);
+        if root.number() == number {
+            return Some(Snapshot::new(&self.world, root));
+        }
+        match numbered(&self.world, &self.places, number) {
+            Some(version) => Some(Snapshot::new(&self.world, version)),
+            None => None,
+        }
     }
 
     // The version that writes make of the present one, and what they are told. Nothing is placed yet.
@@ -247,33 +303,38 @@ impl<K: Clone + Ord, V: Clone, const S: usize> Store<K, V, S> {
     }
 }
 
-impl<K: Clone + Ord, V: Clone + Eq, const S: usize> Tested<K, V> for Store<K, V, S> {
-    ghost pairs = { λ s. s.present.pairs };
-
-    fn holds(&self, query: &Query<K>, answer: &Answer<V>) -> bool {
-        match (query, answer) {
-            (Query::Get(key), Answer::Get(told)) => match (self.find_present(key), told) {
-                (Some(found), Some(value)) => *found == *value,
-                (None, None) => true,
-                _ => false,
-            },
-        }
-    }
+// The directory of the version that a reader has.
+fn seen<'w, K: Ord, V, const S: usize>(
+    w: &'w World<Item<K, V, S>, NoJob>,
+    opened: &Opened<K, V, S>,
+) -> &'w Directory<K>
+    requires { (p : ℕ) × Reads K.cmp w.now p opened.now }
+    ensures version { IsVersion K.cmp (value_in w.now) result.now }
+    ensures is { record { number = result.now.number; pairs = list_of (value_in w.now) result.now } ≡ read_by w.now opened.now }
+{
+    version_at(w, &opened.root)
 }
 
-// The value of a key in a version.
-fn find_in<'w, K: Ord, V, const S: usize>(
+// The directory of a version with this number that a reader has.
+fn numbered<'w, K: Ord, V, const S: usize>(
     w: &'w World<Item<K, V, S>, NoJob>,
-    version: &Directory<K>,
-    key: &K,
-) -> Option<&'w V>
-    requires { IsVersion K.cmp (value_in w.now) version.now }
-    ensures { option_copied result ≡ value_at K.cmp key.now (list_of (value_in w.now) version.now) }
+    places: &[Option<Opened<K, V, S>>],
+    number: u64,
+) -> Option<&'w Directory<K>>
+    requires { (root : ℕ) × IsStore K.cmp w.now root places.now }
+    ensures version { IfSome result (λ d. IsVersion K.cmp (value_in w.now) d.now) }
+    ensures reader { IfSome result (λ d. (place : ℕ) × (slice_get (map (option_map (read_by w.now)) places.now) place ≡ Some (Some (record { number = d.now.number; pairs = list_of (value_in w.now) d.now })))) }
+    ensures number { IfSome result (λ d. d.now.number ≡ number) }
 {
-    match look_up(w, version, key) {
-        Some((_, value)) => Some(value),
-        None => None,
+    for place in 0..places.len() {
+        if let Some(opened) = &places[place] {
+            let version = seen(w, opened);
+            if version.number() == number {
+                return Some(version);
+            }
+        }
     }
+    None
 }
 
 // The directory of the present version.

@@ -1,8 +1,9 @@
 use crate::{
-    Accepted, Answer, Cause, Desk, DeskCall, DeskReply, Listed, LocalIndex, NoPlace, Query,
+    Accepted, Answer, Audit, Cause, Desk, DeskCall, DeskReply, Listed, LocalIndex, NoPlace, Query,
     ReadSet, Receipt, Recorded, Refused, Reply, Write, clones_of_lists, equals_of_lists, play_all,
 };
 use std::alloc::{AllocError, Global};
+use std::ops::Bound;
 use std::process::Abort;
 use std::test::Fail;
 
@@ -166,6 +167,12 @@ fn word(reply: &DeskReply<u64, u64>) -> (&'static str, u64) {
         DeskReply::NoSession(writes) => ("no session, writes back", writes.len() as u64),
         DeskReply::Answer(Answer::Get(Some(value))) => ("some", *value),
         DeskReply::Answer(Answer::Get(None)) => ("none", 0),
+        DeskReply::Answer(Answer::Contains(there)) => ("contains", u64::from(*there)),
+        DeskReply::Answer(Answer::Range(pairs)) => ("pairs", pairs.as_slice().len() as u64),
+        DeskReply::Answer(Answer::Locate(_)) => ("near", 0),
+        DeskReply::Audit(Audit::Yes) => ("yes", 0),
+        DeskReply::Audit(Audit::No(place)) => ("no", *place as u64),
+        DeskReply::Audit(Audit::Unknown) => ("unknown", 0),
         DeskReply::Accepted(accepted) => ("accepted", accepted.number),
         DeskReply::Refused(refused) => match refused.cause {
             Cause::Conflict(place) => ("conflict", place as u64),
@@ -207,6 +214,11 @@ fn calls(alloc: Global) -> Result<Vec<DeskCall<u64, u64>>, AllocError> {
     calls.push(DeskCall::Close(8))?;
     calls.push(DeskCall::Open(9))?;
     calls.push(DeskCall::Get(9, 2))?;
+    calls.push(DeskCall::Contains(9, 3))?;
+    calls.push(DeskCall::Range(9, Bound::Unbounded, Bound::Unbounded))?;
+    calls.push(DeskCall::Locate(9, 3))?;
+    calls.push(DeskCall::Audit(ReadSet::Session(9)))?;
+    calls.push(DeskCall::Audit(ReadSet::Session(8)))?;
     let stale = claims(alloc, 2, None)?;
     calls.push(DeskCall::Commit(ReadSet::Receipt(stale), inserts(alloc, &[(3, 30)])?))?;
     calls.push(DeskCall::Commit(ReadSet::Session(8), inserts(alloc, &[(3, 30)])?))?;
@@ -237,6 +249,11 @@ fn calls_are_played_by_labels(rt: HostRuntime) -> Result<(), Fail> {
         ("closed", 1),
         ("opened", 2),
         ("some", 20),
+        ("contains", 0),
+        ("pairs", 2),
+        ("near", 0),
+        ("yes", 0),
+        ("no session, writes back", 0),
         ("conflict", 0),
         ("no session, writes back", 1),
         ("no session, writes back", 0),

@@ -9,7 +9,7 @@ use std::alloc::{AllocError, Global};
 use versions::{Reply, Write};
 
 /// A recorded read: a query, and the answer that was given to it or is claimed of it.
-pub type Recorded<K, V> = (Query<K>, Answer<V>);
+pub type Recorded<K, V> = (Query<K>, Answer<K, V>);
 
 /// What a session read, and at which number: plain data, that anybody may make.
 ///
@@ -36,6 +36,17 @@ impl<K, V> Receipt<K, V> {
     }
 }
 
+/// What an audit of a receipt finds.
+#[derive(Clone, Copy, Debug, PartialEq, Eq)]
+pub enum Audit {
+    /// Each answer is that of the list of the receipt's number.
+    Yes,
+    /// The read at this place is the first whose answer isn't.
+    No(usize),
+    /// No list has that number yet.
+    Unknown,
+}
+
 /// What an accepted commit read, wrote and was told: an entry of the history.
 #[derive(Debug, Drop)]
 pub struct Transaction<K, V> {
@@ -56,5 +67,28 @@ pub(crate) fn copied_reads<K: Clone, V: Clone>(
     requires values { ClonesAreSame V.is_clone }
     ensures { IfOk result (λ copy. copy ≡ reads.now) }
 {
-    Ok(Listed::from_vec(Vec::from_clones(alloc, reads)?))
+    let mut copy = Vec::with_capacity(alloc, reads.len())?;
+    for read in reads {
+        copy.push((copied_query(&read.0)?, copied_answer(&read.1)?))?;
+    }
+    Ok(Listed::from_vec(copy))
+}
+
+/// A copy of a query.
+fn copied_query<K: Clone>(query: &Query<K>) -> Result<Query<K>, AllocError>
+    requires { ClonesAreSame K.is_clone }
+    ensures { IfOk result (λ copy. copy ≡ query.now) }
+{
+    query.clone()
+}
+
+/// A copy of an answer.
+pub(crate) fn copied_answer<K: Clone, V: Clone>(
+    answer: &Answer<K, V>,
+) -> Result<Answer<K, V>, AllocError>
+    requires keys { ClonesAreSame K.is_clone }
+    requires values { ClonesAreSame V.is_clone }
+    ensures { IfOk result (λ copy. copy ≡ answer.now) }
+{
+    answer.clone()
 }

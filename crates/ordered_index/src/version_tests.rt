@@ -24,7 +24,7 @@ fn copied(alloc: Global, writes: &[Write<u64, u64>]) -> Result<Vec<Write<u64, u6
 }
 
 // Inserts of these keys, each its own value.
-fn inserts<R: Abort>(rt: &R, alloc: Global, keys: &[u64]) -> Vec<Write<u64, u64>> {
+pub(crate) fn inserts<R: Abort>(rt: &R, alloc: Global, keys: &[u64]) -> Vec<Write<u64, u64>> {
     let mut writes = Vec::new(alloc);
     for key in keys {
         writes
@@ -35,7 +35,7 @@ fn inserts<R: Abort>(rt: &R, alloc: Global, keys: &[u64]) -> Vec<Write<u64, u64>
 }
 
 // Commits writes, on no reads, that are accepted.
-fn commit<R: Abort, const S: usize>(
+pub(crate) fn commit<R: Abort, const S: usize>(
     rt: &R,
     alloc: Global,
     index: &mut LocalIndex<u64, u64, S>,
@@ -51,7 +51,7 @@ fn commit<R: Abort, const S: usize>(
 }
 
 // Commits writes, on a receipt, that are refused.
-fn refuse<R: Abort, const S: usize>(
+pub(crate) fn refuse<R: Abort, const S: usize>(
     rt: &R,
     alloc: Global,
     index: &mut LocalIndex<u64, u64, S>,
@@ -86,7 +86,7 @@ fn claims<R: Abort>(
 }
 
 // Closes an index without sessions.
-fn end<R: Abort, const S: usize>(rt: &R, index: LocalIndex<u64, u64, S>) {
+pub(crate) fn end<R: Abort, const S: usize>(rt: &R, index: LocalIndex<u64, u64, S>) {
     match index.close() {
         Ok(()) => {}
         Err(_open) => panic!(rt; "a session is open"),

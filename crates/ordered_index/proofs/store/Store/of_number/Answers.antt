@@ -1,0 +1,24 @@
+use Rattle.std.proofs.Common.{refl, sym, ap, ◌∙◌, inl, inr}
+use Rattle.std.specs.List.{slice_get}
+use Rattle.sdd_base.specs.State.{value_at}
+use Rattle.versions.specs.Versions.{list_of}
+use Rattle.ordered_index.specs.Store.{Store, Version}
+use Rattle.ordered_index.proofs.store.Store.of_number.Goals as goal
+
+pub returns-then-number : goal.returns-then-number
+returns-then-number g c =
+    let is = c.present-root.ensures.is ∙ ap (λ (x : Store _ _). x.present) c.self.view_is in (
+      c.args.self.now.present,
+      inl refl,
+      ap (λ (x : Version _ _). x.number) (sym is) ∙ sym c.number.ensures ∙ c.if-number.true,
+      c.new.ensures ∙ ap (λ (x : Version _ _). x.pairs) is,
+    )
+
+pub returns-in-Some : goal.returns-in-Some
+returns-in-Some g c =
+    let reader = rw c.deref.ensures.value at c.in-Some.ensures.reader in (
+      record { number = c.in-Some.version.now.number; pairs = list_of (value_at c.self.inside.world) c.in-Some.version.now },
+      inr (reader.0, ap (λ (x : Store _ _). slice_get x.readers reader.0) (sym c.self.view_is) ∙ reader.1),
+      c.in-Some.ensures.number,
+      c.new-in-Some.ensures,
+    )
