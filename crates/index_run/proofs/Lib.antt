@@ -1,3 +1,4 @@
+pub mod Calls
 pub mod Numbers
 pub mod Sessions
 pub mod Texts

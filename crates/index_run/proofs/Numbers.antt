@@ -1,14 +1,17 @@
 -- Words and numbers.
 use Rattle.std.proofs.lemmas.Bool.{false≢true}
 use Rattle.std.proofs.lemmas.Bool.Decides.{nat_tests}
-use Rattle.std.proofs.Common.{◌≡◌, ◌≢◌, ◌==◌, ◌⊎◌, true, false, ℕ, zero, suc, ◌<◌, ◌≤◌, ◌^◌, List, [], ◌∷◌, ◌++◌, length, get_or, refl, sym, ap, ◌∙◌, subst, append_assoc, arith, inl, inr, decimal, rules, Ok, Err, Result}
+use Rattle.std.proofs.Common.{◌≡◌, ◌≢◌, ◌==◌, ◌⊎◌, true, false, ℕ, zero, suc, ◌<◌, ◌≤◌, ◌^◌, List, [], ◌∷◌, ◌++◌, length, get_or, refl, sym, ap, ◌∙◌, subst, length-append, arith, inl, inr, decimal, rules, Ok, Err, Result}
 use Rattle.std.proofs.lemmas.Fmt.{decimal_nonempty, decimal_digit, first_decimal, decimal-digits_value, parse-decimal}
 use Rattle.std.proofs.lemmas.Str.Parse.{numerals_by_value, tells_digits, without_leading_plus_none}
 use Rattle.std.specs.Str.Parse.{ParsesUnsigned, AllDigits, digits_value}
 use Rattle.std.specs.Prelude.{codes, Some, None, nat_le, cond}
 use Rattle.std.specs.Str.{IsUtf8}
 use Rattle.index_run.specs.Lines.{Lacks, kept}
-use Rattle.index_run.specs.Requests.{IsNumber, HasFirst, IsWithOne, IsWithValue, IsWithTwo, IsUnknown, Command, Insert, Upsert, Remove, Clear, Commit, Open, Close, Get, Len, Number, Reclaim, Slots, name_of, Form, Alone, WithNumber, WithReads, WithTwo, WithValue, MissesWords, form_of, HasWords, HasNoNumber, IsNoNumber, IsNoPair, Asks, Reads}
+use Rattle.std.specs.Prelude.{MatchOption, Option, IfSome, IfNone}
+use Rattle.std.specs.Borrow.{Bor}
+use Rattle.std.specs.List.{AllByRecursion}
+use Rattle.index_run.specs.Requests.{IsNumber, HasFirst, AreTwo, IsUnknown, Command, Insert, Upsert, Remove, Delete, Clear, Discard, Commit, Open, Close, Get, Has, Range, Near, Audit, Len, Number, Reclaim, Slots, name_of, Form, Alone, WithNumber, WithReads, WithTwo, WithValue, WithBounds, WithRange, MissesWords, form_of, Fits, HasWords, IsUnfit, Asks, Reads}
 use Rattle.index_run.specs.declared.request.Request.{Request}
 use Rattle.index_run.specs.declared.request.Request.TheVariants as requests
 use Rattle.index_run.specs.declared.request.Fault.{Fault}
@@ -95,11 +98,17 @@ name_lacks : (command : Command) → Lacks 32 (name_of command)
 name_lacks Insert = search rules
 name_lacks Upsert = search rules
 name_lacks Remove = search rules
+name_lacks Delete = search rules
 name_lacks Clear = search rules
+name_lacks Discard = search rules
 name_lacks Commit = search rules
 name_lacks Open = search rules
 name_lacks Close = search rules
 name_lacks Get = search rules
+name_lacks Has = search rules
+name_lacks Range = search rules
+name_lacks Near = search rules
+name_lacks Audit = search rules
 name_lacks Len = search rules
 name_lacks Number = search rules
 name_lacks Reclaim = search rules
@@ -120,42 +129,44 @@ behind_same (x ∷ word) a b e = let tail : word ++ 32 ∷ a ≡ word ++ 32 ∷ 
 
 no_words : (form : Form) (word line : List ℕ) → (form ≡ Alone → ⊥) → Lacks 32 line → HasWords form word line → ⊥
 no_words Alone word line more lacks h = more refl
-no_words WithNumber word line more lacks h = not_lacking 32 word h.0 (subst (Lacks 32) h.1.text lacks)
-no_words WithReads word line more lacks h = not_lacking 32 word h.0 (subst (Lacks 32) h.1.text lacks)
-no_words WithTwo word line more lacks h = not_lacking 32 word (h.0 ++ 32 ∷ h.1) (subst (Lacks 32) (h.2.text ∙ append_assoc word (32 ∷ h.0) (32 ∷ h.1)) lacks)
-no_words WithValue word line more lacks h = not_lacking 32 word (h.0 ++ 32 ∷ h.1) (subst (Lacks 32) (h.2.text ∙ append_assoc word (32 ∷ h.0) (32 ∷ h.1)) lacks)
+no_words WithNumber word line more lacks h = not_lacking 32 word h.0 (subst (Lacks 32) h.1 lacks)
+no_words WithReads word line more lacks h = not_lacking 32 word h.0 (subst (Lacks 32) h.1 lacks)
+no_words WithTwo word line more lacks h = not_lacking 32 word h.0 (subst (Lacks 32) h.1 lacks)
+no_words WithValue word line more lacks h = not_lacking 32 word h.0 (subst (Lacks 32) h.1 lacks)
+no_words WithBounds word line more lacks h = not_lacking 32 word h.0 (subst (Lacks 32) h.1 lacks)
+no_words WithRange word line more lacks h = not_lacking 32 word h.0 (subst (Lacks 32) h.1 lacks)
+
+-- the word is the name of one of these
+abbrev IsOneOf : List Command → List ℕ → Type 0
+IsOneOf [] word = ⊥
+IsOneOf (command ∷ []) word = word ≡ name_of command
+IsOneOf (command ∷ other ∷ more) word = (word ≡ name_of command) ⊎ IsOneOf (other ∷ more) word
+
+-- more belongs to a command
+abbrev HasMore : Command → Type 0
+HasMore command = form_of command ≡ Alone → ⊥
 
 -- a line of one word, to which more belong
-too_few : (command : Command) (word : List ℕ) → (form_of command ≡ Alone → ⊥) → Lacks 32 word → word ≡ name_of command → MissesWords word
-too_few command word more lacks e = (command, inl e, no_words (form_of command) (name_of command) word more lacks)
+too_few : (commands : List Command) (word : List ℕ) → AllByRecursion HasMore commands → Lacks 32 word → IsOneOf commands word → MissesWords word
+too_few [] word more lacks is = absurd is
+too_few (command ∷ []) word more lacks is = (command, inl is, no_words (form_of command) (name_of command) word more.0 lacks)
+too_few (command ∷ other ∷ rest) word more lacks (inl is) = (command, inl is, no_words (form_of command) (name_of command) word more.0 lacks)
+too_few (command ∷ other ∷ rest) word more lacks (inr is) = too_few (other ∷ rest) word more.1 lacks is
 
-more_value : WithValue ≡ Alone → ⊥
-more_value e = absurd cc
+abbrev of_more : List Command
+of_more = Insert ∷ Upsert ∷ Remove ∷ Delete ∷ Commit ∷ Open ∷ Close ∷ Get ∷ Has ∷ Range ∷ Near ∷ Audit ∷ Len ∷ Number ∷ []
 
-more_number : WithNumber ≡ Alone → ⊥
-more_number e = absurd cc
-
-more_reads : WithReads ≡ Alone → ⊥
-more_reads e = absurd cc
-
-more_two : WithTwo ≡ Alone → ⊥
-more_two e = absurd cc
+have_more : AllByRecursion HasMore of_more
+have_more =
+    ((λ e. absurd cc), ((λ e. absurd cc), ((λ e. absurd cc), ((λ e. absurd cc), ((λ e. absurd cc), ((λ e. absurd cc), ((λ e. absurd cc), ((λ e. absurd cc), ((λ e. absurd cc), ((λ e. absurd cc), ((λ e. absurd cc), ((λ e. absurd cc), ((λ e. absurd cc), ((λ e. absurd cc), tt))))))))))))))
 
 -- the word is the first of several
-pub first_alone : (word : List ℕ) → Lacks 32 word → (word ≡ name_of Insert) ⊎ ((word ≡ name_of Upsert) ⊎ ((word ≡ name_of Remove) ⊎ ((word ≡ name_of Commit) ⊎ ((word ≡ name_of Open) ⊎ ((word ≡ name_of Close) ⊎ ((word ≡ name_of Get) ⊎ ((word ≡ name_of Len) ⊎ (word ≡ name_of Number)))))))) → MissesWords word
-first_alone word lacks (inl e) = too_few Insert word more_value lacks e
-first_alone word lacks (inr (inl e)) = too_few Upsert word more_value lacks e
-first_alone word lacks (inr (inr (inl e))) = too_few Remove word more_number lacks e
-first_alone word lacks (inr (inr (inr (inl e)))) = too_few Commit word more_reads lacks e
-first_alone word lacks (inr (inr (inr (inr (inl e))))) = too_few Open word more_number lacks e
-first_alone word lacks (inr (inr (inr (inr (inr (inl e)))))) = too_few Close word more_number lacks e
-first_alone word lacks (inr (inr (inr (inr (inr (inr (inl e))))))) = too_few Get word more_two lacks e
-first_alone word lacks (inr (inr (inr (inr (inr (inr (inr (inl e)))))))) = too_few Len word more_number lacks e
-first_alone word lacks (inr (inr (inr (inr (inr (inr (inr (inr e)))))))) = too_few Number word more_number lacks e
+pub first_alone : (word : List ℕ) → Lacks 32 word → IsOneOf of_more word → MissesWords word
+first_alone word = too_few of_more word have_more
 
 -- a line of more words than the one that it may have
-too_many : (command : Command) (line word rest : List ℕ) → form_of command ≡ Alone → (line ≡ word ++ 32 ∷ rest) × Lacks 32 word → word ≡ name_of command → MissesWords line
-too_many command line word rest form cut e = (
+beyond : (command : Command) (line word rest : List ℕ) → form_of command ≡ Alone → (line ≡ word ++ 32 ∷ rest) × Lacks 32 word → word ≡ name_of command → MissesWords line
+beyond command line word rest form cut e = (
   command,
   inr (rest, cut.0 ∙ ap (λ w. w ++ 32 ∷ rest) e),
   λ h.
@@ -163,89 +174,97 @@ too_many command line word rest form cut e = (
       not_lacking 32 word rest (subst (Lacks 32) (e ∙ sym alone ∙ cut.0) cut.1),
 )
 
+too_many : (commands : List Command) (line word rest : List ℕ) → AllByRecursion (λ c. form_of c ≡ Alone) commands → (line ≡ word ++ 32 ∷ rest) × Lacks 32 word → IsOneOf commands word → MissesWords line
+too_many [] line word rest form cut is = absurd is
+too_many (command ∷ []) line word rest form cut is = beyond command line word rest form.0 cut is
+too_many (command ∷ other ∷ more) line word rest form cut (inl is) = beyond command line word rest form.0 cut is
+too_many (command ∷ other ∷ more) line word rest form cut (inr is) = too_many (other ∷ more) line word rest form.1 cut is
+
+abbrev alone_ones : List Command
+alone_ones = Clear ∷ Discard ∷ Reclaim ∷ Slots ∷ []
+
 -- the word is to be the only one
-pub only_of_many : (line word rest : List ℕ) → (line ≡ word ++ 32 ∷ rest) × Lacks 32 word → (word ≡ name_of Clear) ⊎ ((word ≡ name_of Reclaim) ⊎ (word ≡ name_of Slots)) → MissesWords line
-only_of_many line word rest cut (inl e) = too_many Clear line word rest refl cut e
-only_of_many line word rest cut (inr (inl e)) = too_many Reclaim line word rest refl cut e
-only_of_many line word rest cut (inr (inr e)) = too_many Slots line word rest refl cut e
+pub only_of_many : (line word rest : List ℕ) → (line ≡ word ++ 32 ∷ rest) × Lacks 32 word → IsOneOf alone_ones word → MissesWords line
+only_of_many line word rest = too_many alone_ones line word rest (refl, (refl, (refl, (refl, tt))))
 
--- words behind it, where one is wanted
-not_one : (word rest one : List ℕ) → (Lacks 32 rest → ⊥) → IsWithOne word (word ++ 32 ∷ rest) one → ⊥
-not_one word rest one more w = more (subst (Lacks 32) (sym (behind_same word rest one w.text)) w.first)
+fits_behind : (form : Form) (word rest : List ℕ) → HasWords form word (word ++ 32 ∷ rest) → Fits form rest
+fits_behind Alone word rest h = absurd (omega (arith, ap length h, length-append word (32 ∷ rest)))
+fits_behind WithNumber word rest h = subst (Fits WithNumber) (sym (behind_same word rest h.0 h.1)) h.2
+fits_behind WithReads word rest h = subst (Fits WithReads) (sym (behind_same word rest h.0 h.1)) h.2
+fits_behind WithTwo word rest h = subst (Fits WithTwo) (sym (behind_same word rest h.0 h.1)) h.2
+fits_behind WithValue word rest h = subst (Fits WithValue) (sym (behind_same word rest h.0 h.1)) h.2
+fits_behind WithBounds word rest h = subst (Fits WithBounds) (sym (behind_same word rest h.0 h.1)) h.2
+fits_behind WithRange word rest h = subst (Fits WithRange) (sym (behind_same word rest h.0 h.1)) h.2
 
--- one word behind it, where one and a value are wanted
-no_value : (word rest one value : List ℕ) → Lacks 32 rest → IsWithValue word (word ++ 32 ∷ rest) one value → ⊥
-no_value word rest one value lacks w = not_lacking 32 one value (subst (Lacks 32) (behind_same word rest (one ++ 32 ∷ value) (w.text ∙ append_assoc word (32 ∷ one) (32 ∷ value))) lacks)
-
--- a line of a command whose argument isn't the one number that it has
-pub no_number : (command : Command) (rest : List ℕ) (fault : Fault) → form_of command ≡ WithNumber → IsNoNumber rest fault → Asks (name_of command ++ 32 ∷ rest) (requests.Faulty fault)
-no_number command rest faults.Words form why = (
-  command,
-  inr (rest, refl),
-  λ h. let w = subst (λ f. HasWords f (name_of command) (name_of command ++ 32 ∷ rest)) form h in not_one (name_of command) rest w.0 why w.1,
-)
-no_number command rest faults.Number form why = (
-  command,
-  subst (λ f. HasNoNumber f (name_of command) (name_of command ++ 32 ∷ rest)) (sym form) (rest, record { text = refl; first = why.0 }, why.1),
-)
-no_number command rest faults.Long form why = absurd why
-no_number command rest faults.Text form why = absurd why
-no_number command rest faults.Command form why = absurd why
-no_number command rest faults.Session form why = absurd why
-no_number command rest faults.Busy form why = absurd why
+-- what stands behind the first word isn't what belongs there
+pub unfit : (command : Command) (rest : List ℕ) (fault : Fault) → IsUnfit (form_of command) rest fault → Asks (name_of command ++ 32 ∷ rest) (requests.Faulty fault)
+unfit command rest faults.Words why = (command, inr (rest, refl), λ h. why (fits_behind (form_of command) (name_of command) rest h))
+unfit command rest faults.Number why = (command, rest, refl, why)
+unfit command rest faults.Bound why = (command, rest, refl, why)
+unfit command rest faults.Long why = absurd why
+unfit command rest faults.Text why = absurd why
+unfit command rest faults.Command why = absurd why
+unfit command rest faults.Session why = absurd why
+unfit command rest faults.Busy why = absurd why
 
 -- a commit with neither `-` nor a number
-pub no_reads : (rest : List ℕ) (fault : Fault) → rest ≢ codes "-" → IsNoNumber rest fault → Asks (codes "commit " ++ rest) (requests.Faulty fault)
-no_reads rest faults.Words other why = (Commit, inr (rest, refl), λ h. not_one (codes "commit") rest h.0 why h.1)
-no_reads rest faults.Number other why = (Commit, (rest, record { text = refl; first = why.0 }, other, why.1))
-no_reads rest faults.Long other why = absurd why
-no_reads rest faults.Text other why = absurd why
-no_reads rest faults.Command other why = absurd why
-no_reads rest faults.Session other why = absurd why
-no_reads rest faults.Busy other why = absurd why
+pub no_reads : (rest : List ℕ) (fault : Fault) → rest ≢ codes "-" → IsUnfit WithNumber rest fault → IsUnfit WithReads rest fault
+no_reads rest faults.Words other why = why
+no_reads rest faults.Number other why = (why.0, other, why.1)
+no_reads rest faults.Bound other why = why
+no_reads rest faults.Long other why = why
+no_reads rest faults.Text other why = why
+no_reads rest faults.Command other why = why
+no_reads rest faults.Session other why = why
+no_reads rest faults.Busy other why = why
 
--- a line of a command whose arguments aren't the number and the value that it has
-pub no_pair : (command : Command) (rest : List ℕ) (fault : Fault) → form_of command ≡ WithValue → IsNoPair rest fault → Asks (name_of command ++ 32 ∷ rest) (requests.Faulty fault)
-no_pair command rest faults.Words form why = (
-  command,
-  inr (rest, refl),
-  λ h. let w = subst (λ f. HasWords f (name_of command) (name_of command ++ 32 ∷ rest)) form h in no_value (name_of command) rest w.0 w.1 why w.2,
-)
-no_pair command rest faults.Number form why = (
-  command,
-  subst (λ f. HasNoNumber f (name_of command) (name_of command ++ 32 ∷ rest)) (sym form)
-      (why.0, why.1, record { text = ap (λ r. name_of command ++ 32 ∷ r) why.2 ∙ sym (append_assoc (name_of command) (32 ∷ why.0) (32 ∷ why.1)); first = why.3 }, why.4),
-)
-no_pair command rest faults.Long form why = absurd why
-no_pair command rest faults.Text form why = absurd why
-no_pair command rest faults.Command form why = absurd why
-no_pair command rest faults.Session form why = absurd why
-no_pair command rest faults.Busy form why = absurd why
+-- one word where more are wanted
+pub no_value : (rest : List ℕ) → Lacks 32 rest → Fits WithValue rest → ⊥
+no_value rest lacks h = not_lacking 32 h.0 h.1 (subst (Lacks 32) h.2.text lacks)
 
--- one word where two are wanted
-pub no_second : (rest label key : List ℕ) → Lacks 32 rest → IsWithTwo (codes "get") (codes "get " ++ rest) label key → ⊥
-no_second rest label key lacks w =
-    let text = w.text in
-    let e : rest ≡ label ++ 32 ∷ key = cc in
-    not_lacking 32 label key (subst (Lacks 32) e lacks)
+pub no_second : (rest one two : List ℕ) → Lacks 32 rest → AreTwo rest one two → ⊥
+no_second rest one two lacks w = not_lacking 32 one two (subst (Lacks 32) w.text lacks)
 
 -- more than two
-pub not_two : (rest one more a b label key : List ℕ) → (rest ≡ one ++ 32 ∷ more) × Lacks 32 one → more ≡ a ++ 32 ∷ b → IsWithTwo (codes "get") (codes "get " ++ rest) label key → ⊥
-not_two rest one more a b label key cut again w =
-    let text = w.text in
-    let e : rest ≡ label ++ 32 ∷ key = cc in
-    let same = parts_unique 32 one label more key cut.1 w.first (sym cut.0 ∙ e) in
+pub not_two : (rest one more a b first second : List ℕ) → (rest ≡ one ++ 32 ∷ more) × Lacks 32 one → more ≡ a ++ 32 ∷ b → AreTwo rest first second → ⊥
+not_two rest one more a b first second cut again w =
+    let same = parts_unique 32 one first more second cut.1 w.first (sym cut.0 ∙ w.text) in
     not_lacking 32 a b (subst (Lacks 32) (sym same.1 ∙ again) w.second)
+
+-- one word where three are wanted
+pub no_third : (rest : List ℕ) → Lacks 32 rest → Fits WithRange rest → ⊥
+no_third rest lacks h = not_lacking 32 h.0 (h.1 ++ 32 ∷ h.2) (subst (Lacks 32) h.3.text lacks)
+
+-- not two behind the first
+pub not_three : (rest one behind : List ℕ) → (rest ≡ one ++ 32 ∷ behind) × Lacks 32 one → ((two three : List ℕ) → AreTwo behind two three → ⊥) → Fits WithRange rest → ⊥
+not_three rest one behind cut none h =
+    let same = parts_unique 32 one h.0 behind (h.1 ++ 32 ∷ h.2) cut.1 h.3.first (sym cut.0 ∙ h.3.text) in
+    none h.1 h.2 (record { text = same.1; first = h.3.second; second = h.3.third })
+
+-- a mark at the front
+pub mark_some : (mark : ℕ) (bs : List ℕ) (r : Option (Bor (List ℕ))) → MatchOption r ((rest : List ℕ) → bs ≢ mark ∷ rest) (λ x. bs ≡ mark ∷ x.now) → IfSome r (λ x. bs ≡ mark ∷ x.now)
+mark_some mark bs None h = tt
+mark_some mark bs (Some x) h = h
+
+pub mark_none : (mark : ℕ) (bs : List ℕ) (r : Option (Bor (List ℕ))) → MatchOption r ((rest : List ℕ) → bs ≢ mark ∷ rest) (λ x. bs ≡ mark ∷ x.now) → IfNone r ((rest : List ℕ) → bs ≢ mark ∷ rest)
+mark_none mark bs None h = h
+mark_none mark bs (Some x) h = tt
 
 -- a text asks for what the line asks for, if it isn't too long
 pub read_text : (line : List ℕ) (request : Request) → length line ≤ 65536 → IsUtf8 line → Asks line request → Reads line request
 read_text line (requests.Insert key value) short text asks = (short, text, asks)
 read_text line (requests.Upsert key value) short text asks = (short, text, asks)
 read_text line (requests.Remove key) short text asks = (short, text, asks)
+read_text line (requests.Delete lower upper) short text asks = (short, text, asks)
 read_text line requests.Clear short text asks = (short, text, asks)
+read_text line requests.Discard short text asks = (short, text, asks)
 read_text line (requests.Commit label) short text asks = (short, text, asks)
 read_text line (requests.Open label) short text asks = (short, text, asks)
 read_text line (requests.Get label key) short text asks = (short, text, asks)
+read_text line (requests.Has label key) short text asks = (short, text, asks)
+read_text line (requests.Range label lower upper) short text asks = (short, text, asks)
+read_text line (requests.Near label key) short text asks = (short, text, asks)
+read_text line (requests.Audit label) short text asks = (short, text, asks)
 read_text line (requests.Close label) short text asks = (short, text, asks)
 read_text line (requests.Len label) short text asks = (short, text, asks)
 read_text line (requests.Number label) short text asks = (short, text, asks)
@@ -256,16 +275,11 @@ read_text line (requests.Faulty faults.Text) short text asks = absurd asks
 read_text line (requests.Faulty faults.Command) short text asks = (short, text, asks)
 read_text line (requests.Faulty faults.Words) short text asks = (short, text, asks)
 read_text line (requests.Faulty faults.Number) short text asks = (short, text, asks)
+read_text line (requests.Faulty faults.Bound) short text asks = (short, text, asks)
 read_text line (requests.Faulty faults.Session) short text asks = absurd asks
 read_text line (requests.Faulty faults.Busy) short text asks = absurd asks
 
 -- what is kept of a line says whether it is too long
-pub kept_none : (line : List ℕ) → None ≡ kept line → 65536 < length line
-kept_none line e = (elim (nat_le (length line) 65536) as (λ b. nat_le (length line) 65536 ≡ b → None ≡ cond b (Some line) None → 65536 < length line) [
-  | true ↦ λ is e. absurd cc
-  | false ↦ λ is e. grind (arith, nat_tests)
-]) refl e
-
 pub kept_some : (bytes line : List ℕ) → Some bytes ≡ kept line → (bytes ≡ line) × (length line ≤ 65536)
 kept_some bytes line e = (elim (nat_le (length line) 65536) as (λ b. nat_le (length line) 65536 ≡ b → Some bytes ≡ cond b (Some line) None → (bytes ≡ line) × (length line ≤ 65536)) [
   | true ↦ λ is e. (cc, grind (arith, nat_tests))

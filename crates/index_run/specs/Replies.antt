@@ -1,8 +1,12 @@
 -- The texts of replies.
-use Rattle.std.specs.Prelude.{◌≡◌, ℕ, Some, None, List, [], ◌∷◌, ◌++◌, codes}
+use Rattle.std.specs.Prelude.{◌≡◌, ℕ, true, false, Some, None, List, [], ◌∷◌, ◌++◌, codes, length}
 use Rattle.std.specs.Fmt.{decimal}
 use Rattle.ordered_index.specs.declared.query.Answer.{Answer}
 use Rattle.ordered_index.specs.declared.query.Answer.TheVariants as answers
+use Rattle.ordered_index.specs.declared.query.Near.{Near}
+use Rattle.ordered_index.specs.declared.query.Near.TheVariants as nears
+use Rattle.ordered_index.specs.declared.transaction.Audit.{Audit}
+use Rattle.ordered_index.specs.declared.transaction.Audit.TheVariants as audits
 use Rattle.ordered_index.specs.declared.commit.Cause.{Cause}
 use Rattle.ordered_index.specs.declared.commit.Cause.TheVariants as causes
 use Rattle.ordered_index.specs.declared.play.DeskReply.{DeskReply}
@@ -19,6 +23,7 @@ word_of faults.Text = codes "text"
 word_of faults.Command = codes "command"
 word_of faults.Words = codes "words"
 word_of faults.Number = codes "number"
+word_of faults.Bound = codes "bound"
 word_of faults.Session = codes "session"
 word_of faults.Busy = codes "busy"
 
@@ -29,6 +34,10 @@ fault_text line fault = codes "line " ++ decimal line ++ codes ": " ++ word_of f
 -- the reply to a staging
 abbrev pub staged_text : ℕ → List ℕ
 staged_text count = codes "staged " ++ decimal count ++ codes "\n"
+
+-- the reply to a discarding
+abbrev pub discarded_text : ℕ → List ℕ
+discarded_text count = codes "discarded " ++ decimal count ++ codes "\n"
 
 -- what a write was told, behind a space
 abbrev pub told_text : Reply → List ℕ
@@ -51,10 +60,36 @@ CausePrints causes.Exhausted text = text ≡ codes "exhausted\n"
 CausePrints causes.Memory text = ⊥
 CausePrints causes.NoSlot text = text ≡ codes "noslot\n"
 
--- a value is printed as it is, to the end of the line
-abbrev pub AnswerPrints : Answer (List ℕ) → List ℕ → Type 0
-AnswerPrints (answers.Get (Some value)) text = text ≡ codes "some " ++ value ++ codes "\n"
-AnswerPrints (answers.Get None) text = text ≡ codes "none\n"
+-- a pair in a line of its own: its value is printed as it is, to the end of the line
+abbrev pub pair_text : ℕ × List ℕ → List ℕ
+pair_text pair = decimal pair.0 ++ codes " " ++ pair.1 ++ codes "\n"
+
+abbrev pub pair_texts : List (ℕ × List ℕ) → List ℕ
+pair_texts [] = []
+pair_texts (pair ∷ pairs) = pair_text pair ++ pair_texts pairs
+
+-- what stands at a key or around it, and the pairs, the smaller key first
+abbrev pub near_text : Near ℕ (List ℕ) → List ℕ
+near_text (nears.Exact key value) = codes "exact\n" ++ pair_text (key, value)
+near_text (nears.Between key value larger other) = codes "between\n" ++ pair_text (key, value) ++ pair_text (larger, other)
+near_text (nears.Smaller key value) = codes "smaller\n" ++ pair_text (key, value)
+near_text (nears.Larger key value) = codes "larger\n" ++ pair_text (key, value)
+near_text nears.Empty = codes "empty\n"
+
+-- what a list answers
+abbrev pub answer_text : Answer ℕ (List ℕ) → List ℕ
+answer_text (answers.Get (Some value)) = codes "some " ++ value ++ codes "\n"
+answer_text (answers.Get None) = codes "none\n"
+answer_text (answers.Contains true) = codes "yes\n"
+answer_text (answers.Contains false) = codes "no\n"
+answer_text (answers.Range pairs) = codes "pairs " ++ decimal (length pairs) ++ codes "\n" ++ pair_texts pairs
+answer_text (answers.Locate near) = near_text near
+
+-- what an audit found
+abbrev pub audit_text : Audit → List ℕ
+audit_text audits.Yes = codes "audit yes\n"
+audit_text (audits.No place) = codes "audit no " ++ decimal place ++ codes "\n"
+audit_text audits.Unknown = codes "audit unknown\n"
 
 -- the reply to a call, by a line with this number and this label
 abbrev pub Prints : ℕ → ℕ → DeskReply ℕ (List ℕ) → List ℕ → Type 0
@@ -63,7 +98,8 @@ Prints line label replies.NoPlace text = text ≡ codes "noplace\n"
 Prints line label replies.Busy text = text ≡ fault_text line faults.Busy
 Prints line label (replies.Closed receipt) text = text ≡ codes "closed " ++ decimal label ++ codes "\n"
 Prints line label (replies.NoSession back) text = text ≡ fault_text line faults.Session
-Prints line label (replies.Answer answer) text = AnswerPrints answer text
+Prints line label (replies.Answer answer) text = text ≡ answer_text answer
+Prints line label (replies.Audit found) text = text ≡ audit_text found
 Prints line label (replies.Accepted accepted) text = text ≡ codes "ok " ++ decimal accepted.number ++ told_texts accepted.replies.items ++ codes "\n"
 Prints line label (replies.Refused refused) text = CausePrints refused.cause text
 Prints line label replies.Reclaimed text = text ≡ codes "reclaimed\n"

@@ -1,16 +1,17 @@
 -- What the lines of a script do, and what is written for them.
 use Rattle.std.specs.Prelude.{◌≡◌, ℕ, ◌+◌, ◌-◌, ◌^◌, List, [], ◌∷◌, ◌++◌, length, replicate, Some, None}
 use Rattle.std.specs.Ordering.{nat_cmp}
-use Rattle.ordered_index.specs.Desk.{Machine, OpenStep, CloseStep, GetStep, NumberStep, LenStep, CommitStep, ReclaimStep, SlotsStep}
+use Rattle.ordered_index.specs.Desk.{Machine, OpenStep, CloseStep, ReadStep, AuditStep, NumberStep, LenStep, CommitStep, ReclaimStep, SlotsStep}
 use Rattle.versions.specs.declared.write.Write.{Write}
 use Rattle.versions.specs.declared.write.Write.TheVariants as writes
+use Rattle.ordered_index.specs.declared.query.Query.TheVariants as queries
 use Rattle.ordered_index.specs.declared.play.ReadSet.TheVariants as sets
 use Rattle.ordered_index.specs.declared.play.DeskReply.{DeskReply}
 use Rattle.ordered_index.specs.declared.play.DeskReply.TheVariants as replies
 use Rattle.index_run.specs.declared.request.Request.{Request}
 use Rattle.index_run.specs.declared.request.Request.TheVariants as requests
 use Rattle.index_run.specs.Requests.{Reads}
-use Rattle.index_run.specs.Replies.{fault_text, staged_text, Prints}
+use Rattle.index_run.specs.Replies.{discarded_text, fault_text, staged_text, Prints}
 
 -- the index with its desk, the staged writes, and the number of the present line
 pub record Script : Type 0 where
@@ -47,6 +48,11 @@ pub record Stages (old : Script) (write : Write ℕ (List ℕ)) (text : List ℕ
   pub changed : new ≡ record old { staged = old.staged ++ write ∷ [] }
   pub told : text ≡ staged_text (length new.staged)
 
+-- what was staged is dropped
+pub record Discards (old : Script) (text : List ℕ) (new : Script) : Type 0 where
+  pub changed : new ≡ record old { staged = [] }
+  pub told : text ≡ discarded_text (length old.staged)
+
 -- the script at its next line
 abbrev pub at_next : Script → Script
 at_next old = record old { line = old.line + 1 }
@@ -58,11 +64,17 @@ module _ (width : ℕ) where
   Meets old (requests.Insert key value) text new = Stages old (writes.Insert key value) text new
   Meets old (requests.Upsert key value) text new = Stages old (writes.Upsert key value) text new
   Meets old (requests.Remove key) text new = Stages old (writes.Remove key) text new
+  Meets old (requests.Delete lower upper) text new = Stages old (writes.RemoveRange lower upper) text new
   Meets old requests.Clear text new = Stages old writes.Clear text new
+  Meets old requests.Discard text new = Discards old text new
   Meets old (requests.Commit None) text new = Plays old 0 (CommitStep nat_cmp width old.machine sets.Empty old.staged) text new
   Meets old (requests.Commit (Some label)) text new = Plays old 0 (CommitStep nat_cmp width old.machine (sets.Session label) old.staged) text new
   Meets old (requests.Open label) text new = Plays old label (OpenStep nat_cmp width old.machine label) text new
-  Meets old (requests.Get label key) text new = Plays old label (GetStep nat_cmp width old.machine label key) text new
+  Meets old (requests.Get label key) text new = Plays old label (ReadStep nat_cmp width old.machine label (queries.Get key)) text new
+  Meets old (requests.Has label key) text new = Plays old label (ReadStep nat_cmp width old.machine label (queries.Contains key)) text new
+  Meets old (requests.Range label lower upper) text new = Plays old label (ReadStep nat_cmp width old.machine label (queries.Range lower upper)) text new
+  Meets old (requests.Near label key) text new = Plays old label (ReadStep nat_cmp width old.machine label (queries.Locate key)) text new
+  Meets old (requests.Audit label) text new = Plays old label (AuditStep nat_cmp width old.machine (sets.Session label)) text new
   Meets old (requests.Close label) text new = Plays old label (CloseStep nat_cmp width old.machine label) text new
   Meets old (requests.Len label) text new = Plays old label (LenStep nat_cmp width old.machine label) text new
   Meets old (requests.Number label) text new = Plays old label (NumberStep nat_cmp width old.machine label) text new

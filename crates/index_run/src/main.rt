@@ -21,6 +21,10 @@ fn main(rt: HostRuntime) -> ExitCode {
 }
 
 #[cfg(test)]
+mod random_tests;
+#[cfg(test)]
+mod read_tests;
+#[cfg(test)]
 mod refusals;
 #[cfg(test)]
 mod tests;

@@ -1,13 +1,13 @@
 //! The texts of replies.
 
-ghost use Rattle.std.specs.Prelude.{◌≡◌, ◌++◌, IfOk, codes};
+ghost use Rattle.std.specs.Prelude.{◌≡◌, ◌++◌, IfOk, codes, length};
 ghost use Rattle.std.specs.String.{string_bytes};
 ghost use Rattle.std.specs.Fmt.{decimal};
-ghost use Rattle.index_run.specs.Replies.{AnswerPrints, fault_text, staged_text, told_text, told_texts, CausePrints, Prints};
+ghost use Rattle.index_run.specs.Replies.{CausePrints, Prints, answer_text, audit_text, discarded_text, fault_text, near_text, pair_text, pair_texts, staged_text, told_text, told_texts};
 
 use crate::request::Fault;
 use crate::text::Text;
-use ordered_index::{Accepted, Answer, Cause, DeskReply, Reply};
+use ordered_index::{Accepted, Answer, Audit, Cause, DeskReply, Near, Reply};
 use std::alloc::{AllocError, Global};
 
 /// The reply to a line at fault.
@@ -26,6 +26,13 @@ pub fn staged_text(alloc: Global, count: usize) -> Result<String, AllocError>
     format!(in alloc; "staged {count}\n")
 }
 
+/// The reply to a discarding, by how many writes were dropped.
+pub fn discarded_text(alloc: Global, count: usize) -> Result<String, AllocError>
+    ensures { IfOk result (λ text. string_bytes text ≡ discarded_text count) }
+{
+    format!(in alloc; "discarded {count}\n")
+}
+
 /// The reply to a call that a line with this number and this label makes.
 pub fn reply_text(
     alloc: Global,
@@ -42,6 +49,7 @@ pub fn reply_text(
         DeskReply::Closed(_) => format!(in alloc; "closed {label}\n"),
         DeskReply::NoSession(_) => fault_text(alloc, line, Fault::Session),
         DeskReply::Answer(answer) => answer_text(alloc, answer),
+        DeskReply::Audit(found) => audit_text(alloc, *found),
         DeskReply::Accepted(accepted) => accepted_text(alloc, accepted),
         DeskReply::Refused(refused) => cause_text(alloc, refused.cause),
         DeskReply::Reclaimed => format!(in alloc; "reclaimed\n"),
@@ -58,8 +66,8 @@ fn opened_text(alloc: Global, label: u64, number: u64) -> Result<String, AllocEr
     Ok(text)
 }
 
-fn answer_text(alloc: Global, answer: &Answer<Text>) -> Result<String, AllocError>
-    ensures { IfOk result (λ text. AnswerPrints answer.now (string_bytes text)) }
+fn answer_text(alloc: Global, answer: &Answer<u64, Text>) -> Result<String, AllocError>
+    ensures { IfOk result (λ text. string_bytes text ≡ answer_text answer.now) }
 {
     match answer {
         Answer::Get(Some(value)) => {
@@ -67,6 +75,67 @@ fn answer_text(alloc: Global, answer: &Answer<Text>) -> Result<String, AllocErro
             format!(in alloc; "some {value}\n")
         }
         Answer::Get(None) => format!(in alloc; "none\n"),
+        Answer::Contains(true) => format!(in alloc; "yes\n"),
+        Answer::Contains(false) => format!(in alloc; "no\n"),
+        Answer::Range(pairs) => pairs_text(alloc, pairs.as_slice()),
+        Answer::Locate(near) => near_text(alloc, near),
+    }
+}
+
+// How many pairs there are, and each in a line of its own.
+fn pairs_text(alloc: Global, pairs: &[(u64, Text)]) -> Result<String, AllocError>
+    ensures { IfOk result (λ text. string_bytes text ≡ codes "pairs " ++ decimal (length pairs.now) ++ codes "\n" ++ pair_texts pairs.now) }
+{
+    let count = pairs.len();
+    let mut text = format!(in alloc; "pairs {count}\n")?;
+    for pair in pairs {
+        let line = pair_text(alloc, pair.0, &pair.1)?;
+        text.push_str(line.as_str())?;
+    }
+    Ok(text)
+}
+
+fn pair_text(alloc: Global, key: u64, value: &Text) -> Result<String, AllocError>
+    ensures { IfOk result (λ text. string_bytes text ≡ pair_text (key, value.now)) }
+{
+    let value = value.as_str();
+    let text = format!(in alloc; "{key} {value}\n")?;
+    Ok(text)
+}
+
+fn near_text(alloc: Global, near: &Near<u64, Text>) -> Result<String, AllocError>
+    ensures { IfOk result (λ text. string_bytes text ≡ near_text near.now) }
+{
+    match near {
+        Near::Exact(key, value) => headed(alloc, "exact", *key, value),
+        Near::Between(key, value, larger, other) => {
+            let mut text = headed(alloc, "between", *key, value)?;
+            let line = pair_text(alloc, *larger, other)?;
+            text.push_str(line.as_str())?;
+            Ok(text)
+        }
+        Near::Smaller(key, value) => headed(alloc, "smaller", *key, value),
+        Near::Larger(key, value) => headed(alloc, "larger", *key, value),
+        Near::Empty => format!(in alloc; "empty\n"),
+    }
+}
+
+// A word in a line of its own, and a pair in the next.
+fn headed(alloc: Global, word: &str, key: u64, value: &Text) -> Result<String, AllocError>
+    ensures { IfOk result (λ text. string_bytes text ≡ word.now ++ codes "\n" ++ pair_text (key, value.now)) }
+{
+    let value = value.as_str();
+    let text = format!(in alloc; "{word}\n{key} {value}\n")?;
+    Ok(text)
+}
+
+fn audit_text(alloc: Global, found: Audit) -> Result<String, AllocError>
+    ensures { IfOk result (λ text. string_bytes text ≡ audit_text found) }
+{
+    match found {
+        Audit::Yes => format!(in alloc; "audit yes\n"),
+        Audit::No(place) => format!(in alloc; "audit no {place}\n"),
+        Audit::Unknown => format!(in alloc; "audit unknown\n"),
     }
 }
 

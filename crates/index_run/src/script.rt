@@ -9,9 +9,9 @@ ghost use Rattle.ordered_index.specs.Sizes.{IsSized};
 ghost use Rattle.ordered_index.specs.State.{IsIdle};
 ghost use Rattle.index_run.specs.Lines.{kept};
 ghost use Rattle.index_run.specs.Inside.{IsNoCommit, given_back};
-ghost use Rattle.index_run.specs.Script.{Script, Acts, Meets, Plays, Stages, at_next, fresh};
+ghost use Rattle.index_run.specs.Script.{Script, Acts, Discards, Meets, Plays, Stages, at_next, fresh};
 
-use crate::reply::{fault_text, reply_text, staged_text};
+use crate::reply::{discarded_text, fault_text, reply_text, staged_text};
 use crate::request::{Request, read_line};
 use crate::text::Text;
 use ordered_index::{Desk, DeskCall, DeskReply, LocalIndex, ReadSet, Write, play_all};
@@ -97,11 +97,19 @@ impl<const S: usize> Script<S> {
             Request::Insert(key, value) => self.stage(Write::Insert(key, value)),
             Request::Upsert(key, value) => self.stage(Write::Upsert(key, value)),
             Request::Remove(key) => self.stage(Write::Remove(key)),
+            Request::Delete(lower, upper) => self.stage(Write::RemoveRange(lower, upper)),
             Request::Clear => self.stage(Write::Clear),
+            Request::Discard => self.discard(),
             Request::Commit(None) => self.commit(ReadSet::Empty),
             Request::Commit(Some(label)) => self.commit(ReadSet::Session(label)),
             Request::Open(label) => self.call(label, DeskCall::Open(label)),
             Request::Get(label, key) => self.call(label, DeskCall::Get(label, key)),
+            Request::Has(label, key) => self.call(label, DeskCall::Contains(label, key)),
+            Request::Range(label, lower, upper) => {
+                self.call(label, DeskCall::Range(label, lower, upper))
+            }
+            Request::Near(label, key) => self.call(label, DeskCall::Locate(label, key)),
+            Request::Audit(label) => self.call(label, DeskCall::Audit(ReadSet::Session(label))),
             Request::Close(label) => self.call(label, DeskCall::Close(label)),
             Request::Len(label) => self.call(label, DeskCall::Len(label)),
             Request::Number(label) => self.call(label, DeskCall::Number(label)),
@@ -117,6 +125,15 @@ impl<const S: usize> Script<S> {
     {
         self.staged.push(write)?;
         let text = staged_text(self.alloc, self.staged.len())?;
+        Ok(text)
+    }
+
+    fn discard(&mut self) -> Result<String, AllocError>
+        ensures ok { IfOk result (λ text. Discards self.old (string_bytes text) self.new) }
+        ensures line { self.new.line ≡ self.old.line }
+    {
+        let text = discarded_text(self.alloc, self.staged.len())?;
+        self.staged.clear();
         Ok(text)
     }
 

@@ -19,24 +19,28 @@ const SECOND: &[u8] = b"insert 1 ten\ninsert 1 x\ncommit -\nopen 7\nget 7 1\nget
 const SECOND_OUTPUT: &str =
     "staged 1\nstaged 2\nok 1 inserted duplicate\nopen 7 at 1\nsome ten\nline 6: session\nclosed 7\n";
 
-fn text_of(bytes: &[u8]) -> &str {
+/// The text of an output.
+pub fn text_of(bytes: &[u8]) -> &str {
     str::from_utf8(bytes).unwrap_or("not a text")
 }
 
-// What a script of two places writes, or why it ended before.
-fn output(alloc: Global, input: &[u8]) -> Result<Vec<u8>, RunError> {
+/// What a script of two places writes, or why it ended before.
+pub fn output(alloc: Global, input: &[u8]) -> Result<Vec<u8>, RunError> {
     let mut reader = input;
     let mut out = Vec::new(alloc);
     run::<64, _, _>(alloc, &mut reader, &mut out, 2, 16)?;
     Ok(out)
 }
 
-// Gives its bytes up to a cut, and then the others.
+/// Gives its bytes up to a cut, and then the others.
 #[derive(Drop)]
-struct Cut {
-    input: &'static [u8],
-    given: usize,
-    cut: usize,
+pub struct Cut {
+    /// All bytes.
+    pub input: &'static [u8],
+    /// How many are given.
+    pub given: usize,
+    /// How many stand before the cut.
+    pub cut: usize,
 }
 
 impl Read for Cut {

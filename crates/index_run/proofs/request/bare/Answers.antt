@@ -1,5 +1,5 @@
 use Rattle.std.proofs.Common.{◌≡◌}
-use Rattle.index_run.specs.Requests.{Insert, Upsert, Remove, Clear, Commit, Open, Close, Get, Len, Number, Reclaim, Slots, name_of}
+use Rattle.index_run.specs.Requests.{Insert, Upsert, Remove, Delete, Clear, Discard, Commit, Open, Close, Get, Has, Range, Near, Audit, Len, Number, Reclaim, Slots, name_of}
 use Rattle.index_run.proofs.Numbers.{unknown_only, first_alone}
 use Rattle.index_run.proofs.request.bare.Goals as goal
 
@@ -9,11 +9,17 @@ returns-in_default c =
       | Insert ↦ c.in_default.not-insert
       | Upsert ↦ c.in_default.not-upsert
       | Remove ↦ c.in_default.not-remove
+      | Delete ↦ c.in_default.not-delete
       | Clear ↦ c.in_default.not-clear
+      | Discard ↦ c.in_default.not-discard
       | Commit ↦ c.in_default.not-commit
       | Open ↦ c.in_default.not-open
       | Close ↦ c.in_default.not-close
       | Get ↦ c.in_default.not-get
+      | Has ↦ c.in_default.not-has
+      | Range ↦ c.in_default.not-range
+      | Near ↦ c.in_default.not-near
+      | Audit ↦ c.in_default.not-audit
       | Len ↦ c.in_default.not-len
       | Number ↦ c.in_default.not-number
       | Reclaim ↦ c.in_default.not-reclaim

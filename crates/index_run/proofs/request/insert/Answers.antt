@@ -1,7 +1,6 @@
-use Rattle.std.proofs.Common.{refl}
 use Rattle.index_run.specs.Requests.{Insert}
-use Rattle.index_run.proofs.Numbers.{no_pair}
+use Rattle.index_run.proofs.Numbers.{unfit}
 use Rattle.index_run.proofs.request.insert.Goals as goal
 
 pub returns-in-Err : goal.returns-in-Err
-returns-in-Err c = no_pair Insert c.args.rest.now c.in-Err.fault refl c.in-Err.ensures.err
+returns-in-Err c = unfit Insert c.args.rest.now c.in-Err.fault c.in-Err.ensures.err

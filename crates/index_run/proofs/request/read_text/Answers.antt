@@ -1,5 +1,5 @@
 use Rattle.std.proofs.Common.{◌≡◌}
-use Rattle.index_run.specs.Requests.{Insert, Upsert, Remove, Clear, Commit, Open, Close, Get, Len, Number, Reclaim, Slots, name_of}
+use Rattle.index_run.specs.Requests.{Insert, Upsert, Remove, Delete, Clear, Discard, Commit, Open, Close, Get, Has, Range, Near, Audit, Len, Number, Reclaim, Slots, name_of}
 use Rattle.index_run.proofs.Numbers.{unknown_first, only_of_many}
 use Rattle.index_run.proofs.request.read_text.Goals as goal
 
@@ -9,11 +9,17 @@ returns-in_default-word c =
       | Insert ↦ c.in_default-word.not-insert
       | Upsert ↦ c.in_default-word.not-upsert
       | Remove ↦ c.in_default-word.not-remove
+      | Delete ↦ c.in_default-word.not-delete
       | Clear ↦ c.in_default-word.not-clear
+      | Discard ↦ c.in_default-word.not-discard
       | Commit ↦ c.in_default-word.not-commit
       | Open ↦ c.in_default-word.not-open
       | Close ↦ c.in_default-word.not-close
       | Get ↦ c.in_default-word.not-get
+      | Has ↦ c.in_default-word.not-has
+      | Range ↦ c.in_default-word.not-range
+      | Near ↦ c.in_default-word.not-near
+      | Audit ↦ c.in_default-word.not-audit
       | Len ↦ c.in_default-word.not-len
       | Number ↦ c.in_default-word.not-number
       | Reclaim ↦ c.in_default-word.not-reclaim

@@ -1,7 +1,6 @@
-use Rattle.std.proofs.Common.{refl}
 use Rattle.index_run.specs.Requests.{Remove}
-use Rattle.index_run.proofs.Numbers.{no_number}
+use Rattle.index_run.proofs.Numbers.{unfit}
 use Rattle.index_run.proofs.request.remove.Goals as goal
 
 pub returns-in-Err : goal.returns-in-Err
-returns-in-Err c = no_number Remove c.args.rest.now c.in-Err.fault refl c.in-Err.ensures.err
+returns-in-Err c = unfit Remove c.args.rest.now c.in-Err.fault c.in-Err.ensures.err
