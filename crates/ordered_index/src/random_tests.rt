@@ -388,13 +388,7 @@ impl Lists {
     }
 
     // A session records a read.
-    fn note<R: Abort>(
-        &mut self,
-        rt: &R,
-        label: u64,
-        query: Query<u64>,
-        answer: Answer<u64, u64>,
-    ) {
+    fn note<R: Abort>(&mut self, rt: &R, label: u64, query: Query<u64>, answer: Answer<u64, u64>) {
         for session in &mut self.sessions {
             if session.label == label {
                 session.reads.push((query, answer)).expect(rt, "room");
