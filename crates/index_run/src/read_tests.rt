@@ -1,9 +1,10 @@
 //! Scripts that read and record, delete, discard and audit.
 
 use crate::reply::reply_text;
-use crate::run::run;
-use crate::tests::{Cut, output, text_of};
+use crate::run::{RunError, run};
+use crate::tests::{Cut, Fails, Falters, output, text_of};
 use ordered_index::{Audit, DeskReply};
+use std::io;
 use std::test::Fail;
 
 // Sessions that read ranges and neighbours, a commit that conflicts, and lines at fault.
@@ -32,6 +33,57 @@ fn the_cut_of_a_longer_input_changes_nothing(rt: HostRuntime) -> Result<(), Fail
         let ended = run::<64, _, _>(rt.alloc(), &mut reader, &mut out, 16, 4096);
         assert_eq!(rt; ended, Ok(()), "cut at {cut}");
         assert_eq!(rt; text_of(&out), READS_OUTPUT, "cut at {cut}");
+    }
+    Ok(())
+}
+
+// How many bytes the reply to each line has.
+const REPLIES: [usize; 16] = [9, 9, 23, 12, 12, 18, 9, 13, 9, 11, 12, 10, 6, 14, 16, 15];
+
+// How many bytes of the output the complete lines of a beginning of the input have.
+fn answered(input: &[u8]) -> usize {
+    let lines = input.iter().filter(|byte| **byte == b'\n').count();
+    let mut at = 0usize;
+    for reply in REPLIES.iter().take(lines) {
+        at = at.saturating_add(*reply);
+    }
+    at
+}
+
+#[test]
+fn a_failed_read_of_a_longer_input_drops_the_begun_line(rt: HostRuntime) -> Result<(), Fail> {
+    for at in 0..READS.len() {
+        let mut out = Vec::new(rt.alloc());
+        let mut reader = Fails {
+            input: READS,
+            given: 0,
+            at,
+            kind: io::ErrorKind::Other,
+        };
+        let ended = run::<64, _, _>(rt.alloc(), &mut reader, &mut out, 16, 4096);
+        assert_eq!(rt; ended, Err(RunError::Read), "at {at}");
+        let told = READS_OUTPUT.get(..answered(READS.get(..at).unwrap_or(b"")));
+        assert_eq!(rt; Some(text_of(&out)), told, "at {at}");
+    }
+    Ok(())
+}
+
+#[test]
+fn a_failed_write_leaves_a_beginning_of_a_longer_output(rt: HostRuntime) -> Result<(), Fail> {
+    for at in 0..READS_OUTPUT.len() {
+        let mut reader = READS;
+        let mut writer = Falters {
+            taken: Vec::new(rt.alloc()),
+            at,
+            is_error: true,
+        };
+        let ended = run::<64, _, _>(rt.alloc(), &mut reader, &mut writer, 16, 4096);
+        assert_eq!(rt; ended, Err(RunError::Write), "at {at}");
+        assert_eq!(rt;
+            Some(text_of(&writer.taken)),
+            READS_OUTPUT.get(..at),
+            "at {at}"
+        );
     }
     Ok(())
 }

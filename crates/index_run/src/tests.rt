@@ -58,11 +58,11 @@ impl Read for Cut {
 
 // Gives one byte at a time, and fails once so many are given.
 #[derive(Drop)]
-struct Fails {
-    input: &'static [u8],
-    given: usize,
-    at: usize,
-    kind: io::ErrorKind,
+pub(crate) struct Fails {
+    pub(crate) input: &'static [u8],
+    pub(crate) given: usize,
+    pub(crate) at: usize,
+    pub(crate) kind: io::ErrorKind,
 }
 
 impl Read for Fails {
@@ -84,10 +84,10 @@ impl Read for Fails {
 
 // Takes one byte at a time, and once so many are taken, none or an error.
 #[derive(Drop)]
-struct Falters {
-    taken: Vec<u8>,
-    at: usize,
-    is_error: bool,
+pub(crate) struct Falters {
+    pub(crate) taken: Vec<u8>,
+    pub(crate) at: usize,
+    pub(crate) is_error: bool,
 }
 
 impl Write for Falters {
