@@ -1,4 +1,4 @@
--- Answers, transactions and serial runs, on lists of pairs.
+-- Recorded reads, transactions and serial runs, on lists of pairs.
 use Rattle.std.specs.Prelude.{◌≡◌, ℕ, ◌<◌, List, [], ◌∷◌, length}
 use Rattle.std.specs.declared.cmp.Ordering.{Ordering}
 use Rattle.std.specs.List.{All, AllWithin, HoldsAt}

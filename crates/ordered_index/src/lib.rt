@@ -9,9 +9,13 @@
 //! ```text
 //! let mut index = LocalIndex::<u64, u64, 64>::new(alloc, 16, 4096)?;
 //! index.commit(&Receipt::blank(alloc), vec![in alloc; Write::Insert(1, 10)]?)?;   // number 1
-//! let session = index.open()?;
+//! let mut session = index.open()?;
 //! index.get(&session, &1);                                                         // Some(&10)
+//! index.read(&mut session, Query::Contains(2))?;                                   // recorded
 //! let receipt = index.close_session(session);
+//! index.commit(&receipt, vec![in alloc; Write::Insert(2, 20)]?)?;                 // number 2
+//! index.commit(&receipt, vec![in alloc; Write::Remove(1)]?);                      // Conflict(0)
+//! index.audit(&receipt)?;                                                          // Yes: so it was at 1
 //! ```
 #![tactic(auto)]
 
