@@ -1,18 +1,18 @@
 -- what a store keeps while guards open and close, and versions are published and reclaimed
-use Rattle.std.proofs.Common.{◌≡◌, ◌≢◌, ℕ, zero, suc, ◌+◌, ◌<◌, ◌≤◌, true, Option, None, Some, List, [], ◌∷◌, length, get_or, set, map, refl, sym, ap, ◌∙◌, subst, arith, inl, inr, get_or-set_same, get_or-set_other, length-set}
+use Rattle.std.proofs.Common.{◌≡◌, ◌≢◌, ℕ, zero, suc, ◌+◌, ◌<◌, ◌≤◌, Bool, true, false, cond, Option, None, Some, List, [], ◌∷◌, length, get_or, set, map, refl, sym, ap, ◌∙◌, subst, arith, inl, inr, get_or-set_same, get_or-set_other, length-set}
 use Rattle.std.proofs.lemmas.Bool.{false≢true}
 use Rattle.std.proofs.lemmas.Bool.Decides.{eqb_tells}
 use Rattle.std.proofs.lemmas.List.{get_or_past, get_or_read, map-set}
-use Rattle.std.specs.List.{slice_get}
-use Rattle.std.proofs.lemmas.List.Sums.{sum_by-cons}
-use Rattle.std.specs.Option.{option_map}
+use Rattle.std.specs.List.{slice_get, sum_by}
+use Rattle.std.proofs.lemmas.List.Sums.{get_or-le-sum_by, sum_by-cons}
+use Rattle.std.specs.Option.{is_some, option_map}
 use Rattle.std.specs.declared.cmp.Ordering.{Ordering}
 use Rattle.sdd_base.specs.Counting.{Counted, same_hold, tally}
 use Rattle.sdd_base.specs.Frame.{IsLive, Keeps, OnlyOf, has_owner}
 use Rattle.sdd_base.specs.Holding.{SharedIn}
 use Rattle.sdd_base.specs.Passing.{IsPlain, IsQuiet, Shrinks, Stands, is_plain, slot_kept}
 use Rattle.sdd_base.specs.Place.{IsOpen, IsPlace, IsReadable, IsShared, IsSharedCell}
-use Rattle.sdd_base.specs.State.{State, Member, cell_at, in_use, is_used, marks_at, value_at}
+use Rattle.sdd_base.specs.State.{State, Member, cell_at, in_use, is_used, marks_at, usage, value_at}
 use Rattle.sdd_base.specs.Steps.{bags_empty, closed, opened}
 use Rattle.sdd_base.specs.Tokens.{loaded_slot, participant_of}
 use Rattle.sdd_base.specs.declared.status.Cell.{Cell}
@@ -45,6 +45,13 @@ used_inside (x ∷ ss) (suc i) e = let r = used_inside ss i e in omega (arith, r
 -- a cell in hand is named once
 named_once : (root : ℕ) → 1 ≤ tally (SharedIn root) (SharedIn root ∷ [])
 named_once root = let sum = sum_by-cons (λ k. same_hold (SharedIn root) k) (SharedIn root) [] in let one = hit-same root in omega (arith, sum, one)
+
+usage_small : (x : Status) → usage x ≤ 1
+usage_small x = elim (is_used x) as (λ b. cond b 1 0 ≤ 1) [ true ↦ omega arith | false ↦ omega arith ]
+
+usage_within : (ss : List Status) → sum_by usage ss ≤ length ss
+usage_within [] = omega arith
+usage_within (x ∷ ss) = let more = sum_by-cons usage x ss in let small = usage_small x in let rest = usage_within ss in omega (arith, more, small, rest)
 
 module _ {K V : Type 0} {s : ℕ} (cmp : K → K → Ordering) where
   -- a version is read as what it is
@@ -321,3 +328,11 @@ module _ {K V : Type 0} {s : ℕ} (cmp : K → K → Ordering) where
   -- what a reader has can be read
   pub reads_readable : (w : State (Item K V s)) (p : ℕ) (o : Opened K V s) → Reads cmp w p o → IsReadable w (loaded_slot o.root)
   reads_readable w p o r = subst (λ (x : Option ℕ). IsReadable w x) (sym r.named) (used_inside w.states r.slot r.seen.item.used, r.seen.item.used)
+
+  -- the present version is in use, and no more slots than there are
+  pub slots_bounded : (w : State (Item K V s)) (root : ℕ) (places : List (Option (Opened K V s))) → IsStore cmp w root places → (1 ≤ in_use w) × (in_use w ≤ length w.states)
+  slots_bounded w root places store =
+      let used : is_used (get_or w.states store.slot status.Free) ≡ true = sym (store.place.sound.filled store.slot) ∙ ap is_some store.version.is in
+      let one : usage (get_or w.states store.slot status.Free) ≡ 1 = ap (λ b. cond b 1 0) used in
+      let within = get_or-le-sum_by usage w.states store.slot status.Free (used_inside w.states store.slot used) in
+      (omega (arith, one, within), usage_within w.states)

@@ -28,6 +28,7 @@ use crate::transaction::{Audit, Receipt, Recorded, Transaction, copied_answer, c
 use std::alloc::{AllocError, Global};
 use std::marker::Model;
 use std::ops::Bound;
+use tree_index::TreeIndex;
 use versions::{Built, Reply, Write};
 
 /// No place is free: as many sessions are open as the index has places.
@@ -242,8 +243,8 @@ impl<K: Clone + Ord, V: Clone + Eq, const S: usize> LocalIndex<K, V, S> {
     /// where no list has that number yet, which takes no memory; else the first read that differs, or
     /// `Yes`. Refused where memory is.
     ///
-    /// The list is the present one or a session's, where that has the number, and else is made again
-    /// from the transactions up to it.
+    /// The list is the present one or a session's, where that has the number. Else it is made again,
+    /// from the nearest session's before it or from the last clearing, whichever is later.
     pub fn audit(&self, receipt: &Receipt<K, V>) -> Result<Audit, AllocError>
         requires keys { ClonesAreSame K.is_clone }
         requires values { ClonesAreSame V.is_clone }
@@ -262,9 +263,11 @@ impl<K: Clone + Ord, V: Clone + Eq, const S: usize> LocalIndex<K, V, S> {
     }
 
     /// How many slots are in use: those of the present version, of versions that sessions have, and
-    /// of what is yet to be reclaimed.
+    /// of what is yet to be reclaimed; at least one, and at most all.
     pub fn slots_in_use(&self) -> usize
-        ensures { result ≡ self.now.used }
+        ensures used { result ≡ self.now.used }
+        ensures some { 1 ≤ self.now.used }
+        ensures within { self.now.used ≤ self.now.slots }
     {
         self.store.slots_in_use()
     }
@@ -336,7 +339,7 @@ impl<K: Clone + Ord, V: Clone + Eq, const S: usize> LocalIndex<K, V, S> {
         }
     }
 
-    // The first read that doesn't hold of the list of the receipt's number.
+    // The first read that doesn't hold of the list of the receipt's number: a version that is kept, or made again.
     fn conflict_at(&self, receipt: &Receipt<K, V>) -> Result<Option<usize>, AllocError>
         requires number { receipt.now.number ≤ number_of self.now }
         requires keys { ClonesAreSame K.is_clone }
@@ -347,11 +350,32 @@ impl<K: Clone + Ord, V: Clone + Eq, const S: usize> LocalIndex<K, V, S> {
         ensures none { IfOk result (λ r. IfNone r (All (Holds K.cmp (list_at K.cmp self.now receipt.now.number)) receipt.now.reads)) }
     {
         let reads = receipt.reads.as_slice();
-        if let Some(list) = self.store.of_number(receipt.number) {
-            return Ok(first_conflict(&list, reads));
+        if let Some((number, list)) = self.store.up_to(receipt.number) {
+            if number == receipt.number {
+                return Ok(first_conflict(&list, reads));
+            }
         }
-        let list = replayed(self.alloc, &self.history[..receipt.number as usize])?;
+        let list = self.made_again(receipt.number)?;
         Ok(first_conflict(&list, reads))
+    }
+
+    // The list of a number, made again from the nearest version before it.
+    fn made_again(&self, number: u64) -> Result<TreeIndex<K, V>, AllocError>
+        requires number { number ≤ number_of self.now }
+        requires keys { ClonesAreSame K.is_clone }
+        requires values { ClonesAreSame V.is_clone }
+        ensures { IfOk result (λ list. list.pairs ≡ list_at K.cmp self.now number) }
+    {
+        match self.store.up_to(number) {
+            Some((from, version)) => {
+                let since = &self.history[from as usize..number as usize];
+                replayed(self.alloc, Some(version), since)
+            }
+            None => {
+                let none: Option<Snapshot<'_, K, V, S>> = None;
+                replayed(self.alloc, none, &self.history[..number as usize])
+            }
+        }
     }
 
     fn last(&self) -> u64

@@ -39,7 +39,7 @@ pub use desk::Desk;
 pub use index::{LocalIndex, NoPlace};
 pub use laws::own_receipts_audit_yes;
 pub use listed::{Listed, clones_of_lists, equals_of_lists};
-pub use play::{DeskCall, DeskReply, ReadSet, play_all};
+pub use play::{DeskCall, DeskReply, ReadSet, play_all, play_one};
 pub use query::{Answer, Near, Query};
 pub use session::Session;
 pub use snapshot::{Nearby, Walk};

@@ -111,7 +111,7 @@ pub fn play_all<K: Clone + Ord, V: Clone + Eq, const S: usize>(
         let Ok(()) = replies.reserve(1) else {
             return Err((replies, AllocError));
         };
-        match play(alloc, index, desk, call) {
+        match play_one(alloc, index, desk, call) {
             Ok(reply) => put(&mut replies, reply),
             Err(refused) => return Err((replies, refused)),
         }
@@ -119,8 +119,11 @@ pub fn play_all<K: Clone + Ord, V: Clone + Eq, const S: usize>(
     Ok(replies)
 }
 
-// Makes one call. Where memory is wanted, nothing changes.
-fn play<K: Clone + Ord, V: Clone + Eq, const S: usize>(
+/// Makes one call: what [`play_all`] does of a list of one, without a list of calls or of replies.
+///
+/// Where memory is refused, also to a commit, nothing has changed. A call that names no session, or
+/// opens one under a label in use, takes no memory.
+pub fn play_one<K: Clone + Ord, V: Clone + Eq, const S: usize>(
     alloc: Global,
     index: &mut LocalIndex<K, V, S>,
     desk: &mut Desk<K, V>,

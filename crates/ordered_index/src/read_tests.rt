@@ -165,6 +165,68 @@ fn an_audit_looks_at_the_list_of_the_number(rt: HostRuntime) {
     end(&rt, index);
 }
 
+// Audits each of the numbers 0 to 6, by all pairs of its list, and by those of the next.
+fn audit_each<R: Abort>(rt: &R, alloc: Global, index: &Twos) {
+    let lists: [&[(u64, u64)]; 7] = [
+        &[],
+        &[(1, 10)],
+        &[(1, 10), (2, 20)],
+        &[(2, 21)],
+        &[(5, 50)],
+        &[(5, 50), (6, 60)],
+        &[(5, 50), (6, 60), (7, 70)],
+    ];
+    for number in 0..lists.len() {
+        let all = Query::Range(Bound::Unbounded, Bound::Unbounded);
+        let told = pairs(rt, alloc, lists[number]);
+        let own = receipt(rt, alloc, number as u64, all, told);
+        assert_eq!(rt; audit(rt, index, &own), Audit::Yes);
+        let all = Query::Range(Bound::Unbounded, Bound::Unbounded);
+        let told = pairs(rt, alloc, lists[(number + 1) % lists.len()]);
+        let other = receipt(rt, alloc, number as u64, all, told);
+        assert_eq!(rt; audit(rt, index, &other), Audit::No(0));
+    }
+}
+
+// The commits with the numbers 2 to 5.
+fn commit_four<R: Abort>(rt: &R, alloc: Global, index: &mut Twos)
+    ensures { index.new.places ≡ index.old.places }
+{
+    let _two = commit(rt, alloc, index, &[Write::Upsert(2, 20)]);
+    let _three = commit(rt, alloc, index, &[Write::Remove(1), Write::Upsert(2, 21)]);
+    let cleared = [Write::Insert(4, 40), Write::Clear, Write::Insert(5, 50)];
+    let _four = commit(rt, alloc, index, &cleared);
+    let _five = commit(rt, alloc, index, &[Write::Insert(6, 60)]);
+}
+
+// Lists are made again from that of the session, from a clearing behind it, and from the empty one.
+#[test]
+fn an_audit_of_any_number_finds_its_list(rt: HostRuntime) {
+    let alloc = rt.alloc();
+    let mut index = Twos::new(alloc, 1, 64).expect(&rt, ROOM);
+    let _one = commit(&rt, alloc, &mut index, &[Write::Upsert(1, 10)]);
+    let session = index.open().expect(&rt, FREE);
+    commit_four(&rt, alloc, &mut index);
+    let _six = commit(&rt, alloc, &mut index, &[Write::Insert(7, 70)]);
+    audit_each(&rt, alloc, &index);
+    let _receipt = index.close_session(session);
+    audit_each(&rt, alloc, &index);
+    end(&rt, index);
+}
+
+#[test]
+fn an_audit_takes_no_later_list_for_an_earlier_one(rt: HostRuntime) {
+    let alloc = rt.alloc();
+    let mut index = Twos::new(alloc, 1, 64).expect(&rt, ROOM);
+    let _one = commit(&rt, alloc, &mut index, &[Write::Upsert(1, 10)]);
+    commit_four(&rt, alloc, &mut index);
+    let session = index.open().expect(&rt, FREE);
+    let _six = commit(&rt, alloc, &mut index, &[Write::Insert(7, 70)]);
+    audit_each(&rt, alloc, &index);
+    let _receipt = index.close_session(session);
+    end(&rt, index);
+}
+
 #[test]
 fn a_session_walks_along_its_list(rt: HostRuntime) {
     let alloc = rt.alloc();

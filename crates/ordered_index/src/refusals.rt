@@ -3,12 +3,14 @@
 
 ghost use Rattle.std.specs.Prelude.{◌≡◌, [], None, replicate, ◌^◌, ◌-◌};
 ghost use Rattle.ordered_index.specs.Desk.{Serves};
+ghost use Rattle.ordered_index.specs.State.{IsOpen};
 
 use crate::{
-    Accepted, Cause, Desk, DeskCall, DeskReply, LocalIndex, ReadSet, Receipt, Reply, Write,
-    play_all,
+    Accepted, Answer, Audit, Cause, Desk, DeskCall, DeskReply, LocalIndex, Query, ReadSet, Receipt,
+    Reply, Session, Write, play_all,
 };
 use std::alloc::{AllocError, Global};
+use std::ops::Bound;
 use std::process::Abort;
 
 type Numbers = LocalIndex<u64, u64, 2>;
@@ -89,6 +91,84 @@ fn writes_and_reads<R: Abort>(rt: &R, alloc: Global) -> bool {
     let session = index.open().expect(rt, "a free place");
     assert!(rt; index.get(&session, &1) == Some(&10));
     let _receipt = index.close_session(session);
+    match index.close() {
+        Ok(()) => met,
+        Err(_open) => panic!(rt; "a session is open"),
+    }
+}
+
+fn an_upsert(alloc: Global) -> Result<Vec<Write<u64, u64>>, AllocError> {
+    let writes = vec![in alloc; Write::Upsert(1, 12)]?;
+    Ok(writes)
+}
+
+// Commits an upsert, made again and committed again where memory was refused.
+fn upsert<R: Abort>(rt: &R, alloc: Global, index: &mut Numbers, met: &mut bool)
+    ensures { index.new.places ≡ index.old.places }
+{
+    let writes = match an_upsert(alloc) {
+        Ok(writes) => writes,
+        Err(AllocError) => {
+            *met = true;
+            an_upsert(alloc).expect(rt, TWICE)
+        }
+    };
+    let blank = Receipt::blank(alloc);
+    if let Err(refused) = index.commit(&blank, writes) {
+        *met = true;
+        let _accepted = index.commit(&blank, refused.writes).expect(rt, TWICE);
+    }
+}
+
+// Reads all pairs, again where memory was refused; then nothing was recorded.
+fn read<R: Abort>(
+    rt: &R,
+    index: &Numbers,
+    session: &mut Session<u64, u64>,
+    met: &mut bool,
+) -> Answer<u64, u64>
+    requires { IsOpen index.now session.old }
+    ensures { IsOpen index.now session.new }
+{
+    let all = Query::Range(Bound::Unbounded, Bound::Unbounded);
+    if let Ok(answer) = index.read(session, all) {
+        return answer;
+    }
+    *met = true;
+    assert!(rt; index.receipt(session).reads.as_slice().is_empty());
+    let all = Query::Range(Bound::Unbounded, Bound::Unbounded);
+    match index.read(session, all) {
+        Ok(answer) => answer,
+        Err(AllocError) => panic!(rt; "memory was refused twice"),
+    }
+}
+
+// An audit, tried again where memory was refused.
+fn audit<R: Abort>(rt: &R, index: &Numbers, receipt: &Receipt<u64, u64>, met: &mut bool) -> Audit {
+    match index.audit(receipt) {
+        Ok(found) => found,
+        Err(AllocError) => {
+            *met = true;
+            index.audit(receipt).expect(rt, TWICE)
+        }
+    }
+}
+
+// Whether an allocation was refused while a list was read, and audited once it was kept no longer.
+fn reads_and_audits<R: Abort>(rt: &R, alloc: Global) -> bool {
+    let mut met = false;
+    let mut index = numbers(rt, alloc, &mut met);
+    let _accepted = commit(rt, alloc, &mut index, &mut met);
+    let mut session = index.open().expect(rt, "a free place");
+    let answer = read(rt, &index, &mut session, &mut met);
+    match &answer {
+        Answer::Range(pairs) => assert!(rt; pairs.as_slice() == &[(1, 10)][..]),
+        _ => panic!(rt; "another kind of answer"),
+    }
+    upsert(rt, alloc, &mut index, &mut met);
+    let receipt = index.close_session(session);
+    assert!(rt; receipt.reads.as_slice().len() == 1);
+    assert!(rt; audit(rt, &index, &receipt, &mut met) == Audit::Yes);
     match index.close() {
         Ok(()) => met,
         Err(_open) => panic!(rt; "a session is open"),
@@ -190,15 +270,25 @@ fn a_refusal_of_memory_changes_nothing(rt: HostRuntime) {
 }
 
 #[test]
+fn a_refusal_of_memory_records_nothing(rt: HostRuntime) {
+    let _met = reads_and_audits(&rt, rt.alloc());
+}
+
+#[test]
 fn a_refusal_of_memory_changes_nothing_in_a_list_of_calls(rt: HostRuntime) {
     let _met = plays(&rt, rt.alloc());
 }
 
-// These two fail as long as an allocation is refused, so that a script knows when to stop.
+// These fail as long as an allocation is refused, so that a script knows when to stop.
 
 #[test]
 fn no_memory_is_refused(rt: HostRuntime) {
     assert!(rt; !writes_and_reads(&rt, rt.alloc()));
+}
+
+#[test]
+fn no_memory_is_refused_where_reads_are_recorded(rt: HostRuntime) {
+    assert!(rt; !reads_and_audits(&rt, rt.alloc()));
 }
 
 #[test]

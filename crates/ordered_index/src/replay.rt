@@ -1,34 +1,121 @@
 //! The list that transactions leave.
 
-ghost use Rattle.std.specs.Prelude.{◌≡◌, [], List, IfOk, OnOk};
+ghost use Rattle.std.specs.Prelude.{◌≡◌, ◌≤◌, [], List, IfOk, IfSome, IsTrue, OnOk, drop, length};
+ghost use Rattle.std.specs.Option.{unwrap_or};
+ghost use Rattle.std.specs.declared.ops.Bound.TheVariants.{Unbounded};
 ghost use Rattle.leaf_array.specs.Values.{ClonesAreSame, EqualsAreSame};
 ghost use Rattle.tree_index.specs.Cursor.{Cursor};
 ghost use Rattle.versions.specs.Writes.{after_write, after_writes};
 ghost use Rattle.ordered_index.specs.Serial.{after_all};
+ghost use Rattle.ordered_index.specs.Stretches.{IsStart};
 
 use crate::listing::{Listing, around};
 use crate::query::Near;
-use crate::stretch::{copied, gives};
+use crate::snapshot::Snapshot;
+use crate::stretch::{Steps, copied, gives, next};
 use crate::transaction::Transaction;
 use std::alloc::{AllocError, Global};
 use std::ops::Bound;
 use tree_index::{InsertRefused, Proximity, TreeIndex};
 use versions::Write;
 
-/// The list that transactions leave of the empty one.
-pub(crate) fn replayed<K: Clone + Ord, V: Clone>(
+/// The list that transactions leave of a version's, or of the empty one where none is given.
+pub(crate) fn replayed<'w, K: Clone + Ord, V: Clone, const S: usize>(
     alloc: Global,
-    history: &[Transaction<K, V>],
+    base: Option<Snapshot<'w, K, V, S>>,
+    history: &'w [Transaction<K, V>],
 ) -> Result<TreeIndex<K, V>, AllocError>
     requires keys { ClonesAreSame K.is_clone }
     requires values { ClonesAreSame V.is_clone }
-    ensures { IfOk result (λ list. list.pairs ≡ after_all K.cmp history.now []) }
+    ensures { IfOk result (λ list. list.pairs ≡ after_all K.cmp history.now (unwrap_or base.entry [])) }
 {
+    let Some(at) = last_clearing(history) else {
+        let mut list = planted(alloc, base)?;
+        replay(&mut list, history)?;
+        return Ok(list);
+    };
     let mut list = TreeIndex::new(alloc);
-    for transaction in history {
-        apply_all(&mut list, transaction.writes.as_slice())?;
+    replay(&mut list, &history[at..])?;
+    Ok(list)
+}
+
+/// The place of the last transaction that leaves the same list of any, since it removes all pairs.
+fn last_clearing<K: Ord, V>(history: &[Transaction<K, V>]) -> Option<usize>
+    ensures within { IfSome result (λ at. at ≤ length history.now) }
+    ensures forgets { IfSome result (λ at. (xs ys : List (K × V)) → after_all K.cmp (drop at history.now) xs ≡ after_all K.cmp (drop at history.now) ys) }
+{
+    let mut left = history.len();
+    while left > 0 {
+        left -= 1;
+        if clears(history[left].writes.as_slice()) {
+            return Some(left);
+        }
+    }
+    None
+}
+
+/// Whether one of the writes removes all pairs.
+fn clears<K: Ord, V>(writes: &[Write<K, V>]) -> bool
+    ensures { IsTrue result → (xs ys : List (K × V)) → after_writes K.cmp writes.now xs ≡ after_writes K.cmp writes.now ys }
+{
+    for write in writes {
+        if let Write::Clear = write {
+            return true;
+        }
+    }
+    false
+}
+
+/// A copy of a version's list, or the empty list.
+fn planted<K: Clone + Ord, V: Clone, const S: usize>(
+    alloc: Global,
+    base: Option<Snapshot<'_, K, V, S>>,
+) -> Result<TreeIndex<K, V>, AllocError>
+    requires keys { ClonesAreSame K.is_clone }
+    requires values { ClonesAreSame V.is_clone }
+    ensures { IfOk result (λ list. list.pairs ≡ unwrap_or base.entry []) }
+{
+    match base {
+        Some(version) => gathered(alloc, version.whole()),
+        None => Ok(TreeIndex::new(alloc)),
+    }
+}
+
+/// Copies of the pairs of a cursor without bounds.
+fn gathered<'t, K: Clone + Ord + 't, V: Clone + 't, C: Steps<'t, K, V>>(
+    alloc: Global,
+    cursor: C,
+) -> Result<TreeIndex<K, V>, AllocError>
+    requires start { IsStart K.cmp (C.cursor cursor) }
+    requires lower { (C.cursor cursor).lower ≡ Unbounded }
+    requires upper { (C.cursor cursor).upper ≡ Unbounded }
+    requires keys { ClonesAreSame K.is_clone }
+    requires values { ClonesAreSame V.is_clone }
+    ensures { IfOk result (λ list. list.pairs ≡ (C.cursor cursor).pairs) }
+{
+    let mut cursor = cursor;
+    let mut list = TreeIndex::new(alloc);
+    'gathering: while let Some((key, value)) = next(&mut cursor) {
+        let Ok(()) = list.upsert_sync(key.clone()?, value.clone()?) else {
+            return Err(AllocError);
+        };
     }
     Ok(list)
+}
+
+/// Makes the writes of transactions on a list.
+fn replay<K: Clone + Ord, V: Clone>(
+    list: &mut TreeIndex<K, V>,
+    history: &[Transaction<K, V>],
+) -> Result<(), AllocError>
+    requires keys { ClonesAreSame K.is_clone }
+    requires values { ClonesAreSame V.is_clone }
+    ensures { OnOk result (list.new.pairs ≡ after_all K.cmp history.now list.old.pairs) }
+{
+    for transaction in history {
+        apply_all(list, transaction.writes.as_slice())?;
+    }
+    Ok(())
 }
 
 /// Makes writes on a list.

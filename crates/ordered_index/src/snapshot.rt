@@ -2,6 +2,7 @@
 
 ghost use Rattle.std.specs.Prelude.{◌≡◌};
 ghost use Rattle.std.specs.Option.{option_copied};
+ghost use Rattle.std.specs.declared.ops.Bound.TheVariants.{Unbounded};
 ghost use Rattle.leaf_array.specs.Pairs.{IsAscending, value_at};
 ghost use Rattle.sdd_base.specs.State.{value_at as value_in};
 ghost use Rattle.tree_index.specs.Proximity.{IsLocated};
@@ -60,6 +61,21 @@ impl<'w, K: Ord, V, const S: usize> Snapshot<'w, K, V, S> {
         ensures upper { result.upper ≡ upper.now }
     {
         walk(self.world, self.directory, lower.as_ref(), upper.as_ref())
+    }
+
+    /// A walk along all pairs.
+    pub(crate) fn whole(&self) -> Walk<'_, K, V, S>
+        ensures start { IsStart K.cmp result }
+        ensures pairs { result.pairs ≡ self.now }
+        ensures lower { result.lower ≡ Unbounded }
+        ensures upper { result.upper ≡ Unbounded }
+    {
+        walk(
+            self.world,
+            self.directory,
+            Bound::Unbounded,
+            Bound::Unbounded,
+        )
     }
 
     /// Where a key stands.

@@ -218,16 +218,17 @@ impl<K: Clone + Ord, V: Clone, const S: usize> Store<K, V, S> {
         Snapshot::new(&self.world, present(&self.world, &self.root))
     }
 
-    // A version with this number, if it is the present one or a reader has it.
-    pub(crate) fn of_number(&self, number: u64) -> Option<Snapshot<'_, K, V, S>>
-        ensures { IfSome result (λ s. (v : Version K V) × IsKeptHere v self.now × (v.number ≡ number) × (s ≡ v.pairs)) }
+    // The version with the greatest number up to this one, of the present one and those that readers have, and its number.
+    pub(crate) fn up_to(&self, number: u64) -> Option<(u64, Snapshot<'_, K, V, S>)>
+        ensures { IfSome result (λ r. (v : Version K V) × IsKeptHere v self.now × (v.number ≡ r.0) × (r.0 ≤ number) × (r.1 ≡ v.pairs)) }
     {
         let root = present(&self.world, &self.root);
-        if root.number() == number {
-            return Some(Snapshot::new(&self.world, root));
+        let last = root.number();
+        if last <= number {
+            return Some((last, Snapshot::new(&self.world, root)));
         }
-        match numbered(&self.world, &self.places, number) {
-            Some(version) => Some(Snapshot::new(&self.world, version)),
+        match nearest(&self.world, &self.places, number) {
+            Some(version) => Some((version.number(), Snapshot::new(&self.world, version))),
             None => None,
         }
     }
@@ -278,7 +279,9 @@ impl<K: Clone + Ord, V: Clone, const S: usize> Store<K, V, S> {
 
     // How many slots are in use.
     pub(crate) fn slots_in_use(&self) -> usize
-        ensures { result ≡ self.now.used }
+        ensures used { result ≡ self.now.used }
+        ensures some { 1 ≤ self.now.used }
+        ensures within { self.now.used ≤ self.now.slots }
     {
         self.world.slots_in_use()
     }
@@ -315,8 +318,8 @@ fn seen<'w, K: Ord, V, const S: usize>(
     version_at(w, &opened.root)
 }
 
-// The directory of a version with this number that a reader has.
-fn numbered<'w, K: Ord, V, const S: usize>(
+// The directory of the version with the greatest number up to this one that a reader has.
+fn nearest<'w, K: Ord, V, const S: usize>(
     w: &'w World<Item<K, V, S>, NoJob>,
     places: &[Option<Opened<K, V, S>>],
     number: u64,
@@ -324,17 +327,28 @@ fn numbered<'w, K: Ord, V, const S: usize>(
     requires { (root : ℕ) × IsStore K.cmp w.now root places.now }
     ensures version { IfSome result (λ d. IsVersion K.cmp (value_in w.now) d.now) }
     ensures reader { IfSome result (λ d. (place : ℕ) × (slice_get (map (option_map (read_by w.now)) places.now) place ≡ Some (Some (record { number = d.now.number; pairs = list_of (value_in w.now) d.now })))) }
-    ensures number { IfSome result (λ d. d.now.number ≡ number) }
+    ensures number { IfSome result (λ d. d.now.number ≤ number) }
 {
+    let mut found: Option<&'w Directory<K>> = None;
     for place in 0..places.len() {
         if let Some(opened) = &places[place] {
             let version = seen(w, opened);
-            if version.number() == number {
-                return Some(version);
+            if version.number() <= number && is_later(version, found) {
+                found = Some(version);
             }
         }
     }
-    None
+    found
+}
+
+// Whether a version is later than another, if there is one.
+fn is_later<K>(version: &Directory<K>, found: Option<&Directory<K>>) -> bool
+    ensures { IsTrue result ↔ IfSome found.entry (λ f. f.now.number < version.now.number) }
+{
+    match found {
+        Some(found) => found.number() < version.number(),
+        None => true,
+    }
 }
 
 // The directory of the present version.

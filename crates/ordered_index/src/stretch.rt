@@ -65,7 +65,9 @@ pub(crate) fn copied<'t, K: Clone + Ord + 't, V: Clone + 't, C: Steps<'t, K, V>>
 }
 
 /// The next pair that a cursor is yet to give.
-fn next<'t, K: Ord + 't, V: 't, C: Steps<'t, K, V>>(cursor: &mut C) -> Option<(&'t K, &'t V)>
+pub(crate) fn next<'t, K: Ord + 't, V: 't, C: Steps<'t, K, V>>(
+    cursor: &mut C,
+) -> Option<(&'t K, &'t V)>
     requires { (C.cursor cursor.old).backward ≡ Unopened }
     ensures alone { (C.cursor cursor.new).backward ≡ Unopened }
     ensures first { referred result ≡ slice_get (left_by K.cmp (C.cursor cursor.old)) 0 }

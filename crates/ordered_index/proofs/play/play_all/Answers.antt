@@ -26,9 +26,9 @@ loop-call-preserved g c =
     record {
       whole = append_assoc c.loop-call.yielded (c.in-Some.call ∷ []) (into_iter_items c.next.new.self) ∙ ap (λ r. c.loop-call.yielded ++ r) (sym step.0) ∙ i.whole;
       counted = omega (arith, step.1, i.counted, ap length step.0);
-      played = played-more g.K.Ord.cmp g.row.S _ _ _ c.loop-call.yielded c.loop-call.replies.items c.put.new.items.items c.in-Some.call c.in-Ok-play.reply (c.put.ensures.items ∙ ap (λ r. r ++ c.in-Ok-play.reply ∷ []) c.reserve.ensures.items) i.played c.in-Ok-play.ensures.step;
-      serves = c.play.ensures.serves;
-      keeps_all = λ keeps. c.play.ensures.keeps_all (i.keeps_all keeps);
+      played = played-more g.K.Ord.cmp g.row.S _ _ _ c.loop-call.yielded c.loop-call.replies.items c.put.new.items.items c.in-Some.call c.in-Ok-play_one.reply (c.put.ensures.items ∙ ap (λ r. r ++ c.in-Ok-play_one.reply ∷ []) c.reserve.ensures.items) i.played c.in-Ok-play_one.ensures.step;
+      serves = c.play_one.ensures.serves;
+      keeps_all = λ keeps. c.play_one.ensures.keeps_all (i.keeps_all keeps);
     }
 
 pub returns-clause-run : goal.returns-clause-run

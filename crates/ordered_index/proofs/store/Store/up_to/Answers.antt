@@ -1,16 +1,17 @@
-use Rattle.std.proofs.Common.{refl, sym, ap, ◌∙◌, inl, inr}
+use Rattle.std.proofs.Common.{refl, sym, ap, ◌∙◌, inl, inr, arith}
 use Rattle.std.specs.List.{slice_get}
 use Rattle.sdd_base.specs.State.{value_at}
 use Rattle.versions.specs.Versions.{list_of}
 use Rattle.ordered_index.specs.Store.{Store, Version}
-use Rattle.ordered_index.proofs.store.Store.of_number.Goals as goal
+use Rattle.ordered_index.proofs.store.Store.up_to.Goals as goal
 
-pub returns-then-number : goal.returns-then-number
-returns-then-number g c =
+pub returns-then-last-number : goal.returns-then-last-number
+returns-then-last-number g c =
     let is = c.present-root.ensures.is ∙ ap (λ (x : Store _ _). x.present) c.self.view_is in (
       c.args.self.now.present,
       inl refl,
-      ap (λ (x : Version _ _). x.number) (sym is) ∙ sym c.number.ensures ∙ c.if-number.true,
+      ap (λ (x : Version _ _). x.number) (sym is) ∙ sym c.number-last.ensures,
+      omega (arith, c.number-last.ensures, c.if-last-number.true),
       c.new.ensures ∙ ap (λ (x : Version _ _). x.pairs) is,
     )
 
@@ -19,6 +20,7 @@ returns-in-Some g c =
     let reader = rw c.deref.ensures.value at c.in-Some.ensures.reader in (
       record { number = c.in-Some.version.now.number; pairs = list_of (value_at c.self.inside.world) c.in-Some.version.now },
       inr (reader.0, ap (λ (x : Store _ _). slice_get x.readers reader.0) (sym c.self.view_is) ∙ reader.1),
-      c.in-Some.ensures.number,
+      sym c.number.ensures,
+      omega (arith, c.number.ensures, c.in-Some.ensures.number),
       c.new-in-Some.ensures,
     )

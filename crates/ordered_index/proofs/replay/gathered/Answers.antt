@@ -1,0 +1,28 @@
+use Rattle.std.proofs.Common.{◌≡◌, refl, sym, None}
+use Rattle.std.specs.List.{slice_get}
+use Rattle.ordered_index.specs.Stretches.{left_by}
+use Rattle.ordered_index.proofs.Replays.{gathered_more, left_whole}
+use Rattle.ordered_index.proofs.Stretches.{done_all}
+use Rattle.ordered_index.proofs.replay.gathered.Goals as goal
+
+pub gathering-init : goal.gathering-init
+gathering-init g c = record {
+  alone = c.requires.start.backward;
+  given = rw c.new-list.ensures.empty (left_whole g.K.Ord.cmp (g.C.Steps.cursor c.args.cursor) c.requires.start c.requires.lower c.requires.upper);
+}
+
+pub gathering-preserved : goal.gathering-preserved
+gathering-preserved g c =
+    let i = c.gathering.invariant in
+    let key = c.requires.keys c.in-Some.key.now c.in_ok-clone.field-0 c.in_ok-clone.ensures.cases in
+    let value = c.requires.values c.in-Some.value.now c.in_ok-clone-2.field-0 c.in_ok-clone-2.ensures.cases in
+    let more = gathered_more g.met.K.Ord.total c.gathering.list.pairs (left_by g.K.Ord.cmp (g.C.Steps.cursor c.gathering.cursor)) _ (c.in-Some.key.now, c.in-Some.value.now) i.given c.requires.start.rising (sym c.in-Some.ensures.first) in
+    record {
+      alone = c.next.ensures.alone;
+      given = rw (c.in-Ok.ensures.upserted, key, value, c.in-Some.ensures.left refl) more;
+    }
+
+pub returns : goal.returns
+returns g c =
+    let first : slice_get (left_by g.K.Ord.cmp (g.C.Steps.cursor c.gathering.cursor)) 0 ≡ None = sym c.in_default.ensures.first in
+    done_all c.gathering.list.pairs (left_by g.K.Ord.cmp (g.C.Steps.cursor c.gathering.cursor)) _ c.gathering.invariant.given first
