@@ -53,12 +53,12 @@ abbrev pub told_texts : List Reply → List ℕ
 told_texts [] = []
 told_texts (reply ∷ replies) = told_text reply ++ told_texts replies
 
--- why a commit is refused; one that is refused memory has no reply
-abbrev pub CausePrints : Cause → List ℕ → Type 0
-CausePrints (causes.Conflict place) text = text ≡ codes "conflict " ++ decimal place ++ codes "\n"
-CausePrints causes.Exhausted text = text ≡ codes "exhausted\n"
-CausePrints causes.Memory text = ⊥
-CausePrints causes.NoSlot text = text ≡ codes "noslot\n"
+-- why a commit is refused, by what is said of the text; one that is refused memory has no reply
+abbrev pub CausePrints : Cause → (List ℕ → Type 0) → Type 0
+CausePrints (causes.Conflict place) Is = Is (codes "conflict " ++ decimal place ++ codes "\n")
+CausePrints causes.Exhausted Is = Is (codes "exhausted\n")
+CausePrints causes.Memory Is = ⊥
+CausePrints causes.NoSlot Is = Is (codes "noslot\n")
 
 -- a pair in a line of its own: its value is printed as it is, to the end of the line
 abbrev pub pair_text : ℕ × List ℕ → List ℕ
@@ -91,18 +91,18 @@ audit_text audits.Yes = codes "audit yes\n"
 audit_text (audits.No place) = codes "audit no " ++ decimal place ++ codes "\n"
 audit_text audits.Unknown = codes "audit unknown\n"
 
--- the reply to a call, by a line with this number and this label
-abbrev pub Prints : ℕ → ℕ → DeskReply ℕ (List ℕ) → List ℕ → Type 0
-Prints line label (replies.Opened number) text = text ≡ codes "open " ++ decimal label ++ codes " at " ++ decimal number ++ codes "\n"
-Prints line label replies.NoPlace text = text ≡ codes "noplace\n"
-Prints line label replies.Busy text = text ≡ fault_text line faults.Busy
-Prints line label (replies.Closed receipt) text = text ≡ codes "closed " ++ decimal label ++ codes "\n"
-Prints line label (replies.NoSession back) text = text ≡ fault_text line faults.Session
-Prints line label (replies.Answer answer) text = text ≡ answer_text answer
-Prints line label (replies.Audit found) text = text ≡ audit_text found
-Prints line label (replies.Accepted accepted) text = text ≡ codes "ok " ++ decimal accepted.number ++ told_texts accepted.replies.items ++ codes "\n"
-Prints line label (replies.Refused refused) text = CausePrints refused.cause text
-Prints line label replies.Reclaimed text = text ≡ codes "reclaimed\n"
-Prints line label (replies.Slots count) text = text ≡ codes "slots " ++ decimal count ++ codes "\n"
-Prints line label (replies.Number number) text = text ≡ codes "number " ++ decimal number ++ codes "\n"
-Prints line label (replies.Len count) text = text ≡ codes "len " ++ decimal count ++ codes "\n"
+-- the reply to a call, by a line with this number and this label: this is said of its text
+abbrev pub Prints : ℕ → ℕ → DeskReply ℕ (List ℕ) → (List ℕ → Type 0) → Type 0
+Prints line label (replies.Opened number) Is = Is (codes "open " ++ decimal label ++ codes " at " ++ decimal number ++ codes "\n")
+Prints line label replies.NoPlace Is = Is (codes "noplace\n")
+Prints line label replies.Busy Is = Is (fault_text line faults.Busy)
+Prints line label (replies.Closed receipt) Is = Is (codes "closed " ++ decimal label ++ codes "\n")
+Prints line label (replies.NoSession back) Is = Is (fault_text line faults.Session)
+Prints line label (replies.Answer answer) Is = Is (answer_text answer)
+Prints line label (replies.Audit found) Is = Is (audit_text found)
+Prints line label (replies.Accepted accepted) Is = Is (codes "ok " ++ decimal accepted.number ++ told_texts accepted.replies.items ++ codes "\n")
+Prints line label (replies.Refused refused) Is = CausePrints refused.cause Is
+Prints line label replies.Reclaimed Is = Is (codes "reclaimed\n")
+Prints line label (replies.Slots count) Is = Is (codes "slots " ++ decimal count ++ codes "\n")
+Prints line label (replies.Number number) Is = Is (codes "number " ++ decimal number ++ codes "\n")
+Prints line label (replies.Len count) Is = Is (codes "len " ++ decimal count ++ codes "\n")

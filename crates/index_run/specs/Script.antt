@@ -39,7 +39,7 @@ left_staged reply staged = staged
 pub record Plays (old : Script) (label : ℕ) (step : DeskReply ℕ (List ℕ) → Machine ℕ (List ℕ) → Type 0) (text : List ℕ) (new : Script) : Type 0 where
   pub reply : DeskReply ℕ (List ℕ)
   pub stepped : step reply new.machine
-  pub printed : Prints old.line label reply text
+  pub printed : Prints old.line label reply (λ told. text ≡ told)
   pub left : new.staged ≡ left_staged reply old.staged
   pub same_line : new.line ≡ old.line
 

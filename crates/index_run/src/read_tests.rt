@@ -1,6 +1,6 @@
 //! Scripts that read and record, delete, discard and audit.
 
-use crate::reply::reply_text;
+use crate::reply::write_reply;
 use crate::run::{RunError, run};
 use crate::tests::{Cut, Fails, Falters, output, text_of};
 use ordered_index::{Audit, DeskReply};
@@ -228,7 +228,9 @@ fn each_finding_of_an_audit_has_a_text(rt: HostRuntime) -> Result<(), Fail> {
     ];
     for (found, told) in cases {
         let reply = DeskReply::Audit(found);
-        assert_eq!(rt; reply_text(rt.alloc(), 1, 7, &reply)?.as_str(), told);
+        let mut text = String::new(rt.alloc());
+        write_reply(&mut text, 1, 7, &reply)?;
+        assert_eq!(rt; text.as_str(), told);
     }
     Ok(())
 }

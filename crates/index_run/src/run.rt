@@ -9,6 +9,7 @@ ghost use Rattle.index_run.specs.Runs.{Ends, StopsReading, StopsWriting, StopsFo
 ghost use Rattle.index_run.specs.Inside.{Answers, Falters, Finishes, Feeds, FeedBreaks, FeedStops};
 
 use crate::line::{Begun, split_line};
+use crate::reply::LONGEST_FAULT;
 use crate::script::Script;
 use std::alloc::Global;
 use std::io::{Read, Write};
@@ -34,8 +35,9 @@ const PIECE: usize = 4096;
 /// Runs the script that the reader gives on an empty index for so many sessions at a time and with
 /// so many slots, and writes its output.
 ///
-/// The reply of each line is written before the next is acted on, and nothing is held back. A run
-/// makes at most 4,294,967,295 reads.
+/// The reply of each line is written before the next is acted on, and nothing is held back. A line
+/// at fault takes no memory but what its bytes are read into. A run makes at most 4,294,967,295
+/// reads.
 ///
 /// - Without an error, the reader is at its end and each line is answered, also a last one without
 ///   LF.
@@ -78,15 +80,18 @@ fn serve<const S: usize, R: Read, W: Write>(
     ensures memory { IsErrOf result RunError.Memory → StopsForMemory S script.old (R.remaining reader.old) (R.remaining reader.new) (W.contents writer.old) (W.contents writer.new) }
 {
     let mut begun = Begun::new(alloc);
+    let Ok(mut reply) = String::with_capacity(alloc, LONGEST_FAULT) else {
+        return Err(RunError::Memory);
+    };
     let mut buffer = [0u8; PIECE];
     for read in 0..u32::MAX {
         let Ok(count) = reader.read(&mut buffer) else {
             return Err(RunError::Read);
         };
         if count == 0 {
-            return finish(script, &begun, writer);
+            return finish(script, &begun, &mut reply, writer);
         }
-        if let Err(stopped) = feed(script, &mut begun, &buffer[..count], writer) {
+        if let Err(stopped) = feed(script, &mut begun, &buffer[..count], &mut reply, writer) {
             return Err(stopped);
         }
     }
@@ -98,6 +103,7 @@ fn feed<const S: usize, W: Write>(
     script: &mut Script<S>,
     begun: &mut Begun,
     piece: &[u8],
+    reply: &mut String,
     writer: &mut W,
 ) -> Result<(), RunError>
     requires { script.old.line + length piece.now < 2 ^ 64 }
@@ -109,7 +115,7 @@ fn feed<const S: usize, W: Write>(
 {
     let mut rest = piece;
     'lines: while let Some((part, behind)) = split_line(rest) {
-        if let Err(stopped) = end_line(script, begun, part, writer) {
+        if let Err(stopped) = end_line(script, begun, part, reply, writer) {
             return Err(stopped);
         }
         rest = behind;
@@ -125,6 +131,7 @@ fn end_line<const S: usize, W: Write>(
     script: &mut Script<S>,
     begun: &mut Begun,
     part: &[u8],
+    reply: &mut String,
     writer: &mut W,
 ) -> Result<(), RunError>
     requires { script.old.line + 1 < 2 ^ 64 }
@@ -138,7 +145,7 @@ fn end_line<const S: usize, W: Write>(
     let Ok(()) = begun.extend(part) else {
         return Err(RunError::Memory);
     };
-    answer(script, begun, writer)?;
+    answer(script, begun, reply, writer)?;
     begun.clear();
     Ok(())
 }
@@ -147,6 +154,7 @@ fn end_line<const S: usize, W: Write>(
 fn finish<const S: usize, W: Write>(
     script: &mut Script<S>,
     begun: &Begun,
+    reply: &mut String,
     writer: &mut W,
 ) -> Result<(), RunError>
     requires { script.old.line + 1 < 2 ^ 64 }
@@ -158,13 +166,14 @@ fn finish<const S: usize, W: Write>(
     if begun.is_empty() {
         return Ok(());
     }
-    answer(script, begun, writer)
+    answer(script, begun, reply, writer)
 }
 
-// Acts on a line, and writes its reply.
+// Acts on a line, and writes its reply, in the memory of earlier replies.
 fn answer<const S: usize, W: Write>(
     script: &mut Script<S>,
     begun: &Begun,
+    reply: &mut String,
     writer: &mut W,
 ) -> Result<(), RunError>
     requires { script.old.line + 1 < 2 ^ 64 }
@@ -174,10 +183,10 @@ fn answer<const S: usize, W: Write>(
     ensures memory { IsErrOf result RunError.Memory → Appends (W.contents writer.old) (W.contents writer.new) [] }
     ensures read { IsErrOf result RunError.Read → ⊥ }
 {
-    let Ok(text) = script.act(begun.bytes()) else {
+    let Ok(()) = script.act(begun.bytes(), reply) else {
         return Err(RunError::Memory);
     };
-    send(writer, text.as_bytes())
+    send(writer, reply.as_bytes())
 }
 
 // Writes all bytes, or a beginning of them.

@@ -11,10 +11,10 @@ ghost use Rattle.index_run.specs.Lines.{kept};
 ghost use Rattle.index_run.specs.Inside.{IsNoCommit, given_back};
 ghost use Rattle.index_run.specs.Script.{Script, Acts, Discards, Meets, Plays, Stages, at_next, fresh};
 
-use crate::reply::{discarded_text, fault_text, reply_text, staged_text};
+use crate::reply::{write_discarded, write_fault, write_reply, write_staged};
 use crate::request::{Request, read_line};
 use crate::text::Text;
-use ordered_index::{Desk, DeskCall, DeskReply, LocalIndex, ReadSet, Write, play_all};
+use ordered_index::{Desk, DeskCall, DeskReply, LocalIndex, ReadSet, Write, play_one};
 use std::alloc::{AllocError, Global};
 use std::marker::Model;
 use std::mem;
@@ -63,16 +63,17 @@ impl<const S: usize> Script<S> {
     }
 
     /// Acts on the next line, given by its bytes, or by none where it is longer than it may be, and
-    /// gives its reply. Refused where memory is.
-    pub fn act(&mut self, line: Option<&[u8]>) -> Result<String, AllocError>
+    /// leaves its reply as the text. Refused where memory is; a line at fault wants none where the
+    /// text has room for [`LONGEST_FAULT`](crate::reply::LONGEST_FAULT) bytes.
+    pub fn act(&mut self, line: Option<&[u8]>, text: &mut String) -> Result<(), AllocError>
         requires { self.old.line + 1 < 2 ^ 64 }
-        ensures ok { IfOk result (λ text. (whole : List ℕ) → option_copied line.entry ≡ kept whole → Acts S self.old whole (string_bytes text) self.new) }
+        ensures ok { OnOk result ((whole : List ℕ) → option_copied line.entry ≡ kept whole → Acts S self.old whole (string_bytes text.new) self.new) }
         ensures counted { OnOk result (self.new.line ≡ self.old.line + 1) }
     {
+        text.clear();
         let request = read_line(self.alloc, line)?;
         self.line += 1;
-        let text = self.meet(request)?;
-        Ok(text)
+        self.meet(request, text)
     }
 
     /// Closes what the script opened, and ends its index.
@@ -89,75 +90,88 @@ impl<const S: usize> Script<S> {
     }
 
     // Does what a line asks for.
-    fn meet(&mut self, request: Request) -> Result<String, AllocError>
-        ensures ok { IfOk result (λ text. Meets S self.old request (string_bytes text) self.new) }
+    fn meet(&mut self, request: Request, text: &mut String) -> Result<(), AllocError>
+        requires { string_bytes text.old ≡ [] }
+        ensures ok { OnOk result (Meets S self.old request (string_bytes text.new) self.new) }
         ensures line { self.new.line ≡ self.old.line }
     {
         match request {
-            Request::Insert(key, value) => self.stage(Write::Insert(key, value)),
-            Request::Upsert(key, value) => self.stage(Write::Upsert(key, value)),
-            Request::Remove(key) => self.stage(Write::Remove(key)),
-            Request::Delete(lower, upper) => self.stage(Write::RemoveRange(lower, upper)),
-            Request::Clear => self.stage(Write::Clear),
-            Request::Discard => self.discard(),
-            Request::Commit(None) => self.commit(ReadSet::Empty),
-            Request::Commit(Some(label)) => self.commit(ReadSet::Session(label)),
-            Request::Open(label) => self.call(label, DeskCall::Open(label)),
-            Request::Get(label, key) => self.call(label, DeskCall::Get(label, key)),
-            Request::Has(label, key) => self.call(label, DeskCall::Contains(label, key)),
+            Request::Insert(key, value) => self.stage(Write::Insert(key, value), text),
+            Request::Upsert(key, value) => self.stage(Write::Upsert(key, value), text),
+            Request::Remove(key) => self.stage(Write::Remove(key), text),
+            Request::Delete(lower, upper) => self.stage(Write::RemoveRange(lower, upper), text),
+            Request::Clear => self.stage(Write::Clear, text),
+            Request::Discard => self.discard(text),
+            Request::Commit(None) => self.commit(ReadSet::Empty, text),
+            Request::Commit(Some(label)) => self.commit(ReadSet::Session(label), text),
+            Request::Open(label) => self.call(label, DeskCall::Open(label), text),
+            Request::Get(label, key) => self.call(label, DeskCall::Get(label, key), text),
+            Request::Has(label, key) => self.call(label, DeskCall::Contains(label, key), text),
             Request::Range(label, lower, upper) => {
-                self.call(label, DeskCall::Range(label, lower, upper))
+                self.call(label, DeskCall::Range(label, lower, upper), text)
             }
-            Request::Near(label, key) => self.call(label, DeskCall::Locate(label, key)),
-            Request::Audit(label) => self.call(label, DeskCall::Audit(ReadSet::Session(label))),
-            Request::Close(label) => self.call(label, DeskCall::Close(label)),
-            Request::Len(label) => self.call(label, DeskCall::Len(label)),
-            Request::Number(label) => self.call(label, DeskCall::Number(label)),
-            Request::Reclaim => self.call(0, DeskCall::Reclaim),
-            Request::Slots => self.call(0, DeskCall::Slots),
-            Request::Faulty(fault) => fault_text(self.alloc, self.line, fault),
+            Request::Near(label, key) => self.call(label, DeskCall::Locate(label, key), text),
+            Request::Audit(label) => self.call(
+                label,
+                DeskCall::Audit(ReadSet::Session(label)),
+                text,
+            ),
+            Request::Close(label) => self.call(label, DeskCall::Close(label), text),
+            Request::Len(label) => self.call(label, DeskCall::Len(label), text),
+            Request::Number(label) => self.call(label, DeskCall::Number(label), text),
+            Request::Reclaim => self.call(0, DeskCall::Reclaim, text),
+            Request::Slots => self.call(0, DeskCall::Slots, text),
+            Request::Faulty(fault) => write_fault(text, self.line, fault),
         }
     }
 
-    fn stage(&mut self, write: Write<u64, Text>) -> Result<String, AllocError>
-        ensures ok { IfOk result (λ text. Stages self.old write (string_bytes text) self.new) }
+    fn stage(&mut self, write: Write<u64, Text>, text: &mut String) -> Result<(), AllocError>
+        requires { string_bytes text.old ≡ [] }
+        ensures ok { OnOk result (Stages self.old write (string_bytes text.new) self.new) }
         ensures line { self.new.line ≡ self.old.line }
     {
         self.staged.push(write)?;
-        let text = staged_text(self.alloc, self.staged.len())?;
-        Ok(text)
+        write_staged(text, self.staged.len())
     }
 
-    fn discard(&mut self) -> Result<String, AllocError>
-        ensures ok { IfOk result (λ text. Discards self.old (string_bytes text) self.new) }
+    fn discard(&mut self, text: &mut String) -> Result<(), AllocError>
+        requires { string_bytes text.old ≡ [] }
+        ensures ok { OnOk result (Discards self.old (string_bytes text.new) self.new) }
         ensures line { self.new.line ≡ self.old.line }
     {
-        let text = discarded_text(self.alloc, self.staged.len())?;
+        write_discarded(text, self.staged.len())?;
         self.staged.clear();
-        Ok(text)
+        Ok(())
     }
 
     // Makes a call that isn't a commit.
-    fn call(&mut self, label: u64, call: DeskCall<u64, Text>) -> Result<String, AllocError>
-        requires { IsNoCommit call }
-        ensures ok { IfOk result (λ text. Plays self.old label (Step nat_cmp S self.old.machine call) (string_bytes text) self.new) }
+    fn call(
+        &mut self,
+        label: u64,
+        call: DeskCall<u64, Text>,
+        text: &mut String,
+    ) -> Result<(), AllocError>
+        requires call { IsNoCommit call }
+        requires empty { string_bytes text.old ≡ [] }
+        ensures ok { OnOk result (Plays self.old label (Step nat_cmp S self.old.machine call) (string_bytes text.new) self.new) }
         ensures line { self.new.line ≡ self.old.line }
     {
         let reply = self.play(call)?;
-        let text = reply_text(self.alloc, self.line, label, &reply)?;
-        Ok(text)
+        write_reply(text, self.line, label, &reply)?;
+        Ok(())
     }
 
     // Commits what is staged.
-    fn commit(&mut self, on: ReadSet<u64, Text>) -> Result<String, AllocError>
-        ensures ok { IfOk result (λ text. Plays self.old 0 (CommitStep nat_cmp S self.old.machine on self.old.staged) (string_bytes text) self.new) }
+    fn commit(&mut self, on: ReadSet<u64, Text>, text: &mut String) -> Result<(), AllocError>
+        requires { string_bytes text.old ≡ [] }
+        ensures ok { OnOk result (Plays self.old 0 (CommitStep nat_cmp S self.old.machine on self.old.staged) (string_bytes text.new) self.new) }
         ensures line { self.new.line ≡ self.old.line }
     {
         let writes = mem::replace(&mut self.staged, Vec::new(self.alloc));
         let reply = self.play(DeskCall::Commit(on, writes))?;
-        let text = reply_text(self.alloc, self.line, 0, &reply)?;
+        write_reply(text, self.line, 0, &reply)?;
         self.take_back(reply);
-        Ok(text)
+        Ok(())
     }
 
     // Makes one call.
@@ -166,14 +180,7 @@ impl<const S: usize> Script<S> {
         ensures staged { self.new.staged ≡ self.old.staged }
         ensures line { self.new.line ≡ self.old.line }
     {
-        let calls = vec![in self.alloc; call]?;
-        match play_all(self.alloc, &mut self.index, &mut self.desk, calls) {
-            Ok(mut replies) => match replies.pop() {
-                Some(reply) => Ok(reply),
-                None => unreachable!(),
-            },
-            Err((_, refused)) => Err(refused),
-        }
+        play_one(self.alloc, &mut self.index, &mut self.desk, call)
     }
 
     // Stages again what a refused commit gives back.

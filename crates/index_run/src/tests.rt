@@ -1,8 +1,10 @@
 //! Scripts and their outputs, readers that cut and fail, writers that fail.
 
 use crate::line::LONGEST;
-use crate::reply::reply_text;
+use crate::reply::{LONGEST_FAULT, write_fault, write_reply};
+use crate::request::Fault;
 use crate::run::{RunError, outcome, run};
+use crate::script::Script;
 use ordered_index::{Accepted, Cause, DeskReply, Refused, Reply};
 use std::alloc::Global;
 use std::io::{self, Read, Write};
@@ -217,6 +219,56 @@ fn lines_at_fault_are_told_and_counted(rt: HostRuntime) -> Result<(), Fail> {
 }
 
 #[test]
+fn the_longest_reply_to_a_line_at_fault_has_35_bytes(rt: HostRuntime) -> Result<(), Fail> {
+    let faults = [
+        Fault::Long,
+        Fault::Text,
+        Fault::Command,
+        Fault::Words,
+        Fault::Number,
+        Fault::Bound,
+        Fault::Session,
+        Fault::Busy,
+    ];
+    let mut longest = 0;
+    for fault in faults {
+        let mut text = String::new(rt.alloc());
+        write_fault(&mut text, u64::MAX, fault)?;
+        longest = longest.max(text.len());
+    }
+    assert_eq!(rt; (longest, LONGEST_FAULT), (35, 35));
+    Ok(())
+}
+
+// A text that would grow shows that memory was taken.
+#[test]
+fn lines_at_fault_are_answered_in_the_memory_that_is_there(rt: HostRuntime) -> Result<(), Fail> {
+    let lines: [(Option<&[u8]>, &str); 10] = [
+        (None, "line 1: long\n"),
+        (Some(b"\xff"), "line 2: text\n"),
+        (Some(b"unknown"), "line 3: command\n"),
+        (Some(b"insert 1"), "line 4: words\n"),
+        (Some(b"insert x value"), "line 5: number\n"),
+        (Some(b"delete 1 2"), "line 6: bound\n"),
+        (Some(b"get 7 1"), "line 7: session\n"),
+        (Some(b"commit 7"), "line 8: session\n"),
+        (Some(b"open 3"), "open 3 at 0\n"),
+        (Some(b"open 3"), "line 10: busy\n"),
+    ];
+    let mut script = Script::<1>::new(rt.alloc(), 1, 1)?;
+    let mut text = String::with_capacity(rt.alloc(), LONGEST_FAULT)?;
+    for (line, reply) in lines {
+        let Ok(()) = script.act(line, &mut text) else {
+            panic!(rt; "memory was refused");
+        };
+        assert_eq!(rt; text.as_str(), reply);
+        assert_eq!(rt; text.capacity(), LONGEST_FAULT);
+    }
+    script.end();
+    Ok(())
+}
+
+#[test]
 fn lines_are_numbered_bad_ones_too(rt: HostRuntime) -> Result<(), Fail> {
     let out = output(
         rt.alloc(),
@@ -333,9 +385,11 @@ fn each_reply_to_a_write_has_a_word(rt: HostRuntime) -> Result<(), Fail> {
         Reply::Cleared,
     ]?;
     let accepted = DeskReply::Accepted(Accepted { number: 3, replies });
+    let mut text = String::from_str(rt.alloc(), "before ")?;
+    write_reply(&mut text, 1, 0, &accepted)?;
     assert_eq!(rt;
-        reply_text(rt.alloc(), 1, 0, &accepted)?.as_str(),
-        "ok 3 inserted duplicate upserted removed absent deleted cleared\n"
+        text.as_str(),
+        "before ok 3 inserted duplicate upserted removed absent deleted cleared\n"
     );
     Ok(())
 }
@@ -350,7 +404,9 @@ fn each_cause_of_a_refusal_has_a_word(rt: HostRuntime) -> Result<(), Fail> {
     for (cause, told) in cases {
         let writes = Vec::new(rt.alloc());
         let refused = DeskReply::Refused(Refused { cause, writes });
-        assert_eq!(rt; reply_text(rt.alloc(), 1, 0, &refused)?.as_str(), told);
+        let mut text = String::new(rt.alloc());
+        write_reply(&mut text, 1, 0, &refused)?;
+        assert_eq!(rt; text.as_str(), told);
     }
     Ok(())
 }

@@ -1,5 +1,0 @@
-use Rattle.std.proofs.Common.{append_assoc}
-use Rattle.index_run.proofs.reply.fault_text.Goals as goal
-
-pub returns : goal.returns
-returns c = rw (c.in_ok-text.ensures.ok, c.word-word.ensures) (simp append_assoc)
