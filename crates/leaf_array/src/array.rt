@@ -4,7 +4,7 @@ ghost use Rattle.std.specs.Prelude.{◌≡◌, ◌↔◌, ◌+◌, ◌==◌, ◌
 ghost use Rattle.std.specs.BTreeMap.{is_at};
 ghost use Rattle.std.specs.Map.{lookup_entry, keys_of};
 ghost use Rattle.std.specs.List.Sorted.{IsStrictlySortedBy};
-ghost use Rattle.std.specs.Fn.{FnOnceReturnsAt};
+ghost use Rattle.std.specs.Fn.{FnOnceReturnsAt, FnOnceTakesAt};
 ghost use Rattle.leaf_array.specs.Cells.{no_cells, in_slot, IsUsed, is_nil, entered, standing, rank_in, slot_of, first_above, last_below, lesser, has, inserted, appended, replaced, removed, removed_at, filled};
 ghost use Rattle.leaf_array.specs.Words.{word};
 ghost use Rattle.leaf_array.specs.Results.{IsSuccess, IsDuplicate, IsFull, given_back, is_repeated, is_refused, is_removal};
@@ -476,11 +476,13 @@ impl<K: Ord, V> Array<K, V> {
     }
 
     /// Removes the pair with this key, if the condition answers true of its value.
+    ///
+    /// The condition is asked once where the array isn't frozen and has the key, else not at all.
     #[inline]
     pub fn remove_if<F: FnOnce(&V) -> bool>(&mut self, key: &K, condition: F) -> RemoveResult
     where
         F: Drop,
-        requires { F.IsAlwaysCallable condition }
+        requires { self.old.frozen ≡ false → IfSome (lookup_entry (is_at (K.cmp key.now)) self.old.pairs) (λ e. FnOnceTakesAt F.FnOnce condition e.1) }
         ensures frozen { result ≡ Frozen ↔ self.old.frozen ≡ true }
         ensures absent { self.old.frozen ≡ false → lookup_entry (is_at (K.cmp key.now)) self.old.pairs ≡ None → result ≡ Fail }
         ensures asked { self.old.frozen ≡ false → IfSome (lookup_entry (is_at (K.cmp key.now)) self.old.pairs) (λ e. FnOnceReturnsAt F.FnOnce condition e.1 (is_removal result)) }
@@ -526,7 +528,7 @@ fn retires(retired: bool, len: u8, frozen: bool) -> bool
 /// What the condition answers, asked once.
 #[inline(always)]
 fn answer<T, F: FnOnce(&T) -> bool>(condition: F, value: &T) -> bool
-    requires { F.IsAlwaysCallable condition }
+    requires { FnOnceTakesAt F.FnOnce condition value.now }
     ensures { FnOnceReturnsAt F.FnOnce condition value.now result }
 {
     condition(value)

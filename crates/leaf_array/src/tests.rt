@@ -566,6 +566,33 @@ fn a_refused_preparation_distributes_nothing(rt: HostRuntime) {
     assert!(rt; array.is_frozen());
 }
 
+// The conditions and functions below may be called at numbers up to 5 alone, so each call of this test
+// stands because it calls them where it says, and nowhere else.
+#[test]
+fn what_may_be_called_at_few_values_serves(rt: HostRuntime) {
+    let mut frozen: Array<u64, u64> = Array::new_frozen();
+    assert_eq!(rt;
+        frozen.remove_if(&1, |val| 5 - *val > 2),
+        RemoveResult::Frozen
+    );
+    let mut array: Array<u64, u64> = Array::new();
+    assert_eq!(rt; array.remove_if(&1, |val| 5 - *val > 2), RemoveResult::Fail);
+    assert_eq!(rt; array.fold(7, |made, key, _| made + (5 - *key)), 7);
+    let mut left: u8 = 0;
+    array.for_each_pos(|frozen| frozen, |slot| left = 5 - slot);
+    let shown: Result<(), ()> = array.for_each_all(
+        |_, _| true,
+        |slot, _, _, _| {
+            left = 5 - slot;
+            Ok(())
+        },
+    );
+    assert!(rt; shown.is_ok());
+    let dealt = array.distribute(|_, len, _| 5 - len < 5, |_, _, _, place| left = 5 - place);
+    assert!(rt; !dealt);
+    assert_eq!(rt; left, 0);
+}
+
 #[test]
 fn reachable_slots_are_shown_rising(rt: HostRuntime) {
     let mut array = holding(&[10, 20, 30, 40, 50]);

@@ -3,7 +3,7 @@
 ghost use Rattle.std.specs.Prelude.{◌≡◌, IsTrue, Bool, true, false, Ok};
 ghost use Rattle.std.specs.List.{FoldsTo, enumerate_from};
 ghost use Rattle.leaf_array.specs.Words.{boundary};
-ghost use Rattle.leaf_array.specs.Calls.{ranked_slots, slots_in_order, IsDealt, IsFolded, IsShown, TriesEach};
+ghost use Rattle.leaf_array.specs.Calls.{ranked_slots, slots_in_order, IsDealt, IsFolded, IsShown, TakesDealt, TakesEach, TakesFolded, TakesShown, TriesEach};
 
 use crate::array::Array;
 use crate::place::slot_of;
@@ -20,8 +20,8 @@ impl<K: Ord, V> Array<K, V> {
         dist: F,
     ) -> bool
         requires open { self.old.frozen ≡ false }
-        requires asked { P.IsAlwaysCallable prepare }
-        requires dealt { F.IsAlwaysCallable dist }
+        requires asked { P.pre prepare (boundary self.old).0 (boundary self.old).1 (boundary self.old).2 }
+        requires dealt { P.post prepare (boundary self.old).0 (boundary self.old).1 (boundary self.old).2 true → TakesEach (TakesDealt F.FnMut (boundary self.old).0) (IsDealt F.FnMut (boundary self.old).0) dist (enumerate_from 0 self.old.pairs) }
         ensures frozen { self.new ≡ record self.old { frozen = true } }
         ensures prepared { P.post prepare (boundary self.old).0 (boundary self.old).1 (boundary self.old).2 result }
         ensures dealt { IsTrue result → (last : F) × FoldsTo (IsDealt F.FnMut (boundary self.old).0) dist (enumerate_from 0 self.old.pairs) last }
@@ -37,7 +37,7 @@ impl<K: Ord, V> Array<K, V> {
 
     /// Calls `dist` at each reachable key and value, with a boundary and the place of the pair.
     fn deal<F: FnMut(&K, &V, u8, u8)>(&self, boundary: u8, mut dist: F)
-        requires { F.IsAlwaysCallable dist }
+        requires { TakesEach (TakesDealt F.FnMut boundary) (IsDealt F.FnMut boundary) dist (enumerate_from 0 self.now.pairs) }
         ensures { (last : F) × FoldsTo (IsDealt F.FnMut boundary) dist (enumerate_from 0 self.now.pairs) last }
     {
         let mut at = 0;
@@ -52,8 +52,8 @@ impl<K: Ord, V> Array<K, V> {
 
     /// Calls `f` at each slot whose pair can be reached, rising, if `p` answers true of whether the array is frozen.
     pub fn for_each_pos<P: FnOnce(bool) -> bool, F: FnMut(u8)>(&self, p: P, f: F)
-        requires asked { P.IsAlwaysCallable p }
-        requires shown { F.IsAlwaysCallable f }
+        requires asked { P.pre p self.now.frozen }
+        requires shown { P.post p self.now.frozen true → TakesEach (λ f slot. F.pre f slot) (λ f slot g. F.step f slot tt g) f (ranked_slots self.now.labels) }
         ensures { (wanted : Bool) × P.post p self.now.frozen wanted × (IsTrue wanted → (last : F) × FoldsTo (λ f slot g. F.step f slot tt g) f (ranked_slots self.now.labels) last) }
     {
         if p(self.is_frozen()) {
@@ -63,7 +63,7 @@ impl<K: Ord, V> Array<K, V> {
 
     /// Calls `f` at each slot whose pair can be reached, rising.
     fn visit<F: FnMut(u8)>(&self, mut f: F)
-        requires { F.IsAlwaysCallable f }
+        requires { TakesEach (λ f slot. F.pre f slot) (λ f slot g. F.step f slot tt g) f (ranked_slots self.now.labels) }
         ensures { (last : F) × FoldsTo (λ f slot g. F.step f slot tt g) f (ranked_slots self.now.labels) last }
     {
         let mut slot: u8 = 0;
@@ -84,8 +84,8 @@ impl<K: Ord, V> Array<K, V> {
         P: FnOnce(bool, bool) -> bool,
         F: FnMut(u8, u8, Option<(&K, &V)>, bool) -> Result<(), E>,
     >(&self, p: P, f: F) -> Result<(), E>
-        requires asked { P.IsAlwaysCallable p }
-        requires shown { F.IsAlwaysCallable f }
+        requires asked { P.pre p self.now.frozen self.now.retired }
+        requires shown { P.post p self.now.frozen self.now.retired true → TakesEach (TakesShown F.FnMut self.now) (λ f slot g. IsShown F.FnMut self.now f slot (Ok tt) g) f (slots_in_order self.now.used) }
         ensures { (wanted : Bool) × P.post p self.now.frozen self.now.retired wanted × (IsTrue wanted → (last : F) × TriesEach (IsShown F.FnMut self.now) f (slots_in_order self.now.used) result last) × (wanted ≡ false → result ≡ Ok tt) }
     {
         if p(self.is_frozen(), self.is_retired()) {
@@ -100,7 +100,7 @@ impl<K: Ord, V> Array<K, V> {
         &self,
         mut f: F,
     ) -> Result<(), E>
-        requires { F.IsAlwaysCallable f }
+        requires { TakesEach (TakesShown F.FnMut self.now) (λ f slot g. IsShown F.FnMut self.now f slot (Ok tt) g) f (slots_in_order self.now.used) }
         ensures { (last : F) × TriesEach (IsShown F.FnMut self.now) f (slots_in_order self.now.used) result last }
     {
         let mut place: u8 = 0;
@@ -121,7 +121,7 @@ impl<K: Ord, V> Array<K, V> {
 
     /// Makes one value of all pairs, by rising keys.
     pub fn fold<B, F: FnMut(B, &K, &V) -> B>(&self, init: B, mut f: F) -> B
-        requires { F.IsAlwaysCallable f }
+        requires { TakesEach {P = F × B} (TakesFolded F.FnMut) (IsFolded F.FnMut) (f, init) self.now.pairs }
         ensures { (last : F) × FoldsTo {P = F × B} (IsFolded F.FnMut) (f, init) self.now.pairs (last, result) }
     {
         let mut made = init;

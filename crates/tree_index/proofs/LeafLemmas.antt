@@ -113,3 +113,12 @@ value_asked cmp key (p ∷ ps) P h =
       | true ↦ λ h. h
       | false ↦ λ h. value_asked cmp key ps P h
     ]) h
+
+-- and the other way round
+pub entry_asked : {K V : Type 0} (cmp : K → K → Ordering) (key : K) (ps : List (K × V)) (P : V → Type 0) → IfSome (value_at cmp key ps) P → IfSome (lookup_entry (is_at (cmp key)) ps) (λ e. P e.1)
+entry_asked cmp key [] P h = h
+entry_asked cmp key (p ∷ ps) P h =
+    (elim (is_at (cmp key) p.0) as (λ b. IfSome (cond b (Some p.1) (value_at cmp key ps)) P → IfSome (cond b (Some p) (lookup_entry (is_at (cmp key)) ps)) (λ e. P e.1)) [
+      | true ↦ λ h. h
+      | false ↦ λ h. entry_asked cmp key ps P h
+    ]) h

@@ -9,6 +9,7 @@ pub mod Ends
 pub mod LeafCursor
 pub mod Standing
 pub mod Nodes
+pub mod Reads
 pub mod Proximity
 pub use Rattle.leaf_array.specs.Pairs
 pub use Rattle.leaf_array.specs.Edits

@@ -7,7 +7,7 @@ ghost use Rattle.tree_index.specs.Shape.{way};
 ghost use Rattle.tree_index.specs.Depth.{IsAbove, ascents};
 ghost use Rattle.tree_index.specs.Content.{content_of, pairs_of, IsSound, HasRoom, leaf_on_way};
 ghost use Rattle.leaf_array.specs.Edits.{removed, upserted};
-ghost use Rattle.std.specs.Fn.{FnOnceReturnsAt};
+ghost use Rattle.std.specs.Fn.{FnOnceReturnsAt, FnOnceTakesAt};
 ghost use Rattle.leaf_array.specs.Pairs.{has_key};
 ghost use Rattle.leaf_array.specs.Values.{ClonesAreSame};
 ghost use Rattle.leaf_array.specs.Results.{IsSuccess, IsDuplicate, IsFull, given_back};
@@ -207,7 +207,7 @@ impl<K: Ord, V> Arenas<K, V> {
     pub(crate) fn remove_if<F: FnOnce(&V) -> bool>(&mut self, key: &K, condition: F) -> bool
     where
         F: Drop,
-        requires callable { F.IsAlwaysCallable condition }
+        requires callable { IfSome (lookup_entry (is_at (K.cmp key.now)) (pairs_of self.old)) (λ e. FnOnceTakesAt F.FnOnce condition e.1) }
         requires sound { IsSound K.cmp self.old }
         ensures sound { IsSound K.cmp self.new }
         ensures depth { self.new.height ≡ self.old.height }

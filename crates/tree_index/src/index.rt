@@ -3,7 +3,7 @@
 ghost use Rattle.std.specs.Prelude.{◌≡◌, ◌≤◌, ◌<◌, ◌^◌, ◌+◌, ◌==◌, ◌↔◌, IsTrue, IsSome, IfSome, IfErr, OnOk, OnErr, IsOk, IfOk, MatchOption, [], Some, None, true, false, not, length, option_copied};
 ghost use Rattle.std.specs.BTreeMap.{is_at};
 ghost use Rattle.std.specs.Map.{lookup_entry};
-ghost use Rattle.std.specs.Fn.{FnOnceReturnsAt};
+ghost use Rattle.std.specs.Fn.{FnOnceReturnsAt, FnOnceTakesAt};
 ghost use Rattle.std.specs.List.{filter};
 ghost use Rattle.std.specs.BTreeMap.Range.{range_contains};
 ghost use Rattle.leaf_array.specs.Edits.{inserted, removed, upserted};
@@ -14,6 +14,7 @@ ghost use Rattle.tree_index.specs.declared.cursor.End.TheVariants.{Unopened};
 ghost use Rattle.tree_index.specs.Cursor.{whole};
 ghost use Rattle.tree_index.specs.Nodes.{is_internal, pairs_in};
 ghost use Rattle.tree_index.specs.Proximity.{IsLocated};
+ghost use Rattle.tree_index.specs.Reads.{FnOnceTakesPair};
 ghost use Rattle.tree_index.specs.Depth.{IsAbove};
 ghost use Rattle.tree_index.specs.Tree.{IsDuplicate, given_back};
 
@@ -186,11 +187,12 @@ impl<K: Ord, V> TreeIndex<K, V> {
         }
     }
 
-    /// Calls `f` on the pair with this key, once, and gives what it answers.
+    /// Calls `f` on the pair with this key, once, and gives what it answers. Where no pair has the key `f`
+    /// isn't called.
     pub fn peek_with<R, F: FnOnce(&K, &V) -> R>(&self, key: &K, f: F) -> Option<R>
     where
         F: Drop,
-        requires { F.IsAlwaysCallable f }
+        requires { IfSome (lookup_entry (is_at (K.cmp key.now)) self.now.pairs) (FnOnceTakesPair F.FnOnce f) }
         ensures { MatchOption result (lookup_entry (is_at (K.cmp key.now)) self.now.pairs ≡ None) (λ r. (k : _) × (v : _) × (lookup_entry (is_at (K.cmp key.now)) self.now.pairs ≡ Some (k.now, v.now)) × F.post f k v r) }
     {
         match self.arenas.search_entry(key) {
@@ -199,11 +201,12 @@ impl<K: Ord, V> TreeIndex<K, V> {
         }
     }
 
-    /// Calls `f` on the pair with this key, once, and gives what it answers. No lock is taken.
+    /// Calls `f` on the pair with this key, once, and gives what it answers. Where no pair has the key `f`
+    /// isn't called. No lock is taken.
     pub fn read_sync<R, F: FnOnce(&K, &V) -> R>(&self, key: &K, f: F) -> Option<R>
     where
         F: Drop,
-        requires { F.IsAlwaysCallable f }
+        requires { IfSome (lookup_entry (is_at (K.cmp key.now)) self.now.pairs) (FnOnceTakesPair F.FnOnce f) }
         ensures { MatchOption result (lookup_entry (is_at (K.cmp key.now)) self.now.pairs ≡ None) (λ r. (k : _) × (v : _) × (lookup_entry (is_at (K.cmp key.now)) self.now.pairs ≡ Some (k.now, v.now)) × F.post f k v r) }
     {
         self.peek_with(key, f)
@@ -277,7 +280,7 @@ impl<K: Ord, V> TreeIndex<K, V> {
     pub fn remove_if_sync<F: FnOnce(&V) -> bool>(&mut self, key: &K, condition: F) -> bool
     where
         F: Drop,
-        requires { F.IsAlwaysCallable condition }
+        requires { IfSome (value_at K.cmp key.now self.old.pairs) (FnOnceTakesAt F.FnOnce condition) }
         ensures absent { value_at K.cmp key.now self.old.pairs ≡ None → result ≡ false }
         ensures asked { IfSome (value_at K.cmp key.now self.old.pairs) (λ v. FnOnceReturnsAt F.FnOnce condition v result) }
         ensures removed { result ≡ true → self.new.pairs ≡ removed K.cmp key.now self.old.pairs }

@@ -12,7 +12,7 @@
 ghost use Rattle.std.specs.Prelude.{◌≡◌, ◌≤◌, ◌<◌, ◌+◌, ◌-◌, ◌||◌, ◌&&◌, ◌==◌, IsTrue, IsSome, IfSome, IfOk, Some, None, true, false, not, cond, length, slice_get, take, drop};
 ghost use Rattle.std.specs.BTreeMap.{is_at};
 ghost use Rattle.std.specs.Map.{lookup_entry};
-ghost use Rattle.std.specs.Fn.{FnOnceReturnsAt};
+ghost use Rattle.std.specs.Fn.{FnOnceReturnsAt, FnOnceTakesAt};
 ghost use Rattle.std.specs.List.{filter};
 ghost use Rattle.std.specs.Range.Bound.{bound_map};
 ghost use Rattle.std.specs.BTreeMap.Range.{range_contains, is_past_end};
@@ -95,7 +95,7 @@ impl<K: Ord, V> Leaf<K, V> {
     pub(crate) fn remove_if<F: FnOnce(&V) -> bool>(&mut self, key: &K, condition: F) -> bool
     where
         F: Drop,
-        requires callable { F.IsAlwaysCallable condition }
+        requires callable { IfSome (lookup_entry (is_at (K.cmp key.now)) self.old.array.pairs) (λ e. FnOnceTakesAt F.FnOnce condition e.1) }
         requires thawed { self.old.array.frozen ≡ false }
         ensures thawed { self.new.array.frozen ≡ false }
         ensures prev { self.new.prev ≡ self.old.prev }

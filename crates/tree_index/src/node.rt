@@ -8,11 +8,12 @@
 //! }
 //! ```
 
-ghost use Rattle.std.specs.Prelude.{◌≡◌, ◌≢◌, ◌<◌, ◌≤◌, ◌==◌, ◌++◌, ◌∷◌, ◌↔◌, IsTrue, MatchOption, Some, None};
+ghost use Rattle.std.specs.Prelude.{◌≡◌, ◌≢◌, ◌<◌, ◌≤◌, ◌==◌, ◌++◌, ◌∷◌, ◌↔◌, IsTrue, IfSome, MatchOption, Some, None};
 ghost use Rattle.std.specs.BTreeMap.{is_at, insert_entry};
 ghost use Rattle.std.specs.Map.{lookup, lookup_entry};
 ghost use Rattle.tree_index.specs.LeafCursor.{IsPart};
 ghost use Rattle.tree_index.specs.Nodes.{is_internal, pairs_in};
+ghost use Rattle.tree_index.specs.Reads.{FnOnceTakesPair};
 ghost use Rattle.tree_index.specs.Standing.{pairs_below, IsStanding};
 ghost use Rattle.tree_index.specs.Shape.{child_for, first_child, IsNode};
 
@@ -58,7 +59,7 @@ impl<'t, K: Ord, V> Node<'t, K, V> {
     pub fn read_entry<R, F: FnOnce(&K, &V) -> R>(&self, key: &K, f: F) -> Option<R>
     where
         F: Drop,
-        requires { F.IsAlwaysCallable f }
+        requires { IfSome (lookup_entry (is_at (K.cmp key.now)) (pairs_in self.now)) (FnOnceTakesPair F.FnOnce f) }
         ensures { MatchOption result (lookup_entry (is_at (K.cmp key.now)) (pairs_in self.now) ≡ None) (λ r. (k : _) × (v : _) × (lookup_entry (is_at (K.cmp key.now)) (pairs_in self.now) ≡ Some (k.now, v.now)) × F.post f k v r) }
     {
         match self {

@@ -34,6 +34,24 @@ fn ascending_keys_up_to_225_make_one_node(rt: HostRuntime) -> Result<(), Fail> {
     Ok(())
 }
 
+// The closures below may be called at values up to 5 alone, so each call of this test stands because it
+// calls them on the pair that is there, and on no other.
+#[test]
+fn closures_that_take_few_values_serve(rt: HostRuntime) -> Result<(), Fail> {
+    let mut tree: TreeIndex<u64, u64> = TreeIndex::new(rt.alloc());
+    assert!(rt; tree.peek_with(&1, |_, val| 5 - *val).is_none());
+    assert!(rt; tree.read_sync(&1, |_, val| 5 - *val).is_none());
+    assert!(rt; !tree.remove_if_sync(&1, |val| 5 - *val > 2));
+    let Ok(()) = tree.insert_sync(1, 3) else {
+        panic!(rt; "memory refused");
+    };
+    assert_eq!(rt; tree.peek_with(&1, |_, val| 5 - *val), Some(2));
+    assert_eq!(rt; tree.read_sync(&1, |_, val| 5 - *val), Some(2));
+    assert!(rt; !tree.remove_if_sync(&1, |val| 5 - *val > 2));
+    assert!(rt; tree.remove_if_sync(&1, |val| 5 - *val == 2));
+    Ok(())
+}
+
 #[test]
 fn keys_in_any_order_are_found_and_removed(rt: HostRuntime) -> Result<(), Fail> {
     let mut tree: TreeIndex<u64, u64> = TreeIndex::new(rt.alloc());

@@ -1,8 +1,9 @@
 //! A node over other nodes.
 
-ghost use Rattle.std.specs.Prelude.{◌≡◌, MatchOption, Some, None};
+ghost use Rattle.std.specs.Prelude.{◌≡◌, IfSome, MatchOption, Some, None};
 ghost use Rattle.std.specs.BTreeMap.{is_at};
 ghost use Rattle.std.specs.Map.{lookup_entry};
+ghost use Rattle.tree_index.specs.Reads.{FnOnceTakesPair};
 
 use crate::node::Standing;
 use std::marker::Model;
@@ -36,7 +37,7 @@ impl<'t, K: Ord, V> InternalNode<'t, K, V> {
     pub fn read_entry<R, F: FnOnce(&K, &V) -> R>(&self, key: &K, f: F) -> Option<R>
     where
         F: Drop,
-        requires { F.IsAlwaysCallable f }
+        requires { IfSome (lookup_entry (is_at (K.cmp key.now)) self.now) (FnOnceTakesPair F.FnOnce f) }
         ensures { MatchOption result (lookup_entry (is_at (K.cmp key.now)) self.now ≡ None) (λ r. (k : _) × (v : _) × (lookup_entry (is_at (K.cmp key.now)) self.now ≡ Some (k.now, v.now)) × F.post f k v r) }
     {
         self.standing.read_entry(key, f)

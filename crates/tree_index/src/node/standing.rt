@@ -1,9 +1,10 @@
 //! A number in the arenas at which a tree stands, which the kinds of nodes share.
 
-ghost use Rattle.std.specs.Prelude.{◌≡◌, ◌≢◌, ◌+◌, MatchOption, Some, None};
+ghost use Rattle.std.specs.Prelude.{◌≡◌, ◌≢◌, ◌+◌, IfSome, MatchOption, Some, None};
 ghost use Rattle.std.specs.BTreeMap.{is_at};
 ghost use Rattle.std.specs.Map.{lookup_entry};
 ghost use Rattle.tree_index.specs.LeafCursor.{IsPart};
+ghost use Rattle.tree_index.specs.Reads.{FnOnceTakesPair};
 ghost use Rattle.tree_index.specs.Standing.{pairs_below, IsStanding};
 
 use crate::arenas::Arenas;
@@ -22,7 +23,7 @@ impl<'t, K: Ord, V> Standing<'t, K, V> {
     pub(crate) fn read_entry<R, F: FnOnce(&K, &V) -> R>(&self, key: &K, f: F) -> Option<R>
     where
         F: Drop,
-        requires callable { F.IsAlwaysCallable f }
+        requires callable { IfSome (lookup_entry (is_at (K.cmp key.now)) (pairs_below self.now)) (FnOnceTakesPair F.FnOnce f) }
         requires stands { IsStanding K.cmp self.now }
         ensures { MatchOption result (lookup_entry (is_at (K.cmp key.now)) (pairs_below self.now) ≡ None) (λ r. (k : _) × (v : _) × (lookup_entry (is_at (K.cmp key.now)) (pairs_below self.now) ≡ Some (k.now, v.now)) × F.post f k v r) }
     {

@@ -1,12 +1,11 @@
 use Rattle.std.proofs.Common.{◌-◌, length, drop}
-use denote.Param.Always.{always_mut}
 use Rattle.std.specs.List.{FoldsTo, enumerate_from}
-use Rattle.leaf_array.specs.Calls.{IsDealt}
+use Rattle.leaf_array.specs.Calls.{IsDealt, TakesDealt, TakesEach}
 use Rattle.leaf_array.proofs.array.Array.deal.Given as goal
 
 abbrev pub invariant-loop-at : goal.invariant-loop-at
 invariant-loop-at g l = record {
-  again : always_mut g.F.FnMut l.dist;
+  again : TakesEach (TakesDealt g.F.FnMut l.boundary) (IsDealt g.F.FnMut l.boundary) l.dist (enumerate_from l.at (drop l.at l.self.pairs));
   rest : (q : _) → FoldsTo (IsDealt g.F.FnMut l.boundary) l.dist (enumerate_from l.at (drop l.at l.self.pairs)) q → FoldsTo (IsDealt g.F.FnMut l.boundary) l.fn.dist (enumerate_from 0 l.self.pairs) q;
 }
 

@@ -1,7 +1,13 @@
-use Rattle.std.proofs.Common.{refl, inl, inr}
-use denote.Param.Always.{mut_next}
-use Rattle.leaf_array.proofs.CallLemmas.{order_more, shown_at}
+use Rattle.std.proofs.Common.{Ok, refl, inl, inr}
+use Rattle.leaf_array.specs.Calls.{IsShown, TakesShown}
+use Rattle.leaf_array.proofs.CallLemmas.{order_more, shown_at, takes_at, takes_first, takes_rest}
 use Rattle.leaf_array.proofs.array.Array.show.Goals as goal
+
+pub f-requires : goal.f-requires
+f-requires g c =
+    let all = order_more c.loop-place.place c.args.self.now.used (rw c.used.ensures.count at c.loop-place-test.true) in
+    takes_at g.F.FnMut c.args.self.now c.loop-place.f c.slot_of-slot.result c.rank_of-rank.result c.loop-place.place c.in-Some.pair c.slot_of-slot.ensures.slot c.rank_of-rank.ensures.rank (rw c.in-Some.is at c.entry.ensures.pair)
+    (takes_first (TakesShown g.F.FnMut c.args.self.now) (λ f slot h. IsShown g.F.FnMut c.args.self.now f slot (Ok tt) h) _ _ _ (rw all at c.loop-place.invariant.again))
 
 pub returns-in-Err : goal.returns-in-Err
 returns-in-Err g c =
@@ -16,6 +22,6 @@ loop-place-preserved g c =
     c.slot_of-slot.ensures.slot c.rank_of-rank.ensures.rank (rw c.in-Some.is at c.entry.ensures.pair) c.f.ensures in
     let all = order_more c.loop-place.place c.args.self.now.used (rw c.used.ensures.count at c.loop-place-test.true) in
     record {
-      again = mut_next g.F.FnMut _ _ _ _ _ c.f.ensures refl c.loop-place.invariant.again;
+      again = takes_rest (TakesShown g.F.FnMut c.args.self.now) (λ f slot h. IsShown g.F.FnMut c.args.self.now f slot (Ok tt) h) _ _ _ _ (rw all at c.loop-place.invariant.again) (rw c.in-Ok.is at shown);
       rest = λ r q h. c.loop-place.invariant.rest r q (rw all (inl (c.f.new.self, rw c.in-Ok.is at shown, h)));
     }

@@ -1,4 +1,4 @@
-use Rattle.std.proofs.Common.{◌≡◌, true, false, cond, None, sym, ap, ◌∙◌}
+use Rattle.std.proofs.Common.{cond, None, sym, ap, ◌∙◌}
 use Rattle.std.specs.Range.Bound.{bound_map}
 use Rattle.std.specs.Borrow.{Bor}
 use Rattle.tree_index.specs.Content.{pairs_of}

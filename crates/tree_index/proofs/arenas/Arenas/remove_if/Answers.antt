@@ -22,6 +22,12 @@ remove_if-answer-requires-clause-thawed g c =
     let s = c.requires.sound in
     thawed_on_way cmp o key a s n on l here
 
+pub remove_if-answer-requires-clause-callable : goal.remove_if-answer-requires-clause-callable
+remove_if-answer-requires-clause-callable g c =
+    let l : Leaf g.row.K.Denot g.row.V.Denot = c.in-Some.leaf.now in
+    let here : get c.args.self.now.leaves c.leaf_of-at.result ≡ Some l = sym c.in-Some.ensures.value in
+    rw (lookup_written g.K.Ord.cmp g.met.K.Ord.total c.args.key.now c.args.self.now c.requires.sound c.leaf_of-at.result c.leaf_of-at.ensures l here) at c.requires.callable
+
 pub overflow_sub-self : goal.overflow_sub-self
 overflow_sub-self g c =
     let cmp = g.K.Ord.cmp in

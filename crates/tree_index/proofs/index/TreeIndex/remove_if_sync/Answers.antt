@@ -1,7 +1,10 @@
 use Rattle.std.proofs.Common.{sym}
 use Rattle.tree_index.specs.Content.{pairs_of}
-use Rattle.tree_index.proofs.LeafLemmas.{value_asked, value_none}
+use Rattle.tree_index.proofs.LeafLemmas.{value_asked, entry_asked, value_none}
 use Rattle.tree_index.proofs.index.TreeIndex.remove_if_sync.Goals as goal
+
+pub remove_if-requires-clause-callable : goal.remove_if-requires-clause-callable
+remove_if-requires-clause-callable g c = entry_asked g.K.Ord.cmp c.args.key.now (pairs_of c.self.inside.arenas) _ (rw (sym c.self.view_is) at c.requires)
 
 pub returns-clause-absent : goal.returns-clause-absent
 returns-clause-absent g c = rw (sym c.self.view_is) (λ e. c.remove_if.ensures.absent (value_none g.K.Ord.cmp c.args.key.now (pairs_of c.self.inside.arenas) e))
