@@ -73,6 +73,11 @@ reachable_in slot [] ps = None
 reachable_in slot (l ∷ ls) [] = None
 reachable_in slot (l ∷ ls) (p ∷ ps) = cond (l.0 == slot) (Some p) (reachable_in slot ls ps)
 
+-- the key of what was removed or replaced last
+abbrev pub newest : {K V : Type 0} → List (ℕ × (K × V)) → Option K
+newest [] = None
+newest (b ∷ bs) = Some b.1.0
+
 -- the pair that was buried in a slot
 abbrev pub buried_in : {K V : Type 0} → ℕ → List (ℕ × (K × V)) → Option (K × V)
 buried_in slot [] = None

@@ -1,11 +1,11 @@
 //! An array of at most fifteen pairs, by rising keys.
 
-ghost use Rattle.std.specs.Prelude.{◌≡◌, ◌↔◌, ◌+◌, ◌==◌, ◌<◌, ◌≤◌, ◌||◌, ◌&&◌, ◌-◌, not, take, drop, IsTrue, IsSome, [], length, slice_get, true, false, Some, None, MatchOption, IfSome, IfOk, IfErr};
+ghost use Rattle.std.specs.Prelude.{◌≡◌, ◌↔◌, ◌+◌, ◌==◌, ◌<◌, ◌≤◌, ◌||◌, ◌&&◌, ◌-◌, not, take, drop, IsTrue, IsSome, [], length, slice_get, true, false, Some, None, MatchOption, IfSome, IfOk, IfErr, option_copied};
 ghost use Rattle.std.specs.BTreeMap.{is_at};
 ghost use Rattle.std.specs.Map.{lookup_entry, keys_of};
 ghost use Rattle.std.specs.List.Sorted.{IsStrictlySortedBy};
 ghost use Rattle.std.specs.Fn.{FnOnceReturnsAt, FnOnceTakesAt};
-ghost use Rattle.leaf_array.specs.Cells.{no_cells, in_slot, IsUsed, is_nil, entered, standing, rank_in, slot_of, first_above, last_below, lesser, has, inserted, appended, replaced, removed, removed_at, filled};
+ghost use Rattle.leaf_array.specs.Cells.{no_cells, in_slot, IsUsed, is_nil, entered, standing, rank_in, slot_of, first_above, last_below, newest, lesser, has, inserted, appended, replaced, removed, removed_at, filled};
 ghost use Rattle.leaf_array.specs.Words.{word};
 ghost use Rattle.leaf_array.specs.Results.{IsSuccess, IsDuplicate, IsFull, given_back, is_repeated, is_refused, is_removal};
 ghost use Rattle.leaf_array.specs.declared.result.RemoveResult.TheVariants.{Retired, Fail, Frozen};
@@ -165,6 +165,15 @@ impl<K: Ord, V> Array<K, V> {
     {
         let _ = &self.len;
         self.slots.in_slot(slot)
+    }
+
+    /// The key of the pair that was removed or replaced last; none where nothing was, or it was dropped since
+    /// by [`Array::pack`] or in a cut.
+    pub fn last_removed(&self) -> Option<&K>
+        ensures { option_copied result ≡ newest self.now.buried }
+    {
+        let _ = &self.len;
+        self.slots.newest()
     }
 
     /// The rank of a slot, 0 if its pair can't be reached.

@@ -3,10 +3,10 @@
 //! A place for each pair of type parameters stands in a field of its own: an array of them would ask each caller that it fits in memory.
 //! A row of fifteen compiles to straight code for all of them.
 
-ghost use Rattle.std.specs.Prelude.{◌≡◌, ◌+◌, ◌<◌, ◌≤◌, ◌++◌, ◌∷◌, [], List, length, take, drop, IsTrue, IsSome, Some, None, MatchOption, slice_index_or};
+ghost use Rattle.std.specs.Prelude.{◌≡◌, ◌+◌, ◌<◌, ◌≤◌, ◌++◌, ◌∷◌, [], List, length, take, drop, IsTrue, IsSome, Some, None, MatchOption, option_copied, slice_index_or};
 ghost use Rattle.leaf_array.specs.declared.place.Place.TheVariants.{Empty};
-ghost use Rattle.leaf_array.specs.Cells.{rank_in, first_above, last_below, entered};
-ghost use Rattle.leaf_array.specs.Places.{live_pair, labels_above, top, has_room, pushed, sunk, buried, renewed, died, vacated, packed, pair_at_slot, stands, below, least};
+ghost use Rattle.leaf_array.specs.Cells.{rank_in, first_above, last_below, newest, entered};
+ghost use Rattle.leaf_array.specs.Places.{live_pair, dead_pairs, labels_above, top, has_room, pushed, sunk, buried, renewed, died, vacated, packed, pair_at_slot, stands, below, least};
 
 use crate::place::{Place, compare, fill, pair_in_slot, pair_of, renew, renumber, vacate, widened};
 use std::cmp::Ordering;
@@ -67,6 +67,10 @@ pub(crate) trait Row<K: Ord, V> {
     /// The pair with this slot, dead or alive.
     fn in_slot(&self, slot: u8) -> Option<(&K, &V)>
         ensures { MatchOption result (pair_at_slot slot (places self.now) ≡ None) (λ e. pair_at_slot slot (places self.now) ≡ Some (e.0.now, e.1.now)) };
+
+    /// The key of the first dead place.
+    fn newest(&self) -> Option<&K>
+        ensures { option_copied result ≡ newest (dead_pairs (places self.now)) };
 
     /// Puts a place in at the front. Those up to the first that is empty move on.
     fn push(&mut self, place: Place<K, V>)
@@ -242,6 +246,14 @@ impl<K: Ord, V> Row<K, V> for Last<K, V> {
     }
 
     #[inline(always)]
+    fn newest(&self) -> Option<&K> {
+        match &self.head {
+            Place::Dead { key, .. } => Some(key),
+            _ => None,
+        }
+    }
+
+    #[inline(always)]
     fn push(&mut self, place: Place<K, V>)
         requires { IsTrue (has_room (self.old.head ∷ [])) }
         ensures { self.new.head ∷ [] ≡ pushed place (self.old.head ∷ []) }
@@ -411,6 +423,14 @@ impl<K: Ord, V, R: Row<K, V>> Row<K, V> for Link<K, V, R> {
         match pair_in_slot(&self.head, slot) {
             Some(pair) => Some(pair),
             None => self.rest.in_slot(slot),
+        }
+    }
+
+    #[inline(always)]
+    fn newest(&self) -> Option<&K> {
+        match &self.head {
+            Place::Dead { key, .. } => Some(key),
+            _ => self.rest.newest(),
         }
     }
 

@@ -1,9 +1,9 @@
 //! The fifteen places of an array.
 
-ghost use Rattle.std.specs.Prelude.{◌≡◌, ◌+◌, ◌<◌, ◌≤◌, ◌++◌, ◌∷◌, [], length, take, drop, IsTrue, IsSome, Some, None, MatchOption, IfOk, IfErr, slice_index_or};
+ghost use Rattle.std.specs.Prelude.{◌≡◌, ◌+◌, ◌<◌, ◌≤◌, ◌++◌, ◌∷◌, [], length, take, drop, IsTrue, IsSome, Some, None, MatchOption, IfOk, IfErr, option_copied, slice_index_or};
 ghost use Rattle.leaf_array.specs.declared.place.Place.TheVariants.{Empty};
-ghost use Rattle.leaf_array.specs.Cells.{rank_in, first_above, last_below, lesser, entered};
-ghost use Rattle.leaf_array.specs.Places.{live_pair, live_pairs, labels_above, top, has_room, pushed, buried, renewed, died, vacated, packed, pair_at_slot, stands, below, least, no_places, no_half, IsPacked};
+ghost use Rattle.leaf_array.specs.Cells.{rank_in, first_above, last_below, newest, lesser, entered};
+ghost use Rattle.leaf_array.specs.Places.{live_pair, live_pairs, dead_pairs, labels_above, top, has_room, pushed, buried, renewed, died, vacated, packed, pair_at_slot, stands, below, least, no_places, no_half, IsPacked};
 
 use crate::place::{Place, compare, precedes};
 use crate::row::{Exchange, Last, Link, Renumber, Row};
@@ -142,6 +142,14 @@ impl<K: Ord, V> Slots<K, V> {
         ensures { MatchOption result (pair_at_slot slot self.now ≡ None) (λ e. pair_at_slot slot self.now ≡ Some (e.0.now, e.1.now)) }
     {
         self.all.in_slot(slot)
+    }
+
+    /// The key of the first dead place.
+    #[inline(always)]
+    pub(crate) fn newest(&self) -> Option<&K>
+        ensures { option_copied result ≡ newest (dead_pairs self.now) }
+    {
+        self.all.newest()
     }
 
     #[inline(always)]

@@ -91,6 +91,19 @@ fn a_removed_pair_keeps_its_place(rt: HostRuntime) {
 }
 
 #[test]
+fn the_key_removed_last_is_kept_until_it_is_packed(rt: HostRuntime) {
+    let mut array = holding(&[10, 20, 30]);
+    assert!(rt; array.last_removed().is_none());
+    assert_eq!(rt; array.remove_if(&30, |_| true), RemoveResult::Success);
+    assert_eq!(rt; array.remove_if(&10, |_| true), RemoveResult::Success);
+    assert_eq!(rt; array.last_removed(), Some(&10));
+    assert_eq!(rt; answer(array.insert::<true>(20, 7)), 0);
+    assert_eq!(rt; array.last_removed(), Some(&20));
+    array.pack();
+    assert!(rt; array.last_removed().is_none());
+}
+
+#[test]
 fn an_upsert_takes_a_place_too(rt: HostRuntime) {
     let mut array = holding(&[0, 1, 2, 3, 4, 5, 6, 7, 8, 9, 10, 11, 12, 13]);
     assert!(rt; !array.is_full());

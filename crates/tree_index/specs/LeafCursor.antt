@@ -1,8 +1,11 @@
 -- A cursor over the pairs of one leaf.
 use Rattle.std.specs.Prelude.{◌≡◌, refl, ℕ, ◌+◌, ◌-◌, ◌==◌, ◌++◌, cond, nat_lt, List, length, slice_get, Option, Some, None, MatchOption}
 use Rattle.std.specs.Borrow.{Bor}
-use Rattle.std.specs.Coded.{Coded, code_by, coded×, coded_ℕ, coded_list}
+use Rattle.std.specs.Option.{option_or}
+use Rattle.std.specs.Coded.{Coded, code_by, coded×, coded_ℕ, coded_list, coded_option}
+use Rattle.leaf_array.specs.Cells.{Cells, newest}
 use Rattle.tree_index.specs.Cursor.{referred}
+use Rattle.tree_index.specs.Cuts.{key_at}
 use Rattle.tree_index.specs.declared.leaf.stand.Stand.{Stand}
 
 -- a list stands as a whole within another one
@@ -11,23 +14,31 @@ pub record IsPart {X : Type 0} (part whole : List X) : Type 0 where
   pub rear : List X
   pub all : whole ≡ fore ++ (part ++ rear)
 
--- the pairs by rising keys, and the rank at which it stands: the first pair has the rank 1, and 0 is the start
+-- the pairs by rising keys; the key of the pair that the leaf lost last; and the rank at which it stands: the first pair has the rank 1, and 0 is the start
 pub record LeafCursor (K V : Type 0) : Type 0 where
   pub pairs : List (K × V)
+  pub gone : Option K
   pub rank : ℕ
 
 abbrev pub leaf_cursor_code : {K V : Type 0} → Coded K → Coded V → Coded (LeafCursor K V)
 leaf_cursor_code {K} {V} k v =
-    code_by (List (K × V) × ℕ) (coded× (coded_list (coded× k v)) coded_ℕ) (λ c. (c.pairs, c.rank)) (λ p. record { pairs = p.0; rank = p.1 }) (λ _. refl)
+    code_by (List (K × V) × (Option K × ℕ)) (coded× (coded_list (coded× k v)) (coded× (coded_option k) coded_ℕ)) (λ c. (c.pairs, (c.gone, c.rank))) (λ p. record { pairs = p.0; gone = p.1.0; rank = p.1.1 }) (λ _. refl)
 
 module _ {K V : Type 0} where
   -- a cursor at the start
-  abbrev pub at_start : List (K × V) → LeafCursor K V
-  at_start pairs = record { pairs = pairs; rank = 0 }
+  abbrev pub at_start : Cells K V → LeafCursor K V
+  at_start a = record { pairs = a.pairs; gone = newest a.buried; rank = 0 }
 
   -- the cursor that a leaf and a rank make
   abbrev pub cursor_at : Stand K V → LeafCursor K V
-  cursor_at s = record { pairs = s.leaf.now.array.pairs; rank = s.rank }
+  cursor_at s = record (at_start s.leaf.now.array) { rank = s.rank }
+
+  -- the keys from which the leaves behind, and those before, are sought: of the last pair, and of the first; of the one that was lost last where there are no pairs
+  abbrev pub key_behind : LeafCursor K V → Option K
+  key_behind c = option_or (key_at c.pairs (length c.pairs - 1)) c.gone
+
+  abbrev pub key_before : LeafCursor K V → Option K
+  key_before c = option_or (key_at c.pairs 0) c.gone
 
   -- the pair at a rank
   abbrev pub ranked : ℕ → List (K × V) → Option (K × V)

@@ -219,6 +219,44 @@ fn jumps_go_over_leaves_that_were_emptied(rt: HostRuntime) -> Result<(), Fail> {
     Ok(())
 }
 
+/// Removes the pair with this key.
+fn lose<R: Abort>(rt: &R, leaf: &mut Leaf<u64, u64>, key: u64) {
+    match leaf.array.remove_if(&key, |_| true) {
+        RemoveResult::Success | RemoveResult::Retired => {},
+        _ => panic!(rt; "not removed"),
+    }
+}
+
+#[test]
+fn a_leaf_without_pairs_leads_on_from_the_key_that_it_lost_last(
+    rt: HostRuntime,
+) -> Result<(), Fail> {
+    let mut tree: TreeIndex<u64, u64> = TreeIndex::new(rt.alloc());
+    for key in 0..20u64 {
+        assert!(rt; tree.insert_sync(key.wrapping_mul(10), key).is_ok());
+    }
+    // of no tree, so that there are no links
+    let mut leaf: Leaf<u64, u64> = Leaf::new();
+    assert!(rt; Iter::new(&leaf).jump(&tree).is_none());
+    assert!(rt; RevIter::new(&leaf).jump(&tree).is_none());
+    add(&rt, &mut leaf, 35, 0);
+    add(&rt, &mut leaf, 120, 0);
+    lose(&rt, &mut leaf, 120);
+    assert_eq!(rt; Iter::new(&leaf).jump(&tree), Some((&40, &4)));
+    lose(&rt, &mut leaf, 35);
+    assert_eq!(rt; Iter::new(&leaf).jump(&tree), Some((&40, &4)));
+    assert_eq!(rt; RevIter::new(&leaf).jump(&tree), Some((&30, &3)));
+    leaf.array.pack();
+    add(&rt, &mut leaf, 190, 0);
+    lose(&rt, &mut leaf, 190);
+    let mut forth = Iter::new(&leaf);
+    assert!(rt; forth.jump(&tree).is_none() && forth.get().is_none());
+    assert_eq!(rt; forth.rev().jump(&tree), Some((&180, &18)));
+    leaf.array.pack();
+    assert!(rt; RevIter::new(&leaf).jump(&tree).is_none());
+    Ok(())
+}
+
 #[test]
 fn a_cursor_over_emptied_leaves_alone_stays(rt: HostRuntime) -> Result<(), Fail> {
     let mut tree: TreeIndex<u64, u64> = TreeIndex::new(rt.alloc());

@@ -1,10 +1,10 @@
 //! A cursor over the pairs of one leaf, by rising keys.
 
-ghost use Rattle.std.specs.Prelude.{◌≡◌, ◌-◌, IfNone, IfSome, Some, length, option_copied, slice_get};
+ghost use Rattle.std.specs.Prelude.{◌≡◌, ◌-◌, IfNone, IfSome, MatchOption, None, Some, length, option_copied, slice_get};
 ghost use Rattle.std.specs.declared.ops.Bound.TheVariants.{Excluded};
 ghost use Rattle.tree_index.specs.Cursor.{before_start, referred};
 ghost use Rattle.tree_index.specs.Cuts.{key_at};
-ghost use Rattle.tree_index.specs.LeafCursor.{at_start, ranked, IsPart};
+ghost use Rattle.tree_index.specs.LeafCursor.{at_start, key_behind, ranked, IsPart};
 
 use crate::index::TreeIndex;
 use crate::leaf::{Leaf, RevIter, Stand};
@@ -42,7 +42,7 @@ impl<'l, K: Ord, V> Model for Iter<'l, K, V> {
 impl<'l, K: Ord, V> Iter<'l, K, V> {
     /// A cursor at the start of a leaf.
     pub fn new(leaf: &'l Leaf<K, V>) -> Self
-        ensures { result ≡ at_start leaf.now.array.pairs }
+        ensures { result ≡ at_start leaf.now.array }
     {
         Iter {
             stand: Stand { leaf, rank: 0 },
@@ -69,11 +69,11 @@ impl<'l, K: Ord, V> Iter<'l, K, V> {
     /// Goes to the first pair of the next leaf of the tree that has one, and gives it. Where there is none
     /// it stays.
     ///
-    /// The tree is the one that the leaf is of; for another leaf it is searched for the pairs whose keys are
-    /// greater than all of the leaf's. A leaf without pairs has no key to go from: there the links are
-    /// followed, and no clause says where they lead.
+    /// The tree, which is the one that the leaf is of, is searched for the first pair whose key is greater than
+    /// all of the leaf's; where the leaf lost its pairs, greater than the key of the one that it lost last. A
+    /// leaf that had none has no next one.
     pub fn jump(&mut self, tree: &'l TreeIndex<K, V>) -> Option<(&'l K, &'l V)>
-        ensures next { IfSome (key_at self.old.pairs (length self.old.pairs - 1)) (λ k. referred result ≡ slice_get tree.now.pairs (before_start K.cmp (Excluded k) tree.now.pairs)) }
+        ensures next { MatchOption (key_behind self.old) (result ≡ None) (λ k. referred result ≡ slice_get tree.now.pairs (before_start K.cmp (Excluded k) tree.now.pairs)) }
         ensures shown { IfSome result (λ p. ranked self.new.rank self.new.pairs ≡ Some (p.0.now, p.1.now)) }
         ensures leaf { IfSome result (λ p. IsPart self.new.pairs tree.now.pairs) }
         ensures stays { IfNone result (self.new ≡ self.old) }
@@ -89,7 +89,7 @@ impl<'l, K: Ord, V> Iter<'l, K, V> {
 
     /// Goes back to the start.
     pub fn rewind(&mut self)
-        ensures { self.new ≡ at_start self.old.pairs }
+        ensures { self.new ≡ record self.old { rank = 0 } }
     {
         self.stand.rank = 0;
     }
