@@ -35,6 +35,8 @@ pub mod plain;
 mod read;
 mod segments;
 mod source;
+#[cfg(test)]
+mod steps_tests;
 mod stream;
 #[cfg(test)]
 mod tests;
