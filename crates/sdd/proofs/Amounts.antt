@@ -67,7 +67,7 @@ module _ {L : Type 0} (link : L → Option ℕ) where
     items = λ k m lk lm ne. row.items (suc k) (suc m) (omega (arith, lk)) (omega (arith, lm)) (λ e. ne (omega (arith, e)));
   }
 
-  row_used : (w : State L) (cs : List ℕ) (rows : List (List (Entry L))) → length rows ≡ length cs → IsRow link w cs rows → AreUsed w.states (slots (joined rows))
+  pub row_used : (w : State L) (cs : List ℕ) (rows : List (List (Entry L))) → length rows ≡ length cs → IsRow link w cs rows → AreUsed w.states (slots (joined rows))
   row_used w cs [] size row = tt
   row_used w [] (es ∷ rows) size row = absurd (omega (arith, size))
   row_used w (c ∷ cs) (es ∷ rows) size row =

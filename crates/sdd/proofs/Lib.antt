@@ -15,3 +15,4 @@ pub mod Bags
 pub mod Claims
 pub mod Amounts
 pub mod Folds
+pub mod Visits

@@ -9,3 +9,4 @@ pub mod Bags
 pub mod Iters
 pub mod Copies
 pub mod Fillings
+pub mod Visits

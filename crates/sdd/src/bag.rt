@@ -2,6 +2,7 @@
 
 use crate::linked_entry::LinkedEntry;
 use sdd_base::cell::AtomicShared;
+use sdd_base::link::Link;
 
 /// A bag of values, each in an entry of its own, in two parts: the primary keeps at most `ARRAY_LEN` of them, which is 1
 /// to 32, and the overflow the others. It takes `ARRAY_LEN + 1` cells, and must be spent by `retire`. Rust's `Bag` has 32 as the default
@@ -14,4 +15,24 @@ pub struct Bag<T, const ARRAY_LEN: usize> {
 /// A bag that is taken apart, one owner after another. It must be spent by `retire`.
 pub struct IntoIter<T, const ARRAY_LEN: usize> {
     pub(crate) bag: Bag<T, ARRAY_LEN>,
+}
+
+/// An entry along a walk that lends values: the cell that keeps it, and where the walk stands behind it.
+#[derive(Drop)]
+pub struct Stop<T> {
+    pub(crate) here: Link<LinkedEntry<T>>,
+    // The cell of what is left of this list, and the place of the cell of the next one.
+    pub(crate) next: Link<LinkedEntry<T>>,
+    pub(crate) row: usize,
+}
+
+/// A walk along a bag of the place `W`, a `World`, that lends each value for writing. It borrows the place, so that
+/// nobody else reads or changes it, and takes no memory.
+#[derive(Drop)]
+pub struct IterMut<'a, T, W> {
+    pub(crate) place: &'a mut W,
+    pub(crate) cells: &'a Vec<AtomicShared<LinkedEntry<T>>>,
+    // The place of the cell of the next list, and the cell of what is left of the present one.
+    pub(crate) row: usize,
+    pub(crate) at: Link<LinkedEntry<T>>,
 }

@@ -6,6 +6,7 @@ mod copies;
 pub(crate) mod entries;
 pub mod into_iter;
 pub mod iter;
+pub mod iter_mut;
 pub mod linked_entry;
 pub mod linked_list;
 pub mod queue;

@@ -11,3 +11,4 @@ pub mod Passing
 pub mod Dropping
 pub mod Collecting
 pub mod Notes
+pub mod Filled

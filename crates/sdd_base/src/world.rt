@@ -3,12 +3,13 @@
 //! Clauses see a world as its `State`. What a call leaves alone is its clause `keeps`: the values of items that have an
 //! owner, and what an open guard protects.
 
-ghost use Rattle.std.specs.Prelude.{◌≡◌, ◌⊎◌, ℕ, IsOk, IfOk, IfErr, IfNone, IfSome, IsTrue, ◌↔◌, Some, None, is_some, sum_by};
+ghost use Rattle.std.specs.Prelude.{◌≡◌, ◌⊎◌, ℕ, IsOk, IfOk, IfErr, IfNone, IfSome, IsTrue, IsFalse, ◌↔◌, Some, None, is_some, sum_by};
 ghost use Rattle.sdd_base.specs.State.{fresh, in_use, value_at, vacancy, IsUnused};
 ghost use Rattle.sdd_base.specs.Steps.{AllSwept, NoneOpen};
 ghost use Rattle.sdd_base.specs.Place.{IsPlace, IsOpen, IsReadable, IsSized};
 ghost use Rattle.sdd_base.specs.Tokens.{loaded_slot, ptr_slot};
 
+use crate::cell::AtomicShared;
 use crate::holds::Holds;
 use crate::job::{Deferred, Job};
 use crate::lender::{Lender, Store};
@@ -17,6 +18,7 @@ use crate::pointer::{Loaded, Ptr};
 use crate::reclaim;
 use crate::refusal::{GuardsOpen, NotLent};
 use crate::sizes::Sizes;
+use crate::status::Cell;
 use crate::table::Table;
 use std::alloc::{AllocError, Global};
 use std::marker::Model;
@@ -103,6 +105,14 @@ impl<T, J: Deferred> World<T, J> {
         self.table.free_count()
     }
 
+    /// Whether a guard of any participant is open.
+    pub fn has_open_guard(&self) -> bool
+        ensures open { IsTrue result → (p : ℕ) × IsOpen self.now p }
+        ensures none { IsFalse result → NoneOpen self.now }
+    {
+        self.table.any_open()
+    }
+
     /// Whether `read` may be asked for `at`.
     pub fn is_readable(&self, at: &Ptr<'static, T>) -> bool
         ensures { IsTrue result ↔ IsReadable self.now (ptr_slot at.now) }
@@ -141,6 +151,7 @@ impl<T, J: Deferred> World<T, J> {
 }
 
 impl<T, J: Deferred> Lender<T> for World<T, J> {
+    ghost use Rattle.std.specs.Prelude.{refl};
     ghost use Rattle.sdd_base.specs.State.{with_value};
 
     ghost state = { λ w. w };
@@ -163,4 +174,19 @@ impl<T, J: Deferred> Lender<T> for World<T, J> {
             None => Err(NotLent::NotSole),
         }
     }
+
+    fn cell_mut(&mut self, cell: &AtomicShared<T>) -> Result<&mut T, NotLent> {
+        if self.table.any_open() {
+            return Err(NotLent::GuardsOpen);
+        }
+        match self.table.cell(cell.cell) {
+            Cell::OfShared(Some(kept), _) => match self.table.lone_mut(kept) {
+                Some(value) => Ok(value),
+                None => Err(NotLent::NotSole),
+            },
+            _ => unreachable!(),
+        }
+    }
+
+    ghost written = { λ i v w. refl };
 }

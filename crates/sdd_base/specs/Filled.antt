@@ -1,0 +1,26 @@
+-- cells that keep an item
+use Rattle.std.specs.Prelude.{◌≡◌, ℕ, ◌<◌, length, None, Some}
+use Rattle.sdd_base.specs.State.{State, cell_at}
+use Rattle.sdd_base.specs.Place.{IsShared}
+use Rattle.sdd_base.specs.declared.tag.Tag.{Tag}
+use Rattle.sdd_base.specs.declared.status.Cell.{Cell}
+use Rattle.sdd_base.specs.declared.status.Cell.TheVariants as cell
+
+-- the slot of the item that a cell keeps, 0 where it keeps none
+abbrev pub slot_of : Cell → ℕ
+slot_of cell.Free = 0
+slot_of (cell.OfOwned o t) = 0
+slot_of (cell.OfShared None t) = 0
+slot_of (cell.OfShared (Some i) t) = i
+slot_of (cell.OfRaw o t) = 0
+
+abbrev pub slot_in : {T : Type 0} → State T → ℕ → ℕ
+slot_in w c = slot_of (cell_at w c)
+
+-- cell c keeps an owner of a shared item
+pub record IsFilled {T : Type 0} (w : State T) (c : ℕ) : Type 0 where
+  pub inside : c < length w.cells
+  pub item : ℕ
+  pub tag : Tag
+  pub is : cell_at w c ≡ cell.OfShared (Some item) tag
+  pub shared : IsShared w item
