@@ -12,14 +12,14 @@ use Rattle.sdd_base.specs.declared.status.Status.{Status}
 use Rattle.sdd_base.specs.declared.status.Status.TheVariants as status
 use Rattle.sdd_base.specs.declared.status.Cell.{Cell}
 use Rattle.sdd_base.specs.declared.status.Cell.TheVariants as cell
-use Rattle.sdd.specs.Chain.{Entry, slots, links, IsOut, AreOut, IsItem, IsHung, Hangs, Leaves, Begins, first_slot}
+use Rattle.sdd.specs.Chain.{Entry, slots, links, IsOut, AreOut, IsItem, IsHung, Hangs, Leaves}
 use Rattle.sdd.specs.Bags.{AreApart, AreOwn, AreSingle, IsBag, IsNull, IsRow, IsSomeBag, joined}
 use Rattle.sdd.specs.Entries.{entry_link, entry_value, with_value}
 use Rattle.sdd.specs.Visits.{AreHung, AreOnce, IsLeft, IsSomeLeft, Finds, Gives, Revalues, revalue, revalued}
 use Rattle.sdd.specs.declared.linked_entry.LinkedEntry.{LinkedEntry, LinkedEntry', None', Some'}
 use Rattle.sdd.proofs.Amounts.{row_used}
 use Rattle.sdd.proofs.Bags.{null_empty, null_not}
-use Rattle.sdd.proofs.Chains.{head_cell, hung_first, hung_left, inside_cells, item_left, item_shared, out_of_none, some_same, the_same}
+use Rattle.sdd.proofs.Chains.{head_cell, hung_first, hung_left, inside_cells, item_left, item_shared, out_of_none, some_same, starts_link, the_same, Starts}
 use Rattle.sdd.proofs.Releases.{out_of_one}
 use Rattle.sdd.proofs.Walks.{AreUsed}
 
@@ -231,25 +231,28 @@ module _ {T : Type 0} (w : State (LinkedEntry T)) where
   pub none_after : (c : ℕ) (cs : List ℕ) (k m : ℕ) (es : List (Entry (LinkedEntry T))) → length cs ≤ k → length cs ≤ m → IsLeft w (c ∷ drop k cs) es → IsLeft w (c ∷ drop m cs) es
   none_after c cs k m es over over' l = subst (λ (ds : List ℕ). IsLeft w (c ∷ ds) es) (drop_all k cs over ∙ sym (drop_all m cs over')) l
 
+  pub hangs_at : (c d : ℕ) (cs : List ℕ) → d ≡ c → IsSomeLeft w (c ∷ cs) → Hangs entry_link w d
+  hangs_at c d cs at s = let h = left_hangs c cs s in record { tag = h.tag; entries = h.entries; is = subst (λ (j : ℕ). IsHung entry_link w j h.tag h.entries) (sym at) h.is }
+
   -- the first entry of the first list is passed
-  pub find_first : (c d : ℕ) (cs : List ℕ) (item : LinkedEntry T) (gone : _) (es : List (Entry (LinkedEntry T))) → ((t : Tag) (fs : List (Entry (LinkedEntry T))) → IsHung entry_link w c t fs → Begins fs item d gone) → IsLeft w (c ∷ cs) es → Finds w c (d ∷ cs) es
-  find_first c d cs item gone es begins l = found l.rows l.hung l.is
+  pub find_first : (c d : ℕ) (cs : List ℕ) (item : LinkedEntry T) (es : List (Entry (LinkedEntry T))) → ((t : Tag) (fs : List (Entry (LinkedEntry T))) → IsHung entry_link w c t fs → Starts entry_link w c t fs item) → entry_link item ≡ Some d → IsLeft w (c ∷ cs) es → Finds w c (d ∷ cs) es
+  find_first c d cs item es begins linked l = found l.rows l.hung l.is
     where
-      after : (r : List (Entry (LinkedEntry T))) (rows : List (List (Entry (LinkedEntry T)))) → IsHung entry_link w c tag.None r → AreHung w cs rows → r ++ joined rows ≡ es → (b : Begins r item d gone) → Finds w c (d ∷ cs) es
-      after r rows h hs is b =
-          let h' = subst (λ (fs : List (Entry (LinkedEntry T))). IsHung entry_link w c tag.None fs) b.is h in
+      after : (r : List (Entry (LinkedEntry T))) (rows : List (List (Entry (LinkedEntry T)))) → AreHung w cs rows → r ++ joined rows ≡ es → Starts entry_link w c tag.None r item → Finds w c (d ∷ cs) es
+      after r rows hs is b =
           let is' : es ≡ b.first ∷ (b.rest ++ joined rows) = sym is ∙ ap (λ (fs : List (Entry (LinkedEntry T))). fs ++ joined rows) b.is in
           let own = subst (λ (fs : List (Entry (LinkedEntry T))). AreOwn w fs) is' l.own in
           let once = subst (λ (fs : List (Entry (LinkedEntry T))). AreOnce (slots fs)) is' l.once in
+          let at : d ≡ b.first.link = some_same d b.first.link (sym linked ∙ starts_link entry_link w c tag.None r item b) in
           record {
             first = b.first;
             rest = b.rest ++ joined rows;
             is = is';
-            here = h'.0;
-            item = h'.1;
+            here = b.hung.0;
+            item = b.hung.1;
             left = record {
               rows = b.rest ∷ rows;
-              hung = (subst (λ (j : ℕ). IsHung entry_link w j tag.None b.rest) (sym b.link_is) (subst (λ (t : Tag). IsHung entry_link w b.first.link t b.rest) own.0 h'.4), hs);
+              hung = (subst (λ (j : ℕ). IsHung entry_link w j tag.None b.rest) (sym at) (subst (λ (t : Tag). IsHung entry_link w b.first.link t b.rest) own.0 b.hung.4), hs);
               is = refl;
               once = once.1;
               own = own.2;
@@ -259,7 +262,7 @@ module _ {T : Type 0} (w : State (LinkedEntry T)) where
 
       found : (rows : List (List (Entry (LinkedEntry T)))) → AreHung w (c ∷ cs) rows → joined rows ≡ es → Finds w c (d ∷ cs) es
       found [] h is = absurd h
-      found (r ∷ rows) h is = after r rows h.0 h.1 is (begins tag.None r h.0)
+      found (r ∷ rows) h is = after r rows h.1 is (begins tag.None r h.0)
 
   -- what was found can be lent
   module _ (c : ℕ) (cs ds : List ℕ) (es : List (Entry (LinkedEntry T))) (f : Finds w c ds es) where
