@@ -6,6 +6,8 @@ use Rattle.sdd_base.specs.State.{State, status_at, value_at, cell_at, with_value
 use Rattle.sdd_base.specs.Steps.{NoneOpen}
 use Rattle.sdd_base.specs.Place.{IsOpen, IsShared, IsSharedCell, HasOneOwner}
 use Rattle.sdd_base.specs.Filled.{IsFilled, slot_in}
+use Rattle.sdd_base.specs.Tokens.{shared_cell}
+use Rattle.sdd_base.specs.declared.cell.AtomicShared.{AtomicShared}
 use Rattle.sdd_base.specs.declared.tag.Tag.{Tag}
 use Rattle.sdd_base.specs.declared.tag.Tag.TheVariants as tag
 use Rattle.sdd_base.specs.declared.status.Status.{Status}
@@ -13,7 +15,7 @@ use Rattle.sdd_base.specs.declared.status.Status.TheVariants as status
 use Rattle.sdd_base.specs.declared.status.Cell.{Cell}
 use Rattle.sdd_base.specs.declared.status.Cell.TheVariants as cell
 use Rattle.sdd.specs.Chain.{Entry, slots, links, IsOut, AreOut, IsItem, IsHung, Hangs, Leaves}
-use Rattle.sdd.specs.Bags.{AreApart, AreOwn, AreSingle, IsBag, IsNull, IsRow, IsSomeBag, joined}
+use Rattle.sdd.specs.Bags.{AreApart, AreOwn, AreSingle, IsBag, IsNull, IsRow, IsSomeBag, joined, cell_of}
 use Rattle.sdd.specs.Entries.{entry_link, entry_value, with_value}
 use Rattle.sdd.specs.Visits.{AreHung, AreOnce, IsLeft, IsSomeLeft, Finds, Gives, Revalues, revalue, revalued}
 use Rattle.sdd.specs.declared.linked_entry.LinkedEntry.{LinkedEntry, LinkedEntry', None', Some'}
@@ -178,6 +180,11 @@ module _ {T : Type 0} (w : State (LinkedEntry T)) where
         quiet = quiet;
       }
 
+  pub walk_begins : (n c : ℕ) (ts : List (AtomicShared (LinkedEntry T))) (ps os : List (Entry (LinkedEntry T))) → 0 < length ts → c ≡ cell_of ts 0 → NoneOpen w → IsBag n w (map shared_cell ts) ps os → IsLeft w (c ∷ drop 1 (map shared_cell ts)) (os ++ ps)
+  walk_begins n c ts ps os lt at quiet b =
+      let inside : 0 < length (map shared_cell ts) = (let e = length-map ts shared_cell in omega (arith, e, lt)) in
+      subst (λ (ds : List ℕ). IsLeft w ds (os ++ ps)) (drop_more (map shared_cell ts) 0 0 inside ∙ ap (λ (j : ℕ). j ∷ drop 1 (map shared_cell ts)) (sym at)) (walk_starts n (map shared_cell ts) ps os quiet b)
+
   -- a list hangs from the first cell
   pub left_hangs : (c : ℕ) (cs : List ℕ) → IsSomeLeft w (c ∷ cs) → Hangs entry_link w c
   left_hangs c cs s = hangs s.is.rows s.is.hung
@@ -264,6 +271,9 @@ module _ {T : Type 0} (w : State (LinkedEntry T)) where
       found [] h is = absurd h
       found (r ∷ rows) h is = after r rows h.1 is (begins tag.None r h.0)
 
+  pub found_shut : NoneOpen w → (p : ℕ) → IsOpen w p → ⊥
+  found_shut quiet p o = let q = quiet p in omega (arith, q, o)
+
   -- what was found can be lent
   module _ (c : ℕ) (cs ds : List ℕ) (es : List (Entry (LinkedEntry T))) (f : Finds w c ds es) where
     pub found_slot : slot_in w c ≡ f.first.slot
@@ -276,7 +286,7 @@ module _ {T : Type 0} (w : State (LinkedEntry T)) where
     found_sole l = (1, subst (λ (j : ℕ). status_at w j ≡ status.Shared 1) (sym found_slot) (subst (λ (fs : List (Entry (LinkedEntry T))). AreOwn w fs) f.is l.own).1, omega arith)
 
     pub found_closed : IsLeft w cs es → (p : ℕ) → IsOpen w p → ⊥
-    found_closed l p o = let q = l.quiet p in omega (arith, q, o)
+    found_closed l = found_shut l.quiet
 
     pub found_out : IsLeft w cs es → IsOut f.first.slot (slots f.rest)
     found_out l = (subst (λ (fs : List (Entry (LinkedEntry T))). AreOnce (slots fs)) f.is l.once).0
