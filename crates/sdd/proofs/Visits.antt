@@ -1,5 +1,5 @@
 -- walks along a bag, and the values that are written along them
-use Rattle.std.proofs.Common.{◌≡◌, ◌≢◌, ◌⊎◌, ◌++◌, ◌==◌, ℕ, zero, suc, ◌+◌, ◌<◌, ◌≤◌, true, false, Option, None, Some, List, [], ◌∷◌, length, get_or, set, drop, map, refl, sym, ap, ◌∙◌, arith, subst, get_or-set_same, get_or-set_other, cond, inl, inr}
+use Rattle.std.proofs.Common.{◌≡◌, ◌≢◌, ◌⊎◌, ◌++◌, ◌==◌, ℕ, zero, suc, ◌+◌, ◌<◌, ◌≤◌, true, false, Option, None, Some, List, [], ◌∷◌, length, get_or, set, drop, map, refl, sym, ap, ◌∙◌, arith, subst, get_or-set_same, get_or-set_other, cond, inl, inr, Err, IsErrOf}
 use Rattle.std.proofs.lemmas.List.{length-map, map-append, drop_more, drop_all}
 use Rattle.std.proofs.lemmas.Bool.Decides.{eqb_tells}
 use Rattle.sdd_base.specs.State.{State, status_at, value_at, cell_at, with_value as with_item}
@@ -10,6 +10,8 @@ use Rattle.sdd_base.specs.Tokens.{shared_cell}
 use Rattle.sdd_base.specs.declared.cell.AtomicShared.{AtomicShared}
 use Rattle.sdd_base.specs.declared.tag.Tag.{Tag}
 use Rattle.sdd_base.specs.declared.tag.Tag.TheVariants as tag
+use Rattle.sdd_base.specs.declared.refusal.NotLent.{NotLent}
+use Rattle.sdd_base.specs.declared.refusal.NotLent.TheVariants as not_lent
 use Rattle.sdd_base.specs.declared.status.Status.{Status}
 use Rattle.sdd_base.specs.declared.status.Status.TheVariants as status
 use Rattle.sdd_base.specs.declared.status.Cell.{Cell}
@@ -17,6 +19,7 @@ use Rattle.sdd_base.specs.declared.status.Cell.TheVariants as cell
 use Rattle.sdd.specs.Chain.{Entry, slots, links, IsOut, AreOut, IsItem, IsHung, Hangs, Leaves}
 use Rattle.sdd.specs.Bags.{AreApart, AreOwn, AreSingle, IsBag, IsNull, IsRow, IsSomeBag, joined, cell_of}
 use Rattle.sdd.specs.Entries.{entry_link, entry_value, with_value}
+use Rattle.sdd.specs.Iters.{first_value}
 use Rattle.sdd.specs.Visits.{AreHung, AreOnce, IsLeft, IsSomeLeft, Finds, Gives, Revalues, revalue, revalued}
 use Rattle.sdd.specs.declared.linked_entry.LinkedEntry.{LinkedEntry, LinkedEntry', None', Some'}
 use Rattle.sdd.proofs.Amounts.{row_used}
@@ -24,6 +27,11 @@ use Rattle.sdd.proofs.Bags.{null_empty, null_not}
 use Rattle.sdd.proofs.Chains.{head_cell, hung_first, hung_left, inside_cells, item_left, item_shared, out_of_none, some_same, starts_link, the_same, Starts}
 use Rattle.sdd.proofs.Releases.{out_of_one}
 use Rattle.sdd.proofs.Walks.{AreUsed}
+
+-- a refusal has one of two reasons
+pub never_refused : {X : Type 0} (e : NotLent) → (IsErrOf {T = X} (Err e) not_lent.NotSole → ⊥) → (IsErrOf {T = X} (Err e) not_lent.GuardsOpen → ⊥) → ⊥
+never_refused not_lent.GuardsOpen sole closed = closed refl
+never_refused not_lent.NotSole sole closed = sole refl
 
 inside_values : {X : Type 0} (vs : List (Option X)) (i : ℕ) (x : X) → get_or vs i None ≡ Some x → i < length vs
 inside_values [] i x h = cc
@@ -154,6 +162,13 @@ module _ {T : Type 0} (i : ℕ) (v : T) where
 
     pub revalues : Revalues w written i v
     revalues = record { lists = hung_revalued; bags = bag_revalued }
+
+-- what is found, in the same place by another name
+pub found_at : {T : Type 0} (w w' : State (LinkedEntry T)) (c c' : ℕ) (cs : List ℕ) (es : List (Entry (LinkedEntry T))) → w ≡ w' → c ≡ c' → Finds w c cs es → Finds w' c' cs es
+found_at w w' c c' cs es e at f = subst (λ (j : ℕ). Finds w' j cs es) at (subst (λ (v : State (LinkedEntry _)). Finds v c cs es) e f)
+
+pub given_at : {T : Type 0} (w w0 w' : State (LinkedEntry T)) (cs : List ℕ) (v : T) (es : List (Entry (LinkedEntry T))) → w ≡ w0 → Gives w w' cs v es → Gives w0 w' cs v es
+given_at w w0 w' cs v es e k = subst (λ (u : State (LinkedEntry _)). Gives u w' cs v es) e k
 
 -- a walk begins
 once_used : (ss : List Status) (is : List ℕ) → AreUsed ss is → AreOnce is
@@ -291,10 +306,16 @@ module _ {T : Type 0} (w : State (LinkedEntry T)) where
     pub found_out : IsLeft w cs es → IsOut f.first.slot (slots f.rest)
     found_out l = (subst (λ (fs : List (Entry (LinkedEntry T))). AreOnce (slots fs)) f.is l.once).0
 
+    same_item : (x : LinkedEntry T) → value_at w (slot_in w c) ≡ Some x → x ≡ f.first.item
+    same_item x there = the_same x f.first.item (sym there ∙ ap (λ (j : ℕ). value_at w j) found_slot ∙ f.item.here)
+
+    pub found_value : (x : LinkedEntry T) (v : T) → value_at w (slot_in w c) ≡ Some x → v ≡ entry_value x → first_value es ≡ Some v
+    found_value x v there is = ap first_value f.is ∙ ap (λ (u : T). Some u) (sym (is ∙ ap entry_value (same_item x there)))
+
     -- it is given, and v is written
     pub found_given : (x : LinkedEntry T) (v : T) (w' : State (LinkedEntry T)) → IsLeft w cs es → value_at w (slot_in w c) ≡ Some x → w' ≡ with_item (slot_in w c) (with_value v x) w → Gives w w' ds v es
     found_given x v w' l there is =
-        let same : x ≡ f.first.item = the_same x f.first.item (sym there ∙ ap (λ (j : ℕ). value_at w j) found_slot ∙ f.item.here) in
+        let same : x ≡ f.first.item = same_item x there in
         let is' : w' ≡ with_item f.first.slot (with_value v f.first.item) w = is ∙ ap (λ (j : ℕ). with_item j (with_value v x) w) found_slot ∙ ap (λ (y : LinkedEntry T). with_item f.first.slot (with_value v y) w) same in
         record {
           first = f.first;

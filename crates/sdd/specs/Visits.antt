@@ -1,5 +1,5 @@
 -- walks that lend each value of a bag for writing
-use Rattle.std.specs.Prelude.{◌≡◌, ℕ, ◌+◌, ◌++◌, ◌==◌, cond, Option, OnSome, List, [], ◌∷◌, map, drop, Some}
+use Rattle.std.specs.Prelude.{◌≡◌, ℕ, ◌+◌, ◌++◌, ◌==◌, cond, Option, OnSome, IfNone, List, [], ◌∷◌, map, drop, Some}
 use Rattle.std.specs.Borrow.{Fml, GName, LendsSo, MutBor, RattleType}
 use mir.Syntax.{named}
 use Rattle.sdd_base.specs.State.{State, cell_at, with_value as with_item}
@@ -120,4 +120,4 @@ module _ (T W : RattleType) where
   walk_row = the_row (record { mir = named 1; lft = [] }) T W
 
   abbrev pub LendsNext : (W.Denot → State (LinkedEntry T.Denot)) → MutBor walk_row.Denot → Option (MutBor T.Denot) → Fml
-  LendsNext state s r = LendsSo walk_row T s r (λ s' v. OnSome r (Visits state s.now s' v)) (λ s'. Ends s.now s')
+  LendsNext state s r = LendsSo walk_row T s r (λ s' v. OnSome r (Visits state s.now s' v)) (λ s'. IfNone r (Ends s.now s'))

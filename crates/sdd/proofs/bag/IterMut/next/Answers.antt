@@ -1,22 +1,47 @@
-use Rattle.std.proofs.Common.{rules, ◌≡◌, ◌≢◌, ◌<◌, ◌≤◌, ◌⊎◌, ◌↔◌, ◌++◌, ℕ, List, [], ◌∷◌, length, drop, map, Some, IfOk, IfSome, IfNone, IsErr, MatchOption, false, ◌+◌, ◌-◌, ◌*◌, ◌/◌, ◌%◌, Bool, true, nat_eq, nat_lt, slice_index_or, slice_set, bit_and, bit_or, Fits, w8, w32, w64, Bor, MutBor}
-use Rattle.std.specs.Borrow.{RestsIfErr, sem}
-use Rattle.sdd_base.specs.Place.{IsOpen}
+use Rattle.std.proofs.Common.{◌≡◌, ℕ, List, refl, sym, ap, subst, ◌∙◌, Some}
+use Rattle.sdd_base.specs.Filled.{IsFilled}
+use Rattle.sdd_base.specs.State.{State}
 use Rattle.sdd_base.specs.Tokens.{link_cell, shared_cell}
 use Rattle.sdd.specs.Chain.{Entry}
-use Rattle.sdd.specs.Bags.{IsBag, IsNull, IsSomeBag, bag_cells}
-use Rattle.sdd.specs.Iters.{first_value}
-use Rattle.sdd.specs.Visits.{Ends, Finds, IsLeft, IsSomeLeft, LendsNext, cells_from, stop_cells, stop_here, walk_bag, walk_cells, walk_name, walk_place}
-use Rattle.sdd.specs.declared.linked_entry.LinkedEntry.{LinkedEntry}
+use Rattle.sdd.specs.Visits.{Finds, IsLeft, walk_cells}
+use Rattle.sdd.proofs.Visits.{found_at, found_closed, found_filled, found_given, found_sole, found_value, given_at, never_refused}
 use Rattle.sdd.proofs.bag.IterMut.next.Goals as goal
 
--- src/world/iter_mut.rt:152:15
 pub cell_mut-requires : goal.cell_mut-requires
-cell_mut-requires g c = ?
+cell_mut-requires g c =
+    let e = ap g.W.Lender.state c.in-Some.ensures.place in
+    let s = c.requires in
+    let f = found_at _ _ _ _ _ s.entries (sym e) (sym c.cell.ensures) (c.in-Some.ensures.some s.entries s.is) in
+    found_filled _ _ (walk_cells c.args.self.now) _ s.entries f
 
--- src/world/iter_mut.rt:154:23
 pub unreachable-requires : goal.unreachable-requires
-unreachable-requires g c = ?
+unreachable-requires g c =
+    let e = ap g.W.Lender.state c.in-Some.ensures.place in
+    let s = c.requires in
+    let f = found_at _ _ _ _ _ s.entries (sym e) (sym c.cell.ensures) (c.in-Some.ensures.some s.entries s.is) in
+    let l = subst (λ (v : State _). IsLeft v (walk_cells c.args.self.now) s.entries) (sym e) s.is in
+    never_refused c.in-Err.field-0 (λ q. c.in-Err.ensures.others q (found_sole _ _ (walk_cells c.args.self.now) _ s.entries f l)) (λ q. let o = c.in-Err.ensures.«open».0 q in found_closed _ _ (walk_cells c.args.self.now) _ s.entries f l o.0 o.1)
 
--- src/world/iter_mut.rt:144:5
 pub returns : goal.returns
-returns g c = ?
+returns g c = (
+  (
+    refl,
+    (λ v. record {
+      same = c.in-Some.ensures.same;
+      bag = c.in-Some.ensures.bag;
+      gives = λ es l.
+          let e = ap g.W.Lender.state c.in-Some.ensures.place in
+          let f = found_at _ _ _ _ _ es (sym e) (sym c.cell.ensures) (c.in-Some.ensures.some es l) in
+          let l' = subst (λ (w : State _). IsLeft w (walk_cells c.args.self.now) es) (sym e) l in
+          given_at _ _ _ _ v es e (found_given _ _ (walk_cells c.args.self.now) _ es f c.in-Ok.entry.now v _ l' c.in-Ok.ensures.value (g.met.W.Lender.written _ _ _));
+    }),
+    tt,
+  ),
+  record {
+    lends = tt;
+    gives = λ es l.
+        let e = ap g.W.Lender.state c.in-Some.ensures.place in
+        let f = found_at _ _ _ _ _ es (sym e) (sym c.cell.ensures) (c.in-Some.ensures.some es l) in
+        found_value _ _ (walk_cells c.args.self.now) _ es f c.in-Ok.entry.now _ c.in-Ok.ensures.value c.as_mut.ensures.value;
+  },
+)
