@@ -1,5 +1,5 @@
 -- walks along a bag, and the values that are written along them
-use Rattle.std.proofs.Common.{◌≡◌, ◌≢◌, ◌⊎◌, ◌++◌, ◌==◌, ℕ, zero, suc, ◌+◌, ◌<◌, ◌≤◌, true, false, Option, None, Some, List, [], ◌∷◌, length, get_or, set, drop, map, refl, sym, ap, ◌∙◌, arith, subst, get_or-set_same, get_or-set_other, cond, inl, inr, Err, IsErrOf}
+use Rattle.std.proofs.Common.{◌≡◌, ◌≢◌, ◌⊎◌, ◌++◌, ◌==◌, ℕ, zero, suc, ◌+◌, ◌<◌, ◌≤◌, true, false, Option, None, Some, List, [], ◌∷◌, length, get_or, set, drop, map, refl, sym, ap, ◌∙◌, arith, subst, get_or-set_same, get_or-set_other, cond, inl, inr, Err, IsErrOf, OnSome, IfNone}
 use Rattle.std.proofs.lemmas.List.{length-map, map-append, drop_more, drop_all}
 use Rattle.std.proofs.lemmas.Bool.Decides.{eqb_tells}
 use Rattle.sdd_base.specs.State.{State, status_at, value_at, cell_at, with_value as with_item}
@@ -20,7 +20,8 @@ use Rattle.sdd.specs.Chain.{Entry, slots, links, IsOut, AreOut, IsItem, IsHung, 
 use Rattle.sdd.specs.Bags.{AreApart, AreOwn, AreSingle, IsBag, IsNull, IsRow, IsSomeBag, joined, cell_of}
 use Rattle.sdd.specs.Entries.{entry_link, entry_value, with_value}
 use Rattle.sdd.specs.Iters.{first_value}
-use Rattle.sdd.specs.Visits.{AreHung, AreOnce, IsLeft, IsSomeLeft, Finds, Gives, Revalues, revalue, revalued}
+use Rattle.sdd.specs.Visits.{AreHung, AreOnce, IsLeft, IsSomeLeft, Finds, Gives, Revalues, Visits, revalue, revalued, walk_bag, walk_cells, walk_name, walk_place}
+use Rattle.sdd.specs.declared.bag.IterMut.{IterMut}
 use Rattle.sdd.specs.declared.linked_entry.LinkedEntry.{LinkedEntry, LinkedEntry', None', Some'}
 use Rattle.sdd.proofs.Amounts.{row_used}
 use Rattle.sdd.proofs.Bags.{null_empty, null_not}
@@ -325,3 +326,33 @@ module _ {T : Type 0} (w : State (LinkedEntry T)) where
           left = subst (λ (s : State (LinkedEntry T)). IsLeft s ds f.rest) (sym is') (left_written f.first.slot v w f.first.item f.item.here ds f.rest (found_out l) f.left);
           revalues = subst (λ (s : State (LinkedEntry T)). Revalues w s f.first.slot v) (sym is') (revalues f.first.slot v w f.first.item f.item.here);
         }
+
+-- what holds after an entry was given, of whatever was left
+pub visited : {T W : Type 0} (state : W → State (LinkedEntry T)) (s s' : IterMut T W) (v : T) → walk_name s' ≡ walk_name s → walk_bag s' ≡ walk_bag s → IsSomeLeft (state (walk_place s)) (walk_cells s) → ((es : List (Entry (LinkedEntry T))) → IsLeft (state (walk_place s)) (walk_cells s) es → Gives (state (walk_place s)) (state (walk_place s')) (walk_cells s') v es) → Visits state s s' v
+visited state s s' v same bag left gives =
+    let k = gives left.entries left.is in
+    record {
+      same = same;
+      bag = bag;
+      left = record { entries = k.rest; is = k.left };
+      bags = λ n ds b. record { primary = revalued k.first.slot v b.primary; overflow = revalued k.first.slot v b.overflow; is = k.revalues.bags n ds b.primary b.overflow b.is };
+      members = ap (λ (w : State (LinkedEntry _)). w.members) k.now;
+      gives = gives;
+    }
+
+-- the same in a place by another name
+pub left_at : {T : Type 0} (cs : List ℕ) (w w' : State (LinkedEntry T)) → w' ≡ w → IsSomeLeft w cs → IsSomeLeft w' cs
+left_at cs w w' e l = subst (λ (s : State (LinkedEntry _)). IsSomeLeft s cs) (sym e) l
+
+pub bag_at : {T : Type 0} (n : ℕ) (ds : List ℕ) (w w' : State (LinkedEntry T)) → w' ≡ w → IsSomeBag n w ds → IsSomeBag n w' ds
+bag_at n ds w w' e b = subst (λ (s : State (LinkedEntry _)). IsSomeBag n s ds) (sym e) b
+
+-- what is told of a value that is there, and of one that isn't
+pub told_some : {X P : Type 0} (o : Option X) (x : X) → o ≡ Some x → OnSome o P → P
+told_some {P = P} o x e h = subst (λ (q : Option _). OnSome q P) e h
+
+pub told_none : {X P : Type 0} (o : Option X) → o ≡ None → IfNone o P → P
+told_none {P = P} o e h = subst (λ (q : Option _). IfNone q P) e h
+
+pub member_at : {T : Type 0} (w w' : State (LinkedEntry T)) → w' ≡ w → 0 < length w.members → 0 < length w'.members
+member_at w w' e h = subst (λ (s : State (LinkedEntry _)). 0 < length s.members) (sym e) h

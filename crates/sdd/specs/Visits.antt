@@ -11,7 +11,7 @@ use Rattle.sdd_base.specs.declared.tag.Tag.{Tag}
 use Rattle.sdd_base.specs.declared.tag.Tag.TheVariants as tag
 use Rattle.sdd_base.specs.declared.status.Cell.TheVariants as cell
 use Rattle.sdd.specs.Chain.{Entry, IsItem, IsHung, IsOut, slots}
-use Rattle.sdd.specs.Bags.{AreOwn, IsBag, joined}
+use Rattle.sdd.specs.Bags.{AreOwn, IsBag, IsSomeBag, joined}
 use Rattle.sdd.specs.Entries.{entry_link, with_value}
 use Rattle.sdd.specs.contracts.bag.IterMut.{the_row}
 use Rattle.sdd.specs.declared.bag.IterMut.{IterMut}
@@ -105,6 +105,11 @@ pub record Gives {T : Type 0} (w w' : State (LinkedEntry T)) (cs : List ℕ) (v 
 pub record Visits {T W : Type 0} (state : W → State (LinkedEntry T)) (s s' : IterMut T W) (v : T) : Type 0 where
   pub same : walk_name s' ≡ walk_name s
   pub bag : walk_bag s' ≡ walk_bag s
+  -- it can go on, each bag is a bag, and the participants are as they were
+  pub left : IsSomeLeft (state (walk_place s')) (walk_cells s')
+  pub bags : (n : ℕ) (cs : List ℕ) → IsSomeBag n (state (walk_place s)) cs → IsSomeBag n (state (walk_place s')) cs
+  pub members : (state (walk_place s')).members ≡ (state (walk_place s)).members
+  -- of what was left, the first entry was given
   pub gives : (es : List (Entry (LinkedEntry T))) → IsLeft (state (walk_place s)) (walk_cells s) es → Gives (state (walk_place s)) (state (walk_place s')) (walk_cells s') v es
 
 -- the walk s is at its end, and stays there

@@ -1,5 +1,7 @@
 //! Values in no order.
 
+ghost use Rattle.std.specs.Prelude.{◌≡◌};
+
 use crate::linked_entry::LinkedEntry;
 use sdd_base::cell::AtomicShared;
 use sdd_base::link::Link;
@@ -28,11 +30,25 @@ pub struct Stop<T> {
 
 /// A walk along a bag of the place `W`, a `World`, that lends each value for writing. It borrows the place, so that
 /// nobody else reads or changes it, and takes no memory.
-#[derive(Drop)]
 pub struct IterMut<'a, T, W> {
     pub(crate) place: &'a mut W,
     pub(crate) cells: &'a Vec<AtomicShared<LinkedEntry<T>>>,
     // The place of the cell of the next list, and the cell of what is left of the present one.
     pub(crate) row: usize,
     pub(crate) at: Link<LinkedEntry<T>>,
+}
+
+impl<'a, T, W> Drop for IterMut<'a, T, W> {
+    /// The place is as the walk left it.
+    fn drop(self)
+        ensures { self.exit.0.now ≡ self.entry.place.now }
+    {
+        let IterMut {
+            place: _,
+            cells: _,
+            row: _,
+            at,
+        } = self;
+        drop(at);
+    }
 }

@@ -15,7 +15,7 @@ use std::process::Abort;
 use std::test::Fail;
 
 /// The value of the entry that a pop gives, which is given back.
-fn pop<const N: usize>(w: &mut World<LinkedEntry<u64>>, bag: &Bag<u64, N>) -> Option<u64>
+pub(crate) fn pop<const N: usize>(w: &mut World<LinkedEntry<u64>>, bag: &Bag<u64, N>) -> Option<u64>
     requires member { 0 < length w.old.members }
     requires list { IsSomeBag N w.old (bag_cells bag.now) }
     ensures member { 0 < length w.new.members }

@@ -31,6 +31,8 @@ mod entry_tests;
 mod filling_tests;
 pub mod iter;
 pub mod laws;
+#[cfg(test)]
+mod lent_tests;
 pub mod linked_entry;
 pub mod linked_list;
 pub mod queue;

@@ -4,7 +4,7 @@ use Rattle.sdd_base.specs.State.{State}
 use Rattle.sdd_base.specs.Tokens.{link_cell, shared_cell}
 use Rattle.sdd.specs.Chain.{Entry}
 use Rattle.sdd.specs.Visits.{Finds, IsLeft, walk_cells}
-use Rattle.sdd.proofs.Visits.{found_at, found_closed, found_filled, found_given, found_sole, found_value, given_at, never_refused}
+use Rattle.sdd.proofs.Visits.{found_at, found_closed, found_filled, found_given, found_sole, found_value, given_at, never_refused, visited}
 use Rattle.sdd.proofs.bag.IterMut.next.Goals as goal
 
 pub cell_mut-requires : goal.cell_mut-requires
@@ -26,15 +26,11 @@ pub returns : goal.returns
 returns g c = (
   (
     refl,
-    (λ v. record {
-      same = c.in-Some.ensures.same;
-      bag = c.in-Some.ensures.bag;
-      gives = λ es l.
-          let e = ap g.W.Lender.state c.in-Some.ensures.place in
-          let f = found_at _ _ _ _ _ es (sym e) (sym c.cell.ensures) (c.in-Some.ensures.some es l) in
-          let l' = subst (λ (w : State _). IsLeft w (walk_cells c.args.self.now) es) (sym e) l in
-          given_at _ _ _ _ v es e (found_given _ _ (walk_cells c.args.self.now) _ es f c.in-Ok.entry.now v _ l' c.in-Ok.ensures.value (g.met.W.Lender.written _ _ _));
-    }),
+    (λ v. visited g.W.Lender.state c.args.self.now _ v c.in-Some.ensures.same c.in-Some.ensures.bag c.requires (λ es l.
+        let e = ap g.W.Lender.state c.in-Some.ensures.place in
+        let f = found_at _ _ _ _ _ es (sym e) (sym c.cell.ensures) (c.in-Some.ensures.some es l) in
+        let l' = subst (λ (w : State _). IsLeft w (walk_cells c.args.self.now) es) (sym e) l in
+        given_at _ _ _ _ v es e (found_given _ _ (walk_cells c.args.self.now) _ es f c.in-Ok.entry.now v _ l' c.in-Ok.ensures.value (g.met.W.Lender.written _ _ _)))),
     tt,
   ),
   record {
