@@ -5,8 +5,10 @@ ghost use Rattle.sdd_base.specs.State.{fresh};
 ghost use Rattle.sdd_base.specs.Place.{IsShared};
 ghost use Rattle.sdd_base.specs.Tokens.{shared_slot};
 
+use crate::cell::AtomicShared;
 use crate::guard::WorldGuard;
 use crate::holds::Holds;
+use crate::lender::Lender;
 use crate::owner::{Owned, Shared};
 use crate::refusal::{GuardsOpen, NotLent};
 use crate::sizes::Sizes;
@@ -223,6 +225,32 @@ fn a_shared_value_is_written_by_its_one_owner(rt: HostRuntime) -> Result<(), Fai
     }
     assert_eq!(rt; *world::shared::as_ref(&w, &first), 7);
     let Shared { slot: _, of: _ } = first;
+    let World { table: _ } = w;
+    Ok(())
+}
+
+#[test]
+fn a_value_is_written_by_the_cell_that_owns_it_alone(rt: HostRuntime) -> Result<(), Fail> {
+    let mut w = numbers(rt.alloc(), 1, 1)?;
+    let Ok(cell) = world::atomic_shared::new(&mut w, 5) else {
+        panic!(rt; "a slot and a cell are free");
+    };
+    let guard = guarded(&rt, &mut w, 0);
+    let Some(second) = world::atomic_shared::get_shared(&mut w, &cell, &guard) else {
+        panic!(rt; "few owners are out");
+    };
+    assert!(rt; w.has_open_guard());
+    assert_eq!(rt; w.cell_mut(&cell).err(), Some(NotLent::GuardsOpen));
+    world::guard::close(&mut w, guard);
+    assert!(rt; !w.has_open_guard());
+    assert_eq!(rt; w.cell_mut(&cell).err(), Some(NotLent::NotSole));
+    assert!(rt; !world::shared::release(&mut w, second, 0));
+    match w.cell_mut(&cell) {
+        Ok(value) => *value += 2,
+        Err(_) => panic!(rt; "the cell is the one owner"),
+    }
+    assert_eq!(rt; world::atomic_shared::as_ref(&w, &cell).copied(), Some(7));
+    let AtomicShared { cell: _, of: _ } = cell;
     let World { table: _ } = w;
     Ok(())
 }

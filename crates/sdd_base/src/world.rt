@@ -179,13 +179,13 @@ impl<T, J: Deferred> Lender<T> for World<T, J> {
         if self.table.any_open() {
             return Err(NotLent::GuardsOpen);
         }
-        match self.table.cell(cell.cell) {
-            Cell::OfShared(Some(kept), _) => match self.table.lone_mut(kept) {
-                Some(value) => Ok(value),
-                None => Err(NotLent::NotSole),
-            },
-            _ => unreachable!(),
-        }
+        let Cell::OfShared(Some(kept), _) = self.table.cell(cell.cell) else {
+            unreachable!();
+        };
+        let Some(value) = self.table.lone_mut(kept) else {
+            return Err(NotLent::NotSole);
+        };
+        Ok(value)
     }
 
     ghost written = { λ i v w. refl };
