@@ -235,21 +235,47 @@ fn a_value_is_written_by_the_cell_that_owns_it_alone(rt: HostRuntime) -> Result<
     let Ok(cell) = world::atomic_shared::new(&mut w, 5) else {
         panic!(rt; "a slot and a cell are free");
     };
-    let guard = guarded(&rt, &mut w, 0);
-    let Some(second) = world::atomic_shared::get_shared(&mut w, &cell, &guard) else {
+    assert!(rt; !w.has_open_guard());
+    match w.cell_mut(&cell) {
+        Ok(value) => {
+            assert!(rt; *value == 5);
+            *value = 7;
+        }
+        Err(_) => panic!(rt; "the cell is the one owner"),
+    }
+    let AtomicShared { cell: _, of: _ } = cell;
+    let World { table: _ } = w;
+    Ok(())
+}
+
+#[test]
+fn no_value_is_written_by_a_cell_beside_other_owners(rt: HostRuntime) -> Result<(), Fail> {
+    let mut w = numbers(rt.alloc(), 1, 1)?;
+    let first = shared_item(&rt, &mut w, 5);
+    let Some(second) = world::shared::clone(&mut w, &first) else {
         panic!(rt; "few owners are out");
+    };
+    let cell = match world::atomic_shared::from(&mut w, second) {
+        Ok(cell) => cell,
+        Err(_) => panic!(rt; "a cell is free"),
+    };
+    assert_eq!(rt; w.cell_mut(&cell).err(), Some(NotLent::NotSole));
+    let Shared { slot: _, of: _ } = first;
+    let AtomicShared { cell: _, of: _ } = cell;
+    let World { table: _ } = w;
+    Ok(())
+}
+
+#[test]
+fn no_value_is_written_by_a_cell_under_a_guard(rt: HostRuntime) -> Result<(), Fail> {
+    let mut w = numbers(rt.alloc(), 1, 1)?;
+    let guard = guarded(&rt, &mut w, 0);
+    let Ok(cell) = world::atomic_shared::new(&mut w, 5) else {
+        panic!(rt; "a slot and a cell are free");
     };
     assert!(rt; w.has_open_guard());
     assert_eq!(rt; w.cell_mut(&cell).err(), Some(NotLent::GuardsOpen));
-    world::guard::close(&mut w, guard);
-    assert!(rt; !w.has_open_guard());
-    assert_eq!(rt; w.cell_mut(&cell).err(), Some(NotLent::NotSole));
-    assert!(rt; !world::shared::release(&mut w, second, 0));
-    match w.cell_mut(&cell) {
-        Ok(value) => *value += 2,
-        Err(_) => panic!(rt; "the cell is the one owner"),
-    }
-    assert_eq!(rt; world::atomic_shared::as_ref(&w, &cell).copied(), Some(7));
+    let WorldGuard { participant: _ } = guard;
     let AtomicShared { cell: _, of: _ } = cell;
     let World { table: _ } = w;
     Ok(())
