@@ -16,3 +16,4 @@ pub mod Claims
 pub mod Amounts
 pub mod Folds
 pub mod Visits
+pub mod Guards

@@ -10,3 +10,4 @@ pub mod Iters
 pub mod Copies
 pub mod Fillings
 pub mod Visits
+pub mod Guards

@@ -246,6 +246,38 @@ fn put_behind<R: Abort>(
     (value, next.tag() == Tag::First)
 }
 
+/// What `push_back` hands back where the entry is deleted: the value of the entry that was to go behind it. Both end.
+fn put_behind_deleted<R: Abort>(rt: &R, w: &mut World<LinkedEntry<u64>>, guard: &WorldGuard) -> u64
+    requires { 0 < length w.old.members }
+    ensures member { 0 < length w.new.members }
+    ensures open { IsOpen w.old 0 → IsOpen w.new 0 }
+{
+    let first = made(rt, w, 1);
+    let second = made(rt, w, 2);
+    let at = place::shared::get_guarded_ptr(&first, guard);
+    assert!(rt; world::linked_list::delete_self(w, at));
+    let back = match world::linked_list::push_back(w, at, second, false, guard) {
+        Ok(_) => panic!(rt; "it is deleted"),
+        Err(back) => back,
+    };
+    let value = *place::shared::as_ref(w, &back).as_ref();
+    give(rt, w, back);
+    give(rt, w, first);
+    value
+}
+
+#[test]
+fn an_entry_comes_back_from_behind_a_deleted_one(rt: HostRuntime) -> Result<(), Fail> {
+    let mut w: World<LinkedEntry<u64>> = World::new(rt.alloc(), sizes(2, 4))?;
+    let Ok(guard) = place::guard::new(&mut w, 0) else {
+        panic!(rt; "no guard is open");
+    };
+    assert_eq!(rt; put_behind_deleted(&rt, &mut w, &guard), 2);
+    place::guard::close(&mut w, guard);
+    end(&rt, w);
+    Ok(())
+}
+
 #[test]
 fn an_entry_is_put_behind_another(rt: HostRuntime) -> Result<(), Fail> {
     let mut w: World<LinkedEntry<u64>> = World::new(rt.alloc(), sizes(4, 6))?;

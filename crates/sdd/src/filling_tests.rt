@@ -42,7 +42,7 @@ impl Clone for Rare {
 }
 
 /// A clone of a queue, which ends, as far as it was made, and why no further.
-fn copied_queue<T: Clone>(
+pub(crate) fn copied_queue<T: Clone>(
     w: &mut World<LinkedEntry<T>>,
     queue: Queue<T>,
 ) -> (Option<Queue<T>>, Option<NotMade>)
@@ -68,7 +68,7 @@ fn copied_queue<T: Clone>(
 }
 
 /// The same of a stack.
-fn copied_stack<T: Clone>(
+pub(crate) fn copied_stack<T: Clone>(
     w: &mut World<LinkedEntry<T>>,
     stack: Stack<T>,
 ) -> (Option<Stack<T>>, Option<NotMade>)

@@ -1,5 +1,6 @@
 //! What follows from the clauses of the calls, for every state. Nothing here runs.
 
+ghost use Rattle.sdd.specs.Guards.{GuardsLeave};
 ghost use Rattle.sdd.specs.Owners.{SpareOwners, SpareQueueOwners, ListsStay, QueuesStay, BagsStay, ReleasesLeave};
 
 use crate::linked_list::LinkedList;
@@ -35,4 +36,10 @@ pub fn bags_stay<T>()
 /// Giving an owner back changes no other item, and no cell.
 pub fn releases_leave<L>()
     ensures { ReleasesLeave L }
+{}
+
+/// Containers whose cells somebody has in hand are the same while a guard opens, whatever that reclaims, and while one
+/// closes. So after `guard::new` a list, a queue, a stack and a bag are what they were before it.
+pub fn guards_leave<T>()
+    ensures { GuardsLeave T }
 {}

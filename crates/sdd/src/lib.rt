@@ -15,9 +15,10 @@
 //!
 //! A bag is two multisets, each as a list in some order: clauses say which entry is added or taken.
 //!
-//! Not there yet: `iter_mut` of a bag. A deleted entry stays linked until it is passed at the front of its list, since
-//! `next_ptr` only reads. No clause says what an opening guard leaves of a list: open guards
-//! before a container is made, or show that the list stays by the laws of the place.
+//! The values of a bag are lent for writing, one after another, while no guard is open: a walk borrows the place, as
+//! [`world::iter_mut`] says. While a guard opens or closes, containers stay what they are ([`laws::guards_leave`]).
+//!
+//! A deleted entry stays linked until it is passed at the front of its list, since `next_ptr` only reads.
 #![tactic(auto)]
 
 pub use sdd_base;

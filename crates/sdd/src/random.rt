@@ -5,6 +5,7 @@ ghost use Rattle.sdd.specs.Entries.{entry_link};
 ghost use Rattle.sdd.specs.Stacks.{IsSomeStack, stack_cell};
 ghost use Rattle.sdd.specs.Queues.{IsSomeQueue, oldest_cell, newest_cell};
 
+use crate::filling_tests::{copied_queue, copied_stack};
 use crate::linked_entry::LinkedEntry;
 use crate::queue::Queue;
 use crate::stack::Stack;
@@ -119,6 +120,104 @@ fn a_queue_is_a_list(rt: HostRuntime) -> Result<(), Fail> {
         queue_call(&rt, &mut w, &queue, &mut list, &mut room, seed);
     }
     assert_eq!(rt; room, 0);
+    world::queue::retire(&mut w, queue, 0);
+    end(&rt, w);
+    Ok(())
+}
+
+/// As `stack_call`, or the stack's clone in its place, as `seed` says.
+fn stack_turn<R: Abort>(
+    rt: &R,
+    w: &mut World<LinkedEntry<u64>>,
+    stack: Stack<u64>,
+    list: &mut Vec<u64>,
+    room: &mut u64,
+    seed: u64,
+) -> Stack<u64>
+    requires member { 0 < length w.old.members }
+    requires list { IsSomeStack w.old (stack_cell stack) }
+    ensures member { 0 < length w.new.members }
+    ensures list { IsSomeStack w.new (stack_cell result) }
+{
+    if seed >> 60 != 8 {
+        stack_call(rt, w, &stack, list, room, seed);
+        return stack;
+    }
+    let copy = match copied_stack(w, stack) {
+        (Some(copy), None) => copy,
+        _ => panic!(rt; "there is room"),
+    };
+    *room = room.saturating_sub(list.len() as u64);
+    assert!(rt; world::stack::len(w, &copy) == list.len());
+    copy
+}
+
+/// As `queue_call`, or the queue's clone in its place, as `seed` says.
+fn queue_turn<R: Abort>(
+    rt: &R,
+    w: &mut World<LinkedEntry<u64>>,
+    queue: Queue<u64>,
+    list: &mut Vec<u64>,
+    room: &mut u64,
+    seed: u64,
+) -> Queue<u64>
+    requires member { 0 < length w.old.members }
+    requires list { IsSomeQueue entry_link w.old (oldest_cell queue) (newest_cell queue) }
+    ensures member { 0 < length w.new.members }
+    ensures list { IsSomeQueue entry_link w.new (oldest_cell result) (newest_cell result) }
+{
+    if seed >> 60 != 8 {
+        queue_call(rt, w, &queue, list, room, seed);
+        return queue;
+    }
+    let copy = match copied_queue(w, queue) {
+        (Some(copy), None) => copy,
+        _ => panic!(rt; "there is room"),
+    };
+    *room = room.saturating_sub(list.len() as u64);
+    assert!(rt; world::queue::len(w, &copy) == list.len());
+    copy
+}
+
+#[test]
+fn a_stack_of_values_and_its_clones_are_a_list(rt: HostRuntime) -> Result<(), Fail> {
+    let mut w: World<LinkedEntry<u64>> = World::new(rt.alloc(), sizes(3000, 3002))?;
+    let mut list = Vec::new(rt.alloc());
+    for value in 0..20 {
+        list.push(value).expect(&rt, "memory");
+    }
+    let mut room = 2980;
+    let mut seed = 3;
+    let mut stack = match world::stack::from_iter(&mut w, 0..20) {
+        Ok(stack) => stack,
+        _ => panic!(rt; "there is room"),
+    };
+    for _step in 0..500 {
+        seed = next(seed);
+        stack = stack_turn(&rt, &mut w, stack, &mut list, &mut room, seed);
+    }
+    world::stack::retire(&mut w, stack, 0);
+    end(&rt, w);
+    Ok(())
+}
+
+#[test]
+fn a_queue_of_values_and_its_clones_are_a_list(rt: HostRuntime) -> Result<(), Fail> {
+    let mut w: World<LinkedEntry<u64>> = World::new(rt.alloc(), sizes(3000, 3004))?;
+    let mut list = Vec::new(rt.alloc());
+    for value in 0..20 {
+        list.push(value).expect(&rt, "memory");
+    }
+    let mut room = 2980;
+    let mut seed = 4;
+    let mut queue = match world::queue::from_iter(&mut w, 0..20) {
+        Ok(queue) => queue,
+        _ => panic!(rt; "there is room"),
+    };
+    for _step in 0..500 {
+        seed = next(seed);
+        queue = queue_turn(&rt, &mut w, queue, &mut list, &mut room, seed);
+    }
     world::queue::retire(&mut w, queue, 0);
     end(&rt, w);
     Ok(())
