@@ -2,6 +2,7 @@
 use Rattle.std.proofs.Common.{◌≡◌, ◌≢◌, ◌==◌, ℕ, Bool, true, false, Option, None, Some, List, [], ◌∷◌, refl, sym, ap, ◌∙◌, subst, cond, inl, inr}
 use Rattle.std.proofs.lemmas.Bool.Decides.{eqb_tells}
 use Rattle.sdd_base.specs.State.{State, cell_at, vacancy, emptiness}
+use Rattle.sdd_base.specs.Place.{IsShared}
 use Rattle.sdd_base.specs.declared.tag.Tag.{Tag}
 use Rattle.sdd_base.specs.declared.status.Cell.TheVariants as cell
 use Rattle.sdd.specs.Chain.{Entry, slots, links, IsOut, IsItem, IsHung, IsLoose, Leaves, Fits, CanHang}
@@ -10,7 +11,7 @@ use Rattle.sdd.specs.Entries.{entry_link}
 use Rattle.sdd.specs.Stacks.{IsMade}
 use Rattle.sdd.specs.declared.linked_entry.LinkedEntry.{LinkedEntry}
 use Rattle.sdd.proofs.Fillings.{used_cell, used_slot}
-use Rattle.sdd.proofs.Chains.{cell_left, item_left, hung_out, leaves_then, leaves_more}
+use Rattle.sdd.proofs.Chains.{cell_left, item_left, hung_out, leaves_then, leaves_more, item_shared}
 use Rattle.sdd.proofs.Nodes.{same_link, link_in, retagged_links, retagged_slots}
 
 inserted_links : {L : Type 0} (i j : ℕ) (x : Entry L) (es : List (Entry L)) → IsOut j (links es) → j ≢ x.link → IsOut j (links (inserted i x es))
@@ -117,3 +118,21 @@ can_insert_made w w1 w2 u v i j o a b l at =
       other = λ q. used_slot w1 b.entry.slot a.entry.slot b.new.slot (ap vacancy a.loose.item.shared) (sym q);
       apart = record { cell = used_cell w1 b.entry.link a.entry.link b.new.link (ap emptiness a.loose.empty); link = tt; slot = tt };
     }
+
+-- an entry can be put behind another one still where that has another tag
+pub can_insert_retagged : {L : Type 0} (link : L → Option ℕ) (w w' : State L) (u : Tag) (o o' : Option ℕ) (i : ℕ) (k : CanInsert link w o i) → o' ≡ o → Retags link w w' k.entry u → Leaves (k.entry.link ∷ []) [] w w' → CanInsert link w' o' i
+can_insert_retagged link w w' u o o' i k same r l = record {
+  entry = record k.entry { tag = u };
+  rest = k.rest;
+  is = record { names = same ∙ k.is.names; item = r.node.item; next = r.node.next; kept = r.node.kept };
+  hung = r.behind k.rest k.hung;
+  new = k.new;
+  at = k.at;
+  loose = record { item = item_left link (k.entry.link ∷ []) [] w w' k.new l tt k.loose.item; empty = cell_left link (k.entry.link ∷ []) [] w w' k.new.link None k.new.tag l (λ q. k.apart.cell (sym q), tt) k.loose.empty };
+  clear = k.clear;
+  other = k.other;
+  apart = k.apart;
+}
+
+pub new_shared : {L : Type 0} (link : L → Option ℕ) (w w' : State L) (o : Option ℕ) (i j : ℕ) (k : CanInsert link w o i) → j ≡ i → w' ≡ w → IsShared w' j
+new_shared link w w' o i j k at same = subst (λ (v : State _). IsShared v j) (sym same) (subst (λ (n : ℕ). IsShared w n) (sym (at ∙ k.at)) (item_shared link w k.new k.loose.item))

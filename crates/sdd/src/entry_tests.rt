@@ -255,8 +255,11 @@ fn put_behind_deleted<R: Abort>(rt: &R, w: &mut World<LinkedEntry<u64>>, guard: 
     let first = made(rt, w, 1);
     let second = made(rt, w, 2);
     let at = place::shared::get_guarded_ptr(&first, guard);
-    assert!(rt; world::linked_list::delete_self(w, at));
-    let back = match world::linked_list::push_back(w, at, second, false, guard) {
+    if !world::linked_list::delete_self(w, at) {
+        panic!(rt; "it wasn't deleted before");
+    }
+    let deleted = place::shared::get_guarded_ptr(&first, guard);
+    let back = match world::linked_list::push_back(w, deleted, second, false, guard) {
         Ok(_) => panic!(rt; "it is deleted"),
         Err(back) => back,
     };
