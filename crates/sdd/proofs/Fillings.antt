@@ -1,7 +1,7 @@
 -- containers that are filled, value by value
 use Rattle.std.proofs.Common.{◌≡◌, ◌≢◌, ◌⊎◌, ◌++◌, ℕ, ◌+◌, ◌≤◌, ◌<◌, Bool, true, false, Option, None, Some, List, [], ◌∷◌, length, refl, sym, ap, ◌∙◌, arith, subst, cond, inl, inr, reverse, MatchOption}
 use Rattle.std.proofs.lemmas.List.{nil_from_length, append_assoc, append-nil, reverse-append}
-use Rattle.sdd_base.specs.State.{State, status_at, cell_at, vacancy, emptiness, in_use, IsFree, IsFreeCell}
+use Rattle.sdd_base.specs.State.{State, status_at, cell_at, vacancy, emptiness, IsFree, IsFreeCell}
 use Rattle.sdd_base.specs.declared.tag.Tag.{Tag}
 use Rattle.sdd_base.specs.declared.tag.Tag.TheVariants as tag
 use Rattle.sdd_base.specs.declared.status.Status.{Status}
@@ -16,7 +16,7 @@ use Rattle.sdd.specs.Bags.{Puts, IsBag, IsSameBag, AreFreeCells, Adds, Removes, 
 use Rattle.sdd.specs.Fillings.{AreNew, FillsQueue, FillsStack, FillsBag, Extends, ExtendsLast, Copies, CantCopy, entry_values}
 use Rattle.sdd.specs.declared.linked_entry.LinkedEntry.{LinkedEntry}
 use Rattle.sdd.specs.declared.refusal.NotMade.TheVariants as NotMade
-use Rattle.sdd.proofs.Chains.{hung_left, out_of_none, free_cell_out, free_slot_out}
+use Rattle.sdd.proofs.Chains.{hung_left, free_cell_out, free_slot_out}
 use Rattle.sdd.proofs.Fronts.{still_hung, can_hang, new_fits, put_leaves}
 use Rattle.sdd.proofs.Queues.{new_follows, queue_stays}
 use Rattle.sdd.proofs.Tails.{end_tag, hung_end, hung_append}

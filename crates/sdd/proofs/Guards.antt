@@ -1,5 +1,5 @@
 -- lists in a place while a guard opens or closes
-use Rattle.std.proofs.Common.{◌≡◌, ◌≢◌, ◌⊎◌, ◌==◌, ◌++◌, ℕ, zero, suc, ◌+◌, ◌-◌, ◌<◌, ◌≤◌, true, false, Option, None, Some, List, [], ◌∷◌, length, get_or, set, refl, sym, ap, ◌∙◌, arith, subst, cond, inl, inr, leb, ltb, ◌&&◌, get_or-set_other, sum_by}
+use Rattle.std.proofs.Common.{◌≡◌, ◌≢◌, ◌⊎◌, ◌==◌, ◌++◌, ℕ, zero, suc, ◌+◌, ◌-◌, ◌<◌, ◌≤◌, true, false, Option, None, Some, List, [], ◌∷◌, length, get_or, set, refl, sym, ap, ◌∙◌, arith, subst, cond, inl, inr, leb, ltb, ◌&&◌, get_or-set_other}
 use Rattle.std.specs.List.{list_all}
 use Rattle.std.proofs.lemmas.List.Sums.{sum_by-set}
 use Rattle.sdd_base.specs.Holding.{Hold, OwnedItem, SharedItem, OwnedIn, SharedIn}
@@ -16,15 +16,15 @@ use Rattle.sdd_base.specs.declared.status.Cell.{Cell}
 use Rattle.sdd_base.specs.declared.status.Marks.{Marks}
 use Rattle.sdd_base.specs.declared.status.Cell.TheVariants as cell
 use Rattle.sdd_base.proofs.Cells.{held_cells_stay}
-use Rattle.sdd_base.proofs.Counts.{counted_opened, tally-cons}
+use Rattle.sdd_base.proofs.Counts.{counted_opened}
 use Rattle.sdd_base.proofs.Frames.{keeps_opened}
 use Rattle.sdd_base.proofs.Lists.{hit-same}
 use Rattle.sdd_base.proofs.Slots.{at_most}
-use Rattle.sdd.specs.Chain.{Entry, slots, links, IsOut, IsItem, IsHung, Leaves}
+use Rattle.sdd.specs.Chain.{Entry, links, IsOut, IsItem, IsHung, Leaves}
 use Rattle.sdd.specs.Bags.{AreOwn, IsBag, joined}
 use Rattle.sdd.specs.Guards.{GuardsLeave}
 use Rattle.sdd.specs.Entries.{entry_holds, entry_link, holds_link}
-use Rattle.sdd.specs.Queues.{HasTwo, IsQueue, last_slot}
+use Rattle.sdd.specs.Queues.{IsQueue, last_slot}
 use Rattle.sdd.specs.declared.linked_entry.LinkedEntry.{LinkedEntry}
 use Rattle.sdd.proofs.Chains.{inside_cells}
 use Rattle.sdd.proofs.Rows.{own_both, own_first, own_second}

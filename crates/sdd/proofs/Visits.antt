@@ -1,10 +1,10 @@
 -- walks along a bag, and the values that are written along them
-use Rattle.std.proofs.Common.{◌≡◌, ◌≢◌, ◌⊎◌, ◌++◌, ◌==◌, ℕ, zero, suc, ◌+◌, ◌<◌, ◌≤◌, true, false, Option, None, Some, List, [], ◌∷◌, length, get_or, set, drop, map, refl, sym, ap, ◌∙◌, arith, subst, get_or-set_same, get_or-set_other, cond, inl, inr, Err, IsErrOf, OnSome, IfNone}
+use Rattle.std.proofs.Common.{◌≡◌, ◌⊎◌, ◌++◌, ◌==◌, ℕ, zero, suc, ◌+◌, ◌<◌, ◌≤◌, true, false, Option, None, Some, List, [], ◌∷◌, length, get_or, drop, map, refl, sym, ap, ◌∙◌, arith, subst, get_or-set_same, get_or-set_other, cond, inl, inr, Err, IsErrOf, OnSome, IfNone}
 use Rattle.std.proofs.lemmas.List.{length-map, map-append, drop_more, drop_all}
 use Rattle.std.proofs.lemmas.Bool.Decides.{eqb_tells}
 use Rattle.sdd_base.specs.State.{State, status_at, value_at, cell_at, with_value as with_item}
 use Rattle.sdd_base.specs.Steps.{NoneOpen}
-use Rattle.sdd_base.specs.Place.{IsOpen, IsShared, IsSharedCell, HasOneOwner}
+use Rattle.sdd_base.specs.Place.{IsOpen, IsSharedCell, HasOneOwner}
 use Rattle.sdd_base.specs.Filled.{IsFilled, slot_in}
 use Rattle.sdd_base.specs.Tokens.{shared_cell}
 use Rattle.sdd_base.specs.declared.cell.AtomicShared.{AtomicShared}
@@ -16,7 +16,7 @@ use Rattle.sdd_base.specs.declared.status.Status.{Status}
 use Rattle.sdd_base.specs.declared.status.Status.TheVariants as status
 use Rattle.sdd_base.specs.declared.status.Cell.{Cell}
 use Rattle.sdd_base.specs.declared.status.Cell.TheVariants as cell
-use Rattle.sdd.specs.Chain.{Entry, slots, links, IsOut, AreOut, IsItem, IsHung, Hangs, Leaves}
+use Rattle.sdd.specs.Chain.{Entry, slots, links, IsOut, IsItem, IsHung, Hangs, Leaves}
 use Rattle.sdd.specs.Bags.{AreApart, AreOwn, AreSingle, IsBag, IsNull, IsRow, IsSomeBag, joined, cell_of}
 use Rattle.sdd.specs.Entries.{entry_link, entry_value, with_value}
 use Rattle.sdd.specs.Iters.{first_value}
@@ -25,7 +25,7 @@ use Rattle.sdd.specs.declared.bag.IterMut.{IterMut}
 use Rattle.sdd.specs.declared.linked_entry.LinkedEntry.{LinkedEntry, LinkedEntry', None', Some'}
 use Rattle.sdd.proofs.Amounts.{row_used}
 use Rattle.sdd.proofs.Bags.{null_empty, null_not}
-use Rattle.sdd.proofs.Chains.{head_cell, hung_first, hung_left, inside_cells, item_left, item_shared, out_of_none, some_same, starts_link, the_same, Starts}
+use Rattle.sdd.proofs.Chains.{head_cell, hung_left, inside_cells, item_left, item_shared, out_of_none, some_same, starts_link, the_same, Starts}
 use Rattle.sdd.proofs.Releases.{out_of_one}
 use Rattle.sdd.proofs.Walks.{AreUsed}
 

@@ -1,5 +1,5 @@
 -- walks that lend each value of a bag for writing
-use Rattle.std.specs.Prelude.{◌≡◌, ℕ, ◌+◌, ◌++◌, ◌==◌, cond, Option, OnSome, IfNone, List, [], ◌∷◌, map, drop, Some}
+use Rattle.std.specs.Prelude.{◌≡◌, ℕ, ◌==◌, cond, Option, OnSome, IfNone, List, [], ◌∷◌, map, drop, Some}
 use Rattle.std.specs.Borrow.{Fml, GName, LendsSo, MutBor, RattleType}
 use mir.Syntax.{named}
 use Rattle.sdd_base.specs.State.{State, cell_at, with_value as with_item}

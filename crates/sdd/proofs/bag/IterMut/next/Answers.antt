@@ -1,9 +1,6 @@
-use Rattle.std.proofs.Common.{◌≡◌, ℕ, List, refl, sym, ap, subst, ◌∙◌, Some}
-use Rattle.sdd_base.specs.Filled.{IsFilled}
+use Rattle.std.proofs.Common.{refl, sym, ap, subst}
 use Rattle.sdd_base.specs.State.{State}
-use Rattle.sdd_base.specs.Tokens.{link_cell, shared_cell}
-use Rattle.sdd.specs.Chain.{Entry}
-use Rattle.sdd.specs.Visits.{Finds, IsLeft, walk_cells}
+use Rattle.sdd.specs.Visits.{IsLeft, walk_cells}
 use Rattle.sdd.proofs.Visits.{found_at, found_closed, found_filled, found_given, found_sole, found_value, given_at, never_refused, visited}
 use Rattle.sdd.proofs.bag.IterMut.next.Goals as goal
 

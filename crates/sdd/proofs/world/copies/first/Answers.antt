@@ -1,7 +1,6 @@
-use Rattle.std.proofs.Common.{◌∙◌, ap, subst, sym, Bool, List}
+use Rattle.std.proofs.Common.{◌∙◌, subst, Bool}
 use Rattle.sdd_base.specs.Tokens.{link_cell, shared_cell}
 use Rattle.sdd.specs.Chain.{Begins}
-use Rattle.sdd.specs.Entries.{entry_value}
 use Rattle.sdd.proofs.Fillings.{copies_gone, copies_kept, cant_copy}
 use Rattle.sdd.proofs.world.copies.first.Goals as goal
 

@@ -1,8 +1,6 @@
-use Rattle.std.proofs.Common.{ℕ, List, [], ◌∷◌, ◌+◌, ◌<◌, ◌≤◌, arith, drop, inl, inr, map, length, subst, sym, ◌∙◌, true, refl}
-use Rattle.std.proofs.lemmas.List.{length-map, drop_all}
+use Rattle.std.proofs.Common.{◌<◌, arith, drop, inl, map, length, ◌∙◌, true, refl}
+use Rattle.std.proofs.lemmas.List.{length-map}
 use Rattle.sdd_base.specs.Tokens.{link_cell, shared_cell}
-use Rattle.sdd.specs.Chain.{Entry}
-use Rattle.sdd.specs.Visits.{IsLeft}
 use Rattle.sdd.proofs.Rows.{numbered, null_at}
 use Rattle.sdd.proofs.Visits.{left_shared, pass_on, none_after}
 use Rattle.sdd.proofs.world.iter_mut.seek.Goals as goal

@@ -1,10 +1,9 @@
-use Rattle.std.proofs.Common.{◌≡◌, ◌∙◌, ap, sym, subst, refl, Some, ℕ}
+use Rattle.std.proofs.Common.{◌∙◌, ap, sym, subst, refl, Some, ℕ}
 use Rattle.std.proofs.lemmas.Bool.{false≢true}
-use Rattle.sdd_base.specs.State.{State, cell_at}
+use Rattle.sdd_base.specs.State.{cell_at}
 use Rattle.sdd_base.specs.Place.{IsSharedCell}
-use Rattle.sdd_base.specs.Tokens.{ptr_slot, ptr_tag, shared_cell, shared_slot}
+use Rattle.sdd_base.specs.Tokens.{ptr_slot, shared_cell, shared_slot}
 use Rattle.sdd_base.specs.declared.tag.Tag.{Tag}
-use Rattle.sdd_base.specs.declared.status.Cell.TheVariants as cell
 use Rattle.sdd.specs.Chain.{deleted}
 use Rattle.sdd.specs.Nodes.{Inserts}
 use Rattle.sdd.proofs.Chains.{inside_cells, kept_same}

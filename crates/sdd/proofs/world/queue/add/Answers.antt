@@ -1,4 +1,4 @@
-use Rattle.std.proofs.Common.{◌∙◌, ◌∷◌, refl, List}
+use Rattle.std.proofs.Common.{◌∷◌, refl}
 use Rattle.sdd.specs.Chain.{links, slots}
 use Rattle.sdd.specs.Entries.{entry_link}
 use Rattle.sdd.specs.Queues.{oldest_cell, newest_cell}

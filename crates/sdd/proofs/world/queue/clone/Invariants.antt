@@ -1,4 +1,4 @@
-use Rattle.std.proofs.Common.{◌≡◌, ◌<◌, ℕ, List, length}
+use Rattle.std.proofs.Common.{List}
 use Rattle.sdd_base.specs.Frame.{OnlyOf}
 use Rattle.sdd_base.specs.Tokens.{link_cell}
 use Rattle.sdd.specs.Chain.{Entry}

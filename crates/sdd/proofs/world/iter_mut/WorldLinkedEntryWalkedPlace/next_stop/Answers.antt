@@ -1,10 +1,10 @@
-use Rattle.std.proofs.Common.{◌≡◌, ℕ, List, [], ◌∷◌, ◌≤◌, ◌⊎◌, drop, map, refl, sym, subst, ◌∙◌, inl, inr, arith, false, length}
+use Rattle.std.proofs.Common.{◌≡◌, ℕ, [], ◌∷◌, ◌⊎◌, drop, map, refl, sym, subst, ◌∙◌, inl, inr, arith, false}
 use Rattle.std.proofs.lemmas.List.{length-map, drop_all}
 use Rattle.sdd_base.specs.Tokens.{link_cell, shared_cell}
 use Rattle.sdd.specs.Bags.{IsNull}
-use Rattle.sdd.specs.Chain.{Entry, Hangs, IsHung}
+use Rattle.sdd.specs.Chain.{IsHung}
 use Rattle.sdd.specs.Entries.{entry_link}
-use Rattle.sdd.specs.Visits.{IsLeft, IsSomeLeft, Finds, cells_from}
+use Rattle.sdd.specs.Visits.{IsLeft, Finds}
 use Rattle.sdd.proofs.Chains.{head_cell, hung_there, starts, starts_not, starts_link}
 use Rattle.sdd.proofs.Visits.{hangs_at, left_none, find_first}
 use Rattle.sdd.proofs.world.iter_mut.WorldLinkedEntryWalkedPlace.next_stop.Goals as goal
