@@ -1,4 +1,4 @@
-use Rattle.std.proofs.Common.{◌≡◌, ℕ, List, [], ◌∷◌, Some, sym, ap, arith, subst}
+use Rattle.std.proofs.Common.{ℕ, List, [], ◌∷◌, Some, sym, ap, arith, subst}
 use Rattle.sdd_base.specs.Counting.{Counted, OwnersAreCounted}
 use Rattle.sdd_base.specs.Holding.{Hold, SharedIn, SharedItem}
 use Rattle.sdd_base.specs.State.{State}

@@ -1,4 +1,4 @@
-use Rattle.std.proofs.Common.{◌≡◌, ◌<◌, ℕ, List, [], ◌∷◌, length, sym, subst, arith}
+use Rattle.std.proofs.Common.{◌<◌, ℕ, List, [], ◌∷◌, length, sym, subst, arith}
 use Rattle.sdd_base.specs.Counting.{Counted, OwnersAreCounted}
 use Rattle.sdd_base.specs.Holding.{Hold, SharedIn}
 use Rattle.sdd_base.specs.State.{State}
