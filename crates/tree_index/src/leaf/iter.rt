@@ -71,7 +71,7 @@ impl<'l, K: Ord, V> Iter<'l, K, V> {
     ///
     /// The tree, which is the one that the leaf is of, is searched for the first pair whose key is greater than
     /// all of the leaf's; where the leaf lost its pairs, greater than the key of the one that it lost last. A
-    /// leaf that had none has no next one.
+    /// leaf that has none, and keeps none that it lost, leads nowhere.
     pub fn jump(&mut self, tree: &'l TreeIndex<K, V>) -> Option<(&'l K, &'l V)>
         ensures next { MatchOption (key_behind self.old) (result ≡ None) (λ k. referred result ≡ slice_get tree.now.pairs (before_start K.cmp (Excluded k) tree.now.pairs)) }
         ensures shown { IfSome result (λ p. ranked self.new.rank self.new.pairs ≡ Some (p.0.now, p.1.now)) }

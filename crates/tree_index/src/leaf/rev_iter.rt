@@ -68,7 +68,7 @@ impl<'l, K: Ord, V> RevIter<'l, K, V> {
     ///
     /// The tree, which is the one that the leaf is of, is searched for the last pair whose key is less than
     /// all of the leaf's; where the leaf lost its pairs, less than the key of the one that it lost last. A
-    /// leaf that had none has no next one.
+    /// leaf that has none, and keeps none that it lost, leads nowhere.
     pub fn jump(&mut self, tree: &'l TreeIndex<K, V>) -> Option<(&'l K, &'l V)>
         ensures next { MatchOption (key_before self.old) (result ≡ None) (λ k. referred result ≡ ranked (up_to_end K.cmp (Excluded k) tree.now.pairs) tree.now.pairs) }
         ensures shown { IfSome result (λ p. ranked self.new.rank self.new.pairs ≡ Some (p.0.now, p.1.now)) }
