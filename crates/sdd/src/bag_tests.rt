@@ -1,6 +1,7 @@
 //! Bags beside the multisets that they are.
 
 ghost use Rattle.std.specs.Prelude.{◌≡◌, ◌<◌, length};
+ghost use Rattle.sdd_base.specs.Place.{IsOpen};
 ghost use Rattle.sdd.specs.Bags.{IsSomeBag, bag_cells, into_cells};
 
 use crate::bag::{Bag, IntoIter};
@@ -19,6 +20,7 @@ pub(crate) fn pop<const N: usize>(w: &mut World<LinkedEntry<u64>>, bag: &Bag<u64
     requires member { 0 < length w.old.members }
     requires list { IsSomeBag N w.old (bag_cells bag.now) }
     ensures member { 0 < length w.new.members }
+    ensures open { IsOpen w.old 0 → IsOpen w.new 0 }
     ensures list { IsSomeBag N w.new (bag_cells bag.now) }
 {
     match world::bag::pop(w, bag, 0) {

@@ -1,6 +1,7 @@
 //! Values of bags that are written where they are.
 
 ghost use Rattle.std.specs.Prelude.{◌≡◌, ◌<◌, ◌≤◌, length};
+ghost use Rattle.sdd_base.specs.Place.{IsOpen};
 ghost use Rattle.sdd.specs.Bags.{IsSomeBag, bag_cells};
 
 use crate::bag::Bag;
@@ -10,7 +11,6 @@ use crate::tests::{end, sizes};
 use crate::world;
 use crate::world::iter_mut::BagPlace;
 use sdd_base::refusal::GuardsOpen;
-use sdd_base::sizes::Sizes;
 use sdd_base::world as place;
 use sdd_base::world::World;
 use std::process::Abort;
@@ -169,26 +169,32 @@ fn a_bag_without_overflow_is_lent(rt: HostRuntime) -> Result<(), Fail> {
     Ok(())
 }
 
+/// Whether a walk is refused.
+fn is_refused<const N: usize>(w: &mut World<LinkedEntry<u64>>, bag: &Bag<u64, N>) -> bool
+    requires member { 0 < length w.old.members }
+    requires list { IsSomeBag N w.old (bag_cells bag.now) }
+    ensures member { 0 < length w.new.members }
+    ensures open { IsOpen w.old 0 → IsOpen w.new 0 }
+    ensures list { IsSomeBag N w.new (bag_cells bag.now) }
+{
+    let _walk = match w.iter_mut(bag) {
+        Ok(walk) => walk,
+        Err(GuardsOpen) => return true,
+    };
+    false
+}
+
 #[test]
 fn nothing_is_lent_under_a_guard(rt: HostRuntime) -> Result<(), Fail> {
-    let sizes = Sizes {
-        participants: 2,
-        slots: 1,
-        cells: 3,
-        jobs: 0,
-    };
-    let mut w: World<LinkedEntry<u64>> = World::new(rt.alloc(), sizes)?;
-    let Ok(guard) = place::guard::new(&mut w, 1) else {
+    let mut w: World<LinkedEntry<u64>> = World::new(rt.alloc(), sizes(1, 3))?;
+    let Ok(guard) = place::guard::new(&mut w, 0) else {
         panic!(rt; "no guard is open");
     };
     let Ok(bag) = world::bag::new::<u64, 1>(rt.alloc(), &mut w) else {
         panic!(rt; "two cells are free");
     };
     assert_eq!(rt; world::bag::push(&mut w, &bag, 7), Ok(()));
-    match w.iter_mut(&bag) {
-        Ok(_) => panic!(rt; "a guard is open"),
-        Err(refused) => assert_eq!(rt; refused, GuardsOpen),
-    }
+    assert!(rt; is_refused(&mut w, &bag));
     assert_eq!(rt; world::bag::len(&w, &bag), 1);
     assert_eq!(rt; pop(&mut w, &bag), Some(7));
     world::bag::retire(&mut w, bag, 0);
