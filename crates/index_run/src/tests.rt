@@ -1,5 +1,7 @@
 //! Scripts and their outputs, readers that cut and fail, writers that fail.
 
+ghost use Rattle.std.specs.Prelude.{◌≡◌, ◌<◌, ◌+◌};
+
 use crate::line::LONGEST;
 use crate::reply::{LONGEST_FAULT, write_fault, write_reply};
 use crate::request::Fault;
@@ -8,6 +10,7 @@ use crate::script::Script;
 use ordered_index::{Accepted, Cause, DeskReply, Refused, Reply};
 use std::alloc::Global;
 use std::io::{self, Read, Write};
+use std::process::Abort;
 use std::str;
 use std::test::Fail;
 
@@ -240,30 +243,74 @@ fn the_longest_reply_to_a_line_at_fault_has_35_bytes(rt: HostRuntime) -> Result<
     Ok(())
 }
 
-// A text that would grow shows that memory was taken.
+// A line has this reply. A text that grows would show that memory was taken.
+fn is_answered<R: Abort>(
+    rt: &R,
+    script: &mut Script<1>,
+    text: &mut String,
+    line: Option<&[u8]>,
+    reply: &str,
+)
+    requires { script.old.line < 10 }
+    ensures { script.new.line ≡ script.old.line + 1 }
+{
+    match script.act(line, text) {
+        Ok(()) => {
+            assert!(rt; text.as_str() == reply);
+            assert!(rt; text.capacity() == LONGEST_FAULT);
+        }
+        Err(_) => panic!(rt; "memory was refused"),
+    }
+}
+
 #[test]
 fn lines_at_fault_are_answered_in_the_memory_that_is_there(rt: HostRuntime) -> Result<(), Fail> {
-    let lines: [(Option<&[u8]>, &str); 10] = [
-        (None, "line 1: long\n"),
-        (Some(b"\xff"), "line 2: text\n"),
-        (Some(b"unknown"), "line 3: command\n"),
-        (Some(b"insert 1"), "line 4: words\n"),
-        (Some(b"insert x value"), "line 5: number\n"),
-        (Some(b"delete 1 2"), "line 6: bound\n"),
-        (Some(b"get 7 1"), "line 7: session\n"),
-        (Some(b"commit 7"), "line 8: session\n"),
-        (Some(b"open 3"), "open 3 at 0\n"),
-        (Some(b"open 3"), "line 10: busy\n"),
-    ];
-    let mut script = Script::<1>::new(rt.alloc(), 1, 1)?;
     let mut text = String::with_capacity(rt.alloc(), LONGEST_FAULT)?;
-    for (line, reply) in lines {
-        let Ok(()) = script.act(line, &mut text) else {
-            panic!(rt; "memory was refused");
-        };
-        assert_eq!(rt; text.as_str(), reply);
-        assert_eq!(rt; text.capacity(), LONGEST_FAULT);
-    }
+    let mut script = Script::<1>::new(rt.alloc(), 1, 1)?;
+    is_answered(&rt, &mut script, &mut text, None, "line 1: long\n");
+    is_answered(&rt, &mut script, &mut text, Some(b"\xff"), "line 2: text\n");
+    is_answered(
+        &rt,
+        &mut script,
+        &mut text,
+        Some(b"other"),
+        "line 3: command\n",
+    );
+    is_answered(
+        &rt,
+        &mut script,
+        &mut text,
+        Some(b"insert 1"),
+        "line 4: words\n",
+    );
+    is_answered(
+        &rt,
+        &mut script,
+        &mut text,
+        Some(b"remove x"),
+        "line 5: number\n",
+    );
+    is_answered(
+        &rt,
+        &mut script,
+        &mut text,
+        Some(b"get 7 1"),
+        "line 6: session\n",
+    );
+    is_answered(
+        &rt,
+        &mut script,
+        &mut text,
+        Some(b"open 3"),
+        "open 3 at 0\n",
+    );
+    is_answered(
+        &rt,
+        &mut script,
+        &mut text,
+        Some(b"open 3"),
+        "line 8: busy\n",
+    );
     script.end();
     Ok(())
 }
