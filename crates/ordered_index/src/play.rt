@@ -121,8 +121,8 @@ pub fn play_all<K: Clone + Ord, V: Clone + Eq, const S: usize>(
 
 /// Makes one call: what [`play_all`] does of a list of one, without a list of calls or of replies.
 ///
-/// Where memory is refused, also to a commit, nothing has changed. A call that names no session, or
-/// opens one under a label in use, takes no memory.
+/// Where memory is refused, also to a commit, nothing has changed. A call by a label without a
+/// session, or one that opens a label in use, takes no memory.
 pub fn play_one<K: Clone + Ord, V: Clone + Eq, const S: usize>(
     alloc: Global,
     index: &mut LocalIndex<K, V, S>,
