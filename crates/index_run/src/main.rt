@@ -1,15 +1,7 @@
-//! Runs a script on an ordered index.
+//! Runs a script on an ordered index: 64 pairs a segment, 16 places for sessions, 4,096 slots.
 #![tactic(auto)]
 
-mod line;
-mod reply;
-mod request;
-mod run;
-mod script;
-mod text;
-mod words;
-
-use run::{outcome, run};
+use index_script::run::{outcome, run};
 use std::io;
 use std::process::ExitCode;
 
@@ -19,12 +11,3 @@ fn main(rt: HostRuntime) -> ExitCode {
     let _ = eprint!(rt; "{text}");
     ExitCode::from(status)
 }
-
-#[cfg(test)]
-mod random_tests;
-#[cfg(test)]
-mod read_tests;
-#[cfg(test)]
-mod refusals;
-#[cfg(test)]
-mod tests;

@@ -1,6 +1,0 @@
-use Rattle.index_run.specs.Requests.{Audit}
-use Rattle.index_run.proofs.Numbers.{unfit}
-use Rattle.index_run.proofs.request.audit.Goals as goal
-
-pub returns-in-Err : goal.returns-in-Err
-returns-in-Err c = unfit Audit c.args.rest.now c.in-Err.fault c.in-Err.ensures.err

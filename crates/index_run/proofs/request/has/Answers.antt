@@ -1,6 +1,0 @@
-use Rattle.index_run.specs.Requests.{Has}
-use Rattle.index_run.proofs.Numbers.{unfit}
-use Rattle.index_run.proofs.request.has.Goals as goal
-
-pub returns-in-Err : goal.returns-in-Err
-returns-in-Err c = unfit Has c.args.rest.now c.in-Err.fault c.in-Err.ensures.err

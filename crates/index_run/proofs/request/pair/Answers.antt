@@ -1,5 +1,0 @@
-use Rattle.index_run.proofs.Numbers.{no_value}
-use Rattle.index_run.proofs.request.pair.Goals as goal
-
-pub returns-in_default-clause-err : goal.returns-in_default-clause-err
-returns-in_default-clause-err c = no_value c.args.rest.now c.in_default.ensures.none

@@ -1,5 +1,0 @@
-use Rattle.index_run.proofs.Bytes.{stops-at_once}
-use Rattle.index_run.proofs.run.run.Goals as goal
-
-pub returns-in_default-clause-memory : goal.returns-in_default-clause-memory
-returns-in_default-clause-memory g c = λ e. stops-at_once _ _ _ _

@@ -1,0 +1,6 @@
+use Rattle.index_script.specs.Requests.{Len}
+use Rattle.index_script.proofs.Numbers.{unfit}
+use Rattle.index_script.proofs.request.len.Goals as goal
+
+pub returns-in-Err : goal.returns-in-Err
+returns-in-Err c = unfit Len c.args.rest.now c.in-Err.fault c.in-Err.ensures.err
