@@ -176,9 +176,9 @@ impl<K: Ord, V> Array<K, V> {
         self.slots.newest()
     }
 
-    /// The rank of a slot, 0 if its pair can't be reached.
+    /// The rank of a slot, 0 if its pair can't be reached: what [`Array::remove_unchecked`] asks for is above that.
     #[inline]
-    pub(crate) fn rank_of(&self, slot: u8) -> u8
+    pub fn rank_of(&self, slot: u8) -> u8
         ensures rank { result ≡ rank_in slot self.now.labels }
         ensures within { result ≤ 15 }
     {
@@ -205,9 +205,11 @@ impl<K: Ord, V> Array<K, V> {
         self.slots.under(rank)
     }
 
-    /// How many bits are set.
+    /// How many bits of the bitmap are set: how many pairs can be reached, or were removed or replaced and are kept.
+    ///
+    /// Below 15 there is room for an insertion by place, as [`Array::insert_dry`] and [`Array::insert_unchecked`] ask for.
     #[inline(always)]
-    pub(crate) fn used(&self) -> u8
+    pub fn used(&self) -> u8
         ensures count { result ≡ self.now.used }
         ensures within { result ≤ 15 }
     {

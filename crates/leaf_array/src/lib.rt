@@ -30,8 +30,6 @@ mod range;
 mod result;
 mod row;
 mod slots;
-#[cfg(test)]
-mod tests;
 mod unchecked;
 mod walk;
 mod word;

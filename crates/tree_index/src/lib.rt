@@ -20,27 +20,15 @@
 mod arenas;
 mod copy;
 mod cursor;
-#[cfg(test)]
-mod cursor_tests;
 mod equal;
 mod index;
 mod iter;
 pub mod leaf;
-#[cfg(test)]
-mod leaf_tests;
 pub mod node;
-#[cfg(test)]
-mod node_tests;
 mod proximity;
 mod range;
-#[cfg(test)]
-mod refusals;
 mod removal;
-#[cfg(test)]
-mod removal_tests;
 mod split;
-#[cfg(test)]
-mod tests;
 mod walk;
 
 pub use index::{InsertRefused, TreeIndex};

@@ -1,9 +1,9 @@
 //! Runs in which any one allocation may be refused. A script has each refused in turn: whatever is
 //! refused, nothing has changed, and the same call then succeeds.
 
-use super::*;
 use std::alloc::Global;
 use std::process::Abort;
+use tree_index::{InsertRefused, TreeIndex};
 
 /// Inserts a pair, again where memory was refused, and looks whether anything had changed then.
 fn insert<R: Abort>(rt: &R, tree: &mut TreeIndex<u64, u64>, key: u64, met: &mut bool) {

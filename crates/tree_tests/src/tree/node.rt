@@ -1,10 +1,11 @@
 //! Nodes by example, and the leaves that they lend.
 
-use crate::leaf::{Iter, Leaf, RevIter};
-use crate::{Node, TreeIndex};
+use super::leaf_at;
 use std::alloc::Global;
 use std::process::Abort;
 use std::test::Fail;
+use tree_index::leaf::{Iter, RevIter};
+use tree_index::{Node, TreeIndex};
 
 /// A tree of the even keys below `2 * count`, each with the key behind it as value.
 fn evens<R: Abort>(rt: &R, alloc: Global, count: u64) -> TreeIndex<u64, u64> {
@@ -16,19 +17,6 @@ fn evens<R: Abort>(rt: &R, alloc: Global, count: u64) -> TreeIndex<u64, u64> {
         );
     }
     tree
-}
-
-/// The leaf on the way to a key, from the root down.
-fn leaf_at<'t>(tree: &'t TreeIndex<u64, u64>, key: &u64) -> Option<&'t Leaf<u64, u64>> {
-    let mut next = tree.root();
-    for _ in 0..16u32 {
-        next = match next {
-            None => return None,
-            Some(Node::Leaf(node)) => return Some(node.leaf(key)),
-            Some(Node::Internal(node)) => Some(node.child(key)),
-        };
-    }
-    None
 }
 
 #[test]
@@ -105,8 +93,8 @@ fn cursors_jump_from_a_leaf_of_a_tree_to_the_next(rt: HostRuntime) -> Result<(),
         assert!(rt; tree.remove_sync(&i.wrapping_mul(2)));
     }
     let mut seen = 0u64;
-    if let Some(leaf) = leaf_at(&tree, &0) {
-        let mut pairs = Iter::new(leaf);
+    {
+        let mut pairs = Iter::new(leaf_at(&rt, &tree, 0));
         let mut next = pairs.next();
         for _ in 0..200u32 {
             if let Some((key, val)) = next {
@@ -135,9 +123,7 @@ fn an_emptied_leaf_of_a_tree_leads_to_both_sides(rt: HostRuntime) -> Result<(), 
     for i in 20..80u64 {
         assert!(rt; tree.remove_sync(&i.wrapping_mul(2)));
     }
-    let Some(leaf) = leaf_at(&tree, &100) else {
-        panic!(rt; "no leaf");
-    };
+    let leaf = leaf_at(&rt, &tree, 100);
     assert!(rt; leaf.array.is_empty());
     assert_eq!(rt; Iter::new(leaf).jump(&tree), Some((&160, &161)));
     assert_eq!(rt; RevIter::new(leaf).jump(&tree), Some((&38, &39)));

@@ -1,10 +1,10 @@
 //! Trees by example.
 
-use super::*;
 use std::collections::BTreeMap;
 use std::ops::Bound;
 use std::process::Abort;
 use std::test::Fail;
+use tree_index::{InsertRefused, Proximity, TreeIndex};
 
 #[test]
 fn a_new_tree_has_depth_0_and_one_pair_makes_it_1(rt: HostRuntime) -> Result<(), Fail> {

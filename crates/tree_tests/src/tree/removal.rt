@@ -1,9 +1,9 @@
 //! Removal of ranges by example, and beside a map of std.
 
-use super::*;
 use std::collections::BTreeMap;
 use std::ops::Bound;
 use std::test::Fail;
+use tree_index::TreeIndex;
 
 #[test]
 fn a_range_is_removed_and_its_edges_are_kept(rt: HostRuntime) -> Result<(), Fail> {

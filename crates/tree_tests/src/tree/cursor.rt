@@ -1,9 +1,9 @@
 //! Cursors by example, and beside a plain machine over a list.
 
-use super::*;
 use std::ops::Bound;
 use std::process::Abort;
 use std::test::Fail;
+use tree_index::{Iter, Proximity, Range, TreeIndex};
 
 /// A tree with these pairs.
 fn tree_of<R: Abort>(

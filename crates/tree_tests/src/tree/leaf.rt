@@ -1,10 +1,11 @@
 //! Leaves and their cursors by example.
 
-use crate::TreeIndex;
-use crate::leaf::{Iter, Leaf, RevIter};
+use super::leaf_at;
 use leaf_array::{InsertResult, RemoveResult};
 use std::process::Abort;
 use std::test::Fail;
+use tree_index::TreeIndex;
+use tree_index::leaf::{Iter, Leaf, RevIter};
 
 /// Adds a pair whose key isn't there.
 fn add<R: Abort>(rt: &R, leaf: &mut Leaf<u64, u64>, key: u64, val: u64) {
@@ -153,14 +154,6 @@ fn goes_along<R: Abort>(rt: &R, leaf: &Leaf<u64, u64>, keys: &[u64], seed: &mut 
     }
     assert_eq!(rt; forth.max_key(), keys.last());
     assert_eq!(rt; forth.rev().min_key(), keys.first());
-}
-
-/// The leaf of a tree on the way to a key.
-fn leaf_at<'t, R: Abort>(rt: &R, tree: &'t TreeIndex<u64, u64>, key: u64) -> &'t Leaf<u64, u64> {
-    match tree.arenas.leaves.get(tree.arenas.leaf_of(&key)) {
-        Some(leaf) => leaf,
-        None => panic!(rt; "no leaf"),
-    }
 }
 
 /// Goes through all leaves of a tree from the one of its least key on, and back from that of its

@@ -1,0 +1,64 @@
+//! Arrays by example.
+
+use leaf_array::{Array, InsertResult, RemoveResult};
+
+mod boundary;
+mod cut;
+mod edit;
+mod iter;
+mod plain;
+mod range;
+mod slot;
+mod walk;
+
+const ASCENDING: [u64; 15] = [0, 1, 2, 3, 4, 5, 6, 7, 8, 9, 10, 11, 12, 13, 14];
+
+fn holding(keys: &[u64]) -> Array<u64, u64> {
+    let mut array = Array::new();
+    for key in keys {
+        let _ = answer(array.insert::<false>(*key, *key));
+    }
+    array
+}
+
+fn reversed(keys: &[u64]) -> Array<u64, u64> {
+    let mut array = Array::new();
+    for key in keys.iter().rev() {
+        let _ = answer(array.insert::<false>(*key, *key));
+    }
+    array
+}
+
+/// What an insertion answered: 0 for Success, 1 for Duplicate, 2 for Full.
+fn answer<K: Drop, V: Drop>(inserted: InsertResult<K, V>) -> u8 {
+    match inserted {
+        InsertResult::Success => 0,
+        InsertResult::Duplicate(_, _) => 1,
+        InsertResult::Full(_, _) => 2,
+    }
+}
+
+/// A text that comes first, one that comes last, and the numbers in their order as texts.
+const TEXTS: [&str; 15] = [
+    "M", "G", "0", "1", "2", "3", "4", "5", "6", "7", "8", "9", "10", "11", "12",
+];
+
+/// An array of these texts, each its own value.
+fn texts() -> Array<&'static str, &'static str> {
+    let mut array = Array::new();
+    for text in &TEXTS {
+        let _ = answer(array.insert::<false>(*text, *text));
+    }
+    array
+}
+
+/// Removes texts whose value is themselves, and gives how many of the removals answered Success.
+fn without(array: &mut Array<&'static str, &'static str>, gone: &[&'static str]) -> u8 {
+    let mut count: u8 = 0;
+    for text in gone {
+        if array.remove_if(text, |value| *value == *text) == RemoveResult::Success {
+            count = count.saturating_add(1);
+        }
+    }
+    count
+}
