@@ -6,7 +6,9 @@ ghost use Rattle.leaf_array.specs.Cells.{rank_in, first_above, last_below, newes
 ghost use Rattle.leaf_array.specs.Places.{live_pair, live_pairs, dead_pairs, labels_above, top, has_room, pushed, buried, renewed, died, vacated, packed, pair_at_slot, stands, below, least, no_places, no_half, IsPacked};
 
 use crate::place::{Place, compare, precedes};
-use crate::row::{Exchange, Last, Link, Renumber, Row};
+use crate::row::{
+    Blank, Bury, Enter, Exchange, Labels, Last, Lend, Link, Ranks, Renumber, Replace, Search,
+};
 use std::cmp::Ordering;
 use std::marker::Model;
 use std::mem;

@@ -1,9 +1,9 @@
 use Rattle.std.proofs.Common.{sym, ◌∙◌}
 use Rattle.leaf_array.proofs.PlaceLemmas.{room_for_gap}
-use Rattle.leaf_array.proofs.row.LinkRow.bury.Goals as goal
+use Rattle.leaf_array.proofs.row.bury.LinkBury.bury.Goals as goal
 
 -- the place that comes to the front was the next one, and the gaps of both lie below its rank
 pub widened-requires : goal.widened-requires
 widened-requires g c =
-    room_for_gap c.args.at c.in-Live.slot c.in-Live.gap c.in-Live.key c.in-Live.value (g.R.Row.places c.args.self.now.rest) c.pull-next.result _ c.args.self.now.head
+    room_for_gap c.args.at c.in-Live.slot c.in-Live.gap c.in-Live.key c.in-Live.value (g.R.Places.places c.args.self.now.rest) c.pull-next.result _ c.args.self.now.head
     (sym c.replace.ensures.value ∙ c.in-Live.is) c.if-at-gt0.false c.requires.rank c.pull-next.ensures

@@ -2,7 +2,7 @@ use Rattle.std.proofs.Common.{arith, ◌∷◌, [], sym, ap, ◌∙◌}
 use Rattle.leaf_array.specs.Cells.{rank_in}
 use Rattle.leaf_array.specs.Places.{labels_above}
 use Rattle.leaf_array.proofs.WordLemmas.{one_label, entered_past}
-use Rattle.leaf_array.proofs.row.LastRow.rank_beside.Goals as goal
+use Rattle.leaf_array.proofs.row.ranks.LastRanks.rank_beside.Goals as goal
 
 -- behind the end of the row nothing comes in
 pub returns-then-at-gt1 : goal.returns-then-at-gt1

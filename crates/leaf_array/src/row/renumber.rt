@@ -1,0 +1,30 @@
+//! The slots of a packed row.
+
+ghost use Rattle.std.specs.Prelude.{◌≡◌, ◌+◌, ◌≤◌, length};
+ghost use Rattle.leaf_array.specs.Places.{packed};
+
+use crate::place::renumber;
+use crate::row::{Last, Link, Places};
+
+/// A row whose pairs can be let go.
+pub(crate) trait Renumber<K: Drop, V: Drop>: Places<K, V> {
+    /// Drops the dead pairs, and gives the live ones the slots of the bitmap places from `from` on, without gaps.
+    fn renumber(&mut self, from: u8)
+        requires { from + length (Self.places self.old) ≤ 15 }
+        ensures { Self.places self.new ≡ packed from (Self.places self.old) };
+}
+
+impl<K: Drop, V: Drop> Renumber<K, V> for Last<K, V> {
+    #[inline(always)]
+    fn renumber(&mut self, from: u8) {
+        renumber(&mut self.head, from);
+    }
+}
+
+impl<K: Drop, V: Drop, R: Renumber<K, V>> Renumber<K, V> for Link<K, V, R> {
+    #[inline(always)]
+    fn renumber(&mut self, from: u8) {
+        renumber(&mut self.head, from);
+        self.rest.renumber(from + 1);
+    }
+}

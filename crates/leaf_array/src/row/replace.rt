@@ -1,0 +1,103 @@
+//! A place in the stead of another.
+
+ghost use Rattle.std.specs.Prelude.{◌≡◌, ◌+◌, ◌<◌, ◌++◌, ◌∷◌, [], length, take, drop, IsSome, Some, slice_index_or};
+ghost use Rattle.leaf_array.specs.declared.place.Place.TheVariants.{Empty};
+ghost use Rattle.leaf_array.specs.Places.{live_pair, renewed, died, vacated};
+
+use crate::place::{Place, renew, vacate};
+use crate::row::{Last, Link, Places};
+use std::mem;
+
+/// A row in which a place takes the stead of another.
+pub(crate) trait Replace<K, V>: Places<K, V> {
+    /// Puts a place where the one at `at` is, and gives that one.
+    fn put(&mut self, at: usize, place: Place<K, V>) -> Place<K, V>
+        requires { at < length (Self.places self.old) }
+        ensures old { result ≡ slice_index_or (Self.places self.old) at Empty }
+        ensures new { Self.places self.new ≡ take at (Self.places self.old) ++ place ∷ drop (at + 1) (Self.places self.old) };
+
+    /// Gives the live place `at` another slot and pair, and what it was, dead.
+    fn renew(&mut self, at: usize, slot: u8, key: K, value: V) -> Place<K, V>
+        requires { IsSome (live_pair (slice_index_or (Self.places self.old) at Empty)) }
+        ensures old { result ≡ died (drop at (Self.places self.old)) }
+        ensures new { Self.places self.new ≡ take at (Self.places self.old) ++ renewed slot key value (drop at (Self.places self.old)) };
+
+    /// Takes the pair of the live place `at` out.
+    fn vacate(&mut self, at: usize) -> (K, V)
+        requires { IsSome (live_pair (slice_index_or (Self.places self.old) at Empty)) }
+        ensures pair { Some result ≡ live_pair (slice_index_or (Self.places self.old) at Empty) }
+        ensures places { Self.places self.new ≡ take at (Self.places self.old) ++ vacated (drop at (Self.places self.old)) };
+}
+
+impl<K, V> Replace<K, V> for Last<K, V> {
+    #[inline(always)]
+    fn put(&mut self, at: usize, place: Place<K, V>) -> Place<K, V>
+        requires { at < length (self.old.head ∷ []) }
+        ensures old { result ≡ slice_index_or (self.old.head ∷ []) at Empty }
+        ensures new { self.new.head ∷ [] ≡ take at (self.old.head ∷ []) ++ place ∷ drop (at + 1) (self.old.head ∷ []) }
+    {
+        mem::replace(&mut self.head, place)
+    }
+
+    #[inline(always)]
+    fn renew(&mut self, at: usize, slot: u8, key: K, value: V) -> Place<K, V>
+        requires { IsSome (live_pair (slice_index_or (self.old.head ∷ []) at Empty)) }
+        ensures old { result ≡ died (drop at (self.old.head ∷ [])) }
+        ensures new { self.new.head ∷ [] ≡ take at (self.old.head ∷ []) ++ renewed slot key value (drop at (self.old.head ∷ [])) }
+    {
+        if at > 0 {
+            unreachable!();
+        }
+        renew(&mut self.head, slot, key, value)
+    }
+
+    #[inline(always)]
+    fn vacate(&mut self, at: usize) -> (K, V)
+        requires { IsSome (live_pair (slice_index_or (self.old.head ∷ []) at Empty)) }
+        ensures pair { Some result ≡ live_pair (slice_index_or (self.old.head ∷ []) at Empty) }
+        ensures places { self.new.head ∷ [] ≡ take at (self.old.head ∷ []) ++ vacated (drop at (self.old.head ∷ [])) }
+    {
+        if at > 0 {
+            unreachable!();
+        }
+        vacate(&mut self.head)
+    }
+}
+
+impl<K, V, R: Replace<K, V>> Replace<K, V> for Link<K, V, R> {
+    #[inline(always)]
+    fn put(&mut self, at: usize, place: Place<K, V>) -> Place<K, V>
+        requires { at < length (self.old.head ∷ R.places self.old.rest) }
+        ensures old { result ≡ slice_index_or (self.old.head ∷ R.places self.old.rest) at Empty }
+        ensures new { self.new.head ∷ R.places self.new.rest ≡ take at (self.old.head ∷ R.places self.old.rest) ++ place ∷ drop (at + 1) (self.old.head ∷ R.places self.old.rest) }
+    {
+        if at > 0 {
+            return self.rest.put(at - 1, place);
+        }
+        mem::replace(&mut self.head, place)
+    }
+
+    #[inline(always)]
+    fn renew(&mut self, at: usize, slot: u8, key: K, value: V) -> Place<K, V>
+        requires { IsSome (live_pair (slice_index_or (self.old.head ∷ R.places self.old.rest) at Empty)) }
+        ensures old { result ≡ died (drop at (self.old.head ∷ R.places self.old.rest)) }
+        ensures new { self.new.head ∷ R.places self.new.rest ≡ take at (self.old.head ∷ R.places self.old.rest) ++ renewed slot key value (drop at (self.old.head ∷ R.places self.old.rest)) }
+    {
+        if at > 0 {
+            return self.rest.renew(at - 1, slot, key, value);
+        }
+        renew(&mut self.head, slot, key, value)
+    }
+
+    #[inline(always)]
+    fn vacate(&mut self, at: usize) -> (K, V)
+        requires { IsSome (live_pair (slice_index_or (self.old.head ∷ R.places self.old.rest) at Empty)) }
+        ensures pair { Some result ≡ live_pair (slice_index_or (self.old.head ∷ R.places self.old.rest) at Empty) }
+        ensures places { self.new.head ∷ R.places self.new.rest ≡ take at (self.old.head ∷ R.places self.old.rest) ++ vacated (drop at (self.old.head ∷ R.places self.old.rest)) }
+    {
+        if at > 0 {
+            return self.rest.vacate(at - 1);
+        }
+        vacate(&mut self.head)
+    }
+}
