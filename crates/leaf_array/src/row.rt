@@ -1,8 +1,8 @@
 //! Rows of places: a method is written once, for the last place and for a place with the rest of the row behind it.
 //!
 //! A place for each pair of type parameters stands in a field of its own: an array of them would ask each caller that it fits in memory.
-//! A row of fifteen compiles to straight code for all of them. A trait has few methods, since the proof of a
-//! call goes through all methods of its trait for each of the fifteen.
+//! A row of fifteen compiles to straight code for all of them. A trait has one or two methods, since the
+//! proof of a call goes through all methods of its trait for each of the fifteen.
 
 ghost use Rattle.std.specs.Prelude.{◌≡◌, List};
 
@@ -23,9 +23,9 @@ pub(crate) use enter::Enter;
 pub(crate) use exchange::Exchange;
 pub(crate) use labels::Labels;
 pub(crate) use lend::Lend;
-pub(crate) use ranks::Ranks;
+pub(crate) use ranks::{Ranks, Top};
 pub(crate) use renumber::Renumber;
-pub(crate) use replace::Replace;
+pub(crate) use replace::{Put, Renew, Vacate};
 pub(crate) use search::Search;
 
 /// A row, as contracts see it.

@@ -7,7 +7,8 @@ ghost use Rattle.leaf_array.specs.Places.{live_pair, live_pairs, dead_pairs, lab
 
 use crate::place::{Place, compare, precedes};
 use crate::row::{
-    Blank, Bury, Enter, Exchange, Labels, Last, Lend, Link, Ranks, Renumber, Replace, Search,
+    Blank, Bury, Enter, Exchange, Labels, Last, Lend, Link, Put, Ranks, Renew, Renumber, Search,
+    Top, Vacate,
 };
 use std::cmp::Ordering;
 use std::marker::Model;

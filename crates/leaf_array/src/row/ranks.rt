@@ -18,7 +18,10 @@ pub(crate) trait Ranks<K, V>: Places<K, V> {
     fn rank_beside(&self, at: usize, fresh: u8, slot: u8, low: u16) -> u16
         requires { low + top (Self.places self.now) < 15 }
         ensures { result ≡ rank_in slot (entered low at fresh (labels_above low (Self.places self.now))) };
+}
 
+/// A row that says how far its ranks go.
+pub(crate) trait Top<K, V>: Places<K, V> {
     /// The rank of the last live place, where those before the row go up to `low`.
     fn top(&self, low: u16) -> u16
         requires { low + top (Self.places self.now) ≤ 15 }
@@ -61,14 +64,6 @@ impl<K, V> Ranks<K, V> for Last<K, V> {
             _ => 0,
         }
     }
-
-    #[inline(always)]
-    fn top(&self, low: u16) -> u16 {
-        match &self.head {
-            Place::Live { gap, .. } => low + *gap + 1,
-            _ => low,
-        }
-    }
 }
 
 impl<K, V, R: Ranks<K, V>> Ranks<K, V> for Link<K, V, R> {
@@ -109,7 +104,19 @@ impl<K, V, R: Ranks<K, V>> Ranks<K, V> for Link<K, V, R> {
             self.rank_of(slot, low + 1)
         }
     }
+}
 
+impl<K, V> Top<K, V> for Last<K, V> {
+    #[inline(always)]
+    fn top(&self, low: u16) -> u16 {
+        match &self.head {
+            Place::Live { gap, .. } => low + *gap + 1,
+            _ => low,
+        }
+    }
+}
+
+impl<K, V, R: Top<K, V>> Top<K, V> for Link<K, V, R> {
     #[inline(always)]
     fn top(&self, low: u16) -> u16 {
         match &self.head {

@@ -9,19 +9,25 @@ use crate::row::{Last, Link, Places};
 use std::mem;
 
 /// A row in which a place takes the stead of another.
-pub(crate) trait Replace<K, V>: Places<K, V> {
+pub(crate) trait Put<K, V>: Places<K, V> {
     /// Puts a place where the one at `at` is, and gives that one.
     fn put(&mut self, at: usize, place: Place<K, V>) -> Place<K, V>
         requires { at < length (Self.places self.old) }
         ensures old { result ≡ slice_index_or (Self.places self.old) at Empty }
         ensures new { Self.places self.new ≡ take at (Self.places self.old) ++ place ∷ drop (at + 1) (Self.places self.old) };
+}
 
+/// A row in which a live place gets another slot and pair.
+pub(crate) trait Renew<K, V>: Places<K, V> {
     /// Gives the live place `at` another slot and pair, and what it was, dead.
     fn renew(&mut self, at: usize, slot: u8, key: K, value: V) -> Place<K, V>
         requires { IsSome (live_pair (slice_index_or (Self.places self.old) at Empty)) }
         ensures old { result ≡ died (drop at (Self.places self.old)) }
         ensures new { Self.places self.new ≡ take at (Self.places self.old) ++ renewed slot key value (drop at (Self.places self.old)) };
+}
 
+/// A row of which a pair is taken out.
+pub(crate) trait Vacate<K, V>: Places<K, V> {
     /// Takes the pair of the live place `at` out.
     fn vacate(&mut self, at: usize) -> (K, V)
         requires { IsSome (live_pair (slice_index_or (Self.places self.old) at Empty)) }
@@ -29,7 +35,7 @@ pub(crate) trait Replace<K, V>: Places<K, V> {
         ensures places { Self.places self.new ≡ take at (Self.places self.old) ++ vacated (drop at (Self.places self.old)) };
 }
 
-impl<K, V> Replace<K, V> for Last<K, V> {
+impl<K, V> Put<K, V> for Last<K, V> {
     #[inline(always)]
     fn put(&mut self, at: usize, place: Place<K, V>) -> Place<K, V>
         requires { at < length (self.old.head ∷ []) }
@@ -38,7 +44,23 @@ impl<K, V> Replace<K, V> for Last<K, V> {
     {
         mem::replace(&mut self.head, place)
     }
+}
 
+impl<K, V, R: Put<K, V>> Put<K, V> for Link<K, V, R> {
+    #[inline(always)]
+    fn put(&mut self, at: usize, place: Place<K, V>) -> Place<K, V>
+        requires { at < length (self.old.head ∷ R.places self.old.rest) }
+        ensures old { result ≡ slice_index_or (self.old.head ∷ R.places self.old.rest) at Empty }
+        ensures new { self.new.head ∷ R.places self.new.rest ≡ take at (self.old.head ∷ R.places self.old.rest) ++ place ∷ drop (at + 1) (self.old.head ∷ R.places self.old.rest) }
+    {
+        if at > 0 {
+            return self.rest.put(at - 1, place);
+        }
+        mem::replace(&mut self.head, place)
+    }
+}
+
+impl<K, V> Renew<K, V> for Last<K, V> {
     #[inline(always)]
     fn renew(&mut self, at: usize, slot: u8, key: K, value: V) -> Place<K, V>
         requires { IsSome (live_pair (slice_index_or (self.old.head ∷ []) at Empty)) }
@@ -50,7 +72,23 @@ impl<K, V> Replace<K, V> for Last<K, V> {
         }
         renew(&mut self.head, slot, key, value)
     }
+}
 
+impl<K, V, R: Renew<K, V>> Renew<K, V> for Link<K, V, R> {
+    #[inline(always)]
+    fn renew(&mut self, at: usize, slot: u8, key: K, value: V) -> Place<K, V>
+        requires { IsSome (live_pair (slice_index_or (self.old.head ∷ R.places self.old.rest) at Empty)) }
+        ensures old { result ≡ died (drop at (self.old.head ∷ R.places self.old.rest)) }
+        ensures new { self.new.head ∷ R.places self.new.rest ≡ take at (self.old.head ∷ R.places self.old.rest) ++ renewed slot key value (drop at (self.old.head ∷ R.places self.old.rest)) }
+    {
+        if at > 0 {
+            return self.rest.renew(at - 1, slot, key, value);
+        }
+        renew(&mut self.head, slot, key, value)
+    }
+}
+
+impl<K, V> Vacate<K, V> for Last<K, V> {
     #[inline(always)]
     fn vacate(&mut self, at: usize) -> (K, V)
         requires { IsSome (live_pair (slice_index_or (self.old.head ∷ []) at Empty)) }
@@ -64,31 +102,7 @@ impl<K, V> Replace<K, V> for Last<K, V> {
     }
 }
 
-impl<K, V, R: Replace<K, V>> Replace<K, V> for Link<K, V, R> {
-    #[inline(always)]
-    fn put(&mut self, at: usize, place: Place<K, V>) -> Place<K, V>
-        requires { at < length (self.old.head ∷ R.places self.old.rest) }
-        ensures old { result ≡ slice_index_or (self.old.head ∷ R.places self.old.rest) at Empty }
-        ensures new { self.new.head ∷ R.places self.new.rest ≡ take at (self.old.head ∷ R.places self.old.rest) ++ place ∷ drop (at + 1) (self.old.head ∷ R.places self.old.rest) }
-    {
-        if at > 0 {
-            return self.rest.put(at - 1, place);
-        }
-        mem::replace(&mut self.head, place)
-    }
-
-    #[inline(always)]
-    fn renew(&mut self, at: usize, slot: u8, key: K, value: V) -> Place<K, V>
-        requires { IsSome (live_pair (slice_index_or (self.old.head ∷ R.places self.old.rest) at Empty)) }
-        ensures old { result ≡ died (drop at (self.old.head ∷ R.places self.old.rest)) }
-        ensures new { self.new.head ∷ R.places self.new.rest ≡ take at (self.old.head ∷ R.places self.old.rest) ++ renewed slot key value (drop at (self.old.head ∷ R.places self.old.rest)) }
-    {
-        if at > 0 {
-            return self.rest.renew(at - 1, slot, key, value);
-        }
-        renew(&mut self.head, slot, key, value)
-    }
-
+impl<K, V, R: Vacate<K, V>> Vacate<K, V> for Link<K, V, R> {
     #[inline(always)]
     fn vacate(&mut self, at: usize) -> (K, V)
         requires { IsSome (live_pair (slice_index_or (self.old.head ∷ R.places self.old.rest) at Empty)) }
