@@ -1,10 +1,11 @@
 -- Pairs removed one at a time, from the front on, as far as a test passes.
-use Rattle.std.proofs.Common.{arith, ◌≡◌, ℕ, zero, suc, ◌+◌, ◌<◌, ◌≤◌, ◌∷◌, ◌||◌, ◌&&◌, not, [], List, Bool, true, false, cond, length, take, refl, ap, ◌∙◌, sym, Some, slice_get, MatchOption}
+use Rattle.std.proofs.Common.{arith, ◌≡◌, ℕ, zero, suc, ◌+◌, ◌<◌, ◌≤◌, ◌∷◌, ◌||◌, ◌&&◌, not, [], List, ◌++◌, Bool, true, false, cond, length, take, refl, ap, ◌∙◌, sym, Some, slice_get, MatchOption}
 use Rattle.std.specs.List.{filter, remove, AllByRecursion}
 use Rattle.std.proofs.lemmas.Bool.{false≢true}
 use Rattle.leaf_array.specs.declared.place.Place.{Place}
 use Rattle.leaf_array.specs.declared.place.Place.TheVariants.{Empty, Dead, Live}
-use Rattle.leaf_array.specs.Cells.{is_nil, labels_left}
+use Rattle.std.proofs.lemmas.List.{append_assoc, append-nil}
+use Rattle.leaf_array.specs.Cells.{is_nil, labels_left, fallen, taken_out}
 use Rattle.leaf_array.specs.Places.{live_pairs, labels_above}
 
 not_nil : {X : Type 0} (n : ℕ) (xs : List X) → n < length xs → is_nil xs ≡ true → ⊥
@@ -111,6 +112,27 @@ module _ {K V : Type 0} where
         let t : false ≡ test p.0.0 = rw p.1 at h in
         let e : n + 1 ≡ suc n = omega arith in
         record { pairs = s.pairs; labels = s.labels; front = rw e (front_more n qs p.0 p.1 (sym t) s.front); some = s.some }
+
+    -- a pair is buried before those that are taken out behind it
+    pub taken_remove : (n : ℕ) (qs : List (K × V)) (ms : List (ℕ × ℕ)) (bs : List (ℕ × (K × V))) → n < length qs → length ms ≡ length qs → MatchOption (slice_get qs n) (true ≡ false) (λ p. true ≡ test p.0) → AllByRecursion (λ p. test p.0 ≡ false) (take n qs)
+        → taken_out test (remove qs n) (remove ms n) ++ (fallen n ms qs ++ bs) ≡ taken_out test qs ms ++ bs
+    taken_remove n [] ms bs lt len t h = absurd (omega (arith, lt))
+    taken_remove n (q ∷ qs) [] bs lt len t h = absurd (omega (arith, len))
+    taken_remove zero (q ∷ qs) (m ∷ ms) bs lt len t h = let u : test q.0 ≡ true = sym t in rw u (sym (append_assoc (taken_out test qs ms) ((m.0, q) ∷ []) bs))
+    taken_remove (suc n) (q ∷ qs) (m ∷ ms) bs lt len t h =
+        let u : test q.0 ≡ false = h.0 in
+        let one = ap (λ xs. xs ++ (fallen n ms qs ++ bs)) (append-nil (taken_out test (remove qs n) (remove ms n))) in
+        let two = sym (ap (λ xs. xs ++ bs) (append-nil (taken_out test qs ms))) in
+        rw u (one ∙ taken_remove n qs ms bs (omega (arith, lt)) (omega (arith, len)) t h.1 ∙ two)
+
+    none_taken : (qs : List (K × V)) (ms : List (ℕ × ℕ)) → AllByRecursion (λ p. test p.0 ≡ false) qs → taken_out test qs ms ≡ []
+    none_taken [] ms h = refl
+    none_taken (q ∷ qs) [] h = refl
+    none_taken (q ∷ qs) (m ∷ ms) h = let u = h.0 in rw u (append-nil (taken_out test qs ms) ∙ none_taken qs ms h.1)
+
+    -- where no more is to be taken out, all of that is buried
+    pub taken_all : (n : ℕ) (ps qs : List (K × V)) (ls ms : List (ℕ × ℕ)) (bs : List (ℕ × (K × V))) → length qs ≤ n → Cleared n ps qs ls ms → taken_out test qs ms ++ bs ≡ bs
+    taken_all n ps qs ls ms bs le s = ap (λ xs. xs ++ bs) (none_taken qs ms (rw (take_all n qs le) at s.front))
 
     pub cleared_pairs : (n : ℕ) (ps qs : List (K × V)) (ls ms : List (ℕ × ℕ)) → length qs ≤ n → Cleared n ps qs ls ms → qs ≡ filter (λ p. not (test p.0)) ps
     cleared_pairs n ps qs ls ms le s = sym (filter_all qs (rw (take_all n qs le) at s.front)) ∙ s.pairs

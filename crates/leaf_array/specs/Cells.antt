@@ -118,6 +118,12 @@ labels_left test [] ls = []
 labels_left test (p ∷ ps) [] = []
 labels_left test (p ∷ ps) (l ∷ ls) = cond (test p.0) (labels_left test ps ls) (l ∷ labels_left test ps ls)
 
+-- slot and pair of each pair whose key passes a test, the greatest first
+abbrev pub taken_out : {K V : Type 0} → (K → Bool) → List (K × V) → List (ℕ × ℕ) → List (ℕ × (K × V))
+taken_out test [] ls = []
+taken_out test (p ∷ ps) [] = []
+taken_out test (p ∷ ps) (l ∷ ls) = taken_out test ps ls ++ cond (test p.0) ((l.0, p) ∷ []) []
+
 abbrev pub is_nil : {X : Type 0} → List X → Bool
 is_nil [] = true
 is_nil (x ∷ xs) = false

@@ -1,10 +1,10 @@
 //! Removal of a range of keys.
 
-ghost use Rattle.std.specs.Prelude.{◌≡◌, ◌||◌, ◌&&◌, not, true, false, MatchOption, slice_get};
+ghost use Rattle.std.specs.Prelude.{◌≡◌, ◌++◌, ◌||◌, ◌&&◌, not, true, false, MatchOption, slice_get};
 ghost use Rattle.std.specs.List.{filter};
 ghost use Rattle.std.specs.Range.Bound.{bound_map};
 ghost use Rattle.std.specs.BTreeMap.Range.{range_contains, is_from_start, is_past_end};
-ghost use Rattle.leaf_array.specs.Cells.{is_nil, labels_left};
+ghost use Rattle.leaf_array.specs.Cells.{is_nil, labels_left, taken_out};
 
 use crate::array::Array;
 use crate::place::compare;
@@ -13,10 +13,12 @@ use std::ops::Bound;
 impl<K: Ord, V> Array<K, V> {
     /// Removes the pairs whose keys lie within two bounds, of a frozen array too.
     ///
-    /// An array that isn't frozen and so loses its last pair retires.
+    /// Each keeps its slot, as [`Array::key`] and [`Array::val`] show, and the greatest of them is the one that
+    /// was removed last. An array that isn't frozen and so loses its last pair retires.
     pub fn remove_range(&mut self, lo: Bound<&K>, hi: Bound<&K>)
         ensures pairs { self.new.pairs ≡ filter (λ p. not (range_contains K.cmp (bound_map (λ k. k.now) lo.entry) (bound_map (λ k. k.now) hi.entry) p.0)) self.old.pairs }
         ensures labels { self.new.labels ≡ labels_left (λ k. range_contains K.cmp (bound_map (λ k. k.now) lo.entry) (bound_map (λ k. k.now) hi.entry) k) self.old.pairs self.old.labels }
+        ensures buried { self.new.buried ≡ taken_out (λ k. range_contains K.cmp (bound_map (λ k. k.now) lo.entry) (bound_map (λ k. k.now) hi.entry) k) self.old.pairs self.old.labels ++ self.old.buried }
         ensures used { self.new.used ≡ self.old.used }
         ensures frozen { self.new.frozen ≡ self.old.frozen }
         ensures retired { self.new.retired ≡ (self.old.retired || is_nil self.new.pairs && not (is_nil self.old.pairs) && not self.old.frozen) }

@@ -1,7 +1,7 @@
 //! Removal of ranges.
 
 use super::holding;
-use leaf_array::Array;
+use leaf_array::{Array, InsertResult};
 use std::ops::Bound;
 
 #[test]
@@ -34,4 +34,21 @@ fn a_range_of_all_keys_retires(rt: HostRuntime) {
     let mut none: Array<u64, u64> = Array::new();
     none.remove_range(Bound::Unbounded, Bound::Unbounded);
     assert!(rt; !none.is_retired());
+}
+
+#[test]
+fn a_removed_range_keeps_its_slots(rt: HostRuntime) {
+    let mut array = holding(&[10, 20, 30, 40]);
+    array.remove_range(Bound::Included(&20), Bound::Included(&30));
+    assert_eq!(rt; array.last_removed(), Some(&30));
+    // slots 1 and 0 have the ranks 1 and 4
+    assert_eq!(rt; array.metadata(), 0x14);
+    let mut one: Array<u64, u64> = Array::new();
+    match one.insert::<false>(5, 50) {
+        InsertResult::Success => {
+            one.remove_range(Bound::Unbounded, Bound::Unbounded);
+            assert_eq!(rt; (*one.key(1), *one.val(1)), (5, 50));
+        },
+        _ => assert!(rt; false),
+    }
 }

@@ -1,9 +1,9 @@
-use Rattle.std.proofs.Common.{◌∙◌, ap, arith, ◌||◌, ◌&&◌, not}
+use Rattle.std.proofs.Common.{◌∙◌, sym, ap, arith, ◌||◌, ◌&&◌, not}
 use Rattle.std.specs.Range.Bound.{bound_map}
 use Rattle.std.specs.BTreeMap.Range.{range_contains}
 use Rattle.std.specs.List.{remove}
 use Rattle.leaf_array.specs.Cells.{is_nil}
-use Rattle.leaf_array.proofs.RangeLemmas.{cleared_remove, cleared_keep, cleared_pairs, cleared_labels, retired_more}
+use Rattle.leaf_array.proofs.RangeLemmas.{cleared_remove, cleared_keep, cleared_pairs, cleared_labels, retired_more, taken_remove, taken_all}
 use Rattle.leaf_array.proofs.array.Array.remove_range.Goals as goal
 
 pub loop-at-preserved-then-is_within : goal.loop-at-preserved-then-is_within
@@ -13,6 +13,7 @@ loop-at-preserved-then-is_within g c =
     let lt = c.loop-at-test.true in
     rw c.bury.ensures (record {
       cleared = cleared_remove test c.loop-at.at c.args.self.now.pairs c.loop-at.self.pairs c.args.self.now.labels c.loop-at.self.labels (omega (arith, lt, c.len.ensures.count)) c.len.ensures.labels c.if-is_within.ensures i.cleared;
+      buried = taken_remove test c.loop-at.at c.loop-at.self.pairs c.loop-at.self.labels c.loop-at.self.buried (omega (arith, lt, c.len.ensures.count)) c.len.ensures.labels c.if-is_within.ensures i.cleared.front ∙ i.buried;
       used = i.used;
       frozen = i.frozen;
       retired = ap (λ f. c.loop-at.self.retired || is_nil (remove c.loop-at.self.pairs c.loop-at.at) && not f) i.frozen
@@ -25,6 +26,7 @@ loop-at-preserved g c =
     let test = (range_contains g.K.Ord.cmp (bound_map (λ k. k.now) c.args.lo) (bound_map (λ k. k.now) c.args.hi)) in
     record {
       cleared = cleared_keep test c.loop-at.at c.args.self.now.pairs c.loop-at.self.pairs c.args.self.now.labels c.loop-at.self.labels (omega (arith, c.loop-at-test.true, c.len.ensures.count)) c.if-is_within.ensures i.cleared;
+      buried = i.buried;
       used = i.used;
       frozen = i.frozen;
       retired = i.retired;
@@ -35,3 +37,8 @@ returns-clause-pairs g c = cleared_pairs (range_contains g.K.Ord.cmp (bound_map 
 
 pub returns-clause-labels : goal.returns-clause-labels
 returns-clause-labels g c = cleared_labels (range_contains g.K.Ord.cmp (bound_map (λ k. k.now) c.args.lo) (bound_map (λ k. k.now) c.args.hi)) c.loop-at.at c.args.self.now.pairs c.loop-at.self.pairs c.args.self.now.labels c.loop-at.self.labels (omega (arith, c.loop-at-test.false, c.len.ensures.count)) c.len.ensures.labels c.loop-at.invariant.cleared
+
+pub returns-clause-buried : goal.returns-clause-buried
+returns-clause-buried g c =
+    sym (taken_all (range_contains g.K.Ord.cmp (bound_map (λ k. k.now) c.args.lo) (bound_map (λ k. k.now) c.args.hi)) c.loop-at.at c.args.self.now.pairs c.loop-at.self.pairs c.args.self.now.labels c.loop-at.self.labels c.loop-at.self.buried (omega (arith, c.loop-at-test.false, c.len.ensures.count)) c.loop-at.invariant.cleared)
+    ∙ c.loop-at.invariant.buried
