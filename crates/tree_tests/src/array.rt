@@ -8,6 +8,7 @@ mod edit;
 mod iter;
 mod plain;
 mod range;
+mod result;
 mod slot;
 mod walk;
 
