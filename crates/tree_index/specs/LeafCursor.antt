@@ -4,7 +4,9 @@ use Rattle.std.specs.Borrow.{Bor}
 use Rattle.std.specs.Option.{option_or}
 use Rattle.std.specs.Coded.{Coded, code_by, coded×, coded_ℕ, coded_list, coded_option}
 use Rattle.leaf_array.specs.Cells.{Cells, newest}
-use Rattle.tree_index.specs.Cursor.{referred}
+use Rattle.std.specs.declared.cmp.Ordering.{Ordering}
+use Rattle.std.specs.declared.ops.Bound.TheVariants.{Excluded}
+use Rattle.tree_index.specs.Cursor.{referred, before_start, up_to_end}
 use Rattle.tree_index.specs.Cuts.{key_at}
 use Rattle.tree_index.specs.declared.leaf.stand.Stand.{Stand}
 
@@ -66,3 +68,10 @@ module _ {K V : Type 0} where
   -- a cursor goes to the rank that it seeks and gives its pair, or stays where there is none
   abbrev pub MovesTo : (LeafCursor K V → Option ℕ) → LeafCursor K V → Option (Bor K × Bor V) → LeafCursor K V → Type 0
   MovesTo seek c answer d = MatchOption (seek c) ((answer ≡ None) × (d ≡ c)) (λ n. (referred answer ≡ ranked n c.pairs) × (d ≡ record c { rank = n }))
+
+  -- a cursor stands at the first pair of its leaf above a key; at the last one below it
+  abbrev pub IsFirstAbove : (K → K → Ordering) → K → LeafCursor K V → Type 0
+  IsFirstAbove cmp key c = c.rank ≡ before_start cmp (Excluded key) c.pairs + 1
+
+  abbrev pub IsLastBelow : (K → K → Ordering) → K → LeafCursor K V → Type 0
+  IsLastBelow cmp key c = c.rank ≡ up_to_end cmp (Excluded key) c.pairs

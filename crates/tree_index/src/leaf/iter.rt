@@ -4,7 +4,7 @@ ghost use Rattle.std.specs.Prelude.{◌≡◌, ◌-◌, IfNone, IfSome, MatchOpt
 ghost use Rattle.std.specs.declared.ops.Bound.TheVariants.{Excluded};
 ghost use Rattle.tree_index.specs.Cursor.{before_start, referred};
 ghost use Rattle.tree_index.specs.Cuts.{key_at};
-ghost use Rattle.tree_index.specs.LeafCursor.{at_start, key_behind, ranked, IsPart};
+ghost use Rattle.tree_index.specs.LeafCursor.{at_start, key_behind, IsFirstAbove, ranked, IsPart};
 
 use crate::index::TreeIndex;
 use crate::leaf::{Leaf, RevIter, Stand};
@@ -72,10 +72,14 @@ impl<'l, K: Ord, V> Iter<'l, K, V> {
     /// The tree, which is the one that the leaf is of, is searched for the first pair whose key is greater than
     /// all of the leaf's; where the leaf lost its pairs, greater than the key of the one that it lost last. A
     /// leaf that has none, and keeps none that it lost, leads nowhere.
+    ///
+    /// Where it goes, it comes to the first pair of the new leaf above that key: of all its pairs the first, where the old
+    /// leaf is one of the tree.
     pub fn jump(&mut self, tree: &'l TreeIndex<K, V>) -> Option<(&'l K, &'l V)>
         ensures next { MatchOption (key_behind self.old) (result ≡ None) (λ k. referred result ≡ slice_get tree.now.pairs (before_start K.cmp (Excluded k) tree.now.pairs)) }
         ensures shown { IfSome result (λ p. ranked self.new.rank self.new.pairs ≡ Some (p.0.now, p.1.now)) }
         ensures leaf { IfSome result (λ p. IsPart self.new.pairs tree.now.pairs) }
+        ensures end { IfSome result (λ p. IfSome (key_behind self.old) (λ k. IsFirstAbove K.cmp k self.new)) }
         ensures stays { IfNone result (self.new ≡ self.old) }
     {
         match self.stand.past(&tree.arenas) {

@@ -1,10 +1,11 @@
 //! The way from a leaf to the next one that has pairs, by keys.
 
-ghost use Rattle.std.specs.Prelude.{◌≡◌, IfSome, IsSome, MatchOption, None, option_copied, slice_get};
+ghost use Rattle.std.specs.Prelude.{◌≡◌, ◌+◌, IfSome, IsSome, MatchOption, None, option_copied, slice_get};
+ghost use Rattle.std.specs.declared.ops.Bound.{Bound};
 ghost use Rattle.std.specs.declared.ops.Bound.TheVariants.{Excluded};
 ghost use Rattle.tree_index.specs.Content.{pairs_of, IsSound};
 ghost use Rattle.tree_index.specs.Cursor.{before_start, up_to_end};
-ghost use Rattle.tree_index.specs.LeafCursor.{at_start, cursor_at, key_before, key_behind, IsPart, ranked, stood};
+ghost use Rattle.tree_index.specs.LeafCursor.{at_start, cursor_at, key_before, key_behind, IsFirstAbove, IsLastBelow, IsPart, ranked, stood};
 ghost use Rattle.tree_index.specs.Walk.{position, IsFirstSpot, IsLastSpot, IsSpot};
 
 use crate::arenas::Arenas;
@@ -19,6 +20,7 @@ impl<'l, K: Ord, V> Stand<'l, K, V> {
         ensures pair { MatchOption (key_behind (cursor_at self.now)) (stood result ≡ None) (λ k. stood result ≡ slice_get (pairs_of arenas.now) (before_start K.cmp (Excluded k) (pairs_of arenas.now))) }
         ensures there { IfSome result (λ s. IsSome (ranked s.rank s.leaf.now.array.pairs)) }
         ensures part { IfSome result (λ s. IsPart s.leaf.now.array.pairs (pairs_of arenas.now)) }
+        ensures end { IfSome result (λ s. IfSome (key_behind (cursor_at self.now)) (λ k. IsFirstAbove K.cmp k (cursor_at s))) }
     {
         match arenas.past(self.leaf) {
             Some(spot) => Some(arenas.stand(spot)),
@@ -32,6 +34,7 @@ impl<'l, K: Ord, V> Stand<'l, K, V> {
         ensures pair { MatchOption (key_before (cursor_at self.now)) (stood result ≡ None) (λ k. stood result ≡ ranked (up_to_end K.cmp (Excluded k) (pairs_of arenas.now)) (pairs_of arenas.now)) }
         ensures there { IfSome result (λ s. IsSome (ranked s.rank s.leaf.now.array.pairs)) }
         ensures part { IfSome result (λ s. IsPart s.leaf.now.array.pairs (pairs_of arenas.now)) }
+        ensures end { IfSome result (λ s. IfSome (key_before (cursor_at self.now)) (λ k. IsLastBelow K.cmp k (cursor_at s))) }
     {
         match arenas.short_of(self.leaf) {
             Some(spot) => Some(arenas.stand(spot)),
@@ -48,6 +51,8 @@ impl<K: Ord, V> Arenas<K, V> {
         ensures pair { ranked result.rank result.leaf.now.array.pairs ≡ slice_get (pairs_of self.now) (position self.now spot.entry) }
         ensures there { IsSome (ranked result.rank result.leaf.now.array.pairs) }
         ensures part { IsPart result.leaf.now.array.pairs (pairs_of self.now) }
+        ensures first { (b : Bound K) → position self.now spot.entry ≡ before_start K.cmp b (pairs_of self.now) → result.rank ≡ before_start K.cmp b result.leaf.now.array.pairs + 1 }
+        ensures last { (b : Bound K) → position self.now spot.entry + 1 ≡ up_to_end K.cmp b (pairs_of self.now) → result.rank ≡ up_to_end K.cmp b result.leaf.now.array.pairs }
     {
         let _ = spot.leaf.len();
         Stand {

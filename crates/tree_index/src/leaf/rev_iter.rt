@@ -4,7 +4,7 @@ ghost use Rattle.std.specs.Prelude.{◌≡◌, IfNone, IfSome, MatchOption, None
 ghost use Rattle.std.specs.declared.ops.Bound.TheVariants.{Excluded};
 ghost use Rattle.tree_index.specs.Cursor.{referred, up_to_end};
 ghost use Rattle.tree_index.specs.Cuts.{key_at};
-ghost use Rattle.tree_index.specs.LeafCursor.{at_start, key_before, ranked, IsPart};
+ghost use Rattle.tree_index.specs.LeafCursor.{at_start, key_before, IsLastBelow, ranked, IsPart};
 
 use crate::index::TreeIndex;
 use crate::leaf::{Iter, Leaf, Stand};
@@ -69,10 +69,14 @@ impl<'l, K: Ord, V> RevIter<'l, K, V> {
     /// The tree, which is the one that the leaf is of, is searched for the last pair whose key is less than
     /// all of the leaf's; where the leaf lost its pairs, less than the key of the one that it lost last. A
     /// leaf that has none, and keeps none that it lost, leads nowhere.
+    ///
+    /// Where it goes, it comes to the last pair of the new leaf below that key: of all its pairs the last, where the old
+    /// leaf is one of the tree.
     pub fn jump(&mut self, tree: &'l TreeIndex<K, V>) -> Option<(&'l K, &'l V)>
         ensures next { MatchOption (key_before self.old) (result ≡ None) (λ k. referred result ≡ ranked (up_to_end K.cmp (Excluded k) tree.now.pairs) tree.now.pairs) }
         ensures shown { IfSome result (λ p. ranked self.new.rank self.new.pairs ≡ Some (p.0.now, p.1.now)) }
         ensures leaf { IfSome result (λ p. IsPart self.new.pairs tree.now.pairs) }
+        ensures end { IfSome result (λ p. IfSome (key_before self.old) (λ k. IsLastBelow K.cmp k self.new)) }
         ensures stays { IfNone result (self.new ≡ self.old) }
     {
         match self.stand.short_of(&tree.arenas) {

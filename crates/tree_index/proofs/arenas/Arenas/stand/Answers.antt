@@ -1,7 +1,7 @@
-use Rattle.std.proofs.Common.{sym, ◌∙◌}
+use Rattle.std.proofs.Common.{◌+◌, sym, ap, ◌∙◌}
 use Rattle.leaf_array.proofs.PackLemmas.{within_some}
 use Rattle.tree_index.proofs.EndLemmas.{spot_pair}
-use Rattle.tree_index.proofs.LeafCursorLemmas.{ranked_above, spot_part}
+use Rattle.tree_index.proofs.LeafCursorLemmas.{ranked_above, spot_part, start_there, end_there}
 use Rattle.tree_index.proofs.arenas.Arenas.stand.Goals as goal
 
 pub returns-clause-pair : goal.returns-clause-pair
@@ -12,3 +12,9 @@ returns-clause-there g c = rw (ranked_above c.args.spot.place c.args.spot.leaf.n
 
 pub returns-clause-part : goal.returns-clause-part
 returns-clause-part g c = spot_part c.args.self.now c.args.spot c.requires.spot
+
+pub returns-clause-first : goal.returns-clause-first
+returns-clause-first g c b e = ap (λ n. n + 1) (sym (start_there g.K.Ord.cmp c.args.self.now c.requires.sound c.args.spot c.requires.spot b e))
+
+pub returns-clause-last : goal.returns-clause-last
+returns-clause-last g c b e = sym (end_there g.K.Ord.cmp c.args.self.now c.requires.sound c.args.spot c.requires.spot b e)
