@@ -23,6 +23,7 @@ mod cursor;
 mod equal;
 mod index;
 mod iter;
+mod laws;
 pub mod leaf;
 pub mod node;
 mod proximity;
@@ -33,6 +34,7 @@ mod walk;
 
 pub use index::{InsertRefused, TreeIndex};
 pub use iter::Iter;
+pub use laws::done_stays_at_none;
 pub use node::{InternalNode, LeafNode, Node};
 pub use proximity::Proximity;
 pub use range::Range;
