@@ -18,6 +18,10 @@ module _ {K V : Type 0} where
   IsDuplicate (Duplicate k v) = Unit {0}
   IsDuplicate (Memory k v) = ⊥
 
+  abbrev pub IsMemory : InsertRefused K V → Type 0
+  IsMemory (Duplicate k v) = ⊥
+  IsMemory (Memory k v) = Unit {0}
+
   -- the pair that comes back
   abbrev pub given_back : InsertRefused K V → K × V
   given_back (Duplicate k v) = (k, v)

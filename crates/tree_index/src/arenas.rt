@@ -130,6 +130,7 @@ impl<K: Ord, V> Arenas<K, V> {
         ensures back { IfSome (given_back result) (λ p. p ≡ (key, val)) }
         ensures kept { IsSome (given_back result) → pairs_of self.new ≡ pairs_of self.old }
         ensures depth { IsSome (given_back result) → self.new.height ≡ self.old.height }
+        ensures absent { IsFull result → UPSERT ≡ false → has_key K.cmp key (pairs_of self.old) ≡ false }
         ensures duplicate { IsDuplicate result → has_key K.cmp key (pairs_of self.old) ≡ true }
         ensures repeated { IsDuplicate result → UPSERT ≡ false }
         ensures unique { IsSuccess result → UPSERT ≡ false → has_key K.cmp key (pairs_of self.old) ≡ false }
@@ -138,11 +139,29 @@ impl<K: Ord, V> Arenas<K, V> {
         ensures ascending { IsSuccess result → IsAbove K.cmp key (pairs_of self.old) → ascents K.cmp self.old ≤ ascents K.cmp self.new + 1 }
     {
         if self.len == usize::MAX {
-            return InsertResult::Full(key, val);
+            return self.refused::<UPSERT>(key, val);
         }
         match self.insert::<UPSERT>(key, val) {
             InsertResult::Full(key, val) => self.put_full::<UPSERT>(key, val),
             answer => answer,
+        }
+    }
+
+    /// The answer where no more pairs can be counted: full, but where no pair may be replaced the one that
+    /// has the key is told.
+    #[cold]
+    #[inline(never)]
+    fn refused<const UPSERT: bool>(&self, key: K, val: V) -> InsertResult<K, V>
+        requires { IsSound K.cmp self.now }
+        ensures back { given_back result ≡ Some (key, val) }
+        ensures absent { IsFull result → UPSERT ≡ false → has_key K.cmp key (pairs_of self.now) ≡ false }
+        ensures duplicate { IsDuplicate result → has_key K.cmp key (pairs_of self.now) ≡ true }
+        ensures repeated { IsDuplicate result → UPSERT ≡ false }
+    {
+        if !UPSERT && self.contains(&key) {
+            InsertResult::Duplicate(key, val)
+        } else {
+            InsertResult::Full(key, val)
         }
     }
 
@@ -162,6 +181,7 @@ impl<K: Ord, V> Arenas<K, V> {
         ensures back { IfSome (given_back result) (λ p. p ≡ (key, val)) }
         ensures kept { IsSome (given_back result) → pairs_of self.new ≡ pairs_of self.old }
         ensures depth { IsSome (given_back result) → self.new.height ≡ self.old.height }
+        ensures absent { IsFull result → UPSERT ≡ false → has_key K.cmp key (pairs_of self.old) ≡ false }
         ensures duplicate { IsDuplicate result → has_key K.cmp key (pairs_of self.old) ≡ true }
         ensures repeated { IsDuplicate result → UPSERT ≡ false }
         ensures unique { IsSuccess result → UPSERT ≡ false → has_key K.cmp key (pairs_of self.old) ≡ false }

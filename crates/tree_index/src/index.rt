@@ -16,7 +16,7 @@ ghost use Rattle.tree_index.specs.Nodes.{is_internal, pairs_in};
 ghost use Rattle.tree_index.specs.Proximity.{IsLocated};
 ghost use Rattle.tree_index.specs.Reads.{FnOnceTakesPair};
 ghost use Rattle.tree_index.specs.Depth.{IsAbove};
-ghost use Rattle.tree_index.specs.Tree.{IsDuplicate, given_back};
+ghost use Rattle.tree_index.specs.Tree.{IsDuplicate, IsMemory, given_back};
 
 use crate::arenas::Arenas;
 use crate::cursor::Ends;
@@ -58,7 +58,7 @@ impl<K: Ord, V> Model for TreeIndex<K, V> {
 pub enum InsertRefused<K, V> {
     /// A pair has the key already.
     Duplicate(K, V),
-    /// Memory was refused.
+    /// No pair has the key, and memory was refused.
     Memory(K, V),
 }
 
@@ -112,7 +112,8 @@ impl<K: Ord, V> TreeIndex<K, V> {
         self.arenas.len == 0
     }
 
-    /// Inserts a pair whose key isn't there. A refused pair comes back, and the tree stays as it was.
+    /// Inserts a pair whose key isn't there. A refused pair comes back, and the tree stays as it was: as a
+    /// duplicate exactly if a pair has the key, also where there is no memory for one more.
     ///
     /// Where its leaf has no room, one key is cloned and room is taken for the leaves and nodes of one
     /// path, before anything is changed. A tree of `usize::MAX` pairs takes no more: that is answered
@@ -126,6 +127,7 @@ impl<K: Ord, V> TreeIndex<K, V> {
         ensures inserted { OnOk result (self.new.pairs ≡ inserted K.cmp key val self.old.pairs) }
         ensures absent { IsOk result → has_key K.cmp key self.old.pairs ≡ false }
         ensures duplicate { IfErr result (λ e. IsDuplicate e → has_key K.cmp key self.old.pairs ≡ true) }
+        ensures memory { IfErr result (λ e. IsMemory e → has_key K.cmp key self.old.pairs ≡ false) }
         ensures back { IfErr result (λ e. given_back e ≡ (key, val)) }
         ensures refused { OnErr result (self.new ≡ self.old) }
         ensures ascending { IsOk result → IsAbove K.cmp key self.old.pairs → self.old.ascents ≤ self.new.ascents + 1 }

@@ -61,6 +61,34 @@ fn clones<R: Abort>(rt: &R, alloc: Global) -> bool {
     met
 }
 
+/// Whether an allocation was refused while a leaf was filled, whose keys are duplicates then.
+fn repeats<R: Abort>(rt: &R, alloc: Global) -> bool {
+    let mut met = false;
+    let mut tree: TreeIndex<u64, u64> = TreeIndex::new(alloc);
+    for key in 0..15u64 {
+        insert(rt, &mut tree, key, &mut met);
+    }
+    for key in 0..15u64 {
+        match tree.insert_sync(key, key) {
+            Err(InsertRefused::Duplicate(back, val)) => assert!(rt; back == key && val == key),
+            _ => panic!(rt; "the key is there"),
+        }
+    }
+    assert!(rt; tree.len() == 15);
+    met
+}
+
+#[test]
+fn a_refusal_of_memory_hides_no_duplicate(rt: HostRuntime) {
+    let _met = repeats(&rt, rt.alloc());
+}
+
+#[test]
+fn no_memory_is_refused_to_a_full_leaf(rt: HostRuntime) {
+    let met = repeats(&rt, rt.alloc());
+    assert!(rt; !met);
+}
+
 #[test]
 fn a_refusal_of_memory_changes_nothing(rt: HostRuntime) {
     let _met = grows(&rt, rt.alloc());
