@@ -13,25 +13,23 @@ use Rattle.tree_index.specs.declared.node.Branches.{Branches}
 use Rattle.tree_index.specs.declared.arenas.Arenas.{Arenas}
 use Rattle.tree_index.specs.Shape.{Content, IsWithin, AreBetween, child_for, AllKeys, joined_along, node_joined, pairs_under, IsTree}
 use Rattle.tree_index.specs.Content.{content_of}
-use Rattle.tree_index.specs.LeafCursor.{IsPart}
-use Rattle.tree_index.proofs.ShapeLemmas.{all_weaken, bounded, bounded_along, upto_less, passed, not_passed}
+use Rattle.tree_index.specs.Standing.{IsAround}
+use Rattle.tree_index.proofs.ShapeLemmas.{all_append, all_weaken, bounded, bounded_along, upto_less, passed, not_passed}
 use Rattle.tree_index.proofs.WayLemmas.{lookup_middle, some_same}
 
-module _ {X : Type 0} where
-  pub part_self : (xs : List X) → IsPart xs xs
-  part_self xs = record { fore = []; rear = []; all = sym (append-nil xs) }
+module _ {K V : Type 0} (cmp : K → K → Ordering) (key : K) where
+  pub around_self : (xs : List (K × V)) → IsAround cmp key xs xs
+  around_self xs = record { fore = []; rear = []; all = sym (append-nil xs); less = tt; greater = tt }
 
-  pub part_within : (xs ys zs : List X) → IsPart xs ys → IsPart ys zs → IsPart xs zs
-  part_within xs ys zs p q =
-      record { fore = q.fore ++ p.fore; rear = p.rear ++ q.rear; all = q.all ∙ ap (λ ps. q.fore ++ (ps ++ q.rear)) p.all ∙ simp append_assoc }
-
-  part_along : {K : Type 0} (cmp : K → K → Ordering) (key : K) (f : ℕ → List X) (es : List (K × ℕ)) (last : ℕ) → IsPart (f (child_for cmp key es last)) (joined_along f es last)
-  part_along cmp key f [] last = part_self (f last)
-  part_along cmp key f (e ∷ es) last =
-      elim (is_lt (cmp e.0 key)) as (λ b. IsPart (f (cond b (child_for cmp key es last) e.1)) (f e.1 ++ joined_along f es last)) [
-        | true ↦ let p = part_along cmp key f es last in record { fore = f e.1 ++ p.fore; rear = p.rear; all = ap (λ ps. f e.1 ++ ps) p.all ∙ simp append_assoc }
-        | false ↦ record { fore = []; rear = joined_along f es last; all = refl }
-      ]
+  pub around_within : (xs ys zs : List (K × V)) → IsAround cmp key xs ys → IsAround cmp key ys zs → IsAround cmp key xs zs
+  around_within xs ys zs p q =
+      record {
+        fore = q.fore ++ p.fore;
+        rear = p.rear ++ q.rear;
+        all = q.all ∙ ap (λ ps. q.fore ++ (ps ++ q.rear)) p.all ∙ simp append_assoc;
+        less = all_append (λ k. cmp k key ≡ Less) q.fore p.fore q.less p.less;
+        greater = all_append (λ k. cmp key k ≡ Less) p.rear q.rear p.greater q.greater;
+      }
 
 module _ {K V : Type 0} (cmp : K → K → Ordering) (o : IsTotalOrder cmp) (key : K) (a : Content K V) where
   lookup_along : (f : ℕ → List (K × V)) (P : ℕ → Option K → Option K → Type 0) → ((at : ℕ) (low high : Option K) → P at low high → AllKeys (IsWithin cmp low high) (f at))
@@ -47,6 +45,20 @@ module _ {K V : Type 0} (cmp : K → K → Ordering) (o : IsTotalOrder cmp) (key
             lookup_middle cmp o key [] (joined_along f es last) tt behind (f e.1)
       ]) refl
 
+  around_along : (f : ℕ → List (K × V)) (P : ℕ → Option K → Option K → Type 0) → ((at : ℕ) (low high : Option K) → P at low high → AllKeys (IsWithin cmp low high) (f at))
+      → (es : List (K × ℕ)) (last : ℕ) (low high : Option K) → AreBetween cmp P es last low high → IsAround cmp key (f (child_for cmp key es last)) (joined_along f es last)
+  around_along f P each [] last low high t = around_self cmp key (f last)
+  around_along f P each (e ∷ es) last low high t =
+      (elim (is_lt (cmp e.0 key)) as (λ b. is_lt (cmp e.0 key) ≡ b → IsAround cmp key (f (cond b (child_for cmp key es last) e.1)) (f e.1 ++ joined_along f es last)) [
+        | true ↦ λ h.
+            let before = all_weaken (IsWithin cmp low (Some e.0)) (λ k. cmp k key ≡ Less) (λ k w. upto_less o k e.0 key w.1 (passed o e.0 key h)) (f e.1) (each e.1 low (Some e.0) t.1) in
+            let p = around_along f P each es last (Some e.0) high t.2 in
+            record { fore = f e.1 ++ p.fore; rear = p.rear; all = ap (λ ps. f e.1 ++ ps) p.all ∙ simp append_assoc; less = all_append (λ k. cmp k key ≡ Less) (f e.1) p.fore before p.less; greater = p.greater }
+        | false ↦ λ h.
+            let behind = all_weaken (IsWithin cmp (Some e.0) high) (λ k. cmp key k ≡ Less) (λ k w. upto_less o key e.0 k (not_passed o e.0 key h) w.0) (joined_along f es last) (bounded_along o a f P each es last (Some e.0) high t.2) in
+            record { fore = []; rear = joined_along f es last; all = refl; less = tt; greater = behind }
+      ]) refl
+
   module _ (height at : ℕ) (n : Cells K ℕ × ℕ) (here : a.node at ≡ Some n) where
     -- a look-up under a node is one under its child on the way
     pub lookup_child : (low high : Option K) → IsTree cmp a (suc height) at low high → lookup_entry (is_at (cmp key)) (pairs_under a (suc height) at) ≡ lookup_entry (is_at (cmp key)) (pairs_under a height (child_for cmp key n.0.pairs n.1))
@@ -55,8 +67,12 @@ module _ {K V : Type 0} (cmp : K → K → Ordering) (o : IsTotalOrder cmp) (key
         let P : Cells K ℕ × ℕ → Type 0 = λ m. AreBetween cmp (IsTree cmp a height) m.0.pairs m.1 low high in
         ap (λ m. lookup_entry (is_at (cmp key)) (node_joined (pairs_under a height) m)) here ∙ lookup_along (pairs_under a height) (IsTree cmp a height) (bounded o a height) n.0.pairs n.1 low high (subst P same t.3)
 
-    pub part_child : IsPart (pairs_under a height (child_for cmp key n.0.pairs n.1)) (pairs_under a (suc height) at)
-    part_child = subst (λ m. IsPart (pairs_under a height (child_for cmp key n.0.pairs n.1)) (node_joined (pairs_under a height) m)) (sym here) (part_along cmp key (pairs_under a height) n.0.pairs n.1)
+    -- and its pairs stand between lesser keys and greater ones
+    pub around_child : (low high : Option K) → IsTree cmp a (suc height) at low high → IsAround cmp key (pairs_under a height (child_for cmp key n.0.pairs n.1)) (pairs_under a (suc height) at)
+    around_child low high t =
+        let same : t.0 ≡ n = some_same (sym t.1 ∙ here) in
+        let P : Cells K ℕ × ℕ → Type 0 = λ m. AreBetween cmp (IsTree cmp a height) m.0.pairs m.1 low high in
+        subst (λ m. IsAround cmp key (pairs_under a height (child_for cmp key n.0.pairs n.1)) (node_joined (pairs_under a height) m)) (sym here) (around_along (pairs_under a height) (IsTree cmp a height) (bounded o a height) n.0.pairs n.1 low high (subst P same t.3))
 
 -- a node that stands in its arena
 pub node_content : {K V : Type 0} (a : Arenas K V) (at : ℕ) (node : Branches K) → get a.nodes at ≡ Some node → (content_of a).node at ≡ Some (node.children, node.last)

@@ -12,7 +12,7 @@ ghost use Rattle.leaf_array.specs.Values.{ClonesAreSame};
 ghost use Rattle.std.specs.Range.Bound.{bound_map};
 ghost use Rattle.tree_index.specs.declared.cursor.End.TheVariants.{Unopened};
 ghost use Rattle.tree_index.specs.Cursor.{whole};
-ghost use Rattle.tree_index.specs.Nodes.{is_internal, pairs_in};
+ghost use Rattle.tree_index.specs.Nodes.{height_in, is_internal, pairs_in};
 ghost use Rattle.tree_index.specs.Proximity.{IsLocated};
 ghost use Rattle.tree_index.specs.Reads.{FnOnceTakesPair};
 ghost use Rattle.tree_index.specs.Depth.{IsAbove};
@@ -258,6 +258,7 @@ impl<K: Ord, V> TreeIndex<K, V> {
         ensures planted { IsSome result ↔ (0 < self.now.depth) }
         ensures pairs { IfSome result (λ n. pairs_in n ≡ self.now.pairs) }
         ensures kind { IfSome result (λ n. IsTrue (is_internal n) ↔ (1 < self.now.depth)) }
+        ensures height { IfSome result (λ n. height_in n ≡ self.now.depth) }
     {
         let arenas = &self.arenas;
         if arenas.height == 0 {

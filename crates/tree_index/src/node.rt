@@ -8,13 +8,12 @@
 //! }
 //! ```
 
-ghost use Rattle.std.specs.Prelude.{◌≡◌, ◌≢◌, ◌<◌, ◌≤◌, ◌==◌, ◌++◌, ◌∷◌, ◌↔◌, IsTrue, IfSome, MatchOption, Some, None};
+ghost use Rattle.std.specs.Prelude.{◌≡◌, ◌≢◌, ◌+◌, ◌<◌, ◌≤◌, ◌==◌, ◌++◌, ◌∷◌, ◌↔◌, IsTrue, IfSome, MatchOption, Some, None};
 ghost use Rattle.std.specs.BTreeMap.{is_at, insert_entry};
 ghost use Rattle.std.specs.Map.{lookup, lookup_entry};
-ghost use Rattle.tree_index.specs.LeafCursor.{IsPart};
-ghost use Rattle.tree_index.specs.Nodes.{is_internal, pairs_in};
+ghost use Rattle.tree_index.specs.Nodes.{height_in, is_internal, pairs_in};
 ghost use Rattle.tree_index.specs.Reads.{FnOnceTakesPair};
-ghost use Rattle.tree_index.specs.Standing.{pairs_below, IsStanding};
+ghost use Rattle.tree_index.specs.Standing.{pairs_below, IsAround, IsStanding};
 ghost use Rattle.tree_index.specs.Shape.{child_for, first_child, IsNode};
 
 use leaf_array::{Array, InsertResult};
@@ -45,6 +44,7 @@ impl<'t, K: Ord, V> Node<'t, K, V> {
         requires stands { IsStanding K.cmp standing }
         requires node { standing.height ≢ 0 }
         ensures pairs { pairs_in result ≡ pairs_below standing.entry }
+        ensures height { height_in result ≡ standing.entry.height }
         ensures kind { IsTrue (is_internal result) ↔ (1 < standing.entry.height) }
     {
         if standing.height > 1 {
@@ -71,10 +71,14 @@ impl<'t, K: Ord, V> Node<'t, K, V> {
 
 // Here and not beside the struct, since its clauses name the enum that holds the struct.
 impl<'t, K: Ord, V> InternalNode<'t, K, V> {
-    /// The child on the way to a key: if a pair under this node has the key, it is under that child.
+    /// The child on the way to a key: if a pair under this node has the key, it is under that child. The pairs
+    /// before that child have lesser keys, and those behind it greater ones.
+    ///
+    /// A child has one node less down to a leaf, so a way down from child to child ends at a node over leaves.
     pub fn child(&self, key: &K) -> Node<'t, K, V>
-        ensures found { lookup_entry (is_at (K.cmp key.now)) self.now ≡ lookup_entry (is_at (K.cmp key.now)) (pairs_in result) }
-        ensures part { IsPart (pairs_in result) self.now }
+        ensures found { lookup_entry (is_at (K.cmp key.now)) self.now.pairs ≡ lookup_entry (is_at (K.cmp key.now)) (pairs_in result) }
+        ensures around { IsAround K.cmp key.now (pairs_in result) self.now.pairs }
+        ensures height { height_in result + 1 ≡ self.now.height }
     {
         Node::over(self.standing.child(key))
     }

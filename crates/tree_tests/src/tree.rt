@@ -11,15 +11,17 @@ mod node;
 mod refusals;
 mod removal;
 
-/// The leaf of a tree on the way to a key, from the root down.
+/// The leaf of a tree on the way to a key, from the root down: a child has one node less down to a leaf, so
+/// the way ends, at a node over leaves.
 fn leaf_at<'t, R: Abort>(rt: &R, tree: &'t TreeIndex<u64, u64>, key: u64) -> &'t Leaf<u64, u64> {
-    let mut next = tree.root();
-    for _ in 0..16u32 {
-        next = match next {
-            None => panic!(rt; "no leaf"),
-            Some(Node::Leaf(node)) => return node.leaf(&key),
-            Some(Node::Internal(node)) => Some(node.child(&key)),
+    let Some(root) = tree.root() else {
+        panic!(rt; "no leaf");
+    };
+    let mut node = root;
+    'down: loop {
+        node = match node {
+            Node::Leaf(last) => return last.leaf(&key),
+            Node::Internal(inner) => inner.child(&key),
         };
     }
-    panic!(rt; "no leaf")
 }

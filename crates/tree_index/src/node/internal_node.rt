@@ -11,22 +11,22 @@ use std::marker::Model;
 /// A node of a tree whose children are nodes: at most fifteen with the greatest keys that they may hold,
 /// and one behind them. (`scc`'s `tree_index::internal_node::InternalNode`.)
 ///
-/// To contracts it is the list of the pairs under it, by rising keys.
+/// To contracts it is the list of the pairs under it, by rising keys, and how many nodes lie from it down to
+/// a leaf.
 #[derive(Drop)]
 pub struct InternalNode<'t, K: Ord, V> {
     pub(crate) standing: Standing<'t, K, V>,
 }
 
 impl<'t, K: Ord, V> Model for InternalNode<'t, K, V> {
-    ghost use Rattle.std.specs.Prelude.{List, ◌<◌};
-    ghost use Rattle.std.specs.Coded.{coded×, coded_list};
-    ghost use Rattle.tree_index.specs.Standing.{pairs_below, IsStanding};
+    ghost use Rattle.std.specs.Prelude.{◌<◌};
+    ghost use Rattle.tree_index.specs.Standing.{pairs_below, IsStanding, Nested, nested_code};
 
-    ghost Value = { List (K × V) };
+    ghost Value = { Nested K V };
 
-    ghost coded = { coded_list (coded× K.code V.code) };
+    ghost coded = { nested_code K.code V.code };
 
-    ghost view = { λ n. pairs_below n.standing };
+    ghost view = { λ n. record { pairs = pairs_below n.standing; height = n.standing.height } };
 
     ghost invariant = { λ n. IsStanding K.cmp n.standing × (1 < n.standing.height) };
 }
@@ -37,8 +37,8 @@ impl<'t, K: Ord, V> InternalNode<'t, K, V> {
     pub fn read_entry<R, F: FnOnce(&K, &V) -> R>(&self, key: &K, f: F) -> Option<R>
     where
         F: Drop,
-        requires { IfSome (lookup_entry (is_at (K.cmp key.now)) self.now) (FnOnceTakesPair F.FnOnce f) }
-        ensures { MatchOption result (lookup_entry (is_at (K.cmp key.now)) self.now ≡ None) (λ r. (k : _) × (v : _) × (lookup_entry (is_at (K.cmp key.now)) self.now ≡ Some (k.now, v.now)) × F.post f k v r) }
+        requires { IfSome (lookup_entry (is_at (K.cmp key.now)) self.now.pairs) (FnOnceTakesPair F.FnOnce f) }
+        ensures { MatchOption result (lookup_entry (is_at (K.cmp key.now)) self.now.pairs ≡ None) (λ r. (k : _) × (v : _) × (lookup_entry (is_at (K.cmp key.now)) self.now.pairs ≡ Some (k.now, v.now)) × F.post f k v r) }
     {
         self.standing.read_entry(key, f)
     }

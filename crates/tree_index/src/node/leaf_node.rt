@@ -4,7 +4,7 @@ ghost use Rattle.std.specs.Prelude.{◌≡◌, IfSome, MatchOption, Some, None};
 ghost use Rattle.std.specs.BTreeMap.{is_at};
 ghost use Rattle.std.specs.Map.{lookup_entry};
 ghost use Rattle.tree_index.specs.Reads.{FnOnceTakesPair};
-ghost use Rattle.tree_index.specs.LeafCursor.{IsPart};
+ghost use Rattle.tree_index.specs.Standing.{IsAround};
 
 use crate::leaf::Leaf;
 use crate::node::Standing;
@@ -45,10 +45,11 @@ impl<'t, K: Ord, V> LeafNode<'t, K, V> {
         self.standing.read_entry(key, f)
     }
 
-    /// The leaf on the way to a key: if a pair under this node has the key, it is in that leaf.
+    /// The leaf on the way to a key: if a pair under this node has the key, it is in that leaf. The pairs before
+    /// that leaf have lesser keys, and those behind it greater ones.
     pub fn leaf(&self, key: &K) -> &'t Leaf<K, V>
         ensures found { lookup_entry (is_at (K.cmp key.now)) self.now ≡ lookup_entry (is_at (K.cmp key.now)) result.now.array.pairs }
-        ensures part { IsPart result.now.array.pairs self.now }
+        ensures around { IsAround K.cmp key.now result.now.array.pairs self.now }
     {
         self.standing.leaf(key)
     }

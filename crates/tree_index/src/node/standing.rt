@@ -3,9 +3,8 @@
 ghost use Rattle.std.specs.Prelude.{◌≡◌, ◌≢◌, ◌+◌, IfSome, MatchOption, Some, None};
 ghost use Rattle.std.specs.BTreeMap.{is_at};
 ghost use Rattle.std.specs.Map.{lookup_entry};
-ghost use Rattle.tree_index.specs.LeafCursor.{IsPart};
 ghost use Rattle.tree_index.specs.Reads.{FnOnceTakesPair};
-ghost use Rattle.tree_index.specs.Standing.{pairs_below, IsStanding};
+ghost use Rattle.tree_index.specs.Standing.{pairs_below, IsAround, IsStanding};
 
 use crate::arenas::Arenas;
 use crate::leaf::Leaf;
@@ -37,7 +36,7 @@ impl<'t, K: Ord, V> Standing<'t, K, V> {
     pub(crate) fn leaf(&self, key: &K) -> &'t Leaf<K, V>
         requires { IsStanding K.cmp self.now }
         ensures found { lookup_entry (is_at (K.cmp key.now)) (pairs_below self.now) ≡ lookup_entry (is_at (K.cmp key.now)) result.now.array.pairs }
-        ensures part { IsPart result.now.array.pairs (pairs_below self.now) }
+        ensures around { IsAround K.cmp key.now result.now.array.pairs (pairs_below self.now) }
     {
         let mut at = *self;
         while at.height > 0 {
@@ -57,7 +56,7 @@ impl<'t, K: Ord, V> Standing<'t, K, V> {
         ensures stands { IsStanding K.cmp result }
         ensures height { result.height + 1 ≡ self.now.height }
         ensures found { lookup_entry (is_at (K.cmp key.now)) (pairs_below self.now) ≡ lookup_entry (is_at (K.cmp key.now)) (pairs_below result) }
-        ensures part { IsPart (pairs_below result) (pairs_below self.now) }
+        ensures around { IsAround K.cmp key.now (pairs_below result) (pairs_below self.now) }
     {
         match self.arenas.nodes.get(self.at) {
             Some(node) => Standing {

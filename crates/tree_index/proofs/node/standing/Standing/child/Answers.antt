@@ -6,9 +6,9 @@ use Rattle.leaf_array.specs.Cells.{Cells}
 use Rattle.tree_index.specs.declared.node.Branches.{Branches}
 use Rattle.tree_index.specs.Shape.{Content, IsTree, pairs_under}
 use Rattle.tree_index.specs.Content.{content_of}
-use Rattle.tree_index.specs.LeafCursor.{IsPart}
+use Rattle.tree_index.specs.Standing.{IsAround}
 use Rattle.tree_index.proofs.WayLemmas.{IsStep, step_down}
-use Rattle.tree_index.proofs.StandingLemmas.{lookup_child, part_child, node_content}
+use Rattle.tree_index.proofs.StandingLemmas.{around_child, lookup_child, node_content}
 use Rattle.tree_index.proofs.node.standing.Standing.child.Goals as goal
 
 pub unreachable-requires : goal.unreachable-requires
@@ -42,12 +42,14 @@ returns-clause-found g c =
     let here : a.node s.at ≡ Some n = node_content c.args.self.now.arenas.now s.at c.in-Some.node.now (sym c.in-Some.ensures) in
     ap (λ (n : ℕ). lookup_entry (is_at (g.K.Ord.cmp key)) (pairs_under a n s.at)) deeper ∙ lookup_child g.K.Ord.cmp g.met.K.Ord.total key a (s.height - 1) s.at n here c.requires.stands.low c.requires.stands.high t ∙ ap (λ m. lookup_entry (is_at (g.K.Ord.cmp key)) (pairs_under a (s.height - 1) m)) (sym c.child.ensures)
 
-pub returns-clause-part : goal.returns-clause-part
-returns-clause-part g c =
+pub returns-clause-around : goal.returns-clause-around
+returns-clause-around g c =
     let a : Content g.row.K.Denot g.row.V.Denot = content_of c.args.self.now.arenas.now in
     let s = c.args.self.now in
+    let key = c.args.key.now in
     let deeper : s.height ≡ suc (s.height - 1) = omega (arith, c.requires.node) in
+    let t = subst (λ (n : ℕ). IsTree g.K.Ord.cmp a n s.at c.requires.stands.low c.requires.stands.high) deeper c.requires.stands.tree in
     let n : Cells g.row.K.Denot ℕ × ℕ = (c.in-Some.node.now.children, c.in-Some.node.now.last) in
     let here : a.node s.at ≡ Some n = node_content c.args.self.now.arenas.now s.at c.in-Some.node.now (sym c.in-Some.ensures) in
-    let part = part_child g.K.Ord.cmp g.met.K.Ord.total c.args.key.now a (s.height - 1) s.at n here in
-    subst (λ (n : ℕ). IsPart (pairs_under a (s.height - 1) c.child.result) (pairs_under a n s.at)) (sym deeper) (subst (λ m. IsPart (pairs_under a (s.height - 1) m) (pairs_under a (suc (s.height - 1)) s.at)) (sym c.child.ensures) part)
+    let around = around_child g.K.Ord.cmp g.met.K.Ord.total key a (s.height - 1) s.at n here c.requires.stands.low c.requires.stands.high t in
+    subst (λ (n : ℕ). IsAround g.K.Ord.cmp key (pairs_under a (s.height - 1) c.child.result) (pairs_under a n s.at)) (sym deeper) (subst (λ m. IsAround g.K.Ord.cmp key (pairs_under a (s.height - 1) m) (pairs_under a (suc (s.height - 1)) s.at)) (sym c.child.ensures) around)
