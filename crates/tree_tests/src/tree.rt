@@ -6,6 +6,7 @@ use tree_index::{Node, TreeIndex};
 
 mod cursor;
 mod index;
+mod large;
 mod leaf;
 mod node;
 mod refusals;
