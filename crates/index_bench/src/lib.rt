@@ -64,6 +64,35 @@ pub extern "C" fn index_bench_scan(
     sum
 }
 
+/// Calls what the other exports measure from a second place, as a program does that uses a tree for more
+/// than one thing: a call with one caller alone may be compiled into it whatever its size. Gives a sum of
+/// the values that it met.
+#[unsafe(no_mangle)]
+pub extern "C" fn index_bench_elsewhere(alloc: Global, keys: &[u64]) -> u64 {
+    let mut tree = TreeIndex::new(alloc);
+    let mut sum = 0u64;
+    for key in keys.iter().rev() {
+        let _ = tree.insert_sync(*key, !*key);
+    }
+    for key in keys {
+        sum ^= tree.peek(key).copied().unwrap_or(0);
+        sum ^= beyond(&tree, key);
+    }
+    for (key, value) in tree.iter() {
+        sum = sum.wrapping_add(*key ^ *value);
+    }
+    sum
+}
+
+/// The sum of the three keys behind a key, without carry.
+fn beyond<'t>(tree: &'t TreeIndex<u64, u64>, key: &'t u64) -> u64 {
+    let mut total = 0u64;
+    for (found, _) in tree.range(Bound::Excluded(key), Bound::Unbounded).take(3) {
+        total = total.wrapping_add(*found);
+    }
+    total
+}
+
 /// A tree of these keys, each with itself as value.
 fn built(alloc: Global, keys: &[u64]) -> TreeIndex<u64, u64> {
     let mut tree = TreeIndex::new(alloc);

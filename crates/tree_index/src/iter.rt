@@ -77,7 +77,7 @@ impl<'t, K: Ord, V> Iterator for Iter<'t, K, V> {
     ghost remaining = { λ c. at_most (between c) };
 
     /// Moves the forward end to the next pair, and gives it unless the ends met.
-    #[inline]
+    #[inline(always)]
     fn next(&mut self) -> Option<(&'t K, &'t V)> {
         self.ends.next(Bound::Unbounded, Bound::Unbounded)
     }
@@ -89,7 +89,7 @@ impl<'t, K: Ord, V> DoubleEndedIterator for Iter<'t, K, V> {
     ghost next_back_gives = { GoesBack K.cmp };
 
     /// Moves the backward end to the pair before it, and gives it unless the ends met.
-    #[inline]
+    #[inline(always)]
     fn next_back(&mut self) -> Option<(&'t K, &'t V)> {
         self.ends.next_back(Bound::Unbounded, Bound::Unbounded)
     }

@@ -81,7 +81,7 @@ impl<'t, K: Ord, V> Iterator for Range<'t, K, V> {
 
     /// Moves the forward end to the next pair, and gives it if it lies within the upper bound and the
     /// ends haven't met.
-    #[inline]
+    #[inline(always)]
     fn next(&mut self) -> Option<(&'t K, &'t V)> {
         self.ends.next(self.lower, self.upper)
     }
@@ -94,7 +94,7 @@ impl<'t, K: Ord, V> DoubleEndedIterator for Range<'t, K, V> {
 
     /// Moves the backward end to the pair before it, and gives it if it lies within the lower bound and
     /// the ends haven't met.
-    #[inline]
+    #[inline(always)]
     fn next_back(&mut self) -> Option<(&'t K, &'t V)> {
         self.ends.next_back(self.lower, self.upper)
     }
