@@ -1,6 +1,6 @@
 //! Sessions of one index, by labels.
 
-ghost use Rattle.std.specs.Prelude.{◌≡◌, [], None, Some, IfOk, IfSome, IfNone, MatchOption, ℕ, length, replicate, slice_get, slice_set};
+ghost use Rattle.std.specs.Prelude.{◌≡◌, ◌≢◌, [], None, Some, IfOk, IsTrue, IsFalse, IfSome, IfNone, MatchOption, ℕ, length, replicate, slice_get, slice_set};
 ghost use Rattle.ordered_index.specs.State.{IsOpen, Closes};
 ghost use Rattle.ordered_index.specs.Desk.{Clears, Serves, SitsAt, IsUnknown};
 
@@ -43,6 +43,17 @@ impl<K, V> Desk<K, V> {
             seats.push(None).unwrap();
         }
         Ok(Desk { seats })
+    }
+
+    /// The session with the label, to read by: none where the label has no session.
+    pub fn session(&self, label: u64) -> Option<&Session<K, V>>
+        ensures some { IfSome result (λ session. (place : ℕ) × SitsAt self.now label place (record { label = label; session = session.now })) }
+        ensures none { IfNone result (IsUnknown self.now label) }
+    {
+        match self.seat(label) {
+            Some(seat) => Some(&seat.session),
+            None => None,
+        }
     }
 
     // The seat with the label.
@@ -106,16 +117,25 @@ fn close_seat<K: Clone + Ord, V: Clone + Eq, const S: usize>(
     }
 }
 
+// Whether a seat is taken under the label.
+fn is_under<K, V>(seat: &Option<Seat<K, V>>, label: u64) -> bool
+    ensures taken { IsTrue result → (s : _) × (seat.now ≡ Some s) × (s.label ≡ label) }
+    ensures not { IsFalse result → (s : _) → seat.now ≡ Some s → s.label ≢ label }
+{
+    match seat {
+        Some(seat) => seat.label == label,
+        None => false,
+    }
+}
+
 // The place of the seat with the label.
 fn place_of<K, V>(seats: &[Option<Seat<K, V>>], label: u64) -> Option<usize>
     ensures some { IfSome result (λ place. (seat : _) × SitsAt seats.now label place seat) }
     ensures none { IfNone result (IsUnknown seats.now label) }
 {
     for place in 0..seats.len() {
-        if let Some(seat) = &seats[place] {
-            if seat.label == label {
-                return Some(place);
-            }
+        if is_under(&seats[place], label) {
+            return Some(place);
         }
     }
     None

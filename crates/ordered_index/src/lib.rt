@@ -45,18 +45,3 @@ pub use session::Session;
 pub use snapshot::{Nearby, Walk};
 pub use transaction::{Audit, Receipt, Recorded, Transaction};
 pub use versions::{Reply, Write};
-
-#[cfg(test)]
-mod call_tests;
-#[cfg(test)]
-mod plain;
-#[cfg(test)]
-mod random_tests;
-#[cfg(test)]
-mod read_tests;
-#[cfg(test)]
-mod refusals;
-#[cfg(test)]
-mod tests;
-#[cfg(test)]
-mod version_tests;

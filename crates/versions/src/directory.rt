@@ -1,6 +1,7 @@
 //! Directories: versions of a list, as segments in order.
 
-ghost use Rattle.std.specs.Prelude.{◌≡◌};
+ghost use Rattle.std.specs.Prelude.{◌≡◌, length};
+ghost use Rattle.versions.specs.Items.{slots_of};
 
 use sdd_base::owner::Kept;
 
@@ -22,5 +23,12 @@ impl<K> Directory<K> {
         ensures { result ≡ self.now.number }
     {
         self.number
+    }
+
+    /// How many segments the version has: none where its list is empty.
+    pub fn segments(&self) -> usize
+        ensures { result ≡ length (slots_of self.now) }
+    {
+        self.segments.len()
     }
 }

@@ -1,4 +1,5 @@
-//! The segments that writes make of those of an older version.
+//! The segments that writes make of those of an older version: what [`build`](crate::build) puts
+//! into a version, without a place.
 
 ghost use Rattle.std.specs.Prelude.{◌≡◌, ◌≤◌, ◌<◌, List, Some, length, map, slice_get, IfOk};
 ghost use Rattle.leaf_array.specs.Pairs.{has_key, IsAscending};
@@ -8,20 +9,21 @@ ghost use Rattle.versions.specs.Writes.{after_writes, replies_to};
 
 use crate::changes::apply;
 use crate::merge::merged;
-use crate::segments::Segments;
+pub use crate::segments::Segments;
 use crate::write::{Reply, Write};
 use std::alloc::{AllocError, Global};
 use tree_index::TreeIndex;
 
-/// The segments of an older version, to be read.
-pub(crate) trait Old<K: Ord, V> {
+/// The segments of an older version, to be read: wherever they are kept.
+pub trait Old<K: Ord, V> {
+    /// The pairs of each segment, in order.
     ghost blocks: { Self → List (List (K × V)) };
 
     /// How many segments there are.
     fn count(&self) -> usize
         ensures { result ≡ length (blocks self.now) };
 
-    /// The segment at this place.
+    /// The segment at this place. Condition: it is below the count.
     fn segment(&self, place: usize) -> &TreeIndex<K, V>
         requires { place < length (blocks self.now) }
         ensures { Some result.now.pairs ≡ slice_get (blocks self.now) place };
@@ -31,8 +33,9 @@ pub(crate) trait Old<K: Ord, V> {
         ensures { result ≡ has_key K.cmp key.now (pairs_in (blocks self.now)) };
 }
 
-/// The segments of the list that writes leave of an older one, and what they are told.
-pub(crate) fn drafted<K: Clone + Ord + Drop, V: Clone + Drop, O: Old<K, V>, const S: usize>(
+/// The segments of the list that writes leave of an older one, and what they are told; refused where memory is. A
+/// segment has 1 to `S` pairs, and two neighbours together more than `S`. Nothing of the older version changes.
+pub fn drafted<K: Clone + Ord + Drop, V: Clone + Drop, O: Old<K, V>, const S: usize>(
     alloc: Global,
     old: &O,
     writes: &[Write<K, V>],

@@ -19,7 +19,7 @@ mod bounds;
 mod built;
 mod changes;
 mod directory;
-mod draft;
+pub mod draft;
 mod edge;
 mod flow;
 mod item;
@@ -29,19 +29,11 @@ mod moves;
 mod nearby;
 mod pages;
 mod placing;
-#[cfg(test)]
-mod placing_tests;
 pub mod plain;
 mod read;
 mod segments;
 mod source;
-#[cfg(test)]
-mod steps_tests;
 mod stream;
-#[cfg(test)]
-mod tests;
-#[cfg(test)]
-mod walk_tests;
 mod walking;
 mod write;
 

@@ -12,11 +12,13 @@ use tree_index::TreeIndex;
 
 /// The segments of a list, in order, with the greatest key of each but the last.
 #[derive(Drop)]
-pub(crate) struct Segments<K: Ord, V> {
-    pub(crate) trees: Vec<TreeIndex<K, V>>,
-    pub(crate) separators: Vec<K>,
+pub struct Segments<K: Ord, V> {
+    /// The tree of each segment.
+    pub trees: Vec<TreeIndex<K, V>>,
+    /// The greatest key of each segment but the last.
+    pub separators: Vec<K>,
     /// How many pairs all segments hold.
-    pub(crate) length: usize,
+    pub length: usize,
 }
 
 /// The pairs that were given so far, by rising keys: in full segments of `S` pairs and a last one.

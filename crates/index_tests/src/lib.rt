@@ -1,0 +1,8 @@
+//! Tests of versions and of the index of one thread, in a crate of their own: so the crates that
+//! they test are proved once, without them.
+#![tactic(auto)]
+
+#[cfg(test)]
+mod ordered_index;
+#[cfg(test)]
+mod versions;

@@ -1,0 +1,9 @@
+//! Tests of the index, and of lists of calls.
+
+mod index;
+mod plain;
+mod play;
+mod random_calls;
+mod reads;
+mod refusals;
+mod slots;

@@ -1,0 +1,6 @@
+//! Tests of versions.
+
+mod draft;
+mod placing;
+mod single_steps;
+mod walk;

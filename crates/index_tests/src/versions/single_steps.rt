@@ -1,0 +1,418 @@
+//! A place, and the single steps beside it, through a schedule of a reader and a writer.
+
+ghost use Rattle.std.specs.Prelude.{◌≡◌, ◌<◌, ◌+◌, ◌-◌, ◌^◌, ◌∷◌, [], List, length, Ok};
+ghost use Rattle.std.specs.Ordering.{nat_cmp};
+ghost use Rattle.sdd_base.specs.Counting.{Counted};
+ghost use Rattle.sdd_base.specs.Holding.{Hold, SharedIn};
+ghost use Rattle.sdd_base.specs.Place.{IsOpen};
+ghost use Rattle.sdd_base.specs.State.{value_at};
+ghost use Rattle.sdd_base.specs.Tokens.{participant_of, shared_cell};
+ghost use Rattle.versions.specs.Items.{held_by};
+ghost use Rattle.versions.specs.Versions.{IsVersion};
+
+use sdd_base::cell::AtomicShared;
+use sdd_base::epoch::Epoch;
+use sdd_base::guard::WorldGuard;
+use sdd_base::job::NoJob;
+use sdd_base::owner::Shared;
+use sdd_base::pointer::Ptr;
+use sdd_base::sizes::Sizes;
+use sdd_base::world::{World, atomic_shared, guard, shared};
+use sdd_steps::{Fate, Item as Counterpart, Listed, State, Step, apply};
+use std::alloc::Global;
+use std::process::Abort;
+use versions::{Built, Directory, Item, Write, build, place, publish, version};
+
+// Items of versions with two pairs in a segment.
+type Two = Item<u64, u64, 2>;
+
+// The participants of both, and the cell of the steps that is the root.
+const READER: usize = 0;
+
+const WRITER: usize = 1;
+
+const ROOT: usize = 0;
+
+// The items in the order of placing: the empty version, and then each version behind its two segments.
+const EMPTY: usize = 0;
+
+const FIRST: usize = 3;
+
+const SECOND: usize = 6;
+
+// What an item holds.
+fn held(item: usize) -> &'static [usize] {
+    match item {
+        FIRST => &[1, 2],
+        SECOND => &[4, 5],
+        _ => &[],
+    }
+}
+
+// An accelerated guard of the writer: whether it rotates, what is reclaimed then, and whether it raises the count.
+#[derive(Clone, Copy)]
+struct Turn {
+    rotates: bool,
+    gone: &'static [usize],
+    raises: bool,
+}
+
+const STILL: Turn = Turn {
+    rotates: false,
+    gone: &[],
+    raises: false,
+};
+
+const LIFT: Turn = Turn {
+    rotates: false,
+    gone: &[],
+    raises: true,
+};
+
+const ROTATION: Turn = Turn {
+    rotates: true,
+    gone: &[],
+    raises: false,
+};
+
+const ROUND: Turn = Turn {
+    rotates: true,
+    gone: &[],
+    raises: true,
+};
+
+fn round_without(gone: &'static [usize]) -> Turn {
+    Turn {
+        rotates: true,
+        gone,
+        raises: true,
+    }
+}
+
+// What a step leaves, which has to be enabled.
+fn after<R: Abort>(rt: &R, alloc: Global, state: State, step: Step) -> State {
+    match apply(alloc, &state, step) {
+        Ok(Some(next)) => next,
+        _ => panic!(rt; "a step that isn't enabled"),
+    }
+}
+
+fn is_refused<R: Abort>(rt: &R, alloc: Global, state: &State, step: Step) -> bool {
+    apply(alloc, state, step).expect(rt, "memory").is_none()
+}
+
+// The writer places an item.
+fn place_beside<R: Abort>(rt: &R, alloc: Global, state: State, value: u64, item: usize) -> State {
+    let mut holds = Listed::new(alloc);
+    for one in held(item) {
+        assert!(rt; holds.push(*one).is_ok());
+    }
+    after(
+        rt,
+        alloc,
+        state,
+        Step::Place(WRITER, value, holds, Listed::new(alloc)),
+    )
+}
+
+// The writer gives the last owner of an item back.
+fn let_go<R: Abort>(rt: &R, alloc: Global, state: State, item: usize) -> State {
+    let state = after(rt, alloc, state, Step::Release(WRITER, item));
+    after(rt, alloc, state, Step::Retire(WRITER, item))
+}
+
+// The writer reclaims an item, and with it the last owners of what it holds go, the last one first.
+fn reclaim<R: Abort>(rt: &R, alloc: Global, state: State, item: usize) -> State {
+    let mut state = after(rt, alloc, state, Step::Reclaim(WRITER, item));
+    for one in held(item).iter().rev() {
+        state = after(rt, alloc, state, Step::GiveUp(WRITER, item, *one));
+        state = let_go(rt, alloc, state, *one);
+    }
+    state
+}
+
+// A participant's guard opens.
+fn open<R: Abort>(rt: &R, alloc: Global, state: State, p: usize, rotates: bool) -> State {
+    let state = after(rt, alloc, state, Step::ReadEpoch(p));
+    let state = after(rt, alloc, state, Step::Publish(p));
+    if rotates {
+        after(rt, alloc, state, Step::Rotate(p))
+    } else {
+        state
+    }
+}
+
+// An accelerated guard of the writer, in steps.
+fn take_turn<R: Abort>(rt: &R, alloc: Global, state: State, kind: Turn) -> State {
+    let mut state = open(rt, alloc, state, WRITER, kind.rotates);
+    for item in kind.gone {
+        state = reclaim(rt, alloc, state, *item);
+    }
+    if kind.raises {
+        state = after(rt, alloc, state, Step::Look(WRITER, READER));
+        state = after(rt, alloc, state, Step::Raise(WRITER));
+    } else {
+        assert!(rt; is_refused(rt, alloc, &state, Step::Look(WRITER, READER)));
+        assert!(rt; is_refused(rt, alloc, &state, Step::Raise(WRITER)));
+    }
+    after(rt, alloc, state, Step::Close(WRITER))
+}
+
+fn is_there(item: &Counterpart) -> bool {
+    !matches!(item.fate, Fate::Reclaimed(_))
+}
+
+// How many items are there.
+fn left(state: &State) -> usize {
+    let mut count = 0usize;
+    for item in state.items() {
+        if is_there(item) {
+            count = count.saturating_add(1);
+        }
+    }
+    count
+}
+
+// An accelerated guard of the writer, and the epoch that it finds. Owners stay counted, and the reader's guard open.
+fn pass<R: Abort>(rt: &R, w: &mut World<Two, NoJob>) -> Epoch
+    requires { 1 < length w.old.members }
+    ensures members { 1 < length w.new.members }
+    ensures reader { IsOpen w.old 0 → IsOpen w.new 0 }
+    ensures counted { (hand : List Hold) → Counted held_by hand w.old → Counted held_by hand w.new }
+{
+    w.laws();
+    match guard::new(w, WRITER) {
+        Ok(one) => {
+            let epoch = guard::epoch(w, &one);
+            guard::accelerate(w, &one);
+            guard::close(w, one);
+            epoch
+        }
+        Err(_) => panic!(rt; "nested too often"),
+    }
+}
+
+// Accelerated guards of the writer in the place and beside it. Each finds the count of the steps, and leaves as many
+// items as they do.
+fn play<R: Abort>(
+    rt: &R,
+    alloc: Global,
+    w: &mut World<Two, NoJob>,
+    start: State,
+    turns: &[Turn],
+) -> State
+    requires { 1 < length w.old.members }
+    ensures members { 1 < length w.new.members }
+    ensures reader { IsOpen w.old 0 → IsOpen w.new 0 }
+    ensures counted { (hand : List Hold) → Counted held_by hand w.old → Counted held_by hand w.new }
+{
+    let mut state = start;
+    for kind in turns {
+        let found = pass(rt, w);
+        assert!(rt; found == Epoch::of_count(state.count()));
+        state = take_turn(rt, alloc, state, *kind);
+        assert!(rt; w.slots_in_use() == left(&state));
+    }
+    state
+}
+
+// A place in which the root names the first version, and what the second one is to be.
+struct Begun {
+    w: World<Two, NoJob>,
+    root: AtomicShared<Two>,
+    next: Built<u64, u64, 2>,
+}
+
+fn built<R: Abort>(
+    rt: &R,
+    alloc: Global,
+    w: &World<Two, NoJob>,
+    dir: &Directory<u64>,
+    writes: &[Write<u64, u64>],
+) -> Built<u64, u64, 2>
+    requires version { IsVersion nat_cmp (value_at w.now) dir.now }
+    requires last { dir.now.number < 2 ^ 64 - 1 }
+    ensures { result.number ≡ dir.now.number + 1 }
+{
+    match build(alloc, w, dir, writes) {
+        Ok((built, _)) => built,
+        Err(_) => panic!(rt; "no memory for a version"),
+    }
+}
+
+fn placed<R: Abort>(rt: &R, made: Result<Shared<Two>, Built<u64, u64, 2>>) -> Shared<Two>
+    ensures { made ≡ Ok result }
+{
+    match made {
+        Ok(root) => root,
+        Err(_) => panic!(rt; "no slots for a version"),
+    }
+}
+
+fn begin<R: Abort>(rt: &R, alloc: Global) -> Begun
+    ensures members { 1 < length result.w.members }
+    ensures counted { Counted held_by (SharedIn (shared_cell result.root) ∷ []) result.w }
+{
+    let sizes = Sizes {
+        participants: 2,
+        slots: 12,
+        cells: 1,
+        jobs: 0,
+    };
+    let mut w: World<Two, NoJob> = match World::new(alloc, sizes) {
+        Ok(w) => w,
+        Err(_) => panic!(rt; "no room for a place"),
+    };
+    let empty = placed(rt, place(&mut w, Built::empty(alloc)));
+    let writes = [
+        Write::Upsert(1, 10),
+        Write::Upsert(2, 20),
+        Write::Upsert(3, 30),
+    ];
+    let one = built(rt, alloc, &w, version(&w, &empty), &writes);
+    let _ = shared::release(&mut w, empty, WRITER);
+    let first = placed(rt, place(&mut w, one));
+    let next = built(rt, alloc, &w, version(&w, &first), &[Write::Upsert(4, 40)]);
+    let root = match atomic_shared::from(&mut w, first) {
+        Ok(root) => root,
+        Err(_) => panic!(rt; "no cell for the root"),
+    };
+    Begun { w, root, next }
+}
+
+fn begin_beside<R: Abort>(rt: &R, alloc: Global) -> State {
+    let state = State::start(alloc, 2, 1).expect(rt, "memory");
+    let state = place_beside(rt, alloc, state, 0, EMPTY);
+    let state = let_go(rt, alloc, state, EMPTY);
+    let state = place_beside(rt, alloc, state, 11, 1);
+    let state = place_beside(rt, alloc, state, 12, 2);
+    let state = place_beside(rt, alloc, state, 10, FIRST);
+    after(rt, alloc, state, Step::SwapCell(WRITER, ROOT, Some(FIRST)))
+}
+
+// The second version takes the place of the first one.
+fn replace<R: Abort>(
+    rt: &R,
+    w: &mut World<Two, NoJob>,
+    root: &AtomicShared<Two>,
+    next: Built<u64, u64, 2>,
+)
+    requires members { 1 < length w.old.members }
+    requires counted { Counted held_by (SharedIn (shared_cell root.now) ∷ []) w.old }
+    ensures members { 1 < length w.new.members }
+    ensures reader { IsOpen w.old 0 → IsOpen w.new 0 }
+    ensures counted { Counted held_by (SharedIn (shared_cell root.now) ∷ []) w.new }
+{
+    let second = placed(rt, place(w, next));
+    publish(w, root, second, WRITER);
+}
+
+fn replace_beside<R: Abort>(rt: &R, alloc: Global, state: State) -> State {
+    let state = place_beside(rt, alloc, state, 21, 4);
+    let state = place_beside(rt, alloc, state, 22, 5);
+    let state = place_beside(rt, alloc, state, 20, SECOND);
+    let state = after(rt, alloc, state, Step::SwapCell(WRITER, ROOT, Some(SECOND)));
+    let_go(rt, alloc, state, FIRST)
+}
+
+// The reader's guard opens, and the root is loaded.
+fn begin_reading<R: Abort>(
+    rt: &R,
+    w: &mut World<Two, NoJob>,
+    root: &AtomicShared<Two>,
+) -> (WorldGuard, Ptr<'static, Two>)
+    requires members { 1 < length w.old.members }
+    requires counted { Counted held_by (SharedIn (shared_cell root.now) ∷ []) w.old }
+    ensures members { 1 < length w.new.members }
+    ensures reader { IsOpen w.new 0 }
+    ensures guard { participant_of result.0 ≡ 0 }
+    ensures counted { Counted held_by (SharedIn (shared_cell root.now) ∷ []) w.new }
+{
+    w.laws();
+    match guard::new(w, READER) {
+        Ok(reading) => {
+            let at = atomic_shared::load(w, root, &reading);
+            (reading, at)
+        }
+        Err(_) => panic!(rt; "nested too often"),
+    }
+}
+
+// The reader's guard closes.
+fn end_reading(w: &mut World<Two, NoJob>, reading: WorldGuard)
+    requires members { 1 < length w.old.members }
+    requires reader { IsOpen w.old 0 }
+    requires guard { participant_of reading ≡ 0 }
+    ensures members { 1 < length w.new.members }
+    ensures counted { (hand : List Hold) → Counted held_by hand w.old → Counted held_by hand w.new }
+{
+    guard::close(w, reading);
+}
+
+// The number of the version that stands there, and how many segments it has.
+fn read(w: &World<Two, NoJob>, at: &Ptr<'static, Two>) -> Option<(u64, usize)> {
+    if !w.is_readable(at) {
+        return None;
+    }
+    let dir = w.read(at)?.directory()?;
+    Some((dir.number(), dir.segments()))
+}
+
+// Ends the place.
+fn end<R: Abort>(rt: &R, mut w: World<Two, NoJob>, root: AtomicShared<Two>)
+    requires members { 1 < length w.members }
+    requires counted { Counted held_by (SharedIn (shared_cell root) ∷ []) w }
+{
+    atomic_shared::retire(&mut w, root, WRITER);
+    match w.close() {
+        Ok(()) => {}
+        Err(_) => panic!(rt; "something is left"),
+    }
+}
+
+#[test]
+fn a_place_goes_as_the_single_steps_say(rt: HostRuntime) {
+    let alloc = rt.alloc();
+    let Begun { mut w, root, next } = begin(&rt, alloc);
+    let mut state = begin_beside(&rt, alloc);
+    assert_eq!(rt; (w.slots_in_use(), left(&state)), (4, 4));
+    // The count is raised five times; the writer's last opening found 4.
+    let lifts = [LIFT, ROUND, ROUND, round_without(&[EMPTY]), ROUND];
+    state = play(&rt, alloc, &mut w, state, &lifts);
+    assert_eq!(rt; (state.count(), w.slots_in_use()), (5, 3));
+    // The reader publishes 5, rotates and loads the first version, and another one takes its place.
+    let (reading, at) = begin_reading(&rt, &mut w, &root);
+    assert!(rt; guard::epoch(&w, &reading) == Epoch::of_count(5));
+    state = open(&rt, alloc, state, READER, true);
+    state = after(&rt, alloc, state, Step::LoadCell(READER, ROOT));
+    replace(&rt, &mut w, &root, next);
+    state = replace_beside(&rt, alloc, state);
+    assert_eq!(rt; (w.slots_in_use(), left(&state)), (6, 6));
+    // Two rotations, one raise.
+    let held_up = [ROUND, ROTATION, STILL, STILL, STILL, STILL, STILL, STILL];
+    state = play(&rt, alloc, &mut w, state, &held_up);
+    assert!(rt; guard::epoch(&w, &reading) == Epoch::of_count(6));
+    assert_eq!(rt; (state.count(), w.slots_in_use()), (6, 6));
+    assert_eq!(rt; read(&w, &at), Some((1, 2)));
+    state = after(&rt, alloc, state, Step::ReadSegment(READER, FIRST, 1));
+    end_reading(&mut w, reading);
+    state = after(&rt, alloc, state, Step::Close(READER));
+    let freed = [
+        LIFT,
+        round_without(&[FIRST]),
+        ROUND,
+        ROUND,
+        round_without(&[1, 2]),
+        ROUND,
+        ROUND,
+        ROUND,
+    ];
+    state = play(&rt, alloc, &mut w, state, &freed);
+    assert_eq!(rt; (state.count(), w.slots_in_use()), (14, 3));
+    assert!(rt; read(&w, &at).is_none());
+    let (reading, at) = begin_reading(&rt, &mut w, &root);
+    assert!(rt; guard::epoch(&w, &reading) == Epoch::of_count(14));
+    assert_eq!(rt; read(&w, &at), Some((2, 2)));
+    end_reading(&mut w, reading);
+    end(&rt, w, root);
+}
