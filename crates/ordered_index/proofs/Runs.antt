@@ -10,7 +10,7 @@ use Rattle.std.proofs.Math.Seq.{take-length}
 use Rattle.versions.specs.Writes.{after_writes, replies_to}
 use Rattle.ordered_index.specs.Inside.{IsKept, IsOf, state_of}
 use Rattle.ordered_index.proofs.Options.{mapped_some}
-use Rattle.ordered_index.specs.State.{present, list_at, MayAccept}
+use Rattle.ordered_index.specs.State.{State, present, list_at, MayAccept}
 use Rattle.ordered_index.specs.Store.{IsKeptHere, Store, Version}
 use Rattle.ordered_index.specs.Serial.{after_all, IsSerial, IsGood}
 use Rattle.ordered_index.specs.declared.transaction.Transaction.{Transaction}
@@ -65,6 +65,12 @@ module _ {K V : Type 0} (cmp : K → K → Ordering) where
         let r = mapped_some (λ (v : Version K V). v.number) store.readers place number e in
         let is_of = at_get (λ r. IfSome r (IsOf cmp history)) store.readers place (Some r.0) kept.readers r.1 in
         (r.0, r.1, is_of.list ∙ ap (λ n. after_all cmp (take n history) []) r.2)
+
+    -- the same, of the index and of a place that is the session's
+    pub session_reads : (value : State K V) (place p number : ℕ) → state_of store history last ≡ value → p ≡ place → slice_get value.places place ≡ Some (Some number) → (v : Version K V) × (slice_get store.readers p ≡ Some (Some v)) × (v.pairs ≡ list_at cmp value number)
+    session_reads value place p number view same opened =
+        let v = session_version place number (ap (λ (x : State K V). slice_get x.places place) view ∙ opened) in
+        (v.0, ap (slice_get store.readers) same ∙ v.1, v.2 ∙ ap (λ (x : State K V). list_at cmp x number) view)
 
     -- a version that is kept has the list of its number
     pub kept_list : (v : Version K V) (n : ℕ) → IsKeptHere v store → v.number ≡ n → v.pairs ≡ list_at cmp (state_of store history last) n

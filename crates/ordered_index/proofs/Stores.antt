@@ -288,17 +288,23 @@ module _ {K V : Type 0} {s : ℕ} (cmp : K → K → Ordering) where
     pub reads : Reads cmp w place o
     pub shows : read_by w o ≡ v
 
+  -- the reader that is found at a place
+  pub reader_known : (w : State (Item K V s)) (root : ℕ) (places : List (Option (Opened K V s))) → IsStore cmp w root places → (place : ℕ) (v : Version K V) (o : Opened K V s) → slice_get (map (option_map (read_by w)) places) place ≡ Some (Some v) → get_or places place None ≡ Some o → ReaderAt w places place o v
+  reader_known w root places store place v o shown at =
+      let r = mapped_some (read_by w) places place v shown in
+      let t = read_there places place (Some r.0) r.1 in
+      let same : r.0 ≡ o = some_same r.0 o (sym t.1 ∙ at) in
+      record { inside = t.0; at = at; reads = subst (λ (x : Option (Opened K V s)). IsReader cmp w place x) at (store.readers place); shows = ap (read_by w) (sym same) ∙ r.2 }
+    where
+      some_same : (x y : Opened K V s) → Some x ≡ Some y → x ≡ y
+      some_same x y e = cc
+
   module _ (w : State (Item K V s)) (root : ℕ) (places : List (Option (Opened K V s))) (store : IsStore cmp w root places) (place : ℕ) (read : Option (Opened K V s)) (is : read ≡ get_or places place read) where
     pub reader_at : (v : Version K V) (o : Opened K V s) → slice_get (map (option_map (read_by w)) places) place ≡ Some (Some v) → read ≡ Some o → ReaderAt w places place o v
     reader_at v o shown found =
         let r = mapped_some (read_by w) places place v shown in
         let t = read_there places place (Some r.0) r.1 in
-        let at : get_or places place None ≡ Some o = sym (get_or_read places place read t.0 is None) ∙ found in
-        let same : r.0 ≡ o = some_same r.0 o (sym t.1 ∙ at) in
-        record { inside = t.0; at = at; reads = subst (λ (x : Option (Opened K V s)). IsReader cmp w place x) at (store.readers place); shows = ap (read_by w) (sym same) ∙ r.2 }
-      where
-        some_same : (x y : Opened K V s) → Some x ≡ Some y → x ≡ y
-        some_same x y e = cc
+        reader_known w root places store place v o shown (sym (get_or_read places place read t.0 is None) ∙ found)
 
     -- where one reads, there is one
     pub reader_there : (v : Version K V) → slice_get (map (option_map (read_by w)) places) place ≡ Some (Some v) → read ≡ None → ⊥

@@ -470,7 +470,7 @@ struct Draft<K: Clone + Ord, V: Clone, const S: usize> {
 }
 
 // Puts an item where room was made.
-pub(crate) fn put<T: Drop>(items: &mut Vec<T>, item: T)
+pub(crate) fn put<T>(items: &mut Vec<T>, item: T)
     requires { vec_len items.old < vec_capacity items.old }
     ensures items { items.new.items ≡ items.old.items ++ item ∷ [] }
     ensures room { vec_capacity items.old ≤ vec_capacity items.new }

@@ -156,10 +156,7 @@ impl<K: Clone + Ord, V: Clone, const S: usize> Store<K, V, S> {
         requires { (v : Version K V) × (slice_get self.now.readers place ≡ Some (Some v)) }
         ensures { (v : Version K V) → slice_get self.now.readers place ≡ Some (Some v) → result ≡ v.pairs }
     {
-        match &self.places[place] {
-            Some(opened) => Snapshot::new(&self.world, seen(&self.world, opened)),
-            None => unreachable!(),
-        }
+        Snapshot::new(&self.world, read_at(&self.world, &self.places, place))
     }
 
     // The value of the pair with the key, in the list that the reader of a place has.
@@ -167,10 +164,7 @@ impl<K: Clone + Ord, V: Clone, const S: usize> Store<K, V, S> {
         requires { (v : Version K V) × (slice_get self.now.readers place ≡ Some (Some v)) }
         ensures { (v : Version K V) → slice_get self.now.readers place ≡ Some (Some v) → option_copied result ≡ value_at K.cmp key.now v.pairs }
     {
-        match &self.places[place] {
-            Some(opened) => find_in(&self.world, seen(&self.world, opened), key),
-            None => unreachable!(),
-        }
+        find_in(&self.world, read_at(&self.world, &self.places, place), key)
     }
 
     // How many pairs that list has.
@@ -178,10 +172,7 @@ impl<K: Clone + Ord, V: Clone, const S: usize> Store<K, V, S> {
         requires { (v : Version K V) × (slice_get self.now.readers place ≡ Some (Some v)) }
         ensures { (v : Version K V) → slice_get self.now.readers place ≡ Some (Some v) → result ≡ length v.pairs }
     {
-        match &self.places[place] {
-            Some(opened) => len(&self.world, seen(&self.world, opened)),
-            None => unreachable!(),
-        }
+        len(&self.world, read_at(&self.world, &self.places, place))
     }
 
     // A walk along that list within two bounds.
@@ -194,10 +185,8 @@ impl<K: Clone + Ord, V: Clone, const S: usize> Store<K, V, S> {
         requires { (v : Version K V) × (slice_get self.now.readers place ≡ Some (Some v)) }
         ensures { (v : Version K V) → slice_get self.now.readers place ≡ Some (Some v) → result ≡ record { pairs = v.pairs; lower = bound_map (λ k. k.now) lower.entry; upper = bound_map (λ k. k.now) upper.entry; forward = Unopened; backward = Unopened } }
     {
-        match &self.places[place] {
-            Some(opened) => walk(&self.world, seen(&self.world, opened), lower, upper),
-            None => unreachable!(),
-        }
+        let directory = read_at(&self.world, &self.places, place);
+        walk(&self.world, directory, lower, upper)
     }
 
     // Where a key stands in that list.
@@ -205,10 +194,7 @@ impl<K: Clone + Ord, V: Clone, const S: usize> Store<K, V, S> {
         requires { (v : Version K V) × (slice_get self.now.readers place ≡ Some (Some v)) }
         ensures { (v : Version K V) → slice_get self.now.readers place ≡ Some (Some v) → IsLocated K.cmp key.now v.pairs (as_proximity result) }
     {
-        match &self.places[place] {
-            Some(opened) => locate(&self.world, seen(&self.world, opened), key),
-            None => unreachable!(),
-        }
+        locate(&self.world, read_at(&self.world, &self.places, place), key)
     }
 
     // The present version.
@@ -318,6 +304,23 @@ fn seen<'w, K: Ord, V, const S: usize>(
     version_at(w, &opened.root)
 }
 
+// The directory of the version that the reader of a place has.
+fn read_at<'w, K: Ord, V, const S: usize>(
+    w: &'w World<Item<K, V, S>, NoJob>,
+    places: &[Option<Opened<K, V, S>>],
+    place: usize,
+) -> &'w Directory<K>
+    requires store { (root : ℕ) × IsStore K.cmp w.now root places.now }
+    requires reader { (v : Version K V) × (slice_get (map (option_map (read_by w.now)) places.now) place ≡ Some (Some v)) }
+    ensures version { IsVersion K.cmp (value_in w.now) result.now }
+    ensures is { (v : Version K V) → slice_get (map (option_map (read_by w.now)) places.now) place ≡ Some (Some v) → list_of (value_in w.now) result.now ≡ v.pairs }
+{
+    match &places[place] {
+        Some(opened) => seen(w, opened),
+        None => unreachable!(),
+    }
+}
+
 // The directory of the version with the greatest number up to this one that a reader has.
 fn nearest<'w, K: Ord, V, const S: usize>(
     w: &'w World<Item<K, V, S>, NoJob>,
@@ -383,8 +386,8 @@ fn free_all<K: Ord, V, const S: usize>(
     ensures free { IsStack gap places.new.items free.new }
 {
     for place in 0..count {
-        places.push(None).unwrap();
-        free.push(place).unwrap();
+        put(places, None);
+        put(free, place);
     }
 }
 

@@ -8,10 +8,10 @@ use Rattle.ordered_index.proofs.store.free_all.Goals as goal
 pub loop-place-preserved : goal.loop-place-preserved
 loop-place-preserved g c =
     let h = c.loop-place.invariant in
-    let e = rw c.unwrap.ensures at c.push.ensures.items in
-    let f = rw c.unwrap-in-loop-place.ensures at c.push-in-loop-place.ensures.items in
-    let wide = c.push.ensures.capacity in
-    let long = c.push-in-loop-place.ensures.capacity in
+    let e = c.put.ensures.items in
+    let f = c.put-in-loop-place.ensures.items in
+    let wide = c.put.ensures.room in
+    let long = c.put-in-loop-place.ensures.room in
     let at = sym (ap length h.made ∙ length-replicate c.loop-place.place None) in
     record {
       made = e ∙ ap (λ xs. xs ++ None ∷ []) h.made ∙ sym (replicate-push c.loop-place.place None);

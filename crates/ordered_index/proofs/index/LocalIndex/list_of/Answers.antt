@@ -1,16 +1,13 @@
-use Rattle.std.proofs.Common.{ℕ, ap, ◌∙◌, lit<}
-use Rattle.std.specs.List.{slice_get}
-use Rattle.ordered_index.specs.State.{State, list_at}
-use Rattle.ordered_index.proofs.Runs.{session_version}
+use Rattle.std.proofs.Common.{◌∙◌, lit<}
+use Rattle.ordered_index.proofs.Runs.{session_reads}
 use Rattle.ordered_index.proofs.index.LocalIndex.list_of.Goals as goal
 
 pub reader-requires : goal.reader-requires
 reader-requires g c =
-    let v = session_version g.K.Ord.cmp c.self.invariant c.args.session.now.place c.args.session.now.receipt.number (ap (λ (x : State _ _). slice_get x.places c.args.session.now.place) c.self.view_is ∙ c.requires) in
-    (lit< tt, (lit< tt, (v.0, ap (λ (n : ℕ). slice_get c.self.inside.store.readers n) c.place.ensures ∙ v.1)))
+    let v = session_reads g.K.Ord.cmp c.self.invariant _ c.args.session.now.place c.place.result c.args.session.now.receipt.number c.self.view_is c.place.ensures c.requires in
+    (lit< tt, (lit< tt, (v.0, v.1)))
 
 pub returns : goal.returns
 returns g c =
-    let v = session_version g.K.Ord.cmp c.self.invariant c.args.session.now.place c.args.session.now.receipt.number (ap (λ (x : State _ _). slice_get x.places c.args.session.now.place) c.self.view_is ∙ c.requires) in
-    c.reader.ensures v.0 (ap (λ (n : ℕ). slice_get c.self.inside.store.readers n) c.place.ensures ∙ v.1)
-    ∙ v.2 ∙ ap (λ (x : State _ _). list_at g.K.Ord.cmp x c.args.session.now.receipt.number) c.self.view_is
+    let v = session_reads g.K.Ord.cmp c.self.invariant _ c.args.session.now.place c.place.result c.args.session.now.receipt.number c.self.view_is c.place.ensures c.requires in
+    c.reader.ensures v.0 v.1 ∙ v.2
