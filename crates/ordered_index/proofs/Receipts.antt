@@ -17,7 +17,7 @@ use Rattle.ordered_index.specs.declared.transaction.Receipt.{Receipt}
 use Rattle.ordered_index.specs.declared.transaction.Transaction.{Transaction}
 use Rattle.ordered_index.proofs.Runs.{take-push}
 
-first_of : {X : Type 0} (xs : List X) (i : ℕ) → i < length xs → X
+pub first_of : {X : Type 0} (xs : List X) (i : ℕ) → i < length xs → X
 first_of [] i h = absurd (omega (arith, h))
 first_of (x ∷ xs) i h = x
 

@@ -1,7 +1,7 @@
 -- A desk keeps sessions of an index by labels, each in the seat of its place. Calls of both, and runs of calls.
 use Rattle.std.specs.Prelude.{◌≡◌, ◌≢◌, ℕ, ◌≤◌, List, [], ◌∷◌, length, Option, Some, None, slice_get, slice_set}
 use Rattle.std.specs.declared.cmp.Ordering.{Ordering}
-use Rattle.ordered_index.specs.State.{State, OpenSession, IsOpen, IsOpenAt, IsFull, Opens, Closes, list_at, Accepts, Refuses, Reads, Audits, Reclaims}
+use Rattle.ordered_index.specs.State.{State, OpenSession, IsOpen, IsOpenAt, IsFull, Opens, Closes, list_at, Accepts, Refuses, Reads, Audits, Reclaims, MayAccept, number_of}
 use Rattle.ordered_index.specs.declared.query.Query.{Query}
 use Rattle.ordered_index.specs.declared.query.Query.TheVariants as queries
 use Rattle.versions.specs.declared.write.Write.{Write}
@@ -155,6 +155,22 @@ module _ {K V : Type 0} where
     Step old calls.Slots reply new = SlotsStep old reply new
     Step old (calls.Number label) reply new = NumberStep old label reply new
     Step old (calls.Len label) reply new = LenStep old label reply new
+
+    -- the calls that may be refused memory: what a session reads, an audit at a number that is there, and a commit that
+    -- nothing else refuses; no other call takes any
+    abbrev pub MayWantMemory : Machine K V → DeskCall K V → Type 0
+    MayWantMemory m (calls.Get label key) = IsKnown m.desk label
+    MayWantMemory m (calls.Contains label key) = IsKnown m.desk label
+    MayWantMemory m (calls.Range label lower upper) = IsKnown m.desk label
+    MayWantMemory m (calls.Locate label key) = IsKnown m.desk label
+    MayWantMemory m (calls.Audit on) = (receipt : Receipt K V) × RestsOn m.desk on receipt × (receipt.number ≤ number_of m.index)
+    MayWantMemory m (calls.Commit on writes) = (receipt : Receipt K V) × RestsOn m.desk on receipt × MayAccept cmp m.index receipt.reads
+    MayWantMemory m (calls.Open label) = ⊥
+    MayWantMemory m (calls.Close label) = ⊥
+    MayWantMemory m calls.Reclaim = ⊥
+    MayWantMemory m calls.Slots = ⊥
+    MayWantMemory m (calls.Number label) = ⊥
+    MayWantMemory m (calls.Len label) = ⊥
 
     -- these calls may be given these replies, one after the other
     abbrev pub Run : Machine K V → List (DeskCall K V) → List (DeskReply K V) → Machine K V → Type 0

@@ -3,7 +3,7 @@
 use versions::{Reply, Write};
 
 /// An accepted commit.
-#[derive(Debug, Drop)]
+#[derive(Clone, Debug, PartialEq, Eq, Drop)]
 pub struct Accepted {
     /// The number of the list that it left, one above that of the list before.
     pub number: u64,
@@ -20,12 +20,12 @@ pub enum Cause {
     Exhausted,
     /// A growth or a clone was refused.
     Memory,
-    /// Fewer slots are free than the new version takes.
+    /// Too few slots are free for the new version: fewer than a version of so many pairs may take.
     NoSlot,
 }
 
 /// A refused commit. The index is as it was before.
-#[derive(Debug, Drop)]
+#[derive(Clone, Debug, PartialEq, Eq, Drop)]
 pub struct Refused<K, V> {
     /// Why.
     pub cause: Cause,

@@ -210,8 +210,8 @@ impl<K: Clone + Ord, V: Clone + Eq, const S: usize> LocalIndex<K, V, S> {
     ///
     /// The causes are decided in this order: `Conflict` with the first read whose answer isn't that
     /// of the present list, whatever its number; `Exhausted` at the last number; `Memory`; `NoSlot`,
-    /// where fewer slots are free than the new version takes. That of `n` pairs takes at most
-    /// `2 * (n / (S + 1)) + 2`.
+    /// only where fewer than `2 * (n / (S + 1)) + 2` slots are free, for the `n` pairs that the
+    /// writes leave: no version of so many takes more.
     pub fn commit(
         &mut self,
         receipt: &Receipt<K, V>,

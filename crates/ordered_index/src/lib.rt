@@ -37,7 +37,9 @@ mod transaction;
 pub use commit::{Accepted, Cause, Refused};
 pub use desk::Desk;
 pub use index::{LocalIndex, NoPlace};
-pub use laws::own_receipts_audit_yes;
+pub use laws::{
+    a_changed_range_is_a_conflict, own_receipts_audit_yes, reads_that_hold_are_no_conflict,
+};
 pub use listed::{Listed, clones_of_lists, equals_of_lists};
 pub use play::{DeskCall, DeskReply, ReadSet, play_all, play_one};
 pub use query::{Answer, Near, Query};

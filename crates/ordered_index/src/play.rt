@@ -1,8 +1,9 @@
 //! Lists of calls, made one after the other.
 
-ghost use Rattle.std.specs.Prelude.{◌≡◌, ◌<◌, [], ℕ, IfOk, IfErr, IfSome, IfNone, OnErr, OnOk, take, length};
+ghost use Rattle.std.specs.Prelude.{◌≡◌, ◌<◌, ◌≤◌, [], ℕ, IfOk, IfErr, IfSome, IfNone, OnErr, OnOk, take, length};
 ghost use Rattle.leaf_array.specs.Values.{ClonesAreSame, EqualsAreSame};
-ghost use Rattle.ordered_index.specs.Desk.{Serves, KeepsAll, RestsOn, RestsOnNone, OpenStep, CloseStep, ReadStep, AuditStep, NumberStep, LenStep, CommitStep, Step, Run};
+ghost use Rattle.ordered_index.specs.Desk.{Serves, KeepsAll, RestsOn, RestsOnNone, OpenStep, CloseStep, ReadStep, AuditStep, NumberStep, LenStep, CommitStep, IsKnown, MayWantMemory, Step, Run};
+ghost use Rattle.ordered_index.specs.State.{MayAccept, number_of};
 
 use crate::commit::{Accepted, Cause, Refused};
 use crate::desk::{Desk, Seat};
@@ -14,7 +15,7 @@ use std::ops::Bound;
 use versions::Write;
 
 /// The reads that a commit rests on, or that an audit tests.
-#[derive(Debug, Drop)]
+#[derive(Clone, Debug, PartialEq, Eq, Drop)]
 pub enum ReadSet<K, V> {
     /// None, at number 0.
     Empty,
@@ -25,7 +26,7 @@ pub enum ReadSet<K, V> {
 }
 
 /// A call. A session is named by its label.
-#[derive(Debug, Drop)]
+#[derive(Clone, Debug, PartialEq, Eq, Drop)]
 pub enum DeskCall<K, V> {
     /// Opens a session under the label.
     Open(u64),
@@ -54,7 +55,7 @@ pub enum DeskCall<K, V> {
 }
 
 /// The reply to a [`DeskCall`].
-#[derive(Debug, Drop)]
+#[derive(Clone, Debug, PartialEq, Eq, Drop)]
 pub enum DeskReply<K, V> {
     /// The session is open, on the list with this number.
     Opened(u64),
@@ -121,8 +122,9 @@ pub fn play_all<K: Clone + Ord, V: Clone + Eq, const S: usize>(
 
 /// Makes one call: what [`play_all`] does of a list of one, without a list of calls or of replies.
 ///
-/// Where memory is refused, also to a commit, nothing has changed. A call by a label without a
-/// session, or one that opens a label in use, takes no memory.
+/// Where memory is refused, also to a commit, nothing has changed. What a session reads may be
+/// refused it, an audit at a number that is there, and a commit that nothing else refuses; no other
+/// call takes any, and none by a label without a session.
 pub fn play_one<K: Clone + Ord, V: Clone + Eq, const S: usize>(
     alloc: Global,
     index: &mut LocalIndex<K, V, S>,
@@ -135,6 +137,7 @@ pub fn play_one<K: Clone + Ord, V: Clone + Eq, const S: usize>(
     requires equal_keys { EqualsAreSame K.eq }
     requires equal_values { EqualsAreSame V.eq }
     ensures step { IfOk result (λ reply. Step K.cmp S (record { index = index.old; desk = desk.old }) call reply (record { index = index.new; desk = desk.new })) }
+    ensures memory { OnErr result (MayWantMemory K.cmp S (record { index = index.old; desk = desk.old }) call) }
     ensures index_kept { OnErr result (index.new ≡ index.old) }
     ensures desk_kept { OnErr result (desk.new ≡ desk.old) }
     ensures serves { Serves (record { index = index.new; desk = desk.new }) }
@@ -221,6 +224,7 @@ fn play_read<K: Clone + Ord, V: Clone + Eq, const S: usize>(
     requires keys { ClonesAreSame K.is_clone }
     requires values { ClonesAreSame V.is_clone }
     ensures step { IfOk result (λ reply. ReadStep K.cmp S (record { index = index.now; desk = desk.old }) label query reply (record { index = index.now; desk = desk.new })) }
+    ensures memory { OnErr result (IsKnown desk.old label) }
     ensures err { OnErr result (desk.new ≡ desk.old) }
     ensures serves { Serves (record { index = index.now; desk = desk.new }) }
     ensures keeps_all { KeepsAll (record { index = index.now; desk = desk.old }) → KeepsAll (record { index = index.now; desk = desk.new }) }
@@ -247,7 +251,8 @@ fn play_audit<K: Clone + Ord, V: Clone + Eq, const S: usize>(
     requires values { ClonesAreSame V.is_clone }
     requires equal_keys { EqualsAreSame K.eq }
     requires equal_values { EqualsAreSame V.eq }
-    ensures { IfOk result (λ reply. AuditStep K.cmp S (record { index = index.now; desk = desk.now }) on.now reply (record { index = index.now; desk = desk.now })) }
+    ensures memory { OnErr result ((receipt : Receipt K V) × RestsOn desk.now on.now receipt × (receipt.number ≤ number_of index.now)) }
+    ensures step { IfOk result (λ reply. AuditStep K.cmp S (record { index = index.now; desk = desk.now }) on.now reply (record { index = index.now; desk = desk.now })) }
 {
     let blank = Receipt::blank(alloc);
     let Some(receipt) = reads_of(desk, on, &blank) else {
@@ -301,6 +306,7 @@ fn play_commit<K: Clone + Ord, V: Clone + Eq, const S: usize>(
     requires equal_keys { EqualsAreSame K.eq }
     requires equal_values { EqualsAreSame V.eq }
     ensures step { IfOk result (λ reply. CommitStep K.cmp S (record { index = index.old; desk = desk.now }) on.now writes.items reply (record { index = index.new; desk = desk.now })) }
+    ensures memory { OnErr result ((receipt : Receipt K V) × RestsOn desk.now on.now receipt × MayAccept K.cmp index.old receipt.reads) }
     ensures err { OnErr result (index.new ≡ index.old) }
     ensures serves { Serves (record { index = index.new; desk = desk.now }) }
     ensures keeps_all { KeepsAll (record { index = index.old; desk = desk.now }) → KeepsAll (record { index = index.new; desk = desk.now }) }

@@ -15,7 +15,7 @@ pub type Recorded<K, V> = (Query<K>, Answer<K, V>);
 ///
 /// A commit takes a receipt for its reads, and trusts neither its number nor its answers: it tests
 /// each answer on the present list (a read set, as optimistic concurrency control has it).
-#[derive(Debug, Drop)]
+#[derive(Clone, Debug, PartialEq, Eq, Drop)]
 pub struct Receipt<K, V> {
     /// The number of the list that was read.
     pub number: u64,
@@ -48,7 +48,7 @@ pub enum Audit {
 }
 
 /// What an accepted commit read, wrote and was told: an entry of the history.
-#[derive(Debug, Drop)]
+#[derive(Clone, Debug, PartialEq, Eq, Drop)]
 pub struct Transaction<K, V> {
     /// The reads that it rested on.
     pub reads: Listed<Recorded<K, V>>,
