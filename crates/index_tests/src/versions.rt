@@ -4,3 +4,4 @@ mod draft;
 mod placing;
 mod single_steps;
 mod walk;
+mod write;

@@ -32,6 +32,7 @@ mod session;
 mod snapshot;
 mod store;
 mod stretch;
+mod text;
 mod transaction;
 
 pub use commit::{Accepted, Cause, Refused};
@@ -45,5 +46,6 @@ pub use play::{DeskCall, DeskReply, ReadSet, play_all, play_one};
 pub use query::{Answer, Near, Query};
 pub use session::Session;
 pub use snapshot::{Nearby, Walk};
+pub use text::Text;
 pub use transaction::{Audit, Receipt, Recorded, Transaction};
 pub use versions::{Reply, Write};

@@ -1,19 +1,23 @@
 //! Sessions and commits of an index, by example.
 
 ghost use Rattle.std.specs.Prelude.{◌≡◌};
+ghost use Rattle.ordered_index.specs.State.{IsOpen};
 
 use super::slots::{commit, end};
 use ordered_index::{
-    Accepted, Answer, Audit, Cause, Desk, DeskCall, DeskReply, Listed, LocalIndex, NoPlace, Query,
-    ReadSet, Receipt, Recorded, Refused, Reply, Write, clones_of_lists, equals_of_lists, play_all,
+    Answer, Cause, Listed, LocalIndex, NoPlace, Query, Receipt, Recorded, Reply, Session, Write,
+    clones_of_lists, equals_of_lists,
 };
 use std::alloc::{AllocError, Global};
-use std::ops::Bound;
 use std::process::Abort;
 use std::test::Fail;
 
 // An index of numbers, with two pairs in a segment.
 type Numbers = LocalIndex<u64, u64, 2>;
+
+const ROOM: &str = "memory";
+
+const FREE: &str = "a free place";
 
 // Inserts of these pairs.
 fn inserts(alloc: Global, pairs: &[(u64, u64)]) -> Result<Vec<Write<u64, u64>>, AllocError> {
@@ -53,32 +57,58 @@ fn refuse_to_close<R: Abort>(rt: &R, index: Numbers) -> Numbers
     }
 }
 
+// The number of the list that a session reads, and the values of two keys there.
+fn reads(
+    index: &Numbers,
+    session: &Session<u64, u64>,
+    keys: (u64, u64),
+) -> (u64, Option<u64>, Option<u64>)
+    requires { IsOpen index.now session.now }
+{
+    let one = index.get(session, &keys.0).copied();
+    let other = index.get(session, &keys.1).copied();
+    (index.number(session), one, other)
+}
+
 #[test]
 fn a_session_reads_the_list_at_its_opening(rt: HostRuntime) {
     let alloc = rt.alloc();
-    let mut index = Numbers::new(alloc, 1, 16).expect(&rt, "room for an index");
+    let mut index = Numbers::new(alloc, 1, 16).expect(&rt, ROOM);
     let twice = [Write::Insert(1, 10), Write::Insert(1, 11)];
     let accepted = commit(&rt, alloc, &mut index, &twice);
-    assert_eq!(rt; accepted.number, 1);
-    assert_eq!(rt;
-        accepted.replies.as_slice(),
-        &[Reply::Inserted, Reply::Duplicate][..]
-    );
-    let a = index.open().expect(&rt, "a free place");
-    assert_eq!(rt; index.number(&a), 1);
+    let wanted = [Reply::Inserted, Reply::Duplicate];
+    assert!(rt; accepted.number == 1 && accepted.replies.as_slice() == &wanted[..]);
+    let a = index.open().expect(&rt, FREE);
     let accepted = commit(&rt, alloc, &mut index, &[Write::Insert(2, 20)]);
     assert_eq!(rt; accepted.number, 2);
-    assert_eq!(rt; index.get(&a, &1).copied(), Some(10));
-    assert_eq!(rt; index.get(&a, &2).copied(), None);
+    assert_eq!(rt; reads(&index, &a, (1, 2)), (1, Some(10), None));
     refuse_to_open(&rt, &mut index);
     let mut index = refuse_to_close(&rt, index);
     assert_eq!(rt; index.close_session(a).number, 1);
-    let b = index.open().expect(&rt, "a free place");
-    assert_eq!(rt; index.number(&b), 2);
-    assert_eq!(rt; index.get(&b, &2).copied(), Some(20));
+    let b = index.open().expect(&rt, FREE);
+    assert_eq!(rt; reads(&index, &b, (1, 2)), (2, Some(10), Some(20)));
     assert_eq!(rt; index.receipt(&b).number, 2);
-    assert_eq!(rt; index.close_session(b).reads.as_slice().len(), 0);
+    assert!(rt; index.close_session(b).reads.as_slice().is_empty());
     end(&rt, index);
+}
+
+// What a commit of inserts on a receipt is answered: its number, or why it is refused; then the writes come back.
+fn told<R: Abort>(
+    rt: &R,
+    alloc: Global,
+    index: &mut Numbers,
+    on: &Receipt<u64, u64>,
+    pairs: &[(u64, u64)],
+) -> Result<u64, Cause> {
+    let writes = inserts(alloc, pairs).expect(rt, ROOM);
+    match index.commit(on, writes) {
+        Ok(accepted) => Ok(accepted.number),
+        Err(refused) => {
+            let wanted = inserts(alloc, pairs).expect(rt, ROOM);
+            assert!(rt; refused.writes == wanted);
+            Err(refused.cause)
+        }
+    }
 }
 
 #[test]
@@ -86,22 +116,15 @@ fn the_last_number_is_exhausted_after_conflicts(rt: HostRuntime) -> Result<(), F
     let alloc = rt.alloc();
     let blank = Receipt::blank(alloc);
     let wrong = claims(alloc, 5, Some(1))?;
-    let first = inserts(alloc, &[(1, 10)])?;
-    let second = inserts(alloc, &[(5, 50)])?;
-    let mut index = Numbers::with_last(alloc, 1, 16, 1).expect(&rt, "room for an index");
-    assert_eq!(rt;
-        index
-            .commit(&blank, first)
-            .expect(&rt, "an accepted commit")
-            .number,
-        1
-    );
-    let refused = refusal(&rt, index.commit(&blank, second));
-    assert_eq!(rt; refused.cause, Cause::Exhausted);
-    assert!(rt; refused.writes.as_slice() == &[Write::Insert(5, 50)][..]);
-    let refused = refusal(&rt, index.commit(&wrong, refused.writes));
-    assert_eq!(rt; refused.cause, Cause::Conflict(0));
-    assert!(rt; refused.writes.as_slice() == &[Write::Insert(5, 50)][..]);
+    let rows: [(&Receipt<u64, u64>, &[(u64, u64)], Result<u64, Cause>); 3] = [
+        (&blank, &[(1, 10)], Ok(1)),
+        (&blank, &[(5, 50)], Err(Cause::Exhausted)),
+        (&wrong, &[(5, 50)], Err(Cause::Conflict(0))),
+    ];
+    let mut index = Numbers::with_last(alloc, 1, 16, 1).expect(&rt, ROOM);
+    for (on, pairs, wanted) in rows {
+        assert!(rt; told(&rt, alloc, &mut index, on, pairs) == wanted);
+    }
     end(&rt, index);
     Ok(())
 }
@@ -112,187 +135,64 @@ fn a_commit_is_tested_by_answers(rt: HostRuntime) -> Result<(), Fail> {
     let blank = Receipt::blank(alloc);
     let absent = claims(alloc, 5, None)?;
     let present = claims(alloc, 2, Some(1))?;
-    let start = inserts(alloc, &[(2, 1), (4, 1)])?;
-    let five = inserts(alloc, &[(5, 1)])?;
-    let mut index = Numbers::new(alloc, 1, 16).expect(&rt, "room for an index");
-    assert_eq!(rt;
-        index
-            .commit(&absent, start)
-            .expect(&rt, "an accepted commit")
-            .number,
-        1
-    );
-    assert_eq!(rt;
-        index
-            .commit(&present, five)
-            .expect(&rt, "an accepted commit")
-            .number,
-        2
-    );
-    let again = Vec::new(alloc);
-    assert_eq!(rt;
-        index
-            .commit(&present, again)
-            .expect(&rt, "an accepted commit")
-            .number,
-        3
-    );
-    let refused = refusal(&rt, index.commit(&absent, Vec::new(alloc)));
-    assert_eq!(rt; refused.cause, Cause::Conflict(0));
-    assert_eq!(rt;
-        index
-            .commit(&blank, Vec::new(alloc))
-            .expect(&rt, "an accepted commit")
-            .number,
-        4
-    );
-    end(&rt, index);
-    Ok(())
-}
-
-// What a refused commit gives back.
-fn refusal<R: Abort>(rt: &R, answer: Result<Accepted, Refused<u64, u64>>) -> Refused<u64, u64> {
-    match answer {
-        Ok(_accepted) => panic!(rt; "the commit was accepted"),
-        Err(refused) => refused,
-    }
-}
-
-// A reply as a word and a number.
-fn word(reply: &DeskReply<u64, u64>) -> (&'static str, u64) {
-    match reply {
-        DeskReply::Opened(number) => ("opened", *number),
-        DeskReply::NoPlace => ("no place", 0),
-        DeskReply::Busy => ("busy", 0),
-        DeskReply::Closed(receipt) => ("closed", receipt.number),
-        DeskReply::NoSession(writes) => ("no session, writes back", writes.len() as u64),
-        DeskReply::Answer(Answer::Get(Some(value))) => ("some", *value),
-        DeskReply::Answer(Answer::Get(None)) => ("none", 0),
-        DeskReply::Answer(Answer::Contains(there)) => ("contains", u64::from(*there)),
-        DeskReply::Answer(Answer::Range(pairs)) => ("pairs", pairs.as_slice().len() as u64),
-        DeskReply::Answer(Answer::Locate(_)) => ("near", 0),
-        DeskReply::Audit(Audit::Yes) => ("yes", 0),
-        DeskReply::Audit(Audit::No(place)) => ("no", *place as u64),
-        DeskReply::Audit(Audit::Unknown) => ("unknown", 0),
-        DeskReply::Accepted(accepted) => ("accepted", accepted.number),
-        DeskReply::Refused(refused) => match refused.cause {
-            Cause::Conflict(place) => ("conflict", place as u64),
-            Cause::Exhausted => ("exhausted", 0),
-            Cause::Memory => ("memory", 0),
-            Cause::NoSlot => ("no slot", 0),
-        },
-        DeskReply::Reclaimed => ("reclaimed", 0),
-        DeskReply::Slots(count) => ("slots", *count as u64),
-        DeskReply::Number(number) => ("number", *number),
-        DeskReply::Len(count) => ("len", *count as u64),
-    }
-}
-
-// All replies as words and numbers.
-fn words(
-    alloc: Global,
-    replies: &[DeskReply<u64, u64>],
-) -> Result<Vec<(&'static str, u64)>, AllocError> {
-    let mut out = Vec::new(alloc);
-    for reply in replies {
-        out.push(word(reply))?;
-    }
-    Ok(out)
-}
-
-// Calls that meet each reply but those of memory.
-fn calls(alloc: Global) -> Result<Vec<DeskCall<u64, u64>>, AllocError> {
-    let mut calls = Vec::new(alloc);
-    calls.push(DeskCall::Commit(ReadSet::Empty, inserts(alloc, &[(1, 10)])?))?;
-    calls.push(DeskCall::Open(7))?;
-    calls.push(DeskCall::Open(7))?;
-    calls.push(DeskCall::Open(8))?;
-    calls.push(DeskCall::Open(9))?;
-    calls.push(DeskCall::Get(9, 1))?;
-    calls.push(DeskCall::Commit(ReadSet::Session(8), inserts(alloc, &[(2, 20)])?))?;
-    calls.push(DeskCall::Get(7, 2))?;
-    calls.push(DeskCall::Get(8, 1))?;
-    calls.push(DeskCall::Close(8))?;
-    calls.push(DeskCall::Open(9))?;
-    calls.push(DeskCall::Get(9, 2))?;
-    calls.push(DeskCall::Contains(9, 3))?;
-    calls.push(DeskCall::Range(9, Bound::Unbounded, Bound::Unbounded))?;
-    calls.push(DeskCall::Locate(9, 3))?;
-    calls.push(DeskCall::Audit(ReadSet::Session(9)))?;
-    calls.push(DeskCall::Audit(ReadSet::Session(8)))?;
-    let stale = claims(alloc, 2, None)?;
-    calls.push(DeskCall::Commit(ReadSet::Receipt(stale), inserts(alloc, &[(3, 30)])?))?;
-    calls.push(DeskCall::Commit(ReadSet::Session(8), inserts(alloc, &[(3, 30)])?))?;
-    calls.push(DeskCall::Close(8))?;
-    Ok(calls)
-}
-
-#[test]
-fn calls_are_played_by_labels(rt: HostRuntime) -> Result<(), Fail> {
-    let alloc = rt.alloc();
-    let calls = calls(alloc)?;
-    let mut index = Numbers::new(alloc, 2, 16).expect(&rt, "room for an index");
-    let mut desk = Desk::new(alloc, 2).expect(&rt, "room for a desk");
-    let Ok(replies) = play_all(alloc, &mut index, &mut desk, calls) else {
-        panic!(rt; "memory was refused");
-    };
-    let told = words(alloc, replies.as_slice()).expect(&rt, "room for words");
-    let wanted = [
-        ("accepted", 1),
-        ("opened", 1),
-        ("busy", 0),
-        ("opened", 1),
-        ("no place", 0),
-        ("no session, writes back", 0),
-        ("accepted", 2),
-        ("none", 0),
-        ("some", 10),
-        ("closed", 1),
-        ("opened", 2),
-        ("some", 20),
-        ("contains", 0),
-        ("pairs", 2),
-        ("near", 0),
-        ("yes", 0),
-        ("no session, writes back", 0),
-        ("conflict", 0),
-        ("no session, writes back", 1),
-        ("no session, writes back", 0),
+    let rows: [(&Receipt<u64, u64>, &[(u64, u64)], Result<u64, Cause>); 5] = [
+        (&absent, &[(2, 1), (4, 1)], Ok(1)),
+        (&present, &[(5, 1)], Ok(2)),
+        (&present, &[], Ok(3)),
+        (&absent, &[], Err(Cause::Conflict(0))),
+        (&blank, &[], Ok(4)),
     ];
-    assert_eq!(rt; told.as_slice(), &wanted[..]);
-    desk.end(&mut index);
+    let mut index = Numbers::new(alloc, 1, 16).expect(&rt, ROOM);
+    for (on, pairs, wanted) in rows {
+        assert!(rt; told(&rt, alloc, &mut index, on, pairs) == wanted);
+    }
     end(&rt, index);
     Ok(())
 }
 
-#[test]
-fn byte_strings_are_keys_and_values(rt: HostRuntime) -> Result<(), Fail> {
-    let alloc = rt.alloc();
-    let blank = Receipt::blank(alloc);
-    let name = Listed::from_vec(Vec::from_slice(alloc, b"name")?);
-    let value = Listed::from_vec(Vec::from_slice(alloc, b"value")?);
-    let key = name.clone()?;
-    let wanted = value.clone()?;
-    let writes = vec![in alloc; Write::Insert(name, value)]?;
+// An index whose keys and values are byte strings.
+type Bytes = LocalIndex<Listed<u8>, Listed<u8>, 64>;
+
+fn bytes<R: Abort>(rt: &R, alloc: Global, text: &[u8]) -> Listed<u8> {
+    Listed::from_vec(Vec::from_slice(alloc, text).expect(rt, ROOM))
+}
+
+// Commits an insert of a pair of byte strings, and gives the number.
+fn insert_bytes<R: Abort>(
+    rt: &R,
+    alloc: Global,
+    index: &mut Bytes,
+    key: &[u8],
+    value: &[u8],
+) -> u64 {
+    let mut writes = Vec::new(alloc);
+    let write = Write::Insert(bytes(rt, alloc, key), bytes(rt, alloc, value));
+    writes.push(write).expect(rt, ROOM);
     clones_of_lists::<u8>();
     equals_of_lists::<u8>();
-    let mut index = LocalIndex::<Listed<u8>, Listed<u8>, 64>::new(alloc, 1, 16).expect(
-        &rt,
-        "room for an index",
-    );
-    assert_eq!(rt;
-        index
-            .commit(&blank, writes)
-            .expect(&rt, "an accepted commit")
-            .number,
-        1
-    );
-    let session = index.open().expect(&rt, "a free place");
-    assert!(rt; index.get(&session, &key) == Some(&wanted));
+    let blank = Receipt::blank(alloc);
+    index.commit(&blank, writes).expect(rt, "accepted").number
+}
+
+// Whether the present list has this value at the key.
+fn has_bytes<R: Abort>(rt: &R, index: &mut Bytes, key: &Listed<u8>, value: &Listed<u8>) -> bool {
+    let session = index.open().expect(rt, FREE);
+    let found = index.get(&session, key) == Some(value);
     let _receipt = index.close_session(session);
+    found
+}
+
+#[test]
+fn byte_strings_are_keys_and_values(rt: HostRuntime) {
+    let alloc = rt.alloc();
+    let name = bytes(&rt, alloc, b"name");
+    let value = bytes(&rt, alloc, b"value");
+    let mut index = Bytes::new(alloc, 1, 16).expect(&rt, ROOM);
+    let number = insert_bytes(&rt, alloc, &mut index, b"name", b"value");
+    assert_eq!(rt; number, 1);
+    assert!(rt; has_bytes(&rt, &mut index, &name, &value));
     match index.close() {
         Ok(()) => {}
         Err(_open) => panic!(rt; "a session is open"),
     }
-    Ok(())
 }

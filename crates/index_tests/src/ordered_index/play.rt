@@ -1,7 +1,11 @@
 //! Lists of calls of a desk, and the words of their replies.
 
-use ordered_index::{Desk, DeskCall, DeskReply, LocalIndex, ReadSet, Write, play_all};
+use ordered_index::{
+    Answer, Audit, Cause, Desk, DeskCall, DeskReply, Listed, LocalIndex, Query, ReadSet, Receipt,
+    Recorded, Write, play_all,
+};
 use std::alloc::{AllocError, Global};
+use std::ops::Bound;
 use std::process::Abort;
 use std::test::Fail;
 
@@ -18,14 +22,29 @@ fn insert(alloc: Global, key: u64, value: u64) -> Result<DeskCall<u64, u64>, All
 fn word(reply: &DeskReply<u64, u64>) -> (&'static str, u64) {
     match reply {
         DeskReply::Opened(number) => ("opened", *number),
+        DeskReply::NoPlace => ("no place", 0),
+        DeskReply::Busy => ("busy", 0),
         DeskReply::Closed(receipt) => ("closed", receipt.number),
         DeskReply::NoSession(writes) => ("no session, writes back", writes.len() as u64),
+        DeskReply::Answer(Answer::Get(Some(value))) => ("some", *value),
+        DeskReply::Answer(Answer::Get(None)) => ("none", 0),
+        DeskReply::Answer(Answer::Contains(there)) => ("contains", u64::from(*there)),
+        DeskReply::Answer(Answer::Range(pairs)) => ("pairs", pairs.as_slice().len() as u64),
+        DeskReply::Answer(Answer::Locate(_)) => ("near", 0),
+        DeskReply::Audit(Audit::Yes) => ("yes", 0),
+        DeskReply::Audit(Audit::No(place)) => ("no", *place as u64),
+        DeskReply::Audit(Audit::Unknown) => ("unknown", 0),
         DeskReply::Accepted(accepted) => ("accepted", accepted.number),
+        DeskReply::Refused(refused) => match refused.cause {
+            Cause::Conflict(place) => ("conflict", place as u64),
+            Cause::Exhausted => ("exhausted", 0),
+            Cause::Memory => ("memory", 0),
+            Cause::NoSlot => ("no slot", 0),
+        },
         DeskReply::Reclaimed => ("reclaimed", 0),
         DeskReply::Slots(count) => ("slots", *count as u64),
         DeskReply::Number(number) => ("number", *number),
         DeskReply::Len(count) => ("len", *count as u64),
-        _ => ("another", 0),
     }
 }
 
@@ -105,5 +124,81 @@ fn number_and_length_are_those_of_the_session(rt: HostRuntime) -> Result<(), Fai
             ("no session, writes back", 0),
         ],
     );
+    Ok(())
+}
+
+// A receipt of number 0 that claims that nothing has the key.
+fn claims_none(alloc: Global, key: u64) -> Result<Receipt<u64, u64>, AllocError> {
+    let reads: Vec<Recorded<u64, u64>> = vec![in alloc; (Query::Get(key), Answer::Get(None))]?;
+    Ok(Receipt {
+        number: 0,
+        reads: Listed::from_vec(reads),
+    })
+}
+
+// A commit of an insert of this pair, on these reads.
+fn insert_on(
+    alloc: Global,
+    on: ReadSet<u64, u64>,
+    key: u64,
+    value: u64,
+) -> Result<DeskCall<u64, u64>, AllocError> {
+    Ok(DeskCall::Commit(on, vec![in alloc; Write::Insert(key, value)]?))
+}
+
+// Calls that meet each reply but those of memory.
+fn calls(alloc: Global) -> Result<Vec<DeskCall<u64, u64>>, AllocError> {
+    let mut calls = Vec::new(alloc);
+    calls.push(insert(alloc, 1, 10)?)?;
+    calls.push(DeskCall::Open(7))?;
+    calls.push(DeskCall::Open(7))?;
+    calls.push(DeskCall::Open(8))?;
+    calls.push(DeskCall::Open(9))?;
+    calls.push(DeskCall::Get(9, 1))?;
+    calls.push(insert_on(alloc, ReadSet::Session(8), 2, 20)?)?;
+    calls.push(DeskCall::Get(7, 2))?;
+    calls.push(DeskCall::Get(8, 1))?;
+    calls.push(DeskCall::Close(8))?;
+    calls.push(DeskCall::Open(9))?;
+    calls.push(DeskCall::Get(9, 2))?;
+    calls.push(DeskCall::Contains(9, 3))?;
+    calls.push(DeskCall::Range(9, Bound::Unbounded, Bound::Unbounded))?;
+    calls.push(DeskCall::Locate(9, 3))?;
+    calls.push(DeskCall::Audit(ReadSet::Session(9)))?;
+    calls.push(DeskCall::Audit(ReadSet::Session(8)))?;
+    let stale = claims_none(alloc, 2)?;
+    calls.push(insert_on(alloc, ReadSet::Receipt(stale), 3, 30)?)?;
+    calls.push(insert_on(alloc, ReadSet::Session(8), 3, 30)?)?;
+    calls.push(DeskCall::Close(8))?;
+    Ok(calls)
+}
+
+#[test]
+fn calls_are_played_by_labels(rt: HostRuntime) -> Result<(), Fail> {
+    let alloc = rt.alloc();
+    let calls = calls(alloc)?;
+    let wanted = [
+        ("accepted", 1),
+        ("opened", 1),
+        ("busy", 0),
+        ("opened", 1),
+        ("no place", 0),
+        ("no session, writes back", 0),
+        ("accepted", 2),
+        ("none", 0),
+        ("some", 10),
+        ("closed", 1),
+        ("opened", 2),
+        ("some", 20),
+        ("contains", 0),
+        ("pairs", 2),
+        ("near", 0),
+        ("yes", 0),
+        ("no session, writes back", 0),
+        ("conflict", 0),
+        ("no session, writes back", 1),
+        ("no session, writes back", 0),
+    ];
+    plays(&rt, alloc, calls, &wanted);
     Ok(())
 }

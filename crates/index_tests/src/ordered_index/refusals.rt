@@ -7,7 +7,7 @@ ghost use Rattle.ordered_index.specs.State.{IsOpen};
 
 use ordered_index::{
     Accepted, Answer, Audit, Cause, Desk, DeskCall, DeskReply, LocalIndex, Query, ReadSet, Receipt,
-    Reply, Session, Write, play_all,
+    Reply, Session, Write, play_all, play_one,
 };
 use std::alloc::{AllocError, Global};
 use std::ops::Bound;
@@ -264,6 +264,45 @@ fn plays<R: Abort>(rt: &R, alloc: Global) -> bool {
     }
 }
 
+fn is_played(
+    alloc: Global,
+    index: &mut Numbers,
+    desk: &mut Desk<u64, u64>,
+    call: DeskCall<u64, u64>,
+) -> bool
+    requires { Serves (record { index = index.old; desk = desk.old }) }
+    ensures { Serves (record { index = index.new; desk = desk.new }) }
+{
+    play_one(alloc, index, desk, call).is_ok()
+}
+
+// Whether an allocation was refused while calls were played that take no memory: each has a reply.
+fn plays_what_takes_none<R: Abort>(rt: &R, alloc: Global) -> bool {
+    let mut met = false;
+    let mut index = numbers(rt, alloc, &mut met);
+    let mut desk = desk(rt, alloc, &mut met);
+    let calls = [
+        DeskCall::Open(7),
+        DeskCall::Open(8),
+        DeskCall::Number(7),
+        DeskCall::Len(7),
+        DeskCall::Get(8, 1),
+        DeskCall::Audit(ReadSet::Session(8)),
+        DeskCall::Slots,
+        DeskCall::Reclaim,
+        DeskCall::Close(7),
+        DeskCall::Close(7),
+    ];
+    for call in calls {
+        assert!(rt; is_played(alloc, &mut index, &mut desk, call));
+    }
+    desk.end(&mut index);
+    match index.close() {
+        Ok(()) => met,
+        Err(_open) => panic!(rt; "a session is open"),
+    }
+}
+
 #[test]
 fn a_refusal_of_memory_changes_nothing(rt: HostRuntime) {
     let _met = writes_and_reads(&rt, rt.alloc());
@@ -277,6 +316,11 @@ fn a_refusal_of_memory_records_nothing(rt: HostRuntime) {
 #[test]
 fn a_refusal_of_memory_changes_nothing_in_a_list_of_calls(rt: HostRuntime) {
     let _met = plays(&rt, rt.alloc());
+}
+
+#[test]
+fn a_refusal_of_memory_meets_no_call_that_takes_none(rt: HostRuntime) {
+    let _met = plays_what_takes_none(&rt, rt.alloc());
 }
 
 // These fail as long as an allocation is refused, so that a script knows when to stop.
@@ -294,4 +338,9 @@ fn no_memory_is_refused_where_reads_are_recorded(rt: HostRuntime) {
 #[test]
 fn no_memory_is_refused_in_a_list_of_calls(rt: HostRuntime) {
     assert!(rt; !plays(&rt, rt.alloc()));
+}
+
+#[test]
+fn no_memory_is_refused_in_calls_that_take_none(rt: HostRuntime) {
+    assert!(rt; !plays_what_takes_none(&rt, rt.alloc()));
 }

@@ -1,10 +1,11 @@
 //! Slots and reclaiming, all writes with their replies, and sessions that outlast commits.
 
 ghost use Rattle.std.specs.Prelude.{◌≡◌};
+ghost use Rattle.ordered_index.specs.State.{IsOpen};
 
 use ordered_index::{
     Accepted, Answer, Cause, Listed, LocalIndex, NoPlace, Query, Receipt, Recorded, Refused, Reply,
-    Write,
+    Session, Write,
 };
 use std::alloc::{AllocError, Global};
 use std::ops::Bound;
@@ -220,6 +221,16 @@ fn a_session_reads_on_while_its_pair_is_replaced(rt: HostRuntime) {
     end(&rt, index);
 }
 
+// The value of a key in the list of a session, and whether a pair has the key.
+fn seen(index: &Twos, session: &Session<u64, u64>, key: u64) -> (Option<u64>, bool)
+    requires { IsOpen index.now session.now }
+{
+    (
+        index.get(session, &key).copied(),
+        index.contains(session, &key),
+    )
+}
+
 #[test]
 fn inserts_upserts_and_removals_have_their_replies(rt: HostRuntime) {
     let alloc = rt.alloc();
@@ -247,11 +258,10 @@ fn inserts_upserts_and_removals_have_their_replies(rt: HostRuntime) {
     assert_eq!(rt; accepted.replies.as_slice(), &wanted[..]);
     let a = index.open().expect(&rt, FREE);
     assert_eq!(rt; index.len(&a), 2);
-    assert_eq!(rt; index.get(&a, &2).copied(), Some(22));
-    assert_eq!(rt; index.get(&a, &4).copied(), Some(40));
-    assert!(rt; index.contains(&a, &2));
-    assert!(rt; !index.contains(&a, &1));
-    assert!(rt; !index.contains(&a, &9));
+    let rows = [(1, None), (2, Some(22)), (4, Some(40)), (9, None)];
+    for (key, value) in rows {
+        assert_eq!(rt; seen(&index, &a, key), (value, value.is_some()));
+    }
     let _receipt = index.close_session(a);
     end(&rt, index);
 }
@@ -300,6 +310,14 @@ fn ranges_are_removed_and_all_is_cleared(rt: HostRuntime) {
     end(&rt, index);
 }
 
+// Looks whether the present list has this number, and no pair with the key.
+fn look_for<R: Abort>(rt: &R, index: &mut Twos, number: u64, key: u64) {
+    let session = index.open().expect(rt, FREE);
+    let found = (index.number(&session), index.contains(&session, &key));
+    let _receipt = index.close_session(session);
+    assert_eq!(rt; found, (number, false));
+}
+
 #[test]
 fn a_read_that_holds_again_is_no_conflict(rt: HostRuntime) {
     let alloc = rt.alloc();
@@ -313,10 +331,7 @@ fn a_read_that_holds_again_is_no_conflict(rt: HostRuntime) {
     let refused = refuse(&rt, alloc, &mut index, &ten, &[Write::Upsert(2, 20)]);
     assert_eq!(rt; refused.cause, Cause::Conflict(0));
     assert!(rt; refused.writes.as_slice() == &[Write::Upsert(2, 20)][..]);
-    let session = index.open().expect(&rt, FREE);
-    assert_eq!(rt; index.number(&session), 2);
-    assert!(rt; !index.contains(&session, &2));
-    let _receipt = index.close_session(session);
+    look_for(&rt, &mut index, 2, 2);
     // the list is another, but the answer is that of the receipt
     let accepted = commit(&rt, alloc, &mut index, &[Write::Upsert(1, 10)]);
     assert_eq!(rt; accepted.number, 3);
