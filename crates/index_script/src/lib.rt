@@ -7,5 +7,4 @@ pub mod reply;
 pub mod request;
 pub mod run;
 pub mod script;
-pub mod text;
 pub mod words;

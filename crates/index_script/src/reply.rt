@@ -6,8 +6,7 @@ ghost use Rattle.std.specs.Fmt.{decimal};
 ghost use Rattle.index_script.specs.Replies.{CausePrints, Prints, answer_text, audit_text, discarded_text, fault_text, near_text, pair_text, pair_texts, staged_text, told_text, told_texts};
 
 use crate::request::Fault;
-use crate::text::Text;
-use ordered_index::{Accepted, Answer, Audit, Cause, DeskReply, Near, Reply};
+use ordered_index::{Accepted, Answer, Audit, Cause, DeskReply, Near, Reply, Text};
 use std::alloc::AllocError;
 
 /// How many bytes the longest reply to a line at fault has.

@@ -7,8 +7,8 @@ ghost use Rattle.index_script.specs.Lines.{Lacks, kept};
 ghost use Rattle.index_script.specs.Replies.{word_of};
 ghost use Rattle.index_script.specs.Requests.{AreTwo, Asks, IsSmall, IsUnfit, Reads, WithBounds, WithNumber, WithRange, WithTwo, WithValue, bound_text};
 
-use crate::text::Text;
 use crate::words::{bound, number, split_word};
+use ordered_index::Text;
 use std::alloc::{AllocError, Global};
 use std::ops::Bound;
 use std::str;

@@ -13,8 +13,7 @@ ghost use Rattle.index_script.specs.Script.{Script, Acts, Discards, Meets, Plays
 
 use crate::reply::{write_discarded, write_fault, write_reply, write_staged};
 use crate::request::{Request, read_line};
-use crate::text::Text;
-use ordered_index::{Desk, DeskCall, DeskReply, LocalIndex, ReadSet, Write, play_one};
+use ordered_index::{Desk, DeskCall, DeskReply, LocalIndex, ReadSet, Text, Write, play_one};
 use std::alloc::{AllocError, Global};
 use std::marker::Model;
 use std::mem;
