@@ -248,10 +248,10 @@ fn walked(index: &Twos, session: &Session<u64, u64>) -> [Option<(u64, u64)>; 4]
 }
 
 // The first pair above a key.
-fn above(index: &Twos, session: &Session<u64, u64>, key: u64) -> Option<(u64, u64)>
+fn above<'a>(index: &'a Twos, session: &Session<u64, u64>, key: &'a u64) -> Option<(u64, u64)>
     requires { IsOpen index.now session.now }
 {
-    let mut rest = index.range(session, Bound::Excluded(&key), Bound::Unbounded);
+    let mut rest = index.range(session, Bound::Excluded(key), Bound::Unbounded);
     read(rest.next())
 }
 
@@ -273,7 +273,7 @@ fn a_session_walks_along_its_list(rt: HostRuntime) {
     let session = index.open().expect(&rt, FREE);
     let steps = [Some((1, 1)), Some((3, 3)), Some((2, 2)), None];
     assert_eq!(rt; walked(&index, &session), steps);
-    assert_eq!(rt; above(&index, &session, 1), Some((2, 2)));
+    assert_eq!(rt; above(&index, &session, &1), Some((2, 2)));
     assert_eq!(rt; located(&index, &session, 2), Some((2, 2)));
     let _receipt = index.close_session(session);
     end(&rt, index);

@@ -192,14 +192,52 @@ fn pass<R: Abort>(rt: &R, w: &mut World<Two, NoJob>) -> Epoch
     }
 }
 
-// Accelerated guards of the writer in the place and beside it. Each finds the count of the steps, and leaves as many
-// items as they do.
+// Pointers to the directories of both versions.
+#[derive(Drop)]
+struct Known {
+    first: Ptr<'static, Two>,
+    second: Ptr<'static, Two>,
+}
+
+// Whether the place has a version, by a pointer to it and its number, exactly where the steps have its item.
+fn is_left(
+    w: &World<Two, NoJob>,
+    state: &State,
+    at: &Ptr<'static, Two>,
+    number: u64,
+    item: usize,
+) -> bool {
+    let found = match read(w, at) {
+        Some((found, _)) => found == number,
+        None => false,
+    };
+    let wanted = match state.items().get(item) {
+        Some(item) => is_there(item),
+        None => false,
+    };
+    found == wanted
+}
+
+// Whether the place has the versions that the steps have, and as many items in all: so as many segments too.
+fn agrees(w: &World<Two, NoJob>, state: &State, known: Option<&Known>) -> bool {
+    let versions = match known {
+        Some(known) => {
+            is_left(w, state, &known.first, 1, FIRST) && is_left(w, state, &known.second, 2, SECOND)
+        }
+        None => true,
+    };
+    versions && w.slots_in_use() == left(state)
+}
+
+// Accelerated guards of the writer in the place and beside it. Each finds the count of the steps, and leaves the versions
+// and as many segments as they do.
 fn play<R: Abort>(
     rt: &R,
     alloc: Global,
     w: &mut World<Two, NoJob>,
     start: State,
     turns: &[Turn],
+    known: Option<&Known>,
 ) -> State
     requires { 1 < length w.old.members }
     ensures members { 1 < length w.new.members }
@@ -211,7 +249,7 @@ fn play<R: Abort>(
         let found = pass(rt, w);
         assert!(rt; found == Epoch::of_count(state.count()));
         state = take_turn(rt, alloc, state, *kind);
-        assert!(rt; w.slots_in_use() == left(&state));
+        assert!(rt; agrees(w, &state, known));
     }
     state
 }
@@ -290,13 +328,14 @@ fn begin_beside<R: Abort>(rt: &R, alloc: Global) -> State {
     after(rt, alloc, state, Step::SwapCell(WRITER, ROOT, Some(FIRST)))
 }
 
-// The second version takes the place of the first one.
+// The second version takes the place of the first one, and a guard gives a pointer to it.
 fn replace<R: Abort>(
     rt: &R,
     w: &mut World<Two, NoJob>,
     root: &AtomicShared<Two>,
     next: Built<u64, u64, 2>,
-)
+    reading: &WorldGuard,
+) -> Ptr<'static, Two>
     requires members { 1 < length w.old.members }
     requires counted { Counted held_by (SharedIn (shared_cell root.now) ∷ []) w.old }
     ensures members { 1 < length w.new.members }
@@ -304,7 +343,9 @@ fn replace<R: Abort>(
     ensures counted { Counted held_by (SharedIn (shared_cell root.now) ∷ []) w.new }
 {
     let second = placed(rt, place(w, next));
+    let at = shared::get_guarded_ptr(&second, reading);
     publish(w, root, second, WRITER);
+    at
 }
 
 fn replace_beside<R: Abort>(rt: &R, alloc: Global, state: State) -> State {
@@ -378,22 +419,23 @@ fn a_place_goes_as_the_single_steps_say(rt: HostRuntime) {
     assert_eq!(rt; (w.slots_in_use(), left(&state)), (4, 4));
     // The count is raised five times; the writer's last opening found 4.
     let lifts = [LIFT, ROUND, ROUND, round_without(&[EMPTY]), ROUND];
-    state = play(&rt, alloc, &mut w, state, &lifts);
+    state = play(&rt, alloc, &mut w, state, &lifts, None);
     assert_eq!(rt; (state.count(), w.slots_in_use()), (5, 3));
     // The reader publishes 5, rotates and loads the first version, and another one takes its place.
     let (reading, at) = begin_reading(&rt, &mut w, &root);
     assert!(rt; guard::epoch(&w, &reading) == Epoch::of_count(5));
     state = open(&rt, alloc, state, READER, true);
     state = after(&rt, alloc, state, Step::LoadCell(READER, ROOT));
-    replace(&rt, &mut w, &root, next);
+    let second = replace(&rt, &mut w, &root, next, &reading);
+    let known = Known { first: at, second };
     state = replace_beside(&rt, alloc, state);
     assert_eq!(rt; (w.slots_in_use(), left(&state)), (6, 6));
     // Two rotations, one raise.
     let held_up = [ROUND, ROTATION, STILL, STILL, STILL, STILL, STILL, STILL];
-    state = play(&rt, alloc, &mut w, state, &held_up);
+    state = play(&rt, alloc, &mut w, state, &held_up, Some(&known));
     assert!(rt; guard::epoch(&w, &reading) == Epoch::of_count(6));
     assert_eq!(rt; (state.count(), w.slots_in_use()), (6, 6));
-    assert_eq!(rt; read(&w, &at), Some((1, 2)));
+    assert_eq!(rt; read(&w, &known.first), Some((1, 2)));
     state = after(&rt, alloc, state, Step::ReadSegment(READER, FIRST, 1));
     end_reading(&mut w, reading);
     state = after(&rt, alloc, state, Step::Close(READER));
@@ -407,9 +449,9 @@ fn a_place_goes_as_the_single_steps_say(rt: HostRuntime) {
         ROUND,
         ROUND,
     ];
-    state = play(&rt, alloc, &mut w, state, &freed);
+    state = play(&rt, alloc, &mut w, state, &freed, Some(&known));
     assert_eq!(rt; (state.count(), w.slots_in_use()), (14, 3));
-    assert!(rt; read(&w, &at).is_none());
+    assert!(rt; read(&w, &known.first).is_none());
     let (reading, at) = begin_reading(&rt, &mut w, &root);
     assert!(rt; guard::epoch(&w, &reading) == Epoch::of_count(14));
     assert_eq!(rt; read(&w, &at), Some((2, 2)));
