@@ -5,13 +5,13 @@ use Rattle.std.proofs.lemmas.Bool.Decides.{nat_tests, eqb_tells}
 use Rattle.sdd_base.specs.Holding.{Hold}
 use Rattle.sdd_base.specs.State.{State, status_at, value_at, member_at, marks_at, is_used, weight, with_status, retired, removed}
 use Rattle.sdd_base.specs.Steps.{given_all, held_in, overdue, IsTimely, purged, left_waiting, set_aside, handed, handed_as, times, released, released_as}
-use Rattle.sdd_base.specs.Place.{Sound, IsPlace, IsOpen, IsShared}
+use Rattle.sdd_base.specs.Place.{Sound, IsPlace, IsOpen, IsOwned, IsShared}
 use Rattle.sdd_base.specs.Frame.{has_owner, IsLive, Protects, Keeps, OnlyOf}
 use Rattle.sdd_base.specs.declared.status.Status.{Status}
 use Rattle.sdd_base.specs.declared.status.Status.TheVariants as status
 use Rattle.sdd_base.proofs.Sounds.{Leaves, leaves, Calms, calms, leaves_refl, leaves_then, gives_all, gives_retired, gives_status, Calm, calm, weight_same, noted_set, gone_at, inside_by, sound_status}
 use Rattle.sdd_base.proofs.Places.{calm_at, place_calms, place_leaves}
-use Rattle.sdd_base.proofs.Frames.{keeps_leaves}
+use Rattle.sdd_base.proofs.Frames.{keeps_leaves, keeps_refl}
 
 module _ {T : Type 0} where
   -- a slot that waited in no bag is free
@@ -79,13 +79,6 @@ live_timely c (status.Collected n) h = absurd (false≢true h)
 live_timely c status.Retired h = refl
 live_timely c status.Idle h = refl
 live_timely c status.Deferred h = refl
-
--- where a slot is used in another way that isn't overdue, what wasn't overdue isn't
-timely_set : (c : ℕ) (ss : List Status) (i j : ℕ) (s : Status) → i < length ss → overdue c s ≡ false → overdue c (get_or ss j status.Free) ≡ false → overdue c (get_or (set ss i s) j status.Free) ≡ false
-timely_set c ss i j s inside new old = elim (eqb_tells j i) [
-  | inl t ↦ let P : ℕ → Type 0 = λ k. overdue c (get_or (set ss i s) k status.Free) ≡ false in let here : P i = ap (overdue c) (get_or-set_same ss i s status.Free inside) ∙ new in subst P (sym t.1) here
-  | inr t ↦ ap (overdue c) (get_or-set_other ss i j s status.Free t.1) ∙ old
-]
 
 module _ {T : Type 0} (holds : T → List Hold) where
   pub purges_next : (p i : ℕ) (w : State T) → Sound w → p < length w.members → overdue w.count (status_at w i) ≡ true → Purges p w (given_all p (held_in holds (value_at w i)) (removed i w))
@@ -182,13 +175,11 @@ module _ {T : Type 0} where
     pub keeps : Keeps w w'
     pub only : OnlyOf p w w'
     pub place : IsPlace w'
-    pub timely : (j : ℕ) → IsLive w j → overdue w'.count (status_at w' j) ≡ false
+    pub values : w'.values ≡ w.values
 
   sets_noted : (p i : ℕ) (w : State T) → IsPlace w → i < length w.states → is_used (status_at w i) ≡ true → weight (status_at w i) ≡ 0 → Sets p i w (with_status i (status.Collected w.count) w)
   sets_noted p i w h inside used light =
       let s = status.Collected w.count in
-      let none : w.count + 3 ≤ w.count → ⊥ = λ l. omega (arith, l) in
-      let new : overdue w.count s ≡ false = grind (arith, nat_tests) in
       record {
         keeps = record {
           states = length-set w.states i s;
@@ -219,7 +210,7 @@ module _ {T : Type 0} where
         only = λ k n. refl;
         calm = record { count = refl; known = refl; due = refl; calm = refl; others = λ k n. refl; sound = sound_status w i s h.sound inside (sym light) (sym used) };
         place = record { sound = sound_status w i s h.sound inside (sym light) (sym used); some = h.some; idle = h.idle; past = h.past; began = h.began; near = h.near };
-        timely = λ j l. timely_set w.count w.states i j s inside new (live_timely w.count (status_at w j) l);
+        values = refl;
       }
 
   sets_retired : (p i : ℕ) (w : State T) → IsPlace w → p < length w.members → i < length w.states → is_used (status_at w i) ≡ true → weight (status_at w i) ≡ 0 → Sets p i w (retired p i w)
@@ -230,7 +221,7 @@ module _ {T : Type 0} where
         calm = calms p w (retired p i w) g;
         only = g.others;
         place = place_leaves w (retired p i w) p h g;
-        timely = λ j l. timely_set w.count w.states i j status.Retired inside refl (live_timely w.count (status_at w j) l);
+        values = refl;
       }
 
   pub sets_aside : (p n i : ℕ) (is : List ℕ) (w : State T) → IsPlace w → p < length w.members → i < length w.states → is_used (status_at w i) ≡ true → weight (status_at w i) ≡ 0 → Sets p i w (set_aside p n is i w)
@@ -245,32 +236,84 @@ module _ {T : Type 0} where
         calm = calms p w (with_status i s w) g;
         only = g.others;
         place = place_leaves w (with_status i s w) p h g;
-        timely = λ j l. timely_set w.count w.states i j s inside refl (live_timely w.count (status_at w j) l);
+        values = refl;
       }
 
-  pub sets_left : (b : Bool) (p n i : ℕ) (is : List ℕ) (w w' : State T) → IsPlace w → p < length w.members → IsShared w i → (b ≡ true → w' ≡ set_aside p n is i w) → (b ≡ false → w' ≡ released p i w) → Sets p i w w'
-  sets_left true p n i is w w' h known live f g = subst (λ (x : State T). Sets p i w x) (sym (f refl)) (sets_aside p n i is w h known live.inside (ap is_used live.is) (ap weight live.is))
-  sets_left false p n i is w w' h known live f g =
-      let used = ap is_used live.is in
-      let light = ap weight live.is in
-      let all : Sets p i w (released_as (status.Shared live.owners) p i w) = elim (leb live.owners 1) as (λ c. Sets p i w (cond c (retired p i w) (with_status i (status.Shared (live.owners - 1)) w))) [ true ↦ sets_retired p i w h known live.inside used light | false ↦ sets_shared p i (live.owners - 1) w h live.inside used light ] in
-      let to : w' ≡ released_as (status.Shared live.owners) p i w = g refl ∙ ap (λ (s : Status). released_as s p i w) live.is in
-      subst (λ (x : State T). Sets p i w x) (sym to) all
+  sets_none : (p i : ℕ) (w : State T) → IsPlace w → Sets p i w w
+  sets_none p i w h = record {
+    keeps = keeps_refl w;
+    calm = calms p w w (leaves_refl p w h.sound);
+    only = λ k n. refl;
+    place = h;
+    values = refl;
+  }
 
-  -- what is set aside and then purged
-  pub place_swept : (holds : T → List Hold) (p i : ℕ) (is : List ℕ) (w v : State T) → p < length w.members → Sets p i w v → IsPlace (purged holds p is v)
-  place_swept holds p i is w v known s = place_purged p v (purged holds p is v) s.place (purges holds p is v s.place.sound (omega (arith, s.keeps.members, known)))
+  sets_released : (p i : ℕ) (s : Status) (w : State T) → s ≡ status_at w i → IsPlace w → p < length w.members → i < length w.states → Sets p i w (released_as s p i w)
+  sets_released p i status.Free w e h known inside = sets_none p i w h
+  sets_released p i status.Owned w e h known inside = sets_none p i w h
+  sets_released p i (status.Shared n) w e h known inside =
+      let used = sym (ap is_used e) in
+      let light = sym (ap weight e) in
+      elim (leb n 1) as (λ c. Sets p i w (cond c (retired p i w) (with_status i (status.Shared (n - 1)) w))) [ true ↦ sets_retired p i w h known inside used light | false ↦ sets_shared p i (n - 1) w h inside used light ]
+  sets_released p i status.Raw w e h known inside = sets_none p i w h
+  sets_released p i (status.Collected n) w e h known inside = sets_none p i w h
+  sets_released p i status.Retired w e h known inside = sets_none p i w h
+  sets_released p i status.Idle w e h known inside = sets_none p i w h
+  sets_released p i status.Deferred w e h known inside = sets_none p i w h
 
-  pub keeps_swept : (holds : T → List Hold) (p i : ℕ) (is : List ℕ) (w v : State T) → p < length w.members → Sets p i w v → Keeps w (purged holds p is v)
-  keeps_swept holds p i is w v known s = keeps_purged p w v (purged holds p is v) s.keeps s.place s.timely (λ q o. let nests = ap (λ (c : Calm). c.nesting) (calm_at p w v s.calm q) in omega (arith, o, nests)) (purges holds p is v s.place.sound (omega (arith, s.keeps.members, known)))
+  pub sets_shared_left : (b : Bool) (p n i : ℕ) (is : List ℕ) (w w' : State T) → IsPlace w → p < length w.members → i < length w.states → (b ≡ true → IsShared w i) → (b ≡ true → w' ≡ set_aside p n is i w) → (b ≡ false → w' ≡ released p i w) → Sets p i w w'
+  sets_shared_left true p n i is w w' h known inside live f g = let l = live refl in subst (λ (x : State T). Sets p i w x) (sym (f refl)) (sets_aside p n i is w h known inside (ap is_used l.is) (ap weight l.is))
+  sets_shared_left false p n i is w w' h known inside live f g = subst (λ (x : State T). Sets p i w x) (sym (g refl)) (sets_released p i (status_at w i) w refl h known inside)
 
-  pub only_swept : (holds : T → List Hold) (p i : ℕ) (is : List ℕ) (w v : State T) → p < length w.members → Sets p i w v → OnlyOf p w (purged holds p is v)
-  only_swept holds p i is w v known s = λ k n. (purges holds p is v s.place.sound (omega (arith, s.keeps.members, known))).others k n ∙ s.only k n
+  pub sets_owned_left : (b : Bool) (p n i : ℕ) (is : List ℕ) (w w' : State T) → IsPlace w → p < length w.members → i < length w.states → (b ≡ true → IsOwned w i) → (b ≡ true → w' ≡ set_aside p n is i w) → (b ≡ false → w' ≡ w) → Sets p i w w'
+  sets_owned_left true p n i is w w' h known inside live f g = let l = live refl in subst (λ (x : State T). Sets p i w x) (sym (f refl)) (sets_aside p n i is w h known inside (ap is_used l.is) (ap weight l.is))
+  sets_owned_left false p n i is w w' h known inside live f g = subst (λ (x : State T). Sets p i w x) (sym (g refl)) (sets_none p i w h)
 
-  pub nests_swept : (holds : T → List Hold) (p i : ℕ) (is : List ℕ) (w u x v : State T) → w ≡ u → x ≡ purged holds p is v → p < length w.members → Sets p i w v → (q : ℕ) → (marks_at x q).nesting ≡ (marks_at u q).nesting
-  nests_swept holds p i is w u x v e f known s q =
-      let g = purges_calm p v (purged holds p is v) (purges holds p is v s.place.sound (omega (arith, s.keeps.members, known))) in
-      ap (λ (s : State T). (marks_at s q).nesting) f ∙ ap (λ (c : Calm). c.nesting) (calm_at p v (purged holds p is v) g q) ∙ ap (λ (c : Calm). c.nesting) (calm_at p w v s.calm q) ∙ ap (λ (s : State T). (marks_at s q).nesting) e
+  -- what purging leaves
+  pub record Clears (p : ℕ) (w v : State T) : Type 0 where
+    pub place : IsPlace v
+    pub keeps : Keeps w v
+    pub only : OnlyOf p w v
+    pub nests : (q : ℕ) → (marks_at v q).nesting ≡ (marks_at w q).nesting
+    pub places : length v.states ≡ length w.states
+    pub known : p < length v.members
+
+  pub clears : (holds : T → List Hold) (p : ℕ) (is : List ℕ) (w v : State T) → IsPlace w → p < length w.members → v ≡ purged holds p is w → Clears p w v
+  clears holds p is w v h known e =
+      let x : State T = purged holds p is w in
+      let g = purges holds p is w h.sound known in
+      let c = purges_calm p w x g in
+      let nests : (q : ℕ) → (marks_at x q).nesting ≡ (marks_at w q).nesting = λ q. ap (λ (c : Calm). c.nesting) (calm_at p w x c q) in
+      let all : Clears p w x = record {
+        place = place_purged p w x h g;
+        keeps = keeps_purged p w w x (keeps_refl w) h (λ i l. live_timely w.count (status_at w i) l) (λ q o. o) g;
+        only = λ k n. g.others k n;
+        nests = nests;
+        places = g.places;
+        known = omega (arith, g.known, known);
+      } in
+      subst (λ (y : State T). Clears p w y) (sym e) all
+
+  -- what is purged, and then changed in one slot
+  pub keeps_then : (p i : ℕ) (u w v x : State T) → w ≡ u → Clears p w v → Sets p i v x → Keeps u x
+  keeps_then p i u w v x e c s = subst (λ (y : State T). Keeps y x) e (record {
+    states = s.keeps.states ∙ c.keeps.states;
+    cells = s.keeps.cells ∙ c.keeps.cells;
+    members = s.keeps.members ∙ c.keeps.members;
+    lives = λ j l. ap (λ (vs : List (Option T)). get_or vs j None) s.values ∙ c.keeps.lives j l;
+    protects = λ q j o o' x'.
+        let same = ap (λ (c : Calm). c.nesting) (calm_at p v x s.calm q) in
+        let ov : IsOpen v q = omega (arith, same, o') in
+        let a = c.keeps.protects q j o ov x' in
+        let b = s.keeps.protects q j ov o' a.1 in
+        (b.0 ∙ a.0, b.1);
+  })
+
+  pub only_then : (p i : ℕ) (u w v x : State T) → w ≡ u → Clears p w v → Sets p i v x → OnlyOf p u x
+  only_then p i u w v x e c s = subst (λ (y : State T). OnlyOf p y x) e (λ k n. s.only k n ∙ c.only k n)
+
+  pub nests_then : (p i : ℕ) (u w v x : State T) → w ≡ u → Clears p w v → Sets p i v x → (q : ℕ) → (marks_at x q).nesting ≡ (marks_at u q).nesting
+  nests_then p i u w v x e c s q = ap (λ (c : Calm). c.nesting) (calm_at p v x s.calm q) ∙ c.nests q ∙ ap (λ (s : State T). (marks_at s q).nesting) e
 
   -- what is handed over
   handed_one : (p i : ℕ) (s : Status) (w : State T) → s ≡ status_at w i → Sound w → p < length w.members → Leaves p w (handed_as s p i w)

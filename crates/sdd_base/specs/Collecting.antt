@@ -15,9 +15,9 @@ module _ {T : Type 0} (holds : T → List Hold) (p : ℕ) (c : PrivateCollector 
   abbrev pub left_in : State T → List ℕ
   left_in w = left_waiting holds p (waiting_in c) w
 
-  -- slot i waits at the end of c, and then p reclaims what is overdue at the front of it
+  -- p reclaims what is overdue at the front of c, and then slot i waits at the end of it
   abbrev pub collected : ℕ → State T → State T
-  collected i w = purged holds p (enqueued (room_of c) (waiting_in c) i) (set_aside p (room_of c) (waiting_in c) i w)
+  collected i w = set_aside p (room_of c) (left_in w) i (swept_by w)
 
   abbrev pub left_with : ℕ → State T → List ℕ
-  left_with i w = left_waiting holds p (enqueued (room_of c) (waiting_in c) i) (set_aside p (room_of c) (waiting_in c) i w)
+  left_with i w = enqueued (room_of c) (left_in w) i

@@ -30,13 +30,3 @@ pub trait Holds: Sized {
     fn end(self)
         requires { holds self ≡ [] };
 }
-
-impl Holds for u64 {
-    ghost holds = { λ _. [] };
-
-    fn give_up(&mut self) -> Option<Held<u64>> {
-        None
-    }
-
-    fn end(self) {}
-}

@@ -30,8 +30,21 @@ pub struct RawPtr<T> {
     pub(crate) of: PhantomData<T>,
 }
 
-/// Pointers that a call makes of what it found, to lend them to a closure.
-pub trait Found<T>: Sized {
+/// What only this crate has: with it alone a pointer is made of a slot.
+pub struct Finder {
+    pub(crate) own: (),
+}
+
+mod sealed {
+    /// Implemented in this crate alone, so that `Ptr` stays the one type that is made of what was found.
+    pub trait Sealed {}
+}
+
+impl<'g, T> sealed::Sealed for Ptr<'g, T> {}
+
+/// Pointers that a call makes of what it found, to lend them to a closure. `Ptr` alone is one, and only the calls of this
+/// crate make them: nobody else has a `Finder`.
+pub trait Found<T>: Sized + sealed::Sealed {
     ghost use Rattle.sdd_base.specs.declared.tag.Tag.{Tag};
 
     /// The slot that it names, or none, and its tag.
@@ -39,7 +52,8 @@ pub trait Found<T>: Sized {
 
     ghost tagged: { Self → Tag };
 
-    fn found(slot: Option<usize>, tag: Tag) -> Self
+    /// The pointer to what a call found. A user can't call it.
+    fn found(slot: Option<usize>, tag: Tag, finder: Finder) -> Self
         ensures names { names result ≡ slot }
         ensures tagged { tagged result ≡ tag };
 }
@@ -49,7 +63,8 @@ impl<'g, T> Found<T> for Ptr<'g, T> {
 
     ghost tagged = { λ r. ptr_tag r };
 
-    fn found(slot: Option<usize>, tag: Tag) -> Ptr<'g, T> {
+    fn found(slot: Option<usize>, tag: Tag, finder: Finder) -> Ptr<'g, T> {
+        let Finder { own: () } = finder;
         Ptr {
             slot,
             tag,

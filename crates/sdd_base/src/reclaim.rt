@@ -5,7 +5,7 @@ ghost use Rattle.std.specs.VecDeque.{deque_capacity};
 ghost use Rattle.sdd_base.specs.State.{is_used, status_at, member_at, marks_at, weight};
 ghost use Rattle.sdd_base.specs.Steps.{released, disowned, owned_ended, shared_ended, given, given_all, rotated, opened, closed, begun, scanned, IsNext, Swept, AllSwept, purged, left_waiting, enqueued, set_aside, handed, overdue, IsTimely, closings_after, scans as scans_at};
 ghost use Rattle.sdd_base.specs.Dropping.{undone, Dropped};
-ghost use Rattle.sdd_base.specs.Place.{Sound, IsPlace, IsShared};
+ghost use Rattle.sdd_base.specs.Place.{Sound, IsPlace, IsOwned, IsShared};
 ghost use Rattle.sdd_base.specs.Frame.{OnlyOf};
 ghost use Rattle.sdd_base.specs.Tokens.{hold_of};
 
@@ -203,16 +203,44 @@ pub(crate) fn set_apart<T, J: Deferred>(
     }
 }
 
-/// Gives one owner of slot `slot` back, and answers whether it was the last, which leaves the item in a private bag.
-pub(crate) fn leave<T, J: Deferred>(
+/// What is in `slot` waits at the end of a private bag, where it has one owner; answers whether it has.
+pub(crate) fn leave_owned<T, J: Deferred>(
     table: &mut Table<T, J>,
     p: usize,
     waiting: &mut VecDeque<usize>,
     slot: usize,
 ) -> bool
     requires member { p < length table.old.members }
-    requires shared { IsShared table.old slot }
+    requires slot { slot < length table.old.states }
+    ensures owned { IsTrue result → IsOwned table.old slot }
+    ensures unowned { IsFalse result → ¬ IsOwned table.old slot }
+    ensures apart { IsTrue result → table.new ≡ set_aside p (deque_capacity waiting.old) waiting.old.items slot table.old }
+    ensures bag { IsTrue result → waiting.new.items ≡ enqueued (deque_capacity waiting.old) waiting.old.items slot }
+    ensures gone { IsFalse result → table.new ≡ table.old }
+    ensures same { IsFalse result → waiting.new.items ≡ waiting.old.items }
+    ensures room { deque_capacity waiting.new ≡ deque_capacity waiting.old }
+{
+    match table.status(slot) {
+        Status::Owned => {
+            set_apart(table, p, waiting, slot);
+            true
+        }
+        _ => false,
+    }
+}
+
+/// Gives one owner of slot `slot` back, where it has some, and answers whether it was the last, which leaves the item in a
+/// private bag.
+pub(crate) fn leave_shared<T, J: Deferred>(
+    table: &mut Table<T, J>,
+    p: usize,
+    waiting: &mut VecDeque<usize>,
+    slot: usize,
+) -> bool
+    requires member { p < length table.old.members }
+    requires slot { slot < length table.old.states }
     ensures last { (n : ℕ) → status_at table.old slot ≡ Status.Shared n → result ≡ leb n 1 }
+    ensures shared { IsTrue result → IsShared table.old slot }
     ensures apart { IsTrue result → table.new ≡ set_aside p (deque_capacity waiting.old) waiting.old.items slot table.old }
     ensures bag { IsTrue result → waiting.new.items ≡ enqueued (deque_capacity waiting.old) waiting.old.items slot }
     ensures given { IsFalse result → table.new ≡ released p slot table.old }
@@ -228,7 +256,7 @@ pub(crate) fn leave<T, J: Deferred>(
             set_apart(table, p, waiting, slot);
             true
         }
-        _ => unreachable!(),
+        _ => false,
     }
 }
 

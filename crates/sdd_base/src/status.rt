@@ -1,6 +1,6 @@
 //! What the places, cells and participants of a `World` are used for, as clauses see it.
 
-ghost use Rattle.std.specs.Prelude.{◌≡◌};
+ghost use Rattle.std.specs.Prelude.{◌≡◌, ◌↔◌, IsTrue};
 ghost use Rattle.sdd_base.specs.State.{is_used};
 
 use crate::tag::Tag;
@@ -37,6 +37,14 @@ impl Status {
             Status::Collected(_) | Status::Retired => true,
         }
     }
+}
+
+/// Whether a count of owners or of open guards is at its end, `2^32 - 1`: no more are counted, and the calls that would
+/// add one refuse.
+pub fn is_last(count: u32) -> bool
+    ensures { IsTrue result ↔ (count ≡ 4294967295) }
+{
+    count == u32::MAX
 }
 
 /// The use of a cell: the slot of an item or none, and a tag.

@@ -293,7 +293,6 @@ impl<T, J: Deferred> Table<T, J> {
     }
 
     /// How many cells there are.
-    #[cfg(test)]
     pub(crate) fn cells(&self) -> usize
         ensures { result ≡ length self.now.cells }
     {

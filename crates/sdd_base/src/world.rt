@@ -3,7 +3,7 @@
 //! Clauses see a world as its `State`. What a call leaves alone is its clause `keeps`: the values of items that have an
 //! owner, and what an open guard protects.
 
-ghost use Rattle.std.specs.Prelude.{◌≡◌, ◌⊎◌, ℕ, IsOk, IfOk, IfErr, IfNone, IfSome, IsTrue, IsFalse, ◌↔◌, Some, None, is_some, sum_by};
+ghost use Rattle.std.specs.Prelude.{◌≡◌, ◌⊎◌, ℕ, IsOk, IfOk, IfErr, IfNone, IfSome, IsTrue, IsFalse, ◌↔◌, Some, None, is_some, sum_by, length};
 ghost use Rattle.sdd_base.specs.State.{fresh, in_use, value_at, vacancy, IsUnused};
 ghost use Rattle.sdd_base.specs.Steps.{AllSwept, NoneOpen};
 ghost use Rattle.sdd_base.specs.Place.{IsPlace, IsOpen, IsReadable, IsSized};
@@ -103,6 +103,13 @@ impl<T, J: Deferred> World<T, J> {
         ensures { result ≡ sum_by vacancy self.now.states }
     {
         self.table.free_count()
+    }
+
+    /// How many participants there are: they are named by the numbers below it.
+    pub fn participants(&self) -> usize
+        ensures { result ≡ length self.now.members }
+    {
+        self.table.participants()
     }
 
     /// Whether a guard of any participant is open.

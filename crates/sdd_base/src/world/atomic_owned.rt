@@ -11,7 +11,7 @@ use crate::cell::AtomicOwned;
 use crate::guard::WorldGuard;
 use crate::job::Deferred;
 use crate::owner::Owned;
-use crate::pointer::{Found, Ptr};
+use crate::pointer::{Finder, Found, Ptr};
 use crate::reclaim;
 use crate::refusal::NoSlot;
 use crate::status::{Cell, Status};
@@ -94,6 +94,15 @@ pub fn load<T, J: Deferred>(
     }
 }
 
+/// Whether the cell is in use in this place, as each is that the place made until it ends: the condition of the calls
+/// that take it.
+pub fn is_here<T, J: Deferred>(w: &World<T, J>, cell: &AtomicOwned<T>) -> bool
+    ensures here { IsTrue result → IsOwnedCell w.now (owned_cell cell.now) }
+    ensures gone { IsFalse result → ¬ IsOwnedCell w.now (owned_cell cell.now) }
+{
+    cell.cell < w.table.cells() && matches!(w.table.cell(cell.cell), Cell::OfOwned(_, _))
+}
+
 /// Whether the cell keeps nothing.
 pub fn is_null<T, J: Deferred>(w: &World<T, J>, cell: &AtomicOwned<T>) -> bool
     requires { IsOwnedCell w.now (owned_cell cell.now) }
@@ -157,7 +166,7 @@ pub fn update_tag_if<T, J: Deferred, P: Found<T>, F: FnOnce(P) -> bool>(
 {
     match w.table.cell(cell.cell) {
         Cell::OfOwned(slot, old) => {
-            if !f(P::found(slot, old)) {
+            if !f(P::found(slot, old, Finder { own: () })) {
                 return false;
             }
             w.table.set_cell(cell.cell, Cell::OfOwned(slot, tag));

@@ -59,6 +59,15 @@ pub fn load<T, J: Deferred>(w: &World<T, J>, cell: &AtomicRaw<T>, _guard: &World
     }
 }
 
+/// Whether the cell is in use in this place, as each is that the place made until it ends: the condition of the calls
+/// that take it.
+pub fn is_here<T, J: Deferred>(w: &World<T, J>, cell: &AtomicRaw<T>) -> bool
+    ensures here { IsTrue result → IsRawCell w.now (raw_cell cell.now) }
+    ensures gone { IsFalse result → ¬ IsRawCell w.now (raw_cell cell.now) }
+{
+    cell.cell < w.table.cells() && matches!(w.table.cell(cell.cell), Cell::OfRaw(_, _))
+}
+
 /// Whether the cell names nothing.
 pub fn is_null<T, J: Deferred>(w: &World<T, J>, cell: &AtomicRaw<T>) -> bool
     requires { IsRawCell w.now (raw_cell cell.now) }

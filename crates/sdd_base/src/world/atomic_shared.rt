@@ -11,7 +11,7 @@ use crate::cell::AtomicShared;
 use crate::guard::WorldGuard;
 use crate::job::Deferred;
 use crate::owner::Shared;
-use crate::pointer::{Found, Loaded, Ptr};
+use crate::pointer::{Finder, Found, Loaded, Ptr};
 use crate::reclaim;
 use crate::refusal::NoSlot;
 use crate::status::{Cell, Status};
@@ -127,6 +127,15 @@ pub fn as_ref<'w, T, J: Deferred>(w: &'w World<T, J>, cell: &AtomicShared<T>) ->
     }
 }
 
+/// Whether the cell is in use in this place, as each is that the place made until it ends: the condition of the calls
+/// that take it.
+pub fn is_here<T, J: Deferred>(w: &World<T, J>, cell: &AtomicShared<T>) -> bool
+    ensures here { IsTrue result → IsSharedCell w.now (shared_cell cell.now) }
+    ensures gone { IsFalse result → ¬ IsSharedCell w.now (shared_cell cell.now) }
+{
+    cell.cell < w.table.cells() && matches!(w.table.cell(cell.cell), Cell::OfShared(_, _))
+}
+
 /// Whether the cell keeps nothing.
 pub fn is_null<T, J: Deferred>(w: &World<T, J>, cell: &AtomicShared<T>) -> bool
     requires { IsSharedCell w.now (shared_cell cell.now) }
@@ -190,7 +199,7 @@ pub fn update_tag_if<T, J: Deferred, P: Found<T>, F: FnOnce(P) -> bool>(
 {
     match w.table.cell(cell.cell) {
         Cell::OfShared(slot, old) => {
-            if !f(P::found(slot, old)) {
+            if !f(P::found(slot, old, Finder { own: () })) {
                 return false;
             }
             w.table.set_cell(cell.cell, Cell::OfShared(slot, tag));

@@ -1,6 +1,6 @@
 //! Opening and closing guards.
 
-ghost use Rattle.std.specs.Prelude.{◌≡◌, ◌<◌, ◌%◌, true, ℕ, length, IfOk, IfErr, OnOk, OnErr, IsErr, ◌↔◌};
+ghost use Rattle.std.specs.Prelude.{◌≡◌, ◌<◌, ◌%◌, true, ℕ, length, IfOk, IfErr, OnOk, OnErr, IsErr, ◌↔◌, IsTrue, IsFalse};
 ghost use Rattle.sdd_base.specs.State.{with_marks, marks_at, waiting_as, IsIdle, NoneIdle};
 ghost use Rattle.sdd_base.specs.Steps.{opened, closed};
 ghost use Rattle.sdd_base.specs.Frame.{Keeps, OnlyOf};
@@ -13,7 +13,7 @@ use crate::holds::Holds;
 use crate::job::Deferred;
 use crate::reclaim;
 use crate::refusal::Nested;
-use crate::status::Status;
+use crate::status::{Status, is_last};
 use crate::world::World;
 
 /// Opens a guard of participant `p`, within those that are open. An outermost opening publishes the count of raises
@@ -27,11 +27,21 @@ pub fn new<T: Holds, J: Deferred>(w: &mut World<T, J>, p: usize) -> Result<World
     ensures keeps { Keeps w.old w.new }
     ensures only { OnlyOf p w.old w.new }
 {
-    if w.table.marks(p).nesting == u32::MAX {
+    if is_last(w.table.marks(p).nesting) {
         return Err(Nested);
     }
     reclaim::open(&mut w.table, p);
     Ok(WorldGuard { participant: p })
+}
+
+/// Whether `guard` is open in this place, as each guard is that the place made until it is closed: the condition of
+/// `close`.
+pub fn is_open<T, J: Deferred>(w: &World<T, J>, guard: &WorldGuard) -> bool
+    ensures member { IsTrue result → participant_of guard.now < length w.now.members }
+    ensures open { IsTrue result → IsOpen w.now (participant_of guard.now) }
+    ensures closed { IsFalse result → ¬ IsOpen w.now (participant_of guard.now) }
+{
+    guard.participant < w.table.participants() && w.table.marks(guard.participant).nesting > 0
 }
 
 /// Asks that the outermost closing of this nesting scans.

@@ -1,6 +1,6 @@
 //! Items with one owner.
 
-ghost use Rattle.std.specs.Prelude.{◌≡◌, ◌≢◌, ◌<◌, ℕ, length, IfOk, IfErr, IfSome, OnOk, OnErr, Some, None, ◌↔◌, IsSome, IfNone, IsErr};
+ghost use Rattle.std.specs.Prelude.{◌≡◌, ◌≢◌, ◌<◌, ℕ, length, IfOk, IfErr, IfSome, OnOk, OnErr, Some, None, ◌↔◌, IsSome, IfNone, IsErr, IsTrue, IsFalse};
 ghost use Rattle.std.specs.Borrow.{LendsIfOk, sem};
 ghost use Rattle.sdd_base.specs.State.{marks_at, IsFree, NoneFree, placed, value_at, retired, with_status, status_at};
 ghost use Rattle.sdd_base.specs.Frame.{Keeps, OnlyOf};
@@ -80,6 +80,15 @@ pub fn get_mut<'w, T, W: Lender<T>>(w: &'w mut W, owned: &Owned<T>) -> Result<&'
     w.owned_mut(owned)
 }
 
+/// Whether the item of `owned` is in this place with one owner, as it is for each owner that the place made: the condition
+/// of most calls that take one.
+pub fn is_here<T, J: Deferred>(w: &World<T, J>, owned: &Owned<T>) -> bool
+    ensures here { IsTrue result → IsOwned w.now (owned_slot owned.now) }
+    ensures gone { IsFalse result → ¬ IsOwned w.now (owned_slot owned.now) }
+{
+    owned.slot < w.table.places() && matches!(w.table.status(owned.slot), Status::Owned)
+}
+
 /// A pointer to the item, without a tag.
 pub fn get_guarded_ptr<T>(owned: &Owned<T>, _guard: &WorldGuard) -> Ptr<'static, T>
     ensures slot { ptr_slot result ≡ Some (owned_slot owned.now) }
@@ -149,6 +158,7 @@ pub fn drop_in_place<T: Holds, J: Deferred>(
     ensures dropped { OnOk result (Dropped T.holds (OwnedItem (owned_slot owned)) w.old w.new) }
     ensures back { IfErr result (λ o. (owned_slot o ≡ owned_slot owned) × (w.new ≡ w.old)) }
     ensures open { IsErr result ↔ ((p : ℕ) × IsOpen w.old p) }
+    ensures guarded { (q : ℕ) → IsOpen w.old q → Keeps w.old w.new }
 {
     if w.table.any_open() {
         return Err(owned);

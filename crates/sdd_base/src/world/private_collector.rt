@@ -1,7 +1,7 @@
 //! Collecting items apart from the bags of the participants.
 //!
-//! Each `collect` notes the count of raises, and first reclaims what was noted at least three raises before: no guard
-//! that is open can name that any more.
+//! Each `collect` first reclaims what was noted at least three raises before, which no guard that is open can name any
+//! more, and notes the count of raises of what it takes in.
 
 ghost use Rattle.std.specs.Prelude.{◌≡◌, ◌<◌, ℕ, [], length, leb, IfOk, IsTrue, IsFalse};
 ghost use Rattle.sdd_base.specs.State.{status_at, marks_at};
@@ -37,9 +37,9 @@ pub fn new<T, J: Deferred>(
     })
 }
 
-/// Retires an item into the collector; what waits there since three raises is reclaimed by the participant of `guard`.
-/// Where the collector has no room left, which it has for all items of its place, the item is retired to that
-/// participant.
+/// Reclaims what waits in the collector since three raises, by the participant of `guard`, and then retires an item into
+/// it. Where the collector has no room left, which it has for all items of its place, the item is retired to that
+/// participant. Owners are counted, so what is reclaimed gives up no owner of that item.
 pub fn collect_owned<T: Holds, J: Deferred>(
     w: &mut World<T, J>,
     collector: &mut PrivateCollector<T>,
@@ -48,25 +48,24 @@ pub fn collect_owned<T: Holds, J: Deferred>(
 )
     requires member { participant_of guard.now < length w.old.members }
     requires live { IsOwned w.old (owned_slot owned) }
-    ensures state { w.new ≡ collected T.holds (participant_of guard.now) collector.old (owned_slot owned) w.old }
-    ensures left { waiting_in collector.new ≡ left_with T.holds (participant_of guard.now) collector.old (owned_slot owned) w.old }
+    ensures state { IsOwned (swept_by T.holds (participant_of guard.now) collector.old w.old) (owned_slot owned) → w.new ≡ collected T.holds (participant_of guard.now) collector.old (owned_slot owned) w.old }
+    ensures left { IsOwned (swept_by T.holds (participant_of guard.now) collector.old w.old) (owned_slot owned) → waiting_in collector.new ≡ left_with T.holds (participant_of guard.now) collector.old (owned_slot owned) w.old }
+    ensures gone { ¬ IsOwned (swept_by T.holds (participant_of guard.now) collector.old w.old) (owned_slot owned) → w.new ≡ swept_by T.holds (participant_of guard.now) collector.old w.old }
+    ensures others { ¬ IsOwned (swept_by T.holds (participant_of guard.now) collector.old w.old) (owned_slot owned) → waiting_in collector.new ≡ left_in T.holds (participant_of guard.now) collector.old w.old }
     ensures room { room_of collector.new ≡ room_of collector.old }
     ensures nests { (q : ℕ) → (marks_at w.new q).nesting ≡ (marks_at w.old q).nesting }
     ensures keeps { Keeps w.old w.new }
     ensures only { OnlyOf (participant_of guard.now) w.old w.new }
 {
     let Owned { slot, of: _ } = owned;
-    reclaim::set_apart(
-        &mut w.table,
-        guard.participant,
-        &mut collector.waiting,
-        slot,
-    );
-    reclaim::purge(&mut w.table, guard.participant, &mut collector.waiting);
+    let p = guard.participant;
+    reclaim::purge(&mut w.table, p, &mut collector.waiting);
+    let _kept = reclaim::leave_owned(&mut w.table, p, &mut collector.waiting, slot);
 }
 
-/// Gives an owner back, and answers whether it was the last, those of cells and items counted; the last one retires the
-/// item into the collector, as `collect_owned` does. What waits there since three raises is reclaimed in both cases.
+/// Reclaims what waits in the collector since three raises, by the participant of `guard`, then gives an owner back, and
+/// answers whether it was the last, those of cells and items counted. The last one retires the item into the collector,
+/// as `collect_owned` does.
 pub fn collect_shared<T: Holds, J: Deferred>(
     w: &mut World<T, J>,
     collector: &mut PrivateCollector<T>,
@@ -75,25 +74,21 @@ pub fn collect_shared<T: Holds, J: Deferred>(
 ) -> bool
     requires member { participant_of guard.now < length w.old.members }
     requires live { IsShared w.old (shared_slot shared) }
-    ensures last { (n : ℕ) → status_at w.old (shared_slot shared) ≡ Status.Shared n → result ≡ leb n 1 }
+    ensures last { (n : ℕ) → status_at (swept_by T.holds (participant_of guard.now) collector.old w.old) (shared_slot shared) ≡ Status.Shared n → result ≡ leb n 1 }
+    ensures shared { IsTrue result → IsShared (swept_by T.holds (participant_of guard.now) collector.old w.old) (shared_slot shared) }
     ensures state { IsTrue result → w.new ≡ collected T.holds (participant_of guard.now) collector.old (shared_slot shared) w.old }
     ensures left { IsTrue result → waiting_in collector.new ≡ left_with T.holds (participant_of guard.now) collector.old (shared_slot shared) w.old }
-    ensures released { IsFalse result → w.new ≡ swept_by T.holds (participant_of guard.now) collector.old (released (participant_of guard.now) (shared_slot shared) w.old) }
-    ensures others { IsFalse result → waiting_in collector.new ≡ left_in T.holds (participant_of guard.now) collector.old (released (participant_of guard.now) (shared_slot shared) w.old) }
+    ensures released { IsFalse result → w.new ≡ released (participant_of guard.now) (shared_slot shared) (swept_by T.holds (participant_of guard.now) collector.old w.old) }
+    ensures others { IsFalse result → waiting_in collector.new ≡ left_in T.holds (participant_of guard.now) collector.old w.old }
     ensures room { room_of collector.new ≡ room_of collector.old }
     ensures nests { (q : ℕ) → (marks_at w.new q).nesting ≡ (marks_at w.old q).nesting }
     ensures keeps { Keeps w.old w.new }
     ensures only { OnlyOf (participant_of guard.now) w.old w.new }
 {
     let Shared { slot, of: _ } = shared;
-    let last = reclaim::leave(
-        &mut w.table,
-        guard.participant,
-        &mut collector.waiting,
-        slot,
-    );
-    reclaim::purge(&mut w.table, guard.participant, &mut collector.waiting);
-    last
+    let p = guard.participant;
+    reclaim::purge(&mut w.table, p, &mut collector.waiting);
+    reclaim::leave_shared(&mut w.table, p, &mut collector.waiting, slot)
 }
 
 /// Ends the collector: what waits in it goes to the current bag of participant `p`.

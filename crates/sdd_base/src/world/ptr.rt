@@ -9,7 +9,7 @@ ghost use Rattle.sdd_base.specs.Tokens.{shared_slot, ptr_slot};
 use crate::job::Deferred;
 use crate::owner::Shared;
 use crate::pointer::Ptr;
-use crate::status::Status;
+use crate::status::{Status, is_last};
 use crate::world::World;
 
 /// One more owner of the item in `slot`, where it is a `Shared` one below the greatest count.
@@ -22,7 +22,7 @@ pub(crate) fn add_owner<T, J: Deferred>(w: &mut World<T, J>, slot: usize) -> Opt
 {
     match w.table.status_of(slot) {
         Status::Shared(owners) => {
-            if owners == u32::MAX {
+            if is_last(owners) {
                 return None;
             }
             w.table.set_status(slot, Status::Shared(owners + 1));

@@ -1,6 +1,6 @@
 //! Items with counted owners.
 
-ghost use Rattle.std.specs.Prelude.{◌≡◌, ◌≢◌, ◌<◌, ◌+◌, ℕ, length, leb, IfOk, IfErr, IfSome, OnErr, Some, None, IfNone, IsTrue, ◌↔◌, OnOk, IsErr, IsErrOf, IsSome};
+ghost use Rattle.std.specs.Prelude.{◌≡◌, ◌≢◌, ◌<◌, ◌+◌, ℕ, length, leb, IfOk, IfErr, IfSome, OnErr, Some, None, IfNone, IsTrue, ◌↔◌, OnOk, IsErr, IsErrOf, IsSome, IsFalse};
 ghost use Rattle.std.specs.Borrow.{LendsIfOk, sem};
 ghost use Rattle.sdd_base.specs.State.{marks_at, IsFree, NoneFree, placed, value_at, with_status, status_at};
 ghost use Rattle.sdd_base.specs.Steps.{released};
@@ -18,7 +18,7 @@ use crate::owner::{Kept, Shared};
 use crate::pointer::Ptr;
 use crate::reclaim;
 use crate::refusal::{NoSlot, NotLent};
-use crate::status::Status;
+use crate::status::{Status, is_last};
 use crate::tag::Tag;
 use crate::world::{World, ptr};
 use std::marker::PhantomData;
@@ -65,7 +65,7 @@ pub fn clone<T, J: Deferred>(w: &mut World<T, J>, shared: &Shared<T>) -> Option<
     let slot = shared.slot;
     match w.table.status(slot) {
         Status::Shared(owners) => {
-            if owners == u32::MAX {
+            if is_last(owners) {
                 return None;
             }
             w.table.set_status(slot, Status::Shared(owners + 1));
@@ -102,6 +102,7 @@ pub fn drop_in_place<T: Holds, J: Deferred>(
     ensures last { IfOk result (λ last. (n : ℕ) → status_at w.old (shared_slot shared) ≡ Status.Shared n → last ≡ leb n 1) }
     ensures back { IfErr result (λ s. (shared_slot s ≡ shared_slot shared) × (w.new ≡ w.old)) }
     ensures open { IsErr result ↔ ((p : ℕ) × IsOpen w.old p) }
+    ensures guarded { (q : ℕ) → IsOpen w.old q → Keeps w.old w.new }
 {
     if w.table.any_open() {
         return Err(shared);
@@ -141,6 +142,15 @@ pub fn get_mut<'w, T, W: Lender<T>>(w: &'w mut W, shared: &Shared<T>) -> Result<
     ensures open { IsErrOf result NotLent.GuardsOpen ↔ ((p : ℕ) × IsOpen (W.state w.old) p) }
 {
     w.shared_mut(shared)
+}
+
+/// Whether the item of `shared` is in this place with counted owners, as it is for each owner that the place made: the
+/// condition of most calls that take one.
+pub fn is_here<T, J: Deferred>(w: &World<T, J>, shared: &Shared<T>) -> bool
+    ensures here { IsTrue result → IsShared w.now (shared_slot shared.now) }
+    ensures gone { IsFalse result → ¬ IsShared w.now (shared_slot shared.now) }
+{
+    shared.slot < w.table.places() && matches!(w.table.status(shared.slot), Status::Shared(_))
 }
 
 /// A pointer to the item, without a tag.

@@ -1,9 +1,8 @@
-use Rattle.std.proofs.Common.{subst, ap, sym, ◌<◌, length}
-use Rattle.sdd_base.specs.State.{State, is_used, weight}
+use Rattle.std.proofs.Common.{subst, sym, ◌<◌, length, arith}
+use Rattle.sdd_base.specs.State.{State}
 use Rattle.sdd_base.specs.Place.{IsOwned}
-use Rattle.sdd_base.specs.Tokens.{owned_slot, participant_of, room_of, waiting_in}
-use Rattle.sdd_base.proofs.Frames.{kept, only_of, is_place}
-use Rattle.sdd_base.proofs.Privates.{Sets, sets_aside, place_swept, keeps_swept, only_swept, nests_swept}
+use Rattle.sdd_base.specs.Tokens.{owned_slot, participant_of, waiting_in}
+use Rattle.sdd_base.proofs.Privates.{sets_owned_left, clears, keeps_then, only_then, nests_then}
 use Rattle.sdd_base.proofs.world.private_collector.collect_owned.Goals as goal
 
 pub invariant_of-w : goal.invariant_of-w
@@ -13,8 +12,10 @@ invariant_of-w g c =
     let i = owned_slot c.args.owned in
     let known : p < length w.members = subst (λ (w : State _). p < length w.members) (sym c.w.view_is) c.requires.member in
     let live : IsOwned w i = subst (λ (w : State _). IsOwned w i) (sym c.w.view_is) c.requires.live in
-    let s : Sets p i w c.set_apart.new.table = subst (λ (x : State _). Sets p i w x) (sym c.set_apart.ensures.state) (sets_aside p (room_of c.args.collector.now) i (waiting_in c.args.collector.now) w c.w.invariant known live.inside (ap is_used live.is) (ap weight live.is)) in
-    is_place _ _ c.purge.ensures.state (place_swept g.T.Holds.holds p i c.set_apart.new.waiting.items w c.set_apart.new.table known s)
+    let v = clears g.T.Holds.holds p (waiting_in c.args.collector.now) w c.purge.new.table c.w.invariant known c.purge.ensures.state in
+    let inside : i < length c.purge.new.table.states = omega (arith, v.places, live.inside) in
+    let s = sets_owned_left c.leave_owned-kept.result p _ i c.purge.new.waiting.items c.purge.new.table c.leave_owned-kept.new.table v.place v.known inside c.leave_owned-kept.ensures.owned c.leave_owned-kept.ensures.apart c.leave_owned-kept.ensures.gone in
+    s.place
 
 pub returns-clause-keeps : goal.returns-clause-keeps
 returns-clause-keeps g c =
@@ -23,8 +24,10 @@ returns-clause-keeps g c =
     let i = owned_slot c.args.owned in
     let known : p < length w.members = subst (λ (w : State _). p < length w.members) (sym c.w.view_is) c.requires.member in
     let live : IsOwned w i = subst (λ (w : State _). IsOwned w i) (sym c.w.view_is) c.requires.live in
-    let s : Sets p i w c.set_apart.new.table = subst (λ (x : State _). Sets p i w x) (sym c.set_apart.ensures.state) (sets_aside p (room_of c.args.collector.now) i (waiting_in c.args.collector.now) w c.w.invariant known live.inside (ap is_used live.is) (ap weight live.is)) in
-    kept w _ _ _ c.w.view_is c.purge.ensures.state (keeps_swept g.T.Holds.holds p i c.set_apart.new.waiting.items w c.set_apart.new.table known s)
+    let v = clears g.T.Holds.holds p (waiting_in c.args.collector.now) w c.purge.new.table c.w.invariant known c.purge.ensures.state in
+    let inside : i < length c.purge.new.table.states = omega (arith, v.places, live.inside) in
+    let s = sets_owned_left c.leave_owned-kept.result p _ i c.purge.new.waiting.items c.purge.new.table c.leave_owned-kept.new.table v.place v.known inside c.leave_owned-kept.ensures.owned c.leave_owned-kept.ensures.apart c.leave_owned-kept.ensures.gone in
+    keeps_then p i _ w _ _ c.w.view_is v s
 
 pub returns-clause-only : goal.returns-clause-only
 returns-clause-only g c =
@@ -33,8 +36,10 @@ returns-clause-only g c =
     let i = owned_slot c.args.owned in
     let known : p < length w.members = subst (λ (w : State _). p < length w.members) (sym c.w.view_is) c.requires.member in
     let live : IsOwned w i = subst (λ (w : State _). IsOwned w i) (sym c.w.view_is) c.requires.live in
-    let s : Sets p i w c.set_apart.new.table = subst (λ (x : State _). Sets p i w x) (sym c.set_apart.ensures.state) (sets_aside p (room_of c.args.collector.now) i (waiting_in c.args.collector.now) w c.w.invariant known live.inside (ap is_used live.is) (ap weight live.is)) in
-    only_of p w _ _ _ c.w.view_is c.purge.ensures.state (only_swept g.T.Holds.holds p i c.set_apart.new.waiting.items w c.set_apart.new.table known s)
+    let v = clears g.T.Holds.holds p (waiting_in c.args.collector.now) w c.purge.new.table c.w.invariant known c.purge.ensures.state in
+    let inside : i < length c.purge.new.table.states = omega (arith, v.places, live.inside) in
+    let s = sets_owned_left c.leave_owned-kept.result p _ i c.purge.new.waiting.items c.purge.new.table c.leave_owned-kept.new.table v.place v.known inside c.leave_owned-kept.ensures.owned c.leave_owned-kept.ensures.apart c.leave_owned-kept.ensures.gone in
+    only_then p i _ w _ _ c.w.view_is v s
 
 pub returns-clause-nests : goal.returns-clause-nests
 returns-clause-nests g c =
@@ -43,5 +48,29 @@ returns-clause-nests g c =
     let i = owned_slot c.args.owned in
     let known : p < length w.members = subst (λ (w : State _). p < length w.members) (sym c.w.view_is) c.requires.member in
     let live : IsOwned w i = subst (λ (w : State _). IsOwned w i) (sym c.w.view_is) c.requires.live in
-    let s : Sets p i w c.set_apart.new.table = subst (λ (x : State _). Sets p i w x) (sym c.set_apart.ensures.state) (sets_aside p (room_of c.args.collector.now) i (waiting_in c.args.collector.now) w c.w.invariant known live.inside (ap is_used live.is) (ap weight live.is)) in
-    nests_swept g.T.Holds.holds p i c.set_apart.new.waiting.items w _ _ c.set_apart.new.table c.w.view_is c.purge.ensures.state known s
+    let v = clears g.T.Holds.holds p (waiting_in c.args.collector.now) w c.purge.new.table c.w.invariant known c.purge.ensures.state in
+    let inside : i < length c.purge.new.table.states = omega (arith, v.places, live.inside) in
+    let s = sets_owned_left c.leave_owned-kept.result p _ i c.purge.new.waiting.items c.purge.new.table c.leave_owned-kept.new.table v.place v.known inside c.leave_owned-kept.ensures.owned c.leave_owned-kept.ensures.apart c.leave_owned-kept.ensures.gone in
+    nests_then p i _ w _ _ c.w.view_is v s
+
+pub leave_owned-kept-requires-clause-member : goal.leave_owned-kept-requires-clause-member
+leave_owned-kept-requires-clause-member g c =
+    let w = c.w.inside.table in
+    let p = participant_of c.args.guard.now in
+    let i = owned_slot c.args.owned in
+    let known : p < length w.members = subst (λ (w : State _). p < length w.members) (sym c.w.view_is) c.requires.member in
+    let live : IsOwned w i = subst (λ (w : State _). IsOwned w i) (sym c.w.view_is) c.requires.live in
+    let v = clears g.T.Holds.holds p (waiting_in c.args.collector.now) w c.purge.new.table c.w.invariant known c.purge.ensures.state in
+    let inside : i < length c.purge.new.table.states = omega (arith, v.places, live.inside) in
+    v.known
+
+pub leave_owned-kept-requires-clause-slot : goal.leave_owned-kept-requires-clause-slot
+leave_owned-kept-requires-clause-slot g c =
+    let w = c.w.inside.table in
+    let p = participant_of c.args.guard.now in
+    let i = owned_slot c.args.owned in
+    let known : p < length w.members = subst (λ (w : State _). p < length w.members) (sym c.w.view_is) c.requires.member in
+    let live : IsOwned w i = subst (λ (w : State _). IsOwned w i) (sym c.w.view_is) c.requires.live in
+    let v = clears g.T.Holds.holds p (waiting_in c.args.collector.now) w c.purge.new.table c.w.invariant known c.purge.ensures.state in
+    let inside : i < length c.purge.new.table.states = omega (arith, v.places, live.inside) in
+    inside

@@ -5,8 +5,8 @@ use Rattle.sdd_base.proofs.Frames.{shared_more}
 use Rattle.sdd_base.proofs.Sounds.{inside_by}
 use Rattle.sdd_base.proofs.world.ptr.add_owner.Goals as goal
 
-pub returns-else-owners-clause-live : goal.returns-else-owners-clause-live
-returns-else-owners-clause-live g c =
+pub returns-else-is_last-clause-live : goal.returns-else-is_last-clause-live
+returns-else-is_last-clause-live g c =
     let w = c.w.inside.table in
     let inside = inside_by w.states c.args.slot (status.Shared c.in-Shared.owners) c.in-Shared.ensures (λ e. cc) in
     let there = shared_more w c.set_status.new.self c.args.slot (c.in-Shared.owners + 1) inside c.set_status.ensures in
