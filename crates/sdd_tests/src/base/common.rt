@@ -1,0 +1,149 @@
+//! What the tests of places share: small places, and ends of what they made.
+
+ghost use Rattle.std.specs.Prelude.{◌≡◌, ◌<◌, ◌≤◌, length, IfOk};
+ghost use Rattle.sdd_base.specs.State.{fresh};
+ghost use Rattle.sdd_base.specs.Frame.{OnlyOf};
+ghost use Rattle.sdd_base.specs.Place.{IsOpen, IsOwned, IsShared};
+ghost use Rattle.sdd_base.specs.Tokens.{owned_slot, participant_of, shared_slot};
+
+use sdd_base::{
+    AtomicOwned, AtomicRaw, AtomicShared, Holds, Owned, Shared, Sizes, World, WorldGuard, world,
+};
+use std::alloc::{AllocError, Global};
+use std::process::Abort;
+
+/// A world of numbers with two participants.
+pub(crate) fn numbers(alloc: Global, slots: usize, cells: usize) -> Result<World<u64>, AllocError>
+    requires slots { slots ≤ 8 }
+    requires cells { cells ≤ 8 }
+    ensures { IfOk result (λ w. w ≡ fresh (record { participants = 2; slots = slots; cells = cells; jobs = 0 })) }
+{
+    let sizes = Sizes {
+        participants: 2,
+        slots,
+        cells,
+        jobs: 0,
+    };
+    World::new(alloc, sizes)
+}
+
+/// Ends a world in which nothing is out.
+pub(crate) fn end<T: Holds, R: Abort>(rt: &R, w: World<T>) {
+    match w.close() {
+        Ok(()) => {}
+        Err(_) => panic!(rt; "nothing is out"),
+    }
+}
+
+/// One accelerated guard of participant `p`.
+pub(crate) fn pass<T: Holds>(w: &mut World<T>, p: usize) -> bool
+    requires { p < length w.old.members }
+    ensures members { length w.new.members ≡ length w.old.members }
+    ensures only { OnlyOf p w.old w.new }
+{
+    match world::guard::new(w, p) {
+        Ok(guard) => {
+            world::guard::accelerate(w, &guard);
+            world::guard::close(w, guard);
+            true
+        }
+        Err(_) => false,
+    }
+}
+
+/// `n` accelerated guards of participant `p`, one by one.
+pub(crate) fn passes<T: Holds>(w: &mut World<T>, p: usize, n: usize) -> bool
+    requires { p < length w.old.members }
+    ensures members { length w.new.members ≡ length w.old.members }
+    ensures only { OnlyOf p w.old w.new }
+{
+    let mut open = true;
+    for _ in 0..n {
+        open = pass(w, p) && open;
+    }
+    open
+}
+
+/// A new item with one owner, where a slot is free.
+pub(crate) fn owned_item<R: Abort>(rt: &R, w: &mut World<u64>, value: u64) -> Owned<u64>
+    ensures live { IsOwned w.new (owned_slot result) }
+    ensures members { w.new.members ≡ w.old.members }
+{
+    match world::owned::new(w, value) {
+        Ok(owned) => owned,
+        Err(_) => panic!(rt; "a slot is free"),
+    }
+}
+
+/// A new item with counted owners, where a slot is free.
+pub(crate) fn shared_item<R: Abort>(rt: &R, w: &mut World<u64>, value: u64) -> Shared<u64>
+    ensures live { IsShared w.new (shared_slot result) }
+    ensures members { w.new.members ≡ w.old.members }
+{
+    match world::shared::new(w, value) {
+        Ok(shared) => shared,
+        Err(_) => panic!(rt; "a slot is free"),
+    }
+}
+
+/// An open guard of participant `p`, where its nesting isn't at its end.
+pub(crate) fn guarded<T: Holds, R: Abort>(rt: &R, w: &mut World<T>, p: usize) -> WorldGuard
+    requires { p < length w.old.members }
+    ensures guard { participant_of result ≡ p }
+    ensures open { IsOpen w.new p }
+    ensures members { length w.new.members ≡ length w.old.members }
+    ensures only { OnlyOf p w.old w.new }
+{
+    match world::guard::new(w, p) {
+        Ok(guard) => guard,
+        Err(_) => panic!(rt; "few guards are open"),
+    }
+}
+
+/// Closes a guard, which is open as each is that isn't closed.
+pub(crate) fn close<T: Holds, R: Abort>(rt: &R, w: &mut World<T>, guard: WorldGuard) {
+    if !world::guard::is_open(w, &guard) {
+        panic!(rt; "the guard is open");
+    }
+    world::guard::close(w, guard);
+}
+
+/// Gives the owner of an item back, by participant 0.
+pub(crate) fn give_owned<T: Holds, R: Abort>(rt: &R, w: &mut World<T>, owned: Owned<T>) {
+    if !world::owned::is_here(w, &owned) || w.participants() == 0 {
+        panic!(rt; "its item is there");
+    }
+    world::owned::retire(w, owned, 0);
+}
+
+/// Gives one of the owners of an item back, by participant 0.
+pub(crate) fn give_shared<T: Holds, R: Abort>(rt: &R, w: &mut World<T>, shared: Shared<T>) {
+    if !world::shared::is_here(w, &shared) || w.participants() == 0 {
+        panic!(rt; "its item is there");
+    }
+    world::shared::release(w, shared, 0);
+}
+
+/// Ends a cell, and gives back what it kept, by participant 0.
+pub(crate) fn end_owned_cell<T: Holds, R: Abort>(rt: &R, w: &mut World<T>, cell: AtomicOwned<T>) {
+    if !world::atomic_owned::is_here(w, &cell) || w.participants() == 0 {
+        panic!(rt; "the cell is in use");
+    }
+    world::atomic_owned::retire(w, cell, 0);
+}
+
+/// Ends a cell, and gives back what it kept, by participant 0.
+pub(crate) fn end_shared_cell<T: Holds, R: Abort>(rt: &R, w: &mut World<T>, cell: AtomicShared<T>) {
+    if !world::atomic_shared::is_here(w, &cell) || w.participants() == 0 {
+        panic!(rt; "the cell is in use");
+    }
+    world::atomic_shared::retire(w, cell, 0);
+}
+
+/// Ends a cell that owned nothing.
+pub(crate) fn end_raw_cell<T: Holds, R: Abort>(rt: &R, w: &mut World<T>, cell: AtomicRaw<T>) {
+    if !world::atomic_raw::is_here(w, &cell) {
+        panic!(rt; "the cell is in use");
+    }
+    world::atomic_raw::end(w, cell);
+}

@@ -1,0 +1,78 @@
+//! Runs in which any one allocation may be refused. A script has each refused in turn: whatever is refused, nothing was
+//! kept, and the same call then succeeds.
+
+ghost use Rattle.std.specs.Prelude.{◌≡◌};
+ghost use Rattle.sdd_base.specs.State.{fresh};
+
+use sdd_base::{PrivateCollector, Sizes, World, world};
+use std::alloc::{AllocError, Global};
+use std::process::Abort;
+
+const TWICE: &str = "memory was refused twice";
+
+// A world whose making is tried again where memory was refused.
+fn numbers<R: Abort>(rt: &R, alloc: Global, met: &mut bool) -> World<u64>
+    ensures { result ≡ fresh (record { participants = 2; slots = 3; cells = 2; jobs = 1 }) }
+{
+    let sizes = Sizes {
+        participants: 2,
+        slots: 3,
+        cells: 2,
+        jobs: 1,
+    };
+    match World::new(alloc, sizes) {
+        Ok(w) => w,
+        Err(AllocError) => {
+            *met = true;
+            World::new(alloc, sizes).expect(rt, TWICE)
+        }
+    }
+}
+
+// A collector, tried again likewise.
+fn collector<R: Abort>(
+    rt: &R,
+    alloc: Global,
+    w: &World<u64>,
+    met: &mut bool,
+) -> PrivateCollector<u64> {
+    match world::private_collector::new(alloc, w) {
+        Ok(collector) => collector,
+        Err(AllocError) => {
+            *met = true;
+            match world::private_collector::new(alloc, w) {
+                Ok(collector) => collector,
+                Err(_) => panic!(rt; "memory was refused twice"),
+            }
+        }
+    }
+}
+
+// Whether an allocation was refused while a place and a collector were made. All else takes no memory.
+fn makes_and_retires<R: Abort>(rt: &R, alloc: Global) -> bool {
+    let mut met = false;
+    let mut w = numbers(rt, alloc, &mut met);
+    let collector = collector(rt, alloc, &w, &mut met);
+    assert!(rt; w.slots_in_use() == 0);
+    let Ok(owned) = world::owned::new(&mut w, 7) else {
+        panic!(rt; "a slot is free");
+    };
+    assert!(rt; *world::owned::as_ref(&w, &owned) == 7);
+    world::owned::retire(&mut w, owned, 1);
+    world::private_collector::hand_over(&mut w, collector, 1);
+    assert!(rt; w.slots_in_use() == 1);
+    match w.close() {
+        Ok(()) => met,
+        Err(_out) => panic!(rt; "nothing is out"),
+    }
+}
+
+#[test]
+fn a_refusal_of_memory_keeps_nothing(rt: HostRuntime) {
+    let _met = makes_and_retires(&rt, rt.alloc());
+}
+
+#[test]
+fn no_memory_is_refused_to_a_place_and_a_collector(rt: HostRuntime) {
+    assert!(rt; !makes_and_retires(&rt, rt.alloc()));
+}
