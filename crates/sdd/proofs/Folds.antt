@@ -6,10 +6,11 @@ use Rattle.std.proofs.lemmas.Fn.{FoldsTo-push}
 use Rattle.sdd_base.specs.State.{State}
 use Rattle.sdd_base.specs.Tokens.{shared_slot}
 use Rattle.sdd_base.specs.declared.owner.Shared.{Shared}
-use Rattle.sdd.specs.Chain.{Entry, Leaves, links}
+use Rattle.sdd.specs.Chain.{Entry, Leaves, IsOut, links}
 use Rattle.sdd.specs.Bags.{IsBag, AreOwn, Adds, Removes, CallsWith, TakesOne}
 use Rattle.sdd.specs.declared.linked_entry.LinkedEntry.{LinkedEntry}
-use Rattle.sdd.proofs.Rows.{own_left, own_both}
+use Rattle.sdd.proofs.Rows.{own_left, own_both, out_append}
+use Rattle.sdd.proofs.Chains.{leaves_all, leaves_then, leaves_more}
 
 module _ {X : Type 0} where
   removes_last : (xs : List X) (x : X) (ys zs rest : List X) → Removes xs ys zs → Adds x rest zs → Removes (xs ++ x ∷ []) ys rest
@@ -32,6 +33,27 @@ module _ {X : Type 0} where
       let n = length-append a.before (x ∷ a.after) in
       omega (arith, p, q, m, n)
 
+out_both : (j : ℕ) (xs ys : List ℕ) → IsOut j xs → IsOut j ys → IsOut j (xs ++ ys)
+out_both j [] ys h k = k
+out_both j (x ∷ xs) ys h k = (h.0, out_both j xs ys h.1 k)
+
+-- what isn't among the links of entries isn't among those of what is left of them
+module _ {L : Type 0} (j : ℕ) where
+  out_skip : (x : Entry L) (before after : List (Entry L)) → IsOut j (links (before ++ x ∷ after)) → IsOut j (links (before ++ after))
+  out_skip x [] after out = out.1
+  out_skip x (e ∷ es) after out = (out.0, out_skip x es after out.1)
+
+  out_fewer : (taken ys zs : List (Entry L)) → Removes taken ys zs → IsOut j (links ys) → IsOut j (links zs)
+  out_fewer [] ys zs h out = subst (λ (es : List (Entry L)). IsOut j (links es)) (sym h) out
+  out_fewer (x ∷ xs) ys zs h out =
+      let a = h.1 in
+      let fewer : IsOut j (links (a.before ++ a.after)) = out_skip x a.before a.after (subst (λ (es : List (Entry L)). IsOut j (links es)) a.now out) in
+      out_fewer xs h.0 zs h.2 (subst (λ (es : List (Entry L)). IsOut j (links es)) (sym a.was) fewer)
+
+  -- beside the cells of a bag
+  pub out_left : (cs : List ℕ) (taken ys zs : List (Entry L)) → Removes taken ys zs → IsOut j (cs ++ links ys) → IsOut j (cs ++ links zs)
+  out_left cs taken ys zs h out = let both = out_append j cs (links ys) out in out_both j cs (links zs) both.0 (out_fewer taken ys zs h both.1)
+
 module _ {T : Type 0} (n : ℕ) (cs : List ℕ) where
   -- a bag with one entry fewer
   record Less (w : State (LinkedEntry T)) (e : Entry (LinkedEntry T)) (all : List (Entry (LinkedEntry T))) : Type 0 where
@@ -48,7 +70,7 @@ module _ {T : Type 0} (n : ℕ) (cs : List ℕ) where
 
   module _ {B F : Type 0} (step : F → B → Shared (LinkedEntry T) → B → F → Type 0) where
     -- k entries were taken, and a closure was called with each owner
-    pub record Popped (w : State (LinkedEntry T)) (ps os : List (Entry (LinkedEntry T))) (start now : B × F) (k : ℕ) : Type 0 where
+    pub record Popped (w0 w : State (LinkedEntry T)) (ps os : List (Entry (LinkedEntry T))) (start now : B × F) (k : ℕ) : Type 0 where
       pub taken : List (Entry (LinkedEntry T))
       pub primary : List (Entry (LinkedEntry T))
       pub overflow : List (Entry (LinkedEntry T))
@@ -56,13 +78,14 @@ module _ {T : Type 0} (n : ℕ) (cs : List ℕ) where
       pub removes : Removes taken (os ++ ps) (overflow ++ primary)
       pub size : k + length (overflow ++ primary) ≡ length (os ++ ps)
       pub own : AreOwn w taken
+      pub leaves : Leaves (cs ++ links (os ++ ps)) [] w0 w
       pub folds : FoldsTo (CallsWith step) start taken now
 
-    pub popped_start : (w : State (LinkedEntry T)) (ps os : List (Entry (LinkedEntry T))) (start : B × F) → IsBag n w cs ps os → Popped w ps os start start 0
-    popped_start w ps os start b = record { taken = []; primary = ps; overflow = os; is = b; removes = refl; size = omega arith; own = tt; folds = refl }
+    pub popped_start : (w : State (LinkedEntry T)) (ps os : List (Entry (LinkedEntry T))) (start : B × F) → IsBag n w cs ps os → Popped w w ps os start start 0
+    popped_start w ps os start b = record { taken = []; primary = ps; overflow = os; is = b; removes = refl; size = omega arith; own = tt; leaves = leaves_all (cs ++ links (os ++ ps)) [] w; folds = refl }
 
-    pub popped_next : (w w' : State (LinkedEntry T)) (ps os : List (Entry (LinkedEntry T))) (start now next : B × F) (k : ℕ) (o : Shared (LinkedEntry T)) → (p : Popped w ps os start now k) → ((ps' os' : List (Entry (LinkedEntry T))) → IsBag n w cs ps' os' → TakesOne n w' cs (shared_slot o) ps' os') → ((ps' os' : List (Entry (LinkedEntry T))) → IsBag n w cs ps' os' → Leaves (cs ++ links (os' ++ ps')) [] w w') → step now.1 now.0 o next.0 next.1 → Popped w' ps os start next (k + 1)
-    popped_next w w' ps os start now next k o p takes leaves called =
+    pub popped_next : (w0 w w' : State (LinkedEntry T)) (ps os : List (Entry (LinkedEntry T))) (start now next : B × F) (k : ℕ) (o : Shared (LinkedEntry T)) → (p : Popped w0 w ps os start now k) → ((ps' os' : List (Entry (LinkedEntry T))) → IsBag n w cs ps' os' → TakesOne n w' cs (shared_slot o) ps' os') → ((ps' os' : List (Entry (LinkedEntry T))) → IsBag n w cs ps' os' → Leaves (cs ++ links (os' ++ ps')) [] w w') → step now.1 now.0 o next.0 next.1 → Popped w0 w' ps os start next (k + 1)
+    popped_next w0 w w' ps os start now next k o p takes leaves called =
         let t = takes p.primary p.overflow p.is in
         let l = less w' (shared_slot o) p.primary p.overflow t in
         record {
@@ -73,6 +96,7 @@ module _ {T : Type 0} (n : ℕ) (cs : List ℕ) where
           removes = removes_last p.taken t.entry (os ++ ps) (p.overflow ++ p.primary) (l.overflow ++ l.primary) p.removes l.adds;
           size = let a = adds_length t.entry (l.overflow ++ l.primary) (p.overflow ++ p.primary) l.adds in let s = p.size in omega (arith, a, s);
           own = own_both w' p.taken (t.entry ∷ []) (own_left w w' (cs ++ links (p.overflow ++ p.primary)) p.taken (leaves p.primary p.overflow p.is) p.own) (t.clear, t.owners, tt);
+          leaves = leaves_then (cs ++ links (os ++ ps)) [] w0 w w' p.leaves (leaves_more (cs ++ links (p.overflow ++ p.primary)) [] (cs ++ links (os ++ ps)) [] w w' (λ j out. out_left j cs p.taken (os ++ ps) (p.overflow ++ p.primary) p.removes out) (λ j out. out) (leaves p.primary p.overflow p.is));
           folds = FoldsTo-push (CallsWith step) start p.taken now t.entry next p.folds (o, t.at, called);
         }
 

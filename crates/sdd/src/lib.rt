@@ -24,25 +24,24 @@
 pub use sdd_base;
 
 pub mod bag;
-#[cfg(test)]
-mod bag_tests;
-#[cfg(test)]
-mod entry_tests;
-#[cfg(test)]
-mod filling_tests;
 pub mod iter;
 pub mod laws;
-#[cfg(test)]
-mod lent_tests;
 pub mod linked_entry;
 pub mod linked_list;
 pub mod queue;
-#[cfg(test)]
-mod random;
 pub mod refusal;
 pub mod stack;
-#[cfg(test)]
-mod tests;
-#[cfg(test)]
-mod walk_tests;
 pub mod world;
+
+pub use bag::{Bag, IntoIter, IterMut, Stop};
+pub use iter::Iter;
+pub use linked_entry::LinkedEntry;
+pub use linked_list::LinkedList;
+pub use queue::Queue;
+pub use refusal::{CloneRefused, FromIterRefused, NotMade, PushRefused};
+pub use sdd_base::{
+    AtomicOwned, AtomicRaw, AtomicShared, Deferred, Epoch, GuardsOpen, Held, Holds, Job, Kept,
+    Lender, Link, Nested, NoJob, NoSlot, NotLent, Owned, Plain, PrivateCollector, Ptr, RawPtr,
+    Shared, Sizes, Tag, Task, World, WorldGuard,
+};
+pub use stack::Stack;

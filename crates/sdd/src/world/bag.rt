@@ -15,15 +15,16 @@ use crate::bag::{Bag, IntoIter};
 use crate::linked_entry::LinkedEntry;
 use crate::refusal::{FromIterRefused, NotMade};
 use crate::world::{chain, row};
+use sdd_base::job::Deferred;
 use sdd_base::owner::Shared;
 use sdd_base::world::World;
 use std::alloc::Global;
 
 /// An empty bag, exactly if `ARRAY_LEN + 1` cells are free and there is memory for as many names of cells; else nothing
 /// changes. Condition: `ARRAY_LEN` is 1 to 32.
-pub fn new<T, const ARRAY_LEN: usize>(
+pub fn new<T, J: Deferred, const ARRAY_LEN: usize>(
     alloc: Global,
-    w: &mut World<LinkedEntry<T>>,
+    w: &mut World<LinkedEntry<T>, J>,
 ) -> Result<Bag<T, ARRAY_LEN>, NotMade>
     requires { IsLength ARRAY_LEN }
     ensures made { IfOk result (λ b. IsBag ARRAY_LEN w.new (bag_cells b) [] []) }
@@ -43,8 +44,8 @@ pub fn new<T, const ARRAY_LEN: usize>(
 
 /// Puts `value` into the primary, in an entry of its own, exactly if that has fewer than `ARRAY_LEN` values and a slot
 /// and a cell are free; else `value` comes back and nothing changes.
-pub fn try_push<T, const ARRAY_LEN: usize>(
-    w: &mut World<LinkedEntry<T>>,
+pub fn try_push<T, J: Deferred, const ARRAY_LEN: usize>(
+    w: &mut World<LinkedEntry<T>, J>,
     bag: &Bag<T, ARRAY_LEN>,
     value: T,
 ) -> Result<(), T>
@@ -65,8 +66,8 @@ pub fn try_push<T, const ARRAY_LEN: usize>(
 
 /// Puts `value` into the primary, in an entry of its own, or into the overflow if the primary has `ARRAY_LEN` values,
 /// exactly if a slot and a cell are free; else `value` comes back and nothing changes.
-pub fn push<T, const ARRAY_LEN: usize>(
-    w: &mut World<LinkedEntry<T>>,
+pub fn push<T, J: Deferred, const ARRAY_LEN: usize>(
+    w: &mut World<LinkedEntry<T>, J>,
     bag: &Bag<T, ARRAY_LEN>,
     value: T,
 ) -> Result<(), T>
@@ -87,9 +88,9 @@ pub fn push<T, const ARRAY_LEN: usize>(
 /// A bag of the values, each in an entry of its own, the first `ARRAY_LEN` of them in the primary. Where no empty bag can
 /// be made, nothing has changed and `values` comes back. The first value for which no slot or no cell is free comes back
 /// with the bag of those before it. Conditions: `ARRAY_LEN` is 1 to 32, and the values end.
-pub fn from_iter<T, const ARRAY_LEN: usize, I: IntoIterator<Item = T>>(
+pub fn from_iter<T, J: Deferred, const ARRAY_LEN: usize, I: IntoIterator<Item = T>>(
     alloc: Global,
-    w: &mut World<LinkedEntry<T>>,
+    w: &mut World<LinkedEntry<T>, J>,
     values: I,
 ) -> Result<Bag<T, ARRAY_LEN>, FromIterRefused<Bag<T, ARRAY_LEN>, T, I>>
     requires length { IsLength ARRAY_LEN }
@@ -118,8 +119,8 @@ pub fn from_iter<T, const ARRAY_LEN: usize, I: IntoIterator<Item = T>>(
 
 /// Takes an entry, from the overflow while that has any, and gives the owner of it. It is in no list then, and nobody
 /// else owns it. Participant `_p` gives nothing back.
-pub fn pop<T, const ARRAY_LEN: usize>(
-    w: &mut World<LinkedEntry<T>>,
+pub fn pop<T, J: Deferred, const ARRAY_LEN: usize>(
+    w: &mut World<LinkedEntry<T>, J>,
     bag: &Bag<T, ARRAY_LEN>,
     _p: usize,
 ) -> Option<Shared<LinkedEntry<T>>>
@@ -137,7 +138,10 @@ pub fn pop<T, const ARRAY_LEN: usize>(
 }
 
 /// How many values it has.
-pub fn len<T, const ARRAY_LEN: usize>(w: &World<LinkedEntry<T>>, bag: &Bag<T, ARRAY_LEN>) -> usize
+pub fn len<T, J: Deferred, const ARRAY_LEN: usize>(
+    w: &World<LinkedEntry<T>, J>,
+    bag: &Bag<T, ARRAY_LEN>,
+) -> usize
     requires { IsSomeBag ARRAY_LEN w.now (bag_cells bag.now) }
     ensures { (ps : List (Entry (LinkedEntry T))) (os : List (Entry (LinkedEntry T))) → IsBag ARRAY_LEN w.now (bag_cells bag.now) ps os → result ≡ length (os ++ ps) }
 {
@@ -145,8 +149,8 @@ pub fn len<T, const ARRAY_LEN: usize>(w: &World<LinkedEntry<T>>, bag: &Bag<T, AR
 }
 
 /// Whether it has no value.
-pub fn is_empty<T, const ARRAY_LEN: usize>(
-    w: &World<LinkedEntry<T>>,
+pub fn is_empty<T, J: Deferred, const ARRAY_LEN: usize>(
+    w: &World<LinkedEntry<T>, J>,
     bag: &Bag<T, ARRAY_LEN>,
 ) -> bool
     requires { IsSomeBag ARRAY_LEN w.now (bag_cells bag.now) }
@@ -160,8 +164,8 @@ pub fn is_empty<T, const ARRAY_LEN: usize>(
 }
 
 /// Takes every entry and folds the owners of them: `f` is called once with each. Participant `p` gives nothing back.
-pub fn pop_all<T, B, F: FnMut(B, Shared<LinkedEntry<T>>) -> B, const ARRAY_LEN: usize>(
-    w: &mut World<LinkedEntry<T>>,
+pub fn pop_all<T, J: Deferred, B, F: FnMut(B, Shared<LinkedEntry<T>>) -> B, const ARRAY_LEN: usize>(
+    w: &mut World<LinkedEntry<T>, J>,
     bag: &Bag<T, ARRAY_LEN>,
     p: usize,
     init: B,
@@ -171,6 +175,7 @@ pub fn pop_all<T, B, F: FnMut(B, Shared<LinkedEntry<T>>) -> B, const ARRAY_LEN: 
     requires list { IsSomeBag ARRAY_LEN w.old (bag_cells bag.now) }
     ensures folded { (ps : List (Entry (LinkedEntry T))) (os : List (Entry (LinkedEntry T))) → IsBag ARRAY_LEN w.old (bag_cells bag.now) ps os → (es : List (Entry (LinkedEntry T))) × IsSameBag es (os ++ ps) × AreOwn w.new es × (last : F) × FoldsTo (CallsWith F.step) (init, f) es (result, last) }
     ensures emptied { IsBag ARRAY_LEN w.new (bag_cells bag.now) [] [] }
+    ensures leaves { (ps : List (Entry (LinkedEntry T))) (os : List (Entry (LinkedEntry T))) → IsBag ARRAY_LEN w.old (bag_cells bag.now) ps os → Leaves (bag_cells bag.now ++ links (os ++ ps)) [] w.old w.new }
     ensures members { w.new.members ≡ w.old.members }
     ensures stays { Stays w.old w.new }
 {
@@ -185,8 +190,8 @@ pub fn pop_all<T, B, F: FnMut(B, Shared<LinkedEntry<T>>) -> B, const ARRAY_LEN: 
 }
 
 /// Ends the bag: participant `p` gives all its entries back, and its `ARRAY_LEN + 1` cells are free.
-pub fn retire<T, const ARRAY_LEN: usize>(
-    w: &mut World<LinkedEntry<T>>,
+pub fn retire<T, J: Deferred, const ARRAY_LEN: usize>(
+    w: &mut World<LinkedEntry<T>, J>,
     bag: Bag<T, ARRAY_LEN>,
     p: usize,
 )
@@ -203,8 +208,8 @@ pub fn retire<T, const ARRAY_LEN: usize>(
 }
 
 /// The bag, to be taken apart by `into_iter::next`.
-pub fn into_iter<T, const ARRAY_LEN: usize>(
-    _w: &World<LinkedEntry<T>>,
+pub fn into_iter<T, J: Deferred, const ARRAY_LEN: usize>(
+    _w: &World<LinkedEntry<T>, J>,
     bag: Bag<T, ARRAY_LEN>,
 ) -> IntoIter<T, ARRAY_LEN>
     requires { IsSomeBag ARRAY_LEN _w.now (bag_cells bag) }

@@ -11,6 +11,7 @@ ghost use Rattle.sdd.specs.Chain.{Entry, IsItem, IsHung, Hangs, HasLink, IsLoose
 
 use crate::linked_list::LinkedList;
 use sdd_base::cell::AtomicShared;
+use sdd_base::job::Deferred;
 use sdd_base::link::Link;
 use sdd_base::owner::Shared;
 use sdd_base::status::{Cell, Status};
@@ -18,7 +19,7 @@ use sdd_base::tag::Tag;
 use sdd_base::world::{World, atomic_shared, shared};
 
 /// The link of an item that is owned.
-pub(crate) fn link_of<L: LinkedList>(w: &World<L>, owner: &Shared<L>) -> Link<L>
+pub(crate) fn link_of<L: LinkedList, J: Deferred>(w: &World<L, J>, owner: &Shared<L>) -> Link<L>
     requires { HasLink L.link w.now (shared_slot owner.now) }
     ensures { (e : Entry L) → IsItem L.link w.now e → shared_slot owner.now ≡ e.slot → link_cell result ≡ e.link }
 {
@@ -26,7 +27,7 @@ pub(crate) fn link_of<L: LinkedList>(w: &World<L>, owner: &Shared<L>) -> Link<L>
 }
 
 /// Empties a cell, which keeps its tag.
-pub(crate) fn take<L>(w: &mut World<L>, cell: &AtomicShared<L>) -> Option<Shared<L>>
+pub(crate) fn take<L, J: Deferred>(w: &mut World<L, J>, cell: &AtomicShared<L>) -> Option<Shared<L>>
     requires { IsSharedCell w.old (shared_cell cell.now) }
     ensures took { (o : Option ℕ) (t : Tag) → cell_at w.old (shared_cell cell.now) ≡ Cell.OfShared o t → (shared_slots result ≡ o) × (w.new ≡ with_cell (shared_cell cell.now) (Cell.OfShared None t) w.old) }
     ensures members { w.new.members ≡ w.old.members }
@@ -38,7 +39,11 @@ pub(crate) fn take<L>(w: &mut World<L>, cell: &AtomicShared<L>) -> Option<Shared
 }
 
 /// Fills an empty cell, which keeps its tag.
-pub(crate) fn fill<L>(w: &mut World<L>, cell: &AtomicShared<L>, item: Option<Shared<L>>)
+pub(crate) fn fill<L, J: Deferred>(
+    w: &mut World<L, J>,
+    cell: &AtomicShared<L>,
+    item: Option<Shared<L>>,
+)
     requires { (t : Tag) × (cell_at w.old (shared_cell cell.now) ≡ Cell.OfShared None t) }
     ensures filled { (t : Tag) → cell_at w.old (shared_cell cell.now) ≡ Cell.OfShared None t → w.new ≡ with_cell (shared_cell cell.now) (Cell.OfShared (shared_slots item) t) w.old }
     ensures members { w.new.members ≡ w.old.members }
@@ -53,8 +58,8 @@ pub(crate) fn fill<L>(w: &mut World<L>, cell: &AtomicShared<L>, item: Option<Sha
 }
 
 /// Takes the first entry of a list off, whose link is then empty.
-pub(crate) fn take_first<L: LinkedList>(
-    w: &mut World<L>,
+pub(crate) fn take_first<L: LinkedList, J: Deferred>(
+    w: &mut World<L, J>,
     cell: &AtomicShared<L>,
 ) -> Option<Shared<L>>
     requires { Hangs L.link w.old (shared_cell cell.now) }
@@ -72,7 +77,11 @@ pub(crate) fn take_first<L: LinkedList>(
 }
 
 /// Hangs an entry before all others.
-pub(crate) fn put_first<L: LinkedList>(w: &mut World<L>, cell: &AtomicShared<L>, first: Shared<L>)
+pub(crate) fn put_first<L: LinkedList, J: Deferred>(
+    w: &mut World<L, J>,
+    cell: &AtomicShared<L>,
+    first: Shared<L>,
+)
     requires { CanHang L.link w.old (shared_cell cell.now) (shared_slot first) }
     ensures put { (t : Tag) (es : List (Entry L)) (e : Entry L) → IsHung L.link w.old (shared_cell cell.now) t es → IsLoose L.link w.old e → Fits (shared_cell cell.now) es e → shared_slot first ≡ e.slot → IsHung L.link w.new (shared_cell cell.now) t (e ∷ es) × Leaves (shared_cell cell.now ∷ e.link ∷ []) [] w.old w.new }
     ensures members { w.new.members ≡ w.old.members }
@@ -103,8 +112,8 @@ pub(crate) struct Front<'w, L> {
 }
 
 /// The first entry of a list, if there is one.
-pub(crate) fn first<'w, L: LinkedList>(
-    w: &'w World<L>,
+pub(crate) fn first<'w, L: LinkedList, J: Deferred>(
+    w: &'w World<L, J>,
     cell: &AtomicShared<L>,
 ) -> Option<Front<'w, L>>
     requires { Hangs L.link w.now (shared_cell cell.now) }
@@ -124,8 +133,8 @@ pub(crate) fn first<'w, L: LinkedList>(
 }
 
 /// The cell behind the deleted entries at the front of a list: it keeps the first undeleted one, or nothing.
-pub(crate) fn skip_from<'w, L: LinkedList>(
-    w: &'w World<L>,
+pub(crate) fn skip_from<'w, L: LinkedList, J: Deferred>(
+    w: &'w World<L, J>,
     cell: &'w AtomicShared<L>,
 ) -> &'w AtomicShared<L>
     requires { Hangs L.link w.now (shared_cell cell.now) }
@@ -147,8 +156,8 @@ pub(crate) fn skip_from<'w, L: LinkedList>(
 }
 
 /// The first undeleted entry of a list, if there is one.
-pub(crate) fn first_undeleted<'w, L: LinkedList>(
-    w: &'w World<L>,
+pub(crate) fn first_undeleted<'w, L: LinkedList, J: Deferred>(
+    w: &'w World<L, J>,
     cell: &'w AtomicShared<L>,
 ) -> Option<&'w L>
     requires { Hangs L.link w.now (shared_cell cell.now) }
@@ -169,7 +178,7 @@ fn counted(count: usize, deleted: bool) -> usize
 }
 
 /// How many entries of a list aren't deleted.
-pub(crate) fn count<L: LinkedList>(w: &World<L>, cell: &AtomicShared<L>) -> usize
+pub(crate) fn count<L: LinkedList, J: Deferred>(w: &World<L, J>, cell: &AtomicShared<L>) -> usize
     requires { Hangs L.link w.now (shared_cell cell.now) }
     ensures { (t : Tag) (es : List (Entry L)) → IsHung L.link w.now (shared_cell cell.now) t es → result ≡ length (undeleted es) }
 {
@@ -188,7 +197,7 @@ pub(crate) fn count<L: LinkedList>(w: &World<L>, cell: &AtomicShared<L>) -> usiz
 }
 
 /// Gives the first entry of a list back.
-fn drop_first<L: LinkedList>(w: &mut World<L>, cell: &AtomicShared<L>, p: usize)
+fn drop_first<L: LinkedList, J: Deferred>(w: &mut World<L, J>, cell: &AtomicShared<L>, p: usize)
     requires member { p < length w.old.members }
     requires list { Hangs L.link w.old (shared_cell cell.now) }
     ensures dropped { (t : Tag) (e : Entry L) (es : List (Entry L)) → IsHung L.link w.old (shared_cell cell.now) t (e ∷ es) → IsHung L.link w.new (shared_cell cell.now) t es × Leaves (shared_cell cell.now ∷ e.link ∷ []) (e.slot ∷ []) w.old w.new }
@@ -204,7 +213,11 @@ fn drop_first<L: LinkedList>(w: &mut World<L>, cell: &AtomicShared<L>, p: usize)
 }
 
 /// Gives the deleted entries at the front of a list back.
-pub(crate) fn skip_deleted<L: LinkedList>(w: &mut World<L>, cell: &AtomicShared<L>, p: usize)
+pub(crate) fn skip_deleted<L: LinkedList, J: Deferred>(
+    w: &mut World<L, J>,
+    cell: &AtomicShared<L>,
+    p: usize,
+)
     requires member { p < length w.old.members }
     requires list { Hangs L.link w.old (shared_cell cell.now) }
     ensures skipped { (t : Tag) (es : List (Entry L)) → IsHung L.link w.old (shared_cell cell.now) t es → IsHung L.link w.new (shared_cell cell.now) t (skip es) }
@@ -227,7 +240,7 @@ pub(crate) fn skip_deleted<L: LinkedList>(w: &mut World<L>, cell: &AtomicShared<
 }
 
 /// Marks an entry that is in no list as deleted.
-pub(crate) fn delete<L: LinkedList>(w: &mut World<L>, owner: &Shared<L>)
+pub(crate) fn delete<L: LinkedList, J: Deferred>(w: &mut World<L, J>, owner: &Shared<L>)
     requires { (e : Entry L) × IsLoose L.link w.old e × (shared_slot owner.now ≡ e.slot) }
     ensures deleted { (e : Entry L) → IsLoose L.link w.old e → shared_slot owner.now ≡ e.slot → w.new ≡ with_cell e.link (Cell.OfShared None Tag.Second) w.old }
     ensures members { w.new.members ≡ w.old.members }
@@ -242,8 +255,8 @@ pub(crate) fn delete<L: LinkedList>(w: &mut World<L>, owner: &Shared<L>)
 }
 
 /// Another owner of the first entry of a list; none where the list is empty, and at the greatest count of owners.
-pub(crate) fn share_first<L: LinkedList>(
-    w: &mut World<L>,
+pub(crate) fn share_first<L: LinkedList, J: Deferred>(
+    w: &mut World<L, J>,
     cell: &AtomicShared<L>,
 ) -> Option<Shared<L>>
     requires { Hangs L.link w.old (shared_cell cell.now) }
@@ -272,7 +285,11 @@ pub(crate) fn share_first<L: LinkedList>(
 }
 
 /// Gives all entries of a list back.
-pub(crate) fn clear<L: LinkedList>(w: &mut World<L>, cell: &AtomicShared<L>, p: usize)
+pub(crate) fn clear<L: LinkedList, J: Deferred>(
+    w: &mut World<L, J>,
+    cell: &AtomicShared<L>,
+    p: usize,
+)
     requires member { p < length w.old.members }
     requires list { Hangs L.link w.old (shared_cell cell.now) }
     ensures cleared { (t : Tag) (es : List (Entry L)) → IsHung L.link w.old (shared_cell cell.now) t es → IsHung L.link w.new (shared_cell cell.now) t [] }
@@ -289,7 +306,7 @@ pub(crate) fn clear<L: LinkedList>(w: &mut World<L>, cell: &AtomicShared<L>, p: 
 }
 
 /// Ends an empty cell.
-pub(crate) fn end<L>(w: &mut World<L>, cell: AtomicShared<L>)
+pub(crate) fn end<L, J: Deferred>(w: &mut World<L, J>, cell: AtomicShared<L>)
     requires { (t : Tag) × (cell_at w.old (shared_cell cell) ≡ Cell.OfShared None t) }
     ensures ended { w.new ≡ with_cell (shared_cell cell) Cell.Free w.old }
     ensures free { IsFreeCell w.new (shared_cell cell) }

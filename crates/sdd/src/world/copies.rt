@@ -12,6 +12,7 @@ ghost use Rattle.sdd.specs.declared.linked_entry.LinkedEntry.{LinkedEntry};
 use crate::linked_entry::LinkedEntry;
 use crate::world::chain;
 use sdd_base::cell::AtomicShared;
+use sdd_base::job::Deferred;
 use sdd_base::link::Link;
 use sdd_base::world::World;
 use std::alloc::AllocError;
@@ -24,8 +25,8 @@ pub(crate) struct Copied<T> {
 }
 
 /// The first entry of a list, if there is one. Refused where its value's clone is.
-pub(crate) fn first<T: Clone>(
-    w: &World<LinkedEntry<T>>,
+pub(crate) fn first<T: Clone, J: Deferred>(
+    w: &World<LinkedEntry<T>, J>,
     cell: &AtomicShared<LinkedEntry<T>>,
 ) -> Result<Option<Copied<T>>, AllocError>
     requires clones { ClonesAreSame T.is_clone }

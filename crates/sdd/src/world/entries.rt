@@ -11,13 +11,17 @@ ghost use Rattle.sdd.specs.Entries.{entry_value, entry_link};
 ghost use Rattle.sdd.specs.Stacks.{IsMade};
 
 use crate::linked_entry::LinkedEntry;
+use sdd_base::job::Deferred;
 use sdd_base::owner::Shared;
 use sdd_base::status::{Cell, Status};
 use sdd_base::tag::Tag;
 use sdd_base::world::{World, atomic_shared, shared};
 
 /// An entry of `value` that is clear and has no next one, exactly if a cell is free; else `value` comes back.
-pub(crate) fn link<T>(w: &mut World<LinkedEntry<T>>, value: T) -> Result<LinkedEntry<T>, T>
+pub(crate) fn link<T, J: Deferred>(
+    w: &mut World<LinkedEntry<T>, J>,
+    value: T,
+) -> Result<LinkedEntry<T>, T>
     requires { 0 ≤ length w.old.cells }
     ensures made { IfOk result (λ e. (c : _) × IsFreeCell w.old c × (entry_value e ≡ value) × (entry_link e ≡ Some c) × (w.new ≡ with_cell c (Cell.OfShared None Tag.None) w.old)) }
     ensures refused { IfErr result (λ v. (v ≡ value) × (w.new ≡ w.old) × NoCellFree w.old) }
@@ -35,7 +39,7 @@ pub(crate) fn link<T>(w: &mut World<LinkedEntry<T>>, value: T) -> Result<LinkedE
 }
 
 /// Takes an entry apart that has no next one, and gives its value.
-pub(crate) fn undo<T>(w: &mut World<LinkedEntry<T>>, entry: LinkedEntry<T>) -> T
+pub(crate) fn undo<T, J: Deferred>(w: &mut World<LinkedEntry<T>, J>, entry: LinkedEntry<T>) -> T
     requires { (c : ℕ) × (t : Tag) × (entry_link entry ≡ Some c) × (cell_at w.old c ≡ Cell.OfShared None t) }
     ensures value { result ≡ entry_value entry }
     ensures ended { IfSome (entry_link entry) (λ c. w.new ≡ with_cell c Cell.Free w.old) }
@@ -51,8 +55,8 @@ pub(crate) fn undo<T>(w: &mut World<LinkedEntry<T>>, entry: LinkedEntry<T>) -> T
 }
 
 /// Makes an item of a clear entry of value, with one owner, exactly if a slot and a cell are free; else value comes back.
-pub(crate) fn make_one<T>(
-    w: &mut World<LinkedEntry<T>>,
+pub(crate) fn make_one<T, J: Deferred>(
+    w: &mut World<LinkedEntry<T>, J>,
     value: T,
 ) -> Result<Shared<LinkedEntry<T>>, T>
     requires { 0 ≤ length w.old.cells }
@@ -73,8 +77,8 @@ pub(crate) fn make_one<T>(
 }
 
 /// As `make_one`, with two owners.
-pub(crate) fn make<T>(
-    w: &mut World<LinkedEntry<T>>,
+pub(crate) fn make<T, J: Deferred>(
+    w: &mut World<LinkedEntry<T>, J>,
     value: T,
 ) -> Result<(Shared<LinkedEntry<T>>, Shared<LinkedEntry<T>>), T>
     requires { 0 ≤ length w.old.cells }
@@ -96,8 +100,8 @@ pub(crate) fn make<T>(
 }
 
 /// As `make_one`, with three owners.
-pub(crate) fn make_three<T>(
-    w: &mut World<LinkedEntry<T>>,
+pub(crate) fn make_three<T, J: Deferred>(
+    w: &mut World<LinkedEntry<T>, J>,
     value: T,
 ) -> Result<
     (

@@ -10,12 +10,13 @@ ghost use Rattle.sdd.specs.declared.linked_entry.LinkedEntry.{LinkedEntry};
 use crate::bag::IntoIter;
 use crate::linked_entry::LinkedEntry;
 use crate::world::bag;
+use sdd_base::job::Deferred;
 use sdd_base::owner::Shared;
 use sdd_base::world::World;
 
 /// The owner of the next entry, or none at the end, as `pop` of the bag gives it. Participant `p` gives nothing back.
-pub fn next<T, const ARRAY_LEN: usize>(
-    w: &mut World<LinkedEntry<T>>,
+pub fn next<T, J: Deferred, const ARRAY_LEN: usize>(
+    w: &mut World<LinkedEntry<T>, J>,
     iter: &IntoIter<T, ARRAY_LEN>,
     p: usize,
 ) -> Option<Shared<LinkedEntry<T>>>
@@ -30,8 +31,8 @@ pub fn next<T, const ARRAY_LEN: usize>(
 }
 
 /// Ends the bag: participant `p` gives back what is left of its entries, and its cells are free.
-pub fn retire<T, const ARRAY_LEN: usize>(
-    w: &mut World<LinkedEntry<T>>,
+pub fn retire<T, J: Deferred, const ARRAY_LEN: usize>(
+    w: &mut World<LinkedEntry<T>, J>,
     iter: IntoIter<T, ARRAY_LEN>,
     p: usize,
 )

@@ -11,12 +11,16 @@ ghost use Rattle.sdd.specs.declared.linked_entry.LinkedEntry.{LinkedEntry};
 use crate::iter::Iter;
 use crate::linked_entry::LinkedEntry;
 use crate::world::chain;
+use sdd_base::job::Deferred;
 use sdd_base::link::Link;
 use sdd_base::world::World;
 
 /// The value of the next entry that isn't deleted, or none at the end. Condition: what is left of the list hangs where
 /// the walk stands, as `iter` leaves it and every call of `next`, while nothing else changes the list.
-pub fn next<'w, T>(w: &'w World<LinkedEntry<T>>, iter: &mut Iter<T>) -> Option<&'w T>
+pub fn next<'w, T, J: Deferred>(
+    w: &'w World<LinkedEntry<T>, J>,
+    iter: &mut Iter<T>,
+) -> Option<&'w T>
     requires { Hangs entry_link w.now (iter_cell iter.old) }
     ensures gives { (t : Tag) (es : List (Entry (LinkedEntry T))) → IsHung entry_link w.now (iter_cell iter.old) t es → option_copied result ≡ first_value (undeleted es) }
     ensures moves { (t : Tag) (es : List (Entry (LinkedEntry T))) → IsHung entry_link w.now (iter_cell iter.old) t es → Moves w.now (iter_cell iter.new) es }

@@ -1,20 +1,24 @@
 //! Making entries.
 
-ghost use Rattle.std.specs.Prelude.{◌≡◌, IfOk, IfErr, OnErr, IsErrOf, Some, None, []};
-ghost use Rattle.sdd_base.specs.State.{IsFreeCell, NoCellFree, with_cell};
+ghost use Rattle.std.specs.Prelude.{◌≡◌, ◌≤◌, ◌⊎◌, length, IfOk, IfErr, OnErr, IsErrOf, Some, None, []};
+ghost use Rattle.sdd_base.specs.State.{IsFreeCell, NoCellFree, NoneFree, status_at, with_cell};
+ghost use Rattle.sdd_base.specs.Tokens.{shared_slot};
 ghost use Rattle.sdd.specs.Chain.{Leaves, Stays};
 ghost use Rattle.sdd.specs.Copies.{ClonesAreSame};
 ghost use Rattle.sdd.specs.Entries.{entry_value, entry_link};
+ghost use Rattle.sdd.specs.Stacks.{IsMade};
 
 use crate::linked_entry::LinkedEntry;
 use crate::refusal::NotMade;
 use crate::world::entries;
-use sdd_base::status::Cell;
+use sdd_base::job::Deferred;
+use sdd_base::owner::Shared;
+use sdd_base::status::{Cell, Status};
 use sdd_base::tag::Tag;
 use sdd_base::world::World;
 
 /// An entry of `value` that is clear and has no next one, exactly if a cell is free; else `value` comes back.
-pub fn new<T>(w: &mut World<LinkedEntry<T>>, value: T) -> Result<LinkedEntry<T>, T>
+pub fn new<T, J: Deferred>(w: &mut World<LinkedEntry<T>, J>, value: T) -> Result<LinkedEntry<T>, T>
     ensures made { IfOk result (λ e. (c : _) × IsFreeCell w.old c × (entry_value e ≡ value) × (entry_link e ≡ Some c) × (w.new ≡ with_cell c (Cell.OfShared None Tag.None) w.old)) }
     ensures refused { IfErr result (λ v. (v ≡ value) × (w.new ≡ w.old) × NoCellFree w.old) }
     ensures leaves { Leaves [] [] w.old w.new }
@@ -25,8 +29,8 @@ pub fn new<T>(w: &mut World<LinkedEntry<T>>, value: T) -> Result<LinkedEntry<T>,
 
 /// An entry of a clone of the value, which is clear and has no next one. Refused where the value's clone is, and where no
 /// cell is free; then nothing has changed. Condition: a clone is the value itself.
-pub fn clone<T: Clone>(
-    w: &mut World<LinkedEntry<T>>,
+pub fn clone<T: Clone, J: Deferred>(
+    w: &mut World<LinkedEntry<T>, J>,
     entry: &LinkedEntry<T>,
 ) -> Result<LinkedEntry<T>, NotMade>
     requires { ClonesAreSame T.is_clone }
@@ -44,4 +48,21 @@ pub fn clone<T: Clone>(
             Err(_) => Err(NotMade::NoSlot),
         },
     }
+}
+
+/// Makes an item of a clear entry of `value`, which is in no list and has one owner, exactly if a slot and a cell are free;
+/// else `value` comes back and nothing changes.
+pub fn place<T, J: Deferred>(
+    w: &mut World<LinkedEntry<T>, J>,
+    value: T,
+) -> Result<Shared<LinkedEntry<T>>, T>
+    requires { 0 ≤ length w.old.cells }
+    ensures made { IfOk result (λ s. IsMade w.old w.new value (shared_slot s)) }
+    ensures one { IfOk result (λ s. status_at w.new (shared_slot s) ≡ Status.Shared 1) }
+    ensures refused { IfErr result (λ v. (v ≡ value) × (w.new ≡ w.old) × (NoneFree w.old ⊎ NoCellFree w.old)) }
+    ensures leaves { Leaves [] [] w.old w.new }
+    ensures members { w.new.members ≡ w.old.members }
+    ensures stays { Stays w.old w.new }
+{
+    entries::make_one(w, value)
 }

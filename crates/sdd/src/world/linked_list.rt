@@ -12,6 +12,7 @@ ghost use Rattle.sdd.specs.Nodes.{IsNode, IsSomeNode, IsListed, CanInsert, Inser
 use crate::linked_list::LinkedList;
 use crate::world::chain;
 use sdd_base::guard::WorldGuard;
+use sdd_base::job::Deferred;
 use sdd_base::link::Link;
 use sdd_base::owner::Shared;
 use sdd_base::pointer::Ptr;
@@ -20,7 +21,7 @@ use sdd_base::tag::Tag;
 use sdd_base::world::{World, atomic_shared};
 
 /// The link of the entry that `at` names.
-fn link_at<L: LinkedList>(w: &World<L>, at: &Ptr<'static, L>) -> Link<L>
+fn link_at<L: LinkedList, J: Deferred>(w: &World<L, J>, at: &Ptr<'static, L>) -> Link<L>
     requires { IsSomeNode L.link w.now (ptr_slot at.now) }
     ensures { (e : Entry L) → IsNode L.link w.now (ptr_slot at.now) e → link_cell result ≡ e.link }
 {
@@ -31,7 +32,7 @@ fn link_at<L: LinkedList>(w: &World<L>, at: &Ptr<'static, L>) -> Link<L>
 }
 
 /// The tag of the entry that `at` names.
-fn tag_of<L: LinkedList>(w: &World<L>, at: &Ptr<'static, L>) -> Tag
+fn tag_of<L: LinkedList, J: Deferred>(w: &World<L, J>, at: &Ptr<'static, L>) -> Tag
     requires { IsSomeNode L.link w.now (ptr_slot at.now) }
     ensures { (e : Entry L) → IsNode L.link w.now (ptr_slot at.now) e → result ≡ e.tag }
 {
@@ -39,7 +40,7 @@ fn tag_of<L: LinkedList>(w: &World<L>, at: &Ptr<'static, L>) -> Tag
 }
 
 /// Gives the entry that `at` names another tag.
-fn set_tag<L: LinkedList>(w: &mut World<L>, at: &Ptr<'static, L>, tag: Tag)
+fn set_tag<L: LinkedList, J: Deferred>(w: &mut World<L, J>, at: &Ptr<'static, L>, tag: Tag)
     requires { IsSomeNode L.link w.old (ptr_slot at.now) }
     ensures retags { (e : Entry L) → IsNode L.link w.old (ptr_slot at.now) e → Retags L.link w.old w.new e tag }
     ensures leaves { (e : Entry L) → IsNode L.link w.old (ptr_slot at.now) e → Leaves (e.link ∷ []) [] w.old w.new }
@@ -72,7 +73,7 @@ fn is_marked_tag(tag: Tag) -> bool
 }
 
 /// Whether the entry that `at` names is neither marked nor deleted.
-pub fn is_clear<L: LinkedList>(w: &World<L>, at: Ptr<'static, L>) -> bool
+pub fn is_clear<L: LinkedList, J: Deferred>(w: &World<L, J>, at: Ptr<'static, L>) -> bool
     requires { IsSomeNode L.link w.now (ptr_slot at) }
     ensures { (e : Entry L) → IsNode L.link w.now (ptr_slot at.entry) e → result ≡ clear e.tag }
 {
@@ -80,7 +81,7 @@ pub fn is_clear<L: LinkedList>(w: &World<L>, at: Ptr<'static, L>) -> bool
 }
 
 /// Whether the entry that `at` names is marked.
-pub fn is_marked<L: LinkedList>(w: &World<L>, at: Ptr<'static, L>) -> bool
+pub fn is_marked<L: LinkedList, J: Deferred>(w: &World<L, J>, at: Ptr<'static, L>) -> bool
     requires { IsSomeNode L.link w.now (ptr_slot at) }
     ensures { (e : Entry L) → IsNode L.link w.now (ptr_slot at.entry) e → result ≡ marked e.tag }
 {
@@ -88,7 +89,7 @@ pub fn is_marked<L: LinkedList>(w: &World<L>, at: Ptr<'static, L>) -> bool
 }
 
 /// Whether the entry that `at` names is deleted.
-pub fn is_deleted<L: LinkedList>(w: &World<L>, at: Ptr<'static, L>) -> bool
+pub fn is_deleted<L: LinkedList, J: Deferred>(w: &World<L, J>, at: Ptr<'static, L>) -> bool
     requires { IsSomeNode L.link w.now (ptr_slot at) }
     ensures { (e : Entry L) → IsNode L.link w.now (ptr_slot at.entry) e → result ≡ deleted e.tag }
 {
@@ -96,7 +97,7 @@ pub fn is_deleted<L: LinkedList>(w: &World<L>, at: Ptr<'static, L>) -> bool
 }
 
 /// Marks a clear entry, and answers whether it was clear.
-pub fn mark<L: LinkedList>(w: &mut World<L>, at: Ptr<'static, L>) -> bool
+pub fn mark<L: LinkedList, J: Deferred>(w: &mut World<L, J>, at: Ptr<'static, L>) -> bool
     requires { IsSomeNode L.link w.old (ptr_slot at) }
     ensures when { (e : Entry L) → IsNode L.link w.old (ptr_slot at.entry) e → result ≡ clear e.tag }
     ensures marked { IsTrue result → (e : Entry L) → IsNode L.link w.old (ptr_slot at.entry) e → Retags L.link w.old w.new e Tag.First }
@@ -113,7 +114,7 @@ pub fn mark<L: LinkedList>(w: &mut World<L>, at: Ptr<'static, L>) -> bool
 }
 
 /// Clears a marked entry, and answers whether it was marked.
-pub fn unmark<L: LinkedList>(w: &mut World<L>, at: Ptr<'static, L>) -> bool
+pub fn unmark<L: LinkedList, J: Deferred>(w: &mut World<L, J>, at: Ptr<'static, L>) -> bool
     requires { IsSomeNode L.link w.old (ptr_slot at) }
     ensures when { (e : Entry L) → IsNode L.link w.old (ptr_slot at.entry) e → result ≡ marked e.tag }
     ensures cleared { IsTrue result → (e : Entry L) → IsNode L.link w.old (ptr_slot at.entry) e → Retags L.link w.old w.new e Tag.None }
@@ -131,7 +132,7 @@ pub fn unmark<L: LinkedList>(w: &mut World<L>, at: Ptr<'static, L>) -> bool
 
 /// Deletes an entry that isn't deleted, and answers whether it did. It stays linked until it is passed at the front of
 /// its list.
-pub fn delete_self<L: LinkedList>(w: &mut World<L>, at: Ptr<'static, L>) -> bool
+pub fn delete_self<L: LinkedList, J: Deferred>(w: &mut World<L, J>, at: Ptr<'static, L>) -> bool
     requires { IsSomeNode L.link w.old (ptr_slot at) }
     ensures when { (e : Entry L) → IsNode L.link w.old (ptr_slot at.entry) e → result ≡ not (deleted e.tag) }
     ensures deleted { IsTrue result → (e : Entry L) → IsNode L.link w.old (ptr_slot at.entry) e → Retags L.link w.old w.new e Tag.Second }
@@ -157,8 +158,8 @@ fn mark_of(mark: bool) -> Tag
 /// Puts `entry` behind the entry that `at` names, which is marked by that if `mark` is true and clear otherwise, and gives
 /// a pointer to it with the same tag. Where the entry that `at` names is deleted, `entry` comes back and nothing has
 /// changed. Conditions: `entry` is clear, has no next one, is in no list and isn't the one that `at` names.
-pub fn push_back<L: LinkedList>(
-    w: &mut World<L>,
+pub fn push_back<L: LinkedList, J: Deferred>(
+    w: &mut World<L, J>,
     at: Ptr<'static, L>,
     entry: Shared<L>,
     mark: bool,
@@ -183,8 +184,8 @@ pub fn push_back<L: LinkedList>(
 }
 
 /// The next entry that isn't deleted, with the tag of the cell that keeps it, or null. It changes nothing.
-pub fn next_ptr<L: LinkedList>(
-    w: &World<L>,
+pub fn next_ptr<L: LinkedList, J: Deferred>(
+    w: &World<L, J>,
     at: Ptr<'static, L>,
     guard: &WorldGuard,
 ) -> Ptr<'static, L>
@@ -200,7 +201,7 @@ pub fn next_ptr<L: LinkedList>(
 }
 
 /// The link behind the entry that `at` names and the deleted ones after it.
-fn next_link<L: LinkedList>(w: &World<L>, at: &Ptr<'static, L>) -> Link<L>
+fn next_link<L: LinkedList, J: Deferred>(w: &World<L, J>, at: &Ptr<'static, L>) -> Link<L>
     requires { IsListed L.link w.now (ptr_slot at.now) }
     ensures { (e : Entry L) (es : List (Entry L)) → IsNode L.link w.now (ptr_slot at.now) e → IsHung L.link w.now e.link e.tag es → (u : Tag) × IsHung L.link w.now (link_cell result) u (skip es) }
 {
@@ -212,8 +213,8 @@ fn next_link<L: LinkedList>(w: &World<L>, at: &Ptr<'static, L>) -> Link<L>
 
 /// Another owner of the next entry that isn't deleted; none where there is no such entry, and at the greatest count of
 /// owners. Every list stays, and once the owner is given back, all is as it was.
-pub fn next_shared<L: LinkedList>(
-    w: &mut World<L>,
+pub fn next_shared<L: LinkedList, J: Deferred>(
+    w: &mut World<L, J>,
     at: Ptr<'static, L>,
     guard: &WorldGuard,
 ) -> Option<Shared<L>>

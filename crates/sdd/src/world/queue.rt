@@ -27,6 +27,7 @@ use crate::refusal::{CloneRefused, FromIterRefused, NotMade, PushRefused};
 use crate::world::copies::Copied;
 use crate::world::{chain, copies, entries, tail};
 use sdd_base::guard::WorldGuard;
+use sdd_base::job::Deferred;
 use sdd_base::link::Link;
 use sdd_base::owner::Shared;
 use sdd_base::pointer::Ptr;
@@ -36,7 +37,7 @@ use sdd_base::tag::Tag;
 use sdd_base::world::{World, atomic_shared};
 
 /// An empty queue, exactly if two cells are free.
-pub fn new<T>(w: &mut World<LinkedEntry<T>>) -> Result<Queue<T>, NoSlot>
+pub fn new<T, J: Deferred>(w: &mut World<LinkedEntry<T>, J>) -> Result<Queue<T>, NoSlot>
     requires { 0 ≤ length w.old.cells }
     ensures made { IfOk result (λ q. IsQueue entry_link w.new (oldest_cell q) (newest_cell q) []) }
     ensures fresh { IfOk result (λ q. IsFreeCell w.old (oldest_cell q) × IsFreeCell w.old (newest_cell q)) }
@@ -60,8 +61,8 @@ pub fn new<T>(w: &mut World<LinkedEntry<T>>) -> Result<Queue<T>, NoSlot>
 
 /// Puts `value` behind all others, in an entry of its own, and gives another owner of that, exactly if a slot and a
 /// cell are free; else `value` comes back and nothing changes.
-pub fn push<T>(
-    w: &mut World<LinkedEntry<T>>,
+pub fn push<T, J: Deferred>(
+    w: &mut World<LinkedEntry<T>, J>,
     queue: &Queue<T>,
     value: T,
 ) -> Result<Shared<LinkedEntry<T>>, T>
@@ -85,7 +86,11 @@ pub fn push<T>(
 }
 
 /// As `push`, without another owner, and without a value it does nothing.
-fn add<T>(w: &mut World<LinkedEntry<T>>, queue: &Queue<T>, value: Option<T>) -> Result<(), T>
+fn add<T, J: Deferred>(
+    w: &mut World<LinkedEntry<T>, J>,
+    queue: &Queue<T>,
+    value: Option<T>,
+) -> Result<(), T>
     requires member { 0 < length w.old.members }
     requires list { IsSomeQueue entry_link w.old (oldest_cell queue.now) (newest_cell queue.now) }
     ensures added { OnOk result (MatchOption value (w.new ≡ w.old) (λ v. Extends w.old w.new v (oldest_cell queue.now) (newest_cell queue.now))) }
@@ -109,8 +114,8 @@ fn add<T>(w: &mut World<LinkedEntry<T>>, queue: &Queue<T>, value: Option<T>) -> 
 /// A queue of the values, in their order, each in an entry of its own. Where two cells for it aren't free, nothing has
 /// changed and `values` comes back. The first value for which no slot or no cell is free comes back with the queue of
 /// those before it. Condition: the values end.
-pub fn from_iter<T, I: IntoIterator<Item = T>>(
-    w: &mut World<LinkedEntry<T>>,
+pub fn from_iter<T, J: Deferred, I: IntoIterator<Item = T>>(
+    w: &mut World<LinkedEntry<T>, J>,
     values: I,
 ) -> Result<Queue<T>, FromIterRefused<Queue<T>, T, I>>
     requires member { 0 < length w.old.members }
@@ -140,8 +145,8 @@ pub fn from_iter<T, I: IntoIterator<Item = T>>(
 /// A queue of clones of the values that aren't deleted, in their order, each in a clear entry of its own. Where two
 /// cells for it aren't free, nothing has changed. Where a clone is refused, or no slot or no cell is free for one, the
 /// queue of those before it comes back. Condition: a clone is the value itself.
-pub fn clone<T: Clone>(
-    w: &mut World<LinkedEntry<T>>,
+pub fn clone<T: Clone, J: Deferred>(
+    w: &mut World<LinkedEntry<T>, J>,
     queue: &Queue<T>,
 ) -> Result<Queue<T>, CloneRefused<Queue<T>>>
     requires clones { ClonesAreSame T.is_clone }
@@ -181,8 +186,8 @@ pub fn clone<T: Clone>(
 
 /// Takes the first undeleted entry, which is deleted by that, and gives an owner of it; deleted entries before it are
 /// given back by participant `p`.
-pub fn pop<T>(
-    w: &mut World<LinkedEntry<T>>,
+pub fn pop<T, J: Deferred>(
+    w: &mut World<LinkedEntry<T>, J>,
     queue: &Queue<T>,
     p: usize,
 ) -> Option<Shared<LinkedEntry<T>>>
@@ -212,8 +217,8 @@ pub fn pop<T>(
 }
 
 /// A pointer to the first undeleted entry, or null, with the tag of the cell that keeps it.
-pub fn peek<T>(
-    w: &World<LinkedEntry<T>>,
+pub fn peek<T, J: Deferred>(
+    w: &World<LinkedEntry<T>, J>,
     queue: &Queue<T>,
     guard: &WorldGuard,
 ) -> Ptr<'static, LinkedEntry<T>>
@@ -226,7 +231,7 @@ pub fn peek<T>(
 }
 
 /// How many entries aren't deleted.
-pub fn len<T>(w: &World<LinkedEntry<T>>, queue: &Queue<T>) -> usize
+pub fn len<T, J: Deferred>(w: &World<LinkedEntry<T>, J>, queue: &Queue<T>) -> usize
     requires { IsSomeQueue entry_link w.now (oldest_cell queue.now) (newest_cell queue.now) }
     ensures { (es : List (Entry (LinkedEntry T))) → IsQueue entry_link w.now (oldest_cell queue.now) (newest_cell queue.now) es → result ≡ length (undeleted es) }
 {
@@ -234,7 +239,7 @@ pub fn len<T>(w: &World<LinkedEntry<T>>, queue: &Queue<T>) -> usize
 }
 
 /// Whether every entry is deleted.
-pub fn is_empty<T>(w: &World<LinkedEntry<T>>, queue: &Queue<T>) -> bool
+pub fn is_empty<T, J: Deferred>(w: &World<LinkedEntry<T>, J>, queue: &Queue<T>) -> bool
     requires { IsSomeQueue entry_link w.now (oldest_cell queue.now) (newest_cell queue.now) }
     ensures { (es : List (Entry (LinkedEntry T))) → IsQueue entry_link w.now (oldest_cell queue.now) (newest_cell queue.now) es → IsTrue result ↔ (undeleted es ≡ []) }
 {
@@ -242,7 +247,7 @@ pub fn is_empty<T>(w: &World<LinkedEntry<T>>, queue: &Queue<T>) -> bool
 }
 
 /// Ends the queue: participant `p` gives all its entries back, and its two cells are free.
-pub fn retire<T>(w: &mut World<LinkedEntry<T>>, queue: Queue<T>, p: usize)
+pub fn retire<T, J: Deferred>(w: &mut World<LinkedEntry<T>, J>, queue: Queue<T>, p: usize)
     requires member { p < length w.old.members }
     requires list { IsSomeQueue entry_link w.old (oldest_cell queue) (newest_cell queue) }
     ensures ended { IsFreeCell w.new (oldest_cell queue) × IsFreeCell w.new (newest_cell queue) }
@@ -257,27 +262,29 @@ pub fn retire<T>(w: &mut World<LinkedEntry<T>>, queue: Queue<T>, p: usize)
     chain::end(w, newest);
 }
 
-/// Calls `f` once with the first undeleted entry, or none, and gives what it answers.
-pub fn peek_with<T, R, F: FnOnce(Option<&LinkedEntry<T>>) -> R>(
-    w: &World<LinkedEntry<T>>,
+/// Calls `f` once with the first undeleted entry, or none, and gives what it answers. Condition: it may be called there;
+/// it isn't called at a deleted entry.
+pub fn peek_with<T, J: Deferred, R, F: FnOnce(Option<&LinkedEntry<T>>) -> R>(
+    w: &World<LinkedEntry<T>, J>,
     queue: &Queue<T>,
     f: F,
 ) -> R
-    requires callable { F.IsAlwaysCallable f }
+    requires callable { (es : List (Entry (LinkedEntry T))) (o : _) → IsQueue entry_link w.now (oldest_cell queue.now) (newest_cell queue.now) es → option_copied o ≡ first_item (undeleted es) → F.pre f o }
     requires list { IsSomeQueue entry_link w.now (oldest_cell queue.now) (newest_cell queue.now) }
     ensures { (es : List (Entry (LinkedEntry T))) → IsQueue entry_link w.now (oldest_cell queue.now) (newest_cell queue.now) es → (o : _) × (option_copied o ≡ first_item (undeleted es)) × F.post f o result }
 {
     f(chain::first_undeleted(w, &queue.oldest))
 }
 
-/// As `push`, if `f` answers true for the first undeleted entry, or none. It is called once.
-pub fn push_if<T, F: FnOnce(Option<&LinkedEntry<T>>) -> bool>(
-    w: &mut World<LinkedEntry<T>>,
+/// As `push`, if `f` answers true for the first undeleted entry, or none. It is called once. Condition: it may be called
+/// there; it isn't called at a deleted entry.
+pub fn push_if<T, J: Deferred, F: FnOnce(Option<&LinkedEntry<T>>) -> bool>(
+    w: &mut World<LinkedEntry<T>, J>,
     queue: &Queue<T>,
     value: T,
     f: F,
 ) -> Result<Shared<LinkedEntry<T>>, PushRefused<T>>
-    requires callable { F.IsAlwaysCallable f }
+    requires callable { (es : List (Entry (LinkedEntry T))) (o : _) → IsQueue entry_link w.old (oldest_cell queue.now) (newest_cell queue.now) es → option_copied o ≡ first_item (undeleted es) → F.pre f o }
     requires member { 0 < length w.old.members }
     requires list { IsSomeQueue entry_link w.old (oldest_cell queue.now) (newest_cell queue.now) }
     ensures asked { (es : List (Entry (LinkedEntry T))) → IsQueue entry_link w.old (oldest_cell queue.now) (newest_cell queue.now) es → (o : _) × (r : Bool) × (option_copied o ≡ first_item (undeleted es)) × F.post f o r × (IsErrAnd result IsCondition ↔ (r ≡ false)) }
@@ -300,7 +307,7 @@ pub fn push_if<T, F: FnOnce(Option<&LinkedEntry<T>>) -> bool>(
 }
 
 /// A walk along its entries that aren't deleted, the oldest first.
-pub fn iter<T>(_w: &World<LinkedEntry<T>>, queue: &Queue<T>) -> Iter<T>
+pub fn iter<T, J: Deferred>(_w: &World<LinkedEntry<T>, J>, queue: &Queue<T>) -> Iter<T>
     requires { IsSomeQueue entry_link _w.now (oldest_cell queue.now) (newest_cell queue.now) }
     ensures starts { (es : List (Entry (LinkedEntry T))) → IsQueue entry_link _w.now (oldest_cell queue.now) (newest_cell queue.now) es → IsHung entry_link _w.now (iter_cell result) Tag.None es }
     ensures hangs { Hangs entry_link _w.now (iter_cell result) }
@@ -312,8 +319,8 @@ pub fn iter<T>(_w: &World<LinkedEntry<T>>, queue: &Queue<T>) -> Iter<T>
 
 /// Another owner of the first undeleted entry, or none at the greatest count of owners; deleted entries before it are
 /// given back by participant `p`.
-fn share_oldest<T>(
-    w: &mut World<LinkedEntry<T>>,
+fn share_oldest<T, J: Deferred>(
+    w: &mut World<LinkedEntry<T>, J>,
     queue: &Queue<T>,
     p: usize,
 ) -> Option<Shared<LinkedEntry<T>>>
@@ -338,8 +345,8 @@ fn share_oldest<T>(
 /// As `pop`, if `f` answers true for the first undeleted entry; else another owner of that is given, and nothing is
 /// taken: it can be given back at once. Where every entry is deleted, `f` isn't called. Where the entry has `2^32 - 1`
 /// owners, a refusal answers none.
-pub fn pop_if<T, F: FnOnce(&LinkedEntry<T>) -> bool + Drop>(
-    w: &mut World<LinkedEntry<T>>,
+pub fn pop_if<T, J: Deferred, F: FnOnce(&LinkedEntry<T>) -> bool + Drop>(
+    w: &mut World<LinkedEntry<T>, J>,
     queue: &Queue<T>,
     p: usize,
     f: F,

@@ -15,12 +15,13 @@ use crate::linked_list::LinkedList;
 use crate::refusal::NotMade;
 use crate::world::{chain, entries};
 use sdd_base::cell::AtomicShared;
+use sdd_base::job::Deferred;
 use sdd_base::world::{World, atomic_shared};
 use std::alloc::Global;
 
 /// The place of the first cell, from `from` on, that keeps nothing, or of the first that keeps something.
-pub(crate) fn find<L>(
-    w: &World<L>,
+pub(crate) fn find<L, J: Deferred>(
+    w: &World<L, J>,
     cells: &Vec<AtomicShared<L>>,
     from: usize,
     null: bool,
@@ -40,8 +41,8 @@ pub(crate) fn find<L>(
 
 /// Hangs a new entry of `value` from a cell, before all others, exactly if a slot and a cell are free; else `value`
 /// comes back and nothing changes.
-pub(crate) fn put<T>(
-    w: &mut World<LinkedEntry<T>>,
+pub(crate) fn put<T, J: Deferred>(
+    w: &mut World<LinkedEntry<T>, J>,
     cell: &AtomicShared<LinkedEntry<T>>,
     value: T,
 ) -> Result<(), T>
@@ -62,7 +63,11 @@ pub(crate) fn put<T>(
 }
 
 /// Gives all entries of a row back.
-pub(crate) fn clear_all<L: LinkedList>(w: &mut World<L>, cells: &Vec<AtomicShared<L>>, p: usize)
+pub(crate) fn clear_all<L: LinkedList, J: Deferred>(
+    w: &mut World<L, J>,
+    cells: &Vec<AtomicShared<L>>,
+    p: usize,
+)
     requires member { p < length w.old.members }
     requires list { IsSomeRow L.link w.old (map shared_cell cells.now.items) }
     ensures cleared { (rows : List (List (Entry L))) → length cells.now.items ≤ length rows → IsRow L.link w.old (map shared_cell cells.now.items) rows → IsRow L.link w.new (map shared_cell cells.now.items) [] }
@@ -76,7 +81,7 @@ pub(crate) fn clear_all<L: LinkedList>(w: &mut World<L>, cells: &Vec<AtomicShare
 }
 
 /// Ends empty cells, the last one first.
-pub(crate) fn end_all<L>(w: &mut World<L>, cells: Vec<AtomicShared<L>>)
+pub(crate) fn end_all<L, J: Deferred>(w: &mut World<L, J>, cells: Vec<AtomicShared<L>>)
     requires { AreEmpty w.old (map shared_cell cells.items) }
     ensures ended { w.new ≡ freed (map shared_cell cells.items) w.old }
     ensures stays { Stays w.old w.new }
@@ -90,9 +95,9 @@ pub(crate) fn end_all<L>(w: &mut World<L>, cells: Vec<AtomicShared<L>>)
 }
 
 /// Claims so many cells, which keep nothing; where too few are free, none is claimed.
-pub(crate) fn claim_all<L>(
+pub(crate) fn claim_all<L, J: Deferred>(
     alloc: Global,
-    w: &mut World<L>,
+    w: &mut World<L, J>,
     number: usize,
 ) -> Result<Vec<AtomicShared<L>>, NotMade>
     requires { number < 1024 }
@@ -131,7 +136,10 @@ fn keep<L>(cells: &mut Vec<AtomicShared<L>>, cell: AtomicShared<L>)
 }
 
 /// How many undeleted entries hang from the cells of a row.
-pub(crate) fn count_all<L: LinkedList>(w: &World<L>, cells: &Vec<AtomicShared<L>>) -> usize
+pub(crate) fn count_all<L: LinkedList, J: Deferred>(
+    w: &World<L, J>,
+    cells: &Vec<AtomicShared<L>>,
+) -> usize
     requires { IsSomeRow L.link w.now (map shared_cell cells.now.items) }
     ensures { (rows : List (List (Entry L))) → length rows ≡ length cells.now.items → IsRow L.link w.now (map shared_cell cells.now.items) rows → result ≡ length (undeleted (joined rows)) }
 {

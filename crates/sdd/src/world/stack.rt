@@ -26,6 +26,7 @@ use crate::stack::Stack;
 use crate::world::copies::Copied;
 use crate::world::{chain, copies, entries, row};
 use sdd_base::guard::WorldGuard;
+use sdd_base::job::Deferred;
 use sdd_base::link::Link;
 use sdd_base::owner::Shared;
 use sdd_base::pointer::Ptr;
@@ -35,7 +36,7 @@ use sdd_base::tag::Tag;
 use sdd_base::world::{World, atomic_shared};
 
 /// An empty stack, exactly if a cell is free.
-pub fn new<T>(w: &mut World<LinkedEntry<T>>) -> Result<Stack<T>, NoSlot>
+pub fn new<T, J: Deferred>(w: &mut World<LinkedEntry<T>, J>) -> Result<Stack<T>, NoSlot>
     requires { 0 ≤ length w.old.cells }
     ensures made { IfOk result (λ s. IsStack w.new (stack_cell s) []) }
     ensures fresh { IfOk result (λ s. IsFreeCell w.old (stack_cell s)) }
@@ -53,8 +54,8 @@ pub fn new<T>(w: &mut World<LinkedEntry<T>>) -> Result<Stack<T>, NoSlot>
 
 /// Puts `value` in front, in an entry of its own, and gives another owner of that, exactly if a slot and a cell are
 /// free; else `value` comes back and nothing changes.
-pub fn push<T>(
-    w: &mut World<LinkedEntry<T>>,
+pub fn push<T, J: Deferred>(
+    w: &mut World<LinkedEntry<T>, J>,
     stack: &Stack<T>,
     value: T,
 ) -> Result<Shared<LinkedEntry<T>>, T>
@@ -78,8 +79,8 @@ pub fn push<T>(
 
 /// Puts `value` at the end of a list, in an entry of its own; without a value it does nothing. `end` is the cell there,
 /// before and after.
-fn add_last<T>(
-    w: &mut World<LinkedEntry<T>>,
+fn add_last<T, J: Deferred>(
+    w: &mut World<LinkedEntry<T>, J>,
     end: &mut Link<LinkedEntry<T>>,
     value: Option<T>,
 ) -> Result<(), T>
@@ -107,8 +108,8 @@ fn add_last<T>(
 /// A stack of the values, the last one in front, each in an entry of its own. Where no cell for it is free, nothing has
 /// changed and `values` comes back. The first value for which no slot or no cell is free comes back with the stack of
 /// those before it. Condition: the values end.
-pub fn from_iter<T, I: IntoIterator<Item = T>>(
-    w: &mut World<LinkedEntry<T>>,
+pub fn from_iter<T, J: Deferred, I: IntoIterator<Item = T>>(
+    w: &mut World<LinkedEntry<T>, J>,
     values: I,
 ) -> Result<Stack<T>, FromIterRefused<Stack<T>, T, I>>
     requires { IsFiniteIterable I.into_iter_gives I.IntoIter.can_next I.IntoIter.remaining values }
@@ -137,8 +138,8 @@ pub fn from_iter<T, I: IntoIterator<Item = T>>(
 /// A stack of clones of the values that aren't deleted, in their order, each in a clear entry of its own. Where no cell
 /// for it is free, nothing has changed. Where a clone is refused, or no slot or no cell is free for one, the stack of
 /// those before it comes back. Condition: a clone is the value itself.
-pub fn clone<T: Clone>(
-    w: &mut World<LinkedEntry<T>>,
+pub fn clone<T: Clone, J: Deferred>(
+    w: &mut World<LinkedEntry<T>, J>,
     stack: &Stack<T>,
 ) -> Result<Stack<T>, CloneRefused<Stack<T>>>
     requires clones { ClonesAreSame T.is_clone }
@@ -178,8 +179,8 @@ pub fn clone<T: Clone>(
 
 /// Takes the first undeleted entry, which is deleted by that, and gives an owner of it; deleted entries before it are
 /// given back by participant `p`.
-pub fn pop<T>(
-    w: &mut World<LinkedEntry<T>>,
+pub fn pop<T, J: Deferred>(
+    w: &mut World<LinkedEntry<T>, J>,
     stack: &Stack<T>,
     p: usize,
 ) -> Option<Shared<LinkedEntry<T>>>
@@ -203,8 +204,8 @@ pub fn pop<T>(
 }
 
 /// A pointer to the first undeleted entry, or null, with the tag of the cell that keeps it.
-pub fn peek<T>(
-    w: &World<LinkedEntry<T>>,
+pub fn peek<T, J: Deferred>(
+    w: &World<LinkedEntry<T>, J>,
     stack: &Stack<T>,
     guard: &WorldGuard,
 ) -> Ptr<'static, LinkedEntry<T>>
@@ -217,7 +218,7 @@ pub fn peek<T>(
 }
 
 /// How many entries aren't deleted.
-pub fn len<T>(w: &World<LinkedEntry<T>>, stack: &Stack<T>) -> usize
+pub fn len<T, J: Deferred>(w: &World<LinkedEntry<T>, J>, stack: &Stack<T>) -> usize
     requires { IsSomeStack w.now (stack_cell stack.now) }
     ensures { (es : List (Entry (LinkedEntry T))) → IsStack w.now (stack_cell stack.now) es → result ≡ length (undeleted es) }
 {
@@ -225,7 +226,7 @@ pub fn len<T>(w: &World<LinkedEntry<T>>, stack: &Stack<T>) -> usize
 }
 
 /// Whether every entry is deleted.
-pub fn is_empty<T>(w: &World<LinkedEntry<T>>, stack: &Stack<T>) -> bool
+pub fn is_empty<T, J: Deferred>(w: &World<LinkedEntry<T>, J>, stack: &Stack<T>) -> bool
     requires { IsSomeStack w.now (stack_cell stack.now) }
     ensures { (es : List (Entry (LinkedEntry T))) → IsStack w.now (stack_cell stack.now) es → IsTrue result ↔ (undeleted es ≡ []) }
 {
@@ -233,8 +234,8 @@ pub fn is_empty<T>(w: &World<LinkedEntry<T>>, stack: &Stack<T>) -> bool
 }
 
 /// Moves all entries to a new stack, exactly if a cell is free. Participant `_p` gives nothing back.
-pub fn pop_all<T>(
-    w: &mut World<LinkedEntry<T>>,
+pub fn pop_all<T, J: Deferred>(
+    w: &mut World<LinkedEntry<T>, J>,
     stack: &Stack<T>,
     _p: usize,
 ) -> Result<Stack<T>, NoSlot>
@@ -260,7 +261,7 @@ pub fn pop_all<T>(
 }
 
 /// Ends the stack: participant `p` gives all its entries back, and its cell is free.
-pub fn retire<T>(w: &mut World<LinkedEntry<T>>, stack: Stack<T>, p: usize)
+pub fn retire<T, J: Deferred>(w: &mut World<LinkedEntry<T>, J>, stack: Stack<T>, p: usize)
     requires member { p < length w.old.members }
     requires list { IsSomeStack w.old (stack_cell stack) }
     ensures ended { IsFreeCell w.new (stack_cell stack) }
@@ -273,27 +274,29 @@ pub fn retire<T>(w: &mut World<LinkedEntry<T>>, stack: Stack<T>, p: usize)
     chain::end(w, newest);
 }
 
-/// Calls `f` once with the first undeleted entry, or none, and gives what it answers.
-pub fn peek_with<T, R, F: FnOnce(Option<&LinkedEntry<T>>) -> R>(
-    w: &World<LinkedEntry<T>>,
+/// Calls `f` once with the first undeleted entry, or none, and gives what it answers. Condition: it may be called there;
+/// it isn't called at a deleted entry.
+pub fn peek_with<T, J: Deferred, R, F: FnOnce(Option<&LinkedEntry<T>>) -> R>(
+    w: &World<LinkedEntry<T>, J>,
     stack: &Stack<T>,
     f: F,
 ) -> R
-    requires callable { F.IsAlwaysCallable f }
+    requires callable { (es : List (Entry (LinkedEntry T))) (o : _) → IsStack w.now (stack_cell stack.now) es → option_copied o ≡ first_item (undeleted es) → F.pre f o }
     requires list { IsSomeStack w.now (stack_cell stack.now) }
     ensures { (es : List (Entry (LinkedEntry T))) → IsStack w.now (stack_cell stack.now) es → (o : _) × (option_copied o ≡ first_item (undeleted es)) × F.post f o result }
 {
     f(chain::first_undeleted(w, &stack.newest))
 }
 
-/// As `push`, if `f` answers true for the first undeleted entry, or none. It is called once.
-pub fn push_if<T, F: FnOnce(Option<&LinkedEntry<T>>) -> bool>(
-    w: &mut World<LinkedEntry<T>>,
+/// As `push`, if `f` answers true for the first undeleted entry, or none. It is called once. Condition: it may be called
+/// there; it isn't called at a deleted entry.
+pub fn push_if<T, J: Deferred, F: FnOnce(Option<&LinkedEntry<T>>) -> bool>(
+    w: &mut World<LinkedEntry<T>, J>,
     stack: &Stack<T>,
     value: T,
     f: F,
 ) -> Result<Shared<LinkedEntry<T>>, PushRefused<T>>
-    requires callable { F.IsAlwaysCallable f }
+    requires callable { (es : List (Entry (LinkedEntry T))) (o : _) → IsStack w.old (stack_cell stack.now) es → option_copied o ≡ first_item (undeleted es) → F.pre f o }
     requires list { IsSomeStack w.old (stack_cell stack.now) }
     ensures asked { (es : List (Entry (LinkedEntry T))) → IsStack w.old (stack_cell stack.now) es → (o : _) × (r : Bool) × (option_copied o ≡ first_item (undeleted es)) × F.post f o r × (IsErrAnd result IsCondition ↔ (r ≡ false)) }
     ensures pushed { IfOk result (λ s. Pushes w.old w.new value (stack_cell stack.now) (shared_slot s)) }
@@ -317,8 +320,8 @@ pub fn push_if<T, F: FnOnce(Option<&LinkedEntry<T>>) -> bool>(
 /// As `pop`, if `f` answers true for the first undeleted entry; else another owner of that is given, and nothing is
 /// taken: it can be given back at once. Where every entry is deleted, `f` isn't called. Where the entry has `2^32 - 1`
 /// owners, a refusal answers none.
-pub fn pop_if<T, F: FnOnce(&LinkedEntry<T>) -> bool + Drop>(
-    w: &mut World<LinkedEntry<T>>,
+pub fn pop_if<T, J: Deferred, F: FnOnce(&LinkedEntry<T>) -> bool + Drop>(
+    w: &mut World<LinkedEntry<T>, J>,
     stack: &Stack<T>,
     p: usize,
     f: F,
@@ -356,7 +359,7 @@ pub fn pop_if<T, F: FnOnce(&LinkedEntry<T>) -> bool + Drop>(
 }
 
 /// A walk along its entries that aren't deleted, the newest first.
-pub fn iter<T>(_w: &World<LinkedEntry<T>>, stack: &Stack<T>) -> Iter<T>
+pub fn iter<T, J: Deferred>(_w: &World<LinkedEntry<T>, J>, stack: &Stack<T>) -> Iter<T>
     requires { IsSomeStack _w.now (stack_cell stack.now) }
     ensures starts { (es : List (Entry (LinkedEntry T))) → IsStack _w.now (stack_cell stack.now) es → IsHung entry_link _w.now (iter_cell result) Tag.None es }
     ensures hangs { Hangs entry_link _w.now (iter_cell result) }

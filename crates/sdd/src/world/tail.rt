@@ -11,14 +11,15 @@ ghost use Rattle.sdd.specs.Queues.{IsQueue, Follows, CanFollow, HasTwo, vacated}
 use crate::linked_list::LinkedList;
 use crate::world::chain;
 use sdd_base::cell::AtomicShared;
+use sdd_base::job::Deferred;
 use sdd_base::owner::Shared;
 use sdd_base::status::Cell;
 use sdd_base::tag::Tag;
 use sdd_base::world::{World, atomic_shared, shared};
 
 /// Puts an entry behind the last one: `link` goes into the list, and `last` to the cell of the newest.
-pub(crate) fn append<L: LinkedList>(
-    w: &mut World<L>,
+pub(crate) fn append<L: LinkedList, J: Deferred>(
+    w: &mut World<L, J>,
     oldest: &AtomicShared<L>,
     newest: &AtomicShared<L>,
     link: Shared<L>,
@@ -45,7 +46,7 @@ pub(crate) fn append<L: LinkedList>(
 }
 
 /// Empties the cell of the newest entry.
-pub(crate) fn forget<L>(w: &mut World<L>, newest: &AtomicShared<L>, p: usize)
+pub(crate) fn forget<L, J: Deferred>(w: &mut World<L, J>, newest: &AtomicShared<L>, p: usize)
     requires member { p < length w.old.members }
     requires newest { (o : Option ℕ) × (cell_at w.old (shared_cell newest.now) ≡ Cell.OfShared o Tag.None) }
     requires last { (i : ℕ) → cell_at w.old (shared_cell newest.now) ≡ Cell.OfShared (Some i) Tag.None → IsShared w.old i }
@@ -62,8 +63,8 @@ pub(crate) fn forget<L>(w: &mut World<L>, newest: &AtomicShared<L>, p: usize)
 }
 
 /// Empties the cell of the newest entry where the list is empty.
-pub(crate) fn settle<L>(
-    w: &mut World<L>,
+pub(crate) fn settle<L, J: Deferred>(
+    w: &mut World<L, J>,
     oldest: &AtomicShared<L>,
     newest: &AtomicShared<L>,
     p: usize,

@@ -21,7 +21,7 @@ loop-popped-preserved g c =
     record {
       callable = mut_next g.F.FnMut _ _ _ _ _ c.f-folded.ensures refl v.callable;
       list = p.list;
-      popped = λ ps os b. popped_next g.row.ARRAY_LEN _ (λ f b' o r f2. Called g.F.FnMut f (b', (o, tt)) r f2) _ _ ps os _ _ (c.f-folded.result, c.f-folded.new.self) _ c.in-Some.owner (v.popped ps os b) p.popped p.leaves c.f-folded.ensures;
+      popped = λ ps os b. popped_next g.row.ARRAY_LEN _ (λ f b' o r f2. Called g.F.FnMut f (b', (o, tt)) r f2) _ _ _ ps os _ _ (c.f-folded.result, c.f-folded.new.self) _ c.in-Some.owner (v.popped ps os b) p.popped p.leaves c.f-folded.ensures;
       members = p.members ∙ v.members;
       stays = stays_then _ _ _ v.stays p.stays;
     }
@@ -53,3 +53,6 @@ returns-clause-members g c = c.loop-popped.invariant.members
 
 pub returns-clause-stays : goal.returns-clause-stays
 returns-clause-stays g c = c.loop-popped.invariant.stays
+
+pub returns-clause-leaves : goal.returns-clause-leaves
+returns-clause-leaves g c = λ ps os b. (c.loop-popped.invariant.popped ps os b).leaves

@@ -10,7 +10,7 @@ abbrev pub invariant-loop-popped : goal.invariant-loop-popped
 invariant-loop-popped g l = record {
   callable : goal.F-IsAlwaysCallable g l.f;
   list : IsSomeBag g.row.ARRAY_LEN l.w (map shared_cell l.bag.cells.items);
-  popped : (ps os : List (Entry _)) → IsBag g.row.ARRAY_LEN l.initial.w (map shared_cell l.bag.cells.items) ps os → Popped g.row.ARRAY_LEN (map shared_cell l.bag.cells.items) (λ f b o r f2. Called g.F.FnMut f (b, (o, tt)) r f2) l.w ps os (l.fn.init, l.fn.f) (l.folded, l.f) l._popped;
+  popped : (ps os : List (Entry _)) → IsBag g.row.ARRAY_LEN l.initial.w (map shared_cell l.bag.cells.items) ps os → Popped g.row.ARRAY_LEN (map shared_cell l.bag.cells.items) (λ f b o r f2. Called g.F.FnMut f (b, (o, tt)) r f2) l.initial.w l.w ps os (l.fn.init, l.fn.f) (l.folded, l.f) l._popped;
   members : l.w.members ≡ l.initial.w.members;
   stays : Stays l.initial.w l.w;
 }
