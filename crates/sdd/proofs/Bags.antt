@@ -20,7 +20,7 @@ use Rattle.sdd.proofs.Chains.{hung_first, head_cell, leaves_more, out_of_none}
 use Rattle.sdd.proofs.Releases.{leaves_released, out_of_one}
 use Rattle.sdd_base.specs.Steps.{released}
 use Rattle.sdd.proofs.Fronts.{first_none, TookSome, took_some, took_nothing}
-use Rattle.sdd.proofs.Rows.{adds_more, adds_less, single_set, single_at, room_length, full_length, none_joined, joined_some, own_both, own_first, own_second, own_at, own_set, own_left, row_set, row_left, out_append, out_at, out_joined, links_at, are_both, own_kept}
+use Rattle.sdd.proofs.Rows.{adds_more, adds_less, single_set, single_at, room_length, full_length, none_joined, joined_some, own_both, own_first, own_second, own_at, own_set, own_left, row_set, row_left, out_append, out_at, out_joined, out_all, out_append_both, links_joined, links_at, are_both, own_kept}
 
 -- what a cell tells of the list that hangs from it
 module _ {L : Type 0} (link : L → Option ℕ) (w : State L) (c : ℕ) (es : List (Entry L)) (h : IsHung link w c tag.None es) where
@@ -167,6 +167,29 @@ module _ {T : Type 0} (n : ℕ) (w w' : State (LinkedEntry T)) (cs : List ℕ) (
           subst (λ (es : List (Entry (LinkedEntry T))). IsOut t.entry.slot (slots es)) (sym (get_or-set_other all k m t.rest [] ne)) mine
     ])
 
+  module _ (k c i : ℕ) (inside : k < length cs) (at : c ≡ get_or cs k 0) (t : TookSome entry_link w w' c i tag.None (get_or all k [])) where
+    -- its link is none of the cells, and none of the links that are left
+    links_other : (m : ℕ) → m < length cs → m ≢ k → (t.entry.link ≢ get_or cs m 0) × IsOut t.entry.link (links (get_or all m []))
+    links_other m lt ne = elim (b.row.cells k m inside lt (λ q. ne (sym q)) t.entry.link) [
+      | inl out ↦ absurd ((subst (λ (es : List (Entry (LinkedEntry T))). IsOut t.entry.link (links es)) t.is out.1).0 refl)
+      | inr out ↦ out
+    ]
+
+    take_cells : IsOut t.entry.link cs
+    take_cells = out_all t.entry.link cs (λ m lt. elim (cases_eq m k) as (λ _. t.entry.link ≢ get_or cs m 0) [
+      | inl e ↦ λ q. t.apart (at ∙ sym (ap (λ (j : ℕ). get_or cs j 0) e) ∙ sym q)
+      | inr ne ↦ (links_other m lt ne).0
+    ])
+
+    take_links : IsOut t.entry.link (cs ++ links (joined (set all k t.rest)))
+    take_links = out_append_both t.entry.link cs (links (joined (set all k t.rest))) take_cells (links_joined t.entry.link (set all k t.rest) (λ m lt. elim (cases_eq m k) as (λ _. IsOut t.entry.link (links (get_or (set all k t.rest) m []))) [
+      | inl e ↦ subst (λ (es : List (Entry (LinkedEntry T))). IsOut t.entry.link (links es)) (sym (ap (λ (j : ℕ). get_or (set all k t.rest) j []) e ∙ get_or-set_same all k t.rest [] (inside_all k inside))) t.out
+      | inr ne ↦
+          let size = length-set all k t.rest in
+          let inside_m : m < length cs = (let s = b.size in let e = b.cells in omega (arith, lt, size, s, e)) in
+          subst (λ (es : List (Entry (LinkedEntry T))). IsOut t.entry.link (links es)) (sym (get_or-set_other all k m t.rest [] ne)) (links_other m inside_m ne).1
+    ]))
+
   take_overflow : (c i : ℕ) → c ≡ get_or cs 0 0 → TookSome entry_link w w' c i tag.None os → TakesOne n w' cs i ps os
   take_overflow c i at t =
       let inside : 0 < length cs = (let e = b.cells in omega (arith, e)) in
@@ -190,6 +213,7 @@ module _ {T : Type 0} (n : ℕ) (w w' : State (LinkedEntry T)) (cs : List ℕ) (
             own = own_both w' t.rest ps own.2 (take_left 0 c i inside at t ps (own_second w os ps b.own));
           },
           subst (λ (es : List (Entry (LinkedEntry T))). IsOut t.entry.slot (slots (t.rest ++ es))) b.is (take_apart 0 c i inside at t),
+          subst (λ (es : List (Entry (LinkedEntry T))). IsOut t.entry.link (cs ++ links (t.rest ++ es))) b.is (take_links 0 c i inside at t),
         );
       }
 
@@ -219,6 +243,7 @@ module _ {T : Type 0} (n : ℕ) (w w' : State (LinkedEntry T)) (cs : List ℕ) (
             own = own';
           },
           subst (λ (es : List (Entry (LinkedEntry T))). IsOut t.entry.slot (slots (es ++ joined (set b.rows k t.rest)))) none (take_apart (suc k) c i inside at t),
+          subst (λ (es : List (Entry (LinkedEntry T))). IsOut t.entry.link (cs ++ links (es ++ joined (set b.rows k t.rest)))) none (take_links (suc k) c i inside at t),
         );
       }
 

@@ -321,6 +321,9 @@ full_empty o i t u e = cc
 pub kept_same : (o o' : Option ℕ) (t u : Tag) → cell.OfShared o t ≡ cell.OfShared o' u → o ≡ o'
 kept_same o o' t u e = cc
 
+pub kept_tag : (o o' : Option ℕ) (t u : Tag) → cell.OfShared o t ≡ cell.OfShared o' u → t ≡ u
+kept_tag o o' t u e = cc
+
 same_kept : (i j : ℕ) (t u : Tag) → cell.OfShared (Some i) t ≡ cell.OfShared (Some j) u → i ≡ j
 same_kept i j t u e = cc
 

@@ -285,6 +285,22 @@ pub out_joined : {L : Type 0} (j : ℕ) (rows : List (List (Entry L))) → ((m :
 out_joined j [] h = tt
 out_joined j (es ∷ rows) h = slots_join j es (joined rows) (h 0 (omega arith)) (out_joined j rows (λ m lt. h (suc m) (omega (arith, lt))))
 
+links_join : {L : Type 0} (j : ℕ) (es fs : List (Entry L)) → IsOut j (links es) → IsOut j (links fs) → IsOut j (links (es ++ fs))
+links_join j [] fs h k = k
+links_join j (e ∷ es) fs h k = (h.0, links_join j es fs h.1 k)
+
+pub links_joined : {L : Type 0} (j : ℕ) (rows : List (List (Entry L))) → ((m : ℕ) → m < length rows → IsOut j (links (get_or rows m []))) → IsOut j (links (joined rows))
+links_joined j [] h = tt
+links_joined j (es ∷ rows) h = links_join j es (joined rows) (h 0 (omega arith)) (links_joined j rows (λ m lt. h (suc m) (omega (arith, lt))))
+
+pub out_all : (j : ℕ) (cs : List ℕ) → ((m : ℕ) → m < length cs → j ≢ get_or cs m 0) → IsOut j cs
+out_all j [] h = tt
+out_all j (c ∷ cs) h = (h 0 (omega arith), out_all j cs (λ m lt. h (suc m) (omega (arith, lt))))
+
+pub out_append_both : (j : ℕ) (xs ys : List ℕ) → IsOut j xs → IsOut j ys → IsOut j (xs ++ ys)
+out_append_both j [] ys h k = k
+out_append_both j (x ∷ xs) ys h k = (h.0, out_append_both j xs ys h.1 k)
+
 pub are_both : (xs ys zs : List ℕ) → AreOut (xs ++ ys) zs → AreOut xs zs × AreOut ys zs
 are_both [] ys zs h = (tt, h)
 are_both (x ∷ xs) ys zs h = let r = are_both xs ys zs h.1 in ((h.0, r.0), r.1)

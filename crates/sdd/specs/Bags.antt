@@ -59,6 +59,11 @@ abbrev pub AreOwn : {L : Type 0} → State L → List (Entry L) → Type 0
 AreOwn w [] = Unit {0}
 AreOwn w (e ∷ es) = (e.tag ≡ tag.None) × (status_at w e.slot ≡ status.Shared 1) × AreOwn w es
 
+-- clear entries with one owner that are in no list, none of them twice: each owner can be given back by itself
+abbrev pub AreSpare : {T : Type 0} → State (LinkedEntry T) → List (Entry (LinkedEntry T)) → Type 0
+AreSpare w [] = Unit {0}
+AreSpare w (e ∷ es) = IsLoose entry_link w e × IsOut e.slot (slots es) × AreSpare w es
+
 -- the cells of a bag
 abbrev pub bag_cells : {T : Type 0} {n : ℕ} → Bag T n → List ℕ
 bag_cells b = map shared_cell b.cells.items
@@ -121,7 +126,7 @@ pub record TakesOne {T : Type 0} (n : ℕ) (w' : State (LinkedEntry T)) (cs : Li
   pub clear : entry.tag ≡ tag.None
   pub owners : status_at w' entry.slot ≡ status.Shared 1
   pub rest : List (Entry (LinkedEntry T))
-  pub left : (Adds entry rest overflow × IsBag n w' cs primary rest × IsOut entry.slot (slots (rest ++ primary))) ⊎ ((overflow ≡ []) × Adds entry rest primary × IsBag n w' cs rest [] × IsOut entry.slot (slots rest))
+  pub left : (Adds entry rest overflow × IsBag n w' cs primary rest × IsOut entry.slot (slots (rest ++ primary)) × IsOut entry.link (cs ++ links (rest ++ primary))) ⊎ ((overflow ≡ []) × Adds entry rest primary × IsBag n w' cs rest [] × IsOut entry.slot (slots rest) × IsOut entry.link (cs ++ links rest))
 
 -- cells that were free keep nothing now, and all else is as it was
 abbrev pub IsClaimed : {L : Type 0} → State L → List ℕ → State L → Type 0

@@ -122,6 +122,11 @@ abbrev pub skip : {L : Type 0} → List (Entry L) → List (Entry L)
 skip [] = []
 skip (e ∷ es) = cond (deleted e.tag) (skip es) (e ∷ es)
 
+-- the tag of the cell behind the deleted entries at the front of a list, which hangs from a cell with tag t
+abbrev pub front_tag : {L : Type 0} → Tag → List (Entry L) → Tag
+front_tag t [] = t
+front_tag t (e ∷ es) = cond (deleted e.tag) (front_tag e.tag es) t
+
 -- a list begins with this item, whose link is this cell, and which is deleted or not
 pub record Begins {L : Type 0} (es : List (Entry L)) (item : L) (link : ℕ) (gone : Bool) : Type 0 where
   pub first : Entry L
@@ -132,11 +137,12 @@ pub record Begins {L : Type 0} (es : List (Entry L)) (item : L) (link : ℕ) (go
   pub gone_is : gone ≡ deleted first.tag
 
 -- deleted entries at the front of a list were passed, n of them, and the rest hangs from cell c
-pub record Skipped {L : Type 0} (link : L → Option ℕ) (w : State L) (es : List (Entry L)) (n c : ℕ) : Type 0 where
+pub record Skipped {L : Type 0} (link : L → Option ℕ) (w : State L) (t : Tag) (es : List (Entry L)) (n c : ℕ) : Type 0 where
   pub tag : Tag
   pub rest : List (Entry L)
   pub hung : IsHung link w c tag rest
   pub same : skip rest ≡ skip es
+  pub tags : front_tag tag rest ≡ front_tag t es
   pub passed : n + length rest ≡ length es
 
 -- n entries of a list were passed, m of them undeleted, and the rest hangs from cell c

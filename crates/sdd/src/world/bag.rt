@@ -6,7 +6,7 @@ ghost use Rattle.sdd_base.specs.Frame.{OnlyOf};
 ghost use Rattle.std.specs.List.{sum_by, FoldsTo};
 ghost use Rattle.sdd_base.specs.Tokens.{shared_slot};
 ghost use Rattle.sdd.specs.Chain.{Entry, Leaves, Stays, links, slots};
-ghost use Rattle.sdd.specs.Bags.{IsLength, IsBag, IsSomeBag, PutsPrimary, PutsOverflow, TakesOne, IsSameBag, CallsWith, AreOwn, AreFreeCells, bag_cells, into_cells};
+ghost use Rattle.sdd.specs.Bags.{IsLength, IsBag, IsSomeBag, PutsPrimary, PutsOverflow, TakesOne, IsSameBag, CallsWith, AreOwn, AreSpare, AreFreeCells, bag_cells, into_cells};
 ghost use Rattle.std.specs.Iterator.{Drains, YieldsThen, IsFiniteIterable};
 ghost use Rattle.sdd.specs.Fillings.{FillsBag, IfUnmade, IfNoSlot};
 ghost use Rattle.sdd.specs.declared.linked_entry.LinkedEntry.{LinkedEntry};
@@ -173,7 +173,7 @@ pub fn pop_all<T, J: Deferred, B, F: FnMut(B, Shared<LinkedEntry<T>>) -> B, cons
 ) -> B
     requires callable { F.IsAlwaysCallable f }
     requires list { IsSomeBag ARRAY_LEN w.old (bag_cells bag.now) }
-    ensures folded { (ps : List (Entry (LinkedEntry T))) (os : List (Entry (LinkedEntry T))) → IsBag ARRAY_LEN w.old (bag_cells bag.now) ps os → (es : List (Entry (LinkedEntry T))) × IsSameBag es (os ++ ps) × AreOwn w.new es × (last : F) × FoldsTo (CallsWith F.step) (init, f) es (result, last) }
+    ensures folded { (ps : List (Entry (LinkedEntry T))) (os : List (Entry (LinkedEntry T))) → IsBag ARRAY_LEN w.old (bag_cells bag.now) ps os → (es : List (Entry (LinkedEntry T))) × IsSameBag es (os ++ ps) × AreOwn w.new es × AreSpare w.new es × (last : F) × FoldsTo (CallsWith F.step) (init, f) es (result, last) }
     ensures emptied { IsBag ARRAY_LEN w.new (bag_cells bag.now) [] [] }
     ensures leaves { (ps : List (Entry (LinkedEntry T))) (os : List (Entry (LinkedEntry T))) → IsBag ARRAY_LEN w.old (bag_cells bag.now) ps os → Leaves (bag_cells bag.now ++ links (os ++ ps)) [] w.old w.new }
     ensures members { w.new.members ≡ w.old.members }

@@ -7,7 +7,7 @@ ghost use Rattle.sdd_base.specs.State.{State, IsFreeCell, cell_at, status_at, wi
 ghost use Rattle.sdd_base.specs.Frame.{OnlyOf};
 ghost use Rattle.sdd_base.specs.Place.{IsSharedCell};
 ghost use Rattle.sdd_base.specs.Tokens.{shared_cell, shared_slot, shared_slots, link_cell};
-ghost use Rattle.sdd.specs.Chain.{Entry, IsItem, IsHung, Hangs, HasLink, IsLoose, Fits, TookFirst, Leaves, Stays, CanHang, deleted, Begins, skip, undeleted, first_item, first_slot, links, slots, SameUses, MoreOwners, OneMore};
+ghost use Rattle.sdd.specs.Chain.{Entry, IsItem, IsHung, Hangs, HasLink, IsLoose, Fits, TookFirst, Leaves, Stays, CanHang, deleted, Begins, skip, undeleted, first_item, first_slot, front_tag, links, slots, SameUses, MoreOwners, OneMore};
 
 use crate::linked_list::LinkedList;
 use sdd_base::cell::AtomicShared;
@@ -138,7 +138,7 @@ pub(crate) fn skip_from<'w, L: LinkedList, J: Deferred>(
     cell: &'w AtomicShared<L>,
 ) -> &'w AtomicShared<L>
     requires { Hangs L.link w.now (shared_cell cell.now) }
-    ensures { (t : Tag) (es : List (Entry L)) → IsHung L.link w.now (shared_cell cell.now) t es → (u : Tag) × IsHung L.link w.now (shared_cell result.now) u (skip es) }
+    ensures { (t : Tag) (es : List (Entry L)) → IsHung L.link w.now (shared_cell cell.now) t es → (u : Tag) × IsHung L.link w.now (shared_cell result.now) u (skip es) × (u ≡ front_tag t es) }
 {
     let mut at = cell;
     for _passed in 0..w.slots_in_use() {

@@ -6,7 +6,7 @@ ghost use Rattle.sdd_base.specs.State.{cell_at, status_at, with_cell, with_statu
 ghost use Rattle.sdd_base.specs.Place.{IsShared};
 ghost use Rattle.sdd_base.specs.Steps.{released};
 ghost use Rattle.sdd_base.specs.declared.tag.Tag.{Tag};
-ghost use Rattle.sdd.specs.Chain.{Entry, IsHung, IsLoose, Leaves, Stays, deleted, undeleted, skip, first_slot};
+ghost use Rattle.sdd.specs.Chain.{Entry, IsHung, IsLoose, Leaves, Stays, deleted, undeleted, skip, first_slot, front_tag};
 ghost use Rattle.sdd.specs.Nodes.{IsNode, IsSomeNode, IsListed, CanInsert, Inserts, IsApart, Retags, clear, marked};
 
 use crate::linked_list::LinkedList;
@@ -191,6 +191,7 @@ pub fn next_ptr<L: LinkedList, J: Deferred>(
 ) -> Ptr<'static, L>
     requires { IsListed L.link w.now (ptr_slot at) }
     ensures next { (e : Entry L) (es : List (Entry L)) → IsNode L.link w.now (ptr_slot at.entry) e → IsHung L.link w.now e.link e.tag es → ptr_slot result ≡ first_slot (undeleted es) }
+    ensures tag { (e : Entry L) (es : List (Entry L)) → IsNode L.link w.now (ptr_slot at.entry) e → IsHung L.link w.now e.link e.tag es → ptr_tag result ≡ front_tag e.tag es }
     ensures node { IfSome (ptr_slot result) (λ i. IsSomeNode L.link w.now (Some i)) }
     ensures listed { IfSome (ptr_slot result) (λ i. IsListed L.link w.now (Some i)) }
 {

@@ -5,12 +5,12 @@ ghost use Rattle.sdd_base.specs.State.{status_at, IsFreeCell, NoneFree, NoCellFr
 ghost use Rattle.sdd_base.specs.Frame.{OnlyOf};
 ghost use Rattle.sdd_base.specs.Place.{IsShared};
 ghost use Rattle.sdd_base.specs.Steps.{released};
-ghost use Rattle.sdd_base.specs.Tokens.{shared_slot, ptr_slot};
+ghost use Rattle.sdd_base.specs.Tokens.{shared_slot, ptr_slot, ptr_tag};
 ghost use Rattle.sdd.specs.Nodes.{IsSomeNode, IsListed};
 ghost use Rattle.std.specs.Fn.{FnOnceReturnsAt};
 ghost use Rattle.std.specs.Option.{option_copied};
 ghost use Rattle.sdd.specs.Stacks.{taken};
-ghost use Rattle.sdd.specs.Chain.{Entry, Hangs, IsHung, Leaves, Stays, undeleted, first_item, first_slot, skip, links, slots};
+ghost use Rattle.sdd.specs.Chain.{Entry, Hangs, IsHung, Leaves, Stays, undeleted, first_item, first_slot, front_tag, skip, links, slots};
 ghost use Rattle.sdd.specs.Entries.{entry_link};
 ghost use Rattle.sdd.specs.Iters.{iter_cell};
 ghost use Rattle.std.specs.Iterator.{Drains, YieldsThen, IsFiniteIterable};
@@ -224,6 +224,7 @@ pub fn peek<T, J: Deferred>(
 ) -> Ptr<'static, LinkedEntry<T>>
     requires { IsSomeQueue entry_link w.now (oldest_cell queue.now) (newest_cell queue.now) }
     ensures first { (es : List (Entry (LinkedEntry T))) → IsQueue entry_link w.now (oldest_cell queue.now) (newest_cell queue.now) es → ptr_slot result ≡ first_slot (undeleted es) }
+    ensures tag { (es : List (Entry (LinkedEntry T))) → IsQueue entry_link w.now (oldest_cell queue.now) (newest_cell queue.now) es → ptr_tag result ≡ front_tag Tag.None es }
     ensures node { IfSome (ptr_slot result) (λ i. IsSomeNode entry_link w.now (Some i)) }
     ensures listed { IfSome (ptr_slot result) (λ i. IsListed entry_link w.now (Some i)) }
 {

@@ -5,11 +5,11 @@ ghost use Rattle.sdd_base.specs.State.{cell_at, status_at, IsFreeCell, NoneFree,
 ghost use Rattle.sdd_base.specs.Frame.{OnlyOf};
 ghost use Rattle.sdd_base.specs.Place.{IsShared};
 ghost use Rattle.sdd_base.specs.Steps.{released};
-ghost use Rattle.sdd_base.specs.Tokens.{link_cell, shared_slot, ptr_slot};
+ghost use Rattle.sdd_base.specs.Tokens.{link_cell, shared_slot, ptr_slot, ptr_tag};
 ghost use Rattle.sdd.specs.Nodes.{IsSomeNode, IsListed};
 ghost use Rattle.std.specs.Option.{option_copied};
 ghost use Rattle.std.specs.Fn.{FnOnceReturnsAt};
-ghost use Rattle.sdd.specs.Chain.{Entry, Hangs, IsHung, Leaves, Stays, undeleted, first_item, first_slot, skip, links, slots};
+ghost use Rattle.sdd.specs.Chain.{Entry, Hangs, IsHung, Leaves, Stays, undeleted, first_item, first_slot, front_tag, skip, links, slots};
 ghost use Rattle.sdd.specs.Entries.{entry_link};
 ghost use Rattle.sdd.specs.Iters.{iter_cell};
 ghost use Rattle.std.specs.Iterator.{Drains, YieldsThen, IsFiniteIterable};
@@ -211,6 +211,7 @@ pub fn peek<T, J: Deferred>(
 ) -> Ptr<'static, LinkedEntry<T>>
     requires { IsSomeStack w.now (stack_cell stack.now) }
     ensures first { (es : List (Entry (LinkedEntry T))) → IsStack w.now (stack_cell stack.now) es → ptr_slot result ≡ first_slot (undeleted es) }
+    ensures tag { (es : List (Entry (LinkedEntry T))) → IsStack w.now (stack_cell stack.now) es → ptr_tag result ≡ front_tag Tag.None es }
     ensures node { IfSome (ptr_slot result) (λ i. IsSomeNode entry_link w.now (Some i)) }
     ensures listed { IfSome (ptr_slot result) (λ i. IsListed entry_link w.now (Some i)) }
 {

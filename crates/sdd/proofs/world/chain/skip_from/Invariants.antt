@@ -7,5 +7,5 @@ use Rattle.sdd.proofs.world.chain.skip_from.Given as goal
 abbrev pub invariant-loop-passed : goal.invariant-loop-passed
 invariant-loop-passed g l = record {
   hangs : Hangs g.L.LinkedList.link l.w (shared_cell l.at);
-  skipped : (t : Tag) (es : List (Entry _)) → IsHung g.L.LinkedList.link l.w (shared_cell l.cell) t es → Skipped g.L.LinkedList.link l.w es l._passed (shared_cell l.at);
+  skipped : (t : Tag) (es : List (Entry _)) → IsHung g.L.LinkedList.link l.w (shared_cell l.cell) t es → Skipped g.L.LinkedList.link l.w t es l._passed (shared_cell l.at);
 }

@@ -3,7 +3,7 @@ use Rattle.sdd_base.specs.Tokens.{shared_cell}
 use Rattle.sdd_base.specs.declared.tag.Tag.TheVariants as tag
 use Rattle.sdd.specs.Entries.{entry_link}
 use Rattle.sdd.specs.Chain.{skip}
-use Rattle.sdd.proofs.Chains.{head_cell, kept_same}
+use Rattle.sdd.proofs.Chains.{head_cell, kept_same, kept_tag}
 use Rattle.sdd.proofs.Nodes.{hung_node, hung_listed}
 use Rattle.sdd.proofs.Fronts.{skipped_first}
 use Rattle.sdd.proofs.world.stack.peek.Goals as goal
@@ -21,3 +21,8 @@ returns-clause-node g c = let r = c.skip_from.ensures tag.None c.requires.entrie
 
 pub returns-clause-listed : goal.returns-clause-listed
 returns-clause-listed g c = let r = c.skip_from.ensures tag.None c.requires.entries c.requires.is in hung_listed entry_link c.args.w.now (shared_cell c.skip_from.result.now) r.0 _ (skip c.requires.entries) r.1 _ c.load.ensures
+
+pub returns-clause-tag : goal.returns-clause-tag
+returns-clause-tag g c = λ es h.
+    let r = c.skip_from.ensures tag.None es h in
+    kept_tag _ _ _ _ (sym c.load.ensures ∙ skipped_first entry_link c.args.w.now (shared_cell c.skip_from.result.now) r.0 es r.1) ∙ r.2
