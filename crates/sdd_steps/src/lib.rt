@@ -11,18 +11,10 @@ mod enabled;
 mod item;
 pub mod laws;
 mod listed;
-#[cfg(test)]
-mod moves;
 mod participant;
-#[cfg(test)]
-mod refusals;
-#[cfg(test)]
-mod schedules;
 mod snapshot;
 mod state;
 mod step;
-#[cfg(test)]
-mod tests;
 
 pub use item::{Cell, Fate, Item};
 pub use listed::Listed;

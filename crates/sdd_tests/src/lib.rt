@@ -3,3 +3,7 @@
 
 #[cfg(test)]
 mod base;
+#[cfg(test)]
+mod containers;
+#[cfg(test)]
+mod steps;

@@ -7,7 +7,8 @@ ghost use Rattle.sdd_base.specs.Place.{IsOpen, IsOwned, IsShared};
 ghost use Rattle.sdd_base.specs.Tokens.{owned_slot, participant_of, shared_slot};
 
 use sdd_base::{
-    AtomicOwned, AtomicRaw, AtomicShared, Holds, Owned, Shared, Sizes, World, WorldGuard, world,
+    AtomicOwned, AtomicRaw, AtomicShared, Deferred, Holds, Owned, Shared, Sizes, World, WorldGuard,
+    world,
 };
 use std::alloc::{AllocError, Global};
 use std::process::Abort;
@@ -28,7 +29,7 @@ pub(crate) fn numbers(alloc: Global, slots: usize, cells: usize) -> Result<World
 }
 
 /// Ends a world in which nothing is out.
-pub(crate) fn end<T: Holds, R: Abort>(rt: &R, w: World<T>) {
+pub(crate) fn end<T: Holds, J: Deferred, R: Abort>(rt: &R, w: World<T, J>) {
     match w.close() {
         Ok(()) => {}
         Err(_) => panic!(rt; "nothing is out"),
@@ -87,7 +88,11 @@ pub(crate) fn shared_item<R: Abort>(rt: &R, w: &mut World<u64>, value: u64) -> S
 }
 
 /// An open guard of participant `p`, where its nesting isn't at its end.
-pub(crate) fn guarded<T: Holds, R: Abort>(rt: &R, w: &mut World<T>, p: usize) -> WorldGuard
+pub(crate) fn guarded<T: Holds, J: Deferred, R: Abort>(
+    rt: &R,
+    w: &mut World<T, J>,
+    p: usize,
+) -> WorldGuard
     requires { p < length w.old.members }
     ensures guard { participant_of result ≡ p }
     ensures open { IsOpen w.new p }
@@ -101,7 +106,11 @@ pub(crate) fn guarded<T: Holds, R: Abort>(rt: &R, w: &mut World<T>, p: usize) ->
 }
 
 /// Closes a guard, which is open as each is that isn't closed.
-pub(crate) fn close<T: Holds, R: Abort>(rt: &R, w: &mut World<T>, guard: WorldGuard) {
+pub(crate) fn close<T: Holds, J: Deferred, R: Abort>(
+    rt: &R,
+    w: &mut World<T, J>,
+    guard: WorldGuard,
+) {
     if !world::guard::is_open(w, &guard) {
         panic!(rt; "the guard is open");
     }
@@ -109,7 +118,11 @@ pub(crate) fn close<T: Holds, R: Abort>(rt: &R, w: &mut World<T>, guard: WorldGu
 }
 
 /// Gives the owner of an item back, by participant 0.
-pub(crate) fn give_owned<T: Holds, R: Abort>(rt: &R, w: &mut World<T>, owned: Owned<T>) {
+pub(crate) fn give_owned<T: Holds, J: Deferred, R: Abort>(
+    rt: &R,
+    w: &mut World<T, J>,
+    owned: Owned<T>,
+) {
     if !world::owned::is_here(w, &owned) || w.participants() == 0 {
         panic!(rt; "its item is there");
     }
@@ -117,7 +130,11 @@ pub(crate) fn give_owned<T: Holds, R: Abort>(rt: &R, w: &mut World<T>, owned: Ow
 }
 
 /// Gives one of the owners of an item back, by participant 0.
-pub(crate) fn give_shared<T: Holds, R: Abort>(rt: &R, w: &mut World<T>, shared: Shared<T>) {
+pub(crate) fn give_shared<T: Holds, J: Deferred, R: Abort>(
+    rt: &R,
+    w: &mut World<T, J>,
+    shared: Shared<T>,
+) {
     if !world::shared::is_here(w, &shared) || w.participants() == 0 {
         panic!(rt; "its item is there");
     }
@@ -125,7 +142,11 @@ pub(crate) fn give_shared<T: Holds, R: Abort>(rt: &R, w: &mut World<T>, shared: 
 }
 
 /// Ends a cell, and gives back what it kept, by participant 0.
-pub(crate) fn end_owned_cell<T: Holds, R: Abort>(rt: &R, w: &mut World<T>, cell: AtomicOwned<T>) {
+pub(crate) fn end_owned_cell<T: Holds, J: Deferred, R: Abort>(
+    rt: &R,
+    w: &mut World<T, J>,
+    cell: AtomicOwned<T>,
+) {
     if !world::atomic_owned::is_here(w, &cell) || w.participants() == 0 {
         panic!(rt; "the cell is in use");
     }
@@ -133,7 +154,11 @@ pub(crate) fn end_owned_cell<T: Holds, R: Abort>(rt: &R, w: &mut World<T>, cell:
 }
 
 /// Ends a cell, and gives back what it kept, by participant 0.
-pub(crate) fn end_shared_cell<T: Holds, R: Abort>(rt: &R, w: &mut World<T>, cell: AtomicShared<T>) {
+pub(crate) fn end_shared_cell<T: Holds, J: Deferred, R: Abort>(
+    rt: &R,
+    w: &mut World<T, J>,
+    cell: AtomicShared<T>,
+) {
     if !world::atomic_shared::is_here(w, &cell) || w.participants() == 0 {
         panic!(rt; "the cell is in use");
     }
@@ -141,9 +166,49 @@ pub(crate) fn end_shared_cell<T: Holds, R: Abort>(rt: &R, w: &mut World<T>, cell
 }
 
 /// Ends a cell that owned nothing.
-pub(crate) fn end_raw_cell<T: Holds, R: Abort>(rt: &R, w: &mut World<T>, cell: AtomicRaw<T>) {
+pub(crate) fn end_raw_cell<T: Holds, J: Deferred, R: Abort>(
+    rt: &R,
+    w: &mut World<T, J>,
+    cell: AtomicRaw<T>,
+) {
     if !world::atomic_raw::is_here(w, &cell) {
         panic!(rt; "the cell is in use");
     }
     world::atomic_raw::end(w, cell);
+}
+
+/// Closes guards, the last one first.
+pub(crate) fn close_all<T: Holds, J: Deferred, R: Abort>(
+    rt: &R,
+    w: &mut World<T, J>,
+    mut guards: Vec<WorldGuard>,
+) {
+    while let Some(guard) = guards.pop() {
+        close(rt, w, guard);
+    }
+    guards.destroy_empty();
+}
+
+/// Gives the owners of items back, by participant 0.
+pub(crate) fn give_all_owned<T: Holds, J: Deferred, R: Abort>(
+    rt: &R,
+    w: &mut World<T, J>,
+    mut owned: Vec<Owned<T>>,
+) {
+    while let Some(sole) = owned.pop() {
+        give_owned(rt, w, sole);
+    }
+    owned.destroy_empty();
+}
+
+/// Gives owners of shared items back, by participant 0.
+pub(crate) fn give_all_shared<T: Holds, J: Deferred, R: Abort>(
+    rt: &R,
+    w: &mut World<T, J>,
+    mut shared: Vec<Shared<T>>,
+) {
+    while let Some(one) = shared.pop() {
+        give_shared(rt, w, one);
+    }
+    shared.destroy_empty();
 }

@@ -5,8 +5,8 @@ ghost use Rattle.sdd_base.specs.State.{fresh};
 ghost use Rattle.sdd_base.specs.Place.{IsShared};
 ghost use Rattle.sdd_base.specs.Tokens.{shared_slot};
 
-use crate::base::common::{end, pass};
-use sdd_base::{Held, Holds, Shared, Sizes, World, world};
+use crate::base::common::{close, end, guarded, pass, passes};
+use sdd_base::{Held, Holds, PrivateCollector, Shared, Sizes, World, world};
 use std::alloc::{AllocError, Global};
 use std::process::Abort;
 use std::test::Fail;
@@ -194,5 +194,62 @@ fn what_has_another_owner_stays(rt: HostRuntime) -> Result<(), Fail> {
     }
     assert!(rt; last && seven && end);
     assert_eq!(rt; used, 1);
+    Ok(())
+}
+
+/// Collects an owner under an accelerated guard of participant 0, and answers whether it was the last.
+fn collected<R: Abort>(
+    rt: &R,
+    w: &mut World<Item>,
+    collector: &mut PrivateCollector<Item>,
+    shared: Shared<Item>,
+) -> bool {
+    if w.participants() == 0 {
+        panic!(rt; "there is a participant");
+    }
+    let guard = guarded(rt, w, 0);
+    if !world::shared::is_here(w, &shared) {
+        panic!(rt; "its item is there");
+    }
+    let last = world::private_collector::collect_shared(w, collector, shared, &guard);
+    if !world::guard::is_open(w, &guard) {
+        panic!(rt; "the guard is open");
+    }
+    world::guard::accelerate(w, &guard);
+    close(rt, w, guard);
+    last
+}
+
+/// The directory has the other owner of its segment. It is overdue when the segment is collected, and reclaimed first, so
+/// the owner that is collected then is the last one.
+#[test]
+fn a_collect_reclaims_what_is_overdue_first(rt: HostRuntime) -> Result<(), Fail> {
+    let mut w = match items(rt.alloc(), 2) {
+        Ok(w) => w,
+        Err(e) => return Err(e.into()),
+    };
+    let Ok(mut collector) = world::private_collector::new(rt.alloc(), &w) else {
+        panic!(rt; "memory is ample");
+    };
+    let held = segment(&rt, &mut w, 7);
+    let Some(other) = world::shared::clone(&mut w, &held) else {
+        panic!(rt; "few owners are out");
+    };
+    let top = directory(&rt, rt.alloc(), &mut w, held);
+    let first = collected(&rt, &mut w, &mut collector, top);
+    if w.participants() == 0 {
+        panic!(rt; "there is a participant");
+    }
+    let passed = passes(&mut w, 0, 2);
+    let before = w.slots_in_use();
+    let second = collected(&rt, &mut w, &mut collector, other);
+    let after = w.slots_in_use();
+    if w.participants() == 0 {
+        panic!(rt; "there is a participant");
+    }
+    world::private_collector::hand_over(&mut w, collector, 0);
+    end(&rt, w);
+    assert_eq!(rt; (first, passed, second), (true, true, true));
+    assert_eq!(rt; (before, after), (2, 1));
     Ok(())
 }

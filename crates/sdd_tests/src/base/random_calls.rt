@@ -1,7 +1,7 @@
 //! Random lists of calls, beside a plain model of what a place should do: an item that nobody owns any more has an age,
 //! which rises where its retirer's outermost opening finds another count, and its slot is free at age three.
 
-use crate::base::common::{close, end};
+use crate::base::common::{close_all, end, give_all_owned, give_all_shared};
 use sdd_base::{
     AtomicShared, Owned, PrivateCollector, Ptr, Shared, Sizes, Tag, World, WorldGuard, world,
 };
@@ -601,36 +601,6 @@ fn step<R: Abort>(
     }
 }
 
-fn close_all<R: Abort>(rt: &R, w: &mut World<u64>, mut guards: Vec<WorldGuard>) {
-    while let Some(guard) = guards.pop() {
-        if !world::guard::is_open(w, &guard) {
-            panic!(rt; "a guard in hand is open");
-        }
-        world::guard::close(w, guard);
-    }
-    guards.destroy_empty();
-}
-
-fn retire_all<R: Abort>(rt: &R, w: &mut World<u64>, mut owned: Vec<Owned<u64>>) {
-    while let Some(sole) = owned.pop() {
-        if !world::owned::is_here(w, &sole) || w.participants() == 0 {
-            panic!(rt; "an owner's item is there");
-        }
-        world::owned::retire(w, sole, 0);
-    }
-    owned.destroy_empty();
-}
-
-fn release_all<R: Abort>(rt: &R, w: &mut World<u64>, mut shared: Vec<Shared<u64>>) {
-    while let Some(one) = shared.pop() {
-        if !world::shared::is_here(w, &one) || w.participants() == 0 {
-            panic!(rt; "an owner's item is there");
-        }
-        world::shared::release(w, one, 0);
-    }
-    shared.destroy_empty();
-}
-
 /// Everything in hand is given back, by participant 0.
 fn spend<R: Abort>(rt: &R, w: &mut World<u64>, hand: Hand, cell: AtomicShared<u64>) {
     let Hand {
@@ -642,8 +612,8 @@ fn spend<R: Abort>(rt: &R, w: &mut World<u64>, hand: Hand, cell: AtomicShared<u6
         next: _,
     } = hand;
     close_all(rt, w, guards);
-    retire_all(rt, w, owned);
-    release_all(rt, w, shared);
+    give_all_owned(rt, w, owned);
+    give_all_shared(rt, w, shared);
     if !world::atomic_shared::is_here(w, &cell) || w.participants() == 0 {
         panic!(rt; "the cell is in use");
     }

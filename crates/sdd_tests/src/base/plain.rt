@@ -1,0 +1,62 @@
+//! Values that hold nothing, as items.
+
+use sdd_base::{Holds, NoJob, Plain, Sizes, World, world};
+use std::alloc::Global;
+use std::process::Abort;
+use std::test::Fail;
+
+/// Keeps a value in a place of its own, gives it back, and ends the place; answers how many slots the item took.
+fn kept<T: Holds, R: Abort>(rt: &R, alloc: Global, value: T) -> usize {
+    let sizes = Sizes {
+        participants: 1,
+        slots: 1,
+        cells: 0,
+        jobs: 0,
+    };
+    let mut w: World<T, NoJob> = match World::new(alloc, sizes) {
+        Ok(w) => w,
+        Err(_) => panic!(rt; "memory is ample"),
+    };
+    let owned = match world::owned::new(&mut w, value) {
+        Ok(owned) => owned,
+        Err(_) => panic!(rt; "a slot is free"),
+    };
+    world::owned::retire(&mut w, owned, 0);
+    let used = w.slots_in_use();
+    match w.close() {
+        Ok(()) => used,
+        Err(_) => panic!(rt; "nothing is out"),
+    }
+}
+
+#[test]
+fn numbers_are_items(rt: HostRuntime) -> Result<(), Fail> {
+    let alloc = rt.alloc();
+    assert_eq!(rt; kept(&rt, alloc, 1u8), 1);
+    assert_eq!(rt; kept(&rt, alloc, 1u16), 1);
+    assert_eq!(rt; kept(&rt, alloc, 1u32), 1);
+    assert_eq!(rt; kept(&rt, alloc, 1u64), 1);
+    assert_eq!(rt; kept(&rt, alloc, 1u128), 1);
+    assert_eq!(rt; kept(&rt, alloc, 1usize), 1);
+    assert_eq!(rt; kept(&rt, alloc, -1i8), 1);
+    assert_eq!(rt; kept(&rt, alloc, -1i16), 1);
+    assert_eq!(rt; kept(&rt, alloc, -1i32), 1);
+    assert_eq!(rt; kept(&rt, alloc, -1i64), 1);
+    assert_eq!(rt; kept(&rt, alloc, -1i128), 1);
+    assert_eq!(rt; kept(&rt, alloc, -1isize), 1);
+    Ok(())
+}
+
+#[test]
+fn text_and_any_plain_value_are_items(rt: HostRuntime) -> Result<(), Fail> {
+    let alloc = rt.alloc();
+    let number = 7;
+    let text = format!(in alloc; "item {number}")?;
+    let mut row = Vec::new(alloc);
+    row.push(number)?;
+    assert_eq!(rt; kept(&rt, alloc, true), 1);
+    assert_eq!(rt; kept(&rt, alloc, 'a'), 1);
+    assert_eq!(rt; kept(&rt, alloc, text), 1);
+    assert_eq!(rt; kept(&rt, alloc, Plain { value: row }), 1);
+    Ok(())
+}

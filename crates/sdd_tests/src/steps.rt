@@ -1,0 +1,7 @@
+//! Tests of single steps.
+
+mod common;
+mod large;
+mod refusals;
+mod refused_steps;
+mod schedules;
