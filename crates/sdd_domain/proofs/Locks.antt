@@ -1,0 +1,79 @@
+-- taking and giving back the scan lock keep the rule of the table
+use Rattle.std.proofs.Common.{◌≡◌, ◌≢◌, ℕ, ◌+◌, ◌*◌, ◌<◌, ◌≤◌, eqb, eq-eqb, ne_eqb, length, get_or, set, sym, refl, ◌∙◌, subst, arith, length-set, get_or-set_other, get_or-set_same}
+use mathlib.Core.Logic.{dite}
+use mathlib.Core.Option.{some}
+use native.Mathlib.Decide.{ℕ_discrete}
+use lib.ListN.{get_elem?}
+use prog.Atomic.{either}
+use Rattle.atomic_table.specs.Table.{State, Me, step, keeps, Allows}
+use Rattle.sdd_base.specs.declared.sizes.Sizes.{Sizes}
+use Rattle.sdd_steps.proofs.Lists.{set_all, at_inside}
+use Rattle.sdd_domain.specs.Layout.{state_word, claim_word, lock_word}
+use Rattle.sdd_domain.specs.Rule.{Acts, Shows}
+use Rattle.sdd_domain.specs.Plays.{lock_then, unlock_then}
+use Rattle.sdd_domain.specs.declared.board.Acting.{Acting}
+use Rattle.sdd_domain.proofs.Moves.{idles}
+
+module _ (S : Type 0) (sizes : Sizes) where
+  -- the lock changes hands: nobody else has it
+  turns : (s : State S Acting) (r : Shows sizes s) (v id st : ℕ) (d : Acting) → get_elem? s.views id ≡ some d → d.kind ≡ 1 → st < 2 → (0 < st → v ≡ 1)
+      → ((j : ℕ) (e : Acting) → j ≢ id → get_elem? s.views j ≡ some e → e.kind ≡ 1 → e.scan ≡ 0)
+      → Shows sizes record { words = set s.words lock_word v; homes = s.homes; views = set s.views id (record d { scan = st }) }
+  turns s r v id st d at kind small one alone = let o = r.epochs in let a = o.seats id d at kind in let wide = o.wide in let many = o.many in let inside = at_inside r.state.participants d.number d.known a.is in record {
+    state = r.state;
+    kept = r.kept;
+    born = r.born;
+    bounded = r.bounded;
+    epochs = record {
+      seat_of = o.seat_of;
+      scanner = id;
+      wide = subst (λ n. 8 * sizes.participants + 16 ≤ n) (sym (length-set s.words 8 v)) wide;
+      many = many;
+      count_is = get_or-set_other s.words 8 0 v 0 (λ e. omega arith) ∙ o.count_is;
+      states = λ q y at_q. get_or-set_other s.words 8 (state_word q) v 0 (λ e. omega arith) ∙ o.states q y at_q;
+      free = λ q y at_q none. o.free q y at_q (sym (get_or-set_other s.words 8 (claim_word q) v 0 (λ e. omega arith)) ∙ none);
+      seats = λ j z at_j k. set_all (λ j' z'. z'.kind ≡ 1 → Acts r.state.participants r.state.count r.born (set s.words 8 v) o.seat_of id j' z') s.views id (record d { scan = st })
+          (λ _. record {
+            is = a.is;
+            seated = a.seated;
+            claimed = get_or-set_other s.words 8 (claim_word d.number) v 0 (λ e. omega arith) ∙ a.claimed;
+            locked = λ more. (get_or-set_same s.words 8 v 0 (omega arith) ∙ one more, refl);
+            present = λ more. absurd (omega arith);
+            begun = a.begun;
+            still = a.still;
+          })
+          (λ j' z' apart here kind'. let b = o.seats j' z' here kind' in let none = alone j' z' apart here kind' in record {
+            is = b.is;
+            seated = b.seated;
+            claimed = get_or-set_other s.words 8 (claim_word z'.number) v 0 (λ e. omega arith) ∙ b.claimed;
+            locked = λ more. absurd (omega arith);
+            present = λ more. absurd (omega arith);
+            begun = b.begun;
+            still = b.still;
+          }) j z at_j k;
+    };
+  }
+
+  pub locks : (slots id : ℕ) (me : Me S Acting) → me.0.kind ≡ 1 → me.0.scan ≡ 0
+      → Allows (Shows sizes) slots id me lock_word (λ k. either (eqb k 0) 1 k) (lock_then (step slots lock_word 0 1 mathlib.Core.Option.none) me)
+  locks slots id me kind still s r _ at _ = let d = me.0 in let k : ℕ = get_or s.words 8 0 in dite (ℕ_discrete k 0)
+      (λ none. (
+        record d { scan = 1 },
+        keeps,
+        tt,
+        subst (λ b. Shows sizes record { words = set s.words 8 (either b 1 k); homes = s.homes; views = set s.views id (record d { scan = 1 }) }) (sym (eq-eqb k 0 none))
+            (turns s r 1 id 1 d at kind (omega arith) (λ _. refl) (λ j e apart here kind'. let b = r.epochs.seats j e here kind' in dite (ℕ_discrete e.scan 0) (λ z. z) (λ z. let l = (b.locked (omega arith)).0 in absurd (omega arith)))),
+        ((λ _. refl), λ h. absurd (h none)),
+      ))
+      (λ taken. (d, keeps, tt, subst (λ b. Shows sizes record { words = set s.words 8 (either b 1 k); homes = s.homes; views = set s.views id d }) (sym (ne_eqb k 0 taken)) (idles S sizes s r 8 id d at), ((λ h. absurd (taken h)), λ _. refl)))
+
+  pub unlocks : (slots id : ℕ) (me : Me S Acting) → me.0.kind ≡ 1 → 0 < me.0.scan
+      → Allows (Shows sizes) slots id me lock_word (λ _. 0) (λ _. unlock_then (step slots lock_word 0 0 mathlib.Core.Option.none) me 0)
+  unlocks slots id me kind mine s r _ at _ = let d = me.0 in let a = r.epochs.seats id d at kind in let l = a.locked mine in (
+    record d { scan = 0 },
+    keeps,
+    tt,
+    turns s r 0 id 0 d at kind (omega arith) (λ more. absurd (omega arith))
+        (λ j e apart here kind'. let b = r.epochs.seats j e here kind' in dite (ℕ_discrete e.scan 0) (λ z. z) (λ z. absurd (apart (sym (b.locked (omega arith)).1 ∙ l.1)))),
+    refl,
+  )

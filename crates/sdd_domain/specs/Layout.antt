@@ -1,0 +1,32 @@
+-- where the words of a shared place lie: hot words of different threads are eight words apart
+use Rattle.std.specs.Prelude.{◌≡◌, ℕ, ◌+◌, ◌-◌, ◌*◌, ◌^◌, ◌<◌, ◌≤◌, min}
+use Rattle.sdd_base.specs.declared.sizes.Sizes.{Sizes}
+use Rattle.sdd_steps.specs.declared.participant.Phase.{Phase}
+use Rattle.sdd_steps.specs.declared.participant.Phase.TheVariants.{Idle, HasRead, Opened}
+
+-- the count of raises, and the lock of scans
+abbrev pub count_word : ℕ
+count_word = 0
+
+abbrev pub lock_word : ℕ
+lock_word = 8
+
+-- what a participant has published, and whether somebody acts for it
+abbrev pub state_word : ℕ → ℕ
+state_word p = 8 * p + 16
+
+abbrev pub claim_word : ℕ → ℕ
+claim_word p = 8 * p + 17
+
+-- how many words the epochs of n participants take
+abbrev pub epoch_words : ℕ → ℕ
+epoch_words n = 8 * n + 16
+
+-- The whole count is published. The last two counts share a word: the last one is published only where no raise follows.
+abbrev pub shown : Phase → ℕ
+shown Idle = 0
+shown (HasRead e) = 0
+shown (Opened e) = min (e + 1) (2 ^ 64 - 1)
+
+abbrev pub IsSized : Sizes → Type 0
+IsSized sizes = (1 ≤ sizes.participants) × (sizes.participants ≤ 2 ^ 30) × (sizes.slots ≤ 2 ^ 30) × (sizes.cells ≤ 2 ^ 30) × (sizes.jobs ≤ 2 ^ 30)

@@ -1,0 +1,4 @@
+pub mod Views
+pub mod Layout
+pub mod Rule
+pub mod Plays

@@ -1,0 +1,49 @@
+-- The rule of the table of a shared place: its words and views show a state of the single steps that meets their invariant.
+use Rattle.std.specs.Prelude.{◌≡◌, ℕ, ◌+◌, ◌*◌, ◌<◌, ◌≤◌, List, length, slice_index}
+use mathlib.Core.Option.{some}
+use lib.ListN.{get_elem?}
+use Rattle.atomic_table.specs.Table.{State}
+use Rattle.sdd_base.specs.declared.sizes.Sizes.{Sizes}
+use Rattle.sdd_steps.specs.declared.participant.Phase.TheVariants.{Idle, Opened}
+use Rattle.sdd_steps.specs.declared.participant.Participant.{Participant}
+use Rattle.sdd_steps.specs.State.{At, Has, newcomer}
+use Rattle.sdd_steps.specs.State as steps
+use Rattle.sdd_steps.specs.Kept.{Inv}
+use Rattle.sdd_domain.specs.Views.{rested}
+use Rattle.sdd_domain.specs.Layout.{count_word, lock_word, state_word, claim_word, epoch_words, shown}
+use Rattle.sdd_domain.specs.declared.board.Acting.{Acting}
+
+-- What stands of the seat j, which acts for a participant. `born` is the count at each publication, and `scanner` the seat that has the scan lock.
+module _ (participants : List Participant) (count : ℕ) (born : ℕ → ℕ) (words : List ℕ) (seat_of : ℕ → ℕ) (scanner : ℕ) (j : ℕ) where
+  pub record Acts (d : Acting) : Type 0 where
+    pub is : At participants d.number d.known
+    pub seated : seat_of d.number ≡ j
+    pub claimed : slice_index words (claim_word d.number) ≡ 1
+    pub locked : 0 < d.scan → (slice_index words lock_word ≡ 1) × (scanner ≡ j)
+    pub present : 1 < d.scan → d.known.phase ≡ Opened count
+    pub begun : (e : ℕ) → d.known.phase ≡ Opened e → d.born ≡ born d.number
+    pub still : d.known.phase ≡ Idle → d.known ≡ rested d.known.found
+
+-- While a guard is open the count is raised at most once since its publication; who was looked at under the present count, and has an open guard, published at that count.
+pub record Bounded (participants : List Participant) (count : ℕ) (born : ℕ → ℕ) : Type 0 where
+  pub inside : (p : ℕ) (x : Participant) (e : ℕ) → At participants p x → x.phase ≡ Opened e → (e ≤ born p) × (born p ≤ count) × (count ≤ born p + 1)
+  pub looks : (q : ℕ) (x : Participant) (p : ℕ) (y : Participant) (e : ℕ) → At participants q x → x.phase ≡ Opened count → Has x.looked p → At participants p y → y.phase ≡ Opened e → count ≤ born p
+
+-- the words and views of the epochs, for n participants
+pub record Epochs (n : ℕ) (state : steps.State) (born : ℕ → ℕ) (words : List ℕ) (views : List Acting) : Type 0 where
+  pub seat_of : ℕ → ℕ
+  pub scanner : ℕ
+  pub wide : epoch_words n ≤ length words
+  pub many : length state.participants ≡ n
+  pub count_is : slice_index words count_word ≡ state.count
+  pub states : (p : ℕ) (x : Participant) → At state.participants p x → slice_index words (state_word p) ≡ shown x.phase
+  pub free : (p : ℕ) (x : Participant) → At state.participants p x → slice_index words (claim_word p) ≡ 0 → x ≡ newcomer
+  pub seats : (j : ℕ) (d : Acting) → get_elem? views j ≡ some d → d.kind ≡ 1 → Acts state.participants state.count born words seat_of scanner j d
+
+-- Between any two steps: a state of the single steps meets their invariant, and the words and views show it.
+pub record Shows {S : Type 0} (sizes : Sizes) (s : State S Acting) : Type 0 where
+  pub state : steps.State
+  pub kept : Inv state
+  pub born : ℕ → ℕ
+  pub bounded : Bounded state.participants state.count born
+  pub epochs : Epochs sizes.participants state born s.words s.views

@@ -1,0 +1,50 @@
+//! A scan: whether the count may be raised, and its raise.
+
+ghost use Rattle.std.specs.Prelude.{◌≡◌, ◌≢◌, ℕ, ◌+◌, ◌*◌, ◌-◌, ◌^◌, ◌<◌, ◌≤◌, IsTrue};
+ghost use Rattle.sdd_steps.specs.State.{Has};
+ghost use Rattle.sdd_domain.specs.Layout.{epoch_words};
+ghost use Rattle.sdd_domain.specs.Plays.{Scans};
+
+use crate::board::{Place, Words};
+use crate::steps::{give_lock, is_present, look, raise, take_lock};
+
+/// Whether each other participant is closed or has published the count `epoch`. It stops at the first that isn't.
+fn all_agree(
+    words: &Words,
+    place: &mut Place,
+    number: usize,
+    participants: usize,
+    epoch: u64,
+) -> bool
+    requires table { (place.old.table_id ≡ words.now.table_id) × (words.now.key.participants ≡ participants) × (epoch_words participants ≤ words.now.table_id.words) × (participants ≤ 2 ^ 30) }
+    requires open { Scans place.old number epoch 2 }
+    requires below { epoch < 2 ^ 64 - 1 }
+    ensures seat { (place.new.table_id ≡ place.old.table_id) × (place.new.id ≡ place.old.id) × (place.new.me.0.born ≡ place.old.me.0.born) × (place.new.me.1 ≡ place.old.me.1) × Scans place.new number epoch 2 }
+    ensures noted { IsTrue result → (q : ℕ) → q < participants → q ≢ number → Has place.new.me.0.known.looked q }
+{
+    for other in 0..participants {
+        if other != number && !look(words, place, number, other, epoch) {
+            return false;
+        }
+    }
+    true
+}
+
+/// A scan of participant `number`, whose guard is open with the count `epoch`. It tries once for the scan lock, and
+/// raises the count by one only where that is the present one, and each other participant is closed or has published
+/// it. A count of `2^64 - 1` isn't raised.
+pub(crate) fn scan(words: &Words, place: &mut Place, number: usize, participants: usize, epoch: u64)
+    requires table { (place.old.table_id ≡ words.now.table_id) × (words.now.key.participants ≡ participants) × (epoch_words participants ≤ words.now.table_id.words) × (participants ≤ 2 ^ 30) }
+    requires open { Scans place.old number epoch 0 }
+    ensures { (place.new.table_id ≡ place.old.table_id) × (place.new.id ≡ place.old.id) × (place.new.me.0.born ≡ place.old.me.0.born) × (place.new.me.1 ≡ place.old.me.1) × Scans place.new number epoch 0 }
+{
+    if epoch == u64::MAX || !take_lock(words, place, number, epoch) {
+        return;
+    }
+    if is_present(words, place, number, epoch)
+        && all_agree(words, place, number, participants, epoch)
+    {
+        raise(words, place, number, epoch);
+    }
+    give_lock(words, place, number, epoch);
+}

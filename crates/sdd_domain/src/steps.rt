@@ -1,0 +1,246 @@
+//! The single steps of a participant on the words of a place: each is one operation on one word.
+
+ghost use Rattle.std.specs.Prelude.{◌≡◌, ◌≢◌, ◌⊎◌, ℕ, ◌+◌, ◌-◌, ◌*◌, ◌^◌, ◌<◌, ◌≤◌, [], IsTrue, IsFalse, MatchBool};
+ghost use Rattle.sdd_steps.specs.State.{Has};
+ghost use Rattle.sdd_steps.specs.declared.participant.Phase.TheVariants.{Idle, HasRead, Opened};
+ghost use Rattle.sdd_domain.specs.Views.{spent, registered, reading, publishing, looking, closing};
+ghost use Rattle.sdd_domain.specs.Layout.{count_word, lock_word, state_word, claim_word, epoch_words, shown};
+ghost use Rattle.sdd_domain.specs.Plays.{read_then, publish_then, count_then, look_then, agree_then, raise_then, close_then, lock_then, unlock_then, sit_then, claim_then, end_then, Scans};
+
+use crate::board::{Acting, Place, Words};
+use atomic_table::Play;
+
+/// The word of the count of raises.
+const COUNT: usize = 0;
+
+/// The word of the scan lock.
+const LOCK: usize = 8;
+
+/// Each participant has eight words, of which it uses two, so that what it publishes has a cache line of its own.
+const STRIDE: usize = 8;
+
+/// Where the first participant publishes.
+const STATE: usize = 16;
+
+/// Where it stands whether somebody acts for the first participant.
+const CLAIM: usize = 17;
+
+struct OnRead;
+
+impl Play<(), Acting> for OnRead {
+    ghost then = { read_then };
+}
+
+struct OnPublish;
+
+impl Play<(), Acting> for OnPublish {
+    ghost then = { publish_then };
+}
+
+struct OnCount;
+
+impl Play<(), Acting> for OnCount {
+    ghost then = { count_then };
+}
+
+struct OnLook;
+
+impl Play<(), Acting> for OnLook {
+    ghost then = { look_then };
+}
+
+struct OnAgree;
+
+impl Play<(), Acting> for OnAgree {
+    ghost then = { agree_then };
+}
+
+struct OnRaise;
+
+impl Play<(), Acting> for OnRaise {
+    ghost then = { raise_then };
+}
+
+struct OnClose;
+
+impl Play<(), Acting> for OnClose {
+    ghost then = { close_then };
+}
+
+struct OnLock;
+
+impl Play<(), Acting> for OnLock {
+    ghost then = { lock_then };
+}
+
+struct OnUnlock;
+
+impl Play<(), Acting> for OnUnlock {
+    ghost then = { unlock_then };
+}
+
+struct OnSit;
+
+impl Play<(), Acting> for OnSit {
+    ghost then = { sit_then };
+}
+
+struct OnClaim;
+
+impl Play<(), Acting> for OnClaim {
+    ghost then = { claim_then };
+}
+
+struct OnEnd;
+
+impl Play<(), Acting> for OnEnd {
+    ghost then = { end_then };
+}
+
+/// The word of an open guard that published the count `epoch`.
+fn word_of(epoch: u64) -> u64
+    ensures { result ≡ shown (Opened epoch) }
+{
+    if epoch == u64::MAX { epoch } else { epoch + 1 }
+}
+
+/// A new seat, which acts for nobody.
+pub(crate) fn sit(words: &Words) -> Place
+    requires { 0 < words.now.table_id.words }
+    ensures { (result.table_id ≡ words.now.table_id) × (result.me.0 ≡ spent) × (result.me.1 ≡ []) }
+{
+    let (_, place) = words.load_new_seat::<OnSit>(COUNT);
+    place
+}
+
+/// Tries once to act for participant `number`.
+pub(crate) fn claim(words: &Words, place: &mut Place, number: usize) -> bool
+    requires table { (place.old.table_id ≡ words.now.table_id) × (number < words.now.key.participants) × (epoch_words words.now.key.participants ≤ words.now.table_id.words) × (words.now.key.participants ≤ 2 ^ 30) }
+    requires nobody { place.old.me.0.kind ≡ 0 }
+    ensures seat { (place.new.table_id ≡ place.old.table_id) × (place.new.id ≡ place.old.id) }
+    ensures claimed { IsTrue result → place.new.me ≡ (registered number, place.old.me.1) }
+    ensures refused { IsFalse result → place.new.me ≡ place.old.me }
+{
+    words.compare_exchange::<OnClaim>(place, STRIDE * number + CLAIM, 0, 1) == 0
+}
+
+/// Ends what the seat does for participant `number`, which somebody else may act for from now on.
+pub(crate) fn end(words: &Words, place: &mut Place, number: usize)
+    requires table { (place.old.table_id ≡ words.now.table_id) × (number < words.now.key.participants) × (epoch_words words.now.key.participants ≤ words.now.table_id.words) × (words.now.key.participants ≤ 2 ^ 30) }
+    requires rests { (place.old.me.0.kind ≡ 1) × (place.old.me.0.number ≡ number) × (place.old.me.0.known.phase ≡ Idle) × (place.old.me.0.scan ≡ 0) }
+    ensures { (place.new.table_id ≡ place.old.table_id) × (place.new.id ≡ place.old.id) × (place.new.me ≡ (spent, place.old.me.1)) }
+{
+    words.store::<OnEnd>(place, STRIDE * number + CLAIM, 0);
+}
+
+/// Reads the count of raises, for an opening.
+pub(crate) fn read_count(words: &Words, place: &mut Place) -> u64
+    requires table { (place.old.table_id ≡ words.now.table_id) × (0 < words.now.table_id.words) }
+    requires closed { (place.old.me.0.kind ≡ 1) × (place.old.me.0.known.phase ≡ Idle) × (place.old.me.0.scan ≡ 0) }
+    ensures { (place.new.table_id ≡ place.old.table_id) × (place.new.id ≡ place.old.id) × (place.new.me ≡ (record place.old.me.0 { known = reading result place.old.me.0.known }, place.old.me.1)) }
+{
+    words.load::<OnRead>(place, COUNT)
+}
+
+/// Publishes the count that was read, and with it does the rotation that is due.
+pub(crate) fn publish(words: &Words, place: &mut Place, number: usize, epoch: u64)
+    requires table { (place.old.table_id ≡ words.now.table_id) × (number < words.now.key.participants) × (epoch_words words.now.key.participants ≤ words.now.table_id.words) × (words.now.key.participants ≤ 2 ^ 30) }
+    requires read { (place.old.me.0.kind ≡ 1) × (place.old.me.0.number ≡ number) × (place.old.me.0.known.phase ≡ HasRead epoch) × (place.old.me.0.scan ≡ 0) }
+    ensures seat { (place.new.table_id ≡ place.old.table_id) × (place.new.id ≡ place.old.id) }
+    ensures published { (b : ℕ) × (epoch ≤ b) × (place.new.me ≡ (record place.old.me.0 { known = publishing epoch place.old.me.0.known; born = b }, place.old.me.1)) }
+{
+    words.store::<OnPublish>(place, STRIDE * number + STATE, word_of(epoch));
+}
+
+/// Reads the count of raises under an open guard.
+pub(crate) fn count_under(words: &Words, place: &mut Place, epoch: u64) -> u64
+    requires table { (place.old.table_id ≡ words.now.table_id) × (0 < words.now.table_id.words) }
+    requires open { (place.old.me.0.kind ≡ 1) × (place.old.me.0.known.phase ≡ Opened epoch) }
+    ensures seat { (place.new.table_id ≡ place.old.table_id) × (place.new.id ≡ place.old.id) × (place.new.me ≡ place.old.me) }
+    ensures least { place.old.me.0.born ≤ result }
+    ensures most { result ≤ place.old.me.0.born + 1 }
+{
+    words.load::<OnCount>(place, COUNT)
+}
+
+/// Closes the guard of participant `number`.
+pub(crate) fn close(words: &Words, place: &mut Place, number: usize, epoch: u64)
+    requires table { (place.old.table_id ≡ words.now.table_id) × (number < words.now.key.participants) × (epoch_words words.now.key.participants ≤ words.now.table_id.words) × (words.now.key.participants ≤ 2 ^ 30) }
+    requires open { Scans place.old number epoch 0 }
+    ensures { (place.new.table_id ≡ place.old.table_id) × (place.new.id ≡ place.old.id) × (place.new.me ≡ (record place.old.me.0 { known = closing place.old.me.0.known }, place.old.me.1)) }
+{
+    words.store::<OnClose>(place, STRIDE * number + STATE, 0);
+}
+
+/// Tries once for the scan lock.
+pub(crate) fn take_lock(words: &Words, place: &mut Place, number: usize, epoch: u64) -> bool
+    requires { (place.old.table_id ≡ words.now.table_id) × (lock_word < words.now.table_id.words) × Scans place.old number epoch 0 }
+    ensures seat { (place.new.table_id ≡ place.old.table_id) × (place.new.id ≡ place.old.id) × (place.new.me.0.born ≡ place.old.me.0.born) × (place.new.me.1 ≡ place.old.me.1) }
+    ensures stage { MatchBool result (Scans place.new number epoch 1) (Scans place.new number epoch 0) }
+{
+    words.compare_exchange::<OnLock>(place, LOCK, 0, 1) == 0
+}
+
+/// Whether the count is still the published one, under the scan lock.
+pub(crate) fn is_present(words: &Words, place: &mut Place, number: usize, epoch: u64) -> bool
+    requires { (place.old.table_id ≡ words.now.table_id) × (0 < words.now.table_id.words) × Scans place.old number epoch 1 }
+    ensures seat { (place.new.table_id ≡ place.old.table_id) × (place.new.id ≡ place.old.id) × (place.new.me.0.born ≡ place.old.me.0.born) × (place.new.me.1 ≡ place.old.me.1) }
+    ensures stage { MatchBool result (Scans place.new number epoch 2) (Scans place.new number epoch 1) }
+{
+    words.load::<OnAgree>(place, COUNT) == epoch
+}
+
+/// Gives the scan lock back.
+pub(crate) fn give_lock(words: &Words, place: &mut Place, number: usize, epoch: u64)
+    requires { (place.old.table_id ≡ words.now.table_id) × (lock_word < words.now.table_id.words) × (Scans place.old number epoch 1 ⊎ Scans place.old number epoch 2) }
+    ensures { (place.new.table_id ≡ place.old.table_id) × (place.new.id ≡ place.old.id) × (place.new.me.0.born ≡ place.old.me.0.born) × (place.new.me.1 ≡ place.old.me.1) × Scans place.new number epoch 0 }
+{
+    words.store::<OnUnlock>(place, LOCK, 0);
+}
+
+/// Whether the other is closed or has published the same count. It is asked under the scan lock, while the count is
+/// the published one.
+fn look_at(words: &Words, place: &mut Place, other: usize, epoch: u64) -> bool
+    requires table { (place.old.table_id ≡ words.now.table_id) × (other < words.now.key.participants) × (epoch_words words.now.key.participants ≤ words.now.table_id.words) × (words.now.key.participants ≤ 2 ^ 30) }
+    requires open { (place.old.me.0.kind ≡ 1) × (place.old.me.0.number ≢ other) × (place.old.me.0.known.phase ≡ Opened epoch) × (place.old.me.0.known.found ≡ epoch) × (place.old.me.0.scan ≡ 2) }
+    requires below { epoch < 2 ^ 64 - 1 }
+    ensures seat { (place.new.table_id ≡ place.old.table_id) × (place.new.id ≡ place.old.id) }
+    ensures noted { IsTrue result → place.new.me ≡ (record place.old.me.0 { known = looking other place.old.me.0.known }, place.old.me.1) }
+    ensures not_noted { IsFalse result → place.new.me ≡ place.old.me }
+{
+    let found = words.load::<OnLook>(place, STRIDE * other + STATE);
+    found == 0 || found == epoch + 1
+}
+
+/// The same, for what a scan needs of it: who was looked at before stays so.
+pub(crate) fn look(
+    words: &Words,
+    place: &mut Place,
+    number: usize,
+    other: usize,
+    epoch: u64,
+) -> bool
+    requires table { (place.old.table_id ≡ words.now.table_id) × (other < words.now.key.participants) × (epoch_words words.now.key.participants ≤ words.now.table_id.words) × (words.now.key.participants ≤ 2 ^ 30) }
+    requires open { Scans place.old number epoch 2 × (number ≢ other) }
+    requires below { epoch < 2 ^ 64 - 1 }
+    ensures seat { (place.new.table_id ≡ place.old.table_id) × (place.new.id ≡ place.old.id) × (place.new.me.0.born ≡ place.old.me.0.born) × (place.new.me.1 ≡ place.old.me.1) × Scans place.new number epoch 2 }
+    ensures noted { IsTrue result → Has place.new.me.0.known.looked other }
+    ensures more { (q : ℕ) → Has place.old.me.0.known.looked q → Has place.new.me.0.known.looked q }
+{
+    if look_at(words, place, other, epoch) {
+        true
+    } else {
+        false
+    }
+}
+
+/// Raises the count by one, where everybody else was looked at.
+pub(crate) fn raise(words: &Words, place: &mut Place, number: usize, epoch: u64)
+    requires table { (place.old.table_id ≡ words.now.table_id) × (0 < words.now.table_id.words) }
+    requires open { Scans place.old number epoch 2 }
+    requires all { (q : ℕ) → q < words.now.key.participants → q ≢ number → Has place.old.me.0.known.looked q }
+    requires below { epoch < 2 ^ 64 - 1 }
+    ensures { (place.new.table_id ≡ place.old.table_id) × (place.new.id ≡ place.old.id) × (place.new.me.0.born ≡ place.old.me.0.born) × (place.new.me.1 ≡ place.old.me.1) × Scans place.new number epoch 1 }
+{
+    words.store::<OnRaise>(place, COUNT, epoch + 1);
+}
