@@ -134,3 +134,8 @@ module _ (S : Type 0) (sizes : Sizes) where
   -- nothing is told
   pub idles : (s : Table) (r : Shown s) (i id : ℕ) (d : Acting) → get_elem? s.views id ≡ some d → Shown record { words = set s.words i (get_or s.words i 0); homes = s.homes; views = set s.views id d }
   idles s r i id d at = subst (λ (z : List ℕ × List Acting). Shown record { words = z.0; homes = s.homes; views = z.1 }) (λ k. (sym (set-get_or s.words i 0) k, sym (set_again s.views id d at) k)) r
+
+  -- the word of the count stands beside the count of the seat's own publication
+  pub once : (s : Table) (r : Shown s) (id : ℕ) (d : Acting) → get_elem? s.views id ≡ some d → d.kind ≡ 1 → (e : ℕ) → d.known.phase ≡ Opened e
+      → (e ≤ d.born) × (d.born ≤ get_or s.words count_word 0) × (get_or s.words count_word 0 ≤ d.born + 1)
+  once s r id d at kind e is = subst (λ n. (e ≤ d.born) × (d.born ≤ n) × (n ≤ d.born + 1)) (sym r.epochs.count_is) (own_inside s r id d at kind e is)

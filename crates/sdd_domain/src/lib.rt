@@ -1,6 +1,15 @@
-//! A reclamation core that threads share: epochs, participants and guards over a table of words.
+//! The reclamation core that threads share: epochs, participants and guards of one place.
+//!
+//! A [`Domain`](domain::Domain) is lent to threads by `&`. A thread registers a participant, and acts for it with the
+//! [`Local`](local::Local) that it got; [guards](guard::Guard) are opened and closed with that. No call waits for
+//! another thread. Items and cells don't stand in a place of this kind yet.
 #![tactic(auto)]
 
 mod board;
+pub mod domain;
+pub mod guard;
+pub mod laws;
+pub mod local;
+pub mod refusal;
 mod scan;
 mod steps;

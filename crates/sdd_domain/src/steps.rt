@@ -124,9 +124,16 @@ pub(crate) fn claim(words: &Words, place: &mut Place, number: usize) -> bool
     words.compare_exchange::<OnClaim>(place, STRIDE * number + CLAIM, 0, 1) == 0
 }
 
+/// Whether somebody acts for participant `number`.
+pub(crate) fn is_claimed(words: &Words, number: usize) -> bool
+    requires { (number < words.now.key.participants) × (epoch_words words.now.key.participants ≤ words.now.table_id.words) × (words.now.key.participants ≤ 2 ^ 30) }
+{
+    words.peek(STRIDE * number + CLAIM) != 0
+}
+
 /// Ends what the seat does for participant `number`, which somebody else may act for from now on.
 pub(crate) fn end(words: &Words, place: &mut Place, number: usize)
-    requires table { (place.old.table_id ≡ words.now.table_id) × (number < words.now.key.participants) × (epoch_words words.now.key.participants ≤ words.now.table_id.words) × (words.now.key.participants ≤ 2 ^ 30) }
+    requires table { (place.old.table_id ≡ words.now.table_id) × (number < 2 ^ 30) × (claim_word number < words.now.table_id.words) }
     requires rests { (place.old.me.0.kind ≡ 1) × (place.old.me.0.number ≡ number) × (place.old.me.0.known.phase ≡ Idle) × (place.old.me.0.scan ≡ 0) }
     ensures { (place.new.table_id ≡ place.old.table_id) × (place.new.id ≡ place.old.id) × (place.new.me ≡ (spent, place.old.me.1)) }
 {
@@ -144,7 +151,7 @@ pub(crate) fn read_count(words: &Words, place: &mut Place) -> u64
 
 /// Publishes the count that was read, and with it does the rotation that is due.
 pub(crate) fn publish(words: &Words, place: &mut Place, number: usize, epoch: u64)
-    requires table { (place.old.table_id ≡ words.now.table_id) × (number < words.now.key.participants) × (epoch_words words.now.key.participants ≤ words.now.table_id.words) × (words.now.key.participants ≤ 2 ^ 30) }
+    requires table { (place.old.table_id ≡ words.now.table_id) × (number < 2 ^ 30) × (claim_word number < words.now.table_id.words) }
     requires read { (place.old.me.0.kind ≡ 1) × (place.old.me.0.number ≡ number) × (place.old.me.0.known.phase ≡ HasRead epoch) × (place.old.me.0.scan ≡ 0) }
     ensures seat { (place.new.table_id ≡ place.old.table_id) × (place.new.id ≡ place.old.id) }
     ensures published { (b : ℕ) × (epoch ≤ b) × (place.new.me ≡ (record place.old.me.0 { known = publishing epoch place.old.me.0.known; born = b }, place.old.me.1)) }
@@ -165,7 +172,7 @@ pub(crate) fn count_under(words: &Words, place: &mut Place, epoch: u64) -> u64
 
 /// Closes the guard of participant `number`.
 pub(crate) fn close(words: &Words, place: &mut Place, number: usize, epoch: u64)
-    requires table { (place.old.table_id ≡ words.now.table_id) × (number < words.now.key.participants) × (epoch_words words.now.key.participants ≤ words.now.table_id.words) × (words.now.key.participants ≤ 2 ^ 30) }
+    requires table { (place.old.table_id ≡ words.now.table_id) × (number < 2 ^ 30) × (claim_word number < words.now.table_id.words) }
     requires open { Scans place.old number epoch 0 }
     ensures { (place.new.table_id ≡ place.old.table_id) × (place.new.id ≡ place.old.id) × (place.new.me ≡ (record place.old.me.0 { known = closing place.old.me.0.known }, place.old.me.1)) }
 {

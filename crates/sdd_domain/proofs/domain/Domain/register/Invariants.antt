@@ -1,0 +1,9 @@
+use Rattle.std.proofs.Common.{◌≡◌}
+use Rattle.sdd_domain.specs.Views.{spent}
+use Rattle.sdd_domain.proofs.domain.Domain.register.Given as goal
+
+abbrev pub invariant-loop-number : goal.invariant-loop-number
+invariant-loop-number l = record {
+  home : l.place.table_id ≡ l.initial.place.table_id;
+  nobody : l.place.me ≡ l.initial.place.me;
+}

@@ -1,0 +1,22 @@
+-- what stands between any two steps of any threads
+use Rattle.std.specs.Prelude.{◌≡◌, ℕ, ◌+◌, ◌≤◌, slice_index}
+use mathlib.Core.Option.{some}
+use lib.ListN.{get_elem?}
+use Rattle.atomic_table.specs.Table.{State}
+use Rattle.sdd_base.specs.declared.sizes.Sizes.{Sizes}
+use Rattle.sdd_steps.specs.declared.participant.Phase.TheVariants.{Opened}
+use Rattle.sdd_steps.specs.State as steps
+use Rattle.sdd_steps.specs.Kept.{Inv, Safe}
+use Rattle.sdd_domain.specs.Layout.{count_word}
+use Rattle.sdd_domain.specs.Rule.{Shows}
+use Rattle.sdd_domain.specs.declared.board.Acting.{Acting}
+
+-- S is what the slots of the table hold
+-- the words and views show a state of the single steps that meets their invariant and keeps their promise
+abbrev pub ShowsSafe : Type 0 → Type 0
+ShowsSafe S = (sizes : Sizes) (s : State S Acting) → Shows sizes s → (t : steps.State) × Inv t × Safe t × (slice_index s.words count_word ≡ t.count)
+
+-- a guard that was published at the count `born` is open while the count is that or the next one
+abbrev pub RaisedAtMostOnce : Type 0 → Type 0
+RaisedAtMostOnce S = (sizes : Sizes) (s : State S Acting) (seat : ℕ) (v : Acting) (e : ℕ) → Shows sizes s → get_elem? s.views seat ≡ some v → v.kind ≡ 1 → v.known.phase ≡ Opened e
+    → (e ≤ v.born) × (v.born ≤ slice_index s.words count_word) × (slice_index s.words count_word ≤ v.born + 1)

@@ -1,0 +1,46 @@
+-- what places, participants and guards show to clauses
+use Rattle.std.specs.Prelude.{◌≡◌, ℕ, ◌+◌, ◌-◌, ◌==◌, ◌&&◌, false, cond}
+use Rattle.atomic_table.specs.Seated.{TableId}
+use Rattle.sdd_base.specs.declared.status.Marks.{Marks}
+use Rattle.sdd_base.specs.Steps.{closings_after, scans}
+use Rattle.sdd_steps.specs.declared.participant.Phase.{Phase}
+use Rattle.sdd_steps.specs.declared.participant.Phase.TheVariants.{Idle, Opened}
+use Rattle.sdd_domain.specs.declared.domain.Domain.{Domain}
+use Rattle.sdd_domain.specs.declared.local.Local.{Local}
+use Rattle.sdd_domain.specs.declared.guard.Guard.{Guard}
+
+-- how many participants a place has, and the place of a participant, as which one it acts, and what it notes of itself
+abbrev pub participants_of : Domain → ℕ
+participants_of d = d.participants
+
+abbrev pub place_of : Domain → TableId
+place_of d = d.table.shared.table_id
+
+abbrev pub home_of : Local → TableId
+home_of l = l.place.table_id
+
+abbrev pub number_of : Local → ℕ
+number_of l = l.number
+
+abbrev pub marks_of : Local → Marks
+marks_of l = l.marks
+
+-- the count of raises when the open guard was published
+abbrev pub born_of : Local → ℕ
+born_of l = l.place.me.0.born
+
+-- the participant whose guard it is
+abbrev pub participant_of : Guard → ℕ
+participant_of g = g.participant
+
+-- the same participant of the same place
+abbrev pub IsSame : Local → Local → Type 0
+IsSame old new = (home_of new ≡ home_of old) × (number_of new ≡ number_of old)
+
+-- An outermost opening that found this count. A rotation clears the flag of garbage, since all bags are empty.
+abbrev pub begun : ℕ → Marks → Marks
+begun count m = record { nesting = 1; published = count; previous = count; accelerated = false; garbage = m.garbage && (m.previous == count); closings = m.closings }
+
+-- a closing
+abbrev pub closed : Marks → Marks
+closed m = cond (m.nesting == 1) (record m { nesting = 0; closings = cond (scans m) 0 (closings_after m) }) (record m { nesting = m.nesting - 1 })

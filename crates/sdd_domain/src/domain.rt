@@ -1,0 +1,96 @@
+//! A place that threads share.
+
+ghost use Rattle.std.specs.Prelude.{◌≡◌, ◌≢◌, ℕ, ◌+◌, ◌*◌, ◌^◌, ◌<◌, ◌≤◌, [], replicate, IfOk, IfErr, OnErr};
+ghost use Rattle.sdd_base.specs.State.{no_marks};
+ghost use Rattle.sdd_domain.specs.Layout.{claim_word, epoch_words, IsSized};
+
+use crate::board::{Board, Words};
+use crate::local::Local;
+use crate::refusal::RegisterRefused;
+use crate::steps::{claim, is_claimed, sit};
+use sdd_base::sizes::Sizes;
+use std::alloc::{AllocError, Global};
+
+/// A place that threads share by `&`. It can't be let go: `close` ends it.
+pub struct Domain {
+    pub(crate) table: Board,
+    pub(crate) participants: usize,
+    ghost sized: { (participants ≡ table.shared.key.participants) × (epoch_words participants ≤ table.shared.table_id.words) × (participants ≤ 2 ^ 30) },
+}
+
+/// So many words, all 0.
+fn zeros(alloc: Global, count: usize) -> Result<Vec<u64>, AllocError>
+    ensures { IfOk result (λ words. words.items ≡ replicate count 0) }
+{
+    let mut words = Vec::with_capacity(alloc, count)?;
+    for _i in 0..count {
+        words.push(0)?;
+    }
+    Ok(words)
+}
+
+impl Domain {
+    ghost use Rattle.sdd_domain.specs.Tokens.{participants_of, place_of, home_of, number_of, marks_of};
+
+    /// A place without items, for as many participants as its sizes name, none of them registered. It takes all the
+    /// memory that the place will ever use; without memory nothing is kept.
+    pub fn new(alloc: Global, sizes: Sizes) -> Result<Domain, AllocError>
+        requires { IsSized sizes }
+        ensures { IfOk result (λ d. participants_of d ≡ sizes.participants) }
+    {
+        let participants = sizes.participants;
+        let words = zeros(alloc, 8 * participants + 16)?;
+        let (table, _) = Board::of_words(alloc, &words, &sizes)?;
+        Ok(Domain {
+            table,
+            participants,
+        })
+    }
+
+    pub(crate) fn words(&self) -> &Words
+        ensures { (result.now.table_id ≡ place_of self.now) × (result.now.key ≡ self.now.table.shared.key) }
+    {
+        &self.table.shared
+    }
+
+    /// Registers a participant that nobody acts for: each is tried once, from 0 on. Full where another one acts for
+    /// each.
+    pub fn register(&self) -> Result<Local, RegisterRefused>
+        ensures home { IfOk result (λ l. home_of l ≡ place_of self.now) }
+        ensures number { IfOk result (λ l. number_of l < participants_of self.now) }
+        ensures fresh { IfOk result (λ l. marks_of l ≡ no_marks) }
+    {
+        let mut place = sit(self.words());
+        for number in 0..self.participants {
+            if claim(self.words(), &mut place, number) {
+                return Ok(Local::registered(place, number));
+            }
+        }
+        Err(RegisterRefused::Full)
+    }
+
+    /// Whether somebody acts for a participant.
+    fn any_claimed(&self) -> bool {
+        for number in 0..self.participants {
+            if is_claimed(self.words(), number) {
+                return true;
+            }
+        }
+        false
+    }
+
+    /// Ends the place. It is handed back, as it was, while a `Local` is out.
+    pub fn close(self) -> Result<(), Domain>
+        ensures back { IfErr result (λ d. (place_of d ≡ place_of self) × (participants_of d ≡ participants_of self)) }
+    {
+        if self.any_claimed() {
+            return Err(self);
+        }
+        let Domain {
+            table,
+            participants: _,
+        } = self;
+        drop(table);
+        Ok(())
+    }
+}

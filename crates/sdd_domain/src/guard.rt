@@ -1,0 +1,108 @@
+//! Guards of a place that threads share.
+
+ghost use Rattle.std.specs.Prelude.{◌≡◌, ℕ, ◌+◌, ◌<◌, ◌≤◌, ◌%◌, ◌↔◌, true, IsErr, IfOk, OnOk, OnErr};
+ghost use Rattle.sdd_domain.specs.Tokens.{place_of, home_of, number_of, marks_of, born_of, participant_of, begun, closed, IsSame};
+
+use crate::domain::Domain;
+use crate::local::Local;
+use crate::steps;
+use sdd_base::epoch::Epoch;
+use sdd_base::refusal::Nested;
+
+/// An open guard of a participant. It must be spent by `close`. It belongs to the participant's `Local`, and is used
+/// with that alone.
+pub struct Guard {
+    participant: usize,
+}
+
+impl Guard {
+    /// Opens a guard of a participant, within those that it has open. An outermost opening reads the count of raises,
+    /// and publishes it in a second step; where it isn't the one that was found before, the participant's bags move
+    /// on. From then until the outermost closing the count is raised at most once.
+    pub fn new(domain: &Domain, local: &mut Local) -> Result<Guard, Nested>
+        requires { home_of local.old ≡ place_of domain.now }
+        ensures guard { IfOk result (λ g. participant_of g ≡ number_of local.old) }
+        ensures nested { IsErr result ↔ ((marks_of local.old).nesting ≡ 4294967295) }
+        ensures refused { OnErr result ((marks_of local.new ≡ marks_of local.old) × (born_of local.new ≡ born_of local.old)) }
+        ensures outermost { (marks_of local.old).nesting ≡ 0 → (count : ℕ) × (count ≤ born_of local.new) × (marks_of local.new ≡ begun count (marks_of local.old)) }
+        ensures inner { 0 < (marks_of local.old).nesting → born_of local.new ≡ born_of local.old }
+        ensures counted { OnOk result (0 < (marks_of local.old).nesting → marks_of local.new ≡ record (marks_of local.old) { nesting = (marks_of local.old).nesting + 1 }) }
+        ensures same { IsSame local.old local.new }
+    {
+        if local.marks.nesting == u32::MAX {
+            return Err(Nested);
+        }
+        if local.marks.nesting == 0 {
+            local.begin(domain);
+        } else {
+            local.marks.nesting += 1;
+        }
+        Ok(Guard {
+            participant: local.number,
+        })
+    }
+
+    /// The participant whose guard it is.
+    pub fn participant(&self) -> usize
+        ensures { result ≡ participant_of self.now }
+    {
+        self.participant
+    }
+
+    /// The epoch of the place: its count of raises modulo 64. It is the one of the guard's publication, or the next.
+    pub fn epoch(&self, domain: &Domain, local: &mut Local) -> Epoch
+        requires home { home_of local.old ≡ place_of domain.now }
+        requires mine { participant_of self.now ≡ number_of local.old }
+        requires open { 0 < (marks_of local.old).nesting }
+        ensures epoch { (count : ℕ) × (result ≡ count % 64) × (born_of local.old ≤ count) × (count ≤ born_of local.old + 1) }
+        ensures same { IsSame local.old local.new × (marks_of local.new ≡ marks_of local.old) × (born_of local.new ≡ born_of local.old) }
+    {
+        let epoch = local.marks.previous;
+        Epoch::of_count(steps::count_under(domain.words(), &mut local.place, epoch))
+    }
+
+    /// Whether the flag was set since the participant's bags were last found empty.
+    pub fn has_garbage(&self, local: &Local) -> bool
+        requires { participant_of self.now ≡ number_of local.now }
+        ensures { result ≡ (marks_of local.now).garbage }
+    {
+        local.marks.garbage
+    }
+
+    /// Sets that flag, so that a later closing scans.
+    pub fn set_has_garbage(&self, local: &mut Local)
+        requires { participant_of self.now ≡ number_of local.old }
+        ensures set { marks_of local.new ≡ record (marks_of local.old) { garbage = true } }
+        ensures same { IsSame local.old local.new × (born_of local.new ≡ born_of local.old) }
+    {
+        local.marks.garbage = true;
+    }
+
+    /// Asks that the outermost closing of this nesting scans.
+    pub fn accelerate(&self, local: &mut Local)
+        requires { participant_of self.now ≡ number_of local.old }
+        ensures set { marks_of local.new ≡ record (marks_of local.old) { accelerated = true } }
+        ensures same { IsSame local.old local.new × (born_of local.new ≡ born_of local.old) }
+    {
+        local.marks.accelerated = true;
+    }
+
+    /// Closes a guard. An outermost closing scans first, if a guard of the nesting was accelerated or this is the 64th
+    /// since the last scan with the flag of garbage set. A scan tries once for the scan lock, and raises the count by
+    /// one if every open guard published the present one.
+    pub fn close(self, domain: &Domain, local: &mut Local)
+        requires home { home_of local.old ≡ place_of domain.now }
+        requires mine { participant_of self ≡ number_of local.old }
+        requires open { 0 < (marks_of local.old).nesting }
+        ensures closed { marks_of local.new ≡ closed (marks_of local.old) }
+        ensures inner { 1 < (marks_of local.old).nesting → born_of local.new ≡ born_of local.old }
+        ensures same { IsSame local.old local.new }
+    {
+        let Guard { participant: _ } = self;
+        if local.marks.nesting == 1 {
+            local.finish(domain);
+        } else {
+            local.marks.nesting -= 1;
+        }
+    }
+}

@@ -1,0 +1,126 @@
+//! One participant of a place, as the thread that acts for it has it.
+
+ghost use Rattle.std.specs.Prelude.{◌≡◌, ◌≢◌, ℕ, ◌+◌, ◌-◌, ◌*◌, ◌^◌, ◌<◌, ◌≤◌, ◌==◌, ◌&&◌, [], cond};
+ghost use Rattle.sdd_base.specs.State.{no_marks};
+ghost use Rattle.sdd_base.specs.Steps.{closings_after, scans};
+ghost use Rattle.sdd_steps.specs.declared.participant.Phase.TheVariants.{Idle, Opened};
+ghost use Rattle.sdd_domain.specs.Views.{registered};
+ghost use Rattle.sdd_domain.specs.Layout.{claim_word};
+
+use crate::board::Place;
+use crate::domain::Domain;
+use crate::scan::scan;
+use crate::steps;
+use sdd_base::status::Marks;
+
+/// A registered participant. It must be spent by `end`.
+pub struct Local {
+    pub(crate) place: Place,
+    pub(crate) number: usize,
+    pub(crate) marks: Marks,
+    ghost acts: { (place.me.0.kind ≡ 1) × (place.me.0.number ≡ number) × (place.me.0.scan ≡ 0) × (number < 2 ^ 30) × (claim_word number < place.table_id.words) },
+    ghost phase: { place.me.0.known.phase ≡ cond (marks.nesting == 0) Idle (Opened marks.previous) },
+    ghost found: { place.me.0.known.found ≡ marks.previous },
+}
+
+/// Whether this outermost closing scans, where `closings` counts it.
+fn scans(marks: &Marks, closings: u8) -> bool
+    ensures { closings ≡ closings_after marks.now → result ≡ scans marks.now }
+{
+    marks.accelerated || marks.garbage && closings >= 64
+}
+
+impl Local {
+    ghost use Rattle.sdd_domain.specs.Tokens.{participants_of, place_of, home_of, number_of, marks_of, born_of, begun, closed, IsSame};
+
+    /// The participant that a seat has just come to act for.
+    pub(crate) fn registered(place: Place, number: usize) -> Local
+        requires { (place.me.0 ≡ registered number) × (number < 2 ^ 30) × (claim_word number < place.table_id.words) }
+        ensures { (home_of result ≡ place.table_id) × (number_of result ≡ number) × (marks_of result ≡ no_marks) }
+    {
+        Local {
+            place,
+            number,
+            marks: Marks {
+                nesting: 0,
+                published: 0,
+                previous: 0,
+                accelerated: false,
+                garbage: false,
+                closings: 0,
+            },
+        }
+    }
+
+    /// The participant's number, below the place's count of them.
+    pub fn number(&self) -> usize
+        ensures { result ≡ number_of self.now }
+    {
+        self.number
+    }
+
+    /// Opens an outermost guard.
+    pub(crate) fn begin(&mut self, domain: &Domain)
+        requires home { home_of self.old ≡ place_of domain.now }
+        requires closed { (marks_of self.old).nesting ≡ 0 }
+        ensures same { IsSame self.old self.new }
+        ensures begun { (count : ℕ) × (count ≤ born_of self.new) × (marks_of self.new ≡ begun count (marks_of self.old)) }
+    {
+        let Local {
+            place,
+            number,
+            marks,
+        } = self;
+        let epoch = steps::read_count(domain.words(), place);
+        steps::publish(domain.words(), place, *number, epoch);
+        *marks = Marks {
+            nesting: 1,
+            published: epoch,
+            previous: epoch,
+            accelerated: false,
+            garbage: marks.garbage && marks.previous == epoch,
+            closings: marks.closings,
+        };
+    }
+
+    /// Closes an outermost guard, after a scan if one is due.
+    pub(crate) fn finish(&mut self, domain: &Domain)
+        requires home { home_of self.old ≡ place_of domain.now }
+        requires outermost { (marks_of self.old).nesting ≡ 1 }
+        ensures same { IsSame self.old self.new }
+        ensures closed { marks_of self.new ≡ closed (marks_of self.old) }
+    {
+        let Local {
+            place,
+            number,
+            marks,
+        } = self;
+        let closings = if marks.closings < 64 {
+            marks.closings + 1
+        } else {
+            64
+        };
+        let epoch = marks.previous;
+        if scans(marks, closings) {
+            scan(domain.words(), place, *number, domain.participants, epoch);
+            marks.closings = 0;
+        } else {
+            marks.closings = closings;
+        }
+        steps::close(domain.words(), place, *number, epoch);
+        marks.nesting = 0;
+    }
+
+    /// Ends the participant, which anybody may register from now on. Condition: none of its guards is open.
+    pub fn end(self, domain: &Domain)
+        requires home { home_of self ≡ place_of domain.now }
+        requires closed { (marks_of self).nesting ≡ 0 }
+    {
+        let Local {
+            mut place,
+            number,
+            marks: _,
+        } = self;
+        steps::end(domain.words(), &mut place, number);
+    }
+}

@@ -1,0 +1,10 @@
+//! Refusals of a place that threads share.
+
+/// Why no participant was registered. Nothing has changed.
+#[derive(Clone, Copy, PartialEq, Eq, Debug)]
+pub enum RegisterRefused {
+    /// Every participant of the place is registered.
+    Full,
+    /// There was no memory for what the participant keeps.
+    Memory,
+}
