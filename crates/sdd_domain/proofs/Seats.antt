@@ -1,5 +1,5 @@
 -- the start of a place, and what comes to act for a participant or ends, keep the rule of the table
-use Rattle.std.proofs.Common.{◌≡◌, ◌≢◌, ◌⊎◌, ℕ, zero, suc, ◌+◌, ◌*◌, ◌<◌, ◌≤◌, eqb, eq-eqb, ne_eqb, List, [], ◌∷◌, length, map, replicate, get_or, set, sym, refl, ap, ◌∙◌, subst, ⊎_elim, inr, arith, length-set, get_or-set_other, get_or-set_same}
+use Rattle.std.proofs.Common.{◌≡◌, ◌≢◌, ◌⊎◌, ℕ, zero, suc, ◌+◌, ◌*◌, ◌^◌, ◌<◌, ◌≤◌, eqb, eq-eqb, ne_eqb, List, [], ◌∷◌, length, map, replicate, get_or, set, sym, refl, ap, ◌∙◌, subst, ⊎_elim, inr, arith, length-set, get_or-set_other, get_or-set_same}
 use mathlib.Core.Logic.{dite}
 use mathlib.Core.Option.{some}
 use native.Mathlib.Decide.{ℕ_discrete}
@@ -13,6 +13,7 @@ use Rattle.sdd_steps.specs.declared.participant.Participant.{Participant}
 use Rattle.sdd_steps.specs.State.{At, newcomer, start}
 use Rattle.sdd_steps.specs.Steps.{left_by}
 use Rattle.sdd_steps.specs.State as steps
+use Rattle.sdd_steps.specs.Kept.{Guarded}
 use Rattle.sdd_steps.proofs.Lists.{put, put_here, put_else, set_all, set_here, set_else, at_inside, at_replicate, find_at}
 use Rattle.sdd_steps.proofs.Keeps as keep
 use Rattle.sdd_steps.proofs.Law.{starts}
@@ -36,32 +37,54 @@ zeros zero i = refl
 zeros (suc n) zero = refl
 zeros (suc n) (suc i) = zeros n i
 
+-- the words behind the first one
+behind : (n c i : ℕ) → 0 < i → get_or (c ∷ replicate n nothing) i 0 ≡ nothing
+behind n c zero more = absurd (omega arith)
+behind n c (suc i) more = zeros n i
+
 many_of : {A : Type 0} (n : ℕ) (x : A) → length (replicate n x) ≡ n
 many_of zero x = refl
 many_of (suc n) x = ap suc (many_of n x)
 
 module _ (S : Type 0) (sizes : Sizes) where
-  -- a new place shows the start
-  pub begins : (words : List ℕ) (homes : List S) → words ≡ replicate (epoch_words sizes.participants) 0 → Shows sizes (opening words homes spent)
-  begins words homes is = let n = sizes.participants in let zero_at : (i : ℕ) → get_or words i 0 ≡ 0 = (λ i. ap (λ (l : List ℕ). get_or l i 0) is ∙ zeros (epoch_words n) i) in record {
-    state = start n sizes.cells;
-    kept = starts n sizes.cells;
-    born = λ _. 0;
-    bounded = record {
-      inside = λ p x e at is. let same : Idle ≡ Opened e = ap (λ (z : Participant). z.phase) (at_replicate n p newcomer x at) ∙ is in absurd (cc);
-      looks = λ q x p y e at is. let same : Idle ≡ Opened 0 = ap (λ (z : Participant). z.phase) (at_replicate n q newcomer x at) ∙ is in absurd (cc);
-    };
-    epochs = record {
-      seat_of = λ _. 0;
-      scanner = 0;
-      wide = let l = ap length is ∙ many_of (epoch_words n) nothing in omega arith;
-      many = many_of n newcomer;
-      count_is = zero_at 0;
-      states = λ p x at. zero_at (state_word p) ∙ ap (λ (z : Participant). shown z.phase) (at_replicate n p newcomer x at);
-      free = λ p x at _. sym (at_replicate n p newcomer x at);
-      seats = λ j d at kind. ⊎_elim (λ (h : get_elem? [] j ≡ some d). absurd (cc)) (λ t. nobody d _ t kind) (at_snoc [] spent d j at);
-    };
-  }
+  -- a new place shows the start, where no guard is open, at the count that it is given
+  pub begins : (count : ℕ) (words : List ℕ) (homes : List S) → count < 2 ^ 64 → words ≡ count ∷ replicate (8 * sizes.participants + 15) 0 → Shows sizes (opening words homes spent)
+  begins count words homes fits is = let n = sizes.participants in let rest : ℕ = 8 * n + 15 in let w : (i : ℕ) → get_or words i 0 ≡ get_or (count ∷ replicate rest nothing) i 0 = (λ i. ap (λ (l : List ℕ). get_or l i 0) is) in
+      let start' : steps.State = record (start n sizes.cells) { count = count } in
+      let idle : (p : ℕ) (x : Participant) (e : ℕ) → At (replicate n newcomer) p x → x.phase ≡ Opened e → ⊥ = (λ p x e at h. let same : Idle ≡ Opened e = ap (λ (z : Participant). z.phase) (at_replicate n p newcomer x at) ∙ h in absurd (cc)) in record {
+        state = start';
+        kept = (
+          (starts n sizes.cells).0,
+          (
+            (λ _. 0),
+            (λ _. 0),
+            record {
+              fits = omega arith;
+              dated = λ i. omega arith;
+              guards = λ p x at. subst (λ (y : Participant). Guarded count 0 y.found y.phase y.reread) (at_replicate n p newcomer x at) (record { past = omega arith; reading = λ e h. absurd (cc); inside = λ e h. absurd (cc); again = λ e m h. absurd (cc) });
+              looks = λ q x p y e at h. absurd (idle q x count at h);
+              ageing = λ i it r a x at. absurd (cc);
+              noted = λ i it m at. absurd (cc);
+              kept = λ p x e l at h. absurd (idle p x e at h);
+            },
+          ),
+        );
+        born = λ _. 0;
+        bounded = record {
+          inside = λ p x e at h. absurd (idle p x e at h);
+          looks = λ q x p y e at h. absurd (idle q x count at h);
+        };
+        epochs = record {
+          seat_of = λ _. 0;
+          scanner = 0;
+          wide = let l = ap length is ∙ ap suc (many_of rest nothing) in omega arith;
+          many = many_of n newcomer;
+          count_is = w 0;
+          states = λ p x at. w (state_word p) ∙ (behind rest count (state_word p) (omega arith) ∙ ap (λ (z : Participant). shown z.phase) (at_replicate n p newcomer x at));
+          free = λ p x at _. sym (at_replicate n p newcomer x at);
+          seats = λ j d at kind. ⊎_elim (λ (h : get_elem? [] j ≡ some d). absurd (cc)) (λ t. nobody d _ t kind) (at_snoc [] spent d j at);
+        };
+      }
 
   pub sits : (slots i : ℕ) → Enters {S = S} (Shows sizes) slots i (λ _ w. w ≡ spent)
   sits slots i s r _ _ = let o = r.epochs in (

@@ -1,6 +1,6 @@
 //! A place that threads share.
 
-ghost use Rattle.std.specs.Prelude.{◌≡◌, ◌≢◌, ℕ, ◌+◌, ◌*◌, ◌^◌, ◌<◌, ◌≤◌, [], replicate, IfOk, IfErr, OnErr};
+ghost use Rattle.std.specs.Prelude.{◌≡◌, ◌≢◌, ℕ, ◌+◌, ◌*◌, ◌^◌, ◌<◌, ◌≤◌, [], ◌∷◌, replicate, IfOk, IfErr, OnErr};
 ghost use Rattle.sdd_base.specs.State.{no_marks};
 ghost use Rattle.sdd_domain.specs.Layout.{claim_word, epoch_words, IsSized};
 
@@ -18,12 +18,13 @@ pub struct Domain {
     ghost sized: { (participants ≡ table.shared.key.participants) × (epoch_words participants ≤ table.shared.table_id.words) × (participants ≤ 2 ^ 30) },
 }
 
-/// So many words, all 0.
-fn zeros(alloc: Global, count: usize) -> Result<Vec<u64>, AllocError>
-    ensures { IfOk result (λ words. words.items ≡ replicate count 0) }
+/// The words of a new place: the count of raises, and so many words more, all 0.
+fn words_from(alloc: Global, count: u64, others: usize) -> Result<Vec<u64>, AllocError>
+    ensures { IfOk result (λ words. words.items ≡ count ∷ replicate others 0) }
 {
-    let mut words = Vec::with_capacity(alloc, count)?;
-    for _i in 0..count {
+    let mut words = Vec::new(alloc);
+    words.push(count)?;
+    for _i in 0..others {
         words.push(0)?;
     }
     Ok(words)
@@ -38,8 +39,16 @@ impl Domain {
         requires { IsSized sizes }
         ensures { IfOk result (λ d. participants_of d ≡ sizes.participants) }
     {
+        Domain::with_count(alloc, sizes, 0)
+    }
+
+    /// The same, as if the count of raises had come to this number. At `2^64 - 1` it is at its end.
+    pub fn with_count(alloc: Global, sizes: Sizes, count: u64) -> Result<Domain, AllocError>
+        requires { IsSized sizes }
+        ensures { IfOk result (λ d. participants_of d ≡ sizes.participants) }
+    {
         let participants = sizes.participants;
-        let words = zeros(alloc, 8 * participants + 16)?;
+        let words = words_from(alloc, count, 8 * participants + 15)?;
         let (table, _) = Board::of_words(alloc, &words, &sizes)?;
         Ok(Domain {
             table,

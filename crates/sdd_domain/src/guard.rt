@@ -1,6 +1,6 @@
 //! Guards of a place that threads share.
 
-ghost use Rattle.std.specs.Prelude.{◌≡◌, ℕ, ◌+◌, ◌<◌, ◌≤◌, ◌%◌, ◌↔◌, true, IsErr, IfOk, OnOk, OnErr};
+ghost use Rattle.std.specs.Prelude.{◌≡◌, ℕ, ◌+◌, ◌<◌, ◌≤◌, ◌%◌, ◌↔◌, true, IsErr, IfOk, IfSome, IfNone, OnOk, OnErr};
 ghost use Rattle.sdd_domain.specs.Tokens.{place_of, home_of, number_of, marks_of, born_of, participant_of, begun, closed, IsSame};
 
 use crate::domain::Domain;
@@ -8,6 +8,15 @@ use crate::local::Local;
 use crate::steps;
 use sdd_base::epoch::Epoch;
 use sdd_base::refusal::Nested;
+
+/// How many guards of a participant are open after one more opening, where `nesting` of them are. None at the end of
+/// this count, `2^32 - 1`.
+pub fn deeper(nesting: u32) -> Option<u32>
+    ensures some { IfSome result (λ n. n ≡ nesting + 1) }
+    ensures none { IfNone result (nesting ≡ 4294967295) }
+{
+    nesting.checked_add(1)
+}
 
 /// An open guard of a participant. It must be spent by `close`. It belongs to the participant's `Local`, and is used
 /// with that alone.
@@ -29,13 +38,13 @@ impl Guard {
         ensures counted { OnOk result (0 < (marks_of local.old).nesting → marks_of local.new ≡ record (marks_of local.old) { nesting = (marks_of local.old).nesting + 1 }) }
         ensures same { IsSame local.old local.new }
     {
-        if local.marks.nesting == u32::MAX {
+        let Some(nesting) = deeper(local.marks.nesting) else {
             return Err(Nested);
-        }
-        if local.marks.nesting == 0 {
+        };
+        if nesting == 1 {
             local.begin(domain);
         } else {
-            local.marks.nesting += 1;
+            local.marks.nesting = nesting;
         }
         Ok(Guard {
             participant: local.number,

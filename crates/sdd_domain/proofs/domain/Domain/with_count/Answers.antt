@@ -1,0 +1,6 @@
+use Rattle.std.proofs.Common.{◌≡◌, ◌+◌, ◌*◌, ◌∙◌, [], replicate, rules, arith}
+use Rattle.sdd_domain.proofs.Seats.{begins}
+use Rattle.sdd_domain.proofs.domain.Domain.with_count.Goals as goal
+
+pub of_words-requires : goal.of_words-requires
+of_words-requires c = begins _ c.args.sizes c.args.count c.deref.result.now [] (omega (arith, c.ranges.count)) (search rules)
