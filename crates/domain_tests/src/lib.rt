@@ -1,0 +1,11 @@
+//! Tests of the place that threads share, apart from it so that its proofs aren't made twice.
+#![tactic(auto)]
+
+#[cfg(test)]
+mod domain;
+#[cfg(test)]
+mod guard;
+#[cfg(test)]
+mod refusals;
+#[cfg(test)]
+mod threads;
