@@ -21,7 +21,10 @@ module _ (S : Type 0) (sizes : Sizes) where
       → Shows sizes record { words = set s.words lock_word v; homes = s.homes; views = set s.views id (record d { scan = st }) }
   turns s r v id st d at kind small one alone = let o = r.epochs in let a = o.seats id d at kind in let wide = o.wide in let many = o.many in let inside = at_inside r.state.participants d.number d.known a.is in record {
     state = r.state;
+    first = r.first;
+    run = r.run;
     kept = r.kept;
+    items = r.items;
     born = r.born;
     bounded = r.bounded;
     epochs = record {

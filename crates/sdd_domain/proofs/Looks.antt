@@ -11,10 +11,9 @@ use Rattle.sdd_steps.specs.State.{At, Has, with_participant}
 use Rattle.sdd_steps.specs.State as steps
 use Rattle.sdd_steps.specs.Kept.{Inv}
 use Rattle.sdd_steps.proofs.Lists.{set_all, find_at, same_at, has_end}
-use Rattle.sdd_steps.proofs.Law as law
 use Rattle.sdd_domain.specs.Views.{looking}
 use Rattle.sdd_domain.specs.Layout.{state_word, claim_word, count_word, shown}
-use Rattle.sdd_domain.specs.Rule.{Acts, Shows}
+use Rattle.sdd_domain.specs.Rule.{Acts, beginning, Shows}
 use Rattle.sdd_domain.specs.Plays.{look_then, agree_then, raise_then}
 use Rattle.sdd_domain.specs.declared.board.Acting.{Acting}
 use Rattle.sdd_domain.proofs.Moves.{own_load, own_inside, stays, idles}
@@ -48,7 +47,8 @@ module _ (S : Type 0) (sizes : Sizes) where
       let noted : (w ≡ 0) ⊎ (w ≡ shown (Opened e)) → Shows sizes record { words = set s.words i w; homes = s.homes; views = set s.views id d' } = λ ok.
       let agreed = agrees r.state q w y.0 r.kept y.1 word (omega arith) (subst (λ z. (w ≡ 0) ⊎ (w ≡ shown (Opened z))) now ok) in own_load S sizes s r i id d d' (record {
         core = core;
-        after = law.keeps r.state (Look p q) core (taken.looks r.state p x a.is e q y.0 is (sym found) other y.1 agreed) r.kept;
+        runs = taken.one r.state (Look p q) core (taken.looks r.state p x a.is e q y.0 is (sym found) other y.1 agreed);
+        bare = r.items.none;
         count = refl;
         changed = refl;
         inside = own_inside S sizes s r id d at kind;
@@ -98,13 +98,16 @@ module _ (S : Type 0) (sizes : Sizes) where
       → Allows (Shows sizes) slots id me count_word (λ _. e + 1) (λ _. raise_then (step slots count_word (e + 1) 0 mathlib.Core.Option.none) me (e + 1))
   raises slots id me e kind is found scan all below s r _ at _ = let d = me.0 in let o = r.epochs in let a = o.seats id d at kind in let x = d.known in let p = d.number in let v : ℕ = e + 1 in let d' : Acting = record d { scan = 1 } in
       let present = a.present (omega arith) in let same : Opened e ≡ Opened r.state.count = sym is ∙ present in let now : e ≡ r.state.count = cc in let many = o.many in let wide = o.wide in let lock = a.locked (omega arith) in
-      let core : steps.State = record r.state { count = r.state.count + 1 } in let every : (q : ℕ) → q < length r.state.participants → q ≢ p → Has x.looked q = (λ q l z. all q (omega arith) z) in let w1 = get_or-set_other s.words 0 8 v 0 (λ e. omega arith) in (
+      let core : steps.State = record r.state { count = r.state.count + 1 } in let every : (q : ℕ) → q < length r.state.participants → q ≢ p → Has x.looked q = (λ q l z. all q (omega arith) z) in let runs = taken.one r.state (Raise p) core (taken.raises r.state p x a.is present (sym now ∙ sym found) every (omega arith)) in let w1 = get_or-set_other s.words 0 8 v 0 (λ e. omega arith) in (
         d',
         keeps,
         tt,
         record {
           state = core;
-          kept = law.keeps r.state (Raise p) core (taken.raises r.state p x a.is present (sym now ∙ sym found) every (omega arith)) r.kept;
+          first = r.first;
+          run = taken.goes_on (beginning sizes r.first) r.state core r.run runs;
+          kept = taken.run_keeps r.state core runs r.kept;
+          items = record { none = r.items.none };
           born = r.born;
           bounded = raised r.state.participants r.state.count r.born r.bounded p x a.is present every;
           epochs = record {

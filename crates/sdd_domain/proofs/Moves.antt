@@ -1,5 +1,5 @@
 -- a step of a seat's own participant keeps the rule of the table
-use Rattle.std.proofs.Common.{◌≡◌, ◌≢◌, ◌⊎◌, ℕ, ◌+◌, ◌-◌, ◌*◌, ◌^◌, ◌<◌, ◌≤◌, List, length, get_or, set, sym, refl, ap, ◌∙◌, subst, inr, arith, length-set, get_or-set_other, get_or-set_same}
+use Rattle.std.proofs.Common.{◌≡◌, ◌≢◌, ◌⊎◌, ℕ, ◌+◌, ◌-◌, ◌*◌, ◌^◌, ◌<◌, ◌≤◌, List, [], length, get_or, set, sym, refl, ap, ◌∙◌, subst, inr, arith, length-set, get_or-set_other, get_or-set_same}
 use mathlib.Core.Option.{some}
 use lib.ListN.{get_elem?}
 use lib.Seq.{set-get_or}
@@ -10,19 +10,20 @@ use Rattle.sdd_steps.specs.declared.participant.Phase.TheVariants.{Idle, Opened}
 use Rattle.sdd_steps.specs.declared.participant.Participant.{Participant}
 use Rattle.sdd_steps.specs.State.{At, Has, newcomer}
 use Rattle.sdd_steps.specs.State as steps
-use Rattle.sdd_steps.specs.Kept.{Inv}
 use Rattle.sdd_steps.proofs.Lists.{put, put_here, put_else, set_all, set_here, set_else, at_inside}
 use Rattle.sdd_domain.specs.Views.{rested}
 use Rattle.sdd_domain.specs.Layout.{state_word, claim_word, lock_word, count_word, shown}
-use Rattle.sdd_domain.specs.Rule.{Acts, Bounded, Epochs, Shows}
+use Rattle.sdd_domain.specs.Rule.{Acts, Bounded, Runs, beginning, Shows}
 use Rattle.sdd_domain.proofs.Bounds.{changes}
+use Rattle.sdd_domain.proofs.Taken.{goes_on, run_keeps}
 use Rattle.sdd_domain.specs.declared.board.Acting.{Acting}
 
 -- the seat's own participant becomes what the view d' knows, by a single step that raises nothing
 module _ (state : steps.State) (born : ℕ → ℕ) (d d' : Acting) where
   pub record Moves : Type 0 where
     pub core : steps.State
-    pub after : Inv core
+    pub runs : Runs state core
+    pub bare : core.items ≡ []
     pub count : core.count ≡ state.count
     pub changed : core.participants ≡ set state.participants d.number d'.known
     pub inside : (e : ℕ) → d'.known.phase ≡ Opened e → (e ≤ d'.born) × (d'.born ≤ state.count) × (state.count ≤ d'.born + 1)
@@ -54,7 +55,10 @@ module _ (S : Type 0) (sizes : Sizes) where
       → Writes d.number s.words words' (shown d'.known.phase) → Shown record { words = words'; homes = s.homes; views = set s.views id d' }
   moved s r id d d' words' m at kind w = let e = r.epochs in let a = e.seats id d at kind in let p = d.number in let x' = d'.known in let ps = r.state.participants in record {
     state = m.core;
-    kept = m.after;
+    first = r.first;
+    run = goes_on (beginning sizes r.first) r.state m.core r.run m.runs;
+    kept = run_keeps r.state m.core m.runs r.kept;
+    items = record { none = m.bare };
     born = put r.born p d'.born;
     bounded = subst (λ (z : List Participant × ℕ). Bounded z.0 z.1 (put r.born p d'.born)) (λ k. (sym m.changed k, sym m.count k))
         (changes ps r.state.count r.born r.bounded p d.known x' d'.born a.is m.inside m.again m.looks);
@@ -119,7 +123,8 @@ module _ (S : Type 0) (sizes : Sizes) where
       → Shown record { words = set s.words i (get_or s.words i 0); homes = s.homes; views = set s.views id (record d { scan = st }) }
   stays s r i id st d at kind scan present = let a = r.epochs.seats id d at kind in own_load s r i id d (record d { scan = st }) (record {
     core = r.state;
-    after = r.kept;
+    runs = ([], refl);
+    bare = r.items.none;
     count = refl;
     changed = sym (set_again r.state.participants d.number d.known a.is);
     inside = own_inside s r id d at kind;

@@ -10,12 +10,10 @@ use Rattle.sdd_steps.specs.declared.step.Step.TheVariants.{ReadEpoch, Publish, R
 use Rattle.sdd_steps.specs.State.{At, with_participant}
 use Rattle.sdd_steps.specs.Steps.{older}
 use Rattle.sdd_steps.specs.State as steps
-use Rattle.sdd_steps.specs.Kept.{Inv}
 use Rattle.sdd_steps.proofs.Lists.{set_here}
-use Rattle.sdd_steps.proofs.Law as law
 use Rattle.sdd_domain.specs.Views.{reading, publishing, closing}
 use Rattle.sdd_domain.specs.Layout.{state_word, count_word, shown}
-use Rattle.sdd_domain.specs.Rule.{Shows}
+use Rattle.sdd_domain.specs.Rule.{Runs, Shows}
 use Rattle.sdd_domain.specs.Plays.{read_then, publish_then, count_then, close_then}
 use Rattle.sdd_domain.specs.declared.board.Acting.{Acting}
 use Rattle.sdd_domain.proofs.Moves.{own_load, own_store, own_inside, idles}
@@ -29,17 +27,19 @@ set_twice (x ∷ l) (suc i) a b = ap (λ m. x ∷ m) (set_twice l i a b)
 -- p publishes the count that it read, and rotates if it found another one before
 record Published (core : steps.State) (p e : ℕ) (x : Participant) : Type 0 where
   next : steps.State
-  after : Inv next
+  runs : Runs core next
+  bare : next.items ≡ []
   count : next.count ≡ core.count
   changed : next.participants ≡ set core.participants p (publishing e x)
 
-published : (core : steps.State) (p e : ℕ) (x : Participant) → Inv core → At core.participants p x → x.phase ≡ HasRead e → Published core p e x
-published core p e x kept at is = let x1 : Participant = record x { phase = Opened e; reread = None; looked = []; loaded = [] } in let t = with_participant core p x1 in
-    let kept' = law.keeps core (Publish p) t (taken.publishes core p x at e is) kept in dite (ℕ_discrete e x.found)
-    (λ same. record { next = t; after = kept'; count = refl; changed = ap (λ (z : ℕ). set core.participants p (record x1 { found = z })) (sym same) })
+published : (core : steps.State) (p e : ℕ) (x : Participant) → core.items ≡ [] → At core.participants p x → x.phase ≡ HasRead e → Published core p e x
+published core p e x none at is = let x1 : Participant = record x { phase = Opened e; reread = None; looked = []; loaded = [] } in let t = with_participant core p x1 in
+    let opens = taken.publishes core p x at e is in dite (ℕ_discrete e x.found)
+    (λ same. record { next = t; runs = taken.one core (Publish p) t opens; bare = none; count = refl; changed = ap (λ (z : ℕ). set core.participants p (record x1 { found = z })) (sym same) })
     (λ differs. let x2 : Participant = record x1 { found = e } in let u : steps.State = record t { participants = set t.participants p x2; items = map (older p) t.items } in record {
       next = u;
-      after = law.keeps t (Rotate p) u (taken.rotates t p x1 (set_here core.participants p x1 x at) e refl differs) kept';
+      runs = (Publish p ∷ Rotate p ∷ [], (t, opens, (u, taken.rotates t p x1 (set_here core.participants p x1 x at) e refl differs, refl)));
+      bare = ap (map (older p)) none;
       count = refl;
       changed = set_twice core.participants p x1 x2;
     })
@@ -55,7 +55,8 @@ module _ (S : Type 0) (sizes : Sizes) where
         tt,
         own_load S sizes s r 0 id d d' (record {
           core = core;
-          after = law.keeps r.state (ReadEpoch p) core (taken.reads r.state p x a.is is) r.kept;
+          runs = taken.one r.state (ReadEpoch p) core (taken.reads r.state p x a.is is);
+          bare = r.items.none;
           count = refl;
           changed = ap (λ (c : ℕ). set r.state.participants p (record x { phase = HasRead c })) (sym r.epochs.count_is);
           inside = λ e h. absurd (cc);
@@ -71,14 +72,15 @@ module _ (S : Type 0) (sizes : Sizes) where
 
   publishes : (slots id : ℕ) (me : Me S Acting) (e v : ℕ) → me.0.kind ≡ 1 → me.0.known.phase ≡ HasRead e → me.0.scan ≡ 0 → v ≡ shown (Opened e)
       → Allows (Shows sizes) slots id me (state_word me.0.number) (λ _. v) (λ _. publish_then (step slots (state_word me.0.number) v 0 mathlib.Core.Option.none) me v)
-  publishes slots id me e v kind is still word s r _ at _ = let d = me.0 in let a = r.epochs.seats id d at kind in let t = published r.state d.number e d.known r.kept a.is is in let late = ((r.kept.1.2.guards d.number d.known a.is).reading e is).1 in
+  publishes slots id me e v kind is still word s r _ at _ = let d = me.0 in let a = r.epochs.seats id d at kind in let t = published r.state d.number e d.known r.items.none a.is is in let late = ((r.kept.1.2.guards d.number d.known a.is).reading e is).1 in
       let d' : Acting = record d { known = publishing e d.known; born = r.state.count } in (
         d',
         keeps,
         tt,
         own_store S sizes s r v id d d' (record {
           core = t.next;
-          after = t.after;
+          runs = t.runs;
+          bare = t.bare;
           count = t.count;
           changed = t.changed;
           inside = λ n h. let k : e ≡ n = cc in (omega arith, omega arith, omega arith);
@@ -112,7 +114,8 @@ module _ (S : Type 0) (sizes : Sizes) where
         tt,
         own_store S sizes s r 0 id d d' (record {
           core = core;
-          after = law.keeps r.state (Close p) core (taken.closes r.state p x a.is e is (sym found)) r.kept;
+          runs = taken.one r.state (Close p) core (taken.closes r.state p x a.is e is (sym found));
+          bare = r.items.none;
           count = refl;
           changed = refl;
           inside = λ n h. absurd (cc);

@@ -10,20 +10,21 @@ use Rattle.atomic_table.proofs.Lists.{at_snoc}
 use Rattle.sdd_base.specs.declared.sizes.Sizes.{Sizes}
 use Rattle.sdd_steps.specs.declared.participant.Phase.TheVariants.{Idle, Opened}
 use Rattle.sdd_steps.specs.declared.participant.Participant.{Participant}
+use Rattle.sdd_steps.specs.declared.step.Step.TheVariants.{End}
 use Rattle.sdd_steps.specs.State.{At, newcomer, start}
 use Rattle.sdd_steps.specs.Steps.{left_by}
 use Rattle.sdd_steps.specs.State as steps
 use Rattle.sdd_steps.specs.Kept.{Guarded}
 use Rattle.sdd_steps.proofs.Lists.{put, put_here, put_else, set_all, set_here, set_else, at_inside, at_replicate, find_at}
-use Rattle.sdd_steps.proofs.Keeps as keep
 use Rattle.sdd_steps.proofs.Law.{starts}
 use Rattle.sdd_domain.specs.Views.{spent, registered, rested}
 use Rattle.sdd_domain.specs.Layout.{state_word, claim_word, count_word, epoch_words, shown}
-use Rattle.sdd_domain.specs.Rule.{Acts, Shows}
+use Rattle.sdd_domain.specs.Rule.{Acts, beginning, Shows}
 use Rattle.sdd_domain.specs.Plays.{claim_then, end_then}
 use Rattle.sdd_domain.specs.declared.board.Acting.{Acting}
 use Rattle.sdd_domain.proofs.Bounds.{changes}
 use Rattle.sdd_domain.proofs.Moves.{idles}
+use Rattle.sdd_domain.proofs.Taken as taken
 
 -- the view of a seat that acts for nobody isn't that of one that acts
 nobody : (d : Acting) (G : Type 0) → spent ≡ d → d.kind ≡ 1 → G
@@ -50,9 +51,12 @@ module _ (S : Type 0) (sizes : Sizes) where
   -- a new place shows the start, where no guard is open, at the count that it is given
   pub begins : (count : ℕ) (words : List ℕ) (homes : List S) → count < 2 ^ 64 → words ≡ count ∷ replicate (8 * sizes.participants + 15) 0 → Shows sizes (opening words homes spent)
   begins count words homes fits is = let n = sizes.participants in let rest : ℕ = 8 * n + 15 in let w : (i : ℕ) → get_or words i 0 ≡ get_or (count ∷ replicate rest nothing) i 0 = (λ i. ap (λ (l : List ℕ). get_or l i 0) is) in
-      let start' : steps.State = record (start n sizes.cells) { count = count } in
+      let start' = beginning sizes count in
       let idle : (p : ℕ) (x : Participant) (e : ℕ) → At (replicate n newcomer) p x → x.phase ≡ Opened e → ⊥ = (λ p x e at h. let same : Idle ≡ Opened e = ap (λ (z : Participant). z.phase) (at_replicate n p newcomer x at) ∙ h in absurd (cc)) in record {
         state = start';
+        first = count;
+        run = ([], refl);
+        items = record { none = refl };
         kept = (
           (starts n sizes.cells).0,
           (
@@ -91,7 +95,10 @@ module _ (S : Type 0) (sizes : Sizes) where
     spent,
     record {
       state = r.state;
+      first = r.first;
+      run = r.run;
       kept = r.kept;
+      items = r.items;
       born = r.born;
       bounded = r.bounded;
       epochs = record {
@@ -118,7 +125,10 @@ module _ (S : Type 0) (sizes : Sizes) where
         tt,
         subst (λ b. Shows sizes record { words = set s.words i (either b 1 k); homes = s.homes; views = set s.views id d' }) (sym (eq-eqb k 0 none)) (record {
           state = r.state;
+          first = r.first;
+          run = r.run;
           kept = r.kept;
+          items = r.items;
           born = r.born;
           bounded = r.bounded;
           epochs = record {
@@ -163,13 +173,16 @@ module _ (S : Type 0) (sizes : Sizes) where
   ends slots id me kind is still s r _ at _ = let d = me.0 in let o = r.epochs in let a = o.seats id d at kind in let p = d.number in let x = d.known in let i : ℕ = claim_word p in let born = r.born in
       let wide = o.wide in let many = o.many in let ps = r.state.participants in let inside = at_inside ps p x a.is in let x' : Participant = record x { found = 0 } in
       let new : x' ≡ newcomer = ap (λ (z : Participant). record z { found = 0 }) (a.still is) in
-      let core : steps.State = record r.state { participants = set ps p x'; items = map (left_by p) r.state.items } in (
+      let core : steps.State = record r.state { participants = set ps p x'; items = map (left_by p) r.state.items } in let runs = taken.one r.state (End p) core (taken.ends r.state p x a.is is r.items.none) in (
         spent,
         keeps,
         tt,
         record {
           state = core;
-          kept = keep.ends r.state r.kept.0 r.kept.1.0 r.kept.1.1 r.kept.1.2 p x a.is is;
+          first = r.first;
+          run = taken.goes_on (beginning sizes r.first) r.state core r.run runs;
+          kept = taken.run_keeps r.state core runs r.kept;
+          items = record { none = ap (map (left_by p)) r.items.none };
           born = put born p (born p);
           bounded = changes ps r.state.count born r.bounded p x x' (born p) a.is (λ e h. let bad : Idle ≡ Opened e = sym is ∙ h in absurd (cc)) (λ e h. inr (h, refl)) (λ q y e h. let bad : Idle ≡ Opened r.state.count = sym is ∙ h in absurd (cc));
           epochs = record {

@@ -5,9 +5,13 @@ use native.Mathlib.Decide.{ℕ_discrete}
 use Rattle.sdd_steps.specs.declared.participant.Phase.{Phase}
 use Rattle.sdd_steps.specs.declared.participant.Phase.TheVariants.{Idle, HasRead, Opened}
 use Rattle.sdd_steps.specs.declared.participant.Participant.{Participant}
-use Rattle.sdd_steps.specs.declared.step.Step.TheVariants.{ReadEpoch, Publish, Rotate, Look, Raise, Close}
+use Rattle.sdd_steps.specs.declared.step.Step.{Step}
+use Rattle.sdd_steps.specs.declared.step.Step.TheVariants.{ReadEpoch, Publish, Rotate, Look, Raise, Close, End}
 use Rattle.sdd_steps.specs.State.{State, At, Has, has, with_participant, participant_at, participant_is}
-use Rattle.sdd_steps.specs.Steps.{Steps, enabled, after, opened, is_idle, is_reading, is_turning, is_inside, agrees, count_of, all_looked, older}
+use Rattle.sdd_steps.specs.Steps.{Steps, Schedule, opened, is_idle, is_reading, is_turning, is_inside, agrees, count_of, all_looked, older, left_by, none_due}
+use Rattle.sdd_steps.specs.Kept.{Inv}
+use Rattle.sdd_steps.proofs.Law.{keeps}
+use Rattle.sdd_domain.specs.Rule.{Runs}
 use Rattle.sdd_steps.proofs.Enabling.{participant_passes, participant_read}
 
 pub and_true : (a b : Bool) → a ≡ true → b ≡ true → (a && b) ≡ true
@@ -83,3 +87,28 @@ module _ (s : State) (p : ℕ) (x : Participant) (at : At s.participants p x) wh
 
   pub closes : (e : ℕ) → x.phase ≡ Opened e → e ≡ x.found → Steps s (Close p) (with_participant s p (record x { phase = Idle; reread = None; looked = []; loaded = [] }))
   closes e is found = (participant_passes is_inside s p x at (inside x e is found), λ j. with_participant s p (record (sym read j) { phase = Idle; reread = None; looked = []; loaded = [] }))
+
+  -- nothing is due where there is no item
+  pub ends : x.phase ≡ Idle → s.items ≡ [] → Steps s (End p) (record s { participants = set s.participants p (record x { found = 0 }); items = map (left_by p) s.items })
+  ends is none = (
+    and_true (participant_is is_idle s p) (none_due p s.items) (participant_passes is_idle s p x at (ap Rattle.sdd_steps.specs.Steps.idle is)) (ap (none_due p) none),
+    λ j. record s { participants = set s.participants p (record (sym read j) { found = 0 }); items = map (left_by p) s.items },
+  )
+
+-- single steps one after the other
+chained : (s m t : State) (list later : List Step) → Schedule s list m → Schedule m later t → Schedule s (list ++ later) t
+chained s m t [] later h k = subst (λ z. Schedule z later t) h k
+chained s m t (a ∷ list) later h k = (h.0, h.1, chained h.0 m t list later h.2 k)
+
+pub one : (s : State) (a : Step) (t : State) → Steps s a t → Runs s t
+one s a t h = (a ∷ [], (t, h, refl))
+
+pub goes_on : (s m t : State) → Runs s m → Runs m t → Runs s t
+goes_on s m t h k = (h.0 ++ k.0, chained s m t h.0 k.0 h.1 k.1)
+
+led : (s t : State) (list : List Step) → Schedule s list t → Inv s → Inv t
+led s t [] h i = subst Inv (sym h) i
+led s t (a ∷ list) h i = led h.0 t list h.2 (keeps s a h.0 h.1 i)
+
+pub run_keeps : (s t : State) → Runs s t → Inv s → Inv t
+run_keeps s t h i = led s t h.0 h.1 i

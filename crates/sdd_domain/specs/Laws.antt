@@ -8,13 +8,13 @@ use Rattle.sdd_steps.specs.declared.participant.Phase.TheVariants.{Opened}
 use Rattle.sdd_steps.specs.State as steps
 use Rattle.sdd_steps.specs.Kept.{Inv, Safe}
 use Rattle.sdd_domain.specs.Layout.{count_word}
-use Rattle.sdd_domain.specs.Rule.{Shows}
+use Rattle.sdd_domain.specs.Rule.{Runs, beginning, Shows}
 use Rattle.sdd_domain.specs.declared.board.Acting.{Acting}
 
 -- S is what the slots of the table hold
--- the words and views show a state of the single steps that meets their invariant and keeps their promise
+-- The words and views show a state of the single steps that a schedule of them has led to from the beginning. It meets their invariant and keeps their promise.
 abbrev pub ShowsSafe : Type 0 → Type 0
-ShowsSafe S = (sizes : Sizes) (s : State S Acting) → Shows sizes s → (t : steps.State) × Inv t × Safe t × (slice_index s.words count_word ≡ t.count)
+ShowsSafe S = (sizes : Sizes) (s : State S Acting) → Shows sizes s → (count : ℕ) × (t : steps.State) × Runs (beginning sizes count) t × Inv t × Safe t × (slice_index s.words count_word ≡ t.count)
 
 -- a guard that was published at the count `born` is open while the count is that or the next one
 abbrev pub RaisedAtMostOnce : Type 0 → Type 0

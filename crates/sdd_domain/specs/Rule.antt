@@ -1,13 +1,15 @@
 -- The rule of the table of a shared place: its words and views show a state of the single steps that meets their invariant.
-use Rattle.std.specs.Prelude.{◌≡◌, ℕ, ◌+◌, ◌*◌, ◌<◌, ◌≤◌, List, length, slice_index}
-use mathlib.Core.Option.{some}
+use Rattle.std.specs.Prelude.{◌≡◌, ℕ, ◌+◌, ◌*◌, ◌<◌, ◌≤◌, List, [], length, slice_index}
+use mathlib.Core.Option.{Option, some}
 use lib.ListN.{get_elem?}
 use Rattle.atomic_table.specs.Table.{State}
 use Rattle.sdd_base.specs.declared.sizes.Sizes.{Sizes}
 use Rattle.sdd_steps.specs.declared.participant.Phase.TheVariants.{Idle, Opened}
 use Rattle.sdd_steps.specs.declared.participant.Participant.{Participant}
-use Rattle.sdd_steps.specs.State.{At, Has, newcomer}
+use Rattle.sdd_steps.specs.State.{At, Has, newcomer, start}
 use Rattle.sdd_steps.specs.State as steps
+use Rattle.sdd_steps.specs.Steps.{Schedule}
+use Rattle.sdd_steps.specs.declared.step.Step.{Step}
 use Rattle.sdd_steps.specs.Kept.{Inv}
 use Rattle.sdd_domain.specs.Views.{rested}
 use Rattle.sdd_domain.specs.Layout.{count_word, lock_word, state_word, claim_word, epoch_words, shown}
@@ -40,10 +42,25 @@ pub record Epochs (n : ℕ) (state : steps.State) (born : ℕ → ℕ) (words : 
   pub free : (p : ℕ) (x : Participant) → At state.participants p x → slice_index words (claim_word p) ≡ 0 → x ≡ newcomer
   pub seats : (j : ℕ) (d : Acting) → get_elem? views j ≡ some d → d.kind ≡ 1 → Acts state.participants state.count born words seat_of scanner j d
 
--- Between any two steps: a state of the single steps meets their invariant, and the words and views show it.
+-- Single steps lead from one state to another.
+abbrev pub Runs : steps.State → steps.State → Type 0
+Runs s t = (list : List Step) × Schedule s list t
+
+-- a place begins without a guard and without an item, at the count that it is given
+abbrev pub beginning : Sizes → ℕ → steps.State
+beginning sizes count = record (start sizes.participants sizes.cells) { count = count }
+
+-- what stands of items, and of the values at home: there are none yet
+pub record Items {S : Type 0} (state : steps.State) (homes : List (Option S)) : Type 0 where
+  pub none : state.items ≡ []
+
+-- Between any two steps: single steps have led from the beginning to a state that meets their invariant, and the words and views show it.
 pub record Shows {S : Type 0} (sizes : Sizes) (s : State S Acting) : Type 0 where
   pub state : steps.State
+  pub first : ℕ
+  pub run : Runs (beginning sizes first) state
   pub kept : Inv state
   pub born : ℕ → ℕ
   pub bounded : Bounded state.participants state.count born
   pub epochs : Epochs sizes.participants state born s.words s.views
+  pub items : Items state s.homes
