@@ -1,11 +1,11 @@
 -- the start of a place, and what comes to act for a participant or ends, keep the rule of the table
-use Rattle.std.proofs.Common.{◌≡◌, ◌≢◌, ◌⊎◌, ℕ, zero, suc, ◌+◌, ◌*◌, ◌^◌, ◌<◌, ◌≤◌, eqb, eq-eqb, ne_eqb, List, [], ◌∷◌, length, map, replicate, get_or, set, sym, refl, ap, ◌∙◌, subst, ⊎_elim, inr, arith, length-set, get_or-set_other, get_or-set_same}
+use Rattle.std.proofs.Common.{◌≡◌, ◌≢◌, ℕ, zero, suc, ◌+◌, ◌*◌, ◌^◌, ◌<◌, ◌≤◌, eqb, eq-eqb, ne_eqb, List, [], ◌∷◌, length, map, replicate, get_or, set, sym, refl, ap, ◌∙◌, subst, ⊎_elim, inr, arith, length-set, get_or-set_other, get_or-set_same}
 use mathlib.Core.Logic.{dite}
 use mathlib.Core.Option.{some}
 use native.Mathlib.Decide.{ℕ_discrete}
 use lib.ListN.{get_elem?}
 use prog.Atomic.{either}
-use Rattle.atomic_table.specs.Table.{State, Me, step, keeps, Allows, Enters, opening}
+use Rattle.atomic_table.specs.Table.{Me, step, keeps, Allows, Enters, opening}
 use Rattle.atomic_table.proofs.Lists.{at_snoc}
 use Rattle.sdd_base.specs.declared.sizes.Sizes.{Sizes}
 use Rattle.sdd_steps.specs.declared.participant.Phase.TheVariants.{Idle, Opened}
@@ -15,10 +15,10 @@ use Rattle.sdd_steps.specs.State.{At, newcomer, start}
 use Rattle.sdd_steps.specs.Steps.{left_by}
 use Rattle.sdd_steps.specs.State as steps
 use Rattle.sdd_steps.specs.Kept.{Guarded}
-use Rattle.sdd_steps.proofs.Lists.{put, put_here, put_else, set_all, set_here, set_else, at_inside, at_replicate, find_at}
+use Rattle.sdd_steps.proofs.Lists.{put, put_here, put_else, set_all, set_else, at_inside, at_replicate, find_at}
 use Rattle.sdd_steps.proofs.Law.{starts}
-use Rattle.sdd_domain.specs.Views.{spent, registered, rested}
-use Rattle.sdd_domain.specs.Layout.{state_word, claim_word, count_word, epoch_words, shown}
+use Rattle.sdd_domain.specs.Views.{spent, registered}
+use Rattle.sdd_domain.specs.Layout.{state_word, claim_word, shown}
 use Rattle.sdd_domain.specs.Rule.{Acts, beginning, Shows}
 use Rattle.sdd_domain.specs.Plays.{claim_then, end_then}
 use Rattle.sdd_domain.specs.declared.board.Acting.{Acting}

@@ -1,5 +1,5 @@
 -- the single steps that participants take on the words of a place, from what stands at the places that they read
-use Rattle.std.proofs.Common.{◌≡◌, ◌≢◌, ◌&&◌, ◌||◌, ◌==◌, Bool, true, false, not, ℕ, zero, suc, ◌+◌, ◌-◌, ◌^◌, ◌<◌, List, [], ◌∷◌, ◌++◌, set, map, length, sym, refl, ap, ◌∙◌, subst, ⊎_elim, inl, inr, arith, Option, None, eq-eqb, ne_eqb, lt-ltb, nat_lt}
+use Rattle.std.proofs.Common.{◌≡◌, ◌≢◌, ◌&&◌, ◌||◌, ◌==◌, Bool, true, false, not, ℕ, zero, suc, ◌+◌, ◌-◌, ◌^◌, ◌<◌, List, [], ◌∷◌, ◌++◌, set, map, length, sym, refl, ap, ◌∙◌, subst, ⊎_elim, arith, None, eq-eqb, ne_eqb, lt-ltb, nat_lt}
 use mathlib.Core.Logic.{dite}
 use native.Mathlib.Decide.{ℕ_discrete}
 use Rattle.sdd_steps.specs.declared.participant.Phase.{Phase}

@@ -1,8 +1,8 @@
 -- what each step on a word tells the seat that makes it
-use Rattle.std.specs.Prelude.{◌≡◌, ◌≢◌, ◌⊎◌, ℕ, ◌+◌, ◌*◌, ◌<◌, ◌≤◌}
+use Rattle.std.specs.Prelude.{◌≡◌, ◌≢◌, ◌⊎◌, ℕ, ◌+◌, ◌≤◌}
 use Rattle.atomic_table.specs.Table.{Me, Step}
 use Rattle.atomic_table.specs.declared.shared.Seat.{Seat}
-use Rattle.sdd_steps.specs.declared.participant.Phase.TheVariants.{Idle, HasRead, Opened}
+use Rattle.sdd_steps.specs.declared.participant.Phase.TheVariants.{HasRead, Opened}
 use Rattle.sdd_domain.specs.Views.{spent, registered, reading, publishing, looking, closing}
 use Rattle.sdd_domain.specs.Layout.{state_word, claim_word, shown}
 use Rattle.sdd_domain.specs.declared.board.Acting.{Acting}

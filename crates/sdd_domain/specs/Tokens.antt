@@ -1,10 +1,8 @@
 -- what places, participants and guards show to clauses
-use Rattle.std.specs.Prelude.{◌≡◌, ℕ, ◌+◌, ◌-◌, ◌==◌, ◌&&◌, false, cond}
+use Rattle.std.specs.Prelude.{◌≡◌, ℕ, ◌-◌, ◌==◌, ◌&&◌, false, cond}
 use Rattle.atomic_table.specs.Seated.{TableId}
 use Rattle.sdd_base.specs.declared.status.Marks.{Marks}
 use Rattle.sdd_base.specs.Steps.{closings_after, scans}
-use Rattle.sdd_steps.specs.declared.participant.Phase.{Phase}
-use Rattle.sdd_steps.specs.declared.participant.Phase.TheVariants.{Idle, Opened}
 use Rattle.sdd_domain.specs.declared.domain.Domain.{Domain}
 use Rattle.sdd_domain.specs.declared.local.Local.{Local}
 use Rattle.sdd_domain.specs.declared.guard.Guard.{Guard}

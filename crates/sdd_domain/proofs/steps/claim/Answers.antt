@@ -1,4 +1,4 @@
-use Rattle.std.proofs.Common.{◌∙◌, sym, refl, rules, arith, eqb-true, eq-eqb}
+use Rattle.std.proofs.Common.{◌∙◌, sym, refl, rules, eqb-true, eq-eqb}
 use Rattle.std.proofs.lemmas.Bool.{false≢true}
 use Rattle.sdd_domain.proofs.Seats.{claims}
 use Rattle.sdd_domain.proofs.steps.claim.Goals as goal

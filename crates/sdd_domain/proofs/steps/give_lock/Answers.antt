@@ -1,4 +1,4 @@
-use Rattle.std.proofs.Common.{rules, arith, ◌<◌, ⊎_elim}
+use Rattle.std.proofs.Common.{rules, arith, ⊎_elim}
 use Rattle.sdd_domain.proofs.Locks.{unlocks}
 use Rattle.sdd_domain.specs.Plays.{Scans}
 use Rattle.sdd_domain.proofs.steps.give_lock.Goals as goal

@@ -1,4 +1,4 @@
-use Rattle.std.proofs.Common.{◌≡◌, ℕ, List, refl, sym, ap, subst}
+use Rattle.std.proofs.Common.{ℕ, List, sym, ap, subst}
 use Rattle.sdd_steps.specs.State.{Has}
 use Rattle.sdd_domain.proofs.Looks.{has_last, has_more}
 use Rattle.sdd_domain.proofs.steps.look.Goals as goal

@@ -1,4 +1,4 @@
-use Rattle.std.proofs.Common.{◌≡◌, ◌≢◌, ◌+◌, ◌*◌, ℕ, rules, arith, refl, inl, inr, sym, ◌∙◌, eq-eqb}
+use Rattle.std.proofs.Common.{◌≡◌, ◌≢◌, ◌+◌, rules, arith, refl, inl, inr, sym, ◌∙◌, eq-eqb}
 use Rattle.std.proofs.lemmas.Bool.{false≢true}
 use Rattle.sdd_domain.proofs.Looks.{looks}
 use Rattle.sdd_domain.proofs.steps.look_at.Goals as goal

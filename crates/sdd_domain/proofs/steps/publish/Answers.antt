@@ -1,4 +1,4 @@
-use Rattle.std.proofs.Common.{rules, arith}
+use Rattle.std.proofs.Common.{rules}
 use Rattle.sdd_domain.proofs.Openings.{publishes_at}
 use Rattle.sdd_domain.proofs.steps.publish.Goals as goal
 

@@ -1,4 +1,4 @@
-use Rattle.std.proofs.Common.{◌≡◌, ◌≢◌, ◌<◌, ℕ, rules, arith, subst, sym}
+use Rattle.std.proofs.Common.{◌≢◌, ◌<◌, ℕ, rules, subst, sym}
 use Rattle.sdd_steps.specs.State.{Has}
 use Rattle.sdd_domain.proofs.Looks.{raises}
 use Rattle.sdd_domain.proofs.steps.raise.Goals as goal

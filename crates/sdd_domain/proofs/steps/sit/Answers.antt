@@ -1,4 +1,4 @@
-use Rattle.std.proofs.Common.{rules, arith}
+use Rattle.std.proofs.Common.{rules}
 use Rattle.sdd_domain.proofs.Seats.{sits}
 use Rattle.sdd_domain.proofs.steps.sit.Goals as goal
 

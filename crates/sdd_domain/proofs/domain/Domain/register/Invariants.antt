@@ -1,5 +1,4 @@
 use Rattle.std.proofs.Common.{◌≡◌}
-use Rattle.sdd_domain.specs.Views.{spent}
 use Rattle.sdd_domain.proofs.domain.Domain.register.Given as goal
 
 abbrev pub invariant-loop-number : goal.invariant-loop-number

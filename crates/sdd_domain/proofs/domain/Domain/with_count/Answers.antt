@@ -1,4 +1,4 @@
-use Rattle.std.proofs.Common.{◌≡◌, ◌+◌, ◌*◌, ◌∙◌, [], replicate, rules, arith}
+use Rattle.std.proofs.Common.{[], rules, arith}
 use Rattle.sdd_domain.proofs.Seats.{begins}
 use Rattle.sdd_domain.proofs.domain.Domain.with_count.Goals as goal
 
