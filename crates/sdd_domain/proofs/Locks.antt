@@ -6,7 +6,7 @@ use native.Mathlib.Decide.{ℕ_discrete}
 use lib.ListN.{get_elem?}
 use prog.Atomic.{either}
 use Rattle.atomic_table.specs.Table.{State, Me, step, keeps, Allows}
-use Rattle.sdd_base.specs.declared.sizes.Sizes.{Sizes}
+use Rattle.sdd_domain.specs.declared.board.Plan.{Plan}
 use Rattle.sdd_steps.proofs.Lists.{set_all, at_inside}
 use Rattle.sdd_domain.specs.Layout.{state_word, claim_word, lock_word}
 use Rattle.sdd_domain.specs.Rule.{Acts, Shows}
@@ -14,14 +14,13 @@ use Rattle.sdd_domain.specs.Plays.{lock_then, unlock_then}
 use Rattle.sdd_domain.specs.declared.board.Acting.{Acting}
 use Rattle.sdd_domain.proofs.Moves.{idles}
 
-module _ (S : Type 0) (sizes : Sizes) where
+module _ (S : Type 0) (plan : Plan) where
   -- the lock changes hands: nobody else has it
-  turns : (s : State S Acting) (r : Shows sizes s) (v id st : ℕ) (d : Acting) → get_elem? s.views id ≡ some d → d.kind ≡ 1 → st < 2 → (0 < st → v ≡ 1)
+  turns : (s : State S Acting) (r : Shows plan s) (v id st : ℕ) (d : Acting) → get_elem? s.views id ≡ some d → d.kind ≡ 1 → st < 2 → (0 < st → v ≡ 1)
       → ((j : ℕ) (e : Acting) → j ≢ id → get_elem? s.views j ≡ some e → e.kind ≡ 1 → e.scan ≡ 0)
-      → Shows sizes record { words = set s.words lock_word v; homes = s.homes; views = set s.views id (record d { scan = st }) }
+      → Shows plan record { words = set s.words lock_word v; homes = s.homes; views = set s.views id (record d { scan = st }) }
   turns s r v id st d at kind small one alone = let o = r.epochs in let a = o.seats id d at kind in let wide = o.wide in let many = o.many in let inside = at_inside r.state.participants d.number d.known a.is in record {
     state = r.state;
-    first = r.first;
     run = r.run;
     kept = r.kept;
     items = r.items;
@@ -30,7 +29,7 @@ module _ (S : Type 0) (sizes : Sizes) where
     epochs = record {
       seat_of = o.seat_of;
       scanner = id;
-      wide = subst (λ n. 8 * sizes.participants + 16 ≤ n) (sym (length-set s.words 8 v)) wide;
+      wide = subst (λ n. 8 * plan.sizes.participants + 16 ≤ n) (sym (length-set s.words 8 v)) wide;
       many = many;
       count_is = get_or-set_other s.words 8 0 v 0 (λ e. omega arith) ∙ o.count_is;
       states = λ q y at_q. get_or-set_other s.words 8 (state_word q) v 0 (λ e. omega arith) ∙ o.states q y at_q;
@@ -58,20 +57,20 @@ module _ (S : Type 0) (sizes : Sizes) where
   }
 
   pub locks : (slots id : ℕ) (me : Me S Acting) → me.0.kind ≡ 1 → me.0.scan ≡ 0
-      → Allows (Shows sizes) slots id me lock_word (λ k. either (eqb k 0) 1 k) (lock_then (step slots lock_word 0 1 mathlib.Core.Option.none) me)
+      → Allows (Shows plan) slots id me lock_word (λ k. either (eqb k 0) 1 k) (lock_then (step slots lock_word 0 1 mathlib.Core.Option.none) me)
   locks slots id me kind still s r _ at _ = let d = me.0 in let k : ℕ = get_or s.words 8 0 in dite (ℕ_discrete k 0)
       (λ none. (
         record d { scan = 1 },
         keeps,
         tt,
-        subst (λ b. Shows sizes record { words = set s.words 8 (either b 1 k); homes = s.homes; views = set s.views id (record d { scan = 1 }) }) (sym (eq-eqb k 0 none))
+        subst (λ b. Shows plan record { words = set s.words 8 (either b 1 k); homes = s.homes; views = set s.views id (record d { scan = 1 }) }) (sym (eq-eqb k 0 none))
             (turns s r 1 id 1 d at kind (omega arith) (λ _. refl) (λ j e apart here kind'. let b = r.epochs.seats j e here kind' in dite (ℕ_discrete e.scan 0) (λ z. z) (λ z. let l = (b.locked (omega arith)).0 in absurd (omega arith)))),
         ((λ _. refl), λ h. absurd (h none)),
       ))
-      (λ taken. (d, keeps, tt, subst (λ b. Shows sizes record { words = set s.words 8 (either b 1 k); homes = s.homes; views = set s.views id d }) (sym (ne_eqb k 0 taken)) (idles S sizes s r 8 id d at), ((λ h. absurd (taken h)), λ _. refl)))
+      (λ taken. (d, keeps, tt, subst (λ b. Shows plan record { words = set s.words 8 (either b 1 k); homes = s.homes; views = set s.views id d }) (sym (ne_eqb k 0 taken)) (idles S plan s r 8 id d at), ((λ h. absurd (taken h)), λ _. refl)))
 
   pub unlocks : (slots id : ℕ) (me : Me S Acting) → me.0.kind ≡ 1 → 0 < me.0.scan
-      → Allows (Shows sizes) slots id me lock_word (λ _. 0) (λ _. unlock_then (step slots lock_word 0 0 mathlib.Core.Option.none) me 0)
+      → Allows (Shows plan) slots id me lock_word (λ _. 0) (λ _. unlock_then (step slots lock_word 0 0 mathlib.Core.Option.none) me 0)
   unlocks slots id me kind mine s r _ at _ = let d = me.0 in let a = r.epochs.seats id d at kind in let l = a.locked mine in (
     record d { scan = 0 },
     keeps,

@@ -5,7 +5,7 @@ use lib.ListN.{get_elem?}
 use lib.Seq.{set-get_or}
 use Rattle.atomic_table.specs.Table.{State}
 use Rattle.atomic_table.proofs.Lists.{set_again}
-use Rattle.sdd_base.specs.declared.sizes.Sizes.{Sizes}
+use Rattle.sdd_domain.specs.declared.board.Plan.{Plan}
 use Rattle.sdd_steps.specs.declared.participant.Phase.TheVariants.{Idle, Opened}
 use Rattle.sdd_steps.specs.declared.participant.Participant.{Participant}
 use Rattle.sdd_steps.specs.State.{At, Has, newcomer}
@@ -44,19 +44,18 @@ module _ (p : ℕ) (before after : List ℕ) where
     pub others : (q : ℕ) → q ≢ p → get_or after (state_word q) 0 ≡ get_or before (state_word q) 0
     pub mine : get_or after (state_word p) 0 ≡ v
 
-module _ (S : Type 0) (sizes : Sizes) where
+module _ (S : Type 0) (plan : Plan) where
   abbrev pub Table : Type 0
   Table = State S Acting
 
   abbrev pub Shown : Table → Type 0
-  Shown = Shows sizes
+  Shown = Shows plan
 
   moved : (s : Table) (r : Shown s) (id : ℕ) (d d' : Acting) (words' : List ℕ) (m : Moves r.state r.born d d') → get_elem? s.views id ≡ some d → d.kind ≡ 1
       → Writes d.number s.words words' (shown d'.known.phase) → Shown record { words = words'; homes = s.homes; views = set s.views id d' }
   moved s r id d d' words' m at kind w = let e = r.epochs in let a = e.seats id d at kind in let p = d.number in let x' = d'.known in let ps = r.state.participants in record {
     state = m.core;
-    first = r.first;
-    run = goes_on (beginning sizes r.first) r.state m.core r.run m.runs;
+    run = goes_on (beginning plan) r.state m.core r.run m.runs;
     kept = run_keeps r.state m.core m.runs r.kept;
     items = record { none = m.bare };
     born = put r.born p d'.born;
@@ -65,7 +64,7 @@ module _ (S : Type 0) (sizes : Sizes) where
     epochs = record {
       seat_of = e.seat_of;
       scanner = e.scanner;
-      wide = subst (λ n. 8 * sizes.participants + 16 ≤ n) (sym w.long) e.wide;
+      wide = subst (λ n. 8 * plan.sizes.participants + 16 ≤ n) (sym w.long) e.wide;
       many = ap length m.changed ∙ (length-set ps p x' ∙ e.many);
       count_is = w.count ∙ (e.count_is ∙ sym m.count);
       states = λ q y at_q. set_all (λ q' y'. get_or words' (state_word q') 0 ≡ shown y'.phase) ps p x' w.mine

@@ -3,7 +3,7 @@ use Rattle.std.proofs.Common.{◌≡◌, ℕ, zero, suc, ◌≤◌, List, [], �
 use mathlib.Core.Logic.{dite}
 use native.Mathlib.Decide.{ℕ_discrete}
 use Rattle.atomic_table.specs.Table.{Me, step, keeps, Allows}
-use Rattle.sdd_base.specs.declared.sizes.Sizes.{Sizes}
+use Rattle.sdd_domain.specs.declared.board.Plan.{Plan}
 use Rattle.sdd_steps.specs.declared.participant.Phase.TheVariants.{Idle, HasRead, Opened}
 use Rattle.sdd_steps.specs.declared.participant.Participant.{Participant}
 use Rattle.sdd_steps.specs.declared.step.Step.TheVariants.{ReadEpoch, Publish, Rotate, Close}
@@ -44,16 +44,16 @@ published core p e x none at is = let x1 : Participant = record x { phase = Open
       changed = set_twice core.participants p x1 x2;
     })
 
-module _ (S : Type 0) (sizes : Sizes) where
+module _ (S : Type 0) (plan : Plan) where
   pub reads : (slots id : ℕ) (me : Me S Acting) → me.0.kind ≡ 1 → me.0.known.phase ≡ Idle → me.0.scan ≡ 0
-      → Allows (Shows sizes) slots id me count_word (λ k. k) (read_then (step slots count_word 0 0 mathlib.Core.Option.none) me)
+      → Allows (Shows plan) slots id me count_word (λ k. k) (read_then (step slots count_word 0 0 mathlib.Core.Option.none) me)
   reads slots id me kind is still s r _ at _ = let d = me.0 in let a = r.epochs.seats id d at kind in let x = d.known in let p = d.number in let k : ℕ = get_or s.words 0 0 in
       let core = with_participant r.state p (record x { phase = HasRead r.state.count }) in
       let d' : Acting = record d { known = reading k d.known } in (
         d',
         keeps,
         tt,
-        own_load S sizes s r 0 id d d' (record {
+        own_load S plan s r 0 id d d' (record {
           core = core;
           runs = taken.one r.state (ReadEpoch p) core (taken.reads r.state p x a.is is);
           bare = r.items.none;
@@ -71,13 +71,13 @@ module _ (S : Type 0) (sizes : Sizes) where
       )
 
   publishes : (slots id : ℕ) (me : Me S Acting) (e v : ℕ) → me.0.kind ≡ 1 → me.0.known.phase ≡ HasRead e → me.0.scan ≡ 0 → v ≡ shown (Opened e)
-      → Allows (Shows sizes) slots id me (state_word me.0.number) (λ _. v) (λ _. publish_then (step slots (state_word me.0.number) v 0 mathlib.Core.Option.none) me v)
+      → Allows (Shows plan) slots id me (state_word me.0.number) (λ _. v) (λ _. publish_then (step slots (state_word me.0.number) v 0 mathlib.Core.Option.none) me v)
   publishes slots id me e v kind is still word s r _ at _ = let d = me.0 in let a = r.epochs.seats id d at kind in let t = published r.state d.number e d.known r.items.none a.is is in let late = ((r.kept.1.2.guards d.number d.known a.is).reading e is).1 in
       let d' : Acting = record d { known = publishing e d.known; born = r.state.count } in (
         d',
         keeps,
         tt,
-        own_store S sizes s r v id d d' (record {
+        own_store S plan s r v id d d' (record {
           core = t.next;
           runs = t.runs;
           bare = t.bare;
@@ -96,23 +96,23 @@ module _ (S : Type 0) (sizes : Sizes) where
       )
 
   pub publishes_at : (slots id : ℕ) (me : Me S Acting) (p e v : ℕ) → me.0.number ≡ p → me.0.kind ≡ 1 → me.0.known.phase ≡ HasRead e → me.0.scan ≡ 0 → v ≡ shown (Opened e)
-      → Allows (Shows sizes) slots id me (state_word p) (λ _. v) (λ _. publish_then (step slots (state_word p) v 0 mathlib.Core.Option.none) me v)
-  publishes_at slots id me p e v here kind is still word = subst (λ q. Allows (Shows sizes) slots id me (state_word q) (λ _. v) (λ _. publish_then (step slots (state_word q) v 0 mathlib.Core.Option.none) me v)) here
+      → Allows (Shows plan) slots id me (state_word p) (λ _. v) (λ _. publish_then (step slots (state_word p) v 0 mathlib.Core.Option.none) me v)
+  publishes_at slots id me p e v here kind is still word = subst (λ q. Allows (Shows plan) slots id me (state_word q) (λ _. v) (λ _. publish_then (step slots (state_word q) v 0 mathlib.Core.Option.none) me v)) here
       (publishes slots id me e v kind is still word)
 
   pub counts : (slots id : ℕ) (me : Me S Acting) (e : ℕ) → me.0.kind ≡ 1 → me.0.known.phase ≡ Opened e
-      → Allows (Shows sizes) slots id me count_word (λ k. k) (count_then (step slots count_word 0 0 mathlib.Core.Option.none) me)
-  counts slots id me e kind is s r _ at _ = let d = me.0 in let i = own_inside S sizes s r id d at kind e is in let i1 = i.1 in let i2 = i.2 in
-      let here = r.epochs.count_is in (d, keeps, tt, idles S sizes s r 0 id d at, (refl, omega arith, omega arith))
+      → Allows (Shows plan) slots id me count_word (λ k. k) (count_then (step slots count_word 0 0 mathlib.Core.Option.none) me)
+  counts slots id me e kind is s r _ at _ = let d = me.0 in let i = own_inside S plan s r id d at kind e is in let i1 = i.1 in let i2 = i.2 in
+      let here = r.epochs.count_is in (d, keeps, tt, idles S plan s r 0 id d at, (refl, omega arith, omega arith))
 
   pub closes_at : (slots id : ℕ) (me : Me S Acting) (p e : ℕ) → me.0.number ≡ p → me.0.kind ≡ 1 → me.0.known.phase ≡ Opened e → me.0.known.found ≡ e → me.0.scan ≡ 0
-      → Allows (Shows sizes) slots id me (state_word p) (λ _. 0) (λ _. close_then (step slots (state_word p) 0 0 mathlib.Core.Option.none) me 0)
-  closes_at slots id me p e here kind is found still = subst (λ q. Allows (Shows sizes) slots id me (state_word q) (λ _. 0) (λ _. close_then (step slots (state_word q) 0 0 mathlib.Core.Option.none) me 0)) here
+      → Allows (Shows plan) slots id me (state_word p) (λ _. 0) (λ _. close_then (step slots (state_word p) 0 0 mathlib.Core.Option.none) me 0)
+  closes_at slots id me p e here kind is found still = subst (λ q. Allows (Shows plan) slots id me (state_word q) (λ _. 0) (λ _. close_then (step slots (state_word q) 0 0 mathlib.Core.Option.none) me 0)) here
       (λ s r _ at _. let d = me.0 in let a = r.epochs.seats id d at kind in let x = d.known in let p = d.number in let d' : Acting = record d { known = closing d.known } in let core = with_participant r.state p (closing x) in (
         d',
         keeps,
         tt,
-        own_store S sizes s r 0 id d d' (record {
+        own_store S plan s r 0 id d d' (record {
           core = core;
           runs = taken.one r.state (Close p) core (taken.closes r.state p x a.is e is (sym found));
           bare = r.items.none;

@@ -7,7 +7,7 @@ use lib.ListN.{get_elem?}
 use prog.Atomic.{either}
 use Rattle.atomic_table.specs.Table.{Me, step, keeps, Allows, Enters, opening}
 use Rattle.atomic_table.proofs.Lists.{at_snoc}
-use Rattle.sdd_base.specs.declared.sizes.Sizes.{Sizes}
+use Rattle.sdd_domain.specs.declared.board.Plan.{Plan}
 use Rattle.sdd_steps.specs.declared.participant.Phase.TheVariants.{Idle, Opened}
 use Rattle.sdd_steps.specs.declared.participant.Participant.{Participant}
 use Rattle.sdd_steps.specs.declared.step.Step.TheVariants.{End}
@@ -47,18 +47,17 @@ many_of : {A : Type 0} (n : ℕ) (x : A) → length (replicate n x) ≡ n
 many_of zero x = refl
 many_of (suc n) x = ap suc (many_of n x)
 
-module _ (S : Type 0) (sizes : Sizes) where
+module _ (S : Type 0) (plan : Plan) where
   -- a new place shows the start, where no guard is open, at the count that it is given
-  pub begins : (count : ℕ) (words : List ℕ) (homes : List S) → count < 2 ^ 64 → words ≡ count ∷ replicate (8 * sizes.participants + 15) 0 → Shows sizes (opening words homes spent)
-  begins count words homes fits is = let n = sizes.participants in let rest : ℕ = 8 * n + 15 in let w : (i : ℕ) → get_or words i 0 ≡ get_or (count ∷ replicate rest nothing) i 0 = (λ i. ap (λ (l : List ℕ). get_or l i 0) is) in
-      let start' = beginning sizes count in
+  pub begins : (words : List ℕ) (homes : List S) → plan.first < 2 ^ 64 → words ≡ plan.first ∷ replicate (8 * plan.sizes.participants + 15) 0 → Shows plan (opening words homes spent)
+  begins words homes fits is = let count = plan.first in let n = plan.sizes.participants in let rest : ℕ = 8 * n + 15 in let w : (i : ℕ) → get_or words i 0 ≡ get_or (count ∷ replicate rest nothing) i 0 = (λ i. ap (λ (l : List ℕ). get_or l i 0) is) in
+      let start' = beginning plan in
       let idle : (p : ℕ) (x : Participant) (e : ℕ) → At (replicate n newcomer) p x → x.phase ≡ Opened e → ⊥ = (λ p x e at h. let same : Idle ≡ Opened e = ap (λ (z : Participant). z.phase) (at_replicate n p newcomer x at) ∙ h in absurd (cc)) in record {
         state = start';
-        first = count;
         run = ([], refl);
         items = record { none = refl };
         kept = (
-          (starts n sizes.cells).0,
+          (starts n plan.sizes.cells).0,
           (
             (λ _. 0),
             (λ _. 0),
@@ -90,12 +89,11 @@ module _ (S : Type 0) (sizes : Sizes) where
         };
       }
 
-  pub sits : (slots i : ℕ) → Enters {S = S} (Shows sizes) slots i (λ _ w. w ≡ spent)
+  pub sits : (slots i : ℕ) → Enters {S = S} (Shows plan) slots i (λ _ w. w ≡ spent)
   sits slots i s r _ _ = let o = r.epochs in (
     spent,
     record {
       state = r.state;
-      first = r.first;
       run = r.run;
       kept = r.kept;
       items = r.items;
@@ -115,17 +113,16 @@ module _ (S : Type 0) (sizes : Sizes) where
     refl,
   )
 
-  pub claims : (slots id : ℕ) (me : Me S Acting) (q : ℕ) → me.0.kind ≡ 0 → q < sizes.participants
-      → Allows (Shows sizes) slots id me (claim_word q) (λ k. either (eqb k 0) 1 k) (claim_then (step slots (claim_word q) 0 1 mathlib.Core.Option.none) me)
+  pub claims : (slots id : ℕ) (me : Me S Acting) (q : ℕ) → me.0.kind ≡ 0 → q < plan.sizes.participants
+      → Allows (Shows plan) slots id me (claim_word q) (λ k. either (eqb k 0) 1 k) (claim_then (step slots (claim_word q) 0 1 mathlib.Core.Option.none) me)
   claims slots id me q kind small s r _ at _ = let d = me.0 in let o = r.epochs in let i : ℕ = claim_word q in let k : ℕ = get_or s.words i 0 in let wide = o.wide in let many = o.many in dite (ℕ_discrete k 0)
       (λ none. let d' : Acting = registered q in let seat_of = put o.seat_of q id in let words = set s.words i 1 in
       let y = find_at r.state.participants q (omega arith) in let new = o.free q y.0 y.1 none in (
         d',
         keeps,
         tt,
-        subst (λ b. Shows sizes record { words = set s.words i (either b 1 k); homes = s.homes; views = set s.views id d' }) (sym (eq-eqb k 0 none)) (record {
+        subst (λ b. Shows plan record { words = set s.words i (either b 1 k); homes = s.homes; views = set s.views id d' }) (sym (eq-eqb k 0 none)) (record {
           state = r.state;
-          first = r.first;
           run = r.run;
           kept = r.kept;
           items = r.items;
@@ -134,7 +131,7 @@ module _ (S : Type 0) (sizes : Sizes) where
           epochs = record {
             seat_of = seat_of;
             scanner = o.scanner;
-            wide = subst (λ n. 8 * sizes.participants + 16 ≤ n) (sym (length-set s.words i 1)) wide;
+            wide = subst (λ n. 8 * plan.sizes.participants + 16 ≤ n) (sym (length-set s.words i 1)) wide;
             many = many;
             count_is = get_or-set_other s.words i 0 1 0 (λ e. omega arith) ∙ o.count_is;
             states = λ p x at_p. get_or-set_other s.words i (state_word p) 1 0 (λ e. omega arith) ∙ o.states p x at_p;
@@ -165,11 +162,11 @@ module _ (S : Type 0) (sizes : Sizes) where
         }),
         λ q' iq. let same : q ≡ q' = omega arith in ((λ _. ap (λ (z : ℕ). (registered z, me.1)) same), λ h. absurd (h none)),
       ))
-      (λ taken. (d, keeps, tt, subst (λ b. Shows sizes record { words = set s.words i (either b 1 k); homes = s.homes; views = set s.views id d }) (sym (ne_eqb k 0 taken)) (idles S sizes s r i id d at), λ q' iq. ((λ h. absurd (taken h)), λ _. refl)))
+      (λ taken. (d, keeps, tt, subst (λ b. Shows plan record { words = set s.words i (either b 1 k); homes = s.homes; views = set s.views id d }) (sym (ne_eqb k 0 taken)) (idles S plan s r i id d at), λ q' iq. ((λ h. absurd (taken h)), λ _. refl)))
 
   -- the participant ends: what it retired waits, and the next one that acts for it is a newcomer
   ends : (slots id : ℕ) (me : Me S Acting) → me.0.kind ≡ 1 → me.0.known.phase ≡ Idle → me.0.scan ≡ 0
-      → Allows (Shows sizes) slots id me (claim_word me.0.number) (λ _. 0) (λ _. end_then (step slots (claim_word me.0.number) 0 0 mathlib.Core.Option.none) me 0)
+      → Allows (Shows plan) slots id me (claim_word me.0.number) (λ _. 0) (λ _. end_then (step slots (claim_word me.0.number) 0 0 mathlib.Core.Option.none) me 0)
   ends slots id me kind is still s r _ at _ = let d = me.0 in let o = r.epochs in let a = o.seats id d at kind in let p = d.number in let x = d.known in let i : ℕ = claim_word p in let born = r.born in
       let wide = o.wide in let many = o.many in let ps = r.state.participants in let inside = at_inside ps p x a.is in let x' : Participant = record x { found = 0 } in
       let new : x' ≡ newcomer = ap (λ (z : Participant). record z { found = 0 }) (a.still is) in
@@ -179,8 +176,7 @@ module _ (S : Type 0) (sizes : Sizes) where
         tt,
         record {
           state = core;
-          first = r.first;
-          run = taken.goes_on (beginning sizes r.first) r.state core r.run runs;
+          run = taken.goes_on (beginning plan) r.state core r.run runs;
           kept = taken.run_keeps r.state core runs r.kept;
           items = record { none = ap (map (left_by p)) r.items.none };
           born = put born p (born p);
@@ -188,7 +184,7 @@ module _ (S : Type 0) (sizes : Sizes) where
           epochs = record {
             seat_of = o.seat_of;
             scanner = o.scanner;
-            wide = subst (λ n. 8 * sizes.participants + 16 ≤ n) (sym (length-set s.words i 0)) wide;
+            wide = subst (λ n. 8 * plan.sizes.participants + 16 ≤ n) (sym (length-set s.words i 0)) wide;
             many = length-set ps p x' ∙ many;
             count_is = get_or-set_other s.words i 0 0 0 (λ e. omega arith) ∙ o.count_is;
             states = set_all (λ q y. get_or (set s.words i 0) (state_word q) 0 ≡ shown y.phase) ps p x'
@@ -213,5 +209,5 @@ module _ (S : Type 0) (sizes : Sizes) where
       )
 
   pub ends_at : (slots id : ℕ) (me : Me S Acting) (p : ℕ) → me.0.number ≡ p → me.0.kind ≡ 1 → me.0.known.phase ≡ Idle → me.0.scan ≡ 0
-      → Allows (Shows sizes) slots id me (claim_word p) (λ _. 0) (λ _. end_then (step slots (claim_word p) 0 0 mathlib.Core.Option.none) me 0)
-  ends_at slots id me p here kind is still = subst (λ q. Allows (Shows sizes) slots id me (claim_word q) (λ _. 0) (λ _. end_then (step slots (claim_word q) 0 0 mathlib.Core.Option.none) me 0)) here (ends slots id me kind is still)
+      → Allows (Shows plan) slots id me (claim_word p) (λ _. 0) (λ _. end_then (step slots (claim_word p) 0 0 mathlib.Core.Option.none) me 0)
+  ends_at slots id me p here kind is still = subst (λ q. Allows (Shows plan) slots id me (claim_word q) (λ _. 0) (λ _. end_then (step slots (claim_word q) 0 0 mathlib.Core.Option.none) me 0)) here (ends slots id me kind is still)

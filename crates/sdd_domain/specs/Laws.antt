@@ -3,20 +3,20 @@ use Rattle.std.specs.Prelude.{◌≡◌, ℕ, ◌+◌, ◌≤◌, slice_index}
 use mathlib.Core.Option.{some}
 use lib.ListN.{get_elem?}
 use Rattle.atomic_table.specs.Table.{State}
-use Rattle.sdd_base.specs.declared.sizes.Sizes.{Sizes}
 use Rattle.sdd_steps.specs.declared.participant.Phase.TheVariants.{Opened}
 use Rattle.sdd_steps.specs.State as steps
 use Rattle.sdd_steps.specs.Kept.{Inv, Safe}
 use Rattle.sdd_domain.specs.Layout.{count_word}
 use Rattle.sdd_domain.specs.Rule.{Runs, beginning, Shows}
 use Rattle.sdd_domain.specs.declared.board.Acting.{Acting}
+use Rattle.sdd_domain.specs.declared.board.Plan.{Plan}
 
 -- S is what the slots of the table hold
 -- The words and views show a state of the single steps that a schedule of them has led to from the beginning. It meets their invariant and keeps their promise.
 abbrev pub ShowsSafe : Type 0 → Type 0
-ShowsSafe S = (sizes : Sizes) (s : State S Acting) → Shows sizes s → (count : ℕ) × (t : steps.State) × Runs (beginning sizes count) t × Inv t × Safe t × (slice_index s.words count_word ≡ t.count)
+ShowsSafe S = (plan : Plan) (s : State S Acting) → Shows plan s → (t : steps.State) × Runs (beginning plan) t × Inv t × Safe t × (slice_index s.words count_word ≡ t.count)
 
 -- a guard that was published at the count `born` is open while the count is that or the next one
 abbrev pub RaisedAtMostOnce : Type 0 → Type 0
-RaisedAtMostOnce S = (sizes : Sizes) (s : State S Acting) (seat : ℕ) (v : Acting) (e : ℕ) → Shows sizes s → get_elem? s.views seat ≡ some v → v.kind ≡ 1 → v.known.phase ≡ Opened e
+RaisedAtMostOnce S = (plan : Plan) (s : State S Acting) (seat : ℕ) (v : Acting) (e : ℕ) → Shows plan s → get_elem? s.views seat ≡ some v → v.kind ≡ 1 → v.known.phase ≡ Opened e
     → (e ≤ v.born) × (v.born ≤ slice_index s.words count_word) × (slice_index s.words count_word ≤ v.born + 1)

@@ -3,7 +3,6 @@ use Rattle.std.specs.Prelude.{◌≡◌, ℕ, ◌+◌, ◌<◌, ◌≤◌, List,
 use mathlib.Core.Option.{Option, some}
 use lib.ListN.{get_elem?}
 use Rattle.atomic_table.specs.Table.{State}
-use Rattle.sdd_base.specs.declared.sizes.Sizes.{Sizes}
 use Rattle.sdd_steps.specs.declared.participant.Phase.TheVariants.{Idle, Opened}
 use Rattle.sdd_steps.specs.declared.participant.Participant.{Participant}
 use Rattle.sdd_steps.specs.State.{At, Has, newcomer, start}
@@ -14,6 +13,7 @@ use Rattle.sdd_steps.specs.Kept.{Inv}
 use Rattle.sdd_domain.specs.Views.{rested}
 use Rattle.sdd_domain.specs.Layout.{count_word, lock_word, state_word, claim_word, epoch_words, shown}
 use Rattle.sdd_domain.specs.declared.board.Acting.{Acting}
+use Rattle.sdd_domain.specs.declared.board.Plan.{Plan}
 
 -- What stands of the seat j, which acts for a participant. `born` is the count at each publication, and `scanner` the seat that has the scan lock.
 module _ (participants : List Participant) (count : ℕ) (born : ℕ → ℕ) (words : List ℕ) (seat_of : ℕ → ℕ) (scanner : ℕ) (j : ℕ) where
@@ -47,20 +47,19 @@ abbrev pub Runs : steps.State → steps.State → Type 0
 Runs s t = (list : List Step) × Schedule s list t
 
 -- a place begins without a guard and without an item, at the count that it is given
-abbrev pub beginning : Sizes → ℕ → steps.State
-beginning sizes count = record (start sizes.participants sizes.cells) { count = count }
+abbrev pub beginning : Plan → steps.State
+beginning plan = record (start plan.sizes.participants plan.sizes.cells) { count = plan.first }
 
 -- what stands of items, and of the values at home: there are none yet
 pub record Items {S : Type 0} (state : steps.State) (homes : List (Option S)) : Type 0 where
   pub none : state.items ≡ []
 
 -- Between any two steps: single steps have led from the beginning to a state that meets their invariant, and the words and views show it.
-pub record Shows {S : Type 0} (sizes : Sizes) (s : State S Acting) : Type 0 where
+pub record Shows {S : Type 0} (plan : Plan) (s : State S Acting) : Type 0 where
   pub state : steps.State
-  pub first : ℕ
-  pub run : Runs (beginning sizes first) state
+  pub run : Runs (beginning plan) state
   pub kept : Inv state
   pub born : ℕ → ℕ
   pub bounded : Bounded state.participants state.count born
-  pub epochs : Epochs sizes.participants state born s.words s.views
+  pub epochs : Epochs plan.sizes.participants state born s.words s.views
   pub items : Items state s.homes

@@ -11,6 +11,10 @@ use Rattle.sdd_domain.specs.declared.guard.Guard.{Guard}
 abbrev pub participants_of : Domain → ℕ
 participants_of d = d.participants
 
+-- the count of raises that the place began with
+abbrev pub first_of : Domain → ℕ
+first_of d = d.table.shared.key.first
+
 abbrev pub place_of : Domain → TableId
 place_of d = d.table.shared.table_id
 

@@ -17,23 +17,30 @@ pub struct Acting {
     pub known: Participant,
 }
 
+/// What a place is told once, when it is made: how large it is, and the count of raises that it begins with.
+#[derive(Clone, Copy, Drop)]
+pub struct Plan {
+    pub sizes: Sizes,
+    pub first: u64,
+}
+
 /// The rule: the words and views show a state of the single steps that meets their invariant.
 pub struct Epochs;
 
-impl TableRule<(), Acting, Sizes> for Epochs {
+impl TableRule<(), Acting, Plan> for Epochs {
     ghost use Rattle.sdd_domain.specs.Rule.{Shows};
     ghost use Rattle.sdd_domain.specs.Views.{spent};
 
-    ghost holds = { λ sizes. Shows sizes };
+    ghost holds = { λ plan. Shows plan };
 
     ghost first = { λ _. spent };
 }
 
 /// The table with its memory.
-pub(crate) type Board = Table<(), Acting, Sizes, Epochs, Global>;
+pub(crate) type Board = Table<(), Acting, Plan, Epochs, Global>;
 
 /// The table as threads see it.
-pub(crate) type Words = Shared<(), Acting, Sizes, Epochs>;
+pub(crate) type Words = Shared<(), Acting, Plan, Epochs>;
 
 /// What one thread knows of it.
 pub(crate) type Place = Seat<(), Acting>;

@@ -4,7 +4,7 @@ ghost use Rattle.std.specs.Prelude.{◌≡◌, ◌≢◌, ℕ, ◌+◌, ◌*◌,
 ghost use Rattle.sdd_base.specs.State.{no_marks};
 ghost use Rattle.sdd_domain.specs.Layout.{claim_word, epoch_words, IsSized};
 
-use crate::board::{Board, Words};
+use crate::board::{Board, Plan, Words};
 use crate::local::Local;
 use crate::refusal::RegisterRefused;
 use crate::steps::{claim, is_claimed, sit};
@@ -15,7 +15,7 @@ use std::alloc::{AllocError, Global};
 pub struct Domain {
     pub(crate) table: Board,
     pub(crate) participants: usize,
-    ghost sized: { (participants ≡ table.shared.key.participants) × (epoch_words participants ≤ table.shared.table_id.words) × (participants ≤ 2 ^ 30) },
+    ghost sized: { (participants ≡ table.shared.key.sizes.participants) × (epoch_words participants ≤ table.shared.table_id.words) × (participants ≤ 2 ^ 30) },
 }
 
 /// The words of a new place: the count of raises, and so many words more, all 0.
@@ -31,13 +31,14 @@ fn words_from(alloc: Global, count: u64, others: usize) -> Result<Vec<u64>, Allo
 }
 
 impl Domain {
-    ghost use Rattle.sdd_domain.specs.Tokens.{participants_of, place_of, home_of, number_of, marks_of};
+    ghost use Rattle.sdd_domain.specs.Tokens.{participants_of, first_of, place_of, home_of, number_of, marks_of};
 
     /// A place without items, for as many participants as its sizes name, none of them registered. It takes all the
     /// memory that the place will ever use; without memory nothing is kept.
     pub fn new(alloc: Global, sizes: Sizes) -> Result<Domain, AllocError>
         requires { IsSized sizes }
-        ensures { IfOk result (λ d. participants_of d ≡ sizes.participants) }
+        ensures participants { IfOk result (λ d. participants_of d ≡ sizes.participants) }
+        ensures first { IfOk result (λ d. first_of d ≡ 0) }
     {
         Domain::with_count(alloc, sizes, 0)
     }
@@ -45,11 +46,16 @@ impl Domain {
     /// The same, as if the count of raises had come to this number. At `2^64 - 1` it is at its end.
     pub fn with_count(alloc: Global, sizes: Sizes, count: u64) -> Result<Domain, AllocError>
         requires { IsSized sizes }
-        ensures { IfOk result (λ d. participants_of d ≡ sizes.participants) }
+        ensures participants { IfOk result (λ d. participants_of d ≡ sizes.participants) }
+        ensures first { IfOk result (λ d. first_of d ≡ count) }
     {
         let participants = sizes.participants;
         let words = words_from(alloc, count, 8 * participants + 15)?;
-        let (table, _) = Board::of_words(alloc, &words, &sizes)?;
+        let plan = Plan {
+            sizes,
+            first: count,
+        };
+        let (table, _) = Board::of_words(alloc, &words, &plan)?;
         Ok(Domain {
             table,
             participants,
@@ -90,7 +96,7 @@ impl Domain {
 
     /// Ends the place. It is handed back, as it was, while a `Local` is out.
     pub fn close(self) -> Result<(), Domain>
-        ensures back { IfErr result (λ d. (place_of d ≡ place_of self) × (participants_of d ≡ participants_of self)) }
+        ensures back { IfErr result (λ d. (place_of d ≡ place_of self) × (participants_of d ≡ participants_of self) × (first_of d ≡ first_of self)) }
     {
         if self.any_claimed() {
             return Err(self);

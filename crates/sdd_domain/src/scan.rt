@@ -16,7 +16,7 @@ fn all_agree(
     participants: usize,
     epoch: u64,
 ) -> bool
-    requires table { (place.old.table_id ≡ words.now.table_id) × (words.now.key.participants ≡ participants) × (epoch_words participants ≤ words.now.table_id.words) × (participants ≤ 2 ^ 30) }
+    requires table { (place.old.table_id ≡ words.now.table_id) × (words.now.key.sizes.participants ≡ participants) × (epoch_words participants ≤ words.now.table_id.words) × (participants ≤ 2 ^ 30) }
     requires open { Scans place.old number epoch 2 }
     requires below { epoch < 2 ^ 64 - 1 }
     ensures seat { (place.new.table_id ≡ place.old.table_id) × (place.new.id ≡ place.old.id) × (place.new.me.0.born ≡ place.old.me.0.born) × (place.new.me.1 ≡ place.old.me.1) × Scans place.new number epoch 2 }
@@ -34,7 +34,7 @@ fn all_agree(
 /// raises the count by one only where that is the present one, and each other participant is closed or has published
 /// it. A count of `2^64 - 1` isn't raised.
 pub(crate) fn scan(words: &Words, place: &mut Place, number: usize, participants: usize, epoch: u64)
-    requires table { (place.old.table_id ≡ words.now.table_id) × (words.now.key.participants ≡ participants) × (epoch_words participants ≤ words.now.table_id.words) × (participants ≤ 2 ^ 30) }
+    requires table { (place.old.table_id ≡ words.now.table_id) × (words.now.key.sizes.participants ≡ participants) × (epoch_words participants ≤ words.now.table_id.words) × (participants ≤ 2 ^ 30) }
     requires open { Scans place.old number epoch 0 }
     ensures { (place.new.table_id ≡ place.old.table_id) × (place.new.id ≡ place.old.id) × (place.new.me.0.born ≡ place.old.me.0.born) × (place.new.me.1 ≡ place.old.me.1) × Scans place.new number epoch 0 }
 {

@@ -115,7 +115,7 @@ pub(crate) fn sit(words: &Words) -> Place
 
 /// Tries once to act for participant `number`.
 pub(crate) fn claim(words: &Words, place: &mut Place, number: usize) -> bool
-    requires table { (place.old.table_id ≡ words.now.table_id) × (number < words.now.key.participants) × (epoch_words words.now.key.participants ≤ words.now.table_id.words) × (words.now.key.participants ≤ 2 ^ 30) }
+    requires table { (place.old.table_id ≡ words.now.table_id) × (number < words.now.key.sizes.participants) × (epoch_words words.now.key.sizes.participants ≤ words.now.table_id.words) × (words.now.key.sizes.participants ≤ 2 ^ 30) }
     requires nobody { place.old.me.0.kind ≡ 0 }
     ensures seat { (place.new.table_id ≡ place.old.table_id) × (place.new.id ≡ place.old.id) }
     ensures claimed { IsTrue result → place.new.me ≡ (registered number, place.old.me.1) }
@@ -126,7 +126,7 @@ pub(crate) fn claim(words: &Words, place: &mut Place, number: usize) -> bool
 
 /// Whether somebody acts for participant `number`.
 pub(crate) fn is_claimed(words: &Words, number: usize) -> bool
-    requires { (number < words.now.key.participants) × (epoch_words words.now.key.participants ≤ words.now.table_id.words) × (words.now.key.participants ≤ 2 ^ 30) }
+    requires { (number < words.now.key.sizes.participants) × (epoch_words words.now.key.sizes.participants ≤ words.now.table_id.words) × (words.now.key.sizes.participants ≤ 2 ^ 30) }
 {
     words.peek(STRIDE * number + CLAIM) != 0
 }
@@ -208,7 +208,7 @@ pub(crate) fn give_lock(words: &Words, place: &mut Place, number: usize, epoch: 
 /// Whether the other is closed or has published the same count. It is asked under the scan lock, while the count is
 /// the published one.
 fn look_at(words: &Words, place: &mut Place, other: usize, epoch: u64) -> bool
-    requires table { (place.old.table_id ≡ words.now.table_id) × (other < words.now.key.participants) × (epoch_words words.now.key.participants ≤ words.now.table_id.words) × (words.now.key.participants ≤ 2 ^ 30) }
+    requires table { (place.old.table_id ≡ words.now.table_id) × (other < words.now.key.sizes.participants) × (epoch_words words.now.key.sizes.participants ≤ words.now.table_id.words) × (words.now.key.sizes.participants ≤ 2 ^ 30) }
     requires open { (place.old.me.0.kind ≡ 1) × (place.old.me.0.number ≢ other) × (place.old.me.0.known.phase ≡ Opened epoch) × (place.old.me.0.known.found ≡ epoch) × (place.old.me.0.scan ≡ 2) }
     requires below { epoch < 2 ^ 64 - 1 }
     ensures seat { (place.new.table_id ≡ place.old.table_id) × (place.new.id ≡ place.old.id) }
@@ -227,7 +227,7 @@ pub(crate) fn look(
     other: usize,
     epoch: u64,
 ) -> bool
-    requires table { (place.old.table_id ≡ words.now.table_id) × (other < words.now.key.participants) × (epoch_words words.now.key.participants ≤ words.now.table_id.words) × (words.now.key.participants ≤ 2 ^ 30) }
+    requires table { (place.old.table_id ≡ words.now.table_id) × (other < words.now.key.sizes.participants) × (epoch_words words.now.key.sizes.participants ≤ words.now.table_id.words) × (words.now.key.sizes.participants ≤ 2 ^ 30) }
     requires open { Scans place.old number epoch 2 × (number ≢ other) }
     requires below { epoch < 2 ^ 64 - 1 }
     ensures seat { (place.new.table_id ≡ place.old.table_id) × (place.new.id ≡ place.old.id) × (place.new.me.0.born ≡ place.old.me.0.born) × (place.new.me.1 ≡ place.old.me.1) × Scans place.new number epoch 2 }
@@ -245,7 +245,7 @@ pub(crate) fn look(
 pub(crate) fn raise(words: &Words, place: &mut Place, number: usize, epoch: u64)
     requires table { (place.old.table_id ≡ words.now.table_id) × (0 < words.now.table_id.words) }
     requires open { Scans place.old number epoch 2 }
-    requires all { (q : ℕ) → q < words.now.key.participants → q ≢ number → Has place.old.me.0.known.looked q }
+    requires all { (q : ℕ) → q < words.now.key.sizes.participants → q ≢ number → Has place.old.me.0.known.looked q }
     requires below { epoch < 2 ^ 64 - 1 }
     ensures { (place.new.table_id ≡ place.old.table_id) × (place.new.id ≡ place.old.id) × (place.new.me.0.born ≡ place.old.me.0.born) × (place.new.me.1 ≡ place.old.me.1) × Scans place.new number epoch 1 }
 {
