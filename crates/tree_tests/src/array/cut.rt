@@ -21,21 +21,38 @@ fn an_array_is_halved_by_moves(rt: HostRuntime) {
     assert_eq!(rt; upper.metadata(), 0x6503214);
 }
 
+/// The keys and the words of the two parts of an array of these keys, made in the reverse order and without
+/// 9, cut behind its first `at` pairs.
+fn cut_behind(at: usize) -> (u64, usize, u64, usize) {
+    let mut lower = reversed(&ASCENDING);
+    if lower.remove_if(&9, |_| true) != RemoveResult::Success || at > lower.len() {
+        return (0, 0, 0, 0);
+    }
+    let upper = lower.split_off(at);
+    (
+        digits(&lower),
+        lower.metadata(),
+        digits(&upper),
+        upper.metadata(),
+    )
+}
+
 #[test]
 fn an_array_is_cut_at_each_boundary(rt: HostRuntime) {
     let left: [u64; 14] = [0, 1, 2, 3, 4, 5, 6, 7, 8, 10, 11, 12, 13, 14];
     for at in 0..15usize {
-        let mut lower = reversed(&ASCENDING);
-        assert_eq!(rt; lower.remove_if(&9, |_| true), RemoveResult::Success);
-        if at <= lower.len() {
-            let upper = lower.split_off(at);
-            // both are as if their keys had come by themselves, in their order
-            let (first, rest) = left.split_at(at.min(14));
-            assert_eq!(rt; digits(&lower), digits(&holding(first)));
-            assert_eq!(rt; lower.metadata(), holding(first).metadata());
-            assert_eq!(rt; digits(&upper), digits(&holding(rest)));
-            assert_eq!(rt; upper.metadata(), holding(rest).metadata());
-        }
+        // both are as if their keys had come by themselves, in their order
+        let (first, rest) = left.split_at(at.min(14));
+        let (lower, upper) = (holding(first), holding(rest));
+        assert_eq!(rt;
+            cut_behind(at),
+            (
+                digits(&lower),
+                lower.metadata(),
+                digits(&upper),
+                upper.metadata()
+            )
+        );
     }
 }
 

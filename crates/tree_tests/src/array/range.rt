@@ -37,17 +37,21 @@ fn a_range_of_all_keys_retires(rt: HostRuntime) {
 }
 
 #[test]
-fn a_removed_range_keeps_its_slots(rt: HostRuntime) {
+fn a_removed_range_leaves_the_ranks_of_others(rt: HostRuntime) {
     let mut array = holding(&[10, 20, 30, 40]);
     array.remove_range(Bound::Included(&20), Bound::Included(&30));
     assert_eq!(rt; array.last_removed(), Some(&30));
     // slots 1 and 0 have the ranks 1 and 4
     assert_eq!(rt; array.metadata(), 0x14);
-    let mut one: Array<u64, u64> = Array::new();
-    match one.insert::<false>(5, 50) {
+}
+
+#[test]
+fn a_removed_range_keeps_its_slots(rt: HostRuntime) {
+    let mut array: Array<u64, u64> = Array::new();
+    match array.insert::<false>(5, 50) {
         InsertResult::Success => {
-            one.remove_range(Bound::Unbounded, Bound::Unbounded);
-            assert_eq!(rt; (*one.key(1), *one.val(1)), (5, 50));
+            array.remove_range(Bound::Unbounded, Bound::Unbounded);
+            assert_eq!(rt; (*array.key(1), *array.val(1)), (5, 50));
         },
         _ => assert!(rt; false),
     }

@@ -123,7 +123,7 @@ fn a_refused_preparation_distributes_nothing(rt: HostRuntime) {
     assert!(rt; array.is_frozen());
 }
 
-// The conditions and functions below may be called at numbers up to 5 alone, so each call of this test
+// The conditions and functions of this test and the next may be called at numbers up to 5 alone, so each call
 // stands because it calls them where it says, and nowhere else.
 #[test]
 fn what_may_be_called_at_few_values_serves(rt: HostRuntime) {
@@ -135,6 +135,11 @@ fn what_may_be_called_at_few_values_serves(rt: HostRuntime) {
     let mut array: Array<u64, u64> = Array::new();
     assert_eq!(rt; array.remove_if(&1, |val| 5 - *val > 2), RemoveResult::Fail);
     assert_eq!(rt; array.fold(7, |made, key, _| made + (5 - *key)), 7);
+}
+
+#[test]
+fn what_may_be_shown_few_slots_serves(rt: HostRuntime) {
+    let mut array: Array<u64, u64> = Array::new();
     let mut left: u8 = 0;
     array.for_each_pos(|frozen| frozen, |slot| left = 5 - slot);
     let shown: Result<(), ()> = array.for_each_all(

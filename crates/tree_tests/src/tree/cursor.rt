@@ -18,19 +18,43 @@ fn tree_of<R: Abort>(
     tree
 }
 
+/// What a cursor tells at a call: 0 is `next`, 1 `next_back`, and else `flip`, told as (0, 0) where it turned.
+fn told(iter: &mut Iter<'_, u64, u64>, call: u8) -> Option<(u64, u64)> {
+    match call {
+        0 => read(iter.next()),
+        1 => read(iter.next_back()),
+        _ if iter.flip() => Some((0, 0)),
+        _ => None,
+    }
+}
+
+/// The same of a range.
+fn told_within(range: &mut Range<'_, u64, u64>, call: u8) -> Option<(u64, u64)> {
+    match call {
+        0 => read(range.next()),
+        1 => read(range.next_back()),
+        _ if range.flip() => Some((0, 0)),
+        _ => None,
+    }
+}
+
 #[test]
 fn both_ends_go_through_three_pairs(rt: HostRuntime) -> Result<(), Fail> {
     let tree = tree_of(&rt, rt.alloc(), &[(1, 2), (2, 2), (3, 2)]);
     let mut iter = tree.iter();
-    assert_eq!(rt; iter.next_back(), Some((&3, &2)));
-    assert_eq!(rt; iter.next_back(), Some((&2, &2)));
-    assert!(rt; iter.flip());
-    assert_eq!(rt; iter.next(), Some((&3, &2)));
-    assert!(rt; iter.flip());
-    assert_eq!(rt; iter.next_back(), Some((&2, &2)));
-    assert_eq!(rt; iter.next(), Some((&1, &2)));
-    assert!(rt; iter.next().is_none());
-    assert!(rt; !iter.flip());
+    for (call, answer) in [
+        (1u8, Some((3u64, 2u64))),
+        (1, Some((2, 2))),
+        (2, Some((0, 0))),
+        (0, Some((3, 2))),
+        (2, Some((0, 0))),
+        (1, Some((2, 2))),
+        (0, Some((1, 2))),
+        (0, None),
+        (2, None),
+    ] {
+        assert_eq!(rt; told(&mut iter, call), answer);
+    }
     Ok(())
 }
 
@@ -93,15 +117,19 @@ fn an_excluded_bound_is_left_out(rt: HostRuntime) -> Result<(), Fail> {
 fn a_range_flips_at_its_bounds(rt: HostRuntime) -> Result<(), Fail> {
     let tree = tree_of(&rt, rt.alloc(), &[(1, 2), (2, 2), (3, 2), (4, 2)]);
     let mut range = tree.range(Bound::Included(&1), Bound::Excluded(&4));
-    assert_eq!(rt; range.next_back(), Some((&3, &2)));
-    assert_eq!(rt; range.next_back(), Some((&2, &2)));
-    assert!(rt; range.flip());
-    assert_eq!(rt; range.next(), Some((&3, &2)));
-    assert!(rt; range.flip());
-    assert_eq!(rt; range.next_back(), Some((&2, &2)));
-    assert_eq!(rt; range.next(), Some((&1, &2)));
-    assert!(rt; range.next().is_none());
-    assert!(rt; !range.flip());
+    for (call, answer) in [
+        (1u8, Some((3u64, 2u64))),
+        (1, Some((2, 2))),
+        (2, Some((0, 0))),
+        (0, Some((3, 2))),
+        (2, Some((0, 0))),
+        (1, Some((2, 2))),
+        (0, Some((1, 2))),
+        (0, None),
+        (2, None),
+    ] {
+        assert_eq!(rt; told_within(&mut range, call), answer);
+    }
     Ok(())
 }
 
@@ -314,42 +342,45 @@ fn random_steps_answer_as_the_plain_machine(rt: HostRuntime) -> Result<(), Fail>
     Ok(())
 }
 
+/// Where a key stands: 0 at its pair, 1 between two, 2 behind all, 3 before all, 4 in a tree without pairs; and
+/// the pairs at the forward and the backward end, of a pair that is there the first alone.
+fn stands(tree: &TreeIndex<u64, u64>, key: u64) -> (u8, Option<(u64, u64)>, Option<(u64, u64)>) {
+    match tree.locate(&key) {
+        Proximity::Exact(iter) => (0, read(iter.get()), None),
+        Proximity::Between(iter) => (1, read(iter.get()), read(iter.get_back())),
+        Proximity::Smaller(iter) => (2, read(iter.get()), read(iter.get_back())),
+        Proximity::Larger(iter) => (3, read(iter.get()), read(iter.get_back())),
+        Proximity::Empty => (4, None, None),
+    }
+}
+
 #[test]
 fn locate_finds_a_pair_or_its_neighbours(rt: HostRuntime) -> Result<(), Fail> {
     let mut tree = tree_of(&rt, rt.alloc(), &[(1, 1), (3, 2), (5, 3), (7, 4)]);
-    match tree.locate(&2) {
-        Proximity::Between(mut iter) => {
-            assert_eq!(rt; iter.get(), Some((&1, &1)));
-            assert_eq!(rt; iter.get_back(), Some((&3, &2)));
-            assert!(rt; iter.next().is_none());
-            assert_eq!(rt; iter.get(), Some((&3, &2)));
-            assert!(rt; iter.next_back().is_none());
-            assert_eq!(rt; iter.get_back(), Some((&1, &1)));
-        }
-        _ => panic!(rt; "not between"),
-    }
-    match tree.locate(&5) {
-        Proximity::Exact(iter) => assert_eq!(rt; iter.get(), Some((&5, &3))),
-        _ => panic!(rt; "not exact"),
-    }
-    match tree.locate(&8) {
-        Proximity::Smaller(iter) => {
-            assert_eq!(rt; iter.get_back(), Some((&7, &4)));
-            assert!(rt; iter.get().is_none());
-        }
-        _ => panic!(rt; "not smaller"),
-    }
-    match tree.locate(&0) {
-        Proximity::Larger(iter) => {
-            assert_eq!(rt; iter.get(), Some((&1, &1)));
-            assert!(rt; iter.get_back().is_none());
-        }
-        _ => panic!(rt; "not larger"),
+    for (key, place) in [
+        (2u64, (1u8, Some((1u64, 1u64)), Some((3u64, 2u64)))),
+        (5, (0, Some((5, 3)), None)),
+        (8, (2, None, Some((7, 4)))),
+        (0, (3, Some((1, 1)), None)),
+    ] {
+        assert_eq!(rt; stands(&tree, key), place);
     }
     tree.clear();
-    match tree.locate(&3) {
-        Proximity::Empty => {}
-        _ => panic!(rt; "not empty"),
+    assert_eq!(rt; stands(&tree, 3), (4, None, None));
+    Ok(())
+}
+
+#[test]
+fn a_cursor_between_two_pairs_goes_over_them(rt: HostRuntime) -> Result<(), Fail> {
+    let tree = tree_of(&rt, rt.alloc(), &[(1, 1), (3, 2), (5, 3), (7, 4)]);
+    match tree.locate(&2) {
+        Proximity::Between(mut iter) => {
+            let forth = (told(&mut iter, 0), read(iter.get()));
+            let back = (told(&mut iter, 1), read(iter.get_back()));
+            assert_eq!(rt; forth, (None, Some((3, 2))));
+            assert_eq!(rt; back, (None, Some((1, 1))));
+        }
+        _ => panic!(rt; "not between"),
     }
     Ok(())
 }
