@@ -3,6 +3,6 @@
 #![tactic(auto)]
 
 #[cfg(test)]
-mod ordered_index;
+mod index;
 #[cfg(test)]
-mod versions;
+mod version;

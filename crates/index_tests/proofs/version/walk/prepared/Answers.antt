@@ -1,0 +1,22 @@
+use Rattle.std.proofs.Common.{ℕ, List, [], ◌∷◌, sym, ap, arith, subst}
+use Rattle.sdd_base.specs.Counting.{Counted, OwnersAreCounted}
+use Rattle.sdd_base.specs.Holding.{Hold, SharedItem}
+use Rattle.sdd_base.specs.State.{State}
+use Rattle.sdd_base.specs.Tokens.{shared_slot}
+use Rattle.sdd_base.proofs.Counts.{owners_are_counted}
+use Rattle.versions.specs.Items.{held_by}
+use Rattle.versions.specs.declared.item.Item.{Item}
+use Rattle.index_tests.proofs.version.walk.prepared.Goals as goal
+
+pub build-requires : goal.build-requires
+build-requires g c =
+    let number = (c.version.ensures.is _ _ c.in-Ok-place.ensures.placed.version).1 in
+    let none = ap (λ p. p.number) c.empty.ensures in
+    (omega arith, (omega arith, (c.version.ensures.version, (c.requires, (omega (arith, number, none), ((λ x y e. e), (λ x y e. e)))))))
+
+pub returns-clause-counted : goal.returns-clause-counted
+returns-clause-counted g c =
+    let owners : OwnersAreCounted {T = Item ℕ ℕ g.row.S} held_by = owners_are_counted held_by in
+    let hand : List Hold = SharedItem (shared_slot c.in-Ok-place.none) ∷ [] in
+    let none : Counted held_by [] c.in-Ok.w = subst (λ (w : State (Item ℕ ℕ g.row.S)). Counted held_by [] w) (sym c.in-Ok.ensures) (owners.fresh (record { participants = 1; slots = 1000; cells = 0; jobs = 0 })) in
+    c.in-Ok-place-2.ensures.placed.counted hand (c.in-Ok-place.ensures.placed.counted [] none)
