@@ -20,9 +20,10 @@ pub struct Domain {
 
 /// The words of a new place: the count of raises, and so many words more, all 0.
 fn words_from(alloc: Global, count: u64, others: usize) -> Result<Vec<u64>, AllocError>
+    requires { others < 2 ^ 40 }
     ensures { IfOk result (λ words. words.items ≡ count ∷ replicate others 0) }
 {
-    let mut words = Vec::new(alloc);
+    let mut words = Vec::with_capacity(alloc, others + 1)?;
     words.push(count)?;
     for _i in 0..others {
         words.push(0)?;
