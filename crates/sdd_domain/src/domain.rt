@@ -69,8 +69,8 @@ impl Domain {
         &self.table.shared
     }
 
-    /// Registers a participant that nobody acts for: each is tried once, from 0 on. Full where another one acts for
-    /// each.
+    /// Registers a participant that nobody acts for: each is tried once, from 0 on. Full where each was taken when it
+    /// was tried.
     pub fn register(&self) -> Result<Local, RegisterRefused>
         ensures home { IfOk result (λ l. home_of l ≡ place_of self.now) }
         ensures number { IfOk result (λ l. number_of l < participants_of self.now) }
