@@ -1,0 +1,149 @@
+//! Guards of a place that threads share, opened and closed over and over: what `bench/guards` measures.
+//!
+//! `domain_bench THREADS KIND ROUNDS` runs so many rounds in each of so many threads, and each thread has a participant
+//! of its own. A round opens a guard, reads the epoch under it, and closes it. The guards are `plain`, `accelerated`,
+//! or `nested` in one that is open throughout. The sum of the epochs that were read is printed, which is 0 while
+//! nothing raises the count. Without arguments nothing is done.
+#![tactic(auto)]
+
+ghost use Rattle.std.specs.Prelude.{◌≡◌, ◌≤◌, IfSome};
+ghost use Rattle.sdd_domain.specs.Tokens.{place_of, home_of, marks_of, IsSame};
+
+use sdd_base::epoch::Epoch;
+use sdd_base::sizes::Sizes;
+use sdd_domain::domain::Domain;
+use sdd_domain::guard::Guard;
+use sdd_domain::local::Local;
+use std::sync::Wait;
+use std::{env, io, thread};
+
+#[derive(Clone, Copy)]
+enum Kind {
+    Plain,
+    Accelerated,
+    Nested,
+}
+
+/// The threads, the kind and the rounds that three arguments name, if they do.
+fn task_of(threads: &str, kind: &str, rounds: &str) -> Option<(u8, Kind, u32)>
+    ensures { IfSome result (λ t. 1 ≤ t.0) }
+{
+    let kind = match kind {
+        "plain" => Kind::Plain,
+        "accelerated" => Kind::Accelerated,
+        "nested" => Kind::Nested,
+        _ => return None,
+    };
+    let threads = threads.parse::<u8>().ok()?;
+    if threads == 0 {
+        return None;
+    }
+    Some((threads, kind, rounds.parse::<u32>().ok()?))
+}
+
+/// A guard, opened and closed: the epoch that it saw.
+fn pass(domain: &Domain, local: &mut Local, accelerated: bool) -> Epoch
+    requires home { home_of local.old ≡ place_of domain.now }
+    requires shallow { (marks_of local.old).nesting ≤ 1 }
+    ensures same { IsSame local.old local.new }
+    ensures nesting { (marks_of local.new).nesting ≡ (marks_of local.old).nesting }
+{
+    let Ok(guard) = Guard::new(domain, local) else {
+        unreachable!();
+    };
+    if accelerated {
+        guard.accelerate(local);
+    }
+    let epoch = guard.epoch(domain, local);
+    guard.close(domain, local);
+    epoch
+}
+
+/// So many guards one by one, within the one that may be open: the sum of the epochs that they saw. It is compiled by
+/// itself, so that what is open isn't known to it beforehand.
+#[inline(never)]
+fn passes(domain: &Domain, local: &mut Local, accelerated: bool, rounds: u32) -> u64
+    requires home { home_of local.old ≡ place_of domain.now }
+    requires shallow { (marks_of local.old).nesting ≤ 1 }
+    ensures same { IsSame local.old local.new }
+    ensures nesting { (marks_of local.new).nesting ≡ (marks_of local.old).nesting }
+{
+    let mut sum: u64 = 0;
+    for _i in 0..rounds {
+        let epoch = pass(domain, local, accelerated);
+        sum = sum.wrapping_add(u64::from(u8::from(epoch)));
+    }
+    sum
+}
+
+/// The rounds of one thread. None if no participant was free.
+fn work(domain: &Domain, kind: Kind, rounds: u32) -> Option<u64> {
+    let mut local = domain.register().ok()?;
+    let sum = match kind {
+        Kind::Plain => passes(domain, &mut local, false, rounds),
+        Kind::Accelerated => passes(domain, &mut local, true, rounds),
+        Kind::Nested => {
+            let Ok(outer) = Guard::new(domain, &mut local) else {
+                unreachable!();
+            };
+            let sum = passes(domain, &mut local, false, rounds);
+            outer.close(domain, &mut local);
+            sum
+        }
+    };
+    local.end(domain);
+    Some(sum)
+}
+
+/// Ends a place, as soon as nobody is registered.
+fn end<R: Wait>(rt: &R, mut domain: Domain) {
+    for _ in rt.forever() {
+        match domain.close() {
+            Ok(()) => return,
+            Err(back) => domain = back,
+        }
+    }
+    unreachable!()
+}
+
+/// The sum of all, if none is missing.
+fn total(sums: &[Option<u64>]) -> Option<u64> {
+    let mut all: u64 = 0;
+    for sum in sums {
+        all = all.wrapping_add((*sum)?);
+    }
+    Some(all)
+}
+
+fn main(rt: HostRuntime) -> io::Result<()> {
+    let mut words = env::args(&rt)?.skip(1);
+    let Some(threads) = words.next() else {
+        return Ok(());
+    };
+    let task = match (words.next(), words.next()) {
+        (Some(kind), Some(rounds)) => task_of(threads.as_str(), kind.as_str(), rounds.as_str()),
+        _ => None,
+    };
+    let Some((threads, kind, rounds)) = task else {
+        return Err(io::ErrorKind::InvalidInput.into());
+    };
+    let participants = usize::from(threads);
+    let sizes = Sizes {
+        participants,
+        slots: 0,
+        cells: 0,
+        jobs: 0,
+    };
+    let domain = Domain::new(rt.alloc(), sizes)?;
+    let sums = thread::map_indices(
+        &rt,
+        rt.alloc(),
+        participants,
+        &|_| work(&domain, kind, rounds),
+    );
+    end(&rt, domain);
+    let Some(sum) = total(&sums?) else {
+        return Err(io::ErrorKind::Other.into());
+    };
+    println!(rt; "{sum}")
+}
