@@ -1,0 +1,129 @@
+//! Opens and closes guards of crossbeam-epoch, and times them beside those of the crate `domain_bench`, for `guards`.
+//!
+//! `guards THREADS KIND ROUNDS` runs the rounds of `domain_bench` with guards of crossbeam-epoch. `guards times PROGRAM
+//! THREADS..` prints for each kind and number of threads what a round costs here and in the other program.
+use crossbeam_epoch::pin;
+use std::process::Command;
+use std::sync::atomic::AtomicU64;
+use std::sync::atomic::Ordering::SeqCst;
+use std::time::Instant;
+
+/// The kinds of guards, and how many rounds of each are timed.
+const KINDS: [(&str, u32); 3] = [
+    ("plain", 10_000_000),
+    ("accelerated", 2_000_000),
+    ("nested", 50_000_000),
+];
+
+/// So many guards one by one, within the one that may be open: the sum of what was read under them.
+#[inline(never)]
+fn passes(word: &AtomicU64, accelerated: bool, rounds: u32) -> u64 {
+    let mut sum = 0u64;
+    for _ in 0..rounds {
+        let guard = pin();
+        sum = sum.wrapping_add(word.load(SeqCst));
+        if accelerated {
+            guard.flush();
+        }
+    }
+    sum
+}
+
+/// The rounds of one thread.
+fn work(word: &AtomicU64, kind: &str, rounds: u32) -> u64 {
+    let outer = (kind == "nested").then(pin);
+    let sum = passes(word, kind == "accelerated", rounds);
+    drop(outer);
+    sum
+}
+
+/// The rounds of so many threads.
+fn run(threads: u32, kind: &str, rounds: u32) -> u64 {
+    let word = AtomicU64::new(0);
+    std::thread::scope(|scope| {
+        let others: Vec<_> = (1..threads)
+            .map(|_| scope.spawn(|| work(&word, kind, rounds)))
+            .collect();
+        let mine = work(&word, kind, rounds);
+        let theirs = others.into_iter().map(|it| it.join().expect("a thread"));
+        theirs.fold(mine, u64::wrapping_add)
+    })
+}
+
+/// The nanoseconds of processors that ended processes have had.
+fn used_by_children() -> f64 {
+    #[repr(C)]
+    #[derive(Default)]
+    struct Usage {
+        seconds_and_microseconds: [i64; 4],
+        others: [i64; 14],
+    }
+    unsafe extern "C" {
+        fn getrusage(who: i32, usage: *mut Usage) -> i32;
+    }
+    const CHILDREN: i32 = -1;
+    let mut usage = Usage::default();
+    // SAFETY: `usage` is a place for the answer.
+    assert_eq!(unsafe { getrusage(CHILDREN, &mut usage) }, 0);
+    let [user, user_part, system, system_part] = usage.seconds_and_microseconds;
+    (user + system) as f64 * 1e9 + (user_part + system_part) as f64 * 1e3
+}
+
+/// What a run of a program costs, in nanoseconds: of processors, and by the clock. The program's answer has to be this
+/// one, if there is one.
+fn cost(program: &str, threads: u32, kind: &str, rounds: u32, wanted: Option<u64>) -> [f64; 2] {
+    let (used, start) = (used_by_children(), Instant::now());
+    let words = [threads.to_string(), kind.to_string(), rounds.to_string()];
+    let output = Command::new(program).args(words).output().expect(program);
+    let wall = start.elapsed().as_nanos() as f64;
+    let answer = String::from_utf8_lossy(&output.stdout);
+    assert!(output.status.success(), "{program} failed: {kind}");
+    if let Some(wanted) = wanted {
+        assert_eq!(answer.trim(), wanted.to_string(), "{program}: {kind}");
+    }
+    [used_by_children() - used, wall]
+}
+
+/// What the epochs add up to that one thread reads, if each accelerated guard raises the count by one.
+fn epochs(kind: &str, rounds: u32) -> u64 {
+    let raised = if kind == "accelerated" { rounds } else { 0 };
+    (0..u64::from(raised)).map(|count| count % 64).sum()
+}
+
+/// What a round costs in each of two programs, of a processor and by the clock: the least of some runs, which take turns,
+/// less the least without rounds.
+fn times(programs: [&str; 2], threads: u32, kind: &str, rounds: u32) -> [[f64; 2]; 2] {
+    let mut least = [[[f64::MAX; 2]; 2]; 2];
+    for _ in 0..7 {
+        for (at, program) in programs.iter().enumerate() {
+            for (rounds, least) in [0, rounds].into_iter().zip(&mut least[at]) {
+                let wanted = (at == 1 && threads == 1).then(|| epochs(kind, rounds));
+                let found = cost(program, threads, kind, rounds, wanted);
+                *least = [least[0].min(found[0]), least[1].min(found[1])];
+            }
+        }
+    }
+    let rounds = f64::from(rounds);
+    least.map(|[without, with]| {
+        let processor = (with[0] - without[0]) / (rounds * f64::from(threads));
+        [processor, (with[1] - without[1]) / rounds]
+    })
+}
+
+fn main() {
+    let words: Vec<String> = std::env::args().collect();
+    let number = |at: usize| -> u32 { words[at].parse().expect("a number") };
+    if words[1] != "times" {
+        println!("{}", run(number(1), &words[2], number(3)));
+        return;
+    }
+    for (kind, rounds) in KINDS {
+        for threads in (3..words.len()).map(number) {
+            let [crossbeam, domain] = times([&words[0], &words[2]], threads, kind, rounds);
+            println!(
+                "{kind} {threads} {:.2} {:.2} {:.2} {:.2}",
+                crossbeam[0], domain[0], crossbeam[1], domain[1]
+            );
+        }
+    }
+}
