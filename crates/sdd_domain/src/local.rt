@@ -21,6 +21,7 @@ pub struct Local {
     ghost acts: { (place.me.0.kind ≡ 1) × (place.me.0.number ≡ number) × (place.me.0.scan ≡ 0) × (number < 2 ^ 30) × (claim_word number < place.table_id.words) },
     ghost phase: { place.me.0.known.phase ≡ cond (marks.nesting == 0) Idle (Opened marks.previous) },
     ghost found: { place.me.0.known.found ≡ marks.previous },
+    ghost noted: { marks.published ≡ marks.previous },
 }
 
 /// Whether this outermost closing scans, where `closings` counts it.
@@ -73,14 +74,14 @@ impl Local {
         } = self;
         let epoch = steps::read_count(domain.words(), place);
         steps::publish(domain.words(), place, *number, epoch);
-        *marks = Marks {
-            nesting: 1,
-            published: epoch,
-            previous: epoch,
-            accelerated: false,
-            garbage: marks.garbage && marks.previous == epoch,
-            closings: marks.closings,
-        };
+        // Most openings find the count of the one before: then these stand as they are.
+        if marks.previous != epoch {
+            marks.garbage = false;
+            marks.published = epoch;
+            marks.previous = epoch;
+        }
+        marks.nesting = 1;
+        marks.accelerated = false;
     }
 
     /// Closes an outermost guard, after a scan if one is due.
