@@ -1,7 +1,7 @@
 //! A transactional ordered index of one thread.
 //!
 //! Sessions read one version of an ordered list of pairs from their opening to their close, while
-//! commits replace it. A commit is accepted exactly where the reads that it rests on still hold of
+//! commits replace it. A commit conflicts exactly where a read that it rests on no longer holds of
 //! the present list, so that the accepted commits are one serial history (optimistic concurrency
 //! control, validated by answers). `specs/` has the model: [`LocalIndex`] is a `State` of it, and
 //! each call one of its steps.
