@@ -1,9 +1,29 @@
-//! Tests of the crates `sdd_steps`, `sdd_base` and `sdd`. They stand apart so that those are proved once.
+//! Tests of `sdd`, apart from it so that its proofs aren't made twice.
 #![tactic(auto)]
 
 #[cfg(test)]
-mod base;
+mod bags;
 #[cfg(test)]
-mod containers;
+mod entries;
 #[cfg(test)]
-mod steps;
+mod fillings;
+#[cfg(test)]
+mod large;
+#[cfg(test)]
+mod peeks;
+#[cfg(test)]
+mod places;
+#[cfg(test)]
+mod queues;
+#[cfg(test)]
+mod random_calls;
+#[cfg(test)]
+mod stacks;
+#[cfg(test)]
+mod texts;
+#[cfg(test)]
+mod walks;
+#[cfg(test)]
+mod without_jobs;
+#[cfg(test)]
+mod writing_walks;

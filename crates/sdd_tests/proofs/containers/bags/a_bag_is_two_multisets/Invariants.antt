@@ -1,9 +1,0 @@
-use Rattle.std.proofs.Common.{◌<◌, length}
-use Rattle.sdd.specs.Bags.{IsSomeBag, bag_cells}
-use Rattle.sdd_tests.proofs.containers.bags.a_bag_is_two_multisets.Given as goal
-
-abbrev pub invariant-loop-step : goal.invariant-loop-step
-invariant-loop-step g l = record {
-  member : 0 < length l.w.members;
-  list : IsSomeBag 3 l.w (bag_cells l.bag);
-}

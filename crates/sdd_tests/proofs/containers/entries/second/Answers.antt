@@ -1,9 +1,0 @@
-use Rattle.std.proofs.Common.{Option, ℕ}
-use Rattle.sdd_base.specs.Tokens.{ptr_slot}
-use Rattle.sdd.specs.Entries.{entry_link}
-use Rattle.sdd.specs.Nodes.{IsListed}
-use Rattle.sdd.proofs.Nodes.{not_null}
-use Rattle.sdd_tests.proofs.containers.entries.second.Goals as goal
-
-pub next_shared-requires-after_bounds : goal.next_shared-requires-after_bounds
-next_shared-requires-after_bounds g c κs = not_null (λ (o : Option ℕ). IsListed entry_link c.args.w.now o) (ptr_slot c.peek-first.result) c.in-Some.ensures.same c.peek-first.ensures.listed

@@ -1,0 +1,10 @@
+use Rattle.std.proofs.Common.{◌<◌, length}
+use Rattle.sdd.specs.Entries.{entry_link}
+use Rattle.sdd.specs.Queues.{IsSomeQueue, oldest_cell, newest_cell}
+use Rattle.sdd_tests.proofs.fillings.queue_round.Given as goal
+
+abbrev pub invariant-loop-number : goal.invariant-loop-number
+invariant-loop-number g l = record {
+  member : 0 < length l.w.members;
+  list : IsSomeQueue entry_link l.w (oldest_cell l.queue) (newest_cell l.queue);
+}

@@ -1,0 +1,10 @@
+use Rattle.std.proofs.Common.{◌<◌, length}
+use Rattle.sdd.specs.Entries.{entry_link}
+use Rattle.sdd.specs.Queues.{IsSomeQueue, oldest_cell, newest_cell}
+use Rattle.sdd_tests.proofs.random_calls.a_queue_of_values_and_its_clones_are_a_list.Given as goal
+
+abbrev pub invariant-loop-step : goal.invariant-loop-step
+invariant-loop-step g l = record {
+  member : 0 < length l.w.members;
+  list : IsSomeQueue entry_link l.w (oldest_cell l.queue) (newest_cell l.queue);
+}

@@ -1,0 +1,9 @@
+use Rattle.std.proofs.Common.{◌<◌, length}
+use Rattle.sdd.specs.Stacks.{IsSomeStack, stack_cell}
+use Rattle.sdd_tests.proofs.random_calls.a_stack_of_values_and_its_clones_are_a_list.Given as goal
+
+abbrev pub invariant-loop-step : goal.invariant-loop-step
+invariant-loop-step g l = record {
+  member : 0 < length l.w.members;
+  list : IsSomeStack l.w (stack_cell l.stack);
+}

@@ -1,0 +1,14 @@
+use Rattle.std.proofs.Common.{◌∷◌, sym, subst, arith}
+use Rattle.sdd_base.specs.State.{State}
+use Rattle.sdd_base.specs.declared.tag.Tag.TheVariants as tag
+use Rattle.sdd.specs.Entries.{entry_link}
+use Rattle.sdd.specs.Stacks.{IsStack, stack_cell}
+use Rattle.sdd.proofs.Releases.{spare_owner}
+use Rattle.sdd_tests.proofs.stacks.push.Goals as goal
+
+pub returns-in-Ok-clause-list : goal.returns-in-Ok-clause-list
+returns-in-Ok-clause-list g c =
+    let p = c.in-Ok.ensures.pushed in
+    let es = p.entry ∷ c.requires.list.entries in
+    let h = spare_owner entry_link 0 c.in-Ok.entry.slot 2 (stack_cell c.args.stack.now) tag.None es _ p.owners (omega arith) (p.puts c.requires.list.entries c.requires.list.is) in
+    record { entries = es; is = subst (λ (v : State _). IsStack v (stack_cell c.args.stack.now) es) (sym c.release.ensures.released) h }

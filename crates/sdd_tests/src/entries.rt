@@ -1,0 +1,179 @@
+//! Entries in hand: written, cloned, and owners of entries that are given back at once.
+
+ghost use Rattle.std.specs.Prelude.{◌≡◌, ◌<◌, ◌≤◌, [], length};
+ghost use Rattle.sdd_base.specs.Place.{IsOpen};
+ghost use Rattle.sdd.specs.Entries.{entry_value, entry_link};
+ghost use Rattle.sdd_base.specs.Tokens.{shared_slot};
+ghost use Rattle.sdd.specs.Chain.{Leaves, Stays};
+ghost use Rattle.sdd.specs.Stacks.{IsMade, IsSomeStack, stack_cell};
+ghost use Rattle.sdd.specs.Queues.{IsSomeQueue, oldest_cell, newest_cell};
+
+use crate::places::{end, give, sizes};
+use sdd::linked_entry::LinkedEntry;
+use sdd::queue::Queue;
+use sdd::refusal::NotMade;
+use sdd::stack::Stack;
+use sdd::world;
+use sdd_base::guard::WorldGuard;
+use sdd_base::owner::Shared;
+use sdd_base::tag::Tag;
+use sdd_base::world as place;
+use sdd_base::world::World;
+use std::process::Abort;
+use std::test::Fail;
+
+/// Writes the value of an entry, and nothing else of it.
+fn write(entry: &mut LinkedEntry<u64>, value: u64)
+    ensures value { entry_value entry.new ≡ value }
+    ensures link { entry_link entry.new ≡ entry_link entry.old }
+{
+    *entry.as_mut() = value;
+}
+
+/// Gives an entry to the place, which ends it.
+fn retire<R: Abort>(rt: &R, w: &mut World<LinkedEntry<u64>>, entry: LinkedEntry<u64>)
+    requires { 0 < length w.old.members }
+    ensures { 0 < length w.new.members }
+{
+    match place::shared::new(w, entry) {
+        Ok(owner) => {
+            place::shared::release(w, owner, 0);
+        }
+        Err(_) => panic!(rt; "a slot is free"),
+    }
+}
+
+#[test]
+fn an_entry_is_written_and_cloned(rt: HostRuntime) -> Result<(), Fail> {
+    let mut w: World<LinkedEntry<u64>> = World::new(rt.alloc(), sizes(2, 2))?;
+    let Ok(mut entry) = world::linked_entry::new(&mut w, 5) else {
+        panic!(rt; "a cell is free");
+    };
+    write(&mut entry, 7);
+    let Ok(copy) = world::linked_entry::clone(&mut w, &entry) else {
+        panic!(rt; "a cell is free");
+    };
+    assert!(rt; copy == entry);
+    assert_eq!(rt; (*entry.as_ref(), *copy.as_ref()), (7, 7));
+    match world::linked_entry::clone(&mut w, &entry) {
+        Ok(_) => panic!(rt; "no cell is free"),
+        Err(refused) => assert_eq!(rt; refused, NotMade::NoSlot),
+    }
+    write(&mut entry, 8);
+    assert!(rt; copy != entry);
+    retire(&rt, &mut w, entry);
+    retire(&rt, &mut w, copy);
+    end(&rt, w);
+    Ok(())
+}
+
+/// A new entry, given to the place.
+fn made<R: Abort>(rt: &R, w: &mut World<LinkedEntry<u64>>, value: u64) -> Shared<LinkedEntry<u64>>
+    requires { 0 ≤ length w.old.cells }
+    ensures made { IsMade w.old w.new value (shared_slot result) }
+    ensures leaves { Leaves [] [] w.old w.new }
+    ensures stays { Stays w.old w.new }
+{
+    match world::linked_entry::place(w, value) {
+        Ok(owner) => owner,
+        Err(_) => panic!(rt; "there is room"),
+    }
+}
+
+/// The value of an entry that was put behind another, and whether the pointer to it is marked. Both end.
+fn put_behind<R: Abort>(
+    rt: &R,
+    w: &mut World<LinkedEntry<u64>>,
+    mark: bool,
+    guard: &WorldGuard,
+) -> (u64, bool)
+    requires { 0 < length w.old.members }
+    ensures member { 0 < length w.new.members }
+    ensures open { IsOpen w.old 0 → IsOpen w.new 0 }
+{
+    let first = made(rt, w, 1);
+    let second = made(rt, w, 2);
+    let at = place::shared::get_guarded_ptr(&first, guard);
+    let next = match world::linked_list::push_back(w, at, second, mark, guard) {
+        Ok(next) => next,
+        Err(_) => panic!(rt; "it isn't deleted"),
+    };
+    if !w.is_readable(&next) {
+        panic!(rt; "it is there");
+    }
+    let value = match w.read(&next) {
+        Some(entry) => *entry.as_ref(),
+        None => panic!(rt; "it isn't null"),
+    };
+    give(rt, w, first);
+    (value, next.tag() == Tag::First)
+}
+
+/// What `push_back` hands back where the entry is deleted: the value of the entry that was to go behind it. Both end.
+fn put_behind_deleted<R: Abort>(rt: &R, w: &mut World<LinkedEntry<u64>>, guard: &WorldGuard) -> u64
+    requires { 0 < length w.old.members }
+    ensures member { 0 < length w.new.members }
+    ensures open { IsOpen w.old 0 → IsOpen w.new 0 }
+{
+    let first = made(rt, w, 1);
+    let second = made(rt, w, 2);
+    let at = place::shared::get_guarded_ptr(&first, guard);
+    if !world::linked_list::delete_self(w, at) {
+        panic!(rt; "it wasn't deleted before");
+    }
+    let deleted = place::shared::get_guarded_ptr(&first, guard);
+    let back = match world::linked_list::push_back(w, deleted, second, false, guard) {
+        Ok(_) => panic!(rt; "it is deleted"),
+        Err(back) => back,
+    };
+    let value = *place::shared::as_ref(w, &back).as_ref();
+    give(rt, w, back);
+    give(rt, w, first);
+    value
+}
+
+#[test]
+fn an_entry_comes_back_from_behind_a_deleted_one(rt: HostRuntime) -> Result<(), Fail> {
+    let mut w: World<LinkedEntry<u64>> = World::new(rt.alloc(), sizes(2, 4))?;
+    let Ok(guard) = place::guard::new(&mut w, 0) else {
+        panic!(rt; "no guard is open");
+    };
+    assert_eq!(rt; put_behind_deleted(&rt, &mut w, &guard), 2);
+    place::guard::close(&mut w, guard);
+    end(&rt, w);
+    Ok(())
+}
+
+#[test]
+fn an_entry_is_put_behind_another(rt: HostRuntime) -> Result<(), Fail> {
+    let mut w: World<LinkedEntry<u64>> = World::new(rt.alloc(), sizes(4, 6))?;
+    let Ok(guard) = place::guard::new(&mut w, 0) else {
+        panic!(rt; "no guard is open");
+    };
+    assert_eq!(rt; put_behind(&rt, &mut w, true, &guard), (2, true));
+    assert_eq!(rt; put_behind(&rt, &mut w, false, &guard), (2, false));
+    place::guard::close(&mut w, guard);
+    end(&rt, w);
+    Ok(())
+}
+
+#[test]
+fn an_entry_is_made_where_a_cell_is_free(rt: HostRuntime) -> Result<(), Fail> {
+    let mut w: World<LinkedEntry<u64>> = World::new(rt.alloc(), sizes(1, 1))?;
+    let Ok(entry) = world::linked_entry::new(&mut w, 5) else {
+        panic!(rt; "a cell is free");
+    };
+    assert_eq!(rt; *entry.as_ref(), 5);
+    match world::linked_entry::new(&mut w, 6) {
+        Ok(_) => panic!(rt; "the cell is taken"),
+        Err(back) => assert_eq!(rt; back, 6),
+    }
+    match place::shared::new(&mut w, entry) {
+        Ok(owner) => {
+            place::shared::release(&mut w, owner, 0);
+        }
+        Err(_) => panic!(rt; "a slot is free"),
+    }
+    end(&rt, w);
+    Ok(())
+}

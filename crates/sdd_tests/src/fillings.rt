@@ -1,0 +1,295 @@
+//! Containers of the values of an iterator, and clones of containers.
+
+ghost use Rattle.std.specs.Prelude.{◌≡◌, ◌<◌, length, IfSome};
+ghost use Rattle.sdd_base.specs.Place.{IsOpen};
+ghost use Rattle.sdd.specs.Copies.{ClonesAreSame};
+ghost use Rattle.sdd.specs.Entries.{entry_link};
+ghost use Rattle.sdd.specs.Stacks.{IsSomeStack, stack_cell};
+ghost use Rattle.sdd.specs.Queues.{IsSomeQueue, oldest_cell, newest_cell};
+
+use crate::places::{end, sizes};
+use crate::queues::{append, take};
+use crate::stacks::{delete, pop, push};
+use crate::walks::{three_of_queue, three_of_stack};
+use sdd::linked_entry::LinkedEntry;
+use sdd::queue::Queue;
+use sdd::refusal::{CloneRefused, FromIterRefused, NotMade};
+use sdd::stack::Stack;
+use sdd::world;
+use sdd_base::world as place;
+use sdd_base::world::World;
+use std::alloc::AllocError;
+use std::process::Abort;
+use std::test::Fail;
+
+/// A number that can't be cloned where it is 3.
+#[derive(Drop)]
+struct Rare {
+    number: u64,
+}
+
+impl Clone for Rare {
+    ghost use Rattle.std.specs.Prelude.{◌≡◌};
+
+    ghost is_clone = { λ x y. y ≡ x };
+
+    fn clone(&self) -> Result<Rare, AllocError> {
+        if self.number == 3 {
+            return Err(AllocError);
+        }
+        Ok(Rare {
+            number: self.number,
+        })
+    }
+}
+
+/// A clone of a queue, which ends, as far as it was made, and why no further.
+pub(crate) fn copied_queue<T: Clone>(
+    w: &mut World<LinkedEntry<T>>,
+    queue: Queue<T>,
+) -> (Option<Queue<T>>, Option<NotMade>)
+    requires clones { ClonesAreSame T.is_clone }
+    requires member { 0 < length w.old.members }
+    requires list { IsSomeQueue entry_link w.old (oldest_cell queue) (newest_cell queue) }
+    ensures member { 0 < length w.new.members }
+    ensures list { IfSome result.0 (λ q. IsSomeQueue entry_link w.new (oldest_cell q) (newest_cell q)) }
+{
+    match world::queue::clone(w, &queue) {
+        Ok(copy) => {
+            world::queue::retire(w, queue, 0);
+            (Some(copy), None)
+        }
+        Err(refused) => {
+            world::queue::retire(w, queue, 0);
+            match refused {
+                CloneRefused::Partly(copy, why) => (Some(copy), Some(why)),
+                CloneRefused::Unmade(why) => (None, Some(why)),
+            }
+        }
+    }
+}
+
+/// The same of a stack.
+pub(crate) fn copied_stack<T: Clone>(
+    w: &mut World<LinkedEntry<T>>,
+    stack: Stack<T>,
+) -> (Option<Stack<T>>, Option<NotMade>)
+    requires clones { ClonesAreSame T.is_clone }
+    requires member { 0 < length w.old.members }
+    requires list { IsSomeStack w.old (stack_cell stack) }
+    ensures member { 0 < length w.new.members }
+    ensures open { IsOpen w.old 0 → IsOpen w.new 0 }
+    ensures list { IfSome result.0 (λ s. IsSomeStack w.new (stack_cell s)) }
+{
+    match world::stack::clone(w, &stack) {
+        Ok(copy) => {
+            world::stack::retire(w, stack, 0);
+            (Some(copy), None)
+        }
+        Err(refused) => {
+            world::stack::retire(w, stack, 0);
+            match refused {
+                CloneRefused::Partly(copy, why) => (Some(copy), Some(why)),
+                CloneRefused::Unmade(why) => (None, Some(why)),
+            }
+        }
+    }
+}
+
+/// A queue of the numbers below `n` gives them back in their order.
+fn queue_round<R: Abort>(rt: &R, w: &mut World<LinkedEntry<u64>>, n: u64)
+    requires { 0 < length w.old.members }
+    ensures { 0 < length w.new.members }
+{
+    let queue = match world::queue::from_iter(w, 0..n) {
+        Ok(queue) => queue,
+        _ => panic!(rt; "there is room"),
+    };
+    for number in 0..n {
+        assert!(rt; take(w, &queue) == Some(number));
+    }
+    assert!(rt; take(w, &queue).is_none());
+    world::queue::retire(w, queue, 0);
+}
+
+/// A stack of the numbers below `n` gives the last one first.
+fn stack_round<R: Abort>(rt: &R, w: &mut World<LinkedEntry<u64>>, n: u64)
+    requires { 0 < length w.old.members }
+    ensures { 0 < length w.new.members }
+{
+    let stack = match world::stack::from_iter(w, 0..n) {
+        Ok(stack) => stack,
+        _ => panic!(rt; "there is room"),
+    };
+    for number in (0..n).rev() {
+        assert!(rt; pop(w, &stack) == Some(number));
+    }
+    assert!(rt; pop(w, &stack).is_none());
+    world::stack::retire(w, stack, 0);
+}
+
+#[test]
+fn values_become_a_queue(rt: HostRuntime) -> Result<(), Fail> {
+    let mut w: World<LinkedEntry<u64>> = World::new(rt.alloc(), sizes(400, 402))?;
+    let queue = match world::queue::from_iter(&mut w, 1..4) {
+        Ok(queue) => queue,
+        _ => panic!(rt; "there is room"),
+    };
+    assert_eq!(rt; three_of_queue(&w, &queue), (Some(1), Some(2), Some(3)));
+    assert_eq!(rt; append(&mut w, &queue, 4), Ok(()));
+    assert_eq!(rt; world::queue::len(&w, &queue), 4);
+    world::queue::retire(&mut w, queue, 0);
+    queue_round(&rt, &mut w, 0);
+    queue_round(&rt, &mut w, 1);
+    queue_round(&rt, &mut w, 17);
+    queue_round(&rt, &mut w, 100);
+    end(&rt, w);
+    Ok(())
+}
+
+#[test]
+fn values_become_a_stack(rt: HostRuntime) -> Result<(), Fail> {
+    let mut w: World<LinkedEntry<u64>> = World::new(rt.alloc(), sizes(400, 402))?;
+    let stack = match world::stack::from_iter(&mut w, 1..4) {
+        Ok(stack) => stack,
+        _ => panic!(rt; "there is room"),
+    };
+    assert_eq!(rt; three_of_stack(&w, &stack), (Some(3), Some(2), Some(1)));
+    assert_eq!(rt; push(&mut w, &stack, 4), Ok(()));
+    assert_eq!(rt; world::stack::len(&w, &stack), 4);
+    world::stack::retire(&mut w, stack, 0);
+    stack_round(&rt, &mut w, 0);
+    stack_round(&rt, &mut w, 1);
+    stack_round(&rt, &mut w, 17);
+    stack_round(&rt, &mut w, 100);
+    end(&rt, w);
+    Ok(())
+}
+
+#[test]
+fn values_without_room_hand_back_what_was_built(rt: HostRuntime) -> Result<(), Fail> {
+    let mut w: World<LinkedEntry<u64>> = World::new(rt.alloc(), sizes(2, 5))?;
+    match world::queue::from_iter(&mut w, 1..5) {
+        Err(FromIterRefused::NoSlot(queue, value)) => {
+            assert!(rt; value == 3);
+            assert_eq!(rt; three_of_queue(&w, &queue), (Some(1), Some(2), None));
+            world::queue::retire(&mut w, queue, 0);
+        }
+        Err(FromIterRefused::Unmade(_, _)) => panic!(rt; "two cells are free"),
+        Ok(_) => panic!(rt; "two slots are free"),
+    }
+    end(&rt, w);
+    let mut w: World<LinkedEntry<u64>> = World::new(rt.alloc(), sizes(5, 3))?;
+    match world::stack::from_iter(&mut w, 1..5) {
+        Err(FromIterRefused::NoSlot(stack, value)) => {
+            assert!(rt; value == 3);
+            assert_eq!(rt; three_of_stack(&w, &stack), (Some(2), Some(1), None));
+            world::stack::retire(&mut w, stack, 0);
+        }
+        Err(FromIterRefused::Unmade(_, _)) => panic!(rt; "a cell is free"),
+        Ok(_) => panic!(rt; "two cells are free for entries"),
+    }
+    end(&rt, w);
+    Ok(())
+}
+
+#[test]
+fn values_come_back_where_nothing_is_made(rt: HostRuntime) -> Result<(), Fail> {
+    let mut w: World<LinkedEntry<u64>> = World::new(rt.alloc(), sizes(2, 1))?;
+    match world::queue::from_iter(&mut w, 1..5) {
+        Err(FromIterRefused::Unmade(refused, values)) => {
+            assert!(rt; refused == NotMade::NoSlot && values.count() == 4);
+        }
+        _ => panic!(rt; "one cell is free"),
+    }
+    match world::bag::from_iter::<u64, _, 1, _>(rt.alloc(), &mut w, 1..5) {
+        Err(FromIterRefused::Unmade(refused, values)) => {
+            assert!(rt; refused == NotMade::NoSlot && values.count() == 4);
+        }
+        _ => panic!(rt; "one cell is free"),
+    }
+    end(&rt, w);
+    let mut w: World<LinkedEntry<u64>> = World::new(rt.alloc(), sizes(2, 0))?;
+    match world::stack::from_iter(&mut w, 1..5) {
+        Err(FromIterRefused::Unmade(refused, values)) => {
+            assert!(rt; refused == NotMade::NoSlot && values.count() == 4);
+        }
+        _ => panic!(rt; "no cell is free"),
+    }
+    end(&rt, w);
+    Ok(())
+}
+
+#[test]
+fn a_clone_of_a_stack_outlasts_it(rt: HostRuntime) -> Result<(), Fail> {
+    let mut w: World<LinkedEntry<u64>> = World::new(rt.alloc(), sizes(8, 10))?;
+    let Ok(guard) = place::guard::new(&mut w, 0) else {
+        panic!(rt; "no guard is open");
+    };
+    let stack = match world::stack::from_iter(&mut w, 1..4) {
+        Ok(stack) => stack,
+        _ => panic!(rt; "there is room"),
+    };
+    assert!(rt; delete(&mut w, &stack, &guard));
+    assert_eq!(rt; push(&mut w, &stack, 4), Ok(()));
+    let copy = match copied_stack(&mut w, stack) {
+        (Some(copy), None) => copy,
+        _ => panic!(rt; "there is room"),
+    };
+    assert_eq!(rt; three_of_stack(&w, &copy), (Some(4), Some(2), Some(1)));
+    assert_eq!(rt; world::stack::len(&w, &copy), 3);
+    world::stack::retire(&mut w, copy, 0);
+    place::guard::close(&mut w, guard);
+    end(&rt, w);
+    Ok(())
+}
+
+#[test]
+fn a_clone_without_room_hands_back_what_was_built(rt: HostRuntime) -> Result<(), Fail> {
+    let mut w: World<LinkedEntry<u64>> = World::new(rt.alloc(), sizes(5, 10))?;
+    let queue = match world::queue::from_iter(&mut w, 1..4) {
+        Ok(queue) => queue,
+        _ => panic!(rt; "there is room"),
+    };
+    let copy = match copied_queue(&mut w, queue) {
+        (Some(copy), Some(NotMade::NoSlot)) => copy,
+        _ => panic!(rt; "two slots are free"),
+    };
+    assert_eq!(rt; three_of_queue(&w, &copy), (Some(1), Some(2), None));
+    world::queue::retire(&mut w, copy, 0);
+    end(&rt, w);
+    let mut w: World<LinkedEntry<u64>> = World::new(rt.alloc(), sizes(8, 6))?;
+    let stack = match world::stack::from_iter(&mut w, 1..4) {
+        Ok(stack) => stack,
+        _ => panic!(rt; "there is room"),
+    };
+    let copy = match copied_stack(&mut w, stack) {
+        (Some(copy), Some(NotMade::NoSlot)) => copy,
+        _ => panic!(rt; "two cells are free"),
+    };
+    assert_eq!(rt; three_of_stack(&w, &copy), (Some(3), None, None));
+    world::stack::retire(&mut w, copy, 0);
+    end(&rt, w);
+    Ok(())
+}
+
+#[test]
+fn a_refused_clone_of_a_value_ends_a_clone(rt: HostRuntime) -> Result<(), Fail> {
+    let mut w: World<LinkedEntry<Rare>> = World::new(rt.alloc(), sizes(9, 13))?;
+    let values = [Rare { number: 1 }, Rare { number: 2 }, Rare { number: 3 }];
+    let queue = match world::queue::from_iter(&mut w, values) {
+        Ok(queue) => queue,
+        _ => panic!(rt; "there is room"),
+    };
+    let copy = match copied_queue(&mut w, queue) {
+        (Some(copy), Some(NotMade::Memory)) => copy,
+        _ => panic!(rt; "the third one isn't cloned"),
+    };
+    assert_eq!(rt; world::queue::len(&w, &copy), 2);
+    world::queue::retire(&mut w, copy, 0);
+    match w.close() {
+        Ok(()) => {}
+        Err(_) => panic!(rt; "something is left"),
+    }
+    Ok(())
+}

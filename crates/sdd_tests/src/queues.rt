@@ -1,0 +1,338 @@
+//! Queues: calls as data, so that a test of many calls is a table.
+
+ghost use Rattle.std.specs.Prelude.{◌≡◌, ◌<◌, length};
+ghost use Rattle.sdd_base.specs.Place.{IsOpen};
+ghost use Rattle.sdd.specs.Entries.{entry_link};
+ghost use Rattle.sdd.specs.Queues.{IsSomeQueue, oldest_cell, newest_cell};
+
+use crate::places::{end, sizes};
+use crate::queues::Call::{
+    Append, AppendMore, Front, IsEmpty, Len, Oldest, RefusedTake, Take, Three,
+};
+use crate::queues::Reply::{Back, Count, Done, Is, Listed, Value};
+use crate::stacks::push;
+use crate::walks::three_of_queue;
+use sdd::linked_entry::LinkedEntry;
+use sdd::queue::Queue;
+use sdd::world;
+use sdd_base::guard::WorldGuard;
+use sdd_base::sizes::Sizes;
+use sdd_base::world as place;
+use sdd_base::world::World;
+use std::alloc::Global;
+use std::process::Abort;
+use std::test::Fail;
+
+/// A call of a queue.
+#[derive(Clone, Copy)]
+enum Call {
+    Append(u64),
+    AppendMore(u64),
+    Take,
+    RefusedTake,
+    Front,
+    Oldest,
+    Three,
+    Len,
+    IsEmpty,
+}
+
+/// What a call returns.
+#[derive(Clone, Copy, PartialEq, Eq)]
+enum Reply {
+    Done,
+    Back(u64),
+    Value(Option<u64>),
+    Listed(Option<u64>, Option<u64>, Option<u64>),
+    Is(bool),
+    Count(usize),
+}
+
+/// Puts a value behind all others and gives the owner back.
+pub(crate) fn append(
+    w: &mut World<LinkedEntry<u64>>,
+    queue: &Queue<u64>,
+    value: u64,
+) -> Result<(), u64>
+    requires member { 0 < length w.old.members }
+    requires list { IsSomeQueue entry_link w.old (oldest_cell queue.now) (newest_cell queue.now) }
+    ensures member { 0 < length w.new.members }
+    ensures open { IsOpen w.old 0 → IsOpen w.new 0 }
+    ensures list { IsSomeQueue entry_link w.new (oldest_cell queue.now) (newest_cell queue.now) }
+{
+    match world::queue::push(w, queue, value) {
+        Ok(entry) => {
+            place::shared::release(w, entry, 0);
+            Ok(())
+        }
+        Err(value) => Err(value),
+    }
+}
+
+/// The value of the first undeleted entry, which is given back.
+pub(crate) fn take(w: &mut World<LinkedEntry<u64>>, queue: &Queue<u64>) -> Option<u64>
+    requires member { 0 < length w.old.members }
+    requires list { IsSomeQueue entry_link w.old (oldest_cell queue.now) (newest_cell queue.now) }
+    ensures member { 0 < length w.new.members }
+    ensures open { IsOpen w.old 0 → IsOpen w.new 0 }
+    ensures list { IsSomeQueue entry_link w.new (oldest_cell queue.now) (newest_cell queue.now) }
+{
+    match world::queue::pop(w, queue, 0) {
+        None => None,
+        Some(entry) => {
+            let value = *place::shared::as_ref(w, &entry).as_ref();
+            place::shared::release(w, entry, 0);
+            Some(value)
+        }
+    }
+}
+
+/// The value that a pointer to the oldest entry names.
+fn oldest(w: &World<LinkedEntry<u64>>, queue: &Queue<u64>, guard: &WorldGuard) -> Option<u64>
+    requires { IsSomeQueue entry_link w.now (oldest_cell queue.now) (newest_cell queue.now) }
+{
+    let first = world::queue::peek(w, queue, guard);
+    match w.read(&first) {
+        None => None,
+        Some(entry) => Some(*entry.as_ref()),
+    }
+}
+
+/// Puts a value behind all others where there is one, and gives the owner back.
+fn append_more(w: &mut World<LinkedEntry<u64>>, queue: &Queue<u64>, value: u64) -> bool
+    requires member { 0 < length w.old.members }
+    requires list { IsSomeQueue entry_link w.old (oldest_cell queue.now) (newest_cell queue.now) }
+    ensures member { 0 < length w.new.members }
+    ensures open { IsOpen w.old 0 → IsOpen w.new 0 }
+    ensures list { IsSomeQueue entry_link w.new (oldest_cell queue.now) (newest_cell queue.now) }
+{
+    let some = |first: Option<&LinkedEntry<u64>>| first.is_some();
+    match world::queue::push_if(w, queue, value, some) {
+        Ok(entry) => {
+            place::shared::release(w, entry, 0);
+            true
+        }
+        Err(_) => false,
+    }
+}
+
+/// The value of the oldest undeleted entry, whose owner a refused pop gives and which is given back.
+fn refused_oldest(w: &mut World<LinkedEntry<u64>>, queue: &Queue<u64>) -> Option<u64>
+    requires member { 0 < length w.old.members }
+    requires list { IsSomeQueue entry_link w.old (oldest_cell queue.now) (newest_cell queue.now) }
+    ensures member { 0 < length w.new.members }
+    ensures open { IsOpen w.old 0 → IsOpen w.new 0 }
+    ensures list { IsSomeQueue entry_link w.new (oldest_cell queue.now) (newest_cell queue.now) }
+{
+    let never = |_entry: &LinkedEntry<u64>| false;
+    match world::queue::pop_if(w, queue, 0, never) {
+        Ok(None) => None,
+        Err(owner) => {
+            let value = *place::shared::as_ref(w, &owner).as_ref();
+            place::shared::release(w, owner, 0);
+            Some(value)
+        }
+        Ok(Some(popped)) => {
+            place::shared::release(w, popped, 0);
+            None
+        }
+    }
+}
+
+/// The value of an entry, if there is one.
+fn value_of(entry: Option<&LinkedEntry<u64>>) -> Option<u64> {
+    match entry {
+        None => None,
+        Some(entry) => Some(*entry.as_ref()),
+    }
+}
+
+/// Makes a call.
+fn make(
+    w: &mut World<LinkedEntry<u64>>,
+    queue: &Queue<u64>,
+    guard: &WorldGuard,
+    call: Call,
+) -> Reply
+    requires member { 0 < length w.old.members }
+    requires list { IsSomeQueue entry_link w.old (oldest_cell queue.now) (newest_cell queue.now) }
+    ensures member { 0 < length w.new.members }
+    ensures open { IsOpen w.old 0 → IsOpen w.new 0 }
+    ensures list { IsSomeQueue entry_link w.new (oldest_cell queue.now) (newest_cell queue.now) }
+{
+    match call {
+        Append(value) => match append(w, queue, value) {
+            Ok(()) => Done,
+            Err(value) => Back(value),
+        },
+        AppendMore(value) => Is(append_more(w, queue, value)),
+        Take => Value(take(w, queue)),
+        RefusedTake => Value(refused_oldest(w, queue)),
+        read => look(w, queue, guard, read),
+    }
+}
+
+/// Makes a call that only reads.
+fn look(w: &World<LinkedEntry<u64>>, queue: &Queue<u64>, guard: &WorldGuard, call: Call) -> Reply
+    requires { IsSomeQueue entry_link w.now (oldest_cell queue.now) (newest_cell queue.now) }
+{
+    match call {
+        Front => Value(world::queue::peek_with(w, queue, value_of)),
+        Oldest => Value(oldest(w, queue, guard)),
+        Three => {
+            let (first, second, third) = three_of_queue(w, queue);
+            Listed(first, second, third)
+        }
+        IsEmpty => Is(world::queue::is_empty(w, queue)),
+        _ => Count(world::queue::len(w, queue)),
+    }
+}
+
+/// Makes the calls of a table, in order, and compares what they return.
+fn play<R: Abort>(
+    rt: &R,
+    w: &mut World<LinkedEntry<u64>>,
+    queue: &Queue<u64>,
+    guard: &WorldGuard,
+    rows: &[(Call, Reply)],
+)
+    requires member { 0 < length w.old.members }
+    requires list { IsSomeQueue entry_link w.old (oldest_cell queue.now) (newest_cell queue.now) }
+    ensures member { 0 < length w.new.members }
+    ensures open { IsOpen w.old 0 → IsOpen w.new 0 }
+    ensures list { IsSomeQueue entry_link w.new (oldest_cell queue.now) (newest_cell queue.now) }
+{
+    for row in rows {
+        let (call, wanted) = *row;
+        assert!(rt; make(w, queue, guard, call) == wanted);
+    }
+}
+
+/// Makes the calls of a table on a new queue, under a guard, and ends both.
+fn on_a_queue<R: Abort>(
+    rt: &R,
+    alloc: Global,
+    sizes: Sizes,
+    rows: &[(Call, Reply)],
+) -> Result<(), Fail> {
+    let mut w: World<LinkedEntry<u64>> = World::new(alloc, sizes)?;
+    let Ok(guard) = place::guard::new(&mut w, 0) else {
+        panic!(rt; "no guard is open");
+    };
+    let Ok(queue) = world::queue::new(&mut w) else {
+        panic!(rt; "two cells are free");
+    };
+    play(rt, &mut w, &queue, &guard, rows);
+    world::queue::retire(&mut w, queue, 0);
+    place::guard::close(&mut w, guard);
+    end(rt, w);
+    Ok(())
+}
+
+#[test]
+fn a_queue_gives_the_oldest_first(rt: HostRuntime) -> Result<(), Fail> {
+    on_a_queue(
+        &rt,
+        rt.alloc(),
+        sizes(3, 5),
+        &[
+            (Take, Value(None)),
+            (Append(1), Done),
+            (Append(2), Done),
+            (Append(3), Done),
+            (Take, Value(Some(1))),
+            (Take, Value(Some(2))),
+            (Take, Value(Some(3))),
+            (Take, Value(None)),
+        ],
+    )
+}
+
+#[test]
+fn a_queue_without_room_hands_the_value_back(rt: HostRuntime) -> Result<(), Fail> {
+    on_a_queue(
+        &rt,
+        rt.alloc(),
+        sizes(2, 4),
+        &[
+            (IsEmpty, Is(true)),
+            (Append(1), Done),
+            (Append(2), Done),
+            (Append(3), Back(3)),
+            (Len, Count(2)),
+            (IsEmpty, Is(false)),
+        ],
+    )
+}
+
+#[test]
+fn a_queue_is_peeked_at_its_oldest(rt: HostRuntime) -> Result<(), Fail> {
+    on_a_queue(
+        &rt,
+        rt.alloc(),
+        sizes(2, 4),
+        &[
+            (Front, Value(None)),
+            (Append(8), Done),
+            (Append(9), Done),
+            (Front, Value(Some(8))),
+            (Oldest, Value(Some(8))),
+        ],
+    )
+}
+
+#[test]
+fn a_refused_pop_of_a_queue_gives_an_owner_that_comes_back(rt: HostRuntime) -> Result<(), Fail> {
+    on_a_queue(
+        &rt,
+        rt.alloc(),
+        sizes(3, 5),
+        &[
+            (RefusedTake, Value(None)),
+            (Append(1), Done),
+            (RefusedTake, Value(Some(1))),
+            (Append(2), Done),
+            (RefusedTake, Value(Some(1))),
+            (Take, Value(Some(1))),
+            (RefusedTake, Value(Some(2))),
+            (RefusedTake, Value(Some(2))),
+            (Append(3), Done),
+            (Take, Value(Some(2))),
+            (Take, Value(Some(3))),
+        ],
+    )
+}
+
+#[test]
+fn a_walk_along_a_queue_gives_the_oldest_first(rt: HostRuntime) -> Result<(), Fail> {
+    on_a_queue(
+        &rt,
+        rt.alloc(),
+        sizes(3, 5),
+        &[
+            (AppendMore(7), Is(false)),
+            (Append(1), Done),
+            (AppendMore(2), Is(true)),
+            (Three, Listed(Some(1), Some(2), None)),
+            (AppendMore(3), Is(true)),
+            (AppendMore(4), Is(false)),
+            (Three, Listed(Some(1), Some(2), Some(3))),
+        ],
+    )
+}
+
+#[test]
+fn a_queue_takes_two_cells(rt: HostRuntime) -> Result<(), Fail> {
+    let mut w: World<LinkedEntry<u64>> = World::new(rt.alloc(), sizes(1, 1))?;
+    match world::queue::new(&mut w) {
+        Ok(_) => panic!(rt; "one cell is free"),
+        Err(_) => {}
+    }
+    let Ok(stack) = world::stack::new(&mut w) else {
+        panic!(rt; "a cell is free");
+    };
+    assert_eq!(rt; push(&mut w, &stack, 1), Err(1));
+    world::stack::retire(&mut w, stack, 0);
+    end(&rt, w);
+    Ok(())
+}

@@ -1,0 +1,614 @@
+//! Stacks: calls as data, so that a test of many calls is a table.
+
+ghost use Rattle.std.specs.Prelude.{◌≡◌, ◌<◌, length, IfOk};
+ghost use Rattle.sdd_base.specs.Place.{IsOpen};
+ghost use Rattle.sdd.specs.Stacks.{IsSomeStack, stack_cell};
+
+use crate::places::{end, give, sizes};
+use crate::stacks::Call::{
+    Delete, Front, IsClear, IsDeleted, IsEmpty, IsMarked, Len, Mark, Pop, Push, PushFirst,
+    RefusedPop, Second, SecondOwned, Three, Unmark,
+};
+use crate::stacks::Reply::{Back, Count, Done, Is, Listed, Value};
+use crate::walks::three_of_stack;
+use sdd::linked_entry::LinkedEntry;
+use sdd::stack::Stack;
+use sdd::world;
+use sdd_base::guard::WorldGuard;
+use sdd_base::sizes::Sizes;
+use sdd_base::world as place;
+use sdd_base::world::World;
+use std::alloc::Global;
+use std::process::Abort;
+use std::test::Fail;
+
+/// A call of a stack.
+#[derive(Clone, Copy)]
+enum Call {
+    Push(u64),
+    PushFirst(u64),
+    Pop,
+    RefusedPop,
+    Delete,
+    Mark,
+    Unmark,
+    IsClear,
+    IsMarked,
+    IsDeleted,
+    Front,
+    Second,
+    SecondOwned,
+    Three,
+    Len,
+    IsEmpty,
+}
+
+/// What a call returns.
+#[derive(Clone, Copy, PartialEq, Eq)]
+enum Reply {
+    Done,
+    Back(u64),
+    Value(Option<u64>),
+    Listed(Option<u64>, Option<u64>, Option<u64>),
+    Is(bool),
+    Count(usize),
+}
+
+/// Puts a value in front and gives the owner back.
+pub(crate) fn push(
+    w: &mut World<LinkedEntry<u64>>,
+    stack: &Stack<u64>,
+    value: u64,
+) -> Result<(), u64>
+    requires member { 0 < length w.old.members }
+    requires list { IsSomeStack w.old (stack_cell stack.now) }
+    ensures member { 0 < length w.new.members }
+    ensures open { IsOpen w.old 0 → IsOpen w.new 0 }
+    ensures list { IsSomeStack w.new (stack_cell stack.now) }
+{
+    match world::stack::push(w, stack, value) {
+        Ok(entry) => {
+            place::shared::release(w, entry, 0);
+            Ok(())
+        }
+        Err(value) => Err(value),
+    }
+}
+
+/// The value of the first undeleted entry, which is given back.
+pub(crate) fn pop(w: &mut World<LinkedEntry<u64>>, stack: &Stack<u64>) -> Option<u64>
+    requires member { 0 < length w.old.members }
+    requires list { IsSomeStack w.old (stack_cell stack.now) }
+    ensures member { 0 < length w.new.members }
+    ensures open { IsOpen w.old 0 → IsOpen w.new 0 }
+    ensures list { IsSomeStack w.new (stack_cell stack.now) }
+{
+    match world::stack::pop(w, stack, 0) {
+        None => None,
+        Some(entry) => {
+            let value = *place::shared::as_ref(w, &entry).as_ref();
+            place::shared::release(w, entry, 0);
+            Some(value)
+        }
+    }
+}
+
+/// Deletes the first undeleted entry, which stays linked.
+pub(crate) fn delete(
+    w: &mut World<LinkedEntry<u64>>,
+    stack: &Stack<u64>,
+    guard: &WorldGuard,
+) -> bool
+    requires member { 0 < length w.old.members }
+    requires list { IsSomeStack w.old (stack_cell stack.now) }
+    ensures member { 0 < length w.new.members }
+    ensures open { IsOpen w.old 0 → IsOpen w.new 0 }
+    ensures list { IsSomeStack w.new (stack_cell stack.now) }
+{
+    let first = world::stack::peek(w, stack, guard);
+    match w.read(&first) {
+        None => return false,
+        Some(_) => {}
+    }
+    world::linked_list::delete_self(w, first)
+}
+
+/// Moves all entries to another stack, and ends the old one.
+fn moved(w: &mut World<LinkedEntry<u64>>, stack: Stack<u64>) -> Result<Stack<u64>, Stack<u64>>
+    requires member { 0 < length w.old.members }
+    requires list { IsSomeStack w.old (stack_cell stack) }
+    ensures member { 0 < length w.new.members }
+    ensures list { IfOk result (λ s. IsSomeStack w.new (stack_cell s)) }
+{
+    match world::stack::pop_all(w, &stack, 0) {
+        Ok(other) => {
+            world::stack::retire(w, stack, 0);
+            Ok(other)
+        }
+        Err(_) => Err(stack),
+    }
+}
+
+/// Marks the first undeleted entry.
+fn mark(w: &mut World<LinkedEntry<u64>>, stack: &Stack<u64>, guard: &WorldGuard) -> bool
+    requires member { 0 < length w.old.members }
+    requires list { IsSomeStack w.old (stack_cell stack.now) }
+    ensures member { 0 < length w.new.members }
+    ensures open { IsOpen w.old 0 → IsOpen w.new 0 }
+    ensures list { IsSomeStack w.new (stack_cell stack.now) }
+{
+    let first = world::stack::peek(w, stack, guard);
+    match w.read(&first) {
+        None => return false,
+        Some(_) => {}
+    }
+    world::linked_list::mark(w, first)
+}
+
+/// Clears the first undeleted entry.
+fn unmark(w: &mut World<LinkedEntry<u64>>, stack: &Stack<u64>, guard: &WorldGuard) -> bool
+    requires member { 0 < length w.old.members }
+    requires list { IsSomeStack w.old (stack_cell stack.now) }
+    ensures member { 0 < length w.new.members }
+    ensures open { IsOpen w.old 0 → IsOpen w.new 0 }
+    ensures list { IsSomeStack w.new (stack_cell stack.now) }
+{
+    let first = world::stack::peek(w, stack, guard);
+    match w.read(&first) {
+        None => return false,
+        Some(_) => {}
+    }
+    world::linked_list::unmark(w, first)
+}
+
+/// Whether the first undeleted entry is clear.
+fn is_clear(w: &World<LinkedEntry<u64>>, stack: &Stack<u64>, guard: &WorldGuard) -> bool
+    requires { IsSomeStack w.now (stack_cell stack.now) }
+{
+    let first = world::stack::peek(w, stack, guard);
+    match w.read(&first) {
+        None => return false,
+        Some(_) => {}
+    }
+    world::linked_list::is_clear(w, first)
+}
+
+/// Whether the first undeleted entry is marked.
+fn is_marked(w: &World<LinkedEntry<u64>>, stack: &Stack<u64>, guard: &WorldGuard) -> bool
+    requires { IsSomeStack w.now (stack_cell stack.now) }
+{
+    let first = world::stack::peek(w, stack, guard);
+    match w.read(&first) {
+        None => return false,
+        Some(_) => {}
+    }
+    world::linked_list::is_marked(w, first)
+}
+
+/// Whether the first undeleted entry is deleted.
+fn is_deleted(w: &World<LinkedEntry<u64>>, stack: &Stack<u64>, guard: &WorldGuard) -> bool
+    requires { IsSomeStack w.now (stack_cell stack.now) }
+{
+    let first = world::stack::peek(w, stack, guard);
+    match w.read(&first) {
+        None => return false,
+        Some(_) => {}
+    }
+    world::linked_list::is_deleted(w, first)
+}
+
+/// Puts a value in front if there is none yet, and gives the owner back.
+fn push_first(w: &mut World<LinkedEntry<u64>>, stack: &Stack<u64>, value: u64) -> bool
+    requires member { 0 < length w.old.members }
+    requires list { IsSomeStack w.old (stack_cell stack.now) }
+    ensures member { 0 < length w.new.members }
+    ensures open { IsOpen w.old 0 → IsOpen w.new 0 }
+    ensures list { IsSomeStack w.new (stack_cell stack.now) }
+{
+    let none = |first: Option<&LinkedEntry<u64>>| first.is_none();
+    match world::stack::push_if(w, stack, value, none) {
+        Ok(entry) => {
+            place::shared::release(w, entry, 0);
+            true
+        }
+        Err(_) => false,
+    }
+}
+
+/// The value of the second undeleted entry.
+fn second(w: &World<LinkedEntry<u64>>, stack: &Stack<u64>, guard: &WorldGuard) -> Option<u64>
+    requires { IsSomeStack w.now (stack_cell stack.now) }
+{
+    let first = world::stack::peek(w, stack, guard);
+    match w.read(&first) {
+        None => return None,
+        Some(_) => {}
+    }
+    let next = world::linked_list::next_ptr(w, first, guard);
+    match w.read(&next) {
+        None => None,
+        Some(entry) => Some(*entry.as_ref()),
+    }
+}
+
+/// The value of an entry, if there is one.
+fn value_of(entry: Option<&LinkedEntry<u64>>) -> Option<u64> {
+    match entry {
+        None => None,
+        Some(entry) => Some(*entry.as_ref()),
+    }
+}
+
+/// The value of the first undeleted entry, whose owner a refused pop gives and which is given back.
+fn refused(w: &mut World<LinkedEntry<u64>>, stack: &Stack<u64>) -> Option<u64>
+    requires member { 0 < length w.old.members }
+    requires list { IsSomeStack w.old (stack_cell stack.now) }
+    ensures member { 0 < length w.new.members }
+    ensures open { IsOpen w.old 0 → IsOpen w.new 0 }
+    ensures list { IsSomeStack w.new (stack_cell stack.now) }
+{
+    let never = |_entry: &LinkedEntry<u64>| false;
+    match world::stack::pop_if(w, stack, 0, never) {
+        Ok(None) => None,
+        Err(owner) => {
+            let value = *place::shared::as_ref(w, &owner).as_ref();
+            place::shared::release(w, owner, 0);
+            Some(value)
+        }
+        Ok(Some(popped)) => {
+            place::shared::release(w, popped, 0);
+            None
+        }
+    }
+}
+
+/// The value of the second undeleted entry, whose owner is given back.
+fn second_owned(
+    w: &mut World<LinkedEntry<u64>>,
+    stack: &Stack<u64>,
+    guard: &WorldGuard,
+) -> Option<u64>
+    requires member { 0 < length w.old.members }
+    requires list { IsSomeStack w.old (stack_cell stack.now) }
+    ensures member { 0 < length w.new.members }
+    ensures open { IsOpen w.old 0 → IsOpen w.new 0 }
+    ensures list { IsSomeStack w.new (stack_cell stack.now) }
+{
+    let first = world::stack::peek(w, stack, guard);
+    match w.read(&first) {
+        None => return None,
+        Some(_) => {}
+    }
+    match world::linked_list::next_shared(w, first, guard) {
+        None => None,
+        Some(owner) => {
+            let value = *place::shared::as_ref(w, &owner).as_ref();
+            place::shared::release(w, owner, 0);
+            Some(value)
+        }
+    }
+}
+
+/// Makes a call.
+fn make(
+    w: &mut World<LinkedEntry<u64>>,
+    stack: &Stack<u64>,
+    guard: &WorldGuard,
+    call: Call,
+) -> Reply
+    requires member { 0 < length w.old.members }
+    requires list { IsSomeStack w.old (stack_cell stack.now) }
+    ensures member { 0 < length w.new.members }
+    ensures open { IsOpen w.old 0 → IsOpen w.new 0 }
+    ensures list { IsSomeStack w.new (stack_cell stack.now) }
+{
+    match call {
+        Push(value) => match push(w, stack, value) {
+            Ok(()) => Done,
+            Err(value) => Back(value),
+        },
+        PushFirst(value) => Is(push_first(w, stack, value)),
+        Pop => Value(pop(w, stack)),
+        RefusedPop => Value(refused(w, stack)),
+        Delete => Is(delete(w, stack, guard)),
+        Mark => Is(mark(w, stack, guard)),
+        Unmark => Is(unmark(w, stack, guard)),
+        SecondOwned => Value(second_owned(w, stack, guard)),
+        read => look(w, stack, guard, read),
+    }
+}
+
+/// Makes a call that only reads.
+fn look(w: &World<LinkedEntry<u64>>, stack: &Stack<u64>, guard: &WorldGuard, call: Call) -> Reply
+    requires { IsSomeStack w.now (stack_cell stack.now) }
+{
+    match call {
+        IsClear => Is(is_clear(w, stack, guard)),
+        IsMarked => Is(is_marked(w, stack, guard)),
+        IsDeleted => Is(is_deleted(w, stack, guard)),
+        Front => Value(world::stack::peek_with(w, stack, value_of)),
+        Second => Value(second(w, stack, guard)),
+        Three => {
+            let (first, second, third) = three_of_stack(w, stack);
+            Listed(first, second, third)
+        }
+        IsEmpty => Is(world::stack::is_empty(w, stack)),
+        _ => Count(world::stack::len(w, stack)),
+    }
+}
+
+/// Makes the calls of a table, in order, and compares what they return.
+fn play<R: Abort>(
+    rt: &R,
+    w: &mut World<LinkedEntry<u64>>,
+    stack: &Stack<u64>,
+    guard: &WorldGuard,
+    rows: &[(Call, Reply)],
+)
+    requires member { 0 < length w.old.members }
+    requires list { IsSomeStack w.old (stack_cell stack.now) }
+    ensures member { 0 < length w.new.members }
+    ensures open { IsOpen w.old 0 → IsOpen w.new 0 }
+    ensures list { IsSomeStack w.new (stack_cell stack.now) }
+{
+    for row in rows {
+        let (call, wanted) = *row;
+        assert!(rt; make(w, stack, guard, call) == wanted);
+    }
+}
+
+/// Makes the calls of a table on a new stack, under a guard, and ends both.
+fn on_a_stack<R: Abort>(
+    rt: &R,
+    alloc: Global,
+    sizes: Sizes,
+    rows: &[(Call, Reply)],
+) -> Result<(), Fail> {
+    let mut w: World<LinkedEntry<u64>> = World::new(alloc, sizes)?;
+    let Ok(guard) = place::guard::new(&mut w, 0) else {
+        panic!(rt; "no guard is open");
+    };
+    let Ok(stack) = world::stack::new(&mut w) else {
+        panic!(rt; "a cell is free");
+    };
+    play(rt, &mut w, &stack, &guard, rows);
+    world::stack::retire(&mut w, stack, 0);
+    place::guard::close(&mut w, guard);
+    end(rt, w);
+    Ok(())
+}
+
+#[test]
+fn a_stack_gives_the_newest_first(rt: HostRuntime) -> Result<(), Fail> {
+    on_a_stack(
+        &rt,
+        rt.alloc(),
+        sizes(3, 4),
+        &[
+            (IsEmpty, Is(true)),
+            (Push(1), Done),
+            (Push(2), Done),
+            (Push(3), Done),
+            (Push(4), Back(4)),
+            (Len, Count(3)),
+            (Pop, Value(Some(3))),
+            (Pop, Value(Some(2))),
+            (IsEmpty, Is(false)),
+        ],
+    )
+}
+
+#[test]
+fn deleted_entries_are_passed_over(rt: HostRuntime) -> Result<(), Fail> {
+    on_a_stack(
+        &rt,
+        rt.alloc(),
+        sizes(4, 8),
+        &[
+            (Delete, Is(false)),
+            (Push(1), Done),
+            (Push(2), Done),
+            (Push(3), Done),
+            (Delete, Is(true)),
+            (Delete, Is(true)),
+            (Len, Count(1)),
+            (Push(4), Done),
+            (Pop, Value(Some(4))),
+            (Pop, Value(Some(1))),
+            (Pop, Value(None)),
+        ],
+    )
+}
+
+#[test]
+fn an_entry_has_one_tag_at_a_time(rt: HostRuntime) -> Result<(), Fail> {
+    on_a_stack(
+        &rt,
+        rt.alloc(),
+        sizes(1, 2),
+        &[
+            (Push(1), Done),
+            (IsClear, Is(true)),
+            (Unmark, Is(false)),
+            (Mark, Is(true)),
+            (Mark, Is(false)),
+            (IsMarked, Is(true)),
+            (IsClear, Is(false)),
+            (Unmark, Is(true)),
+            (IsClear, Is(true)),
+            (IsMarked, Is(false)),
+            (IsDeleted, Is(false)),
+            (Mark, Is(true)),
+            (Len, Count(1)),
+            (Delete, Is(true)),
+            (IsEmpty, Is(true)),
+        ],
+    )
+}
+
+#[test]
+fn functions_see_the_first_undeleted_entry(rt: HostRuntime) -> Result<(), Fail> {
+    on_a_stack(
+        &rt,
+        rt.alloc(),
+        sizes(3, 4),
+        &[
+            (Front, Value(None)),
+            (Push(5), Done),
+            (Front, Value(Some(5))),
+            (Push(6), Done),
+            (Front, Value(Some(6))),
+            (Delete, Is(true)),
+            (Front, Value(Some(5))),
+        ],
+    )
+}
+
+#[test]
+fn a_value_is_pushed_on_a_condition(rt: HostRuntime) -> Result<(), Fail> {
+    on_a_stack(
+        &rt,
+        rt.alloc(),
+        sizes(2, 3),
+        &[
+            (PushFirst(5), Is(true)),
+            (PushFirst(6), Is(false)),
+            (Len, Count(1)),
+            (Pop, Value(Some(5))),
+            (PushFirst(7), Is(true)),
+        ],
+    )
+}
+
+#[test]
+fn a_refused_pop_takes_nothing_and_its_owner_comes_back(rt: HostRuntime) -> Result<(), Fail> {
+    on_a_stack(
+        &rt,
+        rt.alloc(),
+        sizes(3, 4),
+        &[
+            (RefusedPop, Value(None)),
+            (Push(1), Done),
+            (Push(2), Done),
+            (RefusedPop, Value(Some(2))),
+            (RefusedPop, Value(Some(2))),
+            (Len, Count(2)),
+            (Front, Value(Some(2))),
+            (Pop, Value(Some(2))),
+            (RefusedPop, Value(Some(1))),
+            (Pop, Value(Some(1))),
+        ],
+    )
+}
+
+#[test]
+fn the_next_entry_is_one_that_is_not_deleted(rt: HostRuntime) -> Result<(), Fail> {
+    on_a_stack(
+        &rt,
+        rt.alloc(),
+        sizes(4, 5),
+        &[
+            (Second, Value(None)),
+            (Push(1), Done),
+            (Second, Value(None)),
+            (Push(2), Done),
+            (Second, Value(Some(1))),
+            (Delete, Is(true)),
+            (Push(3), Done),
+            (Second, Value(Some(1))),
+        ],
+    )
+}
+
+#[test]
+fn an_owner_of_the_next_entry_comes_back(rt: HostRuntime) -> Result<(), Fail> {
+    on_a_stack(
+        &rt,
+        rt.alloc(),
+        sizes(4, 5),
+        &[
+            (SecondOwned, Value(None)),
+            (Push(1), Done),
+            (SecondOwned, Value(None)),
+            (Push(2), Done),
+            (SecondOwned, Value(Some(1))),
+            (Delete, Is(true)),
+            (Push(3), Done),
+            (SecondOwned, Value(Some(1))),
+            (SecondOwned, Value(Some(1))),
+            (Pop, Value(Some(3))),
+            (Pop, Value(Some(1))),
+        ],
+    )
+}
+
+#[test]
+fn a_walk_along_a_stack_gives_the_newest_first(rt: HostRuntime) -> Result<(), Fail> {
+    on_a_stack(
+        &rt,
+        rt.alloc(),
+        sizes(3, 4),
+        &[
+            (Three, Listed(None, None, None)),
+            (Push(1), Done),
+            (Push(2), Done),
+            (Three, Listed(Some(2), Some(1), None)),
+            (Push(3), Done),
+            (Three, Listed(Some(3), Some(2), Some(1))),
+        ],
+    )
+}
+
+#[test]
+fn a_walk_passes_deleted_entries(rt: HostRuntime) -> Result<(), Fail> {
+    on_a_stack(
+        &rt,
+        rt.alloc(),
+        sizes(3, 4),
+        &[
+            (Push(1), Done),
+            (Push(2), Done),
+            (Delete, Is(true)),
+            (Push(3), Done),
+            (Three, Listed(Some(3), Some(1), None)),
+        ],
+    )
+}
+
+#[test]
+fn all_entries_move_to_another_stack(rt: HostRuntime) -> Result<(), Fail> {
+    let mut w: World<LinkedEntry<u64>> = World::new(rt.alloc(), sizes(2, 4))?;
+    let Ok(stack) = world::stack::new(&mut w) else {
+        panic!(rt; "a cell is free");
+    };
+    assert_eq!(rt; push(&mut w, &stack, 1), Ok(()));
+    assert_eq!(rt; push(&mut w, &stack, 2), Ok(()));
+    let other = match moved(&mut w, stack) {
+        Ok(other) => other,
+        Err(_) => panic!(rt; "a cell is free"),
+    };
+    assert_eq!(rt; world::stack::len(&w, &other), 2);
+    assert_eq!(rt; pop(&mut w, &other), Some(2));
+    world::stack::retire(&mut w, other, 0);
+    end(&rt, w);
+    Ok(())
+}
+
+#[test]
+fn an_entry_is_popped_on_a_condition(rt: HostRuntime) -> Result<(), Fail> {
+    let mut w: World<LinkedEntry<u64>> = World::new(rt.alloc(), sizes(2, 4))?;
+    let Ok(stack) = world::stack::new(&mut w) else {
+        panic!(rt; "a cell is free");
+    };
+    assert_eq!(rt; push(&mut w, &stack, 5), Ok(()));
+    let yes = |entry: &LinkedEntry<u64>| *entry.as_ref() == 5;
+    let owner = match world::stack::pop_if(&mut w, &stack, 0, yes) {
+        Ok(Some(owner)) => owner,
+        _ => panic!(rt; "the value is this one"),
+    };
+    assert!(rt; world::stack::is_empty(&w, &stack));
+    world::stack::retire(&mut w, stack, 0);
+    give(&rt, &mut w, owner);
+    end(&rt, w);
+    Ok(())
+}

@@ -1,0 +1,152 @@
+//! Walks along containers, and entries beside each other.
+
+ghost use Rattle.std.specs.Prelude.{◌≡◌, ◌<◌, length};
+ghost use Rattle.sdd_base.specs.Place.{IsOpen};
+ghost use Rattle.sdd.specs.Entries.{entry_link};
+ghost use Rattle.sdd.specs.Stacks.{IsSomeStack, stack_cell};
+ghost use Rattle.sdd.specs.Queues.{IsSomeQueue, oldest_cell, newest_cell};
+
+use crate::places::{end, give, sizes};
+use crate::queues::append;
+use crate::stacks::push;
+use sdd::linked_entry::LinkedEntry;
+use sdd::queue::Queue;
+use sdd::stack::Stack;
+use sdd::world;
+use sdd_base::guard::WorldGuard;
+use sdd_base::owner::Shared;
+use sdd_base::world as place;
+use sdd_base::world::World;
+use std::process::Abort;
+use std::test::Fail;
+
+/// The first three values that a walk along a stack gives.
+pub(crate) fn three_of_stack(
+    w: &World<LinkedEntry<u64>>,
+    stack: &Stack<u64>,
+) -> (Option<u64>, Option<u64>, Option<u64>)
+    requires { IsSomeStack w.now (stack_cell stack.now) }
+{
+    let mut iter = world::stack::iter(w, stack);
+    let first = world::iter::next(w, &mut iter).copied();
+    let second = world::iter::next(w, &mut iter).copied();
+    let third = world::iter::next(w, &mut iter).copied();
+    (first, second, third)
+}
+
+/// The first three values that a walk along a queue gives.
+pub(crate) fn three_of_queue(
+    w: &World<LinkedEntry<u64>>,
+    queue: &Queue<u64>,
+) -> (Option<u64>, Option<u64>, Option<u64>)
+    requires { IsSomeQueue entry_link w.now (oldest_cell queue.now) (newest_cell queue.now) }
+{
+    let mut iter = world::queue::iter(w, queue);
+    let first = world::iter::next(w, &mut iter).copied();
+    let second = world::iter::next(w, &mut iter).copied();
+    let third = world::iter::next(w, &mut iter).copied();
+    (first, second, third)
+}
+
+/// Whether there is an owner of the second undeleted entry to be had, which is given back.
+fn second_is_shared<R: Abort>(
+    rt: &R,
+    w: &mut World<LinkedEntry<u64>>,
+    stack: Stack<u64>,
+    guard: &WorldGuard,
+) -> bool
+    requires member { 0 < length w.old.members }
+    requires list { IsSomeStack w.old (stack_cell stack) }
+    ensures member { 0 < length w.new.members }
+    ensures open { IsOpen w.old 0 → IsOpen w.new 0 }
+{
+    let first = world::stack::peek(w, &stack, guard);
+    match w.read(&first) {
+        None => panic!(rt; "there is a first one"),
+        Some(_) => {}
+    }
+    let next = world::linked_list::next_shared(w, first, guard);
+    world::stack::retire(w, stack, 0);
+    match next {
+        None => false,
+        Some(owner) => {
+            give(rt, w, owner);
+            true
+        }
+    }
+}
+
+#[test]
+fn the_next_entry_is_shared(rt: HostRuntime) -> Result<(), Fail> {
+    let mut w: World<LinkedEntry<u64>> = World::new(rt.alloc(), sizes(4, 6))?;
+    let Ok(guard) = place::guard::new(&mut w, 0) else {
+        panic!(rt; "no guard is open");
+    };
+    let Ok(stack) = world::stack::new(&mut w) else {
+        panic!(rt; "a cell is free");
+    };
+    assert_eq!(rt; push(&mut w, &stack, 1), Ok(()));
+    assert_eq!(rt; push(&mut w, &stack, 2), Ok(()));
+    assert!(rt; second_is_shared(&rt, &mut w, stack, &guard));
+    place::guard::close(&mut w, guard);
+    end(&rt, w);
+    Ok(())
+}
+
+#[test]
+fn entries_are_equal_by_value(rt: HostRuntime) -> Result<(), Fail> {
+    let mut w: World<LinkedEntry<u64>> = World::new(rt.alloc(), sizes(2, 2))?;
+    let Ok(one) = world::linked_entry::new(&mut w, 5) else {
+        panic!(rt; "a cell is free");
+    };
+    let Ok(two) = world::linked_entry::new(&mut w, 5) else {
+        panic!(rt; "a cell is free");
+    };
+    assert!(rt; one == two);
+    let text = match format!(in rt.alloc(); "{one} {two:?}") {
+        Ok(text) => text,
+        Err(_) => panic!(rt; "memory"),
+    };
+    assert_eq!(rt; text.as_str(), "5 5");
+    match place::shared::new(&mut w, one) {
+        Ok(owner) => {
+            place::shared::release(&mut w, owner, 0);
+        }
+        Err(_) => panic!(rt; "a slot is free"),
+    }
+    match place::shared::new(&mut w, two) {
+        Ok(owner) => {
+            place::shared::release(&mut w, owner, 0);
+        }
+        Err(_) => panic!(rt; "a slot is free"),
+    }
+    end(&rt, w);
+    Ok(())
+}
+
+#[test]
+fn a_queue_is_popped_on_a_condition(rt: HostRuntime) -> Result<(), Fail> {
+    let mut w: World<LinkedEntry<u64>> = World::new(rt.alloc(), sizes(2, 5))?;
+    let Ok(queue) = world::queue::new(&mut w) else {
+        panic!(rt; "two cells are free");
+    };
+    assert_eq!(rt; append(&mut w, &queue, 5), Ok(()));
+    assert_eq!(rt; append(&mut w, &queue, 6), Ok(()));
+    let six = |entry: &LinkedEntry<u64>| *entry.as_ref() == 6;
+    let refused = match world::queue::pop_if(&mut w, &queue, 0, six) {
+        Err(owner) => owner,
+        Ok(_) => panic!(rt; "the oldest is another"),
+    };
+    assert_eq!(rt; three_of_queue(&w, &queue), (Some(5), Some(6), None));
+    let five = |entry: &LinkedEntry<u64>| *entry.as_ref() == 5;
+    let popped = match world::queue::pop_if(&mut w, &queue, 0, five) {
+        Ok(Some(owner)) => owner,
+        _ => panic!(rt; "the oldest is this one"),
+    };
+    assert_eq!(rt; three_of_queue(&w, &queue), (Some(6), None, None));
+    world::queue::retire(&mut w, queue, 0);
+    give(&rt, &mut w, refused);
+    give(&rt, &mut w, popped);
+    end(&rt, w);
+    Ok(())
+}

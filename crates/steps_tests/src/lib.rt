@@ -1,0 +1,13 @@
+//! Tests of `sdd_steps`, apart from it so that its proofs aren't made twice.
+#![tactic(auto)]
+
+#[cfg(test)]
+mod common;
+#[cfg(test)]
+mod large;
+#[cfg(test)]
+mod refusals;
+#[cfg(test)]
+mod refused_steps;
+#[cfg(test)]
+mod schedules;

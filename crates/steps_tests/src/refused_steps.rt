@@ -1,0 +1,581 @@
+//! Where each step is refused, and the promise over random lists of steps.
+
+use crate::common::{Move, after, all_refused, is_enabled, play};
+use sdd_steps::{Cell, Fate, Item, Listed, Loaded, Participant, Phase, Seen, State};
+use std::alloc::Global;
+use std::process::Abort;
+
+// Items of each fate, for participant 0: 0 is live, and 1 is a version in the root that holds it; 2 is due; 3 and 6
+// are retired; 4 is reclaimed and still holds 0 and cell 1; 5 waits. Item 3 has age 3, item 6 age 2.
+const PLACED: [Move; 15] = [
+    Move::Place(0, 1, None, None),
+    Move::RaiseOwners(0, 0),
+    Move::RaiseOwners(0, 0),
+    Move::RaiseOwners(0, 0),
+    Move::Place(0, 2, Some(0), None),
+    Move::SwapCell(0, 0, Some(1)),
+    Move::Place(0, 3, None, None),
+    Move::Place(0, 4, None, None),
+    Move::Place(0, 5, Some(0), Some(1)),
+    Move::SwapCell(0, 1, Some(0)),
+    Move::Place(1, 6, None, None),
+    Move::Release(1, 5),
+    Move::Retire(1, 5),
+    Move::End(1),
+    Move::Place(0, 7, None, None),
+];
+
+// A guard of participant 0 with a rotation, which raises the count.
+const GUARD: [Move; 6] = [
+    Move::ReadEpoch(0),
+    Move::Publish(0),
+    Move::Rotate(0),
+    Move::Look(0, 1),
+    Move::Raise(0),
+    Move::Close(0),
+];
+
+// One with another step under it.
+fn guard_over<R: Abort>(rt: &R, alloc: Global, state: State, one: Move) -> State {
+    let state = play(
+        rt,
+        alloc,
+        state,
+        &[Move::ReadEpoch(0), Move::Publish(0), Move::Rotate(0), one],
+    );
+    play(
+        rt,
+        alloc,
+        state,
+        &[Move::Look(0, 1), Move::Raise(0), Move::Close(0)],
+    )
+}
+
+fn prepared<R: Abort>(rt: &R, alloc: Global) -> State {
+    let mut state = State::start(alloc, 2, 3).expect(rt, "memory");
+    state = play(rt, alloc, state, &PLACED);
+    state = play(rt, alloc, state, &[Move::Release(0, 4), Move::Retire(0, 4)]);
+    // The first guard finds the count 0, so no rotation is due.
+    state = play(
+        rt,
+        alloc,
+        state,
+        &[Move::ReadEpoch(0), Move::Publish(0), Move::Look(0, 1)],
+    );
+    state = play(rt, alloc, state, &[Move::Raise(0), Move::Close(0)]);
+    state = play(rt, alloc, state, &GUARD);
+    state = play(rt, alloc, state, &[Move::Release(0, 3), Move::Retire(0, 3)]);
+    state = play(rt, alloc, state, &GUARD);
+    state = play(rt, alloc, state, &[Move::Release(0, 6), Move::Retire(0, 6)]);
+    state = guard_over(rt, alloc, state, Move::Reclaim(0, 4));
+    state = play(rt, alloc, state, &GUARD);
+    play(rt, alloc, state, &[Move::Release(0, 2)])
+}
+
+// In which phases of participant 0 a step of it is enabled in the prepared state: without a guard, after reading,
+// before the rotation, under the guard, and there after a reread, a look and a load.
+const FREE: [bool; 5] = [true, false, false, true, true];
+
+const UNDER: [bool; 5] = [false, false, false, true, true];
+
+const AFTER: [bool; 5] = [false, false, false, false, true];
+
+const STEPS: [(Move, [bool; 5]); 22] = [
+    (Move::ReadEpoch(0), [true, false, false, false, false]),
+    (Move::Publish(0), [false, true, false, false, false]),
+    (Move::Rotate(0), [false, false, true, false, false]),
+    (Move::LoadCell(0, 0), UNDER),
+    (Move::LoadInHand(0, 0), UNDER),
+    (Move::ReadSegment(0, 1, 0), AFTER),
+    (Move::SwapCell(0, 0, None), FREE),
+    (Move::Release(0, 0), FREE),
+    (Move::Retire(0, 2), FREE),
+    (Move::Collect(0, 2), AFTER),
+    (Move::Look(0, 1), UNDER),
+    (Move::Raise(0), AFTER),
+    (Move::Reclaim(0, 3), [true, false, false, false, false]),
+    (Move::Reclaim(0, 6), UNDER),
+    (Move::GiveUp(0, 4, 0), FREE),
+    (Move::GiveUpCell(0, 1), FREE),
+    (Move::Close(0), UNDER),
+    (Move::Place(0, 9, Some(0), Some(2)), FREE),
+    (Move::RaiseOwners(0, 0), FREE),
+    (Move::Reread(0), UNDER),
+    (Move::TakeOver(0, 5), FREE),
+    (Move::End(0), [false, false, false, false, false]),
+];
+
+fn are_as_said<R: Abort>(rt: &R, alloc: Global, state: &State, phase: usize) {
+    for (one, enabled) in STEPS {
+        assert!(rt; enabled.get(phase).copied() == Some(is_enabled(rt, alloc, state, one)));
+    }
+}
+
+#[test]
+fn each_step_is_refused_in_each_phase_where_it_isnt_enabled(rt: HostRuntime) {
+    let alloc = rt.alloc();
+    let mut state = prepared(&rt, alloc);
+    are_as_said(&rt, alloc, &state, 0);
+    state = play(&rt, alloc, state, &[Move::ReadEpoch(0)]);
+    are_as_said(&rt, alloc, &state, 1);
+    state = play(&rt, alloc, state, &[Move::Publish(0)]);
+    are_as_said(&rt, alloc, &state, 2);
+    state = play(&rt, alloc, state, &[Move::Rotate(0)]);
+    are_as_said(&rt, alloc, &state, 3);
+    state = play(
+        &rt,
+        alloc,
+        state,
+        &[Move::Reread(0), Move::Look(0, 1), Move::LoadCell(0, 0)],
+    );
+    are_as_said(&rt, alloc, &state, 4);
+    // A close takes away what the guard had.
+    state = play(
+        &rt,
+        alloc,
+        state,
+        &[Move::Close(0), Move::ReadEpoch(0), Move::Publish(0)],
+    );
+    all_refused(
+        &rt,
+        alloc,
+        &state,
+        &[
+            Move::Raise(0),
+            Move::Collect(0, 2),
+            Move::ReadSegment(0, 1, 0),
+        ],
+    );
+}
+
+const NOWHERE: [Move; 16] = [
+    Move::ReadEpoch(2),
+    Move::Release(2, 0),
+    Move::End(2),
+    Move::RaiseOwners(2, 0),
+    Move::SwapCell(2, 0, None),
+    Move::SwapCell(0, 3, None),
+    Move::SwapCell(0, 0, Some(7)),
+    Move::Release(0, 7),
+    Move::Retire(0, 7),
+    Move::Reclaim(0, 7),
+    Move::GiveUp(0, 7, 0),
+    Move::GiveUpCell(0, 3),
+    Move::RaiseOwners(0, 7),
+    Move::TakeOver(0, 7),
+    Move::Place(0, 9, Some(7), None),
+    Move::Place(0, 9, None, Some(3)),
+];
+
+const NOWHERE_UNDER: [Move; 5] = [
+    Move::LoadCell(0, 3),
+    Move::LoadInHand(0, 7),
+    Move::Collect(0, 7),
+    Move::Look(0, 2),
+    Move::ReadSegment(0, 7, 0),
+];
+
+#[test]
+fn items_cells_and_participants_that_arent_there_are_refused(rt: HostRuntime) {
+    let alloc = rt.alloc();
+    let mut state = prepared(&rt, alloc);
+    all_refused(&rt, alloc, &state, &NOWHERE);
+    state = play(
+        &rt,
+        alloc,
+        state,
+        &[
+            Move::ReadEpoch(0),
+            Move::Publish(0),
+            Move::Rotate(0),
+            Move::Reread(0),
+        ],
+    );
+    all_refused(&rt, alloc, &state, &NOWHERE_UNDER);
+}
+
+const OF_ANOTHER_FATE: [Move; 33] = [
+    // Not in hand: the version is in the root. One owner of the segment is in hand, and no more.
+    Move::Release(0, 1),
+    Move::SwapCell(0, 0, Some(1)),
+    Move::Place(0, 9, Some(1), None),
+    Move::PlaceTwice(0, 9, 0),
+    // A cell that an item holds.
+    Move::Place(0, 9, None, Some(1)),
+    // Due to another, live, retired, waiting, reclaimed.
+    Move::Retire(1, 2),
+    Move::Retire(0, 0),
+    Move::Retire(0, 3),
+    Move::Retire(0, 5),
+    Move::Retire(0, 4),
+    // Younger, of another, live, due, waiting, reclaimed before.
+    Move::Reclaim(0, 6),
+    Move::Reclaim(1, 3),
+    Move::Reclaim(0, 0),
+    Move::Reclaim(0, 2),
+    Move::Reclaim(0, 5),
+    Move::Reclaim(0, 4),
+    // Not reclaimed, reclaimed by another, not held.
+    Move::GiveUp(0, 1, 0),
+    Move::GiveUp(1, 4, 0),
+    Move::GiveUp(0, 4, 1),
+    // A cell by itself, an empty one, and one whose holder another reclaimed.
+    Move::GiveUpCell(0, 0),
+    Move::GiveUpCell(0, 2),
+    Move::GiveUpCell(1, 1),
+    // Without owners.
+    Move::RaiseOwners(0, 2),
+    Move::RaiseOwners(0, 3),
+    Move::RaiseOwners(0, 4),
+    Move::RaiseOwners(0, 5),
+    // Live, due, retired, reclaimed.
+    Move::TakeOver(0, 0),
+    Move::TakeOver(0, 2),
+    Move::TakeOver(0, 3),
+    Move::TakeOver(0, 4),
+    // A cell of an item that is neither loaded nor in hand.
+    Move::SwapCell(0, 1, None),
+    // Something is due; a guard isn't open.
+    Move::End(0),
+    Move::Raise(1),
+];
+
+#[test]
+fn steps_on_items_of_another_fate_are_refused(rt: HostRuntime) {
+    let alloc = rt.alloc();
+    let state = prepared(&rt, alloc);
+    all_refused(&rt, alloc, &state, &OF_ANOTHER_FATE);
+}
+
+#[test]
+fn a_held_cell_is_reached_by_its_holder_alone(rt: HostRuntime) {
+    let alloc = rt.alloc();
+    let mut state = State::start(alloc, 2, 2).expect(&rt, "memory");
+    // Item 0 is in cell 1, which item 1 holds; item 1 is in hand.
+    state = play(
+        &rt,
+        alloc,
+        state,
+        &[
+            Move::Place(0, 1, None, None),
+            Move::Place(0, 2, None, Some(1)),
+        ],
+    );
+    state = play(
+        &rt,
+        alloc,
+        state,
+        &[
+            Move::SwapCell(0, 1, Some(0)),
+            Move::ReadEpoch(1),
+            Move::Publish(1),
+        ],
+    );
+    assert!(rt; is_enabled(&rt, alloc, &state, Move::LoadCell(1, 1)));
+    all_refused(&rt, alloc, &state, &[Move::LoadCell(1, 0)]);
+    state = play(&rt, alloc, state, &[Move::SwapCell(0, 0, Some(1))]);
+    all_refused(
+        &rt,
+        alloc,
+        &state,
+        &[
+            Move::LoadCell(1, 1),
+            Move::SwapCell(1, 1, None),
+            Move::LoadInHand(1, 1),
+        ],
+    );
+    state = play(
+        &rt,
+        alloc,
+        state,
+        &[
+            Move::LoadCell(1, 0),
+            Move::LoadCell(1, 1),
+            Move::SwapCell(1, 1, None),
+        ],
+    );
+    assert!(rt;
+        state.cells().get(1).copied()
+            == Some(Cell {
+                holder: Some(1),
+                names: None
+            })
+    );
+    all_refused(&rt, alloc, &state, &[Move::LoadCell(1, 1)]);
+}
+
+#[test]
+fn a_raise_is_refused_until_all_others_were_looked_at(rt: HostRuntime) {
+    let alloc = rt.alloc();
+    let mut state = State::start(alloc, 3, 1).expect(&rt, "memory");
+    state = play(
+        &rt,
+        alloc,
+        state,
+        &[Move::ReadEpoch(0), Move::Publish(0), Move::ReadEpoch(2)],
+    );
+    state = play(&rt, alloc, state, &[Move::Publish(2), Move::Look(0, 1)]);
+    all_refused(&rt, alloc, &state, &[Move::Raise(0), Move::Look(0, 0)]);
+    state = play(&rt, alloc, state, &[Move::Look(0, 2), Move::Raise(0)]);
+    assert!(rt; state.count() == 1);
+    // The guards that are open published 0, so nobody raises the count again before they close.
+    all_refused(
+        &rt,
+        alloc,
+        &state,
+        &[Move::Raise(0), Move::Look(0, 2), Move::Look(2, 0)],
+    );
+    state = play(&rt, alloc, state, &[Move::Look(0, 1), Move::Look(2, 1)]);
+    all_refused(&rt, alloc, &state, &[Move::Raise(0), Move::Raise(2)]);
+}
+
+fn fate(state: &State, i: usize) -> Option<Fate> {
+    state.items().get(i).map(|item| item.fate)
+}
+
+#[test]
+fn an_item_of_a_private_bag_is_reclaimed_three_counts_above_its_note(rt: HostRuntime) {
+    let alloc = rt.alloc();
+    let mut state = State::start(alloc, 2, 1).expect(&rt, "memory");
+    state = play(
+        &rt,
+        alloc,
+        state,
+        &[
+            Move::Place(0, 1, None, None),
+            Move::ReadEpoch(0),
+            Move::Publish(0),
+        ],
+    );
+    state = play(
+        &rt,
+        alloc,
+        state,
+        &[Move::Reread(0), Move::Release(0, 0), Move::Collect(0, 0)],
+    );
+    state = play(
+        &rt,
+        alloc,
+        state,
+        &[Move::Look(0, 1), Move::Raise(0), Move::Close(0)],
+    );
+    assert!(rt; fate(&state, 0) == Some(Fate::Collected(0)));
+    for count in 1..3 {
+        state = play(
+            &rt,
+            alloc,
+            state,
+            &[
+                Move::ReadEpoch(0),
+                Move::Publish(0),
+                Move::Rotate(0),
+                Move::Reread(0),
+            ],
+        );
+        assert!(rt; state.count() == count);
+        all_refused(&rt, alloc, &state, &[Move::Reclaim(0, 0)]);
+        state = play(
+            &rt,
+            alloc,
+            state,
+            &[Move::Look(0, 1), Move::Raise(0), Move::Close(0)],
+        );
+    }
+    // The count that was published isn't one that was read again.
+    state = play(
+        &rt,
+        alloc,
+        state,
+        &[Move::ReadEpoch(0), Move::Publish(0), Move::Rotate(0)],
+    );
+    all_refused(&rt, alloc, &state, &[Move::Reclaim(0, 0)]);
+    state = play(&rt, alloc, state, &[Move::Reread(0), Move::Reclaim(0, 0)]);
+    assert!(rt; fate(&state, 0) == Some(Fate::Reclaimed(0)));
+}
+
+#[test]
+fn a_participant_that_ended_leaves_its_items_to_another(rt: HostRuntime) {
+    let alloc = rt.alloc();
+    let mut state = State::start(alloc, 2, 1).expect(&rt, "memory");
+    state = play(
+        &rt,
+        alloc,
+        state,
+        &[
+            Move::Place(0, 1, None, None),
+            Move::Release(0, 0),
+            Move::Retire(0, 0),
+        ],
+    );
+    state = play(&rt, alloc, state, &[Move::End(0)]);
+    assert!(rt; fate(&state, 0) == Some(Fate::Waiting));
+    state = play(&rt, alloc, state, &[Move::TakeOver(1, 0)]);
+    assert!(rt; fate(&state, 0) == Some(Fate::Retired(1, 0)));
+}
+
+#[test]
+fn a_cell_of_a_reclaimed_item_stands_by_itself_when_it_is_empty(rt: HostRuntime) {
+    let alloc = rt.alloc();
+    let mut state = prepared(&rt, alloc);
+    assert!(rt;
+        state.cells().get(1).copied()
+            == Some(Cell {
+                holder: Some(4),
+                names: Some(0)
+            })
+    );
+    state = play(&rt, alloc, state, &[Move::GiveUpCell(0, 1)]);
+    assert!(rt;
+        state.cells().get(1).copied()
+            == Some(Cell {
+                holder: None,
+                names: None
+            })
+    );
+    assert!(rt; state.items().first().map(|item| item.hand) == Some(2));
+}
+
+// Whether a loaded item is as it was when it was loaded.
+fn is_intact(items: &[Item], loaded: &Loaded) -> bool {
+    let Some(item) = items.get(loaded.item) else {
+        return false;
+    };
+    if let Fate::Reclaimed(_) = item.fate {
+        return false;
+    }
+    item.value == loaded.value
+        && item.holds.as_slice().len() == loaded.holds.as_slice().len()
+        && item
+            .holds
+            .as_slice()
+            .iter()
+            .zip(loaded.holds.as_slice())
+            .all(|(k, seen)| *k == seen.item)
+        && loaded
+            .holds
+            .as_slice()
+            .iter()
+            .all(|seen| is_owned(items, seen))
+}
+
+fn is_owned(items: &[Item], seen: &Seen) -> bool {
+    match items.get(seen.item) {
+        Some(item) => item.value == seen.value && item.owners > 0 && item.fate == Fate::Live,
+        None => false,
+    }
+}
+
+fn keeps(items: &[Item], participant: &Participant) -> bool {
+    match participant.phase {
+        Phase::Opened(_) => participant
+            .loaded
+            .as_slice()
+            .iter()
+            .all(|loaded| is_intact(items, loaded)),
+        _ => true,
+    }
+}
+
+// The promise, found out by a walk.
+fn keeps_all(state: &State) -> bool {
+    state
+        .participants()
+        .iter()
+        .all(|participant| keeps(state.items(), participant))
+}
+
+// Numbers that look random.
+#[derive(Drop)]
+struct Dice {
+    seed: u64,
+}
+
+impl Dice {
+    fn below(&mut self, n: u64) -> u64 {
+        self.seed = self
+            .seed
+            .wrapping_mul(6364136223846793005)
+            .wrapping_add(1442695040888963407);
+        (self.seed >> 33).checked_rem(n).unwrap_or(0)
+    }
+
+    fn number(&mut self, n: u64) -> usize {
+        self.below(n) as usize
+    }
+}
+
+// A step of any kind, on one of two participants, three cells and the items so far.
+fn any_move(dice: &mut Dice, items: usize) -> Move {
+    let p = dice.number(2);
+    let i = dice.number(items as u64);
+    let c = dice.number(3);
+    match dice.below(26) {
+        0 => Move::ReadEpoch(p),
+        1 => Move::Publish(p),
+        2 => Move::Rotate(p),
+        3 | 4 => Move::LoadCell(p, c),
+        5 => Move::LoadInHand(p, i),
+        6 => Move::ReadSegment(p, i, dice.number(items as u64)),
+        7 | 8 => Move::SwapCell(p, c, if dice.below(2) == 0 { Some(i) } else { None }),
+        9 | 10 => Move::Release(p, i),
+        11 => Move::Retire(p, i),
+        12 => Move::Collect(p, i),
+        13 => Move::Look(p, dice.number(2)),
+        14 => Move::Raise(p),
+        15 => Move::Reclaim(p, i),
+        16 => Move::GiveUp(p, i, dice.number(items as u64)),
+        17 => Move::GiveUpCell(p, c),
+        18 => Move::Close(p),
+        19 if items < 20 => Move::Place(p, dice.below(100), Some(i), None),
+        20 if items < 20 => Move::Place(p, dice.below(100), None, Some(c)),
+        21 if items < 20 => Move::Place(p, dice.below(100), None, None),
+        22 => Move::RaiseOwners(p, i),
+        23 => Move::Reread(p),
+        24 => Move::End(p),
+        _ => Move::TakeOver(p, i),
+    }
+}
+
+// How many of so many random steps were taken, with the promise looked at after each of these, and how many items
+// were reclaimed.
+fn random_steps<R: Abort>(rt: &R, alloc: Global, seed: u64, n: u32) -> (u32, usize) {
+    let mut dice = Dice { seed };
+    let mut state = State::start(alloc, 2, 3).expect(rt, "memory");
+    let mut taken: u32 = 0;
+    for _i in 0..n {
+        let one = any_move(&mut dice, state.items().len());
+        if let Some(next) = after(rt, alloc, &state, one) {
+            assert!(rt; keeps_all(&next));
+            state = next;
+            taken = taken.saturating_add(1);
+        }
+    }
+    let gone = state.items().iter().filter(|item| is_gone(item)).count();
+    (taken, gone)
+}
+
+fn is_gone(item: &Item) -> bool {
+    matches!(item.fate, Fate::Reclaimed(_))
+}
+
+#[test]
+fn random_lists_of_steps_keep_the_promise(rt: HostRuntime) {
+    let alloc = rt.alloc();
+    let mut taken: u32 = 0;
+    let mut reclaimed: usize = 0;
+    for seed in 0..20 {
+        let (steps, gone) = random_steps(&rt, alloc, seed, 5000);
+        taken = taken.saturating_add(steps);
+        reclaimed = reclaimed.saturating_add(gone);
+    }
+    assert!(rt; taken > 5000);
+    assert!(rt; reclaimed > 20);
+}
+
+#[test]
+fn a_list_is_made_from_a_vec_and_gives_it_back(rt: HostRuntime) {
+    let mut list: Listed<usize> = Listed::from_vec(Vec::new(rt.alloc()));
+    list.push(7).expect(&rt, "memory");
+    assert!(rt; list.as_slice().first().copied() == Some(7));
+    assert!(rt; list.into_vec().len() == 1);
+}
