@@ -1,4 +1,5 @@
 pub mod Entries
+mod Calls
 pub mod Chain
 pub mod Stacks
 pub mod Owners

@@ -1,15 +1,16 @@
 //! Bags over a `World`.
 
-ghost use Rattle.std.specs.Prelude.{◌≡◌, ◌<◌, ◌≤◌, ◌⊎◌, ◌↔◌, ◌++◌, List, [], length, IfOk, IfErr, OnErr, OnOk, Some, MatchOption, IsTrue, IsErrOf};
-ghost use Rattle.sdd_base.specs.State.{NoneFree, NoCellFree, emptiness};
+ghost use Rattle.std.specs.Prelude.{◌≡◌, ◌<◌, ◌≤◌, ◌⊎◌, ◌↔◌, ◌++◌, List, [], length, IfOk, IfErr, OnErr, OnOk, MatchOption, IsTrue, IsErrOf};
+ghost use Rattle.sdd_base.specs.State.{emptiness};
 ghost use Rattle.sdd_base.specs.Frame.{OnlyOf};
 ghost use Rattle.std.specs.List.{sum_by, FoldsTo};
 ghost use Rattle.sdd_base.specs.Tokens.{shared_slot};
-ghost use Rattle.sdd.specs.Chain.{Entry, Leaves, Stays, links, slots};
-ghost use Rattle.sdd.specs.Bags.{IsLength, IsBag, IsSomeBag, PutsPrimary, PutsOverflow, TakesOne, IsSameBag, CallsWith, AreOwn, AreSpare, AreFreeCells, bag_cells, into_cells};
-ghost use Rattle.std.specs.Iterator.{Drains, YieldsThen, IsFiniteIterable};
+ghost use Rattle.sdd.specs.Chain.{Entry, Leaves, Stays};
+ghost use Rattle.sdd.specs.Bags.{IsLength, PutsPrimary, PutsOverflow, TakesOne, IsSameBag, CallsWith, AreOwn, AreSpare, AreFreeCells, bag_cells, into_cells};
+ghost use Rattle.std.specs.Iterator.{IsFiniteIterable};
 ghost use Rattle.sdd.specs.Fillings.{FillsBag, IfUnmade, IfNoSlot};
 ghost use Rattle.sdd.specs.declared.linked_entry.LinkedEntry.{LinkedEntry};
+ghost use Rattle.sdd.specs.Calls.{BagIn, GivesAll, GivesUpTo, NoRoom, OnlyBag, OnlyLinksOf, SomeBagIn};
 
 use crate::bag::{Bag, IntoIter};
 use crate::linked_entry::LinkedEntry;
@@ -27,8 +28,8 @@ pub fn new<T, J: Deferred, const ARRAY_LEN: usize>(
     w: &mut World<LinkedEntry<T>, J>,
 ) -> Result<Bag<T, ARRAY_LEN>, NotMade>
     requires { IsLength ARRAY_LEN }
-    ensures made { IfOk result (λ b. IsBag ARRAY_LEN w.new (bag_cells b) [] []) }
-    ensures list { IfOk result (λ b. IsSomeBag ARRAY_LEN w.new (bag_cells b)) }
+    ensures made { IfOk result (λ b. BagIn w.new b [] []) }
+    ensures list { IfOk result (λ b. SomeBagIn w.new b) }
     ensures fresh { IfOk result (λ b. AreFreeCells w.old (bag_cells b)) }
     ensures back { OnErr result (w.new ≡ w.old) }
     ensures refused { IsErrOf result NotMade.NoSlot → sum_by emptiness w.old.cells ≤ ARRAY_LEN }
@@ -49,11 +50,11 @@ pub fn try_push<T, J: Deferred, const ARRAY_LEN: usize>(
     bag: &Bag<T, ARRAY_LEN>,
     value: T,
 ) -> Result<(), T>
-    requires { IsSomeBag ARRAY_LEN w.old (bag_cells bag.now) }
-    ensures pushed { OnOk result ((ps : List (Entry (LinkedEntry T))) (os : List (Entry (LinkedEntry T))) → IsBag ARRAY_LEN w.old (bag_cells bag.now) ps os → (length ps < ARRAY_LEN) × PutsPrimary ARRAY_LEN w.old w.new value (bag_cells bag.now) ps os) }
+    requires { SomeBagIn w.old bag.now }
+    ensures pushed { OnOk result ((ps : _) (os : _) → BagIn w.old bag.now ps os → (length ps < ARRAY_LEN) × PutsPrimary ARRAY_LEN w.old w.new value (bag_cells bag.now) ps os) }
     ensures refused { IfErr result (λ v. (v ≡ value) × (w.new ≡ w.old)) }
-    ensures full { OnErr result ((ps : List (Entry (LinkedEntry T))) (os : List (Entry (LinkedEntry T))) → IsBag ARRAY_LEN w.old (bag_cells bag.now) ps os → (length ps ≡ ARRAY_LEN) ⊎ (NoneFree w.old ⊎ NoCellFree w.old)) }
-    ensures list { IsSomeBag ARRAY_LEN w.new (bag_cells bag.now) }
+    ensures full { OnErr result ((ps : _) (os : _) → BagIn w.old bag.now ps os → (length ps ≡ ARRAY_LEN) ⊎ NoRoom w.old) }
+    ensures list { SomeBagIn w.new bag.now }
     ensures leaves { Leaves (bag_cells bag.now) [] w.old w.new }
     ensures members { w.new.members ≡ w.old.members }
     ensures stays { Stays w.old w.new }
@@ -71,10 +72,10 @@ pub fn push<T, J: Deferred, const ARRAY_LEN: usize>(
     bag: &Bag<T, ARRAY_LEN>,
     value: T,
 ) -> Result<(), T>
-    requires { IsSomeBag ARRAY_LEN w.old (bag_cells bag.now) }
-    ensures pushed { OnOk result ((ps : List (Entry (LinkedEntry T))) (os : List (Entry (LinkedEntry T))) → IsBag ARRAY_LEN w.old (bag_cells bag.now) ps os → ((length ps < ARRAY_LEN) × PutsPrimary ARRAY_LEN w.old w.new value (bag_cells bag.now) ps os) ⊎ ((length ps ≡ ARRAY_LEN) × PutsOverflow ARRAY_LEN w.old w.new value (bag_cells bag.now) ps os)) }
-    ensures refused { IfErr result (λ v. (v ≡ value) × (w.new ≡ w.old) × (NoneFree w.old ⊎ NoCellFree w.old)) }
-    ensures list { IsSomeBag ARRAY_LEN w.new (bag_cells bag.now) }
+    requires { SomeBagIn w.old bag.now }
+    ensures pushed { OnOk result ((ps : _) (os : _) → BagIn w.old bag.now ps os → ((length ps < ARRAY_LEN) × PutsPrimary ARRAY_LEN w.old w.new value (bag_cells bag.now) ps os) ⊎ ((length ps ≡ ARRAY_LEN) × PutsOverflow ARRAY_LEN w.old w.new value (bag_cells bag.now) ps os)) }
+    ensures refused { IfErr result (λ v. (v ≡ value) × (w.new ≡ w.old) × NoRoom w.old) }
+    ensures list { SomeBagIn w.new bag.now }
     ensures leaves { Leaves (bag_cells bag.now) [] w.old w.new }
     ensures members { w.new.members ≡ w.old.members }
     ensures stays { Stays w.old w.new }
@@ -95,11 +96,11 @@ pub fn from_iter<T, J: Deferred, const ARRAY_LEN: usize, I: IntoIterator<Item = 
 ) -> Result<Bag<T, ARRAY_LEN>, FromIterRefused<Bag<T, ARRAY_LEN>, T, I>>
     requires length { IsLength ARRAY_LEN }
     requires ends { IsFiniteIterable I.into_iter_gives I.IntoIter.can_next I.IntoIter.remaining values }
-    ensures filled { IfOk result (λ b. (it : I.IntoIter) × (vs : List T) × I.into_iter_gives values it × Drains I.IntoIter.next_gives it vs × FillsBag ARRAY_LEN w.old w.new (bag_cells b) vs) }
-    ensures partly { IfErr result (λ e. IfNoSlot e (λ b v. (it : I.IntoIter) × (vs : List T) × (rest : I.IntoIter) × I.into_iter_gives values it × YieldsThen I.IntoIter.next_gives it vs (Some v) rest × FillsBag ARRAY_LEN w.old w.new (bag_cells b) vs × (NoneFree w.new ⊎ NoCellFree w.new))) }
+    ensures filled { IfOk result (λ b. GivesAll I.into_iter_gives I.IntoIter.next_gives values (λ vs. FillsBag ARRAY_LEN w.old w.new (bag_cells b) vs)) }
+    ensures partly { IfErr result (λ e. IfNoSlot e (λ b v. GivesUpTo I.into_iter_gives I.IntoIter.next_gives values v (λ vs. FillsBag ARRAY_LEN w.old w.new (bag_cells b) vs × NoRoom w.new))) }
     ensures none { IfErr result (λ e. IfUnmade e (λ r back. (back ≡ values) × (w.new ≡ w.old) × (r ≡ NotMade.NoSlot → sum_by emptiness w.old.cells ≤ ARRAY_LEN))) }
-    ensures list { IfOk result (λ b. IsSomeBag ARRAY_LEN w.new (bag_cells b)) }
-    ensures built { IfErr result (λ e. IfNoSlot e (λ b _. IsSomeBag ARRAY_LEN w.new (bag_cells b))) }
+    ensures list { IfOk result (λ b. SomeBagIn w.new b) }
+    ensures built { IfErr result (λ e. IfNoSlot e (λ b _. SomeBagIn w.new b)) }
     ensures leaves { Leaves [] [] w.old w.new }
     ensures members { w.new.members ≡ w.old.members }
     ensures stays { Stays w.old w.new }
@@ -124,10 +125,10 @@ pub fn pop<T, J: Deferred, const ARRAY_LEN: usize>(
     bag: &Bag<T, ARRAY_LEN>,
     _p: usize,
 ) -> Option<Shared<LinkedEntry<T>>>
-    requires { IsSomeBag ARRAY_LEN w.old (bag_cells bag.now) }
-    ensures popped { (ps : List (Entry (LinkedEntry T))) (os : List (Entry (LinkedEntry T))) → IsBag ARRAY_LEN w.old (bag_cells bag.now) ps os → MatchOption result ((ps ≡ []) × (os ≡ []) × IsBag ARRAY_LEN w.new (bag_cells bag.now) [] []) (λ s. TakesOne ARRAY_LEN w.new (bag_cells bag.now) (shared_slot s) ps os) }
-    ensures list { IsSomeBag ARRAY_LEN w.new (bag_cells bag.now) }
-    ensures leaves { (ps : List (Entry (LinkedEntry T))) (os : List (Entry (LinkedEntry T))) → IsBag ARRAY_LEN w.old (bag_cells bag.now) ps os → Leaves (bag_cells bag.now ++ links (os ++ ps)) [] w.old w.new }
+    requires { SomeBagIn w.old bag.now }
+    ensures popped { (ps : _) (os : _) → BagIn w.old bag.now ps os → MatchOption result ((ps ≡ []) × (os ≡ []) × BagIn w.new bag.now [] []) (λ s. TakesOne ARRAY_LEN w.new (bag_cells bag.now) (shared_slot s) ps os) }
+    ensures list { SomeBagIn w.new bag.now }
+    ensures leaves { OnlyLinksOf w.old w.new bag.now }
     ensures members { w.new.members ≡ w.old.members }
     ensures stays { Stays w.old w.new }
 {
@@ -142,8 +143,8 @@ pub fn len<T, J: Deferred, const ARRAY_LEN: usize>(
     w: &World<LinkedEntry<T>, J>,
     bag: &Bag<T, ARRAY_LEN>,
 ) -> usize
-    requires { IsSomeBag ARRAY_LEN w.now (bag_cells bag.now) }
-    ensures { (ps : List (Entry (LinkedEntry T))) (os : List (Entry (LinkedEntry T))) → IsBag ARRAY_LEN w.now (bag_cells bag.now) ps os → result ≡ length (os ++ ps) }
+    requires { SomeBagIn w.now bag.now }
+    ensures { (ps : _) (os : _) → BagIn w.now bag.now ps os → result ≡ length (os ++ ps) }
 {
     row::count_all(w, &bag.cells)
 }
@@ -153,8 +154,8 @@ pub fn is_empty<T, J: Deferred, const ARRAY_LEN: usize>(
     w: &World<LinkedEntry<T>, J>,
     bag: &Bag<T, ARRAY_LEN>,
 ) -> bool
-    requires { IsSomeBag ARRAY_LEN w.now (bag_cells bag.now) }
-    ensures { (ps : List (Entry (LinkedEntry T))) (os : List (Entry (LinkedEntry T))) → IsBag ARRAY_LEN w.now (bag_cells bag.now) ps os → IsTrue result ↔ (os ++ ps ≡ []) }
+    requires { SomeBagIn w.now bag.now }
+    ensures { (ps : _) (os : _) → BagIn w.now bag.now ps os → IsTrue result ↔ (os ++ ps ≡ []) }
 {
     let found = row::find(w, &bag.cells, 0, false);
     match found {
@@ -172,10 +173,10 @@ pub fn pop_all<T, J: Deferred, B, F: FnMut(B, Shared<LinkedEntry<T>>) -> B, cons
     mut f: F,
 ) -> B
     requires callable { F.IsAlwaysCallable f }
-    requires list { IsSomeBag ARRAY_LEN w.old (bag_cells bag.now) }
-    ensures folded { (ps : List (Entry (LinkedEntry T))) (os : List (Entry (LinkedEntry T))) → IsBag ARRAY_LEN w.old (bag_cells bag.now) ps os → (es : List (Entry (LinkedEntry T))) × IsSameBag es (os ++ ps) × AreOwn w.new es × AreSpare w.new es × (last : F) × FoldsTo (CallsWith F.step) (init, f) es (result, last) }
-    ensures emptied { IsBag ARRAY_LEN w.new (bag_cells bag.now) [] [] }
-    ensures leaves { (ps : List (Entry (LinkedEntry T))) (os : List (Entry (LinkedEntry T))) → IsBag ARRAY_LEN w.old (bag_cells bag.now) ps os → Leaves (bag_cells bag.now ++ links (os ++ ps)) [] w.old w.new }
+    requires list { SomeBagIn w.old bag.now }
+    ensures folded { (ps : _) (os : _) → BagIn w.old bag.now ps os → (es : List (Entry (LinkedEntry T))) × IsSameBag es (os ++ ps) × AreOwn w.new es × AreSpare w.new es × (last : F) × FoldsTo (CallsWith F.step) (init, f) es (result, last) }
+    ensures emptied { BagIn w.new bag.now [] [] }
+    ensures leaves { OnlyLinksOf w.old w.new bag.now }
     ensures members { w.new.members ≡ w.old.members }
     ensures stays { Stays w.old w.new }
 {
@@ -196,9 +197,9 @@ pub fn retire<T, J: Deferred, const ARRAY_LEN: usize>(
     p: usize,
 )
     requires member { p < length w.old.members }
-    requires list { IsSomeBag ARRAY_LEN w.old (bag_cells bag) }
+    requires list { SomeBagIn w.old bag }
     ensures ended { AreFreeCells w.new (bag_cells bag) }
-    ensures leaves { (ps : List (Entry (LinkedEntry T))) (os : List (Entry (LinkedEntry T))) → IsBag ARRAY_LEN w.old (bag_cells bag) ps os → Leaves (bag_cells bag ++ links (os ++ ps)) (slots (os ++ ps)) w.old w.new }
+    ensures leaves { OnlyBag w.old w.new bag }
     ensures only { OnlyOf p w.old w.new }
     ensures stays { Stays w.old w.new }
 {
@@ -212,7 +213,7 @@ pub fn into_iter<T, J: Deferred, const ARRAY_LEN: usize>(
     _w: &World<LinkedEntry<T>, J>,
     bag: Bag<T, ARRAY_LEN>,
 ) -> IntoIter<T, ARRAY_LEN>
-    requires { IsSomeBag ARRAY_LEN _w.now (bag_cells bag) }
+    requires { SomeBagIn _w.now bag }
     ensures { into_cells result ≡ bag_cells bag }
 {
     IntoIter { bag }

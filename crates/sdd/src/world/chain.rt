@@ -3,11 +3,12 @@
 ghost use Rattle.std.specs.Prelude.{◌≡◌, Some, None, Option, List, ◌∷◌, [], ℕ, length, IfNone, IfSome, cond, ◌+◌, ◌<◌};
 ghost use Rattle.std.specs.Fn.{FnOnceReturnsAt};
 ghost use Rattle.std.specs.Option.{option_copied};
-ghost use Rattle.sdd_base.specs.State.{State, IsFreeCell, cell_at, status_at, with_cell};
+ghost use Rattle.sdd_base.specs.State.{IsFreeCell, cell_at, status_at, with_cell};
 ghost use Rattle.sdd_base.specs.Frame.{OnlyOf};
 ghost use Rattle.sdd_base.specs.Place.{IsSharedCell};
 ghost use Rattle.sdd_base.specs.Tokens.{shared_cell, shared_slot, shared_slots, link_cell};
-ghost use Rattle.sdd.specs.Chain.{Entry, IsItem, IsHung, Hangs, HasLink, IsLoose, Fits, TookFirst, Leaves, Stays, CanHang, deleted, Begins, skip, undeleted, first_item, first_slot, front_tag, links, slots, SameUses, MoreOwners, OneMore};
+ghost use Rattle.sdd.specs.Chain.{Entry, IsItem, IsHung, Hangs, HasLink, IsLoose, Fits, TookFirst, Leaves, Stays, CanHang, deleted, Begins, skip, undeleted, first_item, first_slot, front_tag, slots, SameUses, MoreOwners, OneMore};
+ghost use Rattle.sdd.specs.Calls.{OfList, OnlyList};
 
 use crate::linked_list::LinkedList;
 use sdd_base::cell::AtomicShared;
@@ -63,7 +64,7 @@ pub(crate) fn take_first<L: LinkedList, J: Deferred>(
     cell: &AtomicShared<L>,
 ) -> Option<Shared<L>>
     requires { Hangs L.link w.old (shared_cell cell.now) }
-    ensures took { (t : Tag) (es : List (Entry L)) → IsHung L.link w.old (shared_cell cell.now) t es → TookFirst L.link w.old w.new (shared_cell cell.now) t es (shared_slots result) }
+    ensures took { OfList L.link w.old cell.now (λ t es. TookFirst L.link w.old w.new (shared_cell cell.now) t es (shared_slots result)) }
     ensures members { w.new.members ≡ w.old.members }
     ensures stays { Stays w.old w.new }
 {
@@ -117,8 +118,8 @@ pub(crate) fn first<'w, L: LinkedList, J: Deferred>(
     cell: &AtomicShared<L>,
 ) -> Option<Front<'w, L>>
     requires { Hangs L.link w.now (shared_cell cell.now) }
-    ensures none { IfNone result ((t : Tag) (es : List (Entry L)) → IsHung L.link w.now (shared_cell cell.now) t es → es ≡ []) }
-    ensures some { IfSome result (λ f. (t : Tag) (es : List (Entry L)) → IsHung L.link w.now (shared_cell cell.now) t es → Begins es f.item.now (shared_cell f.link.now) f.deleted) }
+    ensures none { IfNone result (OfList L.link w.now cell.now (λ t es. es ≡ [])) }
+    ensures some { IfSome result (λ f. OfList L.link w.now cell.now (λ t es. Begins es f.item.now (shared_cell f.link.now) f.deleted)) }
 {
     let Some(item) = atomic_shared::as_ref(w, cell) else {
         return None;
@@ -138,7 +139,7 @@ pub(crate) fn skip_from<'w, L: LinkedList, J: Deferred>(
     cell: &'w AtomicShared<L>,
 ) -> &'w AtomicShared<L>
     requires { Hangs L.link w.now (shared_cell cell.now) }
-    ensures { (t : Tag) (es : List (Entry L)) → IsHung L.link w.now (shared_cell cell.now) t es → (u : Tag) × IsHung L.link w.now (shared_cell result.now) u (skip es) × (u ≡ front_tag t es) }
+    ensures { OfList L.link w.now cell.now (λ t es. (u : Tag) × IsHung L.link w.now (shared_cell result.now) u (skip es) × (u ≡ front_tag t es)) }
 {
     let mut at = cell;
     for _passed in 0..w.slots_in_use() {
@@ -161,7 +162,7 @@ pub(crate) fn first_undeleted<'w, L: LinkedList, J: Deferred>(
     cell: &'w AtomicShared<L>,
 ) -> Option<&'w L>
     requires { Hangs L.link w.now (shared_cell cell.now) }
-    ensures { (t : Tag) (es : List (Entry L)) → IsHung L.link w.now (shared_cell cell.now) t es → option_copied result ≡ first_item (undeleted es) }
+    ensures { OfList L.link w.now cell.now (λ t es. option_copied result ≡ first_item (undeleted es)) }
 {
     match atomic_shared::as_ref(w, skip_from(w, cell)) {
         None => None,
@@ -180,7 +181,7 @@ fn counted(count: usize, deleted: bool) -> usize
 /// How many entries of a list aren't deleted.
 pub(crate) fn count<L: LinkedList, J: Deferred>(w: &World<L, J>, cell: &AtomicShared<L>) -> usize
     requires { Hangs L.link w.now (shared_cell cell.now) }
-    ensures { (t : Tag) (es : List (Entry L)) → IsHung L.link w.now (shared_cell cell.now) t es → result ≡ length (undeleted es) }
+    ensures { OfList L.link w.now cell.now (λ t es. result ≡ length (undeleted es)) }
 {
     let mut at = cell;
     let mut count = 0;
@@ -220,9 +221,9 @@ pub(crate) fn skip_deleted<L: LinkedList, J: Deferred>(
 )
     requires member { p < length w.old.members }
     requires list { Hangs L.link w.old (shared_cell cell.now) }
-    ensures skipped { (t : Tag) (es : List (Entry L)) → IsHung L.link w.old (shared_cell cell.now) t es → IsHung L.link w.new (shared_cell cell.now) t (skip es) }
-    ensures leaves { (t : Tag) (es : List (Entry L)) → IsHung L.link w.old (shared_cell cell.now) t es → Leaves (shared_cell cell.now ∷ links es) (slots es) w.old w.new }
-    ensures same { (t : Tag) (es : List (Entry L)) → IsHung L.link w.old (shared_cell cell.now) t es → SameUses w.old w.new (slots (skip es)) }
+    ensures skipped { OfList L.link w.old cell.now (λ t es. IsHung L.link w.new (shared_cell cell.now) t (skip es)) }
+    ensures leaves { OnlyList L.link w.old w.new cell.now }
+    ensures same { OfList L.link w.old cell.now (λ t es. SameUses w.old w.new (slots (skip es))) }
     ensures only { OnlyOf p w.old w.new }
     ensures stays { Stays w.old w.new }
 {
@@ -260,10 +261,10 @@ pub(crate) fn share_first<L: LinkedList, J: Deferred>(
     cell: &AtomicShared<L>,
 ) -> Option<Shared<L>>
     requires { Hangs L.link w.old (shared_cell cell.now) }
-    ensures hung { (t : Tag) (es : List (Entry L)) → IsHung L.link w.old (shared_cell cell.now) t es → IsHung L.link w.new (shared_cell cell.now) t es }
-    ensures some { IfSome result (λ s. (t : Tag) (es : List (Entry L)) → IsHung L.link w.old (shared_cell cell.now) t es → Some (shared_slot s) ≡ first_slot es) }
-    ensures none { IfNone result ((t : Tag) (es : List (Entry L)) → IsHung L.link w.old (shared_cell cell.now) t es → IfSome (first_slot es) (λ i. status_at w.old i ≡ Status.Shared 4294967295)) }
-    ensures leaves { (t : Tag) (es : List (Entry L)) → IsHung L.link w.old (shared_cell cell.now) t es → Leaves (shared_cell cell.now ∷ links es) (slots es) w.old w.new }
+    ensures hung { OfList L.link w.old cell.now (λ t es. IsHung L.link w.new (shared_cell cell.now) t es) }
+    ensures some { IfSome result (λ s. OfList L.link w.old cell.now (λ t es. Some (shared_slot s) ≡ first_slot es)) }
+    ensures none { IfNone result (OfList L.link w.old cell.now (λ t es. IfSome (first_slot es) (λ i. status_at w.old i ≡ Status.Shared 4294967295))) }
+    ensures leaves { OnlyList L.link w.old w.new cell.now }
     ensures owners { MoreOwners w.old w.new }
     ensures more { IfSome result (λ s. OneMore w.old w.new (shared_slot s)) }
     ensures members { w.new.members ≡ w.old.members }
@@ -292,8 +293,8 @@ pub(crate) fn clear<L: LinkedList, J: Deferred>(
 )
     requires member { p < length w.old.members }
     requires list { Hangs L.link w.old (shared_cell cell.now) }
-    ensures cleared { (t : Tag) (es : List (Entry L)) → IsHung L.link w.old (shared_cell cell.now) t es → IsHung L.link w.new (shared_cell cell.now) t [] }
-    ensures leaves { (t : Tag) (es : List (Entry L)) → IsHung L.link w.old (shared_cell cell.now) t es → Leaves (shared_cell cell.now ∷ links es) (slots es) w.old w.new }
+    ensures cleared { OfList L.link w.old cell.now (λ t es. IsHung L.link w.new (shared_cell cell.now) t []) }
+    ensures leaves { OnlyList L.link w.old w.new cell.now }
     ensures only { OnlyOf p w.old w.new }
     ensures stays { Stays w.old w.new }
 {

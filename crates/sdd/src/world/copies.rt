@@ -1,13 +1,12 @@
 //! Clones of the values of a list, one after another.
 
-ghost use Rattle.std.specs.Prelude.{◌≡◌, List, [], IfOk, OnErr, MatchOption};
+ghost use Rattle.std.specs.Prelude.{◌≡◌, [], IfOk, OnErr, MatchOption};
 ghost use Rattle.sdd_base.specs.Tokens.{link_cell, shared_cell};
-ghost use Rattle.sdd_base.specs.declared.tag.Tag.{Tag};
-ghost use Rattle.sdd.specs.Chain.{Entry, IsHung, Hangs};
+ghost use Rattle.sdd.specs.Chain.{Hangs};
 ghost use Rattle.sdd.specs.Copies.{ClonesAreSame};
 ghost use Rattle.sdd.specs.Entries.{entry_link};
 ghost use Rattle.sdd.specs.Fillings.{Copies, CantCopy};
-ghost use Rattle.sdd.specs.declared.linked_entry.LinkedEntry.{LinkedEntry};
+ghost use Rattle.sdd.specs.Calls.{OfList};
 
 use crate::linked_entry::LinkedEntry;
 use crate::world::chain;
@@ -31,8 +30,8 @@ pub(crate) fn first<T: Clone, J: Deferred>(
 ) -> Result<Option<Copied<T>>, AllocError>
     requires clones { ClonesAreSame T.is_clone }
     requires list { Hangs entry_link w.now (shared_cell cell.now) }
-    ensures first { IfOk result (λ o. (t : Tag) (es : List (Entry (LinkedEntry T))) → IsHung entry_link w.now (shared_cell cell.now) t es → MatchOption o (es ≡ []) (λ k. Copies es (link_cell k.link) k.value)) }
-    ensures refused { OnErr result ((t : Tag) (es : List (Entry (LinkedEntry T))) → IsHung entry_link w.now (shared_cell cell.now) t es → CantCopy T.is_infallible es) }
+    ensures first { IfOk result (λ o. OfList entry_link w.now cell.now (λ t es. MatchOption o (es ≡ []) (λ k. Copies es (link_cell k.link) k.value))) }
+    ensures refused { OnErr result (OfList entry_link w.now cell.now (λ t es. CantCopy T.is_infallible es)) }
 {
     let Some(front) = chain::first(w, cell) else {
         return Ok(None);

@@ -3,12 +3,13 @@
 //! A function with a condition can call one that changes a place only if that has a condition as well: the borrow
 //! checker's proof covers no other. So those here have one that always holds.
 
-ghost use Rattle.std.specs.Prelude.{◌≡◌, ◌⊎◌, ◌≤◌, length, IfOk, IfErr, IfSome, Some, None, OnErr, [], ℕ};
-ghost use Rattle.sdd_base.specs.State.{IsFreeCell, NoneFree, NoCellFree, cell_at, status_at, with_cell};
+ghost use Rattle.std.specs.Prelude.{◌≡◌, ◌≤◌, length, IfOk, IfErr, IfSome, Some, None, [], ℕ};
+ghost use Rattle.sdd_base.specs.State.{NoCellFree, cell_at, status_at, with_cell};
 ghost use Rattle.sdd_base.specs.Tokens.{shared_slot};
 ghost use Rattle.sdd.specs.Chain.{Leaves, Stays};
 ghost use Rattle.sdd.specs.Entries.{entry_value, entry_link};
 ghost use Rattle.sdd.specs.Stacks.{IsMade};
+ghost use Rattle.sdd.specs.Calls.{MakesEntry, NoRoom};
 
 use crate::linked_entry::LinkedEntry;
 use sdd_base::job::Deferred;
@@ -23,7 +24,7 @@ pub(crate) fn link<T, J: Deferred>(
     value: T,
 ) -> Result<LinkedEntry<T>, T>
     requires { 0 ≤ length w.old.cells }
-    ensures made { IfOk result (λ e. (c : _) × IsFreeCell w.old c × (entry_value e ≡ value) × (entry_link e ≡ Some c) × (w.new ≡ with_cell c (Cell.OfShared None Tag.None) w.old)) }
+    ensures made { IfOk result (λ e. MakesEntry w.old w.new e value) }
     ensures refused { IfErr result (λ v. (v ≡ value) × (w.new ≡ w.old) × NoCellFree w.old) }
     ensures leaves { Leaves [] [] w.old w.new }
     ensures members { w.new.members ≡ w.old.members }
@@ -62,7 +63,7 @@ pub(crate) fn make_one<T, J: Deferred>(
     requires { 0 ≤ length w.old.cells }
     ensures made { IfOk result (λ s. IsMade w.old w.new value (shared_slot s)) }
     ensures one { IfOk result (λ s. status_at w.new (shared_slot s) ≡ Status.Shared 1) }
-    ensures refused { IfErr result (λ v. (v ≡ value) × (w.new ≡ w.old) × (NoneFree w.old ⊎ NoCellFree w.old)) }
+    ensures refused { IfErr result (λ v. (v ≡ value) × (w.new ≡ w.old) × NoRoom w.old) }
     ensures leaves { Leaves [] [] w.old w.new }
     ensures members { w.new.members ≡ w.old.members }
     ensures stays { Stays w.old w.new }
@@ -85,7 +86,7 @@ pub(crate) fn make<T, J: Deferred>(
     ensures made { IfOk result (λ s. IsMade w.old w.new value (shared_slot s.0)) }
     ensures both { IfOk result (λ s. shared_slot s.1 ≡ shared_slot s.0) }
     ensures two { IfOk result (λ s. status_at w.new (shared_slot s.0) ≡ Status.Shared 2) }
-    ensures refused { IfErr result (λ v. (v ≡ value) × (w.new ≡ w.old) × (NoneFree w.old ⊎ NoCellFree w.old)) }
+    ensures refused { IfErr result (λ v. (v ≡ value) × (w.new ≡ w.old) × NoRoom w.old) }
     ensures leaves { Leaves [] [] w.old w.new }
     ensures members { w.new.members ≡ w.old.members }
     ensures stays { Stays w.old w.new }
@@ -116,7 +117,7 @@ pub(crate) fn make_three<T, J: Deferred>(
     ensures link { IfOk result (λ s. shared_slot s.1 ≡ shared_slot s.0) }
     ensures last { IfOk result (λ s. shared_slot s.2 ≡ shared_slot s.0) }
     ensures three { IfOk result (λ s. status_at w.new (shared_slot s.0) ≡ Status.Shared 3) }
-    ensures refused { IfErr result (λ v. (v ≡ value) × (w.new ≡ w.old) × (NoneFree w.old ⊎ NoCellFree w.old)) }
+    ensures refused { IfErr result (λ v. (v ≡ value) × (w.new ≡ w.old) × NoRoom w.old) }
     ensures leaves { Leaves [] [] w.old w.new }
     ensures members { w.new.members ≡ w.old.members }
     ensures stays { Stays w.old w.new }

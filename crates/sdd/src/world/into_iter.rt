@@ -1,11 +1,11 @@
 //! Taking a bag apart over a `World`.
 
-ghost use Rattle.std.specs.Prelude.{◌≡◌, ◌<◌, ◌++◌, List, [], length, MatchOption};
+ghost use Rattle.std.specs.Prelude.{◌≡◌, ◌<◌, [], length, MatchOption};
 ghost use Rattle.sdd_base.specs.Frame.{OnlyOf};
 ghost use Rattle.sdd_base.specs.Tokens.{shared_slot};
-ghost use Rattle.sdd.specs.Chain.{Entry, Leaves, Stays, links, slots};
-ghost use Rattle.sdd.specs.Bags.{IsBag, IsSomeBag, TakesOne, AreFreeCells, into_cells};
-ghost use Rattle.sdd.specs.declared.linked_entry.LinkedEntry.{LinkedEntry};
+ghost use Rattle.sdd.specs.Chain.{Stays};
+ghost use Rattle.sdd.specs.Bags.{IsSomeBag, TakesOne, AreFreeCells, into_cells};
+ghost use Rattle.sdd.specs.Calls.{BagIn, OnlyBag, OnlyLinksOf};
 
 use crate::bag::IntoIter;
 use crate::linked_entry::LinkedEntry;
@@ -21,9 +21,9 @@ pub fn next<T, J: Deferred, const ARRAY_LEN: usize>(
     p: usize,
 ) -> Option<Shared<LinkedEntry<T>>>
     requires { IsSomeBag ARRAY_LEN w.old (into_cells iter.now) }
-    ensures popped { (ps : List (Entry (LinkedEntry T))) (os : List (Entry (LinkedEntry T))) → IsBag ARRAY_LEN w.old (into_cells iter.now) ps os → MatchOption result ((ps ≡ []) × (os ≡ []) × IsBag ARRAY_LEN w.new (into_cells iter.now) [] []) (λ s. TakesOne ARRAY_LEN w.new (into_cells iter.now) (shared_slot s) ps os) }
+    ensures popped { (ps : _) (os : _) → BagIn w.old iter.now.bag ps os → MatchOption result ((ps ≡ []) × (os ≡ []) × BagIn w.new iter.now.bag [] []) (λ s. TakesOne ARRAY_LEN w.new (into_cells iter.now) (shared_slot s) ps os) }
     ensures list { IsSomeBag ARRAY_LEN w.new (into_cells iter.now) }
-    ensures leaves { (ps : List (Entry (LinkedEntry T))) (os : List (Entry (LinkedEntry T))) → IsBag ARRAY_LEN w.old (into_cells iter.now) ps os → Leaves (into_cells iter.now ++ links (os ++ ps)) [] w.old w.new }
+    ensures leaves { OnlyLinksOf w.old w.new iter.now.bag }
     ensures members { w.new.members ≡ w.old.members }
     ensures stays { Stays w.old w.new }
 {
@@ -39,7 +39,7 @@ pub fn retire<T, J: Deferred, const ARRAY_LEN: usize>(
     requires member { p < length w.old.members }
     requires list { IsSomeBag ARRAY_LEN w.old (into_cells iter) }
     ensures ended { AreFreeCells w.new (into_cells iter) }
-    ensures leaves { (ps : List (Entry (LinkedEntry T))) (os : List (Entry (LinkedEntry T))) → IsBag ARRAY_LEN w.old (into_cells iter) ps os → Leaves (into_cells iter ++ links (os ++ ps)) (slots (os ++ ps)) w.old w.new }
+    ensures leaves { OnlyBag w.old w.new iter.bag }
     ensures only { OnlyOf p w.old w.new }
     ensures stays { Stays w.old w.new }
 {

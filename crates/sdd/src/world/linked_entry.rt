@@ -1,12 +1,13 @@
 //! Making entries.
 
-ghost use Rattle.std.specs.Prelude.{◌≡◌, ◌≤◌, ◌⊎◌, length, IfOk, IfErr, OnErr, IsErrOf, Some, None, []};
-ghost use Rattle.sdd_base.specs.State.{IsFreeCell, NoCellFree, NoneFree, status_at, with_cell};
+ghost use Rattle.std.specs.Prelude.{◌≡◌, ◌≤◌, length, IfOk, IfErr, OnErr, IsErrOf, []};
+ghost use Rattle.sdd_base.specs.State.{NoCellFree, status_at};
 ghost use Rattle.sdd_base.specs.Tokens.{shared_slot};
 ghost use Rattle.sdd.specs.Chain.{Leaves, Stays};
 ghost use Rattle.sdd.specs.Copies.{ClonesAreSame};
-ghost use Rattle.sdd.specs.Entries.{entry_value, entry_link};
+ghost use Rattle.sdd.specs.Entries.{entry_value};
 ghost use Rattle.sdd.specs.Stacks.{IsMade};
+ghost use Rattle.sdd.specs.Calls.{MakesEntry, NoRoom};
 
 use crate::linked_entry::LinkedEntry;
 use crate::refusal::NotMade;
@@ -19,7 +20,7 @@ use sdd_base::world::World;
 
 /// An entry of `value` that is clear and has no next one, exactly if a cell is free; else `value` comes back.
 pub fn new<T, J: Deferred>(w: &mut World<LinkedEntry<T>, J>, value: T) -> Result<LinkedEntry<T>, T>
-    ensures made { IfOk result (λ e. (c : _) × IsFreeCell w.old c × (entry_value e ≡ value) × (entry_link e ≡ Some c) × (w.new ≡ with_cell c (Cell.OfShared None Tag.None) w.old)) }
+    ensures made { IfOk result (λ e. MakesEntry w.old w.new e value) }
     ensures refused { IfErr result (λ v. (v ≡ value) × (w.new ≡ w.old) × NoCellFree w.old) }
     ensures leaves { Leaves [] [] w.old w.new }
     ensures stays { Stays w.old w.new }
@@ -34,7 +35,7 @@ pub fn clone<T: Clone, J: Deferred>(
     entry: &LinkedEntry<T>,
 ) -> Result<LinkedEntry<T>, NotMade>
     requires { ClonesAreSame T.is_clone }
-    ensures made { IfOk result (λ e. (c : _) × IsFreeCell w.old c × (entry_value e ≡ entry_value entry.now) × (entry_link e ≡ Some c) × (w.new ≡ with_cell c (Cell.OfShared None Tag.None) w.old)) }
+    ensures made { IfOk result (λ e. MakesEntry w.old w.new e (entry_value entry.now)) }
     ensures back { OnErr result (w.new ≡ w.old) }
     ensures full { IsErrOf result NotMade.NoSlot → NoCellFree w.old }
     ensures memory { IsErrOf result NotMade.Memory → ¬ T.is_infallible (entry_value entry.now) }
@@ -59,7 +60,7 @@ pub fn place<T, J: Deferred>(
     requires { 0 ≤ length w.old.cells }
     ensures made { IfOk result (λ s. IsMade w.old w.new value (shared_slot s)) }
     ensures one { IfOk result (λ s. status_at w.new (shared_slot s) ≡ Status.Shared 1) }
-    ensures refused { IfErr result (λ v. (v ≡ value) × (w.new ≡ w.old) × (NoneFree w.old ⊎ NoCellFree w.old)) }
+    ensures refused { IfErr result (λ v. (v ≡ value) × (w.new ≡ w.old) × NoRoom w.old) }
     ensures leaves { Leaves [] [] w.old w.new }
     ensures members { w.new.members ≡ w.old.members }
     ensures stays { Stays w.old w.new }

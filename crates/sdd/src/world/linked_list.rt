@@ -2,12 +2,13 @@
 
 ghost use Rattle.std.specs.Prelude.{◌≡◌, ◌≢◌, ◌<◌, ◌+◌, ℕ, List, [], ◌∷◌, true, ◌↔◌, cond, Some, IfSome, IfNone, IfOk, IfErr, OnOk, IsErr, IsTrue, IsFalse, not};
 ghost use Rattle.sdd_base.specs.Tokens.{ptr_slot, ptr_tag, link_cell, shared_slot};
-ghost use Rattle.sdd_base.specs.State.{cell_at, status_at, with_cell, with_status};
+ghost use Rattle.sdd_base.specs.State.{status_at, with_status};
 ghost use Rattle.sdd_base.specs.Place.{IsShared};
 ghost use Rattle.sdd_base.specs.Steps.{released};
 ghost use Rattle.sdd_base.specs.declared.tag.Tag.{Tag};
-ghost use Rattle.sdd.specs.Chain.{Entry, IsHung, IsLoose, Leaves, Stays, deleted, undeleted, skip, first_slot, front_tag};
-ghost use Rattle.sdd.specs.Nodes.{IsNode, IsSomeNode, IsListed, CanInsert, Inserts, IsApart, Retags, clear, marked};
+ghost use Rattle.sdd.specs.Chain.{Entry, IsHung, Leaves, Stays, deleted, undeleted, skip, first_slot, front_tag};
+ghost use Rattle.sdd.specs.Nodes.{IsNode, IsSomeNode, IsListed, CanInsert, Inserts, Retags, clear, marked};
+ghost use Rattle.sdd.specs.Calls.{OfInsertion, OfNode};
 
 use crate::linked_list::LinkedList;
 use crate::world::chain;
@@ -169,8 +170,8 @@ pub fn push_back<L: LinkedList, J: Deferred>(
     ensures when { (e : Entry L) → IsNode L.link w.old (ptr_slot at.entry) e → IsErr result ↔ (deleted e.tag ≡ true) }
     ensures back { IfErr result (λ s. (shared_slot s ≡ shared_slot entry) × (w.new ≡ w.old)) }
     ensures pointer { IfOk result (λ r. (ptr_slot r ≡ Some (shared_slot entry)) × (ptr_tag r ≡ cond mark Tag.First Tag.None)) }
-    ensures pushed { OnOk result ((e : Entry L) (x : Entry L) (es : List (Entry L)) → IsNode L.link w.old (ptr_slot at.entry) e → IsHung L.link w.old e.link e.tag es → IsLoose L.link w.old x → shared_slot entry ≡ x.slot → IsApart e.link es x → Inserts L.link w.old w.new e (cond mark Tag.First Tag.None) x) }
-    ensures leaves { (e : Entry L) (x : Entry L) (es : List (Entry L)) → IsNode L.link w.old (ptr_slot at.entry) e → IsHung L.link w.old e.link e.tag es → IsLoose L.link w.old x → shared_slot entry ≡ x.slot → IsApart e.link es x → Leaves (e.link ∷ x.link ∷ []) [] w.old w.new }
+    ensures pushed { OnOk result (OfInsertion L.link w.old (ptr_slot at.entry) (shared_slot entry) (λ e x. Inserts L.link w.old w.new e (cond mark Tag.First Tag.None) x)) }
+    ensures leaves { OfInsertion L.link w.old (ptr_slot at.entry) (shared_slot entry) (λ e x. Leaves (e.link ∷ x.link ∷ []) [] w.old w.new) }
     ensures members { w.new.members ≡ w.old.members }
     ensures stays { Stays w.old w.new }
 {
@@ -190,8 +191,8 @@ pub fn next_ptr<L: LinkedList, J: Deferred>(
     guard: &WorldGuard,
 ) -> Ptr<'static, L>
     requires { IsListed L.link w.now (ptr_slot at) }
-    ensures next { (e : Entry L) (es : List (Entry L)) → IsNode L.link w.now (ptr_slot at.entry) e → IsHung L.link w.now e.link e.tag es → ptr_slot result ≡ first_slot (undeleted es) }
-    ensures tag { (e : Entry L) (es : List (Entry L)) → IsNode L.link w.now (ptr_slot at.entry) e → IsHung L.link w.now e.link e.tag es → ptr_tag result ≡ front_tag e.tag es }
+    ensures next { OfNode L.link w.now (ptr_slot at.entry) (λ e es. ptr_slot result ≡ first_slot (undeleted es)) }
+    ensures tag { OfNode L.link w.now (ptr_slot at.entry) (λ e es. ptr_tag result ≡ front_tag e.tag es) }
     ensures node { IfSome (ptr_slot result) (λ i. IsSomeNode L.link w.now (Some i)) }
     ensures listed { IfSome (ptr_slot result) (λ i. IsListed L.link w.now (Some i)) }
 {
@@ -204,7 +205,7 @@ pub fn next_ptr<L: LinkedList, J: Deferred>(
 /// The link behind the entry that `at` names and the deleted ones after it.
 fn next_link<L: LinkedList, J: Deferred>(w: &World<L, J>, at: &Ptr<'static, L>) -> Link<L>
     requires { IsListed L.link w.now (ptr_slot at.now) }
-    ensures { (e : Entry L) (es : List (Entry L)) → IsNode L.link w.now (ptr_slot at.now) e → IsHung L.link w.now e.link e.tag es → (u : Tag) × IsHung L.link w.now (link_cell result) u (skip es) }
+    ensures { OfNode L.link w.now (ptr_slot at.now) (λ e es. (u : Tag) × IsHung L.link w.now (link_cell result) u (skip es)) }
 {
     match w.read(at) {
         Some(item) => Link::of(chain::skip_from(w, item.link_ref())),
@@ -220,9 +221,9 @@ pub fn next_shared<L: LinkedList, J: Deferred>(
     guard: &WorldGuard,
 ) -> Option<Shared<L>>
     requires { IsListed L.link w.old (ptr_slot at) }
-    ensures next { IfSome result (λ s. (e : Entry L) (es : List (Entry L)) → IsNode L.link w.old (ptr_slot at.entry) e → IsHung L.link w.old e.link e.tag es → Some (shared_slot s) ≡ first_slot (undeleted es)) }
+    ensures next { IfSome result (λ s. OfNode L.link w.old (ptr_slot at.entry) (λ e es. Some (shared_slot s) ≡ first_slot (undeleted es))) }
     ensures more { IfSome result (λ s. (n : ℕ) × (status_at w.old (shared_slot s) ≡ Status.Shared n) × (w.new ≡ with_status (shared_slot s) (Status.Shared (n + 1)) w.old)) }
-    ensures none { IfNone result ((w.new ≡ w.old) × ((e : Entry L) (es : List (Entry L)) → IsNode L.link w.old (ptr_slot at.entry) e → IsHung L.link w.old e.link e.tag es → IfSome (first_slot (undeleted es)) (λ i. (n : ℕ) → n < 4294967295 → status_at w.old i ≢ Status.Shared n))) }
+    ensures none { IfNone result ((w.new ≡ w.old) × OfNode L.link w.old (ptr_slot at.entry) (λ e es. IfSome (first_slot (undeleted es)) (λ i. (n : ℕ) → n < 4294967295 → status_at w.old i ≢ Status.Shared n))) }
     ensures lists { (c : ℕ) (t : Tag) (es : List (Entry L)) → IsHung L.link w.old c t es → IsHung L.link w.new c t es }
     ensures live { IfSome result (λ s. IsShared w.new (shared_slot s)) }
     ensures spare { IfSome result (λ s. (p : ℕ) → released p (shared_slot s) w.new ≡ w.old) }

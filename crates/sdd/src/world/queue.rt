@@ -1,7 +1,7 @@
 //! Queues over a `World`: the oldest entry comes first.
 
-ghost use Rattle.std.specs.Prelude.{◌≤◌, ◌≡◌, ◌<◌, ◌⊎◌, ◌↔◌, ℕ, List, [], ◌∷◌, length, IfOk, IfErr, OnErr, OnOk, ◌++◌, Some, IfSome, IfNone, ◌≢◌, MatchOption, IsTrue, IsErrAnd, Bool, false};
-ghost use Rattle.sdd_base.specs.State.{status_at, IsFreeCell, NoneFree, NoCellFree};
+ghost use Rattle.std.specs.Prelude.{◌≤◌, ◌≡◌, ◌<◌, ◌↔◌, ℕ, [], ◌∷◌, length, IfOk, IfErr, OnErr, OnOk, Some, IfSome, IfNone, ◌≢◌, MatchOption, IsTrue, IsErrAnd, Bool, false};
+ghost use Rattle.sdd_base.specs.State.{IsFreeCell};
 ghost use Rattle.sdd_base.specs.Frame.{OnlyOf};
 ghost use Rattle.sdd_base.specs.Place.{IsShared};
 ghost use Rattle.sdd_base.specs.Steps.{released};
@@ -10,15 +10,15 @@ ghost use Rattle.sdd.specs.Nodes.{IsSomeNode, IsListed};
 ghost use Rattle.std.specs.Fn.{FnOnceReturnsAt};
 ghost use Rattle.std.specs.Option.{option_copied};
 ghost use Rattle.sdd.specs.Stacks.{taken};
-ghost use Rattle.sdd.specs.Chain.{Entry, Hangs, IsHung, Leaves, Stays, undeleted, first_item, first_slot, front_tag, skip, links, slots};
+ghost use Rattle.sdd.specs.Chain.{Hangs, IsHung, Leaves, Stays, undeleted, first_item, first_slot, front_tag, skip, links, slots};
 ghost use Rattle.sdd.specs.Entries.{entry_link};
 ghost use Rattle.sdd.specs.Iters.{iter_cell};
-ghost use Rattle.std.specs.Iterator.{Drains, YieldsThen, IsFiniteIterable};
+ghost use Rattle.std.specs.Iterator.{IsFiniteIterable};
 ghost use Rattle.sdd.specs.Copies.{ClonesAreSame};
 ghost use Rattle.sdd.specs.Fillings.{entry_values, Extends, FillsQueue, IfUnmade, IfNoSlot, IfUncopied, IfPartly};
 ghost use Rattle.sdd.specs.Refusals.{refused_value, IsCondition, IsNoSlot};
-ghost use Rattle.sdd.specs.Queues.{oldest_cell, newest_cell, IsQueue, IsSomeQueue, HasOldest, KeepsQueue, Appends, Takes};
-ghost use Rattle.sdd.specs.declared.linked_entry.LinkedEntry.{LinkedEntry};
+ghost use Rattle.sdd.specs.Queues.{oldest_cell, newest_cell, HasOldest};
+ghost use Rattle.sdd.specs.Calls.{AppendsTo, AskedFirst, CanAskFirst, CopiesUpTo, FirstIsFull, GivesAll, GivesUpTo, KeepsEntries, NoRoom, NoTwoCells, OnlyQueue, QueueIn, SomeQueueIn, TakesFrom};
 
 use crate::iter::Iter;
 use crate::linked_entry::LinkedEntry;
@@ -39,10 +39,10 @@ use sdd_base::world::{World, atomic_shared};
 /// An empty queue, exactly if two cells are free.
 pub fn new<T, J: Deferred>(w: &mut World<LinkedEntry<T>, J>) -> Result<Queue<T>, NoSlot>
     requires { 0 ≤ length w.old.cells }
-    ensures made { IfOk result (λ q. IsQueue entry_link w.new (oldest_cell q) (newest_cell q) []) }
+    ensures made { IfOk result (λ q. QueueIn w.new q []) }
     ensures fresh { IfOk result (λ q. IsFreeCell w.old (oldest_cell q) × IsFreeCell w.old (newest_cell q)) }
-    ensures list { IfOk result (λ q. IsSomeQueue entry_link w.new (oldest_cell q) (newest_cell q)) }
-    ensures refused { OnErr result ((w.new ≡ w.old) × ((c : ℕ) (d : ℕ) → IsFreeCell w.old c → IsFreeCell w.old d → c ≡ d)) }
+    ensures list { IfOk result (λ q. SomeQueueIn w.new q) }
+    ensures refused { OnErr result ((w.new ≡ w.old) × NoTwoCells w.old) }
     ensures leaves { Leaves [] [] w.old w.new }
     ensures members { w.new.members ≡ w.old.members }
     ensures stays { Stays w.old w.new }
@@ -67,12 +67,12 @@ pub fn push<T, J: Deferred>(
     value: T,
 ) -> Result<Shared<LinkedEntry<T>>, T>
     requires member { 0 < length w.old.members }
-    requires list { IsSomeQueue entry_link w.old (oldest_cell queue.now) (newest_cell queue.now) }
-    ensures pushed { IfOk result (λ s. Appends w.old w.new value (oldest_cell queue.now) (newest_cell queue.now) (shared_slot s)) }
-    ensures refused { IfErr result (λ v. (v ≡ value) × (w.new ≡ w.old) × (NoneFree w.old ⊎ NoCellFree w.old)) }
+    requires list { SomeQueueIn w.old queue.now }
+    ensures pushed { IfOk result (λ s. AppendsTo w.old w.new queue.now value s) }
+    ensures refused { IfErr result (λ v. (v ≡ value) × (w.new ≡ w.old) × NoRoom w.old) }
     ensures live { IfOk result (λ s. IsShared w.new (shared_slot s)) }
-    ensures list { IsSomeQueue entry_link w.new (oldest_cell queue.now) (newest_cell queue.now) }
-    ensures leaves { (es : List (Entry (LinkedEntry T))) → IsQueue entry_link w.old (oldest_cell queue.now) (newest_cell queue.now) es → Leaves (oldest_cell queue.now ∷ newest_cell queue.now ∷ links es) (slots es) w.old w.new }
+    ensures list { SomeQueueIn w.new queue.now }
+    ensures leaves { OnlyQueue w.old w.new queue.now }
     ensures only { OnlyOf 0 w.old w.new }
     ensures stays { Stays w.old w.new }
 {
@@ -92,10 +92,10 @@ fn add<T, J: Deferred>(
     value: Option<T>,
 ) -> Result<(), T>
     requires member { 0 < length w.old.members }
-    requires list { IsSomeQueue entry_link w.old (oldest_cell queue.now) (newest_cell queue.now) }
+    requires list { SomeQueueIn w.old queue.now }
     ensures added { OnOk result (MatchOption value (w.new ≡ w.old) (λ v. Extends w.old w.new v (oldest_cell queue.now) (newest_cell queue.now))) }
-    ensures refused { IfErr result (λ v. (value ≡ Some v) × (w.new ≡ w.old) × (NoneFree w.old ⊎ NoCellFree w.old)) }
-    ensures leaves { (es : List (Entry (LinkedEntry T))) → IsQueue entry_link w.old (oldest_cell queue.now) (newest_cell queue.now) es → Leaves (oldest_cell queue.now ∷ newest_cell queue.now ∷ links es) (slots es) w.old w.new }
+    ensures refused { IfErr result (λ v. (value ≡ Some v) × (w.new ≡ w.old) × NoRoom w.old) }
+    ensures leaves { OnlyQueue w.old w.new queue.now }
     ensures only { OnlyOf 0 w.old w.new }
     ensures stays { Stays w.old w.new }
 {
@@ -120,11 +120,11 @@ pub fn from_iter<T, J: Deferred, I: IntoIterator<Item = T>>(
 ) -> Result<Queue<T>, FromIterRefused<Queue<T>, T, I>>
     requires member { 0 < length w.old.members }
     requires ends { IsFiniteIterable I.into_iter_gives I.IntoIter.can_next I.IntoIter.remaining values }
-    ensures filled { IfOk result (λ q. (it : I.IntoIter) × (vs : List T) × I.into_iter_gives values it × Drains I.IntoIter.next_gives it vs × FillsQueue w.old w.new (oldest_cell q) (newest_cell q) vs) }
-    ensures partly { IfErr result (λ e. IfNoSlot e (λ q v. (it : I.IntoIter) × (vs : List T) × (rest : I.IntoIter) × I.into_iter_gives values it × YieldsThen I.IntoIter.next_gives it vs (Some v) rest × FillsQueue w.old w.new (oldest_cell q) (newest_cell q) vs × (NoneFree w.new ⊎ NoCellFree w.new))) }
-    ensures none { IfErr result (λ e. IfUnmade e (λ r back. (r ≡ NotMade.NoSlot) × (back ≡ values) × (w.new ≡ w.old) × ((c : ℕ) (d : ℕ) → IsFreeCell w.old c → IsFreeCell w.old d → c ≡ d))) }
-    ensures list { IfOk result (λ q. IsSomeQueue entry_link w.new (oldest_cell q) (newest_cell q)) }
-    ensures built { IfErr result (λ e. IfNoSlot e (λ q _. IsSomeQueue entry_link w.new (oldest_cell q) (newest_cell q))) }
+    ensures filled { IfOk result (λ q. GivesAll I.into_iter_gives I.IntoIter.next_gives values (λ vs. FillsQueue w.old w.new (oldest_cell q) (newest_cell q) vs)) }
+    ensures partly { IfErr result (λ e. IfNoSlot e (λ q v. GivesUpTo I.into_iter_gives I.IntoIter.next_gives values v (λ vs. FillsQueue w.old w.new (oldest_cell q) (newest_cell q) vs × NoRoom w.new))) }
+    ensures none { IfErr result (λ e. IfUnmade e (λ r back. (r ≡ NotMade.NoSlot) × (back ≡ values) × (w.new ≡ w.old) × NoTwoCells w.old)) }
+    ensures list { IfOk result (λ q. SomeQueueIn w.new q) }
+    ensures built { IfErr result (λ e. IfNoSlot e (λ q _. SomeQueueIn w.new q)) }
     ensures leaves { Leaves [] [] w.old w.new }
     ensures only { OnlyOf 0 w.old w.new }
     ensures stays { Stays w.old w.new }
@@ -151,13 +151,13 @@ pub fn clone<T: Clone, J: Deferred>(
 ) -> Result<Queue<T>, CloneRefused<Queue<T>>>
     requires clones { ClonesAreSame T.is_clone }
     requires member { 0 < length w.old.members }
-    requires list { IsSomeQueue entry_link w.old (oldest_cell queue.now) (newest_cell queue.now) }
-    ensures cloned { (es : List (Entry (LinkedEntry T))) → IsQueue entry_link w.old (oldest_cell queue.now) (newest_cell queue.now) es → IfOk result (λ q. FillsQueue w.old w.new (oldest_cell q) (newest_cell q) (entry_values (undeleted es))) }
-    ensures partly { (es : List (Entry (LinkedEntry T))) → IsQueue entry_link w.old (oldest_cell queue.now) (newest_cell queue.now) es → IfErr result (λ e. IfPartly e (λ q r. (vs : List T) × (v : T) × (more : List T) × (entry_values (undeleted es) ≡ vs ++ v ∷ more) × FillsQueue w.old w.new (oldest_cell q) (newest_cell q) vs × (r ≡ NotMade.NoSlot → NoneFree w.new ⊎ NoCellFree w.new) × (r ≡ NotMade.Memory → ¬ T.is_infallible v))) }
-    ensures none { IfErr result (λ e. IfUncopied e (λ r. (r ≡ NotMade.NoSlot) × (w.new ≡ w.old) × ((c : ℕ) (d : ℕ) → IsFreeCell w.old c → IsFreeCell w.old d → c ≡ d))) }
-    ensures kept { (es : List (Entry (LinkedEntry T))) → IsQueue entry_link w.old (oldest_cell queue.now) (newest_cell queue.now) es → IsQueue entry_link w.new (oldest_cell queue.now) (newest_cell queue.now) es }
-    ensures list { IfOk result (λ q. IsSomeQueue entry_link w.new (oldest_cell q) (newest_cell q)) }
-    ensures built { IfErr result (λ e. IfPartly e (λ q _. IsSomeQueue entry_link w.new (oldest_cell q) (newest_cell q))) }
+    requires list { SomeQueueIn w.old queue.now }
+    ensures cloned { (es : _) → QueueIn w.old queue.now es → IfOk result (λ q. FillsQueue w.old w.new (oldest_cell q) (newest_cell q) (entry_values (undeleted es))) }
+    ensures partly { (es : _) → QueueIn w.old queue.now es → IfErr result (λ e. IfPartly e (λ q r. CopiesUpTo T.is_infallible (entry_values (undeleted es)) r (NoRoom w.new) (FillsQueue w.old w.new (oldest_cell q) (newest_cell q)))) }
+    ensures none { IfErr result (λ e. IfUncopied e (λ r. (r ≡ NotMade.NoSlot) × (w.new ≡ w.old) × NoTwoCells w.old)) }
+    ensures kept { (es : _) → QueueIn w.old queue.now es → QueueIn w.new queue.now es }
+    ensures list { IfOk result (λ q. SomeQueueIn w.new q) }
+    ensures built { IfErr result (λ e. IfPartly e (λ q _. SomeQueueIn w.new q)) }
     ensures leaves { Leaves [] [] w.old w.new }
     ensures only { OnlyOf 0 w.old w.new }
     ensures stays { Stays w.old w.new }
@@ -192,11 +192,11 @@ pub fn pop<T, J: Deferred>(
     p: usize,
 ) -> Option<Shared<LinkedEntry<T>>>
     requires member { p < length w.old.members }
-    requires list { IsSomeQueue entry_link w.old (oldest_cell queue.now) (newest_cell queue.now) }
-    ensures popped { (es : List (Entry (LinkedEntry T))) → IsQueue entry_link w.old (oldest_cell queue.now) (newest_cell queue.now) es → MatchOption result ((undeleted es ≡ []) × IsQueue entry_link w.new (oldest_cell queue.now) (newest_cell queue.now) []) (λ s. Takes w.new (oldest_cell queue.now) (newest_cell queue.now) (shared_slot s) es) }
+    requires list { SomeQueueIn w.old queue.now }
+    ensures popped { (es : _) → QueueIn w.old queue.now es → MatchOption result ((undeleted es ≡ []) × QueueIn w.new queue.now []) (λ s. TakesFrom w.new queue.now s es) }
     ensures live { IfSome result (λ s. IsShared w.new (shared_slot s)) }
-    ensures list { IsSomeQueue entry_link w.new (oldest_cell queue.now) (newest_cell queue.now) }
-    ensures leaves { (es : List (Entry (LinkedEntry T))) → IsQueue entry_link w.old (oldest_cell queue.now) (newest_cell queue.now) es → Leaves (oldest_cell queue.now ∷ newest_cell queue.now ∷ links es) (slots es) w.old w.new }
+    ensures list { SomeQueueIn w.new queue.now }
+    ensures leaves { OnlyQueue w.old w.new queue.now }
     ensures only { OnlyOf p w.old w.new }
     ensures stays { Stays w.old w.new }
 {
@@ -222,9 +222,9 @@ pub fn peek<T, J: Deferred>(
     queue: &Queue<T>,
     guard: &WorldGuard,
 ) -> Ptr<'static, LinkedEntry<T>>
-    requires { IsSomeQueue entry_link w.now (oldest_cell queue.now) (newest_cell queue.now) }
-    ensures first { (es : List (Entry (LinkedEntry T))) → IsQueue entry_link w.now (oldest_cell queue.now) (newest_cell queue.now) es → ptr_slot result ≡ first_slot (undeleted es) }
-    ensures tag { (es : List (Entry (LinkedEntry T))) → IsQueue entry_link w.now (oldest_cell queue.now) (newest_cell queue.now) es → ptr_tag result ≡ front_tag Tag.None es }
+    requires { SomeQueueIn w.now queue.now }
+    ensures first { (es : _) → QueueIn w.now queue.now es → ptr_slot result ≡ first_slot (undeleted es) }
+    ensures tag { (es : _) → QueueIn w.now queue.now es → ptr_tag result ≡ front_tag Tag.None es }
     ensures node { IfSome (ptr_slot result) (λ i. IsSomeNode entry_link w.now (Some i)) }
     ensures listed { IfSome (ptr_slot result) (λ i. IsListed entry_link w.now (Some i)) }
 {
@@ -233,16 +233,16 @@ pub fn peek<T, J: Deferred>(
 
 /// How many entries aren't deleted.
 pub fn len<T, J: Deferred>(w: &World<LinkedEntry<T>, J>, queue: &Queue<T>) -> usize
-    requires { IsSomeQueue entry_link w.now (oldest_cell queue.now) (newest_cell queue.now) }
-    ensures { (es : List (Entry (LinkedEntry T))) → IsQueue entry_link w.now (oldest_cell queue.now) (newest_cell queue.now) es → result ≡ length (undeleted es) }
+    requires { SomeQueueIn w.now queue.now }
+    ensures { (es : _) → QueueIn w.now queue.now es → result ≡ length (undeleted es) }
 {
     chain::count(w, &queue.oldest)
 }
 
 /// Whether every entry is deleted.
 pub fn is_empty<T, J: Deferred>(w: &World<LinkedEntry<T>, J>, queue: &Queue<T>) -> bool
-    requires { IsSomeQueue entry_link w.now (oldest_cell queue.now) (newest_cell queue.now) }
-    ensures { (es : List (Entry (LinkedEntry T))) → IsQueue entry_link w.now (oldest_cell queue.now) (newest_cell queue.now) es → IsTrue result ↔ (undeleted es ≡ []) }
+    requires { SomeQueueIn w.now queue.now }
+    ensures { (es : _) → QueueIn w.now queue.now es → IsTrue result ↔ (undeleted es ≡ []) }
 {
     atomic_shared::is_null(w, chain::skip_from(w, &queue.oldest))
 }
@@ -250,9 +250,9 @@ pub fn is_empty<T, J: Deferred>(w: &World<LinkedEntry<T>, J>, queue: &Queue<T>) 
 /// Ends the queue: participant `p` gives all its entries back, and its two cells are free.
 pub fn retire<T, J: Deferred>(w: &mut World<LinkedEntry<T>, J>, queue: Queue<T>, p: usize)
     requires member { p < length w.old.members }
-    requires list { IsSomeQueue entry_link w.old (oldest_cell queue) (newest_cell queue) }
+    requires list { SomeQueueIn w.old queue }
     ensures ended { IsFreeCell w.new (oldest_cell queue) × IsFreeCell w.new (newest_cell queue) }
-    ensures leaves { (es : List (Entry (LinkedEntry T))) → IsQueue entry_link w.old (oldest_cell queue) (newest_cell queue) es → Leaves (oldest_cell queue ∷ newest_cell queue ∷ links es) (slots es) w.old w.new }
+    ensures leaves { OnlyQueue w.old w.new queue }
     ensures only { OnlyOf p w.old w.new }
     ensures stays { Stays w.old w.new }
 {
@@ -270,9 +270,9 @@ pub fn peek_with<T, J: Deferred, R, F: FnOnce(Option<&LinkedEntry<T>>) -> R>(
     queue: &Queue<T>,
     f: F,
 ) -> R
-    requires callable { (es : List (Entry (LinkedEntry T))) (o : _) → IsQueue entry_link w.now (oldest_cell queue.now) (newest_cell queue.now) es → option_copied o ≡ first_item (undeleted es) → F.pre f o }
-    requires list { IsSomeQueue entry_link w.now (oldest_cell queue.now) (newest_cell queue.now) }
-    ensures { (es : List (Entry (LinkedEntry T))) → IsQueue entry_link w.now (oldest_cell queue.now) (newest_cell queue.now) es → (o : _) × (option_copied o ≡ first_item (undeleted es)) × F.post f o result }
+    requires callable { CanAskFirst F.pre f (QueueIn w.now queue.now) }
+    requires list { SomeQueueIn w.now queue.now }
+    ensures { AskedFirst F.post f (QueueIn w.now queue.now) result }
 {
     f(chain::first_undeleted(w, &queue.oldest))
 }
@@ -285,16 +285,16 @@ pub fn push_if<T, J: Deferred, F: FnOnce(Option<&LinkedEntry<T>>) -> bool>(
     value: T,
     f: F,
 ) -> Result<Shared<LinkedEntry<T>>, PushRefused<T>>
-    requires callable { (es : List (Entry (LinkedEntry T))) (o : _) → IsQueue entry_link w.old (oldest_cell queue.now) (newest_cell queue.now) es → option_copied o ≡ first_item (undeleted es) → F.pre f o }
+    requires callable { CanAskFirst F.pre f (QueueIn w.old queue.now) }
     requires member { 0 < length w.old.members }
-    requires list { IsSomeQueue entry_link w.old (oldest_cell queue.now) (newest_cell queue.now) }
-    ensures asked { (es : List (Entry (LinkedEntry T))) → IsQueue entry_link w.old (oldest_cell queue.now) (newest_cell queue.now) es → (o : _) × (r : Bool) × (option_copied o ≡ first_item (undeleted es)) × F.post f o r × (IsErrAnd result IsCondition ↔ (r ≡ false)) }
-    ensures pushed { IfOk result (λ s. Appends w.old w.new value (oldest_cell queue.now) (newest_cell queue.now) (shared_slot s)) }
+    requires list { SomeQueueIn w.old queue.now }
+    ensures asked { (es : _) → QueueIn w.old queue.now es → (o : _) × (r : Bool) × (option_copied o ≡ first_item (undeleted es)) × F.post f o r × (IsErrAnd result IsCondition ↔ (r ≡ false)) }
+    ensures pushed { IfOk result (λ s. AppendsTo w.old w.new queue.now value s) }
     ensures back { IfErr result (λ e. (refused_value e ≡ value) × (w.new ≡ w.old)) }
-    ensures full { IfErr result (λ e. IsNoSlot e → NoneFree w.old ⊎ NoCellFree w.old) }
+    ensures full { IfErr result (λ e. IsNoSlot e → NoRoom w.old) }
     ensures live { IfOk result (λ s. IsShared w.new (shared_slot s)) }
-    ensures list { IsSomeQueue entry_link w.new (oldest_cell queue.now) (newest_cell queue.now) }
-    ensures leaves { (es : List (Entry (LinkedEntry T))) → IsQueue entry_link w.old (oldest_cell queue.now) (newest_cell queue.now) es → Leaves (oldest_cell queue.now ∷ newest_cell queue.now ∷ links es) (slots es) w.old w.new }
+    ensures list { SomeQueueIn w.new queue.now }
+    ensures leaves { OnlyQueue w.old w.new queue.now }
     ensures only { OnlyOf 0 w.old w.new }
     ensures stays { Stays w.old w.new }
 {
@@ -309,8 +309,8 @@ pub fn push_if<T, J: Deferred, F: FnOnce(Option<&LinkedEntry<T>>) -> bool>(
 
 /// A walk along its entries that aren't deleted, the oldest first.
 pub fn iter<T, J: Deferred>(_w: &World<LinkedEntry<T>, J>, queue: &Queue<T>) -> Iter<T>
-    requires { IsSomeQueue entry_link _w.now (oldest_cell queue.now) (newest_cell queue.now) }
-    ensures starts { (es : List (Entry (LinkedEntry T))) → IsQueue entry_link _w.now (oldest_cell queue.now) (newest_cell queue.now) es → IsHung entry_link _w.now (iter_cell result) Tag.None es }
+    requires { SomeQueueIn _w.now queue.now }
+    ensures starts { (es : _) → QueueIn _w.now queue.now es → IsHung entry_link _w.now (iter_cell result) Tag.None es }
     ensures hangs { Hangs entry_link _w.now (iter_cell result) }
 {
     Iter {
@@ -327,12 +327,12 @@ fn share_oldest<T, J: Deferred>(
 ) -> Option<Shared<LinkedEntry<T>>>
     requires member { p < length w.old.members }
     requires list { HasOldest entry_link w.old (oldest_cell queue.now) (newest_cell queue.now) }
-    ensures kept { (es : List (Entry (LinkedEntry T))) → IsQueue entry_link w.old (oldest_cell queue.now) (newest_cell queue.now) es → undeleted es ≢ [] → IsQueue entry_link w.new (oldest_cell queue.now) (newest_cell queue.now) (skip es) }
-    ensures some { IfSome result (λ s. (es : List (Entry (LinkedEntry T))) → IsQueue entry_link w.old (oldest_cell queue.now) (newest_cell queue.now) es → Some (shared_slot s) ≡ first_slot (undeleted es)) }
+    ensures kept { (es : _) → QueueIn w.old queue.now es → undeleted es ≢ [] → QueueIn w.new queue.now (skip es) }
+    ensures some { IfSome result (λ s. (es : _) → QueueIn w.old queue.now es → Some (shared_slot s) ≡ first_slot (undeleted es)) }
     ensures owner { IfSome result (λ s. IsShared w.new (shared_slot s)) }
-    ensures spare { IfSome result (λ s. (p : ℕ) (es : List (Entry (LinkedEntry T))) → IsQueue entry_link w.old (oldest_cell queue.now) (newest_cell queue.now) es → undeleted es ≢ [] → IsQueue entry_link (released p (shared_slot s) w.new) (oldest_cell queue.now) (newest_cell queue.now) (skip es)) }
-    ensures none { IfNone result ((es : List (Entry (LinkedEntry T))) → IsQueue entry_link w.old (oldest_cell queue.now) (newest_cell queue.now) es → IfSome (first_slot (undeleted es)) (λ i. status_at w.old i ≡ Status.Shared 4294967295)) }
-    ensures leaves { (es : List (Entry (LinkedEntry T))) → IsQueue entry_link w.old (oldest_cell queue.now) (newest_cell queue.now) es → Leaves (oldest_cell queue.now ∷ links es) (slots es) w.old w.new }
+    ensures spare { IfSome result (λ s. (p : ℕ) (es : _) → QueueIn w.old queue.now es → undeleted es ≢ [] → QueueIn (released p (shared_slot s) w.new) queue.now (skip es)) }
+    ensures none { IfNone result ((es : _) → QueueIn w.old queue.now es → FirstIsFull w.old es) }
+    ensures leaves { (es : _) → QueueIn w.old queue.now es → Leaves (oldest_cell queue.now ∷ links es) (slots es) w.old w.new }
     ensures only { OnlyOf p w.old w.new }
     ensures stays { Stays w.old w.new }
 {
@@ -354,17 +354,17 @@ pub fn pop_if<T, J: Deferred, F: FnOnce(&LinkedEntry<T>) -> bool + Drop>(
 ) -> Result<Option<Shared<LinkedEntry<T>>>, Shared<LinkedEntry<T>>>
     requires callable { F.IsAlwaysCallable f }
     requires member { p < length w.old.members }
-    requires list { IsSomeQueue entry_link w.old (oldest_cell queue.now) (newest_cell queue.now) }
-    ensures asked { (es : List (Entry (LinkedEntry T))) → IsQueue entry_link w.old (oldest_cell queue.now) (newest_cell queue.now) es → IfSome (first_item (undeleted es)) (λ v. FnOnceReturnsAt F.FnOnce f v (taken result)) }
-    ensures popped { (es : List (Entry (LinkedEntry T))) → IsQueue entry_link w.old (oldest_cell queue.now) (newest_cell queue.now) es → IfOk result (λ r. IfSome r (λ s. Takes w.new (oldest_cell queue.now) (newest_cell queue.now) (shared_slot s) es)) }
+    requires list { SomeQueueIn w.old queue.now }
+    ensures asked { (es : _) → QueueIn w.old queue.now es → IfSome (first_item (undeleted es)) (λ v. FnOnceReturnsAt F.FnOnce f v (taken result)) }
+    ensures popped { (es : _) → QueueIn w.old queue.now es → IfOk result (λ r. IfSome r (λ s. TakesFrom w.new queue.now s es)) }
     ensures live { IfOk result (λ r. IfSome r (λ s. IsShared w.new (shared_slot s))) }
     ensures owner { IfErr result (λ s. IsShared w.new (shared_slot s)) }
-    ensures spare { IfErr result (λ s. (p : ℕ) (es : List (Entry (LinkedEntry T))) → IsQueue entry_link w.old (oldest_cell queue.now) (newest_cell queue.now) es → KeepsQueue entry_link (released p (shared_slot s) w.new) (oldest_cell queue.now) (newest_cell queue.now) es) }
-    ensures kept { taken result ≡ false → (es : List (Entry (LinkedEntry T))) → IsQueue entry_link w.old (oldest_cell queue.now) (newest_cell queue.now) es → KeepsQueue entry_link w.new (oldest_cell queue.now) (newest_cell queue.now) es }
-    ensures refused { IfErr result (λ s. (es : List (Entry (LinkedEntry T))) → IsQueue entry_link w.old (oldest_cell queue.now) (newest_cell queue.now) es → Some (shared_slot s) ≡ first_slot (undeleted es)) }
-    ensures full { (es : List (Entry (LinkedEntry T))) → IsQueue entry_link w.old (oldest_cell queue.now) (newest_cell queue.now) es → IfOk result (λ r. IfNone r (IfSome (first_slot (undeleted es)) (λ i. status_at w.old i ≡ Status.Shared 4294967295))) }
-    ensures list { IsSomeQueue entry_link w.new (oldest_cell queue.now) (newest_cell queue.now) }
-    ensures leaves { (es : List (Entry (LinkedEntry T))) → IsQueue entry_link w.old (oldest_cell queue.now) (newest_cell queue.now) es → Leaves (oldest_cell queue.now ∷ newest_cell queue.now ∷ links es) (slots es) w.old w.new }
+    ensures spare { IfErr result (λ s. (p : ℕ) (es : _) → QueueIn w.old queue.now es → KeepsEntries (released p (shared_slot s) w.new) queue.now es) }
+    ensures kept { taken result ≡ false → (es : _) → QueueIn w.old queue.now es → KeepsEntries w.new queue.now es }
+    ensures refused { IfErr result (λ s. (es : _) → QueueIn w.old queue.now es → Some (shared_slot s) ≡ first_slot (undeleted es)) }
+    ensures full { (es : _) → QueueIn w.old queue.now es → IfOk result (λ r. IfNone r (FirstIsFull w.old es)) }
+    ensures list { SomeQueueIn w.new queue.now }
+    ensures leaves { OnlyQueue w.old w.new queue.now }
     ensures only { OnlyOf p w.old w.new }
     ensures stays { Stays w.old w.new }
 {

@@ -1,7 +1,7 @@
 //! Stacks over a `World`: the newest entry comes first.
 
-ghost use Rattle.std.specs.Prelude.{◌≤◌, ◌≡◌, ◌<◌, ◌⊎◌, ◌↔◌, ℕ, List, [], ◌∷◌, length, IfOk, IfErr, OnErr, OnOk, None, Some, IfSome, IfNone, ◌++◌, reverse, MatchOption, IsTrue, IsErrAnd, Bool, false};
-ghost use Rattle.sdd_base.specs.State.{cell_at, status_at, IsFreeCell, NoneFree, NoCellFree};
+ghost use Rattle.std.specs.Prelude.{◌≤◌, ◌≡◌, ◌<◌, ◌↔◌, ℕ, [], ◌∷◌, length, IfOk, IfErr, OnErr, OnOk, None, Some, IfSome, IfNone, reverse, MatchOption, IsTrue, IsErrAnd, Bool, false};
+ghost use Rattle.sdd_base.specs.State.{cell_at, IsFreeCell, NoCellFree};
 ghost use Rattle.sdd_base.specs.Frame.{OnlyOf};
 ghost use Rattle.sdd_base.specs.Place.{IsShared};
 ghost use Rattle.sdd_base.specs.Steps.{released};
@@ -9,15 +9,15 @@ ghost use Rattle.sdd_base.specs.Tokens.{link_cell, shared_slot, ptr_slot, ptr_ta
 ghost use Rattle.sdd.specs.Nodes.{IsSomeNode, IsListed};
 ghost use Rattle.std.specs.Option.{option_copied};
 ghost use Rattle.std.specs.Fn.{FnOnceReturnsAt};
-ghost use Rattle.sdd.specs.Chain.{Entry, Hangs, IsHung, Leaves, Stays, undeleted, first_item, first_slot, front_tag, skip, links, slots};
+ghost use Rattle.sdd.specs.Chain.{Hangs, IsHung, Leaves, Stays, undeleted, first_item, first_slot, front_tag, skip};
 ghost use Rattle.sdd.specs.Entries.{entry_link};
 ghost use Rattle.sdd.specs.Iters.{iter_cell};
-ghost use Rattle.std.specs.Iterator.{Drains, YieldsThen, IsFiniteIterable};
+ghost use Rattle.std.specs.Iterator.{IsFiniteIterable};
 ghost use Rattle.sdd.specs.Copies.{ClonesAreSame};
 ghost use Rattle.sdd.specs.Fillings.{entry_values, ExtendsLast, FillsStack, IfUnmade, IfNoSlot, IfUncopied, IfPartly};
 ghost use Rattle.sdd.specs.Refusals.{refused_value, IsCondition, IsNoSlot};
-ghost use Rattle.sdd.specs.Stacks.{stack_cell, taken, IsStack, IsSomeStack, Pushes, Pops};
-ghost use Rattle.sdd.specs.declared.linked_entry.LinkedEntry.{LinkedEntry};
+ghost use Rattle.sdd.specs.Stacks.{stack_cell, taken, IsSomeStack, Pushes};
+ghost use Rattle.sdd.specs.Calls.{AskedFirst, CanAskFirst, CopiesUpTo, FirstIsFull, GivesAll, GivesUpTo, NoRoom, OnlyStack, PopsFrom, StackIn};
 
 use crate::iter::Iter;
 use crate::linked_entry::LinkedEntry;
@@ -38,7 +38,7 @@ use sdd_base::world::{World, atomic_shared};
 /// An empty stack, exactly if a cell is free.
 pub fn new<T, J: Deferred>(w: &mut World<LinkedEntry<T>, J>) -> Result<Stack<T>, NoSlot>
     requires { 0 ≤ length w.old.cells }
-    ensures made { IfOk result (λ s. IsStack w.new (stack_cell s) []) }
+    ensures made { IfOk result (λ s. StackIn w.new s []) }
     ensures fresh { IfOk result (λ s. IsFreeCell w.old (stack_cell s)) }
     ensures list { IfOk result (λ s. IsSomeStack w.new (stack_cell s)) }
     ensures refused { OnErr result ((w.new ≡ w.old) × NoCellFree w.old) }
@@ -61,7 +61,7 @@ pub fn push<T, J: Deferred>(
 ) -> Result<Shared<LinkedEntry<T>>, T>
     requires { IsSomeStack w.old (stack_cell stack.now) }
     ensures pushed { IfOk result (λ s. Pushes w.old w.new value (stack_cell stack.now) (shared_slot s)) }
-    ensures refused { IfErr result (λ v. (v ≡ value) × (w.new ≡ w.old) × (NoneFree w.old ⊎ NoCellFree w.old)) }
+    ensures refused { IfErr result (λ v. (v ≡ value) × (w.new ≡ w.old) × NoRoom w.old) }
     ensures live { IfOk result (λ s. IsShared w.new (shared_slot s)) }
     ensures list { IsSomeStack w.new (stack_cell stack.now) }
     ensures leaves { Leaves (stack_cell stack.now ∷ []) [] w.old w.new }
@@ -86,7 +86,7 @@ fn add_last<T, J: Deferred>(
 ) -> Result<(), T>
     requires { cell_at w.old (link_cell end.old) ≡ Cell.OfShared None Tag.None }
     ensures added { OnOk result (MatchOption value ((w.new ≡ w.old) × (link_cell end.new ≡ link_cell end.old)) (λ v. ExtendsLast w.old w.new v (link_cell end.old) (link_cell end.new))) }
-    ensures refused { IfErr result (λ v. (value ≡ Some v) × (w.new ≡ w.old) × (NoneFree w.old ⊎ NoCellFree w.old)) }
+    ensures refused { IfErr result (λ v. (value ≡ Some v) × (w.new ≡ w.old) × NoRoom w.old) }
     ensures leaves { Leaves (link_cell end.old ∷ []) [] w.old w.new }
     ensures members { w.new.members ≡ w.old.members }
     ensures stays { Stays w.old w.new }
@@ -113,8 +113,8 @@ pub fn from_iter<T, J: Deferred, I: IntoIterator<Item = T>>(
     values: I,
 ) -> Result<Stack<T>, FromIterRefused<Stack<T>, T, I>>
     requires { IsFiniteIterable I.into_iter_gives I.IntoIter.can_next I.IntoIter.remaining values }
-    ensures filled { IfOk result (λ s. (it : I.IntoIter) × (vs : List T) × I.into_iter_gives values it × Drains I.IntoIter.next_gives it vs × FillsStack w.old w.new (stack_cell s) (reverse vs)) }
-    ensures partly { IfErr result (λ e. IfNoSlot e (λ s v. (it : I.IntoIter) × (vs : List T) × (rest : I.IntoIter) × I.into_iter_gives values it × YieldsThen I.IntoIter.next_gives it vs (Some v) rest × FillsStack w.old w.new (stack_cell s) (reverse vs) × (NoneFree w.new ⊎ NoCellFree w.new))) }
+    ensures filled { IfOk result (λ s. GivesAll I.into_iter_gives I.IntoIter.next_gives values (λ vs. FillsStack w.old w.new (stack_cell s) (reverse vs))) }
+    ensures partly { IfErr result (λ e. IfNoSlot e (λ s v. GivesUpTo I.into_iter_gives I.IntoIter.next_gives values v (λ vs. FillsStack w.old w.new (stack_cell s) (reverse vs) × NoRoom w.new))) }
     ensures none { IfErr result (λ e. IfUnmade e (λ r back. (r ≡ NotMade.NoSlot) × (back ≡ values) × (w.new ≡ w.old) × NoCellFree w.old)) }
     ensures list { IfOk result (λ s. IsSomeStack w.new (stack_cell s)) }
     ensures built { IfErr result (λ e. IfNoSlot e (λ s _. IsSomeStack w.new (stack_cell s))) }
@@ -144,10 +144,10 @@ pub fn clone<T: Clone, J: Deferred>(
 ) -> Result<Stack<T>, CloneRefused<Stack<T>>>
     requires clones { ClonesAreSame T.is_clone }
     requires list { IsSomeStack w.old (stack_cell stack.now) }
-    ensures cloned { (es : List (Entry (LinkedEntry T))) → IsStack w.old (stack_cell stack.now) es → IfOk result (λ s. FillsStack w.old w.new (stack_cell s) (entry_values (undeleted es))) }
-    ensures partly { (es : List (Entry (LinkedEntry T))) → IsStack w.old (stack_cell stack.now) es → IfErr result (λ e. IfPartly e (λ s r. (vs : List T) × (v : T) × (more : List T) × (entry_values (undeleted es) ≡ vs ++ v ∷ more) × FillsStack w.old w.new (stack_cell s) vs × (r ≡ NotMade.NoSlot → NoneFree w.new ⊎ NoCellFree w.new) × (r ≡ NotMade.Memory → ¬ T.is_infallible v))) }
+    ensures cloned { (es : _) → StackIn w.old stack.now es → IfOk result (λ s. FillsStack w.old w.new (stack_cell s) (entry_values (undeleted es))) }
+    ensures partly { (es : _) → StackIn w.old stack.now es → IfErr result (λ e. IfPartly e (λ s r. CopiesUpTo T.is_infallible (entry_values (undeleted es)) r (NoRoom w.new) (FillsStack w.old w.new (stack_cell s)))) }
     ensures none { IfErr result (λ e. IfUncopied e (λ r. (r ≡ NotMade.NoSlot) × (w.new ≡ w.old) × NoCellFree w.old)) }
-    ensures kept { (es : List (Entry (LinkedEntry T))) → IsStack w.old (stack_cell stack.now) es → IsStack w.new (stack_cell stack.now) es }
+    ensures kept { (es : _) → StackIn w.old stack.now es → StackIn w.new stack.now es }
     ensures list { IfOk result (λ s. IsSomeStack w.new (stack_cell s)) }
     ensures built { IfErr result (λ e. IfPartly e (λ s _. IsSomeStack w.new (stack_cell s))) }
     ensures leaves { Leaves [] [] w.old w.new }
@@ -186,10 +186,10 @@ pub fn pop<T, J: Deferred>(
 ) -> Option<Shared<LinkedEntry<T>>>
     requires member { p < length w.old.members }
     requires list { IsSomeStack w.old (stack_cell stack.now) }
-    ensures popped { (es : List (Entry (LinkedEntry T))) → IsStack w.old (stack_cell stack.now) es → MatchOption result ((undeleted es ≡ []) × IsStack w.new (stack_cell stack.now) []) (λ s. Pops w.new (stack_cell stack.now) (shared_slot s) es) }
+    ensures popped { (es : _) → StackIn w.old stack.now es → MatchOption result ((undeleted es ≡ []) × StackIn w.new stack.now []) (λ s. PopsFrom w.new stack.now s es) }
     ensures live { IfSome result (λ s. IsShared w.new (shared_slot s)) }
     ensures list { IsSomeStack w.new (stack_cell stack.now) }
-    ensures leaves { (es : List (Entry (LinkedEntry T))) → IsStack w.old (stack_cell stack.now) es → Leaves (stack_cell stack.now ∷ links es) (slots es) w.old w.new }
+    ensures leaves { OnlyStack w.old w.new stack.now }
     ensures only { OnlyOf p w.old w.new }
     ensures stays { Stays w.old w.new }
 {
@@ -210,8 +210,8 @@ pub fn peek<T, J: Deferred>(
     guard: &WorldGuard,
 ) -> Ptr<'static, LinkedEntry<T>>
     requires { IsSomeStack w.now (stack_cell stack.now) }
-    ensures first { (es : List (Entry (LinkedEntry T))) → IsStack w.now (stack_cell stack.now) es → ptr_slot result ≡ first_slot (undeleted es) }
-    ensures tag { (es : List (Entry (LinkedEntry T))) → IsStack w.now (stack_cell stack.now) es → ptr_tag result ≡ front_tag Tag.None es }
+    ensures first { (es : _) → StackIn w.now stack.now es → ptr_slot result ≡ first_slot (undeleted es) }
+    ensures tag { (es : _) → StackIn w.now stack.now es → ptr_tag result ≡ front_tag Tag.None es }
     ensures node { IfSome (ptr_slot result) (λ i. IsSomeNode entry_link w.now (Some i)) }
     ensures listed { IfSome (ptr_slot result) (λ i. IsListed entry_link w.now (Some i)) }
 {
@@ -221,7 +221,7 @@ pub fn peek<T, J: Deferred>(
 /// How many entries aren't deleted.
 pub fn len<T, J: Deferred>(w: &World<LinkedEntry<T>, J>, stack: &Stack<T>) -> usize
     requires { IsSomeStack w.now (stack_cell stack.now) }
-    ensures { (es : List (Entry (LinkedEntry T))) → IsStack w.now (stack_cell stack.now) es → result ≡ length (undeleted es) }
+    ensures { (es : _) → StackIn w.now stack.now es → result ≡ length (undeleted es) }
 {
     chain::count(w, &stack.newest)
 }
@@ -229,7 +229,7 @@ pub fn len<T, J: Deferred>(w: &World<LinkedEntry<T>, J>, stack: &Stack<T>) -> us
 /// Whether every entry is deleted.
 pub fn is_empty<T, J: Deferred>(w: &World<LinkedEntry<T>, J>, stack: &Stack<T>) -> bool
     requires { IsSomeStack w.now (stack_cell stack.now) }
-    ensures { (es : List (Entry (LinkedEntry T))) → IsStack w.now (stack_cell stack.now) es → IsTrue result ↔ (undeleted es ≡ []) }
+    ensures { (es : _) → StackIn w.now stack.now es → IsTrue result ↔ (undeleted es ≡ []) }
 {
     atomic_shared::is_null(w, chain::skip_from(w, &stack.newest))
 }
@@ -241,8 +241,8 @@ pub fn pop_all<T, J: Deferred>(
     _p: usize,
 ) -> Result<Stack<T>, NoSlot>
     requires { IsSomeStack w.old (stack_cell stack.now) }
-    ensures moved { IfOk result (λ s. (es : List (Entry (LinkedEntry T))) → IsStack w.old (stack_cell stack.now) es → IsStack w.new (stack_cell s) es) }
-    ensures emptied { OnOk result (IsStack w.new (stack_cell stack.now) []) }
+    ensures moved { IfOk result (λ s. (es : _) → StackIn w.old stack.now es → StackIn w.new s es) }
+    ensures emptied { OnOk result (StackIn w.new stack.now []) }
     ensures fresh { IfOk result (λ s. IsFreeCell w.old (stack_cell s)) }
     ensures refused { OnErr result ((w.new ≡ w.old) × NoCellFree w.old) }
     ensures list { IsSomeStack w.new (stack_cell stack.now) }
@@ -266,7 +266,7 @@ pub fn retire<T, J: Deferred>(w: &mut World<LinkedEntry<T>, J>, stack: Stack<T>,
     requires member { p < length w.old.members }
     requires list { IsSomeStack w.old (stack_cell stack) }
     ensures ended { IsFreeCell w.new (stack_cell stack) }
-    ensures leaves { (es : List (Entry (LinkedEntry T))) → IsStack w.old (stack_cell stack) es → Leaves (stack_cell stack ∷ links es) (slots es) w.old w.new }
+    ensures leaves { OnlyStack w.old w.new stack }
     ensures only { OnlyOf p w.old w.new }
     ensures stays { Stays w.old w.new }
 {
@@ -282,9 +282,9 @@ pub fn peek_with<T, J: Deferred, R, F: FnOnce(Option<&LinkedEntry<T>>) -> R>(
     stack: &Stack<T>,
     f: F,
 ) -> R
-    requires callable { (es : List (Entry (LinkedEntry T))) (o : _) → IsStack w.now (stack_cell stack.now) es → option_copied o ≡ first_item (undeleted es) → F.pre f o }
+    requires callable { CanAskFirst F.pre f (StackIn w.now stack.now) }
     requires list { IsSomeStack w.now (stack_cell stack.now) }
-    ensures { (es : List (Entry (LinkedEntry T))) → IsStack w.now (stack_cell stack.now) es → (o : _) × (option_copied o ≡ first_item (undeleted es)) × F.post f o result }
+    ensures { AskedFirst F.post f (StackIn w.now stack.now) result }
 {
     f(chain::first_undeleted(w, &stack.newest))
 }
@@ -297,12 +297,12 @@ pub fn push_if<T, J: Deferred, F: FnOnce(Option<&LinkedEntry<T>>) -> bool>(
     value: T,
     f: F,
 ) -> Result<Shared<LinkedEntry<T>>, PushRefused<T>>
-    requires callable { (es : List (Entry (LinkedEntry T))) (o : _) → IsStack w.old (stack_cell stack.now) es → option_copied o ≡ first_item (undeleted es) → F.pre f o }
+    requires callable { CanAskFirst F.pre f (StackIn w.old stack.now) }
     requires list { IsSomeStack w.old (stack_cell stack.now) }
-    ensures asked { (es : List (Entry (LinkedEntry T))) → IsStack w.old (stack_cell stack.now) es → (o : _) × (r : Bool) × (option_copied o ≡ first_item (undeleted es)) × F.post f o r × (IsErrAnd result IsCondition ↔ (r ≡ false)) }
+    ensures asked { (es : _) → StackIn w.old stack.now es → (o : _) × (r : Bool) × (option_copied o ≡ first_item (undeleted es)) × F.post f o r × (IsErrAnd result IsCondition ↔ (r ≡ false)) }
     ensures pushed { IfOk result (λ s. Pushes w.old w.new value (stack_cell stack.now) (shared_slot s)) }
     ensures back { IfErr result (λ e. (refused_value e ≡ value) × (w.new ≡ w.old)) }
-    ensures full { IfErr result (λ e. IsNoSlot e → NoneFree w.old ⊎ NoCellFree w.old) }
+    ensures full { IfErr result (λ e. IsNoSlot e → NoRoom w.old) }
     ensures live { IfOk result (λ s. IsShared w.new (shared_slot s)) }
     ensures list { IsSomeStack w.new (stack_cell stack.now) }
     ensures leaves { Leaves (stack_cell stack.now ∷ []) [] w.old w.new }
@@ -330,16 +330,16 @@ pub fn pop_if<T, J: Deferred, F: FnOnce(&LinkedEntry<T>) -> bool + Drop>(
     requires callable { F.IsAlwaysCallable f }
     requires member { p < length w.old.members }
     requires list { IsSomeStack w.old (stack_cell stack.now) }
-    ensures asked { (es : List (Entry (LinkedEntry T))) → IsStack w.old (stack_cell stack.now) es → IfSome (first_item (undeleted es)) (λ v. FnOnceReturnsAt F.FnOnce f v (taken result)) }
-    ensures popped { (es : List (Entry (LinkedEntry T))) → IsStack w.old (stack_cell stack.now) es → IfOk result (λ r. IfSome r (λ s. Pops w.new (stack_cell stack.now) (shared_slot s) es)) }
-    ensures kept { taken result ≡ false → (es : List (Entry (LinkedEntry T))) → IsStack w.old (stack_cell stack.now) es → IsStack w.new (stack_cell stack.now) (skip es) }
+    ensures asked { (es : _) → StackIn w.old stack.now es → IfSome (first_item (undeleted es)) (λ v. FnOnceReturnsAt F.FnOnce f v (taken result)) }
+    ensures popped { (es : _) → StackIn w.old stack.now es → IfOk result (λ r. IfSome r (λ s. PopsFrom w.new stack.now s es)) }
+    ensures kept { taken result ≡ false → (es : _) → StackIn w.old stack.now es → StackIn w.new stack.now (skip es) }
     ensures live { IfOk result (λ r. IfSome r (λ s. IsShared w.new (shared_slot s))) }
     ensures owner { IfErr result (λ s. IsShared w.new (shared_slot s)) }
-    ensures spare { IfErr result (λ s. (p : ℕ) (es : List (Entry (LinkedEntry T))) → IsStack w.old (stack_cell stack.now) es → IsStack (released p (shared_slot s) w.new) (stack_cell stack.now) (skip es)) }
-    ensures refused { IfErr result (λ s. (es : List (Entry (LinkedEntry T))) → IsStack w.old (stack_cell stack.now) es → Some (shared_slot s) ≡ first_slot (undeleted es)) }
-    ensures full { (es : List (Entry (LinkedEntry T))) → IsStack w.old (stack_cell stack.now) es → IfOk result (λ r. IfNone r (IfSome (first_slot (undeleted es)) (λ i. status_at w.old i ≡ Status.Shared 4294967295))) }
+    ensures spare { IfErr result (λ s. (p : ℕ) (es : _) → StackIn w.old stack.now es → StackIn (released p (shared_slot s) w.new) stack.now (skip es)) }
+    ensures refused { IfErr result (λ s. (es : _) → StackIn w.old stack.now es → Some (shared_slot s) ≡ first_slot (undeleted es)) }
+    ensures full { (es : _) → StackIn w.old stack.now es → IfOk result (λ r. IfNone r (FirstIsFull w.old es)) }
     ensures list { IsSomeStack w.new (stack_cell stack.now) }
-    ensures leaves { (es : List (Entry (LinkedEntry T))) → IsStack w.old (stack_cell stack.now) es → Leaves (stack_cell stack.now ∷ links es) (slots es) w.old w.new }
+    ensures leaves { OnlyStack w.old w.new stack.now }
     ensures only { OnlyOf p w.old w.new }
     ensures stays { Stays w.old w.new }
 {
@@ -362,7 +362,7 @@ pub fn pop_if<T, J: Deferred, F: FnOnce(&LinkedEntry<T>) -> bool + Drop>(
 /// A walk along its entries that aren't deleted, the newest first.
 pub fn iter<T, J: Deferred>(_w: &World<LinkedEntry<T>, J>, stack: &Stack<T>) -> Iter<T>
     requires { IsSomeStack _w.now (stack_cell stack.now) }
-    ensures starts { (es : List (Entry (LinkedEntry T))) → IsStack _w.now (stack_cell stack.now) es → IsHung entry_link _w.now (iter_cell result) Tag.None es }
+    ensures starts { (es : _) → StackIn _w.now stack.now es → IsHung entry_link _w.now (iter_cell result) Tag.None es }
     ensures hangs { Hangs entry_link _w.now (iter_cell result) }
 {
     Iter {

@@ -1,0 +1,128 @@
+-- what calls say of a container, in a line each
+use Rattle.std.specs.Prelude.{◌≡◌, ℕ, ◌⊎◌, ◌++◌, Option, None, Some, IfSome, List, [], ◌∷◌, option_copied}
+use Rattle.std.specs.Borrow.{Bor}
+use Rattle.std.specs.Iterator.{Drains, YieldsThen}
+use Rattle.sdd_base.specs.State.{State, IsFreeCell, NoneFree, NoCellFree, status_at, with_cell}
+use Rattle.sdd_base.specs.Tokens.{shared_cell, shared_slot}
+use Rattle.sdd_base.specs.declared.cell.AtomicShared.{AtomicShared}
+use Rattle.sdd_base.specs.declared.owner.Shared.{Shared}
+use Rattle.sdd_base.specs.declared.status.Cell.TheVariants as cell
+use Rattle.sdd_base.specs.declared.status.Status.TheVariants as status
+use Rattle.sdd_base.specs.declared.tag.Tag.{Tag}
+use Rattle.sdd_base.specs.declared.tag.Tag.TheVariants as tag
+use Rattle.sdd.specs.Bags.{IsBag, IsSomeBag, bag_cells}
+use Rattle.sdd.specs.Chain.{Entry, IsHung, IsLoose, Leaves, first_item, first_slot, links, slots, undeleted}
+use Rattle.sdd.specs.Entries.{entry_link, entry_value}
+use Rattle.sdd.specs.Nodes.{IsApart, IsNode}
+use Rattle.sdd.specs.Queues.{Appends, IsQueue, IsSomeQueue, KeepsQueue, Takes, newest_cell, oldest_cell}
+use Rattle.sdd.specs.Stacks.{IsStack, Pops, stack_cell}
+use Rattle.sdd.specs.declared.bag.Bag.{Bag}
+use Rattle.sdd.specs.declared.linked_entry.LinkedEntry.{LinkedEntry}
+use Rattle.sdd.specs.declared.queue.Queue.{Queue}
+use Rattle.sdd.specs.declared.refusal.NotMade.{NotMade}
+use Rattle.sdd.specs.declared.refusal.NotMade.TheVariants as causes
+use Rattle.sdd.specs.declared.stack.Stack.{Stack}
+
+-- no entry can be made: no slot is free, or no cell is
+abbrev pub NoRoom : {L : Type 0} → State L → Type 0
+NoRoom w = NoneFree w ⊎ NoCellFree w
+
+-- no two cells are free
+abbrev pub NoTwoCells : {L : Type 0} → State L → Type 0
+NoTwoCells w = (c : ℕ) (d : ℕ) → IsFreeCell w c → IsFreeCell w d → c ≡ d
+
+module _ {T : Type 0} where
+  -- the entries of a stack
+  abbrev pub StackIn : State (LinkedEntry T) → Stack T → List (Entry (LinkedEntry T)) → Type 0
+  StackIn w s es = IsStack w (stack_cell s) es
+
+  -- of what is in use, at most this stack changes: its cell, its links and its entries
+  abbrev pub OnlyStack : State (LinkedEntry T) → State (LinkedEntry T) → Stack T → Type 0
+  OnlyStack w w' s = (es : List (Entry (LinkedEntry T))) → StackIn w s es → Leaves (stack_cell s ∷ links es) (slots es) w w'
+
+  -- the entries of a queue
+  abbrev pub QueueIn : State (LinkedEntry T) → Queue T → List (Entry (LinkedEntry T)) → Type 0
+  QueueIn w q es = IsQueue entry_link w (oldest_cell q) (newest_cell q) es
+
+  abbrev pub SomeQueueIn : State (LinkedEntry T) → Queue T → Type 0
+  SomeQueueIn w q = IsSomeQueue entry_link w (oldest_cell q) (newest_cell q)
+
+  -- the queue has the same undeleted entries
+  abbrev pub KeepsEntries : State (LinkedEntry T) → Queue T → List (Entry (LinkedEntry T)) → Type 0
+  KeepsEntries w q es = KeepsQueue entry_link w (oldest_cell q) (newest_cell q) es
+
+  -- of what is in use, at most this queue changes: its cells, its links and its entries
+  abbrev pub OnlyQueue : State (LinkedEntry T) → State (LinkedEntry T) → Queue T → Type 0
+  OnlyQueue w w' q = (es : List (Entry (LinkedEntry T))) → QueueIn w q es → Leaves (oldest_cell q ∷ newest_cell q ∷ links es) (slots es) w w'
+
+  -- the entries of a bag, those of the primary and those of the overflow
+  abbrev pub BagIn : {n : ℕ} → State (LinkedEntry T) → Bag T n → List (Entry (LinkedEntry T)) → List (Entry (LinkedEntry T)) → Type 0
+  BagIn {n} w b ps os = IsBag n w (bag_cells b) ps os
+
+  abbrev pub SomeBagIn : {n : ℕ} → State (LinkedEntry T) → Bag T n → Type 0
+  SomeBagIn {n} w b = IsSomeBag n w (bag_cells b)
+
+  -- the first undeleted entry has as many owners as there can be
+  abbrev pub FirstIsFull : State (LinkedEntry T) → List (Entry (LinkedEntry T)) → Type 0
+  FirstIsFull w es = IfSome (first_slot (undeleted es)) (λ i. status_at w i ≡ status.Shared 4294967295)
+
+  -- a function may be called at the first undeleted entry, or none, of a container
+  abbrev pub CanAskFirst : {F : Type 0} → (F → Option (Bor (LinkedEntry T)) → Type 0) → F → (List (Entry (LinkedEntry T)) → Type 0) → Type 0
+  CanAskFirst pre f is = (es : List (Entry (LinkedEntry T))) (o : Option (Bor (LinkedEntry T))) → is es → option_copied o ≡ first_item (undeleted es) → pre f o
+
+  -- what it returned there
+  abbrev pub AskedFirst : {F R : Type 0} → (F → Option (Bor (LinkedEntry T)) → R → Type 0) → F → (List (Entry (LinkedEntry T)) → Type 0) → R → Type 0
+  AskedFirst post f is r = (es : List (Entry (LinkedEntry T))) → is es → (o : Option (Bor (LinkedEntry T))) × (option_copied o ≡ first_item (undeleted es)) × post f o r
+
+  -- the values of a collection up to its end
+  abbrev pub GivesAll : {C It : Type 0} → (C → It → Type 0) → (It → Option T → It → Type 0) → C → (List T → Type 0) → Type 0
+  GivesAll {It = It} begins next values P = (it : It) × (vs : List T) × begins values it × Drains next it vs × P vs
+
+  -- and those before the value v
+  abbrev pub GivesUpTo : {C It : Type 0} → (C → It → Type 0) → (It → Option T → It → Type 0) → C → T → (List T → Type 0) → Type 0
+  GivesUpTo {It = It} begins next values v P = (it : It) × (vs : List T) × (rest : It) × begins values it × YieldsThen next it vs (Some v) rest × P vs
+
+  -- clones of the first values of a list, up to one that has no room or can't be cloned
+  abbrev pub CopiesUpTo : (T → Type 0) → List T → NotMade → Type 0 → (List T → Type 0) → Type 0
+  CopiesUpTo is_infallible values cause NoPlace P = (vs : List T) × (v : T) × (more : List T) × (values ≡ vs ++ v ∷ more) × P vs × (cause ≡ causes.NoSlot → NoPlace) × (cause ≡ causes.Memory → ¬ is_infallible v)
+
+  -- a new entry of the value was put behind a queue, and this is another owner of it
+  abbrev pub AppendsTo : State (LinkedEntry T) → State (LinkedEntry T) → Queue T → T → Shared (LinkedEntry T) → Type 0
+  AppendsTo w w' q value s = Appends w w' value (oldest_cell q) (newest_cell q) (shared_slot s)
+
+  -- the owner is that of the first undeleted entry, which was taken from a queue
+  abbrev pub TakesFrom : State (LinkedEntry T) → Queue T → Shared (LinkedEntry T) → List (Entry (LinkedEntry T)) → Type 0
+  TakesFrom w' q s es = Takes w' (oldest_cell q) (newest_cell q) (shared_slot s) es
+
+  -- the same of a stack
+  abbrev pub PopsFrom : State (LinkedEntry T) → Stack T → Shared (LinkedEntry T) → List (Entry (LinkedEntry T)) → Type 0
+  PopsFrom w' stack s es = Pops w' (stack_cell stack) (shared_slot s) es
+
+  -- of what is in use, at most the cells and links of a bag change
+  abbrev pub OnlyLinksOf : {n : ℕ} → State (LinkedEntry T) → State (LinkedEntry T) → Bag T n → Type 0
+  OnlyLinksOf w w' b = (ps : List (Entry (LinkedEntry T))) (os : List (Entry (LinkedEntry T))) → BagIn w b ps os → Leaves (bag_cells b ++ links (os ++ ps)) [] w w'
+
+  -- and its entries
+  abbrev pub OnlyBag : {n : ℕ} → State (LinkedEntry T) → State (LinkedEntry T) → Bag T n → Type 0
+  OnlyBag w w' b = (ps : List (Entry (LinkedEntry T))) (os : List (Entry (LinkedEntry T))) → BagIn w b ps os → Leaves (bag_cells b ++ links (os ++ ps)) (slots (os ++ ps)) w w'
+
+module _ {L : Type 0} where
+  -- whatever list hangs from a cell, with the tag there
+  abbrev pub OfList : (L → Option ℕ) → State L → AtomicShared L → (Tag → List (Entry L) → Type 0) → Type 0
+  OfList link w from P = (t : Tag) (es : List (Entry L)) → IsHung link w (shared_cell from) t es → P t es
+
+  -- of what is in use, at most a list changes: its cell, its links and its entries
+  abbrev pub OnlyList : (L → Option ℕ) → State L → State L → AtomicShared L → Type 0
+  OnlyList link w w' from = OfList link w from (λ t es. Leaves (shared_cell from ∷ links es) (slots es) w w')
+
+  -- whatever entry slot o names, and the list behind it
+  abbrev pub OfNode : (L → Option ℕ) → State L → Option ℕ → (Entry L → List (Entry L) → Type 0) → Type 0
+  OfNode link w o P = (e : Entry L) (es : List (Entry L)) → IsNode link w o e → IsHung link w e.link e.tag es → P e es
+
+  -- an entry x in no list, in slot i, that can come behind the one that slot o names
+  abbrev pub OfInsertion : (L → Option ℕ) → State L → Option ℕ → ℕ → (Entry L → Entry L → Type 0) → Type 0
+  OfInsertion link w o i P = (e : Entry L) (x : Entry L) (es : List (Entry L)) → IsNode link w o e → IsHung link w e.link e.tag es → IsLoose link w x → i ≡ x.slot → IsApart e.link es x → P e x
+
+-- an entry of the value was made, of a cell that was free
+abbrev pub MakesEntry : {T : Type 0} → State (LinkedEntry T) → State (LinkedEntry T) → LinkedEntry T → T → Type 0
+MakesEntry w w' e value = (c : ℕ) × IsFreeCell w c × (entry_value e ≡ value) × (entry_link e ≡ Some c) × (w' ≡ with_cell c (cell.OfShared None tag.None) w)
