@@ -141,6 +141,34 @@ pub(crate) fn give_shared<T: Holds, J: Deferred, R: Abort>(
     world::shared::release(w, shared, 0);
 }
 
+/// Gives one of the owners of an item back, by participant 0, and tells whether it was the last.
+pub(crate) fn was_last<T: Holds, J: Deferred, R: Abort>(
+    rt: &R,
+    w: &mut World<T, J>,
+    shared: Shared<T>,
+) -> bool {
+    if !world::shared::is_here(w, &shared) || w.participants() == 0 {
+        panic!(rt; "its item is there");
+    }
+    world::shared::release(w, shared, 0)
+}
+
+/// The value of an item.
+pub(crate) fn value_of<R: Abort>(rt: &R, w: &World<u64>, shared: &Shared<u64>) -> u64 {
+    if !world::shared::is_here(w, shared) {
+        panic!(rt; "its item is there");
+    }
+    *world::shared::as_ref(w, shared)
+}
+
+/// Opens and closes `n` accelerated guards of participant `p`, one by one, and tells how many slots are in use then.
+pub(crate) fn used_after<R: Abort>(rt: &R, w: &mut World<u64>, p: usize, n: usize) -> usize {
+    if p >= w.participants() || !passes(w, p, n) {
+        panic!(rt; "the participant opens a guard");
+    }
+    w.slots_in_use()
+}
+
 /// Ends a cell, and gives back what it kept, by participant 0.
 pub(crate) fn end_owned_cell<T: Holds, J: Deferred, R: Abort>(
     rt: &R,

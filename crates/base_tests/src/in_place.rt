@@ -1,11 +1,12 @@
 //! Items that are written and dropped in place.
 
 use crate::common::{
-    close, end, end_shared_cell, give_owned, give_shared, guarded, numbers, owned_item, passes,
-    shared_item,
+    close, end, end_shared_cell, give_owned, give_shared, guarded, numbers, owned_item,
+    shared_item, used_after, value_of, was_last,
 };
 use crate::nested::dropped;
-use sdd_base::{GuardsOpen, Lender, NotLent, world};
+use sdd_base::{GuardsOpen, Lender, NotLent, Shared, World, world};
+use std::process::Abort;
 use std::test::Fail;
 
 #[test]
@@ -37,10 +38,8 @@ fn what_waits_waits_on(rt: HostRuntime) -> Result<(), Fail> {
         Err(_) => panic!(rt; "no guard is open"),
     }
     assert_eq!(rt; w.slots_in_use(), 1);
-    assert!(rt; passes(&mut w, 0, 3));
-    assert_eq!(rt; w.slots_in_use(), 1);
-    assert!(rt; passes(&mut w, 0, 1));
-    assert_eq!(rt; w.slots_in_use(), 0);
+    assert_eq!(rt; used_after(&rt, &mut w, 0, 3), 1);
+    assert_eq!(rt; used_after(&rt, &mut w, 0, 1), 0);
     end(&rt, w);
     Ok(())
 }
@@ -89,6 +88,23 @@ fn an_owned_value_is_written(rt: HostRuntime) -> Result<(), Fail> {
     Ok(())
 }
 
+/// Writes the value of an item, where it is lent.
+fn written<R: Abort>(
+    rt: &R,
+    w: &mut World<u64>,
+    owner: &Shared<u64>,
+    new: u64,
+) -> Result<(), NotLent> {
+    if !world::shared::is_here(w, owner) {
+        panic!(rt; "its item is there");
+    }
+    match world::shared::get_mut(w, owner) {
+        Ok(value) => *value = new,
+        Err(refused) => return Err(refused),
+    }
+    Ok(())
+}
+
 #[test]
 fn a_shared_value_is_written_by_its_one_owner(rt: HostRuntime) -> Result<(), Fail> {
     let mut w = numbers(rt.alloc(), 1, 0)?;
@@ -96,16 +112,10 @@ fn a_shared_value_is_written_by_its_one_owner(rt: HostRuntime) -> Result<(), Fai
     let Some(second) = world::shared::clone(&mut w, &first) else {
         panic!(rt; "few owners are out");
     };
-    assert_eq!(rt;
-        world::shared::get_mut(&mut w, &first).err(),
-        Some(NotLent::NotSole)
-    );
-    assert!(rt; !world::shared::release(&mut w, second, 0));
-    match world::shared::get_mut(&mut w, &first) {
-        Ok(value) => *value = 7,
-        Err(_) => panic!(rt; "no guard is open"),
-    }
-    assert_eq!(rt; *world::shared::as_ref(&w, &first), 7);
+    assert!(rt; written(&rt, &mut w, &first, 6) == Err(NotLent::NotSole));
+    assert!(rt; !was_last(&rt, &mut w, second));
+    assert!(rt; written(&rt, &mut w, &first, 7) == Ok(()));
+    assert_eq!(rt; value_of(&rt, &w, &first), 7);
     give_shared(&rt, &mut w, first);
     end(&rt, w);
     Ok(())
@@ -173,10 +183,8 @@ fn nothing_is_written_under_a_guard(rt: HostRuntime) -> Result<(), Fail> {
         Some(GuardsOpen)
     );
     let shared = shared_item(&rt, &mut w, 6);
-    assert_eq!(rt;
-        world::shared::get_mut(&mut w, &shared).err(),
-        Some(NotLent::GuardsOpen)
-    );
+    assert!(rt; written(&rt, &mut w, &shared, 7) == Err(NotLent::GuardsOpen));
+    assert_eq!(rt; value_of(&rt, &w, &shared), 6);
     give_owned(&rt, &mut w, owned);
     give_shared(&rt, &mut w, shared);
     close(&rt, &mut w, guard);

@@ -1,6 +1,9 @@
 //! Owners of items, guards that keep them, and refusals.
 
-use crate::common::{close, end, give_owned, guarded, numbers, owned_item, passes};
+use crate::common::{
+    close, end, end_owned_cell, give_owned, guarded, numbers, owned_item, shared_item, used_after,
+    was_last,
+};
 use sdd_base::{Kept, NoJob, NoSlot, Sizes, World, world};
 use std::test::Fail;
 
@@ -14,8 +17,8 @@ fn the_last_of_two_owners_is_told(rt: HostRuntime) -> Result<(), Fail> {
     let Some(second) = world::shared::clone(&mut w, &first) else {
         panic!(rt; "few owners are out");
     };
-    assert!(rt; !world::shared::release(&mut w, first, 0));
-    assert!(rt; world::shared::release(&mut w, second, 0));
+    assert!(rt; !was_last(&rt, &mut w, first));
+    assert!(rt; was_last(&rt, &mut w, second));
     assert_eq!(rt; w.slots_in_use(), 1);
     end(&rt, w);
     Ok(())
@@ -28,15 +31,13 @@ fn a_guard_keeps_what_it_names(rt: HostRuntime) -> Result<(), Fail> {
     let owned = owned_item(&rt, &mut w, 5);
     let at = world::owned::get_guarded_ptr(&owned, &guard);
     world::owned::retire(&mut w, owned, 1);
-    assert!(rt; passes(&mut w, 1, 6));
-    assert_eq!(rt; w.slots_in_use(), 1);
+    assert_eq!(rt; used_after(&rt, &mut w, 1, 6), 1);
     if !w.is_readable(&at) {
         panic!(rt; "a guard is open");
     }
     assert_eq!(rt; w.read(&at).copied(), Some(5));
-    world::guard::close(&mut w, guard);
-    assert!(rt; passes(&mut w, 1, 4));
-    assert_eq!(rt; w.slots_in_use(), 0);
+    close(&rt, &mut w, guard);
+    assert_eq!(rt; used_after(&rt, &mut w, 1, 4), 0);
     end(&rt, w);
     Ok(())
 }
@@ -57,18 +58,19 @@ fn refusals_give_the_value_back(rt: HostRuntime) -> Result<(), Fail> {
     let Ok(first) = world::owned::new(&mut w, 1) else {
         panic!(rt; "a slot is free");
     };
-    match world::owned::new(&mut w, 2) {
-        Err(value) => assert_eq!(rt; value, 2),
+    let back = match world::owned::new(&mut w, 2) {
+        Err(value) => value,
         Ok(_) => panic!(rt; "nothing is free"),
-    }
-    match world::shared::new(&mut w, 3) {
-        Err(value) => assert_eq!(rt; value, 3),
+    };
+    let shared_back = match world::shared::new(&mut w, 3) {
+        Err(value) => value,
         Ok(_) => panic!(rt; "nothing is free"),
-    }
-    match world::atomic_owned::new(&mut w, 4) {
-        Err(value) => assert_eq!(rt; value, 4),
+    };
+    let cell_back = match world::atomic_owned::new(&mut w, 4) {
+        Err(value) => value,
         Ok(_) => panic!(rt; "nothing is free"),
-    }
+    };
+    assert_eq!(rt; (back, shared_back, cell_back), (2, 3, 4));
     let cell = match world::atomic_owned::from(&mut w, first) {
         Ok(cell) => cell,
         Err(_) => panic!(rt; "a cell is free"),
@@ -78,9 +80,8 @@ fn refusals_give_the_value_back(rt: HostRuntime) -> Result<(), Fail> {
         Ok(_) => panic!(rt; "no cell is free"),
     }
     assert_eq!(rt; w.slots_in_use(), 1);
-    world::atomic_owned::retire(&mut w, cell, 1);
-    assert!(rt; passes(&mut w, 1, 4));
-    assert_eq!(rt; w.slots_in_use(), 0);
+    end_owned_cell(&rt, &mut w, cell);
+    assert_eq!(rt; used_after(&rt, &mut w, 0, 4), 0);
     end(&rt, w);
     Ok(())
 }
@@ -146,27 +147,13 @@ fn a_world_is_handed_back_while_something_is_out(rt: HostRuntime) -> Result<(), 
 
 #[test]
 fn a_kept_owner_reads_its_item_and_is_given_back(rt: HostRuntime) -> Result<(), Fail> {
-    let sizes = Sizes {
-        participants: 1,
-        slots: 2,
-        cells: 0,
-        jobs: 0,
-    };
-    let mut w: World<u64> = match World::new(rt.alloc(), sizes) {
-        Ok(w) => w,
-        Err(_) => panic!(rt; "no room for a place"),
-    };
-    assert_eq!(rt; w.free_slots(), 2);
-    let owner = match world::shared::new(&mut w, 47) {
-        Ok(owner) => owner,
-        Err(_) => panic!(rt; "a slot is free"),
-    };
-    assert_eq!(rt; w.free_slots(), 1);
-    let kept = Kept::of(owner);
+    let mut w = numbers(rt.alloc(), 2, 0)?;
+    let kept = Kept::of(shared_item(&rt, &mut w, 47));
     assert_eq!(rt; *world::shared::kept_ref(&w, &kept), 47);
-    assert!(rt; world::shared::release(&mut w, kept.into_shared(), 0));
     assert_eq!(rt; w.free_slots(), 1);
-    assert!(rt; passes(&mut w, 0, 4));
+    assert!(rt; was_last(&rt, &mut w, kept.into_shared()));
+    assert_eq!(rt; w.free_slots(), 1);
+    assert_eq!(rt; used_after(&rt, &mut w, 0, 4), 0);
     assert_eq!(rt; w.free_slots(), 2);
     end(&rt, w);
     Ok(())

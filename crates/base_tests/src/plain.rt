@@ -32,18 +32,21 @@ fn kept<T: Holds, R: Abort>(rt: &R, alloc: Global, value: T) -> usize {
 #[test]
 fn numbers_are_items(rt: HostRuntime) -> Result<(), Fail> {
     let alloc = rt.alloc();
-    assert_eq!(rt; kept(&rt, alloc, 1u8), 1);
-    assert_eq!(rt; kept(&rt, alloc, 1u16), 1);
-    assert_eq!(rt; kept(&rt, alloc, 1u32), 1);
-    assert_eq!(rt; kept(&rt, alloc, 1u64), 1);
-    assert_eq!(rt; kept(&rt, alloc, 1u128), 1);
-    assert_eq!(rt; kept(&rt, alloc, 1usize), 1);
-    assert_eq!(rt; kept(&rt, alloc, -1i8), 1);
-    assert_eq!(rt; kept(&rt, alloc, -1i16), 1);
-    assert_eq!(rt; kept(&rt, alloc, -1i32), 1);
-    assert_eq!(rt; kept(&rt, alloc, -1i64), 1);
-    assert_eq!(rt; kept(&rt, alloc, -1i128), 1);
-    assert_eq!(rt; kept(&rt, alloc, -1isize), 1);
+    let used = [
+        kept(&rt, alloc, 1u8),
+        kept(&rt, alloc, 1u16),
+        kept(&rt, alloc, 1u32),
+        kept(&rt, alloc, 1u64),
+        kept(&rt, alloc, 1u128),
+        kept(&rt, alloc, 1usize),
+        kept(&rt, alloc, -1i8),
+        kept(&rt, alloc, -1i16),
+        kept(&rt, alloc, -1i32),
+        kept(&rt, alloc, -1i64),
+        kept(&rt, alloc, -1i128),
+        kept(&rt, alloc, -1isize),
+    ];
+    assert_eq!(rt; used, [1usize; 12]);
     Ok(())
 }
 

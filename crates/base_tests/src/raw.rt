@@ -47,24 +47,15 @@ fn a_raw_cell_is_stored_compared_and_updated(rt: HostRuntime) -> Result<(), Fail
     assert!(rt; world::atomic_raw::is_null(&w, &cell));
     assert!(rt; world::atomic_raw::swap(&mut w, &cell, raw, &guard) == RawPtr::null());
     let first = raw.with_tag(Tag::First);
-    match world::atomic_raw::compare_exchange(&mut w, &cell, first, RawPtr::null(), &guard) {
-        Err(found) => assert!(rt; found == raw),
-        Ok(_) => panic!(rt; "the tag is another"),
-    }
-    match world::atomic_raw::compare_exchange(&mut w, &cell, raw, first, &guard) {
-        Ok(old) => assert!(rt; old == raw),
-        Err(_) => panic!(rt; "slot and tag are those found"),
-    }
+    let other = world::atomic_raw::compare_exchange(&mut w, &cell, first, RawPtr::null(), &guard);
+    assert!(rt; other == Err(raw));
+    let same = world::atomic_raw::compare_exchange(&mut w, &cell, raw, first, &guard);
+    assert!(rt; same == Ok(raw));
     assert!(rt; world::atomic_raw::load(&w, &cell, &guard) == first);
-    match world::atomic_raw::fetch_update(&mut w, &cell, &guard, |_: RawPtr<u64>| None) {
-        Err(found) => assert!(rt; found == first),
-        Ok(_) => panic!(rt; "nothing was to be put there"),
-    }
+    let none = world::atomic_raw::fetch_update(&mut w, &cell, &guard, |_: RawPtr<u64>| None);
+    assert!(rt; none == Err(first));
     let both = |at: RawPtr<u64>| Some(at.with_tag(Tag::Both));
-    match world::atomic_raw::fetch_update(&mut w, &cell, &guard, both) {
-        Ok(old) => assert!(rt; old == first),
-        Err(_) => panic!(rt; "a pointer was given"),
-    }
+    assert!(rt; world::atomic_raw::fetch_update(&mut w, &cell, &guard, both) == Ok(first));
     assert!(rt; world::atomic_raw::tag(&w, &cell) == Tag::Both);
     let tagged = |at: RawPtr<u64>| at.tag() == Tag::None;
     assert!(rt; !world::atomic_raw::update_tag_if(&mut w, &cell, Tag::None, tagged));
