@@ -9,21 +9,21 @@ use Rattle.std.proofs.lemmas.Bool.{false≢true, cases_eq}
 use Rattle.sdd_base.specs.State.{State, status_at, cell_at, vacancy, emptiness, NoneFree, NoCellFree}
 use Rattle.sdd_base.specs.declared.tag.Tag.{Tag}
 use Rattle.sdd_base.specs.declared.tag.Tag.TheVariants as tag
-use Rattle.sdd.specs.Chain.{Entry, slots, links, IsOut, AreOut, IsHung, Hangs, Leaves, first_slot, undeleted, TookFirst}
+use Rattle.sdd.specs.Chain.{Entry, slots, links, IsOut, AreOut, IsList, Hangs, Leaves, first_slot, undeleted, TookFirst}
 use Rattle.sdd.specs.Entries.{entry_link}
 use Rattle.sdd.specs.Stacks.{IsNew, IsStack, IsSomeStack}
-use Rattle.sdd.proofs.Amounts.{own_undeleted}
-use Rattle.sdd.proofs.Claims.{claimed_empty, blank_row, blanks_joined, blanks_length, blanks_single}
+use Rattle.sdd.proofs.BagLen.{own_undeleted}
+use Rattle.sdd.proofs.BagInit.{claimed_empty, blank_row, blanks_joined, blanks_length, blanks_single}
 use Rattle.sdd.specs.Bags.{IsClaimed, IsNull, cell_of, IsSomeRow, IsRow, IsBag, IsSomeBag, joined, AreOwn, Adds, Puts, PutsPrimary, PutsOverflow, TakesOne}
 use Rattle.sdd.specs.declared.linked_entry.LinkedEntry.{LinkedEntry}
 use Rattle.sdd.proofs.Chains.{hung_first, head_cell, leaves_more, out_of_none}
 use Rattle.sdd.proofs.Releases.{leaves_released, out_of_one}
 use Rattle.sdd_base.specs.Steps.{released}
-use Rattle.sdd.proofs.Fronts.{first_none, TookSome, took_some, took_nothing}
+use Rattle.sdd.proofs.ListHead.{first_none, TookSome, took_some, took_nothing}
 use Rattle.sdd.proofs.Rows.{adds_more, adds_less, single_set, single_at, room_length, full_length, none_joined, joined_some, own_both, own_first, own_second, own_at, own_set, own_left, row_set, row_left, out_append, out_at, out_joined, out_all, out_append_both, links_joined, links_at, are_both, own_kept}
 
 -- what a cell tells of the list that hangs from it
-module _ {L : Type 0} (link : L → Option ℕ) (w : State L) (c : ℕ) (es : List (Entry L)) (h : IsHung link w c tag.None es) where
+module _ {L : Type 0} (link : L → Option ℕ) (w : State L) (c : ℕ) (es : List (Entry L)) (h : IsList link w c tag.None es) where
   pub null_empty : IsNull w c true → es ≡ []
   null_empty null = first_none es ((null (first_slot es) tag.None (hung_first link w c tag.None es h)).0 refl)
 
@@ -70,7 +70,7 @@ module _ {T : Type 0} (n : ℕ) (w w' : State (LinkedEntry T)) (cs : List ℕ) (
   module _ (v : T) (k c : ℕ) (inside : k < length cs) (at : c ≡ get_or cs k 0) (p : Puts w w' v c) (l : Leaves (c ∷ []) [] w w') where
     put_row : IsRow entry_link w' cs (set all k (p.entry ∷ get_or all k []))
     put_row =
-        let hung = subst (λ (i : ℕ). IsHung entry_link w' i tag.None (p.entry ∷ get_or all k [])) at (p.puts (get_or all k []) (subst (λ (i : ℕ). IsHung entry_link w i tag.None (get_or all k [])) (sym at) (b.row.hung k inside))) in
+        let hung = subst (λ (i : ℕ). IsList entry_link w' i tag.None (p.entry ∷ get_or all k [])) at (p.puts (get_or all k []) (subst (λ (i : ℕ). IsList entry_link w i tag.None (get_or all k [])) (sym at) (b.row.hung k inside))) in
         let left = leaves_more (get_or cs k 0 ∷ []) [] (get_or cs k 0 ∷ links (get_or all k [])) (slots (get_or all k [])) w w' (λ j out. (out.0, tt)) (λ j out. tt) (subst (λ (i : ℕ). Leaves (i ∷ []) [] w w') at l) in
         row_set entry_link w w' cs all k (p.entry ∷ get_or all k []) b.row inside (inside_all k inside) hung left (new_link w v p.entry p.new (get_or all k [])) (new_slot w v p.entry p.new (get_or all k []))
 
@@ -144,7 +144,7 @@ module _ {T : Type 0} (n : ℕ) (w w' : State (LinkedEntry T)) (cs : List ℕ) (
   module _ (k c i : ℕ) (inside : k < length cs) (at : c ≡ get_or cs k 0) (t : TookSome entry_link w w' c i tag.None (get_or all k [])) where
     take_row : IsRow entry_link w' cs (set all k t.rest)
     take_row =
-        let hung = subst (λ (j : ℕ). IsHung entry_link w' j tag.None t.rest) at t.left in
+        let hung = subst (λ (j : ℕ). IsList entry_link w' j tag.None t.rest) at t.left in
         let links_of : (j : ℕ) → IsOut j (links (get_or all k [])) → IsOut j (links (t.entry ∷ t.rest)) = λ j out. subst (λ (es : List (Entry (LinkedEntry T))). IsOut j (links es)) t.is out in
         let slots_of : (j : ℕ) → IsOut j (slots (get_or all k [])) → IsOut j (slots (t.entry ∷ t.rest)) = λ j out. subst (λ (es : List (Entry (LinkedEntry T))). IsOut j (slots es)) t.is out in
         let left = leaves_more (get_or cs k 0 ∷ t.entry.link ∷ []) [] (get_or cs k 0 ∷ links (get_or all k [])) (slots (get_or all k [])) w w' (λ j out. (out.0, ((links_of j out.1).0, tt))) (λ j out. tt) (subst (λ (j : ℕ). Leaves (j ∷ t.entry.link ∷ []) [] w w') at t.leaves) in
@@ -301,13 +301,13 @@ some_left i ps os t = elim t.left [
 -- what taking the first entry of the first cell that keeps one makes of a bag
 module _ {T : Type 0} (n : ℕ) (w w' : State (LinkedEntry T)) (ts : List (AtomicShared (LinkedEntry T))) (k c : ℕ) (lt : k < length ts) (at : c ≡ cell_of ts k) (some : IsNull w (cell_of ts k) false) (before : (j : ℕ) → j < k → IsNull w (cell_of ts j) true) where
   abbrev Tried : Option (Shared (LinkedEntry T)) → Type 0
-  Tried o = (t : Tag) (es : List (Entry (LinkedEntry T))) → IsHung entry_link w c t es → TookFirst entry_link w w' c t es (shared_slots o)
+  Tried o = (t : Tag) (es : List (Entry (LinkedEntry T))) → IsList entry_link w c t es → TookFirst entry_link w w' c t es (shared_slots o)
 
   within : k < length (map shared_cell ts)
   within = let e = length-map ts shared_cell in omega (arith, e, lt)
 
-  here : (ps os : List (Entry (LinkedEntry T))) (b : IsBag n w (map shared_cell ts) ps os) → IsHung entry_link w c tag.None (get_or (os ∷ b.rows) k [])
-  here ps os b = subst (λ (i : ℕ). IsHung entry_link w i tag.None (get_or (os ∷ b.rows) k [])) (sym at) (b.row.hung k within)
+  here : (ps os : List (Entry (LinkedEntry T))) (b : IsBag n w (map shared_cell ts) ps os) → IsList entry_link w c tag.None (get_or (os ∷ b.rows) k [])
+  here ps os b = subst (λ (i : ℕ). IsList entry_link w i tag.None (get_or (os ∷ b.rows) k [])) (sym at) (b.row.hung k within)
 
   never : (ps os : List (Entry (LinkedEntry T))) (b : IsBag n w (map shared_cell ts) ps os) → Tried None → ⊥
   never ps os b took = null_not entry_link w (cell_of ts k) (get_or (os ∷ b.rows) k []) (b.row.hung k within) some (took_nothing entry_link w w' c tag.None (get_or (os ∷ b.rows) k []) (took tag.None (get_or (os ∷ b.rows) k []) (here ps os b))).0

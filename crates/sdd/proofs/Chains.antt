@@ -9,7 +9,7 @@ use Rattle.sdd_base.specs.declared.status.Status.{Status}
 use Rattle.sdd_base.specs.declared.status.Status.TheVariants as status
 use Rattle.sdd_base.specs.declared.status.Cell.{Cell}
 use Rattle.sdd_base.specs.declared.status.Cell.TheVariants as cell
-use Rattle.sdd.specs.Chain.{Entry, slots, links, IsOut, AreOut, IsItem, IsHung, IsLoose, Fits, TookFirst, first_slot, Leaves, Stays, HasLink, Begins, deleted}
+use Rattle.sdd.specs.Chain.{Entry, slots, links, IsOut, AreOut, IsItem, IsList, IsDetached, Fits, TookFirst, first_slot, Leaves, Stays, HasLink, Begins, deleted}
 
 -- what isn't the default lies within the list
 pub inside_cells : (cs : List Cell) (c : ℕ) (o : Option ℕ) (t : Tag) → get_or cs c cell.Free ≡ cell.OfShared o t → c < length cs
@@ -125,7 +125,7 @@ module _ {L : Type 0} (link : L → Option ℕ) where
   item_shared w e h = record { inside = inside_states w.states e.slot h.owners h.shared; owners = h.owners; is = h.shared }
 
   -- the cell from which a list hangs
-  pub head_cell : (w : State L) (c : ℕ) (t : Tag) (es : List (Entry L)) → IsHung link w c t es → IsSharedCell w c
+  pub head_cell : (w : State L) (c : ℕ) (t : Tag) (es : List (Entry L)) → IsList link w c t es → IsSharedCell w c
   head_cell w c t [] h = record { inside = inside_cells w.cells c None t h; item = None; tag = t; is = h }
   head_cell w c t (e ∷ es) h = record { inside = inside_cells w.cells c (Some e.slot) t h.0; item = Some e.slot; tag = t; is = h.0 }
 
@@ -139,7 +139,7 @@ module _ {L : Type 0} (link : L → Option ℕ) where
   cell_left cs is w w' c o t l out h = l.cells c out (ap emptiness h) ∙ h
 
   -- a list stays where its cells and items are left alone
-  pub hung_left : (cs is : List ℕ) (w w' : State L) (c : ℕ) (t : Tag) (es : List (Entry L)) → Leaves cs is w w' → IsOut c cs → AreOut (links es) cs → AreOut (slots es) is → IsHung link w c t es → IsHung link w' c t es
+  pub hung_left : (cs is : List ℕ) (w w' : State L) (c : ℕ) (t : Tag) (es : List (Entry L)) → Leaves cs is w w' → IsOut c cs → AreOut (links es) cs → AreOut (slots es) is → IsList link w c t es → IsList link w' c t es
   hung_left cs is w w' c t [] l out outs apart h = cell_left cs is w w' c None t l out h
   hung_left cs is w w' c t (e ∷ es) l out outs apart h = (
     cell_left cs is w w' c (Some e.slot) t l out h.0,
@@ -150,7 +150,7 @@ module _ {L : Type 0} (link : L → Option ℕ) where
   )
 
   -- what is free isn't in a list
-  pub free_cell_out : (w : State L) (j c : ℕ) (t : Tag) (es : List (Entry L)) → cell_at w j ≡ cell.Free → IsHung link w c t es → (j ≢ c) × IsOut j (links es)
+  pub free_cell_out : (w : State L) (j c : ℕ) (t : Tag) (es : List (Entry L)) → cell_at w j ≡ cell.Free → IsList link w c t es → (j ≢ c) × IsOut j (links es)
   free_cell_out w j c t [] free h = (λ e. absurd (let a : emptiness (cell_at w c) ≡ 1 = subst (λ (i : ℕ). emptiness (cell_at w i) ≡ 1) e (ap emptiness free) in let b : emptiness (cell_at w c) ≡ 0 = ap emptiness h in omega (arith, a, b)), tt)
   free_cell_out w j c t (e ∷ es) free h =
       let rest = free_cell_out w j e.link e.tag es free h.4 in (
@@ -158,23 +158,23 @@ module _ {L : Type 0} (link : L → Option ℕ) where
         rest,
       )
 
-  pub free_slot_out : (w : State L) (i c : ℕ) (t : Tag) (es : List (Entry L)) → status_at w i ≡ status.Free → IsHung link w c t es → IsOut i (slots es)
+  pub free_slot_out : (w : State L) (i c : ℕ) (t : Tag) (es : List (Entry L)) → status_at w i ≡ status.Free → IsList link w c t es → IsOut i (slots es)
   free_slot_out w i c t [] free h = tt
   free_slot_out w i c t (e ∷ es) free h = (
     λ q. absurd (let a : vacancy (status_at w e.slot) ≡ 1 = subst (λ (j : ℕ). vacancy (status_at w j) ≡ 1) q (ap vacancy free) in let b : vacancy (status_at w e.slot) ≡ 0 = ap vacancy h.1.shared in omega (arith, a, b)),
     free_slot_out w i e.link e.tag es free h.4,
   )
 
-  pub hung_first : (w : State L) (c : ℕ) (t : Tag) (es : List (Entry L)) → IsHung link w c t es → cell_at w c ≡ cell.OfShared (first_slot es) t
+  pub hung_first : (w : State L) (c : ℕ) (t : Tag) (es : List (Entry L)) → IsList link w c t es → cell_at w c ≡ cell.OfShared (first_slot es) t
   hung_first w c t [] h = h
   hung_first w c t (e ∷ es) h = h.0
 
-  pub hung_out : (w : State L) (c : ℕ) (t : Tag) (es : List (Entry L)) → IsHung link w c t es → IsOut c (links es)
+  pub hung_out : (w : State L) (c : ℕ) (t : Tag) (es : List (Entry L)) → IsList link w c t es → IsOut c (links es)
   hung_out w c t [] h = tt
   hung_out w c t (e ∷ es) h = h.2
 
   -- entries that hang from cell c hang from cell d as well once that keeps the first of them
-  pub rehung : (cs is : List ℕ) (w w' : State L) (c d : ℕ) (t u : Tag) (es : List (Entry L)) → IsHung link w c t es → cell_at w' d ≡ cell.OfShared (first_slot es) u → Leaves cs is w w' → AreOut (links es) cs → AreOut (slots es) is → IsOut d (links es) → IsHung link w' d u es
+  pub rehung : (cs is : List ℕ) (w w' : State L) (c d : ℕ) (t u : Tag) (es : List (Entry L)) → IsList link w c t es → cell_at w' d ≡ cell.OfShared (first_slot es) u → Leaves cs is w w' → AreOut (links es) cs → AreOut (slots es) is → IsOut d (links es) → IsList link w' d u es
   rehung cs is w w' c d t u [] h now l outs apart out = now
   rehung cs is w w' c d t u (e ∷ es) h now l outs apart out = (now, item_left cs is w w' e l apart.0 h.1, out, h.3, hung_left cs is w w' e.link e.tag es l outs.0 outs.1 apart.1 h.4)
 
@@ -183,7 +183,7 @@ module _ {L : Type 0} (link : L → Option ℕ) where
     abbrev pub taking : State L
     taking = with_cell c (cell.OfShared (first_slot es) t) (with_cell e.link (cell.OfShared None e.tag) (with_cell c (cell.OfShared None t) w))
 
-    pub took_first : IsHung link w c t (e ∷ es) → TookFirst link w taking c t (e ∷ es) (Some e.slot)
+    pub took_first : IsList link w c t (e ∷ es) → TookFirst link w taking c t (e ∷ es) (Some e.slot)
     took_first h =
         let l = written2 w c e.link (cell.OfShared (first_slot es) t) (cell.OfShared None e.tag) (cell.OfShared None t) in
         let out : IsOut e.link (links es) = hung_out w e.link e.tag es h.4 in
@@ -201,7 +201,7 @@ module _ {L : Type 0} (link : L → Option ℕ) where
     abbrev pub putting : State L
     putting = with_cell c (cell.OfShared (Some e.slot) t) (with_cell e.link (cell.OfShared (first_slot es) e.tag) (with_cell c (cell.OfShared None t) w))
 
-    pub put_first : IsHung link w c t es → IsLoose link w e → Fits c es e → IsHung link putting c t (e ∷ es) × Leaves (c ∷ e.link ∷ []) [] w putting
+    pub put_first : IsList link w c t es → IsDetached link w e → Fits c es e → IsList link putting c t (e ∷ es) × Leaves (c ∷ e.link ∷ []) [] w putting
     put_first h k f =
         let l = written2 w c e.link (cell.OfShared (Some e.slot) t) (cell.OfShared (first_slot es) e.tag) (cell.OfShared None t) in
         let inside : c < length w.cells = (head_cell w c t es h).inside in
@@ -232,11 +232,11 @@ module _ {L : Type 0} (link : L → Option ℕ) where
     entry : Entry L
     rest : List (Entry L)
     is : all ≡ entry ∷ rest
-    hung : IsHung link w c t (entry ∷ rest)
+    hung : IsList link w c t (entry ∷ rest)
     at : i ≡ entry.slot
     now : w1 ≡ with_cell c (cell.OfShared None t) w
 
-  pub takes : (w w1 : State L) (c i : ℕ) (t : Tag) (es : List (Entry L)) → IsHung link w c t es → Took w w1 c (Some i) → Takes w w1 c i t es
+  pub takes : (w w1 : State L) (c i : ℕ) (t : Tag) (es : List (Entry L)) → IsList link w c t es → Took w w1 c (Some i) → Takes w w1 c i t es
   takes w w1 c i t [] h k = absurd (some_none i (k None t h).0)
   takes w w1 c i t (e ∷ es) h k = let r = k (Some e.slot) t h.0 in record { entry = e; rest = es; is = refl; hung = h; at = some_same i e.slot r.0; now = r.1 }
 
@@ -277,13 +277,13 @@ module _ {L : Type 0} (link : L → Option ℕ) where
         rw (k.is, k.at, e) (took_first w c t k.entry k.rest k.hung)
 
   -- there was none
-  pub took_none : (w w1 : State L) (c : ℕ) (t : Tag) (es : List (Entry L)) → IsHung link w c t es → Took w w1 c None → TookFirst link w w1 c t es None
+  pub took_none : (w w1 : State L) (c : ℕ) (t : Tag) (es : List (Entry L)) → IsList link w c t es → Took w w1 c None → TookFirst link w w1 c t es None
   took_none w w1 c t [] h k =
       let e : w1 ≡ w = (k None t h).1 ∙ same_cell w c None t h in
       (refl, rw e h, rw e (leaves_all [] [] w))
   took_none w w1 c t (e ∷ es) h k = absurd (none_some e.slot (k (Some e.slot) t h.0).0)
 
-  module _ (w w1 : State L) (c i d d' : ℕ) (r : Option ℕ) (t : Tag) (es : List (Entry L)) (e : Entry L) (h : IsHung link w c t es) (k : IsLoose link w e) (f : Fits c es e) (at : i ≡ e.slot) (named : Names w i d) (same : d' ≡ d) (took : Took w w1 c r) where
+  module _ (w w1 : State L) (c i d d' : ℕ) (r : Option ℕ) (t : Tag) (es : List (Entry L)) (e : Entry L) (h : IsList link w c t es) (k : IsDetached link w e) (f : Fits c es e) (at : i ≡ e.slot) (named : Names w i d) (same : d' ≡ d) (took : Took w w1 c r) where
     emptied : (r ≡ first_slot es) × (w1 ≡ with_cell c (cell.OfShared None t) w)
     emptied = took (first_slot es) t (hung_first w c t es h)
 
@@ -300,10 +300,10 @@ module _ {L : Type 0} (link : L → Option ℕ) where
       pub put_back : cell_at w2 c ≡ cell.OfShared None t
       put_back = rw linked (wrote_other (with_cell c (cell.OfShared None t) w) e.link c (cell.OfShared (first_slot es) e.tag) f.cell.0 ∙ wrote_same w c (cell.OfShared None t) (head_cell w c t es h).inside)
 
-      pub put_all : (w3 : State L) → Filled w2 w3 c (Some i) → IsHung link w3 c t (e ∷ es) × Leaves (c ∷ e.link ∷ []) [] w w3
+      pub put_all : (w3 : State L) → Filled w2 w3 c (Some i) → IsList link w3 c t (e ∷ es) × Leaves (c ∷ e.link ∷ []) [] w w3
       put_all w3 filled2 =
           let q : w3 ≡ putting w c t e es = filled2 t put_back ∙ ap (λ (j : ℕ). with_cell c (cell.OfShared (Some j) t) w2) at ∙ ap (λ (v : State L). with_cell c (cell.OfShared (Some e.slot) t) v) linked in
-          subst (λ (v : State L). IsHung link v c t (e ∷ es) × Leaves (c ∷ e.link ∷ []) [] w v) (sym q) (put_first w c t e es h k f)
+          subst (λ (v : State L). IsList link v c t (e ∷ es) × Leaves (c ∷ e.link ∷ []) [] w v) (sym q) (put_first w c t e es h k f)
 
 -- a cell that was free, filled and freed again
 pub freed_again : {L : Type 0} (w : State L) (c : ℕ) (k : Cell) → cell_at w c ≡ cell.Free → with_cell c cell.Free (with_cell c k w) ≡ w
@@ -332,7 +332,7 @@ module _ {L : Type 0} (link : L → Option ℕ) where
   pub item_readable : (w : State L) (e : Entry L) → IsItem link w e → IsReadable w (Some e.slot)
   item_readable w e h = (inside_states w.states e.slot h.owners h.shared, ap is_used h.shared)
 
-  pub hung_there : (w : State L) (c : ℕ) (t : Tag) (es : List (Entry L)) → IsHung link w c t es → (i : ℕ) (u : Tag) → cell_at w c ≡ cell.OfShared (Some i) u → IsReadable w (Some i)
+  pub hung_there : (w : State L) (c : ℕ) (t : Tag) (es : List (Entry L)) → IsList link w c t es → (i : ℕ) (u : Tag) → cell_at w c ≡ cell.OfShared (Some i) u → IsReadable w (Some i)
   hung_there w c t [] h i u k = absurd (full_empty None i t u (sym h ∙ k))
   hung_there w c t (e ∷ es) h i u k = subst (λ (j : ℕ). IsReadable w (Some j)) (same_kept e.slot i t u (sym h.0 ∙ k)) (item_readable w e h.1)
 
@@ -341,14 +341,14 @@ module _ {L : Type 0} (link : L → Option ℕ) where
     pub first : Entry L
     pub rest : List (Entry L)
     pub is : es ≡ first ∷ rest
-    pub hung : IsHung link w c t (first ∷ rest)
+    pub hung : IsList link w c t (first ∷ rest)
     pub item_is : item ≡ first.item
 
-  pub starts : {Y : Type 0} (y : Y) (w : State L) (c : ℕ) (t : Tag) (es : List (Entry L)) (item : L) → IsHung link w c t es → ((u : Tag) → cell_at w c ≡ cell.OfShared None u → ◌≡◌ {A = Option Y} (Some y) None) → ((i : ℕ) (u : Tag) → cell_at w c ≡ cell.OfShared (Some i) u → Some item ≡ value_at w i) → Starts w c t es item
+  pub starts : {Y : Type 0} (y : Y) (w : State L) (c : ℕ) (t : Tag) (es : List (Entry L)) (item : L) → IsList link w c t es → ((u : Tag) → cell_at w c ≡ cell.OfShared None u → ◌≡◌ {A = Option Y} (Some y) None) → ((i : ℕ) (u : Tag) → cell_at w c ≡ cell.OfShared (Some i) u → Some item ≡ value_at w i) → Starts w c t es item
   starts y w c t [] item h null value = absurd (some_nothing y (null t h))
   starts y w c t (e ∷ es) item h null value = record { first = e; rest = es; is = refl; hung = h; item_is = the_same item e.item (value e.slot t h.0 ∙ h.1.here) }
 
-  pub starts_not : (w : State L) (c : ℕ) (t : Tag) (es : List (Entry L)) → IsHung link w c t es → ((i : ℕ) (u : Tag) → cell_at w c ≡ cell.OfShared (Some i) u → false ≡ true) → es ≡ []
+  pub starts_not : (w : State L) (c : ℕ) (t : Tag) (es : List (Entry L)) → IsList link w c t es → ((i : ℕ) (u : Tag) → cell_at w c ≡ cell.OfShared (Some i) u → false ≡ true) → es ≡ []
   starts_not w c t [] h value = refl
   starts_not w c t (e ∷ es) h value = absurd (false≢true (value e.slot t h.0))
 

@@ -6,7 +6,7 @@ use Rattle.std.proofs.lemmas.Fn.{FoldsTo-push}
 use Rattle.sdd_base.specs.State.{State, emptiness, vacancy}
 use Rattle.sdd_base.specs.Tokens.{shared_slot}
 use Rattle.sdd_base.specs.declared.owner.Shared.{Shared}
-use Rattle.sdd.specs.Chain.{Entry, Leaves, IsLoose, IsOut, AreOut, links, slots}
+use Rattle.sdd.specs.Chain.{Entry, Leaves, IsDetached, IsOut, AreOut, links, slots}
 use Rattle.sdd.specs.Bags.{IsBag, AreOwn, AreSpare, Adds, Removes, CallsWith, TakesOne}
 use Rattle.sdd.specs.Entries.{entry_link}
 use Rattle.sdd.specs.declared.linked_entry.LinkedEntry.{LinkedEntry}
@@ -101,7 +101,7 @@ module _ {T : Type 0} (w w' : State (LinkedEntry T)) where
     spare_left cs es l out.1 h.2,
   )
 
-  spare_last : (xs ys : List (Entry (LinkedEntry T))) (x : Entry (LinkedEntry T)) (zs : List (Entry (LinkedEntry T))) → Adds x zs ys → AreOut (slots xs) (slots ys) → AreSpare w' xs → IsLoose entry_link w' x → AreSpare w' (xs ++ x ∷ [])
+  spare_last : (xs ys : List (Entry (LinkedEntry T))) (x : Entry (LinkedEntry T)) (zs : List (Entry (LinkedEntry T))) → Adds x zs ys → AreOut (slots xs) (slots ys) → AreSpare w' xs → IsDetached entry_link w' x → AreSpare w' (xs ++ x ∷ [])
   spare_last [] ys x zs a out h k = (k, tt, tt)
   spare_last (e ∷ es) ys x zs a out h k = (h.0, slots_last e.slot es x h.1 (slots_left e.slot x ys zs a out.0).0, spare_last es ys x zs a out.1 h.2 k)
 

@@ -20,7 +20,7 @@ use Rattle.sdd_base.proofs.Counts.{counted_opened}
 use Rattle.sdd_base.proofs.Frames.{keeps_opened}
 use Rattle.sdd_base.proofs.Lists.{hit-same}
 use Rattle.sdd_base.proofs.Slots.{at_most}
-use Rattle.sdd.specs.Chain.{Entry, links, IsOut, IsItem, IsHung, Leaves}
+use Rattle.sdd.specs.Chain.{Entry, links, IsOut, IsItem, IsList, Leaves}
 use Rattle.sdd.specs.Bags.{AreOwn, IsBag, joined}
 use Rattle.sdd.specs.Guards.{GuardsLeave}
 use Rattle.sdd.specs.Entries.{entry_holds, entry_link, holds_link}
@@ -186,7 +186,7 @@ module _ {T : Type 0} (p : ℕ) (hand : List Hold) (w : State (LinkedEntry T)) (
         linked = h.linked;
       }
 
-  pub hung_opened : (c : ℕ) (t : Tag) (es : List (Entry (LinkedEntry T))) → cell_at after c ≡ cell_at w c → IsHung entry_link w c t es → IsHung entry_link after c t es
+  pub hung_opened : (c : ℕ) (t : Tag) (es : List (Entry (LinkedEntry T))) → cell_at after c ≡ cell_at w c → IsList entry_link w c t es → IsList entry_link after c t es
   hung_opened c t [] same h = same ∙ h
   hung_opened c t (e ∷ es) same h = (same ∙ h.0, item_opened e c t (same ∙ h.0) h.1, h.2, h.3, hung_opened e.link e.tag es (link_stays e h.1) h.4)
 
@@ -194,7 +194,7 @@ module _ {T : Type 0} (p : ℕ) (hand : List Hold) (w : State (LinkedEntry T)) (
   cell_opened c held = (held_cells_stay entry_holds).hand c p hand w place known held counted
 
   -- the cell that keeps the last entry of a list isn't the newest one
-  last_cell : (c d : ℕ) (t : Tag) (es : List (Entry (LinkedEntry T))) (i : ℕ) → IsHung entry_link after c t es → d ≢ c → IsOut d (links es) → last_slot es ≡ Some i → cell_at after d ≡ cell.OfShared (Some i) tag.None → 2 ≤ shared_owners (status_at after i)
+  last_cell : (c d : ℕ) (t : Tag) (es : List (Entry (LinkedEntry T))) (i : ℕ) → IsList entry_link after c t es → d ≢ c → IsOut d (links es) → last_slot es ≡ Some i → cell_at after d ≡ cell.OfShared (Some i) tag.None → 2 ≤ shared_owners (status_at after i)
   last_cell c d t [] i h ne out e k = cc
   last_cell c d t (x ∷ []) i h ne out e k =
       let same : x.slot ≡ i = cc in
@@ -216,7 +216,7 @@ module _ {T : Type 0} (p : ℕ) (hand : List Hold) (w : State (LinkedEntry T)) (
       }
 
   -- entries of a list that have one owner still have one
-  own_hung : (c : ℕ) (t : Tag) (es : List (Entry (LinkedEntry T))) → IsHung entry_link after c t es → AreOwn w es → AreOwn after es
+  own_hung : (c : ℕ) (t : Tag) (es : List (Entry (LinkedEntry T))) → IsList entry_link after c t es → AreOwn w es → AreOwn after es
   own_hung c t [] h own = tt
   own_hung c t (e ∷ es) h own =
       let some = one_owner entry_holds hand after still e.slot c t h.0 in
@@ -225,7 +225,7 @@ module _ {T : Type 0} (p : ℕ) (hand : List Hold) (w : State (LinkedEntry T)) (
       let one : shared_owners (status_at after e.slot) ≡ 1 = omega (arith, some, less, was) in
       (own.0, shared_of (status_at after e.slot) some ∙ ap (λ (n : ℕ). status.Shared n) one, own_hung e.link e.tag es h.4 own.2)
 
-  own_rows : (cs : List ℕ) (rows : List (List (Entry (LinkedEntry T)))) → length rows ≡ length cs → ((k : ℕ) → k < length cs → IsHung entry_link after (get_or cs k 0) tag.None (get_or rows k [])) → AreOwn w (joined rows) → AreOwn after (joined rows)
+  own_rows : (cs : List ℕ) (rows : List (List (Entry (LinkedEntry T)))) → length rows ≡ length cs → ((k : ℕ) → k < length cs → IsList entry_link after (get_or cs k 0) tag.None (get_or rows k [])) → AreOwn w (joined rows) → AreOwn after (joined rows)
   own_rows cs [] size h own = tt
   own_rows [] (es ∷ rows) size h own = absurd (omega (arith, size))
   own_rows (c ∷ cs) (es ∷ rows) size h own =
@@ -234,7 +234,7 @@ module _ {T : Type 0} (p : ℕ) (hand : List Hold) (w : State (LinkedEntry T)) (
   pub bag_opened : (n : ℕ) (cs : List ℕ) (ps os : List (Entry (LinkedEntry T))) → ((k : ℕ) → k < length cs → 1 ≤ tally (SharedIn (get_or cs k 0)) hand) → IsBag n w cs ps os → IsBag n after cs ps os
   bag_opened n cs ps os held b =
       let size : length (os ∷ b.rows) ≡ length cs = (let s = b.size in let c = b.cells in omega (arith, s, c)) in
-      let h : (k : ℕ) → k < length cs → IsHung entry_link after (get_or cs k 0) tag.None (get_or (os ∷ b.rows) k []) = λ k lt. hung_opened (get_or cs k 0) tag.None (get_or (os ∷ b.rows) k []) (cell_opened (get_or cs k 0) (held k lt)) (b.row.hung k lt) in
+      let h : (k : ℕ) → k < length cs → IsList entry_link after (get_or cs k 0) tag.None (get_or (os ∷ b.rows) k []) = λ k lt. hung_opened (get_or cs k 0) tag.None (get_or (os ∷ b.rows) k []) (cell_opened (get_or cs k 0) (held k lt)) (b.row.hung k lt) in
       let is : joined (os ∷ b.rows) ≡ os ++ ps = ap (λ (es : List (Entry (LinkedEntry T))). os ++ es) b.is in
       record {
         rows = b.rows;

@@ -8,7 +8,7 @@ use Rattle.sdd_base.specs.Place.{IsSharedCell}
 use Rattle.sdd_base.specs.declared.tag.Tag.{Tag}
 use Rattle.sdd_base.specs.declared.status.Cell.{Cell}
 use Rattle.sdd_base.specs.declared.status.Cell.TheVariants as cell
-use Rattle.sdd.specs.Chain.{Entry, slots, links, IsOut, IsItem, IsHung, Leaves, first_slot, undeleted, deleted}
+use Rattle.sdd.specs.Chain.{Entry, slots, links, IsOut, IsItem, IsList, Leaves, first_slot, undeleted, deleted}
 use Rattle.sdd.specs.Nodes.{IsNode, IsSomeNode, IsListed, Retags, retagged, Has}
 use Rattle.sdd.proofs.Chains.{cell_left, item_left, leaves_write, leaves_all, out_of_none, wrote_same, inside_cells, some_same, the_same, hung_out, hung_first, kept_same, rehung, some_nothing}
 use Rattle.sdd.proofs.Releases.{out_of_one}
@@ -35,7 +35,7 @@ module _ {L : Type 0} (link : L → Option ℕ) where
     same_link f h at = some_same f.link e.link (sym h.linked ∙ ap link (the_same f.item e.item (sym h.here ∙ ap (λ (i : ℕ). value_at w i) at ∙ k.here)) ∙ k.linked)
 
     -- a cell that no link of a list with the entry is, isn't the entry's link
-    pub link_in : (a b : ℕ) (t : Tag) (es : List (Entry L)) → IsHung link w b t es → Has e.slot es → IsOut a (links es) → a ≢ e.link
+    pub link_in : (a b : ℕ) (t : Tag) (es : List (Entry L)) → IsList link w b t es → Has e.slot es → IsOut a (links es) → a ≢ e.link
     link_in a b t [] h has out = absurd (has tt)
     link_in a b t (f ∷ fs) h has out = elim (eqb_tells f.slot e.slot) [
       | inl q ↦ subst (λ (j : ℕ). a ≢ j) (same_link f h.1 q.1) out.0
@@ -52,7 +52,7 @@ module _ {L : Type 0} (link : L → Option ℕ) where
     item_now : (f : Entry L) → IsItem link w f → IsItem link w' f
     item_now f h = item_left link (e.link ∷ []) [] w w' f retag_leaves tt h
 
-    retag_first : (c : ℕ) (t : Tag) (f : Entry L) (fs : List (Entry L)) → IsHung link w c t (f ∷ fs) → f.slot ≡ e.slot → IsHung link w' c t (record f { tag = u } ∷ fs)
+    retag_first : (c : ℕ) (t : Tag) (f : Entry L) (fs : List (Entry L)) → IsList link w c t (f ∷ fs) → f.slot ≡ e.slot → IsList link w' c t (record f { tag = u } ∷ fs)
     retag_first c t f fs h at =
         let same = same_link w e n.item f h.1 at in
         let next : n.next ≡ first_slot fs = kept_same n.next (first_slot fs) e.tag f.tag (sym n.kept ∙ ap (λ (j : ℕ). cell_at w j) (sym same) ∙ hung_first link w f.link f.tag fs h.4) in
@@ -66,24 +66,24 @@ module _ {L : Type 0} (link : L → Option ℕ) where
           rehung link (e.link ∷ []) [] w w' f.link f.link f.tag u fs h.4 now retag_leaves (out_of_one (links fs) e.link (subst (λ (j : ℕ). IsOut j (links fs)) same out)) (out_of_none (slots fs)) out,
         )
 
-    pub retag_hung : (c : ℕ) (t : Tag) (es : List (Entry L)) → IsHung link w c t es → Has e.slot es → IsHung link w' c t (retagged e.slot u es)
+    pub retag_hung : (c : ℕ) (t : Tag) (es : List (Entry L)) → IsList link w c t es → Has e.slot es → IsList link w' c t (retagged e.slot u es)
     retag_hung c t [] h has = absurd (has tt)
     retag_hung c t (f ∷ fs) h has = elim (eqb_tells f.slot e.slot) [
-      | inl q ↦ subst (λ (b : Bool). IsHung link w' c t (cond b (record f { tag = u } ∷ fs) (f ∷ retagged e.slot u fs))) (sym q.0) (retag_first c t f fs h q.1)
+      | inl q ↦ subst (λ (b : Bool). IsList link w' c t (cond b (record f { tag = u } ∷ fs) (f ∷ retagged e.slot u fs))) (sym q.0) (retag_first c t f fs h q.1)
       | inr q ↦
           let rest : Has e.slot fs = λ out. has (λ p. q.1 (sym p), out) in
           let ne : c ≢ e.link = link_in w e n.item c f.link f.tag fs h.4 rest h.2.1 in
-          let all : IsHung link w' c t (f ∷ retagged e.slot u fs) = (
+          let all : IsList link w' c t (f ∷ retagged e.slot u fs) = (
             cell_left link (e.link ∷ []) [] w w' c (Some f.slot) t retag_leaves (ne, tt) h.0,
             item_now f h.1,
             (h.2.0, retagged_links e.slot c u fs h.2.1),
             retagged_slots e.slot f.slot u fs h.3,
             retag_hung f.link f.tag fs h.4 rest,
           ) in
-          subst (λ (b : Bool). IsHung link w' c t (cond b (record f { tag = u } ∷ fs) (f ∷ retagged e.slot u fs))) (sym q.0) all
+          subst (λ (b : Bool). IsList link w' c t (cond b (record f { tag = u } ∷ fs) (f ∷ retagged e.slot u fs))) (sym q.0) all
     ]
 
-    pub retag_behind : (es : List (Entry L)) → IsHung link w e.link e.tag es → IsHung link w' e.link u es
+    pub retag_behind : (es : List (Entry L)) → IsList link w e.link e.tag es → IsList link w' e.link u es
     retag_behind es h =
         let next : n.next ≡ first_slot es = kept_same n.next (first_slot es) e.tag e.tag (sym n.kept ∙ hung_first link w e.link e.tag es h) in
         let out : IsOut e.link (links es) = hung_out link w e.link e.tag es h in
@@ -105,28 +105,28 @@ set_state {L} w w1 w2 d d2 l o r t t' u at at2 kept was e1 filled =
 
 -- the first entry of a list is one that a pointer may name
 module _ {L : Type 0} (link : L → Option ℕ) where
-  first_node : (w : State L) (c i : ℕ) (t : Tag) (es : List (Entry L)) → IsHung link w c t es → first_slot es ≡ Some i → IsSomeNode link w (Some i)
+  first_node : (w : State L) (c i : ℕ) (t : Tag) (es : List (Entry L)) → IsList link w c t es → first_slot es ≡ Some i → IsSomeNode link w (Some i)
   first_node w c i t [] h is = absurd (some_nothing i (sym is))
   first_node w c i t (e ∷ es) h is = record { entry = e; is = record { names = sym is; item = h.1; next = first_slot es; kept = hung_first link w e.link e.tag es h.4 } }
 
-  node_by : (w : State L) (c : ℕ) (t : Tag) (es : List (Entry L)) → IsHung link w c t es → (o : Option ℕ) → first_slot es ≡ o → IfSome o (λ i. IsSomeNode link w (Some i))
+  node_by : (w : State L) (c : ℕ) (t : Tag) (es : List (Entry L)) → IsList link w c t es → (o : Option ℕ) → first_slot es ≡ o → IfSome o (λ i. IsSomeNode link w (Some i))
   node_by w c t es h None is = tt
   node_by w c t es h (Some i) is = first_node w c i t es h is
 
-  pub hung_node : (w : State L) (c : ℕ) (t u : Tag) (es : List (Entry L)) → IsHung link w c t es → (o : Option ℕ) → cell_at w c ≡ cell.OfShared o u → IfSome o (λ i. IsSomeNode link w (Some i))
+  pub hung_node : (w : State L) (c : ℕ) (t u : Tag) (es : List (Entry L)) → IsList link w c t es → (o : Option ℕ) → cell_at w c ≡ cell.OfShared o u → IfSome o (λ i. IsSomeNode link w (Some i))
   hung_node w c t u es h o kept = node_by w c t es h o (kept_same (first_slot es) o t u (sym (hung_first link w c t es h) ∙ kept))
 
 -- some list hangs behind the first entry of a list
 module _ {L : Type 0} (link : L → Option ℕ) where
-  first_listed : (w : State L) (c i : ℕ) (t : Tag) (es : List (Entry L)) → IsHung link w c t es → first_slot es ≡ Some i → IsListed link w (Some i)
+  first_listed : (w : State L) (c i : ℕ) (t : Tag) (es : List (Entry L)) → IsList link w c t es → first_slot es ≡ Some i → IsListed link w (Some i)
   first_listed w c i t [] h is = absurd (some_nothing i (sym is))
   first_listed w c i t (e ∷ es) h is = record { entry = e; rest = es; is = record { names = sym is; item = h.1; next = first_slot es; kept = hung_first link w e.link e.tag es h.4 }; hung = h.4 }
 
-  listed_by : (w : State L) (c : ℕ) (t : Tag) (es : List (Entry L)) → IsHung link w c t es → (o : Option ℕ) → first_slot es ≡ o → IfSome o (λ i. IsListed link w (Some i))
+  listed_by : (w : State L) (c : ℕ) (t : Tag) (es : List (Entry L)) → IsList link w c t es → (o : Option ℕ) → first_slot es ≡ o → IfSome o (λ i. IsListed link w (Some i))
   listed_by w c t es h None is = tt
   listed_by w c t es h (Some i) is = first_listed w c i t es h is
 
-  pub hung_listed : (w : State L) (c : ℕ) (t u : Tag) (es : List (Entry L)) → IsHung link w c t es → (o : Option ℕ) → cell_at w c ≡ cell.OfShared o u → IfSome o (λ i. IsListed link w (Some i))
+  pub hung_listed : (w : State L) (c : ℕ) (t u : Tag) (es : List (Entry L)) → IsList link w c t es → (o : Option ℕ) → cell_at w c ≡ cell.OfShared o u → IfSome o (λ i. IsListed link w (Some i))
   hung_listed w c t u es h o kept = listed_by w c t es h o (kept_same (first_slot es) o t u (sym (hung_first link w c t es h) ∙ kept))
 
 pub has_first : {L : Type 0} (i : ℕ) (es : List (Entry L)) → first_slot (undeleted es) ≡ Some i → Has i es
@@ -134,10 +134,10 @@ has_first i [] is = absurd (some_nothing i (sym is))
 has_first i (e ∷ es) is = (elim (deleted e.tag) as (λ v. first_slot (cond v (undeleted es) (e ∷ undeleted es)) ≡ Some i → Has i (e ∷ es)) [ true ↦ λ k out. has_first i es k out.1 | false ↦ λ k out. out.0 (sym (some_same e.slot i k)) ]) is
 
 -- the first undeleted entry was given another tag, or not: some list hangs there still
-module _ {L : Type 0} (link : L → Option ℕ) (w w' : State L) (c : ℕ) (t u : Tag) (es : List (Entry L)) (h : IsHung link w c t es) where
+module _ {L : Type 0} (link : L → Option ℕ) (w w' : State L) (c : ℕ) (t u : Tag) (es : List (Entry L)) (h : IsList link w c t es) where
   pub record Hung : Type 0 where
     pub entries : List (Entry L)
-    pub is : IsHung link w' c t entries
+    pub is : IsList link w' c t entries
 
   retagged_by : (o : Option ℕ) (i : ℕ) → o ≡ Some i → o ≡ first_slot (undeleted es) → (n : IsSomeNode link w (Some i)) → (r : Bool) → (r ≡ true → (e : Entry L) → IsNode link w o e → Retags link w w' e u) → (r ≡ false → w' ≡ w) → Hung
   retagged_by o i is first n true did kept =
@@ -145,7 +145,7 @@ module _ {L : Type 0} (link : L → Option ℕ) (w w' : State L) (c : ℕ) (t u 
       let node : IsNode link w o n.entry = record { names = is ∙ m.names; item = m.item; next = m.next; kept = m.kept } in
       let at : first_slot (undeleted es) ≡ Some n.entry.slot = sym first ∙ is ∙ m.names in
       record { entries = retagged n.entry.slot u es; is = (did refl n.entry node).lists c t es h (has_first n.entry.slot es at) }
-  retagged_by o i is first n false did kept = record { entries = es; is = subst (λ (v : State L). IsHung link v c t es) (sym (kept refl)) h }
+  retagged_by o i is first n false did kept = record { entries = es; is = subst (λ (v : State L). IsList link v c t es) (sym (kept refl)) h }
 
   pub retagged_first : (o : Option ℕ) → o ≡ first_slot (undeleted es) → IfSome o (λ i. IsSomeNode link w (Some i)) → true ≡ is_some o → (r : Bool) → (r ≡ true → (e : Entry L) → IsNode link w o e → Retags link w w' e u) → (r ≡ false → w' ≡ w) → Hung
   retagged_first None first n some r did kept = absurd (false≢true (sym some))

@@ -8,13 +8,13 @@ use Rattle.sdd_base.specs.declared.tag.Tag.{Tag}
 use Rattle.sdd_base.specs.declared.tag.Tag.TheVariants as tag
 use Rattle.sdd_base.specs.declared.status.Status.TheVariants as status
 use Rattle.sdd_base.specs.declared.status.Cell.TheVariants as cell
-use Rattle.sdd.specs.Chain.{Entry, slots, links, IsOut, AreOut, IsItem, IsHung, IsLoose, Leaves, SameUses, skip, undeleted, deleted, first_slot, MoreOwners, OneMore}
+use Rattle.sdd.specs.Chain.{Entry, slots, links, IsOut, AreOut, IsItem, IsList, IsDetached, Leaves, SameUses, skip, undeleted, deleted, first_slot, MoreOwners, OneMore}
 use Rattle.sdd.specs.Queues.{last_slot, HasTwo, IsQueue, Follows, CanFollow, vacated}
 use Rattle.sdd.specs.Stacks.{IsNew, IsMade}
 use Rattle.sdd.specs.Entries.{entry_link}
 use Rattle.sdd.specs.declared.linked_entry.LinkedEntry.{LinkedEntry}
 use Rattle.sdd.proofs.Chains.{hung_left, cell_left, item_left, leaves_then, leaves_more, leaves_all, leaves_write, out_of_none, wrote_same, wrote_other, inside_cells, inside_states, some_same, head_cell, kept_same, free_cell_out, free_slot_out}
-use Rattle.sdd.proofs.Fronts.{leaves_free, first_skipped, first_none, TookSome, popped_left, popped_gone, popped_leaves, skipped_links, none_skipped}
+use Rattle.sdd.proofs.ListHead.{leaves_free, first_skipped, first_none, TookSome, popped_left, popped_gone, popped_leaves, skipped_links, none_skipped}
 use Rattle.sdd.proofs.Shares.{shared_same}
 use Rattle.sdd.proofs.Releases.{leaves_released, spare_owner, spare_item, spare_state, out_of_one}
 
@@ -59,7 +59,7 @@ module _ {L : Type 0} (link : L → Option ℕ) where
   newest_live w c d es q i k = two_shared w i (newest_shared w c d es q i k)
 
   -- the newest cell was emptied
-  forgot_as : (p c d : ℕ) (o : Option ℕ) (es : List (Entry L)) (w : State L) → IsQueue link w c d es → last_slot es ≡ o → IsHung link (vacated p d o w) c tag.None es × (cell_at (vacated p d o w) d ≡ cell.OfShared None tag.None) × Leaves (d ∷ []) (slots es) w (vacated p d o w)
+  forgot_as : (p c d : ℕ) (o : Option ℕ) (es : List (Entry L)) (w : State L) → IsQueue link w c d es → last_slot es ≡ o → IsList link (vacated p d o w) c tag.None es × (cell_at (vacated p d o w) d ≡ cell.OfShared None tag.None) × Leaves (d ∷ []) (slots es) w (vacated p d o w)
   forgot_as p c d None es w q is =
       let v : State L = with_cell d (cell.OfShared None tag.None) w in
       let l : Leaves (d ∷ []) [] w v = leaves_write (d ∷ []) [] w w d (cell.OfShared None tag.None) (λ j out. out.0) (leaves_all (d ∷ []) [] w) in
@@ -73,7 +73,7 @@ module _ {L : Type 0} (link : L → Option ℕ) where
       let two = q.spare i is in
       let l : Leaves (d ∷ []) [] w v = leaves_write (d ∷ []) [] w w d (cell.OfShared None tag.None) (λ j out. out.0) (leaves_all (d ∷ []) [] w) in
       let inside : d < length w.cells = inside_cells w.cells d (last_slot es) tag.None q.newest in
-      let hung : IsHung link v c tag.None es = hung_left link (d ∷ []) [] w v c tag.None es l (λ e. q.apart (sym e), tt) (out_of_one (links es) d q.out) (out_of_none (slots es)) q.hung in
+      let hung : IsList link v c tag.None es = hung_left link (d ∷ []) [] w v c tag.None es l (λ e. q.apart (sym e), tt) (out_of_one (links es) d q.out) (out_of_none (slots es)) q.hung in
       let r = leaves_released p i v in (
         spare_owner link p i two.owners c tag.None es v two.is two.two hung,
         cell_left link [] (i ∷ []) v (released p i v) d None tag.None r tt (wrote_same w d (cell.OfShared None tag.None) inside),
@@ -81,7 +81,7 @@ module _ {L : Type 0} (link : L → Option ℕ) where
       )
 
   pub record Forgot (w w1 : State L) (c d : ℕ) (es : List (Entry L)) : Type 0 where
-    pub hung : IsHung link w1 c tag.None es
+    pub hung : IsList link w1 c tag.None es
     pub newest : cell_at w1 d ≡ cell.OfShared None tag.None
     pub leaves : Leaves (d ∷ []) (slots es) w w1
 
@@ -91,10 +91,10 @@ module _ {L : Type 0} (link : L → Option ℕ) where
       subst (λ (v : State L). Forgot w v c d es) (sym e) (record { hung = r.0; newest = r.1; leaves = r.2 })
 
   -- nothing undeleted was left, and the rest was given back too
-  pub emptied : (w w1 w2 : State L) (c d : ℕ) (es : List (Entry L)) → IsQueue link w c d es → Forgot w w1 c d es → undeleted es ≡ [] → IsHung link w2 c tag.None (skip es) → Leaves (c ∷ links es) (slots es) w1 w2 → IsQueue link w2 c d []
+  pub emptied : (w w1 w2 : State L) (c d : ℕ) (es : List (Entry L)) → IsQueue link w c d es → Forgot w w1 c d es → undeleted es ≡ [] → IsList link w2 c tag.None (skip es) → Leaves (c ∷ links es) (slots es) w1 w2 → IsQueue link w2 c d []
   emptied w w1 w2 c d es q f none h l =
       let e : skip es ≡ [] = first_none (skip es) (first_skipped es ∙ ap first_slot none) in
-      empty_queue w2 c d (subst (λ (xs : List (Entry L)). IsHung link w2 c tag.None xs) e h) (cell_left link (c ∷ links es) (slots es) w1 w2 d None tag.None l (q.apart, q.out) f.newest) q.apart
+      empty_queue w2 c d (subst (λ (xs : List (Entry L)). IsList link w2 c tag.None xs) e h) (cell_left link (c ∷ links es) (slots es) w1 w2 d None tag.None l (q.apart, q.out) f.newest) q.apart
 
   pub emptied_leaves : (w w1 w2 : State L) (c d : ℕ) (es : List (Entry L)) → Forgot w w1 c d es → Leaves (c ∷ links es) (slots es) w1 w2 → Leaves (c ∷ d ∷ links es) (slots es) w w2
   emptied_leaves w w1 w2 c d es f l = leaves_then (c ∷ d ∷ links es) (slots es) w w1 w2 (leaves_more (d ∷ []) (slots es) (c ∷ d ∷ links es) (slots es) w w1 (λ j out. (out.1.0, tt)) (λ j out. out) f.leaves) (leaves_more (c ∷ links es) (slots es) (c ∷ d ∷ links es) (slots es) w1 w2 (λ j out. (out.0, out.1.1)) (λ j out. out) l)
@@ -154,10 +154,10 @@ module _ {L : Type 0} (link : L → Option ℕ) (w w1 w2 w3 : State L) (c d i p 
   pub newest3 : cell_at w3 d ≡ cell.OfShared (last_slot es) tag.None
   newest3 = cell_left link (c ∷ links es) (slots es) w w3 d (last_slot es) tag.None before3 (q.apart, q.out) q.newest
 
-  left3 : IsHung link w3 c tag.None k.rest
+  left3 : IsList link w3 c tag.None k.rest
   left3 = popped_left link w1 w2 w3 c i tag.None (skip es) k is
 
-  gone3 : IsLoose link w3 (record k.entry { tag = tag.Second })
+  gone3 : IsDetached link w3 (record k.entry { tag = tag.Second })
   gone3 = popped_gone link w1 w2 w3 c i tag.None (skip es) k is
 
   last3 : last_slot es ≡ last_slot (k.entry ∷ k.rest)
@@ -181,7 +181,7 @@ module _ {L : Type 0} (link : L → Option ℕ) (w w1 w2 w3 : State L) (c d i p 
 
   pub record Settled (w4 : State L) : Type 0 where
     pub queue : IsQueue link w4 c d k.rest
-    pub gone : IsLoose link w4 (record k.entry { tag = tag.Second })
+    pub gone : IsDetached link w4 (record k.entry { tag = tag.Second })
     pub leaves : Leaves (c ∷ d ∷ links es) (slots es) w w4
 
   wider : Leaves (c ∷ d ∷ links es) (slots es) w w3
@@ -206,7 +206,7 @@ module _ {L : Type 0} (link : L → Option ℕ) (w w1 w2 w3 : State L) (c d i p 
       let two = two3 k.entry.slot last in
       let wrote : Leaves (d ∷ []) [] w3 v = leaves_write (d ∷ []) [] w3 w3 d (cell.OfShared None tag.None) (λ j out. out.0) (leaves_all (d ∷ []) [] w3) in
       let l4 = leaves_released p k.entry.slot v in
-      let empty : cell_at w3 c ≡ cell.OfShared None tag.None = subst (λ (xs : List (Entry L)). IsHung link w3 c tag.None xs) none left3 in
+      let empty : cell_at w3 c ≡ cell.OfShared None tag.None = subst (λ (xs : List (Entry L)). IsList link w3 c tag.None xs) none left3 in
       let c4 = cell_left link [] (k.entry.slot ∷ []) v w4 c None tag.None l4 tt (cell_left link (d ∷ []) [] w3 v c None tag.None wrote (λ e. q.apart (sym e), tt) empty) in
       let d4 = cell_left link [] (k.entry.slot ∷ []) v w4 d None tag.None l4 tt (wrote_same w3 d (cell.OfShared None tag.None) (inside_cells w3.cells d (last_slot es) tag.None newest3)) in
       let e : Entry L = record k.entry { tag = tag.Second } in
@@ -220,8 +220,8 @@ module _ {L : Type 0} (link : L → Option ℕ) (w w1 w2 w3 : State L) (c d i p 
       subst (λ (o : Option ℕ). Settled (vacated p d o w3)) (sym last) result
 
   settled_by : (w4 : State L) → ((j : ℕ) (t : Tag) → cell_at w3 c ≡ cell.OfShared (Some j) t → w4 ≡ w3) → ((o : Option ℕ) (t : Tag) → cell_at w3 c ≡ cell.OfShared None t → cell_at w3 d ≡ cell.OfShared o tag.None → w4 ≡ vacated p d o w3) → (xs : List (Entry L)) → k.rest ≡ xs → Settled w4
-  settled_by w4 some none [] e = subst Settled (sym (none (last_slot es) tag.None (subst (λ (xs : List (Entry L)). IsHung link w3 c tag.None xs) e left3) newest3)) (settled_none e)
-  settled_by w4 some none (f ∷ fs) e = subst Settled (sym (some f.slot tag.None (subst (λ (xs : List (Entry L)). IsHung link w3 c tag.None xs) e left3).0)) (settled_more f fs e)
+  settled_by w4 some none [] e = subst Settled (sym (none (last_slot es) tag.None (subst (λ (xs : List (Entry L)). IsList link w3 c tag.None xs) e left3) newest3)) (settled_none e)
+  settled_by w4 some none (f ∷ fs) e = subst Settled (sym (some f.slot tag.None (subst (λ (xs : List (Entry L)). IsList link w3 c tag.None xs) e left3).0)) (settled_more f fs e)
 
   pub settled : (w4 : State L) → ((j : ℕ) (t : Tag) → cell_at w3 c ≡ cell.OfShared (Some j) t → w4 ≡ w3) → ((o : Option ℕ) (t : Tag) → cell_at w3 c ≡ cell.OfShared None t → cell_at w3 d ≡ cell.OfShared o tag.None → w4 ≡ vacated p d o w3) → Settled w4
   settled w4 some none = settled_by w4 some none k.rest refl
@@ -281,7 +281,7 @@ module _ {L : Type 0} (link : L → Option ℕ) (w w1 : State L) (c d : ℕ) (es
   kept_newest : cell_at w1 d ≡ cell.OfShared (last_slot es) tag.None
   kept_newest = cell_left link (c ∷ links es) (slots es) w w1 d (last_slot es) tag.None l (q.apart, q.out) q.newest
 
-  skipped_by : IsHung link w1 c tag.None (skip es) → SameUses w w1 (slots (skip es)) → (xs : List (Entry L)) → skip es ≡ xs → undeleted es ≢ [] → IsQueue link w1 c d (skip es)
+  skipped_by : IsList link w1 c tag.None (skip es) → SameUses w w1 (slots (skip es)) → (xs : List (Entry L)) → skip es ≡ xs → undeleted es ≢ [] → IsQueue link w1 c d (skip es)
   skipped_by h same [] is some = absurd (some (none_skipped es is))
   skipped_by h same (f ∷ fs) is some =
       let last : last_slot es ≡ last_slot (skip es) = last_skipped f fs es is ∙ ap last_slot (sym is) in
@@ -293,10 +293,10 @@ module _ {L : Type 0} (link : L → Option ℕ) (w w1 : State L) (c d : ℕ) (es
         spare = λ j at. let k = q.spare j (last ∙ at) in record { owners = k.owners; is = same_last w w1 j (skip es) same at ∙ k.is; two = k.two };
       }
 
-  pub skipped_queue : IsHung link w1 c tag.None (skip es) → SameUses w w1 (slots (skip es)) → undeleted es ≢ [] → IsQueue link w1 c d (skip es)
+  pub skipped_queue : IsList link w1 c tag.None (skip es) → SameUses w w1 (slots (skip es)) → undeleted es ≢ [] → IsQueue link w1 c d (skip es)
   skipped_queue h same some = skipped_by h same (skip es) refl some
 
-  pub owned_queue : IsHung link w1 c tag.None es → MoreOwners w w1 → IsQueue link w1 c d es
+  pub owned_queue : IsList link w1 c tag.None es → MoreOwners w w1 → IsQueue link w1 c d es
   owned_queue h more = record {
     hung = h;
     newest = kept_newest;

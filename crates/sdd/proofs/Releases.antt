@@ -9,7 +9,7 @@ use Rattle.sdd_base.specs.declared.tag.Tag.{Tag}
 use Rattle.sdd_base.specs.declared.status.Status.{Status}
 use Rattle.sdd_base.specs.declared.status.Status.TheVariants as status
 use Rattle.sdd_base.specs.declared.status.Cell.TheVariants as cell
-use Rattle.sdd.specs.Chain.{Entry, slots, links, IsOut, AreOut, IsItem, IsHung, IsLoose, Leaves, Stays, TookFirst, Hangs, Begins, Cut, Dropped, SameUses, OneMore, skip}
+use Rattle.sdd.specs.Chain.{Entry, slots, links, IsOut, AreOut, IsItem, IsList, IsDetached, Leaves, Stays, TookFirst, Hangs, Begins, Cut, Dropped, SameUses, OneMore, skip}
 use Rattle.sdd.proofs.Chains.{hung_left, leaves_then, leaves_more, leaves_all, out_of_none, some_same, inside_cells, inside_states}
 use Rattle.sdd.proofs.Walks.{skipped_first, kept_first, hung_length}
 use Rattle.std.proofs.lemmas.List.{nil_from_length, set-get_or, set-set}
@@ -106,7 +106,7 @@ same_uses w (i ∷ is) = (refl, same_uses w is)
 
 module _ {L : Type 0} (link : L → Option ℕ) where
   -- the first entry was taken off and given back
-  pub dropped_first : (p i c : ℕ) (t : Tag) (e : Entry L) (es : List (Entry L)) (w w1 w2 : State L) → IsHung link w c t (e ∷ es) → TookFirst link w w1 c t (e ∷ es) (Some i) → w2 ≡ released p i w1 → IsHung link w2 c t es × Leaves (c ∷ e.link ∷ []) (e.slot ∷ []) w w2
+  pub dropped_first : (p i c : ℕ) (t : Tag) (e : Entry L) (es : List (Entry L)) (w w1 w2 : State L) → IsList link w c t (e ∷ es) → TookFirst link w w1 c t (e ∷ es) (Some i) → w2 ≡ released p i w1 → IsList link w2 c t es × Leaves (c ∷ e.link ∷ []) (e.slot ∷ []) w w2
   dropped_first p i c t e es w w1 w2 h k is =
       let at : i ≡ e.slot = some_same i e.slot k.0 in
       let is' : w2 ≡ released p e.slot w1 = is ∙ ap (λ (j : ℕ). released p j w1) at in
@@ -114,19 +114,19 @@ module _ {L : Type 0} (link : L → Option ℕ) where
       let v : State L = released p e.slot w1 in
       let cs : List ℕ = c ∷ e.link ∷ [] in
       let js : List ℕ = e.slot ∷ [] in
-      let after : IsHung link v c t es × Leaves cs js w v = (
+      let after : IsList link v c t es × Leaves cs js w v = (
         hung_left link [] js w1 v c t es l tt (out_of_none (links es)) (out_of_one (slots es) e.slot h.3) k.1,
         leaves_then cs js w w1 v (leaves_more cs [] cs js w w1 (λ j out. out) (λ j out. tt) k.3) (leaves_more [] js cs js w1 v (λ j out. tt) (λ j out. out) l),
       ) in
-      subst (λ (s : State L). IsHung link s c t es × Leaves cs js w s) (sym is') after
+      subst (λ (s : State L). IsList link s c t es × Leaves cs js w s) (sym is') after
 
   -- the entries behind keep their uses
-  pub same_rest : (w w1 w2 : State L) (i c d j : ℕ) (t : Tag) (es : List (Entry L)) → Leaves (c ∷ d ∷ []) (i ∷ []) w1 w2 → IsOut i (slots es) → IsHung link w1 j t es → SameUses w w1 (slots es) → SameUses w w2 (slots es)
+  pub same_rest : (w w1 w2 : State L) (i c d j : ℕ) (t : Tag) (es : List (Entry L)) → Leaves (c ∷ d ∷ []) (i ∷ []) w1 w2 → IsOut i (slots es) → IsList link w1 j t es → SameUses w w1 (slots es) → SameUses w w2 (slots es)
   same_rest w w1 w2 i c d j t [] l out h s = tt
   same_rest w w1 w2 i c d j t (e ∷ es) l out h s = (l.uses e.slot (λ q. out.0 (sym q), tt) (ap vacancy h.1.shared) ∙ s.0, same_rest w w1 w2 i c d e.link e.tag es l out.1 h.4 s.1)
 
   -- nothing was given back yet
-  abbrev pub cut_start : (w : State L) (c : ℕ) (t : Tag) (es : List (Entry L)) → IsHung link w c t es → Cut link w w c t es 0
+  abbrev pub cut_start : (w : State L) (c : ℕ) (t : Tag) (es : List (Entry L)) → IsList link w c t es → Cut link w w c t es 0
   cut_start w c t es h = record {
     rest = es;
     hung = h;
@@ -138,9 +138,9 @@ module _ {L : Type 0} (link : L → Option ℕ) where
   }
 
   -- the first of the rest was given back
-  abbrev pub cut_next : (w w1 w2 : State L) (c d n : ℕ) (t : Tag) (item : L) (gone : Bool) (es : List (Entry L)) (k : Cut link w w1 c t es n) → Begins k.rest item d gone → ((u : Tag) (e : Entry L) (xs : List (Entry L)) → IsHung link w1 c u (e ∷ xs) → IsHung link w2 c u xs × Leaves (c ∷ e.link ∷ []) (e.slot ∷ []) w1 w2) → Cut link w w2 c t es (n + 1)
+  abbrev pub cut_next : (w w1 w2 : State L) (c d n : ℕ) (t : Tag) (item : L) (gone : Bool) (es : List (Entry L)) (k : Cut link w w1 c t es n) → Begins k.rest item d gone → ((u : Tag) (e : Entry L) (xs : List (Entry L)) → IsList link w1 c u (e ∷ xs) → IsList link w2 c u xs × Leaves (c ∷ e.link ∷ []) (e.slot ∷ []) w1 w2) → Cut link w w2 c t es (n + 1)
   cut_next w w1 w2 c d n t item gone es k b step =
-      let h : IsHung link w1 c t (b.first ∷ b.rest) = subst (λ (xs : List (Entry L)). IsHung link w1 c t xs) b.is k.hung in
+      let h : IsList link w1 c t (b.first ∷ b.rest) = subst (λ (xs : List (Entry L)). IsList link w1 c t xs) b.is k.hung in
       let r = step t b.first b.rest h in
       let outer : (j : ℕ) → IsOut j (links es) → IsOut j (links (b.first ∷ b.rest)) = λ j out. subst (λ (xs : List (Entry L)). IsOut j (links xs)) b.is (k.inner_links j out) in
       let outer' : (j : ℕ) → IsOut j (slots es) → IsOut j (slots (b.first ∷ b.rest)) = λ j out. subst (λ (xs : List (Entry L)). IsOut j (slots xs)) b.is (k.inner_slots j out) in
@@ -155,19 +155,19 @@ module _ {L : Type 0} (link : L → Option ℕ) where
         inner_slots = λ j out. (outer' j out).1;
       }
 
-  pub drop_start : (w : State L) (c : ℕ) (t : Tag) (es : List (Entry L)) → IsHung link w c t es → Dropped link w w c t es 0
+  pub drop_start : (w : State L) (c : ℕ) (t : Tag) (es : List (Entry L)) → IsList link w c t es → Dropped link w w c t es 0
   drop_start w c t es h = record { cut = cut_start w c t es h; skipped = refl }
 
-  pub drop_next : (w w1 w2 : State L) (c d n : ℕ) (t : Tag) (item : L) (es : List (Entry L)) (k : Dropped link w w1 c t es n) → Begins k.cut.rest item d true → ((u : Tag) (e : Entry L) (xs : List (Entry L)) → IsHung link w1 c u (e ∷ xs) → IsHung link w2 c u xs × Leaves (c ∷ e.link ∷ []) (e.slot ∷ []) w1 w2) → Dropped link w w2 c t es (n + 1)
+  pub drop_next : (w w1 w2 : State L) (c d n : ℕ) (t : Tag) (item : L) (es : List (Entry L)) (k : Dropped link w w1 c t es n) → Begins k.cut.rest item d true → ((u : Tag) (e : Entry L) (xs : List (Entry L)) → IsList link w1 c u (e ∷ xs) → IsList link w2 c u xs × Leaves (c ∷ e.link ∷ []) (e.slot ∷ []) w1 w2) → Dropped link w w2 c t es (n + 1)
   drop_next w w1 w2 c d n t item es k b step = record { cut = cut_next w w1 w2 c d n t item true es k.cut b step; skipped = sym (skipped_first b.first b.rest (sym b.gone_is)) ∙ ap skip (sym b.is) ∙ k.skipped }
 
   -- where the rest is empty, or begins with an undeleted entry, it is what was to be left
   pub record Left (w w1 : State L) (c : ℕ) (t : Tag) (es : List (Entry L)) : Type 0 where
-    pub hung : IsHung link w1 c t (skip es)
+    pub hung : IsList link w1 c t (skip es)
     pub same : SameUses w w1 (slots (skip es))
 
   left_by : (w w1 : State L) (c n : ℕ) (t : Tag) (es : List (Entry L)) (k : Dropped link w w1 c t es n) → k.cut.rest ≡ skip es → Left w w1 c t es
-  left_by w w1 c n t es k e = record { hung = subst (λ (xs : List (Entry L)). IsHung link w1 c t xs) e k.cut.hung; same = subst (λ (xs : List (Entry L)). SameUses w w1 (slots xs)) e k.cut.same }
+  left_by w w1 c n t es k e = record { hung = subst (λ (xs : List (Entry L)). IsList link w1 c t xs) e k.cut.hung; same = subst (λ (xs : List (Entry L)). SameUses w w1 (slots xs)) e k.cut.same }
 
   pub drop_none : (w w1 : State L) (c n : ℕ) (t : Tag) (es : List (Entry L)) (k : Dropped link w w1 c t es n) → k.cut.rest ≡ [] → Left w w1 c t es
   drop_none w w1 c n t es k none = left_by w w1 c n t es k (none ∙ ap skip (sym none) ∙ k.skipped)
@@ -175,24 +175,24 @@ module _ {L : Type 0} (link : L → Option ℕ) where
   pub drop_some : (w w1 : State L) (c d n : ℕ) (t : Tag) (item : L) (es : List (Entry L)) (k : Dropped link w w1 c t es n) → Begins k.cut.rest item d false → Left w w1 c t es
   drop_some w w1 c d n t item es k b = left_by w w1 c n t es k (b.is ∙ sym (kept_first b.first b.rest (sym b.gone_is)) ∙ ap skip (sym b.is) ∙ k.skipped)
 
-  cut_all : (w w1 : State L) (c n : ℕ) (t : Tag) (es : List (Entry L)) → IsHung link w c t es → in_use w ≤ n → (k : Cut link w w1 c t es n) → k.rest ≡ []
+  cut_all : (w w1 : State L) (c n : ℕ) (t : Tag) (es : List (Entry L)) → IsList link w c t es → in_use w ≤ n → (k : Cut link w w1 c t es n) → k.rest ≡ []
   cut_all w w1 c n t es h enough k = let m = hung_length link w c t es h in nil_from_length k.rest (omega (arith, m, k.passed, enough))
 
-  pub drop_all : (w w1 : State L) (c n : ℕ) (t : Tag) (es : List (Entry L)) → IsHung link w c t es → in_use w ≤ n → Dropped link w w1 c t es n → Left w w1 c t es
+  pub drop_all : (w w1 : State L) (c n : ℕ) (t : Tag) (es : List (Entry L)) → IsList link w c t es → in_use w ≤ n → Dropped link w w1 c t es n → Left w w1 c t es
   drop_all w w1 c n t es h enough k = drop_none w w1 c n t es k (cut_all w w1 c n t es h enough k.cut)
 
-  pub cleared : (w w1 : State L) (c n : ℕ) (t : Tag) (es : List (Entry L)) (k : Cut link w w1 c t es n) → k.rest ≡ [] → IsHung link w1 c t []
-  cleared w w1 c n t es k none = subst (λ (xs : List (Entry L)). IsHung link w1 c t xs) none k.hung
+  pub cleared : (w w1 : State L) (c n : ℕ) (t : Tag) (es : List (Entry L)) (k : Cut link w w1 c t es n) → k.rest ≡ [] → IsList link w1 c t []
+  cleared w w1 c n t es k none = subst (λ (xs : List (Entry L)). IsList link w1 c t xs) none k.hung
 
-  pub cleared_all : (w w1 : State L) (c n : ℕ) (t : Tag) (es : List (Entry L)) → IsHung link w c t es → in_use w ≤ n → Cut link w w1 c t es n → IsHung link w1 c t []
+  pub cleared_all : (w w1 : State L) (c n : ℕ) (t : Tag) (es : List (Entry L)) → IsList link w c t es → in_use w ≤ n → Cut link w w1 c t es n → IsList link w1 c t []
   cleared_all w w1 c n t es h enough k = cleared w w1 c n t es k (cut_all w w1 c n t es h enough k)
 
   -- an entry in no list is marked as deleted
-  pub loose_cell : (w : State L) (e : Entry L) → IsLoose link w e → (d : ℕ) → d ≡ e.link → IsSharedCell w d
+  pub loose_cell : (w : State L) (e : Entry L) → IsDetached link w e → (d : ℕ) → d ≡ e.link → IsSharedCell w d
   loose_cell w e k d at = subst (λ (j : ℕ). IsSharedCell w j) (sym at) (record { inside = inside_cells w.cells e.link None e.tag k.empty; item = None; tag = e.tag; is = k.empty })
 
-  pub drop_hangs : (w1 w2 : State L) (c d : ℕ) (item : L) (gone : Bool) → (h : Hangs link w1 c) → Begins h.entries item d gone → ((u : Tag) (e : Entry L) (xs : List (Entry L)) → IsHung link w1 c u (e ∷ xs) → IsHung link w2 c u xs × Leaves (c ∷ e.link ∷ []) (e.slot ∷ []) w1 w2) → Hangs link w2 c
-  drop_hangs w1 w2 c d item gone h b step = record { tag = h.tag; entries = b.rest; is = (step h.tag b.first b.rest (subst (λ (xs : List (Entry L)). IsHung link w1 c h.tag xs) b.is h.is)).0 }
+  pub drop_hangs : (w1 w2 : State L) (c d : ℕ) (item : L) (gone : Bool) → (h : Hangs link w1 c) → Begins h.entries item d gone → ((u : Tag) (e : Entry L) (xs : List (Entry L)) → IsList link w1 c u (e ∷ xs) → IsList link w2 c u xs × Leaves (c ∷ e.link ∷ []) (e.slot ∷ []) w1 w2) → Hangs link w2 c
+  drop_hangs w1 w2 c d item gone h b step = record { tag = h.tag; entries = b.rest; is = (step h.tag b.first b.rest (subst (λ (xs : List (Entry L)). IsList link w1 c h.tag xs) b.is h.is)).0 }
 
   -- another number of owners
   pub item_owners : (i m : ℕ) (w : State L) (e : Entry L) → 1 ≤ m → i < length w.states → IsItem link w e → IsItem link (with_status i (status.Shared m) w) e
@@ -201,12 +201,12 @@ module _ {L : Type 0} (link : L → Option ℕ) where
     | inr q ↦ record { owners = h.owners; shared = get_or-set_other w.states i e.slot (status.Shared m) status.Free q.1 ∙ h.shared; owned = h.owned; here = h.here; linked = h.linked }
   ]
 
-  pub hung_owners : (i m c : ℕ) (t : Tag) (es : List (Entry L)) (w : State L) → 1 ≤ m → i < length w.states → IsHung link w c t es → IsHung link (with_status i (status.Shared m) w) c t es
+  pub hung_owners : (i m c : ℕ) (t : Tag) (es : List (Entry L)) (w : State L) → 1 ≤ m → i < length w.states → IsList link w c t es → IsList link (with_status i (status.Shared m) w) c t es
   hung_owners i m c t [] w some lt h = h
   hung_owners i m c t (e ∷ es) w some lt h = (h.0, item_owners i m w e some lt h.1, h.2, h.3, hung_owners i m e.link e.tag es w some lt h.4)
 
-  pub spare_owner : (p i n c : ℕ) (t : Tag) (es : List (Entry L)) (w : State L) → status_at w i ≡ status.Shared n → 2 ≤ n → IsHung link w c t es → IsHung link (released p i w) c t es
-  spare_owner p i n c t es w is more h = subst (λ (v : State L). IsHung link v c t es) (sym (spare_state p i n w is more)) (hung_owners i (n - 1) c t es w (omega (arith, more)) (inside_states w.states i n is) h)
+  pub spare_owner : (p i n c : ℕ) (t : Tag) (es : List (Entry L)) (w : State L) → status_at w i ≡ status.Shared n → 2 ≤ n → IsList link w c t es → IsList link (released p i w) c t es
+  spare_owner p i n c t es w is more h = subst (λ (v : State L). IsList link v c t es) (sym (spare_state p i n w is more)) (hung_owners i (n - 1) c t es w (omega (arith, more)) (inside_states w.states i n is) h)
 
   pub spare_item : (p i n : ℕ) (w : State L) (e : Entry L) → status_at w i ≡ status.Shared n → 2 ≤ n → IsItem link w e → IsItem link (released p i w) e
   spare_item p i n w e is more h = subst (λ (v : State L). IsItem link v e) (sym (spare_state p i n w is more)) (item_owners i (n - 1) w e (omega (arith, more)) (inside_states w.states i n is) h)

@@ -12,10 +12,10 @@ use Rattle.sdd_base.specs.declared.status.Status.{Status}
 use Rattle.sdd_base.specs.declared.status.Status.TheVariants as status
 use Rattle.sdd_base.specs.declared.status.Cell.{Cell}
 use Rattle.sdd_base.specs.declared.status.Cell.TheVariants as cell
-use Rattle.sdd.specs.Chain.{Entry, slots, links, IsOut, AreOut, IsHung, Hangs, Leaves}
+use Rattle.sdd.specs.Chain.{Entry, slots, links, IsOut, AreOut, IsList, Hangs, Leaves}
 use Rattle.sdd.specs.Bags.{IsNull, cell_of, freed, AreEmpty, AreApart, IsRow, joined, AreSingle, AreOwn, Adds}
 use Rattle.sdd.proofs.Chains.{hung_left, free_cell_out, free_slot_out, wrote_other, leaves_all, leaves_then, leaves_more}
-use Rattle.sdd.proofs.Fronts.{same_use}
+use Rattle.sdd.proofs.ListHead.{same_use}
 
 -- lists of lists
 module _ {X : Type 0} where
@@ -163,10 +163,10 @@ own_left w w' cs [] l h = tt
 own_left w w' cs (e ∷ es) l h = (h.0, same_use w w' cs e.slot 1 l h.1, own_left w w' cs es l h.2)
 
 module _ {L : Type 0} (link : L → Option ℕ) where
-  pub cells_used : (w : State L) (c : ℕ) (t : Tag) (es : List (Entry L)) → IsHung link w c t es → (j : ℕ) → emptiness (cell_at w j) ≢ 0 → IsOut j (c ∷ links es)
+  pub cells_used : (w : State L) (c : ℕ) (t : Tag) (es : List (Entry L)) → IsList link w c t es → (j : ℕ) → emptiness (cell_at w j) ≢ 0 → IsOut j (c ∷ links es)
   cells_used w c t es h j free = free_cell_out link w j c t es (free_of (cell_at w j) free) h
 
-  pub slots_used : (w : State L) (c : ℕ) (t : Tag) (es : List (Entry L)) → IsHung link w c t es → (j : ℕ) → vacancy (status_at w j) ≢ 0 → IsOut j (slots es)
+  pub slots_used : (w : State L) (c : ℕ) (t : Tag) (es : List (Entry L)) → IsList link w c t es → (j : ℕ) → vacancy (status_at w j) ≢ 0 → IsOut j (slots es)
   slots_used w c t es h j free = free_slot_out link w j c t es (vacant_of (status_at w j) free) h
 
   -- the list at place k changes, and with it what is its own and what was free
@@ -174,7 +174,7 @@ module _ {L : Type 0} (link : L → Option ℕ) where
       (row : IsRow link w cs rows)
       (inside : k < length cs)
       (there : k < length rows)
-      (hung : IsHung link w' (get_or cs k 0) tag.None r)
+      (hung : IsList link w' (get_or cs k 0) tag.None r)
       (l : Leaves (get_or cs k 0 ∷ links (get_or rows k [])) (slots (get_or rows k [])) w w')
       (more_links : (j : ℕ) → emptiness (cell_at w j) ≡ 0 → IsOut j (links (get_or rows k [])) → IsOut j (links r))
       (more_slots : (j : ℕ) → vacancy (status_at w j) ≡ 0 → IsOut j (slots (get_or rows k [])) → IsOut j (slots r))
@@ -185,13 +185,13 @@ module _ {L : Type 0} (link : L → Option ℕ) where
       other : (m : ℕ) → m ≢ k → get_or (set rows k r) m [] ≡ get_or rows m []
       other m ne = get_or-set_other rows k m r [] ne
 
-      hung_set : (m : ℕ) → m < length cs → IsHung link w' (get_or cs m 0) tag.None (get_or (set rows k r) m [])
-      hung_set m lt = elim (cases_eq m k) as (λ _. IsHung link w' (get_or cs m 0) tag.None (get_or (set rows k r) m [])) [
-        | inl e ↦ subst (λ (i : ℕ). IsHung link w' (get_or cs i 0) tag.None (get_or (set rows k r) i [])) (sym e) (subst (λ (es : List (Entry L)). IsHung link w' (get_or cs k 0) tag.None es) (sym (at_k k refl)) hung)
+      hung_set : (m : ℕ) → m < length cs → IsList link w' (get_or cs m 0) tag.None (get_or (set rows k r) m [])
+      hung_set m lt = elim (cases_eq m k) as (λ _. IsList link w' (get_or cs m 0) tag.None (get_or (set rows k r) m [])) [
+        | inl e ↦ subst (λ (i : ℕ). IsList link w' (get_or cs i 0) tag.None (get_or (set rows k r) i [])) (sym e) (subst (λ (es : List (Entry L)). IsList link w' (get_or cs k 0) tag.None es) (sym (at_k k refl)) hung)
         | inr ne ↦
             let out = are_out (get_or cs m 0 ∷ links (get_or rows m [])) (get_or cs k 0 ∷ links (get_or rows k [])) (row.cells m k lt inside ne) in
             let outs = are_out (slots (get_or rows m [])) (slots (get_or rows k [])) (row.items m k lt inside ne) in
-            subst (λ (es : List (Entry L)). IsHung link w' (get_or cs m 0) tag.None es) (sym (other m ne)) (hung_left link (get_or cs k 0 ∷ links (get_or rows k [])) (slots (get_or rows k [])) w w' (get_or cs m 0) tag.None (get_or rows m []) l out.0 out.1 outs (row.hung m lt))
+            subst (λ (es : List (Entry L)). IsList link w' (get_or cs m 0) tag.None es) (sym (other m ne)) (hung_left link (get_or cs k 0 ∷ links (get_or rows k [])) (slots (get_or rows k [])) w w' (get_or cs m 0) tag.None (get_or rows m []) l out.0 out.1 outs (row.hung m lt))
       ]
 
       cells_grow : (m : ℕ) → m ≡ k → (j : ℕ) → emptiness (cell_at w j) ≡ 0 → IsOut j (get_or cs m 0 ∷ links (get_or rows m [])) → IsOut j (get_or cs m 0 ∷ links (get_or (set rows k r) m []))
@@ -346,7 +346,7 @@ module _ {L : Type 0} (link : L → Option ℕ) where
   -- lists that are the same at each place of the row
   pub row_same : (w : State L) (cs : List ℕ) (rows rows' : List (List (Entry L))) → ((k : ℕ) → k < length cs → get_or rows k [] ≡ get_or rows' k []) → IsRow link w cs rows → IsRow link w cs rows'
   row_same w cs rows rows' same row = record {
-    hung = λ k lt. subst (λ (es : List (Entry L)). IsHung link w (get_or cs k 0) tag.None es) (same k lt) (row.hung k lt);
+    hung = λ k lt. subst (λ (es : List (Entry L)). IsList link w (get_or cs k 0) tag.None es) (same k lt) (row.hung k lt);
     cells = λ a b la lb ne. subst (λ (es : List (Entry L)). AreApart (get_or cs a 0 ∷ links es) (get_or cs b 0 ∷ links (get_or rows' b []))) (same a la) (subst (λ (es : List (Entry L)). AreApart (get_or cs a 0 ∷ links (get_or rows a [])) (get_or cs b 0 ∷ links es)) (same b lb) (row.cells a b la lb ne));
     items = λ a b la lb ne. subst (λ (es : List (Entry L)). AreApart (slots es) (slots (get_or rows' b []))) (same a la) (subst (λ (es : List (Entry L)). AreApart (slots (get_or rows a [])) (slots es)) (same b lb) (row.items a b la lb ne));
   }
@@ -363,16 +363,16 @@ module _ {L : Type 0} (link : L → Option ℕ) where
   pub emptied_start : (w : State L) (cs : List ℕ) (rows : List (List (Entry L))) → IsRow link w cs rows → Emptied w w cs rows 0
   emptied_start w cs rows row = record { rest = rows; row = row; size = refl; done = λ k lt. absurd (omega (arith, lt)); kept = λ k from. refl; leaves = leaves_all (cs ++ links (joined rows)) (slots (joined rows)) w }
 
-  pub emptied_next : (w w1 w2 : State L) (cs : List ℕ) (rows : List (List (Entry L))) (n c : ℕ) → n < length cs → length cs ≤ length rows → c ≡ get_or cs n 0 → (k : Emptied w w1 cs rows n) → ((t : Tag) (es : List (Entry L)) → IsHung link w1 c t es → IsHung link w2 c t []) → ((t : Tag) (es : List (Entry L)) → IsHung link w1 c t es → Leaves (c ∷ links es) (slots es) w1 w2) → Emptied w w2 cs rows (n + 1)
+  pub emptied_next : (w w1 w2 : State L) (cs : List ℕ) (rows : List (List (Entry L))) (n c : ℕ) → n < length cs → length cs ≤ length rows → c ≡ get_or cs n 0 → (k : Emptied w w1 cs rows n) → ((t : Tag) (es : List (Entry L)) → IsList link w1 c t es → IsList link w2 c t []) → ((t : Tag) (es : List (Entry L)) → IsList link w1 c t es → Leaves (c ∷ links es) (slots es) w1 w2) → Emptied w w2 cs rows (n + 1)
   emptied_next w w1 w2 cs rows n c inside enough at k cleared leaves =
       let es = get_or k.rest n [] in
-      let hung = subst (λ (i : ℕ). IsHung link w1 i tag.None es) (sym at) (k.row.hung n inside) in
+      let hung = subst (λ (i : ℕ). IsList link w1 i tag.None es) (sym at) (k.row.hung n inside) in
       let there : n < length k.rest = (let s = k.size in omega (arith, inside, enough, s)) in
       let l = subst (λ (i : ℕ). Leaves (i ∷ links es) (slots es) w1 w2) at (leaves tag.None es hung) in
       let is = k.kept n (omega arith) in
       record {
         rest = set k.rest n [];
-        row = row_set link w1 w2 cs k.rest n [] k.row inside there (subst (λ (i : ℕ). IsHung link w2 i tag.None []) at (cleared tag.None es hung)) l (λ j used out. tt) (λ j used out. tt);
+        row = row_set link w1 w2 cs k.rest n [] k.row inside there (subst (λ (i : ℕ). IsList link w2 i tag.None []) at (cleared tag.None es hung)) l (λ j used out. tt) (λ j used out. tt);
         size = length-set k.rest n [] ∙ k.size;
         done = λ m lt. elim (cases_eq m n) as (λ _. get_or (set k.rest n []) m [] ≡ []) [
           | inl e ↦ ap (λ (i : ℕ). get_or (set k.rest n []) i []) e ∙ get_or-set_same k.rest n [] [] there
@@ -385,7 +385,7 @@ module _ {L : Type 0} (link : L → Option ℕ) where
       }
 
   pub emptied_hangs : (w w1 : State L) (cs : List ℕ) (rows : List (List (Entry L))) (n c : ℕ) → n < length cs → c ≡ get_or cs n 0 → Emptied w w1 cs rows n → Hangs link w1 c
-  emptied_hangs w w1 cs rows n c inside at k = record { tag = tag.None; entries = get_or k.rest n []; is = subst (λ (i : ℕ). IsHung link w1 i tag.None (get_or k.rest n [])) (sym at) (k.row.hung n inside) }
+  emptied_hangs w w1 cs rows n c inside at k = record { tag = tag.None; entries = get_or k.rest n []; is = subst (λ (i : ℕ). IsList link w1 i tag.None (get_or k.rest n [])) (sym at) (k.row.hung n inside) }
 
   pub emptied_all : (w w1 : State L) (cs : List ℕ) (rows : List (List (Entry L))) (n : ℕ) → length cs ≤ n → Emptied w w1 cs rows n → IsRow link w1 cs []
   emptied_all w w1 cs rows n all k = row_same w1 cs k.rest [] (λ m lt. k.done m (omega (arith, lt, all))) k.row

@@ -5,10 +5,10 @@ use Rattle.sdd_base.specs.State.{State, status_at, cell_at, with_status}
 use Rattle.sdd_base.specs.declared.tag.Tag.{Tag}
 use Rattle.sdd_base.specs.declared.status.Status.TheVariants as status
 use Rattle.sdd_base.specs.declared.status.Cell.TheVariants as cell
-use Rattle.sdd.specs.Chain.{Entry, slots, links, IsOut, IsHung, IsLoose, Leaves, Fits, CanHang, TookFirst, MoreOwners, OneMore}
+use Rattle.sdd.specs.Chain.{Entry, slots, links, IsOut, IsList, IsDetached, Leaves, Fits, CanHang, TookFirst, MoreOwners, OneMore}
 use Rattle.sdd.proofs.Chains.{full_empty, kept_same, some_same, hung_out, leaves_then, leaves_more, leaves_all, inside_states}
 use Rattle.sdd.proofs.Releases.{item_owners, hung_owners}
-use Rattle.sdd.proofs.Fronts.{TookSome, took_nothing, same_use}
+use Rattle.sdd.proofs.ListHead.{TookSome, took_nothing, same_use}
 
 pub shared_same : (n m : ℕ) → status.Shared n ≡ status.Shared m → n ≡ m
 shared_same n m e = cc
@@ -20,17 +20,17 @@ leaves_owners w i m = record {
   values = λ j out used. refl;
 }
 
-module _ {L : Type 0} (link : L → Option ℕ) (w w1 w2 : State L) (c i : ℕ) (t : Tag) (es : List (Entry L)) (h : IsHung link w c t es) (k : TookSome link w w1 c i t es) where
+module _ {L : Type 0} (link : L → Option ℕ) (w w1 w2 : State L) (c i : ℕ) (t : Tag) (es : List (Entry L)) (h : IsList link w c t es) (k : TookSome link w w1 c i t es) where
   -- the list and its first entry, while that is off: its owners were counted, or not
   pub record Off : Type 0 where
-    pub left : IsHung link w2 c t k.rest
-    pub loose : IsLoose link w2 k.entry
+    pub left : IsList link w2 c t k.rest
+    pub loose : IsDetached link w2 k.entry
     pub leaves : Leaves [] (i ∷ []) w1 w2
 
   pub off_same : w2 ≡ w1 → Off
   off_same e = record {
-    left = subst (λ (v : State L). IsHung link v c t k.rest) (sym e) k.left;
-    loose = subst (λ (v : State L). IsLoose link v k.entry) (sym e) k.loose;
+    left = subst (λ (v : State L). IsList link v c t k.rest) (sym e) k.left;
+    loose = subst (λ (v : State L). IsDetached link v k.entry) (sym e) k.loose;
     leaves = subst (λ (v : State L). Leaves [] (i ∷ []) w1 v) (sym e) (leaves_all [] (i ∷ []) w1);
   }
 
@@ -38,28 +38,28 @@ module _ {L : Type 0} (link : L → Option ℕ) (w w1 w2 : State L) (c i : ℕ) 
   off_more n m some is e =
       let lt = inside_states w1.states i n is in
       record {
-        left = subst (λ (v : State L). IsHung link v c t k.rest) (sym e) (hung_owners link i m c t k.rest w1 some lt k.left);
-        loose = subst (λ (v : State L). IsLoose link v k.entry) (sym e) (record { item = item_owners link i m w1 k.entry some lt k.loose.item; empty = k.loose.empty });
+        left = subst (λ (v : State L). IsList link v c t k.rest) (sym e) (hung_owners link i m c t k.rest w1 some lt k.left);
+        loose = subst (λ (v : State L). IsDetached link v k.entry) (sym e) (record { item = item_owners link i m w1 k.entry some lt k.loose.item; empty = k.loose.empty });
         leaves = subst (λ (v : State L). Leaves [] (i ∷ []) w1 v) (sym e) (leaves_owners w1 i m);
       }
 
-  fits_off : IsHung link w2 c t k.rest → Fits c k.rest k.entry
+  fits_off : IsList link w2 c t k.rest → Fits c k.rest k.entry
   fits_off g = record { cell = (k.apart, hung_out link w2 c t k.rest g); link = k.out; slot = k.alone }
 
   pub can_return : Off → CanHang link w2 c i
   can_return o = record { tag = t; entries = k.rest; entry = k.entry; hung = o.left; loose = o.loose; fits = fits_off o.left; at = k.at }
 
-  module _ (w3 : State L) (o : Off) (put : (u : Tag) (xs : List (Entry L)) (x : Entry L) → IsHung link w2 c u xs → IsLoose link w2 x → Fits c xs x → i ≡ x.slot → IsHung link w3 c u (x ∷ xs) × Leaves (c ∷ x.link ∷ []) [] w2 w3) where
-    back : IsHung link w3 c t (k.entry ∷ k.rest) × Leaves (c ∷ k.entry.link ∷ []) [] w2 w3
+  module _ (w3 : State L) (o : Off) (put : (u : Tag) (xs : List (Entry L)) (x : Entry L) → IsList link w2 c u xs → IsDetached link w2 x → Fits c xs x → i ≡ x.slot → IsList link w3 c u (x ∷ xs) × Leaves (c ∷ x.link ∷ []) [] w2 w3) where
+    back : IsList link w3 c t (k.entry ∷ k.rest) × Leaves (c ∷ k.entry.link ∷ []) [] w2 w3
     back = put t k.rest k.entry o.left o.loose (fits_off o.left) k.at
 
-    pub shared_hung : IsHung link w3 c t es
-    shared_hung = subst (λ (xs : List (Entry L)). IsHung link w3 c t xs) (sym k.is) back.0
+    pub shared_hung : IsList link w3 c t es
+    shared_hung = subst (λ (xs : List (Entry L)). IsList link w3 c t xs) (sym k.is) back.0
 
     -- the first entry has one owner more
     pub one_more : (n : ℕ) → status_at w1 i ≡ status.Shared n → w2 ≡ with_status i (status.Shared (n + 1)) w1 → OneMore w w3 i
     one_more n is e =
-        let item = (subst (λ (xs : List (Entry L)). IsHung link w c t xs) k.is h).1 in
+        let item = (subst (λ (xs : List (Entry L)). IsList link w c t xs) k.is h).1 in
         let was : status_at w i ≡ status.Shared item.owners = ap (λ (j : ℕ). status_at w j) k.at ∙ item.shared in
         let same : n ≡ item.owners = shared_same n item.owners (sym is ∙ same_use w w1 (c ∷ k.entry.link ∷ []) i item.owners k.leaves was) in
         let two : status_at w2 i ≡ status.Shared (n + 1) = ap (λ (v : State L). status_at v i) e ∙ get_or-set_same w1.states i (status.Shared (n + 1)) status.Free (inside_states w1.states i n is) in
@@ -100,7 +100,7 @@ pub owners_none : {L : Type 0} (link : L → Option ℕ) (w w1 : State L) (c : �
 owners_none link w w1 c t es k = λ j n is. (n, same_use w w1 [] j n (took_nothing link w w1 c t es k).2 is, omega arith)
 
 -- the first entry of a list has an owner
-pub hung_owned : {L : Type 0} (link : L → Option ℕ) (w : State L) (c i n : ℕ) (t u : Tag) (es : List (Entry L)) → IsHung link w c t es → cell_at w c ≡ cell.OfShared (Some i) u → status_at w i ≡ status.Shared n → 1 ≤ n
+pub hung_owned : {L : Type 0} (link : L → Option ℕ) (w : State L) (c i n : ℕ) (t u : Tag) (es : List (Entry L)) → IsList link w c t es → cell_at w c ≡ cell.OfShared (Some i) u → status_at w i ≡ status.Shared n → 1 ≤ n
 hung_owned link w c i n t u [] h kept is = absurd (full_empty None i t u (sym h ∙ kept))
 hung_owned link w c i n t u (e ∷ es) h kept is =
     let at : e.slot ≡ i = some_same e.slot i (kept_same (Some e.slot) (Some i) t u (sym h.0 ∙ kept)) in

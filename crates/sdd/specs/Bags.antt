@@ -8,7 +8,7 @@ use Rattle.sdd_base.specs.declared.tag.Tag.{Tag}
 use Rattle.sdd_base.specs.declared.tag.Tag.TheVariants as tag
 use Rattle.sdd_base.specs.declared.status.Status.TheVariants as status
 use Rattle.sdd_base.specs.declared.status.Cell.TheVariants as cell
-use Rattle.sdd.specs.Chain.{Entry, IsHung, IsLoose, IsOut, links, slots}
+use Rattle.sdd.specs.Chain.{Entry, IsList, IsDetached, IsOut, links, slots}
 use Rattle.sdd.specs.Stacks.{IsNew, IsStack}
 use Rattle.sdd.specs.Entries.{entry_link}
 use Rattle.sdd.specs.declared.linked_entry.LinkedEntry.{LinkedEntry}
@@ -34,7 +34,7 @@ AreApart xs ys = (j : ℕ) → IsOut j xs ⊎ IsOut j ys
 
 -- entries hang from the cells of a row, from each those of the list at its place; no cell and no item comes twice
 pub record IsRow {L : Type 0} (link : L → Option ℕ) (w : State L) (cs : List ℕ) (rows : List (List (Entry L))) : Type 0 where
-  pub hung : (k : ℕ) → k < length cs → IsHung link w (get_or cs k 0) tag.None (get_or rows k [])
+  pub hung : (k : ℕ) → k < length cs → IsList link w (get_or cs k 0) tag.None (get_or rows k [])
   pub cells : (k m : ℕ) → k < length cs → m < length cs → k ≢ m → AreApart (get_or cs k 0 ∷ links (get_or rows k [])) (get_or cs m 0 ∷ links (get_or rows m []))
   pub items : (k m : ℕ) → k < length cs → m < length cs → k ≢ m → AreApart (slots (get_or rows k [])) (slots (get_or rows m []))
 
@@ -62,7 +62,7 @@ AreOwn w (e ∷ es) = (e.tag ≡ tag.None) × (status_at w e.slot ≡ status.Sha
 -- clear entries with one owner that are in no list, none of them twice: each owner can be given back by itself
 abbrev pub AreSpare : {T : Type 0} → State (LinkedEntry T) → List (Entry (LinkedEntry T)) → Type 0
 AreSpare w [] = Unit {0}
-AreSpare w (e ∷ es) = IsLoose entry_link w e × IsOut e.slot (slots es) × AreSpare w es
+AreSpare w (e ∷ es) = IsDetached entry_link w e × IsOut e.slot (slots es) × AreSpare w es
 
 -- the cells of a bag
 abbrev pub bag_cells : {T : Type 0} {n : ℕ} → Bag T n → List ℕ
@@ -122,7 +122,7 @@ pub record PutsOverflow {T : Type 0} (n : ℕ) (w w' : State (LinkedEntry T)) (v
 pub record TakesOne {T : Type 0} (n : ℕ) (w' : State (LinkedEntry T)) (cs : List ℕ) (i : ℕ) (primary overflow : List (Entry (LinkedEntry T))) : Type 0 where
   pub entry : Entry (LinkedEntry T)
   pub at : i ≡ entry.slot
-  pub loose : IsLoose entry_link w' entry
+  pub loose : IsDetached entry_link w' entry
   pub clear : entry.tag ≡ tag.None
   pub owners : status_at w' entry.slot ≡ status.Shared 1
   pub rest : List (Entry (LinkedEntry T))

@@ -11,7 +11,7 @@ use Rattle.sdd_base.specs.declared.status.Status.TheVariants as status
 use Rattle.sdd_base.specs.declared.tag.Tag.{Tag}
 use Rattle.sdd_base.specs.declared.tag.Tag.TheVariants as tag
 use Rattle.sdd.specs.Bags.{IsBag, IsSomeBag, bag_cells}
-use Rattle.sdd.specs.Chain.{Entry, IsHung, IsLoose, Leaves, first_item, first_slot, links, slots, undeleted}
+use Rattle.sdd.specs.Chain.{Entry, IsList, IsDetached, Leaves, first_item, first_slot, links, slots, undeleted}
 use Rattle.sdd.specs.Entries.{entry_link, entry_value}
 use Rattle.sdd.specs.Nodes.{IsApart, IsNode}
 use Rattle.sdd.specs.Queues.{Appends, IsQueue, IsSomeQueue, KeepsQueue, Takes, newest_cell, oldest_cell}
@@ -109,7 +109,7 @@ module _ {T : Type 0} where
 module _ {L : Type 0} where
   -- whatever list hangs from a cell, with the tag there
   abbrev pub OfList : (L → Option ℕ) → State L → AtomicShared L → (Tag → List (Entry L) → Type 0) → Type 0
-  OfList link w from P = (t : Tag) (es : List (Entry L)) → IsHung link w (shared_cell from) t es → P t es
+  OfList link w from P = (t : Tag) (es : List (Entry L)) → IsList link w (shared_cell from) t es → P t es
 
   -- of what is in use, at most a list changes: its cell, its links and its entries
   abbrev pub OnlyList : (L → Option ℕ) → State L → State L → AtomicShared L → Type 0
@@ -117,11 +117,11 @@ module _ {L : Type 0} where
 
   -- whatever entry slot o names, and the list behind it
   abbrev pub OfNode : (L → Option ℕ) → State L → Option ℕ → (Entry L → List (Entry L) → Type 0) → Type 0
-  OfNode link w o P = (e : Entry L) (es : List (Entry L)) → IsNode link w o e → IsHung link w e.link e.tag es → P e es
+  OfNode link w o P = (e : Entry L) (es : List (Entry L)) → IsNode link w o e → IsList link w e.link e.tag es → P e es
 
   -- an entry x in no list, in slot i, that can come behind the one that slot o names
   abbrev pub OfInsertion : (L → Option ℕ) → State L → Option ℕ → ℕ → (Entry L → Entry L → Type 0) → Type 0
-  OfInsertion link w o i P = (e : Entry L) (x : Entry L) (es : List (Entry L)) → IsNode link w o e → IsHung link w e.link e.tag es → IsLoose link w x → i ≡ x.slot → IsApart e.link es x → P e x
+  OfInsertion link w o i P = (e : Entry L) (x : Entry L) (es : List (Entry L)) → IsNode link w o e → IsList link w e.link e.tag es → IsDetached link w x → i ≡ x.slot → IsApart e.link es x → P e x
 
 -- an entry of the value was made, of a cell that was free
 abbrev pub MakesEntry : {T : Type 0} → State (LinkedEntry T) → State (LinkedEntry T) → LinkedEntry T → T → Type 0

@@ -49,9 +49,9 @@ pub record IsItem {L : Type 0} (link : L → Option ℕ) (w : State L) (e : Entr
 
 -- entries hang from a cell: it has the given tag and keeps the first entry, whose link keeps the next, and so on to an
 -- empty one; no cell and no item comes twice
-abbrev pub IsHung : {L : Type 0} → (L → Option ℕ) → State L → ℕ → Tag → List (Entry L) → Type 0
-IsHung link w c t [] = cell_at w c ≡ cell.OfShared None t
-IsHung link w c t (e ∷ es) = (cell_at w c ≡ cell.OfShared (Some e.slot) t) × IsItem link w e × IsOut c (links (e ∷ es)) × IsOut e.slot (slots es) × IsHung link w e.link e.tag es
+abbrev pub IsList : {L : Type 0} → (L → Option ℕ) → State L → ℕ → Tag → List (Entry L) → Type 0
+IsList link w c t [] = cell_at w c ≡ cell.OfShared None t
+IsList link w c t (e ∷ es) = (cell_at w c ≡ cell.OfShared (Some e.slot) t) × IsItem link w e × IsOut c (links (e ∷ es)) × IsOut e.slot (slots es) × IsList link w e.link e.tag es
 
 -- the undeleted entries
 abbrev pub undeleted : {L : Type 0} → List (Entry L) → List (Entry L)
@@ -68,7 +68,7 @@ pub record Leaves {L : Type 0} (cs is : List ℕ) (w w' : State L) : Type 0 wher
 pub record Hangs {L : Type 0} (link : L → Option ℕ) (w : State L) (c : ℕ) : Type 0 where
   pub tag : Tag
   pub entries : List (Entry L)
-  pub is : IsHung link w c tag entries
+  pub is : IsList link w c tag entries
 
 -- the owner names an item with a link
 pub record HasLink {L : Type 0} (link : L → Option ℕ) (w : State L) (i : ℕ) : Type 0 where
@@ -77,7 +77,7 @@ pub record HasLink {L : Type 0} (link : L → Option ℕ) (w : State L) (i : ℕ
   pub is : IsItem link w entry
 
 -- an entry that is in no list, and has no next one
-pub record IsLoose {L : Type 0} (link : L → Option ℕ) (w : State L) (e : Entry L) : Type 0 where
+pub record IsDetached {L : Type 0} (link : L → Option ℕ) (w : State L) (e : Entry L) : Type 0 where
   pub item : IsItem link w e
   pub empty : cell_at w e.link ≡ cell.OfShared None e.tag
 
@@ -89,8 +89,8 @@ pub record Fits {L : Type 0} (c : ℕ) (es : List (Entry L)) (e : Entry L) : Typ
 
 -- the first entry of a list was taken off: i is its slot, or none
 abbrev pub TookFirst : {L : Type 0} → (L → Option ℕ) → State L → State L → ℕ → Tag → List (Entry L) → Option ℕ → Type 0
-TookFirst link w w' c t [] i = (i ≡ None) × IsHung link w' c t [] × Leaves [] [] w w'
-TookFirst link w w' c t (e ∷ es) i = (i ≡ Some e.slot) × IsHung link w' c t es × IsLoose link w' e × Leaves (c ∷ e.link ∷ []) [] w w'
+TookFirst link w w' c t [] i = (i ≡ None) × IsList link w' c t [] × Leaves [] [] w w'
+TookFirst link w w' c t (e ∷ es) i = (i ≡ Some e.slot) × IsList link w' c t es × IsDetached link w' e × Leaves (c ∷ e.link ∷ []) [] w w'
 
 -- the slot of the first entry, if there is one
 abbrev pub first_slot : {L : Type 0} → List (Entry L) → Option ℕ
@@ -112,8 +112,8 @@ pub record CanHang {L : Type 0} (link : L → Option ℕ) (w : State L) (c i : �
   pub tag : Tag
   pub entries : List (Entry L)
   pub entry : Entry L
-  pub hung : IsHung link w c tag entries
-  pub loose : IsLoose link w entry
+  pub hung : IsList link w c tag entries
+  pub loose : IsDetached link w entry
   pub fits : Fits c entries entry
   pub at : i ≡ entry.slot
 
@@ -140,7 +140,7 @@ pub record Begins {L : Type 0} (es : List (Entry L)) (item : L) (link : ℕ) (go
 pub record Skipped {L : Type 0} (link : L → Option ℕ) (w : State L) (t : Tag) (es : List (Entry L)) (n c : ℕ) : Type 0 where
   pub tag : Tag
   pub rest : List (Entry L)
-  pub hung : IsHung link w c tag rest
+  pub hung : IsList link w c tag rest
   pub same : skip rest ≡ skip es
   pub tags : front_tag tag rest ≡ front_tag t es
   pub passed : n + length rest ≡ length es
@@ -149,7 +149,7 @@ pub record Skipped {L : Type 0} (link : L → Option ℕ) (w : State L) (t : Tag
 pub record Counted {L : Type 0} (link : L → Option ℕ) (w : State L) (es : List (Entry L)) (n m c : ℕ) : Type 0 where
   pub tag : Tag
   pub rest : List (Entry L)
-  pub hung : IsHung link w c tag rest
+  pub hung : IsList link w c tag rest
   pub same : m + length (undeleted rest) ≡ length (undeleted es)
   pub passed : n + length rest ≡ length es
 
@@ -172,7 +172,7 @@ pub record OneMore {L : Type 0} (w w' : State L) (i : ℕ) : Type 0 where
 -- n entries at the front of a list were given back
 pub record Cut {L : Type 0} (link : L → Option ℕ) (w w' : State L) (c : ℕ) (t : Tag) (es : List (Entry L)) (n : ℕ) : Type 0 where
   pub rest : List (Entry L)
-  pub hung : IsHung link w' c t rest
+  pub hung : IsList link w' c t rest
   pub passed : n + length rest ≡ length es
   pub leaves : Leaves (c ∷ links es) (slots es) w w'
   pub same : SameUses w w' (slots rest)

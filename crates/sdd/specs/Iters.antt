@@ -3,7 +3,7 @@ use Rattle.std.specs.Prelude.{◌≡◌, ℕ, Option, None, Some, List, [], ◌�
 use Rattle.sdd_base.specs.State.{State}
 use Rattle.sdd_base.specs.Tokens.{link_cell}
 use Rattle.sdd_base.specs.declared.tag.Tag.{Tag}
-use Rattle.sdd.specs.Chain.{Entry, IsHung, undeleted}
+use Rattle.sdd.specs.Chain.{Entry, IsList, undeleted}
 use Rattle.sdd.specs.Entries.{entry_value, entry_link}
 use Rattle.sdd.specs.declared.linked_entry.LinkedEntry.{LinkedEntry}
 use Rattle.sdd.specs.declared.iter.Iter.{Iter}
@@ -26,5 +26,5 @@ rest_of (x ∷ xs) = xs
 pub record Moves {T : Type 0} (w : State (LinkedEntry T)) (c : ℕ) (es : List (Entry (LinkedEntry T))) : Type 0 where
   pub tag : Tag
   pub rest : List (Entry (LinkedEntry T))
-  pub hung : IsHung entry_link w c tag rest
+  pub hung : IsList entry_link w c tag rest
   pub same : undeleted rest ≡ rest_of (undeleted es)

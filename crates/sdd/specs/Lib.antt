@@ -9,6 +9,6 @@ pub mod Refusals
 pub mod Bags
 pub mod Iters
 pub mod Copies
-pub mod Fillings
-pub mod Visits
+pub mod FromIter
+pub mod MutableIteration
 pub mod Guards

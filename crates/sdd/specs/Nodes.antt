@@ -4,7 +4,7 @@ use Rattle.sdd_base.specs.State.{State, cell_at}
 use Rattle.sdd_base.specs.declared.tag.Tag.{Tag}
 use Rattle.sdd_base.specs.declared.tag.Tag.TheVariants as tag
 use Rattle.sdd_base.specs.declared.status.Cell.TheVariants as cell
-use Rattle.sdd.specs.Chain.{Entry, IsItem, IsHung, IsLoose, IsOut, slots, links}
+use Rattle.sdd.specs.Chain.{Entry, IsItem, IsList, IsDetached, IsOut, slots, links}
 
 -- a pointer to slot o names this entry: its item is there, and its link keeps a next one or none
 pub record IsNode {L : Type 0} (link : L → Option ℕ) (w : State L) (o : Option ℕ) (e : Entry L) : Type 0 where
@@ -23,7 +23,7 @@ pub record IsListed {L : Type 0} (link : L → Option ℕ) (w : State L) (o : Op
   pub entry : Entry L
   pub rest : List (Entry L)
   pub is : IsNode link w o entry
-  pub hung : IsHung link w entry.link entry.tag rest
+  pub hung : IsList link w entry.link entry.tag rest
 
 abbrev pub clear : Tag → Bool
 clear tag.None = true
@@ -62,21 +62,21 @@ pub record CanInsert {L : Type 0} (link : L → Option ℕ) (w : State L) (o : O
   pub entry : Entry L
   pub rest : List (Entry L)
   pub is : IsNode link w o entry
-  pub hung : IsHung link w entry.link entry.tag rest
+  pub hung : IsList link w entry.link entry.tag rest
   pub new : Entry L
   pub at : i ≡ new.slot
-  pub loose : IsLoose link w new
+  pub loose : IsDetached link w new
   pub clear : new.tag ≡ tag.None
   pub other : new.slot ≢ entry.slot
   pub apart : IsApart entry.link rest new
 
 -- entry x was put behind entry e, which has another tag now
 pub record Inserts {L : Type 0} (link : L → Option ℕ) (w w' : State L) (e : Entry L) (u : Tag) (x : Entry L) : Type 0 where
-  pub lists : (c : ℕ) (t : Tag) (es : List (Entry L)) → IsHung link w c t es → Has e.slot es → IsApart c es x → IsHung link w' c t (inserted e.slot x (retagged e.slot u es))
-  pub behind : (es : List (Entry L)) → IsHung link w e.link e.tag es → IsApart e.link es x → IsHung link w' e.link u (x ∷ es)
+  pub lists : (c : ℕ) (t : Tag) (es : List (Entry L)) → IsList link w c t es → Has e.slot es → IsApart c es x → IsList link w' c t (inserted e.slot x (retagged e.slot u es))
+  pub behind : (es : List (Entry L)) → IsList link w e.link e.tag es → IsApart e.link es x → IsList link w' e.link u (x ∷ es)
 
 -- the tag of an entry was changed, alone and in each list that has it, and what is behind it stays
 pub record Retags {L : Type 0} (link : L → Option ℕ) (w w' : State L) (e : Entry L) (u : Tag) : Type 0 where
   pub node : IsNode link w' (Some e.slot) (record e { tag = u })
-  pub lists : (c : ℕ) (t : Tag) (es : List (Entry L)) → IsHung link w c t es → Has e.slot es → IsHung link w' c t (retagged e.slot u es)
-  pub behind : (es : List (Entry L)) → IsHung link w e.link e.tag es → IsHung link w' e.link u es
+  pub lists : (c : ℕ) (t : Tag) (es : List (Entry L)) → IsList link w c t es → Has e.slot es → IsList link w' c t (retagged e.slot u es)
+  pub behind : (es : List (Entry L)) → IsList link w e.link e.tag es → IsList link w' e.link u es

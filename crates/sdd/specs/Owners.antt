@@ -7,15 +7,15 @@ use Rattle.sdd_base.specs.declared.status.Status.TheVariants as status
 use Rattle.sdd.specs.Queues.{IsQueue}
 use Rattle.sdd.specs.Bags.{IsBag}
 use Rattle.sdd.specs.declared.linked_entry.LinkedEntry.{LinkedEntry}
-use Rattle.sdd.specs.Chain.{Entry, IsHung, Leaves, AreOut, IsOut, links, slots}
+use Rattle.sdd.specs.Chain.{Entry, IsList, Leaves, AreOut, IsOut, links, slots}
 
 -- giving back one owner of several leaves every list
 abbrev pub SpareOwners : {L : Type 0} → (L → Option ℕ) → Type 0
-SpareOwners {L} link = (p i n c : ℕ) (t : Tag) (es : List (Entry L)) (w : State L) → status_at w i ≡ status.Shared n → 2 ≤ n → IsHung link w c t es → IsHung link (released p i w) c t es
+SpareOwners {L} link = (p i n c : ℕ) (t : Tag) (es : List (Entry L)) (w : State L) → status_at w i ≡ status.Shared n → 2 ≤ n → IsList link w c t es → IsList link (released p i w) c t es
 
 -- a list stays where a call leaves its cells and its items
 abbrev pub ListsStay : {L : Type 0} → (L → Option ℕ) → Type 0
-ListsStay {L} link = (cs is : List ℕ) (c : ℕ) (t : Tag) (es : List (Entry L)) (w w' : State L) → Leaves cs is w w' → IsOut c cs → AreOut (links es) cs → AreOut (slots es) is → IsHung link w c t es → IsHung link w' c t es
+ListsStay {L} link = (cs is : List ℕ) (c : ℕ) (t : Tag) (es : List (Entry L)) (w w' : State L) → Leaves cs is w w' → IsOut c cs → AreOut (links es) cs → AreOut (slots es) is → IsList link w c t es → IsList link w' c t es
 
 -- a queue stays where a call leaves its cells and its items
 abbrev pub QueuesStay : {L : Type 0} → (L → Option ℕ) → Type 0

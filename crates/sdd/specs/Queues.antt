@@ -6,7 +6,7 @@ use Rattle.sdd_base.specs.Tokens.{shared_cell}
 use Rattle.sdd_base.specs.declared.tag.Tag.TheVariants as tag
 use Rattle.sdd_base.specs.declared.status.Status.TheVariants as status
 use Rattle.sdd_base.specs.declared.status.Cell.TheVariants as cell
-use Rattle.sdd.specs.Chain.{Entry, IsHung, IsLoose, IsOut, links, slots, undeleted}
+use Rattle.sdd.specs.Chain.{Entry, IsList, IsDetached, IsOut, links, slots, undeleted}
 use Rattle.sdd.specs.Stacks.{IsNew}
 use Rattle.sdd.specs.Entries.{entry_link}
 use Rattle.sdd.specs.declared.linked_entry.LinkedEntry.{LinkedEntry}
@@ -33,7 +33,7 @@ pub record HasTwo {L : Type 0} (w : State L) (i : ℕ) : Type 0 where
 
 -- a queue of these entries hangs from cell c, and cell d owns the last one too
 pub record IsQueue {L : Type 0} (link : L → Option ℕ) (w : State L) (c d : ℕ) (es : List (Entry L)) : Type 0 where
-  pub hung : IsHung link w c tag.None es
+  pub hung : IsList link w c tag.None es
   pub newest : cell_at w d ≡ cell.OfShared (last_slot es) tag.None
   pub apart : d ≢ c
   pub out : IsOut d (links es)
@@ -68,7 +68,7 @@ pub record CanFollow {L : Type 0} (link : L → Option ℕ) (w : State L) (c d i
   pub entries : List (Entry L)
   pub entry : Entry L
   pub queue : IsQueue link w c d entries
-  pub loose : IsLoose link w entry
+  pub loose : IsDetached link w entry
   pub follows : Follows c d entries entry
   pub at : i ≡ entry.slot
 
@@ -89,7 +89,7 @@ pub record Takes {T : Type 0} (w' : State (LinkedEntry T)) (c d i : ℕ) (es : L
   pub at : i ≡ entry.slot
   pub left : IsQueue entry_link w' c d rest
   pub apart : IsOut entry.slot (slots rest)
-  pub gone : IsLoose entry_link w' (record entry { tag = tag.Second })
+  pub gone : IsDetached entry_link w' (record entry { tag = tag.Second })
 
 -- a cell is emptied, and participant p gives back what it kept
 abbrev pub vacated : {L : Type 0} → ℕ → ℕ → Option ℕ → State L → State L

@@ -4,7 +4,7 @@ use Rattle.sdd_base.specs.State.{State, status_at, IsFree, IsFreeCell}
 use Rattle.sdd_base.specs.Tokens.{shared_cell}
 use Rattle.sdd_base.specs.declared.status.Status.TheVariants as status
 use Rattle.sdd_base.specs.declared.tag.Tag.TheVariants as tag
-use Rattle.sdd.specs.Chain.{Entry, IsHung, IsLoose, IsOut, slots, undeleted}
+use Rattle.sdd.specs.Chain.{Entry, IsList, IsDetached, IsOut, slots, undeleted}
 use Rattle.sdd.specs.Entries.{entry_value, entry_link}
 use Rattle.sdd.specs.declared.linked_entry.LinkedEntry.{LinkedEntry}
 use Rattle.sdd.specs.declared.stack.Stack.{Stack}
@@ -15,7 +15,7 @@ stack_cell s = shared_cell s.newest
 
 -- a stack of these entries hangs from the cell
 abbrev pub IsStack : {T : Type 0} → State (LinkedEntry T) → ℕ → List (Entry (LinkedEntry T)) → Type 0
-IsStack w c es = IsHung entry_link w c tag.None es
+IsStack w c es = IsList entry_link w c tag.None es
 
 -- some stack hangs from the cell
 pub record IsSomeStack {T : Type 0} (w : State (LinkedEntry T)) (c : ℕ) : Type 0 where
@@ -34,7 +34,7 @@ pub record IsMade {T : Type 0} (w w' : State (LinkedEntry T)) (value : T) (i : �
   pub entry : Entry (LinkedEntry T)
   pub at : i ≡ entry.slot
   pub new : IsNew w value entry
-  pub loose : IsLoose entry_link w' entry
+  pub loose : IsDetached entry_link w' entry
 
 -- a new entry of the value, in slot i, was put in front of a stack, and given to the caller as well
 pub record Pushes {T : Type 0} (w w' : State (LinkedEntry T)) (value : T) (c i : ℕ) : Type 0 where
@@ -53,7 +53,7 @@ pub record Pops {T : Type 0} (w' : State (LinkedEntry T)) (c i : ℕ) (es : List
   pub at : i ≡ entry.slot
   pub left : IsStack w' c rest
   pub apart : IsOut entry.slot (slots rest)
-  pub gone : IsLoose entry_link w' (record entry { tag = tag.Second })
+  pub gone : IsDetached entry_link w' (record entry { tag = tag.Second })
 
 -- whether a call with a condition took an entry
 abbrev pub taken : {S E : Type 0} → Result (Option S) E → Bool

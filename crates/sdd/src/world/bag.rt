@@ -8,7 +8,7 @@ ghost use Rattle.sdd_base.specs.Tokens.{shared_slot};
 ghost use Rattle.sdd.specs.Chain.{Entry, Leaves, Stays};
 ghost use Rattle.sdd.specs.Bags.{IsLength, PutsPrimary, PutsOverflow, TakesOne, IsSameBag, CallsWith, AreOwn, AreSpare, AreFreeCells, bag_cells, into_cells};
 ghost use Rattle.std.specs.Iterator.{IsFiniteIterable};
-ghost use Rattle.sdd.specs.Fillings.{FillsBag, IfUnmade, IfNoSlot};
+ghost use Rattle.sdd.specs.FromIter.{FillsBag, IfUnmade, IfNoSlot};
 ghost use Rattle.sdd.specs.declared.linked_entry.LinkedEntry.{LinkedEntry};
 ghost use Rattle.sdd.specs.Calls.{BagIn, GivesAll, GivesUpTo, NoRoom, OnlyBag, OnlyLinksOf, SomeBagIn};
 

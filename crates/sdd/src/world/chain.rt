@@ -7,7 +7,7 @@ ghost use Rattle.sdd_base.specs.State.{IsFreeCell, cell_at, status_at, with_cell
 ghost use Rattle.sdd_base.specs.Frame.{OnlyOf};
 ghost use Rattle.sdd_base.specs.Place.{IsSharedCell};
 ghost use Rattle.sdd_base.specs.Tokens.{shared_cell, shared_slot, shared_slots, link_cell};
-ghost use Rattle.sdd.specs.Chain.{Entry, IsItem, IsHung, Hangs, HasLink, IsLoose, Fits, TookFirst, Leaves, Stays, CanHang, deleted, Begins, skip, undeleted, first_item, first_slot, front_tag, slots, SameUses, MoreOwners, OneMore};
+ghost use Rattle.sdd.specs.Chain.{Entry, IsItem, IsList, Hangs, HasLink, IsDetached, Fits, TookFirst, Leaves, Stays, CanHang, deleted, Begins, skip, undeleted, first_item, first_slot, front_tag, slots, SameUses, MoreOwners, OneMore};
 ghost use Rattle.sdd.specs.Calls.{OfList, OnlyList};
 
 use crate::linked_list::LinkedList;
@@ -84,7 +84,7 @@ pub(crate) fn put_first<L: LinkedList, J: Deferred>(
     first: Shared<L>,
 )
     requires { CanHang L.link w.old (shared_cell cell.now) (shared_slot first) }
-    ensures put { (t : Tag) (es : List (Entry L)) (e : Entry L) → IsHung L.link w.old (shared_cell cell.now) t es → IsLoose L.link w.old e → Fits (shared_cell cell.now) es e → shared_slot first ≡ e.slot → IsHung L.link w.new (shared_cell cell.now) t (e ∷ es) × Leaves (shared_cell cell.now ∷ e.link ∷ []) [] w.old w.new }
+    ensures put { (t : Tag) (es : List (Entry L)) (e : Entry L) → IsList L.link w.old (shared_cell cell.now) t es → IsDetached L.link w.old e → Fits (shared_cell cell.now) es e → shared_slot first ≡ e.slot → IsList L.link w.new (shared_cell cell.now) t (e ∷ es) × Leaves (shared_cell cell.now ∷ e.link ∷ []) [] w.old w.new }
     ensures members { w.new.members ≡ w.old.members }
     ensures stays { Stays w.old w.new }
 {
@@ -139,7 +139,7 @@ pub(crate) fn skip_from<'w, L: LinkedList, J: Deferred>(
     cell: &'w AtomicShared<L>,
 ) -> &'w AtomicShared<L>
     requires { Hangs L.link w.now (shared_cell cell.now) }
-    ensures { OfList L.link w.now cell.now (λ t es. (u : Tag) × IsHung L.link w.now (shared_cell result.now) u (skip es) × (u ≡ front_tag t es)) }
+    ensures { OfList L.link w.now cell.now (λ t es. (u : Tag) × IsList L.link w.now (shared_cell result.now) u (skip es) × (u ≡ front_tag t es)) }
 {
     let mut at = cell;
     for _passed in 0..w.slots_in_use() {
@@ -201,7 +201,7 @@ pub(crate) fn count<L: LinkedList, J: Deferred>(w: &World<L, J>, cell: &AtomicSh
 fn drop_first<L: LinkedList, J: Deferred>(w: &mut World<L, J>, cell: &AtomicShared<L>, p: usize)
     requires member { p < length w.old.members }
     requires list { Hangs L.link w.old (shared_cell cell.now) }
-    ensures dropped { (t : Tag) (e : Entry L) (es : List (Entry L)) → IsHung L.link w.old (shared_cell cell.now) t (e ∷ es) → IsHung L.link w.new (shared_cell cell.now) t es × Leaves (shared_cell cell.now ∷ e.link ∷ []) (e.slot ∷ []) w.old w.new }
+    ensures dropped { (t : Tag) (e : Entry L) (es : List (Entry L)) → IsList L.link w.old (shared_cell cell.now) t (e ∷ es) → IsList L.link w.new (shared_cell cell.now) t es × Leaves (shared_cell cell.now ∷ e.link ∷ []) (e.slot ∷ []) w.old w.new }
     ensures only { OnlyOf p w.old w.new }
     ensures stays { Stays w.old w.new }
 {
@@ -221,7 +221,7 @@ pub(crate) fn skip_deleted<L: LinkedList, J: Deferred>(
 )
     requires member { p < length w.old.members }
     requires list { Hangs L.link w.old (shared_cell cell.now) }
-    ensures skipped { OfList L.link w.old cell.now (λ t es. IsHung L.link w.new (shared_cell cell.now) t (skip es)) }
+    ensures skipped { OfList L.link w.old cell.now (λ t es. IsList L.link w.new (shared_cell cell.now) t (skip es)) }
     ensures leaves { OnlyList L.link w.old w.new cell.now }
     ensures same { OfList L.link w.old cell.now (λ t es. SameUses w.old w.new (slots (skip es))) }
     ensures only { OnlyOf p w.old w.new }
@@ -242,8 +242,8 @@ pub(crate) fn skip_deleted<L: LinkedList, J: Deferred>(
 
 /// Marks an entry that is in no list as deleted.
 pub(crate) fn delete<L: LinkedList, J: Deferred>(w: &mut World<L, J>, owner: &Shared<L>)
-    requires { (e : Entry L) × IsLoose L.link w.old e × (shared_slot owner.now ≡ e.slot) }
-    ensures deleted { (e : Entry L) → IsLoose L.link w.old e → shared_slot owner.now ≡ e.slot → w.new ≡ with_cell e.link (Cell.OfShared None Tag.Second) w.old }
+    requires { (e : Entry L) × IsDetached L.link w.old e × (shared_slot owner.now ≡ e.slot) }
+    ensures deleted { (e : Entry L) → IsDetached L.link w.old e → shared_slot owner.now ≡ e.slot → w.new ≡ with_cell e.link (Cell.OfShared None Tag.Second) w.old }
     ensures members { w.new.members ≡ w.old.members }
     ensures stays { Stays w.old w.new }
 {
@@ -261,7 +261,7 @@ pub(crate) fn share_first<L: LinkedList, J: Deferred>(
     cell: &AtomicShared<L>,
 ) -> Option<Shared<L>>
     requires { Hangs L.link w.old (shared_cell cell.now) }
-    ensures hung { OfList L.link w.old cell.now (λ t es. IsHung L.link w.new (shared_cell cell.now) t es) }
+    ensures hung { OfList L.link w.old cell.now (λ t es. IsList L.link w.new (shared_cell cell.now) t es) }
     ensures some { IfSome result (λ s. OfList L.link w.old cell.now (λ t es. Some (shared_slot s) ≡ first_slot es)) }
     ensures none { IfNone result (OfList L.link w.old cell.now (λ t es. IfSome (first_slot es) (λ i. status_at w.old i ≡ Status.Shared 4294967295))) }
     ensures leaves { OnlyList L.link w.old w.new cell.now }
@@ -293,7 +293,7 @@ pub(crate) fn clear<L: LinkedList, J: Deferred>(
 )
     requires member { p < length w.old.members }
     requires list { Hangs L.link w.old (shared_cell cell.now) }
-    ensures cleared { OfList L.link w.old cell.now (λ t es. IsHung L.link w.new (shared_cell cell.now) t []) }
+    ensures cleared { OfList L.link w.old cell.now (λ t es. IsList L.link w.new (shared_cell cell.now) t []) }
     ensures leaves { OnlyList L.link w.old w.new cell.now }
     ensures only { OnlyOf p w.old w.new }
     ensures stays { Stays w.old w.new }

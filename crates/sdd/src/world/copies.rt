@@ -5,7 +5,7 @@ ghost use Rattle.sdd_base.specs.Tokens.{link_cell, shared_cell};
 ghost use Rattle.sdd.specs.Chain.{Hangs};
 ghost use Rattle.sdd.specs.Copies.{ClonesAreSame};
 ghost use Rattle.sdd.specs.Entries.{entry_link};
-ghost use Rattle.sdd.specs.Fillings.{Copies, CantCopy};
+ghost use Rattle.sdd.specs.FromIter.{Copies, CantCopy};
 ghost use Rattle.sdd.specs.Calls.{OfList};
 
 use crate::linked_entry::LinkedEntry;

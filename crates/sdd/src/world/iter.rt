@@ -3,7 +3,7 @@
 ghost use Rattle.std.specs.Prelude.{◌≡◌, List};
 ghost use Rattle.std.specs.Option.{option_copied};
 ghost use Rattle.sdd_base.specs.declared.tag.Tag.{Tag};
-ghost use Rattle.sdd.specs.Chain.{Entry, IsHung, Hangs, undeleted};
+ghost use Rattle.sdd.specs.Chain.{Entry, IsList, Hangs, undeleted};
 ghost use Rattle.sdd.specs.Entries.{entry_link};
 ghost use Rattle.sdd.specs.Iters.{iter_cell, first_value, Moves};
 ghost use Rattle.sdd.specs.declared.linked_entry.LinkedEntry.{LinkedEntry};
@@ -22,8 +22,8 @@ pub fn next<'w, T, J: Deferred>(
     iter: &mut Iter<T>,
 ) -> Option<&'w T>
     requires { Hangs entry_link w.now (iter_cell iter.old) }
-    ensures gives { (t : Tag) (es : List (Entry (LinkedEntry T))) → IsHung entry_link w.now (iter_cell iter.old) t es → option_copied result ≡ first_value (undeleted es) }
-    ensures moves { (t : Tag) (es : List (Entry (LinkedEntry T))) → IsHung entry_link w.now (iter_cell iter.old) t es → Moves w.now (iter_cell iter.new) es }
+    ensures gives { (t : Tag) (es : List (Entry (LinkedEntry T))) → IsList entry_link w.now (iter_cell iter.old) t es → option_copied result ≡ first_value (undeleted es) }
+    ensures moves { (t : Tag) (es : List (Entry (LinkedEntry T))) → IsList entry_link w.now (iter_cell iter.old) t es → Moves w.now (iter_cell iter.new) es }
     ensures hangs { Hangs entry_link w.now (iter_cell iter.new) }
 {
     let at = Link::of(chain::skip_from(w, iter.at.cell()));

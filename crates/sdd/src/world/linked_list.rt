@@ -6,7 +6,7 @@ ghost use Rattle.sdd_base.specs.State.{status_at, with_status};
 ghost use Rattle.sdd_base.specs.Place.{IsShared};
 ghost use Rattle.sdd_base.specs.Steps.{released};
 ghost use Rattle.sdd_base.specs.declared.tag.Tag.{Tag};
-ghost use Rattle.sdd.specs.Chain.{Entry, IsHung, Leaves, Stays, deleted, undeleted, skip, first_slot, front_tag};
+ghost use Rattle.sdd.specs.Chain.{Entry, IsList, Leaves, Stays, deleted, undeleted, skip, first_slot, front_tag};
 ghost use Rattle.sdd.specs.Nodes.{IsNode, IsSomeNode, IsListed, CanInsert, Inserts, Retags, clear, marked};
 ghost use Rattle.sdd.specs.Calls.{OfInsertion, OfNode};
 
@@ -205,7 +205,7 @@ pub fn next_ptr<L: LinkedList, J: Deferred>(
 /// The link behind the entry that `at` names and the deleted ones after it.
 fn next_link<L: LinkedList, J: Deferred>(w: &World<L, J>, at: &Ptr<'static, L>) -> Link<L>
     requires { IsListed L.link w.now (ptr_slot at.now) }
-    ensures { OfNode L.link w.now (ptr_slot at.now) (λ e es. (u : Tag) × IsHung L.link w.now (link_cell result) u (skip es)) }
+    ensures { OfNode L.link w.now (ptr_slot at.now) (λ e es. (u : Tag) × IsList L.link w.now (link_cell result) u (skip es)) }
 {
     match w.read(at) {
         Some(item) => Link::of(chain::skip_from(w, item.link_ref())),
@@ -224,7 +224,7 @@ pub fn next_shared<L: LinkedList, J: Deferred>(
     ensures next { IfSome result (λ s. OfNode L.link w.old (ptr_slot at.entry) (λ e es. Some (shared_slot s) ≡ first_slot (undeleted es))) }
     ensures more { IfSome result (λ s. (n : ℕ) × (status_at w.old (shared_slot s) ≡ Status.Shared n) × (w.new ≡ with_status (shared_slot s) (Status.Shared (n + 1)) w.old)) }
     ensures none { IfNone result ((w.new ≡ w.old) × OfNode L.link w.old (ptr_slot at.entry) (λ e es. IfSome (first_slot (undeleted es)) (λ i. (n : ℕ) → n < 4294967295 → status_at w.old i ≢ Status.Shared n))) }
-    ensures lists { (c : ℕ) (t : Tag) (es : List (Entry L)) → IsHung L.link w.old c t es → IsHung L.link w.new c t es }
+    ensures lists { (c : ℕ) (t : Tag) (es : List (Entry L)) → IsList L.link w.old c t es → IsList L.link w.new c t es }
     ensures live { IfSome result (λ s. IsShared w.new (shared_slot s)) }
     ensures spare { IfSome result (λ s. (p : ℕ) → released p (shared_slot s) w.new ≡ w.old) }
     ensures stays { Stays w.old w.new }

@@ -10,12 +10,12 @@ ghost use Rattle.sdd.specs.Nodes.{IsSomeNode, IsListed};
 ghost use Rattle.std.specs.Fn.{FnOnceReturnsAt};
 ghost use Rattle.std.specs.Option.{option_copied};
 ghost use Rattle.sdd.specs.Stacks.{taken};
-ghost use Rattle.sdd.specs.Chain.{Hangs, IsHung, Leaves, Stays, undeleted, first_item, first_slot, front_tag, skip, links, slots};
+ghost use Rattle.sdd.specs.Chain.{Hangs, IsList, Leaves, Stays, undeleted, first_item, first_slot, front_tag, skip, links, slots};
 ghost use Rattle.sdd.specs.Entries.{entry_link};
 ghost use Rattle.sdd.specs.Iters.{iter_cell};
 ghost use Rattle.std.specs.Iterator.{IsFiniteIterable};
 ghost use Rattle.sdd.specs.Copies.{ClonesAreSame};
-ghost use Rattle.sdd.specs.Fillings.{entry_values, Extends, FillsQueue, IfUnmade, IfNoSlot, IfUncopied, IfPartly};
+ghost use Rattle.sdd.specs.FromIter.{entry_values, Extends, FillsQueue, IfUnmade, IfNoSlot, IfUncopied, IfPartly};
 ghost use Rattle.sdd.specs.Refusals.{refused_value, IsCondition, IsNoSlot};
 ghost use Rattle.sdd.specs.Queues.{oldest_cell, newest_cell, HasOldest};
 ghost use Rattle.sdd.specs.Calls.{AppendsTo, AskedFirst, CanAskFirst, CopiesUpTo, FirstIsFull, GivesAll, GivesUpTo, KeepsEntries, NoRoom, NoTwoCells, OnlyQueue, QueueIn, SomeQueueIn, TakesFrom};
@@ -310,7 +310,7 @@ pub fn push_if<T, J: Deferred, F: FnOnce(Option<&LinkedEntry<T>>) -> bool>(
 /// A walk along its entries that aren't deleted, the oldest first.
 pub fn iter<T, J: Deferred>(_w: &World<LinkedEntry<T>, J>, queue: &Queue<T>) -> Iter<T>
     requires { SomeQueueIn _w.now queue.now }
-    ensures starts { (es : _) → QueueIn _w.now queue.now es → IsHung entry_link _w.now (iter_cell result) Tag.None es }
+    ensures starts { (es : _) → QueueIn _w.now queue.now es → IsList entry_link _w.now (iter_cell result) Tag.None es }
     ensures hangs { Hangs entry_link _w.now (iter_cell result) }
 {
     Iter {

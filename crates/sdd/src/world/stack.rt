@@ -9,12 +9,12 @@ ghost use Rattle.sdd_base.specs.Tokens.{link_cell, shared_slot, ptr_slot, ptr_ta
 ghost use Rattle.sdd.specs.Nodes.{IsSomeNode, IsListed};
 ghost use Rattle.std.specs.Option.{option_copied};
 ghost use Rattle.std.specs.Fn.{FnOnceReturnsAt};
-ghost use Rattle.sdd.specs.Chain.{Hangs, IsHung, Leaves, Stays, undeleted, first_item, first_slot, front_tag, skip};
+ghost use Rattle.sdd.specs.Chain.{Hangs, IsList, Leaves, Stays, undeleted, first_item, first_slot, front_tag, skip};
 ghost use Rattle.sdd.specs.Entries.{entry_link};
 ghost use Rattle.sdd.specs.Iters.{iter_cell};
 ghost use Rattle.std.specs.Iterator.{IsFiniteIterable};
 ghost use Rattle.sdd.specs.Copies.{ClonesAreSame};
-ghost use Rattle.sdd.specs.Fillings.{entry_values, ExtendsLast, FillsStack, IfUnmade, IfNoSlot, IfUncopied, IfPartly};
+ghost use Rattle.sdd.specs.FromIter.{entry_values, ExtendsLast, FillsStack, IfUnmade, IfNoSlot, IfUncopied, IfPartly};
 ghost use Rattle.sdd.specs.Refusals.{refused_value, IsCondition, IsNoSlot};
 ghost use Rattle.sdd.specs.Stacks.{stack_cell, taken, IsSomeStack, Pushes};
 ghost use Rattle.sdd.specs.Calls.{AskedFirst, CanAskFirst, CopiesUpTo, FirstIsFull, GivesAll, GivesUpTo, NoRoom, OnlyStack, PopsFrom, StackIn};
@@ -362,7 +362,7 @@ pub fn pop_if<T, J: Deferred, F: FnOnce(&LinkedEntry<T>) -> bool + Drop>(
 /// A walk along its entries that aren't deleted, the newest first.
 pub fn iter<T, J: Deferred>(_w: &World<LinkedEntry<T>, J>, stack: &Stack<T>) -> Iter<T>
     requires { IsSomeStack _w.now (stack_cell stack.now) }
-    ensures starts { (es : _) → StackIn _w.now stack.now es → IsHung entry_link _w.now (iter_cell result) Tag.None es }
+    ensures starts { (es : _) → StackIn _w.now stack.now es → IsList entry_link _w.now (iter_cell result) Tag.None es }
     ensures hangs { Hangs entry_link _w.now (iter_cell result) }
 {
     Iter {

@@ -5,7 +5,7 @@ ghost use Rattle.sdd_base.specs.State.{State, cell_at, status_at};
 ghost use Rattle.sdd_base.specs.Frame.{OnlyOf};
 ghost use Rattle.sdd_base.specs.Place.{IsShared, IsSharedCell};
 ghost use Rattle.sdd_base.specs.Tokens.{shared_cell, shared_slot};
-ghost use Rattle.sdd.specs.Chain.{Entry, IsHung, Hangs, IsLoose, Leaves, Stays, links, slots};
+ghost use Rattle.sdd.specs.Chain.{Entry, IsList, Hangs, IsDetached, Leaves, Stays, links, slots};
 ghost use Rattle.sdd.specs.Queues.{IsQueue, Follows, CanFollow, HasTwo, vacated};
 
 use crate::linked_list::LinkedList;
@@ -29,7 +29,7 @@ pub(crate) fn append<L: LinkedList, J: Deferred>(
     requires queue { CanFollow L.link w.old (shared_cell oldest.now) (shared_cell newest.now) (shared_slot link) }
     requires last { shared_slot last ≡ shared_slot link }
     requires two { HasTwo w.old (shared_slot link) }
-    ensures appended { (es : List (Entry L)) (e : Entry L) → IsQueue L.link w.old (shared_cell oldest.now) (shared_cell newest.now) es → IsLoose L.link w.old e → Follows (shared_cell oldest.now) (shared_cell newest.now) es e → shared_slot link ≡ e.slot → IsQueue L.link w.new (shared_cell oldest.now) (shared_cell newest.now) (es ++ e ∷ []) × Leaves (e.link ∷ shared_cell oldest.now ∷ shared_cell newest.now ∷ links es) (slots es) w.old w.new }
+    ensures appended { (es : List (Entry L)) (e : Entry L) → IsQueue L.link w.old (shared_cell oldest.now) (shared_cell newest.now) es → IsDetached L.link w.old e → Follows (shared_cell oldest.now) (shared_cell newest.now) es e → shared_slot link ≡ e.slot → IsQueue L.link w.new (shared_cell oldest.now) (shared_cell newest.now) (es ++ e ∷ []) × Leaves (e.link ∷ shared_cell oldest.now ∷ shared_cell newest.now ∷ links es) (slots es) w.old w.new }
     ensures only { OnlyOf 0 w.old w.new }
     ensures stays { Stays w.old w.new }
 {

@@ -1,5 +1,5 @@
 use Rattle.std.proofs.Common.{◌<◌, ◌∙◌, length, rules, subst, sym}
-use Rattle.sdd.proofs.Visits.{bag_at, member_at, told_some}
+use Rattle.sdd.proofs.MutableIteration.{bag_at, member_at, told_some}
 use Rattle.sdd_tests.proofs.writing_walks.exchange.Goals as goal
 
 pub returns-clause-member : goal.returns-clause-member

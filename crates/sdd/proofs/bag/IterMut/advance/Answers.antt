@@ -1,6 +1,6 @@
 use Rattle.std.proofs.Common.{ℕ, ◌∷◌, drop, map, refl, sym, subst, ◌∙◌}
 use Rattle.sdd_base.specs.Tokens.{shared_cell}
-use Rattle.sdd.specs.Visits.{IsLeft}
+use Rattle.sdd.specs.MutableIteration.{IsLeft}
 use Rattle.sdd.proofs.bag.IterMut.advance.Goals as goal
 
 pub returns-in_default-clause-none : goal.returns-in_default-clause-none

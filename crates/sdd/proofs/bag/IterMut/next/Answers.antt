@@ -1,7 +1,7 @@
 use Rattle.std.proofs.Common.{refl, sym, ap, subst}
 use Rattle.sdd_base.specs.State.{State}
-use Rattle.sdd.specs.Visits.{IsLeft, walk_cells}
-use Rattle.sdd.proofs.Visits.{found_at, found_closed, found_filled, found_given, found_sole, found_value, given_at, never_refused, visited}
+use Rattle.sdd.specs.MutableIteration.{IsLeft, walk_cells}
+use Rattle.sdd.proofs.MutableIteration.{found_at, found_closed, found_filled, found_given, found_sole, found_value, given_at, never_refused, visited}
 use Rattle.sdd.proofs.bag.IterMut.next.Goals as goal
 
 pub cell_mut-requires : goal.cell_mut-requires

@@ -2,7 +2,7 @@ use Rattle.std.proofs.Common.{◌∙◌, ◌⊎◌, Some, arith, sym, subst}
 use Rattle.sdd_base.specs.State.{State, NoneFree, NoCellFree}
 use Rattle.sdd.specs.Bags.{bag_cells}
 use Rattle.sdd.proofs.Chains.{stays_then}
-use Rattle.sdd.proofs.Fillings.{bag_start, bag_next, bag_same}
+use Rattle.sdd.proofs.FromIter.{bag_start, bag_next, bag_same}
 use Rattle.sdd.proofs.world.bag.from_iter.Goals as goal
 
 pub loop-value-init : goal.loop-value-init

@@ -1,6 +1,6 @@
 use Rattle.std.proofs.Common.{◌≡◌}
 use Rattle.sdd.specs.Bags.{bag_cells}
-use Rattle.sdd.proofs.Fillings.{BuiltBag}
+use Rattle.sdd.proofs.FromIter.{BuiltBag}
 use Rattle.sdd.proofs.world.bag.from_iter.Given as goal
 
 abbrev pub invariant-loop-value : goal.invariant-loop-value

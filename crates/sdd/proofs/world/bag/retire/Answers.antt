@@ -7,7 +7,7 @@ use Rattle.sdd.specs.Bags.{AreFreeCells}
 use Rattle.sdd.proofs.Bags.{bag_row, bag_enough}
 use Rattle.sdd.proofs.Chains.{leaves_then}
 use Rattle.sdd.proofs.Rows.{out_append}
-use Rattle.sdd.proofs.Claims.{row_empty, freed_free, freed_leaves}
+use Rattle.sdd.proofs.BagInit.{row_empty, freed_free, freed_leaves}
 use Rattle.sdd.proofs.world.bag.retire.Goals as goal
 
 pub clear_all-requires-clause-list : goal.clear_all-requires-clause-list

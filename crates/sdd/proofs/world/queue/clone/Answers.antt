@@ -5,11 +5,11 @@ use Rattle.sdd_base.specs.declared.tag.Tag.TheVariants as tag
 use Rattle.sdd.specs.Chain.{undeleted}
 use Rattle.sdd.specs.Entries.{entry_link, entry_value}
 use Rattle.sdd.specs.Queues.{oldest_cell, newest_cell}
-use Rattle.sdd.specs.Fillings.{FillsQueue, Copies, entry_values}
+use Rattle.sdd.specs.FromIter.{FillsQueue, Copies, entry_values}
 use Rattle.sdd.proofs.Chains.{stays_then}
 use Rattle.sdd.proofs.Queues.{queue_left}
 use Rattle.sdd.proofs.Walks.{hung_length}
-use Rattle.sdd.proofs.Fillings.{given, Copying, queue_start, queue_next, queue_same, copy_start, copy_next, copying_now, copied_all, copied_end, stopped_at, copied_kept, memory_not, place_not}
+use Rattle.sdd.proofs.FromIter.{given, Copying, queue_start, queue_next, queue_same, copy_start, copy_next, copying_now, copied_all, copied_end, stopped_at, copied_kept, memory_not, place_not}
 use Rattle.sdd.proofs.world.queue.clone.Goals as goal
 
 pub loop-passed-init : goal.loop-passed-init

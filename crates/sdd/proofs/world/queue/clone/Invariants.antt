@@ -4,7 +4,7 @@ use Rattle.sdd_base.specs.Tokens.{link_cell}
 use Rattle.sdd.specs.Chain.{Entry}
 use Rattle.sdd.specs.Entries.{entry_link}
 use Rattle.sdd.specs.Queues.{IsQueue, oldest_cell, newest_cell}
-use Rattle.sdd.proofs.Fillings.{BuiltQueue, Copying}
+use Rattle.sdd.proofs.FromIter.{BuiltQueue, Copying}
 use Rattle.sdd.proofs.world.queue.clone.Given as goal
 
 abbrev pub invariant-loop-passed : goal.invariant-loop-passed

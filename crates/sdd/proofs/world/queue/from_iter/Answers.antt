@@ -2,7 +2,7 @@ use Rattle.std.proofs.Common.{◌∙◌, ◌⊎◌, List, Option, ap, sym, subst
 use Rattle.sdd_base.specs.State.{State, NoneFree, NoCellFree, Member, nobody}
 use Rattle.sdd.specs.Queues.{oldest_cell, newest_cell}
 use Rattle.sdd.proofs.Chains.{stays_then}
-use Rattle.sdd.proofs.Fillings.{queue_start, queue_more, queue_same}
+use Rattle.sdd.proofs.FromIter.{queue_start, queue_more, queue_same}
 use Rattle.sdd.proofs.world.queue.from_iter.Goals as goal
 
 pub loop-value-init : goal.loop-value-init

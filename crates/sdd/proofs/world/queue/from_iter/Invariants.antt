@@ -1,6 +1,6 @@
 use Rattle.sdd_base.specs.Frame.{OnlyOf}
 use Rattle.sdd.specs.Queues.{oldest_cell, newest_cell}
-use Rattle.sdd.proofs.Fillings.{BuiltQueue}
+use Rattle.sdd.proofs.FromIter.{BuiltQueue}
 use Rattle.sdd.proofs.world.queue.from_iter.Given as goal
 
 abbrev pub invariant-loop-value : goal.invariant-loop-value

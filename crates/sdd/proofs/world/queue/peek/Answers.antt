@@ -5,7 +5,7 @@ use Rattle.sdd.specs.Entries.{entry_link}
 use Rattle.sdd.specs.Chain.{skip}
 use Rattle.sdd.proofs.Chains.{head_cell, kept_same, kept_tag}
 use Rattle.sdd.proofs.Nodes.{hung_node, hung_listed}
-use Rattle.sdd.proofs.Fronts.{skipped_first}
+use Rattle.sdd.proofs.ListHead.{skipped_first}
 use Rattle.sdd.proofs.world.queue.peek.Goals as goal
 
 pub load-requires-after_bounds : goal.load-requires-after_bounds

@@ -6,7 +6,7 @@ use Rattle.sdd_base.specs.declared.status.Status.TheVariants as status
 use Rattle.sdd.specs.Chain.{skip, undeleted, links, slots}
 use Rattle.sdd.specs.Queues.{oldest_cell, newest_cell}
 use Rattle.sdd.proofs.Chains.{leaves_more}
-use Rattle.sdd.proofs.Fronts.{no_first}
+use Rattle.sdd.proofs.ListHead.{no_first}
 use Rattle.sdd.proofs.Firsts.{undeleted_skip, not_empty}
 use Rattle.sdd.proofs.world.queue.pop_if.Goals as goal
 

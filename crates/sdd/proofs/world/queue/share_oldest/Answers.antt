@@ -4,7 +4,7 @@ use Rattle.sdd_base.specs.declared.tag.Tag.TheVariants as tag
 use Rattle.sdd.specs.Chain.{skip}
 use Rattle.sdd.specs.Entries.{entry_link}
 use Rattle.sdd.specs.Queues.{oldest_cell, newest_cell}
-use Rattle.sdd.proofs.Fronts.{first_skipped, first_use}
+use Rattle.sdd.proofs.ListHead.{first_skipped, first_use}
 use Rattle.sdd.proofs.Firsts.{skipped_leaves}
 use Rattle.sdd.proofs.Queues.{skipped_queue, owned_queue, queue_back}
 use Rattle.sdd.proofs.Releases.{more_shared}

@@ -8,7 +8,7 @@ use Rattle.sdd_base.specs.declared.status.Cell.TheVariants as cell
 use Rattle.sdd.specs.Chain.{Stays}
 use Rattle.sdd.specs.Bags.{AreEmpty, IsClaimed, freed}
 use Rattle.sdd.proofs.Chains.{stays_then, stays_write}
-use Rattle.sdd.proofs.Claims.{claimed_last, claimed_empty, claimed_freed, claimed_count, none_free}
+use Rattle.sdd.proofs.BagInit.{claimed_last, claimed_empty, claimed_freed, claimed_count, none_free}
 use Rattle.sdd.proofs.world.row.claim_all.Goals as goal
 
 pub end_all-requires : goal.end_all-requires

@@ -2,7 +2,7 @@ use Rattle.std.proofs.Common.{◌≡◌, List}
 use Rattle.sdd_base.specs.Tokens.{link_cell}
 use Rattle.sdd.specs.Chain.{Entry}
 use Rattle.sdd.specs.Stacks.{IsStack, stack_cell}
-use Rattle.sdd.proofs.Fillings.{GrownStack, Copying}
+use Rattle.sdd.proofs.FromIter.{GrownStack, Copying}
 use Rattle.sdd.proofs.world.stack.clone.Given as goal
 
 abbrev pub invariant-loop-passed : goal.invariant-loop-passed

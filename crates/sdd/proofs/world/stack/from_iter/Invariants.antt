@@ -1,6 +1,6 @@
 use Rattle.std.proofs.Common.{◌≡◌, reverse}
 use Rattle.sdd.specs.Stacks.{stack_cell}
-use Rattle.sdd.proofs.Fillings.{BuiltStack}
+use Rattle.sdd.proofs.FromIter.{BuiltStack}
 use Rattle.sdd.proofs.world.stack.from_iter.Given as goal
 
 abbrev pub invariant-loop-value : goal.invariant-loop-value

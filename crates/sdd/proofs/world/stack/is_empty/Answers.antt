@@ -4,7 +4,7 @@ use Rattle.sdd_base.specs.declared.tag.Tag.TheVariants as tag
 use Rattle.sdd.specs.Entries.{entry_link}
 use Rattle.sdd.specs.Chain.{skip, first_slot}
 use Rattle.sdd.proofs.Chains.{head_cell}
-use Rattle.sdd.proofs.Fronts.{skipped_first, first_none}
+use Rattle.sdd.proofs.ListHead.{skipped_first, first_none}
 use Rattle.sdd.proofs.world.stack.is_empty.Goals as goal
 
 pub is_null-requires : goal.is_null-requires

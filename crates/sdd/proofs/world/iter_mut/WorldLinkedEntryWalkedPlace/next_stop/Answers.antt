@@ -2,11 +2,11 @@ use Rattle.std.proofs.Common.{◌≡◌, ℕ, [], ◌∷◌, ◌⊎◌, drop, ma
 use Rattle.std.proofs.lemmas.List.{length-map, drop_all}
 use Rattle.sdd_base.specs.Tokens.{link_cell, shared_cell}
 use Rattle.sdd.specs.Bags.{IsNull}
-use Rattle.sdd.specs.Chain.{IsHung}
+use Rattle.sdd.specs.Chain.{IsList}
 use Rattle.sdd.specs.Entries.{entry_link}
-use Rattle.sdd.specs.Visits.{IsLeft, Finds}
+use Rattle.sdd.specs.MutableIteration.{IsLeft, Finds}
 use Rattle.sdd.proofs.Chains.{head_cell, hung_there, starts, starts_not, starts_link}
-use Rattle.sdd.proofs.Visits.{hangs_at, left_none, find_first}
+use Rattle.sdd.proofs.MutableIteration.{hangs_at, left_none, find_first}
 use Rattle.sdd.proofs.world.iter_mut.WorldLinkedEntryWalkedPlace.next_stop.Goals as goal
 
 pub as_ref-requires-clause-cell : goal.as_ref-requires-clause-cell
@@ -36,7 +36,7 @@ returns-in_default-clause-none g c = λ es l.
       | inl over ↦ inl (drop_all c.seek-spot.result.row (map shared_cell ts) (let e = length-map ts shared_cell in omega (arith, e, over)))
       | inr some ↦ inr some
     ] in
-    left_none w (link_cell c.seek-spot.result.at) (drop c.seek-spot.result.row (map shared_cell ts)) es (λ t fs h. starts_not entry_link w (shared_cell c.cell-2.result.now) t fs (subst (λ (j : ℕ). IsHung entry_link w j t fs) (sym c.cell-2.ensures) h) c.in_default.ensures.item) last k
+    left_none w (link_cell c.seek-spot.result.at) (drop c.seek-spot.result.row (map shared_cell ts)) es (λ t fs h. starts_not entry_link w (shared_cell c.cell-2.result.now) t fs (subst (λ (j : ℕ). IsList entry_link w j t fs) (sym c.cell-2.ensures) h) c.in_default.ensures.item) last k
 
 pub link_ref-requires : goal.link_ref-requires
 link_ref-requires g c =

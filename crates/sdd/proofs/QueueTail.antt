@@ -7,7 +7,7 @@ use Rattle.sdd_base.specs.declared.tag.Tag.{Tag}
 use Rattle.sdd_base.specs.declared.tag.Tag.TheVariants as tag
 use Rattle.sdd_base.specs.declared.status.Status.TheVariants as status
 use Rattle.sdd_base.specs.declared.status.Cell.TheVariants as cell
-use Rattle.sdd.specs.Chain.{Entry, slots, links, IsOut, IsItem, IsHung, IsLoose, HasLink, Leaves, Fits, CanHang, end_cell}
+use Rattle.sdd.specs.Chain.{Entry, slots, links, IsOut, IsItem, IsList, IsDetached, HasLink, Leaves, Fits, CanHang, end_cell}
 use Rattle.sdd.specs.Queues.{last_slot, HasTwo, IsQueue, Follows}
 use Rattle.sdd.proofs.Chains.{hung_left, cell_left, item_left, leaves_then, leaves_more, leaves_all, leaves_write, out_of_none, wrote_same, inside_cells, inside_states, some_same, some_nothing, kept_same, Names}
 use Rattle.sdd.proofs.Releases.{leaves_released, spare_owner, out_of_one}
@@ -48,7 +48,7 @@ last_out j k (e ∷ []) h out = subst (λ (i : ℕ). k ≢ i) (some_same e.slot 
 last_out j k (e ∷ f ∷ es) h out = last_out j k (f ∷ es) h out.1
 
 module _ {L : Type 0} (link : L → Option ℕ) where
-  pub hung_end : (w : State L) (c : ℕ) (t : Tag) (es : List (Entry L)) → IsHung link w c t es → IsHung link w (end_cell c es) (end_tag t es) []
+  pub hung_end : (w : State L) (c : ℕ) (t : Tag) (es : List (Entry L)) → IsList link w c t es → IsList link w (end_cell c es) (end_tag t es) []
   hung_end w c t [] h = h
   hung_end w c t (e ∷ es) h = hung_end w e.link e.tag es h.4
 
@@ -59,13 +59,13 @@ module _ {L : Type 0} (link : L → Option ℕ) where
     pub at : j ≡ entry.slot
     pub end : entry.link ≡ end_cell c es
 
-  last_of : (w : State L) (c j : ℕ) (t : Tag) (es : List (Entry L)) → IsHung link w c t es → last_slot es ≡ Some j → Last w c j es
+  last_of : (w : State L) (c j : ℕ) (t : Tag) (es : List (Entry L)) → IsList link w c t es → last_slot es ≡ Some j → Last w c j es
   last_of w c j t [] h is = absurd (some_nothing j (sym is))
   last_of w c j t (e ∷ []) h is = record { entry = e; item = h.1; at = sym (some_same e.slot j is); end = refl }
   last_of w c j t (e ∷ f ∷ es) h is = let r = last_of w e.link j e.tag (f ∷ es) h.4 is in record { entry = r.entry; item = r.item; at = r.at; end = r.end }
 
   -- what hangs from the cell at the end is part of the list
-  pub hung_append : (w w' : State L) (c : ℕ) (t : Tag) (es : List (Entry L)) (e : Entry L) → IsHung link w c t es → IsHung link w' (end_cell c es) (end_tag t es) (e ∷ []) → Leaves (end_cell c es ∷ e.link ∷ []) [] w w' → e.link ≢ c → IsOut e.link (links es) → IsOut e.slot (slots es) → IsHung link w' c t (es ++ e ∷ [])
+  pub hung_append : (w w' : State L) (c : ℕ) (t : Tag) (es : List (Entry L)) (e : Entry L) → IsList link w c t es → IsList link w' (end_cell c es) (end_tag t es) (e ∷ []) → Leaves (end_cell c es ∷ e.link ∷ []) [] w w' → e.link ≢ c → IsOut e.link (links es) → IsOut e.slot (slots es) → IsList link w' c t (es ++ e ∷ [])
   hung_append w w' c t [] e h now l ne out alone = now
   hung_append w w' c t (f ∷ es) e h now l ne out alone =
       let cs : List ℕ = end_cell f.link es ∷ e.link ∷ [] in
@@ -77,22 +77,22 @@ module _ {L : Type 0} (link : L → Option ℕ) where
         hung_append w w' f.link f.tag es e h.4 now l out.0 out.1 alone.1,
       )
 
-  module _ (w w1 : State L) (c d i : ℕ) (es : List (Entry L)) (e : Entry L) (q : IsQueue link w c d es) (k : IsLoose link w e) (f : Follows c d es e) (at : i ≡ e.slot) (e1 : w1 ≡ with_cell d (cell.OfShared (Some i) tag.None) w) where
+  module _ (w w1 : State L) (c d i : ℕ) (es : List (Entry L)) (e : Entry L) (q : IsQueue link w c d es) (k : IsDetached link w e) (f : Follows c d es e) (at : i ≡ e.slot) (e1 : w1 ≡ with_cell d (cell.OfShared (Some i) tag.None) w) where
     newest_left : Leaves (d ∷ []) [] w w1
     newest_left = subst (λ (v : State L). Leaves (d ∷ []) [] w v) (sym e1) (leaves_write (d ∷ []) [] w w d (cell.OfShared (Some i) tag.None) (λ j out. out.0) (leaves_all (d ∷ []) [] w))
 
-    hung1 : IsHung link w1 c tag.None es
+    hung1 : IsList link w1 c tag.None es
     hung1 = hung_left link (d ∷ []) [] w w1 c tag.None es newest_left (λ p. q.apart (sym p), tt) (out_of_one (links es) d q.out) (out_of_none (slots es)) q.hung
 
-    loose1 : IsLoose link w1 e
+    loose1 : IsDetached link w1 e
     loose1 = record { item = item_left link (d ∷ []) [] w w1 e newest_left tt k.item; empty = cell_left link (d ∷ []) [] w w1 e.link None e.tag newest_left (f.newest, tt) k.empty }
 
     newest1 : cell_at w1 d ≡ cell.OfShared (Some i) tag.None
     newest1 = ap (λ (v : State L). cell_at v d) e1 ∙ wrote_same w d (cell.OfShared (Some i) tag.None) (inside_cells w.cells d (last_slot es) tag.None q.newest)
 
     -- the list was empty
-    first_hung : es ≡ [] → IsHung link w1 c tag.None []
-    first_hung none = subst (λ (xs : List (Entry L)). IsHung link w1 c tag.None xs) none hung1
+    first_hung : es ≡ [] → IsList link w1 c tag.None []
+    first_hung none = subst (λ (xs : List (Entry L)). IsList link w1 c tag.None xs) none hung1
 
     first_fit : Fits c [] e
     first_fit = record { cell = (λ p. f.oldest (sym p), tt); link = tt; slot = tt }
@@ -114,12 +114,12 @@ module _ {L : Type 0} (link : L → Option ℕ) where
     newest_slot : Some i ≡ last_slot (es ++ e ∷ [])
     newest_slot = ap (λ (m : ℕ). Some m) at ∙ sym (last_append es e)
 
-    pub first_appended : (w2 : State L) → es ≡ [] → HasTwo w i → ((t : Tag) (xs : List (Entry L)) (x : Entry L) → IsHung link w1 c t xs → IsLoose link w1 x → Fits c xs x → i ≡ x.slot → IsHung link w2 c t (x ∷ xs) × Leaves (c ∷ x.link ∷ []) [] w1 w2) → IsQueue link w2 c d (es ++ e ∷ []) × Leaves (e.link ∷ c ∷ d ∷ links es) (slots es) w w2
+    pub first_appended : (w2 : State L) → es ≡ [] → HasTwo w i → ((t : Tag) (xs : List (Entry L)) (x : Entry L) → IsList link w1 c t xs → IsDetached link w1 x → Fits c xs x → i ≡ x.slot → IsList link w2 c t (x ∷ xs) × Leaves (c ∷ x.link ∷ []) [] w1 w2) → IsQueue link w2 c d (es ++ e ∷ []) × Leaves (e.link ∷ c ∷ d ∷ links es) (slots es) w w2
     first_appended w2 none two put =
         let r = put tag.None [] e (first_hung none) loose1 first_fit at in
         let ne : d ≢ e.link = λ p. f.newest (sym p) in (
           record {
-            hung = subst (λ (xs : List (Entry L)). IsHung link w2 c tag.None (xs ++ e ∷ [])) (sym none) r.0;
+            hung = subst (λ (xs : List (Entry L)). IsList link w2 c tag.None (xs ++ e ∷ [])) (sym none) r.0;
             newest = cell_left link (c ∷ e.link ∷ []) [] w1 w2 d (Some i) tag.None r.1 (q.apart, (ne, tt)) newest1 ∙ ap (λ (o : Option ℕ). cell.OfShared o tag.None) newest_slot;
             apart = q.apart;
             out = out_append d es e q.out ne;
@@ -140,8 +140,8 @@ module _ {L : Type 0} (link : L → Option ℕ) where
         at_end : d' ≡ end_cell c es
         at_end = same ∙ named last1.entry last1.item last1.at ∙ last1.end
 
-        last_hung : IsHung link w1 d' (end_tag tag.None es) []
-        last_hung = subst (λ (m : ℕ). IsHung link w1 m (end_tag tag.None es) []) (sym at_end) (hung_end w1 c tag.None es hung1)
+        last_hung : IsList link w1 d' (end_tag tag.None es) []
+        last_hung = subst (λ (m : ℕ). IsList link w1 m (end_tag tag.None es) []) (sym at_end) (hung_end w1 c tag.None es hung1)
 
         last_fit : Fits d' [] e
         last_fit = record { cell = (λ p. end_out e.link c es f.oldest f.link (sym p ∙ at_end), tt); link = tt; slot = tt }
@@ -149,11 +149,11 @@ module _ {L : Type 0} (link : L → Option ℕ) where
         pub last_fits : CanHang link w1 d' i
         last_fits = record { tag = end_tag tag.None es; entries = []; entry = e; hung = last_hung; loose = loose1; fits = last_fit; at = at }
 
-        module _ (w2 : State L) (put : (t : Tag) (xs : List (Entry L)) (x : Entry L) → IsHung link w1 d' t xs → IsLoose link w1 x → Fits d' xs x → i ≡ x.slot → IsHung link w2 d' t (x ∷ xs) × Leaves (d' ∷ x.link ∷ []) [] w1 w2) where
-          put2 : IsHung link w2 (end_cell c es) (end_tag tag.None es) (e ∷ []) × Leaves (end_cell c es ∷ e.link ∷ []) [] w1 w2
-          put2 = subst (λ (m : ℕ). IsHung link w2 m (end_tag tag.None es) (e ∷ []) × Leaves (m ∷ e.link ∷ []) [] w1 w2) at_end (put (end_tag tag.None es) [] e last_hung loose1 last_fit at)
+        module _ (w2 : State L) (put : (t : Tag) (xs : List (Entry L)) (x : Entry L) → IsList link w1 d' t xs → IsDetached link w1 x → Fits d' xs x → i ≡ x.slot → IsList link w2 d' t (x ∷ xs) × Leaves (d' ∷ x.link ∷ []) [] w1 w2) where
+          put2 : IsList link w2 (end_cell c es) (end_tag tag.None es) (e ∷ []) × Leaves (end_cell c es ∷ e.link ∷ []) [] w1 w2
+          put2 = subst (λ (m : ℕ). IsList link w2 m (end_tag tag.None es) (e ∷ []) × Leaves (m ∷ e.link ∷ []) [] w1 w2) at_end (put (end_tag tag.None es) [] e last_hung loose1 last_fit at)
 
-          hung2 : IsHung link w2 c tag.None (es ++ e ∷ [])
+          hung2 : IsList link w2 c tag.None (es ++ e ∷ [])
           hung2 = hung_append w1 w2 c tag.None es e hung1 put2.0 put2.1 f.oldest f.link f.slot
 
           two2 : HasTwo w2 j

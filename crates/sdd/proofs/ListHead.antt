@@ -6,7 +6,7 @@ use Rattle.sdd_base.specs.declared.tag.Tag.{Tag}
 use Rattle.sdd_base.specs.declared.tag.Tag.TheVariants as tag
 use Rattle.sdd_base.specs.declared.status.Status.TheVariants as status
 use Rattle.sdd_base.specs.declared.status.Cell.TheVariants as cell
-use Rattle.sdd.specs.Chain.{Entry, slots, links, IsOut, IsHung, IsLoose, Leaves, SameUses, TookFirst, Fits, CanHang, first_item, first_slot, skip, undeleted, deleted}
+use Rattle.sdd.specs.Chain.{Entry, slots, links, IsOut, IsList, IsDetached, Leaves, SameUses, TookFirst, Fits, CanHang, first_item, first_slot, skip, undeleted, deleted}
 use Rattle.sdd.specs.Entries.{entry_link}
 use Rattle.sdd.specs.Stacks.{IsNew, IsMade}
 use Rattle.sdd.specs.declared.linked_entry.LinkedEntry.{LinkedEntry}
@@ -57,16 +57,16 @@ first_none [] h = refl
 first_none (e ∷ es) h = absurd (some_nothing e.slot h)
 
 -- a new entry fits before any list
-pub new_fits : {T : Type 0} (w : State (LinkedEntry T)) (c : ℕ) (t : Tag) (v : T) (e : Entry (LinkedEntry T)) (es : List (Entry (LinkedEntry T))) → IsHung entry_link w c t es → IsNew w v e → Fits c es e
+pub new_fits : {T : Type 0} (w : State (LinkedEntry T)) (c : ℕ) (t : Tag) (v : T) (e : Entry (LinkedEntry T)) (es : List (Entry (LinkedEntry T))) → IsList entry_link w c t es → IsNew w v e → Fits c es e
 new_fits w c t v e es h n =
     let out = free_cell_out entry_link w e.link c t es n.link.1 h in
     record { cell = (λ q. out.0 (sym q), hung_out entry_link w c t es h); link = out.1; slot = free_slot_out entry_link w e.slot c t es n.slot.1 h }
 
 module _ {T : Type 0} (w w1 : State (LinkedEntry T)) (l : Leaves [] [] w w1) where
-  pub still_hung : (c : ℕ) (t : Tag) (es : List (Entry (LinkedEntry T))) → IsHung entry_link w c t es → IsHung entry_link w1 c t es
+  pub still_hung : (c : ℕ) (t : Tag) (es : List (Entry (LinkedEntry T))) → IsList entry_link w c t es → IsList entry_link w1 c t es
   still_hung c t es h = hung_left entry_link [] [] w w1 c t es l tt (out_of_none (links es)) (out_of_none (slots es)) h
 
-  pub can_hang : (c i i' : ℕ) (t : Tag) (v : T) (es : List (Entry (LinkedEntry T))) → IsHung entry_link w c t es → IsMade w w1 v i → i' ≡ i → CanHang entry_link w1 c i'
+  pub can_hang : (c i i' : ℕ) (t : Tag) (v : T) (es : List (Entry (LinkedEntry T))) → IsList entry_link w c t es → IsMade w w1 v i → i' ≡ i → CanHang entry_link w1 c i'
   can_hang c i i' t v es h m same = record { tag = t; entries = es; entry = m.entry; hung = still_hung c t es h; loose = m.loose; fits = new_fits w c t v m.entry es h m.new; at = same ∙ m.at }
 
   -- what else was written is the link of the new entry
@@ -87,14 +87,14 @@ module _ {L : Type 0} (link : L → Option ℕ) where
     pub rest : List (Entry L)
     pub is : es ≡ entry ∷ rest
     pub at : i ≡ entry.slot
-    pub left : IsHung link w1 c t rest
-    pub loose : IsLoose link w1 entry
+    pub left : IsList link w1 c t rest
+    pub loose : IsDetached link w1 entry
     pub leaves : Leaves (c ∷ entry.link ∷ []) [] w w1
     pub apart : c ≢ entry.link
     pub out : IsOut entry.link (links rest)
     pub alone : IsOut entry.slot (slots rest)
 
-  pub took_some : (w w1 : State L) (c i : ℕ) (t : Tag) (es : List (Entry L)) → IsHung link w c t es → TookFirst link w w1 c t es (Some i) → TookSome w w1 c i t es
+  pub took_some : (w w1 : State L) (c i : ℕ) (t : Tag) (es : List (Entry L)) → IsList link w c t es → TookFirst link w w1 c t es (Some i) → TookSome w w1 c i t es
   took_some w w1 c i t [] h k = absurd (some_nothing i k.0)
   took_some w w1 c i t (e ∷ es) h k = record {
     entry = e;
@@ -109,7 +109,7 @@ module _ {L : Type 0} (link : L → Option ℕ) where
     alone = h.3;
   }
 
-  pub took_nothing : (w w1 : State L) (c : ℕ) (t : Tag) (es : List (Entry L)) → TookFirst link w w1 c t es None → (es ≡ []) × IsHung link w1 c t [] × Leaves [] [] w w1
+  pub took_nothing : (w w1 : State L) (c : ℕ) (t : Tag) (es : List (Entry L)) → TookFirst link w w1 c t es None → (es ≡ []) × IsList link w1 c t [] × Leaves [] [] w w1
   took_nothing w w1 c t [] k = (refl, k.1, k.2)
   took_nothing w w1 c t (e ∷ es) k = absurd (nothing_some e.slot k.0)
     where
@@ -120,10 +120,10 @@ module _ {L : Type 0} (link : L → Option ℕ) where
     marked : Leaves (k.entry.link ∷ []) [] w2 w3
     marked = subst (λ (v : State L). Leaves (k.entry.link ∷ []) [] w2 v) (sym is) (leaves_write (k.entry.link ∷ []) [] w2 w2 k.entry.link (cell.OfShared None tag.Second) (λ j out. out.0) (leaves_all (k.entry.link ∷ []) [] w2))
 
-    pub popped_left : IsHung link w3 c t k.rest
+    pub popped_left : IsList link w3 c t k.rest
     popped_left = hung_left link (k.entry.link ∷ []) [] w2 w3 c t k.rest marked (k.apart, tt) (out_of_one (links k.rest) k.entry.link k.out) (out_of_none (slots k.rest)) k.left
 
-    pub popped_gone : IsLoose link w3 (record k.entry { tag = tag.Second })
+    pub popped_gone : IsDetached link w3 (record k.entry { tag = tag.Second })
     popped_gone =
         let item = item_left link (k.entry.link ∷ []) [] w2 w3 k.entry marked tt k.loose.item in
         record {
@@ -139,7 +139,7 @@ module _ {L : Type 0} (link : L → Option ℕ) where
         leaves_then (c ∷ links es) (slots es) w w1 w3 l (leaves_then (c ∷ links es) (slots es) w1 w2 w3 two three)
 
   -- what the cell behind the deleted entries keeps
-  pub skipped_first : (w : State L) (d : ℕ) (u : Tag) (es : List (Entry L)) → IsHung link w d u (skip es) → cell_at w d ≡ cell.OfShared (first_slot (undeleted es)) u
+  pub skipped_first : (w : State L) (d : ℕ) (u : Tag) (es : List (Entry L)) → IsList link w d u (skip es) → cell_at w d ≡ cell.OfShared (first_slot (undeleted es)) u
   skipped_first w d u es h = hung_first link w d u (skip es) h ∙ ap (λ (o : Option ℕ). cell.OfShared o u) (first_skipped es)
 
 -- a cell that was free needn't be named
@@ -151,7 +151,7 @@ leaves_free cs is d w w' free l = record {
 }
 
 -- all entries move to a new cell
-module _ {L : Type 0} (link : L → Option ℕ) (w w1 : State L) (c d : ℕ) (t u : Tag) (es : List (Entry L)) (h : IsHung link w c t es) (free : cell_at w d ≡ cell.Free) (inside : d < length w.cells) (e1 : w1 ≡ with_cell d (cell.OfShared None u) w) where
+module _ {L : Type 0} (link : L → Option ℕ) (w w1 : State L) (c d : ℕ) (t u : Tag) (es : List (Entry L)) (h : IsList link w c t es) (free : cell_at w d ≡ cell.Free) (inside : d < length w.cells) (e1 : w1 ≡ with_cell d (cell.OfShared None u) w) where
   apart_cells : (d ≢ c) × IsOut d (links es)
   apart_cells = free_cell_out link w d c t es free h
 
@@ -181,7 +181,7 @@ module _ {L : Type 0} (link : L → Option ℕ) (w w1 : State L) (c d : ℕ) (t 
       now_kept : cell_at w3 d ≡ cell.OfShared (first_slot es) u
       now_kept = ap (λ (v : State L). cell_at v d) third ∙ wrote_last w d c (cell.OfShared (first_slot es) u) (cell.OfShared None t) (cell.OfShared None u) inside
 
-      pub moved_all : IsHung link w3 d u es
+      pub moved_all : IsList link w3 d u es
       moved_all = rehung link (d ∷ c ∷ []) [] w w3 c d t u es h now_kept all_leaves (out_of_two (links es) d c apart_cells.1 (hung_out link w c t es h)) (out_of_none (slots es)) apart_cells.1
 
       pub moved_from : cell_at w3 c ≡ cell.OfShared None t

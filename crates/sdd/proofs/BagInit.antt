@@ -12,7 +12,7 @@ use Rattle.sdd_base.specs.declared.status.Cell.TheVariants as cell
 use Rattle.sdd.specs.Chain.{Entry, IsOut, Leaves}
 use Rattle.sdd.specs.Bags.{AreApart, AreEmpty, AreFreeCells, AreSingle, IsClaimed, IsRow, freed, joined}
 use Rattle.sdd.proofs.Chains.{wrote_same, wrote_other, inside_cells, leaves_all, leaves_then, leaves_write, freed_again}
-use Rattle.sdd.proofs.Fronts.{leaves_free}
+use Rattle.sdd.proofs.ListHead.{leaves_free}
 use Rattle.sdd.proofs.Rows.{row_same}
 
 -- cells that keep nothing are a row of empty lists

@@ -16,14 +16,14 @@ use Rattle.sdd_base.specs.declared.status.Status.{Status}
 use Rattle.sdd_base.specs.declared.status.Status.TheVariants as status
 use Rattle.sdd_base.specs.declared.status.Cell.{Cell}
 use Rattle.sdd_base.specs.declared.status.Cell.TheVariants as cell
-use Rattle.sdd.specs.Chain.{Entry, slots, links, IsOut, IsItem, IsHung, Hangs, Leaves}
+use Rattle.sdd.specs.Chain.{Entry, slots, links, IsOut, IsItem, IsList, Hangs, Leaves}
 use Rattle.sdd.specs.Bags.{AreApart, AreOwn, AreSingle, IsBag, IsNull, IsRow, IsSomeBag, joined, cell_of}
 use Rattle.sdd.specs.Entries.{entry_link, entry_value, with_value}
 use Rattle.sdd.specs.Iters.{first_value}
-use Rattle.sdd.specs.Visits.{AreHung, AreOnce, IsLeft, IsSomeLeft, Finds, Gives, Revalues, Visits, revalue, revalued, walk_bag, walk_cells, walk_name, walk_place}
+use Rattle.sdd.specs.MutableIteration.{AreHung, AreOnce, IsLeft, IsSomeLeft, Finds, Gives, Revalues, Visits, revalue, revalued, walk_bag, walk_cells, walk_name, walk_place}
 use Rattle.sdd.specs.declared.bag.IterMut.{IterMut}
 use Rattle.sdd.specs.declared.linked_entry.LinkedEntry.{LinkedEntry, LinkedEntry', None', Some'}
-use Rattle.sdd.proofs.Amounts.{row_used}
+use Rattle.sdd.proofs.BagLen.{row_used}
 use Rattle.sdd.proofs.Bags.{null_empty, null_not}
 use Rattle.sdd.proofs.Chains.{head_cell, hung_left, inside_cells, item_left, item_shared, out_of_none, some_same, starts_link, the_same, Starts}
 use Rattle.sdd.proofs.Releases.{out_of_one}
@@ -99,14 +99,14 @@ module _ {T : Type 0} (i : ℕ) (v : T) where
       | inr q ↦ subst (λ b. IsItem entry_link written (cond b (record e { item = with_value v e.item }) e)) (sym q.0) (item_left entry_link [] (i ∷ []) w written e leaves_written (q.1, tt) h)
     ]
 
-    pub hung_revalued : (c : ℕ) (t : Tag) (es : List (Entry (LinkedEntry T))) → IsHung entry_link w c t es → IsHung entry_link written c t (revalued i v es)
+    pub hung_revalued : (c : ℕ) (t : Tag) (es : List (Entry (LinkedEntry T))) → IsList entry_link w c t es → IsList entry_link written c t (revalued i v es)
     hung_revalued c t [] h = h
     hung_revalued c t (e ∷ es) h = (
       subst (λ (j : ℕ). cell_at w c ≡ cell.OfShared (Some j) t) (sym (slot_same e)) h.0,
       item_revalued e h.1,
       subst (λ (js : List ℕ). IsOut c js) (sym (links_same (e ∷ es))) h.2,
       subst (λ (j : ℕ). IsOut j (slots (revalued i v es))) (sym (slot_same e)) (subst (λ (js : List ℕ). IsOut e.slot js) (sym (slots_same es)) h.3),
-      subst (λ (j : ℕ). IsHung entry_link written j (revalue i v e).tag (revalued i v es)) (sym (link_same e)) (subst (λ (u : Tag). IsHung entry_link written e.link u (revalued i v es)) (sym (tag_same e)) (hung_revalued e.link e.tag es h.4)),
+      subst (λ (j : ℕ). IsList entry_link written j (revalue i v e).tag (revalued i v es)) (sym (link_same e)) (subst (λ (u : Tag). IsList entry_link written e.link u (revalued i v es)) (sym (tag_same e)) (hung_revalued e.link e.tag es h.4)),
     )
 
     own_revalued : (es : List (Entry (LinkedEntry T))) → AreOwn w es → AreOwn written (revalued i v es)
@@ -118,7 +118,7 @@ module _ {T : Type 0} (i : ℕ) (v : T) where
         let ls : (k : ℕ) → links (get_or (map (revalued i v) rows) k []) ≡ links (get_or rows k []) = λ k. ap links (nth_revalued rows k) ∙ links_same (get_or rows k []) in
         let ss : (k : ℕ) → slots (get_or (map (revalued i v) rows) k []) ≡ slots (get_or rows k []) = λ k. ap slots (nth_revalued rows k) ∙ slots_same (get_or rows k []) in
         record {
-          hung = λ k lt. subst (λ (es : List (Entry (LinkedEntry T))). IsHung entry_link written (get_or cs k 0) tag.None es) (sym (nth_revalued rows k)) (hung_revalued (get_or cs k 0) tag.None (get_or rows k []) (row.hung k lt));
+          hung = λ k lt. subst (λ (es : List (Entry (LinkedEntry T))). IsList entry_link written (get_or cs k 0) tag.None es) (sym (nth_revalued rows k)) (hung_revalued (get_or cs k 0) tag.None (get_or rows k []) (row.hung k lt));
           cells = λ k m lk lm ne. subst (λ (xs : List ℕ). AreApart (get_or cs k 0 ∷ xs) (get_or cs m 0 ∷ links (get_or (map (revalued i v) rows) m []))) (sym (ls k)) (subst (λ (xs : List ℕ). AreApart (get_or cs k 0 ∷ links (get_or rows k [])) (get_or cs m 0 ∷ xs)) (sym (ls m)) (row.cells k m lk lm ne));
           items = λ k m lk lm ne. subst (λ (xs : List ℕ). AreApart xs (slots (get_or (map (revalued i v) rows) m []))) (sym (ss k)) (subst (λ (xs : List ℕ). AreApart (slots (get_or rows k [])) xs) (sym (ss m)) (row.items k m lk lm ne));
         }
@@ -177,7 +177,7 @@ once_used ss [] h = tt
 once_used ss (i ∷ is) h = (h.1, once_used ss is h.2)
 
 module _ {T : Type 0} (w : State (LinkedEntry T)) where
-  all_hung : (cs : List ℕ) (rows : List (List (Entry (LinkedEntry T)))) → length rows ≡ length cs → ((k : ℕ) → k < length cs → IsHung entry_link w (get_or cs k 0) tag.None (get_or rows k [])) → AreHung w cs rows
+  all_hung : (cs : List ℕ) (rows : List (List (Entry (LinkedEntry T)))) → length rows ≡ length cs → ((k : ℕ) → k < length cs → IsList entry_link w (get_or cs k 0) tag.None (get_or rows k [])) → AreHung w cs rows
   all_hung [] [] size h = tt
   all_hung [] (es ∷ rows) size h = absurd (omega (arith, size))
   all_hung (c ∷ cs) [] size h = absurd (omega (arith, size))
@@ -225,7 +225,7 @@ module _ {T : Type 0} (w : State (LinkedEntry T)) where
       }
 
   -- nothing is left where the one list that is left has nothing
-  pub left_none : (c : ℕ) (cs : List ℕ) (es : List (Entry (LinkedEntry T))) → (((t : Tag) (fs : List (Entry (LinkedEntry T))) → IsHung entry_link w c t fs → fs ≡ [])) → (cs ≡ []) ⊎ IsNull w c false → IsLeft w (c ∷ cs) es → es ≡ []
+  pub left_none : (c : ℕ) (cs : List ℕ) (es : List (Entry (LinkedEntry T))) → (((t : Tag) (fs : List (Entry (LinkedEntry T))) → IsList entry_link w c t fs → fs ≡ [])) → (cs ≡ []) ⊎ IsNull w c false → IsLeft w (c ∷ cs) es → es ≡ []
   left_none c cs es none last l = elim last [
     | inl end ↦ nothing l.rows (subst (λ (ds : List ℕ). AreHung w (c ∷ ds) l.rows) end l.hung) l.is
     | inr some ↦ never l.rows l.hung some
@@ -255,10 +255,10 @@ module _ {T : Type 0} (w : State (LinkedEntry T)) where
   none_after c cs k m es over over' l = subst (λ (ds : List ℕ). IsLeft w (c ∷ ds) es) (drop_all k cs over ∙ sym (drop_all m cs over')) l
 
   pub hangs_at : (c d : ℕ) (cs : List ℕ) → d ≡ c → IsSomeLeft w (c ∷ cs) → Hangs entry_link w d
-  hangs_at c d cs at s = let h = left_hangs c cs s in record { tag = h.tag; entries = h.entries; is = subst (λ (j : ℕ). IsHung entry_link w j h.tag h.entries) (sym at) h.is }
+  hangs_at c d cs at s = let h = left_hangs c cs s in record { tag = h.tag; entries = h.entries; is = subst (λ (j : ℕ). IsList entry_link w j h.tag h.entries) (sym at) h.is }
 
   -- the first entry of the first list is passed
-  pub find_first : (c d : ℕ) (cs : List ℕ) (item : LinkedEntry T) (es : List (Entry (LinkedEntry T))) → ((t : Tag) (fs : List (Entry (LinkedEntry T))) → IsHung entry_link w c t fs → Starts entry_link w c t fs item) → entry_link item ≡ Some d → IsLeft w (c ∷ cs) es → Finds w c (d ∷ cs) es
+  pub find_first : (c d : ℕ) (cs : List ℕ) (item : LinkedEntry T) (es : List (Entry (LinkedEntry T))) → ((t : Tag) (fs : List (Entry (LinkedEntry T))) → IsList entry_link w c t fs → Starts entry_link w c t fs item) → entry_link item ≡ Some d → IsLeft w (c ∷ cs) es → Finds w c (d ∷ cs) es
   find_first c d cs item es begins linked l = found l.rows l.hung l.is
     where
       after : (r : List (Entry (LinkedEntry T))) (rows : List (List (Entry (LinkedEntry T)))) → AreHung w cs rows → r ++ joined rows ≡ es → Starts entry_link w c tag.None r item → Finds w c (d ∷ cs) es
@@ -275,7 +275,7 @@ module _ {T : Type 0} (w : State (LinkedEntry T)) where
             item = b.hung.1;
             left = record {
               rows = b.rest ∷ rows;
-              hung = (subst (λ (j : ℕ). IsHung entry_link w j tag.None b.rest) (sym at) (subst (λ (t : Tag). IsHung entry_link w b.first.link t b.rest) own.0 b.hung.4), hs);
+              hung = (subst (λ (j : ℕ). IsList entry_link w j tag.None b.rest) (sym at) (subst (λ (t : Tag). IsList entry_link w b.first.link t b.rest) own.0 b.hung.4), hs);
               is = refl;
               once = once.1;
               own = own.2;

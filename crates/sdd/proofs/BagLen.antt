@@ -8,7 +8,7 @@ use Rattle.std.proofs.lemmas.List.{drop_more, drop_all}
 use Rattle.sdd_base.specs.declared.tag.Tag.{Tag}
 use Rattle.sdd_base.specs.declared.tag.Tag.TheVariants as tag
 use Rattle.sdd_base.specs.declared.status.Status.{Status}
-use Rattle.sdd.specs.Chain.{Entry, slots, IsOut, IsHung, Hangs, deleted, undeleted}
+use Rattle.sdd.specs.Chain.{Entry, slots, IsOut, IsList, Hangs, deleted, undeleted}
 use Rattle.sdd.specs.Bags.{AreApart, AreOwn, IsRow, IsSomeRow, cell_of, joined}
 use Rattle.sdd.proofs.Walks.{AreUsed, used_slots, length-slots, hung_used}
 
@@ -81,7 +81,7 @@ module _ {L : Type 0} (link : L → Option ℕ) where
   row_length w cs rows size row = let r = used_slots w.states (slots (joined rows)) (row_used w cs rows size row) in let l = length-slots (joined rows) in omega (arith, r, l)
 
   pub row_hangs : (w : State L) (cs : List ℕ) (c k : ℕ) → k < length cs → c ≡ get_or cs k 0 → (r : IsSomeRow link w cs) → Hangs link w c
-  row_hangs w cs c k lt at r = record { tag = tag.None; entries = get_or r.rows k []; is = subst (λ (i : ℕ). IsHung link w i tag.None (get_or r.rows k [])) (sym at) (r.is.hung k lt) }
+  row_hangs w cs c k lt at r = record { tag = tag.None; entries = get_or r.rows k []; is = subst (λ (i : ℕ). IsList link w i tag.None (get_or r.rows k [])) (sym at) (r.is.hung k lt) }
 
   -- the lists at the next place are counted
   pub count_step : (w : State L) (cs : List ℕ) (rows : List (List (Entry L))) (n total here : ℕ) → length rows ≡ length cs → IsRow link w cs rows → n < length cs → total + length (undeleted (joined (drop n rows))) ≡ length (undeleted (joined rows)) → here ≡ length (undeleted (get_or rows n [])) → ((total + here) + length (undeleted (joined (drop (n + 1) rows))) ≡ length (undeleted (joined rows))) × (total + here ≤ in_use w)
@@ -92,9 +92,9 @@ module _ {L : Type 0} (link : L → Option ℕ) where
       (omega (arith, m, so_far, is), omega (arith, m, so_far, is, f, l))
 
   -- the same, for a row of tokens
-  pub count_next : (w : State L) (ts : List (AtomicShared L)) (rows : List (List (Entry L))) (n c total here : ℕ) → length rows ≡ length ts → IsRow link w (map shared_cell ts) rows → n < length ts → c ≡ cell_of ts n → total + length (undeleted (joined (drop n rows))) ≡ length (undeleted (joined rows)) → ((t : Tag) (es : List (Entry L)) → IsHung link w c t es → here ≡ length (undeleted es)) → ((total + here) + length (undeleted (joined (drop (n + 1) rows))) ≡ length (undeleted (joined rows))) × (total + here ≤ in_use w)
+  pub count_next : (w : State L) (ts : List (AtomicShared L)) (rows : List (List (Entry L))) (n c total here : ℕ) → length rows ≡ length ts → IsRow link w (map shared_cell ts) rows → n < length ts → c ≡ cell_of ts n → total + length (undeleted (joined (drop n rows))) ≡ length (undeleted (joined rows)) → ((t : Tag) (es : List (Entry L)) → IsList link w c t es → here ≡ length (undeleted es)) → ((total + here) + length (undeleted (joined (drop (n + 1) rows))) ≡ length (undeleted (joined rows))) × (total + here ≤ in_use w)
   count_next w ts rows n c total here size row lt at so_far counts =
       let e = length-map ts shared_cell in
       let inside : n < length (map shared_cell ts) = omega (arith, e, lt) in
-      let h = subst (λ (i : ℕ). IsHung link w i tag.None (get_or rows n [])) (sym at) (row.hung n inside) in
+      let h = subst (λ (i : ℕ). IsList link w i tag.None (get_or rows n [])) (sym at) (row.hung n inside) in
       count_step w (map shared_cell ts) rows n total here (omega (arith, size, e)) row inside so_far (counts tag.None (get_or rows n []) h)

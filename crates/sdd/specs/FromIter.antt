@@ -4,7 +4,7 @@ use Rattle.sdd_base.specs.State.{State, cell_at, IsFreeCell}
 use Rattle.sdd_base.specs.declared.tag.Tag.{Tag}
 use Rattle.sdd_base.specs.declared.tag.Tag.TheVariants as tag
 use Rattle.sdd_base.specs.declared.status.Cell.TheVariants as cell
-use Rattle.sdd.specs.Chain.{Entry, IsHung, deleted, end_cell}
+use Rattle.sdd.specs.Chain.{Entry, IsList, deleted, end_cell}
 use Rattle.sdd.specs.Entries.{entry_value, entry_link}
 use Rattle.sdd.specs.Stacks.{IsNew, IsStack}
 use Rattle.sdd.specs.Queues.{IsQueue}
@@ -68,7 +68,7 @@ pub record ExtendsLast {T : Type 0} (w w' : State (LinkedEntry T)) (value : T) (
   pub new : IsNew w value entry
   pub at : d ≡ entry.link
   pub empty : cell_at w' d ≡ cell.OfShared None tag.None
-  pub puts : (b : ℕ) (t : Tag) (es : List (Entry (LinkedEntry T))) → IsHung entry_link w b t es → c ≡ end_cell b es → IsHung entry_link w' b t (es ++ entry ∷ [])
+  pub puts : (b : ℕ) (t : Tag) (es : List (Entry (LinkedEntry T))) → IsList entry_link w b t es → c ≡ end_cell b es → IsList entry_link w' b t (es ++ entry ∷ [])
 
 -- a list begins with an entry whose link is cell c, and o is its value, or none where it is deleted
 pub record Copies {T : Type 0} (es : List (Entry (LinkedEntry T))) (c : ℕ) (o : Option T) : Type 0 where

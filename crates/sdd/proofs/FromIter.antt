@@ -8,18 +8,18 @@ use Rattle.sdd_base.specs.declared.status.Status.{Status}
 use Rattle.sdd_base.specs.declared.status.Status.TheVariants as status
 use Rattle.sdd_base.specs.declared.status.Cell.{Cell}
 use Rattle.sdd_base.specs.declared.status.Cell.TheVariants as cell
-use Rattle.sdd.specs.Chain.{Entry, slots, links, IsOut, AreOut, IsHung, IsLoose, Fits, CanHang, Begins, Leaves, Stays, deleted, undeleted, end_cell}
+use Rattle.sdd.specs.Chain.{Entry, slots, links, IsOut, AreOut, IsList, IsDetached, Fits, CanHang, Begins, Leaves, Stays, deleted, undeleted, end_cell}
 use Rattle.sdd.specs.Entries.{entry_value, entry_link}
 use Rattle.sdd.specs.Stacks.{IsNew, IsMade}
 use Rattle.sdd.specs.Queues.{IsQueue}
 use Rattle.sdd.specs.Bags.{Puts, IsBag, IsSameBag, AreFreeCells, Adds, Removes, PutsPrimary, PutsOverflow}
-use Rattle.sdd.specs.Fillings.{AreNew, FillsQueue, FillsStack, FillsBag, Extends, ExtendsLast, Copies, CantCopy, entry_values}
+use Rattle.sdd.specs.FromIter.{AreNew, FillsQueue, FillsStack, FillsBag, Extends, ExtendsLast, Copies, CantCopy, entry_values}
 use Rattle.sdd.specs.declared.linked_entry.LinkedEntry.{LinkedEntry}
 use Rattle.sdd.specs.declared.refusal.NotMade.TheVariants as NotMade
 use Rattle.sdd.proofs.Chains.{hung_left, free_cell_out, free_slot_out}
-use Rattle.sdd.proofs.Fronts.{still_hung, can_hang, new_fits, put_leaves}
+use Rattle.sdd.proofs.ListHead.{still_hung, can_hang, new_fits, put_leaves}
 use Rattle.sdd.proofs.Queues.{new_follows, queue_stays}
-use Rattle.sdd.proofs.Tails.{end_tag, hung_end, hung_append}
+use Rattle.sdd.proofs.QueueTail.{end_tag, hung_end, hung_append}
 use Rattle.sdd.proofs.Folds.{adds_front, adds_length}
 
 -- the value of an option, if there is one, as a list
@@ -151,7 +151,7 @@ module _ {T : Type 0} (w : State (LinkedEntry T)) where
     pub leaves : Leaves [] [] w w1
     pub stays : Stays w w1
 
-  pub stack_start : (w1 : State (LinkedEntry T)) (c : ℕ) → IsFreeCell w c → IsHung entry_link w1 c tag.None [] → Leaves [] [] w w1 → Stays w w1 → BuiltStack w1 c []
+  pub stack_start : (w1 : State (LinkedEntry T)) (c : ℕ) → IsFreeCell w c → IsList entry_link w1 c tag.None [] → Leaves [] [] w w1 → Stays w w1 → BuiltStack w1 c []
   stack_start w1 c free h l s = record { fills = record { newest = free; entries = []; is = h; new = tt }; leaves = l; stays = s }
 
   pub stack_same : (w1 w2 : State (LinkedEntry T)) (c : ℕ) (vs : List T) → w2 ≡ w1 → BuiltStack w1 c vs → BuiltStack w2 c vs
@@ -182,7 +182,7 @@ module _ {T : Type 0} (w : State (LinkedEntry T)) where
     pub end : k ≡ end_cell c built.fills.entries
     pub empty : cell_at w1 k ≡ cell.OfShared None tag.None
 
-  pub grown_start : (w1 : State (LinkedEntry T)) (c k : ℕ) → IsFreeCell w c → IsHung entry_link w1 c tag.None [] → Leaves [] [] w w1 → Stays w w1 → k ≡ c → GrownStack w1 c k []
+  pub grown_start : (w1 : State (LinkedEntry T)) (c k : ℕ) → IsFreeCell w c → IsList entry_link w1 c tag.None [] → Leaves [] [] w w1 → Stays w w1 → k ≡ c → GrownStack w1 c k []
   grown_start w1 c k free h l s at = record {
     built = record { fills = record { newest = free; entries = []; is = h; new = tt }; leaves = l; stays = s };
     end = at;
@@ -274,11 +274,11 @@ module _ {T : Type 0} (w : State (LinkedEntry T)) where
   pub record Copying (es : List (Entry (LinkedEntry T))) (n at : ℕ) (vs : List T) : Type 0 where
     pub tag : Tag
     pub rest : List (Entry (LinkedEntry T))
-    pub hung : IsHung entry_link w at tag rest
+    pub hung : IsList entry_link w at tag rest
     pub passed : n + length rest ≡ length es
     pub same : vs ++ entry_values (undeleted rest) ≡ entry_values (undeleted es)
 
-  pub copy_start : (c : ℕ) (t : Tag) (es : List (Entry (LinkedEntry T))) → IsHung entry_link w c t es → Copying es 0 c []
+  pub copy_start : (c : ℕ) (t : Tag) (es : List (Entry (LinkedEntry T))) → IsList entry_link w c t es → Copying es 0 c []
   copy_start c t es h = record { tag = t; rest = es; hung = h; passed = omega arith; same = refl }
 
   copied_one : (f : Entry (LinkedEntry T)) (fs : List (Entry (LinkedEntry T))) → entry_values (undeleted (f ∷ fs)) ≡ given (cond (deleted f.tag) None (Some (entry_value f.item))) ++ entry_values (undeleted fs)
@@ -286,18 +286,18 @@ module _ {T : Type 0} (w : State (LinkedEntry T)) where
 
   pub copy_next : (es : List (Entry (LinkedEntry T))) (n at to : ℕ) (vs : List T) (o : Option T) → (k : Copying es n at vs) → Copies k.rest to o → Copying es (n + 1) to (vs ++ given o)
   copy_next es n at to vs o k x =
-      let h : IsHung entry_link w at k.tag (x.first ∷ x.rest) = subst (λ (xs : List (Entry (LinkedEntry T))). IsHung entry_link w at k.tag xs) x.is k.hung in
+      let h : IsList entry_link w at k.tag (x.first ∷ x.rest) = subst (λ (xs : List (Entry (LinkedEntry T))). IsList entry_link w at k.tag xs) x.is k.hung in
       record {
         tag = x.first.tag;
         rest = x.rest;
-        hung = subst (λ (j : ℕ). IsHung entry_link w j x.first.tag x.rest) (sym x.at) h.4;
+        hung = subst (λ (j : ℕ). IsList entry_link w j x.first.tag x.rest) (sym x.at) h.4;
         passed = let e : length k.rest ≡ length (x.first ∷ x.rest) = ap length x.is in let p = k.passed in omega (arith, e, p);
         same = append_assoc vs (given o) (entry_values (undeleted x.rest)) ∙ ap (λ (us : List T). vs ++ us) (ap (λ (p : Option T). given p ++ entry_values (undeleted x.rest)) x.value ∙ sym (copied_one x.first x.rest) ∙ ap (λ (xs : List (Entry (LinkedEntry T))). entry_values (undeleted xs)) (sym x.is)) ∙ k.same;
       }
 
   -- what is left to be copied hangs there still
-  pub copying_now : (w1 : State (LinkedEntry T)) (es : List (Entry (LinkedEntry T))) (n at d : ℕ) (vs : List T) → Leaves [] [] w w1 → d ≡ at → (k : Copying es n at vs) → IsHung entry_link w1 d k.tag k.rest
-  copying_now w1 es n at d vs l e k = subst (λ (j : ℕ). IsHung entry_link w1 j k.tag k.rest) (sym e) (still_hung w w1 l at k.tag k.rest k.hung)
+  pub copying_now : (w1 : State (LinkedEntry T)) (es : List (Entry (LinkedEntry T))) (n at d : ℕ) (vs : List T) → Leaves [] [] w w1 → d ≡ at → (k : Copying es n at vs) → IsList entry_link w1 d k.tag k.rest
+  copying_now w1 es n at d vs l e k = subst (λ (j : ℕ). IsList entry_link w1 j k.tag k.rest) (sym e) (still_hung w w1 l at k.tag k.rest k.hung)
 
   -- nothing is left to be copied
   pub copied_all : (es : List (Entry (LinkedEntry T))) (n at : ℕ) (vs : List T) → (k : Copying es n at vs) → k.rest ≡ [] → vs ≡ entry_values (undeleted es)
@@ -337,15 +337,15 @@ place_not e = cc
 
 -- a new entry is put at the end of a list
 module _ {T : Type 0} (w w1 w2 : State (LinkedEntry T)) (k d i : ℕ) (v : T) (empty : cell_at w k ≡ cell.OfShared None tag.None) (at : d ≡ k) (l : Leaves [] [] w w1) (m : IsMade w w1 v i) where
-  blank : IsHung entry_link w d tag.None []
-  blank = subst (λ (j : ℕ). IsHung entry_link w j tag.None []) (sym at) empty
+  blank : IsList entry_link w d tag.None []
+  blank = subst (λ (j : ℕ). IsList entry_link w j tag.None []) (sym at) empty
 
   pub last_hangs : CanHang entry_link w1 d i
   last_hangs = can_hang w w1 l d i i tag.None v [] blank m refl
 
-  module _ (put : (t : Tag) (es : List (Entry (LinkedEntry T))) (e : Entry (LinkedEntry T)) → IsHung entry_link w1 d t es → IsLoose entry_link w1 e → Fits d es e → i ≡ e.slot → IsHung entry_link w2 d t (e ∷ es) × Leaves (d ∷ e.link ∷ []) [] w1 w2) where
-    put_last : IsHung entry_link w2 k tag.None (m.entry ∷ []) × Leaves (k ∷ m.entry.link ∷ []) [] w1 w2
-    put_last = subst (λ (j : ℕ). IsHung entry_link w2 j tag.None (m.entry ∷ []) × Leaves (j ∷ m.entry.link ∷ []) [] w1 w2) at (put tag.None [] m.entry (still_hung w w1 l d tag.None [] blank) m.loose (new_fits w d tag.None v m.entry [] blank m.new) m.at)
+  module _ (put : (t : Tag) (es : List (Entry (LinkedEntry T))) (e : Entry (LinkedEntry T)) → IsList entry_link w1 d t es → IsDetached entry_link w1 e → Fits d es e → i ≡ e.slot → IsList entry_link w2 d t (e ∷ es) × Leaves (d ∷ e.link ∷ []) [] w1 w2) where
+    put_last : IsList entry_link w2 k tag.None (m.entry ∷ []) × Leaves (k ∷ m.entry.link ∷ []) [] w1 w2
+    put_last = subst (λ (j : ℕ). IsList entry_link w2 j tag.None (m.entry ∷ []) × Leaves (j ∷ m.entry.link ∷ []) [] w1 w2) at (put tag.None [] m.entry (still_hung w w1 l d tag.None [] blank) m.loose (new_fits w d tag.None v m.entry [] blank m.new) m.at)
 
     pub last_leaves : Leaves (k ∷ []) [] w w2
     last_leaves = put_leaves w w1 l w2 k m.entry.link put_last.1 m.new.link.1
@@ -353,11 +353,11 @@ module _ {T : Type 0} (w w1 w2 : State (LinkedEntry T)) (k d i : ℕ) (v : T) (e
     same_tag : (t u : Tag) → cell.OfShared None t ≡ cell.OfShared None u → t ≡ u
     same_tag t u e = cc
 
-    puts_last : (b : ℕ) (t : Tag) (es : List (Entry (LinkedEntry T))) → IsHung entry_link w b t es → k ≡ end_cell b es → IsHung entry_link w2 b t (es ++ m.entry ∷ [])
+    puts_last : (b : ℕ) (t : Tag) (es : List (Entry (LinkedEntry T))) → IsList entry_link w b t es → k ≡ end_cell b es → IsList entry_link w2 b t (es ++ m.entry ∷ [])
     puts_last b t es h end =
         let out = free_cell_out entry_link w m.entry.link b t es m.new.link.1 h in
         let last : end_tag t es ≡ tag.None = same_tag (end_tag t es) tag.None (sym (hung_end entry_link w b t es h) ∙ ap (λ (j : ℕ). cell_at w j) (sym end) ∙ empty) in
-        let here : IsHung entry_link w2 (end_cell b es) (end_tag t es) (m.entry ∷ []) × Leaves (end_cell b es ∷ m.entry.link ∷ []) [] w1 w2 = subst (λ (u : Tag). IsHung entry_link w2 (end_cell b es) u (m.entry ∷ []) × Leaves (end_cell b es ∷ m.entry.link ∷ []) [] w1 w2) (sym last) (subst (λ (j : ℕ). IsHung entry_link w2 j tag.None (m.entry ∷ []) × Leaves (j ∷ m.entry.link ∷ []) [] w1 w2) end put_last) in
+        let here : IsList entry_link w2 (end_cell b es) (end_tag t es) (m.entry ∷ []) × Leaves (end_cell b es ∷ m.entry.link ∷ []) [] w1 w2 = subst (λ (u : Tag). IsList entry_link w2 (end_cell b es) u (m.entry ∷ []) × Leaves (end_cell b es ∷ m.entry.link ∷ []) [] w1 w2) (sym last) (subst (λ (j : ℕ). IsList entry_link w2 j tag.None (m.entry ∷ []) × Leaves (j ∷ m.entry.link ∷ []) [] w1 w2) end put_last) in
         hung_append entry_link w1 w2 b t es m.entry (still_hung w w1 l b t es h) here.0 here.1 out.0 out.1 (free_slot_out entry_link w m.entry.slot b t es m.new.slot.1 h)
 
     pub extends_last : (k' : ℕ) → k' ≡ m.entry.link → ExtendsLast w w2 v k k'
@@ -371,7 +371,7 @@ module _ {T : Type 0} (w w1 w2 : State (LinkedEntry T)) (k d i : ℕ) (v : T) (e
 
 -- new entries are apart from what was there
 module _ {T : Type 0} (w : State (LinkedEntry T)) where
-  pub apart_of_list : (c : ℕ) (t : Tag) (es : List (Entry (LinkedEntry T))) → IsHung entry_link w c t es → (vs : List T) (fs : List (Entry (LinkedEntry T))) → AreNew w vs fs → AreOut (links fs) (c ∷ links es) × AreOut (slots fs) (slots es)
+  pub apart_of_list : (c : ℕ) (t : Tag) (es : List (Entry (LinkedEntry T))) → IsList entry_link w c t es → (vs : List T) (fs : List (Entry (LinkedEntry T))) → AreNew w vs fs → AreOut (links fs) (c ∷ links es) × AreOut (slots fs) (slots es)
   apart_of_list c t es h [] [] new = (tt, tt)
   apart_of_list c t es h [] (f ∷ fs) new = absurd new
   apart_of_list c t es h (v ∷ vs) [] new = (tt, tt)
@@ -397,7 +397,7 @@ module _ {T : Type 0} (w : State (LinkedEntry T)) where
       let out = apart_of_queue c d es q vs f.entries f.new in
       queue_stays entry_link (c ∷ d ∷ links es) (slots es) a b f.entries w1 w2 l (cell_apart a c d es q f.oldest) (cell_apart b c d es q f.newest) out.0 out.1 f.is
 
-  pub stack_outlasts : (w1 w2 : State (LinkedEntry T)) (c a : ℕ) (es : List (Entry (LinkedEntry T))) (vs : List T) → IsHung entry_link w c tag.None es → (f : FillsStack w w1 a vs) → Leaves (c ∷ links es) (slots es) w1 w2 → IsHung entry_link w2 a tag.None f.entries
+  pub stack_outlasts : (w1 w2 : State (LinkedEntry T)) (c a : ℕ) (es : List (Entry (LinkedEntry T))) (vs : List T) → IsList entry_link w c tag.None es → (f : FillsStack w w1 a vs) → Leaves (c ∷ links es) (slots es) w1 w2 → IsList entry_link w2 a tag.None f.entries
   stack_outlasts w1 w2 c a es vs h f l =
       let out = apart_of_list c tag.None es h vs f.entries f.new in
       hung_left entry_link (c ∷ links es) (slots es) w1 w2 a tag.None f.entries l (free_cell_out entry_link w a c tag.None es f.newest.1 h) out.0 out.1 f.is

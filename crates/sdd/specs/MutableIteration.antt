@@ -10,7 +10,7 @@ use Rattle.sdd_base.specs.declared.link.Link.{Link}
 use Rattle.sdd_base.specs.declared.tag.Tag.{Tag}
 use Rattle.sdd_base.specs.declared.tag.Tag.TheVariants as tag
 use Rattle.sdd_base.specs.declared.status.Cell.TheVariants as cell
-use Rattle.sdd.specs.Chain.{Entry, IsItem, IsHung, IsOut, slots}
+use Rattle.sdd.specs.Chain.{Entry, IsItem, IsList, IsOut, slots}
 use Rattle.sdd.specs.Bags.{AreOwn, IsBag, IsSomeBag, joined}
 use Rattle.sdd.specs.Entries.{entry_link, with_value}
 use Rattle.sdd.specs.contracts.bag.IterMut.{the_row}
@@ -50,7 +50,7 @@ abbrev pub AreHung : {T : Type 0} → State (LinkedEntry T) → List ℕ → Lis
 AreHung w [] [] = Unit {0}
 AreHung w [] (es ∷ rows) = ⊥
 AreHung w (c ∷ cs) [] = ⊥
-AreHung w (c ∷ cs) (es ∷ rows) = IsHung entry_link w c tag.None es × AreHung w cs rows
+AreHung w (c ∷ cs) (es ∷ rows) = IsList entry_link w c tag.None es × AreHung w cs rows
 
 -- no number comes twice
 abbrev pub AreOnce : List ℕ → Type 0
@@ -80,7 +80,7 @@ revalued i v es = map (revalue i v) es
 
 -- the value of the entry in slot i was written: each list and each bag has the same entries, that one with the value v
 pub record Revalues {T : Type 0} (w w' : State (LinkedEntry T)) (i : ℕ) (v : T) : Type 0 where
-  pub lists : (c : ℕ) (t : Tag) (es : List (Entry (LinkedEntry T))) → IsHung entry_link w c t es → IsHung entry_link w' c t (revalued i v es)
+  pub lists : (c : ℕ) (t : Tag) (es : List (Entry (LinkedEntry T))) → IsList entry_link w c t es → IsList entry_link w' c t (revalued i v es)
   pub bags : (n : ℕ) (cs : List ℕ) (ps os : List (Entry (LinkedEntry T))) → IsBag n w cs ps os → IsBag n w' cs (revalued i v ps) (revalued i v os)
 
 -- the next entry is kept by cell c, and the others hang from cells cs
