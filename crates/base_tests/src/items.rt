@@ -1,8 +1,7 @@
 //! Owners of items, guards that keep them, and refusals.
 
 use crate::common::{
-    close, end, end_owned_cell, give_owned, guarded, numbers, owned_item, shared_item, used_after,
-    was_last,
+    close, end, end_owned_cell, give_owned, guarded, numbers, owned_item, used_after, was_last,
 };
 use sdd_base::{Kept, NoJob, NoSlot, Sizes, World, world};
 use std::test::Fail;
@@ -148,7 +147,11 @@ fn a_world_is_handed_back_while_something_is_out(rt: HostRuntime) -> Result<(), 
 #[test]
 fn a_kept_owner_reads_its_item_and_is_given_back(rt: HostRuntime) -> Result<(), Fail> {
     let mut w = numbers(rt.alloc(), 2, 0)?;
-    let kept = Kept::of(shared_item(&rt, &mut w, 47));
+    let owner = match world::shared::new(&mut w, 47) {
+        Ok(owner) => owner,
+        Err(_) => panic!(rt; "a slot is free"),
+    };
+    let kept = Kept::of(owner);
     assert_eq!(rt; *world::shared::kept_ref(&w, &kept), 47);
     assert_eq!(rt; w.free_slots(), 1);
     assert!(rt; was_last(&rt, &mut w, kept.into_shared()));

@@ -1,17 +1,21 @@
-//! Bags beside the multisets that they are.
+//! Bags: calls as data, so that a test of many calls is a table, and bags beside the multisets that they are.
 
 ghost use Rattle.std.specs.Prelude.{◌≡◌, ◌<◌, length};
-ghost use Rattle.sdd_base.specs.Place.{IsOpen};
-ghost use Rattle.sdd.specs.Bags.{IsSomeBag, bag_cells, into_cells};
+ghost use Rattle.sdd_base.specs.Place.{IsOpen, IsSized};
+ghost use Rattle.sdd.specs.Bags.{IsLength, IsSomeBag, bag_cells, into_cells};
 
-use crate::places::{end, sizes};
+use crate::bags::Call::{IsEmpty, Len, Pop, Push, TryPush};
+use crate::bags::Reply::{Back, Count, Done, Is, Value};
+use crate::places::{end, give, sizes};
 use sdd::bag::{Bag, IntoIter};
 use sdd::linked_entry::LinkedEntry;
 use sdd::refusal::{FromIterRefused, NotMade};
 use sdd::world;
 use sdd_base::owner::Shared;
+use sdd_base::sizes::Sizes;
 use sdd_base::world as place;
 use sdd_base::world::World;
+use std::alloc::Global;
 use std::process::Abort;
 use std::test::Fail;
 
@@ -33,23 +37,145 @@ pub(crate) fn pop<const N: usize>(w: &mut World<LinkedEntry<u64>>, bag: &Bag<u64
     }
 }
 
+/// A call of a bag.
+#[derive(Clone, Copy)]
+enum Call {
+    Push(u64),
+    TryPush(u64),
+    Pop,
+    Len,
+    IsEmpty,
+}
+
+/// What a call returns.
+#[derive(Clone, Copy, PartialEq, Eq)]
+enum Reply {
+    Done,
+    Back(u64),
+    Value(Option<u64>),
+    Is(bool),
+    Count(usize),
+}
+
+/// Whether a value was put into a bag, or came back.
+fn told(pushed: Result<(), u64>) -> Reply {
+    match pushed {
+        Ok(()) => Done,
+        Err(value) => Back(value),
+    }
+}
+
+/// Makes a call.
+fn make<const N: usize>(w: &mut World<LinkedEntry<u64>>, bag: &Bag<u64, N>, call: Call) -> Reply
+    requires member { 0 < length w.old.members }
+    requires list { IsSomeBag N w.old (bag_cells bag.now) }
+    ensures member { 0 < length w.new.members }
+    ensures list { IsSomeBag N w.new (bag_cells bag.now) }
+{
+    match call {
+        Push(value) => told(world::bag::push(w, bag, value)),
+        TryPush(value) => told(world::bag::try_push(w, bag, value)),
+        Pop => Value(pop(w, bag)),
+        Len => Count(world::bag::len(w, bag)),
+        IsEmpty => Is(world::bag::is_empty(w, bag)),
+    }
+}
+
+/// Makes the calls of a table, in order, and compares what they return.
+fn play<R: Abort, const N: usize>(
+    rt: &R,
+    w: &mut World<LinkedEntry<u64>>,
+    bag: &Bag<u64, N>,
+    rows: &[(Call, Reply)],
+)
+    requires member { 0 < length w.old.members }
+    requires list { IsSomeBag N w.old (bag_cells bag.now) }
+    ensures member { 0 < length w.new.members }
+    ensures list { IsSomeBag N w.new (bag_cells bag.now) }
+{
+    for row in rows {
+        let (call, wanted) = *row;
+        assert!(rt; make(w, bag, call) == wanted);
+    }
+}
+
+/// Takes all entries of a bag, ends it, and gives their owners back; tells how many there were.
+fn fold<R: Abort, const N: usize>(
+    rt: &R,
+    alloc: Global,
+    w: &mut World<LinkedEntry<u64>>,
+    bag: Bag<u64, N>,
+) -> usize
+    requires member { 0 < length w.old.members }
+    requires list { IsSomeBag N w.old (bag_cells bag) }
+{
+    let none: Vec<Shared<LinkedEntry<u64>>> = Vec::new(alloc);
+    let keep = |mut kept: Vec<Shared<LinkedEntry<u64>>>, owner: Shared<LinkedEntry<u64>>| {
+        match kept.push(owner) {
+            Ok(()) => kept,
+            Err(_) => panic!(rt; "memory"),
+        }
+    };
+    let kept = world::bag::pop_all(w, &bag, 0, none, keep);
+    assert!(rt; world::bag::is_empty(w, &bag));
+    world::bag::retire(w, bag, 0);
+    give_all(rt, w, kept)
+}
+
+/// Gives owners back, and tells how many there were.
+fn give_all<R: Abort>(
+    rt: &R,
+    w: &mut World<LinkedEntry<u64>>,
+    mut owners: Vec<Shared<LinkedEntry<u64>>>,
+) -> usize {
+    let count = owners.len();
+    while let Some(owner) = owners.pop() {
+        if w.participants() == 0 {
+            panic!(rt; "it has a participant");
+        }
+        give(rt, w, owner);
+    }
+    owners.destroy_empty();
+    count
+}
+
+/// Makes the calls of a table on a new bag, folds its entries and ends it; tells how many entries were folded.
+fn on_a_bag<R: Abort, const N: usize>(
+    rt: &R,
+    alloc: Global,
+    sizes: Sizes,
+    rows: &[(Call, Reply)],
+) -> Result<usize, Fail>
+    requires sizes { IsSized sizes }
+    requires length { IsLength N }
+{
+    let mut w: World<LinkedEntry<u64>> = World::new(alloc, sizes)?;
+    if w.participants() == 0 {
+        panic!(rt; "it has a participant");
+    }
+    let Ok(bag) = world::bag::new::<u64, _, N>(alloc, &mut w) else {
+        panic!(rt; "its cells are free");
+    };
+    play(rt, &mut w, &bag, rows);
+    let folded = fold(rt, alloc, &mut w, bag);
+    end(rt, w);
+    Ok(folded)
+}
+
 #[test]
 fn a_bag_of_one_gives_the_overflow_first(rt: HostRuntime) -> Result<(), Fail> {
-    let mut w: World<LinkedEntry<u64>> = World::new(rt.alloc(), sizes(2, 4))?;
-    let Ok(bag) = world::bag::new::<u64, _, 1>(rt.alloc(), &mut w) else {
-        panic!(rt; "two cells are free");
-    };
-    assert!(rt; world::bag::is_empty(&w, &bag));
-    assert_eq!(rt; world::bag::try_push(&mut w, &bag, 1), Ok(()));
-    assert_eq!(rt; world::bag::try_push(&mut w, &bag, 2), Err(2));
-    assert_eq!(rt; world::bag::push(&mut w, &bag, 2), Ok(()));
-    assert_eq!(rt; world::bag::len(&w, &bag), 2);
-    assert!(rt; !world::bag::is_empty(&w, &bag));
-    assert_eq!(rt; pop(&mut w, &bag), Some(2));
-    assert_eq!(rt; pop(&mut w, &bag), Some(1));
-    assert_eq!(rt; pop(&mut w, &bag), None);
-    world::bag::retire(&mut w, bag, 0);
-    end(&rt, w);
+    let rows = [
+        (IsEmpty, Is(true)),
+        (TryPush(1), Done),
+        (TryPush(2), Back(2)),
+        (Push(2), Done),
+        (Len, Count(2)),
+        (IsEmpty, Is(false)),
+        (Pop, Value(Some(2))),
+        (Pop, Value(Some(1))),
+        (Pop, Value(None)),
+    ];
+    assert_eq!(rt; on_a_bag::<_, 1>(&rt, rt.alloc(), sizes(2, 4), &rows)?, 0);
     Ok(())
 }
 
@@ -60,103 +186,30 @@ fn a_bag_takes_a_cell_more_than_its_length(rt: HostRuntime) -> Result<(), Fail> 
         Ok(_) => panic!(rt; "three cells are free"),
         Err(refused) => assert_eq!(rt; refused, NotMade::NoSlot),
     }
-    let Ok(bag) = world::bag::new::<u64, _, 2>(rt.alloc(), &mut w) else {
-        panic!(rt; "three cells are free");
-    };
-    assert_eq!(rt; world::bag::push(&mut w, &bag, 7), Err(7));
-    assert_eq!(rt; world::bag::len(&w, &bag), 0);
-    world::bag::retire(&mut w, bag, 0);
     end(&rt, w);
+    let rows = [(Push(7), Back(7)), (Len, Count(0))];
+    assert_eq!(rt; on_a_bag::<_, 2>(&rt, rt.alloc(), sizes(1, 3), &rows)?, 0);
     Ok(())
 }
 
 #[test]
 fn a_bag_without_a_slot_hands_the_value_back(rt: HostRuntime) -> Result<(), Fail> {
-    let mut w: World<LinkedEntry<u64>> = World::new(rt.alloc(), sizes(2, 40))?;
-    let Ok(bag) = world::bag::new::<u64, _, 32>(rt.alloc(), &mut w) else {
-        panic!(rt; "forty cells are free");
-    };
-    assert_eq!(rt; world::bag::push(&mut w, &bag, 1), Ok(()));
-    assert_eq!(rt; world::bag::try_push(&mut w, &bag, 2), Ok(()));
-    assert_eq!(rt; world::bag::push(&mut w, &bag, 3), Err(3));
-    assert_eq!(rt; world::bag::try_push(&mut w, &bag, 4), Err(4));
-    assert_eq!(rt; world::bag::len(&w, &bag), 2);
-    world::bag::retire(&mut w, bag, 0);
-    end(&rt, w);
+    let rows = [
+        (Push(1), Done),
+        (TryPush(2), Done),
+        (Push(3), Back(3)),
+        (TryPush(4), Back(4)),
+        (Len, Count(2)),
+    ];
+    assert_eq!(rt; on_a_bag::<_, 32>(&rt, rt.alloc(), sizes(2, 40), &rows)?, 2);
     Ok(())
-}
-
-#[test]
-fn nothing_is_folded_of_an_empty_bag(rt: HostRuntime) -> Result<(), Fail> {
-    let mut w: World<LinkedEntry<u64>> = World::new(rt.alloc(), sizes(1, 3))?;
-    let Ok(bag) = world::bag::new::<u64, _, 1>(rt.alloc(), &mut w) else {
-        panic!(rt; "three cells are free");
-    };
-    let none: Vec<Shared<LinkedEntry<u64>>> = Vec::new(rt.alloc());
-    let keep = |mut kept: Vec<Shared<LinkedEntry<u64>>>, owner: Shared<LinkedEntry<u64>>| {
-        match kept.push(owner) {
-            Ok(()) => kept,
-            Err(_) => panic!(rt; "memory"),
-        }
-    };
-    let kept = world::bag::pop_all(&mut w, &bag, 0, none, keep);
-    if !kept.is_empty() {
-        panic!(rt; "there was none");
-    }
-    kept.destroy_empty();
-    world::bag::retire(&mut w, bag, 0);
-    end(&rt, w);
-    Ok(())
-}
-
-/// Gives the last owner of a list back, and answers whether there was one.
-fn give_back<R: Abort>(
-    rt: &R,
-    w: &mut World<LinkedEntry<u64>>,
-    owners: &mut Vec<Shared<LinkedEntry<u64>>>,
-) -> bool
-    requires { 0 < length w.old.members }
-    ensures { 0 < length w.new.members }
-{
-    let owner = match owners.pop() {
-        None => return false,
-        Some(owner) => owner,
-    };
-    let cell = match place::atomic_shared::from(w, owner) {
-        Ok(cell) => cell,
-        Err(_) => panic!(rt; "a cell is free"),
-    };
-    place::atomic_shared::retire(w, cell, 0);
-    true
 }
 
 #[test]
 fn every_owner_is_folded_once(rt: HostRuntime) -> Result<(), Fail> {
-    let mut w: World<LinkedEntry<u64>> = World::new(rt.alloc(), sizes(3, 6))?;
-    let Ok(bag) = world::bag::new::<u64, _, 2>(rt.alloc(), &mut w) else {
-        panic!(rt; "six cells are free");
-    };
-    assert_eq!(rt; world::bag::push(&mut w, &bag, 1), Ok(()));
-    assert_eq!(rt; world::bag::push(&mut w, &bag, 2), Ok(()));
-    assert_eq!(rt; world::bag::push(&mut w, &bag, 3), Ok(()));
-    let none: Vec<Shared<LinkedEntry<u64>>> = Vec::new(rt.alloc());
-    let keep = |mut kept: Vec<Shared<LinkedEntry<u64>>>, owner: Shared<LinkedEntry<u64>>| {
-        match kept.push(owner) {
-            Ok(()) => kept,
-            Err(_) => panic!(rt; "memory"),
-        }
-    };
-    let mut kept = world::bag::pop_all(&mut w, &bag, 0, none, keep);
-    assert!(rt; world::bag::is_empty(&w, &bag));
-    world::bag::retire(&mut w, bag, 0);
-    assert!(rt; give_back(&rt, &mut w, &mut kept));
-    assert!(rt; give_back(&rt, &mut w, &mut kept));
-    assert!(rt; give_back(&rt, &mut w, &mut kept));
-    if !kept.is_empty() {
-        panic!(rt; "there were three");
-    }
-    kept.destroy_empty();
-    end(&rt, w);
+    assert_eq!(rt; on_a_bag::<_, 1>(&rt, rt.alloc(), sizes(1, 3), &[])?, 0);
+    let rows = [(Push(1), Done), (Push(2), Done), (Push(3), Done)];
+    assert_eq!(rt; on_a_bag::<_, 2>(&rt, rt.alloc(), sizes(3, 6), &rows)?, 3);
     Ok(())
 }
 

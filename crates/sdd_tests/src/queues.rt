@@ -1,7 +1,7 @@
 //! Queues: calls as data, so that a test of many calls is a table.
 
 ghost use Rattle.std.specs.Prelude.{◌≡◌, ◌<◌, length};
-ghost use Rattle.sdd_base.specs.Place.{IsOpen};
+ghost use Rattle.sdd_base.specs.Place.{IsOpen, IsSized};
 ghost use Rattle.sdd.specs.Entries.{entry_link};
 ghost use Rattle.sdd.specs.Queues.{IsSomeQueue, oldest_cell, newest_cell};
 
@@ -214,7 +214,9 @@ fn on_a_queue<R: Abort>(
     alloc: Global,
     sizes: Sizes,
     rows: &[(Call, Reply)],
-) -> Result<(), Fail> {
+) -> Result<(), Fail>
+    requires { IsSized sizes }
+{
     let mut w: World<LinkedEntry<u64>> = World::new(alloc, sizes)?;
     let Ok(guard) = place::guard::new(&mut w, 0) else {
         panic!(rt; "no guard is open");

@@ -1,7 +1,7 @@
 //! Stacks: calls as data, so that a test of many calls is a table.
 
 ghost use Rattle.std.specs.Prelude.{◌≡◌, ◌<◌, length, IfOk};
-ghost use Rattle.sdd_base.specs.Place.{IsOpen};
+ghost use Rattle.sdd_base.specs.Place.{IsOpen, IsSized};
 ghost use Rattle.sdd.specs.Stacks.{IsSomeStack, stack_cell};
 
 use crate::places::{end, give, sizes};
@@ -363,7 +363,9 @@ fn on_a_stack<R: Abort>(
     alloc: Global,
     sizes: Sizes,
     rows: &[(Call, Reply)],
-) -> Result<(), Fail> {
+) -> Result<(), Fail>
+    requires { IsSized sizes }
+{
     let mut w: World<LinkedEntry<u64>> = World::new(alloc, sizes)?;
     let Ok(guard) = place::guard::new(&mut w, 0) else {
         panic!(rt; "no guard is open");

@@ -1,0 +1,9 @@
+use Rattle.std.proofs.Common.{◌<◌, length}
+use Rattle.sdd.specs.Bags.{IsSomeBag, bag_cells}
+use Rattle.sdd_tests.proofs.bags.play.Given as goal
+
+abbrev pub invariant-loop-row : goal.invariant-loop-row
+invariant-loop-row g l = record {
+  member : 0 < length l.w.members;
+  list : IsSomeBag g.row.N l.w (bag_cells l.bag);
+}
