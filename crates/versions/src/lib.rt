@@ -16,33 +16,27 @@
 #![tactic(auto)]
 
 mod bounds;
-mod built;
-mod changes;
+mod building;
 mod directory;
-pub mod draft;
 mod edge;
-mod flow;
 mod item;
 mod laws;
-mod merge;
 mod moves;
 mod nearby;
 mod pages;
-mod placing;
 pub mod plain;
 mod read;
-mod segments;
 mod source;
-mod stream;
 mod walking;
 mod write;
 
-pub use built::{Built, build};
+pub use building::built::{Built, build};
+pub use building::draft;
+pub use building::placing::{place, publish};
 pub use directory::Directory;
 pub use item::Item;
 pub use laws::{passes_leave_one, segments_are_few, sweeps_leave_none, versions_stay};
 pub use nearby::{Nearby, locate};
-pub use placing::{place, publish};
 pub use read::{len, look_up, version, version_at, walk};
 pub use source::{Source, Trees};
 pub use walking::Walk;

@@ -13,8 +13,8 @@ ghost use Rattle.versions.specs.Placing.{HasVersion};
 ghost use Rattle.versions.specs.Reading.{IsPlaceOf};
 ghost use Rattle.versions.specs.Versions.{IsVersion, blocks_of, list_of};
 
+use crate::building::draft::Old;
 use crate::directory::Directory;
-use crate::draft::Old;
 use crate::edge::Edge;
 use crate::item::Item;
 use crate::pages::Pages;
