@@ -2,7 +2,7 @@
 
 ghost use Rattle.std.specs.Prelude.{◌≡◌, ◌+◌, ◌<◌, ◌≤◌, ◌^◌, ℕ, List, [], ◌++◌, IfErr, OnOk, OnErr, IsErrOf, length, take};
 ghost use Rattle.std.specs.Io.KnownBytes.{Consumes, Appends, IsAtEnd};
-ghost use Rattle.ordered_index.specs.Sizes.{IsSized};
+ghost use Rattle.versions.specs.Sizes.{IsSized};
 ghost use Rattle.index_script.specs.Lines.{kept};
 ghost use Rattle.index_script.specs.Script.{fresh};
 ghost use Rattle.index_script.specs.Runs.{Ends, StopsReading, StopsWriting, StopsForMemory, status_of, complaint_of};

@@ -5,7 +5,7 @@ ghost use Rattle.std.specs.Option.{option_copied};
 ghost use Rattle.std.specs.String.{string_bytes};
 ghost use Rattle.std.specs.Ordering.{nat_cmp};
 ghost use Rattle.ordered_index.specs.Desk.{Step, CommitStep};
-ghost use Rattle.ordered_index.specs.Sizes.{IsSized};
+ghost use Rattle.versions.specs.Sizes.{IsSized};
 ghost use Rattle.ordered_index.specs.State.{IsIdle};
 ghost use Rattle.index_script.specs.Lines.{kept};
 ghost use Rattle.index_script.specs.Inside.{IsNoCommit, given_back};

@@ -1,6 +1,5 @@
 -- Reads are tested by their answers alone.
 use Rattle.std.proofs.Common.{◌≡◌, ◌≢◌, ℕ, Bool, true, false, cond, List, [], ◌∷◌, ◌++◌, Some, refl, sym, ap, ◌∙◌}
-use Rattle.std.proofs.lemmas.Bool.{false≢true}
 use Rattle.std.specs.BTreeMap.{is_at}
 use Rattle.std.specs.BTreeMap.Range.{entries_between, range_contains}
 use Rattle.std.specs.Cmp.{IsTotalOrder}
@@ -18,7 +17,6 @@ use Rattle.versions.proofs.Ranges.{fair_range}
 use Rattle.ordered_index.specs.Answers.{answer_to}
 use Rattle.ordered_index.specs.Serial.{Holds, Read}
 use Rattle.ordered_index.specs.State.{MayRefuse, State, present}
-use Rattle.ordered_index.specs.declared.commit.Cause.{Cause}
 use Rattle.ordered_index.specs.declared.commit.Cause.TheVariants as causes
 use Rattle.ordered_index.specs.declared.query.Answer.TheVariants as answers
 use Rattle.ordered_index.specs.declared.query.Query.TheVariants as queries

@@ -46,10 +46,6 @@ set-same [] i x h = absurd cc
 set-same (v ∷ xs) zero x h = ap (λ y. y ∷ xs) cc
 set-same (v ∷ xs) (suc i) x h = ap (λ ys. v ∷ ys) (set-same xs i x h)
 
-pub no_items : {X : Type 0} (xs : List X) → length xs ≡ 0 → xs ≡ []
-no_items [] e = refl
-no_items (x ∷ xs) e = absurd (omega (arith, e))
-
 get-front : {X : Type 0} (xs ys : List X) (i : ℕ) (x : X) → slice_get xs i ≡ Some x → slice_get (xs ++ ys) i ≡ Some x
 get-front [] ys i x h = absurd cc
 get-front (y ∷ xs) ys zero x h = h

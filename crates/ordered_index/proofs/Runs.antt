@@ -8,11 +8,11 @@ use Rattle.std.proofs.lemmas.List.Elements.{All-set}
 use Rattle.std.proofs.lemmas.Option.{slice_get_within, unwrap_or-slice_get}
 use Rattle.std.proofs.Math.Seq.{take-length}
 use Rattle.versions.specs.Writes.{after_writes, replies_to}
-use Rattle.ordered_index.specs.Inside.{IsKept, IsOf, state_of}
-use Rattle.ordered_index.proofs.Options.{mapped_some}
+use Rattle.ordered_index.specs.Invariant.{IsKept, IsOf, state_of}
+use Rattle.versions.proofs.OptionLemmas.{mapped_some}
 use Rattle.ordered_index.specs.State.{State, present, list_at, MayAccept}
-use Rattle.ordered_index.specs.Store.{IsKeptHere, Store, Version}
-use Rattle.ordered_index.specs.Serial.{after_all, IsSerial, IsGood}
+use Rattle.versions.specs.Store.{IsKeptHere, Store, Version}
+use Rattle.ordered_index.specs.Serial.{after_all, IsSerial, IsValid}
 use Rattle.ordered_index.specs.declared.transaction.Transaction.{Transaction}
 
 -- what holds of each element holds of the one that is read
@@ -31,7 +31,7 @@ module _ {K V : Type 0} (cmp : K → K → Ordering) where
   take-push (u ∷ ts) t (suc n) h = ap (λ us. u ∷ us) (take-push ts t n (omega (arith, h)))
 
   -- a good transaction may be added
-  pub IsSerial-push : (ts : List (Transaction K V)) (t : Transaction K V) (pairs : List (K × V)) → IsSerial cmp ts pairs → IsGood cmp (after_all cmp ts pairs) t → IsSerial cmp (ts ++ t ∷ []) pairs
+  pub IsSerial-push : (ts : List (Transaction K V)) (t : Transaction K V) (pairs : List (K × V)) → IsSerial cmp ts pairs → IsValid cmp (after_all cmp ts pairs) t → IsSerial cmp (ts ++ t ∷ []) pairs
   IsSerial-push [] t pairs s good = (good, tt)
   IsSerial-push (u ∷ ts) t pairs s good = (s.0, IsSerial-push ts t (after_writes cmp u.writes pairs) s.1 good)
 
@@ -119,7 +119,7 @@ module _ {K V : Type 0} (cmp : K → K → Ordering) where
         let not_last = may.not_last in
         let below = kept.numbered in
         let long = length-append history (t ∷ []) in
-        let good : IsGood cmp (after_all cmp history []) t = subst (λ pairs. IsGood cmp pairs t) whole (record { reads = may.reads_hold; replies = told }) in
+        let good : IsValid cmp (after_all cmp history []) t = subst (λ pairs. IsValid cmp pairs t) whole (record { reads = may.reads_hold; replies = told }) in
         let made : v.pairs ≡ after_all cmp (history ++ t ∷ []) [] = list ∙ ap (after_writes cmp t.writes) whole ∙ sym (after_all-push history t []) in
         subst (λ (x : Store K V). IsKept cmp width x (history ++ t ∷ []) last) (sym e) (record {
           some_pair = kept.some_pair;

@@ -1,9 +1,7 @@
 pub mod Answers
-pub mod Stretches
+pub mod RemainingPairs
 pub mod Serial
-pub mod Store
 pub mod State
-pub mod Sizes
-pub mod Inside
+pub mod Invariant
 pub mod Desk
 pub mod Receipts

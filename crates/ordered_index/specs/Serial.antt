@@ -24,7 +24,7 @@ module _ {K V : Type 0} (cmp : K → K → Ordering) where
     pub differs : HoldsAt (λ read. Holds pairs read → ⊥) reads place
 
   -- a transaction is good on a list: its reads hold, and its writes are told what they are told there
-  pub record IsGood (pairs : List (K × V)) (t : Transaction K V) : Type 0 where
+  pub record IsValid (pairs : List (K × V)) (t : Transaction K V) : Type 0 where
     pub reads : All (Holds pairs) t.reads
     pub replies : t.replies ≡ replies_to cmp t.writes pairs
 
@@ -36,4 +36,4 @@ module _ {K V : Type 0} (cmp : K → K → Ordering) where
   -- a serial run: transactions one after the other, each good on the list that those before it leave
   abbrev pub IsSerial : List (Transaction K V) → List (K × V) → Type 0
   IsSerial [] pairs = Unit {0}
-  IsSerial (t ∷ ts) pairs = IsGood pairs t × IsSerial ts (after_writes cmp t.writes pairs)
+  IsSerial (t ∷ ts) pairs = IsValid pairs t × IsSerial ts (after_writes cmp t.writes pairs)

@@ -6,7 +6,7 @@ use Rattle.versions.specs.Writes.{after_writes, replies_to}
 use Rattle.versions.specs.declared.write.Write.{Write}
 use Rattle.ordered_index.specs.Answers.{answer_to}
 use Rattle.ordered_index.specs.Serial.{Read, after_all, Holds, IsFirstConflict}
-use Rattle.ordered_index.specs.Sizes.{room_for}
+use Rattle.versions.specs.Sizes.{room_for}
 use Rattle.ordered_index.specs.declared.query.Query.{Query}
 use Rattle.ordered_index.specs.declared.query.Answer.{Answer}
 use Rattle.ordered_index.specs.declared.transaction.Audit.{Audit}

@@ -1,6 +1,6 @@
 //! The index of one thread.
 
-ghost use Rattle.std.specs.Prelude.{◌+◌, ◌≢◌, ◌≤◌, vec_len, vec_capacity, ◌≡◌, [], None, IfSome, IfNone, IfOk, OnOk, IsErr, IsOk, OnErr, replicate, length, List, IfErr, ◌-◌, ◌<◌, ◌^◌, ◌↔◌, ◌++◌, ◌∷◌};
+ghost use Rattle.std.specs.Prelude.{◌+◌, ◌≢◌, ◌≤◌, ◌≡◌, [], None, IfSome, IfNone, IfOk, OnOk, IsErr, IsOk, OnErr, replicate, length, List, IfErr, ◌-◌, ◌<◌, ◌^◌, ◌↔◌, ◌++◌, ◌∷◌};
 ghost use Rattle.std.specs.Option.{option_copied};
 ghost use Rattle.leaf_array.specs.Pairs.{has_key, value_at};
 ghost use Rattle.leaf_array.specs.Values.{ClonesAreSame, EqualsAreSame};
@@ -13,23 +13,22 @@ ghost use Rattle.versions.specs.Cuts.{pairs_in};
 ghost use Rattle.versions.specs.Writes.{after_writes, replies_to};
 ghost use Rattle.std.specs.List.{All};
 ghost use Rattle.ordered_index.specs.Serial.{Holds, IsFirstConflict};
-ghost use Rattle.ordered_index.specs.Sizes.{IsSized, room_for};
+ghost use Rattle.versions.specs.Sizes.{IsSized, room_for};
 ghost use Rattle.ordered_index.specs.State.{State, number_of, IsOpen, IsFull, IsIdle, Opens, Closes, list_at, present, transaction_of, MayAccept, MayRefuse, Commits, Refuses, Reads, Audits, Reclaims};
 
 use crate::commit::{Accepted, Cause, Refused};
-use crate::listed::Listed;
-use crate::listing::{answer, first_conflict};
+use crate::ordered_view::{answer, first_conflict};
 use crate::query::{Answer, Query};
-use crate::replay::replayed;
+use crate::replay::replay;
+use crate::seq::Seq;
 use crate::session::Session;
-use crate::snapshot::{Nearby, Snapshot, Walk};
-use crate::store::Store;
 use crate::transaction::{Audit, Receipt, Recorded, Transaction, copied_answer, copied_reads};
+use crate::version_view::{Nearby, Walk, value_in};
 use std::alloc::{AllocError, Global};
 use std::marker::Model;
 use std::ops::Bound;
 use tree_index::TreeIndex;
-use versions::{Built, Reply, Write};
+use versions::{Built, LocalStore, LocalView, Reply, Write};
 
 /// No place is free: as many sessions are open as the index has places.
 #[derive(Clone, Copy, Debug, PartialEq, Eq)]
@@ -51,14 +50,16 @@ pub struct NoPlace;
 /// [`close`](LocalIndex::close).
 pub struct LocalIndex<K: Clone + Ord, V: Clone + Eq, const S: usize> {
     alloc: Global,
-    store: Store<K, V, S>,
+    store: LocalStore<K, V, S>,
     history: Vec<Transaction<K, V>>,
     last: u64,
 }
 
+/// Invariant: specs/Invariant.antt, IsKept: the history is a serial run, the present version is the list after it, and each
+/// session's version is the list of its number.
 impl<K: Clone + Ord, V: Clone + Eq, const S: usize> Model for LocalIndex<K, V, S> {
     ghost use Rattle.ordered_index.specs.State.{State};
-    ghost use Rattle.ordered_index.specs.Inside.{IsKept, state_of};
+    ghost use Rattle.ordered_index.specs.Invariant.{IsKept, state_of};
 
     ghost Value = { State K V };
 
@@ -90,7 +91,7 @@ impl<K: Clone + Ord, V: Clone + Eq, const S: usize> LocalIndex<K, V, S> {
     {
         Ok(LocalIndex {
             alloc,
-            store: Store::new(alloc, places, slots)?,
+            store: LocalStore::new(alloc, places, slots)?,
             history: Vec::new(alloc),
             last,
         })
@@ -110,7 +111,7 @@ impl<K: Clone + Ord, V: Clone + Eq, const S: usize> LocalIndex<K, V, S> {
         };
         let receipt = Receipt {
             number,
-            reads: Listed::new(self.alloc),
+            reads: Seq::new(self.alloc),
         };
         Ok(Session::new(place, receipt))
     }
@@ -128,7 +129,7 @@ impl<K: Clone + Ord, V: Clone + Eq, const S: usize> LocalIndex<K, V, S> {
         requires { IsOpen self.now session.now }
         ensures { option_copied result ≡ value_at K.cmp key.now (list_at K.cmp self.now session.now.receipt.number) }
     {
-        self.store.find(session.place(), key)
+        value_in(&self.list_of(session), key)
     }
 
     /// Whether a pair of the session's list has the key. The read isn't recorded.
@@ -144,7 +145,7 @@ impl<K: Clone + Ord, V: Clone + Eq, const S: usize> LocalIndex<K, V, S> {
         requires { IsOpen self.now session.now }
         ensures { result ≡ length (list_at K.cmp self.now session.now.receipt.number) }
     {
-        self.store.len(session.place())
+        self.list_of(session).len()
     }
 
     /// Where the key stands in the session's list, with a cursor there (as `locate` of a `TreeIndex`
@@ -153,7 +154,7 @@ impl<K: Clone + Ord, V: Clone + Eq, const S: usize> LocalIndex<K, V, S> {
         requires { IsOpen self.now session.now }
         ensures { IsLocated K.cmp key.now (list_at K.cmp self.now session.now.receipt.number) (as_proximity result) }
     {
-        self.store.locate(session.place(), key)
+        self.list_of(session).locate(key)
     }
 
     /// A cursor over all pairs of the session's list. What it gives isn't recorded.
@@ -161,8 +162,8 @@ impl<K: Clone + Ord, V: Clone + Eq, const S: usize> LocalIndex<K, V, S> {
         requires { IsOpen self.now session.now }
         ensures { result ≡ whole (list_at K.cmp self.now session.now.receipt.number) Unopened Unopened }
     {
-        self.store
-            .walk(session.place(), Bound::Unbounded, Bound::Unbounded)
+        self.list_of(session)
+            .walk(Bound::Unbounded, Bound::Unbounded)
     }
 
     /// A cursor over the pairs of the session's list within two bounds. What it gives isn't recorded.
@@ -175,7 +176,7 @@ impl<K: Clone + Ord, V: Clone + Eq, const S: usize> LocalIndex<K, V, S> {
         requires { IsOpen self.now session.now }
         ensures { result ≡ record { pairs = list_at K.cmp self.now session.now.receipt.number; lower = bound_map (λ k. k.now) lower.entry; upper = bound_map (λ k. k.now) upper.entry; forward = Unopened; backward = Unopened } }
     {
-        self.store.walk(session.place(), lower, upper)
+        self.list_of(session).walk(lower, upper)
     }
 
     /// The answer to a query on the session's list, which is also recorded as the last read of its
@@ -225,15 +226,15 @@ impl<K: Clone + Ord, V: Clone + Eq, const S: usize> LocalIndex<K, V, S> {
         ensures sessions { self.new.places ≡ self.old.places }
     {
         let reads = receipt.reads.as_slice();
-        if let Some(cause) = self.objection(reads) {
+        if let Some(cause) = self.validate(reads) {
             return Err(Refused { cause, writes });
         }
         let number = self.next_number();
-        let Ok(draft) = self.draft(reads, writes.as_slice()) else {
+        let Ok(prepared) = self.prepare(reads, writes.as_slice()) else {
             let cause = Cause::Memory;
             return Err(Refused { cause, writes });
         };
-        match self.append(draft, writes) {
+        match self.install(prepared, writes) {
             Ok(replies) => Ok(Accepted { number, replies }),
             Err(refused) => Err(refused),
         }
@@ -243,7 +244,7 @@ impl<K: Clone + Ord, V: Clone + Eq, const S: usize> LocalIndex<K, V, S> {
     /// where no list has that number yet, which takes no memory; else the first read that differs, or
     /// `Yes`. Refused where memory is.
     ///
-    /// The list is the present one or a session's, where that has the number. Else it is made again,
+    /// The list is the present one or a session's, where that has the number. Else it is rebuilt,
     /// from the nearest session's before it or from the last clearing, whichever is later.
     pub fn audit(&self, receipt: &Receipt<K, V>) -> Result<Audit, AllocError>
         requires keys { ClonesAreSame K.is_clone }
@@ -313,15 +314,15 @@ impl<K: Clone + Ord, V: Clone + Eq, const S: usize> LocalIndex<K, V, S> {
     }
 
     // The version that a session reads.
-    fn list_of(&self, session: &Session<K, V>) -> Snapshot<'_, K, V, S>
+    fn list_of(&self, session: &Session<K, V>) -> LocalView<'_, K, V, S>
         requires { IsOpen self.now session.now }
-        ensures { result ≡ list_at K.cmp self.now session.now.receipt.number }
+        ensures { pairs_in result ≡ list_at K.cmp self.now session.now.receipt.number }
     {
         self.store.reader(session.place())
     }
 
     // Why a commit of these reads is refused, whatever it writes.
-    fn objection(&self, reads: &[Recorded<K, V>]) -> Option<Cause>
+    fn validate(&self, reads: &[Recorded<K, V>]) -> Option<Cause>
         requires keys { EqualsAreSame K.eq }
         requires values { EqualsAreSame V.eq }
         ensures some { IfSome result (λ cause. (writes : List (Write K V)) → MayRefuse K.cmp S self.now reads.now writes cause) }
@@ -339,7 +340,7 @@ impl<K: Clone + Ord, V: Clone + Eq, const S: usize> LocalIndex<K, V, S> {
         }
     }
 
-    // The first read that doesn't hold of the list of the receipt's number: a version that is kept, or made again.
+    // The first read that doesn't hold of the list of the receipt's number: a version that is kept, or rebuilt.
     fn conflict_at(&self, receipt: &Receipt<K, V>) -> Result<Option<usize>, AllocError>
         requires number { receipt.now.number ≤ number_of self.now }
         requires keys { ClonesAreSame K.is_clone }
@@ -350,30 +351,30 @@ impl<K: Clone + Ord, V: Clone + Eq, const S: usize> LocalIndex<K, V, S> {
         ensures none { IfOk result (λ r. IfNone r (All (Holds K.cmp (list_at K.cmp self.now receipt.now.number)) receipt.now.reads)) }
     {
         let reads = receipt.reads.as_slice();
-        if let Some((number, list)) = self.store.up_to(receipt.number) {
+        if let Some((number, list)) = self.store.latest_at(receipt.number) {
             if number == receipt.number {
                 return Ok(first_conflict(&list, reads));
             }
         }
-        let list = self.made_again(receipt.number)?;
+        let list = self.rebuild_at(receipt.number)?;
         Ok(first_conflict(&list, reads))
     }
 
-    // The list of a number, made again from the nearest version before it.
-    fn made_again(&self, number: u64) -> Result<TreeIndex<K, V>, AllocError>
+    // The list of a number, rebuilt from the nearest version before it.
+    fn rebuild_at(&self, number: u64) -> Result<TreeIndex<K, V>, AllocError>
         requires number { number ≤ number_of self.now }
         requires keys { ClonesAreSame K.is_clone }
         requires values { ClonesAreSame V.is_clone }
         ensures { IfOk result (λ list. list.pairs ≡ list_at K.cmp self.now number) }
     {
-        match self.store.up_to(number) {
+        match self.store.latest_at(number) {
             Some((from, version)) => {
                 let since = &self.history[from as usize..number as usize];
-                replayed(self.alloc, Some(version), since)
+                replay(self.alloc, Some(version), since)
             }
             None => {
-                let none: Option<Snapshot<'_, K, V, S>> = None;
-                replayed(self.alloc, none, &self.history[..number as usize])
+                let none: Option<LocalView<'_, K, V, S>> = None;
+                replay(self.alloc, none, &self.history[..number as usize])
             }
         }
     }
@@ -399,81 +400,72 @@ impl<K: Clone + Ord, V: Clone + Eq, const S: usize> LocalIndex<K, V, S> {
         self.history.len() as u64 + 1
     }
 
-    // All that a commit wants memory for, but room in the history.
-    fn draft(
+    // What a commit is to add: its version, beside the place, and copies of its reads.
+    fn prepare(
         &self,
         reads: &[Recorded<K, V>],
         writes: &[Write<K, V>],
-    ) -> Result<Draft<K, V, S>, AllocError>
+    ) -> Result<Prepared<K, V, S>, AllocError>
         requires keys { ClonesAreSame K.is_clone }
         requires values { ClonesAreSame V.is_clone }
         requires more { number_of self.now ≢ self.now.last }
-        ensures number { IfOk result (λ draft. draft.built.number ≡ number_of self.now + 1) }
-        ensures list { IfOk result (λ draft. pairs_in draft.built.blocks ≡ after_writes K.cmp writes.now (present K.cmp self.now)) }
-        ensures reads { IfOk result (λ draft. draft.reads ≡ reads.now) }
-        ensures replies { IfOk result (λ draft. draft.replies ≡ replies_to K.cmp writes.now (present K.cmp self.now)) }
-        ensures told { IfOk result (λ draft. draft.told.items ≡ replies_to K.cmp writes.now (present K.cmp self.now)) }
+        ensures number { IfOk result (λ p. p.built.number ≡ number_of self.now + 1) }
+        ensures list { IfOk result (λ p. pairs_in p.built.blocks ≡ after_writes K.cmp writes.now (present K.cmp self.now)) }
+        ensures reads { IfOk result (λ p. p.reads ≡ reads.now) }
+        ensures replies { IfOk result (λ p. p.replies.items ≡ replies_to K.cmp writes.now (present K.cmp self.now)) }
     {
         // what is read here tells the proof that the number is below the last one
         let _last = self.last;
         let reads = copied_reads(self.alloc, reads)?;
-        let (built, told) = self.store.build(self.alloc, writes)?;
-        let replies = Vec::from_slice(self.alloc, told.as_slice())?;
-        Ok(Draft {
+        let (built, replies) = self.store.build(self.alloc, writes)?;
+        Ok(Prepared {
             built,
             reads,
-            replies: Listed::from_vec(replies),
-            told,
+            replies,
         })
     }
 
     // Adds a transaction whose reads hold. All room is made before anything changes.
-    fn append(
+    fn install(
         &mut self,
-        draft: Draft<K, V, S>,
+        prepared: Prepared<K, V, S>,
         writes: Vec<Write<K, V>>,
     ) -> Result<Vec<Reply>, Refused<K, V>>
-        requires number { draft.built.number ≡ number_of self.old + 1 }
-        requires list { pairs_in draft.built.blocks ≡ after_writes K.cmp writes.items (present K.cmp self.old) }
-        requires replies { draft.replies ≡ replies_to K.cmp writes.items (present K.cmp self.old) }
-        requires accepted { MayAccept K.cmp self.old draft.reads }
-        ensures told { IfOk result (λ told. told ≡ draft.told) }
-        ensures ok { OnOk result (self.new ≡ record self.old { history = self.old.history ++ transaction_of K.cmp self.old draft.reads writes.items ∷ []; used = self.new.used }) }
+        requires number { prepared.built.number ≡ number_of self.old + 1 }
+        requires list { pairs_in prepared.built.blocks ≡ after_writes K.cmp writes.items (present K.cmp self.old) }
+        requires replies { prepared.replies.items ≡ replies_to K.cmp writes.items (present K.cmp self.old) }
+        requires accepted { MayAccept K.cmp self.old prepared.reads }
+        ensures told { IfOk result (λ told. told.items ≡ replies_to K.cmp writes.items (present K.cmp self.old)) }
+        ensures ok { OnOk result (self.new ≡ record self.old { history = self.old.history ++ transaction_of K.cmp self.old prepared.reads writes.items ∷ []; used = self.new.used }) }
         ensures room { OnOk result (self.new.used ≤ self.old.used + room_for S (length (after_writes K.cmp writes.items (present K.cmp self.old)))) }
-        ensures refused { IfErr result (λ back. Refuses K.cmp S self.old draft.reads writes.items back self.new) }
+        ensures refused { IfErr result (λ back. Refuses K.cmp S self.old prepared.reads writes.items back self.new) }
     {
         let Ok(()) = self.history.reserve(1) else {
             let cause = Cause::Memory;
             return Err(Refused { cause, writes });
         };
-        let Ok(()) = self.store.publish(draft.built) else {
+        let Ok(replies) = Vec::from_slice(self.alloc, prepared.replies.as_slice()) else {
+            let cause = Cause::Memory;
+            return Err(Refused { cause, writes });
+        };
+        let Ok(()) = self.store.publish(prepared.built) else {
             let cause = Cause::NoSlot;
             return Err(Refused { cause, writes });
         };
         let transaction = Transaction {
-            reads: draft.reads,
-            writes: Listed::from_vec(writes),
-            replies: draft.replies,
+            reads: prepared.reads,
+            writes: Seq::from_vec(writes),
+            replies: Seq::from_vec(replies),
         };
-        put(&mut self.history, transaction);
-        Ok(draft.told)
+        self.history.push_reserved(transaction);
+        Ok(prepared.replies)
     }
 }
 
-// What a commit is to add, and what it is to answer.
+// What a commit is to add, and what its writes are told.
 #[derive(Drop)]
-struct Draft<K: Clone + Ord, V: Clone, const S: usize> {
+struct Prepared<K: Clone + Ord, V: Clone, const S: usize> {
     built: Built<K, V, S>,
-    reads: Listed<Recorded<K, V>>,
-    replies: Listed<Reply>,
-    told: Vec<Reply>,
-}
-
-// Puts an item where room was made.
-pub(crate) fn put<T>(items: &mut Vec<T>, item: T)
-    requires { vec_len items.old < vec_capacity items.old }
-    ensures items { items.new.items ≡ items.old.items ++ item ∷ [] }
-    ensures room { vec_capacity items.old ≤ vec_capacity items.new }
-{
-    items.push(item).unwrap();
+    reads: Seq<Recorded<K, V>>,
+    replies: Vec<Reply>,
 }

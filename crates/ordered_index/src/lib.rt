@@ -23,17 +23,16 @@ mod commit;
 mod desk;
 mod index;
 mod laws;
-mod listed;
-pub mod listing;
+pub mod ordered_view;
 mod play;
 mod query;
 mod replay;
+mod scan;
+mod seq;
 mod session;
-mod snapshot;
-mod store;
-mod stretch;
 mod text;
 mod transaction;
+mod version_view;
 
 pub use commit::{Accepted, Cause, Refused};
 pub use desk::Desk;
@@ -41,11 +40,11 @@ pub use index::{LocalIndex, NoPlace};
 pub use laws::{
     a_changed_range_is_a_conflict, own_receipts_audit_yes, reads_that_hold_are_no_conflict,
 };
-pub use listed::{Listed, clones_of_lists, equals_of_lists};
 pub use play::{DeskCall, DeskReply, ReadSet, play_all, play_one};
 pub use query::{Answer, Near, Query};
+pub use seq::{Seq, clones_of_lists, equals_of_lists};
 pub use session::Session;
-pub use snapshot::{Nearby, Walk};
 pub use text::Text;
 pub use transaction::{Audit, Receipt, Recorded, Transaction};
+pub use version_view::{Nearby, Walk};
 pub use versions::{Reply, Write};

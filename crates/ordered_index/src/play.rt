@@ -7,7 +7,7 @@ ghost use Rattle.ordered_index.specs.State.{MayAccept, number_of};
 
 use crate::commit::{Accepted, Cause, Refused};
 use crate::desk::{Desk, Seat};
-use crate::index::{LocalIndex, NoPlace, put};
+use crate::index::{LocalIndex, NoPlace};
 use crate::query::{Answer, Query};
 use crate::transaction::{Audit, Receipt};
 use std::alloc::{AllocError, Global};
@@ -113,7 +113,7 @@ pub fn play_all<K: Clone + Ord, V: Clone + Eq, const S: usize>(
             return Err((replies, AllocError));
         };
         match play_one(alloc, index, desk, call) {
-            Ok(reply) => put(&mut replies, reply),
+            Ok(reply) => replies.push_reserved(reply),
             Err(refused) => return Err((replies, refused)),
         }
     }

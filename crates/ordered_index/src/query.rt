@@ -1,6 +1,6 @@
 //! Questions to a list of pairs, and their answers.
 
-use crate::listed::Listed;
+use crate::seq::Seq;
 use std::ops::Bound;
 
 /// A question to a list of pairs.
@@ -25,7 +25,7 @@ pub enum Answer<K, V> {
     /// Whether a pair has the key.
     Contains(bool),
     /// The pairs, by rising keys.
-    Range(Listed<(K, V)>),
+    Range(Seq<(K, V)>),
     /// What stands at the key or around it.
     Locate(Near<K, V>),
 }

@@ -5,37 +5,38 @@ ghost use Rattle.std.specs.Option.{unwrap_or};
 ghost use Rattle.std.specs.declared.ops.Bound.TheVariants.{Unbounded};
 ghost use Rattle.leaf_array.specs.Values.{ClonesAreSame, EqualsAreSame};
 ghost use Rattle.tree_index.specs.Cursor.{Cursor};
+ghost use Rattle.versions.specs.Cuts.{pairs_in};
 ghost use Rattle.versions.specs.Writes.{after_write, after_writes};
 ghost use Rattle.ordered_index.specs.Serial.{after_all};
-ghost use Rattle.ordered_index.specs.Stretches.{IsStart};
+ghost use Rattle.ordered_index.specs.RemainingPairs.{IsStart};
 
-use crate::listing::{Listing, around};
+use crate::ordered_view::{OrderedView, around};
 use crate::query::Near;
-use crate::snapshot::Snapshot;
-use crate::stretch::{Steps, copied, gives, next};
+use crate::scan::{Steps, collect, matches, next};
 use crate::transaction::Transaction;
+use crate::version_view::walk_all;
 use std::alloc::{AllocError, Global};
 use std::ops::Bound;
 use tree_index::{InsertRefused, Proximity, TreeIndex};
-use versions::Write;
+use versions::{Trees, VersionView, Write};
 
 /// The list that transactions leave of a version's, or of the empty one where none is given.
-pub(crate) fn replayed<'w, K: Clone + Ord, V: Clone, const S: usize>(
+pub(crate) fn replay<'w, K: Clone + Ord, V: Clone, W: Trees<K, V>>(
     alloc: Global,
-    base: Option<Snapshot<'w, K, V, S>>,
+    base: Option<VersionView<'w, K, V, W>>,
     history: &'w [Transaction<K, V>],
 ) -> Result<TreeIndex<K, V>, AllocError>
     requires keys { ClonesAreSame K.is_clone }
     requires values { ClonesAreSame V.is_clone }
-    ensures { IfOk result (λ list. list.pairs ≡ after_all K.cmp history.now (unwrap_or base.entry [])) }
+    ensures { IfOk result (λ list. list.pairs ≡ after_all K.cmp history.now (pairs_in (unwrap_or base.entry []))) }
 {
     let Some(at) = last_clearing(history) else {
-        let mut list = planted(alloc, base)?;
-        replay(&mut list, history)?;
+        let mut list = base_list(alloc, base)?;
+        apply_history(&mut list, history)?;
         return Ok(list);
     };
     let mut list = TreeIndex::new(alloc);
-    replay(&mut list, &history[at..])?;
+    apply_history(&mut list, &history[at..])?;
     Ok(list)
 }
 
@@ -67,16 +68,16 @@ fn clears<K: Ord, V>(writes: &[Write<K, V>]) -> bool
 }
 
 /// A copy of a version's list, or the empty list.
-fn planted<K: Clone + Ord, V: Clone, const S: usize>(
+fn base_list<K: Clone + Ord, V: Clone, W: Trees<K, V>>(
     alloc: Global,
-    base: Option<Snapshot<'_, K, V, S>>,
+    base: Option<VersionView<'_, K, V, W>>,
 ) -> Result<TreeIndex<K, V>, AllocError>
     requires keys { ClonesAreSame K.is_clone }
     requires values { ClonesAreSame V.is_clone }
-    ensures { IfOk result (λ list. list.pairs ≡ unwrap_or base.entry []) }
+    ensures { IfOk result (λ list. list.pairs ≡ pairs_in (unwrap_or base.entry [])) }
 {
     match base {
-        Some(version) => gathered(alloc, version.whole()),
+        Some(version) => gathered(alloc, walk_all(&version)),
         None => Ok(TreeIndex::new(alloc)),
     }
 }
@@ -104,7 +105,7 @@ fn gathered<'t, K: Clone + Ord + 't, V: Clone + 't, C: Steps<'t, K, V>>(
 }
 
 /// Makes the writes of transactions on a list.
-fn replay<K: Clone + Ord, V: Clone>(
+fn apply_history<K: Clone + Ord, V: Clone>(
     list: &mut TreeIndex<K, V>,
     history: &[Transaction<K, V>],
 ) -> Result<(), AllocError>
@@ -166,7 +167,7 @@ fn apply<K: Clone + Ord, V: Clone>(
     }
 }
 
-impl<K: Clone + Ord, V: Clone + Eq> Listing<K, V> for TreeIndex<K, V> {
+impl<K: Clone + Ord, V: Clone + Eq> OrderedView<K, V> for TreeIndex<K, V> {
     ghost pairs = { λ t. t.pairs };
 
     fn find(&self, key: &K) -> Option<&V> {
@@ -175,7 +176,7 @@ impl<K: Clone + Ord, V: Clone + Eq> Listing<K, V> for TreeIndex<K, V> {
 
     fn has_between(&self, lower: &Bound<K>, upper: &Bound<K>, told: &[(K, V)]) -> bool {
         let _ = self.len();
-        gives(self.range(lower.as_ref(), upper.as_ref()), told)
+        matches(self.range(lower.as_ref(), upper.as_ref()), told)
     }
 
     fn copy_between(
@@ -185,7 +186,7 @@ impl<K: Clone + Ord, V: Clone + Eq> Listing<K, V> for TreeIndex<K, V> {
         upper: &Bound<K>,
     ) -> Result<Vec<(K, V)>, AllocError> {
         let _ = self.len();
-        copied(alloc, self.range(lower.as_ref(), upper.as_ref()))
+        collect(alloc, self.range(lower.as_ref(), upper.as_ref()))
     }
 
     fn near(&self, key: &K) -> Near<&K, &V> {

@@ -3,8 +3,8 @@
 ghost use Rattle.std.specs.Prelude.{◌≡◌, [], IfOk};
 ghost use Rattle.leaf_array.specs.Values.{ClonesAreSame};
 
-use crate::listed::Listed;
 use crate::query::{Answer, Query};
+use crate::seq::Seq;
 use std::alloc::{AllocError, Global};
 use versions::{Reply, Write};
 
@@ -20,7 +20,7 @@ pub struct Receipt<K, V> {
     /// The number of the list that was read.
     pub number: u64,
     /// The reads, in order.
-    pub reads: Listed<Recorded<K, V>>,
+    pub reads: Seq<Recorded<K, V>>,
 }
 
 impl<K, V> Receipt<K, V> {
@@ -31,7 +31,7 @@ impl<K, V> Receipt<K, V> {
     {
         Receipt {
             number: 0,
-            reads: Listed::new(alloc),
+            reads: Seq::new(alloc),
         }
     }
 }
@@ -51,18 +51,18 @@ pub enum Audit {
 #[derive(Clone, Debug, PartialEq, Eq, Drop)]
 pub struct Transaction<K, V> {
     /// The reads that it rested on.
-    pub reads: Listed<Recorded<K, V>>,
+    pub reads: Seq<Recorded<K, V>>,
     /// Its writes, in order.
-    pub writes: Listed<Write<K, V>>,
+    pub writes: Seq<Write<K, V>>,
     /// What each write was told.
-    pub replies: Listed<Reply>,
+    pub replies: Seq<Reply>,
 }
 
 /// A copy of recorded reads.
 pub(crate) fn copied_reads<K: Clone, V: Clone>(
     alloc: Global,
     reads: &[Recorded<K, V>],
-) -> Result<Listed<Recorded<K, V>>, AllocError>
+) -> Result<Seq<Recorded<K, V>>, AllocError>
     requires keys { ClonesAreSame K.is_clone }
     requires values { ClonesAreSame V.is_clone }
     ensures { IfOk result (λ copy. copy ≡ reads.now) }
@@ -71,7 +71,7 @@ pub(crate) fn copied_reads<K: Clone, V: Clone>(
     for read in reads {
         copy.push((copied_query(&read.0)?, copied_answer(&read.1)?))?;
     }
-    Ok(Listed::from_vec(copy))
+    Ok(Seq::from_vec(copy))
 }
 
 /// A copy of a query.

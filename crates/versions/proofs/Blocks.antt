@@ -1,11 +1,6 @@
 -- Blocks in a row.
-use Rattle.std.proofs.Common.{◌≡◌, ℕ, ◌+◌, ◌*◌, ◌/◌, ◌≤◌, ◌<◌, ◌||◌, List, [], ◌∷◌, ◌++◌, length, map, drop, slice_index_or, append_assoc, length-append, refl, sym, ap, ◌∙◌, arith}
-use Rattle.std.proofs.lemmas.List.{drop_more}
-use Rattle.std.proofs.lemmas.List.Folds.{list_any-append}
+use Rattle.std.proofs.Common.{◌≡◌, ℕ, ◌+◌, ◌*◌, ◌/◌, ◌≤◌, List, [], ◌∷◌, ◌++◌, length, drop, append_assoc, length-append, refl, arith}
 use Rattle.std.proofs.lemmas.Nat.{le-div}
-use Rattle.std.specs.BTreeMap.{is_at}
-use Rattle.std.specs.declared.cmp.Ordering.{Ordering}
-use Rattle.leaf_array.specs.Pairs.{has_key}
 use Rattle.versions.specs.Cuts.{IsTight, pairs_in}
 
 module _ {K V : Type 0} where
@@ -39,10 +34,3 @@ module _ {K V : Type 0} where
       let r = (halved s blocks t).0 in
       let fits : r.half ≤ length (pairs_in blocks) / (s + 1) = le-div r.half (length (pairs_in blocks)) (s + 1) (omega arith) r.full in
       omega (arith, fits, r.all)
-
--- whether a key is there, from one of some trees on
-pub has_from : {T K V : Type 0} (cmp : K → K → Ordering) (key : K) (f : T → List (K × V)) (xs : List T) (i : ℕ) (x : T) → i < length xs → x ≡ slice_index_or xs i x
-    → has_key cmp key (pairs_in (map f (drop i xs))) ≡ (has_key cmp key (f x) || has_key cmp key (pairs_in (map f (drop (i + 1) xs))))
-has_from cmp key f xs i x lt e =
-    let here : drop i xs ≡ x ∷ drop (i + 1) xs = drop_more xs i x lt ∙ ap (λ y. y ∷ drop (i + 1) xs) (sym e) in
-    ap (λ ys. has_key cmp key (pairs_in (map f ys))) here ∙ list_any-append (λ p. is_at (cmp key) p.0) (f x) (pairs_in (map f (drop (i + 1) xs)))

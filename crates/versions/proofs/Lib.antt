@@ -2,7 +2,7 @@ pub mod Blocks
 pub mod Placings
 pub mod Seeking
 pub mod Places
-pub mod EdgeLemmas
+pub mod CursorEndLemmas
 pub mod Turns
 pub mod Locating
 pub mod BlockLemmas
@@ -16,3 +16,8 @@ pub mod Merging
 pub mod Remains
 pub mod Reclaiming
 pub mod Sweeping
+pub mod OptionLemmas
+pub mod FreePlaceLemmas
+pub mod StoreLemmas
+pub mod PassLemmas
+pub mod PublishLemmas

@@ -22,6 +22,7 @@ use Rattle.versions.specs.Cuts.{IsCut, pairs_in}
 use Rattle.versions.specs.Items.{held_by, slots_of}
 use Rattle.versions.specs.Placing.{IsNoDirectory, IsLevelled, Adds, StandsIn, Places}
 use Rattle.versions.specs.Versions.{IsSegment, pairs_of, blocks_of}
+use Rattle.sdd_base.specs.declared.owner.Kept.{Kept}
 use Rattle.versions.specs.declared.directory.Directory.{Directory}
 use Rattle.versions.specs.declared.item.Item.{Item}
 use Rattle.versions.specs.declared.item.Item.TheVariants as items
@@ -124,7 +125,7 @@ module _ {K V : Type 0} {s : ℕ} where
       levelled = levelled;
     }
 
-  segment_no_directory : (o : Option (Item K V s)) (t : Tree K V) (d : Directory K) → o ≡ Some (items.Segment t) → o ≡ Some (items.Directory d) → ⊥
+  segment_no_directory : (o : Option (Item K V s)) (t : Tree K V) (d : Directory K Kept) → o ≡ Some (items.Segment t) → o ≡ Some (items.Directory d) → ⊥
   segment_no_directory o t d e f = cc
 
   no_directory_of : (o : Option (Item K V s)) → IsSegment o → IsNoDirectory o
@@ -152,7 +153,7 @@ module _ {K V : Type 0} {s : ℕ} where
       free_is_none n e = cc
 
   -- a directory is placed above its segments: no item holds it
-  levelled_directory : (w : State (Item K V s)) (i : ℕ) (d : Directory K) (hand : List Hold) → IsPlace w → IsFree w i → Counted held_by hand w → All (λ k. IsLive w k) (slots_of d) → All (λ k. IsSegment (value_at w k)) (slots_of d) → IsLevelled w → IsLevelled (placed i (items.Directory d) (status.Shared 1) w)
+  levelled_directory : (w : State (Item K V s)) (i : ℕ) (d : Directory K Kept) (hand : List Hold) → IsPlace w → IsFree w i → Counted held_by hand w → All (λ k. IsLive w k) (slots_of d) → All (λ k. IsSegment (value_at w k)) (slots_of d) → IsLevelled w → IsLevelled (placed i (items.Directory d) (status.Shared 1) w)
   levelled_directory w i d hand place free counted lives segments levelled j e is =
       let v : Item K V s = items.Directory d in
       let w' : State (Item K V s) = placed i v (status.Shared 1) w in
@@ -174,7 +175,7 @@ module _ {K V : Type 0} {s : ℕ} where
             subst (λ (o : Option (Item K V s)). IsNoDirectory o) (sym (there k (shared_not_free w i k free sh))) (before n x h)
       ]
     where
-      slots_same : (o : Option (Item K V s)) (e d : Directory K) → o ≡ Some (items.Directory e) → o ≡ Some (items.Directory d) → slots_of e ≡ slots_of d
+      slots_same : (o : Option (Item K V s)) (e d : Directory K Kept) → o ≡ Some (items.Directory e) → o ≡ Some (items.Directory d) → slots_of e ≡ slots_of d
       slots_same o e d h k = cc
 
   pub keeps_then : (u v w : State (Item K V s)) → v.members ≡ u.members → ((i : ℕ) → IsLive u i → IsLive v i) → Keeps u v → Keeps v w → Keeps u w
@@ -245,7 +246,7 @@ module _ {K V : Type 0} {s : ℕ} where
       subst (λ (y : State (Item K V s)). StandsIn (xs ++ i ∷ []) (bs ++ t.pairs ∷ []) u y) (sym is) whole
 
   -- the directory of segments that stand is placed
-  pub places_directory : (cmp : K → K → Ordering) (u v w : State (Item K V s)) (bs : List (List (K × V))) (i : ℕ) (d : Directory K) → StandsIn (slots_of d) bs u v → IsCut cmp s bs d.separators.items → d.length ≡ length (pairs_in bs) → IsPlace v → IsFree v i → w ≡ placed i (items.Directory d) (status.Shared 1) v → Keeps v w → Places cmp (record { number = d.number; blocks = bs }) i u w
+  pub places_directory : (cmp : K → K → Ordering) (u v w : State (Item K V s)) (bs : List (List (K × V))) (i : ℕ) (d : Directory K Kept) → StandsIn (slots_of d) bs u v → IsCut cmp s bs d.separators.items → d.length ≡ length (pairs_in bs) → IsPlace v → IsFree v i → w ≡ placed i (items.Directory d) (status.Shared 1) v → Keeps v w → Places cmp (record { number = d.number; blocks = bs }) i u w
   places_directory cmp u v w bs i d st cut counts place free is keeps' =
       let x : Item K V s = items.Directory d in
       let v' : State (Item K V s) = placed i x (status.Shared 1) v in

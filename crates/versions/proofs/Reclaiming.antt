@@ -23,6 +23,7 @@ use Rattle.sdd_base.proofs.Quiets.{gives_only}
 use Rattle.versions.specs.Items.{held_by, slots_of}
 use Rattle.versions.specs.Placing.{IsLevelled, IsNoDirectory}
 use Rattle.versions.specs.Reclaiming.{IsRooted, PassesLeaveOne}
+use Rattle.sdd_base.specs.declared.owner.Kept.{Kept}
 use Rattle.versions.specs.declared.directory.Directory.{Directory}
 use Rattle.versions.specs.declared.item.Item.{Item}
 use Rattle.versions.specs.declared.item.Item.TheVariants as items
@@ -77,7 +78,7 @@ module _ {K V : Type 0} {s : ℕ} where
       owners.closed p hand (accelerated p o) (counted_same held_by hand o (accelerated p o) refl refl refl (owners.opened p hand w place known counted))
 
   -- over one pass, the root keeps its version
-  rooted_passed : (n p c i : ℕ) (d : Directory K) (w : State (Item K V s)) → CanPass (suc n) p w → IsRooted p c i d w → IsRooted p c i d (passed held_by p w)
+  rooted_passed : (n p c i : ℕ) (d : Directory K Kept) (w : State (Item K V s)) → CanPass (suc n) p w → IsRooted p c i d w → IsRooted p c i d (passed held_by p w)
   rooted_passed n p c i d w can r =
       let hand : List Hold = SharedIn c ∷ [] in
       let o : State (Item K V s) = opened held_by p w in
@@ -102,7 +103,7 @@ module _ {K V : Type 0} {s : ℕ} where
         others = λ q n. ap bags_empty (only q n) ∙ r.others q n;
       }
 
-  pub rooted_times : (n p c i : ℕ) (d : Directory K) (w : State (Item K V s)) → CanPass n p w → IsRooted p c i d w → IsRooted p c i d (passed_times held_by p n w)
+  pub rooted_times : (n p c i : ℕ) (d : Directory K Kept) (w : State (Item K V s)) → CanPass n p w → IsRooted p c i d w → IsRooted p c i d (passed_times held_by p n w)
   rooted_times zero p c i d w can r = r
   rooted_times (suc n) p c i d w can r = rooted_times n p c i d (passed held_by p w) (pass_on n p w can).0 (rooted_passed n p c i d w can r)
 
@@ -111,7 +112,7 @@ module _ {K V : Type 0} {s : ℕ} where
   times_after (suc n) m p w = let e : suc n + m ≡ suc (n + m) = omega arith in ap (λ (k : ℕ). passed_times held_by p k w) e ∙ times_after n m p (passed held_by p w)
 
   -- four passes reclaim the directories that waited, and four what they held
-  leaves_one : (p c i : ℕ) (d : Directory K) (w : State (Item K V s)) → CanPass 8 p w → IsRooted p c i d w → in_use (passed_times held_by p 8 w) ≤ length (slots_of d) + 1
+  leaves_one : (p c i : ℕ) (d : Directory K Kept) (w : State (Item K V s)) → CanPass 8 p w → IsRooted p c i d w → in_use (passed_times held_by p 8 w) ≤ length (slots_of d) + 1
   leaves_one p c i d w can r =
       let reclaims : PassesReclaim {T = Item K V s} held_by = passes_reclaim held_by in
       let u : State (Item K V s) = passed_times held_by p 4 w in

@@ -17,6 +17,7 @@ use Rattle.sdd_base.specs.declared.status.Status.TheVariants as status
 use Rattle.sdd_base.proofs.Lists.{hit-same, hit-other}
 use Rattle.versions.specs.Items.{held_by, slots_of}
 use Rattle.versions.specs.Placing.{IsLevelled, IsNoDirectory}
+use Rattle.sdd_base.specs.declared.owner.Kept.{Kept}
 use Rattle.versions.specs.declared.directory.Directory.{Directory}
 use Rattle.versions.specs.declared.item.Item.{Item}
 use Rattle.versions.specs.declared.item.Item.TheVariants as items
@@ -170,7 +171,7 @@ free_cells (k ∷ cs) free =
 
 module _ {K V : Type 0} {s : ℕ} where
   -- what an item holds are a directory's segments
-  pub holds_segments : (v : Item K V s) (h : Hold) → 1 ≤ tally h (held_by v) → (d : Directory K) × (v ≡ items.Directory d) × (x : ℕ) × (x < length (slots_of d)) × (h ≡ SharedItem (get_or (slots_of d) x 0))
+  pub holds_segments : (v : Item K V s) (h : Hold) → 1 ≤ tally h (held_by v) → (d : Directory K Kept) × (v ≡ items.Directory d) × (x : ℕ) × (x < length (slots_of d)) × (h ≡ SharedItem (get_or (slots_of d) x 0))
   holds_segments (items.Directory d) h some =
       let turned = tally_reverse h (map SharedItem (slots_of d)) in
       let o = held_owner h (slots_of d) (omega (arith, some, turned)) in
@@ -178,7 +179,7 @@ module _ {K V : Type 0} {s : ℕ} where
   holds_segments (items.Segment t) h some = absurd (omega (arith, some))
 
   -- a slot of which an item holds an owner has a segment of a directory
-  held_in_item : (j : ℕ) (o : Option (Item K V s)) → 1 ≤ tally (SharedItem j) (held_in held_by o) → (d : Directory K) × (o ≡ Some (items.Directory d)) × (x : ℕ) × (x < length (slots_of d)) × (j ≡ get_or (slots_of d) x 0)
+  held_in_item : (j : ℕ) (o : Option (Item K V s)) → 1 ≤ tally (SharedItem j) (held_in held_by o) → (d : Directory K Kept) × (o ≡ Some (items.Directory d)) × (x : ℕ) × (x < length (slots_of d)) × (j ≡ get_or (slots_of d) x 0)
   held_in_item j None some = absurd (omega (arith, some))
   held_in_item j (Some v) some =
       let h = holds_segments v (SharedItem j) some in
@@ -204,7 +205,7 @@ module _ {K V : Type 0} {s : ℕ} where
   -- the item in slot j is a segment of a directory, which stands in slot `above`
   record IsBelow (w : State (Item K V s)) (j : ℕ) : Type 0 where
     above : ℕ
-    directory : Directory K
+    directory : Directory K Kept
     is : value_at w above ≡ Some (items.Directory directory)
     nth : ℕ
     inside : nth < length (slots_of directory)
@@ -257,7 +258,7 @@ module _ {K V : Type 0} {s : ℕ} where
         ])
 
   -- nothing waits, and the one owner outside is a root
-  module _ (w : State (Item K V s)) (c i : ℕ) (d : Directory K) (t : Tag) (place : IsPlace w) (counted : Counted held_by (SharedIn c ∷ []) w) (plain : IsPlain w) (levelled : IsLevelled w) (root : cell_at w c ≡ cell.OfShared (Some i) t) (is : value_at w i ≡ Some (items.Directory d)) (empty : (q : ℕ) → bags_empty (member_at w q) ≡ true) where
+  module _ (w : State (Item K V s)) (c i : ℕ) (d : Directory K Kept) (t : Tag) (place : IsPlace w) (counted : Counted held_by (SharedIn c ∷ []) w) (plain : IsPlain w) (levelled : IsLevelled w) (root : cell_at w c ≡ cell.OfShared (Some i) t) (is : value_at w i ≡ Some (items.Directory d)) (empty : (q : ℕ) → bags_empty (member_at w q) ≡ true) where
     -- only the root keeps an owner
     kept_by_root : (j : ℕ) → 1 ≤ kept_times w j → j ≡ i
     kept_by_root j some =
@@ -290,7 +291,7 @@ module _ {K V : Type 0} {s : ℕ} where
               omega (arith, front, at, named, here)
         ]
       where
-        slots_same : (o : Option (Item K V s)) (e f : Directory K) → o ≡ Some (items.Directory e) → o ≡ Some (items.Directory f) → slots_of e ≡ slots_of f
+        slots_same : (o : Option (Item K V s)) (e f : Directory K Kept) → o ≡ Some (items.Directory e) → o ≡ Some (items.Directory f) → slots_of e ≡ slots_of f
         slots_same o e f h g = cc
 
     -- its directory and its segments are all that is in use

@@ -14,6 +14,7 @@ use Rattle.versions.specs.Items.{held_by, slots_of}
 use Rattle.versions.specs.Placing.{HasVersion}
 use Rattle.versions.specs.Staying.{IsSeen, VersionsStay}
 use Rattle.versions.specs.Versions.{IsSegment, blocks_of, pairs_of}
+use Rattle.sdd_base.specs.declared.owner.Kept.{Kept}
 use Rattle.versions.specs.declared.directory.Directory.{Directory}
 use Rattle.versions.specs.declared.item.Item.{Item}
 use Rattle.versions.specs.declared.item.Item.TheVariants as items
@@ -37,7 +38,7 @@ module _ {K V : Type 0} {s : ℕ} (cmp : K → K → Ordering) where
         list = ap pairs_in blocks ∙ v.list;
       }
 
-  owns_segments : (hand : List Hold) (w : State (Item K V s)) (i : ℕ) (d : Directory K) → Counted held_by hand w → value_at w i ≡ Some (items.Directory d) → All (λ j. IsShared w j) (slots_of d)
+  owns_segments : (hand : List Hold) (w : State (Item K V s)) (i : ℕ) (d : Directory K Kept) → Counted held_by hand w → value_at w i ≡ Some (items.Directory d) → All (λ j. IsShared w j) (slots_of d)
   owns_segments hand w i d counted is = λ k e h.
       let j = get_or (slots_of d) k e in
       let above : Item K V s = items.Directory d in

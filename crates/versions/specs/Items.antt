@@ -2,13 +2,18 @@
 use Rattle.std.specs.Prelude.{ℕ, List, [], map, reverse}
 use Rattle.sdd_base.specs.Holding.{Hold, SharedItem}
 use Rattle.sdd_base.specs.Tokens.{kept_slot}
+use Rattle.sdd_base.specs.declared.owner.Kept.{Kept}
 use Rattle.versions.specs.declared.directory.Directory.{Directory}
 use Rattle.versions.specs.declared.item.Item.{Item}
 use Rattle.versions.specs.declared.item.Item.TheVariants as items
 
--- the slots of the segments of a directory, in order
-abbrev pub slots_of : {K : Type 0} → Directory K → List ℕ
-slots_of d = map kept_slot d.segments.items
+-- the owners of the segments of a directory, in order
+abbrev pub owners_of : {K O : Type 0} → Directory K O → List O
+owners_of d = d.segments.items
+
+-- their slots, where it stands in a place of one thread
+abbrev pub slots_of : {K : Type 0} → Directory K Kept → List ℕ
+slots_of d = map kept_slot (owners_of d)
 
 -- a directory gives its segments up from the last one on
 abbrev pub held_by : {K V : Type 0} {s : ℕ} → Item K V s → List Hold

@@ -12,6 +12,7 @@ use Rattle.sdd_base.specs.Steps.{released}
 use Rattle.versions.specs.Cuts.{pairs_in}
 use Rattle.versions.specs.Items.{held_by, slots_of}
 use Rattle.versions.specs.Versions.{IsSegment, IsVersion, pairs_of, list_of}
+use Rattle.sdd_base.specs.declared.owner.Kept.{Kept}
 use Rattle.versions.specs.declared.directory.Directory.{Directory}
 use Rattle.versions.specs.declared.item.Item.{Item}
 use Rattle.versions.specs.declared.item.Item.TheVariants as items
@@ -33,7 +34,7 @@ module _ {K V : Type 0} {s : ℕ} where
 
   -- no directory that is there, also one that waits, holds a directory
   abbrev pub IsLevelled : State (Item K V s) → Type 0
-  IsLevelled w = (i : ℕ) (d : Directory K) → value_at w i ≡ Some (items.Directory d) → All (λ j. IsNoDirectory (value_at w j)) (slots_of d)
+  IsLevelled w = (i : ℕ) (d : Directory K Kept) → value_at w i ≡ Some (items.Directory d) → All (λ j. IsNoDirectory (value_at w j)) (slots_of d)
 
   -- n items more, and all else as it was
   pub record Adds (n : ℕ) (w w' : State (Item K V s)) : Type 0 where
@@ -58,7 +59,7 @@ module _ {K V : Type 0} {s : ℕ} where
 
   -- a directory stands in this slot, which is the version of that number with that list
   pub record HasVersion (cmp : K → K → Ordering) (w : State (Item K V s)) (slot number : ℕ) (pairs : List (K × V)) : Type 0 where
-    pub directory : Directory K
+    pub directory : Directory K Kept
     pub is : value_at w slot ≡ Some (items.Directory directory)
     pub whole : IsVersion cmp (value_at w) directory
     pub numbered : directory.number ≡ number

@@ -10,12 +10,13 @@ use Rattle.sdd_base.specs.declared.status.Cell.TheVariants as cell
 use Rattle.sdd_base.specs.declared.tag.Tag.{Tag}
 use Rattle.versions.specs.Items.{held_by, slots_of}
 use Rattle.versions.specs.Placing.{IsLevelled}
+use Rattle.sdd_base.specs.declared.owner.Kept.{Kept}
 use Rattle.versions.specs.declared.directory.Directory.{Directory}
 use Rattle.versions.specs.declared.item.Item.{Item}
 use Rattle.versions.specs.declared.item.Item.TheVariants as items
 
 -- a place whose one owner outside is a root, which names this directory; items wait for participant p alone
-pub record IsRooted {K V : Type 0} {s : ℕ} (p c i : ℕ) (d : Directory K) (w : State (Item K V s)) : Type 0 where
+pub record IsRooted {K V : Type 0} {s : ℕ} (p c i : ℕ) (d : Directory K Kept) (w : State (Item K V s)) : Type 0 where
   pub counted : Counted held_by (SharedIn c ∷ []) w
   pub plain : IsPlain w
   pub levelled : IsLevelled w
@@ -26,7 +27,7 @@ pub record IsRooted {K V : Type 0} {s : ℕ} (p c i : ℕ) (d : Directory K) (w 
 
 -- eight accelerated guards of p, where no other is open, leave the version that the root names, and no more
 pub record PassesLeaveOne (K V : Type 0) (s : ℕ) : Type 0 where
-  pub left : (p c i : ℕ) (d : Directory K) (w : State (Item K V s)) → CanPass 8 p w → IsRooted p c i d w → in_use (passed_times held_by p 8 w) ≤ length (slots_of d) + 1
+  pub left : (p c i : ℕ) (d : Directory K Kept) (w : State (Item K V s)) → CanPass 8 p w → IsRooted p c i d w → in_use (passed_times held_by p 8 w) ≤ length (slots_of d) + 1
 
 -- a place with no owner outside, and no cell: there is no root
 pub record IsRootless {K V : Type 0} {s : ℕ} (w : State (Item K V s)) : Type 0 where

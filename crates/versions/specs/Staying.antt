@@ -9,18 +9,19 @@ use Rattle.sdd_base.specs.Place.{IsOpen, IsPlace, IsShared}
 use Rattle.sdd_base.specs.State.{State, value_at}
 use Rattle.versions.specs.Items.{held_by, slots_of}
 use Rattle.versions.specs.Placing.{HasVersion}
+use Rattle.sdd_base.specs.declared.owner.Kept.{Kept}
 use Rattle.versions.specs.declared.directory.Directory.{Directory}
 use Rattle.versions.specs.declared.item.Item.{Item}
 use Rattle.versions.specs.declared.item.Item.TheVariants as items
 
 -- the open guard of q protects the directory in slot i, and its segments
-pub record IsSeen {K V : Type 0} {s : ℕ} (w : State (Item K V s)) (q i : ℕ) (d : Directory K) : Type 0 where
+pub record IsSeen {K V : Type 0} {s : ℕ} (w : State (Item K V s)) (q i : ℕ) (d : Directory K Kept) : Type 0 where
   pub item : Protects w q i
   pub segments : All (λ j. Protects w q j) (slots_of d)
 
 pub record VersionsStay (K V : Type 0) (s : ℕ) (cmp : K → K → Ordering) : Type 0 where
   -- a directory that is there owns its segments
-  pub owns : (hand : List Hold) (w : State (Item K V s)) (i : ℕ) (d : Directory K) → Counted held_by hand w → value_at w i ≡ Some (items.Directory d) → All (λ j. IsShared w j) (slots_of d)
+  pub owns : (hand : List Hold) (w : State (Item K V s)) (i : ℕ) (d : Directory K Kept) → Counted held_by hand w → value_at w i ≡ Some (items.Directory d) → All (λ j. IsShared w j) (slots_of d)
   -- a version that has an owner stays whole over each call
   pub owned : (hand : List Hold) (w w' : State (Item K V s)) (i number : ℕ) (pairs : List (K × V)) → Counted held_by hand w → IsLive w i → HasVersion cmp w i number pairs → Keeps w w' → HasVersion cmp w' i number pairs
   -- where a guard is open, it protects each version that has an owner, with its segments

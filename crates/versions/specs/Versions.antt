@@ -4,6 +4,7 @@ use Rattle.std.specs.declared.cmp.Ordering.{Ordering}
 use Rattle.std.specs.List.{All}
 use Rattle.versions.specs.Cuts.{IsCut, pairs_in}
 use Rattle.versions.specs.Items.{slots_of}
+use Rattle.sdd_base.specs.declared.owner.Kept.{Kept}
 use Rattle.versions.specs.declared.directory.Directory.{Directory}
 use Rattle.versions.specs.declared.item.Item.{Item}
 use Rattle.versions.specs.declared.item.Item.TheVariants as items
@@ -21,15 +22,15 @@ module _ {K V : Type 0} {s : ℕ} where
   IsSegment (Some (items.Segment t)) = Unit {0}
 
   -- the segments of a directory, where these items stand in the slots
-  abbrev pub blocks_of : (ℕ → Option (Item K V s)) → Directory K → List (List (K × V))
+  abbrev pub blocks_of : (ℕ → Option (Item K V s)) → Directory K Kept → List (List (K × V))
   blocks_of at d = map (λ i. pairs_of (at i)) (slots_of d)
 
   -- its list
-  abbrev pub list_of : (ℕ → Option (Item K V s)) → Directory K → List (K × V)
+  abbrev pub list_of : (ℕ → Option (Item K V s)) → Directory K Kept → List (K × V)
   list_of at d = pairs_in (blocks_of at d)
 
   -- the directory is a version: its slots have segments, which are cut as they should be
-  pub record IsVersion (cmp : K → K → Ordering) (at : ℕ → Option (Item K V s)) (d : Directory K) : Type 0 where
+  pub record IsVersion (cmp : K → K → Ordering) (at : ℕ → Option (Item K V s)) (d : Directory K Kept) : Type 0 where
     pub segments : All (λ i. IsSegment (at i)) (slots_of d)
     pub cut : IsCut cmp s (blocks_of at d) d.separators.items
     pub counted : d.length ≡ length (list_of at d)

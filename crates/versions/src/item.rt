@@ -10,13 +10,13 @@ use tree_index::TreeIndex;
 
 /// What stands in a slot: a version, or a segment of versions.
 pub enum Item<K: Ord, V, const S: usize> {
-    Directory(Directory<K>),
+    Directory(Directory<K, Kept>),
     Segment(TreeIndex<K, V>),
 }
 
 impl<K: Ord, V, const S: usize> Item<K, V, S> {
     /// The directory of a version, or none where it is a segment.
-    pub fn directory(&self) -> Option<&Directory<K>>
+    pub fn directory(&self) -> Option<&Directory<K, Kept>>
         ensures some { IfSome result (λ d. self.now ≡ Item.Directory d.now) }
         ensures none { IfNone result (IsSegment (Some self.now)) }
     {

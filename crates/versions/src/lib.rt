@@ -8,26 +8,25 @@
 //! let first = place(&mut world, Built::empty(alloc))?;                    // the empty list, in one slot
 //! let (built, replies) = build(alloc, &world, version(&world, &first), &writes)?;
 //! let second = place(&mut world, built)?;                                 // refused, it comes back
-//! look_up(&world, version(&world, &second), &key);                        // one search of the directory, one of a tree
-//! walk(&world, version(&world, &second), lower, upper);                   // a cursor over the pairs within two bounds
-//! locate(&world, version(&world, &second), &key);                         // a cursor at a key or at its neighbours
+//! let view = view_of(&world, version(&world, &second));
+//! view.get(&key);                                                         // one search of the directory, one of a tree
+//! view.walk(lower, upper);                                                // a cursor over the pairs within two bounds
+//! view.locate(&key);                                                      // a cursor at a key or at its neighbours
 //! publish(&mut world, &root, second, writer);
 //! ```
+//!
+//! What reads a version is a [`VersionView`], whatever lends its segments ([`Trees`]). A [`LocalStore`] keeps a root, readers
+//! and the writer of versions in a place of one thread: `read/` reads, `building/` builds and places, `store/` keeps.
 #![tactic(auto)]
 
 mod bounds;
 mod building;
 mod directory;
-mod edge;
 mod item;
 mod laws;
-mod moves;
-mod nearby;
-mod pages;
 pub mod plain;
 mod read;
-mod source;
-mod walking;
+mod store;
 mod write;
 
 pub use building::built::{Built, build};
@@ -36,8 +35,10 @@ pub use building::placing::{place, publish};
 pub use directory::Directory;
 pub use item::Item;
 pub use laws::{passes_leave_one, segments_are_few, sweeps_leave_none, versions_stay};
-pub use nearby::{Nearby, locate};
-pub use read::{len, look_up, version, version_at, walk};
-pub use source::{Source, Trees};
-pub use walking::Walk;
+pub use read::nearby::Nearby;
+pub use read::trees::Trees;
+pub use read::view::VersionView;
+pub use read::walking::Walk;
+pub use read::world::{len, locate, look_up, version, version_at, view_of, walk};
+pub use store::local::{LocalNearby, LocalStore, LocalView, LocalWalk};
 pub use write::{Reply, Write};

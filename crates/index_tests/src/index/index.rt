@@ -5,7 +5,7 @@ ghost use Rattle.ordered_index.specs.State.{IsOpen};
 
 use super::slots::{commit, end};
 use ordered_index::{
-    Answer, Cause, Listed, LocalIndex, NoPlace, Query, Receipt, Recorded, Reply, Session, Write,
+    Answer, Cause, LocalIndex, NoPlace, Query, Receipt, Recorded, Reply, Seq, Session, Write,
     clones_of_lists, equals_of_lists,
 };
 use std::alloc::{AllocError, Global};
@@ -33,7 +33,7 @@ fn claims(alloc: Global, key: u64, value: Option<u64>) -> Result<Receipt<u64, u6
     let reads: Vec<Recorded<u64, u64>> = vec![in alloc; (Query::Get(key), Answer::Get(value))]?;
     Ok(Receipt {
         number: 0,
-        reads: Listed::from_vec(reads),
+        reads: Seq::from_vec(reads),
     })
 }
 
@@ -151,10 +151,10 @@ fn a_commit_is_tested_by_answers(rt: HostRuntime) -> Result<(), Fail> {
 }
 
 // An index whose keys and values are byte strings.
-type Bytes = LocalIndex<Listed<u8>, Listed<u8>, 64>;
+type Bytes = LocalIndex<Seq<u8>, Seq<u8>, 64>;
 
-fn bytes<R: Abort>(rt: &R, alloc: Global, text: &[u8]) -> Listed<u8> {
-    Listed::from_vec(Vec::from_slice(alloc, text).expect(rt, ROOM))
+fn bytes<R: Abort>(rt: &R, alloc: Global, text: &[u8]) -> Seq<u8> {
+    Seq::from_vec(Vec::from_slice(alloc, text).expect(rt, ROOM))
 }
 
 // Commits an insert of a pair of byte strings, and gives the number.
@@ -175,7 +175,7 @@ fn insert_bytes<R: Abort>(
 }
 
 // Whether the present list has this value at the key.
-fn has_bytes<R: Abort>(rt: &R, index: &mut Bytes, key: &Listed<u8>, value: &Listed<u8>) -> bool {
+fn has_bytes<R: Abort>(rt: &R, index: &mut Bytes, key: &Seq<u8>, value: &Seq<u8>) -> bool {
     let session = index.open().expect(rt, FREE);
     let found = index.get(&session, key) == Some(value);
     let _receipt = index.close_session(session);

@@ -1,7 +1,7 @@
 //! Calls with many writes, many reads and many pairs: a body that gives up on them has another answer.
 
 use super::slots::end;
-use ordered_index::{Answer, Audit, Listed, LocalIndex, Query, Receipt, Recorded, Reply, Write};
+use ordered_index::{Answer, Audit, LocalIndex, Query, Receipt, Recorded, Reply, Seq, Write};
 use std::alloc::{AllocError, Global};
 use std::process::Abort;
 
@@ -38,7 +38,7 @@ fn look_ups(
     }
     Ok(Receipt {
         number,
-        reads: Listed::from_vec(reads),
+        reads: Seq::from_vec(reads),
     })
 }
 

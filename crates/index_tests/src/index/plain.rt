@@ -1,6 +1,6 @@
 //! Answers of plain lists, for tests: what an index is compared with.
 
-use ordered_index::{Answer, Listed, Near, Query};
+use ordered_index::{Answer, Near, Query, Seq};
 use std::alloc::{AllocError, Global};
 use std::ops::Bound;
 
@@ -15,7 +15,7 @@ pub(crate) fn answer(
         Query::Contains(key) => Ok(Answer::Contains(value_of(pairs, *key).is_some())),
         Query::Range(lower, upper) => {
             let found = between(alloc, pairs, lower, upper)?;
-            Ok(Answer::Range(Listed::from_vec(found)))
+            Ok(Answer::Range(Seq::from_vec(found)))
         }
         Query::Locate(key) => Ok(Answer::Locate(near(pairs, *key))),
     }

@@ -1,8 +1,8 @@
 //! Lists of calls of a desk, and the words of their replies.
 
 use ordered_index::{
-    Answer, Audit, Cause, Desk, DeskCall, DeskReply, Listed, LocalIndex, Query, ReadSet, Receipt,
-    Recorded, Write, play_all,
+    Answer, Audit, Cause, Desk, DeskCall, DeskReply, LocalIndex, Query, ReadSet, Receipt, Recorded,
+    Seq, Write, play_all,
 };
 use std::alloc::{AllocError, Global};
 use std::ops::Bound;
@@ -132,7 +132,7 @@ fn claims_none(alloc: Global, key: u64) -> Result<Receipt<u64, u64>, AllocError>
     let reads: Vec<Recorded<u64, u64>> = vec![in alloc; (Query::Get(key), Answer::Get(None))]?;
     Ok(Receipt {
         number: 0,
-        reads: Listed::from_vec(reads),
+        reads: Seq::from_vec(reads),
     })
 }
 

@@ -1,13 +1,13 @@
 //! Lists of calls at random, made on an index and on plain lists, one for each number: both have to answer the same.
 
 ghost use Rattle.ordered_index.specs.Desk.{Serves};
-ghost use Rattle.ordered_index.specs.Sizes.{IsSized};
+ghost use Rattle.versions.specs.Sizes.{IsSized};
 
 use super::plain;
 use leaf_array::plain::find_value;
 use ordered_index::{
-    Accepted, Answer, Audit, Cause, Desk, DeskCall, DeskReply, Listed, LocalIndex, Query, ReadSet,
-    Receipt, Recorded, Reply, Write, play_all,
+    Accepted, Answer, Audit, Cause, Desk, DeskCall, DeskReply, LocalIndex, Query, ReadSet, Receipt,
+    Recorded, Reply, Seq, Write, play_all,
 };
 use std::alloc::{AllocError, Global};
 use std::ops::Bound;
@@ -96,7 +96,7 @@ impl Dice {
         }
         Ok(Receipt {
             number: (number as u64).saturating_add(self.throw(8).saturating_sub(6)),
-            reads: Listed::from_vec(reads),
+            reads: Seq::from_vec(reads),
         })
     }
 }
@@ -127,7 +127,7 @@ struct Sitting {
 // What an index has to be: a list for each number, and the sessions.
 #[derive(Drop)]
 struct Lists {
-    lists: Vec<Listed<(u64, u64)>>,
+    lists: Vec<Seq<(u64, u64)>>,
     sessions: Vec<Sitting>,
     met: Met,
 }
@@ -154,7 +154,7 @@ enum Wanted {
 impl Lists {
     fn new(alloc: Global) -> Result<Self, AllocError> {
         let mut lists = Vec::new(alloc);
-        lists.push(Listed::new(alloc))?;
+        lists.push(Seq::new(alloc))?;
         Ok(Lists {
             lists,
             sessions: Vec::new(alloc),
@@ -438,7 +438,7 @@ impl Lists {
                 assert_eq!(rt; accepted.replies.as_slice(), replies.as_slice());
                 assert!(rt; room.after <= room.before.saturating_add(room.of(after.len())));
                 assert!(rt; room.after <= room.slots);
-                self.lists.push(Listed::from_vec(after)).expect(rt, "room");
+                self.lists.push(Seq::from_vec(after)).expect(rt, "room");
                 self.met.accepted = self.met.accepted.saturating_add(1);
             }
             _ => panic!(rt; "a reply of another kind"),

@@ -5,7 +5,7 @@ ghost use Rattle.ordered_index.specs.State.{IsOpen};
 
 use super::slots::{commit, end, inserts, refuse};
 use ordered_index::{
-    Answer, Audit, Cause, Listed, LocalIndex, Near, Query, Receipt, Recorded, Session, Write,
+    Answer, Audit, Cause, LocalIndex, Near, Query, Receipt, Recorded, Seq, Session, Write,
 };
 use std::alloc::Global;
 use std::ops::Bound;
@@ -37,7 +37,7 @@ fn ask<R: Abort>(
 // The answer that lists these pairs.
 fn pairs<R: Abort>(rt: &R, alloc: Global, pairs: &[(u64, u64)]) -> Answer<u64, u64> {
     let copy = Vec::from_clones(alloc, pairs).expect(rt, "room for pairs");
-    Answer::Range(Listed::from_vec(copy))
+    Answer::Range(Seq::from_vec(copy))
 }
 
 // A receipt with one read.
@@ -52,7 +52,7 @@ fn receipt<R: Abort>(
     reads.push((query, answer)).expect(rt, "room for a read");
     Receipt {
         number,
-        reads: Listed::from_vec(reads),
+        reads: Seq::from_vec(reads),
     }
 }
 

@@ -4,7 +4,7 @@ ghost use Rattle.std.specs.Prelude.{◌≡◌};
 ghost use Rattle.ordered_index.specs.State.{IsOpen};
 
 use ordered_index::{
-    Accepted, Answer, Cause, Listed, LocalIndex, NoPlace, Query, Receipt, Recorded, Refused, Reply,
+    Accepted, Answer, Cause, LocalIndex, NoPlace, Query, Receipt, Recorded, Refused, Reply, Seq,
     Session, Write,
 };
 use std::alloc::{AllocError, Global};
@@ -82,7 +82,7 @@ fn claims<R: Abort>(
         .expect(rt, "room for a read");
     Receipt {
         number,
-        reads: Listed::from_vec(reads),
+        reads: Seq::from_vec(reads),
     }
 }
 

@@ -1,8 +1,8 @@
 //! What an index is asked and what it tells, as values: cloned, compared and printed.
 
 use ordered_index::{
-    Accepted, Answer, Audit, Cause, DeskCall, DeskReply, Listed, Near, Query, ReadSet, Receipt,
-    Recorded, Refused, Reply, Write,
+    Accepted, Answer, Audit, Cause, DeskCall, DeskReply, Near, Query, ReadSet, Receipt, Recorded,
+    Refused, Reply, Seq, Write,
 };
 use std::alloc::{AllocError, Global};
 use std::fmt;
@@ -20,7 +20,7 @@ fn receipt(alloc: Global) -> Result<Receipt<u64, u64>, AllocError> {
     let reads: Vec<Recorded<u64, u64>> = vec![in alloc; (Query::Get(1), Answer::Get(Some(10)))]?;
     Ok(Receipt {
         number: 3,
-        reads: Listed::from_vec(reads),
+        reads: Seq::from_vec(reads),
     })
 }
 

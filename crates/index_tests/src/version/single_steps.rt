@@ -14,7 +14,7 @@ use sdd_base::cell::AtomicShared;
 use sdd_base::epoch::Epoch;
 use sdd_base::guard::WorldGuard;
 use sdd_base::job::NoJob;
-use sdd_base::owner::Shared;
+use sdd_base::owner::{Kept, Shared};
 use sdd_base::pointer::Ptr;
 use sdd_base::sizes::Sizes;
 use sdd_base::world::{World, atomic_shared, guard, shared};
@@ -265,7 +265,7 @@ fn built<R: Abort>(
     rt: &R,
     alloc: Global,
     w: &World<Two, NoJob>,
-    dir: &Directory<u64>,
+    dir: &Directory<u64, Kept>,
     writes: &[Write<u64, u64>],
 ) -> Built<u64, u64, 2>
     requires version { IsVersion nat_cmp (value_at w.now) dir.now }

@@ -13,7 +13,7 @@ use crate::building::draft::drafted;
 use crate::building::segments::Segments;
 use crate::directory::Directory;
 use crate::item::Item;
-use crate::read::Reading;
+use crate::read::world::view_of;
 use crate::write::{Reply, Write};
 use sdd_base::job::NoJob;
 use sdd_base::owner::Kept;
@@ -94,7 +94,7 @@ impl<K: Ord + Drop, V: Drop, const S: usize> Drop for Built<K, V, S> {
 pub fn build<K: Clone + Ord + Drop, V: Clone + Drop, const S: usize>(
     alloc: Global,
     w: &World<Item<K, V, S>, NoJob>,
-    dir: &Directory<K>,
+    dir: &Directory<K, Kept>,
     writes: &[Write<K, V>],
 ) -> Result<(Built<K, V, S>, Vec<Reply>), AllocError>
     requires version { IsVersion K.cmp (value_at w.now) dir.now }
@@ -106,7 +106,7 @@ pub fn build<K: Clone + Ord + Drop, V: Clone + Drop, const S: usize>(
     ensures list { IfOk result (λ made. pairs_in made.0.blocks ≡ after_writes K.cmp writes.now (list_of (value_at w.now) dir.now)) }
     ensures replies { IfOk result (λ made. made.1.items ≡ replies_to K.cmp writes.now (list_of (value_at w.now) dir.now)) }
 {
-    let old = Reading::new(alloc, w, dir)?;
+    let old = view_of(w, dir);
     let (segments, replies) = drafted::<K, V, _, S>(alloc, &old, writes)?;
     let owners = Vec::with_capacity(alloc, segments.trees.len())?;
     let number = dir.number + 1;

@@ -1,7 +1,8 @@
 use Rattle.std.proofs.Common.{◌≡◌, ◌∷◌, [], ◌++◌, length, ap, ◌∙◌, sym, subst, arith, append_assoc, append-nil}
 use Rattle.std.specs.Vec.Iter.{into_iter_items}
 use Rattle.ordered_index.specs.Desk.{Run}
-use Rattle.ordered_index.proofs.Desks.{stopped, played-more, no_items}
+use Rattle.ordered_index.proofs.Desks.{stopped, played-more}
+use Rattle.versions.proofs.OptionLemmas.{no_items}
 use Rattle.ordered_index.proofs.play.play_all.Goals as goal
 
 pub returns-in_default-clause-stopped : goal.returns-in_default-clause-stopped
@@ -26,7 +27,7 @@ loop-call-preserved g c =
     record {
       whole = append_assoc c.loop-call.yielded (c.in-Some.call ∷ []) (into_iter_items c.next.new.self) ∙ ap (λ r. c.loop-call.yielded ++ r) (sym step.0) ∙ i.whole;
       counted = omega (arith, step.1, i.counted, ap length step.0);
-      played = played-more g.K.Ord.cmp g.row.S _ _ _ c.loop-call.yielded c.loop-call.replies.items c.put.new.items.items c.in-Some.call c.in-Ok-play_one.reply (c.put.ensures.items ∙ ap (λ r. r ++ c.in-Ok-play_one.reply ∷ []) c.reserve.ensures.items) i.played c.in-Ok-play_one.ensures.step;
+      played = played-more g.K.Ord.cmp g.row.S _ _ _ c.loop-call.yielded c.loop-call.replies.items c.push_reserved.new.self.items c.in-Some.call c.in-Ok-play_one.reply (c.push_reserved.ensures.items ∙ ap (λ r. r ++ c.in-Ok-play_one.reply ∷ []) c.reserve.ensures.items) i.played c.in-Ok-play_one.ensures.step;
       serves = c.play_one.ensures.serves;
       keeps_all = λ keeps. c.play_one.ensures.keeps_all (i.keeps_all keeps);
     }

@@ -1,4 +1,4 @@
-use Rattle.ordered_index.proofs.Replays.{cleared}
+use Rattle.ordered_index.proofs.ReplayLemmas.{cleared}
 use Rattle.ordered_index.proofs.replay.clears.Goals as goal
 
 pub returns-in-Clear : goal.returns-in-Clear

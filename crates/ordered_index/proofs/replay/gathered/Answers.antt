@@ -1,8 +1,8 @@
 use Rattle.std.proofs.Common.{◌≡◌, refl, sym, None}
 use Rattle.std.specs.List.{slice_get}
-use Rattle.ordered_index.specs.Stretches.{left_by}
-use Rattle.ordered_index.proofs.Replays.{gathered_more, left_whole}
-use Rattle.ordered_index.proofs.Stretches.{done_all}
+use Rattle.ordered_index.specs.RemainingPairs.{left_by}
+use Rattle.ordered_index.proofs.ReplayLemmas.{gathered_more, left_whole}
+use Rattle.ordered_index.proofs.RemainingPairsLemmas.{done_all}
 use Rattle.ordered_index.proofs.replay.gathered.Goals as goal
 
 pub gathering-init : goal.gathering-init

@@ -1,6 +1,6 @@
 use Rattle.std.proofs.Common.{◌≡◌, ◌++◌, length}
 use Rattle.tree_index.specs.declared.cursor.End.TheVariants.{Unopened}
-use Rattle.ordered_index.specs.Stretches.{left_by}
+use Rattle.ordered_index.specs.RemainingPairs.{left_by}
 use Rattle.ordered_index.proofs.replay.gathered.Given as goal
 
 -- what was given so far is in the list, and the rest is yet to be given

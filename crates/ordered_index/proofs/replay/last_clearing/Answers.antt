@@ -1,6 +1,6 @@
 use Rattle.std.proofs.Common.{◌≡◌, ◌-◌, ◌<◌, ◌∙◌, List, length, refl, ap, sym, subst, arith}
 use Rattle.versions.specs.Writes.{after_writes}
-use Rattle.ordered_index.proofs.Replays.{cleared_from}
+use Rattle.ordered_index.proofs.ReplayLemmas.{cleared_from}
 use Rattle.ordered_index.specs.declared.transaction.Transaction.{Transaction}
 use Rattle.ordered_index.proofs.replay.last_clearing.Goals as goal
 

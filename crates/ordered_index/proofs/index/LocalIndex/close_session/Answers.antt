@@ -1,8 +1,8 @@
 use Rattle.std.proofs.Common.{ℕ, None, ap, ◌∙◌, lit<, set}
 use Rattle.std.specs.List.{slice_get}
-use Rattle.ordered_index.specs.Inside.{state_of}
+use Rattle.ordered_index.specs.Invariant.{state_of}
 use Rattle.ordered_index.specs.State.{State}
-use Rattle.ordered_index.specs.Store.{Store}
+use Rattle.versions.specs.Store.{Store}
 use Rattle.ordered_index.proofs.Runs.{kept_close, session_version, sets_shows}
 use Rattle.ordered_index.proofs.index.LocalIndex.close_session.Goals as goal
 

@@ -1,7 +1,7 @@
 use Rattle.std.proofs.Common.{is_some, sym, ap, ◌∙◌}
 use Rattle.leaf_array.proofs.EntryLemmas.{has_lookup}
 use Rattle.ordered_index.specs.State.{list_at}
-use Rattle.ordered_index.proofs.Options.{copied_some}
+use Rattle.versions.proofs.OptionLemmas.{copied_some}
 use Rattle.ordered_index.proofs.index.LocalIndex.contains.Goals as goal
 
 pub returns : goal.returns

@@ -1,15 +1,7 @@
-use Rattle.std.proofs.Common.{List, ap, ◌∙◌, lit<}
+use Rattle.std.proofs.Common.{List, ap, ◌∙◌}
 use Rattle.std.specs.Range.Bound.{bound_map}
 use Rattle.tree_index.specs.declared.cursor.End.TheVariants.{Unopened}
-use Rattle.ordered_index.proofs.Runs.{session_reads}
 use Rattle.ordered_index.proofs.index.LocalIndex.range.Goals as goal
 
-pub walk-requires : goal.walk-requires
-walk-requires g c =
-    let v = session_reads g.K.Ord.cmp c.self.invariant _ c.args.session.now.place c.place.result c.args.session.now.receipt.number c.self.view_is c.place.ensures c.requires in
-    (lit< tt, (lit< tt, (v.0, v.1)))
-
 pub returns : goal.returns
-returns g c =
-    let v = session_reads g.K.Ord.cmp c.self.invariant _ c.args.session.now.place c.place.result c.args.session.now.receipt.number c.self.view_is c.place.ensures c.requires in
-    c.walk.ensures v.0 v.1 ∙ ap (λ (ps : List _). record { pairs = ps; lower = bound_map (λ k. k.now) c.args.lower; upper = bound_map (λ k. k.now) c.args.upper; forward = Unopened; backward = Unopened }) v.2
+returns g c = c.walk.ensures ∙ ap (λ (ps : List _). record { pairs = ps; lower = bound_map (λ k. k.now) c.args.lower; upper = bound_map (λ k. k.now) c.args.upper; forward = Unopened; backward = Unopened }) c.list_of.ensures

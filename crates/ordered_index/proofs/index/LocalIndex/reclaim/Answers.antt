@@ -1,10 +1,10 @@
 use Rattle.std.proofs.Common.{◌≡◌, ◌≤◌, ◌^◌, ◌-◌, None, length, sym, ap, ◌∙◌, subst}
 use Rattle.std.specs.List.{All}
-use Rattle.ordered_index.specs.Inside.{state_of}
-use Rattle.ordered_index.specs.Sizes.{room_for}
+use Rattle.ordered_index.specs.Invariant.{state_of}
+use Rattle.versions.specs.Sizes.{room_for}
 use Rattle.ordered_index.specs.State.{State, present}
-use Rattle.ordered_index.specs.Store.{Store, Version}
-use Rattle.ordered_index.proofs.Options.{all_none}
+use Rattle.versions.specs.Store.{Store, Version}
+use Rattle.versions.proofs.OptionLemmas.{all_none}
 use Rattle.ordered_index.proofs.Runs.{kept_same, present_pairs}
 use Rattle.ordered_index.proofs.index.LocalIndex.reclaim.Goals as goal
 

@@ -1,0 +1,5 @@
+use Rattle.ordered_index.proofs.Lists.{pointwise-same}
+use Rattle.ordered_index.proofs.seq.equals_of_lists.Goals as goal
+
+pub returns : goal.returns
+returns g c = pointwise-same g.T.PartialEq.eq c.requires

@@ -1,0 +1,14 @@
+use Rattle.std.proofs.Common.{◌<◌, length, sym, subst}
+use Rattle.versions.specs.CursorEnds.{IsAround}
+use Rattle.versions.specs.Seeking.{IsPlaceOf}
+use Rattle.versions.specs.Views.{blocks_at}
+use Rattle.versions.proofs.Places.{around_place}
+use Rattle.versions.proofs.read.view.VersionView.around.Goals as goal
+
+pub returns : goal.returns
+returns g c =
+    let dir = c.self.inside.directory.now in
+    let blocks = blocks_at (g.W.Trees.pairs c.self.inside.source.now) dir in
+    let at = subst (λ keys. IsPlaceOf g.K.Ord.cmp c.args.key.now keys c.place_of.result) c.deref.ensures.value c.place_of.ensures in
+    let some = subst (λ bs. 0 < length bs) (sym c.self.view_is) c.requires in
+    subst (λ bs. IsAround g.K.Ord.cmp c.args.key.now bs c.place_of.result) c.self.view_is (around_place g.K.Ord.cmp g.met.K.Ord.total c.args.key.now blocks dir.separators.items c.place_of.result c.self.invariant.ordered at some)

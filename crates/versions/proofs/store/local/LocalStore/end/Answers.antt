@@ -1,0 +1,25 @@
+use Rattle.std.proofs.Common.{◌≡◌, ℕ, None, inl, inr, sym, ap, ◌∙◌, subst, arith}
+use Rattle.std.specs.List.{All}
+use Rattle.sdd_base.specs.Steps.{shared_ended}
+use Rattle.sdd_base.specs.Tokens.{shared_cell}
+use Rattle.versions.proofs.Sweeping.{sweeps_leave_none}
+use Rattle.versions.specs.Store.{Store, read_by}
+use Rattle.versions.proofs.OptionLemmas.{all_none}
+use Rattle.versions.proofs.PassLemmas.{none_reads}
+use Rattle.versions.proofs.PublishLemmas.{root_retired}
+use Rattle.versions.proofs.store.local.LocalStore.end.Goals as goal
+
+pub end_all-requires : goal.end_all-requires
+end_all-requires g c = (omega arith, all_none (read_by c.self.inside.world) c.self.inside.readers.items (subst (λ (x : Store _ _). All (λ r. r ≡ None) x.readers) (sym c.self.view_is) c.requires))
+
+pub unreachable-requires : goal.unreachable-requires
+unreachable-requires g c =
+    let all = all_none (read_by c.self.inside.world) c.self.inside.readers.items (subst (λ (x : Store _ _). All (λ r. r ≡ None) x.readers) (sym c.self.view_is) c.requires) in
+    elim c.in-Err.ensures.back [
+      | inl o ↦
+          let opens = o.0.1 in
+          let same = c.retire.ensures.nests o.0.0 in
+          let none = none_reads g.K.Ord.cmp c.self.inside.world (shared_cell c.self.inside.root) c.self.inside.readers.items c.self.invariant.0 all o.0.0 in
+          absurd (omega (arith, opens, same, none))
+      | inr n ↦ n.2 (sweeps_leave_none.none c.retire.new.w c.in-Err.field-0 (root_retired g.K.Ord.cmp c.self.inside.world c.retire.new.w (shared_cell c.self.inside.root) c.self.inside.readers.items c.self.invariant.0 (c.retire.ensures.ended ∙ ap (λ (k : ℕ). shared_ended k (shared_cell c.self.inside.root) c.self.inside.world) (c.len.ensures ∙ c.self.inside.readers.ok.0)) c.laws.ensures) n.1)
+    ]

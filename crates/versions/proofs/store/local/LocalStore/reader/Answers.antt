@@ -1,0 +1,15 @@
+use Rattle.std.proofs.Common.{ap, ◌∙◌, arith}
+use Rattle.std.specs.List.{slice_get}
+use Rattle.sdd_base.specs.Tokens.{shared_cell}
+use Rattle.versions.specs.Cuts.{pairs_in}
+use Rattle.versions.specs.Store.{Store}
+use Rattle.versions.proofs.store.local.LocalStore.reader.Goals as goal
+
+pub read_at-requires : goal.read_at-requires
+read_at-requires g c = rw c.deref.ensures.value (omega arith, (omega arith, ((shared_cell c.self.inside.root, c.self.invariant.0), (c.requires.0, ap (λ (x : Store _ _). slice_get x.readers c.args.place) c.self.view_is ∙ c.requires.1))))
+
+pub returns : goal.returns
+returns g c = λ v shown.
+    let is = rw c.deref.ensures.value at c.read_at.ensures.is in
+    let pairs = is v (ap (λ (x : Store _ _). slice_get x.readers c.args.place) c.self.view_is ∙ shown) in
+    ap pairs_in c.view_of.ensures ∙ pairs

@@ -1,0 +1,29 @@
+use Rattle.std.proofs.Common.{◌≡◌, ℕ, refl, ap, ◌∙◌, arith, true}
+use Rattle.sdd_base.specs.Passing.{accelerated, passed_times}
+use Rattle.sdd_base.specs.State.{State, marks_at, with_marks}
+use Rattle.sdd_base.specs.Steps.{closed}
+use Rattle.versions.specs.Items.{held_by}
+use Rattle.versions.proofs.PassLemmas.{passing_closed, passing_known, passing_next}
+use Rattle.versions.proofs.store.reclaiming.run_passes.Goals as goal
+
+pub new-requires : goal.new-requires
+new-requires g c = passing_known g.K.Ord.cmp c.loop.counter c.args.w.now c.loop.w c.requires.0 c.args.writer c.requires.1 c.requires.2 c.requires.3 c.loop.invariant
+
+pub unreachable-requires : goal.unreachable-requires
+unreachable-requires g c =
+    let none = passing_closed g.K.Ord.cmp c.loop.counter c.args.w.now c.loop.w c.requires.0 c.args.writer c.requires.1 c.requires.2 c.requires.3 c.loop.invariant in
+    let full = c.in-Err.ensures.nested.0 refl in
+    absurd (omega (arith, none, full))
+
+pub loop-preserved : goal.loop-preserved
+loop-preserved g c =
+    let p = c.args.writer in
+    let own = c.in-Ok.ensures.opened.0 in
+    let fast = c.accelerate.ensures.set ∙ ap (λ (q : ℕ). with_marks q (record (marks_at c.new.new.w q) { accelerated = true }) c.new.new.w) own in
+    let pass = c.close.ensures.closed ∙ ap (λ (q : ℕ). closed q c.accelerate.new.w) own ∙ ap (λ (w : State _). closed p w) fast ∙ ap (λ (w : State _). closed p (accelerated p w)) c.in-Ok.ensures.opened.1 in
+    passing_next g.K.Ord.cmp c.loop.counter c.args.w.now c.loop.w c.requires.0 p c.requires.1 c.requires.2 c.requires.3 c.loop.invariant c.close.new.w pass
+
+pub returns : goal.returns
+returns g c =
+    let all : c.loop.counter ≡ 8 = omega (arith, c.loop-test.false, c.loop.far-counter) in
+    c.loop.invariant ∙ ap (λ (n : ℕ). passed_times held_by c.args.writer n c.args.w.now) all

@@ -1,0 +1,14 @@
+-- How large a store may be made.
+use Rattle.std.specs.Prelude.{ℕ, ◌+◌, ◌*◌, ◌/◌, ◌≤◌, ◌<◌, ◌^◌}
+
+-- so many places for readers, so many slots, and at most s pairs in a segment
+pub record IsSized (readers slots s : ℕ) : Type 0 where
+  pub readers_fit : readers < 2 ^ 30
+  pub some_slot : 1 ≤ slots
+  pub slots_fit : slots ≤ 2 ^ 30
+  pub some_pair : 1 ≤ s
+  pub segment_fits : s ≤ 225
+
+-- how many slots the version of a list of n pairs takes at most: one for each segment, and one for its directory
+abbrev pub room_for : ℕ → ℕ → ℕ
+room_for s n = 2 * (n / (s + 1)) + 2

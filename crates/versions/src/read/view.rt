@@ -1,0 +1,159 @@
+//! A version to be read, whatever lends its segments.
+
+ghost use Rattle.std.specs.Prelude.{◌≡◌, ◌<◌, ◌^◌, ℕ, None, Some, MatchOption, length, slice_get};
+ghost use Rattle.std.specs.BTreeMap.{is_at};
+ghost use Rattle.std.specs.Map.{lookup_entry};
+ghost use Rattle.std.specs.Range.Bound.{bound_map};
+ghost use Rattle.tree_index.specs.declared.cursor.End.TheVariants.{Unopened};
+ghost use Rattle.versions.specs.Cuts.{pairs_in};
+ghost use Rattle.versions.specs.CursorEnds.{AreRising, IsAround};
+ghost use Rattle.versions.specs.Seeking.{IsPlaceOf};
+ghost use Rattle.versions.specs.Views.{IsView, blocks_at};
+
+use crate::directory::Directory;
+use crate::read::position::CursorEnd;
+use crate::read::trees::Trees;
+use crate::read::walking::Walk;
+use std::cmp::Ordering;
+use std::marker::{Model, PhantomData};
+use std::ops::Bound;
+use tree_index::TreeIndex;
+
+/// A version to be read: its directory, and what lends its segments.
+///
+/// Contracts see it as the pairs of its segments, in order; its list is all of them. Sessions, building, conflict tests
+/// and audits read versions by it. It borrows both, and is made and copied without memory.
+#[derive(Drop)]
+pub struct VersionView<'a, K: Ord, V, W: Trees<K, V>> {
+    source: &'a W,
+    directory: &'a Directory<K, W::Owner>,
+    of: PhantomData<V>,
+}
+
+/// Invariant: specs/Views.antt, IsView: each owner has a segment, and the segments are a list by rising keys, separated
+/// and counted.
+impl<'a, K: Ord, V, W: Trees<K, V>> Model for VersionView<'a, K, V, W> {
+    ghost use Rattle.std.specs.Prelude.{List};
+    ghost use Rattle.versions.specs.Views.{IsView, blocks_at};
+
+    ghost Value = { List (List (K × V)) };
+
+    ghost view = { λ v. blocks_at (W.pairs v.source.now) v.directory.now };
+
+    ghost invariant = { λ v. IsView K.cmp (W.has v.source.now) (W.pairs v.source.now) v.directory.now };
+}
+
+impl<'a, K: Ord, V, W: Trees<K, V>> VersionView<'a, K, V, W> {
+    /// The version of a directory. Condition: it is one, of segments that `source` lends.
+    pub fn new(source: &'a W, directory: &'a Directory<K, W::Owner>) -> Self
+        requires { IsView K.cmp (W.has source.now) (W.pairs source.now) directory.now }
+        ensures { result ≡ blocks_at (W.pairs source.now) directory.now }
+    {
+        VersionView {
+            source,
+            directory,
+            of: PhantomData,
+        }
+    }
+
+    /// The same version.
+    pub fn copy(&self) -> Self
+        ensures { result ≡ self.now }
+    {
+        VersionView {
+            source: self.source,
+            directory: self.directory,
+            of: PhantomData,
+        }
+    }
+
+    /// The same version, for as long as this one is lent.
+    pub fn reborrow(&self) -> VersionView<'_, K, V, W>
+        ensures { result ≡ self.now }
+    {
+        VersionView {
+            source: self.source,
+            directory: self.directory,
+            of: PhantomData,
+        }
+    }
+
+    /// What every version meets. Nothing here runs.
+    pub fn laws(&self)
+        ensures rising { AreRising K.cmp self.now }
+        ensures countable { length (pairs_in self.now) < 2 ^ 64 }
+    {
+        // what is read here opens the version to the proof
+        let _length = self.directory.length;
+    }
+
+    /// How many pairs the list has.
+    pub fn len(&self) -> usize
+        ensures { result ≡ length (pairs_in self.now) }
+    {
+        self.directory.length
+    }
+
+    /// The pair with this key: one search of the directory by halving, and one of a tree. It clones nothing.
+    pub fn get(&self, key: &K) -> Option<(&'a K, &'a V)>
+        ensures { MatchOption result (lookup_entry (is_at (K.cmp key.now)) (pairs_in self.now) ≡ None) (λ e. lookup_entry (is_at (K.cmp key.now)) (pairs_in self.now) ≡ Some (e.0.now, e.1.now)) }
+    {
+        if self.segment_count() == 0 {
+            return None;
+        }
+        self.tree(self.around(key)).peek_entry(key)
+    }
+
+    /// A cursor over the pairs within two bounds. Reversed bounds contain no pair. It takes no memory.
+    pub fn walk(&self, lower: Bound<&'a K>, upper: Bound<&'a K>) -> Walk<'a, K, V, W>
+        ensures { result ≡ record { pairs = pairs_in self.now; lower = bound_map (λ k. k.now) lower.entry; upper = bound_map (λ k. k.now) upper.entry; forward = Unopened; backward = Unopened } }
+    {
+        Walk {
+            version: self.copy(),
+            lower,
+            upper,
+            forward: CursorEnd::Unopened,
+            backward: CursorEnd::Unopened,
+        }
+    }
+
+    /// How many segments there are.
+    pub(crate) fn segment_count(&self) -> usize
+        ensures { result ≡ length self.now }
+    {
+        self.directory.segments.len()
+    }
+
+    /// The tree of a segment.
+    pub(crate) fn tree(&self, place: usize) -> &'a TreeIndex<K, V>
+        requires { place < length self.now }
+        ensures { slice_get self.now place ≡ Some result.now.pairs }
+    {
+        self.source.tree(&self.directory.segments[place])
+    }
+
+    /// The segment that a key lies in or beside: those before it have lesser keys, and those behind it greater ones.
+    pub(crate) fn around(&self, key: &K) -> usize
+        requires { 0 < length self.now }
+        ensures { IsAround K.cmp key.now self.now result }
+    {
+        place_of(&self.directory.separators, key)
+    }
+}
+
+/// The segment whose keys are the last ones that the key may be among.
+fn place_of<K: Ord>(separators: &[K], key: &K) -> usize
+    ensures { IsPlaceOf K.cmp key.now separators.now result }
+{
+    let mut low = 0;
+    let mut high = separators.len();
+    while low < high {
+        let middle = low + (high - low) / 2;
+        if separators[middle].cmp(key) == Ordering::Less {
+            low = middle + 1;
+        } else {
+            high = middle;
+        }
+    }
+    low
+}

@@ -1,0 +1,276 @@
+//! The store of one thread.
+
+ghost use Rattle.std.specs.Prelude.{◌≡◌, ◌≤◌, ◌<◌, ◌+◌, ◌-◌, ◌^◌, ℕ, List, Option, None, Some, IfOk, IfErr, IfSome, IfNone, IsSome, IsTrue, ◌↔◌, OnOk, OnErr, length, replicate, slice_get, slice_set};
+ghost use Rattle.std.specs.List.{All};
+ghost use Rattle.leaf_array.specs.Values.{ClonesAreSame};
+ghost use Rattle.sdd_base.specs.Passing.{slot_kept};
+ghost use Rattle.sdd_base.specs.State.{cell_at, value_at};
+ghost use Rattle.sdd_base.specs.Tokens.{shared_cell};
+ghost use Rattle.versions.specs.Cuts.{pairs_in};
+ghost use Rattle.versions.specs.Placing.{slots_for};
+ghost use Rattle.versions.specs.Sizes.{IsSized, room_for};
+ghost use Rattle.versions.specs.Store.{Version, IsKeptHere, IsStore, no_version, version_in};
+ghost use Rattle.versions.specs.Versions.{IsVersion, list_of};
+ghost use Rattle.versions.specs.Writes.{after_writes, replies_to};
+ghost use Rattle.versions.specs.declared.store.readers.Opened.{Opened};
+
+use crate::building::built::{Built, build};
+use crate::building::placing::{place, publish};
+use crate::directory::Directory;
+use crate::item::Item;
+use crate::read::nearby::Nearby;
+use crate::read::view::VersionView;
+use crate::read::walking::Walk;
+use crate::read::world::view_of;
+use crate::store::readers::{Opened, are_free, end_all, free_all, nearest, read_at};
+use crate::store::reclaiming::run_passes;
+use crate::write::{Reply, Write};
+use sdd_base::cell::AtomicShared;
+use sdd_base::job::NoJob;
+use sdd_base::owner::Kept;
+use sdd_base::sizes::Sizes;
+use sdd_base::world::{World, atomic_shared, guard};
+use std::alloc::{AllocError, Global};
+use std::marker::Model;
+use std::mem;
+
+/// A version of a [`LocalStore`], to be read.
+pub type LocalView<'a, K, V, const S: usize> = VersionView<'a, K, V, World<Item<K, V, S>, NoJob>>;
+
+/// A cursor over the list of a version of a [`LocalStore`].
+pub type LocalWalk<'a, K, V, const S: usize> = Walk<'a, K, V, World<Item<K, V, S>, NoJob>>;
+
+/// Where a key stands in a version of a [`LocalStore`], with a cursor there.
+pub type LocalNearby<'a, K, V, const S: usize> = Nearby<'a, K, V, World<Item<K, V, S>, NoJob>>;
+
+/// Versions in a place of one thread: a root names the present one, and a reader has the one that was present when it
+/// opened, under a guard of its own participant.
+///
+/// Contracts see it as the present version, the version of each reader, how many slots there are and are in use, and how
+/// often the epoch was raised. The participant behind the readers is the writer, which publishes and reclaims. A store
+/// must be spent, by [`end`](LocalStore::end).
+pub struct LocalStore<K: Ord, V, const S: usize> {
+    world: World<Item<K, V, S>, NoJob>,
+    root: AtomicShared<Item<K, V, S>>,
+    readers: Vec<Option<Opened<K, V, S>>>,
+    // the places without a reader
+    free: Vec<usize>,
+}
+
+/// Invariant: specs/Store.antt, IsStore: the versions of the root and of readers are whole, and nothing else is owned from
+/// outside; `free` names the places without a reader.
+impl<K: Ord, V, const S: usize> Model for LocalStore<K, V, S> {
+    ghost use Rattle.sdd_base.specs.Tokens.{shared_cell};
+    ghost use Rattle.sdd_base.specs.View.{IsStack};
+    ghost use Rattle.versions.specs.Store.{Store, store_of, IsStore, gap};
+
+    ghost Value = { Store K V };
+
+    ghost view = { λ a. store_of a.world (shared_cell a.root) a.readers.items };
+
+    ghost invariant = { λ a. IsStore K.cmp a.world (shared_cell a.root) a.readers.items × IsStack gap a.readers.items a.free };
+}
+
+impl<K: Clone + Ord, V: Clone, const S: usize> LocalStore<K, V, S> {
+    /// The empty list, with number 0, and so many places for readers. Refused where memory is.
+    pub fn new(alloc: Global, readers: usize, slots: usize) -> Result<Self, AllocError>
+        requires { IsSized readers slots S }
+        ensures { IfOk result (λ s. s ≡ record { present = no_version; readers = replicate readers None; slots = slots; used = 1; raises = 0 }) }
+    {
+        let mut free = Vec::with_capacity(alloc, readers)?;
+        let mut places = Vec::with_capacity(alloc, readers)?;
+        let sizes = Sizes {
+            participants: readers + 1,
+            slots,
+            cells: 1,
+            jobs: 0,
+        };
+        let mut world = match World::new(alloc, sizes) {
+            Ok(world) => world,
+            Err(refused) => {
+                places.destroy_empty();
+                return Err(refused);
+            },
+        };
+        free_all(&mut places, &mut free, readers);
+        let empty = match place(&mut world, Built::empty(alloc)) {
+            Ok(empty) => empty,
+            Err(_) => unreachable!(),
+        };
+        let root = match atomic_shared::from(&mut world, empty) {
+            Ok(root) => root,
+            Err(_) => unreachable!(),
+        };
+        world.laws();
+        Ok(LocalStore {
+            world,
+            root,
+            readers: places,
+            free,
+        })
+    }
+
+    /// Whether no place has a reader.
+    pub fn is_idle(&self) -> bool
+        ensures { IsTrue result ↔ All (λ r. r ≡ None) self.now.readers }
+    {
+        are_free(&self.readers)
+    }
+
+    /// A reader gets the present version, at a place that had none; refused where each has one. It takes no memory.
+    pub fn open(&mut self) -> Option<usize>
+        ensures free { IfSome result (λ place. slice_get self.old.readers place ≡ Some None) }
+        ensures opened { IfSome result (λ place. self.new ≡ record self.old { readers = slice_set self.old.readers place (Some self.old.present) }) }
+        ensures full { IfNone result (All IsSome self.old.readers) }
+        ensures refused { IfNone result (self.new ≡ self.old) }
+    {
+        let Some(place) = self.free.pop() else {
+            return None;
+        };
+        let guard = match guard::new(&mut self.world, place) {
+            Ok(guard) => guard,
+            Err(_) => unreachable!(),
+        };
+        let root = atomic_shared::loaded(&self.world, &self.root, &guard);
+        match mem::replace(&mut self.readers[place], Some(Opened { guard, root })) {
+            None => {},
+            Some(_) => unreachable!(),
+        }
+        Some(place)
+    }
+
+    /// The reader of a place goes.
+    pub fn close(&mut self, place: usize)
+        requires { (v : Version K V) × (slice_get self.old.readers place ≡ Some (Some v)) }
+        ensures { self.new ≡ record self.old { readers = slice_set self.old.readers place None } }
+    {
+        match mem::replace(&mut self.readers[place], None) {
+            Some(Opened { guard, root: _ }) => guard::close(&mut self.world, guard),
+            None => unreachable!(),
+        }
+        self.free.push_reserved(place);
+    }
+
+    /// The version that the reader of a place has.
+    pub fn reader(&self, place: usize) -> LocalView<'_, K, V, S>
+        requires { (v : Version K V) × (slice_get self.now.readers place ≡ Some (Some v)) }
+        ensures { (v : Version K V) → slice_get self.now.readers place ≡ Some (Some v) → pairs_in result ≡ v.pairs }
+    {
+        view_of(&self.world, read_at(&self.world, &self.readers, place))
+    }
+
+    /// The present version.
+    pub fn present(&self) -> LocalView<'_, K, V, S>
+        ensures { pairs_in result ≡ self.now.present.pairs }
+    {
+        view_of(&self.world, present(&self.world, &self.root))
+    }
+
+    /// The version with the greatest number up to this one, of the present one and those that readers have, and its
+    /// number.
+    pub fn latest_at(&self, number: u64) -> Option<(u64, LocalView<'_, K, V, S>)>
+        ensures { IfSome result (λ r. (v : Version K V) × IsKeptHere v self.now × (v.number ≡ r.0) × (r.0 ≤ number) × (pairs_in r.1 ≡ v.pairs)) }
+    {
+        let root = present(&self.world, &self.root);
+        let last = root.number();
+        if last <= number {
+            return Some((last, view_of(&self.world, root)));
+        }
+        match nearest(&self.world, &self.readers, number) {
+            Some(version) => Some((version.number(), view_of(&self.world, version))),
+            None => None,
+        }
+    }
+
+    /// The version that writes make of the present one, and what they are told; refused where memory is. Nothing is
+    /// placed yet.
+    pub fn build(
+        &self,
+        alloc: Global,
+        writes: &[Write<K, V>],
+    ) -> Result<(Built<K, V, S>, Vec<Reply>), AllocError>
+        requires size { (1 ≤ S) × (S ≤ 225) }
+        requires last { self.now.present.number < 2 ^ 64 - 1 }
+        requires keys { ClonesAreSame K.is_clone }
+        requires values { ClonesAreSame V.is_clone }
+        ensures number { IfOk result (λ made. made.0.number ≡ self.now.present.number + 1) }
+        ensures list { IfOk result (λ made. pairs_in made.0.blocks ≡ after_writes K.cmp writes.now self.now.present.pairs) }
+        ensures replies { IfOk result (λ made. made.1.items ≡ replies_to K.cmp writes.now self.now.present.pairs) }
+    {
+        build(alloc, &self.world, present(&self.world, &self.root), writes)
+    }
+
+    /// Makes a version the present one, where so many slots are free as it takes; else it comes back. It takes no memory.
+    pub fn publish(&mut self, built: Built<K, V, S>) -> Result<(), Built<K, V, S>>
+        ensures published { OnOk result (self.new ≡ record self.old { present = record { number = built.number; pairs = pairs_in built.blocks }; used = self.old.used + slots_for built }) }
+        ensures back { IfErr result (λ b. b ≡ built) }
+        ensures refused { OnErr result ((self.new ≡ self.old) × (self.old.slots < self.old.used + slots_for built)) }
+        ensures few { slots_for built ≤ room_for S (length (pairs_in built.blocks)) }
+    {
+        // what is asked here tells the proof how few slots a version takes
+        let _slots = built.slots();
+        let version = match place(&mut self.world, built) {
+            Ok(version) => version,
+            Err(built) => return Err(built),
+        };
+        self.world.laws();
+        publish(&mut self.world, &self.root, version, self.readers.len());
+        Ok(())
+    }
+
+    /// Reclaims versions that nobody has, by eight accelerated guards of the writer: without readers, all but the present
+    /// one, as long as the epoch was raised at most `2^64 - 9` times. It takes no memory.
+    pub fn reclaim(&mut self)
+        ensures same { self.new ≡ record self.old { used = self.new.used; raises = self.new.raises } }
+        ensures fewer { self.new.used ≤ self.old.used }
+        ensures left { All (λ r. r ≡ None) self.old.readers → self.old.raises ≤ 2 ^ 64 - 9 → self.new.used ≤ room_for S (length self.old.present.pairs) }
+    {
+        run_passes(&mut self.world, self.readers.len());
+    }
+
+    /// How many slots are in use.
+    pub fn slots_in_use(&self) -> usize
+        ensures used { result ≡ self.now.used }
+        ensures some { 1 ≤ self.now.used }
+        ensures within { self.now.used ≤ self.now.slots }
+    {
+        self.world.slots_in_use()
+    }
+
+    /// Ends a store that has no reader.
+    pub fn end(self)
+        requires { All (λ r. r ≡ None) self.readers }
+    {
+        let LocalStore {
+            mut world,
+            root,
+            readers,
+            free: _,
+        } = self;
+        atomic_shared::retire(&mut world, root, readers.len());
+        end_all(readers);
+        world.laws();
+        match world.close() {
+            Ok(()) => {},
+            Err(_) => unreachable!(),
+        }
+    }
+}
+
+/// The directory of the version that a root names.
+fn present<'w, K: Ord, V, const S: usize>(
+    w: &'w World<Item<K, V, S>, NoJob>,
+    root: &AtomicShared<Item<K, V, S>>,
+) -> &'w Directory<K, Kept>
+    requires { (readers : List (Option (Opened K V S))) × IsStore K.cmp w.now (shared_cell root.now) readers }
+    ensures version { IsVersion K.cmp (value_at w.now) result.now }
+    ensures is { record { number = result.now.number; pairs = list_of (value_at w.now) result.now } ≡ version_in w.now (slot_kept (cell_at w.now (shared_cell root.now))) }
+{
+    match atomic_shared::as_ref(w, root) {
+        Some(item) => match item.directory() {
+            Some(directory) => directory,
+            None => unreachable!(),
+        },
+        None => unreachable!(),
+    }
+}
