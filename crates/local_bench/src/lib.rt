@@ -1,0 +1,113 @@
+//! What a driver in another language measures of the index of one thread.
+//!
+//! A static library can hand out nothing that owns memory. So each export builds an index of its own, by commits of
+//! a thousand upserts, runs one task on it some number of rounds, and gives a sum that depends on what it read; the
+//! cost of the task is what those rounds cost above none. Where memory or slots are refused the index has fewer pairs,
+//! and the sum differs from that of another map.
+#![tactic(auto)]
+
+ghost use Rattle.std.specs.Prelude.{◌≡◌, ◌≤◌};
+ghost use Rattle.ordered_index.specs.State.{IsIdle};
+
+mod commits;
+mod reads;
+mod task;
+
+use crate::commits::{build, commit_task};
+use crate::reads::read_task;
+use crate::task::task_of;
+use ordered_index::LocalIndex;
+use std::alloc::Global;
+
+/// Runs a task on an index whose segments have at most 16 pairs. The number of a task is that of [`task_of`].
+#[unsafe(no_mangle)]
+pub extern "C" fn local_bench_16(
+    alloc: Global,
+    keys: &[u64],
+    probes: &[u64],
+    task: u32,
+    rounds: u32,
+    slots: usize,
+) -> u64 {
+    run::<16>(alloc, keys, probes, task, rounds, slots)
+}
+
+/// The same with at most 64 pairs in a segment.
+#[unsafe(no_mangle)]
+pub extern "C" fn local_bench_64(
+    alloc: Global,
+    keys: &[u64],
+    probes: &[u64],
+    task: u32,
+    rounds: u32,
+    slots: usize,
+) -> u64 {
+    run::<64>(alloc, keys, probes, task, rounds, slots)
+}
+
+/// The same with at most 225 pairs in a segment.
+#[unsafe(no_mangle)]
+pub extern "C" fn local_bench_225(
+    alloc: Global,
+    keys: &[u64],
+    probes: &[u64],
+    task: u32,
+    rounds: u32,
+    slots: usize,
+) -> u64 {
+    run::<225>(alloc, keys, probes, task, rounds, slots)
+}
+
+/// Builds an index of the keys, runs a task some rounds, and ends the index.
+fn run<const S: usize>(
+    alloc: Global,
+    keys: &[u64],
+    probes: &[u64],
+    task: u32,
+    rounds: u32,
+    slots: usize,
+) -> u64
+    requires least { 1 ≤ S }
+    requires most { S ≤ 225 }
+{
+    if slots == 0 || slots > 1_000_000_000 {
+        return 0;
+    }
+    let Ok(mut index) = LocalIndex::<u64, u64, S>::new(alloc, 1, slots) else {
+        return 0;
+    };
+    build::<S>(&mut index, alloc, keys);
+    let sum = repeat::<S>(&mut index, alloc, probes, task, rounds);
+    end::<S>(index);
+    sum
+}
+
+/// Runs a task some rounds.
+fn repeat<const S: usize>(
+    index: &mut LocalIndex<u64, u64, S>,
+    alloc: Global,
+    probes: &[u64],
+    task: u32,
+    rounds: u32,
+) -> u64
+    ensures { index.new.places ≡ index.old.places }
+{
+    let task = task_of(task);
+    let mut sum = 0u64;
+    for _round in 0..rounds {
+        let read = read_task::<S>(index, probes, task);
+        commit_task::<S>(index, alloc, probes, task);
+        sum = sum.wrapping_add(read);
+    }
+    sum
+}
+
+/// Ends an index that has no session.
+fn end<const S: usize>(index: LocalIndex<u64, u64, S>)
+    requires { IsIdle index }
+{
+    match index.close() {
+        Ok(()) => {}
+        Err(_) => unreachable!(),
+    }
+}
