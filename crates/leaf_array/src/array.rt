@@ -315,9 +315,9 @@ impl<K: Ord, V> Array<K, V> {
         self.used += 1;
     }
 
-    /// Removes the pair at `at`.
+    /// Removes the pair that comes behind `at` others.
     #[inline(always)]
-    pub(crate) fn bury(&mut self, at: usize)
+    pub fn bury(&mut self, at: usize)
         requires { at < length self.old.pairs }
         ensures { self.new ≡ removed_at at self.old }
     {

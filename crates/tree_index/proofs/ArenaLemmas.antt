@@ -142,7 +142,6 @@ module _ {K V : Type 0} (cmp : K → K → Ordering) (o : IsTotalOrder cmp) (key
       record {
         stands = inr ((stands_with cmp o key a l here_on_way s).0, w.stands);
         linked = still_linked m (a.len - before + after) p q w;
-        tall = s.tall;
         count = rw (b, f) (t ∙ sym (ap length w.new));
       }
 
@@ -176,7 +175,6 @@ module _ {K V : Type 0} (cmp : K → K → Ordering) (o : IsTotalOrder cmp) (key
   same_sound m q r w p = record {
     stands = inr ((stands_with cmp o key a l here_on_way s).0, w.stands);
     linked = still_linked m a.len q r w;
-    tall = s.tall;
     count = s.count ∙ sym (ap length (kept_written m a.len w p));
   }
 

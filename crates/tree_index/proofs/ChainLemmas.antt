@@ -19,7 +19,7 @@ first_times n ns = let e : times n (n ∷ ns) ≡ 1 + times n ns = ap (λ b. con
 apart_times : (n m : ℕ) (ns : List ℕ) → times n ns ≢ 0 → times m ns ≡ 0 → n ≢ m
 apart_times n m ns d z e = d (subst (λ (k : ℕ). times k ns ≡ 0) (sym e) z)
 
-named_apart : (p : Option ℕ) (n : ℕ) → p ≢ Some n → is_named p n ≡ false
+pub named_apart : (p : Option ℕ) (n : ℕ) → p ≢ Some n → is_named p n ≡ false
 named_apart None n h = refl
 named_apart (Some m) n h = split (eqb_tells m n)
   where
@@ -40,7 +40,7 @@ linked_rest f before [] ys behind l = (before, l)
 linked_rest f before (x ∷ xs) ys behind l = linked_rest f (Some x) xs ys behind l.1
 
 -- what a number inside a row names before itself stands in the row
-named_before : (f : Links) (x : ℕ) (xs : List ℕ) (at : ℕ) (ys : List ℕ) (before behind : Option ℕ) (p q : Option ℕ) → IsLinked f before ((x ∷ xs) ++ at ∷ ys) behind → f at ≡ Some (p, q) → (m : ℕ) × (p ≡ Some m) × (times m (x ∷ xs) ≢ 0)
+pub named_before : (f : Links) (x : ℕ) (xs : List ℕ) (at : ℕ) (ys : List ℕ) (before behind : Option ℕ) (p q : Option ℕ) → IsLinked f before ((x ∷ xs) ++ at ∷ ys) behind → f at ≡ Some (p, q) → (m : ℕ) × (p ≡ Some m) × (times m (x ∷ xs) ≢ 0)
 named_before f x [] at ys before behind p q l here =
     let e : ◌≡◌ {A = Option ℕ × Option ℕ} (p, q) (Some x, first_or behind ys) = some_same (sym here ∙ l.1.0) in
     let t = first_times x [] in
@@ -49,7 +49,7 @@ named_before f x (y ∷ xs) at ys before behind p q l here =
     let r = named_before f y xs at ys (Some x) behind p q l.1 here in
     (r.0, r.1, λ z. r.2 (omega (arith, z)))
 
-same_links : (x : Option (Option ℕ × Option ℕ)) → option_map (λ (l : Option ℕ × Option ℕ). (l.0, l.1)) x ≡ x
+pub same_links : (x : Option (Option ℕ × Option ℕ)) → option_map (λ (l : Option ℕ × Option ℕ). (l.0, l.1)) x ≡ x
 same_links None = refl
 same_links (Some l) = refl
 

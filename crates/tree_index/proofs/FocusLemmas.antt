@@ -8,7 +8,7 @@ use Rattle.std.specs.Map.{lookup}
 use Rattle.std.specs.BTreeMap.{insert_entry, is_at}
 use Rattle.std.proofs.lemmas.List.{append-nil}
 use Rattle.leaf_array.specs.Cells.{Cells}
-use Rattle.tree_index.specs.Shape.{Content, IsWithin, AreBetween, AllKeys, child_for, child_in, way, joined_along, gathered, leaf_pairs, sum_along, node_joined, node_sum, pairs_under, leaves_under, leaf_times, node_times, IsNode, IsTree}
+use Rattle.tree_index.specs.Shape.{Content, IsOver, IsUpTo, IsWithin, AreBetween, AllKeys, child_for, child_in, way, joined_along, gathered, leaf_pairs, sum_along, node_joined, node_sum, pairs_under, leaves_under, leaf_times, node_times, IsNode, IsTree}
 use Rattle.tree_index.proofs.ShapeLemmas.{over_trans, upto_trans, turned, passed, not_passed, upto_less, all_append, all_weaken, gathered_append, held_under, self_once, Agrees, bounded, bounded_along, IsSame, kept, kept_along}
 
 -- so many steps above a height
@@ -24,6 +24,28 @@ over_is (suc steps) height = omega (arith, over_is steps height)
 abbrev pub IsUnder : {K : Type 0} → (K → K → Ordering) → Option K → K → Type 0
 IsUnder cmp None k = Unit {0}
 IsUnder cmp (Some high) k = cmp k high ≡ Less
+
+-- a separator and its child in front of others; the child alone where there are none
+abbrev pub in_front : {K : Type 0} → K × ℕ → Option (List (K × ℕ) × ℕ) → List (K × ℕ) × ℕ
+in_front e None = ([], e.1)
+in_front e (Some s) = (e ∷ s.0, s.1)
+
+-- the children without the one on the way to a key, if there are others
+abbrev pub shed : {K : Type 0} → (K → K → Ordering) → K → List (K × ℕ) → ℕ → Option (List (K × ℕ) × ℕ)
+shed cmp key [] last = None
+shed cmp key (e ∷ es) last = cond (is_lt (cmp e.0 key)) (Some (in_front e (shed cmp key es last))) (Some (es, last))
+
+abbrev pub AreLeft : {K : Type 0} → (K → K → Ordering) → (ℕ → Option K → Option K → Type 0) → Option (List (K × ℕ) × ℕ) → Option K → Option K → Type 0
+AreLeft cmp P None low high = Unit {0}
+AreLeft cmp P (Some s) low high = AreBetween cmp P s.0 s.1 low high
+
+abbrev pub left_joined : {K X : Type 0} → (ℕ → List X) → Option (List (K × ℕ) × ℕ) → List X
+left_joined f None = []
+left_joined f (Some s) = joined_along f s.0 s.1
+
+abbrev pub left_sum : {K : Type 0} → (ℕ → ℕ) → Option (List (K × ℕ) × ℕ) → ℕ
+left_sum f None = 0
+left_sum f (Some s) = sum_along f s.0 s.1
 
 module _ {K V : Type 0} (cmp : K → K → Ordering) (a : Content K V) (key : K) (height : ℕ) where
   -- what the children are when the one on the way to the key changes, and nothing else does
@@ -42,6 +64,14 @@ module _ {K V : Type 0} (cmp : K → K → Ordering) (a : Content K V) (key : K)
     pub order : joined_along (leaves_under b height) (insert_entry cmp es sep fresh) last ≡ lefts ++ (leaves_under b height fresh ++ leaves_under b height (child_for cmp key es last)) ++ rights
     pub leaf : (n : ℕ) → sum_along (leaf_times b n height) (insert_entry cmp es sep fresh) last ≡ leaves n + (leaf_times b n height fresh + leaf_times b n height (child_for cmp key es last))
     pub node : (n : ℕ) → sum_along (node_times b n height) (insert_entry cmp es sep fresh) last ≡ nodes n + (node_times b n height fresh + node_times b n height (child_for cmp key es last))
+
+  -- what the others are without it, when nothing else changes
+  pub record Left (b : Content K V) (s : Option (List (K × ℕ) × ℕ)) (low high : Option K) (front back : List (K × V)) (lefts rights : List ℕ) (leaves nodes : ℕ → ℕ) : Type 0 where
+    pub between : AreLeft cmp (IsTree cmp b height) s low high
+    pub pairs : left_joined (pairs_under b height) s ≡ front ++ back
+    pub order : left_joined (leaves_under b height) s ≡ lefts ++ rights
+    pub leaf : (n : ℕ) → left_sum (leaf_times b n height) s ≡ leaves n
+    pub node : (n : ℕ) → left_sum (node_times b n height) s ≡ nodes n
 
   -- the child on the way to the key, its bounds, and what stands around it
   pub record Turn (es : List (K × ℕ)) (last : ℕ) (low high : Option K) : Type 0 where
@@ -62,6 +92,7 @@ module _ {K V : Type 0} (cmp : K → K → Ordering) (a : Content K V) (key : K)
     pub behind : AllKeys (λ k. cmp key k ≡ Less) back
     pub again : (b : Content K V) → Agrees a b leaves nodes → IsTree cmp b height (child_for cmp key es last) from upto → Again b es last low high front back lefts rights leaves nodes
     pub parted : (b : Content K V) (sep : K) (fresh : ℕ) → Agrees a b leaves nodes → IsWithin cmp from upto sep → IsUnder cmp upto sep → IsTree cmp b height fresh from (Some sep) → IsTree cmp b height (child_for cmp key es last) (Some sep) upto → Parted b sep fresh es last low high front back lefts rights leaves nodes
+    pub left : (b : Content K V) → Agrees a b leaves nodes → Left b (shed cmp key es last) low high front back lefts rights leaves nodes
 
 module _ {K : Type 0} (cmp : K → K → Ordering) (o : IsTotalOrder cmp) where
   -- no separator above a bound is a key below it
@@ -70,6 +101,21 @@ module _ {K : Type 0} (cmp : K → K → Ordering) (o : IsTotalOrder cmp) where
   absent_above P (e ∷ es) last m high sep t h =
       let far : cmp sep e.0 ≡ Less = o.trans sep m e.0 h t.0.0 in
       rw far (absent_above P es last e.0 high sep t.2 far)
+
+module _ {K V : Type 0} (cmp : K → K → Ordering) (a : Content K V) where
+  pub widened_along : (P : ℕ → Option K → Option K → Type 0) → ((at : ℕ) (low high wide_low wide_high : Option K) → ((k : K) → IsOver cmp low k → IsOver cmp wide_low k) → ((k : K) → IsUpTo cmp high k → IsUpTo cmp wide_high k) → P at low high → P at wide_low wide_high)
+      → (es : List (K × ℕ)) (last : ℕ) (low high wide_low wide_high : Option K) → ((k : K) → IsOver cmp low k → IsOver cmp wide_low k) → ((k : K) → IsUpTo cmp high k → IsUpTo cmp wide_high k) → AreBetween cmp P es last low high → AreBetween cmp P es last wide_low wide_high
+  widened_along P each [] last low high wide_low wide_high over upto t = each last low high wide_low wide_high over upto t
+  widened_along P each (e ∷ es) last low high wide_low wide_high over upto t = (
+    (over e.0 t.0.0, upto e.0 t.0.1),
+    each e.1 low (Some e.0) wide_low (Some e.0) over (λ k h. h) t.1,
+    widened_along P each es last (Some e.0) high (Some e.0) wide_high (λ k h. h) upto t.2,
+  )
+
+  -- a tree lies within wider bounds too
+  pub widened : (height at : ℕ) (low high wide_low wide_high : Option K) → ((k : K) → IsOver cmp low k → IsOver cmp wide_low k) → ((k : K) → IsUpTo cmp high k → IsUpTo cmp wide_high k) → IsTree cmp a height at low high → IsTree cmp a height at wide_low wide_high
+  widened zero at low high wide_low wide_high over upto t = (t.0, t.1, record { thawed = t.2.thawed; rising = t.2.rising; within = all_weaken (IsWithin cmp low high) (IsWithin cmp wide_low wide_high) (λ k w. (over k w.0, upto k w.1)) t.0.pairs t.2.within })
+  widened (suc height) at low high wide_low wide_high over upto t = (t.0, t.1, t.2, widened_along (IsTree cmp a height) (widened height) t.0.0.pairs t.0.1 low high wide_low wide_high over upto t.3)
 
 module _ {K V : Type 0} (cmp : K → K → Ordering) (o : IsTotalOrder cmp) (a : Content K V) (key : K) (height : ℕ) where
   turn_last : (last : ℕ) (low high : Option K) → IsTree cmp a height last low high → IsWithin cmp low high key → Turn cmp a key height [] last low high
@@ -98,6 +144,25 @@ module _ {K V : Type 0} (cmp : K → K → Ordering) (o : IsTotalOrder cmp) (a :
       leaf = λ n. omega arith;
       node = λ n. omega arith;
     };
+    left = λ b s. record { between = tt; pairs = refl; order = refl; leaf = λ n. refl; node = λ n. refl };
+  }
+
+  -- what is left in front of what is left behind it
+  left_past : (b : Content K V) (e : K × ℕ) (s : Option (List (K × ℕ) × ℕ)) (low high : Option K) (front back : List (K × V)) (lefts rights : List ℕ) (leaves nodes : ℕ → ℕ) → IsWithin cmp low high e.0 → IsSame cmp a b height e.1 low (Some e.0) → Left cmp a key height b s (Some e.0) high front back lefts rights leaves nodes
+      → Left cmp a key height b (Some (in_front e s)) low high (pairs_under a height e.1 ++ front) back (leaves_under a height e.1 ++ lefts) rights (λ n. leaf_times a n height e.1 + leaves n) (λ n. node_times a n height e.1 + nodes n)
+  left_past b e None low high front back lefts rights leaves nodes w f l = record {
+    between = widened cmp b height e.1 low (Some e.0) low high (λ k h. h) (λ k h. upto_trans o high e.0 k h w.1) f.tree;
+    pairs = f.pairs ∙ sym (append-nil (pairs_under a height e.1)) ∙ ap (λ ps. pairs_under a height e.1 ++ ps) l.pairs ∙ simp append_assoc;
+    order = f.order ∙ sym (append-nil (leaves_under a height e.1)) ∙ ap (λ ns. leaves_under a height e.1 ++ ns) l.order ∙ simp append_assoc;
+    leaf = λ n. omega (arith, f.leaves n, l.leaf n);
+    node = λ n. omega (arith, f.nodes n, l.node n);
+  }
+  left_past b e (Some s) low high front back lefts rights leaves nodes w f l = record {
+    between = (w, f.tree, l.between);
+    pairs = rw (f.pairs, l.pairs) (simp append_assoc);
+    order = rw (f.order, l.order) (simp append_assoc);
+    leaf = λ n. omega (arith, f.leaves n, l.leaf n);
+    node = λ n. omega (arith, f.nodes n, l.node n);
   }
 
   -- the key is not above the first separator
@@ -140,6 +205,16 @@ module _ {K V : Type 0} (cmp : K → K → Ordering) (o : IsTotalOrder cmp) (a :
               leaf = λ n. rw (under, c, rest.leaves n) (omega arith);
               node = λ n. rw (under, c, rest.nodes n) (omega arith);
             };
+        left = λ b s.
+            let rest = kept_along cmp a b height (kept cmp a b height) es last (Some e.0) high t.2 s in
+            let d : shed cmp key (e ∷ es) last ≡ Some (es, last) = ap (λ b. cond b (Some (in_front e (shed cmp key es last))) (Some (es, last))) h in
+            subst (λ (x : Option (List (K × ℕ) × ℕ)). Left cmp a key height b x low high [] (joined_along (pairs_under a height) es last) [] (joined_along (leaves_under a height) es last) (λ n. sum_along (leaf_times a n height) es last) (λ n. sum_along (node_times a n height) es last)) (sym d) (record {
+              between = widened_along cmp b (IsTree cmp b height) (widened cmp b height) es last (Some e.0) high low high (λ k m. over_trans o low e.0 k t.0.0 m) (λ k m. m) rest.between;
+              pairs = rest.pairs;
+              order = rest.order;
+              leaf = rest.leaves;
+              node = rest.nodes;
+            });
       }
 
   -- the key is above the first separator
@@ -190,6 +265,9 @@ module _ {K V : Type 0} (cmp : K → K → Ordering) (o : IsTotalOrder cmp) (a :
               leaf = λ m. rw (turn, c, f.leaves m, n.leaf m) (omega arith);
               node = λ m. rw (turn, c, f.nodes m, n.node m) (omega arith);
             };
+        left = λ b s.
+            let d : shed cmp key (e ∷ es) last ≡ Some (in_front e (shed cmp key es last)) = ap (λ b. cond b (Some (in_front e (shed cmp key es last))) (Some (es, last))) h in
+            subst (λ (x : Option (List (K × ℕ) × ℕ)). Left cmp a key height b x low high (pairs_under a height e.1 ++ r.front) r.back (leaves_under a height e.1 ++ r.lefts) r.rights (λ n. leaf_times a n height e.1 + r.leaves n) (λ n. node_times a n height e.1 + r.nodes n)) (sym d) (left_past b e (shed cmp key es last) low high r.front r.back r.lefts r.rights r.leaves r.nodes t.0 (first b s) (r.left b (rest b s)));
       }
 
   pub turn : (es : List (K × ℕ)) (last : ℕ) (low high : Option K) → AreBetween cmp (IsTree cmp a height) es last low high → IsWithin cmp low high key → Turn cmp a key height es last low high

@@ -27,7 +27,7 @@ use Rattle.tree_index.proofs.FocusLemmas.{over, over_is}
 use Rattle.tree_index.proofs.WayLemmas.{some_same, around}
 use Rattle.tree_index.proofs.SplitLemmas.{around_parent, around_child, parent, child, IsSplit, divided, order_total, none_leaf}
 use Rattle.tree_index.proofs.NodeSplitLemmas.{way_more}
-use Rattle.tree_index.proofs.NodeLemmas.{planted, leaf_content, node_content, same_len}
+use Rattle.tree_index.proofs.NodeLemmas.{planted, leaf_content, node_content}
 use Rattle.tree_index.proofs.CutLemmas.{Sides, sides, behind}
 use Rattle.tree_index.proofs.HalfLemmas.{all_at}
 use Rattle.tree_index.proofs.DepthLemmas.{any_at, any_fore, any_rear, all_middle, by_root, room_is, last_way, reached_entry, length_entry}
@@ -198,7 +198,6 @@ module _ {K V : Type 0} (cmp : K → K → Ordering) (o : IsTotalOrder cmp) (key
       done_sound = record {
         stands = inr (planted_, subst (λ (n : ℕ). Stands cmp b n a.root) height_is (divided cmp o c key 0 steps a.root stands b cut.separator fresh m.children split).stands);
         linked = λ h. done_linked;
-        tall = omega (arith, s.tall, same_len a.nodes above old m node_there);
         count = s.count ∙ sym (ap length done_pairs);
       }
 

@@ -7,7 +7,11 @@ pub mod ChainLemmas
 pub mod LinkLemmas
 pub mod RowLemmas
 pub mod SplitLemmas
+pub mod UnlinkLemmas
+pub mod PruneLemmas
 pub mod ArenaLemmas
+pub mod DetachLemmas
+pub mod FreeLemmas
 pub mod HalfLemmas
 pub mod GrowLemmas
 pub mod NodeSplitLemmas
@@ -22,6 +26,7 @@ pub mod EqualLemmas
 pub mod CopyLemmas
 pub mod ThinLemmas
 pub mod RemovalLemmas
+pub mod WithoutLemmas
 pub mod DepthLemmas
 pub mod LeafArenaLemmas
 pub mod LeafCursorLemmas

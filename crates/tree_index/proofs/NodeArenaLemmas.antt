@@ -144,7 +144,6 @@ module _ {K V : Type 0} (cmp : K → K → Ordering) (o : IsTotalOrder cmp) (key
     done_sound more = record {
       stands = inr ((λ e. omega (arith, e)), subst (λ (n : ℕ). Stands cmp b n a.root) height_is (node_divided cmp o c key l steps a.root stands b fresh low.children up.children m.children sep low.last y ys split).stands);
       linked = λ h. subst (λ ns. IsLinked (links a.leaves) None ns None) (sym done_order) (s.linked h);
-      tall = omega (arith, s.tall, more);
       count = s.count ∙ sym (ap length done_pairs);
     }
 

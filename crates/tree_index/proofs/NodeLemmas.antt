@@ -109,7 +109,7 @@ module _ {K V : Type 0} (cmp : K → K → Ordering) (a : Arenas K V) (leaves : 
       }
 
   same_slots : IsSound cmp a → IsSound cmp (roomier a.leaves.slots a.nodes.slots)
-  same_slots s = record { stands = split s.stands; linked = s.linked; tall = s.tall; count = s.count }
+  same_slots s = record { stands = split s.stands; linked = s.linked; count = s.count }
     where
       split : IsBare a ⊎ (a.height ≢ 0) × Stands cmp (content_of a) a.height a.root → IsBare (roomier a.leaves.slots a.nodes.slots) ⊎ (a.height ≢ 0) × Stands cmp (content_of a) a.height a.root
       split (inl bare) = inl (record { flat = bare.flat; empty = bare.empty })

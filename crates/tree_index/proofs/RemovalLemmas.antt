@@ -67,7 +67,7 @@ module _ {K : Type 0} (cmp : K → K → Ordering) (lower upper : Bound K) where
       none_left (n ∷ ns) e = absurd (let i : None ≡ Some n = e in cc)
 
 module _ {K : Type 0} {cmp : K → K → Ordering} (o : IsTotalOrder cmp) where
-  past_trans : (b : Bound K) (p k : K) → is_past_end cmp b p ≡ true → cmp p k ≡ Less → is_past_end cmp b k ≡ true
+  pub past_trans : (b : Bound K) (p k : K) → is_past_end cmp b p ≡ true → cmp p k ≡ Less → is_past_end cmp b k ≡ true
   past_trans (Included h) p k e l = lt_of h p k (cmp h p) refl e l
     where
       lt_of : (h p k : K) (r : Ordering) → cmp h p ≡ r → is_lt r ≡ true → cmp p k ≡ Less → is_lt (cmp h k) ≡ true
@@ -113,7 +113,7 @@ last_split (p ∷ (q ∷ ps)) h =
     let later : length (p ∷ (q ∷ ps)) - 1 ≡ suc (length (q ∷ ps) - 1) = omega arith in
     (p ∷ r.0, r.1, ap (λ xs. p ∷ xs) r.2, ap (key_at (p ∷ (q ∷ ps))) later ∙ key_behind p (q ∷ ps) (length (q ∷ ps) - 1) ∙ r.3)
 
-first_split : (n : ℕ) (ns : List ℕ) → Some n ≡ first_or None ns → (ms : List ℕ) × (ns ≡ n ∷ ms)
+pub first_split : (n : ℕ) (ns : List ℕ) → Some n ≡ first_or None ns → (ms : List ℕ) × (ns ≡ n ∷ ms)
 first_split n [] e = absurd (let i : Some n ≡ None = e in cc)
 first_split n (m ∷ ns) e = let same : n ≡ m = some_same e in (ns, ap (λ k. k ∷ ns) (sym same))
 

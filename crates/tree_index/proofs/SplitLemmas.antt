@@ -99,7 +99,7 @@ module _ {K V : Type 0} (cmp : K → K → Ordering) (o : IsTotalOrder cmp) (a :
       let t = around_child.again a (record { leaf = λ n d. refl; node = λ n d. refl }) around_child.tree in
       r.node n ∙ ap (λ m. around_parent.nodes n + (cond (parent == n) 1 0 + m)) (ap (node_sum (node_times a n left)) around_parent.tree.1 ∙ t.node n)
 
-  pairs_total : pairs_under a (suc left) parent ≡ around_child.front ++ pairs_under a left child ++ around_child.back
+  pub pairs_total : pairs_under a (suc left) parent ≡ around_child.front ++ pairs_under a left child ++ around_child.back
   pairs_total =
       let t = around_child.again a (record { leaf = λ n d. refl; node = λ n d. refl }) around_child.tree in
       ap (node_joined (pairs_under a left)) around_parent.tree.1 ∙ t.pairs

@@ -170,6 +170,5 @@ module _ {K V : Type 0} (cmp : K → K → Ordering) (test : K → Bool) (a : Ar
         record {
           stands = inr (own.0, thin_stands (content_of a) (content_of (thinned len)) (λ k. refl) cmp (thin_leaf len) a.height a.root (stands_of cmp a s own.0));
           linked = λ h. subst (λ ns. IsLinked (links (with_value a.leaves n m)) None ns None) (sym (thin_order len)) (linked_kept (links a.leaves) (links (with_value a.leaves n m)) None (leaves_of a) None (λ k d. links_kept a.leaves n l m here prev next k) (s.linked h));
-          tall = s.tall;
           count = omega (arith, counts, old_len, new_len, length_of len);
         }

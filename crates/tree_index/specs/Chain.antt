@@ -34,3 +34,7 @@ is_named (Some m) n = m == n
 -- the links once a number has come in between two
 abbrev pub linked_in : ℕ → Option ℕ → ℕ → Links → Links
 linked_in fresh before behind f n = option_map (λ l. (cond (n == behind) (Some fresh) l.0, cond (is_named before n) (Some fresh) l.1)) (f n)
+
+-- the links once what stood between two has left
+abbrev pub linked_out : Option ℕ → Option ℕ → Links → Links
+linked_out before behind f n = option_map (λ l. (cond (is_named behind n) before l.0, cond (is_named before n) behind l.1)) (f n)

@@ -1,8 +1,8 @@
 -- What the arenas of a tree hold.
-use Rattle.std.specs.Prelude.{◌≡◌, ◌≢◌, ◌≤◌, ◌<◌, ◌-◌, ◌⊎◌, ℕ, List, length, Some, None, false}
+use Rattle.std.specs.Prelude.{◌≡◌, ◌≢◌, ◌<◌, ◌-◌, ◌⊎◌, ℕ, List, length, Some, None, false}
 use Rattle.std.specs.declared.cmp.Ordering.{Ordering}
 use Rattle.std.specs.Option.{option_map}
-use Rattle.slab.specs.Slab.{Slab, get, slab_len}
+use Rattle.slab.specs.Slab.{Slab, get}
 use Rattle.tree_index.specs.declared.leaf.Leaf.{Leaf}
 use Rattle.tree_index.specs.declared.node.Branches.{Branches}
 use Rattle.tree_index.specs.declared.arenas.Arenas.{Arenas}
@@ -39,7 +39,6 @@ module _ {K V : Type 0} where
   pub record IsSound (cmp : K → K → Ordering) (a : Arenas K V) : Type 0 where
     pub stands : IsBare a ⊎ (a.height ≢ 0) × Stands cmp (content_of a) a.height a.root
     pub linked : a.height ≢ 0 → IsLinked (links a.leaves) None (leaves_of a) None
-    pub tall : a.height ≤ slab_len a.nodes
     pub count : a.len ≡ length (pairs_of a)
 
   -- the leaf on the way to a key takes one more pair

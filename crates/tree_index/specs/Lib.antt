@@ -4,6 +4,7 @@ pub mod Cuts
 pub mod Content
 pub mod Depth
 pub mod Walk
+pub mod Prune
 pub mod Cursor
 pub mod Ends
 pub mod LeafCursor

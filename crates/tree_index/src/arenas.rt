@@ -7,6 +7,7 @@ ghost use Rattle.tree_index.specs.Shape.{way};
 ghost use Rattle.tree_index.specs.Depth.{IsAbove, ascents};
 ghost use Rattle.tree_index.specs.Content.{content_of, pairs_of, IsSound, HasRoom, leaf_on_way};
 ghost use Rattle.leaf_array.specs.Edits.{removed, upserted};
+ghost use Rattle.tree_index.specs.Walk.{held};
 ghost use Rattle.std.specs.Fn.{FnOnceReturnsAt, FnOnceTakesAt};
 ghost use Rattle.leaf_array.specs.Pairs.{has_key};
 ghost use Rattle.leaf_array.specs.Values.{ClonesAreSame};
@@ -222,29 +223,63 @@ impl<K: Ord, V> Arenas<K, V> {
         self.len = 0;
     }
 
-    /// Removes the pair with this key, if the condition answers true of its value.
+    /// Removes the pair with this key, if the condition answers true of its value. A leaf that has none left
+    /// then leaves the tree, unless there is no other.
     #[inline]
     pub(crate) fn remove_if<F: FnOnce(&V) -> bool>(&mut self, key: &K, condition: F) -> bool
+    where
+        K: Drop,
+        V: Drop,
+        F: Drop,
+        requires callable { IfSome (lookup_entry (is_at (K.cmp key.now)) (pairs_of self.old)) (λ e. FnOnceTakesAt F.FnOnce condition e.1) }
+        requires sound { IsSound K.cmp self.old }
+        ensures sound { IsSound K.cmp self.new }
+        ensures depth { self.new.height ≤ self.old.height }
+        ensures absent { lookup_entry (is_at (K.cmp key.now)) (pairs_of self.old) ≡ None → result ≡ false }
+        ensures asked { IfSome (lookup_entry (is_at (K.cmp key.now)) (pairs_of self.old)) (λ e. FnOnceReturnsAt F.FnOnce condition e.1 result) }
+        ensures removed { result ≡ true → pairs_of self.new ≡ removed K.cmp key.now (pairs_of self.old) }
+        ensures kept { result ≡ false → pairs_of self.new ≡ pairs_of self.old }
+    {
+        let (answer, leaf) = self.take_if(key, condition);
+        if let Some(at) = leaf {
+            self.prune(at, key);
+        }
+        answer
+    }
+
+    /// The same, but that the leaf stays: it is told where it has no pair left.
+    #[inline(always)]
+    fn take_if<F: FnOnce(&V) -> bool>(&mut self, key: &K, condition: F) -> (bool, Option<usize>)
     where
         F: Drop,
         requires callable { IfSome (lookup_entry (is_at (K.cmp key.now)) (pairs_of self.old)) (λ e. FnOnceTakesAt F.FnOnce condition e.1) }
         requires sound { IsSound K.cmp self.old }
         ensures sound { IsSound K.cmp self.new }
         ensures depth { self.new.height ≡ self.old.height }
-        ensures absent { lookup_entry (is_at (K.cmp key.now)) (pairs_of self.old) ≡ None → result ≡ false }
-        ensures asked { IfSome (lookup_entry (is_at (K.cmp key.now)) (pairs_of self.old)) (λ e. FnOnceReturnsAt F.FnOnce condition e.1 result) }
-        ensures removed { result ≡ true → pairs_of self.new ≡ removed K.cmp key.now (pairs_of self.old) }
-        ensures kept { result ≡ false → pairs_of self.new ≡ pairs_of self.old }
+        ensures absent { lookup_entry (is_at (K.cmp key.now)) (pairs_of self.old) ≡ None → result.0 ≡ false }
+        ensures asked { IfSome (lookup_entry (is_at (K.cmp key.now)) (pairs_of self.old)) (λ e. FnOnceReturnsAt F.FnOnce condition e.1 result.0) }
+        ensures removed { result.0 ≡ true → pairs_of self.new ≡ removed K.cmp key.now (pairs_of self.old) }
+        ensures kept { result.0 ≡ false → pairs_of self.new ≡ pairs_of self.old }
+        ensures emptied { IfSome result.1 (λ n. (n ≡ leaf_on_way K.cmp key.now self.new) × (held self.new n ≡ [])) }
     {
         let at = self.leaf_of(key);
         match self.leaves.get_mut(at) {
             Some(leaf) => {
                 let before = leaf.len();
                 let answer = leaf.remove_if(key, condition);
-                self.len = self.len - before + leaf.len();
-                answer
+                let after = leaf.len();
+                self.len = self.len - before + after;
+                (answer, emptied(answer, after, at))
             },
-            None => false,
+            None => (false, None),
         }
     }
+}
+
+/// The number of a leaf, if a removal has left it no pair.
+#[inline(always)]
+fn emptied(removed: bool, len: usize, at: usize) -> Option<usize>
+    ensures { IfSome result (λ n. (n ≡ at) × (len ≡ 0)) }
+{
+    if removed && len == 0 { Some(at) } else { None }
 }

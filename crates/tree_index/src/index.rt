@@ -32,8 +32,8 @@ use std::ops::Bound;
 /// An ordered index: a B+ tree with at most fifteen pairs in a leaf and sixteen children in a node.
 ///
 /// Leaves and nodes stand in two arenas and name each other by numbers. A look-up follows one path and
-/// clones nothing; an insertion touches one path and clones one key where a leaf is split; reads and
-/// removals take no memory.
+/// clones nothing; an insertion touches one path and clones one key where a leaf is split; a leaf that is
+/// emptied is given back, unless it is the last; reads and removals take no memory.
 #[derive(Drop)]
 pub struct TreeIndex<K: Ord, V> {
     pub(crate) arenas: Arenas<K, V>,
@@ -157,11 +157,14 @@ impl<K: Ord, V> TreeIndex<K, V> {
         }
     }
 
-    /// Removes the pair with this key, and says whether there was one.
+    /// Removes the pair with this key, and says whether there was one. The depth may shrink, down to 1.
     pub fn remove_sync(&mut self, key: &K) -> bool
+    where
+        K: Drop,
+        V: Drop,
         ensures found { result ≡ has_key K.cmp key.now self.old.pairs }
         ensures removed { self.new.pairs ≡ removed K.cmp key.now self.old.pairs }
-        ensures depth { self.new.depth ≡ self.old.depth }
+        ensures depth { self.new.depth ≤ self.old.depth }
     {
         self.arenas.remove_if(
             key,
@@ -221,10 +224,14 @@ impl<K: Ord, V> TreeIndex<K, V> {
         self.arenas.contains(key)
     }
 
-    /// Removes the pairs whose keys lie within two bounds. Reversed bounds contain none.
+    /// Removes the pairs whose keys lie within two bounds. Reversed bounds contain none. The depth may shrink,
+    /// down to 1.
     pub fn remove_range_sync(&mut self, lower: Bound<&K>, upper: Bound<&K>)
+    where
+        K: Drop,
+        V: Drop,
         ensures removed { self.new.pairs ≡ filter (λ p. not (range_contains K.cmp (bound_map (λ k. k.now) lower.entry) (bound_map (λ k. k.now) upper.entry) p.0)) self.old.pairs }
-        ensures depth { self.new.depth ≡ self.old.depth }
+        ensures depth { self.new.depth ≤ self.old.depth }
     {
         self.arenas.remove_range(lower, upper);
     }
@@ -279,16 +286,18 @@ impl<K: Ord, V> TreeIndex<K, V> {
     }
 
     /// Removes the pair with this key, if the condition answers true of its value: it is asked once where
-    /// the key is there, else not at all.
+    /// the key is there, else not at all. The depth may shrink, down to 1.
     pub fn remove_if_sync<F: FnOnce(&V) -> bool>(&mut self, key: &K, condition: F) -> bool
     where
+        K: Drop,
+        V: Drop,
         F: Drop,
         requires { IfSome (value_at K.cmp key.now self.old.pairs) (FnOnceTakesAt F.FnOnce condition) }
         ensures absent { value_at K.cmp key.now self.old.pairs ≡ None → result ≡ false }
         ensures asked { IfSome (value_at K.cmp key.now self.old.pairs) (λ v. FnOnceReturnsAt F.FnOnce condition v result) }
         ensures removed { result ≡ true → self.new.pairs ≡ removed K.cmp key.now self.old.pairs }
         ensures kept { result ≡ false → self.new.pairs ≡ self.old.pairs }
-        ensures depth { self.new.depth ≡ self.old.depth }
+        ensures depth { self.new.depth ≤ self.old.depth }
     {
         self.arenas.remove_if(key, condition)
     }

@@ -15,7 +15,8 @@ ghost use Rattle.std.specs.Map.{lookup_entry};
 ghost use Rattle.std.specs.Fn.{FnOnceReturnsAt, FnOnceTakesAt};
 ghost use Rattle.std.specs.List.{filter};
 ghost use Rattle.std.specs.Range.Bound.{bound_map};
-ghost use Rattle.std.specs.BTreeMap.Range.{range_contains, is_past_end};
+ghost use Rattle.std.specs.BTreeMap.Range.{range_contains, is_from_start, is_past_end};
+ghost use Rattle.tree_index.specs.Shape.{AllKeys};
 ghost use Rattle.leaf_array.specs.Cells.{no_cells};
 ghost use Rattle.leaf_array.specs.Edits.{removed, upserted};
 ghost use Rattle.leaf_array.specs.Pairs.{has_key, IsAscending};
@@ -119,6 +120,20 @@ impl<K: Ord, V> Leaf<K, V> {
         self.array.remove_range(lower, upper);
     }
 
+    /// Whether the leaf has pairs, and all lie within two bounds.
+    pub(crate) fn lies_within(&self, lower: &Bound<&K>, upper: &Bound<&K>) -> bool
+        ensures some { result ≡ true → 0 < length self.now.array.pairs }
+        ensures within { result ≡ true → AllKeys (λ k. range_contains K.cmp (bound_map (λ k. k.now) lower.now) (bound_map (λ k. k.now) upper.now) k ≡ true) self.now.array.pairs }
+    {
+        let len = self.array.len();
+        if len == 0 {
+            return false;
+        }
+        let first = self.key(0);
+        let last = self.key(len - 1);
+        starts_in(lower, first) && !ends_out(upper, last)
+    }
+
     /// Whether the leaf has a pair past an upper bound.
     pub(crate) fn ends_past(&self, upper: &Bound<&K>) -> bool
         ensures { result ≡ true → IfSome (key_at self.now.array.pairs (length self.now.array.pairs - 1)) (λ k. is_past_end K.cmp (bound_map (λ k. k.now) upper.now) k ≡ true) × (0 < length self.now.array.pairs) }
@@ -127,12 +142,7 @@ impl<K: Ord, V> Leaf<K, V> {
         if len == 0 {
             return false;
         }
-        let last = self.key(len - 1);
-        match upper {
-            Bound::Included(high) => (*high).cmp(last).is_lt(),
-            Bound::Excluded(high) => (*high).cmp(last).is_le(),
-            Bound::Unbounded => false,
-        }
+        ends_out(upper, self.key(len - 1))
     }
 
     /// How many pairs the leaf has. They rise.
@@ -250,6 +260,28 @@ impl<K: Ord, V> Leaf<K, V> {
         let _ = lower.len();
         let _ = self.array.len();
         lower
+    }
+}
+
+/// Whether a key lies within a lower bound.
+fn starts_in<K: Ord>(lower: &Bound<&K>, key: &K) -> bool
+    ensures { result ≡ is_from_start K.cmp (bound_map (λ k. k.now) lower.now) key.now }
+{
+    match lower {
+        Bound::Included(low) => (*low).cmp(key).is_le(),
+        Bound::Excluded(low) => (*low).cmp(key).is_lt(),
+        Bound::Unbounded => true,
+    }
+}
+
+/// Whether a key lies past an upper bound.
+fn ends_out<K: Ord>(upper: &Bound<&K>, key: &K) -> bool
+    ensures { result ≡ is_past_end K.cmp (bound_map (λ k. k.now) upper.now) key.now }
+{
+    match upper {
+        Bound::Included(high) => (*high).cmp(key).is_lt(),
+        Bound::Excluded(high) => (*high).cmp(key).is_le(),
+        Bound::Unbounded => false,
     }
 }
 

@@ -5,7 +5,9 @@
 //! look-up follows one path and clones nothing. An insertion that finds its leaf full makes room
 //! first: it packs the leaf or splits it, and the full nodes above it, and needs memory for that
 //! before anything is changed; so a refused one leaves the tree as it was. A cursor goes along the
-//! leaves, each of which names its neighbours. Reads, cursors, removals and `clear` take no memory.
+//! leaves, each of which names its neighbours. A leaf that loses its last pair leaves the tree, with the
+//! nodes that have it alone, and its place is free for the next one. Reads, cursors, removals and
+//! `clear` take no memory.
 //!
 //! ```
 //! let mut tree = TreeIndex::new(alloc);
@@ -27,6 +29,7 @@ mod laws;
 pub mod leaf;
 pub mod node;
 mod proximity;
+mod prune;
 mod range;
 mod removal;
 mod split;

@@ -8,7 +8,9 @@
 //! }
 //! ```
 
-ghost use Rattle.std.specs.Prelude.{◌≡◌, ◌≢◌, ◌+◌, ◌<◌, ◌≤◌, ◌==◌, ◌++◌, ◌∷◌, ◌↔◌, IsTrue, IfSome, MatchOption, Some, None};
+ghost use Rattle.std.specs.Prelude.{◌≡◌, ◌≢◌, ◌+◌, ◌-◌, ◌<◌, ◌≤◌, ◌==◌, ◌++◌, ◌∷◌, ◌↔◌, IsTrue, IfSome, MatchOption, Some, None, [], true, false, length, take, slice_get};
+ghost use Rattle.std.specs.List.{remove};
+ghost use Rattle.leaf_array.specs.Cells.{lesser};
 ghost use Rattle.std.specs.BTreeMap.{is_at, insert_entry};
 ghost use Rattle.std.specs.Map.{lookup, lookup_entry};
 ghost use Rattle.tree_index.specs.Nodes.{height_in, is_internal, pairs_in};
@@ -143,6 +145,58 @@ impl<K: Ord> Branches<K> {
             _ => unreachable!(),
         }
         let _ = self.children.len();
+    }
+
+    /// The child on the way to a key, and how many children come before it.
+    pub(crate) fn turn(&self, key: &K) -> (usize, usize)
+        ensures place { result.0 ≡ lesser K.cmp key.now self.now.children.pairs }
+        ensures child { result.1 ≡ child_for K.cmp key.now self.now.children.pairs self.now.last }
+    {
+        let (place, pair) = self.children.lower_bound(key);
+        match pair {
+            Some((_, child)) => (place, *child),
+            None => (place, self.last),
+        }
+    }
+
+    /// Whether there is one child.
+    #[inline]
+    pub(crate) fn is_single(&self) -> bool
+        ensures single { result ≡ true → self.now.children.pairs ≡ [] }
+        ensures more { result ≡ false → self.now.children.pairs ≢ [] }
+    {
+        self.children.is_empty()
+    }
+
+    /// The last child of a node that is no longer needed.
+    pub(crate) fn into_last(self) -> usize
+    where
+        K: Drop,
+        ensures { result ≡ self.last }
+    {
+        self.last
+    }
+
+    /// Lets go of the child at a place, where there is another one: a neighbour takes its keys over.
+    pub(crate) fn shed(&mut self, place: usize)
+    where
+        K: Drop,
+        requires node { IsNode self.old.children }
+        requires more { self.old.children.pairs ≢ [] }
+        requires within { place ≤ length self.old.children.pairs }
+        ensures node { IsNode self.new.children }
+        ensures inner { place < length self.old.children.pairs → (self.new.children.pairs ≡ remove self.old.children.pairs place) × (self.new.last ≡ self.old.last) }
+        ensures outer { place ≡ length self.old.children.pairs → (self.new.children.pairs ≡ take (length self.old.children.pairs - 1) self.old.children.pairs) × IfSome (slice_get self.old.children.pairs (length self.old.children.pairs - 1)) (λ e. self.new.last ≡ e.1) }
+    {
+        if place < self.children.len() {
+            self.children.bury(place);
+            self.children.pack();
+            return;
+        }
+        match self.children.pop_last() {
+            Some((_, child)) => self.last = child,
+            None => unreachable!(),
+        }
     }
 
     /// Moves the lower half to a node of its own, and gives the separator between both.

@@ -1,27 +1,89 @@
 //! Removal of a range of keys.
 
-ghost use Rattle.std.specs.Prelude.{◌≡◌, ◌<◌, not, false, true, None, Some};
+ghost use Rattle.std.specs.Prelude.{◌≡◌, ◌≤◌, ◌<◌, IfSome, not, false, true, None, Some};
 ghost use Rattle.std.specs.List.{filter};
 ghost use Rattle.std.specs.Range.Bound.{bound_map};
 ghost use Rattle.std.specs.BTreeMap.Range.{range_contains, is_from_start};
-ghost use Rattle.tree_index.specs.Content.{pairs_of, leaves_of, IsSound};
-ghost use Rattle.tree_index.specs.Walk.{rest, IsOwn, IsPassed};
+ghost use Rattle.tree_index.specs.Content.{pairs_of, leaves_of, leaf_on_way, IsSound};
+ghost use Rattle.tree_index.specs.Prune.{IsFork};
+ghost use Rattle.tree_index.specs.Shape.{AllKeys};
+ghost use Rattle.tree_index.specs.Walk.{held, rest, IsOwn, IsPassed};
 
 use crate::arenas::Arenas;
+use crate::prune::Fork;
 use std::ops::Bound;
 
 impl<K: Ord, V> Arenas<K, V> {
-    /// Removes the pairs whose keys lie within two bounds. It goes down once, and then along the leaves.
+    /// Removes the pairs whose keys lie within two bounds. It goes down once, and then along the leaves: one
+    /// that has no others leaves the tree as it is, unless there is no other leaf.
     pub(crate) fn remove_range(&mut self, lower: Bound<&K>, upper: Bound<&K>)
+    where
+        K: Drop,
+        V: Drop,
         requires { IsSound K.cmp self.old }
         ensures sound { IsSound K.cmp self.new }
         ensures pairs { pairs_of self.new ≡ filter (λ p. not (range_contains K.cmp (bound_map (λ k. k.now) lower.entry) (bound_map (λ k. k.now) upper.entry) p.0)) (pairs_of self.old) }
-        ensures depth { self.new.height ≡ self.old.height }
+        ensures depth { self.new.height ≤ self.old.height }
     {
         let mut next = self.leaf_from(&lower);
         while let Some(at) = next {
-            next = self.remove_in(at, lower, upper);
+            next = match self.fork_within(at, &lower, &upper) {
+                Some(fork) => self.remove_leaf(at, fork, lower, upper),
+                None => self.remove_in(at, lower, upper),
+            };
         }
+    }
+
+    /// The fork above a leaf whose pairs lie within two bounds, if it has some, and there is one.
+    fn fork_within(&self, at: usize, lower: &Bound<&K>, upper: &Bound<&K>) -> Option<Fork>
+        requires sound { IsSound K.cmp self.now }
+        requires own { IsOwn self.now (Some at) }
+        ensures fork { IfSome result (λ f. (key : K) × IsFork K.cmp key self.now f × (at ≡ leaf_on_way K.cmp key self.now)) }
+        ensures within { IfSome result (λ f. AllKeys (λ k. range_contains K.cmp (bound_map (λ k. k.now) lower.now) (bound_map (λ k. k.now) upper.now) k ≡ true) (held self.now at)) }
+    {
+        match self.leaves.get(at) {
+            Some(leaf) => {
+                if leaf.lies_within(lower, upper) {
+                    self.find_fork(leaf.key(0))
+                } else {
+                    None
+                }
+            },
+            None => None,
+        }
+    }
+
+    /// Takes the leaf under a fork, whose pairs lie within two bounds, out of the tree. It gives the leaf behind it.
+    fn remove_leaf(
+        &mut self,
+        at: usize,
+        fork: Fork,
+        lower: Bound<&K>,
+        upper: Bound<&K>,
+    ) -> Option<usize>
+    where
+        K: Drop,
+        V: Drop,
+        requires sound { IsSound K.cmp self.old }
+        requires fork { (key : K) × IsFork K.cmp key self.old fork × (at ≡ leaf_on_way K.cmp key self.old) }
+        requires within { AllKeys (λ k. range_contains K.cmp (bound_map (λ k. k.now) lower) (bound_map (λ k. k.now) upper) k ≡ true) (held self.old at) }
+        requires own { IsOwn self.old (Some at) }
+        requires passed { IsPassed (λ k. range_contains K.cmp (bound_map (λ k. k.now) lower) (bound_map (λ k. k.now) upper) k ≡ false) self.old (Some at) }
+        ensures sound { IsSound K.cmp self.new }
+        ensures own { IsOwn self.new result }
+        ensures passed { IsPassed (λ k. range_contains K.cmp (bound_map (λ k. k.now) lower.entry) (bound_map (λ k. k.now) upper.entry) k ≡ false) self.new result }
+        ensures same { filter (λ p. not (range_contains K.cmp (bound_map (λ k. k.now) lower.entry) (bound_map (λ k. k.now) upper.entry) p.0)) (pairs_of self.new) ≡ filter (λ p. not (range_contains K.cmp (bound_map (λ k. k.now) lower.entry) (bound_map (λ k. k.now) upper.entry) p.0)) (pairs_of self.old) }
+        ensures fewer { rest (leaves_of self.new) result < rest (leaves_of self.old) (Some at) }
+        ensures depth { self.new.height ≤ self.old.height }
+    {
+        let _ = lower;
+        let _ = upper;
+        let next = match self.leaves.get(at) {
+            Some(leaf) => leaf.next,
+            None => unreachable!(),
+        };
+        self.release(fork, at);
+        next
     }
 
     /// The leaf where the pairs within a lower bound begin, if there is one.

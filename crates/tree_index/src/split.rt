@@ -1,6 +1,6 @@
 //! Room for one more pair: what is full on the way to its key is split.
 
-ghost use Rattle.std.specs.Prelude.{◌≡◌, ◌≢◌, ◌≤◌, ◌<◌, ◌+◌, ◌-◌, ◌==◌, ℕ, IfSome, IfOk, OnOk, OnErr, Some, None, true, false, not, nat_lt, cond, length};
+ghost use Rattle.std.specs.Prelude.{◌≡◌, ◌≢◌, ◌≤◌, ◌<◌, ◌+◌, ◌-◌, ◌^◌, ◌==◌, ℕ, IfSome, IfOk, OnOk, OnErr, Some, None, true, false, not, nat_lt, cond, length};
 ghost use Rattle.std.specs.Option.{option_map};
 ghost use Rattle.leaf_array.specs.Values.{ClonesAreSame};
 ghost use Rattle.slab.specs.Slab.{get, HasRoomFor, slab_len};
@@ -47,10 +47,11 @@ impl<K: Ord, V> Arenas<K, V> {
             return Ok(());
         }
         let cut = self.cut(at, key)?;
+        let Some(most) = self.height.checked_add(1) else {
+            return Err(AllocError);
+        };
         self.leaves.reserve(1)?;
-        self.nodes.reserve(1)?;
-        let _ = self.nodes.capacity();
-        self.nodes.reserve(self.height + 1)?;
+        self.nodes.reserve(most)?;
         let above = self.split_nodes(key);
         self.split_leaf(above, at, key, cut);
         Ok(())
@@ -167,6 +168,7 @@ impl<K: Ord, V> Arenas<K, V> {
         K: Drop,
         requires sound { IsSound K.cmp self.old }
         requires planted { self.old.height ≢ 0 }
+        requires short { self.old.height + 1 < 2 ^ 64 }
         requires nodes { HasRoomFor self.old.nodes (self.old.height + 1) }
         ensures sound { IsSound K.cmp self.new }
         ensures pairs { pairs_of self.new ≡ pairs_of self.old }
@@ -200,6 +202,7 @@ impl<K: Ord, V> Arenas<K, V> {
         K: Drop,
         requires sound { IsSound K.cmp self.old }
         requires planted { self.old.height ≢ 0 }
+        requires short { self.old.height + 1 < 2 ^ 64 }
         requires room { HasRoomFor self.old.nodes 1 }
         ensures sound { IsSound K.cmp self.new }
         ensures pairs { pairs_of self.new ≡ pairs_of self.old }
@@ -215,7 +218,6 @@ impl<K: Ord, V> Arenas<K, V> {
             children: Array::new(),
             last: self.root,
         });
-        let _ = self.nodes.len();
         self.height += 1;
     }
 

@@ -11,6 +11,7 @@ mod leaf;
 mod node;
 mod refusals;
 mod removal;
+mod shrink;
 
 /// The leaf of a tree on the way to a key, from the root down: a child has one node less down to a leaf, so
 /// the way ends, at a node over leaves.

@@ -181,3 +181,15 @@ fn random_calls_answer_as_a_plain_list_does(rt: HostRuntime) -> Result<(), Fail>
     }
     Ok(())
 }
+
+#[test]
+fn the_pair_behind_one_other_is_removed(rt: HostRuntime) {
+    let mut array = holding(&[10, 20, 30]);
+    if array.len() > 1 {
+        array.bury(1);
+    }
+    assert_eq!(rt; array.len(), 2);
+    assert!(rt; array.search_val(&20).is_none());
+    assert_eq!(rt; array.search_val(&30), Some(&30));
+    assert_eq!(rt; array.last_removed(), Some(&20));
+}

@@ -193,7 +193,7 @@ fn jumps_along<R: Abort>(rt: &R, tree: &TreeIndex<u64, u64>, last: u64, gap: (u6
 }
 
 #[test]
-fn jumps_go_over_leaves_that_were_emptied(rt: HostRuntime) -> Result<(), Fail> {
+fn jumps_go_over_keys_whose_leaves_left_the_tree(rt: HostRuntime) -> Result<(), Fail> {
     let mut tree: TreeIndex<u64, u64> = TreeIndex::new(rt.alloc());
     for key in 0..150u64 {
         assert!(rt; tree.insert_sync(key, !key).is_ok());
@@ -203,12 +203,10 @@ fn jumps_go_over_leaves_that_were_emptied(rt: HostRuntime) -> Result<(), Fail> {
         assert!(rt; tree.remove_sync(&key));
     }
     jumps_along(&rt, &tree, 149, (40, 110));
-    let emptied = leaf_at(&rt, &tree, 70);
-    assert!(rt; emptied.array.is_empty());
-    let mut forth = Iter::new(emptied);
-    assert_eq!(rt; forth.jump(&tree), Some((&110, &!110)));
-    let mut back = RevIter::new(emptied);
-    assert_eq!(rt; back.jump(&tree), Some((&39, &!39)));
+    // the way to a key that is gone leads to a leaf that has pairs
+    for key in 40..110u64 {
+        assert!(rt; !leaf_at(&rt, &tree, key).array.is_empty());
+    }
     Ok(())
 }
 

@@ -116,16 +116,3 @@ fn cursors_jump_from_a_leaf_of_a_tree_to_the_next(rt: HostRuntime) -> Result<(),
     assert_eq!(rt; seen, 40);
     Ok(())
 }
-
-#[test]
-fn an_emptied_leaf_of_a_tree_leads_to_both_sides(rt: HostRuntime) -> Result<(), Fail> {
-    let mut tree = evens(&rt, rt.alloc(), 100);
-    for i in 20..80u64 {
-        assert!(rt; tree.remove_sync(&i.wrapping_mul(2)));
-    }
-    let leaf = leaf_at(&rt, &tree, 100);
-    assert!(rt; leaf.array.is_empty());
-    assert_eq!(rt; Iter::new(leaf).jump(&tree), Some((&160, &161)));
-    assert_eq!(rt; RevIter::new(leaf).jump(&tree), Some((&38, &39)));
-    Ok(())
-}

@@ -17,13 +17,9 @@ pub returns-in_err-reserve-2-clause-sound : goal.returns-in_err-reserve-2-clause
 returns-in_err-reserve-2-clause-sound g c =
     roomier_sound g.K.Ord.cmp c.args.self.now c.reserve.new.self c.reserve-2.new.self (ap (λ (s : Slab (Leaf g.row.K.Denot g.row.V.Denot)). s.slots) c.reserve.ensures.rest_kept) (ap (λ (s : Slab (Branches g.row.K.Denot)). s.slots) c.reserve-2.ensures.rest_kept) c.requires.sound
 
-pub returns-in_err-reserve-3-clause-sound : goal.returns-in_err-reserve-3-clause-sound
-returns-in_err-reserve-3-clause-sound g c =
-    roomier_sound g.K.Ord.cmp c.args.self.now c.reserve.new.self c.reserve-3.new.self (ap (λ (s : Slab (Leaf g.row.K.Denot g.row.V.Denot)). s.slots) c.reserve.ensures.rest_kept) (ap (λ (s : Slab (Branches g.row.K.Denot)). s.slots) c.reserve-3.ensures.rest_kept ∙ ap (λ (s : Slab (Branches g.row.K.Denot)). s.slots) c.reserve-2.ensures.rest_kept) c.requires.sound
-
 pub split_nodes-above-requires-clause-sound : goal.split_nodes-above-requires-clause-sound
 split_nodes-above-requires-clause-sound g c =
-    roomier_sound g.K.Ord.cmp c.args.self.now c.reserve.new.self c.reserve-3.new.self (ap (λ (s : Slab (Leaf g.row.K.Denot g.row.V.Denot)). s.slots) c.reserve.ensures.rest_kept) (ap (λ (s : Slab (Branches g.row.K.Denot)). s.slots) c.reserve-3.ensures.rest_kept ∙ ap (λ (s : Slab (Branches g.row.K.Denot)). s.slots) c.reserve-2.ensures.rest_kept) c.requires.sound
+    roomier_sound g.K.Ord.cmp c.args.self.now c.reserve.new.self c.reserve-2.new.self (ap (λ (s : Slab (Leaf g.row.K.Denot g.row.V.Denot)). s.slots) c.reserve.ensures.rest_kept) (ap (λ (s : Slab (Branches g.row.K.Denot)). s.slots) c.reserve-2.ensures.rest_kept) c.requires.sound
 
 pub returns-in_err-reserve-clause-ascents : goal.returns-in_err-reserve-clause-ascents
 returns-in_err-reserve-clause-ascents g c =
@@ -33,13 +29,9 @@ pub returns-in_err-reserve-2-clause-ascents : goal.returns-in_err-reserve-2-clau
 returns-in_err-reserve-2-clause-ascents g c =
     on_err c.from_residual-in_err-reserve-2.result (roomier_ascents g.K.Ord.cmp c.args.self.now c.reserve.new.self c.reserve-2.new.self (ap (λ (s : Slab (Leaf g.row.K.Denot g.row.V.Denot)). s.slots) c.reserve.ensures.rest_kept) (ap (λ (s : Slab (Branches g.row.K.Denot)). s.slots) c.reserve-2.ensures.rest_kept))
 
-pub returns-in_err-reserve-3-clause-ascents : goal.returns-in_err-reserve-3-clause-ascents
-returns-in_err-reserve-3-clause-ascents g c =
-    on_err c.from_residual-in_err-reserve-3.result (roomier_ascents g.K.Ord.cmp c.args.self.now c.reserve.new.self c.reserve-3.new.self (ap (λ (s : Slab (Leaf g.row.K.Denot g.row.V.Denot)). s.slots) c.reserve.ensures.rest_kept) (ap (λ (s : Slab (Branches g.row.K.Denot)). s.slots) c.reserve-3.ensures.rest_kept ∙ ap (λ (s : Slab (Branches g.row.K.Denot)). s.slots) c.reserve-2.ensures.rest_kept))
-
 pub returns-clause-pairs : goal.returns-clause-pairs
 returns-clause-pairs g c =
-    c.split_leaf.ensures.pairs ∙ c.split_nodes-above.ensures.pairs ∙ roomier_pairs g.K.Ord.cmp c.args.self.now c.reserve.new.self c.reserve-3.new.self (ap (λ (s : Slab (Leaf g.row.K.Denot g.row.V.Denot)). s.slots) c.reserve.ensures.rest_kept) (ap (λ (s : Slab (Branches g.row.K.Denot)). s.slots) c.reserve-3.ensures.rest_kept ∙ ap (λ (s : Slab (Branches g.row.K.Denot)). s.slots) c.reserve-2.ensures.rest_kept)
+    c.split_leaf.ensures.pairs ∙ c.split_nodes-above.ensures.pairs ∙ roomier_pairs g.K.Ord.cmp c.args.self.now c.reserve.new.self c.reserve-2.new.self (ap (λ (s : Slab (Leaf g.row.K.Denot g.row.V.Denot)). s.slots) c.reserve.ensures.rest_kept) (ap (λ (s : Slab (Branches g.row.K.Denot)). s.slots) c.reserve-2.ensures.rest_kept)
 
 pub returns-clause-ascending : goal.returns-clause-ascending
 returns-clause-ascending g c above some =
@@ -47,10 +39,10 @@ returns-clause-ascending g c above some =
     let o = g.met.K.Ord.total in
     let key = c.args.key.now in
     let a = c.args.self.now in
-    let b : Arenas g.row.K.Denot g.row.V.Denot = record { leaves = c.reserve.new.self; nodes = c.reserve-3.new.self; root = a.root; height = a.height; len = a.len } in
-    let same : ascents cmp b ≡ ascents cmp a = roomier_ascents cmp a c.reserve.new.self c.reserve-3.new.self (ap (λ (s : Slab (Leaf g.row.K.Denot g.row.V.Denot)). s.slots) c.reserve.ensures.rest_kept) (ap (λ (s : Slab (Branches g.row.K.Denot)). s.slots) c.reserve-3.ensures.rest_kept ∙ ap (λ (s : Slab (Branches g.row.K.Denot)). s.slots) c.reserve-2.ensures.rest_kept) in
-    let pairs : pairs_of b ≡ pairs_of a = roomier_pairs cmp a c.reserve.new.self c.reserve-3.new.self (ap (λ (s : Slab (Leaf g.row.K.Denot g.row.V.Denot)). s.slots) c.reserve.ensures.rest_kept) (ap (λ (s : Slab (Branches g.row.K.Denot)). s.slots) c.reserve-3.ensures.rest_kept ∙ ap (λ (s : Slab (Branches g.row.K.Denot)). s.slots) c.reserve-2.ensures.rest_kept) in
-    let full : IsLeafFull cmp key b = roomier_full cmp a c.reserve.new.self c.reserve-3.new.self key (ap (λ (s : Slab (Leaf g.row.K.Denot g.row.V.Denot)). s.slots) c.reserve.ensures.rest_kept) (ap (λ (s : Slab (Branches g.row.K.Denot)). s.slots) c.reserve-3.ensures.rest_kept ∙ ap (λ (s : Slab (Branches g.row.K.Denot)). s.slots) c.reserve-2.ensures.rest_kept) (c.is_crowded.ensures.full c.if-not-is_crowded.false c.requires.full) in
+    let b : Arenas g.row.K.Denot g.row.V.Denot = record { leaves = c.reserve.new.self; nodes = c.reserve-2.new.self; root = a.root; height = a.height; len = a.len } in
+    let same : ascents cmp b ≡ ascents cmp a = roomier_ascents cmp a c.reserve.new.self c.reserve-2.new.self (ap (λ (s : Slab (Leaf g.row.K.Denot g.row.V.Denot)). s.slots) c.reserve.ensures.rest_kept) (ap (λ (s : Slab (Branches g.row.K.Denot)). s.slots) c.reserve-2.ensures.rest_kept) in
+    let pairs : pairs_of b ≡ pairs_of a = roomier_pairs cmp a c.reserve.new.self c.reserve-2.new.self (ap (λ (s : Slab (Leaf g.row.K.Denot g.row.V.Denot)). s.slots) c.reserve.ensures.rest_kept) (ap (λ (s : Slab (Branches g.row.K.Denot)). s.slots) c.reserve-2.ensures.rest_kept) in
+    let full : IsLeafFull cmp key b = roomier_full cmp a c.reserve.new.self c.reserve-2.new.self key (ap (λ (s : Slab (Leaf g.row.K.Denot g.row.V.Denot)). s.slots) c.reserve.ensures.rest_kept) (ap (λ (s : Slab (Branches g.row.K.Denot)). s.slots) c.reserve-2.ensures.rest_kept) (c.is_crowded.ensures.full c.if-not-is_crowded.false c.requires.full) in
     let over_b : IsAbove cmp key (pairs_of b) = subst (IsAbove cmp key) (sym pairs) above in
     let more : 1 < ascents cmp b = omega (arith, same, some) in
     let still : c.split_nodes-above.new.self ≡ b = c.split_nodes-above.ensures.still (flat_node cmp o key b more c.if-self-eq0.false over_b full) in

@@ -1,4 +1,4 @@
-use Rattle.std.proofs.Common.{arith, inl, refl}
+use Rattle.std.proofs.Common.{inl, refl}
 use Rattle.tree_index.proofs.arenas.Arenas.new.Goals as goal
 
 pub returns-clause-sound : goal.returns-clause-sound
@@ -6,6 +6,5 @@ returns-clause-sound g c =
     record {
       stands = inl (record { flat = refl; empty = λ at. rw c.new.ensures.empty refl });
       linked = λ h. absurd (h refl);
-      tall = omega arith;
       count = rw c.new.ensures.empty refl;
     }

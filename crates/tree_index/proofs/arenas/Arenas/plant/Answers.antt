@@ -25,7 +25,6 @@ returns-clause-sound g c =
     record {
       stands = inr (one, one_node cmp b leaf root l n);
       linked = λ h. rw (one_order cmp b leaf root n) (ap (option_map (λ (l : Leaf g.row.K.Denot g.row.V.Denot). (l.prev, l.next))) c.insert_reserved-leaf.ensures.updates.changed, tt);
-      tall = omega (arith, c.insert_reserved-self.ensures.len);
       count = c.requires.sound.count ∙ ap length none ∙ sym (ap length (one_pairs cmp b leaf root l n));
     }
 

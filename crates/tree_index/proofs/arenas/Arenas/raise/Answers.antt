@@ -11,9 +11,6 @@ use Rattle.tree_index.proofs.NodeLemmas.{planted}
 use Rattle.tree_index.proofs.GrowLemmas.{raised, raised_pairs, raised_order, raised_way}
 use Rattle.tree_index.proofs.arenas.Arenas.raise.Goals as goal
 
-pub overflow_add-self : goal.overflow_add-self
-overflow_add-self g c = omega (arith, c.requires.sound.tall, c.insert_reserved-self.ensures.len, c.len-self.ensures, c.len-self.type_inv)
-
 pub returns-clause-sound : goal.returns-clause-sound
 returns-clause-sound g c =
     let cmp = g.K.Ord.cmp in
@@ -31,7 +28,6 @@ returns-clause-sound g c =
     record {
       stands = inr (λ e. omega (arith, e), subst (λ (n : ℕ). Stands cmp b n fresh) (sym more) (raised cmp (content_of a) b a.height a.root fresh s absent there (λ n d. ap node (up.others n d)) (λ n. refl)));
       linked = λ h. subst (λ ns. IsLinked (links a.leaves) None ns None) (sym (ap (λ (n : ℕ). leaves_under b n fresh) more ∙ raised_order cmp (content_of a) b a.height a.root fresh s absent there (λ n d. ap node (up.others n d)) (λ n. refl))) (c.requires.sound.linked c.requires.planted);
-      tall = omega (arith, c.requires.sound.tall, c.insert_reserved-self.ensures.len);
       count = c.requires.sound.count ∙ sym (ap length (ap (λ (n : ℕ). pairs_under b n fresh) more ∙ pairs));
     }
 

@@ -1,4 +1,4 @@
-use Rattle.std.proofs.Common.{◌≡◌, false, Option, None, sym, ◌∙◌, subst, refl}
+use Rattle.std.proofs.Common.{◌≡◌, false, Option, None, sym, ◌∙◌, subst, refl, arith}
 use Rattle.std.specs.Range.Bound.{bound_map}
 use Rattle.std.specs.BTreeMap.Range.{is_from_start}
 use Rattle.std.specs.Borrow.{Bor}
@@ -16,7 +16,7 @@ loop-next-init g c =
       own = c.leaf_from-next.ensures.own;
       passed = passed_less (λ k. is_from_start cmp lower k ≡ false) (IsOutside cmp lower upper) (before_outside cmp lower upper) c.args.self.now c.leaf_from-next.result c.leaf_from-next.ensures.passed;
       same = refl;
-      depth = refl;
+      depth = omega arith;
     }
 
 pub returns-clause-pairs : goal.returns-clause-pairs

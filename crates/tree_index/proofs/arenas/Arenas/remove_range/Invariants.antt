@@ -1,4 +1,4 @@
-use Rattle.std.proofs.Common.{◌≡◌, not, false}
+use Rattle.std.proofs.Common.{◌≡◌, ◌≤◌, not, false}
 use Rattle.std.specs.List.{filter}
 use Rattle.std.specs.Range.Bound.{bound_map}
 use Rattle.std.specs.BTreeMap.Range.{range_contains}
@@ -13,7 +13,7 @@ invariant-loop-next g l = record {
   own : IsOwn l.self l.next;
   passed : IsPassed (λ k. range_contains g.K.Ord.cmp (bound_map (λ k. k.now) l.fn.lower) (bound_map (λ k. k.now) l.fn.upper) k ≡ false) l.self l.next;
   same : filter (λ p. not (range_contains g.K.Ord.cmp (bound_map (λ k. k.now) l.fn.lower) (bound_map (λ k. k.now) l.fn.upper) p.0)) (pairs_of l.self) ≡ filter (λ p. not (range_contains g.K.Ord.cmp (bound_map (λ k. k.now) l.fn.lower) (bound_map (λ k. k.now) l.fn.upper) p.0)) (pairs_of l.fn.self);
-  depth : l.self.height ≡ l.fn.self.height;
+  depth : l.self.height ≤ l.fn.self.height;
 }
 
 abbrev pub decreases-loop-next : goal.decreases-loop-next

@@ -1,13 +1,18 @@
-use Rattle.std.proofs.Common.{◌≡◌, ℕ, ◌+◌, ◌-◌, ◌≤◌, Some, sym, ap, ◌∙◌, arith}
+use Rattle.std.proofs.Common.{◌≡◌, ℕ, ◌+◌, ◌-◌, ◌≤◌, [], Some, sym, ap, ◌∙◌, arith}
 use Rattle.std.specs.Prelude.{length}
 use Rattle.std.specs.BTreeMap.{is_at}
 use Rattle.std.specs.Map.{lookup_entry}
 use Rattle.slab.specs.Slab.{get}
 use Rattle.leaf_array.specs.Cells.{Cells}
+use Rattle.std.specs.Option.{option_map}
 use Rattle.leaf_array.specs.Edits.{removed}
+use Rattle.tree_index.specs.Shape.{leaf_pairs}
+use Rattle.tree_index.specs.Content.{leaf_on_way}
+use Rattle.tree_index.specs.Walk.{held}
+use Rattle.tree_index.proofs.PruneLemmas.{each_some, no_pairs}
 use Rattle.tree_index.specs.declared.leaf.Leaf.{Leaf}
-use Rattle.tree_index.proofs.ArenaLemmas.{thawed_on_way, leaf_counted, taken_of, taken_written, removed_length, still_sound, kept_written, removed_written, lookup_written, none_sound, bare_pairs}
-use Rattle.tree_index.proofs.arenas.Arenas.remove_if.Goals as goal
+use Rattle.tree_index.proofs.ArenaLemmas.{with_leaf, written_there, thawed_on_way, leaf_counted, taken_of, taken_written, removed_length, still_sound, kept_written, removed_written, lookup_written, none_sound, bare_pairs}
+use Rattle.tree_index.proofs.arenas.Arenas.take_if.Goals as goal
 
 pub remove_if-answer-requires-clause-thawed : goal.remove_if-answer-requires-clause-thawed
 remove_if-answer-requires-clause-thawed g c =
@@ -54,11 +59,11 @@ overflow_add-self g c =
     let s = c.requires.sound in
     let m : Leaf g.row.K.Denot g.row.V.Denot = c.remove_if-answer.new.self in
     let taken = taken_of c.remove_if-answer.result l.array.pairs m.array.pairs (removed cmp key l.array.pairs) c.remove_if-answer.ensures.removed (λ e. ap (λ (x : Cells g.row.K.Denot g.row.V.Denot). x.pairs) (c.remove_if-answer.ensures.kept e)) in
-    let len : ℕ = a.len - c.len-before.result + c.len.result in
-    let w = taken_written cmp o key a s n on l here m len taken c.remove_if-answer.ensures.thawed c.len.ensures.rising in
+    let len : ℕ = a.len - c.len-before.result + c.len-after.result in
+    let w = taken_written cmp o key a s n on l here m len taken c.remove_if-answer.ensures.thawed c.len-after.ensures.rising in
     let shorter = leaf_counted cmp o key a s n on l here in
     let fewer : length m.array.pairs ≤ length l.array.pairs = removed_length cmp key l.array.pairs m.array.pairs taken in
-    omega (arith, c.len-before.ensures.count, c.len.ensures.count, shorter, fewer)
+    omega (arith, c.len-before.ensures.count, c.len-after.ensures.count, shorter, fewer)
 
 pub returns-in-Some-clause-sound : goal.returns-in-Some-clause-sound
 returns-in-Some-clause-sound g c =
@@ -73,9 +78,9 @@ returns-in-Some-clause-sound g c =
     let s = c.requires.sound in
     let m : Leaf g.row.K.Denot g.row.V.Denot = c.remove_if-answer.new.self in
     let taken = taken_of c.remove_if-answer.result l.array.pairs m.array.pairs (removed cmp key l.array.pairs) c.remove_if-answer.ensures.removed (λ e. ap (λ (x : Cells g.row.K.Denot g.row.V.Denot). x.pairs) (c.remove_if-answer.ensures.kept e)) in
-    let len : ℕ = a.len - c.len-before.result + c.len.result in
-    let w = taken_written cmp o key a s n on l here m len taken c.remove_if-answer.ensures.thawed c.len.ensures.rising in
-    still_sound cmp o key a s n on l here m c.len-before.result c.len.result c.remove_if-answer.ensures.prev c.remove_if-answer.ensures.next c.len-before.ensures.count c.len.ensures.count w
+    let len : ℕ = a.len - c.len-before.result + c.len-after.result in
+    let w = taken_written cmp o key a s n on l here m len taken c.remove_if-answer.ensures.thawed c.len-after.ensures.rising in
+    still_sound cmp o key a s n on l here m c.len-before.result c.len-after.result c.remove_if-answer.ensures.prev c.remove_if-answer.ensures.next c.len-before.ensures.count c.len-after.ensures.count w
 
 pub returns-in-Some-clause-absent : goal.returns-in-Some-clause-absent
 returns-in-Some-clause-absent g c e =
@@ -116,8 +121,8 @@ returns-in-Some-clause-removed g c r =
     let s = c.requires.sound in
     let m : Leaf g.row.K.Denot g.row.V.Denot = c.remove_if-answer.new.self in
     let taken = taken_of c.remove_if-answer.result l.array.pairs m.array.pairs (removed cmp key l.array.pairs) c.remove_if-answer.ensures.removed (λ e. ap (λ (x : Cells g.row.K.Denot g.row.V.Denot). x.pairs) (c.remove_if-answer.ensures.kept e)) in
-    let len : ℕ = a.len - c.len-before.result + c.len.result in
-    let w = taken_written cmp o key a s n on l here m len taken c.remove_if-answer.ensures.thawed c.len.ensures.rising in
+    let len : ℕ = a.len - c.len-before.result + c.len-after.result in
+    let w = taken_written cmp o key a s n on l here m len taken c.remove_if-answer.ensures.thawed c.len-after.ensures.rising in
     removed_written cmp o key a s n on l here m len w (c.remove_if-answer.ensures.removed r)
 
 pub returns-in-Some-clause-kept : goal.returns-in-Some-clause-kept
@@ -133,8 +138,8 @@ returns-in-Some-clause-kept g c r =
     let s = c.requires.sound in
     let m : Leaf g.row.K.Denot g.row.V.Denot = c.remove_if-answer.new.self in
     let taken = taken_of c.remove_if-answer.result l.array.pairs m.array.pairs (removed cmp key l.array.pairs) c.remove_if-answer.ensures.removed (λ e. ap (λ (x : Cells g.row.K.Denot g.row.V.Denot). x.pairs) (c.remove_if-answer.ensures.kept e)) in
-    let len : ℕ = a.len - c.len-before.result + c.len.result in
-    let w = taken_written cmp o key a s n on l here m len taken c.remove_if-answer.ensures.thawed c.len.ensures.rising in
+    let len : ℕ = a.len - c.len-before.result + c.len-after.result in
+    let w = taken_written cmp o key a s n on l here m len taken c.remove_if-answer.ensures.thawed c.len-after.ensures.rising in
     kept_written cmp o key a s n on l here m len w (ap (λ (x : Cells g.row.K.Denot g.row.V.Denot). x.pairs) (c.remove_if-answer.ensures.kept r))
 
 pub returns-in-None-clause-asked : goal.returns-in-None-clause-asked
@@ -142,3 +147,23 @@ returns-in-None-clause-asked g c =
     let here = sym (rw c.in-None.is at c.get_mut.ensures.value) in
     let none = ap (lookup_entry (is_at (g.K.Ord.cmp c.args.key.now))) (bare_pairs g.K.Ord.cmp g.met.K.Ord.total c.args.key.now c.args.self.now (none_sound g.K.Ord.cmp g.met.K.Ord.total c.args.key.now c.args.self.now (rw c.leaf_of-at.ensures at here) c.requires.sound)) in
     rw none tt
+
+pub returns-in-Some-clause-emptied : goal.returns-in-Some-clause-emptied
+returns-in-Some-clause-emptied g c =
+    let cmp = g.K.Ord.cmp in
+    let o = g.met.K.Ord.total in
+    let key = c.args.key.now in
+    let a = c.args.self.now in
+    let l : Leaf g.row.K.Denot g.row.V.Denot = c.in-Some.leaf.now in
+    let n = c.leaf_of-at.result in
+    let on = c.leaf_of-at.ensures in
+    let here : get a.leaves n ≡ Some l = sym c.in-Some.ensures.value in
+    let s = c.requires.sound in
+    let m : Leaf g.row.K.Denot g.row.V.Denot = c.remove_if-answer.new.self in
+    let taken = taken_of c.remove_if-answer.result l.array.pairs m.array.pairs (removed cmp key l.array.pairs) c.remove_if-answer.ensures.removed (λ e. ap (λ (x : Cells g.row.K.Denot g.row.V.Denot). x.pairs) (c.remove_if-answer.ensures.kept e)) in
+    let len : ℕ = a.len - c.len-before.result + c.len-after.result in
+    let w = taken_written cmp o key a s n on l here m len taken c.remove_if-answer.ensures.thawed c.len-after.ensures.rising in
+    let new = with_leaf cmp o key a s n on l here m len in
+    each_some (λ (k : ℕ). (k ≡ n) × (c.len-after.result ≡ 0)) (λ (k : ℕ). (k ≡ leaf_on_way cmp key new) × (held new k ≡ [])) c.emptied.result
+    (λ k e. (e.0 ∙ on ∙ sym w.same_way, ap (held new) (e.0 ∙ on) ∙ ap leaf_pairs (ap (option_map (λ (x : Leaf g.row.K.Denot g.row.V.Denot). x.array)) (ap (get new.leaves) (sym w.same_way) ∙ written_there cmp o key a s n on l here m len w)) ∙ no_pairs m.array.pairs (sym c.len-after.ensures.count ∙ e.1)))
+    c.emptied.ensures
