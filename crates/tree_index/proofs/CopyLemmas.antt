@@ -24,16 +24,13 @@ module _ {K V : Type 0} {cmp : K → K → Ordering} (o : IsTotalOrder cmp) wher
         filter_none (λ k. is_lt (cmp key k)) ps (all_weaken (λ k. cmp k key ≡ Less) (λ k. is_lt (cmp key k) ≡ false) (λ k h. ap is_lt (turned o k key h)) ps less),
       ) refl
 
-  front_less : (n : ℕ) (ps : List (K × V)) (p : K × V) → IsAscending cmp ps → slice_get ps n ≡ Some p → AllKeys (λ k. cmp k p.0 ≡ Less) (take n ps)
+  -- what comes before a pair of an ascending list is below it
+  pub front_less : (n : ℕ) (ps : List (K × V)) (p : K × V) → IsAscending cmp ps → slice_get ps n ≡ Some p → AllKeys (λ k. cmp k p.0 ≡ Less) (take n ps)
   front_less n [] p up h = absurd (let e : None ≡ Some p = h in cc)
   front_less zero (q ∷ ps) p up h = tt
   front_less (suc n) (q ∷ ps) p up h = (key_in (λ y. cmp q.0 y ≡ Less) ps n p (sorted_head cmp q.0 (keys_of ps) up) h, front_less n ps p (sorted_tail cmp q.0 (keys_of ps) up) h)
 
-  take_next : (n : ℕ) (ps : List (K × V)) (p : K × V) → slice_get ps n ≡ Some p → take (n + 1) ps ≡ take n ps ++ p ∷ []
+  pub take_next : (n : ℕ) (ps : List (K × V)) (p : K × V) → slice_get ps n ≡ Some p → take (n + 1) ps ≡ take n ps ++ p ∷ []
   take_next n [] p h = absurd (let e : None ≡ Some p = h in cc)
   take_next zero (q ∷ ps) p h = ap (λ x. x ∷ []) (some_same h)
   take_next (suc n) (q ∷ ps) p h = let more : suc n + 1 ≡ suc (n + 1) = omega arith in ap (λ k. take k (q ∷ ps)) more ∙ ap (λ xs. q ∷ xs) (take_next n ps p h)
-
-  -- the front of an ascending list grows by upserts
-  pub upserted_front : (n : ℕ) (ps : List (K × V)) (p : K × V) → IsAscending cmp ps → slice_get ps n ≡ Some p → upserted cmp p.0 p.1 (take n ps) ≡ take (n + 1) ps
-  upserted_front n ps p up h = upserted_behind p.0 p.1 (take n ps) (front_less n ps p up h) ∙ sym (take_next n ps p h)

@@ -27,6 +27,7 @@ pub mod CopyLemmas
 pub mod ThinLemmas
 pub mod RemovalLemmas
 pub mod WithoutLemmas
+pub mod PushLemmas
 pub mod DepthLemmas
 pub mod LeafArenaLemmas
 pub mod LeafCursorLemmas

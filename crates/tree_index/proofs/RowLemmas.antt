@@ -64,9 +64,18 @@ by_last (x ∷ xs) = inr (later x xs)
     later x [] = ([], x, refl)
     later x (y ∷ xs) = let r = later y xs in (x ∷ r.0, r.1, ap (λ ks. x ∷ ks) r.2)
 
-last_append : (b : Option ℕ) (ys : List ℕ) (n : ℕ) → last_or b (ys ++ n ∷ []) ≡ Some n
+pub last_append : (b : Option ℕ) (ys : List ℕ) (n : ℕ) → last_or b (ys ++ n ∷ []) ≡ Some n
 last_append b [] n = refl
 last_append b (y ∷ ys) n = last_append (Some y) ys n
+
+pub row_end : (xs : List ℕ) (n : ℕ) → last_or None xs ≡ Some n → (ys : List ℕ) × (xs ≡ ys ++ n ∷ [])
+row_end xs n h = split (by_last xs)
+  where
+    split : (xs ≡ []) ⊎ ((ys : List ℕ) × (m : ℕ) × (xs ≡ ys ++ m ∷ [])) → (ys : List ℕ) × (xs ≡ ys ++ n ∷ [])
+    split (inl e) = absurd (let x : None ≡ Some n = sym (ap (last_or None) e) ∙ h in cc)
+    split (inr r) =
+        let same : r.1 ≡ n = some_same (sym (last_append None r.0 r.1) ∙ sym (ap (last_or None) r.2) ∙ h) in
+        (r.0, r.2 ∙ ap (λ k. r.0 ++ k ∷ []) same)
 
 -- how many come up to a number
 abbrev pub reach : List ℕ → Option ℕ → ℕ

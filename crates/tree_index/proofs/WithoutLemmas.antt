@@ -15,6 +15,7 @@ use Rattle.std.proofs.lemmas.List.Elements.{filter-append}
 use Rattle.std.proofs.lemmas.Map.Keys.{sorted_head, sorted_tail}
 use Rattle.std.proofs.lemmas.Bool.Decides.{eqb_tells}
 use Rattle.slab.specs.Slab.{get}
+use Rattle.leaf_array.specs.Cells.{Cells}
 use Rattle.leaf_array.specs.Pairs.{IsAscending}
 use Rattle.tree_index.specs.declared.leaf.Leaf.{Leaf}
 use Rattle.tree_index.specs.declared.arenas.Arenas.{Arenas}
@@ -26,7 +27,7 @@ use Rattle.tree_index.specs.Prune.{IsWithout}
 use Rattle.tree_index.specs.Walk.{held, rest, IsOwn, IsPassed}
 use Rattle.tree_index.proofs.ShapeLemmas.{all_weaken}
 use Rattle.tree_index.proofs.LeafLemmas.{filter_none}
-use Rattle.tree_index.proofs.WayLemmas.{some_same, around, leaf_there}
+use Rattle.tree_index.proofs.WayLemmas.{some_same, Around, around, leaf_there}
 use Rattle.tree_index.proofs.ChainLemmas.{times_append, first_times}
 use Rattle.tree_index.proofs.RowLemmas.{parting, before_parted, gathered_parted, linked_at}
 use Rattle.tree_index.proofs.RisingLemmas.{to_keys}
@@ -85,15 +86,31 @@ module _ {K V : Type 0} (P : K → Type 0) where
   key_held [] first h a = absurd (let e : None ≡ Some first = h in cc)
   key_held (p ∷ ps) first h a = subst P (some_same h) a.0
 
-  part_of : (xs ys : List (K × V)) → AllKeys P (xs ++ ys) → AllKeys P xs × AllKeys P ys
+  pub part_of : (xs ys : List (K × V)) → AllKeys P (xs ++ ys) → AllKeys P xs × AllKeys P ys
   part_of [] ys a = (tt, a)
   part_of (x ∷ xs) ys a = let r = part_of xs ys a.1 in ((a.0, r.0), r.1)
 
   -- what holds of all that leaves hold, holds of each
-  leaf_keys : (f : ℕ → List (K × V)) (n : ℕ) (ns : List ℕ) → times n ns ≢ 0 → AllKeys P (gathered f ns) → AllKeys P (f n)
+  pub leaf_keys : (f : ℕ → List (K × V)) (n : ℕ) (ns : List ℕ) → times n ns ≢ 0 → AllKeys P (gathered f ns) → AllKeys P (f n)
   leaf_keys f n ns h a =
       let p = parting n ns h in
       (part_of (f n) (gathered f p.rear) (part_of (gathered f p.fore) (f n ++ gathered f p.rear) (subst (AllKeys P) (gathered_parted f n ns p.fore p.rear p.all) a)).1).0
+
+-- what stands behind the leaf on the way to a key
+module _ {K V : Type 0} (cmp : K → K → Ordering) (o : IsTotalOrder cmp) (key : K) (a : Arenas K V) (s : IsSound cmp a) (planted : a.height ≢ 0) where
+  abbrev way_leaf : (c : Cells K V) × ((content_of a).leaf (leaf_on_way cmp key a) ≡ Some c)
+  way_leaf = leaf_there cmp o key (content_of a) a.height a.root (stands_of cmp a s planted).tree
+
+  abbrev pub way_around : Around cmp o key (content_of a) a.height a.root (leaf_on_way cmp key a) way_leaf.0
+  way_around = around cmp o key (content_of a) a.height a.root way_leaf.0 (stands_of cmp a s planted).tree way_leaf.1
+
+  pub rights_hold : gathered (held a) way_around.rights ≡ way_around.back
+  rights_hold =
+      let r = way_around in
+      let at = leaf_on_way cmp key a in
+      let all : gathered (held a) r.lefts ++ (held a at ++ gathered (held a) r.rights) ≡ gathered (held a) r.lefts ++ (way_leaf.0.pairs ++ r.back) = sym (gathered_parted (held a) at (leaves_of a) r.lefts r.rights r.order) ∙ sym (all_held a) ∙ r.pairs ∙ ap (λ ps. ps ++ (way_leaf.0.pairs ++ r.back)) r.fore in
+      let same : held a at ≡ way_leaf.0.pairs = ap leaf_pairs way_leaf.1 in
+      append_cancel_left way_leaf.0.pairs (gathered (held a) r.rights) r.back (ap (λ ps. ps ++ gathered (held a) r.rights) (sym same) ∙ append_cancel_left (gathered (held a) r.lefts) (held a at ++ gathered (held a) r.rights) (way_leaf.0.pairs ++ r.back) all)
 
 module _ {K V : Type 0} (cmp : K → K → Ordering) (o : IsTotalOrder cmp) (a : Arenas K V) (s : IsSound cmp a) (n : ℕ) (own : IsOwn a (Some n)) (l : Leaf K V) (here : get a.leaves n ≡ Some l) (key : K) (there : key_at l.array.pairs 0 ≡ Some key) where
   apart : cmp key key ≢ Less
@@ -105,13 +122,9 @@ module _ {K V : Type 0} (cmp : K → K → Ordering) (o : IsTotalOrder cmp) (a :
   -- the way to the first key of a leaf leads to that leaf
   pub own_way : n ≡ leaf_on_way cmp key a
   own_way =
-      let tree = (stands_of cmp a s own.0).tree in
-      let w = leaf_there cmp o key (content_of a) a.height a.root tree in
-      let r = around cmp o key (content_of a) a.height a.root w.0 tree w.1 in
+      let r = way_around cmp o key a s own.0 in
       let at = leaf_on_way cmp key a in
-      let all : gathered (held a) r.lefts ++ (held a at ++ gathered (held a) r.rights) ≡ gathered (held a) r.lefts ++ (w.0.pairs ++ r.back) = sym (gathered_parted (held a) at (leaves_of a) r.lefts r.rights r.order) ∙ sym (all_held a) ∙ r.pairs ∙ ap (λ ps. ps ++ (w.0.pairs ++ r.back)) r.fore in
-      let same : held a at ≡ w.0.pairs = ap leaf_pairs w.1 in
-      let behind : gathered (held a) r.rights ≡ r.back = append_cancel_left w.0.pairs (gathered (held a) r.rights) r.back (ap (λ ps. ps ++ gathered (held a) r.rights) (sym same) ∙ append_cancel_left (gathered (held a) r.lefts) (held a at ++ gathered (held a) r.rights) (w.0.pairs ++ r.back) all) in
+      let behind = rights_hold cmp o key a s own.0 in
       let counted : times n r.lefts + (cond (at == n) 1 0 + times n r.rights) ≢ 0 = λ z. own.1 (ap (times n) r.order ∙ times_append n r.lefts (at ∷ r.rights) ∙ z) in
       let left : times n r.lefts ≡ 0 = by_zero (times n r.lefts) (λ d. apart (in_leaf (λ k. cmp k key ≡ Less) (leaf_keys (λ k. cmp k key ≡ Less) (held a) n r.lefts d (subst (AllKeys (λ k. cmp k key ≡ Less)) r.fore r.before)))) in
       let right : times n r.rights ≡ 0 = by_zero (times n r.rights) (λ d. apart (in_leaf (λ k. cmp key k ≡ Less) (leaf_keys (λ k. cmp key k ≡ Less) (held a) n r.rights d (subst (AllKeys (λ k. cmp key k ≡ Less)) (sym behind) r.behind)))) in

@@ -5,6 +5,7 @@ pub mod Content
 pub mod Depth
 pub mod Walk
 pub mod Prune
+pub mod Push
 pub mod Cursor
 pub mod Ends
 pub mod LeafCursor

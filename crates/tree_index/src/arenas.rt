@@ -17,7 +17,7 @@ use crate::leaf::Leaf;
 use crate::node::Branches;
 use leaf_array::InsertResult;
 use slab::Slab;
-use std::alloc::Global;
+use std::alloc::{AllocError, Global};
 
 /// The leaves, the nodes, where the way down starts, how many nodes it has, and how many pairs there are.
 ///
@@ -44,6 +44,28 @@ impl<K: Ord, V> Arenas<K, V> {
             height: 0,
             len: 0,
         }
+    }
+
+    /// The same with room for so many pairs that come by rising keys: fifteen to a leaf, and where these are
+    /// more than a node has, eight children to a node, and places for a split.
+    pub(crate) fn with_capacity(alloc: Global, pairs: usize) -> Result<Self, AllocError>
+    where
+        K: Drop,
+        V: Drop,
+        ensures sound { IfOk result (λ a. IsSound K.cmp a) }
+        ensures empty { IfOk result (λ a. pairs_of a ≡ []) }
+        ensures flat { IfOk result (λ a. a.height ≡ 0) }
+    {
+        let count = pairs / 15 + 1;
+        let leaves = Slab::with_capacity(alloc, count)?;
+        let nodes = Slab::with_capacity(alloc, if count > 16 { count / 7 + 8 } else { 3 })?;
+        Ok(Arenas {
+            leaves,
+            nodes,
+            root: 0,
+            height: 0,
+            len: 0,
+        })
     }
 
     /// The number of what stands at a height on the way to a key: a node, or at the height 0 a leaf.

@@ -7,8 +7,8 @@ use crate::index::TreeIndex;
 use std::alloc::{AllocError, Global};
 
 impl<K: Ord, V> TreeIndex<K, V> {
-    /// A tree with clones of all pairs, by one pass over them. Where memory is refused there is none, and
-    /// what was cloned is dropped.
+    /// A tree with clones of all pairs, by one pass over them: each goes behind the last one, into room that was
+    /// made ahead. Where memory is refused there is none, and what was cloned is dropped.
     pub fn clone(&self, alloc: Global) -> Result<TreeIndex<K, V>, AllocError>
     where
         K: Clone + Drop,
@@ -17,11 +17,11 @@ impl<K: Ord, V> TreeIndex<K, V> {
         requires values { ClonesAreSame V.is_clone }
         ensures { IfOk result (λ t. t.pairs ≡ self.now.pairs) }
     {
-        let mut copy = TreeIndex::new(alloc);
+        let mut copy = TreeIndex::with_capacity(alloc, self.arenas.len)?;
         let mut next = self.arenas.first_from(self.arenas.first_leaf());
         while let Some(spot) = next {
             let (key, val) = spot.pair();
-            match copy.upsert_sync(key.clone()?, val.clone()?) {
+            match copy.push_last(key.clone()?, val.clone()?) {
                 Ok(()) => next = self.arenas.behind(spot),
                 Err(_) => return Err(AllocError),
             }

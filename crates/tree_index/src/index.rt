@@ -1,6 +1,6 @@
 //! The tree as users see it.
 
-ghost use Rattle.std.specs.Prelude.{◌≡◌, ◌≤◌, ◌<◌, ◌^◌, ◌+◌, ◌==◌, ◌↔◌, IsTrue, IsSome, IfSome, IfErr, OnOk, OnErr, IsOk, IfOk, MatchOption, [], Some, None, true, false, not, length, option_copied};
+ghost use Rattle.std.specs.Prelude.{◌≡◌, ◌≤◌, ◌<◌, ◌^◌, ◌+◌, ◌==◌, ◌↔◌, IsTrue, IsSome, IfSome, IfErr, OnOk, OnErr, IsOk, IfOk, MatchOption, [], ◌∷◌, ◌++◌, Some, None, true, false, not, length, option_copied};
 ghost use Rattle.std.specs.BTreeMap.{is_at};
 ghost use Rattle.std.specs.Map.{lookup_entry};
 ghost use Rattle.std.specs.Fn.{FnOnceReturnsAt, FnOnceTakesAt};
@@ -25,7 +25,7 @@ use crate::node::{Node, Standing};
 use crate::proximity::Proximity;
 use crate::range::Range;
 use leaf_array::InsertResult;
-use std::alloc::Global;
+use std::alloc::{AllocError, Global};
 use std::marker::Model;
 use std::ops::Bound;
 
@@ -72,6 +72,20 @@ impl<K: Ord, V> TreeIndex<K, V> {
         TreeIndex {
             arenas: Arenas::new(alloc),
         }
+    }
+
+    /// A tree without pairs, with room for so many that come by rising keys. Where memory is refused there is none.
+    pub fn with_capacity(alloc: Global, pairs: usize) -> Result<Self, AllocError>
+    where
+        K: Drop,
+        V: Drop,
+        ensures empty { IfOk result (λ t. t.pairs ≡ []) }
+        ensures flat { IfOk result (λ t. t.depth ≡ 0) }
+        ensures ascents { IfOk result (λ t. t.ascents ≡ 241) }
+    {
+        Ok(TreeIndex {
+            arenas: Arenas::with_capacity(alloc, pairs)?,
+        })
     }
 
     /// Drops all pairs. The depth is 0 again.
@@ -151,6 +165,29 @@ impl<K: Ord, V> TreeIndex<K, V> {
         ensures refused { OnErr result (self.new ≡ self.old) }
     {
         match self.arenas.put::<true>(key, val) {
+            InsertResult::Success => Ok(()),
+            InsertResult::Duplicate(key, val) => Err((key, val)),
+            InsertResult::Full(key, val) => Err((key, val)),
+        }
+    }
+
+    /// Puts a pair behind all others, whose keys are lesser, without a search. Where memory is refused the
+    /// pair comes back, and the tree stays as it was.
+    ///
+    /// It stands in the last leaf, or where that is full in a new one. A tree of `usize::MAX` pairs takes
+    /// no more: that is answered as memory.
+    #[inline]
+    pub fn push_last(&mut self, key: K, val: V) -> Result<(), (K, V)>
+    where
+        K: Clone + Drop,
+        V: Drop,
+        requires clones { ClonesAreSame K.is_clone }
+        requires above { IsAbove K.cmp key self.old.pairs }
+        ensures pushed { OnOk result (self.new.pairs ≡ self.old.pairs ++ (key, val) ∷ []) }
+        ensures back { IfErr result (λ e. e ≡ (key, val)) }
+        ensures refused { OnErr result (self.new ≡ self.old) }
+    {
+        match self.arenas.push(key, val) {
             InsertResult::Success => Ok(()),
             InsertResult::Duplicate(key, val) => Err((key, val)),
             InsertResult::Full(key, val) => Err((key, val)),

@@ -9,7 +9,8 @@
 //! pairs.max_key(); // Some(&2)
 //! ```
 
-ghost use Rattle.std.specs.Prelude.{◌≡◌, ◌≤◌, ◌<◌, ◌+◌, ◌-◌, ◌||◌, ◌&&◌, ◌==◌, IsTrue, IsSome, IfSome, IfOk, Some, None, true, false, not, cond, length, slice_get, take, drop};
+ghost use Rattle.std.specs.Prelude.{◌≡◌, ◌≤◌, ◌<◌, ◌+◌, ◌-◌, ◌||◌, ◌&&◌, ◌==◌, IsTrue, IsSome, IfSome, IfOk, Some, None, true, false, not, cond, length, slice_get, take, drop, [], ◌∷◌, ◌++◌};
+ghost use Rattle.std.specs.declared.cmp.Ordering.TheVariants.{Less};
 ghost use Rattle.std.specs.BTreeMap.{is_at};
 ghost use Rattle.std.specs.Map.{lookup_entry};
 ghost use Rattle.std.specs.Fn.{FnOnceReturnsAt, FnOnceTakesAt};
@@ -89,6 +90,21 @@ impl<K: Ord, V> Leaf<K, V> {
     {
         let _ = self.array.len();
         self.array.insert::<UPSERT>(key, val)
+    }
+
+    /// Puts a pair behind all others, whose keys are lesser.
+    #[inline(always)]
+    pub(crate) fn push(&mut self, key: K, val: V)
+        requires room { self.old.array.used < 15 }
+        requires above { AllKeys (λ k. K.cmp k key ≡ Less) self.old.array.pairs }
+        ensures pairs { self.new.array.pairs ≡ self.old.array.pairs ++ (key, val) ∷ [] }
+        ensures rising { IsAscending K.cmp self.new.array.pairs }
+        ensures frozen { self.new.array.frozen ≡ self.old.array.frozen }
+        ensures prev { self.new.prev ≡ self.old.prev }
+        ensures next { self.new.next ≡ self.old.next }
+    {
+        self.array.push_last(key, val);
+        let _ = self.array.len();
     }
 
     /// Removes the pair with this key, if the condition answers true of its value.

@@ -30,6 +30,7 @@ pub mod leaf;
 pub mod node;
 mod proximity;
 mod prune;
+mod push;
 mod range;
 mod removal;
 mod split;

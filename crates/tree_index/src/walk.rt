@@ -1,6 +1,6 @@
 //! From pair to pair, along the leaves.
 
-ghost use Rattle.std.specs.Prelude.{◌≡◌, ◌≢◌, ◌≤◌, ◌<◌, ◌+◌, ◌-◌, ◌||◌, MatchOption, IfSome, IfNone, Some, None, [], suc, cond, length, slice_get};
+ghost use Rattle.std.specs.Prelude.{◌≡◌, ◌≢◌, ◌≤◌, ◌<◌, ◌+◌, ◌-◌, ◌||◌, MatchOption, IfSome, IfNone, Some, None, ℕ, List, [], ◌∷◌, ◌++◌, suc, cond, length, slice_get};
 ghost use Rattle.std.specs.Range.Bound.{bound_map};
 ghost use Rattle.std.specs.declared.ops.Bound.TheVariants.{Included, Excluded, Unbounded};
 ghost use Rattle.tree_index.specs.Chain.{first_or};
@@ -62,6 +62,7 @@ impl<K: Ord, V> Arenas<K, V> {
         requires { IsSound K.cmp self.now }
         ensures own { IsOwn self.now result }
         ensures last { ends_at self.now result ≡ length (pairs_of self.now) }
+        ensures order { IfSome result (λ n. (fore : List ℕ) × (leaves_of self.now ≡ fore ++ n ∷ [])) }
     {
         if self.height == 0 {
             return None;

@@ -9,6 +9,7 @@ mod index;
 mod large;
 mod leaf;
 mod node;
+mod push;
 mod refusals;
 mod removal;
 mod shrink;

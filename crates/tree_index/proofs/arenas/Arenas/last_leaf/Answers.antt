@@ -4,7 +4,7 @@ use Rattle.leaf_array.specs.Cells.{Cells}
 use Rattle.tree_index.specs.declared.node.Branches.{Branches}
 use Rattle.tree_index.specs.Shape.{Content, IsTree, leaves_under}
 use Rattle.tree_index.specs.Content.{content_of, leaves_of}
-use Rattle.tree_index.proofs.RowLemmas.{last_or}
+use Rattle.tree_index.proofs.RowLemmas.{last_or, row_end}
 use Rattle.tree_index.proofs.WalkLemmas.{IsEdge, last_step, last_is_own}
 use Rattle.tree_index.proofs.arenas.Arenas.last_leaf.Goals as goal
 
@@ -36,3 +36,10 @@ returns-clause-last g c =
     let flat : c.loop-height.height ≡ zero = omega (arith, c.loop-height-test.false) in
     let last : last_or None (leaves_of a) ≡ Some c.loop-height.at = sym c.loop-height.invariant.same ∙ ap (λ (k : ℕ). last_or None (leaves_under (content_of a) k c.loop-height.at)) flat in
     (last_is_own g.K.Ord.cmp a c.requires c.if-self-eq0.false c.loop-height.at last).1
+
+pub returns-clause-order : goal.returns-clause-order
+returns-clause-order g c =
+    let a = c.args.self.now in
+    let flat : c.loop-height.height ≡ zero = omega (arith, c.loop-height-test.false) in
+    let last : last_or None (leaves_of a) ≡ Some c.loop-height.at = sym c.loop-height.invariant.same ∙ ap (λ (k : ℕ). last_or None (leaves_under (content_of a) k c.loop-height.at)) flat in
+    row_end (leaves_of a) c.loop-height.at last

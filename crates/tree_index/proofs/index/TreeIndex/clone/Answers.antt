@@ -1,11 +1,11 @@
-use Rattle.std.proofs.Common.{◌≡◌, ◌+◌, ℕ, List, take, sym, ap, ◌∙◌, subst, arith}
-use Rattle.leaf_array.specs.Edits.{upserted}
+use Rattle.std.proofs.Common.{◌≡◌, ◌+◌, ◌++◌, ◌∷◌, [], ℕ, List, take, sym, ap, ◌∙◌, subst, arith}
 use Rattle.tree_index.specs.Content.{pairs_of}
+use Rattle.tree_index.specs.Depth.{IsAbove}
 use Rattle.tree_index.specs.Walk.{position, IsSpot}
 use Rattle.tree_index.proofs.WalkLemmas.{if_none, if_some}
 use Rattle.tree_index.proofs.EndLemmas.{spot_pair, rising_of}
 use Rattle.tree_index.proofs.EqualLemmas.{place, IsPlace, place_of_answer, place_is}
-use Rattle.tree_index.proofs.CopyLemmas.{upserted_front}
+use Rattle.tree_index.proofs.CopyLemmas.{front_less, take_next}
 use Rattle.tree_index.proofs.index.TreeIndex.clone.Goals as goal
 
 pub loop-next-init : goal.loop-next-init
@@ -15,7 +15,7 @@ loop-next-init g c =
     let start : place a r ≡ 0 = place_of_answer a 0 r (if_none r (λ e. sym c.first_leaf.ensures.first ∙ e) c.first_from-next.ensures.none) (if_some r (λ s e. e ∙ c.first_leaf.ensures.first) c.first_from-next.ensures.there) in
     record {
       spot = place_is a r c.first_from-next.ensures.spot;
-      front = c.new-copy.ensures.empty ∙ sym (ap (λ (n : ℕ). take n (pairs_of a)) start);
+      front = c.in_ok-copy.ensures.empty ∙ sym (ap (λ (n : ℕ). take n (pairs_of a)) start);
     }
 
 pub loop-next-smaller : goal.loop-next-smaller
@@ -39,10 +39,23 @@ loop-next-preserved g c =
     let pair = (spot_pair cmp a c.self.invariant c.in-Some.spot spot).0 ∙ c.pair.ensures in
     let key = c.requires.keys _ _ c.in_ok-clone.ensures.cases in
     let val = c.requires.values _ _ c.in_ok-clone-2.ensures.cases in
-    let grown = upserted_front g.met.K.Ord.total n ps _ (rising_of cmp g.met.K.Ord.total a c.self.invariant) pair in
     record {
       spot = place_is a c.behind-next.result c.behind-next.ensures.spot;
       front =
-          c.in-Ok.ensures.upserted ∙ ap (λ k. upserted cmp k c.in_ok-clone-2.field-0 c.loop-next.copy.pairs) key ∙ ap (λ v. upserted cmp c.pair.result.0.now v c.loop-next.copy.pairs) val
-          ∙ ap (upserted cmp c.pair.result.0.now c.pair.result.1.now) (c.loop-next.invariant.front ∙ ap (λ (m : ℕ). take m ps) at) ∙ grown ∙ sym (ap (λ (m : ℕ). take m ps) next);
+          c.in-Ok.ensures.pushed ∙ ap (λ k. c.loop-next.copy.pairs ++ (k, c.in_ok-clone-2.field-0) ∷ []) key ∙ ap (λ v. c.loop-next.copy.pairs ++ (c.pair.result.0.now, v) ∷ []) val
+          ∙ ap (λ qs. qs ++ (c.pair.result.0.now, c.pair.result.1.now) ∷ []) (c.loop-next.invariant.front ∙ ap (λ (m : ℕ). take m ps) at) ∙ sym (take_next g.met.K.Ord.total n ps _ pair) ∙ sym (ap (λ (m : ℕ). take m ps) next);
     }
+
+pub push_last-requires-clause-above : goal.push_last-requires-clause-above
+push_last-requires-clause-above g c =
+    let cmp = g.K.Ord.cmp in
+    let a = c.self.inside.arenas in
+    let ps : List (g.row.K.Denot × g.row.V.Denot) = pairs_of a in
+    let n : ℕ = position a c.in-Some.spot in
+    let spot : IsSpot a c.in-Some.spot = subst (IsPlace a) c.in-Some.is c.loop-next.invariant.spot in
+    let at : place a c.loop-next.next ≡ n = ap (place a) c.in-Some.is in
+    let pair = (spot_pair cmp a c.self.invariant c.in-Some.spot spot).0 ∙ c.pair.ensures in
+    let key = c.requires.keys _ _ c.in_ok-clone.ensures.cases in
+    let front = c.loop-next.invariant.front ∙ ap (λ (m : ℕ). take m ps) at in
+    let less = front_less g.met.K.Ord.total n ps _ (rising_of cmp g.met.K.Ord.total a c.self.invariant) pair in
+    subst (λ k. IsAbove cmp k c.loop-next.copy.pairs) (sym key) (subst (IsAbove cmp c.pair.result.0.now) (sym front) less)

@@ -1,0 +1,79 @@
+//! Pairs that come by rising keys go behind the last one, without a search.
+
+ghost use Rattle.std.specs.Prelude.{◌≡◌, ◌<◌, ◌+◌, ◌^◌, ◌++◌, ◌∷◌, [], IsSome, IfSome};
+ghost use Rattle.leaf_array.specs.Results.{IsSuccess, given_back};
+ghost use Rattle.leaf_array.specs.Values.{ClonesAreSame};
+ghost use Rattle.tree_index.specs.Content.{pairs_of, IsSound};
+ghost use Rattle.tree_index.specs.Depth.{IsAbove, ascents};
+ghost use Rattle.tree_index.specs.Push.{IsOpen};
+
+use crate::arenas::Arenas;
+use leaf_array::InsertResult;
+
+impl<K: Ord, V> Arenas<K, V> {
+    /// Puts a pair behind all others, whose keys are lesser. It is full where memory is refused, or no more
+    /// pairs can be counted.
+    #[inline]
+    pub(crate) fn push(&mut self, key: K, val: V) -> InsertResult<K, V>
+    where
+        K: Clone + Drop,
+        V: Drop,
+        requires sound { IsSound K.cmp self.old }
+        requires clones { ClonesAreSame K.is_clone }
+        requires above { IsAbove K.cmp key (pairs_of self.old) }
+        ensures sound { IsSound K.cmp self.new }
+        ensures back { IfSome (given_back result) (λ p. p ≡ (key, val)) }
+        ensures kept { IsSome (given_back result) → pairs_of self.new ≡ pairs_of self.old }
+        ensures depth { IsSome (given_back result) → self.new.height ≡ self.old.height }
+        ensures ascents { IsSome (given_back result) → ascents K.cmp self.new ≡ ascents K.cmp self.old }
+        ensures done { IsSuccess result → pairs_of self.new ≡ pairs_of self.old ++ (key, val) ∷ [] }
+    {
+        if self.len < usize::MAX {
+            if let Some(at) = self.open_leaf() {
+                self.push_at(at, key, val);
+                return InsertResult::Success;
+            }
+        }
+        self.put::<true>(key, val)
+    }
+
+    /// The last leaf, if it has pairs, and room for one more.
+    #[inline]
+    fn open_leaf(&self) -> Option<usize>
+        requires { IsSound K.cmp self.now }
+        ensures { IfSome result (λ n. IsOpen self.now n) }
+    {
+        let Some(at) = self.last_leaf() else {
+            return None;
+        };
+        match self.leaves.get(at) {
+            Some(leaf) => {
+                if leaf.len() > 0 && !leaf.array.is_full() {
+                    Some(at)
+                } else {
+                    None
+                }
+            },
+            None => None,
+        }
+    }
+
+    /// Puts a pair behind those of the last leaf.
+    #[inline]
+    fn push_at(&mut self, at: usize, key: K, val: V)
+        requires sound { IsSound K.cmp self.old }
+        requires countable { self.old.len + 1 < 2 ^ 64 }
+        requires open { IsOpen self.old at }
+        requires above { IsAbove K.cmp key (pairs_of self.old) }
+        ensures sound { IsSound K.cmp self.new }
+        ensures done { pairs_of self.new ≡ pairs_of self.old ++ (key, val) ∷ [] }
+    {
+        match self.leaves.get_mut(at) {
+            Some(leaf) => {
+                leaf.push(key, val);
+                self.len += 1;
+            },
+            None => unreachable!(),
+        }
+    }
+}
