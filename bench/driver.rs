@@ -2,7 +2,8 @@
 //! the exports of the crate `index_bench`.
 //!
 //! `driver task MAP TASK ORDER N ROUNDS` runs one task alone, whose instructions another program
-//! counts. `driver times N..` prints for each order and number of keys the nanoseconds of a look-up in
+//! counts. `driver peak MAP N ROUNDS` prints the most memory that a queue of N pairs takes over so many
+//! rounds. `driver times N..` prints for each order and number of keys the nanoseconds of a look-up in
 //! each map.
 use std::collections::BTreeMap;
 use std::hint::black_box;
@@ -18,6 +19,10 @@ unsafe extern "C" {
         rounds: u32,
     ) -> u64;
     fn index_bench_walk(keys: *const u64, len: usize, rounds: u32) -> u64;
+    fn index_bench_remove(keys: *const u64, len: usize, rounds: u32) -> usize;
+    fn index_bench_queue(count: u32, rounds: u32) -> u64;
+    fn index_bench_clone(keys: *const u64, len: usize, rounds: u32) -> usize;
+    fn index_bench_cut(keys: *const u64, len: usize, from: u64, upto: u64, rounds: u32) -> usize;
     fn index_bench_scan(
         keys: *const u64,
         len: usize,
@@ -81,6 +86,72 @@ impl Map {
         }
     }
 
+    /// Removes the first half of the keys, if there is a round, and gives how many are left.
+    fn remove(self, keys: &[u64], rounds: u32) -> usize {
+        match self {
+            Map::Std => {
+                let mut map = built(keys);
+                if rounds > 0 {
+                    remove_all(&mut map, &keys[..keys.len() / 2]);
+                }
+                map.len()
+            }
+            // SAFETY: the call has no conditions, and the slice is live in it.
+            Map::Index => unsafe { index_bench_remove(keys.as_ptr(), keys.len(), rounds) },
+        }
+    }
+
+    /// A queue of so many keys: in each round the least goes, and one above the greatest comes.
+    fn queue(self, count: u32, rounds: u32) -> u64 {
+        match self {
+            Map::Std => {
+                let mut queue: BTreeMap<u64, u64> = (0..u64::from(count))
+                    .map(|number| (number * 1000, 0))
+                    .collect();
+                for number in 0..u64::from(rounds) {
+                    queue.remove(&(number * 1000));
+                    let above = number + u64::from(count);
+                    queue.insert(above * 1000, above);
+                }
+                queue.first_key_value().map_or(0, |(least, _)| *least)
+            }
+            // SAFETY: the call has no conditions.
+            Map::Index => unsafe { index_bench_queue(count, rounds) },
+        }
+    }
+
+    /// Clones a map of these keys, `rounds` times, and gives how many pairs the copies have.
+    fn clones(self, keys: &[u64], rounds: u32) -> usize {
+        match self {
+            Map::Std => {
+                let map = built(keys);
+                (0..rounds).fold(0, |sum, _| sum + black_box(map.clone()).len())
+            }
+            // SAFETY: the call has no conditions, and the slice is live in it.
+            Map::Index => unsafe { index_bench_clone(keys.as_ptr(), keys.len(), rounds) },
+        }
+    }
+
+    /// Removes the half of the keys in the middle, if there is a round, and gives how many are left. Std's map
+    /// is cut twice for that, and joined again.
+    fn cut(self, keys: &[u64], rounds: u32) -> usize {
+        let mut sorted = keys.to_vec();
+        sorted.sort_unstable();
+        let (from, upto) = (sorted[keys.len() / 4], sorted[keys.len() / 4 * 3]);
+        match self {
+            Map::Std => {
+                let mut map = built(keys);
+                if rounds > 0 {
+                    let mut rest = map.split_off(&from);
+                    map.append(&mut rest.split_off(&upto));
+                }
+                map.len()
+            }
+            // SAFETY: the call has no conditions, and the slice is live in it.
+            Map::Index => unsafe { index_bench_cut(keys.as_ptr(), keys.len(), from, upto, rounds) },
+        }
+    }
+
     /// Takes a hundred pairs from each probe on, `rounds` times, and sums the values.
     fn scan(self, keys: &[u64], probes: &[u64], rounds: u32) -> u64 {
         match self {
@@ -110,6 +181,13 @@ fn built(keys: &[u64]) -> BTreeMap<u64, u64> {
         map.insert(*key, *key);
     }
     map
+}
+
+#[inline(never)]
+fn remove_all(map: &mut BTreeMap<u64, u64>, keys: &[u64]) {
+    for key in keys {
+        map.remove(key);
+    }
 }
 
 #[inline(never)]
@@ -181,6 +259,14 @@ fn processor_time() -> f64 {
     time.seconds as f64 * 1e9 + time.nanoseconds as f64
 }
 
+/// The most memory that this process has had, in kilobytes.
+fn peak() -> u64 {
+    let status = std::fs::read_to_string("/proc/self/status").expect("a status");
+    let line = status.lines().find(|line| line.starts_with("VmHWM"));
+    line.and_then(|line| line.split_whitespace().nth(1)?.parse().ok())
+        .expect("a number")
+}
+
 /// The nanoseconds of a look-up in each map: the least time of some runs, which take turns, less the
 /// least time without look-ups.
 fn times(order: &str, count: u64) -> [f64; 2] {
@@ -207,15 +293,32 @@ fn main() {
     let number = |at: usize| -> u64 { words[at].parse().expect("a number") };
     match words[0].as_str() {
         "task" => {
-            let map = if words[1] == "std" { Map::Std } else { Map::Index };
+            let map = if words[1] == "std" {
+                Map::Std
+            } else {
+                Map::Index
+            };
             let keys = keys(&words[3], number(4));
             let answer = match words[2].as_str() {
                 "insert" => map.insert(&keys) as u64,
+                "remove" => map.remove(&keys, number(5) as u32) as u64,
+                "clone" => map.clones(&keys, number(5) as u32) as u64,
+                "cut" => map.cut(&keys, number(5) as u32) as u64,
+                "queue" => map.queue(number(4) as u32, number(5) as u32),
                 "walk" => map.walk(&keys, number(5) as u32),
                 "scan" => map.scan(&keys, &probes(&keys, 1000), number(5) as u32),
                 _ => map.get(&keys, &probes(&keys, COUNTED), number(5) as u32),
             };
             println!("{answer}");
+        }
+        "peak" => {
+            let map = if words[1] == "std" {
+                Map::Std
+            } else {
+                Map::Index
+            };
+            let least = map.queue(number(2) as u32, number(3) as u32);
+            println!("{least} {}", peak());
         }
         _ => {
             for at in 1..words.len() {

@@ -64,6 +64,64 @@ pub extern "C" fn index_bench_scan(
     sum
 }
 
+/// Removes the first half of the keys from a tree of all of them, if there is a round, and gives how many pairs
+/// are left.
+#[unsafe(no_mangle)]
+pub extern "C" fn index_bench_remove(alloc: Global, keys: &[u64], rounds: u32) -> usize {
+    let mut tree = built(alloc, keys);
+    if rounds > 0 {
+        remove_all(&mut tree, &keys[..keys.len() / 2]);
+    }
+    tree.len()
+}
+
+/// A queue of so many keys, a thousand apart: in each round the least goes, and one above the greatest comes. Gives
+/// the least key of all in the end.
+#[unsafe(no_mangle)]
+pub extern "C" fn index_bench_queue(alloc: Global, count: u32, rounds: u32) -> u64 {
+    let mut queue = TreeIndex::new(alloc);
+    for number in 0..count {
+        let _ = queue.insert_sync(u64::from(number).wrapping_mul(1000), 0);
+    }
+    for number in 0..rounds {
+        let least = u64::from(number);
+        let _ = queue.remove_sync(&least.wrapping_mul(1000));
+        let above = least.wrapping_add(u64::from(count));
+        let _ = queue.insert_sync(above.wrapping_mul(1000), above);
+    }
+    let Some((least, _)) = queue.iter().next() else {
+        return 0;
+    };
+    *least
+}
+
+/// Clones a tree of these keys, `rounds` times, and gives how many pairs the copies have together, without carry.
+#[unsafe(no_mangle)]
+pub extern "C" fn index_bench_clone(alloc: Global, keys: &[u64], rounds: u32) -> usize {
+    let tree = built(alloc, keys);
+    let mut sum = 0usize;
+    for _ in 0..rounds {
+        sum = sum.wrapping_add(cloned(&tree, alloc));
+    }
+    sum
+}
+
+/// Removes the keys from one up to another from a tree, if there is a round, and gives how many pairs are left.
+#[unsafe(no_mangle)]
+pub extern "C" fn index_bench_cut(
+    alloc: Global,
+    keys: &[u64],
+    from: u64,
+    upto: u64,
+    rounds: u32,
+) -> usize {
+    let mut tree = built(alloc, keys);
+    if rounds > 0 {
+        tree.remove_range_sync(Bound::Included(&from), Bound::Excluded(&upto));
+    }
+    tree.len()
+}
+
 /// Calls what the other exports measure from a second place, as a program does that uses a tree for more
 /// than one thing: a call with one caller alone may be compiled into it whatever its size. Gives a sum of
 /// the values that it met.
@@ -81,7 +139,14 @@ pub extern "C" fn index_bench_elsewhere(alloc: Global, keys: &[u64]) -> u64 {
     for (key, value) in tree.iter() {
         sum = sum.wrapping_add(*key ^ *value);
     }
-    sum
+    if let Ok(mut copy) = tree.clone(alloc) {
+        for key in keys {
+            let _ = copy.remove_sync(key);
+        }
+        sum = sum.wrapping_add(copy.len() as u64);
+    }
+    tree.remove_range_sync(Bound::Unbounded, Bound::Excluded(&sum));
+    sum.wrapping_add(tree.len() as u64)
 }
 
 /// The sum of the three keys behind a key, without carry.
@@ -100,6 +165,23 @@ fn built(alloc: Global, keys: &[u64]) -> TreeIndex<u64, u64> {
         let _ = tree.insert_sync(*key, *key);
     }
     tree
+}
+
+/// Removes these keys.
+#[inline(never)]
+fn remove_all(tree: &mut TreeIndex<u64, u64>, keys: &[u64]) {
+    for key in keys {
+        let _ = tree.remove_sync(key);
+    }
+}
+
+/// How many pairs a clone of the tree has: 0 where memory is refused.
+#[inline(never)]
+fn cloned(tree: &TreeIndex<u64, u64>, alloc: Global) -> usize {
+    match tree.clone(alloc) {
+        Ok(copy) => copy.len(),
+        Err(_) => 0,
+    }
 }
 
 /// The sum of the values at the probes, and one before, without carry.
@@ -174,5 +256,21 @@ mod tests {
         let keys = [5, 3, 9];
         assert_eq!(rt; index_bench_walk(rt.alloc(), &keys, 2), 34);
         assert_eq!(rt; index_bench_scan(rt.alloc(), &keys, &[4, 9, 10], 1), 23);
+    }
+
+    #[test]
+    fn half_of_the_keys_and_a_range_of_them_are_removed(rt: HostRuntime) {
+        let keys = [5, 3, 9, 7];
+        assert_eq!(rt; index_bench_remove(rt.alloc(), &keys, 0), 4);
+        assert_eq!(rt; index_bench_remove(rt.alloc(), &keys, 1), 2);
+        assert_eq!(rt; index_bench_cut(rt.alloc(), &keys, 4, 9, 0), 4);
+        assert_eq!(rt; index_bench_cut(rt.alloc(), &keys, 4, 9, 1), 2);
+    }
+
+    #[test]
+    fn a_queue_goes_on_and_copies_are_counted(rt: HostRuntime) {
+        assert_eq!(rt; index_bench_queue(rt.alloc(), 10, 0), 0);
+        assert_eq!(rt; index_bench_queue(rt.alloc(), 10, 25), 25000);
+        assert_eq!(rt; index_bench_clone(rt.alloc(), &[5, 3, 9], 2), 6);
     }
 }
