@@ -1,8 +1,9 @@
 //! Owners of items. They must be spent: given back, put into a cell, or moved into an item.
 
-ghost use Rattle.std.specs.Prelude.{◌≡◌};
-ghost use Rattle.sdd_base.specs.Tokens.{kept_slot, owned_slot, shared_slot};
+ghost use Rattle.std.specs.Prelude.{◌≡◌, Some};
+ghost use Rattle.sdd_base.specs.Tokens.{kept_slot, loaded_slot, owned_slot, shared_slot};
 
+use crate::pointer::Loaded;
 use std::marker::PhantomData;
 
 /// The one owner of an item.
@@ -54,6 +55,16 @@ impl Kept {
     {
         let Shared { slot, of: _ } = shared;
         Kept { slot }
+    }
+
+    /// Where its item is. Condition on what is done with it: the item is one of this type.
+    pub fn loaded<T>(&self) -> Loaded<T>
+        ensures { loaded_slot result ≡ Some (kept_slot self.now) }
+    {
+        Loaded {
+            slot: Some(self.slot),
+            of: PhantomData,
+        }
     }
 
     /// The owner that was kept. Condition on what is done with it: its item is one of this type.

@@ -5,7 +5,7 @@ use native.Mathlib.Decide.{ℕ_discrete}
 use Rattle.sdd_steps.specs.declared.participant.Phase.TheVariants.{Opened}
 use Rattle.sdd_steps.specs.declared.participant.Participant.{Participant}
 use Rattle.sdd_steps.specs.State.{At, Has}
-use Rattle.sdd_steps.proofs.Lists.{put, put_here, put_else, set_all, at_inside}
+use Rattle.sdd_steps.proofs.ListLemmas.{put, put_here, put_else, set_all, at_inside}
 use Rattle.sdd_domain.specs.Rule.{Bounded}
 
 module _ (ps : List Participant) (count : ℕ) (born : ℕ → ℕ) (f : Bounded ps count born) where

@@ -7,7 +7,7 @@ use lib.ListN.{get_elem?}
 use prog.Atomic.{either}
 use Rattle.atomic_table.specs.Table.{State, Me, step, keeps, Allows}
 use Rattle.sdd_domain.specs.declared.board.Plan.{Plan}
-use Rattle.sdd_steps.proofs.Lists.{set_all, at_inside}
+use Rattle.sdd_steps.proofs.ListLemmas.{set_all, at_inside}
 use Rattle.sdd_domain.specs.Layout.{state_word, claim_word, lock_word}
 use Rattle.sdd_domain.specs.Rule.{Acts, Shows}
 use Rattle.sdd_domain.specs.Plays.{lock_then, unlock_then}

@@ -9,8 +9,8 @@ use Rattle.sdd_steps.specs.declared.participant.Participant.{Participant}
 use Rattle.sdd_steps.specs.declared.step.Step.TheVariants.{Look, Raise}
 use Rattle.sdd_steps.specs.State.{At, Has, with_participant}
 use Rattle.sdd_steps.specs.State as steps
-use Rattle.sdd_steps.specs.Kept.{Inv}
-use Rattle.sdd_steps.proofs.Lists.{set_all, find_at, same_at, has_end}
+use Rattle.sdd_steps.specs.Invariant.{Inv}
+use Rattle.sdd_steps.proofs.ListLemmas.{set_all, find_at, same_at, has_end}
 use Rattle.sdd_domain.specs.Views.{looking}
 use Rattle.sdd_domain.specs.Layout.{state_word, claim_word, count_word, shown}
 use Rattle.sdd_domain.specs.Rule.{Acts, beginning, Shows}

@@ -10,7 +10,7 @@ use Rattle.sdd_steps.specs.declared.participant.Phase.TheVariants.{Idle, Opened}
 use Rattle.sdd_steps.specs.declared.participant.Participant.{Participant}
 use Rattle.sdd_steps.specs.State.{At, Has, newcomer}
 use Rattle.sdd_steps.specs.State as steps
-use Rattle.sdd_steps.proofs.Lists.{put, put_here, put_else, set_all, set_here, set_else, at_inside}
+use Rattle.sdd_steps.proofs.ListLemmas.{put, put_here, put_else, set_all, set_here, set_else, at_inside}
 use Rattle.sdd_domain.specs.Views.{rested}
 use Rattle.sdd_domain.specs.Layout.{state_word, claim_word, lock_word, count_word, shown}
 use Rattle.sdd_domain.specs.Rule.{Acts, Bounded, Runs, beginning, Shows}

@@ -10,7 +10,7 @@ use Rattle.sdd_steps.specs.declared.step.Step.TheVariants.{ReadEpoch, Publish, R
 use Rattle.sdd_steps.specs.State.{At, with_participant}
 use Rattle.sdd_steps.specs.Steps.{older}
 use Rattle.sdd_steps.specs.State as steps
-use Rattle.sdd_steps.proofs.Lists.{set_here}
+use Rattle.sdd_steps.proofs.ListLemmas.{set_here}
 use Rattle.sdd_domain.specs.Views.{reading, publishing, closing}
 use Rattle.sdd_domain.specs.Layout.{state_word, count_word, shown}
 use Rattle.sdd_domain.specs.Rule.{Runs, Shows}

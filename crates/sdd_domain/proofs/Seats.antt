@@ -14,8 +14,8 @@ use Rattle.sdd_steps.specs.declared.step.Step.TheVariants.{End}
 use Rattle.sdd_steps.specs.State.{At, newcomer, start}
 use Rattle.sdd_steps.specs.Steps.{left_by}
 use Rattle.sdd_steps.specs.State as steps
-use Rattle.sdd_steps.specs.Kept.{Guarded}
-use Rattle.sdd_steps.proofs.Lists.{put, put_here, put_else, set_all, set_else, at_inside, at_replicate, find_at}
+use Rattle.sdd_steps.specs.Invariant.{Guarded}
+use Rattle.sdd_steps.proofs.ListLemmas.{put, put_here, put_else, set_all, set_else, at_inside, at_replicate, find_at}
 use Rattle.sdd_steps.proofs.Law.{starts}
 use Rattle.sdd_domain.specs.Views.{spent, registered}
 use Rattle.sdd_domain.specs.Layout.{state_word, claim_word, shown}

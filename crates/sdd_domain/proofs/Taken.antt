@@ -9,7 +9,7 @@ use Rattle.sdd_steps.specs.declared.step.Step.{Step}
 use Rattle.sdd_steps.specs.declared.step.Step.TheVariants.{ReadEpoch, Publish, Rotate, Look, Raise, Close, End}
 use Rattle.sdd_steps.specs.State.{State, At, Has, has, with_participant, participant_at, participant_is}
 use Rattle.sdd_steps.specs.Steps.{Steps, Schedule, opened, is_idle, is_reading, is_turning, is_inside, agrees, count_of, all_looked, older, left_by, none_due}
-use Rattle.sdd_steps.specs.Kept.{Inv}
+use Rattle.sdd_steps.specs.Invariant.{Inv}
 use Rattle.sdd_steps.proofs.Law.{keeps}
 use Rattle.sdd_domain.specs.Rule.{Runs}
 use Rattle.sdd_steps.proofs.Enabling.{participant_passes, participant_read}

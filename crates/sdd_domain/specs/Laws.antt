@@ -5,7 +5,7 @@ use lib.ListN.{get_elem?}
 use Rattle.atomic_table.specs.Table.{State}
 use Rattle.sdd_steps.specs.declared.participant.Phase.TheVariants.{Opened}
 use Rattle.sdd_steps.specs.State as steps
-use Rattle.sdd_steps.specs.Kept.{Inv, Safe}
+use Rattle.sdd_steps.specs.Invariant.{Inv, Safe}
 use Rattle.sdd_domain.specs.Layout.{count_word}
 use Rattle.sdd_domain.specs.Rule.{Runs, beginning, Shows}
 use Rattle.sdd_domain.specs.declared.board.Acting.{Acting}

@@ -9,7 +9,7 @@ use Rattle.sdd_steps.specs.State.{At, Has, newcomer, start}
 use Rattle.sdd_steps.specs.State as steps
 use Rattle.sdd_steps.specs.Steps.{Schedule}
 use Rattle.sdd_steps.specs.declared.step.Step.{Step}
-use Rattle.sdd_steps.specs.Kept.{Inv}
+use Rattle.sdd_steps.specs.Invariant.{Inv}
 use Rattle.sdd_domain.specs.Views.{rested}
 use Rattle.sdd_domain.specs.Layout.{count_word, lock_word, state_word, claim_word, epoch_words, shown}
 use Rattle.sdd_domain.specs.declared.board.Acting.{Acting}

@@ -4,7 +4,7 @@ use Rattle.sdd_steps.specs.declared.participant.Participant.{Participant}
 use Rattle.sdd_steps.specs.declared.item.Item.{Item}
 use Rattle.sdd_steps.specs.declared.item.Cell.{Cell}
 use Rattle.sdd_steps.specs.State.{State, At, participant_at, cell_at, item_at, participant_is, cell_is, item_is, newcomer, empty_cell, no_item}
-use Rattle.sdd_steps.proofs.Lists.{get_at, at_inside}
+use Rattle.sdd_steps.proofs.ListLemmas.{get_at, at_inside}
 
 pub participant_read : (s : State) (p : ℕ) (x : Participant) → At s.participants p x → participant_at s p ≡ x
 participant_read s p x at = get_at s.participants p newcomer x at

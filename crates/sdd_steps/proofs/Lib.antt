@@ -1,7 +1,7 @@
-pub mod Lists
-pub mod Counts
-pub mod Facts
-pub mod Told
-pub mod Keeps
+pub mod ListLemmas
+pub mod CountLemmas
+pub mod FactLemmas
+pub mod EnabledLemmas
+pub mod StepLemmas
 pub mod Law
 pub mod Enabling

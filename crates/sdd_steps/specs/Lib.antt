@@ -1,4 +1,4 @@
 pub mod State
 pub mod Steps
-pub mod Kept
-pub mod Inside
+pub mod Invariant
+pub mod Snapshots

@@ -3,7 +3,7 @@ use Rattle.std.specs.Prelude.{◌≡◌, ◌⊎◌, ℕ, ◌+◌, ◌==◌, ◌|
 use mathlib.Core.Option.{some}
 use lib.ListN.{get_elem?}
 use Rattle.sdd_steps.specs.declared.participant.Phase.TheVariants.{Idle}
-use Rattle.sdd_steps.specs.declared.item.Fate.TheVariants.{Waiting}
+use Rattle.sdd_steps.specs.declared.item.ItemState.TheVariants.{Waiting}
 use Rattle.sdd_steps.specs.declared.participant.Participant.{Participant}
 use Rattle.sdd_steps.specs.declared.item.Item.{Item}
 use Rattle.sdd_steps.specs.declared.item.Cell.{Cell}
@@ -23,7 +23,7 @@ abbrev pub empty_cell : Cell
 empty_cell = record { holder = None; names = None }
 
 abbrev pub no_item : Item
-no_item = record { value = 0; hand = 0; owners = 0; holds = []; fate = Waiting }
+no_item = record { value = 0; hand = 0; owners = 0; holds = []; state = Waiting }
 
 abbrev pub participant_at : State → ℕ → Participant
 participant_at s p = get_or s.participants p newcomer

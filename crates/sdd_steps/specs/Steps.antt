@@ -2,8 +2,8 @@
 use Rattle.std.specs.Prelude.{◌≡◌, ℕ, zero, suc, ◌+◌, ◌-◌, ◌^◌, ◌==◌, ◌||◌, ◌&&◌, not, nat_lt, nat_le, is_some, Bool, true, false, cond, Option, None, Some, List, [], ◌∷◌, ◌++◌, get_or, set, length, map}
 use Rattle.sdd_steps.specs.declared.participant.Phase.{Phase}
 use Rattle.sdd_steps.specs.declared.participant.Phase.TheVariants.{Idle, HasRead, Opened}
-use Rattle.sdd_steps.specs.declared.item.Fate.{Fate}
-use Rattle.sdd_steps.specs.declared.item.Fate.TheVariants.{Live, Due, Retired, Collected, Waiting, Reclaimed}
+use Rattle.sdd_steps.specs.declared.item.ItemState.{ItemState}
+use Rattle.sdd_steps.specs.declared.item.ItemState.TheVariants.{Live, Due, Retired, Collected, Waiting, Reclaimed}
 use Rattle.sdd_steps.specs.declared.participant.Seen.{Seen}
 use Rattle.sdd_steps.specs.declared.participant.Loaded.{Loaded}
 use Rattle.sdd_steps.specs.declared.participant.Participant.{Participant}
@@ -76,10 +76,10 @@ segment_loaded i k [] = false
 segment_loaded i k (h ∷ hs) = ((h.item == i) && was_held k h.holds) || segment_loaded i k hs
 
 -- items and cells
-abbrev pub is_handy : Item → Bool
-is_handy it = nat_lt 0 it.hand
+abbrev pub has_loose_owner : Item → Bool
+has_loose_owner it = nat_lt 0 it.hand
 
-abbrev pub is_live : Fate → Bool
+abbrev pub is_live : ItemState → Bool
 is_live Live = true
 is_live (Due p) = false
 is_live (Retired p a) = false
@@ -87,7 +87,7 @@ is_live (Collected n) = false
 is_live Waiting = false
 is_live (Reclaimed p) = false
 
-abbrev pub is_due : ℕ → Fate → Bool
+abbrev pub is_due : ℕ → ItemState → Bool
 is_due q Live = false
 is_due q (Due p) = p == q
 is_due q (Retired p a) = false
@@ -95,7 +95,7 @@ is_due q (Collected n) = false
 is_due q Waiting = false
 is_due q (Reclaimed p) = false
 
-abbrev pub is_reclaimed : ℕ → Fate → Bool
+abbrev pub is_reclaimed : ℕ → ItemState → Bool
 is_reclaimed q Live = false
 is_reclaimed q (Due p) = false
 is_reclaimed q (Retired p a) = false
@@ -104,7 +104,7 @@ is_reclaimed q Waiting = false
 is_reclaimed q (Reclaimed p) = p == q
 
 -- it waits for a participant, or is in a private bag
-abbrev pub is_left : Fate → Bool
+abbrev pub is_left : ItemState → Bool
 is_left Live = false
 is_left (Due p) = false
 is_left (Retired p a) = false
@@ -118,17 +118,17 @@ is_past note None = false
 is_past note (Some n) = nat_le (note + 3) n
 
 -- the participant q, as it is, may begin to reclaim
-abbrev pub is_ripe : ℕ → Participant → Fate → Bool
-is_ripe q x Live = false
-is_ripe q x (Due p) = false
-is_ripe q x (Retired p a) = (p == q) && (a == 3)
-is_ripe q x (Collected n) = is_inside x && is_past n x.reread
-is_ripe q x Waiting = false
-is_ripe q x (Reclaimed p) = false
+abbrev pub is_reclaimable : ℕ → Participant → ItemState → Bool
+is_reclaimable q x Live = false
+is_reclaimable q x (Due p) = false
+is_reclaimable q x (Retired p a) = (p == q) && (a == 3)
+is_reclaimable q x (Collected n) = is_inside x && is_past n x.reread
+is_reclaimable q x Waiting = false
+is_reclaimable q x (Reclaimed p) = false
 
 abbrev pub none_due : ℕ → List Item → Bool
 none_due p [] = true
-none_due p (it ∷ its) = not (is_due p it.fate) && none_due p its
+none_due p (it ∷ its) = not (is_due p it.state) && none_due p its
 
 abbrev pub stands_alone : Cell → Bool
 stands_alone o = not (is_some o.holder)
@@ -142,8 +142,8 @@ holder_is test None = false
 holder_is test (Some j) = test j
 
 -- the cell stands by itself, or its holder is in hand
-abbrev pub is_at_hand : State → Cell → Bool
-is_at_hand s o = stands_alone o || holder_is (item_is is_handy s) o.holder
+abbrev pub is_reachable : State → Cell → Bool
+is_reachable s o = stands_alone o || holder_is (item_is has_loose_owner s) o.holder
 
 -- the participant, under its guard, has loaded the cell's holder
 abbrev pub is_within : State → ℕ → Cell → Bool
@@ -152,12 +152,12 @@ is_within s p o = participant_is is_inside s p && holder_is (λ j. was_loaded j 
 -- an item, if any, is in hand
 abbrev pub is_offered : State → Option ℕ → Bool
 is_offered s None = true
-is_offered s (Some i) = item_is is_handy s i
+is_offered s (Some i) = item_is has_loose_owner s i
 
 -- as many owners of each item are in hand as a list names
-abbrev pub all_handy : List Item → List ℕ → List ℕ → Bool
-all_handy items all [] = true
-all_handy items all (k ∷ ks) = (nat_lt k (length items) && nat_le (times k all) (get_or items k no_item).hand) && all_handy items all ks
+abbrev pub all_have_loose_owners : List Item → List ℕ → List ℕ → Bool
+all_have_loose_owners items all [] = true
+all_have_loose_owners items all (k ∷ ks) = (nat_lt k (length items) && nat_le (times k all) (get_or items k no_item).hand) && all_have_loose_owners items all ks
 
 abbrev pub all_alone : List Cell → List ℕ → Bool
 all_alone cells [] = true
@@ -168,24 +168,24 @@ abbrev pub enabled : State → Step → Bool
 enabled s (ReadEpoch p) = participant_is is_idle s p
 enabled s (Publish p) = participant_is is_reading s p
 enabled s (Rotate p) = participant_is is_turning s p
-enabled s (LoadCell p c) = participant_is is_inside s p && cell_is (λ o. is_full o && (is_at_hand s o || is_within s p o)) s c
-enabled s (LoadInHand p i) = participant_is is_inside s p && item_is is_handy s i
+enabled s (LoadCell p c) = participant_is is_inside s p && cell_is (λ o. is_full o && (is_reachable s o || is_within s p o)) s c
+enabled s (LoadInHand p i) = participant_is is_inside s p && item_is has_loose_owner s i
 enabled s (ReadSegment p i k) = participant_is (λ x. is_inside x && segment_loaded i k x.loaded) s p
-enabled s (SwapCell p c new) = participant_is is_ready s p && cell_is (λ o. is_at_hand s o || is_within s p o) s c && is_offered s new
-enabled s (Release p i) = participant_is is_ready s p && item_is is_handy s i
-enabled s (Retire p i) = participant_is is_ready s p && item_is (λ it. is_due p it.fate) s i
-enabled s (Collect p i) = participant_is (λ x. is_inside x && is_some x.reread) s p && item_is (λ it. is_due p it.fate) s i
+enabled s (SwapCell p c new) = participant_is is_ready s p && cell_is (λ o. is_reachable s o || is_within s p o) s c && is_offered s new
+enabled s (Release p i) = participant_is is_ready s p && item_is has_loose_owner s i
+enabled s (Retire p i) = participant_is is_ready s p && item_is (λ it. is_due p it.state) s i
+enabled s (Collect p i) = participant_is (λ x. is_inside x && is_some x.reread) s p && item_is (λ it. is_due p it.state) s i
 enabled s (Look p q) = participant_is is_inside s p && not (q == p) && participant_is (agrees s.count) s q
 enabled s (Raise p) = participant_is (λ x. is_inside x && (count_of x.phase == s.count) && all_looked p x.looked (length s.participants)) s p && nat_lt s.count (2 ^ 64 - 1)
-enabled s (Reclaim p i) = participant_is is_ready s p && item_is (λ it. is_ripe p (participant_at s p) it.fate) s i
-enabled s (GiveUp p j i) = participant_is is_ready s p && item_is (λ w. is_reclaimed p w.fate && has i w.holds) s j
-enabled s (GiveUpCell p c) = participant_is is_ready s p && cell_is (λ o. is_full o && holder_is (item_is (λ w. is_reclaimed p w.fate) s) o.holder) s c
+enabled s (Reclaim p i) = participant_is is_ready s p && item_is (λ it. is_reclaimable p (participant_at s p) it.state) s i
+enabled s (GiveUp p j i) = participant_is is_ready s p && item_is (λ w. is_reclaimed p w.state && has i w.holds) s j
+enabled s (GiveUpCell p c) = participant_is is_ready s p && cell_is (λ o. is_full o && holder_is (item_is (λ w. is_reclaimed p w.state) s) o.holder) s c
 enabled s (Close p) = participant_is is_inside s p
-enabled s (Place p value holds cells) = participant_is is_ready s p && all_handy s.items holds holds && all_alone s.cells cells
-enabled s (RaiseOwners p i) = participant_is is_ready s p && item_is (λ it. is_live it.fate && nat_lt it.owners (2 ^ 32 - 1)) s i
+enabled s (Place p value holds cells) = participant_is is_ready s p && all_have_loose_owners s.items holds holds && all_alone s.cells cells
+enabled s (RaiseOwners p i) = participant_is is_ready s p && item_is (λ it. is_live it.state && nat_lt it.owners (2 ^ 32 - 1)) s i
 enabled s (Reread p) = participant_is is_inside s p
 enabled s (End p) = participant_is is_idle s p && none_due p s.items
-enabled s (TakeOver p i) = participant_is is_ready s p && item_is (λ it. is_left it.fate) s i
+enabled s (TakeOver p i) = participant_is is_ready s p && item_is (λ it. is_left it.state) s i
 
 -- the item that a cell names
 abbrev pub named : Option ℕ → ℕ
@@ -219,13 +219,13 @@ filled s c (Some i) = with_item (with_cell s c (record (cell_at s c) { names = S
 
 -- the last owner leaves the item due to p
 abbrev pub after_release : ℕ → Item → Item
-after_release p it = record it { hand = it.hand - 1; owners = it.owners - 1; fate = cond (it.owners - 1 == 0) (Due p) it.fate }
+after_release p it = record it { hand = it.hand - 1; owners = it.owners - 1; state = cond (it.owners - 1 == 0) (Due p) it.state }
 
-abbrev pub with_fate : State → ℕ → Fate → State
-with_fate s i fate = with_item s i (record (item_at s i) { fate = fate })
+abbrev pub with_state : State → ℕ → ItemState → State
+with_state s i state = with_item s i (record (item_at s i) { state = state })
 
 -- items retired by p age by one, or wait
-abbrev pub aged : ℕ → Fate → Fate
+abbrev pub aged : ℕ → ItemState → ItemState
 aged p Live = Live
 aged p (Due r) = Due r
 aged p (Retired r a) = Retired r (cond (r == p) (a + 1) a)
@@ -233,7 +233,7 @@ aged p (Collected n) = Collected n
 aged p Waiting = Waiting
 aged p (Reclaimed r) = Reclaimed r
 
-abbrev pub left : ℕ → Fate → Fate
+abbrev pub left : ℕ → ItemState → ItemState
 left p Live = Live
 left p (Due r) = Due r
 left p (Retired r a) = cond (r == p) Waiting (Retired r a)
@@ -242,10 +242,10 @@ left p Waiting = Waiting
 left p (Reclaimed r) = Reclaimed r
 
 abbrev pub older : ℕ → Item → Item
-older p it = record it { fate = aged p it.fate }
+older p it = record it { state = aged p it.state }
 
 abbrev pub left_by : ℕ → Item → Item
-left_by p it = record it { fate = left p it.fate }
+left_by p it = record it { state = left p it.state }
 
 -- the empty cells of item i stand by themselves
 abbrev pub is_held_by : ℕ → Option ℕ → Bool
@@ -266,10 +266,10 @@ taken_up i [] cells = cells
 taken_up i (c ∷ cs) cells = taken_up i cs (set cells c (record (get_or cells c empty_cell) { holder = Some i }))
 
 abbrev pub placed : ℕ → List ℕ → Item
-placed value holds = record { value = value; hand = 1; owners = 1; holds = holds; fate = Live }
+placed value holds = record { value = value; hand = 1; owners = 1; holds = holds; state = Live }
 
 -- the note in a private bag
-abbrev pub noted : Option ℕ → Fate
+abbrev pub noted : Option ℕ → ItemState
 noted None = Waiting
 noted (Some n) = Collected n
 
@@ -283,11 +283,11 @@ after s (LoadInHand p i) = loading s p i
 after s (ReadSegment p i k) = s
 after s (SwapCell p c new) = filled (emptied s c (cell_at s c).names) c new
 after s (Release p i) = with_item s i (after_release p (item_at s i))
-after s (Retire p i) = with_fate s i (Retired p 0)
-after s (Collect p i) = with_fate s i (noted (participant_at s p).reread)
+after s (Retire p i) = with_state s i (Retired p 0)
+after s (Collect p i) = with_state s i (noted (participant_at s p).reread)
 after s (Look p q) = with_participant s p (record (participant_at s p) { looked = (participant_at s p).looked ++ q ∷ [] })
 after s (Raise p) = record s { count = s.count + 1 }
-after s (Reclaim p i) = record (with_fate s i (Reclaimed p)) { cells = map (let_go i) s.cells }
+after s (Reclaim p i) = record (with_state s i (Reclaimed p)) { cells = map (let_go i) s.cells }
 after s (GiveUp p j i) = let w = item_at s j in let t = with_item s j (record w { holds = without i w.holds }) in with_item t i (handed (item_at t i))
 after s (GiveUpCell p c) = let t = emptied s c (cell_at s c).names in with_cell t c (record (cell_at t c) { holder = None })
 after s (Close p) = with_participant s p (record (participant_at s p) { phase = Idle; reread = None; looked = []; loaded = [] })
@@ -295,7 +295,7 @@ after s (Place p value holds cells) = record s { cells = taken_up (length s.item
 after s (RaiseOwners p i) = with_item s i (record (item_at s i) { hand = (item_at s i).hand + 1; owners = (item_at s i).owners + 1 })
 after s (Reread p) = with_participant s p (record (participant_at s p) { reread = Some s.count })
 after s (End p) = record s { participants = set s.participants p (record (participant_at s p) { found = 0 }); items = map (left_by p) s.items }
-after s (TakeOver p i) = with_fate s i (Retired p 0)
+after s (TakeOver p i) = with_state s i (Retired p 0)
 
 -- the step a leads from s to t
 abbrev pub Steps : State → Step → State → Type 0

@@ -2,45 +2,45 @@
 
 ghost use Rattle.std.specs.Prelude.{◌≡◌, ℕ, ◌<◌, ◌+◌, ◌-◌, ◌^◌, true, map, length, None, OnOk, IfOk, IfErr};
 ghost use Rattle.sdd_steps.specs.State.{no_item, participant_at, cell_at, item_at, with_item, without};
-ghost use Rattle.sdd_steps.specs.Steps.{seen, loaded_as, loading, handed, unhanded, emptied, filled, with_fate, aged, left, older, left_by, let_go, noted, paid, taken_up, enabled, after};
-ghost use Rattle.sdd_steps.specs.Inside.{shown, CanAge, HasRoom};
-ghost use Rattle.sdd_steps.specs.declared.item.Fate.TheVariants as fate;
+ghost use Rattle.sdd_steps.specs.Steps.{seen, loaded_as, loading, handed, unhanded, emptied, filled, with_state, aged, left, older, left_by, let_go, noted, paid, taken_up, enabled, after};
+ghost use Rattle.sdd_steps.specs.Snapshots.{shown, CanAge, HasRoom};
+ghost use Rattle.sdd_steps.specs.declared.item.ItemState.TheVariants as item_state;
 ghost use Rattle.sdd_steps.specs.declared.step.Step.TheVariants as step;
 
-use crate::item::{Cell, Fate, Item};
+use crate::item::{Cell, Item, ItemState};
 use crate::listed::Listed;
 use crate::participant::{Loaded, Phase, Seen};
 use crate::snapshot::{Copied, Snapshot};
 use crate::step::Step;
 use std::alloc::{AllocError, Global};
 
-impl Fate {
+impl ItemState {
     // An item that p retired ages by one.
-    fn aged(self, p: usize) -> Fate
-        requires { (a : ℕ) → self ≡ fate.Retired p a → a < 2 ^ 64 - 1 }
+    fn aged(self, p: usize) -> ItemState
+        requires { (a : ℕ) → self ≡ item_state.Retired p a → a < 2 ^ 64 - 1 }
         ensures { result ≡ aged p self }
     {
         match self {
-            Fate::Retired(q, age) => {
+            ItemState::Retired(q, age) => {
                 if q == p {
-                    Fate::Retired(q, age + 1)
+                    ItemState::Retired(q, age + 1)
                 } else {
                     self
                 }
             }
-            Fate::Live | Fate::Due(_) | Fate::Collected(_) => self,
-            Fate::Waiting | Fate::Reclaimed(_) => self,
+            ItemState::Live | ItemState::Due(_) | ItemState::Collected(_) => self,
+            ItemState::Waiting | ItemState::Reclaimed(_) => self,
         }
     }
 
     // An item that p retired waits.
-    fn left(self, p: usize) -> Fate
+    fn left(self, p: usize) -> ItemState
         ensures { result ≡ left p self }
     {
         match self {
-            Fate::Retired(q, _) => { if q == p { Fate::Waiting } else { self } }
-            Fate::Live | Fate::Due(_) | Fate::Collected(_) => self,
-            Fate::Waiting | Fate::Reclaimed(_) => self,
+            ItemState::Retired(q, _) => { if q == p { ItemState::Waiting } else { self } }
+            ItemState::Live | ItemState::Due(_) | ItemState::Collected(_) => self,
+            ItemState::Waiting | ItemState::Reclaimed(_) => self,
         }
     }
 }
@@ -67,7 +67,7 @@ fn aged_items(alloc: Global, p: usize, items: &[Item]) -> Result<Vec<Item>, Allo
     let mut all = Vec::new(alloc);
     for item in items {
         let mut copy = item.copied(alloc)?;
-        copy.fate = item.fate.aged(p);
+        copy.state = item.state.aged(p);
         all.push(copy)?;
     }
     Ok(all)
@@ -79,7 +79,7 @@ fn left_items(alloc: Global, p: usize, items: &[Item]) -> Result<Vec<Item>, Allo
     let mut all = Vec::new(alloc);
     for item in items {
         let mut copy = item.copied(alloc)?;
-        copy.fate = item.fate.left(p);
+        copy.state = item.state.left(p);
         all.push(copy)?;
     }
     Ok(all)
@@ -277,17 +277,17 @@ impl Snapshot {
         item.hand = item.hand.saturating_sub(1);
         item.owners = item.owners.saturating_sub(1);
         if item.owners == 0 {
-            item.fate = Fate::Due(p);
+            item.state = ItemState::Due(p);
         }
         self.set_item(i, item);
         Ok(())
     }
 
-    fn set_fate(&mut self, alloc: Global, i: usize, fate: Fate) -> Result<(), AllocError>
-        ensures { OnOk result (shown self.new ≡ with_fate (shown self.old) i fate) }
+    fn set_state(&mut self, alloc: Global, i: usize, state: ItemState) -> Result<(), AllocError>
+        ensures { OnOk result (shown self.new ≡ with_state (shown self.old) i state) }
     {
         let mut item = self.item_copy(alloc, i)?;
-        item.fate = fate;
+        item.state = state;
         self.set_item(i, item);
         Ok(())
     }
@@ -296,11 +296,11 @@ impl Snapshot {
         ensures { OnOk result (shown self.new ≡ after (shown self.old) (step.Collect p i)) }
     {
         let x = self.participant_copy(alloc, p)?;
-        let fate = match x.reread {
-            Some(count) => Fate::Collected(count),
-            None => Fate::Waiting,
+        let state = match x.reread {
+            Some(count) => ItemState::Collected(count),
+            None => ItemState::Waiting,
         };
-        self.set_fate(alloc, i, fate)
+        self.set_state(alloc, i, state)
     }
 
     fn look(&mut self, alloc: Global, p: usize, q: usize) -> Result<(), AllocError>
@@ -316,7 +316,7 @@ impl Snapshot {
         ensures { OnOk result (shown self.new ≡ after (shown self.old) (step.Reclaim p i)) }
     {
         self.cells = let_go_all(alloc, i, &self.cells)?;
-        self.set_fate(alloc, i, Fate::Reclaimed(p))
+        self.set_state(alloc, i, ItemState::Reclaimed(p))
     }
 
     // The first item, without an owner of the second one.
@@ -409,7 +409,7 @@ impl Snapshot {
             hand: 1,
             owners: 1,
             holds,
-            fate: Fate::Live,
+            state: ItemState::Live,
         })?;
         Ok(())
     }
@@ -469,7 +469,7 @@ impl Snapshot {
             Step::SwapCell(p, c, new) => self.swap_cell(alloc, p, c, new),
             Step::Release(p, i) => self.release(alloc, p, i),
             Step::Retire(p, i) | Step::TakeOver(p, i) => {
-                self.set_fate(alloc, i, Fate::Retired(p, 0))
+                self.set_state(alloc, i, ItemState::Retired(p, 0))
             }
             Step::Collect(p, i) => self.collect(alloc, p, i),
             Step::Look(p, q) => self.look(alloc, p, q),

@@ -2,10 +2,10 @@
 
 ghost use Rattle.std.specs.Prelude.{◌≡◌, ◌<◌, ◌||◌, ◌&&◌, ◌==◌, ◌^◌, ◌-◌, nat_lt, not, is_some, length};
 ghost use Rattle.sdd_steps.specs.State.{participant_is, cell_is, item_is, participant_at, has, times};
-ghost use Rattle.sdd_steps.specs.Steps.{idle, reading, opened, count_of, is_idle, is_reading, is_turning, is_inside, is_ready, is_full, is_live, is_due, is_reclaimed, is_left, is_past, is_ripe, is_handy, is_offered, is_at_hand, is_within, stands_alone, holder_is, agrees, all_looked, all_handy, all_alone, none_due, was_loaded, was_held, segment_loaded, enabled};
-ghost use Rattle.sdd_steps.specs.Inside.{shown};
+ghost use Rattle.sdd_steps.specs.Steps.{idle, reading, opened, count_of, is_idle, is_reading, is_turning, is_inside, is_ready, is_full, is_live, is_due, is_reclaimed, is_left, is_past, is_reclaimable, has_loose_owner, is_offered, is_reachable, is_within, stands_alone, holder_is, agrees, all_looked, all_have_loose_owners, all_alone, none_due, was_loaded, was_held, segment_loaded, enabled};
+ghost use Rattle.sdd_steps.specs.Snapshots.{shown};
 
-use crate::item::{Cell, Fate, Item};
+use crate::item::{Cell, Item, ItemState};
 use crate::participant::{Loaded, Participant, Phase, Seen};
 use crate::snapshot::Snapshot;
 use crate::step::Step;
@@ -75,14 +75,14 @@ impl Participant {
     }
 }
 
-impl Fate {
+impl ItemState {
     fn is_live(self) -> bool
         ensures { result ≡ is_live self }
     {
         match self {
-            Fate::Live => true,
-            Fate::Due(_) | Fate::Retired(_, _) | Fate::Collected(_) => false,
-            Fate::Waiting | Fate::Reclaimed(_) => false,
+            ItemState::Live => true,
+            ItemState::Due(_) | ItemState::Retired(_, _) | ItemState::Collected(_) => false,
+            ItemState::Waiting | ItemState::Reclaimed(_) => false,
         }
     }
 
@@ -90,9 +90,9 @@ impl Fate {
         ensures { result ≡ is_due p self }
     {
         match self {
-            Fate::Due(q) => q == p,
-            Fate::Live | Fate::Retired(_, _) | Fate::Collected(_) => false,
-            Fate::Waiting | Fate::Reclaimed(_) => false,
+            ItemState::Due(q) => q == p,
+            ItemState::Live | ItemState::Retired(_, _) | ItemState::Collected(_) => false,
+            ItemState::Waiting | ItemState::Reclaimed(_) => false,
         }
     }
 
@@ -100,9 +100,9 @@ impl Fate {
         ensures { result ≡ is_reclaimed p self }
     {
         match self {
-            Fate::Reclaimed(q) => q == p,
-            Fate::Live | Fate::Due(_) | Fate::Retired(_, _) => false,
-            Fate::Collected(_) | Fate::Waiting => false,
+            ItemState::Reclaimed(q) => q == p,
+            ItemState::Live | ItemState::Due(_) | ItemState::Retired(_, _) => false,
+            ItemState::Collected(_) | ItemState::Waiting => false,
         }
     }
 
@@ -110,18 +110,22 @@ impl Fate {
         ensures { result ≡ is_left self }
     {
         match self {
-            Fate::Collected(_) | Fate::Waiting => true,
-            Fate::Live | Fate::Due(_) | Fate::Retired(_, _) | Fate::Reclaimed(_) => false,
+            ItemState::Collected(_) | ItemState::Waiting => true,
+            ItemState::Live
+            | ItemState::Due(_)
+            | ItemState::Retired(_, _)
+            | ItemState::Reclaimed(_) => false,
         }
     }
 
-    fn is_ripe(self, p: usize, x: &Participant) -> bool
-        ensures { result ≡ is_ripe p x.now self }
+    fn is_reclaimable(self, p: usize, x: &Participant) -> bool
+        ensures { result ≡ is_reclaimable p x.now self }
     {
         match self {
-            Fate::Retired(q, age) => q == p && age == 3,
-            Fate::Collected(note) => x.is_inside() && is_past(note, x.reread),
-            Fate::Live | Fate::Due(_) | Fate::Waiting | Fate::Reclaimed(_) => false,
+            ItemState::Retired(q, age) => q == p && age == 3,
+            ItemState::Collected(note) => x.is_inside() && is_past(note, x.reread),
+            ItemState::Live | ItemState::Due(_) | ItemState::Waiting | ItemState::Reclaimed(_) =>
+                false,
         }
     }
 }
@@ -208,15 +212,15 @@ fn none_due(p: usize, items: &[Item]) -> bool
     ensures { result ≡ none_due p items.now }
 {
     for item in items {
-        if item.fate.is_due(p) {
+        if item.state.is_due(p) {
             return false;
         }
     }
     true
 }
 
-fn all_handy(items: &[Item], all: &[usize], some: &[usize]) -> bool
-    ensures { result ≡ all_handy items.now all.now some.now }
+fn all_have_loose_owners(items: &[Item], all: &[usize], some: &[usize]) -> bool
+    ensures { result ≡ all_have_loose_owners items.now all.now some.now }
 {
     for k in some {
         if *k >= items.len() || times(*k, all) as u64 > items[*k].hand {
@@ -311,47 +315,47 @@ impl Snapshot {
         x.phase.count() == self.count && all_looked(p, x.looked.as_slice(), self.participants.len())
     }
 
-    fn is_handy(&self, i: usize) -> bool
-        ensures { result ≡ item_is is_handy (shown self.now) i }
+    fn has_loose_owner(&self, i: usize) -> bool
+        ensures { result ≡ item_is has_loose_owner (shown self.now) i }
     {
         i < self.items.len() && self.item(i).hand > 0
     }
 
     fn is_due(&self, p: usize, i: usize) -> bool
-        ensures { result ≡ item_is (λ it. is_due p it.fate) (shown self.now) i }
+        ensures { result ≡ item_is (λ it. is_due p it.state) (shown self.now) i }
     {
-        i < self.items.len() && self.item(i).fate.is_due(p)
+        i < self.items.len() && self.item(i).state.is_due(p)
     }
 
-    fn is_ripe(&self, p: usize, i: usize) -> bool
+    fn is_reclaimable(&self, p: usize, i: usize) -> bool
         requires { p < length self.now.participants.items }
-        ensures { result ≡ item_is (λ it. is_ripe p (participant_at (shown self.now) p) it.fate) (shown self.now) i }
+        ensures { result ≡ item_is (λ it. is_reclaimable p (participant_at (shown self.now) p) it.state) (shown self.now) i }
     {
-        i < self.items.len() && self.item(i).fate.is_ripe(p, self.participant(p))
+        i < self.items.len() && self.item(i).state.is_reclaimable(p, self.participant(p))
     }
 
     fn is_left(&self, i: usize) -> bool
-        ensures { result ≡ item_is (λ it. is_left it.fate) (shown self.now) i }
+        ensures { result ≡ item_is (λ it. is_left it.state) (shown self.now) i }
     {
-        i < self.items.len() && self.item(i).fate.is_left()
+        i < self.items.len() && self.item(i).state.is_left()
     }
 
     fn may_raise_owners(&self, i: usize) -> bool
-        ensures { result ≡ item_is (λ it. is_live it.fate && nat_lt it.owners (2 ^ 32 - 1)) (shown self.now) i }
+        ensures { result ≡ item_is (λ it. is_live it.state && nat_lt it.owners (2 ^ 32 - 1)) (shown self.now) i }
     {
         i < self.items.len()
-            && self.item(i).fate.is_live()
+            && self.item(i).state.is_live()
             && self.item(i).owners < u64::from(u32::MAX)
     }
 
     fn is_reclaimed(&self, p: usize, j: usize) -> bool
-        ensures { result ≡ item_is (λ w. is_reclaimed p w.fate) (shown self.now) j }
+        ensures { result ≡ item_is (λ w. is_reclaimed p w.state) (shown self.now) j }
     {
-        j < self.items.len() && self.item(j).fate.is_reclaimed(p)
+        j < self.items.len() && self.item(j).state.is_reclaimed(p)
     }
 
     fn gives_up(&self, p: usize, j: usize, i: usize) -> bool
-        ensures { result ≡ item_is (λ w. is_reclaimed p w.fate && has i w.holds) (shown self.now) j }
+        ensures { result ≡ item_is (λ w. is_reclaimed p w.state && has i w.holds) (shown self.now) j }
     {
         self.is_reclaimed(p, j) && has(i, self.item(j).holds.as_slice())
     }
@@ -361,16 +365,16 @@ impl Snapshot {
     {
         match new {
             None => true,
-            Some(i) => self.is_handy(i),
+            Some(i) => self.has_loose_owner(i),
         }
     }
 
-    fn is_at_hand(&self, o: Cell) -> bool
-        ensures { result ≡ is_at_hand (shown self.now) o }
+    fn is_reachable(&self, o: Cell) -> bool
+        ensures { result ≡ is_reachable (shown self.now) o }
     {
         match o.holder {
             None => true,
-            Some(j) => self.is_handy(j),
+            Some(j) => self.has_loose_owner(j),
         }
     }
 
@@ -384,23 +388,23 @@ impl Snapshot {
     }
 
     fn reaches(&self, p: usize, c: usize) -> bool
-        ensures { result ≡ cell_is (λ o. is_at_hand (shown self.now) o || is_within (shown self.now) p o) (shown self.now) c }
+        ensures { result ≡ cell_is (λ o. is_reachable (shown self.now) o || is_within (shown self.now) p o) (shown self.now) c }
     {
         if c >= self.cells.len() {
             return false;
         }
         let o = self.cell(c);
-        self.is_at_hand(o) || self.is_within(p, o)
+        self.is_reachable(o) || self.is_within(p, o)
     }
 
     fn may_load(&self, p: usize, c: usize) -> bool
-        ensures { result ≡ cell_is (λ o. is_full o && (is_at_hand (shown self.now) o || is_within (shown self.now) p o)) (shown self.now) c }
+        ensures { result ≡ cell_is (λ o. is_full o && (is_reachable (shown self.now) o || is_within (shown self.now) p o)) (shown self.now) c }
     {
         c < self.cells.len() && self.cell(c).is_full() && self.reaches(p, c)
     }
 
     fn gives_up_cell(&self, p: usize, c: usize) -> bool
-        ensures { result ≡ cell_is (λ o. is_full o && holder_is (item_is (λ w. is_reclaimed p w.fate) (shown self.now)) o.holder) (shown self.now) c }
+        ensures { result ≡ cell_is (λ o. is_full o && holder_is (item_is (λ w. is_reclaimed p w.state) (shown self.now)) o.holder) (shown self.now) c }
     {
         if c >= self.cells.len() || !self.cell(c).is_full() {
             return false;
@@ -420,23 +424,23 @@ impl Snapshot {
             Step::Publish(p) => self.is_reading(*p),
             Step::Rotate(p) => self.is_turning(*p),
             Step::LoadCell(p, c) => self.is_inside(*p) && self.may_load(*p, *c),
-            Step::LoadInHand(p, i) => self.is_inside(*p) && self.is_handy(*i),
+            Step::LoadInHand(p, i) => self.is_inside(*p) && self.has_loose_owner(*i),
             Step::ReadSegment(p, i, k) => self.has_segment(*p, *i, *k),
             Step::SwapCell(p, c, new) => {
                 self.is_ready(*p) && self.reaches(*p, *c) && self.is_offered(*new)
             }
-            Step::Release(p, i) => self.is_ready(*p) && self.is_handy(*i),
+            Step::Release(p, i) => self.is_ready(*p) && self.has_loose_owner(*i),
             Step::Retire(p, i) => self.is_ready(*p) && self.is_due(*p, *i),
             Step::Collect(p, i) => self.has_reread(*p) && self.is_due(*p, *i),
             Step::Look(p, q) => self.is_inside(*p) && q != p && self.agrees(*q),
             Step::Raise(p) => self.has_looked(*p) && self.count < u64::MAX,
-            Step::Reclaim(p, i) => self.is_ready(*p) && self.is_ripe(*p, *i),
+            Step::Reclaim(p, i) => self.is_ready(*p) && self.is_reclaimable(*p, *i),
             Step::GiveUp(p, j, i) => self.is_ready(*p) && self.gives_up(*p, *j, *i),
             Step::GiveUpCell(p, c) => self.is_ready(*p) && self.gives_up_cell(*p, *c),
             Step::Close(p) => self.is_inside(*p),
             Step::Place(p, _, holds, cells) => {
                 self.is_ready(*p)
-                    && all_handy(&self.items, holds.as_slice(), holds.as_slice())
+                    && all_have_loose_owners(&self.items, holds.as_slice(), holds.as_slice())
                     && all_alone(&self.cells, cells.as_slice())
             }
             Step::RaiseOwners(p, i) => self.is_ready(*p) && self.may_raise_owners(*i),

@@ -4,7 +4,7 @@ use crate::listed::Listed;
 
 /// What has become of an item.
 #[derive(Clone, Copy, PartialEq, Eq, Drop, Debug)]
-pub enum Fate {
+pub enum ItemState {
     /// It has an owner.
     Live,
     /// This participant gave its last owner back and is to retire it.
@@ -30,7 +30,7 @@ pub struct Item {
     pub owners: u64,
     /// The items of which it holds an owner, in order.
     pub holds: Listed<usize>,
-    pub fate: Fate,
+    pub state: ItemState,
 }
 
 /// A cell. An item that is out as a raw pointer counts as in a cell of its own.

@@ -3,7 +3,7 @@
 //! A [`State`] holds what participants have published and loaded, the cells, and the items with their owners. A
 //! [`Step`] is one indivisible event of one participant. [`apply`] answers the next state exactly where the step is
 //! enabled. Whatever steps are taken, in whatever order: what an open guard has loaded isn't reclaimed, and stands
-//! as it was when it was loaded ([`State::keeps_its_promise`], and the [`laws`]).
+//! as it was when it was loaded ([`State::is_safe`], and the [`laws`]).
 #![tactic(auto)]
 
 mod effect;
@@ -16,7 +16,7 @@ mod snapshot;
 mod state;
 mod step;
 
-pub use item::{Cell, Fate, Item};
+pub use item::{Cell, Item, ItemState};
 pub use listed::Listed;
 pub use participant::{Loaded, Participant, Phase, Seen};
 pub use state::{State, apply};

@@ -2,9 +2,9 @@
 
 ghost use Rattle.std.specs.Prelude.{◌≡◌, ◌<◌, length, IfOk};
 ghost use Rattle.sdd_steps.specs.State.{newcomer, participant_at, cell_at, item_at, with_participant, with_cell, with_item};
-ghost use Rattle.sdd_steps.specs.Inside.{shown};
+ghost use Rattle.sdd_steps.specs.Snapshots.{shown};
 
-use crate::item::{Cell, Fate, Item};
+use crate::item::{Cell, Item, ItemState};
 use crate::listed::Listed;
 use crate::participant::{Loaded, Participant, Phase, Seen};
 use std::alloc::{AllocError, Global};
@@ -87,7 +87,7 @@ impl Copied for Item {
             hand: self.hand,
             owners: self.owners,
             holds: self.holds.copied(alloc)?,
-            fate: self.fate,
+            state: self.state,
         })
     }
 }
@@ -155,7 +155,7 @@ impl Snapshot {
                 hand: 0,
                 owners: 0,
                 holds: Listed::new(alloc),
-                fate: Fate::Waiting,
+                state: ItemState::Waiting,
             }),
         }
     }

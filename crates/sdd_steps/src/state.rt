@@ -3,8 +3,8 @@
 ghost use Rattle.std.specs.Prelude.{◌≡◌, ◌<◌, ◌≤◌, ◌^◌, false, true, length, IfOk, MatchOption};
 ghost use Rattle.sdd_steps.specs.State.{start};
 ghost use Rattle.sdd_steps.specs.Steps.{enabled, Steps};
-ghost use Rattle.sdd_steps.specs.Kept.{Safe};
-ghost use Rattle.sdd_steps.specs.Inside.{shown};
+ghost use Rattle.sdd_steps.specs.Invariant.{Safe};
+ghost use Rattle.sdd_steps.specs.Snapshots.{shown};
 
 use crate::item::{Cell, Item};
 use crate::participant::Participant;
@@ -16,7 +16,7 @@ use std::marker::Model;
 /// A state that steps leave, from its start on.
 ///
 /// Contracts see it as its count of raises, its participants, cells and items. Its type keeps the promise over all
-/// schedules: see [`keeps_its_promise`](State::keeps_its_promise).
+/// schedules: see [`is_safe`](State::is_safe).
 #[derive(Drop)]
 pub struct State {
     snapshot: Snapshot,
@@ -27,8 +27,8 @@ impl Model for State {
 
     ghost Value = { core.State };
 
-    ghost use Rattle.sdd_steps.specs.Kept.{Inv};
-    ghost use Rattle.sdd_steps.specs.Inside.{shown};
+    ghost use Rattle.sdd_steps.specs.Invariant.{Inv};
+    ghost use Rattle.sdd_steps.specs.Snapshots.{shown};
 
     ghost view = { λ s. shown s.snapshot };
 
@@ -95,7 +95,7 @@ impl State {
     /// The promise over all schedules, which the type keeps: for every open guard nothing that it loaded is
     /// reclaimed, what it loaded still holds all that it held, each of these has an owner, and all values are as when
     /// loaded.
-    pub fn keeps_its_promise(&self)
+    pub fn is_safe(&self)
         ensures { Safe self.now }
     {
         let _ = &self.snapshot;

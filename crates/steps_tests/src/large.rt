@@ -1,7 +1,7 @@
 //! A state of many participants, cells and items, and the texts of its parts.
 
 use crate::common::{Move, all_refused, play};
-use sdd_steps::{Cell, Fate, State};
+use sdd_steps::{Cell, ItemState, State};
 use std::test::Fail;
 
 const MANY: usize = 1_000;
@@ -51,12 +51,12 @@ fn a_state_of_many_parts_takes_steps(rt: HostRuntime) -> Result<(), Fail> {
 #[test]
 fn parts_are_written_by_their_names(rt: HostRuntime) -> Result<(), Fail> {
     let alloc = rt.alloc();
-    let fate = Fate::Retired(1, 2);
+    let state = ItemState::Retired(1, 2);
     let cell = Cell {
         holder: None,
         names: Some(3),
     };
-    let text = format!(in alloc; "{fate:?} {cell:?}")?;
+    let text = format!(in alloc; "{state:?} {cell:?}")?;
     assert_eq!(rt;
         text.as_str(),
         "Retired(1, 2) Cell { holder: None, names: Some(3) }"

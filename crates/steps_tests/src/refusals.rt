@@ -2,7 +2,7 @@
 //! is as it was, and the same step then succeeds.
 
 use crate::common::{Move, step};
-use sdd_steps::{Cell, Fate, State, Step, apply};
+use sdd_steps::{Cell, ItemState, State, Step, apply};
 use std::alloc::{AllocError, Global};
 use std::process::Abort;
 
@@ -58,8 +58,8 @@ fn taken<R: Abort>(rt: &R, alloc: Global, state: &State, one: Move, met: &mut bo
     }
 }
 
-fn fate(state: &State, i: usize) -> Option<Fate> {
-    state.items().get(i).map(|item| item.fate)
+fn state_of(state: &State, i: usize) -> Option<ItemState> {
+    state.items().get(i).map(|item| item.state)
 }
 
 // Whether an allocation was refused while the steps were taken.
@@ -72,8 +72,8 @@ fn takes_steps<R: Abort>(rt: &R, alloc: Global) -> bool {
     assert!(rt; state.count() == 1);
     assert!(rt; state.participants().len() == 2);
     assert!(rt; state.items().len() == 2);
-    assert!(rt; fate(&state, 0) == Some(Fate::Live));
-    assert!(rt; fate(&state, 1) == Some(Fate::Retired(0, 0)));
+    assert!(rt; state_of(&state, 0) == Some(ItemState::Live));
+    assert!(rt; state_of(&state, 1) == Some(ItemState::Retired(0, 0)));
     assert!(rt;
         state.cells().first().copied()
             == Some(Cell {

@@ -1,11 +1,11 @@
 //! Where each step is refused, and the promise over random lists of steps.
 
 use crate::common::{Move, after, all_refused, is_enabled, play};
-use sdd_steps::{Cell, Fate, Item, Listed, Loaded, Participant, Phase, Seen, State};
+use sdd_steps::{Cell, Item, ItemState, Listed, Loaded, Participant, Phase, Seen, State};
 use std::alloc::Global;
 use std::process::Abort;
 
-// Items of each fate, for participant 0: 0 is live, and 1 is a version in the root that holds it; 2 is due; 3 and 6
+// Items of each state, for participant 0: 0 is live, and 1 is a version in the root that holds it; 2 is due; 3 and 6
 // are retired; 4 is reclaimed and still holds 0 and cell 1; 5 waits. Item 3 has age 3, item 6 age 2.
 const PLACED: [Move; 15] = [
     Move::Place(0, 1, None, None),
@@ -241,7 +241,7 @@ const OF_ANOTHER_FATE: [Move; 33] = [
 ];
 
 #[test]
-fn steps_on_items_of_another_fate_are_refused(rt: HostRuntime) {
+fn steps_on_items_in_another_state_are_refused(rt: HostRuntime) {
     let alloc = rt.alloc();
     let state = prepared(&rt, alloc);
     all_refused(&rt, alloc, &state, &OF_ANOTHER_FATE);
@@ -329,8 +329,8 @@ fn a_raise_is_refused_until_all_others_were_looked_at(rt: HostRuntime) {
     all_refused(&rt, alloc, &state, &[Move::Raise(0), Move::Raise(2)]);
 }
 
-fn fate(state: &State, i: usize) -> Option<Fate> {
-    state.items().get(i).map(|item| item.fate)
+fn state_of(state: &State, i: usize) -> Option<ItemState> {
+    state.items().get(i).map(|item| item.state)
 }
 
 #[test]
@@ -359,7 +359,7 @@ fn an_item_of_a_private_bag_is_reclaimed_three_counts_above_its_note(rt: HostRun
         state,
         &[Move::Look(0, 1), Move::Raise(0), Move::Close(0)],
     );
-    assert!(rt; fate(&state, 0) == Some(Fate::Collected(0)));
+    assert!(rt; state_of(&state, 0) == Some(ItemState::Collected(0)));
     for count in 1..3 {
         state = play(
             &rt,
@@ -390,7 +390,7 @@ fn an_item_of_a_private_bag_is_reclaimed_three_counts_above_its_note(rt: HostRun
     );
     all_refused(&rt, alloc, &state, &[Move::Reclaim(0, 0)]);
     state = play(&rt, alloc, state, &[Move::Reread(0), Move::Reclaim(0, 0)]);
-    assert!(rt; fate(&state, 0) == Some(Fate::Reclaimed(0)));
+    assert!(rt; state_of(&state, 0) == Some(ItemState::Reclaimed(0)));
 }
 
 #[test]
@@ -408,9 +408,9 @@ fn a_participant_that_ended_leaves_its_items_to_another(rt: HostRuntime) {
         ],
     );
     state = play(&rt, alloc, state, &[Move::End(0)]);
-    assert!(rt; fate(&state, 0) == Some(Fate::Waiting));
+    assert!(rt; state_of(&state, 0) == Some(ItemState::Waiting));
     state = play(&rt, alloc, state, &[Move::TakeOver(1, 0)]);
-    assert!(rt; fate(&state, 0) == Some(Fate::Retired(1, 0)));
+    assert!(rt; state_of(&state, 0) == Some(ItemState::Retired(1, 0)));
 }
 
 #[test]
@@ -440,7 +440,7 @@ fn is_intact(items: &[Item], loaded: &Loaded) -> bool {
     let Some(item) = items.get(loaded.item) else {
         return false;
     };
-    if let Fate::Reclaimed(_) = item.fate {
+    if let ItemState::Reclaimed(_) = item.state {
         return false;
     }
     item.value == loaded.value
@@ -460,7 +460,7 @@ fn is_intact(items: &[Item], loaded: &Loaded) -> bool {
 
 fn is_owned(items: &[Item], seen: &Seen) -> bool {
     match items.get(seen.item) {
-        Some(item) => item.value == seen.value && item.owners > 0 && item.fate == Fate::Live,
+        Some(item) => item.value == seen.value && item.owners > 0 && item.state == ItemState::Live,
         None => false,
     }
 }
@@ -555,7 +555,7 @@ fn random_steps<R: Abort>(rt: &R, alloc: Global, seed: u64, n: u32) -> (u32, usi
 }
 
 fn is_gone(item: &Item) -> bool {
-    matches!(item.fate, Fate::Reclaimed(_))
+    matches!(item.state, ItemState::Reclaimed(_))
 }
 
 #[test]

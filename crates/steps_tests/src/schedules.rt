@@ -1,7 +1,7 @@
 //! Two schedules of a reader and a writer, as lists of steps, with what is left after each list.
 
 use crate::common::{Move, all_refused, play};
-use sdd_steps::{Fate, State};
+use sdd_steps::{ItemState, State};
 use std::alloc::Global;
 use std::process::Abort;
 
@@ -25,7 +25,7 @@ fn is_left(state: &State, i: usize) -> bool {
         None
         | Some(
             sdd_steps::Item {
-                fate: Fate::Reclaimed(_),
+                state: ItemState::Reclaimed(_),
                 ..
             },
         ) => false,

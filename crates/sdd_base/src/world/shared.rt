@@ -8,14 +8,14 @@ ghost use Rattle.sdd_base.specs.Frame.{Keeps, OnlyOf};
 ghost use Rattle.sdd_base.specs.Dropping.{Dropped};
 ghost use Rattle.sdd_base.specs.Holding.{SharedItem};
 ghost use Rattle.sdd_base.specs.Place.{IsOpen, IsShared, HasOneOwner};
-ghost use Rattle.sdd_base.specs.Tokens.{kept_slot, shared_slot, ptr_slot, ptr_tag};
+ghost use Rattle.sdd_base.specs.Tokens.{kept_slot, loaded_slot, shared_slot, ptr_slot, ptr_tag};
 
 use crate::guard::WorldGuard;
 use crate::holds::{Held, Holds};
 use crate::job::Deferred;
 use crate::lender::Lender;
 use crate::owner::{Kept, Shared};
-use crate::pointer::Ptr;
+use crate::pointer::{Loaded, Ptr};
 use crate::reclaim;
 use crate::refusal::{NoSlot, NotLent};
 use crate::status::{Status, is_last};
@@ -72,6 +72,19 @@ pub fn clone<T, J: Deferred>(w: &mut World<T, J>, shared: &Shared<T>) -> Option<
             Some(Shared::of_slot(slot))
         }
         _ => unreachable!(),
+    }
+}
+
+/// One more owner of the item that was loaded, as `ptr::get_shared` of one that a pointer names.
+pub fn of_loaded<T, J: Deferred>(w: &mut World<T, J>, at: &Loaded<T>) -> Option<Shared<T>>
+    ensures more { IfSome result (λ s. (loaded_slot at.now ≡ Some (shared_slot s)) × (n : ℕ) × (status_at w.old (shared_slot s) ≡ Status.Shared n) × (w.new ≡ with_status (shared_slot s) (Status.Shared (n + 1)) w.old)) }
+    ensures none { IfNone result ((w.new ≡ w.old) × IfSome (loaded_slot at.now) (λ i. (n : ℕ) → n < 4294967295 → status_at w.old i ≢ Status.Shared n)) }
+    ensures live { IfSome result (λ s. IsShared w.new (shared_slot s)) }
+    ensures keeps { Keeps w.old w.new }
+{
+    match at.slot {
+        None => None,
+        Some(slot) => ptr::add_owner(w, slot),
     }
 }
 

@@ -1,7 +1,7 @@
 use Rattle.std.proofs.Common.{sym, subst, ◌∙◌, ap}
 use Rattle.sdd_steps.specs.State.{State}
 use Rattle.sdd_steps.specs.Steps.{after}
-use Rattle.sdd_steps.specs.Inside.{HasRoom, shown}
+use Rattle.sdd_steps.specs.Snapshots.{HasRoom, shown}
 use Rattle.sdd_steps.proofs.Law.{keeps, has_room}
 use Rattle.sdd_steps.proofs.state.apply.Goals as goal
 

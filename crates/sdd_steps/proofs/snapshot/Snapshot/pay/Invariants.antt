@@ -1,6 +1,6 @@
 use Rattle.std.proofs.Common.{◌≡◌, drop}
 use Rattle.sdd_steps.specs.Steps.{paid}
-use Rattle.sdd_steps.specs.Inside.{shown}
+use Rattle.sdd_steps.specs.Snapshots.{shown}
 use Rattle.sdd_steps.proofs.snapshot.Snapshot.pay.Given as goal
 
 abbrev pub invariant-loop-k : goal.invariant-loop-k

@@ -1,6 +1,6 @@
 use Rattle.std.proofs.Common.{◌≡◌, drop}
 use Rattle.sdd_steps.specs.Steps.{taken_up}
-use Rattle.sdd_steps.specs.Inside.{shown}
+use Rattle.sdd_steps.specs.Snapshots.{shown}
 use Rattle.sdd_steps.proofs.snapshot.Snapshot.take_up.Given as goal
 
 abbrev pub invariant-loop-c : goal.invariant-loop-c

@@ -3,31 +3,31 @@ use Rattle.std.proofs.Common.{true, ◌≡◌, ◌≢◌, ℕ, ◌+◌, ◌-◌,
 use mathlib.Core.Logic.{dite}
 use native.Mathlib.Decide.{ℕ_discrete}
 use Rattle.sdd_steps.specs.declared.participant.Phase.TheVariants.{Idle, HasRead, Opened}
-use Rattle.sdd_steps.specs.declared.item.Fate.{Fate}
-use Rattle.sdd_steps.specs.declared.item.Fate.TheVariants.{Live, Due, Retired, Collected, Reclaimed}
+use Rattle.sdd_steps.specs.declared.item.ItemState.{ItemState}
+use Rattle.sdd_steps.specs.declared.item.ItemState.TheVariants.{Live, Due, Retired, Collected, Reclaimed}
 use Rattle.sdd_steps.specs.declared.participant.Loaded.{Loaded}
 use Rattle.sdd_steps.specs.declared.participant.Participant.{Participant}
 use Rattle.sdd_steps.specs.declared.item.Item.{Item}
 use Rattle.sdd_steps.specs.declared.item.Cell.{Cell}
 use Rattle.sdd_steps.specs.State.{State, At, Has, times, without, cell_at, item_at, with_participant, with_item, no_item, empty_cell}
-use Rattle.sdd_steps.specs.Steps.{loaded_as, handed, unhanded, emptied, filled, after_release, count_of, older, aged, left, left_by, noted, paid, placed, taken_up, all_handy}
-use Rattle.sdd_steps.specs.Kept.{Ageing, Counted, Same, Standing, Facts, Inv, names_of}
-use Rattle.sdd_steps.proofs.Lists.{put, set_all, set_here, set_else, same_at, at_inside, at_get, get_at, at_mapped, at_map, at_longer, has_end}
-use Rattle.sdd_steps.proofs.Counts.{uses_set, uses_some, points_self, points_other, times_some, counted_step, counted_give_up, counted_fates, counted_placed, placed_all, paid_at, names_set, names_taken_up, handy_has, has_without}
-use Rattle.sdd_steps.proofs.Facts.{Holding, participant_step, items_step, item_step, same_fate, cells_step}
-use Rattle.sdd_steps.proofs.Told.{Inside, Ready, Ripe, aged_from, aged_standing, aged_live, aged_noted, left_from, left_standing, left_live, left_noted}
+use Rattle.sdd_steps.specs.Steps.{loaded_as, handed, unhanded, emptied, filled, after_release, count_of, older, aged, left, left_by, noted, paid, placed, taken_up, all_have_loose_owners}
+use Rattle.sdd_steps.specs.Invariant.{Ageing, Counted, Same, Standing, Facts, Inv, names_of}
+use Rattle.sdd_steps.proofs.ListLemmas.{put, set_all, set_here, set_else, same_at, at_inside, at_get, get_at, at_mapped, at_map, at_longer, has_end}
+use Rattle.sdd_steps.proofs.CountLemmas.{uses_set, uses_some, points_self, points_other, times_some, counted_step, counted_give_up, counted_states, counted_placed, placed_all, paid_at, names_set, names_taken_up, loose_has, has_without}
+use Rattle.sdd_steps.proofs.FactLemmas.{Holding, participant_step, items_step, item_step, same_state, cells_step}
+use Rattle.sdd_steps.proofs.EnabledLemmas.{Inside, Ready, Reclaimable, aged_from, aged_standing, aged_live, aged_noted, left_from, left_standing, left_live, left_noted}
 
 module _ (s : State) (k : Counted (names_of s.cells) s.items) (born since : ℕ → ℕ) (f : Facts s born since) where
   abbrev More : State → Type 0
   More t = (b : ℕ → ℕ) × (n : ℕ → ℕ) × Facts t b n
 
-  pub live_in_hand : (i : ℕ) (it : Item) → At s.items i it → 0 < it.hand → it.fate ≡ Live
+  pub live_in_hand : (i : ℕ) (it : Item) → At s.items i it → 0 < it.hand → it.state ≡ Live
   live_in_hand i it at_i h = let w = k.owned i it at_i in let n = w.counted in w.is_live (omega arith)
 
   at_name : (c : ℕ) (o : Cell) (i : ℕ) → At s.cells c o → o.names ≡ Some i → At (names_of s.cells) c (Some i)
   at_name c o i at is = subst (At (names_of s.cells) c) is (at_map (λ (z : Cell). z.names) s.cells c o at)
 
-  pub named_there : (c : ℕ) (o : Cell) (i : ℕ) → At s.cells c o → o.names ≡ Some i → At s.items i (item_at s i) × ((item_at s i).fate ≡ Live)
+  pub named_there : (c : ℕ) (o : Cell) (i : ℕ) → At s.cells c o → o.names ≡ Some i → At s.items i (item_at s i) × ((item_at s i).state ≡ Live)
   named_there c o i at is = let n = at_name c o i at is in let at_i = at_get s.items i no_item (k.named c i n) in let w = k.owned i (item_at s i) at_i in let e = w.counted in
       let u = uses_some i (names_of s.cells) c n in (at_i, w.is_live (omega arith))
 
@@ -64,14 +64,14 @@ module _ (s : State) (k : Counted (names_of s.cells) s.items) (born since : ℕ 
         (λ e' h' h has. absurd has),
   )
 
-  pub loads : (p : ℕ) (x : Participant) (i : ℕ) → At s.participants p x → At s.items i (item_at s i) → (item_at s i).fate ≡ Live → More (with_participant s p (record x { loaded = x.loaded ++ loaded_as s.items i ∷ [] }))
+  pub loads : (p : ℕ) (x : Participant) (i : ℕ) → At s.participants p x → At s.items i (item_at s i) → (item_at s i).state ≡ Live → More (with_participant s p (record x { loaded = x.loaded ++ loaded_as s.items i ∷ [] }))
   loads p x i at at_i is_live = let new : Loaded = loaded_as s.items i in (
     put born p (born p),
     since,
     participant_step s born since f p x (record x { loaded = x.loaded ++ new ∷ [] }) (born p) at
         (f.guards p x at) (λ e h. inr (h, refl)) (λ r y e h has other at_r is'. f.looks p x r y e at h has at_r is')
         (λ j z a at_j h. f.ageing j z p a x at_j h at)
-        (λ e l h has. ⊎_elim (λ t. f.kept p x e l at h t) (λ (t : new ≡ l). subst (λ (m : Loaded). (z : Item) × At s.items m.item z × Same s.items m z × Standing (born p) (since m.item) z.fate) t
+        (λ e l h has. ⊎_elim (λ t. f.kept p x e l at h t) (λ (t : new ≡ l). subst (λ (m : Loaded). (z : Item) × At s.items m.item z × Same s.items m z × Standing (born p) (since m.item) z.state) t
         (item_at s i, at_i, record { value = refl; holds = refl }, subst (Standing (born p) (since i)) (sym is_live) tt)) (has_end x.loaded new l has)),
   )
 
@@ -104,15 +104,15 @@ module _ (s : State) (k : Counted (names_of s.cells) s.items) (born since : ℕ 
       (λ e' h. inr (h, refl)) (λ r y e' h has other at_r is'. f.looks p x r y e' at h has at_r is')
       (λ i it a at_i h. let o = f.ageing i it p a x at_i h at in let b = o.behind in let y = o.young in record { behind = λ k. let m = b k in omega arith; young = omega arith; reading = o.reading; turning = λ e' h' n. let k : e ≡ e' = cc in absurd (n (sym k)) })
       (λ e' l h has. f.kept p x e' l at h has) in (
-        counted_fates (aged p) s.items (names_of s.cells) refl (aged_live p) k,
+        counted_states (aged p) s.items (names_of s.cells) refl (aged_live p) k,
         (
           put born p (born p),
           since,
           items_step (with_participant s p x') (put born p (born p)) since since k.holding f1 (map (older p) s.items) s.cells
-              (λ i it at_i. (older p it, at_map (older p) s.items i it at_i, record { value = refl; holds = λ _ _. refl; stands = λ b _ _ st. aged_standing p b (since i) it.fate st }))
+              (λ i it at_i. (older p it, at_map (older p) s.items i it at_i, record { value = refl; holds = λ _ _. refl; stands = λ b _ _ st. aged_standing p b (since i) it.state st }))
               f.dated
               (λ i it r a y at_i is_r at_r. let t = at_mapped (older p) s.items i it at_i in let z = t.0 in
-              let was : aged p z.fate ≡ Retired r a = ap (λ (k : Item). k.fate) t.2 ∙ is_r in let b = aged_from p z.fate r a was in
+              let was : aged p z.state ≡ Retired r a = ap (λ (k : Item). k.state) t.2 ∙ is_r in let b = aged_from p z.state r a was in
               ⊎_elim (λ (m : (r ≡ p) × (a ≡ b.0 + 1)). let more = m.1 in let n : ℕ = b.0 in let o = f.ageing i z p n x t.1 (b.1 ∙ ap (λ k. Retired k n) m.0) at in
               let y_is : x' ≡ y = same_at (set s.participants p x') p x' y (set_here s.participants p x' x at) (subst (λ k. At (set s.participants p x') k y) m.0 at_r) in
               subst (λ (k : Participant). Ageing (since i) a k.found k.phase) y_is
@@ -123,25 +123,25 @@ module _ (s : State) (k : Counted (names_of s.cells) s.items) (born since : ℕ 
                 turning = λ e' h d. let k : e ≡ e' = cc in absurd (d (sym k));
               }))
               (λ (m : (r ≢ p) × (a ≡ b.0)). f.ageing i z r a y t.1 (b.1 ∙ ap (λ k. Retired r k) (sym m.1)) (sym (set_else s.participants p r x' m.0) ∙ at_r)) b.2)
-              (λ i it n at_i is_n. let t = at_mapped (older p) s.items i it at_i in f.noted i t.0 n t.1 (aged_noted p t.0.fate n (ap (λ (k : Item). k.fate) t.2 ∙ is_n))),
+              (λ i it n at_i is_n. let t = at_mapped (older p) s.items i it at_i in f.noted i t.0 n t.1 (aged_noted p t.0.state n (ap (λ (k : Item). k.state) t.2 ∙ is_n))),
         ),
       )
 
   pub ends : (p : ℕ) (x : Participant) → At s.participants p x → x.phase ≡ Idle → Inv (record s { participants = set s.participants p (record x { found = 0 }); items = map (left_by p) s.items })
   ends p x at is = let s1 : State = record s { items = map (left_by p) s.items } in
       let f1 = items_step s born since since k.holding f (map (left_by p) s.items) s.cells
-      (λ i it at_i. (left_by p it, at_map (left_by p) s.items i it at_i, record { value = refl; holds = λ _ _. refl; stands = λ b _ _ st. left_standing p b (since i) it.fate st }))
+      (λ i it at_i. (left_by p it, at_map (left_by p) s.items i it at_i, record { value = refl; holds = λ _ _. refl; stands = λ b _ _ st. left_standing p b (since i) it.state st }))
       f.dated
-      (λ i it r a y at_i is_r at_r. let t = at_mapped (left_by p) s.items i it at_i in let was = left_from p t.0.fate r a (ap (λ (k : Item). k.fate) t.2 ∙ is_r) in f.ageing i t.0 r a y t.1 was.1 at_r)
-      (λ i it n at_i is_n. let t = at_mapped (left_by p) s.items i it at_i in f.noted i t.0 n t.1 (left_noted p t.0.fate n (ap (λ (k : Item). k.fate) t.2 ∙ is_n))) in (
-        counted_fates (left p) s.items (names_of s.cells) refl (left_live p) k,
+      (λ i it r a y at_i is_r at_r. let t = at_mapped (left_by p) s.items i it at_i in let was = left_from p t.0.state r a (ap (λ (k : Item). k.state) t.2 ∙ is_r) in f.ageing i t.0 r a y t.1 was.1 at_r)
+      (λ i it n at_i is_n. let t = at_mapped (left_by p) s.items i it at_i in f.noted i t.0 n t.1 (left_noted p t.0.state n (ap (λ (k : Item). k.state) t.2 ∙ is_n))) in (
+        counted_states (left p) s.items (names_of s.cells) refl (left_live p) k,
         (
           put born p (born p),
           since,
           participant_step s1 born since f1 p x (record x { found = 0 }) (born p) at
               record { past = omega arith; reading = λ e h. absurd (cc); inside = λ e h. absurd (cc); again = λ e n h. absurd (cc) }
               (λ e h. inr (h, refl)) (λ r y e h has other at_r is'. f.looks p x r y e at h has at_r is')
-              (λ i it a at_i h. let t = at_mapped (left_by p) s.items i it at_i in let was = left_from p t.0.fate p a (ap (λ (k : Item). k.fate) t.2 ∙ h) in absurd (was.0 refl))
+              (λ i it a at_i h. let t = at_mapped (left_by p) s.items i it at_i in let was = left_from p t.0.state p a (ap (λ (k : Item). k.state) t.2 ∙ h) in absurd (was.0 refl))
               (λ e l h. absurd (cc)),
         ),
       )
@@ -168,18 +168,18 @@ module _ (s : State) (k : Counted (names_of s.cells) s.items) (born since : ℕ 
     },
   )
 
-  -- an item without owners has another fate from now on
-  refate : (i : ℕ) (it : Item) (fate' : Fate) → At s.items i it → it.fate ≢ Live → fate' ≢ Live → ((b : ℕ) → b ≤ s.count → s.count ≤ b + 1 → Standing b (since i) it.fate → Standing b s.count fate')
-      → ((r a : ℕ) (y : Participant) → fate' ≡ Retired r a → At s.participants r y → Ageing s.count a y.found y.phase)
-      → ((m : ℕ) → fate' ≡ Collected m → s.count ≤ m + 1)
-      → Inv (with_item s i (record it { fate = fate' }))
-  refate i it fate' at dead dead' stands ageing noted = let w = k.owned i it at in (
-    counted_step (names_of s.cells) (names_of s.cells) s.items k i it (record it { fate = fate' }) at refl (λ j other. refl) (w.counted, (λ e. absurd (dead' e)), (λ more. absurd (dead (w.is_live more))), w.limit) k.named,
-    (born, put since i s.count, item_step s born since k.holding f i it (record it { fate = fate' }) s.cells s.count at (record { value = refl; holds = λ _ _. refl; stands = stands }) (omega arith) ageing noted),
+  -- an item without owners has another state from now on
+  becomes : (i : ℕ) (it : Item) (state' : ItemState) → At s.items i it → it.state ≢ Live → state' ≢ Live → ((b : ℕ) → b ≤ s.count → s.count ≤ b + 1 → Standing b (since i) it.state → Standing b s.count state')
+      → ((r a : ℕ) (y : Participant) → state' ≡ Retired r a → At s.participants r y → Ageing s.count a y.found y.phase)
+      → ((m : ℕ) → state' ≡ Collected m → s.count ≤ m + 1)
+      → Inv (with_item s i (record it { state = state' }))
+  becomes i it state' at dead dead' stands ageing noted = let w = k.owned i it at in (
+    counted_step (names_of s.cells) (names_of s.cells) s.items k i it (record it { state = state' }) at refl (λ j other. refl) (w.counted, (λ e. absurd (dead' e)), (λ more. absurd (dead (w.is_live more))), w.limit) k.named,
+    (born, put since i s.count, item_step s born since k.holding f i it (record it { state = state' }) s.cells s.count at (record { value = refl; holds = λ _ _. refl; stands = stands }) (omega arith) ageing noted),
   )
 
-  pub retires : (p i : ℕ) (x : Participant) (it : Item) → At s.participants p x → Ready x → At s.items i it → it.fate ≢ Live → Inv (with_item s i (record it { fate = Retired p 0 }))
-  retires p i x it at ready at_i dead = refate i it (Retired p 0) at_i dead (λ e. cc) (λ b less _ _. less)
+  pub retires : (p i : ℕ) (x : Participant) (it : Item) → At s.participants p x → Ready x → At s.items i it → it.state ≢ Live → Inv (with_item s i (record it { state = Retired p 0 }))
+  retires p i x it at ready at_i dead = becomes i it (Retired p 0) at_i dead (λ e. cc) (λ b less _ _. less)
       (λ r a y e at_r. let r_is : p ≡ r = cc in let a_is : 0 ≡ a = cc in let same : x ≡ y = same_at s.participants r x y (subst (λ m. At s.participants m x) r_is at) at_r in
       subst (λ (m : Participant). Ageing s.count a m.found m.phase) same
       (record {
@@ -190,41 +190,41 @@ module _ (s : State) (k : Counted (names_of s.cells) s.items) (born since : ℕ 
       }))
       (λ m e. absurd (cc))
 
-  pub collects : (p i : ℕ) (x : Participant) (it : Item) (e n : ℕ) → At s.participants p x → Inside x e → x.reread ≡ Some n → At s.items i it → it.fate ≢ Live → Inv (with_item s i (record it { fate = noted x.reread }))
+  pub collects : (p i : ℕ) (x : Participant) (it : Item) (e n : ℕ) → At s.participants p x → Inside x e → x.reread ≡ Some n → At s.items i it → it.state ≢ Live → Inv (with_item s i (record it { state = noted x.reread }))
   collects p i x it e n at is again at_i dead = let g = f.guards p x at in let a = g.again e n is.0 again in let late = (g.inside e is.0).3 in let a0 = a.0 in
-      subst (λ o. Inv (with_item s i (record it { fate = noted o }))) (sym again) (refate i it (Collected n) at_i dead (λ e. cc) (λ b less _ _. less) (λ r a y e at_r. absurd (cc)) (λ m e. let j : n ≡ m = cc in omega arith))
+      subst (λ o. Inv (with_item s i (record it { state = noted o }))) (sym again) (becomes i it (Collected n) at_i dead (λ e. cc) (λ b less _ _. less) (λ r a y e at_r. absurd (cc)) (λ m e. let j : n ≡ m = cc in omega arith))
 
-  pub reclaims : (p i : ℕ) (x : Participant) (it : Item) → At s.participants p x → At s.items i it → Ripe p x it.fate → Inv (with_item s i (record it { fate = Reclaimed p }))
-  reclaims p i x it at at_i ripe = refate i it (Reclaimed p) at_i
-      (λ e. ⊎_elim (λ (t : it.fate ≡ Retired p 3). let bad : Live ≡ Retired p 3 = sym e ∙ t in cc) (λ (t : (n m : ℕ) × (it.fate ≡ Collected n) × Inside x (count_of x.phase) × (x.reread ≡ Some m) × (n + 3 ≤ m)). let bad : Live ≡ Collected t.0 = sym e ∙ t.2 in cc) ripe)
+  pub reclaims : (p i : ℕ) (x : Participant) (it : Item) → At s.participants p x → At s.items i it → Reclaimable p x it.state → Inv (with_item s i (record it { state = Reclaimed p }))
+  reclaims p i x it at at_i reclaimable = becomes i it (Reclaimed p) at_i
+      (λ e. ⊎_elim (λ (t : it.state ≡ Retired p 3). let bad : Live ≡ Retired p 3 = sym e ∙ t in cc) (λ (t : (n m : ℕ) × (it.state ≡ Collected n) × Inside x (count_of x.phase) × (x.reread ≡ Some m) × (n + 3 ≤ m)). let bad : Live ≡ Collected t.0 = sym e ∙ t.2 in cc) reclaimable)
       (λ e. cc)
       (λ b less late st. ⊎_elim
-      (λ (t : it.fate ≡ Retired p 3). let o = f.ageing i it p 3 x at_i t at in let behind = o.behind (omega arith) in let past = (f.guards p x at).past in let standing : b ≤ since i = subst (Standing b (since i)) t st in absurd (omega arith))
-      (λ (t : (n m : ℕ) × (it.fate ≡ Collected n) × Inside x (count_of x.phase) × (x.reread ≡ Some m) × (n + 3 ≤ m)). let note = f.noted i it t.0 at_i t.2 in let a = (f.guards p x at).again (count_of x.phase) t.1 t.3.0 t.4 in let a1 = a.1 in
-      let above = t.5 in let standing : b ≤ since i = subst (Standing b (since i)) t.2 st in absurd (omega arith)) ripe)
+      (λ (t : it.state ≡ Retired p 3). let o = f.ageing i it p 3 x at_i t at in let behind = o.behind (omega arith) in let past = (f.guards p x at).past in let standing : b ≤ since i = subst (Standing b (since i)) t st in absurd (omega arith))
+      (λ (t : (n m : ℕ) × (it.state ≡ Collected n) × Inside x (count_of x.phase) × (x.reread ≡ Some m) × (n + 3 ≤ m)). let note = f.noted i it t.0 at_i t.2 in let a = (f.guards p x at).again (count_of x.phase) t.1 t.3.0 t.4 in let a1 = a.1 in
+      let above = t.5 in let standing : b ≤ since i = subst (Standing b (since i)) t.2 st in absurd (omega arith)) reclaimable)
       (λ r a y e at_r. absurd (cc)) (λ m e. absurd (cc))
 
-  pub adds_owner : (i : ℕ) (it : Item) → At s.items i it → it.fate ≡ Live → it.owners < 2 ^ 32 - 1 → Inv (with_item s i (record it { hand = it.hand + 1; owners = it.owners + 1 }))
+  pub adds_owner : (i : ℕ) (it : Item) → At s.items i it → it.state ≡ Live → it.owners < 2 ^ 32 - 1 → Inv (with_item s i (record it { hand = it.hand + 1; owners = it.owners + 1 }))
   adds_owner i it at_i is room = let it' : Item = record it { hand = it.hand + 1; owners = it.owners + 1 } in let w = k.owned i it at_i in let n = w.counted in (
     counted_step (names_of s.cells) (names_of s.cells) s.items k i it it' at_i refl (λ j other. refl) (omega arith, (λ _. omega arith), (λ _. is), omega arith) k.named,
-    (born, put since i (since i), same_fate s born since k.holding f i it it' s.cells at_i refl refl (λ _ _. refl)),
+    (born, put since i (since i), same_state s born since k.holding f i it it' s.cells at_i refl refl (λ _ _. refl)),
   )
 
   pub releases : (p i : ℕ) (it : Item) → At s.items i it → 0 < it.hand → Inv (with_item s i (after_release p it))
   releases p i it at_i h = let w = k.owned i it at_i in let c = w.counted in let l = w.limit in let is = live_in_hand i it at_i h in let n : ℕ = it.owners - 1 in
-      let made : Fate → Item = (λ z. record it { hand = it.hand - 1; owners = it.owners - 1; fate = z }) in dite (ℕ_discrete n 0)
-      (λ e. subst (λ b. Inv (with_item s i (made (cond b (Due p) it.fate)))) (sym (eq-eqb n 0 e)) (
+      let made : ItemState → Item = (λ z. record it { hand = it.hand - 1; owners = it.owners - 1; state = z }) in dite (ℕ_discrete n 0)
+      (λ e. subst (λ b. Inv (with_item s i (made (cond b (Due p) it.state)))) (sym (eq-eqb n 0 e)) (
         counted_step (names_of s.cells) (names_of s.cells) s.items k i it (made (Due p)) at_i refl (λ j other. refl) (omega arith, (λ e. absurd (cc)), (λ more. absurd (omega arith)), omega arith) k.named,
         (born, put since i (since i), item_step s born since k.holding f i it (made (Due p)) s.cells (since i) at_i (record { value = refl; holds = λ _ _. refl; stands = λ _ _ _ _. tt }) (f.dated i) (λ r a y e. absurd (cc)) (λ m e. absurd (cc))),
       ))
-      (λ d. subst (λ b. Inv (with_item s i (made (cond b (Due p) it.fate)))) (sym (ne_eqb n 0 d)) (
-        counted_step (names_of s.cells) (names_of s.cells) s.items k i it (made it.fate) at_i refl (λ j other. refl) (omega arith, (λ _. omega arith), (λ _. is), omega arith) k.named,
-        (born, put since i (since i), same_fate s born since k.holding f i it (made it.fate) s.cells at_i refl refl (λ _ _. refl)),
+      (λ d. subst (λ b. Inv (with_item s i (made (cond b (Due p) it.state)))) (sym (ne_eqb n 0 d)) (
+        counted_step (names_of s.cells) (names_of s.cells) s.items k i it (made it.state) at_i refl (λ j other. refl) (omega arith, (λ _. omega arith), (λ _. is), omega arith) k.named,
+        (born, put since i (since i), same_state s born since k.holding f i it (made it.state) s.cells at_i refl refl (λ _ _. refl)),
       ))
 
-  gives_up : (p j i : ℕ) (w it : Item) → At s.items j w → w.fate ≡ Reclaimed p → Has w.holds i → At s.items i it → Counted (names_of s.cells) (set (set s.items j (record w { holds = without i w.holds })) i (handed it)) × (i ≢ j) × Facts (record s { items = set s.items j (record w { holds = without i w.holds }) }) born (put since j (since j))
+  gives_up : (p j i : ℕ) (w it : Item) → At s.items j w → w.state ≡ Reclaimed p → Has w.holds i → At s.items i it → Counted (names_of s.cells) (set (set s.items j (record w { holds = without i w.holds })) i (handed it)) × (i ≢ j) × Facts (record s { items = set s.items j (record w { holds = without i w.holds }) }) born (put since j (since j))
   gives_up p j i w it at_j gone has at_i = let c = counted_give_up (names_of s.cells) s.items k p j i w it at_j gone has at_i in
-      (c.1, c.0, same_fate s born since k.holding f j w (record w { holds = without i w.holds }) s.cells at_j refl refl (λ b st. absurd (subst (Standing b (since j)) gone st)))
+      (c.1, c.0, same_state s born since k.holding f j w (record w { holds = without i w.holds }) s.cells at_j refl refl (λ b st. absurd (subst (Standing b (since j)) gone st)))
 
   empties : (c i : ℕ) (o : Cell) (it : Item) → At s.cells c o → o.names ≡ Some i → At s.items i it → Inv (record s { cells = set s.cells c (record o { names = None }); items = set s.items i (handed it) })
   empties c i o it at_c is at_i = let o' : Cell = record o { names = None } in let w = k.owned i it at_i in let n = w.counted in let names = names_of s.cells in let at_n = at_name c o i at_c is in (
@@ -233,7 +233,7 @@ module _ (s : State) (k : Counted (names_of s.cells) s.items) (born since : ℕ 
         (λ j other. let u = uses_set j names c (Some i) None at_n in let e = points_other j i (λ h. other (sym h)) in omega arith)
         (let u = uses_set i names c (Some i) None at_n in let e = points_self i in (omega arith, w.has_owner, w.is_live, w.limit))
         (λ d j at. set_all (λ d' z. z ≡ Some j → j < length s.items) names c None (λ e. absurd (cc)) (λ d' z other at' e. k.named d' j (subst (At names d') e at')) d (Some j) at refl)),
-    (born, put since i (since i), same_fate s born since k.holding f i it (handed it) (set s.cells c o') at_i refl refl (λ _ _. refl)),
+    (born, put since i (since i), same_state s born since k.holding f i it (handed it) (set s.cells c o') at_i refl refl (λ _ _. refl)),
   )
 
   fills : (c i : ℕ) (o : Cell) (it : Item) → At s.cells c o → o.names ≡ None → At s.items i it → 0 < it.hand → Inv (record s { cells = set s.cells c (record o { names = Some i }); items = set s.items i (unhanded it) })
@@ -244,21 +244,21 @@ module _ (s : State) (k : Counted (names_of s.cells) s.items) (born since : ℕ 
             (λ j other. let u = uses_set j names c None (Some i) at_n in let e = points_other j i (λ h. other (sym h)) in omega arith)
             (let u = uses_set i names c None (Some i) at_n in let e = points_self i in (omega arith, w.has_owner, w.is_live, w.limit))
             (λ d j at. set_all (λ d' z. z ≡ Some j → j < length s.items) names c (Some i) (λ e. let same : i ≡ j = cc in let b = at_inside s.items i it at_i in omega arith) (λ d' z other at' e. k.named d' j (subst (At names d') e at')) d (Some j) at refl)),
-        (born, put since i (since i), same_fate s born since k.holding f i it (unhanded it) (set s.cells c o') at_i refl refl (λ _ _. refl)),
+        (born, put since i (since i), same_state s born since k.holding f i it (unhanded it) (set s.cells c o') at_i refl refl (λ _ _. refl)),
       )
 
-  pub places : (v : ℕ) (hs cs : List ℕ) → all_handy s.items hs hs ≡ true → Inv (record s { cells = taken_up (length s.items) cs s.cells; items = paid hs s.items ++ placed v hs ∷ [] })
-  places v hs cs handy = let all = paid hs s.items ++ placed v hs ∷ [] in let cells' = taken_up (length s.items) cs s.cells in (
-    subst (λ l. Counted l all) (sym (names_taken_up (length s.items) cs s.cells)) (counted_placed v hs (names_of s.cells) s.items (λ m has. (handy_has s.items hs hs handy m has).0)
-        (λ m it at. ⊎_elim (λ (e : times m hs ≡ 0). omega arith) (λ (has : Has hs m). let h = (handy_has s.items hs hs handy m has).1 in let e : (get_or s.items m no_item).hand ≡ it.hand = ap (λ (z : Item). z.hand) (get_at s.items m no_item it at) in omega arith) (times_some m hs)) k),
+  pub places : (v : ℕ) (hs cs : List ℕ) → all_have_loose_owners s.items hs hs ≡ true → Inv (record s { cells = taken_up (length s.items) cs s.cells; items = paid hs s.items ++ placed v hs ∷ [] })
+  places v hs cs loose = let all = paid hs s.items ++ placed v hs ∷ [] in let cells' = taken_up (length s.items) cs s.cells in (
+    subst (λ l. Counted l all) (sym (names_taken_up (length s.items) cs s.cells)) (counted_placed v hs (names_of s.cells) s.items (λ m has. (loose_has s.items hs hs loose m has).0)
+        (λ m it at. ⊎_elim (λ (e : times m hs ≡ 0). omega arith) (λ (has : Has hs m). let h = (loose_has s.items hs hs loose m has).1 in let e : (get_or s.items m no_item).hand ≡ it.hand = ap (λ (z : Item). z.hand) (get_at s.items m no_item it at) in omega arith) (times_some m hs)) k),
     (
       born,
       since,
       items_step s born since since k.holding f all cells'
           (λ m it at. (record it { hand = it.hand - times m hs }, at_longer (paid hs s.items) (placed v hs ∷ []) m (record it { hand = it.hand - times m hs }) (paid_at hs s.items m it at), record { value = refl; holds = λ _ _. refl; stands = λ _ _ _ st. st }))
           f.dated
-          (λ j z r a y here is at_r. placed_all v hs s.items (λ j' z'. z'.fate ≡ Retired r a → Ageing (since j') a y.found y.phase) (λ e. absurd (cc)) (λ j' it at' e. f.ageing j' it r a y at' e at_r) j z here is)
-          (λ j z m here is. placed_all v hs s.items (λ j' z'. z'.fate ≡ Collected m → since j' ≤ m + 1) (λ e. absurd (cc)) (λ j' it at' e. f.noted j' it m at' e) j z here is),
+          (λ j z r a y here is at_r. placed_all v hs s.items (λ j' z'. z'.state ≡ Retired r a → Ageing (since j') a y.found y.phase) (λ e. absurd (cc)) (λ j' it at' e. f.ageing j' it r a y at' e at_r) j z here is)
+          (λ j z m here is. placed_all v hs s.items (λ j' z'. z'.state ≡ Collected m → since j' ≤ m + 1) (λ e. absurd (cc)) (λ j' it at' e. f.noted j' it m at' e) j z here is),
     ),
   )
 
@@ -288,7 +288,7 @@ emptied_hand s c (Some j) i at h = let new : Item = handed (item_at s j) in let 
 pub fills_cell : (s : State) (c i : ℕ) → At s.cells c (cell_at s c) → (cell_at s c).names ≡ None → At s.items i (item_at s i) → 0 < (item_at s i).hand → Inv s → Inv (filled s c (Some i))
 fills_cell s c i at is at_i h (k, (b, n, f)) = fills s k b n f c i (cell_at s c) (item_at s i) at is at_i h
 
-pub gives_up_owner : (s : State) (p j i : ℕ) → At s.items j (item_at s j) → (item_at s j).fate ≡ Reclaimed p → Has (item_at s j).holds i → Inv s
+pub gives_up_owner : (s : State) (p j i : ℕ) → At s.items j (item_at s j) → (item_at s j).state ≡ Reclaimed p → Has (item_at s j).holds i → Inv s
     → (t : State) → t ≡ with_item s j (record (item_at s j) { holds = without i (item_at s j).holds }) → Inv (with_item t i (handed (item_at t i)))
 gives_up_owner s p j i at_j gone has (k, (b, n, f)) t is = let w = item_at s j in let w' : Item = record w { holds = without i w.holds } in
     let at_i = at_get s.items i no_item (k.holding j w i at_j has) in let g = gives_up s k b n f p j i w (item_at s i) at_j gone has at_i in
@@ -296,4 +296,4 @@ gives_up_owner s p j i at_j gone has (k, (b, n, f)) t is = let w = item_at s j i
     let since1 = put n j (n j) in let l = length-set s.items j w' in
     let holding : Holding t'.items = (λ m z q here has'. let h = set_all (λ m' z'. Has z'.holds q → q < length s.items) s.items j w' (λ y. k.holding j w q at_j (has_without i q w.holds y)) (λ m' z' o h' y. k.holding m' z' q h' y) m z here has' in omega arith) in
     subst (λ (z : State). Inv (with_item z i (handed (item_at z i)))) (sym is) (subst (λ (z : Item). Inv (with_item t' i (handed z))) (sym same)
-    (g.0, (b, put since1 i (since1 i), same_fate t' b since1 holding g.2 i (item_at s i) (handed (item_at s i)) t'.cells at_i' refl refl (λ _ _. refl))))
+    (g.0, (b, put since1 i (since1 i), same_state t' b since1 holding g.2 i (item_at s i) (handed (item_at s i)) t'.cells at_i' refl refl (λ _ _. refl))))

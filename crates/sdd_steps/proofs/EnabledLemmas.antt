@@ -1,19 +1,19 @@
--- what the tests of participants, items and fates tell where they answer yes
+-- what the tests of participants, items and states tell where they answer yes
 use Rattle.std.proofs.Common.{◌≡◌, ◌≢◌, ◌⊎◌, ◌||◌, ◌==◌, Bool, true, false, not, ℕ, zero, suc, ◌+◌, ◌<◌, ◌≤◌, cond, nat_lt, List, length, sym, refl, ap, ◌∙◌, subst, ⊎_elim, inl, inr, arith, eqb-true, ltb-true, leb-true, eq-eqb, ne_eqb, Option, Some, None, is_some}
 use mathlib.Core.Logic.{dite}
 use native.Mathlib.Decide.{ℕ_discrete}
 use Rattle.sdd_steps.specs.declared.participant.Phase.{Phase}
 use Rattle.sdd_steps.specs.declared.participant.Phase.TheVariants.{Idle, HasRead, Opened}
-use Rattle.sdd_steps.specs.declared.item.Fate.{Fate}
-use Rattle.sdd_steps.specs.declared.item.Fate.TheVariants.{Live, Due, Retired, Collected, Waiting, Reclaimed}
+use Rattle.sdd_steps.specs.declared.item.ItemState.{ItemState}
+use Rattle.sdd_steps.specs.declared.item.ItemState.TheVariants.{Live, Due, Retired, Collected, Waiting, Reclaimed}
 use Rattle.sdd_steps.specs.declared.participant.Participant.{Participant}
 use Rattle.sdd_steps.specs.declared.item.Item.{Item}
 use Rattle.sdd_steps.specs.declared.item.Cell.{Cell}
 use Rattle.sdd_steps.specs.State.{State, At, Has, has, participant_at, cell_at, item_at, participant_is, cell_is, item_is, newcomer, empty_cell, no_item}
-use Rattle.sdd_steps.specs.Steps.{idle, reading, opened, count_of, is_idle, is_turning, is_inside, is_ready, agrees, all_looked, is_live, is_due, is_reclaimed, is_left, is_past, is_ripe, named, noted, aged, left}
-use Rattle.sdd_steps.specs.Kept.{Standing}
-use Rattle.sdd_steps.proofs.Lists.{at_get, both, either, unless}
-use Rattle.sdd_steps.proofs.Counts.{has_has}
+use Rattle.sdd_steps.specs.Steps.{idle, reading, opened, count_of, is_idle, is_turning, is_inside, is_ready, agrees, all_looked, is_live, is_due, is_reclaimed, is_left, is_past, is_reclaimable, named, noted, aged, left}
+use Rattle.sdd_steps.specs.Invariant.{Standing}
+use Rattle.sdd_steps.proofs.ListLemmas.{at_get, both, either, unless}
+use Rattle.sdd_steps.proofs.CountLemmas.{has_has}
 
 pub participant_there : (test : Participant → Bool) (s : State) (p : ℕ) → participant_is test s p ≡ true → At s.participants p (participant_at s p) × (test (participant_at s p) ≡ true)
 participant_there test s p h = let b = both (nat_lt p (length s.participants)) (test (participant_at s p)) h in (at_get s.participants p newcomer (ltb-true p (length s.participants) b.0), b.1)
@@ -67,7 +67,7 @@ looked_is p looked (suc n) h q less other = let b = both ((n == p) || has n look
     (λ e. ⊎_elim (λ t. absurd (other (e ∙ eqb-true n p t))) (λ t. subst (Has looked) (sym e) (has_has n looked t)) (either (n == p) (has n looked) b.0))
     (λ d. looked_is p looked n b.1 q (omega arith) other)
 
-pub due_is : (p : ℕ) (f : Fate) → is_due p f ≡ true → f ≡ Due p
+pub due_is : (p : ℕ) (f : ItemState) → is_due p f ≡ true → f ≡ Due p
 due_is p Live h = absurd (cc)
 due_is p (Due r) h = ap (λ k. Due k) (eqb-true r p h)
 due_is p (Retired r a) h = absurd (cc)
@@ -75,7 +75,7 @@ due_is p (Collected n) h = absurd (cc)
 due_is p Waiting h = absurd (cc)
 due_is p (Reclaimed r) h = absurd (cc)
 
-pub live_is : (f : Fate) → is_live f ≡ true → f ≡ Live
+pub live_is : (f : ItemState) → is_live f ≡ true → f ≡ Live
 live_is Live h = refl
 live_is (Due r) h = absurd (cc)
 live_is (Retired r a) h = absurd (cc)
@@ -83,7 +83,7 @@ live_is (Collected n) h = absurd (cc)
 live_is Waiting h = absurd (cc)
 live_is (Reclaimed r) h = absurd (cc)
 
-pub reclaimed_is : (p : ℕ) (f : Fate) → is_reclaimed p f ≡ true → f ≡ Reclaimed p
+pub reclaimed_is : (p : ℕ) (f : ItemState) → is_reclaimed p f ≡ true → f ≡ Reclaimed p
 reclaimed_is p Live h = absurd (cc)
 reclaimed_is p (Due r) h = absurd (cc)
 reclaimed_is p (Retired r a) h = absurd (cc)
@@ -91,7 +91,7 @@ reclaimed_is p (Collected n) h = absurd (cc)
 reclaimed_is p Waiting h = absurd (cc)
 reclaimed_is p (Reclaimed r) h = ap (λ k. Reclaimed k) (eqb-true r p h)
 
-pub left_dead : (f : Fate) → is_left f ≡ true → f ≢ Live
+pub left_dead : (f : ItemState) → is_left f ≡ true → f ≢ Live
 left_dead Live h e = cc
 left_dead (Due r) h e = cc
 left_dead (Retired r a) h e = cc
@@ -104,16 +104,16 @@ past_is n None h = absurd (cc)
 past_is n (Some m) h = (m, refl, leb-true (n + 3) m h)
 
 -- what may be reclaimed: an item of age 3, or one that was noted three counts below the one read again
-abbrev pub Ripe : ℕ → Participant → Fate → Type 0
-Ripe q x f = (f ≡ Retired q 3) ⊎ ((n m : ℕ) × (f ≡ Collected n) × Inside x (count_of x.phase) × (x.reread ≡ Some m) × (n + 3 ≤ m))
+abbrev pub Reclaimable : ℕ → Participant → ItemState → Type 0
+Reclaimable q x f = (f ≡ Retired q 3) ⊎ ((n m : ℕ) × (f ≡ Collected n) × Inside x (count_of x.phase) × (x.reread ≡ Some m) × (n + 3 ≤ m))
 
-pub ripe_is : (q : ℕ) (x : Participant) (f : Fate) → is_ripe q x f ≡ true → Ripe q x f
-ripe_is q x Live h = absurd (cc)
-ripe_is q x (Due r) h = absurd (cc)
-ripe_is q x (Retired r a) h = let b = both (r == q) (a == 3) h in inl (λ i. Retired (eqb-true r q b.0 i) (eqb-true a 3 b.1 i))
-ripe_is q x (Collected n) h = let b = both (is_inside x) (is_past n x.reread) h in let m = past_is n x.reread b.1 in inr (n, m.0, refl, inside_is x b.0, m.1, m.2)
-ripe_is q x Waiting h = absurd (cc)
-ripe_is q x (Reclaimed r) h = absurd (cc)
+pub reclaimable_is : (q : ℕ) (x : Participant) (f : ItemState) → is_reclaimable q x f ≡ true → Reclaimable q x f
+reclaimable_is q x Live h = absurd (cc)
+reclaimable_is q x (Due r) h = absurd (cc)
+reclaimable_is q x (Retired r a) h = let b = both (r == q) (a == 3) h in inl (λ i. Retired (eqb-true r q b.0 i) (eqb-true a 3 b.1 i))
+reclaimable_is q x (Collected n) h = let b = both (is_inside x) (is_past n x.reread) h in let m = past_is n x.reread b.1 in inr (n, m.0, refl, inside_is x b.0, m.1, m.2)
+reclaimable_is q x Waiting h = absurd (cc)
+reclaimable_is q x (Reclaimed r) h = absurd (cc)
 
 pub some_is : (o : Option ℕ) → is_some o ≡ true → o ≡ Some (named o)
 some_is None h = absurd (cc)
@@ -128,7 +128,7 @@ noted_unretired None r a e = cc
 noted_unretired (Some n) r a e = cc
 
 -- ageing
-pub aged_live : (p : ℕ) (f : Fate) → aged p f ≡ Live → f ≡ Live
+pub aged_live : (p : ℕ) (f : ItemState) → aged p f ≡ Live → f ≡ Live
 aged_live p Live e = refl
 aged_live p (Due q) e = absurd (cc)
 aged_live p (Retired q b) e = absurd (cc)
@@ -136,7 +136,7 @@ aged_live p (Collected n) e = absurd (cc)
 aged_live p Waiting e = absurd (cc)
 aged_live p (Reclaimed q) e = absurd (cc)
 
-pub aged_standing : (p b n : ℕ) (f : Fate) → Standing b n f → Standing b n (aged p f)
+pub aged_standing : (p b n : ℕ) (f : ItemState) → Standing b n f → Standing b n (aged p f)
 aged_standing p b n Live h = tt
 aged_standing p b n (Due q) h = tt
 aged_standing p b n (Retired q a) h = h
@@ -144,7 +144,7 @@ aged_standing p b n (Collected m) h = h
 aged_standing p b n Waiting h = h
 aged_standing p b n (Reclaimed q) h = h
 
-pub aged_noted : (p : ℕ) (f : Fate) (n : ℕ) → aged p f ≡ Collected n → f ≡ Collected n
+pub aged_noted : (p : ℕ) (f : ItemState) (n : ℕ) → aged p f ≡ Collected n → f ≡ Collected n
 aged_noted p Live n e = absurd (cc)
 aged_noted p (Due q) n e = absurd (cc)
 aged_noted p (Retired q b) n e = absurd (cc)
@@ -152,7 +152,7 @@ aged_noted p (Collected m) n e = e
 aged_noted p Waiting n e = absurd (cc)
 aged_noted p (Reclaimed q) n e = absurd (cc)
 
-pub aged_from : (p : ℕ) (f : Fate) (r a : ℕ) → aged p f ≡ Retired r a → (b : ℕ) × (f ≡ Retired r b) × (((r ≡ p) × (a ≡ b + 1)) ⊎ ((r ≢ p) × (a ≡ b)))
+pub aged_from : (p : ℕ) (f : ItemState) (r a : ℕ) → aged p f ≡ Retired r a → (b : ℕ) × (f ≡ Retired r b) × (((r ≡ p) × (a ≡ b + 1)) ⊎ ((r ≢ p) × (a ≡ b)))
 aged_from p Live r a e = absurd (cc)
 aged_from p (Due q) r a e = absurd (cc)
 aged_from p (Collected m) r a e = absurd (cc)
@@ -167,10 +167,10 @@ aged_from p (Retired q b) r a e = let c : ℕ = cond (q == p) (b + 1) b in let h
 )
 
 -- ending
-left_retired : (P : Fate → Type 0) (p r a : ℕ) → (r ≡ p → P Waiting) → (r ≢ p → P (Retired r a)) → P (left p (Retired r a))
+left_retired : (P : ItemState → Type 0) (p r a : ℕ) → (r ≡ p → P Waiting) → (r ≢ p → P (Retired r a)) → P (left p (Retired r a))
 left_retired P p r a yes_ no_ = dite (ℕ_discrete r p) (λ e. subst (λ k. P (cond k Waiting (Retired r a))) (sym (eq-eqb r p e)) (yes_ e)) (λ e. subst (λ k. P (cond k Waiting (Retired r a))) (sym (ne_eqb r p e)) (no_ e))
 
-pub left_live : (p : ℕ) (f : Fate) → left p f ≡ Live → f ≡ Live
+pub left_live : (p : ℕ) (f : ItemState) → left p f ≡ Live → f ≡ Live
 left_live p Live e = refl
 left_live p (Due q) e = absurd (cc)
 left_live p (Retired q b) e = left_retired (λ z. z ≡ Live → Retired q b ≡ Live) p q b (λ _ e. absurd (cc)) (λ _ e. e) e
@@ -178,7 +178,7 @@ left_live p (Collected n) e = absurd (cc)
 left_live p Waiting e = absurd (cc)
 left_live p (Reclaimed q) e = absurd (cc)
 
-pub left_standing : (p b n : ℕ) (f : Fate) → Standing b n f → Standing b n (left p f)
+pub left_standing : (p b n : ℕ) (f : ItemState) → Standing b n f → Standing b n (left p f)
 left_standing p b n Live h = tt
 left_standing p b n (Due q) h = tt
 left_standing p b n (Retired q a) h = left_retired (Standing b n) p q a (λ _. h) (λ _. h)
@@ -186,7 +186,7 @@ left_standing p b n (Collected m) h = h
 left_standing p b n Waiting h = h
 left_standing p b n (Reclaimed q) h = h
 
-pub left_noted : (p : ℕ) (f : Fate) (n : ℕ) → left p f ≡ Collected n → f ≡ Collected n
+pub left_noted : (p : ℕ) (f : ItemState) (n : ℕ) → left p f ≡ Collected n → f ≡ Collected n
 left_noted p Live n e = absurd (cc)
 left_noted p (Due q) n e = absurd (cc)
 left_noted p (Retired q b) n e = left_retired (λ z. z ≡ Collected n → Retired q b ≡ Collected n) p q b (λ _ e. absurd (cc)) (λ _ e. e) e
@@ -194,7 +194,7 @@ left_noted p (Collected m) n e = e
 left_noted p Waiting n e = absurd (cc)
 left_noted p (Reclaimed q) n e = absurd (cc)
 
-pub left_from : (p : ℕ) (f : Fate) (r a : ℕ) → left p f ≡ Retired r a → (r ≢ p) × (f ≡ Retired r a)
+pub left_from : (p : ℕ) (f : ItemState) (r a : ℕ) → left p f ≡ Retired r a → (r ≢ p) × (f ≡ Retired r a)
 left_from p Live r a e = absurd (cc)
 left_from p (Due q) r a e = absurd (cc)
 left_from p (Retired q b) r a e = left_retired (λ z. z ≡ Retired r a → (r ≢ p) × (Retired q b ≡ Retired r a)) p q b (λ _ e. absurd (cc)) (λ n e. let hr : q ≡ r = cc in ((λ z. n (hr ∙ z)), e)) e

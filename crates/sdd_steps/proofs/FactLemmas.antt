@@ -1,7 +1,7 @@
 -- a step that changes one participant, or items and cells alone, keeps what is known of guards and ages
 use Rattle.std.proofs.Common.{◌≡◌, ◌≢◌, ◌⊎◌, ℕ, ◌+◌, ◌<◌, ◌≤◌, List, length, map, get_or, set, sym, refl, ap, ◌∙◌, subst, ⊎_elim, arith}
 use Rattle.sdd_steps.specs.declared.participant.Phase.TheVariants.{Opened}
-use Rattle.sdd_steps.specs.declared.item.Fate.TheVariants.{Retired, Collected}
+use Rattle.sdd_steps.specs.declared.item.ItemState.TheVariants.{Retired, Collected}
 use Rattle.sdd_steps.specs.declared.participant.Seen.{Seen}
 use Rattle.sdd_steps.specs.declared.participant.Loaded.{Loaded}
 use Rattle.sdd_steps.specs.declared.participant.Participant.{Participant}
@@ -9,22 +9,22 @@ use Rattle.sdd_steps.specs.declared.item.Item.{Item}
 use Rattle.sdd_steps.specs.declared.item.Cell.{Cell}
 use Rattle.sdd_steps.specs.State.{State, At, Has, no_item, with_participant}
 use Rattle.sdd_steps.specs.Steps.{seen}
-use Rattle.sdd_steps.specs.Kept.{Guarded, Ageing, Same, Standing, Facts}
-use Rattle.sdd_steps.proofs.Lists.{put, put_here, put_else, put_at_most, set_all, each_set, find_at, get_at, map_alike}
+use Rattle.sdd_steps.specs.Invariant.{Guarded, Ageing, Same, Standing, Facts}
+use Rattle.sdd_steps.proofs.ListLemmas.{put, put_here, put_else, put_at_most, set_all, each_set, find_at, get_at, map_alike}
 
 abbrev as_seen : ℕ → ℕ → Seen
 as_seen m v = record { item = m; value = v }
 
 -- a loaded item as one item list shows it
 abbrev pub Shows : List Item → (since : ℕ → ℕ) → ℕ → Loaded → Type 0
-Shows items since born h = (it : Item) × At items h.item it × Same items h it × Standing born (since h.item) it.fate
+Shows items since born h = (it : Item) × At items h.item it × Same items h it × Standing born (since h.item) it.state
 
 -- participant p becomes x', published at the count b
 pub participant_step : (s : State) (born since : ℕ → ℕ) (f : Facts s born since) (p : ℕ) (x x' : Participant) (b : ℕ) → At s.participants p x
     → Guarded s.count b x'.found x'.phase x'.reread
     → ((e : ℕ) → x'.phase ≡ Opened e → (b ≡ s.count) ⊎ ((x.phase ≡ Opened e) × (b ≡ born p)))
     → ((r : ℕ) (y : Participant) (e : ℕ) → x'.phase ≡ Opened s.count → Has x'.looked r → r ≢ p → At s.participants r y → y.phase ≡ Opened e → s.count ≤ born r)
-    → ((i : ℕ) (it : Item) (a : ℕ) → At s.items i it → it.fate ≡ Retired p a → Ageing (since i) a x'.found x'.phase)
+    → ((i : ℕ) (it : Item) (a : ℕ) → At s.items i it → it.state ≡ Retired p a → Ageing (since i) a x'.found x'.phase)
     → ((e : ℕ) (h : Loaded) → x'.phase ≡ Opened e → Has x'.loaded h → Shows s.items since b h)
     → Facts (with_participant s p x') (put born p b) since
 participant_step s born since f p x x' b at guard again looks ageing kept = record {
@@ -41,12 +41,12 @@ participant_step s born since f p x x' b at guard again looks ageing kept = reco
       (λ (t : (x.phase ≡ Opened e) × (b ≡ born p)). let l = f.looks q' z' p x e there is' has'' at t.0 in let t1 = t.1 in omega arith) (again e is''))
       (λ r' y' other here is'' has''. let h = put_else born p b r' other in let l = f.looks q' z' r' y' e there is' has'' here is'' in omega arith) r y at_r is_r has')
       q z at_q is_q has;
-  ageing = λ i it r a y at_i is at_r. set_all (λ r' y'. it.fate ≡ Retired r' a → Ageing (since i) a y'.found y'.phase) s.participants p x'
+  ageing = λ i it r a y at_i is at_r. set_all (λ r' y'. it.state ≡ Retired r' a → Ageing (since i) a y'.found y'.phase) s.participants p x'
       (λ is'. ageing i it a at_i is') (λ r' y' other here is'. f.ageing i it r' a y' at_i is' here) r y at_r is;
   noted = f.noted;
   kept = λ q y e h at_q is has. set_all (λ q' y'. y'.phase ≡ Opened e → Has y'.loaded h → Shows s.items since (put born p b q') h) s.participants p x'
-      (λ is' has'. let t = kept e h is' has' in (t.0, t.1, t.2, subst (λ z. Standing z (since h.item) t.0.fate) (sym (put_here born p b)) t.3))
-      (λ q' y' other here is' has'. let t = f.kept q' y' e h here is' has' in (t.0, t.1, t.2, subst (λ z. Standing z (since h.item) t.0.fate) (sym (put_else born p b q' other)) t.3))
+      (λ is' has'. let t = kept e h is' has' in (t.0, t.1, t.2, subst (λ z. Standing z (since h.item) t.0.state) (sym (put_here born p b)) t.3))
+      (λ q' y' other here is' has'. let t = f.kept q' y' e h here is' has' in (t.0, t.1, t.2, subst (λ z. Standing z (since h.item) t.0.state) (sym (put_else born p b q' other)) t.3))
       q y at_q is has;
 }
 
@@ -57,8 +57,8 @@ cells_step s cells' born since f = record { fits = f.fits; dated = f.dated; guar
 -- what an item may become: its value stays, and so does what it holds, and it still stands, where it stood for an open guard
 pub record Becomes (count n n' : ℕ) (it it' : Item) : Type 0 where
   pub value : it'.value ≡ it.value
-  pub holds : (b : ℕ) → Standing b n it.fate → it'.holds ≡ it.holds
-  pub stands : (b : ℕ) → b ≤ count → count ≤ b + 1 → Standing b n it.fate → Standing b n' it'.fate
+  pub holds : (b : ℕ) → Standing b n it.state → it'.holds ≡ it.holds
+  pub stands : (b : ℕ) → b ≤ count → count ≤ b + 1 → Standing b n it.state → Standing b n' it'.state
 
 -- what an item holds is there
 abbrev pub Holding : List Item → Type 0
@@ -68,8 +68,8 @@ Holding items = (j : ℕ) (w : Item) (i : ℕ) → At items j w → Has w.holds 
 pub items_step : (s : State) (born since since' : ℕ → ℕ) (holding : Holding s.items) (f : Facts s born since) (items' : List Item) (cells' : List Cell)
     → ((k : ℕ) (it : Item) → At s.items k it → (it' : Item) × At items' k it' × Becomes s.count (since k) (since' k) it it')
     → ((i : ℕ) → since' i ≤ s.count)
-    → ((i : ℕ) (it : Item) (r a : ℕ) (x : Participant) → At items' i it → it.fate ≡ Retired r a → At s.participants r x → Ageing (since' i) a x.found x.phase)
-    → ((i : ℕ) (it : Item) (n : ℕ) → At items' i it → it.fate ≡ Collected n → since' i ≤ n + 1)
+    → ((i : ℕ) (it : Item) (r a : ℕ) (x : Participant) → At items' i it → it.state ≡ Retired r a → At s.participants r x → Ageing (since' i) a x.found x.phase)
+    → ((i : ℕ) (it : Item) (n : ℕ) → At items' i it → it.state ≡ Collected n → since' i ≤ n + 1)
     → Facts (record s { cells = cells'; items = items' }) born since'
 items_step s born since since' holding f items' cells' each dated ageing noted = record {
   fits = f.fits;
@@ -89,22 +89,22 @@ items_step s born since since' holding f items' cells' each dated ageing noted =
 module _ (s : State) (born since : ℕ → ℕ) (holding : Holding s.items) (f : Facts s born since) where
   -- one item changes, and the count of its retirement becomes n
   pub item_step : (i : ℕ) (it it' : Item) (cells' : List Cell) (n : ℕ) → At s.items i it → Becomes s.count (since i) n it it' → n ≤ s.count
-      → ((r a : ℕ) (y : Participant) → it'.fate ≡ Retired r a → At s.participants r y → Ageing n a y.found y.phase)
-      → ((m : ℕ) → it'.fate ≡ Collected m → n ≤ m + 1)
+      → ((r a : ℕ) (y : Participant) → it'.state ≡ Retired r a → At s.participants r y → Ageing n a y.found y.phase)
+      → ((m : ℕ) → it'.state ≡ Collected m → n ≤ m + 1)
       → Facts (record s { cells = cells'; items = set s.items i it' }) born (put since i n)
   item_step i it it' cells' n at becomes dated ageing noted = items_step s born since (put since i n) holding f (set s.items i it') cells'
       (each_set (λ j z z'. Becomes s.count (since j) (put since i n j) z z') s.items i it it' at (subst (λ m. Becomes s.count (since i) m it it') (sym (put_here since i n)) becomes)
       (λ j z other _. subst (λ m. Becomes s.count (since j) m z z) (sym (put_else since i n j other)) (record { value = refl; holds = λ _ _. refl; stands = λ _ _ _ st. st })))
       (put_at_most since i n s.count dated f.dated)
-      (λ j z r a y at_j is at_r. set_all (λ j' z'. z'.fate ≡ Retired r a → Ageing (put since i n j') a y.found y.phase) s.items i it'
+      (λ j z r a y at_j is at_r. set_all (λ j' z'. z'.state ≡ Retired r a → Ageing (put since i n j') a y.found y.phase) s.items i it'
       (λ is'. subst (λ k. Ageing k a y.found y.phase) (sym (put_here since i n)) (ageing r a y is' at_r))
       (λ j' z' other here is'. subst (λ k. Ageing k a y.found y.phase) (sym (put_else since i n j' other)) (f.ageing j' z' r a y here is' at_r)) j z at_j is)
-      (λ j z m at_j is. set_all (λ j' z'. z'.fate ≡ Collected m → put since i n j' ≤ m + 1) s.items i it'
+      (λ j z m at_j is. set_all (λ j' z'. z'.state ≡ Collected m → put since i n j' ≤ m + 1) s.items i it'
       (λ is'. subst (λ k. k ≤ m + 1) (sym (put_here since i n)) (noted m is'))
       (λ j' z' other here is'. subst (λ k. k ≤ m + 1) (sym (put_else since i n j' other)) (f.noted j' z' m here is')) j z at_j is)
 
-  -- one item changes, but not its fate
-  pub same_fate : (i : ℕ) (it it' : Item) (cells' : List Cell) → At s.items i it → it'.value ≡ it.value → it'.fate ≡ it.fate → ((b : ℕ) → Standing b (since i) it.fate → it'.holds ≡ it.holds)
+  -- one item changes, but not its state
+  pub same_state : (i : ℕ) (it it' : Item) (cells' : List Cell) → At s.items i it → it'.value ≡ it.value → it'.state ≡ it.state → ((b : ℕ) → Standing b (since i) it.state → it'.holds ≡ it.holds)
       → Facts (record s { cells = cells'; items = set s.items i it' }) born (put since i (since i))
-  same_fate i it it' cells' at value fate holds = item_step i it it' cells' (since i) at (record { value = value; holds = holds; stands = λ b _ _ st. subst (Standing b (since i)) (sym fate) st }) (f.dated i)
-      (λ r a y is at_r. f.ageing i it r a y at (sym fate ∙ is) at_r) (λ m is. f.noted i it m at (sym fate ∙ is))
+  same_state i it it' cells' at value state holds = item_step i it it' cells' (since i) at (record { value = value; holds = holds; stands = λ b _ _ st. subst (Standing b (since i)) (sym state) st }) (f.dated i)
+      (λ r a y is at_r. f.ageing i it r a y at (sym state ∙ is) at_r) (λ m is. f.noted i it m at (sym state ∙ is))

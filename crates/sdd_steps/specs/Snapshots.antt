@@ -4,14 +4,14 @@ use Rattle.sdd_steps.specs.State.{State, participant_at, item_at, no_item}
 use Rattle.sdd_steps.specs.Steps.{is_turning}
 use Rattle.sdd_steps.specs.declared.snapshot.Snapshot.{Snapshot}
 use Rattle.sdd_steps.specs.declared.item.Item.{Item}
-use Rattle.sdd_steps.specs.declared.item.Fate.TheVariants.{Retired}
+use Rattle.sdd_steps.specs.declared.item.ItemState.TheVariants.{Retired}
 
 abbrev pub shown : Snapshot → State
 shown s = record { count = s.count; participants = s.participants.items; cells = s.cells.items; items = s.items.items }
 
 -- items retired by p may age by one
 abbrev pub CanAge : ℕ → List Item → Type 0
-CanAge p items = (i a : ℕ) → (get_or items i no_item).fate ≡ Retired p a → a < 2 ^ 64 - 1
+CanAge p items = (i a : ℕ) → (get_or items i no_item).state ≡ Retired p a → a < 2 ^ 64 - 1
 
 -- numbers that a step raises don't come to their end
 pub record HasRoom (s : State) : Type 0 where

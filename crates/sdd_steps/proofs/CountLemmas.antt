@@ -6,12 +6,12 @@ use mathlib.Core.Option.{some, some-injective, some-ne-none}
 use native.Mathlib.Decide.{ℕ_discrete}
 use Rattle.sdd_steps.specs.declared.item.Item.{Item}
 use Rattle.sdd_steps.specs.declared.item.Cell.{Cell}
-use Rattle.sdd_steps.specs.declared.item.Fate.{Fate}
-use Rattle.sdd_steps.specs.declared.item.Fate.TheVariants.{Live, Reclaimed}
+use Rattle.sdd_steps.specs.declared.item.ItemState.{ItemState}
+use Rattle.sdd_steps.specs.declared.item.ItemState.TheVariants.{Live, Reclaimed}
 use Rattle.sdd_steps.specs.State.{At, Has, has, tally, times, without, no_item, empty_cell}
-use Rattle.sdd_steps.specs.Steps.{handed, unhanded, paid, placed, taken_up, all_handy}
-use Rattle.sdd_steps.specs.Kept.{points, uses, held, names_of, Owned, Counted}
-use Rattle.sdd_steps.proofs.Lists.{set_all, set_here, set_else, same_at, find_at, at_inside, at_mapped, at_end, get_at, either, both}
+use Rattle.sdd_steps.specs.Steps.{handed, unhanded, paid, placed, taken_up, all_have_loose_owners}
+use Rattle.sdd_steps.specs.Invariant.{points, uses, held, names_of, Owned, Counted}
+use Rattle.sdd_steps.proofs.ListLemmas.{set_all, set_here, set_else, same_at, find_at, at_inside, at_mapped, at_end, get_at, either, both}
 
 pub uses_set : (i : ℕ) (names : List (Option ℕ)) (c : ℕ) (o o' : Option ℕ) → At names c o → uses i (set names c o') + points i o ≡ uses i names + points i o'
 uses_set i [] c o o' at = absurd (some-ne-none o (sym at))
@@ -97,7 +97,7 @@ held_same j items i it it' at same = let h = held_set j items i it it' at in let
 -- an item changes, but not what it holds
 pub counted_step : (names names' : List (Option ℕ)) (items : List Item) (k : Counted names items) (i : ℕ) (it it' : Item) → At items i it → it'.holds ≡ it.holds
     → ((j : ℕ) → j ≢ i → uses j names' ≡ uses j names)
-    → (it'.owners ≡ it'.hand + uses i names' + held i items) × (it'.fate ≡ Live → 0 < it'.owners) × (0 < it'.owners → it'.fate ≡ Live) × (it'.owners ≤ 2 ^ 32 - 1)
+    → (it'.owners ≡ it'.hand + uses i names' + held i items) × (it'.state ≡ Live → 0 < it'.owners) × (0 < it'.owners → it'.state ≡ Live) × (it'.owners ≤ 2 ^ 32 - 1)
     → ((c : ℕ) (j : ℕ) → At names' c (Some j) → j < length items)
     → Counted names' (set items i it')
 counted_step names names' items k i it it' at same others now named = let l = length-set items i it' in record {
@@ -109,12 +109,12 @@ counted_step names names' items k i it it' at same others now named = let l = le
 }
 
 -- a reclaimed item gives one owner up, to the hand
-pub counted_give_up : (names : List (Option ℕ)) (items : List Item) (k : Counted names items) (p j i : ℕ) (w it : Item) → At items j w → w.fate ≡ Reclaimed p → Has w.holds i → At items i it
+pub counted_give_up : (names : List (Option ℕ)) (items : List Item) (k : Counted names items) (p j i : ℕ) (w it : Item) → At items j w → w.state ≡ Reclaimed p → Has w.holds i → At items i it
     → (i ≢ j) × Counted names (set (set items j (record w { holds = without i w.holds })) i (handed it))
 counted_give_up names items k p j i w it at_j gone has at_i =
     let w' : Item = record w { holds = without i w.holds } in let it' : Item = handed it in let one = set items j w' in let all = set one i it' in
-    let oi = k.owned i it at_i in let ci = oi.counted in let some_held = held_some i items j w at_j in let some_times = times_has i w.holds has in let alive : it.fate ≡ Live = oi.is_live (omega arith) in
-    let apart : i ≢ j = (λ e. let same : it ≡ w = same_at items j it w (subst (λ z. At items z it) e at_i) at_j in let bad : Live ≡ Reclaimed p = sym alive ∙ (ap (λ (z : Item). z.fate) same ∙ gone) in cc) in
+    let oi = k.owned i it at_i in let ci = oi.counted in let some_held = held_some i items j w at_j in let some_times = times_has i w.holds has in let alive : it.state ≡ Live = oi.is_live (omega arith) in
+    let apart : i ≢ j = (λ e. let same : it ≡ w = same_at items j it w (subst (λ z. At items z it) e at_i) at_j in let bad : Live ≡ Reclaimed p = sym alive ∙ (ap (λ (z : Item). z.state) same ∙ gone) in cc) in
     let at_i' : At one i it = set_else items j i w' apart ∙ at_i in
     let l1 = length-set items j w' in let l2 = length-set one i it' in (
       apart,
@@ -132,18 +132,18 @@ counted_give_up names items k p j i w it at_j gone has at_i =
     )
 
 -- what becomes of items changes, but none comes to life or to its end
-module _ (f : Fate → Fate) (items : List Item) where
+module _ (f : ItemState → ItemState) (items : List Item) where
   abbrev changed : Item → Item
-  changed it = record it { fate = f it.fate }
+  changed it = record it { state = f it.state }
 
   held_changed : (i : ℕ) (l : List Item) → held i (map changed l) ≡ held i l
   held_changed i [] = refl
   held_changed i (x ∷ l) = let h = held_changed i l in omega arith
 
-  pub counted_fates : (names : List (Option ℕ)) → f Live ≡ Live → ((z : Fate) → f z ≡ Live → z ≡ Live) → Counted names items → Counted names (map changed items)
-  counted_fates names stays back k = let l = length-map items changed in record {
+  pub counted_states : (names : List (Option ℕ)) → f Live ≡ Live → ((z : ItemState) → f z ≡ Live → z ≡ Live) → Counted names items → Counted names (map changed items)
+  counted_states names stays back k = let l = length-map items changed in record {
     owned = λ i it at. let t = at_mapped changed items i it at in let o = k.owned i t.0 t.1 in let c = o.counted in let h = held_changed i items in
-        subst (Owned i names (map changed items)) t.2 (record { counted = omega arith; has_owner = λ l. o.has_owner (back t.0.fate l); is_live = λ h. ap f (o.is_live h) ∙ stays; limit = o.limit });
+        subst (Owned i names (map changed items)) t.2 (record { counted = omega arith; has_owner = λ l. o.has_owner (back t.0.state l); is_live = λ h. ap f (o.is_live h) ∙ stays; limit = o.limit });
     named = λ c i here. let h = k.named c i here in omega arith;
     holding = λ j w i at has. let t = at_mapped changed items j w at in let h = k.holding j t.0 i t.1 (subst (λ (z : Item). Has z.holds i) (sym t.2) has) in omega arith;
   }
@@ -229,9 +229,9 @@ pub times_some : (k : ℕ) (l : List ℕ) → (times k l ≡ 0) ⊎ Has l k
 times_some k [] = inl refl
 times_some k (j ∷ l) = dite (ℕ_discrete j k) (λ e. inr (inl e)) (λ n. ⊎_elim (λ (e : times k l ≡ 0). let c = count_else k j n in inl (omega arith)) (λ (h : Has l k). inr (inr h)) (times_some k l))
 
-pub handy_has : (items : List Item) (all l : List ℕ) → all_handy items all l ≡ true → (k : ℕ) → Has l k → (k < length items) × (times k all ≤ (get_or items k no_item).hand)
-handy_has items all [] h k has = absurd has
-handy_has items all (j ∷ l) h k has = let b = both (nat_lt j (length items) && nat_le (times j all) (get_or items j no_item).hand) (all_handy items all l) h in
+pub loose_has : (items : List Item) (all l : List ℕ) → all_have_loose_owners items all l ≡ true → (k : ℕ) → Has l k → (k < length items) × (times k all ≤ (get_or items k no_item).hand)
+loose_has items all [] h k has = absurd has
+loose_has items all (j ∷ l) h k has = let b = both (nat_lt j (length items) && nat_le (times j all) (get_or items j no_item).hand) (all_have_loose_owners items all l) h in
     let c = both (nat_lt j (length items)) (nat_le (times j all) (get_or items j no_item).hand) b.0 in
     ⊎_elim (λ (e : j ≡ k). subst (λ m. (m < length items) × (times m all ≤ (get_or items m no_item).hand)) e (ltb-true j (length items) c.0, leb-true (times j all) (get_or items j no_item).hand c.1))
-    (λ (t : Has l k). handy_has items all l b.1 k t) has
+    (λ (t : Has l k). loose_has items all l b.1 k t) has

@@ -2,8 +2,8 @@
 use Rattle.std.specs.Prelude.{◌≡◌, ◌≢◌, ℕ, ◌+◌, ◌-◌, ◌^◌, ◌<◌, ◌≤◌, List, [], ◌∷◌, length, map, Option, None, Some}
 use Rattle.sdd_steps.specs.declared.participant.Phase.{Phase}
 use Rattle.sdd_steps.specs.declared.participant.Phase.TheVariants.{HasRead, Opened}
-use Rattle.sdd_steps.specs.declared.item.Fate.{Fate}
-use Rattle.sdd_steps.specs.declared.item.Fate.TheVariants.{Live, Due, Retired, Collected, Waiting, Reclaimed}
+use Rattle.sdd_steps.specs.declared.item.ItemState.{ItemState}
+use Rattle.sdd_steps.specs.declared.item.ItemState.TheVariants.{Live, Due, Retired, Collected, Waiting, Reclaimed}
 use Rattle.sdd_steps.specs.declared.participant.Seen.{Seen}
 use Rattle.sdd_steps.specs.declared.participant.Loaded.{Loaded}
 use Rattle.sdd_steps.specs.declared.participant.Participant.{Participant}
@@ -32,8 +32,8 @@ names_of = map (λ o. o.names)
 -- owners are counted over their holders; an item that isn't live has none
 pub record Owned (i : ℕ) (names : List (Option ℕ)) (items : List Item) (it : Item) : Type 0 where
   pub counted : it.owners ≡ it.hand + uses i names + held i items
-  pub has_owner : it.fate ≡ Live → 0 < it.owners
-  pub is_live : 0 < it.owners → it.fate ≡ Live
+  pub has_owner : it.state ≡ Live → 0 < it.owners
+  pub is_live : 0 < it.owners → it.state ≡ Live
   pub limit : it.owners ≤ 2 ^ 32 - 1
 
 pub record Counted (names : List (Option ℕ)) (items : List Item) : Type 0 where
@@ -56,7 +56,7 @@ pub record Ageing (since age found : ℕ) (phase : Phase) : Type 0 where
   pub turning : (e : ℕ) → phase ≡ Opened e → e ≢ found → since ≤ e
 
 -- what a guard that was published at the count `born` may still see
-abbrev pub Standing : ℕ → ℕ → Fate → Type 0
+abbrev pub Standing : ℕ → ℕ → ItemState → Type 0
 Standing born since Live = Unit {0}
 Standing born since (Due p) = Unit {0}
 Standing born since (Retired r a) = born ≤ since
@@ -74,9 +74,9 @@ pub record Facts (s : State) (born since : ℕ → ℕ) : Type 0 where
   pub dated : (i : ℕ) → since i ≤ s.count
   pub guards : (p : ℕ) (x : Participant) → At s.participants p x → Guarded s.count (born p) x.found x.phase x.reread
   pub looks : (q : ℕ) (x : Participant) (p : ℕ) (y : Participant) (e : ℕ) → At s.participants q x → x.phase ≡ Opened s.count → Has x.looked p → At s.participants p y → y.phase ≡ Opened e → s.count ≤ born p
-  pub ageing : (i : ℕ) (it : Item) (r a : ℕ) (x : Participant) → At s.items i it → it.fate ≡ Retired r a → At s.participants r x → Ageing (since i) a x.found x.phase
-  pub noted : (i : ℕ) (it : Item) (n : ℕ) → At s.items i it → it.fate ≡ Collected n → since i ≤ n + 1
-  pub kept : (p : ℕ) (x : Participant) (e : ℕ) (h : Loaded) → At s.participants p x → x.phase ≡ Opened e → Has x.loaded h → (it : Item) × At s.items h.item it × Same s.items h it × Standing (born p) (since h.item) it.fate
+  pub ageing : (i : ℕ) (it : Item) (r a : ℕ) (x : Participant) → At s.items i it → it.state ≡ Retired r a → At s.participants r x → Ageing (since i) a x.found x.phase
+  pub noted : (i : ℕ) (it : Item) (n : ℕ) → At s.items i it → it.state ≡ Collected n → since i ≤ n + 1
+  pub kept : (p : ℕ) (x : Participant) (e : ℕ) (h : Loaded) → At s.participants p x → x.phase ≡ Opened e → Has x.loaded h → (it : Item) × At s.items h.item it × Same s.items h it × Standing (born p) (since h.item) it.state
 
 -- The invariant: owners are counted, and counts can be told for publications and retirements that meet the rest
 abbrev pub Inv : State → Type 0
@@ -87,9 +87,9 @@ pub record Intact (s : State) (h : Loaded) : Type 0 where
   pub it : Item
   pub here : At s.items h.item it
   pub value : it.value ≡ h.value
-  pub stands : (q : ℕ) → it.fate ≢ Reclaimed q
+  pub stands : (q : ℕ) → it.state ≢ Reclaimed q
   pub holds : map (seen s.items) it.holds ≡ h.holds
-  pub owned : (z : Seen) → Has h.holds z → (k : Item) × At s.items z.item k × (k.value ≡ z.value) × (0 < k.owners) × (k.fate ≡ Live)
+  pub owned : (z : Seen) → Has h.holds z → (k : Item) × At s.items z.item k × (k.value ≡ z.value) × (0 < k.owners) × (k.state ≡ Live)
 
 -- The promise over all schedules: for every open guard, all that it loaded is intact
 abbrev pub Safe : State → Type 0
@@ -102,8 +102,8 @@ StepsKeep = (s : State) (a : Step) (t : State) → Steps s a t → Inv s → Inv
 abbrev pub StartKeeps : Type 0
 StartKeeps = (participants cells : ℕ) → Inv (start participants cells)
 
-abbrev pub KeptIsSafe : Type 0
-KeptIsSafe = (s : State) → Inv s → Safe s
+abbrev pub InvariantIsSafe : Type 0
+InvariantIsSafe = (s : State) → Inv s → Safe s
 
 abbrev pub SchedulesAreSafe : Type 0
 SchedulesAreSafe = (participants cells : ℕ) (steps : List Step) (t : State) → Schedule (start participants cells) steps t → Safe t
