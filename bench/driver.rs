@@ -20,6 +20,7 @@ unsafe extern "C" {
     ) -> u64;
     fn index_bench_walk(keys: *const u64, len: usize, rounds: u32) -> u64;
     fn index_bench_remove(keys: *const u64, len: usize, rounds: u32) -> usize;
+    fn index_bench_upsert(keys: *const u64, len: usize, rounds: u32) -> u64;
     fn index_bench_queue(count: u32, rounds: u32) -> u64;
     fn index_bench_clone(keys: *const u64, len: usize, rounds: u32) -> usize;
     fn index_bench_cut(keys: *const u64, len: usize, from: u64, upto: u64, rounds: u32) -> usize;
@@ -98,6 +99,21 @@ impl Map {
             }
             // SAFETY: the call has no conditions, and the slice is live in it.
             Map::Index => unsafe { index_bench_remove(keys.as_ptr(), keys.len(), rounds) },
+        }
+    }
+
+    /// Upserts each of these keys into a map that has them, `rounds` times, and sums the values.
+    fn upsert(self, keys: &[u64], rounds: u32) -> u64 {
+        match self {
+            Map::Std => {
+                let mut map = built(keys);
+                for round in 0..u64::from(rounds) {
+                    upsert_all(&mut map, keys, round);
+                }
+                walk(&map, 0)
+            }
+            // SAFETY: the call has no conditions, and the slice is live in it.
+            Map::Index => unsafe { index_bench_upsert(keys.as_ptr(), keys.len(), rounds) },
         }
     }
 
@@ -184,6 +200,12 @@ fn built(keys: &[u64]) -> BTreeMap<u64, u64> {
 }
 
 #[inline(never)]
+fn upsert_all(map: &mut BTreeMap<u64, u64>, keys: &[u64], value: u64) {
+    for key in keys {
+        map.insert(*key, value);
+    }
+}
+
 fn remove_all(map: &mut BTreeMap<u64, u64>, keys: &[u64]) {
     for key in keys {
         map.remove(key);
@@ -301,6 +323,7 @@ fn main() {
             let keys = keys(&words[3], number(4));
             let answer = match words[2].as_str() {
                 "insert" => map.insert(&keys) as u64,
+                "upsert" => map.upsert(&keys, number(5) as u32),
                 "remove" => map.remove(&keys, number(5) as u32) as u64,
                 "clone" => map.clones(&keys, number(5) as u32) as u64,
                 "cut" => map.cut(&keys, number(5) as u32) as u64,

@@ -75,6 +75,17 @@ pub extern "C" fn index_bench_remove(alloc: Global, keys: &[u64], rounds: u32) -
     tree.len()
 }
 
+/// Upserts each of these keys into a tree that has them, `rounds` times, with the number of the round as value, and
+/// gives the sum of the values.
+#[unsafe(no_mangle)]
+pub extern "C" fn index_bench_upsert(alloc: Global, keys: &[u64], rounds: u32) -> u64 {
+    let mut tree = built(alloc, keys);
+    for round in 0..rounds {
+        upsert_all(&mut tree, keys, u64::from(round));
+    }
+    walk(&tree, 0)
+}
+
 /// A queue of so many keys, a thousand apart: in each round the least goes, and one above the greatest comes. Gives
 /// the least key of all in the end.
 #[unsafe(no_mangle)]
@@ -133,6 +144,7 @@ pub extern "C" fn index_bench_elsewhere(alloc: Global, keys: &[u64]) -> u64 {
         let _ = tree.insert_sync(*key, !*key);
     }
     for key in keys {
+        let _ = tree.upsert_sync(*key, !*key);
         sum ^= tree.peek(key).copied().unwrap_or(0);
         sum ^= beyond(&tree, key);
     }
@@ -165,6 +177,13 @@ fn built(alloc: Global, keys: &[u64]) -> TreeIndex<u64, u64> {
         let _ = tree.insert_sync(*key, *key);
     }
     tree
+}
+
+/// Upserts these keys with a value.
+fn upsert_all(tree: &mut TreeIndex<u64, u64>, keys: &[u64], value: u64) {
+    for key in keys {
+        let _ = tree.upsert_sync(*key, value);
+    }
 }
 
 /// Removes these keys.
@@ -256,6 +275,12 @@ mod tests {
         let keys = [5, 3, 9];
         assert_eq!(rt; index_bench_walk(rt.alloc(), &keys, 2), 34);
         assert_eq!(rt; index_bench_scan(rt.alloc(), &keys, &[4, 9, 10], 1), 23);
+    }
+
+    #[test]
+    fn upserts_leave_the_number_of_the_last_round(rt: HostRuntime) {
+        assert_eq!(rt; index_bench_upsert(rt.alloc(), &[5, 3, 9], 0), 17);
+        assert_eq!(rt; index_bench_upsert(rt.alloc(), &[5, 3, 9], 3), 6);
     }
 
     #[test]

@@ -6,7 +6,7 @@ use Rattle.leaf_array.specs.declared.place.Place.TheVariants.{Empty, Dead, Live}
 use Rattle.std.specs.declared.cmp.Ordering.{Ordering}
 use Rattle.std.specs.Ordering.{is_lt}
 use Rattle.leaf_array.specs.Cells.{entered, handed_on, fallen}
-use Rattle.leaf_array.specs.Places.{live_pairs, labels_above, dead_pairs, top, has_room, pushed, sunk, widened, buried, renewed, died, below, uses, IsEmptied, IsDeparted, IsPacked}
+use Rattle.leaf_array.specs.Places.{live_pairs, labels_above, dead_pairs, top, has_room, pushed, sunk, widened, buried, renewed, paired, died, below, uses, IsEmptied, IsDeparted, IsPacked}
 
 module _ {K V : Type 0} where
   -- behind an empty place all are empty
@@ -488,6 +488,8 @@ module _ {K V : Type 0} where
     pub died_is : died (drop n ps) ≡ Dead slot key val
     pub fallen_is : fallen n (labels_above low ps) (live_pairs ps) ≡ (slot, (key, val)) ∷ []
     pub uses_is : (s : ℕ) (k : K) (v : V) (other : ℕ) → uses other (take n ps ++ renewed s k v (drop n ps)) + cond (slot == other) 1 0 ≡ cond (s == other) 1 0 + uses other ps
+    pub paired_is : (k : K) (v : V) → paired k v (drop n ps) ≡ renewed slot k v (drop n ps)
+    pub labels_is : handed_on n slot (labels_above low ps) ≡ labels_above low ps
 
   pub was_live : (low n : ℕ) (ps : List (Place K V)) → n < length (live_pairs ps) → WasLive low n ps
   was_live low zero [] lt = absurd (omega (arith, lt))
@@ -496,7 +498,7 @@ module _ {K V : Type 0} where
   was_live low (suc n) (Empty ∷ ps) lt = absurd (omega (arith, lt))
   was_live low zero (Dead t k v ∷ ps) lt = absurd (omega (arith, lt))
   was_live low (suc n) (Dead t k v ∷ ps) lt = absurd (omega (arith, lt))
-  was_live low zero (Live t g k v ∷ ps) lt = record { slot = t; key = k; val = v; died_is = refl; fallen_is = refl; uses_is = λ s l w other. omega arith }
+  was_live low zero (Live t g k v ∷ ps) lt = record { slot = t; key = k; val = v; died_is = refl; fallen_is = refl; uses_is = λ s l w other. omega arith; paired_is = λ l w. refl; labels_is = refl }
   was_live low (suc n) (Live t g k v ∷ ps) lt =
       let w = was_live (low + g + 1) n ps (omega (arith, lt)) in
-      record { slot = w.slot; key = w.key; val = w.val; died_is = w.died_is; fallen_is = w.fallen_is; uses_is = λ s l x other. omega (arith, w.uses_is s l x other) }
+      record { slot = w.slot; key = w.key; val = w.val; died_is = w.died_is; fallen_is = w.fallen_is; uses_is = λ s l x other. omega (arith, w.uses_is s l x other); paired_is = w.paired_is; labels_is = ap (λ ls. (t, low + g + 1) ∷ ls) w.labels_is }

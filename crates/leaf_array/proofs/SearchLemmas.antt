@@ -1,5 +1,5 @@
 -- Where a search in a row of places ends.
-use Rattle.std.proofs.Common.{arith, ◌≡◌, ℕ, zero, suc, ◌+◌, ◌<◌, ◌∷◌, [], List, true, false, cond, drop, refl, ap, slice_index_or, Some}
+use Rattle.std.proofs.Common.{arith, ◌≡◌, ℕ, zero, suc, ◌+◌, ◌<◌, ◌≤◌, ◌∷◌, [], List, length, true, false, cond, drop, refl, ap, slice_index_or, Some}
 use Rattle.std.specs.declared.cmp.Ordering.{Ordering}
 use Rattle.std.specs.declared.cmp.Ordering.TheVariants.{Less, Equal, Greater}
 use Rattle.std.specs.Ordering.{is_lt}
@@ -69,6 +69,25 @@ module _ {K V : Type 0} (cmp : K → K → Ordering) (key : K) where
       let lt = lesser_from laws k n ps pk (sorted_head cmp k (keys_of (live_pairs ps)) so) h in
       let r = below_past laws n ps pk (sorted_tail cmp k (keys_of (live_pairs ps)) so) h in
       rw lt (omega (arith, r.0), r.1)
+
+  -- no more places have a lesser key than there are
+  pub below_most : (ps : List (Place K V)) → below cmp key ps ≤ length ps
+  below_most [] = omega arith
+  below_most (Empty ∷ ps) = omega arith
+  below_most (Dead s k v ∷ ps) = omega arith
+  below_most (Live s g k v ∷ ps) = elim (is_lt (cmp k key)) as (λ b. cond b (suc (below cmp key ps)) 0 ≤ suc (length ps)) [ true ↦ omega (arith, below_most ps) | false ↦ omega arith ]
+
+  -- no place behind one without a lesser key counts
+  pub below_stops : (n : ℕ) (ps : List (Place K V)) → (0 < below cmp key (slice_index_or ps n Empty ∷ []) → ⊥) → below cmp key ps ≤ n
+  below_stops n [] none = omega arith
+  below_stops n (Empty ∷ ps) none = omega arith
+  below_stops n (Dead s k v ∷ ps) none = omega arith
+  below_stops zero (Live s g k v ∷ ps) none =
+      (elim (is_lt (cmp k key)) as (λ b. (0 < cond b 1 0 → ⊥) → cond b (suc (below cmp key ps)) 0 ≤ 0) [
+        | true ↦ λ h. absurd (h (omega arith))
+        | false ↦ λ h. omega arith
+      ]) none
+  below_stops (suc n) (Live s g k v ∷ ps) none = elim (is_lt (cmp k key)) as (λ b. cond b (suc (below cmp key ps)) 0 ≤ suc n) [ true ↦ omega (arith, below_stops n ps none) | false ↦ omega arith ]
 
   -- the pair at which a search ends isn't lesser
   pub least_not_lesser : (ps : List (Place K V)) (e : K × V) → least cmp key ps ≡ Some e → is_lt (cmp e.0 key) ≡ false

@@ -12,8 +12,8 @@ use Rattle.std.proofs.lemmas.Bool.{false≢true}
 use Rattle.std.proofs.lemmas.Bool.Decides.{nat_tests}
 use Rattle.leaf_array.specs.declared.place.Place.{Place}
 use Rattle.leaf_array.specs.declared.place.Place.TheVariants.{Empty, Dead, Live}
-use Rattle.leaf_array.specs.Cells.{Cells, is_nil, lesser, slot_of, inserted, replaced, removed, removed_at, appended, entered, handed_on, fallen}
-use Rattle.leaf_array.specs.Places.{live_pair, live_pairs, labels_above, dead_pairs, has_room, pushed, buried, renewed, died, below, least, top, uses, no_places, IsPacked, IsHit, IsMiss, IsSound, cells_of}
+use Rattle.leaf_array.specs.Cells.{Cells, is_nil, lesser, slot_of, inserted, replaced, overwritten, removed, removed_at, appended, entered, handed_on, fallen}
+use Rattle.leaf_array.specs.Places.{live_pair, live_pairs, labels_above, dead_pairs, has_room, pushed, buried, renewed, paired, died, below, least, top, uses, no_places, IsPacked, IsHit, IsMiss, IsSound, cells_of}
 use Rattle.leaf_array.proofs.SearchLemmas.{least_not_lesser, missed}
 use Rattle.leaf_array.proofs.OrderLemmas.{below_lesser, found_entry, missing, hit_within, pairs_insert, pairs_renew}
 use Rattle.leaf_array.proofs.PackLemmas.{least_at, past_end}
@@ -156,7 +156,40 @@ module _ {K V : Type 0} (cmp : K → K → Ordering) (laws : IsTotalOrder cmp) (
       let labels : labels_above 0 qs ≡ labels_above 0 ps ++ (slot_of used, used + 1) ∷ [] = put.labels ∙ edit.labels_last (slot_of used) key val h 0 n ps end ∙ ap (λ r. labels_above 0 ps ++ (slot_of used, r) ∷ []) up0 in
       (put.sound, λ f r. rw (pairs, labels, put.dead) refl)
 
-  -- ---- another pair for the one that has the key
+  -- ---- another pair for the one that has the key, in its place
+
+  pub sound_overwrite : (val : V) (ps qs : List (Place K V)) (len used at : ℕ) → IsSound cmp ps len used → at ≡ lesser cmp key (live_pairs ps)
+      → is_some (lookup (is_at (cmp key)) (live_pairs ps)) ≡ true → length qs ≡ 15 → qs ≡ take at ps ++ paired key val (drop at ps)
+      → IsSound cmp qs len used
+      × ((f r : Bool) → cells_of qs used f r ≡ overwritten cmp key val (cells_of ps used f r))
+  sound_overwrite val ps qs len used at s e there count is =
+      let n = below cmp key ps in
+      let en : at ≡ n = e ∙ sym (below_lesser cmp key ps) in
+      let hit = hit_from ps there s.sorted in
+      let in_live : n < length (live_pairs ps) = hit_within cmp laws key ps hit in
+      let w = edit.was_live 0 n ps in_live in
+      let at_n : qs ≡ take n ps ++ paired key val (drop n ps) = rw en at is in
+      let is2 : qs ≡ take n ps ++ renewed w.slot key val (drop n ps) = at_n ∙ ap (λ d. take n ps ++ d) (w.paired_is key val) in
+      let live : live_pairs qs ≡ insert_entry cmp (remove_entry (is_at (cmp key)) (live_pairs ps)) key val = ap live_pairs is2 ∙ pairs_renew cmp laws key w.slot val ps s.sorted hit in
+      let labels : labels_above 0 qs ≡ labels_above 0 ps = ap (labels_above 0) is2 ∙ edit.labels_renew w.slot key val 0 n ps in_live ∙ w.labels_is in
+      let dead : dead_pairs qs ≡ dead_pairs ps = ap dead_pairs is2 ∙ edit.dead_renew w.slot key val n ps in
+      let same : length (live_pairs qs) ≡ length (live_pairs ps) = ap (λ l. length (live_pairs l)) is2 ∙ edit.length_renew w.slot key val n ps in
+      let sorted2 : IsStrictlySortedBy cmp (keys_of (insert_entry cmp (remove_entry (is_at (cmp key)) (live_pairs ps)) key val)) =
+      rw (← sort.remove_at_key cmp laws (live_pairs ps) key there s.sorted) (sort.sorted_insert cmp laws _ key val (sort.sorted_remove cmp (live_pairs ps) (lesser cmp key (live_pairs ps)) s.sorted)) in (
+        record {
+          count = count;
+          packed = subst IsPacked (sym is2) (edit.packed_renew w.slot key val n ps in_live s.packed);
+          sorted = rw live sorted2;
+          live = omega (arith, same, s.live);
+          all = omega (arith, same, s.all, ap length dead);
+          within = s.within;
+          ranks = omega (arith, ap top is2, edit.top_renew w.slot key val n ps, s.ranks);
+          slots = λ slot. omega (arith, ap (uses slot) is2, w.uses_is w.slot key val slot, s.slots slot);
+        },
+        λ f r. rw (live, labels, dead) refl,
+      )
+
+  -- ---- another pair for the one that has the key, which dies
 
   pub room_behind_live : (val : V) (ps mid : List (Place K V)) (len used at : ℕ) → IsSound cmp ps len used → used < 15 → at ≡ lesser cmp key (live_pairs ps)
       → is_some (lookup (is_at (cmp key)) (live_pairs ps)) ≡ true → mid ≡ take at ps ++ renewed (slot_of used) key val (drop at ps) → length mid ≡ 15 → has_room (drop len mid) ≡ true

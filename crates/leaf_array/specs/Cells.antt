@@ -183,6 +183,10 @@ module _ {K V : Type 0} where
           buried = fallen (lesser a.pairs) a.labels a.pairs ++ a.buried;
         }
 
+    -- with a new pair for the one that has the key, in its slot
+    abbrev pub overwritten : V → Cells K V → Cells K V
+    overwritten val a = record a { pairs = insert_entry cmp (remove_entry (is_at (cmp key)) a.pairs) key val }
+
     -- without the pair that has the key
     abbrev pub removed : Cells K V → Cells K V
     removed a = record (removed_at (lesser a.pairs) a) { pairs = remove_entry (is_at (cmp key)) a.pairs }

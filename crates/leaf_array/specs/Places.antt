@@ -86,6 +86,13 @@ module _ {K V : Type 0} where
   renewed slot key val (Dead s k v ∷ ps) = Dead s k v ∷ ps
   renewed slot key val (Live s g k v ∷ ps) = Live slot g key val ∷ ps
 
+  -- the first place, if it is live, with another pair in its slot
+  abbrev pub paired : K → V → List (Place K V) → List (Place K V)
+  paired key val [] = []
+  paired key val (Empty ∷ ps) = Empty ∷ ps
+  paired key val (Dead s k v ∷ ps) = Dead s k v ∷ ps
+  paired key val (Live s g k v ∷ ps) = Live s g key val ∷ ps
+
   -- the first place, if it is live, as a dead one
   abbrev pub died : List (Place K V) → Place K V
   died [] = Empty

@@ -5,14 +5,15 @@ ghost use Rattle.std.specs.BTreeMap.{is_at};
 ghost use Rattle.std.specs.Map.{lookup_entry, keys_of};
 ghost use Rattle.std.specs.List.Sorted.{IsStrictlySortedBy};
 ghost use Rattle.std.specs.Fn.{FnOnceReturnsAt, FnOnceTakesAt};
-ghost use Rattle.leaf_array.specs.Cells.{no_cells, in_slot, IsUsed, is_nil, entered, standing, rank_in, slot_of, first_above, last_below, newest, lesser, has, inserted, appended, replaced, removed, removed_at, filled};
+ghost use Rattle.leaf_array.specs.Cells.{no_cells, in_slot, IsUsed, is_nil, entered, standing, rank_in, slot_of, first_above, last_below, newest, lesser, has, inserted, appended, replaced, overwritten, removed, removed_at, filled};
 ghost use Rattle.leaf_array.specs.Words.{word};
 ghost use Rattle.leaf_array.specs.Results.{IsSuccess, IsDuplicate, IsFull, given_back, is_repeated, is_refused, is_removal};
 ghost use Rattle.leaf_array.specs.declared.result.RemoveResult.TheVariants.{Retired, Fail, Frozen};
 
-use crate::place::{Place, compare, slot_of};
+use crate::place::{Place, slot_of};
 use crate::result::{InsertResult, RemoveResult};
 use crate::slots::Slots;
+use crate::steps::Steps;
 use std::cmp::Ordering;
 use std::marker::Model;
 
@@ -234,14 +235,16 @@ impl<K: Ord, V> Array<K, V> {
         self.slots.position(slot)
     }
 
-    /// The place of the pair with this key, and the pair.
+    /// The place of the pair with this key, and the pair: at most ten comparisons.
     #[inline(always)]
-    fn found(&self, key: &K) -> Option<(usize, (&K, &V))>
-        ensures { MatchOption result (lookup_entry (is_at (K.cmp key.now)) self.now.pairs ≡ None) (λ f. (f.0 ≡ lesser K.cmp key.now self.now.pairs) × (f.0 < length self.now.pairs) × (lookup_entry (is_at (K.cmp key.now)) self.now.pairs ≡ Some (f.1.0.now, f.1.1.now))) }
+    fn found(&self, key: &K, steps: &mut Steps) -> Option<(usize, (&K, &V))>
+        ensures cost { steps.new.count ≤ steps.old.count + 10 }
+        ensures raised { steps.old.count ≤ steps.new.count }
+        ensures pair { MatchOption result (lookup_entry (is_at (K.cmp key.now)) self.now.pairs ≡ None) (λ f. (f.0 ≡ lesser K.cmp key.now self.now.pairs) × (f.0 < length self.now.pairs) × (lookup_entry (is_at (K.cmp key.now)) self.now.pairs ≡ Some (f.1.0.now, f.1.1.now))) }
     {
-        let (at, pair) = self.slots.lower(key);
+        let (at, pair) = self.slots.lower(key, steps);
         match pair {
-            Some((stored, value)) => match compare(stored, key) {
+            Some((stored, value)) => match steps.compare(stored, key) {
                 Ordering::Equal => Some((at, (stored, value))),
                 _ => None,
             },
@@ -259,7 +262,8 @@ impl<K: Ord, V> Array<K, V> {
     }
 
     /// Puts a new pair in at `at`. A retired array is then open again.
-    #[inline(always)]
+    // A hint alone: [`put`](Array::put) and [`insert`](Array::insert) are always inlined only while they are small.
+    #[inline]
     pub(crate) fn place(&mut self, at: usize, key: K, val: V)
         requires room { self.old.used < 15 }
         requires place { at ≡ lesser K.cmp key self.old.pairs }
@@ -315,6 +319,17 @@ impl<K: Ord, V> Array<K, V> {
         self.used += 1;
     }
 
+    /// Writes a pair over the one at `at`, which has its key, and gives that one.
+    // A hint alone, as for `place`.
+    #[inline]
+    fn overwrite(&mut self, at: usize, key: K, val: V) -> (K, V)
+        requires place { at ≡ lesser K.cmp key self.old.pairs }
+        requires there { has K.cmp key self.old ≡ true }
+        ensures { self.new ≡ overwritten K.cmp key val self.old }
+    {
+        self.slots.overwrite(at, key, val)
+    }
+
     /// Removes the pair that comes behind `at` others.
     #[inline(always)]
     pub fn bury(&mut self, at: usize)
@@ -331,7 +346,18 @@ impl<K: Ord, V> Array<K, V> {
     pub fn search_entry(&self, key: &K) -> Option<(&K, &V)>
         ensures { MatchOption result (lookup_entry (is_at (K.cmp key.now)) self.now.pairs ≡ None) (λ e. lookup_entry (is_at (K.cmp key.now)) self.now.pairs ≡ Some (e.0.now, e.1.now)) }
     {
-        match self.found(key) {
+        let mut steps = Steps::new();
+        self.search_entry_counted(key, &mut steps)
+    }
+
+    /// The pair with this key, by at most fifteen comparisons, which are counted.
+    #[inline(always)]
+    pub fn search_entry_counted(&self, key: &K, steps: &mut Steps) -> Option<(&K, &V)>
+        ensures pair { MatchOption result (lookup_entry (is_at (K.cmp key.now)) self.now.pairs ≡ None) (λ e. lookup_entry (is_at (K.cmp key.now)) self.now.pairs ≡ Some (e.0.now, e.1.now)) }
+        ensures cost { steps.new.count ≤ steps.old.count + 15 }
+        ensures raised { steps.old.count ≤ steps.new.count }
+    {
+        match self.found(key, steps) {
             Some((_, pair)) => Some(pair),
             None => None,
         }
@@ -342,7 +368,8 @@ impl<K: Ord, V> Array<K, V> {
     pub fn search_val(&self, key: &K) -> Option<&V>
         ensures { MatchOption result (lookup_entry (is_at (K.cmp key.now)) self.now.pairs ≡ None) (λ v. (k : K) × (lookup_entry (is_at (K.cmp key.now)) self.now.pairs ≡ Some (k, v.now))) }
     {
-        match self.found(key) {
+        let mut steps = Steps::new();
+        match self.found(key, &mut steps) {
             Some((_, (_, value))) => Some(value),
             None => None,
         }
@@ -354,7 +381,19 @@ impl<K: Ord, V> Array<K, V> {
         ensures place { result.0 ≡ lesser K.cmp key.now self.now.pairs }
         ensures pair { MatchOption result.1 (slice_get self.now.pairs (lesser K.cmp key.now self.now.pairs) ≡ None) (λ e. slice_get self.now.pairs (lesser K.cmp key.now self.now.pairs) ≡ Some (e.0.now, e.1.now)) }
     {
-        self.slots.lower(key)
+        let mut steps = Steps::new();
+        self.lower_bound_counted(key, &mut steps)
+    }
+
+    /// The same, by at most fifteen comparisons, which are counted.
+    #[inline(always)]
+    pub fn lower_bound_counted(&self, key: &K, steps: &mut Steps) -> (usize, Option<(&K, &V)>)
+        ensures place { result.0 ≡ lesser K.cmp key.now self.now.pairs }
+        ensures pair { MatchOption result.1 (slice_get self.now.pairs (lesser K.cmp key.now self.now.pairs) ≡ None) (λ e. slice_get self.now.pairs (lesser K.cmp key.now self.now.pairs) ≡ Some (e.0.now, e.1.now)) }
+        ensures cost { steps.new.count ≤ steps.old.count + 15 }
+        ensures raised { steps.old.count ≤ steps.new.count }
+    {
+        self.slots.lower(key, steps)
     }
 
     /// The pair that comes behind `at` others.
@@ -486,6 +525,42 @@ impl<K: Ord, V> Array<K, V> {
         InsertResult::Success
     }
 
+    /// Inserts a pair, and where `UPSERT` is true writes it over the one that has its key, which is dropped:
+    /// that takes no place.
+    #[inline(always)]
+    pub fn put<const UPSERT: bool>(&mut self, key: K, val: V) -> InsertResult<K, V>
+    where
+        K: Drop,
+        V: Drop,
+        ensures full { IsFull result ↔ IsTrue (is_refused false K.cmp key self.old) }
+        ensures absent { IsFull result → self.old.frozen ≡ false → has K.cmp key self.old ≡ false }
+        ensures duplicate { IsDuplicate result ↔ IsTrue (is_repeated UPSERT K.cmp key self.old) }
+        ensures back { IfSome (given_back result) (λ p. p ≡ (key, val)) }
+        ensures kept { IsSome (given_back result) → self.new ≡ self.old }
+        ensures inserted { IsSuccess result → has K.cmp key self.old ≡ false → self.new ≡ inserted K.cmp key val self.old }
+        ensures overwritten { IsSuccess result → has K.cmp key self.old ≡ true → self.new ≡ overwritten K.cmp key val self.old }
+    {
+        if self.frozen || self.retired {
+            return InsertResult::Full(key, val);
+        }
+        match self.find(&key) {
+            Ok(at) => {
+                if UPSERT {
+                    let _old = self.overwrite(at, key, val);
+                } else {
+                    return InsertResult::Duplicate(key, val);
+                }
+            },
+            Err(at) => {
+                if self.used == 15 {
+                    return InsertResult::Full(key, val);
+                }
+                self.place(at, key, val);
+            },
+        }
+        InsertResult::Success
+    }
+
     /// Removes the pair with this key, if the condition answers true of its value.
     ///
     /// The condition is asked once where the array isn't frozen and has the key, else not at all.
@@ -504,7 +579,8 @@ impl<K: Ord, V> Array<K, V> {
         if self.frozen {
             return RemoveResult::Frozen;
         }
-        let Some((at, (_, value))) = self.found(key) else {
+        let mut steps = Steps::new();
+        let Some((at, (_, value))) = self.found(key, &mut steps) else {
             return RemoveResult::Fail;
         };
         if !answer(condition, value) {

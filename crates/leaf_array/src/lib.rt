@@ -30,6 +30,7 @@ mod range;
 mod result;
 mod row;
 mod slots;
+mod steps;
 mod unchecked;
 mod walk;
 mod word;
@@ -42,3 +43,4 @@ pub use laws::{
     upserting_is_found,
 };
 pub use result::{DIMENSION, Dimension, InsertResult, RemoveResult};
+pub use steps::Steps;

@@ -1,11 +1,12 @@
-//! A place of an array, and the one comparison of keys.
+//! A place of an array.
 
 ghost use Rattle.std.specs.Prelude.{◌≡◌, ◌+◌, ◌<◌, ◌≤◌, ◌∷◌, ◌↔◌, [], List, Some, None, IsSome, IsTrue, MatchOption};
 ghost use Rattle.leaf_array.specs.declared.place.Place.{Place};
 ghost use Rattle.leaf_array.specs.declared.place.Place.TheVariants.{Empty};
 ghost use Rattle.leaf_array.specs.Cells.{slot_of};
-ghost use Rattle.leaf_array.specs.Places.{top, widened, below, live_pair, died, renewed, vacated, packed, pair_at_slot};
+ghost use Rattle.leaf_array.specs.Places.{top, widened, below, live_pair, died, renewed, paired, vacated, packed, pair_at_slot};
 
+use crate::steps::Steps;
 use std::cmp::Ordering;
 use std::mem;
 
@@ -29,12 +30,13 @@ pub(crate) enum Place<K, V> {
     },
 }
 
-/// The one comparison of keys. Every search is made of it.
+/// A comparison of keys that nobody counts.
 #[inline(always)]
 pub(crate) fn compare<K: Ord>(stored: &K, key: &K) -> Ordering
     ensures { result ≡ K.cmp stored.now key.now }
 {
-    stored.cmp(key)
+    let mut steps = Steps::new();
+    steps.compare(stored, key)
 }
 
 /// The slot of a bitmap place.
@@ -84,13 +86,15 @@ pub(crate) fn widened<K, V>(place: Place<K, V>, more: u16) -> Place<K, V>
         other => other,
     }
 }
-/// Whether a place is live with a lesser key.
+/// Whether a place is live with a lesser key: one comparison at most.
 #[inline(always)]
-pub(crate) fn precedes<K: Ord, V>(place: &Place<K, V>, key: &K) -> bool
-    ensures { IsTrue result ↔ (0 < below K.cmp key.now (place.now ∷ [])) }
+pub(crate) fn precedes<K: Ord, V>(place: &Place<K, V>, key: &K, steps: &mut Steps) -> bool
+    ensures lesser { IsTrue result ↔ (0 < below K.cmp key.now (place.now ∷ [])) }
+    ensures cost { steps.new.count ≤ steps.old.count + 1 }
+    ensures raised { steps.old.count ≤ steps.new.count }
 {
     match place {
-        Place::Live { key: stored, .. } => compare(stored, key) == Ordering::Less,
+        Place::Live { key: stored, .. } => steps.compare(stored, key) == Ordering::Less,
         _ => false,
     }
 }
@@ -156,6 +160,24 @@ pub(crate) fn renew<K, V>(place: &mut Place<K, V>, slot: u8, key: K, value: V) -
                 value: old_value,
             }
         },
+        _ => unreachable!(),
+    }
+}
+
+/// Writes another pair into a live place, and gives the one that was there.
+#[inline(always)]
+pub(crate) fn overwrite<K, V>(place: &mut Place<K, V>, key: K, value: V) -> (K, V)
+    requires { IsSome (live_pair place.old) }
+    ensures pair { Some result ≡ live_pair place.old }
+    ensures new { (rest : List (Place K V)) → place.new ∷ rest ≡ paired key value (place.old ∷ rest) }
+{
+    match place {
+        Place::Live {
+            slot: _,
+            gap: _,
+            key: old_key,
+            value: old_value,
+        } => (mem::replace(old_key, key), mem::replace(old_value, value)),
         _ => unreachable!(),
     }
 }

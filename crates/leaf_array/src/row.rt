@@ -25,7 +25,7 @@ pub(crate) use labels::Labels;
 pub(crate) use lend::Lend;
 pub(crate) use ranks::{Ranks, Top};
 pub(crate) use renumber::Renumber;
-pub(crate) use replace::{Put, Renew, Vacate};
+pub(crate) use replace::{Overwrite, Put, Renew, Vacate};
 pub(crate) use search::Search;
 
 /// A row, as contracts see it.

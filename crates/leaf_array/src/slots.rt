@@ -3,13 +3,14 @@
 ghost use Rattle.std.specs.Prelude.{◌≡◌, ◌+◌, ◌<◌, ◌≤◌, ◌++◌, ◌∷◌, [], length, take, drop, IsTrue, IsSome, Some, None, MatchOption, IfOk, IfErr, option_copied, slice_index_or};
 ghost use Rattle.leaf_array.specs.declared.place.Place.TheVariants.{Empty};
 ghost use Rattle.leaf_array.specs.Cells.{rank_in, first_above, last_below, newest, lesser, entered};
-ghost use Rattle.leaf_array.specs.Places.{live_pair, live_pairs, dead_pairs, labels_above, top, has_room, pushed, buried, renewed, died, vacated, packed, pair_at_slot, stands, below, least, no_places, no_half, IsPacked};
+ghost use Rattle.leaf_array.specs.Places.{live_pair, live_pairs, dead_pairs, labels_above, top, has_room, pushed, buried, renewed, paired, died, vacated, packed, pair_at_slot, stands, below, least, no_places, no_half, IsPacked};
 
-use crate::place::{Place, compare, precedes};
+use crate::place::{Place, precedes};
 use crate::row::{
-    Blank, Bury, Enter, Exchange, Labels, Last, Lend, Link, Put, Ranks, Renew, Renumber, Search,
-    Top, Vacate,
+    Blank, Bury, Enter, Exchange, Labels, Last, Lend, Link, Overwrite, Put, Ranks, Renew, Renumber,
+    Search, Top, Vacate,
 };
+use crate::steps::Steps;
 use std::cmp::Ordering;
 use std::marker::Model;
 use std::mem;
@@ -59,17 +60,19 @@ impl<K: Ord, V> Slots<K, V> {
     ///
     /// The eighth place says in which half it is: at most nine comparisons.
     #[inline(always)]
-    pub(crate) fn lower(&self, key: &K) -> (usize, Option<(&K, &V)>)
+    pub(crate) fn lower(&self, key: &K, steps: &mut Steps) -> (usize, Option<(&K, &V)>)
         requires packed { IsPacked self.now }
         requires sorted { IsStrictlySortedBy K.cmp (keys_of (live_pairs self.now)) }
+        ensures cost { steps.new.count ≤ steps.old.count + 9 }
+        ensures raised { steps.old.count ≤ steps.new.count }
         ensures place { result.0 ≡ below K.cmp key.now self.now }
         ensures pair { MatchOption result.1 (least K.cmp key.now self.now ≡ None) (λ e. least K.cmp key.now self.now ≡ Some (e.0.now, e.1.now)) }
     {
         let upper = &self.all.rest.rest.rest.rest.rest.rest.rest;
-        if precedes(&upper.head, key) {
-            return upper.rest.lower(8, key);
+        if precedes(&upper.head, key, steps) {
+            return upper.rest.lower(8, key, steps);
         }
-        self.all.lower(0, key)
+        self.all.lower(0, key, steps)
     }
 
     /// The live place that has the key, or the one that a new pair with it would take.
@@ -80,9 +83,10 @@ impl<K: Ord, V> Slots<K, V> {
         ensures hit { IfOk result (λ at. (at ≡ lesser K.cmp key.now (live_pairs self.now)) × (is_some (lookup (is_at (K.cmp key.now)) (live_pairs self.now)) ≡ true)) }
         ensures miss { IfErr result (λ at. (at ≡ lesser K.cmp key.now (live_pairs self.now)) × (is_some (lookup (is_at (K.cmp key.now)) (live_pairs self.now)) ≡ false)) }
     {
-        let (at, pair) = self.lower(key);
+        let mut steps = Steps::new();
+        let (at, pair) = self.lower(key, &mut steps);
         match pair {
-            Some((stored, _)) => match compare(stored, key) {
+            Some((stored, _)) => match steps.compare(stored, key) {
                 Ordering::Equal => Ok(at),
                 _ => Err(at),
             },
@@ -182,6 +186,16 @@ impl<K: Ord, V> Slots<K, V> {
         ensures places { self.new ≡ take at self.old ++ renewed slot key value (drop at self.old) }
     {
         self.all.renew(at, slot, key, value)
+    }
+
+    #[inline(always)]
+    pub(crate) fn overwrite(&mut self, at: usize, key: K, value: V) -> (K, V)
+        requires { IsSome (live_pair (slice_index_or self.old at Empty)) }
+        ensures count { length self.new ≡ 15 }
+        ensures pair { Some result ≡ live_pair (slice_index_or self.old at Empty) }
+        ensures places { self.new ≡ take at self.old ++ paired key value (drop at self.old) }
+    {
+        self.all.overwrite(at, key, value)
     }
 
     #[inline(always)]

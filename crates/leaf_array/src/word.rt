@@ -6,6 +6,7 @@ ghost use Rattle.leaf_array.specs.Words.{ranks_from, word, score, boundary};
 
 use crate::array::Array;
 use crate::place::slot_of;
+use crate::steps::Steps;
 
 /// The bit of a retired array.
 const RETIRED: usize = 0x4000000000000000;
@@ -74,8 +75,19 @@ impl<K: Ord, V> Array<K, V> {
         ensures value { MatchOption result.0 (slice_get self.now.pairs (lesser K.cmp key.now self.now.pairs) ≡ None) (λ v. (k : K) × (slice_get self.now.pairs (lesser K.cmp key.now self.now.pairs) ≡ Some (k, v.now))) }
         ensures word { result.1 ≡ word self.now }
     {
+        let mut steps = Steps::new();
+        self.min_greater_equal_counted(key, &mut steps)
+    }
+
+    /// The same, by at most fifteen comparisons, which are counted.
+    pub fn min_greater_equal_counted(&self, key: &K, steps: &mut Steps) -> (Option<&V>, usize)
+        ensures value { MatchOption result.0 (slice_get self.now.pairs (lesser K.cmp key.now self.now.pairs) ≡ None) (λ v. (k : K) × (slice_get self.now.pairs (lesser K.cmp key.now self.now.pairs) ≡ Some (k, v.now))) }
+        ensures word { result.1 ≡ word self.now }
+        ensures cost { steps.new.count ≤ steps.old.count + 15 }
+        ensures raised { steps.old.count ≤ steps.new.count }
+    {
         let word = self.metadata();
-        match self.lower_bound(key).1 {
+        match self.lower_bound_counted(key, steps).1 {
             Some((_, value)) => (Some(value), word),
             None => (None, word),
         }

@@ -1,10 +1,10 @@
 -- What stands in the arenas of a sound tree.
-use Rattle.std.proofs.Common.{◌≡◌, ◌≢◌, ◌⊎◌, inl, inr, ℕ, ◌+◌, ◌-◌, ◌≤◌, Bool, true, false, cond, not, IsSome, Option, Some, None, List, [], ◌∷◌, ◌++◌, refl, sym, ap, ◌∙◌, subst, arith}
+use Rattle.std.proofs.Common.{◌≡◌, ◌≢◌, ◌⊎◌, inl, inr, ℕ, ◌||◌, ◌+◌, ◌-◌, ◌≤◌, Bool, true, false, cond, not, IsSome, Option, Some, None, List, [], ◌∷◌, ◌++◌, refl, sym, ap, ◌∙◌, subst, arith}
 use Rattle.std.specs.Prelude.{length}
 use Rattle.std.specs.Option.{option_map}
 use Rattle.std.specs.declared.cmp.Ordering.{Ordering}
 use Rattle.std.specs.declared.cmp.Ordering.TheVariants.{Less, Equal, Greater}
-use Rattle.std.specs.Ordering.{is_lt, is_gt}
+use Rattle.std.specs.Ordering.{is_lt, is_gt, is_eq}
 use Rattle.std.specs.List.{filter}
 use Rattle.std.proofs.lemmas.List.{length-append}
 use Rattle.std.specs.Cmp.{IsTotalOrder}
@@ -89,6 +89,20 @@ module _ {K V : Type 0} (cmp : K → K → Ordering) (key : K) (val : V) where
         | Equal ↦ omega (arith, split_length ps)
         | Greater ↦ omega (arith, split_length ps)
       ]
+
+  split_there : (ps : List (K × V)) → has_key cmp key ps ≡ true → length (below cmp key ps) + length (above cmp key ps) + 1 ≤ length ps
+  split_there [] h = absurd (cc)
+  split_there (p ∷ ps) h =
+      (elim (cmp key p.0) as (λ r. (is_eq r || has_key cmp key ps) ≡ true → length (cond (is_gt r) (p ∷ below cmp key ps) (below cmp key ps)) + length (cond (is_lt r) (p ∷ above cmp key ps) (above cmp key ps)) + 1 ≤ length (p ∷ ps)) [
+        | Less ↦ λ h. omega (arith, split_there ps h)
+        | Equal ↦ λ h. omega (arith, split_length ps)
+        | Greater ↦ λ h. omega (arith, split_there ps h)
+      ]) h
+
+  -- it is no longer where a pair had the key
+  pub put_there : (old new : List (K × V)) → IsPut old new → has_key cmp key old ≡ true → length new ≤ length old
+  put_there old new (inl p) h = rw p (simp length-append (omega (arith, split_there old h)))
+  put_there old new (inr p) h = rw p (omega arith)
 
   -- it is longer by one at most
   pub put_length : (old new : List (K × V)) → IsPut old new → length new ≤ length old + 1

@@ -175,7 +175,7 @@ module _ {K V : Type 0} (s : Slab (Leaf K V)) (n : ℕ) (l m : Leaf K V) (here :
 
 -- what one insertion above all pairs takes
 module _ {K V : Type 0} (cmp : K → K → Ordering) (o : IsTotalOrder cmp) (key : K) (val : V) (a b : Arenas K V) (above : IsAbove cmp key (pairs_of a)) (nodes : get b.nodes b.root ≡ get a.nodes a.root) (pairs : pairs_of b ≡ upserted cmp key val (pairs_of a))
-    (n : ℕ) (on : n ≡ way cmp (content_of a) key a.height a.root) (l m : Leaf K V) (old : get a.leaves n ≡ Some l) (new : get b.leaves n ≡ Some m) (used : m.array.used ≡ l.array.used + 1) where
+    (n : ℕ) (on : n ≡ way cmp (content_of a) key a.height a.root) (l m : Leaf K V) (old : get a.leaves n ≡ Some l) (new : get b.leaves n ≡ Some m) (used : m.array.used ≤ l.array.used + 1) where
   pub insert_room : a.height ≡ 1 → root_room cmp a ≤ root_room cmp b + 1
   insert_room flat =
       by_root cmp a (λ r. r ≤ root_room cmp b + 1) (omega arith) (λ t there reached.

@@ -13,7 +13,7 @@ use Rattle.leaf_array.specs.Edits.{removed, upserted}
 use Rattle.leaf_array.specs.Pairs.{IsAscending, has_key, value_at}
 use Rattle.leaf_array.specs.declared.result.InsertResult.{InsertResult}
 use Rattle.leaf_array.specs.declared.result.InsertResult.TheVariants.{Success, Duplicate, Full}
-use Rattle.leaf_array.specs.Cells.{Cells, has, inserted, replaced}
+use Rattle.leaf_array.specs.Cells.{Cells, has, inserted, overwritten}
 use Rattle.leaf_array.specs.Results.{IsSuccess, IsDuplicate, IsFull, is_closed, is_repeated}
 use Rattle.leaf_array.proofs.EntryLemmas.{insert_upserted, exchange_upserted, has_lookup}
 use Rattle.tree_index.specs.Shape.{AllKeys}
@@ -54,20 +54,20 @@ last_of_three false b c h = cc
 pub repeated_has : {K V : Type 0} (upsert : Bool) (cmp : K → K → Ordering) (key : K) (a : Cells K V) → IsTrue (is_repeated upsert cmp key a) → has cmp key a ≡ true
 repeated_has upsert cmp key a h = last_of_three (not (is_closed a)) (not upsert) (has cmp key a) h
 
-unique_of : (closed full upsert there : Bool) → (IsTrue (closed || full && (upsert || not there)) → ⊥) → (IsTrue (not closed && not upsert && there) → ⊥) → upsert ≡ false → there ≡ false
+unique_of : (closed full upsert there : Bool) → (IsTrue (closed || full && not there) → ⊥) → (IsTrue (not closed && not upsert && there) → ⊥) → upsert ≡ false → there ≡ false
 unique_of true full upsert there a b e = absurd (a refl)
 unique_of false full true there a b e = cc
 unique_of false full false true a b e = absurd (b refl)
 unique_of false full false false a b e = refl
 
-pub unique : {K V : Type 0} (r : InsertResult K V) (closed full upsert there : Bool) → (IsTrue (closed || full && (upsert || not there)) → IsFull r) → (IsTrue (not closed && not upsert && there) → IsDuplicate r) → IsSuccess r → upsert ≡ false → there ≡ false
+pub unique : {K V : Type 0} (r : InsertResult K V) (closed full upsert there : Bool) → (IsTrue (closed || full && not there) → IsFull r) → (IsTrue (not closed && not upsert && there) → IsDuplicate r) → IsSuccess r → upsert ≡ false → there ≡ false
 unique Success closed full upsert there a b s e = unique_of closed full upsert there a b e
 unique (Duplicate k v) closed full upsert there a b s e = absurd s
 unique (Full k v) closed full upsert there a b s e = absurd s
 
 module _ {K V : Type 0} (cmp : K → K → Ordering) (o : IsTotalOrder cmp) (key : K) (val : V) where
   -- a pair that is put into an array is put into its list
-  pub put_is : (old new : Cells K V) → IsAscending cmp old.pairs → (has cmp key old ≡ false → new ≡ inserted cmp key val old) → (has cmp key old ≡ true → new ≡ replaced cmp key val old) → new.pairs ≡ upserted cmp key val old.pairs
+  pub put_is : (old new : Cells K V) → IsAscending cmp old.pairs → (has cmp key old ≡ false → new ≡ inserted cmp key val old) → (has cmp key old ≡ true → new ≡ overwritten cmp key val old) → new.pairs ≡ upserted cmp key val old.pairs
   put_is old new up absent there =
       (elim (has cmp key old) as (λ b. has cmp key old ≡ b → new.pairs ≡ upserted cmp key val old.pairs) [
         | true ↦ λ b. ap (λ (c : Cells K V). c.pairs) (there b) ∙ exchange_upserted cmp o key val old.pairs up

@@ -1,6 +1,6 @@
 //! Leaves and nodes in their arenas, and the way down to a key.
 
-ghost use Rattle.std.specs.Prelude.{◌≡◌, ◌≢◌, ◌≤◌, ◌<◌, ◌+◌, ◌-◌, ◌^◌, ◌⊎◌, ◌↔◌, IsTrue, IsSome, IfSome, Some, None, MatchOption, [], true, false, OnOk, OnErr, IfOk};
+ghost use Rattle.std.specs.Prelude.{◌≡◌, ◌≢◌, ◌≤◌, ◌<◌, ◌+◌, ◌*◌, ◌-◌, ◌^◌, ◌⊎◌, ◌↔◌, IsTrue, IsSome, IfSome, Some, None, MatchOption, [], true, false, not, OnOk, OnErr, IfOk};
 ghost use Rattle.std.specs.BTreeMap.{is_at};
 ghost use Rattle.std.specs.Map.{lookup_entry};
 ghost use Rattle.tree_index.specs.Shape.{way};
@@ -15,7 +15,7 @@ ghost use Rattle.leaf_array.specs.Results.{IsSuccess, IsDuplicate, IsFull, given
 
 use crate::leaf::Leaf;
 use crate::node::Branches;
-use leaf_array::InsertResult;
+use leaf_array::{InsertResult, Steps};
 use slab::Slab;
 use std::alloc::{AllocError, Global};
 
@@ -75,11 +75,24 @@ impl<K: Ord, V> Arenas<K, V> {
         requires within { left ≤ self.now.height }
         ensures { result ≡ way K.cmp (content_of self.now) key.now (self.now.height - left) self.now.root }
     {
+        let mut steps = Steps::new();
+        self.node_at_counted(left, key, &mut steps)
+    }
+
+    /// The same, by at most fifteen comparisons for each node on the way, which are counted.
+    #[inline(always)]
+    fn node_at_counted(&self, left: usize, key: &K, steps: &mut Steps) -> usize
+        requires sound { IsSound K.cmp self.now }
+        requires within { left ≤ self.now.height }
+        ensures place { result ≡ way K.cmp (content_of self.now) key.now (self.now.height - left) self.now.root }
+        ensures cost { steps.new.count ≤ steps.old.count + 15 * (self.now.height - left) }
+        ensures raised { steps.old.count ≤ steps.new.count }
+    {
         let mut at = self.root;
         let mut height = self.height;
         while height > left {
             match self.nodes.get(at) {
-                Some(node) => at = node.child(key),
+                Some(node) => at = node.child_counted(key, steps),
                 None => unreachable!(),
             }
             height -= 1;
@@ -102,24 +115,39 @@ impl<K: Ord, V> Arenas<K, V> {
         requires { IsSound K.cmp self.now }
         ensures { MatchOption result (lookup_entry (is_at (K.cmp key.now)) (pairs_of self.now) ≡ None) (λ e. lookup_entry (is_at (K.cmp key.now)) (pairs_of self.now) ≡ Some (e.0.now, e.1.now)) }
     {
-        match self.leaves.get(self.leaf_of(key)) {
-            Some(leaf) => leaf.array.search_entry(key),
+        let mut steps = Steps::new();
+        self.search_entry_counted(key, &mut steps)
+    }
+
+    /// The same, by at most fifteen comparisons in the leaf and in each node above it, which are counted.
+    #[inline(always)]
+    pub(crate) fn search_entry_counted(&self, key: &K, steps: &mut Steps) -> Option<(&K, &V)>
+        requires { IsSound K.cmp self.now }
+        ensures pair { MatchOption result (lookup_entry (is_at (K.cmp key.now)) (pairs_of self.now) ≡ None) (λ e. lookup_entry (is_at (K.cmp key.now)) (pairs_of self.now) ≡ Some (e.0.now, e.1.now)) }
+        ensures cost { steps.new.count ≤ steps.old.count + 15 * (self.now.height + 1) }
+        ensures raised { steps.old.count ≤ steps.new.count }
+    {
+        match self.leaves.get(self.node_at_counted(0, key, steps)) {
+            Some(leaf) => leaf.array.search_entry_counted(key, steps),
             None => None,
         }
     }
 
-    /// Inserts a pair into the leaf on the way to its key, and where `UPSERT` is true puts it in the
-    /// place of the one that has its key. It is full where that leaf has no room, or there is none.
+    /// Inserts a pair into the leaf on the way to its key, and where `UPSERT` is true writes it over the one
+    /// that has its key. It is full where no pair has the key, and that leaf has no room, or there is none.
     #[inline(always)]
     pub(crate) fn insert<const UPSERT: bool>(&mut self, key: K, val: V) -> InsertResult<K, V>
+    where
+        K: Drop,
+        V: Drop,
         requires sound { IsSound K.cmp self.old }
-        requires countable { self.old.len + 1 < 2 ^ 64 }
+        requires countable { has_key K.cmp key (pairs_of self.old) ≡ false → self.old.len + 1 < 2 ^ 64 }
         ensures sound { IsSound K.cmp self.new }
         ensures depth { self.new.height ≡ self.old.height }
         ensures back { IfSome (given_back result) (λ p. p ≡ (key, val)) }
         ensures kept { IsSome (given_back result) → pairs_of self.new ≡ pairs_of self.old }
         ensures full { IsFull result → HasRoom K.cmp key self.old → ⊥ }
-        ensures absent { IsFull result → UPSERT ≡ false → has_key K.cmp key (pairs_of self.old) ≡ false }
+        ensures absent { IsFull result → has_key K.cmp key (pairs_of self.old) ≡ false }
         ensures duplicate { IsDuplicate result → has_key K.cmp key (pairs_of self.old) ≡ true }
         ensures repeated { IsDuplicate result → UPSERT ≡ false }
         ensures unique { IsSuccess result → UPSERT ≡ false → has_key K.cmp key (pairs_of self.old) ≡ false }
@@ -140,8 +168,8 @@ impl<K: Ord, V> Arenas<K, V> {
         }
     }
 
-    /// Inserts a pair, and where `UPSERT` is true puts it in the place of the one that has its key. It is
-    /// full where memory is refused, or no more pairs can be counted.
+    /// Inserts a pair, and where `UPSERT` is true writes it over the one that has its key. It is full where
+    /// no pair has the key, and memory is refused or no more pairs can be counted.
     #[inline(always)]
     pub(crate) fn put<const UPSERT: bool>(&mut self, key: K, val: V) -> InsertResult<K, V>
     where
@@ -153,7 +181,7 @@ impl<K: Ord, V> Arenas<K, V> {
         ensures back { IfSome (given_back result) (λ p. p ≡ (key, val)) }
         ensures kept { IsSome (given_back result) → pairs_of self.new ≡ pairs_of self.old }
         ensures depth { IsSome (given_back result) → self.new.height ≡ self.old.height }
-        ensures absent { IsFull result → UPSERT ≡ false → has_key K.cmp key (pairs_of self.old) ≡ false }
+        ensures absent { IsFull result → has_key K.cmp key (pairs_of self.old) ≡ false }
         ensures duplicate { IsDuplicate result → has_key K.cmp key (pairs_of self.old) ≡ true }
         ensures repeated { IsDuplicate result → UPSERT ≡ false }
         ensures unique { IsSuccess result → UPSERT ≡ false → has_key K.cmp key (pairs_of self.old) ≡ false }
@@ -161,8 +189,8 @@ impl<K: Ord, V> Arenas<K, V> {
         ensures ascents { IsSome (given_back result) → ascents K.cmp self.new ≡ ascents K.cmp self.old }
         ensures ascending { IsSuccess result → IsAbove K.cmp key (pairs_of self.old) → ascents K.cmp self.old ≤ ascents K.cmp self.new + 1 }
     {
-        if self.len == usize::MAX {
-            return self.refused::<UPSERT>(key, val);
+        if self.len == usize::MAX && self.lacks(&key) {
+            return InsertResult::Full(key, val);
         }
         match self.insert::<UPSERT>(key, val) {
             InsertResult::Full(key, val) => self.put_full::<UPSERT>(key, val),
@@ -170,25 +198,17 @@ impl<K: Ord, V> Arenas<K, V> {
         }
     }
 
-    /// The answer where no more pairs can be counted: full, but where no pair may be replaced the one that
-    /// has the key is told.
+    /// Whether no pair has this key. Out of line, for where no more pairs can be counted.
     #[cold]
     #[inline(never)]
-    fn refused<const UPSERT: bool>(&self, key: K, val: V) -> InsertResult<K, V>
+    fn lacks(&self, key: &K) -> bool
         requires { IsSound K.cmp self.now }
-        ensures back { given_back result ≡ Some (key, val) }
-        ensures absent { IsFull result → UPSERT ≡ false → has_key K.cmp key (pairs_of self.now) ≡ false }
-        ensures duplicate { IsDuplicate result → has_key K.cmp key (pairs_of self.now) ≡ true }
-        ensures repeated { IsDuplicate result → UPSERT ≡ false }
+        ensures { result ≡ not (has_key K.cmp key.now (pairs_of self.now)) }
     {
-        if !UPSERT && self.contains(&key) {
-            InsertResult::Duplicate(key, val)
-        } else {
-            InsertResult::Full(key, val)
-        }
+        !self.contains(key)
     }
 
-    /// The same where the leaf on the way has no room, and where no pair may be replaced none has the key.
+    /// Inserts a pair whose key no pair has, where the leaf on the way has no room.
     #[cold]
     #[inline(never)]
     fn put_full<const UPSERT: bool>(&mut self, key: K, val: V) -> InsertResult<K, V>
@@ -199,12 +219,12 @@ impl<K: Ord, V> Arenas<K, V> {
         requires countable { self.old.len + 1 < 2 ^ 64 }
         requires clones { ClonesAreSame K.is_clone }
         requires full { HasRoom K.cmp key self.old → ⊥ }
-        requires absent { UPSERT ≡ false → has_key K.cmp key (pairs_of self.old) ≡ false }
+        requires absent { has_key K.cmp key (pairs_of self.old) ≡ false }
         ensures sound { IsSound K.cmp self.new }
         ensures back { IfSome (given_back result) (λ p. p ≡ (key, val)) }
         ensures kept { IsSome (given_back result) → pairs_of self.new ≡ pairs_of self.old }
         ensures depth { IsSome (given_back result) → self.new.height ≡ self.old.height }
-        ensures absent { IsFull result → UPSERT ≡ false → has_key K.cmp key (pairs_of self.old) ≡ false }
+        ensures absent { IsFull result → has_key K.cmp key (pairs_of self.old) ≡ false }
         ensures duplicate { IsDuplicate result → has_key K.cmp key (pairs_of self.old) ≡ true }
         ensures repeated { IsDuplicate result → UPSERT ≡ false }
         ensures unique { IsSuccess result → UPSERT ≡ false → has_key K.cmp key (pairs_of self.old) ≡ false }

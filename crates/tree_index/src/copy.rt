@@ -1,6 +1,6 @@
 //! Clones of trees.
 
-ghost use Rattle.std.specs.Prelude.{◌≡◌, IfOk};
+ghost use Rattle.std.specs.Prelude.{◌≡◌, ◌≤◌, ◌+◌, IfOk, length};
 ghost use Rattle.leaf_array.specs.Values.{ClonesAreSame};
 
 use crate::index::TreeIndex;
@@ -8,14 +8,16 @@ use std::alloc::{AllocError, Global};
 
 impl<K: Ord, V> TreeIndex<K, V> {
     /// A tree with clones of all pairs, by one pass over them: each goes behind the last one, into room that was
-    /// made ahead. Where memory is refused there is none, and what was cloned is dropped.
+    /// made ahead, so the depth is at most 1 up to 240 of them. Where memory is refused there is none, and what was
+    /// cloned is dropped.
     pub fn clone(&self, alloc: Global) -> Result<TreeIndex<K, V>, AllocError>
     where
         K: Clone + Drop,
         V: Clone + Drop,
         requires keys { ClonesAreSame K.is_clone }
         requires values { ClonesAreSame V.is_clone }
-        ensures { IfOk result (λ t. t.pairs ≡ self.now.pairs) }
+        ensures pairs { IfOk result (λ t. t.pairs ≡ self.now.pairs) }
+        ensures ascents { IfOk result (λ t. 241 ≤ t.ascents + length t.pairs) }
     {
         let mut copy = TreeIndex::with_capacity(alloc, self.arenas.len)?;
         let mut next = self.arenas.first_from(self.arenas.first_leaf());

@@ -1,6 +1,6 @@
 //! The tree as users see it.
 
-ghost use Rattle.std.specs.Prelude.{◌≡◌, ◌≤◌, ◌<◌, ◌^◌, ◌+◌, ◌==◌, ◌↔◌, IsTrue, IsSome, IfSome, IfErr, OnOk, OnErr, IsOk, IfOk, MatchOption, [], ◌∷◌, ◌++◌, Some, None, true, false, not, length, option_copied};
+ghost use Rattle.std.specs.Prelude.{◌≡◌, ◌≤◌, ◌<◌, ◌^◌, ◌+◌, ◌*◌, ◌==◌, ◌↔◌, IsTrue, IsSome, IfSome, IfErr, OnOk, OnErr, IsErr, IsOk, IfOk, MatchOption, [], ◌∷◌, ◌++◌, Some, None, true, false, not, length, option_copied};
 ghost use Rattle.std.specs.BTreeMap.{is_at};
 ghost use Rattle.std.specs.Map.{lookup_entry};
 ghost use Rattle.std.specs.Fn.{FnOnceReturnsAt, FnOnceTakesAt};
@@ -24,7 +24,7 @@ use crate::iter::Iter;
 use crate::node::{Node, Standing};
 use crate::proximity::Proximity;
 use crate::range::Range;
-use leaf_array::InsertResult;
+use leaf_array::{InsertResult, Steps};
 use std::alloc::{AllocError, Global};
 use std::marker::Model;
 use std::ops::Bound;
@@ -153,14 +153,15 @@ impl<K: Ord, V> TreeIndex<K, V> {
         }
     }
 
-    /// Puts a pair in, in the place of the one that has its key, if there is one. Where memory is refused
-    /// the pair comes back, and the tree stays as it was.
+    /// Puts a pair in, over the one that has its key, if there is one: that takes no memory, and drops what
+    /// was there. Where memory is refused the pair comes back, and the tree stays as it was.
     pub fn upsert_sync(&mut self, key: K, val: V) -> Result<(), (K, V)>
     where
         K: Clone + Drop,
         V: Drop,
         requires clones { ClonesAreSame K.is_clone }
         ensures upserted { OnOk result (self.new.pairs ≡ upserted K.cmp key val self.old.pairs) }
+        ensures absent { IsErr result → has_key K.cmp key self.old.pairs ≡ false }
         ensures back { IfErr result (λ e. e ≡ (key, val)) }
         ensures refused { OnErr result (self.new ≡ self.old) }
     {
@@ -186,6 +187,7 @@ impl<K: Ord, V> TreeIndex<K, V> {
         ensures pushed { OnOk result (self.new.pairs ≡ self.old.pairs ++ (key, val) ∷ []) }
         ensures back { IfErr result (λ e. e ≡ (key, val)) }
         ensures refused { OnErr result (self.new ≡ self.old) }
+        ensures ascending { IsOk result → self.old.ascents ≤ self.new.ascents + 1 }
     {
         match self.arenas.push(key, val) {
             InsertResult::Success => Ok(()),
@@ -215,7 +217,19 @@ impl<K: Ord, V> TreeIndex<K, V> {
     pub fn peek_entry(&self, key: &K) -> Option<(&K, &V)>
         ensures { MatchOption result (lookup_entry (is_at (K.cmp key.now)) self.now.pairs ≡ None) (λ e. lookup_entry (is_at (K.cmp key.now)) self.now.pairs ≡ Some (e.0.now, e.1.now)) }
     {
-        self.arenas.search_entry(key)
+        let mut steps = Steps::new();
+        self.peek_entry_counted(key, &mut steps)
+    }
+
+    /// The same, by at most fifteen comparisons in the leaf and in each node above it, which are counted: thirty
+    /// in a tree of a depth of at most 1.
+    #[inline]
+    pub fn peek_entry_counted(&self, key: &K, steps: &mut Steps) -> Option<(&K, &V)>
+        ensures pair { MatchOption result (lookup_entry (is_at (K.cmp key.now)) self.now.pairs ≡ None) (λ e. lookup_entry (is_at (K.cmp key.now)) self.now.pairs ≡ Some (e.0.now, e.1.now)) }
+        ensures cost { steps.new.count ≤ steps.old.count + 15 * (self.now.depth + 1) }
+        ensures raised { steps.old.count ≤ steps.new.count }
+    {
+        self.arenas.search_entry_counted(key, steps)
     }
 
     /// The value at this key.

@@ -71,9 +71,12 @@ impl<K: Ord, V> Leaf<K, V> {
         }
     }
 
-    /// Inserts a pair, and where `UPSERT` is true puts it in the place of the one that has its key.
+    /// Inserts a pair, and where `UPSERT` is true writes it over the one that has its key.
     #[inline(always)]
     pub(crate) fn insert<const UPSERT: bool>(&mut self, key: K, val: V) -> InsertResult<K, V>
+    where
+        K: Drop,
+        V: Drop,
         requires { self.old.array.frozen ≡ false }
         ensures thawed { self.new.array.frozen ≡ false }
         ensures prev { self.new.prev ≡ self.old.prev }
@@ -81,15 +84,15 @@ impl<K: Ord, V> Leaf<K, V> {
         ensures back { IfSome (given_back result) (λ p. p ≡ (key, val)) }
         ensures kept { IsSome (given_back result) → self.new.array ≡ self.old.array }
         ensures full { IsFull result → IsTrue (self.old.array.retired || self.old.array.used == 15) }
-        ensures absent { IsFull result → UPSERT ≡ false → has_key K.cmp key self.old.array.pairs ≡ false }
+        ensures absent { IsFull result → has_key K.cmp key self.old.array.pairs ≡ false }
         ensures duplicate { IsDuplicate result → has_key K.cmp key self.old.array.pairs ≡ true }
         ensures repeated { IsDuplicate result → UPSERT ≡ false }
         ensures unique { IsSuccess result → UPSERT ≡ false → has_key K.cmp key self.old.array.pairs ≡ false }
         ensures done { IsSuccess result → self.new.array.pairs ≡ upserted K.cmp key val self.old.array.pairs }
-        ensures used { IsSuccess result → self.new.array.used ≡ self.old.array.used + 1 }
+        ensures used { IsSuccess result → self.new.array.used ≤ self.old.array.used + 1 }
     {
         let _ = self.array.len();
-        self.array.insert::<UPSERT>(key, val)
+        self.array.put::<UPSERT>(key, val)
     }
 
     /// Puts a pair behind all others, whose keys are lesser.
@@ -99,6 +102,7 @@ impl<K: Ord, V> Leaf<K, V> {
         requires above { AllKeys (λ k. K.cmp k key ≡ Less) self.old.array.pairs }
         ensures pairs { self.new.array.pairs ≡ self.old.array.pairs ++ (key, val) ∷ [] }
         ensures rising { IsAscending K.cmp self.new.array.pairs }
+        ensures used { self.new.array.used ≡ self.old.array.used + 1 }
         ensures frozen { self.new.array.frozen ≡ self.old.array.frozen }
         ensures prev { self.new.prev ≡ self.old.prev }
         ensures next { self.new.next ≡ self.old.next }

@@ -39,6 +39,7 @@ mod walk;
 pub use index::{InsertRefused, TreeIndex};
 pub use iter::Iter;
 pub use laws::done_stays_at_none;
+pub use leaf_array::Steps;
 pub use node::{InternalNode, LeafNode, Node};
 pub use proximity::Proximity;
 pub use range::Range;

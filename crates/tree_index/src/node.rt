@@ -18,7 +18,7 @@ ghost use Rattle.tree_index.specs.Reads.{FnOnceTakesPair};
 ghost use Rattle.tree_index.specs.Standing.{pairs_below, IsAround, IsStanding};
 ghost use Rattle.tree_index.specs.Shape.{child_for, first_child, IsNode};
 
-use leaf_array::{Array, InsertResult};
+use leaf_array::{Array, InsertResult, Steps};
 
 mod internal_node;
 mod leaf_node;
@@ -100,7 +100,18 @@ impl<K: Ord> Branches<K> {
     pub(crate) fn child(&self, key: &K) -> usize
         ensures { result ≡ child_for K.cmp key.now self.now.children.pairs self.now.last }
     {
-        match self.children.lower_bound(key).1 {
+        let mut steps = Steps::new();
+        self.child_counted(key, &mut steps)
+    }
+
+    /// The same, by at most fifteen comparisons, which are counted.
+    #[inline(always)]
+    pub(crate) fn child_counted(&self, key: &K, steps: &mut Steps) -> usize
+        ensures child { result ≡ child_for K.cmp key.now self.now.children.pairs self.now.last }
+        ensures cost { steps.new.count ≤ steps.old.count + 15 }
+        ensures raised { steps.old.count ≤ steps.new.count }
+    {
+        match self.children.lower_bound_counted(key, steps).1 {
             Some((_, child)) => *child,
             None => self.last,
         }

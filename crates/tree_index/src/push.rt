@@ -1,6 +1,6 @@
 //! Pairs that come by rising keys go behind the last one, without a search.
 
-ghost use Rattle.std.specs.Prelude.{◌≡◌, ◌<◌, ◌+◌, ◌^◌, ◌++◌, ◌∷◌, [], IsSome, IfSome};
+ghost use Rattle.std.specs.Prelude.{◌≡◌, ◌<◌, ◌≤◌, ◌+◌, ◌^◌, ◌++◌, ◌∷◌, [], IsSome, IfSome};
 ghost use Rattle.leaf_array.specs.Results.{IsSuccess, given_back};
 ghost use Rattle.leaf_array.specs.Values.{ClonesAreSame};
 ghost use Rattle.tree_index.specs.Content.{pairs_of, IsSound};
@@ -27,6 +27,7 @@ impl<K: Ord, V> Arenas<K, V> {
         ensures depth { IsSome (given_back result) → self.new.height ≡ self.old.height }
         ensures ascents { IsSome (given_back result) → ascents K.cmp self.new ≡ ascents K.cmp self.old }
         ensures done { IsSuccess result → pairs_of self.new ≡ pairs_of self.old ++ (key, val) ∷ [] }
+        ensures ascending { IsSuccess result → ascents K.cmp self.old ≤ ascents K.cmp self.new + 1 }
     {
         if self.len < usize::MAX {
             if let Some(at) = self.open_leaf() {
@@ -67,6 +68,7 @@ impl<K: Ord, V> Arenas<K, V> {
         requires above { IsAbove K.cmp key (pairs_of self.old) }
         ensures sound { IsSound K.cmp self.new }
         ensures done { pairs_of self.new ≡ pairs_of self.old ++ (key, val) ∷ [] }
+        ensures ascending { ascents K.cmp self.old ≤ ascents K.cmp self.new + 1 }
     {
         match self.leaves.get_mut(at) {
             Some(leaf) => {

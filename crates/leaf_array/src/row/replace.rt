@@ -2,9 +2,9 @@
 
 ghost use Rattle.std.specs.Prelude.{◌≡◌, ◌+◌, ◌<◌, ◌++◌, ◌∷◌, [], length, take, drop, IsSome, Some, slice_index_or};
 ghost use Rattle.leaf_array.specs.declared.place.Place.TheVariants.{Empty};
-ghost use Rattle.leaf_array.specs.Places.{live_pair, renewed, died, vacated};
+ghost use Rattle.leaf_array.specs.Places.{live_pair, renewed, paired, died, vacated};
 
-use crate::place::{Place, renew, vacate};
+use crate::place::{Place, overwrite, renew, vacate};
 use crate::row::{Last, Link, Places};
 use std::mem;
 
@@ -24,6 +24,15 @@ pub(crate) trait Renew<K, V>: Places<K, V> {
         requires { IsSome (live_pair (slice_index_or (Self.places self.old) at Empty)) }
         ensures old { result ≡ died (drop at (Self.places self.old)) }
         ensures new { Self.places self.new ≡ take at (Self.places self.old) ++ renewed slot key value (drop at (Self.places self.old)) };
+}
+
+/// A row in which a live place gets another pair.
+pub(crate) trait Overwrite<K, V>: Places<K, V> {
+    /// Writes another pair into the live place `at`, and gives the one that was there.
+    fn overwrite(&mut self, at: usize, key: K, value: V) -> (K, V)
+        requires { IsSome (live_pair (slice_index_or (Self.places self.old) at Empty)) }
+        ensures pair { Some result ≡ live_pair (slice_index_or (Self.places self.old) at Empty) }
+        ensures new { Self.places self.new ≡ take at (Self.places self.old) ++ paired key value (drop at (Self.places self.old)) };
 }
 
 /// A row of which a pair is taken out.
@@ -85,6 +94,34 @@ impl<K, V, R: Renew<K, V>> Renew<K, V> for Link<K, V, R> {
             return self.rest.renew(at - 1, slot, key, value);
         }
         renew(&mut self.head, slot, key, value)
+    }
+}
+
+impl<K, V> Overwrite<K, V> for Last<K, V> {
+    #[inline(always)]
+    fn overwrite(&mut self, at: usize, key: K, value: V) -> (K, V)
+        requires { IsSome (live_pair (slice_index_or (self.old.head ∷ []) at Empty)) }
+        ensures pair { Some result ≡ live_pair (slice_index_or (self.old.head ∷ []) at Empty) }
+        ensures new { self.new.head ∷ [] ≡ take at (self.old.head ∷ []) ++ paired key value (drop at (self.old.head ∷ [])) }
+    {
+        if at > 0 {
+            unreachable!();
+        }
+        overwrite(&mut self.head, key, value)
+    }
+}
+
+impl<K, V, R: Overwrite<K, V>> Overwrite<K, V> for Link<K, V, R> {
+    #[inline(always)]
+    fn overwrite(&mut self, at: usize, key: K, value: V) -> (K, V)
+        requires { IsSome (live_pair (slice_index_or (self.old.head ∷ R.places self.old.rest) at Empty)) }
+        ensures pair { Some result ≡ live_pair (slice_index_or (self.old.head ∷ R.places self.old.rest) at Empty) }
+        ensures new { self.new.head ∷ R.places self.new.rest ≡ take at (self.old.head ∷ R.places self.old.rest) ++ paired key value (drop at (self.old.head ∷ R.places self.old.rest)) }
+    {
+        if at > 0 {
+            return self.rest.overwrite(at - 1, key, value);
+        }
+        overwrite(&mut self.head, key, value)
     }
 }
 

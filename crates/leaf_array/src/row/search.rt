@@ -3,29 +3,33 @@
 ghost use Rattle.std.specs.Prelude.{◌≡◌, ◌+◌, ◌≤◌, length, Some, None, MatchOption};
 ghost use Rattle.leaf_array.specs.Places.{below, least};
 
-use crate::place::{Place, compare};
+use crate::place::Place;
 use crate::row::{Last, Link, Places};
+use crate::steps::Steps;
 use std::cmp::Ordering;
 
 /// A row that is searched by key.
 pub(crate) trait Search<K: Ord, V>: Places<K, V> {
-    /// The first live place whose key isn't less, counted from `at`, and its pair.
-    fn lower(&self, at: usize, key: &K) -> (usize, Option<(&K, &V)>)
+    /// The first live place whose key isn't less, counted from `at`, and its pair: a comparison for each
+    /// place before it, and one for its own.
+    fn lower(&self, at: usize, key: &K, steps: &mut Steps) -> (usize, Option<(&K, &V)>)
         requires { at + length (Self.places self.now) ≤ 15 }
+        ensures cost { steps.new.count ≤ steps.old.count + below K.cmp key.now (Self.places self.now) + 1 }
+        ensures raised { steps.old.count ≤ steps.new.count }
         ensures place { result.0 ≡ at + below K.cmp key.now (Self.places self.now) }
         ensures pair { MatchOption result.1 (least K.cmp key.now (Self.places self.now) ≡ None) (λ e. least K.cmp key.now (Self.places self.now) ≡ Some (e.0.now, e.1.now)) };
 }
 
 impl<K: Ord, V> Search<K, V> for Last<K, V> {
     #[inline(always)]
-    fn lower(&self, at: usize, key: &K) -> (usize, Option<(&K, &V)>) {
+    fn lower(&self, at: usize, key: &K, steps: &mut Steps) -> (usize, Option<(&K, &V)>) {
         match &self.head {
             Place::Live {
                 key: stored,
                 value,
                 ..
             } => {
-                if compare(stored, key) == Ordering::Less {
+                if steps.compare(stored, key) == Ordering::Less {
                     (at + 1, None)
                 } else {
                     (at, Some((stored, value)))
@@ -38,15 +42,15 @@ impl<K: Ord, V> Search<K, V> for Last<K, V> {
 
 impl<K: Ord, V, R: Search<K, V>> Search<K, V> for Link<K, V, R> {
     #[inline(always)]
-    fn lower(&self, at: usize, key: &K) -> (usize, Option<(&K, &V)>) {
+    fn lower(&self, at: usize, key: &K, steps: &mut Steps) -> (usize, Option<(&K, &V)>) {
         match &self.head {
             Place::Live {
                 key: stored,
                 value,
                 ..
             } => {
-                if compare(stored, key) == Ordering::Less {
-                    self.rest.lower(at + 1, key)
+                if steps.compare(stored, key) == Ordering::Less {
+                    self.rest.lower(at + 1, key, steps)
                 } else {
                     (at, Some((stored, value)))
                 }

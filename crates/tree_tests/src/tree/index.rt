@@ -1,5 +1,6 @@
 //! Trees by example.
 
+use crate::tree::leaf_at;
 use std::collections::BTreeMap;
 use std::ops::Bound;
 use std::process::Abort;
@@ -103,6 +104,29 @@ fn an_upsert_replaces_the_value(rt: HostRuntime) -> Result<(), Fail> {
         assert!(rt; tree.upsert_sync(1, 7).is_ok());
     }
     assert_eq!(rt; tree.len(), 1);
+    Ok(())
+}
+
+#[test]
+fn upserts_of_keys_that_are_there_take_no_place(rt: HostRuntime) -> Result<(), Fail> {
+    let mut tree: TreeIndex<u64, u64> = TreeIndex::new(rt.alloc());
+    for key in 0..15u64 {
+        assert!(rt; tree.insert_sync(key, key).is_ok());
+    }
+    for round in 1..50u64 {
+        for key in 0..15u64 {
+            assert!(rt; tree.upsert_sync(key, key + round).is_ok());
+        }
+    }
+    let leaf = leaf_at(&rt, &tree, 0);
+    assert_eq!(rt;
+        (leaf.array.len(), leaf.array.used(), tree.len()),
+        (15, 15, 15)
+    );
+    assert!(rt; leaf.array.last_removed().is_none());
+    for key in 0..15u64 {
+        assert_eq!(rt; tree.peek(&key), Some(&(key + 49)));
+    }
     Ok(())
 }
 

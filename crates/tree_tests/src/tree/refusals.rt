@@ -61,7 +61,8 @@ fn clones<R: Abort>(rt: &R, alloc: Global) -> bool {
     met
 }
 
-/// Whether an allocation was refused while a leaf was filled, whose keys are duplicates then.
+/// Whether an allocation was refused while a leaf was filled, whose keys are duplicates then, and whose pairs are
+/// written over.
 fn repeats<R: Abort>(rt: &R, alloc: Global) -> bool {
     let mut met = false;
     let mut tree: TreeIndex<u64, u64> = TreeIndex::new(alloc);
@@ -73,6 +74,9 @@ fn repeats<R: Abort>(rt: &R, alloc: Global) -> bool {
             Err(InsertRefused::Duplicate(back, val)) => assert!(rt; back == key && val == key),
             _ => panic!(rt; "the key is there"),
         }
+    }
+    for key in 0..15u64 {
+        assert!(rt; tree.upsert_sync(key, key).is_ok());
     }
     assert!(rt; tree.len() == 15);
     met

@@ -7,7 +7,7 @@ use Rattle.leaf_array.proofs.slots.Slots.find.Goals as goal
 pub returns-in-Equal-clause-hit : goal.returns-in-Equal-clause-hit
 returns-in-Equal-clause-hit g c =
     let found = rw c.in-Some.is at c.lower-at.ensures.pair in
-    let same = sym c.compare.ensures ∙ c.in-Equal.is in (
+    let same = sym c.compare.ensures.order ∙ c.in-Equal.is in (
       c.lower-at.ensures.place ∙ below_lesser g.K.Ord.cmp c.args.key.now c.args.self.now,
       has_from g.K.Ord.cmp g.met.K.Ord.total c.args.key.now c.args.self.now ((c.in-Some.stored.now, c.in-Some.field-0-1.now), found, same),
     )
@@ -15,7 +15,7 @@ returns-in-Equal-clause-hit g c =
 pub returns-in_default-clause-miss : goal.returns-in_default-clause-miss
 returns-in_default-clause-miss g c =
     let found = rw c.in-Some.is at c.lower-at.ensures.pair in
-    let other = missed g.K.Ord.cmp c.args.key.now c.args.self.now c.in-Some.stored.now c.in-Some.field-0-1.now found (λ e. c.in_default.not-Equal (c.compare.ensures ∙ e)) in (
+    let other = missed g.K.Ord.cmp c.args.key.now c.args.self.now c.in-Some.stored.now c.in-Some.field-0-1.now found (λ e. c.in_default.not-Equal (c.compare.ensures.order ∙ e)) in (
       c.lower-at.ensures.place ∙ below_lesser g.K.Ord.cmp c.args.key.now c.args.self.now,
       missing_from g.K.Ord.cmp g.met.K.Ord.total c.args.key.now c.args.self.now c.requires.sorted other,
     )

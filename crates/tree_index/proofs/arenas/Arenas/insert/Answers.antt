@@ -1,12 +1,13 @@
-use Rattle.std.proofs.Common.{◌≡◌, ℕ, ◌+◌, ◌-◌, ◌≤◌, ◌<◌, false, Some, refl, sym, ap, ◌∙◌, subst, arith}
+use Rattle.std.proofs.Common.{◌≡◌, ◌⊎◌, inl, inr, ⊎_elim, ℕ, ◌+◌, ◌-◌, ◌^◌, ◌≤◌, ◌<◌, true, false, Some, refl, sym, ap, ◌∙◌, subst, arith}
 use Rattle.std.specs.Prelude.{length}
 use Rattle.slab.specs.Slab.{get}
 use Rattle.slab.proofs.SlabLemmas.{Updates-with_value}
 use Rattle.leaf_array.specs.Cells.{Cells}
 use Rattle.tree_index.specs.declared.leaf.Leaf.{Leaf}
 use Rattle.tree_index.proofs.WayLemmas.{some_same}
-use Rattle.tree_index.proofs.ArenaLemmas.{IsPut, put_of, put_length, thawed_on_way, leaf_counted, put_written, still_sound, has_written, upserted_written, kept_written, with_leaf, written_there, none_sound, bare_pairs}
+use Rattle.tree_index.proofs.ArenaLemmas.{IsPut, put_of, put_length, put_there, thawed_on_way, leaf_counted, put_written, still_sound, has_written, upserted_written, kept_written, with_leaf, written_there, none_sound, bare_pairs}
 use Rattle.leaf_array.specs.Pairs.{has_key}
+use Rattle.tree_index.specs.Content.{pairs_of}
 use Rattle.tree_index.specs.declared.arenas.Arenas.{Arenas}
 use Rattle.tree_index.specs.Depth.{root_room, rises}
 use Rattle.tree_index.proofs.LeafLemmas.{roomy}
@@ -55,8 +56,14 @@ overflow_add-self g c =
     let len : ℕ = a.len - c.len-before.result + c.len.result in
     let w = put_written cmp o key a s n on l here c.args.val m len put c.insert-answer.ensures.thawed c.len.ensures.rising in
     let shorter = leaf_counted cmp o key a s n on l here in
+    let has : has_key cmp key (pairs_of a) ≡ has_key cmp key l.array.pairs = has_written cmp o key a s n on l here m len w in
+    let countable : length m.array.pairs ≤ length l.array.pairs ⊎ a.len + 1 < 2 ^ 64 =
+    (elim (has_key cmp key l.array.pairs) as (λ b. has_key cmp key l.array.pairs ≡ b → length m.array.pairs ≤ length l.array.pairs ⊎ a.len + 1 < 2 ^ 64) [
+      | true ↦ λ h. inl (put_there cmp key c.args.val l.array.pairs m.array.pairs put h)
+      | false ↦ λ h. inr (c.requires.countable (has ∙ h))
+    ]) refl in
     let longer : length m.array.pairs ≤ length l.array.pairs + 1 = put_length cmp key c.args.val l.array.pairs m.array.pairs put in
-    omega (arith, c.len-before.ensures.count, c.len.ensures.count, c.requires.countable, shorter, longer)
+    ⊎_elim (λ (same : length m.array.pairs ≤ length l.array.pairs). omega (arith, c.len-before.ensures.count, c.len.ensures.count, shorter, same)) (λ (more : a.len + 1 < 2 ^ 64). omega (arith, c.len-before.ensures.count, c.len.ensures.count, more, shorter, longer)) countable
 
 pub returns-in-Some-clause-sound : goal.returns-in-Some-clause-sound
 returns-in-Some-clause-sound g c =
@@ -109,7 +116,7 @@ returns-in-Some-clause-full g c f r =
     roomy l.array.retired l.array.used living (subst (λ (x : Leaf g.row.K.Denot g.row.V.Denot). x.array.used < 15) same r.room) closed
 
 pub returns-in-Some-clause-absent : goal.returns-in-Some-clause-absent
-returns-in-Some-clause-absent g c f u =
+returns-in-Some-clause-absent g c f =
     let cmp = g.K.Ord.cmp in
     let o = g.met.K.Ord.total in
     let key = c.args.key in
@@ -123,10 +130,10 @@ returns-in-Some-clause-absent g c f u =
     let put : IsPut cmp key c.args.val l.array.pairs m.array.pairs = put_of cmp key c.args.val c.insert-answer.result l.array m.array c.insert-answer.ensures.done c.insert-answer.ensures.kept in
     let len : ℕ = a.len - c.len-before.result + c.len.result in
     let w = put_written cmp o key a s n on l here c.args.val m len put c.insert-answer.ensures.thawed c.len.ensures.rising in
-    has_written cmp o key a s n on l here m len w ∙ c.insert-answer.ensures.absent f u
+    has_written cmp o key a s n on l here m len w ∙ c.insert-answer.ensures.absent f
 
 pub returns-in-None-clause-absent : goal.returns-in-None-clause-absent
-returns-in-None-clause-absent g c f u =
+returns-in-None-clause-absent g c f =
     let cmp = g.K.Ord.cmp in
     let o = g.met.K.Ord.total in
     let key = c.args.key in

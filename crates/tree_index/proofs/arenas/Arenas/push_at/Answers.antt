@@ -1,13 +1,17 @@
 use Rattle.std.proofs.Common.{◌≡◌, ◌<◌, ℕ, ◌+◌, ◌-◌, inl, length, Some, refl, sym, ◌∙◌, subst, arith}
 use Rattle.std.specs.declared.cmp.Ordering.TheVariants.{Less}
 use Rattle.slab.specs.Slab.{get}
+use Rattle.slab.proofs.SlabLemmas.{Updates-with_value}
 use Rattle.tree_index.specs.declared.leaf.Leaf.{Leaf}
+use Rattle.tree_index.specs.declared.arenas.Arenas.{Arenas}
 use Rattle.tree_index.specs.Shape.{AllKeys}
 use Rattle.tree_index.specs.Content.{pairs_of, IsSound}
+use Rattle.tree_index.specs.Depth.{root_room}
 use Rattle.tree_index.proofs.WayLemmas.{some_same}
 use Rattle.tree_index.proofs.WalkLemmas.{own_there}
 use Rattle.tree_index.proofs.CopyLemmas.{upserted_behind}
 use Rattle.tree_index.proofs.ArenaLemmas.{with_leaf, thawed_on_way, leaf_counted, put_written, still_sound, upserted_written}
+use Rattle.tree_index.proofs.DepthLemmas.{rises_less, insert_room}
 use Rattle.tree_index.proofs.PushLemmas.{open_way, open_above, longer_by_one}
 use Rattle.tree_index.proofs.arenas.Arenas.push_at.Goals as goal
 
@@ -63,3 +67,25 @@ returns-clause-done g c =
     let thawed = c.push.ensures.frozen ∙ thawed_on_way cmp o key a s n on l here in
     let w = put_written cmp o key a s n on l here c.args.val m (a.len + 1) (inl put) thawed c.push.ensures.rising in
     upserted_written cmp o key a s n on l here m (a.len + 1) w c.args.val put ∙ upserted_behind o key c.args.val (pairs_of a) c.requires.above
+
+pub returns-clause-ascending : goal.returns-clause-ascending
+returns-clause-ascending g c =
+    let cmp = g.K.Ord.cmp in
+    let o = g.met.K.Ord.total in
+    let key = c.args.key in
+    let a = c.args.self.now in
+    let s = c.requires.sound in
+    let n = c.args.at in
+    let l : Leaf g.row.K.Denot g.row.V.Denot = c.in-Some.leaf.now in
+    let m : Leaf g.row.K.Denot g.row.V.Denot = c.push.new.self in
+    let here : get a.leaves n ≡ Some l = sym c.in-Some.ensures.value in
+    let on = open_way cmp o key a s n c.requires.open c.requires.above in
+    let same = some_same (sym c.requires.open.there ∙ here) in
+    let above = subst (λ (x : Leaf g.row.K.Denot g.row.V.Denot). AllKeys (λ k. cmp k key ≡ Less) x.array.pairs) same (open_above cmp o key a s n c.requires.open c.requires.above) in
+    let put = c.push.ensures.pairs ∙ sym (upserted_behind o key c.args.val l.array.pairs above) in
+    let thawed = c.push.ensures.frozen ∙ thawed_on_way cmp o key a s n on l here in
+    let w = put_written cmp o key a s n on l here c.args.val m (a.len + 1) (inl put) thawed c.push.ensures.rising in
+    let b : Arenas g.row.K.Denot g.row.V.Denot = with_leaf cmp o key a s n on l here m (a.len + 1) in
+    let pairs = upserted_written cmp o key a s n on l here m (a.len + 1) w c.args.val put in
+    let there = (Updates-with_value a.leaves n m (rw here refl)).changed in
+    rises_less a.height (root_room cmp a) (root_room cmp b) 1 (insert_room cmp o key c.args.val a b c.requires.above refl pairs n on l m here there (omega (arith, c.push.ensures.used)))

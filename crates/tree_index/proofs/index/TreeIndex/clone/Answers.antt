@@ -1,4 +1,4 @@
-use Rattle.std.proofs.Common.{◌≡◌, ◌+◌, ◌++◌, ◌∷◌, [], ℕ, List, take, sym, ap, ◌∙◌, subst, arith}
+use Rattle.std.proofs.Common.{◌≡◌, ◌+◌, ◌++◌, ◌∷◌, [], ℕ, List, length, length-append, take, refl, sym, ap, ◌∙◌, subst, arith}
 use Rattle.tree_index.specs.Content.{pairs_of}
 use Rattle.tree_index.specs.Depth.{IsAbove}
 use Rattle.tree_index.specs.Walk.{position, IsSpot}
@@ -16,6 +16,7 @@ loop-next-init g c =
     record {
       spot = place_is a r c.first_from-next.ensures.spot;
       front = c.in_ok-copy.ensures.empty ∙ sym (ap (λ (n : ℕ). take n (pairs_of a)) start);
+      places = omega (arith, c.in_ok-copy.ensures.ascents);
     }
 
 pub loop-next-smaller : goal.loop-next-smaller
@@ -44,6 +45,10 @@ loop-next-preserved g c =
       front =
           c.in-Ok.ensures.pushed ∙ ap (λ k. c.loop-next.copy.pairs ++ (k, c.in_ok-clone-2.field-0) ∷ []) key ∙ ap (λ v. c.loop-next.copy.pairs ++ (c.pair.result.0.now, v) ∷ []) val
           ∙ ap (λ qs. qs ++ (c.pair.result.0.now, c.pair.result.1.now) ∷ []) (c.loop-next.invariant.front ∙ ap (λ (m : ℕ). take m ps) at) ∙ sym (take_next g.met.K.Ord.total n ps _ pair) ∙ sym (ap (λ (m : ℕ). take m ps) next);
+      places =
+          let more = ap length c.in-Ok.ensures.pushed ∙ length-append c.loop-next.copy.pairs ((c.in_ok-clone.field-0, c.in_ok-clone-2.field-0) ∷ []) in
+          let rise = c.push_last.ensures.ascending (rw c.in-Ok.is refl) in
+          omega (arith, more, rise, c.loop-next.invariant.places);
     }
 
 pub push_last-requires-clause-above : goal.push_last-requires-clause-above

@@ -8,16 +8,16 @@ use Rattle.tree_index.proofs.leaf.Leaf.insert.Goals as goal
 
 pub returns-clause-duplicate : goal.returns-clause-duplicate
 returns-clause-duplicate g c r =
-    has_lookup g.K.Ord.cmp c.args.key c.args.self.now.array.pairs ∙ repeated_has (not (nat_eq (value_of (number g.row.UPSERT)) 0)) g.K.Ord.cmp c.args.key c.args.self.now.array (c.insert.ensures.duplicate.0 r)
+    has_lookup g.K.Ord.cmp c.args.key c.args.self.now.array.pairs ∙ repeated_has (not (nat_eq (value_of (number g.row.UPSERT)) 0)) g.K.Ord.cmp c.args.key c.args.self.now.array (c.put.ensures.duplicate.0 r)
 
 pub returns-clause-unique : goal.returns-clause-unique
 returns-clause-unique g c s e =
     let a = c.args.self.now.array in
-    has_lookup g.K.Ord.cmp c.args.key a.pairs ∙ unique c.insert.result (is_closed a) (a.used == 15) (not (nat_eq (value_of (number g.row.UPSERT)) 0)) (has g.K.Ord.cmp c.args.key a) c.insert.ensures.full.1 c.insert.ensures.duplicate.1 s e
+    has_lookup g.K.Ord.cmp c.args.key a.pairs ∙ unique c.put.result (is_closed a) (a.used == 15) (not (nat_eq (value_of (number g.row.UPSERT)) 0)) (has g.K.Ord.cmp c.args.key a) c.put.ensures.full.1 c.put.ensures.duplicate.1 s e
 
 pub returns-clause-done : goal.returns-clause-done
 returns-clause-done g c s =
-    put_is g.K.Ord.cmp g.met.K.Ord.total c.args.key c.args.val c.args.self.now.array c.insert.new.self c.len.ensures.ordered (c.insert.ensures.inserted s) (c.insert.ensures.replaced s)
+    put_is g.K.Ord.cmp g.met.K.Ord.total c.args.key c.args.val c.args.self.now.array c.put.new.self c.len.ensures.ordered (c.put.ensures.inserted s) (c.put.ensures.overwritten s)
 
 pub returns-clause-absent : goal.returns-clause-absent
-returns-clause-absent g c f u = has_lookup g.K.Ord.cmp c.args.key c.args.self.now.array.pairs ∙ c.insert.ensures.absent f u c.requires
+returns-clause-absent g c f = has_lookup g.K.Ord.cmp c.args.key c.args.self.now.array.pairs ∙ c.put.ensures.absent f c.requires

@@ -5,7 +5,7 @@ use Rattle.tree_index.specs.Shape.{Content, IsTree, way}
 use Rattle.tree_index.specs.Content.{content_of}
 use Rattle.tree_index.specs.declared.node.Branches.{Branches}
 use Rattle.tree_index.proofs.WayLemmas.{IsStep, step_down}
-use Rattle.tree_index.proofs.arenas.Arenas.node_at.Goals as goal
+use Rattle.tree_index.proofs.arenas.Arenas.node_at_counted.Goals as goal
 
 pub unreachable-requires : goal.unreachable-requires
 unreachable-requires g c =
@@ -31,9 +31,11 @@ loop-height-preserved g c =
     let steps : c.loop-height.height - left ≡ suc (h - left) = omega arith in
     let n : Cells g.row.K.Denot ℕ × ℕ = (c.in-Some.node.now.children, c.in-Some.node.now.last) in
     let here : a.node at ≡ Some n = ap (option_map (λ (n : Branches g.row.K.Denot). (n.children, n.last))) (sym c.in-Some.ensures) in
-    let s : IsStep cmp key a h (h - left) at c.child-at.result = rw c.child-at.ensures (step_down cmp key a h (h - left) at n t.0 t.1 (subst (λ (n : ℕ). IsTree cmp a n at t.0 t.1) deeper t.2) here) in
+    let s : IsStep cmp key a h (h - left) at c.child_counted-at.result = rw c.child_counted-at.ensures.child (step_down cmp key a h (h - left) at n t.0 t.1 (subst (λ (n : ℕ). IsTree cmp a n at t.0 t.1) deeper t.2) here) in
     record {
       above = omega arith;
       tree = λ _. (s.low, s.high, s.tree);
+      raised = omega (arith, c.loop-height.invariant.raised, c.child_counted-at.ensures.raised);
+      cost = omega (arith, c.loop-height.invariant.cost, c.child_counted-at.ensures.cost);
       same = s.same_way ∙ ap (λ (n : ℕ). way cmp a key n at) (sym steps) ∙ c.loop-height.invariant.same;
     }
