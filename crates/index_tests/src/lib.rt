@@ -1,8 +1,26 @@
-//! Tests of versions and of the index of one thread, in a crate of their own: so the crates that
-//! they test are proved once, without them.
+//! Tests of the index of one thread and of lists of its calls, apart from `ordered_index` so that its proofs
+//! aren't made twice.
 #![tactic(auto)]
 
 #[cfg(test)]
-mod index;
+mod comparisons;
 #[cfg(test)]
-mod version;
+mod large;
+#[cfg(test)]
+mod plain;
+#[cfg(test)]
+mod play;
+#[cfg(test)]
+mod random_calls;
+#[cfg(test)]
+mod reads;
+#[cfg(test)]
+mod refusals;
+#[cfg(test)]
+mod session;
+#[cfg(test)]
+mod slots;
+#[cfg(test)]
+mod text;
+#[cfg(test)]
+mod values;

@@ -7,7 +7,8 @@ use Rattle.std.proofs.lemmas.List.{map-set}
 use Rattle.std.proofs.lemmas.List.Elements.{All-set}
 use Rattle.std.proofs.lemmas.Option.{slice_get_within, unwrap_or-slice_get}
 use Rattle.std.proofs.Math.Seq.{take-length}
-use Rattle.versions.specs.Writes.{after_writes, replies_to}
+use Rattle.versions.specs.Writes.{after_write, after_writes, replies_to}
+use Rattle.versions.specs.declared.write.Write.{Write}
 use Rattle.ordered_index.specs.Invariant.{IsKept, IsOf, state_of}
 use Rattle.versions.proofs.OptionLemmas.{mapped_some}
 use Rattle.ordered_index.specs.State.{State, present, list_at, MayAccept}
@@ -20,6 +21,11 @@ pub at_get : {X : Type 0} (P : X → Type 0) (xs : List X) (i : ℕ) (x : X) →
 at_get P xs i x all e = subst P (sym (unwrap_or-slice_get xs i x) ∙ ap (λ o. unwrap_or o x) e) (all i x (slice_get_within xs i x e))
 
 module _ {K V : Type 0} (cmp : K → K → Ordering) where
+  -- each write is told something
+  pub length-replies : (ws : List (Write K V)) (pairs : List (K × V)) → length (replies_to cmp ws pairs) ≡ length ws
+  length-replies [] pairs = refl
+  length-replies (w ∷ ws) pairs = ap suc (length-replies ws (after_write cmp w pairs))
+
   pub after_all-push : (ts : List (Transaction K V)) (t : Transaction K V) (pairs : List (K × V)) → after_all cmp (ts ++ t ∷ []) pairs ≡ after_writes cmp t.writes (after_all cmp ts pairs)
   after_all-push [] t pairs = refl
   after_all-push (u ∷ ts) t pairs = after_all-push ts t (after_writes cmp u.writes pairs)

@@ -1,6 +1,6 @@
 //! The index of one thread.
 
-ghost use Rattle.std.specs.Prelude.{◌+◌, ◌≢◌, ◌≤◌, ◌≡◌, [], None, IfSome, IfNone, IfOk, OnOk, IsErr, IsOk, OnErr, replicate, length, List, IfErr, ◌-◌, ◌<◌, ◌^◌, ◌↔◌, ◌++◌, ◌∷◌};
+ghost use Rattle.std.specs.Prelude.{ℕ, ◌+◌, ◌≢◌, ◌≤◌, ◌≡◌, [], None, IfSome, IfNone, IfOk, OnOk, IsErr, IsOk, OnErr, replicate, length, List, IfErr, ◌-◌, ◌*◌, ◌<◌, ◌^◌, ◌↔◌, ◌++◌, ◌∷◌, vec_capacity};
 ghost use Rattle.std.specs.Option.{option_copied};
 ghost use Rattle.leaf_array.specs.Pairs.{has_key, value_at};
 ghost use Rattle.leaf_array.specs.Values.{ClonesAreSame, EqualsAreSame};
@@ -13,7 +13,7 @@ ghost use Rattle.versions.specs.Cuts.{pairs_in};
 ghost use Rattle.versions.specs.Writes.{after_writes, replies_to};
 ghost use Rattle.std.specs.List.{All};
 ghost use Rattle.ordered_index.specs.Serial.{Holds, IsFirstConflict};
-ghost use Rattle.versions.specs.Sizes.{IsSized, room_for};
+ghost use Rattle.versions.specs.Sizes.{IsSized, room_for, segments_for};
 ghost use Rattle.ordered_index.specs.State.{State, number_of, IsOpen, IsFull, IsIdle, Opens, Closes, list_at, present, transaction_of, MayAccept, MayRefuse, Commits, Refuses, Reads, Audits, Reclaims};
 
 use crate::commit::{Accepted, Cause, Refused};
@@ -22,13 +22,15 @@ use crate::query::{Answer, Query};
 use crate::replay::replay;
 use crate::seq::Seq;
 use crate::session::Session;
-use crate::transaction::{Audit, Receipt, Recorded, Transaction, copied_answer, copied_reads};
-use crate::version_view::{Nearby, Walk, value_in};
+use crate::transaction::{
+    Audit, Receipt, Recorded, Transaction, copied_answer, copied_reads, copied_replies,
+};
+use crate::version_view::{Nearby, Walk, value_in_counted};
 use std::alloc::{AllocError, Global};
 use std::marker::Model;
 use std::ops::Bound;
-use tree_index::TreeIndex;
-use versions::{Built, LocalStore, LocalView, Reply, Write};
+use tree_index::{Steps, TreeIndex};
+use versions::{LocalStore, LocalView, Reply, Write, WriteRefused};
 
 /// No place is free: as many sessions are open as the index has places.
 #[derive(Clone, Copy, Debug, PartialEq, Eq)]
@@ -129,7 +131,20 @@ impl<K: Clone + Ord, V: Clone + Eq, const S: usize> LocalIndex<K, V, S> {
         requires { IsOpen self.now session.now }
         ensures { option_copied result ≡ value_at K.cmp key.now (list_at K.cmp self.now session.now.receipt.number) }
     {
-        value_in(&self.list_of(session), key)
+        let mut steps = Steps::new();
+        self.get_counted(session, key, &mut steps)
+    }
+
+    /// The same, with its comparisons of keys counted: at most thirty, and one more for each binary digit of
+    /// the number of segments, in at most `2 * (n / (S + 1)) + 1` of which `n` pairs lie. An empty list makes none.
+    pub fn get_counted(&self, session: &Session<K, V>, key: &K, steps: &mut Steps) -> Option<&V>
+        requires { IsOpen self.now session.now }
+        ensures value { option_copied result ≡ value_at K.cmp key.now (list_at K.cmp self.now session.now.receipt.number) }
+        ensures cost { (digits : ℕ) → segments_for S (length (list_at K.cmp self.now session.now.receipt.number)) < 2 ^ digits → steps.new.count ≤ steps.old.count + 30 + digits }
+        ensures raised { steps.old.count ≤ steps.new.count }
+        ensures none { list_at K.cmp self.now session.now.receipt.number ≡ [] → steps.new.count ≡ steps.old.count }
+    {
+        value_in_counted(&self.list_of(session), key, steps)
     }
 
     /// Whether a pair of the session's list has the key. The read isn't recorded.
@@ -137,7 +152,20 @@ impl<K: Clone + Ord, V: Clone + Eq, const S: usize> LocalIndex<K, V, S> {
         requires { IsOpen self.now session.now }
         ensures { result ≡ has_key K.cmp key.now (list_at K.cmp self.now session.now.receipt.number) }
     {
-        self.get(session, key).is_some()
+        let mut steps = Steps::new();
+        self.contains_counted(session, key, &mut steps)
+    }
+
+    /// The same, with its comparisons of keys counted: as many as those of
+    /// [`get_counted`](LocalIndex::get_counted) at most.
+    pub fn contains_counted(&self, session: &Session<K, V>, key: &K, steps: &mut Steps) -> bool
+        requires { IsOpen self.now session.now }
+        ensures found { result ≡ has_key K.cmp key.now (list_at K.cmp self.now session.now.receipt.number) }
+        ensures cost { (digits : ℕ) → segments_for S (length (list_at K.cmp self.now session.now.receipt.number)) < 2 ^ digits → steps.new.count ≤ steps.old.count + 30 + digits }
+        ensures raised { steps.old.count ≤ steps.new.count }
+        ensures none { list_at K.cmp self.now session.now.receipt.number ≡ [] → steps.new.count ≡ steps.old.count }
+    {
+        self.get_counted(session, key, steps).is_some()
     }
 
     /// How many pairs the session's list has.
@@ -212,7 +240,8 @@ impl<K: Clone + Ord, V: Clone + Eq, const S: usize> LocalIndex<K, V, S> {
     /// The causes are decided in this order: `Conflict` with the first read whose answer isn't that
     /// of the present list, whatever its number; `Exhausted` at the last number; `Memory`; `NoSlot`,
     /// only where fewer than `2 * (n / (S + 1)) + 2` slots are free, for the `n` pairs that the
-    /// writes leave: no version of so many takes more.
+    /// writes leave, since no version of so many takes more; and only where fewer than `2 * w + 1`
+    /// are, for `w` writes, since segments that no write touches are taken over.
     pub fn commit(
         &mut self,
         receipt: &Receipt<K, V>,
@@ -224,13 +253,15 @@ impl<K: Clone + Ord, V: Clone + Eq, const S: usize> LocalIndex<K, V, S> {
         requires equal_values { EqualsAreSame V.eq }
         ensures commits { Commits K.cmp S self.old receipt.now.reads writes.items result self.new }
         ensures sessions { self.new.places ≡ self.old.places }
+        ensures few { OnOk result (self.new.used ≤ self.old.used + (2 * length writes.items + 1)) }
+        ensures short { IfErr result (λ back. back.cause ≡ Cause.NoSlot → self.old.slots < self.old.used + (2 * length writes.items + 1)) }
     {
         let reads = receipt.reads.as_slice();
         if let Some(cause) = self.validate(reads) {
             return Err(Refused { cause, writes });
         }
         let number = self.next_number();
-        let Ok(prepared) = self.prepare(reads, writes.as_slice()) else {
+        let Ok(prepared) = self.prepare(reads, writes.len()) else {
             let cause = Cause::Memory;
             return Err(Refused { cause, writes });
         };
@@ -316,7 +347,8 @@ impl<K: Clone + Ord, V: Clone + Eq, const S: usize> LocalIndex<K, V, S> {
     // The version that a session reads.
     fn list_of(&self, session: &Session<K, V>) -> LocalView<'_, K, V, S>
         requires { IsOpen self.now session.now }
-        ensures { pairs_in result ≡ list_at K.cmp self.now session.now.receipt.number }
+        ensures list { pairs_in result ≡ list_at K.cmp self.now session.now.receipt.number }
+        ensures few { length result ≤ segments_for S (length (list_at K.cmp self.now session.now.receipt.number)) }
     {
         self.store.reader(session.place())
     }
@@ -327,6 +359,7 @@ impl<K: Clone + Ord, V: Clone + Eq, const S: usize> LocalIndex<K, V, S> {
         requires values { EqualsAreSame V.eq }
         ensures some { IfSome result (λ cause. (writes : List (Write K V)) → MayRefuse K.cmp S self.now reads.now writes cause) }
         ensures none { IfNone result (MayAccept K.cmp self.now reads.now) }
+        ensures early { IfSome result (λ cause. cause ≢ Cause.NoSlot) }
     {
         match first_conflict(&self.store.present(), reads) {
             Some(place) => Some(Cause::Conflict(place)),
@@ -400,72 +433,73 @@ impl<K: Clone + Ord, V: Clone + Eq, const S: usize> LocalIndex<K, V, S> {
         self.history.len() as u64 + 1
     }
 
-    // What a commit is to add: its version, beside the place, and copies of its reads.
+    // What a commit adds to the history: copies of its reads, and room for so many replies.
     fn prepare(
         &self,
         reads: &[Recorded<K, V>],
-        writes: &[Write<K, V>],
-    ) -> Result<Prepared<K, V, S>, AllocError>
+        replies: usize,
+    ) -> Result<Prepared<K, V>, AllocError>
         requires keys { ClonesAreSame K.is_clone }
         requires values { ClonesAreSame V.is_clone }
-        requires more { number_of self.now ≢ self.now.last }
-        ensures number { IfOk result (λ p. p.built.number ≡ number_of self.now + 1) }
-        ensures list { IfOk result (λ p. pairs_in p.built.blocks ≡ after_writes K.cmp writes.now (present K.cmp self.now)) }
         ensures reads { IfOk result (λ p. p.reads ≡ reads.now) }
-        ensures replies { IfOk result (λ p. p.replies.items ≡ replies_to K.cmp writes.now (present K.cmp self.now)) }
+        ensures empty { IfOk result (λ p. p.replies.items ≡ []) }
+        ensures room { IfOk result (λ p. replies ≤ vec_capacity p.replies) }
     {
-        // what is read here tells the proof that the number is below the last one
-        let _last = self.last;
-        let reads = copied_reads(self.alloc, reads)?;
-        let (built, replies) = self.store.build(self.alloc, writes)?;
         Ok(Prepared {
-            built,
-            reads,
-            replies,
+            reads: copied_reads(self.alloc, reads)?,
+            replies: Vec::with_capacity(self.alloc, replies)?,
         })
     }
 
-    // Adds a transaction whose reads hold. All room is made before anything changes.
+    // Adds a transaction whose reads hold. All memory is had before anything changes.
     fn install(
         &mut self,
-        prepared: Prepared<K, V, S>,
+        prepared: Prepared<K, V>,
         writes: Vec<Write<K, V>>,
     ) -> Result<Vec<Reply>, Refused<K, V>>
-        requires number { prepared.built.number ≡ number_of self.old + 1 }
-        requires list { pairs_in prepared.built.blocks ≡ after_writes K.cmp writes.items (present K.cmp self.old) }
-        requires replies { prepared.replies.items ≡ replies_to K.cmp writes.items (present K.cmp self.old) }
+        requires keys { ClonesAreSame K.is_clone }
+        requires values { ClonesAreSame V.is_clone }
+        requires empty { prepared.replies.items ≡ [] }
+        requires fits { length writes.items ≤ vec_capacity prepared.replies }
         requires accepted { MayAccept K.cmp self.old prepared.reads }
         ensures told { IfOk result (λ told. told.items ≡ replies_to K.cmp writes.items (present K.cmp self.old)) }
         ensures ok { OnOk result (self.new ≡ record self.old { history = self.old.history ++ transaction_of K.cmp self.old prepared.reads writes.items ∷ []; used = self.new.used }) }
         ensures room { OnOk result (self.new.used ≤ self.old.used + room_for S (length (after_writes K.cmp writes.items (present K.cmp self.old)))) }
+        ensures few { OnOk result (self.new.used ≤ self.old.used + (2 * length writes.items + 1)) }
         ensures refused { IfErr result (λ back. Refuses K.cmp S self.old prepared.reads writes.items back self.new) }
+        ensures short { IfErr result (λ back. back.cause ≡ Cause.NoSlot → self.old.slots < self.old.used + (2 * length writes.items + 1)) }
     {
+        // what is read here tells the proof that the number is below the last one
+        let _last = self.last;
         let Ok(()) = self.history.reserve(1) else {
             let cause = Cause::Memory;
             return Err(Refused { cause, writes });
         };
-        let Ok(replies) = Vec::from_slice(self.alloc, prepared.replies.as_slice()) else {
-            let cause = Cause::Memory;
-            return Err(Refused { cause, writes });
+        let told = match self.store.write(self.alloc, writes.as_slice()) {
+            Ok(told) => told,
+            Err(WriteRefused::Memory) => {
+                let cause = Cause::Memory;
+                return Err(Refused { cause, writes });
+            }
+            Err(WriteRefused::NoSlot) => {
+                let cause = Cause::NoSlot;
+                return Err(Refused { cause, writes });
+            }
         };
-        let Ok(()) = self.store.publish(prepared.built) else {
-            let cause = Cause::NoSlot;
-            return Err(Refused { cause, writes });
-        };
+        let replies = copied_replies(prepared.replies, told.as_slice());
         let transaction = Transaction {
             reads: prepared.reads,
             writes: Seq::from_vec(writes),
             replies: Seq::from_vec(replies),
         };
         self.history.push_reserved(transaction);
-        Ok(prepared.replies)
+        Ok(told)
     }
 }
 
-// What a commit is to add, and what its writes are told.
+// What a commit adds to the history: its reads, and room for what its writes are told.
 #[derive(Drop)]
-struct Prepared<K: Clone + Ord, V: Clone, const S: usize> {
-    built: Built<K, V, S>,
+struct Prepared<K, V> {
     reads: Seq<Recorded<K, V>>,
     replies: Vec<Reply>,
 }

@@ -1,6 +1,6 @@
 //! What sessions read, and what accepted commits leave behind.
 
-ghost use Rattle.std.specs.Prelude.{◌≡◌, [], IfOk};
+ghost use Rattle.std.specs.Prelude.{◌≡◌, ◌≤◌, [], IfOk, length, vec_capacity};
 ghost use Rattle.leaf_array.specs.Values.{ClonesAreSame};
 
 use crate::query::{Answer, Query};
@@ -91,4 +91,16 @@ pub(crate) fn copied_answer<K: Clone, V: Clone>(
     ensures { IfOk result (λ copy. copy ≡ answer.now) }
 {
     answer.clone()
+}
+
+/// Copies of replies, where room was made for them. It takes no memory.
+pub(crate) fn copied_replies(mut room: Vec<Reply>, replies: &[Reply]) -> Vec<Reply>
+    requires empty { room.items ≡ [] }
+    requires fits { length replies.now ≤ vec_capacity room }
+    ensures { result.items ≡ replies.now }
+{
+    for reply in replies {
+        room.push_reserved(*reply);
+    }
+    room
 }

@@ -1,6 +1,6 @@
 //! Versions as lists that answer queries.
 
-ghost use Rattle.std.specs.Prelude.{◌≡◌};
+ghost use Rattle.std.specs.Prelude.{◌≡◌, ◌≤◌, ◌<◌, ◌+◌, ◌^◌, [], ℕ, length};
 ghost use Rattle.std.specs.Option.{option_copied};
 ghost use Rattle.std.specs.declared.ops.Bound.TheVariants.{Unbounded};
 ghost use Rattle.leaf_array.specs.Pairs.{value_at};
@@ -36,7 +36,22 @@ pub(crate) fn value_in<'w, K: Ord, V, W: Trees<K, V>>(
 ) -> Option<&'w V>
     ensures { option_copied result ≡ value_at K.cmp key.now (pairs_in version.now) }
 {
-    match version.get(key) {
+    let mut steps = tree_index::Steps::new();
+    value_in_counted(version, key, &mut steps)
+}
+
+/// The same, with its comparisons of keys counted.
+pub(crate) fn value_in_counted<'w, K: Ord, V, W: Trees<K, V>>(
+    version: &VersionView<'w, K, V, W>,
+    key: &K,
+    steps: &mut tree_index::Steps,
+) -> Option<&'w V>
+    ensures value { option_copied result ≡ value_at K.cmp key.now (pairs_in version.now) }
+    ensures cost { (digits : ℕ) → length version.now < 2 ^ digits → steps.new.count ≤ steps.old.count + 30 + digits }
+    ensures raised { steps.old.count ≤ steps.new.count }
+    ensures none { pairs_in version.now ≡ [] → steps.new.count ≡ steps.old.count }
+{
+    match version.get_counted(key, steps) {
         Some((_, value)) => Some(value),
         None => None,
     }

@@ -1,9 +1,10 @@
 -- What changes make of a list: step by step along both, and edit by edit.
-use Rattle.std.proofs.Common.{◌≡◌, Bool, true, false, not, cond, ◌||◌, ◌&&◌, List, [], ◌∷◌, ◌++◌, Option, Some, None, append_assoc, refl, sym, ap, ◌∙◌}
+use Rattle.std.proofs.Common.{◌≡◌, ◌≤◌, ◌+◌, length, length-append, arith, Bool, true, false, not, cond, ◌||◌, ◌&&◌, List, [], ◌∷◌, ◌++◌, Option, Some, None, append_assoc, refl, sym, ap, ◌∙◌}
 use Rattle.std.proofs.lemmas.Bool.{false≢true}
 use Rattle.std.proofs.lemmas.Cmp.{alike_right}
 use Rattle.std.proofs.lemmas.List.Elements.{filter-append}
 use Rattle.std.proofs.lemmas.List.Folds.{list_any-append}
+use Rattle.std.specs.Prelude.{slice_get}
 use Rattle.std.specs.BTreeMap.{is_at}
 use Rattle.std.specs.BTreeMap.Range.{range_contains}
 use Rattle.std.specs.List.{filter}
@@ -20,7 +21,7 @@ use Rattle.tree_index.proofs.ArenaLemmas.{all_filtered}
 use Rattle.tree_index.proofs.LeafLemmas.{filter_all}
 use Rattle.tree_index.proofs.ShapeLemmas.{all_append, all_weaken, turned, passed}
 use Rattle.versions.specs.Changes.{amended, pair_left}
-use Rattle.versions.proofs.Filters.{on_test, kept, kept_swap, kept_narrow, all_passed, rising_cons, rising_head, rising_tail, rising_kept, rising_joined, all_over, all_behind, none_below, all_above, all_below, none_above, IsFair, fair_above, fair_below, kept_sides}
+use Rattle.versions.proofs.Filters.{on_test, kept, kept_few, kept_swap, kept_narrow, all_passed, rising_cons, rising_head, rising_tail, rising_kept, rising_joined, all_over, all_behind, none_below, all_above, all_below, none_above, IsFair, fair_above, fair_below, kept_sides}
 
 -- whether a key is there, by what was noted of it and by whether it was there before
 abbrev pub found : {V : Type 0} → Option (Option V) → Bool → Bool
@@ -35,6 +36,11 @@ gt_other : (c : Ordering) → is_gt c ≡ true → not (is_eq c) ≡ true
 gt_other Less h = refl
 gt_other Equal h = h
 gt_other Greater h = refl
+
+gt_not_lt : (c : Ordering) → is_gt c ≡ true → is_lt c ≡ false
+gt_not_lt Less h = absurd (false≢true h)
+gt_not_lt Equal h = refl
+gt_not_lt Greater h = refl
 
 lt_other : (c : Ordering) → is_lt c ≡ true → not (is_eq c) ≡ true
 lt_other Less h = refl
@@ -108,6 +114,13 @@ module _ {K V : Type 0} {cmp : K → K → Ordering} (o : IsTotalOrder cmp) wher
       let under : AllKeys (λ y. cmp y c.0 ≡ Less) xs = all_weaken (λ y. cmp y k ≡ Less) (λ y. cmp y c.0 ≡ Less) (λ y l. o.trans y k c.0 l hi.0) xs lo in
       rw (filter-append (λ p. is_gt (cmp c.0 p.0)) xs ys, filter-append (λ p. is_lt (cmp c.0 p.0)) xs ys, all_below o c.0 xs under, none_above o c.0 xs under) (append_assoc xs (below cmp c.0 ys) (pair_left c.0 c.1 ++ amended cmp cs (above cmp c.0 ys)))
 
+  -- what lies before the first change stays
+  pub amended_passed : (cs : List (K × Option V)) (xs ys : List (K × V)) → ((c : K × Option V) → slice_get cs 0 ≡ Some c → AllKeys (λ y. cmp y c.0 ≡ Less) xs) → amended cmp cs (xs ++ ys) ≡ xs ++ amended cmp cs ys
+  amended_passed [] xs ys h = refl
+  amended_passed (c ∷ cs) xs ys h =
+      let under : AllKeys (λ y. cmp y c.0 ≡ Less) xs = h c refl in
+      rw (filter-append (λ p. is_gt (cmp c.0 p.0)) xs ys, filter-append (λ p. is_lt (cmp c.0 p.0)) xs ys, all_below o c.0 xs under, none_above o c.0 xs under) (append_assoc xs (below cmp c.0 ys) (pair_left c.0 c.1 ++ amended cmp cs (above cmp c.0 ys)))
+
   left_kept : (test : K → Bool) (k : K) (to : Option V) → kept test (pair_left k to) ≡ cond (test k) (pair_left k to) []
   left_kept test k None = elim (test k) as (λ b. ◌≡◌ {A = List (K × V)} [] (cond b [] [])) [ true ↦ refl | false ↦ refl ]
   left_kept test k (Some v) = refl
@@ -146,6 +159,13 @@ module _ {K V : Type 0} {cmp : K → K → Ordering} (o : IsTotalOrder cmp) wher
       rw (kept_amended (λ y. is_gt (cmp k y)) (fair_below o k) cs ps up vp, kept_amended (λ y. is_lt (cmp k y)) (fair_above o k) cs ps up vp)
       (middle k to (below cmp k cs) (above cmp k cs) ps (below_under o k cs))
 
+  -- at most one change more is noted
+  pub noted_few : (k : K) (to : Option V) (cs : List (K × Option V)) → length (upserted cmp k to cs) ≤ length cs + 1
+  noted_few k to cs =
+      let both = kept_few (λ y. is_gt (cmp k y)) (λ y. is_lt (cmp k y)) (λ y h. gt_not_lt (cmp k y) h) cs in
+      let long : length (below cmp k cs ++ (k, to) ∷ above cmp k cs) ≡ length (below cmp k cs) + length ((k, to) ∷ above cmp k cs) = length-append (below cmp k cs) ((k, to) ∷ above cmp k cs) in
+      omega (arith, both, long)
+
   -- a pair that is noted as taken away
   pub noted_none : (k : K) (cs : List (K × Option V)) (ps : List (K × V)) → IsAscending cmp cs → IsAscending cmp ps → amended cmp (upserted cmp k None cs) ps ≡ removed cmp k (amended cmp cs ps)
   noted_none k cs ps up vp =
@@ -173,7 +193,7 @@ module _ {K V : Type 0} {cmp : K → K → Ordering} (o : IsTotalOrder cmp) wher
 
   -- ---- what is found
 
-  fair_has : (test : K → Bool) → IsFair o test → (k : K) (ps : List (K × V)) → has_key cmp k (kept test ps) ≡ (test k && has_key cmp k ps)
+  pub fair_has : (test : K → Bool) → IsFair o test → (k : K) (ps : List (K × V)) → has_key cmp k (kept test ps) ≡ (test k && has_key cmp k ps)
   fair_has test fair k [] = elim (test k) as (λ b. false ≡ (b && false)) [ true ↦ refl | false ↦ refl ]
   fair_has test fair k (p ∷ ps) =
       (elim (cmp k p.0) as (λ c. cmp k p.0 ≡ c → has_key cmp k (kept test (p ∷ ps)) ≡ (test k && (is_eq c || has_key cmp k ps))) [

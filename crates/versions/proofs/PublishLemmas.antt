@@ -1,5 +1,5 @@
 -- a store when a version is published, and a new store
-use Rattle.std.proofs.Common.{◌≡◌, ℕ, suc, ◌+◌, ◌<◌, ◌≤◌, true, Option, None, Some, List, [], ◌∷◌, ◌++◌, length, get_or, set, replicate, refl, sym, ap, ◌∙◌, subst, arith, inl, inr, sum_by, get_or-set_other, append-nil, get_or-set_same, length-set}
+use Rattle.std.proofs.Common.{◌≡◌, ℕ, suc, ◌+◌, ◌^◌, ◌<◌, ◌≤◌, true, Option, None, Some, List, [], ◌∷◌, ◌++◌, length, get_or, set, replicate, refl, sym, ap, ◌∙◌, subst, arith, inl, inr, sum_by, get_or-set_other, append-nil, get_or-set_same, length-set}
 use Rattle.std.proofs.lemmas.List.{get_or_past, length-replicate}
 use Rattle.std.proofs.lemmas.Bool.{false≢true}
 use Rattle.std.proofs.lemmas.Bool.Decides.{eqb_tells, leb_tells}
@@ -25,11 +25,11 @@ use Rattle.sdd_base.proofs.Counts.{owners_are_counted}
 use Rattle.sdd_base.proofs.Places.{get_or-replicate_default, place_by}
 use Rattle.sdd_base.proofs.Quiets.{gives_only}
 use Rattle.sdd_base.proofs.Sounds.{Gives, gives_released_as}
-use Rattle.versions.specs.Cuts.{pairs_in}
 use Rattle.versions.specs.Items.{held_by}
 use Rattle.versions.specs.Reclaiming.{IsRootless}
-use Rattle.versions.specs.Placing.{HasVersion, IsLevelled, Places, Plan, slots_for}
+use Rattle.versions.specs.Placing.{HasVersion, IsLevelled, IsPlaceable, Places, Plan, list_planned, slots_for}
 use Rattle.versions.specs.declared.item.Item.{Item}
+use Rattle.versions.proofs.Filters.{rising_none}
 use Rattle.versions.proofs.Placings.{keeps_then}
 use Rattle.versions.proofs.Reclaiming.{levelled_after}
 use Rattle.versions.proofs.Staying.{versions_stay}
@@ -80,6 +80,10 @@ abbrev first_sizes : ℕ → ℕ → Sizes
 first_sizes n slots = record { participants = n + 1; slots = slots; cells = 1; jobs = 0 }
 
 module _ {K V : Type 0} {s : ℕ} (cmp : K → K → Ordering) where
+  -- a cell is no item
+  levelled_with : (c : ℕ) (k : Cell) (w : State (Item K V s)) → IsLevelled w → IsLevelled (with_cell c k w)
+  levelled_with c k w levelled = record { flat = levelled.flat; once = levelled.once }
+
   -- where a version is refused, fewer slots are free than it takes
   pub too_few : (w : State (Item K V s)) (n : ℕ) → IsPlain w → (n ≤ sum_by vacancy w.states → ⊥) → length w.states < in_use w + n
   too_few w n plain none =
@@ -90,7 +94,7 @@ module _ {K V : Type 0} {s : ℕ} (cmp : K → K → Ordering) where
       ]
 
   -- beside a version that is placed, the root and what it names are there
-  module _ (w w1 : State (Item K V s)) (root new : ℕ) (plan : Plan K V) (places : List (Option (Opened K V s))) (store : IsStore cmp w root places) (made : Places cmp plan new w w1) where
+  module _ (w w1 : State (Item K V s)) (root new : ℕ) (plan : Plan K V s) (places : List (Option (Opened K V s))) (store : IsStore cmp w root places) (made : Places cmp plan new w w1) where
     pub still_named : cell_at w1 root ≡ cell.OfShared (Some store.slot) tag.None
     still_named = ap (λ (cs : List Cell). get_or cs root cell.Free) made.adds.cells ∙ store.named
 
@@ -108,7 +112,7 @@ module _ {K V : Type 0} {s : ℕ} (cmp : K → K → Ordering) where
     still_known = let known = writer_known cmp w root places store in let same = ap length made.adds.members in omega (arith, known, same)
 
   -- a version is placed, the root comes to name it, and the owner of the older one is given back
-  module _ (w w1 w2 : State (Item K V s)) (root new : ℕ) (plan : Plan K V) (places : List (Option (Opened K V s))) (store : IsStore cmp w root places) (made : Places cmp plan new w w1) (place1 : IsPlace w1) (now : w2 ≡ released (length places) store.slot (with_cell root (cell.OfShared (Some new) tag.None) w1)) (keeps : Keeps w1 w2) (only : OnlyOf (length places) w1 w2) where
+  module _ (w w1 w2 : State (Item K V s)) (root new : ℕ) (plan : Plan K V s) (places : List (Option (Opened K V s))) (store : IsStore cmp w root places) (made : Places cmp plan new w w1) (place1 : IsPlace w1) (now : w2 ≡ released (length places) store.slot (with_cell root (cell.OfShared (Some new) tag.None) w1)) (keeps : Keeps w1 w2) (only : OnlyOf (length places) w1 w2) where
     abbrev p : ℕ
     p = length places
 
@@ -157,7 +161,7 @@ module _ {K V : Type 0} {s : ℕ} (cmp : K → K → Ordering) where
     plainx j = gives.0.plain j (made.adds.plain store.plain j)
 
     levelledx : IsLevelled x
-    levelledx = levelled_after v x gives.0.values (made.adds.levelled (SharedIn root ∷ []) store.counted store.levelled)
+    levelledx = levelled_after v x gives.0.values (levelled_with root (cell.OfShared (Some new) tag.None) w1 (made.adds.levelled (SharedIn root ∷ []) store.counted store.levelled))
 
     moves : Moves cmp p root w w2
     moves = record {
@@ -175,8 +179,8 @@ module _ {K V : Type 0} {s : ℕ} (cmp : K → K → Ordering) where
         ∙ ap (λ (cs : List Cell). get_or cs root cell.Free) (cells_released_as (status_at v store.slot) p store.slot v)
         ∙ get_or-set_same w1.cells root (cell.OfShared (Some new) tag.None) cell.Free inside
 
-    version2 : HasVersion cmp w2 new plan.number (pairs_in plan.blocks)
-    version2 = (versions_stay cmp).owned (SharedItem new ∷ SharedIn root ∷ []) w1 w2 new plan.number (pairs_in plan.blocks) counted1 (ap has_owner made.shared.is) made.version keeps
+    version2 : HasVersion cmp w2 new plan.number (list_planned (value_at w) plan)
+    version2 = (versions_stay cmp).owned (SharedItem new ∷ SharedIn root ∷ []) w1 w2 new plan.number (list_planned (value_at w) plan) counted1 (ap has_owner made.shared.is) made.version keeps
 
     closed2 : (marks_at w2 p).nesting ≡ 0
     closed2 =
@@ -186,17 +190,31 @@ module _ {K V : Type 0} {s : ℕ} (cmp : K → K → Ordering) where
         ∙ writer_closed cmp w root places store
 
     pub store_published : IsStore cmp w2 root places
-    store_published = store_moved cmp w w2 root places store p places new plan.number (pairs_in plan.blocks) moves named2 version2 refl (λ q ne. refl) (writer_reads cmp w w2 root places store moves closed2) (λ ne. absurd (ne refl))
+    store_published = store_moved cmp w w2 root places store p places new plan.number (list_planned (value_at w) plan) moves named2 version2 refl (λ q ne. refl) (writer_reads cmp w w2 root places store moves closed2) (λ ne. absurd (ne refl))
 
-    pub published_shows : store_of w2 root places ≡ record (store_of w root places) { present = record { number = plan.number; pairs = pairs_in plan.blocks }; used = in_use w + slots_for plan }
+    pub published_uses : in_use w2 ≡ in_use w + slots_for plan
+    published_uses = ap in_use now ∙ gives.1 ∙ made.adds.uses
+
+    pub published_shows : store_of w2 root places ≡ record (store_of w root places) { present = record { number = plan.number; pairs = list_planned (value_at w) plan }; used = in_use w + slots_for plan }
     published_shows =
-        let present : version_in w2 (slot_kept (cell_at w2 root)) ≡ record { number = plan.number; pairs = pairs_in plan.blocks } = ap (λ (k : Cell). version_in w2 (slot_kept k)) named2 ∙ version_is cmp w2 new plan.number (pairs_in plan.blocks) version2 in
-        let used : in_use w2 ≡ in_use w + slots_for plan = ap in_use now ∙ gives.1 ∙ made.adds.uses in
+        let present : version_in w2 (slot_kept (cell_at w2 root)) ≡ record { number = plan.number; pairs = list_planned (value_at w) plan } = ap (λ (k : Cell). version_in w2 (slot_kept k)) named2 ∙ version_is cmp w2 new plan.number (list_planned (value_at w) plan) version2 in
         let raises : w2.count ≡ w.count = ap (λ (y : State (Item K V s)). y.count) now ∙ gives.2 ∙ made.adds.count in
         writer_shows cmp w w2 root places store moves
         ∙ ap (λ (ver : Version K V). record (store_of w root places) { present = ver; used = in_use w2; raises = w2.count }) present
-        ∙ ap (λ (n : ℕ). record (store_of w root places) { present = record { number = plan.number; pairs = pairs_in plan.blocks }; used = n; raises = w2.count }) used
-        ∙ ap (λ (n : ℕ). record (store_of w root places) { present = record { number = plan.number; pairs = pairs_in plan.blocks }; used = in_use w + slots_for plan; raises = n }) raises
+        ∙ ap (λ (n : ℕ). record (store_of w root places) { present = record { number = plan.number; pairs = list_planned (value_at w) plan }; used = n; raises = w2.count }) published_uses
+        ∙ ap (λ (n : ℕ). record (store_of w root places) { present = record { number = plan.number; pairs = list_planned (value_at w) plan }; used = in_use w + slots_for plan; raises = n }) raises
+
+  -- the plan of the empty version
+  abbrev pub no_plan : Plan K V s
+  no_plan = record { number = 0; parts = []; separators = []; length = 0 }
+
+  -- it takes nothing over
+  pub empty_placeable : (w : State (Item K V s)) → IsPlaceable cmp w no_plan
+  empty_placeable w = record {
+    cut = record { sizes = λ k d h. absurd (omega (arith, h)); tight = tt; rising = rising_none V cmp; separated = refl };
+    counted = refl;
+    there = λ k d h. absurd (omega (arith, h));
+  }
 
   -- the empty version is placed in a new place, and a root names it
   module _ (n slots : ℕ) where
@@ -210,26 +228,30 @@ module _ {K V : Type 0} {s : ℕ} (cmp : K → K → Ordering) where
     no_value j = get_or-replicate_default (slots + 0) j None
 
     fresh_levelled : IsLevelled w
-    fresh_levelled i d is = absurd (none_some (sym (no_value i) ∙ is))
+    fresh_levelled = record {
+      flat = λ i d is. absurd (none_some (sym (no_value i) ∙ is));
+      once = λ i d is. absurd (none_some (sym (no_value i) ∙ is));
+    }
       where
         none_some : {y : Item K V s} → None ≡ Some y → ⊥
         none_some e = cc
 
-    module _ (w1 w2 : State (Item K V s)) (root new : ℕ) (made : Places cmp (record { number = 0; blocks = [] }) new w w1) (free : IsFreeCell w1 root) (now : w2 ≡ with_cell root (cell.OfShared (Some new) tag.None) w1) (place2 : IsPlace w2) where
+    module _ (w1 w2 : State (Item K V s)) (root new : ℕ) (made : Places cmp no_plan new w w1) (free : IsFreeCell w1 root) (now : w2 ≡ with_cell root (cell.OfShared (Some new) tag.None) w1) (place2 : IsPlace w2) where
       abbrev y : State (Item K V s)
       y = with_cell root (cell.OfShared (Some new) tag.None) w1
 
       member_is : (k : ℕ) → member_at y k ≡ nobody
       member_is k = ap (λ (ms : List Member). get_or ms k nobody) made.adds.members ∙ get_or-replicate_default (n + 1) k nobody
 
-      pub first_store : IsStore cmp w2 root places
-      first_store = subst (λ (z : State (Item K V s)). IsStore cmp z root places) (sym now) (record {
+      pub first_store : slots ≤ 2 ^ 30 → IsStore cmp w2 root places
+      first_store fit = subst (λ (z : State (Item K V s)). IsStore cmp z root places) (sym now) (record {
         place = subst (λ (z : State (Item K V s)). IsPlace z) now place2;
         members = ap length made.adds.members ∙ length-replicate (n + 1) nobody ∙ sym (ap (λ k. k + 1) (length-replicate n None));
+        slots = subst (λ (m : ℕ). m ≤ 2 ^ 30) (sym (made.adds.keeps.states ∙ fresh_states slots)) fit;
         cells = length-set w1.cells root (cell.OfShared (Some new) tag.None) ∙ ap length made.adds.cells;
         counted = (owners_are_counted held_by).cell_made root (Some new) tag.None [] w1 free (made.counted [] ((owners_are_counted held_by).fresh (first_sizes n slots)));
         plain = λ j. made.adds.plain (λ k. ap is_plain (free_status slots k)) j;
-        levelled = made.adds.levelled [] ((owners_are_counted held_by).fresh (first_sizes n slots)) fresh_levelled;
+        levelled = levelled_with root (cell.OfShared (Some new) tag.None) w1 (made.adds.levelled [] ((owners_are_counted held_by).fresh (first_sizes n slots)) fresh_levelled);
         slot = new;
         named = get_or-set_same w1.cells root (cell.OfShared (Some new) tag.None) cell.Free free.0;
         number = 0;
@@ -268,7 +290,7 @@ module _ {K V : Type 0} {s : ℕ} (cmp : K → K → Ordering) where
         place = place;
         counted = subst (λ (y : State (Item K V s)). Counted held_by [] y) (sym now) counted;
         plain = subst (λ (y : State (Item K V s)). IsPlain y) (sym is) (λ j. shrinks.plain j (store.plain j));
-        levelled = subst (λ (y : State (Item K V s)). IsLevelled y) (sym is) (levelled_after v x shrinks.values store.levelled);
+        levelled = subst (λ (y : State (Item K V s)). IsLevelled y) (sym is) (levelled_after v x shrinks.values (levelled_with root cell.Free w store.levelled));
         cells = λ c.
             ap (λ (y : State (Item K V s)). cell_at y c) is
             ∙ ap (λ (cs : List Cell). get_or cs c cell.Free) (cells_released_as (status_at v store.slot) q store.slot v)

@@ -1,31 +1,20 @@
--- A range that is removed from what changes make of a list.
-use Rattle.std.proofs.Common.{◌≡◌, Bool, true, false, not, cond, List, [], ◌∷◌, Option, None, refl, sym, ap, ◌∙◌}
-use Rattle.std.proofs.lemmas.Bool.{false≢true}
+-- Ranges that are gone from a list.
+use Rattle.std.proofs.Common.{◌≡◌, Bool, true, false, not, cond, ◌||◌, List, [], ◌∷◌, ◌++◌, drop, Option, Some, None, refl, sym, ap, ◌∙◌}
 use Rattle.std.proofs.lemmas.Cmp.{alike_right}
-use Rattle.std.specs.BTreeMap.{is_at}
+use Rattle.std.specs.Prelude.{slice_get}
 use Rattle.std.specs.BTreeMap.Range.{is_from_start, is_past_end, range_contains}
-use Rattle.std.specs.Cmp.{IsTotalOrder, tied_itself}
+use Rattle.std.specs.Cmp.{IsTotalOrder}
 use Rattle.std.specs.declared.cmp.Ordering.{Ordering}
-use Rattle.std.specs.declared.cmp.Ordering.TheVariants.{Less, Equal, Greater}
 use Rattle.std.specs.declared.ops.Bound.{Bound}
 use Rattle.std.specs.declared.ops.Bound.TheVariants.{Included, Excluded, Unbounded}
-use Rattle.std.specs.Ordering.{is_lt, is_le, is_eq}
-use Rattle.leaf_array.specs.Edits.{removed, upserted}
-use Rattle.leaf_array.specs.Pairs.{IsAscending}
-use Rattle.tree_index.proofs.ArenaLemmas.{all_filtered}
-use Rattle.tree_index.proofs.LeafLemmas.{filter_all}
-use Rattle.tree_index.proofs.ShapeLemmas.{all_weaken}
-use Rattle.versions.specs.Changes.{amended}
-use Rattle.versions.proofs.Filters.{kept, kept_swap, kept_narrow, kept_none, rising_head, rising_kept, IsFair}
-use Rattle.versions.proofs.Amends.{kept_amended, noted_none}
+use Rattle.std.specs.Ordering.{is_lt, is_le}
+use Rattle.tree_index.specs.Shape.{AllKeys}
+use Rattle.versions.specs.Gone.{IsLeft, is_gone, without}
+use Rattle.versions.specs.declared.building.gone.Gone.{Gone}
+use Rattle.versions.proofs.Filters.{kept, on_test, IsFair}
 
 abbrev pub outside : {K : Type 0} → (K → Bool) → K → Bool
 outside test y = not (test y)
-
--- what changes make of a list has the pairs wanted that don't pass, and those of the list left that do
-pub record IsLeaving {K V : Type 0} (test : K → Bool) (wanted made left : List (K × V)) : Type 0 where
-  pub without : kept (outside test) made ≡ wanted
-  pub within : kept test made ≡ kept test left
 
 module _ {K : Type 0} {cmp : K → K → Ordering} (o : IsTotalOrder cmp) where
   fair_from : (bound : Bound K) → IsFair o (λ y. is_from_start cmp bound y)
@@ -41,62 +30,74 @@ module _ {K : Type 0} {cmp : K → K → Ordering} (o : IsTotalOrder cmp) where
   pub fair_range : (lower upper : Bound K) → IsFair o (λ y. range_contains cmp lower upper y)
   fair_range lower upper x y e = rw (fair_from lower x y e, fair_past upper x y e) refl
 
-  module _ (test : K → Bool) (fair : IsFair o test) where
-    fair_other : IsFair o (outside test)
-    fair_other x y e = ap not (fair x y e)
+  pub fair_other : (test : K → Bool) → IsFair o test → IsFair o (outside test)
+  fair_other test fair x y e = ap not (fair x y e)
 
-    not_other : (b : Bool) → not b ≡ true → b ≡ false
-    not_other true h = sym h
-    not_other false h = refl
+  pub fair_gone : (gone : List (Gone K)) → IsFair o (is_gone cmp gone)
+  fair_gone [] x y e = refl
+  fair_gone (g ∷ gs) x y e = rw (fair_range g.lower g.upper x y e, fair_gone gs x y e) refl
 
-    away_other : (k : K) → test k ≡ true → (y : K) → (outside test) y ≡ true → not (is_at (cmp k) y) ≡ true
-    away_other k hit y h =
-        (elim (cmp k y) as (λ c. cmp k y ≡ c → not (is_eq c) ≡ true) [
-          | Less ↦ λ c. refl
-          | Equal ↦ λ c. let t : test y ≡ true = sym (fair k y c) ∙ hit in absurd (false≢true (sym (ap not t) ∙ h))
-          | Greater ↦ λ c. refl
-        ]) refl
+or_false : (b : Bool) → (b || false) ≡ b
+or_false true = refl
+or_false false = refl
 
-    module _ {V : Type 0} where
-      pub leaving_all : (cs : List (K × Option V)) (ps : List (K × V)) → IsAscending cmp cs → IsAscending cmp ps → IsLeaving test (kept (outside test) (amended cmp cs ps)) (amended cmp (kept (outside test) cs) ps) ps
-      leaving_all cs ps up vp =
-          let vq = rising_kept cmp (outside test) cs up in
-          record {
-            without =
-                kept_amended o (outside test) fair_other (kept (outside test) cs) ps vq vp
-                ∙ rw (kept_narrow (outside test) (outside test) (λ y h. h) cs) (sym (kept_amended o (outside test) fair_other cs ps up vp));
-            within =
-                kept_amended o test fair (kept (outside test) cs) ps vq vp
-                ∙ rw (kept_none test (outside test) (λ y h. not_other (test y) h) cs) refl;
-          }
+or_assoc : (a b c : Bool) → ((a || b) || c) ≡ (a || (b || c))
+or_assoc true b c = refl
+or_assoc false b c = refl
 
-      removed_first : (p : K × V) (ps : List (K × V)) → IsAscending cmp (p ∷ ps) → removed cmp p.0 (kept test ps) ≡ kept test ps
-      removed_first p ps up =
-          filter_all (λ y. not (is_at (cmp p.0) y)) (kept test ps)
-          (all_filtered (λ y. not (is_at (cmp p.0) y) ≡ true) test ps (all_weaken (λ y. cmp p.0 y ≡ Less) (λ y. not (is_at (cmp p.0) y) ≡ true) (λ y l. ap (λ c. not (is_eq c)) l) ps (rising_head cmp p ps up)))
+module _ {K : Type 0} (cmp : K → K → Ordering) where
+  -- one range more
+  pub gone_more : (gone : List (Gone K)) (g : Gone K) (k : K) → is_gone cmp (gone ++ g ∷ []) k ≡ (is_gone cmp gone k || range_contains cmp g.lower g.upper k)
+  gone_more [] g k = or_false (range_contains cmp g.lower g.upper k)
+  gone_more (h ∷ hs) g k = ap (λ b. range_contains cmp h.lower h.upper k || b) (gone_more hs g k) ∙ sym (or_assoc (range_contains cmp h.lower h.upper k) (is_gone cmp hs k) (range_contains cmp g.lower g.upper k))
 
-      -- a pair inside is noted as taken away
-      pub leaving_taken : (wanted : List (K × V)) (cs : List (K × Option V)) (ps : List (K × V)) (p : K × V) (rest : List (K × V)) → IsAscending cmp cs → IsAscending cmp ps → IsAscending cmp (p ∷ rest) → test p.0 ≡ true
-          → IsLeaving test wanted (amended cmp cs ps) (p ∷ rest) → IsLeaving test wanted (amended cmp (upserted cmp p.0 None cs) ps) rest
-      leaving_taken wanted cs ps p rest up vp wp hit l =
-          let made = amended cmp cs ps in
-          rw (noted_none o p.0 cs ps up vp) (record {
-            without = (kept_narrow (outside test) (λ y. not (is_at (cmp p.0) y)) (away_other p.0 hit) made) ∙ l.without;
-            within = kept_swap test (λ y. not (is_at (cmp p.0) y)) made ∙ ap (removed cmp p.0) l.within ∙ rw hit (rw (tied_itself o p.0) (removed_first p rest wp));
-          })
+  pub without_more : {V : Type 0} (gone : List (Gone K)) (g : Gone K) (ps : List (K × V)) → without cmp (gone ++ g ∷ []) ps ≡ kept (outside (λ y. range_contains cmp g.lower g.upper y)) (without cmp gone ps)
+  without_more gone g [] = refl
+  without_more gone g (p ∷ ps) =
+      let is = gone_more gone g p.0 in
+      on_test (is_gone cmp gone p.0)
+      (λ a. rw (is, a) (without_more gone g ps))
+      (λ a. rw (is, a) (ap (λ qs. cond (not (range_contains cmp g.lower g.upper p.0)) (p ∷ qs) qs) (without_more gone g ps)))
 
-      -- one outside is passed
-      pub leaving_passed : (wanted made : List (K × V)) (p : K × V) (rest : List (K × V)) → test p.0 ≡ false → IsLeaving test wanted made (p ∷ rest) → IsLeaving test wanted made rest
-      leaving_passed wanted made p rest miss l = record { without = l.without; within = l.within ∙ rw miss refl }
+  -- no range leaves all
+  pub without_none : {V : Type 0} (ps : List (K × V)) → without cmp [] ps ≡ ps
+  without_none [] = refl
+  without_none (p ∷ ps) = ap (λ qs. p ∷ qs) (without_none ps)
 
-      none_inside : (ps : List (K × V)) → kept test ps ≡ [] → kept (outside test) ps ≡ ps
-      none_inside [] = λ h. refl
-      none_inside (p ∷ ps) =
-          (elim (test p.0) as (λ b. test p.0 ≡ b → cond b (p ∷ kept test ps) (kept test ps) ≡ [] → cond (not b) (p ∷ kept (outside test) ps) (kept (outside test) ps) ≡ p ∷ ps) [
-            | true ↦ λ b h. cc
-            | false ↦ λ b h. ap (λ qs. p ∷ qs) (none_inside ps h)
-          ]) refl
+  -- all pairs of a block are left, or none
+  pub without_apart : {V : Type 0} (gone : List (Gone K)) (b ps : List (K × V)) → AllKeys (λ k. is_gone cmp gone k ≡ false) b → without cmp gone (b ++ ps) ≡ b ++ without cmp gone ps
+  without_apart gone [] ps a = refl
+  without_apart gone (p ∷ b) ps a = let l = a.0 in rw l (ap (λ qs. p ∷ qs) (without_apart gone b ps a.1))
 
-      -- all are passed
-      pub leaving_none : (wanted made : List (K × V)) → IsLeaving test wanted made [] → made ≡ wanted
-      leaving_none wanted made l = sym (none_inside made l.within) ∙ l.without
+  pub without_covered : {V : Type 0} (gone : List (Gone K)) (b ps : List (K × V)) → AllKeys (λ k. is_gone cmp gone k ≡ true) b → without cmp gone (b ++ ps) ≡ without cmp gone ps
+  without_covered gone [] ps a = refl
+  without_covered gone (p ∷ b) ps a = let l = a.0 in rw l (without_covered gone b ps a.1)
+
+  pub without_all : {V : Type 0} (gone : List (Gone K)) (b : List (K × V)) → AllKeys (λ k. is_gone cmp gone k ≡ false) b → without cmp gone b ≡ b
+  without_all gone [] a = refl
+  without_all gone (p ∷ b) a = let l = a.0 in rw l (ap (λ qs. p ∷ qs) (without_all gone b a.1))
+
+  pub without_any : {V : Type 0} (gone : List (Gone K)) (b : List (K × V)) → AllKeys (λ k. is_gone cmp gone k ≡ true) b → without cmp gone b ≡ []
+  without_any gone [] a = refl
+  without_any gone (p ∷ b) a = let l = a.0 in rw l (without_any gone b a.1)
+
+  -- ---- pairs that are yet to be read
+
+  pub left_next : {V : Type 0} (gone : List (Gone K)) (p : K × V) (ps : List (K × V)) → is_gone cmp gone p.0 ≡ true → without cmp gone (p ∷ ps) ≡ without cmp gone ps
+  left_next gone p ps a = rw a refl
+
+  pub left_first : {V : Type 0} (gone : List (Gone K)) (ps : List (K × V)) → IsLeft cmp gone ps → slice_get (without cmp gone ps) 0 ≡ slice_get ps 0
+  left_first gone [] l = refl
+  left_first gone (p ∷ ps) l = rw l refl
+
+  pub left_rest : {V : Type 0} (gone : List (Gone K)) (ps : List (K × V)) → IsLeft cmp gone ps → without cmp gone (drop 1 ps) ≡ drop 1 (without cmp gone ps)
+  left_rest gone [] l = refl
+  left_rest gone (p ∷ ps) l = rw l refl
+
+  pub left_of : {V : Type 0} (gone : List (Gone K)) (ps : List (K × V)) (p : K × V) → Some p ≡ slice_get ps 0 → is_gone cmp gone p.0 ≡ false → IsLeft cmp gone ps
+  left_of gone [] p e a = tt
+  left_of gone (q ∷ ps) p e a = let same : p ≡ q = cc in ap (λ x. is_gone cmp gone x.0) (sym same) ∙ a
+
+  pub left_none : {V : Type 0} (gone : List (Gone K)) (ps : List (K × V)) → ◌≡◌ {A = Option (K × V)} None (slice_get ps 0) → IsLeft cmp gone ps
+  left_none gone [] e = tt
+  left_none gone (q ∷ ps) e = absurd (cc)

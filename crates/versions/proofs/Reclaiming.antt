@@ -48,7 +48,7 @@ module _ {K V : Type 0} {s : ℕ} where
       let o = holds_segments v h some in
       let above : level v ≡ 1 = ap level o.1 in
       let named = slot_same (get_or (slots_of o.0) o.2 0) j (ap (slot_held w) (sym o.4) ∙ slot) in
-      let low = levelled i o.0 (is ∙ ap (λ (x : Item K V s). Some x) o.1) o.2 0 o.3 in
+      let low = levelled.flat i o.0 (is ∙ ap (λ (x : Item K V s). Some x) o.1) o.2 0 o.3 in
       let below = level_none u (subst (λ (x : Option (Item K V s)). IsNoDirectory x) there (subst (λ (x : ℕ). IsNoDirectory (value_at w x)) named low)) in
       omega (arith, above, below)
     where
@@ -57,7 +57,10 @@ module _ {K V : Type 0} {s : ℕ} where
 
   -- where values only go, levels stay
   pub levelled_after : (w w' : State (Item K V s)) → ((j : ℕ) (u : Item K V s) → value_at w' j ≡ Some u → value_at w j ≡ Some u) → IsLevelled w → IsLevelled w'
-  levelled_after w w' goes levelled i d is = λ k e h. still (value_at w (get_or (slots_of d) k e)) (value_at w' (get_or (slots_of d) k e)) (goes (get_or (slots_of d) k e)) (levelled i d (goes i (items.Directory d) is) k e h)
+  levelled_after w w' goes levelled = record {
+    flat = λ i d is k e h. still (value_at w (get_or (slots_of d) k e)) (value_at w' (get_or (slots_of d) k e)) (goes (get_or (slots_of d) k e)) (levelled.flat i d (goes i (items.Directory d) is) k e h);
+    once = λ i d is. levelled.once i d (goes i (items.Directory d) is);
+  }
     where
       still : (o o' : Option (Item K V s)) → ((u : Item K V s) → o' ≡ Some u → o ≡ Some u) → IsNoDirectory o → IsNoDirectory o'
       still o None f h = tt

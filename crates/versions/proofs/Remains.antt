@@ -241,7 +241,7 @@ module _ {K V : Type 0} {s : ℕ} where
           | inl e ↦ inl e
           | inr b ↦ elim (owner_of_used b.above (value_used b.above (items.Directory b.directory) b.is)) [
             | inl e ↦ inr (b, e)
-            | inr a ↦ absurd (subst (λ (o : Option (Item K V s)). IsNoDirectory o) b.is (subst (λ x. IsNoDirectory (value_at w x)) (sym a.named) (levelled a.above a.directory a.is a.nth 0 a.inside)))
+            | inr a ↦ absurd (subst (λ (o : Option (Item K V s)). IsNoDirectory o) b.is (subst (λ x. IsNoDirectory (value_at w x)) (sym a.named) (levelled.flat a.above a.directory a.is a.nth 0 a.inside)))
           ]
         ]
 

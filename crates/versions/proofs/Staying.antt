@@ -18,7 +18,7 @@ use Rattle.sdd_base.specs.declared.owner.Kept.{Kept}
 use Rattle.versions.specs.declared.directory.Directory.{Directory}
 use Rattle.versions.specs.declared.item.Item.{Item}
 use Rattle.versions.specs.declared.item.Item.TheVariants as items
-use Rattle.versions.proofs.Placings.{map_same, named_at, tally_reverse}
+use Rattle.versions.proofs.Placings.{map_same, owner_at, tally_reverse}
 
 module _ {K V : Type 0} {s : ℕ} (cmp : K → K → Ordering) where
   -- where the slots of a version have what they had, it is the same one
@@ -42,7 +42,7 @@ module _ {K V : Type 0} {s : ℕ} (cmp : K → K → Ordering) where
   owns_segments hand w i d counted is = λ k e h.
       let j = get_or (slots_of d) k e in
       let above : Item K V s = items.Directory d in
-      let named = named_at (slots_of d) k e h in
+      let named = owner_at (slots_of d) k e h in
       let turned = tally_reverse (SharedItem j) (map SharedItem (slots_of d)) in
       let some : 1 ≤ tally (SharedItem j) (held_by above) = omega (arith, named, turned) in
       (owners_are_counted held_by).held j i above hand w is some counted

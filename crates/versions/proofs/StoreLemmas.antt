@@ -1,5 +1,5 @@
 -- what a store keeps while guards open and close, and versions are published and reclaimed
-use Rattle.std.proofs.Common.{◌≡◌, ◌≢◌, ℕ, zero, suc, ◌+◌, ◌<◌, ◌≤◌, true, false, cond, Option, None, Some, List, [], ◌∷◌, length, get_or, set, map, refl, sym, ap, ◌∙◌, subst, arith, inl, inr, get_or-set_same, get_or-set_other, length-set}
+use Rattle.std.proofs.Common.{◌≡◌, ◌≢◌, ℕ, zero, suc, ◌+◌, ◌^◌, ◌<◌, ◌≤◌, true, false, cond, Option, None, Some, List, [], ◌∷◌, length, get_or, set, map, refl, sym, ap, ◌∙◌, subst, arith, inl, inr, get_or-set_same, get_or-set_other, length-set}
 use Rattle.std.proofs.lemmas.Bool.{false≢true}
 use Rattle.std.proofs.lemmas.Bool.Decides.{eqb_tells}
 use Rattle.std.proofs.lemmas.List.{get_or_past, get_or_read, map-set}
@@ -110,6 +110,7 @@ module _ {K V : Type 0} {s : ℕ} (cmp : K → K → Ordering) where
     store_moved p places' slot number pairs moves named version long others own quiet = record {
       place = moves.place;
       members = (let kept = moves.keeps.members in let was = store.members in omega (arith, kept, was, long));
+      slots = subst (λ (n : ℕ). n ≤ 2 ^ 30) (sym moves.keeps.states) store.slots;
       cells = moves.keeps.cells ∙ store.cells;
       counted = moves.counted;
       plain = moves.plain;

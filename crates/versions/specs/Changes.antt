@@ -1,7 +1,12 @@
--- Changes of a list of pairs: by rising keys, the new value of each, or none where its pair is taken away.
-use Rattle.std.specs.Prelude.{List, [], ◌∷◌, ◌++◌, Option, Some, None}
+-- Changes of a list of pairs: by rising keys, the new value of each, or none where its pair is taken away; and ranges whose
+-- pairs of the list are gone.
+use Rattle.std.specs.Prelude.{ℕ, ◌+◌, List, [], ◌∷◌, ◌++◌, drop, length, Option, Some, None}
 use Rattle.std.specs.declared.cmp.Ordering.{Ordering}
 use Rattle.leaf_array.specs.Edits.{above, below}
+use Rattle.versions.specs.Cuts.{pairs_in}
+use Rattle.versions.specs.Gone.{without}
+use Rattle.versions.specs.declared.building.changes.Changes.{Changes}
+use Rattle.versions.specs.declared.building.gone.Gone.{Gone}
 
 module _ {K V : Type 0} where
   -- the pair that a change leaves, if it leaves one
@@ -9,7 +14,19 @@ module _ {K V : Type 0} where
   pair_left key None = []
   pair_left key (Some value) = (key, value) ∷ []
 
-  -- the list that changes make of one
+  -- the list that edits by key make of one
   abbrev pub amended : (K → K → Ordering) → List (K × Option V) → List (K × V) → List (K × V)
   amended cmp [] pairs = pairs
   amended cmp (c ∷ cs) pairs = below cmp c.0 pairs ++ (pair_left c.0 c.1 ++ amended cmp cs (above cmp c.0 pairs))
+
+  -- the list that changes make of one: what ranges leave of it, and then the edits
+  abbrev pub changed : (K → K → Ordering) → Changes K V → List (K × V) → List (K × V)
+  changed cmp c pairs = amended cmp c.edits.pairs (without cmp c.gone.items pairs)
+
+  -- the list that edits make of what ranges leave of blocks, from a place on
+  abbrev pub ahead : (K → K → Ordering) → List (K × Option V) → List (Gone K) → ℕ → List (List (K × V)) → List (K × V)
+  ahead cmp edits gone place blocks = amended cmp edits (without cmp gone (pairs_in (drop place blocks)))
+
+  -- how many keys and ranges they name
+  abbrev pub named_by : Changes K V → ℕ
+  named_by c = length c.edits.pairs + length c.gone.items

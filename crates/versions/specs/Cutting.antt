@@ -1,16 +1,126 @@
 -- A list that is being cut.
-use Rattle.std.specs.Prelude.{◌≡◌, ℕ, ◌≤◌, List, [], ◌++◌, length, map, Some}
+use Rattle.std.specs.Prelude.{◌≡◌, ◌≢◌, ◌⊎◌, Bool, true, false, ℕ, ◌+◌, ◌-◌, ◌*◌, ◌≤◌, ◌<◌, List, [], ◌∷◌, ◌++◌, length, map, slice_get, Option, Some, None}
 use Rattle.std.specs.declared.cmp.Ordering.{Ordering}
+use Rattle.std.specs.declared.cmp.Ordering.TheVariants.{Less, Greater}
 use Rattle.std.specs.List.{All}
 use Rattle.leaf_array.specs.Pairs.{IsAscending}
-use Rattle.versions.specs.Cuts.{greatest_key, pairs_in}
+use Rattle.tree_index.specs.Shape.{AllKeys}
+use Rattle.versions.specs.Cuts.{IsTight, greatest_key, pairs_in}
+use Rattle.versions.specs.Parts.{blocks_of_parts, made_in}
+use Rattle.versions.specs.declared.building.parts.Part.{Part}
+use Rattle.versions.specs.declared.building.parts.Part.TheVariants as parts
+use Rattle.versions.specs.declared.building.parts.Row.{Row}
+use Rattle.versions.specs.declared.building.segments.Cutter.{Cutter}
 
--- blocks of s pairs with their greatest keys, and a last one, which holds a pair if there are others; n pairs in all
-pub record IsCutting {K V : Type 0} (cmp : K → K → Ordering) (s : ℕ) (full : List (List (K × V))) (keys : List K) (last : List (K × V)) (n : ℕ) : Type 0 where
-  pub least : 1 ≤ s
-  pub sizes : All (λ b. length b ≡ s) full
-  pub separated : map Some keys ≡ map greatest_key full
-  pub room : length last ≤ s
-  pub some : last ≡ [] → full ≡ []
-  pub rising : IsAscending cmp (pairs_in full ++ last)
-  pub count : n ≡ length (pairs_in full ++ last)
+-- a block of 1 to s pairs
+abbrev pub IsSized : {X : Type 0} → ℕ → List X → Type 0
+IsSized s b = (1 ≤ length b) × (length b ≤ s)
+
+-- how many pairs the last block has, 0 where there is none
+abbrev pub last_size : {X : Type 0} → List (List X) → ℕ
+last_size [] = 0
+last_size (b ∷ []) = length b
+last_size (b ∷ (c ∷ bs)) = last_size (c ∷ bs)
+
+-- 1 where there is a pair
+abbrev pub one_open : {X : Type 0} → List X → ℕ
+one_open [] = 0
+one_open (x ∷ xs) = 1
+
+-- how often the answers of a test turn along the keys of pairs, where this one came last
+abbrev pub differ : Bool → Bool → ℕ
+differ true true = 0
+differ true false = 1
+differ false true = 1
+differ false false = 0
+
+abbrev pub turns : {K V : Type 0} → (K → Bool) → Bool → List (K × V) → ℕ
+turns test last [] = 0
+turns test last (p ∷ ps) = differ last (test p.0) + turns test (test p.0) ps
+
+module _ {K V N : Type 0} where
+  -- how many trees were made
+  abbrev pub trees : Cutter K V N → ℕ
+  trees c = made_in c.row.parts.items + one_open c.tail.pairs
+
+  -- the pairs for which there is room up to the last one, in trees of s pairs
+  abbrev pub spent : ℕ → Cutter K V N → ℕ
+  spent s c = s * made_in c.row.parts.items + length c.tail.pairs
+
+  module _ (named : N → List (K × V)) where
+    -- the pairs that were given
+    abbrev pub given : Cutter K V N → List (K × V)
+    given c = pairs_in (blocks_of_parts named c.row.parts.items) ++ c.tail.pairs
+
+    -- segments of 1 to s pairs, none of which two neighbours could do without, with the greatest key of each
+    pub record IsRow (s : ℕ) (row : Row K V N) : Type 0 where
+      pub sizes : All (IsSized s) (blocks_of_parts named row.parts.items)
+      pub tight : IsTight s (blocks_of_parts named row.parts.items)
+      pub separated : map Some row.separators.items ≡ map greatest_key (blocks_of_parts named row.parts.items)
+      pub last : row.last ≡ last_size (blocks_of_parts named row.parts.items)
+
+    -- the last segment is the older one at this place
+    pub record IsHeldAt (blocks : List (List (K × V))) (items : List (Part K V N)) (place : ℕ) : Type 0 where
+      pub front : List (Part K V N)
+      pub name : N
+      pub is : items ≡ front ++ parts.Taken name ∷ []
+      pub there : slice_get blocks place ≡ Some (named name)
+
+    abbrev pub IsHeld : List (List (K × V)) → List (Part K V N) → Option ℕ → Type 0
+    IsHeld blocks items None = Unit {0}
+    IsHeld blocks items (Some place) = IsHeldAt blocks items place
+
+    -- segments that are done, of which the last one is full where it isn't an older one, and an open tree
+    pub record IsCutting (cmp : K → K → Ordering) (s : ℕ) (blocks : List (List (K × V))) (c : Cutter K V N) : Type 0 where
+      pub least : 1 ≤ s
+      pub most : s ≤ 225
+      pub row : IsRow s c.row
+      pub room : length c.tail.pairs ≤ s
+      pub rising : IsAscending cmp (given c)
+      pub count : c.length ≡ length (given c)
+      pub held : IsHeld blocks c.row.parts.items c.held
+      pub fresh : c.held ≡ None → (c.row.last ≡ 0) ⊎ (c.row.last ≡ s)
+
+    -- the open tree can end behind the segments that are done
+    pub record IsClosing (s : ℕ) (c : Cutter K V N) : Type 0 where
+      pub sizes : All (IsSized s) (blocks_of_parts named c.row.parts.items ++ c.tail.pairs ∷ [])
+      pub tight : IsTight s (blocks_of_parts named c.row.parts.items ++ c.tail.pairs ∷ [])
+      pub separated : map Some c.row.separators.items ≡ map greatest_key (blocks_of_parts named c.row.parts.items)
+
+    -- the older segment at a place comes behind all that was given, and doesn't fit into one with what is last there
+    pub record StaysApart (cmp : K → K → Ordering) (s : ℕ) (blocks : List (List (K × V))) (place : ℕ) (c : Cutter K V N) : Type 0 where
+      pub block : List (K × V)
+      pub there : slice_get blocks place ≡ Some block
+      pub sized : IsSized s block
+      pub rising : IsAscending cmp (given c ++ block)
+      pub closed : length c.tail.pairs ≡ 0 → 0 < c.row.last → s < c.row.last + length block
+      pub opened : 0 < length c.tail.pairs → s < length c.tail.pairs + length block
+
+  -- a segment of so many pairs fits into one with what is last
+  abbrev pub Joins : ℕ → ℕ → Cutter K V N → Type 0
+  Joins s n c = ((length c.tail.pairs ≡ 0) × (0 < c.row.last) × (c.row.last + n ≤ s)) ⊎ ((0 < length c.tail.pairs) × (length c.tail.pairs + n ≤ s))
+
+  -- no more than was read was given: from so many pairs and changes that were left to so many
+  pub record IsFilled (s left left' : ℕ) (c c' : Cutter K V N) : Type 0 where
+    pub spent : spent s c' + left' ≤ spent s c + left
+    pub some : 0 < length c.tail.pairs → 0 < length c'.tail.pairs
+    pub none : length c'.tail.pairs ≡ 0 → made_in c'.row.parts.items ≡ made_in c.row.parts.items
+
+  -- with so many edits left, no more trees were made than two for each that was passed, and one for each turn between pairs
+  -- that are gone and others: one less, where the next segment fits into one with the last one, or pairs before it are gone
+  pub record IsThrifty (s budget : ℕ) (test : K → Bool) (last : Bool) (rest : List (List (K × V))) (left : ℕ) (c : Cutter K V N) : Type 0 where
+    pub all : trees c + 2 * left + turns test last (pairs_in rest) ≤ budget
+    pub spare : length c.tail.pairs ≡ 0 → 0 < c.row.last → (b : List (K × V)) → slice_get rest 0 ≡ Some b → c.row.last + length b ≤ s → trees c + 1 + 2 * left + turns test last (pairs_in rest) ≤ budget
+    pub behind : last ≡ true → length c.tail.pairs ≡ 0 → trees c + 1 + 2 * left + turns test last (pairs_in rest) ≤ budget
+
+module _ {K V X : Type 0} (cmp : K → K → Ordering) where
+  -- the first change is at or below the last key of a segment; or all keys are below it
+  pub record IsReachedBy (changes : List (K × X)) (pairs : List (K × V)) : Type 0 where
+    pub change : K × X
+    pub pair : K × V
+    pub first : slice_get changes 0 ≡ Some change
+    pub last : slice_get pairs (length pairs - 1) ≡ Some pair
+    pub upto : cmp change.0 pair.0 ≢ Greater
+
+  abbrev pub IsPassedBy : List (K × X) → List (K × V) → Type 0
+  IsPassedBy changes pairs = (change : K × X) → slice_get changes 0 ≡ Some change → AllKeys (λ k. cmp k change.0 ≡ Less) pairs

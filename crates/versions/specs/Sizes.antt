@@ -9,6 +9,10 @@ pub record IsSized (readers slots s : ℕ) : Type 0 where
   pub some_pair : 1 ≤ s
   pub segment_fits : s ≤ 225
 
+-- how many segments a list of n pairs has at most
+abbrev pub segments_for : ℕ → ℕ → ℕ
+segments_for s n = 2 * (n / (s + 1)) + 1
+
 -- how many slots the version of a list of n pairs takes at most: one for each segment, and one for its directory
 abbrev pub room_for : ℕ → ℕ → ℕ
 room_for s n = 2 * (n / (s + 1)) + 2

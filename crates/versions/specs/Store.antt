@@ -1,5 +1,5 @@
 -- the versions that a store keeps in a place: the present one, which a root names, and those that readers have open
-use Rattle.std.specs.Prelude.{◌≡◌, ◌≢◌, ℕ, ◌+◌, List, [], ◌∷◌, Option, None, Some, get_or, length, map, slice_get, ◌⊎◌}
+use Rattle.std.specs.Prelude.{◌≡◌, ◌≢◌, ℕ, ◌+◌, ◌≤◌, ◌^◌, List, [], ◌∷◌, Option, None, Some, get_or, length, map, slice_get, ◌⊎◌}
 use Rattle.std.specs.Option.{option_map}
 use Rattle.std.specs.declared.cmp.Ordering.{Ordering}
 use Rattle.sdd_base.specs.Counting.{Counted}
@@ -85,11 +85,12 @@ module _ {K V : Type 0} {s : ℕ} where
     IsReader w p None = (marks_at w p).nesting ≡ 0
     IsReader w p (Some o) = Reads w p o
 
-    -- the root's version is there, and the readers'; nothing else has an owner outside; only the writer, which comes
-    -- behind the readers, has anything that waits
+    -- there are so few slots that owners can be counted; the root's version is there, and the readers'; nothing else has
+    -- an owner outside; only the writer, which comes behind the readers, has anything that waits
     pub record IsStore (w : State (Item K V s)) (root : ℕ) (places : List (Option (Opened K V s))) : Type 0 where
       pub place : IsPlace w
       pub members : length w.members ≡ length places + 1
+      pub slots : length w.states ≤ 2 ^ 30
       pub cells : length w.cells ≡ 1
       pub counted : Counted held_by (SharedIn root ∷ []) w
       pub plain : IsPlain w

@@ -1,9 +1,10 @@
 //! Items.
 
-ghost use Rattle.std.specs.Prelude.{◌≡◌, Some, IfSome, IfNone};
+ghost use Rattle.std.specs.Prelude.{◌≡◌, ◌≤◌, Some, IfSome, IfNone};
 ghost use Rattle.versions.specs.Versions.{IsSegment, pairs_of};
 
 use crate::directory::Directory;
+use crate::segment::Segment;
 use sdd_base::holds::{Held, Holds};
 use sdd_base::owner::Kept;
 use tree_index::TreeIndex;
@@ -11,7 +12,7 @@ use tree_index::TreeIndex;
 /// What stands in a slot: a version, or a segment of versions.
 pub enum Item<K: Ord, V, const S: usize> {
     Directory(Directory<K, Kept>),
-    Segment(TreeIndex<K, V>),
+    Segment(Segment<K, V>),
 }
 
 impl<K: Ord, V, const S: usize> Item<K, V, S> {
@@ -29,10 +30,11 @@ impl<K: Ord, V, const S: usize> Item<K, V, S> {
     /// The tree of a segment. Condition: it is one.
     pub(crate) fn segment(&self) -> &TreeIndex<K, V>
         requires { IsSegment (Some self.now) }
-        ensures { result.now.pairs ≡ pairs_of (Some self.now) }
+        ensures pairs { result.now.pairs ≡ pairs_of (Some self.now) }
+        ensures flat { result.now.depth ≤ 1 }
     {
         match self {
-            Item::Segment(tree) => tree,
+            Item::Segment(segment) => segment.tree(),
             Item::Directory(_) => unreachable!(),
         }
     }

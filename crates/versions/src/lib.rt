@@ -26,6 +26,7 @@ mod item;
 mod laws;
 pub mod plain;
 mod read;
+mod segment;
 mod store;
 mod write;
 
@@ -39,6 +40,7 @@ pub use read::nearby::Nearby;
 pub use read::trees::Trees;
 pub use read::view::VersionView;
 pub use read::walking::Walk;
-pub use read::world::{len, locate, look_up, version, version_at, view_of, walk};
-pub use store::local::{LocalNearby, LocalStore, LocalView, LocalWalk};
+pub use read::world::{len, locate, look_up, look_up_counted, version, version_at, view_of, walk};
+pub use segment::Segment;
+pub use store::local::{LocalNearby, LocalStore, LocalView, LocalWalk, WriteRefused};
 pub use write::{Reply, Write};

@@ -1,81 +1,86 @@
 //! Building versions.
 
-ghost use Rattle.std.specs.Prelude.{◌≡◌, ◌≤◌, ◌<◌, ◌+◌, ◌*◌, [], ◌/◌, ◌-◌, ◌^◌, IfOk, length, map, vec_capacity};
+ghost use Rattle.std.specs.Prelude.{◌≡◌, ◌≤◌, ◌<◌, ◌+◌, ◌*◌, [], ◌/◌, ◌-◌, ◌^◌, IfOk, length, vec_capacity};
 ghost use Rattle.leaf_array.specs.Values.{ClonesAreSame};
 ghost use Rattle.sdd_base.specs.State.{value_at};
-ghost use Rattle.versions.specs.Cuts.{pairs_in, IsCut};
-ghost use Rattle.versions.specs.Placing.{slots_for};
-ghost use Rattle.versions.specs.Built.{IsBuilt};
+ghost use Rattle.std.specs.List.{All};
+ghost use Rattle.versions.specs.Items.{slots_of};
+ghost use Rattle.versions.specs.Parts.{made_in};
+ghost use Rattle.versions.specs.Placing.{CanBeShared, IsPlaceable, list_planned, slots_for};
 ghost use Rattle.versions.specs.Versions.{IsVersion, list_of};
 ghost use Rattle.versions.specs.Writes.{after_writes, replies_to};
 
 use crate::building::draft::drafted;
-use crate::building::segments::Segments;
+use crate::building::older::Older;
+use crate::building::parts::{Part, Segments};
 use crate::directory::Directory;
 use crate::item::Item;
-use crate::read::world::view_of;
 use crate::write::{Reply, Write};
 use sdd_base::job::NoJob;
 use sdd_base::owner::Kept;
+use sdd_base::pointer::Loaded;
 use sdd_base::world::World;
 use std::alloc::{AllocError, Global};
 use std::marker::Model;
 
-/// A version that isn't placed yet: the number of its list, and its segments.
+/// A version that isn't placed yet: the number of its list, and its segments, of which some are those of an older version.
 pub struct Built<K: Ord, V, const S: usize> {
     number: u64,
-    segments: Segments<K, V>,
+    segments: Segments<K, V, Loaded<Item<K, V, S>>>,
+    // how many of them are new
+    made: usize,
     // room for the owners of the segments
     owners: Vec<Kept>,
 }
 
 impl<K: Ord, V, const S: usize> Model for Built<K, V, S> {
-    ghost use Rattle.std.specs.Prelude.{map};
     ghost use Rattle.versions.specs.Placing.{Plan};
 
-    ghost Value = { Plan K V };
+    ghost Value = { Plan K V S };
 
     ghost use Rattle.versions.specs.Built.{IsBuilt};
 
-    ghost view = { λ b. record { number = b.number; blocks = map (λ t. t.pairs) b.segments.trees.items } };
+    ghost view = { λ b. record { number = b.number; parts = b.segments.parts.items; separators = b.segments.separators.items; length = b.segments.length } };
 
-    ghost invariant = { λ b. IsBuilt K.cmp S b.segments b.owners };
+    ghost invariant = { λ b. IsBuilt S b.segments b.made b.owners };
 }
 
 impl<K: Ord, V, const S: usize> Built<K, V, S> {
     /// The empty list, with number 0. It takes no memory.
     pub fn empty(alloc: Global) -> Self
-        ensures { result ≡ record { number = 0; blocks = [] } }
+        ensures { result ≡ record { number = 0; parts = []; separators = []; length = 0 } }
     {
         Built {
             number: 0,
             segments: Segments {
-                trees: Vec::new(alloc),
+                parts: Vec::new(alloc),
                 separators: Vec::new(alloc),
                 length: 0,
             },
+            made: 0,
             owners: Vec::new(alloc),
         }
     }
 
-    /// How many slots it takes: one for each segment, and one for its directory. A list of `n` pairs takes at most
-    /// `2 * (n / (S + 1)) + 2`.
+    /// How many slots it takes: one for each new segment, and one for its directory. A list of `n` pairs takes at most
+    /// `2 * (n / (S + 1)) + 2`, and so do `w` writes at most `2 * w + 1`.
     pub fn slots(&self) -> usize
         ensures count { result ≡ slots_for self.now }
-        ensures few { result ≤ 2 * (length (pairs_in self.now.blocks) / (S + 1)) + 2 }
+        ensures few { result ≤ 2 * (self.now.length / (S + 1)) + 2 }
     {
-        self.segments.trees.len() + 1
+        self.made + 1
     }
 
     /// Its number, its segments, and room for their owners.
-    pub(crate) fn into_parts(self) -> (u64, Segments<K, V>, Vec<Kept>)
-        ensures number { result.0 ≡ self.number }
-        ensures blocks { map (λ t. t.pairs) result.1.trees.items ≡ self.blocks }
-        ensures kept { IsBuilt K.cmp S result.1 result.2 }
+    pub(crate) fn into_parts(self) -> (u64, Segments<K, V, Loaded<Item<K, V, S>>>, Vec<Kept>)
+        ensures plan { record { number = result.0; parts = result.1.parts.items; separators = result.1.separators.items; length = result.1.length } ≡ self }
+        ensures none { result.2.items ≡ [] }
+        ensures room { length result.1.parts.items ≤ vec_capacity result.2 }
     {
         let Built {
             number,
             segments,
+            made: _,
             owners,
         } = self;
         (number, segments, owners)
@@ -90,7 +95,8 @@ impl<K: Ord + Drop, V: Drop, const S: usize> Drop for Built<K, V, S> {
 }
 
 /// The version that writes make of an older one, under the next number, and what they are told; refused where memory is.
-/// Nothing is placed yet.
+/// Nothing is placed yet. Segments that no write touches are taken over, so the older version has to be there when it is
+/// placed.
 pub fn build<K: Clone + Ord + Drop, V: Clone + Drop, const S: usize>(
     alloc: Global,
     w: &World<Item<K, V, S>, NoJob>,
@@ -103,19 +109,37 @@ pub fn build<K: Clone + Ord + Drop, V: Clone + Drop, const S: usize>(
     requires keys { ClonesAreSame K.is_clone }
     requires values { ClonesAreSame V.is_clone }
     ensures number { IfOk result (λ made. made.0.number ≡ dir.now.number + 1) }
-    ensures list { IfOk result (λ made. pairs_in made.0.blocks ≡ after_writes K.cmp writes.now (list_of (value_at w.now) dir.now)) }
+    ensures list { IfOk result (λ made. list_planned (value_at w.now) made.0 ≡ after_writes K.cmp writes.now (list_of (value_at w.now) dir.now)) }
+    ensures few { IfOk result (λ made. slots_for made.0 ≤ 2 * length writes.now + 1) }
+    ensures placeable { IfOk result (λ made. All (CanBeShared w.now) (slots_of dir.now) → IsPlaceable K.cmp w.now made.0) }
     ensures replies { IfOk result (λ made. made.1.items ≡ replies_to K.cmp writes.now (list_of (value_at w.now) dir.now)) }
 {
-    let old = view_of(w, dir);
-    let (segments, replies) = drafted::<K, V, _, S>(alloc, &old, writes)?;
-    let owners = Vec::with_capacity(alloc, segments.trees.len())?;
+    let old = Older::new(w, dir);
+    let (segments, replies) = drafted::<K, V, Loaded<Item<K, V, S>>, _, S>(alloc, &old, writes)?;
+    let owners = Vec::with_capacity(alloc, segments.parts.len())?;
+    let made = made_of(&segments.parts);
     let number = dir.number + 1;
     Ok((
         Built {
             number,
             segments,
+            made,
             owners,
         },
         replies,
     ))
+}
+
+/// How many parts are new.
+fn made_of<K: Ord, V, N>(parts: &[Part<K, V, N>]) -> usize
+    ensures count { result ≡ made_in parts.now }
+    ensures few { result ≤ length parts.now }
+{
+    let mut made = 0;
+    for part in parts {
+        if let Part::Made(_) = part {
+            made += 1;
+        }
+    }
+    made
 }

@@ -1,115 +1,143 @@
-//! Changes of a list, kept by key.
+//! Changes of a list: what comes of keys, and the ranges whose pairs are gone.
 
-ghost use Rattle.std.specs.Prelude.{◌≡◌, Some, None, not, OnOk, IfOk};
-ghost use Rattle.std.specs.List.{filter};
+ghost use Rattle.std.specs.Prelude.{◌≡◌, ◌≤◌, ◌+◌, ◌∷◌, [], Some, None, not, option_copied, OnOk, IfOk};
+ghost use Rattle.std.specs.List.{All, filter};
 ghost use Rattle.std.specs.BTreeMap.Range.{range_contains};
 ghost use Rattle.leaf_array.specs.Edits.{removed, upserted};
 ghost use Rattle.leaf_array.specs.Pairs.{has_key, IsAscending};
 ghost use Rattle.leaf_array.specs.Values.{ClonesAreSame};
-ghost use Rattle.versions.specs.Changes.{amended};
+ghost use Rattle.versions.specs.Changes.{changed, named_by};
 ghost use Rattle.versions.specs.Cuts.{pairs_in};
+ghost use Rattle.versions.specs.Gone.{IsSpan};
+ghost use Rattle.versions.specs.Seeking.{IsOrdered};
 ghost use Rattle.versions.specs.Writes.{after_write, reply_to};
 
-use crate::bounds::is_within;
 use crate::building::draft::Old;
-use crate::building::flow::Flow;
+use crate::building::edit::Edit;
+use crate::building::gone::{Gone, is_gone, range_of};
 use crate::write::{Reply, Write};
-use std::alloc::AllocError;
+use std::alloc::{AllocError, Global};
 use std::ops::Bound;
 use tree_index::TreeIndex;
 
+/// Changes of an older list: the ranges whose pairs are gone, and then what comes of single keys.
+#[derive(Drop)]
+pub(crate) struct Changes<'w, K: Ord, V> {
+    pub(crate) edits: TreeIndex<K, Edit<'w, V>>,
+    pub(crate) gone: Vec<Gone<K>>,
+}
+
+/// No change. It takes no memory.
+pub(crate) fn unchanged<'w, K: Ord, V>(alloc: Global) -> Changes<'w, K, V>
+    ensures edits { result.edits.pairs ≡ [] }
+    ensures gone { result.gone.items ≡ [] }
+{
+    Changes {
+        edits: TreeIndex::new(alloc),
+        gone: Vec::new(alloc),
+    }
+}
+
 /// Makes one write on the list that changes make of a version.
-pub(crate) fn apply<K: Clone + Ord + Drop, V: Clone + Drop, O: Old<K, V>>(
-    changes: &mut TreeIndex<K, Option<V>>,
+pub(crate) fn apply<'w, K: Clone + Ord + Drop, V: Drop, N, O: Old<K, V, N>>(
+    changes: &mut Changes<'w, K, V>,
     old: &O,
-    write: &Write<K, V>,
+    write: &'w Write<K, V>,
 ) -> Result<Reply, AllocError>
     requires keys { ClonesAreSame K.is_clone }
-    requires values { ClonesAreSame V.is_clone }
-    requires rising { IsAscending K.cmp (pairs_in (O.blocks old.now)) }
-    ensures list { OnOk result (amended K.cmp changes.new.pairs (pairs_in (O.blocks old.now)) ≡ after_write K.cmp write.now (amended K.cmp changes.old.pairs (pairs_in (O.blocks old.now)))) }
-    ensures reply { IfOk result (λ reply. reply ≡ reply_to K.cmp write.now (amended K.cmp changes.old.pairs (pairs_in (O.blocks old.now)))) }
+    requires ordered { IsOrdered K.cmp (O.blocks old.now) (O.separators old.now) }
+    requires spans { All (IsSpan K.cmp (O.blocks old.now)) changes.old.gone.items }
+    ensures list { OnOk result (changed K.cmp changes.new (pairs_in (O.blocks old.now)) ≡ after_write K.cmp write.now (changed K.cmp changes.old (pairs_in (O.blocks old.now)))) }
+    ensures few { OnOk result (named_by changes.new ≤ named_by changes.old + 1) }
+    ensures spans { OnOk result (All (IsSpan K.cmp (O.blocks old.now)) changes.new.gone.items) }
+    ensures reply { IfOk result (λ reply. reply ≡ reply_to K.cmp write.now (changed K.cmp changes.old (pairs_in (O.blocks old.now)))) }
 {
     match write {
         Write::Insert(key, value) => {
-            if has(changes, old, key) {
+            if has::<K, V, N, O>(changes, old, key) {
                 return Ok(Reply::Duplicate);
             }
-            note(changes, key, Some(value.clone()?))?;
+            note(&mut changes.edits, key, Some(value))?;
             Ok(Reply::Inserted)
         },
         Write::Upsert(key, value) => {
-            note(changes, key, Some(value.clone()?))?;
+            note(&mut changes.edits, key, Some(value))?;
             Ok(Reply::Upserted)
         },
         Write::Remove(key) => {
-            if !has(changes, old, key) {
+            if !has::<K, V, N, O>(changes, old, key) {
                 return Ok(Reply::Absent);
             }
-            note(changes, key, None)?;
+            note(&mut changes.edits, key, None)?;
             Ok(Reply::Removed)
         },
         Write::RemoveRange(lower, upper) => {
-            remove_range(changes, old, lower, upper)?;
+            remove_range::<K, V, N, O>(changes, old, lower, upper)?;
             Ok(Reply::RangeRemoved)
         },
         Write::Clear => {
             let all = Bound::Unbounded;
-            remove_range(changes, old, &all, &all)?;
+            changes.gone.clear();
+            remove_range::<K, V, N, O>(changes, old, &all, &all)?;
             Ok(Reply::Cleared)
         },
     }
 }
 
-/// Whether the list that changes make of a version has a key.
-fn has<K: Ord, V, O: Old<K, V>>(changes: &TreeIndex<K, Option<V>>, old: &O, key: &K) -> bool
-    ensures { result ≡ has_key K.cmp key.now (amended K.cmp changes.now.pairs (pairs_in (O.blocks old.now))) }
+/// Whether the list that changes make of a version has a key: by its edit, or else by what ranges leave of the version.
+fn has<K: Ord, V, N, O: Old<K, V, N>>(changes: &Changes<'_, K, V>, old: &O, key: &K) -> bool
+    ensures { result ≡ has_key K.cmp key.now (changed K.cmp changes.now (pairs_in (O.blocks old.now))) }
 {
-    let _ = changes.len();
-    match changes.peek(key) {
-        Some(to) => to.is_some(),
-        None => old.contains(key),
+    let _ = changes.edits.len();
+    match changes.edits.peek(key) {
+        Some(edit) => edit.leaves_a_pair(),
+        None => {
+            if is_gone(&changes.gone, key) {
+                return false;
+            }
+            old.contains(key)
+        },
     }
 }
 
 /// Notes what comes of a key, instead of what was noted of it.
-fn note<K: Clone + Ord + Drop, V: Drop>(
-    changes: &mut TreeIndex<K, Option<V>>,
+fn note<'w, K: Clone + Ord + Drop, V>(
+    edits: &mut TreeIndex<K, Edit<'w, V>>,
     key: &K,
-    to: Option<V>,
+    to: Option<&'w V>,
 ) -> Result<(), AllocError>
     requires { ClonesAreSame K.is_clone }
-    ensures rising { IsAscending K.cmp changes.old.pairs }
-    ensures noted { OnOk result (changes.new.pairs ≡ upserted K.cmp key.now to changes.old.pairs) }
+    ensures rising { IsAscending K.cmp edits.old.pairs }
+    ensures noted { OnOk result (edits.new.pairs ≡ upserted K.cmp key.now (option_copied to.entry) edits.old.pairs) }
 {
-    let _ = changes.len();
-    match changes.upsert_sync(key.clone()?, to) {
+    let _ = edits.len();
+    match edits.upsert_sync(key.clone()?, Edit::new(to)) {
         Ok(()) => Ok(()),
         Err(_) => Err(AllocError),
     }
 }
 
-/// Removes the pairs whose keys lie within two bounds from the list that changes make of a version: the changes of such
-/// keys are forgotten, and the version's pairs are noted as taken away.
-fn remove_range<K: Clone + Ord + Drop, V: Drop, O: Old<K, V>>(
-    changes: &mut TreeIndex<K, Option<V>>,
+/// Removes the pairs whose keys lie within two bounds from the list that changes make of a version: the edits of such keys
+/// are forgotten, and the range is noted. No pair of the version is read.
+fn remove_range<K: Clone + Ord + Drop, V: Drop, N, O: Old<K, V, N>>(
+    changes: &mut Changes<'_, K, V>,
     old: &O,
     lower: &Bound<K>,
     upper: &Bound<K>,
 ) -> Result<(), AllocError>
     requires keys { ClonesAreSame K.is_clone }
-    requires rising { IsAscending K.cmp (pairs_in (O.blocks old.now)) }
-    ensures { OnOk result (amended K.cmp changes.new.pairs (pairs_in (O.blocks old.now)) ≡ filter (λ p. not (range_contains K.cmp lower.now upper.now p.0)) (amended K.cmp changes.old.pairs (pairs_in (O.blocks old.now)))) }
+    requires ordered { IsOrdered K.cmp (O.blocks old.now) (O.separators old.now) }
+    requires spans { All (IsSpan K.cmp (O.blocks old.now)) changes.old.gone.items }
+    ensures list { OnOk result (changed K.cmp changes.new (pairs_in (O.blocks old.now)) ≡ filter (λ p. not (range_contains K.cmp lower.now upper.now p.0)) (changed K.cmp changes.old (pairs_in (O.blocks old.now)))) }
+    ensures few { OnOk result (named_by changes.new ≤ named_by changes.old + 1) }
+    ensures spans { OnOk result (All (IsSpan K.cmp (O.blocks old.now)) changes.new.gone.items) }
 {
-    let _ = changes.len();
-    changes.remove_range_sync(lower.as_ref(), upper.as_ref());
-    let mut pairs = Flow::new(old);
-    while let Some((key, _)) = pairs.front() {
-        pairs.step();
-        if !is_within(lower, upper, key) {
-            continue;
-        }
-        note(changes, key, None)?;
-    }
+    let _ = changes.edits.len();
+    changes
+        .gone
+        .push(range_of::<K, V, N, O>(old, lower, upper)?)?;
+    changes
+        .edits
+        .remove_range_sync(lower.as_ref(), upper.as_ref());
     Ok(())
 }

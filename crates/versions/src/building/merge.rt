@@ -1,123 +1,281 @@
-//! A version and changes of it, merged into segments by one pass over both.
+//! A version and changes of it, merged into segments by one pass over those that a change touches.
 
-ghost use Rattle.std.specs.Prelude.{◌≡◌, ◌≤◌, ◌<◌, ◌+◌, ◌++◌, ◌∷◌, [], true, false, length, map, IfOk, OnOk};
+ghost use Rattle.std.specs.Prelude.{◌≡◌, ◌≤◌, ◌<◌, ◌+◌, ◌*◌, ◌++◌, ◌∷◌, ◌↔◌, ◌⊎◌, [], ℕ, Bool, true, false, IsTrue, List, drop, length, slice_get, Some, IfOk, OnOk};
 ghost use Rattle.leaf_array.specs.Pairs.{IsAscending};
 ghost use Rattle.leaf_array.specs.Values.{ClonesAreSame};
-ghost use Rattle.versions.specs.Changes.{amended, pair_left};
+ghost use Rattle.std.specs.List.{All};
+ghost use Rattle.tree_index.specs.Shape.{AllKeys};
+ghost use Rattle.versions.specs.Changes.{ahead, amended, changed, named_by, pair_left};
 ghost use Rattle.versions.specs.Cuts.{IsCut, pairs_in};
+ghost use Rattle.versions.specs.Cutting.{IsCutting, IsFilled, IsPassedBy, IsReachedBy, IsThrifty, Joins, given};
+ghost use Rattle.versions.specs.Gone.{IsSpan, is_gone, without};
+ghost use Rattle.versions.specs.Parts.{blocks_of_parts, made_in};
 
+use crate::building::changes::Changes;
 use crate::building::draft::Old;
-use crate::building::flow::Flow;
-use crate::building::segments::{Cutter, Segments};
+use crate::building::edit::Edit;
+use crate::building::gone::{Gone, covers, thins};
+use crate::building::parts::Segments;
+use crate::building::segments::{Cutter, begun, finish, greatest_at, push, take};
+use crate::building::sieve::Sieve;
 use crate::building::stream::Stream;
 use std::alloc::{AllocError, Global};
 use std::cmp::Ordering;
-use tree_index::TreeIndex;
 
-/// The segments of the list that changes make of a version.
-pub(crate) fn merged<K: Clone + Ord + Drop, V: Clone + Drop, O: Old<K, V>, const S: usize>(
-    alloc: Global,
-    old: &O,
-    changes: &TreeIndex<K, Option<V>>,
-) -> Result<Segments<K, V>, AllocError>
+/// The segments of the list that changes make of a version. A segment that no change touches is taken over, save where it
+/// has to be joined with what comes before it.
+pub(crate) fn merged<
+    K: Clone + Ord + Drop,
+    V: Clone + Drop,
+    N: Drop,
+    O: Old<K, V, N>,
+    const S: usize,
+>(alloc: Global, old: &O, changes: &Changes<'_, K, V>) -> Result<Segments<K, V, N>, AllocError>
     requires size { (1 ≤ S) × (S ≤ 225) }
     requires keys { ClonesAreSame K.is_clone }
     requires values { ClonesAreSame V.is_clone }
-    requires rising { IsAscending K.cmp (pairs_in (O.blocks old.now)) }
-    ensures cut { IfOk result (λ made. IsCut K.cmp S (map (λ t. t.pairs) made.trees.items) made.separators.items) }
-    ensures list { IfOk result (λ made. pairs_in (map (λ t. t.pairs) made.trees.items) ≡ amended K.cmp changes.now.pairs (pairs_in (O.blocks old.now))) }
-    ensures length { IfOk result (λ made. made.length ≡ length (pairs_in (map (λ t. t.pairs) made.trees.items))) }
+    requires whole { IsCut K.cmp S (O.blocks old.now) (O.separators old.now) }
+    requires spans { All (IsSpan K.cmp (O.blocks old.now)) changes.now.gone.items }
+    ensures cut { IfOk result (λ made. IsCut K.cmp S (blocks_of_parts (O.named old.now) made.parts.items) made.separators.items) }
+    ensures list { IfOk result (λ made. pairs_in (blocks_of_parts (O.named old.now) made.parts.items) ≡ changed K.cmp changes.now (pairs_in (O.blocks old.now))) }
+    ensures length { IfOk result (λ made. made.length ≡ length (pairs_in (blocks_of_parts (O.named old.now) made.parts.items))) }
+    ensures few { IfOk result (λ made. made_in made.parts.items ≤ 2 * named_by changes.now) }
 {
-    let _ = changes.len();
-    let mut out = Cutter::<K, V, S>::new(alloc);
-    let mut left = Stream::new(changes);
-    let mut pairs = Flow::new(old);
-    let mut more = true;
-    while more {
-        more = merge_next(&mut out, &mut left, &mut pairs)?;
+    let named = changes.edits.len().saturating_add(changes.gone.len());
+    let mut out = begun::<K, V, N, O, S>(alloc, old, named)?;
+    let mut left = Stream::new(&changes.edits);
+    for place in 0..old.count() {
+        pass::<K, V, N, O, S>(&mut out, &mut left, &changes.gone, old, place)?;
     }
-    out.finish()
+    put_all::<K, V, N, O, S>(&mut out, &mut left, old)?;
+    let segments = finish::<K, V, N, O, S>(out, old)?;
+    Ok(segments)
 }
 
-/// Takes what is first of changes and pairs, or both where they have one key, and says whether there was something.
-fn merge_next<K: Clone + Ord + Drop, V: Clone + Drop, O: Old<K, V>, const S: usize>(
-    out: &mut Cutter<K, V, S>,
-    changes: &mut Stream<'_, K, Option<V>>,
-    pairs: &mut Flow<'_, K, V, O>,
-) -> Result<bool, AllocError>
-    requires keys { ClonesAreSame K.is_clone }
-    requires values { ClonesAreSame V.is_clone }
-    requires sorted { IsAscending K.cmp pairs.old }
-    requires rising { IsAscending K.cmp (out.old ++ amended K.cmp changes.old pairs.old) }
-    ensures list { OnOk result (out.new ++ amended K.cmp changes.new pairs.new ≡ out.old ++ amended K.cmp changes.old pairs.old) }
-    ensures sorted { OnOk result (IsAscending K.cmp pairs.new) }
-    ensures fewer { IfOk result (λ more. more ≡ true → length changes.new + length pairs.new < length changes.old + length pairs.old) }
-    ensures done { IfOk result (λ more. more ≡ false → (changes.new ≡ []) × (pairs.new ≡ [])) }
-{
-    match pairs.front() {
-        None => match changes.front() {
-            None => Ok(false),
-            Some((changed, to)) => {
-                put(out, changed, to)?;
-                changes.step();
-                Ok(true)
-            },
-        },
-        Some((key, value)) => match changes.front() {
-            None => {
-                copy(out, key, value)?;
-                pairs.step();
-                Ok(true)
-            },
-            Some((changed, to)) => match changed.cmp(key) {
-                Ordering::Less => {
-                    put(out, changed, to)?;
-                    changes.step();
-                    Ok(true)
-                },
-                Ordering::Equal => {
-                    put(out, changed, to)?;
-                    changes.step();
-                    pairs.step();
-                    Ok(true)
-                },
-                Ordering::Greater => {
-                    copy(out, key, value)?;
-                    pairs.step();
-                    Ok(true)
-                },
-            },
-        },
-    }
-}
-
-/// Gives the pair that a change leaves, if it leaves one.
-fn put<K: Clone + Ord + Drop, V: Clone + Drop, const S: usize>(
-    out: &mut Cutter<K, V, S>,
-    key: &K,
-    to: &Option<V>,
+/// Takes the segment at a place over, or merges what is left of it with the changes that touch it. One that a range has
+/// all pairs of is passed by.
+fn pass<K: Clone + Ord + Drop, V: Clone + Drop, N: Drop, O: Old<K, V, N>, const S: usize>(
+    out: &mut Cutter<K, V, N>,
+    changes: &mut Stream<'_, K, Edit<'_, V>>,
+    gone: &[Gone<K>],
+    old: &O,
+    place: usize,
 ) -> Result<(), AllocError>
     requires keys { ClonesAreSame K.is_clone }
     requires values { ClonesAreSame V.is_clone }
-    requires rising { IsAscending K.cmp (out.old ++ pair_left key.now to.now) }
-    ensures { OnOk result (out.new ≡ out.old ++ pair_left key.now to.now) }
+    requires old { IsCut K.cmp S (O.blocks old.now) (O.separators old.now) }
+    requires spans { All (IsSpan K.cmp (O.blocks old.now)) gone.now }
+    requires within { place < length (O.blocks old.now) }
+    requires whole { IsCutting (O.named old.now) K.cmp S (O.blocks old.now) out.old }
+    requires rising { IsAscending K.cmp (given (O.named old.now) out.old ++ ahead K.cmp changes.old gone.now place (O.blocks old.now)) }
+    ensures whole { OnOk result (IsCutting (O.named old.now) K.cmp S (O.blocks old.now) out.new) }
+    ensures list { OnOk result (given (O.named old.now) out.new ++ ahead K.cmp changes.new gone.now (place + 1) (O.blocks old.now) ≡ given (O.named old.now) out.old ++ ahead K.cmp changes.old gone.now place (O.blocks old.now)) }
+    ensures thrifty { OnOk result ((budget : ℕ) (last : Bool) → IsThrifty S budget (is_gone K.cmp gone.now) last (drop place (O.blocks old.now)) (length changes.old) out.old → (next : Bool) × IsThrifty S budget (is_gone K.cmp gone.now) next (drop (place + 1) (O.blocks old.now)) (length changes.new) out.new) }
 {
-    match to {
-        Some(value) => copy(out, key, value),
+    if covers::<K, V, N, O>(gone, old, place) {
+        return Ok(());
+    }
+    if touches::<K, V, N, O, S>(changes, gone, old, place) {
+        merge_segment::<K, V, N, O, S>(out, changes, gone, old, place)?;
+        return Ok(());
+    }
+    if joins::<K, V, N, S>(out, old.segment(place).len()) {
+        merge_segment::<K, V, N, O, S>(out, changes, gone, old, place)?;
+        return Ok(());
+    }
+    take::<K, V, N, O, S>(out, old, place)?;
+    Ok(())
+}
+
+/// Whether the next change touches the segment at a place, or a range that is gone has a pair of it.
+fn touches<K: Ord, V, N, O: Old<K, V, N>, const S: usize>(
+    changes: &Stream<'_, K, Edit<'_, V>>,
+    gone: &[Gone<K>],
+    old: &O,
+    place: usize,
+) -> bool
+    requires old { IsCut K.cmp S (O.blocks old.now) (O.separators old.now) }
+    requires spans { All (IsSpan K.cmp (O.blocks old.now)) gone.now }
+    requires within { place < length (O.blocks old.now) }
+    ensures touched { IsTrue result → (b : List (K × V)) → Some b ≡ slice_get (O.blocks old.now) place → IsReachedBy K.cmp changes.now b ⊎ (AllKeys (λ k. is_gone K.cmp gone.now k ≡ false) b → ⊥) }
+    ensures passed { result ≡ false → (b : List (K × V)) → Some b ≡ slice_get (O.blocks old.now) place → IsPassedBy K.cmp changes.now b × AllKeys (λ k. is_gone K.cmp gone.now k ≡ false) b }
+{
+    if reaches::<K, V, N, O, S>(changes, old, place) {
+        return true;
+    }
+    thins::<K, V, N, O>(gone, old, place)
+}
+
+/// Whether the next change touches the segment at a place: its key is at most the greatest one there.
+fn reaches<K: Ord, V, N, O: Old<K, V, N>, const S: usize>(
+    changes: &Stream<'_, K, Edit<'_, V>>,
+    old: &O,
+    place: usize,
+) -> bool
+    requires old { IsCut K.cmp S (O.blocks old.now) (O.separators old.now) }
+    requires within { place < length (O.blocks old.now) }
+    ensures reached { IsTrue result → (b : List (K × V)) → Some b ≡ slice_get (O.blocks old.now) place → IsReachedBy K.cmp changes.now b }
+    ensures passed { result ≡ false → (b : List (K × V)) → Some b ≡ slice_get (O.blocks old.now) place → IsPassedBy K.cmp changes.now b }
+{
+    match changes.front() {
+        None => false,
+        Some((key, _)) => match greatest_at::<K, V, N, O>(old, place) {
+            Some(last) => match key.cmp(last) {
+                Ordering::Less => true,
+                Ordering::Equal => true,
+                Ordering::Greater => false,
+            },
+            None => false,
+        },
+    }
+}
+
+/// Whether a segment of so many pairs fits into one with what comes before it.
+fn joins<K: Ord, V, N, const S: usize>(out: &Cutter<K, V, N>, size: usize) -> bool
+    ensures { IsTrue result ↔ Joins S size out.now }
+{
+    let last = match out.tail.len() {
+        0 => out.row.last,
+        size => size,
+    };
+    last > 0 && size <= S && last <= S - size
+}
+
+/// Merges what is left of a segment with the changes up to its end.
+fn merge_segment<K: Clone + Ord + Drop, V: Clone + Drop, N: Drop, O: Old<K, V, N>, const S: usize>(
+    out: &mut Cutter<K, V, N>,
+    changes: &mut Stream<'_, K, Edit<'_, V>>,
+    gone: &[Gone<K>],
+    old: &O,
+    place: usize,
+) -> Result<(), AllocError>
+    requires keys { ClonesAreSame K.is_clone }
+    requires values { ClonesAreSame V.is_clone }
+    requires within { place < length (O.blocks old.now) }
+    requires sorted { IsAscending K.cmp (pairs_in (drop place (O.blocks old.now))) }
+    requires whole { IsCutting (O.named old.now) K.cmp S (O.blocks old.now) out.old }
+    requires rising { IsAscending K.cmp (given (O.named old.now) out.old ++ ahead K.cmp changes.old gone.now place (O.blocks old.now)) }
+    ensures whole { OnOk result (IsCutting (O.named old.now) K.cmp S (O.blocks old.now) out.new) }
+    ensures list { OnOk result (given (O.named old.now) out.new ++ ahead K.cmp changes.new gone.now (place + 1) (O.blocks old.now) ≡ given (O.named old.now) out.old ++ ahead K.cmp changes.old gone.now place (O.blocks old.now)) }
+    ensures filled { OnOk result ((b : List (K × V)) → Some b ≡ slice_get (O.blocks old.now) place → IsFilled S (length (without K.cmp gone.now b) + length changes.old) (length changes.new) out.old out.new) }
+    ensures fewer { OnOk result (length changes.new ≤ length changes.old) }
+    ensures reached { OnOk result ((b : List (K × V)) → Some b ≡ slice_get (O.blocks old.now) place → IsReachedBy K.cmp changes.old (without K.cmp gone.now b) → length changes.new < length changes.old) }
+{
+    let mut pairs = Sieve::new(old.segment(place), gone);
+    let mut more = true;
+    while more {
+        more = merge_next::<K, V, N, O, S>(out, changes, &mut pairs, gone, old, place)?;
+    }
+    Ok(())
+}
+
+/// Takes what is first of changes and the pairs of the segment at a place, or both where they have one key, and says whether
+/// there was a pair.
+fn merge_next<K: Clone + Ord + Drop, V: Clone + Drop, N: Drop, O: Old<K, V, N>, const S: usize>(
+    out: &mut Cutter<K, V, N>,
+    changes: &mut Stream<'_, K, Edit<'_, V>>,
+    pairs: &mut Sieve<'_, K, V>,
+    gone: &[Gone<K>],
+    old: &O,
+    place: usize,
+) -> Result<bool, AllocError>
+    requires keys { ClonesAreSame K.is_clone }
+    requires values { ClonesAreSame V.is_clone }
+    requires sorted { IsAscending K.cmp (pairs.old ++ without K.cmp gone.now (pairs_in (drop (place + 1) (O.blocks old.now)))) }
+    requires whole { IsCutting (O.named old.now) K.cmp S (O.blocks old.now) out.old }
+    requires rising { IsAscending K.cmp (given (O.named old.now) out.old ++ amended K.cmp changes.old (pairs.old ++ without K.cmp gone.now (pairs_in (drop (place + 1) (O.blocks old.now))))) }
+    ensures whole { OnOk result (IsCutting (O.named old.now) K.cmp S (O.blocks old.now) out.new) }
+    ensures list { OnOk result (given (O.named old.now) out.new ++ amended K.cmp changes.new (pairs.new ++ without K.cmp gone.now (pairs_in (drop (place + 1) (O.blocks old.now)))) ≡ given (O.named old.now) out.old ++ amended K.cmp changes.old (pairs.old ++ without K.cmp gone.now (pairs_in (drop (place + 1) (O.blocks old.now))))) }
+    ensures sorted { OnOk result (IsAscending K.cmp (pairs.new ++ without K.cmp gone.now (pairs_in (drop (place + 1) (O.blocks old.now))))) }
+    ensures filled { OnOk result (IsFilled S (length pairs.old + length changes.old) (length pairs.new + length changes.new) out.old out.new) }
+    ensures reached { OnOk result (IsReachedBy K.cmp changes.old pairs.old → IsReachedBy K.cmp changes.new pairs.new ⊎ (length changes.new < length changes.old)) }
+    ensures fewer { IfOk result (λ more. more ≡ true → length changes.new + length pairs.new < length changes.old + length pairs.old) }
+    ensures less { OnOk result (length changes.new ≤ length changes.old) }
+    ensures done { IfOk result (λ more. more ≡ false → pairs.new ≡ []) }
+{
+    let _ = gone;
+    let Some((key, value)) = pairs.front() else {
+        return Ok(false);
+    };
+    let Some((changed, to)) = changes.front() else {
+        copy::<K, V, N, O, S>(out, old, key, value)?;
+        pairs.step();
+        return Ok(true);
+    };
+    match changed.cmp(key) {
+        Ordering::Less => {
+            put::<K, V, N, O, S>(out, old, changed, to)?;
+            changes.step();
+        },
+        Ordering::Equal => {
+            put::<K, V, N, O, S>(out, old, changed, to)?;
+            changes.step();
+            pairs.step();
+        },
+        Ordering::Greater => {
+            copy::<K, V, N, O, S>(out, old, key, value)?;
+            pairs.step();
+        },
+    }
+    Ok(true)
+}
+
+/// Gives what the changes that are left leave, behind all pairs of the version.
+fn put_all<K: Clone + Ord + Drop, V: Clone + Drop, N: Drop, O: Old<K, V, N>, const S: usize>(
+    out: &mut Cutter<K, V, N>,
+    changes: &mut Stream<'_, K, Edit<'_, V>>,
+    old: &O,
+) -> Result<(), AllocError>
+    requires keys { ClonesAreSame K.is_clone }
+    requires values { ClonesAreSame V.is_clone }
+    requires whole { IsCutting (O.named old.now) K.cmp S (O.blocks old.now) out.old }
+    requires rising { IsAscending K.cmp (given (O.named old.now) out.old ++ amended K.cmp changes.old []) }
+    ensures whole { OnOk result (IsCutting (O.named old.now) K.cmp S (O.blocks old.now) out.new) }
+    ensures list { OnOk result (given (O.named old.now) out.new ≡ given (O.named old.now) out.old ++ amended K.cmp changes.old []) }
+    ensures filled { OnOk result (IsFilled S (length changes.old) 0 out.old out.new) }
+{
+    while let Some((changed, to)) = changes.front() {
+        put::<K, V, N, O, S>(out, old, changed, to)?;
+        changes.step();
+    }
+    Ok(())
+}
+
+/// Gives the pair that a change leaves, if it leaves one.
+fn put<K: Clone + Ord + Drop, V: Clone + Drop, N: Drop, O: Old<K, V, N>, const S: usize>(
+    out: &mut Cutter<K, V, N>,
+    old: &O,
+    key: &K,
+    to: &Edit<'_, V>,
+) -> Result<(), AllocError>
+    requires keys { ClonesAreSame K.is_clone }
+    requires values { ClonesAreSame V.is_clone }
+    requires whole { IsCutting (O.named old.now) K.cmp S (O.blocks old.now) out.old }
+    requires rising { IsAscending K.cmp (given (O.named old.now) out.old ++ pair_left key.now to.now) }
+    ensures whole { OnOk result (IsCutting (O.named old.now) K.cmp S (O.blocks old.now) out.new) }
+    ensures pairs { OnOk result (given (O.named old.now) out.new ≡ given (O.named old.now) out.old ++ pair_left key.now to.now) }
+    ensures filled { OnOk result (IsFilled S 1 0 out.old out.new) }
+{
+    match to.value() {
+        Some(value) => copy::<K, V, N, O, S>(out, old, key, value),
         None => Ok(()),
     }
 }
 
 /// Gives a clone of a pair.
-fn copy<K: Clone + Ord + Drop, V: Clone + Drop, const S: usize>(
-    out: &mut Cutter<K, V, S>,
+fn copy<K: Clone + Ord + Drop, V: Clone + Drop, N: Drop, O: Old<K, V, N>, const S: usize>(
+    out: &mut Cutter<K, V, N>,
+    old: &O,
     key: &K,
     value: &V,
 ) -> Result<(), AllocError>
     requires keys { ClonesAreSame K.is_clone }
     requires values { ClonesAreSame V.is_clone }
-    requires rising { IsAscending K.cmp (out.old ++ (key.now, value.now) ∷ []) }
-    ensures { OnOk result (out.new ≡ out.old ++ (key.now, value.now) ∷ []) }
+    requires whole { IsCutting (O.named old.now) K.cmp S (O.blocks old.now) out.old }
+    requires rising { IsAscending K.cmp (given (O.named old.now) out.old ++ (key.now, value.now) ∷ []) }
+    ensures whole { OnOk result (IsCutting (O.named old.now) K.cmp S (O.blocks old.now) out.new) }
+    ensures pairs { OnOk result (given (O.named old.now) out.new ≡ given (O.named old.now) out.old ++ (key.now, value.now) ∷ []) }
+    ensures filled { OnOk result (IsFilled S 1 0 out.old out.new) }
 {
-    out.push(key.clone()?, value.clone()?)
+    push::<K, V, N, O, S>(out, old, key.clone()?, value.clone()?)
 }

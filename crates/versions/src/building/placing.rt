@@ -3,29 +3,34 @@
 ghost use Rattle.std.specs.Prelude.{◌≡◌, ◌<◌, ◌≤◌, ◌+◌, ◌∷◌, [], ℕ, Option, None, Some, IfOk, IfErr, IsOk, OnErr, length, sum_by, vec_len, vec_capacity, map};
 ghost use Rattle.sdd_base.specs.Frame.{Keeps, OnlyOf};
 ghost use Rattle.sdd_base.specs.Place.{IsShared, IsSharedCell};
-ghost use Rattle.sdd_base.specs.State.{IsFree, cell_at, placed, with_cell, vacancy};
-ghost use Rattle.sdd_base.specs.Tokens.{kept_slot, shared_cell, shared_slot};
-ghost use Rattle.versions.specs.Placing.{Places, StandsIn, slots_for, given_back};
+ghost use Rattle.sdd_base.specs.State.{IsFree, cell_at, placed, status_at, vacancy, value_at, with_cell, with_status};
+ghost use Rattle.sdd_base.specs.Tokens.{kept_slot, loaded_slot, shared_cell, shared_slot};
+ghost use Rattle.std.specs.List.{All};
+ghost use Rattle.sdd_base.specs.Steps.{times};
+ghost use Rattle.versions.specs.Parts.{blocks_of_parts, made_in, makes};
+ghost use Rattle.versions.specs.Placing.{CanBeShared, HasPlaced, IsPlaceable, IsTakeable, Places, StandsIn, given_back, named_at, slots_for, taken_slots};
 
 use crate::building::built::Built;
-use crate::building::segments::Segments;
+use crate::building::parts::{Part, Segments};
 use crate::directory::Directory;
 use crate::item::Item;
+use crate::segment::Segment;
 use sdd_base::cell::AtomicShared;
 use sdd_base::job::NoJob;
 use sdd_base::owner::{Kept, Shared};
+use sdd_base::pointer::Loaded;
 use sdd_base::status::{Cell, Status};
 use sdd_base::tag::Tag;
 use sdd_base::world::{World, atomic_shared, shared};
-use tree_index::TreeIndex;
 
-/// Places a version: its segments, and then its directory, which owns them. It takes no memory, and succeeds where so
-/// many slots are free as it takes; else nothing has changed, and the version comes back.
+/// Places a version: its new segments, and then its directory, which owns them and those that it takes over. It takes no
+/// memory, and succeeds where so many slots are free as it takes; else nothing has changed, and the version comes back.
+/// Condition: the segments that it takes over are there.
 pub fn place<K: Ord + Drop, V: Drop, const S: usize>(
     w: &mut World<Item<K, V, S>, NoJob>,
     built: Built<K, V, S>,
 ) -> Result<Shared<Item<K, V, S>>, Built<K, V, S>>
-    requires { 0 ≤ length w.old.cells }
+    requires { IsPlaceable K.cmp w.old built }
     ensures placed { IfOk result (λ root. Places K.cmp built (shared_slot root) w.old w.new) }
     ensures room { slots_for built ≤ sum_by vacancy w.old.states → IsOk result }
     ensures back { IfErr result (λ b. b ≡ built) }
@@ -37,11 +42,11 @@ pub fn place<K: Ord + Drop, V: Drop, const S: usize>(
     }
     let (number, segments, owners) = built.into_parts();
     let Segments {
-        trees,
+        parts,
         separators,
         length,
     } = segments;
-    let segments = place_segments(w, trees, owners);
+    let segments = place_parts(w, parts, owners);
     w.laws();
     let directory = Directory {
         number,
@@ -55,29 +60,62 @@ pub fn place<K: Ord + Drop, V: Drop, const S: usize>(
     }
 }
 
-/// Places segments, and keeps their owners.
-fn place_segments<K: Ord + Drop, V: Drop, const S: usize>(
+/// Places new segments and takes the others over, and keeps the owners of all.
+fn place_parts<K: Ord + Drop, V: Drop, const S: usize>(
     w: &mut World<Item<K, V, S>, NoJob>,
-    trees: Vec<TreeIndex<K, V>>,
+    parts: Vec<Part<K, V, Loaded<Item<K, V, S>>>>,
     mut owners: Vec<Kept>,
 ) -> Vec<Kept>
-    requires empty { length owners.items ≡ 0 }
-    requires room { length trees.items ≤ vec_capacity owners }
-    requires free { length trees.items ≤ sum_by vacancy w.old.states }
-    ensures { StandsIn (map kept_slot result.items) (map (λ t. t.pairs) trees.items) w.old w.new }
+    requires empty { owners.items ≡ [] }
+    requires room { length parts.items ≤ vec_capacity owners }
+    requires free { made_in parts.items ≤ sum_by vacancy w.old.states }
+    requires once { (i : ℕ) → times i (taken_slots parts.items) ≤ 1 }
+    requires there { All (IsTakeable w.old) parts.items }
+    ensures { StandsIn (made_in parts.items) (map kept_slot result.items) (blocks_of_parts (named_at (value_at w.old)) parts.items) w.old w.new }
 {
-    for tree in trees {
-        w.laws();
-        let owner = place_segment(w, tree);
+    for part in parts {
+        let owner = place_part(w, part);
         owners.push(owner).unwrap();
     }
     owners
 }
 
+/// Places a new segment, or takes one over.
+fn place_part<K: Ord + Drop, V: Drop, const S: usize>(
+    w: &mut World<Item<K, V, S>, NoJob>,
+    part: Part<K, V, Loaded<Item<K, V, S>>>,
+) -> Kept
+    requires free { makes part ≤ sum_by vacancy w.old.states }
+    requires there { IsTakeable w.old part }
+    ensures { HasPlaced part (kept_slot result) w.old w.new }
+{
+    w.laws();
+    match part {
+        Part::Made(tree) => place_segment(w, tree),
+        Part::Taken(at) => take_over(w, at),
+    }
+}
+
+/// One more owner of a segment that is there.
+fn take_over<K: Ord + Drop, V: Drop, const S: usize>(
+    w: &mut World<Item<K, V, S>, NoJob>,
+    at: Loaded<Item<K, V, S>>,
+) -> Kept
+    requires { (i : ℕ) × (loaded_slot at ≡ Some i) × CanBeShared w.old i }
+    ensures slot { loaded_slot at ≡ Some (kept_slot result) }
+    ensures more { (n : ℕ) × (status_at w.old (kept_slot result) ≡ Status.Shared n) × (w.new ≡ with_status (kept_slot result) (Status.Shared (n + 1)) w.old) }
+    ensures keeps { Keeps w.old w.new }
+{
+    match shared::of_loaded(w, &at) {
+        Some(owner) => Kept::of(owner),
+        None => unreachable!(),
+    }
+}
+
 /// Places a segment where a slot is free.
 fn place_segment<K: Ord + Drop, V: Drop, const S: usize>(
     w: &mut World<Item<K, V, S>, NoJob>,
-    tree: TreeIndex<K, V>,
+    tree: Segment<K, V>,
 ) -> Kept
     requires { 1 ≤ sum_by vacancy w.old.states }
     ensures free { IsFree w.old (kept_slot result) }

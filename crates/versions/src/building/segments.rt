@@ -1,160 +1,335 @@
-//! Lists of pairs cut into segments.
+//! Lists of pairs cut into segments, some of which are taken over from an older version.
 
-ghost use Rattle.std.specs.Prelude.{◌≡◌, ◌≤◌, ◌<◌, ◌++◌, ◌∷◌, [], Some, length, map, option_copied, IfOk, OnOk, OnErr};
+ghost use Rattle.std.specs.Prelude.{◌≡◌, ◌≤◌, ◌<◌, ◌+◌, ◌++◌, ◌∷◌, [], Some, None, List, length, map, option_copied, slice_get, IfOk, OnOk};
 ghost use Rattle.leaf_array.specs.Pairs.{IsAscending};
 ghost use Rattle.leaf_array.specs.Values.{ClonesAreSame};
-ghost use Rattle.versions.specs.Cuts.{IsCut, greatest_key, pairs_in};
+ghost use Rattle.versions.specs.Cuts.{IsCut, IsSeparated, greatest_key, pairs_in};
+ghost use Rattle.versions.specs.Cutting.{IsClosing, IsCutting, IsRow, StaysApart, given, spent, trees};
+ghost use Rattle.versions.specs.Parts.{blocks_of_parts, made_in};
 
+use crate::building::draft::Old;
+use crate::building::parts::{Part, Row, Segments, give};
+use crate::building::stream::Stream;
+use crate::segment::Segment;
 use std::alloc::{AllocError, Global};
-use std::marker::Model;
 use std::mem;
 use tree_index::TreeIndex;
 
-/// The segments of a list, in order, with the greatest key of each but the last.
+/// The pairs that were given so far, by rising keys: in segments that are done, and in a last tree that takes more.
 #[derive(Drop)]
-pub struct Segments<K: Ord, V> {
-    /// The tree of each segment.
-    pub trees: Vec<TreeIndex<K, V>>,
-    /// The greatest key of each segment but the last.
-    pub separators: Vec<K>,
-    /// How many pairs all segments hold.
-    pub length: usize,
+pub(crate) struct Cutter<K: Ord, V, N> {
+    pub(crate) alloc: Global,
+    pub(crate) row: Row<K, V, N>,
+    // where the last segment of the row is one of the older version, its place there
+    pub(crate) held: Option<usize>,
+    pub(crate) tail: Segment<K, V>,
+    pub(crate) length: usize,
 }
 
-/// The pairs that were given so far, by rising keys: in full segments of `S` pairs and a last one.
-#[derive(Drop)]
-pub(crate) struct Cutter<K: Ord, V, const S: usize> {
+/// A cutter that was given no pair, with room for all segments that changes of so many keys and ranges can leave.
+pub(crate) fn begun<K: Ord + Drop, V: Drop, N: Drop, O: Old<K, V, N>, const S: usize>(
     alloc: Global,
-    full: Vec<TreeIndex<K, V>>,
-    separators: Vec<K>,
-    last: TreeIndex<K, V>,
-    length: usize,
+    old: &O,
+    named: usize,
+) -> Result<Cutter<K, V, N>, AllocError>
+    requires { (1 ≤ S) × (S ≤ 225) }
+    ensures whole { IfOk result (λ out. IsCutting (O.named old.now) K.cmp S (O.blocks old.now) out) }
+    ensures empty { IfOk result (λ out. given (O.named old.now) out ≡ []) }
+    ensures none { IfOk result (λ out. (trees out ≡ 0) × (out.row.last ≡ 0)) }
+{
+    let most = most_segments(old.count(), named, S);
+    let parts = Vec::with_capacity(alloc, most)?;
+    let separators = Vec::with_capacity(alloc, most)?;
+    Ok(Cutter {
+        alloc,
+        row: Row {
+            parts,
+            separators,
+            last: 0,
+        },
+        held: None,
+        tail: Segment::new(alloc),
+        length: 0,
+    })
 }
 
-impl<K: Ord, V, const S: usize> Model for Cutter<K, V, S> {
-    ghost use Rattle.std.specs.Prelude.{◌≡◌, ◌++◌, List, length, map};
-    ghost use Rattle.versions.specs.Cuts.{pairs_in};
-    ghost use Rattle.versions.specs.Cutting.{IsCutting};
-
-    ghost Value = { List (K × V) };
-
-    ghost view = { λ c. pairs_in (map (λ t. t.pairs) c.full.items) ++ c.last.pairs };
-
-    ghost invariant = { λ c. IsCutting K.cmp S (map (λ t. t.pairs) c.full.items) c.separators.items c.last.pairs c.length };
+/// How many segments of up to `s` pairs so many changes can leave of so many segments: two more for each change, and since
+/// two neighbours hold more than `s` pairs, no more than all pairs together fill.
+fn most_segments(count: usize, named: usize, s: usize) -> usize
+    requires { s ≤ 225 }
+{
+    let touched = named.saturating_mul(2);
+    let filled = count.saturating_mul(2).saturating_add(touched / (s + 1));
+    count.saturating_add(touched).min(filled.saturating_add(2))
 }
 
-impl<K: Ord, V, const S: usize> Cutter<K, V, S> {
-    /// A cutter that was given no pair. It takes no memory.
-    pub(crate) fn new(alloc: Global) -> Self
-        requires { (1 ≤ S) × (S ≤ 225) }
-        ensures { result ≡ [] }
-    {
-        Cutter {
-            alloc,
-            full: Vec::new(alloc),
-            separators: Vec::new(alloc),
-            last: TreeIndex::new(alloc),
-            length: 0,
-        }
-    }
-
-    /// Takes a pair whose key is above all that were given. `usize::MAX` pairs are the most: one more is answered as
-    /// memory.
-    pub(crate) fn push(&mut self, key: K, value: V) -> Result<(), AllocError>
-    where
-        K: Clone + Drop,
-        V: Drop,
-        requires clones { ClonesAreSame K.is_clone }
-        requires rising { IsAscending K.cmp (self.old ++ (key, value) ∷ []) }
-        ensures { OnOk result (self.new ≡ self.old ++ (key, value) ∷ []) }
-    {
-        let Some(length) = self.length.checked_add(1) else {
+/// Takes a pair whose key is above all that were given. `usize::MAX` pairs are the most: one more is answered as memory.
+pub(crate) fn push<K: Clone + Ord + Drop, V: Drop, N: Drop, O: Old<K, V, N>, const S: usize>(
+    out: &mut Cutter<K, V, N>,
+    old: &O,
+    key: K,
+    value: V,
+) -> Result<(), AllocError>
+    requires clones { ClonesAreSame K.is_clone }
+    requires whole { IsCutting (O.named old.now) K.cmp S (O.blocks old.now) out.old }
+    requires rising { IsAscending K.cmp (given (O.named old.now) out.old ++ (key, value) ∷ []) }
+    ensures whole { OnOk result (IsCutting (O.named old.now) K.cmp S (O.blocks old.now) out.new) }
+    ensures pairs { OnOk result (given (O.named old.now) out.new ≡ given (O.named old.now) out.old ++ (key, value) ∷ []) }
+    ensures spent { OnOk result (spent S out.new ≡ spent S out.old + 1) }
+    ensures some { OnOk result (0 < length out.new.tail.pairs) }
+{
+    let _ = old;
+    let Some(length) = out.length.checked_add(1) else {
+        return Err(AllocError);
+    };
+    if out.tail.len() < S {
+        let Ok(()) = out.tail.push(key, value) else {
             return Err(AllocError);
         };
-        if self.last.len() < S {
-            let Ok(()) = self.last.upsert_sync(key, value) else {
-                return Err(AllocError);
-            };
-            self.length = length;
-            Ok(())
-        } else {
-            let next = single(self.alloc, key, value)?;
-            shut(&mut self.full, &mut self.separators, &mut self.last, next)?;
-            self.length = length;
-            Ok(())
-        }
-    }
-
-    /// The segments of all pairs that were given.
-    pub(crate) fn finish(self) -> Result<Segments<K, V>, AllocError>
-    where
-        K: Drop,
-        V: Drop,
-        ensures cut { IfOk result (λ made. IsCut K.cmp S (map (λ t. t.pairs) made.trees.items) made.separators.items) }
-        ensures list { IfOk result (λ made. pairs_in (map (λ t. t.pairs) made.trees.items) ≡ self) }
-        ensures length { IfOk result (λ made. made.length ≡ length (pairs_in (map (λ t. t.pairs) made.trees.items))) }
-    {
-        let Cutter {
-            alloc: _,
-            mut full,
-            separators,
-            last,
-            length,
-        } = self;
-        if last.is_empty() {
-            return Ok(Segments {
-                trees: full,
-                separators,
-                length,
-            });
-        }
-        full.push(last)?;
-        Ok(Segments {
-            trees: full,
-            separators,
-            length,
-        })
+        out.length = length;
+        Ok(())
+    } else {
+        let next = single(out.alloc, key, value)?;
+        close(out, next)?;
+        out.length = length;
+        Ok(())
     }
 }
 
-/// A tree of one pair.
+/// Takes a segment of the older version over, whose keys are above all that were given.
+pub(crate) fn take<
+    K: Clone + Ord + Drop,
+    V: Clone + Drop,
+    N: Drop,
+    O: Old<K, V, N>,
+    const S: usize,
+>(out: &mut Cutter<K, V, N>, old: &O, place: usize) -> Result<(), AllocError>
+    requires keys { ClonesAreSame K.is_clone }
+    requires values { ClonesAreSame V.is_clone }
+    requires separated { IsSeparated (O.blocks old.now) (O.separators old.now) }
+    requires whole { IsCutting (O.named old.now) K.cmp S (O.blocks old.now) out.old }
+    requires apart { StaysApart (O.named old.now) K.cmp S (O.blocks old.now) place out.old }
+    ensures whole { OnOk result (IsCutting (O.named old.now) K.cmp S (O.blocks old.now) out.new) }
+    ensures pairs { OnOk result ((b : List (K × V)) → slice_get (O.blocks old.now) place ≡ Some b → given (O.named old.now) out.new ≡ given (O.named old.now) out.old ++ b) }
+    ensures trees { OnOk result (trees out.new ≡ trees out.old) }
+    ensures last { OnOk result ((b : List (K × V)) → slice_get (O.blocks old.now) place ≡ Some b → out.new.row.last ≡ length b) }
+{
+    seal::<K, V, N, O, S>(out, old)?;
+    take_over::<K, V, N, O, S>(out, old, place)?;
+    Ok(())
+}
+
+/// Puts a segment of the older version behind those that are done.
+fn take_over<K: Clone + Ord + Drop, V: Drop, N: Drop, O: Old<K, V, N>, const S: usize>(
+    out: &mut Cutter<K, V, N>,
+    old: &O,
+    place: usize,
+) -> Result<(), AllocError>
+    requires keys { ClonesAreSame K.is_clone }
+    requires separated { IsSeparated (O.blocks old.now) (O.separators old.now) }
+    requires within { place < length (O.blocks old.now) }
+    ensures part { OnOk result ((name : N) × (Some (O.named old.now name) ≡ slice_get (O.blocks old.now) place) × (out.new.row.parts.items ≡ out.old.row.parts.items ++ Part.Taken name ∷ [])) }
+    ensures separators { OnOk result ((b : List (K × V)) → Some b ≡ slice_get (O.blocks old.now) place → map Some out.new.row.separators.items ≡ map Some out.old.row.separators.items ++ greatest_key b ∷ []) }
+    ensures last { OnOk result ((b : List (K × V)) → Some b ≡ slice_get (O.blocks old.now) place → (out.new.row.last ≡ length b) × (out.new.length ≡ out.old.length + length b)) }
+    ensures held { OnOk result (out.new.held ≡ Some place) }
+    ensures tail { OnOk result (out.new.tail ≡ out.old.tail) }
+{
+    let tree = old.segment(place);
+    let Some(length) = out.length.checked_add(tree.len()) else {
+        return Err(AllocError);
+    };
+    let key = match greatest_at::<K, V, N, O>(old, place) {
+        Some(key) => key.clone()?,
+        None => return Err(AllocError),
+    };
+    give(&mut out.row, Part::Taken(old.name(place)), key, tree.len())?;
+    out.held = Some(place);
+    out.length = length;
+    Ok(())
+}
+
+/// The segments of all pairs that were given.
+pub(crate) fn finish<
+    K: Clone + Ord + Drop,
+    V: Clone + Drop,
+    N: Drop,
+    O: Old<K, V, N>,
+    const S: usize,
+>(mut out: Cutter<K, V, N>, old: &O) -> Result<Segments<K, V, N>, AllocError>
+    requires keys { ClonesAreSame K.is_clone }
+    requires values { ClonesAreSame V.is_clone }
+    requires whole { IsCutting (O.named old.now) K.cmp S (O.blocks old.now) out }
+    ensures cut { IfOk result (λ made. IsCut K.cmp S (blocks_of_parts (O.named old.now) made.parts.items) made.separators.items) }
+    ensures list { IfOk result (λ made. pairs_in (blocks_of_parts (O.named old.now) made.parts.items) ≡ given (O.named old.now) out) }
+    ensures length { IfOk result (λ made. made.length ≡ length (pairs_in (blocks_of_parts (O.named old.now) made.parts.items))) }
+    ensures made { IfOk result (λ made. made_in made.parts.items ≡ trees out) }
+{
+    seal::<K, V, N, O, S>(&mut out, old)?;
+    let Cutter {
+        alloc: _,
+        row,
+        held: _,
+        tail: _,
+        length,
+    } = out;
+    let Row {
+        parts,
+        mut separators,
+        last: _,
+    } = row;
+    let _greatest = separators.pop();
+    Ok(Segments {
+        parts,
+        separators,
+        length,
+    })
+}
+
+/// Ends the open tree if it has a pair, with the older segment before it where both fit into one.
+fn seal<K: Clone + Ord + Drop, V: Clone + Drop, N: Drop, O: Old<K, V, N>, const S: usize>(
+    out: &mut Cutter<K, V, N>,
+    old: &O,
+) -> Result<(), AllocError>
+    requires keys { ClonesAreSame K.is_clone }
+    requires values { ClonesAreSame V.is_clone }
+    requires whole { IsCutting (O.named old.now) K.cmp S (O.blocks old.now) out.old }
+    ensures row { OnOk result (IsRow (O.named old.now) S out.new.row) }
+    ensures pairs { OnOk result (pairs_in (blocks_of_parts (O.named old.now) out.new.row.parts.items) ≡ given (O.named old.now) out.old) }
+    ensures made { OnOk result (made_in out.new.row.parts.items ≡ trees out.old) }
+    ensures last { OnOk result (0 < length out.old.tail.pairs → length out.old.tail.pairs ≤ out.new.row.last) }
+    ensures same { OnOk result (length out.old.tail.pairs ≡ 0 → out.new.row.last ≡ out.old.row.last) }
+    ensures tail { OnOk result (out.new.tail.pairs ≡ []) }
+    ensures length { OnOk result (out.new.length ≡ out.old.length) }
+{
+    if out.tail.is_empty() {
+        return Ok(());
+    }
+    join::<K, V, N, O, S>(out, old)?;
+    let next = Segment::new(out.alloc);
+    close(out, next)?;
+    Ok(())
+}
+
+/// Brings the older segment that is held into the open tree, where both fit into one.
+fn join<K: Clone + Ord + Drop, V: Clone + Drop, N: Drop, O: Old<K, V, N>, const S: usize>(
+    out: &mut Cutter<K, V, N>,
+    old: &O,
+) -> Result<(), AllocError>
+    requires keys { ClonesAreSame K.is_clone }
+    requires values { ClonesAreSame V.is_clone }
+    requires whole { IsCutting (O.named old.now) K.cmp S (O.blocks old.now) out.old }
+    requires some { 0 < length out.old.tail.pairs }
+    ensures closing { OnOk result (IsClosing (O.named old.now) S out.new) }
+    ensures pairs { OnOk result (given (O.named old.now) out.new ≡ given (O.named old.now) out.old) }
+    ensures made { OnOk result (made_in out.new.row.parts.items ≡ made_in out.old.row.parts.items) }
+    ensures tail { OnOk result (length out.old.tail.pairs ≤ length out.new.tail.pairs) }
+    ensures length { OnOk result (out.new.length ≡ out.old.length) }
+{
+    let place = match out.held {
+        None => return Ok(()),
+        Some(place) => place,
+    };
+    if S - out.tail.len() < out.row.last {
+        return Ok(());
+    }
+    absorb(out.alloc, &mut out.tail, old.segment(place))?;
+    let _part = out.row.parts.pop();
+    let _greatest = out.row.separators.pop();
+    Ok(())
+}
+
+/// Puts the open tree behind the segments that are done, and goes on with another one.
+fn close<K: Clone + Ord + Drop, V: Drop, N: Drop>(
+    out: &mut Cutter<K, V, N>,
+    next: Segment<K, V>,
+) -> Result<(), AllocError>
+    requires { ClonesAreSame K.is_clone }
+    ensures parts { OnOk result (out.new.row.parts.items ≡ out.old.row.parts.items ++ Part.Made out.old.tail ∷ []) }
+    ensures separators { OnOk result (map Some out.new.row.separators.items ≡ map Some out.old.row.separators.items ++ greatest_key out.old.tail.pairs ∷ []) }
+    ensures last { OnOk result (out.new.row.last ≡ length out.old.tail.pairs) }
+    ensures held { OnOk result (out.new.held ≡ None) }
+    ensures tail { OnOk result (out.new.tail ≡ next) }
+    ensures length { OnOk result (out.new.length ≡ out.old.length) }
+{
+    let key = match greatest(out.tail.tree()) {
+        Some(key) => key.clone()?,
+        None => return Err(AllocError),
+    };
+    let size = out.tail.len();
+    let tree = mem::replace(&mut out.tail, next);
+    give(&mut out.row, Part::Made(tree), key, size)?;
+    out.held = None;
+    Ok(())
+}
+
+/// Puts clones of a tree's pairs before those of a segment.
+fn absorb<K: Clone + Ord + Drop, V: Clone + Drop>(
+    alloc: Global,
+    into: &mut Segment<K, V>,
+    tree: &TreeIndex<K, V>,
+) -> Result<(), AllocError>
+    requires keys { ClonesAreSame K.is_clone }
+    requires values { ClonesAreSame V.is_clone }
+    requires rising { IsAscending K.cmp (tree.now.pairs ++ into.old.pairs) }
+    requires room { length tree.now.pairs + length into.old.pairs ≤ 225 }
+    ensures { OnOk result (into.new.pairs ≡ tree.now.pairs ++ into.old.pairs) }
+{
+    let mut both = Segment::copied(alloc, tree)?;
+    append(&mut both, into.tree())?;
+    *into = both;
+    Ok(())
+}
+
+/// Puts clones of a tree's pairs behind those of a segment.
+fn append<K: Clone + Ord + Drop, V: Clone + Drop>(
+    into: &mut Segment<K, V>,
+    tree: &TreeIndex<K, V>,
+) -> Result<(), AllocError>
+    requires keys { ClonesAreSame K.is_clone }
+    requires values { ClonesAreSame V.is_clone }
+    requires rising { IsAscending K.cmp (into.old.pairs ++ tree.now.pairs) }
+    requires room { length into.old.pairs + length tree.now.pairs ≤ 225 }
+    ensures { OnOk result (into.new.pairs ≡ into.old.pairs ++ tree.now.pairs) }
+{
+    let mut left = Stream::new(tree);
+    while let Some((key, value)) = left.front() {
+        let Ok(()) = into.push(key.clone()?, value.clone()?) else {
+            return Err(AllocError);
+        };
+        left.step();
+    }
+    Ok(())
+}
+
+/// A segment of one pair.
 fn single<K: Clone + Ord + Drop, V: Drop>(
     alloc: Global,
     key: K,
     value: V,
-) -> Result<TreeIndex<K, V>, AllocError>
+) -> Result<Segment<K, V>, AllocError>
     requires { ClonesAreSame K.is_clone }
     ensures { IfOk result (λ tree. tree.pairs ≡ (key, value) ∷ []) }
 {
-    let mut tree = TreeIndex::new(alloc);
-    match tree.upsert_sync(key, value) {
+    let mut tree = Segment::new(alloc);
+    match tree.push(key, value) {
         Ok(()) => Ok(tree),
         Err(_) => Err(AllocError),
     }
 }
 
-/// Puts the last segment behind the full ones and its greatest key behind the separators, and goes on with another
-/// one. Where memory is refused all stay as they were.
-fn shut<K: Clone + Ord + Drop, V: Drop>(
-    full: &mut Vec<TreeIndex<K, V>>,
-    separators: &mut Vec<K>,
-    last: &mut TreeIndex<K, V>,
-    next: TreeIndex<K, V>,
-) -> Result<(), AllocError>
-    requires { ClonesAreSame K.is_clone }
-    ensures full { OnOk result (full.new.items ≡ full.old.items ++ last.old ∷ []) }
-    ensures separators { OnOk result (map Some separators.new.items ≡ map Some separators.old.items ++ greatest_key last.old.pairs ∷ []) }
-    ensures next { OnOk result (last.new ≡ next) }
-    ensures refused { OnErr result ((full.new.items ≡ full.old.items) × (separators.new.items ≡ separators.old.items) × (last.new ≡ last.old)) }
+/// The greatest key of the segment at a place: of each but the last, its separator.
+pub(crate) fn greatest_at<'o, K: Ord, V: 'o, N: 'o, O: Old<K, V, N>>(
+    old: &'o O,
+    place: usize,
+) -> Option<&'o K>
+    requires separated { IsSeparated (O.blocks old.now) (O.separators old.now) }
+    requires within { place < length (O.blocks old.now) }
+    ensures { (b : List (K × V)) → Some b ≡ slice_get (O.blocks old.now) place → option_copied result ≡ greatest_key b }
 {
-    let greatest = match greatest(last) {
-        Some(key) => key.clone()?,
-        None => return Err(AllocError),
-    };
-    full.reserve(1)?;
-    separators.push(greatest)?;
-    full.push_reserved(mem::replace(last, next));
-    Ok(())
+    match old.separators().get(place) {
+        Some(key) => Some(key),
+        None => greatest(old.segment(place)),
+    }
 }
 
 /// The greatest key of a tree.

@@ -1,6 +1,6 @@
 //! What lends the segments of versions.
 
-ghost use Rattle.std.specs.Prelude.{◌≡◌, List};
+ghost use Rattle.std.specs.Prelude.{◌≡◌, ◌≤◌, List};
 
 use crate::item::Item;
 use sdd_base::job::NoJob;
@@ -19,10 +19,11 @@ pub trait Trees<K: Ord, V> {
     /// The pairs of an owner's segment.
     ghost pairs: { Self → Self.Owner → List (K × V) };
 
-    /// The tree of an owner's segment. Condition: it is one.
+    /// The tree of an owner's segment, whose depth is at most 1. Condition: it is one.
     fn tree<'a>(&'a self, at: &'a Self::Owner) -> &'a TreeIndex<K, V>
         requires { has self.now at.now }
-        ensures { result.now.pairs ≡ pairs self.now at.now };
+        ensures pairs { result.now.pairs ≡ pairs self.now at.now }
+        ensures flat { result.now.depth ≤ 1 };
 }
 
 /// A `World` lends what stands in the slot of an owner.

@@ -1,6 +1,6 @@
 //! A version to be read, whatever lends its segments.
 
-ghost use Rattle.std.specs.Prelude.{◌≡◌, ◌<◌, ◌^◌, ℕ, None, Some, MatchOption, length, slice_get};
+ghost use Rattle.std.specs.Prelude.{◌≡◌, ◌<◌, ◌≤◌, ◌+◌, ◌*◌, ◌-◌, ◌^◌, [], ℕ, None, Some, MatchOption, length, slice_get};
 ghost use Rattle.std.specs.BTreeMap.{is_at};
 ghost use Rattle.std.specs.Map.{lookup_entry};
 ghost use Rattle.std.specs.Range.Bound.{bound_map};
@@ -17,7 +17,7 @@ use crate::read::walking::Walk;
 use std::cmp::Ordering;
 use std::marker::{Model, PhantomData};
 use std::ops::Bound;
-use tree_index::TreeIndex;
+use tree_index::{Steps, TreeIndex};
 
 /// A version to be read: its directory, and what lends its segments.
 ///
@@ -98,10 +98,25 @@ impl<'a, K: Ord, V, W: Trees<K, V>> VersionView<'a, K, V, W> {
     pub fn get(&self, key: &K) -> Option<(&'a K, &'a V)>
         ensures { MatchOption result (lookup_entry (is_at (K.cmp key.now)) (pairs_in self.now) ≡ None) (λ e. lookup_entry (is_at (K.cmp key.now)) (pairs_in self.now) ≡ Some (e.0.now, e.1.now)) }
     {
+        let mut steps = Steps::new();
+        self.get_counted(key, &mut steps)
+    }
+
+    /// The same, with its comparisons counted: at most one for each binary digit of the number of segments, and
+    /// thirty more. There is none where there is no segment.
+    #[inline]
+    pub fn get_counted(&self, key: &K, steps: &mut Steps) -> Option<(&'a K, &'a V)>
+        ensures pair { MatchOption result (lookup_entry (is_at (K.cmp key.now)) (pairs_in self.now) ≡ None) (λ e. lookup_entry (is_at (K.cmp key.now)) (pairs_in self.now) ≡ Some (e.0.now, e.1.now)) }
+        ensures cost { (digits : ℕ) → length self.now < 2 ^ digits → steps.new.count ≤ steps.old.count + 30 + digits }
+        ensures raised { steps.old.count ≤ steps.new.count }
+        ensures none { pairs_in self.now ≡ [] → steps.new.count ≡ steps.old.count }
+    {
+        self.laws();
         if self.segment_count() == 0 {
             return None;
         }
-        self.tree(self.around(key)).peek_entry(key)
+        self.tree(self.around_counted(key, steps))
+            .peek_entry_counted(key, steps)
     }
 
     /// A cursor over the pairs within two bounds. Reversed bounds contain no pair. It takes no memory.
@@ -127,7 +142,8 @@ impl<'a, K: Ord, V, W: Trees<K, V>> VersionView<'a, K, V, W> {
     /// The tree of a segment.
     pub(crate) fn tree(&self, place: usize) -> &'a TreeIndex<K, V>
         requires { place < length self.now }
-        ensures { slice_get self.now place ≡ Some result.now.pairs }
+        ensures pairs { slice_get self.now place ≡ Some result.now.pairs }
+        ensures flat { result.now.depth ≤ 1 }
     {
         self.source.tree(&self.directory.segments[place])
     }
@@ -139,17 +155,39 @@ impl<'a, K: Ord, V, W: Trees<K, V>> VersionView<'a, K, V, W> {
     {
         place_of(&self.directory.separators, key)
     }
+
+    /// The same, by at most one comparison for each binary digit of the number of segments, which are counted.
+    #[inline]
+    fn around_counted(&self, key: &K, steps: &mut Steps) -> usize
+        requires { 0 < length self.now }
+        ensures place { IsAround K.cmp key.now self.now result }
+        ensures cost { (digits : ℕ) → length self.now < 2 ^ digits → steps.new.count ≤ steps.old.count + digits }
+        ensures raised { steps.old.count ≤ steps.new.count }
+    {
+        place_of_counted(&self.directory.separators, key, steps)
+    }
 }
 
 /// The segment whose keys are the last ones that the key may be among.
-fn place_of<K: Ord>(separators: &[K], key: &K) -> usize
+#[inline]
+pub(crate) fn place_of<K: Ord>(separators: &[K], key: &K) -> usize
     ensures { IsPlaceOf K.cmp key.now separators.now result }
+{
+    let mut steps = Steps::new();
+    place_of_counted(separators, key, &mut steps)
+}
+
+/// The same, by comparisons that are counted, each of which halves what is left.
+fn place_of_counted<K: Ord>(separators: &[K], key: &K, steps: &mut Steps) -> usize
+    ensures place { IsPlaceOf K.cmp key.now separators.now result }
+    ensures cost { 2 ^ (steps.new.count - steps.old.count) ≤ 2 * length separators.now + 1 }
+    ensures raised { steps.old.count ≤ steps.new.count }
 {
     let mut low = 0;
     let mut high = separators.len();
     while low < high {
         let middle = low + (high - low) / 2;
-        if separators[middle].cmp(key) == Ordering::Less {
+        if steps.compare(&separators[middle], key) == Ordering::Less {
             low = middle + 1;
         } else {
             high = middle;

@@ -1,6 +1,6 @@
 //! Versions in a place of one thread.
 
-ghost use Rattle.std.specs.Prelude.{◌≡◌, ◌<◌, ◌^◌, ℕ, List, None, Some, MatchOption, length};
+ghost use Rattle.std.specs.Prelude.{◌≡◌, ◌<◌, ◌≤◌, ◌+◌, ◌^◌, [], ℕ, List, None, Some, MatchOption, length};
 ghost use Rattle.std.specs.BTreeMap.{is_at};
 ghost use Rattle.std.specs.Map.{lookup_entry};
 ghost use Rattle.std.specs.Range.Bound.{bound_map};
@@ -9,6 +9,7 @@ ghost use Rattle.sdd_base.specs.State.{value_at};
 ghost use Rattle.sdd_base.specs.Tokens.{loaded_slot, shared_slot};
 ghost use Rattle.tree_index.specs.Proximity.{IsLocated};
 ghost use Rattle.tree_index.specs.declared.cursor.End.TheVariants.{Unopened};
+ghost use Rattle.versions.specs.Items.{slots_of};
 ghost use Rattle.versions.specs.Nearby.{as_proximity};
 ghost use Rattle.versions.specs.Placing.{HasVersion};
 ghost use Rattle.versions.specs.Versions.{IsVersion, blocks_of, list_of};
@@ -23,6 +24,7 @@ use sdd_base::owner::{Kept, Shared};
 use sdd_base::pointer::Loaded;
 use sdd_base::world::{World, shared};
 use std::ops::Bound;
+use tree_index::Steps;
 
 /// The directory of a version that has an owner.
 pub fn version<'w, K: Ord, V, const S: usize>(
@@ -33,6 +35,7 @@ pub fn version<'w, K: Ord, V, const S: usize>(
     requires version { (n : ℕ) × (ps : List (K × V)) × HasVersion K.cmp w.now (shared_slot root.now) n ps }
     ensures version { IsVersion K.cmp (value_at w.now) result.now }
     ensures is { (n : ℕ) (ps : List (K × V)) → HasVersion K.cmp w.now (shared_slot root.now) n ps → (list_of (value_at w.now) result.now ≡ ps) × (result.now.number ≡ n) }
+    ensures stands { value_at w.now (shared_slot root.now) ≡ Some (Item.Directory result.now) }
 {
     match shared::as_ref(w, root).directory() {
         Some(directory) => directory,
@@ -79,7 +82,24 @@ pub fn look_up<'a, K: Ord, V, const S: usize>(
     requires { IsVersion K.cmp (value_at w.now) dir.now }
     ensures { MatchOption result (lookup_entry (is_at (K.cmp key.now)) (list_of (value_at w.now) dir.now) ≡ None) (λ e. lookup_entry (is_at (K.cmp key.now)) (list_of (value_at w.now) dir.now) ≡ Some (e.0.now, e.1.now)) }
 {
-    view_of(w, dir).get(key)
+    let mut steps = Steps::new();
+    look_up_counted(w, dir, key, &mut steps)
+}
+
+/// The same, with its comparisons counted: [`VersionView::get_counted`].
+pub fn look_up_counted<'a, K: Ord, V, const S: usize>(
+    w: &'a World<Item<K, V, S>, NoJob>,
+    dir: &'a Directory<K, Kept>,
+    key: &K,
+    steps: &mut Steps,
+) -> Option<(&'a K, &'a V)>
+    requires { IsVersion K.cmp (value_at w.now) dir.now }
+    ensures pair { MatchOption result (lookup_entry (is_at (K.cmp key.now)) (list_of (value_at w.now) dir.now) ≡ None) (λ e. lookup_entry (is_at (K.cmp key.now)) (list_of (value_at w.now) dir.now) ≡ Some (e.0.now, e.1.now)) }
+    ensures cost { (digits : ℕ) → length (slots_of dir.now) < 2 ^ digits → steps.new.count ≤ steps.old.count + 30 + digits }
+    ensures raised { steps.old.count ≤ steps.new.count }
+    ensures none { list_of (value_at w.now) dir.now ≡ [] → steps.new.count ≡ steps.old.count }
+{
+    view_of(w, dir).get_counted(key, steps)
 }
 
 /// How many pairs the list of a version has: [`VersionView::len`].

@@ -1,14 +1,15 @@
 //! The store of one thread.
 
-ghost use Rattle.std.specs.Prelude.{◌≡◌, ◌≤◌, ◌<◌, ◌+◌, ◌-◌, ◌^◌, ℕ, List, Option, None, Some, IfOk, IfErr, IfSome, IfNone, IsSome, IsTrue, ◌↔◌, OnOk, OnErr, length, replicate, slice_get, slice_set};
+ghost use Rattle.std.specs.Prelude.{◌≡◌, ◌≤◌, ◌<◌, ◌+◌, ◌-◌, ◌*◌, ◌^◌, ℕ, List, Option, None, Some, IfOk, IfSome, IfNone, IsErrOf, IsSome, IsTrue, ◌↔◌, OnOk, OnErr, length, replicate, slice_get, slice_set};
 ghost use Rattle.std.specs.List.{All};
 ghost use Rattle.leaf_array.specs.Values.{ClonesAreSame};
 ghost use Rattle.sdd_base.specs.Passing.{slot_kept};
 ghost use Rattle.sdd_base.specs.State.{cell_at, value_at};
 ghost use Rattle.sdd_base.specs.Tokens.{shared_cell};
 ghost use Rattle.versions.specs.Cuts.{pairs_in};
-ghost use Rattle.versions.specs.Placing.{slots_for};
-ghost use Rattle.versions.specs.Sizes.{IsSized, room_for};
+ghost use Rattle.versions.specs.Items.{slots_of};
+ghost use Rattle.versions.specs.Placing.{CanBeShared};
+ghost use Rattle.versions.specs.Sizes.{IsSized, room_for, segments_for};
 ghost use Rattle.versions.specs.Store.{Version, IsKeptHere, IsStore, no_version, version_in};
 ghost use Rattle.versions.specs.Versions.{IsVersion, list_of};
 ghost use Rattle.versions.specs.Writes.{after_writes, replies_to};
@@ -55,6 +56,15 @@ pub struct LocalStore<K: Ord, V, const S: usize> {
     readers: Vec<Option<Opened<K, V, S>>>,
     // the places without a reader
     free: Vec<usize>,
+}
+
+/// Why a store refused writes. It is as it was before.
+#[derive(Clone, Copy, Debug, PartialEq, Eq)]
+pub enum WriteRefused {
+    /// A growth or a clone was refused.
+    Memory,
+    /// Too few slots are free for the version that the writes leave.
+    NoSlot,
 }
 
 /// Invariant: specs/Store.antt, IsStore: the versions of the root and of readers are whole, and nothing else is owned from
@@ -154,7 +164,8 @@ impl<K: Clone + Ord, V: Clone, const S: usize> LocalStore<K, V, S> {
     /// The version that the reader of a place has.
     pub fn reader(&self, place: usize) -> LocalView<'_, K, V, S>
         requires { (v : Version K V) × (slice_get self.now.readers place ≡ Some (Some v)) }
-        ensures { (v : Version K V) → slice_get self.now.readers place ≡ Some (Some v) → pairs_in result ≡ v.pairs }
+        ensures pairs { (v : Version K V) → slice_get self.now.readers place ≡ Some (Some v) → pairs_in result ≡ v.pairs }
+        ensures few { length result ≤ segments_for S (length (pairs_in result)) }
     {
         view_of(&self.world, read_at(&self.world, &self.readers, place))
     }
@@ -182,40 +193,43 @@ impl<K: Clone + Ord, V: Clone, const S: usize> LocalStore<K, V, S> {
         }
     }
 
-    /// The version that writes make of the present one, and what they are told; refused where memory is. Nothing is
-    /// placed yet.
-    pub fn build(
-        &self,
+    /// Makes the writes on the present version, in order: the version that they leave is the present one afterwards, under
+    /// the next number, and what each write was told is answered. It is built beside the place first, then placed whole,
+    /// and then named by the root; where one of these is refused, nothing has changed.
+    ///
+    /// `NoSlot` is answered only where fewer slots are free than a version of so many pairs may take, and, for `w` writes,
+    /// fewer than `2 * w + 1`: segments that no write touches are taken over.
+    pub fn write(
+        &mut self,
         alloc: Global,
         writes: &[Write<K, V>],
-    ) -> Result<(Built<K, V, S>, Vec<Reply>), AllocError>
+    ) -> Result<Vec<Reply>, WriteRefused>
         requires size { (1 ≤ S) × (S ≤ 225) }
-        requires last { self.now.present.number < 2 ^ 64 - 1 }
+        requires last { self.old.present.number < 2 ^ 64 - 1 }
         requires keys { ClonesAreSame K.is_clone }
         requires values { ClonesAreSame V.is_clone }
-        ensures number { IfOk result (λ made. made.0.number ≡ self.now.present.number + 1) }
-        ensures list { IfOk result (λ made. pairs_in made.0.blocks ≡ after_writes K.cmp writes.now self.now.present.pairs) }
-        ensures replies { IfOk result (λ made. made.1.items ≡ replies_to K.cmp writes.now self.now.present.pairs) }
+        ensures written { OnOk result (self.new ≡ record self.old { present = record { number = self.old.present.number + 1; pairs = after_writes K.cmp writes.now self.old.present.pairs }; used = self.new.used }) }
+        ensures replies { IfOk result (λ told. told.items ≡ replies_to K.cmp writes.now self.old.present.pairs) }
+        ensures room { OnOk result (self.new.used ≤ self.old.used + room_for S (length (after_writes K.cmp writes.now self.old.present.pairs))) }
+        ensures few { OnOk result (self.new.used ≤ self.old.used + (2 * length writes.now + 1)) }
+        ensures refused { OnErr result (self.new ≡ self.old) }
+        ensures full { IsErrOf result WriteRefused.NoSlot → self.old.slots < self.old.used + room_for S (length (after_writes K.cmp writes.now self.old.present.pairs)) }
+        ensures short { IsErrOf result WriteRefused.NoSlot → self.old.slots < self.old.used + (2 * length writes.now + 1) }
     {
-        build(alloc, &self.world, present(&self.world, &self.root), writes)
-    }
-
-    /// Makes a version the present one, where so many slots are free as it takes; else it comes back. It takes no memory.
-    pub fn publish(&mut self, built: Built<K, V, S>) -> Result<(), Built<K, V, S>>
-        ensures published { OnOk result (self.new ≡ record self.old { present = record { number = built.number; pairs = pairs_in built.blocks }; used = self.old.used + slots_for built }) }
-        ensures back { IfErr result (λ b. b ≡ built) }
-        ensures refused { OnErr result ((self.new ≡ self.old) × (self.old.slots < self.old.used + slots_for built)) }
-        ensures few { slots_for built ≤ room_for S (length (pairs_in built.blocks)) }
-    {
+        let older = present(&self.world, &self.root);
+        let (built, replies) = match build(alloc, &self.world, older, writes) {
+            Ok(made) => made,
+            Err(AllocError) => return Err(WriteRefused::Memory),
+        };
         // what is asked here tells the proof how few slots a version takes
         let _slots = built.slots();
         let version = match place(&mut self.world, built) {
             Ok(version) => version,
-            Err(built) => return Err(built),
+            Err(_built) => return Err(WriteRefused::NoSlot),
         };
         self.world.laws();
         publish(&mut self.world, &self.root, version, self.readers.len());
-        Ok(())
+        Ok(replies)
     }
 
     /// Reclaims versions that nobody has, by eight accelerated guards of the writer: without readers, all but the present
@@ -265,6 +279,7 @@ fn present<'w, K: Ord, V, const S: usize>(
     requires { (readers : List (Option (Opened K V S))) × IsStore K.cmp w.now (shared_cell root.now) readers }
     ensures version { IsVersion K.cmp (value_at w.now) result.now }
     ensures is { record { number = result.now.number; pairs = list_of (value_at w.now) result.now } ≡ version_in w.now (slot_kept (cell_at w.now (shared_cell root.now))) }
+    ensures shared { All (CanBeShared w.now) (slots_of result.now) }
 {
     match atomic_shared::as_ref(w, root) {
         Some(item) => match item.directory() {

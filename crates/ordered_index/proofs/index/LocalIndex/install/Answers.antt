@@ -1,53 +1,85 @@
-use Rattle.std.proofs.Common.{◌+◌, [], ◌∷◌, ◌++◌, length, refl, sym, ap, ◌∙◌, subst, arith}
-use Rattle.versions.specs.Cuts.{pairs_in}
-use Rattle.versions.specs.Placing.{slots_for}
+use Rattle.std.proofs.Common.{◌+◌, ◌*◌, ◌<◌, ◌≤◌, Err, [], ◌∷◌, ◌++◌, length, refl, sym, ap, ◌∙◌, subst, arith}
+use Rattle.versions.specs.Sizes.{room_for}
 use Rattle.versions.specs.Writes.{after_writes, replies_to}
 use Rattle.ordered_index.specs.Invariant.{state_of}
-use Rattle.versions.specs.Sizes.{room_for}
-use Rattle.ordered_index.specs.State.{MayAccept, State, number_of, present}
-use Rattle.versions.specs.Store.{Store}
+use Rattle.ordered_index.specs.State.{MayAccept, State, present}
 use Rattle.ordered_index.specs.declared.transaction.Transaction.{Transaction}
-use Rattle.ordered_index.proofs.Runs.{kept_append}
+use Rattle.ordered_index.proofs.Runs.{kept_append, length-replies, present_number, present_pairs}
 use Rattle.ordered_index.proofs.index.LocalIndex.install.Goals as goal
 
-pub returns-in_default-from_slice-clause-refused : goal.returns-in_default-from_slice-clause-refused
-returns-in_default-from_slice-clause-refused g c = record {
+pub returns-in_default-clause-refused : goal.returns-in_default-clause-refused
+returns-in_default-clause-refused g c = record {
   may = c.requires.accepted;
   given_back = refl;
   unchanged = rw c.reserve.ensures.items c.self.view_is;
 }
 
-pub returns-in_default-publish-clause-refused : goal.returns-in_default-publish-clause-refused
-returns-in_default-publish-clause-refused g c =
-    let few = c.publish.ensures.few in
-    let list = ap (λ ps. room_for g.row.S (length ps)) c.requires.list in
+pub returns-in-Err-Memory-clause-refused : goal.returns-in-Err-Memory-clause-refused
+returns-in-Err-Memory-clause-refused g c = record {
+  may = c.requires.accepted;
+  given_back = refl;
+  unchanged = rw (c.in-Err-Memory.ensures.refused, c.reserve.ensures.items) c.self.view_is;
+}
+
+pub returns-in-Err-NoSlot-clause-refused : goal.returns-in-Err-NoSlot-clause-refused
+returns-in-Err-NoSlot-clause-refused g c =
+    let store = c.self.inside.store in
+    let pairs = present_pairs g.K.Ord.cmp c.self.invariant ∙ ap (λ (x : State _ _). present g.K.Ord.cmp x) c.self.view_is in
+    let room = ap (λ ws. room_for g.row.S (length (after_writes g.K.Ord.cmp ws store.present.pairs))) c.as_slice.ensures.value ∙ ap (λ ps. room_for g.row.S (length (after_writes g.K.Ord.cmp c.args.writes.items ps))) pairs in
     let slots = ap (λ (x : State _ _). x.slots) c.self.view_is in
     let used = ap (λ (x : State _ _). x.used) c.self.view_is in
-    let none = c.in_default-publish.ensures.refused in
-    let less = none.1 in
+    let full = c.in-Err-NoSlot.ensures.full (ap (λ x. Err x) c.in-Err-NoSlot.field-0-is) in
     record {
-      may = (c.requires.accepted, omega (arith, less, few, list, slots, used));
+      may = (c.requires.accepted, omega (arith, full, room, slots, used));
       given_back = refl;
-      unchanged = rw (none.0, c.reserve.ensures.items) c.self.view_is;
+      unchanged = rw (c.in-Err-NoSlot.ensures.refused, c.reserve.ensures.items) c.self.view_is;
     }
+
+pub returns-in-Err-NoSlot-clause-short : goal.returns-in-Err-NoSlot-clause-short
+returns-in-Err-NoSlot-clause-short g c = λ e.
+    let slots = ap (λ (x : State _ _). x.slots) c.self.view_is in
+    let used = ap (λ (x : State _ _). x.used) c.self.view_is in
+    let long = ap length c.as_slice.ensures.value in
+    let short = c.in-Err-NoSlot.ensures.short (ap (λ x. Err x) c.in-Err-NoSlot.field-0-is) in
+    omega (arith, short, long, slots, used)
+
+-- there is room for as many replies as writes
+pub copied_replies-replies-requires-clause-fits : goal.copied_replies-replies-requires-clause-fits
+copied_replies-replies-requires-clause-fits g c =
+    let copied = ap length c.as_slice-2.ensures.value in
+    let told = ap length c.in-Ok-write.ensures.replies in
+    let each = length-replies g.K.Ord.cmp c.as_slice.result.now c.self.inside.store.present.pairs in
+    let long = ap length c.as_slice.ensures.value in
+    let fits = c.requires.fits in
+    omega (arith, copied, told, each, long, fits)
 
 pub invariant_of-self-2 : goal.invariant_of-self-2
 invariant_of-self-2 g c =
-    let prepared = c.args.prepared in
-    let before : State _ _ = state_of c.self.inside.store c.self.inside.history.items c.self.inside.last in
-    let t : Transaction _ _ = record { reads = prepared.reads; writes = c.from_vec.result; replies = c.from_vec-2.result } in
+    let store = c.self.inside.store in
+    let before : State _ _ = state_of store c.self.inside.history.items c.self.inside.last in
+    let t : Transaction _ _ = record { reads = c.args.prepared.reads; writes = c.from_vec.result; replies = c.from_vec-2.result } in
+    let written = c.as_slice.ensures.value ∙ sym c.from_vec.ensures in
+    let pairs = present_pairs g.K.Ord.cmp c.self.invariant in
     let longer = c.push_reserved.ensures.items ∙ ap (λ ts. ts ++ t ∷ []) c.reserve.ensures.items in
-    let kept = kept_append g.K.Ord.cmp c.self.invariant c.publish.new.self t (record { number = prepared.built.number; pairs = pairs_in prepared.built.blocks }) (c.self.inside.store.used + slots_for prepared.built) c.in-Ok-publish.ensures.published
-    (c.requires.number ∙ ap (λ (x : State _ _). number_of x + 1) (sym c.self.view_is))
-    (c.requires.list ∙ ap (λ (x : State _ _). after_writes g.K.Ord.cmp c.args.writes.items (present g.K.Ord.cmp x)) (sym c.self.view_is) ∙ ap (λ ws. after_writes g.K.Ord.cmp ws (present g.K.Ord.cmp before)) (sym c.from_vec.ensures))
-    (subst (λ (x : State _ _). MayAccept g.K.Ord.cmp x prepared.reads) (sym c.self.view_is) c.requires.accepted)
-    (c.from_vec-2.ensures ∙ c.in-Ok-from_slice.ensures.items ∙ c.as_slice.ensures.value ∙ c.requires.replies ∙ ap (λ (x : State _ _). replies_to g.K.Ord.cmp c.args.writes.items (present g.K.Ord.cmp x)) (sym c.self.view_is) ∙ ap (λ ws. replies_to g.K.Ord.cmp ws (present g.K.Ord.cmp before)) (sym c.from_vec.ensures)) in
+    let kept = kept_append g.K.Ord.cmp c.self.invariant c.write.new.self t (record { number = store.present.number + 1; pairs = after_writes g.K.Ord.cmp c.as_slice.result.now store.present.pairs }) c.write.new.self.used c.in-Ok-write.ensures.written
+    (ap (λ n. n + 1) (present_number g.K.Ord.cmp c.self.invariant))
+    (ap (λ ws. after_writes g.K.Ord.cmp ws store.present.pairs) written ∙ ap (λ ps. after_writes g.K.Ord.cmp c.from_vec.result ps) pairs)
+    (subst (λ (x : State _ _). MayAccept g.K.Ord.cmp x c.args.prepared.reads) (sym c.self.view_is) c.requires.accepted)
+    (c.from_vec-2.ensures ∙ c.copied_replies-replies.ensures ∙ c.as_slice-2.ensures.value ∙ c.in-Ok-write.ensures.replies ∙ ap (λ ws. replies_to g.K.Ord.cmp ws store.present.pairs) written ∙ ap (λ ps. replies_to g.K.Ord.cmp c.from_vec.result ps) pairs) in
     rw longer kept
 
 pub returns-clause-room : goal.returns-clause-room
 returns-clause-room g c =
-    let few = c.publish.ensures.few in
-    let list = ap (λ ps. room_for g.row.S (length ps)) c.requires.list in
+    let store = c.self.inside.store in
+    let pairs = present_pairs g.K.Ord.cmp c.self.invariant ∙ ap (λ (x : State _ _). present g.K.Ord.cmp x) c.self.view_is in
+    let list = ap (λ ws. room_for g.row.S (length (after_writes g.K.Ord.cmp ws store.present.pairs))) c.as_slice.ensures.value ∙ ap (λ ps. room_for g.row.S (length (after_writes g.K.Ord.cmp c.args.writes.items ps))) pairs in
     let used = ap (λ (x : State _ _). x.used) c.self.view_is in
-    let now = ap (λ (x : Store _ _). x.used) c.in-Ok-publish.ensures.published in
-    omega (arith, few, list, used, now)
+    let room = c.in-Ok-write.ensures.room in
+    omega (arith, room, list, used)
+
+pub returns-clause-few : goal.returns-clause-few
+returns-clause-few g c =
+    let used = ap (λ (x : State _ _). x.used) c.self.view_is in
+    let long = ap length c.as_slice.ensures.value in
+    let few = c.in-Ok-write.ensures.few in
+    omega (arith, few, long, used)

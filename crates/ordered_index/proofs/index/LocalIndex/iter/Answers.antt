@@ -4,4 +4,4 @@ use Rattle.tree_index.specs.declared.cursor.End.TheVariants.{Unopened}
 use Rattle.ordered_index.proofs.index.LocalIndex.iter.Goals as goal
 
 pub returns : goal.returns
-returns g c = c.walk.ensures ∙ ap (λ (ps : List _). whole ps Unopened Unopened) c.list_of.ensures
+returns g c = c.walk.ensures ∙ ap (λ (ps : List _). whole ps Unopened Unopened) c.list_of.ensures.list

@@ -1,4 +1,5 @@
-use Rattle.std.proofs.Common.{◌∙◌, lit<}
+use Rattle.std.proofs.Common.{◌≤◌, length, subst, ◌∙◌, lit<}
+use Rattle.versions.specs.Sizes.{segments_for}
 use Rattle.ordered_index.proofs.Runs.{session_reads}
 use Rattle.ordered_index.proofs.index.LocalIndex.list_of.Goals as goal
 
@@ -7,7 +8,10 @@ reader-requires g c =
     let v = session_reads g.K.Ord.cmp c.self.invariant _ c.args.session.now.place c.place.result c.args.session.now.receipt.number c.self.view_is c.place.ensures c.requires in
     (lit< tt, (lit< tt, (v.0, v.1)))
 
-pub returns : goal.returns
-returns g c =
+pub returns-clause-list : goal.returns-clause-list
+returns-clause-list g c =
     let v = session_reads g.K.Ord.cmp c.self.invariant _ c.args.session.now.place c.place.result c.args.session.now.receipt.number c.self.view_is c.place.ensures c.requires in
-    c.reader.ensures v.0 v.1 ∙ v.2
+    c.reader.ensures.pairs v.0 v.1 ∙ v.2
+
+pub returns-clause-few : goal.returns-clause-few
+returns-clause-few g c = subst (λ ps. length c.reader.result ≤ segments_for g.row.S (length ps)) (returns-clause-list g c) c.reader.ensures.few

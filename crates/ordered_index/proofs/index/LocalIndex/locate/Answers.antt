@@ -4,4 +4,4 @@ use Rattle.versions.specs.Nearby.{as_proximity}
 use Rattle.ordered_index.proofs.index.LocalIndex.locate.Goals as goal
 
 pub returns : goal.returns
-returns g c = subst (λ (ps : List _). IsLocated g.K.Ord.cmp c.args.key.now ps (as_proximity c.locate.result)) c.list_of.ensures c.locate.ensures
+returns g c = subst (λ (ps : List _). IsLocated g.K.Ord.cmp c.args.key.now ps (as_proximity c.locate.result)) c.list_of.ensures.list c.locate.ensures

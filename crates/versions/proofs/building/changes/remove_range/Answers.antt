@@ -1,73 +1,47 @@
-use Rattle.std.proofs.Common.{◌≡◌, true, false, drop, refl, sym, ◌∙◌, subst}
+use Rattle.std.proofs.Common.{◌≡◌, ◌++◌, ◌∷◌, [], arith, length, length-append, not, refl, sym, ap, ◌∙◌, subst}
+use Rattle.std.proofs.lemmas.List.Elements.{All-push}
+use Rattle.std.specs.List.{All}
 use Rattle.std.specs.BTreeMap.Range.{range_contains}
-use Rattle.leaf_array.specs.Pairs.{IsAscending}
 use Rattle.versions.specs.Changes.{amended}
 use Rattle.versions.specs.Cuts.{pairs_in}
-use Rattle.versions.proofs.Filters.{kept}
-use Rattle.versions.proofs.Merging.{head_of, none_of, rising_rest}
-use Rattle.versions.proofs.Ranges.{IsLeaving, outside, fair_range, leaving_all, leaving_passed, leaving_taken, leaving_none}
+use Rattle.versions.specs.Gone.{IsSpan, is_gone, without}
+use Rattle.versions.proofs.Amends.{kept_amended}
+use Rattle.versions.proofs.Filters.{kept, kept_upto, rising_kept}
+use Rattle.versions.proofs.Ranges.{outside, fair_other, fair_range, without_more}
 use Rattle.versions.proofs.building.changes.remove_range.Goals as goal
 
-pub loop-key-init : goal.loop-key-init
-loop-key-init g c =
+pub returns-clause-list : goal.returns-clause-list
+returns-clause-list g c =
     let cmp = g.K.Ord.cmp in
     let lower = c.args.lower.now in
     let upper = c.args.upper.now in
-    let old = pairs_in (g.O.Old.blocks c.args.old.now) in
-    let left : c.remove_range_sync.new.self.pairs ≡ kept (outside (λ y. range_contains cmp lower upper y)) c.args.changes.now.pairs = c.remove_range_sync.ensures.removed ∙ rw (c.as_ref.ensures, c.as_ref-2.ensures) refl in
-    record {
-      sorted = rw c.new-pairs.ensures c.requires.rising;
-      leaving = rw (left, c.new-pairs.ensures) (leaving_all g.met.K.Ord.total (λ y. range_contains cmp lower upper y) (fair_range g.met.K.Ord.total lower upper) c.args.changes.now.pairs old c.len.ensures.rising c.requires.rising);
-    }
-
-pub loop-key-preserved-then-not-is_within : goal.loop-key-preserved-then-not-is_within
-loop-key-preserved-then-not-is_within g c =
-    let cmp = g.K.Ord.cmp in
-    let lower = c.args.lower.now in
-    let upper = c.args.upper.now in
+    let gone = c.args.changes.now.gone.items in
+    let edits = c.args.changes.now.edits.pairs in
     let old = pairs_in (g.O.Old.blocks c.args.old.now) in
     let test = λ (y : g.row.K.Denot). range_contains cmp lower upper y in
-    let wanted = kept (outside test) (amended cmp c.args.changes.now.pairs old) in
-    let made = amended cmp c.loop-key.changes.pairs old in
-    let p : g.row.K.Denot × g.row.V.Denot = (c.in-Some.key.now, c.in-Some.field-0-1.now) in
-    let first = head_of c.loop-key.pairs p c.in-Some.ensures in
-    let here = subst (IsLeaving test wanted made) first c.loop-key.invariant.leaving in
-    let miss : test p.0 ≡ false = sym c.is_within.ensures ∙ c.if-not-is_within.true in
-    record {
-      sorted = rw c.step.ensures (rising_rest cmp c.loop-key.pairs p first c.loop-key.invariant.sorted);
-      leaving = rw c.step.ensures (leaving_passed g.met.K.Ord.total test (fair_range g.met.K.Ord.total lower upper) wanted made p (drop 1 c.loop-key.pairs) miss here);
-    }
+    let range = c.in_ok-range_of.field-0 in
+    let e = c.in_ok-range_of.ensures in
+    let left : c.remove_range_sync.new.self.pairs ≡ kept (outside test) edits = c.remove_range_sync.ensures.removed ∙ rw (c.as_ref.ensures, c.as_ref-2.ensures) refl in
+    let more : without cmp (gone ++ range ∷ []) old ≡ kept (outside test) (without cmp gone old) = without_more cmp gone range old ∙ (ap (λ l. kept (outside (λ y. range_contains cmp l range.upper y)) (without cmp gone old)) e.lower ∙ ap (λ u. kept (outside (λ y. range_contains cmp lower u y)) (without cmp gone old)) e.upper) in
+    ap (λ cs. amended cmp cs (without cmp c.push.new.self.items old)) left
+    ∙ (ap (λ gs. amended cmp (kept (outside test) edits) (without cmp gs old)) c.in_ok-push.ensures.items
+    ∙ (ap (amended cmp (kept (outside test) edits)) more
+    ∙ sym (kept_amended g.met.K.Ord.total (outside test) (fair_other g.met.K.Ord.total test (fair_range g.met.K.Ord.total lower upper)) edits (without cmp gone old) c.len.ensures.rising (rising_kept cmp (λ k. not (is_gone cmp gone k)) old c.requires.ordered.rising))))
 
-pub loop-key-preserved : goal.loop-key-preserved
-loop-key-preserved g c =
+pub returns-clause-few : goal.returns-clause-few
+returns-clause-few g c =
     let cmp = g.K.Ord.cmp in
     let lower = c.args.lower.now in
     let upper = c.args.upper.now in
-    let old = pairs_in (g.O.Old.blocks c.args.old.now) in
+    let edits = c.args.changes.now.edits.pairs in
     let test = λ (y : g.row.K.Denot). range_contains cmp lower upper y in
-    let wanted = kept (outside test) (amended cmp c.args.changes.now.pairs old) in
-    let made = amended cmp c.loop-key.changes.pairs old in
-    let p : g.row.K.Denot × g.row.V.Denot = (c.in-Some.key.now, c.in-Some.field-0-1.now) in
-    let first = head_of c.loop-key.pairs p c.in-Some.ensures in
-    let here = subst (IsLeaving test wanted made) first c.loop-key.invariant.leaving in
-    let hit : test p.0 ≡ true = sym c.is_within.ensures ∙ c.if-not-is_within.false in
-    let rising = subst (IsAscending cmp) first c.loop-key.invariant.sorted in
-    let facts = c.in_ok-note.ensures in
-    record {
-      sorted = rw c.step.ensures (rising_rest cmp c.loop-key.pairs p first c.loop-key.invariant.sorted);
-      leaving =
-          rw (c.step.ensures, facts.noted)
-          (leaving_taken g.met.K.Ord.total test (fair_range g.met.K.Ord.total lower upper) wanted c.loop-key.changes.pairs old p (drop 1 c.loop-key.pairs) facts.rising c.requires.rising rising hit here);
-    }
+    let left : c.remove_range_sync.new.self.pairs ≡ kept (outside test) edits = c.remove_range_sync.ensures.removed ∙ rw (c.as_ref.ensures, c.as_ref-2.ensures) refl in
+    let few = kept_upto (outside test) edits in
+    let same = ap length left in
+    let one = ap length c.in_ok-push.ensures.items ∙ length-append c.args.changes.now.gone.items (c.in_ok-range_of.field-0 ∷ []) in
+    omega (arith, few, same, one)
 
-pub returns : goal.returns
-returns g c =
-    let cmp = g.K.Ord.cmp in
-    let lower = c.args.lower.now in
-    let upper = c.args.upper.now in
-    let old = pairs_in (g.O.Old.blocks c.args.old.now) in
-    let test = λ (y : g.row.K.Denot). range_contains cmp lower upper y in
-    let wanted = kept (outside test) (amended cmp c.args.changes.now.pairs old) in
-    let made = amended cmp c.loop-key.changes.pairs old in
-    let none = none_of c.loop-key.pairs c.in_default.ensures in
-    leaving_none g.met.K.Ord.total test (fair_range g.met.K.Ord.total lower upper) wanted made (subst (IsLeaving test wanted made) none c.loop-key.invariant.leaving)
+pub returns-clause-spans : goal.returns-clause-spans
+returns-clause-spans g c =
+    let P = IsSpan g.K.Ord.cmp (g.O.Old.blocks c.args.old.now) in
+    subst (All P) (sym c.in_ok-push.ensures.items) (All-push P c.args.changes.now.gone.items c.in_ok-range_of.field-0 c.requires.spans c.in_ok-range_of.ensures.span)

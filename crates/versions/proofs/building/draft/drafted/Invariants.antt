@@ -1,6 +1,8 @@
-use Rattle.std.proofs.Common.{◌≡◌, ◌++◌, drop}
-use Rattle.versions.specs.Changes.{amended}
+use Rattle.std.proofs.Common.{◌≡◌, ◌≤◌, ◌++◌, drop}
+use Rattle.std.specs.List.{All}
+use Rattle.versions.specs.Changes.{changed, named_by}
 use Rattle.versions.specs.Cuts.{pairs_in}
+use Rattle.versions.specs.Gone.{IsSpan}
 use Rattle.versions.specs.Writes.{after_writes, replies_to}
 use Rattle.versions.proofs.building.draft.drafted.Given as goal
 
@@ -8,9 +10,11 @@ use Rattle.versions.proofs.building.draft.drafted.Given as goal
 abbrev pub invariant-loop-write : goal.invariant-loop-write
 invariant-loop-write g l =
     let cmp = g.K.Ord.cmp in
-    let old = pairs_in (g.O.Old.blocks l.old) in
-    let now = amended cmp l.changes.pairs old in
+    let blocks = g.O.Old.blocks l.old in
+    let old = pairs_in blocks in
     record {
-      list : after_writes cmp (drop l.write-index l.writes) now ≡ after_writes cmp l.writes old;
-      replies : l.replies.items ++ replies_to cmp (drop l.write-index l.writes) now ≡ replies_to cmp l.writes old;
+      list : after_writes cmp (drop l.write-index l.writes) (changed cmp l.changes old) ≡ after_writes cmp l.writes old;
+      few : named_by l.changes ≤ l.write-index;
+      spans : All (IsSpan cmp blocks) l.changes.gone.items;
+      replies : l.replies.items ++ replies_to cmp (drop l.write-index l.writes) (changed cmp l.changes old) ≡ replies_to cmp l.writes old;
     }

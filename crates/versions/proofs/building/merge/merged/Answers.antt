@@ -1,16 +1,94 @@
-use Rattle.std.proofs.Common.{◌≡◌, [], refl, sym}
+use Rattle.std.proofs.Common.{◌≡◌, ◌*◌, ◌+◌, ◌++◌, Bool, false, not, drop, length, sym, ap, ◌∙◌, subst, arith}
 use Rattle.std.proofs.lemmas.Bool.{false≢true}
+use Rattle.leaf_array.specs.Pairs.{IsAscending}
+use Rattle.versions.specs.Changes.{ahead, amended, named_by}
 use Rattle.versions.specs.Cuts.{pairs_in}
+use Rattle.versions.specs.Cutting.{IsThrifty, given}
+use Rattle.versions.specs.Gone.{is_gone, without}
 use Rattle.versions.proofs.Amends.{rising_amended}
+use Rattle.versions.proofs.Filters.{rising_kept}
+use Rattle.versions.proofs.Gaps.{turns_gone}
+use Rattle.versions.proofs.Merging.{trees_behind}
+use Rattle.versions.proofs.Streams.{drop_out}
 use Rattle.versions.proofs.building.merge.merged.Goals as goal
 
-pub loop-more-init : goal.loop-more-init
-loop-more-init g c =
+pub loop-place-init : goal.loop-place-init
+loop-place-init g c =
+    let cmp = g.K.Ord.cmp in
+    let left = ap length c.new-left.ensures in
+    let none = c.in_ok-out.ensures.none in
+    let gone = c.args.changes.now.gone.items in
     let old = pairs_in (g.O.Old.blocks c.args.old.now) in
-    let empty : c.new-out.result ≡ [] = c.new-out.ensures in
+    let turns' = turns_gone g.met.K.Ord.total gone old c.requires.whole.rising in
     record {
-      list = rw (empty, c.new-left.ensures, c.new-pairs.ensures) refl;
-      sorted = rw c.new-pairs.ensures c.requires.rising;
-      rising = rw (empty, c.new-left.ensures, c.new-pairs.ensures) (rising_amended g.met.K.Ord.total c.args.changes.now.pairs old c.len.ensures.rising c.requires.rising);
-      done = λ e. absurd (false≢true (sym e));
+      whole = c.in_ok-out.ensures.whole;
+      list = ap (λ ps. ps ++ amended cmp c.new-left.result (without cmp gone old)) c.in_ok-out.ensures.empty ∙ ap (λ cs. amended cmp cs (without cmp gone old)) c.new-left.ensures;
+      thrifty = (
+        false,
+        record {
+          all = (let z = none.0 in omega (arith, z, left, turns'));
+          spare = λ z some b there fits. let last = none.1 in absurd (omega (arith, some, last));
+          behind = λ e z. absurd (false≢true e);
+        },
+      );
+      ends = c.count-place-end.ensures;
     }
+
+pub pass-requires-clause-rising : goal.pass-requires-clause-rising
+pass-requires-clause-rising g c =
+    let cmp = g.K.Ord.cmp in
+    let gone = c.args.changes.now.gone.items in
+    let old = pairs_in (g.O.Old.blocks c.args.old.now) in
+    let up = rising_amended g.met.K.Ord.total c.args.changes.now.edits.pairs (without cmp gone old) c.len.ensures.rising (rising_kept cmp (λ k. not (is_gone cmp gone k)) old c.requires.whole.rising) in
+    let rising = subst (IsAscending cmp) (sym c.loop-place.invariant.list) up in
+    subst (λ gs. IsAscending cmp (given (g.O.Old.named c.args.old.now) c.loop-place.out ++ ahead cmp c.loop-place.left gs c.loop-place.place (g.O.Old.blocks c.args.old.now))) (sym c.deref.ensures.value) rising
+
+pub loop-place-preserved : goal.loop-place-preserved
+loop-place-preserved g c =
+    let i = c.loop-place.invariant in
+    let e = c.in_ok-pass.ensures in
+    let cmp = g.K.Ord.cmp in
+    let named = g.O.Old.named c.args.old.now in
+    let blocks = g.O.Old.blocks c.args.old.now in
+    let value = c.deref.ensures.value in
+    let budget = 2 * named_by c.args.changes.now in
+    let place = c.loop-place.place in
+    record {
+      whole = e.whole;
+      list = subst (λ gs. given named c.pass.new.out ++ ahead cmp c.pass.new.changes gs (place + 1) blocks ≡ given named c.loop-place.out ++ ahead cmp c.loop-place.left gs place blocks) value e.list ∙ i.list;
+      thrifty = subst (λ gs. (last : Bool) → IsThrifty g.row.S budget (is_gone cmp gs) last (drop place blocks) (length c.loop-place.left) c.loop-place.out → (next : Bool) × IsThrifty g.row.S budget (is_gone cmp gs) next (drop (place + 1) blocks) (length c.pass.new.changes) c.pass.new.out) value (e.thrifty budget) i.thrifty.0 i.thrifty.1;
+      ends = i.ends;
+    }
+
+pub put_all-requires-clause-whole : goal.put_all-requires-clause-whole
+put_all-requires-clause-whole g c = c.loop-place.invariant.whole
+
+pub put_all-requires-clause-rising : goal.put_all-requires-clause-rising
+put_all-requires-clause-rising g c =
+    let cmp = g.K.Ord.cmp in
+    let blocks = g.O.Old.blocks c.args.old.now in
+    let gone = c.args.changes.now.gone.items in
+    let i = c.loop-place.invariant in
+    let none = drop_out c.loop-place.place blocks (omega (arith, i.ends, c.loop-place-test.false)) in
+    let given' = given (g.O.Old.named c.args.old.now) c.loop-place.out in
+    let all = sym (ap (λ bs. given' ++ amended cmp c.loop-place.left (without cmp gone (pairs_in bs))) none) ∙ i.list in
+    let up = rising_amended g.met.K.Ord.total c.args.changes.now.edits.pairs (without cmp gone (pairs_in blocks)) c.len.ensures.rising (rising_kept cmp (λ k. not (is_gone cmp gone k)) (pairs_in blocks) c.requires.whole.rising) in
+    subst (IsAscending cmp) (sym all) up
+
+pub returns-clause-list : goal.returns-clause-list
+returns-clause-list g c =
+    let cmp = g.K.Ord.cmp in
+    let blocks = g.O.Old.blocks c.args.old.now in
+    let i = c.loop-place.invariant in
+    let none = drop_out c.loop-place.place blocks (omega (arith, i.ends, c.loop-place-test.false)) in
+    let given' = given (g.O.Old.named c.args.old.now) c.loop-place.out in
+    let all = sym (ap (λ bs. given' ++ amended cmp c.loop-place.left (without cmp c.args.changes.now.gone.items (pairs_in bs))) none) ∙ i.list in
+    c.in_ok-segments.ensures.list ∙ (c.in_ok-put_all.ensures.list ∙ all)
+
+pub returns-clause-few : goal.returns-clause-few
+returns-clause-few g c =
+    let i = c.loop-place.invariant in
+    let up = trees_behind g.row.S i.whole.least c.loop-place.out c.put_all.new.out (length c.loop-place.left) i.whole.room c.in_ok-put_all.ensures.filled in
+    let all = i.thrifty.1.all in
+    let made = c.in_ok-segments.ensures.made in
+    omega (arith, up, all, made)

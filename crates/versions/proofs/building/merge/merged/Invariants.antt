@@ -1,19 +1,20 @@
-use Rattle.std.proofs.Common.{◌≡◌, ◌++◌, ◌+◌, cond, false, [], length}
-use Rattle.leaf_array.specs.Pairs.{IsAscending}
-use Rattle.versions.specs.Changes.{amended}
+use Rattle.std.proofs.Common.{◌≡◌, ◌*◌, ◌++◌, Bool, drop, length}
+use Rattle.versions.specs.Changes.{ahead, changed, named_by}
 use Rattle.versions.specs.Cuts.{pairs_in}
+use Rattle.versions.specs.Cutting.{IsCutting, IsThrifty, given}
+use Rattle.versions.specs.Gone.{is_gone}
 use Rattle.versions.proofs.building.merge.merged.Given as goal
 
 -- what is given, and what is yet to be merged
-abbrev pub invariant-loop-more : goal.invariant-loop-more
-invariant-loop-more g l =
+abbrev pub invariant-loop-place : goal.invariant-loop-place
+invariant-loop-place g l =
     let cmp = g.K.Ord.cmp in
+    let named = g.O.Old.named l.old in
+    let blocks = g.O.Old.blocks l.old in
+    let gone = l.changes.gone.items in
     record {
-      list : l.out ++ amended cmp l.left l.pairs ≡ amended cmp l.changes.pairs (pairs_in (g.O.Old.blocks l.old));
-      sorted : IsAscending cmp l.pairs;
-      rising : IsAscending cmp (l.out ++ amended cmp l.left l.pairs);
-      done : l.more ≡ false → (l.left ≡ []) × (l.pairs ≡ []);
+      whole : IsCutting named cmp g.row.S blocks l.out;
+      list : given named l.out ++ ahead cmp l.left gone l.place blocks ≡ changed cmp l.changes (pairs_in blocks);
+      thrifty : (last : Bool) × IsThrifty g.row.S (2 * named_by l.changes) (is_gone cmp gone) last (drop l.place blocks) (length l.left) l.out;
+      ends : l.place-end ≡ length blocks;
     }
-
-abbrev pub decreases-loop-more : goal.decreases-loop-more
-decreases-loop-more g l = cond l.more 1 0 + (length l.left + length l.pairs)

@@ -11,8 +11,8 @@ unreachable-requires g c =
     let cmp = g.K.Ord.cmp in
     let b = c.tree.result.now.pairs in
     let answer = c.next.ensures.steps.0 ∙ ap (next_of cmp) c.iter-cursor.ensures.cursor in
-    let none = none_fore cmp c.args.self.now (c.args.segment + 1) b c.tree.ensures 0 c.next.result Unbounded answer c.in-None.is in
-    let some = block_some cmp c.args.self.now (c.args.segment + 1) b c.requires.rising c.tree.ensures in
+    let none = none_fore cmp c.args.self.now (c.args.segment + 1) b c.tree.ensures.pairs 0 c.next.result Unbounded answer c.in-None.is in
+    let some = block_some cmp c.args.self.now (c.args.segment + 1) b c.requires.rising c.tree.ensures.pairs in
     omega (arith, none, some, start_none cmp b)
 
 pub returns-clause-some : goal.returns-clause-some
@@ -23,4 +23,4 @@ returns-clause-some g c =
     let answer = c.next.ensures.steps.0 ∙ ap (next_of cmp) c.iter-cursor.ensures.cursor in
     let moved = c.next.ensures.steps.1 ∙ ap (moved_forth cmp) c.iter-cursor.ensures.cursor in
     let starts : pairs_before c.args.self.now i ≡ pairs_before c.args.self.now i + _ = omega (arith, start_none cmp b) in
-    found_fore cmp c.args.self.now i b c.tree.ensures (pairs_before c.args.self.now i) c.next.result Unbounded starts answer c.in-Some.pair c.in-Some.is c.next.new.self moved
+    found_fore cmp c.args.self.now i b c.tree.ensures.pairs (pairs_before c.args.self.now i) c.next.result Unbounded starts answer c.in-Some.pair c.in-Some.is c.next.new.self moved

@@ -19,9 +19,9 @@ returns-in-Some-clause-some g c =
     let lower = bound_map (λ (k : Bor g.row.K.Denot). k.now) c.args.lower in
     let answer = c.next.ensures.steps.0 ∙ ap (next_of cmp) c.range-range.ensures.cursor in
     let moved = c.next.ensures.steps.1 ∙ ap (moved_forth cmp) c.range-range.ensures.cursor in
-    let starts = c.place_from-segment.ensures.place b c.tree.ensures in
+    let starts = c.place_from-segment.ensures.place b c.tree.ensures.pairs in
     let kept = c.from-cursor.ensures ∙ ap (λ (r : Cursor g.row.K.Denot g.row.V.Denot). record r { lower = Unbounded; upper = Unbounded }) moved in
-    found_fore cmp blocks c.place_from-segment.result b c.tree.ensures (before_start cmp lower (pairs_in blocks)) c.next.result lower starts answer c.in-Some.pair c.in-Some.is c.from-cursor.result kept
+    found_fore cmp blocks c.place_from-segment.result b c.tree.ensures.pairs (before_start cmp lower (pairs_in blocks)) c.next.result lower starts answer c.in-Some.pair c.in-Some.is c.from-cursor.result kept
 
 -- the pairs of the segment all lie before the bound
 abbrev same_place : (g : _) (c : goal.After-first_behind g) → pairs_before c.args.self.now (c.place_from-segment.result + 1) ≡ before_start g.K.Ord.cmp (bound_map (λ k. k.now) c.args.lower) (pairs_in c.args.self.now)
@@ -32,9 +32,9 @@ same_place g c =
     let i = c.place_from-segment.result in
     let lower = bound_map (λ (k : Bor g.row.K.Denot). k.now) c.args.lower in
     let answer = c.next.ensures.steps.0 ∙ ap (next_of cmp) c.range-range.ensures.cursor in
-    let starts = c.place_from-segment.ensures.place b c.tree.ensures in
-    let none = none_fore cmp blocks i b c.tree.ensures 0 c.next.result lower answer c.in-None.is in
-    omega (arith, starts, none, start_all cmp lower b, next_before blocks i b c.tree.ensures)
+    let starts = c.place_from-segment.ensures.place b c.tree.ensures.pairs in
+    let none = none_fore cmp blocks i b c.tree.ensures.pairs 0 c.next.result lower answer c.in-None.is in
+    omega (arith, starts, none, start_all cmp lower b, next_before blocks i b c.tree.ensures.pairs)
 
 pub returns-in-None-clause-some : goal.returns-in-None-clause-some
 returns-in-None-clause-some g c = subst (λ n. IfSome c.first_behind.result (λ f. IsForeAt c.args.self.now n f.0 × IsPairAt c.args.self.now n f.1)) (same_place g c) c.first_behind.ensures.some

@@ -17,9 +17,9 @@ returns-in-Some-clause-some g c =
     let upper = bound_map (λ (k : Bor g.row.K.Denot). k.now) c.args.upper in
     let answer = c.next_back.ensures.steps.0 ∙ ap (next_back_of cmp) c.range-range.ensures.cursor in
     let moved = c.next_back.ensures.steps.1 ∙ ap (moved_back cmp) c.range-range.ensures.cursor in
-    let ends = c.place_upto-segment.ensures.place b c.tree.ensures in
+    let ends = c.place_upto-segment.ensures.place b c.tree.ensures.pairs in
     let kept = c.from-cursor.ensures ∙ ap (λ (r : Cursor g.row.K.Denot g.row.V.Denot). record r { lower = Unbounded; upper = Unbounded }) moved in
-    found_rear cmp blocks c.place_upto-segment.result b c.tree.ensures (up_to_end cmp upper (pairs_in blocks)) c.next_back.result upper ends answer c.in-Some.pair c.in-Some.is c.from-cursor.result kept
+    found_rear cmp blocks c.place_upto-segment.result b c.tree.ensures.pairs (up_to_end cmp upper (pairs_in blocks)) c.next_back.result upper ends answer c.in-Some.pair c.in-Some.is c.from-cursor.result kept
 
 -- the pairs of the segment all lie behind the bound
 abbrev same_place : (g : _) (c : goal.After-last_before g) → pairs_before c.args.self.now c.place_upto-segment.result ≡ up_to_end g.K.Ord.cmp (bound_map (λ k. k.now) c.args.upper) (pairs_in c.args.self.now)
@@ -30,8 +30,8 @@ same_place g c =
     let i = c.place_upto-segment.result in
     let upper = bound_map (λ (k : Bor g.row.K.Denot). k.now) c.args.upper in
     let answer = c.next_back.ensures.steps.0 ∙ ap (next_back_of cmp) c.range-range.ensures.cursor in
-    let ends = c.place_upto-segment.ensures.place b c.tree.ensures in
-    let none = none_rear cmp blocks i b c.tree.ensures 0 c.next_back.result upper answer c.in-None.is in
+    let ends = c.place_upto-segment.ensures.place b c.tree.ensures.pairs in
+    let none = none_rear cmp blocks i b c.tree.ensures.pairs 0 c.next_back.result upper answer c.in-None.is in
     omega (arith, ends, none)
 
 pub returns-in-None-clause-some : goal.returns-in-None-clause-some

@@ -19,8 +19,8 @@ walk_at-requires g c =
     let i = c.around-segment.result in
     let b = c.tree.result.now.pairs in
     let rise = c.laws.ensures.rising in
-    let at = exact_at cmp total key blocks rise i c.around-segment.ensures b c.tree.ensures c.in-Exact.cursor c.in-Exact.ensures.0 c.in-Exact.ensures.1 in
-    one_walks cmp total key blocks rise i c.around-segment.ensures b c.tree.ensures (lesser cmp key (pairs_in blocks)) _ at
+    let at = exact_at cmp total key blocks rise i c.around-segment.ensures b c.tree.ensures.pairs c.in-Exact.cursor c.in-Exact.ensures.0 c.in-Exact.ensures.1 in
+    one_walks cmp total key blocks rise i c.around-segment.ensures b c.tree.ensures.pairs (lesser cmp key (pairs_in blocks)) _ at
 
 pub returns-in-Exact : goal.returns-in-Exact
 returns-in-Exact g c =
@@ -31,8 +31,8 @@ returns-in-Exact g c =
     let i = c.around-segment.result in
     let b = c.tree.result.now.pairs in
     let rise = c.laws.ensures.rising in
-    let at = exact_at cmp total key blocks rise i c.around-segment.ensures b c.tree.ensures c.in-Exact.cursor c.in-Exact.ensures.0 c.in-Exact.ensures.1 in
-    (has_around cmp total key blocks i c.around-segment.ensures b c.tree.ensures ∙ c.in-Exact.ensures.0, c.walk_at.ensures ∙ ap (λ x. whole (pairs_in blocks) x Unopened) at.place)
+    let at = exact_at cmp total key blocks rise i c.around-segment.ensures b c.tree.ensures.pairs c.in-Exact.cursor c.in-Exact.ensures.0 c.in-Exact.ensures.1 in
+    (has_around cmp total key blocks i c.around-segment.ensures b c.tree.ensures.pairs ∙ c.in-Exact.ensures.0, c.walk_at.ensures ∙ ap (λ x. whole (pairs_in blocks) x Unopened) at.place)
 
 pub returns-in-Between : goal.returns-in-Between
 returns-in-Between g c =
@@ -43,9 +43,9 @@ returns-in-Between g c =
     let i = c.around-segment.result in
     let b = c.tree.result.now.pairs in
     let rise = c.laws.ensures.rising in
-    let inside = is_inside cmp total key blocks rise i c.around-segment.ensures b c.tree.ensures c.in-Between.cursor c.in-Between.ensures.1 c.in-Between.ensures.2 c.in-Between.ensures.3 in
+    let inside = is_inside cmp total key blocks rise i c.around-segment.ensures b c.tree.ensures.pairs c.in-Between.cursor c.in-Between.ensures.1 c.in-Between.ensures.2 c.in-Between.ensures.3 in
     let ends = ap (λ x. whole (pairs_in blocks) (fore_place blocks (cursor_ends.At (record { segment = i; cursor = x }))) (rear_place blocks (cursor_ends.At (record { segment = i; cursor = c.in-Between.cursor })))) c.clone.ensures in (
-      has_around cmp total key blocks i c.around-segment.ensures b c.tree.ensures ∙ c.in-Between.ensures.0,
+      has_around cmp total key blocks i c.around-segment.ensures b c.tree.ensures.pairs ∙ c.in-Between.ensures.0,
       inside.some,
       inside.within,
       c.walk_at-in-Between.ensures ∙ ends ∙ inside.ends,
@@ -60,8 +60,8 @@ behind_last-requires-clause-last g c =
     let i = c.around-segment.result in
     let b = c.tree.result.now.pairs in
     let rise = c.laws.ensures.rising in
-    let some = block_some cmp blocks i b rise c.tree.ensures in
-    (last_at cmp total key blocks rise i c.around-segment.ensures b c.tree.ensures c.in-Smaller.cursor c.in-Smaller.ensures.1 some c.in-Smaller.ensures.2).0
+    let some = block_some cmp blocks i b rise c.tree.ensures.pairs in
+    (last_at cmp total key blocks rise i c.around-segment.ensures b c.tree.ensures.pairs c.in-Smaller.cursor c.in-Smaller.ensures.1 some c.in-Smaller.ensures.2).0
 
 pub returns-in-Smaller : goal.returns-in-Smaller
 returns-in-Smaller g c =
@@ -72,8 +72,8 @@ returns-in-Smaller g c =
     let i = c.around-segment.result in
     let b = c.tree.result.now.pairs in
     let rise = c.laws.ensures.rising in
-    let some = block_some cmp blocks i b rise c.tree.ensures in
-    let last = last_at cmp total key blocks rise i c.around-segment.ensures b c.tree.ensures c.in-Smaller.cursor c.in-Smaller.ensures.1 some c.in-Smaller.ensures.2 in
+    let some = block_some cmp blocks i b rise c.tree.ensures.pairs in
+    let last = last_at cmp total key blocks rise i c.around-segment.ensures b c.tree.ensures.pairs c.in-Smaller.cursor c.in-Smaller.ensures.1 some c.in-Smaller.ensures.2 in
     (c.behind_last.ensures key last.1 last.2)
 
 pub before_first-requires-clause-first : goal.before_first-requires-clause-first
@@ -85,7 +85,7 @@ before_first-requires-clause-first g c =
     let i = c.around-segment.result in
     let b = c.tree.result.now.pairs in
     let rise = c.laws.ensures.rising in
-    (first_at cmp total key blocks rise i c.around-segment.ensures b c.tree.ensures c.in-Larger.cursor c.in-Larger.ensures.1 c.in-Larger.ensures.2 c.in-Larger.ensures.3).0
+    (first_at cmp total key blocks rise i c.around-segment.ensures b c.tree.ensures.pairs c.in-Larger.cursor c.in-Larger.ensures.1 c.in-Larger.ensures.2 c.in-Larger.ensures.3).0
 
 pub returns-in-Larger : goal.returns-in-Larger
 returns-in-Larger g c =
@@ -96,8 +96,8 @@ returns-in-Larger g c =
     let i = c.around-segment.result in
     let b = c.tree.result.now.pairs in
     let rise = c.laws.ensures.rising in
-    let first = first_at cmp total key blocks rise i c.around-segment.ensures b c.tree.ensures c.in-Larger.cursor c.in-Larger.ensures.1 c.in-Larger.ensures.2 c.in-Larger.ensures.3 in
-    (c.before_first.ensures key first.1 (has_around cmp total key blocks i c.around-segment.ensures b c.tree.ensures ∙ c.in-Larger.ensures.0))
+    let first = first_at cmp total key blocks rise i c.around-segment.ensures b c.tree.ensures.pairs c.in-Larger.cursor c.in-Larger.ensures.1 c.in-Larger.ensures.2 c.in-Larger.ensures.3 in
+    (c.before_first.ensures key first.1 (has_around cmp total key blocks i c.around-segment.ensures b c.tree.ensures.pairs ∙ c.in-Larger.ensures.0))
 
 pub unreachable-requires : goal.unreachable-requires
 unreachable-requires g c =
@@ -108,6 +108,6 @@ unreachable-requires g c =
     let i = c.around-segment.result in
     let b = c.tree.result.now.pairs in
     let rise = c.laws.ensures.rising in
-    let some = block_some cmp blocks i b rise c.tree.ensures in
+    let some = block_some cmp blocks i b rise c.tree.ensures.pairs in
     let none = ap length c.in-Empty.ensures in
     omega (arith, some, none)

@@ -1,0 +1,235 @@
+//! How many comparisons a look-up makes, by keys that count them.
+
+ghost use Rattle.versions.specs.Sizes.{IsSized};
+ghost use Rattle.ordered_index.specs.State.{IsOpen};
+
+use leaf_array::Array;
+use ordered_index::{LocalIndex, Receipt, Session, Write};
+use std::alloc::{AllocError, Global};
+use std::cell::Cell;
+use std::cmp::Ordering;
+use std::marker::Model;
+use std::process::Abort;
+use tree_index::{Steps, TreeIndex};
+
+const ROOM: &str = "memory";
+
+// A number as a key, which counts each comparison.
+#[derive(Drop)]
+struct CountedKey<'c> {
+    number: u64,
+    count: &'c Cell<u64>,
+}
+
+impl<'c> Model for CountedKey<'c> {
+    ghost use Rattle.std.specs.Prelude.{ℕ};
+
+    ghost Value = { ℕ };
+
+    ghost view = { λ k. k.number };
+}
+
+impl<'c> Clone for CountedKey<'c> {
+    ghost use Rattle.std.specs.Prelude.{◌≡◌};
+
+    ghost is_clone = { λ old new. new ≡ old };
+
+    fn clone(&self) -> Result<Self, AllocError> {
+        Ok(CountedKey {
+            number: self.number,
+            count: self.count,
+        })
+    }
+}
+
+impl<'c> PartialEq for CountedKey<'c> {
+    ghost use Rattle.std.specs.Cmp;
+    ghost use Rattle.std.specs.Prelude.{nat_eq};
+
+    ghost eq = { λ x y. nat_eq x y };
+
+    ghost laws = { Cmp.partial_equiv_from_equiv Cmp.nat_eq_equiv };
+
+    fn eq(&self, other: &Self) -> bool {
+        self.number == other.number
+    }
+}
+
+impl<'c> Eq for CountedKey<'c> {
+    ghost use Rattle.std.specs.Cmp;
+
+    ghost laws = { Cmp.nat_eq_equiv };
+}
+
+impl<'c> PartialOrd for CountedKey<'c> {
+    ghost use Rattle.std.specs.Cmp;
+    ghost use Rattle.std.specs.Ordering.{nat_cmp};
+    ghost use Rattle.std.specs.Prelude.{Some};
+
+    ghost partial_cmp = { λ x y. Some (nat_cmp x y) };
+
+    ghost laws = { Cmp.unsigned_po };
+
+    fn partial_cmp(&self, other: &Self) -> Option<Ordering> {
+        Some(self.cmp(other))
+    }
+}
+
+impl<'c> Ord for CountedKey<'c> {
+    ghost use Rattle.std.specs.Cmp;
+    ghost use Rattle.std.specs.Ordering.{nat_cmp};
+    ghost use Rattle.std.specs.Prelude.{refl};
+
+    ghost cmp = { λ x y. nat_cmp x y };
+
+    ghost total = { Cmp.nat_cmp_total };
+
+    ghost matches_partial_cmp = { λ x y. refl };
+
+    ghost matches_eq = { λ x y. Cmp.unsigned_ties x y };
+
+    fn cmp(&self, other: &Self) -> Ordering {
+        self.count.set(self.count.get().saturating_add(1));
+        self.number.cmp(&other.number)
+    }
+}
+
+// Upserts of the keys from 1 to a number, each its own value.
+fn upserts<'c>(
+    alloc: Global,
+    count: &'c Cell<u64>,
+    last: u64,
+) -> Result<Vec<Write<CountedKey<'c>, u64>>, AllocError> {
+    let mut writes = Vec::new(alloc);
+    for number in 1..=last {
+        writes.push(Write::Upsert(CountedKey { number, count }, number))?;
+    }
+    Ok(writes)
+}
+
+// Looks up the keys from 0 to one above the last, where those from 1 on are there: each look-up answers as the list does, and
+// makes so many comparisons at most.
+fn look_up_all<'c, R: Abort, const S: usize>(
+    rt: &R,
+    index: &LocalIndex<CountedKey<'c>, u64, S>,
+    session: &Session<CountedKey<'c>, u64>,
+    count: &'c Cell<u64>,
+    last: u64,
+    most: u64,
+)
+    requires { IsOpen index.now session.now }
+{
+    let mut steps = Steps::new();
+    for number in 0..=last.saturating_add(1) {
+        let key = CountedKey { number, count };
+        let there = 1 <= number && number <= last;
+        let wanted = if there { Some(number) } else { None };
+        count.set(0);
+        assert_eq!(rt; index.get(session, &key).copied(), wanted);
+        assert!(rt; count.get() <= most);
+        count.set(0);
+        assert_eq!(rt; index.get_counted(session, &key, &mut steps).copied(), wanted);
+        assert!(rt; count.get() <= most);
+        count.set(0);
+        assert_eq!(rt; index.contains_counted(session, &key, &mut steps), there);
+        assert!(rt; count.get() <= most);
+        count.set(0);
+        assert_eq!(rt; index.contains(session, &key), there);
+        assert!(rt; count.get() <= most);
+    }
+}
+
+// Looks up keys in an index of so many, which one commit puts in.
+fn look_up_among<R: Abort, const S: usize>(
+    rt: &R,
+    alloc: Global,
+    slots: usize,
+    last: u64,
+    most: u64,
+)
+    requires { IsSized 1 slots S }
+{
+    let count = Cell::new(0u64);
+    let mut index: LocalIndex<CountedKey<'_>, u64, S> = LocalIndex::new(alloc, 1, slots).expect(
+        rt, ROOM,
+    );
+    let writes = upserts(alloc, &count, last).expect(rt, ROOM);
+    assert!(rt; index.commit(&Receipt::blank(alloc), writes).is_ok());
+    let session = index.open().expect(rt, "a free place");
+    look_up_all(rt, &index, &session, &count, last, most);
+    let _receipt = index.close_session(session);
+    match index.close() {
+        Ok(()) => {}
+        Err(_open) => panic!(rt; "a session is open"),
+    }
+}
+
+// 1,000 pairs lie in at most 9 segments of 225 pairs: 4 binary digits.
+#[test]
+fn a_look_up_among_a_thousand_keys_makes_at_most_34_comparisons(rt: HostRuntime) {
+    look_up_among::<_, 225>(&rt, rt.alloc(), 100, 1_000, 34);
+}
+
+// 100 pairs lie in 100 segments of one pair: 7 binary digits.
+#[test]
+fn a_look_up_among_a_hundred_segments_makes_at_most_37_comparisons(rt: HostRuntime) {
+    look_up_among::<_, 1>(&rt, rt.alloc(), 105, 100, 37);
+}
+
+#[test]
+fn a_look_up_in_no_segment_makes_no_comparison(rt: HostRuntime) {
+    let count = Cell::new(0u64);
+    let mut index: LocalIndex<CountedKey<'_>, u64, 225> = LocalIndex::new(rt.alloc(), 1, 1).expect(
+        &rt, ROOM,
+    );
+    let session = index.open().expect(&rt, "a free place");
+    let key = CountedKey {
+        number: 1,
+        count: &count,
+    };
+    assert!(rt; index.get(&session, &key).is_none());
+    assert!(rt; !index.contains(&session, &key));
+    assert_eq!(rt; count.get(), 0);
+    let _receipt = index.close_session(session);
+    match index.close() {
+        Ok(()) => {}
+        Err(_open) => panic!(rt; "a session is open"),
+    }
+}
+
+#[test]
+fn a_look_up_in_an_array_and_in_a_flat_tree_makes_few_comparisons(rt: HostRuntime) {
+    let count = Cell::new(0u64);
+    let mut tree = TreeIndex::new(rt.alloc());
+    for number in 1..=225u64 {
+        let key = CountedKey {
+            number,
+            count: &count,
+        };
+        assert!(rt; tree.insert_sync(key, number).is_ok());
+    }
+    let mut array: Array<CountedKey<'_>, u64> = Array::new();
+    for number in 1..=15u64 {
+        let key = CountedKey {
+            number,
+            count: &count,
+        };
+        let _inserted = array.insert::<false>(key, number);
+    }
+    let mut steps = Steps::new();
+    for number in 0..=226u64 {
+        let key = CountedKey {
+            number,
+            count: &count,
+        };
+        count.set(0);
+        let found = tree.peek_entry_counted(&key, &mut steps).is_some();
+        assert!(rt; found == (1 <= number && number <= 225) && count.get() <= 30);
+        count.set(0);
+        let entry = array.search_entry_counted(&key, &mut steps).is_some();
+        assert!(rt; entry == (1 <= number && number <= 15) && count.get() <= 15);
+        count.set(0);
+        let (least, _) = array.min_greater_equal_counted(&key, &mut steps);
+        assert!(rt; least.is_some() == (number <= 15) && count.get() <= 15);
+    }
+}

@@ -1,0 +1,812 @@
+//! Lists of calls at random, made on an index and on plain lists, one for each number: both have to answer the same.
+
+ghost use Rattle.ordered_index.specs.Desk.{Serves};
+ghost use Rattle.versions.specs.Sizes.{IsSized};
+
+use crate::plain;
+use leaf_array::plain::find_value;
+use ordered_index::{
+    Accepted, Answer, Audit, Cause, Desk, DeskCall, DeskReply, LocalIndex, Query, ReadSet, Receipt,
+    Recorded, Reply, Seq, Write, play_all,
+};
+use std::alloc::{AllocError, Global};
+use std::ops::Bound;
+use std::process::Abort;
+use versions::plain::applied;
+
+const PLACES: usize = 2;
+
+const LABELS: u64 = 4;
+
+const VALUES: u64 = 3;
+
+const ROUNDS: usize = 900;
+
+// The last number, low enough to be reached.
+const LAST: u64 = 24;
+
+// A linear congruential generator, with the constants of Knuth's MMIX.
+#[derive(Drop)]
+struct Dice {
+    state: u64,
+    // keys are below this one
+    keys: u64,
+    // how many writes a commit has at most
+    writes: u64,
+    // one write in so many is of a range, or of all keys
+    wide: u64,
+}
+
+impl Dice {
+    // A number below this one.
+    fn throw(&mut self, faces: u64) -> u64 {
+        self.state = self
+            .state
+            .wrapping_mul(6_364_136_223_846_793_005)
+            .wrapping_add(1_442_695_040_888_963_407);
+        (self.state >> 33).checked_rem(faces).unwrap_or(0)
+    }
+
+    fn key(&mut self) -> u64 {
+        self.throw(self.keys)
+    }
+
+    fn bound(&mut self) -> Bound<u64> {
+        match self.throw(5) {
+            0 => Bound::Unbounded,
+            1 | 2 => Bound::Included(self.key()),
+            _ => Bound::Excluded(self.key()),
+        }
+    }
+
+    fn write(&mut self) -> Write<u64, u64> {
+        if self.throw(self.wide) == 0 {
+            return match self.throw(3) {
+                0 | 1 => Write::RemoveRange(self.bound(), self.bound()),
+                _ => Write::Clear,
+            };
+        }
+        match self.throw(61) {
+            0..=30 => Write::Insert(self.key(), self.throw(VALUES)),
+            31..=46 => Write::Upsert(self.key(), self.throw(VALUES)),
+            _ => Write::Remove(self.key()),
+        }
+    }
+
+    fn writes(&mut self, alloc: Global) -> Result<Vec<Write<u64, u64>>, AllocError> {
+        let mut writes = Vec::new(alloc);
+        let most = match self.throw(2) {
+            0 => 3,
+            _ => self.writes,
+        };
+        for _ in 0..self.throw(most.saturating_add(1)) {
+            writes.push(self.write())?;
+        }
+        Ok(writes)
+    }
+
+    fn query(&mut self) -> Query<u64> {
+        match self.throw(8) {
+            0 | 1 => Query::Get(self.key()),
+            2 => Query::Contains(self.key()),
+            3 | 4 | 5 => Query::Range(self.bound(), self.bound()),
+            _ => Query::Locate(self.key()),
+        }
+    }
+
+    // Up to two answers, most of them those of the list, and a number that may be too high.
+    fn receipt(
+        &mut self,
+        alloc: Global,
+        pairs: &[(u64, u64)],
+        number: usize,
+    ) -> Result<Receipt<u64, u64>, AllocError> {
+        let mut reads: Vec<Recorded<u64, u64>> = Vec::new(alloc);
+        for _ in 0..self.throw(3) {
+            let query = self.query();
+            let told = match self.throw(6) {
+                0 => Answer::Get(Some(self.throw(VALUES))),
+                _ => plain::answer(alloc, pairs, &query)?,
+            };
+            reads.push((query, told))?;
+        }
+        Ok(Receipt {
+            number: (number as u64).saturating_add(self.throw(8).saturating_sub(6)),
+            reads: Seq::from_vec(reads),
+        })
+    }
+}
+
+// How often each kind of reply was met.
+#[derive(Drop)]
+struct Met {
+    accepted: usize,
+    // accepted with a list that no one segment has room for
+    several: usize,
+    // such a commit, with fewer slots than its version has: it took segments over
+    shared: usize,
+    conflicts: usize,
+    exhausted: usize,
+    no_slot: usize,
+    no_place: usize,
+    busy: usize,
+    no_session: usize,
+    older: usize,
+    unknown: usize,
+    broken: usize,
+}
+
+// A session: its label, its number, and what it recorded.
+#[derive(Drop)]
+struct Sitting {
+    label: u64,
+    number: usize,
+    reads: Vec<Recorded<u64, u64>>,
+}
+
+// What an index has to be: a list for each number, and the sessions.
+#[derive(Drop)]
+struct Lists {
+    lists: Vec<Seq<(u64, u64)>>,
+    sessions: Vec<Sitting>,
+    met: Met,
+}
+
+// What a call has to be answered.
+#[derive(Drop)]
+enum Wanted {
+    Opened,
+    NoPlace,
+    Busy,
+    Closed(usize),
+    NoSession,
+    Answer(Query<u64>, Answer<u64, u64>),
+    Audit(Audit),
+    Number(usize),
+    Len(usize),
+    Slots,
+    Conflict(usize),
+    Exhausted,
+    // The list after the commit, and what its writes are told.
+    Made(Vec<(u64, u64)>, Vec<Reply>),
+}
+
+impl Lists {
+    fn new(alloc: Global) -> Result<Self, AllocError> {
+        let mut lists = Vec::new(alloc);
+        lists.push(Seq::new(alloc))?;
+        Ok(Lists {
+            lists,
+            sessions: Vec::new(alloc),
+            met: Met {
+                accepted: 0,
+                several: 0,
+                shared: 0,
+                conflicts: 0,
+                exhausted: 0,
+                no_slot: 0,
+                no_place: 0,
+                busy: 0,
+                no_session: 0,
+                older: 0,
+                unknown: 0,
+                broken: 0,
+            },
+        })
+    }
+
+    // The present number.
+    fn number(&self) -> usize {
+        self.lists.len().saturating_sub(1)
+    }
+
+    // The list of a number.
+    fn list(&self, number: usize) -> &[(u64, u64)] {
+        match self.lists.get(number) {
+            Some(list) => list.as_slice(),
+            None => &[],
+        }
+    }
+
+    // The session with the label.
+    fn session(&self, label: u64) -> Option<&Sitting> {
+        for session in &self.sessions {
+            if session.label == label {
+                return Some(session);
+            }
+        }
+        None
+    }
+
+    fn wanted(&self, alloc: Global, call: &DeskCall<u64, u64>) -> Result<Wanted, AllocError> {
+        match call {
+            DeskCall::Open(label) => Ok(self.wanted_of_open(*label)),
+            // the dice throw no `Reclaim`: that is asked of the index itself
+            DeskCall::Reclaim | DeskCall::Slots => Ok(Wanted::Slots),
+            DeskCall::Commit(ReadSet::Session(label), writes) => match self.session(*label) {
+                Some(session) => self.wanted_of_commit(alloc, &session.reads, writes),
+                None => Ok(Wanted::NoSession),
+            },
+            DeskCall::Commit(ReadSet::Receipt(receipt), writes) => {
+                self.wanted_of_commit(alloc, receipt.reads.as_slice(), writes)
+            }
+            DeskCall::Commit(ReadSet::Empty, writes) => self.wanted_of_commit(alloc, &[], writes),
+            DeskCall::Audit(ReadSet::Receipt(receipt)) => self.wanted_of_audit(alloc, receipt),
+            DeskCall::Audit(ReadSet::Empty) => Ok(Wanted::Audit(Audit::Yes)),
+            DeskCall::Audit(ReadSet::Session(label))
+            | DeskCall::Close(label)
+            | DeskCall::Number(label)
+            | DeskCall::Len(label)
+            | DeskCall::Get(label, _)
+            | DeskCall::Contains(label, _)
+            | DeskCall::Range(label, _, _)
+            | DeskCall::Locate(label, _) => match self.session(*label) {
+                Some(session) => self.wanted_of_session(alloc, session, call),
+                None => Ok(Wanted::NoSession),
+            },
+        }
+    }
+
+    fn wanted_of_session(
+        &self,
+        alloc: Global,
+        session: &Sitting,
+        call: &DeskCall<u64, u64>,
+    ) -> Result<Wanted, AllocError> {
+        let query = match call {
+            DeskCall::Close(_) => return Ok(Wanted::Closed(session.number)),
+            DeskCall::Number(_) => return Ok(Wanted::Number(session.number)),
+            DeskCall::Len(_) => return Ok(Wanted::Len(self.list(session.number).len())),
+            DeskCall::Get(_, key) => Query::Get(*key),
+            DeskCall::Contains(_, key) => Query::Contains(*key),
+            DeskCall::Range(_, lower, upper) => Query::Range(lower.clone()?, upper.clone()?),
+            DeskCall::Locate(_, key) => Query::Locate(*key),
+            // what a session read itself holds of its list
+            _ => return Ok(Wanted::Audit(Audit::Yes)),
+        };
+        let answer = plain::answer(alloc, self.list(session.number), &query)?;
+        Ok(Wanted::Answer(query, answer))
+    }
+
+    fn wanted_of_audit(
+        &self,
+        alloc: Global,
+        receipt: &Receipt<u64, u64>,
+    ) -> Result<Wanted, AllocError> {
+        let number = receipt.number as usize;
+        if number > self.number() {
+            return Ok(Wanted::Audit(Audit::Unknown));
+        }
+        Ok(Wanted::Audit(
+            match conflict(alloc, self.list(number), receipt.reads.as_slice())? {
+                Some(place) => Audit::No(place),
+                None => Audit::Yes,
+            },
+        ))
+    }
+
+    fn wanted_of_open(&self, label: u64) -> Wanted {
+        if self.session(label).is_some() {
+            return Wanted::Busy;
+        }
+        if self.sessions.len() == PLACES {
+            return Wanted::NoPlace;
+        }
+        Wanted::Opened
+    }
+
+    fn wanted_of_commit(
+        &self,
+        alloc: Global,
+        reads: &[Recorded<u64, u64>],
+        writes: &[Write<u64, u64>],
+    ) -> Result<Wanted, AllocError> {
+        let present = self.list(self.number());
+        if let Some(place) = conflict(alloc, present, reads)? {
+            return Ok(Wanted::Conflict(place));
+        }
+        if self.number() as u64 == LAST {
+            return Ok(Wanted::Exhausted);
+        }
+        let (after, replies) = applied(alloc, present, writes)?;
+        Ok(Wanted::Made(after, replies))
+    }
+
+    // Without sessions, no more slots are in use than the present list may take.
+    fn look_after_reclaiming<R: Abort>(&self, rt: &R, room: &Room) {
+        assert!(rt; room.after <= room.before);
+        if self.sessions.is_empty() {
+            assert!(rt; room.after <= room.of(self.list(self.number()).len()));
+        }
+    }
+
+    // Compares a reply with what is wanted, and does what it says.
+    fn follow<R: Abort>(
+        &mut self,
+        rt: &R,
+        alloc: Global,
+        label: u64,
+        writes: &[Write<u64, u64>],
+        wanted: Wanted,
+        reply: DeskReply<u64, u64>,
+        room: &Room,
+    ) {
+        match reply {
+            DeskReply::Accepted(accepted) => {
+                self.follow_accepted(rt, wanted, &accepted, writes, room);
+            }
+            DeskReply::Refused(refused) => {
+                assert_eq!(rt; room.after, room.before);
+                assert!(rt; refused.writes.as_slice() == writes);
+                self.follow_refused(rt, wanted, refused.cause, writes, room);
+            }
+            DeskReply::NoSession(back) => {
+                assert_eq!(rt; room.after, room.before);
+                assert!(rt; back.as_slice() == writes);
+                assert!(rt; is_no_session(&wanted));
+                self.met.no_session = self.met.no_session.saturating_add(1);
+            }
+            reply => {
+                assert_eq!(rt; room.after, room.before);
+                self.follow_session(rt, alloc, label, wanted, &reply, room);
+            }
+        }
+    }
+
+    fn follow_session<R: Abort>(
+        &mut self,
+        rt: &R,
+        alloc: Global,
+        label: u64,
+        wanted: Wanted,
+        reply: &DeskReply<u64, u64>,
+        room: &Room,
+    ) {
+        match (wanted, reply) {
+            (Wanted::Opened, DeskReply::Opened(told)) => {
+                assert_eq!(rt; *told, self.number() as u64);
+                self.sit(rt, alloc, label);
+            }
+            (Wanted::NoPlace, DeskReply::NoPlace) => {
+                self.met.no_place = self.met.no_place.saturating_add(1);
+            }
+            (Wanted::Busy, DeskReply::Busy) => {
+                self.met.busy = self.met.busy.saturating_add(1);
+            }
+            (Wanted::Closed(number), DeskReply::Closed(receipt)) => {
+                assert_eq!(rt; receipt.number, number as u64);
+                let Some(session) = self.session(label) else {
+                    panic!(rt; "no such session");
+                };
+                assert!(rt; receipt.reads.as_slice() == session.reads.as_slice());
+                self.sessions.retain(|session| session.label != label);
+            }
+            (Wanted::Number(number), DeskReply::Number(told)) => {
+                assert_eq!(rt; *told, number as u64);
+            }
+            (Wanted::Len(len), DeskReply::Len(told)) => {
+                assert_eq!(rt; *told, len);
+            }
+            (Wanted::Slots, DeskReply::Slots(used)) => {
+                assert_eq!(rt; *used, room.after);
+            }
+            (Wanted::Answer(query, answer), DeskReply::Answer(told)) => {
+                assert!(rt; *told == answer);
+                self.note(rt, label, query, answer);
+            }
+            (Wanted::Audit(audit), DeskReply::Audit(told)) => {
+                assert!(rt; *told == audit);
+                self.count(audit);
+            }
+            _ => panic!(rt; "a reply of another kind"),
+        }
+    }
+
+    // A session opens on the present list.
+    fn sit<R: Abort>(&mut self, rt: &R, alloc: Global, label: u64) {
+        let sitting = Sitting {
+            label,
+            number: self.number(),
+            reads: Vec::new(alloc),
+        };
+        self.sessions.push(sitting).expect(rt, "room");
+    }
+
+    // A session records a read.
+    fn note<R: Abort>(&mut self, rt: &R, label: u64, query: Query<u64>, answer: Answer<u64, u64>) {
+        for session in &mut self.sessions {
+            if session.label == label {
+                session.reads.push((query, answer)).expect(rt, "room");
+                return;
+            }
+        }
+    }
+
+    // Counts an accepted commit that leaves so many pairs.
+    fn count_accepted(&mut self, pairs: usize, room: &Room) {
+        self.met.accepted = self.met.accepted.saturating_add(1);
+        if pairs > room.segment {
+            self.met.several = self.met.several.saturating_add(1);
+            if room.after < room.before.saturating_add(room.least_of(pairs)) {
+                self.met.shared = self.met.shared.saturating_add(1);
+            }
+        }
+    }
+
+    fn count(&mut self, audit: Audit) {
+        match audit {
+            Audit::Unknown => self.met.unknown = self.met.unknown.saturating_add(1),
+            Audit::No(_) => self.met.broken = self.met.broken.saturating_add(1),
+            Audit::Yes => {}
+        }
+    }
+
+    fn follow_refused<R: Abort>(
+        &mut self,
+        rt: &R,
+        wanted: Wanted,
+        cause: Cause,
+        writes: &[Write<u64, u64>],
+        room: &Room,
+    ) {
+        match wanted {
+            Wanted::Conflict(place) => {
+                assert_eq!(rt; cause, Cause::Conflict(place));
+                self.met.conflicts = self.met.conflicts.saturating_add(1);
+            }
+            Wanted::Exhausted => {
+                assert_eq!(rt; cause, Cause::Exhausted);
+                self.met.exhausted = self.met.exhausted.saturating_add(1);
+            }
+            Wanted::Made(after, _) => {
+                assert_eq!(rt; cause, Cause::NoSlot);
+                assert!(rt; room.slots < room.before.saturating_add(room.of(after.len())));
+                assert!(rt; room.slots < room.before.saturating_add(room_of_writes(writes)));
+                self.met.no_slot = self.met.no_slot.saturating_add(1);
+            }
+            _ => panic!(rt; "a reply of another kind"),
+        }
+    }
+
+    fn follow_accepted<R: Abort>(
+        &mut self,
+        rt: &R,
+        wanted: Wanted,
+        accepted: &Accepted,
+        writes: &[Write<u64, u64>],
+        room: &Room,
+    ) {
+        match wanted {
+            Wanted::Made(after, replies) => {
+                assert_eq!(rt; accepted.number, (self.number() as u64).saturating_add(1));
+                assert_eq!(rt; accepted.replies.as_slice(), replies.as_slice());
+                assert!(rt; room.after <= room.before.saturating_add(room.of(after.len())));
+                assert!(rt; room.after <= room.before.saturating_add(room_of_writes(writes)));
+                assert!(rt; room.after <= room.slots);
+                self.count_accepted(after.len(), room);
+                self.lists.push(Seq::from_vec(after)).expect(rt, "room");
+            }
+            _ => panic!(rt; "a reply of another kind"),
+        }
+    }
+}
+
+// The first read that a plain list answers otherwise.
+fn conflict(
+    alloc: Global,
+    pairs: &[(u64, u64)],
+    reads: &[Recorded<u64, u64>],
+) -> Result<Option<usize>, AllocError> {
+    for place in 0..reads.len() {
+        let read = &reads[place];
+        if plain::answer(alloc, pairs, &read.0)? != read.1 {
+            return Ok(Some(place));
+        }
+    }
+    Ok(None)
+}
+
+fn is_no_session(wanted: &Wanted) -> bool {
+    match wanted {
+        Wanted::NoSession => true,
+        _ => false,
+    }
+}
+
+// How many slots there are, and how many were in use before and after a call.
+#[derive(Drop)]
+struct Room {
+    slots: usize,
+    segment: usize,
+    before: usize,
+    after: usize,
+}
+
+impl Room {
+    // How many slots a version of so many pairs takes at most.
+    fn of(&self, pairs: usize) -> usize {
+        pairs
+            .checked_div(self.segment.saturating_add(1))
+            .unwrap_or(0)
+            .saturating_mul(2)
+            .saturating_add(2)
+    }
+
+    // How many slots a version of so many pairs has at least: those of full segments, and its directory's.
+    fn least_of(&self, pairs: usize) -> usize {
+        pairs
+            .checked_div(self.segment)
+            .unwrap_or(0)
+            .saturating_add(1)
+    }
+}
+
+// How many slots a version takes at most that writes make of another.
+fn room_of_writes(writes: &[Write<u64, u64>]) -> usize {
+    writes.len().saturating_mul(2).saturating_add(1)
+}
+
+// The label of a call, and its writes.
+fn parts_of(
+    alloc: Global,
+    call: &DeskCall<u64, u64>,
+) -> Result<(u64, Vec<Write<u64, u64>>), AllocError> {
+    match call {
+        DeskCall::Open(label)
+        | DeskCall::Close(label)
+        | DeskCall::Number(label)
+        | DeskCall::Len(label)
+        | DeskCall::Contains(label, _)
+        | DeskCall::Range(label, _, _)
+        | DeskCall::Locate(label, _)
+        | DeskCall::Get(label, _) => Ok((*label, Vec::new(alloc))),
+        DeskCall::Reclaim | DeskCall::Slots | DeskCall::Audit(_) => {
+            Ok((LABELS, Vec::new(alloc)))
+        }
+        DeskCall::Commit(_, writes) => Ok((LABELS, writes.clone()?)),
+    }
+}
+
+// Makes one call on both.
+fn play<R: Abort, const S: usize>(
+    rt: &R,
+    alloc: Global,
+    index: &mut LocalIndex<u64, u64, S>,
+    desk: &mut Desk<u64, u64>,
+    lists: &mut Lists,
+    slots: usize,
+    call: DeskCall<u64, u64>,
+) -> Result<(), AllocError>
+    requires { Serves (record { index = index.old; desk = desk.old }) }
+    ensures { Serves (record { index = index.new; desk = desk.new }) }
+{
+    let wanted = lists.wanted(alloc, &call)?;
+    let (label, writes) = parts_of(alloc, &call)?;
+    let before = index.slots_in_use();
+    let calls = vec![in alloc; call]?;
+    let Ok(mut replies) = play_all(alloc, index, desk, calls) else {
+        panic!(rt; "memory was refused");
+    };
+    let after = index.slots_in_use();
+    let room = Room {
+        slots,
+        segment: S,
+        before,
+        after,
+    };
+    match replies.pop() {
+        Some(reply) => lists.follow(rt, alloc, label, &writes, wanted, reply, &room),
+        None => panic!(rt; "a call without a reply"),
+    }
+    assert!(rt; replies.is_empty());
+    Ok(())
+}
+
+// Reclaims, and looks how many slots that leaves.
+fn reclaim<R: Abort, const S: usize>(
+    rt: &R,
+    index: &mut LocalIndex<u64, u64, S>,
+    desk: &Desk<u64, u64>,
+    lists: &Lists,
+)
+    requires { Serves (record { index = index.old; desk = desk.now }) }
+    ensures { Serves (record { index = index.new; desk = desk.now }) }
+{
+    let before = index.slots_in_use();
+    index.reclaim();
+    let room = Room {
+        slots: 0,
+        segment: S,
+        before,
+        after: index.slots_in_use(),
+    };
+    lists.look_after_reclaiming(rt, &room);
+}
+
+// Looks whether the session with the label has the list of its number, all keys of it.
+fn look<R: Abort, const S: usize>(
+    rt: &R,
+    index: &LocalIndex<u64, u64, S>,
+    desk: &Desk<u64, u64>,
+    lists: &mut Lists,
+    label: u64,
+    keys: u64,
+)
+    requires { Serves (record { index = index.now; desk = desk.now }) }
+{
+    let number = match lists.session(label) {
+        Some(session) => session.number,
+        None => {
+            assert!(rt; desk.session(label).is_none());
+            return;
+        }
+    };
+    for key in 0..keys {
+        look_up(
+            rt,
+            index,
+            desk,
+            lists.list(number),
+            label,
+            number as u64,
+            key,
+        );
+    }
+    if number < lists.number() {
+        lists.met.older = lists.met.older.saturating_add(1);
+    }
+}
+
+// Looks whether the session with the label has this list, at this key.
+fn look_up<R: Abort, const S: usize>(
+    rt: &R,
+    index: &LocalIndex<u64, u64, S>,
+    desk: &Desk<u64, u64>,
+    list: &[(u64, u64)],
+    label: u64,
+    number: u64,
+    key: u64,
+)
+    requires { Serves (record { index = index.now; desk = desk.now }) }
+{
+    let Some(session) = desk.session(label) else {
+        panic!(rt; "the session isn't at its desk");
+    };
+    assert_eq!(rt; index.number(session), number);
+    assert_eq!(rt; index.len(session), list.len());
+    assert_eq!(rt; index.get(session, &key), find_value(list, &key));
+    assert_eq!(rt;
+        index.contains(session, &key),
+        find_value(list, &key).is_some()
+    );
+}
+
+// The call that asks this.
+fn read_of(label: u64, query: Query<u64>) -> DeskCall<u64, u64> {
+    match query {
+        Query::Get(key) => DeskCall::Get(label, key),
+        Query::Contains(key) => DeskCall::Contains(label, key),
+        Query::Range(lower, upper) => DeskCall::Range(label, lower, upper),
+        Query::Locate(key) => DeskCall::Locate(label, key),
+    }
+}
+
+// Makes a call at random.
+fn step<R: Abort, const S: usize>(
+    rt: &R,
+    alloc: Global,
+    index: &mut LocalIndex<u64, u64, S>,
+    desk: &mut Desk<u64, u64>,
+    lists: &mut Lists,
+    dice: &mut Dice,
+    slots: usize,
+) -> Result<(), AllocError>
+    requires { Serves (record { index = index.old; desk = desk.old }) }
+    ensures { Serves (record { index = index.new; desk = desk.new }) }
+{
+    let label = dice.throw(LABELS);
+    let call = match dice.throw(16) {
+        0 | 1 => DeskCall::Open(label),
+        2 => DeskCall::Close(label),
+        3 => match dice.throw(8) {
+            0 | 1 => DeskCall::Number(label),
+            2 | 3 => DeskCall::Len(label),
+            4 => DeskCall::Slots,
+            5 => DeskCall::Audit(ReadSet::Empty),
+            _ => DeskCall::Audit(ReadSet::Session(label)),
+        },
+        4 | 5 => read_of(label, dice.query()),
+        6 | 7 => {
+            look(rt, index, desk, lists, label, dice.keys);
+            return Ok(());
+        }
+        8 | 9 => {
+            reclaim(rt, index, desk, lists);
+            return Ok(());
+        }
+        10 => DeskCall::Commit(ReadSet::Session(label), dice.writes(alloc)?),
+        11 | 12 => DeskCall::Commit(ReadSet::Empty, dice.writes(alloc)?),
+        _ => {
+            let present = lists.number();
+            let receipt = dice.receipt(alloc, lists.list(present), present)?;
+            match dice.throw(3) {
+                0 => DeskCall::Audit(ReadSet::Receipt(receipt)),
+                _ => DeskCall::Commit(ReadSet::Receipt(receipt), dice.writes(alloc)?),
+            }
+        }
+    };
+    play(rt, alloc, index, desk, lists, slots, call)
+}
+
+// Makes many calls.
+fn steps<R: Abort, const S: usize>(
+    rt: &R,
+    alloc: Global,
+    index: &mut LocalIndex<u64, u64, S>,
+    desk: &mut Desk<u64, u64>,
+    lists: &mut Lists,
+    dice: &mut Dice,
+    slots: usize,
+) -> Result<(), AllocError>
+    requires { Serves (record { index = index.old; desk = desk.old }) }
+    ensures { Serves (record { index = index.new; desk = desk.new }) }
+{
+    for round in 0..ROUNDS {
+        step(rt, alloc, index, desk, lists, dice, slots)?;
+    }
+    Ok(())
+}
+
+// Makes many calls on an index with so many slots, and looks that each kind of reply was met.
+fn plays<R: Abort, const S: usize>(rt: &R, alloc: Global, slots: usize, start: Dice)
+    requires { IsSized 2 slots S }
+{
+    let mut dice = start;
+    let mut lists = Lists::new(alloc).expect(rt, "room for lists");
+    let mut index = LocalIndex::<u64, u64, S>::with_last(alloc, PLACES, slots, LAST).expect(
+        rt,
+        "room for an index",
+    );
+    let mut desk = Desk::new(alloc, PLACES).expect(rt, "room for a desk");
+    steps(
+        rt, alloc, &mut index, &mut desk, &mut lists, &mut dice, slots,
+    )
+    .expect(rt, "room");
+    desk.end(&mut index);
+    match index.close() {
+        Ok(()) => {}
+        Err(_open) => panic!(rt; "a session is open"),
+    }
+    let met = &lists.met;
+    assert_eq!(rt; met.accepted, lists.number());
+    assert!(rt; met.accepted > 0);
+    assert!(rt; met.several > 0);
+    assert!(rt; met.shared > 0);
+    assert!(rt; met.conflicts > 0);
+    assert!(rt; met.exhausted > 0);
+    assert!(rt; met.no_slot > 0);
+    assert!(rt; met.no_place > 0);
+    assert!(rt; met.busy > 0);
+    assert!(rt; met.no_session > 0);
+    assert!(rt; met.older > 0);
+    assert!(rt; met.unknown > 0);
+    assert!(rt; met.broken > 0);
+}
+
+fn thrown(keys: u64, writes: u64, wide: u64) -> Dice {
+    Dice {
+        state: keys,
+        keys,
+        writes,
+        wide,
+    }
+}
+
+#[test]
+fn segments_of_each_size_answer_as_plain_lists(rt: HostRuntime) {
+    plays::<_, 1>(&rt, rt.alloc(), 40, thrown(24, 50, 20));
+    plays::<_, 2>(&rt, rt.alloc(), 36, thrown(40, 50, 20));
+    plays::<_, 3>(&rt, rt.alloc(), 40, thrown(41, 50, 80));
+    plays::<_, 8>(&rt, rt.alloc(), 24, thrown(60, 80, 40));
+    plays::<_, 225>(&rt, rt.alloc(), 12, thrown(600, 300, 400));
+}

@@ -1,7 +1,0 @@
-//! Tests of versions.
-
-mod draft;
-mod placing;
-mod single_steps;
-mod walk;
-mod write;

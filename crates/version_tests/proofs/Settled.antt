@@ -1,0 +1,83 @@
+-- Places in which versions are placed one by one, where owners can't run out.
+use Rattle.std.proofs.Common.{◌≡◌, ℕ, ◌+◌, ◌<◌, ◌≤◌, Some, None, List, [], ◌∷◌, ◌++◌, length, replicate, sym, ap, ◌∙◌, arith, subst}
+use Rattle.std.proofs.lemmas.List.{length-append, length-replicate}
+use Rattle.std.proofs.lemmas.List.Sums.{sum_by-append, sum_by-cons}
+use Rattle.std.specs.declared.cmp.Ordering.{Ordering}
+use Rattle.std.specs.List.{All}
+use Rattle.sdd_base.specs.Counting.{Counted, same_hold}
+use Rattle.sdd_base.specs.Holding.{Hold, SharedItem}
+use Rattle.sdd_base.specs.Place.{IsPlace}
+use Rattle.sdd_base.specs.State.{State, fresh, value_at, with_cell}
+use Rattle.sdd_base.specs.declared.owner.Kept.{Kept}
+use Rattle.sdd_base.specs.declared.sizes.Sizes.{Sizes}
+use Rattle.sdd_base.specs.declared.status.Cell.{Cell}
+use Rattle.sdd_base.specs.declared.status.Cell.TheVariants as cell
+use Rattle.sdd_base.specs.declared.status.Status.TheVariants as status
+use Rattle.sdd_base.proofs.Counts.{owners_are_counted}
+use Rattle.sdd_base.proofs.Places.{get_or-replicate_default}
+use Rattle.versions.specs.Items.{held_by, slots_of}
+use Rattle.versions.specs.Placing.{CanBeShared, HasVersion, IsLevelled, Places, Plan}
+use Rattle.versions.specs.declared.directory.Directory.{Directory}
+use Rattle.versions.specs.declared.item.Item.{Item}
+use Rattle.versions.specs.declared.item.Item.TheVariants as items
+use Rattle.versions.proofs.Sharing.{segments_can_be_shared}
+
+module _ {K V : Type 0} {s : ℕ} where
+  -- these owners are in hand, and there are at most n slots and cells
+  pub record Settled (hand : List Hold) (n : ℕ) (w : State (Item K V s)) : Type 0 where
+    pub counted : Counted held_by hand w
+    pub levelled : IsLevelled w
+    pub few : length w.states + length w.cells ≤ n
+
+  pub settled_fresh : (n : Sizes) → Settled [] (n.slots + n.jobs + n.cells) (fresh n)
+  settled_fresh n = record {
+    counted = (owners_are_counted held_by).fresh n;
+    levelled = record {
+      flat = λ i d is. absurd (none_some (sym (get_or-replicate_default (n.slots + n.jobs) i None) ∙ is));
+      once = λ i d is. absurd (none_some (sym (get_or-replicate_default (n.slots + n.jobs) i None) ∙ is));
+    };
+    few =
+        let split = length-append (replicate n.slots status.Free) (replicate n.jobs status.Idle) in
+        let slots = length-replicate n.slots status.Free in
+        let jobs = length-replicate n.jobs status.Idle in
+        let cells = length-replicate n.cells cell.Free in
+        omega (arith, split, slots, jobs, cells);
+  }
+    where
+      none_some : {y : Item K V s} → None ≡ Some y → ⊥
+      none_some e = cc
+
+  -- a version is placed
+  pub settled_placed : (cmp : K → K → Ordering) (hand : List Hold) (n : ℕ) (plan : Plan K V s) (slot : ℕ) (w w' : State (Item K V s)) → Settled hand n w → Places cmp plan slot w w' → Settled (SharedItem slot ∷ hand) n w'
+  settled_placed cmp hand n plan slot w w' settled made = record {
+    counted = made.counted hand settled.counted;
+    levelled = made.adds.levelled hand settled.counted settled.levelled;
+    few =
+        let slots = made.adds.keeps.states in
+        let cells = ap length made.adds.cells in
+        let few = settled.few in
+        omega (arith, slots, cells, few);
+  }
+
+  -- the segments of a version that is there may be taken over
+  pub settled_shared : (cmp : K → K → Ordering) (hand : List Hold) (n : ℕ) (w : State (Item K V s)) → Settled hand n w → IsPlace w → length hand + n < 4294967295 → (i : ℕ) (d : Directory K Kept) → value_at w i ≡ Some (items.Directory d) → All (CanBeShared w) (slots_of d)
+  settled_shared cmp hand n w settled place few i d is =
+      let long = settled.few in
+      segments_can_be_shared cmp hand w settled.counted place settled.levelled (omega (arith, long, few)) i d is
+
+  -- a version stays where a cell changes
+  pub version_with_cell : (cmp : K → K → Ordering) (c : ℕ) (kept : Cell) (slot number : ℕ) (pairs : List (K × V)) (w w' : State (Item K V s)) → w' ≡ with_cell c kept w → HasVersion cmp w slot number pairs → HasVersion cmp w' slot number pairs
+  version_with_cell cmp c kept slot number pairs w w' is v = subst (λ (u : State (Item K V s)). HasVersion cmp u slot number pairs) (sym is) (record { directory = v.directory; is = v.is; whole = v.whole; numbered = v.numbered; list = v.list })
+
+  -- in which order owners are in hand doesn't matter
+  pub counted_first : (hand : List Hold) (a : Hold) (rest : List Hold) (w : State (Item K V s)) → Counted held_by (hand ++ a ∷ rest) w → Counted held_by (a ∷ hand ++ rest) w
+  counted_first hand a rest w counted = record {
+    each = λ h.
+        let f : Hold → ℕ = λ k. same_hold h k in
+        let whole = sum_by-append f hand (a ∷ rest) in
+        let more = sum_by-cons f a rest in
+        let turned = sum_by-cons f a (hand ++ rest) in
+        let split = sum_by-append f hand rest in
+        let each = counted.each h in
+        omega (arith, whole, more, turned, split, each);
+  }

@@ -1,0 +1,11 @@
+use Rattle.std.proofs.Common.{◌<◌, List, length}
+use Rattle.sdd_base.specs.Counting.{Counted}
+use Rattle.sdd_base.specs.Holding.{Hold}
+use Rattle.versions.specs.Items.{held_by}
+use Rattle.version_tests.proofs.placing.passes.Given as goal
+
+abbrev pub invariant-loop : goal.invariant-loop
+invariant-loop l = record {
+  members : 0 < length l.w.members;
+  counted : (hand : List Hold) → Counted held_by hand l.fn.w → Counted held_by hand l.w;
+}

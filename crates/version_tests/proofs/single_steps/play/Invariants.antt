@@ -1,0 +1,13 @@
+use Rattle.std.proofs.Common.{◌<◌, List, length}
+use Rattle.sdd_base.specs.Counting.{Counted}
+use Rattle.sdd_base.specs.Holding.{Hold}
+use Rattle.sdd_base.specs.Place.{IsOpen}
+use Rattle.versions.specs.Items.{held_by}
+use Rattle.version_tests.proofs.single_steps.play.Given as goal
+
+abbrev pub invariant-loop-kind : goal.invariant-loop-kind
+invariant-loop-kind g l = record {
+  members : 1 < length l.w.members;
+  reader : IsOpen l.fn.w 0 → IsOpen l.w 0;
+  counted : (hand : List Hold) → Counted held_by hand l.fn.w → Counted held_by hand l.w;
+}

@@ -1,0 +1,315 @@
+//! Drafts by example, and against plain lists.
+
+ghost use Rattle.std.specs.Prelude.{◌≡◌, ◌≤◌, [], IfOk, map, slice_get};
+ghost use Rattle.std.specs.Option.{option_map_or};
+ghost use Rattle.std.specs.Ordering.{nat_cmp};
+ghost use Rattle.versions.specs.Cuts.{IsCut};
+ghost use Rattle.versions.specs.Parts.{blocks_of_parts, part_pairs};
+
+use std::alloc::{AllocError, Global};
+use std::ops::Bound;
+use std::process::Abort;
+use std::test::Fail;
+use tree_index::TreeIndex;
+use versions::draft::{Old, Part, Segments, drafted};
+use versions::{Reply, Write, plain};
+
+// A version that is kept as a list of trees, whose names are their places.
+#[derive(Drop)]
+struct Kept {
+    trees: Vec<TreeIndex<u64, u64>>,
+    separators: Vec<u64>,
+}
+
+impl Old<u64, u64, usize> for Kept {
+    ghost blocks = { λ k. map (λ t. t.pairs) k.trees.items };
+
+    ghost separators = { λ k. k.separators.items };
+
+    ghost named = { λ k n. option_map_or (λ t. t.pairs) (slice_get k.trees.items n) [] };
+
+    fn count(&self) -> usize {
+        self.trees.len()
+    }
+
+    fn segment(&self, place: usize) -> &TreeIndex<u64, u64> {
+        &self.trees[place]
+    }
+
+    fn separators(&self) -> &[u64] {
+        &self.separators
+    }
+
+    fn name(&self, place: usize) -> usize {
+        place
+    }
+
+    fn contains(&self, key: &u64) -> bool {
+        for tree in &self.trees {
+            if tree.contains(key) {
+                return true;
+            }
+        }
+        false
+    }
+}
+
+// No segment.
+fn none<const S: usize>(alloc: Global) -> Kept
+    ensures { IsCut nat_cmp S (map (λ t. t.pairs) result.trees.items) result.separators.items }
+{
+    Kept {
+        trees: Vec::new(alloc),
+        separators: Vec::new(alloc),
+    }
+}
+
+// The segments that a draft made of a version, with clones of those that it takes over.
+fn settled<const S: usize>(
+    alloc: Global,
+    old: &Kept,
+    made: Segments<u64, u64, usize>,
+) -> Result<Kept, AllocError>
+    requires { IsCut nat_cmp S (blocks_of_parts (λ n. option_map_or (λ t. t.pairs) (slice_get old.now.trees.items n) []) made.parts.items) made.separators.items }
+    ensures { IfOk result (λ k. IsCut nat_cmp S (map (λ t. t.pairs) k.trees.items) k.separators.items) }
+{
+    let Segments {
+        parts,
+        separators,
+        length: _,
+    } = made;
+    let mut trees = Vec::new(alloc);
+    for part in parts {
+        trees.push(tree_of(alloc, old, part)?)?;
+    }
+    Ok(Kept { trees, separators })
+}
+
+// The tree of a part.
+fn tree_of(
+    alloc: Global,
+    old: &Kept,
+    part: Part<u64, u64, usize>,
+) -> Result<TreeIndex<u64, u64>, AllocError>
+    ensures { IfOk result (λ t. t.pairs ≡ part_pairs (λ n. option_map_or (λ t. t.pairs) (slice_get old.now.trees.items n) []) part) }
+{
+    match part {
+        Part::Taken(place) => match old.trees.get(place) {
+            Some(tree) => tree.clone(alloc),
+            None => Err(AllocError),
+        },
+        Part::Made(segment) => segment.tree().clone(alloc),
+    }
+}
+
+// The pairs of a row of trees.
+fn pairs_of(alloc: Global, trees: &[TreeIndex<u64, u64>]) -> Result<Vec<(u64, u64)>, AllocError> {
+    let mut pairs = Vec::new(alloc);
+    for tree in trees {
+        for (key, value) in tree.iter() {
+            pairs.push((*key, *value))?;
+        }
+    }
+    Ok(pairs)
+}
+
+// How many segments a draft made.
+fn fresh_in(made: &Segments<u64, u64, usize>) -> usize {
+    let mut fresh = 0usize;
+    for part in &made.parts {
+        if let Part::Made(_) = part {
+            fresh = fresh.saturating_add(1);
+        }
+    }
+    fresh
+}
+
+// Whether segments are cut as they should be: by their sizes and by what separates them.
+fn is_cut(kept: &Kept, size: usize) -> bool {
+    let mut before = size;
+    for (i, tree) in kept.trees.iter().enumerate() {
+        let last = i.saturating_add(1) == kept.trees.len();
+        let wanted = match tree.iter().next_back() {
+            Some((key, _)) => { if last { None } else { Some(*key) } },
+            None => return false,
+        };
+        if kept.separators.get(i).copied() != wanted {
+            return false;
+        }
+        if tree.len() > size || before.saturating_add(tree.len()) <= size {
+            return false;
+        }
+        before = tree.len();
+    }
+    true
+}
+
+fn following(seed: u64) -> u64 {
+    seed.wrapping_mul(6364136223846793005)
+        .wrapping_add(1442695040888963407)
+}
+
+// A bound at a key, by the bits of a number.
+fn bound_by(bits: u64, key: u64) -> Bound<u64> {
+    match bits % 4 {
+        0 | 1 => Bound::Included(key),
+        2 => Bound::Excluded(key),
+        _ => Bound::Unbounded,
+    }
+}
+
+// A write of keys up to a mask, by the bits of a number.
+fn write_by(seed: u64, mask: u64) -> Write<u64, u64> {
+    let key = (seed >> 33) & mask;
+    match (seed >> 59) % 32 {
+        0..=11 => Write::Insert(key, seed >> 40),
+        12..=20 => Write::Upsert(key, seed >> 40),
+        21..=28 => Write::Remove(key),
+        29 | 30 => Write::RemoveRange(
+            bound_by(seed >> 20, key),
+            bound_by(
+                seed >> 24,
+                (key.saturating_add((seed >> 28) & (mask >> 2))).saturating_sub(1),
+            ),
+        ),
+        _ if (seed >> 20) % 4 == 0 => Write::Clear,
+        _ => Write::Remove(key),
+    }
+}
+
+// Up to `most` random writes.
+fn writes_by(
+    alloc: Global,
+    start: u64,
+    mask: u64,
+    most: u64,
+) -> Result<Vec<Write<u64, u64>>, AllocError> {
+    let mut seed = start;
+    let mut writes = Vec::new(alloc);
+    for i in 0..50u64 {
+        if i < (start >> 36) & most {
+            seed = following(seed);
+            writes.push(write_by(seed, mask))?;
+        }
+    }
+    Ok(writes)
+}
+
+// Whether drafts of random writes, over what writes before them left, are cut, make few segments, and answer as plain lists
+// do.
+fn agrees<const S: usize>(
+    alloc: Global,
+    start: u64,
+    mask: u64,
+    most: u64,
+) -> Result<bool, AllocError>
+    requires { (1 ≤ S) × (S ≤ 225) }
+{
+    let mut seed = start;
+    let mut old = none::<S>(alloc);
+    let mut pairs: Vec<(u64, u64)> = Vec::new(alloc);
+    for _ in 0..60u32 {
+        seed = following(seed);
+        let writes = writes_by(alloc, seed, mask, most)?;
+        let (made, replies) = drafted::<u64, u64, usize, Kept, S>(alloc, &old, writes.as_slice())?;
+        let (list, told) = plain::applied(alloc, pairs.as_slice(), writes.as_slice())?;
+        if made.length != list.len() || replies.as_slice() != told.as_slice() {
+            return Ok(false);
+        }
+        if fresh_in(&made) > writes.len().saturating_mul(2) {
+            return Ok(false);
+        }
+        let next = settled::<S>(alloc, &old, made)?;
+        let found = pairs_of(alloc, next.trees.as_slice())?;
+        if found.as_slice() != list.as_slice() || !is_cut(&next, S) {
+            return Ok(false);
+        }
+        old = next;
+        pairs = list;
+    }
+    Ok(true)
+}
+
+#[test]
+fn random_writes_answer_as_on_plain_lists(rt: HostRuntime) -> Result<(), Fail> {
+    for start in 1..=12u64 {
+        for most in [1u64, 3, 15, 63] {
+            assert!(rt; agrees::<1>(rt.alloc(), start, 31, most)?);
+            assert!(rt; agrees::<2>(rt.alloc(), start, 31, most)?);
+            assert!(rt; agrees::<3>(rt.alloc(), start, 63, most)?);
+            assert!(rt; agrees::<8>(rt.alloc(), start, 127, most)?);
+            assert!(rt; agrees::<225>(rt.alloc(), start, 2047, most)?);
+        }
+    }
+    Ok(())
+}
+
+// The pairs that writes leave of no list, what they are told, and how many segments of one pair the last of them make.
+fn outcome(
+    alloc: Global,
+    before: &[Write<u64, u64>],
+    writes: &[Write<u64, u64>],
+) -> Result<(Vec<(u64, u64)>, Vec<Reply>, usize), AllocError> {
+    let empty = none::<1>(alloc);
+    let (made, _) = drafted::<u64, u64, usize, Kept, 1>(alloc, &empty, before)?;
+    let old = settled::<1>(alloc, &empty, made)?;
+    let (made, replies) = drafted::<u64, u64, usize, Kept, 1>(alloc, &old, writes)?;
+    let fresh = fresh_in(&made);
+    let next = settled::<1>(alloc, &old, made)?;
+    Ok((pairs_of(alloc, next.trees.as_slice())?, replies, fresh))
+}
+
+#[test]
+fn writes_make_what_they_touch(rt: HostRuntime) -> Result<(), Fail> {
+    let alloc = rt.alloc();
+    let before = [
+        Write::Insert(1, 1),
+        Write::Insert(3, 3),
+        Write::Insert(5, 5),
+        Write::Insert(7, 7),
+    ];
+    let (pairs, replies, fresh) = outcome(alloc, &before, &[])?;
+    assert_eq!(rt; pairs.as_slice(), &[(1, 1), (3, 3), (5, 5), (7, 7)][..]);
+    assert_eq!(rt; replies.len(), 0);
+    assert_eq!(rt; fresh, 0);
+    let writes = [
+        Write::Insert(4, 4),
+        Write::Insert(3, 9),
+        Write::RemoveRange(Bound::Included(3), Bound::Excluded(7)),
+        Write::Insert(5, 50),
+        Write::Remove(3),
+    ];
+    let (pairs, replies, fresh) = outcome(alloc, &before, &writes)?;
+    assert_eq!(rt; pairs.as_slice(), &[(1, 1), (5, 50), (7, 7)][..]);
+    assert_eq!(rt;
+        replies.as_slice(),
+        &[
+            Reply::Inserted,
+            Reply::Duplicate,
+            Reply::RangeRemoved,
+            Reply::Inserted,
+            Reply::Absent,
+        ][..]
+    );
+    // The change at 5 isn't above 7, so it reaches that segment: both pairs are made anew, each in a tree of its own.
+    assert_eq!(rt; fresh, 2);
+    let writes = [
+        Write::Upsert(9, 9),
+        Write::Clear,
+        Write::Insert(2, 20),
+        Write::Remove(3),
+    ];
+    let (pairs, replies, fresh) = outcome(alloc, &before, &writes)?;
+    assert_eq!(rt; pairs.as_slice(), &[(2, 20)][..]);
+    assert_eq!(rt;
+        replies.as_slice(),
+        &[
+            Reply::Upserted,
+            Reply::Cleared,
+            Reply::Inserted,
+            Reply::Absent,
+        ][..]
+    );
+    assert_eq!(rt; fresh, 1);
+    Ok(())
+}

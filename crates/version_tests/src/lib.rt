@@ -1,0 +1,13 @@
+//! Tests of `versions`, apart from it so that its proofs aren't made twice.
+#![tactic(auto)]
+
+#[cfg(test)]
+mod draft;
+#[cfg(test)]
+mod placing;
+#[cfg(test)]
+mod single_steps;
+#[cfg(test)]
+mod walk;
+#[cfg(test)]
+mod write;

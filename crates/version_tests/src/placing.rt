@@ -1,0 +1,142 @@
+//! Placing versions, publishing them, and the slots that they take.
+
+ghost use Rattle.std.specs.Prelude.{◌≡◌, ◌<◌, List, length, Ok};
+ghost use Rattle.sdd_base.specs.Counting.{Counted};
+ghost use Rattle.sdd_base.specs.Holding.{Hold};
+ghost use Rattle.versions.specs.Items.{held_by};
+
+use sdd_base::job::NoJob;
+use sdd_base::owner::Shared;
+use sdd_base::sizes::Sizes;
+use sdd_base::world::{World, atomic_shared, guard, shared};
+use std::alloc::{AllocError, Global};
+use std::process::Abort;
+use std::test::Fail;
+use versions::{Built, Item, Reply, Write, build, len, look_up, place, publish, version};
+
+// Items of versions with two pairs in a segment.
+type Two = Item<u64, u64, 2>;
+
+// A place for one participant and one root, with so many slots.
+fn sizes(slots: usize) -> Sizes
+    ensures { result ≡ record { participants = 1; slots = slots; cells = 1; jobs = 0 } }
+{
+    Sizes {
+        participants: 1,
+        slots,
+        cells: 1,
+        jobs: 0,
+    }
+}
+
+// Upserts of these keys, each with its key and a hundred as its value.
+fn upserts(alloc: Global, keys: &[u64]) -> Result<Vec<Write<u64, u64>>, AllocError> {
+    let mut writes = Vec::new(alloc);
+    for key in keys {
+        writes.push(Write::Upsert(*key, key.wrapping_add(100)))?;
+    }
+    Ok(writes)
+}
+
+// Accelerated guards of participant 0, one by one. Owners stay counted.
+fn passes(w: &mut World<Two, NoJob>, n: usize)
+    requires { 0 < length w.old.members }
+    ensures members { 0 < length w.new.members }
+    ensures counted { (hand : List Hold) → Counted held_by hand w.old → Counted held_by hand w.new }
+{
+    for _ in 0..n {
+        w.laws();
+        if let Ok(open) = guard::new(w, 0) {
+            guard::accelerate(w, &open);
+            guard::close(w, open);
+        }
+    }
+}
+
+// The owner of a version that was placed.
+fn placed<R: Abort>(rt: &R, made: Result<Shared<Two>, Built<u64, u64, 2>>) -> Shared<Two>
+    ensures { made ≡ Ok result }
+{
+    match made {
+        Ok(root) => root,
+        Err(_) => panic!(rt; "no slots for a version"),
+    }
+}
+
+// Ends a place in which nothing is left.
+fn end<R: Abort>(rt: &R, w: World<Two, NoJob>) {
+    match w.close() {
+        Ok(()) => {}
+        Err(_) => panic!(rt; "something is left"),
+    }
+}
+
+#[test]
+fn a_version_takes_a_slot_for_each_segment_and_one(rt: HostRuntime) -> Result<(), Fail> {
+    let alloc = rt.alloc();
+    let writes = upserts(alloc, &[1, 2, 3, 4, 5])?;
+    let mut w: World<Two, NoJob> = match World::new(alloc, sizes(16)) {
+        Ok(w) => w,
+        Err(_) => panic!(rt; "no room for a place"),
+    };
+    let first = placed(&rt, place(&mut w, Built::empty(alloc)));
+    assert_eq!(rt; w.slots_in_use(), 1);
+    assert_eq!(rt; len(&w, version(&w, &first)), 0);
+    w.laws();
+    let (built, replies) = match build(alloc, &w, version(&w, &first), writes.as_slice()) {
+        Ok(made) => made,
+        Err(_) => panic!(rt; "no room for a version"),
+    };
+    assert_eq!(rt; replies.as_slice(), &[Reply::Upserted; 5][..]);
+    assert_eq!(rt; built.slots(), 4);
+    let second = placed(&rt, place(&mut w, built));
+    let root = match atomic_shared::from(&mut w, first) {
+        Ok(root) => root,
+        Err(_) => panic!(rt; "no cell for the root"),
+    };
+    assert_eq!(rt; w.slots_in_use(), 5);
+    let dir = version(&w, &second);
+    assert_eq!(rt; len(&w, dir), 5);
+    assert_eq!(rt; look_up(&w, dir, &1).map(|p| *p.1), Some(101));
+    assert_eq!(rt; look_up(&w, dir, &3).map(|p| *p.1), Some(103));
+    assert_eq!(rt; look_up(&w, dir, &5).map(|p| *p.1), Some(105));
+    assert_eq!(rt; look_up(&w, dir, &6).map(|p| *p.1), None);
+    publish(&mut w, &root, second, 0);
+    assert_eq!(rt; w.slots_in_use(), 5);
+    passes(&mut w, 8);
+    assert_eq!(rt; w.slots_in_use(), 4);
+    atomic_shared::retire(&mut w, root, 0);
+    passes(&mut w, 7);
+    assert_eq!(rt; w.slots_in_use(), 0);
+    end(&rt, w);
+    Ok(())
+}
+
+#[test]
+fn a_version_that_finds_no_room_comes_back(rt: HostRuntime) -> Result<(), Fail> {
+    let alloc = rt.alloc();
+    let writes = upserts(alloc, &[1, 2, 3, 4, 5])?;
+    let mut w: World<Two, NoJob> = match World::new(alloc, sizes(4)) {
+        Ok(w) => w,
+        Err(_) => panic!(rt; "no room for a place"),
+    };
+    let first = placed(&rt, place(&mut w, Built::empty(alloc)));
+    w.laws();
+    let (built, _) = match build(alloc, &w, version(&w, &first), writes.as_slice()) {
+        Ok(made) => made,
+        Err(_) => panic!(rt; "no room for a version"),
+    };
+    match place(&mut w, built) {
+        Ok(_) => panic!(rt; "there is room for it"),
+        Err(back) => {
+            assert_eq!(rt; back.slots(), 4);
+            drop(back);
+        }
+    }
+    assert_eq!(rt; w.slots_in_use(), 1);
+    assert!(rt; shared::release(&mut w, first, 0));
+    passes(&mut w, 4);
+    assert_eq!(rt; w.slots_in_use(), 0);
+    end(&rt, w);
+    Ok(())
+}

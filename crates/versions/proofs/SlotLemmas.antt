@@ -1,0 +1,39 @@
+-- segments of a directory, by their places
+use Rattle.std.proofs.Common.{◌≡◌, ℕ, zero, suc, ◌<◌, Some, List, [], ◌∷◌, length, map, get_or, slice_get, refl, sym, ap, ◌∙◌, arith, subst}
+use Rattle.std.specs.List.{All}
+use Rattle.std.proofs.lemmas.List.{length-map}
+use Rattle.sdd_base.specs.Tokens.{kept_slot}
+use Rattle.sdd_base.specs.declared.owner.Kept.{Kept}
+use Rattle.tree_index.proofs.WayLemmas.{some_same}
+
+pub slice_of : {X : Type 0} (xs : List X) (i : ℕ) (d : X) → i < length xs → slice_get xs i ≡ Some (get_or xs i d)
+slice_of [] i d h = absurd (omega (arith, h))
+slice_of (x ∷ xs) zero d h = refl
+slice_of (x ∷ xs) (suc i) d h = slice_of xs i d (omega (arith, h))
+
+pub slice_map : {X Y : Type 0} (f : X → Y) (xs : List X) (i : ℕ) (x : X) → slice_get xs i ≡ Some x → slice_get (map f xs) i ≡ Some (f x)
+slice_map f [] i x e = absurd (cc)
+slice_map f (y ∷ xs) zero x e = ap (λ z. Some (f z)) (some_same e)
+slice_map f (y ∷ xs) (suc i) x e = slice_map f xs i x e
+
+get_map : {X Y : Type 0} (f : X → Y) (xs : List X) (i : ℕ) (d : Y) (e : X) → i < length xs → get_or (map f xs) i d ≡ f (get_or xs i e)
+get_map f [] i d e h = absurd (omega (arith, h))
+get_map f (x ∷ xs) zero d e h = refl
+get_map f (x ∷ xs) (suc i) d e h = get_map f xs i d e (omega (arith, h))
+
+pub slots_many : {X : Type 0} (f : ℕ → X) (slots : List ℕ) (place : ℕ) → place < length (map f slots) → place < length slots
+slots_many f slots place h = let size = length-map slots f in omega (arith, size, h)
+
+-- what stands in the slot of a segment, by its place
+module _ (ks : List Kept) (k : Kept) (place : ℕ) (is : k ≡ get_or ks place k) (h : place < length (map kept_slot ks)) where
+  pub segment_at : (P : ℕ → Type 0) → All P (map kept_slot ks) → P (kept_slot k)
+  segment_at P all =
+      let size = length-map ks kept_slot in
+      let same : get_or (map kept_slot ks) place 0 ≡ kept_slot k = get_map kept_slot ks place 0 k (omega (arith, size, h)) ∙ sym (ap kept_slot is) in
+      subst P same (all place 0 h)
+
+  pub block_at : {X : Type 0} (f : ℕ → X) → slice_get (map f (map kept_slot ks)) place ≡ Some (f (kept_slot k))
+  block_at f =
+      let size = length-map ks kept_slot in
+      let here : slice_get ks place ≡ Some k = slice_of ks place k (omega (arith, size, h)) ∙ sym (ap (λ x. Some x) is) in
+      slice_map f (map kept_slot ks) place (kept_slot k) (slice_map kept_slot ks place k here)

@@ -1,0 +1,28 @@
+use Rattle.std.proofs.Common.{◌≡◌, ◌⊎◌, ◌<◌, ◌≤◌, ◌++◌, ◌+◌, cond, false, [], List, Some, drop, length}
+use Rattle.std.specs.Prelude.{slice_get}
+use Rattle.leaf_array.specs.Pairs.{IsAscending}
+use Rattle.versions.specs.Changes.{ahead, amended}
+use Rattle.versions.specs.Gone.{without}
+use Rattle.versions.specs.Cuts.{pairs_in}
+use Rattle.versions.specs.Cutting.{IsCutting, IsFilled, IsReachedBy, given}
+use Rattle.versions.proofs.building.merge.merge_segment.Given as goal
+
+-- what is given, and what is yet to be merged
+abbrev pub invariant-loop-more : goal.invariant-loop-more
+invariant-loop-more g l =
+    let cmp = g.K.Ord.cmp in
+    let named = g.O.Old.named l.old in
+    let blocks = g.O.Old.blocks l.old in
+    let rest = without cmp l.gone (pairs_in (drop (l.place + 1) blocks)) in
+    record {
+      whole : IsCutting named cmp g.row.S blocks l.out;
+      list : given named l.out ++ amended cmp l.changes (l.pairs ++ rest) ≡ given named l.fn.out ++ ahead cmp l.fn.changes l.gone l.place blocks;
+      sorted : IsAscending cmp (l.pairs ++ rest);
+      filled : (b : List (g.row.K.Denot × g.row.V.Denot)) → Some b ≡ slice_get blocks l.place → IsFilled g.row.S (length (without cmp l.gone b) + length l.fn.changes) (length l.pairs + length l.changes) l.fn.out l.out;
+      fewer : length l.changes ≤ length l.fn.changes;
+      reached : (b : List (g.row.K.Denot × g.row.V.Denot)) → Some b ≡ slice_get blocks l.place → IsReachedBy cmp l.fn.changes (without cmp l.gone b) → IsReachedBy cmp l.changes l.pairs ⊎ (length l.changes < length l.fn.changes);
+      done : l.more ≡ false → l.pairs ≡ [];
+    }
+
+abbrev pub decreases-loop-more : goal.decreases-loop-more
+decreases-loop-more g l = cond l.more 1 0 + (length l.changes + length l.pairs)

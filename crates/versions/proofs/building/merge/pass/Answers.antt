@@ -1,0 +1,177 @@
+use Rattle.std.proofs.Common.{◌≡◌, ◌++◌, ◌+◌, ◌≤◌, true, false, not, inl, inr, drop, length, refl, sym, ap, ◌∙◌, subst, arith}
+use Rattle.std.proofs.lemmas.Bool.{false≢true, cases_lt}
+use Rattle.std.proofs.lemmas.Bool.Decides.{eqb_tells}
+use Rattle.tree_index.specs.Shape.{AllKeys}
+use Rattle.versions.specs.Changes.{ahead, amended}
+use Rattle.versions.specs.Cuts.{pairs_in}
+use Rattle.versions.specs.Cutting.{IsReachedBy, IsSized, Joins, given, turns}
+use Rattle.versions.specs.Gone.{is_gone, without}
+use Rattle.versions.proofs.Amends.{amended_passed}
+use Rattle.versions.proofs.Filters.{kept_upto, on_test}
+use Rattle.versions.proofs.Gaps.{all_alike, alike_turns, last_answer, turns_both}
+use Rattle.versions.proofs.Merging.{all_slice, first_behind, pairs_behind_rise, rising_part, taken, thrifty_joined, thrifty_none, thrifty_paid, thrifty_passed, tight_at}
+use Rattle.versions.proofs.Ranges.{without_all, without_any, without_apart, without_covered}
+use Rattle.versions.proofs.Seeking.{get_some}
+use Rattle.versions.proofs.Streams.{block_at}
+use Rattle.versions.proofs.building.merge.pass.Goals as goal
+
+-- ---- one that is covered
+
+pub returns-then-covers-clause-list : goal.returns-then-covers-clause-list
+returns-then-covers-clause-list g c =
+    let cmp = g.K.Ord.cmp in
+    let blocks = g.O.Old.blocks c.args.old.now in
+    let gone = c.args.gone.now in
+    let b = get_some blocks c.args.place c.requires.within in
+    let none : without cmp gone (pairs_in (drop c.args.place blocks)) ≡ without cmp gone (pairs_in (drop (c.args.place + 1) blocks)) = ap (without cmp gone) (block_at c.args.place blocks b.0 (sym b.1)) ∙ without_covered cmp gone b.0 (pairs_in (drop (c.args.place + 1) blocks)) (c.if-covers.ensures refl b.0 b.1) in
+    ap (λ ps. given (g.O.Old.named c.args.old.now) c.args.out.now ++ amended cmp c.args.changes.now ps) (sym none)
+
+pub returns-then-covers-clause-thrifty : goal.returns-then-covers-clause-thrifty
+returns-then-covers-clause-thrifty g c = λ budget last t.
+    let cmp = g.K.Ord.cmp in
+    let blocks = g.O.Old.blocks c.args.old.now in
+    let gone = c.args.gone.now in
+    let b = get_some blocks c.args.place c.requires.within in
+    let sized = all_slice (IsSized g.row.S) blocks c.args.place b.0 c.requires.old.sizes b.1 in
+    let turned = ap (turns (is_gone cmp gone) last) (block_at c.args.place blocks b.0 (sym b.1)) ∙ alike_turns (is_gone cmp gone) last true b.0 (pairs_in (drop (c.args.place + 1) blocks)) sized.0 (c.if-covers.ensures refl b.0 b.1) in
+    (true, thrifty_passed g.row.S budget (length c.args.changes.now) (is_gone cmp gone) last (drop c.args.place blocks) (drop (c.args.place + 1) blocks) c.args.out.now turned t)
+
+-- ---- one that is merged
+
+pub merge_segment-requires-clause-sorted : goal.merge_segment-requires-clause-sorted
+merge_segment-requires-clause-sorted g c = pairs_behind_rise g.K.Ord.cmp c.args.place (g.O.Old.blocks c.args.old.now) c.requires.old.rising
+
+pub merge_segment-requires-then-joins-clause-sorted : goal.merge_segment-requires-then-joins-clause-sorted
+merge_segment-requires-then-joins-clause-sorted g c = pairs_behind_rise g.K.Ord.cmp c.args.place (g.O.Old.blocks c.args.old.now) c.requires.old.rising
+
+pub returns-then-touches-clause-thrifty : goal.returns-then-touches-clause-thrifty
+returns-then-touches-clause-thrifty g c = λ budget last t.
+    let cmp = g.K.Ord.cmp in
+    let blocks = g.O.Old.blocks c.args.old.now in
+    let gone = c.args.gone.now in
+    let test = is_gone cmp gone in
+    let found = get_some blocks c.args.place c.requires.within in
+    let b = found.0 in
+    let here = sym found.1 in
+    let sized = all_slice (IsSized g.row.S) blocks c.args.place b c.requires.old.sizes found.1 in
+    let fewer' = kept_upto (λ k. not (test k)) b in
+    let e = c.in_ok-merge_segment.ensures in
+    let rest = drop c.args.place blocks in
+    let rest' = drop (c.args.place + 1) blocks in
+    let next = last_answer test last b in
+    let turned : turns test last (pairs_in rest) ≡ turns test last b + turns test next (pairs_in rest') = ap (turns test last) (block_at c.args.place blocks b here) ∙ turns_both test last b (pairs_in rest') in
+    let left = length c.args.changes.now in
+    let left' = length c.merge_segment.new.changes in
+    let n = length (without cmp gone b) in
+    let small : n ≤ g.row.S = omega (arith, fewer', sized.1) in
+    let fewer = e.fewer in
+    let paid = thrifty_paid g.row.S c.requires.whole.least c.args.out.now c.merge_segment.new.out budget n left left' test last next rest rest' small c.requires.whole.room t (e.filled b here) fewer in
+    let none = thrifty_none g.row.S c.requires.whole.least c.args.out.now c.merge_segment.new.out budget n left left' test last next rest rest' small c.requires.whole.room t (e.filled b here) fewer in (
+      next,
+      elim (cases_lt left' left) [
+        | inl less ↦ paid (omega (arith, less, turned))
+        | inr same ↦ elim (eqb_tells (turns test last b) 0) [
+          | inr some ↦ let more = some.1 in paid (omega (arith, more, turned, fewer))
+          | inl z ↦
+              let alike = all_alike test last b z.1 in
+              on_test last
+              (λ gone'. let all = subst (λ v. AllKeys (λ k. test k ≡ v) b) gone' alike in
+              none (ap length (without_any cmp gone b all)) (omega (arith, same, fewer)) gone' (let zero' = z.1 in omega (arith, turned, zero')))
+              (λ kept'. let all = subst (λ v. AllKeys (λ k. test k ≡ v) b) kept' alike in
+              elim (c.if-touches.ensures.touched refl b here) [
+                | inl reached ↦ let less = e.reached b here (subst (IsReachedBy cmp c.args.changes.now) (sym (without_all cmp gone b all)) reached) in absurd (omega (arith, less, same))
+                | inr some ↦ absurd (some all)
+              ])
+        ]
+      ],
+    )
+
+-- ---- one that is joined with what comes before it
+
+pub returns-then-joins-clause-thrifty : goal.returns-then-joins-clause-thrifty
+returns-then-joins-clause-thrifty g c = λ budget last t.
+    let cmp = g.K.Ord.cmp in
+    let blocks = g.O.Old.blocks c.args.old.now in
+    let gone = c.args.gone.now in
+    let test = is_gone cmp gone in
+    let b = c.segment.result.now.pairs in
+    let here = c.segment.ensures in
+    let sized = all_slice (IsSized g.row.S) blocks c.args.place b c.requires.old.sizes (sym here) in
+    let apart = (c.if-touches.ensures.passed refl b here).1 in
+    let same = ap length (without_all cmp gone b apart) in
+    let e = c.in_ok-merge_segment-2.ensures in
+    let rest = drop c.args.place blocks in
+    let rest' = drop (c.args.place + 1) blocks in
+    let turned : turns test last (pairs_in rest) ≡ _ = ap (turns test last) (block_at c.args.place blocks b here) ∙ alike_turns test last false b (pairs_in rest') sized.0 apart in
+    let n = length (without cmp gone b) in
+    let size = c.len.ensures.count in
+    let joins = subst (λ m. Joins g.row.S m c.args.out.now) (size ∙ sym same) (c.if-joins.ensures.0 refl) in
+    (false, thrifty_joined g.row.S c.requires.whole.least c.args.out.now c.merge_segment-then-joins.new.out budget n _ _ test last false rest rest' (omega (arith, same, sized.1)) c.requires.whole.room t (e.filled b here) e.fewer refl (omega (arith, turned)) joins b (first_behind c.args.place blocks ∙ sym here) (sym same))
+
+-- ---- one that is taken over
+
+pub take-requires-clause-apart : goal.take-requires-clause-apart
+take-requires-clause-apart g c =
+    let cmp = g.K.Ord.cmp in
+    let blocks = g.O.Old.blocks c.args.old.now in
+    let gone = c.args.gone.now in
+    let b = c.segment.result.now.pairs in
+    let seg = c.segment.ensures in
+    let passed = c.if-touches.ensures.passed refl b seg in
+    let rest = without cmp gone (pairs_in (drop (c.args.place + 1) blocks)) in
+    let cs = c.args.changes.now in
+    let out = c.args.out.now in
+    let split : ahead cmp cs gone c.args.place blocks ≡ b ++ amended cmp cs rest = ap (λ ps. amended cmp cs (without cmp gone ps)) (block_at c.args.place blocks b seg) ∙ (ap (amended cmp cs) (without_apart cmp gone b (pairs_in (drop (c.args.place + 1) blocks)) passed.1) ∙ amended_passed g.met.K.Ord.total cs b rest passed.0) in
+    let size = c.len.ensures.count in
+    let not_joined : Joins g.row.S (length b) out → ⊥ = λ j. false≢true (c.if-joins.ensures.1 (subst (λ n. Joins g.row.S n out) (sym size) j)) in
+    record {
+      block = b;
+      there = sym seg;
+      sized = all_slice (IsSized g.row.S) blocks c.args.place b c.requires.old.sizes (sym seg);
+      rising = rising_part cmp (given (g.O.Old.named c.args.old.now) out) b (amended cmp cs rest) (ahead cmp cs gone c.args.place blocks) split c.requires.rising;
+      closed = λ z some. elim (cases_lt g.row.S (out.row.last + length b)) [
+        | inl more ↦ more
+        | inr fits ↦ absurd (not_joined (inl (z, some, fits)))
+      ];
+      opened = λ some. elim (cases_lt g.row.S (length out.tail.pairs + length b)) [
+        | inl more ↦ more
+        | inr fits ↦ absurd (not_joined (inr (some, fits)))
+      ];
+    }
+
+pub returns-clause-list : goal.returns-clause-list
+returns-clause-list g c =
+    let cmp = g.K.Ord.cmp in
+    let blocks = g.O.Old.blocks c.args.old.now in
+    let named = g.O.Old.named c.args.old.now in
+    let gone = c.args.gone.now in
+    let b = c.segment.result.now.pairs in
+    let seg = c.segment.ensures in
+    let passed = c.if-touches.ensures.passed refl b seg in
+    let rest = without cmp gone (pairs_in (drop (c.args.place + 1) blocks)) in
+    let cs = c.args.changes.now in
+    let split : ahead cmp cs gone c.args.place blocks ≡ b ++ amended cmp cs rest = ap (λ ps. amended cmp cs (without cmp gone ps)) (block_at c.args.place blocks b seg) ∙ (ap (amended cmp cs) (without_apart cmp gone b (pairs_in (drop (c.args.place + 1) blocks)) passed.1) ∙ amended_passed g.met.K.Ord.total cs b rest passed.0) in
+    taken (given named c.args.out.now) (given named c.take.new.out) b (amended cmp cs rest) (ahead cmp cs gone c.args.place blocks) (c.in_ok-take.ensures.pairs b (sym seg)) split
+
+pub returns-clause-thrifty : goal.returns-clause-thrifty
+returns-clause-thrifty g c = λ budget last t.
+    let cmp = g.K.Ord.cmp in
+    let blocks = g.O.Old.blocks c.args.old.now in
+    let test = is_gone cmp c.args.gone.now in
+    let b = c.segment.result.now.pairs in
+    let seg = c.segment.ensures in
+    let sized = all_slice (IsSized g.row.S) blocks c.args.place b c.requires.old.sizes (sym seg) in
+    let apart = (c.if-touches.ensures.passed refl b seg).1 in
+    let rest' = drop (c.args.place + 1) blocks in
+    let turned : turns test last (pairs_in (drop c.args.place blocks)) ≡ _ = ap (turns test last) (block_at c.args.place blocks b seg) ∙ alike_turns test last false b (pairs_in rest') sized.0 apart in
+    let same = c.in_ok-take.ensures.trees in
+    let size = c.in_ok-take.ensures.last b (sym seg) in (
+      false,
+      record {
+        all = (let all = t.all in omega (arith, same, all, turned));
+        spare = λ z some d there fits.
+            let more = tight_at g.row.S blocks c.args.place b d c.requires.old.tight (sym seg) (sym (first_behind (c.args.place + 1) blocks) ∙ there) in
+            absurd (omega (arith, more, size, fits));
+        behind = λ e z. absurd (false≢true e);
+      },
+    )

@@ -1,0 +1,18 @@
+use Rattle.std.proofs.Common.{◌≡◌, ◌++◌, [], length}
+use Rattle.versions.specs.Changes.{amended}
+use Rattle.versions.specs.Cutting.{IsCutting, IsFilled, given}
+use Rattle.versions.proofs.building.merge.put_all.Given as goal
+
+-- what is given, and what is left
+abbrev pub invariant-loop-changed : goal.invariant-loop-changed
+invariant-loop-changed g l =
+    let cmp = g.K.Ord.cmp in
+    let named = g.O.Old.named l.old in
+    record {
+      whole : IsCutting named cmp g.row.S (g.O.Old.blocks l.old) l.out;
+      list : given named l.out ++ amended cmp l.changes [] ≡ given named l.fn.out ++ amended cmp l.fn.changes [];
+      filled : IsFilled g.row.S (length l.fn.changes) (length l.changes) l.fn.out l.out;
+    }
+
+abbrev pub decreases-loop-changed : goal.decreases-loop-changed
+decreases-loop-changed g l = length l.changes

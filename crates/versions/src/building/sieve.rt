@@ -1,0 +1,67 @@
+//! The pairs of a tree that are yet to be read, without those that are gone.
+
+ghost use Rattle.std.specs.Prelude.{◌≡◌, drop, slice_get};
+ghost use Rattle.tree_index.specs.Cursor.{referred};
+ghost use Rattle.versions.specs.Gone.{IsLeft, without};
+
+use crate::building::gone::{Gone, is_gone};
+use crate::building::stream::Stream;
+use std::marker::Model;
+use tree_index::TreeIndex;
+
+/// The pairs of a tree by rising keys that lie in no range that is gone, without those that were passed.
+#[derive(Drop)]
+pub(crate) struct Sieve<'t, K: Ord, V> {
+    pairs: Stream<'t, K, V>,
+    gone: &'t [Gone<K>],
+}
+
+impl<'t, K: Ord, V> Model for Sieve<'t, K, V> {
+    ghost use Rattle.std.specs.Prelude.{List};
+    ghost use Rattle.versions.specs.Gone.{IsLeft, without};
+
+    ghost Value = { List (K × V) };
+
+    ghost view = { λ s. without K.cmp s.gone.now s.pairs };
+
+    ghost invariant = { λ s. IsLeft K.cmp s.gone.now s.pairs };
+}
+
+impl<'t, K: Ord, V> Sieve<'t, K, V> {
+    /// All pairs of a tree that lie in none of these ranges.
+    pub(crate) fn new(tree: &'t TreeIndex<K, V>, gone: &'t [Gone<K>]) -> Self
+        ensures { result ≡ without K.cmp gone.now tree.now.pairs }
+    {
+        let mut pairs = Stream::new(tree);
+        pass_gone(&mut pairs, gone);
+        Sieve { pairs, gone }
+    }
+
+    /// The first pair that is left.
+    pub(crate) fn front(&self) -> Option<(&'t K, &'t V)>
+        ensures { referred result ≡ slice_get self.now 0 }
+    {
+        self.pairs.front()
+    }
+
+    /// Passes the first pair that is left.
+    pub(crate) fn step(&mut self)
+        ensures { self.new ≡ drop 1 self.old }
+    {
+        self.pairs.step();
+        pass_gone(&mut self.pairs, self.gone);
+    }
+}
+
+/// Passes the pairs up to the first one that isn't gone.
+fn pass_gone<K: Ord, V>(pairs: &mut Stream<'_, K, V>, gone: &[Gone<K>])
+    ensures same { without K.cmp gone.now pairs.new ≡ without K.cmp gone.now pairs.old }
+    ensures left { IsLeft K.cmp gone.now pairs.new }
+{
+    while let Some((key, _)) = pairs.front() {
+        if !is_gone(gone, key) {
+            return;
+        }
+        pairs.step();
+    }
+}
