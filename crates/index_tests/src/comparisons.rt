@@ -128,7 +128,10 @@ fn look_up_all<'c, R: Abort, const S: usize>(
         assert_eq!(rt; index.get(session, &key).copied(), wanted);
         assert!(rt; count.get() <= most);
         count.set(0);
-        assert_eq!(rt; index.get_counted(session, &key, &mut steps).copied(), wanted);
+        assert_eq!(rt;
+            index.get_counted(session, &key, &mut steps).copied(),
+            wanted
+        );
         assert!(rt; count.get() <= most);
         count.set(0);
         assert_eq!(rt; index.contains_counted(session, &key, &mut steps), there);
