@@ -5,6 +5,8 @@
 #[cfg(test)]
 mod comparisons;
 #[cfg(test)]
+mod dice;
+#[cfg(test)]
 mod large;
 #[cfg(test)]
 mod plain;

@@ -3,6 +3,7 @@
 ghost use Rattle.ordered_index.specs.Desk.{Serves};
 ghost use Rattle.versions.specs.Sizes.{IsSized};
 
+use crate::dice::{Dice, thrown};
 use crate::plain;
 use leaf_array::plain::find_value;
 use ordered_index::{
@@ -10,7 +11,6 @@ use ordered_index::{
     Recorded, Reply, Seq, Write, play_all,
 };
 use std::alloc::{AllocError, Global};
-use std::ops::Bound;
 use std::process::Abort;
 use versions::plain::applied;
 
@@ -18,104 +18,10 @@ const PLACES: usize = 2;
 
 const LABELS: u64 = 4;
 
-const VALUES: u64 = 3;
-
 const ROUNDS: usize = 900;
 
 // The last number, low enough to be reached.
 const LAST: u64 = 24;
-
-// A linear congruential generator, with the constants of Knuth's MMIX.
-#[derive(Drop)]
-struct Dice {
-    state: u64,
-    // keys are below this one
-    keys: u64,
-    // how many writes a commit has at most
-    writes: u64,
-    // one write in so many is of a range, or of all keys
-    wide: u64,
-}
-
-impl Dice {
-    // A number below this one.
-    fn throw(&mut self, faces: u64) -> u64 {
-        self.state = self
-            .state
-            .wrapping_mul(6_364_136_223_846_793_005)
-            .wrapping_add(1_442_695_040_888_963_407);
-        (self.state >> 33).checked_rem(faces).unwrap_or(0)
-    }
-
-    fn key(&mut self) -> u64 {
-        self.throw(self.keys)
-    }
-
-    fn bound(&mut self) -> Bound<u64> {
-        match self.throw(5) {
-            0 => Bound::Unbounded,
-            1 | 2 => Bound::Included(self.key()),
-            _ => Bound::Excluded(self.key()),
-        }
-    }
-
-    fn write(&mut self) -> Write<u64, u64> {
-        if self.throw(self.wide) == 0 {
-            return match self.throw(3) {
-                0 | 1 => Write::RemoveRange(self.bound(), self.bound()),
-                _ => Write::Clear,
-            };
-        }
-        match self.throw(61) {
-            0..=30 => Write::Insert(self.key(), self.throw(VALUES)),
-            31..=46 => Write::Upsert(self.key(), self.throw(VALUES)),
-            _ => Write::Remove(self.key()),
-        }
-    }
-
-    fn writes(&mut self, alloc: Global) -> Result<Vec<Write<u64, u64>>, AllocError> {
-        let mut writes = Vec::new(alloc);
-        let most = match self.throw(2) {
-            0 => 3,
-            _ => self.writes,
-        };
-        for _ in 0..self.throw(most.saturating_add(1)) {
-            writes.push(self.write())?;
-        }
-        Ok(writes)
-    }
-
-    fn query(&mut self) -> Query<u64> {
-        match self.throw(8) {
-            0 | 1 => Query::Get(self.key()),
-            2 => Query::Contains(self.key()),
-            3 | 4 | 5 => Query::Range(self.bound(), self.bound()),
-            _ => Query::Locate(self.key()),
-        }
-    }
-
-    // Up to two answers, most of them those of the list, and a number that may be too high.
-    fn receipt(
-        &mut self,
-        alloc: Global,
-        pairs: &[(u64, u64)],
-        number: usize,
-    ) -> Result<Receipt<u64, u64>, AllocError> {
-        let mut reads: Vec<Recorded<u64, u64>> = Vec::new(alloc);
-        for _ in 0..self.throw(3) {
-            let query = self.query();
-            let told = match self.throw(6) {
-                0 => Answer::Get(Some(self.throw(VALUES))),
-                _ => plain::answer(alloc, pairs, &query)?,
-            };
-            reads.push((query, told))?;
-        }
-        Ok(Receipt {
-            number: (number as u64).saturating_add(self.throw(8).saturating_sub(6)),
-            reads: Seq::from_vec(reads),
-        })
-    }
-}
 
 // How often each kind of reply was met.
 #[derive(Drop)]
@@ -791,15 +697,6 @@ fn plays<R: Abort, const S: usize>(rt: &R, alloc: Global, slots: usize, start: D
     assert!(rt; met.older > 0);
     assert!(rt; met.unknown > 0);
     assert!(rt; met.broken > 0);
-}
-
-fn thrown(keys: u64, writes: u64, wide: u64) -> Dice {
-    Dice {
-        state: keys,
-        keys,
-        writes,
-        wide,
-    }
 }
 
 #[test]
