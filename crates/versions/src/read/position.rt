@@ -25,7 +25,7 @@ pub(crate) enum CursorEnd<'a, K: Ord, V> {
 
 impl<'a, K: Ord, V> Position<'a, K, V> {
     /// Moves the forward end, and gives its pair.
-    #[inline]
+    #[inline(always)]
     pub(crate) fn step(&mut self) -> Option<(&'a K, &'a V)>
         ensures segment { self.new.segment ≡ self.old.segment }
         ensures cursor { self.new.cursor ≡ moved_forth K.cmp self.old.cursor }
@@ -39,7 +39,7 @@ impl<'a, K: Ord, V> Position<'a, K, V> {
     }
 
     /// Moves the backward end, and gives its pair.
-    #[inline]
+    #[inline(always)]
     pub(crate) fn step_back(&mut self) -> Option<(&'a K, &'a V)>
         ensures segment { self.new.segment ≡ self.old.segment }
         ensures cursor { self.new.cursor ≡ moved_back K.cmp self.old.cursor }
