@@ -1,0 +1,3 @@
+pub mod raw
+pub mod part
+pub mod one
