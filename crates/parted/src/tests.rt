@@ -25,6 +25,13 @@ fn parts_are_lent_to_a_life(rt: HostRuntime) -> Result<(), Fail> {
     let guard = life.split_one();
     let lent = all.lend(&life);
     let seen = lent.see();
+    is_send(&deed);
+    is_send(&lent);
+    is_sync(&lent);
+    is_send(&seen);
+    is_sync(&seen);
+    is_send(&guard);
+    is_sync(&guard);
     let read = (
         *seen.get(&guard),
         *seen.copy().get(&life),
@@ -84,9 +91,12 @@ enum Item {
 
 fn is_sync<T: Sync>(_value: &T) {}
 
+fn is_send<T: Send>(_value: &T) {}
+
 /// The number below an item, by one owner at most.
 fn number_below(item: &Item) -> u64 {
     is_sync(item);
+    is_send(item);
     let Item::Branch(one) = item else {
         return 0;
     };
