@@ -46,16 +46,22 @@ fn parts_are_lent_to_a_life(rt: HostRuntime) -> Result<(), Fail> {
 }
 
 #[test]
-fn tokens_are_split_pledged_and_joined(rt: HostRuntime) {
+fn tokens_are_split_pledged_and_joined(rt: HostRuntime) -> Result<(), Fail> {
+    let whole = Box::new(rt.alloc(), 7u64)?;
     let mut life = Life::begin();
+    let (deed, seen) = share(whole, &life);
     let mut some = life.split(10);
     let one = some.split_one();
     let outer = Life::begin();
     let pledge = one.pledge(&outer);
+    let under = seen.copy().under(&pledge);
+    let read = (*seen.get(&some), *under.get(&outer));
     some.join(pledge.recover(&outer.end()));
     life.join(some);
-    let _ = life.end();
-    assert_eq!(rt; 1, 1);
+    let whole = deed.reclaim(&life.end());
+    assert_eq!(rt; read, (7, 7));
+    assert_eq!(rt; *whole, 7);
+    Ok(())
 }
 
 #[test]
