@@ -1,9 +1,9 @@
 //! How the ends of a walk move over segments.
 
-ghost use Rattle.std.specs.Prelude.{◌≡◌, ◌<◌, ◌+◌, ◌-◌, ℕ, List, Some, IfSome, IfNone, length, slice_get};
+ghost use Rattle.std.specs.Prelude.{◌≡◌, ◌<◌, ◌+◌, ◌-◌, ℕ, List, Some, IfSome, IfNone, cond, length, nat_lt, slice_get};
 ghost use Rattle.std.specs.Range.Bound.{bound_map};
 ghost use Rattle.tree_index.specs.Cursor.{forth, back, before_start, up_to_end, lies_before, pair_at, referred};
-ghost use Rattle.tree_index.specs.declared.cursor.End.TheVariants.{At};
+ghost use Rattle.tree_index.specs.declared.cursor.End.TheVariants.{At, Done, Unopened};
 ghost use Rattle.versions.specs.Cuts.{pairs_in};
 ghost use Rattle.versions.specs.CursorEnds.{pairs_before, fore_place, rear_place, AreRising, IsForeAlone, IsForeAt, IsPairAt, IsRearAlone, IsRearAt, StandsFore, StandsRear};
 
@@ -37,25 +37,56 @@ impl<'a, K: Ord, V, W: Trees<K, V>> VersionView<'a, K, V, W> {
                 if let Some(pair) = position.step() {
                     return Some(pair);
                 }
-                match self.first_behind(position.segment) {
-                    Some((next, pair)) => {
-                        *end = CursorEnd::At(next);
-                        Some(pair)
-                    },
-                    None => {
-                        *end = CursorEnd::Done;
-                        None
-                    },
-                }
+                let segment = position.segment;
+                self.onward(end, segment)
             },
-            CursorEnd::Unopened => match self.first_within(lower) {
-                Some((first, pair)) => {
-                    *end = CursorEnd::At(first);
-                    Some(pair)
-                },
-                None => None,
-            },
+            CursorEnd::Unopened => self.opened(end, lower),
             CursorEnd::Done => None,
+        }
+    }
+
+    /// Moves a forward end to the first pair of the segment behind one, and gives that pair.
+    // A function of its own, so that its rooms aren't cleared by steps within a segment. What is out of line gets a copy of
+    // the version: a walk of which nobody else has the address can stay in registers.
+    #[inline(always)]
+    fn onward(&self, end: &mut CursorEnd<'a, K, V>, segment: usize) -> Option<(&'a K, &'a V)>
+        requires rising { AreRising K.cmp self.now }
+        requires within { segment < length self.now }
+        ensures stands { StandsFore self.now end.new }
+        ensures alone { IsForeAlone end.new }
+        ensures place { fore_place self.now end.new ≡ cond (nat_lt (pairs_before self.now (segment + 1)) (length (pairs_in self.now))) (At (pairs_before self.now (segment + 1))) Done }
+        ensures pair { referred result ≡ pair_at (pairs_in self.now) (fore_place self.now end.new) }
+    {
+        let version = self.copy();
+        match version.first_behind(segment) {
+            Some((next, pair)) => {
+                *end = CursorEnd::At(next);
+                Some(pair)
+            },
+            None => {
+                *end = CursorEnd::Done;
+                None
+            },
+        }
+    }
+
+    /// Opens a forward end, and gives its pair.
+    #[inline(always)]
+    fn opened(&self, end: &mut CursorEnd<'a, K, V>, lower: Bound<&'a K>) -> Option<(&'a K, &'a V)>
+        requires rising { AreRising K.cmp self.now }
+        requires unopened { end.old ≡ CursorEnd.Unopened }
+        ensures stands { StandsFore self.now end.new }
+        ensures alone { IsForeAlone end.new }
+        ensures place { fore_place self.now end.new ≡ forth K.cmp (bound_map (λ k. k.now) lower.entry) (pairs_in self.now) Unopened }
+        ensures pair { referred result ≡ pair_at (pairs_in self.now) (fore_place self.now end.new) }
+    {
+        let version = self.copy();
+        match version.first_within(lower) {
+            Some((first, pair)) => {
+                *end = CursorEnd::At(first);
+                Some(pair)
+            },
+            None => None,
         }
     }
 
@@ -109,7 +140,7 @@ impl<'a, K: Ord, V, W: Trees<K, V>> VersionView<'a, K, V, W> {
     {
         match backward {
             CursorEnd::Unopened => true,
-            CursorEnd::At(position) => match position.cursor.get_back() {
+            CursorEnd::At(position) => match position.pair_back() {
                 Some(other) => pair.0.cmp(other.0).is_lt(),
                 None => false,
             },

@@ -34,8 +34,24 @@ impl<'a, K: Ord, V> Position<'a, K, V> {
         match self.cursor.next() {
             Some(pair) => Some(pair),
             // The other end of the cursor may hide the pair.
-            None => self.cursor.get(),
+            None => self.pair(),
         }
+    }
+
+    /// The pair of the forward end.
+    #[inline(always)]
+    fn pair(&self) -> Option<(&'a K, &'a V)>
+        ensures { referred result ≡ shown K.cmp self.now.cursor }
+    {
+        pair_of(self.cursor.clone())
+    }
+
+    /// The pair of the backward end.
+    #[inline(always)]
+    pub(crate) fn pair_back(&self) -> Option<(&'a K, &'a V)>
+        ensures { referred result ≡ shown_back K.cmp self.now.cursor }
+    {
+        pair_back_of(self.cursor.clone())
     }
 
     /// Moves the backward end, and gives its pair.
@@ -89,4 +105,21 @@ impl<'a, K: Ord, V> CursorEnd<'a, K, V> {
             CursorEnd::Done => CursorEnd::Done,
         }
     }
+}
+
+/// The pair of a cursor's forward end.
+// The cursor is a copy, so that the one in a walk can stay in registers.
+#[inline(never)]
+fn pair_of<'a, K: Ord, V>(cursor: Iter<'a, K, V>) -> Option<(&'a K, &'a V)>
+    ensures { referred result ≡ shown K.cmp cursor.entry }
+{
+    cursor.get()
+}
+
+/// The pair of a cursor's backward end.
+#[inline(never)]
+fn pair_back_of<'a, K: Ord, V>(cursor: Iter<'a, K, V>) -> Option<(&'a K, &'a V)>
+    ensures { referred result ≡ shown_back K.cmp cursor.entry }
+{
+    cursor.get_back()
 }
