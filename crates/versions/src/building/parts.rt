@@ -35,6 +35,7 @@ pub(crate) struct Row<K: Ord, V, N> {
 }
 
 /// Puts a part behind the others, with its greatest key and how many pairs it has.
+#[inline(always)]
 pub(crate) fn give<K: Ord + Drop, V: Drop, N: Drop>(
     row: &mut Row<K, V, N>,
     part: Part<K, V, N>,

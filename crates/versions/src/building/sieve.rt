@@ -38,6 +38,7 @@ impl<'t, K: Ord, V> Sieve<'t, K, V> {
     }
 
     /// The first pair that is left.
+    #[inline(always)]
     pub(crate) fn front(&self) -> Option<(&'t K, &'t V)>
         ensures { referred result ≡ slice_get self.now 0 }
     {
@@ -45,6 +46,7 @@ impl<'t, K: Ord, V> Sieve<'t, K, V> {
     }
 
     /// Passes the first pair that is left.
+    #[inline(always)]
     pub(crate) fn step(&mut self)
         ensures { self.new ≡ drop 1 self.old }
     {
@@ -54,6 +56,7 @@ impl<'t, K: Ord, V> Sieve<'t, K, V> {
 }
 
 /// Passes the pairs up to the first one that isn't gone.
+#[inline(always)]
 fn pass_gone<K: Ord, V>(pairs: &mut Stream<'_, K, V>, gone: &[Gone<K>])
     ensures same { without K.cmp gone.now pairs.new ≡ without K.cmp gone.now pairs.old }
     ensures left { IsLeft K.cmp gone.now pairs.new }

@@ -34,6 +34,7 @@ impl<'t, K: Ord, V> Stream<'t, K, V> {
     }
 
     /// The first pair that is left.
+    #[inline(always)]
     pub(crate) fn front(&self) -> Option<(&'t K, &'t V)>
         ensures { referred result ≡ slice_get self.now 0 }
     {
@@ -41,6 +42,7 @@ impl<'t, K: Ord, V> Stream<'t, K, V> {
     }
 
     /// Passes the first pair that is left.
+    #[inline(always)]
     pub(crate) fn step(&mut self)
         ensures { self.new ≡ drop 1 self.old }
     {
