@@ -92,6 +92,7 @@ impl<'t, K: Ord, V> Ends<'t, K, V> {
     }
 
     /// The pair of the forward end, if it lies within the upper bound.
+    #[inline(always)]
     pub(crate) fn get(&self, upper: Bound<&'t K>) -> Option<(&'t K, &'t V)>
         requires { IsReady K.cmp self.now }
         ensures { referred result ≡ kept_below K.cmp (bound_map (λ k. k.now) upper.entry) (pair_at (pairs_of self.now.arenas.now) (place_of self.now.arenas.now self.now.forward)) }

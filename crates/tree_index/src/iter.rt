@@ -36,6 +36,7 @@ impl<'t, K: Ord, V> Model for Iter<'t, K, V> {
 
 impl<'t, K: Ord, V> Iter<'t, K, V> {
     /// The pair of the forward end, if it stands at one.
+    #[inline(always)]
     pub fn get(&self) -> Option<(&'t K, &'t V)>
         ensures { referred result ≡ shown K.cmp self.now }
     {
