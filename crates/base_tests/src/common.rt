@@ -2,7 +2,7 @@
 
 ghost use Rattle.std.specs.Prelude.{◌≡◌, ◌<◌, ◌≤◌, length, IfOk};
 ghost use Rattle.sdd_base.specs.State.{fresh};
-ghost use Rattle.sdd_base.specs.Frame.{OnlyOf};
+ghost use Rattle.sdd_base.specs.Frame.{OnlyParticipant};
 ghost use Rattle.sdd_base.specs.Place.{IsOpen, IsOwned, IsShared};
 ghost use Rattle.sdd_base.specs.Tokens.{owned_slot, participant_of, shared_slot};
 
@@ -38,9 +38,9 @@ pub(crate) fn end<T: Holds, J: Deferred, R: Abort>(rt: &R, w: World<T, J>) {
 
 /// One accelerated guard of participant `p`.
 pub(crate) fn pass<T: Holds>(w: &mut World<T>, p: usize) -> bool
-    requires { p < length w.old.members }
-    ensures members { length w.new.members ≡ length w.old.members }
-    ensures only { OnlyOf p w.old w.new }
+    requires { p < length w.old.participants }
+    ensures participants { length w.new.participants ≡ length w.old.participants }
+    ensures only { OnlyParticipant p w.old w.new }
 {
     match world::guard::new(w, p) {
         Ok(guard) => {
@@ -54,9 +54,9 @@ pub(crate) fn pass<T: Holds>(w: &mut World<T>, p: usize) -> bool
 
 /// `n` accelerated guards of participant `p`, one by one.
 pub(crate) fn passes<T: Holds>(w: &mut World<T>, p: usize, n: usize) -> bool
-    requires { p < length w.old.members }
-    ensures members { length w.new.members ≡ length w.old.members }
-    ensures only { OnlyOf p w.old w.new }
+    requires { p < length w.old.participants }
+    ensures participants { length w.new.participants ≡ length w.old.participants }
+    ensures only { OnlyParticipant p w.old w.new }
 {
     let mut open = true;
     for _ in 0..n {
@@ -68,7 +68,7 @@ pub(crate) fn passes<T: Holds>(w: &mut World<T>, p: usize, n: usize) -> bool
 /// A new item with one owner, where a slot is free.
 pub(crate) fn owned_item<R: Abort>(rt: &R, w: &mut World<u64>, value: u64) -> Owned<u64>
     ensures live { IsOwned w.new (owned_slot result) }
-    ensures members { w.new.members ≡ w.old.members }
+    ensures participants { w.new.participants ≡ w.old.participants }
 {
     match world::owned::new(w, value) {
         Ok(owned) => owned,
@@ -79,7 +79,7 @@ pub(crate) fn owned_item<R: Abort>(rt: &R, w: &mut World<u64>, value: u64) -> Ow
 /// A new item with counted owners, where a slot is free.
 pub(crate) fn shared_item<R: Abort>(rt: &R, w: &mut World<u64>, value: u64) -> Shared<u64>
     ensures live { IsShared w.new (shared_slot result) }
-    ensures members { w.new.members ≡ w.old.members }
+    ensures participants { w.new.participants ≡ w.old.participants }
 {
     match world::shared::new(w, value) {
         Ok(shared) => shared,
@@ -93,11 +93,11 @@ pub(crate) fn guarded<T: Holds, J: Deferred, R: Abort>(
     w: &mut World<T, J>,
     p: usize,
 ) -> WorldGuard
-    requires { p < length w.old.members }
+    requires { p < length w.old.participants }
     ensures guard { participant_of result ≡ p }
     ensures open { IsOpen w.new p }
-    ensures members { length w.new.members ≡ length w.old.members }
-    ensures only { OnlyOf p w.old w.new }
+    ensures participants { length w.new.participants ≡ length w.old.participants }
+    ensures only { OnlyParticipant p w.old w.new }
 {
     match world::guard::new(w, p) {
         Ok(guard) => guard,

@@ -5,7 +5,7 @@ use crate::common::{
     shared_item, used_after, value_of, was_last,
 };
 use crate::nested::dropped;
-use sdd_base::{GuardsOpen, Lender, NotLent, Shared, World, world};
+use sdd_base::{ExclusiveAccess, GuardsOpen, NotLent, Shared, World, world};
 use std::process::Abort;
 use std::test::Fail;
 

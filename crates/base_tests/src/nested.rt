@@ -47,8 +47,8 @@ impl Holds for Item {
 
 /// A directory that holds the only owner of a segment, given back by participant 0 with no guard open.
 fn give_directory<R: Abort>(rt: &R, w: &mut World<Item>, mut segments: Vec<Shared<Item>>)
-    requires { 0 < length w.old.members }
-    ensures { length w.new.members ≡ length w.old.members }
+    requires { 0 < length w.old.participants }
+    ensures { length w.new.participants ≡ length w.old.participants }
 {
     match world::shared::new(w, Item::Segment(7)) {
         Ok(segment) => match segments.push(segment) {
@@ -107,7 +107,7 @@ fn items(alloc: Global, slots: usize) -> Result<World<Item>, AllocError>
 /// A new segment.
 fn segment<R: Abort>(rt: &R, w: &mut World<Item>, value: u64) -> Shared<Item>
     ensures live { IsShared w.new (shared_slot result) }
-    ensures members { length w.new.members ≡ length w.old.members }
+    ensures participants { length w.new.participants ≡ length w.old.participants }
 {
     match world::shared::new(w, Item::Segment(value)) {
         Ok(segment) => segment,
@@ -123,7 +123,7 @@ fn directory<R: Abort>(
     item: Shared<Item>,
 ) -> Shared<Item>
     ensures live { IsShared w.new (shared_slot result) }
-    ensures members { length w.new.members ≡ length w.old.members }
+    ensures participants { length w.new.participants ≡ length w.old.participants }
 {
     let mut items = Vec::new(alloc);
     match items.push(item) {
@@ -139,7 +139,7 @@ fn directory<R: Abort>(
 /// Gives an owner back in place, where no guard is open, and answers whether it was the last.
 pub(crate) fn dropped<T: Holds, R: Abort>(rt: &R, w: &mut World<T>, shared: Shared<T>) -> bool
     requires { IsShared w.old (shared_slot shared) }
-    ensures { length w.new.members ≡ length w.old.members }
+    ensures { length w.new.participants ≡ length w.old.participants }
 {
     match world::shared::drop_in_place(w, shared) {
         Ok(last) => last,

@@ -16,8 +16,8 @@ fn spent<R: Abort>(
     item: Option<Owned<u64>>,
     guard: &WorldGuard,
 ) -> Option<u64>
-    requires { 0 < length w.old.members }
-    ensures { length w.new.members ≡ length w.old.members }
+    requires { 0 < length w.old.participants }
+    ensures { length w.new.participants ≡ length w.old.participants }
 {
     let Some(owned) = item else {
         return None;

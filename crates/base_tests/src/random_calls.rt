@@ -42,7 +42,7 @@ struct Known {
 
 /// What the model knows of a participant.
 #[derive(Clone, Copy, Drop)]
-struct Member {
+struct ParticipantState {
     open: u32,
     seen: u64,
     before: u64,
@@ -63,15 +63,15 @@ struct Apart {
 struct Plain {
     items: Vec<Known>,
     apart: Vec<Apart>,
-    members: Vec<Member>,
+    participants: Vec<ParticipantState>,
     count: u64,
 }
 
 impl Plain {
     fn new(alloc: Global) -> Result<Plain, AllocError> {
-        let mut members = Vec::new(alloc);
+        let mut participants = Vec::new(alloc);
         for _ in 0..3 {
-            members.push(Member {
+            participants.push(ParticipantState {
                 open: 0,
                 seen: 0,
                 before: 0,
@@ -83,7 +83,7 @@ impl Plain {
         Ok(Plain {
             items: Vec::new(alloc),
             apart: Vec::new(alloc),
-            members,
+            participants,
             count: 0,
         })
     }
@@ -93,7 +93,9 @@ impl Plain {
     }
 
     fn any_open(&self) -> bool {
-        self.members.iter().any(|m: &Member| m.open != 0)
+        self.participants
+            .iter()
+            .any(|m: &ParticipantState| m.open != 0)
     }
 
     fn add(&mut self, value: u64) -> bool {
@@ -131,9 +133,9 @@ impl Plain {
                 self.items[i].owners = self.items[i].owners.saturating_sub(1);
                 self.items[i].retirer = p;
                 if self.items[i].owners == 0
-                    && let Some(member) = self.members.get_mut(p)
+                    && let Some(participant) = self.participants.get_mut(p)
                 {
-                    member.garbage = true;
+                    participant.garbage = true;
                 }
             }
         }
@@ -167,8 +169,8 @@ impl Plain {
     }
 
     fn is_quiet(&self, p: usize) -> bool {
-        match self.members.get(p) {
-            Some(member) => member.open == 0,
+        match self.participants.get(p) {
+            Some(participant) => participant.open == 0,
             None => true,
         }
     }
@@ -203,22 +205,22 @@ impl Plain {
             }
         }
         self.items.retain(|item: &Known| item.age < 3);
-        if let Some(member) = self.members.get_mut(p) {
-            member.garbage = member.garbage && waits;
+        if let Some(participant) = self.participants.get_mut(p) {
+            participant.garbage = participant.garbage && waits;
         }
     }
 
     fn open(&mut self, p: usize) {
         let count = self.count;
         let mut turns = false;
-        if let Some(member) = self.members.get_mut(p) {
-            if member.open == 0 {
-                turns = member.before != count;
-                member.seen = count;
-                member.before = count;
-                member.fast = false;
+        if let Some(participant) = self.participants.get_mut(p) {
+            if participant.open == 0 {
+                turns = participant.before != count;
+                participant.seen = count;
+                participant.before = count;
+                participant.fast = false;
             }
-            member.open = member.open.saturating_add(1);
+            participant.open = participant.open.saturating_add(1);
         }
         if turns {
             self.grow_old(p);
@@ -226,8 +228,8 @@ impl Plain {
     }
 
     fn hurry(&mut self, p: usize) {
-        if let Some(member) = self.members.get_mut(p) {
-            member.fast = true;
+        if let Some(participant) = self.participants.get_mut(p) {
+            participant.fast = true;
         }
     }
 
@@ -235,16 +237,16 @@ impl Plain {
         let mut scans = false;
         let count = self.count;
         let current = !self
-            .members
+            .participants
             .iter()
-            .any(|m: &Member| m.open != 0 && m.seen != count);
-        if let Some(member) = self.members.get_mut(p) {
-            member.open = member.open.saturating_sub(1);
-            if member.open == 0 {
-                member.closings = member.closings.saturating_add(1).min(64);
-                scans = member.fast || member.garbage && member.closings == 64;
+            .any(|m: &ParticipantState| m.open != 0 && m.seen != count);
+        if let Some(participant) = self.participants.get_mut(p) {
+            participant.open = participant.open.saturating_sub(1);
+            if participant.open == 0 {
+                participant.closings = participant.closings.saturating_add(1).min(64);
+                scans = participant.fast || participant.garbage && participant.closings == 64;
                 if scans {
-                    member.closings = 0;
+                    participant.closings = 0;
                 }
             }
         }

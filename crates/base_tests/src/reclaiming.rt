@@ -87,8 +87,8 @@ fn a_collector_hands_over_what_it_keeps(rt: HostRuntime) -> Result<(), Fail> {
 
 /// Collects a new item under a guard of participant 0, and answers how many slots are in use then.
 fn collect_one<R: Abort>(rt: &R, w: &mut World<u64>, collector: &mut PrivateCollector<u64>) -> usize
-    requires { 0 < length w.old.members }
-    ensures { length w.new.members ≡ length w.old.members }
+    requires { 0 < length w.old.participants }
+    ensures { length w.new.participants ≡ length w.old.participants }
 {
     let Ok(guard) = world::guard::new(w, 0) else {
         panic!(rt; "no guard is open");

@@ -1,5 +1,5 @@
-pub mod Calls
-pub mod Numbers
-pub mod Sessions
-pub mod Texts
-pub mod Bytes
+pub mod CallLemmas
+pub mod NumberLemmas
+pub mod SessionLemmas
+pub mod TextLemmas
+pub mod ByteLemmas

@@ -12,7 +12,7 @@ use Rattle.std.specs.BTreeMap.{insert_entry, is_at}
 use Rattle.leaf_array.specs.Cells.{lesser}
 use Rattle.leaf_array.specs.Edits.{above, below, removed, upserted}
 use Rattle.leaf_array.specs.Pairs.{IsAscending, has_key, value_at}
-use Rattle.leaf_array.proofs.Lists.{IsAscending-removed}
+use Rattle.leaf_array.proofs.ListLemmas.{IsAscending-removed}
 use Rattle.leaf_array.proofs.OrderLemmas.{turn_less}
 
 module _ {K V : Type 0} (cmp : K → K → Ordering) (laws : IsTotalOrder cmp) (key : K) where

@@ -12,12 +12,12 @@ use Rattle.std.specs.declared.cmp.Ordering.TheVariants.{Less, Equal, Greater}
 use Rattle.std.specs.declared.ops.Bound.{Bound}
 use Rattle.std.specs.declared.ops.Bound.TheVariants.{Included, Excluded, Unbounded}
 use Rattle.leaf_array.specs.Pairs.{IsAscending}
-use Rattle.tree_index.specs.Cursor.{Cursor, before_start, forth, kept_below, moved_forth, next_of, pair_at, referred}
+use Rattle.tree_index.specs.Cursor.{Cursor, before_start, forth, kept_below, moved_forth, next_of, pair_at, deref_pair}
 use Rattle.tree_index.specs.Shape.{AllKeys}
 use Rattle.tree_index.specs.declared.cursor.End.{End}
 use Rattle.tree_index.specs.declared.cursor.End.TheVariants.{Unopened, At, Done}
 use Rattle.tree_index.proofs.ShapeLemmas.{all_weaken}
-use Rattle.versions.proofs.Filters.{on_test, rising_head, rising_tail}
+use Rattle.versions.proofs.FilterLemmas.{on_test, rising_head, rising_tail}
 use Rattle.ordered_index.specs.RemainingPairs.{IsStart, behind_end, left_by, run_within}
 
 module _ {K : Type 0} {cmp : K → K → Ordering} (o : IsTotalOrder cmp) where
@@ -136,7 +136,7 @@ pub left_at_start : {K V : Type 0} {cmp : K → K → Ordering} → IsTotalOrder
 left_at_start {cmp = cmp} o c s = rw s.forward (start_between o c.lower c.upper c.pairs s.rising)
 
 -- a pair was given where the next one is there
-pub given_some : {K V : Type 0} (r : Option (Bor K × Bor V)) (next : Option (K × V)) → referred r ≡ next → IsSome r → is_some next ≡ true
+pub given_some : {K V : Type 0} (r : Option (Bor K × Bor V)) (next : Option (K × V)) → deref_pair r ≡ next → IsSome r → is_some next ≡ true
 given_some None next e s = absurd cc
 given_some (Some p) next e s = ap is_some (sym e)
 
@@ -158,7 +158,7 @@ module _ {X : Type 0} where
   done_all done left all e none = sym (append-nil done) ∙ ap (λ xs. done ++ xs) (sym (nothing left none)) ∙ e
 
 -- all is given exactly where nothing is left
-pub all_given : {K V : Type 0} (told left all : List (K × V)) (r : Option (Bor K × Bor V)) (none : Bool) → told ++ left ≡ all → is_some r ≡ not none → referred r ≡ slice_get left 0 → IsTrue none ↔ (told ≡ all)
+pub all_given : {K V : Type 0} (told left all : List (K × V)) (r : Option (Bor K × Bor V)) (none : Bool) → told ++ left ≡ all → is_some r ≡ not none → deref_pair r ≡ slice_get left 0 → IsTrue none ↔ (told ≡ all)
 all_given told [] all None true e b f = (λ t. sym (append-nil told) ∙ e, λ same. refl)
 all_given told [] all None false e b f = absurd cc
 all_given told [] all (Some r) none e b f = absurd cc

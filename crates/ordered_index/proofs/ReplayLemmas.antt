@@ -10,11 +10,11 @@ use Rattle.leaf_array.specs.Pairs.{IsAscending}
 use Rattle.tree_index.proofs.CopyLemmas.{upserted_behind}
 use Rattle.tree_index.proofs.GapLemmas.{start_none}
 use Rattle.tree_index.specs.Cursor.{Cursor}
-use Rattle.versions.proofs.Filters.{rising_front, rising_under}
+use Rattle.versions.proofs.FilterLemmas.{rising_front, rising_under}
 use Rattle.versions.specs.Writes.{after_write, after_writes}
 use Rattle.versions.specs.declared.write.Write.{Write}
 use Rattle.versions.specs.declared.write.Write.TheVariants.{Clear}
-use Rattle.ordered_index.proofs.Runs.{kept_list}
+use Rattle.ordered_index.proofs.RunLemmas.{kept_list}
 use Rattle.ordered_index.specs.Invariant.{IsKept, state_of}
 use Rattle.ordered_index.specs.Serial.{after_all}
 use Rattle.ordered_index.specs.State.{list_at}

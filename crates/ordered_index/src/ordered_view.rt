@@ -6,7 +6,7 @@ ghost use Rattle.std.specs.List.{All};
 ghost use Rattle.std.specs.Option.{option_copied};
 ghost use Rattle.leaf_array.specs.Pairs.{has_key, value_at};
 ghost use Rattle.leaf_array.specs.Values.{ClonesAreSame, EqualsAreSame};
-ghost use Rattle.tree_index.specs.Cursor.{referred};
+ghost use Rattle.tree_index.specs.Cursor.{deref_pair};
 ghost use Rattle.ordered_index.specs.Answers.{answer_to, behind, near, near_by};
 ghost use Rattle.ordered_index.specs.Serial.{Holds, IsFirstConflict};
 
@@ -127,7 +127,7 @@ pub(crate) fn around<'t, K, V>(
     smaller: Option<(&'t K, &'t V)>,
     larger: Option<(&'t K, &'t V)>,
 ) -> Near<&'t K, &'t V>
-    ensures { behind result ≡ near_by (referred exact.entry) (referred smaller.entry) (referred larger.entry) }
+    ensures { behind result ≡ near_by (deref_pair exact.entry) (deref_pair smaller.entry) (deref_pair larger.entry) }
 {
     match (exact, smaller, larger) {
         (Some((key, value)), _, _) => Near::Exact(key, value),

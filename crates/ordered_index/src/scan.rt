@@ -3,7 +3,7 @@
 ghost use Rattle.std.specs.Prelude.{◌≡◌, ◌↔◌, IsTrue, IfOk, IsSome, Some, drop, slice_get};
 ghost use Rattle.std.specs.BTreeMap.Range.{entries_between};
 ghost use Rattle.leaf_array.specs.Values.{ClonesAreSame, EqualsAreSame};
-ghost use Rattle.tree_index.specs.Cursor.{Cursor, GoesForth, referred};
+ghost use Rattle.tree_index.specs.Cursor.{Cursor, GoesForth, deref_pair};
 ghost use Rattle.tree_index.specs.declared.cursor.End.TheVariants.{Unopened};
 ghost use Rattle.ordered_index.specs.RemainingPairs.{IsStart, left_by};
 
@@ -70,7 +70,7 @@ pub(crate) fn next<'t, K: Ord + 't, V: 't, C: Steps<'t, K, V>>(
 ) -> Option<(&'t K, &'t V)>
     requires { (C.cursor cursor.old).backward ≡ Unopened }
     ensures alone { (C.cursor cursor.new).backward ≡ Unopened }
-    ensures first { referred result ≡ slice_get (left_by K.cmp (C.cursor cursor.old)) 0 }
+    ensures first { deref_pair result ≡ slice_get (left_by K.cmp (C.cursor cursor.old)) 0 }
     ensures left { IsSome result → left_by K.cmp (C.cursor cursor.new) ≡ drop 1 (left_by K.cmp (C.cursor cursor.old)) }
 {
     cursor.step()
@@ -80,7 +80,7 @@ pub(crate) fn next<'t, K: Ord + 't, V: 't, C: Steps<'t, K, V>>(
 fn is_pair<K: Eq, V: Eq>(found: Option<(&K, &V)>, pair: &(K, V)) -> bool
     requires keys { EqualsAreSame K.eq }
     requires values { EqualsAreSame V.eq }
-    ensures { IsTrue result ↔ (referred found.entry ≡ Some pair.now) }
+    ensures { IsTrue result ↔ (deref_pair found.entry ≡ Some pair.now) }
 {
     match found {
         Some((key, value)) => *key == pair.0 && *value == pair.1,

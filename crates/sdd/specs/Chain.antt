@@ -2,7 +2,7 @@
 use Rattle.std.specs.Prelude.{◌≡◌, ◌≢◌, ◌≤◌, ℕ, Bool, true, false, Option, None, Some, List, [], ◌∷◌, cond, length, ◌+◌}
 use Rattle.sdd_base.specs.Frame.{Protects}
 use Rattle.sdd_base.specs.Place.{IsOpen}
-use Rattle.sdd_base.specs.State.{State, marks_at, status_at, value_at, cell_at, vacancy, emptiness, is_used}
+use Rattle.sdd_base.specs.State.{State, local_at, status_at, value_at, cell_at, vacancy, emptiness, is_used}
 use Rattle.sdd_base.specs.declared.tag.Tag.{Tag}
 use Rattle.sdd_base.specs.declared.tag.Tag.TheVariants as tag
 use Rattle.sdd_base.specs.declared.status.Status.TheVariants as status
@@ -101,10 +101,10 @@ first_slot (e ∷ es) = Some e.slot
 pub record Stays {L : Type 0} (w w' : State L) : Type 0 where
   pub states : length w'.states ≡ length w.states
   pub cells : length w'.cells ≡ length w.cells
-  pub members : length w'.members ≡ length w.members
+  pub participants : length w'.participants ≡ length w.participants
   pub values : (i : ℕ) → is_used (status_at w i) ≡ true → value_at w' i ≡ value_at w i
   pub used : (i : ℕ) → is_used (status_at w i) ≡ true → is_used (status_at w' i) ≡ true
-  pub nests : (q : ℕ) → (marks_at w' q).nesting ≡ (marks_at w q).nesting
+  pub nests : (q : ℕ) → (local_at w' q).nesting ≡ (local_at w q).nesting
   pub protects : (q i : ℕ) → IsOpen w q → Protects w q i → Protects w' q i
 
 -- the item in slot i is an entry that can hang before what hangs from cell c

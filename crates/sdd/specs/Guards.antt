@@ -15,7 +15,7 @@ use Rattle.sdd.specs.declared.linked_entry.LinkedEntry.{LinkedEntry}
 -- a participant of a place can open a guard there, and all owners are counted with those in hand
 pub record CanOpen {T : Type 0} (p : ℕ) (hand : List Hold) (w : State (LinkedEntry T)) : Type 0 where
   pub place : IsPlace w
-  pub known : p < length w.members
+  pub known : p < length w.participants
   pub counted : Counted entry_holds hand w
 
 -- containers whose cells are in hand are the same while a guard opens, whatever that reclaims, and while one closes

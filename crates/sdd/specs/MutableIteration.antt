@@ -108,7 +108,7 @@ pub record Visits {T W : Type 0} (state : W → State (LinkedEntry T)) (s s' : I
   -- it can go on, each bag is a bag, and the participants are as they were
   pub left : IsSomeLeft (state (walk_place s')) (walk_cells s')
   pub bags : (n : ℕ) (cs : List ℕ) → IsSomeBag n (state (walk_place s)) cs → IsSomeBag n (state (walk_place s')) cs
-  pub members : (state (walk_place s')).members ≡ (state (walk_place s)).members
+  pub participants : (state (walk_place s')).participants ≡ (state (walk_place s)).participants
   -- of what was left, the first entry was given
   pub gives : (es : List (Entry (LinkedEntry T))) → IsLeft (state (walk_place s)) (walk_cells s) es → Gives (state (walk_place s)) (state (walk_place s')) (walk_cells s') v es
 

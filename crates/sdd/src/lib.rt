@@ -40,8 +40,8 @@ pub use linked_list::LinkedList;
 pub use queue::Queue;
 pub use refusal::{CloneRefused, FromIterRefused, NotMade, PushRefused};
 pub use sdd_base::{
-    AtomicOwned, AtomicRaw, AtomicShared, Deferred, Epoch, GuardsOpen, Held, Holds, Job, Kept,
-    Lender, Link, Nested, NoJob, NoSlot, NotLent, Owned, Plain, PrivateCollector, Ptr, RawPtr,
-    Shared, Sizes, Tag, Task, World, WorldGuard,
+    AtomicOwned, AtomicRaw, AtomicShared, Deferred, Epoch, ExclusiveAccess, GuardsOpen, Held,
+    Holds, Job, Kept, Link, Nested, NoJob, NoSlot, NotLent, Owned, Plain, PrivateCollector, Ptr,
+    RawPtr, Shared, Sizes, Tag, Task, World, WorldGuard,
 };
 pub use stack::Stack;

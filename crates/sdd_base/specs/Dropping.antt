@@ -1,7 +1,7 @@
 -- dropping an item in place, and with it what it alone held
 use Rattle.std.specs.Prelude.{◌≡◌, ℕ, zero, suc, true, List, length}
 use Rattle.sdd_base.specs.Holding.{Hold}
-use Rattle.sdd_base.specs.State.{State, changing, recalled, marks_at, with_marks, is_used, status_at, value_at}
+use Rattle.sdd_base.specs.State.{State, changing, recalled, local_at, with_local, is_used, status_at, value_at}
 use Rattle.sdd_base.specs.Steps.{due_reclaimed, given}
 
 -- p reclaims what it retired last
@@ -16,9 +16,9 @@ undone_times holds p (suc n) w = undone holds p (undone_times holds p n w)
 -- an owner is given back, and what that leaves without one is reclaimed at once, one by one, until nothing of it waits
 pub record Dropped {T : Type 0} (holds : T → List Hold) (h : Hold) (w w' : State T) : Type 0 where
   pub turns : ℕ
-  pub now : w' ≡ with_marks 0 (marks_at w 0) (undone_times holds 0 turns (given 0 h w))
+  pub now : w' ≡ with_local 0 (local_at w 0) (undone_times holds 0 turns (given 0 h w))
   -- the bags and the notes of the participants are as they were
-  pub members : w'.members ≡ w.members
+  pub participants : w'.participants ≡ w.participants
   pub count : w'.count ≡ w.count
   pub states : length w'.states ≡ length w.states
   pub cells : length w'.cells ≡ length w.cells

@@ -1,6 +1,6 @@
 -- what a call leaves alone: values of live items, and what open guards protect
 use Rattle.std.specs.Prelude.{◌≡◌, ◌≢◌, ℕ, ◌<◌, ◌≤◌, Bool, true, false, List, [], ◌∷◌, length}
-use Rattle.sdd_base.specs.State.{State, status_at, value_at, member_at, marks_at, is_used}
+use Rattle.sdd_base.specs.State.{State, status_at, value_at, participant_at, local_at, is_used}
 use Rattle.sdd_base.specs.Steps.{times}
 use Rattle.sdd_base.specs.Place.{IsOpen, IsPlace}
 use Rattle.sdd_base.specs.declared.status.Status.{Status}
@@ -24,29 +24,29 @@ IsLive w i = has_owner (status_at w i) ≡ true
 -- the open guard of q protects the item in slot i: its retirer, if it has one, can't come to its reclaim while the guard is open
 pub record Protects {T : Type 0} (w : State T) (q i : ℕ) : Type 0 where
   pub used : is_used (status_at w i) ≡ true
-  pub prior : (k : ℕ) → 1 ≤ times i (member_at w k).prior → (marks_at w q).published ≤ (marks_at w k).previous
-  pub oldest : (k : ℕ) → 1 ≤ times i (member_at w k).oldest → (marks_at w q).published < (marks_at w k).previous
-  pub noted : (n : ℕ) → status_at w i ≡ status.Collected n → (marks_at w q).published ≤ n
+  pub prior : (k : ℕ) → 1 ≤ times i (participant_at w k).prior → (local_at w q).published ≤ (local_at w k).previous
+  pub oldest : (k : ℕ) → 1 ≤ times i (participant_at w k).oldest → (local_at w q).published < (local_at w k).previous
+  pub noted : (n : ℕ) → status_at w i ≡ status.Collected n → (local_at w q).published ≤ n
 
 -- what every call leaves
-pub record Keeps {T : Type 0} (w w' : State T) : Type 0 where
+pub record Frame {T : Type 0} (w w' : State T) : Type 0 where
   -- how many places, cells and participants there are
   pub states : length w'.states ≡ length w.states
   pub cells : length w'.cells ≡ length w.cells
-  pub members : length w'.members ≡ length w.members
+  pub participants : length w'.participants ≡ length w.participants
   -- the value of an item with an owner
   pub lives : (i : ℕ) → IsLive w i → value_at w' i ≡ value_at w i
   -- the value of an item that a guard protects which stays open, and that it does
   pub protects : (q i : ℕ) → IsOpen w q → IsOpen w' q → Protects w q i → (value_at w' i ≡ value_at w i) × Protects w' q i
 
 -- only participant p is changed
-abbrev pub OnlyOf : {T : Type 0} → ℕ → State T → State T → Type 0
-OnlyOf p w w' = (k : ℕ) → k ≢ p → member_at w' k ≡ member_at w k
+abbrev pub OnlyParticipant : {T : Type 0} → ℕ → State T → State T → Type 0
+OnlyParticipant p w w' = (k : ℕ) → k ≢ p → participant_at w' k ≡ participant_at w k
 
 -- states one after another, each call leaving what it has to leave, with the guard of q open in all of them
 abbrev pub IsRun : {T : Type 0} → ℕ → State T → List (State T) → Type 0
 IsRun q w [] = Unit {0}
-IsRun q w (v ∷ vs) = Keeps w v × IsOpen v q × IsRun q v vs
+IsRun q w (v ∷ vs) = Frame w v × IsOpen v q × IsRun q v vs
 
 abbrev pub last_of : {T : Type 0} → State T → List (State T) → State T
 last_of w [] = w

@@ -62,7 +62,7 @@ pub record CollectorsAreInOrder {T : Type 0} (holds : T → List Hold) : Type 0 
   pub given : (p : ℕ) (h : Hold) (w : State T) → SameNotes w (given p h w)
   pub dropped : (h : Hold) (w w' : State T) → IsPlace w → Dropped holds h w w' → SameNotes w w'
   pub deferred : (p i : ℕ) (w : State T) → IsIdle w i → SameNotes w (waiting_as status.Deferred p i w)
-  pub opened : (p : ℕ) (w : State T) → IsPlace w → p < length w.members → SameNotes w (opened holds p w)
+  pub opened : (p : ℕ) (w : State T) → IsPlace w → p < length w.participants → SameNotes w (opened holds p w)
   pub closed : (p : ℕ) (w : State T) → SameNotes w (closed p w)
   -- so collectors name the same slots, and their notes rise
   pub named : (all : List ℕ) (w w' : State T) → SameNotes w w' → AreCollected all w → AreCollected all w'

@@ -1,10 +1,10 @@
 -- what accelerated guards, opened and closed one by one, make of what waits
 use Rattle.std.specs.Prelude.{◌≡◌, ◌≢◌, ℕ, zero, suc, ◌+◌, ◌-◌, ◌<◌, ◌≤◌, Bool, true, false, ltb, Option, None, Some, List, length}
 use Rattle.sdd_base.specs.Holding.{Hold, OwnedItem, SharedItem, OwnedIn, SharedIn}
-use Rattle.sdd_base.specs.State.{State, member_at, marks_at, status_at, value_at, cell_at, with_marks, in_use}
+use Rattle.sdd_base.specs.State.{State, participant_at, local_at, status_at, value_at, cell_at, with_local, in_use}
 use Rattle.sdd_base.specs.Steps.{opened, closed, released, bags_empty, NoneOpen}
 use Rattle.sdd_base.specs.Place.{IsPlace, held_times}
-use Rattle.sdd_base.specs.Frame.{OnlyOf}
+use Rattle.sdd_base.specs.Frame.{OnlyParticipant}
 use Rattle.sdd_base.specs.Counting.{tally}
 use Rattle.sdd_base.specs.declared.status.Status.{Status}
 use Rattle.sdd_base.specs.declared.status.Status.TheVariants as status
@@ -42,9 +42,9 @@ pub record Shrinks {T : Type 0} (w w' : State T) : Type 0 where
 
 -- nothing waits for p, it has nothing to scan for, and no guard of its last nesting was accelerated
 pub record IsQuiet {T : Type 0} (w : State T) (p : ℕ) : Type 0 where
-  pub empty : bags_empty (member_at w p) ≡ true
-  pub clean : (marks_at w p).garbage ≡ false
-  pub slow : (marks_at w p).accelerated ≡ false
+  pub empty : bags_empty (participant_at w p) ≡ true
+  pub clean : (local_at w p).garbage ≡ false
+  pub slow : (local_at w p).accelerated ≡ false
 
 -- all but the participants stands as it was
 pub record Stands {T : Type 0} (w w' : State T) : Type 0 where
@@ -56,18 +56,18 @@ pub record Stands {T : Type 0} (w w' : State T) : Type 0 where
 -- what guards and owners that are given back leave
 pub record GivesOnly {T : Type 0} (holds : T → List Hold) : Type 0 where
   -- a guard that opens only takes away; it counts
-  pub opening : (p : ℕ) (w : State T) → IsPlace w → p < length w.members → Shrinks w (opened holds p w) × (in_use (opened holds p w) ≤ in_use w) × ((marks_at (opened holds p w) p).nesting ≡ (marks_at w p).nesting + 1)
+  pub opening : (p : ℕ) (w : State T) → IsPlace w → p < length w.participants → Shrinks w (opened holds p w) × (in_use (opened holds p w) ≤ in_use w) × ((local_at (opened holds p w) p).nesting ≡ (local_at w p).nesting + 1)
   -- one that closes leaves all items and cells
-  pub closing : (p : ℕ) (w : State T) → p < length w.members → ((closed p w).values ≡ w.values) × ((closed p w).states ≡ w.states) × ((closed p w).cells ≡ w.cells) × ((marks_at (closed p w) p).nesting ≡ (marks_at w p).nesting - 1)
+  pub closing : (p : ℕ) (w : State T) → p < length w.participants → ((closed p w).values ≡ w.values) × ((closed p w).states ≡ w.states) × ((closed p w).cells ≡ w.cells) × ((local_at (closed p w) p).nesting ≡ (local_at w p).nesting - 1)
   -- where nothing waits for p, its guards leave the count too, and nothing waits for it
-  pub quiet_opening : (p : ℕ) (w : State T) → IsPlace w → p < length w.members → IsQuiet w p → Stands w (opened holds p w) × IsQuiet (opened holds p w) p
-  pub quiet_closing : (p : ℕ) (w : State T) → p < length w.members → IsQuiet w p → Stands w (closed p w) × IsQuiet (closed p w) p
+  pub quiet_opening : (p : ℕ) (w : State T) → IsPlace w → p < length w.participants → IsQuiet w p → Stands w (opened holds p w) × IsQuiet (opened holds p w) p
+  pub quiet_closing : (p : ℕ) (w : State T) → p < length w.participants → IsQuiet w p → Stands w (closed p w) × IsQuiet (closed p w) p
   -- an owner that is given back takes nothing away yet
-  pub giving_back : (p i : ℕ) (w : State T) → IsPlace w → p < length w.members → Shrinks w (released p i w) × (in_use (released p i w) ≡ in_use w) × ((released p i w).count ≡ w.count)
+  pub giving_back : (p i : ℕ) (w : State T) → IsPlace w → p < length w.participants → Shrinks w (released p i w) × (in_use (released p i w) ≡ in_use w) × ((released p i w).count ≡ w.count)
 
 -- p asks that its closing scans
 abbrev pub accelerated : {T : Type 0} → ℕ → State T → State T
-accelerated p w = with_marks p (record (marks_at w p) { accelerated = true }) w
+accelerated p w = with_local p (record (local_at w p) { accelerated = true }) w
 
 -- p opens a guard, accelerates it and closes it
 abbrev pub passed : {T : Type 0} → (T → List Hold) → ℕ → State T → State T
@@ -81,7 +81,7 @@ passed_times holds p (suc n) w = passed_times holds p n (passed holds p w)
 -- no guard is open, and the count can be raised n times
 pub record CanPass {T : Type 0} (n p : ℕ) (w : State T) : Type 0 where
   pub place : IsPlace w
-  pub known : p < length w.members
+  pub known : p < length w.participants
   pub none_open : NoneOpen w
   pub room : w.count + n ≤ 18446744073709551615
 
@@ -98,7 +98,7 @@ IsLayered {T} holds level w = (i j : ℕ) (v u : T) (h : Hold) → value_at w i 
 
 -- what waits in the bags of p has a level below n
 abbrev pub WaitsBelow : {T : Type 0} → (T → ℕ) → ℕ → ℕ → State T → Type 0
-WaitsBelow {T} level n p w = (j : ℕ) (v : T) → 1 ≤ held_times j (member_at w p) → value_at w j ≡ Some v → level v < n
+WaitsBelow {T} level n p w = (j : ℕ) (v : T) → 1 ≤ held_times j (participant_at w p) → value_at w j ≡ Some v → level v < n
 
 -- no job waits
 abbrev pub NoJobWaits : {T : Type 0} → State T → Type 0
@@ -107,9 +107,9 @@ NoJobWaits w = (j : ℕ) → status_at w j ≢ status.Deferred
 -- accelerated guards of one participant, where no other guard is open, reclaim level by level
 pub record PassesReclaim {T : Type 0} (holds : T → List Hold) : Type 0 where
   -- each raises the count once, and changes no other participant
-  pub raised : (n m p : ℕ) (w : State T) → CanPass (n + m) p w → ((passed_times holds p n w).count ≡ w.count + n) × CanPass m p (passed_times holds p n w) × OnlyOf p w (passed_times holds p n w)
+  pub raised : (n m p : ℕ) (w : State T) → CanPass (n + m) p w → ((passed_times holds p n w).count ≡ w.count + n) × CanPass m p (passed_times holds p n w) × OnlyParticipant p w (passed_times holds p n w)
   -- four of them reclaim all that waited; what waits then was held by it
   pub lowered : (level : T → ℕ) (n p : ℕ) (w : State T) → CanPass 4 p w → IsLayered holds level w → WaitsBelow level (n + 1) p w → IsLayered holds level (passed_times holds p 4 w) × WaitsBelow level n p (passed_times holds p 4 w)
   -- no item waits at level 0, so the bags are empty
-  pub emptied : (level : T → ℕ) (p : ℕ) (w : State T) → IsPlace w → p < length w.members → NoJobWaits w → WaitsBelow level 0 p w → bags_empty (member_at w p) ≡ true
+  pub emptied : (level : T → ℕ) (p : ℕ) (w : State T) → IsPlace w → p < length w.participants → NoJobWaits w → WaitsBelow level 0 p w → bags_empty (participant_at w p) ≡ true
   pub no_job : (n p : ℕ) (w : State T) → CanPass n p w → NoJobWaits w → NoJobWaits (passed_times holds p n w)

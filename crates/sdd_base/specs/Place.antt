@@ -1,7 +1,7 @@
 -- what holds of every place of one thread between two calls
 use Rattle.std.specs.Prelude.{◌≡◌, ℕ, ◌+◌, ◌<◌, ◌≤◌, [], length, is_some, Option, None, Some, true}
 use Rattle.std.specs.List.{sum_by}
-use Rattle.sdd_base.specs.State.{State, Member, status_at, value_at, cell_at, member_at, marks_at, weight, is_used}
+use Rattle.sdd_base.specs.State.{State, ParticipantState, status_at, value_at, cell_at, participant_at, local_at, weight, is_used}
 use Rattle.sdd_base.specs.Steps.{times}
 use Rattle.sdd_base.specs.declared.tag.Tag.{Tag}
 use Rattle.sdd_base.specs.declared.sizes.Sizes.{Sizes}
@@ -9,29 +9,29 @@ use Rattle.sdd_base.specs.declared.status.Status.TheVariants as status
 use Rattle.sdd_base.specs.declared.status.Cell.TheVariants as cell
 
 -- how often place j waits in the bags of m
-abbrev pub held_times : ℕ → Member → ℕ
+abbrev pub held_times : ℕ → ParticipantState → ℕ
 held_times j m = times j m.current + times j m.prior + times j m.oldest + times j m.due
 
 -- each place that waits does so in one bag, no other place is in a bag; a slot has a value exactly if it is used
 pub record Sound {T : Type 0} (w : State T) : Type 0 where
   pub sizes : length w.values ≡ length w.states
-  pub once : (j : ℕ) → sum_by (held_times j) w.members ≡ weight (status_at w j)
+  pub once : (j : ℕ) → sum_by (held_times j) w.participants ≡ weight (status_at w j)
   pub filled : (j : ℕ) → is_some (value_at w j) ≡ is_used (status_at w j)
 
 -- participant p has a guard open
 abbrev pub IsOpen : {T : Type 0} → State T → ℕ → Type 0
-IsOpen w p = 0 < (marks_at w p).nesting
+IsOpen w p = 0 < (local_at w p).nesting
 
 pub record IsPlace {T : Type 0} (w : State T) : Type 0 where
   pub sound : Sound w
   -- there is a participant
-  pub some : 0 < length w.members
+  pub some : 0 < length w.participants
   -- nothing is being reclaimed
-  pub idle : (k : ℕ) → (member_at w k).due ≡ []
+  pub idle : (k : ℕ) → (participant_at w k).due ≡ []
   -- no participant is ahead of the count, and it is at most one ahead of an open guard
-  pub past : (k : ℕ) → (marks_at w k).previous ≤ w.count
-  pub began : (k : ℕ) → IsOpen w k → (marks_at w k).published ≤ w.count
-  pub near : (k : ℕ) → IsOpen w k → w.count ≤ (marks_at w k).published + 1
+  pub past : (k : ℕ) → (local_at w k).previous ≤ w.count
+  pub began : (k : ℕ) → IsOpen w k → (local_at w k).published ≤ w.count
+  pub near : (k : ℕ) → IsOpen w k → w.count ≤ (local_at w k).published + 1
 
 -- slot i has an item with owners, n of them
 pub record IsShared {T : Type 0} (w : State T) (i : ℕ) : Type 0 where

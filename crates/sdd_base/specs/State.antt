@@ -4,12 +4,12 @@ use Rattle.sdd_base.specs.declared.status.Status.{Status}
 use Rattle.sdd_base.specs.declared.status.Status.TheVariants as status
 use Rattle.sdd_base.specs.declared.status.Cell.{Cell}
 use Rattle.sdd_base.specs.declared.status.Cell.TheVariants as cell
-use Rattle.sdd_base.specs.declared.status.Marks.{Marks}
+use Rattle.sdd_base.specs.declared.status.LocalState.{LocalState}
 use Rattle.sdd_base.specs.declared.sizes.Sizes.{Sizes}
 
 -- a participant: its notes on itself, the places in its three bags (of age 0, 1 and 2), and those that are being reclaimed
-pub record Member : Type 0 where
-  pub marks : Marks
+pub record ParticipantState : Type 0 where
+  pub local : LocalState
   pub current : List ℕ
   pub prior : List ℕ
   pub oldest : List ℕ
@@ -21,14 +21,14 @@ pub record State (T : Type 0) : Type 0 where
   pub values : List (Option T)
   pub states : List Status
   pub cells : List Cell
-  pub members : List Member
+  pub participants : List ParticipantState
 
 -- reading: numbers out of range name nothing
-abbrev pub no_marks : Marks
-no_marks = record { nesting = 0; published = 0; previous = 0; accelerated = false; garbage = false; closings = 0 }
+abbrev pub no_local : LocalState
+no_local = record { nesting = 0; published = 0; previous = 0; accelerated = false; garbage = false; closings = 0 }
 
-abbrev pub nobody : Member
-nobody = record { marks = no_marks; current = []; prior = []; oldest = []; due = [] }
+abbrev pub nobody : ParticipantState
+nobody = record { local = no_local; current = []; prior = []; oldest = []; due = [] }
 
 abbrev pub value_at : {T : Type 0} → State T → ℕ → Option T
 value_at w i = get_or w.values i None
@@ -39,11 +39,11 @@ status_at w i = get_or w.states i status.Free
 abbrev pub cell_at : {T : Type 0} → State T → ℕ → Cell
 cell_at w c = get_or w.cells c cell.Free
 
-abbrev pub member_at : {T : Type 0} → State T → ℕ → Member
-member_at w p = get_or w.members p nobody
+abbrev pub participant_at : {T : Type 0} → State T → ℕ → ParticipantState
+participant_at w p = get_or w.participants p nobody
 
-abbrev pub marks_at : {T : Type 0} → State T → ℕ → Marks
-marks_at w p = (member_at w p).marks
+abbrev pub local_at : {T : Type 0} → State T → ℕ → LocalState
+local_at w p = (participant_at w p).local
 
 -- an item is in the slot
 abbrev pub is_used : Status → Bool
@@ -182,55 +182,55 @@ abbrev pub raised : {T : Type 0} → State T → State T
 raised w = record w { count = w.count + 1 }
 
 -- participant p is changed by f
-abbrev pub changing : {T : Type 0} → ℕ → (Member → Member) → State T → State T
-changing p f w = record w { members = set w.members p (f (member_at w p)) }
+abbrev pub changing : {T : Type 0} → ℕ → (ParticipantState → ParticipantState) → State T → State T
+changing p f w = record w { participants = set w.participants p (f (participant_at w p)) }
 
-abbrev pub marked : Marks → Member → Member
-marked k m = record m { marks = k }
+abbrev pub marked : LocalState → ParticipantState → ParticipantState
+marked k m = record m { local = k }
 
-abbrev pub with_marks : {T : Type 0} → ℕ → Marks → State T → State T
-with_marks p k w = changing p (marked k) w
+abbrev pub with_local : {T : Type 0} → ℕ → LocalState → State T → State T
+with_local p k w = changing p (marked k) w
 
 -- place i waits in the current bag of m, which has garbage from now on
-abbrev pub put_member : ℕ → Member → Member
-put_member i m = record m { marks = record m.marks { garbage = true }; current = m.current ++ i ∷ [] }
+abbrev pub put_participant : ℕ → ParticipantState → ParticipantState
+put_participant i m = record m { local = record m.local { garbage = true }; current = m.current ++ i ∷ [] }
 
 -- participant p retires what is in place i; s is Retired for an item, Deferred for a job
 abbrev pub waiting_as : {T : Type 0} → Status → ℕ → ℕ → State T → State T
-waiting_as s p i w = record w { states = set w.states i s; members = set w.members p (put_member i (member_at w p)) }
+waiting_as s p i w = record w { states = set w.states i s; participants = set w.participants p (put_participant i (participant_at w p)) }
 
 abbrev pub retired : {T : Type 0} → ℕ → ℕ → State T → State T
 retired p i w = waiting_as status.Retired p i w
 
 -- the bags move on, and what was in the oldest is due
-abbrev pub turned : Member → Member
+abbrev pub turned : ParticipantState → ParticipantState
 turned m = record m { due = reverse m.oldest; oldest = m.prior; prior = m.current; current = [] }
 
 abbrev pub rotated_bags : {T : Type 0} → ℕ → State T → State T
 rotated_bags p w = changing p turned w
 
 -- the place that came last into the current bag is due
-abbrev pub recalled : Member → Member
+abbrev pub recalled : ParticipantState → ParticipantState
 recalled m = record m { current = take (length m.current - 1) m.current; due = drop (length m.current - 1) m.current ++ m.due }
 
-abbrev pub left_due : List ℕ → Member → Member
+abbrev pub left_due : List ℕ → ParticipantState → ParticipantState
 left_due is m = record m { due = is }
 
 -- place i is vacated, and is are still due to p
 abbrev pub taken : {T : Type 0} → ℕ → ℕ → List ℕ → State T → State T
-taken p i is w = record w { values = set w.values i None; states = set w.states i (vacated (status_at w i)); members = set w.members p (left_due is (member_at w p)) }
+taken p i is w = record w { values = set w.values i None; states = set w.states i (vacated (status_at w i)); participants = set w.participants p (left_due is (participant_at w p)) }
 
 -- the next place that was due to p is vacated, and v was there
 pub record TakesDue {T : Type 0} (p : ℕ) (v : Option T) (w w' : State T) : Type 0 where
   pub place : ℕ
   pub rest : List ℕ
-  pub was : (member_at w p).due ≡ place ∷ rest
+  pub was : (participant_at w p).due ≡ place ∷ rest
   pub value : value_at w place ≡ v
   pub now : w' ≡ taken p place rest w
 
 -- an open guard of m published the count n
-abbrev pub is_present : ℕ → Member → Bool
-is_present n m = (m.marks.nesting == 0) || (m.marks.published == n)
+abbrev pub is_present : ℕ → ParticipantState → Bool
+is_present n m = (m.local.nesting == 0) || (m.local.published == n)
 
 -- a new place
 abbrev pub fresh : {T : Type 0} → Sizes → State T
@@ -239,5 +239,5 @@ fresh n = record {
   values = replicate (n.slots + n.jobs) None;
   states = replicate n.slots status.Free ++ replicate n.jobs status.Idle;
   cells = replicate n.cells cell.Free;
-  members = replicate n.participants nobody;
+  participants = replicate n.participants nobody;
 }

@@ -2,12 +2,12 @@
 use Rattle.std.specs.Prelude.{◌≡◌, ℕ, zero, suc, ◌+◌, ◌-◌, ◌==◌, Bool, true, false, not, ◌&&◌, ◌||◌, cond, Option, None, Some, List, [], ◌∷◌, ◌++◌, length, replicate, min, leb, ltb}
 use Rattle.std.specs.List.{list_all, sum_by}
 use Rattle.sdd_base.specs.Holding.{Hold, OwnedItem, SharedItem, OwnedIn, SharedIn}
-use Rattle.sdd_base.specs.State.{State, Member, status_at, value_at, cell_at, member_at, marks_at, with_status, with_cell, with_marks, retired, removed, rotated_bags, taken, raised, is_present}
+use Rattle.sdd_base.specs.State.{State, ParticipantState, status_at, value_at, cell_at, participant_at, local_at, with_status, with_cell, with_local, retired, removed, rotated_bags, taken, raised, is_present}
 use Rattle.sdd_base.specs.declared.status.Status.{Status}
 use Rattle.sdd_base.specs.declared.status.Status.TheVariants as status
 use Rattle.sdd_base.specs.declared.status.Cell.{Cell}
 use Rattle.sdd_base.specs.declared.status.Cell.TheVariants as cell
-use Rattle.sdd_base.specs.declared.status.Marks.{Marks}
+use Rattle.sdd_base.specs.declared.status.LocalState.{LocalState}
 
 -- 1 where two numbers are equal
 abbrev pub hit : ℕ → ℕ → ℕ
@@ -89,7 +89,7 @@ due_reclaimed_as holds p [] w = w
 due_reclaimed_as holds p (i ∷ is) w = given_all p (held_in holds (value_at w i)) (taken p i is w)
 
 abbrev pub due_reclaimed : {T : Type 0} → (T → List Hold) → ℕ → State T → State T
-due_reclaimed holds p w = due_reclaimed_as holds p (member_at w p).due w
+due_reclaimed holds p w = due_reclaimed_as holds p (participant_at w p).due w
 
 -- the next n places that are due to p are reclaimed
 abbrev pub reclaimed : {T : Type 0} → (T → List Hold) → ℕ → ℕ → State T → State T
@@ -100,54 +100,54 @@ reclaimed holds p (suc n) w = reclaimed holds p n (due_reclaimed holds p w)
 pub record IsNext {T : Type 0} (holds : T → List Hold) (p : ℕ) (w w' : State T) : Type 0 where
   pub place : ℕ
   pub rest : List ℕ
-  pub was : (member_at w p).due ≡ place ∷ rest
+  pub was : (participant_at w p).due ≡ place ∷ rest
   pub now : w' ≡ due_reclaimed holds p w
 
 abbrev pub is_nil : List ℕ → Bool
 is_nil [] = true
 is_nil (x ∷ xs) = false
 
-abbrev pub bags_empty : Member → Bool
+abbrev pub bags_empty : ParticipantState → Bool
 bags_empty m = is_nil m.current && (is_nil m.prior && is_nil m.oldest)
 
 -- the flag of garbage is cleared where all three bags are empty
 abbrev pub settled : {T : Type 0} → ℕ → State T → State T
-settled p w = with_marks p (record (marks_at w p) { garbage = (marks_at w p).garbage && not (bags_empty (member_at w p)) }) w
+settled p w = with_local p (record (local_at w p) { garbage = (local_at w p).garbage && not (bags_empty (participant_at w p)) }) w
 
 -- the bags of p move on once, and what was in the oldest is reclaimed
 abbrev pub rotated : {T : Type 0} → (T → List Hold) → ℕ → State T → State T
-rotated holds p w = settled p (reclaimed holds p (length (member_at w p).oldest) (rotated_bags p w))
+rotated holds p w = settled p (reclaimed holds p (length (participant_at w p).oldest) (rotated_bags p w))
 
 -- p publishes the count
 abbrev pub begun : {T : Type 0} → ℕ → State T → State T
-begun p w = with_marks p (record (marks_at w p) { nesting = 1; published = w.count; previous = w.count; accelerated = false }) w
+begun p w = with_local p (record (local_at w p) { nesting = 1; published = w.count; previous = w.count; accelerated = false }) w
 
 -- p opens a guard: an outermost one publishes the count, and rotates where that isn't the one found before
 abbrev pub opened : {T : Type 0} → (T → List Hold) → ℕ → State T → State T
 opened holds p w =
-    cond ((marks_at w p).nesting == 0)
-    (cond ((marks_at w p).previous == w.count) (begun p w) (rotated holds p (begun p w)))
-    (with_marks p (record (marks_at w p) { nesting = (marks_at w p).nesting + 1 }) w)
+    cond ((local_at w p).nesting == 0)
+    (cond ((local_at w p).previous == w.count) (begun p w) (rotated holds p (begun p w)))
+    (with_local p (record (local_at w p) { nesting = (local_at w p).nesting + 1 }) w)
 
 -- the count is raised by one if every open guard published it, and it isn't at its end
 abbrev pub scanned : {T : Type 0} → State T → State T
-scanned w = cond (list_all (is_present w.count) w.members && ltb w.count 18446744073709551615) (raised w) w
+scanned w = cond (list_all (is_present w.count) w.participants && ltb w.count 18446744073709551615) (raised w) w
 
-abbrev pub closings_after : Marks → ℕ
+abbrev pub closings_after : LocalState → ℕ
 closings_after m = min 64 (m.closings + 1)
 
 -- whether an outermost closing scans
-abbrev pub scans : Marks → Bool
+abbrev pub scans : LocalState → Bool
 scans m = m.accelerated || (m.garbage && leb 64 (closings_after m))
 
 -- p closes a guard
 abbrev pub closed : {T : Type 0} → ℕ → State T → State T
 closed p w =
-    cond ((marks_at w p).nesting == 1)
-    (cond (scans (marks_at w p))
-    (with_marks p (record (marks_at w p) { nesting = 0; closings = 0 }) (scanned w))
-    (with_marks p (record (marks_at w p) { nesting = 0; closings = closings_after (marks_at w p) }) w))
-    (with_marks p (record (marks_at w p) { nesting = (marks_at w p).nesting - 1 }) w)
+    cond ((local_at w p).nesting == 1)
+    (cond (scans (local_at w p))
+    (with_local p (record (local_at w p) { nesting = 0; closings = 0 }) (scanned w))
+    (with_local p (record (local_at w p) { nesting = 0; closings = closings_after (local_at w p) }) w))
+    (with_local p (record (local_at w p) { nesting = (local_at w p).nesting - 1 }) w)
 
 -- what was collected at least three raises ago can be reclaimed: no guard that is open can name it
 abbrev pub overdue : ℕ → Status → Bool
@@ -206,14 +206,14 @@ rotated_each holds (p ∷ ps) w = rotated_each holds ps (rotated holds p w)
 pub record Swept {T : Type 0} (holds : T → List Hold) (p : ℕ) (w w' : State T) : Type 0 where
   pub turns : ℕ
   pub now : w' ≡ rotated_each holds (replicate turns p) w
-  pub empty : bags_empty (member_at w' p) ≡ true
+  pub empty : bags_empty (participant_at w' p) ≡ true
 
 -- every participant rotated until all bags were empty
 pub record AllSwept {T : Type 0} (holds : T → List Hold) (w w' : State T) : Type 0 where
   pub turns : List ℕ
   pub now : w' ≡ rotated_each holds turns w
-  pub empty : (p : ℕ) → bags_empty (member_at w' p) ≡ true
+  pub empty : (p : ℕ) → bags_empty (participant_at w' p) ≡ true
 
 -- no guard is open
 abbrev pub NoneOpen : {T : Type 0} → State T → Type 0
-NoneOpen w = (p : ℕ) → (marks_at w p).nesting ≡ 0
+NoneOpen w = (p : ℕ) → (local_at w p).nesting ≡ 0

@@ -1,14 +1,14 @@
 -- how the fields of the store show its state, and what is always true of them
 use Rattle.std.specs.Prelude.{is_some, reverse, ◌≡◌, ℕ, ◌≤◌, ◌+◌, List, length, map, get_or, sum_by, vec_capacity, All, replicate, ◌++◌, true, false}
 use Rattle.std.specs.Global.{Vec}
-use Rattle.sdd_base.specs.State.{State, Member, weight, is_used, usage, vacancy, idleness, emptiness, is_job}
+use Rattle.sdd_base.specs.State.{State, ParticipantState, weight, is_used, usage, vacancy, idleness, emptiness, is_job}
 use Rattle.sdd_base.specs.Steps.{times}
 use Rattle.sdd_base.specs.declared.table.Table.TheInside.{Inside}
 use Rattle.sdd_base.specs.declared.bags.Participant.{Participant}
 
-abbrev pub member_of : Participant → Member
-member_of p = record {
-  marks = p.marks;
+abbrev pub participant_state : Participant → ParticipantState
+participant_state p = record {
+  local = p.local;
   current = p.current.items;
   prior = p.prior.items;
   oldest = p.oldest.items;
@@ -21,7 +21,7 @@ state_of w = record {
   values = w.values.items;
   states = w.states.items;
   cells = w.cells.items;
-  members = map member_of w.members.items;
+  participants = map participant_state w.participants.items;
 }
 
 -- how many places wait in the bags of a participant
@@ -48,8 +48,8 @@ pub record IsStack {X : Type 0} (f : X → ℕ) (all : List X) (stack : Vec ℕ)
 pub record IsTable {T J : Type 0} (w : Inside T J) : Type 0 where
   pub filled : map is_some w.values.items ≡ map is_used w.states.items
   pub tally : w.used ≡ sum_by usage w.states.items
-  pub room : All (HasRoom (length w.states.items)) w.members.items
-  pub waits : sum_by waiting w.members.items ≤ sum_by weight w.states.items
+  pub room : All (HasRoom (length w.states.items)) w.participants.items
+  pub waits : sum_by waiting w.participants.items ≤ sum_by weight w.states.items
   -- the slots come first, then the job places
   pub kinds : map is_job w.states.items ≡ replicate w.slots false ++ replicate (length w.jobs.items) true
   pub slots : IsStack vacancy w.states.items w.free

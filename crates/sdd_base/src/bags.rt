@@ -1,17 +1,17 @@
 //! The bags of a participant, with room for every place from the start.
 
 ghost use Rattle.std.specs.Prelude.{◌≡◌, ◌≢◌, ℕ, ◌+◌, ◌<◌, ◌≤◌, List, [], ◌∷◌, length, MatchOption, IfOk, vec_capacity};
-ghost use Rattle.sdd_base.specs.State.{nobody, put_member, turned, left_due, recalled};
-ghost use Rattle.sdd_base.specs.View.{HasRoom, member_of, waiting};
+ghost use Rattle.sdd_base.specs.State.{nobody, put_participant, turned, left_due, recalled};
+ghost use Rattle.sdd_base.specs.View.{HasRoom, participant_state, waiting};
 
-use crate::status::Marks;
+use crate::status::LocalState;
 use std::alloc::{AllocError, Global};
 use std::mem;
 
 /// A participant: its notes, and the places that wait for it.
 #[derive(Drop)]
 pub(crate) struct Participant {
-    pub(crate) marks: Marks,
+    pub(crate) local: LocalState,
     pub(crate) current: Vec<usize>,
     pub(crate) prior: Vec<usize>,
     pub(crate) oldest: Vec<usize>,
@@ -21,12 +21,12 @@ pub(crate) struct Participant {
 impl Participant {
     /// A participant whose bags have room for `n` places each.
     pub(crate) fn new(alloc: Global, n: usize) -> Result<Participant, AllocError>
-        ensures shown { IfOk result (λ q. member_of q ≡ nobody) }
+        ensures shown { IfOk result (λ q. participant_state q ≡ nobody) }
         ensures room { IfOk result (λ q. HasRoom n q) }
         ensures waits { IfOk result (λ q. waiting q ≡ 0) }
     {
         Ok(Participant {
-            marks: Marks {
+            local: LocalState {
                 nesting: 0,
                 published: 0,
                 previous: 0,
@@ -44,11 +44,11 @@ impl Participant {
     /// Place `i` waits in the current bag, which has room for it.
     pub(crate) fn put(&mut self, i: usize)
         requires { length self.old.current.items < vec_capacity self.old.current }
-        ensures shown { member_of self.new ≡ put_member i (member_of self.old) }
+        ensures shown { participant_state self.new ≡ put_participant i (participant_state self.old) }
         ensures room { (n : ℕ) → HasRoom n self.old → HasRoom n self.new }
         ensures waits { waiting self.new ≡ waiting self.old + 1 }
     {
-        self.marks.garbage = true;
+        self.local.garbage = true;
         match self.current.push(i) {
             Ok(()) => {}
             Err(_) => unreachable!(),
@@ -57,7 +57,7 @@ impl Participant {
 
     /// The next place that is due.
     pub(crate) fn next(&mut self) -> Option<usize>
-        ensures shown { MatchOption result (((member_of self.old).due ≡ []) × (member_of self.new ≡ member_of self.old)) (λ i. (is : List ℕ) × ((member_of self.old).due ≡ i ∷ is) × (member_of self.new ≡ left_due is (member_of self.old))) }
+        ensures shown { MatchOption result (((participant_state self.old).due ≡ []) × (participant_state self.new ≡ participant_state self.old)) (λ i. (is : List ℕ) × ((participant_state self.old).due ≡ i ∷ is) × (participant_state self.new ≡ left_due is (participant_state self.old))) }
         ensures room { (n : ℕ) → HasRoom n self.old → HasRoom n self.new }
         ensures waits { MatchOption result (waiting self.new ≡ waiting self.old) (λ _. waiting self.new + 1 ≡ waiting self.old) }
     {
@@ -65,9 +65,9 @@ impl Participant {
     }
 
     /// The place that came last into the current bag is due; there is room for it.
-    pub(crate) fn recall(&mut self)
+    pub(crate) fn unretire(&mut self)
         requires { length self.old.current.items ≢ 0 → length self.old.due.items < vec_capacity self.old.due }
-        ensures shown { member_of self.new ≡ recalled (member_of self.old) }
+        ensures shown { participant_state self.new ≡ recalled (participant_state self.old) }
         ensures room { (n : ℕ) → HasRoom n self.old → HasRoom n self.new }
         ensures waits { waiting self.new ≡ waiting self.old }
     {
@@ -83,7 +83,7 @@ impl Participant {
     /// The bags move on, and the oldest is due.
     pub(crate) fn turn(&mut self)
         requires { length self.old.due.items ≡ 0 }
-        ensures shown { member_of self.new ≡ turned (member_of self.old) }
+        ensures shown { participant_state self.new ≡ turned (participant_state self.old) }
         ensures room { (n : ℕ) → HasRoom n self.old → HasRoom n self.new }
         ensures waits { waiting self.new ≡ waiting self.old }
     {

@@ -49,7 +49,7 @@ pub struct Kept {
 }
 
 impl Kept {
-    /// Keeps an owner.
+    /// Frame an owner.
     pub fn of<T>(shared: Shared<T>) -> Kept
         ensures { kept_slot result ≡ shared_slot shared }
     {

@@ -2,24 +2,24 @@
 
 ghost use Rattle.std.specs.Prelude.{◌≡◌, ◌+◌, ◌-◌, ◌<◌, ◌≤◌, ℕ, List, [], ◌∷◌, length, leb, IsTrue, IsFalse, IfSome, IfNone, true};
 ghost use Rattle.std.specs.VecDeque.{deque_capacity};
-ghost use Rattle.sdd_base.specs.State.{is_used, status_at, member_at, marks_at, weight};
+ghost use Rattle.sdd_base.specs.State.{is_used, status_at, participant_at, local_at, weight};
 ghost use Rattle.sdd_base.specs.Steps.{released, disowned, owned_ended, shared_ended, given, given_all, rotated, opened, closed, begun, scanned, IsNext, Swept, AllSwept, purged, left_waiting, enqueued, set_aside, handed, overdue, IsTimely, closings_after, scans as scans_at};
 ghost use Rattle.sdd_base.specs.Dropping.{undone, Dropped};
 ghost use Rattle.sdd_base.specs.Place.{Sound, IsPlace, IsOwned, IsShared};
-ghost use Rattle.sdd_base.specs.Frame.{OnlyOf};
+ghost use Rattle.sdd_base.specs.Frame.{OnlyParticipant};
 ghost use Rattle.sdd_base.specs.Tokens.{hold_of};
 
 use crate::cell::{AtomicOwned, AtomicShared};
 use crate::holds::{Held, Holds};
 use crate::job::Deferred;
 use crate::owner::{Owned, Shared};
-use crate::status::{Cell, Marks, Status};
+use crate::status::{Cell, LocalState, Status};
 use crate::table::{Due, Table};
 use std::collections::VecDeque;
 
 /// Gives one owner of slot `i` back, and answers whether it was the last.
 pub(crate) fn release<T, J: Deferred>(table: &mut Table<T, J>, p: usize, i: usize) -> bool
-    requires member { p < length table.old.members }
+    requires participant { p < length table.old.participants }
     requires slot { i < length table.old.states }
     requires shared { (n : ℕ) × (status_at table.old i ≡ Status.Shared n) }
     ensures state { table.new ≡ released p i table.old }
@@ -41,7 +41,7 @@ pub(crate) fn release<T, J: Deferred>(table: &mut Table<T, J>, p: usize, i: usiz
 
 /// Participant `p` gives back what an item held that it reclaims.
 fn give<T, J: Deferred>(table: &mut Table<T, J>, p: usize, held: Held<T>)
-    requires { p < length table.old.members }
+    requires { p < length table.old.participants }
     ensures { table.new ≡ given p (hold_of held) table.old }
 {
     match held {
@@ -54,7 +54,7 @@ fn give<T, J: Deferred>(table: &mut Table<T, J>, p: usize, held: Held<T>)
 
 /// Retires slot `slot`, where it has one owner.
 pub(crate) fn give_owned<T, J: Deferred>(table: &mut Table<T, J>, p: usize, slot: usize)
-    requires { p < length table.old.members }
+    requires { p < length table.old.participants }
     ensures { table.new ≡ disowned p slot table.old }
 {
     if let Status::Owned = table.status_of(slot) {
@@ -64,7 +64,7 @@ pub(crate) fn give_owned<T, J: Deferred>(table: &mut Table<T, J>, p: usize, slot
 
 /// Gives one owner of slot `slot` back, where it has some.
 pub(crate) fn give_shared<T, J: Deferred>(table: &mut Table<T, J>, p: usize, slot: usize)
-    requires { p < length table.old.members }
+    requires { p < length table.old.participants }
     ensures { table.new ≡ released p slot table.old }
 {
     if let Status::Shared(_) = table.status_of(slot) {
@@ -74,7 +74,7 @@ pub(crate) fn give_shared<T, J: Deferred>(table: &mut Table<T, J>, p: usize, slo
 
 /// Ends a cell of owned items, and gives back what it keeps.
 pub(crate) fn end_owned<T, J: Deferred>(table: &mut Table<T, J>, p: usize, cell: usize)
-    requires { p < length table.old.members }
+    requires { p < length table.old.participants }
     ensures { table.new ≡ owned_ended p cell table.old }
 {
     if let Cell::OfOwned(item, _) = table.cell_of(cell) {
@@ -87,7 +87,7 @@ pub(crate) fn end_owned<T, J: Deferred>(table: &mut Table<T, J>, p: usize, cell:
 
 /// Ends a cell of shared items, and gives back what it keeps.
 pub(crate) fn end_shared<T, J: Deferred>(table: &mut Table<T, J>, p: usize, cell: usize)
-    requires { p < length table.old.members }
+    requires { p < length table.old.participants }
     ensures { table.new ≡ shared_ended p cell table.old }
 {
     if let Cell::OfShared(item, _) = table.cell_of(cell) {
@@ -100,9 +100,9 @@ pub(crate) fn end_shared<T, J: Deferred>(table: &mut Table<T, J>, p: usize, cell
 
 /// Everything that `value` holds is given back by `p`, and the value ends.
 pub(crate) fn give_all<T: Holds, J: Deferred>(table: &mut Table<T, J>, p: usize, mut value: T)
-    requires { p < length table.old.members }
+    requires { p < length table.old.participants }
     ensures state { table.new ≡ given_all p (T.holds value) table.old }
-    ensures known { length table.new.members ≡ length table.old.members }
+    ensures known { length table.new.participants ≡ length table.old.participants }
 {
     while let Some(held) = value.give_up() {
         give(table, p, held);
@@ -112,10 +112,10 @@ pub(crate) fn give_all<T: Holds, J: Deferred>(table: &mut Table<T, J>, p: usize,
 
 /// The next place that is due to `p` is reclaimed, if there is one.
 fn reclaim_next<T: Holds, J: Deferred>(table: &mut Table<T, J>, p: usize) -> bool
-    requires member { p < length table.old.members }
-    requires waits { (i : ℕ) (is : List ℕ) → (member_at table.old p).due ≡ i ∷ is → (i < length table.old.states) × (weight (status_at table.old i) ≡ 1) }
+    requires participant { p < length table.old.participants }
+    requires waits { (i : ℕ) (is : List ℕ) → (participant_at table.old p).due ≡ i ∷ is → (i < length table.old.states) × (weight (status_at table.old i) ≡ 1) }
     ensures some { IsTrue result → IsNext T.holds p table.old table.new }
-    ensures none { IsFalse result → ((member_at table.old p).due ≡ []) × (table.new ≡ table.old) }
+    ensures none { IsFalse result → ((participant_at table.old p).due ≡ []) × (table.new ≡ table.old) }
 {
     match table.take_due(p) {
         None => false,
@@ -133,32 +133,32 @@ fn reclaim_next<T: Holds, J: Deferred>(table: &mut Table<T, J>, p: usize) -> boo
 
 /// What was in the oldest bag of `p` is reclaimed, and the bags have moved on.
 pub(crate) fn turn_over<T: Holds, J: Deferred>(table: &mut Table<T, J>, p: usize)
-    requires member { p < length table.old.members }
+    requires participant { p < length table.old.participants }
     requires sound { Sound table.old }
-    requires idle { (member_at table.old p).due ≡ [] }
+    requires idle { (participant_at table.old p).due ≡ [] }
     ensures { table.new ≡ rotated T.holds p table.old }
 {
     table.turn(p);
     while reclaim_next(table, p) {}
-    let mut marks = table.marks(p);
-    marks.garbage = marks.garbage && !table.bags_are_empty(p);
-    table.set_marks(p, marks);
+    let mut local = table.local(p);
+    local.garbage = local.garbage && !table.bags_are_empty(p);
+    table.set_local(p, local);
 }
 
 /// What `p` retired last is reclaimed, where more than `kept` places wait in its current bag.
-fn undo<T: Holds, J: Deferred>(table: &mut Table<T, J>, p: usize, kept: usize) -> bool
-    requires member { p < length table.old.members }
+fn reclaim_last<T: Holds, J: Deferred>(table: &mut Table<T, J>, p: usize, kept: usize) -> bool
+    requires participant { p < length table.old.participants }
     requires sound { Sound table.old }
-    requires idle { (member_at table.old p).due ≡ [] }
-    ensures more { IsTrue result → kept < length (member_at table.old p).current }
+    requires idle { (participant_at table.old p).due ≡ [] }
+    ensures more { IsTrue result → kept < length (participant_at table.old p).current }
     ensures some { IsTrue result → table.new ≡ undone T.holds p table.old }
-    ensures last { IsFalse result → length (member_at table.old p).current ≤ kept }
+    ensures last { IsFalse result → length (participant_at table.old p).current ≤ kept }
     ensures none { IsFalse result → table.new ≡ table.old }
 {
     if table.newest(p) <= kept {
         return false;
     }
-    table.recall(p);
+    table.unretire(p);
     reclaim_next(table, p);
     true
 }
@@ -169,21 +169,21 @@ pub(crate) fn drop_now<T: Holds, J: Deferred>(table: &mut Table<T, J>, held: Hel
     ensures dropped { Dropped T.holds (hold_of held) table.old table.new }
     ensures place { IsPlace table.new }
 {
-    let marks = table.marks(0);
+    let local = table.local(0);
     let kept = table.newest(0);
     give(table, 0, held);
-    while undo(table, 0, kept) {}
-    table.set_marks(0, marks);
+    while reclaim_last(table, 0, kept) {}
+    table.set_local(0, local);
 }
 
 /// What is in `slot` waits at the end of a private bag, and the count is noted; where that is full, `p` retires it.
-pub(crate) fn set_apart<T, J: Deferred>(
+pub(crate) fn collect<T, J: Deferred>(
     table: &mut Table<T, J>,
     p: usize,
     waiting: &mut VecDeque<usize>,
     slot: usize,
 )
-    requires member { p < length table.old.members }
+    requires participant { p < length table.old.participants }
     requires slot { slot < length table.old.states }
     requires used { is_used (status_at table.old slot) ≡ true }
     requires waits_not { weight (status_at table.old slot) ≡ 0 }
@@ -210,7 +210,7 @@ pub(crate) fn leave_owned<T, J: Deferred>(
     waiting: &mut VecDeque<usize>,
     slot: usize,
 ) -> bool
-    requires member { p < length table.old.members }
+    requires participant { p < length table.old.participants }
     requires slot { slot < length table.old.states }
     ensures owned { IsTrue result → IsOwned table.old slot }
     ensures unowned { IsFalse result → ¬ IsOwned table.old slot }
@@ -222,7 +222,7 @@ pub(crate) fn leave_owned<T, J: Deferred>(
 {
     match table.status(slot) {
         Status::Owned => {
-            set_apart(table, p, waiting, slot);
+            collect(table, p, waiting, slot);
             true
         }
         _ => false,
@@ -237,7 +237,7 @@ pub(crate) fn leave_shared<T, J: Deferred>(
     waiting: &mut VecDeque<usize>,
     slot: usize,
 ) -> bool
-    requires member { p < length table.old.members }
+    requires participant { p < length table.old.participants }
     requires slot { slot < length table.old.states }
     ensures last { (n : ℕ) → status_at table.old slot ≡ Status.Shared n → result ≡ leb n 1 }
     ensures shared { IsTrue result → IsShared table.old slot }
@@ -253,7 +253,7 @@ pub(crate) fn leave_shared<T, J: Deferred>(
                 table.set_status(slot, Status::Shared(owners - 1));
                 return false;
             }
-            set_apart(table, p, waiting, slot);
+            collect(table, p, waiting, slot);
             true
         }
         _ => false,
@@ -289,7 +289,7 @@ pub(crate) fn purge<T: Holds, J: Deferred>(
     p: usize,
     waiting: &mut VecDeque<usize>,
 )
-    requires { p < length table.old.members }
+    requires { p < length table.old.participants }
     ensures state { table.new ≡ purged T.holds p waiting.old.items table.old }
     ensures left { waiting.new.items ≡ left_waiting T.holds p waiting.old.items table.old }
     ensures room { deque_capacity waiting.new ≡ deque_capacity waiting.old }
@@ -306,7 +306,7 @@ pub(crate) fn hand_over<T, J: Deferred>(
     p: usize,
     waiting: &mut VecDeque<usize>,
 )
-    requires { p < length table.old.members }
+    requires { p < length table.old.participants }
     ensures { table.new ≡ handed p waiting.old.items table.old }
 {
     while let Some(slot) = waiting.pop_front() {
@@ -316,25 +316,25 @@ pub(crate) fn hand_over<T, J: Deferred>(
     }
 }
 
-/// Whether this outermost closing of `marks` scans, where `closings` counts it.
-fn scans(marks: &Marks, closings: u8) -> bool
-    ensures { closings ≡ closings_after marks.now → result ≡ scans_at marks.now }
+/// Whether this outermost closing of `local` scans, where `closings` counts it.
+fn scans(local: &LocalState, closings: u8) -> bool
+    ensures { closings ≡ closings_after local.now → result ≡ scans_at local.now }
 {
-    marks.accelerated || marks.garbage && closings >= 64
+    local.accelerated || local.garbage && closings >= 64
 }
 
 /// Participant `p` publishes the count.
 fn begin<T, J: Deferred>(table: &mut Table<T, J>, p: usize)
-    requires { p < length table.old.members }
+    requires { p < length table.old.participants }
     ensures { table.new ≡ begun p table.old }
 {
     let count = table.count();
-    let mut marks = table.marks(p);
-    marks.nesting = 1;
-    marks.published = count;
-    marks.previous = count;
-    marks.accelerated = false;
-    table.set_marks(p, marks);
+    let mut local = table.local(p);
+    local.nesting = 1;
+    local.published = count;
+    local.previous = count;
+    local.accelerated = false;
+    table.set_local(p, local);
 }
 
 /// Raises the count, if every open guard published it.
@@ -348,60 +348,60 @@ fn scan<T, J: Deferred>(table: &mut Table<T, J>)
 
 /// Opens a guard of `p`, which isn't at its end.
 pub(crate) fn open<T: Holds, J: Deferred>(table: &mut Table<T, J>, p: usize)
-    requires member { p < length table.old.members }
+    requires participant { p < length table.old.participants }
     requires sound { Sound table.old }
-    requires idle { (member_at table.old p).due ≡ [] }
-    requires room { (marks_at table.old p).nesting < 4294967295 }
+    requires idle { (participant_at table.old p).due ≡ [] }
+    requires room { (local_at table.old p).nesting < 4294967295 }
     ensures { table.new ≡ opened T.holds p table.old }
 {
-    let mut marks = table.marks(p);
-    if marks.nesting == 0 {
-        let turns = marks.previous != table.count();
+    let mut local = table.local(p);
+    if local.nesting == 0 {
+        let turns = local.previous != table.count();
         begin(table, p);
         if turns {
             turn_over(table, p);
         }
     } else {
-        marks.nesting += 1;
-        table.set_marks(p, marks);
+        local.nesting += 1;
+        table.set_local(p, local);
     }
 }
 
 /// Closes a guard of `p`.
 pub(crate) fn close<T, J: Deferred>(table: &mut Table<T, J>, p: usize)
-    requires member { p < length table.old.members }
-    requires open { 0 < (marks_at table.old p).nesting }
+    requires participant { p < length table.old.participants }
+    requires open { 0 < (local_at table.old p).nesting }
     ensures { table.new ≡ closed p table.old }
 {
-    let mut marks = table.marks(p);
-    if marks.nesting == 1 {
-        let closings = if marks.closings < 64 {
-            marks.closings + 1
+    let mut local = table.local(p);
+    if local.nesting == 1 {
+        let closings = if local.closings < 64 {
+            local.closings + 1
         } else {
             64
         };
-        let scanning = scans(&marks, closings);
-        marks.nesting = 0;
+        let scanning = scans(&local, closings);
+        local.nesting = 0;
         if scanning {
             scan(table);
-            marks.closings = 0;
+            local.closings = 0;
         } else {
-            marks.closings = closings;
+            local.closings = closings;
         }
     } else {
-        marks.nesting -= 1;
+        local.nesting -= 1;
     }
-    table.set_marks(p, marks);
+    table.set_local(p, local);
 }
 
 /// Participant `p` rotates until its bags are empty.
 pub(crate) fn sweep<T: Holds, J: Deferred>(table: &mut Table<T, J>, p: usize)
-    requires member { p < length table.old.members }
+    requires participant { p < length table.old.participants }
     requires place { IsPlace table.old }
     ensures place { IsPlace table.new }
     ensures swept { Swept T.holds p table.old table.new }
-    ensures known { length table.new.members ≡ length table.old.members }
-    ensures only { OnlyOf p table.old table.new }
+    ensures known { length table.new.participants ≡ length table.old.participants }
+    ensures only { OnlyParticipant p table.old table.new }
 {
     while !table.bags_are_empty(p) {
         turn_over(table, p);

@@ -51,9 +51,9 @@ pub fn is_last(count: u32) -> bool
 #[derive(Clone, Copy, PartialEq, Eq, Drop, Debug)]
 pub enum Cell {
     Free,
-    /// Keeps the owner of an `Owned` item.
+    /// Frame the owner of an `Owned` item.
     OfOwned(Option<usize>, Tag),
-    /// Keeps an owner of a `Shared` item.
+    /// Frame an owner of a `Shared` item.
     OfShared(Option<usize>, Tag),
     /// Names an item without owning it.
     OfRaw(Option<usize>, Tag),
@@ -61,7 +61,7 @@ pub enum Cell {
 
 /// What a participant notes of itself.
 #[derive(Clone, Copy, Drop, Debug)]
-pub struct Marks {
+pub struct LocalState {
     /// Guards that are open, one in the other.
     pub nesting: u32,
     /// The count that the outermost open guard published.

@@ -4,17 +4,17 @@
 ghost use Rattle.std.specs.Prelude.{◌≡◌, ◌≢◌, ℕ, ◌+◌, ◌<◌, ◌≤◌, ◌^◌, ◌-◌, List, length, MatchOption, MatchResult, Some, None, OnOk, IfSome, IfNone, IfOk, IfErr, [], ◌∷◌, false, true, replicate, IsTrue, IsFalse, ◌↔◌, sum_by, vec_capacity, vec_len, ◌++◌, map, All, IsSome};
 ghost use Rattle.std.specs.Borrow.{sem};
 ghost use Rattle.std.specs.Option.Follows.{option_follows_value};
-ghost use Rattle.sdd_base.specs.State.{changing, recalled, IsIdle, NoneIdle, with_status, with_marks, IsFree, NoneFree, IsFreeCell, NoCellFree, in_use, IsUnused, waiting_as, status_at, member_at, value_at, cell_at, rotated_bags, placed, raised, nobody, TakesDue, with_cell, is_present, is_used, weight, idleness, vacancy, emptiness, fresh, removed, usage};
+ghost use Rattle.sdd_base.specs.State.{changing, recalled, IsIdle, NoneIdle, with_status, with_local, IsFree, NoneFree, IsFreeCell, NoCellFree, in_use, IsUnused, waiting_as, status_at, participant_at, value_at, cell_at, rotated_bags, placed, raised, nobody, TakesDue, with_cell, is_present, is_used, weight, idleness, vacancy, emptiness, fresh, removed, usage};
 ghost use Rattle.std.specs.List.{list_all};
-ghost use Rattle.sdd_base.specs.View.{Lists, IsStack, HasRoom, member_of, waiting};
+ghost use Rattle.sdd_base.specs.View.{Lists, IsStack, HasRoom, participant_state, waiting};
 ghost use Rattle.sdd_base.specs.Steps.{bags_empty, NoneOpen};
 ghost use Rattle.sdd_base.specs.Place.{IsOpen};
 
 use crate::bags::Participant;
+use crate::exclusive_access::Store;
 use crate::job::Deferred;
-use crate::lender::Store;
 use crate::sizes::Sizes;
-use crate::status::{Cell, Marks, Status};
+use crate::status::{Cell, LocalState, Status};
 use std::alloc::{AllocError, Global};
 use std::marker::Model;
 use std::mem;
@@ -37,7 +37,7 @@ pub(crate) struct Table<T, J: Deferred> {
     jobs: Vec<Option<J>>,
     states: Vec<Status>,
     cells: Vec<Cell>,
-    members: Vec<Participant>,
+    participants: Vec<Participant>,
     /// The free slots, the job places without a job and the free cells.
     free: Vec<usize>,
     idle: Vec<usize>,
@@ -104,35 +104,35 @@ impl<T, J: Deferred> Table<T, J> {
         }
     }
 
-    pub(crate) fn marks(&self, p: usize) -> Marks
-        requires { p < length self.now.members }
-        ensures { result ≡ (member_at self.now p).marks }
+    pub(crate) fn local(&self, p: usize) -> LocalState
+        requires { p < length self.now.participants }
+        ensures { result ≡ (participant_at self.now p).local }
     {
-        self.members[p].marks
+        self.participants[p].local
     }
 
-    pub(crate) fn set_marks(&mut self, p: usize, marks: Marks)
-        requires { p < length self.old.members }
-        ensures { self.new ≡ with_marks p marks self.old }
+    pub(crate) fn set_local(&mut self, p: usize, local: LocalState)
+        requires { p < length self.old.participants }
+        ensures { self.new ≡ with_local p local self.old }
     {
-        self.members[p].marks = marks;
+        self.participants[p].local = local;
     }
 
     /// What is in slot `i` waits in the current bag of `p`.
     pub(crate) fn retire(&mut self, p: usize, i: usize)
-        requires member { p < length self.old.members }
+        requires participant { p < length self.old.participants }
         requires slot { i < length self.old.states }
         requires used { is_used (status_at self.old i) ≡ true }
         requires waits_not { weight (status_at self.old i) ≡ 0 }
         ensures { self.new ≡ waiting_as Status.Retired p i self.old }
     {
         self.states[i] = Status::Retired;
-        self.members[p].put(i);
+        self.participants[p].put(i);
     }
 
     /// Puts a job into a job place that has none, if there is one; it waits in the current bag of `p`.
     pub(crate) fn defer(&mut self, p: usize, job: J) -> Result<(), J>
-        requires { p < length self.old.members }
+        requires { p < length self.old.participants }
         ensures deferred { OnOk result ((i : ℕ) × IsIdle self.old i × (self.new ≡ waiting_as Status.Deferred p i self.old)) }
         ensures refused { IfErr result (λ j. (j ≡ job) × (self.new ≡ self.old) × NoneIdle self.old) }
     {
@@ -141,32 +141,32 @@ impl<T, J: Deferred> Table<T, J> {
         };
         self.states[i] = Status::Deferred;
         self.jobs[i - self.slots] = Some(job);
-        self.members[p].put(i);
+        self.participants[p].put(i);
         Ok(())
     }
 
     pub(crate) fn turn(&mut self, p: usize)
-        requires member { p < length self.old.members }
-        requires due { (member_at self.old p).due ≡ [] }
+        requires participant { p < length self.old.participants }
+        requires due { (participant_at self.old p).due ≡ [] }
         ensures { self.new ≡ rotated_bags p self.old }
     {
-        self.members[p].turn();
+        self.participants[p].turn();
     }
 
     /// How many places wait in the current bag of `p`.
     pub(crate) fn newest(&self, p: usize) -> usize
-        requires { p < length self.now.members }
-        ensures { result ≡ length (member_at self.now p).current }
+        requires { p < length self.now.participants }
+        ensures { result ≡ length (participant_at self.now p).current }
     {
-        self.members[p].current.len()
+        self.participants[p].current.len()
     }
 
     /// What `p` retired last is due.
-    pub(crate) fn recall(&mut self, p: usize)
-        requires { p < length self.old.members }
+    pub(crate) fn unretire(&mut self, p: usize)
+        requires { p < length self.old.participants }
         ensures { self.new ≡ changing p recalled self.old }
     {
-        self.members[p].recall();
+        self.participants[p].unretire();
     }
 
     /// Puts a value into a free slot, if there is one.
@@ -201,11 +201,11 @@ impl<T, J: Deferred> Table<T, J> {
 
     /// The next place that is due has nothing from now on, and what it had is taken.
     pub(crate) fn take_due(&mut self, p: usize) -> Option<Due<T, J>>
-        requires member { p < length self.old.members }
-        requires waits { (i : ℕ) (is : List ℕ) → (member_at self.old p).due ≡ i ∷ is → (i < length self.old.states) × (weight (status_at self.old i) ≡ 1) }
-        ensures { MatchOption result (((member_at self.old p).due ≡ []) × (self.new ≡ self.old)) (λ d. TakesDue p d.value self.old self.new) }
+        requires participant { p < length self.old.participants }
+        requires waits { (i : ℕ) (is : List ℕ) → (participant_at self.old p).due ≡ i ∷ is → (i < length self.old.states) × (weight (status_at self.old i) ≡ 1) }
+        ensures { MatchOption result (((participant_at self.old p).due ≡ []) × (self.new ≡ self.old)) (λ d. TakesDue p d.value self.old self.new) }
     {
-        match self.members[p].next() {
+        match self.participants[p].next() {
             None => None,
             Some(i) => {
                 if self.states[i].has_item() {
@@ -256,10 +256,10 @@ impl<T, J: Deferred> Table<T, J> {
 
     /// Whether every open guard published the present count.
     pub(crate) fn all_present(&self) -> bool
-        ensures { result ≡ list_all (is_present self.now.count) self.now.members }
+        ensures { result ≡ list_all (is_present self.now.count) self.now.participants }
     {
-        for m in &self.members {
-            if m.marks.nesting != 0 && m.marks.published != self.count {
+        for m in &self.participants {
+            if m.local.nesting != 0 && m.local.published != self.count {
                 return false;
             }
         }
@@ -271,8 +271,8 @@ impl<T, J: Deferred> Table<T, J> {
         ensures open { IsTrue result → (p : ℕ) × IsOpen self.now p }
         ensures none { IsFalse result → NoneOpen self.now }
     {
-        for m in &self.members {
-            if m.marks.nesting != 0 {
+        for m in &self.participants {
+            if m.local.nesting != 0 {
                 return true;
             }
         }
@@ -287,9 +287,9 @@ impl<T, J: Deferred> Table<T, J> {
     }
 
     pub(crate) fn participants(&self) -> usize
-        ensures { result ≡ length self.now.members }
+        ensures { result ≡ length self.now.participants }
     {
-        self.members.len()
+        self.participants.len()
     }
 
     /// How many cells there are.
@@ -366,10 +366,10 @@ impl<T, J: Deferred> Table<T, J> {
     }
 
     pub(crate) fn bags_are_empty(&self, p: usize) -> bool
-        requires { p < length self.now.members }
-        ensures { result ≡ bags_empty (member_at self.now p) }
+        requires { p < length self.now.participants }
+        ensures { result ≡ bags_empty (participant_at self.now p) }
     {
-        let m = &self.members[p];
+        let m = &self.participants[p];
         m.current.is_empty() && m.prior.is_empty() && m.oldest.is_empty()
     }
 
@@ -382,7 +382,7 @@ impl<T, J: Deferred> Table<T, J> {
         let (mut states, free) = free_slots(alloc, sizes.slots, places)?;
         let idle = idle_places(alloc, &mut states, sizes.jobs, places)?;
         let (cells, free_cells) = free_cells(alloc, sizes.cells)?;
-        let members = participants(alloc, sizes.participants, places)?;
+        let participants = new_participants(alloc, sizes.participants, places)?;
         let jobs = empty_slots(alloc, sizes.jobs)?;
         let values = empty_slots(alloc, places)?;
         Ok(Table {
@@ -393,7 +393,7 @@ impl<T, J: Deferred> Table<T, J> {
             jobs,
             states,
             cells,
-            members,
+            participants,
             free,
             idle,
             free_cells,
@@ -412,7 +412,7 @@ impl<T, J: Deferred> Table<T, J> {
             jobs: _,
             states: _,
             cells: _,
-            members: _,
+            participants: _,
             free: _,
             idle: _,
             free_cells: _,
@@ -527,16 +527,16 @@ fn free_cells(alloc: Global, n: usize) -> Result<(Vec<Cell>, Vec<usize>), AllocE
 }
 
 /// `n` participants whose bags have room for `places` places.
-fn participants(alloc: Global, n: usize, places: usize) -> Result<Vec<Participant>, AllocError>
-    ensures members { IfOk result (λ r. map member_of r.items ≡ replicate n nobody) }
+fn new_participants(alloc: Global, n: usize, places: usize) -> Result<Vec<Participant>, AllocError>
+    ensures participants { IfOk result (λ r. map participant_state r.items ≡ replicate n nobody) }
     ensures room { IfOk result (λ r. All (HasRoom places) r.items) }
     ensures waits { IfOk result (λ r. sum_by waiting r.items ≡ 0) }
 {
-    let mut members = Vec::with_capacity(alloc, n)?;
+    let mut participants = Vec::with_capacity(alloc, n)?;
     for _ in 0..n {
-        members.push(Participant::new(alloc, places)?)?;
+        participants.push(Participant::new(alloc, places)?)?;
     }
-    Ok(members)
+    Ok(participants)
 }
 
 /// Room for `n` values, and none there.

@@ -10,9 +10,9 @@ ghost use Rattle.sdd_base.specs.Place.{IsPlace, IsOpen, IsReadable, IsSized};
 ghost use Rattle.sdd_base.specs.Tokens.{loaded_slot, ptr_slot};
 
 use crate::cell::AtomicShared;
+use crate::exclusive_access::{ExclusiveAccess, Store};
 use crate::holds::Holds;
 use crate::job::{Deferred, Job};
-use crate::lender::{Lender, Store};
 use crate::owner::{Owned, Shared};
 use crate::pointer::{Loaded, Ptr};
 use crate::reclaim;
@@ -107,7 +107,7 @@ impl<T, J: Deferred> World<T, J> {
 
     /// How many participants there are: they are named by the numbers below it.
     pub fn participants(&self) -> usize
-        ensures { result ≡ length self.now.members }
+        ensures { result ≡ length self.now.participants }
     {
         self.table.participants()
     }
@@ -157,7 +157,7 @@ impl<T, J: Deferred> World<T, J> {
     }
 }
 
-impl<T, J: Deferred> Lender<T> for World<T, J> {
+impl<T, J: Deferred> ExclusiveAccess<T> for World<T, J> {
     ghost use Rattle.std.specs.Prelude.{refl};
     ghost use Rattle.sdd_base.specs.State.{with_value};
 

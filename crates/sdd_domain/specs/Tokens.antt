@@ -1,7 +1,7 @@
 -- what places, participants and guards show to clauses
 use Rattle.std.specs.Prelude.{◌≡◌, ℕ, ◌-◌, ◌==◌, ◌&&◌, false, cond}
 use Rattle.atomic_table.specs.Seated.{TableId}
-use Rattle.sdd_base.specs.declared.status.Marks.{Marks}
+use Rattle.sdd_base.specs.declared.status.LocalState.{LocalState}
 use Rattle.sdd_base.specs.Steps.{closings_after, scans}
 use Rattle.sdd_domain.specs.declared.domain.Domain.{Domain}
 use Rattle.sdd_domain.specs.declared.local.Local.{Local}
@@ -24,8 +24,8 @@ home_of l = l.place.table_id
 abbrev pub number_of : Local → ℕ
 number_of l = l.number
 
-abbrev pub marks_of : Local → Marks
-marks_of l = l.marks
+abbrev pub marks_of : Local → LocalState
+marks_of l = l.own
 
 -- the count of raises when the open guard was published
 abbrev pub born_of : Local → ℕ
@@ -40,9 +40,9 @@ abbrev pub IsSame : Local → Local → Type 0
 IsSame old new = (home_of new ≡ home_of old) × (number_of new ≡ number_of old)
 
 -- An outermost opening that found this count. A rotation clears the flag of garbage, since all bags are empty.
-abbrev pub begun : ℕ → Marks → Marks
+abbrev pub begun : ℕ → LocalState → LocalState
 begun count m = record { nesting = 1; published = count; previous = count; accelerated = false; garbage = m.garbage && (m.previous == count); closings = m.closings }
 
 -- a closing
-abbrev pub closed : Marks → Marks
+abbrev pub closed : LocalState → LocalState
 closed m = cond (m.nesting == 1) (record m { nesting = 0; closings = cond (scans m) 0 (closings_after m) }) (record m { nesting = m.nesting - 1 })

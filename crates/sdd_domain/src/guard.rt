@@ -38,13 +38,13 @@ impl Guard {
         ensures counted { OnOk result (0 < (marks_of local.old).nesting → marks_of local.new ≡ record (marks_of local.old) { nesting = (marks_of local.old).nesting + 1 }) }
         ensures same { IsSame local.old local.new }
     {
-        let Some(nesting) = deeper(local.marks.nesting) else {
+        let Some(nesting) = deeper(local.own.nesting) else {
             return Err(Nested);
         };
         if nesting == 1 {
             local.begin(domain);
         } else {
-            local.marks.nesting = nesting;
+            local.own.nesting = nesting;
         }
         Ok(Guard {
             participant: local.number,
@@ -66,7 +66,7 @@ impl Guard {
         ensures epoch { (count : ℕ) × (result ≡ count % 64) × (born_of local.old ≤ count) × (count ≤ born_of local.old + 1) }
         ensures same { IsSame local.old local.new × (marks_of local.new ≡ marks_of local.old) × (born_of local.new ≡ born_of local.old) }
     {
-        let epoch = local.marks.previous;
+        let epoch = local.own.previous;
         Epoch::of_count(steps::count_under(domain.words(), &mut local.place, epoch))
     }
 
@@ -75,7 +75,7 @@ impl Guard {
         requires { participant_of self.now ≡ number_of local.now }
         ensures { result ≡ (marks_of local.now).garbage }
     {
-        local.marks.garbage
+        local.own.garbage
     }
 
     /// Sets that flag, so that a later closing scans.
@@ -84,7 +84,7 @@ impl Guard {
         ensures set { marks_of local.new ≡ record (marks_of local.old) { garbage = true } }
         ensures same { IsSame local.old local.new × (born_of local.new ≡ born_of local.old) }
     {
-        local.marks.garbage = true;
+        local.own.garbage = true;
     }
 
     /// Asks that the outermost closing of this nesting scans.
@@ -93,7 +93,7 @@ impl Guard {
         ensures set { marks_of local.new ≡ record (marks_of local.old) { accelerated = true } }
         ensures same { IsSame local.old local.new × (born_of local.new ≡ born_of local.old) }
     {
-        local.marks.accelerated = true;
+        local.own.accelerated = true;
     }
 
     /// Closes a guard. An outermost closing scans first, if a guard of the nesting was accelerated or this is the 64th
@@ -108,10 +108,10 @@ impl Guard {
         ensures same { IsSame local.old local.new }
     {
         let Guard { participant: _ } = self;
-        if local.marks.nesting == 1 {
+        if local.own.nesting == 1 {
             local.finish(domain);
         } else {
-            local.marks.nesting -= 1;
+            local.own.nesting -= 1;
         }
     }
 }

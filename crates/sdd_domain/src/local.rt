@@ -11,24 +11,24 @@ use crate::board::Place;
 use crate::domain::Domain;
 use crate::scan::scan;
 use crate::steps;
-use sdd_base::status::Marks;
+use sdd_base::status::LocalState;
 
 /// A registered participant. It must be spent by `end`.
 pub struct Local {
     pub(crate) place: Place,
     pub(crate) number: usize,
-    pub(crate) marks: Marks,
+    pub(crate) own: LocalState,
     ghost acts: { (place.me.0.kind ≡ 1) × (place.me.0.number ≡ number) × (place.me.0.scan ≡ 0) × (number < 2 ^ 30) × (claim_word number < place.table_id.words) },
-    ghost phase: { place.me.0.known.phase ≡ cond (marks.nesting == 0) Idle (Opened marks.previous) },
-    ghost found: { place.me.0.known.found ≡ marks.previous },
-    ghost noted: { marks.published ≡ marks.previous },
+    ghost phase: { place.me.0.known.phase ≡ cond (own.nesting == 0) Idle (Opened own.previous) },
+    ghost found: { place.me.0.known.found ≡ own.previous },
+    ghost noted: { own.published ≡ own.previous },
 }
 
 /// Whether this outermost closing scans, where `closings` counts it.
-fn scans(marks: &Marks, closings: u8) -> bool
-    ensures { closings ≡ closings_after marks.now → result ≡ scans marks.now }
+fn scans(own: &LocalState, closings: u8) -> bool
+    ensures { closings ≡ closings_after own.now → result ≡ scans own.now }
 {
-    marks.accelerated || marks.garbage && closings >= 64
+    own.accelerated || own.garbage && closings >= 64
 }
 
 impl Local {
@@ -42,7 +42,7 @@ impl Local {
         Local {
             place,
             number,
-            marks: Marks {
+            own: LocalState {
                 nesting: 0,
                 published: 0,
                 previous: 0,
@@ -67,21 +67,17 @@ impl Local {
         ensures same { IsSame self.old self.new }
         ensures begun { (count : ℕ) × (count ≤ born_of self.new) × (marks_of self.new ≡ begun count (marks_of self.old)) }
     {
-        let Local {
-            place,
-            number,
-            marks,
-        } = self;
+        let Local { place, number, own } = self;
         let epoch = steps::read_count(domain.words(), place);
         steps::publish(domain.words(), place, *number, epoch);
         // Most openings find the count of the one before: then these stand as they are.
-        if marks.previous != epoch {
-            marks.garbage = false;
-            marks.published = epoch;
-            marks.previous = epoch;
+        if own.previous != epoch {
+            own.garbage = false;
+            own.published = epoch;
+            own.previous = epoch;
         }
-        marks.nesting = 1;
-        marks.accelerated = false;
+        own.nesting = 1;
+        own.accelerated = false;
     }
 
     /// Closes an outermost guard, after a scan if one is due.
@@ -91,25 +87,21 @@ impl Local {
         ensures same { IsSame self.old self.new }
         ensures closed { marks_of self.new ≡ closed (marks_of self.old) }
     {
-        let Local {
-            place,
-            number,
-            marks,
-        } = self;
-        let closings = if marks.closings < 64 {
-            marks.closings + 1
+        let Local { place, number, own } = self;
+        let closings = if own.closings < 64 {
+            own.closings + 1
         } else {
             64
         };
-        let epoch = marks.previous;
-        if scans(marks, closings) {
+        let epoch = own.previous;
+        if scans(own, closings) {
             scan(domain.words(), place, *number, domain.participants, epoch);
-            marks.closings = 0;
+            own.closings = 0;
         } else {
-            marks.closings = closings;
+            own.closings = closings;
         }
         steps::close(domain.words(), place, *number, epoch);
-        marks.nesting = 0;
+        own.nesting = 0;
     }
 
     /// Ends the participant, which anybody may register from now on. Condition: none of its guards is open.
@@ -120,7 +112,7 @@ impl Local {
         let Local {
             mut place,
             number,
-            marks: _,
+            own: _,
         } = self;
         steps::end(domain.words(), &mut place, number);
     }

@@ -21,9 +21,9 @@ use std::test::Fail;
 
 /// The value of the entry that a pop gives, which is given back.
 pub(crate) fn pop<const N: usize>(w: &mut World<LinkedEntry<u64>>, bag: &Bag<u64, N>) -> Option<u64>
-    requires member { 0 < length w.old.members }
+    requires participant { 0 < length w.old.participants }
     requires list { IsSomeBag N w.old (bag_cells bag.now) }
-    ensures member { 0 < length w.new.members }
+    ensures participant { 0 < length w.new.participants }
     ensures open { IsOpen w.old 0 → IsOpen w.new 0 }
     ensures list { IsSomeBag N w.new (bag_cells bag.now) }
 {
@@ -67,9 +67,9 @@ fn told(pushed: Result<(), u64>) -> Reply {
 
 /// Makes a call.
 fn make<const N: usize>(w: &mut World<LinkedEntry<u64>>, bag: &Bag<u64, N>, call: Call) -> Reply
-    requires member { 0 < length w.old.members }
+    requires participant { 0 < length w.old.participants }
     requires list { IsSomeBag N w.old (bag_cells bag.now) }
-    ensures member { 0 < length w.new.members }
+    ensures participant { 0 < length w.new.participants }
     ensures list { IsSomeBag N w.new (bag_cells bag.now) }
 {
     match call {
@@ -88,9 +88,9 @@ fn play<R: Abort, const N: usize>(
     bag: &Bag<u64, N>,
     rows: &[(Call, Reply)],
 )
-    requires member { 0 < length w.old.members }
+    requires participant { 0 < length w.old.participants }
     requires list { IsSomeBag N w.old (bag_cells bag.now) }
-    ensures member { 0 < length w.new.members }
+    ensures participant { 0 < length w.new.participants }
     ensures list { IsSomeBag N w.new (bag_cells bag.now) }
 {
     for row in rows {
@@ -106,7 +106,7 @@ fn fold<R: Abort, const N: usize>(
     w: &mut World<LinkedEntry<u64>>,
     bag: Bag<u64, N>,
 ) -> usize
-    requires member { 0 < length w.old.members }
+    requires participant { 0 < length w.old.participants }
     requires list { IsSomeBag N w.old (bag_cells bag) }
 {
     let none: Vec<Shared<LinkedEntry<u64>>> = Vec::new(alloc);
@@ -218,9 +218,9 @@ fn take_apart<const N: usize>(
     w: &mut World<LinkedEntry<u64>>,
     iter: &IntoIter<u64, N>,
 ) -> Option<u64>
-    requires member { 0 < length w.old.members }
+    requires participant { 0 < length w.old.participants }
     requires list { IsSomeBag N w.old (into_cells iter.now) }
-    ensures member { 0 < length w.new.members }
+    ensures participant { 0 < length w.new.participants }
     ensures list { IsSomeBag N w.new (into_cells iter.now) }
 {
     match world::into_iter::next(w, iter, 0) {
@@ -276,9 +276,9 @@ fn try_call<R: Abort>(
     room: &mut u64,
     seed: u64,
 )
-    requires member { 0 < length w.old.members }
+    requires participant { 0 < length w.old.participants }
     requires list { IsSomeBag 3 w.old (bag_cells bag.now) }
-    ensures member { 0 < length w.new.members }
+    ensures participant { 0 < length w.new.participants }
     ensures list { IsSomeBag 3 w.new (bag_cells bag.now) }
 {
     match world::bag::try_push(w, bag, seed) {
@@ -301,9 +301,9 @@ fn push_call<R: Abort>(
     room: &mut u64,
     seed: u64,
 )
-    requires member { 0 < length w.old.members }
+    requires participant { 0 < length w.old.participants }
     requires list { IsSomeBag 3 w.old (bag_cells bag.now) }
-    ensures member { 0 < length w.new.members }
+    ensures participant { 0 < length w.new.participants }
     ensures list { IsSomeBag 3 w.new (bag_cells bag.now) }
 {
     match world::bag::push(w, bag, seed) {
@@ -325,9 +325,9 @@ fn pop_call<R: Abort>(
     primary: &mut Vec<u64>,
     overflow: &mut Vec<u64>,
 )
-    requires member { 0 < length w.old.members }
+    requires participant { 0 < length w.old.participants }
     requires list { IsSomeBag 3 w.old (bag_cells bag.now) }
-    ensures member { 0 < length w.new.members }
+    ensures participant { 0 < length w.new.participants }
     ensures list { IsSomeBag 3 w.new (bag_cells bag.now) }
 {
     let last = overflow.is_empty();
@@ -353,9 +353,9 @@ fn bag_call<R: Abort>(
     room: &mut u64,
     seed: u64,
 )
-    requires member { 0 < length w.old.members }
+    requires participant { 0 < length w.old.participants }
     requires list { IsSomeBag 3 w.old (bag_cells bag.now) }
-    ensures member { 0 < length w.new.members }
+    ensures participant { 0 < length w.new.participants }
     ensures list { IsSomeBag 3 w.new (bag_cells bag.now) }
 {
     let choice = seed >> 60;

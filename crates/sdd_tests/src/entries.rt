@@ -32,8 +32,8 @@ fn write(entry: &mut LinkedEntry<u64>, value: u64)
 
 /// Gives an entry to the place, which ends it.
 fn retire<R: Abort>(rt: &R, w: &mut World<LinkedEntry<u64>>, entry: LinkedEntry<u64>)
-    requires { 0 < length w.old.members }
-    ensures { 0 < length w.new.members }
+    requires { 0 < length w.old.participants }
+    ensures { 0 < length w.new.participants }
 {
     match place::shared::new(w, entry) {
         Ok(owner) => {
@@ -87,8 +87,8 @@ fn put_behind<R: Abort>(
     mark: bool,
     guard: &WorldGuard,
 ) -> (u64, bool)
-    requires { 0 < length w.old.members }
-    ensures member { 0 < length w.new.members }
+    requires { 0 < length w.old.participants }
+    ensures participant { 0 < length w.new.participants }
     ensures open { IsOpen w.old 0 → IsOpen w.new 0 }
 {
     let first = made(rt, w, 1);
@@ -111,8 +111,8 @@ fn put_behind<R: Abort>(
 
 /// What `push_back` hands back where the entry is deleted: the value of the entry that was to go behind it. Both end.
 fn put_behind_deleted<R: Abort>(rt: &R, w: &mut World<LinkedEntry<u64>>, guard: &WorldGuard) -> u64
-    requires { 0 < length w.old.members }
-    ensures member { 0 < length w.new.members }
+    requires { 0 < length w.old.participants }
+    ensures participant { 0 < length w.new.participants }
     ensures open { IsOpen w.old 0 → IsOpen w.new 0 }
 {
     let first = made(rt, w, 1);

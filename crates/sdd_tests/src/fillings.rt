@@ -49,9 +49,9 @@ pub(crate) fn copied_queue<T: Clone>(
     queue: Queue<T>,
 ) -> (Option<Queue<T>>, Option<NotMade>)
     requires clones { ClonesAreSame T.is_clone }
-    requires member { 0 < length w.old.members }
+    requires participant { 0 < length w.old.participants }
     requires list { IsSomeQueue entry_link w.old (oldest_cell queue) (newest_cell queue) }
-    ensures member { 0 < length w.new.members }
+    ensures participant { 0 < length w.new.participants }
     ensures list { IfSome result.0 (λ q. IsSomeQueue entry_link w.new (oldest_cell q) (newest_cell q)) }
 {
     match world::queue::clone(w, &queue) {
@@ -75,9 +75,9 @@ pub(crate) fn copied_stack<T: Clone>(
     stack: Stack<T>,
 ) -> (Option<Stack<T>>, Option<NotMade>)
     requires clones { ClonesAreSame T.is_clone }
-    requires member { 0 < length w.old.members }
+    requires participant { 0 < length w.old.participants }
     requires list { IsSomeStack w.old (stack_cell stack) }
-    ensures member { 0 < length w.new.members }
+    ensures participant { 0 < length w.new.participants }
     ensures open { IsOpen w.old 0 → IsOpen w.new 0 }
     ensures list { IfSome result.0 (λ s. IsSomeStack w.new (stack_cell s)) }
 {
@@ -98,8 +98,8 @@ pub(crate) fn copied_stack<T: Clone>(
 
 /// A queue of the numbers below `n` gives them back in their order.
 fn queue_round<R: Abort>(rt: &R, w: &mut World<LinkedEntry<u64>>, n: u64)
-    requires { 0 < length w.old.members }
-    ensures { 0 < length w.new.members }
+    requires { 0 < length w.old.participants }
+    ensures { 0 < length w.new.participants }
 {
     let queue = match world::queue::from_iter(w, 0..n) {
         Ok(queue) => queue,
@@ -114,8 +114,8 @@ fn queue_round<R: Abort>(rt: &R, w: &mut World<LinkedEntry<u64>>, n: u64)
 
 /// A stack of the numbers below `n` gives the last one first.
 fn stack_round<R: Abort>(rt: &R, w: &mut World<LinkedEntry<u64>>, n: u64)
-    requires { 0 < length w.old.members }
-    ensures { 0 < length w.new.members }
+    requires { 0 < length w.old.participants }
+    ensures { 0 < length w.new.participants }
 {
     let stack = match world::stack::from_iter(w, 0..n) {
         Ok(stack) => stack,

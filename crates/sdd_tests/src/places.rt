@@ -36,8 +36,8 @@ pub(crate) fn give<R: Abort>(
     w: &mut World<LinkedEntry<u64>>,
     owner: Shared<LinkedEntry<u64>>,
 )
-    requires { 0 < length w.old.members }
-    ensures member { 0 < length w.new.members }
+    requires { 0 < length w.old.participants }
+    ensures participant { 0 < length w.new.participants }
     ensures open { IsOpen w.old 0 → IsOpen w.new 0 }
 {
     let cell = match place::atomic_shared::from(w, owner) {

@@ -54,9 +54,9 @@ pub(crate) fn append(
     queue: &Queue<u64>,
     value: u64,
 ) -> Result<(), u64>
-    requires member { 0 < length w.old.members }
+    requires participant { 0 < length w.old.participants }
     requires list { IsSomeQueue entry_link w.old (oldest_cell queue.now) (newest_cell queue.now) }
-    ensures member { 0 < length w.new.members }
+    ensures participant { 0 < length w.new.participants }
     ensures open { IsOpen w.old 0 → IsOpen w.new 0 }
     ensures list { IsSomeQueue entry_link w.new (oldest_cell queue.now) (newest_cell queue.now) }
 {
@@ -71,9 +71,9 @@ pub(crate) fn append(
 
 /// The value of the first undeleted entry, which is given back.
 pub(crate) fn take(w: &mut World<LinkedEntry<u64>>, queue: &Queue<u64>) -> Option<u64>
-    requires member { 0 < length w.old.members }
+    requires participant { 0 < length w.old.participants }
     requires list { IsSomeQueue entry_link w.old (oldest_cell queue.now) (newest_cell queue.now) }
-    ensures member { 0 < length w.new.members }
+    ensures participant { 0 < length w.new.participants }
     ensures open { IsOpen w.old 0 → IsOpen w.new 0 }
     ensures list { IsSomeQueue entry_link w.new (oldest_cell queue.now) (newest_cell queue.now) }
 {
@@ -100,9 +100,9 @@ fn oldest(w: &World<LinkedEntry<u64>>, queue: &Queue<u64>, guard: &WorldGuard) -
 
 /// Puts a value behind all others where there is one, and gives the owner back.
 fn append_more(w: &mut World<LinkedEntry<u64>>, queue: &Queue<u64>, value: u64) -> bool
-    requires member { 0 < length w.old.members }
+    requires participant { 0 < length w.old.participants }
     requires list { IsSomeQueue entry_link w.old (oldest_cell queue.now) (newest_cell queue.now) }
-    ensures member { 0 < length w.new.members }
+    ensures participant { 0 < length w.new.participants }
     ensures open { IsOpen w.old 0 → IsOpen w.new 0 }
     ensures list { IsSomeQueue entry_link w.new (oldest_cell queue.now) (newest_cell queue.now) }
 {
@@ -118,9 +118,9 @@ fn append_more(w: &mut World<LinkedEntry<u64>>, queue: &Queue<u64>, value: u64) 
 
 /// The value of the oldest undeleted entry, whose owner a refused pop gives and which is given back.
 fn refused_oldest(w: &mut World<LinkedEntry<u64>>, queue: &Queue<u64>) -> Option<u64>
-    requires member { 0 < length w.old.members }
+    requires participant { 0 < length w.old.participants }
     requires list { IsSomeQueue entry_link w.old (oldest_cell queue.now) (newest_cell queue.now) }
-    ensures member { 0 < length w.new.members }
+    ensures participant { 0 < length w.new.participants }
     ensures open { IsOpen w.old 0 → IsOpen w.new 0 }
     ensures list { IsSomeQueue entry_link w.new (oldest_cell queue.now) (newest_cell queue.now) }
 {
@@ -154,9 +154,9 @@ fn make(
     guard: &WorldGuard,
     call: Call,
 ) -> Reply
-    requires member { 0 < length w.old.members }
+    requires participant { 0 < length w.old.participants }
     requires list { IsSomeQueue entry_link w.old (oldest_cell queue.now) (newest_cell queue.now) }
-    ensures member { 0 < length w.new.members }
+    ensures participant { 0 < length w.new.participants }
     ensures open { IsOpen w.old 0 → IsOpen w.new 0 }
     ensures list { IsSomeQueue entry_link w.new (oldest_cell queue.now) (newest_cell queue.now) }
 {
@@ -196,9 +196,9 @@ fn play<R: Abort>(
     guard: &WorldGuard,
     rows: &[(Call, Reply)],
 )
-    requires member { 0 < length w.old.members }
+    requires participant { 0 < length w.old.participants }
     requires list { IsSomeQueue entry_link w.old (oldest_cell queue.now) (newest_cell queue.now) }
-    ensures member { 0 < length w.new.members }
+    ensures participant { 0 < length w.new.participants }
     ensures open { IsOpen w.old 0 → IsOpen w.new 0 }
     ensures list { IsSomeQueue entry_link w.new (oldest_cell queue.now) (newest_cell queue.now) }
 {

@@ -33,9 +33,9 @@ fn stack_call<R: Abort>(
     room: &mut u64,
     seed: u64,
 )
-    requires member { 0 < length w.old.members }
+    requires participant { 0 < length w.old.participants }
     requires list { IsSomeStack w.old (stack_cell stack.now) }
-    ensures member { 0 < length w.new.members }
+    ensures participant { 0 < length w.new.participants }
     ensures list { IsSomeStack w.new (stack_cell stack.now) }
 {
     if seed >> 60 < 9 {
@@ -63,9 +63,9 @@ fn queue_call<R: Abort>(
     room: &mut u64,
     seed: u64,
 )
-    requires member { 0 < length w.old.members }
+    requires participant { 0 < length w.old.participants }
     requires list { IsSomeQueue entry_link w.old (oldest_cell queue.now) (newest_cell queue.now) }
-    ensures member { 0 < length w.new.members }
+    ensures participant { 0 < length w.new.participants }
     ensures list { IsSomeQueue entry_link w.new (oldest_cell queue.now) (newest_cell queue.now) }
 {
     if seed >> 60 < 9 {
@@ -136,9 +136,9 @@ fn stack_turn<R: Abort>(
     room: &mut u64,
     seed: u64,
 ) -> Stack<u64>
-    requires member { 0 < length w.old.members }
+    requires participant { 0 < length w.old.participants }
     requires list { IsSomeStack w.old (stack_cell stack) }
-    ensures member { 0 < length w.new.members }
+    ensures participant { 0 < length w.new.participants }
     ensures list { IsSomeStack w.new (stack_cell result) }
 {
     if seed >> 60 != 8 {
@@ -163,9 +163,9 @@ fn queue_turn<R: Abort>(
     room: &mut u64,
     seed: u64,
 ) -> Queue<u64>
-    requires member { 0 < length w.old.members }
+    requires participant { 0 < length w.old.participants }
     requires list { IsSomeQueue entry_link w.old (oldest_cell queue) (newest_cell queue) }
-    ensures member { 0 < length w.new.members }
+    ensures participant { 0 < length w.new.participants }
     ensures list { IsSomeQueue entry_link w.new (oldest_cell result) (newest_cell result) }
 {
     if seed >> 60 != 8 {

@@ -60,9 +60,9 @@ pub(crate) fn push(
     stack: &Stack<u64>,
     value: u64,
 ) -> Result<(), u64>
-    requires member { 0 < length w.old.members }
+    requires participant { 0 < length w.old.participants }
     requires list { IsSomeStack w.old (stack_cell stack.now) }
-    ensures member { 0 < length w.new.members }
+    ensures participant { 0 < length w.new.participants }
     ensures open { IsOpen w.old 0 → IsOpen w.new 0 }
     ensures list { IsSomeStack w.new (stack_cell stack.now) }
 {
@@ -77,9 +77,9 @@ pub(crate) fn push(
 
 /// The value of the first undeleted entry, which is given back.
 pub(crate) fn pop(w: &mut World<LinkedEntry<u64>>, stack: &Stack<u64>) -> Option<u64>
-    requires member { 0 < length w.old.members }
+    requires participant { 0 < length w.old.participants }
     requires list { IsSomeStack w.old (stack_cell stack.now) }
-    ensures member { 0 < length w.new.members }
+    ensures participant { 0 < length w.new.participants }
     ensures open { IsOpen w.old 0 → IsOpen w.new 0 }
     ensures list { IsSomeStack w.new (stack_cell stack.now) }
 {
@@ -99,9 +99,9 @@ pub(crate) fn delete(
     stack: &Stack<u64>,
     guard: &WorldGuard,
 ) -> bool
-    requires member { 0 < length w.old.members }
+    requires participant { 0 < length w.old.participants }
     requires list { IsSomeStack w.old (stack_cell stack.now) }
-    ensures member { 0 < length w.new.members }
+    ensures participant { 0 < length w.new.participants }
     ensures open { IsOpen w.old 0 → IsOpen w.new 0 }
     ensures list { IsSomeStack w.new (stack_cell stack.now) }
 {
@@ -115,9 +115,9 @@ pub(crate) fn delete(
 
 /// Moves all entries to another stack, and ends the old one.
 fn moved(w: &mut World<LinkedEntry<u64>>, stack: Stack<u64>) -> Result<Stack<u64>, Stack<u64>>
-    requires member { 0 < length w.old.members }
+    requires participant { 0 < length w.old.participants }
     requires list { IsSomeStack w.old (stack_cell stack) }
-    ensures member { 0 < length w.new.members }
+    ensures participant { 0 < length w.new.participants }
     ensures list { IfOk result (λ s. IsSomeStack w.new (stack_cell s)) }
 {
     match world::stack::pop_all(w, &stack, 0) {
@@ -129,11 +129,11 @@ fn moved(w: &mut World<LinkedEntry<u64>>, stack: Stack<u64>) -> Result<Stack<u64
     }
 }
 
-/// Marks the first undeleted entry.
+/// LocalState the first undeleted entry.
 fn mark(w: &mut World<LinkedEntry<u64>>, stack: &Stack<u64>, guard: &WorldGuard) -> bool
-    requires member { 0 < length w.old.members }
+    requires participant { 0 < length w.old.participants }
     requires list { IsSomeStack w.old (stack_cell stack.now) }
-    ensures member { 0 < length w.new.members }
+    ensures participant { 0 < length w.new.participants }
     ensures open { IsOpen w.old 0 → IsOpen w.new 0 }
     ensures list { IsSomeStack w.new (stack_cell stack.now) }
 {
@@ -147,9 +147,9 @@ fn mark(w: &mut World<LinkedEntry<u64>>, stack: &Stack<u64>, guard: &WorldGuard)
 
 /// Clears the first undeleted entry.
 fn unmark(w: &mut World<LinkedEntry<u64>>, stack: &Stack<u64>, guard: &WorldGuard) -> bool
-    requires member { 0 < length w.old.members }
+    requires participant { 0 < length w.old.participants }
     requires list { IsSomeStack w.old (stack_cell stack.now) }
-    ensures member { 0 < length w.new.members }
+    ensures participant { 0 < length w.new.participants }
     ensures open { IsOpen w.old 0 → IsOpen w.new 0 }
     ensures list { IsSomeStack w.new (stack_cell stack.now) }
 {
@@ -199,9 +199,9 @@ fn is_deleted(w: &World<LinkedEntry<u64>>, stack: &Stack<u64>, guard: &WorldGuar
 
 /// Puts a value in front if there is none yet, and gives the owner back.
 fn push_first(w: &mut World<LinkedEntry<u64>>, stack: &Stack<u64>, value: u64) -> bool
-    requires member { 0 < length w.old.members }
+    requires participant { 0 < length w.old.participants }
     requires list { IsSomeStack w.old (stack_cell stack.now) }
-    ensures member { 0 < length w.new.members }
+    ensures participant { 0 < length w.new.participants }
     ensures open { IsOpen w.old 0 → IsOpen w.new 0 }
     ensures list { IsSomeStack w.new (stack_cell stack.now) }
 {
@@ -241,9 +241,9 @@ fn value_of(entry: Option<&LinkedEntry<u64>>) -> Option<u64> {
 
 /// The value of the first undeleted entry, whose owner a refused pop gives and which is given back.
 fn refused(w: &mut World<LinkedEntry<u64>>, stack: &Stack<u64>) -> Option<u64>
-    requires member { 0 < length w.old.members }
+    requires participant { 0 < length w.old.participants }
     requires list { IsSomeStack w.old (stack_cell stack.now) }
-    ensures member { 0 < length w.new.members }
+    ensures participant { 0 < length w.new.participants }
     ensures open { IsOpen w.old 0 → IsOpen w.new 0 }
     ensures list { IsSomeStack w.new (stack_cell stack.now) }
 {
@@ -268,9 +268,9 @@ fn second_owned(
     stack: &Stack<u64>,
     guard: &WorldGuard,
 ) -> Option<u64>
-    requires member { 0 < length w.old.members }
+    requires participant { 0 < length w.old.participants }
     requires list { IsSomeStack w.old (stack_cell stack.now) }
-    ensures member { 0 < length w.new.members }
+    ensures participant { 0 < length w.new.participants }
     ensures open { IsOpen w.old 0 → IsOpen w.new 0 }
     ensures list { IsSomeStack w.new (stack_cell stack.now) }
 {
@@ -296,9 +296,9 @@ fn make(
     guard: &WorldGuard,
     call: Call,
 ) -> Reply
-    requires member { 0 < length w.old.members }
+    requires participant { 0 < length w.old.participants }
     requires list { IsSomeStack w.old (stack_cell stack.now) }
-    ensures member { 0 < length w.new.members }
+    ensures participant { 0 < length w.new.participants }
     ensures open { IsOpen w.old 0 → IsOpen w.new 0 }
     ensures list { IsSomeStack w.new (stack_cell stack.now) }
 {
@@ -345,9 +345,9 @@ fn play<R: Abort>(
     guard: &WorldGuard,
     rows: &[(Call, Reply)],
 )
-    requires member { 0 < length w.old.members }
+    requires participant { 0 < length w.old.participants }
     requires list { IsSomeStack w.old (stack_cell stack.now) }
-    ensures member { 0 < length w.new.members }
+    ensures participant { 0 < length w.new.participants }
     ensures open { IsOpen w.old 0 → IsOpen w.new 0 }
     ensures list { IsSomeStack w.new (stack_cell stack.now) }
 {

@@ -55,9 +55,9 @@ fn second_is_shared<R: Abort>(
     stack: Stack<u64>,
     guard: &WorldGuard,
 ) -> bool
-    requires member { 0 < length w.old.members }
+    requires participant { 0 < length w.old.participants }
     requires list { IsSomeStack w.old (stack_cell stack) }
-    ensures member { 0 < length w.new.members }
+    ensures participant { 0 < length w.new.participants }
     ensures open { IsOpen w.old 0 → IsOpen w.new 0 }
 {
     let first = world::stack::peek(w, &stack, guard);

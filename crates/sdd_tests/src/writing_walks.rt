@@ -24,9 +24,9 @@ fn raise<R: Abort, const N: usize>(
     more: u64,
     seen: &mut Vec<u64>,
 ) -> usize
-    requires member { 0 < length w.old.members }
+    requires participant { 0 < length w.old.participants }
     requires list { IsSomeBag N w.old (bag_cells bag.now) }
-    ensures member { 0 < length w.new.members }
+    ensures participant { 0 < length w.new.participants }
     ensures list { IsSomeBag N w.new (bag_cells bag.now) }
 {
     let mut walk = match w.iter_mut(bag) {
@@ -76,9 +76,9 @@ fn exchange<const N: usize>(
     bag: &Bag<u64, N>,
     other: u64,
 ) -> Option<u64>
-    requires member { 0 < length w.old.members }
+    requires participant { 0 < length w.old.participants }
     requires list { IsSomeBag N w.old (bag_cells bag.now) }
-    ensures member { 0 < length w.new.members }
+    ensures participant { 0 < length w.new.participants }
     ensures list { IsSomeBag N w.new (bag_cells bag.now) }
 {
     let mut walk = match w.iter_mut(bag) {
@@ -171,9 +171,9 @@ fn a_bag_without_overflow_is_lent(rt: HostRuntime) -> Result<(), Fail> {
 
 /// Whether a walk is refused.
 fn is_refused<const N: usize>(w: &mut World<LinkedEntry<u64>>, bag: &Bag<u64, N>) -> bool
-    requires member { 0 < length w.old.members }
+    requires participant { 0 < length w.old.participants }
     requires list { IsSomeBag N w.old (bag_cells bag.now) }
-    ensures member { 0 < length w.new.members }
+    ensures participant { 0 < length w.new.participants }
     ensures open { IsOpen w.old 0 → IsOpen w.new 0 }
     ensures list { IsSomeBag N w.new (bag_cells bag.now) }
 {

@@ -18,14 +18,14 @@ use Rattle.leaf_array.specs.Results.{IsFull, given_back}
 use Rattle.leaf_array.specs.declared.result.InsertResult.{InsertResult}
 use Rattle.leaf_array.specs.declared.result.InsertResult.TheVariants.{Success, Duplicate, Full}
 use Rattle.tree_index.specs.declared.leaf.Leaf.{Leaf}
-use Rattle.tree_index.specs.declared.node.Branches.{Branches}
+use Rattle.tree_index.specs.declared.node.InnerNode.{InnerNode}
 use Rattle.tree_index.specs.declared.arenas.Arenas.{Arenas}
 use Rattle.tree_index.specs.Shape.{AllKeys, child_for, child_in, way}
 use Rattle.tree_index.specs.Content.{content_of, pairs_of, HasRoom, NodeHasRoom, IsLeafFull}
 use Rattle.tree_index.specs.Cuts.{key_at}
 use Rattle.tree_index.proofs.WayLemmas.{some_same}
 use Rattle.tree_index.proofs.CopyLemmas.{upserted_behind}
-use Rattle.tree_index.specs.Depth.{IsAbove, leaf_room, is_reached, node_room, root_room, rises, ascents}
+use Rattle.tree_index.specs.Depth.{IsAbove, leaf_room, is_reached, node_room, root_room, rises, ascending_headroom}
 
 -- as many as before, or fewer by some
 pub rises_less : (height room more d : ℕ) → (height ≡ 1 → room ≤ more + d) → rises height room ≤ rises height more + d
@@ -100,18 +100,18 @@ module _ {K V : Type 0} (cmp : K → K → Ordering) (o : IsTotalOrder cmp) (key
       let b = both_true (list_any (λ p. is_le (cmp e.0 p.0)) pairs) (is_reached cmp pairs es) h in
       ap (λ c. cond c (child_for cmp key es last) e.1) (ap is_lt (any_less e.0 pairs b.0 above)) ∙ last_child pairs above es last b.1
 
-  pub last_way : (a : Arenas K V) (n : Branches K) → a.height ≡ 1 → get a.nodes a.root ≡ Some n → IsAbove cmp key (pairs_of a) → is_reached cmp (pairs_of a) n.children.pairs ≡ true → way cmp (content_of a) key a.height a.root ≡ n.last
+  pub last_way : (a : Arenas K V) (n : InnerNode K) → a.height ≡ 1 → get a.nodes a.root ≡ Some n → IsAbove cmp key (pairs_of a) → is_reached cmp (pairs_of a) n.children.pairs ≡ true → way cmp (content_of a) key a.height a.root ≡ n.last
   last_way a n flat there above reached =
       ap (λ (h : ℕ). way cmp (content_of a) key h a.root) flat
-      ∙ ap (λ (m : Option (Branches K)). child_in cmp key a.root (option_map (λ (b : Branches K). (b.children, b.last)) m)) there
+      ∙ ap (λ (m : Option (InnerNode K)). child_in cmp key a.root (option_map (λ (b : InnerNode K). (b.children, b.last)) m)) there
       ∙ last_child (pairs_of a) above n.children.pairs n.last reached
 
 -- the room of a root by whether it is there, and reached
 module _ {K V : Type 0} (cmp : K → K → Ordering) (a : Arenas K V) where
-  pub by_root : (P : ℕ → Type 0) → P 0 → ((n : Branches K) → get a.nodes a.root ≡ Some n → is_reached cmp (pairs_of a) n.children.pairs ≡ true → P (15 * (15 - n.children.used) + leaf_room (get a.leaves n.last))) → P (root_room cmp a)
+  pub by_root : (P : ℕ → Type 0) → P 0 → ((n : InnerNode K) → get a.nodes a.root ≡ Some n → is_reached cmp (pairs_of a) n.children.pairs ≡ true → P (15 * (15 - n.children.used) + leaf_room (get a.leaves n.last))) → P (root_room cmp a)
   by_root P none some = split (get a.nodes a.root) refl
     where
-      split : (m : Option (Branches K)) → get a.nodes a.root ≡ m → P (node_room cmp (pairs_of a) (λ n. leaf_room (get a.leaves n)) m)
+      split : (m : Option (InnerNode K)) → get a.nodes a.root ≡ m → P (node_room cmp (pairs_of a) (λ n. leaf_room (get a.leaves n)) m)
       split None e = none
       split (Some n) e =
           (elim (is_reached cmp (pairs_of a) n.children.pairs) as (λ b. is_reached cmp (pairs_of a) n.children.pairs ≡ b → P (cond b (15 * (15 - n.children.used) + leaf_room (get a.leaves n.last)) 0)) [
@@ -119,7 +119,7 @@ module _ {K V : Type 0} (cmp : K → K → Ordering) (a : Arenas K V) where
             | false ↦ λ h. none
           ]) refl
 
-  pub room_is : (n : Branches K) → get a.nodes a.root ≡ Some n → is_reached cmp (pairs_of a) n.children.pairs ≡ true → root_room cmp a ≡ 15 * (15 - n.children.used) + leaf_room (get a.leaves n.last)
+  pub room_is : (n : InnerNode K) → get a.nodes a.root ≡ Some n → is_reached cmp (pairs_of a) n.children.pairs ≡ true → root_room cmp a ≡ 15 * (15 - n.children.used) + leaf_room (get a.leaves n.last)
   room_is n there reached = rw (there, reached) refl
 
 -- as few as 1, or as many as before
@@ -134,7 +134,7 @@ rises_one (suc zero) room u h = (refl, omega (arith, u))
 rises_one (suc (suc height)) room u h = absurd (omega (arith, u))
 
 module _ {K V : Type 0} (cmp : K → K → Ordering) (pairs : List (K × V)) (f g : ℕ → ℕ) where
-  node_less : (d : ℕ) → ((n : ℕ) → f n ≤ g n) → (m : Option (Branches K)) → node_room cmp pairs f m ≤ node_room cmp pairs g m
+  node_less : (d : ℕ) → ((n : ℕ) → f n ≤ g n) → (m : Option (InnerNode K)) → node_room cmp pairs f m ≤ node_room cmp pairs g m
   node_less d less None = omega arith
   node_less d less (Some n) =
       elim (is_reached cmp pairs n.children.pairs) as (λ b. cond b (15 * (15 - n.children.used) + f n.last) 0 ≤ cond b (15 * (15 - n.children.used) + g n.last) 0) [
@@ -218,7 +218,7 @@ all_middle P [] (y ∷ ys) zs a = (a.0, all_middle P [] ys zs a.1)
 
 module _ {K V : Type 0} (cmp : K → K → Ordering) (o : IsTotalOrder cmp) (key : K) (a : Arenas K V) where
   -- a flat tree with places left, whose last leaf is full, has room in its node
-  pub flat_node : 1 < ascents cmp a → a.height ≢ 0 → IsAbove cmp key (pairs_of a) → IsLeafFull cmp key a → NodeHasRoom cmp key a 1
+  pub flat_node : 1 < ascending_headroom cmp a → a.height ≢ 0 → IsAbove cmp key (pairs_of a) → IsLeafFull cmp key a → NodeHasRoom cmp key a 1
   flat_node some planted above full =
       let one = rises_one a.height (root_room cmp a) some planted in
       by_root cmp a (λ r. 0 < r → NodeHasRoom cmp key a 1) (λ z. absurd (omega (arith, z))) (λ t there reached room.

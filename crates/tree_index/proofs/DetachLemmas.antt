@@ -11,7 +11,7 @@ use Rattle.slab.specs.Slab.{Slab, get, with_value, Updates}
 use Rattle.slab.proofs.SlabLemmas.{Updates-with_value}
 use Rattle.leaf_array.specs.Cells.{Cells, lesser}
 use Rattle.tree_index.specs.declared.leaf.Leaf.{Leaf}
-use Rattle.tree_index.specs.declared.node.Branches.{Branches}
+use Rattle.tree_index.specs.declared.node.InnerNode.{InnerNode}
 use Rattle.tree_index.specs.declared.arenas.Arenas.{Arenas}
 use Rattle.tree_index.specs.declared.prune.Fork.{Fork}
 use Rattle.tree_index.specs.Shape.{Content, child_for, leaf_pairs, pairs_under, leaves_under, leaf_times, node_times, IsNode, Stands}
@@ -42,7 +42,7 @@ lesser_most cmp key (e ∷ es) =
     ]
 
 -- what letting go of the child on the way leaves
-pub shed_done : {K : Type 0} (cmp : K → K → Ordering) (key : K) (old new : Branches K) (place : ℕ) → place ≡ lesser cmp key old.children.pairs → old.children.pairs ≢ []
+pub shed_done : {K : Type 0} (cmp : K → K → Ordering) (key : K) (old new : InnerNode K) (place : ℕ) → place ≡ lesser cmp key old.children.pairs → old.children.pairs ≢ []
     → (place < length old.children.pairs → (new.children.pairs ≡ remove old.children.pairs place) × (new.last ≡ old.last))
     → (place ≡ length old.children.pairs → (new.children.pairs ≡ take (length old.children.pairs - 1) old.children.pairs) × IfSome (slice_get old.children.pairs (length old.children.pairs - 1)) (λ e. new.last ≡ e.1))
     → shed cmp key old.children.pairs old.last ≡ Some (new.children.pairs, new.last)
@@ -72,7 +72,7 @@ shed_done {K} cmp key old new place on more inside outside = split (by_place pla
     split (inr eq) = end old.children.pairs refl eq
 
 module _ {K V : Type 0} (cmp : K → K → Ordering) (o : IsTotalOrder cmp) (key : K) (a : Arenas K V) (s : IsSound cmp a) (f : Fork) (fork : IsFork cmp key a f) (leaf : ℕ) (on_leaf : leaf ≡ leaf_on_way cmp key a)
-    (gone : Leaf K V) (here : get a.leaves leaf ≡ Some gone) (old : Branches K) (old_there : get a.nodes f.node ≡ Some old) where
+    (gone : Leaf K V) (here : get a.leaves leaf ≡ Some gone) (old : InnerNode K) (old_there : get a.nodes f.node ≡ Some old) where
   abbrev c : Content K V
   c = content_of a
 
@@ -107,16 +107,16 @@ module _ {K V : Type 0} (cmp : K → K → Ordering) (o : IsTotalOrder cmp) (key
   old_node = subst (λ (x : Cells K ℕ × ℕ). IsNode x.0) parent_is up.tree.2
 
   pub more : old.children.pairs ≢ []
-  more = subst (λ (n : Branches K). n.children.pairs ≢ []) node_is fork.more
+  more = subst (λ (n : InnerNode K). n.children.pairs ≢ []) node_is fork.more
 
   pub place_is : f.place ≡ lesser cmp key old.children.pairs
-  place_is = subst (λ (n : Branches K). f.place ≡ lesser cmp key n.children.pairs) node_is fork.place
+  place_is = subst (λ (n : InnerNode K). f.place ≡ lesser cmp key n.children.pairs) node_is fork.place
 
   pub place_most : f.place ≤ length old.children.pairs
   place_most = subst (λ (n : ℕ). n ≤ length old.children.pairs) (sym place_is) (lesser_most cmp key old.children.pairs)
 
   kid_is : f.child ≡ kid cmp o c key left steps a.root stands
-  kid_is = subst (λ (n : Branches K). f.child ≡ child_for cmp key n.children.pairs n.last) node_is fork.child ∙ sym (ap (λ (x : Cells K ℕ × ℕ). child_for cmp key x.0.pairs x.1) parent_is)
+  kid_is = subst (λ (n : InnerNode K). f.child ≡ child_for cmp key n.children.pairs n.last) node_is fork.child ∙ sym (ap (λ (x : Cells K ℕ × ℕ). child_for cmp key x.0.pairs x.1) parent_is)
 
   single : IsSingle c left (kid cmp o c key left steps a.root stands) leaf
   single = subst (λ (n : ℕ). IsSingle c left n leaf) kid_is (subst (IsSingle c left f.child) (sym on_leaf) fork.single)
@@ -151,7 +151,7 @@ module _ {K V : Type 0} (cmp : K → K → Ordering) (o : IsTotalOrder cmp) (key
   pub gone_counted : length gone.array.pairs ≤ a.len
   gone_counted = (middle_length front gone.array.pairs [] back a.len (s.count ∙ ap length old_pairs ∙ ap (λ ps. length (front ++ (ps ++ back))) old_held)).0
 
-  module _ (new : Branches K) (new_node : IsNode new.children) (rest : shed cmp key old.children.pairs old.last ≡ Some (new.children.pairs, new.last)) (linked : Slab (Leaf K V)) (arrays : AreSameArrays a.leaves linked)
+  module _ (new : InnerNode K) (new_node : IsNode new.children) (rest : shed cmp key old.children.pairs old.last ≡ Some (new.children.pairs, new.last)) (linked : Slab (Leaf K V)) (arrays : AreSameArrays a.leaves linked)
       (named : (n : ℕ) → links linked n ≡ linked_out gone.prev gone.next (links a.leaves) n) (fewer : ℕ) (counted : fewer ≡ length gone.array.pairs) where
     abbrev pub done : Arenas K V
     done = record { leaves = linked; nodes = with_value a.nodes f.node new; root = a.root; height = a.height; len = a.len - fewer }
@@ -163,11 +163,11 @@ module _ {K V : Type 0} (cmp : K → K → Ordering) (o : IsTotalOrder cmp) (key
     turned = Updates-with_value a.nodes f.node new (rw old_there refl)
 
     others : (n : ℕ) → n ≢ above cmp o c key left steps a.root stands → b.node n ≡ c.node n
-    others n d = ap (option_map (λ (x : Branches K). (x.children, x.last))) (turned.others n (λ e. d (e ∙ fork.on)))
+    others n d = ap (option_map (λ (x : InnerNode K). (x.children, x.last))) (turned.others n (λ e. d (e ∙ fork.on)))
 
     pruned : IsPruned cmp o c key left steps a.root stands b new.children new.last
     pruned = record {
-      there = ap b.node (sym fork.on) ∙ ap (option_map (λ (x : Branches K). (x.children, x.last))) turned.changed;
+      there = ap b.node (sym fork.on) ∙ ap (option_map (λ (x : InnerNode K). (x.children, x.last))) turned.changed;
       rest = ap (λ (x : Cells K ℕ × ℕ). shed cmp key x.0.pairs x.1) parent_is ∙ rest;
       is_node = new_node;
       leaf_same = λ n z. arrays n;

@@ -14,14 +14,14 @@ use Rattle.leaf_array.specs.Cells.{lesser}
 use Rattle.tree_index.specs.Cuts.{is_keyed}
 use Rattle.tree_index.proofs.GapLemmas.{has_keyed}
 use Rattle.tree_index.specs.declared.leaf.Leaf.{Leaf}
-use Rattle.tree_index.specs.declared.walk.Spot.{Spot}
+use Rattle.tree_index.specs.declared.walk.Position.{Position}
 use Rattle.tree_index.specs.declared.cursor.End.{End}
 use Rattle.tree_index.specs.declared.cursor.End.TheVariants.{Unopened, At, Done}
 use Rattle.tree_index.specs.declared.arenas.Arenas.{Arenas}
 use Rattle.tree_index.specs.Shape.{gathered, leaf_pairs, pairs_under, Stands}
 use Rattle.tree_index.specs.Content.{content_of, pairs_of, leaves_of, IsBare, IsSound}
 use Rattle.tree_index.specs.Cursor.{before_start, forth}
-use Rattle.tree_index.specs.Walk.{held, position, IsSpot}
+use Rattle.tree_index.specs.Walk.{held, position, IsPosition}
 use Rattle.tree_index.proofs.RowLemmas.{parting, before_parted, gathered_parted}
 use Rattle.tree_index.proofs.WalkLemmas.{once, all_held, held_is}
 use Rattle.tree_index.proofs.RisingLemmas.{rising_under, earlier, not_earlier}
@@ -39,7 +39,7 @@ module _ {X : Type 0} where
   slice_middle (x ∷ xs) ms ys zero p e h = absurd (omega (arith, e))
   slice_middle (x ∷ xs) ms ys (suc k) p e h = slice_middle xs ms ys k p (omega (arith, e)) h
 
-module _ {K V : Type 0} (cmp : K → K → Ordering) (a : Arenas K V) (s : IsSound cmp a) (spot : Spot K V) (is : IsSpot a spot) where
+module _ {K V : Type 0} (cmp : K → K → Ordering) (a : Arenas K V) (s : IsSound cmp a) (spot : Position K V) (is : IsPosition a spot) where
   -- the pair of a place stands at its position
   pub spot_pair : (slice_get (pairs_of a) (position a spot) ≡ slice_get spot.leaf.now.array.pairs spot.place) × (position a spot < length (pairs_of a))
   spot_pair =
@@ -64,7 +64,7 @@ module _ {K V : Type 0} (cmp : K → K → Ordering) (o : IsTotalOrder cmp) (a :
           subst (IsAscending cmp) (sym none) (none_rising cmp)
       split (inr stands) = rising_under o (content_of a) a.height a.root None None stands.1.tree
 
-  module _ (x y : Spot K V) (is_x : IsSpot a x) (is_y : IsSpot a y) (p q : K × V) (at_x : slice_get x.leaf.now.array.pairs x.place ≡ Some p) (at_y : slice_get y.leaf.now.array.pairs y.place ≡ Some q) where
+  module _ (x y : Position K V) (is_x : IsPosition a x) (is_y : IsPosition a y) (p q : K × V) (at_x : slice_get x.leaf.now.array.pairs x.place ≡ Some p) (at_y : slice_get y.leaf.now.array.pairs y.place ≡ Some q) where
     -- keys tell which of two places comes first
     pub key_order : is_lt (cmp p.0 q.0) ≡ nat_lt (position a x) (position a y)
     key_order =
@@ -77,7 +77,7 @@ module _ {K V : Type 0} (cmp : K → K → Ordering) (o : IsTotalOrder cmp) (a :
         split first second (inr d) = not_earlier o (pairs_of a) (position a x) (position a y) p q rising_of first second (omega (arith, d.1)) ∙ sym d.0
 
   -- a key is there where the pair behind the lesser ones has it
-  pub has_there : (key : K) (x : Spot K V) → IsSpot a x → position a x ≡ lesser cmp key (pairs_of a) → has_key cmp key (pairs_of a) ≡ is_keyed cmp key (slice_get x.leaf.now.array.pairs x.place)
+  pub has_there : (key : K) (x : Position K V) → IsPosition a x → position a x ≡ lesser cmp key (pairs_of a) → has_key cmp key (pairs_of a) ≡ is_keyed cmp key (slice_get x.leaf.now.array.pairs x.place)
   has_there key x is e =
       has_keyed cmp o key (pairs_of a) rising_of ∙ ap (λ n. is_keyed cmp key (slice_get (pairs_of a) n)) (sym e) ∙ ap (is_keyed cmp key) (spot_pair cmp a s x is).0
 

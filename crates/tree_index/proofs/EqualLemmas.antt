@@ -4,19 +4,19 @@ use Rattle.std.specs.Prelude.{slice_get, IfSome, IfNone}
 use Rattle.std.specs.declared.cmp.Ordering.{Ordering}
 use Rattle.std.specs.Cmp.Lexicographic.{pointwise}
 use Rattle.tree_index.specs.declared.arenas.Arenas.{Arenas}
-use Rattle.tree_index.specs.declared.walk.Spot.{Spot}
+use Rattle.tree_index.specs.declared.walk.Position.{Position}
 use Rattle.tree_index.specs.Content.{pairs_of, IsSound}
-use Rattle.tree_index.specs.Walk.{position, IsSpot}
+use Rattle.tree_index.specs.Walk.{position, IsPosition}
 use Rattle.tree_index.proofs.EndLemmas.{spot_pair}
 
 -- where a place stands, or the end of the list
-abbrev pub place : {K V : Type 0} → Arenas K V → Option (Spot K V) → ℕ
+abbrev pub place : {K V : Type 0} → Arenas K V → Option (Position K V) → ℕ
 place a None = length (pairs_of a)
 place a (Some s) = position a s
 
-abbrev pub IsPlace : {K V : Type 0} → Arenas K V → Option (Spot K V) → Type 0
+abbrev pub IsPlace : {K V : Type 0} → Arenas K V → Option (Position K V) → Type 0
 IsPlace a None = Unit {0}
-IsPlace a (Some s) = IsSpot a s
+IsPlace a (Some s) = IsPosition a s
 
 module _ {X : Type 0} where
   pub drop_at : (n : ℕ) (xs : List X) (x : X) → slice_get xs n ≡ Some x → drop n xs ≡ x ∷ drop (n + 1) xs
@@ -38,15 +38,15 @@ module _ {X : Type 0} where
     end_equal a b = rw (drop_all n xs a, drop_all n ys b) refl
 
 module _ {K V : Type 0} (a : Arenas K V) (n : ℕ) where
-  pub place_of_answer : (r : Option (Spot K V)) → IfNone r (n ≡ length (pairs_of a)) → IfSome r (λ s. position a s ≡ n) → place a r ≡ n
+  pub place_of_answer : (r : Option (Position K V)) → IfNone r (n ≡ length (pairs_of a)) → IfSome r (λ s. position a s ≡ n) → place a r ≡ n
   place_of_answer None none some = sym none
   place_of_answer (Some s) none some = some
 
-pub place_is : {K V : Type 0} (a : Arenas K V) (r : Option (Spot K V)) → IfSome r (λ s. IsSpot a s) → IsPlace a r
+pub place_is : {K V : Type 0} (a : Arenas K V) (r : Option (Position K V)) → IfSome r (λ s. IsPosition a s) → IsPlace a r
 place_is a None is = tt
 place_is a (Some s) is = is
 
-module _ {K V : Type 0} (cmp : K → K → Ordering) (E : K × V → K × V → Bool) (a b : Arenas K V) (s : IsSound cmp a) (t : IsSound cmp b) (x y : Spot K V) (is_x : IsSpot a x) (is_y : IsSpot b y) (together : position a x ≡ position b y)
+module _ {K V : Type 0} (cmp : K → K → Ordering) (E : K × V → K × V → Bool) (a b : Arenas K V) (s : IsSound cmp a) (t : IsSound cmp b) (x y : Position K V) (is_x : IsPosition a x) (is_y : IsPosition b y) (together : position a x ≡ position b y)
     (p q : K × V) (at_x : slice_get x.leaf.now.array.pairs x.place ≡ Some p) (at_y : slice_get y.leaf.now.array.pairs y.place ≡ Some q) where
   -- the pairs at both places decide, and then those behind
   pub spots_equal : pointwise E (drop (position a x) (pairs_of a)) (drop (position a x) (pairs_of b)) ≡ (E p q && pointwise E (drop (position a x + 1) (pairs_of a)) (drop (position a x + 1) (pairs_of b)))

@@ -1,11 +1,11 @@
--- What doesn't stand in a tree leaves its arenas, and a root gives way to its one child.
+-- What doesn't leaf_position in a tree leaves its arenas, and a root gives way to its one child.
 use Rattle.std.proofs.Common.{◌≡◌, ◌≢◌, ◌⊎◌, inl, inr, ℕ, suc, ◌+◌, ◌-◌, ◌==◌, cond, List, length, Option, Some, None, refl, sym, ap, ◌∙◌, subst, arith}
 use Rattle.std.specs.Option.{option_map}
 use Rattle.std.specs.declared.cmp.Ordering.{Ordering}
 use Rattle.slab.specs.Slab.{Slab, get, Updates}
 use Rattle.leaf_array.specs.Cells.{Cells}
 use Rattle.tree_index.specs.declared.leaf.Leaf.{Leaf}
-use Rattle.tree_index.specs.declared.node.Branches.{Branches}
+use Rattle.tree_index.specs.declared.node.InnerNode.{InnerNode}
 use Rattle.tree_index.specs.declared.arenas.Arenas.{Arenas}
 use Rattle.tree_index.specs.Shape.{Content, AreBetween, joined_along, sum_along, node_joined, node_sum, leaf_pairs, pairs_under, leaves_under, leaf_times, node_times, IsTree, Stands}
 use Rattle.tree_index.specs.Chain.{links, times, IsLinked}
@@ -17,7 +17,7 @@ use Rattle.tree_index.proofs.WayLemmas.{some_same}
 use Rattle.tree_index.proofs.ChainLemmas.{times_counted, linked_kept}
 use Rattle.tree_index.proofs.PruneLemmas.{single_nodes, single_kept}
 
-abbrev node_in : {K : Type 0} → Option (Branches K) → Option (Cells K ℕ × ℕ)
+abbrev node_in : {K : Type 0} → Option (InnerNode K) → Option (Cells K ℕ × ℕ)
 node_in = option_map (λ n. (n.children, n.last))
 
 abbrev pub array_in : {K V : Type 0} → Option (Leaf K V) → Option (Cells K V)
@@ -37,7 +37,7 @@ module _ {K V : Type 0} (cmp : K → K → Ordering) (a : Arenas K V) (s : IsSou
       split (inl bare) = absurd (planted bare.flat)
       split (inr stands) = stands.1
 
-  module _ (nodes : Slab (Branches K)) (n : ℕ) (u : Updates a.nodes nodes n None) where
+  module _ (nodes : Slab (InnerNode K)) (n : ℕ) (u : Updates a.nodes nodes n None) where
     abbrev pub fewer : Arenas K V
     fewer = record { leaves = a.leaves; nodes = nodes; root = a.root; height = a.height; len = a.len }
 
@@ -68,7 +68,7 @@ module _ {K V : Type 0} (cmp : K → K → Ordering) (a : Arenas K V) (s : IsSou
     first_out height leaf t = t.apart n (λ e. self_once n (node_times c n height t.single.0.1) (sym (single_nodes c n height n leaf t.single) ∙ e))
 
     -- the first of nodes with one child each leaves the arena, and the others are left
-    pub freed : (height leaf : ℕ) (gone : Branches K) → get a.nodes n ≡ Some gone → (t : IsLoose a (suc height) n leaf) → IsSound cmp fewer × (pairs_of fewer ≡ pairs_of a) × (leaves_of fewer ≡ leaves_of a) × IsLoose fewer height gone.last leaf
+    pub freed : (height leaf : ℕ) (gone : InnerNode K) → get a.nodes n ≡ Some gone → (t : IsLoose a (suc height) n leaf) → IsSound cmp fewer × (pairs_of fewer ≡ pairs_of a) × (leaves_of fewer ≡ leaves_of a) × IsLoose fewer height gone.last leaf
     freed height leaf gone here t =
         let out = first_out height leaf t in
         let next : ℕ = t.single.0.1 in
@@ -115,7 +115,7 @@ module _ {K V : Type 0} (cmp : K → K → Ordering) (a : Arenas K V) (s : IsSou
     )
 
 -- the root gives way to its one child
-module _ {K V : Type 0} (cmp : K → K → Ordering) (a : Arenas K V) (s : IsSound cmp a) (only : IsLowerable a) (child : ℕ) (last : only.root.last ≡ child) (nodes : Slab (Branches K)) (u : Updates a.nodes nodes a.root None) where
+module _ {K V : Type 0} (cmp : K → K → Ordering) (a : Arenas K V) (s : IsSound cmp a) (only : IsLowerable a) (child : ℕ) (last : only.root.last ≡ child) (nodes : Slab (InnerNode K)) (u : Updates a.nodes nodes a.root None) where
   abbrev m : ℕ
   m = a.height - 1
 

@@ -14,7 +14,7 @@ use Rattle.leaf_array.specs.Cells.{Cells}
 use Rattle.leaf_array.specs.Pairs.{IsAscending}
 use Rattle.tree_index.specs.declared.leaf.Leaf.{Leaf}
 use Rattle.tree_index.specs.declared.leaf.Cut.{Cut}
-use Rattle.tree_index.specs.declared.node.Branches.{Branches}
+use Rattle.tree_index.specs.declared.node.InnerNode.{InnerNode}
 use Rattle.tree_index.specs.declared.arenas.Arenas.{Arenas}
 use Rattle.tree_index.specs.Cuts.{IsCut, key_at}
 use Rattle.tree_index.specs.Shape.{Content, AllKeys, IsWithin, way, child_in, pairs_under, leaves_under, leaf_times, IsLeaf, IsNode, Stands}
@@ -80,7 +80,7 @@ module _ {K V : Type 0} (cmp : K → K → Ordering) (o : IsTotalOrder cmp) (key
   two : Sides cmp o (around_child cmp o c key 0 steps a.root stands).from (around_child cmp o c key 0 steps a.root stands).upto cut.separator n whole.array.pairs
   two = sides cmp o key (around_child cmp o c key 0 steps a.root stands).from (around_child cmp o c key 0 steps a.root stands).upto whole.array.pairs cut rising leaf_stands.within (around_child cmp o c key 0 steps a.root stands).key_within fits
 
-  module _ (old : Branches K) (node_there : get a.nodes above ≡ Some old) where
+  module _ (old : InnerNode K) (node_there : get a.nodes above ≡ Some old) where
     parent_is : (around_parent cmp o c key 0 steps a.root stands).tree.0 ≡ (old.children, old.last)
     parent_is = some_same (sym (around_parent cmp o c key 0 steps a.root stands).tree.1 ∙ ap c.node (sym on_above) ∙ node_content cmp o key a above (Some old) node_there)
 
@@ -94,7 +94,7 @@ module _ {K V : Type 0} (cmp : K → K → Ordering) (o : IsTotalOrder cmp) (key
         (lower_thawed : low.array.frozen ≡ false) (upper_thawed : upper.array.frozen ≡ false) (lower_living : low.array.retired ≡ (cut.whole && whole.array.retired)) (upper_living : upper.array.retired ≡ false)
         (lower_used : cut.whole ≡ false → low.array.used ≤ 8) (upper_used : upper.array.used ≤ 7)
         (leaves linked : Slab (Leaf K V)) (fresh : ℕ) (added : Updates (with_value a.leaves at upper) leaves fresh (Some low)) (vacant : get (with_value a.leaves at upper) fresh ≡ None) (arrays : AreSameArrays leaves linked) (named : (n : ℕ) → links linked n ≡ linked_in fresh upper.prev at (links leaves) n) (upper_prev : upper.prev ≡ whole.prev) (upper_next : upper.next ≡ whole.next) (low_prev : low.prev ≡ upper.prev) (low_next : low.next ≡ Some at)
-        (m : Branches K) (m_node : IsNode m.children) (m_pairs : m.children.pairs ≡ insert_entry cmp old.children.pairs cut.separator fresh) (m_last : m.last ≡ old.last) where
+        (m : InnerNode K) (m_node : IsNode m.children) (m_pairs : m.children.pairs ≡ insert_entry cmp old.children.pairs cut.separator fresh) (m_last : m.last ≡ old.last) where
       abbrev pub done : Arenas K V
       done = record { leaves = linked; nodes = with_value a.nodes above m; root = a.root; height = a.height; len = a.len }
 
@@ -133,12 +133,12 @@ module _ {K V : Type 0} (cmp : K → K → Ordering) (o : IsTotalOrder cmp) (key
         upper = (upper.array, at_kid, record { thawed = upper_thawed; rising = upper_rising; within = subst (λ (ps : List (K × V)). AllKeys (IsWithin cmp (Some cut.separator) (around_child cmp o c key 0 steps a.root stands).upto) ps) (sym upper_pairs) two.upper });
         pairs = rw (at_fresh, at_kid, there, lower_pairs, upper_pairs) (take-append-drop n whole.array.pairs);
         leaf_same = λ k z e. others k (λ f. e (ap c.leaf f ∙ absent)) (λ f. self_once kid 0 (subst (λ (j : ℕ). cond (kid == j) 1 0 + 0 ≡ 0) f (omega (arith, z))));
-        node_same = λ k z q e. ap (option_map (λ (n : Branches K). (n.children, n.last))) (node_turned.others k (λ f. q (f ∙ on_above)));
+        node_same = λ k z q e. ap (option_map (λ (n : InnerNode K). (n.children, n.last))) (node_turned.others k (λ f. q (f ∙ on_above)));
         leaf_moved = λ k e. moved k e (eqb_tells fresh k);
         node_moved = λ k e. refl;
         leaf_most = λ k. most k (eqb_tells fresh k) (eqb_tells kid k);
         node_most = λ k e. omega arith;
-        there = ap b.node (sym on_above) ∙ ap (option_map (λ (n : Branches K). (n.children, n.last))) node_turned.changed ∙ ap (λ (j : ℕ). Some (m.children, j)) (m_last ∙ sym (ap (λ (x : Cells K ℕ × ℕ). x.1) parent_is));
+        there = ap b.node (sym on_above) ∙ ap (option_map (λ (n : InnerNode K). (n.children, n.last))) node_turned.changed ∙ ap (λ (j : ℕ). Some (m.children, j)) (m_last ∙ sym (ap (λ (x : Cells K ℕ × ℕ). x.1) parent_is));
         separators = m_pairs ∙ ap (λ (x : Cells K ℕ × ℕ). insert_entry cmp x.0.pairs cut.separator fresh) (sym parent_is);
         is_node = m_node;
       }
@@ -272,11 +272,11 @@ module _ {K V : Type 0} (cmp : K → K → Ordering) (o : IsTotalOrder cmp) (key
         done_room_kept =
             by_root cmp a (λ r. 0 < r → r ≤ root_room cmp done) (λ z. absurd (omega (arith, z))) (λ t there reached some.
             let same : t ≡ old = some_same (sym there ∙ root_there) in
-            let es_reached : is_reached cmp (pairs_of a) old.children.pairs ≡ true = subst (λ (x : Branches K). is_reached cmp (pairs_of a) x.children.pairs ≡ true) same reached in
+            let es_reached : is_reached cmp (pairs_of a) old.children.pairs ≡ true = subst (λ (x : InnerNode K). is_reached cmp (pairs_of a) x.children.pairs ≡ true) same reached in
             let last : old.last ≡ at = sym (on_child ∙ last_way cmp o key a old flat root_there over_all es_reached) in
             let room = room_is cmp done m (ap (get (with_value a.nodes above m)) (sym root_above) ∙ node_turned.changed)
             (subst (λ ps. is_reached cmp ps m.children.pairs ≡ true) (sym done_pairs) (subst (λ es. is_reached cmp (pairs_of a) es ≡ true) (sym m_pairs) (reached_entry cmp (pairs_of a) cut.separator fresh sep_reached old.children.pairs es_reached))) in
-            let old_used : t.children.used ≡ old.children.used = ap (λ (x : Branches K). x.children.used) same in
+            let old_used : t.children.used ≡ old.children.used = ap (λ (x : InnerNode K). x.children.used) same in
             let more : m.children.used ≡ suc old.children.used = m_node.packed ∙ ap length m_pairs ∙ length_entry cmp old.children.pairs cut.separator fresh absent_above ∙ ap suc (sym old_node.packed) in
-            let none : leaf_room (get a.leaves t.last) ≡ 0 = ap (λ (x : Branches K). leaf_room (get a.leaves x.last)) same ∙ ap (λ (k : ℕ). leaf_room (get a.leaves k)) last ∙ ap leaf_room here ∙ ap (λ (k : ℕ). 15 - k) was_full in
+            let none : leaf_room (get a.leaves t.last) ≡ 0 = ap (λ (x : InnerNode K). leaf_room (get a.leaves x.last)) same ∙ ap (λ (k : ℕ). leaf_room (get a.leaves k)) last ∙ ap leaf_room here ∙ ap (λ (k : ℕ). 15 - k) was_full in
             omega (arith, room, more, none, old_used, some, last_room last))

@@ -5,12 +5,12 @@ use Rattle.std.proofs.lemmas.Grind.{common_steps}
 use Rattle.std.specs.declared.cmp.Ordering.{Ordering}
 use Rattle.std.specs.declared.ops.Bound.{Bound}
 use Rattle.std.specs.BTreeMap.Range.{is_from_start, is_past_end}
-use Rattle.tree_index.specs.declared.walk.Spot.{Spot}
+use Rattle.tree_index.specs.declared.walk.Position.{Position}
 use Rattle.tree_index.specs.declared.arenas.Arenas.{Arenas}
 use Rattle.tree_index.specs.Shape.{gathered}
 use Rattle.tree_index.specs.Content.{pairs_of, leaves_of, IsSound}
 use Rattle.tree_index.specs.Cursor.{before_start, up_to_end}
-use Rattle.tree_index.specs.Walk.{held, position, IsSpot}
+use Rattle.tree_index.specs.Walk.{held, position, IsPosition}
 use Rattle.tree_index.specs.LeafCursor.{IsPart, ranked}
 use Rattle.tree_index.proofs.RowLemmas.{parting, before_parted, gathered_parted}
 use Rattle.tree_index.proofs.WalkLemmas.{once, all_held, held_is}
@@ -22,8 +22,8 @@ module _ {K V : Type 0} where
       let back : n + 1 - 1 ≡ n = omega arith in
       rw away (ap (slice_get ps) back)
 
-  -- the pairs of the leaf of a place stand within those of the tree
-  pub spot_part : (a : Arenas K V) (spot : Spot K V) → IsSpot a spot → IsPart spot.leaf.now.array.pairs (pairs_of a)
+  -- the pairs of the leaf of a place leaf_position within those of the tree
+  pub spot_part : (a : Arenas K V) (spot : Position K V) → IsPosition a spot → IsPart spot.leaf.now.array.pairs (pairs_of a)
   spot_part a spot is =
       let n = spot.at in
       let f = held a in
@@ -69,7 +69,7 @@ module _ {K V : Type 0} (cmp : K → K → Ordering) (b : Bound K) where
         | false ↦ λ e m. end_in fore xs rear p (omega (arith, e)) m
       ]
 
-module _ {K V : Type 0} (cmp : K → K → Ordering) (a : Arenas K V) (s : IsSound cmp a) (spot : Spot K V) (is : IsSpot a spot) (b : Bound K) where
+module _ {K V : Type 0} (cmp : K → K → Ordering) (a : Arenas K V) (s : IsSound cmp a) (spot : Position K V) (is : IsPosition a spot) (b : Bound K) where
   position_there : position a spot ≡ length (spot_part a spot is).fore + spot.place
   unfolding spot_part
   position_there =

@@ -9,7 +9,7 @@ use Rattle.std.specs.BTreeMap.{insert_entry, is_at}
 use Rattle.slab.specs.Slab.{Slab, get, with_value, Updates, slab_len}
 use Rattle.slab.proofs.SlabLemmas.{Updates-with_value}
 use Rattle.leaf_array.specs.Cells.{Cells}
-use Rattle.tree_index.specs.declared.node.Branches.{Branches}
+use Rattle.tree_index.specs.declared.node.InnerNode.{InnerNode}
 use Rattle.tree_index.specs.declared.arenas.Arenas.{Arenas}
 use Rattle.tree_index.specs.Shape.{Content, way, pairs_under, leaves_under, IsNode, Stands}
 use Rattle.tree_index.specs.Chain.{links, IsLinked}
@@ -27,10 +27,10 @@ first_of (y ∷ ys) h = (y, ys, refl)
 
 module _ {K V : Type 0} (cmp : K → K → Ordering) (o : IsTotalOrder cmp) (key : K) (a : Arenas K V) (s : IsSound cmp a) (left : ℕ) (least : 0 < left) (most : left < a.height)
     (above at : ℕ) (on_above : above ≡ way cmp (content_of a) key (a.height - (left + 1)) a.root) (on_child : at ≡ way cmp (content_of a) key (a.height - left) a.root)
-    (whole up low : Branches K) (here : get a.nodes at ≡ Some whole) (sep : K)
+    (whole up low : InnerNode K) (here : get a.nodes at ≡ Some whole) (sep : K)
     (parts : whole.children.pairs ≡ low.children.pairs ++ (sep, low.last) ∷ up.children.pairs) (low_node : IsNode low.children) (up_node : IsNode up.children) (up_used : up.children.used ≡ 7) (low_used : low.children.used ≡ 7) (up_last : up.last ≡ whole.last)
-    (nodes : Slab (Branches K)) (fresh : ℕ) (added : Updates (with_value a.nodes at up) nodes fresh (Some low)) (vacant : get (with_value a.nodes at up) fresh ≡ None)
-    (old : Branches K) (there : get nodes above ≡ Some old) where
+    (nodes : Slab (InnerNode K)) (fresh : ℕ) (added : Updates (with_value a.nodes at up) nodes fresh (Some low)) (vacant : get (with_value a.nodes at up) fresh ≡ None)
+    (old : InnerNode K) (there : get nodes above ≡ Some old) where
   abbrev c : Content K V
   c = content_of a
 
@@ -99,7 +99,7 @@ module _ {K V : Type 0} (cmp : K → K → Ordering) (o : IsTotalOrder cmp) (key
   pub absent_above : lookup (is_at (cmp sep)) old.children.pairs ≡ None
   absent_above = subst (λ (x : Cells K ℕ × ℕ). lookup (is_at (cmp sep)) x.0.pairs ≡ None) parent_is (not_above cmp o c key l steps a.root stands c fresh low.children up.children old.children sep low.last y ys all_parts)
 
-  module _ (m : Branches K) (m_node : IsNode m.children) (m_pairs : m.children.pairs ≡ insert_entry cmp old.children.pairs sep fresh) (m_last : m.last ≡ old.last) where
+  module _ (m : InnerNode K) (m_node : IsNode m.children) (m_pairs : m.children.pairs ≡ insert_entry cmp old.children.pairs sep fresh) (m_last : m.last ≡ old.last) where
     abbrev pub done : Arenas K V
     done = record { leaves = a.leaves; nodes = with_value nodes above m; root = a.root; height = a.height; len = a.len }
 
@@ -109,8 +109,8 @@ module _ {K V : Type 0} (cmp : K → K → Ordering) (o : IsTotalOrder cmp) (key
     last_turn : Updates nodes (with_value nodes above m) above (Some m)
     last_turn = Updates-with_value nodes above m (rw there refl)
 
-    node : Option (Branches K) → Option (Cells K ℕ × ℕ)
-    node = option_map (λ (n : Branches K). (n.children, n.last))
+    node : Option (InnerNode K) → Option (Cells K ℕ × ℕ)
+    node = option_map (λ (n : InnerNode K). (n.children, n.last))
 
     at_fresh : get done.nodes fresh ≡ Some low
     at_fresh = last_turn.others fresh fresh_not_above ∙ added.changed
@@ -122,11 +122,11 @@ module _ {K V : Type 0} (cmp : K → K → Ordering) (o : IsTotalOrder cmp) (key
     split = record {
       parts = all_parts;
       rest = upper_first.2;
-      absent = ap (option_map (λ (n : Branches K). (n.children, n.last))) absent;
-      at_fresh = ap (option_map (λ (n : Branches K). (n.children, n.last))) at_fresh;
-      at_child = ap b.node (sym at_is) ∙ ap (option_map (λ (n : Branches K). (n.children, n.last))) at_at ∙ ap (λ (k : ℕ). Some (up.children, k)) (up_last ∙ sym (ap (λ (x : Cells K ℕ × ℕ). x.1) full_is));
-      at_parent = ap b.node (sym on_above) ∙ ap (option_map (λ (n : Branches K). (n.children, n.last))) last_turn.changed ∙ ap (λ (k : ℕ). Some (m.children, k)) (m_last ∙ sym (ap (λ (x : Cells K ℕ × ℕ). x.1) parent_is));
-      others = λ n f q r. ap (option_map (λ (n : Branches K). (n.children, n.last))) (last_turn.others n (λ e. r (e ∙ on_above)) ∙ added.others n f ∙ turned.others n (λ e. q (e ∙ at_is)));
+      absent = ap (option_map (λ (n : InnerNode K). (n.children, n.last))) absent;
+      at_fresh = ap (option_map (λ (n : InnerNode K). (n.children, n.last))) at_fresh;
+      at_child = ap b.node (sym at_is) ∙ ap (option_map (λ (n : InnerNode K). (n.children, n.last))) at_at ∙ ap (λ (k : ℕ). Some (up.children, k)) (up_last ∙ sym (ap (λ (x : Cells K ℕ × ℕ). x.1) full_is));
+      at_parent = ap b.node (sym on_above) ∙ ap (option_map (λ (n : InnerNode K). (n.children, n.last))) last_turn.changed ∙ ap (λ (k : ℕ). Some (m.children, k)) (m_last ∙ sym (ap (λ (x : Cells K ℕ × ℕ). x.1) parent_is));
+      others = λ n f q r. ap (option_map (λ (n : InnerNode K). (n.children, n.last))) (last_turn.others n (λ e. r (e ∙ on_above)) ∙ added.others n f ∙ turned.others n (λ e. q (e ∙ at_is)));
       leaves = λ n. refl;
       lower_node = low_node;
       upper_node = up_node;
@@ -153,7 +153,7 @@ module _ {K V : Type 0} (cmp : K → K → Ordering) (o : IsTotalOrder cmp) (key
     pub done_room : NodeHasRoom cmp key done left
     done_room =
         let more : a.height - left ≡ over steps 1 = omega (arith, over_is steps 1) in
-        let P : ℕ → Type 0 = λ k. (n : Branches K) × (get done.nodes k ≡ Some n) × (n.children.used < 15) in
+        let P : ℕ → Type 0 = λ k. (n : InnerNode K) × (get done.nodes k ≡ Some n) × (n.children.used < 15) in
         let there : P (way cmp b key (over steps 1) a.root) = by_side cmp o c key l steps a.root stands b fresh low.children up.children m.children sep low.last y ys split P
         (up, ap (get done.nodes) (sym at_is) ∙ at_at, omega (arith, up_used)) (low, at_fresh, omega (arith, low_used)) in
         let here : P (way cmp b key (a.height - left) a.root) = subst (λ (n : ℕ). P (way cmp b key n a.root)) (sym more) there in

@@ -10,11 +10,11 @@ use Rattle.std.specs.Option.{is_some}
 use Rattle.std.proofs.lemmas.Bool.Decides.{eqb_tells}
 use Rattle.leaf_array.specs.Cells.{Cells}
 use Rattle.tree_index.specs.declared.leaf.Leaf.{Leaf}
-use Rattle.tree_index.specs.declared.node.Branches.{Branches}
+use Rattle.tree_index.specs.declared.node.InnerNode.{InnerNode}
 use Rattle.tree_index.specs.declared.arenas.Arenas.{Arenas}
 use Rattle.tree_index.specs.Shape.{way, IsNode, IsTree, Stands}
 use Rattle.tree_index.specs.Content.{content_of, pairs_of, IsLeafFull, IsBare, IsSound, AreSameArrays}
-use Rattle.tree_index.specs.Depth.{ascents}
+use Rattle.tree_index.specs.Depth.{ascending_headroom}
 use Rattle.tree_index.proofs.FocusLemmas.{over, over_is, focus}
 use Rattle.tree_index.proofs.WayLemmas.{some_same, leaf_there, leaf_thawed}
 
@@ -36,8 +36,8 @@ module _ {K V : Type 0} (cmp : K → K → Ordering) (o : IsTotalOrder cmp) (key
   pub leaf_content : (n : ℕ) (l : Option (Leaf K V)) → get a.leaves n ≡ l → (content_of a).leaf n ≡ option_map (λ l. l.array) l
   leaf_content n l h = ap (option_map (λ (l : Leaf K V). l.array)) h
 
-  pub node_content : (n : ℕ) (b : Option (Branches K)) → get a.nodes n ≡ b → (content_of a).node n ≡ option_map (λ b. (b.children, b.last)) b
-  node_content n b h = ap (option_map (λ (b : Branches K). (b.children, b.last))) h
+  pub node_content : (n : ℕ) (b : Option (InnerNode K)) → get a.nodes n ≡ b → (content_of a).node n ≡ option_map (λ b. (b.children, b.last)) b
+  node_content n b h = ap (option_map (λ (b : InnerNode K). (b.children, b.last))) h
 
   -- a planted tree has a leaf on the way
   pub leaf_not_none : IsSound cmp a → a.height ≢ 0 → (n : ℕ) → n ≡ way cmp (content_of a) key a.height a.root → get a.leaves n ≢ None
@@ -69,7 +69,7 @@ module _ {K V : Type 0} (cmp : K → K → Ordering) (o : IsTotalOrder cmp) (key
         let x : None ≡ Some node_found.0 = sym none ∙ ap (content_of a).node on ∙ node_found.1 in
         cc
 
-    pub node_is : (n : ℕ) → n ≡ way cmp (content_of a) key steps a.root → (b : Branches K) → get a.nodes n ≡ Some b → IsNode b.children
+    pub node_is : (n : ℕ) → n ≡ way cmp (content_of a) key steps a.root → (b : InnerNode K) → get a.nodes n ≡ Some b → IsNode b.children
     node_is n on b here =
         let same : node_found.0 ≡ (b.children, b.last) = some_same (sym node_found.1 ∙ ap (content_of a).node (sym on) ∙ node_content n (Some b) here) in
         subst (λ (m : Cells K ℕ × ℕ). IsNode m.0) same node_found.2
@@ -97,8 +97,8 @@ same_len {T} s k old new here =
     omega (arith, e, f)
 
 -- slabs with other room hold the same
-module _ {K V : Type 0} (cmp : K → K → Ordering) (a : Arenas K V) (leaves : Slab (Leaf K V)) (nodes : Slab (Branches K)) where
-  abbrev roomier : List (Option (Leaf K V)) → List (Option (Branches K)) → Arenas K V
+module _ {K V : Type 0} (cmp : K → K → Ordering) (a : Arenas K V) (leaves : Slab (Leaf K V)) (nodes : Slab (InnerNode K)) where
+  abbrev roomier : List (Option (Leaf K V)) → List (Option (InnerNode K)) → Arenas K V
   roomier ls ns =
       record {
         leaves = record { slots = ls; vacant_key = leaves.vacant_key; capacity = leaves.capacity };
@@ -115,8 +115,8 @@ module _ {K V : Type 0} (cmp : K → K → Ordering) (a : Arenas K V) (leaves : 
       split (inl bare) = inl (record { flat = bare.flat; empty = bare.empty })
       split (inr stands) = inr stands
 
-  pub roomier_ascents : leaves.slots ≡ a.leaves.slots → nodes.slots ≡ a.nodes.slots → ascents cmp (record { leaves = leaves; nodes = nodes; root = a.root; height = a.height; len = a.len }) ≡ ascents cmp a
-  roomier_ascents e f = subst (λ ls. ascents cmp (roomier ls nodes.slots) ≡ ascents cmp a) (sym e) (subst (λ ns. ascents cmp (roomier a.leaves.slots ns) ≡ ascents cmp a) (sym f) refl)
+  pub roomier_ascents : leaves.slots ≡ a.leaves.slots → nodes.slots ≡ a.nodes.slots → ascending_headroom cmp (record { leaves = leaves; nodes = nodes; root = a.root; height = a.height; len = a.len }) ≡ ascending_headroom cmp a
+  roomier_ascents e f = subst (λ ls. ascending_headroom cmp (roomier ls nodes.slots) ≡ ascending_headroom cmp a) (sym e) (subst (λ ns. ascending_headroom cmp (roomier a.leaves.slots ns) ≡ ascending_headroom cmp a) (sym f) refl)
 
   pub roomier_pairs : leaves.slots ≡ a.leaves.slots → nodes.slots ≡ a.nodes.slots → pairs_of (record { leaves = leaves; nodes = nodes; root = a.root; height = a.height; len = a.len }) ≡ pairs_of a
   roomier_pairs e f = subst (λ ls. pairs_of (roomier ls nodes.slots) ≡ pairs_of a) (sym e) (subst (λ ns. pairs_of (roomier a.leaves.slots ns) ≡ pairs_of a) (sym f) refl)

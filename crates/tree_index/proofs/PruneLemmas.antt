@@ -9,7 +9,7 @@ use Rattle.std.specs.Cmp.{IsTotalOrder}
 use Rattle.leaf_array.specs.Cells.{Cells, lesser}
 use Rattle.tree_index.specs.Shape.{Content, child_for, child_in, way, joined_along, sum_along, node_joined, node_sum, leaf_pairs, pairs_under, leaves_under, leaf_times, node_times, IsNode, Stands}
 use Rattle.tree_index.specs.Content.{content_of}
-use Rattle.tree_index.specs.declared.node.Branches.{Branches}
+use Rattle.tree_index.specs.declared.node.InnerNode.{InnerNode}
 use Rattle.tree_index.specs.declared.arenas.Arenas.{Arenas}
 use Rattle.tree_index.specs.declared.prune.Fork.{Fork}
 use Rattle.slab.specs.Slab.{get}
@@ -144,7 +144,7 @@ single_kept a b (suc height) at leaf t same =
 pub record IsForkTo {K V : Type 0} (cmp : K → K → Ordering) (key : K) (a : Arenas K V) (height at : ℕ) (f : Fork) : Type 0 where
   pub above : f.height < a.height
   pub on : f.node ≡ way cmp (content_of a) key (a.height - suc f.height) a.root
-  pub node : Branches K
+  pub node : InnerNode K
   pub there : get a.nodes f.node ≡ Some node
   pub more : node.children.pairs ≢ []
   pub place : f.place ≡ lesser cmp key node.children.pairs
@@ -156,12 +156,12 @@ pub each_some : {X : Type 0} (P Q : X → Type 0) (o : Option X) → ((x : X) �
 each_some P Q None f p = tt
 each_some P Q (Some x) f p = f x p
 
-module _ {K V : Type 0} (cmp : K → K → Ordering) (key : K) (a : Arenas K V) (height at : ℕ) (node : Branches K) (here : get a.nodes at ≡ Some node) (within : suc height ≤ a.height) (on : at ≡ way cmp (content_of a) key (a.height - suc height) a.root) where
+module _ {K V : Type 0} (cmp : K → K → Ordering) (key : K) (a : Arenas K V) (height at : ℕ) (node : InnerNode K) (here : get a.nodes at ≡ Some node) (within : suc height ≤ a.height) (on : at ≡ way cmp (content_of a) key (a.height - suc height) a.root) where
   abbrev next : ℕ
   next = child_for cmp key node.children.pairs node.last
 
   there : (content_of a).node at ≡ Some (node.children, node.last)
-  there = ap (option_map (λ (b : Branches K). (b.children, b.last))) here
+  there = ap (option_map (λ (b : InnerNode K). (b.children, b.last))) here
 
   -- the child is the next on the way
   pub on_next : next ≡ way cmp (content_of a) key (a.height - height) a.root

@@ -9,7 +9,7 @@ use Rattle.std.specs.BTreeMap.{is_at}
 use Rattle.std.specs.Map.{lookup_entry}
 use Rattle.slab.specs.Slab.{get}
 use Rattle.leaf_array.specs.Cells.{Cells}
-use Rattle.tree_index.specs.declared.node.Branches.{Branches}
+use Rattle.tree_index.specs.declared.node.InnerNode.{InnerNode}
 use Rattle.tree_index.specs.declared.arenas.Arenas.{Arenas}
 use Rattle.tree_index.specs.Shape.{Content, IsWithin, AreBetween, child_for, AllKeys, joined_along, node_joined, pairs_under, IsTree}
 use Rattle.tree_index.specs.Content.{content_of}
@@ -67,7 +67,7 @@ module _ {K V : Type 0} (cmp : K → K → Ordering) (o : IsTotalOrder cmp) (key
         let P : Cells K ℕ × ℕ → Type 0 = λ m. AreBetween cmp (IsTree cmp a height) m.0.pairs m.1 low high in
         ap (λ m. lookup_entry (is_at (cmp key)) (node_joined (pairs_under a height) m)) here ∙ lookup_along (pairs_under a height) (IsTree cmp a height) (bounded o a height) n.0.pairs n.1 low high (subst P same t.3)
 
-    -- and its pairs stand between lesser keys and greater ones
+    -- and its pairs leaf_position between lesser keys and greater ones
     pub around_child : (low high : Option K) → IsTree cmp a (suc height) at low high → IsAround cmp key (pairs_under a height (child_for cmp key n.0.pairs n.1)) (pairs_under a (suc height) at)
     around_child low high t =
         let same : t.0 ≡ n = some_same (sym t.1 ∙ here) in
@@ -75,5 +75,5 @@ module _ {K V : Type 0} (cmp : K → K → Ordering) (o : IsTotalOrder cmp) (key
         subst (λ m. IsAround cmp key (pairs_under a height (child_for cmp key n.0.pairs n.1)) (node_joined (pairs_under a height) m)) (sym here) (around_along (pairs_under a height) (IsTree cmp a height) (bounded o a height) n.0.pairs n.1 low high (subst P same t.3))
 
 -- a node that stands in its arena
-pub node_content : {K V : Type 0} (a : Arenas K V) (at : ℕ) (node : Branches K) → get a.nodes at ≡ Some node → (content_of a).node at ≡ Some (node.children, node.last)
-node_content a at node here = ap (option_map (λ (n : Branches _). (n.children, n.last))) here
+pub node_content : {K V : Type 0} (a : Arenas K V) (at : ℕ) (node : InnerNode K) → get a.nodes at ≡ Some node → (content_of a).node at ≡ Some (node.children, node.last)
+node_content a at node here = ap (option_map (λ (n : InnerNode _). (n.children, n.last))) here

@@ -4,7 +4,7 @@ use Rattle.std.specs.declared.cmp.Ordering.{Ordering}
 use Rattle.std.specs.Option.{option_map}
 use Rattle.slab.specs.Slab.{Slab, get}
 use Rattle.tree_index.specs.declared.leaf.Leaf.{Leaf}
-use Rattle.tree_index.specs.declared.node.Branches.{Branches}
+use Rattle.tree_index.specs.declared.node.InnerNode.{InnerNode}
 use Rattle.tree_index.specs.declared.arenas.Arenas.{Arenas}
 use Rattle.tree_index.specs.declared.leaf.Cut.{Cut}
 use Rattle.tree_index.specs.Cuts.{IsCut}
@@ -13,7 +13,7 @@ use Rattle.tree_index.specs.Chain.{links, IsLinked}
 
 module _ {K V : Type 0} where
   -- the arrays in two arenas
-  abbrev pub content : Slab (Leaf K V) → Slab (Branches K) → Content K V
+  abbrev pub content : Slab (Leaf K V) → Slab (InnerNode K) → Content K V
   content leaves nodes = record {
     leaf = λ at. option_map (λ l. l.array) (get leaves at);
     node = λ at. option_map (λ n. (n.children, n.last)) (get nodes at);
@@ -60,13 +60,13 @@ module _ {K V : Type 0} where
 
   -- the node at this height on the way to a key is full
   pub record IsNodeFull (cmp : K → K → Ordering) (key : K) (a : Arenas K V) (left : ℕ) : Type 0 where
-    pub node : Branches K
+    pub node : InnerNode K
     pub there : get a.nodes (way cmp (content_of a) key (a.height - left) a.root) ≡ Some node
     pub full : node.children.used ≡ 15
 
   -- the node at this height on the way to a key has room for one more child
   pub record NodeHasRoom (cmp : K → K → Ordering) (key : K) (a : Arenas K V) (left : ℕ) : Type 0 where
-    pub node : Branches K
+    pub node : InnerNode K
     pub there : get a.nodes (way cmp (content_of a) key (a.height - left) a.root) ≡ Some node
     pub room : node.children.used < 15
 

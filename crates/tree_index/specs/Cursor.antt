@@ -21,7 +21,7 @@ pub record Cursor (K V : Type 0) : Type 0 where
 abbrev pub whole : {K V : Type 0} → List (K × V) → End ℕ → End ℕ → Cursor K V
 whole pairs forward backward = record { pairs = pairs; lower = Unbounded; upper = Unbounded; forward = forward; backward = backward }
 
--- a lies before b, as far as both stand at places
+-- a lies before b, as far as both leaf_position at places
 abbrev pub lies_before : End ℕ → End ℕ → Bool
 lies_before a Unopened = true
 lies_before Unopened b = true
@@ -100,16 +100,16 @@ module _ {K V : Type 0} (cmp : K → K → Ordering) where
   turned c = cond (can_turn c) (record c { forward = c.backward; backward = c.forward }) c
 
 -- the pair behind two references
-abbrev pub referred : {K V : Type 0} → Option (Bor K × Bor V) → Option (K × V)
-referred r = option_map (λ p. (p.0.now, p.1.now)) r
+abbrev pub deref_pair : {K V : Type 0} → Option (Bor K × Bor V) → Option (K × V)
+deref_pair r = option_map (λ p. (p.0.now, p.1.now)) r
 
 -- what a call of `next`, and of `next_back`, answers and leaves
 module _ {K V : Type 0} (cmp : K → K → Ordering) where
   abbrev pub GoesForth : Cursor K V → Option (Bor K × Bor V) → Cursor K V → Type 0
-  GoesForth c r d = (referred r ≡ next_of cmp c) × (d ≡ moved_forth cmp c)
+  GoesForth c r d = (deref_pair r ≡ next_of cmp c) × (d ≡ moved_forth cmp c)
 
   abbrev pub GoesBack : Cursor K V → Option (Bor K × Bor V) → Cursor K V → Type 0
-  GoesBack c r d = (referred r ≡ next_back_of cmp c) × (d ≡ moved_back cmp c)
+  GoesBack c r d = (deref_pair r ≡ next_back_of cmp c) × (d ≡ moved_back cmp c)
 
 -- how many pairs lie behind the forward end, and before the backward one
 abbrev pub start_of : {K V : Type 0} → Cursor K V → End ℕ → ℕ

@@ -6,7 +6,7 @@ use Rattle.std.specs.Ordering.{is_le}
 use Rattle.std.specs.List.{list_any}
 use Rattle.slab.specs.Slab.{get}
 use Rattle.tree_index.specs.declared.leaf.Leaf.{Leaf}
-use Rattle.tree_index.specs.declared.node.Branches.{Branches}
+use Rattle.tree_index.specs.declared.node.InnerNode.{InnerNode}
 use Rattle.tree_index.specs.declared.arenas.Arenas.{Arenas}
 use Rattle.tree_index.specs.Shape.{AllKeys}
 use Rattle.tree_index.specs.Content.{pairs_of}
@@ -26,7 +26,7 @@ module _ {K V : Type 0} (cmp : K → K → Ordering) where
   is_reached pairs (e ∷ es) = list_any (λ p. is_le (cmp e.0 p.0)) pairs && is_reached pairs es
 
   -- the places that a node over leaves has: fifteen for each child that it can still get, and those of its last leaf
-  abbrev pub node_room : List (K × V) → (ℕ → ℕ) → Option (Branches K) → ℕ
+  abbrev pub node_room : List (K × V) → (ℕ → ℕ) → Option (InnerNode K) → ℕ
   node_room pairs f None = 0
   node_room pairs f (Some n) = cond (is_reached pairs n.children.pairs) (15 * (15 - n.children.used) + f n.last) 0
 
@@ -40,5 +40,5 @@ rises (suc zero) room = suc room
 rises (suc (suc height)) room = 0
 
 -- 0 where the depth is more than 1; else one more than the number of pairs, each above all others, that the tree takes at least before it is
-abbrev pub ascents : {K V : Type 0} → (K → K → Ordering) → Arenas K V → ℕ
-ascents cmp a = rises a.height (root_room cmp a)
+abbrev pub ascending_headroom : {K V : Type 0} → (K → K → Ordering) → Arenas K V → ℕ
+ascending_headroom cmp a = rises a.height (root_room cmp a)

@@ -3,22 +3,22 @@ use Rattle.std.specs.Prelude.{ℕ}
 use Rattle.std.specs.declared.cmp.Ordering.{Ordering}
 use Rattle.std.specs.declared.ops.Bound.{Bound}
 use Rattle.tree_index.specs.declared.arenas.Arenas.{Arenas}
-use Rattle.tree_index.specs.declared.walk.Spot.{Spot}
+use Rattle.tree_index.specs.declared.walk.Position.{Position}
 use Rattle.tree_index.specs.declared.cursor.End.{End}
 use Rattle.tree_index.specs.declared.cursor.End.TheVariants.{Unopened, At, Done}
 use Rattle.tree_index.specs.declared.cursor.Ends.{Ends}
 use Rattle.tree_index.specs.Content.{pairs_of, IsSound}
-use Rattle.tree_index.specs.Walk.{position, IsSpot}
+use Rattle.tree_index.specs.Walk.{position, IsPosition}
 use Rattle.tree_index.specs.Cursor.{Cursor}
 
 module _ {K V : Type 0} where
   -- an end that stands somewhere stands at a pair
-  abbrev pub IsEnd : Arenas K V → End (Spot K V) → Type 0
+  abbrev pub IsEnd : Arenas K V → End (Position K V) → Type 0
   IsEnd a Unopened = Unit {0}
-  IsEnd a (At s) = IsSpot a s
+  IsEnd a (At s) = IsPosition a s
   IsEnd a Done = Unit {0}
 
-  abbrev pub place_of : Arenas K V → End (Spot K V) → End ℕ
+  abbrev pub place_of : Arenas K V → End (Position K V) → End ℕ
   place_of a Unopened = Unopened
   place_of a (At s) = At (position a s)
   place_of a Done = Done

@@ -6,9 +6,9 @@ use Rattle.std.specs.Coded.{Coded, code_by, coded×, coded_ℕ, coded_list, code
 use Rattle.leaf_array.specs.Cells.{Cells, newest}
 use Rattle.std.specs.declared.cmp.Ordering.{Ordering}
 use Rattle.std.specs.declared.ops.Bound.TheVariants.{Excluded}
-use Rattle.tree_index.specs.Cursor.{referred, before_start, up_to_end}
+use Rattle.tree_index.specs.Cursor.{deref_pair, before_start, up_to_end}
 use Rattle.tree_index.specs.Cuts.{key_at}
-use Rattle.tree_index.specs.declared.leaf.stand.Stand.{Stand}
+use Rattle.tree_index.specs.declared.leaf.leaf_position.LeafPosition.{LeafPosition}
 
 -- a list stands as a whole within another one
 pub record IsPart {X : Type 0} (part whole : List X) : Type 0 where
@@ -32,7 +32,7 @@ module _ {K V : Type 0} where
   at_start a = record { pairs = a.pairs; gone = newest a.buried; rank = 0 }
 
   -- the cursor that a leaf and a rank make
-  abbrev pub cursor_at : Stand K V → LeafCursor K V
+  abbrev pub cursor_at : LeafPosition K V → LeafCursor K V
   cursor_at s = record (at_start s.leaf.now.array) { rank = s.rank }
 
   -- the keys from which the leaves behind, and those before, are sought: of the last pair, and of the first; of the one that was lost last where there are no pairs
@@ -54,7 +54,7 @@ module _ {K V : Type 0} where
   pairs_below c = cond (c.rank == 0) (length c.pairs) (c.rank - 1)
 
   -- the pair of a cursor that may be there
-  abbrev pub stood : Option (Stand K V) → Option (K × V)
+  abbrev pub stood : Option (LeafPosition K V) → Option (K × V)
   stood None = None
   stood (Some s) = ranked s.rank s.leaf.now.array.pairs
 
@@ -67,7 +67,7 @@ module _ {K V : Type 0} where
 
   -- a cursor goes to the rank that it seeks and gives its pair, or stays where there is none
   abbrev pub MovesTo : (LeafCursor K V → Option ℕ) → LeafCursor K V → Option (Bor K × Bor V) → LeafCursor K V → Type 0
-  MovesTo seek c answer d = MatchOption (seek c) ((answer ≡ None) × (d ≡ c)) (λ n. (referred answer ≡ ranked n c.pairs) × (d ≡ record c { rank = n }))
+  MovesTo seek c answer d = MatchOption (seek c) ((answer ≡ None) × (d ≡ c)) (λ n. (deref_pair answer ≡ ranked n c.pairs) × (d ≡ record c { rank = n }))
 
   -- a cursor stands at the first pair of its leaf above a key; at the last one below it
   abbrev pub IsFirstAbove : (K → K → Ordering) → K → LeafCursor K V → Type 0

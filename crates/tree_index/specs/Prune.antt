@@ -3,7 +3,7 @@ use Rattle.std.specs.Prelude.{◌≡◌, ◌≢◌, ◌≤◌, ◌<◌, ◌-◌,
 use Rattle.std.specs.declared.cmp.Ordering.{Ordering}
 use Rattle.slab.specs.Slab.{get}
 use Rattle.leaf_array.specs.Cells.{Cells, lesser}
-use Rattle.tree_index.specs.declared.node.Branches.{Branches}
+use Rattle.tree_index.specs.declared.node.InnerNode.{InnerNode}
 use Rattle.tree_index.specs.declared.arenas.Arenas.{Arenas}
 use Rattle.tree_index.specs.declared.prune.Fork.{Fork}
 use Rattle.tree_index.specs.Shape.{Content, child_for, way, node_times}
@@ -21,14 +21,14 @@ module _ {K V : Type 0} where
   pub record IsFork (cmp : K → K → Ordering) (key : K) (a : Arenas K V) (f : Fork) : Type 0 where
     pub above : f.height < a.height
     pub on : f.node ≡ way cmp (content_of a) key (a.height - suc f.height) a.root
-    pub node : Branches K
+    pub node : InnerNode K
     pub there : get a.nodes f.node ≡ Some node
     pub more : node.children.pairs ≢ []
     pub place : f.place ≡ lesser cmp key node.children.pairs
     pub child : f.child ≡ child_for cmp key node.children.pairs node.last
     pub single : IsSingle (content_of a) f.height f.child (leaf_on_way cmp key a)
 
-  -- a leaf, and the nodes from a number down to it, don't stand in the tree
+  -- a leaf, and the nodes from a number down to it, don't leaf_position in the tree
   pub record IsLoose (a : Arenas K V) (height at leaf : ℕ) : Type 0 where
     pub planted : a.height ≢ 0
     pub single : IsSingle (content_of a) height at leaf
@@ -52,6 +52,6 @@ module _ {K V : Type 0} where
   -- the root has one child, which is a node
   pub record IsLowerable (a : Arenas K V) : Type 0 where
     pub tall : 1 < a.height
-    pub root : Branches K
+    pub root : InnerNode K
     pub there : get a.nodes a.root ≡ Some root
     pub single : root.children.pairs ≡ []

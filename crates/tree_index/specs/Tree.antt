@@ -8,10 +8,10 @@ use Rattle.tree_index.specs.declared.index.InsertRefused.TheVariants.{Duplicate,
 pub record Tree (K V : Type 0) : Type 0 where
   pub pairs : List (K × V)
   pub depth : ℕ
-  pub ascents : ℕ
+  pub ascending_headroom : ℕ
 
 abbrev pub tree_code : {K V : Type 0} → Coded K → Coded V → Coded (Tree K V)
-tree_code {K} {V} k v = code_by (List (K × V) × (ℕ × ℕ)) (coded× (coded_list (coded× k v)) (coded× coded_ℕ coded_ℕ)) (λ t. (t.pairs, (t.depth, t.ascents))) (λ p. record { pairs = p.0; depth = p.1.0; ascents = p.1.1 }) (λ _. refl)
+tree_code {K} {V} k v = code_by (List (K × V) × (ℕ × ℕ)) (coded× (coded_list (coded× k v)) (coded× coded_ℕ coded_ℕ)) (λ t. (t.pairs, (t.depth, t.ascending_headroom))) (λ p. record { pairs = p.0; depth = p.1.0; ascending_headroom = p.1.1 }) (λ _. refl)
 
 module _ {K V : Type 0} where
   abbrev pub IsDuplicate : InsertRefused K V → Type 0

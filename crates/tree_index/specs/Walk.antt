@@ -2,12 +2,12 @@
 use Rattle.std.specs.Prelude.{◌≡◌, ◌≢◌, ◌≤◌, ◌<◌, ◌+◌, ◌-◌, ℕ, suc, ◌==◌, cond, List, [], ◌∷◌, ◌++◌, length, Option, Some, None}
 use Rattle.slab.specs.Slab.{get}
 use Rattle.tree_index.specs.declared.arenas.Arenas.{Arenas}
-use Rattle.tree_index.specs.declared.walk.Spot.{Spot}
+use Rattle.tree_index.specs.declared.walk.Position.{Position}
 use Rattle.tree_index.specs.Shape.{AllKeys, gathered, leaf_pairs}
 use Rattle.tree_index.specs.Chain.{times, first_or}
 use Rattle.tree_index.specs.Content.{content_of, pairs_of, leaves_of}
 
--- how many pairs stand in the leaves before one
+-- how many pairs leaf_position in the leaves before one
 abbrev pub pairs_before : {X : Type 0} → (ℕ → List X) → ℕ → List ℕ → ℕ
 pairs_before f n [] = 0
 pairs_before f n (m ∷ ms) = cond (m == n) 0 (length (f m) + pairs_before f n ms)
@@ -22,7 +22,7 @@ module _ {K V : Type 0} where
   held a n = leaf_pairs ((content_of a).leaf n)
 
   -- how many pairs come before a place
-  abbrev pub position : Arenas K V → Spot K V → ℕ
+  abbrev pub position : Arenas K V → Position K V → ℕ
   position a s = pairs_before (held a) s.at (leaves_of a) + s.place
 
   -- how many pairs come before the leaf with this number: all, where none is named
@@ -41,13 +41,13 @@ module _ {K V : Type 0} where
   IsOwn a (Some n) = (a.height ≢ 0) × (times n (leaves_of a) ≢ 0)
 
   -- a place in a leaf of the tree, at one of its pairs or behind them
-  pub record IsGap (a : Arenas K V) (s : Spot K V) : Type 0 where
+  pub record IsGap (a : Arenas K V) (s : Position K V) : Type 0 where
     pub there : get a.leaves s.at ≡ Some s.leaf.now
     pub own : IsOwn a (Some s.at)
     pub most : s.place ≤ length s.leaf.now.array.pairs
 
   -- the place of a pair
-  pub record IsSpot (a : Arenas K V) (s : Spot K V) : Type 0 where
+  pub record IsPosition (a : Arenas K V) (s : Position K V) : Type 0 where
     pub gap : IsGap a s
     pub within : s.place < length s.leaf.now.array.pairs
 
@@ -60,11 +60,11 @@ module _ {K V : Type 0} where
     pub keys : AllKeys P (gathered (held a) fore)
 
   -- the place behind n pairs, if there is a pair
-  abbrev pub IsFirstSpot : Arenas K V → ℕ → Option (Spot K V) → Type 0
-  IsFirstSpot a n None = n ≡ length (pairs_of a)
-  IsFirstSpot a n (Some s) = position a s ≡ n
+  abbrev pub IsFirstPosition : Arenas K V → ℕ → Option (Position K V) → Type 0
+  IsFirstPosition a n None = n ≡ length (pairs_of a)
+  IsFirstPosition a n (Some s) = position a s ≡ n
 
   -- the place of the last of the first n pairs, if there is one
-  abbrev pub IsLastSpot : Arenas K V → ℕ → Option (Spot K V) → Type 0
-  IsLastSpot a n None = n ≡ 0
-  IsLastSpot a n (Some s) = position a s + 1 ≡ n
+  abbrev pub IsLastPosition : Arenas K V → ℕ → Option (Position K V) → Type 0
+  IsLastPosition a n None = n ≡ 0
+  IsLastPosition a n (Some s) = position a s + 1 ≡ n

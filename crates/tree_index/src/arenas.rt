@@ -4,7 +4,7 @@ ghost use Rattle.std.specs.Prelude.{◌≡◌, ◌≢◌, ◌≤◌, ◌<◌, �
 ghost use Rattle.std.specs.BTreeMap.{is_at};
 ghost use Rattle.std.specs.Map.{lookup_entry};
 ghost use Rattle.tree_index.specs.Shape.{way};
-ghost use Rattle.tree_index.specs.Depth.{IsAbove, ascents};
+ghost use Rattle.tree_index.specs.Depth.{IsAbove, ascending_headroom};
 ghost use Rattle.tree_index.specs.Content.{content_of, pairs_of, IsSound, HasRoom, leaf_on_way};
 ghost use Rattle.leaf_array.specs.Edits.{removed, upserted};
 ghost use Rattle.tree_index.specs.Walk.{held};
@@ -14,7 +14,7 @@ ghost use Rattle.leaf_array.specs.Values.{ClonesAreSame};
 ghost use Rattle.leaf_array.specs.Results.{IsSuccess, IsDuplicate, IsFull, given_back};
 
 use crate::leaf::Leaf;
-use crate::node::Branches;
+use crate::node::InnerNode;
 use leaf_array::{InsertResult, Steps};
 use slab::Slab;
 use std::alloc::{AllocError, Global};
@@ -25,7 +25,7 @@ use std::alloc::{AllocError, Global};
 #[derive(Drop)]
 pub(crate) struct Arenas<K: Ord, V> {
     pub(crate) leaves: Slab<Leaf<K, V>>,
-    pub(crate) nodes: Slab<Branches<K>>,
+    pub(crate) nodes: Slab<InnerNode<K>>,
     pub(crate) root: usize,
     pub(crate) height: usize,
     pub(crate) len: usize,
@@ -153,8 +153,8 @@ impl<K: Ord, V> Arenas<K, V> {
         ensures unique { IsSuccess result → UPSERT ≡ false → has_key K.cmp key (pairs_of self.old) ≡ false }
         ensures done { IsSuccess result → pairs_of self.new ≡ upserted K.cmp key val (pairs_of self.old) }
         ensures still { IsFull result → HasRoom K.cmp key self.new → ⊥ }
-        ensures ascents { IsSome (given_back result) → ascents K.cmp self.new ≡ ascents K.cmp self.old }
-        ensures ascending { IsSuccess result → IsAbove K.cmp key (pairs_of self.old) → ascents K.cmp self.old ≤ ascents K.cmp self.new + 1 }
+        ensures ascending_headroom { IsSome (given_back result) → ascending_headroom K.cmp self.new ≡ ascending_headroom K.cmp self.old }
+        ensures ascending { IsSuccess result → IsAbove K.cmp key (pairs_of self.old) → ascending_headroom K.cmp self.old ≤ ascending_headroom K.cmp self.new + 1 }
     {
         let at = self.leaf_of(&key);
         match self.leaves.get_mut(at) {
@@ -186,8 +186,8 @@ impl<K: Ord, V> Arenas<K, V> {
         ensures repeated { IsDuplicate result → UPSERT ≡ false }
         ensures unique { IsSuccess result → UPSERT ≡ false → has_key K.cmp key (pairs_of self.old) ≡ false }
         ensures done { IsSuccess result → pairs_of self.new ≡ upserted K.cmp key val (pairs_of self.old) }
-        ensures ascents { IsSome (given_back result) → ascents K.cmp self.new ≡ ascents K.cmp self.old }
-        ensures ascending { IsSuccess result → IsAbove K.cmp key (pairs_of self.old) → ascents K.cmp self.old ≤ ascents K.cmp self.new + 1 }
+        ensures ascending_headroom { IsSome (given_back result) → ascending_headroom K.cmp self.new ≡ ascending_headroom K.cmp self.old }
+        ensures ascending { IsSuccess result → IsAbove K.cmp key (pairs_of self.old) → ascending_headroom K.cmp self.old ≤ ascending_headroom K.cmp self.new + 1 }
     {
         if self.len == usize::MAX && self.lacks(&key) {
             return InsertResult::Full(key, val);
@@ -229,8 +229,8 @@ impl<K: Ord, V> Arenas<K, V> {
         ensures repeated { IsDuplicate result → UPSERT ≡ false }
         ensures unique { IsSuccess result → UPSERT ≡ false → has_key K.cmp key (pairs_of self.old) ≡ false }
         ensures done { IsSuccess result → pairs_of self.new ≡ upserted K.cmp key val (pairs_of self.old) }
-        ensures ascents { IsSome (given_back result) → ascents K.cmp self.new ≡ ascents K.cmp self.old }
-        ensures ascending { IsSuccess result → IsAbove K.cmp key (pairs_of self.old) → ascents K.cmp self.old ≤ ascents K.cmp self.new + 1 }
+        ensures ascending_headroom { IsSome (given_back result) → ascending_headroom K.cmp self.new ≡ ascending_headroom K.cmp self.old }
+        ensures ascending { IsSuccess result → IsAbove K.cmp key (pairs_of self.old) → ascending_headroom K.cmp self.old ≤ ascending_headroom K.cmp self.new + 1 }
     {
         match self.make_room(&key) {
             Ok(()) => self.insert::<UPSERT>(key, val),

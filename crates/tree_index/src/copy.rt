@@ -17,7 +17,7 @@ impl<K: Ord, V> TreeIndex<K, V> {
         requires keys { ClonesAreSame K.is_clone }
         requires values { ClonesAreSame V.is_clone }
         ensures pairs { IfOk result (λ t. t.pairs ≡ self.now.pairs) }
-        ensures ascents { IfOk result (λ t. 241 ≤ t.ascents + length t.pairs) }
+        ensures ascending_headroom { IfOk result (λ t. 241 ≤ t.ascending_headroom + length t.pairs) }
     {
         let mut copy = TreeIndex::with_capacity(alloc, self.arenas.len)?;
         let mut next = self.arenas.first_from(self.arenas.first_leaf());

@@ -4,13 +4,13 @@ ghost use Rattle.std.specs.Prelude.{◌≡◌, IfSome, Some, None, cond, nat_lt,
 ghost use Rattle.std.specs.declared.ops.Bound.{Bound};
 ghost use Rattle.std.specs.Range.Bound.{bound_map};
 ghost use Rattle.tree_index.specs.Content.{pairs_of, IsSound};
-ghost use Rattle.tree_index.specs.Cursor.{forth, back, lies_before, pair_at, kept_below, kept_above, moved_forth, moved_back, next_of, next_back_of, shown, shown_back, can_turn, turned, referred};
+ghost use Rattle.tree_index.specs.Cursor.{forth, back, lies_before, pair_at, kept_below, kept_above, moved_forth, moved_back, next_of, next_back_of, shown, shown_back, can_turn, turned, deref_pair};
 ghost use Rattle.tree_index.specs.declared.cursor.End.TheVariants.{Unopened, At};
 ghost use Rattle.tree_index.specs.Ends.{IsEnd, IsReady, place_of, cursor_of};
-ghost use Rattle.tree_index.specs.Walk.{position, IsSpot};
+ghost use Rattle.tree_index.specs.Walk.{position, IsPosition};
 
 use crate::arenas::Arenas;
-use crate::walk::Spot;
+use crate::walk::Position;
 use std::ops::Bound;
 
 /// Where an end of a cursor stands: nowhere yet, at a place, or past all of them for good.
@@ -25,8 +25,8 @@ pub(crate) enum End<S> {
 #[derive_where(Clone, Copy)]
 pub(crate) struct Ends<'t, K: Ord, V> {
     pub(crate) arenas: &'t Arenas<K, V>,
-    pub(crate) forward: End<Spot<'t, K, V>>,
-    pub(crate) backward: End<Spot<'t, K, V>>,
+    pub(crate) forward: End<Position<'t, K, V>>,
+    pub(crate) backward: End<Position<'t, K, V>>,
 }
 
 impl<'t, K: Ord, V> Ends<'t, K, V> {
@@ -56,7 +56,7 @@ impl<'t, K: Ord, V> Ends<'t, K, V> {
         requires { IsReady K.cmp self.old }
         ensures ready { IsReady K.cmp self.new }
         ensures moved { cursor_of self.new (bound_map (λ k. k.now) lower.entry) (bound_map (λ k. k.now) upper.entry) ≡ moved_forth K.cmp (cursor_of self.old (bound_map (λ k. k.now) lower.entry) (bound_map (λ k. k.now) upper.entry)) }
-        ensures answer { referred result ≡ next_of K.cmp (cursor_of self.old (bound_map (λ k. k.now) lower.entry) (bound_map (λ k. k.now) upper.entry)) }
+        ensures answer { deref_pair result ≡ next_of K.cmp (cursor_of self.old (bound_map (λ k. k.now) lower.entry) (bound_map (λ k. k.now) upper.entry)) }
     {
         // Most steps stay in their leaf: there one look at the place says whether a pair is there and finds it.
         if let Some((spot, pair)) = self.beside() {
@@ -81,7 +81,7 @@ impl<'t, K: Ord, V> Ends<'t, K, V> {
         requires { IsReady K.cmp self.old }
         ensures ready { IsReady K.cmp self.new }
         ensures moved { cursor_of self.new (bound_map (λ k. k.now) lower.entry) (bound_map (λ k. k.now) upper.entry) ≡ moved_back K.cmp (cursor_of self.old (bound_map (λ k. k.now) lower.entry) (bound_map (λ k. k.now) upper.entry)) }
-        ensures answer { referred result ≡ next_back_of K.cmp (cursor_of self.old (bound_map (λ k. k.now) lower.entry) (bound_map (λ k. k.now) upper.entry)) }
+        ensures answer { deref_pair result ≡ next_back_of K.cmp (cursor_of self.old (bound_map (λ k. k.now) lower.entry) (bound_map (λ k. k.now) upper.entry)) }
     {
         self.backward = self.back(upper);
         if self.arenas.lies_before(self.forward, self.backward) {
@@ -95,7 +95,7 @@ impl<'t, K: Ord, V> Ends<'t, K, V> {
     #[inline(always)]
     pub(crate) fn get(&self, upper: Bound<&'t K>) -> Option<(&'t K, &'t V)>
         requires { IsReady K.cmp self.now }
-        ensures { referred result ≡ kept_below K.cmp (bound_map (λ k. k.now) upper.entry) (pair_at (pairs_of self.now.arenas.now) (place_of self.now.arenas.now self.now.forward)) }
+        ensures { deref_pair result ≡ kept_below K.cmp (bound_map (λ k. k.now) upper.entry) (pair_at (pairs_of self.now.arenas.now) (place_of self.now.arenas.now self.now.forward)) }
     {
         self.arenas.shown(self.forward, upper)
     }
@@ -103,7 +103,7 @@ impl<'t, K: Ord, V> Ends<'t, K, V> {
     /// The pair of the backward end, if it lies within the lower bound.
     pub(crate) fn get_back(&self, lower: Bound<&'t K>) -> Option<(&'t K, &'t V)>
         requires { IsReady K.cmp self.now }
-        ensures { referred result ≡ kept_above K.cmp (bound_map (λ k. k.now) lower.entry) (pair_at (pairs_of self.now.arenas.now) (place_of self.now.arenas.now self.now.backward)) }
+        ensures { deref_pair result ≡ kept_above K.cmp (bound_map (λ k. k.now) lower.entry) (pair_at (pairs_of self.now.arenas.now) (place_of self.now.arenas.now self.now.backward)) }
     {
         self.arenas.shown_back(self.backward, lower)
     }
@@ -139,7 +139,7 @@ impl<'t, K: Ord, V> Ends<'t, K, V> {
 
     /// Where the forward end goes and the pair there, if it stays in its leaf.
     #[inline(always)]
-    fn beside(&self) -> Option<(Spot<'t, K, V>, (&'t K, &'t V))>
+    fn beside(&self) -> Option<(Position<'t, K, V>, (&'t K, &'t V))>
         requires { IsReady K.cmp self.now }
         ensures end { IfSome result (λ n. IsEnd self.now.arenas.now (At n.0)) }
         ensures place { IfSome result (λ n. (lower : Bound K) → place_of self.now.arenas.now (At n.0) ≡ forth K.cmp lower (pairs_of self.now.arenas.now) (place_of self.now.arenas.now self.now.forward)) }
@@ -153,7 +153,7 @@ impl<'t, K: Ord, V> Ends<'t, K, V> {
 
     /// Where the forward end goes.
     #[inline(always)]
-    fn forth(&self, lower: Bound<&'t K>) -> End<Spot<'t, K, V>>
+    fn forth(&self, lower: Bound<&'t K>) -> End<Position<'t, K, V>>
         requires { IsReady K.cmp self.now }
         ensures end { IsEnd self.now.arenas.now result }
         ensures place { place_of self.now.arenas.now result ≡ forth K.cmp (bound_map (λ k. k.now) lower.entry) (pairs_of self.now.arenas.now) (place_of self.now.arenas.now self.now.forward) }
@@ -173,7 +173,7 @@ impl<'t, K: Ord, V> Ends<'t, K, V> {
 
     /// Where the backward end goes.
     #[inline(always)]
-    fn back(&self, upper: Bound<&'t K>) -> End<Spot<'t, K, V>>
+    fn back(&self, upper: Bound<&'t K>) -> End<Position<'t, K, V>>
         requires { IsReady K.cmp self.now }
         ensures end { IsEnd self.now.arenas.now result }
         ensures place { place_of self.now.arenas.now result ≡ back K.cmp (bound_map (λ k. k.now) upper.entry) (pairs_of self.now.arenas.now) (place_of self.now.arenas.now self.now.backward) }
@@ -197,16 +197,16 @@ impl<K: Ord, V> Arenas<K, V> {
     #[inline(always)]
     fn given<'t>(
         &'t self,
-        spot: Spot<'t, K, V>,
+        spot: Position<'t, K, V>,
         own: (&'t K, &'t V),
-        backward: End<Spot<'t, K, V>>,
+        backward: End<Position<'t, K, V>>,
         upper: Bound<&'t K>,
     ) -> Option<(&'t K, &'t V)>
         requires sound { IsSound K.cmp self.now }
-        requires spot { IsSpot self.now spot }
+        requires spot { IsPosition self.now spot }
         requires backward { IsEnd self.now backward }
         requires own { slice_get spot.leaf.now.array.pairs spot.place ≡ Some (own.0.now, own.1.now) }
-        ensures { referred result ≡ cond (lies_before (At (position self.now spot.entry)) (place_of self.now backward.entry)) (kept_below K.cmp (bound_map (λ k. k.now) upper.entry) (slice_get (pairs_of self.now) (position self.now spot.entry))) None }
+        ensures { deref_pair result ≡ cond (lies_before (At (position self.now spot.entry)) (place_of self.now backward.entry)) (kept_below K.cmp (bound_map (λ k. k.now) upper.entry) (slice_get (pairs_of self.now) (position self.now spot.entry))) None }
     {
         if self.precedes(spot, own, backward) {
             below(own, upper)
@@ -219,12 +219,12 @@ impl<K: Ord, V> Arenas<K, V> {
     #[inline(always)]
     fn precedes<'t>(
         &'t self,
-        spot: Spot<'t, K, V>,
+        spot: Position<'t, K, V>,
         own: (&'t K, &'t V),
-        backward: End<Spot<'t, K, V>>,
+        backward: End<Position<'t, K, V>>,
     ) -> bool
         requires sound { IsSound K.cmp self.now }
-        requires spot { IsSpot self.now spot }
+        requires spot { IsPosition self.now spot }
         requires backward { IsEnd self.now backward }
         requires own { slice_get spot.leaf.now.array.pairs spot.place ≡ Some (own.0.now, own.1.now) }
         ensures { result ≡ lies_before (At (position self.now spot.entry)) (place_of self.now backward.entry) }
@@ -241,13 +241,13 @@ impl<K: Ord, V> Arenas<K, V> {
     #[inline(never)]
     fn comes_first<'t>(
         &'t self,
-        spot: Spot<'t, K, V>,
+        spot: Position<'t, K, V>,
         own: (&'t K, &'t V),
-        other: Spot<'t, K, V>,
+        other: Position<'t, K, V>,
     ) -> bool
         requires sound { IsSound K.cmp self.now }
-        requires spot { IsSpot self.now spot }
-        requires other { IsSpot self.now other }
+        requires spot { IsPosition self.now spot }
+        requires other { IsPosition self.now other }
         requires own { slice_get spot.leaf.now.array.pairs spot.place ≡ Some (own.0.now, own.1.now) }
         ensures { result ≡ nat_lt (position self.now spot.entry) (position self.now other.entry) }
     {
@@ -255,9 +255,9 @@ impl<K: Ord, V> Arenas<K, V> {
         own.0.cmp(other.pair().0).is_lt()
     }
 
-    /// Whether one end lies before another, as far as both stand at pairs.
+    /// Whether one end lies before another, as far as both leaf_position at pairs.
     #[inline(always)]
-    fn lies_before(&self, a: End<Spot<'_, K, V>>, b: End<Spot<'_, K, V>>) -> bool
+    fn lies_before(&self, a: End<Position<'_, K, V>>, b: End<Position<'_, K, V>>) -> bool
         requires sound { IsSound K.cmp self.now }
         requires first { IsEnd self.now a }
         requires second { IsEnd self.now b }
@@ -273,10 +273,14 @@ impl<K: Ord, V> Arenas<K, V> {
 
     /// The pair of an end, if it lies within the upper bound.
     #[inline(always)]
-    fn shown<'t>(&'t self, end: End<Spot<'t, K, V>>, upper: Bound<&'t K>) -> Option<(&'t K, &'t V)>
+    fn shown<'t>(
+        &'t self,
+        end: End<Position<'t, K, V>>,
+        upper: Bound<&'t K>,
+    ) -> Option<(&'t K, &'t V)>
         requires sound { IsSound K.cmp self.now }
         requires end { IsEnd self.now end }
-        ensures { referred result ≡ kept_below K.cmp (bound_map (λ k. k.now) upper.entry) (pair_at (pairs_of self.now) (place_of self.now end.entry)) }
+        ensures { deref_pair result ≡ kept_below K.cmp (bound_map (λ k. k.now) upper.entry) (pair_at (pairs_of self.now) (place_of self.now end.entry)) }
     {
         match end {
             End::At(spot) => below(spot.pair(), upper),
@@ -288,12 +292,12 @@ impl<K: Ord, V> Arenas<K, V> {
     #[inline(always)]
     fn shown_back<'t>(
         &'t self,
-        end: End<Spot<'t, K, V>>,
+        end: End<Position<'t, K, V>>,
         lower: Bound<&'t K>,
     ) -> Option<(&'t K, &'t V)>
         requires sound { IsSound K.cmp self.now }
         requires end { IsEnd self.now end }
-        ensures { referred result ≡ kept_above K.cmp (bound_map (λ k. k.now) lower.entry) (pair_at (pairs_of self.now) (place_of self.now end.entry)) }
+        ensures { deref_pair result ≡ kept_above K.cmp (bound_map (λ k. k.now) lower.entry) (pair_at (pairs_of self.now) (place_of self.now end.entry)) }
     {
         match end {
             End::At(spot) => above(spot.pair(), lower),
@@ -305,7 +309,7 @@ impl<K: Ord, V> Arenas<K, V> {
 /// A pair, if it lies within an upper bound.
 #[inline(always)]
 fn below<'t, K: Ord, V>(pair: (&'t K, &'t V), upper: Bound<&'t K>) -> Option<(&'t K, &'t V)>
-    ensures { referred result ≡ kept_below K.cmp (bound_map (λ k. k.now) upper.entry) (Some (pair.entry.0.now, pair.entry.1.now)) }
+    ensures { deref_pair result ≡ kept_below K.cmp (bound_map (λ k. k.now) upper.entry) (Some (pair.entry.0.now, pair.entry.1.now)) }
 {
     let past = match upper {
         Bound::Included(high) => high.cmp(pair.0).is_lt(),
@@ -318,7 +322,7 @@ fn below<'t, K: Ord, V>(pair: (&'t K, &'t V), upper: Bound<&'t K>) -> Option<(&'
 /// A pair, if it lies within a lower bound.
 #[inline(always)]
 fn above<'t, K: Ord, V>(pair: (&'t K, &'t V), lower: Bound<&'t K>) -> Option<(&'t K, &'t V)>
-    ensures { referred result ≡ kept_above K.cmp (bound_map (λ k. k.now) lower.entry) (Some (pair.entry.0.now, pair.entry.1.now)) }
+    ensures { deref_pair result ≡ kept_above K.cmp (bound_map (λ k. k.now) lower.entry) (Some (pair.entry.0.now, pair.entry.1.now)) }
 {
     let within = match lower {
         Bound::Included(low) => low.cmp(pair.0).is_le(),

@@ -31,7 +31,7 @@ use std::ops::Bound;
 
 /// An ordered index: a B+ tree with at most fifteen pairs in a leaf and sixteen children in a node.
 ///
-/// Leaves and nodes stand in two arenas and name each other by numbers. A look-up follows one path and
+/// Leaves and nodes leaf_position in two arenas and name each other by numbers. A look-up follows one path and
 /// clones nothing; an insertion touches one path and clones one key where a leaf is split; a leaf that is
 /// emptied is given back, unless it is the last; reads and removals take no memory.
 #[derive(Drop)]
@@ -42,13 +42,13 @@ pub struct TreeIndex<K: Ord, V> {
 impl<K: Ord, V> Model for TreeIndex<K, V> {
     ghost use Rattle.tree_index.specs.Tree.{Tree, tree_code};
     ghost use Rattle.tree_index.specs.Content.{pairs_of, IsSound};
-    ghost use Rattle.tree_index.specs.Depth.{ascents};
+    ghost use Rattle.tree_index.specs.Depth.{ascending_headroom};
 
     ghost Value = { Tree K V };
 
     ghost coded = { tree_code K.code V.code };
 
-    ghost view = { λ t. record { pairs = pairs_of t.arenas; depth = t.arenas.height; ascents = ascents K.cmp t.arenas } };
+    ghost view = { λ t. record { pairs = pairs_of t.arenas; depth = t.arenas.height; ascending_headroom = ascending_headroom K.cmp t.arenas } };
 
     ghost invariant = { λ t. IsSound K.cmp t.arenas };
 }
@@ -67,7 +67,7 @@ impl<K: Ord, V> TreeIndex<K, V> {
     pub fn new(alloc: Global) -> Self
         ensures empty { result.pairs ≡ [] }
         ensures flat { result.depth ≡ 0 }
-        ensures ascents { result.ascents ≡ 241 }
+        ensures ascending_headroom { result.ascending_headroom ≡ 241 }
     {
         TreeIndex {
             arenas: Arenas::new(alloc),
@@ -81,7 +81,7 @@ impl<K: Ord, V> TreeIndex<K, V> {
         V: Drop,
         ensures empty { IfOk result (λ t. t.pairs ≡ []) }
         ensures flat { IfOk result (λ t. t.depth ≡ 0) }
-        ensures ascents { IfOk result (λ t. t.ascents ≡ 241) }
+        ensures ascending_headroom { IfOk result (λ t. t.ascending_headroom ≡ 241) }
     {
         Ok(TreeIndex {
             arenas: Arenas::with_capacity(alloc, pairs)?,
@@ -95,7 +95,7 @@ impl<K: Ord, V> TreeIndex<K, V> {
         V: Drop,
         ensures empty { self.new.pairs ≡ [] }
         ensures flat { self.new.depth ≡ 0 }
-        ensures ascents { self.new.ascents ≡ 241 }
+        ensures ascending_headroom { self.new.ascending_headroom ≡ 241 }
     {
         self.arenas.clear();
     }
@@ -106,7 +106,7 @@ impl<K: Ord, V> TreeIndex<K, V> {
     /// depth is more than 1.
     pub fn depth(&self) -> usize
         ensures value { result ≡ self.now.depth }
-        ensures flat { 0 < self.now.ascents → result ≤ 1 }
+        ensures flat { 0 < self.now.ascending_headroom → result ≤ 1 }
     {
         self.arenas.height
     }
@@ -144,7 +144,7 @@ impl<K: Ord, V> TreeIndex<K, V> {
         ensures memory { IfErr result (λ e. IsMemory e → has_key K.cmp key self.old.pairs ≡ false) }
         ensures back { IfErr result (λ e. given_back e ≡ (key, val)) }
         ensures refused { OnErr result (self.new ≡ self.old) }
-        ensures ascending { IsOk result → IsAbove K.cmp key self.old.pairs → self.old.ascents ≤ self.new.ascents + 1 }
+        ensures ascending { IsOk result → IsAbove K.cmp key self.old.pairs → self.old.ascending_headroom ≤ self.new.ascending_headroom + 1 }
     {
         match self.arenas.put::<false>(key, val) {
             InsertResult::Success => Ok(()),
@@ -187,7 +187,7 @@ impl<K: Ord, V> TreeIndex<K, V> {
         ensures pushed { OnOk result (self.new.pairs ≡ self.old.pairs ++ (key, val) ∷ []) }
         ensures back { IfErr result (λ e. e ≡ (key, val)) }
         ensures refused { OnErr result (self.new ≡ self.old) }
-        ensures ascending { IsOk result → self.old.ascents ≤ self.new.ascents + 1 }
+        ensures ascending { IsOk result → self.old.ascending_headroom ≤ self.new.ascending_headroom + 1 }
     {
         match self.arenas.push(key, val) {
             InsertResult::Success => Ok(()),

@@ -2,7 +2,7 @@
 
 ghost use Rattle.std.specs.Prelude.{◌≡◌};
 ghost use Rattle.std.specs.declared.ops.Bound.TheVariants.{Unbounded};
-ghost use Rattle.tree_index.specs.Cursor.{shown, shown_back, can_turn, turned, referred};
+ghost use Rattle.tree_index.specs.Cursor.{shown, shown_back, can_turn, turned, deref_pair};
 
 use crate::cursor::Ends;
 use crate::range::Range;
@@ -38,14 +38,14 @@ impl<'t, K: Ord, V> Iter<'t, K, V> {
     /// The pair of the forward end, if it stands at one.
     #[inline(always)]
     pub fn get(&self) -> Option<(&'t K, &'t V)>
-        ensures { referred result ≡ shown K.cmp self.now }
+        ensures { deref_pair result ≡ shown K.cmp self.now }
     {
         self.ends.get(Bound::Unbounded)
     }
 
     /// The pair of the backward end, if it stands at one.
     pub fn get_back(&self) -> Option<(&'t K, &'t V)>
-        ensures { referred result ≡ shown_back K.cmp self.now }
+        ensures { deref_pair result ≡ shown_back K.cmp self.now }
     {
         self.ends.get_back(Bound::Unbounded)
     }

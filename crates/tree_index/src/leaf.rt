@@ -35,12 +35,12 @@ use std::ops::Bound;
 
 mod iter;
 mod jump;
+mod leaf_position;
 mod rev_iter;
-mod stand;
 
 pub use iter::Iter;
+pub(crate) use leaf_position::LeafPosition;
 pub use rev_iter::RevIter;
-pub(crate) use stand::Stand;
 
 /// A leaf of a tree: at most fifteen pairs by rising keys, and the numbers of its neighbours.
 /// (`scc`'s `tree_index::leaf::Leaf`.)

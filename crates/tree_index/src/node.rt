@@ -1,4 +1,4 @@
-//! The inner nodes of the tree: as they stand in their arena, and as a tree lends them.
+//! The inner nodes of the tree: as they leaf_position in their arena, and as a tree lends them.
 //!
 //! ```
 //! // of a tree with the pairs (1, "one") and (2, "two")
@@ -89,12 +89,12 @@ impl<'t, K: Ord, V> InternalNode<'t, K, V> {
 /// At most fifteen children with their separators, the greatest keys that they may hold, and one
 /// child behind them. All are named by their numbers.
 #[derive(Drop)]
-pub(crate) struct Branches<K: Ord> {
+pub(crate) struct InnerNode<K: Ord> {
     pub(crate) children: Array<K, usize>,
     pub(crate) last: usize,
 }
 
-impl<K: Ord> Branches<K> {
+impl<K: Ord> InnerNode<K> {
     /// The child on the way to a key.
     #[inline(always)]
     pub(crate) fn child(&self, key: &K) -> usize
@@ -211,7 +211,7 @@ impl<K: Ord> Branches<K> {
     }
 
     /// Moves the lower half to a node of its own, and gives the separator between both.
-    pub(crate) fn split(&mut self) -> (K, Branches<K>)
+    pub(crate) fn split(&mut self) -> (K, InnerNode<K>)
     where
         K: Drop,
         requires node { IsNode self.old.children }
@@ -228,7 +228,7 @@ impl<K: Ord> Branches<K> {
         match lower.pop_last() {
             Some((separator, last)) => (
                 separator,
-                Branches {
+                InnerNode {
                     children: lower,
                     last,
                 },

@@ -7,12 +7,12 @@ ghost use Rattle.tree_index.specs.Content.{pairs_of, IsSound};
 ghost use Rattle.tree_index.specs.Cursor.{whole};
 ghost use Rattle.leaf_array.specs.Cells.{lesser};
 ghost use Rattle.tree_index.specs.Ends.{IsEnd, place_of};
-ghost use Rattle.tree_index.specs.Walk.{position, IsGap, IsSpot};
+ghost use Rattle.tree_index.specs.Walk.{position, IsGap, IsPosition};
 
 use crate::arenas::Arenas;
 use crate::cursor::{End, Ends};
 use crate::iter::Iter;
-use crate::walk::Spot;
+use crate::walk::Position;
 
 /// What [`locate`](crate::TreeIndex::locate) finds around a key, with a cursor there.
 /// (`scc`'s `tree_index::Proximity`.)
@@ -55,12 +55,12 @@ impl<K: Ord, V> Arenas<K, V> {
     fn locate_before<'t>(
         &'t self,
         key: &K,
-        gap: Spot<'t, K, V>,
-        larger: Spot<'t, K, V>,
+        gap: Position<'t, K, V>,
+        larger: Position<'t, K, V>,
     ) -> Proximity<'t, K, V>
         requires sound { IsSound K.cmp self.now }
         requires gap { IsGap self.now gap }
-        requires spot { IsSpot self.now larger }
+        requires spot { IsPosition self.now larger }
         requires first { position self.now gap ≡ lesser K.cmp key.now (pairs_of self.now) }
         requires same { position self.now larger ≡ position self.now gap }
         ensures { IsLocated K.cmp key.now (pairs_of self.now) result }
@@ -77,8 +77,8 @@ impl<K: Ord, V> Arenas<K, V> {
     /// A cursor with its ends at these places.
     fn cursor<'t>(
         &'t self,
-        forward: End<Spot<'t, K, V>>,
-        backward: End<Spot<'t, K, V>>,
+        forward: End<Position<'t, K, V>>,
+        backward: End<Position<'t, K, V>>,
     ) -> Iter<'t, K, V>
         requires sound { IsSound K.cmp self.now }
         requires forward { IsEnd self.now forward }
@@ -95,7 +95,7 @@ impl<K: Ord, V> Arenas<K, V> {
     }
 }
 
-impl<'t, K: Ord, V> Spot<'t, K, V> {
+impl<'t, K: Ord, V> Position<'t, K, V> {
     /// Whether the pair at the place has a key.
     fn has_key(&self, key: &K) -> bool
         requires { self.now.place < length self.now.leaf.now.array.pairs }

@@ -4,7 +4,7 @@ ghost use Rattle.std.specs.Prelude.{◌≡◌, ◌<◌, ◌≤◌, ◌+◌, ◌^
 ghost use Rattle.leaf_array.specs.Results.{IsSuccess, given_back};
 ghost use Rattle.leaf_array.specs.Values.{ClonesAreSame};
 ghost use Rattle.tree_index.specs.Content.{pairs_of, IsSound};
-ghost use Rattle.tree_index.specs.Depth.{IsAbove, ascents};
+ghost use Rattle.tree_index.specs.Depth.{IsAbove, ascending_headroom};
 ghost use Rattle.tree_index.specs.Push.{IsOpen};
 
 use crate::arenas::Arenas;
@@ -25,9 +25,9 @@ impl<K: Ord, V> Arenas<K, V> {
         ensures back { IfSome (given_back result) (λ p. p ≡ (key, val)) }
         ensures kept { IsSome (given_back result) → pairs_of self.new ≡ pairs_of self.old }
         ensures depth { IsSome (given_back result) → self.new.height ≡ self.old.height }
-        ensures ascents { IsSome (given_back result) → ascents K.cmp self.new ≡ ascents K.cmp self.old }
+        ensures ascending_headroom { IsSome (given_back result) → ascending_headroom K.cmp self.new ≡ ascending_headroom K.cmp self.old }
         ensures done { IsSuccess result → pairs_of self.new ≡ pairs_of self.old ++ (key, val) ∷ [] }
-        ensures ascending { IsSuccess result → ascents K.cmp self.old ≤ ascents K.cmp self.new + 1 }
+        ensures ascending { IsSuccess result → ascending_headroom K.cmp self.old ≤ ascending_headroom K.cmp self.new + 1 }
     {
         if self.len < usize::MAX {
             if let Some(at) = self.open_leaf() {
@@ -68,7 +68,7 @@ impl<K: Ord, V> Arenas<K, V> {
         requires above { IsAbove K.cmp key (pairs_of self.old) }
         ensures sound { IsSound K.cmp self.new }
         ensures done { pairs_of self.new ≡ pairs_of self.old ++ (key, val) ∷ [] }
-        ensures ascending { ascents K.cmp self.old ≤ ascents K.cmp self.new + 1 }
+        ensures ascending { ascending_headroom K.cmp self.old ≤ ascending_headroom K.cmp self.new + 1 }
     {
         match self.leaves.get_mut(at) {
             Some(leaf) => {

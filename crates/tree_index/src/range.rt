@@ -1,7 +1,7 @@
 //! A cursor over the pairs of a tree within two bounds.
 
 ghost use Rattle.std.specs.Prelude.{◌≡◌};
-ghost use Rattle.tree_index.specs.Cursor.{shown, shown_back, can_turn, turned, referred};
+ghost use Rattle.tree_index.specs.Cursor.{shown, shown_back, can_turn, turned, deref_pair};
 
 use crate::cursor::Ends;
 use std::marker::Model;
@@ -36,14 +36,14 @@ impl<'t, K: Ord, V> Model for Range<'t, K, V> {
 impl<'t, K: Ord, V> Range<'t, K, V> {
     /// The pair of the forward end, if it stands at one within the upper bound.
     pub fn get(&self) -> Option<(&'t K, &'t V)>
-        ensures { referred result ≡ shown K.cmp self.now }
+        ensures { deref_pair result ≡ shown K.cmp self.now }
     {
         self.ends.get(self.upper)
     }
 
     /// The pair of the backward end, if it stands at one within the lower bound.
     pub fn get_back(&self) -> Option<(&'t K, &'t V)>
-        ensures { referred result ≡ shown_back K.cmp self.now }
+        ensures { deref_pair result ≡ shown_back K.cmp self.now }
     {
         self.ends.get_back(self.lower)
     }

@@ -5,13 +5,13 @@ ghost use Rattle.std.specs.Option.{option_map};
 ghost use Rattle.leaf_array.specs.Values.{ClonesAreSame};
 ghost use Rattle.slab.specs.Slab.{get, HasRoomFor, slab_len};
 ghost use Rattle.tree_index.specs.Chain.{links, linked_in};
-ghost use Rattle.tree_index.specs.Depth.{IsAbove, ascents};
+ghost use Rattle.tree_index.specs.Depth.{IsAbove, ascending_headroom};
 ghost use Rattle.tree_index.specs.Shape.{way};
 ghost use Rattle.tree_index.specs.Content.{content_of, pairs_of, IsSound, HasRoom, NodeHasRoom, IsNodeFull, IsLeafFull, IsCutThere, AreSameArrays, leaf_on_way};
 
 use crate::arenas::Arenas;
 use crate::leaf::{Cut, Leaf};
-use crate::node::Branches;
+use crate::node::InnerNode;
 use leaf_array::Array;
 use slab::Slab;
 use std::alloc::AllocError;
@@ -35,11 +35,11 @@ impl<K: Ord, V> Arenas<K, V> {
         ensures pairs { pairs_of self.new ≡ pairs_of self.old }
         ensures room { OnOk result (HasRoom K.cmp key.now self.new) }
         ensures refused { OnErr result (self.new.height ≡ self.old.height) }
-        ensures ascents { OnErr result (ascents K.cmp self.new ≡ ascents K.cmp self.old) }
-        ensures ascending { OnOk result (IsAbove K.cmp key.now (pairs_of self.old) → 1 < ascents K.cmp self.old → ascents K.cmp self.old ≤ ascents K.cmp self.new) }
+        ensures ascending_headroom { OnErr result (ascending_headroom K.cmp self.new ≡ ascending_headroom K.cmp self.old) }
+        ensures ascending { OnOk result (IsAbove K.cmp key.now (pairs_of self.old) → 1 < ascending_headroom K.cmp self.old → ascending_headroom K.cmp self.old ≤ ascending_headroom K.cmp self.new) }
     {
         if self.height == 0 {
-            return self.plant(key);
+            return self.init_root(key);
         }
         let at = self.leaf_of(key);
         if !self.is_crowded(at, key) {
@@ -58,7 +58,7 @@ impl<K: Ord, V> Arenas<K, V> {
     }
 
     /// Plants a first leaf under a first node.
-    fn plant(&mut self, key: &K) -> Result<(), AllocError>
+    fn init_root(&mut self, key: &K) -> Result<(), AllocError>
     where
         K: Drop,
         V: Drop,
@@ -68,8 +68,8 @@ impl<K: Ord, V> Arenas<K, V> {
         ensures pairs { pairs_of self.new ≡ pairs_of self.old }
         ensures room { OnOk result (HasRoom K.cmp key.now self.new) }
         ensures refused { OnErr result (self.new.height ≡ self.old.height) }
-        ensures ascents { OnErr result (ascents K.cmp self.new ≡ ascents K.cmp self.old) }
-        ensures ascending { OnOk result (ascents K.cmp self.old ≤ ascents K.cmp self.new) }
+        ensures ascending_headroom { OnErr result (ascending_headroom K.cmp self.new ≡ ascending_headroom K.cmp self.old) }
+        ensures ascending { OnOk result (ascending_headroom K.cmp self.old ≤ ascending_headroom K.cmp self.new) }
     {
         let _ = key;
         self.leaves.reserve(1)?;
@@ -79,7 +79,7 @@ impl<K: Ord, V> Arenas<K, V> {
             prev: None,
             next: None,
         });
-        self.root = self.nodes.insert_reserved(Branches {
+        self.root = self.nodes.insert_reserved(InnerNode {
             children: Array::new(),
             last: leaf,
         });
@@ -115,7 +115,7 @@ impl<K: Ord, V> Arenas<K, V> {
         ensures pairs { pairs_of self.new ≡ pairs_of self.old }
         ensures room { HasRoom K.cmp key.now self.new }
         ensures height { self.new.height ≡ self.old.height }
-        ensures ascending { ascents K.cmp self.old ≤ ascents K.cmp self.new }
+        ensures ascending { ascending_headroom K.cmp self.old ≤ ascending_headroom K.cmp self.new }
     {
         let _ = key;
         match self.leaves.get_mut(at) {
@@ -184,7 +184,7 @@ impl<K: Ord, V> Arenas<K, V> {
             return above;
         }
         if self.is_full(self.node_at(self.height, key), self.height, key) {
-            self.raise(key);
+            self.grow_root(key);
         }
         let mut left = self.height;
         while left > 1 {
@@ -197,7 +197,7 @@ impl<K: Ord, V> Arenas<K, V> {
     }
 
     /// Puts a new root above the present one.
-    fn raise(&mut self, key: &K)
+    fn grow_root(&mut self, key: &K)
     where
         K: Drop,
         requires sound { IsSound K.cmp self.old }
@@ -214,7 +214,7 @@ impl<K: Ord, V> Arenas<K, V> {
         ensures capacity { self.new.nodes.capacity ≡ self.old.nodes.capacity }
     {
         let _ = key;
-        self.root = self.nodes.insert_reserved(Branches {
+        self.root = self.nodes.insert_reserved(InnerNode {
             children: Array::new(),
             last: self.root,
         });
@@ -268,7 +268,7 @@ impl<K: Ord, V> Arenas<K, V> {
         ensures sound { IsSound K.cmp self.new }
         ensures pairs { pairs_of self.new ≡ pairs_of self.old }
         ensures room { HasRoom K.cmp key.now self.new }
-        ensures ascending { IsAbove K.cmp key.now (pairs_of self.old) → IsLeafFull K.cmp key.now self.old → 1 < ascents K.cmp self.old → ascents K.cmp self.old ≤ ascents K.cmp self.new }
+        ensures ascending { IsAbove K.cmp key.now (pairs_of self.old) → IsLeafFull K.cmp key.now self.old → 1 < ascending_headroom K.cmp self.old → ascending_headroom K.cmp self.old ≤ ascending_headroom K.cmp self.new }
     {
         let _ = key;
         let (lower, before) = match self.leaves.get_mut(child) {

@@ -6,7 +6,7 @@ ghost use Rattle.std.specs.declared.ops.Bound.TheVariants.{Included, Excluded, U
 ghost use Rattle.tree_index.specs.Chain.{first_or};
 ghost use Rattle.tree_index.specs.Content.{pairs_of, leaves_of, IsSound};
 ghost use Rattle.tree_index.specs.Cursor.{before_start, up_to_end};
-ghost use Rattle.tree_index.specs.Walk.{position, starts_at, ends_at, IsOwn, IsGap, IsSpot};
+ghost use Rattle.tree_index.specs.Walk.{position, starts_at, ends_at, IsOwn, IsGap, IsPosition};
 
 use crate::arenas::Arenas;
 use crate::leaf::Leaf;
@@ -15,13 +15,13 @@ use std::ops::Bound;
 
 /// A place in a leaf, and the leaf with its number.
 #[derive_where(Clone, Copy)]
-pub(crate) struct Spot<'t, K: Ord, V> {
+pub(crate) struct Position<'t, K: Ord, V> {
     pub(crate) leaf: &'t Leaf<K, V>,
     pub(crate) at: usize,
     pub(crate) place: usize,
 }
 
-impl<'t, K: Ord, V> Spot<'t, K, V> {
+impl<'t, K: Ord, V> Position<'t, K, V> {
     /// The pair at the place.
     #[inline(always)]
     pub(crate) fn pair(&self) -> (&'t K, &'t V)
@@ -82,11 +82,11 @@ impl<K: Ord, V> Arenas<K, V> {
     /// The first pair of the leaf with this number and those behind it.
     // Out of line, so that the loop around a step along one leaf stays small.
     #[inline(never)]
-    pub(crate) fn first_from(&self, from: Option<usize>) -> Option<Spot<'_, K, V>>
+    pub(crate) fn first_from(&self, from: Option<usize>) -> Option<Position<'_, K, V>>
         requires sound { IsSound K.cmp self.now }
         requires own { IsOwn self.now from }
         ensures none { IfNone result (starts_at self.now from ≡ length (pairs_of self.now)) }
-        ensures spot { IfSome result (λ s. IsSpot self.now s) }
+        ensures spot { IfSome result (λ s. IsPosition self.now s) }
         ensures there { IfSome result (λ s. position self.now s ≡ starts_at self.now from) }
         ensures front { IfSome result (λ s. s.place ≡ 0) }
     {
@@ -95,7 +95,7 @@ impl<K: Ord, V> Arenas<K, V> {
             match self.leaves.get(at) {
                 Some(leaf) => {
                     if leaf.len() > 0 {
-                        return Some(Spot { leaf, at, place: 0 });
+                        return Some(Position { leaf, at, place: 0 });
                     }
                     next = leaf.next;
                 },
@@ -106,11 +106,11 @@ impl<K: Ord, V> Arenas<K, V> {
     }
 
     /// The last pair of the leaf with this number and those before it.
-    pub(crate) fn last_from(&self, from: Option<usize>) -> Option<Spot<'_, K, V>>
+    pub(crate) fn last_from(&self, from: Option<usize>) -> Option<Position<'_, K, V>>
         requires sound { IsSound K.cmp self.now }
         requires own { IsOwn self.now from }
         ensures none { IfNone result (ends_at self.now from ≡ 0) }
-        ensures spot { IfSome result (λ s. IsSpot self.now s) }
+        ensures spot { IfSome result (λ s. IsPosition self.now s) }
         ensures there { IfSome result (λ s. position self.now s + 1 ≡ ends_at self.now from) }
     {
         let mut prev = from;
@@ -119,7 +119,7 @@ impl<K: Ord, V> Arenas<K, V> {
                 Some(leaf) => {
                     let len = leaf.len();
                     if len > 0 {
-                        return Some(Spot {
+                        return Some(Position {
                             leaf,
                             at,
                             place: len - 1,
@@ -135,16 +135,16 @@ impl<K: Ord, V> Arenas<K, V> {
 
     /// The pair behind one.
     #[inline(always)]
-    pub(crate) fn behind<'t>(&'t self, spot: Spot<'t, K, V>) -> Option<Spot<'t, K, V>>
+    pub(crate) fn behind<'t>(&'t self, spot: Position<'t, K, V>) -> Option<Position<'t, K, V>>
         requires sound { IsSound K.cmp self.now }
-        requires spot { IsSpot self.now spot }
+        requires spot { IsPosition self.now spot }
         ensures none { IfNone result (position self.now spot.entry + 1 ≡ length (pairs_of self.now)) }
-        ensures spot { IfSome result (λ s. IsSpot self.now s) }
+        ensures spot { IfSome result (λ s. IsPosition self.now s) }
         ensures there { IfSome result (λ s. position self.now s ≡ position self.now spot.entry + 1) }
     {
         let len = spot.leaf.len();
         if spot.place + 1 < len {
-            return Some(Spot {
+            return Some(Position {
                 leaf: spot.leaf,
                 at: spot.at,
                 place: spot.place + 1,
@@ -152,7 +152,7 @@ impl<K: Ord, V> Arenas<K, V> {
         }
         match self.first_from(spot.leaf.next) {
             // The place is written out, so that a caller knows it beforehand.
-            Some(first) => Some(Spot {
+            Some(first) => Some(Position {
                 leaf: first.leaf,
                 at: first.at,
                 place: 0,
@@ -165,11 +165,11 @@ impl<K: Ord, V> Arenas<K, V> {
     #[inline(always)]
     pub(crate) fn beside<'t>(
         &'t self,
-        spot: Spot<'t, K, V>,
-    ) -> Option<(Spot<'t, K, V>, (&'t K, &'t V))>
+        spot: Position<'t, K, V>,
+    ) -> Option<(Position<'t, K, V>, (&'t K, &'t V))>
         requires sound { IsSound K.cmp self.now }
-        requires spot { IsSpot self.now spot }
-        ensures spot { IfSome result (λ n. IsSpot self.now n.0) }
+        requires spot { IsPosition self.now spot }
+        ensures spot { IfSome result (λ n. IsPosition self.now n.0) }
         ensures there { IfSome result (λ n. position self.now n.0 ≡ position self.now spot.entry + 1) }
         ensures pair { IfSome result (λ n. slice_get n.0.leaf.now.array.pairs n.0.place ≡ Some (n.1.0.now, n.1.1.now)) }
     {
@@ -177,7 +177,7 @@ impl<K: Ord, V> Arenas<K, V> {
         let place = spot.place + 1;
         match spot.leaf.array.pair(place) {
             Some(pair) => Some((
-                Spot {
+                Position {
                     leaf: spot.leaf,
                     at: spot.at,
                     place,
@@ -190,15 +190,15 @@ impl<K: Ord, V> Arenas<K, V> {
 
     /// The pair before one.
     #[inline(always)]
-    pub(crate) fn before<'t>(&'t self, spot: Spot<'t, K, V>) -> Option<Spot<'t, K, V>>
+    pub(crate) fn before<'t>(&'t self, spot: Position<'t, K, V>) -> Option<Position<'t, K, V>>
         requires sound { IsSound K.cmp self.now }
         requires gap { IsGap self.now spot }
         ensures none { IfNone result (position self.now spot.entry ≡ 0) }
-        ensures spot { IfSome result (λ s. IsSpot self.now s) }
+        ensures spot { IfSome result (λ s. IsPosition self.now s) }
         ensures there { IfSome result (λ s. position self.now s + 1 ≡ position self.now spot.entry) }
     {
         if spot.place > 0 {
-            return Some(Spot {
+            return Some(Position {
                 leaf: spot.leaf,
                 at: spot.at,
                 place: spot.place - 1,
@@ -208,11 +208,11 @@ impl<K: Ord, V> Arenas<K, V> {
     }
 
     /// The pair at a place of a leaf, or the first one behind it.
-    pub(crate) fn first_at<'t>(&'t self, gap: Spot<'t, K, V>) -> Option<Spot<'t, K, V>>
+    pub(crate) fn first_at<'t>(&'t self, gap: Position<'t, K, V>) -> Option<Position<'t, K, V>>
         requires sound { IsSound K.cmp self.now }
         requires gap { IsGap self.now gap }
         ensures none { IfNone result (position self.now gap.entry ≡ length (pairs_of self.now)) }
-        ensures spot { IfSome result (λ s. IsSpot self.now s) }
+        ensures spot { IfSome result (λ s. IsPosition self.now s) }
         ensures there { IfSome result (λ s. position self.now s ≡ position self.now gap.entry) }
     {
         if gap.place < gap.leaf.len() {
@@ -223,7 +223,7 @@ impl<K: Ord, V> Arenas<K, V> {
 
     /// The place in the leaf on the way to a key behind all pairs with a lesser key, and where it is
     /// asked for behind the one with the key too. It may be behind the last pair of the leaf.
-    pub(crate) fn gap(&self, key: &K, beyond: bool) -> Option<Spot<'_, K, V>>
+    pub(crate) fn gap(&self, key: &K, beyond: bool) -> Option<Position<'_, K, V>>
         requires { IsSound K.cmp self.now }
         ensures none { IfNone result (pairs_of self.now ≡ []) }
         ensures gap { IfSome result (λ s. IsGap self.now s) }
@@ -231,7 +231,7 @@ impl<K: Ord, V> Arenas<K, V> {
     {
         let at = self.leaf_of(key);
         match self.leaves.get(at) {
-            Some(leaf) => Some(Spot {
+            Some(leaf) => Some(Position {
                 leaf,
                 at,
                 place: leaf.gap(key, beyond),
@@ -241,10 +241,10 @@ impl<K: Ord, V> Arenas<K, V> {
     }
 
     /// The first pair whose key isn't less than a key, or where it is asked `beyond` the key, is greater.
-    fn first_past(&self, key: &K, beyond: bool) -> Option<Spot<'_, K, V>>
+    fn first_past(&self, key: &K, beyond: bool) -> Option<Position<'_, K, V>>
         requires { IsSound K.cmp self.now }
         ensures none { IfNone result (before_start K.cmp (cond beyond (Excluded key.now) (Included key.now)) (pairs_of self.now) ≡ length (pairs_of self.now)) }
-        ensures spot { IfSome result (λ s. IsSpot self.now s) }
+        ensures spot { IfSome result (λ s. IsPosition self.now s) }
         ensures there { IfSome result (λ s. position self.now s ≡ before_start K.cmp (cond beyond (Excluded key.now) (Included key.now)) (pairs_of self.now)) }
     {
         match self.gap(key, beyond) {
@@ -254,10 +254,10 @@ impl<K: Ord, V> Arenas<K, V> {
     }
 
     /// The last pair whose key is less than a key, or where it is asked `beyond` the key, isn't greater.
-    fn last_up_to(&self, key: &K, beyond: bool) -> Option<Spot<'_, K, V>>
+    fn last_up_to(&self, key: &K, beyond: bool) -> Option<Position<'_, K, V>>
         requires { IsSound K.cmp self.now }
         ensures none { IfNone result (before_start K.cmp (cond beyond (Excluded key.now) (Included key.now)) (pairs_of self.now) ≡ 0) }
-        ensures spot { IfSome result (λ s. IsSpot self.now s) }
+        ensures spot { IfSome result (λ s. IsPosition self.now s) }
         ensures there { IfSome result (λ s. position self.now s + 1 ≡ before_start K.cmp (cond beyond (Excluded key.now) (Included key.now)) (pairs_of self.now)) }
     {
         match self.gap(key, beyond) {
@@ -268,10 +268,10 @@ impl<K: Ord, V> Arenas<K, V> {
 
     /// The first pair within a lower bound.
     #[inline(never)]
-    pub(crate) fn first_within(&self, lower: Bound<&K>) -> Option<Spot<'_, K, V>>
+    pub(crate) fn first_within(&self, lower: Bound<&K>) -> Option<Position<'_, K, V>>
         requires { IsSound K.cmp self.now }
         ensures none { IfNone result (before_start K.cmp (bound_map (λ k. k.now) lower.entry) (pairs_of self.now) ≡ length (pairs_of self.now)) }
-        ensures spot { IfSome result (λ s. IsSpot self.now s) }
+        ensures spot { IfSome result (λ s. IsPosition self.now s) }
         ensures there { IfSome result (λ s. position self.now s ≡ before_start K.cmp (bound_map (λ k. k.now) lower.entry) (pairs_of self.now)) }
     {
         match lower {
@@ -282,10 +282,10 @@ impl<K: Ord, V> Arenas<K, V> {
     }
 
     /// The last pair within an upper bound.
-    pub(crate) fn last_within(&self, upper: Bound<&K>) -> Option<Spot<'_, K, V>>
+    pub(crate) fn last_within(&self, upper: Bound<&K>) -> Option<Position<'_, K, V>>
         requires { IsSound K.cmp self.now }
         ensures none { IfNone result (up_to_end K.cmp (bound_map (λ k. k.now) upper.entry) (pairs_of self.now) ≡ 0) }
-        ensures spot { IfSome result (λ s. IsSpot self.now s) }
+        ensures spot { IfSome result (λ s. IsPosition self.now s) }
         ensures there { IfSome result (λ s. position self.now s + 1 ≡ up_to_end K.cmp (bound_map (λ k. k.now) upper.entry) (pairs_of self.now)) }
     {
         match upper {

@@ -13,14 +13,14 @@ use Rattle.sdd_base.specs.declared.sizes.Sizes.{Sizes}
 use Rattle.sdd_base.specs.declared.status.Cell.{Cell}
 use Rattle.sdd_base.specs.declared.status.Cell.TheVariants as cell
 use Rattle.sdd_base.specs.declared.status.Status.TheVariants as status
-use Rattle.sdd_base.proofs.Counts.{owners_are_counted}
-use Rattle.sdd_base.proofs.Places.{get_or-replicate_default}
+use Rattle.sdd_base.proofs.CountLemmas.{owners_are_counted}
+use Rattle.sdd_base.proofs.PlaceLemmas.{get_or-replicate_default}
 use Rattle.versions.specs.Items.{held_by, slots_of}
 use Rattle.versions.specs.Placing.{CanBeShared, HasVersion, IsLevelled, Places, Plan}
 use Rattle.versions.specs.declared.directory.Directory.{Directory}
 use Rattle.versions.specs.declared.item.Item.{Item}
 use Rattle.versions.specs.declared.item.Item.TheVariants as items
-use Rattle.versions.proofs.Sharing.{segments_can_be_shared}
+use Rattle.versions.proofs.SharingLemmas.{segments_can_be_shared}
 
 module _ {K V : Type 0} {s : ℕ} where
   -- these owners are in hand, and there are at most n slots and cells

@@ -11,7 +11,7 @@ use std::ops::Bound;
 use std::process::Abort;
 use std::test::Fail;
 use tree_index::TreeIndex;
-use versions::draft::{Old, Part, Segments, drafted};
+use versions::draft::{BaseVersion, Part, Segments, drafted};
 use versions::{Reply, Write, plain};
 
 // A version that is kept as a list of trees, whose names are their places.
@@ -21,7 +21,7 @@ struct Kept {
     separators: Vec<u64>,
 }
 
-impl Old<u64, u64, usize> for Kept {
+impl BaseVersion<u64, u64, usize> for Kept {
     ghost blocks = { λ k. map (λ t. t.pairs) k.trees.items };
 
     ghost separators = { λ k. k.separators.items };

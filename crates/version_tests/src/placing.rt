@@ -40,8 +40,8 @@ fn upserts(alloc: Global, keys: &[u64]) -> Result<Vec<Write<u64, u64>>, AllocErr
 
 // Accelerated guards of participant 0, one by one. Owners stay counted.
 fn passes(w: &mut World<Two, NoJob>, n: usize)
-    requires { 0 < length w.old.members }
-    ensures members { 0 < length w.new.members }
+    requires { 0 < length w.old.participants }
+    ensures participants { 0 < length w.new.participants }
     ensures counted { (hand : List Hold) → Counted held_by hand w.old → Counted held_by hand w.new }
 {
     for _ in 0..n {

@@ -190,8 +190,8 @@ fn left(state: &State) -> usize {
 
 // An accelerated guard of the writer, and the epoch that it finds. Owners stay counted, and the reader's guard open.
 fn pass<R: Abort>(rt: &R, w: &mut World<Two, NoJob>) -> Epoch
-    requires { 1 < length w.old.members }
-    ensures members { 1 < length w.new.members }
+    requires { 1 < length w.old.participants }
+    ensures participants { 1 < length w.new.participants }
     ensures reader { IsOpen w.old 0 → IsOpen w.new 0 }
     ensures counted { (hand : List Hold) → Counted held_by hand w.old → Counted held_by hand w.new }
 {
@@ -254,8 +254,8 @@ fn play<R: Abort>(
     turns: &[Turn],
     known: Option<&Known>,
 ) -> State
-    requires { 1 < length w.old.members }
-    ensures members { 1 < length w.new.members }
+    requires { 1 < length w.old.participants }
+    ensures participants { 1 < length w.new.participants }
     ensures reader { IsOpen w.old 0 → IsOpen w.new 0 }
     ensures counted { (hand : List Hold) → Counted held_by hand w.old → Counted held_by hand w.new }
 {
@@ -304,7 +304,7 @@ fn placed<R: Abort>(rt: &R, made: Result<Shared<Two>, Built<u64, u64, 2>>) -> Sh
 }
 
 fn begin<R: Abort>(rt: &R, alloc: Global) -> Begun
-    ensures members { 1 < length result.w.members }
+    ensures participants { 1 < length result.w.participants }
     ensures counted { Counted held_by (SharedIn (shared_cell result.root) ∷ SharedItem (shared_slot result.second) ∷ []) result.w }
 {
     let sizes = Sizes {
@@ -357,9 +357,9 @@ fn replace(
     second: Shared<Two>,
     reading: &WorldGuard,
 ) -> Ptr<'static, Two>
-    requires members { 1 < length w.old.members }
+    requires participants { 1 < length w.old.participants }
     requires counted { Counted held_by (SharedIn (shared_cell root.now) ∷ SharedItem (shared_slot second) ∷ []) w.old }
-    ensures members { 1 < length w.new.members }
+    ensures participants { 1 < length w.new.participants }
     ensures reader { IsOpen w.old 0 → IsOpen w.new 0 }
     ensures counted { Counted held_by (SharedIn (shared_cell root.now) ∷ []) w.new }
 {
@@ -379,9 +379,9 @@ fn begin_reading<R: Abort>(
     w: &mut World<Two, NoJob>,
     root: &AtomicShared<Two>,
 ) -> (WorldGuard, Ptr<'static, Two>)
-    requires members { 1 < length w.old.members }
+    requires participants { 1 < length w.old.participants }
     requires root { (hand : List Hold) × Counted held_by (SharedIn (shared_cell root.now) ∷ hand) w.old }
-    ensures members { 1 < length w.new.members }
+    ensures participants { 1 < length w.new.participants }
     ensures reader { IsOpen w.new 0 }
     ensures guard { participant_of result.0 ≡ 0 }
     ensures counted { (hand : List Hold) → Counted held_by hand w.old → Counted held_by hand w.new }
@@ -398,10 +398,10 @@ fn begin_reading<R: Abort>(
 
 // The reader's guard closes.
 fn end_reading(w: &mut World<Two, NoJob>, reading: WorldGuard)
-    requires members { 1 < length w.old.members }
+    requires participants { 1 < length w.old.participants }
     requires reader { IsOpen w.old 0 }
     requires guard { participant_of reading ≡ 0 }
-    ensures members { 1 < length w.new.members }
+    ensures participants { 1 < length w.new.participants }
     ensures counted { (hand : List Hold) → Counted held_by hand w.old → Counted held_by hand w.new }
 {
     guard::close(w, reading);
@@ -418,7 +418,7 @@ fn read(w: &World<Two, NoJob>, at: &Ptr<'static, Two>) -> Option<(u64, usize)> {
 
 // Ends the place.
 fn end<R: Abort>(rt: &R, mut w: World<Two, NoJob>, root: AtomicShared<Two>)
-    requires members { 1 < length w.members }
+    requires participants { 1 < length w.participants }
     requires counted { Counted held_by (SharedIn (shared_cell root) ∷ []) w }
 {
     atomic_shared::retire(&mut w, root, WRITER);

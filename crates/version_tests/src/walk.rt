@@ -28,7 +28,7 @@ struct Held<const S: usize> {
 
 fn prepared<R: Abort, const S: usize>(rt: &R, alloc: Global, pairs: &[(u64, u64)]) -> Held<S>
     requires { (1 ≤ S) × (S ≤ 225) }
-    ensures members { 0 < length result.w.members }
+    ensures participants { 0 < length result.w.participants }
     ensures shared { IsShared result.w (shared_slot result.root) }
     ensures version { (n : ℕ) × (ps : List (ℕ × ℕ)) × HasVersion nat_cmp result.w (shared_slot result.root) n ps }
     ensures counted { Counted held_by (SharedItem (shared_slot result.root) ∷ SharedItem (shared_slot result.none) ∷ []) result.w }
@@ -71,7 +71,7 @@ fn upserts<R: Abort>(rt: &R, alloc: Global, pairs: &[(u64, u64)]) -> Vec<Write<u
 
 // Gives both versions back, and ends the place.
 fn end<R: Abort, const S: usize>(rt: &R, held: Held<S>)
-    requires members { 0 < length held.w.members }
+    requires participants { 0 < length held.w.participants }
     requires counted { Counted held_by (SharedItem (shared_slot held.root) ∷ SharedItem (shared_slot held.none) ∷ []) held.w }
 {
     let Held { mut w, none, root } = held;

@@ -6,12 +6,12 @@ use Rattle.sdd_base.specs.Tokens.{kept_slot}
 use Rattle.sdd_base.specs.declared.owner.Kept.{Kept}
 use Rattle.versions.specs.Cuts.{IsCut, IsSeparated, greatest_key, pairs_in}
 use Rattle.versions.specs.Items.{owners_of}
-use Rattle.versions.specs.Seeking.{IsOrdered}
+use Rattle.versions.specs.SeparatorSearch.{IsOrdered}
 use Rattle.versions.specs.Versions.{IsSegment, IsVersion, blocks_of, pairs_of}
 use Rattle.versions.specs.Views.{IsView, blocks_at}
 use Rattle.versions.specs.declared.directory.Directory.{Directory}
 use Rattle.versions.specs.declared.item.Item.{Item}
-use Rattle.versions.proofs.Filters.{rising_none}
+use Rattle.versions.proofs.FilterLemmas.{rising_none}
 
 pub take_all : {X : Type 0} (xs : List X) (n : ℕ) → length xs ≤ n → take n xs ≡ xs
 take_all [] zero h = refl

@@ -16,14 +16,14 @@ use Rattle.std.specs.declared.ops.Bound.{Bound}
 use Rattle.std.specs.declared.ops.Bound.TheVariants.{Unbounded}
 use Rattle.tree_index.specs.declared.cursor.End.{End}
 use Rattle.tree_index.specs.declared.cursor.End.TheVariants.{Unopened, At, Done}
-use Rattle.tree_index.specs.Cursor.{Cursor, whole, forth, back, before_start, up_to_end, kept_above, kept_below, lies_before, moved_back, moved_forth, next_back_of, next_of, pair_at, referred, shown, shown_back}
+use Rattle.tree_index.specs.Cursor.{Cursor, whole, forth, back, before_start, up_to_end, kept_above, kept_below, lies_before, moved_back, moved_forth, next_back_of, next_of, pair_at, deref_pair, shown, shown_back}
 use Rattle.versions.specs.Cuts.{pairs_in}
 use Rattle.versions.specs.CursorEnds.{fore_place, further, pairs_before, rear_place, AreRising, IsFore, IsForeAt, IsPairAt, IsRear, IsRearAt}
 use Rattle.versions.specs.declared.read.position.CursorEnd.TheVariants as cursor_ends
 use Rattle.versions.specs.declared.read.position.Position.{Position}
-use Rattle.versions.proofs.Places.{next_before, pair_in, place_inside_all}
-use Rattle.versions.proofs.Seeking.{get_some, inside_of}
-use Rattle.versions.proofs.Streams.{above_all, kept_all}
+use Rattle.versions.proofs.PlaceLemmas.{next_before, pair_in, place_inside_all}
+use Rattle.versions.proofs.SeparatorSearchLemmas.{get_some, inside_of}
+use Rattle.versions.proofs.ChangeScanLemmas.{above_all, kept_all}
 
 module _ {X : Type 0} (a b : ℕ) (x y : X) where
   pub on_less : a < b → cond (nat_lt a b) x y ≡ x
@@ -102,25 +102,25 @@ module _ {K V : Type 0} (cmp : K → K → Ordering) where
         })
 
     module _ (r : Option (Bor K × Bor V)) where
-      pub found_fore : (lower : Bound K) → n ≡ pairs_before blocks i + before_start cmp lower b → referred r ≡ next_of cmp (from_bound lower b) → (pair : Bor K × Bor V) → r ≡ Some pair → (c : Cursor K V) → c ≡ whole b (forth cmp lower b Unopened) Unopened → IsForeAt blocks n (record { segment = i; cursor = c }) × IsPairAt blocks n pair
+      pub found_fore : (lower : Bound K) → n ≡ pairs_before blocks i + before_start cmp lower b → deref_pair r ≡ next_of cmp (from_bound lower b) → (pair : Bor K × Bor V) → r ≡ Some pair → (c : Cursor K V) → c ≡ whole b (forth cmp lower b Unopened) Unopened → IsForeAt blocks n (record { segment = i; cursor = c }) × IsPairAt blocks n pair
       found_fore lower starts answer pair is c e =
-          let told : Some (pair.0.now, pair.1.now) ≡ next_of cmp (from_bound lower b) = sym (ap referred is) ∙ answer in
+          let told : Some (pair.0.now, pair.1.now) ≡ next_of cmp (from_bound lower b) = sym (ap deref_pair is) ∙ answer in
           elim (first_step lower b) [
             | inl d ↦ (fore_at (before_start cmp lower b) c (e ∙ ap (λ f. whole b f Unopened) d.1) d.0 starts, ap (slice_get (pairs_in blocks)) starts ∙ pair_in blocks i b here (before_start cmp lower b) d.0 ∙ sym (told ∙ d.2))
             | inr d ↦ absurd (some_none (told ∙ d.1))
           ]
 
-      pub none_fore : (lower : Bound K) → referred r ≡ next_of cmp (from_bound lower b) → r ≡ None → length b ≤ before_start cmp lower b
+      pub none_fore : (lower : Bound K) → deref_pair r ≡ next_of cmp (from_bound lower b) → r ≡ None → length b ≤ before_start cmp lower b
       none_fore lower answer is = elim (first_step lower b) [
         | inl d ↦
             let x = get_some b (before_start cmp lower b) d.0 in
-            absurd (some_none (sym (sym (ap referred is) ∙ answer ∙ d.2 ∙ x.1)))
+            absurd (some_none (sym (sym (ap deref_pair is) ∙ answer ∙ d.2 ∙ x.1)))
         | inr d ↦ d.0
       ]
 
-      pub found_rear : (upper : Bound K) → n ≡ pairs_before blocks i + up_to_end cmp upper b → referred r ≡ next_back_of cmp (upto_bound upper b) → (pair : Bor K × Bor V) → r ≡ Some pair → (c : Cursor K V) → c ≡ whole b Unopened (back cmp upper b Unopened) → IsRearAt blocks n (record { segment = i; cursor = c }) × IsPairAt blocks (n - 1) pair
+      pub found_rear : (upper : Bound K) → n ≡ pairs_before blocks i + up_to_end cmp upper b → deref_pair r ≡ next_back_of cmp (upto_bound upper b) → (pair : Bor K × Bor V) → r ≡ Some pair → (c : Cursor K V) → c ≡ whole b Unopened (back cmp upper b Unopened) → IsRearAt blocks n (record { segment = i; cursor = c }) × IsPairAt blocks (n - 1) pair
       found_rear upper ends answer pair is c e =
-          let told : Some (pair.0.now, pair.1.now) ≡ next_back_of cmp (upto_bound upper b) = sym (ap referred is) ∙ answer in
+          let told : Some (pair.0.now, pair.1.now) ≡ next_back_of cmp (upto_bound upper b) = sym (ap deref_pair is) ∙ answer in
           let last = up_to_end cmp upper b in
           elim (last_step upper b) [
             | inl d ↦
@@ -130,12 +130,12 @@ module _ {K V : Type 0} (cmp : K → K → Ordering) where
             | inr d ↦ absurd (some_none (told ∙ d.1))
           ]
 
-      pub none_rear : (upper : Bound K) → referred r ≡ next_back_of cmp (upto_bound upper b) → r ≡ None → up_to_end cmp upper b ≡ 0
+      pub none_rear : (upper : Bound K) → deref_pair r ≡ next_back_of cmp (upto_bound upper b) → r ≡ None → up_to_end cmp upper b ≡ 0
       none_rear upper answer is = elim (last_step upper b) [
         | inl d ↦
             let most = end_all upper b in
             let x = get_some b (up_to_end cmp upper b - 1) (omega (arith, d.0, most)) in
-            absurd (some_none (sym (sym (ap referred is) ∙ answer ∙ d.2 ∙ x.1)))
+            absurd (some_none (sym (sym (ap deref_pair is) ∙ answer ∙ d.2 ∙ x.1)))
         | inr d ↦ d.0
       ]
 
@@ -231,27 +231,27 @@ module _ {K V : Type 0} (cmp : K → K → Ordering) (blocks : List (List (K × 
 
 module _ {K V : Type 0} (cmp : K → K → Ordering) (blocks : List (List (K × V))) (s t : Position K V) (same : t.segment ≡ s.segment) (r : Option (Bor K × Bor V)) where
   -- a step that gives a pair stays in its segment, and one that gives none leaves it
-  pub stays_fore : IsFore blocks s → t.cursor ≡ moved_forth cmp s.cursor → referred r ≡ shown cmp t.cursor → (pair : Bor K × Bor V) → r ≡ Some pair → IsForeStep cmp blocks s t
+  pub stays_fore : IsFore blocks s → t.cursor ≡ moved_forth cmp s.cursor → deref_pair r ≡ shown cmp t.cursor → (pair : Bor K × Bor V) → r ≡ Some pair → IsForeStep cmp blocks s t
   stays_fore h e answer pair is = elim (stepped_fore cmp blocks s t same h e) [
     | inl d ↦ d
-    | inr d ↦ absurd (some_none (sym (ap referred is) ∙ answer ∙ d.0))
+    | inr d ↦ absurd (some_none (sym (ap deref_pair is) ∙ answer ∙ d.0))
   ]
 
-  pub leaves_fore : (h : IsFore blocks s) → t.cursor ≡ moved_forth cmp s.cursor → referred r ≡ shown cmp t.cursor → r ≡ None → pairs_before blocks (t.segment + 1) ≡ pairs_before blocks s.segment + h.place + 1
+  pub leaves_fore : (h : IsFore blocks s) → t.cursor ≡ moved_forth cmp s.cursor → deref_pair r ≡ shown cmp t.cursor → r ≡ None → pairs_before blocks (t.segment + 1) ≡ pairs_before blocks s.segment + h.place + 1
   leaves_fore h e answer is = elim (stepped_fore cmp blocks s t same h e) [
-    | inl d ↦ absurd (fore_shown cmp blocks t d.stands (sym answer ∙ ap referred is))
+    | inl d ↦ absurd (fore_shown cmp blocks t d.stands (sym answer ∙ ap deref_pair is))
     | inr d ↦ ap (λ i. pairs_before blocks (i + 1)) same ∙ d.1
   ]
 
-  pub stays_rear : IsRear blocks s → t.cursor ≡ moved_back cmp s.cursor → referred r ≡ shown_back cmp t.cursor → (pair : Bor K × Bor V) → r ≡ Some pair → IsRearStep cmp blocks s t
+  pub stays_rear : IsRear blocks s → t.cursor ≡ moved_back cmp s.cursor → deref_pair r ≡ shown_back cmp t.cursor → (pair : Bor K × Bor V) → r ≡ Some pair → IsRearStep cmp blocks s t
   stays_rear h e answer pair is = elim (stepped_rear cmp blocks s t same h e) [
     | inl d ↦ d
-    | inr d ↦ absurd (some_none (sym (ap referred is) ∙ answer ∙ d.0))
+    | inr d ↦ absurd (some_none (sym (ap deref_pair is) ∙ answer ∙ d.0))
   ]
 
-  pub leaves_rear : (h : IsRear blocks s) → t.cursor ≡ moved_back cmp s.cursor → referred r ≡ shown_back cmp t.cursor → r ≡ None → pairs_before blocks t.segment ≡ pairs_before blocks s.segment + h.place
+  pub leaves_rear : (h : IsRear blocks s) → t.cursor ≡ moved_back cmp s.cursor → deref_pair r ≡ shown_back cmp t.cursor → r ≡ None → pairs_before blocks t.segment ≡ pairs_before blocks s.segment + h.place
   leaves_rear h e answer is = elim (stepped_rear cmp blocks s t same h e) [
-    | inl d ↦ absurd (rear_shown cmp blocks t d.stands (sym answer ∙ ap referred is))
+    | inl d ↦ absurd (rear_shown cmp blocks t d.stands (sym answer ∙ ap deref_pair is))
     | inr d ↦ ap (pairs_before blocks) same ∙ omega (arith, d.1)
   ]
 

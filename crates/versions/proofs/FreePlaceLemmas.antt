@@ -4,7 +4,7 @@ use Rattle.std.specs.Global.{Vec}
 use Rattle.std.specs.List.{All}
 use Rattle.std.specs.Vec.{vec_capacity}
 use Rattle.sdd_base.specs.View.{IsStack, Lists}
-use Rattle.sdd_base.proofs.Lists.{lists_names, lists_none, lists_pop, lists_push}
+use Rattle.sdd_base.proofs.ListLemmas.{lists_names, lists_none, lists_pop, lists_push}
 use Rattle.versions.specs.Store.{gap}
 
 pub gap-one : {X : Type 0} (x : Option X) → gap x ≤ 1

@@ -4,30 +4,30 @@ use Rattle.std.proofs.lemmas.Bool.Decides.{eqb_tells}
 use Rattle.std.proofs.lemmas.List.{length-map}
 use Rattle.std.specs.List.{All}
 use Rattle.std.specs.declared.cmp.Ordering.{Ordering}
-use Rattle.sdd_base.specs.Frame.{Keeps, OnlyOf}
+use Rattle.sdd_base.specs.Frame.{Frame, OnlyParticipant}
 use Rattle.sdd_base.specs.Holding.{SharedIn}
 use Rattle.sdd_base.specs.Passing.{CanPass, accelerated, is_plain, passed, passed_times, slot_kept}
 use Rattle.sdd_base.specs.Place.{IsOpen, IsPlace}
-use Rattle.sdd_base.specs.State.{Member, State, cell_at, in_use, marks_at, usage, value_at}
+use Rattle.sdd_base.specs.State.{ParticipantState, State, cell_at, in_use, local_at, usage, value_at}
 use Rattle.sdd_base.specs.Steps.{opened}
 use Rattle.sdd_base.specs.declared.status.Cell.{Cell}
 use Rattle.sdd_base.specs.declared.status.Cell.TheVariants as cell
-use Rattle.sdd_base.specs.declared.status.Marks.{Marks}
+use Rattle.sdd_base.specs.declared.status.LocalState.{LocalState}
 use Rattle.sdd_base.specs.declared.status.Status.{Status}
 use Rattle.sdd_base.specs.declared.status.Status.TheVariants as status
 use Rattle.sdd_base.specs.declared.tag.Tag.TheVariants as tag
-use Rattle.sdd_base.proofs.Frames.{keeps_closed, keeps_marks, nests_marks, only_marks}
-use Rattle.sdd_base.proofs.Places.{place_closed, place_marks}
-use Rattle.sdd_base.proofs.Quiets.{gives_only}
+use Rattle.sdd_base.proofs.FrameLemmas.{keeps_closed, keeps_local, nests_local, only_local}
+use Rattle.sdd_base.proofs.PlaceLemmas.{place_closed, place_local}
+use Rattle.sdd_base.proofs.IdleParticipantLemmas.{gives_only}
 use Rattle.versions.specs.Items.{held_by, slots_of}
 use Rattle.versions.specs.Reclaiming.{IsRooted}
 use Rattle.versions.specs.Versions.{blocks_of, pairs_of}
-use Rattle.versions.proofs.Blocks.{blocks_fit}
+use Rattle.versions.proofs.BlockListLemmas.{blocks_fit}
 use Rattle.versions.specs.declared.item.Item.{Item}
 use Rattle.versions.specs.Sizes.{room_for}
 use Rattle.versions.specs.Store.{IsReader, IsStore, Store, Version, store_of, version_in}
 use Rattle.versions.specs.declared.store.readers.Opened.{Opened}
-use Rattle.versions.proofs.Reclaiming.{counted_passed, levelled_after, passes_leave_one}
+use Rattle.versions.proofs.ReclaimLemmas.{counted_passed, levelled_after, passes_leave_one}
 use Rattle.versions.proofs.StoreLemmas.{Moves, opened_cell, opened_moves, opened_nesting, present_shows, root_stays, store_moved, version_is, writer_closed, writer_known, writer_reads, writer_shows}
 
 module _ {K V : Type 0} {s : ℕ} (cmp : K → K → Ordering) where
@@ -39,8 +39,8 @@ module _ {K V : Type 0} {s : ℕ} (cmp : K → K → Ordering) where
     abbrev o : State (Item K V s)
     o = opened held_by p w
 
-    abbrev fast : Marks
-    fast = record (marks_at o p) { accelerated = true }
+    abbrev fast : LocalState
+    fast = record (local_at o p) { accelerated = true }
 
     abbrev a : State (Item K V s)
     a = accelerated p o
@@ -48,53 +48,53 @@ module _ {K V : Type 0} {s : ℕ} (cmp : K → K → Ordering) where
     abbrev c : State (Item K V s)
     c = passed held_by p w
 
-    known : p < length w.members
+    known : p < length w.participants
     known = writer_known cmp w root places store
 
     first : Moves cmp p root w o
     first = opened_moves cmp w root places store p known
 
-    known_opened : p < length o.members
-    known_opened = let same = first.keeps.members in let inside = known in omega (arith, same, inside)
+    known_opened : p < length o.participants
+    known_opened = let same = first.keeps.participants in let inside = known in omega (arith, same, inside)
 
-    open_once : (marks_at o p).nesting ≡ 1
+    open_once : (local_at o p).nesting ≡ 1
     open_once = let more = opened_nesting cmp w root places store p known in let none = writer_closed cmp w root places store in omega (arith, more, none)
 
-    keeps_fast : Keeps o a
-    keeps_fast = keeps_marks o p fast known_opened (λ h. refl) (omega arith)
+    keeps_fast : Frame o a
+    keeps_fast = keeps_local o p fast known_opened (λ h. refl) (omega arith)
 
     place_fast : IsPlace a
-    place_fast = place_marks o p fast first.place known_opened (record { past = first.place.past p; began = first.place.began p; near = first.place.near p })
+    place_fast = place_local o p fast first.place known_opened (record { past = first.place.past p; began = first.place.began p; near = first.place.near p })
 
-    known_fast : p < length a.members
-    known_fast = let same = keeps_fast.members in let inside = known_opened in omega (arith, same, inside)
+    known_fast : p < length a.participants
+    known_fast = let same = keeps_fast.participants in let inside = known_opened in omega (arith, same, inside)
 
-    fast_once : (marks_at a p).nesting ≡ 1
-    fast_once = nests_marks o p fast known_opened refl p ∙ open_once
+    fast_once : (local_at a p).nesting ≡ 1
+    fast_once = nests_local o p fast known_opened refl p ∙ open_once
 
     fast_open : IsOpen a p
     fast_open = let once = fast_once in omega (arith, once)
 
-    last_keeps : Keeps a c × OnlyOf p a c
+    last_keeps : Frame a c × OnlyParticipant p a c
     last_keeps = keeps_closed a p known_fast
 
-    same_items : (c.values ≡ o.values) × (c.states ≡ o.states) × (c.cells ≡ o.cells) × ((marks_at c p).nesting ≡ (marks_at a p).nesting - 1)
+    same_items : (c.values ≡ o.values) × (c.states ≡ o.states) × (c.cells ≡ o.cells) × ((local_at c p).nesting ≡ (local_at a p).nesting - 1)
     same_items = (gives_only held_by).closing p a known_fast
 
-    only_pass : OnlyOf p w c
-    only_pass k ne = last_keeps.1 k ne ∙ only_marks o p fast k ne ∙ first.only k ne
+    only_pass : OnlyParticipant p w c
+    only_pass k ne = last_keeps.1 k ne ∙ only_local o p fast k ne ∙ first.only k ne
 
-    keeps_pass : Keeps w c
+    keeps_pass : Frame w c
     keeps_pass = record {
       states = last_keeps.0.states ∙ keeps_fast.states ∙ first.keeps.states;
       cells = last_keeps.0.cells ∙ keeps_fast.cells ∙ first.keeps.cells;
-      members = last_keeps.0.members ∙ keeps_fast.members ∙ first.keeps.members;
+      participants = last_keeps.0.participants ∙ keeps_fast.participants ∙ first.keeps.participants;
       lives = λ i l. ap (λ (vs : List (Option (Item K V s))). get_or vs i None) same_items.0 ∙ first.keeps.lives i l;
       protects = λ q i before after held. elim (eqb_tells q p) [
-        | inl e ↦ let own : 0 < (marks_at w p).nesting = subst (λ (n : ℕ). 0 < (marks_at w n).nesting) e.1 before in let none = writer_closed cmp w root places store in absurd (omega (arith, own, none))
+        | inl e ↦ let own : 0 < (local_at w p).nesting = subst (λ (n : ℕ). 0 < (local_at w n).nesting) e.1 before in let none = writer_closed cmp w root places store in absurd (omega (arith, own, none))
         | inr ne ↦
-            let one : IsOpen o q = subst (λ (m : Member). 0 < m.marks.nesting) (sym (first.only q ne.1)) before in
-            let two : IsOpen a q = subst (λ (m : Member). 0 < m.marks.nesting) (sym (only_marks o p fast q ne.1)) one in
+            let one : IsOpen o q = subst (λ (m : ParticipantState). 0 < m.local.nesting) (sym (first.only q ne.1)) before in
+            let two : IsOpen a q = subst (λ (m : ParticipantState). 0 < m.local.nesting) (sym (only_local o p fast q ne.1)) one in
             let x = first.keeps.protects q i before one held in
             let y = keeps_fast.protects q i one two x.1 in
             let z = last_keeps.0.protects q i two after y.1 in
@@ -112,7 +112,7 @@ module _ {K V : Type 0} {s : ℕ} (cmp : K → K → Ordering) where
       levelled = levelled_after o c (λ j v e. sym (ap (λ (vs : List (Option (Item K V s))). get_or vs j None) same_items.0) ∙ e) first.levelled;
     }
 
-    pass_closed : (marks_at c p).nesting ≡ 0
+    pass_closed : (local_at c p).nesting ≡ 0
     pass_closed = let less = same_items.3 in let once = fast_once in omega (arith, less, once)
 
     pass_named : cell_at c root ≡ cell_at w root
@@ -161,7 +161,7 @@ module _ {K V : Type 0} {s : ℕ} (cmp : K → K → Ordering) where
   none_at (o ∷ places) all (suc q) = none_at places (λ k d h. all (suc k) d (omega (arith, h))) q
 
   -- without readers no guard is open
-  pub none_reads : (w : State (Item K V s)) (root : ℕ) (places : List (Option (Opened K V s))) → IsStore cmp w root places → All (λ o. o ≡ None) places → (q : ℕ) → (marks_at w q).nesting ≡ 0
+  pub none_reads : (w : State (Item K V s)) (root : ℕ) (places : List (Option (Opened K V s))) → IsStore cmp w root places → All (λ o. o ≡ None) places → (q : ℕ) → (local_at w q).nesting ≡ 0
   none_reads w root places store all q = subst (λ (x : Option (Opened K V s)). IsReader cmp w q x) (none_at places all q) (store.readers q)
 
   -- and eight guards leave no more than the present version takes
@@ -188,14 +188,14 @@ module _ {K V : Type 0} {s : ℕ} (cmp : K → K → Ordering) where
     passing_store : IsStore cmp w root places
     passing_store = subst (λ (x : State (Item K V s)). IsStore cmp x root places) (sym (now ∙ ap (λ (q : ℕ). passed_times held_by q n start) is)) (reclaimed n start root places store).store
 
-    pub passing_known : p < length w.members
+    pub passing_known : p < length w.participants
     passing_known = let inside = writer_known cmp w root places passing_store in omega (arith, inside, is)
 
     pub passing_place : IsPlace w
     passing_place = let x = passing_store in x.place
 
-    pub passing_closed : (marks_at w p).nesting ≡ 0
-    passing_closed = ap (λ (q : ℕ). (marks_at w q).nesting) is ∙ writer_closed cmp w root places passing_store
+    pub passing_closed : (local_at w p).nesting ≡ 0
+    passing_closed = ap (λ (q : ℕ). (local_at w q).nesting) is ∙ writer_closed cmp w root places passing_store
 
     pub passing_next : (w3 : State (Item K V s)) → w3 ≡ passed held_by p w → w3 ≡ passed_times held_by p (n + 1) start
     passing_next w3 e = e ∙ ap (λ (x : State (Item K V s)). passed held_by p x) now ∙ sym (passed_more n p start) ∙ sym (ap (λ (k : ℕ). passed_times held_by p k start) (add-one n))

@@ -7,11 +7,11 @@ use Rattle.std.proofs.lemmas.List.Sums.{sum_by-cons}
 use Rattle.std.proofs.lemmas.List.Folds.{sum_by-replicate}
 use Rattle.std.specs.declared.cmp.Ordering.{Ordering}
 use Rattle.sdd_base.specs.Counting.{Counted}
-use Rattle.sdd_base.specs.Frame.{Keeps, OnlyOf, has_owner}
+use Rattle.sdd_base.specs.Frame.{Frame, OnlyParticipant, has_owner}
 use Rattle.sdd_base.specs.Holding.{SharedIn, SharedItem}
 use Rattle.sdd_base.specs.Passing.{IsPlain, Shrinks, is_plain, slot_kept}
 use Rattle.sdd_base.specs.Place.{IsPlace, IsShared, IsSharedCell}
-use Rattle.sdd_base.specs.State.{IsFreeCell, Member, State, cell_at, fresh, in_use, marks_at, member_at, nobody, status_at, usage, vacancy, value_at, with_cell}
+use Rattle.sdd_base.specs.State.{IsFreeCell, ParticipantState, State, cell_at, fresh, in_use, local_at, participant_at, nobody, status_at, usage, vacancy, value_at, with_cell}
 use Rattle.sdd_base.specs.Steps.{bags_empty, released, shared_ended, shared_ended_as}
 use Rattle.sdd_base.specs.declared.sizes.Sizes.{Sizes}
 use Rattle.sdd_base.specs.declared.status.Cell.{Cell}
@@ -20,19 +20,19 @@ use Rattle.sdd_base.specs.declared.status.Status.{Status}
 use Rattle.sdd_base.specs.declared.status.Status.TheVariants as status
 use Rattle.sdd_base.specs.declared.tag.Tag.{Tag}
 use Rattle.sdd_base.specs.declared.tag.Tag.TheVariants as tag
-use Rattle.sdd_base.proofs.Cells.{cells_released_as}
-use Rattle.sdd_base.proofs.Counts.{owners_are_counted}
-use Rattle.sdd_base.proofs.Places.{get_or-replicate_default, place_by}
-use Rattle.sdd_base.proofs.Quiets.{gives_only}
-use Rattle.sdd_base.proofs.Sounds.{Gives, gives_released_as}
+use Rattle.sdd_base.proofs.CellLemmas.{cells_released_as}
+use Rattle.sdd_base.proofs.CountLemmas.{owners_are_counted}
+use Rattle.sdd_base.proofs.PlaceLemmas.{get_or-replicate_default, place_by}
+use Rattle.sdd_base.proofs.IdleParticipantLemmas.{gives_only}
+use Rattle.sdd_base.proofs.BagInvariantLemmas.{Gives, gives_released_as}
 use Rattle.versions.specs.Items.{held_by}
 use Rattle.versions.specs.Reclaiming.{IsRootless}
 use Rattle.versions.specs.Placing.{HasVersion, IsLevelled, IsPlaceable, Places, Plan, list_planned, slots_for}
 use Rattle.versions.specs.declared.item.Item.{Item}
-use Rattle.versions.proofs.Filters.{rising_none}
-use Rattle.versions.proofs.Placings.{keeps_then}
-use Rattle.versions.proofs.Reclaiming.{levelled_after}
-use Rattle.versions.proofs.Staying.{versions_stay}
+use Rattle.versions.proofs.FilterLemmas.{rising_none}
+use Rattle.versions.proofs.PlacingLemmas.{keeps_then}
+use Rattle.versions.proofs.ReclaimLemmas.{levelled_after}
+use Rattle.versions.proofs.StayingLemmas.{versions_stay}
 use Rattle.versions.specs.Store.{IsReader, IsStore, Version, no_version, read_by, store_of, version_in}
 use Rattle.versions.specs.declared.store.readers.Opened.{Opened}
 use Rattle.versions.proofs.OptionLemmas.{map-none}
@@ -108,11 +108,11 @@ module _ {K V : Type 0} {s : ℕ} (cmp : K → K → Ordering) where
     pub still_owned : (i : ℕ) (t : Tag) → cell_at w1 root ≡ cell.OfShared (Some i) t → IsShared w1 i
     still_owned i t e = (owners_are_counted held_by).kept root i t (SharedItem new ∷ SharedIn root ∷ []) w1 e (made.counted (SharedIn root ∷ []) store.counted)
 
-    pub still_known : length places < length w1.members
-    still_known = let known = writer_known cmp w root places store in let same = ap length made.adds.members in omega (arith, known, same)
+    pub still_known : length places < length w1.participants
+    still_known = let known = writer_known cmp w root places store in let same = ap length made.adds.participants in omega (arith, known, same)
 
   -- a version is placed, the root comes to name it, and the owner of the older one is given back
-  module _ (w w1 w2 : State (Item K V s)) (root new : ℕ) (plan : Plan K V s) (places : List (Option (Opened K V s))) (store : IsStore cmp w root places) (made : Places cmp plan new w w1) (place1 : IsPlace w1) (now : w2 ≡ released (length places) store.slot (with_cell root (cell.OfShared (Some new) tag.None) w1)) (keeps : Keeps w1 w2) (only : OnlyOf (length places) w1 w2) where
+  module _ (w w1 w2 : State (Item K V s)) (root new : ℕ) (plan : Plan K V s) (places : List (Option (Opened K V s))) (store : IsStore cmp w root places) (made : Places cmp plan new w w1) (place1 : IsPlace w1) (now : w2 ≡ released (length places) store.slot (with_cell root (cell.OfShared (Some new) tag.None) w1)) (keeps : Frame w1 w2) (only : OnlyParticipant (length places) w1 w2) where
     abbrev p : ℕ
     p = length places
 
@@ -148,8 +148,8 @@ module _ {K V : Type 0} {s : ℕ} (cmp : K → K → Ordering) where
       near = place1.near;
     }
 
-    knownv : p < length v.members
-    knownv = let known = writer_known cmp w root places store in let same = ap length made.adds.members in omega (arith, known, same)
+    knownv : p < length v.participants
+    knownv = let known = writer_known cmp w root places store in let same = ap length made.adds.participants in omega (arith, known, same)
 
     gives : Shrinks v x × (in_use x ≡ in_use v) × (x.count ≡ v.count)
     gives = (gives_only held_by).giving_back p store.slot v placev knownv
@@ -166,8 +166,8 @@ module _ {K V : Type 0} {s : ℕ} (cmp : K → K → Ordering) where
     moves : Moves cmp p root w w2
     moves = record {
       place = subst (λ (y : State (Item K V s)). IsPlace y) (sym now) (place_by v x p placev calmx);
-      keeps = keeps_then w w1 w2 made.adds.members made.adds.lives made.adds.keeps keeps;
-      only = λ k ne. only k ne ∙ ap (λ (ms : List Member). get_or ms k nobody) made.adds.members;
+      keeps = keeps_then w w1 w2 made.adds.participants made.adds.lives made.adds.keeps keeps;
+      only = λ k ne. only k ne ∙ ap (λ (ms : List ParticipantState). get_or ms k nobody) made.adds.participants;
       counted = subst (λ (y : State (Item K V s)). Counted held_by (SharedIn root ∷ []) y) (sym now) countedx;
       plain = subst (λ (y : State (Item K V s)). IsPlain y) (sym now) plainx;
       levelled = subst (λ (y : State (Item K V s)). IsLevelled y) (sym now) levelledx;
@@ -182,11 +182,11 @@ module _ {K V : Type 0} {s : ℕ} (cmp : K → K → Ordering) where
     version2 : HasVersion cmp w2 new plan.number (list_planned (value_at w) plan)
     version2 = (versions_stay cmp).owned (SharedItem new ∷ SharedIn root ∷ []) w1 w2 new plan.number (list_planned (value_at w) plan) counted1 (ap has_owner made.shared.is) made.version keeps
 
-    closed2 : (marks_at w2 p).nesting ≡ 0
+    closed2 : (local_at w2 p).nesting ≡ 0
     closed2 =
-        ap (λ (y : State (Item K V s)). (marks_at y p).nesting) now
+        ap (λ (y : State (Item K V s)). (local_at y p).nesting) now
         ∙ ap (λ c. c.nesting) calmx.calm
-        ∙ ap (λ (ms : List Member). (get_or ms p nobody).marks.nesting) made.adds.members
+        ∙ ap (λ (ms : List ParticipantState). (get_or ms p nobody).local.nesting) made.adds.participants
         ∙ writer_closed cmp w root places store
 
     pub store_published : IsStore cmp w2 root places
@@ -240,13 +240,13 @@ module _ {K V : Type 0} {s : ℕ} (cmp : K → K → Ordering) where
       abbrev y : State (Item K V s)
       y = with_cell root (cell.OfShared (Some new) tag.None) w1
 
-      member_is : (k : ℕ) → member_at y k ≡ nobody
-      member_is k = ap (λ (ms : List Member). get_or ms k nobody) made.adds.members ∙ get_or-replicate_default (n + 1) k nobody
+      participant_is : (k : ℕ) → participant_at y k ≡ nobody
+      participant_is k = ap (λ (ms : List ParticipantState). get_or ms k nobody) made.adds.participants ∙ get_or-replicate_default (n + 1) k nobody
 
       pub first_store : slots ≤ 2 ^ 30 → IsStore cmp w2 root places
       first_store fit = subst (λ (z : State (Item K V s)). IsStore cmp z root places) (sym now) (record {
         place = subst (λ (z : State (Item K V s)). IsPlace z) now place2;
-        members = ap length made.adds.members ∙ length-replicate (n + 1) nobody ∙ sym (ap (λ k. k + 1) (length-replicate n None));
+        participants = ap length made.adds.participants ∙ length-replicate (n + 1) nobody ∙ sym (ap (λ k. k + 1) (length-replicate n None));
         slots = subst (λ (m : ℕ). m ≤ 2 ^ 30) (sym (made.adds.keeps.states ∙ fresh_states slots)) fit;
         cells = length-set w1.cells root (cell.OfShared (Some new) tag.None) ∙ ap length made.adds.cells;
         counted = (owners_are_counted held_by).cell_made root (Some new) tag.None [] w1 free (made.counted [] ((owners_are_counted held_by).fresh (first_sizes n slots)));
@@ -257,8 +257,8 @@ module _ {K V : Type 0} {s : ℕ} (cmp : K → K → Ordering) where
         number = 0;
         pairs = [];
         version = record { directory = made.version.directory; is = made.version.is; whole = made.version.whole; numbered = made.version.numbered; list = made.version.list };
-        readers = λ q. subst (λ (o : Option (Opened K V s)). IsReader cmp y q o) (sym (get_or-replicate_default n q None)) (ap (λ (m : Member). m.marks.nesting) (member_is q));
-        quiet = λ q ne. record { empty = ap bags_empty (member_is q); clean = ap (λ (m : Member). m.marks.garbage) (member_is q); slow = ap (λ (m : Member). m.marks.accelerated) (member_is q) };
+        readers = λ q. subst (λ (o : Option (Opened K V s)). IsReader cmp y q o) (sym (get_or-replicate_default n q None)) (ap (λ (m : ParticipantState). m.local.nesting) (participant_is q));
+        quiet = λ q ne. record { empty = ap bags_empty (participant_is q); clean = ap (λ (m : ParticipantState). m.local.garbage) (participant_is q); slow = ap (λ (m : ParticipantState). m.local.accelerated) (participant_is q) };
       })
 
       pub first_shows : store_of w2 root places ≡ record { present = no_version; readers = replicate n None; slots = slots; used = 1; raises = 0 }

@@ -8,11 +8,11 @@ use Rattle.std.proofs.lemmas.List.Sums.{get_or-le-sum_by, sum_by-cons}
 use Rattle.std.specs.Option.{is_some, option_map}
 use Rattle.std.specs.declared.cmp.Ordering.{Ordering}
 use Rattle.sdd_base.specs.Counting.{Counted, same_hold, tally}
-use Rattle.sdd_base.specs.Frame.{IsLive, Keeps, OnlyOf, has_owner}
+use Rattle.sdd_base.specs.Frame.{IsLive, Frame, OnlyParticipant, has_owner}
 use Rattle.sdd_base.specs.Holding.{SharedIn}
 use Rattle.sdd_base.specs.Passing.{IsPlain, IsQuiet, Shrinks, Stands, is_plain, slot_kept}
 use Rattle.sdd_base.specs.Place.{IsOpen, IsPlace, IsReadable, IsShared, IsSharedCell}
-use Rattle.sdd_base.specs.State.{State, Member, cell_at, in_use, is_used, marks_at, usage, value_at}
+use Rattle.sdd_base.specs.State.{State, ParticipantState, cell_at, in_use, is_used, local_at, usage, value_at}
 use Rattle.sdd_base.specs.Steps.{bags_empty, closed, opened}
 use Rattle.sdd_base.specs.Tokens.{loaded_slot, participant_of}
 use Rattle.sdd_base.specs.declared.status.Cell.{Cell}
@@ -20,18 +20,18 @@ use Rattle.sdd_base.specs.declared.status.Status.{Status}
 use Rattle.sdd_base.specs.declared.status.Status.TheVariants as status
 use Rattle.sdd_base.specs.declared.status.Cell.TheVariants as cell
 use Rattle.sdd_base.specs.declared.tag.Tag.TheVariants as tag
-use Rattle.sdd_base.proofs.Cells.{held_cells_stay}
-use Rattle.sdd_base.proofs.Counts.{owners_are_counted}
-use Rattle.sdd_base.proofs.Frames.{keeps_closed, keeps_opened}
-use Rattle.sdd_base.proofs.Places.{place_closed, place_opened}
-use Rattle.sdd_base.proofs.Quiets.{gives_only}
-use Rattle.sdd_base.proofs.Lists.{hit-same}
+use Rattle.sdd_base.proofs.CellLemmas.{held_cells_stay}
+use Rattle.sdd_base.proofs.CountLemmas.{owners_are_counted}
+use Rattle.sdd_base.proofs.FrameLemmas.{keeps_closed, keeps_opened}
+use Rattle.sdd_base.proofs.PlaceLemmas.{place_closed, place_opened}
+use Rattle.sdd_base.proofs.IdleParticipantLemmas.{gives_only}
+use Rattle.sdd_base.proofs.ListLemmas.{hit-same}
 use Rattle.versions.specs.Items.{held_by}
 use Rattle.versions.specs.Placing.{HasVersion, IsLevelled}
 use Rattle.versions.specs.Versions.{list_of}
 use Rattle.versions.specs.declared.item.Item.{Item}
-use Rattle.versions.proofs.Reclaiming.{levelled_after}
-use Rattle.versions.proofs.Staying.{versions_stay}
+use Rattle.versions.proofs.ReclaimLemmas.{levelled_after}
+use Rattle.versions.proofs.StayingLemmas.{versions_stay}
 use Rattle.versions.specs.Store.{IsReader, IsStore, Reads, Version, read_by, store_of, version_in, version_of}
 use Rattle.versions.specs.declared.store.readers.Opened.{Opened}
 use Rattle.versions.proofs.OptionLemmas.{mapped_none, mapped_some, read_there}
@@ -64,8 +64,8 @@ module _ {K V : Type 0} {s : ℕ} (cmp : K → K → Ordering) where
   -- what a step of participant p leaves
   pub record Moves (p root : ℕ) (w w' : State (Item K V s)) : Type 0 where
     pub place : IsPlace w'
-    pub keeps : Keeps w w'
-    pub only : OnlyOf p w w'
+    pub keeps : Frame w w'
+    pub only : OnlyParticipant p w w'
     pub counted : Counted held_by (SharedIn root ∷ []) w'
     pub plain : IsPlain w'
     pub levelled : IsLevelled w'
@@ -78,38 +78,38 @@ module _ {K V : Type 0} {s : ℕ} (cmp : K → K → Ordering) where
     root_live = ap has_owner root_shared.is
 
     -- the present version stays
-    pub root_stays : Keeps w w' → HasVersion cmp w' store.slot store.number store.pairs
+    pub root_stays : Frame w w' → HasVersion cmp w' store.slot store.number store.pairs
     root_stays keeps = (versions_stay cmp).owned (SharedIn root ∷ []) w w' store.slot store.number store.pairs store.counted root_live store.version keeps
 
     -- and so do those of readers that don't take the step
-    pub reader_stays : (p q : ℕ) (o : Option (Opened K V s)) → q ≢ p → Keeps w w' → OnlyOf p w w' → IsReader cmp w q o → IsReader cmp w' q o
-    reader_stays p q None ne keeps only r = ap (λ (m : Member). m.marks.nesting) (only q ne) ∙ r
+    pub reader_stays : (p q : ℕ) (o : Option (Opened K V s)) → q ≢ p → Frame w w' → OnlyParticipant p w w' → IsReader cmp w q o → IsReader cmp w' q o
+    reader_stays p q None ne keeps only r = ap (λ (m : ParticipantState). m.local.nesting) (only q ne) ∙ r
     reader_stays p q (Some o) ne keeps only r =
-        let once : (marks_at w' q).nesting ≡ 1 = ap (λ (m : Member). m.marks.nesting) (only q ne) ∙ r.once in
+        let once : (local_at w' q).nesting ≡ 1 = ap (λ (m : ParticipantState). m.local.nesting) (only q ne) ∙ r.once in
         let was = r.once in
         let t = (versions_stay cmp).stays w w' q r.slot r.number r.pairs (omega (arith, was)) (omega (arith, once)) r.version r.seen keeps in
         record { once = once; guard = r.guard; slot = r.slot; named = r.named; number = r.number; pairs = r.pairs; version = t.0; seen = t.1 }
 
     -- which read what they read before
-    pub reads_same : (p q : ℕ) (o : Opened K V s) → q ≢ p → Keeps w w' → OnlyOf p w w' → Reads cmp w q o → read_by w' o ≡ read_by w o
+    pub reads_same : (p q : ℕ) (o : Opened K V s) → q ≢ p → Frame w w' → OnlyParticipant p w w' → Reads cmp w q o → read_by w' o ≡ read_by w o
     reads_same p q o ne keeps only r =
-        let once : (marks_at w' q).nesting ≡ 1 = ap (λ (m : Member). m.marks.nesting) (only q ne) ∙ r.once in
+        let once : (local_at w' q).nesting ≡ 1 = ap (λ (m : ParticipantState). m.local.nesting) (only q ne) ∙ r.once in
         let was = r.once in
         let t = (versions_stay cmp).stays w w' q r.slot r.number r.pairs (omega (arith, was)) (omega (arith, once)) r.version r.seen keeps in
         ap (version_in w') r.named ∙ version_is w' r.slot r.number r.pairs t.0 ∙ sym (version_is w r.slot r.number r.pairs r.version) ∙ sym (ap (version_in w) r.named)
 
-    quiet_stays : (p q : ℕ) → q ≢ p → OnlyOf p w w' → IsQuiet w q → IsQuiet w' q
+    quiet_stays : (p q : ℕ) → q ≢ p → OnlyParticipant p w w' → IsQuiet w q → IsQuiet w' q
     quiet_stays p q ne only h = record {
       empty = ap bags_empty (only q ne) ∙ h.empty;
-      clean = ap (λ (m : Member). m.marks.garbage) (only q ne) ∙ h.clean;
-      slow = ap (λ (m : Member). m.marks.accelerated) (only q ne) ∙ h.slow;
+      clean = ap (λ (m : ParticipantState). m.local.garbage) (only q ne) ∙ h.clean;
+      slow = ap (λ (m : ParticipantState). m.local.accelerated) (only q ne) ∙ h.slow;
     }
 
     -- a step of p, which may change the version that the root names, and what p itself has
     pub store_moved : (p : ℕ) (places' : List (Option (Opened K V s))) (slot number : ℕ) (pairs : List (K × V)) → Moves p root w w' → cell_at w' root ≡ cell.OfShared (Some slot) tag.None → HasVersion cmp w' slot number pairs → length places' ≡ length places → ((q : ℕ) → q ≢ p → get_or places' q None ≡ get_or places q None) → IsReader cmp w' p (get_or places' p None) → (p ≢ length places → IsQuiet w' p) → IsStore cmp w' root places'
     store_moved p places' slot number pairs moves named version long others own quiet = record {
       place = moves.place;
-      members = (let kept = moves.keeps.members in let was = store.members in omega (arith, kept, was, long));
+      participants = (let kept = moves.keeps.participants in let was = store.participants in omega (arith, kept, was, long));
       slots = subst (λ (n : ℕ). n ≤ 2 ^ 30) (sym moves.keeps.states) store.slots;
       cells = moves.keeps.cells ∙ store.cells;
       counted = moves.counted;
@@ -149,7 +149,7 @@ module _ {K V : Type 0} {s : ℕ} (cmp : K → K → Ordering) where
       ∙ ap (λ (ss : List Status). store_of (record w' { count = w.count; values = w.values; states = ss }) root places) stands.states
       ∙ ap (λ (cs : List Cell). store_of (record w' { count = w.count; values = w.values; states = w.states; cells = cs }) root places) stands.cells
 
-  module _ (w : State (Item K V s)) (root : ℕ) (places : List (Option (Opened K V s))) (store : IsStore cmp w root places) (p : ℕ) (known : p < length w.members) where
+  module _ (w : State (Item K V s)) (root : ℕ) (places : List (Option (Opened K V s))) (store : IsStore cmp w root places) (p : ℕ) (known : p < length w.participants) where
     -- a guard opens
     abbrev started : State (Item K V s)
     started = opened held_by p w
@@ -167,7 +167,7 @@ module _ {K V : Type 0} {s : ℕ} (cmp : K → K → Ordering) where
           levelled = levelled_after w started shrinks.values store.levelled;
         }
 
-    pub opened_nesting : (marks_at started p).nesting ≡ (marks_at w p).nesting + 1
+    pub opened_nesting : (local_at started p).nesting ≡ (local_at w p).nesting + 1
     opened_nesting = ((gives_only held_by).opening p w store.place known).2
 
     pub opened_cell : cell_at started root ≡ cell_at w root
@@ -185,7 +185,7 @@ module _ {K V : Type 0} {s : ℕ} (cmp : K → K → Ordering) where
         let version : HasVersion cmp started store.slot store.number store.pairs = root_stays w started root places store moves.keeps in
         let shared : IsShared started store.slot = (owners_are_counted held_by).kept root store.slot tag.None (SharedIn root ∷ []) started named' moves.counted in
         let live : IsLive started store.slot = ap has_owner shared.is in
-        let closed_before : (marks_at w p).nesting ≡ 0 = subst (λ (x : Option (Opened K V s)). IsReader cmp w p x) free (store.readers p) in
+        let closed_before : (local_at w p).nesting ≡ 0 = subst (λ (x : Option (Opened K V s)). IsReader cmp w p x) free (store.readers p) in
         let more = opened_nesting in
         let reads : Reads cmp started p o = record {
           once = omega (arith, more, closed_before);
@@ -238,7 +238,7 @@ module _ {K V : Type 0} {s : ℕ} (cmp : K → K → Ordering) where
         let same = (gives_only held_by).closing p w known in
         let named' : cell_at ended root ≡ cell.OfShared (Some store.slot) tag.None = ap (λ (cs : List Cell). get_or cs root cell.Free) same.2 ∙ store.named in
         let less = same.3 in
-        let now : (marks_at ended p).nesting ≡ 0 = omega (arith, less, was) in
+        let now : (local_at ended p).nesting ≡ 0 = omega (arith, less, was) in
         let not_writer : p ≢ length places = λ e. omega (arith, inside, e) in
         store_moved w ended root places store p (set places p None) store.slot store.number store.pairs moves named' (root_stays w ended root places store moves.keeps) (length-set places p None)
         (λ q ne. get_or-set_other places p q None None ne)
@@ -269,14 +269,14 @@ module _ {K V : Type 0} {s : ℕ} (cmp : K → K → Ordering) where
             none_some : (o : Opened K V s) → None ≡ Some o → ⊥
             none_some o e = cc
 
-    pub writer_reads : (marks_at w' (length places)).nesting ≡ 0 → IsReader cmp w' (length places) (get_or places (length places) None)
+    pub writer_reads : (local_at w' (length places)).nesting ≡ 0 → IsReader cmp w' (length places) (get_or places (length places) None)
     writer_reads none = subst (λ (x : Option (Opened K V s)). IsReader cmp w' (length places) x) (sym writer_none) none
 
   module _ (w : State (Item K V s)) (root : ℕ) (places : List (Option (Opened K V s))) (store : IsStore cmp w root places) where
-    pub writer_known : length places < length w.members
-    writer_known = let members = store.members in omega (arith, members)
+    pub writer_known : length places < length w.participants
+    writer_known = let participants = store.participants in omega (arith, participants)
 
-    pub writer_closed : (marks_at w (length places)).nesting ≡ 0
+    pub writer_closed : (local_at w (length places)).nesting ≡ 0
     writer_closed = subst (λ (x : Option (Opened K V s)). IsReader cmp w (length places) x) (get_or_past places (length places) None (omega arith)) (store.readers (length places))
 
     pub present_shows : version_in w (slot_kept (cell_at w root)) ≡ record { number = store.number; pairs = store.pairs }
@@ -327,7 +327,7 @@ module _ {K V : Type 0} {s : ℕ} (cmp : K → K → Ordering) where
         none_some e = cc
 
   -- a free place has no reader, and no guard
-  pub free_there : (w : State (Item K V s)) (root : ℕ) (places : List (Option (Opened K V s))) (store : IsStore cmp w root places) (place : ℕ) → slice_get (map (option_map (read_by w)) places) place ≡ Some None → (place < length places) × (get_or places place None ≡ None) × ((marks_at w place).nesting ≡ 0)
+  pub free_there : (w : State (Item K V s)) (root : ℕ) (places : List (Option (Opened K V s))) (store : IsStore cmp w root places) (place : ℕ) → slice_get (map (option_map (read_by w)) places) place ≡ Some None → (place < length places) × (get_or places place None ≡ None) × ((local_at w place).nesting ≡ 0)
   free_there w root places store place shown =
       let t = read_there places place None (mapped_none (read_by w) places place shown) in
       (t.0, t.1, subst (λ (x : Option (Opened K V s)). IsReader cmp w place x) t.1 (store.readers place))

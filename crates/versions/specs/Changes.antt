@@ -15,17 +15,17 @@ module _ {K V : Type 0} where
   pair_left key (Some value) = (key, value) ∷ []
 
   -- the list that edits by key make of one
-  abbrev pub amended : (K → K → Ordering) → List (K × Option V) → List (K × V) → List (K × V)
-  amended cmp [] pairs = pairs
-  amended cmp (c ∷ cs) pairs = below cmp c.0 pairs ++ (pair_left c.0 c.1 ++ amended cmp cs (above cmp c.0 pairs))
+  abbrev pub apply_delta : (K → K → Ordering) → List (K × Option V) → List (K × V) → List (K × V)
+  apply_delta cmp [] pairs = pairs
+  apply_delta cmp (c ∷ cs) pairs = below cmp c.0 pairs ++ (pair_left c.0 c.1 ++ apply_delta cmp cs (above cmp c.0 pairs))
 
   -- the list that changes make of one: what ranges leave of it, and then the edits
   abbrev pub changed : (K → K → Ordering) → Changes K V → List (K × V) → List (K × V)
-  changed cmp c pairs = amended cmp c.edits.pairs (without cmp c.gone.items pairs)
+  changed cmp c pairs = apply_delta cmp c.edits.pairs (without cmp c.gone.items pairs)
 
   -- the list that edits make of what ranges leave of blocks, from a place on
   abbrev pub ahead : (K → K → Ordering) → List (K × Option V) → List (Gone K) → ℕ → List (List (K × V)) → List (K × V)
-  ahead cmp edits gone place blocks = amended cmp edits (without cmp gone (pairs_in (drop place blocks)))
+  ahead cmp edits gone place blocks = apply_delta cmp edits (without cmp gone (pairs_in (drop place blocks)))
 
   -- how many keys and ranges they name
   abbrev pub named_by : Changes K V → ℕ

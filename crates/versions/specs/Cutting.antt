@@ -10,7 +10,7 @@ use Rattle.versions.specs.Parts.{blocks_of_parts, made_in}
 use Rattle.versions.specs.declared.building.parts.Part.{Part}
 use Rattle.versions.specs.declared.building.parts.Part.TheVariants as parts
 use Rattle.versions.specs.declared.building.parts.Row.{Row}
-use Rattle.versions.specs.declared.building.segments.Cutter.{Cutter}
+use Rattle.versions.specs.declared.building.segments.SegmentBuilder.{SegmentBuilder}
 
 -- a block of 1 to s pairs
 abbrev pub IsSized : {X : Type 0} → ℕ → List X → Type 0
@@ -40,16 +40,16 @@ turns test last (p ∷ ps) = differ last (test p.0) + turns test (test p.0) ps
 
 module _ {K V N : Type 0} where
   -- how many trees were made
-  abbrev pub trees : Cutter K V N → ℕ
+  abbrev pub trees : SegmentBuilder K V N → ℕ
   trees c = made_in c.row.parts.items + one_open c.tail.pairs
 
   -- the pairs for which there is room up to the last one, in trees of s pairs
-  abbrev pub spent : ℕ → Cutter K V N → ℕ
+  abbrev pub spent : ℕ → SegmentBuilder K V N → ℕ
   spent s c = s * made_in c.row.parts.items + length c.tail.pairs
 
   module _ (named : N → List (K × V)) where
     -- the pairs that were given
-    abbrev pub given : Cutter K V N → List (K × V)
+    abbrev pub given : SegmentBuilder K V N → List (K × V)
     given c = pairs_in (blocks_of_parts named c.row.parts.items) ++ c.tail.pairs
 
     -- segments of 1 to s pairs, none of which two neighbours could do without, with the greatest key of each
@@ -71,7 +71,7 @@ module _ {K V N : Type 0} where
     IsHeld blocks items (Some place) = IsHeldAt blocks items place
 
     -- segments that are done, of which the last one is full where it isn't an older one, and an open tree
-    pub record IsCutting (cmp : K → K → Ordering) (s : ℕ) (blocks : List (List (K × V))) (c : Cutter K V N) : Type 0 where
+    pub record IsCutting (cmp : K → K → Ordering) (s : ℕ) (blocks : List (List (K × V))) (c : SegmentBuilder K V N) : Type 0 where
       pub least : 1 ≤ s
       pub most : s ≤ 225
       pub row : IsRow s c.row
@@ -82,13 +82,13 @@ module _ {K V N : Type 0} where
       pub fresh : c.held ≡ None → (c.row.last ≡ 0) ⊎ (c.row.last ≡ s)
 
     -- the open tree can end behind the segments that are done
-    pub record IsClosing (s : ℕ) (c : Cutter K V N) : Type 0 where
+    pub record IsClosing (s : ℕ) (c : SegmentBuilder K V N) : Type 0 where
       pub sizes : All (IsSized s) (blocks_of_parts named c.row.parts.items ++ c.tail.pairs ∷ [])
       pub tight : IsTight s (blocks_of_parts named c.row.parts.items ++ c.tail.pairs ∷ [])
       pub separated : map Some c.row.separators.items ≡ map greatest_key (blocks_of_parts named c.row.parts.items)
 
     -- the older segment at a place comes behind all that was given, and doesn't fit into one with what is last there
-    pub record StaysApart (cmp : K → K → Ordering) (s : ℕ) (blocks : List (List (K × V))) (place : ℕ) (c : Cutter K V N) : Type 0 where
+    pub record StaysApart (cmp : K → K → Ordering) (s : ℕ) (blocks : List (List (K × V))) (place : ℕ) (c : SegmentBuilder K V N) : Type 0 where
       pub block : List (K × V)
       pub there : slice_get blocks place ≡ Some block
       pub sized : IsSized s block
@@ -97,18 +97,18 @@ module _ {K V N : Type 0} where
       pub opened : 0 < length c.tail.pairs → s < length c.tail.pairs + length block
 
   -- a segment of so many pairs fits into one with what is last
-  abbrev pub Joins : ℕ → ℕ → Cutter K V N → Type 0
+  abbrev pub Joins : ℕ → ℕ → SegmentBuilder K V N → Type 0
   Joins s n c = ((length c.tail.pairs ≡ 0) × (0 < c.row.last) × (c.row.last + n ≤ s)) ⊎ ((0 < length c.tail.pairs) × (length c.tail.pairs + n ≤ s))
 
   -- no more than was read was given: from so many pairs and changes that were left to so many
-  pub record IsFilled (s left left' : ℕ) (c c' : Cutter K V N) : Type 0 where
+  pub record IsFilled (s left left' : ℕ) (c c' : SegmentBuilder K V N) : Type 0 where
     pub spent : spent s c' + left' ≤ spent s c + left
     pub some : 0 < length c.tail.pairs → 0 < length c'.tail.pairs
     pub none : length c'.tail.pairs ≡ 0 → made_in c'.row.parts.items ≡ made_in c.row.parts.items
 
   -- with so many edits left, no more trees were made than two for each that was passed, and one for each turn between pairs
   -- that are gone and others: one less, where the next segment fits into one with the last one, or pairs before it are gone
-  pub record IsThrifty (s budget : ℕ) (test : K → Bool) (last : Bool) (rest : List (List (K × V))) (left : ℕ) (c : Cutter K V N) : Type 0 where
+  pub record IsThrifty (s budget : ℕ) (test : K → Bool) (last : Bool) (rest : List (List (K × V))) (left : ℕ) (c : SegmentBuilder K V N) : Type 0 where
     pub all : trees c + 2 * left + turns test last (pairs_in rest) ≤ budget
     pub spare : length c.tail.pairs ≡ 0 → 0 < c.row.last → (b : List (K × V)) → slice_get rest 0 ≡ Some b → c.row.last + length b ≤ s → trees c + 1 + 2 * left + turns test last (pairs_in rest) ≤ budget
     pub behind : last ≡ true → length c.tail.pairs ≡ 0 → trees c + 1 + 2 * left + turns test last (pairs_in rest) ≤ budget

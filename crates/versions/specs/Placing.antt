@@ -3,7 +3,7 @@ use Rattle.std.specs.Prelude.{◌≡◌, ℕ, ◌+◌, ◌<◌, ◌≤◌, ◌�
 use Rattle.std.specs.declared.cmp.Ordering.{Ordering}
 use Rattle.std.specs.List.{All}
 use Rattle.sdd_base.specs.Counting.{Counted}
-use Rattle.sdd_base.specs.Frame.{Keeps, IsLive}
+use Rattle.sdd_base.specs.Frame.{Frame, IsLive}
 use Rattle.sdd_base.specs.Holding.{Hold, SharedItem}
 use Rattle.sdd_base.specs.Passing.{IsPlain}
 use Rattle.sdd_base.specs.Place.{IsPlace, IsShared}
@@ -77,9 +77,9 @@ module _ {K V : Type 0} {s : ℕ} where
   -- n items more, and all else as it was
   pub record Adds (n : ℕ) (w w' : State (Item K V s)) : Type 0 where
     pub count : w'.count ≡ w.count
-    pub members : w'.members ≡ w.members
+    pub participants : w'.participants ≡ w.participants
     pub cells : w'.cells ≡ w.cells
-    pub keeps : Keeps w w'
+    pub keeps : Frame w w'
     pub lives : (i : ℕ) → IsLive w i → IsLive w' i
     pub owned : (i : ℕ) → IsShared w i → IsShared w' i
     pub uses : in_use w' ≡ in_use w + n
@@ -117,8 +117,8 @@ module _ {K V : Type 0} {s : ℕ} where
 
   -- a part of a version is placed in a slot: a new segment, or one that was there and has one more owner
   abbrev pub HasPlaced : Part K V (Loaded (Item K V s)) → ℕ → State (Item K V s) → State (Item K V s) → Type 0
-  HasPlaced (parts.Taken p) i w w' = (loaded_slot p ≡ Some i) × (n : ℕ) × (status_at w i ≡ status.Shared n) × (w' ≡ with_status i (status.Shared (n + 1)) w) × Keeps w w'
-  HasPlaced (parts.Made t) i w w' = IsPlace w × IsFree w i × (w' ≡ placed i (items.Segment t) (status.Shared 1) w) × Keeps w w'
+  HasPlaced (parts.Taken p) i w w' = (loaded_slot p ≡ Some i) × (n : ℕ) × (status_at w i ≡ status.Shared n) × (w' ≡ with_status i (status.Shared (n + 1)) w) × Frame w w'
+  HasPlaced (parts.Made t) i w w' = IsPlace w × IsFree w i × (w' ≡ placed i (items.Segment t) (status.Shared 1) w) × Frame w w'
 
   -- segments with these pairs stand in these slots, n of which are new, and their owners are in hand
   pub record StandsIn (n : ℕ) (slots : List ℕ) (blocks : List (List (K × V))) (w w' : State (Item K V s)) : Type 0 where

@@ -4,7 +4,7 @@ use Rattle.sdd_base.specs.Counting.{Counted}
 use Rattle.sdd_base.specs.Holding.{SharedIn}
 use Rattle.sdd_base.specs.Passing.{CanPass, IsPlain, passed_times}
 use Rattle.sdd_base.specs.Place.{IsPlace}
-use Rattle.sdd_base.specs.State.{IsUnused, State, cell_at, in_use, member_at, value_at}
+use Rattle.sdd_base.specs.State.{IsUnused, State, cell_at, in_use, participant_at, value_at}
 use Rattle.sdd_base.specs.Steps.{AllSwept, bags_empty}
 use Rattle.sdd_base.specs.declared.status.Cell.TheVariants as cell
 use Rattle.sdd_base.specs.declared.tag.Tag.{Tag}
@@ -23,7 +23,7 @@ pub record IsRooted {K V : Type 0} {s : ℕ} (p c i : ℕ) (d : Directory K Kept
   pub tag : Tag
   pub root : cell_at w c ≡ cell.OfShared (Some i) tag
   pub is : value_at w i ≡ Some (items.Directory d)
-  pub others : (q : ℕ) → q ≢ p → bags_empty (member_at w q) ≡ true
+  pub others : (q : ℕ) → q ≢ p → bags_empty (participant_at w q) ≡ true
 
 -- eight accelerated guards of p, where no other is open, leave the version that the root names, and no more
 pub record PassesLeaveOne (K V : Type 0) (s : ℕ) : Type 0 where

@@ -3,7 +3,7 @@ use Rattle.std.specs.Prelude.{◌≡◌, ℕ, List, Some}
 use Rattle.std.specs.declared.cmp.Ordering.{Ordering}
 use Rattle.std.specs.List.{All}
 use Rattle.sdd_base.specs.Counting.{Counted}
-use Rattle.sdd_base.specs.Frame.{IsLive, Keeps, Protects}
+use Rattle.sdd_base.specs.Frame.{IsLive, Frame, Protects}
 use Rattle.sdd_base.specs.Holding.{Hold}
 use Rattle.sdd_base.specs.Place.{IsOpen, IsPlace, IsShared}
 use Rattle.sdd_base.specs.State.{State, value_at}
@@ -23,8 +23,8 @@ pub record VersionsStay (K V : Type 0) (s : ℕ) (cmp : K → K → Ordering) : 
   -- a directory that is there owns its segments
   pub owns : (hand : List Hold) (w : State (Item K V s)) (i : ℕ) (d : Directory K Kept) → Counted held_by hand w → value_at w i ≡ Some (items.Directory d) → All (λ j. IsShared w j) (slots_of d)
   -- a version that has an owner stays whole over each call
-  pub owned : (hand : List Hold) (w w' : State (Item K V s)) (i number : ℕ) (pairs : List (K × V)) → Counted held_by hand w → IsLive w i → HasVersion cmp w i number pairs → Keeps w w' → HasVersion cmp w' i number pairs
+  pub owned : (hand : List Hold) (w w' : State (Item K V s)) (i number : ℕ) (pairs : List (K × V)) → Counted held_by hand w → IsLive w i → HasVersion cmp w i number pairs → Frame w w' → HasVersion cmp w' i number pairs
   -- where a guard is open, it protects each version that has an owner, with its segments
   pub seen : (hand : List Hold) (w : State (Item K V s)) (q i number : ℕ) (pairs : List (K × V)) → Counted held_by hand w → IsPlace w → IsLive w i → (v : HasVersion cmp w i number pairs) → IsSeen w q i v.directory
   -- a version that an open guard protects stays whole, and protected, until the guard closes
-  pub stays : (w w' : State (Item K V s)) (q i number : ℕ) (pairs : List (K × V)) → IsOpen w q → IsOpen w' q → (v : HasVersion cmp w i number pairs) → IsSeen w q i v.directory → Keeps w w' → (v' : HasVersion cmp w' i number pairs) × IsSeen w' q i v'.directory
+  pub stays : (w w' : State (Item K V s)) (q i number : ℕ) (pairs : List (K × V)) → IsOpen w q → IsOpen w' q → (v : HasVersion cmp w i number pairs) → IsSeen w q i v.directory → Frame w w' → (v' : HasVersion cmp w' i number pairs) × IsSeen w' q i v'.directory

@@ -6,7 +6,7 @@ use Rattle.sdd_base.specs.Counting.{Counted}
 use Rattle.sdd_base.specs.Holding.{SharedIn}
 use Rattle.sdd_base.specs.Passing.{IsPlain, IsQuiet, slot_kept}
 use Rattle.sdd_base.specs.Place.{IsPlace}
-use Rattle.sdd_base.specs.State.{State, cell_at, in_use, marks_at, value_at}
+use Rattle.sdd_base.specs.State.{State, cell_at, in_use, local_at, value_at}
 use Rattle.sdd_base.specs.Tokens.{loaded_slot, participant_of}
 use Rattle.sdd_base.specs.declared.status.Cell.TheVariants as cell
 use Rattle.sdd_base.specs.declared.tag.Tag.TheVariants as tag
@@ -71,7 +71,7 @@ module _ {K V : Type 0} {s : ℕ} where
   module _ (cmp : K → K → Ordering) where
     -- the one guard of participant p, under which it has a version that stays while the guard is open
     pub record Reads (w : State (Item K V s)) (p : ℕ) (o : Opened K V s) : Type 0 where
-      pub once : (marks_at w p).nesting ≡ 1
+      pub once : (local_at w p).nesting ≡ 1
       pub guard : participant_of o.guard ≡ p
       pub slot : ℕ
       pub named : loaded_slot o.root ≡ Some slot
@@ -82,14 +82,14 @@ module _ {K V : Type 0} {s : ℕ} where
 
     -- participant p has a reader, or no guard
     abbrev pub IsReader : State (Item K V s) → ℕ → Option (Opened K V s) → Type 0
-    IsReader w p None = (marks_at w p).nesting ≡ 0
+    IsReader w p None = (local_at w p).nesting ≡ 0
     IsReader w p (Some o) = Reads w p o
 
     -- there are so few slots that owners can be counted; the root's version is there, and the readers'; nothing else has
     -- an owner outside; only the writer, which comes behind the readers, has anything that waits
     pub record IsStore (w : State (Item K V s)) (root : ℕ) (places : List (Option (Opened K V s))) : Type 0 where
       pub place : IsPlace w
-      pub members : length w.members ≡ length places + 1
+      pub participants : length w.participants ≡ length places + 1
       pub slots : length w.states ≤ 2 ^ 30
       pub cells : length w.cells ≡ 1
       pub counted : Counted held_by (SharedIn root ∷ []) w

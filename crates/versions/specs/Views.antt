@@ -4,7 +4,7 @@ use Rattle.std.specs.declared.cmp.Ordering.{Ordering}
 use Rattle.std.specs.List.{All}
 use Rattle.versions.specs.Cuts.{pairs_in}
 use Rattle.versions.specs.Items.{owners_of}
-use Rattle.versions.specs.Seeking.{IsOrdered}
+use Rattle.versions.specs.SeparatorSearch.{IsOrdered}
 use Rattle.versions.specs.declared.directory.Directory.{Directory}
 
 -- the blocks of a directory, where its owners' segments have these pairs

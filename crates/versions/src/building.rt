@@ -2,6 +2,7 @@
 //! into slots, and an exchange of the root publishes them.
 
 pub(crate) mod built;
+pub(crate) mod change_scan;
 pub(crate) mod changes;
 pub mod draft;
 pub(crate) mod edit;
@@ -12,4 +13,3 @@ pub(crate) mod parts;
 pub(crate) mod placing;
 pub(crate) mod segments;
 pub(crate) mod sieve;
-pub(crate) mod stream;

@@ -2,7 +2,7 @@
 
 ghost use Rattle.std.specs.Prelude.{◌≡◌, ◌<◌, ◌≤◌, ◌⊎◌, ◌↔◌, ◌++◌, List, [], length, IfOk, IfErr, OnErr, OnOk, MatchOption, IsTrue, IsErrOf};
 ghost use Rattle.sdd_base.specs.State.{emptiness};
-ghost use Rattle.sdd_base.specs.Frame.{OnlyOf};
+ghost use Rattle.sdd_base.specs.Frame.{OnlyParticipant};
 ghost use Rattle.std.specs.List.{sum_by, FoldsTo};
 ghost use Rattle.sdd_base.specs.Tokens.{shared_slot};
 ghost use Rattle.sdd.specs.Chain.{Entry, Leaves, Stays};
@@ -34,7 +34,7 @@ pub fn new<T, J: Deferred, const ARRAY_LEN: usize>(
     ensures back { OnErr result (w.new ≡ w.old) }
     ensures refused { IsErrOf result NotMade.NoSlot → sum_by emptiness w.old.cells ≤ ARRAY_LEN }
     ensures leaves { Leaves [] [] w.old w.new }
-    ensures members { w.new.members ≡ w.old.members }
+    ensures participants { w.new.participants ≡ w.old.participants }
     ensures stays { Stays w.old w.new }
 {
     match row::claim_all(alloc, w, ARRAY_LEN + 1) {
@@ -56,7 +56,7 @@ pub fn try_push<T, J: Deferred, const ARRAY_LEN: usize>(
     ensures full { OnErr result ((ps : _) (os : _) → BagIn w.old bag.now ps os → (length ps ≡ ARRAY_LEN) ⊎ NoRoom w.old) }
     ensures list { SomeBagIn w.new bag.now }
     ensures leaves { Leaves (bag_cells bag.now) [] w.old w.new }
-    ensures members { w.new.members ≡ w.old.members }
+    ensures participants { w.new.participants ≡ w.old.participants }
     ensures stays { Stays w.old w.new }
 {
     match row::find(w, &bag.cells, 1, true) {
@@ -77,7 +77,7 @@ pub fn push<T, J: Deferred, const ARRAY_LEN: usize>(
     ensures refused { IfErr result (λ v. (v ≡ value) × (w.new ≡ w.old) × NoRoom w.old) }
     ensures list { SomeBagIn w.new bag.now }
     ensures leaves { Leaves (bag_cells bag.now) [] w.old w.new }
-    ensures members { w.new.members ≡ w.old.members }
+    ensures participants { w.new.participants ≡ w.old.participants }
     ensures stays { Stays w.old w.new }
 {
     match row::find(w, &bag.cells, 1, true) {
@@ -102,7 +102,7 @@ pub fn from_iter<T, J: Deferred, const ARRAY_LEN: usize, I: IntoIterator<Item = 
     ensures list { IfOk result (λ b. SomeBagIn w.new b) }
     ensures built { IfErr result (λ e. IfNoSlot e (λ b _. SomeBagIn w.new b)) }
     ensures leaves { Leaves [] [] w.old w.new }
-    ensures members { w.new.members ≡ w.old.members }
+    ensures participants { w.new.participants ≡ w.old.participants }
     ensures stays { Stays w.old w.new }
 {
     let bag = match new(alloc, w) {
@@ -129,7 +129,7 @@ pub fn pop<T, J: Deferred, const ARRAY_LEN: usize>(
     ensures popped { (ps : _) (os : _) → BagIn w.old bag.now ps os → MatchOption result ((ps ≡ []) × (os ≡ []) × BagIn w.new bag.now [] []) (λ s. TakesOne ARRAY_LEN w.new (bag_cells bag.now) (shared_slot s) ps os) }
     ensures list { SomeBagIn w.new bag.now }
     ensures leaves { OnlyLinksOf w.old w.new bag.now }
-    ensures members { w.new.members ≡ w.old.members }
+    ensures participants { w.new.participants ≡ w.old.participants }
     ensures stays { Stays w.old w.new }
 {
     match row::find(w, &bag.cells, 0, false) {
@@ -177,7 +177,7 @@ pub fn pop_all<T, J: Deferred, B, F: FnMut(B, Shared<LinkedEntry<T>>) -> B, cons
     ensures folded { (ps : _) (os : _) → BagIn w.old bag.now ps os → (es : List (Entry (LinkedEntry T))) × IsSameBag es (os ++ ps) × AreOwn w.new es × AreSpare w.new es × (last : F) × FoldsTo (CallsWith F.step) (init, f) es (result, last) }
     ensures emptied { BagIn w.new bag.now [] [] }
     ensures leaves { OnlyLinksOf w.old w.new bag.now }
-    ensures members { w.new.members ≡ w.old.members }
+    ensures participants { w.new.participants ≡ w.old.participants }
     ensures stays { Stays w.old w.new }
 {
     let mut folded = init;
@@ -196,11 +196,11 @@ pub fn retire<T, J: Deferred, const ARRAY_LEN: usize>(
     bag: Bag<T, ARRAY_LEN>,
     p: usize,
 )
-    requires member { p < length w.old.members }
+    requires participant { p < length w.old.participants }
     requires list { SomeBagIn w.old bag }
     ensures ended { AreFreeCells w.new (bag_cells bag) }
     ensures leaves { OnlyBag w.old w.new bag }
-    ensures only { OnlyOf p w.old w.new }
+    ensures only { OnlyParticipant p w.old w.new }
     ensures stays { Stays w.old w.new }
 {
     let Bag { cells } = bag;

@@ -4,7 +4,7 @@ ghost use Rattle.std.specs.Prelude.{◌≡◌, Some, None, Option, List, ◌∷�
 ghost use Rattle.std.specs.Fn.{FnOnceReturnsAt};
 ghost use Rattle.std.specs.Option.{option_copied};
 ghost use Rattle.sdd_base.specs.State.{IsFreeCell, cell_at, status_at, with_cell};
-ghost use Rattle.sdd_base.specs.Frame.{OnlyOf};
+ghost use Rattle.sdd_base.specs.Frame.{OnlyParticipant};
 ghost use Rattle.sdd_base.specs.Place.{IsSharedCell};
 ghost use Rattle.sdd_base.specs.Tokens.{shared_cell, shared_slot, shared_slots, link_cell};
 ghost use Rattle.sdd.specs.Chain.{Entry, IsItem, IsList, Hangs, HasLink, IsDetached, Fits, TookFirst, Leaves, Stays, CanHang, deleted, Begins, skip, undeleted, first_item, first_slot, front_tag, slots, SameUses, MoreOwners, OneMore};
@@ -31,7 +31,7 @@ pub(crate) fn link_of<L: LinkedList, J: Deferred>(w: &World<L, J>, owner: &Share
 pub(crate) fn take<L, J: Deferred>(w: &mut World<L, J>, cell: &AtomicShared<L>) -> Option<Shared<L>>
     requires { IsSharedCell w.old (shared_cell cell.now) }
     ensures took { (o : Option ℕ) (t : Tag) → cell_at w.old (shared_cell cell.now) ≡ Cell.OfShared o t → (shared_slots result ≡ o) × (w.new ≡ with_cell (shared_cell cell.now) (Cell.OfShared None t) w.old) }
-    ensures members { w.new.members ≡ w.old.members }
+    ensures participants { w.new.participants ≡ w.old.participants }
     ensures stays { Stays w.old w.new }
 {
     let tag = atomic_shared::tag(w, cell);
@@ -47,7 +47,7 @@ pub(crate) fn fill<L, J: Deferred>(
 )
     requires { (t : Tag) × (cell_at w.old (shared_cell cell.now) ≡ Cell.OfShared None t) }
     ensures filled { (t : Tag) → cell_at w.old (shared_cell cell.now) ≡ Cell.OfShared None t → w.new ≡ with_cell (shared_cell cell.now) (Cell.OfShared (shared_slots item) t) w.old }
-    ensures members { w.new.members ≡ w.old.members }
+    ensures participants { w.new.participants ≡ w.old.participants }
     ensures stays { Stays w.old w.new }
 {
     let tag = atomic_shared::tag(w, cell);
@@ -65,7 +65,7 @@ pub(crate) fn take_first<L: LinkedList, J: Deferred>(
 ) -> Option<Shared<L>>
     requires { Hangs L.link w.old (shared_cell cell.now) }
     ensures took { OfList L.link w.old cell.now (λ t es. TookFirst L.link w.old w.new (shared_cell cell.now) t es (shared_slots result)) }
-    ensures members { w.new.members ≡ w.old.members }
+    ensures participants { w.new.participants ≡ w.old.participants }
     ensures stays { Stays w.old w.new }
 {
     let Some(first) = take(w, cell) else {
@@ -85,7 +85,7 @@ pub(crate) fn put_first<L: LinkedList, J: Deferred>(
 )
     requires { CanHang L.link w.old (shared_cell cell.now) (shared_slot first) }
     ensures put { (t : Tag) (es : List (Entry L)) (e : Entry L) → IsList L.link w.old (shared_cell cell.now) t es → IsDetached L.link w.old e → Fits (shared_cell cell.now) es e → shared_slot first ≡ e.slot → IsList L.link w.new (shared_cell cell.now) t (e ∷ es) × Leaves (shared_cell cell.now ∷ e.link ∷ []) [] w.old w.new }
-    ensures members { w.new.members ≡ w.old.members }
+    ensures participants { w.new.participants ≡ w.old.participants }
     ensures stays { Stays w.old w.new }
 {
     let link = link_of(w, &first);
@@ -199,10 +199,10 @@ pub(crate) fn count<L: LinkedList, J: Deferred>(w: &World<L, J>, cell: &AtomicSh
 
 /// Gives the first entry of a list back.
 fn drop_first<L: LinkedList, J: Deferred>(w: &mut World<L, J>, cell: &AtomicShared<L>, p: usize)
-    requires member { p < length w.old.members }
+    requires participant { p < length w.old.participants }
     requires list { Hangs L.link w.old (shared_cell cell.now) }
     ensures dropped { (t : Tag) (e : Entry L) (es : List (Entry L)) → IsList L.link w.old (shared_cell cell.now) t (e ∷ es) → IsList L.link w.new (shared_cell cell.now) t es × Leaves (shared_cell cell.now ∷ e.link ∷ []) (e.slot ∷ []) w.old w.new }
-    ensures only { OnlyOf p w.old w.new }
+    ensures only { OnlyParticipant p w.old w.new }
     ensures stays { Stays w.old w.new }
 {
     match take_first(w, cell) {
@@ -219,12 +219,12 @@ pub(crate) fn skip_deleted<L: LinkedList, J: Deferred>(
     cell: &AtomicShared<L>,
     p: usize,
 )
-    requires member { p < length w.old.members }
+    requires participant { p < length w.old.participants }
     requires list { Hangs L.link w.old (shared_cell cell.now) }
     ensures skipped { OfList L.link w.old cell.now (λ t es. IsList L.link w.new (shared_cell cell.now) t (skip es)) }
     ensures leaves { OnlyList L.link w.old w.new cell.now }
     ensures same { OfList L.link w.old cell.now (λ t es. SameUses w.old w.new (slots (skip es))) }
-    ensures only { OnlyOf p w.old w.new }
+    ensures only { OnlyParticipant p w.old w.new }
     ensures stays { Stays w.old w.new }
 {
     for _passed in 0..w.slots_in_use() {
@@ -240,11 +240,11 @@ pub(crate) fn skip_deleted<L: LinkedList, J: Deferred>(
     }
 }
 
-/// Marks an entry that is in no list as deleted.
+/// LocalState an entry that is in no list as deleted.
 pub(crate) fn delete<L: LinkedList, J: Deferred>(w: &mut World<L, J>, owner: &Shared<L>)
     requires { (e : Entry L) × IsDetached L.link w.old e × (shared_slot owner.now ≡ e.slot) }
     ensures deleted { (e : Entry L) → IsDetached L.link w.old e → shared_slot owner.now ≡ e.slot → w.new ≡ with_cell e.link (Cell.OfShared None Tag.Second) w.old }
-    ensures members { w.new.members ≡ w.old.members }
+    ensures participants { w.new.participants ≡ w.old.participants }
     ensures stays { Stays w.old w.new }
 {
     let link = link_of(w, owner);
@@ -267,7 +267,7 @@ pub(crate) fn share_first<L: LinkedList, J: Deferred>(
     ensures leaves { OnlyList L.link w.old w.new cell.now }
     ensures owners { MoreOwners w.old w.new }
     ensures more { IfSome result (λ s. OneMore w.old w.new (shared_slot s)) }
-    ensures members { w.new.members ≡ w.old.members }
+    ensures participants { w.new.participants ≡ w.old.participants }
     ensures stays { Stays w.old w.new }
 {
     let Some(first) = take_first(w, cell) else {
@@ -291,11 +291,11 @@ pub(crate) fn clear<L: LinkedList, J: Deferred>(
     cell: &AtomicShared<L>,
     p: usize,
 )
-    requires member { p < length w.old.members }
+    requires participant { p < length w.old.participants }
     requires list { Hangs L.link w.old (shared_cell cell.now) }
     ensures cleared { OfList L.link w.old cell.now (λ t es. IsList L.link w.new (shared_cell cell.now) t []) }
     ensures leaves { OnlyList L.link w.old w.new cell.now }
-    ensures only { OnlyOf p w.old w.new }
+    ensures only { OnlyParticipant p w.old w.new }
     ensures stays { Stays w.old w.new }
 {
     for _passed in 0..w.slots_in_use() {
@@ -311,7 +311,7 @@ pub(crate) fn end<L, J: Deferred>(w: &mut World<L, J>, cell: AtomicShared<L>)
     requires { (t : Tag) × (cell_at w.old (shared_cell cell) ≡ Cell.OfShared None t) }
     ensures ended { w.new ≡ with_cell (shared_cell cell) Cell.Free w.old }
     ensures free { IsFreeCell w.new (shared_cell cell) }
-    ensures members { w.new.members ≡ w.old.members }
+    ensures participants { w.new.participants ≡ w.old.participants }
     ensures stays { Stays w.old w.new }
 {
     match atomic_shared::into_shared(w, cell) {

@@ -27,7 +27,7 @@ pub(crate) fn link<T, J: Deferred>(
     ensures made { IfOk result (λ e. MakesEntry w.old w.new e value) }
     ensures refused { IfErr result (λ v. (v ≡ value) × (w.new ≡ w.old) × NoCellFree w.old) }
     ensures leaves { Leaves [] [] w.old w.new }
-    ensures members { w.new.members ≡ w.old.members }
+    ensures participants { w.new.participants ≡ w.old.participants }
     ensures stays { Stays w.old w.new }
 {
     match atomic_shared::null(w) {
@@ -65,7 +65,7 @@ pub(crate) fn make_one<T, J: Deferred>(
     ensures one { IfOk result (λ s. status_at w.new (shared_slot s) ≡ Status.Shared 1) }
     ensures refused { IfErr result (λ v. (v ≡ value) × (w.new ≡ w.old) × NoRoom w.old) }
     ensures leaves { Leaves [] [] w.old w.new }
-    ensures members { w.new.members ≡ w.old.members }
+    ensures participants { w.new.participants ≡ w.old.participants }
     ensures stays { Stays w.old w.new }
 {
     match link(w, value) {
@@ -88,7 +88,7 @@ pub(crate) fn make<T, J: Deferred>(
     ensures two { IfOk result (λ s. status_at w.new (shared_slot s.0) ≡ Status.Shared 2) }
     ensures refused { IfErr result (λ v. (v ≡ value) × (w.new ≡ w.old) × NoRoom w.old) }
     ensures leaves { Leaves [] [] w.old w.new }
-    ensures members { w.new.members ≡ w.old.members }
+    ensures participants { w.new.participants ≡ w.old.participants }
     ensures stays { Stays w.old w.new }
 {
     match make_one(w, value) {
@@ -119,7 +119,7 @@ pub(crate) fn make_three<T, J: Deferred>(
     ensures three { IfOk result (λ s. status_at w.new (shared_slot s.0) ≡ Status.Shared 3) }
     ensures refused { IfErr result (λ v. (v ≡ value) × (w.new ≡ w.old) × NoRoom w.old) }
     ensures leaves { Leaves [] [] w.old w.new }
-    ensures members { w.new.members ≡ w.old.members }
+    ensures participants { w.new.participants ≡ w.old.participants }
     ensures stays { Stays w.old w.new }
 {
     match make(w, value) {

@@ -1,7 +1,7 @@
 //! Taking a bag apart over a `World`.
 
 ghost use Rattle.std.specs.Prelude.{◌≡◌, ◌<◌, [], length, MatchOption};
-ghost use Rattle.sdd_base.specs.Frame.{OnlyOf};
+ghost use Rattle.sdd_base.specs.Frame.{OnlyParticipant};
 ghost use Rattle.sdd_base.specs.Tokens.{shared_slot};
 ghost use Rattle.sdd.specs.Chain.{Stays};
 ghost use Rattle.sdd.specs.Bags.{IsSomeBag, TakesOne, AreFreeCells, into_cells};
@@ -24,7 +24,7 @@ pub fn next<T, J: Deferred, const ARRAY_LEN: usize>(
     ensures popped { (ps : _) (os : _) → BagIn w.old iter.now.bag ps os → MatchOption result ((ps ≡ []) × (os ≡ []) × BagIn w.new iter.now.bag [] []) (λ s. TakesOne ARRAY_LEN w.new (into_cells iter.now) (shared_slot s) ps os) }
     ensures list { IsSomeBag ARRAY_LEN w.new (into_cells iter.now) }
     ensures leaves { OnlyLinksOf w.old w.new iter.now.bag }
-    ensures members { w.new.members ≡ w.old.members }
+    ensures participants { w.new.participants ≡ w.old.participants }
     ensures stays { Stays w.old w.new }
 {
     bag::pop(w, &iter.bag, p)
@@ -36,11 +36,11 @@ pub fn retire<T, J: Deferred, const ARRAY_LEN: usize>(
     iter: IntoIter<T, ARRAY_LEN>,
     p: usize,
 )
-    requires member { p < length w.old.members }
+    requires participant { p < length w.old.participants }
     requires list { IsSomeBag ARRAY_LEN w.old (into_cells iter) }
     ensures ended { AreFreeCells w.new (into_cells iter) }
     ensures leaves { OnlyBag w.old w.new iter.bag }
-    ensures only { OnlyOf p w.old w.new }
+    ensures only { OnlyParticipant p w.old w.new }
     ensures stays { Stays w.old w.new }
 {
     let IntoIter { bag } = iter;

@@ -14,14 +14,14 @@ use crate::bag::{Bag, IterMut, Stop};
 use crate::linked_entry::LinkedEntry;
 use crate::linked_list::LinkedList;
 use sdd_base::cell::AtomicShared;
+use sdd_base::exclusive_access::ExclusiveAccess;
 use sdd_base::job::Deferred;
-use sdd_base::lender::Lender;
 use sdd_base::link::Link;
 use sdd_base::refusal::GuardsOpen;
 use sdd_base::world::{World, atomic_shared};
 
 /// A place along whose bags a walk can go: a `World`.
-pub trait WalkedPlace<T>: Lender<LinkedEntry<T>> + Sized {
+pub trait WalkedPlace<T>: ExclusiveAccess<LinkedEntry<T>> + Sized {
     /// The next entry of a walk along the lists of these cells, or none at the end. It changes nothing.
     fn next_stop(
         &self,

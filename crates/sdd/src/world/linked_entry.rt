@@ -62,7 +62,7 @@ pub fn place<T, J: Deferred>(
     ensures one { IfOk result (λ s. status_at w.new (shared_slot s) ≡ Status.Shared 1) }
     ensures refused { IfErr result (λ v. (v ≡ value) × (w.new ≡ w.old) × NoRoom w.old) }
     ensures leaves { Leaves [] [] w.old w.new }
-    ensures members { w.new.members ≡ w.old.members }
+    ensures participants { w.new.participants ≡ w.old.participants }
     ensures stays { Stays w.old w.new }
 {
     entries::make_one(w, value)

@@ -45,7 +45,7 @@ fn set_tag<L: LinkedList, J: Deferred>(w: &mut World<L, J>, at: &Ptr<'static, L>
     requires { IsSomeNode L.link w.old (ptr_slot at.now) }
     ensures retags { (e : Entry L) → IsNode L.link w.old (ptr_slot at.now) e → Retags L.link w.old w.new e tag }
     ensures leaves { (e : Entry L) → IsNode L.link w.old (ptr_slot at.now) e → Leaves (e.link ∷ []) [] w.old w.new }
-    ensures members { w.new.members ≡ w.old.members }
+    ensures participants { w.new.participants ≡ w.old.participants }
     ensures stays { Stays w.old w.new }
 {
     let link = link_at(w, at);
@@ -97,14 +97,14 @@ pub fn is_deleted<L: LinkedList, J: Deferred>(w: &World<L, J>, at: Ptr<'static, 
     chain::is_deleted(tag_of(w, &at))
 }
 
-/// Marks a clear entry, and answers whether it was clear.
+/// LocalState a clear entry, and answers whether it was clear.
 pub fn mark<L: LinkedList, J: Deferred>(w: &mut World<L, J>, at: Ptr<'static, L>) -> bool
     requires { IsSomeNode L.link w.old (ptr_slot at) }
     ensures when { (e : Entry L) → IsNode L.link w.old (ptr_slot at.entry) e → result ≡ clear e.tag }
     ensures marked { IsTrue result → (e : Entry L) → IsNode L.link w.old (ptr_slot at.entry) e → Retags L.link w.old w.new e Tag.First }
     ensures kept { IsFalse result → w.new ≡ w.old }
     ensures leaves { (e : Entry L) → IsNode L.link w.old (ptr_slot at.entry) e → Leaves (e.link ∷ []) [] w.old w.new }
-    ensures members { w.new.members ≡ w.old.members }
+    ensures participants { w.new.participants ≡ w.old.participants }
     ensures stays { Stays w.old w.new }
 {
     if !is_clear_tag(tag_of(w, &at)) {
@@ -121,7 +121,7 @@ pub fn unmark<L: LinkedList, J: Deferred>(w: &mut World<L, J>, at: Ptr<'static, 
     ensures cleared { IsTrue result → (e : Entry L) → IsNode L.link w.old (ptr_slot at.entry) e → Retags L.link w.old w.new e Tag.None }
     ensures kept { IsFalse result → w.new ≡ w.old }
     ensures leaves { (e : Entry L) → IsNode L.link w.old (ptr_slot at.entry) e → Leaves (e.link ∷ []) [] w.old w.new }
-    ensures members { w.new.members ≡ w.old.members }
+    ensures participants { w.new.participants ≡ w.old.participants }
     ensures stays { Stays w.old w.new }
 {
     if !is_marked_tag(tag_of(w, &at)) {
@@ -139,7 +139,7 @@ pub fn delete_self<L: LinkedList, J: Deferred>(w: &mut World<L, J>, at: Ptr<'sta
     ensures deleted { IsTrue result → (e : Entry L) → IsNode L.link w.old (ptr_slot at.entry) e → Retags L.link w.old w.new e Tag.Second }
     ensures kept { IsFalse result → w.new ≡ w.old }
     ensures leaves { (e : Entry L) → IsNode L.link w.old (ptr_slot at.entry) e → Leaves (e.link ∷ []) [] w.old w.new }
-    ensures members { w.new.members ≡ w.old.members }
+    ensures participants { w.new.participants ≡ w.old.participants }
     ensures stays { Stays w.old w.new }
 {
     if chain::is_deleted(tag_of(w, &at)) {
@@ -172,7 +172,7 @@ pub fn push_back<L: LinkedList, J: Deferred>(
     ensures pointer { IfOk result (λ r. (ptr_slot r ≡ Some (shared_slot entry)) × (ptr_tag r ≡ cond mark Tag.First Tag.None)) }
     ensures pushed { OnOk result (OfInsertion L.link w.old (ptr_slot at.entry) (shared_slot entry) (λ e x. Inserts L.link w.old w.new e (cond mark Tag.First Tag.None) x)) }
     ensures leaves { OfInsertion L.link w.old (ptr_slot at.entry) (shared_slot entry) (λ e x. Leaves (e.link ∷ x.link ∷ []) [] w.old w.new) }
-    ensures members { w.new.members ≡ w.old.members }
+    ensures participants { w.new.participants ≡ w.old.participants }
     ensures stays { Stays w.old w.new }
 {
     let link = link_at(w, &at);

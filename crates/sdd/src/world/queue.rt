@@ -2,7 +2,7 @@
 
 ghost use Rattle.std.specs.Prelude.{◌≤◌, ◌≡◌, ◌<◌, ◌↔◌, ℕ, [], ◌∷◌, length, IfOk, IfErr, OnErr, OnOk, Some, IfSome, IfNone, ◌≢◌, MatchOption, IsTrue, IsErrAnd, Bool, false};
 ghost use Rattle.sdd_base.specs.State.{IsFreeCell};
-ghost use Rattle.sdd_base.specs.Frame.{OnlyOf};
+ghost use Rattle.sdd_base.specs.Frame.{OnlyParticipant};
 ghost use Rattle.sdd_base.specs.Place.{IsShared};
 ghost use Rattle.sdd_base.specs.Steps.{released};
 ghost use Rattle.sdd_base.specs.Tokens.{shared_slot, ptr_slot, ptr_tag};
@@ -44,7 +44,7 @@ pub fn new<T, J: Deferred>(w: &mut World<LinkedEntry<T>, J>) -> Result<Queue<T>,
     ensures list { IfOk result (λ q. SomeQueueIn w.new q) }
     ensures refused { OnErr result ((w.new ≡ w.old) × NoTwoCells w.old) }
     ensures leaves { Leaves [] [] w.old w.new }
-    ensures members { w.new.members ≡ w.old.members }
+    ensures participants { w.new.participants ≡ w.old.participants }
     ensures stays { Stays w.old w.new }
 {
     match atomic_shared::null(w) {
@@ -66,14 +66,14 @@ pub fn push<T, J: Deferred>(
     queue: &Queue<T>,
     value: T,
 ) -> Result<Shared<LinkedEntry<T>>, T>
-    requires member { 0 < length w.old.members }
+    requires participant { 0 < length w.old.participants }
     requires list { SomeQueueIn w.old queue.now }
     ensures pushed { IfOk result (λ s. AppendsTo w.old w.new queue.now value s) }
     ensures refused { IfErr result (λ v. (v ≡ value) × (w.new ≡ w.old) × NoRoom w.old) }
     ensures live { IfOk result (λ s. IsShared w.new (shared_slot s)) }
     ensures list { SomeQueueIn w.new queue.now }
     ensures leaves { OnlyQueue w.old w.new queue.now }
-    ensures only { OnlyOf 0 w.old w.new }
+    ensures only { OnlyParticipant 0 w.old w.new }
     ensures stays { Stays w.old w.new }
 {
     match entries::make_three(w, value) {
@@ -91,12 +91,12 @@ fn add<T, J: Deferred>(
     queue: &Queue<T>,
     value: Option<T>,
 ) -> Result<(), T>
-    requires member { 0 < length w.old.members }
+    requires participant { 0 < length w.old.participants }
     requires list { SomeQueueIn w.old queue.now }
     ensures added { OnOk result (MatchOption value (w.new ≡ w.old) (λ v. Extends w.old w.new v (oldest_cell queue.now) (newest_cell queue.now))) }
     ensures refused { IfErr result (λ v. (value ≡ Some v) × (w.new ≡ w.old) × NoRoom w.old) }
     ensures leaves { OnlyQueue w.old w.new queue.now }
-    ensures only { OnlyOf 0 w.old w.new }
+    ensures only { OnlyParticipant 0 w.old w.new }
     ensures stays { Stays w.old w.new }
 {
     let Some(value) = value else {
@@ -118,7 +118,7 @@ pub fn from_iter<T, J: Deferred, I: IntoIterator<Item = T>>(
     w: &mut World<LinkedEntry<T>, J>,
     values: I,
 ) -> Result<Queue<T>, FromIterRefused<Queue<T>, T, I>>
-    requires member { 0 < length w.old.members }
+    requires participant { 0 < length w.old.participants }
     requires ends { IsFiniteIterable I.into_iter_gives I.IntoIter.can_next I.IntoIter.remaining values }
     ensures filled { IfOk result (λ q. GivesAll I.into_iter_gives I.IntoIter.next_gives values (λ vs. FillsQueue w.old w.new (oldest_cell q) (newest_cell q) vs)) }
     ensures partly { IfErr result (λ e. IfNoSlot e (λ q v. GivesUpTo I.into_iter_gives I.IntoIter.next_gives values v (λ vs. FillsQueue w.old w.new (oldest_cell q) (newest_cell q) vs × NoRoom w.new))) }
@@ -126,7 +126,7 @@ pub fn from_iter<T, J: Deferred, I: IntoIterator<Item = T>>(
     ensures list { IfOk result (λ q. SomeQueueIn w.new q) }
     ensures built { IfErr result (λ e. IfNoSlot e (λ q _. SomeQueueIn w.new q)) }
     ensures leaves { Leaves [] [] w.old w.new }
-    ensures only { OnlyOf 0 w.old w.new }
+    ensures only { OnlyParticipant 0 w.old w.new }
     ensures stays { Stays w.old w.new }
 {
     let queue = match new(w) {
@@ -150,7 +150,7 @@ pub fn clone<T: Clone, J: Deferred>(
     queue: &Queue<T>,
 ) -> Result<Queue<T>, CloneRefused<Queue<T>>>
     requires clones { ClonesAreSame T.is_clone }
-    requires member { 0 < length w.old.members }
+    requires participant { 0 < length w.old.participants }
     requires list { SomeQueueIn w.old queue.now }
     ensures cloned { (es : _) → QueueIn w.old queue.now es → IfOk result (λ q. FillsQueue w.old w.new (oldest_cell q) (newest_cell q) (entry_values (undeleted es))) }
     ensures partly { (es : _) → QueueIn w.old queue.now es → IfErr result (λ e. IfPartly e (λ q r. CopiesUpTo T.is_infallible (entry_values (undeleted es)) r (NoRoom w.new) (FillsQueue w.old w.new (oldest_cell q) (newest_cell q)))) }
@@ -159,7 +159,7 @@ pub fn clone<T: Clone, J: Deferred>(
     ensures list { IfOk result (λ q. SomeQueueIn w.new q) }
     ensures built { IfErr result (λ e. IfPartly e (λ q _. SomeQueueIn w.new q)) }
     ensures leaves { Leaves [] [] w.old w.new }
-    ensures only { OnlyOf 0 w.old w.new }
+    ensures only { OnlyParticipant 0 w.old w.new }
     ensures stays { Stays w.old w.new }
 {
     let copy = match new(w) {
@@ -191,13 +191,13 @@ pub fn pop<T, J: Deferred>(
     queue: &Queue<T>,
     p: usize,
 ) -> Option<Shared<LinkedEntry<T>>>
-    requires member { p < length w.old.members }
+    requires participant { p < length w.old.participants }
     requires list { SomeQueueIn w.old queue.now }
     ensures popped { (es : _) → QueueIn w.old queue.now es → MatchOption result ((undeleted es ≡ []) × QueueIn w.new queue.now []) (λ s. TakesFrom w.new queue.now s es) }
     ensures live { IfSome result (λ s. IsShared w.new (shared_slot s)) }
     ensures list { SomeQueueIn w.new queue.now }
     ensures leaves { OnlyQueue w.old w.new queue.now }
-    ensures only { OnlyOf p w.old w.new }
+    ensures only { OnlyParticipant p w.old w.new }
     ensures stays { Stays w.old w.new }
 {
     if is_empty(w, queue) {
@@ -249,11 +249,11 @@ pub fn is_empty<T, J: Deferred>(w: &World<LinkedEntry<T>, J>, queue: &Queue<T>) 
 
 /// Ends the queue: participant `p` gives all its entries back, and its two cells are free.
 pub fn retire<T, J: Deferred>(w: &mut World<LinkedEntry<T>, J>, queue: Queue<T>, p: usize)
-    requires member { p < length w.old.members }
+    requires participant { p < length w.old.participants }
     requires list { SomeQueueIn w.old queue }
     ensures ended { IsFreeCell w.new (oldest_cell queue) × IsFreeCell w.new (newest_cell queue) }
     ensures leaves { OnlyQueue w.old w.new queue }
-    ensures only { OnlyOf p w.old w.new }
+    ensures only { OnlyParticipant p w.old w.new }
     ensures stays { Stays w.old w.new }
 {
     let Queue { oldest, newest } = queue;
@@ -286,7 +286,7 @@ pub fn push_if<T, J: Deferred, F: FnOnce(Option<&LinkedEntry<T>>) -> bool>(
     f: F,
 ) -> Result<Shared<LinkedEntry<T>>, PushRefused<T>>
     requires callable { CanAskFirst F.pre f (QueueIn w.old queue.now) }
-    requires member { 0 < length w.old.members }
+    requires participant { 0 < length w.old.participants }
     requires list { SomeQueueIn w.old queue.now }
     ensures asked { (es : _) → QueueIn w.old queue.now es → (o : _) × (r : Bool) × (option_copied o ≡ first_item (undeleted es)) × F.post f o r × (IsErrAnd result IsCondition ↔ (r ≡ false)) }
     ensures pushed { IfOk result (λ s. AppendsTo w.old w.new queue.now value s) }
@@ -295,7 +295,7 @@ pub fn push_if<T, J: Deferred, F: FnOnce(Option<&LinkedEntry<T>>) -> bool>(
     ensures live { IfOk result (λ s. IsShared w.new (shared_slot s)) }
     ensures list { SomeQueueIn w.new queue.now }
     ensures leaves { OnlyQueue w.old w.new queue.now }
-    ensures only { OnlyOf 0 w.old w.new }
+    ensures only { OnlyParticipant 0 w.old w.new }
     ensures stays { Stays w.old w.new }
 {
     if !peek_with(w, queue, f) {
@@ -325,7 +325,7 @@ fn share_oldest<T, J: Deferred>(
     queue: &Queue<T>,
     p: usize,
 ) -> Option<Shared<LinkedEntry<T>>>
-    requires member { p < length w.old.members }
+    requires participant { p < length w.old.participants }
     requires list { HasOldest entry_link w.old (oldest_cell queue.now) (newest_cell queue.now) }
     ensures kept { (es : _) → QueueIn w.old queue.now es → undeleted es ≢ [] → QueueIn w.new queue.now (skip es) }
     ensures some { IfSome result (λ s. (es : _) → QueueIn w.old queue.now es → Some (shared_slot s) ≡ first_slot (undeleted es)) }
@@ -333,7 +333,7 @@ fn share_oldest<T, J: Deferred>(
     ensures spare { IfSome result (λ s. (p : ℕ) (es : _) → QueueIn w.old queue.now es → undeleted es ≢ [] → QueueIn (released p (shared_slot s) w.new) queue.now (skip es)) }
     ensures none { IfNone result ((es : _) → QueueIn w.old queue.now es → FirstIsFull w.old es) }
     ensures leaves { (es : _) → QueueIn w.old queue.now es → Leaves (oldest_cell queue.now ∷ links es) (slots es) w.old w.new }
-    ensures only { OnlyOf p w.old w.new }
+    ensures only { OnlyParticipant p w.old w.new }
     ensures stays { Stays w.old w.new }
 {
     chain::skip_deleted(w, &queue.oldest, p);
@@ -353,7 +353,7 @@ pub fn pop_if<T, J: Deferred, F: FnOnce(&LinkedEntry<T>) -> bool + Drop>(
     f: F,
 ) -> Result<Option<Shared<LinkedEntry<T>>>, Shared<LinkedEntry<T>>>
     requires callable { F.IsAlwaysCallable f }
-    requires member { p < length w.old.members }
+    requires participant { p < length w.old.participants }
     requires list { SomeQueueIn w.old queue.now }
     ensures asked { (es : _) → QueueIn w.old queue.now es → IfSome (first_item (undeleted es)) (λ v. FnOnceReturnsAt F.FnOnce f v (taken result)) }
     ensures popped { (es : _) → QueueIn w.old queue.now es → IfOk result (λ r. IfSome r (λ s. TakesFrom w.new queue.now s es)) }
@@ -365,7 +365,7 @@ pub fn pop_if<T, J: Deferred, F: FnOnce(&LinkedEntry<T>) -> bool + Drop>(
     ensures full { (es : _) → QueueIn w.old queue.now es → IfOk result (λ r. IfNone r (FirstIsFull w.old es)) }
     ensures list { SomeQueueIn w.new queue.now }
     ensures leaves { OnlyQueue w.old w.new queue.now }
-    ensures only { OnlyOf p w.old w.new }
+    ensures only { OnlyParticipant p w.old w.new }
     ensures stays { Stays w.old w.new }
 {
     let Some(entry) = chain::first_undeleted(w, &queue.oldest) else {

@@ -3,7 +3,7 @@
 ghost use Rattle.std.specs.Prelude.{◌≡◌, ◌≢◌, ◌<◌, ◌≤◌, ◌+◌, ◌++◌, ℕ, List, [], ◌∷◌, length, get_or, map, not, Option, None, Some, IfSome, IfNone, IfOk, OnOk, OnErr, IfErr, ◌⊎◌, vec_len, vec_capacity, IsErrOf};
 ghost use Rattle.sdd_base.specs.State.{NoneFree, NoCellFree, emptiness};
 ghost use Rattle.std.specs.List.{sum_by};
-ghost use Rattle.sdd_base.specs.Frame.{OnlyOf};
+ghost use Rattle.sdd_base.specs.Frame.{OnlyParticipant};
 ghost use Rattle.sdd_base.specs.Place.{IsSharedCell};
 ghost use Rattle.sdd_base.specs.Tokens.{shared_cell};
 ghost use Rattle.sdd.specs.Chain.{Entry, Leaves, Stays, links, slots, undeleted};
@@ -50,7 +50,7 @@ pub(crate) fn put<T, J: Deferred>(
     ensures put { OnOk result (Puts w.old w.new value (shared_cell cell.now)) }
     ensures refused { IfErr result (λ v. (v ≡ value) × (w.new ≡ w.old) × (NoneFree w.old ⊎ NoCellFree w.old)) }
     ensures leaves { Leaves (shared_cell cell.now ∷ []) [] w.old w.new }
-    ensures members { w.new.members ≡ w.old.members }
+    ensures participants { w.new.participants ≡ w.old.participants }
     ensures stays { Stays w.old w.new }
 {
     match entries::make_one(w, value) {
@@ -68,11 +68,11 @@ pub(crate) fn clear_all<L: LinkedList, J: Deferred>(
     cells: &Vec<AtomicShared<L>>,
     p: usize,
 )
-    requires member { p < length w.old.members }
+    requires participant { p < length w.old.participants }
     requires list { IsSomeRow L.link w.old (map shared_cell cells.now.items) }
     ensures cleared { (rows : List (List (Entry L))) → length cells.now.items ≤ length rows → IsRow L.link w.old (map shared_cell cells.now.items) rows → IsRow L.link w.new (map shared_cell cells.now.items) [] }
     ensures leaves { (rows : List (List (Entry L))) → length cells.now.items ≤ length rows → IsRow L.link w.old (map shared_cell cells.now.items) rows → Leaves (map shared_cell cells.now.items ++ links (joined rows)) (slots (joined rows)) w.old w.new }
-    ensures only { OnlyOf p w.old w.new }
+    ensures only { OnlyParticipant p w.old w.new }
     ensures stays { Stays w.old w.new }
 {
     for at in 0..cells.len() {
@@ -85,7 +85,7 @@ pub(crate) fn end_all<L, J: Deferred>(w: &mut World<L, J>, cells: Vec<AtomicShar
     requires { AreEmpty w.old (map shared_cell cells.items) }
     ensures ended { w.new ≡ freed (map shared_cell cells.items) w.old }
     ensures stays { Stays w.old w.new }
-    ensures members { w.new.members ≡ w.old.members }
+    ensures participants { w.new.participants ≡ w.old.participants }
 {
     let mut cells = cells;
     while let Some(cell) = cells.pop() {
@@ -104,7 +104,7 @@ pub(crate) fn claim_all<L, J: Deferred>(
     ensures claimed { IfOk result (λ ts. (length ts.items ≡ number) × IsClaimed w.old (map shared_cell ts.items) w.new) }
     ensures back { OnErr result (w.new ≡ w.old) }
     ensures refused { IsErrOf result NotMade.NoSlot → sum_by emptiness w.old.cells < number }
-    ensures members { w.new.members ≡ w.old.members }
+    ensures participants { w.new.participants ≡ w.old.participants }
     ensures stays { Stays w.old w.new }
 {
     let mut cells = match Vec::with_capacity(alloc, number) {

@@ -2,7 +2,7 @@
 
 ghost use Rattle.std.specs.Prelude.{◌≤◌, ◌≡◌, ◌<◌, ◌↔◌, ℕ, [], ◌∷◌, length, IfOk, IfErr, OnErr, OnOk, None, Some, IfSome, IfNone, reverse, MatchOption, IsTrue, IsErrAnd, Bool, false};
 ghost use Rattle.sdd_base.specs.State.{cell_at, IsFreeCell, NoCellFree};
-ghost use Rattle.sdd_base.specs.Frame.{OnlyOf};
+ghost use Rattle.sdd_base.specs.Frame.{OnlyParticipant};
 ghost use Rattle.sdd_base.specs.Place.{IsShared};
 ghost use Rattle.sdd_base.specs.Steps.{released};
 ghost use Rattle.sdd_base.specs.Tokens.{link_cell, shared_slot, ptr_slot, ptr_tag};
@@ -43,7 +43,7 @@ pub fn new<T, J: Deferred>(w: &mut World<LinkedEntry<T>, J>) -> Result<Stack<T>,
     ensures list { IfOk result (λ s. IsSomeStack w.new (stack_cell s)) }
     ensures refused { OnErr result ((w.new ≡ w.old) × NoCellFree w.old) }
     ensures leaves { Leaves [] [] w.old w.new }
-    ensures members { w.new.members ≡ w.old.members }
+    ensures participants { w.new.participants ≡ w.old.participants }
     ensures stays { Stays w.old w.new }
 {
     match atomic_shared::null(w) {
@@ -65,7 +65,7 @@ pub fn push<T, J: Deferred>(
     ensures live { IfOk result (λ s. IsShared w.new (shared_slot s)) }
     ensures list { IsSomeStack w.new (stack_cell stack.now) }
     ensures leaves { Leaves (stack_cell stack.now ∷ []) [] w.old w.new }
-    ensures members { w.new.members ≡ w.old.members }
+    ensures participants { w.new.participants ≡ w.old.participants }
     ensures stays { Stays w.old w.new }
 {
     match entries::make(w, value) {
@@ -88,7 +88,7 @@ fn add_last<T, J: Deferred>(
     ensures added { OnOk result (MatchOption value ((w.new ≡ w.old) × (link_cell end.new ≡ link_cell end.old)) (λ v. ExtendsLast w.old w.new v (link_cell end.old) (link_cell end.new))) }
     ensures refused { IfErr result (λ v. (value ≡ Some v) × (w.new ≡ w.old) × NoRoom w.old) }
     ensures leaves { Leaves (link_cell end.old ∷ []) [] w.old w.new }
-    ensures members { w.new.members ≡ w.old.members }
+    ensures participants { w.new.participants ≡ w.old.participants }
     ensures stays { Stays w.old w.new }
 {
     let Some(value) = value else {
@@ -119,7 +119,7 @@ pub fn from_iter<T, J: Deferred, I: IntoIterator<Item = T>>(
     ensures list { IfOk result (λ s. IsSomeStack w.new (stack_cell s)) }
     ensures built { IfErr result (λ e. IfNoSlot e (λ s _. IsSomeStack w.new (stack_cell s))) }
     ensures leaves { Leaves [] [] w.old w.new }
-    ensures members { w.new.members ≡ w.old.members }
+    ensures participants { w.new.participants ≡ w.old.participants }
     ensures stays { Stays w.old w.new }
 {
     let stack = match new(w) {
@@ -151,7 +151,7 @@ pub fn clone<T: Clone, J: Deferred>(
     ensures list { IfOk result (λ s. IsSomeStack w.new (stack_cell s)) }
     ensures built { IfErr result (λ e. IfPartly e (λ s _. IsSomeStack w.new (stack_cell s))) }
     ensures leaves { Leaves [] [] w.old w.new }
-    ensures members { w.new.members ≡ w.old.members }
+    ensures participants { w.new.participants ≡ w.old.participants }
     ensures stays { Stays w.old w.new }
 {
     let copy = match new(w) {
@@ -184,13 +184,13 @@ pub fn pop<T, J: Deferred>(
     stack: &Stack<T>,
     p: usize,
 ) -> Option<Shared<LinkedEntry<T>>>
-    requires member { p < length w.old.members }
+    requires participant { p < length w.old.participants }
     requires list { IsSomeStack w.old (stack_cell stack.now) }
     ensures popped { (es : _) → StackIn w.old stack.now es → MatchOption result ((undeleted es ≡ []) × StackIn w.new stack.now []) (λ s. PopsFrom w.new stack.now s es) }
     ensures live { IfSome result (λ s. IsShared w.new (shared_slot s)) }
     ensures list { IsSomeStack w.new (stack_cell stack.now) }
     ensures leaves { OnlyStack w.old w.new stack.now }
-    ensures only { OnlyOf p w.old w.new }
+    ensures only { OnlyParticipant p w.old w.new }
     ensures stays { Stays w.old w.new }
 {
     chain::skip_deleted(w, &stack.newest, p);
@@ -248,7 +248,7 @@ pub fn pop_all<T, J: Deferred>(
     ensures list { IsSomeStack w.new (stack_cell stack.now) }
     ensures lists { IfOk result (λ s. IsSomeStack w.new (stack_cell s)) }
     ensures leaves { Leaves (stack_cell stack.now ∷ []) [] w.old w.new }
-    ensures members { w.new.members ≡ w.old.members }
+    ensures participants { w.new.participants ≡ w.old.participants }
     ensures stays { Stays w.old w.new }
 {
     match atomic_shared::null(w) {
@@ -263,11 +263,11 @@ pub fn pop_all<T, J: Deferred>(
 
 /// Ends the stack: participant `p` gives all its entries back, and its cell is free.
 pub fn retire<T, J: Deferred>(w: &mut World<LinkedEntry<T>, J>, stack: Stack<T>, p: usize)
-    requires member { p < length w.old.members }
+    requires participant { p < length w.old.participants }
     requires list { IsSomeStack w.old (stack_cell stack) }
     ensures ended { IsFreeCell w.new (stack_cell stack) }
     ensures leaves { OnlyStack w.old w.new stack }
-    ensures only { OnlyOf p w.old w.new }
+    ensures only { OnlyParticipant p w.old w.new }
     ensures stays { Stays w.old w.new }
 {
     let Stack { newest } = stack;
@@ -306,7 +306,7 @@ pub fn push_if<T, J: Deferred, F: FnOnce(Option<&LinkedEntry<T>>) -> bool>(
     ensures live { IfOk result (λ s. IsShared w.new (shared_slot s)) }
     ensures list { IsSomeStack w.new (stack_cell stack.now) }
     ensures leaves { Leaves (stack_cell stack.now ∷ []) [] w.old w.new }
-    ensures members { w.new.members ≡ w.old.members }
+    ensures participants { w.new.participants ≡ w.old.participants }
     ensures stays { Stays w.old w.new }
 {
     if !peek_with(w, stack, f) {
@@ -328,7 +328,7 @@ pub fn pop_if<T, J: Deferred, F: FnOnce(&LinkedEntry<T>) -> bool + Drop>(
     f: F,
 ) -> Result<Option<Shared<LinkedEntry<T>>>, Shared<LinkedEntry<T>>>
     requires callable { F.IsAlwaysCallable f }
-    requires member { p < length w.old.members }
+    requires participant { p < length w.old.participants }
     requires list { IsSomeStack w.old (stack_cell stack.now) }
     ensures asked { (es : _) → StackIn w.old stack.now es → IfSome (first_item (undeleted es)) (λ v. FnOnceReturnsAt F.FnOnce f v (taken result)) }
     ensures popped { (es : _) → StackIn w.old stack.now es → IfOk result (λ r. IfSome r (λ s. PopsFrom w.new stack.now s es)) }
@@ -340,7 +340,7 @@ pub fn pop_if<T, J: Deferred, F: FnOnce(&LinkedEntry<T>) -> bool + Drop>(
     ensures full { (es : _) → StackIn w.old stack.now es → IfOk result (λ r. IfNone r (FirstIsFull w.old es)) }
     ensures list { IsSomeStack w.new (stack_cell stack.now) }
     ensures leaves { OnlyStack w.old w.new stack.now }
-    ensures only { OnlyOf p w.old w.new }
+    ensures only { OnlyParticipant p w.old w.new }
     ensures stays { Stays w.old w.new }
 {
     chain::skip_deleted(w, &stack.newest, p);

@@ -2,7 +2,7 @@
 
 ghost use Rattle.std.specs.Prelude.{◌≡◌, ◌<◌, Some, None, Option, List, ◌∷◌, ◌++◌, [], ℕ, length};
 ghost use Rattle.sdd_base.specs.State.{State, cell_at, status_at};
-ghost use Rattle.sdd_base.specs.Frame.{OnlyOf};
+ghost use Rattle.sdd_base.specs.Frame.{OnlyParticipant};
 ghost use Rattle.sdd_base.specs.Place.{IsShared, IsSharedCell};
 ghost use Rattle.sdd_base.specs.Tokens.{shared_cell, shared_slot};
 ghost use Rattle.sdd.specs.Chain.{Entry, IsList, Hangs, IsDetached, Leaves, Stays, links, slots};
@@ -25,12 +25,12 @@ pub(crate) fn append<L: LinkedList, J: Deferred>(
     link: Shared<L>,
     last: Shared<L>,
 )
-    requires member { 0 < length w.old.members }
+    requires participant { 0 < length w.old.participants }
     requires queue { CanFollow L.link w.old (shared_cell oldest.now) (shared_cell newest.now) (shared_slot link) }
     requires last { shared_slot last ≡ shared_slot link }
     requires two { HasTwo w.old (shared_slot link) }
     ensures appended { (es : List (Entry L)) (e : Entry L) → IsQueue L.link w.old (shared_cell oldest.now) (shared_cell newest.now) es → IsDetached L.link w.old e → Follows (shared_cell oldest.now) (shared_cell newest.now) es e → shared_slot link ≡ e.slot → IsQueue L.link w.new (shared_cell oldest.now) (shared_cell newest.now) (es ++ e ∷ []) × Leaves (e.link ∷ shared_cell oldest.now ∷ shared_cell newest.now ∷ links es) (slots es) w.old w.new }
-    ensures only { OnlyOf 0 w.old w.new }
+    ensures only { OnlyParticipant 0 w.old w.new }
     ensures stays { Stays w.old w.new }
 {
     let (previous, _tag) = atomic_shared::swap(w, newest, (Some(last), Tag::None));
@@ -47,11 +47,11 @@ pub(crate) fn append<L: LinkedList, J: Deferred>(
 
 /// Empties the cell of the newest entry.
 pub(crate) fn forget<L, J: Deferred>(w: &mut World<L, J>, newest: &AtomicShared<L>, p: usize)
-    requires member { p < length w.old.members }
+    requires participant { p < length w.old.participants }
     requires newest { (o : Option ℕ) × (cell_at w.old (shared_cell newest.now) ≡ Cell.OfShared o Tag.None) }
     requires last { (i : ℕ) → cell_at w.old (shared_cell newest.now) ≡ Cell.OfShared (Some i) Tag.None → IsShared w.old i }
     ensures forgot { (o : Option ℕ) → cell_at w.old (shared_cell newest.now) ≡ Cell.OfShared o Tag.None → w.new ≡ vacated p (shared_cell newest.now) o w.old }
-    ensures only { OnlyOf p w.old w.new }
+    ensures only { OnlyParticipant p w.old w.new }
     ensures stays { Stays w.old w.new }
 {
     match chain::take(w, newest) {
@@ -69,13 +69,13 @@ pub(crate) fn settle<L, J: Deferred>(
     newest: &AtomicShared<L>,
     p: usize,
 )
-    requires member { p < length w.old.members }
+    requires participant { p < length w.old.participants }
     requires oldest { IsSharedCell w.old (shared_cell oldest.now) }
     requires newest { (o : Option ℕ) × (cell_at w.old (shared_cell newest.now) ≡ Cell.OfShared o Tag.None) }
     requires last { (i : ℕ) → cell_at w.old (shared_cell newest.now) ≡ Cell.OfShared (Some i) Tag.None → IsShared w.old i }
     ensures some { (i : ℕ) (t : Tag) → cell_at w.old (shared_cell oldest.now) ≡ Cell.OfShared (Some i) t → w.new ≡ w.old }
     ensures none { (o : Option ℕ) (t : Tag) → cell_at w.old (shared_cell oldest.now) ≡ Cell.OfShared None t → cell_at w.old (shared_cell newest.now) ≡ Cell.OfShared o Tag.None → w.new ≡ vacated p (shared_cell newest.now) o w.old }
-    ensures only { OnlyOf p w.old w.new }
+    ensures only { OnlyParticipant p w.old w.new }
     ensures stays { Stays w.old w.new }
 {
     if atomic_shared::is_null(w, oldest) {

@@ -1,9 +1,9 @@
 //! Cells that keep the owner of an item, or none, with a tag.
 
 ghost use Rattle.std.specs.Prelude.{◌≡◌, ◌≢◌, ◌<◌, ℕ, length, IfOk, IfErr, IfSome, IfNone, OnErr, Some, None, IsTrue, IsFalse, ◌↔◌, ◌⊎◌, MatchResult, Option};
-ghost use Rattle.sdd_base.specs.State.{marks_at, IsFree, NoneFree, IsFreeCell, NoCellFree, placed, with_cell, cell_at};
+ghost use Rattle.sdd_base.specs.State.{local_at, IsFree, NoneFree, IsFreeCell, NoCellFree, placed, with_cell, cell_at};
 ghost use Rattle.sdd_base.specs.Steps.{owned_ended};
-ghost use Rattle.sdd_base.specs.Frame.{Keeps, OnlyOf};
+ghost use Rattle.sdd_base.specs.Frame.{Frame, OnlyParticipant};
 ghost use Rattle.sdd_base.specs.Place.{IsOwnedCell};
 ghost use Rattle.sdd_base.specs.Tokens.{owned_cell, owned_slot, owned_slots, ptr_slot, ptr_tag};
 
@@ -25,7 +25,7 @@ pub fn new<T, J: Deferred>(w: &mut World<T, J>, value: T) -> Result<AtomicOwned<
     ensures made { IfOk result (λ c. IsFreeCell w.old (owned_cell c) × (i : ℕ) × IsFree w.old i × (w.new ≡ with_cell (owned_cell c) (Cell.OfOwned (Some i) Tag.None) (placed i value Status.Owned w.old))) }
     ensures refused { IfErr result (λ v. (v ≡ value) × (w.new ≡ w.old) × (NoneFree w.old ⊎ NoCellFree w.old)) }
     ensures used { IfOk result (λ c. IsOwnedCell w.new (owned_cell c)) }
-    ensures keeps { Keeps w.old w.new }
+    ensures keeps { Frame w.old w.new }
 {
     if w.table.is_full() || w.table.has_no_cell() {
         return Err(value);
@@ -48,7 +48,7 @@ pub fn from<T, J: Deferred>(
     ensures made { IfOk result (λ c. IsFreeCell w.old (owned_cell c) × (w.new ≡ with_cell (owned_cell c) (Cell.OfOwned (Some (owned_slot owned)) Tag.None) w.old)) }
     ensures refused { IfErr result (λ o. (owned_slot o ≡ owned_slot owned) × (w.new ≡ w.old) × NoCellFree w.old) }
     ensures used { IfOk result (λ c. IsOwnedCell w.new (owned_cell c)) }
-    ensures keeps { Keeps w.old w.new }
+    ensures keeps { Frame w.old w.new }
 {
     match w
         .table
@@ -67,7 +67,7 @@ pub fn null<T, J: Deferred>(w: &mut World<T, J>) -> Result<AtomicOwned<T>, NoSlo
     ensures made { IfOk result (λ c. IsFreeCell w.old (owned_cell c) × (w.new ≡ with_cell (owned_cell c) (Cell.OfOwned None Tag.None) w.old)) }
     ensures refused { OnErr result ((w.new ≡ w.old) × NoCellFree w.old) }
     ensures used { IfOk result (λ c. IsOwnedCell w.new (owned_cell c)) }
-    ensures keeps { Keeps w.old w.new }
+    ensures keeps { Frame w.old w.new }
 {
     match w.table.claim_cell(Cell::OfOwned(None, Tag::None)) {
         None => Err(NoSlot),
@@ -136,7 +136,7 @@ pub fn swap<T, J: Deferred>(
     ensures was { cell_at w.old (owned_cell cell.now) ≡ Cell.OfOwned (owned_slots result.0) result.1 }
     ensures now { w.new ≡ with_cell (owned_cell cell.now) (Cell.OfOwned (owned_slots new.0) new.1) w.old }
     ensures used { IsOwnedCell w.new (owned_cell cell.now) }
-    ensures keeps { Keeps w.old w.new }
+    ensures keeps { Frame w.old w.new }
 {
     let (item, tag) = new;
     let slot = into_slot(item);
@@ -162,7 +162,7 @@ pub fn update_tag_if<T, J: Deferred, P: Found<T>, F: FnOnce(P) -> bool>(
     ensures asked { (r : P) × (cell_at w.old (owned_cell cell.now) ≡ Cell.OfOwned (P.names r) (P.tagged r)) × F.post f r result × (IsTrue result → w.new ≡ with_cell (owned_cell cell.now) (Cell.OfOwned (P.names r) tag) w.old) }
     ensures kept { IsFalse result → w.new ≡ w.old }
     ensures used { IsOwnedCell w.new (owned_cell cell.now) }
-    ensures keeps { Keeps w.old w.new }
+    ensures keeps { Frame w.old w.new }
 {
     match w.table.cell(cell.cell) {
         Cell::OfOwned(slot, old) => {
@@ -190,7 +190,7 @@ pub fn compare_exchange<T, J: Deferred>(
     ensures found { IfErr result (λ r. (cell_at w.old (owned_cell cell.now) ≡ Cell.OfOwned (ptr_slot r.1) (ptr_tag r.1)) × (owned_slots r.0 ≡ owned_slots new.0) × (w.new ≡ w.old)) }
     ensures differs { OnErr result (cell_at w.old (owned_cell cell.now) ≢ Cell.OfOwned (ptr_slot current.entry) (ptr_tag current.entry)) }
     ensures used { IsOwnedCell w.new (owned_cell cell.now) }
-    ensures keeps { Keeps w.old w.new }
+    ensures keeps { Frame w.old w.new }
 {
     match w.table.cell(cell.cell) {
         Cell::OfOwned(old, old_tag) => {
@@ -233,7 +233,7 @@ pub fn compare_exchange_weak<T, J: Deferred>(
     ensures found { IfErr result (λ r. (cell_at w.old (owned_cell cell.now) ≡ Cell.OfOwned (ptr_slot r.1) (ptr_tag r.1)) × (owned_slots r.0 ≡ owned_slots new.0) × (w.new ≡ w.old)) }
     ensures differs { OnErr result (cell_at w.old (owned_cell cell.now) ≢ Cell.OfOwned (ptr_slot current.entry) (ptr_tag current.entry)) }
     ensures used { IsOwnedCell w.new (owned_cell cell.now) }
-    ensures keeps { Keeps w.old w.new }
+    ensures keeps { Frame w.old w.new }
 {
     compare_exchange(w, cell, current, new, guard)
 }
@@ -243,7 +243,7 @@ pub fn into_owned<T, J: Deferred>(w: &mut World<T, J>, cell: AtomicOwned<T>) -> 
     requires { IsOwnedCell w.old (owned_cell cell) }
     ensures was { (tag : Tag) × (cell_at w.old (owned_cell cell) ≡ Cell.OfOwned (owned_slots result) tag) }
     ensures ended { w.new ≡ with_cell (owned_cell cell) Cell.Free w.old }
-    ensures keeps { Keeps w.old w.new }
+    ensures keeps { Frame w.old w.new }
 {
     let AtomicOwned { cell, of: _ } = cell;
     match w.table.cell(cell) {
@@ -257,12 +257,12 @@ pub fn into_owned<T, J: Deferred>(w: &mut World<T, J>, cell: AtomicOwned<T>) -> 
 
 /// Ends the cell, and gives the owner that it kept back: the item is retired by participant `p`.
 pub fn retire<T, J: Deferred>(w: &mut World<T, J>, cell: AtomicOwned<T>, p: usize)
-    requires member { p < length w.old.members }
+    requires participant { p < length w.old.participants }
     requires cell { IsOwnedCell w.old (owned_cell cell) }
     ensures ended { w.new ≡ owned_ended p (owned_cell cell) w.old }
-    ensures nests { (q : ℕ) → (marks_at w.new q).nesting ≡ (marks_at w.old q).nesting }
-    ensures keeps { Keeps w.old w.new }
-    ensures only { OnlyOf p w.old w.new }
+    ensures nests { (q : ℕ) → (local_at w.new q).nesting ≡ (local_at w.old q).nesting }
+    ensures keeps { Frame w.old w.new }
+    ensures only { OnlyParticipant p w.old w.new }
 {
     let AtomicOwned { cell, of: _ } = cell;
     reclaim::end_owned(&mut w.table, p, cell);

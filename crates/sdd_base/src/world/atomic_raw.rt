@@ -2,7 +2,7 @@
 
 ghost use Rattle.std.specs.Prelude.{◌≡◌, ◌≢◌, ℕ, IfOk, IfErr, IfSome, IfNone, OnErr, Some, None, IsTrue, IsFalse, ◌↔◌, Option};
 ghost use Rattle.sdd_base.specs.State.{IsFreeCell, NoCellFree, with_cell, cell_at};
-ghost use Rattle.sdd_base.specs.Frame.{Keeps};
+ghost use Rattle.sdd_base.specs.Frame.{Frame};
 ghost use Rattle.sdd_base.specs.Place.{IsRawCell};
 ghost use Rattle.sdd_base.specs.Tokens.{raw_cell, raw_slot, raw_tag};
 
@@ -22,7 +22,7 @@ pub fn new<T, J: Deferred>(w: &mut World<T, J>, ptr: RawPtr<T>) -> Result<Atomic
     ensures made { IfOk result (λ c. IsFreeCell w.old (raw_cell c) × (w.new ≡ with_cell (raw_cell c) (Cell.OfRaw (raw_slot ptr) (raw_tag ptr)) w.old)) }
     ensures refused { OnErr result ((w.new ≡ w.old) × NoCellFree w.old) }
     ensures used { IfOk result (λ c. IsRawCell w.new (raw_cell c)) }
-    ensures keeps { Keeps w.old w.new }
+    ensures keeps { Frame w.old w.new }
 {
     match w.table.claim_cell(Cell::OfRaw(ptr.slot, ptr.tag)) {
         None => Err(NoSlot),
@@ -36,7 +36,7 @@ pub fn null<T, J: Deferred>(w: &mut World<T, J>) -> Result<AtomicRaw<T>, NoSlot>
     ensures made { IfOk result (λ c. IsFreeCell w.old (raw_cell c) × (w.new ≡ with_cell (raw_cell c) (Cell.OfRaw None Tag.None) w.old)) }
     ensures refused { OnErr result ((w.new ≡ w.old) × NoCellFree w.old) }
     ensures used { IfOk result (λ c. IsRawCell w.new (raw_cell c)) }
-    ensures keeps { Keeps w.old w.new }
+    ensures keeps { Frame w.old w.new }
 {
     match w.table.claim_cell(Cell::OfRaw(None, Tag::None)) {
         None => Err(NoSlot),
@@ -96,7 +96,7 @@ pub fn store<T, J: Deferred>(w: &mut World<T, J>, cell: &AtomicRaw<T>, ptr: RawP
     requires { IsRawCell w.old (raw_cell cell.now) }
     ensures now { w.new ≡ with_cell (raw_cell cell.now) (Cell.OfRaw (raw_slot ptr) (raw_tag ptr)) w.old }
     ensures used { IsRawCell w.new (raw_cell cell.now) }
-    ensures keeps { Keeps w.old w.new }
+    ensures keeps { Frame w.old w.new }
 {
     w.table.set_cell(cell.cell, Cell::OfRaw(ptr.slot, ptr.tag));
 }
@@ -112,7 +112,7 @@ pub fn swap<T, J: Deferred>(
     ensures was { cell_at w.old (raw_cell cell.now) ≡ Cell.OfRaw (raw_slot result) (raw_tag result) }
     ensures now { w.new ≡ with_cell (raw_cell cell.now) (Cell.OfRaw (raw_slot ptr) (raw_tag ptr)) w.old }
     ensures used { IsRawCell w.new (raw_cell cell.now) }
-    ensures keeps { Keeps w.old w.new }
+    ensures keeps { Frame w.old w.new }
 {
     let old = load(w, cell, guard);
     store(w, cell, ptr);
@@ -132,7 +132,7 @@ pub fn update_tag_if<T, J: Deferred, F: FnOnce(RawPtr<T>) -> bool>(
     ensures asked { (r : RawPtr _) × (cell_at w.old (raw_cell cell.now) ≡ Cell.OfRaw (raw_slot r) (raw_tag r)) × F.post f r result × (IsTrue result → w.new ≡ with_cell (raw_cell cell.now) (Cell.OfRaw (raw_slot r) tag) w.old) }
     ensures kept { IsFalse result → w.new ≡ w.old }
     ensures used { IsRawCell w.new (raw_cell cell.now) }
-    ensures keeps { Keeps w.old w.new }
+    ensures keeps { Frame w.old w.new }
 {
     match w.table.cell(cell.cell) {
         Cell::OfRaw(slot, old) => {
@@ -164,7 +164,7 @@ pub fn compare_exchange<T, J: Deferred>(
     ensures found { IfErr result (λ r. (cell_at w.old (raw_cell cell.now) ≡ Cell.OfRaw (raw_slot r) (raw_tag r)) × (w.new ≡ w.old)) }
     ensures differs { OnErr result (cell_at w.old (raw_cell cell.now) ≢ Cell.OfRaw (raw_slot current) (raw_tag current)) }
     ensures used { IsRawCell w.new (raw_cell cell.now) }
-    ensures keeps { Keeps w.old w.new }
+    ensures keeps { Frame w.old w.new }
 {
     let old = load(w, cell, guard);
     if old.slot != current.slot || old.tag != current.tag {
@@ -187,7 +187,7 @@ pub fn fetch_update<T, J: Deferred, F: FnOnce(RawPtr<T>) -> Option<RawPtr<T>>>(
     ensures updated { IfOk result (λ r. (cell_at w.old (raw_cell cell.now) ≡ Cell.OfRaw (raw_slot r) (raw_tag r)) × (n : RawPtr _) × F.post f r (Some n) × (w.new ≡ with_cell (raw_cell cell.now) (Cell.OfRaw (raw_slot n) (raw_tag n)) w.old)) }
     ensures kept { IfErr result (λ r. (cell_at w.old (raw_cell cell.now) ≡ Cell.OfRaw (raw_slot r) (raw_tag r)) × F.post f r None × (w.new ≡ w.old)) }
     ensures used { IsRawCell w.new (raw_cell cell.now) }
-    ensures keeps { Keeps w.old w.new }
+    ensures keeps { Frame w.old w.new }
 {
     let old = load(w, cell, guard);
     match f(old) {
@@ -203,7 +203,7 @@ pub fn fetch_update<T, J: Deferred, F: FnOnce(RawPtr<T>) -> Option<RawPtr<T>>>(
 pub fn end<T, J: Deferred>(w: &mut World<T, J>, cell: AtomicRaw<T>)
     requires { IsRawCell w.old (raw_cell cell) }
     ensures ended { w.new ≡ with_cell (raw_cell cell) Cell.Free w.old }
-    ensures keeps { Keeps w.old w.new }
+    ensures keeps { Frame w.old w.new }
 {
     let AtomicRaw { cell, of: _ } = cell;
     w.table.free_cell(cell);

@@ -1,9 +1,9 @@
 //! Cells that keep one owner of an item, or none, with a tag.
 
 ghost use Rattle.std.specs.Prelude.{◌≡◌, ◌≢◌, ◌<◌, ℕ, ◌+◌, length, IfOk, IfErr, IfSome, IfNone, OnErr, Some, None, IsTrue, IsFalse, ◌↔◌, ◌⊎◌, MatchResult, Option, is_some, true};
-ghost use Rattle.sdd_base.specs.State.{marks_at, IsFree, NoneFree, IsFreeCell, NoCellFree, placed, value_at, with_cell, cell_at, status_at, with_status};
+ghost use Rattle.sdd_base.specs.State.{local_at, IsFree, NoneFree, IsFreeCell, NoCellFree, placed, value_at, with_cell, cell_at, status_at, with_status};
 ghost use Rattle.sdd_base.specs.Steps.{shared_ended};
-ghost use Rattle.sdd_base.specs.Frame.{Keeps, OnlyOf};
+ghost use Rattle.sdd_base.specs.Frame.{Frame, OnlyParticipant};
 ghost use Rattle.sdd_base.specs.Place.{IsReadable, IsShared, IsSharedCell};
 ghost use Rattle.sdd_base.specs.Tokens.{loaded_slot, shared_cell, shared_slot, shared_slots, ptr_slot, ptr_tag};
 
@@ -25,7 +25,7 @@ pub fn new<T, J: Deferred>(w: &mut World<T, J>, value: T) -> Result<AtomicShared
     ensures made { IfOk result (λ c. IsFreeCell w.old (shared_cell c) × (i : ℕ) × IsFree w.old i × (w.new ≡ with_cell (shared_cell c) (Cell.OfShared (Some i) Tag.None) (placed i value (Status.Shared 1) w.old))) }
     ensures refused { IfErr result (λ v. (v ≡ value) × (w.new ≡ w.old) × (NoneFree w.old ⊎ NoCellFree w.old)) }
     ensures used { IfOk result (λ c. IsSharedCell w.new (shared_cell c)) }
-    ensures keeps { Keeps w.old w.new }
+    ensures keeps { Frame w.old w.new }
 {
     if w.table.is_full() || w.table.has_no_cell() {
         return Err(value);
@@ -48,7 +48,7 @@ pub fn from<T, J: Deferred>(
     ensures made { IfOk result (λ c. IsFreeCell w.old (shared_cell c) × (w.new ≡ with_cell (shared_cell c) (Cell.OfShared (Some (shared_slot shared)) Tag.None) w.old)) }
     ensures refused { IfErr result (λ o. (shared_slot o ≡ shared_slot shared) × (w.new ≡ w.old) × NoCellFree w.old) }
     ensures used { IfOk result (λ c. IsSharedCell w.new (shared_cell c)) }
-    ensures keeps { Keeps w.old w.new }
+    ensures keeps { Frame w.old w.new }
 {
     match w
         .table
@@ -67,7 +67,7 @@ pub fn null<T, J: Deferred>(w: &mut World<T, J>) -> Result<AtomicShared<T>, NoSl
     ensures made { IfOk result (λ c. IsFreeCell w.old (shared_cell c) × (w.new ≡ with_cell (shared_cell c) (Cell.OfShared None Tag.None) w.old)) }
     ensures refused { OnErr result ((w.new ≡ w.old) × NoCellFree w.old) }
     ensures used { IfOk result (λ c. IsSharedCell w.new (shared_cell c)) }
-    ensures keeps { Keeps w.old w.new }
+    ensures keeps { Frame w.old w.new }
 {
     match w.table.claim_cell(Cell::OfShared(None, Tag::None)) {
         None => Err(NoSlot),
@@ -169,7 +169,7 @@ pub fn swap<T, J: Deferred>(
     ensures was { cell_at w.old (shared_cell cell.now) ≡ Cell.OfShared (shared_slots result.0) result.1 }
     ensures now { w.new ≡ with_cell (shared_cell cell.now) (Cell.OfShared (shared_slots new.0) new.1) w.old }
     ensures used { IsSharedCell w.new (shared_cell cell.now) }
-    ensures keeps { Keeps w.old w.new }
+    ensures keeps { Frame w.old w.new }
 {
     let (item, tag) = new;
     let slot = into_slot(item);
@@ -195,7 +195,7 @@ pub fn update_tag_if<T, J: Deferred, P: Found<T>, F: FnOnce(P) -> bool>(
     ensures asked { (r : P) × (cell_at w.old (shared_cell cell.now) ≡ Cell.OfShared (P.names r) (P.tagged r)) × F.post f r result × (IsTrue result → w.new ≡ with_cell (shared_cell cell.now) (Cell.OfShared (P.names r) tag) w.old) }
     ensures kept { IsFalse result → w.new ≡ w.old }
     ensures used { IsSharedCell w.new (shared_cell cell.now) }
-    ensures keeps { Keeps w.old w.new }
+    ensures keeps { Frame w.old w.new }
 {
     match w.table.cell(cell.cell) {
         Cell::OfShared(slot, old) => {
@@ -223,7 +223,7 @@ pub fn compare_exchange<T, J: Deferred>(
     ensures found { IfErr result (λ r. (cell_at w.old (shared_cell cell.now) ≡ Cell.OfShared (ptr_slot r.1) (ptr_tag r.1)) × (shared_slots r.0 ≡ shared_slots new.0) × (w.new ≡ w.old)) }
     ensures differs { OnErr result (cell_at w.old (shared_cell cell.now) ≢ Cell.OfShared (ptr_slot current.entry) (ptr_tag current.entry)) }
     ensures used { IsSharedCell w.new (shared_cell cell.now) }
-    ensures keeps { Keeps w.old w.new }
+    ensures keeps { Frame w.old w.new }
 {
     match w.table.cell(cell.cell) {
         Cell::OfShared(old, old_tag) => {
@@ -266,7 +266,7 @@ pub fn compare_exchange_weak<T, J: Deferred>(
     ensures found { IfErr result (λ r. (cell_at w.old (shared_cell cell.now) ≡ Cell.OfShared (ptr_slot r.1) (ptr_tag r.1)) × (shared_slots r.0 ≡ shared_slots new.0) × (w.new ≡ w.old)) }
     ensures differs { OnErr result (cell_at w.old (shared_cell cell.now) ≢ Cell.OfShared (ptr_slot current.entry) (ptr_tag current.entry)) }
     ensures used { IsSharedCell w.new (shared_cell cell.now) }
-    ensures keeps { Keeps w.old w.new }
+    ensures keeps { Frame w.old w.new }
 {
     compare_exchange(w, cell, current, new, guard)
 }
@@ -282,7 +282,7 @@ pub fn get_shared<T, J: Deferred>(
     ensures room { IfSome result (λ s. (n : ℕ) → status_at w.old (shared_slot s) ≡ Status.Shared n → n < 4294967295) }
     ensures none { IfNone result ((w.new ≡ w.old) × ((i n : ℕ) (tag : Tag) → cell_at w.old (shared_cell cell.now) ≡ Cell.OfShared (Some i) tag → n < 4294967295 → status_at w.old i ≢ Status.Shared n)) }
     ensures live { IfSome result (λ s. IsShared w.new (shared_slot s)) }
-    ensures keeps { Keeps w.old w.new }
+    ensures keeps { Frame w.old w.new }
 {
     match w.table.cell(cell.cell) {
         Cell::OfShared(None, _) => None,
@@ -305,7 +305,7 @@ pub fn clone<T, J: Deferred>(
     ensures more { (i n : ℕ) (tag : Tag) → cell_at w.old (shared_cell cell.now) ≡ Cell.OfShared (Some i) tag → status_at w.old i ≡ Status.Shared n → n < 4294967295 → IfOk result (λ c. w.new ≡ with_cell (shared_cell c) (Cell.OfShared (Some i) tag) (with_status i (Status.Shared (n + 1)) w.old)) }
     ensures none { (i : ℕ) (tag : Tag) → cell_at w.old (shared_cell cell.now) ≡ Cell.OfShared (Some i) tag → ((n : ℕ) → n < 4294967295 → status_at w.old i ≢ Status.Shared n) → IfOk result (λ c. w.new ≡ with_cell (shared_cell c) (Cell.OfShared None tag) w.old) }
     ensures null { (tag : Tag) → cell_at w.old (shared_cell cell.now) ≡ Cell.OfShared None tag → IfOk result (λ c. w.new ≡ with_cell (shared_cell c) (Cell.OfShared None tag) w.old) }
-    ensures keeps { Keeps w.old w.new }
+    ensures keeps { Frame w.old w.new }
 {
     if w.table.has_no_cell() {
         return Err(NoSlot);
@@ -323,7 +323,7 @@ pub fn into_shared<T, J: Deferred>(w: &mut World<T, J>, cell: AtomicShared<T>) -
     requires { IsSharedCell w.old (shared_cell cell) }
     ensures was { (tag : Tag) × (cell_at w.old (shared_cell cell) ≡ Cell.OfShared (shared_slots result) tag) }
     ensures ended { w.new ≡ with_cell (shared_cell cell) Cell.Free w.old }
-    ensures keeps { Keeps w.old w.new }
+    ensures keeps { Frame w.old w.new }
 {
     let AtomicShared { cell, of: _ } = cell;
     match w.table.cell(cell) {
@@ -337,12 +337,12 @@ pub fn into_shared<T, J: Deferred>(w: &mut World<T, J>, cell: AtomicShared<T>) -
 
 /// Ends the cell, and gives the owner that it kept back: a last owner is retired by participant `p`.
 pub fn retire<T, J: Deferred>(w: &mut World<T, J>, cell: AtomicShared<T>, p: usize)
-    requires member { p < length w.old.members }
+    requires participant { p < length w.old.participants }
     requires cell { IsSharedCell w.old (shared_cell cell) }
     ensures ended { w.new ≡ shared_ended p (shared_cell cell) w.old }
-    ensures nests { (q : ℕ) → (marks_at w.new q).nesting ≡ (marks_at w.old q).nesting }
-    ensures keeps { Keeps w.old w.new }
-    ensures only { OnlyOf p w.old w.new }
+    ensures nests { (q : ℕ) → (local_at w.new q).nesting ≡ (local_at w.old q).nesting }
+    ensures keeps { Frame w.old w.new }
+    ensures only { OnlyParticipant p w.old w.new }
 {
     let AtomicShared { cell, of: _ } = cell;
     reclaim::end_shared(&mut w.table, p, cell);

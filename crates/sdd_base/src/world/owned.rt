@@ -2,17 +2,17 @@
 
 ghost use Rattle.std.specs.Prelude.{◌≡◌, ◌≢◌, ◌<◌, ℕ, length, IfOk, IfErr, IfSome, OnOk, OnErr, Some, None, ◌↔◌, IsSome, IfNone, IsErr, IsTrue, IsFalse};
 ghost use Rattle.std.specs.Borrow.{LendsIfOk, sem};
-ghost use Rattle.sdd_base.specs.State.{marks_at, IsFree, NoneFree, placed, value_at, retired, with_status, status_at};
-ghost use Rattle.sdd_base.specs.Frame.{Keeps, OnlyOf};
+ghost use Rattle.sdd_base.specs.State.{local_at, IsFree, NoneFree, placed, value_at, retired, with_status, status_at};
+ghost use Rattle.sdd_base.specs.Frame.{Frame, OnlyParticipant};
 ghost use Rattle.sdd_base.specs.Dropping.{Dropped};
 ghost use Rattle.sdd_base.specs.Holding.{OwnedItem};
 ghost use Rattle.sdd_base.specs.Place.{IsOpen, IsOwned};
 ghost use Rattle.sdd_base.specs.Tokens.{owned_slot, ptr_slot, ptr_tag, raw_slot, raw_tag};
 
+use crate::exclusive_access::ExclusiveAccess;
 use crate::guard::WorldGuard;
 use crate::holds::{Held, Holds};
 use crate::job::Deferred;
-use crate::lender::Lender;
 use crate::owner::Owned;
 use crate::pointer::{Ptr, RawPtr};
 use crate::reclaim;
@@ -28,7 +28,7 @@ pub fn new<T, J: Deferred>(w: &mut World<T, J>, value: T) -> Result<Owned<T>, T>
     ensures refused { IfErr result (λ v. (v ≡ value) × (w.new ≡ w.old) × NoneFree w.old) }
     ensures live { IfOk result (λ o. IsOwned w.new (owned_slot o)) }
     ensures value { IfOk result (λ o. value_at w.new (owned_slot o) ≡ Some value) }
-    ensures keeps { Keeps w.old w.new }
+    ensures keeps { Frame w.old w.new }
 {
     Ok(Owned::of_slot(w.table.place(value, Status::Owned)?))
 }
@@ -41,7 +41,7 @@ pub fn new_with<T, J: Deferred, F: FnOnce() -> T + Drop>(
     requires { F.pre f }
     ensures placed { IfOk result (λ o. IsFree w.old (owned_slot o) × (v : T) × F.post f v × (w.new ≡ placed (owned_slot o) v Status.Owned w.old)) }
     ensures refused { OnErr result ((w.new ≡ w.old) × NoneFree w.old) }
-    ensures keeps { Keeps w.old w.new }
+    ensures keeps { Frame w.old w.new }
 {
     if w.table.is_full() {
         return Err(NoSlot);
@@ -71,7 +71,10 @@ pub fn as_ref<'w, T, J: Deferred>(w: &'w World<T, J>, owned: &Owned<T>) -> &'w T
 ///     *value = 7;
 /// }
 /// ```
-pub fn get_mut<'w, T, W: Lender<T>>(w: &'w mut W, owned: &Owned<T>) -> Result<&'w mut T, GuardsOpen>
+pub fn get_mut<'w, T, W: ExclusiveAccess<T>>(
+    w: &'w mut W,
+    owned: &Owned<T>,
+) -> Result<&'w mut T, GuardsOpen>
     requires { IsOwned (W.state w.old) (owned_slot owned.now) }
     ensures* writes { sem 𝓛 (LendsIfOk W.row T.row w.entry result (λ v. W.with_item (owned_slot owned.now) v w.entry.now) w.entry.now) }
     ensures value { IfOk result (λ v. value_at (W.state w.old) (owned_slot owned.now) ≡ Some v.now) }
@@ -119,7 +122,7 @@ pub fn into_raw<T, J: Deferred>(w: &mut World<T, J>, owned: Owned<T>) -> RawPtr<
     ensures slot { raw_slot result ≡ Some (owned_slot owned) }
     ensures tag { raw_tag result ≡ Tag.None }
     ensures state { w.new ≡ with_status (owned_slot owned) Status.Raw w.old }
-    ensures keeps { Keeps w.old w.new }
+    ensures keeps { Frame w.old w.new }
 {
     let Owned { slot, of: _ } = owned;
     w.table.set_status(slot, Status::Raw);
@@ -135,7 +138,7 @@ pub fn from_raw<T, J: Deferred>(w: &mut World<T, J>, ptr: RawPtr<T>) -> Option<O
     ensures some { IfSome result (λ o. (raw_slot ptr ≡ Some (owned_slot o)) × (status_at w.old (owned_slot o) ≡ Status.Raw) × (w.new ≡ with_status (owned_slot o) Status.Owned w.old)) }
     ensures none { IfNone result ((w.new ≡ w.old) × IfSome (raw_slot ptr) (λ i. status_at w.old i ≢ Status.Raw)) }
     ensures live { IfSome result (λ o. IsOwned w.new (owned_slot o)) }
-    ensures keeps { Keeps w.old w.new }
+    ensures keeps { Frame w.old w.new }
 {
     let slot = ptr.slot?;
     match w.table.status_of(slot) {
@@ -158,7 +161,7 @@ pub fn drop_in_place<T: Holds, J: Deferred>(
     ensures dropped { OnOk result (Dropped T.holds (OwnedItem (owned_slot owned)) w.old w.new) }
     ensures back { IfErr result (λ o. (owned_slot o ≡ owned_slot owned) × (w.new ≡ w.old)) }
     ensures open { IsErr result ↔ ((p : ℕ) × IsOpen w.old p) }
-    ensures guarded { (q : ℕ) → IsOpen w.old q → Keeps w.old w.new }
+    ensures guarded { (q : ℕ) → IsOpen w.old q → Frame w.old w.new }
 {
     if w.table.any_open() {
         return Err(owned);
@@ -169,12 +172,12 @@ pub fn drop_in_place<T: Holds, J: Deferred>(
 
 /// Retires the item: it waits in the current bag of participant `p`.
 pub fn retire<T, J: Deferred>(w: &mut World<T, J>, owned: Owned<T>, p: usize)
-    requires member { p < length w.old.members }
+    requires participant { p < length w.old.participants }
     requires live { IsOwned w.old (owned_slot owned) }
     ensures retired { w.new ≡ retired p (owned_slot owned) w.old }
-    ensures nests { (q : ℕ) → (marks_at w.new q).nesting ≡ (marks_at w.old q).nesting }
-    ensures keeps { Keeps w.old w.new }
-    ensures only { OnlyOf p w.old w.new }
+    ensures nests { (q : ℕ) → (local_at w.new q).nesting ≡ (local_at w.old q).nesting }
+    ensures keeps { Frame w.old w.new }
+    ensures only { OnlyParticipant p w.old w.new }
 {
     let Owned { slot, of: _ } = owned;
     w.table.retire(p, slot);

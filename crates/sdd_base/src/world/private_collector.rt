@@ -4,10 +4,10 @@
 //! more, and notes the count of raises of what it takes in.
 
 ghost use Rattle.std.specs.Prelude.{◌≡◌, ◌<◌, ℕ, [], length, leb, IfOk, IsTrue, IsFalse};
-ghost use Rattle.sdd_base.specs.State.{status_at, marks_at};
+ghost use Rattle.sdd_base.specs.State.{status_at, local_at};
 ghost use Rattle.sdd_base.specs.Steps.{released, handed};
 ghost use Rattle.sdd_base.specs.Collecting.{collected, left_with, swept_by, left_in};
-ghost use Rattle.sdd_base.specs.Frame.{Keeps, OnlyOf};
+ghost use Rattle.sdd_base.specs.Frame.{Frame, OnlyParticipant};
 ghost use Rattle.sdd_base.specs.Place.{IsOwned, IsShared};
 ghost use Rattle.sdd_base.specs.Tokens.{owned_slot, shared_slot, participant_of, waiting_in, room_of};
 
@@ -46,16 +46,16 @@ pub fn collect_owned<T: Holds, J: Deferred>(
     owned: Owned<T>,
     guard: &WorldGuard,
 )
-    requires member { participant_of guard.now < length w.old.members }
+    requires participant { participant_of guard.now < length w.old.participants }
     requires live { IsOwned w.old (owned_slot owned) }
     ensures state { IsOwned (swept_by T.holds (participant_of guard.now) collector.old w.old) (owned_slot owned) → w.new ≡ collected T.holds (participant_of guard.now) collector.old (owned_slot owned) w.old }
     ensures left { IsOwned (swept_by T.holds (participant_of guard.now) collector.old w.old) (owned_slot owned) → waiting_in collector.new ≡ left_with T.holds (participant_of guard.now) collector.old (owned_slot owned) w.old }
     ensures gone { ¬ IsOwned (swept_by T.holds (participant_of guard.now) collector.old w.old) (owned_slot owned) → w.new ≡ swept_by T.holds (participant_of guard.now) collector.old w.old }
     ensures others { ¬ IsOwned (swept_by T.holds (participant_of guard.now) collector.old w.old) (owned_slot owned) → waiting_in collector.new ≡ left_in T.holds (participant_of guard.now) collector.old w.old }
     ensures room { room_of collector.new ≡ room_of collector.old }
-    ensures nests { (q : ℕ) → (marks_at w.new q).nesting ≡ (marks_at w.old q).nesting }
-    ensures keeps { Keeps w.old w.new }
-    ensures only { OnlyOf (participant_of guard.now) w.old w.new }
+    ensures nests { (q : ℕ) → (local_at w.new q).nesting ≡ (local_at w.old q).nesting }
+    ensures keeps { Frame w.old w.new }
+    ensures only { OnlyParticipant (participant_of guard.now) w.old w.new }
 {
     let Owned { slot, of: _ } = owned;
     let p = guard.participant;
@@ -72,7 +72,7 @@ pub fn collect_shared<T: Holds, J: Deferred>(
     shared: Shared<T>,
     guard: &WorldGuard,
 ) -> bool
-    requires member { participant_of guard.now < length w.old.members }
+    requires participant { participant_of guard.now < length w.old.participants }
     requires live { IsShared w.old (shared_slot shared) }
     ensures last { (n : ℕ) → status_at (swept_by T.holds (participant_of guard.now) collector.old w.old) (shared_slot shared) ≡ Status.Shared n → result ≡ leb n 1 }
     ensures shared { IsTrue result → IsShared (swept_by T.holds (participant_of guard.now) collector.old w.old) (shared_slot shared) }
@@ -81,9 +81,9 @@ pub fn collect_shared<T: Holds, J: Deferred>(
     ensures released { IsFalse result → w.new ≡ released (participant_of guard.now) (shared_slot shared) (swept_by T.holds (participant_of guard.now) collector.old w.old) }
     ensures others { IsFalse result → waiting_in collector.new ≡ left_in T.holds (participant_of guard.now) collector.old w.old }
     ensures room { room_of collector.new ≡ room_of collector.old }
-    ensures nests { (q : ℕ) → (marks_at w.new q).nesting ≡ (marks_at w.old q).nesting }
-    ensures keeps { Keeps w.old w.new }
-    ensures only { OnlyOf (participant_of guard.now) w.old w.new }
+    ensures nests { (q : ℕ) → (local_at w.new q).nesting ≡ (local_at w.old q).nesting }
+    ensures keeps { Frame w.old w.new }
+    ensures only { OnlyParticipant (participant_of guard.now) w.old w.new }
 {
     let Shared { slot, of: _ } = shared;
     let p = guard.participant;
@@ -93,11 +93,11 @@ pub fn collect_shared<T: Holds, J: Deferred>(
 
 /// Ends the collector: what waits in it goes to the current bag of participant `p`.
 pub fn hand_over<T, J: Deferred>(w: &mut World<T, J>, collector: PrivateCollector<T>, p: usize)
-    requires { p < length w.old.members }
+    requires { p < length w.old.participants }
     ensures handed { w.new ≡ handed p (waiting_in collector) w.old }
-    ensures nests { (q : ℕ) → (marks_at w.new q).nesting ≡ (marks_at w.old q).nesting }
-    ensures keeps { Keeps w.old w.new }
-    ensures only { OnlyOf p w.old w.new }
+    ensures nests { (q : ℕ) → (local_at w.new q).nesting ≡ (local_at w.old q).nesting }
+    ensures keeps { Frame w.old w.new }
+    ensures only { OnlyParticipant p w.old w.new }
 {
     let PrivateCollector { mut waiting, of: _ } = collector;
     reclaim::hand_over(&mut w.table, p, &mut waiting);

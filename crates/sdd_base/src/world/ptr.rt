@@ -2,7 +2,7 @@
 
 ghost use Rattle.std.specs.Prelude.{◌≡◌, ◌≢◌, ◌<◌, ◌+◌, ℕ, IfSome, Some, None, IfNone};
 ghost use Rattle.sdd_base.specs.State.{with_status, status_at};
-ghost use Rattle.sdd_base.specs.Frame.{Keeps};
+ghost use Rattle.sdd_base.specs.Frame.{Frame};
 ghost use Rattle.sdd_base.specs.Place.{IsShared};
 ghost use Rattle.sdd_base.specs.Tokens.{shared_slot, ptr_slot};
 
@@ -18,7 +18,7 @@ pub(crate) fn add_owner<T, J: Deferred>(w: &mut World<T, J>, slot: usize) -> Opt
     ensures room { IfSome result (λ s. (n : ℕ) → status_at w.old (shared_slot s) ≡ Status.Shared n → n < 4294967295) }
     ensures none { IfNone result ((w.new ≡ w.old) × ((n : ℕ) → n < 4294967295 → status_at w.old slot ≢ Status.Shared n)) }
     ensures live { IfSome result (λ s. IsShared w.new (shared_slot s)) }
-    ensures keeps { Keeps w.old w.new }
+    ensures keeps { Frame w.old w.new }
 {
     match w.table.status_of(slot) {
         Status::Shared(owners) => {
@@ -39,7 +39,7 @@ pub fn get_shared<T, J: Deferred>(w: &mut World<T, J>, at: Ptr<'static, T>) -> O
     ensures room { IfSome result (λ s. (n : ℕ) → status_at w.old (shared_slot s) ≡ Status.Shared n → n < 4294967295) }
     ensures none { IfNone result ((w.new ≡ w.old) × IfSome (ptr_slot at.entry) (λ i. (n : ℕ) → n < 4294967295 → status_at w.old i ≢ Status.Shared n)) }
     ensures live { IfSome result (λ s. IsShared w.new (shared_slot s)) }
-    ensures keeps { Keeps w.old w.new }
+    ensures keeps { Frame w.old w.new }
 {
     match at.slot {
         None => None,

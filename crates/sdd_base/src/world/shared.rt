@@ -2,18 +2,18 @@
 
 ghost use Rattle.std.specs.Prelude.{◌≡◌, ◌≢◌, ◌<◌, ◌+◌, ℕ, length, leb, IfOk, IfErr, IfSome, OnErr, Some, None, IfNone, IsTrue, ◌↔◌, OnOk, IsErr, IsErrOf, IsSome, IsFalse};
 ghost use Rattle.std.specs.Borrow.{LendsIfOk, sem};
-ghost use Rattle.sdd_base.specs.State.{marks_at, IsFree, NoneFree, placed, value_at, with_status, status_at};
+ghost use Rattle.sdd_base.specs.State.{local_at, IsFree, NoneFree, placed, value_at, with_status, status_at};
 ghost use Rattle.sdd_base.specs.Steps.{released};
-ghost use Rattle.sdd_base.specs.Frame.{Keeps, OnlyOf};
+ghost use Rattle.sdd_base.specs.Frame.{Frame, OnlyParticipant};
 ghost use Rattle.sdd_base.specs.Dropping.{Dropped};
 ghost use Rattle.sdd_base.specs.Holding.{SharedItem};
 ghost use Rattle.sdd_base.specs.Place.{IsOpen, IsShared, HasOneOwner};
 ghost use Rattle.sdd_base.specs.Tokens.{kept_slot, loaded_slot, shared_slot, ptr_slot, ptr_tag};
 
+use crate::exclusive_access::ExclusiveAccess;
 use crate::guard::WorldGuard;
 use crate::holds::{Held, Holds};
 use crate::job::Deferred;
-use crate::lender::Lender;
 use crate::owner::{Kept, Shared};
 use crate::pointer::{Loaded, Ptr};
 use crate::reclaim;
@@ -29,7 +29,7 @@ pub fn new<T, J: Deferred>(w: &mut World<T, J>, value: T) -> Result<Shared<T>, T
     ensures refused { IfErr result (λ v. (v ≡ value) × (w.new ≡ w.old) × NoneFree w.old) }
     ensures live { IfOk result (λ s. IsShared w.new (shared_slot s)) }
     ensures value { IfOk result (λ o. value_at w.new (shared_slot o) ≡ Some value) }
-    ensures keeps { Keeps w.old w.new }
+    ensures keeps { Frame w.old w.new }
 {
     Ok(Shared::of_slot(w.table.place(value, Status::Shared(1))?))
 }
@@ -42,7 +42,7 @@ pub fn new_with<T, J: Deferred, F: FnOnce() -> T + Drop>(
     requires { F.pre f }
     ensures placed { IfOk result (λ s. IsFree w.old (shared_slot s) × (v : T) × F.post f v × (w.new ≡ placed (shared_slot s) v (Status.Shared 1) w.old)) }
     ensures refused { OnErr result ((w.new ≡ w.old) × NoneFree w.old) }
-    ensures keeps { Keeps w.old w.new }
+    ensures keeps { Frame w.old w.new }
 {
     if w.table.is_full() {
         return Err(NoSlot);
@@ -60,7 +60,7 @@ pub fn clone<T, J: Deferred>(w: &mut World<T, J>, shared: &Shared<T>) -> Option<
     ensures more { IfSome result (λ s. (shared_slot s ≡ shared_slot shared.now) × (n : ℕ) × (status_at w.old (shared_slot s) ≡ Status.Shared n) × (w.new ≡ with_status (shared_slot s) (Status.Shared (n + 1)) w.old)) }
     ensures full { IfNone result ((w.new ≡ w.old) × (status_at w.old (shared_slot shared.now) ≡ Status.Shared 4294967295)) }
     ensures live { IsShared w.new (shared_slot shared.now) }
-    ensures keeps { Keeps w.old w.new }
+    ensures keeps { Frame w.old w.new }
 {
     let slot = shared.slot;
     match w.table.status(slot) {
@@ -80,7 +80,7 @@ pub fn of_loaded<T, J: Deferred>(w: &mut World<T, J>, at: &Loaded<T>) -> Option<
     ensures more { IfSome result (λ s. (loaded_slot at.now ≡ Some (shared_slot s)) × (n : ℕ) × (status_at w.old (shared_slot s) ≡ Status.Shared n) × (w.new ≡ with_status (shared_slot s) (Status.Shared (n + 1)) w.old)) }
     ensures none { IfNone result ((w.new ≡ w.old) × IfSome (loaded_slot at.now) (λ i. (n : ℕ) → n < 4294967295 → status_at w.old i ≢ Status.Shared n)) }
     ensures live { IfSome result (λ s. IsShared w.new (shared_slot s)) }
-    ensures keeps { Keeps w.old w.new }
+    ensures keeps { Frame w.old w.new }
 {
     match at.slot {
         None => None,
@@ -91,13 +91,13 @@ pub fn of_loaded<T, J: Deferred>(w: &mut World<T, J>, at: &Loaded<T>) -> Option<
 /// Gives an owner back, and answers whether it was the last, those of cells and items counted. The last one retires
 /// the item, which waits in the current bag of participant `p`.
 pub fn release<T, J: Deferred>(w: &mut World<T, J>, shared: Shared<T>, p: usize) -> bool
-    requires member { p < length w.old.members }
+    requires participant { p < length w.old.participants }
     requires live { IsShared w.old (shared_slot shared) }
     ensures released { w.new ≡ released p (shared_slot shared) w.old }
     ensures last { (n : ℕ) → status_at w.old (shared_slot shared) ≡ Status.Shared n → result ≡ leb n 1 }
-    ensures nests { (q : ℕ) → (marks_at w.new q).nesting ≡ (marks_at w.old q).nesting }
-    ensures keeps { Keeps w.old w.new }
-    ensures only { OnlyOf p w.old w.new }
+    ensures nests { (q : ℕ) → (local_at w.new q).nesting ≡ (local_at w.old q).nesting }
+    ensures keeps { Frame w.old w.new }
+    ensures only { OnlyParticipant p w.old w.new }
 {
     let Shared { slot, of: _ } = shared;
     reclaim::release(&mut w.table, p, slot)
@@ -115,7 +115,7 @@ pub fn drop_in_place<T: Holds, J: Deferred>(
     ensures last { IfOk result (λ last. (n : ℕ) → status_at w.old (shared_slot shared) ≡ Status.Shared n → last ≡ leb n 1) }
     ensures back { IfErr result (λ s. (shared_slot s ≡ shared_slot shared) × (w.new ≡ w.old)) }
     ensures open { IsErr result ↔ ((p : ℕ) × IsOpen w.old p) }
-    ensures guarded { (q : ℕ) → IsOpen w.old q → Keeps w.old w.new }
+    ensures guarded { (q : ℕ) → IsOpen w.old q → Frame w.old w.new }
 {
     if w.table.any_open() {
         return Err(shared);
@@ -146,7 +146,10 @@ pub fn kept_ref<'w, T, J: Deferred>(w: &'w World<T, J>, kept: &Kept) -> &'w T
 /// written, and nothing else has changed. Rust's `Shared::get_mut` is unsafe, and answers none beside other owners.
 ///
 /// `W` is `World<T>`: the place is named by what it does, since a clause on a borrow can't name the type of a `World`.
-pub fn get_mut<'w, T, W: Lender<T>>(w: &'w mut W, shared: &Shared<T>) -> Result<&'w mut T, NotLent>
+pub fn get_mut<'w, T, W: ExclusiveAccess<T>>(
+    w: &'w mut W,
+    shared: &Shared<T>,
+) -> Result<&'w mut T, NotLent>
     requires { IsShared (W.state w.old) (shared_slot shared.now) }
     ensures* writes { sem 𝓛 (LendsIfOk W.row T.row w.entry result (λ v. W.with_item (shared_slot shared.now) v w.entry.now) w.entry.now) }
     ensures value { IfOk result (λ v. value_at (W.state w.old) (shared_slot shared.now) ≡ Some v.now) }
@@ -200,7 +203,7 @@ pub fn try_from<T, J: Deferred>(
     ensures room { IfOk result (λ s. (n : ℕ) → status_at w.old (shared_slot s) ≡ Status.Shared n → n < 4294967295) }
     ensures none { OnErr result (IfSome (ptr_slot at.entry) (λ i. (n : ℕ) → n < 4294967295 → status_at w.old i ≢ Status.Shared n)) }
     ensures live { IfOk result (λ s. IsShared w.new (shared_slot s)) }
-    ensures keeps { Keeps w.old w.new }
+    ensures keeps { Frame w.old w.new }
 {
     match at.slot {
         None => Err(at),

@@ -2,12 +2,12 @@
 
 ghost use Rattle.std.specs.Prelude.{◌≡◌, ◌-◌, IfNone, IfSome, MatchOption, None, Some, length, option_copied, slice_get};
 ghost use Rattle.std.specs.declared.ops.Bound.TheVariants.{Excluded};
-ghost use Rattle.tree_index.specs.Cursor.{before_start, referred};
+ghost use Rattle.tree_index.specs.Cursor.{before_start, deref_pair};
 ghost use Rattle.tree_index.specs.Cuts.{key_at};
 ghost use Rattle.tree_index.specs.LeafCursor.{at_start, key_behind, IsFirstAbove, ranked, IsPart};
 
 use crate::index::TreeIndex;
-use crate::leaf::{Leaf, RevIter, Stand};
+use crate::leaf::{Leaf, LeafPosition, RevIter};
 use std::marker::Model;
 
 /// Goes through the pairs of a leaf by rising keys. (`scc`'s `tree_index::leaf::Iter`.)
@@ -26,7 +26,7 @@ use std::marker::Model;
 /// ```
 #[derive(Drop)]
 pub struct Iter<'l, K: Ord, V> {
-    pub(crate) stand: Stand<'l, K, V>,
+    pub(crate) leaf_position: LeafPosition<'l, K, V>,
 }
 
 impl<'l, K: Ord, V> Model for Iter<'l, K, V> {
@@ -36,7 +36,7 @@ impl<'l, K: Ord, V> Model for Iter<'l, K, V> {
 
     ghost coded = { leaf_cursor_code K.code V.code };
 
-    ghost view = { λ i. cursor_at i.stand };
+    ghost view = { λ i. cursor_at i.leaf_position };
 }
 
 impl<'l, K: Ord, V> Iter<'l, K, V> {
@@ -45,22 +45,26 @@ impl<'l, K: Ord, V> Iter<'l, K, V> {
         ensures { result ≡ at_start leaf.now.array }
     {
         Iter {
-            stand: Stand { leaf, rank: 0 },
+            leaf_position: LeafPosition { leaf, rank: 0 },
         }
     }
 
     /// The pair at which it stands; none at the start.
     pub fn get(&self) -> Option<(&'l K, &'l V)>
-        ensures { referred result ≡ ranked self.now.rank self.now.pairs }
+        ensures { deref_pair result ≡ ranked self.now.rank self.now.pairs }
     {
-        self.stand.pair()
+        self.leaf_position.pair()
     }
 
     /// The greatest key of the leaf, wherever it stands; none where the leaf has no pair.
     pub fn max_key(&self) -> Option<&'l K>
         ensures { option_copied result ≡ key_at self.now.pairs (length self.now.pairs - 1) }
     {
-        match self.stand.leaf.ranked(self.stand.leaf.array.len()) {
+        match self
+            .leaf_position
+            .leaf
+            .ranked(self.leaf_position.leaf.array.len())
+        {
             Some((key, _)) => Some(key),
             None => None,
         }
@@ -76,15 +80,15 @@ impl<'l, K: Ord, V> Iter<'l, K, V> {
     /// Where it goes, it comes to the first pair of the new leaf above that key: of all its pairs the first, where the old
     /// leaf is one of the tree.
     pub fn jump(&mut self, tree: &'l TreeIndex<K, V>) -> Option<(&'l K, &'l V)>
-        ensures next { MatchOption (key_behind self.old) (result ≡ None) (λ k. referred result ≡ slice_get tree.now.pairs (before_start K.cmp (Excluded k) tree.now.pairs)) }
+        ensures next { MatchOption (key_behind self.old) (result ≡ None) (λ k. deref_pair result ≡ slice_get tree.now.pairs (before_start K.cmp (Excluded k) tree.now.pairs)) }
         ensures shown { IfSome result (λ p. ranked self.new.rank self.new.pairs ≡ Some (p.0.now, p.1.now)) }
         ensures leaf { IfSome result (λ p. IsPart self.new.pairs tree.now.pairs) }
         ensures end { IfSome result (λ p. IfSome (key_behind self.old) (λ k. IsFirstAbove K.cmp k self.new)) }
         ensures stays { IfNone result (self.new ≡ self.old) }
     {
-        match self.stand.past(&tree.arenas) {
-            Some(stand) => {
-                self.stand = stand;
+        match self.leaf_position.past(&tree.arenas) {
+            Some(leaf_position) => {
+                self.leaf_position = leaf_position;
                 self.get()
             },
             None => None,
@@ -95,21 +99,25 @@ impl<'l, K: Ord, V> Iter<'l, K, V> {
     pub fn rewind(&mut self)
         ensures { self.new ≡ record self.old { rank = 0 } }
     {
-        self.stand.rank = 0;
+        self.leaf_position.rank = 0;
     }
 
     /// Turns round: a cursor that stands where it stands and goes by falling keys.
     pub fn rev(self) -> RevIter<'l, K, V>
         ensures { result ≡ self.entry }
     {
-        RevIter { stand: self.stand }
+        RevIter {
+            leaf_position: self.leaf_position,
+        }
     }
 
     /// Another cursor that stands where it stands.
     pub fn clone(&self) -> Self
         ensures { result ≡ self.now }
     {
-        Self { stand: self.stand }
+        Self {
+            leaf_position: self.leaf_position,
+        }
     }
 }
 
@@ -125,8 +133,8 @@ impl<'l, K: Ord, V> Iterator for Iter<'l, K, V> {
 
     /// The pair with the next greater key. Where there is none it stays.
     fn next(&mut self) -> Option<(&'l K, &'l V)> {
-        if self.stand.rank < self.stand.leaf.array.len() {
-            self.stand.rank += 1;
+        if self.leaf_position.rank < self.leaf_position.leaf.array.len() {
+            self.leaf_position.rank += 1;
             self.get()
         } else {
             None

@@ -2,12 +2,12 @@
 
 ghost use Rattle.std.specs.Prelude.{◌≡◌, IfNone, IfSome, MatchOption, None, Some, option_copied};
 ghost use Rattle.std.specs.declared.ops.Bound.TheVariants.{Excluded};
-ghost use Rattle.tree_index.specs.Cursor.{referred, up_to_end};
+ghost use Rattle.tree_index.specs.Cursor.{deref_pair, up_to_end};
 ghost use Rattle.tree_index.specs.Cuts.{key_at};
 ghost use Rattle.tree_index.specs.LeafCursor.{at_start, key_before, IsLastBelow, ranked, IsPart};
 
 use crate::index::TreeIndex;
-use crate::leaf::{Iter, Leaf, Stand};
+use crate::leaf::{Iter, Leaf, LeafPosition};
 use std::marker::Model;
 
 /// Goes through the pairs of a leaf by falling keys. (`scc`'s `tree_index::leaf::RevIter`.)
@@ -23,7 +23,7 @@ use std::marker::Model;
 /// ```
 #[derive(Drop)]
 pub struct RevIter<'l, K: Ord, V> {
-    pub(crate) stand: Stand<'l, K, V>,
+    pub(crate) leaf_position: LeafPosition<'l, K, V>,
 }
 
 impl<'l, K: Ord, V> Model for RevIter<'l, K, V> {
@@ -33,7 +33,7 @@ impl<'l, K: Ord, V> Model for RevIter<'l, K, V> {
 
     ghost coded = { leaf_cursor_code K.code V.code };
 
-    ghost view = { λ i. cursor_at i.stand };
+    ghost view = { λ i. cursor_at i.leaf_position };
 }
 
 impl<'l, K: Ord, V> RevIter<'l, K, V> {
@@ -42,22 +42,22 @@ impl<'l, K: Ord, V> RevIter<'l, K, V> {
         ensures { result ≡ at_start leaf.now.array }
     {
         RevIter {
-            stand: Stand { leaf, rank: 0 },
+            leaf_position: LeafPosition { leaf, rank: 0 },
         }
     }
 
     /// The pair at which it stands; none at the start.
     pub fn get(&self) -> Option<(&'l K, &'l V)>
-        ensures { referred result ≡ ranked self.now.rank self.now.pairs }
+        ensures { deref_pair result ≡ ranked self.now.rank self.now.pairs }
     {
-        self.stand.pair()
+        self.leaf_position.pair()
     }
 
     /// The least key of the leaf, wherever it stands; none where the leaf has no pair.
     pub fn min_key(&self) -> Option<&'l K>
         ensures { option_copied result ≡ key_at self.now.pairs 0 }
     {
-        match self.stand.leaf.ranked(1) {
+        match self.leaf_position.leaf.ranked(1) {
             Some((key, _)) => Some(key),
             None => None,
         }
@@ -73,15 +73,15 @@ impl<'l, K: Ord, V> RevIter<'l, K, V> {
     /// Where it goes, it comes to the last pair of the new leaf below that key: of all its pairs the last, where the old
     /// leaf is one of the tree.
     pub fn jump(&mut self, tree: &'l TreeIndex<K, V>) -> Option<(&'l K, &'l V)>
-        ensures next { MatchOption (key_before self.old) (result ≡ None) (λ k. referred result ≡ ranked (up_to_end K.cmp (Excluded k) tree.now.pairs) tree.now.pairs) }
+        ensures next { MatchOption (key_before self.old) (result ≡ None) (λ k. deref_pair result ≡ ranked (up_to_end K.cmp (Excluded k) tree.now.pairs) tree.now.pairs) }
         ensures shown { IfSome result (λ p. ranked self.new.rank self.new.pairs ≡ Some (p.0.now, p.1.now)) }
         ensures leaf { IfSome result (λ p. IsPart self.new.pairs tree.now.pairs) }
         ensures end { IfSome result (λ p. IfSome (key_before self.old) (λ k. IsLastBelow K.cmp k self.new)) }
         ensures stays { IfNone result (self.new ≡ self.old) }
     {
-        match self.stand.short_of(&tree.arenas) {
-            Some(stand) => {
-                self.stand = stand;
+        match self.leaf_position.short_of(&tree.arenas) {
+            Some(leaf_position) => {
+                self.leaf_position = leaf_position;
                 self.get()
             },
             None => None,
@@ -92,21 +92,25 @@ impl<'l, K: Ord, V> RevIter<'l, K, V> {
     pub fn rewind(&mut self)
         ensures { self.new ≡ record self.old { rank = 0 } }
     {
-        self.stand.rank = 0;
+        self.leaf_position.rank = 0;
     }
 
     /// Turns round: a cursor that stands where it stands and goes by rising keys.
     pub fn rev(self) -> Iter<'l, K, V>
         ensures { result ≡ self.entry }
     {
-        Iter { stand: self.stand }
+        Iter {
+            leaf_position: self.leaf_position,
+        }
     }
 
     /// Another cursor that stands where it stands.
     pub fn clone(&self) -> Self
         ensures { result ≡ self.now }
     {
-        Self { stand: self.stand }
+        Self {
+            leaf_position: self.leaf_position,
+        }
     }
 }
 
@@ -123,15 +127,15 @@ impl<'l, K: Ord, V> Iterator for RevIter<'l, K, V> {
     /// The pair with the next smaller key; from the start that with the greatest one. Where there is none
     /// it stays.
     fn next(&mut self) -> Option<(&'l K, &'l V)> {
-        let below = if self.stand.rank == 0 {
-            self.stand.leaf.array.len()
+        let below = if self.leaf_position.rank == 0 {
+            self.leaf_position.leaf.array.len()
         } else {
-            self.stand.rank - 1
+            self.leaf_position.rank - 1
         };
         if below == 0 {
             return None;
         }
-        self.stand.rank = below;
+        self.leaf_position.rank = below;
         self.get()
     }
 }

@@ -9,10 +9,10 @@ ghost use Rattle.leaf_array.specs.Values.{ClonesAreSame};
 ghost use Rattle.versions.specs.Changes.{changed, named_by};
 ghost use Rattle.versions.specs.Cuts.{pairs_in};
 ghost use Rattle.versions.specs.Gone.{IsSpan};
-ghost use Rattle.versions.specs.Seeking.{IsOrdered};
+ghost use Rattle.versions.specs.SeparatorSearch.{IsOrdered};
 ghost use Rattle.versions.specs.Writes.{after_write, reply_to};
 
-use crate::building::draft::Old;
+use crate::building::draft::BaseVersion;
 use crate::building::edit::Edit;
 use crate::building::gone::{Gone, is_gone, range_of};
 use crate::write::{Reply, Write};
@@ -39,7 +39,7 @@ pub(crate) fn unchanged<'w, K: Ord, V>(alloc: Global) -> Changes<'w, K, V>
 }
 
 /// Makes one write on the list that changes make of a version.
-pub(crate) fn apply<'w, K: Clone + Ord + Drop, V: Drop, N, O: Old<K, V, N>>(
+pub(crate) fn apply<'w, K: Clone + Ord + Drop, V: Drop, N, O: BaseVersion<K, V, N>>(
     changes: &mut Changes<'w, K, V>,
     old: &O,
     write: &'w Write<K, V>,
@@ -85,7 +85,7 @@ pub(crate) fn apply<'w, K: Clone + Ord + Drop, V: Drop, N, O: Old<K, V, N>>(
 }
 
 /// Whether the list that changes make of a version has a key: by its edit, or else by what ranges leave of the version.
-fn has<K: Ord, V, N, O: Old<K, V, N>>(changes: &Changes<'_, K, V>, old: &O, key: &K) -> bool
+fn has<K: Ord, V, N, O: BaseVersion<K, V, N>>(changes: &Changes<'_, K, V>, old: &O, key: &K) -> bool
     ensures { result ≡ has_key K.cmp key.now (changed K.cmp changes.now (pairs_in (O.blocks old.now))) }
 {
     let _ = changes.edits.len();
@@ -119,7 +119,7 @@ fn note<'w, K: Clone + Ord + Drop, V>(
 
 /// Removes the pairs whose keys lie within two bounds from the list that changes make of a version: the edits of such keys
 /// are forgotten, and the range is noted. No pair of the version is read.
-fn remove_range<K: Clone + Ord + Drop, V: Drop, N, O: Old<K, V, N>>(
+fn remove_range<K: Clone + Ord + Drop, V: Drop, N, O: BaseVersion<K, V, N>>(
     changes: &mut Changes<'_, K, V>,
     old: &O,
     lower: &Bound<K>,

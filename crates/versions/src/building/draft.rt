@@ -16,7 +16,7 @@ use std::alloc::{AllocError, Global};
 use tree_index::TreeIndex;
 
 /// The segments of an older version, to be read: wherever they are kept. A new version takes a segment over by its name.
-pub trait Old<K: Ord, V, N> {
+pub trait BaseVersion<K: Ord, V, N> {
     /// The pairs of each segment, in order.
     ghost blocks: { Self → List (List (K × V)) };
 
@@ -52,7 +52,13 @@ pub trait Old<K: Ord, V, N> {
 /// The segments of the list that writes leave of an older one, and what they are told; refused where memory is. A
 /// segment has 1 to `S` pairs, and two neighbours together more than `S`. Segments that no write touches are taken over.
 /// Nothing of the older version changes.
-pub fn drafted<K: Clone + Ord + Drop, V: Clone + Drop, N: Drop, O: Old<K, V, N>, const S: usize>(
+pub fn drafted<
+    K: Clone + Ord + Drop,
+    V: Clone + Drop,
+    N: Drop,
+    O: BaseVersion<K, V, N>,
+    const S: usize,
+>(
     alloc: Global,
     old: &O,
     writes: &[Write<K, V>],

@@ -5,11 +5,11 @@ ghost use Rattle.std.specs.List.{All};
 ghost use Rattle.leaf_array.specs.Values.{ClonesAreSame};
 ghost use Rattle.tree_index.specs.Shape.{AllKeys};
 ghost use Rattle.versions.specs.Gone.{IsCovered, IsEndAt, IsNear, IsSpan, is_gone};
-ghost use Rattle.versions.specs.Seeking.{IsOrdered};
+ghost use Rattle.versions.specs.SeparatorSearch.{IsOrdered};
 
 use crate::bounds::is_within;
-use crate::building::draft::Old;
-use crate::building::stream::Stream;
+use crate::building::change_scan::ChangeScan;
+use crate::building::draft::BaseVersion;
 use crate::read::view::place_of;
 use std::alloc::AllocError;
 use std::ops::Bound;
@@ -26,7 +26,7 @@ pub(crate) struct Gone<K> {
 }
 
 /// A range of keys, with the segments of its ends: one search of the separators for each.
-pub(crate) fn range_of<K: Clone + Ord, V, N, O: Old<K, V, N>>(
+pub(crate) fn range_of<K: Clone + Ord, V, N, O: BaseVersion<K, V, N>>(
     old: &O,
     lower: &Bound<K>,
     upper: &Bound<K>,
@@ -48,7 +48,7 @@ pub(crate) fn range_of<K: Clone + Ord, V, N, O: Old<K, V, N>>(
 }
 
 /// The segment that an end of a range lies in or beside.
-fn end_of<K: Ord, V, N, O: Old<K, V, N>>(old: &O, bound: &Bound<K>) -> Option<usize>
+fn end_of<K: Ord, V, N, O: BaseVersion<K, V, N>>(old: &O, bound: &Bound<K>) -> Option<usize>
     requires { IsOrdered K.cmp (O.blocks old.now) (O.separators old.now) }
     ensures { IsEndAt K.cmp (O.blocks old.now) bound.now result }
 {
@@ -84,7 +84,11 @@ pub(crate) fn is_gone<K: Ord>(gone: &[Gone<K>], key: &K) -> bool
 }
 
 /// Whether the segments of the ends of a range tell that it has all pairs of the segment at a place.
-pub(crate) fn covers<K: Ord, V, N, O: Old<K, V, N>>(gone: &[Gone<K>], old: &O, place: usize) -> bool
+pub(crate) fn covers<K: Ord, V, N, O: BaseVersion<K, V, N>>(
+    gone: &[Gone<K>],
+    old: &O,
+    place: usize,
+) -> bool
     requires { All (IsSpan K.cmp (O.blocks old.now)) gone.now }
     ensures { IsTrue result → (b : List (K × V)) → slice_get (O.blocks old.now) place ≡ Some b → AllKeys (λ k. is_gone K.cmp gone.now k ≡ true) b }
 {
@@ -99,7 +103,11 @@ pub(crate) fn covers<K: Ord, V, N, O: Old<K, V, N>>(gone: &[Gone<K>], old: &O, p
 
 /// Whether a pair of the segment at a place lies in a range that is gone: a look at its tree, where the segments of the
 /// ends don't tell.
-pub(crate) fn thins<K: Ord, V, N, O: Old<K, V, N>>(gone: &[Gone<K>], old: &O, place: usize) -> bool
+pub(crate) fn thins<K: Ord, V, N, O: BaseVersion<K, V, N>>(
+    gone: &[Gone<K>],
+    old: &O,
+    place: usize,
+) -> bool
     requires spans { All (IsSpan K.cmp (O.blocks old.now)) gone.now }
     requires within { place < length (O.blocks old.now) }
     ensures some { IsTrue result → (b : List (K × V)) → slice_get (O.blocks old.now) place ≡ Some b → AllKeys (λ k. is_gone K.cmp gone.now k ≡ false) b → ⊥ }
@@ -109,7 +117,7 @@ pub(crate) fn thins<K: Ord, V, N, O: Old<K, V, N>>(gone: &[Gone<K>], old: &O, pl
 }
 
 /// Whether a range that is gone may have a pair of the segment at a place.
-fn nears<K: Ord, V, N, O: Old<K, V, N>>(gone: &[Gone<K>], old: &O, place: usize) -> bool
+fn nears<K: Ord, V, N, O: BaseVersion<K, V, N>>(gone: &[Gone<K>], old: &O, place: usize) -> bool
     requires { All (IsSpan K.cmp (O.blocks old.now)) gone.now }
     ensures { result ≡ false → (b : List (K × V)) → slice_get (O.blocks old.now) place ≡ Some b → AllKeys (λ k. is_gone K.cmp gone.now k ≡ false) b }
 {
@@ -127,7 +135,7 @@ fn has_gone<K: Ord, V>(gone: &[Gone<K>], tree: &TreeIndex<K, V>) -> bool
     ensures some { IsTrue result → AllKeys (λ k. is_gone K.cmp gone.now k ≡ false) tree.now.pairs → ⊥ }
     ensures none { result ≡ false → AllKeys (λ k. is_gone K.cmp gone.now k ≡ false) tree.now.pairs }
 {
-    let mut pairs = Stream::new(tree);
+    let mut pairs = ChangeScan::new(tree);
     while let Some((key, _)) = pairs.front() {
         if is_gone(gone, key) {
             return true;

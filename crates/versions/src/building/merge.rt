@@ -5,20 +5,20 @@ ghost use Rattle.leaf_array.specs.Pairs.{IsAscending};
 ghost use Rattle.leaf_array.specs.Values.{ClonesAreSame};
 ghost use Rattle.std.specs.List.{All};
 ghost use Rattle.tree_index.specs.Shape.{AllKeys};
-ghost use Rattle.versions.specs.Changes.{ahead, amended, changed, named_by, pair_left};
+ghost use Rattle.versions.specs.Changes.{ahead, apply_delta, changed, named_by, pair_left};
 ghost use Rattle.versions.specs.Cuts.{IsCut, pairs_in};
 ghost use Rattle.versions.specs.Cutting.{IsCutting, IsFilled, IsPassedBy, IsReachedBy, IsThrifty, Joins, given};
 ghost use Rattle.versions.specs.Gone.{IsSpan, is_gone, without};
 ghost use Rattle.versions.specs.Parts.{blocks_of_parts, made_in};
 
+use crate::building::change_scan::ChangeScan;
 use crate::building::changes::Changes;
-use crate::building::draft::Old;
+use crate::building::draft::BaseVersion;
 use crate::building::edit::Edit;
 use crate::building::gone::{Gone, covers, thins};
 use crate::building::parts::Segments;
-use crate::building::segments::{Cutter, begun, finish, greatest_at, push, take};
+use crate::building::segments::{SegmentBuilder, begun, finish, greatest_at, push, take};
 use crate::building::sieve::Sieve;
-use crate::building::stream::Stream;
 use std::alloc::{AllocError, Global};
 use std::cmp::Ordering;
 
@@ -28,7 +28,7 @@ pub(crate) fn merged<
     K: Clone + Ord + Drop,
     V: Clone + Drop,
     N: Drop,
-    O: Old<K, V, N>,
+    O: BaseVersion<K, V, N>,
     const S: usize,
 >(alloc: Global, old: &O, changes: &Changes<'_, K, V>) -> Result<Segments<K, V, N>, AllocError>
     requires size { (1 ≤ S) × (S ≤ 225) }
@@ -43,7 +43,7 @@ pub(crate) fn merged<
 {
     let named = changes.edits.len().saturating_add(changes.gone.len());
     let mut out = begun::<K, V, N, O, S>(alloc, old, named)?;
-    let mut left = Stream::new(&changes.edits);
+    let mut left = ChangeScan::new(&changes.edits);
     for place in 0..old.count() {
         pass::<K, V, N, O, S>(&mut out, &mut left, &changes.gone, old, place)?;
     }
@@ -54,9 +54,9 @@ pub(crate) fn merged<
 
 /// Takes the segment at a place over, or merges what is left of it with the changes that touch it. One that a range has
 /// all pairs of is passed by.
-fn pass<K: Clone + Ord + Drop, V: Clone + Drop, N: Drop, O: Old<K, V, N>, const S: usize>(
-    out: &mut Cutter<K, V, N>,
-    changes: &mut Stream<'_, K, Edit<'_, V>>,
+fn pass<K: Clone + Ord + Drop, V: Clone + Drop, N: Drop, O: BaseVersion<K, V, N>, const S: usize>(
+    out: &mut SegmentBuilder<K, V, N>,
+    changes: &mut ChangeScan<'_, K, Edit<'_, V>>,
     gone: &[Gone<K>],
     old: &O,
     place: usize,
@@ -88,8 +88,8 @@ fn pass<K: Clone + Ord + Drop, V: Clone + Drop, N: Drop, O: Old<K, V, N>, const 
 }
 
 /// Whether the next change touches the segment at a place, or a range that is gone has a pair of it.
-fn touches<K: Ord, V, N, O: Old<K, V, N>, const S: usize>(
-    changes: &Stream<'_, K, Edit<'_, V>>,
+fn touches<K: Ord, V, N, O: BaseVersion<K, V, N>, const S: usize>(
+    changes: &ChangeScan<'_, K, Edit<'_, V>>,
     gone: &[Gone<K>],
     old: &O,
     place: usize,
@@ -107,8 +107,8 @@ fn touches<K: Ord, V, N, O: Old<K, V, N>, const S: usize>(
 }
 
 /// Whether the next change touches the segment at a place: its key is at most the greatest one there.
-fn reaches<K: Ord, V, N, O: Old<K, V, N>, const S: usize>(
-    changes: &Stream<'_, K, Edit<'_, V>>,
+fn reaches<K: Ord, V, N, O: BaseVersion<K, V, N>, const S: usize>(
+    changes: &ChangeScan<'_, K, Edit<'_, V>>,
     old: &O,
     place: usize,
 ) -> bool
@@ -131,7 +131,7 @@ fn reaches<K: Ord, V, N, O: Old<K, V, N>, const S: usize>(
 }
 
 /// Whether a segment of so many pairs fits into one with what comes before it.
-fn joins<K: Ord, V, N, const S: usize>(out: &Cutter<K, V, N>, size: usize) -> bool
+fn joins<K: Ord, V, N, const S: usize>(out: &SegmentBuilder<K, V, N>, size: usize) -> bool
     ensures { IsTrue result ↔ Joins S size out.now }
 {
     let last = match out.tail.len() {
@@ -142,9 +142,15 @@ fn joins<K: Ord, V, N, const S: usize>(out: &Cutter<K, V, N>, size: usize) -> bo
 }
 
 /// Merges what is left of a segment with the changes up to its end.
-fn merge_segment<K: Clone + Ord + Drop, V: Clone + Drop, N: Drop, O: Old<K, V, N>, const S: usize>(
-    out: &mut Cutter<K, V, N>,
-    changes: &mut Stream<'_, K, Edit<'_, V>>,
+fn merge_segment<
+    K: Clone + Ord + Drop,
+    V: Clone + Drop,
+    N: Drop,
+    O: BaseVersion<K, V, N>,
+    const S: usize,
+>(
+    out: &mut SegmentBuilder<K, V, N>,
+    changes: &mut ChangeScan<'_, K, Edit<'_, V>>,
     gone: &[Gone<K>],
     old: &O,
     place: usize,
@@ -171,9 +177,15 @@ fn merge_segment<K: Clone + Ord + Drop, V: Clone + Drop, N: Drop, O: Old<K, V, N
 
 /// Takes what is first of changes and the pairs of the segment at a place, or both where they have one key, and says whether
 /// there was a pair.
-fn merge_next<K: Clone + Ord + Drop, V: Clone + Drop, N: Drop, O: Old<K, V, N>, const S: usize>(
-    out: &mut Cutter<K, V, N>,
-    changes: &mut Stream<'_, K, Edit<'_, V>>,
+fn merge_next<
+    K: Clone + Ord + Drop,
+    V: Clone + Drop,
+    N: Drop,
+    O: BaseVersion<K, V, N>,
+    const S: usize,
+>(
+    out: &mut SegmentBuilder<K, V, N>,
+    changes: &mut ChangeScan<'_, K, Edit<'_, V>>,
     pairs: &mut Sieve<'_, K, V>,
     gone: &[Gone<K>],
     old: &O,
@@ -183,9 +195,9 @@ fn merge_next<K: Clone + Ord + Drop, V: Clone + Drop, N: Drop, O: Old<K, V, N>, 
     requires values { ClonesAreSame V.is_clone }
     requires sorted { IsAscending K.cmp (pairs.old ++ without K.cmp gone.now (pairs_in (drop (place + 1) (O.blocks old.now)))) }
     requires whole { IsCutting (O.named old.now) K.cmp S (O.blocks old.now) out.old }
-    requires rising { IsAscending K.cmp (given (O.named old.now) out.old ++ amended K.cmp changes.old (pairs.old ++ without K.cmp gone.now (pairs_in (drop (place + 1) (O.blocks old.now))))) }
+    requires rising { IsAscending K.cmp (given (O.named old.now) out.old ++ apply_delta K.cmp changes.old (pairs.old ++ without K.cmp gone.now (pairs_in (drop (place + 1) (O.blocks old.now))))) }
     ensures whole { OnOk result (IsCutting (O.named old.now) K.cmp S (O.blocks old.now) out.new) }
-    ensures list { OnOk result (given (O.named old.now) out.new ++ amended K.cmp changes.new (pairs.new ++ without K.cmp gone.now (pairs_in (drop (place + 1) (O.blocks old.now)))) ≡ given (O.named old.now) out.old ++ amended K.cmp changes.old (pairs.old ++ without K.cmp gone.now (pairs_in (drop (place + 1) (O.blocks old.now))))) }
+    ensures list { OnOk result (given (O.named old.now) out.new ++ apply_delta K.cmp changes.new (pairs.new ++ without K.cmp gone.now (pairs_in (drop (place + 1) (O.blocks old.now)))) ≡ given (O.named old.now) out.old ++ apply_delta K.cmp changes.old (pairs.old ++ without K.cmp gone.now (pairs_in (drop (place + 1) (O.blocks old.now))))) }
     ensures sorted { OnOk result (IsAscending K.cmp (pairs.new ++ without K.cmp gone.now (pairs_in (drop (place + 1) (O.blocks old.now))))) }
     ensures filled { OnOk result (IsFilled S (length pairs.old + length changes.old) (length pairs.new + length changes.new) out.old out.new) }
     ensures reached { OnOk result (IsReachedBy K.cmp changes.old pairs.old → IsReachedBy K.cmp changes.new pairs.new ⊎ (length changes.new < length changes.old)) }
@@ -221,17 +233,23 @@ fn merge_next<K: Clone + Ord + Drop, V: Clone + Drop, N: Drop, O: Old<K, V, N>, 
 }
 
 /// Gives what the changes that are left leave, behind all pairs of the version.
-fn put_all<K: Clone + Ord + Drop, V: Clone + Drop, N: Drop, O: Old<K, V, N>, const S: usize>(
-    out: &mut Cutter<K, V, N>,
-    changes: &mut Stream<'_, K, Edit<'_, V>>,
+fn put_all<
+    K: Clone + Ord + Drop,
+    V: Clone + Drop,
+    N: Drop,
+    O: BaseVersion<K, V, N>,
+    const S: usize,
+>(
+    out: &mut SegmentBuilder<K, V, N>,
+    changes: &mut ChangeScan<'_, K, Edit<'_, V>>,
     old: &O,
 ) -> Result<(), AllocError>
     requires keys { ClonesAreSame K.is_clone }
     requires values { ClonesAreSame V.is_clone }
     requires whole { IsCutting (O.named old.now) K.cmp S (O.blocks old.now) out.old }
-    requires rising { IsAscending K.cmp (given (O.named old.now) out.old ++ amended K.cmp changes.old []) }
+    requires rising { IsAscending K.cmp (given (O.named old.now) out.old ++ apply_delta K.cmp changes.old []) }
     ensures whole { OnOk result (IsCutting (O.named old.now) K.cmp S (O.blocks old.now) out.new) }
-    ensures list { OnOk result (given (O.named old.now) out.new ≡ given (O.named old.now) out.old ++ amended K.cmp changes.old []) }
+    ensures list { OnOk result (given (O.named old.now) out.new ≡ given (O.named old.now) out.old ++ apply_delta K.cmp changes.old []) }
     ensures filled { OnOk result (IsFilled S (length changes.old) 0 out.old out.new) }
 {
     while let Some((changed, to)) = changes.front() {
@@ -242,8 +260,8 @@ fn put_all<K: Clone + Ord + Drop, V: Clone + Drop, N: Drop, O: Old<K, V, N>, con
 }
 
 /// Gives the pair that a change leaves, if it leaves one.
-fn put<K: Clone + Ord + Drop, V: Clone + Drop, N: Drop, O: Old<K, V, N>, const S: usize>(
-    out: &mut Cutter<K, V, N>,
+fn put<K: Clone + Ord + Drop, V: Clone + Drop, N: Drop, O: BaseVersion<K, V, N>, const S: usize>(
+    out: &mut SegmentBuilder<K, V, N>,
     old: &O,
     key: &K,
     to: &Edit<'_, V>,
@@ -263,8 +281,8 @@ fn put<K: Clone + Ord + Drop, V: Clone + Drop, N: Drop, O: Old<K, V, N>, const S
 }
 
 /// Gives a clone of a pair.
-fn copy<K: Clone + Ord + Drop, V: Clone + Drop, N: Drop, O: Old<K, V, N>, const S: usize>(
-    out: &mut Cutter<K, V, N>,
+fn copy<K: Clone + Ord + Drop, V: Clone + Drop, N: Drop, O: BaseVersion<K, V, N>, const S: usize>(
+    out: &mut SegmentBuilder<K, V, N>,
     old: &O,
     key: &K,
     value: &V,

@@ -6,7 +6,7 @@ ghost use Rattle.versions.specs.Placing.{named_among};
 ghost use Rattle.versions.specs.Versions.{IsVersion, blocks_of};
 ghost use Rattle.versions.specs.Items.{slots_of};
 
-use crate::building::draft::Old;
+use crate::building::draft::BaseVersion;
 use crate::directory::Directory;
 use crate::item::Item;
 use crate::read::trees::Trees;
@@ -54,7 +54,8 @@ impl<'a, K: Ord, V, const S: usize> Older<'a, K, V, S> {
     }
 }
 
-impl<'a, K: Ord, V, const S: usize> Old<K, V, Loaded<Item<K, V, S>>> for Older<'a, K, V, S> {
+impl<'a, K: Ord, V, const S: usize> BaseVersion<K, V, Loaded<Item<K, V, S>>>
+    for Older<'a, K, V, S> {
     ghost blocks = { λ o. blocks_of (value_at o.state) o.directory };
 
     ghost separators = { λ o. o.directory.separators.items };

@@ -1,7 +1,7 @@
 //! Placing versions, and publishing them.
 
 ghost use Rattle.std.specs.Prelude.{◌≡◌, ◌<◌, ◌≤◌, ◌+◌, ◌∷◌, [], ℕ, Option, None, Some, IfOk, IfErr, IsOk, OnErr, length, sum_by, vec_len, vec_capacity, map};
-ghost use Rattle.sdd_base.specs.Frame.{Keeps, OnlyOf};
+ghost use Rattle.sdd_base.specs.Frame.{Frame, OnlyParticipant};
 ghost use Rattle.sdd_base.specs.Place.{IsShared, IsSharedCell};
 ghost use Rattle.sdd_base.specs.State.{IsFree, cell_at, placed, status_at, vacancy, value_at, with_cell, with_status};
 ghost use Rattle.sdd_base.specs.Tokens.{kept_slot, loaded_slot, shared_cell, shared_slot};
@@ -35,7 +35,7 @@ pub fn place<K: Ord + Drop, V: Drop, const S: usize>(
     ensures room { slots_for built ≤ sum_by vacancy w.old.states → IsOk result }
     ensures back { IfErr result (λ b. b ≡ built) }
     ensures refused { OnErr result (w.new ≡ w.old) }
-    ensures keeps { Keeps w.old w.new }
+    ensures keeps { Frame w.old w.new }
 {
     if w.free_slots() < built.slots() {
         return Err(built);
@@ -104,7 +104,7 @@ fn take_over<K: Ord + Drop, V: Drop, const S: usize>(
     requires { (i : ℕ) × (loaded_slot at ≡ Some i) × CanBeShared w.old i }
     ensures slot { loaded_slot at ≡ Some (kept_slot result) }
     ensures more { (n : ℕ) × (status_at w.old (kept_slot result) ≡ Status.Shared n) × (w.new ≡ with_status (kept_slot result) (Status.Shared (n + 1)) w.old) }
-    ensures keeps { Keeps w.old w.new }
+    ensures keeps { Frame w.old w.new }
 {
     match shared::of_loaded(w, &at) {
         Some(owner) => Kept::of(owner),
@@ -120,7 +120,7 @@ fn place_segment<K: Ord + Drop, V: Drop, const S: usize>(
     requires { 1 ≤ sum_by vacancy w.old.states }
     ensures free { IsFree w.old (kept_slot result) }
     ensures placed { w.new ≡ placed (kept_slot result) (Item.Segment tree) (Status.Shared 1) w.old }
-    ensures keeps { Keeps w.old w.new }
+    ensures keeps { Frame w.old w.new }
 {
     match shared::new(w, Item::Segment(tree)) {
         Ok(owner) => Kept::of(owner),
@@ -136,13 +136,13 @@ pub fn publish<K: Ord, V, const S: usize>(
     new: Shared<Item<K, V, S>>,
     p: usize,
 )
-    requires member { p < length w.old.members }
+    requires participant { p < length w.old.participants }
     requires root { IsSharedCell w.old (shared_cell root.now) }
     requires owned { (i : ℕ) (tag : Tag) → cell_at w.old (shared_cell root.now) ≡ Cell.OfShared (Some i) tag → IsShared w.old i }
     ensures published { (o : Option ℕ) (tag : Tag) → cell_at w.old (shared_cell root.now) ≡ Cell.OfShared o tag → w.new ≡ given_back p o (with_cell (shared_cell root.now) (Cell.OfShared (Some (shared_slot new)) Tag.None) w.old) }
     ensures used { IsSharedCell w.new (shared_cell root.now) }
-    ensures keeps { Keeps w.old w.new }
-    ensures only { OnlyOf p w.old w.new }
+    ensures keeps { Frame w.old w.new }
+    ensures only { OnlyParticipant p w.old w.new }
 {
     let (older, _) = atomic_shared::swap(w, root, (Some(new), Tag::None));
     if let Some(older) = older {

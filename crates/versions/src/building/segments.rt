@@ -7,9 +7,9 @@ ghost use Rattle.versions.specs.Cuts.{IsCut, IsSeparated, greatest_key, pairs_in
 ghost use Rattle.versions.specs.Cutting.{IsClosing, IsCutting, IsRow, StaysApart, given, spent, trees};
 ghost use Rattle.versions.specs.Parts.{blocks_of_parts, made_in};
 
-use crate::building::draft::Old;
+use crate::building::change_scan::ChangeScan;
+use crate::building::draft::BaseVersion;
 use crate::building::parts::{Part, Row, Segments, give};
-use crate::building::stream::Stream;
 use crate::segment::Segment;
 use std::alloc::{AllocError, Global};
 use std::mem;
@@ -17,7 +17,7 @@ use tree_index::TreeIndex;
 
 /// The pairs that were given so far, by rising keys: in segments that are done, and in a last tree that takes more.
 #[derive(Drop)]
-pub(crate) struct Cutter<K: Ord, V, N> {
+pub(crate) struct SegmentBuilder<K: Ord, V, N> {
     pub(crate) alloc: Global,
     pub(crate) row: Row<K, V, N>,
     // where the last segment of the row is one of the older version, its place there
@@ -27,11 +27,11 @@ pub(crate) struct Cutter<K: Ord, V, N> {
 }
 
 /// A cutter that was given no pair, with room for all segments that changes of so many keys and ranges can leave.
-pub(crate) fn begun<K: Ord + Drop, V: Drop, N: Drop, O: Old<K, V, N>, const S: usize>(
+pub(crate) fn begun<K: Ord + Drop, V: Drop, N: Drop, O: BaseVersion<K, V, N>, const S: usize>(
     alloc: Global,
     old: &O,
     named: usize,
-) -> Result<Cutter<K, V, N>, AllocError>
+) -> Result<SegmentBuilder<K, V, N>, AllocError>
     requires { (1 ≤ S) × (S ≤ 225) }
     ensures whole { IfOk result (λ out. IsCutting (O.named old.now) K.cmp S (O.blocks old.now) out) }
     ensures empty { IfOk result (λ out. given (O.named old.now) out ≡ []) }
@@ -40,7 +40,7 @@ pub(crate) fn begun<K: Ord + Drop, V: Drop, N: Drop, O: Old<K, V, N>, const S: u
     let most = most_segments(old.count(), named, S);
     let parts = Vec::with_capacity(alloc, most)?;
     let separators = Vec::with_capacity(alloc, most)?;
-    Ok(Cutter {
+    Ok(SegmentBuilder {
         alloc,
         row: Row {
             parts,
@@ -64,12 +64,13 @@ fn most_segments(count: usize, named: usize, s: usize) -> usize
 }
 
 /// Takes a pair whose key is above all that were given. `usize::MAX` pairs are the most: one more is answered as memory.
-pub(crate) fn push<K: Clone + Ord + Drop, V: Drop, N: Drop, O: Old<K, V, N>, const S: usize>(
-    out: &mut Cutter<K, V, N>,
-    old: &O,
-    key: K,
-    value: V,
-) -> Result<(), AllocError>
+pub(crate) fn push<
+    K: Clone + Ord + Drop,
+    V: Drop,
+    N: Drop,
+    O: BaseVersion<K, V, N>,
+    const S: usize,
+>(out: &mut SegmentBuilder<K, V, N>, old: &O, key: K, value: V) -> Result<(), AllocError>
     requires clones { ClonesAreSame K.is_clone }
     requires whole { IsCutting (O.named old.now) K.cmp S (O.blocks old.now) out.old }
     requires rising { IsAscending K.cmp (given (O.named old.now) out.old ++ (key, value) ∷ []) }
@@ -101,9 +102,9 @@ pub(crate) fn take<
     K: Clone + Ord + Drop,
     V: Clone + Drop,
     N: Drop,
-    O: Old<K, V, N>,
+    O: BaseVersion<K, V, N>,
     const S: usize,
->(out: &mut Cutter<K, V, N>, old: &O, place: usize) -> Result<(), AllocError>
+>(out: &mut SegmentBuilder<K, V, N>, old: &O, place: usize) -> Result<(), AllocError>
     requires keys { ClonesAreSame K.is_clone }
     requires values { ClonesAreSame V.is_clone }
     requires separated { IsSeparated (O.blocks old.now) (O.separators old.now) }
@@ -120,8 +121,8 @@ pub(crate) fn take<
 }
 
 /// Puts a segment of the older version behind those that are done.
-fn take_over<K: Clone + Ord + Drop, V: Drop, N: Drop, O: Old<K, V, N>, const S: usize>(
-    out: &mut Cutter<K, V, N>,
+fn take_over<K: Clone + Ord + Drop, V: Drop, N: Drop, O: BaseVersion<K, V, N>, const S: usize>(
+    out: &mut SegmentBuilder<K, V, N>,
     old: &O,
     place: usize,
 ) -> Result<(), AllocError>
@@ -153,9 +154,9 @@ pub(crate) fn finish<
     K: Clone + Ord + Drop,
     V: Clone + Drop,
     N: Drop,
-    O: Old<K, V, N>,
+    O: BaseVersion<K, V, N>,
     const S: usize,
->(mut out: Cutter<K, V, N>, old: &O) -> Result<Segments<K, V, N>, AllocError>
+>(mut out: SegmentBuilder<K, V, N>, old: &O) -> Result<Segments<K, V, N>, AllocError>
     requires keys { ClonesAreSame K.is_clone }
     requires values { ClonesAreSame V.is_clone }
     requires whole { IsCutting (O.named old.now) K.cmp S (O.blocks old.now) out }
@@ -165,7 +166,7 @@ pub(crate) fn finish<
     ensures made { IfOk result (λ made. made_in made.parts.items ≡ trees out) }
 {
     seal::<K, V, N, O, S>(&mut out, old)?;
-    let Cutter {
+    let SegmentBuilder {
         alloc: _,
         row,
         held: _,
@@ -186,8 +187,8 @@ pub(crate) fn finish<
 }
 
 /// Ends the open tree if it has a pair, with the older segment before it where both fit into one.
-fn seal<K: Clone + Ord + Drop, V: Clone + Drop, N: Drop, O: Old<K, V, N>, const S: usize>(
-    out: &mut Cutter<K, V, N>,
+fn seal<K: Clone + Ord + Drop, V: Clone + Drop, N: Drop, O: BaseVersion<K, V, N>, const S: usize>(
+    out: &mut SegmentBuilder<K, V, N>,
     old: &O,
 ) -> Result<(), AllocError>
     requires keys { ClonesAreSame K.is_clone }
@@ -211,8 +212,8 @@ fn seal<K: Clone + Ord + Drop, V: Clone + Drop, N: Drop, O: Old<K, V, N>, const 
 }
 
 /// Brings the older segment that is held into the open tree, where both fit into one.
-fn join<K: Clone + Ord + Drop, V: Clone + Drop, N: Drop, O: Old<K, V, N>, const S: usize>(
-    out: &mut Cutter<K, V, N>,
+fn join<K: Clone + Ord + Drop, V: Clone + Drop, N: Drop, O: BaseVersion<K, V, N>, const S: usize>(
+    out: &mut SegmentBuilder<K, V, N>,
     old: &O,
 ) -> Result<(), AllocError>
     requires keys { ClonesAreSame K.is_clone }
@@ -240,7 +241,7 @@ fn join<K: Clone + Ord + Drop, V: Clone + Drop, N: Drop, O: Old<K, V, N>, const 
 
 /// Puts the open tree behind the segments that are done, and goes on with another one.
 fn close<K: Clone + Ord + Drop, V: Drop, N: Drop>(
-    out: &mut Cutter<K, V, N>,
+    out: &mut SegmentBuilder<K, V, N>,
     next: Segment<K, V>,
 ) -> Result<(), AllocError>
     requires { ClonesAreSame K.is_clone }
@@ -291,7 +292,7 @@ fn append<K: Clone + Ord + Drop, V: Clone + Drop>(
     requires room { length into.old.pairs + length tree.now.pairs ≤ 225 }
     ensures { OnOk result (into.new.pairs ≡ into.old.pairs ++ tree.now.pairs) }
 {
-    let mut left = Stream::new(tree);
+    let mut left = ChangeScan::new(tree);
     while let Some((key, value)) = left.front() {
         let Ok(()) = into.push(key.clone()?, value.clone()?) else {
             return Err(AllocError);
@@ -318,7 +319,7 @@ fn single<K: Clone + Ord + Drop, V: Drop>(
 }
 
 /// The greatest key of the segment at a place: of each but the last, its separator.
-pub(crate) fn greatest_at<'o, K: Ord, V: 'o, N: 'o, O: Old<K, V, N>>(
+pub(crate) fn greatest_at<'o, K: Ord, V: 'o, N: 'o, O: BaseVersion<K, V, N>>(
     old: &'o O,
     place: usize,
 ) -> Option<&'o K>

@@ -1,18 +1,18 @@
 //! The pairs of a tree that are yet to be read, without those that are gone.
 
 ghost use Rattle.std.specs.Prelude.{◌≡◌, drop, slice_get};
-ghost use Rattle.tree_index.specs.Cursor.{referred};
+ghost use Rattle.tree_index.specs.Cursor.{deref_pair};
 ghost use Rattle.versions.specs.Gone.{IsLeft, without};
 
+use crate::building::change_scan::ChangeScan;
 use crate::building::gone::{Gone, is_gone};
-use crate::building::stream::Stream;
 use std::marker::Model;
 use tree_index::TreeIndex;
 
 /// The pairs of a tree by rising keys that lie in no range that is gone, without those that were passed.
 #[derive(Drop)]
 pub(crate) struct Sieve<'t, K: Ord, V> {
-    pairs: Stream<'t, K, V>,
+    pairs: ChangeScan<'t, K, V>,
     gone: &'t [Gone<K>],
 }
 
@@ -32,7 +32,7 @@ impl<'t, K: Ord, V> Sieve<'t, K, V> {
     pub(crate) fn new(tree: &'t TreeIndex<K, V>, gone: &'t [Gone<K>]) -> Self
         ensures { result ≡ without K.cmp gone.now tree.now.pairs }
     {
-        let mut pairs = Stream::new(tree);
+        let mut pairs = ChangeScan::new(tree);
         pass_gone(&mut pairs, gone);
         Sieve { pairs, gone }
     }
@@ -40,7 +40,7 @@ impl<'t, K: Ord, V> Sieve<'t, K, V> {
     /// The first pair that is left.
     #[inline(always)]
     pub(crate) fn front(&self) -> Option<(&'t K, &'t V)>
-        ensures { referred result ≡ slice_get self.now 0 }
+        ensures { deref_pair result ≡ slice_get self.now 0 }
     {
         self.pairs.front()
     }
@@ -57,7 +57,7 @@ impl<'t, K: Ord, V> Sieve<'t, K, V> {
 
 /// Passes the pairs up to the first one that isn't gone.
 #[inline(always)]
-fn pass_gone<K: Ord, V>(pairs: &mut Stream<'_, K, V>, gone: &[Gone<K>])
+fn pass_gone<K: Ord, V>(pairs: &mut ChangeScan<'_, K, V>, gone: &[Gone<K>])
     ensures same { without K.cmp gone.now pairs.new ≡ without K.cmp gone.now pairs.old }
     ensures left { IsLeft K.cmp gone.now pairs.new }
 {

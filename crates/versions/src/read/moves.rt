@@ -2,7 +2,7 @@
 
 ghost use Rattle.std.specs.Prelude.{◌≡◌, ◌<◌, ◌+◌, ◌-◌, ℕ, List, Some, IfSome, IfNone, cond, length, nat_lt, slice_get};
 ghost use Rattle.std.specs.Range.Bound.{bound_map};
-ghost use Rattle.tree_index.specs.Cursor.{forth, back, before_start, up_to_end, lies_before, pair_at, referred};
+ghost use Rattle.tree_index.specs.Cursor.{forth, back, before_start, up_to_end, lies_before, pair_at, deref_pair};
 ghost use Rattle.tree_index.specs.declared.cursor.End.TheVariants.{At, Done, Unopened};
 ghost use Rattle.versions.specs.Cuts.{pairs_in};
 ghost use Rattle.versions.specs.CursorEnds.{pairs_before, fore_place, rear_place, AreRising, IsForeAlone, IsForeAt, IsPairAt, IsRearAlone, IsRearAt, StandsFore, StandsRear};
@@ -29,7 +29,7 @@ impl<'a, K: Ord, V, W: Trees<K, V>> VersionView<'a, K, V, W> {
         ensures stands { StandsFore self.now end.new }
         ensures alone { IsForeAlone end.old → IsForeAlone end.new }
         ensures place { fore_place self.now end.new ≡ forth K.cmp (bound_map (λ k. k.now) lower.entry) (pairs_in self.now) (fore_place self.now end.old) }
-        ensures pair { referred result ≡ pair_at (pairs_in self.now) (fore_place self.now end.new) }
+        ensures pair { deref_pair result ≡ pair_at (pairs_in self.now) (fore_place self.now end.new) }
     {
         match end {
             CursorEnd::At(position) => {
@@ -55,7 +55,7 @@ impl<'a, K: Ord, V, W: Trees<K, V>> VersionView<'a, K, V, W> {
         ensures stands { StandsFore self.now end.new }
         ensures alone { IsForeAlone end.new }
         ensures place { fore_place self.now end.new ≡ cond (nat_lt (pairs_before self.now (segment + 1)) (length (pairs_in self.now))) (At (pairs_before self.now (segment + 1))) Done }
-        ensures pair { referred result ≡ pair_at (pairs_in self.now) (fore_place self.now end.new) }
+        ensures pair { deref_pair result ≡ pair_at (pairs_in self.now) (fore_place self.now end.new) }
     {
         let version = self.copy();
         match version.first_behind(segment) {
@@ -78,7 +78,7 @@ impl<'a, K: Ord, V, W: Trees<K, V>> VersionView<'a, K, V, W> {
         ensures stands { StandsFore self.now end.new }
         ensures alone { IsForeAlone end.new }
         ensures place { fore_place self.now end.new ≡ forth K.cmp (bound_map (λ k. k.now) lower.entry) (pairs_in self.now) Unopened }
-        ensures pair { referred result ≡ pair_at (pairs_in self.now) (fore_place self.now end.new) }
+        ensures pair { deref_pair result ≡ pair_at (pairs_in self.now) (fore_place self.now end.new) }
     {
         let version = self.copy();
         match version.first_within(lower) {
@@ -102,7 +102,7 @@ impl<'a, K: Ord, V, W: Trees<K, V>> VersionView<'a, K, V, W> {
         ensures stands { StandsRear self.now end.new }
         ensures alone { IsRearAlone end.old → IsRearAlone end.new }
         ensures place { rear_place self.now end.new ≡ back K.cmp (bound_map (λ k. k.now) upper.entry) (pairs_in self.now) (rear_place self.now end.old) }
-        ensures pair { referred result ≡ pair_at (pairs_in self.now) (rear_place self.now end.new) }
+        ensures pair { deref_pair result ≡ pair_at (pairs_in self.now) (rear_place self.now end.new) }
     {
         match end {
             CursorEnd::At(position) => {

@@ -7,7 +7,7 @@ ghost use Rattle.std.specs.Range.Bound.{bound_map};
 ghost use Rattle.tree_index.specs.declared.cursor.End.TheVariants.{Unopened};
 ghost use Rattle.versions.specs.Cuts.{pairs_in};
 ghost use Rattle.versions.specs.CursorEnds.{AreRising, IsAround};
-ghost use Rattle.versions.specs.Seeking.{IsPlaceOf};
+ghost use Rattle.versions.specs.SeparatorSearch.{IsPlaceOf};
 ghost use Rattle.versions.specs.Views.{IsView, blocks_at};
 
 use crate::directory::Directory;

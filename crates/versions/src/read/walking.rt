@@ -1,7 +1,7 @@
 //! A cursor over the list of a version.
 
 ghost use Rattle.std.specs.Prelude.{◌≡◌};
-ghost use Rattle.tree_index.specs.Cursor.{shown, shown_back, can_turn, turned, referred};
+ghost use Rattle.tree_index.specs.Cursor.{shown, shown_back, can_turn, turned, deref_pair};
 
 use crate::bounds::{above, below};
 use crate::read::position::CursorEnd;
@@ -47,7 +47,7 @@ impl<'a, K: Ord, V, W: Trees<K, V>> Model for Walk<'a, K, V, W> {
 impl<'a, K: Ord, V, W: Trees<K, V>> Walk<'a, K, V, W> {
     /// The pair of the forward end, if it stands at one within the upper bound.
     pub fn get(&self) -> Option<(&'a K, &'a V)>
-        ensures { referred result ≡ shown K.cmp self.now }
+        ensures { deref_pair result ≡ shown K.cmp self.now }
     {
         match &self.forward {
             CursorEnd::At(position) => match position.cursor.get() {
@@ -60,7 +60,7 @@ impl<'a, K: Ord, V, W: Trees<K, V>> Walk<'a, K, V, W> {
 
     /// The pair of the backward end, if it stands at one within the lower bound.
     pub fn get_back(&self) -> Option<(&'a K, &'a V)>
-        ensures { referred result ≡ shown_back K.cmp self.now }
+        ensures { deref_pair result ≡ shown_back K.cmp self.now }
     {
         match &self.backward {
             CursorEnd::At(position) => match position.cursor.get_back() {

@@ -3,7 +3,7 @@ use Rattle.std.proofs.lemmas.List.{take_all}
 use Rattle.std.specs.Prelude.{codes}
 use Rattle.std.specs.String.{string_bytes}
 use Rattle.index_script.specs.Replies.{told_texts}
-use Rattle.index_script.proofs.Texts.{told_more}
+use Rattle.index_script.proofs.TextLemmas.{told_more}
 use Rattle.index_script.proofs.reply.write_accepted.Goals as goal
 
 pub loop-reply-preserved : goal.loop-reply-preserved

@@ -3,7 +3,7 @@ use Rattle.std.proofs.lemmas.List.{take_all}
 use Rattle.std.specs.Prelude.{codes}
 use Rattle.std.specs.String.{string_bytes}
 use Rattle.index_script.specs.Replies.{pair_texts}
-use Rattle.index_script.proofs.Texts.{pairs_more}
+use Rattle.index_script.proofs.TextLemmas.{pairs_more}
 use Rattle.index_script.proofs.reply.write_pairs.Goals as goal
 
 pub loop-pair-preserved : goal.loop-pair-preserved

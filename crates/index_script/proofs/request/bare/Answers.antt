@@ -1,6 +1,6 @@
 use Rattle.std.proofs.Common.{◌≡◌}
 use Rattle.index_script.specs.Requests.{Insert, Upsert, Remove, Delete, Clear, Discard, Commit, Open, Close, Get, Has, Range, Near, Audit, Len, Number, Reclaim, Slots, name_of}
-use Rattle.index_script.proofs.Numbers.{unknown_only, first_alone}
+use Rattle.index_script.proofs.NumberLemmas.{unknown_only, first_alone}
 use Rattle.index_script.proofs.request.bare.Goals as goal
 
 pub returns-in_default : goal.returns-in_default

@@ -1,6 +1,6 @@
 use Rattle.std.proofs.lemmas.Bool.{false≢true}
 use Rattle.index_script.specs.Requests.{Commit}
-use Rattle.index_script.proofs.Numbers.{no_reads, unfit}
+use Rattle.index_script.proofs.NumberLemmas.{no_reads, unfit}
 use Rattle.index_script.proofs.request.commit.Goals as goal
 
 pub returns-in-Err : goal.returns-in-Err

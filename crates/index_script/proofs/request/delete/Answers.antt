@@ -1,5 +1,5 @@
 use Rattle.index_script.specs.Requests.{Delete}
-use Rattle.index_script.proofs.Numbers.{unfit}
+use Rattle.index_script.proofs.NumberLemmas.{unfit}
 use Rattle.index_script.proofs.request.delete.Goals as goal
 
 pub returns-in-Err : goal.returns-in-Err

@@ -1,4 +1,4 @@
-use Rattle.index_script.proofs.Numbers.{no_third, not_three}
+use Rattle.index_script.proofs.NumberLemmas.{no_third, not_three}
 use Rattle.index_script.proofs.request.number_and_bounds.Goals as goal
 
 pub returns-in_default-clause-err : goal.returns-in_default-clause-err

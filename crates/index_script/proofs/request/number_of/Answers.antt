@@ -1,5 +1,5 @@
 use Rattle.index_script.specs.Requests.{Number}
-use Rattle.index_script.proofs.Numbers.{unfit}
+use Rattle.index_script.proofs.NumberLemmas.{unfit}
 use Rattle.index_script.proofs.request.number_of.Goals as goal
 
 pub returns-in-Err : goal.returns-in-Err

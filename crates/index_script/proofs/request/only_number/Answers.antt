@@ -1,6 +1,6 @@
 use Rattle.std.proofs.Common.{subst}
 use Rattle.index_script.specs.Lines.{Lacks}
-use Rattle.index_script.proofs.Numbers.{not_lacking}
+use Rattle.index_script.proofs.NumberLemmas.{not_lacking}
 use Rattle.index_script.proofs.request.only_number.Goals as goal
 
 pub returns-in-Some-clause-err : goal.returns-in-Some-clause-err

@@ -1,4 +1,4 @@
-use Rattle.index_script.proofs.Numbers.{no_value}
+use Rattle.index_script.proofs.NumberLemmas.{no_value}
 use Rattle.index_script.proofs.request.pair.Goals as goal
 
 pub returns-in_default-clause-err : goal.returns-in_default-clause-err

@@ -2,7 +2,7 @@ use Rattle.std.proofs.Common.{sym, ap, ◌∙◌, subst}
 use Rattle.std.specs.Option.{option_copied}
 use Rattle.std.specs.Str.{IsUtf8}
 use Rattle.index_script.specs.Requests.{Asks}
-use Rattle.index_script.proofs.Numbers.{kept_some, read_text}
+use Rattle.index_script.proofs.NumberLemmas.{kept_some, read_text}
 use Rattle.index_script.proofs.request.read_line.Goals as goal
 
 pub returns : goal.returns

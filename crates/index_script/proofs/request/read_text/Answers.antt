@@ -1,6 +1,6 @@
 use Rattle.std.proofs.Common.{◌≡◌}
 use Rattle.index_script.specs.Requests.{Insert, Upsert, Remove, Delete, Clear, Discard, Commit, Open, Close, Get, Has, Range, Near, Audit, Len, Number, Reclaim, Slots, name_of}
-use Rattle.index_script.proofs.Numbers.{unknown_first, only_of_many}
+use Rattle.index_script.proofs.NumberLemmas.{unknown_first, only_of_many}
 use Rattle.index_script.proofs.request.read_text.Goals as goal
 
 pub returns-in_default-word : goal.returns-in_default-word

@@ -1,4 +1,4 @@
-use Rattle.index_script.proofs.Numbers.{no_second, not_two}
+use Rattle.index_script.proofs.NumberLemmas.{no_second, not_two}
 use Rattle.index_script.proofs.request.two_words.Goals as goal
 
 pub returns-in_default-clause-none : goal.returns-in_default-clause-none

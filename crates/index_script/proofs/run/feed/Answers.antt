@@ -1,5 +1,5 @@
 use Rattle.std.proofs.Common.{◌++◌, ◌∷◌, [], arith, length-append}
-use Rattle.index_script.proofs.Bytes.{Appends-same, Feeds-line, Feeds-part, Feeds-breaks, Feeds-stops, regroup}
+use Rattle.index_script.proofs.ByteLemmas.{Appends-same, Feeds-line, Feeds-part, Feeds-breaks, Feeds-stops, regroup}
 use Rattle.index_script.proofs.run.feed.Goals as goal
 
 pub returns-in-Err-clause-write : goal.returns-in-Err-clause-write

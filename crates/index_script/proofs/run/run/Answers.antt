@@ -1,4 +1,4 @@
-use Rattle.index_script.proofs.Bytes.{stops-at_once}
+use Rattle.index_script.proofs.ByteLemmas.{stops-at_once}
 use Rattle.index_script.proofs.run.run.Goals as goal
 
 pub returns-in_default-clause-memory : goal.returns-in_default-clause-memory

@@ -1,5 +1,5 @@
 use Rattle.std.proofs.Common.{rules}
-use Rattle.index_script.proofs.Bytes.{Appends-next}
+use Rattle.index_script.proofs.ByteLemmas.{Appends-next}
 use Rattle.index_script.proofs.run.send.Goals as goal
 
 pub sending-preserved : goal.sending-preserved

@@ -1,6 +1,6 @@
 use Rattle.std.proofs.Common.{[], take, subst, rules}
 use Rattle.std.specs.Io.KnownBytes.{Consumes}
-use Rattle.index_script.proofs.Bytes.{on_ok, serves-ends, serves-falters, serves-piece, serves-breaks, serves-runs_out}
+use Rattle.index_script.proofs.ByteLemmas.{on_ok, serves-ends, serves-falters, serves-piece, serves-breaks, serves-runs_out}
 use Rattle.index_script.proofs.run.serve.Goals as goal
 
 pub returns-then-count-eq0-clause-done : goal.returns-then-count-eq0-clause-done

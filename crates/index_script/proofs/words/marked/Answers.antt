@@ -1,5 +1,5 @@
 use Rattle.std.proofs.lemmas.Str.Pattern.{strip_prefix_char}
-use Rattle.index_script.proofs.Numbers.{mark_some, mark_none}
+use Rattle.index_script.proofs.NumberLemmas.{mark_some, mark_none}
 use Rattle.index_script.proofs.words.marked.Goals as goal
 
 pub returns-clause-some : goal.returns-clause-some

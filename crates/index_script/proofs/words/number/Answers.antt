@@ -1,5 +1,5 @@
 use Rattle.std.proofs.Common.{◌<◌, get_or, length, sym, ap, ◌∙◌, subst}
-use Rattle.index_script.proofs.Numbers.{not_empty, not_plus, not_zero_first, parsed, not_parsed, empty_length, alone}
+use Rattle.index_script.proofs.NumberLemmas.{not_empty, not_plus, not_zero_first, parsed, not_parsed, empty_length, alone}
 use Rattle.index_script.proofs.words.number.Goals as goal
 
 pub returns-then-is_empty-clause-none : goal.returns-then-is_empty-clause-none

@@ -1,7 +1,7 @@
 use Rattle.std.proofs.Common.{◌≡◌, ℕ, List, Option, None, Some, ◌++◌, ◌∷◌, Bor, IfSome, IfNone, arith}
 use Rattle.std.proofs.lemmas.Str.Pattern.{split_parts, IsSplitOnceResult}
 use Rattle.index_script.specs.Lines.{Lacks}
-use Rattle.index_script.proofs.Numbers.{lacks_by_index}
+use Rattle.index_script.proofs.NumberLemmas.{lacks_by_index}
 use Rattle.index_script.proofs.words.split_word.Goals as goal
 
 some_parts : (bs : List ℕ) (r : Option (Bor (List ℕ) × Bor (List ℕ))) → IsSplitOnceResult 32 bs r → IfSome r (λ parts. (bs ≡ parts.0.now ++ 32 ∷ parts.1.now) × Lacks 32 parts.0.now)

@@ -1,4 +1,4 @@
-use Rattle.leaf_array.proofs.Lists.{IsAscending-removed}
+use Rattle.leaf_array.proofs.ListLemmas.{IsAscending-removed}
 use Rattle.leaf_array.proofs.laws.removing_keeps_ascending.Goals as goal
 
 pub returns : goal.returns

@@ -1,4 +1,4 @@
-use Rattle.leaf_array.proofs.Lists.{IsAscending-upserted}
+use Rattle.leaf_array.proofs.ListLemmas.{IsAscending-upserted}
 use Rattle.leaf_array.proofs.laws.replacing_keeps_ascending.Goals as goal
 
 pub returns : goal.returns

@@ -1,4 +1,4 @@
-use Rattle.leaf_array.proofs.Lists.{value_at-upserted}
+use Rattle.leaf_array.proofs.ListLemmas.{value_at-upserted}
 use Rattle.leaf_array.proofs.laws.upserting_is_found.Goals as goal
 
 pub returns : goal.returns

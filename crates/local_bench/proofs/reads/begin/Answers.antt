@@ -1,5 +1,5 @@
 use Rattle.std.proofs.Common.{ap, Some}
-use Rattle.local_bench.proofs.Back.{back_again}
+use Rattle.local_bench.proofs.BackLemmas.{back_again}
 use Rattle.local_bench.proofs.reads.begin.Goals as goal
 
 pub returns-in-Ok-clause-places : goal.returns-in-Ok-clause-places

@@ -1,4 +1,4 @@
-use Rattle.ordered_index.proofs.Conflicts.{range_differs}
+use Rattle.ordered_index.proofs.ConflictLemmas.{range_differs}
 use Rattle.ordered_index.proofs.laws.a_changed_range_is_a_conflict.Goals as goal
 
 pub returns : goal.returns

@@ -1,4 +1,4 @@
-use Rattle.ordered_index.proofs.Receipts.{audited, committed, opened, read_more, same_history}
+use Rattle.ordered_index.proofs.ReceiptLemmas.{audited, committed, opened, read_more, same_history}
 use Rattle.ordered_index.proofs.laws.own_receipts_audit_yes.Goals as goal
 
 pub returns-clause-opens : goal.returns-clause-opens

@@ -1,4 +1,4 @@
-use Rattle.ordered_index.proofs.Conflicts.{held_is_no_conflict, written_back}
+use Rattle.ordered_index.proofs.ConflictLemmas.{held_is_no_conflict, written_back}
 use Rattle.ordered_index.proofs.laws.reads_that_hold_are_no_conflict.Goals as goal
 
 pub returns-clause-written_back : goal.returns-clause-written_back

@@ -1,7 +1,7 @@
 use Rattle.std.proofs.Common.{◌≡◌, ◌∷◌, [], ◌++◌, length, ap, ◌∙◌, sym, subst, arith, append_assoc, append-nil}
 use Rattle.std.specs.Vec.Iter.{into_iter_items}
 use Rattle.ordered_index.specs.Desk.{Run}
-use Rattle.ordered_index.proofs.Desks.{stopped, played-more}
+use Rattle.ordered_index.proofs.DeskLemmas.{stopped, played-more}
 use Rattle.versions.proofs.OptionLemmas.{no_items}
 use Rattle.ordered_index.proofs.play.play_all.Goals as goal
 

@@ -1,5 +1,5 @@
 use Rattle.std.proofs.Common.{lit<}
-use Rattle.ordered_index.proofs.Desks.{keeps-all-leave, leaves}
+use Rattle.ordered_index.proofs.DeskLemmas.{keeps-all-leave, leaves}
 use Rattle.ordered_index.proofs.play.play_close.Goals as goal
 
 pub close_session-requires : goal.close_session-requires

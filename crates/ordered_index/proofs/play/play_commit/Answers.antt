@@ -1,4 +1,4 @@
-use Rattle.ordered_index.proofs.Desks.{keeps-all-same, serves-same}
+use Rattle.ordered_index.proofs.DeskLemmas.{keeps-all-same, serves-same}
 use Rattle.ordered_index.proofs.play.play_commit.Goals as goal
 
 pub returns-in-Ok-clause-serves : goal.returns-in-Ok-clause-serves

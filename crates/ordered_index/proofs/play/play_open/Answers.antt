@@ -1,4 +1,4 @@
-use Rattle.ordered_index.proofs.Desks.{keeps-all-sit, serves-sit, serves-free, takes}
+use Rattle.ordered_index.proofs.DeskLemmas.{keeps-all-sit, serves-sit, serves-free, takes}
 use Rattle.ordered_index.proofs.play.play_open.Goals as goal
 
 pub sit-requires : goal.sit-requires

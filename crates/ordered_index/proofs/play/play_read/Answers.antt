@@ -2,7 +2,7 @@ use Rattle.std.proofs.Common.{List, Option, None, Some, sym, ap, ◌∙◌, lit<
 use Rattle.std.specs.List.{slice_get}
 use Rattle.ordered_index.specs.Desk.{KeepsAll, Serves}
 use Rattle.ordered_index.specs.declared.desk.Seat.{Seat}
-use Rattle.ordered_index.proofs.Desks.{keeps-all-read, read-there, serves-read, set-there, sits-again, sits-unchanged}
+use Rattle.ordered_index.proofs.DeskLemmas.{keeps-all-read, read-there, serves-read, set-there, sits-again, sits-unchanged}
 use Rattle.ordered_index.proofs.play.play_read.Goals as goal
 
 pub read-answer-requires : goal.read-answer-requires

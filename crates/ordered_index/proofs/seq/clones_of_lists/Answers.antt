@@ -1,4 +1,4 @@
-use Rattle.ordered_index.proofs.Lists.{zipped-same}
+use Rattle.ordered_index.proofs.ListLemmas.{zipped-same}
 use Rattle.ordered_index.proofs.seq.clones_of_lists.Goals as goal
 
 pub returns : goal.returns

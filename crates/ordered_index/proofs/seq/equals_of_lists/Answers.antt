@@ -1,4 +1,4 @@
-use Rattle.ordered_index.proofs.Lists.{pointwise-same}
+use Rattle.ordered_index.proofs.ListLemmas.{pointwise-same}
 use Rattle.ordered_index.proofs.seq.equals_of_lists.Goals as goal
 
 pub returns : goal.returns

@@ -1,6 +1,6 @@
 use Rattle.std.proofs.Common.{◌∙◌}
 use Rattle.versions.specs.Cuts.{pairs_in}
-use Rattle.ordered_index.proofs.Nearness.{near_between, near_exact, near_larger, near_smaller}
+use Rattle.ordered_index.proofs.NearbyLemmas.{near_between, near_exact, near_larger, near_smaller}
 use Rattle.ordered_index.proofs.version_view.near_in.Goals as goal
 
 pub returns-in-Exact : goal.returns-in-Exact

@@ -1,4 +1,4 @@
-use Rattle.sdd.proofs.Bags.{bag_stays}
+use Rattle.sdd.proofs.BagLemmas.{bag_stays}
 use Rattle.sdd.proofs.laws.bags_stay.Goals as goal
 
 pub returns : goal.returns

@@ -1,4 +1,4 @@
-use Rattle.sdd.proofs.Guards.{guards_leave}
+use Rattle.sdd.proofs.GuardLemmas.{guards_leave}
 use Rattle.sdd.proofs.laws.guards_leave.Goals as goal
 
 pub returns : goal.returns

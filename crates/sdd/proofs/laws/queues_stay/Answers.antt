@@ -1,4 +1,4 @@
-use Rattle.sdd.proofs.Queues.{queue_stays}
+use Rattle.sdd.proofs.QueueLemmas.{queue_stays}
 use Rattle.sdd.proofs.laws.queues_stay.Goals as goal
 
 pub returns : goal.returns

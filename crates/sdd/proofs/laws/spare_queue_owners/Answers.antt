@@ -1,4 +1,4 @@
-use Rattle.sdd.proofs.Queues.{spare_queue_owner}
+use Rattle.sdd.proofs.QueueLemmas.{spare_queue_owner}
 use Rattle.sdd.proofs.laws.spare_queue_owners.Goals as goal
 
 pub returns : goal.returns

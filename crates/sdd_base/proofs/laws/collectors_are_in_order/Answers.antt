@@ -1,4 +1,4 @@
-use Rattle.sdd_base.proofs.Notes.{collectors_are_in_order}
+use Rattle.sdd_base.proofs.NoteLemmas.{collectors_are_in_order}
 use Rattle.sdd_base.proofs.laws.collectors_are_in_order.Goals as goal
 
 pub returns : goal.returns

@@ -1,4 +1,4 @@
-use Rattle.sdd_base.proofs.Quiets.{gives_only}
+use Rattle.sdd_base.proofs.IdleParticipantLemmas.{gives_only}
 use Rattle.sdd_base.proofs.laws.gives_only.Goals as goal
 
 pub returns : goal.returns

@@ -1,4 +1,4 @@
-use Rattle.sdd_base.proofs.Frames.{owned_protected, stays_until_closed}
+use Rattle.sdd_base.proofs.FrameLemmas.{owned_protected, stays_until_closed}
 use Rattle.sdd_base.proofs.laws.guards_protect.Goals as goal
 
 pub returns-clause-owned : goal.returns-clause-owned

@@ -1,4 +1,4 @@
-use Rattle.sdd_base.proofs.Cells.{held_cells_stay}
+use Rattle.sdd_base.proofs.CellLemmas.{held_cells_stay}
 use Rattle.sdd_base.proofs.laws.held_cells_stay.Goals as goal
 
 pub returns : goal.returns

@@ -1,4 +1,4 @@
-use Rattle.sdd_base.proofs.Counts.{owners_are_counted}
+use Rattle.sdd_base.proofs.CountLemmas.{owners_are_counted}
 use Rattle.sdd_base.proofs.laws.owners_are_counted.Goals as goal
 
 pub returns : goal.returns

@@ -1,4 +1,4 @@
-use Rattle.sdd_base.proofs.Passes.{passes_reclaim}
+use Rattle.sdd_base.proofs.PassLemmas.{passes_reclaim}
 use Rattle.sdd_base.proofs.laws.passes_reclaim.Goals as goal
 
 pub returns : goal.returns

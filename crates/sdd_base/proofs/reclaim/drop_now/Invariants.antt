@@ -1,7 +1,7 @@
 use Rattle.std.specs.List.{sum_by}
 use Rattle.sdd_base.specs.State.{occupied}
 use Rattle.sdd_base.specs.Tokens.{hold_of}
-use Rattle.sdd_base.proofs.Drops.{Undoing}
+use Rattle.sdd_base.proofs.DropLemmas.{Undoing}
 use Rattle.sdd_base.proofs.reclaim.drop_now.Given as goal
 
 abbrev pub invariant-loop : goal.invariant-loop

@@ -4,7 +4,7 @@ use Rattle.sdd_base.proofs.reclaim.hand_over.Given as goal
 
 abbrev pub invariant-loop-slot : goal.invariant-loop-slot
 invariant-loop-slot g l = record {
-  known : l.p < length l.table.members;
+  known : l.p < length l.table.participants;
   state : handed l.p l.waiting.items l.table ≡ handed l.initial.p l.initial.waiting.items l.initial.table;
 }
 

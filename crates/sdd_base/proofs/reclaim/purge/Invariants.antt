@@ -5,7 +5,7 @@ use Rattle.sdd_base.proofs.reclaim.purge.Given as goal
 
 abbrev pub invariant-loop-slot : goal.invariant-loop-slot
 invariant-loop-slot g l = record {
-  known : l.p < length l.table.members;
+  known : l.p < length l.table.participants;
   state : purged g.T.Holds.holds l.p l.waiting.items l.table ≡ purged g.T.Holds.holds l.initial.p l.initial.waiting.items l.initial.table;
   left : left_waiting g.T.Holds.holds l.p l.waiting.items l.table ≡ left_waiting g.T.Holds.holds l.initial.p l.initial.waiting.items l.initial.table;
   room : deque_capacity l.waiting ≡ deque_capacity l.initial.waiting;

@@ -1,4 +1,4 @@
-use Rattle.sdd_base.proofs.Sweeps.{Sweeping, left}
+use Rattle.sdd_base.proofs.SweepLemmas.{Sweeping, left}
 use Rattle.sdd_base.proofs.reclaim.sweep.Given as goal
 
 abbrev pub invariant-loop-table : goal.invariant-loop-table

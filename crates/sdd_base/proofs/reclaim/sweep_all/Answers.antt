@@ -1,4 +1,4 @@
-use Rattle.sdd_base.proofs.Sweeps.{sweeping_all_start, sweeping_all_next}
+use Rattle.sdd_base.proofs.SweepLemmas.{sweeping_all_start, sweeping_all_next}
 use Rattle.sdd_base.proofs.reclaim.sweep_all.Goals as goal
 
 pub loop-p-init : goal.loop-p-init

@@ -1,4 +1,4 @@
-use Rattle.sdd_base.proofs.Sweeps.{SweepingAll}
+use Rattle.sdd_base.proofs.SweepLemmas.{SweepingAll}
 use Rattle.sdd_base.proofs.reclaim.sweep_all.Given as goal
 
 abbrev pub invariant-loop-p : goal.invariant-loop-p

@@ -1,9 +1,9 @@
-use Rattle.sdd_base.proofs.Sounds.{due_waiting}
-use Rattle.sdd_base.proofs.Turns.{turning_start, turning_next}
+use Rattle.sdd_base.proofs.BagInvariantLemmas.{due_waiting}
+use Rattle.sdd_base.proofs.RotationLemmas.{turning_start, turning_next}
 use Rattle.sdd_base.proofs.reclaim.turn_over.Goals as goal
 
 pub loop-init : goal.loop-init
-loop-init g c = turning_start g.T.Holds.holds c.args.p c.args.table.now c.turn.new.self c.turn.ensures c.requires.sound c.requires.member c.requires.idle
+loop-init g c = turning_start g.T.Holds.holds c.args.p c.args.table.now c.turn.new.self c.turn.ensures c.requires.sound c.requires.participant c.requires.idle
 
 pub reclaim_next-requires-clause-waits : goal.reclaim_next-requires-clause-waits
 reclaim_next-requires-clause-waits g c = λ i is e. due_waiting c.loop.table c.args.p i is c.loop.invariant.sound c.loop.invariant.known e

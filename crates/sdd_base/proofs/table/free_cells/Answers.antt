@@ -3,8 +3,8 @@ use Rattle.std.proofs.lemmas.List.{length-replicate}
 use Rattle.sdd_base.specs.State.{emptiness}
 use Rattle.sdd_base.specs.declared.status.Cell.{Cell}
 use Rattle.sdd_base.specs.declared.status.Cell.TheVariants as cell
-use Rattle.sdd_base.proofs.Lists.{lists_grow}
-use Rattle.sdd_base.proofs.Slots.{replicate-push}
+use Rattle.sdd_base.proofs.ListLemmas.{lists_grow}
+use Rattle.sdd_base.proofs.SlotLemmas.{replicate-push}
 use Rattle.sdd_base.proofs.table.free_cells.Goals as goal
 
 pub loop-i-preserved : goal.loop-i-preserved

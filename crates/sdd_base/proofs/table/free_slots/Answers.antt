@@ -3,8 +3,8 @@ use Rattle.std.proofs.lemmas.List.{length-replicate}
 use Rattle.sdd_base.specs.State.{vacancy, idleness}
 use Rattle.sdd_base.specs.declared.status.Status.{Status}
 use Rattle.sdd_base.specs.declared.status.Status.TheVariants as status
-use Rattle.sdd_base.proofs.Lists.{lists_grow, lists_skip}
-use Rattle.sdd_base.proofs.Slots.{replicate-push}
+use Rattle.sdd_base.proofs.ListLemmas.{lists_grow, lists_skip}
+use Rattle.sdd_base.proofs.SlotLemmas.{replicate-push}
 use Rattle.sdd_base.proofs.table.free_slots.Goals as goal
 
 pub loop-i-preserved : goal.loop-i-preserved

@@ -3,8 +3,8 @@ use Rattle.std.proofs.lemmas.List.{append_assoc}
 use Rattle.sdd_base.specs.State.{vacancy, idleness}
 use Rattle.sdd_base.specs.declared.status.Status.{Status}
 use Rattle.sdd_base.specs.declared.status.Status.TheVariants as status
-use Rattle.sdd_base.proofs.Lists.{lists_grow, lists_skip}
-use Rattle.sdd_base.proofs.Slots.{replicate-push}
+use Rattle.sdd_base.proofs.ListLemmas.{lists_grow, lists_skip}
+use Rattle.sdd_base.proofs.SlotLemmas.{replicate-push}
 use Rattle.sdd_base.proofs.table.idle_places.Goals as goal
 
 pub loop-preserved : goal.loop-preserved

@@ -4,6 +4,6 @@ use Rattle.sdd_tests.proofs.bags.play.Given as goal
 
 abbrev pub invariant-loop-row : goal.invariant-loop-row
 invariant-loop-row g l = record {
-  member : 0 < length l.w.members;
+  participant : 0 < length l.w.participants;
   list : IsSomeBag g.row.N l.w (bag_cells l.bag);
 }

@@ -1,7 +1,7 @@
 use Rattle.std.proofs.Common.{sym, subst}
 use Rattle.sdd_base.specs.State.{State}
 use Rattle.sdd.specs.Bags.{IsSomeBag, into_cells}
-use Rattle.sdd.proofs.Bags.{released_bag}
+use Rattle.sdd.proofs.BagLemmas.{released_bag}
 use Rattle.sdd_tests.proofs.bags.take_apart.Goals as goal
 
 pub returns-in-Some-clause-list : goal.returns-in-Some-clause-list

@@ -1,5 +1,5 @@
 use Rattle.sdd.specs.Stacks.{stack_cell}
-use Rattle.sdd.proofs.FromIter.{stack_outlasts}
+use Rattle.sdd.proofs.FromIterLemmas.{stack_outlasts}
 use Rattle.sdd_tests.proofs.fillings.copied_stack.Goals as goal
 
 pub returns-in-Ok-clause-list : goal.returns-in-Ok-clause-list

@@ -5,6 +5,6 @@ use Rattle.sdd_tests.proofs.fillings.queue_round.Given as goal
 
 abbrev pub invariant-loop-number : goal.invariant-loop-number
 invariant-loop-number g l = record {
-  member : 0 < length l.w.members;
+  participant : 0 < length l.w.participants;
   list : IsSomeQueue entry_link l.w (oldest_cell l.queue) (newest_cell l.queue);
 }

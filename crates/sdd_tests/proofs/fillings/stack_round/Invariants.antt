@@ -4,6 +4,6 @@ use Rattle.sdd_tests.proofs.fillings.stack_round.Given as goal
 
 abbrev pub invariant-loop-number : goal.invariant-loop-number
 invariant-loop-number g l = record {
-  member : 0 < length l.w.members;
+  participant : 0 < length l.w.participants;
   list : IsSomeStack l.w (stack_cell l.stack);
 }

@@ -6,7 +6,7 @@ use Rattle.sdd_tests.proofs.queues.play.Given as goal
 
 abbrev pub invariant-loop-row : goal.invariant-loop-row
 invariant-loop-row g l = record {
-  member : 0 < length l.w.members;
+  participant : 0 < length l.w.participants;
   guarded : IsOpen l.fn.w 0 → IsOpen l.w 0;
   list : IsSomeQueue entry_link l.w (oldest_cell l.queue) (newest_cell l.queue);
 }

@@ -3,7 +3,7 @@ use Rattle.sdd_base.specs.State.{State}
 use Rattle.sdd.specs.Chain.{IsOut, slots}
 use Rattle.sdd.specs.Entries.{entry_link}
 use Rattle.sdd.specs.Queues.{IsQueue, oldest_cell, newest_cell}
-use Rattle.sdd.proofs.Queues.{queue_apart}
+use Rattle.sdd.proofs.QueueLemmas.{queue_apart}
 use Rattle.sdd_tests.proofs.queues.take.Goals as goal
 
 pub returns-in-Some-clause-list : goal.returns-in-Some-clause-list

@@ -5,6 +5,6 @@ use Rattle.sdd_tests.proofs.random_calls.a_queue_is_a_list.Given as goal
 
 abbrev pub invariant-loop-step : goal.invariant-loop-step
 invariant-loop-step g l = record {
-  member : 0 < length l.w.members;
+  participant : 0 < length l.w.participants;
   list : IsSomeQueue entry_link l.w (oldest_cell l.queue) (newest_cell l.queue);
 }

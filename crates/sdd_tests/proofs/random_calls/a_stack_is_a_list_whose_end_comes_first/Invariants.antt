@@ -4,6 +4,6 @@ use Rattle.sdd_tests.proofs.random_calls.a_stack_is_a_list_whose_end_comes_first
 
 abbrev pub invariant-loop-step : goal.invariant-loop-step
 invariant-loop-step g l = record {
-  member : 0 < length l.w.members;
+  participant : 0 < length l.w.participants;
   list : IsSomeStack l.w (stack_cell l.stack);
 }

@@ -2,7 +2,7 @@ use Rattle.sdd_base.specs.Tokens.{ptr_slot}
 use Rattle.sdd_base.specs.declared.tag.Tag.TheVariants as tag
 use Rattle.sdd.specs.Entries.{entry_link}
 use Rattle.sdd.specs.Stacks.{stack_cell}
-use Rattle.sdd.proofs.Nodes.{retagged_first}
+use Rattle.sdd.proofs.NodeLemmas.{retagged_first}
 use Rattle.sdd_tests.proofs.stacks.mark.Goals as goal
 
 pub returns-clause-list : goal.returns-clause-list

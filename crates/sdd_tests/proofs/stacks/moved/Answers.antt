@@ -3,8 +3,8 @@ use Rattle.sdd_base.specs.declared.tag.Tag.TheVariants as tag
 use Rattle.sdd.specs.Chain.{links, slots}
 use Rattle.sdd.specs.Entries.{entry_link}
 use Rattle.sdd.specs.Stacks.{stack_cell}
-use Rattle.sdd.proofs.Chains.{hung_left, hung_out, free_cell_out, out_of_none}
-use Rattle.sdd.proofs.Releases.{out_of_one}
+use Rattle.sdd.proofs.ChainLemmas.{hung_left, hung_out, free_cell_out, out_of_none}
+use Rattle.sdd.proofs.ReleaseLemmas.{out_of_one}
 use Rattle.sdd_tests.proofs.stacks.moved.Goals as goal
 
 pub returns-in-Ok-clause-list : goal.returns-in-Ok-clause-list

@@ -5,7 +5,7 @@ use Rattle.sdd_tests.proofs.stacks.play.Given as goal
 
 abbrev pub invariant-loop-row : goal.invariant-loop-row
 invariant-loop-row g l = record {
-  member : 0 < length l.w.members;
+  participant : 0 < length l.w.participants;
   guarded : IsOpen l.fn.w 0 → IsOpen l.w 0;
   list : IsSomeStack l.w (stack_cell l.stack);
 }

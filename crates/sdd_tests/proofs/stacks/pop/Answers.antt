@@ -4,8 +4,8 @@ use Rattle.sdd_base.specs.declared.tag.Tag.TheVariants as tag
 use Rattle.sdd.specs.Chain.{IsOut, slots, links}
 use Rattle.sdd.specs.Entries.{entry_link}
 use Rattle.sdd.specs.Stacks.{IsStack, stack_cell}
-use Rattle.sdd.proofs.Chains.{hung_left, out_of_none}
-use Rattle.sdd.proofs.Releases.{leaves_released, out_of_one}
+use Rattle.sdd.proofs.ChainLemmas.{hung_left, out_of_none}
+use Rattle.sdd.proofs.ReleaseLemmas.{leaves_released, out_of_one}
 use Rattle.sdd_tests.proofs.stacks.pop.Goals as goal
 
 pub returns-in-Some-clause-list : goal.returns-in-Some-clause-list

@@ -8,5 +8,5 @@ invariant-loop-passed g l = record {
   same : l.walk.place.ghost_name ≡ l.initial.walk.place.ghost_name;
   left : IsSomeLeft l.walk.place.now (walk_cells l.walk);
   list : IsSomeBag g.row.N l.walk.place.now (bag_cells l.bag);
-  member : 0 < length l.walk.place.now.members;
+  participant : 0 < length l.walk.place.now.participants;
 }

@@ -10,7 +10,7 @@ use Rattle.sdd_base.specs.declared.sizes.Sizes.{Sizes}
 use Rattle.sdd_base.specs.declared.status.Cell.TheVariants as cell
 use Rattle.sdd_base.specs.declared.tag.Tag.{Tag}
 use Rattle.sdd_base.specs.declared.tag.Tag.TheVariants as tag
-use Rattle.sdd_base.proofs.Counts.{owners_are_counted}
+use Rattle.sdd_base.proofs.CountLemmas.{owners_are_counted}
 use Rattle.versions.specs.Items.{held_by}
 use Rattle.versions.specs.declared.item.Item.{Item}
 use Rattle.versions.proofs.PublishLemmas.{empty_placeable}
@@ -58,13 +58,13 @@ publish-requires g c =
     let placed-first = rw c.placed-first.ensures at c.place.ensures.placed in
     let placed-second = rw c.placed-second.ensures at c.place-2.ensures.placed in
     let rooted = rw c.in-Ok-from.is at c.from.ensures.made in
-    let members = ap (λ w. length w.members) rooted.1 ∙ ap length placed-second.adds.members ∙ ap length placed-first.adds.members ∙ ap (λ w. length w.members) (rw c.in-Ok.is at c.new.ensures) in
+    let participants = ap (λ w. length w.participants) rooted.1 ∙ ap length placed-second.adds.participants ∙ ap length placed-first.adds.participants ∙ ap (λ w. length w.participants) (rw c.in-Ok.is at c.new.ensures) in
     let one = length-replicate c.sizes.result.participants nobody in
     let sized = ap (λ n. n.participants) c.sizes.ensures in
     let kept : cell_at c.from.new.w root ≡ cell.OfShared (Some first) tag.None = ap (λ w. cell_at w root) rooted.1 ∙ get_or-set_same c.place-2.new.w.cells root (cell.OfShared (Some first) tag.None) cell.Free rooted.0.0 in
     let sh = placed-second.adds.owned first placed-first.shared in
     let owned : IsShared c.from.new.w first = subst (λ w. IsShared w first) (sym rooted.1) (record { inside = sh.inside; owners = sh.owners; is = sh.is }) in
-    (omega arith, (omega (arith, members, one, sized), (rw c.in-Ok-from.is at c.from.ensures.used, λ i t e. subst (λ j. IsShared c.from.new.w j) (slot_same first i tag.None t (sym kept ∙ e)) owned)))
+    (omega arith, (omega (arith, participants, one, sized), (rw c.in-Ok-from.is at c.from.ensures.used, λ i t e. subst (λ j. IsShared c.from.new.w j) (slot_same first i tag.None t (sym kept ∙ e)) owned)))
   where
     slot_same : (i j : ℕ) (s t : Tag) → cell.OfShared (Some i) s ≡ cell.OfShared (Some j) t → i ≡ j
     slot_same i j s t e = cc

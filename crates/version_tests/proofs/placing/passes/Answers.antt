@@ -6,7 +6,7 @@ use Rattle.sdd_base.specs.Steps.{closed, opened}
 use Rattle.sdd_base.specs.Tokens.{participant_of}
 use Rattle.versions.specs.Items.{held_by}
 use Rattle.versions.specs.declared.item.Item.{Item}
-use Rattle.versions.proofs.Reclaiming.{counted_passed}
+use Rattle.versions.proofs.ReclaimLemmas.{counted_passed}
 use Rattle.version_tests.proofs.placing.passes.Goals.{in-Ok, in_default}
 use Rattle.version_tests.proofs.placing.passes.Goals as goal
 
@@ -26,21 +26,21 @@ loop-preserved c =
           ∙ ap (λ (x : State (Item ℕ ℕ 2)). closed q x) accelerate.set
           ∙ ap (λ (x : State (Item ℕ ℕ 2)). closed q (accelerated q x)) new.opened.1
           ∙ ap (λ (k : ℕ). closed k (accelerated k (opened held_by 0 w))) new.opened.0 in
-          let same = ap (λ (x : State (Item ℕ ℕ 2)). length x.members) b.w-is in
-          let one = new.keeps.members in
-          let two = accelerate.keeps.members in
-          let three = close.keeps.members in
-          let some = i.members in
+          let same = ap (λ (x : State (Item ℕ ℕ 2)). length x.participants) b.w-is in
+          let one = new.keeps.participants in
+          let two = accelerate.keeps.participants in
+          let three = close.keeps.participants in
+          let some = i.participants in
           record {
-            members = omega (arith, same, one, two, three, some);
-            counted = λ hand h. subst (λ (x : State (Item ℕ ℕ 2)). Counted held_by hand x) (sym now) (counted_passed 0 hand w c.laws.ensures i.members (i.counted hand h));
+            participants = omega (arith, same, one, two, three, some);
+            counted = λ hand h. subst (λ (x : State (Item ℕ ℕ 2)). Counted held_by hand x) (sym now) (counted_passed 0 hand w c.laws.ensures i.participants (i.counted hand h));
           }
       | in_default b ↦
           let now : c.match-new.w ≡ w = b.w-is ∙ b.in_default.ensures.refused in
-          let same = ap (λ (x : State (Item ℕ ℕ 2)). length x.members) now in
-          let some = i.members in
+          let same = ap (λ (x : State (Item ℕ ℕ 2)). length x.participants) now in
+          let some = i.participants in
           record {
-            members = omega (arith, same, some);
+            participants = omega (arith, same, some);
             counted = λ hand h. subst (λ (x : State (Item ℕ ℕ 2)). Counted held_by hand x) (sym now) (i.counted hand h);
           }
     ]

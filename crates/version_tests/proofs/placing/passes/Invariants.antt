@@ -6,6 +6,6 @@ use Rattle.version_tests.proofs.placing.passes.Given as goal
 
 abbrev pub invariant-loop : goal.invariant-loop
 invariant-loop l = record {
-  members : 0 < length l.w.members;
+  participants : 0 < length l.w.participants;
   counted : (hand : List Hold) → Counted held_by hand l.fn.w → Counted held_by hand l.w;
 }

@@ -5,7 +5,7 @@ use Rattle.sdd_base.specs.Holding.{Hold, SharedIn, SharedItem}
 use Rattle.sdd_base.specs.State.{State}
 use Rattle.sdd_base.specs.Tokens.{shared_cell, shared_slot}
 use Rattle.sdd_base.specs.declared.tag.Tag.TheVariants as tag
-use Rattle.sdd_base.proofs.Counts.{owners_are_counted}
+use Rattle.sdd_base.proofs.CountLemmas.{owners_are_counted}
 use Rattle.versions.specs.Items.{held_by}
 use Rattle.versions.specs.declared.item.Item.{Item}
 use Rattle.versions.proofs.PublishLemmas.{empty_placeable}

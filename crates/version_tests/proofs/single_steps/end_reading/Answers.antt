@@ -2,7 +2,7 @@ use Rattle.std.proofs.Common.{ℕ, sym, subst}
 use Rattle.sdd_base.specs.Counting.{Counted, OwnersAreCounted}
 use Rattle.sdd_base.specs.State.{State}
 use Rattle.sdd_base.specs.Tokens.{participant_of}
-use Rattle.sdd_base.proofs.Counts.{owners_are_counted}
+use Rattle.sdd_base.proofs.CountLemmas.{owners_are_counted}
 use Rattle.versions.specs.Items.{held_by}
 use Rattle.versions.specs.declared.item.Item.{Item}
 use Rattle.version_tests.proofs.single_steps.end_reading.Goals as goal

@@ -6,7 +6,7 @@ use Rattle.sdd_base.specs.Steps.{closed, opened}
 use Rattle.sdd_base.specs.Tokens.{participant_of}
 use Rattle.versions.specs.Items.{held_by}
 use Rattle.versions.specs.declared.item.Item.{Item}
-use Rattle.versions.proofs.Reclaiming.{counted_passed}
+use Rattle.versions.proofs.ReclaimLemmas.{counted_passed}
 use Rattle.version_tests.proofs.single_steps.pass.Goals as goal
 
 pub returns-clause-counted : goal.returns-clause-counted

@@ -5,7 +5,7 @@ loop-kind-preserved g c =
     let i = c.loop-kind.invariant in
     let found = c.pass-found.ensures in
     record {
-      members = found.members;
+      participants = found.participants;
       reader = λ h. found.reader (i.reader h);
       counted = λ hand h. found.counted hand (i.counted hand h);
     }

@@ -7,7 +7,7 @@ use Rattle.version_tests.proofs.single_steps.play.Given as goal
 
 abbrev pub invariant-loop-kind : goal.invariant-loop-kind
 invariant-loop-kind g l = record {
-  members : 1 < length l.w.members;
+  participants : 1 < length l.w.participants;
   reader : IsOpen l.fn.w 0 → IsOpen l.w 0;
   counted : (hand : List Hold) → Counted held_by hand l.fn.w → Counted held_by hand l.w;
 }

@@ -7,7 +7,7 @@ use Rattle.sdd_base.specs.Tokens.{shared_cell, shared_slot}
 use Rattle.sdd_base.specs.declared.status.Cell.TheVariants as cell
 use Rattle.sdd_base.specs.declared.tag.Tag.{Tag}
 use Rattle.sdd_base.specs.declared.tag.Tag.TheVariants as tag
-use Rattle.sdd_base.proofs.Counts.{owners_are_counted}
+use Rattle.sdd_base.proofs.CountLemmas.{owners_are_counted}
 use Rattle.versions.specs.Items.{held_by}
 use Rattle.versions.specs.Placing.{given_back}
 use Rattle.versions.specs.declared.item.Item.{Item}
@@ -24,7 +24,7 @@ publish-requires c =
     let owners : OwnersAreCounted {T = Item ℕ ℕ 2} held_by = owners_are_counted held_by in
     let root = shared_cell c.args.root.now in
     let rest : List Hold = SharedItem (shared_slot c.args.second) ∷ [] in
-    (omega arith, (omega (arith, c.requires.members), (owners.cell_in_hand root rest c.args.w.now c.requires.counted, λ i t e. owners.kept root i t (SharedIn root ∷ rest) c.args.w.now e c.requires.counted)))
+    (omega arith, (omega (arith, c.requires.participants), (owners.cell_in_hand root rest c.args.w.now c.requires.counted, λ i t e. owners.kept root i t (SharedIn root ∷ rest) c.args.w.now e c.requires.counted)))
 
 pub returns-clause-counted : goal.returns-clause-counted
 returns-clause-counted c =

@@ -1,4 +1,4 @@
-use Rattle.versions.proofs.Reclaiming.{passes_leave_one}
+use Rattle.versions.proofs.ReclaimLemmas.{passes_leave_one}
 use Rattle.versions.proofs.laws.passes_leave_one.Goals as goal
 
 pub returns : goal.returns

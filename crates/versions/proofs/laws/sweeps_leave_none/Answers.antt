@@ -1,4 +1,4 @@
-use Rattle.versions.proofs.Sweeping.{sweeps_leave_none}
+use Rattle.versions.proofs.SweepLemmas.{sweeps_leave_none}
 use Rattle.versions.proofs.laws.sweeps_leave_none.Goals as goal
 
 pub returns : goal.returns

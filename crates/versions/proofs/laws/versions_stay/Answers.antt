@@ -1,4 +1,4 @@
-use Rattle.versions.proofs.Staying.{versions_stay}
+use Rattle.versions.proofs.StayingLemmas.{versions_stay}
 use Rattle.versions.proofs.laws.versions_stay.Goals as goal
 
 pub returns : goal.returns

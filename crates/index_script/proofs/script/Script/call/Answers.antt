@@ -1,7 +1,7 @@
 use Rattle.std.proofs.Common.{◌≡◌, ◌++◌, ◌∙◌, ap, subst, sym}
 use Rattle.std.specs.String.{string_bytes}
 use Rattle.index_script.specs.Replies.{Prints}
-use Rattle.index_script.proofs.Calls.{stays_staged}
+use Rattle.index_script.proofs.CallLemmas.{stays_staged}
 use Rattle.index_script.proofs.script.Script.call.Goals as goal
 
 pub returns-clause-ok : goal.returns-clause-ok

@@ -1,6 +1,6 @@
 use Rattle.std.proofs.Common.{◌≡◌, ap, sym, subst, lit<, None}
 use Rattle.std.specs.List.{All}
-use Rattle.index_script.proofs.Sessions.{cleared_idle}
+use Rattle.index_script.proofs.SessionLemmas.{cleared_idle}
 use Rattle.index_script.proofs.script.Script.end.Goals as goal
 
 pub end_index-requires : goal.end_index-requires

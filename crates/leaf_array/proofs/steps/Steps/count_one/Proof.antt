@@ -1,5 +1,5 @@
 -- The count has no bytes: nothing is written, and the value that is given back counts one more.
-use Rattle.leaf_array.proofs.CountWalks.{◌+◌, [], ◌∷◌, refl, proved, ftrue, flft, named, vunit, tables, ‵, ◌⊛◌, ◌$◌, ◌∵◌, !, qed, done, move, keep, split, join, fsplit3, feq_i, suffices, frame, group, enter, of_opd, unit_lit, returns, alloc_all, pass_all, free_all, look_at, sets, MutRef, mut_vals, mut_Tells, plain, nothing, opens, closes, Stays, walk_of, says, stay_ref, Goes-ref, ends_at}
+use Rattle.leaf_array.proofs.CountWalkLemmas.{◌+◌, [], ◌∷◌, refl, proved, ftrue, flft, named, vunit, tables, ‵, ◌⊛◌, ◌$◌, ◌∵◌, !, qed, done, move, keep, split, join, fsplit3, feq_i, suffices, frame, group, enter, of_opd, unit_lit, returns, alloc_all, pass_all, free_all, look_at, sets, MutRef, mut_vals, mut_Tells, plain, nothing, opens, closes, Stays, walk_of, says, stay_ref, Goes-ref, ends_at}
 use Rattle.leaf_array.specs.contracts.steps.Steps.count_one as f
 use Rattle.leaf_array.proofs.steps.Steps.count_one.Statement.{statement}
 use Rattle.leaf_array.proofs.steps.Steps.count_one.Code as code

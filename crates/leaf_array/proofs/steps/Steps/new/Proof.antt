@@ -1,5 +1,5 @@
 -- A value of no bytes, whose count is 0.
-use Rattle.leaf_array.proofs.CountWalks.{[], ◌∷◌, refl, proved, Fml, ftrue, Val, vstruct, vnil, tables, ‵, raw, ◌$◌, ◌∵◌, !, qed, done, keep, join, suffices, enter, no_more, agg, returns, alloc_all, pass_all, free_all, look_at, sets, use0, makes_shadow, type_at, nothing, on_entry, Stays, walk_of, says, ends_at}
+use Rattle.leaf_array.proofs.CountWalkLemmas.{[], ◌∷◌, refl, proved, Fml, ftrue, Val, vstruct, vnil, tables, ‵, raw, ◌$◌, ◌∵◌, !, qed, done, keep, join, suffices, enter, no_more, agg, returns, alloc_all, pass_all, free_all, look_at, sets, use0, makes_shadow, type_at, nothing, on_entry, Stays, walk_of, says, ends_at}
 use Rattle.leaf_array.specs.contracts.steps.Steps.new as f
 use Rattle.leaf_array.proofs.steps.Steps.new.Statement.{statement}
 use Rattle.leaf_array.proofs.steps.Steps.new.Code as code

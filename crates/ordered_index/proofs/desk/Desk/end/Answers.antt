@@ -1,5 +1,5 @@
 use Rattle.std.proofs.Common.{lit<}
-use Rattle.ordered_index.proofs.Desks.{closing-one, closing-open}
+use Rattle.ordered_index.proofs.DeskLemmas.{closing-one, closing-open}
 use Rattle.ordered_index.proofs.desk.Desk.end.Goals as goal
 
 pub close_seat-requires : goal.close_seat-requires

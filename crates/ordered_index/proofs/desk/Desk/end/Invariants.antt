@@ -1,5 +1,5 @@
 use Rattle.std.proofs.Common.{length}
-use Rattle.ordered_index.proofs.Desks.{Closing}
+use Rattle.ordered_index.proofs.DeskLemmas.{Closing}
 use Rattle.ordered_index.proofs.desk.Desk.end.Given as goal
 
 -- the sessions that are left are open, and what is left to close leads where all of it did

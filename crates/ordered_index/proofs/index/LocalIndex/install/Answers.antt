@@ -4,7 +4,7 @@ use Rattle.versions.specs.Writes.{after_writes, replies_to}
 use Rattle.ordered_index.specs.Invariant.{state_of}
 use Rattle.ordered_index.specs.State.{MayAccept, State, present}
 use Rattle.ordered_index.specs.declared.transaction.Transaction.{Transaction}
-use Rattle.ordered_index.proofs.Runs.{kept_append, length-replies, present_number, present_pairs}
+use Rattle.ordered_index.proofs.RunLemmas.{kept_append, length-replies, present_number, present_pairs}
 use Rattle.ordered_index.proofs.index.LocalIndex.install.Goals as goal
 
 pub returns-in_default-clause-refused : goal.returns-in_default-clause-refused

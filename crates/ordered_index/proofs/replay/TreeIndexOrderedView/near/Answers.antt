@@ -1,5 +1,5 @@
 use Rattle.std.proofs.Common.{◌∙◌}
-use Rattle.ordered_index.proofs.Nearness.{near_between, near_exact, near_larger, near_smaller}
+use Rattle.ordered_index.proofs.NearbyLemmas.{near_between, near_exact, near_larger, near_smaller}
 use Rattle.ordered_index.proofs.replay.TreeIndexOrderedView.near.Goals as goal
 
 pub returns-in-Exact : goal.returns-in-Exact

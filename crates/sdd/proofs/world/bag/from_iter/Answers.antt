@@ -1,12 +1,12 @@
 use Rattle.std.proofs.Common.{◌∙◌, ◌⊎◌, Some, arith, sym, subst}
 use Rattle.sdd_base.specs.State.{State, NoneFree, NoCellFree}
 use Rattle.sdd.specs.Bags.{bag_cells}
-use Rattle.sdd.proofs.Chains.{stays_then}
-use Rattle.sdd.proofs.FromIter.{bag_start, bag_next, bag_same}
+use Rattle.sdd.proofs.ChainLemmas.{stays_then}
+use Rattle.sdd.proofs.FromIterLemmas.{bag_start, bag_next, bag_same}
 use Rattle.sdd.proofs.world.bag.from_iter.Goals as goal
 
 pub loop-value-init : goal.loop-value-init
-loop-value-init g c = let e = c.in-Ok.ensures in record { built = bag_start c.args.w.now g.row.ARRAY_LEN c.new.new.w (bag_cells c.in-Ok.bag) e.fresh e.made e.leaves e.stays; members = e.members }
+loop-value-init g c = let e = c.in-Ok.ensures in record { built = bag_start c.args.w.now g.row.ARRAY_LEN c.new.new.w (bag_cells c.in-Ok.bag) e.fresh e.made e.leaves e.stays; participants = e.participants }
 
 pub push-requires : goal.push-requires
 push-requires g c = let f = c.loop-value.invariant.built.fills in (omega arith, record { primary = f.primary; overflow = f.overflow; is = f.is })
@@ -17,7 +17,7 @@ loop-value-preserved g c =
     let a = c.in-Ok-push.ensures in
     record {
       built = bag_next c.args.w.now g.row.ARRAY_LEN c.loop-value.w c.push.new.w (bag_cells c.in-Ok.bag) c.loop-value.yielded c.in-Some.value v.built (stays_then _ _ _ v.built.stays a.stays) a.pushed a.leaves;
-      members = a.members ∙ v.members;
+      participants = a.participants ∙ v.participants;
     }
 
 pub returns-in-Err-push-clause-partly : goal.returns-in-Err-push-clause-partly
@@ -34,8 +34,8 @@ returns-in-Err-push-clause-partly g c =
 pub returns-in-Err-push-clause-leaves : goal.returns-in-Err-push-clause-leaves
 returns-in-Err-push-clause-leaves g c = (bag_same c.args.w.now g.row.ARRAY_LEN c.loop-value.w c.push.new.w (bag_cells c.in-Ok.bag) c.loop-value.yielded c.in-Err-push.ensures.refused.1 c.loop-value.invariant.built).leaves
 
-pub returns-in-Err-push-clause-members : goal.returns-in-Err-push-clause-members
-returns-in-Err-push-clause-members g c = c.push.ensures.members ∙ c.loop-value.invariant.members
+pub returns-in-Err-push-clause-participants : goal.returns-in-Err-push-clause-participants
+returns-in-Err-push-clause-participants g c = c.push.ensures.participants ∙ c.loop-value.invariant.participants
 
 pub returns-in-Err-push-clause-stays : goal.returns-in-Err-push-clause-stays
 returns-in-Err-push-clause-stays g c = (bag_same c.args.w.now g.row.ARRAY_LEN c.loop-value.w c.push.new.w (bag_cells c.in-Ok.bag) c.loop-value.yielded c.in-Err-push.ensures.refused.1 c.loop-value.invariant.built).stays
@@ -52,8 +52,8 @@ returns-clause-filled g c = (
 pub returns-clause-leaves : goal.returns-clause-leaves
 returns-clause-leaves g c = c.loop-value.invariant.built.leaves
 
-pub returns-clause-members : goal.returns-clause-members
-returns-clause-members g c = c.loop-value.invariant.members
+pub returns-clause-participants : goal.returns-clause-participants
+returns-clause-participants g c = c.loop-value.invariant.participants
 
 pub returns-clause-stays : goal.returns-clause-stays
 returns-clause-stays g c = c.loop-value.invariant.built.stays

@@ -1,10 +1,10 @@
 use Rattle.std.proofs.Common.{◌≡◌}
 use Rattle.sdd.specs.Bags.{bag_cells}
-use Rattle.sdd.proofs.FromIter.{BuiltBag}
+use Rattle.sdd.proofs.FromIterLemmas.{BuiltBag}
 use Rattle.sdd.proofs.world.bag.from_iter.Given as goal
 
 abbrev pub invariant-loop-value : goal.invariant-loop-value
 invariant-loop-value g l = record {
   built : BuiltBag l.fn.w g.row.ARRAY_LEN l.w (bag_cells l.bag) l.yielded;
-  members : l.w.members ≡ l.fn.w.members;
+  participants : l.w.participants ≡ l.fn.w.participants;
 }

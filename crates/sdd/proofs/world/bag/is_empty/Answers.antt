@@ -1,6 +1,6 @@
 use Rattle.std.proofs.Common.{arith, refl}
 use Rattle.std.proofs.lemmas.Bool.{false≢true}
-use Rattle.sdd.proofs.Bags.{cells_there, row_none, row_some, both_none}
+use Rattle.sdd.proofs.BagLemmas.{cells_there, row_none, row_some, both_none}
 use Rattle.sdd.proofs.world.bag.is_empty.Goals as goal
 
 pub find-found-requires : goal.find-found-requires

@@ -1,5 +1,5 @@
 use Rattle.std.proofs.Common.{◌∙◌, ◌∷◌}
-use Rattle.sdd.proofs.Bags.{bag_row, bag_size, bag_undeleted}
+use Rattle.sdd.proofs.BagLemmas.{bag_row, bag_size, bag_undeleted}
 use Rattle.sdd.proofs.world.bag.len.Goals as goal
 
 pub count_all-requires : goal.count_all-requires

@@ -1,7 +1,7 @@
 use Rattle.std.proofs.Common.{map, []}
 use Rattle.sdd_base.specs.Tokens.{shared_cell}
-use Rattle.sdd.proofs.BagInit.{claimed_leaves, claimed_free}
-use Rattle.sdd.proofs.Bags.{claimed_bag}
+use Rattle.sdd.proofs.BagInitLemmas.{claimed_leaves, claimed_free}
+use Rattle.sdd.proofs.BagLemmas.{claimed_bag}
 use Rattle.sdd.proofs.world.bag.new.Goals as goal
 
 pub returns-in-Ok-clause-made : goal.returns-in-Ok-clause-made

@@ -1,7 +1,7 @@
 use Rattle.std.proofs.Common.{arith}
 use Rattle.sdd_base.specs.Tokens.{shared_cell}
-use Rattle.sdd.proofs.Rows.{numbered}
-use Rattle.sdd.proofs.Bags.{cells_there, hangs_there, bag_taken, bag_left, bag_leaves_taken, row_none}
+use Rattle.sdd.proofs.RowLemmas.{numbered}
+use Rattle.sdd.proofs.BagLemmas.{cells_there, hangs_there, bag_taken, bag_left, bag_leaves_taken, row_none}
 use Rattle.sdd.proofs.world.bag.pop.Goals as goal
 
 pub find-requires : goal.find-requires

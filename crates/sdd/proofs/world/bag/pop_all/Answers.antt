@@ -4,12 +4,12 @@ use denote.Param.Members.{Called}
 use Rattle.sdd_base.specs.Tokens.{shared_cell}
 use Rattle.sdd.specs.Chain.{Entry}
 use Rattle.sdd.specs.Bags.{IsBag, Removes}
-use Rattle.sdd.proofs.Chains.{stays_then, stays_refl}
-use Rattle.sdd.proofs.Folds.{popped_start, popped_next, popped_all, popped_none}
+use Rattle.sdd.proofs.ChainLemmas.{stays_then, stays_refl}
+use Rattle.sdd.proofs.FoldLemmas.{popped_start, popped_next, popped_all, popped_none}
 use Rattle.sdd.proofs.world.bag.pop_all.Goals as goal
 
 pub loop-popped-init : goal.loop-popped-init
-loop-popped-init g c = record { callable = c.requires.callable; list = c.requires.list; popped = λ ps os b. popped_start g.row.ARRAY_LEN _ (λ f b' o r f2. Called g.F.FnMut f (b', (o, tt)) r f2) c.args.w.now ps os (c.args.init, c.args.f) b; members = refl; stays = stays_refl _ }
+loop-popped-init g c = record { callable = c.requires.callable; list = c.requires.list; popped = λ ps os b. popped_start g.row.ARRAY_LEN _ (λ f b' o r f2. Called g.F.FnMut f (b', (o, tt)) r f2) c.args.w.now ps os (c.args.init, c.args.f) b; participants = refl; stays = stays_refl _ }
 
 pub pop-requires : goal.pop-requires
 pop-requires g c = (omega arith, c.loop-popped.invariant.list)
@@ -22,7 +22,7 @@ loop-popped-preserved g c =
       callable = mut_next g.F.FnMut _ _ _ _ _ c.f-folded.ensures refl v.callable;
       list = p.list;
       popped = λ ps os b. popped_next g.row.ARRAY_LEN _ (λ f b' o r f2. Called g.F.FnMut f (b', (o, tt)) r f2) _ _ _ ps os _ _ (c.f-folded.result, c.f-folded.new.self) _ c.in-Some.owner (v.popped ps os b) p.popped p.leaves c.f-folded.ensures;
-      members = p.members ∙ v.members;
+      participants = p.participants ∙ v.participants;
       stays = stays_then _ _ _ v.stays p.stays;
     }
 
@@ -48,8 +48,8 @@ returns-clause-emptied g c =
     let none = popped_all v.primary v.overflow (let s = v.size in omega (arith, s, n, c.loop-popped-test.false)) in
     subst (λ (xs : List (Entry _)). IsBag g.row.ARRAY_LEN c.loop-popped.w (map shared_cell c.args.bag.now.cells.items) xs []) none.0 (subst (λ (ys : List (Entry _)). IsBag g.row.ARRAY_LEN c.loop-popped.w (map shared_cell c.args.bag.now.cells.items) v.primary ys) none.1 v.is)
 
-pub returns-clause-members : goal.returns-clause-members
-returns-clause-members g c = c.loop-popped.invariant.members
+pub returns-clause-participants : goal.returns-clause-participants
+returns-clause-participants g c = c.loop-popped.invariant.participants
 
 pub returns-clause-stays : goal.returns-clause-stays
 returns-clause-stays g c = c.loop-popped.invariant.stays

@@ -2,7 +2,7 @@ use Rattle.std.proofs.Common.{◌≡◌, List, map}
 use Rattle.sdd_base.specs.Tokens.{shared_cell}
 use Rattle.sdd.specs.Chain.{Entry, Stays}
 use Rattle.sdd.specs.Bags.{IsBag, IsSomeBag}
-use Rattle.sdd.proofs.Folds.{Popped}
+use Rattle.sdd.proofs.FoldLemmas.{Popped}
 use denote.Param.Members.{Called}
 use Rattle.sdd.proofs.world.bag.pop_all.Given as goal
 
@@ -11,6 +11,6 @@ invariant-loop-popped g l = record {
   callable : goal.F-IsAlwaysCallable g l.f;
   list : IsSomeBag g.row.ARRAY_LEN l.w (map shared_cell l.bag.cells.items);
   popped : (ps os : List (Entry _)) → IsBag g.row.ARRAY_LEN l.initial.w (map shared_cell l.bag.cells.items) ps os → Popped g.row.ARRAY_LEN (map shared_cell l.bag.cells.items) (λ f b o r f2. Called g.F.FnMut f (b, (o, tt)) r f2) l.initial.w l.w ps os (l.fn.init, l.fn.f) (l.folded, l.f) l._popped;
-  members : l.w.members ≡ l.initial.w.members;
+  participants : l.w.participants ≡ l.initial.w.participants;
   stays : Stays l.initial.w l.w;
 }

@@ -1,7 +1,7 @@
 use Rattle.std.proofs.Common.{refl}
 use Rattle.sdd_base.specs.Tokens.{shared_cell}
-use Rattle.sdd.proofs.Rows.{numbered}
-use Rattle.sdd.proofs.Bags.{cells_there, stack_there, bag_leaves, bag_either, bag_overflow, bag_list, some_cell}
+use Rattle.sdd.proofs.RowLemmas.{numbered}
+use Rattle.sdd.proofs.BagLemmas.{cells_there, stack_there, bag_leaves, bag_either, bag_overflow, bag_list, some_cell}
 use Rattle.sdd.proofs.world.bag.push.Goals as goal
 
 pub find-requires : goal.find-requires

@@ -4,10 +4,10 @@ use Rattle.sdd_base.specs.Tokens.{shared_cell}
 use Rattle.sdd.specs.Chain.{Entry, Leaves, links, slots}
 use Rattle.sdd.specs.Entries.{entry_link}
 use Rattle.sdd.specs.Bags.{AreFreeCells}
-use Rattle.sdd.proofs.Bags.{bag_row, bag_enough}
-use Rattle.sdd.proofs.Chains.{leaves_then}
-use Rattle.sdd.proofs.Rows.{out_append}
-use Rattle.sdd.proofs.BagInit.{row_empty, freed_free, freed_leaves}
+use Rattle.sdd.proofs.BagLemmas.{bag_row, bag_enough}
+use Rattle.sdd.proofs.ChainLemmas.{leaves_then}
+use Rattle.sdd.proofs.RowLemmas.{out_append}
+use Rattle.sdd.proofs.BagInitLemmas.{row_empty, freed_free, freed_leaves}
 use Rattle.sdd.proofs.world.bag.retire.Goals as goal
 
 pub clear_all-requires-clause-list : goal.clear_all-requires-clause-list

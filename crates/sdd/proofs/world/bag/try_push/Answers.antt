@@ -1,7 +1,7 @@
 use Rattle.std.proofs.Common.{inl}
 use Rattle.sdd_base.specs.Tokens.{shared_cell}
-use Rattle.sdd.proofs.Rows.{numbered}
-use Rattle.sdd.proofs.Bags.{cells_there, stack_there, bag_leaves, bag_primary, bag_list, row_full}
+use Rattle.sdd.proofs.RowLemmas.{numbered}
+use Rattle.sdd.proofs.BagLemmas.{cells_there, stack_there, bag_leaves, bag_primary, bag_list, row_full}
 use Rattle.sdd.proofs.world.bag.try_push.Goals as goal
 
 pub find-requires : goal.find-requires

@@ -1,7 +1,7 @@
 use Rattle.std.proofs.Common.{arith, sym, subst, ◌≤◌, ◌+◌, ℕ}
 use Rattle.sdd_base.specs.Tokens.{shared_cell}
 use Rattle.sdd.specs.Chain.{Counted}
-use Rattle.sdd.proofs.Walks.{count_next, count_small, count_all, behind_hangs}
+use Rattle.sdd.proofs.WalkLemmas.{count_next, count_small, count_all, behind_hangs}
 use Rattle.sdd.proofs.world.chain.count.Goals as goal
 
 pub returns : goal.returns

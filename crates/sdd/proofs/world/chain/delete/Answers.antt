@@ -4,8 +4,8 @@ use Rattle.sdd_base.specs.Tokens.{shared_cell, shared_slots}
 use Rattle.sdd_base.specs.declared.owner.Shared.{Shared}
 use Rattle.sdd_base.specs.declared.tag.Tag.TheVariants as tag
 use Rattle.sdd_base.specs.declared.status.Cell.TheVariants as cell
-use Rattle.sdd.proofs.Chains.{full_empty}
-use Rattle.sdd.proofs.Releases.{loose_cell}
+use Rattle.sdd.proofs.ChainLemmas.{full_empty}
+use Rattle.sdd.proofs.ReleaseLemmas.{loose_cell}
 use Rattle.sdd.proofs.world.chain.delete.Goals as goal
 
 pub swap-next-requires : goal.swap-next-requires

@@ -1,7 +1,7 @@
 use Rattle.std.proofs.Common.{◌∷◌}
 use Rattle.sdd_base.specs.Tokens.{shared_cell}
-use Rattle.sdd.proofs.Chains.{stays_then}
-use Rattle.sdd.proofs.Releases.{dropped_first, stays_released}
+use Rattle.sdd.proofs.ChainLemmas.{stays_then}
+use Rattle.sdd.proofs.ReleaseLemmas.{dropped_first, stays_released}
 use Rattle.sdd.proofs.world.chain.drop_first.Goals as goal
 
 pub returns-in-Some-clause-dropped : goal.returns-in-Some-clause-dropped

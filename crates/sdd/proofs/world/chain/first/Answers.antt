@@ -1,6 +1,6 @@
 use Rattle.std.proofs.Common.{refl}
 use Rattle.sdd_base.specs.Tokens.{shared_cell}
-use Rattle.sdd.proofs.Chains.{head_cell, hung_there, starts, starts_not, starts_link, starts_cell, begins}
+use Rattle.sdd.proofs.ChainLemmas.{head_cell, hung_there, starts, starts_not, starts_link, starts_cell, begins}
 use Rattle.sdd.proofs.world.chain.first.Goals as goal
 
 pub as_ref-requires-clause-cell : goal.as_ref-requires-clause-cell

@@ -1,7 +1,7 @@
 use Rattle.sdd_base.specs.Tokens.{shared_cell}
 use Rattle.sdd.specs.Chain.{skip}
-use Rattle.sdd.proofs.Chains.{head_cell, hung_there}
-use Rattle.sdd.proofs.Firsts.{no_item, some_item}
+use Rattle.sdd.proofs.ChainLemmas.{head_cell, hung_there}
+use Rattle.sdd.proofs.FirstLemmas.{no_item, some_item}
 use Rattle.sdd.proofs.world.chain.first_undeleted.Goals as goal
 
 pub as_ref-requires-clause-cell : goal.as_ref-requires-clause-cell

@@ -1,5 +1,5 @@
 use Rattle.sdd_base.specs.Tokens.{shared_cell}
-use Rattle.sdd.proofs.Chains.{head_cell, put_link, put_back, put_all}
+use Rattle.sdd.proofs.ChainLemmas.{head_cell, put_link, put_back, put_all}
 use Rattle.sdd.proofs.world.chain.put_first.Goals as goal
 
 pub take-next-requires : goal.take-next-requires

@@ -3,10 +3,10 @@ use Rattle.sdd_base.specs.State.{status_at, with_status}
 use Rattle.sdd_base.specs.Tokens.{shared_cell}
 use Rattle.sdd_base.specs.declared.status.Status.TheVariants as status
 use Rattle.sdd.specs.Chain.{OneMore}
-use Rattle.sdd.proofs.Chains.{stays_then}
-use Rattle.sdd.proofs.Releases.{stays_owners}
-use Rattle.sdd.proofs.ListHead.{took_some}
-use Rattle.sdd.proofs.Shares.{off_same, off_more, can_return, shared_hung, shared_leaves, shared_owners, one_more, owners_same, owners_more, owners_none}
+use Rattle.sdd.proofs.ChainLemmas.{stays_then}
+use Rattle.sdd.proofs.ReleaseLemmas.{stays_owners}
+use Rattle.sdd.proofs.ListHeadLemmas.{took_some}
+use Rattle.sdd.proofs.ShareLemmas.{off_same, off_more, can_return, shared_hung, shared_leaves, shared_owners, one_more, owners_same, owners_more, owners_none}
 use Rattle.sdd.proofs.world.chain.share_first.Goals as goal
 
 pub put_first-requires : goal.put_first-requires

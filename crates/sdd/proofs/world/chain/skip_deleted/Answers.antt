@@ -1,8 +1,8 @@
 use Rattle.std.proofs.Common.{refl, ◌∙◌, arith, subst, Bool}
 use Rattle.sdd_base.specs.Tokens.{shared_cell}
 use Rattle.sdd.specs.Chain.{Begins}
-use Rattle.sdd.proofs.Chains.{stays_then, stays_refl}
-use Rattle.sdd.proofs.Releases.{drop_start, drop_next, drop_all, drop_hangs}
+use Rattle.sdd.proofs.ChainLemmas.{stays_then, stays_refl}
+use Rattle.sdd.proofs.ReleaseLemmas.{drop_start, drop_next, drop_all, drop_hangs}
 use Rattle.sdd.proofs.world.chain.skip_deleted.Goals as goal
 
 pub loop-passed-preserved : goal.loop-passed-preserved
@@ -11,7 +11,7 @@ loop-passed-preserved g c =
     let b = c.in-Some.ensures.some in
     let f = c.in-Some.front in
     record {
-      member = let m = c.drop_first.ensures.stays.members in omega (arith, m, v.member);
+      participant = let m = c.drop_first.ensures.stays.participants in omega (arith, m, v.participant);
       hangs = drop_hangs g.L.LinkedList.link _ _ _ _ _ _ v.hangs (b v.hangs.tag v.hangs.entries v.hangs.is) c.drop_first.ensures.dropped;
       dropped = λ t es h.
           let k = v.dropped t es h in
@@ -25,7 +25,7 @@ pub returns-clause-skipped : goal.returns-clause-skipped
 returns-clause-skipped g c = λ t es h. (drop_all g.L.LinkedList.link _ _ _ _ t es h (omega (arith, c.loop-passed-test.false, c.slots_in_use-passed-end.ensures)) (c.loop-passed.invariant.dropped t es h)).hung
 
 pub loop-passed-init : goal.loop-passed-init
-loop-passed-init g c = record { member = c.requires.member; hangs = c.requires.list; dropped = λ t es h. drop_start g.L.LinkedList.link _ _ t es h; only = λ k ne. refl; stays = stays_refl _ }
+loop-passed-init g c = record { participant = c.requires.participant; hangs = c.requires.list; dropped = λ t es h. drop_start g.L.LinkedList.link _ _ t es h; only = λ k ne. refl; stays = stays_refl _ }
 
 pub returns-clause-same : goal.returns-clause-same
 returns-clause-same g c = λ t es h. (drop_all g.L.LinkedList.link _ _ _ _ t es h (omega (arith, c.loop-passed-test.false, c.slots_in_use-passed-end.ensures)) (c.loop-passed.invariant.dropped t es h)).same

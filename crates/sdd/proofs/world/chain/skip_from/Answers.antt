@@ -1,5 +1,5 @@
 use Rattle.std.proofs.Common.{arith}
-use Rattle.sdd.proofs.Walks.{skip_all}
+use Rattle.sdd.proofs.WalkLemmas.{skip_all}
 use Rattle.sdd.proofs.world.chain.skip_from.Goals as goal
 
 pub returns : goal.returns

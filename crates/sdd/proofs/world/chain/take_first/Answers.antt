@@ -1,5 +1,5 @@
 use Rattle.sdd_base.specs.Tokens.{shared_cell}
-use Rattle.sdd.proofs.Chains.{head_cell, takes, took_linked, took_cell, took_back, took_all, took_none}
+use Rattle.sdd.proofs.ChainLemmas.{head_cell, takes, took_linked, took_cell, took_back, took_all, took_none}
 use Rattle.sdd.proofs.world.chain.take_first.Goals as goal
 
 pub take-requires : goal.take-requires

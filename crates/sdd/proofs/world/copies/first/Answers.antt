@@ -1,7 +1,7 @@
 use Rattle.std.proofs.Common.{◌∙◌, subst, Bool}
 use Rattle.sdd_base.specs.Tokens.{link_cell, shared_cell}
 use Rattle.sdd.specs.Chain.{Begins}
-use Rattle.sdd.proofs.FromIter.{copies_gone, copies_kept, cant_copy}
+use Rattle.sdd.proofs.FromIterLemmas.{copies_gone, copies_kept, cant_copy}
 use Rattle.sdd.proofs.world.copies.first.Goals as goal
 
 pub returns-then-front-clause-first : goal.returns-then-front-clause-first

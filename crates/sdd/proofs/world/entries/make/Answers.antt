@@ -1,5 +1,5 @@
 use Rattle.std.proofs.Common.{◌∙◌, sym, arith}
-use Rattle.sdd.proofs.EntryNew.{one_owner}
+use Rattle.sdd.proofs.EntryNewLemmas.{one_owner}
 use Rattle.sdd.proofs.world.entries.make.Goals as goal
 
 pub unreachable-requires : goal.unreachable-requires

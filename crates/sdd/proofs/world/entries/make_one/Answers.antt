@@ -1,5 +1,5 @@
 use Rattle.std.proofs.Common.{sym}
-use Rattle.sdd.proofs.EntryNew.{made, unmade}
+use Rattle.sdd.proofs.EntryNewLemmas.{made, unmade}
 use Rattle.sdd.proofs.world.entries.make_one.Goals as goal
 
 pub returns-in-Ok-new-clause-made : goal.returns-in-Ok-new-clause-made

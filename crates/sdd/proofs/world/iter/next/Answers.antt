@@ -3,9 +3,9 @@ use Rattle.sdd_base.specs.Tokens.{shared_cell}
 use Rattle.sdd.specs.Chain.{IsList, Hangs, skip}
 use Rattle.sdd.specs.Entries.{entry_link, entry_value}
 use Rattle.sdd.specs.Iters.{first_value, rest_of}
-use Rattle.sdd.proofs.Walks.{behind}
-use Rattle.sdd.proofs.ListHead.{some_skipped, none_skipped}
-use Rattle.sdd.proofs.Firsts.{undeleted_skip}
+use Rattle.sdd.proofs.WalkLemmas.{behind}
+use Rattle.sdd.proofs.ListHeadLemmas.{some_skipped, none_skipped}
+use Rattle.sdd.proofs.FirstLemmas.{undeleted_skip}
 use Rattle.sdd.proofs.world.iter.next.Goals as goal
 
 pub skip_from-requires : goal.skip_from-requires

@@ -1,8 +1,8 @@
 use Rattle.std.proofs.Common.{◌<◌, arith, drop, inl, map, length, ◌∙◌, true, refl}
 use Rattle.std.proofs.lemmas.List.{length-map}
 use Rattle.sdd_base.specs.Tokens.{link_cell, shared_cell}
-use Rattle.sdd.proofs.Rows.{numbered, null_at}
-use Rattle.sdd.proofs.MutableIteration.{left_shared, pass_on, none_after}
+use Rattle.sdd.proofs.RowLemmas.{numbered, null_at}
+use Rattle.sdd.proofs.MutableIterationLemmas.{left_shared, pass_on, none_after}
 use Rattle.sdd.proofs.world.iter_mut.seek.Goals as goal
 
 pub is_null-requires : goal.is_null-requires

@@ -2,8 +2,8 @@ use Rattle.std.proofs.Common.{◌≡◌, ◌∙◌, sym, subst, ℕ, Option, Som
 use Rattle.sdd_base.specs.State.{value_at}
 use Rattle.sdd_base.specs.Tokens.{shared_cell}
 use Rattle.sdd.specs.Chain.{IsList, skip}
-use Rattle.sdd.proofs.Chains.{some_same}
-use Rattle.sdd.proofs.Nodes.{node_item}
+use Rattle.sdd.proofs.ChainLemmas.{some_same}
+use Rattle.sdd.proofs.NodeLemmas.{node_item}
 use Rattle.sdd.proofs.world.linked_list.next_link.Goals as goal
 
 pub returns : goal.returns

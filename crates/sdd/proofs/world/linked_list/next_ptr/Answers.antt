@@ -2,9 +2,9 @@ use Rattle.std.proofs.Common.{◌≡◌, ◌∙◌, sym, subst, ℕ, Option, Som
 use Rattle.sdd_base.specs.State.{value_at}
 use Rattle.sdd_base.specs.Tokens.{shared_cell}
 use Rattle.sdd.specs.Chain.{IsList, skip}
-use Rattle.sdd.proofs.Chains.{head_cell, kept_same, kept_tag, some_same}
-use Rattle.sdd.proofs.ListHead.{skipped_first}
-use Rattle.sdd.proofs.Nodes.{node_item, hung_node, hung_listed}
+use Rattle.sdd.proofs.ChainLemmas.{head_cell, kept_same, kept_tag, some_same}
+use Rattle.sdd.proofs.ListHeadLemmas.{skipped_first}
+use Rattle.sdd.proofs.NodeLemmas.{node_item, hung_node, hung_listed}
 use Rattle.sdd.proofs.world.linked_list.next_ptr.Goals as goal
 
 pub load-requires-after_bounds : goal.load-requires-after_bounds

@@ -2,11 +2,11 @@ use Rattle.std.proofs.Common.{◌∙◌, ◌+◌, sym, subst, ℕ, arith}
 use Rattle.sdd_base.specs.State.{State}
 use Rattle.sdd_base.specs.Tokens.{shared_cell, shared_slot}
 use Rattle.sdd.specs.Chain.{IsList, skip}
-use Rattle.sdd.proofs.Chains.{head_cell, kept_same, inside_states}
-use Rattle.sdd.proofs.Releases.{hung_owners, added_back}
-use Rattle.sdd.proofs.ListHead.{skipped_first}
-use Rattle.sdd.proofs.Firsts.{none_more}
-use Rattle.sdd.proofs.Shares.{hung_owned}
+use Rattle.sdd.proofs.ChainLemmas.{head_cell, kept_same, inside_states}
+use Rattle.sdd.proofs.ReleaseLemmas.{hung_owners, added_back}
+use Rattle.sdd.proofs.ListHeadLemmas.{skipped_first}
+use Rattle.sdd.proofs.FirstLemmas.{none_more}
+use Rattle.sdd.proofs.ShareLemmas.{hung_owned}
 use Rattle.sdd.proofs.world.linked_list.next_shared.Goals as goal
 
 pub get_shared-requires : goal.get_shared-requires

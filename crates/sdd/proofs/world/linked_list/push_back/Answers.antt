@@ -6,9 +6,9 @@ use Rattle.sdd_base.specs.Tokens.{ptr_slot, shared_cell, shared_slot}
 use Rattle.sdd_base.specs.declared.tag.Tag.{Tag}
 use Rattle.sdd.specs.Chain.{deleted}
 use Rattle.sdd.specs.Nodes.{Inserts}
-use Rattle.sdd.proofs.Chains.{inside_cells, kept_same}
-use Rattle.sdd.proofs.Nodes.{node_cell}
-use Rattle.sdd.proofs.Inserting.{hangs_behind, inserts, inserts_leaves, kept_behind, put_at, tag_same}
+use Rattle.sdd.proofs.ChainLemmas.{inside_cells, kept_same}
+use Rattle.sdd.proofs.NodeLemmas.{node_cell}
+use Rattle.sdd.proofs.InsertionLemmas.{hangs_behind, inserts, inserts_leaves, kept_behind, put_at, tag_same}
 use Rattle.sdd.proofs.world.linked_list.push_back.Goals as goal
 
 pub tag-requires : goal.tag-requires

@@ -1,5 +1,5 @@
 use Rattle.std.proofs.Common.{◌∙◌}
-use Rattle.sdd.proofs.Nodes.{node_cell, set_state, retags, retag_leaves}
+use Rattle.sdd.proofs.NodeLemmas.{node_cell, set_state, retags, retag_leaves}
 use Rattle.sdd.proofs.world.linked_list.set_tag.Goals as goal
 
 pub swap-next-requires : goal.swap-next-requires

@@ -1,6 +1,6 @@
 use Rattle.std.proofs.Common.{◌∙◌, ap, ℕ}
 use Rattle.sdd_base.specs.State.{cell_at}
-use Rattle.sdd.proofs.Nodes.{node_cell}
+use Rattle.sdd.proofs.NodeLemmas.{node_cell}
 use Rattle.sdd.proofs.world.linked_list.tag_of.Goals as goal
 
 pub tag-requires : goal.tag-requires

@@ -1,15 +1,15 @@
 use Rattle.std.proofs.Common.{◌≡◌, ◌∙◌, ◌++◌, ◌⊎◌, ℕ, List, [], Option, MatchOption, ap, sym, subst, arith, get_or}
-use Rattle.sdd_base.specs.State.{State, NoneFree, NoCellFree, Member, nobody}
+use Rattle.sdd_base.specs.State.{State, NoneFree, NoCellFree, ParticipantState, nobody}
 use Rattle.sdd_base.specs.Tokens.{link_cell, shared_cell}
 use Rattle.sdd_base.specs.declared.tag.Tag.TheVariants as tag
 use Rattle.sdd.specs.Chain.{undeleted}
 use Rattle.sdd.specs.Entries.{entry_link, entry_value}
 use Rattle.sdd.specs.Queues.{oldest_cell, newest_cell}
 use Rattle.sdd.specs.FromIter.{FillsQueue, Copies, entry_values}
-use Rattle.sdd.proofs.Chains.{stays_then}
-use Rattle.sdd.proofs.Queues.{queue_left}
-use Rattle.sdd.proofs.Walks.{hung_length}
-use Rattle.sdd.proofs.FromIter.{given, Copying, queue_start, queue_next, queue_same, copy_start, copy_next, copying_now, copied_all, copied_end, stopped_at, copied_kept, memory_not, place_not}
+use Rattle.sdd.proofs.ChainLemmas.{stays_then}
+use Rattle.sdd.proofs.QueueLemmas.{queue_left}
+use Rattle.sdd.proofs.WalkLemmas.{hung_length}
+use Rattle.sdd.proofs.FromIterLemmas.{given, Copying, queue_start, queue_next, queue_same, copy_start, copy_next, copying_now, copied_all, copied_end, stopped_at, copied_kept, memory_not, place_not}
 use Rattle.sdd.proofs.world.queue.clone.Goals as goal
 
 pub loop-passed-init : goal.loop-passed-init
@@ -18,7 +18,7 @@ loop-passed-init g c =
     let w = c.args.w.now in
     record {
       copying = λ es q. ([], subst (λ (j : ℕ). Copying w es 0 j []) (sym c.of-at.ensures) (copy_start w (oldest_cell c.args.queue.now) tag.None es q.hung), queue_start w c.new.new.w (oldest_cell c.in-Ok.copy) (newest_cell c.in-Ok.copy) e.fresh.0 e.fresh.1 e.made e.leaves e.stays);
-      only = λ k ne. ap (λ (ms : List Member). get_or ms k nobody) e.members;
+      only = λ k ne. ap (λ (ms : List ParticipantState). get_or ms k nobody) e.participants;
     }
 
 pub first-requires-clause-list : goal.first-requires-clause-list
@@ -26,8 +26,8 @@ first-requires-clause-list g c =
     let k = c.loop-passed.invariant.copying c.requires.list.entries c.requires.list.is in
     record { tag = k.1.tag; entries = k.1.rest; is = copying_now c.args.w.now c.loop-passed.w c.requires.list.entries c.loop-passed._passed (link_cell c.loop-passed.at) (shared_cell c.cell.result.now) k.0 k.2.leaves c.cell.ensures k.1 }
 
-pub add-requires-clause-member : goal.add-requires-clause-member
-add-requires-clause-member g c = let s = (c.loop-passed.invariant.copying c.requires.list.entries c.requires.list.is).2.stays.members in omega (arith, s, c.requires.member)
+pub add-requires-clause-participant : goal.add-requires-clause-participant
+add-requires-clause-participant g c = let s = (c.loop-passed.invariant.copying c.requires.list.entries c.requires.list.is).2.stays.participants in omega (arith, s, c.requires.participant)
 
 pub add-requires-clause-list : goal.add-requires-clause-list
 add-requires-clause-list g c = let f = (c.loop-passed.invariant.copying c.requires.list.entries c.requires.list.is).2.fills in record { entries = f.entries; is = f.is }

@@ -1,14 +1,14 @@
 use Rattle.std.proofs.Common.{List}
-use Rattle.sdd_base.specs.Frame.{OnlyOf}
+use Rattle.sdd_base.specs.Frame.{OnlyParticipant}
 use Rattle.sdd_base.specs.Tokens.{link_cell}
 use Rattle.sdd.specs.Chain.{Entry}
 use Rattle.sdd.specs.Entries.{entry_link}
 use Rattle.sdd.specs.Queues.{IsQueue, oldest_cell, newest_cell}
-use Rattle.sdd.proofs.FromIter.{BuiltQueue, Copying}
+use Rattle.sdd.proofs.FromIterLemmas.{BuiltQueue, Copying}
 use Rattle.sdd.proofs.world.queue.clone.Given as goal
 
 abbrev pub invariant-loop-passed : goal.invariant-loop-passed
 invariant-loop-passed g l = record {
   copying : (es : List (Entry _)) → IsQueue entry_link l.fn.w (oldest_cell l.queue) (newest_cell l.queue) es → (vs : List _) × Copying l.fn.w es l._passed (link_cell l.at) vs × BuiltQueue l.fn.w l.w (oldest_cell l.copy) (newest_cell l.copy) vs;
-  only : OnlyOf 0 l.fn.w l.w;
+  only : OnlyParticipant 0 l.fn.w l.w;
 }

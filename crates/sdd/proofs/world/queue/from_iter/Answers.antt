@@ -1,8 +1,8 @@
 use Rattle.std.proofs.Common.{◌∙◌, ◌⊎◌, List, Option, ap, sym, subst, arith, get_or}
-use Rattle.sdd_base.specs.State.{State, NoneFree, NoCellFree, Member, nobody}
+use Rattle.sdd_base.specs.State.{State, NoneFree, NoCellFree, ParticipantState, nobody}
 use Rattle.sdd.specs.Queues.{oldest_cell, newest_cell}
-use Rattle.sdd.proofs.Chains.{stays_then}
-use Rattle.sdd.proofs.FromIter.{queue_start, queue_more, queue_same}
+use Rattle.sdd.proofs.ChainLemmas.{stays_then}
+use Rattle.sdd.proofs.FromIterLemmas.{queue_start, queue_more, queue_same}
 use Rattle.sdd.proofs.world.queue.from_iter.Goals as goal
 
 pub loop-value-init : goal.loop-value-init
@@ -10,11 +10,11 @@ loop-value-init g c =
     let e = c.in-Ok.ensures in
     record {
       built = queue_start c.args.w.now c.new.new.w (oldest_cell c.in-Ok.queue) (newest_cell c.in-Ok.queue) e.fresh.0 e.fresh.1 e.made e.leaves e.stays;
-      only = λ k ne. ap (λ (ms : List Member). get_or ms k nobody) e.members;
+      only = λ k ne. ap (λ (ms : List ParticipantState). get_or ms k nobody) e.participants;
     }
 
-pub add-requires-clause-member : goal.add-requires-clause-member
-add-requires-clause-member g c = let s = c.loop-value.invariant.built.stays.members in omega (arith, s, c.requires.member)
+pub add-requires-clause-participant : goal.add-requires-clause-participant
+add-requires-clause-participant g c = let s = c.loop-value.invariant.built.stays.participants in omega (arith, s, c.requires.participant)
 
 pub add-requires-clause-list : goal.add-requires-clause-list
 add-requires-clause-list g c = let f = c.loop-value.invariant.built.fills in record { entries = f.entries; is = f.is }

@@ -1,10 +1,10 @@
-use Rattle.sdd_base.specs.Frame.{OnlyOf}
+use Rattle.sdd_base.specs.Frame.{OnlyParticipant}
 use Rattle.sdd.specs.Queues.{oldest_cell, newest_cell}
-use Rattle.sdd.proofs.FromIter.{BuiltQueue}
+use Rattle.sdd.proofs.FromIterLemmas.{BuiltQueue}
 use Rattle.sdd.proofs.world.queue.from_iter.Given as goal
 
 abbrev pub invariant-loop-value : goal.invariant-loop-value
 invariant-loop-value g l = record {
   built : BuiltQueue l.fn.w l.w (oldest_cell l.queue) (newest_cell l.queue) l.yielded;
-  only : OnlyOf 0 l.fn.w l.w;
+  only : OnlyParticipant 0 l.fn.w l.w;
 }

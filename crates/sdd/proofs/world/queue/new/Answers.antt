@@ -3,8 +3,8 @@ use Rattle.sdd_base.specs.State.{State, with_cell}
 use Rattle.sdd_base.specs.Tokens.{shared_cell}
 use Rattle.sdd_base.specs.declared.tag.Tag.TheVariants as tag
 use Rattle.sdd_base.specs.declared.status.Cell.TheVariants as cell
-use Rattle.sdd.proofs.Chains.{freed_again}
-use Rattle.sdd.proofs.Queues.{one_cell}
+use Rattle.sdd.proofs.ChainLemmas.{freed_again}
+use Rattle.sdd.proofs.QueueLemmas.{one_cell}
 use Rattle.sdd.proofs.world.queue.new.Goals as goal
 
 pub returns-in-Err-null-clause-refused : goal.returns-in-Err-null-clause-refused

@@ -5,9 +5,9 @@ use Rattle.sdd_base.specs.declared.tag.Tag.TheVariants as tag
 use Rattle.sdd.specs.Chain.{skip}
 use Rattle.sdd.specs.Entries.{entry_link}
 use Rattle.sdd.specs.Queues.{oldest_cell, newest_cell, last_slot}
-use Rattle.sdd.proofs.Chains.{item_shared}
-use Rattle.sdd.proofs.ListHead.{took_some, took_nothing, some_skipped, none_skipped}
-use Rattle.sdd.proofs.Queues.{newest_live, forgot, emptied, emptied_leaves, head3, newest3, live3, settled}
+use Rattle.sdd.proofs.ChainLemmas.{item_shared}
+use Rattle.sdd.proofs.ListHeadLemmas.{took_some, took_nothing, some_skipped, none_skipped}
+use Rattle.sdd.proofs.QueueLemmas.{newest_live, forgot, emptied, emptied_leaves, head3, newest3, live3, settled}
 use Rattle.sdd.proofs.world.queue.pop.Goals as goal
 
 pub forget-requires-clause-last : goal.forget-requires-clause-last

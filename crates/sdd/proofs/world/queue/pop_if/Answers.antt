@@ -5,9 +5,9 @@ use Rattle.sdd_base.specs.State.{status_at}
 use Rattle.sdd_base.specs.declared.status.Status.TheVariants as status
 use Rattle.sdd.specs.Chain.{skip, undeleted, links, slots}
 use Rattle.sdd.specs.Queues.{oldest_cell, newest_cell}
-use Rattle.sdd.proofs.Chains.{leaves_more}
-use Rattle.sdd.proofs.ListHead.{no_first}
-use Rattle.sdd.proofs.Firsts.{undeleted_skip, not_empty}
+use Rattle.sdd.proofs.ChainLemmas.{leaves_more}
+use Rattle.sdd.proofs.ListHeadLemmas.{no_first}
+use Rattle.sdd.proofs.FirstLemmas.{undeleted_skip, not_empty}
 use Rattle.sdd.proofs.world.queue.pop_if.Goals as goal
 
 pub first_undeleted-requires : goal.first_undeleted-requires

@@ -5,8 +5,8 @@ use Rattle.sdd_base.specs.declared.status.Cell.TheVariants as cell
 use Rattle.sdd.specs.Chain.{links, slots, Leaves}
 use Rattle.sdd.specs.Entries.{entry_link}
 use Rattle.sdd.specs.Queues.{oldest_cell, newest_cell, last_slot}
-use Rattle.sdd.proofs.Chains.{cell_left, free_other, wrote_other, leaves_write}
-use Rattle.sdd.proofs.Queues.{newest_live, forgot, emptied_leaves}
+use Rattle.sdd.proofs.ChainLemmas.{cell_left, free_other, wrote_other, leaves_write}
+use Rattle.sdd.proofs.QueueLemmas.{newest_live, forgot, emptied_leaves}
 use Rattle.sdd.proofs.world.queue.retire.Goals as goal
 
 pub forget-requires-clause-last : goal.forget-requires-clause-last

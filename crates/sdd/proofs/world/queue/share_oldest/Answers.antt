@@ -4,10 +4,10 @@ use Rattle.sdd_base.specs.declared.tag.Tag.TheVariants as tag
 use Rattle.sdd.specs.Chain.{skip}
 use Rattle.sdd.specs.Entries.{entry_link}
 use Rattle.sdd.specs.Queues.{oldest_cell, newest_cell}
-use Rattle.sdd.proofs.ListHead.{first_skipped, first_use}
-use Rattle.sdd.proofs.Firsts.{skipped_leaves}
-use Rattle.sdd.proofs.Queues.{skipped_queue, owned_queue, queue_back}
-use Rattle.sdd.proofs.Releases.{more_shared}
+use Rattle.sdd.proofs.ListHeadLemmas.{first_skipped, first_use}
+use Rattle.sdd.proofs.FirstLemmas.{skipped_leaves}
+use Rattle.sdd.proofs.QueueLemmas.{skipped_queue, owned_queue, queue_back}
+use Rattle.sdd.proofs.ReleaseLemmas.{more_shared}
 use Rattle.sdd.proofs.world.queue.share_oldest.Goals as goal
 
 pub share_first-requires : goal.share_first-requires

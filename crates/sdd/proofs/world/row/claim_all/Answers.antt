@@ -7,8 +7,8 @@ use Rattle.sdd_base.specs.declared.tag.Tag.TheVariants as tag
 use Rattle.sdd_base.specs.declared.status.Cell.TheVariants as cell
 use Rattle.sdd.specs.Chain.{Stays}
 use Rattle.sdd.specs.Bags.{AreEmpty, IsClaimed, freed}
-use Rattle.sdd.proofs.Chains.{stays_then, stays_write}
-use Rattle.sdd.proofs.BagInit.{claimed_last, claimed_empty, claimed_freed, claimed_count, none_free}
+use Rattle.sdd.proofs.ChainLemmas.{stays_then, stays_write}
+use Rattle.sdd.proofs.BagInitLemmas.{claimed_last, claimed_empty, claimed_freed, claimed_count, none_free}
 use Rattle.sdd.proofs.world.row.claim_all.Goals as goal
 
 pub end_all-requires : goal.end_all-requires
@@ -43,6 +43,6 @@ loop-made-preserved g c =
       claimed = subst (λ (xs : List (AtomicShared _)). IsClaimed c.args.w.now (map shared_cell xs) c.null.new.w) (sym items) (subst (λ (w : State _). IsClaimed c.args.w.now (map shared_cell (ts ++ t ∷ [])) w) (sym m.1) (claimed_last ts t c.args.w.now c.loop-made.w v.claimed m.0));
       number = let l = length-append ts (t ∷ []) in let o = v.number in omega (arith, size, l, o);
       room = let r = c.keep.ensures.room in let o = v.room in omega (arith, r, o);
-      members = ap (λ (w : State _). w.members) m.1 ∙ v.members;
+      participants = ap (λ (w : State _). w.participants) m.1 ∙ v.participants;
       stays = stays_then _ _ _ v.stays (subst (λ (w : State _). Stays c.loop-made.w w) (sym m.1) (stays_write c.loop-made.w (shared_cell t) (cell.OfShared None tag.None)));
     }

@@ -10,6 +10,6 @@ invariant-loop-made g l = record {
   claimed : IsClaimed l.initial.w (map shared_cell l.cells.items) l.w;
   number : length l.cells.items ≡ l._made;
   room : l.number ≤ vec_capacity l.cells;
-  members : l.w.members ≡ l.initial.w.members;
+  participants : l.w.participants ≡ l.initial.w.participants;
   stays : Stays l.initial.w l.w;
 }

@@ -1,15 +1,15 @@
 use Rattle.std.proofs.Common.{refl, ◌∙◌, arith, length, map, ◌<◌}
 use Rattle.std.proofs.lemmas.List.{length-map}
 use Rattle.sdd_base.specs.Tokens.{shared_cell}
-use Rattle.sdd.proofs.Chains.{stays_then, stays_refl}
-use Rattle.sdd.proofs.Rows.{numbered, emptied_start, emptied_next, emptied_hangs, emptied_all}
+use Rattle.sdd.proofs.ChainLemmas.{stays_then, stays_refl}
+use Rattle.sdd.proofs.RowLemmas.{numbered, emptied_start, emptied_next, emptied_hangs, emptied_all}
 use Rattle.sdd.proofs.world.row.clear_all.Goals as goal
 
 pub loop-at-init : goal.loop-at-init
-loop-at-init g c = record { member = c.requires.member; emptied = λ rows enough row. emptied_start g.L.LinkedList.link _ _ rows row; only = λ k ne. refl; stays = stays_refl _ }
+loop-at-init g c = record { participant = c.requires.participant; emptied = λ rows enough row. emptied_start g.L.LinkedList.link _ _ rows row; only = λ k ne. refl; stays = stays_refl _ }
 
-pub clear-requires-clause-member : goal.clear-requires-clause-member
-clear-requires-clause-member g c = c.loop-at.invariant.member
+pub clear-requires-clause-participant : goal.clear-requires-clause-participant
+clear-requires-clause-participant g c = c.loop-at.invariant.participant
 
 pub clear-requires-clause-list : goal.clear-requires-clause-list
 clear-requires-clause-list g c =
@@ -26,7 +26,7 @@ loop-at-preserved g c =
     let lt : c.loop-at.at < length ts = omega (arith, c.loop-at-test.true, c.len-at-end.ensures) in
     let e = length-map ts shared_cell in
     record {
-      member = let m = c.clear.ensures.stays.members in omega (arith, m, v.member);
+      participant = let m = c.clear.ensures.stays.participants in omega (arith, m, v.participant);
       emptied = λ rows enough row. emptied_next g.L.LinkedList.link _ _ _ (map shared_cell ts) rows c.loop-at.at _ (omega (arith, e, lt)) (omega (arith, e, enough)) (numbered ts c.loop-at.at c.index.result.now lt c.index.ensures) (v.emptied rows enough row) c.clear.ensures.cleared c.clear.ensures.leaves;
       only = λ k ne. c.clear.ensures.only k ne ∙ v.only k ne;
       stays = stays_then _ _ _ v.stays c.clear.ensures.stays;

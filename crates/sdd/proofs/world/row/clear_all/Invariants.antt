@@ -1,15 +1,15 @@
 use Rattle.std.proofs.Common.{List, ◌<◌, ◌≤◌, length, map}
-use Rattle.sdd_base.specs.Frame.{OnlyOf}
+use Rattle.sdd_base.specs.Frame.{OnlyParticipant}
 use Rattle.sdd_base.specs.Tokens.{shared_cell}
 use Rattle.sdd.specs.Chain.{Entry, Stays}
 use Rattle.sdd.specs.Bags.{IsRow}
-use Rattle.sdd.proofs.Rows.{Emptied}
+use Rattle.sdd.proofs.RowLemmas.{Emptied}
 use Rattle.sdd.proofs.world.row.clear_all.Given as goal
 
 abbrev pub invariant-loop-at : goal.invariant-loop-at
 invariant-loop-at g l = record {
-  member : l.p < length l.w.members;
+  participant : l.p < length l.w.participants;
   emptied : (rows : List (List (Entry _))) → length l.cells.items ≤ length rows → IsRow g.L.LinkedList.link l.initial.w (map shared_cell l.cells.items) rows → Emptied g.L.LinkedList.link l.initial.w l.w (map shared_cell l.cells.items) rows l.at;
-  only : OnlyOf l.p l.initial.w l.w;
+  only : OnlyParticipant l.p l.initial.w l.w;
   stays : Stays l.initial.w l.w;
 }

@@ -1,8 +1,8 @@
 use Rattle.std.proofs.Common.{arith, ◌≡◌, ◌<◌, length, map}
 use Rattle.std.proofs.lemmas.List.{length-map}
 use Rattle.sdd_base.specs.Tokens.{shared_cell}
-use Rattle.sdd.proofs.Rows.{numbered}
-use Rattle.sdd.proofs.BagLen.{count_next, count_end, row_hangs}
+use Rattle.sdd.proofs.RowLemmas.{numbered}
+use Rattle.sdd.proofs.BagLenLemmas.{count_next, count_end, row_hangs}
 use Rattle.sdd.proofs.world.row.count_all.Goals as goal
 
 pub count-here-requires : goal.count-here-requires

@@ -4,8 +4,8 @@ use Rattle.sdd_base.specs.State.{State}
 use Rattle.sdd_base.specs.declared.cell.AtomicShared.{AtomicShared}
 use Rattle.sdd_base.specs.declared.tag.Tag.TheVariants as tag
 use Rattle.sdd.specs.Bags.{AreEmpty, freed}
-use Rattle.sdd.proofs.Chains.{stays_then}
-use Rattle.sdd.proofs.Rows.{freed_last, empty_last}
+use Rattle.sdd.proofs.ChainLemmas.{stays_then}
+use Rattle.sdd.proofs.RowLemmas.{freed_last, empty_last}
 use Rattle.sdd.proofs.world.row.end_all.Goals as goal
 
 pub end-requires : goal.end-requires
@@ -21,6 +21,6 @@ loop-cell-preserved g c =
     record {
       empty = subst (λ (w : State _). AreEmpty w (map shared_cell ts)) (sym c.end.ensures.ended) (empty_last ts c.in-Some.cell c.loop-cell.w h).1;
       left = ap (λ (w : State _). freed (map shared_cell ts) w) c.end.ensures.ended ∙ sym (freed_last ts c.in-Some.cell c.loop-cell.w) ∙ ap (λ (xs : List (AtomicShared _)). freed (map shared_cell xs) c.loop-cell.w) (sym c.in-Some.ensures.items) ∙ v.left;
-      members = c.end.ensures.members ∙ v.members;
+      participants = c.end.ensures.participants ∙ v.participants;
       stays = stays_then _ _ _ v.stays c.end.ensures.stays;
     }

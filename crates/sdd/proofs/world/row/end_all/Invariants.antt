@@ -8,7 +8,7 @@ abbrev pub invariant-loop-cell : goal.invariant-loop-cell
 invariant-loop-cell g l = record {
   empty : AreEmpty l.w (map shared_cell l.cells.items);
   left : freed (map shared_cell l.cells.items) l.w ≡ freed (map shared_cell l.initial.cells.items) l.initial.w;
-  members : l.w.members ≡ l.initial.w.members;
+  participants : l.w.participants ≡ l.initial.w.participants;
   stays : Stays l.initial.w l.w;
 }
 

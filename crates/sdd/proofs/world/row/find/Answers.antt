@@ -2,7 +2,7 @@ use Rattle.std.proofs.Common.{ℕ, ◌<◌, arith, subst, sym, inl, inr, not, le
 use Rattle.std.proofs.lemmas.Bool.{cases_eq}
 use Rattle.sdd_base.specs.Place.{IsSharedCell}
 use Rattle.sdd.specs.Bags.{IsNull, cell_of}
-use Rattle.sdd.proofs.Rows.{numbered, null_at, told_not}
+use Rattle.sdd.proofs.RowLemmas.{numbered, null_at, told_not}
 use Rattle.sdd.proofs.world.row.find.Goals as goal
 
 pub is_null-requires : goal.is_null-requires

@@ -1,5 +1,5 @@
 use Rattle.sdd_base.specs.Tokens.{link_cell, shared_cell, shared_slot}
-use Rattle.sdd.proofs.FromIter.{last_hangs, last_leaves, extends_last}
+use Rattle.sdd.proofs.FromIterLemmas.{last_hangs, last_leaves, extends_last}
 use Rattle.sdd.proofs.world.stack.add_last.Goals as goal
 
 pub put_first-requires : goal.put_first-requires

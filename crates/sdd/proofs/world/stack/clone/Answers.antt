@@ -6,10 +6,10 @@ use Rattle.sdd.specs.Chain.{undeleted}
 use Rattle.sdd.specs.Entries.{entry_link, entry_value}
 use Rattle.sdd.specs.Stacks.{stack_cell}
 use Rattle.sdd.specs.FromIter.{FillsStack, Copies, entry_values}
-use Rattle.sdd.proofs.Chains.{stays_then}
-use Rattle.sdd.proofs.ListHead.{still_hung}
-use Rattle.sdd.proofs.Walks.{hung_length}
-use Rattle.sdd.proofs.FromIter.{given, Copying, grown_start, stack_next, stack_same, copy_start, copy_next, copying_now, copied_all, copied_end, stopped_at, copied_kept, memory_not, place_not}
+use Rattle.sdd.proofs.ChainLemmas.{stays_then}
+use Rattle.sdd.proofs.ListHeadLemmas.{still_hung}
+use Rattle.sdd.proofs.WalkLemmas.{hung_length}
+use Rattle.sdd.proofs.FromIterLemmas.{given, Copying, grown_start, stack_next, stack_same, copy_start, copy_next, copying_now, copied_all, copied_end, stopped_at, copied_kept, memory_not, place_not}
 use Rattle.sdd.proofs.world.stack.clone.Goals as goal
 
 pub loop-passed-init : goal.loop-passed-init
@@ -22,7 +22,7 @@ loop-passed-init g c =
         subst (λ (j : ℕ). Copying w es 0 j []) (sym c.of-at.ensures) (copy_start w (stack_cell c.args.stack.now) tag.None es q),
         grown_start w c.new.new.w (stack_cell c.in-Ok.copy) (link_cell c.of-end.result) e.fresh e.made e.leaves e.stays c.of-end.ensures,
       );
-      members = e.members;
+      participants = e.participants;
     }
 
 pub first-requires-clause-list : goal.first-requires-clause-list
@@ -49,7 +49,7 @@ loop-passed-preserved g c =
             copy_next w es c.loop-passed._passed (link_cell c.loop-passed.at) (link_cell next.link) k.0 next.value k.1 x,
             stack_next w w1 c.add_last.new.w (stack_cell c.in-Ok.copy) (link_cell c.loop-passed.end) (link_cell c.add_last.new.end) k.0 next.value k.2 (stays_then _ _ _ k.2.built.stays a.stays) a.added a.leaves,
           );
-      members = a.members ∙ v.members;
+      participants = a.participants ∙ v.participants;
     }
 
 -- a value wasn't cloned
@@ -74,8 +74,8 @@ returns-in_default-clause-kept g c = λ es q. still_hung c.args.w.now c.loop-pas
 pub returns-in_default-clause-leaves : goal.returns-in_default-clause-leaves
 returns-in_default-clause-leaves g c = (c.loop-passed.invariant.copying c.requires.list.entries c.requires.list.is).2.built.leaves
 
-pub returns-in_default-clause-members : goal.returns-in_default-clause-members
-returns-in_default-clause-members g c = c.loop-passed.invariant.members
+pub returns-in_default-clause-participants : goal.returns-in_default-clause-participants
+returns-in_default-clause-participants g c = c.loop-passed.invariant.participants
 
 pub returns-in_default-clause-stays : goal.returns-in_default-clause-stays
 returns-in_default-clause-stays g c = (c.loop-passed.invariant.copying c.requires.list.entries c.requires.list.is).2.built.stays
@@ -95,8 +95,8 @@ returns-in_default-next-clause-kept g c = λ es q. still_hung c.args.w.now c.loo
 pub returns-in_default-next-clause-leaves : goal.returns-in_default-next-clause-leaves
 returns-in_default-next-clause-leaves g c = (c.loop-passed.invariant.copying c.requires.list.entries c.requires.list.is).2.built.leaves
 
-pub returns-in_default-next-clause-members : goal.returns-in_default-next-clause-members
-returns-in_default-next-clause-members g c = c.loop-passed.invariant.members
+pub returns-in_default-next-clause-participants : goal.returns-in_default-next-clause-participants
+returns-in_default-next-clause-participants g c = c.loop-passed.invariant.participants
 
 pub returns-in_default-next-clause-stays : goal.returns-in_default-next-clause-stays
 returns-in_default-next-clause-stays g c = (c.loop-passed.invariant.copying c.requires.list.entries c.requires.list.is).2.built.stays
@@ -128,8 +128,8 @@ returns-in-Err-add_last-clause-leaves g c =
     let k = c.loop-passed.invariant.copying c.requires.list.entries c.requires.list.is in
     (stack_same c.args.w.now c.loop-passed.w c.add_last.new.w (stack_cell c.in-Ok.copy) k.0 c.in-Err-add_last.ensures.refused.1 k.2.built).leaves
 
-pub returns-in-Err-add_last-clause-members : goal.returns-in-Err-add_last-clause-members
-returns-in-Err-add_last-clause-members g c = c.add_last.ensures.members ∙ c.loop-passed.invariant.members
+pub returns-in-Err-add_last-clause-participants : goal.returns-in-Err-add_last-clause-participants
+returns-in-Err-add_last-clause-participants g c = c.add_last.ensures.participants ∙ c.loop-passed.invariant.participants
 
 pub returns-in-Err-add_last-clause-stays : goal.returns-in-Err-add_last-clause-stays
 returns-in-Err-add_last-clause-stays g c =
@@ -151,8 +151,8 @@ returns-clause-kept g c = λ es q. still_hung c.args.w.now c.loop-passed.w (c.lo
 pub returns-clause-leaves : goal.returns-clause-leaves
 returns-clause-leaves g c = (c.loop-passed.invariant.copying c.requires.list.entries c.requires.list.is).2.built.leaves
 
-pub returns-clause-members : goal.returns-clause-members
-returns-clause-members g c = c.loop-passed.invariant.members
+pub returns-clause-participants : goal.returns-clause-participants
+returns-clause-participants g c = c.loop-passed.invariant.participants
 
 pub returns-clause-stays : goal.returns-clause-stays
 returns-clause-stays g c = (c.loop-passed.invariant.copying c.requires.list.entries c.requires.list.is).2.built.stays

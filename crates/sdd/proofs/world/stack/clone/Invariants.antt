@@ -2,11 +2,11 @@ use Rattle.std.proofs.Common.{◌≡◌, List}
 use Rattle.sdd_base.specs.Tokens.{link_cell}
 use Rattle.sdd.specs.Chain.{Entry}
 use Rattle.sdd.specs.Stacks.{IsStack, stack_cell}
-use Rattle.sdd.proofs.FromIter.{GrownStack, Copying}
+use Rattle.sdd.proofs.FromIterLemmas.{GrownStack, Copying}
 use Rattle.sdd.proofs.world.stack.clone.Given as goal
 
 abbrev pub invariant-loop-passed : goal.invariant-loop-passed
 invariant-loop-passed g l = record {
   copying : (es : List (Entry _)) → IsStack l.fn.w (stack_cell l.stack) es → (vs : List _) × Copying l.fn.w es l._passed (link_cell l.at) vs × GrownStack l.fn.w l.w (stack_cell l.copy) (link_cell l.end) vs;
-  members : l.w.members ≡ l.fn.w.members;
+  participants : l.w.participants ≡ l.fn.w.participants;
 }

@@ -1,12 +1,12 @@
 use Rattle.std.proofs.Common.{◌∙◌, ◌⊎◌, Some, sym, subst, reverse}
 use Rattle.sdd_base.specs.State.{State, NoneFree, NoCellFree}
 use Rattle.sdd.specs.Stacks.{stack_cell}
-use Rattle.sdd.proofs.Chains.{stays_then}
-use Rattle.sdd.proofs.FromIter.{stack_start, stack_behind, stack_same}
+use Rattle.sdd.proofs.ChainLemmas.{stays_then}
+use Rattle.sdd.proofs.FromIterLemmas.{stack_start, stack_behind, stack_same}
 use Rattle.sdd.proofs.world.stack.from_iter.Goals as goal
 
 pub loop-value-init : goal.loop-value-init
-loop-value-init g c = let e = c.in-Ok.ensures in record { built = stack_start c.args.w.now c.new.new.w (stack_cell c.in-Ok.stack) e.fresh e.made e.leaves e.stays; members = e.members }
+loop-value-init g c = let e = c.in-Ok.ensures in record { built = stack_start c.args.w.now c.new.new.w (stack_cell c.in-Ok.stack) e.fresh e.made e.leaves e.stays; participants = e.participants }
 
 pub put-requires : goal.put-requires
 put-requires g c = let f = c.loop-value.invariant.built.fills in record { entries = f.entries; is = f.is }
@@ -17,7 +17,7 @@ loop-value-preserved g c =
     let a = c.in-Ok-put.ensures in
     record {
       built = stack_behind c.args.w.now c.loop-value.w c.put.new.w (stack_cell c.in-Ok.stack) c.loop-value.yielded c.in-Some.value v.built (stays_then _ _ _ v.built.stays a.stays) a.put a.leaves;
-      members = a.members ∙ v.members;
+      participants = a.participants ∙ v.participants;
     }
 
 pub returns-in-Err-put-clause-partly : goal.returns-in-Err-put-clause-partly
@@ -34,8 +34,8 @@ returns-in-Err-put-clause-partly g c =
 pub returns-in-Err-put-clause-leaves : goal.returns-in-Err-put-clause-leaves
 returns-in-Err-put-clause-leaves g c = (stack_same c.args.w.now c.loop-value.w c.put.new.w (stack_cell c.in-Ok.stack) (reverse c.loop-value.yielded) c.in-Err-put.ensures.refused.1 c.loop-value.invariant.built).leaves
 
-pub returns-in-Err-put-clause-members : goal.returns-in-Err-put-clause-members
-returns-in-Err-put-clause-members g c = c.put.ensures.members ∙ c.loop-value.invariant.members
+pub returns-in-Err-put-clause-participants : goal.returns-in-Err-put-clause-participants
+returns-in-Err-put-clause-participants g c = c.put.ensures.participants ∙ c.loop-value.invariant.participants
 
 pub returns-in-Err-put-clause-stays : goal.returns-in-Err-put-clause-stays
 returns-in-Err-put-clause-stays g c = (stack_same c.args.w.now c.loop-value.w c.put.new.w (stack_cell c.in-Ok.stack) (reverse c.loop-value.yielded) c.in-Err-put.ensures.refused.1 c.loop-value.invariant.built).stays
@@ -52,8 +52,8 @@ returns-clause-filled g c = (
 pub returns-clause-leaves : goal.returns-clause-leaves
 returns-clause-leaves g c = c.loop-value.invariant.built.leaves
 
-pub returns-clause-members : goal.returns-clause-members
-returns-clause-members g c = c.loop-value.invariant.members
+pub returns-clause-participants : goal.returns-clause-participants
+returns-clause-participants g c = c.loop-value.invariant.participants
 
 pub returns-clause-stays : goal.returns-clause-stays
 returns-clause-stays g c = c.loop-value.invariant.built.stays

@@ -1,10 +1,10 @@
 use Rattle.std.proofs.Common.{◌≡◌, reverse}
 use Rattle.sdd.specs.Stacks.{stack_cell}
-use Rattle.sdd.proofs.FromIter.{BuiltStack}
+use Rattle.sdd.proofs.FromIterLemmas.{BuiltStack}
 use Rattle.sdd.proofs.world.stack.from_iter.Given as goal
 
 abbrev pub invariant-loop-value : goal.invariant-loop-value
 invariant-loop-value g l = record {
   built : BuiltStack l.fn.w l.w (stack_cell l.stack) (reverse l.yielded);
-  members : l.w.members ≡ l.fn.w.members;
+  participants : l.w.participants ≡ l.fn.w.participants;
 }

@@ -5,8 +5,8 @@ use Rattle.sdd_base.specs.declared.tag.Tag.TheVariants as tag
 use Rattle.sdd.specs.Chain.{Entry}
 use Rattle.sdd.specs.Stacks.{IsStack}
 use Rattle.sdd.specs.Entries.{entry_link}
-use Rattle.sdd.proofs.Chains.{item_shared}
-use Rattle.sdd.proofs.ListHead.{can_hang, still_hung, new_fits, put_leaves, same_use}
+use Rattle.sdd.proofs.ChainLemmas.{item_shared}
+use Rattle.sdd.proofs.ListHeadLemmas.{can_hang, still_hung, new_fits, put_leaves, same_use}
 use Rattle.sdd.proofs.world.stack.push.Goals as goal
 
 pub put_first-requires : goal.put_first-requires

@@ -1,4 +1,4 @@
-use Rattle.sdd_base.proofs.Slots.{next_shown, empty_then}
+use Rattle.sdd_base.proofs.SlotLemmas.{next_shown, empty_then}
 use Rattle.sdd_base.proofs.bags.Participant.next.Goals as goal
 
 pub returns-clause-shown : goal.returns-clause-shown

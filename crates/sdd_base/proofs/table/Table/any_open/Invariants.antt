@@ -3,4 +3,4 @@ use Rattle.sdd_base.specs.declared.bags.Participant.{Participant}
 use Rattle.sdd_base.proofs.table.Table.any_open.Given as goal
 
 abbrev pub invariant-loop-m : goal.invariant-loop-m
-invariant-loop-m g l = (k : ℕ) (d : Participant) → k < l.m-index → (get_or l.m-items k d).marks.nesting ≡ 0
+invariant-loop-m g l = (k : ℕ) (d : Participant) → k < l.m-index → (get_or l.m-items k d).local.nesting ≡ 0

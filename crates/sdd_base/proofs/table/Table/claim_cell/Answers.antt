@@ -1,8 +1,8 @@
 use Rattle.std.proofs.Common.{arith, ap, ◌≡◌, ◌<◌, length, subst}
 use Rattle.sdd_base.specs.State.{State, emptiness, cell_at, with_cell}
 use Rattle.sdd_base.specs.declared.status.Cell.TheVariants as cell
-use Rattle.sdd_base.proofs.Lists.{lists_pop}
-use Rattle.sdd_base.proofs.Slots.{cell_invariant, named_cell}
+use Rattle.sdd_base.proofs.ListLemmas.{lists_pop}
+use Rattle.sdd_base.proofs.SlotLemmas.{cell_invariant, named_cell}
 use Rattle.sdd_base.proofs.table.Table.claim_cell.Goals as goal
 
 pub index_mut-requires : goal.index_mut-requires

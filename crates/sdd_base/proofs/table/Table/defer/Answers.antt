@@ -1,7 +1,7 @@
 use Rattle.std.proofs.Common.{◌≡◌, ◌<◌, ◌∙◌, ap, arith, length, length-set, refl, subst}
 use Rattle.sdd_base.specs.State.{State, is_job, status_at, waiting_as, weight}
 use Rattle.sdd_base.specs.declared.status.Status.TheVariants as status
-use Rattle.sdd_base.proofs.Slots.{named_idle, job_room, has_room, known_in, deferred_invariant, deferred_view}
+use Rattle.sdd_base.proofs.SlotLemmas.{named_idle, job_room, has_room, known_in, deferred_invariant, deferred_view}
 use Rattle.sdd_base.proofs.table.Table.defer.Goals as goal
 
 pub index_mut-requires : goal.index_mut-requires
@@ -23,7 +23,7 @@ pub put-requires : goal.put-requires
 put-requires g c =
     let a = c.self.inside in
     let r = named_idle a c.pop.new.self.items c.in-Some.i c.self.invariant c.in-Some.ensures.items in
-    has_room (length a.states.items) _ a.members.items c.in-Some.i c.args.p _ refl c.self.invariant.waits c.self.invariant.room r.0 (ap weight r.1) (known_in a c.args.self.now _ c.self.view_is c.requires) c.index_mut-3.ensures.value
+    has_room (length a.states.items) _ a.participants.items c.in-Some.i c.args.p _ refl c.self.invariant.waits c.self.invariant.room r.0 (ap weight r.1) (known_in a c.args.self.now _ c.self.view_is c.requires) c.index_mut-3.ensures.value
 
 pub invariant_of-self-2 : goal.invariant_of-self-2
 invariant_of-self-2 g c =

@@ -1,5 +1,5 @@
 use Rattle.std.proofs.Common.{◌≡◌, ◌∙◌, ap, sym, get_or, length, None, Option, List, ◌++◌, ◌∷◌, [], is_some, true, false}
-use Rattle.sdd_base.proofs.Slots.{value_there, unused_all, last_value}
+use Rattle.sdd_base.proofs.SlotLemmas.{value_there, unused_all, last_value}
 use Rattle.sdd_base.specs.State.{State, in_use}
 use Rattle.sdd_base.proofs.table.Table.end.Goals as goal
 

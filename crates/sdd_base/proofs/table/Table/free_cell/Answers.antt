@@ -1,8 +1,8 @@
 use Rattle.std.proofs.Common.{refl, arith}
 use Rattle.sdd_base.specs.State.{emptiness}
 use Rattle.sdd_base.specs.declared.status.Cell.TheVariants as cell
-use Rattle.sdd_base.proofs.Lists.{lists_push}
-use Rattle.sdd_base.proofs.Slots.{cell_invariant, cell_in, emptiness_in, stack_room, emptiness-one}
+use Rattle.sdd_base.proofs.ListLemmas.{lists_push}
+use Rattle.sdd_base.proofs.SlotLemmas.{cell_invariant, cell_in, emptiness_in, stack_room, emptiness-one}
 use Rattle.sdd_base.proofs.table.Table.free_cell.Goals as goal
 
 pub keep_name-requires : goal.keep_name-requires

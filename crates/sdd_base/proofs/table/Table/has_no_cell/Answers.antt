@@ -1,8 +1,8 @@
 use Rattle.std.proofs.Common.{subst, ◌≡◌, ◌<◌, length}
 use Rattle.sdd_base.specs.State.{State, cell_at, emptiness}
 use Rattle.sdd_base.specs.declared.status.Cell.TheVariants as cell
-use Rattle.sdd_base.proofs.Lists.{lists_some}
-use Rattle.sdd_base.proofs.Slots.{empty-is, some_left}
+use Rattle.sdd_base.proofs.ListLemmas.{lists_some}
+use Rattle.sdd_base.proofs.SlotLemmas.{empty-is, some_left}
 use Rattle.sdd_base.proofs.table.Table.has_no_cell.Goals as goal
 
 pub returns-clause-free : goal.returns-clause-free

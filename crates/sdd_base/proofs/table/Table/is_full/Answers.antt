@@ -1,8 +1,8 @@
 use Rattle.std.proofs.Common.{subst, ◌≡◌, ◌<◌, length}
 use Rattle.sdd_base.specs.State.{State, status_at, vacancy}
 use Rattle.sdd_base.specs.declared.status.Status.TheVariants as status
-use Rattle.sdd_base.proofs.Lists.{lists_some}
-use Rattle.sdd_base.proofs.Slots.{vacant-is, some_left}
+use Rattle.sdd_base.proofs.ListLemmas.{lists_some}
+use Rattle.sdd_base.proofs.SlotLemmas.{vacant-is, some_left}
 use Rattle.sdd_base.proofs.table.Table.is_full.Goals as goal
 
 pub returns-clause-free : goal.returns-clause-free

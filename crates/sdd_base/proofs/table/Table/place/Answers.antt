@@ -1,7 +1,7 @@
 use Rattle.std.proofs.Common.{arith, ap, sym, ◌∙◌, ◌≡◌, ◌<◌, length, ℕ, subst, is_some, Option, set}
 use Rattle.sdd_base.specs.State.{State, is_used, status_at, placed}
 use Rattle.sdd_base.specs.declared.status.Status.TheVariants as status
-use Rattle.sdd_base.proofs.Slots.{a_value, named_slot, used_room, placed_invariant, within_values}
+use Rattle.sdd_base.proofs.SlotLemmas.{a_value, named_slot, used_room, placed_invariant, within_values}
 use Rattle.sdd_base.specs.View.{state_of}
 use Rattle.sdd_base.specs.declared.status.Status.{Status}
 use Rattle.sdd_base.specs.declared.table.Table.TheInside.{Inside}

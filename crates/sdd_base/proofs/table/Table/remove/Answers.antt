@@ -1,7 +1,7 @@
 use Rattle.std.proofs.Common.{sym, ◌∙◌}
 use Rattle.sdd_base.specs.State.{vacancy}
 use Rattle.sdd_base.specs.declared.status.Status.TheVariants as status
-use Rattle.sdd_base.proofs.Slots.{stack_room, vacancy-one, used-vacancy, slot_in, used_in, weight_in, no_value, removed_invariant}
+use Rattle.sdd_base.proofs.SlotLemmas.{stack_room, vacancy-one, used-vacancy, slot_in, used_in, weight_in, no_value, removed_invariant}
 use Rattle.sdd_base.proofs.table.Table.remove.Goals as goal
 
 pub keep_name-requires : goal.keep_name-requires

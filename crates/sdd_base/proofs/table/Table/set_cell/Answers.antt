@@ -1,8 +1,8 @@
 use Rattle.std.proofs.Common.{sym, ◌∙◌}
 use Rattle.sdd_base.specs.State.{emptiness}
 use Rattle.sdd_base.specs.declared.status.Cell.TheVariants as cell
-use Rattle.sdd_base.proofs.Lists.{lists_same}
-use Rattle.sdd_base.proofs.Slots.{cell_invariant, cell_in, emptiness_in}
+use Rattle.sdd_base.proofs.ListLemmas.{lists_same}
+use Rattle.sdd_base.proofs.SlotLemmas.{cell_invariant, cell_in, emptiness_in}
 use Rattle.sdd_base.proofs.table.Table.set_cell.Goals as goal
 
 pub invariant_of-self : goal.invariant_of-self

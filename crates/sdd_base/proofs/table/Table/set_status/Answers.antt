@@ -1,5 +1,5 @@
 use Rattle.std.proofs.Common.{◌∙◌, sym}
-use Rattle.sdd_base.proofs.Slots.{status_invariant, slot_in, used_in, weight_in}
+use Rattle.sdd_base.proofs.SlotLemmas.{status_invariant, slot_in, used_in, weight_in}
 use Rattle.sdd_base.proofs.table.Table.set_status.Goals as goal
 
 pub invariant_of-self : goal.invariant_of-self

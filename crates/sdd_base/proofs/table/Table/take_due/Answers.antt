@@ -1,48 +1,48 @@
 use Rattle.std.proofs.Common.{length-set, ap, sym, ◌∙◌, arith, ◌≡◌, subst, get_or, Option, ◌-◌, true, false}
 use Rattle.std.proofs.lemmas.List.{get_or_default}
 use Rattle.std.proofs.lemmas.List.Sums.{get_or-le-sum_by}
-use Rattle.sdd_base.specs.State.{State, member_at, Member, vacancy, idleness, usage, is_used, is_job, vacated}
+use Rattle.sdd_base.specs.State.{State, participant_at, ParticipantState, vacancy, idleness, usage, is_used, is_job, vacated}
 use Rattle.sdd_base.specs.declared.status.Status.TheVariants as status
-use Rattle.sdd_base.proofs.Slots.{known_in, same_view, changed_invariant, taken_result, due_in, due_waits, within_values, vacated_invariant, run_invariant, stack_room, vacancy-one, idleness-one, waits_item, waits_job, job_room}
+use Rattle.sdd_base.proofs.SlotLemmas.{known_in, same_view, changed_invariant, taken_result, due_in, due_waits, within_values, vacated_invariant, run_invariant, stack_room, vacancy-one, idleness-one, waits_item, waits_job, job_room}
 use Rattle.sdd_base.proofs.table.Table.take_due.Goals as goal
 
 pub invariant_of-self : goal.invariant_of-self
 invariant_of-self g c =
-    let known = known_in c.self.inside c.args.self.now _ c.self.view_is c.requires.member in
+    let known = known_in c.self.inside c.args.self.now _ c.self.view_is c.requires.participant in
     let even = c.in-None.ensures.waits in
     changed_invariant c.self.inside c.args.p c.index_mut.result.now _ c.self.invariant known c.index_mut.ensures.value (c.next.ensures.room _) (omega (arith, even))
 
 pub returns-in-None : goal.returns-in-None
 returns-in-None g c =
-    let known = known_in c.self.inside c.args.self.now _ c.self.view_is c.requires.member in
+    let known = known_in c.self.inside c.args.self.now _ c.self.view_is c.requires.participant in
     let s = c.in-None.ensures.shown in
     let m = due_in c.self.inside c.args.p c.index_mut.result.now known c.index_mut.ensures.value in
-    (ap (λ (w : State _). (member_at w c.args.p).due) (sym c.self.view_is) ∙ ap (λ (m : Member). m.due) m ∙ s.0, same_view c.self.inside c.args.p c.index_mut.result.now _ known c.index_mut.ensures.value s.1 ∙ c.self.view_is)
+    (ap (λ (w : State _). (participant_at w c.args.p).due) (sym c.self.view_is) ∙ ap (λ (m : ParticipantState). m.due) m ∙ s.0, same_view c.self.inside c.args.p c.index_mut.result.now _ known c.index_mut.ensures.value s.1 ∙ c.self.view_is)
 
 pub index-requires : goal.index-requires
 index-requires g c =
-    let known = known_in c.self.inside c.args.self.now _ c.self.view_is c.requires.member in
+    let known = known_in c.self.inside c.args.self.now _ c.self.view_is c.requires.participant in
     let s = c.in-Some.ensures.shown in
     let d = due_waits c.self.inside c.args.self.now c.args.p c.index_mut.result.now c.in-Some.i s.0 c.self.view_is known c.index_mut.ensures.value s.1 c.requires.waits in
     omega (arith, d.0, c.self.inside.states.ok.0)
 
 pub index_mut-requires-then-has_item : goal.index_mut-requires-then-has_item
 index_mut-requires-then-has_item g c =
-    let known = known_in c.self.inside c.args.self.now _ c.self.view_is c.requires.member in
+    let known = known_in c.self.inside c.args.self.now _ c.self.view_is c.requires.participant in
     let s = c.in-Some.ensures.shown in
     let d = due_waits c.self.inside c.args.self.now c.args.p c.index_mut.result.now c.in-Some.i s.0 c.self.view_is known c.index_mut.ensures.value s.1 c.requires.waits in
     omega (arith, d.0, c.self.inside.states.ok.0)
 
 pub index_mut-requires-in-Some : goal.index_mut-requires-in-Some
 index_mut-requires-in-Some g c =
-    let known = known_in c.self.inside c.args.self.now _ c.self.view_is c.requires.member in
+    let known = known_in c.self.inside c.args.self.now _ c.self.view_is c.requires.participant in
     let s = c.in-Some.ensures.shown in
     let d = due_waits c.self.inside c.args.self.now c.args.p c.index_mut.result.now c.in-Some.i s.0 c.self.view_is known c.index_mut.ensures.value s.1 c.requires.waits in
     omega (arith, d.0, c.self.inside.states.ok.0)
 
 pub overflow_sub-self : goal.overflow_sub-self
 overflow_sub-self g c =
-    let known = known_in c.self.inside c.args.self.now _ c.self.view_is c.requires.member in
+    let known = known_in c.self.inside c.args.self.now _ c.self.view_is c.requires.participant in
     let s = c.in-Some.ensures.shown in
     let d = due_waits c.self.inside c.args.self.now c.args.p c.index_mut.result.now c.in-Some.i s.0 c.self.view_is known c.index_mut.ensures.value s.1 c.requires.waits in
     let at = get_or_default c.self.inside.states.items c.in-Some.i c.index.result.now status.Free d.0 in
@@ -53,7 +53,7 @@ overflow_sub-self g c =
 
 pub keep_name-requires : goal.keep_name-requires
 keep_name-requires g c =
-    let known = known_in c.self.inside c.args.self.now _ c.self.view_is c.requires.member in
+    let known = known_in c.self.inside c.args.self.now _ c.self.view_is c.requires.participant in
     let s = c.in-Some.ensures.shown in
     let d = due_waits c.self.inside c.args.self.now c.args.p c.index_mut.result.now c.in-Some.i s.0 c.self.view_is known c.index_mut.ensures.value s.1 c.requires.waits in
     let at = get_or_default c.self.inside.states.items c.in-Some.i c.index.result.now status.Free d.0 in
@@ -63,14 +63,14 @@ keep_name-requires g c =
 
 pub index_mut-requires-then-has_item-2 : goal.index_mut-requires-then-has_item-2
 index_mut-requires-then-has_item-2 g c =
-    let known = known_in c.self.inside c.args.self.now _ c.self.view_is c.requires.member in
+    let known = known_in c.self.inside c.args.self.now _ c.self.view_is c.requires.participant in
     let s = c.in-Some.ensures.shown in
     let d = due_waits c.self.inside c.args.self.now c.args.p c.index_mut.result.now c.in-Some.i s.0 c.self.view_is known c.index_mut.ensures.value s.1 c.requires.waits in
     within_values c.self.inside c.in-Some.i c.self.invariant d.0
 
 pub invariant_of-self-then-has_item : goal.invariant_of-self-then-has_item
 invariant_of-self-then-has_item g c =
-    let known = known_in c.self.inside c.args.self.now _ c.self.view_is c.requires.member in
+    let known = known_in c.self.inside c.args.self.now _ c.self.view_is c.requires.participant in
     let s = c.in-Some.ensures.shown in
     let d = due_waits c.self.inside c.args.self.now c.args.p c.index_mut.result.now c.in-Some.i s.0 c.self.view_is known c.index_mut.ensures.value s.1 c.requires.waits in
     let at = get_or_default c.self.inside.states.items c.in-Some.i c.index.result.now status.Free d.0 in
@@ -81,7 +81,7 @@ invariant_of-self-then-has_item g c =
 
 pub returns-then-has_item : goal.returns-then-has_item
 returns-then-has_item g c =
-    let known = known_in c.self.inside c.args.self.now _ c.self.view_is c.requires.member in
+    let known = known_in c.self.inside c.args.self.now _ c.self.view_is c.requires.participant in
     let s = c.in-Some.ensures.shown in
     let d = due_waits c.self.inside c.args.self.now c.args.p c.index_mut.result.now c.in-Some.i s.0 c.self.view_is known c.index_mut.ensures.value s.1 c.requires.waits in
     let at = get_or_default c.self.inside.states.items c.in-Some.i c.index.result.now status.Free d.0 in
@@ -92,7 +92,7 @@ returns-then-has_item g c =
 
 pub keep_name-requires-in-Some : goal.keep_name-requires-in-Some
 keep_name-requires-in-Some g c =
-    let known = known_in c.self.inside c.args.self.now _ c.self.view_is c.requires.member in
+    let known = known_in c.self.inside c.args.self.now _ c.self.view_is c.requires.participant in
     let s = c.in-Some.ensures.shown in
     let d = due_waits c.self.inside c.args.self.now c.args.p c.index_mut.result.now c.in-Some.i s.0 c.self.view_is known c.index_mut.ensures.value s.1 c.requires.waits in
     let at = get_or_default c.self.inside.states.items c.in-Some.i c.index.result.now status.Free d.0 in
@@ -102,7 +102,7 @@ keep_name-requires-in-Some g c =
 
 pub overflow_sub-i : goal.overflow_sub-i
 overflow_sub-i g c =
-    let known = known_in c.self.inside c.args.self.now _ c.self.view_is c.requires.member in
+    let known = known_in c.self.inside c.args.self.now _ c.self.view_is c.requires.participant in
     let s = c.in-Some.ensures.shown in
     let d = due_waits c.self.inside c.args.self.now c.args.p c.index_mut.result.now c.in-Some.i s.0 c.self.view_is known c.index_mut.ensures.value s.1 c.requires.waits in
     let at = get_or_default c.self.inside.states.items c.in-Some.i c.index.result.now status.Free d.0 in
@@ -111,7 +111,7 @@ overflow_sub-i g c =
 
 pub index_mut-requires-in-Some-2 : goal.index_mut-requires-in-Some-2
 index_mut-requires-in-Some-2 g c =
-    let known = known_in c.self.inside c.args.self.now _ c.self.view_is c.requires.member in
+    let known = known_in c.self.inside c.args.self.now _ c.self.view_is c.requires.participant in
     let s = c.in-Some.ensures.shown in
     let d = due_waits c.self.inside c.args.self.now c.args.p c.index_mut.result.now c.in-Some.i s.0 c.self.view_is known c.index_mut.ensures.value s.1 c.requires.waits in
     let at = get_or_default c.self.inside.states.items c.in-Some.i c.index.result.now status.Free d.0 in
@@ -120,14 +120,14 @@ index_mut-requires-in-Some-2 g c =
 
 pub index_mut-requires-in-Some-3 : goal.index_mut-requires-in-Some-3
 index_mut-requires-in-Some-3 g c =
-    let known = known_in c.self.inside c.args.self.now _ c.self.view_is c.requires.member in
+    let known = known_in c.self.inside c.args.self.now _ c.self.view_is c.requires.participant in
     let s = c.in-Some.ensures.shown in
     let d = due_waits c.self.inside c.args.self.now c.args.p c.index_mut.result.now c.in-Some.i s.0 c.self.view_is known c.index_mut.ensures.value s.1 c.requires.waits in
     within_values c.self.inside c.in-Some.i c.self.invariant d.0
 
 pub invariant_of-self-in-Some : goal.invariant_of-self-in-Some
 invariant_of-self-in-Some g c =
-    let known = known_in c.self.inside c.args.self.now _ c.self.view_is c.requires.member in
+    let known = known_in c.self.inside c.args.self.now _ c.self.view_is c.requires.participant in
     let s = c.in-Some.ensures.shown in
     let d = due_waits c.self.inside c.args.self.now c.args.p c.index_mut.result.now c.in-Some.i s.0 c.self.view_is known c.index_mut.ensures.value s.1 c.requires.waits in
     let at = get_or_default c.self.inside.states.items c.in-Some.i c.index.result.now status.Free d.0 in
@@ -138,7 +138,7 @@ invariant_of-self-in-Some g c =
 
 pub returns-else-has_item : goal.returns-else-has_item
 returns-else-has_item g c =
-    let known = known_in c.self.inside c.args.self.now _ c.self.view_is c.requires.member in
+    let known = known_in c.self.inside c.args.self.now _ c.self.view_is c.requires.participant in
     let s = c.in-Some.ensures.shown in
     let d = due_waits c.self.inside c.args.self.now c.args.p c.index_mut.result.now c.in-Some.i s.0 c.self.view_is known c.index_mut.ensures.value s.1 c.requires.waits in
     let at = get_or_default c.self.inside.states.items c.in-Some.i c.index.result.now status.Free d.0 in

@@ -1,4 +1,4 @@
-use Rattle.sdd_base.proofs.Slots.{no_value, used_in}
+use Rattle.sdd_base.proofs.SlotLemmas.{no_value, used_in}
 use Rattle.sdd_base.proofs.table.Table.value.Goals as goal
 
 pub unreachable-requires : goal.unreachable-requires

@@ -1,4 +1,4 @@
-use Rattle.sdd_base.proofs.Slots.{some_value, written_invariant, used_in}
+use Rattle.sdd_base.proofs.SlotLemmas.{some_value, written_invariant, used_in}
 use Rattle.sdd_base.proofs.table.TableStore.item_mut.Goals as goal
 
 pub filled-requires : goal.filled-requires

@@ -1,7 +1,7 @@
 use Rattle.std.proofs.Common.{ℕ, sym, subst, Some}
 use Rattle.sdd_base.specs.Place.{IsOwnedCell}
 use Rattle.sdd_base.specs.declared.tag.Tag.TheVariants as tag
-use Rattle.sdd_base.proofs.Frames.{owned_cell_used}
+use Rattle.sdd_base.proofs.FrameLemmas.{owned_cell_used}
 use Rattle.sdd_base.proofs.world.atomic_owned.new.Goals as goal
 
 pub returns-clause-used : goal.returns-clause-used

@@ -1,7 +1,7 @@
 use Rattle.std.proofs.Common.{subst, sym, ◌<◌, length}
 use Rattle.sdd_base.specs.State.{State}
 use Rattle.sdd_base.specs.Tokens.{shared_cell}
-use Rattle.sdd_base.proofs.Frames.{shared_cell_used}
+use Rattle.sdd_base.proofs.FrameLemmas.{shared_cell_used}
 use Rattle.sdd_base.proofs.world.atomic_shared.compare_exchange.Goals as goal
 
 -- an exchange leaves the cell in use

@@ -1,7 +1,7 @@
 use Rattle.std.proofs.Common.{ℕ, sym, subst, Some}
 use Rattle.sdd_base.specs.Place.{IsSharedCell}
 use Rattle.sdd_base.specs.declared.tag.Tag.TheVariants as tag
-use Rattle.sdd_base.proofs.Frames.{shared_cell_used}
+use Rattle.sdd_base.proofs.FrameLemmas.{shared_cell_used}
 use Rattle.sdd_base.proofs.world.atomic_shared.new.Goals as goal
 
 pub returns-clause-used : goal.returns-clause-used

@@ -2,7 +2,7 @@ use Rattle.std.proofs.Common.{subst, sym, ◌<◌, length, arith}
 use Rattle.sdd_base.specs.State.{State}
 use Rattle.sdd_base.specs.Place.{IsOwned}
 use Rattle.sdd_base.specs.Tokens.{owned_slot, participant_of, waiting_in}
-use Rattle.sdd_base.proofs.Privates.{sets_owned_left, clears, keeps_then, only_then, nests_then}
+use Rattle.sdd_base.proofs.PrivateCollectorLemmas.{sets_owned_left, clears, keeps_then, only_then, nests_then}
 use Rattle.sdd_base.proofs.world.private_collector.collect_owned.Goals as goal
 
 pub invariant_of-w : goal.invariant_of-w
@@ -10,7 +10,7 @@ invariant_of-w g c =
     let w = c.w.inside.table in
     let p = participant_of c.args.guard.now in
     let i = owned_slot c.args.owned in
-    let known : p < length w.members = subst (λ (w : State _). p < length w.members) (sym c.w.view_is) c.requires.member in
+    let known : p < length w.participants = subst (λ (w : State _). p < length w.participants) (sym c.w.view_is) c.requires.participant in
     let live : IsOwned w i = subst (λ (w : State _). IsOwned w i) (sym c.w.view_is) c.requires.live in
     let v = clears g.T.Holds.holds p (waiting_in c.args.collector.now) w c.purge.new.table c.w.invariant known c.purge.ensures.state in
     let inside : i < length c.purge.new.table.states = omega (arith, v.places, live.inside) in
@@ -22,7 +22,7 @@ returns-clause-keeps g c =
     let w = c.w.inside.table in
     let p = participant_of c.args.guard.now in
     let i = owned_slot c.args.owned in
-    let known : p < length w.members = subst (λ (w : State _). p < length w.members) (sym c.w.view_is) c.requires.member in
+    let known : p < length w.participants = subst (λ (w : State _). p < length w.participants) (sym c.w.view_is) c.requires.participant in
     let live : IsOwned w i = subst (λ (w : State _). IsOwned w i) (sym c.w.view_is) c.requires.live in
     let v = clears g.T.Holds.holds p (waiting_in c.args.collector.now) w c.purge.new.table c.w.invariant known c.purge.ensures.state in
     let inside : i < length c.purge.new.table.states = omega (arith, v.places, live.inside) in
@@ -34,7 +34,7 @@ returns-clause-only g c =
     let w = c.w.inside.table in
     let p = participant_of c.args.guard.now in
     let i = owned_slot c.args.owned in
-    let known : p < length w.members = subst (λ (w : State _). p < length w.members) (sym c.w.view_is) c.requires.member in
+    let known : p < length w.participants = subst (λ (w : State _). p < length w.participants) (sym c.w.view_is) c.requires.participant in
     let live : IsOwned w i = subst (λ (w : State _). IsOwned w i) (sym c.w.view_is) c.requires.live in
     let v = clears g.T.Holds.holds p (waiting_in c.args.collector.now) w c.purge.new.table c.w.invariant known c.purge.ensures.state in
     let inside : i < length c.purge.new.table.states = omega (arith, v.places, live.inside) in
@@ -46,19 +46,19 @@ returns-clause-nests g c =
     let w = c.w.inside.table in
     let p = participant_of c.args.guard.now in
     let i = owned_slot c.args.owned in
-    let known : p < length w.members = subst (λ (w : State _). p < length w.members) (sym c.w.view_is) c.requires.member in
+    let known : p < length w.participants = subst (λ (w : State _). p < length w.participants) (sym c.w.view_is) c.requires.participant in
     let live : IsOwned w i = subst (λ (w : State _). IsOwned w i) (sym c.w.view_is) c.requires.live in
     let v = clears g.T.Holds.holds p (waiting_in c.args.collector.now) w c.purge.new.table c.w.invariant known c.purge.ensures.state in
     let inside : i < length c.purge.new.table.states = omega (arith, v.places, live.inside) in
     let s = sets_owned_left c.leave_owned-kept.result p _ i c.purge.new.waiting.items c.purge.new.table c.leave_owned-kept.new.table v.place v.known inside c.leave_owned-kept.ensures.owned c.leave_owned-kept.ensures.apart c.leave_owned-kept.ensures.gone in
     nests_then p i _ w _ _ c.w.view_is v s
 
-pub leave_owned-kept-requires-clause-member : goal.leave_owned-kept-requires-clause-member
-leave_owned-kept-requires-clause-member g c =
+pub leave_owned-kept-requires-clause-participant : goal.leave_owned-kept-requires-clause-participant
+leave_owned-kept-requires-clause-participant g c =
     let w = c.w.inside.table in
     let p = participant_of c.args.guard.now in
     let i = owned_slot c.args.owned in
-    let known : p < length w.members = subst (λ (w : State _). p < length w.members) (sym c.w.view_is) c.requires.member in
+    let known : p < length w.participants = subst (λ (w : State _). p < length w.participants) (sym c.w.view_is) c.requires.participant in
     let live : IsOwned w i = subst (λ (w : State _). IsOwned w i) (sym c.w.view_is) c.requires.live in
     let v = clears g.T.Holds.holds p (waiting_in c.args.collector.now) w c.purge.new.table c.w.invariant known c.purge.ensures.state in
     let inside : i < length c.purge.new.table.states = omega (arith, v.places, live.inside) in
@@ -69,7 +69,7 @@ leave_owned-kept-requires-clause-slot g c =
     let w = c.w.inside.table in
     let p = participant_of c.args.guard.now in
     let i = owned_slot c.args.owned in
-    let known : p < length w.members = subst (λ (w : State _). p < length w.members) (sym c.w.view_is) c.requires.member in
+    let known : p < length w.participants = subst (λ (w : State _). p < length w.participants) (sym c.w.view_is) c.requires.participant in
     let live : IsOwned w i = subst (λ (w : State _). IsOwned w i) (sym c.w.view_is) c.requires.live in
     let v = clears g.T.Holds.holds p (waiting_in c.args.collector.now) w c.purge.new.table c.w.invariant known c.purge.ensures.state in
     let inside : i < length c.purge.new.table.states = omega (arith, v.places, live.inside) in

@@ -2,10 +2,10 @@ use Rattle.std.proofs.Common.{subst, sym, ◌<◌, length}
 use Rattle.sdd_base.specs.State.{State}
 use Rattle.sdd_base.specs.Steps.{handed}
 use Rattle.sdd_base.specs.Tokens.{waiting_in}
-use Rattle.sdd_base.proofs.Sounds.{calms}
-use Rattle.sdd_base.proofs.Places.{place_leaves}
-use Rattle.sdd_base.proofs.Frames.{nests_calms, keeps_leaves, kept, only_of, is_place}
-use Rattle.sdd_base.proofs.Privates.{handed_leaves}
+use Rattle.sdd_base.proofs.BagInvariantLemmas.{calms}
+use Rattle.sdd_base.proofs.PlaceLemmas.{place_leaves}
+use Rattle.sdd_base.proofs.FrameLemmas.{nests_calms, keeps_leaves, kept, only_of, is_place}
+use Rattle.sdd_base.proofs.PrivateCollectorLemmas.{handed_leaves}
 use Rattle.sdd_base.proofs.world.private_collector.hand_over.Goals as goal
 
 pub invariant_of-w : goal.invariant_of-w
@@ -13,7 +13,7 @@ invariant_of-w g c =
     let w = c.w.inside.table in
     let p = c.args.p in
     let is = waiting_in c.args.collector in
-    let known : p < length w.members = subst (λ (w : State _). p < length w.members) (sym c.w.view_is) c.requires in
+    let known : p < length w.participants = subst (λ (w : State _). p < length w.participants) (sym c.w.view_is) c.requires in
     is_place _ (handed p is w) c.hand_over.ensures (place_leaves w (handed p is w) p c.w.invariant (handed_leaves p is w c.w.invariant.sound known))
 
 pub returns-clause-keeps : goal.returns-clause-keeps
@@ -21,7 +21,7 @@ returns-clause-keeps g c =
     let w = c.w.inside.table in
     let p = c.args.p in
     let is = waiting_in c.args.collector in
-    let known : p < length w.members = subst (λ (w : State _). p < length w.members) (sym c.w.view_is) c.requires in
+    let known : p < length w.participants = subst (λ (w : State _). p < length w.participants) (sym c.w.view_is) c.requires in
     kept w _ _ (handed p is w) c.w.view_is c.hand_over.ensures (keeps_leaves p w (handed p is w) c.w.invariant.sound (handed_leaves p is w c.w.invariant.sound known))
 
 pub returns-clause-only : goal.returns-clause-only
@@ -29,7 +29,7 @@ returns-clause-only g c =
     let w = c.w.inside.table in
     let p = c.args.p in
     let is = waiting_in c.args.collector in
-    let known : p < length w.members = subst (λ (w : State _). p < length w.members) (sym c.w.view_is) c.requires in
+    let known : p < length w.participants = subst (λ (w : State _). p < length w.participants) (sym c.w.view_is) c.requires in
     only_of p w _ _ (handed p is w) c.w.view_is c.hand_over.ensures (handed_leaves p is w c.w.invariant.sound known).others
 
 pub returns-clause-nests : goal.returns-clause-nests
@@ -37,5 +37,5 @@ returns-clause-nests g c =
     let w = c.w.inside.table in
     let p = c.args.p in
     let is = waiting_in c.args.collector in
-    let known : p < length w.members = subst (λ (w : State _). p < length w.members) (sym c.w.view_is) c.requires in
+    let known : p < length w.participants = subst (λ (w : State _). p < length w.participants) (sym c.w.view_is) c.requires in
     nests_calms p w _ _ (handed p is w) c.w.view_is c.hand_over.ensures (calms p w (handed p is w) (handed_leaves p is w c.w.invariant.sound known))

@@ -1,8 +1,8 @@
 use Rattle.std.proofs.Common.{◌+◌, ℕ, sym, subst}
 use Rattle.sdd_base.specs.Place.{IsShared}
 use Rattle.sdd_base.specs.declared.status.Status.TheVariants as status
-use Rattle.sdd_base.proofs.Frames.{shared_more}
-use Rattle.sdd_base.proofs.Sounds.{inside_by}
+use Rattle.sdd_base.proofs.FrameLemmas.{shared_more}
+use Rattle.sdd_base.proofs.BagInvariantLemmas.{inside_by}
 use Rattle.sdd_base.proofs.world.ptr.add_owner.Goals as goal
 
 pub returns-else-is_last-clause-live : goal.returns-else-is_last-clause-live

@@ -1,6 +1,6 @@
 use Rattle.std.proofs.Common.{ℕ, sym, subst}
 use Rattle.sdd_base.specs.Place.{IsShared}
-use Rattle.sdd_base.proofs.Frames.{shared_placed}
+use Rattle.sdd_base.proofs.FrameLemmas.{shared_placed}
 use Rattle.sdd_base.proofs.world.shared.new.Goals as goal
 
 pub returns-clause-live : goal.returns-clause-live

@@ -1,5 +1,5 @@
 use Rattle.std.proofs.Common.{ℕ, subst, arith}
-use Rattle.tree_index.specs.Walk.{IsSpot}
+use Rattle.tree_index.specs.Walk.{IsPosition}
 use Rattle.tree_index.proofs.WalkLemmas.{leaf_around}
 use Rattle.tree_index.proofs.arenas.Arenas.behind.Goals as goal
 
@@ -18,7 +18,7 @@ returns-in-None-clause-none g c =
 pub returns-in-Some-clause-spot : goal.returns-in-Some-clause-spot
 returns-in-Some-clause-spot g c =
     let first = c.in-Some.first in
-    subst (λ (n : ℕ). IsSpot c.args.self.now (record { leaf = first.leaf; at = first.at; place = n })) c.in-Some.ensures.front c.in-Some.ensures.spot
+    subst (λ (n : ℕ). IsPosition c.args.self.now (record { leaf = first.leaf; at = first.at; place = n })) c.in-Some.ensures.front c.in-Some.ensures.spot
 
 pub returns-in-Some-clause-there : goal.returns-in-Some-clause-there
 returns-in-Some-clause-there g c =

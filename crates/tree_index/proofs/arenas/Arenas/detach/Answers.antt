@@ -1,7 +1,7 @@
 use Rattle.std.proofs.Common.{◌≡◌, Some, sym, arith}
 use Rattle.slab.specs.Slab.{get}
 use Rattle.tree_index.specs.declared.leaf.Leaf.{Leaf}
-use Rattle.tree_index.specs.declared.node.Branches.{Branches}
+use Rattle.tree_index.specs.declared.node.InnerNode.{InnerNode}
 use Rattle.tree_index.proofs.NodeLemmas.{leaf_not_none}
 use Rattle.tree_index.proofs.DetachLemmas.{shed_done, old_node, more, place_is, place_most, gone_counted, done_without, done_sound, done_loose}
 use Rattle.tree_index.proofs.arenas.Arenas.detach.Goals as goal
@@ -47,7 +47,7 @@ shed-requires-clause-node g c =
     let on = c.requires.fork.2 in
     let gone : Leaf g.row.K.Denot g.row.V.Denot = c.in-Some.gone.now in
     let here : get a.leaves leaf ≡ Some gone = sym c.in-Some.ensures in
-    let old : Branches g.row.K.Denot = c.in-Some-get_mut.node.now in
+    let old : InnerNode g.row.K.Denot = c.in-Some-get_mut.node.now in
     let there : get a.nodes f.node ≡ Some old = sym c.in-Some-get_mut.ensures.value in
     old_node cmp o key a s f fork leaf on gone here old there
 
@@ -64,7 +64,7 @@ shed-requires-clause-within g c =
     let on = c.requires.fork.2 in
     let gone : Leaf g.row.K.Denot g.row.V.Denot = c.in-Some.gone.now in
     let here : get a.leaves leaf ≡ Some gone = sym c.in-Some.ensures in
-    let old : Branches g.row.K.Denot = c.in-Some-get_mut.node.now in
+    let old : InnerNode g.row.K.Denot = c.in-Some-get_mut.node.now in
     let there : get a.nodes f.node ≡ Some old = sym c.in-Some-get_mut.ensures.value in
     place_most cmp o key a s f fork leaf on gone here old there
 
@@ -81,9 +81,9 @@ returns-clause-sound g c =
     let on = c.requires.fork.2 in
     let gone : Leaf g.row.K.Denot g.row.V.Denot = c.in-Some.gone.now in
     let here : get a.leaves leaf ≡ Some gone = sym c.in-Some.ensures in
-    let old : Branches g.row.K.Denot = c.in-Some-get_mut.node.now in
+    let old : InnerNode g.row.K.Denot = c.in-Some-get_mut.node.now in
     let there : get a.nodes f.node ≡ Some old = sym c.in-Some-get_mut.ensures.value in
-    let new : Branches g.row.K.Denot = c.shed.new.self in
+    let new : InnerNode g.row.K.Denot = c.shed.new.self in
     let rest = shed_done cmp key old new f.place (place_is cmp o key a s f fork leaf on gone here old there) (more cmp o key a s f fork leaf on gone here old there) c.shed.ensures.inner c.shed.ensures.outer in
     done_sound cmp o key a s f fork leaf on gone here old there new c.shed.ensures.node rest c.join.new.leaves c.join.ensures.arrays c.join.ensures.links c.len.result c.len.ensures.count
 
@@ -100,9 +100,9 @@ returns-clause-without g c =
     let on = c.requires.fork.2 in
     let gone : Leaf g.row.K.Denot g.row.V.Denot = c.in-Some.gone.now in
     let here : get a.leaves leaf ≡ Some gone = sym c.in-Some.ensures in
-    let old : Branches g.row.K.Denot = c.in-Some-get_mut.node.now in
+    let old : InnerNode g.row.K.Denot = c.in-Some-get_mut.node.now in
     let there : get a.nodes f.node ≡ Some old = sym c.in-Some-get_mut.ensures.value in
-    let new : Branches g.row.K.Denot = c.shed.new.self in
+    let new : InnerNode g.row.K.Denot = c.shed.new.self in
     let rest = shed_done cmp key old new f.place (place_is cmp o key a s f fork leaf on gone here old there) (more cmp o key a s f fork leaf on gone here old there) c.shed.ensures.inner c.shed.ensures.outer in
     done_without cmp o key a s f fork leaf on gone here old there new c.shed.ensures.node rest c.join.new.leaves c.join.ensures.arrays c.join.ensures.links c.len.result c.len.ensures.count
 
@@ -119,8 +119,8 @@ returns-clause-loose g c =
     let on = c.requires.fork.2 in
     let gone : Leaf g.row.K.Denot g.row.V.Denot = c.in-Some.gone.now in
     let here : get a.leaves leaf ≡ Some gone = sym c.in-Some.ensures in
-    let old : Branches g.row.K.Denot = c.in-Some-get_mut.node.now in
+    let old : InnerNode g.row.K.Denot = c.in-Some-get_mut.node.now in
     let there : get a.nodes f.node ≡ Some old = sym c.in-Some-get_mut.ensures.value in
-    let new : Branches g.row.K.Denot = c.shed.new.self in
+    let new : InnerNode g.row.K.Denot = c.shed.new.self in
     let rest = shed_done cmp key old new f.place (place_is cmp o key a s f fork leaf on gone here old there) (more cmp o key a s f fork leaf on gone here old there) c.shed.ensures.inner c.shed.ensures.outer in
     done_loose cmp o key a s f fork leaf on gone here old there new c.shed.ensures.node rest c.join.new.leaves c.join.ensures.arrays c.join.ensures.links c.len.result c.len.ensures.count

@@ -2,7 +2,7 @@ use Rattle.std.proofs.Common.{◌≡◌, ◌≤◌, ◌-◌, ℕ, suc, Some, Non
 use Rattle.std.specs.Option.{option_map}
 use Rattle.slab.specs.Slab.{get}
 use Rattle.leaf_array.specs.Cells.{Cells}
-use Rattle.tree_index.specs.declared.node.Branches.{Branches}
+use Rattle.tree_index.specs.declared.node.InnerNode.{InnerNode}
 use Rattle.tree_index.specs.Shape.{Content, IsTree, way}
 use Rattle.tree_index.specs.Content.{content_of}
 use Rattle.tree_index.proofs.WayLemmas.{IsStep, step_down}
@@ -17,7 +17,7 @@ unreachable-requires g c =
     let t = c.loop-height.invariant.tree (omega arith) in
     let deeper : height ≡ suc (height - 1) = omega arith in
     let s = subst (λ (n : ℕ). IsTree g.K.Ord.cmp a n at t.0 t.1) deeper t.2 in
-    let none : a.node at ≡ None = ap (option_map (λ (n : Branches g.row.K.Denot). (n.children, n.last))) (sym (rw c.in-None.is at c.get.ensures)) in
+    let none : a.node at ≡ None = ap (option_map (λ (n : InnerNode g.row.K.Denot). (n.children, n.last))) (sym (rw c.in-None.is at c.get.ensures)) in
     absurd (let e : None ≡ Some s.0 = sym none ∙ s.1 in cc)
 
 pub loop-height-preserved-then-not-is_single : goal.loop-height-preserved-then-not-is_single
@@ -28,12 +28,12 @@ loop-height-preserved-then-not-is_single g c =
     let key = c.args.key.now in
     let h : ℕ = c.loop-height.height - 1 in
     let at = c.loop-height.at in
-    let node : Branches g.row.K.Denot = c.in-Some.node.now in
+    let node : InnerNode g.row.K.Denot = c.in-Some.node.now in
     let t = c.loop-height.invariant.tree (omega arith) in
     let deeper : c.loop-height.height ≡ suc h = omega arith in
     let here : get a.nodes at ≡ Some node = sym c.in-Some.ensures in
     let n : Cells g.row.K.Denot ℕ × ℕ = (node.children, node.last) in
-    let there : b.node at ≡ Some n = ap (option_map (λ (n : Branches g.row.K.Denot). (n.children, n.last))) here in
+    let there : b.node at ≡ Some n = ap (option_map (λ (n : InnerNode g.row.K.Denot). (n.children, n.last))) here in
     let s : IsStep cmp key b h 0 at c.turn-place.result.1 = rw c.turn-place.ensures.child (step_down cmp key b h 0 at n t.0 t.1 (subst (λ (n : ℕ). IsTree cmp b n at t.0 t.1) deeper t.2) there) in
     let within : suc h ≤ a.height = omega (arith, c.loop-height.invariant.within) in
     let on : at ≡ way cmp b key (a.height - suc h) a.root = c.loop-height.invariant.on ∙ ap (λ (m : ℕ). way cmp b key (a.height - m) a.root) deeper in
@@ -52,12 +52,12 @@ loop-height-preserved g c =
     let key = c.args.key.now in
     let h : ℕ = c.loop-height.height - 1 in
     let at = c.loop-height.at in
-    let node : Branches g.row.K.Denot = c.in-Some.node.now in
+    let node : InnerNode g.row.K.Denot = c.in-Some.node.now in
     let t = c.loop-height.invariant.tree (omega arith) in
     let deeper : c.loop-height.height ≡ suc h = omega arith in
     let here : get a.nodes at ≡ Some node = sym c.in-Some.ensures in
     let n : Cells g.row.K.Denot ℕ × ℕ = (node.children, node.last) in
-    let there : b.node at ≡ Some n = ap (option_map (λ (n : Branches g.row.K.Denot). (n.children, n.last))) here in
+    let there : b.node at ≡ Some n = ap (option_map (λ (n : InnerNode g.row.K.Denot). (n.children, n.last))) here in
     let s : IsStep cmp key b h 0 at c.turn-place.result.1 = rw c.turn-place.ensures.child (step_down cmp key b h 0 at n t.0 t.1 (subst (λ (n : ℕ). IsTree cmp b n at t.0 t.1) deeper t.2) there) in
     let within : suc h ≤ a.height = omega (arith, c.loop-height.invariant.within) in
     let on : at ≡ way cmp b key (a.height - suc h) a.root = c.loop-height.invariant.on ∙ ap (λ (m : ℕ). way cmp b key (a.height - m) a.root) deeper in

@@ -1,7 +1,7 @@
 use Rattle.std.proofs.Common.{◌≡◌, ◌-◌, ℕ, suc, Some, None, sym, ap, ◌∙◌, subst, arith}
 use Rattle.std.specs.Option.{option_map}
 use Rattle.leaf_array.specs.Cells.{Cells}
-use Rattle.tree_index.specs.declared.node.Branches.{Branches}
+use Rattle.tree_index.specs.declared.node.InnerNode.{InnerNode}
 use Rattle.tree_index.specs.Shape.{Content, IsTree, leaves_under}
 use Rattle.tree_index.specs.Content.{content_of}
 use Rattle.tree_index.specs.Chain.{first_or}
@@ -16,7 +16,7 @@ loop-height-preserved g c =
     let deeper : c.loop-height.height ≡ suc h = omega arith in
     let t = c.loop-height.invariant.tree in
     let n : Cells g.row.K.Denot ℕ × ℕ = (c.in-Some.node.now.children, c.in-Some.node.now.last) in
-    let here : a.node at ≡ Some n = ap (option_map (λ (n : Branches g.row.K.Denot). (n.children, n.last))) (sym c.in-Some.ensures) in
+    let here : a.node at ≡ Some n = ap (option_map (λ (n : InnerNode g.row.K.Denot). (n.children, n.last))) (sym c.in-Some.ensures) in
     let s : IsEdge g.K.Ord.cmp a (first_or None) h at c.first-at.result = rw c.first-at.ensures (first_step g.K.Ord.cmp a h at n t.0 t.1 (subst (λ (k : ℕ). IsTree g.K.Ord.cmp a k at t.0 t.1) deeper t.2) here) in
     record {
       tree = (s.low, s.high, s.tree);

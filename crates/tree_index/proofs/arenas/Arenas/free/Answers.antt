@@ -1,6 +1,6 @@
 use Rattle.std.proofs.Common.{◌≡◌, ◌-◌, ℕ, suc, sym, ap, ◌∙◌, subst, arith}
 use Rattle.slab.specs.Slab.{get}
-use Rattle.tree_index.specs.declared.node.Branches.{Branches}
+use Rattle.tree_index.specs.declared.node.InnerNode.{InnerNode}
 use Rattle.tree_index.specs.Shape.{leaf_pairs}
 use Rattle.tree_index.specs.Chain.{times}
 use Rattle.tree_index.specs.Content.{leaves_of}
@@ -15,7 +15,7 @@ loop-height-preserved g c =
     let at = c.loop-height.at in
     let height : ℕ = c.loop-height.height - 1 in
     let deeper : c.loop-height.height ≡ suc height = omega arith in
-    let gone : Branches g.row.K.Denot = c.remove.result in
+    let gone : InnerNode g.row.K.Denot = c.remove.result in
     let loose : IsLoose a (suc height) at c.args.leaf = subst (λ (n : ℕ). IsLoose a n at c.args.leaf) deeper i.loose in
     let r = freed g.K.Ord.cmp a i.sound i.loose.planted c.remove.new.self at c.remove.ensures.updates height c.args.leaf gone c.remove.ensures.value loose in
     record {

@@ -214,8 +214,8 @@ returns-in-Some-clause-still g c f r =
     let living : l.array.retired ≡ false = ap (λ (d : Cells g.row.K.Denot g.row.V.Denot). d.retired) (sym kept) ∙ subst (λ (x : Leaf g.row.K.Denot g.row.V.Denot). x.array.retired ≡ false) same r.living in
     roomy l.array.retired l.array.used living (subst (λ (d : Cells g.row.K.Denot g.row.V.Denot). d.used < 15) kept (subst (λ (x : Leaf g.row.K.Denot g.row.V.Denot). x.array.used < 15) same r.room)) closed
 
-pub returns-in-Some-clause-ascents : goal.returns-in-Some-clause-ascents
-returns-in-Some-clause-ascents g c k =
+pub returns-in-Some-clause-ascending_headroom : goal.returns-in-Some-clause-ascending_headroom
+returns-in-Some-clause-ascending_headroom g c k =
     let cmp = g.K.Ord.cmp in
     let o = g.met.K.Ord.total in
     let key = c.args.key in

@@ -1,5 +1,5 @@
 use Rattle.std.proofs.Common.{◌≡◌, ◌∙◌, refl, sym, ap, arith}
-use Rattle.tree_index.specs.declared.node.Branches.{Branches}
+use Rattle.tree_index.specs.declared.node.InnerNode.{InnerNode}
 use Rattle.tree_index.proofs.WayLemmas.{some_same}
 use Rattle.tree_index.proofs.FreeLemmas.{lowered_sound, lowered_pairs, lowered_order}
 use Rattle.tree_index.proofs.arenas.Arenas.lower.Goals as goal
@@ -11,7 +11,7 @@ loop-self-preserved g c =
     let i = c.loop-self.invariant in
     let only = c.loop-self-test.ensures refl in
     let gone : only.root ≡ c.remove.result = some_same (sym only.there ∙ c.remove.ensures.value) in
-    let last = ap (λ (n : Branches g.row.K.Denot). n.last) gone ∙ sym c.into_last-self.ensures in
+    let last = ap (λ (n : InnerNode g.row.K.Denot). n.last) gone ∙ sym c.into_last-self.ensures in
     record {
       sound = lowered_sound cmp a i.sound only c.into_last-self.result last c.remove.new.self c.remove.ensures.updates;
       pairs = lowered_pairs cmp a i.sound only c.into_last-self.result last c.remove.new.self c.remove.ensures.updates ∙ i.pairs;

@@ -3,7 +3,7 @@ use Rattle.std.specs.Option.{option_map}
 use Rattle.leaf_array.specs.Cells.{Cells}
 use Rattle.tree_index.specs.Shape.{Content, IsTree, way}
 use Rattle.tree_index.specs.Content.{content_of}
-use Rattle.tree_index.specs.declared.node.Branches.{Branches}
+use Rattle.tree_index.specs.declared.node.InnerNode.{InnerNode}
 use Rattle.tree_index.proofs.WayLemmas.{IsStep, step_down}
 use Rattle.tree_index.proofs.arenas.Arenas.node_at_counted.Goals as goal
 
@@ -15,7 +15,7 @@ unreachable-requires g c =
     let t = c.loop-height.invariant.tree (omega arith) in
     let deeper : height ≡ suc (height - 1) = omega arith in
     let s = subst (λ (n : ℕ). IsTree g.K.Ord.cmp a n at t.0 t.1) deeper t.2 in
-    let none : a.node at ≡ None = ap (option_map (λ (n : Branches g.row.K.Denot). (n.children, n.last))) (sym (rw c.in-None.is at c.get.ensures)) in
+    let none : a.node at ≡ None = ap (option_map (λ (n : InnerNode g.row.K.Denot). (n.children, n.last))) (sym (rw c.in-None.is at c.get.ensures)) in
     absurd (let e : None ≡ Some s.0 = sym none ∙ s.1 in cc)
 
 pub loop-height-preserved : goal.loop-height-preserved
@@ -30,7 +30,7 @@ loop-height-preserved g c =
     let deeper : c.loop-height.height ≡ suc h = omega arith in
     let steps : c.loop-height.height - left ≡ suc (h - left) = omega arith in
     let n : Cells g.row.K.Denot ℕ × ℕ = (c.in-Some.node.now.children, c.in-Some.node.now.last) in
-    let here : a.node at ≡ Some n = ap (option_map (λ (n : Branches g.row.K.Denot). (n.children, n.last))) (sym c.in-Some.ensures) in
+    let here : a.node at ≡ Some n = ap (option_map (λ (n : InnerNode g.row.K.Denot). (n.children, n.last))) (sym c.in-Some.ensures) in
     let s : IsStep cmp key a h (h - left) at c.child_counted-at.result = rw c.child_counted-at.ensures.child (step_down cmp key a h (h - left) at n t.0 t.1 (subst (λ (n : ℕ). IsTree cmp a n at t.0 t.1) deeper t.2) here) in
     record {
       above = omega arith;

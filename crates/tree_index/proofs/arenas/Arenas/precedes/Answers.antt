@@ -1,5 +1,5 @@
 use Rattle.std.proofs.Common.{◌≡◌, sym, subst}
-use Rattle.tree_index.specs.declared.walk.Spot.{Spot}
+use Rattle.tree_index.specs.declared.walk.Position.{Position}
 use Rattle.tree_index.specs.declared.cursor.End.{End}
 use Rattle.tree_index.specs.declared.cursor.End.TheVariants.{At}
 use Rattle.tree_index.specs.Cursor.{lies_before}
@@ -10,4 +10,4 @@ use Rattle.tree_index.proofs.arenas.Arenas.precedes.Goals as goal
 pub returns-in-At : goal.returns-in-At
 returns-in-At g c =
     let a = c.args.self.now in
-    subst (λ (e : End (Spot g.row.K.Denot g.row.V.Denot)). c.comes_first.result ≡ lies_before (At (position a c.args.spot)) (place_of a e)) (sym c.in-At.is) c.comes_first.ensures
+    subst (λ (e : End (Position g.row.K.Denot g.row.V.Denot)). c.comes_first.result ≡ lies_before (At (position a c.args.spot)) (place_of a e)) (sym c.in-At.is) c.comes_first.ensures

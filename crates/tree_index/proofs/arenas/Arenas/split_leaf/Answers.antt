@@ -1,7 +1,7 @@
 use Rattle.std.proofs.Common.{◌≡◌, Some, sym, ap, ◌∙◌, subst, refl}
 use Rattle.slab.specs.Slab.{get}
 use Rattle.tree_index.specs.declared.leaf.Leaf.{Leaf}
-use Rattle.tree_index.specs.declared.node.Branches.{Branches}
+use Rattle.tree_index.specs.declared.node.InnerNode.{InnerNode}
 use Rattle.tree_index.specs.Cuts.{IsCut}
 use Rattle.tree_index.proofs.WayLemmas.{some_same}
 use Rattle.tree_index.proofs.LeafArenaLemmas.{was_thawed, old_node, absent_above, done_pairs, done_sound, done_room, done_room_kept}
@@ -21,7 +21,7 @@ insert-requires-clause-node g c =
     let here : get a.leaves c.args.child ≡ Some whole = sym c.in-Some.ensures.value in
     let same : c.requires.cut.leaf ≡ whole = some_same (sym c.requires.cut.there ∙ ap (get a.leaves) (sym c.requires.on) ∙ here) in
     let fits : IsCut cmp key whole.array.pairs cut = subst (λ (l : Leaf g.row.K.Denot g.row.V.Denot). IsCut cmp key l.array.pairs cut) same c.requires.cut.fits in
-    let old : Branches g.row.K.Denot = c.in-Some-get_mut.node.now in
+    let old : InnerNode g.row.K.Denot = c.in-Some-get_mut.node.now in
     let there : get a.nodes c.args.above ≡ Some old = sym c.in-Some-get_mut.ensures.value in
     let thawed = was_thawed cmp o key a c.requires.sound c.requires.planted c.args.above c.args.child c.requires.lowest c.requires.on whole upper low here cut fits c.split.ensures.rising in
     old_node cmp o key a c.requires.sound c.requires.planted c.args.above c.args.child c.requires.lowest c.requires.on whole upper low here cut fits c.split.ensures.rising old there
@@ -39,7 +39,7 @@ insert-requires-clause-absent g c =
     let here : get a.leaves c.args.child ≡ Some whole = sym c.in-Some.ensures.value in
     let same : c.requires.cut.leaf ≡ whole = some_same (sym c.requires.cut.there ∙ ap (get a.leaves) (sym c.requires.on) ∙ here) in
     let fits : IsCut cmp key whole.array.pairs cut = subst (λ (l : Leaf g.row.K.Denot g.row.V.Denot). IsCut cmp key l.array.pairs cut) same c.requires.cut.fits in
-    let old : Branches g.row.K.Denot = c.in-Some-get_mut.node.now in
+    let old : InnerNode g.row.K.Denot = c.in-Some-get_mut.node.now in
     let there : get a.nodes c.args.above ≡ Some old = sym c.in-Some-get_mut.ensures.value in
     let thawed = was_thawed cmp o key a c.requires.sound c.requires.planted c.args.above c.args.child c.requires.lowest c.requires.on whole upper low here cut fits c.split.ensures.rising in
     absent_above cmp o key a c.requires.sound c.requires.planted c.args.above c.args.child c.requires.lowest c.requires.on whole upper low here cut fits c.split.ensures.rising old there
@@ -57,7 +57,7 @@ returns-clause-sound g c =
     let here : get a.leaves c.args.child ≡ Some whole = sym c.in-Some.ensures.value in
     let same : c.requires.cut.leaf ≡ whole = some_same (sym c.requires.cut.there ∙ ap (get a.leaves) (sym c.requires.on) ∙ here) in
     let fits : IsCut cmp key whole.array.pairs cut = subst (λ (l : Leaf g.row.K.Denot g.row.V.Denot). IsCut cmp key l.array.pairs cut) same c.requires.cut.fits in
-    let old : Branches g.row.K.Denot = c.in-Some-get_mut.node.now in
+    let old : InnerNode g.row.K.Denot = c.in-Some-get_mut.node.now in
     let there : get a.nodes c.args.above ≡ Some old = sym c.in-Some-get_mut.ensures.value in
     let thawed = was_thawed cmp o key a c.requires.sound c.requires.planted c.args.above c.args.child c.requires.lowest c.requires.on whole upper low here cut fits c.split.ensures.rising in
     done_sound cmp o key a c.requires.sound c.requires.planted c.args.above c.args.child c.requires.lowest c.requires.on whole upper low here cut fits c.split.ensures.rising old there c.split.ensures.lower c.split.ensures.upper c.split.ensures.lower_rising c.split.ensures.upper_rising (c.split.ensures.lower_thawed thawed) (c.split.ensures.upper_thawed thawed) c.split.ensures.lower_living c.split.ensures.upper_living c.split.ensures.lower_used c.split.ensures.upper_used c.insert_reserved-fresh.new.self c.link.new.leaves c.insert_reserved-fresh.result c.insert_reserved-fresh.ensures.updates c.insert_reserved-fresh.ensures.was_vacant c.link.ensures.arrays c.link.ensures.links c.split.ensures.prev c.split.ensures.next refl refl c.insert.new.self c.insert.ensures.node c.insert.ensures.separators c.insert.ensures.last
@@ -75,7 +75,7 @@ returns-clause-pairs g c =
     let here : get a.leaves c.args.child ≡ Some whole = sym c.in-Some.ensures.value in
     let same : c.requires.cut.leaf ≡ whole = some_same (sym c.requires.cut.there ∙ ap (get a.leaves) (sym c.requires.on) ∙ here) in
     let fits : IsCut cmp key whole.array.pairs cut = subst (λ (l : Leaf g.row.K.Denot g.row.V.Denot). IsCut cmp key l.array.pairs cut) same c.requires.cut.fits in
-    let old : Branches g.row.K.Denot = c.in-Some-get_mut.node.now in
+    let old : InnerNode g.row.K.Denot = c.in-Some-get_mut.node.now in
     let there : get a.nodes c.args.above ≡ Some old = sym c.in-Some-get_mut.ensures.value in
     let thawed = was_thawed cmp o key a c.requires.sound c.requires.planted c.args.above c.args.child c.requires.lowest c.requires.on whole upper low here cut fits c.split.ensures.rising in
     done_pairs cmp o key a c.requires.sound c.requires.planted c.args.above c.args.child c.requires.lowest c.requires.on whole upper low here cut fits c.split.ensures.rising old there c.split.ensures.lower c.split.ensures.upper c.split.ensures.lower_rising c.split.ensures.upper_rising (c.split.ensures.lower_thawed thawed) (c.split.ensures.upper_thawed thawed) c.split.ensures.lower_living c.split.ensures.upper_living c.split.ensures.lower_used c.split.ensures.upper_used c.insert_reserved-fresh.new.self c.link.new.leaves c.insert_reserved-fresh.result c.insert_reserved-fresh.ensures.updates c.insert_reserved-fresh.ensures.was_vacant c.link.ensures.arrays c.link.ensures.links c.split.ensures.prev c.split.ensures.next refl refl c.insert.new.self c.insert.ensures.node c.insert.ensures.separators c.insert.ensures.last
@@ -93,7 +93,7 @@ returns-clause-room g c =
     let here : get a.leaves c.args.child ≡ Some whole = sym c.in-Some.ensures.value in
     let same : c.requires.cut.leaf ≡ whole = some_same (sym c.requires.cut.there ∙ ap (get a.leaves) (sym c.requires.on) ∙ here) in
     let fits : IsCut cmp key whole.array.pairs cut = subst (λ (l : Leaf g.row.K.Denot g.row.V.Denot). IsCut cmp key l.array.pairs cut) same c.requires.cut.fits in
-    let old : Branches g.row.K.Denot = c.in-Some-get_mut.node.now in
+    let old : InnerNode g.row.K.Denot = c.in-Some-get_mut.node.now in
     let there : get a.nodes c.args.above ≡ Some old = sym c.in-Some-get_mut.ensures.value in
     let thawed = was_thawed cmp o key a c.requires.sound c.requires.planted c.args.above c.args.child c.requires.lowest c.requires.on whole upper low here cut fits c.split.ensures.rising in
     done_room cmp o key a c.requires.sound c.requires.planted c.args.above c.args.child c.requires.lowest c.requires.on whole upper low here cut fits c.split.ensures.rising old there c.split.ensures.lower c.split.ensures.upper c.split.ensures.lower_rising c.split.ensures.upper_rising (c.split.ensures.lower_thawed thawed) (c.split.ensures.upper_thawed thawed) c.split.ensures.lower_living c.split.ensures.upper_living c.split.ensures.lower_used c.split.ensures.upper_used c.insert_reserved-fresh.new.self c.link.new.leaves c.insert_reserved-fresh.result c.insert_reserved-fresh.ensures.updates c.insert_reserved-fresh.ensures.was_vacant c.link.ensures.arrays c.link.ensures.links c.split.ensures.prev c.split.ensures.next refl refl c.insert.new.self c.insert.ensures.node c.insert.ensures.separators c.insert.ensures.last
@@ -111,7 +111,7 @@ returns-clause-ascending g c over_all crowd some =
     let here : get a.leaves c.args.child ≡ Some whole = sym c.in-Some.ensures.value in
     let same : c.requires.cut.leaf ≡ whole = some_same (sym c.requires.cut.there ∙ ap (get a.leaves) (sym c.requires.on) ∙ here) in
     let fits : IsCut cmp key whole.array.pairs cut = subst (λ (l : Leaf g.row.K.Denot g.row.V.Denot). IsCut cmp key l.array.pairs cut) same c.requires.cut.fits in
-    let old : Branches g.row.K.Denot = c.in-Some-get_mut.node.now in
+    let old : InnerNode g.row.K.Denot = c.in-Some-get_mut.node.now in
     let there : get a.nodes c.args.above ≡ Some old = sym c.in-Some-get_mut.ensures.value in
     let thawed = was_thawed cmp o key a c.requires.sound c.requires.planted c.args.above c.args.child c.requires.lowest c.requires.on whole upper low here cut fits c.split.ensures.rising in
     rises_more a.height _ _ (λ flat room. done_room_kept cmp o key a c.requires.sound c.requires.planted c.args.above c.args.child c.requires.lowest c.requires.on whole upper low here cut fits c.split.ensures.rising old there c.split.ensures.lower c.split.ensures.upper c.split.ensures.lower_rising c.split.ensures.upper_rising (c.split.ensures.lower_thawed thawed) (c.split.ensures.upper_thawed thawed) c.split.ensures.lower_living c.split.ensures.upper_living c.split.ensures.lower_used c.split.ensures.upper_used c.insert_reserved-fresh.new.self c.link.new.leaves c.insert_reserved-fresh.result c.insert_reserved-fresh.ensures.updates c.insert_reserved-fresh.ensures.was_vacant c.link.ensures.arrays c.link.ensures.links c.split.ensures.prev c.split.ensures.next refl refl c.insert.new.self c.insert.ensures.node c.insert.ensures.separators c.insert.ensures.last flat over_all crowd c.split.ensures.upper_clear room) some

@@ -1,6 +1,6 @@
 use Rattle.std.proofs.Common.{◌≡◌, Some, sym, arith}
 use Rattle.slab.specs.Slab.{get}
-use Rattle.tree_index.specs.declared.node.Branches.{Branches}
+use Rattle.tree_index.specs.declared.node.InnerNode.{InnerNode}
 use Rattle.tree_index.proofs.NodeLemmas.{node_is, same_len}
 use Rattle.tree_index.proofs.NodeArenaLemmas.{old_node, absent_above, done_pairs, done_sound, done_way, done_room}
 use Rattle.tree_index.proofs.arenas.Arenas.split_node.Goals as goal
@@ -15,9 +15,9 @@ insert-requires-clause-node g c =
     let o = g.met.K.Ord.total in
     let key = c.args.key.now in
     let a = c.args.self.now in
-    let whole : Branches g.row.K.Denot = c.in-Some.node.now in
+    let whole : InnerNode g.row.K.Denot = c.in-Some.node.now in
     let here : get a.nodes c.node_at-child.result ≡ Some whole = sym c.in-Some.ensures.value in
-    let old : Branches g.row.K.Denot = c.in-Some-get_mut.node.now in
+    let old : InnerNode g.row.K.Denot = c.in-Some-get_mut.node.now in
     let there : get c.insert_reserved-fresh.new.self c.node_at-above.result ≡ Some old = sym c.in-Some-get_mut.ensures.value in
     old_node cmp o key a c.requires.sound c.args.left c.requires.least c.requires.most c.node_at-above.result c.node_at-child.result c.node_at-above.ensures c.node_at-child.ensures whole c.split.new.self c.split.result.1 here c.split.result.0 c.split.ensures.parts c.split.ensures.lower c.split.ensures.upper c.split.ensures.upper_room c.split.ensures.lower_room c.split.ensures.last c.insert_reserved-fresh.new.self c.insert_reserved-fresh.result c.insert_reserved-fresh.ensures.updates c.insert_reserved-fresh.ensures.was_vacant old there
 
@@ -27,9 +27,9 @@ insert-requires-clause-absent g c =
     let o = g.met.K.Ord.total in
     let key = c.args.key.now in
     let a = c.args.self.now in
-    let whole : Branches g.row.K.Denot = c.in-Some.node.now in
+    let whole : InnerNode g.row.K.Denot = c.in-Some.node.now in
     let here : get a.nodes c.node_at-child.result ≡ Some whole = sym c.in-Some.ensures.value in
-    let old : Branches g.row.K.Denot = c.in-Some-get_mut.node.now in
+    let old : InnerNode g.row.K.Denot = c.in-Some-get_mut.node.now in
     let there : get c.insert_reserved-fresh.new.self c.node_at-above.result ≡ Some old = sym c.in-Some-get_mut.ensures.value in
     absent_above cmp o key a c.requires.sound c.args.left c.requires.least c.requires.most c.node_at-above.result c.node_at-child.result c.node_at-above.ensures c.node_at-child.ensures whole c.split.new.self c.split.result.1 here c.split.result.0 c.split.ensures.parts c.split.ensures.lower c.split.ensures.upper c.split.ensures.upper_room c.split.ensures.lower_room c.split.ensures.last c.insert_reserved-fresh.new.self c.insert_reserved-fresh.result c.insert_reserved-fresh.ensures.updates c.insert_reserved-fresh.ensures.was_vacant old there
 
@@ -39,9 +39,9 @@ returns-clause-sound g c =
     let o = g.met.K.Ord.total in
     let key = c.args.key.now in
     let a = c.args.self.now in
-    let whole : Branches g.row.K.Denot = c.in-Some.node.now in
+    let whole : InnerNode g.row.K.Denot = c.in-Some.node.now in
     let here : get a.nodes c.node_at-child.result ≡ Some whole = sym c.in-Some.ensures.value in
-    let old : Branches g.row.K.Denot = c.in-Some-get_mut.node.now in
+    let old : InnerNode g.row.K.Denot = c.in-Some-get_mut.node.now in
     let there : get c.insert_reserved-fresh.new.self c.node_at-above.result ≡ Some old = sym c.in-Some-get_mut.ensures.value in
     let same = same_len c.insert_reserved-fresh.new.self c.node_at-above.result old c.insert.new.self there in
     let first = same_len a.nodes c.node_at-child.result whole c.split.new.self here in
@@ -53,9 +53,9 @@ returns-clause-pairs g c =
     let o = g.met.K.Ord.total in
     let key = c.args.key.now in
     let a = c.args.self.now in
-    let whole : Branches g.row.K.Denot = c.in-Some.node.now in
+    let whole : InnerNode g.row.K.Denot = c.in-Some.node.now in
     let here : get a.nodes c.node_at-child.result ≡ Some whole = sym c.in-Some.ensures.value in
-    let old : Branches g.row.K.Denot = c.in-Some-get_mut.node.now in
+    let old : InnerNode g.row.K.Denot = c.in-Some-get_mut.node.now in
     let there : get c.insert_reserved-fresh.new.self c.node_at-above.result ≡ Some old = sym c.in-Some-get_mut.ensures.value in
     done_pairs cmp o key a c.requires.sound c.args.left c.requires.least c.requires.most c.node_at-above.result c.node_at-child.result c.node_at-above.ensures c.node_at-child.ensures whole c.split.new.self c.split.result.1 here c.split.result.0 c.split.ensures.parts c.split.ensures.lower c.split.ensures.upper c.split.ensures.upper_room c.split.ensures.lower_room c.split.ensures.last c.insert_reserved-fresh.new.self c.insert_reserved-fresh.result c.insert_reserved-fresh.ensures.updates c.insert_reserved-fresh.ensures.was_vacant old there c.insert.new.self c.insert.ensures.node c.insert.ensures.separators c.insert.ensures.last
 
@@ -65,9 +65,9 @@ returns-clause-leaf g c =
     let o = g.met.K.Ord.total in
     let key = c.args.key.now in
     let a = c.args.self.now in
-    let whole : Branches g.row.K.Denot = c.in-Some.node.now in
+    let whole : InnerNode g.row.K.Denot = c.in-Some.node.now in
     let here : get a.nodes c.node_at-child.result ≡ Some whole = sym c.in-Some.ensures.value in
-    let old : Branches g.row.K.Denot = c.in-Some-get_mut.node.now in
+    let old : InnerNode g.row.K.Denot = c.in-Some-get_mut.node.now in
     let there : get c.insert_reserved-fresh.new.self c.node_at-above.result ≡ Some old = sym c.in-Some-get_mut.ensures.value in
     done_way cmp o key a c.requires.sound c.args.left c.requires.least c.requires.most c.node_at-above.result c.node_at-child.result c.node_at-above.ensures c.node_at-child.ensures whole c.split.new.self c.split.result.1 here c.split.result.0 c.split.ensures.parts c.split.ensures.lower c.split.ensures.upper c.split.ensures.upper_room c.split.ensures.lower_room c.split.ensures.last c.insert_reserved-fresh.new.self c.insert_reserved-fresh.result c.insert_reserved-fresh.ensures.updates c.insert_reserved-fresh.ensures.was_vacant old there c.insert.new.self c.insert.ensures.node c.insert.ensures.separators c.insert.ensures.last
 
@@ -77,9 +77,9 @@ returns-clause-node g c =
     let o = g.met.K.Ord.total in
     let key = c.args.key.now in
     let a = c.args.self.now in
-    let whole : Branches g.row.K.Denot = c.in-Some.node.now in
+    let whole : InnerNode g.row.K.Denot = c.in-Some.node.now in
     let here : get a.nodes c.node_at-child.result ≡ Some whole = sym c.in-Some.ensures.value in
-    let old : Branches g.row.K.Denot = c.in-Some-get_mut.node.now in
+    let old : InnerNode g.row.K.Denot = c.in-Some-get_mut.node.now in
     let there : get c.insert_reserved-fresh.new.self c.node_at-above.result ≡ Some old = sym c.in-Some-get_mut.ensures.value in
     done_room cmp o key a c.requires.sound c.args.left c.requires.least c.requires.most c.node_at-above.result c.node_at-child.result c.node_at-above.ensures c.node_at-child.ensures whole c.split.new.self c.split.result.1 here c.split.result.0 c.split.ensures.parts c.split.ensures.lower c.split.ensures.upper c.split.ensures.upper_room c.split.ensures.lower_room c.split.ensures.last c.insert_reserved-fresh.new.self c.insert_reserved-fresh.result c.insert_reserved-fresh.ensures.updates c.insert_reserved-fresh.ensures.was_vacant old there c.insert.new.self c.insert.ensures.node c.insert.ensures.separators c.insert.ensures.last
 
@@ -89,9 +89,9 @@ returns-clause-used g c =
     let o = g.met.K.Ord.total in
     let key = c.args.key.now in
     let a = c.args.self.now in
-    let whole : Branches g.row.K.Denot = c.in-Some.node.now in
+    let whole : InnerNode g.row.K.Denot = c.in-Some.node.now in
     let here : get a.nodes c.node_at-child.result ≡ Some whole = sym c.in-Some.ensures.value in
-    let old : Branches g.row.K.Denot = c.in-Some-get_mut.node.now in
+    let old : InnerNode g.row.K.Denot = c.in-Some-get_mut.node.now in
     let there : get c.insert_reserved-fresh.new.self c.node_at-above.result ≡ Some old = sym c.in-Some-get_mut.ensures.value in
     let same = same_len c.insert_reserved-fresh.new.self c.node_at-above.result old c.insert.new.self there in
     let first = same_len a.nodes c.node_at-child.result whole c.split.new.self here in

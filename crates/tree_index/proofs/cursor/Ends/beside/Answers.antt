@@ -1,5 +1,5 @@
 use Rattle.std.proofs.Common.{◌≡◌, ℕ, sym, subst}
-use Rattle.tree_index.specs.declared.walk.Spot.{Spot}
+use Rattle.tree_index.specs.declared.walk.Position.{Position}
 use Rattle.tree_index.specs.declared.cursor.End.{End}
 use Rattle.tree_index.specs.declared.cursor.End.TheVariants.{At}
 use Rattle.tree_index.specs.Content.{pairs_of}
@@ -17,6 +17,6 @@ returns-in-At-clause-place g c =
     let from : ℕ = position a c.in-At.spot in
     if_both
     c.beside.result
-    (λ n is there lower. subst (λ (e : End (Spot g.row.K.Denot g.row.V.Denot)). ◌≡◌ {A = End ℕ} (At (position a n.0)) (forth cmp lower (pairs_of a) (place_of a e))) (sym c.in-At.is) (forth_next cmp lower (pairs_of a) (position a n.0) (spot_pair cmp a c.requires.sound n.0 is).1 from there))
+    (λ n is there lower. subst (λ (e : End (Position g.row.K.Denot g.row.V.Denot)). ◌≡◌ {A = End ℕ} (At (position a n.0)) (forth cmp lower (pairs_of a) (place_of a e))) (sym c.in-At.is) (forth_next cmp lower (pairs_of a) (position a n.0) (spot_pair cmp a c.requires.sound n.0 is).1 from there))
     c.beside.ensures.spot
     c.beside.ensures.there

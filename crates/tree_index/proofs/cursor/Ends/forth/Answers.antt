@@ -1,7 +1,7 @@
 use Rattle.std.proofs.Common.{◌≡◌, ℕ, sym, subst}
 use Rattle.std.specs.Range.Bound.{bound_map}
 use Rattle.std.specs.Borrow.{Bor}
-use Rattle.tree_index.specs.declared.walk.Spot.{Spot}
+use Rattle.tree_index.specs.declared.walk.Position.{Position}
 use Rattle.tree_index.specs.declared.cursor.End.{End}
 use Rattle.tree_index.specs.declared.cursor.End.TheVariants.{At}
 use Rattle.tree_index.specs.Content.{pairs_of}
@@ -18,7 +18,7 @@ returns-in-Some-clause-place g c =
     let lower = bound_map (λ (k : Bor g.row.K.Denot). k.now) c.args.lower in
     let n : ℕ = position a c.in-Some.spot in
     let within = (spot_pair cmp a c.requires.sound c.in-Some.spot c.in-Some.ensures.spot).1 in
-    subst (λ (e : End (Spot g.row.K.Denot g.row.V.Denot)). ◌≡◌ {A = End ℕ} (At n) (forth cmp lower (pairs_of a) (place_of a e))) (sym c.in-Unopened.is) (forth_first cmp lower (pairs_of a) n within c.in-Some.ensures.there)
+    subst (λ (e : End (Position g.row.K.Denot g.row.V.Denot)). ◌≡◌ {A = End ℕ} (At n) (forth cmp lower (pairs_of a) (place_of a e))) (sym c.in-Unopened.is) (forth_first cmp lower (pairs_of a) n within c.in-Some.ensures.there)
 
 pub returns-in-Some-behind-clause-place : goal.returns-in-Some-behind-clause-place
 returns-in-Some-behind-clause-place g c =
@@ -27,4 +27,4 @@ returns-in-Some-behind-clause-place g c =
     let lower = bound_map (λ (k : Bor g.row.K.Denot). k.now) c.args.lower in
     let n : ℕ = position a c.in-Some-behind.next in
     let within = (spot_pair cmp a c.requires.sound c.in-Some-behind.next c.in-Some-behind.ensures.spot).1 in
-    subst (λ (e : End (Spot g.row.K.Denot g.row.V.Denot)). ◌≡◌ {A = End ℕ} (At n) (forth cmp lower (pairs_of a) (place_of a e))) (sym c.in-At.is) (forth_next cmp lower (pairs_of a) n within (position a c.in-At.spot) c.in-Some-behind.ensures.there)
+    subst (λ (e : End (Position g.row.K.Denot g.row.V.Denot)). ◌≡◌ {A = End ℕ} (At n) (forth cmp lower (pairs_of a) (place_of a e))) (sym c.in-At.is) (forth_next cmp lower (pairs_of a) n within (position a c.in-At.spot) c.in-Some-behind.ensures.there)

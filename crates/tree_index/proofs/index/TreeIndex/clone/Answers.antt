@@ -1,7 +1,7 @@
 use Rattle.std.proofs.Common.{◌≡◌, ◌+◌, ◌++◌, ◌∷◌, [], ℕ, List, length, length-append, take, refl, sym, ap, ◌∙◌, subst, arith}
 use Rattle.tree_index.specs.Content.{pairs_of}
 use Rattle.tree_index.specs.Depth.{IsAbove}
-use Rattle.tree_index.specs.Walk.{position, IsSpot}
+use Rattle.tree_index.specs.Walk.{position, IsPosition}
 use Rattle.tree_index.proofs.WalkLemmas.{if_none, if_some}
 use Rattle.tree_index.proofs.EndLemmas.{spot_pair, rising_of}
 use Rattle.tree_index.proofs.EqualLemmas.{place, IsPlace, place_of_answer, place_is}
@@ -16,13 +16,13 @@ loop-next-init g c =
     record {
       spot = place_is a r c.first_from-next.ensures.spot;
       front = c.in_ok-copy.ensures.empty ∙ sym (ap (λ (n : ℕ). take n (pairs_of a)) start);
-      places = omega (arith, c.in_ok-copy.ensures.ascents);
+      places = omega (arith, c.in_ok-copy.ensures.ascending_headroom);
     }
 
 pub loop-next-smaller : goal.loop-next-smaller
 loop-next-smaller g c =
     let a = c.self.inside.arenas in
-    let spot : IsSpot a c.in-Some.spot = subst (IsPlace a) c.in-Some.is c.loop-next.invariant.spot in
+    let spot : IsPosition a c.in-Some.spot = subst (IsPlace a) c.in-Some.is c.loop-next.invariant.spot in
     let at : place a c.loop-next.next ≡ position a c.in-Some.spot = ap (place a) c.in-Some.is in
     let next = place_of_answer a (position a c.in-Some.spot + 1) c.behind-next.result c.behind-next.ensures.none c.behind-next.ensures.there in
     let within = (spot_pair g.K.Ord.cmp a c.self.invariant c.in-Some.spot spot).1 in
@@ -34,7 +34,7 @@ loop-next-preserved g c =
     let a = c.self.inside.arenas in
     let ps : List (g.row.K.Denot × g.row.V.Denot) = pairs_of a in
     let n : ℕ = position a c.in-Some.spot in
-    let spot : IsSpot a c.in-Some.spot = subst (IsPlace a) c.in-Some.is c.loop-next.invariant.spot in
+    let spot : IsPosition a c.in-Some.spot = subst (IsPlace a) c.in-Some.is c.loop-next.invariant.spot in
     let at : place a c.loop-next.next ≡ n = ap (place a) c.in-Some.is in
     let next = place_of_answer a (n + 1) c.behind-next.result c.behind-next.ensures.none c.behind-next.ensures.there in
     let pair = (spot_pair cmp a c.self.invariant c.in-Some.spot spot).0 ∙ c.pair.ensures in
@@ -57,7 +57,7 @@ push_last-requires-clause-above g c =
     let a = c.self.inside.arenas in
     let ps : List (g.row.K.Denot × g.row.V.Denot) = pairs_of a in
     let n : ℕ = position a c.in-Some.spot in
-    let spot : IsSpot a c.in-Some.spot = subst (IsPlace a) c.in-Some.is c.loop-next.invariant.spot in
+    let spot : IsPosition a c.in-Some.spot = subst (IsPlace a) c.in-Some.is c.loop-next.invariant.spot in
     let at : place a c.loop-next.next ≡ n = ap (place a) c.in-Some.is in
     let pair = (spot_pair cmp a c.self.invariant c.in-Some.spot spot).0 ∙ c.pair.ensures in
     let key = c.requires.keys _ _ c.in_ok-clone.ensures.cases in

@@ -8,7 +8,7 @@ abbrev pub invariant-loop-next : goal.invariant-loop-next
 invariant-loop-next g l = record {
   spot : IsPlace l.self-inside.arenas l.next;
   front : l.copy.pairs ≡ take (place l.self-inside.arenas l.next) (pairs_of l.self-inside.arenas);
-  places : 241 ≤ l.copy.ascents + length l.copy.pairs;
+  places : 241 ≤ l.copy.ascending_headroom + length l.copy.pairs;
 }
 
 abbrev pub decreases-loop-next : goal.decreases-loop-next

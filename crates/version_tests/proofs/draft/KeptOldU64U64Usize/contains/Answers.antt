@@ -5,7 +5,7 @@ use Rattle.std.specs.BTreeMap.{is_at}
 use Rattle.leaf_array.specs.Pairs.{has_key}
 use Rattle.tree_index.specs.declared.index.TreeIndex.{TreeIndex}
 use Rattle.versions.specs.Cuts.{pairs_in}
-use Rattle.versions.proofs.Streams.{drop_out}
+use Rattle.versions.proofs.ChangeScanLemmas.{drop_out}
 use Rattle.version_tests.proofs.draft.KeptOldU64U64Usize.contains.Goals as goal
 
 -- whether a key is there, from one of some trees on

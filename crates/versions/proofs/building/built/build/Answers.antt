@@ -7,8 +7,8 @@ use Rattle.versions.specs.Parts.{blocks_of_parts, made_in, part_pairs}
 use Rattle.versions.specs.Versions.{blocks_of}
 use Rattle.versions.specs.Writes.{after_writes}
 use Rattle.versions.specs.Placing.{Base, named_among}
-use Rattle.versions.proofs.Blocks.{blocks_fit}
-use Rattle.versions.proofs.Olders.{all_takeable, blocks_plain}
+use Rattle.versions.proofs.BlockListLemmas.{blocks_fit}
+use Rattle.versions.proofs.BaseVersionLemmas.{all_takeable, blocks_plain}
 use Rattle.versions.proofs.building.built.build.Goals as goal
 
 pub invariant_of-result : goal.invariant_of-result

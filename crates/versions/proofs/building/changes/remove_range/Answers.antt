@@ -2,12 +2,12 @@ use Rattle.std.proofs.Common.{◌≡◌, ◌++◌, ◌∷◌, [], arith, length,
 use Rattle.std.proofs.lemmas.List.Elements.{All-push}
 use Rattle.std.specs.List.{All}
 use Rattle.std.specs.BTreeMap.Range.{range_contains}
-use Rattle.versions.specs.Changes.{amended}
+use Rattle.versions.specs.Changes.{apply_delta}
 use Rattle.versions.specs.Cuts.{pairs_in}
 use Rattle.versions.specs.Gone.{IsSpan, is_gone, without}
-use Rattle.versions.proofs.Amends.{kept_amended}
-use Rattle.versions.proofs.Filters.{kept, kept_upto, rising_kept}
-use Rattle.versions.proofs.Ranges.{outside, fair_other, fair_range, without_more}
+use Rattle.versions.proofs.DeltaLemmas.{kept_amended}
+use Rattle.versions.proofs.FilterLemmas.{kept, kept_upto, rising_kept}
+use Rattle.versions.proofs.RangeLemmas.{outside, fair_other, fair_range, without_more}
 use Rattle.versions.proofs.building.changes.remove_range.Goals as goal
 
 pub returns-clause-list : goal.returns-clause-list
@@ -17,15 +17,15 @@ returns-clause-list g c =
     let upper = c.args.upper.now in
     let gone = c.args.changes.now.gone.items in
     let edits = c.args.changes.now.edits.pairs in
-    let old = pairs_in (g.O.Old.blocks c.args.old.now) in
+    let old = pairs_in (g.O.BaseVersion.blocks c.args.old.now) in
     let test = λ (y : g.row.K.Denot). range_contains cmp lower upper y in
     let range = c.in_ok-range_of.field-0 in
     let e = c.in_ok-range_of.ensures in
     let left : c.remove_range_sync.new.self.pairs ≡ kept (outside test) edits = c.remove_range_sync.ensures.removed ∙ rw (c.as_ref.ensures, c.as_ref-2.ensures) refl in
     let more : without cmp (gone ++ range ∷ []) old ≡ kept (outside test) (without cmp gone old) = without_more cmp gone range old ∙ (ap (λ l. kept (outside (λ y. range_contains cmp l range.upper y)) (without cmp gone old)) e.lower ∙ ap (λ u. kept (outside (λ y. range_contains cmp lower u y)) (without cmp gone old)) e.upper) in
-    ap (λ cs. amended cmp cs (without cmp c.push.new.self.items old)) left
-    ∙ (ap (λ gs. amended cmp (kept (outside test) edits) (without cmp gs old)) c.in_ok-push.ensures.items
-    ∙ (ap (amended cmp (kept (outside test) edits)) more
+    ap (λ cs. apply_delta cmp cs (without cmp c.push.new.self.items old)) left
+    ∙ (ap (λ gs. apply_delta cmp (kept (outside test) edits) (without cmp gs old)) c.in_ok-push.ensures.items
+    ∙ (ap (apply_delta cmp (kept (outside test) edits)) more
     ∙ sym (kept_amended g.met.K.Ord.total (outside test) (fair_other g.met.K.Ord.total test (fair_range g.met.K.Ord.total lower upper)) edits (without cmp gone old) c.len.ensures.rising (rising_kept cmp (λ k. not (is_gone cmp gone k)) old c.requires.ordered.rising))))
 
 pub returns-clause-few : goal.returns-clause-few
@@ -43,5 +43,5 @@ returns-clause-few g c =
 
 pub returns-clause-spans : goal.returns-clause-spans
 returns-clause-spans g c =
-    let P = IsSpan g.K.Ord.cmp (g.O.Old.blocks c.args.old.now) in
+    let P = IsSpan g.K.Ord.cmp (g.O.BaseVersion.blocks c.args.old.now) in
     subst (All P) (sym c.in_ok-push.ensures.items) (All-push P c.args.changes.now.gone.items c.in_ok-range_of.field-0 c.requires.spans c.in_ok-range_of.ensures.span)

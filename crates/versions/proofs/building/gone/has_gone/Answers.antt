@@ -2,7 +2,7 @@ use Rattle.std.proofs.Common.{◌≡◌, false, sym, ◌∙◌, subst}
 use Rattle.std.proofs.lemmas.Bool.{false≢true}
 use Rattle.tree_index.specs.Shape.{AllKeys}
 use Rattle.versions.specs.Gone.{is_gone}
-use Rattle.versions.proofs.Merging.{head_of, none_of}
+use Rattle.versions.proofs.MergeLemmas.{head_of, none_of}
 use Rattle.versions.proofs.building.gone.has_gone.Goals as goal
 
 pub returns-then-is_gone-clause-some : goal.returns-then-is_gone-clause-some

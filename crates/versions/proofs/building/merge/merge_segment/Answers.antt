@@ -2,20 +2,20 @@ use Rattle.std.proofs.Common.{◌≡◌, ℕ, not, cond, ◌++◌, ◌+◌, ◌�
 use Rattle.std.proofs.lemmas.Bool.{false≢true}
 use Rattle.leaf_array.specs.Pairs.{IsAscending}
 use Rattle.tree_index.proofs.WayLemmas.{some_same}
-use Rattle.versions.specs.Changes.{amended}
+use Rattle.versions.specs.Changes.{apply_delta}
 use Rattle.versions.specs.Cuts.{pairs_in}
 use Rattle.versions.specs.Cutting.{IsReachedBy, given}
-use Rattle.versions.proofs.Merging.{filled_none, filled_then, never_reached}
-use Rattle.versions.proofs.Streams.{block_at}
+use Rattle.versions.proofs.MergeLemmas.{filled_none, filled_then, never_reached}
+use Rattle.versions.proofs.ChangeScanLemmas.{block_at}
 use Rattle.versions.specs.Gone.{is_gone, without}
-use Rattle.versions.proofs.Filters.{on_test, rising_kept}
+use Rattle.versions.proofs.FilterLemmas.{on_test, rising_kept}
 use Rattle.std.proofs.lemmas.List.Elements.{filter-append}
 use Rattle.versions.proofs.building.merge.merge_segment.Goals as goal
 
 pub loop-more-init : goal.loop-more-init
 loop-more-init g c =
     let cmp = g.K.Ord.cmp in
-    let blocks = g.O.Old.blocks c.args.old.now in
+    let blocks = g.O.BaseVersion.blocks c.args.old.now in
     let gone = c.args.gone.now in
     let test = λ (k : g.row.K.Denot). not (is_gone cmp gone k) in
     let rest = without cmp gone (pairs_in (drop (c.args.place + 1) blocks)) in
@@ -24,7 +24,7 @@ loop-more-init g c =
     let block : (b : List (g.row.K.Denot × g.row.V.Denot)) → Some b ≡ _ → without cmp gone b ≡ c.new-pairs.result = λ b e. ap (without cmp gone) (some_same (e ∙ sym c.segment.ensures)) ∙ sym c.new-pairs.ensures in
     record {
       whole = c.requires.whole;
-      list = ap (λ ps. given (g.O.Old.named c.args.old.now) c.args.out.now ++ amended cmp c.args.changes.now ps) whole;
+      list = ap (λ ps. given (g.O.BaseVersion.named c.args.old.now) c.args.out.now ++ apply_delta cmp c.args.changes.now ps) whole;
       sorted = subst (IsAscending cmp) (sym whole) (rising_kept cmp test (pairs_in (drop c.args.place blocks)) c.requires.sorted);
       filled = λ b e. filled_none g.row.S _ _ c.args.out.now (let same = ap length (block b e) in omega (arith, same));
       fewer = omega arith;

@@ -1,7 +1,7 @@
 use Rattle.std.proofs.Common.{◌≡◌, ◌⊎◌, ◌<◌, ◌≤◌, ◌++◌, ◌+◌, cond, false, [], List, Some, drop, length}
 use Rattle.std.specs.Prelude.{slice_get}
 use Rattle.leaf_array.specs.Pairs.{IsAscending}
-use Rattle.versions.specs.Changes.{ahead, amended}
+use Rattle.versions.specs.Changes.{ahead, apply_delta}
 use Rattle.versions.specs.Gone.{without}
 use Rattle.versions.specs.Cuts.{pairs_in}
 use Rattle.versions.specs.Cutting.{IsCutting, IsFilled, IsReachedBy, given}
@@ -11,12 +11,12 @@ use Rattle.versions.proofs.building.merge.merge_segment.Given as goal
 abbrev pub invariant-loop-more : goal.invariant-loop-more
 invariant-loop-more g l =
     let cmp = g.K.Ord.cmp in
-    let named = g.O.Old.named l.old in
-    let blocks = g.O.Old.blocks l.old in
+    let named = g.O.BaseVersion.named l.old in
+    let blocks = g.O.BaseVersion.blocks l.old in
     let rest = without cmp l.gone (pairs_in (drop (l.place + 1) blocks)) in
     record {
       whole : IsCutting named cmp g.row.S blocks l.out;
-      list : given named l.out ++ amended cmp l.changes (l.pairs ++ rest) ≡ given named l.fn.out ++ ahead cmp l.fn.changes l.gone l.place blocks;
+      list : given named l.out ++ apply_delta cmp l.changes (l.pairs ++ rest) ≡ given named l.fn.out ++ ahead cmp l.fn.changes l.gone l.place blocks;
       sorted : IsAscending cmp (l.pairs ++ rest);
       filled : (b : List (g.row.K.Denot × g.row.V.Denot)) → Some b ≡ slice_get blocks l.place → IsFilled g.row.S (length (without cmp l.gone b) + length l.fn.changes) (length l.pairs + length l.changes) l.fn.out l.out;
       fewer : length l.changes ≤ length l.fn.changes;

@@ -1,15 +1,15 @@
 use Rattle.std.proofs.Common.{◌≡◌, ◌*◌, ◌+◌, ◌++◌, Bool, false, not, drop, length, sym, ap, ◌∙◌, subst, arith}
 use Rattle.std.proofs.lemmas.Bool.{false≢true}
 use Rattle.leaf_array.specs.Pairs.{IsAscending}
-use Rattle.versions.specs.Changes.{ahead, amended, named_by}
+use Rattle.versions.specs.Changes.{ahead, apply_delta, named_by}
 use Rattle.versions.specs.Cuts.{pairs_in}
 use Rattle.versions.specs.Cutting.{IsThrifty, given}
 use Rattle.versions.specs.Gone.{is_gone, without}
-use Rattle.versions.proofs.Amends.{rising_amended}
-use Rattle.versions.proofs.Filters.{rising_kept}
-use Rattle.versions.proofs.Gaps.{turns_gone}
-use Rattle.versions.proofs.Merging.{trees_behind}
-use Rattle.versions.proofs.Streams.{drop_out}
+use Rattle.versions.proofs.DeltaLemmas.{rising_amended}
+use Rattle.versions.proofs.FilterLemmas.{rising_kept}
+use Rattle.versions.proofs.GapLemmas.{turns_gone}
+use Rattle.versions.proofs.MergeLemmas.{trees_behind}
+use Rattle.versions.proofs.ChangeScanLemmas.{drop_out}
 use Rattle.versions.proofs.building.merge.merged.Goals as goal
 
 pub loop-place-init : goal.loop-place-init
@@ -18,11 +18,11 @@ loop-place-init g c =
     let left = ap length c.new-left.ensures in
     let none = c.in_ok-out.ensures.none in
     let gone = c.args.changes.now.gone.items in
-    let old = pairs_in (g.O.Old.blocks c.args.old.now) in
+    let old = pairs_in (g.O.BaseVersion.blocks c.args.old.now) in
     let turns' = turns_gone g.met.K.Ord.total gone old c.requires.whole.rising in
     record {
       whole = c.in_ok-out.ensures.whole;
-      list = ap (λ ps. ps ++ amended cmp c.new-left.result (without cmp gone old)) c.in_ok-out.ensures.empty ∙ ap (λ cs. amended cmp cs (without cmp gone old)) c.new-left.ensures;
+      list = ap (λ ps. ps ++ apply_delta cmp c.new-left.result (without cmp gone old)) c.in_ok-out.ensures.empty ∙ ap (λ cs. apply_delta cmp cs (without cmp gone old)) c.new-left.ensures;
       thrifty = (
         false,
         record {
@@ -38,18 +38,18 @@ pub pass-requires-clause-rising : goal.pass-requires-clause-rising
 pass-requires-clause-rising g c =
     let cmp = g.K.Ord.cmp in
     let gone = c.args.changes.now.gone.items in
-    let old = pairs_in (g.O.Old.blocks c.args.old.now) in
+    let old = pairs_in (g.O.BaseVersion.blocks c.args.old.now) in
     let up = rising_amended g.met.K.Ord.total c.args.changes.now.edits.pairs (without cmp gone old) c.len.ensures.rising (rising_kept cmp (λ k. not (is_gone cmp gone k)) old c.requires.whole.rising) in
     let rising = subst (IsAscending cmp) (sym c.loop-place.invariant.list) up in
-    subst (λ gs. IsAscending cmp (given (g.O.Old.named c.args.old.now) c.loop-place.out ++ ahead cmp c.loop-place.left gs c.loop-place.place (g.O.Old.blocks c.args.old.now))) (sym c.deref.ensures.value) rising
+    subst (λ gs. IsAscending cmp (given (g.O.BaseVersion.named c.args.old.now) c.loop-place.out ++ ahead cmp c.loop-place.left gs c.loop-place.place (g.O.BaseVersion.blocks c.args.old.now))) (sym c.deref.ensures.value) rising
 
 pub loop-place-preserved : goal.loop-place-preserved
 loop-place-preserved g c =
     let i = c.loop-place.invariant in
     let e = c.in_ok-pass.ensures in
     let cmp = g.K.Ord.cmp in
-    let named = g.O.Old.named c.args.old.now in
-    let blocks = g.O.Old.blocks c.args.old.now in
+    let named = g.O.BaseVersion.named c.args.old.now in
+    let blocks = g.O.BaseVersion.blocks c.args.old.now in
     let value = c.deref.ensures.value in
     let budget = 2 * named_by c.args.changes.now in
     let place = c.loop-place.place in
@@ -66,23 +66,23 @@ put_all-requires-clause-whole g c = c.loop-place.invariant.whole
 pub put_all-requires-clause-rising : goal.put_all-requires-clause-rising
 put_all-requires-clause-rising g c =
     let cmp = g.K.Ord.cmp in
-    let blocks = g.O.Old.blocks c.args.old.now in
+    let blocks = g.O.BaseVersion.blocks c.args.old.now in
     let gone = c.args.changes.now.gone.items in
     let i = c.loop-place.invariant in
     let none = drop_out c.loop-place.place blocks (omega (arith, i.ends, c.loop-place-test.false)) in
-    let given' = given (g.O.Old.named c.args.old.now) c.loop-place.out in
-    let all = sym (ap (λ bs. given' ++ amended cmp c.loop-place.left (without cmp gone (pairs_in bs))) none) ∙ i.list in
+    let given' = given (g.O.BaseVersion.named c.args.old.now) c.loop-place.out in
+    let all = sym (ap (λ bs. given' ++ apply_delta cmp c.loop-place.left (without cmp gone (pairs_in bs))) none) ∙ i.list in
     let up = rising_amended g.met.K.Ord.total c.args.changes.now.edits.pairs (without cmp gone (pairs_in blocks)) c.len.ensures.rising (rising_kept cmp (λ k. not (is_gone cmp gone k)) (pairs_in blocks) c.requires.whole.rising) in
     subst (IsAscending cmp) (sym all) up
 
 pub returns-clause-list : goal.returns-clause-list
 returns-clause-list g c =
     let cmp = g.K.Ord.cmp in
-    let blocks = g.O.Old.blocks c.args.old.now in
+    let blocks = g.O.BaseVersion.blocks c.args.old.now in
     let i = c.loop-place.invariant in
     let none = drop_out c.loop-place.place blocks (omega (arith, i.ends, c.loop-place-test.false)) in
-    let given' = given (g.O.Old.named c.args.old.now) c.loop-place.out in
-    let all = sym (ap (λ bs. given' ++ amended cmp c.loop-place.left (without cmp c.args.changes.now.gone.items (pairs_in bs))) none) ∙ i.list in
+    let given' = given (g.O.BaseVersion.named c.args.old.now) c.loop-place.out in
+    let all = sym (ap (λ bs. given' ++ apply_delta cmp c.loop-place.left (without cmp c.args.changes.now.gone.items (pairs_in bs))) none) ∙ i.list in
     c.in_ok-segments.ensures.list ∙ (c.in_ok-put_all.ensures.list ∙ all)
 
 pub returns-clause-few : goal.returns-clause-few

@@ -9,8 +9,8 @@ use Rattle.versions.proofs.building.merge.merged.Given as goal
 abbrev pub invariant-loop-place : goal.invariant-loop-place
 invariant-loop-place g l =
     let cmp = g.K.Ord.cmp in
-    let named = g.O.Old.named l.old in
-    let blocks = g.O.Old.blocks l.old in
+    let named = g.O.BaseVersion.named l.old in
+    let blocks = g.O.BaseVersion.blocks l.old in
     let gone = l.changes.gone.items in
     record {
       whole : IsCutting named cmp g.row.S blocks l.out;

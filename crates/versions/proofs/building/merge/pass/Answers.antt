@@ -2,17 +2,17 @@ use Rattle.std.proofs.Common.{◌≡◌, ◌++◌, ◌+◌, ◌≤◌, true, fal
 use Rattle.std.proofs.lemmas.Bool.{false≢true, cases_lt}
 use Rattle.std.proofs.lemmas.Bool.Decides.{eqb_tells}
 use Rattle.tree_index.specs.Shape.{AllKeys}
-use Rattle.versions.specs.Changes.{ahead, amended}
+use Rattle.versions.specs.Changes.{ahead, apply_delta}
 use Rattle.versions.specs.Cuts.{pairs_in}
 use Rattle.versions.specs.Cutting.{IsReachedBy, IsSized, Joins, given, turns}
 use Rattle.versions.specs.Gone.{is_gone, without}
-use Rattle.versions.proofs.Amends.{amended_passed}
-use Rattle.versions.proofs.Filters.{kept_upto, on_test}
-use Rattle.versions.proofs.Gaps.{all_alike, alike_turns, last_answer, turns_both}
-use Rattle.versions.proofs.Merging.{all_slice, first_behind, pairs_behind_rise, rising_part, taken, thrifty_joined, thrifty_none, thrifty_paid, thrifty_passed, tight_at}
-use Rattle.versions.proofs.Ranges.{without_all, without_any, without_apart, without_covered}
-use Rattle.versions.proofs.Seeking.{get_some}
-use Rattle.versions.proofs.Streams.{block_at}
+use Rattle.versions.proofs.DeltaLemmas.{amended_passed}
+use Rattle.versions.proofs.FilterLemmas.{kept_upto, on_test}
+use Rattle.versions.proofs.GapLemmas.{all_alike, alike_turns, last_answer, turns_both}
+use Rattle.versions.proofs.MergeLemmas.{all_slice, first_behind, pairs_behind_rise, rising_part, taken, thrifty_joined, thrifty_none, thrifty_paid, thrifty_passed, tight_at}
+use Rattle.versions.proofs.RangeLemmas.{without_all, without_any, without_apart, without_covered}
+use Rattle.versions.proofs.SeparatorSearchLemmas.{get_some}
+use Rattle.versions.proofs.ChangeScanLemmas.{block_at}
 use Rattle.versions.proofs.building.merge.pass.Goals as goal
 
 -- ---- one that is covered
@@ -20,16 +20,16 @@ use Rattle.versions.proofs.building.merge.pass.Goals as goal
 pub returns-then-covers-clause-list : goal.returns-then-covers-clause-list
 returns-then-covers-clause-list g c =
     let cmp = g.K.Ord.cmp in
-    let blocks = g.O.Old.blocks c.args.old.now in
+    let blocks = g.O.BaseVersion.blocks c.args.old.now in
     let gone = c.args.gone.now in
     let b = get_some blocks c.args.place c.requires.within in
     let none : without cmp gone (pairs_in (drop c.args.place blocks)) ≡ without cmp gone (pairs_in (drop (c.args.place + 1) blocks)) = ap (without cmp gone) (block_at c.args.place blocks b.0 (sym b.1)) ∙ without_covered cmp gone b.0 (pairs_in (drop (c.args.place + 1) blocks)) (c.if-covers.ensures refl b.0 b.1) in
-    ap (λ ps. given (g.O.Old.named c.args.old.now) c.args.out.now ++ amended cmp c.args.changes.now ps) (sym none)
+    ap (λ ps. given (g.O.BaseVersion.named c.args.old.now) c.args.out.now ++ apply_delta cmp c.args.changes.now ps) (sym none)
 
 pub returns-then-covers-clause-thrifty : goal.returns-then-covers-clause-thrifty
 returns-then-covers-clause-thrifty g c = λ budget last t.
     let cmp = g.K.Ord.cmp in
-    let blocks = g.O.Old.blocks c.args.old.now in
+    let blocks = g.O.BaseVersion.blocks c.args.old.now in
     let gone = c.args.gone.now in
     let b = get_some blocks c.args.place c.requires.within in
     let sized = all_slice (IsSized g.row.S) blocks c.args.place b.0 c.requires.old.sizes b.1 in
@@ -39,15 +39,15 @@ returns-then-covers-clause-thrifty g c = λ budget last t.
 -- ---- one that is merged
 
 pub merge_segment-requires-clause-sorted : goal.merge_segment-requires-clause-sorted
-merge_segment-requires-clause-sorted g c = pairs_behind_rise g.K.Ord.cmp c.args.place (g.O.Old.blocks c.args.old.now) c.requires.old.rising
+merge_segment-requires-clause-sorted g c = pairs_behind_rise g.K.Ord.cmp c.args.place (g.O.BaseVersion.blocks c.args.old.now) c.requires.old.rising
 
 pub merge_segment-requires-then-joins-clause-sorted : goal.merge_segment-requires-then-joins-clause-sorted
-merge_segment-requires-then-joins-clause-sorted g c = pairs_behind_rise g.K.Ord.cmp c.args.place (g.O.Old.blocks c.args.old.now) c.requires.old.rising
+merge_segment-requires-then-joins-clause-sorted g c = pairs_behind_rise g.K.Ord.cmp c.args.place (g.O.BaseVersion.blocks c.args.old.now) c.requires.old.rising
 
 pub returns-then-touches-clause-thrifty : goal.returns-then-touches-clause-thrifty
 returns-then-touches-clause-thrifty g c = λ budget last t.
     let cmp = g.K.Ord.cmp in
-    let blocks = g.O.Old.blocks c.args.old.now in
+    let blocks = g.O.BaseVersion.blocks c.args.old.now in
     let gone = c.args.gone.now in
     let test = is_gone cmp gone in
     let found = get_some blocks c.args.place c.requires.within in
@@ -91,7 +91,7 @@ returns-then-touches-clause-thrifty g c = λ budget last t.
 pub returns-then-joins-clause-thrifty : goal.returns-then-joins-clause-thrifty
 returns-then-joins-clause-thrifty g c = λ budget last t.
     let cmp = g.K.Ord.cmp in
-    let blocks = g.O.Old.blocks c.args.old.now in
+    let blocks = g.O.BaseVersion.blocks c.args.old.now in
     let gone = c.args.gone.now in
     let test = is_gone cmp gone in
     let b = c.segment.result.now.pairs in
@@ -113,7 +113,7 @@ returns-then-joins-clause-thrifty g c = λ budget last t.
 pub take-requires-clause-apart : goal.take-requires-clause-apart
 take-requires-clause-apart g c =
     let cmp = g.K.Ord.cmp in
-    let blocks = g.O.Old.blocks c.args.old.now in
+    let blocks = g.O.BaseVersion.blocks c.args.old.now in
     let gone = c.args.gone.now in
     let b = c.segment.result.now.pairs in
     let seg = c.segment.ensures in
@@ -121,14 +121,14 @@ take-requires-clause-apart g c =
     let rest = without cmp gone (pairs_in (drop (c.args.place + 1) blocks)) in
     let cs = c.args.changes.now in
     let out = c.args.out.now in
-    let split : ahead cmp cs gone c.args.place blocks ≡ b ++ amended cmp cs rest = ap (λ ps. amended cmp cs (without cmp gone ps)) (block_at c.args.place blocks b seg) ∙ (ap (amended cmp cs) (without_apart cmp gone b (pairs_in (drop (c.args.place + 1) blocks)) passed.1) ∙ amended_passed g.met.K.Ord.total cs b rest passed.0) in
+    let split : ahead cmp cs gone c.args.place blocks ≡ b ++ apply_delta cmp cs rest = ap (λ ps. apply_delta cmp cs (without cmp gone ps)) (block_at c.args.place blocks b seg) ∙ (ap (apply_delta cmp cs) (without_apart cmp gone b (pairs_in (drop (c.args.place + 1) blocks)) passed.1) ∙ amended_passed g.met.K.Ord.total cs b rest passed.0) in
     let size = c.len.ensures.count in
     let not_joined : Joins g.row.S (length b) out → ⊥ = λ j. false≢true (c.if-joins.ensures.1 (subst (λ n. Joins g.row.S n out) (sym size) j)) in
     record {
       block = b;
       there = sym seg;
       sized = all_slice (IsSized g.row.S) blocks c.args.place b c.requires.old.sizes (sym seg);
-      rising = rising_part cmp (given (g.O.Old.named c.args.old.now) out) b (amended cmp cs rest) (ahead cmp cs gone c.args.place blocks) split c.requires.rising;
+      rising = rising_part cmp (given (g.O.BaseVersion.named c.args.old.now) out) b (apply_delta cmp cs rest) (ahead cmp cs gone c.args.place blocks) split c.requires.rising;
       closed = λ z some. elim (cases_lt g.row.S (out.row.last + length b)) [
         | inl more ↦ more
         | inr fits ↦ absurd (not_joined (inl (z, some, fits)))
@@ -142,21 +142,21 @@ take-requires-clause-apart g c =
 pub returns-clause-list : goal.returns-clause-list
 returns-clause-list g c =
     let cmp = g.K.Ord.cmp in
-    let blocks = g.O.Old.blocks c.args.old.now in
-    let named = g.O.Old.named c.args.old.now in
+    let blocks = g.O.BaseVersion.blocks c.args.old.now in
+    let named = g.O.BaseVersion.named c.args.old.now in
     let gone = c.args.gone.now in
     let b = c.segment.result.now.pairs in
     let seg = c.segment.ensures in
     let passed = c.if-touches.ensures.passed refl b seg in
     let rest = without cmp gone (pairs_in (drop (c.args.place + 1) blocks)) in
     let cs = c.args.changes.now in
-    let split : ahead cmp cs gone c.args.place blocks ≡ b ++ amended cmp cs rest = ap (λ ps. amended cmp cs (without cmp gone ps)) (block_at c.args.place blocks b seg) ∙ (ap (amended cmp cs) (without_apart cmp gone b (pairs_in (drop (c.args.place + 1) blocks)) passed.1) ∙ amended_passed g.met.K.Ord.total cs b rest passed.0) in
-    taken (given named c.args.out.now) (given named c.take.new.out) b (amended cmp cs rest) (ahead cmp cs gone c.args.place blocks) (c.in_ok-take.ensures.pairs b (sym seg)) split
+    let split : ahead cmp cs gone c.args.place blocks ≡ b ++ apply_delta cmp cs rest = ap (λ ps. apply_delta cmp cs (without cmp gone ps)) (block_at c.args.place blocks b seg) ∙ (ap (apply_delta cmp cs) (without_apart cmp gone b (pairs_in (drop (c.args.place + 1) blocks)) passed.1) ∙ amended_passed g.met.K.Ord.total cs b rest passed.0) in
+    taken (given named c.args.out.now) (given named c.take.new.out) b (apply_delta cmp cs rest) (ahead cmp cs gone c.args.place blocks) (c.in_ok-take.ensures.pairs b (sym seg)) split
 
 pub returns-clause-thrifty : goal.returns-clause-thrifty
 returns-clause-thrifty g c = λ budget last t.
     let cmp = g.K.Ord.cmp in
-    let blocks = g.O.Old.blocks c.args.old.now in
+    let blocks = g.O.BaseVersion.blocks c.args.old.now in
     let test = is_gone cmp c.args.gone.now in
     let b = c.segment.result.now.pairs in
     let seg = c.segment.ensures in

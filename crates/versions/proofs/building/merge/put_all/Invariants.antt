@@ -1,5 +1,5 @@
 use Rattle.std.proofs.Common.{◌≡◌, ◌++◌, [], length}
-use Rattle.versions.specs.Changes.{amended}
+use Rattle.versions.specs.Changes.{apply_delta}
 use Rattle.versions.specs.Cutting.{IsCutting, IsFilled, given}
 use Rattle.versions.proofs.building.merge.put_all.Given as goal
 
@@ -7,10 +7,10 @@ use Rattle.versions.proofs.building.merge.put_all.Given as goal
 abbrev pub invariant-loop-changed : goal.invariant-loop-changed
 invariant-loop-changed g l =
     let cmp = g.K.Ord.cmp in
-    let named = g.O.Old.named l.old in
+    let named = g.O.BaseVersion.named l.old in
     record {
-      whole : IsCutting named cmp g.row.S (g.O.Old.blocks l.old) l.out;
-      list : given named l.out ++ amended cmp l.changes [] ≡ given named l.fn.out ++ amended cmp l.fn.changes [];
+      whole : IsCutting named cmp g.row.S (g.O.BaseVersion.blocks l.old) l.out;
+      list : given named l.out ++ apply_delta cmp l.changes [] ≡ given named l.fn.out ++ apply_delta cmp l.fn.changes [];
       filled : IsFilled g.row.S (length l.fn.changes) (length l.changes) l.fn.out l.out;
     }
 

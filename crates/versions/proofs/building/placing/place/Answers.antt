@@ -3,8 +3,8 @@ use Rattle.sdd_base.specs.Tokens.{shared_slot}
 use Rattle.sdd_base.specs.State.{value_at}
 use Rattle.versions.specs.Parts.{made_in}
 use Rattle.versions.specs.Placing.{IsPlaceable, Places, Plan}
-use Rattle.versions.proofs.Placings.{no_vacancy, places_directory}
-use Rattle.versions.proofs.Taking.{taken_once}
+use Rattle.versions.proofs.PlacingLemmas.{no_vacancy, places_directory}
+use Rattle.versions.proofs.TakingLemmas.{taken_once}
 use Rattle.versions.proofs.building.placing.place.Goals as goal
 
 pub place_parts-segments-requires : goal.place_parts-segments-requires

@@ -9,8 +9,8 @@ use Rattle.sdd_base.specs.Steps.{times}
 use Rattle.sdd_base.specs.Tokens.{kept_slot}
 use Rattle.versions.specs.Parts.{blocks_of_parts, made_in, makes, part_pairs}
 use Rattle.versions.specs.Placing.{IsTakeable, StandsIn, named_at, taken_slots}
-use Rattle.versions.proofs.Cutting.{blocks_behind, made_behind}
-use Rattle.versions.proofs.Taking.{once_rest, owners_still, stands_part, takeable_still}
+use Rattle.versions.proofs.CuttingLemmas.{blocks_behind, made_behind}
+use Rattle.versions.proofs.TakingLemmas.{once_rest, owners_still, stands_part, takeable_still}
 use Rattle.versions.proofs.building.placing.place_parts.Goals as goal
 
 pub place_part-owner-requires : goal.place_part-owner-requires

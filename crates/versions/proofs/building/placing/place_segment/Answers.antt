@@ -1,5 +1,5 @@
 use Rattle.std.proofs.Common.{arith}
-use Rattle.versions.proofs.Placings.{no_vacancy}
+use Rattle.versions.proofs.PlacingLemmas.{no_vacancy}
 use Rattle.versions.proofs.building.placing.place_segment.Goals as goal
 
 pub unreachable-requires : goal.unreachable-requires

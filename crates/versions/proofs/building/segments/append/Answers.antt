@@ -1,8 +1,8 @@
 use Rattle.std.proofs.Common.{◌≡◌, ◌++◌, ◌∷◌, [], append_assoc, append-nil, length, length-append, drop, sym, ap, ◌∙◌, subst, arith}
 use Rattle.leaf_array.specs.Pairs.{IsAscending}
 use Rattle.tree_index.specs.Depth.{IsAbove}
-use Rattle.versions.proofs.Cutting.{above_front}
-use Rattle.versions.proofs.Merging.{head_of, none_of}
+use Rattle.versions.proofs.CuttingLemmas.{above_front}
+use Rattle.versions.proofs.MergeLemmas.{head_of, none_of}
 use Rattle.versions.proofs.building.segments.append.Goals as goal
 
 pub loop-key-init : goal.loop-key-init

@@ -1,6 +1,6 @@
 use Rattle.std.proofs.Common.{length, sym, ap, ◌∙◌, subst}
 use Rattle.leaf_array.specs.Pairs.{IsAscending}
-use Rattle.versions.proofs.Cutting.{less_separated}
+use Rattle.versions.proofs.CuttingLemmas.{less_separated}
 use Rattle.versions.proofs.building.segments.finish.Goals as goal
 
 pub returns-clause-cut : goal.returns-clause-cut

@@ -1,7 +1,7 @@
 use Rattle.std.proofs.Common.{ap, ◌∙◌}
 use Rattle.std.specs.Option.{option_map}
 use Rattle.tree_index.specs.Cursor.{next_back_of}
-use Rattle.versions.proofs.Streams.{back_of}
+use Rattle.versions.proofs.ChangeScanLemmas.{back_of}
 use Rattle.versions.proofs.building.segments.greatest.Goals as goal
 
 pub returns-in-Some : goal.returns-in-Some

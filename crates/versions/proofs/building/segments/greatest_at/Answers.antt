@@ -3,14 +3,14 @@ use Rattle.std.specs.Option.{option_map}
 use Rattle.tree_index.proofs.WayLemmas.{some_same}
 use Rattle.versions.specs.Cuts.{greatest_key}
 use Rattle.versions.proofs.BlockLemmas.{place_inside}
-use Rattle.versions.proofs.Seeking.{inside_of, separator_at}
+use Rattle.versions.proofs.SeparatorSearchLemmas.{inside_of, separator_at}
 use Rattle.versions.proofs.SlotLemmas.{slice_of}
 use Rattle.versions.proofs.building.segments.greatest_at.Goals as goal
 
 pub returns-in-Some : goal.returns-in-Some
 returns-in-Some g c = λ b here.
-    let blocks = g.O.Old.blocks c.args.old.now in
-    let keys = g.O.Old.separators c.args.old.now in
+    let blocks = g.O.BaseVersion.blocks c.args.old.now in
+    let keys = g.O.BaseVersion.separators c.args.old.now in
     let place = c.args.place in
     let found = c.in-Some.ensures.lookup in
     let here' : slice_get c.separators.result.now place ≡ Some c.in-Some.key.now = slice_of c.separators.result.now place c.in-Some.key.now found.3.0 ∙ sym (ap (λ k. Some k) found.1) in

@@ -3,7 +3,7 @@ use Rattle.std.proofs.lemmas.Bool.{eqb-true}
 use Rattle.std.proofs.lemmas.Bool.Decides.{nat_tests}
 use Rattle.versions.specs.Cuts.{pairs_in}
 use Rattle.versions.specs.Parts.{blocks_of_parts}
-use Rattle.versions.proofs.Cutting.{empty_of, made_closed, open_none, open_one, pairs_closed, row_closed}
+use Rattle.versions.proofs.CuttingLemmas.{empty_of, made_closed, open_none, open_one, pairs_closed, row_closed}
 use Rattle.versions.proofs.building.segments.seal.Goals as goal
 
 pub returns-then-is_empty-clause-row : goal.returns-then-is_empty-clause-row
@@ -12,7 +12,7 @@ returns-then-is_empty-clause-row g c = c.requires.whole.row
 pub returns-then-is_empty-clause-pairs : goal.returns-then-is_empty-clause-pairs
 returns-then-is_empty-clause-pairs g c =
     let none = empty_of c.args.out.now.tail.pairs (eqb-true (length c.args.out.now.tail.pairs) 0 (sym c.is_empty.ensures ∙ c.if-is_empty.true)) in
-    let front = pairs_in (blocks_of_parts (g.O.Old.named c.args.old.now) c.args.out.now.row.parts.items) in
+    let front = pairs_in (blocks_of_parts (g.O.BaseVersion.named c.args.old.now) c.args.out.now.row.parts.items) in
     sym (append-nil front) ∙ ap (λ ps. front ++ ps) (sym none)
 
 pub returns-then-is_empty-clause-made : goal.returns-then-is_empty-clause-made

@@ -4,7 +4,7 @@ use Rattle.std.proofs.lemmas.Option.{get_or_from_slice_get}
 use Rattle.std.specs.declared.cmp.Ordering.{Ordering}
 use Rattle.std.specs.declared.cmp.Ordering.TheVariants.{Less, Equal, Greater}
 use Rattle.std.specs.Ordering.{ordering_index}
-use Rattle.versions.proofs.Halving.{halved}
+use Rattle.versions.proofs.HalvingLemmas.{halved}
 use Rattle.versions.proofs.read.view.place_of_counted.Goals as goal
 
 less_told : (o : Ordering) → true ≡ (ordering_index o == 0) → o ≡ Less

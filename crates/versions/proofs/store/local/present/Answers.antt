@@ -1,7 +1,7 @@
 use Rattle.std.proofs.Common.{Some, sym, ap, ◌∙◌}
 use Rattle.sdd_base.specs.Tokens.{shared_cell}
 use Rattle.sdd_base.specs.declared.tag.Tag.TheVariants as tag
-use Rattle.versions.proofs.Sharing.{present_can_be_shared}
+use Rattle.versions.proofs.SharingLemmas.{present_can_be_shared}
 use Rattle.versions.proofs.store.local.present.Goals as goal
 
 pub returns-clause-shared : goal.returns-clause-shared

@@ -1,8 +1,8 @@
 use Rattle.std.proofs.Common.{◌++◌, ◌∙◌, refl}
 use Rattle.std.proofs.lemmas.Bool.{false≢true}
-use Rattle.sdd.proofs.Bags.{some_cell}
-use Rattle.sdd.proofs.Rows.{numbered}
-use Rattle.sdd.proofs.MutableIteration.{found_shut, walk_begins}
+use Rattle.sdd.proofs.BagLemmas.{some_cell}
+use Rattle.sdd.proofs.RowLemmas.{numbered}
+use Rattle.sdd.proofs.MutableIterationLemmas.{found_shut, walk_begins}
 use Rattle.sdd.proofs.world.iter_mut.WorldLinkedEntryBagPlace.iter_mut.Goals as goal
 
 pub returns : goal.returns

@@ -5,8 +5,8 @@ use Rattle.sdd.specs.Bags.{IsNull}
 use Rattle.sdd.specs.Chain.{IsList}
 use Rattle.sdd.specs.Entries.{entry_link}
 use Rattle.sdd.specs.MutableIteration.{IsLeft, Finds}
-use Rattle.sdd.proofs.Chains.{head_cell, hung_there, starts, starts_not, starts_link}
-use Rattle.sdd.proofs.MutableIteration.{hangs_at, left_none, find_first}
+use Rattle.sdd.proofs.ChainLemmas.{head_cell, hung_there, starts, starts_not, starts_link}
+use Rattle.sdd.proofs.MutableIterationLemmas.{hangs_at, left_none, find_first}
 use Rattle.sdd.proofs.world.iter_mut.WorldLinkedEntryWalkedPlace.next_stop.Goals as goal
 
 pub as_ref-requires-clause-cell : goal.as_ref-requires-clause-cell

@@ -3,7 +3,7 @@ use Rattle.std.specs.Option.{option_map}
 use Rattle.std.specs.BTreeMap.{is_at}
 use Rattle.std.specs.Map.{lookup_entry}
 use Rattle.leaf_array.specs.Cells.{Cells}
-use Rattle.tree_index.specs.declared.node.Branches.{Branches}
+use Rattle.tree_index.specs.declared.node.InnerNode.{InnerNode}
 use Rattle.tree_index.specs.Shape.{Content, IsTree, pairs_under}
 use Rattle.tree_index.specs.Content.{content_of}
 use Rattle.tree_index.specs.Standing.{IsAround}
@@ -17,7 +17,7 @@ unreachable-requires g c =
     let s = c.args.self.now in
     let deeper : s.height ≡ suc (s.height - 1) = omega (arith, c.requires.node) in
     let t = subst (λ (n : ℕ). IsTree g.K.Ord.cmp a n s.at c.requires.stands.low c.requires.stands.high) deeper c.requires.stands.tree in
-    let none : a.node s.at ≡ None = ap (option_map (λ (n : Branches g.row.K.Denot). (n.children, n.last))) (sym (rw c.in-None.is at c.get.ensures)) in
+    let none : a.node s.at ≡ None = ap (option_map (λ (n : InnerNode g.row.K.Denot). (n.children, n.last))) (sym (rw c.in-None.is at c.get.ensures)) in
     absurd (let e : None ≡ Some t.0 = sym none ∙ t.1 in cc)
 
 pub returns-clause-stands : goal.returns-clause-stands

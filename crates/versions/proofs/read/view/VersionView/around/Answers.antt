@@ -1,8 +1,8 @@
 use Rattle.std.proofs.Common.{◌<◌, length, sym, subst}
 use Rattle.versions.specs.CursorEnds.{IsAround}
-use Rattle.versions.specs.Seeking.{IsPlaceOf}
+use Rattle.versions.specs.SeparatorSearch.{IsPlaceOf}
 use Rattle.versions.specs.Views.{blocks_at}
-use Rattle.versions.proofs.Places.{around_place}
+use Rattle.versions.proofs.PlaceLemmas.{around_place}
 use Rattle.versions.proofs.read.view.VersionView.around.Goals as goal
 
 pub returns : goal.returns

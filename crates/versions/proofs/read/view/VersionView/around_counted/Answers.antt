@@ -1,9 +1,9 @@
 use Rattle.std.proofs.Common.{◌<◌, ◌≤◌, ◌+◌, ◌*◌, ◌-◌, ◌^◌, List, length, sym, subst, arith}
 use Rattle.versions.specs.CursorEnds.{IsAround}
-use Rattle.versions.specs.Seeking.{IsPlaceOf}
+use Rattle.versions.specs.SeparatorSearch.{IsPlaceOf}
 use Rattle.versions.specs.Views.{blocks_at}
-use Rattle.versions.proofs.Halving.{digits_hold, separators_fewer}
-use Rattle.versions.proofs.Places.{around_place}
+use Rattle.versions.proofs.HalvingLemmas.{digits_hold, separators_fewer}
+use Rattle.versions.proofs.PlaceLemmas.{around_place}
 use Rattle.versions.proofs.read.view.VersionView.around_counted.Goals as goal
 
 pub returns-clause-place : goal.returns-clause-place

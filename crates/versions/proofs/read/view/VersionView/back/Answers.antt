@@ -1,12 +1,12 @@
 use Rattle.std.proofs.Common.{◌≡◌, ◌+◌, ◌-◌, ◌<◌, length, sym, ap, ◌∙◌, arith, subst}
 use Rattle.std.specs.Borrow.{Bor}
 use Rattle.std.specs.Range.Bound.{bound_map}
-use Rattle.tree_index.specs.Cursor.{back, referred}
+use Rattle.tree_index.specs.Cursor.{back, deref_pair}
 use Rattle.tree_index.specs.declared.cursor.End.TheVariants.{At, Done}
 use Rattle.versions.specs.Cuts.{pairs_in}
 use Rattle.versions.specs.CursorEnds.{pairs_before, rear_place, StandsRear}
 use Rattle.versions.proofs.CursorEndLemmas.{leaves_rear, on_less, on_more, rear_pair, stays_rear, IsRearStep}
-use Rattle.versions.proofs.Seeking.{inside_of}
+use Rattle.versions.proofs.SeparatorSearchLemmas.{inside_of}
 use Rattle.versions.proofs.read.view.VersionView.back.Goals as goal
 
 -- the step stays in its segment
@@ -25,7 +25,7 @@ returns-in-Some-clause-place g c =
     (step_of g c).place upper ∙ ap (λ e. back g.K.Ord.cmp upper (pairs_in blocks) (rear_place blocks e)) (sym c.in-At.is)
 
 pub returns-in-Some-clause-pair : goal.returns-in-Some-clause-pair
-returns-in-Some-clause-pair g c = sym (ap referred c.in-Some.is) ∙ c.step_back.ensures.pair ∙ (step_of g c).pair
+returns-in-Some-clause-pair g c = sym (ap deref_pair c.in-Some.is) ∙ c.step_back.ensures.pair ∙ (step_of g c).pair
 
 pub last_before-requires-clause-within : goal.last_before-requires-clause-within
 last_before-requires-clause-within g c =

@@ -4,7 +4,7 @@ use Rattle.tree_index.specs.declared.cursor.End.TheVariants.{At, Unopened}
 use Rattle.versions.specs.Cuts.{pairs_in}
 use Rattle.versions.specs.CursorEnds.{fore_place, pairs_before, rear_place, swapped, IsWalking}
 use Rattle.versions.specs.declared.read.position.CursorEnd.TheVariants as cursor_ends
-use Rattle.versions.proofs.Turns.{fore_inside, stands_between}
+use Rattle.versions.proofs.FlipLemmas.{fore_inside, stands_between}
 use Rattle.versions.proofs.read.view.VersionView.before_first.Goals as goal
 
 pub walk_at-requires : goal.walk_at-requires

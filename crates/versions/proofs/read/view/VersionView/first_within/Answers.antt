@@ -8,7 +8,7 @@ use Rattle.tree_index.proofs.GapLemmas.{start_all}
 use Rattle.versions.specs.Cuts.{pairs_in}
 use Rattle.versions.specs.CursorEnds.{pairs_before, IsForeAt, IsPairAt}
 use Rattle.versions.proofs.CursorEndLemmas.{found_fore, none_fore}
-use Rattle.versions.proofs.Places.{next_before}
+use Rattle.versions.proofs.PlaceLemmas.{next_before}
 use Rattle.versions.proofs.read.view.VersionView.first_within.Goals as goal
 
 pub returns-in-Some-clause-some : goal.returns-in-Some-clause-some

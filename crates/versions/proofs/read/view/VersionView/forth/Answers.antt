@@ -1,12 +1,12 @@
 use Rattle.std.proofs.Common.{◌<◌, cond, length, nat_lt, sym, ap, ◌∙◌, subst}
 use Rattle.std.specs.Borrow.{Bor}
 use Rattle.std.specs.Range.Bound.{bound_map}
-use Rattle.tree_index.specs.Cursor.{forth, referred}
+use Rattle.tree_index.specs.Cursor.{forth, deref_pair}
 use Rattle.tree_index.specs.declared.cursor.End.TheVariants.{At, Done}
 use Rattle.versions.specs.Cuts.{pairs_in}
 use Rattle.versions.specs.CursorEnds.{fore_place, StandsFore}
 use Rattle.versions.proofs.CursorEndLemmas.{fore_pair, leaves_fore, stays_fore, IsForeStep}
-use Rattle.versions.proofs.Seeking.{inside_of}
+use Rattle.versions.proofs.SeparatorSearchLemmas.{inside_of}
 use Rattle.versions.proofs.read.view.VersionView.forth.Goals as goal
 
 -- the step stays in its segment
@@ -25,7 +25,7 @@ returns-in-Some-clause-place g c =
     (step_of g c).place lower ∙ ap (λ e. forth g.K.Ord.cmp lower (pairs_in blocks) (fore_place blocks e)) (sym c.in-At.is)
 
 pub returns-in-Some-clause-pair : goal.returns-in-Some-clause-pair
-returns-in-Some-clause-pair g c = sym (ap referred c.in-Some.is) ∙ c.step.ensures.pair ∙ (step_of g c).pair
+returns-in-Some-clause-pair g c = sym (ap deref_pair c.in-Some.is) ∙ c.step.ensures.pair ∙ (step_of g c).pair
 
 pub onward-requires-clause-within : goal.onward-requires-clause-within
 onward-requires-clause-within g c =

@@ -1,7 +1,7 @@
 use Rattle.std.proofs.Common.{◌≡◌, Some, None, sym, subst, ◌∙◌, arith}
 use Rattle.std.specs.Option.{MatchOption}
-use Rattle.versions.proofs.Halving.{none_inside}
-use Rattle.versions.proofs.Places.{entry_around}
+use Rattle.versions.proofs.HalvingLemmas.{none_inside}
+use Rattle.versions.proofs.PlaceLemmas.{entry_around}
 use Rattle.versions.proofs.read.view.VersionView.get_counted.Goals as goal
 
 pub returns-clause-pair : goal.returns-clause-pair

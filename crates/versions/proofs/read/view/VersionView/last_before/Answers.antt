@@ -4,7 +4,7 @@ use Rattle.tree_index.proofs.GapLemmas.{end_none}
 use Rattle.tree_index.specs.Cursor.{moved_back, next_back_of, up_to_end}
 use Rattle.versions.specs.CursorEnds.{pairs_before}
 use Rattle.versions.proofs.CursorEndLemmas.{block_some, found_rear, none_rear}
-use Rattle.versions.proofs.Places.{next_before}
+use Rattle.versions.proofs.PlaceLemmas.{next_before}
 use Rattle.versions.proofs.read.view.VersionView.last_before.Goals as goal
 
 pub unreachable-requires : goal.unreachable-requires

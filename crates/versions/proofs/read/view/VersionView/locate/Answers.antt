@@ -6,8 +6,8 @@ use Rattle.versions.specs.Cuts.{pairs_in}
 use Rattle.versions.specs.CursorEnds.{fore_place, rear_place}
 use Rattle.versions.specs.declared.read.position.CursorEnd.TheVariants as cursor_ends
 use Rattle.versions.proofs.CursorEndLemmas.{block_some}
-use Rattle.versions.proofs.Locating.{exact_at, one_walks, is_inside, first_at, last_at}
-use Rattle.versions.proofs.Places.{has_around}
+use Rattle.versions.proofs.LocatingLemmas.{exact_at, one_walks, is_inside, first_at, last_at}
+use Rattle.versions.proofs.PlaceLemmas.{has_around}
 use Rattle.versions.proofs.read.view.VersionView.locate.Goals as goal
 
 pub walk_at-requires : goal.walk_at-requires

@@ -6,7 +6,7 @@ use Rattle.std.specs.Range.Bound.{bound_map}
 use Rattle.tree_index.specs.Cursor.{before_start}
 use Rattle.versions.specs.Cuts.{pairs_in}
 use Rattle.versions.specs.CursorEnds.{pairs_before}
-use Rattle.versions.proofs.Places.{start_included, start_excluded, start_first}
+use Rattle.versions.proofs.PlaceLemmas.{start_included, start_excluded, start_first}
 use Rattle.versions.proofs.read.view.VersionView.place_from.Goals as goal
 
 pub returns-in-Included-clause-place : goal.returns-in-Included-clause-place

@@ -6,7 +6,7 @@ use Rattle.std.specs.Range.Bound.{bound_map}
 use Rattle.tree_index.specs.Cursor.{up_to_end}
 use Rattle.versions.specs.Cuts.{pairs_in}
 use Rattle.versions.specs.CursorEnds.{pairs_before}
-use Rattle.versions.proofs.Places.{end_at_included, end_at_excluded, end_last}
+use Rattle.versions.proofs.PlaceLemmas.{end_at_included, end_at_excluded, end_last}
 use Rattle.versions.proofs.read.view.VersionView.place_upto.Goals as goal
 
 pub returns-in-Included-clause-place : goal.returns-in-Included-clause-place

@@ -3,7 +3,7 @@ use Rattle.std.specs.Borrow.{Bor}
 use Rattle.std.specs.Range.Bound.{bound_map}
 use Rattle.tree_index.specs.Cursor.{can_turn, turned}
 use Rattle.versions.specs.CursorEnds.{swapped, IsWalking}
-use Rattle.versions.proofs.Turns.{ends_turned, walk_of, walk_turned}
+use Rattle.versions.proofs.FlipLemmas.{ends_turned, walk_of, walk_turned}
 use Rattle.versions.proofs.read.walking.Walk.flip.Goals as goal
 
 pub invariant_of-self : goal.invariant_of-self

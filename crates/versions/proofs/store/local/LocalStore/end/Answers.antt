@@ -2,7 +2,7 @@ use Rattle.std.proofs.Common.{◌≡◌, ℕ, None, inl, inr, sym, ap, ◌∙◌
 use Rattle.std.specs.List.{All}
 use Rattle.sdd_base.specs.Steps.{shared_ended}
 use Rattle.sdd_base.specs.Tokens.{shared_cell}
-use Rattle.versions.proofs.Sweeping.{sweeps_leave_none}
+use Rattle.versions.proofs.SweepLemmas.{sweeps_leave_none}
 use Rattle.versions.specs.Store.{Store, read_by}
 use Rattle.versions.proofs.OptionLemmas.{all_none}
 use Rattle.versions.proofs.PassLemmas.{none_reads}

@@ -17,8 +17,8 @@ pub new-requires : goal.new-requires
 new-requires g c =
     let free = taken_free c.self.inside.readers.items c.self.inside.free c.self.invariant.1 c.in-Some.place c.pop.new.self.items c.in-Some.ensures.items in
     let inside = free.0 in
-    let members = c.self.invariant.0.members in
-    omega (arith, inside, members)
+    let participants = c.self.invariant.0.participants in
+    omega (arith, inside, participants)
 
 pub unreachable-requires : goal.unreachable-requires
 unreachable-requires g c =
@@ -31,8 +31,8 @@ pub loaded-root-requires : goal.loaded-root-requires
 loaded-root-requires g c =
     let free = taken_free c.self.inside.readers.items c.self.inside.free c.self.invariant.1 c.in-Some.place c.pop.new.self.items c.in-Some.ensures.items in
     let inside = free.0 in
-    let members = c.self.invariant.0.members in
-    rw c.in-Ok.ensures.opened.1 (opened_used g.K.Ord.cmp c.self.inside.world (shared_cell c.self.inside.root) c.self.inside.readers.items c.self.invariant.0 c.in-Some.place (omega (arith, inside, members)))
+    let participants = c.self.invariant.0.participants in
+    rw c.in-Ok.ensures.opened.1 (opened_used g.K.Ord.cmp c.self.inside.world (shared_cell c.self.inside.root) c.self.inside.readers.items c.self.invariant.0 c.in-Some.place (omega (arith, inside, participants)))
 
 pub index_mut-requires : goal.index_mut-requires
 index_mut-requires g c =
@@ -50,8 +50,8 @@ invariant_of-self-2 g c =
     let store = c.self.invariant.0 in
     let free = taken_free c.self.inside.readers.items c.self.inside.free c.self.invariant.1 c.in-Some.place c.pop.new.self.items c.in-Some.ensures.items in
     let inside = free.0 in
-    let members = store.members in
-    let known : c.in-Some.place < length c.self.inside.world.members = omega (arith, inside, members) in
+    let participants = store.participants in
+    let known : c.in-Some.place < length c.self.inside.world.participants = omega (arith, inside, participants) in
     let named = ap slot_kept (sym c.loaded-root.ensures.1 ∙ ap (λ (w : State _). cell_at w (shared_cell c.self.inside.root)) c.in-Ok.ensures.opened.1 ∙ opened_cell g.K.Ord.cmp c.self.inside.world (shared_cell c.self.inside.root) c.self.inside.readers.items store c.in-Some.place known ∙ store.named) in
     rw (c.in-Ok.ensures.opened.1, c.replace.ensures.after) (store_opened g.K.Ord.cmp c.self.inside.world (shared_cell c.self.inside.root) c.self.inside.readers.items store c.in-Some.place known (record { guard = c.in-Ok.guard; root = c.loaded-root.result }) free.0 free.1 c.in-Ok.ensures.opened.0 named, stack_taken c.self.inside.readers.items c.self.inside.free c.self.invariant.1 c.in-Some.place c.pop.new.self (record { guard = c.in-Ok.guard; root = c.loaded-root.result }) c.in-Some.ensures.items (omega (arith, c.in-Some.ensures.capacity)))
 
@@ -60,8 +60,8 @@ returns-clause-opened g c =
     let store = c.self.invariant.0 in
     let free = taken_free c.self.inside.readers.items c.self.inside.free c.self.invariant.1 c.in-Some.place c.pop.new.self.items c.in-Some.ensures.items in
     let inside = free.0 in
-    let members = store.members in
-    let known : c.in-Some.place < length c.self.inside.world.members = omega (arith, inside, members) in
+    let participants = store.participants in
+    let known : c.in-Some.place < length c.self.inside.world.participants = omega (arith, inside, participants) in
     let named = ap slot_kept (sym c.loaded-root.ensures.1 ∙ ap (λ (w : State _). cell_at w (shared_cell c.self.inside.root)) c.in-Ok.ensures.opened.1 ∙ opened_cell g.K.Ord.cmp c.self.inside.world (shared_cell c.self.inside.root) c.self.inside.readers.items store c.in-Some.place known ∙ store.named) in
     ap (λ w. store_of w (shared_cell c.self.inside.root) (set c.self.inside.readers.items c.in-Some.place c.replace.new.dest)) c.in-Ok.ensures.opened.1
     ∙ ap (λ o. store_of (opened held_by c.in-Some.place c.self.inside.world) (shared_cell c.self.inside.root) (set c.self.inside.readers.items c.in-Some.place o)) c.replace.ensures.after

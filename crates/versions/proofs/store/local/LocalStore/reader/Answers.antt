@@ -4,7 +4,7 @@ use Rattle.sdd_base.specs.Tokens.{shared_cell}
 use Rattle.versions.specs.Cuts.{pairs_in}
 use Rattle.versions.specs.Sizes.{segments_for}
 use Rattle.versions.specs.Store.{Store}
-use Rattle.versions.proofs.Blocks.{blocks_fit}
+use Rattle.versions.proofs.BlockListLemmas.{blocks_fit}
 use Rattle.versions.proofs.store.local.LocalStore.reader.Goals as goal
 
 pub read_at-requires : goal.read_at-requires

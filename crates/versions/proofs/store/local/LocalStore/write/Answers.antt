@@ -1,6 +1,6 @@
 use Rattle.std.proofs.Common.{◌<◌, ◌+◌, ◌≤◌, ◌*◌, ℕ, Some, length, sym, ap, ◌∙◌, subst, arith}
 use Rattle.std.proofs.lemmas.Bool.{false≢true}
-use Rattle.sdd_base.specs.Frame.{OnlyOf}
+use Rattle.sdd_base.specs.Frame.{OnlyParticipant}
 use Rattle.sdd_base.specs.State.{in_use, value_at, with_cell}
 use Rattle.sdd_base.specs.Steps.{released}
 use Rattle.sdd_base.specs.Tokens.{shared_cell, shared_slot}
@@ -46,7 +46,7 @@ invariant_of-self-2 g c =
     let placed = c.in-Ok-place.ensures.placed in
     let long = c.len.ensures ∙ c.self.inside.readers.ok.0 in
     let now = c.publish.ensures.published (Some store.slot) tag.None (still_named g.K.Ord.cmp w c.place.new.w root slot plan places store placed) ∙ ap (λ (n : ℕ). released n store.slot (with_cell root (cell.OfShared (Some slot) tag.None) c.place.new.w)) long in
-    (store_published g.K.Ord.cmp w c.place.new.w c.publish.new.w root slot plan places store placed c.laws.ensures now c.publish.ensures.keeps (subst (λ (n : ℕ). OnlyOf n c.place.new.w c.publish.new.w) long c.publish.ensures.only), c.self.invariant.1)
+    (store_published g.K.Ord.cmp w c.place.new.w c.publish.new.w root slot plan places store placed c.laws.ensures now c.publish.ensures.keeps (subst (λ (n : ℕ). OnlyParticipant n c.place.new.w c.publish.new.w) long c.publish.ensures.only), c.self.invariant.1)
 
 -- what is shown of the version that is published
 pub returns-clause-written : goal.returns-clause-written
@@ -60,12 +60,12 @@ returns-clause-written g c =
     let placed = c.in-Ok-place.ensures.placed in
     let long = c.len.ensures ∙ c.self.inside.readers.ok.0 in
     let now = c.publish.ensures.published (Some store.slot) tag.None (still_named g.K.Ord.cmp w c.place.new.w root slot plan places store placed) ∙ ap (λ (n : ℕ). released n store.slot (with_cell root (cell.OfShared (Some slot) tag.None) c.place.new.w)) long in
-    let shows = published_shows g.K.Ord.cmp w c.place.new.w c.publish.new.w root slot plan places store placed c.laws.ensures now c.publish.ensures.keeps (subst (λ (n : ℕ). OnlyOf n c.place.new.w c.publish.new.w) long c.publish.ensures.only) in
+    let shows = published_shows g.K.Ord.cmp w c.place.new.w c.publish.new.w root slot plan places store placed c.laws.ensures now c.publish.ensures.keeps (subst (λ (n : ℕ). OnlyParticipant n c.place.new.w c.publish.new.w) long c.publish.ensures.only) in
     let is = c.present-older.ensures.is ∙ ap (λ (x : Store _ _). x.present) c.self.view_is in
     let old : Store _ _ = c.args.self.now in
     let number = c.in-Ok.ensures.number ∙ ap (λ (v : Version _ _). v.number + 1) is in
     let pairs = c.in-Ok.ensures.list ∙ ap (λ (v : Version _ _). after_writes g.K.Ord.cmp c.args.writes.now v.pairs) is in
-    let uses = published_uses g.K.Ord.cmp w c.place.new.w c.publish.new.w root slot plan places store placed c.laws.ensures now c.publish.ensures.keeps (subst (λ (n : ℕ). OnlyOf n c.place.new.w c.publish.new.w) long c.publish.ensures.only) in
+    let uses = published_uses g.K.Ord.cmp w c.place.new.w c.publish.new.w root slot plan places store placed c.laws.ensures now c.publish.ensures.keeps (subst (λ (n : ℕ). OnlyParticipant n c.place.new.w c.publish.new.w) long c.publish.ensures.only) in
     let before : Store _ _ = store_of w root places in
     shows
     ∙ ap (λ (n : ℕ). record before { present = record { number = n; pairs = list_planned (value_at w) plan }; used = in_use w + slots_for plan }) number
@@ -84,7 +84,7 @@ returns-clause-room g c =
     let placed = c.in-Ok-place.ensures.placed in
     let long = c.len.ensures ∙ c.self.inside.readers.ok.0 in
     let now = c.publish.ensures.published (Some store.slot) tag.None (still_named g.K.Ord.cmp w c.place.new.w root slot plan places store placed) ∙ ap (λ (n : ℕ). released n store.slot (with_cell root (cell.OfShared (Some slot) tag.None) c.place.new.w)) long in
-    let uses = published_uses g.K.Ord.cmp w c.place.new.w c.publish.new.w root slot plan places store placed c.laws.ensures now c.publish.ensures.keeps (subst (λ (n : ℕ). OnlyOf n c.place.new.w c.publish.new.w) long c.publish.ensures.only) in
+    let uses = published_uses g.K.Ord.cmp w c.place.new.w c.publish.new.w root slot plan places store placed c.laws.ensures now c.publish.ensures.keeps (subst (λ (n : ℕ). OnlyParticipant n c.place.new.w c.publish.new.w) long c.publish.ensures.only) in
     let used = ap (λ (x : Store _ _). x.used) c.self.view_is in
     let is = c.present-older.ensures.is ∙ ap (λ (x : Store _ _). x.present) c.self.view_is in
     let pairs = c.in-Ok.ensures.list ∙ ap (λ (v : Version _ _). after_writes g.K.Ord.cmp c.args.writes.now v.pairs) is in
@@ -105,7 +105,7 @@ returns-clause-few g c =
     let placed = c.in-Ok-place.ensures.placed in
     let long = c.len.ensures ∙ c.self.inside.readers.ok.0 in
     let now = c.publish.ensures.published (Some store.slot) tag.None (still_named g.K.Ord.cmp w c.place.new.w root slot plan places store placed) ∙ ap (λ (n : ℕ). released n store.slot (with_cell root (cell.OfShared (Some slot) tag.None) c.place.new.w)) long in
-    let uses = published_uses g.K.Ord.cmp w c.place.new.w c.publish.new.w root slot plan places store placed c.laws.ensures now c.publish.ensures.keeps (subst (λ (n : ℕ). OnlyOf n c.place.new.w c.publish.new.w) long c.publish.ensures.only) in
+    let uses = published_uses g.K.Ord.cmp w c.place.new.w c.publish.new.w root slot plan places store placed c.laws.ensures now c.publish.ensures.keeps (subst (λ (n : ℕ). OnlyParticipant n c.place.new.w c.publish.new.w) long c.publish.ensures.only) in
     let used = ap (λ (x : Store _ _). x.used) c.self.view_is in
     let few = c.in-Ok.ensures.few in
     omega (arith, uses, used, few)
