@@ -6,7 +6,7 @@ use Rattle.leaf_array.specs.declared.place.Place.TheVariants.{Empty, Dead, Live}
 use Rattle.std.specs.declared.cmp.Ordering.{Ordering}
 use Rattle.std.specs.Ordering.{is_lt}
 use Rattle.leaf_array.specs.Cells.{entered, handed_on, fallen}
-use Rattle.leaf_array.specs.Places.{live_pairs, labels_above, dead_pairs, top, has_room, pushed, sunk, widened, buried, renewed, paired, died, below, uses, IsEmptied, IsDeparted, IsPacked}
+use Rattle.leaf_array.specs.Places.{live_pairs, labels_above, dead_pairs, top, has_room, pushed, sunk, widened, tombstones, renewed, paired, died, below, uses, IsEmptied, IsDeparted, IsPacked}
 
 module _ {K V : Type 0} where
   -- behind an empty place all are empty
@@ -352,10 +352,10 @@ module _ {K V : Type 0} where
   live_widened n (Dead s k v ∷ ps) = refl
   live_widened n (Live s g k v ∷ ps) = refl
 
-  pub live_buried : (s g : ℕ) (k : K) (v : V) (ps : List (Place K V)) → live_pairs (buried (Live s g k v ∷ ps)) ≡ live_pairs ps
-  live_buried s g k v ps = live_widened (g + 1) (sunk (Dead s k v) ps) ∙ live_sunk s k v ps
+  pub live_tombstones : (s g : ℕ) (k : K) (v : V) (ps : List (Place K V)) → live_pairs (tombstones (Live s g k v ∷ ps)) ≡ live_pairs ps
+  live_tombstones s g k v ps = live_widened (g + 1) (sunk (Dead s k v) ps) ∙ live_sunk s k v ps
 
-  pub labels_remove : (low n : ℕ) (ps : List (Place K V)) → n < length (live_pairs ps) → labels_above low (take n ps ++ buried (drop n ps)) ≡ remove (labels_above low ps) n
+  pub labels_remove : (low n : ℕ) (ps : List (Place K V)) → n < length (live_pairs ps) → labels_above low (take n ps ++ tombstones (drop n ps)) ≡ remove (labels_above low ps) n
   labels_remove low zero [] lt = absurd (omega (arith, lt))
   labels_remove low (suc n) [] lt = absurd (omega (arith, lt))
   labels_remove low zero (Empty ∷ ps) lt = absurd (omega (arith, lt))
@@ -367,7 +367,7 @@ module _ {K V : Type 0} where
       labels_widened low (g + 1) (sunk (Dead s k v) ps) ∙ labels_sunk s k v (low + (g + 1)) ps ∙ ap (λ n. labels_above n ps) e
   labels_remove low (suc n) (Live s g k v ∷ ps) lt = ap (λ ls. (s, low + g + 1) ∷ ls) (labels_remove (low + g + 1) n ps (omega (arith, lt)))
 
-  pub dead_remove : (low n : ℕ) (ps : List (Place K V)) → n < length (live_pairs ps) → dead_pairs (take n ps ++ buried (drop n ps)) ≡ fallen n (labels_above low ps) (live_pairs ps) ++ dead_pairs ps
+  pub dead_remove : (low n : ℕ) (ps : List (Place K V)) → n < length (live_pairs ps) → dead_pairs (take n ps ++ tombstones (drop n ps)) ≡ fallen n (labels_above low ps) (live_pairs ps) ++ dead_pairs ps
   dead_remove low zero [] lt = absurd (omega (arith, lt))
   dead_remove low (suc n) [] lt = absurd (omega (arith, lt))
   dead_remove low zero (Empty ∷ ps) lt = absurd (omega (arith, lt))
@@ -377,7 +377,7 @@ module _ {K V : Type 0} where
   dead_remove low zero (Live s g k v ∷ ps) lt = dead_widened (g + 1) (sunk (Dead s k v) ps) ∙ dead_sunk s k v ps
   dead_remove low (suc n) (Live s g k v ∷ ps) lt = dead_remove (low + g + 1) n ps (omega (arith, lt))
 
-  pub top_remove : (n : ℕ) (ps : List (Place K V)) → n < length (live_pairs ps) → top (take n ps ++ buried (drop n ps)) ≤ top ps
+  pub top_remove : (n : ℕ) (ps : List (Place K V)) → n < length (live_pairs ps) → top (take n ps ++ tombstones (drop n ps)) ≤ top ps
   top_remove zero [] lt = absurd (omega (arith, lt))
   top_remove (suc n) [] lt = absurd (omega (arith, lt))
   top_remove zero (Empty ∷ ps) lt = absurd (omega (arith, lt))
@@ -387,7 +387,7 @@ module _ {K V : Type 0} where
   top_remove zero (Live s g k v ∷ ps) lt = omega (arith, top_widened (g + 1) (sunk (Dead s k v) ps), top_sunk s k v ps)
   top_remove (suc n) (Live s g k v ∷ ps) lt = let h : n < length (live_pairs ps) = omega (arith, lt) in omega (arith, top_remove n ps h)
 
-  pub uses_remove : (slot n : ℕ) (ps : List (Place K V)) → n < length (live_pairs ps) → uses slot (take n ps ++ buried (drop n ps)) ≡ uses slot ps
+  pub uses_remove : (slot n : ℕ) (ps : List (Place K V)) → n < length (live_pairs ps) → uses slot (take n ps ++ tombstones (drop n ps)) ≡ uses slot ps
   uses_remove slot zero [] lt = absurd (omega (arith, lt))
   uses_remove slot (suc n) [] lt = absurd (omega (arith, lt))
   uses_remove slot zero (Empty ∷ ps) lt = absurd (omega (arith, lt))
@@ -397,7 +397,7 @@ module _ {K V : Type 0} where
   uses_remove slot zero (Live s g k v ∷ ps) lt = uses_widened slot (g + 1) (sunk (Dead s k v) ps) ∙ uses_sunk s k v slot ps
   uses_remove slot (suc n) (Live s g k v ∷ ps) lt = let h : n < length (live_pairs ps) = omega (arith, lt) in omega (arith, uses_remove slot n ps h)
 
-  pub packed_remove : (n : ℕ) (ps : List (Place K V)) → n < length (live_pairs ps) → IsPacked ps → IsPacked (take n ps ++ buried (drop n ps))
+  pub packed_remove : (n : ℕ) (ps : List (Place K V)) → n < length (live_pairs ps) → IsPacked ps → IsPacked (take n ps ++ tombstones (drop n ps))
   packed_remove zero [] lt h = absurd (omega (arith, lt))
   packed_remove (suc n) [] lt h = absurd (omega (arith, lt))
   packed_remove zero (Empty ∷ ps) lt h = absurd (omega (arith, lt))
@@ -407,7 +407,7 @@ module _ {K V : Type 0} where
   packed_remove zero (Live s g k v ∷ ps) lt h = packed_widened (g + 1) (sunk (Dead s k v) ps) (packed_sunk s k v ps h)
   packed_remove (suc n) (Live s g k v ∷ ps) lt h = packed_remove n ps (omega (arith, lt)) h
 
-  pub length_remove : (n : ℕ) (ps : List (Place K V)) → n < length (live_pairs ps) → length (live_pairs (take n ps ++ buried (drop n ps))) + 1 ≡ length (live_pairs ps)
+  pub length_remove : (n : ℕ) (ps : List (Place K V)) → n < length (live_pairs ps) → length (live_pairs (take n ps ++ tombstones (drop n ps))) + 1 ≡ length (live_pairs ps)
   length_remove zero [] lt = absurd (omega (arith, lt))
   length_remove (suc n) [] lt = absurd (omega (arith, lt))
   length_remove zero (Empty ∷ ps) lt = absurd (omega (arith, lt))

@@ -6,28 +6,28 @@ use Rattle.std.proofs.lemmas.Bool.{cases_lt}
 use Rattle.std.proofs.lemmas.Bool.Decides.{nat_tests}
 use Rattle.leaf_array.specs.declared.place.Place.{Place}
 use Rattle.leaf_array.specs.declared.place.Place.TheVariants.{Empty, Dead, Live}
-use Rattle.leaf_array.specs.Cells.{slot_of, rank_in, standing, reachable_in, buried_in}
+use Rattle.leaf_array.specs.Cells.{slot_of, rank_in, standing, reachable_in, tombstones_in}
 use Rattle.leaf_array.specs.Places.{live_pairs, labels_above, dead_pairs, pair_at_slot, stands, uses, uses_below, IsEmptied, IsDeparted, IsPacked}
 
 module _ {K V : Type 0} where
-  emptied_slot : (slot : ℕ) (ps : List (Place K V)) → IsEmptied ps → pair_at_slot slot ps ≡ buried_in slot (dead_pairs ps)
+  emptied_slot : (slot : ℕ) (ps : List (Place K V)) → IsEmptied ps → pair_at_slot slot ps ≡ tombstones_in slot (dead_pairs ps)
   emptied_slot slot [] h = refl
   emptied_slot slot (Empty ∷ ps) h = emptied_slot slot ps h
   emptied_slot slot (Dead s k v ∷ ps) h = absurd h
   emptied_slot slot (Live s g k v ∷ ps) h = absurd h
 
-  departed_slot : (slot : ℕ) (ps : List (Place K V)) → IsDeparted ps → pair_at_slot slot ps ≡ buried_in slot (dead_pairs ps)
+  departed_slot : (slot : ℕ) (ps : List (Place K V)) → IsDeparted ps → pair_at_slot slot ps ≡ tombstones_in slot (dead_pairs ps)
   departed_slot slot [] h = refl
   departed_slot slot (Empty ∷ ps) h = emptied_slot slot ps h
   departed_slot slot (Dead s k v ∷ ps) h = ap (λ o. cond (s == slot) (Some (k, v)) o) (departed_slot slot ps h)
   departed_slot slot (Live s g k v ∷ ps) h = absurd h
 
-  pub slot_pair : (slot low : ℕ) (ps : List (Place K V)) → IsPacked ps → pair_at_slot slot ps ≡ option_or (reachable_in slot (labels_above low ps) (live_pairs ps)) (buried_in slot (dead_pairs ps))
+  pub slot_pair : (slot low : ℕ) (ps : List (Place K V)) → IsPacked ps → pair_at_slot slot ps ≡ option_or (reachable_in slot (labels_above low ps) (live_pairs ps)) (tombstones_in slot (dead_pairs ps))
   slot_pair slot low [] h = refl
   slot_pair slot low (Empty ∷ ps) h = emptied_slot slot ps h
   slot_pair slot low (Dead s k v ∷ ps) h = ap (λ o. cond (s == slot) (Some (k, v)) o) (departed_slot slot ps h)
   slot_pair slot low (Live s g k v ∷ ps) h =
-      elim (s == slot) as (λ b. cond b (Some (k, v)) (pair_at_slot slot ps) ≡ option_or (cond b (Some (k, v)) (reachable_in slot (labels_above (low + g + 1) ps) (live_pairs ps))) (buried_in slot (dead_pairs ps))) [
+      elim (s == slot) as (λ b. cond b (Some (k, v)) (pair_at_slot slot ps) ≡ option_or (cond b (Some (k, v)) (reachable_in slot (labels_above (low + g + 1) ps) (live_pairs ps))) (tombstones_in slot (dead_pairs ps))) [
         | true ↦ refl
         | false ↦ slot_pair slot (low + g + 1) ps h
       ]

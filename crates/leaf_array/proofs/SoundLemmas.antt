@@ -13,7 +13,7 @@ use Rattle.std.proofs.lemmas.Bool.Decides.{nat_tests}
 use Rattle.leaf_array.specs.declared.place.Place.{Place}
 use Rattle.leaf_array.specs.declared.place.Place.TheVariants.{Empty, Dead, Live}
 use Rattle.leaf_array.specs.Cells.{Cells, is_nil, lesser, slot_of, inserted, replaced, overwritten, removed, removed_at, appended, entered, handed_on, fallen}
-use Rattle.leaf_array.specs.Places.{live_pair, live_pairs, labels_above, dead_pairs, has_room, pushed, buried, renewed, paired, died, below, least, top, uses, no_places, IsPacked, IsHit, IsMiss, IsSound, cells_of}
+use Rattle.leaf_array.specs.Places.{live_pair, live_pairs, labels_above, dead_pairs, has_room, pushed, tombstones, renewed, paired, died, below, least, top, uses, no_places, IsPacked, IsHit, IsMiss, IsSound, cells_of}
 use Rattle.leaf_array.proofs.SearchLemmas.{least_not_lesser, missed}
 use Rattle.leaf_array.proofs.OrderLemmas.{below_lesser, found_entry, missing, hit_within, pairs_insert, pairs_renew}
 use Rattle.leaf_array.proofs.PackLemmas.{least_at, past_end}
@@ -252,17 +252,17 @@ module _ {K V : Type 0} (cmp : K → K → Ordering) (laws : IsTotalOrder cmp) (
 module _ {K V : Type 0} (cmp : K → K → Ordering) where
   -- ---- a pair removed
 
-  live_remove : (n : ℕ) (ps : List (Place K V)) → n < length (live_pairs ps) → live_pairs (take n ps ++ buried (drop n ps)) ≡ remove (live_pairs ps) n
+  live_remove : (n : ℕ) (ps : List (Place K V)) → n < length (live_pairs ps) → live_pairs (take n ps ++ tombstones (drop n ps)) ≡ remove (live_pairs ps) n
   live_remove zero [] lt = absurd (omega (arith, lt))
   live_remove (suc n) [] lt = absurd (omega (arith, lt))
   live_remove zero (Empty ∷ ps) lt = absurd (omega (arith, lt))
   live_remove (suc n) (Empty ∷ ps) lt = absurd (omega (arith, lt))
   live_remove zero (Dead s k v ∷ ps) lt = absurd (omega (arith, lt))
   live_remove (suc n) (Dead s k v ∷ ps) lt = absurd (omega (arith, lt))
-  live_remove zero (Live s g k v ∷ ps) lt = edit.live_buried s g k v ps
+  live_remove zero (Live s g k v ∷ ps) lt = edit.live_tombstones s g k v ps
   live_remove (suc n) (Live s g k v ∷ ps) lt = ap (λ qs. (k, v) ∷ qs) (live_remove n ps (omega (arith, lt)))
 
-  pub sound_bury : (ps qs : List (Place K V)) (len used at : ℕ) → IsSound cmp ps len used → at < length (live_pairs ps) → length qs ≡ 15 → qs ≡ take at ps ++ buried (drop at ps)
+  pub sound_bury : (ps qs : List (Place K V)) (len used at : ℕ) → IsSound cmp ps len used → at < length (live_pairs ps) → length qs ≡ 15 → qs ≡ take at ps ++ tombstones (drop at ps)
       → IsSound cmp qs (len - 1) used
       × ((f r r2 : Bool) → r2 ≡ (r || len - 1 == 0 && not f) → cells_of qs used f r2 ≡ removed_at at (cells_of ps used f r))
   sound_bury ps qs len used at s lt count is =

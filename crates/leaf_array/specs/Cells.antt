@@ -15,15 +15,15 @@ pub record Cells (K V : Type 0) : Type 0 where
   pub frozen : Bool
   pub retired : Bool
   pub labels : List (ℕ × ℕ)
-  pub buried : List (ℕ × (K × V))
+  pub tombstones : List (ℕ × (K × V))
 
 abbrev pub cells_code : {K V : Type 0} → Coded K → Coded V → Coded (Cells K V)
 cells_code {K} {V} k v =
     code_by
     (List (K × V) × (ℕ × (Bool × (Bool × (List (ℕ × ℕ) × List (ℕ × (K × V)))))))
     (coded× (coded_list (coded× k v)) (coded× coded_ℕ (coded× coded_bool (coded× coded_bool (coded× (coded_list (coded× coded_ℕ coded_ℕ)) (coded_list (coded× coded_ℕ (coded× k v))))))))
-    (λ a. (a.pairs, (a.used, (a.frozen, (a.retired, (a.labels, a.buried))))))
-    (λ p. record { pairs = p.0; used = p.1.0; frozen = p.1.1.0; retired = p.1.1.1.0; labels = p.1.1.1.1.0; buried = p.1.1.1.1.1 })
+    (λ a. (a.pairs, (a.used, (a.frozen, (a.retired, (a.labels, a.tombstones))))))
+    (λ p. record { pairs = p.0; used = p.1.0; frozen = p.1.1.0; retired = p.1.1.1.0; labels = p.1.1.1.1.0; tombstones = p.1.1.1.1.1 })
     (λ _. refl)
 
 -- what a contract sees of an iterator: the labels that it goes through, the word taken at its start, and the rank at which it stands
@@ -79,9 +79,9 @@ newest [] = None
 newest (b ∷ bs) = Some b.1.0
 
 -- the pair that was buried in a slot
-abbrev pub buried_in : {K V : Type 0} → ℕ → List (ℕ × (K × V)) → Option (K × V)
-buried_in slot [] = None
-buried_in slot (b ∷ bs) = cond (b.0 == slot) (Some b.1) (buried_in slot bs)
+abbrev pub tombstones_in : {K V : Type 0} → ℕ → List (ℕ × (K × V)) → Option (K × V)
+tombstones_in slot [] = None
+tombstones_in slot (b ∷ bs) = cond (b.0 == slot) (Some b.1) (tombstones_in slot bs)
 
 -- the labels with a new slot behind n others: its rank is one above theirs, and the ranks behind it rise by one
 abbrev pub entered : ℕ → ℕ → ℕ → List (ℕ × ℕ) → List (ℕ × ℕ)
@@ -131,7 +131,7 @@ is_nil (x ∷ xs) = false
 module _ {K V : Type 0} where
   -- the pair in a slot, reachable or buried
   abbrev pub in_slot : ℕ → Cells K V → Option (K × V)
-  in_slot slot a = option_or (reachable_in slot a.labels a.pairs) (buried_in slot a.buried)
+  in_slot slot a = option_or (reachable_in slot a.labels a.pairs) (tombstones_in slot a.tombstones)
 
   -- the bit of a slot is set
   abbrev pub IsUsed : ℕ → Cells K V → Type 0
@@ -139,11 +139,11 @@ module _ {K V : Type 0} where
 
   -- an array without pairs
   abbrev pub no_cells : Bool → Cells K V
-  no_cells frozen = record { pairs = []; used = 0; frozen = frozen; retired = false; labels = []; buried = [] }
+  no_cells frozen = record { pairs = []; used = 0; frozen = frozen; retired = false; labels = []; tombstones = [] }
 
   -- an array with these pairs in the lowest places, and nothing else
   abbrev pub filled : Bool → List (K × V) → Cells K V
-  filled frozen pairs = record { pairs = pairs; used = length pairs; frozen = frozen; retired = false; labels = fresh_labels 0 (length pairs); buried = [] }
+  filled frozen pairs = record { pairs = pairs; used = length pairs; frozen = frozen; retired = false; labels = fresh_labels 0 (length pairs); tombstones = [] }
 
   -- without the pair behind n others; an array that loses its last pair retires, unless it is frozen
   abbrev pub removed_at : ℕ → Cells K V → Cells K V
@@ -152,7 +152,7 @@ module _ {K V : Type 0} where
         pairs = remove a.pairs n;
         retired = a.retired || is_nil (remove a.pairs n) && not a.frozen;
         labels = remove a.labels n;
-        buried = fallen n a.labels a.pairs ++ a.buried;
+        tombstones = fallen n a.labels a.pairs ++ a.tombstones;
       }
 
   -- with a new pair behind all others, in the lowest clear bitmap place; its rank is one above that, and the array isn't retired
@@ -180,7 +180,7 @@ module _ {K V : Type 0} where
           pairs = insert_entry cmp (remove_entry (is_at (cmp key)) a.pairs) key val;
           used = a.used + 1;
           labels = handed_on (lesser a.pairs) (slot_of a.used) a.labels;
-          buried = fallen (lesser a.pairs) a.labels a.pairs ++ a.buried;
+          tombstones = fallen (lesser a.pairs) a.labels a.pairs ++ a.tombstones;
         }
 
     -- with a new pair for the one that has the key, in its slot

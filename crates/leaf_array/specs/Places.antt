@@ -73,11 +73,11 @@ module _ {K V : Type 0} where
   widened n (Live s g k v ∷ ps) = Live s (g + n) k v ∷ ps
 
   -- the first place, if it is live, dead and behind the live ones
-  abbrev pub buried : List (Place K V) → List (Place K V)
-  buried [] = []
-  buried (Empty ∷ ps) = Empty ∷ ps
-  buried (Dead s k v ∷ ps) = Dead s k v ∷ ps
-  buried (Live s g k v ∷ ps) = widened (g + 1) (sunk (Dead s k v) ps)
+  abbrev pub tombstones : List (Place K V) → List (Place K V)
+  tombstones [] = []
+  tombstones (Empty ∷ ps) = Empty ∷ ps
+  tombstones (Dead s k v ∷ ps) = Dead s k v ∷ ps
+  tombstones (Live s g k v ∷ ps) = widened (g + 1) (sunk (Dead s k v) ps)
 
   -- the first place, if it is live, with another slot and pair
   abbrev pub renewed : ℕ → K → V → List (Place K V) → List (Place K V)
@@ -205,4 +205,4 @@ pub record IsSound {K V : Type 0} (cmp : K → K → Ordering) (ps : List (Place
 -- what a contract sees of an array with these places
 abbrev pub cells_of : {K V : Type 0} → List (Place K V) → ℕ → Bool → Bool → Cells K V
 cells_of ps used frozen retired =
-    record { pairs = live_pairs ps; used = used; frozen = frozen; retired = retired; labels = labels_above 0 ps; buried = dead_pairs ps }
+    record { pairs = live_pairs ps; used = used; frozen = frozen; retired = retired; labels = labels_above 0 ps; tombstones = dead_pairs ps }

@@ -77,7 +77,7 @@ impl<K: Ord, V> Array<K, V> {
     pub fn len(&self) -> usize
         ensures count { result ≡ length self.now.pairs }
         ensures ordered { IsStrictlySortedBy K.cmp (keys_of self.now.pairs) }
-        ensures used { self.now.used ≡ length self.now.pairs + length self.now.buried }
+        ensures used { self.now.used ≡ length self.now.pairs + length self.now.tombstones }
         ensures within { self.now.used ≤ 15 }
         ensures labels { length self.now.labels ≡ length self.now.pairs }
         ensures retired { self.now.retired ≡ true → self.now.pairs ≡ [] }
@@ -171,7 +171,7 @@ impl<K: Ord, V> Array<K, V> {
     /// The key of the pair that was removed or replaced last; none where nothing was, or it was dropped since
     /// by [`Array::pack`] or in a cut.
     pub fn last_removed(&self) -> Option<&K>
-        ensures { option_copied result ≡ newest self.now.buried }
+        ensures { option_copied result ≡ newest self.now.tombstones }
     {
         let _ = &self.len;
         self.slots.newest()

@@ -18,7 +18,7 @@ impl<K: Ord, V> Array<K, V> {
     pub fn remove_range(&mut self, lo: Bound<&K>, hi: Bound<&K>)
         ensures pairs { self.new.pairs ≡ filter (λ p. not (range_contains K.cmp (bound_map (λ k. k.now) lo.entry) (bound_map (λ k. k.now) hi.entry) p.0)) self.old.pairs }
         ensures labels { self.new.labels ≡ labels_left (λ k. range_contains K.cmp (bound_map (λ k. k.now) lo.entry) (bound_map (λ k. k.now) hi.entry) k) self.old.pairs self.old.labels }
-        ensures buried { self.new.buried ≡ taken_out (λ k. range_contains K.cmp (bound_map (λ k. k.now) lo.entry) (bound_map (λ k. k.now) hi.entry) k) self.old.pairs self.old.labels ++ self.old.buried }
+        ensures tombstones { self.new.tombstones ≡ taken_out (λ k. range_contains K.cmp (bound_map (λ k. k.now) lo.entry) (bound_map (λ k. k.now) hi.entry) k) self.old.pairs self.old.labels ++ self.old.tombstones }
         ensures used { self.new.used ≡ self.old.used }
         ensures frozen { self.new.frozen ≡ self.old.frozen }
         ensures retired { self.new.retired ≡ (self.old.retired || is_nil self.new.pairs && not (is_nil self.old.pairs) && not self.old.frozen) }

@@ -3,7 +3,7 @@
 ghost use Rattle.std.specs.Prelude.{◌≡◌, ◌+◌, ◌<◌, ◌≤◌, ◌++◌, ◌∷◌, [], length, take, drop, IsTrue, IsSome, Some, None, MatchOption, IfOk, IfErr, option_copied, slice_index_or};
 ghost use Rattle.leaf_array.specs.declared.place.Place.TheVariants.{Empty};
 ghost use Rattle.leaf_array.specs.Cells.{rank_in, first_above, last_below, newest, lesser, entered};
-ghost use Rattle.leaf_array.specs.Places.{live_pair, live_pairs, dead_pairs, labels_above, top, has_room, pushed, buried, renewed, paired, died, vacated, packed, pair_at_slot, stands, below, least, no_places, no_half, IsPacked};
+ghost use Rattle.leaf_array.specs.Places.{live_pair, live_pairs, dead_pairs, labels_above, top, has_room, pushed, tombstones, renewed, paired, died, vacated, packed, pair_at_slot, stands, below, least, no_places, no_half, IsPacked};
 
 use crate::place::{Place, precedes};
 use crate::row::{
@@ -173,7 +173,7 @@ impl<K: Ord, V> Slots<K, V> {
         requires rank { top (drop at self.old) ≤ 15 }
         requires place { at < 15 }
         ensures count { length self.new ≡ 15 }
-        ensures places { self.new ≡ take at self.old ++ buried (drop at self.old) }
+        ensures places { self.new ≡ take at self.old ++ tombstones (drop at self.old) }
     {
         self.all.bury(at);
     }

@@ -8,7 +8,7 @@ use Rattle.std.specs.Cmp.{IsTotalOrder}
 use Rattle.leaf_array.specs.Edits.{upserted}
 use Rattle.leaf_array.specs.Pairs.{IsAscending}
 use Rattle.tree_index.proofs.CopyLemmas.{upserted_behind}
-use Rattle.tree_index.proofs.GapLemmas.{start_none}
+use Rattle.tree_index.proofs.InsertionPointLemmas.{start_none}
 use Rattle.tree_index.specs.Cursor.{Cursor}
 use Rattle.versions.proofs.FilterLemmas.{rising_front, rising_under}
 use Rattle.versions.specs.Writes.{after_write, after_writes}

@@ -22,7 +22,7 @@ use Rattle.tree_index.specs.declared.node.InnerNode.{InnerNode}
 use Rattle.tree_index.specs.declared.arenas.Arenas.{Arenas}
 use Rattle.tree_index.specs.Shape.{AllKeys, child_for, child_in, way}
 use Rattle.tree_index.specs.Content.{content_of, pairs_of, HasRoom, NodeHasRoom, IsLeafFull}
-use Rattle.tree_index.specs.Cuts.{key_at}
+use Rattle.tree_index.specs.SplitPoints.{key_at}
 use Rattle.tree_index.proofs.WayLemmas.{some_same}
 use Rattle.tree_index.proofs.CopyLemmas.{upserted_behind}
 use Rattle.tree_index.specs.Depth.{IsAbove, leaf_room, is_reached, node_room, root_room, rises, ascending_headroom}

@@ -17,7 +17,7 @@ use Rattle.tree_index.specs.declared.prune.Fork.{Fork}
 use Rattle.tree_index.specs.Shape.{Content, child_for, leaf_pairs, pairs_under, leaves_under, leaf_times, node_times, IsNode, Stands}
 use Rattle.tree_index.specs.Chain.{links, times, IsLinked, linked_out}
 use Rattle.tree_index.specs.Content.{content_of, pairs_of, leaves_of, leaf_on_way, IsSound, AreSameArrays}
-use Rattle.tree_index.specs.Prune.{IsSingle, IsFork, IsLoose, IsWithout}
+use Rattle.tree_index.specs.Prune.{IsSingle, IsFork, IsDetached, IsWithout}
 use Rattle.tree_index.specs.Walk.{held}
 use Rattle.tree_index.proofs.FocusLemmas.{over, over_is, Turn, Focus, shed}
 use Rattle.tree_index.proofs.WayLemmas.{some_same}
@@ -209,14 +209,14 @@ module _ {K V : Type 0} (cmp : K → K → Ordering) (o : IsTotalOrder cmp) (key
           omega (arith, m, e, counted);
     }
 
-    pub done_loose : IsLoose done f.height f.child leaf
+    pub done_loose : IsDetached done f.height f.child leaf
     done_loose =
         let k = kid cmp o c key left steps a.root stands in
         let off : (n : ℕ) → node_times c n left k ≢ 0 → b.node n ≡ c.node n = λ n d. others n (λ e. at_parent cmp o c key left steps a.root stands n e (omega (arith, d, node_total cmp o c key left steps a.root stands n, stands.node_once n))) in
         let kept = single_kept c b left k leaf single off in
         let total : (n : ℕ) → node_times b n a.height a.root + node_times c n left k ≤ 1 =
         λ n. subst (λ (h : ℕ). node_times b n h a.root + node_times c n left k ≤ 1) height_is (omega (arith, left_over.node n, stands.node_once n)) in
-        subst (λ (n : ℕ). IsLoose done f.height n leaf) (sym kid_is) (record {
+        subst (λ (n : ℕ). IsDetached done f.height n leaf) (sym kid_is) (record {
           planted = planted_;
           single = kept.0;
           once = λ n. omega (arith, kept.1 n, total n);

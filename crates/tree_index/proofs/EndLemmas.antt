@@ -11,8 +11,8 @@ use Rattle.std.proofs.lemmas.Bool.Decides.{leb_tells}
 use Rattle.std.proofs.lemmas.List.{length-append}
 use Rattle.leaf_array.specs.Pairs.{IsAscending, has_key}
 use Rattle.leaf_array.specs.Cells.{lesser}
-use Rattle.tree_index.specs.Cuts.{is_keyed}
-use Rattle.tree_index.proofs.GapLemmas.{has_keyed}
+use Rattle.tree_index.specs.SplitPoints.{is_keyed}
+use Rattle.tree_index.proofs.InsertionPointLemmas.{has_keyed}
 use Rattle.tree_index.specs.declared.leaf.Leaf.{Leaf}
 use Rattle.tree_index.specs.declared.walk.Position.{Position}
 use Rattle.tree_index.specs.declared.cursor.End.{End}
@@ -45,10 +45,10 @@ module _ {K V : Type 0} (cmp : K → K → Ordering) (a : Arenas K V) (s : IsSou
   spot_pair =
       let n = spot.at in
       let f = held a in
-      let p = parting n (leaves_of a) is.gap.own.1 in
-      let same : f n ≡ spot.leaf.now.array.pairs = held_is a n spot.leaf.now is.gap.there in
+      let p = parting n (leaves_of a) is.insertion_point.own.1 in
+      let same : f n ≡ spot.leaf.now.array.pairs = held_is a n spot.leaf.now is.insertion_point.there in
       let within : spot.place < length (f n) = subst (λ (ps : List (K × V)). spot.place < length ps) (sym same) is.within in
-      let before = before_parted f n (leaves_of a) p.fore p.rear p.all (once cmp a s is.gap.own.0 n) in
+      let before = before_parted f n (leaves_of a) p.fore p.rear p.all (once cmp a s is.insertion_point.own.0 n) in
       let all : pairs_of a ≡ gathered f p.fore ++ (f n ++ gathered f p.rear) = all_held a ∙ gathered_parted f n (leaves_of a) p.fore p.rear p.all in
       let long : length (pairs_of a) ≡ length (gathered f p.fore) + (length (f n) + length (gathered f p.rear)) = ap length all ∙ simp length-append in
       (ap (λ ps. slice_get ps (position a spot)) all ∙ slice_middle (gathered f p.fore) (f n) (gathered f p.rear) (position a spot) spot.place (omega (arith, before)) within ∙ ap (λ ps. slice_get ps spot.place) same, omega (arith, before, within, long))

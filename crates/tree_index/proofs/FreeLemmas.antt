@@ -10,7 +10,7 @@ use Rattle.tree_index.specs.declared.arenas.Arenas.{Arenas}
 use Rattle.tree_index.specs.Shape.{Content, AreBetween, joined_along, sum_along, node_joined, node_sum, leaf_pairs, pairs_under, leaves_under, leaf_times, node_times, IsTree, Stands}
 use Rattle.tree_index.specs.Chain.{links, times, IsLinked}
 use Rattle.tree_index.specs.Content.{content_of, pairs_of, leaves_of, IsBare, IsSound}
-use Rattle.tree_index.specs.Prune.{IsLoose, IsLowerable}
+use Rattle.tree_index.specs.Prune.{IsDetached, IsLowerable}
 use Rattle.tree_index.specs.Walk.{held}
 use Rattle.tree_index.proofs.ShapeLemmas.{self_once, IsSame, kept}
 use Rattle.tree_index.proofs.WayLemmas.{some_same}
@@ -64,11 +64,11 @@ module _ {K V : Type 0} (cmp : K → K → Ordering) (a : Arenas K V) (s : IsSou
         count = s.count ∙ sym (ap length same.pairs);
       }
 
-    first_out : (height leaf : ℕ) → IsLoose a (suc height) n leaf → node_times c n a.height a.root ≡ 0
+    first_out : (height leaf : ℕ) → IsDetached a (suc height) n leaf → node_times c n a.height a.root ≡ 0
     first_out height leaf t = t.apart n (λ e. self_once n (node_times c n height t.single.0.1) (sym (single_nodes c n height n leaf t.single) ∙ e))
 
     -- the first of nodes with one child each leaves the arena, and the others are left
-    pub freed : (height leaf : ℕ) (gone : InnerNode K) → get a.nodes n ≡ Some gone → (t : IsLoose a (suc height) n leaf) → IsSound cmp fewer × (pairs_of fewer ≡ pairs_of a) × (leaves_of fewer ≡ leaves_of a) × IsLoose fewer height gone.last leaf
+    pub freed : (height leaf : ℕ) (gone : InnerNode K) → get a.nodes n ≡ Some gone → (t : IsDetached a (suc height) n leaf) → IsSound cmp fewer × (pairs_of fewer ≡ pairs_of a) × (leaves_of fewer ≡ leaves_of a) × IsDetached fewer height gone.last leaf
     freed height leaf gone here t =
         let out = first_out height leaf t in
         let next : ℕ = t.single.0.1 in
@@ -78,7 +78,7 @@ module _ {K V : Type 0} (cmp : K → K → Ordering) (a : Arenas K V) (s : IsSou
           fewer_sound out,
           fewer_pairs out,
           fewer_order out,
-          subst (λ (j : ℕ). IsLoose fewer height j leaf) last (record {
+          subst (λ (j : ℕ). IsDetached fewer height j leaf) last (record {
             planted = planted;
             single = k.0;
             once = λ m. omega (arith, k.1 m, down m, t.once m);

@@ -8,7 +8,7 @@ use Rattle.std.specs.Map.{keys_of}
 use Rattle.std.proofs.lemmas.Map.Keys.{sorted_tail}
 use Rattle.leaf_array.specs.Pairs.{IsAscending}
 use Rattle.tree_index.specs.Shape.{IsOver, IsUpTo, IsWithin, AreBetween, AllKeys, child_for, joined_along, sum_along}
-use Rattle.tree_index.specs.Cuts.{key_at}
+use Rattle.tree_index.specs.SplitPoints.{key_at}
 use Rattle.tree_index.proofs.ShapeLemmas.{not_passed, upto_less, less_upto, turned}
 use Rattle.tree_index.proofs.LeafLemmas.{over_head}
 use Rattle.tree_index.proofs.FocusLemmas.{IsUnder}

@@ -13,10 +13,10 @@ use Rattle.slab.proofs.SlabLemmas.{Updates-with_value}
 use Rattle.leaf_array.specs.Cells.{Cells}
 use Rattle.leaf_array.specs.Pairs.{IsAscending}
 use Rattle.tree_index.specs.declared.leaf.Leaf.{Leaf}
-use Rattle.tree_index.specs.declared.leaf.Cut.{Cut}
+use Rattle.tree_index.specs.declared.leaf.SplitPoint.{SplitPoint}
 use Rattle.tree_index.specs.declared.node.InnerNode.{InnerNode}
 use Rattle.tree_index.specs.declared.arenas.Arenas.{Arenas}
-use Rattle.tree_index.specs.Cuts.{IsCut, key_at}
+use Rattle.tree_index.specs.SplitPoints.{IsSplitPoint, key_at}
 use Rattle.tree_index.specs.Shape.{Content, AllKeys, IsWithin, way, child_in, pairs_under, leaves_under, leaf_times, IsLeaf, IsNode, Stands}
 use Rattle.tree_index.specs.Content.{content_of, pairs_of, leaves_of, IsSound, HasRoom, IsLeafFull, AreSameArrays}
 use Rattle.tree_index.specs.Chain.{links, times, IsLinked, linked_in}
@@ -28,7 +28,7 @@ use Rattle.tree_index.proofs.WayLemmas.{some_same, around}
 use Rattle.tree_index.proofs.SplitLemmas.{around_parent, around_child, parent, child, IsSplit, divided, order_total, none_leaf}
 use Rattle.tree_index.proofs.NodeSplitLemmas.{way_more}
 use Rattle.tree_index.proofs.NodeLemmas.{planted, leaf_content, node_content}
-use Rattle.tree_index.proofs.CutLemmas.{Sides, sides, behind}
+use Rattle.tree_index.proofs.SplitPointLemmas.{Sides, sides, behind}
 use Rattle.tree_index.proofs.HalfLemmas.{all_at}
 use Rattle.tree_index.proofs.DepthLemmas.{any_at, any_fore, any_rear, all_middle, by_root, room_is, last_way, reached_entry, length_entry}
 use Rattle.tree_index.specs.Depth.{IsAbove, leaf_room, is_reached, root_room}
@@ -43,7 +43,7 @@ array_some (Some l) c h = (l, refl, some_same h)
 
 module _ {K V : Type 0} (cmp : K → K → Ordering) (o : IsTotalOrder cmp) (key : K) (a : Arenas K V) (s : IsSound cmp a) (planted_ : a.height ≢ 0)
     (above at : ℕ) (on_above : above ≡ way cmp (content_of a) key (a.height - 1) a.root) (on_child : at ≡ way cmp (content_of a) key a.height a.root)
-    (whole upper low : Leaf K V) (here : get a.leaves at ≡ Some whole) (cut : Cut K) (fits : IsCut cmp key whole.array.pairs cut) (rising : IsAscending cmp whole.array.pairs) where
+    (whole upper low : Leaf K V) (here : get a.leaves at ≡ Some whole) (split_point : SplitPoint K) (fits : IsSplitPoint cmp key whole.array.pairs split_point) (rising : IsAscending cmp whole.array.pairs) where
   abbrev c : Content K V
   c = content_of a
 
@@ -51,7 +51,7 @@ module _ {K V : Type 0} (cmp : K → K → Ordering) (o : IsTotalOrder cmp) (key
   steps = a.height - 1
 
   abbrev n : ℕ
-  n = cond cut.whole (length whole.array.pairs) 8
+  n = cond split_point.whole (length whole.array.pairs) 8
 
   height_is : over steps 1 ≡ a.height
   height_is = omega (arith, over_is steps 1, planted_)
@@ -77,8 +77,8 @@ module _ {K V : Type 0} (cmp : K → K → Ordering) (o : IsTotalOrder cmp) (key
   pub was_thawed : whole.array.frozen ≡ false
   was_thawed = leaf_stands.thawed
 
-  two : Sides cmp o (around_child cmp o c key 0 steps a.root stands).from (around_child cmp o c key 0 steps a.root stands).upto cut.separator n whole.array.pairs
-  two = sides cmp o key (around_child cmp o c key 0 steps a.root stands).from (around_child cmp o c key 0 steps a.root stands).upto whole.array.pairs cut rising leaf_stands.within (around_child cmp o c key 0 steps a.root stands).key_within fits
+  two : Sides cmp o (around_child cmp o c key 0 steps a.root stands).from (around_child cmp o c key 0 steps a.root stands).upto split_point.separator n whole.array.pairs
+  two = sides cmp o key (around_child cmp o c key 0 steps a.root stands).from (around_child cmp o c key 0 steps a.root stands).upto whole.array.pairs split_point rising leaf_stands.within (around_child cmp o c key 0 steps a.root stands).key_within fits
 
   module _ (old : InnerNode K) (node_there : get a.nodes above ≡ Some old) where
     parent_is : (around_parent cmp o c key 0 steps a.root stands).tree.0 ≡ (old.children, old.last)
@@ -87,14 +87,14 @@ module _ {K V : Type 0} (cmp : K → K → Ordering) (o : IsTotalOrder cmp) (key
     pub old_node : IsNode old.children
     old_node = subst (λ (x : Cells K ℕ × ℕ). IsNode x.0) parent_is (around_parent cmp o c key 0 steps a.root stands).tree.2
 
-    pub absent_above : lookup (is_at (cmp cut.separator)) old.children.pairs ≡ None
-    absent_above = subst (λ (x : Cells K ℕ × ℕ). lookup (is_at (cmp cut.separator)) x.0.pairs ≡ None) parent_is ((around_child cmp o c key 0 steps a.root stands).absent cut.separator two.within two.under)
+    pub absent_above : lookup (is_at (cmp split_point.separator)) old.children.pairs ≡ None
+    absent_above = subst (λ (x : Cells K ℕ × ℕ). lookup (is_at (cmp split_point.separator)) x.0.pairs ≡ None) parent_is ((around_child cmp o c key 0 steps a.root stands).absent split_point.separator two.within two.under)
 
     module _ (lower_pairs : low.array.pairs ≡ take n whole.array.pairs) (upper_pairs : upper.array.pairs ≡ drop n whole.array.pairs) (lower_rising : IsAscending cmp low.array.pairs) (upper_rising : IsAscending cmp upper.array.pairs)
-        (lower_thawed : low.array.frozen ≡ false) (upper_thawed : upper.array.frozen ≡ false) (lower_living : low.array.retired ≡ (cut.whole && whole.array.retired)) (upper_living : upper.array.retired ≡ false)
-        (lower_used : cut.whole ≡ false → low.array.used ≤ 8) (upper_used : upper.array.used ≤ 7)
+        (lower_thawed : low.array.frozen ≡ false) (upper_thawed : upper.array.frozen ≡ false) (lower_living : low.array.retired ≡ (split_point.whole && whole.array.retired)) (upper_living : upper.array.retired ≡ false)
+        (lower_used : split_point.whole ≡ false → low.array.used ≤ 8) (upper_used : upper.array.used ≤ 7)
         (leaves linked : Slab (Leaf K V)) (fresh : ℕ) (added : Updates (with_value a.leaves at upper) leaves fresh (Some low)) (vacant : get (with_value a.leaves at upper) fresh ≡ None) (arrays : AreSameArrays leaves linked) (named : (n : ℕ) → links linked n ≡ linked_in fresh upper.prev at (links leaves) n) (upper_prev : upper.prev ≡ whole.prev) (upper_next : upper.next ≡ whole.next) (low_prev : low.prev ≡ upper.prev) (low_next : low.next ≡ Some at)
-        (m : InnerNode K) (m_node : IsNode m.children) (m_pairs : m.children.pairs ≡ insert_entry cmp old.children.pairs cut.separator fresh) (m_last : m.last ≡ old.last) where
+        (m : InnerNode K) (m_node : IsNode m.children) (m_pairs : m.children.pairs ≡ insert_entry cmp old.children.pairs split_point.separator fresh) (m_last : m.last ≡ old.last) where
       abbrev pub done : Arenas K V
       done = record { leaves = linked; nodes = with_value a.nodes above m; root = a.root; height = a.height; len = a.len }
 
@@ -125,12 +125,12 @@ module _ {K V : Type 0} (cmp : K → K → Ordering) (o : IsTotalOrder cmp) (key
       others : (k : ℕ) → k ≢ fresh → k ≢ kid → b.leaf k ≡ c.leaf k
       others k f q = arrays k ∙ ap array (added.others k f ∙ turned.others k (λ e. q (e ∙ at_is)))
 
-      split : IsSplit cmp o c key 0 steps a.root stands b cut.separator fresh m.children
+      split : IsSplit cmp o c key 0 steps a.root stands b split_point.separator fresh m.children
       split = record {
         within = two.within;
         under = two.under;
-        lower = (low.array, at_fresh, record { thawed = lower_thawed; rising = lower_rising; within = subst (λ (ps : List (K × V)). AllKeys (IsWithin cmp (around_child cmp o c key 0 steps a.root stands).from (Some cut.separator)) ps) (sym lower_pairs) two.lower });
-        upper = (upper.array, at_kid, record { thawed = upper_thawed; rising = upper_rising; within = subst (λ (ps : List (K × V)). AllKeys (IsWithin cmp (Some cut.separator) (around_child cmp o c key 0 steps a.root stands).upto) ps) (sym upper_pairs) two.upper });
+        lower = (low.array, at_fresh, record { thawed = lower_thawed; rising = lower_rising; within = subst (λ (ps : List (K × V)). AllKeys (IsWithin cmp (around_child cmp o c key 0 steps a.root stands).from (Some split_point.separator)) ps) (sym lower_pairs) two.lower });
+        upper = (upper.array, at_kid, record { thawed = upper_thawed; rising = upper_rising; within = subst (λ (ps : List (K × V)). AllKeys (IsWithin cmp (Some split_point.separator) (around_child cmp o c key 0 steps a.root stands).upto) ps) (sym upper_pairs) two.upper });
         pairs = rw (at_fresh, at_kid, there, lower_pairs, upper_pairs) (take-append-drop n whole.array.pairs);
         leaf_same = λ k z e. others k (λ f. e (ap c.leaf f ∙ absent)) (λ f. self_once kid 0 (subst (λ (j : ℕ). cond (kid == j) 1 0 + 0 ≡ 0) f (omega (arith, z))));
         node_same = λ k z q e. ap (option_map (λ (n : InnerNode K). (n.children, n.last))) (node_turned.others k (λ f. q (f ∙ on_above)));
@@ -139,7 +139,7 @@ module _ {K V : Type 0} (cmp : K → K → Ordering) (o : IsTotalOrder cmp) (key
         leaf_most = λ k. most k (eqb_tells fresh k) (eqb_tells kid k);
         node_most = λ k e. omega arith;
         there = ap b.node (sym on_above) ∙ ap (option_map (λ (n : InnerNode K). (n.children, n.last))) node_turned.changed ∙ ap (λ (j : ℕ). Some (m.children, j)) (m_last ∙ sym (ap (λ (x : Cells K ℕ × ℕ). x.1) parent_is));
-        separators = m_pairs ∙ ap (λ (x : Cells K ℕ × ℕ). insert_entry cmp x.0.pairs cut.separator fresh) (sym parent_is);
+        separators = m_pairs ∙ ap (λ (x : Cells K ℕ × ℕ). insert_entry cmp x.0.pairs split_point.separator fresh) (sym parent_is);
         is_node = m_node;
       }
         where
@@ -154,7 +154,7 @@ module _ {K V : Type 0} (cmp : K → K → Ordering) (o : IsTotalOrder cmp) (key
           most k (inr f) (inr q) = rw (f.0, q.0) (omega arith)
 
       pub done_pairs : pairs_of done ≡ pairs_of a
-      done_pairs = subst (λ (n : ℕ). pairs_under b n a.root ≡ pairs_under c n a.root) height_is (divided cmp o c key 0 steps a.root stands b cut.separator fresh m.children split).pairs
+      done_pairs = subst (λ (n : ℕ). pairs_under b n a.root ≡ pairs_under c n a.root) height_is (divided cmp o c key 0 steps a.root stands b split_point.separator fresh m.children split).pairs
 
       -- the leaves before and behind the one that is split
       abbrev lefts : List ℕ
@@ -167,7 +167,7 @@ module _ {K V : Type 0} (cmp : K → K → Ordering) (o : IsTotalOrder cmp) (key
       old_order = subst (λ (n : ℕ). leaves_under c n a.root ≡ lefts ++ at ∷ rights) height_is (order_total cmp o c key 0 steps a.root stands ∙ ap (λ (k : ℕ). (lefts ++ (k ∷ [])) ++ rights) (sym at_is) ∙ simp append_assoc)
 
       new_order : leaves_of done ≡ lefts ++ fresh ∷ (at ∷ rights)
-      new_order = subst (λ (n : ℕ). leaves_under b n a.root ≡ lefts ++ fresh ∷ (at ∷ rights)) height_is ((divided cmp o c key 0 steps a.root stands b cut.separator fresh m.children split).order ∙ ap (λ (k : ℕ). (lefts ++ (fresh ∷ (k ∷ []))) ++ rights) (sym at_is) ∙ simp append_assoc)
+      new_order = subst (λ (n : ℕ). leaves_under b n a.root ≡ lefts ++ fresh ∷ (at ∷ rights)) height_is ((divided cmp o c key 0 steps a.root stands b split_point.separator fresh m.children split).order ∙ ap (λ (k : ℕ). (lefts ++ (fresh ∷ (k ∷ []))) ++ rights) (sym at_is) ∙ simp append_assoc)
 
       counted : (k : ℕ) → times k (lefts ++ at ∷ rights) ≡ leaf_times c k a.height a.root
       counted k = ap (times k) (sym old_order) ∙ times_counted c k a.height a.root
@@ -196,29 +196,29 @@ module _ {K V : Type 0} (cmp : K → K → Ordering) (o : IsTotalOrder cmp) (key
 
       pub done_sound : IsSound cmp done
       done_sound = record {
-        stands = inr (planted_, subst (λ (n : ℕ). Stands cmp b n a.root) height_is (divided cmp o c key 0 steps a.root stands b cut.separator fresh m.children split).stands);
+        stands = inr (planted_, subst (λ (n : ℕ). Stands cmp b n a.root) height_is (divided cmp o c key 0 steps a.root stands b split_point.separator fresh m.children split).stands);
         linked = λ h. done_linked;
         count = s.count ∙ sym (ap length done_pairs);
       }
 
-      next_way : way cmp b key (over steps 1) a.root ≡ cond (is_lt (cmp cut.separator key)) kid fresh
+      next_way : way cmp b key (over steps 1) a.root ≡ cond (is_lt (cmp split_point.separator key)) kid fresh
       next_way =
-          let d = divided cmp o c key 0 steps a.root stands b cut.separator fresh m.children split in
+          let d = divided cmp o c key 0 steps a.root stands b split_point.separator fresh m.children split in
           way_more cmp b key steps 1 a.root ∙ ap (λ k. child_in cmp key k (b.node k)) d.same_way ∙ ap (child_in cmp key (parent cmp o c key 0 steps a.root stands)) split.there ∙ d.next
 
       abbrev IsRoomy : ℕ → Type 0
       IsRoomy k = (x : Cells K V) × (b.leaf k ≡ Some x) × (x.retired ≡ false) × (x.used < 15)
 
-      halved : is_lt (cmp cut.separator key) ≡ false → cut.whole ≡ false
+      halved : is_lt (cmp split_point.separator key) ≡ false → split_point.whole ≡ false
       halved h =
-          (elim cut.whole as (λ w. cut.whole ≡ w → w ≡ false) [
-            | true ↦ λ w. let l : is_lt (cmp cut.separator key) ≡ true = ap is_lt (fits.beyond w) in let e : true ≡ false = sym l ∙ h in cc
+          (elim split_point.whole as (λ w. split_point.whole ≡ w → w ≡ false) [
+            | true ↦ λ w. let l : is_lt (cmp split_point.separator key) ≡ true = ap is_lt (fits.beyond w) in let e : true ≡ false = sym l ∙ h in cc
             | false ↦ λ w. refl
           ]) refl
 
       roomy : IsRoomy (way cmp b key (over steps 1) a.root)
       roomy =
-          rw next_way ((elim (is_lt (cmp cut.separator key)) as (λ q. is_lt (cmp cut.separator key) ≡ q → IsRoomy (cond q kid fresh)) [
+          rw next_way ((elim (is_lt (cmp split_point.separator key)) as (λ q. is_lt (cmp split_point.separator key) ≡ q → IsRoomy (cond q kid fresh)) [
             | true ↦ λ q. (upper.array, at_kid, upper_living, omega (arith, upper_used))
             | false ↦ λ q. (low.array, at_fresh, lower_living ∙ ap (λ w. w && whole.array.retired) (halved q), omega (arith, lower_used (halved q)))
           ]) refl)
@@ -230,7 +230,7 @@ module _ {K V : Type 0} (cmp : K → K → Ordering) (o : IsTotalOrder cmp) (key
           record { leaf = l.0; there = l.1; living = ap (λ (x : Cells K V). x.retired) l.2 ∙ r.2; room = subst (λ (x : Cells K V). x.used < 15) (sym l.2) r.3 }
 
       -- a pair above all others, split off a full leaf, takes no place of a flat tree
-      module _ (flat : a.height ≡ 1) (over_all : IsAbove cmp key (pairs_of a)) (crowd : IsLeafFull cmp key a) (clear : cut.whole ≡ true → upper.array.used ≡ 0) where
+      module _ (flat : a.height ≡ 1) (over_all : IsAbove cmp key (pairs_of a)) (crowd : IsLeafFull cmp key a) (clear : split_point.whole ≡ true → upper.array.used ≡ 0) where
         root_above : above ≡ a.root
         root_above = let none : steps ≡ 0 = omega (arith, flat) in on_above ∙ ap (λ (k : ℕ). way cmp c key k a.root) none
 
@@ -251,16 +251,16 @@ module _ {K V : Type 0} (cmp : K → K → Ordering) (o : IsTotalOrder cmp) (key
         greatest : (k : K) × (key_at whole.array.pairs (length whole.array.pairs - 1) ≡ Some k)
         greatest = behind (length whole.array.pairs - 1) whole.array.pairs (omega (arith, fits.crowded))
 
-        is_whole : cut.whole ≡ true
+        is_whole : split_point.whole ≡ true
         is_whole =
             let less : AllKeys (λ k. cmp k key ≡ Less) whole.array.pairs = all_middle (λ k. cmp k key ≡ Less) in_all.0 whole.array.pairs in_all.1 (subst (IsAbove cmp key) in_all.2 over_all) in
             let below : cmp greatest.0 key ≡ Less = all_at cmp o (λ k. cmp k key ≡ Less) whole.array.pairs (length whole.array.pairs - 1) greatest.0 less greatest.1 in
-            (subst (λ (x : Option K). IfSome x (λ k. cmp k key ≡ Less → cut.whole ≡ true)) greatest.1 fits.rising) below
+            (subst (λ (x : Option K). IfSome x (λ k. cmp k key ≡ Less → split_point.whole ≡ true)) greatest.1 fits.rising) below
 
-        sep_reached : list_any (λ (p : K × V). is_le (cmp cut.separator p.0)) (pairs_of a) ≡ true
+        sep_reached : list_any (λ (p : K × V). is_le (cmp split_point.separator p.0)) (pairs_of a) ≡ true
         sep_reached =
-            let here_any = any_at cmp o whole.array.pairs (length whole.array.pairs - 1) cut.separator (fits.whole is_whole) in
-            subst (λ ps. list_any (λ (p : K × V). is_le (cmp cut.separator p.0)) ps ≡ true) (sym in_all.2) (any_rear (λ (p : K × V). is_le (cmp cut.separator p.0)) in_all.0 (whole.array.pairs ++ in_all.1) (any_fore (λ (p : K × V). is_le (cmp cut.separator p.0)) whole.array.pairs in_all.1 here_any))
+            let here_any = any_at cmp o whole.array.pairs (length whole.array.pairs - 1) split_point.separator (fits.whole is_whole) in
+            subst (λ ps. list_any (λ (p : K × V). is_le (cmp split_point.separator p.0)) ps ≡ true) (sym in_all.2) (any_rear (λ (p : K × V). is_le (cmp split_point.separator p.0)) in_all.0 (whole.array.pairs ++ in_all.1) (any_fore (λ (p : K × V). is_le (cmp split_point.separator p.0)) whole.array.pairs in_all.1 here_any))
 
         last_room : old.last ≡ at → leaf_room (get linked m.last) ≡ 15
         last_room e =
@@ -275,8 +275,8 @@ module _ {K V : Type 0} (cmp : K → K → Ordering) (o : IsTotalOrder cmp) (key
             let es_reached : is_reached cmp (pairs_of a) old.children.pairs ≡ true = subst (λ (x : InnerNode K). is_reached cmp (pairs_of a) x.children.pairs ≡ true) same reached in
             let last : old.last ≡ at = sym (on_child ∙ last_way cmp o key a old flat root_there over_all es_reached) in
             let room = room_is cmp done m (ap (get (with_value a.nodes above m)) (sym root_above) ∙ node_turned.changed)
-            (subst (λ ps. is_reached cmp ps m.children.pairs ≡ true) (sym done_pairs) (subst (λ es. is_reached cmp (pairs_of a) es ≡ true) (sym m_pairs) (reached_entry cmp (pairs_of a) cut.separator fresh sep_reached old.children.pairs es_reached))) in
+            (subst (λ ps. is_reached cmp ps m.children.pairs ≡ true) (sym done_pairs) (subst (λ es. is_reached cmp (pairs_of a) es ≡ true) (sym m_pairs) (reached_entry cmp (pairs_of a) split_point.separator fresh sep_reached old.children.pairs es_reached))) in
             let old_used : t.children.used ≡ old.children.used = ap (λ (x : InnerNode K). x.children.used) same in
-            let more : m.children.used ≡ suc old.children.used = m_node.packed ∙ ap length m_pairs ∙ length_entry cmp old.children.pairs cut.separator fresh absent_above ∙ ap suc (sym old_node.packed) in
+            let more : m.children.used ≡ suc old.children.used = m_node.packed ∙ ap length m_pairs ∙ length_entry cmp old.children.pairs split_point.separator fresh absent_above ∙ ap suc (sym old_node.packed) in
             let none : leaf_room (get a.leaves t.last) ≡ 0 = ap (λ (x : InnerNode K). leaf_room (get a.leaves x.last)) same ∙ ap (λ (k : ℕ). leaf_room (get a.leaves k)) last ∙ ap leaf_room here ∙ ap (λ (k : ℕ). 15 - k) was_full in
             omega (arith, room, more, none, old_used, some, last_room last))

@@ -27,8 +27,8 @@ module _ {K V : Type 0} where
   spot_part a spot is =
       let n = spot.at in
       let f = held a in
-      let p = parting n (leaves_of a) is.gap.own.1 in
-      let same : f n ≡ spot.leaf.now.array.pairs = held_is a n spot.leaf.now is.gap.there in
+      let p = parting n (leaves_of a) is.insertion_point.own.1 in
+      let same : f n ≡ spot.leaf.now.array.pairs = held_is a n spot.leaf.now is.insertion_point.there in
       record {
         fore = gathered f p.fore;
         rear = gathered f p.rear;
@@ -74,8 +74,8 @@ module _ {K V : Type 0} (cmp : K → K → Ordering) (a : Arenas K V) (s : IsSou
   unfolding spot_part
   position_there =
       let n = spot.at in
-      let p = parting n (leaves_of a) is.gap.own.1 in
-      ap (λ m. m + spot.place) (before_parted (held a) n (leaves_of a) p.fore p.rear p.all (once cmp a s is.gap.own.0 n))
+      let p = parting n (leaves_of a) is.insertion_point.own.1 in
+      ap (λ m. m + spot.place) (before_parted (held a) n (leaves_of a) p.fore p.rear p.all (once cmp a s is.insertion_point.own.0 n))
 
   -- the place of the first pair within a bound is the first within it of its leaf
   pub start_there : position a spot ≡ before_start cmp b (pairs_of a) → before_start cmp b spot.leaf.now.array.pairs ≡ spot.place

@@ -15,11 +15,11 @@ pub mod FreeLemmas
 pub mod HalfLemmas
 pub mod GrowLemmas
 pub mod NodeSplitLemmas
-pub mod CutLemmas
+pub mod SplitPointLemmas
 pub mod NodeLemmas
 pub mod NodeArenaLemmas
 pub mod RisingLemmas
-pub mod GapLemmas
+pub mod InsertionPointLemmas
 pub mod WalkLemmas
 pub mod EndLemmas
 pub mod EqualLemmas

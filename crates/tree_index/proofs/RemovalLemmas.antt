@@ -4,7 +4,7 @@ use Rattle.std.specs.Prelude.{IfSome}
 use Rattle.std.specs.Option.{option_map}
 use Rattle.slab.specs.Slab.{get}
 use Rattle.tree_index.specs.declared.leaf.Leaf.{Leaf}
-use Rattle.tree_index.specs.Cuts.{key_at}
+use Rattle.tree_index.specs.SplitPoints.{key_at}
 use Rattle.std.specs.declared.cmp.Ordering.{Ordering}
 use Rattle.std.specs.declared.cmp.Ordering.TheVariants.{Less, Equal, Greater}
 use Rattle.std.specs.Ordering.{is_lt, is_le}
@@ -28,7 +28,7 @@ use Rattle.tree_index.proofs.WalkLemmas.{all_held, held_is, once, stands_of, lea
 use Rattle.tree_index.proofs.WayLemmas.{some_same, around, leaf_there}
 use Rattle.tree_index.proofs.ChainLemmas.{times_append, first_times}
 use Rattle.tree_index.proofs.RowLemmas.{parting, before_parted, linked_at, last_or}
-use Rattle.tree_index.proofs.GapLemmas.{bound_at, before_bound}
+use Rattle.tree_index.proofs.InsertionPointLemmas.{bound_at, before_bound}
 use Rattle.tree_index.proofs.EndLemmas.{rising_of}
 use Rattle.tree_index.proofs.ThinLemmas.{thinned, thin_counted, thin_sound, thin_same, thin_order, thin_fore, thin_here, thin_pairs}
 

@@ -19,7 +19,7 @@ use Rattle.tree_index.proofs.ChainLemmas.{times_counted, times_append, first_tim
 use Rattle.tree_index.proofs.RowLemmas.{Own, starts, ends, reach, neighbours, parting, gathered_parted, before_parted, linked_there, last_or, last_joined, first_own, last_own}
 use Rattle.tree_index.proofs.WayLemmas.{some_same, around}
 use Rattle.tree_index.proofs.NodeLemmas.{leaf_content}
-use Rattle.tree_index.proofs.GapLemmas.{bound_at, bound_middle}
+use Rattle.tree_index.proofs.InsertionPointLemmas.{bound_at, bound_middle}
 
 module _ {K V : Type 0} (cmp : K → K → Ordering) (a : Arenas K V) (s : IsSound cmp a) where
   pub stands_of : a.height ≢ 0 → Stands cmp (content_of a) a.height a.root

@@ -19,7 +19,7 @@ use Rattle.leaf_array.specs.Cells.{Cells}
 use Rattle.leaf_array.specs.Pairs.{IsAscending}
 use Rattle.tree_index.specs.declared.leaf.Leaf.{Leaf}
 use Rattle.tree_index.specs.declared.arenas.Arenas.{Arenas}
-use Rattle.tree_index.specs.Cuts.{key_at}
+use Rattle.tree_index.specs.SplitPoints.{key_at}
 use Rattle.tree_index.specs.Shape.{AllKeys, gathered, leaf_pairs}
 use Rattle.tree_index.specs.Chain.{links, times, first_or, IsLinked}
 use Rattle.tree_index.specs.Content.{content_of, pairs_of, leaves_of, leaf_on_way, IsSound}

@@ -6,8 +6,8 @@ use Rattle.slab.specs.Slab.{Slab, get}
 use Rattle.tree_index.specs.declared.leaf.Leaf.{Leaf}
 use Rattle.tree_index.specs.declared.node.InnerNode.{InnerNode}
 use Rattle.tree_index.specs.declared.arenas.Arenas.{Arenas}
-use Rattle.tree_index.specs.declared.leaf.Cut.{Cut}
-use Rattle.tree_index.specs.Cuts.{IsCut}
+use Rattle.tree_index.specs.declared.leaf.SplitPoint.{SplitPoint}
+use Rattle.tree_index.specs.SplitPoints.{IsSplitPoint}
 use Rattle.tree_index.specs.Shape.{Content, pairs_under, leaves_under, way, Stands}
 use Rattle.tree_index.specs.Chain.{links, IsLinked}
 
@@ -71,10 +71,10 @@ module _ {K V : Type 0} where
     pub room : node.children.used < 15
 
   -- the leaf on the way to a key is to be cut there
-  pub record IsCutThere (cmp : K → K → Ordering) (key : K) (a : Arenas K V) (cut : Cut K) : Type 0 where
+  pub record IsSplitPointThere (cmp : K → K → Ordering) (key : K) (a : Arenas K V) (split_point : SplitPoint K) : Type 0 where
     pub leaf : Leaf K V
     pub there : get a.leaves (way cmp (content_of a) key a.height a.root) ≡ Some leaf
-    pub fits : IsCut cmp key leaf.array.pairs cut
+    pub fits : IsSplitPoint cmp key leaf.array.pairs split_point
 
   -- the leaf on the way to a key
   abbrev pub leaf_on_way : (K → K → Ordering) → K → Arenas K V → ℕ

@@ -7,7 +7,7 @@ use Rattle.leaf_array.specs.Cells.{Cells, newest}
 use Rattle.std.specs.declared.cmp.Ordering.{Ordering}
 use Rattle.std.specs.declared.ops.Bound.TheVariants.{Excluded}
 use Rattle.tree_index.specs.Cursor.{deref_pair, before_start, up_to_end}
-use Rattle.tree_index.specs.Cuts.{key_at}
+use Rattle.tree_index.specs.SplitPoints.{key_at}
 use Rattle.tree_index.specs.declared.leaf.leaf_position.LeafPosition.{LeafPosition}
 
 -- a list stands as a whole within another one
@@ -29,7 +29,7 @@ leaf_cursor_code {K} {V} k v =
 module _ {K V : Type 0} where
   -- a cursor at the start
   abbrev pub at_start : Cells K V → LeafCursor K V
-  at_start a = record { pairs = a.pairs; gone = newest a.buried; rank = 0 }
+  at_start a = record { pairs = a.pairs; gone = newest a.tombstones; rank = 0 }
 
   -- the cursor that a leaf and a rank make
   abbrev pub cursor_at : LeafPosition K V → LeafCursor K V

@@ -1,6 +1,6 @@
 pub mod Shape
 pub mod Chain
-pub mod Cuts
+pub mod SplitPoints
 pub mod Content
 pub mod Depth
 pub mod Walk

@@ -41,14 +41,14 @@ module _ {K V : Type 0} where
   IsOwn a (Some n) = (a.height ≢ 0) × (times n (leaves_of a) ≢ 0)
 
   -- a place in a leaf of the tree, at one of its pairs or behind them
-  pub record IsGap (a : Arenas K V) (s : Position K V) : Type 0 where
+  pub record IsInsertionPoint (a : Arenas K V) (s : Position K V) : Type 0 where
     pub there : get a.leaves s.at ≡ Some s.leaf.now
     pub own : IsOwn a (Some s.at)
     pub most : s.place ≤ length s.leaf.now.array.pairs
 
   -- the place of a pair
   pub record IsPosition (a : Arenas K V) (s : Position K V) : Type 0 where
-    pub gap : IsGap a s
+    pub insertion_point : IsInsertionPoint a s
     pub within : s.place < length s.leaf.now.array.pairs
 
   -- the leaves up to the one with this number, or all if none is named, hold only such keys

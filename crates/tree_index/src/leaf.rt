@@ -24,7 +24,7 @@ ghost use Rattle.leaf_array.specs.Pairs.{has_key, IsAscending};
 ghost use Rattle.leaf_array.specs.Values.{ClonesAreSame};
 ghost use Rattle.std.specs.declared.ops.Bound.TheVariants.{Included, Excluded};
 ghost use Rattle.tree_index.specs.Cursor.{before_start};
-ghost use Rattle.tree_index.specs.Cuts.{IsCut, key_at, is_keyed};
+ghost use Rattle.tree_index.specs.SplitPoints.{IsSplitPoint, key_at, is_keyed};
 ghost use Rattle.leaf_array.specs.Results.{is_removal, IsSuccess, IsDuplicate, IsFull, given_back};
 
 use leaf_array::{Array, InsertResult, RemoveResult};
@@ -180,7 +180,7 @@ impl<K: Ord, V> Leaf<K, V> {
 
     /// How many pairs have a lesser key, or where it is asked `beyond` the key, one that isn't greater.
     #[inline]
-    pub(crate) fn gap(&self, key: &K, beyond: bool) -> usize
+    pub(crate) fn insertion_point(&self, key: &K, beyond: bool) -> usize
         ensures place { result ≡ before_start K.cmp (cond beyond (Excluded key.now) (Included key.now)) self.now.array.pairs }
         ensures most { result ≤ length self.now.array.pairs }
     {
@@ -220,20 +220,20 @@ impl<K: Ord, V> Leaf<K, V> {
 
     /// Where the leaf is cut so that the key has room: behind its greatest pair if the key is greater
     /// still, so that pairs which come by rising keys fill their leaves, else in its middle.
-    pub(crate) fn cut(&self, key: &K) -> Result<Cut<K>, AllocError>
+    pub(crate) fn split_point(&self, key: &K) -> Result<SplitPoint<K>, AllocError>
     where
         K: Clone,
         requires clones { ClonesAreSame K.is_clone }
         requires crowded { 12 ≤ length self.now.array.pairs }
-        ensures { IfOk result (λ cut. IsCut K.cmp key.now self.now.array.pairs cut) }
+        ensures { IfOk result (λ split_point. IsSplitPoint K.cmp key.now self.now.array.pairs split_point) }
     {
         let greatest = self.key(self.array.len() - 1);
         match greatest.cmp(key) {
-            Ordering::Less => Ok(Cut {
+            Ordering::Less => Ok(SplitPoint {
                 separator: greatest.clone()?,
                 whole: true,
             }),
-            _ => Ok(Cut {
+            _ => Ok(SplitPoint {
                 separator: self.key(7).clone()?,
                 whole: false,
             }),
@@ -318,7 +318,7 @@ fn is_removal(answer: RemoveResult) -> bool
 
 /// Where a leaf is cut: the greatest key below the cut, and whether all of its pairs are below it.
 #[derive(Drop)]
-pub(crate) struct Cut<K> {
+pub(crate) struct SplitPoint<K> {
     pub(crate) separator: K,
     pub(crate) whole: bool,
 }

@@ -1,13 +1,13 @@
 //! Where a key stands among the pairs of a tree.
 
 ghost use Rattle.std.specs.Prelude.{◌≡◌, ◌<◌, length, slice_get};
-ghost use Rattle.tree_index.specs.Cuts.{is_keyed};
+ghost use Rattle.tree_index.specs.SplitPoints.{is_keyed};
 ghost use Rattle.tree_index.specs.Proximity.{IsLocated};
 ghost use Rattle.tree_index.specs.Content.{pairs_of, IsSound};
 ghost use Rattle.tree_index.specs.Cursor.{whole};
 ghost use Rattle.leaf_array.specs.Cells.{lesser};
 ghost use Rattle.tree_index.specs.Ends.{IsEnd, place_of};
-ghost use Rattle.tree_index.specs.Walk.{position, IsGap, IsPosition};
+ghost use Rattle.tree_index.specs.Walk.{position, IsInsertionPoint, IsPosition};
 
 use crate::arenas::Arenas;
 use crate::cursor::{End, Ends};
@@ -37,12 +37,12 @@ impl<K: Ord, V> Arenas<K, V> {
         requires { IsSound K.cmp self.now }
         ensures { IsLocated K.cmp key.now (pairs_of self.now) result }
     {
-        let Some(gap) = self.gap(key, false) else {
+        let Some(insertion_point) = self.insertion_point(key, false) else {
             return Proximity::Empty;
         };
-        match self.first_at(gap) {
-            Some(larger) => self.locate_before(key, gap, larger),
-            None => match self.before(gap) {
+        match self.first_at(insertion_point) {
+            Some(larger) => self.locate_before(key, insertion_point, larger),
+            None => match self.before(insertion_point) {
                 Some(smaller) => {
                     Proximity::Smaller(self.cursor(End::Unopened, End::At(smaller)))
                 },
@@ -55,20 +55,20 @@ impl<K: Ord, V> Arenas<K, V> {
     fn locate_before<'t>(
         &'t self,
         key: &K,
-        gap: Position<'t, K, V>,
+        insertion_point: Position<'t, K, V>,
         larger: Position<'t, K, V>,
     ) -> Proximity<'t, K, V>
         requires sound { IsSound K.cmp self.now }
-        requires gap { IsGap self.now gap }
+        requires insertion_point { IsInsertionPoint self.now insertion_point }
         requires spot { IsPosition self.now larger }
-        requires first { position self.now gap ≡ lesser K.cmp key.now (pairs_of self.now) }
-        requires same { position self.now larger ≡ position self.now gap }
+        requires first { position self.now insertion_point ≡ lesser K.cmp key.now (pairs_of self.now) }
+        requires same { position self.now larger ≡ position self.now insertion_point }
         ensures { IsLocated K.cmp key.now (pairs_of self.now) result }
     {
         if larger.has_key(key) {
             return Proximity::Exact(self.cursor(End::At(larger), End::Unopened));
         }
-        match self.before(gap) {
+        match self.before(insertion_point) {
             Some(smaller) => Proximity::Between(self.cursor(End::At(smaller), End::At(larger))),
             None => Proximity::Larger(self.cursor(End::At(larger), End::Unopened)),
         }

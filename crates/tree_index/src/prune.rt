@@ -5,7 +5,7 @@ ghost use Rattle.std.specs.Option.{option_map};
 ghost use Rattle.slab.specs.Slab.{get};
 ghost use Rattle.tree_index.specs.Chain.{links, linked_out, times};
 ghost use Rattle.tree_index.specs.Content.{content_of, pairs_of, leaves_of, IsSound, AreSameArrays, leaf_on_way};
-ghost use Rattle.tree_index.specs.Prune.{IsFork, IsLoose, IsWithout, IsLowerable};
+ghost use Rattle.tree_index.specs.Prune.{IsFork, IsDetached, IsWithout, IsLowerable};
 ghost use Rattle.tree_index.specs.Walk.{held};
 
 use crate::arenas::Arenas;
@@ -97,7 +97,7 @@ impl<K: Ord, V> Arenas<K, V> {
         requires fork { (key : K) × IsFork K.cmp key self.old fork × (leaf ≡ leaf_on_way K.cmp key self.old) }
         ensures sound { IsSound K.cmp self.new }
         ensures without { IsWithout leaf self.old self.new }
-        ensures loose { IsLoose self.new fork.height fork.child leaf }
+        ensures loose { IsDetached self.new fork.height fork.child leaf }
         ensures depth { self.new.height ≡ self.old.height }
     {
         let (prev, next) = match self.leaves.get(leaf) {
@@ -120,7 +120,7 @@ impl<K: Ord, V> Arenas<K, V> {
         K: Drop,
         V: Drop,
         requires sound { IsSound K.cmp self.old }
-        requires loose { IsLoose self.old left from leaf }
+        requires loose { IsDetached self.old left from leaf }
         ensures sound { IsSound K.cmp self.new }
         ensures pairs { pairs_of self.new ≡ pairs_of self.old }
         ensures order { leaves_of self.new ≡ leaves_of self.old }

@@ -7,10 +7,10 @@ ghost use Rattle.slab.specs.Slab.{get, HasRoomFor, slab_len};
 ghost use Rattle.tree_index.specs.Chain.{links, linked_in};
 ghost use Rattle.tree_index.specs.Depth.{IsAbove, ascending_headroom};
 ghost use Rattle.tree_index.specs.Shape.{way};
-ghost use Rattle.tree_index.specs.Content.{content_of, pairs_of, IsSound, HasRoom, NodeHasRoom, IsNodeFull, IsLeafFull, IsCutThere, AreSameArrays, leaf_on_way};
+ghost use Rattle.tree_index.specs.Content.{content_of, pairs_of, IsSound, HasRoom, NodeHasRoom, IsNodeFull, IsLeafFull, IsSplitPointThere, AreSameArrays, leaf_on_way};
 
 use crate::arenas::Arenas;
-use crate::leaf::{Cut, Leaf};
+use crate::leaf::{Leaf, SplitPoint};
 use crate::node::InnerNode;
 use leaf_array::Array;
 use slab::Slab;
@@ -46,14 +46,14 @@ impl<K: Ord, V> Arenas<K, V> {
             self.pack(at, key);
             return Ok(());
         }
-        let cut = self.cut(at, key)?;
+        let split_point = self.split_point(at, key)?;
         let Some(most) = self.height.checked_add(1) else {
             return Err(AllocError);
         };
         self.leaves.reserve(1)?;
         self.nodes.reserve(most)?;
         let above = self.split_nodes(key);
-        self.split_leaf(above, at, key, cut);
+        self.split_leaf(above, at, key, split_point);
         Ok(())
     }
 
@@ -128,7 +128,7 @@ impl<K: Ord, V> Arenas<K, V> {
     }
 
     /// Where the leaf on the way to a key is cut.
-    fn cut(&self, at: usize, key: &K) -> Result<Cut<K>, AllocError>
+    fn split_point(&self, at: usize, key: &K) -> Result<SplitPoint<K>, AllocError>
     where
         K: Clone,
         requires sound { IsSound K.cmp self.now }
@@ -136,10 +136,10 @@ impl<K: Ord, V> Arenas<K, V> {
         requires on { at ≡ leaf_on_way K.cmp key.now self.now }
         requires clones { ClonesAreSame K.is_clone }
         requires crowded { IfSome (get self.now.leaves (leaf_on_way K.cmp key.now self.now)) (λ l. 12 ≤ length l.array.pairs) }
-        ensures { IfOk result (λ cut. IsCutThere K.cmp key.now self.now cut) }
+        ensures { IfOk result (λ split_point. IsSplitPointThere K.cmp key.now self.now split_point) }
     {
         match self.leaves.get(at) {
-            Some(leaf) => leaf.cut(key),
+            Some(leaf) => leaf.split_point(key),
             None => unreachable!(),
         }
     }
@@ -254,7 +254,7 @@ impl<K: Ord, V> Arenas<K, V> {
     }
 
     /// Splits the leaf on the way to a key, whose node has room.
-    fn split_leaf(&mut self, above: usize, child: usize, key: &K, cut: Cut<K>)
+    fn split_leaf(&mut self, above: usize, child: usize, key: &K, split_point: SplitPoint<K>)
     where
         K: Drop,
         V: Drop,
@@ -262,7 +262,7 @@ impl<K: Ord, V> Arenas<K, V> {
         requires planted { self.old.height ≢ 0 }
         requires lowest { above ≡ way K.cmp (content_of self.old) key.now (self.old.height - 1) self.old.root }
         requires on { child ≡ leaf_on_way K.cmp key.now self.old }
-        requires cut { IsCutThere K.cmp key.now self.old cut }
+        requires split_point { IsSplitPointThere K.cmp key.now self.old split_point }
         requires parent { NodeHasRoom K.cmp key.now self.old 1 }
         requires room { HasRoomFor self.old.leaves 1 }
         ensures sound { IsSound K.cmp self.new }
@@ -272,7 +272,7 @@ impl<K: Ord, V> Arenas<K, V> {
     {
         let _ = key;
         let (lower, before) = match self.leaves.get_mut(child) {
-            Some(leaf) => (leaf.split(cut.whole), leaf.prev),
+            Some(leaf) => (leaf.split(split_point.whole), leaf.prev),
             None => unreachable!(),
         };
         let fresh = self.leaves.insert_reserved(Leaf {
@@ -282,7 +282,7 @@ impl<K: Ord, V> Arenas<K, V> {
         });
         link(&mut self.leaves, before, fresh, child);
         match self.nodes.get_mut(above) {
-            Some(node) => node.insert(cut.separator, fresh),
+            Some(node) => node.insert(split_point.separator, fresh),
             None => unreachable!(),
         }
     }

@@ -6,7 +6,7 @@ ghost use Rattle.std.specs.declared.ops.Bound.TheVariants.{Included, Excluded, U
 ghost use Rattle.tree_index.specs.Chain.{first_or};
 ghost use Rattle.tree_index.specs.Content.{pairs_of, leaves_of, IsSound};
 ghost use Rattle.tree_index.specs.Cursor.{before_start, up_to_end};
-ghost use Rattle.tree_index.specs.Walk.{position, starts_at, ends_at, IsOwn, IsGap, IsPosition};
+ghost use Rattle.tree_index.specs.Walk.{position, starts_at, ends_at, IsOwn, IsInsertionPoint, IsPosition};
 
 use crate::arenas::Arenas;
 use crate::leaf::Leaf;
@@ -192,7 +192,7 @@ impl<K: Ord, V> Arenas<K, V> {
     #[inline(always)]
     pub(crate) fn before<'t>(&'t self, spot: Position<'t, K, V>) -> Option<Position<'t, K, V>>
         requires sound { IsSound K.cmp self.now }
-        requires gap { IsGap self.now spot }
+        requires insertion_point { IsInsertionPoint self.now spot }
         ensures none { IfNone result (position self.now spot.entry ≡ 0) }
         ensures spot { IfSome result (λ s. IsPosition self.now s) }
         ensures there { IfSome result (λ s. position self.now s + 1 ≡ position self.now spot.entry) }
@@ -208,25 +208,28 @@ impl<K: Ord, V> Arenas<K, V> {
     }
 
     /// The pair at a place of a leaf, or the first one behind it.
-    pub(crate) fn first_at<'t>(&'t self, gap: Position<'t, K, V>) -> Option<Position<'t, K, V>>
+    pub(crate) fn first_at<'t>(
+        &'t self,
+        insertion_point: Position<'t, K, V>,
+    ) -> Option<Position<'t, K, V>>
         requires sound { IsSound K.cmp self.now }
-        requires gap { IsGap self.now gap }
-        ensures none { IfNone result (position self.now gap.entry ≡ length (pairs_of self.now)) }
+        requires insertion_point { IsInsertionPoint self.now insertion_point }
+        ensures none { IfNone result (position self.now insertion_point.entry ≡ length (pairs_of self.now)) }
         ensures spot { IfSome result (λ s. IsPosition self.now s) }
-        ensures there { IfSome result (λ s. position self.now s ≡ position self.now gap.entry) }
+        ensures there { IfSome result (λ s. position self.now s ≡ position self.now insertion_point.entry) }
     {
-        if gap.place < gap.leaf.len() {
-            return Some(gap);
+        if insertion_point.place < insertion_point.leaf.len() {
+            return Some(insertion_point);
         }
-        self.first_from(gap.leaf.next)
+        self.first_from(insertion_point.leaf.next)
     }
 
     /// The place in the leaf on the way to a key behind all pairs with a lesser key, and where it is
     /// asked for behind the one with the key too. It may be behind the last pair of the leaf.
-    pub(crate) fn gap(&self, key: &K, beyond: bool) -> Option<Position<'_, K, V>>
+    pub(crate) fn insertion_point(&self, key: &K, beyond: bool) -> Option<Position<'_, K, V>>
         requires { IsSound K.cmp self.now }
         ensures none { IfNone result (pairs_of self.now ≡ []) }
-        ensures gap { IfSome result (λ s. IsGap self.now s) }
+        ensures insertion_point { IfSome result (λ s. IsInsertionPoint self.now s) }
         ensures there { IfSome result (λ s. position self.now s ≡ before_start K.cmp (cond beyond (Excluded key.now) (Included key.now)) (pairs_of self.now)) }
     {
         let at = self.leaf_of(key);
@@ -234,7 +237,7 @@ impl<K: Ord, V> Arenas<K, V> {
             Some(leaf) => Some(Position {
                 leaf,
                 at,
-                place: leaf.gap(key, beyond),
+                place: leaf.insertion_point(key, beyond),
             }),
             None => None,
         }
@@ -247,8 +250,8 @@ impl<K: Ord, V> Arenas<K, V> {
         ensures spot { IfSome result (λ s. IsPosition self.now s) }
         ensures there { IfSome result (λ s. position self.now s ≡ before_start K.cmp (cond beyond (Excluded key.now) (Included key.now)) (pairs_of self.now)) }
     {
-        match self.gap(key, beyond) {
-            Some(gap) => self.first_at(gap),
+        match self.insertion_point(key, beyond) {
+            Some(insertion_point) => self.first_at(insertion_point),
             None => None,
         }
     }
@@ -260,8 +263,8 @@ impl<K: Ord, V> Arenas<K, V> {
         ensures spot { IfSome result (λ s. IsPosition self.now s) }
         ensures there { IfSome result (λ s. position self.now s + 1 ≡ before_start K.cmp (cond beyond (Excluded key.now) (Included key.now)) (pairs_of self.now)) }
     {
-        match self.gap(key, beyond) {
-            Some(gap) => self.before(gap),
+        match self.insertion_point(key, beyond) {
+            Some(insertion_point) => self.before(insertion_point),
             None => None,
         }
     }

@@ -8,9 +8,9 @@ use Rattle.std.specs.Prelude.{slice_get}
 use Rattle.std.specs.declared.cmp.Ordering.{Ordering}
 use Rattle.leaf_array.specs.Cells.{lesser}
 use Rattle.leaf_array.specs.Pairs.{has_key, IsAscending}
-use Rattle.tree_index.proofs.GapLemmas.{has_keyed}
+use Rattle.tree_index.proofs.InsertionPointLemmas.{has_keyed}
 use Rattle.tree_index.specs.Cursor.{Cursor, whole}
-use Rattle.tree_index.specs.Cuts.{is_keyed}
+use Rattle.tree_index.specs.SplitPoints.{is_keyed}
 use Rattle.tree_index.specs.declared.cursor.End.TheVariants.{Unopened, At}
 use Rattle.versions.specs.Cuts.{pairs_in}
 use Rattle.versions.specs.CursorEnds.{fore_place, pairs_before, rear_place, AreRising, IsAround, IsForeAt, IsRearAt, IsWalking}

@@ -9,7 +9,7 @@ use Rattle.std.specs.Map.{lookup_entry}
 use Rattle.leaf_array.specs.Cells.{lesser}
 use Rattle.leaf_array.specs.Pairs.{has_key}
 use Rattle.tree_index.specs.Cursor.{before_start, up_to_end}
-use Rattle.tree_index.proofs.GapLemmas.{bound_middle, end_included, end_excluded, end_none, included_is, start_none}
+use Rattle.tree_index.proofs.InsertionPointLemmas.{bound_middle, end_included, end_excluded, end_none, included_is, start_none}
 use Rattle.tree_index.proofs.WayLemmas.{has_middle, lookup_middle}
 use Rattle.versions.specs.Cuts.{pairs_in}
 use Rattle.versions.specs.CursorEnds.{IsAround, pairs_before}

@@ -1,7 +1,7 @@
 //! A live place that dies.
 
 ghost use Rattle.std.specs.Prelude.{◌≡◌, ◌<◌, ◌≤◌, ◌++◌, ◌∷◌, [], length, take, drop};
-ghost use Rattle.leaf_array.specs.Places.{top, sunk, buried};
+ghost use Rattle.leaf_array.specs.Places.{top, sunk, tombstones};
 
 use crate::place::{Place, fill, widened};
 use crate::row::{Last, Link, Places};
@@ -17,7 +17,7 @@ pub(crate) trait Bury<K, V>: Places<K, V> {
     fn bury(&mut self, at: usize)
         requires rank { top (drop at (Self.places self.old)) ≤ 15 }
         requires place { at < length (Self.places self.old) }
-        ensures { Self.places self.new ≡ take at (Self.places self.old) ++ buried (drop at (Self.places self.old)) };
+        ensures { Self.places self.new ≡ take at (Self.places self.old) ++ tombstones (drop at (Self.places self.old)) };
 }
 
 impl<K, V> Bury<K, V> for Last<K, V> {

@@ -3,7 +3,7 @@
 ghost use Rattle.std.specs.Prelude.{◌≡◌, ◌-◌, IfNone, IfSome, MatchOption, None, Some, length, option_copied, slice_get};
 ghost use Rattle.std.specs.declared.ops.Bound.TheVariants.{Excluded};
 ghost use Rattle.tree_index.specs.Cursor.{before_start, deref_pair};
-ghost use Rattle.tree_index.specs.Cuts.{key_at};
+ghost use Rattle.tree_index.specs.SplitPoints.{key_at};
 ghost use Rattle.tree_index.specs.LeafCursor.{at_start, key_behind, IsFirstAbove, ranked, IsPart};
 
 use crate::index::TreeIndex;

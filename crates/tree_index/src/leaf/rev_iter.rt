@@ -3,7 +3,7 @@
 ghost use Rattle.std.specs.Prelude.{◌≡◌, IfNone, IfSome, MatchOption, None, Some, option_copied};
 ghost use Rattle.std.specs.declared.ops.Bound.TheVariants.{Excluded};
 ghost use Rattle.tree_index.specs.Cursor.{deref_pair, up_to_end};
-ghost use Rattle.tree_index.specs.Cuts.{key_at};
+ghost use Rattle.tree_index.specs.SplitPoints.{key_at};
 ghost use Rattle.tree_index.specs.LeafCursor.{at_start, key_before, IsLastBelow, ranked, IsPart};
 
 use crate::index::TreeIndex;

@@ -13,7 +13,7 @@ loop-at-preserved-then-is_within g c =
     let lt = c.loop-at-test.true in
     rw c.bury.ensures (record {
       cleared = cleared_remove test c.loop-at.at c.args.self.now.pairs c.loop-at.self.pairs c.args.self.now.labels c.loop-at.self.labels (omega (arith, lt, c.len.ensures.count)) c.len.ensures.labels c.if-is_within.ensures i.cleared;
-      buried = taken_remove test c.loop-at.at c.loop-at.self.pairs c.loop-at.self.labels c.loop-at.self.buried (omega (arith, lt, c.len.ensures.count)) c.len.ensures.labels c.if-is_within.ensures i.cleared.front ∙ i.buried;
+      tombstones = taken_remove test c.loop-at.at c.loop-at.self.pairs c.loop-at.self.labels c.loop-at.self.tombstones (omega (arith, lt, c.len.ensures.count)) c.len.ensures.labels c.if-is_within.ensures i.cleared.front ∙ i.tombstones;
       used = i.used;
       frozen = i.frozen;
       retired = ap (λ f. c.loop-at.self.retired || is_nil (remove c.loop-at.self.pairs c.loop-at.at) && not f) i.frozen
@@ -26,7 +26,7 @@ loop-at-preserved g c =
     let test = (range_contains g.K.Ord.cmp (bound_map (λ k. k.now) c.args.lo) (bound_map (λ k. k.now) c.args.hi)) in
     record {
       cleared = cleared_keep test c.loop-at.at c.args.self.now.pairs c.loop-at.self.pairs c.args.self.now.labels c.loop-at.self.labels (omega (arith, c.loop-at-test.true, c.len.ensures.count)) c.if-is_within.ensures i.cleared;
-      buried = i.buried;
+      tombstones = i.tombstones;
       used = i.used;
       frozen = i.frozen;
       retired = i.retired;
@@ -38,7 +38,7 @@ returns-clause-pairs g c = cleared_pairs (range_contains g.K.Ord.cmp (bound_map 
 pub returns-clause-labels : goal.returns-clause-labels
 returns-clause-labels g c = cleared_labels (range_contains g.K.Ord.cmp (bound_map (λ k. k.now) c.args.lo) (bound_map (λ k. k.now) c.args.hi)) c.loop-at.at c.args.self.now.pairs c.loop-at.self.pairs c.args.self.now.labels c.loop-at.self.labels (omega (arith, c.loop-at-test.false, c.len.ensures.count)) c.len.ensures.labels c.loop-at.invariant.cleared
 
-pub returns-clause-buried : goal.returns-clause-buried
-returns-clause-buried g c =
-    sym (taken_all (range_contains g.K.Ord.cmp (bound_map (λ k. k.now) c.args.lo) (bound_map (λ k. k.now) c.args.hi)) c.loop-at.at c.args.self.now.pairs c.loop-at.self.pairs c.args.self.now.labels c.loop-at.self.labels c.loop-at.self.buried (omega (arith, c.loop-at-test.false, c.len.ensures.count)) c.loop-at.invariant.cleared)
-    ∙ c.loop-at.invariant.buried
+pub returns-clause-tombstones : goal.returns-clause-tombstones
+returns-clause-tombstones g c =
+    sym (taken_all (range_contains g.K.Ord.cmp (bound_map (λ k. k.now) c.args.lo) (bound_map (λ k. k.now) c.args.hi)) c.loop-at.at c.args.self.now.pairs c.loop-at.self.pairs c.args.self.now.labels c.loop-at.self.labels c.loop-at.self.tombstones (omega (arith, c.loop-at-test.false, c.len.ensures.count)) c.loop-at.invariant.cleared)
+    ∙ c.loop-at.invariant.tombstones

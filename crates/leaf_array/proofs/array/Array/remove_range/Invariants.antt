@@ -8,7 +8,7 @@ use Rattle.leaf_array.proofs.array.Array.remove_range.Given as goal
 abbrev pub invariant-loop-at : goal.invariant-loop-at
 invariant-loop-at g l = record {
   cleared : Cleared (range_contains g.K.Ord.cmp (bound_map (λ k. k.now) l.lo) (bound_map (λ k. k.now) l.hi)) l.at l.initial.self.pairs l.self.pairs l.initial.self.labels l.self.labels;
-  buried : taken_out (range_contains g.K.Ord.cmp (bound_map (λ k. k.now) l.lo) (bound_map (λ k. k.now) l.hi)) l.self.pairs l.self.labels ++ l.self.buried ≡ taken_out (range_contains g.K.Ord.cmp (bound_map (λ k. k.now) l.lo) (bound_map (λ k. k.now) l.hi)) l.initial.self.pairs l.initial.self.labels ++ l.initial.self.buried;
+  tombstones : taken_out (range_contains g.K.Ord.cmp (bound_map (λ k. k.now) l.lo) (bound_map (λ k. k.now) l.hi)) l.self.pairs l.self.labels ++ l.self.tombstones ≡ taken_out (range_contains g.K.Ord.cmp (bound_map (λ k. k.now) l.lo) (bound_map (λ k. k.now) l.hi)) l.initial.self.pairs l.initial.self.labels ++ l.initial.self.tombstones;
   used : l.self.used ≡ l.initial.self.used;
   frozen : l.self.frozen ≡ l.initial.self.frozen;
   retired : l.self.retired ≡ (l.initial.self.retired || is_nil l.self.pairs && not (is_nil l.initial.self.pairs) && not l.initial.self.frozen);

@@ -6,4 +6,4 @@ pub returns-in-Some-clause-spot : goal.returns-in-Some-clause-spot
 returns-in-Some-clause-spot g c =
     let spot = c.args.spot in
     let within : spot.place + 1 < length spot.leaf.now.array.pairs = slice_get_within _ _ _ c.in-Some.ensures in
-    record { gap = record { there = c.requires.spot.gap.there; own = c.requires.spot.gap.own; most = omega (arith, within) }; within = within }
+    record { insertion_point = record { there = c.requires.spot.insertion_point.there; own = c.requires.spot.insertion_point.own; most = omega (arith, within) }; within = within }

@@ -3,7 +3,7 @@ use Rattle.std.specs.Range.Bound.{bound_map}
 use Rattle.std.specs.Borrow.{Bor}
 use Rattle.tree_index.specs.Content.{pairs_of}
 use Rattle.tree_index.specs.Cursor.{before_start}
-use Rattle.tree_index.proofs.GapLemmas.{start_none}
+use Rattle.tree_index.proofs.InsertionPointLemmas.{start_none}
 use Rattle.tree_index.proofs.WalkLemmas.{if_some}
 use Rattle.tree_index.proofs.arenas.Arenas.first_within.Goals as goal
 

@@ -3,7 +3,7 @@ use Rattle.std.specs.Range.Bound.{bound_map}
 use Rattle.std.specs.Borrow.{Bor}
 use Rattle.tree_index.specs.Content.{pairs_of}
 use Rattle.tree_index.specs.Cursor.{up_to_end}
-use Rattle.tree_index.proofs.GapLemmas.{end_none, end_included, end_excluded}
+use Rattle.tree_index.proofs.InsertionPointLemmas.{end_none, end_included, end_excluded}
 use Rattle.tree_index.proofs.WalkLemmas.{if_none, if_some}
 use Rattle.tree_index.proofs.arenas.Arenas.last_within.Goals as goal
 

@@ -3,7 +3,7 @@ use Rattle.tree_index.specs.declared.cursor.End.TheVariants.{Unopened, At}
 use Rattle.tree_index.specs.Content.{pairs_of}
 use Rattle.tree_index.specs.Cursor.{whole}
 use Rattle.tree_index.specs.Walk.{position}
-use Rattle.tree_index.proofs.GapLemmas.{included_is}
+use Rattle.tree_index.proofs.InsertionPointLemmas.{included_is}
 use Rattle.tree_index.proofs.arenas.Arenas.locate.Goals as goal
 
 pub locate_before-requires-clause-first : goal.locate_before-requires-clause-first

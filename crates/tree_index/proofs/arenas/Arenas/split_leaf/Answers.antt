@@ -2,7 +2,7 @@ use Rattle.std.proofs.Common.{◌≡◌, Some, sym, ap, ◌∙◌, subst, refl}
 use Rattle.slab.specs.Slab.{get}
 use Rattle.tree_index.specs.declared.leaf.Leaf.{Leaf}
 use Rattle.tree_index.specs.declared.node.InnerNode.{InnerNode}
-use Rattle.tree_index.specs.Cuts.{IsCut}
+use Rattle.tree_index.specs.SplitPoints.{IsSplitPoint}
 use Rattle.tree_index.proofs.WayLemmas.{some_same}
 use Rattle.tree_index.proofs.LeafArenaLemmas.{was_thawed, old_node, absent_above, done_pairs, done_sound, done_room, done_room_kept}
 use Rattle.tree_index.proofs.DepthLemmas.{rises_more}
@@ -14,17 +14,17 @@ insert-requires-clause-node g c =
     let o = g.met.K.Ord.total in
     let key = c.args.key.now in
     let a = c.args.self.now in
-    let cut = c.args.cut in
+    let split_point = c.args.split_point in
     let whole : Leaf g.row.K.Denot g.row.V.Denot = c.in-Some.leaf.now in
     let upper : Leaf g.row.K.Denot g.row.V.Denot = c.split.new.self in
     let low : Leaf g.row.K.Denot g.row.V.Denot = record { array = c.split.result; prev = c.split.new.self.prev; next = Some c.args.child } in
     let here : get a.leaves c.args.child ≡ Some whole = sym c.in-Some.ensures.value in
-    let same : c.requires.cut.leaf ≡ whole = some_same (sym c.requires.cut.there ∙ ap (get a.leaves) (sym c.requires.on) ∙ here) in
-    let fits : IsCut cmp key whole.array.pairs cut = subst (λ (l : Leaf g.row.K.Denot g.row.V.Denot). IsCut cmp key l.array.pairs cut) same c.requires.cut.fits in
+    let same : c.requires.split_point.leaf ≡ whole = some_same (sym c.requires.split_point.there ∙ ap (get a.leaves) (sym c.requires.on) ∙ here) in
+    let fits : IsSplitPoint cmp key whole.array.pairs split_point = subst (λ (l : Leaf g.row.K.Denot g.row.V.Denot). IsSplitPoint cmp key l.array.pairs split_point) same c.requires.split_point.fits in
     let old : InnerNode g.row.K.Denot = c.in-Some-get_mut.node.now in
     let there : get a.nodes c.args.above ≡ Some old = sym c.in-Some-get_mut.ensures.value in
-    let thawed = was_thawed cmp o key a c.requires.sound c.requires.planted c.args.above c.args.child c.requires.lowest c.requires.on whole upper low here cut fits c.split.ensures.rising in
-    old_node cmp o key a c.requires.sound c.requires.planted c.args.above c.args.child c.requires.lowest c.requires.on whole upper low here cut fits c.split.ensures.rising old there
+    let thawed = was_thawed cmp o key a c.requires.sound c.requires.planted c.args.above c.args.child c.requires.lowest c.requires.on whole upper low here split_point fits c.split.ensures.rising in
+    old_node cmp o key a c.requires.sound c.requires.planted c.args.above c.args.child c.requires.lowest c.requires.on whole upper low here split_point fits c.split.ensures.rising old there
 
 pub insert-requires-clause-absent : goal.insert-requires-clause-absent
 insert-requires-clause-absent g c =
@@ -32,17 +32,17 @@ insert-requires-clause-absent g c =
     let o = g.met.K.Ord.total in
     let key = c.args.key.now in
     let a = c.args.self.now in
-    let cut = c.args.cut in
+    let split_point = c.args.split_point in
     let whole : Leaf g.row.K.Denot g.row.V.Denot = c.in-Some.leaf.now in
     let upper : Leaf g.row.K.Denot g.row.V.Denot = c.split.new.self in
     let low : Leaf g.row.K.Denot g.row.V.Denot = record { array = c.split.result; prev = c.split.new.self.prev; next = Some c.args.child } in
     let here : get a.leaves c.args.child ≡ Some whole = sym c.in-Some.ensures.value in
-    let same : c.requires.cut.leaf ≡ whole = some_same (sym c.requires.cut.there ∙ ap (get a.leaves) (sym c.requires.on) ∙ here) in
-    let fits : IsCut cmp key whole.array.pairs cut = subst (λ (l : Leaf g.row.K.Denot g.row.V.Denot). IsCut cmp key l.array.pairs cut) same c.requires.cut.fits in
+    let same : c.requires.split_point.leaf ≡ whole = some_same (sym c.requires.split_point.there ∙ ap (get a.leaves) (sym c.requires.on) ∙ here) in
+    let fits : IsSplitPoint cmp key whole.array.pairs split_point = subst (λ (l : Leaf g.row.K.Denot g.row.V.Denot). IsSplitPoint cmp key l.array.pairs split_point) same c.requires.split_point.fits in
     let old : InnerNode g.row.K.Denot = c.in-Some-get_mut.node.now in
     let there : get a.nodes c.args.above ≡ Some old = sym c.in-Some-get_mut.ensures.value in
-    let thawed = was_thawed cmp o key a c.requires.sound c.requires.planted c.args.above c.args.child c.requires.lowest c.requires.on whole upper low here cut fits c.split.ensures.rising in
-    absent_above cmp o key a c.requires.sound c.requires.planted c.args.above c.args.child c.requires.lowest c.requires.on whole upper low here cut fits c.split.ensures.rising old there
+    let thawed = was_thawed cmp o key a c.requires.sound c.requires.planted c.args.above c.args.child c.requires.lowest c.requires.on whole upper low here split_point fits c.split.ensures.rising in
+    absent_above cmp o key a c.requires.sound c.requires.planted c.args.above c.args.child c.requires.lowest c.requires.on whole upper low here split_point fits c.split.ensures.rising old there
 
 pub returns-clause-sound : goal.returns-clause-sound
 returns-clause-sound g c =
@@ -50,17 +50,17 @@ returns-clause-sound g c =
     let o = g.met.K.Ord.total in
     let key = c.args.key.now in
     let a = c.args.self.now in
-    let cut = c.args.cut in
+    let split_point = c.args.split_point in
     let whole : Leaf g.row.K.Denot g.row.V.Denot = c.in-Some.leaf.now in
     let upper : Leaf g.row.K.Denot g.row.V.Denot = c.split.new.self in
     let low : Leaf g.row.K.Denot g.row.V.Denot = record { array = c.split.result; prev = c.split.new.self.prev; next = Some c.args.child } in
     let here : get a.leaves c.args.child ≡ Some whole = sym c.in-Some.ensures.value in
-    let same : c.requires.cut.leaf ≡ whole = some_same (sym c.requires.cut.there ∙ ap (get a.leaves) (sym c.requires.on) ∙ here) in
-    let fits : IsCut cmp key whole.array.pairs cut = subst (λ (l : Leaf g.row.K.Denot g.row.V.Denot). IsCut cmp key l.array.pairs cut) same c.requires.cut.fits in
+    let same : c.requires.split_point.leaf ≡ whole = some_same (sym c.requires.split_point.there ∙ ap (get a.leaves) (sym c.requires.on) ∙ here) in
+    let fits : IsSplitPoint cmp key whole.array.pairs split_point = subst (λ (l : Leaf g.row.K.Denot g.row.V.Denot). IsSplitPoint cmp key l.array.pairs split_point) same c.requires.split_point.fits in
     let old : InnerNode g.row.K.Denot = c.in-Some-get_mut.node.now in
     let there : get a.nodes c.args.above ≡ Some old = sym c.in-Some-get_mut.ensures.value in
-    let thawed = was_thawed cmp o key a c.requires.sound c.requires.planted c.args.above c.args.child c.requires.lowest c.requires.on whole upper low here cut fits c.split.ensures.rising in
-    done_sound cmp o key a c.requires.sound c.requires.planted c.args.above c.args.child c.requires.lowest c.requires.on whole upper low here cut fits c.split.ensures.rising old there c.split.ensures.lower c.split.ensures.upper c.split.ensures.lower_rising c.split.ensures.upper_rising (c.split.ensures.lower_thawed thawed) (c.split.ensures.upper_thawed thawed) c.split.ensures.lower_living c.split.ensures.upper_living c.split.ensures.lower_used c.split.ensures.upper_used c.insert_reserved-fresh.new.self c.link.new.leaves c.insert_reserved-fresh.result c.insert_reserved-fresh.ensures.updates c.insert_reserved-fresh.ensures.was_vacant c.link.ensures.arrays c.link.ensures.links c.split.ensures.prev c.split.ensures.next refl refl c.insert.new.self c.insert.ensures.node c.insert.ensures.separators c.insert.ensures.last
+    let thawed = was_thawed cmp o key a c.requires.sound c.requires.planted c.args.above c.args.child c.requires.lowest c.requires.on whole upper low here split_point fits c.split.ensures.rising in
+    done_sound cmp o key a c.requires.sound c.requires.planted c.args.above c.args.child c.requires.lowest c.requires.on whole upper low here split_point fits c.split.ensures.rising old there c.split.ensures.lower c.split.ensures.upper c.split.ensures.lower_rising c.split.ensures.upper_rising (c.split.ensures.lower_thawed thawed) (c.split.ensures.upper_thawed thawed) c.split.ensures.lower_living c.split.ensures.upper_living c.split.ensures.lower_used c.split.ensures.upper_used c.insert_reserved-fresh.new.self c.link.new.leaves c.insert_reserved-fresh.result c.insert_reserved-fresh.ensures.updates c.insert_reserved-fresh.ensures.was_vacant c.link.ensures.arrays c.link.ensures.links c.split.ensures.prev c.split.ensures.next refl refl c.insert.new.self c.insert.ensures.node c.insert.ensures.separators c.insert.ensures.last
 
 pub returns-clause-pairs : goal.returns-clause-pairs
 returns-clause-pairs g c =
@@ -68,17 +68,17 @@ returns-clause-pairs g c =
     let o = g.met.K.Ord.total in
     let key = c.args.key.now in
     let a = c.args.self.now in
-    let cut = c.args.cut in
+    let split_point = c.args.split_point in
     let whole : Leaf g.row.K.Denot g.row.V.Denot = c.in-Some.leaf.now in
     let upper : Leaf g.row.K.Denot g.row.V.Denot = c.split.new.self in
     let low : Leaf g.row.K.Denot g.row.V.Denot = record { array = c.split.result; prev = c.split.new.self.prev; next = Some c.args.child } in
     let here : get a.leaves c.args.child ≡ Some whole = sym c.in-Some.ensures.value in
-    let same : c.requires.cut.leaf ≡ whole = some_same (sym c.requires.cut.there ∙ ap (get a.leaves) (sym c.requires.on) ∙ here) in
-    let fits : IsCut cmp key whole.array.pairs cut = subst (λ (l : Leaf g.row.K.Denot g.row.V.Denot). IsCut cmp key l.array.pairs cut) same c.requires.cut.fits in
+    let same : c.requires.split_point.leaf ≡ whole = some_same (sym c.requires.split_point.there ∙ ap (get a.leaves) (sym c.requires.on) ∙ here) in
+    let fits : IsSplitPoint cmp key whole.array.pairs split_point = subst (λ (l : Leaf g.row.K.Denot g.row.V.Denot). IsSplitPoint cmp key l.array.pairs split_point) same c.requires.split_point.fits in
     let old : InnerNode g.row.K.Denot = c.in-Some-get_mut.node.now in
     let there : get a.nodes c.args.above ≡ Some old = sym c.in-Some-get_mut.ensures.value in
-    let thawed = was_thawed cmp o key a c.requires.sound c.requires.planted c.args.above c.args.child c.requires.lowest c.requires.on whole upper low here cut fits c.split.ensures.rising in
-    done_pairs cmp o key a c.requires.sound c.requires.planted c.args.above c.args.child c.requires.lowest c.requires.on whole upper low here cut fits c.split.ensures.rising old there c.split.ensures.lower c.split.ensures.upper c.split.ensures.lower_rising c.split.ensures.upper_rising (c.split.ensures.lower_thawed thawed) (c.split.ensures.upper_thawed thawed) c.split.ensures.lower_living c.split.ensures.upper_living c.split.ensures.lower_used c.split.ensures.upper_used c.insert_reserved-fresh.new.self c.link.new.leaves c.insert_reserved-fresh.result c.insert_reserved-fresh.ensures.updates c.insert_reserved-fresh.ensures.was_vacant c.link.ensures.arrays c.link.ensures.links c.split.ensures.prev c.split.ensures.next refl refl c.insert.new.self c.insert.ensures.node c.insert.ensures.separators c.insert.ensures.last
+    let thawed = was_thawed cmp o key a c.requires.sound c.requires.planted c.args.above c.args.child c.requires.lowest c.requires.on whole upper low here split_point fits c.split.ensures.rising in
+    done_pairs cmp o key a c.requires.sound c.requires.planted c.args.above c.args.child c.requires.lowest c.requires.on whole upper low here split_point fits c.split.ensures.rising old there c.split.ensures.lower c.split.ensures.upper c.split.ensures.lower_rising c.split.ensures.upper_rising (c.split.ensures.lower_thawed thawed) (c.split.ensures.upper_thawed thawed) c.split.ensures.lower_living c.split.ensures.upper_living c.split.ensures.lower_used c.split.ensures.upper_used c.insert_reserved-fresh.new.self c.link.new.leaves c.insert_reserved-fresh.result c.insert_reserved-fresh.ensures.updates c.insert_reserved-fresh.ensures.was_vacant c.link.ensures.arrays c.link.ensures.links c.split.ensures.prev c.split.ensures.next refl refl c.insert.new.self c.insert.ensures.node c.insert.ensures.separators c.insert.ensures.last
 
 pub returns-clause-room : goal.returns-clause-room
 returns-clause-room g c =
@@ -86,17 +86,17 @@ returns-clause-room g c =
     let o = g.met.K.Ord.total in
     let key = c.args.key.now in
     let a = c.args.self.now in
-    let cut = c.args.cut in
+    let split_point = c.args.split_point in
     let whole : Leaf g.row.K.Denot g.row.V.Denot = c.in-Some.leaf.now in
     let upper : Leaf g.row.K.Denot g.row.V.Denot = c.split.new.self in
     let low : Leaf g.row.K.Denot g.row.V.Denot = record { array = c.split.result; prev = c.split.new.self.prev; next = Some c.args.child } in
     let here : get a.leaves c.args.child ≡ Some whole = sym c.in-Some.ensures.value in
-    let same : c.requires.cut.leaf ≡ whole = some_same (sym c.requires.cut.there ∙ ap (get a.leaves) (sym c.requires.on) ∙ here) in
-    let fits : IsCut cmp key whole.array.pairs cut = subst (λ (l : Leaf g.row.K.Denot g.row.V.Denot). IsCut cmp key l.array.pairs cut) same c.requires.cut.fits in
+    let same : c.requires.split_point.leaf ≡ whole = some_same (sym c.requires.split_point.there ∙ ap (get a.leaves) (sym c.requires.on) ∙ here) in
+    let fits : IsSplitPoint cmp key whole.array.pairs split_point = subst (λ (l : Leaf g.row.K.Denot g.row.V.Denot). IsSplitPoint cmp key l.array.pairs split_point) same c.requires.split_point.fits in
     let old : InnerNode g.row.K.Denot = c.in-Some-get_mut.node.now in
     let there : get a.nodes c.args.above ≡ Some old = sym c.in-Some-get_mut.ensures.value in
-    let thawed = was_thawed cmp o key a c.requires.sound c.requires.planted c.args.above c.args.child c.requires.lowest c.requires.on whole upper low here cut fits c.split.ensures.rising in
-    done_room cmp o key a c.requires.sound c.requires.planted c.args.above c.args.child c.requires.lowest c.requires.on whole upper low here cut fits c.split.ensures.rising old there c.split.ensures.lower c.split.ensures.upper c.split.ensures.lower_rising c.split.ensures.upper_rising (c.split.ensures.lower_thawed thawed) (c.split.ensures.upper_thawed thawed) c.split.ensures.lower_living c.split.ensures.upper_living c.split.ensures.lower_used c.split.ensures.upper_used c.insert_reserved-fresh.new.self c.link.new.leaves c.insert_reserved-fresh.result c.insert_reserved-fresh.ensures.updates c.insert_reserved-fresh.ensures.was_vacant c.link.ensures.arrays c.link.ensures.links c.split.ensures.prev c.split.ensures.next refl refl c.insert.new.self c.insert.ensures.node c.insert.ensures.separators c.insert.ensures.last
+    let thawed = was_thawed cmp o key a c.requires.sound c.requires.planted c.args.above c.args.child c.requires.lowest c.requires.on whole upper low here split_point fits c.split.ensures.rising in
+    done_room cmp o key a c.requires.sound c.requires.planted c.args.above c.args.child c.requires.lowest c.requires.on whole upper low here split_point fits c.split.ensures.rising old there c.split.ensures.lower c.split.ensures.upper c.split.ensures.lower_rising c.split.ensures.upper_rising (c.split.ensures.lower_thawed thawed) (c.split.ensures.upper_thawed thawed) c.split.ensures.lower_living c.split.ensures.upper_living c.split.ensures.lower_used c.split.ensures.upper_used c.insert_reserved-fresh.new.self c.link.new.leaves c.insert_reserved-fresh.result c.insert_reserved-fresh.ensures.updates c.insert_reserved-fresh.ensures.was_vacant c.link.ensures.arrays c.link.ensures.links c.split.ensures.prev c.split.ensures.next refl refl c.insert.new.self c.insert.ensures.node c.insert.ensures.separators c.insert.ensures.last
 
 pub returns-clause-ascending : goal.returns-clause-ascending
 returns-clause-ascending g c over_all crowd some =
@@ -104,14 +104,14 @@ returns-clause-ascending g c over_all crowd some =
     let o = g.met.K.Ord.total in
     let key = c.args.key.now in
     let a = c.args.self.now in
-    let cut = c.args.cut in
+    let split_point = c.args.split_point in
     let whole : Leaf g.row.K.Denot g.row.V.Denot = c.in-Some.leaf.now in
     let upper : Leaf g.row.K.Denot g.row.V.Denot = c.split.new.self in
     let low : Leaf g.row.K.Denot g.row.V.Denot = record { array = c.split.result; prev = c.split.new.self.prev; next = Some c.args.child } in
     let here : get a.leaves c.args.child ≡ Some whole = sym c.in-Some.ensures.value in
-    let same : c.requires.cut.leaf ≡ whole = some_same (sym c.requires.cut.there ∙ ap (get a.leaves) (sym c.requires.on) ∙ here) in
-    let fits : IsCut cmp key whole.array.pairs cut = subst (λ (l : Leaf g.row.K.Denot g.row.V.Denot). IsCut cmp key l.array.pairs cut) same c.requires.cut.fits in
+    let same : c.requires.split_point.leaf ≡ whole = some_same (sym c.requires.split_point.there ∙ ap (get a.leaves) (sym c.requires.on) ∙ here) in
+    let fits : IsSplitPoint cmp key whole.array.pairs split_point = subst (λ (l : Leaf g.row.K.Denot g.row.V.Denot). IsSplitPoint cmp key l.array.pairs split_point) same c.requires.split_point.fits in
     let old : InnerNode g.row.K.Denot = c.in-Some-get_mut.node.now in
     let there : get a.nodes c.args.above ≡ Some old = sym c.in-Some-get_mut.ensures.value in
-    let thawed = was_thawed cmp o key a c.requires.sound c.requires.planted c.args.above c.args.child c.requires.lowest c.requires.on whole upper low here cut fits c.split.ensures.rising in
-    rises_more a.height _ _ (λ flat room. done_room_kept cmp o key a c.requires.sound c.requires.planted c.args.above c.args.child c.requires.lowest c.requires.on whole upper low here cut fits c.split.ensures.rising old there c.split.ensures.lower c.split.ensures.upper c.split.ensures.lower_rising c.split.ensures.upper_rising (c.split.ensures.lower_thawed thawed) (c.split.ensures.upper_thawed thawed) c.split.ensures.lower_living c.split.ensures.upper_living c.split.ensures.lower_used c.split.ensures.upper_used c.insert_reserved-fresh.new.self c.link.new.leaves c.insert_reserved-fresh.result c.insert_reserved-fresh.ensures.updates c.insert_reserved-fresh.ensures.was_vacant c.link.ensures.arrays c.link.ensures.links c.split.ensures.prev c.split.ensures.next refl refl c.insert.new.self c.insert.ensures.node c.insert.ensures.separators c.insert.ensures.last flat over_all crowd c.split.ensures.upper_clear room) some
+    let thawed = was_thawed cmp o key a c.requires.sound c.requires.planted c.args.above c.args.child c.requires.lowest c.requires.on whole upper low here split_point fits c.split.ensures.rising in
+    rises_more a.height _ _ (λ flat room. done_room_kept cmp o key a c.requires.sound c.requires.planted c.args.above c.args.child c.requires.lowest c.requires.on whole upper low here split_point fits c.split.ensures.rising old there c.split.ensures.lower c.split.ensures.upper c.split.ensures.lower_rising c.split.ensures.upper_rising (c.split.ensures.lower_thawed thawed) (c.split.ensures.upper_thawed thawed) c.split.ensures.lower_living c.split.ensures.upper_living c.split.ensures.lower_used c.split.ensures.upper_used c.insert_reserved-fresh.new.self c.link.new.leaves c.insert_reserved-fresh.result c.insert_reserved-fresh.ensures.updates c.insert_reserved-fresh.ensures.was_vacant c.link.ensures.arrays c.link.ensures.links c.split.ensures.prev c.split.ensures.next refl refl c.insert.new.self c.insert.ensures.node c.insert.ensures.separators c.insert.ensures.last flat over_all crowd c.split.ensures.upper_clear room) some

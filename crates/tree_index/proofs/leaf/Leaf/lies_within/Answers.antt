@@ -2,7 +2,7 @@ use Rattle.std.proofs.Common.{◌≡◌, ◌-◌, true, false, sym, ap, ◌∙�
 use Rattle.std.specs.Range.Bound.{bound_map}
 use Rattle.std.specs.Borrow.{Bor}
 use Rattle.std.specs.BTreeMap.Range.{is_from_start, is_past_end}
-use Rattle.tree_index.specs.Cuts.{key_at}
+use Rattle.tree_index.specs.SplitPoints.{key_at}
 use Rattle.tree_index.proofs.WithoutLemmas.{all_within, not_true}
 use Rattle.tree_index.proofs.leaf.Leaf.lies_within.Goals as goal
 

@@ -1,6 +1,6 @@
 use Rattle.std.proofs.Common.{◌+◌, ◌≡◌, ap, ◌∙◌, arith}
 use Rattle.std.specs.declared.ops.Bound.TheVariants.{Unbounded}
-use Rattle.tree_index.proofs.GapLemmas.{start_none}
+use Rattle.tree_index.proofs.InsertionPointLemmas.{start_none}
 use Rattle.tree_index.specs.Cursor.{moved_forth, next_of}
 use Rattle.versions.specs.CursorEnds.{pairs_before}
 use Rattle.versions.proofs.CursorEndLemmas.{block_some, found_fore, none_fore}

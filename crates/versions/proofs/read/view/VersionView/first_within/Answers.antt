@@ -4,7 +4,7 @@ use Rattle.std.specs.Borrow.{Bor}
 use Rattle.std.specs.Range.Bound.{bound_map}
 use Rattle.std.specs.declared.ops.Bound.TheVariants.{Unbounded}
 use Rattle.tree_index.specs.Cursor.{Cursor, before_start, moved_forth, next_of}
-use Rattle.tree_index.proofs.GapLemmas.{start_all}
+use Rattle.tree_index.proofs.InsertionPointLemmas.{start_all}
 use Rattle.versions.specs.Cuts.{pairs_in}
 use Rattle.versions.specs.CursorEnds.{pairs_before, IsForeAt, IsPairAt}
 use Rattle.versions.proofs.CursorEndLemmas.{found_fore, none_fore}

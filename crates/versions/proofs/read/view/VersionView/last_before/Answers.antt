@@ -1,6 +1,6 @@
 use Rattle.std.proofs.Common.{◌+◌, ◌-◌, ◌≡◌, ap, ◌∙◌, sym, arith}
 use Rattle.std.specs.declared.ops.Bound.TheVariants.{Unbounded}
-use Rattle.tree_index.proofs.GapLemmas.{end_none}
+use Rattle.tree_index.proofs.InsertionPointLemmas.{end_none}
 use Rattle.tree_index.specs.Cursor.{moved_back, next_back_of, up_to_end}
 use Rattle.versions.specs.CursorEnds.{pairs_before}
 use Rattle.versions.proofs.CursorEndLemmas.{block_some, found_rear, none_rear}

@@ -1,8 +1,8 @@
 use Rattle.std.proofs.Common.{◌≤◌, ℕ, sym, ◌∙◌, subst}
 use Rattle.std.specs.Prelude.{length}
-use Rattle.tree_index.proofs.GapLemmas.{bound_at, gap_past, gap_apart, gap_before, start_all}
-use Rattle.tree_index.proofs.leaf.Leaf.gap.Goals.{else-beyond-via-then-beyond+else-stands_at, else-beyond-via-else-beyond}
-use Rattle.tree_index.proofs.leaf.Leaf.gap.Goals as goal
+use Rattle.tree_index.proofs.InsertionPointLemmas.{bound_at, gap_past, gap_apart, gap_before, start_all}
+use Rattle.tree_index.proofs.leaf.Leaf.insertion_point.Goals.{else-beyond-via-then-beyond+else-stands_at, else-beyond-via-else-beyond}
+use Rattle.tree_index.proofs.leaf.Leaf.insertion_point.Goals as goal
 
 pub returns-then-stands_at-clause-place : goal.returns-then-stands_at-clause-place
 returns-then-stands_at-clause-place g c =

@@ -3,7 +3,7 @@ use Rattle.slab.specs.Slab.{get}
 use Rattle.tree_index.specs.declared.leaf.Leaf.{Leaf}
 use Rattle.tree_index.proofs.ArenaLemmas.{bare_pairs, none_sound, stands_with}
 use Rattle.tree_index.proofs.WalkLemmas.{way_own, way_place}
-use Rattle.tree_index.proofs.arenas.Arenas.gap.Goals as goal
+use Rattle.tree_index.proofs.arenas.Arenas.insertion_point.Goals as goal
 
 pub returns-in-None-clause-none : goal.returns-in-None-clause-none
 returns-in-None-clause-none g c =
@@ -14,8 +14,8 @@ returns-in-None-clause-none g c =
     let none : get a.leaves c.leaf_of-at.result ≡ None = sym (rw c.in-None.is at c.get.ensures) in
     bare_pairs cmp o key a (none_sound cmp o key a (ap (get a.leaves) (sym c.leaf_of-at.ensures) ∙ none) c.requires)
 
-pub returns-in-Some-clause-gap : goal.returns-in-Some-clause-gap
-returns-in-Some-clause-gap g c =
+pub returns-in-Some-clause-insertion_point : goal.returns-in-Some-clause-insertion_point
+returns-in-Some-clause-insertion_point g c =
     let cmp = g.K.Ord.cmp in
     let o = g.met.K.Ord.total in
     let key = c.args.key.now in
@@ -24,7 +24,7 @@ returns-in-Some-clause-gap g c =
     let l : Leaf g.row.K.Denot g.row.V.Denot = c.in-Some.leaf.now in
     let here : get a.leaves at ≡ Some l = sym c.in-Some.ensures in
     let planted = (stands_with cmp o key a l (ap (get a.leaves) (sym c.leaf_of-at.ensures) ∙ here) c.requires).0 in
-    record { there = here; own = way_own cmp o key a c.requires planted at l c.leaf_of-at.ensures here; most = c.gap.ensures.most }
+    record { there = here; own = way_own cmp o key a c.requires planted at l c.leaf_of-at.ensures here; most = c.insertion_point.ensures.most }
 
 pub returns-in-Some-clause-there : goal.returns-in-Some-clause-there
 returns-in-Some-clause-there g c =
@@ -37,4 +37,4 @@ returns-in-Some-clause-there g c =
     let here : get a.leaves at ≡ Some l = sym c.in-Some.ensures in
     let planted = (stands_with cmp o key a l (ap (get a.leaves) (sym c.leaf_of-at.ensures) ∙ here) c.requires).0 in
     let place = way_place cmp o key a c.requires planted at l c.leaf_of-at.ensures here c.args.beyond in
-    omega (arith, place, c.gap.ensures.place)
+    omega (arith, place, c.insertion_point.ensures.place)

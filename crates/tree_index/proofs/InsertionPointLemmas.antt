@@ -14,7 +14,7 @@ use Rattle.std.specs.List.{AllByRecursion}
 use Rattle.leaf_array.specs.Cells.{lesser}
 use Rattle.leaf_array.specs.Pairs.{IsAscending, has_key}
 use Rattle.tree_index.specs.Shape.{AllKeys}
-use Rattle.tree_index.specs.Cuts.{is_keyed}
+use Rattle.tree_index.specs.SplitPoints.{is_keyed}
 use Rattle.tree_index.specs.Cursor.{before_start, up_to_end}
 use Rattle.tree_index.proofs.ShapeLemmas.{turned, all_weaken}
 

@@ -6,8 +6,8 @@ use Rattle.std.specs.Ordering.{is_gt}
 use Rattle.std.specs.Cmp.{IsTotalOrder}
 use Rattle.leaf_array.specs.Pairs.{IsAscending}
 use Rattle.tree_index.specs.Shape.{IsOver, IsUpTo, IsWithin, AllKeys}
-use Rattle.tree_index.specs.declared.leaf.Cut.{Cut}
-use Rattle.tree_index.specs.Cuts.{IsCut, key_at}
+use Rattle.tree_index.specs.declared.leaf.SplitPoint.{SplitPoint}
+use Rattle.tree_index.specs.SplitPoints.{IsSplitPoint, key_at}
 use Rattle.tree_index.proofs.ShapeLemmas.{turned}
 use Rattle.tree_index.proofs.FocusLemmas.{IsUnder}
 use Rattle.tree_index.proofs.HalfLemmas.{all_at, cut_at}
@@ -75,16 +75,16 @@ module _ {K V : Type 0} (cmp : K → K → Ordering) (o : IsTotalOrder cmp) wher
         upper = all_both (IsOver cmp (Some sep)) (IsUpTo cmp upto) (drop (suc m) ps) parts.1 (all_drop (IsUpTo cmp upto) (suc m) ps uptos);
       }
 
-  pub sides : (key : K) (from upto : Option K) (ps : List (K × V)) (cut : Cut K) → IsAscending cmp ps → AllKeys (IsWithin cmp from upto) ps → IsWithin cmp from upto key → IsCut cmp key ps cut → Sides from upto cut.separator (cond cut.whole (length ps) 8) ps
-  sides key from upto ps cut up all here c =
-      (elim cut.whole as (λ b. cut.whole ≡ b → Sides from upto cut.separator (cond b (length ps) 8) ps) [
+  pub sides : (key : K) (from upto : Option K) (ps : List (K × V)) (split_point : SplitPoint K) → IsAscending cmp ps → AllKeys (IsWithin cmp from upto) ps → IsWithin cmp from upto key → IsSplitPoint cmp key ps split_point → Sides from upto split_point.separator (cond split_point.whole (length ps) 8) ps
+  sides key from upto ps split_point up all here c =
+      (elim split_point.whole as (λ b. split_point.whole ≡ b → Sides from upto split_point.separator (cond b (length ps) 8) ps) [
         | true ↦ λ b.
             let last : suc (length ps - 1) ≡ length ps = omega (arith, c.crowded) in
-            subst (λ (n : ℕ). Sides from upto cut.separator n ps) last (sides_at from upto cut.separator (length ps - 1) ps up all (c.whole b) (under_of cmp o cut.separator key upto (c.beyond b) here.1))
+            subst (λ (n : ℕ). Sides from upto split_point.separator n ps) last (sides_at from upto split_point.separator (length ps - 1) ps up all (c.whole b) (under_of cmp o split_point.separator key upto (c.beyond b) here.1))
         | false ↦ λ b.
             let next = behind 8 ps (omega (arith, c.crowded)) in
             let first : key_at (drop 8 ps) 0 ≡ Some next.0 = key_at_drop 8 ps ∙ next.1 in
-            let over : cmp cut.separator next.0 ≡ Less = all_at cmp o (IsOver cmp (Some cut.separator)) (drop 8 ps) 0 next.0 (cut_at cmp o ps 7 cut.separator up (c.halves b)).1 first in
+            let over : cmp split_point.separator next.0 ≡ Less = all_at cmp o (IsOver cmp (Some split_point.separator)) (drop 8 ps) 0 next.0 (cut_at cmp o ps 7 split_point.separator up (c.halves b)).1 first in
             let near : IsUpTo cmp upto next.0 = (all_at cmp o (IsWithin cmp from upto) ps 8 next.0 all next.1).1 in
-            sides_at from upto cut.separator 7 ps up all (c.halves b) (under_of cmp o cut.separator next.0 upto over near)
+            sides_at from upto split_point.separator 7 ps up all (c.halves b) (under_of cmp o split_point.separator next.0 upto over near)
       ]) refl

@@ -1,6 +1,6 @@
 use Rattle.std.proofs.Common.{sym}
 use Rattle.tree_index.proofs.NodeLemmas.{leaf_not_none}
-use Rattle.tree_index.proofs.arenas.Arenas.cut.Goals as goal
+use Rattle.tree_index.proofs.arenas.Arenas.split_point.Goals as goal
 
 pub unreachable-requires : goal.unreachable-requires
 unreachable-requires g c =
