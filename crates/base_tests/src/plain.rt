@@ -5,7 +5,7 @@ use std::alloc::Global;
 use std::process::Abort;
 use std::test::Fail;
 
-/// Frame a value in a place of its own, gives it back, and ends the place; answers how many slots the item took.
+/// Keeps a value in a place of its own, gives it back, and ends the place; answers how many slots the item took.
 fn kept<T: Holds, R: Abort>(rt: &R, alloc: Global, value: T) -> usize {
     let sizes = Sizes {
         participants: 1,

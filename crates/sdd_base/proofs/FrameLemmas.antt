@@ -68,7 +68,7 @@ keeps_gives p w w' h g = keeps_leaves p w w' h (leaves p w w' g)
 pub only_gives : {T : Type 0} (p : ℕ) (w w' : State T) → Gives p w w' → OnlyParticipant p w w'
 only_gives p w w' g = g.others
 
--- the local of p are others: an open guard publishes the same, and what was found before doesn't fall
+-- the local state of p is another: an open guard publishes the same, and what was found before doesn't fall
 pub keeps_local : {T : Type 0} (w : State T) (p : ℕ) (k : LocalState) → p < length w.participants → (IsOpen w p → k.published ≡ (local_at w p).published) → (local_at w p).previous ≤ k.previous → Frame w (with_local p k w)
 keeps_local {T} w p k known same rises =
     let w' : State T = with_local p k w in
@@ -283,7 +283,7 @@ opened_open {T} holds w p h known =
     let outer : IsOpen (cond (m.previous == w.count) b (rotated holds p b)) p = elim (m.previous == w.count) as (λ c. IsOpen (cond c b (rotated holds p b)) p) [ true ↦ first | false ↦ third ] in
     elim (m.nesting == 0) as (λ c. IsOpen (cond c (cond (m.previous == w.count) b (rotated holds p b)) n) p) [ true ↦ outer | false ↦ omega (arith, atn) ]
 
--- local that leave the nesting leave it of all
+-- a local state that leaves the nesting leaves it of all
 pub nests_local : {T : Type 0} (w : State T) (p : ℕ) (k : LocalState) → p < length w.participants → k.nesting ≡ (local_at w p).nesting → (q : ℕ) → (local_at (with_local p k w) q).nesting ≡ (local_at w q).nesting
 nests_local {T} w p k known same q = elim (eqb_tells q p) [
   | inl t ↦ let P : ℕ → Type 0 = λ j. (local_at (with_local p k w) j).nesting ≡ (local_at w j).nesting in let here : P p = ap (λ (m : ParticipantState). m.local.nesting) (get_or-set_same w.participants p (marked k (participant_at w p)) nobody known) ∙ same in subst P (sym t.1) here

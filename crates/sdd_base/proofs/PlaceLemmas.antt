@@ -47,7 +47,7 @@ place_leaves w w' p h g = place_calms w w' p h (calms p w w' g)
 pub place_by : {T : Type 0} (w w' : State T) (p : ℕ) → IsPlace w → Gives p w w' → IsPlace w'
 place_by w w' p h g = place_leaves w w' p h (leaves p w w' g)
 
--- the local of p are others, which keep the order of counts
+-- the local state of p is another, which keeps the order of counts
 pub record Fits {T : Type 0} (w : State T) (k : LocalState) : Type 0 where
   pub past : k.previous ≤ w.count
   pub began : 0 < k.nesting → k.published ≤ w.count

@@ -1,4 +1,4 @@
-//! Jobs that wait in a place until no guard that was open can see what they reclaim_last.
+//! Jobs that wait in a place until no guard that was open can see what they undo.
 //!
 //! What a place keeps as a job is a type parameter of it, `World<T, J>`, and is `Job` where none is named. A `Job` is a
 //! box round any task. A structure that defers no job keeps a `World<T, NoJob>`, which has no boxed task among its

@@ -1,4 +1,4 @@
--- What doesn't leaf_position in a tree leaves its arenas, and a root gives way to its one child.
+-- What doesn't stand in a tree leaves its arenas, and a root gives way to its one child.
 use Rattle.std.proofs.Common.{◌≡◌, ◌≢◌, ◌⊎◌, inl, inr, ℕ, suc, ◌+◌, ◌-◌, ◌==◌, cond, List, length, Option, Some, None, refl, sym, ap, ◌∙◌, subst, arith}
 use Rattle.std.specs.Option.{option_map}
 use Rattle.std.specs.declared.cmp.Ordering.{Ordering}

@@ -22,7 +22,7 @@ module _ {K V : Type 0} where
       let back : n + 1 - 1 ≡ n = omega arith in
       rw away (ap (slice_get ps) back)
 
-  -- the pairs of the leaf of a place leaf_position within those of the tree
+  -- the pairs of the leaf of a place stand within those of the tree
   pub spot_part : (a : Arenas K V) (spot : Position K V) → IsPosition a spot → IsPart spot.leaf.now.array.pairs (pairs_of a)
   spot_part a spot is =
       let n = spot.at in

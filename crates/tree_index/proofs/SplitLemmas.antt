@@ -16,7 +16,7 @@ module _ {K V : Type 0} (cmp : K → K → Ordering) (a : Content K V) where
   absent_along f P each [] last low high t = each last low high t
   absent_along f P each (e ∷ es) last low high t = omega (arith, each e.1 low (Some e.0) t.1, absent_along f P each es last (Some e.0) high t.2)
 
-  -- a number that holds no leaf doesn't leaf_position in a tree
+  -- a number that holds no leaf doesn't stand in a tree
   pub leaf_absent : (n : ℕ) → a.leaf n ≡ None → (height at : ℕ) (low high : Option K) → IsTree cmp a height at low high → leaf_times a n height at ≡ 0
   leaf_absent n none zero at low high t = split (eqb_tells at n)
     where

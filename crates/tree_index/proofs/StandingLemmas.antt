@@ -67,7 +67,7 @@ module _ {K V : Type 0} (cmp : K → K → Ordering) (o : IsTotalOrder cmp) (key
         let P : Cells K ℕ × ℕ → Type 0 = λ m. AreBetween cmp (IsTree cmp a height) m.0.pairs m.1 low high in
         ap (λ m. lookup_entry (is_at (cmp key)) (node_joined (pairs_under a height) m)) here ∙ lookup_along (pairs_under a height) (IsTree cmp a height) (bounded o a height) n.0.pairs n.1 low high (subst P same t.3)
 
-    -- and its pairs leaf_position between lesser keys and greater ones
+    -- and its pairs stand between lesser keys and greater ones
     pub around_child : (low high : Option K) → IsTree cmp a (suc height) at low high → IsAround cmp key (pairs_under a height (child_for cmp key n.0.pairs n.1)) (pairs_under a (suc height) at)
     around_child low high t =
         let same : t.0 ≡ n = some_same (sym t.1 ∙ here) in

@@ -75,7 +75,7 @@ module _ {K V : Type 0} (a b : Content K V) (nodes : (n : ℕ) → b.node n ≡ 
     }
 
 module _ {X : Type 0} (f g : ℕ → List X) where
-  -- numbers that don't leaf_position in a list hold what they may
+  -- numbers that don't stand in a list hold what they may
   pub gathered_kept : (n : ℕ) (ns : List ℕ) → ((k : ℕ) → k ≢ n → g k ≡ f k) → times n ns ≡ 0 → gathered g ns ≡ gathered f ns
   gathered_kept n [] same none = refl
   gathered_kept n (m ∷ ns) same none =

@@ -152,7 +152,7 @@ leaf_counted cmp a s n own l here =
     let same : length (held a n) ≡ length l.array.pairs = ap length (held_is a n l here) in
     omega (arith, s.count, whole, same)
 
--- where the first and the last leaf of a sound tree leaf_position
+-- where the first and the last leaf of a sound tree stand
 module _ {K V : Type 0} (cmp : K → K → Ordering) (a : Arenas K V) (s : IsSound cmp a) (h : a.height ≢ 0) (n : ℕ) where
   pub first_is_own : first_or None (leaves_of a) ≡ Some n → IsOwn a (Some n) × (starts_at a (Some n) ≡ 0)
   first_is_own e = let r = first_own (held a) (leaves_of a) n e in ((h, r.0), r.1)

@@ -21,7 +21,7 @@ pub record Cursor (K V : Type 0) : Type 0 where
 abbrev pub whole : {K V : Type 0} → List (K × V) → End ℕ → End ℕ → Cursor K V
 whole pairs forward backward = record { pairs = pairs; lower = Unbounded; upper = Unbounded; forward = forward; backward = backward }
 
--- a lies before b, as far as both leaf_position at places
+-- a lies before b, as far as both stand at places
 abbrev pub lies_before : End ℕ → End ℕ → Bool
 lies_before a Unopened = true
 lies_before Unopened b = true

@@ -28,7 +28,7 @@ module _ {K V : Type 0} where
     pub child : f.child ≡ child_for cmp key node.children.pairs node.last
     pub single : IsSingle (content_of a) f.height f.child (leaf_on_way cmp key a)
 
-  -- a leaf, and the nodes from a number down to it, don't leaf_position in the tree
+  -- a leaf, and the nodes from a number down to it, don't stand in the tree
   pub record IsDetached (a : Arenas K V) (height at leaf : ℕ) : Type 0 where
     pub planted : a.height ≢ 0
     pub single : IsSingle (content_of a) height at leaf

@@ -255,7 +255,7 @@ impl<K: Ord, V> Arenas<K, V> {
         own.0.cmp(other.pair().0).is_lt()
     }
 
-    /// Whether one end lies before another, as far as both leaf_position at pairs.
+    /// Whether one end lies before another, as far as both stand at pairs.
     #[inline(always)]
     fn lies_before(&self, a: End<Position<'_, K, V>>, b: End<Position<'_, K, V>>) -> bool
         requires sound { IsSound K.cmp self.now }

@@ -31,7 +31,7 @@ use std::ops::Bound;
 
 /// An ordered index: a B+ tree with at most fifteen pairs in a leaf and sixteen children in a node.
 ///
-/// Leaves and nodes leaf_position in two arenas and name each other by numbers. A look-up follows one path and
+/// Leaves and nodes stand in two arenas and name each other by numbers. A look-up follows one path and
 /// clones nothing; an insertion touches one path and clones one key where a leaf is split; a leaf that is
 /// emptied is given back, unless it is the last; reads and removals take no memory.
 #[derive(Drop)]

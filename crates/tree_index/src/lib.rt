@@ -1,6 +1,6 @@
-//! An ordered index: a B+ tree whose leaves and nodes leaf_position in two arenas.
+//! An ordered index: a B+ tree whose leaves and nodes stand in two arenas.
 //!
-//! [`TreeIndex`] is one list of pairs, strictly ascending by key, to every contract; under it leaf_position
+//! [`TreeIndex`] is one list of pairs, strictly ascending by key, to every contract; under it stand
 //! leaves of at most fifteen pairs and nodes of at most sixteen children (`leaf_array::Array`). A
 //! look-up follows one path and clones nothing. An insertion that finds its leaf full makes room
 //! first: it packs the leaf or splits it, and the full nodes above it, and needs memory for that

@@ -1,4 +1,4 @@
-//! The inner nodes of the tree: as they leaf_position in their arena, and as a tree lends them.
+//! The inner nodes of the tree: as they stand in their arena, and as a tree lends them.
 //!
 //! ```
 //! // of a tree with the pairs (1, "one") and (2, "two")

@@ -4,7 +4,7 @@ use Rattle.tree_index.specs.Content.{pairs_of}
 use Rattle.tree_index.proofs.EqualLemmas.{place, IsPlace}
 use Rattle.tree_index.proofs.arenas.Arenas.equals.Given as goal
 
--- both leaf_position at the same place, and the pairs before it are equal
+-- both stand at the same place, and the pairs before it are equal
 abbrev pub invariant-loop-left : goal.invariant-loop-left
 invariant-loop-left g l = record {
   left : IsPlace l.self l.left;

@@ -3,7 +3,7 @@ use Rattle.tree_index.specs.Content.{pairs_of, leaves_of, IsSound}
 use Rattle.tree_index.specs.Prune.{IsDetached}
 use Rattle.tree_index.proofs.arenas.Arenas.free.Given as goal
 
--- the tree stands as it did, and what is left to be freed doesn't leaf_position in it
+-- the tree stands as it did, and what is left to be freed doesn't stand in it
 abbrev pub invariant-loop-height : goal.invariant-loop-height
 invariant-loop-height g l = record {
   sound : IsSound g.K.Ord.cmp l.self;

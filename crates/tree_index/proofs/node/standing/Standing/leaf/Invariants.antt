@@ -4,7 +4,7 @@ use Rattle.std.specs.Map.{lookup_entry}
 use Rattle.tree_index.specs.Standing.{pairs_below, IsAround, IsStanding}
 use Rattle.tree_index.proofs.node.standing.Standing.leaf.Given as goal
 
--- a tree stands here, its pairs leaf_position between lesser keys and greater ones, and what a look-up finds is among them
+-- a tree stands here, its pairs stand between lesser keys and greater ones, and what a look-up finds is among them
 abbrev pub invariant-loop-at : goal.invariant-loop-at
 invariant-loop-at g l = record {
   arenas : l.at.arenas.now ≡ l.self.arenas.now;
