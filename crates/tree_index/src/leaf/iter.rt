@@ -26,7 +26,7 @@ use std::marker::Model;
 /// ```
 #[derive(Drop)]
 pub struct Iter<'l, K: Ord, V> {
-    pub(crate) leaf_position: LeafPosition<'l, K, V>,
+    pub(crate) at: LeafPosition<'l, K, V>,
 }
 
 impl<'l, K: Ord, V> Model for Iter<'l, K, V> {
@@ -36,7 +36,7 @@ impl<'l, K: Ord, V> Model for Iter<'l, K, V> {
 
     ghost coded = { leaf_cursor_code K.code V.code };
 
-    ghost view = { λ i. cursor_at i.leaf_position };
+    ghost view = { λ i. cursor_at i.at };
 }
 
 impl<'l, K: Ord, V> Iter<'l, K, V> {
@@ -45,7 +45,7 @@ impl<'l, K: Ord, V> Iter<'l, K, V> {
         ensures { result ≡ at_start leaf.now.array }
     {
         Iter {
-            leaf_position: LeafPosition { leaf, rank: 0 },
+            at: LeafPosition { leaf, rank: 0 },
         }
     }
 
@@ -53,18 +53,14 @@ impl<'l, K: Ord, V> Iter<'l, K, V> {
     pub fn get(&self) -> Option<(&'l K, &'l V)>
         ensures { deref_pair result ≡ ranked self.now.rank self.now.pairs }
     {
-        self.leaf_position.pair()
+        self.at.pair()
     }
 
     /// The greatest key of the leaf, wherever it stands; none where the leaf has no pair.
     pub fn max_key(&self) -> Option<&'l K>
         ensures { option_copied result ≡ key_at self.now.pairs (length self.now.pairs - 1) }
     {
-        match self
-            .leaf_position
-            .leaf
-            .ranked(self.leaf_position.leaf.array.len())
-        {
+        match self.at.leaf.ranked(self.at.leaf.array.len()) {
             Some((key, _)) => Some(key),
             None => None,
         }
@@ -86,9 +82,9 @@ impl<'l, K: Ord, V> Iter<'l, K, V> {
         ensures end { IfSome result (λ p. IfSome (key_behind self.old) (λ k. IsFirstAbove K.cmp k self.new)) }
         ensures stays { IfNone result (self.new ≡ self.old) }
     {
-        match self.leaf_position.past(&tree.arenas) {
-            Some(leaf_position) => {
-                self.leaf_position = leaf_position;
+        match self.at.past(&tree.arenas) {
+            Some(at) => {
+                self.at = at;
                 self.get()
             },
             None => None,
@@ -99,25 +95,21 @@ impl<'l, K: Ord, V> Iter<'l, K, V> {
     pub fn rewind(&mut self)
         ensures { self.new ≡ record self.old { rank = 0 } }
     {
-        self.leaf_position.rank = 0;
+        self.at.rank = 0;
     }
 
     /// Turns round: a cursor that stands where it stands and goes by falling keys.
     pub fn rev(self) -> RevIter<'l, K, V>
         ensures { result ≡ self.entry }
     {
-        RevIter {
-            leaf_position: self.leaf_position,
-        }
+        RevIter { at: self.at }
     }
 
     /// Another cursor that stands where it stands.
     pub fn clone(&self) -> Self
         ensures { result ≡ self.now }
     {
-        Self {
-            leaf_position: self.leaf_position,
-        }
+        Self { at: self.at }
     }
 }
 
@@ -133,8 +125,8 @@ impl<'l, K: Ord, V> Iterator for Iter<'l, K, V> {
 
     /// The pair with the next greater key. Where there is none it stays.
     fn next(&mut self) -> Option<(&'l K, &'l V)> {
-        if self.leaf_position.rank < self.leaf_position.leaf.array.len() {
-            self.leaf_position.rank += 1;
+        if self.at.rank < self.at.leaf.array.len() {
+            self.at.rank += 1;
             self.get()
         } else {
             None

@@ -23,7 +23,7 @@ use std::marker::Model;
 /// ```
 #[derive(Drop)]
 pub struct RevIter<'l, K: Ord, V> {
-    pub(crate) leaf_position: LeafPosition<'l, K, V>,
+    pub(crate) at: LeafPosition<'l, K, V>,
 }
 
 impl<'l, K: Ord, V> Model for RevIter<'l, K, V> {
@@ -33,7 +33,7 @@ impl<'l, K: Ord, V> Model for RevIter<'l, K, V> {
 
     ghost coded = { leaf_cursor_code K.code V.code };
 
-    ghost view = { λ i. cursor_at i.leaf_position };
+    ghost view = { λ i. cursor_at i.at };
 }
 
 impl<'l, K: Ord, V> RevIter<'l, K, V> {
@@ -42,7 +42,7 @@ impl<'l, K: Ord, V> RevIter<'l, K, V> {
         ensures { result ≡ at_start leaf.now.array }
     {
         RevIter {
-            leaf_position: LeafPosition { leaf, rank: 0 },
+            at: LeafPosition { leaf, rank: 0 },
         }
     }
 
@@ -50,14 +50,14 @@ impl<'l, K: Ord, V> RevIter<'l, K, V> {
     pub fn get(&self) -> Option<(&'l K, &'l V)>
         ensures { deref_pair result ≡ ranked self.now.rank self.now.pairs }
     {
-        self.leaf_position.pair()
+        self.at.pair()
     }
 
     /// The least key of the leaf, wherever it stands; none where the leaf has no pair.
     pub fn min_key(&self) -> Option<&'l K>
         ensures { option_copied result ≡ key_at self.now.pairs 0 }
     {
-        match self.leaf_position.leaf.ranked(1) {
+        match self.at.leaf.ranked(1) {
             Some((key, _)) => Some(key),
             None => None,
         }
@@ -79,9 +79,9 @@ impl<'l, K: Ord, V> RevIter<'l, K, V> {
         ensures end { IfSome result (λ p. IfSome (key_before self.old) (λ k. IsLastBelow K.cmp k self.new)) }
         ensures stays { IfNone result (self.new ≡ self.old) }
     {
-        match self.leaf_position.short_of(&tree.arenas) {
-            Some(leaf_position) => {
-                self.leaf_position = leaf_position;
+        match self.at.short_of(&tree.arenas) {
+            Some(at) => {
+                self.at = at;
                 self.get()
             },
             None => None,
@@ -92,25 +92,21 @@ impl<'l, K: Ord, V> RevIter<'l, K, V> {
     pub fn rewind(&mut self)
         ensures { self.new ≡ record self.old { rank = 0 } }
     {
-        self.leaf_position.rank = 0;
+        self.at.rank = 0;
     }
 
     /// Turns round: a cursor that stands where it stands and goes by rising keys.
     pub fn rev(self) -> Iter<'l, K, V>
         ensures { result ≡ self.entry }
     {
-        Iter {
-            leaf_position: self.leaf_position,
-        }
+        Iter { at: self.at }
     }
 
     /// Another cursor that stands where it stands.
     pub fn clone(&self) -> Self
         ensures { result ≡ self.now }
     {
-        Self {
-            leaf_position: self.leaf_position,
-        }
+        Self { at: self.at }
     }
 }
 
@@ -127,15 +123,15 @@ impl<'l, K: Ord, V> Iterator for RevIter<'l, K, V> {
     /// The pair with the next smaller key; from the start that with the greatest one. Where there is none
     /// it stays.
     fn next(&mut self) -> Option<(&'l K, &'l V)> {
-        let below = if self.leaf_position.rank == 0 {
-            self.leaf_position.leaf.array.len()
+        let below = if self.at.rank == 0 {
+            self.at.leaf.array.len()
         } else {
-            self.leaf_position.rank - 1
+            self.at.rank - 1
         };
         if below == 0 {
             return None;
         }
-        self.leaf_position.rank = below;
+        self.at.rank = below;
         self.get()
     }
 }
