@@ -40,7 +40,7 @@ pub fn new<T, J: Deferred>(w: &mut World<T, J>, value: T) -> Result<AtomicOwned<
 }
 
 /// A cell that keeps owned, without a tag, exactly if a cell is free; else owned comes back.
-#[tactic(auto, using(crate::proofs::Frames::owned_cell_used))]
+#[tactic(auto, using(crate::proofs::FrameLemmas::owned_cell_used))]
 pub fn from<T, J: Deferred>(
     w: &mut World<T, J>,
     owned: Owned<T>,
@@ -126,7 +126,7 @@ pub fn tag<T, J: Deferred>(w: &World<T, J>, cell: &AtomicOwned<T>) -> Tag
 }
 
 /// Puts another item and tag into the cell, and gives the old ones.
-#[tactic(auto, using(crate::proofs::Frames::owned_cell_used))]
+#[tactic(auto, using(crate::proofs::FrameLemmas::owned_cell_used))]
 pub fn swap<T, J: Deferred>(
     w: &mut World<T, J>,
     cell: &AtomicOwned<T>,
@@ -150,7 +150,7 @@ pub fn swap<T, J: Deferred>(
 }
 
 /// Sets the tag if `f` answers true for what the cell keeps, and answers what `f` did. It is called once.
-#[tactic(auto, using(crate::proofs::Frames::owned_cell_used))]
+#[tactic(auto, using(crate::proofs::FrameLemmas::owned_cell_used))]
 pub fn update_tag_if<T, J: Deferred, P: Found<T>, F: FnOnce(P) -> bool>(
     w: &mut World<T, J>,
     cell: &AtomicOwned<T>,

@@ -17,7 +17,7 @@ use crate::world::World;
 use std::marker::PhantomData;
 
 /// A cell that keeps `ptr`, exactly if a cell is free.
-#[tactic(auto, using(crate::proofs::Frames::raw_cell_used))]
+#[tactic(auto, using(crate::proofs::FrameLemmas::raw_cell_used))]
 pub fn new<T, J: Deferred>(w: &mut World<T, J>, ptr: RawPtr<T>) -> Result<AtomicRaw<T>, NoSlot>
     ensures made { IfOk result (λ c. IsFreeCell w.old (raw_cell c) × (w.new ≡ with_cell (raw_cell c) (Cell.OfRaw (raw_slot ptr) (raw_tag ptr)) w.old)) }
     ensures refused { OnErr result ((w.new ≡ w.old) × NoCellFree w.old) }
@@ -31,7 +31,7 @@ pub fn new<T, J: Deferred>(w: &mut World<T, J>, ptr: RawPtr<T>) -> Result<Atomic
 }
 
 /// A cell that names nothing, without a tag, exactly if a cell is free.
-#[tactic(auto, using(crate::proofs::Frames::raw_cell_used))]
+#[tactic(auto, using(crate::proofs::FrameLemmas::raw_cell_used))]
 pub fn null<T, J: Deferred>(w: &mut World<T, J>) -> Result<AtomicRaw<T>, NoSlot>
     ensures made { IfOk result (λ c. IsFreeCell w.old (raw_cell c) × (w.new ≡ with_cell (raw_cell c) (Cell.OfRaw None Tag.None) w.old)) }
     ensures refused { OnErr result ((w.new ≡ w.old) × NoCellFree w.old) }
@@ -91,7 +91,7 @@ pub fn tag<T, J: Deferred>(w: &World<T, J>, cell: &AtomicRaw<T>) -> Tag
 }
 
 /// Puts another pointer into the cell.
-#[tactic(auto, using(crate::proofs::Frames::raw_cell_used))]
+#[tactic(auto, using(crate::proofs::FrameLemmas::raw_cell_used))]
 pub fn store<T, J: Deferred>(w: &mut World<T, J>, cell: &AtomicRaw<T>, ptr: RawPtr<T>)
     requires { IsRawCell w.old (raw_cell cell.now) }
     ensures now { w.new ≡ with_cell (raw_cell cell.now) (Cell.OfRaw (raw_slot ptr) (raw_tag ptr)) w.old }
@@ -120,7 +120,7 @@ pub fn swap<T, J: Deferred>(
 }
 
 /// Sets the tag if `f` answers true for what the cell keeps, and answers what `f` did. It is called once.
-#[tactic(auto, using(crate::proofs::Frames::raw_cell_used))]
+#[tactic(auto, using(crate::proofs::FrameLemmas::raw_cell_used))]
 pub fn update_tag_if<T, J: Deferred, F: FnOnce(RawPtr<T>) -> bool>(
     w: &mut World<T, J>,
     cell: &AtomicRaw<T>,

@@ -54,7 +54,7 @@ pub fn new_with<T, J: Deferred, F: FnOnce() -> T + Drop>(
 }
 
 /// One more owner of the item; none where it has `2^32 - 1` of them.
-#[tactic(auto, using(crate::proofs::Frames::shared_more))]
+#[tactic(auto, using(crate::proofs::FrameLemmas::shared_more))]
 pub fn clone<T, J: Deferred>(w: &mut World<T, J>, shared: &Shared<T>) -> Option<Shared<T>>
     requires { IsShared w.old (shared_slot shared.now) }
     ensures more { IfSome result (λ s. (shared_slot s ≡ shared_slot shared.now) × (n : ℕ) × (status_at w.old (shared_slot s) ≡ Status.Shared n) × (w.new ≡ with_status (shared_slot s) (Status.Shared (n + 1)) w.old)) }
