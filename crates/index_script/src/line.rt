@@ -18,6 +18,7 @@ pub struct Begun {
     long: bool,
 }
 
+/// Invariant: what is begun has at most 65,536 bytes.
 impl Model for Begun {
     ghost use Rattle.std.specs.Prelude.{List, Option, ℕ, cond, None, Some, length, ◌≤◌};
 

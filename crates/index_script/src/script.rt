@@ -28,6 +28,8 @@ pub struct Script<const S: usize> {
     line: u64,
 }
 
+/// Invariant: `ordered_index`'s specs/Desk.antt, Serves and KeepsAll: each session of the desk is open, and each open one sits
+/// at the desk.
 impl<const S: usize> Model for Script<S> {
     ghost use Rattle.ordered_index.specs.Desk.{Serves, KeepsAll};
     ghost use Rattle.index_script.specs.Script.{Script};

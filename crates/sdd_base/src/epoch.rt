@@ -11,6 +11,7 @@ pub struct Epoch {
     number: u8,
 }
 
+/// Invariant: an epoch is below 64.
 impl Model for Epoch {
     ghost use Rattle.std.specs.Prelude.{ℕ, ◌<◌};
 

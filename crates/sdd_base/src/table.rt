@@ -44,6 +44,8 @@ pub(crate) struct Table<T, J: Deferred> {
     free_cells: Vec<usize>,
 }
 
+/// Invariant: specs/View.antt, IsTable: a value stands in each slot that is used, the stacks of free places name those that
+/// are free, and each bag has room for all.
 impl<T, J: Deferred> Model for Table<T, J> {
     ghost use Rattle.sdd_base.specs.State.{State};
 

@@ -39,6 +39,8 @@ pub struct World<T, J: Deferred = Job> {
     pub(crate) table: Table<T, J>,
 }
 
+/// Invariant: specs/Place.antt, IsPlace: what waits is in one bag of one participant, and an open guard is at most one count
+/// behind.
 impl<T, J: Deferred> Model for World<T, J> {
     ghost use Rattle.sdd_base.specs.State.{State};
 

@@ -22,6 +22,7 @@ pub struct State {
     snapshot: Snapshot,
 }
 
+/// Invariant: specs/Invariant.antt, Inv: what every schedule of single steps keeps.
 impl Model for State {
     ghost use Rattle.sdd_steps.specs.State as core;
 

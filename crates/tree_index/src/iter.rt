@@ -20,6 +20,7 @@ pub struct Iter<'t, K: Ord, V> {
     pub(crate) ends: Ends<'t, K, V>,
 }
 
+/// Invariant: specs/Ends.antt, IsReady: both ends stand at places of a sound tree.
 impl<'t, K: Ord, V> Model for Iter<'t, K, V> {
     ghost use Rattle.std.specs.declared.ops.Bound.TheVariants.{Unbounded};
     ghost use Rattle.tree_index.specs.Cursor.{Cursor, cursor_code};

@@ -19,6 +19,7 @@ pub struct Range<'t, K: Ord, V> {
     pub(crate) upper: Bound<&'t K>,
 }
 
+/// Invariant: specs/Ends.antt, IsReady: both ends stand at places of a sound tree.
 impl<'t, K: Ord, V> Model for Range<'t, K, V> {
     ghost use Rattle.std.specs.Range.Bound.{bound_map};
     ghost use Rattle.tree_index.specs.Cursor.{Cursor, cursor_code};

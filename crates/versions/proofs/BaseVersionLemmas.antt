@@ -17,8 +17,8 @@ use Rattle.versions.specs.Items.{slots_of}
 use Rattle.versions.specs.Parts.{blocks_of_parts}
 use Rattle.versions.specs.Placing.{CanBeShared, IsTakeable, in_one_of, in_slot, named_among, named_at}
 use Rattle.versions.specs.Versions.{IsSegment, blocks_of, pairs_of}
-use Rattle.versions.specs.declared.building.parts.Part.{Part}
-use Rattle.versions.specs.declared.building.parts.Part.TheVariants as parts
+use Rattle.versions.specs.declared.building.segments.Part.{Part}
+use Rattle.versions.specs.declared.building.segments.Part.TheVariants as parts
 use Rattle.versions.specs.declared.directory.Directory.{Directory}
 use Rattle.versions.specs.declared.item.Item.{Item}
 use Rattle.versions.specs.declared.item.Item.TheVariants as items

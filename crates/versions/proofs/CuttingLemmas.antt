@@ -13,9 +13,9 @@ use Rattle.tree_index.specs.Depth.{IsAbove}
 use Rattle.versions.specs.Cuts.{greatest_key, pairs_in, IsTight}
 use Rattle.versions.specs.Cutting.{IsClosing, IsCutting, IsHeld, IsHeldAt, IsRow, IsSized, StaysApart, given, last_size, one_open, spent, trees}
 use Rattle.versions.specs.Parts.{blocks_of_parts, made_in, makes, part_pairs}
-use Rattle.versions.specs.declared.building.parts.Part.{Part}
-use Rattle.versions.specs.declared.building.parts.Part.TheVariants as parts
-use Rattle.versions.specs.declared.building.parts.Row.{Row}
+use Rattle.versions.specs.declared.building.segments.Part.{Part}
+use Rattle.versions.specs.declared.building.segments.Part.TheVariants as parts
+use Rattle.versions.specs.declared.building.segments.Row.{Row}
 use Rattle.versions.specs.declared.building.segments.SegmentBuilder.{SegmentBuilder}
 use Rattle.versions.proofs.BlockListLemmas.{pairs_in-append}
 use Rattle.versions.proofs.FilterLemmas.{rising_under, rising_none, rising_front, rising_rear, all_rear}

@@ -19,8 +19,8 @@ use Rattle.versions.specs.Cuts.{IsCut, pairs_in}
 use Rattle.versions.specs.Parts.{blocks_of_parts, made_in, makes, part_pairs}
 use Rattle.versions.specs.Placing.{CanBeShared, HasPlaced, IsTakeable, StandsIn, in_slot, named_at, slots_in, taken_slots}
 use Rattle.versions.specs.Versions.{IsSegment, pairs_of}
-use Rattle.versions.specs.declared.building.parts.Part.{Part}
-use Rattle.versions.specs.declared.building.parts.Part.TheVariants as parts
+use Rattle.versions.specs.declared.building.segments.Part.{Part}
+use Rattle.versions.specs.declared.building.segments.Part.TheVariants as parts
 use Rattle.versions.specs.declared.item.Item.{Item}
 use Rattle.versions.proofs.OnceLemmas.{once_by, slots_by}
 use Rattle.versions.proofs.PlacingLemmas.{stands_more, stands_taken}

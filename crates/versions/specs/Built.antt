@@ -3,7 +3,7 @@ use Rattle.std.specs.Prelude.{◌≡◌, ℕ, ◌+◌, ◌*◌, ◌/◌, ◌≤�
 use Rattle.std.specs.Global.{Vec}
 use Rattle.sdd_base.specs.declared.owner.Kept.{Kept}
 use Rattle.versions.specs.Parts.{made_in}
-use Rattle.versions.specs.declared.building.parts.Segments.{Segments}
+use Rattle.versions.specs.declared.building.segments.Segments.{Segments}
 
 pub record IsBuilt {K V N : Type 0} (s : ℕ) (segments : Segments K V N) (made : ℕ) (owners : Vec Kept) : Type 0 where
   pub few : length segments.parts.items ≤ 2 * (segments.length / (s + 1)) + 1

@@ -7,9 +7,9 @@ use Rattle.leaf_array.specs.Pairs.{IsAscending}
 use Rattle.tree_index.specs.Shape.{AllKeys}
 use Rattle.versions.specs.Cuts.{IsTight, greatest_key, pairs_in}
 use Rattle.versions.specs.Parts.{blocks_of_parts, made_in}
-use Rattle.versions.specs.declared.building.parts.Part.{Part}
-use Rattle.versions.specs.declared.building.parts.Part.TheVariants as parts
-use Rattle.versions.specs.declared.building.parts.Row.{Row}
+use Rattle.versions.specs.declared.building.segments.Part.{Part}
+use Rattle.versions.specs.declared.building.segments.Part.TheVariants as parts
+use Rattle.versions.specs.declared.building.segments.Row.{Row}
 use Rattle.versions.specs.declared.building.segments.SegmentBuilder.{SegmentBuilder}
 
 -- a block of 1 to s pairs

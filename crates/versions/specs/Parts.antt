@@ -1,7 +1,7 @@
 -- parts of a version that is being built
 use Rattle.std.specs.Prelude.{ℕ, List, map, sum_by}
-use Rattle.versions.specs.declared.building.parts.Part.{Part}
-use Rattle.versions.specs.declared.building.parts.Part.TheVariants as parts
+use Rattle.versions.specs.declared.building.segments.Part.{Part}
+use Rattle.versions.specs.declared.building.segments.Part.TheVariants as parts
 
 module _ {K V N : Type 0} where
   -- the pairs of a part, where older segments have these pairs by their names

@@ -18,8 +18,8 @@ use Rattle.versions.specs.Versions.{IsSegment, IsVersion, pairs_of, list_of}
 use Rattle.sdd_base.specs.declared.owner.Kept.{Kept}
 use Rattle.versions.specs.declared.directory.Directory.{Directory}
 use Rattle.versions.specs.Parts.{blocks_of_parts, made_in}
-use Rattle.versions.specs.declared.building.parts.Part.{Part}
-use Rattle.versions.specs.declared.building.parts.Part.TheVariants as parts
+use Rattle.versions.specs.declared.building.segments.Part.{Part}
+use Rattle.versions.specs.declared.building.segments.Part.TheVariants as parts
 use Rattle.versions.specs.declared.item.Item.{Item}
 use Rattle.versions.specs.declared.item.Item.TheVariants as items
 

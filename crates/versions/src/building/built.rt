@@ -1,20 +1,21 @@
-//! Building versions.
+//! Building versions, each of an older one.
 
-ghost use Rattle.std.specs.Prelude.{◌≡◌, ◌≤◌, ◌<◌, ◌+◌, ◌*◌, [], ◌/◌, ◌-◌, ◌^◌, IfOk, length, vec_capacity};
+ghost use Rattle.std.specs.Prelude.{◌≡◌, ◌≤◌, ◌<◌, ◌+◌, ◌*◌, [], ◌/◌, ◌-◌, ◌^◌, IfOk, length, vec_capacity, Some, slice_get};
 ghost use Rattle.leaf_array.specs.Values.{ClonesAreSame};
 ghost use Rattle.sdd_base.specs.State.{value_at};
 ghost use Rattle.std.specs.List.{All};
 ghost use Rattle.versions.specs.Items.{slots_of};
 ghost use Rattle.versions.specs.Parts.{made_in};
-ghost use Rattle.versions.specs.Placing.{CanBeShared, IsPlaceable, list_planned, slots_for};
-ghost use Rattle.versions.specs.Versions.{IsVersion, list_of};
+ghost use Rattle.versions.specs.Placing.{CanBeShared, IsPlaceable, list_planned, slots_for, named_among};
+ghost use Rattle.versions.specs.Versions.{IsVersion, list_of, blocks_of};
 ghost use Rattle.versions.specs.Writes.{after_writes, replies_to};
 
-use crate::building::draft::drafted;
-use crate::building::older::Older;
-use crate::building::parts::{Part, Segments};
+use crate::building::draft::{BaseVersion, drafted};
+use crate::building::segments::{Part, Segments};
 use crate::directory::Directory;
 use crate::item::Item;
+use crate::read::trees::Trees;
+use crate::read::view::place_of;
 use crate::write::{Reply, Write};
 use sdd_base::job::NoJob;
 use sdd_base::owner::Kept;
@@ -22,6 +23,7 @@ use sdd_base::pointer::Loaded;
 use sdd_base::world::World;
 use std::alloc::{AllocError, Global};
 use std::marker::Model;
+use tree_index::TreeIndex;
 
 /// A version that isn't placed yet: the number of its list, and its segments, of which some are those of an older version.
 pub struct Built<K: Ord, V, const S: usize> {
@@ -33,6 +35,8 @@ pub struct Built<K: Ord, V, const S: usize> {
     owners: Vec<Kept>,
 }
 
+/// Invariant: specs/Built.antt, IsBuilt: the segments are few, those that are new are counted, and there is room for their
+/// owners.
 impl<K: Ord, V, const S: usize> Model for Built<K, V, S> {
     ghost use Rattle.versions.specs.Placing.{Plan};
 
@@ -142,4 +146,74 @@ fn made_of<K: Ord, V, N>(parts: &[Part<K, V, N>]) -> usize
         }
     }
     made
+}
+
+/// A version, and where it is.
+#[derive(Drop)]
+pub(crate) struct Older<'a, K: Ord, V, const S: usize> {
+    w: &'a World<Item<K, V, S>, NoJob>,
+    dir: &'a Directory<K, Kept>,
+}
+
+/// Invariant: specs/Versions.antt, IsVersion: the directory is a whole version of the place.
+impl<'a, K: Ord, V, const S: usize> Model for Older<'a, K, V, S> {
+    ghost use Rattle.sdd_base.specs.State.{value_at};
+    ghost use Rattle.versions.specs.Placing.{Base};
+    ghost use Rattle.versions.specs.Versions.{IsVersion};
+
+    ghost Value = { Base K V S };
+
+    ghost view = { λ o. record { state = o.w.now; directory = o.dir.now } };
+
+    ghost invariant = { λ o. IsVersion K.cmp (value_at o.w.now) o.dir.now };
+}
+
+impl<'a, K: Ord, V, const S: usize> Older<'a, K, V, S> {
+    /// A version.
+    pub(crate) fn new(w: &'a World<Item<K, V, S>, NoJob>, dir: &'a Directory<K, Kept>) -> Self
+        requires { IsVersion K.cmp (value_at w.now) dir.now }
+        ensures { result ≡ record { state = w.now; directory = dir.now } }
+    {
+        Older { w, dir }
+    }
+
+    /// The separators tell the segments apart.
+    pub(crate) fn laws(&self)
+        ensures { IsVersion K.cmp (value_at self.now.state) self.now.directory }
+    {
+        let _dir = self.dir;
+    }
+}
+
+impl<'a, K: Ord, V, const S: usize> BaseVersion<K, V, Loaded<Item<K, V, S>>>
+    for Older<'a, K, V, S> {
+    ghost blocks = { λ o. blocks_of (value_at o.state) o.directory };
+
+    ghost separators = { λ o. o.directory.separators.items };
+
+    ghost named = { λ o at. named_among (slots_of o.directory) (value_at o.state) at };
+
+    fn count(&self) -> usize {
+        self.dir.segments.len()
+    }
+
+    fn segment(&self, place: usize) -> &TreeIndex<K, V> {
+        self.w.tree(&self.dir.segments[place])
+    }
+
+    fn separators(&self) -> &[K] {
+        &self.dir.separators
+    }
+
+    fn name(&self, place: usize) -> Loaded<Item<K, V, S>> {
+        self.dir.segments[place].loaded()
+    }
+
+    fn contains(&self, key: &K) -> bool {
+        if self.dir.segments.is_empty() {
+            return false;
+        }
+        self.segment(place_of(&self.dir.separators, key))
+            .contains(key)
+    }
 }

@@ -11,12 +11,13 @@ ghost use Rattle.versions.specs.Cuts.{pairs_in};
 ghost use Rattle.versions.specs.Gone.{IsSpan};
 ghost use Rattle.versions.specs.SeparatorSearch.{IsOrdered};
 ghost use Rattle.versions.specs.Writes.{after_write, reply_to};
+ghost use Rattle.std.specs.Option.{is_some};
 
 use crate::building::draft::BaseVersion;
-use crate::building::edit::Edit;
 use crate::building::gone::{Gone, is_gone, range_of};
 use crate::write::{Reply, Write};
 use std::alloc::{AllocError, Global};
+use std::marker::Model;
 use std::ops::Bound;
 use tree_index::TreeIndex;
 
@@ -140,4 +141,44 @@ fn remove_range<K: Clone + Ord + Drop, V: Drop, N, O: BaseVersion<K, V, N>>(
         .edits
         .remove_range_sync(lower.as_ref(), upper.as_ref());
     Ok(())
+}
+
+/// What comes of a key: the value of the write that names it last, which isn't cloned, or none.
+#[derive(Drop)]
+pub(crate) struct Edit<'w, V> {
+    to: Option<&'w V>,
+}
+
+impl<'w, V> Model for Edit<'w, V> {
+    ghost use Rattle.std.specs.Prelude.{Option, option_copied};
+
+    ghost Value = { Option V };
+
+    ghost view = { λ e. option_copied e.to };
+}
+
+impl<'w, V> Edit<'w, V> {
+    /// The key gets this value, or has no pair.
+    pub(crate) fn new(to: Option<&'w V>) -> Self
+        ensures { result ≡ option_copied to.entry }
+    {
+        Edit { to }
+    }
+
+    /// Whether the key has a pair.
+    pub(crate) fn leaves_a_pair(&self) -> bool
+        ensures { result ≡ is_some self.now }
+    {
+        match self.to {
+            Some(_) => true,
+            None => false,
+        }
+    }
+
+    /// The value that the key gets, if it gets one.
+    pub(crate) fn value(&self) -> Option<&'w V>
+        ensures { option_copied result ≡ self.now }
+    {
+        self.to
+    }
 }

@@ -10,7 +10,7 @@ ghost use Rattle.versions.specs.Writes.{after_writes, replies_to};
 
 use crate::building::changes::{apply, unchanged};
 use crate::building::merge::merged;
-pub use crate::building::parts::{Part, Segments};
+pub use crate::building::segments::{Part, Segments};
 use crate::write::{Reply, Write};
 use std::alloc::{AllocError, Global};
 use tree_index::TreeIndex;

@@ -8,8 +8,8 @@ ghost use Rattle.versions.specs.Gone.{IsCovered, IsEndAt, IsNear, IsSpan, is_gon
 ghost use Rattle.versions.specs.SeparatorSearch.{IsOrdered};
 
 use crate::bounds::is_within;
-use crate::building::change_scan::ChangeScan;
 use crate::building::draft::BaseVersion;
+use crate::building::scans::ChangeScan;
 use crate::read::view::place_of;
 use std::alloc::AllocError;
 use std::ops::Bound;

@@ -11,14 +11,11 @@ ghost use Rattle.versions.specs.Cutting.{IsCutting, IsFilled, IsPassedBy, IsReac
 ghost use Rattle.versions.specs.Gone.{IsSpan, is_gone, without};
 ghost use Rattle.versions.specs.Parts.{blocks_of_parts, made_in};
 
-use crate::building::change_scan::ChangeScan;
-use crate::building::changes::Changes;
+use crate::building::changes::{Changes, Edit};
 use crate::building::draft::BaseVersion;
-use crate::building::edit::Edit;
 use crate::building::gone::{Gone, covers, thins};
-use crate::building::parts::Segments;
-use crate::building::segments::{SegmentBuilder, begun, finish, greatest_at, push, take};
-use crate::building::sieve::Sieve;
+use crate::building::scans::{ChangeScan, Sieve};
+use crate::building::segments::{SegmentBuilder, Segments, begun, finish, greatest_at, push, take};
 use std::alloc::{AllocError, Global};
 use std::cmp::Ordering;
 

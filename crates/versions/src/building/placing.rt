@@ -11,7 +11,7 @@ ghost use Rattle.versions.specs.Parts.{blocks_of_parts, made_in, makes};
 ghost use Rattle.versions.specs.Placing.{CanBeShared, HasPlaced, IsPlaceable, IsTakeable, Places, StandsIn, given_back, named_at, slots_for, taken_slots};
 
 use crate::building::built::Built;
-use crate::building::parts::{Part, Segments};
+use crate::building::segments::{Part, Segments};
 use crate::directory::Directory;
 use crate::item::Item;
 use crate::segment::Segment;

@@ -7,13 +7,59 @@ ghost use Rattle.versions.specs.Cuts.{IsCut, IsSeparated, greatest_key, pairs_in
 ghost use Rattle.versions.specs.Cutting.{IsClosing, IsCutting, IsRow, StaysApart, given, spent, trees};
 ghost use Rattle.versions.specs.Parts.{blocks_of_parts, made_in};
 
-use crate::building::change_scan::ChangeScan;
 use crate::building::draft::BaseVersion;
-use crate::building::parts::{Part, Row, Segments, give};
+use crate::building::scans::ChangeScan;
 use crate::segment::Segment;
 use std::alloc::{AllocError, Global};
 use std::mem;
 use tree_index::TreeIndex;
+
+/// A segment of a version that is being built: one of the older version, by its name, or a new one.
+#[derive(Drop)]
+pub enum Part<K: Ord, V, N> {
+    /// The older segment of this name, which is taken over.
+    Taken(N),
+    /// A segment that was made for it.
+    Made(Segment<K, V>),
+}
+
+/// The segments of a list, in order, with the greatest key of each but the last.
+#[derive(Drop)]
+pub struct Segments<K: Ord, V, N> {
+    /// The segments.
+    pub parts: Vec<Part<K, V, N>>,
+    /// The greatest key of each segment but the last.
+    pub separators: Vec<K>,
+    /// How many pairs all segments hold.
+    pub length: usize,
+}
+
+/// Parts in a row, with the greatest key of each.
+#[derive(Drop)]
+pub(crate) struct Row<K: Ord, V, N> {
+    pub(crate) parts: Vec<Part<K, V, N>>,
+    pub(crate) separators: Vec<K>,
+    // how many pairs the last part has; 0 where there is none
+    pub(crate) last: usize,
+}
+
+/// Puts a part behind the others, with its greatest key and how many pairs it has.
+#[inline(always)]
+pub(crate) fn give<K: Ord + Drop, V: Drop, N: Drop>(
+    row: &mut Row<K, V, N>,
+    part: Part<K, V, N>,
+    greatest: K,
+    size: usize,
+) -> Result<(), AllocError>
+    ensures parts { OnOk result (row.new.parts.items ≡ row.old.parts.items ++ part ∷ []) }
+    ensures separators { OnOk result (row.new.separators.items ≡ row.old.separators.items ++ greatest ∷ []) }
+    ensures last { OnOk result (row.new.last ≡ size) }
+{
+    row.parts.push(part)?;
+    row.separators.push(greatest)?;
+    row.last = size;
+    Ok(())
+}
 
 /// The pairs that were given so far, by rising keys: in segments that are done, and in a last tree that takes more.
 #[derive(Drop)]
@@ -26,7 +72,7 @@ pub(crate) struct SegmentBuilder<K: Ord, V, N> {
     pub(crate) length: usize,
 }
 
-/// A cutter that was given no pair, with room for all segments that changes of so many keys and ranges can leave.
+/// A builder that was given no pair, with room for all segments that changes of so many keys and ranges can leave.
 pub(crate) fn begun<K: Ord + Drop, V: Drop, N: Drop, O: BaseVersion<K, V, N>, const S: usize>(
     alloc: Global,
     old: &O,

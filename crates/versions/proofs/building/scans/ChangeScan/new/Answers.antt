@@ -1,7 +1,7 @@
 use Rattle.std.proofs.Common.{refl, ◌∙◌, ap}
 use Rattle.versions.specs.ChangeScans.{unread}
 use Rattle.versions.proofs.ChangeScanLemmas.{from_start, started_first}
-use Rattle.versions.proofs.building.change_scan.ChangeScan.new.Goals as goal
+use Rattle.versions.proofs.building.scans.ChangeScan.new.Goals as goal
 
 pub invariant_of-result : goal.invariant_of-result
 invariant_of-result g c = rw (c.next.ensures.steps.1, c.iter-cursor.ensures.cursor) (record { from = refl; upto = refl; alone = refl; started = started_first g.K.Ord.cmp c.args.tree.now.pairs })

@@ -1,6 +1,6 @@
 use Rattle.std.proofs.Common.{◌≡◌, length}
 use Rattle.versions.specs.Gone.{without}
-use Rattle.versions.proofs.building.sieve.pass_gone.Given as goal
+use Rattle.versions.proofs.building.scans.pass_gone.Given as goal
 
 -- nothing that is left was passed
 abbrev pub invariant-loop-key : goal.invariant-loop-key
