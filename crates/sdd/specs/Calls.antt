@@ -1,20 +1,20 @@
 -- what calls say of a container, in a line each
-use Rattle.std.specs.Prelude.{◌≡◌, ℕ, ◌⊎◌, ◌++◌, Option, None, Some, IfSome, List, [], ◌∷◌, option_copied}
+use Rattle.std.specs.Prelude.{◌≡◌, ℕ, ◌⊎◌, ◌++◌, Option, None, Some, IfSome, List, [], ◌∷◌, option_copied, ◌<◌, ◌≤◌, ◌≢◌, length, MatchOption, map}
 use Rattle.std.specs.Borrow.{Bor}
 use Rattle.std.specs.Iterator.{Drains, YieldsThen}
-use Rattle.sdd_base.specs.State.{State, IsFreeCell, NoneFree, NoCellFree, status_at, with_cell}
-use Rattle.sdd_base.specs.Tokens.{shared_cell, shared_slot}
+use Rattle.sdd_base.specs.State.{State, IsFreeCell, NoneFree, NoCellFree, status_at, with_cell, cell_at}
+use Rattle.sdd_base.specs.Tokens.{shared_cell, shared_slot, shared_slots}
 use Rattle.sdd_base.specs.declared.cell.AtomicShared.{AtomicShared}
 use Rattle.sdd_base.specs.declared.owner.Shared.{Shared}
 use Rattle.sdd_base.specs.declared.status.Cell.TheVariants as cell
 use Rattle.sdd_base.specs.declared.status.Status.TheVariants as status
 use Rattle.sdd_base.specs.declared.tag.Tag.{Tag}
 use Rattle.sdd_base.specs.declared.tag.Tag.TheVariants as tag
-use Rattle.sdd.specs.Bags.{IsBag, IsSomeBag, bag_cells}
-use Rattle.sdd.specs.Chain.{Entry, IsList, IsDetached, Leaves, first_item, first_slot, links, slots, undeleted}
+use Rattle.sdd.specs.Bags.{IsBag, IsSomeBag, bag_cells, IsRow, IsSameBag, AreOwn, AreSpare, PutsPrimary, PutsOverflow, TakesOne}
+use Rattle.sdd.specs.Chain.{Entry, IsList, IsDetached, Leaves, first_item, first_slot, links, slots, undeleted, Fits}
 use Rattle.sdd.specs.Entries.{entry_link, entry_value}
 use Rattle.sdd.specs.Nodes.{IsApart, IsNode}
-use Rattle.sdd.specs.Queues.{Appends, IsQueue, IsSomeQueue, KeepsQueue, Takes, newest_cell, oldest_cell}
+use Rattle.sdd.specs.Queues.{Appends, IsQueue, IsSomeQueue, KeepsQueue, Takes, newest_cell, oldest_cell, Follows, vacated}
 use Rattle.sdd.specs.Stacks.{IsStack, Pops, stack_cell}
 use Rattle.sdd.specs.declared.bag.Bag.{Bag}
 use Rattle.sdd.specs.declared.linked_entry.LinkedEntry.{LinkedEntry}
@@ -22,6 +22,8 @@ use Rattle.sdd.specs.declared.queue.Queue.{Queue}
 use Rattle.sdd.specs.declared.refusal.NotMade.{NotMade}
 use Rattle.sdd.specs.declared.refusal.NotMade.TheVariants as causes
 use Rattle.sdd.specs.declared.stack.Stack.{Stack}
+use Rattle.sdd.specs.FromIter.{FillsQueue, FillsStack, entry_values}
+use Rattle.sdd.specs.MutableIteration.{IsLeft}
 
 -- no entry can be made: no slot is free, or no cell is
 abbrev pub NoRoom : {L : Type 0} → State L → Type 0
@@ -106,7 +108,59 @@ module _ {T : Type 0} where
   abbrev pub OnlyBag : {n : ℕ} → State (LinkedEntry T) → State (LinkedEntry T) → Bag T n → Type 0
   OnlyBag w w' b = (ps : List (Entry (LinkedEntry T))) (os : List (Entry (LinkedEntry T))) → BagIn w b ps os → Leaves (bag_cells b ++ links (os ++ ps)) (slots (os ++ ps)) w w'
 
+  -- a new entry of the value is in the primary of a bag if that has room, and else in the overflow
+  abbrev pub PutsInto : {n : ℕ} → State (LinkedEntry T) → State (LinkedEntry T) → Bag T n → T → Type 0
+  PutsInto {n} w w' b value = (ps : List (Entry (LinkedEntry T))) (os : List (Entry (LinkedEntry T))) → BagIn w b ps os → ((length ps < n) × PutsPrimary n w w' value (bag_cells b) ps os) ⊎ ((length ps ≡ n) × PutsOverflow n w w' value (bag_cells b) ps os)
+
+  -- one entry of a bag was taken, or there is none
+  abbrev pub TakesFromBag : {n : ℕ} → State (LinkedEntry T) → State (LinkedEntry T) → Bag T n → Option (Shared (LinkedEntry T)) → Type 0
+  TakesFromBag {n} w w' b taken = (ps : List (Entry (LinkedEntry T))) (os : List (Entry (LinkedEntry T))) → BagIn w b ps os → MatchOption taken ((ps ≡ []) × (os ≡ []) × BagIn w' b [] []) (λ s. TakesOne n w' (bag_cells b) (shared_slot s) ps os)
+
+  -- all entries of a bag were taken, in some order, and each has one owner more
+  abbrev pub TakesAll : {n : ℕ} → State (LinkedEntry T) → State (LinkedEntry T) → Bag T n → (List (Entry (LinkedEntry T)) → Type 0) → Type 0
+  TakesAll w w' b P = (ps : List (Entry (LinkedEntry T))) (os : List (Entry (LinkedEntry T))) → BagIn w b ps os → (es : List (Entry (LinkedEntry T))) × IsSameBag es (os ++ ps) × AreOwn w' es × AreSpare w' es × P es
+
+  -- a queue has clones of the first values of a list, up to one that has no room or can't be cloned
+  abbrev pub CopiesQueueUpTo : (T → Type 0) → State (LinkedEntry T) → State (LinkedEntry T) → List (Entry (LinkedEntry T)) → Queue T → NotMade → Type 0
+  CopiesQueueUpTo is_infallible w w' es q cause = CopiesUpTo is_infallible (entry_values (undeleted es)) cause (NoRoom w') (FillsQueue w w' (oldest_cell q) (newest_cell q))
+
+  -- the same of a stack
+  abbrev pub CopiesStackUpTo : (T → Type 0) → State (LinkedEntry T) → State (LinkedEntry T) → List (Entry (LinkedEntry T)) → Stack T → NotMade → Type 0
+  CopiesStackUpTo is_infallible w w' es s cause = CopiesUpTo is_infallible (entry_values (undeleted es)) cause (NoRoom w') (FillsStack w w' (stack_cell s))
+
+  -- whatever entries a walk over these cells is yet to give
+  abbrev pub OfWalk : State (LinkedEntry T) → List ℕ → (List (Entry (LinkedEntry T)) → Type 0) → Type 0
+  OfWalk w cells P = (es : List (Entry (LinkedEntry T))) → IsLeft w cells es → P es
+
+  -- a walk over these cells is yet to give the entries of a bag
+  abbrev pub WalksBag : ℕ → State (LinkedEntry T) → List ℕ → List ℕ → Type 0
+  WalksBag n w bag cells = (ps : List (Entry (LinkedEntry T))) (os : List (Entry (LinkedEntry T))) → IsBag n w bag ps os → IsLeft w cells (os ++ ps)
+
 module _ {L : Type 0} where
+  -- whatever lists hang from these cells
+  abbrev pub OfRow : (L → Option ℕ) → State L → List (AtomicShared L) → (List (List (Entry L)) → Type 0) → Type 0
+  OfRow link w cells P = (rows : List (List (Entry L))) → length cells ≤ length rows → IsRow link w (map shared_cell cells) rows → P rows
+
+  -- a cell was emptied, and keeps its tag
+  abbrev pub Empties : State L → State L → AtomicShared L → Option (Shared L) → Type 0
+  Empties w w' from taken = (o : Option ℕ) (t : Tag) → cell_at w (shared_cell from) ≡ cell.OfShared o t → (shared_slots taken ≡ o) × (w' ≡ with_cell (shared_cell from) (cell.OfShared None t) w)
+
+  -- the entry in slot i hangs before all others
+  abbrev pub HangsFirst : (L → Option ℕ) → State L → State L → AtomicShared L → ℕ → Type 0
+  HangsFirst link w w' from i = (t : Tag) (es : List (Entry L)) (e : Entry L) → IsList link w (shared_cell from) t es → IsDetached link w e → Fits (shared_cell from) es e → i ≡ e.slot → IsList link w' (shared_cell from) t (e ∷ es) × Leaves (shared_cell from ∷ e.link ∷ []) [] w w'
+
+  -- the first entry is gone, and those behind it hang here
+  abbrev pub DropsFirst : (L → Option ℕ) → State L → State L → AtomicShared L → Type 0
+  DropsFirst link w w' from = (t : Tag) (e : Entry L) (es : List (Entry L)) → IsList link w (shared_cell from) t (e ∷ es) → IsList link w' (shared_cell from) t es × Leaves (shared_cell from ∷ e.link ∷ []) (e.slot ∷ []) w w'
+
+  -- the entry in slot i is the newest of a queue
+  abbrev pub AppendsLast : (L → Option ℕ) → State L → State L → AtomicShared L → AtomicShared L → ℕ → Type 0
+  AppendsLast link w w' oldest newest i = (es : List (Entry L)) (e : Entry L) → IsQueue link w (shared_cell oldest) (shared_cell newest) es → IsDetached link w e → Follows (shared_cell oldest) (shared_cell newest) es e → i ≡ e.slot → IsQueue link w' (shared_cell oldest) (shared_cell newest) (es ++ e ∷ []) × Leaves (e.link ∷ shared_cell oldest ∷ shared_cell newest ∷ links es) (slots es) w w'
+
+  -- where the oldest cell is empty, p gives back what the newest one keeps
+  abbrev pub ClearsNewest : ℕ → State L → State L → AtomicShared L → AtomicShared L → Type 0
+  ClearsNewest p w w' oldest newest = (o : Option ℕ) (t : Tag) → cell_at w (shared_cell oldest) ≡ cell.OfShared None t → cell_at w (shared_cell newest) ≡ cell.OfShared o tag.None → w' ≡ vacated p (shared_cell newest) o w
+
   -- whatever list hangs from a cell, with the tag there
   abbrev pub OfList : (L → Option ℕ) → State L → AtomicShared L → (Tag → List (Entry L) → Type 0) → Type 0
   OfList link w from P = (t : Tag) (es : List (Entry L)) → IsList link w (shared_cell from) t es → P t es
@@ -122,6 +176,10 @@ module _ {L : Type 0} where
   -- an entry x in no list, in slot i, that can come behind the one that slot o names
   abbrev pub OfInsertion : (L → Option ℕ) → State L → Option ℕ → ℕ → (Entry L → Entry L → Type 0) → Type 0
   OfInsertion link w o i P = (e : Entry L) (x : Entry L) (es : List (Entry L)) → IsNode link w o e → IsList link w e.link e.tag es → IsDetached link w x → i ≡ x.slot → IsApart e.link es x → P e x
+
+  -- the first undeleted entry behind the one that slot o names has as many owners as there can be
+  abbrev pub NextIsFull : (L → Option ℕ) → State L → Option ℕ → Type 0
+  NextIsFull link w o = OfNode link w o (λ e es. IfSome (first_slot (undeleted es)) (λ i. (n : ℕ) → n < 4294967295 → status_at w i ≢ status.Shared n))
 
 -- an entry of the value was made, of a cell that was free
 abbrev pub MakesEntry : {T : Type 0} → State (LinkedEntry T) → State (LinkedEntry T) → LinkedEntry T → T → Type 0

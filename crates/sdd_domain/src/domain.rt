@@ -1,7 +1,7 @@
 //! A place that threads share.
 
 ghost use Rattle.std.specs.Prelude.{◌≡◌, ◌≢◌, ℕ, ◌+◌, ◌*◌, ◌^◌, ◌<◌, ◌≤◌, [], ◌∷◌, replicate, IfOk, IfErr, OnErr};
-ghost use Rattle.sdd_base.specs.State.{no_marks};
+ghost use Rattle.sdd_base.specs.State.{no_local};
 ghost use Rattle.sdd_domain.specs.Layout.{claim_word, epoch_words, IsSized};
 
 use crate::board::{Board, Plan, Words};
@@ -74,7 +74,7 @@ impl Domain {
     pub fn register(&self) -> Result<Local, RegisterRefused>
         ensures home { IfOk result (λ l. home_of l ≡ place_of self.now) }
         ensures number { IfOk result (λ l. number_of l < participants_of self.now) }
-        ensures fresh { IfOk result (λ l. marks_of l ≡ no_marks) }
+        ensures fresh { IfOk result (λ l. marks_of l ≡ no_local) }
     {
         let mut place = sit(self.words());
         for number in 0..self.participants {

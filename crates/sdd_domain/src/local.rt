@@ -1,7 +1,7 @@
 //! One participant of a place, as the thread that acts for it has it.
 
 ghost use Rattle.std.specs.Prelude.{◌≡◌, ◌≢◌, ℕ, ◌+◌, ◌-◌, ◌*◌, ◌^◌, ◌<◌, ◌≤◌, ◌==◌, ◌&&◌, [], cond};
-ghost use Rattle.sdd_base.specs.State.{no_marks};
+ghost use Rattle.sdd_base.specs.State.{no_local};
 ghost use Rattle.sdd_base.specs.Steps.{closings_after, scans};
 ghost use Rattle.sdd_steps.specs.declared.participant.Phase.TheVariants.{Idle, Opened};
 ghost use Rattle.sdd_domain.specs.Views.{registered};
@@ -37,7 +37,7 @@ impl Local {
     /// The participant that a seat has just come to act for.
     pub(crate) fn registered(place: Place, number: usize) -> Local
         requires { (place.me.0 ≡ registered number) × (number < 2 ^ 30) × (claim_word number < place.table_id.words) }
-        ensures { (home_of result ≡ place.table_id) × (number_of result ≡ number) × (marks_of result ≡ no_marks) }
+        ensures { (home_of result ≡ place.table_id) × (number_of result ≡ number) × (marks_of result ≡ no_local) }
     {
         Local {
             place,

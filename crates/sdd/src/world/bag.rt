@@ -10,7 +10,7 @@ ghost use Rattle.sdd.specs.Bags.{IsLength, PutsPrimary, PutsOverflow, TakesOne, 
 ghost use Rattle.std.specs.Iterator.{IsFiniteIterable};
 ghost use Rattle.sdd.specs.FromIter.{FillsBag, IfUnmade, IfNoSlot};
 ghost use Rattle.sdd.specs.declared.linked_entry.LinkedEntry.{LinkedEntry};
-ghost use Rattle.sdd.specs.Calls.{BagIn, GivesAll, GivesUpTo, NoRoom, OnlyBag, OnlyLinksOf, SomeBagIn};
+ghost use Rattle.sdd.specs.Calls.{BagIn, GivesAll, GivesUpTo, NoRoom, OnlyBag, OnlyLinksOf, PutsInto, SomeBagIn, TakesAll, TakesFromBag};
 
 use crate::bag::{Bag, IntoIter};
 use crate::linked_entry::LinkedEntry;
@@ -73,7 +73,7 @@ pub fn push<T, J: Deferred, const ARRAY_LEN: usize>(
     value: T,
 ) -> Result<(), T>
     requires { SomeBagIn w.old bag.now }
-    ensures pushed { OnOk result ((ps : _) (os : _) → BagIn w.old bag.now ps os → ((length ps < ARRAY_LEN) × PutsPrimary ARRAY_LEN w.old w.new value (bag_cells bag.now) ps os) ⊎ ((length ps ≡ ARRAY_LEN) × PutsOverflow ARRAY_LEN w.old w.new value (bag_cells bag.now) ps os)) }
+    ensures pushed { OnOk result (PutsInto w.old w.new bag.now value) }
     ensures refused { IfErr result (λ v. (v ≡ value) × (w.new ≡ w.old) × NoRoom w.old) }
     ensures list { SomeBagIn w.new bag.now }
     ensures leaves { Leaves (bag_cells bag.now) [] w.old w.new }
@@ -126,7 +126,7 @@ pub fn pop<T, J: Deferred, const ARRAY_LEN: usize>(
     _p: usize,
 ) -> Option<Shared<LinkedEntry<T>>>
     requires { SomeBagIn w.old bag.now }
-    ensures popped { (ps : _) (os : _) → BagIn w.old bag.now ps os → MatchOption result ((ps ≡ []) × (os ≡ []) × BagIn w.new bag.now [] []) (λ s. TakesOne ARRAY_LEN w.new (bag_cells bag.now) (shared_slot s) ps os) }
+    ensures popped { TakesFromBag w.old w.new bag.now result }
     ensures list { SomeBagIn w.new bag.now }
     ensures leaves { OnlyLinksOf w.old w.new bag.now }
     ensures participants { w.new.participants ≡ w.old.participants }
@@ -174,7 +174,7 @@ pub fn pop_all<T, J: Deferred, B, F: FnMut(B, Shared<LinkedEntry<T>>) -> B, cons
 ) -> B
     requires callable { F.IsAlwaysCallable f }
     requires list { SomeBagIn w.old bag.now }
-    ensures folded { (ps : _) (os : _) → BagIn w.old bag.now ps os → (es : List (Entry (LinkedEntry T))) × IsSameBag es (os ++ ps) × AreOwn w.new es × AreSpare w.new es × (last : F) × FoldsTo (CallsWith F.step) (init, f) es (result, last) }
+    ensures folded { TakesAll w.old w.new bag.now (λ es. (last : F) × FoldsTo (CallsWith F.step) (init, f) es (result, last)) }
     ensures emptied { BagIn w.new bag.now [] [] }
     ensures leaves { OnlyLinksOf w.old w.new bag.now }
     ensures participants { w.new.participants ≡ w.old.participants }

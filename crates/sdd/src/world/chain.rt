@@ -8,7 +8,7 @@ ghost use Rattle.sdd_base.specs.Frame.{OnlyParticipant};
 ghost use Rattle.sdd_base.specs.Place.{IsSharedCell};
 ghost use Rattle.sdd_base.specs.Tokens.{shared_cell, shared_slot, shared_slots, link_cell};
 ghost use Rattle.sdd.specs.Chain.{Entry, IsItem, IsList, Hangs, HasLink, IsDetached, Fits, TookFirst, Leaves, Stays, CanHang, deleted, Begins, skip, undeleted, first_item, first_slot, front_tag, slots, SameUses, MoreOwners, OneMore};
-ghost use Rattle.sdd.specs.Calls.{OfList, OnlyList};
+ghost use Rattle.sdd.specs.Calls.{DropsFirst, Empties, HangsFirst, OfList, OnlyList};
 
 use crate::linked_list::LinkedList;
 use sdd_base::cell::AtomicShared;
@@ -30,7 +30,7 @@ pub(crate) fn link_of<L: LinkedList, J: Deferred>(w: &World<L, J>, owner: &Share
 /// Empties a cell, which keeps its tag.
 pub(crate) fn take<L, J: Deferred>(w: &mut World<L, J>, cell: &AtomicShared<L>) -> Option<Shared<L>>
     requires { IsSharedCell w.old (shared_cell cell.now) }
-    ensures took { (o : Option ℕ) (t : Tag) → cell_at w.old (shared_cell cell.now) ≡ Cell.OfShared o t → (shared_slots result ≡ o) × (w.new ≡ with_cell (shared_cell cell.now) (Cell.OfShared None t) w.old) }
+    ensures took { Empties w.old w.new cell.now result }
     ensures participants { w.new.participants ≡ w.old.participants }
     ensures stays { Stays w.old w.new }
 {
@@ -84,7 +84,7 @@ pub(crate) fn put_first<L: LinkedList, J: Deferred>(
     first: Shared<L>,
 )
     requires { CanHang L.link w.old (shared_cell cell.now) (shared_slot first) }
-    ensures put { (t : Tag) (es : List (Entry L)) (e : Entry L) → IsList L.link w.old (shared_cell cell.now) t es → IsDetached L.link w.old e → Fits (shared_cell cell.now) es e → shared_slot first ≡ e.slot → IsList L.link w.new (shared_cell cell.now) t (e ∷ es) × Leaves (shared_cell cell.now ∷ e.link ∷ []) [] w.old w.new }
+    ensures put { HangsFirst L.link w.old w.new cell.now (shared_slot first) }
     ensures participants { w.new.participants ≡ w.old.participants }
     ensures stays { Stays w.old w.new }
 {
@@ -201,7 +201,7 @@ pub(crate) fn count<L: LinkedList, J: Deferred>(w: &World<L, J>, cell: &AtomicSh
 fn drop_first<L: LinkedList, J: Deferred>(w: &mut World<L, J>, cell: &AtomicShared<L>, p: usize)
     requires participant { p < length w.old.participants }
     requires list { Hangs L.link w.old (shared_cell cell.now) }
-    ensures dropped { (t : Tag) (e : Entry L) (es : List (Entry L)) → IsList L.link w.old (shared_cell cell.now) t (e ∷ es) → IsList L.link w.new (shared_cell cell.now) t es × Leaves (shared_cell cell.now ∷ e.link ∷ []) (e.slot ∷ []) w.old w.new }
+    ensures dropped { DropsFirst L.link w.old w.new cell.now }
     ensures only { OnlyParticipant p w.old w.new }
     ensures stays { Stays w.old w.new }
 {

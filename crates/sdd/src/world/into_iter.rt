@@ -5,7 +5,7 @@ ghost use Rattle.sdd_base.specs.Frame.{OnlyParticipant};
 ghost use Rattle.sdd_base.specs.Tokens.{shared_slot};
 ghost use Rattle.sdd.specs.Chain.{Stays};
 ghost use Rattle.sdd.specs.Bags.{IsSomeBag, TakesOne, AreFreeCells, into_cells};
-ghost use Rattle.sdd.specs.Calls.{BagIn, OnlyBag, OnlyLinksOf};
+ghost use Rattle.sdd.specs.Calls.{BagIn, OnlyBag, OnlyLinksOf, TakesFromBag};
 
 use crate::bag::IntoIter;
 use crate::linked_entry::LinkedEntry;
@@ -21,7 +21,7 @@ pub fn next<T, J: Deferred, const ARRAY_LEN: usize>(
     p: usize,
 ) -> Option<Shared<LinkedEntry<T>>>
     requires { IsSomeBag ARRAY_LEN w.old (into_cells iter.now) }
-    ensures popped { (ps : _) (os : _) → BagIn w.old iter.now.bag ps os → MatchOption result ((ps ≡ []) × (os ≡ []) × BagIn w.new iter.now.bag [] []) (λ s. TakesOne ARRAY_LEN w.new (into_cells iter.now) (shared_slot s) ps os) }
+    ensures popped { TakesFromBag w.old w.new iter.now.bag result }
     ensures list { IsSomeBag ARRAY_LEN w.new (into_cells iter.now) }
     ensures leaves { OnlyLinksOf w.old w.new iter.now.bag }
     ensures participants { w.new.participants ≡ w.old.participants }

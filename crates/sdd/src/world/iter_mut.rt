@@ -9,6 +9,7 @@ ghost use Rattle.sdd.specs.Bags.{IsBag, IsNull, IsSomeBag, bag_cells};
 ghost use Rattle.sdd.specs.Iters.{first_value};
 ghost use Rattle.sdd.specs.MutableIteration.{Ends, Finds, IsLeft, IsSomeLeft, LendsNext, cells_from, stop_cells, stop_here, walk_bag, walk_cells, walk_name, walk_place};
 ghost use Rattle.sdd.specs.declared.linked_entry.LinkedEntry.{LinkedEntry};
+ghost use Rattle.sdd.specs.Calls.{OfWalk, WalksBag};
 
 use crate::bag::{Bag, IterMut, Stop};
 use crate::linked_entry::LinkedEntry;
@@ -30,8 +31,8 @@ pub trait WalkedPlace<T>: ExclusiveAccess<LinkedEntry<T>> + Sized {
         from: &Link<LinkedEntry<T>>,
     ) -> Option<Stop<T>>
         requires { IsSomeLeft (Self.state self.now) (cells_from cells.now.items row from.now) }
-        ensures none { IfNone result ((es : List (Entry (LinkedEntry T))) → IsLeft (Self.state self.now) (cells_from cells.now.items row from.now) es → es ≡ []) }
-        ensures some { IfSome result (λ s. (es : List (Entry (LinkedEntry T))) → IsLeft (Self.state self.now) (cells_from cells.now.items row from.now) es → Finds (Self.state self.now) (stop_here s) (stop_cells cells.now.items s) es) };
+        ensures none { IfNone result (OfWalk (Self.state self.now) (cells_from cells.now.items row from.now) (λ es. es ≡ [])) }
+        ensures some { IfSome result (λ s. OfWalk (Self.state self.now) (cells_from cells.now.items row from.now) (Finds (Self.state self.now) (stop_here s) (stop_cells cells.now.items s))) };
 }
 
 /// A place whose bags lend their values for writing: a `World`. A trait, since a clause on a refused borrow can't name the
@@ -49,7 +50,7 @@ pub trait BagPlace<T, const ARRAY_LEN: usize>: WalkedPlace<T> {
         ensures same { IfOk result (λ i. walk_name i ≡ self.entry.ghost_name) }
         ensures place { IfOk result (λ i. walk_place i ≡ self.old) }
         ensures bag { IfOk result (λ i. walk_bag i ≡ bag_cells bag.now) }
-        ensures starts { IfOk result (λ i. (ps : List (Entry (LinkedEntry T))) (os : List (Entry (LinkedEntry T))) → IsBag ARRAY_LEN (Self.state self.old) (bag_cells bag.now) ps os → IsLeft (Self.state self.old) (walk_cells i) (os ++ ps)) }
+        ensures starts { IfOk result (λ i. WalksBag ARRAY_LEN (Self.state self.old) (bag_cells bag.now) (walk_cells i)) }
         ensures left { IfOk result (λ i. IsSomeLeft (Self.state self.old) (walk_cells i)) };
 }
 
@@ -103,7 +104,7 @@ fn seek<T, J: Deferred>(
     from: Link<LinkedEntry<T>>,
 ) -> Spot<T>
     requires { IsSomeLeft w.now (link_cell from ∷ drop row (map shared_cell cells.now.items)) }
-    ensures left { (es : List (Entry (LinkedEntry T))) → IsLeft w.now (link_cell from ∷ drop row (map shared_cell cells.now.items)) es → IsLeft w.now (link_cell result.at ∷ drop result.row (map shared_cell cells.now.items)) es }
+    ensures left { OfWalk w.now (link_cell from ∷ drop row (map shared_cell cells.now.items)) (IsLeft w.now (link_cell result.at ∷ drop result.row (map shared_cell cells.now.items))) }
     ensures found { (length cells.now.items ≤ result.row) ⊎ IsNull w.now (link_cell result.at) false }
 {
     let mut at = from;
@@ -127,7 +128,7 @@ impl<'a, T, W: WalkedPlace<T>> IterMut<'a, T, W> {
         ensures bag { walk_bag self.new ≡ walk_bag self.old }
         ensures place { walk_place self.new ≡ walk_place self.old }
         ensures none { IfNone result ((walk_cells self.new ≡ walk_cells self.old) × ((es : List (Entry (LinkedEntry T))) → IsLeft (W.state (walk_place self.old)) (walk_cells self.old) es → es ≡ [])) }
-        ensures some { IfSome result (λ c. (es : List (Entry (LinkedEntry T))) → IsLeft (W.state (walk_place self.old)) (walk_cells self.old) es → Finds (W.state (walk_place self.old)) (link_cell c) (walk_cells self.new) es) }
+        ensures some { IfSome result (λ c. OfWalk (W.state (walk_place self.old)) (walk_cells self.old) (Finds (W.state (walk_place self.old)) (link_cell c) (walk_cells self.new))) }
     {
         let from = Link::of(self.at.cell());
         let Some(stop) = self.place.next_stop(self.cells, self.row, &from) else {

@@ -8,7 +8,7 @@ ghost use Rattle.sdd_base.specs.Steps.{released};
 ghost use Rattle.sdd_base.specs.declared.tag.Tag.{Tag};
 ghost use Rattle.sdd.specs.Chain.{Entry, IsList, Leaves, Stays, deleted, undeleted, skip, first_slot, front_tag};
 ghost use Rattle.sdd.specs.Nodes.{IsNode, IsSomeNode, IsListed, CanInsert, Inserts, Retags, clear, marked};
-ghost use Rattle.sdd.specs.Calls.{OfInsertion, OfNode};
+ghost use Rattle.sdd.specs.Calls.{NextIsFull, OfInsertion, OfNode};
 
 use crate::linked_list::LinkedList;
 use crate::world::chain;
@@ -223,7 +223,7 @@ pub fn next_shared<L: LinkedList, J: Deferred>(
     requires { IsListed L.link w.old (ptr_slot at) }
     ensures next { IfSome result (λ s. OfNode L.link w.old (ptr_slot at.entry) (λ e es. Some (shared_slot s) ≡ first_slot (undeleted es))) }
     ensures more { IfSome result (λ s. (n : ℕ) × (status_at w.old (shared_slot s) ≡ Status.Shared n) × (w.new ≡ with_status (shared_slot s) (Status.Shared (n + 1)) w.old)) }
-    ensures none { IfNone result ((w.new ≡ w.old) × OfNode L.link w.old (ptr_slot at.entry) (λ e es. IfSome (first_slot (undeleted es)) (λ i. (n : ℕ) → n < 4294967295 → status_at w.old i ≢ Status.Shared n))) }
+    ensures none { IfNone result ((w.new ≡ w.old) × NextIsFull L.link w.old (ptr_slot at.entry)) }
     ensures lists { (c : ℕ) (t : Tag) (es : List (Entry L)) → IsList L.link w.old c t es → IsList L.link w.new c t es }
     ensures live { IfSome result (λ s. IsShared w.new (shared_slot s)) }
     ensures spare { IfSome result (λ s. (p : ℕ) → released p (shared_slot s) w.new ≡ w.old) }

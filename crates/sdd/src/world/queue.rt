@@ -18,7 +18,7 @@ ghost use Rattle.sdd.specs.Copies.{ClonesAreSame};
 ghost use Rattle.sdd.specs.FromIter.{entry_values, Extends, FillsQueue, IfUnmade, IfNoSlot, IfUncopied, IfPartly};
 ghost use Rattle.sdd.specs.Refusals.{refused_value, IsCondition, IsNoSlot};
 ghost use Rattle.sdd.specs.Queues.{oldest_cell, newest_cell, HasOldest};
-ghost use Rattle.sdd.specs.Calls.{AppendsTo, AskedFirst, CanAskFirst, CopiesUpTo, FirstIsFull, GivesAll, GivesUpTo, KeepsEntries, NoRoom, NoTwoCells, OnlyQueue, QueueIn, SomeQueueIn, TakesFrom};
+ghost use Rattle.sdd.specs.Calls.{AppendsTo, AskedFirst, CanAskFirst, CopiesQueueUpTo, CopiesUpTo, FirstIsFull, GivesAll, GivesUpTo, KeepsEntries, NoRoom, NoTwoCells, OnlyQueue, QueueIn, SomeQueueIn, TakesFrom};
 
 use crate::iter::Iter;
 use crate::linked_entry::LinkedEntry;
@@ -153,7 +153,7 @@ pub fn clone<T: Clone, J: Deferred>(
     requires participant { 0 < length w.old.participants }
     requires list { SomeQueueIn w.old queue.now }
     ensures cloned { (es : _) → QueueIn w.old queue.now es → IfOk result (λ q. FillsQueue w.old w.new (oldest_cell q) (newest_cell q) (entry_values (undeleted es))) }
-    ensures partly { (es : _) → QueueIn w.old queue.now es → IfErr result (λ e. IfPartly e (λ q r. CopiesUpTo T.is_infallible (entry_values (undeleted es)) r (NoRoom w.new) (FillsQueue w.old w.new (oldest_cell q) (newest_cell q)))) }
+    ensures partly { (es : _) → QueueIn w.old queue.now es → IfErr result (λ e. IfPartly e (CopiesQueueUpTo T.is_infallible w.old w.new es)) }
     ensures none { IfErr result (λ e. IfUncopied e (λ r. (r ≡ NotMade.NoSlot) × (w.new ≡ w.old) × NoTwoCells w.old)) }
     ensures kept { (es : _) → QueueIn w.old queue.now es → QueueIn w.new queue.now es }
     ensures list { IfOk result (λ q. SomeQueueIn w.new q) }

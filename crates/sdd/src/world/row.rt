@@ -9,6 +9,7 @@ ghost use Rattle.sdd_base.specs.Tokens.{shared_cell};
 ghost use Rattle.sdd.specs.Chain.{Entry, Leaves, Stays, links, slots, undeleted};
 ghost use Rattle.sdd.specs.Stacks.{IsSomeStack};
 ghost use Rattle.sdd.specs.Bags.{IsNull, IsRow, IsSomeRow, AreEmpty, IsClaimed, Puts, cell_of, joined, freed};
+ghost use Rattle.sdd.specs.Calls.{OfRow};
 
 use crate::linked_entry::LinkedEntry;
 use crate::linked_list::LinkedList;
@@ -70,8 +71,8 @@ pub(crate) fn clear_all<L: LinkedList, J: Deferred>(
 )
     requires participant { p < length w.old.participants }
     requires list { IsSomeRow L.link w.old (map shared_cell cells.now.items) }
-    ensures cleared { (rows : List (List (Entry L))) → length cells.now.items ≤ length rows → IsRow L.link w.old (map shared_cell cells.now.items) rows → IsRow L.link w.new (map shared_cell cells.now.items) [] }
-    ensures leaves { (rows : List (List (Entry L))) → length cells.now.items ≤ length rows → IsRow L.link w.old (map shared_cell cells.now.items) rows → Leaves (map shared_cell cells.now.items ++ links (joined rows)) (slots (joined rows)) w.old w.new }
+    ensures cleared { OfRow L.link w.old cells.now.items (λ _. IsRow L.link w.new (map shared_cell cells.now.items) []) }
+    ensures leaves { OfRow L.link w.old cells.now.items (λ rows. Leaves (map shared_cell cells.now.items ++ links (joined rows)) (slots (joined rows)) w.old w.new) }
     ensures only { OnlyParticipant p w.old w.new }
     ensures stays { Stays w.old w.new }
 {

@@ -17,7 +17,7 @@ ghost use Rattle.sdd.specs.Copies.{ClonesAreSame};
 ghost use Rattle.sdd.specs.FromIter.{entry_values, ExtendsLast, FillsStack, IfUnmade, IfNoSlot, IfUncopied, IfPartly};
 ghost use Rattle.sdd.specs.Refusals.{refused_value, IsCondition, IsNoSlot};
 ghost use Rattle.sdd.specs.Stacks.{stack_cell, taken, IsSomeStack, Pushes};
-ghost use Rattle.sdd.specs.Calls.{AskedFirst, CanAskFirst, CopiesUpTo, FirstIsFull, GivesAll, GivesUpTo, NoRoom, OnlyStack, PopsFrom, StackIn};
+ghost use Rattle.sdd.specs.Calls.{AskedFirst, CanAskFirst, CopiesStackUpTo, CopiesUpTo, FirstIsFull, GivesAll, GivesUpTo, NoRoom, OnlyStack, PopsFrom, StackIn};
 
 use crate::iter::Iter;
 use crate::linked_entry::LinkedEntry;
@@ -145,7 +145,7 @@ pub fn clone<T: Clone, J: Deferred>(
     requires clones { ClonesAreSame T.is_clone }
     requires list { IsSomeStack w.old (stack_cell stack.now) }
     ensures cloned { (es : _) → StackIn w.old stack.now es → IfOk result (λ s. FillsStack w.old w.new (stack_cell s) (entry_values (undeleted es))) }
-    ensures partly { (es : _) → StackIn w.old stack.now es → IfErr result (λ e. IfPartly e (λ s r. CopiesUpTo T.is_infallible (entry_values (undeleted es)) r (NoRoom w.new) (FillsStack w.old w.new (stack_cell s)))) }
+    ensures partly { (es : _) → StackIn w.old stack.now es → IfErr result (λ e. IfPartly e (CopiesStackUpTo T.is_infallible w.old w.new es)) }
     ensures none { IfErr result (λ e. IfUncopied e (λ r. (r ≡ NotMade.NoSlot) × (w.new ≡ w.old) × NoCellFree w.old)) }
     ensures kept { (es : _) → StackIn w.old stack.now es → StackIn w.new stack.now es }
     ensures list { IfOk result (λ s. IsSomeStack w.new (stack_cell s)) }

@@ -7,6 +7,7 @@ ghost use Rattle.sdd_base.specs.Place.{IsShared, IsSharedCell};
 ghost use Rattle.sdd_base.specs.Tokens.{shared_cell, shared_slot};
 ghost use Rattle.sdd.specs.Chain.{Entry, IsList, Hangs, IsDetached, Leaves, Stays, links, slots};
 ghost use Rattle.sdd.specs.Queues.{IsQueue, Follows, CanFollow, HasTwo, vacated};
+ghost use Rattle.sdd.specs.Calls.{AppendsLast, ClearsNewest};
 
 use crate::linked_list::LinkedList;
 use crate::world::chain;
@@ -29,7 +30,7 @@ pub(crate) fn append<L: LinkedList, J: Deferred>(
     requires queue { CanFollow L.link w.old (shared_cell oldest.now) (shared_cell newest.now) (shared_slot link) }
     requires last { shared_slot last ≡ shared_slot link }
     requires two { HasTwo w.old (shared_slot link) }
-    ensures appended { (es : List (Entry L)) (e : Entry L) → IsQueue L.link w.old (shared_cell oldest.now) (shared_cell newest.now) es → IsDetached L.link w.old e → Follows (shared_cell oldest.now) (shared_cell newest.now) es e → shared_slot link ≡ e.slot → IsQueue L.link w.new (shared_cell oldest.now) (shared_cell newest.now) (es ++ e ∷ []) × Leaves (e.link ∷ shared_cell oldest.now ∷ shared_cell newest.now ∷ links es) (slots es) w.old w.new }
+    ensures appended { AppendsLast L.link w.old w.new oldest.now newest.now (shared_slot link) }
     ensures only { OnlyParticipant 0 w.old w.new }
     ensures stays { Stays w.old w.new }
 {
@@ -74,7 +75,7 @@ pub(crate) fn settle<L, J: Deferred>(
     requires newest { (o : Option ℕ) × (cell_at w.old (shared_cell newest.now) ≡ Cell.OfShared o Tag.None) }
     requires last { (i : ℕ) → cell_at w.old (shared_cell newest.now) ≡ Cell.OfShared (Some i) Tag.None → IsShared w.old i }
     ensures some { (i : ℕ) (t : Tag) → cell_at w.old (shared_cell oldest.now) ≡ Cell.OfShared (Some i) t → w.new ≡ w.old }
-    ensures none { (o : Option ℕ) (t : Tag) → cell_at w.old (shared_cell oldest.now) ≡ Cell.OfShared None t → cell_at w.old (shared_cell newest.now) ≡ Cell.OfShared o Tag.None → w.new ≡ vacated p (shared_cell newest.now) o w.old }
+    ensures none { ClearsNewest p w.old w.new oldest.now newest.now }
     ensures only { OnlyParticipant p w.old w.new }
     ensures stays { Stays w.old w.new }
 {

@@ -38,7 +38,7 @@ returns-clause-folded g c = λ ps os b.
     let v = c.loop-popped.invariant.popped ps os b in
     let n = c.len-popped-end.ensures ps os b in
     let none = popped_all v.primary v.overflow (let s = v.size in omega (arith, s, n, c.loop-popped-test.false)) in
-    (v.taken, subst (λ (es : List (Entry _)). Removes v.taken (os ++ ps) es) none.2 v.removes, v.own, v.spare, c.loop-popped.f, v.folds)
+    (v.taken, subst (λ (es : List (Entry _)). Removes v.taken (os ++ ps) es) none.2 v.removes, v.own, v.spare, (c.loop-popped.f, v.folds))
 
 pub returns-clause-emptied : goal.returns-clause-emptied
 returns-clause-emptied g c =
