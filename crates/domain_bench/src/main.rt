@@ -7,7 +7,7 @@
 #![tactic(auto)]
 
 ghost use Rattle.std.specs.Prelude.{◌≡◌, ◌≤◌, IfSome};
-ghost use Rattle.sdd_domain.specs.Tokens.{place_of, home_of, marks_of, IsSame};
+ghost use Rattle.sdd_domain.specs.Tokens.{place_of, home_of, own_of, IsSame};
 
 use sdd_base::epoch::Epoch;
 use sdd_base::sizes::Sizes;
@@ -44,9 +44,9 @@ fn task_of(threads: &str, kind: &str, rounds: &str) -> Option<(u8, Kind, u32)>
 /// A guard, opened and closed: the epoch that it saw.
 fn pass(domain: &Domain, local: &mut Local, accelerated: bool) -> Epoch
     requires home { home_of local.old ≡ place_of domain.now }
-    requires shallow { (marks_of local.old).nesting ≤ 1 }
+    requires shallow { (own_of local.old).nesting ≤ 1 }
     ensures same { IsSame local.old local.new }
-    ensures nesting { (marks_of local.new).nesting ≡ (marks_of local.old).nesting }
+    ensures nesting { (own_of local.new).nesting ≡ (own_of local.old).nesting }
 {
     let Ok(guard) = Guard::new(domain, local) else {
         unreachable!();
@@ -64,9 +64,9 @@ fn pass(domain: &Domain, local: &mut Local, accelerated: bool) -> Epoch
 #[inline(never)]
 fn passes(domain: &Domain, local: &mut Local, accelerated: bool, rounds: u32) -> u64
     requires home { home_of local.old ≡ place_of domain.now }
-    requires shallow { (marks_of local.old).nesting ≤ 1 }
+    requires shallow { (own_of local.old).nesting ≤ 1 }
     ensures same { IsSame local.old local.new }
-    ensures nesting { (marks_of local.new).nesting ≡ (marks_of local.old).nesting }
+    ensures nesting { (own_of local.new).nesting ≡ (own_of local.old).nesting }
 {
     let mut sum: u64 = 0;
     for _i in 0..rounds {

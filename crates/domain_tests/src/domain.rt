@@ -2,7 +2,7 @@
 
 ghost use Rattle.std.specs.Prelude.{◌≡◌, ◌≤◌, ℕ};
 ghost use Rattle.sdd_domain.specs.Layout.{IsSized};
-ghost use Rattle.sdd_domain.specs.Tokens.{place_of, home_of, marks_of, participants_of};
+ghost use Rattle.sdd_domain.specs.Tokens.{place_of, home_of, own_of, participants_of};
 
 use sdd_base::sizes::Sizes;
 use sdd_domain::domain::Domain;
@@ -28,7 +28,7 @@ pub(crate) fn only(participants: u8) -> Sizes
 /// A participant of the place, which has one that is free.
 pub(crate) fn member<R: Abort>(rt: &R, domain: &Domain) -> Local
     ensures home { home_of result ≡ place_of domain.now }
-    ensures closed { (marks_of result).nesting ≡ 0 }
+    ensures closed { (own_of result).nesting ≡ 0 }
 {
     match domain.register() {
         Ok(local) => local,

@@ -1,7 +1,7 @@
 //! Guards of one thread: counts, nesting, and the flag of garbage.
 
 ghost use Rattle.std.specs.Prelude.{◌≡◌, ℕ};
-ghost use Rattle.sdd_domain.specs.Tokens.{place_of, home_of, number_of, marks_of, participant_of, IsSame};
+ghost use Rattle.sdd_domain.specs.Tokens.{place_of, home_of, number_of, own_of, participant_of, IsSame};
 
 use crate::domain::{end, member, only};
 use sdd_base::refusal::Nested;
@@ -13,9 +13,9 @@ use std::test::Fail;
 /// A guard, opened and closed one by one, accelerated or not: the epoch that it saw.
 pub(crate) fn pass(domain: &Domain, local: &mut Local, accelerated: bool) -> u8
     requires home { home_of local.old ≡ place_of domain.now }
-    requires closed { (marks_of local.old).nesting ≡ 0 }
+    requires closed { (own_of local.old).nesting ≡ 0 }
     ensures same { IsSame local.old local.new }
-    ensures closed { (marks_of local.new).nesting ≡ 0 }
+    ensures closed { (own_of local.new).nesting ≡ 0 }
 {
     let Ok(guard) = Guard::new(domain, local) else {
         unreachable!();
@@ -31,9 +31,9 @@ pub(crate) fn pass(domain: &Domain, local: &mut Local, accelerated: bool) -> u8
 /// The epochs that four accelerated guards see, one by one.
 fn four(domain: &Domain, local: &mut Local) -> [u8; 4]
     requires home { home_of local.old ≡ place_of domain.now }
-    requires closed { (marks_of local.old).nesting ≡ 0 }
+    requires closed { (own_of local.old).nesting ≡ 0 }
     ensures same { IsSame local.old local.new }
-    ensures closed { (marks_of local.new).nesting ≡ 0 }
+    ensures closed { (own_of local.new).nesting ≡ 0 }
 {
     let first = pass(domain, local, true);
     let second = pass(domain, local, true);
@@ -44,9 +44,9 @@ fn four(domain: &Domain, local: &mut Local) -> [u8; 4]
 /// So many guards that aren't accelerated, one by one.
 fn plain(domain: &Domain, local: &mut Local, count: u8)
     requires home { home_of local.old ≡ place_of domain.now }
-    requires closed { (marks_of local.old).nesting ≡ 0 }
+    requires closed { (own_of local.old).nesting ≡ 0 }
     ensures same { IsSame local.old local.new }
-    ensures closed { (marks_of local.new).nesting ≡ 0 }
+    ensures closed { (own_of local.new).nesting ≡ 0 }
 {
     for _i in 0..count {
         let _ = pass(domain, local, false);

@@ -1,7 +1,7 @@
 //! Threads that share a place. Each test prints the same whatever the schedule.
 
 ghost use Rattle.std.specs.Prelude.{◌≡◌, ◌≤◌, ℕ};
-ghost use Rattle.sdd_domain.specs.Tokens.{place_of, home_of, number_of, marks_of, participant_of, IsSame};
+ghost use Rattle.sdd_domain.specs.Tokens.{place_of, home_of, number_of, own_of, participant_of, IsSame};
 
 use crate::domain::{end, member, only};
 use crate::guard::pass;
@@ -15,9 +15,9 @@ use std::thread::join;
 /// An accelerated guard under which the epoch is read three times: whether it went on by one at most.
 fn is_steady(domain: &Domain, local: &mut Local) -> bool
     requires home { home_of local.old ≡ place_of domain.now }
-    requires closed { (marks_of local.old).nesting ≡ 0 }
+    requires closed { (own_of local.old).nesting ≡ 0 }
     ensures same { IsSame local.old local.new }
-    ensures closed { (marks_of local.new).nesting ≡ 0 }
+    ensures closed { (own_of local.new).nesting ≡ 0 }
 {
     let Ok(guard) = Guard::new(domain, local) else {
         unreachable!();

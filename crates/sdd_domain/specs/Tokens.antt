@@ -24,8 +24,8 @@ home_of l = l.place.table_id
 abbrev pub number_of : Local → ℕ
 number_of l = l.number
 
-abbrev pub marks_of : Local → LocalState
-marks_of l = l.own
+abbrev pub own_of : Local → LocalState
+own_of l = l.own
 
 -- the count of raises when the open guard was published
 abbrev pub born_of : Local → ℕ

@@ -32,7 +32,7 @@ fn words_from(alloc: Global, count: u64, others: usize) -> Result<Vec<u64>, Allo
 }
 
 impl Domain {
-    ghost use Rattle.sdd_domain.specs.Tokens.{participants_of, first_of, place_of, home_of, number_of, marks_of};
+    ghost use Rattle.sdd_domain.specs.Tokens.{participants_of, first_of, place_of, home_of, number_of, own_of};
 
     /// A place without items, for as many participants as its sizes name, none of them registered. It takes all the
     /// memory that the place will ever use; without memory nothing is kept.
@@ -74,7 +74,7 @@ impl Domain {
     pub fn register(&self) -> Result<Local, RegisterRefused>
         ensures home { IfOk result (λ l. home_of l ≡ place_of self.now) }
         ensures number { IfOk result (λ l. number_of l < participants_of self.now) }
-        ensures fresh { IfOk result (λ l. marks_of l ≡ no_local) }
+        ensures fresh { IfOk result (λ l. own_of l ≡ no_local) }
     {
         let mut place = sit(self.words());
         for number in 0..self.participants {

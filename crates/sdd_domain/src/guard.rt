@@ -1,7 +1,7 @@
 //! Guards of a place that threads share.
 
 ghost use Rattle.std.specs.Prelude.{◌≡◌, ℕ, ◌+◌, ◌<◌, ◌≤◌, ◌%◌, ◌↔◌, true, IsErr, IfOk, IfSome, IfNone, OnOk, OnErr};
-ghost use Rattle.sdd_domain.specs.Tokens.{place_of, home_of, number_of, marks_of, born_of, participant_of, begun, closed, IsSame};
+ghost use Rattle.sdd_domain.specs.Tokens.{place_of, home_of, number_of, own_of, born_of, participant_of, begun, closed, IsSame};
 
 use crate::domain::Domain;
 use crate::local::Local;
@@ -31,11 +31,11 @@ impl Guard {
     pub fn new(domain: &Domain, local: &mut Local) -> Result<Guard, Nested>
         requires { home_of local.old ≡ place_of domain.now }
         ensures guard { IfOk result (λ g. participant_of g ≡ number_of local.old) }
-        ensures nested { IsErr result ↔ ((marks_of local.old).nesting ≡ 4294967295) }
-        ensures refused { OnErr result ((marks_of local.new ≡ marks_of local.old) × (born_of local.new ≡ born_of local.old)) }
-        ensures outermost { (marks_of local.old).nesting ≡ 0 → (count : ℕ) × (count ≤ born_of local.new) × (marks_of local.new ≡ begun count (marks_of local.old)) }
-        ensures inner { 0 < (marks_of local.old).nesting → born_of local.new ≡ born_of local.old }
-        ensures counted { OnOk result (0 < (marks_of local.old).nesting → marks_of local.new ≡ record (marks_of local.old) { nesting = (marks_of local.old).nesting + 1 }) }
+        ensures nested { IsErr result ↔ ((own_of local.old).nesting ≡ 4294967295) }
+        ensures refused { OnErr result ((own_of local.new ≡ own_of local.old) × (born_of local.new ≡ born_of local.old)) }
+        ensures outermost { (own_of local.old).nesting ≡ 0 → (count : ℕ) × (count ≤ born_of local.new) × (own_of local.new ≡ begun count (own_of local.old)) }
+        ensures inner { 0 < (own_of local.old).nesting → born_of local.new ≡ born_of local.old }
+        ensures counted { OnOk result (0 < (own_of local.old).nesting → own_of local.new ≡ record (own_of local.old) { nesting = (own_of local.old).nesting + 1 }) }
         ensures same { IsSame local.old local.new }
     {
         let Some(nesting) = deeper(local.own.nesting) else {
@@ -62,9 +62,9 @@ impl Guard {
     pub fn epoch(&self, domain: &Domain, local: &mut Local) -> Epoch
         requires home { home_of local.old ≡ place_of domain.now }
         requires mine { participant_of self.now ≡ number_of local.old }
-        requires open { 0 < (marks_of local.old).nesting }
+        requires open { 0 < (own_of local.old).nesting }
         ensures epoch { (count : ℕ) × (result ≡ count % 64) × (born_of local.old ≤ count) × (count ≤ born_of local.old + 1) }
-        ensures same { IsSame local.old local.new × (marks_of local.new ≡ marks_of local.old) × (born_of local.new ≡ born_of local.old) }
+        ensures same { IsSame local.old local.new × (own_of local.new ≡ own_of local.old) × (born_of local.new ≡ born_of local.old) }
     {
         let epoch = local.own.previous;
         Epoch::of_count(steps::count_under(domain.words(), &mut local.place, epoch))
@@ -73,7 +73,7 @@ impl Guard {
     /// Whether the flag was set since the participant's bags were last found empty.
     pub fn has_garbage(&self, local: &Local) -> bool
         requires { participant_of self.now ≡ number_of local.now }
-        ensures { result ≡ (marks_of local.now).garbage }
+        ensures { result ≡ (own_of local.now).garbage }
     {
         local.own.garbage
     }
@@ -81,7 +81,7 @@ impl Guard {
     /// Sets that flag, so that a later closing scans.
     pub fn set_has_garbage(&self, local: &mut Local)
         requires { participant_of self.now ≡ number_of local.old }
-        ensures set { marks_of local.new ≡ record (marks_of local.old) { garbage = true } }
+        ensures set { own_of local.new ≡ record (own_of local.old) { garbage = true } }
         ensures same { IsSame local.old local.new × (born_of local.new ≡ born_of local.old) }
     {
         local.own.garbage = true;
@@ -90,7 +90,7 @@ impl Guard {
     /// Asks that the outermost closing of this nesting scans.
     pub fn accelerate(&self, local: &mut Local)
         requires { participant_of self.now ≡ number_of local.old }
-        ensures set { marks_of local.new ≡ record (marks_of local.old) { accelerated = true } }
+        ensures set { own_of local.new ≡ record (own_of local.old) { accelerated = true } }
         ensures same { IsSame local.old local.new × (born_of local.new ≡ born_of local.old) }
     {
         local.own.accelerated = true;
@@ -102,9 +102,9 @@ impl Guard {
     pub fn close(self, domain: &Domain, local: &mut Local)
         requires home { home_of local.old ≡ place_of domain.now }
         requires mine { participant_of self ≡ number_of local.old }
-        requires open { 0 < (marks_of local.old).nesting }
-        ensures closed { marks_of local.new ≡ closed (marks_of local.old) }
-        ensures inner { 1 < (marks_of local.old).nesting → born_of local.new ≡ born_of local.old }
+        requires open { 0 < (own_of local.old).nesting }
+        ensures closed { own_of local.new ≡ closed (own_of local.old) }
+        ensures inner { 1 < (own_of local.old).nesting → born_of local.new ≡ born_of local.old }
         ensures same { IsSame local.old local.new }
     {
         let Guard { participant: _ } = self;

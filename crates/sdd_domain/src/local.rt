@@ -32,12 +32,12 @@ fn scans(own: &LocalState, closings: u8) -> bool
 }
 
 impl Local {
-    ghost use Rattle.sdd_domain.specs.Tokens.{participants_of, place_of, home_of, number_of, marks_of, born_of, begun, closed, IsSame};
+    ghost use Rattle.sdd_domain.specs.Tokens.{participants_of, place_of, home_of, number_of, own_of, born_of, begun, closed, IsSame};
 
     /// The participant that a seat has just come to act for.
     pub(crate) fn registered(place: Place, number: usize) -> Local
         requires { (place.me.0 ≡ registered number) × (number < 2 ^ 30) × (claim_word number < place.table_id.words) }
-        ensures { (home_of result ≡ place.table_id) × (number_of result ≡ number) × (marks_of result ≡ no_local) }
+        ensures { (home_of result ≡ place.table_id) × (number_of result ≡ number) × (own_of result ≡ no_local) }
     {
         Local {
             place,
@@ -63,9 +63,9 @@ impl Local {
     /// Opens an outermost guard.
     pub(crate) fn begin(&mut self, domain: &Domain)
         requires home { home_of self.old ≡ place_of domain.now }
-        requires closed { (marks_of self.old).nesting ≡ 0 }
+        requires closed { (own_of self.old).nesting ≡ 0 }
         ensures same { IsSame self.old self.new }
-        ensures begun { (count : ℕ) × (count ≤ born_of self.new) × (marks_of self.new ≡ begun count (marks_of self.old)) }
+        ensures begun { (count : ℕ) × (count ≤ born_of self.new) × (own_of self.new ≡ begun count (own_of self.old)) }
     {
         let Local { place, number, own } = self;
         let epoch = steps::read_count(domain.words(), place);
@@ -83,9 +83,9 @@ impl Local {
     /// Closes an outermost guard, after a scan if one is due.
     pub(crate) fn finish(&mut self, domain: &Domain)
         requires home { home_of self.old ≡ place_of domain.now }
-        requires outermost { (marks_of self.old).nesting ≡ 1 }
+        requires outermost { (own_of self.old).nesting ≡ 1 }
         ensures same { IsSame self.old self.new }
-        ensures closed { marks_of self.new ≡ closed (marks_of self.old) }
+        ensures closed { own_of self.new ≡ closed (own_of self.old) }
     {
         let Local { place, number, own } = self;
         let closings = if own.closings < 64 {
@@ -107,7 +107,7 @@ impl Local {
     /// Ends the participant, which anybody may register from now on. Condition: none of its guards is open.
     pub fn end(self, domain: &Domain)
         requires home { home_of self ≡ place_of domain.now }
-        requires closed { (marks_of self).nesting ≡ 0 }
+        requires closed { (own_of self).nesting ≡ 0 }
     {
         let Local {
             mut place,

@@ -8,8 +8,8 @@ ghost use Rattle.sdd_steps.specs.declared.item.ItemState.TheVariants as item_sta
 ghost use Rattle.sdd_steps.specs.declared.step.Step.TheVariants as step;
 
 use crate::item::{Cell, Item, ItemState};
-use crate::listed::Listed;
 use crate::participant::{Loaded, Phase, Seen};
+use crate::seq::Seq;
 use crate::snapshot::{Copied, Snapshot};
 use crate::step::Step;
 use std::alloc::{AllocError, Global};
@@ -147,8 +147,8 @@ impl Snapshot {
         let mut opened = self.participant_copy(alloc, p)?;
         opened.phase = Phase::Opened(opened.phase.count());
         opened.reread = None;
-        opened.looked = Listed::new(alloc);
-        opened.loaded = Listed::new(alloc);
+        opened.looked = Seq::new(alloc);
+        opened.loaded = Seq::new(alloc);
         self.set_participant(p, opened);
         Ok(())
     }
@@ -172,7 +172,7 @@ impl Snapshot {
         Ok(Loaded {
             item: i,
             value: item.value,
-            holds: Listed::from_vec(holds),
+            holds: Seq::from_vec(holds),
         })
     }
 
@@ -324,7 +324,7 @@ impl Snapshot {
         ensures { OnOk result (shown self.new ≡ with_item (shown self.old) j (record (item_at (shown self.old) j) { holds = without i (item_at (shown self.old) j).holds })) }
     {
         let mut item = self.item_copy(alloc, j)?;
-        item.holds = Listed::from_vec(without(alloc, i, item.holds.as_slice())?);
+        item.holds = Seq::from_vec(without(alloc, i, item.holds.as_slice())?);
         self.set_item(j, item);
         Ok(())
     }
@@ -359,8 +359,8 @@ impl Snapshot {
         let mut closed = self.participant_copy(alloc, p)?;
         closed.phase = Phase::Idle;
         closed.reread = None;
-        closed.looked = Listed::new(alloc);
-        closed.loaded = Listed::new(alloc);
+        closed.looked = Seq::new(alloc);
+        closed.loaded = Seq::new(alloc);
         self.set_participant(p, closed);
         Ok(())
     }
@@ -396,7 +396,7 @@ impl Snapshot {
         alloc: Global,
         p: usize,
         value: u64,
-        holds: Listed<usize>,
+        holds: Seq<usize>,
         cells: &[usize],
     ) -> Result<(), AllocError>
         ensures { OnOk result (shown self.new ≡ after (shown self.old) (step.Place p value holds cells.now)) }

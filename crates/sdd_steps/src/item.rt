@@ -1,6 +1,6 @@
 //! Items and cells.
 
-use crate::listed::Listed;
+use crate::seq::Seq;
 
 /// What has become of an item.
 #[derive(Clone, Copy, PartialEq, Eq, Drop, Debug)]
@@ -29,7 +29,7 @@ pub struct Item {
     /// All its owners: in hand, in cells and in items.
     pub owners: u64,
     /// The items of which it holds an owner, in order.
-    pub holds: Listed<usize>,
+    pub holds: Seq<usize>,
     pub state: ItemState,
 }
 

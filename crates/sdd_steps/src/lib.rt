@@ -10,14 +10,14 @@ mod effect;
 mod enabled;
 mod item;
 pub mod laws;
-mod listed;
 mod participant;
+mod seq;
 mod snapshot;
 mod state;
 mod step;
 
 pub use item::{Cell, Item, ItemState};
-pub use listed::Listed;
 pub use participant::{Loaded, Participant, Phase, Seen};
+pub use seq::Seq;
 pub use state::{State, apply};
 pub use step::Step;

@@ -1,6 +1,6 @@
 //! Participants, and what they have loaded.
 
-use crate::listed::Listed;
+use crate::seq::Seq;
 
 /// How far a participant's opening has come. The number is the count that it read.
 #[derive(Clone, Copy, PartialEq, Eq, Drop, Debug)]
@@ -25,7 +25,7 @@ pub struct Seen {
 pub struct Loaded {
     pub item: usize,
     pub value: u64,
-    pub holds: Listed<Seen>,
+    pub holds: Seq<Seen>,
 }
 
 /// A participant.
@@ -37,7 +37,7 @@ pub struct Participant {
     /// The count that it last read again under its open guard.
     pub reread: Option<u64>,
     /// Whom it has looked at under its open guard.
-    pub looked: Listed<usize>,
+    pub looked: Seq<usize>,
     /// What it has loaded under its open guard.
-    pub loaded: Listed<Loaded>,
+    pub loaded: Seq<Loaded>,
 }

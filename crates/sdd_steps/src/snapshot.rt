@@ -5,8 +5,8 @@ ghost use Rattle.sdd_steps.specs.State.{newcomer, participant_at, cell_at, item_
 ghost use Rattle.sdd_steps.specs.Snapshots.{shown};
 
 use crate::item::{Cell, Item, ItemState};
-use crate::listed::Listed;
 use crate::participant::{Loaded, Participant, Phase, Seen};
+use crate::seq::Seq;
 use std::alloc::{AllocError, Global};
 
 /// The parts of a state.
@@ -52,9 +52,9 @@ pub(crate) fn copy_all<T: Copied>(alloc: Global, items: &[T]) -> Result<Vec<T>, 
     Ok(all)
 }
 
-impl<T: Copied> Copied for Listed<T> {
+impl<T: Copied> Copied for Seq<T> {
     fn copied(&self, alloc: Global) -> Result<Self, AllocError> {
-        Ok(Listed::from_vec(copy_all(alloc, self.as_slice())?))
+        Ok(Seq::from_vec(copy_all(alloc, self.as_slice())?))
     }
 }
 
@@ -154,7 +154,7 @@ impl Snapshot {
                 value: 0,
                 hand: 0,
                 owners: 0,
-                holds: Listed::new(alloc),
+                holds: Seq::new(alloc),
                 state: ItemState::Waiting,
             }),
         }
@@ -194,8 +194,8 @@ impl Participant {
             phase: Phase::Idle,
             found: 0,
             reread: None,
-            looked: Listed::new(alloc),
-            loaded: Listed::new(alloc),
+            looked: Seq::new(alloc),
+            loaded: Seq::new(alloc),
         }
     }
 }

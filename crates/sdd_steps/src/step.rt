@@ -1,6 +1,6 @@
 //! The single steps.
 
-use crate::listed::Listed;
+use crate::seq::Seq;
 
 /// One indivisible event. The first number of each names the participant that takes it.
 ///
@@ -44,7 +44,7 @@ pub enum Step {
     /// The guard, what the participant loaded and its looks are gone.
     Close(usize),
     /// A new item with this value in hand. The owners and the cells that it holds come out of the hand.
-    Place(usize, u64, Listed<usize>, Listed<usize>),
+    Place(usize, u64, Seq<usize>, Seq<usize>),
     /// One more owner in hand of an item that has one.
     RaiseOwners(usize, usize),
     /// Under its guard the participant reads the count again.

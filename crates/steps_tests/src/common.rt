@@ -1,6 +1,6 @@
 //! Steps as plain numbers, for lists of steps in tests.
 
-use sdd_steps::{Listed, State, Step, apply};
+use sdd_steps::{Seq, State, Step, apply};
 use std::alloc::{AllocError, Global};
 use std::process::Abort;
 
@@ -32,8 +32,8 @@ pub(crate) enum Move {
     TakeOver(usize, usize),
 }
 
-fn listed(alloc: Global, number: Option<usize>) -> Result<Listed<usize>, AllocError> {
-    let mut all = Listed::new(alloc);
+fn listed(alloc: Global, number: Option<usize>) -> Result<Seq<usize>, AllocError> {
+    let mut all = Seq::new(alloc);
     if let Some(number) = number {
         all.push(number)?;
     }
@@ -55,7 +55,7 @@ fn place(
 fn place_twice(alloc: Global, p: usize, value: u64, held: usize) -> Result<Step, AllocError> {
     let mut all = listed(alloc, Some(held))?;
     all.push(held)?;
-    Ok(Step::Place(p, value, all, Listed::new(alloc)))
+    Ok(Step::Place(p, value, all, Seq::new(alloc)))
 }
 
 pub(crate) fn step(alloc: Global, one: Move) -> Result<Step, AllocError> {

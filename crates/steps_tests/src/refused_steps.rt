@@ -1,7 +1,7 @@
 //! Where each step is refused, and the promise over random lists of steps.
 
 use crate::common::{Move, after, all_refused, is_enabled, play};
-use sdd_steps::{Cell, Item, ItemState, Listed, Loaded, Participant, Phase, Seen, State};
+use sdd_steps::{Cell, Item, ItemState, Loaded, Participant, Phase, Seen, Seq, State};
 use std::alloc::Global;
 use std::process::Abort;
 
@@ -574,7 +574,7 @@ fn random_lists_of_steps_keep_the_promise(rt: HostRuntime) {
 
 #[test]
 fn a_list_is_made_from_a_vec_and_gives_it_back(rt: HostRuntime) {
-    let mut list: Listed<usize> = Listed::from_vec(Vec::new(rt.alloc()));
+    let mut list: Seq<usize> = Seq::from_vec(Vec::new(rt.alloc()));
     list.push(7).expect(&rt, "memory");
     assert!(rt; list.as_slice().first().copied() == Some(7));
     assert!(rt; list.into_vec().len() == 1);

@@ -20,7 +20,7 @@ use sdd_base::owner::{Kept, Shared};
 use sdd_base::pointer::Ptr;
 use sdd_base::sizes::Sizes;
 use sdd_base::world::{World, atomic_shared, guard, shared};
-use sdd_steps::{Item as Counterpart, ItemState, Listed, State, Step, apply};
+use sdd_steps::{Item as Counterpart, ItemState, Seq, State, Step, apply};
 use std::alloc::Global;
 use std::process::Abort;
 use versions::{Built, Directory, Item, Write, build, place, publish, version};
@@ -108,7 +108,7 @@ fn is_refused<R: Abort>(rt: &R, alloc: Global, state: &State, step: Step) -> boo
 
 // The writer places an item.
 fn place_beside<R: Abort>(rt: &R, alloc: Global, state: State, value: u64, item: usize) -> State {
-    let mut holds = Listed::new(alloc);
+    let mut holds = Seq::new(alloc);
     for one in held(item) {
         assert!(rt; holds.push(*one).is_ok());
     }
@@ -116,7 +116,7 @@ fn place_beside<R: Abort>(rt: &R, alloc: Global, state: State, value: u64, item:
         rt,
         alloc,
         state,
-        Step::Place(WRITER, value, holds, Listed::new(alloc)),
+        Step::Place(WRITER, value, holds, Seq::new(alloc)),
     )
 }
 

@@ -1,10 +1,10 @@
 use Rattle.std.proofs.Common.{◌≡◌}
-use Rattle.sdd_domain.specs.Tokens.{marks_of, IsSame}
+use Rattle.sdd_domain.specs.Tokens.{own_of, IsSame}
 use Rattle.domain_bench.proofs.passes.Given as goal
 
 -- the same participant, as deep as at first
 abbrev pub invariant-loop-i : goal.invariant-loop-i
 invariant-loop-i l = record {
   same : IsSame l.initial.local l.local;
-  nesting : (marks_of l.local).nesting ≡ (marks_of l.initial.local).nesting;
+  nesting : (own_of l.local).nesting ≡ (own_of l.initial.local).nesting;
 }

@@ -9,11 +9,11 @@ use std::marker::Model;
 ///
 /// It is made from a `Vec` and gives it back, neither with memory.
 #[derive(Drop)]
-pub struct Listed<T> {
+pub struct Seq<T> {
     items: Vec<T>,
 }
 
-impl<T> Model for Listed<T> {
+impl<T> Model for Seq<T> {
     ghost use Rattle.std.specs.Prelude.{List};
 
     ghost Value = { List T };
@@ -21,12 +21,12 @@ impl<T> Model for Listed<T> {
     ghost view = { λ l. l.items.items };
 }
 
-impl<T> Listed<T> {
+impl<T> Seq<T> {
     /// No items, and no memory.
     pub fn new(alloc: Global) -> Self
         ensures { result ≡ [] }
     {
-        Listed {
+        Seq {
             items: Vec::new(alloc),
         }
     }
@@ -35,7 +35,7 @@ impl<T> Listed<T> {
     pub fn from_vec(items: Vec<T>) -> Self
         ensures { result ≡ items.items }
     {
-        Listed { items }
+        Seq { items }
     }
 
     /// The `Vec` with the items.
