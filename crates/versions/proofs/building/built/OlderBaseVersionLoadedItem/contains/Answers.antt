@@ -8,7 +8,7 @@ use Rattle.versions.specs.SeparatorSearch.{IsPlaceOf}
 use Rattle.versions.specs.Versions.{blocks_of}
 use Rattle.versions.proofs.PlaceLemmas.{around_place, has_around}
 use Rattle.versions.proofs.SeparatorSearchLemmas.{inside_of}
-use Rattle.versions.proofs.building.built.OlderOldLoadedItem.contains.Goals as goal
+use Rattle.versions.proofs.building.built.OlderBaseVersionLoadedItem.contains.Goals as goal
 
 pub returns : goal.returns
 returns g c =

@@ -6,7 +6,7 @@ use Rattle.versions.specs.Items.{slots_of}
 use Rattle.versions.specs.Placing.{Base, named_among}
 use Rattle.versions.specs.Versions.{blocks_of}
 use Rattle.versions.proofs.BaseVersionLemmas.{name_is}
-use Rattle.versions.proofs.building.built.OlderOldLoadedItem.name.Goals as goal
+use Rattle.versions.proofs.building.built.OlderBaseVersionLoadedItem.name.Goals as goal
 
 pub returns : goal.returns
 returns g c =

@@ -5,7 +5,7 @@ use Rattle.versions.specs.Items.{slots_of}
 use Rattle.versions.specs.Placing.{Base}
 use Rattle.versions.specs.Versions.{IsSegment, blocks_of, pairs_of}
 use Rattle.versions.proofs.SlotLemmas.{block_at, segment_at, slots_many}
-use Rattle.versions.proofs.building.built.OlderOldLoadedItem.segment.Goals as goal
+use Rattle.versions.proofs.building.built.OlderBaseVersionLoadedItem.segment.Goals as goal
 
 pub tree-requires : goal.tree-requires
 tree-requires g c =
