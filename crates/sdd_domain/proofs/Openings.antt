@@ -1,5 +1,5 @@
 -- opening and closing a guard keep the rule of the table
-use Rattle.std.proofs.Common.{◌≡◌, ℕ, zero, suc, ◌≤◌, List, [], ◌∷◌, map, get_or, set, sym, refl, ap, ◌∙◌, subst, inl, arith, None}
+use Rattle.std.proofs.Common.{◌≡◌, ◌≢◌, ℕ, ◌≤◌, [], ◌∷◌, map, get_or, set, sym, refl, ap, ◌∙◌, subst, inl, inr, arith, None, List, cond, eq-eqb, ne_eqb}
 use mathlib.Core.Logic.{dite}
 use native.Mathlib.Decide.{ℕ_discrete}
 use Rattle.atomic_table.specs.Table.{Me, step, keeps, Allows}
@@ -7,56 +7,64 @@ use Rattle.sdd_domain.specs.declared.board.Plan.{Plan}
 use Rattle.sdd_steps.specs.declared.participant.Phase.TheVariants.{Idle, HasRead, Opened}
 use Rattle.sdd_steps.specs.declared.participant.Participant.{Participant}
 use Rattle.sdd_steps.specs.declared.step.Step.TheVariants.{ReadEpoch, Publish, Rotate, Close}
-use Rattle.sdd_steps.specs.State.{At, with_participant}
+use Rattle.sdd_steps.specs.State.{At, with_participant, Has}
 use Rattle.sdd_steps.specs.Steps.{older}
 use Rattle.sdd_steps.specs.State as steps
 use Rattle.sdd_steps.proofs.ListLemmas.{set_here}
-use Rattle.sdd_domain.specs.Views.{reading, publishing, closing}
+use Rattle.sdd_homes.specs.Reasons.{Loads}
+use Rattle.sdd_homes.proofs.SwapLemmas.{set_twice}
+use Rattle.sdd_domain.specs.Views.{reading, publishing, closing, rotated, older_waits}
+use Rattle.sdd_homes.specs.Book.{Content}
 use Rattle.sdd_domain.specs.Layout.{state_word, count_word, shown}
 use Rattle.sdd_domain.specs.Rule.{Runs, Shows}
 use Rattle.sdd_domain.specs.Plays.{read_then, publish_then, count_then, close_then}
 use Rattle.sdd_domain.specs.declared.board.Acting.{Acting}
 use Rattle.sdd_domain.proofs.Moves.{own_load, own_store, own_inside, idles}
+use Rattle.sdd_domain.proofs.Stirred.{Stirred, stirred_none, stirred_older, loads_none, waits_older, waits_older_else, distinct_older}
 use Rattle.sdd_domain.proofs.Taken as taken
-
-set_twice : {A : Type 0} (l : List A) (i : ℕ) (a b : A) → set (set l i a) i b ≡ set l i b
-set_twice [] i a b = refl
-set_twice (x ∷ l) zero a b = refl
-set_twice (x ∷ l) (suc i) a b = ap (λ m. x ∷ m) (set_twice l i a b)
+use Rattle.sdd_domain.specs.Items.{IsWaiting, Distinct}
+use Rattle.sdd_homes.specs.declared.Garbage.{Garbage}
 
 -- p publishes the count that it read, and rotates if it found another one before
 record Published (core : steps.State) (p e : ℕ) (x : Participant) : Type 0 where
   next : steps.State
   runs : Runs core next
-  bare : next.items ≡ []
+  cells : next.cells ≡ core.cells
+  stirred : Stirred core.items next.items
   count : next.count ≡ core.count
   changed : next.participants ≡ set core.participants p (publishing e x)
+  distinct : (ws : List Garbage) → Distinct ws → Distinct (rotated e x.found ws)
+  waits_mine : (slot_of : ℕ → ℕ) (ws : List Garbage) (w : Garbage) → ((v : Garbage) → Has ws v → IsWaiting core.items slot_of p v) → Has (rotated e x.found ws) w → IsWaiting next.items slot_of p w
+  waits_others : (slot_of : ℕ → ℕ) (q : ℕ) (w : Garbage) → q ≢ p → IsWaiting core.items slot_of q w → IsWaiting next.items slot_of q w
 
-published : (core : steps.State) (p e : ℕ) (x : Participant) → core.items ≡ [] → At core.participants p x → x.phase ≡ HasRead e → Published core p e x
-published core p e x none at is = let x1 : Participant = record x { phase = Opened e; reread = None; looked = []; loaded = [] } in let t = with_participant core p x1 in
+published : (core : steps.State) (p e : ℕ) (x : Participant) → At core.participants p x → x.phase ≡ HasRead e → Published core p e x
+published core p e x at is = let x1 : Participant = record x { phase = Opened e; reread = None; looked = []; loaded = [] } in let t = with_participant core p x1 in
     let opens = taken.publishes core p x at e is in dite (ℕ_discrete e x.found)
-    (λ same. record { next = t; runs = taken.one core (Publish p) t opens; bare = none; count = refl; changed = ap (λ (z : ℕ). set core.participants p (record x1 { found = z })) (sym same) })
+    (λ same. record { next = t; runs = taken.one core (Publish p) t opens; cells = refl; stirred = stirred_none core.items; count = refl; changed = ap (λ (z : ℕ). set core.participants p (record x1 { found = z })) (sym same); distinct = λ ws h. subst (λ b. Distinct (cond b ws (older_waits ws))) (sym (eq-eqb e x.found same)) h; waits_mine = λ _ ws w all h. all w (subst (λ b. Has (cond b ws (older_waits ws)) w) (eq-eqb e x.found same) h); waits_others = λ _ _ _ _ h. h })
     (λ differs. let x2 : Participant = record x1 { found = e } in let u : steps.State = record t { participants = set t.participants p x2; items = map (older p) t.items } in record {
       next = u;
       runs = (Publish p ∷ Rotate p ∷ [], (t, opens, (u, taken.rotates t p x1 (set_here core.participants p x1 x at) e refl differs, refl)));
-      bare = ap (map (older p)) none;
+      cells = refl;
+      stirred = stirred_older p core.items;
       count = refl;
       changed = set_twice core.participants p x1 x2;
+      distinct = λ ws h. subst (λ b. Distinct (cond b ws (older_waits ws))) (sym (ne_eqb e x.found differs)) (distinct_older ws h);
+      waits_mine = λ slot_of ws w all h. waits_older p core.items slot_of ws w all (subst (λ b. Has (cond b ws (older_waits ws)) w) (ne_eqb e x.found differs) h);
+      waits_others = λ slot_of q w ne h. waits_older_else p q core.items slot_of w ne h;
     })
 
-module _ (S : Type 0) (plan : Plan) where
+module _ (S : Type 0) (IsIn : Content → S → Type 0) (plan : Plan) where
   pub reads : (slots id : ℕ) (me : Me S Acting) → me.0.kind ≡ 1 → me.0.known.phase ≡ Idle → me.0.scan ≡ 0
-      → Allows (Shows plan) slots id me count_word (λ k. k) (read_then (step slots count_word 0 0 mathlib.Core.Option.none) me)
+      → Allows (Shows IsIn plan) slots id me count_word (λ k. k) (read_then (step slots count_word 0 0 mathlib.Core.Option.none) me)
   reads slots id me kind is still s r _ at _ = let d = me.0 in let a = r.epochs.seats id d at kind in let x = d.known in let p = d.number in let k : ℕ = get_or s.words 0 0 in
       let core = with_participant r.state p (record x { phase = HasRead r.state.count }) in
       let d' : Acting = record d { known = reading k d.known } in (
         d',
         keeps,
         tt,
-        own_load S plan s r 0 id d d' (record {
+        own_load S IsIn plan s r 0 id d d' (record {
           core = core;
           runs = taken.one r.state (ReadEpoch p) core (taken.reads r.state p x a.is is);
-          bare = r.items.none;
           count = refl;
           changed = ap (λ (c : ℕ). set r.state.participants p (record x { phase = HasRead c })) (sym r.epochs.count_is);
           inside = λ e h. absurd (cc);
@@ -66,21 +74,28 @@ module _ (S : Type 0) (plan : Plan) where
           number = refl;
           scan = λ z. z;
           present = λ z. absurd (omega arith);
+        }) (record {
+          cells = refl;
+          stirred = stirred_none r.state.items;
+          loads = inr (λ i l. loads_none r.state p x a.is (λ n h. let bad : Idle ≡ Opened n = sym is ∙ h in absurd (cc)) (Loads core p i) i l);
+          same = refl;
+          distinct = λ h. h;
+          waits_mine = λ _ w all h. all w h;
+          waits_others = λ _ _ _ _ h. h;
         }) at kind (ap shown (sym is)),
         refl,
       )
 
   publishes : (slots id : ℕ) (me : Me S Acting) (e v : ℕ) → me.0.kind ≡ 1 → me.0.known.phase ≡ HasRead e → me.0.scan ≡ 0 → v ≡ shown (Opened e)
-      → Allows (Shows plan) slots id me (state_word me.0.number) (λ _. v) (λ _. publish_then (step slots (state_word me.0.number) v 0 mathlib.Core.Option.none) me v)
-  publishes slots id me e v kind is still word s r _ at _ = let d = me.0 in let a = r.epochs.seats id d at kind in let t = published r.state d.number e d.known r.items.none a.is is in let late = ((r.kept.1.2.guards d.number d.known a.is).reading e is).1 in
-      let d' : Acting = record d { known = publishing e d.known; born = r.state.count } in (
+      → Allows (Shows IsIn plan) slots id me (state_word me.0.number) (λ _. v) (λ _. publish_then (step slots (state_word me.0.number) v 0 mathlib.Core.Option.none) me v)
+  publishes slots id me e v kind is still word s r _ at _ = let d = me.0 in let a = r.epochs.seats id d at kind in let t = published r.state d.number e d.known a.is is in let late = ((r.kept.1.2.guards d.number d.known a.is).reading e is).1 in
+      let d' : Acting = record d { known = publishing e d.known; born = r.state.count; waits = rotated e d.known.found d.waits } in (
         d',
         keeps,
         tt,
-        own_store S plan s r v id d d' (record {
+        own_store S IsIn plan s r v id d d' (record {
           core = t.next;
           runs = t.runs;
-          bare = t.bare;
           count = t.count;
           changed = t.changed;
           inside = λ n h. let k : e ≡ n = cc in (omega arith, omega arith, omega arith);
@@ -90,32 +105,39 @@ module _ (S : Type 0) (plan : Plan) where
           number = refl;
           scan = λ z. z;
           present = λ z. absurd (omega arith);
+        }) (record {
+          cells = t.cells;
+          stirred = t.stirred;
+          distinct = t.distinct d.waits;
+          waits_mine = λ slot_of w all h. t.waits_mine slot_of d.waits w all h;
+          waits_others = t.waits_others;
+          loads = inr (λ i l. loads_none r.state d.number d.known a.is (λ n h. let bad : HasRead e ≡ Opened n = sym is ∙ h in absurd (cc)) (Loads t.next d.number i) i l);
+          same = refl;
         }) at kind word,
         λ e' is'. let same : HasRead e ≡ HasRead e' = sym is ∙ is' in let k : e ≡ e' = cc in
-            (r.state.count, subst (λ z. z ≤ r.state.count) k late, ap (λ (z : ℕ). (record d { known = publishing z d.known; born = r.state.count }, me.1)) k),
+            (r.state.count, subst (λ z. z ≤ r.state.count) k late, ap (λ (z : ℕ). (record d { known = publishing z d.known; born = r.state.count; waits = rotated z d.known.found d.waits }, me.1)) k),
       )
 
   pub publishes_at : (slots id : ℕ) (me : Me S Acting) (p e v : ℕ) → me.0.number ≡ p → me.0.kind ≡ 1 → me.0.known.phase ≡ HasRead e → me.0.scan ≡ 0 → v ≡ shown (Opened e)
-      → Allows (Shows plan) slots id me (state_word p) (λ _. v) (λ _. publish_then (step slots (state_word p) v 0 mathlib.Core.Option.none) me v)
-  publishes_at slots id me p e v here kind is still word = subst (λ q. Allows (Shows plan) slots id me (state_word q) (λ _. v) (λ _. publish_then (step slots (state_word q) v 0 mathlib.Core.Option.none) me v)) here
+      → Allows (Shows IsIn plan) slots id me (state_word p) (λ _. v) (λ _. publish_then (step slots (state_word p) v 0 mathlib.Core.Option.none) me v)
+  publishes_at slots id me p e v here kind is still word = subst (λ q. Allows (Shows IsIn plan) slots id me (state_word q) (λ _. v) (λ _. publish_then (step slots (state_word q) v 0 mathlib.Core.Option.none) me v)) here
       (publishes slots id me e v kind is still word)
 
   pub counts : (slots id : ℕ) (me : Me S Acting) (e : ℕ) → me.0.kind ≡ 1 → me.0.known.phase ≡ Opened e
-      → Allows (Shows plan) slots id me count_word (λ k. k) (count_then (step slots count_word 0 0 mathlib.Core.Option.none) me)
-  counts slots id me e kind is s r _ at _ = let d = me.0 in let i = own_inside S plan s r id d at kind e is in let i1 = i.1 in let i2 = i.2 in
-      let here = r.epochs.count_is in (d, keeps, tt, idles S plan s r 0 id d at, (refl, omega arith, omega arith))
+      → Allows (Shows IsIn plan) slots id me count_word (λ k. k) (count_then (step slots count_word 0 0 mathlib.Core.Option.none) me)
+  counts slots id me e kind is s r _ at _ = let d = me.0 in let i = own_inside S IsIn plan s r id d at kind e is in let i1 = i.1 in let i2 = i.2 in
+      let here = r.epochs.count_is in (d, keeps, tt, idles S IsIn plan s r 0 id d at, (refl, omega arith, omega arith))
 
-  pub closes_at : (slots id : ℕ) (me : Me S Acting) (p e : ℕ) → me.0.number ≡ p → me.0.kind ≡ 1 → me.0.known.phase ≡ Opened e → me.0.known.found ≡ e → me.0.scan ≡ 0
-      → Allows (Shows plan) slots id me (state_word p) (λ _. 0) (λ _. close_then (step slots (state_word p) 0 0 mathlib.Core.Option.none) me 0)
-  closes_at slots id me p e here kind is found still = subst (λ q. Allows (Shows plan) slots id me (state_word q) (λ _. 0) (λ _. close_then (step slots (state_word q) 0 0 mathlib.Core.Option.none) me 0)) here
+  pub closes_at : (slots id : ℕ) (me : Me S Acting) (p e : ℕ) → me.0.number ≡ p → me.0.kind ≡ 1 → me.0.known.phase ≡ Opened e → me.0.known.found ≡ e → me.0.scan ≡ 0 → me.0.leases ≡ []
+      → Allows (Shows IsIn plan) slots id me (state_word p) (λ _. 0) (λ _. close_then (step slots (state_word p) 0 0 mathlib.Core.Option.none) me 0)
+  closes_at slots id me p e here kind is found still bare = subst (λ q. Allows (Shows IsIn plan) slots id me (state_word q) (λ _. 0) (λ _. close_then (step slots (state_word q) 0 0 mathlib.Core.Option.none) me 0)) here
       (λ s r _ at _. let d = me.0 in let a = r.epochs.seats id d at kind in let x = d.known in let p = d.number in let d' : Acting = record d { known = closing d.known } in let core = with_participant r.state p (closing x) in (
         d',
         keeps,
         tt,
-        own_store S plan s r 0 id d d' (record {
+        own_store S IsIn plan s r 0 id d d' (record {
           core = core;
           runs = taken.one r.state (Close p) core (taken.closes r.state p x a.is e is (sym found));
-          bare = r.items.none;
           count = refl;
           changed = refl;
           inside = λ n h. absurd (cc);
@@ -125,6 +147,14 @@ module _ (S : Type 0) (plan : Plan) where
           number = refl;
           scan = λ z. z;
           present = λ z. absurd (omega arith);
+        }) (record {
+          cells = refl;
+          stirred = stirred_none r.state.items;
+          loads = inl bare;
+          same = refl;
+          distinct = λ h. h;
+          waits_mine = λ _ w all h. all w h;
+          waits_others = λ _ _ _ _ h. h;
         }) at kind refl,
         refl,
       ))

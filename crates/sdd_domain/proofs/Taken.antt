@@ -5,10 +5,13 @@ use native.Mathlib.Decide.{ℕ_discrete}
 use Rattle.sdd_steps.specs.declared.participant.Phase.{Phase}
 use Rattle.sdd_steps.specs.declared.participant.Phase.TheVariants.{Idle, HasRead, Opened}
 use Rattle.sdd_steps.specs.declared.participant.Participant.{Participant}
+use Rattle.sdd_steps.specs.declared.item.Item.{Item}
+use Rattle.sdd_steps.specs.declared.item.ItemState.{ItemState}
+use Rattle.sdd_steps.specs.declared.item.ItemState.TheVariants.{Live, Due, Retired, Collected, Waiting, Reclaimed}
 use Rattle.sdd_steps.specs.declared.step.Step.{Step}
 use Rattle.sdd_steps.specs.declared.step.Step.TheVariants.{ReadEpoch, Publish, Rotate, Look, Raise, Close, End}
 use Rattle.sdd_steps.specs.State.{State, At, Has, has, with_participant, participant_at, participant_is}
-use Rattle.sdd_steps.specs.Steps.{Steps, Schedule, opened, is_idle, is_reading, is_turning, is_inside, agrees, count_of, all_looked, older, left_by, none_due}
+use Rattle.sdd_steps.specs.Steps.{Steps, Schedule, opened, is_idle, is_reading, is_turning, is_inside, agrees, count_of, all_looked, older, left_by, is_due, none_due}
 use Rattle.sdd_steps.specs.Invariant.{Inv}
 use Rattle.sdd_steps.proofs.Law.{keeps}
 use Rattle.sdd_domain.specs.Rule.{Runs}
@@ -17,7 +20,7 @@ use Rattle.sdd_steps.proofs.Enabling.{participant_passes, participant_read}
 pub and_true : (a b : Bool) → a ≡ true → b ≡ true → (a && b) ≡ true
 and_true a b ea eb = ap (λ x. x && b) ea ∙ eb
 
-or_left : (a b : Bool) → a ≡ true → (a || b) ≡ true
+pub or_left : (a b : Bool) → a ≡ true → (a || b) ≡ true
 or_left a b ea = ap (λ x. x || b) ea
 
 or_right : (a b : Bool) → b ≡ true → (a || b) ≡ true
@@ -44,6 +47,18 @@ agreed count y h = go y.phase refl
     go Idle e = or_left (not (opened y.phase)) (count_of y.phase == count) (ap (λ z. not (opened z)) e)
     go (HasRead m) e = or_left (not (opened y.phase)) (count_of y.phase == count) (ap (λ z. not (opened z)) e)
     go (Opened m) e = or_right (not (opened y.phase)) (count_of y.phase == count) (eq-eqb (count_of y.phase) count (ap count_of e ∙ h m e))
+
+undue : (p : ℕ) (f : ItemState) → f ≢ Due p → not (is_due p f) ≡ true
+undue p Live h = refl
+undue p (Due q) h = ap not (ne_eqb q p (λ e. h (ap Due e)))
+undue p (Retired q a) h = refl
+undue p (Collected n) h = refl
+undue p Waiting h = refl
+undue p (Reclaimed q) h = refl
+
+none_are_due : (p : ℕ) (items : List Item) → ((i : ℕ) (it : Item) → At items i it → it.state ≢ Due p) → none_due p items ≡ true
+none_are_due p [] none = refl
+none_are_due p (it ∷ its) none = and_true (not (is_due p it.state)) (none_due p its) (undue p it.state (none 0 it refl)) (none_are_due p its (λ i z at. none (suc i) z at))
 
 module _ (s : State) (p : ℕ) (x : Participant) (at : At s.participants p x) where
   read : participant_at s p ≡ x
@@ -88,10 +103,10 @@ module _ (s : State) (p : ℕ) (x : Participant) (at : At s.participants p x) wh
   pub closes : (e : ℕ) → x.phase ≡ Opened e → e ≡ x.found → Steps s (Close p) (with_participant s p (record x { phase = Idle; reread = None; looked = []; loaded = [] }))
   closes e is found = (participant_passes is_inside s p x at (inside x e is found), λ j. with_participant s p (record (sym read j) { phase = Idle; reread = None; looked = []; loaded = [] }))
 
-  -- nothing is due where there is no item
-  pub ends : x.phase ≡ Idle → s.items ≡ [] → Steps s (End p) (record s { participants = set s.participants p (record x { found = 0 }); items = map (left_by p) s.items })
+  -- nothing is due to it
+  pub ends : x.phase ≡ Idle → ((i : ℕ) (it : Item) → At s.items i it → it.state ≢ Due p) → Steps s (End p) (record s { participants = set s.participants p (record x { found = 0 }); items = map (left_by p) s.items })
   ends is none = (
-    and_true (participant_is is_idle s p) (none_due p s.items) (participant_passes is_idle s p x at (ap Rattle.sdd_steps.specs.Steps.idle is)) (ap (none_due p) none),
+    and_true (participant_is is_idle s p) (none_due p s.items) (participant_passes is_idle s p x at (ap Rattle.sdd_steps.specs.Steps.idle is)) (none_are_due p s.items none),
     λ j. record s { participants = set s.participants p (record (sym read j) { found = 0 }); items = map (left_by p) s.items },
   )
 

@@ -6,17 +6,18 @@ use Rattle.atomic_table.specs.Table.{State}
 use Rattle.sdd_steps.specs.declared.participant.Phase.TheVariants.{Opened}
 use Rattle.sdd_steps.specs.State as steps
 use Rattle.sdd_steps.specs.Invariant.{Inv, Safe}
+use Rattle.sdd_domain.specs.Contents.{IsIn}
+use Rattle.sdd_domain.specs.declared.board.Home.{Home}
 use Rattle.sdd_domain.specs.Layout.{count_word}
 use Rattle.sdd_domain.specs.Rule.{Runs, beginning, Shows}
 use Rattle.sdd_domain.specs.declared.board.Acting.{Acting}
 use Rattle.sdd_domain.specs.declared.board.Plan.{Plan}
 
--- S is what the slots of the table hold
 -- The words and views show a state of the single steps that a schedule of them has led to from the beginning. It meets their invariant and keeps their promise.
-abbrev pub ShowsSafe : Type 0 → Type 0
-ShowsSafe S = (plan : Plan) (s : State S Acting) → Shows plan s → (t : steps.State) × Runs (beginning plan) t × Inv t × Safe t × (slice_index s.words count_word ≡ t.count)
+abbrev pub ShowsSafe : Type 0
+ShowsSafe = (plan : Plan) (s : State Home Acting) → Shows IsIn plan s → (t : steps.State) × Runs (beginning plan) t × Inv t × Safe t × (slice_index s.words count_word ≡ t.count)
 
 -- a guard that was published at the count `born` is open while the count is that or the next one
-abbrev pub RaisedAtMostOnce : Type 0 → Type 0
-RaisedAtMostOnce S = (plan : Plan) (s : State S Acting) (seat : ℕ) (v : Acting) (e : ℕ) → Shows plan s → get_elem? s.views seat ≡ some v → v.kind ≡ 1 → v.known.phase ≡ Opened e
+abbrev pub RaisedAtMostOnce : Type 0
+RaisedAtMostOnce = (plan : Plan) (s : State Home Acting) (seat : ℕ) (v : Acting) (e : ℕ) → Shows IsIn plan s → get_elem? s.views seat ≡ some v → v.kind ≡ 1 → v.known.phase ≡ Opened e
     → (e ≤ v.born) × (v.born ≤ slice_index s.words count_word) × (slice_index s.words count_word ≤ v.born + 1)

@@ -1,5 +1,5 @@
 -- where the words of a shared place lie: hot words of different threads are eight words apart
-use Rattle.std.specs.Prelude.{ℕ, ◌+◌, ◌-◌, ◌*◌, ◌^◌, ◌≤◌, min}
+use Rattle.std.specs.Prelude.{ℕ, suc, ◌+◌, ◌-◌, ◌*◌, ◌^◌, ◌≤◌, min}
 use Rattle.sdd_base.specs.declared.sizes.Sizes.{Sizes}
 use Rattle.sdd_steps.specs.declared.participant.Phase.{Phase}
 use Rattle.sdd_steps.specs.declared.participant.Phase.TheVariants.{Idle, HasRead, Opened}
@@ -21,6 +21,27 @@ claim_word p = 8 * p + 17
 -- how many words the epochs of n participants take
 abbrev pub epoch_words : ℕ → ℕ
 epoch_words n = 8 * n + 16
+
+-- behind these the words of cells, and those of slots
+abbrev pub cell_word : Sizes → ℕ → ℕ
+cell_word sizes c = epoch_words sizes.participants + c
+
+abbrev pub slot_word : Sizes → ℕ → ℕ
+slot_word sizes k = epoch_words sizes.participants + sizes.cells + k
+
+abbrev pub all_words : Sizes → ℕ
+all_words sizes = epoch_words sizes.participants + sizes.cells + sizes.slots
+
+-- The slots of the table: homes, one of each participant and one more for each slot for items; then spare ones, one for each cell and participant.
+abbrev pub all_homes : Sizes → ℕ
+all_homes sizes = sizes.slots * suc sizes.participants
+
+abbrev pub all_spares : Sizes → ℕ
+all_spares sizes = sizes.cells + sizes.participants
+
+-- the word of a cell: its spare slot, and the code of what it names
+abbrev pub packed : ℕ → ℕ → ℕ
+packed y k = y + 2 ^ 33 * k
 
 -- The whole count is published. The last two counts share a word: the last one is published only where no raise follows.
 abbrev pub shown : Phase → ℕ

@@ -1,5 +1,8 @@
 pub mod Views
 pub mod Layout
+pub mod Items
+pub mod Owners
+pub mod Contents
 pub mod Rule
 pub mod Plays
 pub mod Tokens

@@ -1,6 +1,6 @@
 -- The rule of the table of a shared place: its words and views show a state of the single steps that meets their invariant.
-use Rattle.std.specs.Prelude.{◌≡◌, ℕ, ◌+◌, ◌<◌, ◌≤◌, List, [], length, slice_index}
-use mathlib.Core.Option.{Option, some}
+use Rattle.std.specs.Prelude.{◌≡◌, ℕ, zero, suc, ◌+◌, ◌*◌, ◌<◌, ◌≤◌, List, [], ◌∷◌, ◌++◌, length, replicate, slice_index}
+use mathlib.Core.Option.{some}
 use lib.ListN.{get_elem?}
 use Rattle.atomic_table.specs.Table.{State}
 use Rattle.sdd_steps.specs.declared.participant.Phase.TheVariants.{Idle, Opened}
@@ -10,7 +10,9 @@ use Rattle.sdd_steps.specs.State as steps
 use Rattle.sdd_steps.specs.Steps.{Schedule}
 use Rattle.sdd_steps.specs.declared.step.Step.{Step}
 use Rattle.sdd_steps.specs.Invariant.{Inv}
+use Rattle.sdd_homes.specs.Book.{Content, Book}
 use Rattle.sdd_domain.specs.Views.{rested}
+use Rattle.sdd_domain.specs.Items.{Items}
 use Rattle.sdd_domain.specs.Layout.{count_word, lock_word, state_word, claim_word, epoch_words, shown}
 use Rattle.sdd_domain.specs.declared.board.Acting.{Acting}
 use Rattle.sdd_domain.specs.declared.board.Plan.{Plan}
@@ -50,16 +52,22 @@ Runs s t = (list : List Step) × Schedule s list t
 abbrev pub beginning : Plan → steps.State
 beginning plan = record (start plan.sizes.participants plan.sizes.cells) { count = plan.first }
 
--- what stands of items, and of the values at home: there are none yet
-pub record Items {S : Type 0} (state : steps.State) (homes : List (Option S)) : Type 0 where
-  pub none : state.items ≡ []
+-- 0, 1, .. below n
+abbrev pub numbers : ℕ → List ℕ
+numbers zero = []
+numbers (suc n) = numbers n ++ n ∷ []
+
+-- the words of a new place: the count, and behind it 0 but for cells, each of which has the spare slot of its own number
+abbrev pub first_words : Plan → List ℕ
+first_words plan = plan.first ∷ (replicate (8 * plan.sizes.participants + 15) zero ++ (numbers plan.sizes.cells ++ replicate plan.sizes.slots zero))
 
 -- Between any two steps: single steps have led from the beginning to a state that meets their invariant, and the words and views show it.
-pub record Shows {S : Type 0} (plan : Plan) (s : State S Acting) : Type 0 where
+pub record Shows {S : Type 0} (IsIn : Content → S → Type 0) (plan : Plan) (s : State S Acting) : Type 0 where
   pub state : steps.State
   pub run : Runs (beginning plan) state
   pub kept : Inv state
   pub born : ℕ → ℕ
   pub bounded : Bounded state.participants state.count born
   pub epochs : Epochs plan.sizes.participants state born s.words s.views
-  pub items : Items state s.homes
+  pub book : Book
+  pub items : Items IsIn plan.sizes state book s.words s.homes s.views

@@ -1,17 +1,28 @@
 -- what a seat at the table of a shared place knows
-use Rattle.std.specs.Prelude.{ℕ, None, [], ◌∷◌, ◌++◌}
+use Rattle.std.specs.Prelude.{◌≡◌, ◌==◌, ◌+◌, ℕ, cond, map, List, None, [], ◌∷◌, ◌++◌}
 use Rattle.sdd_steps.specs.declared.participant.Phase.TheVariants.{Idle, HasRead, Opened}
 use Rattle.sdd_steps.specs.declared.participant.Participant.{Participant}
 use Rattle.sdd_steps.specs.State.{newcomer}
+use Rattle.sdd_base.specs.declared.sizes.Sizes.{Sizes}
+use Rattle.sdd_homes.specs.declared.Garbage.{Garbage}
+use Rattle.sdd_homes.specs.declared.Owner.{Owner}
 use Rattle.sdd_domain.specs.declared.board.Acting.{Acting}
 
 -- nothing: the view of a seat that acts for nobody
 abbrev pub spent : Acting
-spent = record { kind = 0; number = 0; scan = 0; born = 0; known = newcomer }
+spent = record { kind = 0; number = 0; scan = 0; born = 0; known = newcomer; sizes = record { participants = 0; slots = 0; cells = 0; jobs = 0 }; spare = 0; hand = []; leases = []; releasing = 0; slot = 0; filling = None; waits = [] }
 
--- the view of a seat that has just come to act for the participant p
-abbrev pub registered : ℕ → Acting
-registered p = record { kind = 1; number = p; scan = 0; born = 0; known = newcomer }
+-- the view of a seat that has the owner o, and acts for nobody
+abbrev pub holding : Owner → Acting
+holding o = record spent { kind = 3; hand = o ∷ [] }
+
+-- the view of a seat that has just come to act for the participant p, which has the spare slot y
+abbrev pub registered : Sizes → ℕ → ℕ → Acting
+registered sizes y p = record spent { kind = 1; number = p; sizes = sizes; spare = y }
+
+-- nothing of items is out with the seat
+abbrev pub IsBare : Acting → Type 0
+IsBare d = (d.hand ≡ []) × (d.leases ≡ []) × (d.releasing ≡ 0) × (d.waits ≡ [])
 
 -- a participant without a guard, which found this count at its previous opening
 abbrev pub rested : ℕ → Participant
@@ -19,6 +30,14 @@ rested found = record newcomer { found = found }
 
 abbrev pub reading : ℕ → Participant → Participant
 reading n x = record x { phase = HasRead n }
+
+-- what a participant has retired is older by one
+abbrev pub older_waits : List Garbage → List Garbage
+older_waits ws = map (λ (w : Garbage). record w { age = w.age + 1 }) ws
+
+-- it rotates where the count is another than the one found before
+abbrev pub rotated : ℕ → ℕ → List Garbage → List Garbage
+rotated e found ws = cond (e == found) ws (older_waits ws)
 
 -- published, and the rotation is done if it was due
 abbrev pub publishing : ℕ → Participant → Participant

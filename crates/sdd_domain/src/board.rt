@@ -2,7 +2,8 @@
 
 use atomic_table::{Seat, Shared, Table, TableRule};
 use sdd_base::sizes::Sizes;
-use sdd_steps::Participant;
+use sdd_homes::{Filling, Garbage, Lease, Owner};
+use sdd_steps::{Participant, Seq};
 use std::alloc::Global;
 
 /// What a seat knows. No value of it is made.
@@ -15,6 +16,28 @@ pub struct Acting {
     /// The count when the open guard was published.
     pub born: u64,
     pub known: Participant,
+    /// How large the place is.
+    pub sizes: Sizes,
+    /// The participant's spare slot.
+    pub spare: u64,
+    /// The owners that are in hand here, and what is out of the participant's homes.
+    pub hand: Seq<Owner>,
+    pub leases: Seq<Lease>,
+    /// One more than the item whose home is out for a release, or 0.
+    pub releasing: u64,
+    /// The slot that the participant fills or empties, and how far that is.
+    pub slot: u64,
+    pub filling: Option<Filling>,
+    /// What the participant has retired.
+    pub waits: Seq<Garbage>,
+}
+
+/// What lies in a slot of the table: nothing, a deed of a round, or so many parts of a round.
+#[derive(Clone, Copy, Drop)]
+pub enum Home {
+    Blank,
+    Deed(u64),
+    Part(u64, u64),
 }
 
 /// What a place is told once, when it is made: how large it is, and the count of raises that it begins with.
@@ -25,22 +48,23 @@ pub struct Plan {
 }
 
 /// The rule: the words and views show a state of the single steps that meets their invariant.
-pub struct Epochs;
+pub struct Rule;
 
-impl TableRule<(), Acting, Plan> for Epochs {
+impl TableRule<Home, Acting, Plan> for Rule {
+    ghost use Rattle.sdd_domain.specs.Contents.{IsIn};
     ghost use Rattle.sdd_domain.specs.Rule.{Shows};
     ghost use Rattle.sdd_domain.specs.Views.{spent};
 
-    ghost holds = { λ plan. Shows plan };
+    ghost holds = { λ plan. Shows IsIn plan };
 
     ghost first = { λ _. spent };
 }
 
 /// The table with its memory.
-pub(crate) type Board = Table<(), Acting, Plan, Epochs, Global>;
+pub(crate) type Board = Table<Home, Acting, Plan, Rule, Global>;
 
 /// The table as threads see it.
-pub(crate) type Words = Shared<(), Acting, Plan, Epochs>;
+pub(crate) type Words = Shared<Home, Acting, Plan, Rule>;
 
 /// What one thread knows of it.
-pub(crate) type Place = Seat<(), Acting>;
+pub(crate) type Place = Seat<Home, Acting>;

@@ -1,10 +1,12 @@
 //! A place that threads share.
 
-ghost use Rattle.std.specs.Prelude.{◌≡◌, ◌≢◌, ℕ, ◌+◌, ◌*◌, ◌^◌, ◌<◌, ◌≤◌, [], ◌∷◌, replicate, IfOk, IfErr, OnErr};
+ghost use Rattle.std.specs.Prelude.{◌≡◌, ◌≢◌, ℕ, ◌+◌, ◌*◌, ◌^◌, ◌<◌, ◌≤◌, [], ◌∷◌, ◌++◌, replicate, IfOk, OnOk, IfErr, OnErr};
 ghost use Rattle.sdd_base.specs.State.{no_local};
 ghost use Rattle.sdd_domain.specs.Layout.{claim_word, epoch_words, IsSized};
+ghost use Rattle.sdd_domain.specs.Rule.{numbers, first_words};
+ghost use Rattle.sdd_domain.specs.declared.board.Home.TheVariants.{Blank};
 
-use crate::board::{Board, Plan, Words};
+use crate::board::{Board, Home, Plan, Words};
 use crate::local::Local;
 use crate::refusal::RegisterRefused;
 use crate::steps::{claim, is_claimed, sit};
@@ -18,17 +20,49 @@ pub struct Domain {
     ghost sized: { (participants ≡ table.shared.key.sizes.participants) × (epoch_words participants ≤ table.shared.table_id.words) × (participants ≤ 2 ^ 30) },
 }
 
-/// The words of a new place: the count of raises, and so many words more, all 0.
-fn words_from(alloc: Global, count: u64, others: usize) -> Result<Vec<u64>, AllocError>
-    requires { others < 2 ^ 40 }
-    ensures { IfOk result (λ words. words.items ≡ count ∷ replicate others 0) }
+/// So many words 0 behind these.
+fn push_zeros(words: &mut Vec<u64>, count: usize) -> Result<(), AllocError>
+    ensures { OnOk result (words.new.items ≡ words.old.items ++ replicate count 0) }
 {
-    let mut words = Vec::with_capacity(alloc, others + 1)?;
-    words.push(count)?;
-    for _i in 0..others {
+    for _i in 0..count {
         words.push(0)?;
     }
+    Ok(())
+}
+
+/// The numbers below this one behind these.
+fn push_numbers(words: &mut Vec<u64>, count: usize) -> Result<(), AllocError>
+    ensures { OnOk result (words.new.items ≡ words.old.items ++ numbers count) }
+{
+    for number in 0..count {
+        words.push(number as u64)?;
+    }
+    Ok(())
+}
+
+/// The words of a new place: the count of raises, then 0 but for cells, each of which has the spare slot of its own
+/// number.
+fn words_from(alloc: Global, plan: &Plan) -> Result<Vec<u64>, AllocError>
+    requires { IsSized plan.now.sizes }
+    ensures { IfOk result (λ words. words.items ≡ first_words plan.now) }
+{
+    let mut words = Vec::new(alloc);
+    words.push(plan.first)?;
+    push_zeros(&mut words, 8 * plan.sizes.participants + 15)?;
+    push_numbers(&mut words, plan.sizes.cells)?;
+    push_zeros(&mut words, plan.sizes.slots)?;
     Ok(words)
+}
+
+/// The slots of a new place, all empty.
+fn homes_from(alloc: Global, count: usize) -> Result<Vec<Home>, AllocError>
+    ensures { IfOk result (λ homes. homes.items ≡ replicate count Blank) }
+{
+    let mut homes = Vec::new(alloc);
+    for _i in 0..count {
+        homes.push(Home::Blank)?;
+    }
+    Ok(homes)
 }
 
 impl Domain {
@@ -51,12 +85,18 @@ impl Domain {
         ensures first { IfOk result (λ d. first_of d ≡ count) }
     {
         let participants = sizes.participants;
-        let words = words_from(alloc, count, 8 * participants + 15)?;
         let plan = Plan {
             sizes,
             first: count,
         };
-        let (table, _) = Board::of_words(alloc, &words, &plan)?;
+        let words = words_from(alloc, &plan)?;
+        let homes = homes_from(
+            alloc,
+            sizes.slots * (participants + 1) + sizes.cells + participants,
+        )?;
+        let Ok((table, _)) = Board::new(alloc, &words, homes, &plan) else {
+            return Err(AllocError);
+        };
         Ok(Domain {
             table,
             participants,

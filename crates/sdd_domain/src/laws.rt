@@ -1,14 +1,14 @@
-//! What stands between any two steps of any threads. Nothing here runs. `S` is what the slots of the table hold.
+//! What stands between any two steps of any threads. Nothing here runs.
 
 ghost use Rattle.sdd_domain.specs.Laws.{ShowsSafe, RaisedAtMostOnce};
 
 /// What the table of a place shows at any moment is a state of the single steps that meets their invariant, and so
 /// keeps their promise: nothing that an open guard has loaded is reclaimed.
-pub fn every_moment_is_safe<S>()
-    ensures { ShowsSafe S }
+pub fn every_moment_is_safe()
+    ensures { ShowsSafe }
 {}
 
 /// While a guard is open, the count of raises is that of its publication or the next one, whatever other threads do.
-pub fn the_count_is_raised_at_most_once<S>()
-    ensures { RaisedAtMostOnce S }
+pub fn the_count_is_raised_at_most_once()
+    ensures { RaisedAtMostOnce }
 {}

@@ -6,10 +6,12 @@
 #![tactic(auto)]
 
 mod board;
+mod cells;
 pub mod domain;
 pub mod guard;
 pub mod laws;
 pub mod local;
 pub mod refusal;
 mod scan;
+mod slots;
 mod steps;

@@ -4,7 +4,8 @@ ghost use Rattle.std.specs.Prelude.{◌≡◌, ◌≢◌, ℕ, ◌+◌, ◌-◌,
 ghost use Rattle.sdd_base.specs.State.{no_local};
 ghost use Rattle.sdd_base.specs.Steps.{closings_after, scans};
 ghost use Rattle.sdd_steps.specs.declared.participant.Phase.TheVariants.{Idle, Opened};
-ghost use Rattle.sdd_domain.specs.Views.{registered};
+ghost use Rattle.sdd_domain.specs.Views.{IsBare, registered};
+ghost use Rattle.sdd_base.specs.declared.sizes.Sizes.{Sizes};
 ghost use Rattle.sdd_domain.specs.Layout.{claim_word};
 
 use crate::board::Place;
@@ -18,7 +19,7 @@ pub struct Local {
     pub(crate) place: Place,
     pub(crate) number: usize,
     pub(crate) own: LocalState,
-    ghost acts: { (place.me.0.kind ≡ 1) × (place.me.0.number ≡ number) × (place.me.0.scan ≡ 0) × (number < 2 ^ 30) × (claim_word number < place.table_id.words) },
+    ghost acts: { (place.me.0.kind ≡ 1) × (place.me.0.number ≡ number) × (place.me.0.scan ≡ 0) × (number < 2 ^ 30) × (claim_word number < place.table_id.words) × IsBare place.me.0 },
     ghost phase: { place.me.0.known.phase ≡ cond (own.nesting == 0) Idle (Opened own.previous) },
     ghost found: { place.me.0.known.found ≡ own.previous },
     ghost noted: { own.published ≡ own.previous },
@@ -36,7 +37,7 @@ impl Local {
 
     /// The participant that a seat has just come to act for.
     pub(crate) fn registered(place: Place, number: usize) -> Local
-        requires { (place.me.0 ≡ registered number) × (number < 2 ^ 30) × (claim_word number < place.table_id.words) }
+        requires { (sizes : Sizes) × (spare : ℕ) × (place.me.0 ≡ registered sizes spare number) × (number < 2 ^ 30) × (claim_word number < place.table_id.words) }
         ensures { (home_of result ≡ place.table_id) × (number_of result ≡ number) × (own_of result ≡ no_local) }
     {
         Local {

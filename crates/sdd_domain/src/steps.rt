@@ -3,11 +3,12 @@
 ghost use Rattle.std.specs.Prelude.{◌≡◌, ◌≢◌, ◌⊎◌, ℕ, ◌+◌, ◌-◌, ◌*◌, ◌^◌, ◌<◌, ◌≤◌, [], IsTrue, IsFalse, MatchBool};
 ghost use Rattle.sdd_steps.specs.State.{Has};
 ghost use Rattle.sdd_steps.specs.declared.participant.Phase.TheVariants.{Idle, HasRead, Opened};
-ghost use Rattle.sdd_domain.specs.Views.{spent, registered, reading, publishing, looking, closing};
+ghost use Rattle.sdd_base.specs.declared.sizes.Sizes.{Sizes};
+ghost use Rattle.sdd_domain.specs.Views.{IsBare, spent, registered, reading, publishing, rotated, looking, closing};
 ghost use Rattle.sdd_domain.specs.Layout.{count_word, lock_word, state_word, claim_word, epoch_words, shown};
 ghost use Rattle.sdd_domain.specs.Plays.{read_then, publish_then, count_then, look_then, agree_then, raise_then, close_then, lock_then, unlock_then, sit_then, claim_then, end_then, Scans};
 
-use crate::board::{Acting, Place, Words};
+use crate::board::{Acting, Home, Place, Words};
 use atomic_table::Play;
 
 /// The word of the count of raises.
@@ -27,73 +28,73 @@ const CLAIM: usize = 17;
 
 struct OnRead;
 
-impl Play<(), Acting> for OnRead {
+impl Play<Home, Acting> for OnRead {
     ghost then = { read_then };
 }
 
 struct OnPublish;
 
-impl Play<(), Acting> for OnPublish {
+impl Play<Home, Acting> for OnPublish {
     ghost then = { publish_then };
 }
 
 struct OnCount;
 
-impl Play<(), Acting> for OnCount {
+impl Play<Home, Acting> for OnCount {
     ghost then = { count_then };
 }
 
 struct OnLook;
 
-impl Play<(), Acting> for OnLook {
+impl Play<Home, Acting> for OnLook {
     ghost then = { look_then };
 }
 
 struct OnAgree;
 
-impl Play<(), Acting> for OnAgree {
+impl Play<Home, Acting> for OnAgree {
     ghost then = { agree_then };
 }
 
 struct OnRaise;
 
-impl Play<(), Acting> for OnRaise {
+impl Play<Home, Acting> for OnRaise {
     ghost then = { raise_then };
 }
 
 struct OnClose;
 
-impl Play<(), Acting> for OnClose {
+impl Play<Home, Acting> for OnClose {
     ghost then = { close_then };
 }
 
 struct OnLock;
 
-impl Play<(), Acting> for OnLock {
+impl Play<Home, Acting> for OnLock {
     ghost then = { lock_then };
 }
 
 struct OnUnlock;
 
-impl Play<(), Acting> for OnUnlock {
+impl Play<Home, Acting> for OnUnlock {
     ghost then = { unlock_then };
 }
 
 struct OnSit;
 
-impl Play<(), Acting> for OnSit {
+impl Play<Home, Acting> for OnSit {
     ghost then = { sit_then };
 }
 
 struct OnClaim;
 
-impl Play<(), Acting> for OnClaim {
+impl Play<Home, Acting> for OnClaim {
     ghost then = { claim_then };
 }
 
 struct OnEnd;
 
-impl Play<(), Acting> for OnEnd {
+impl Play<Home, Acting> for OnEnd {
     ghost then = { end_then };
 }
 
@@ -116,9 +117,9 @@ pub(crate) fn sit(words: &Words) -> Place
 /// Tries once to act for participant `number`.
 pub(crate) fn claim(words: &Words, place: &mut Place, number: usize) -> bool
     requires table { (place.old.table_id ≡ words.now.table_id) × (number < words.now.key.sizes.participants) × (epoch_words words.now.key.sizes.participants ≤ words.now.table_id.words) × (words.now.key.sizes.participants ≤ 2 ^ 30) }
-    requires nobody { place.old.me.0.kind ≡ 0 }
+    requires nobody { (place.old.me.0.kind ≡ 0) × IsBare place.old.me.0 }
     ensures seat { (place.new.table_id ≡ place.old.table_id) × (place.new.id ≡ place.old.id) }
-    ensures claimed { IsTrue result → place.new.me ≡ (registered number, place.old.me.1) }
+    ensures claimed { IsTrue result → (sizes : Sizes) × (y : ℕ) × (place.new.me ≡ (registered sizes y number, place.old.me.1)) }
     ensures refused { IsFalse result → place.new.me ≡ place.old.me }
 {
     words.compare_exchange::<OnClaim>(place, STRIDE * number + CLAIM, 0, 1) == 0
@@ -134,7 +135,7 @@ pub(crate) fn is_claimed(words: &Words, number: usize) -> bool
 /// Ends what the seat does for participant `number`, which somebody else may act for from now on.
 pub(crate) fn end(words: &Words, place: &mut Place, number: usize)
     requires table { (place.old.table_id ≡ words.now.table_id) × (number < 2 ^ 30) × (claim_word number < words.now.table_id.words) }
-    requires rests { (place.old.me.0.kind ≡ 1) × (place.old.me.0.number ≡ number) × (place.old.me.0.known.phase ≡ Idle) × (place.old.me.0.scan ≡ 0) }
+    requires rests { (place.old.me.0.kind ≡ 1) × (place.old.me.0.number ≡ number) × (place.old.me.0.known.phase ≡ Idle) × (place.old.me.0.scan ≡ 0) × IsBare place.old.me.0 }
     ensures { (place.new.table_id ≡ place.old.table_id) × (place.new.id ≡ place.old.id) × (place.new.me ≡ (spent, place.old.me.1)) }
 {
     words.store::<OnEnd>(place, STRIDE * number + CLAIM, 0);
@@ -154,7 +155,7 @@ pub(crate) fn publish(words: &Words, place: &mut Place, number: usize, epoch: u6
     requires table { (place.old.table_id ≡ words.now.table_id) × (number < 2 ^ 30) × (claim_word number < words.now.table_id.words) }
     requires read { (place.old.me.0.kind ≡ 1) × (place.old.me.0.number ≡ number) × (place.old.me.0.known.phase ≡ HasRead epoch) × (place.old.me.0.scan ≡ 0) }
     ensures seat { (place.new.table_id ≡ place.old.table_id) × (place.new.id ≡ place.old.id) }
-    ensures published { (b : ℕ) × (epoch ≤ b) × (place.new.me ≡ (record place.old.me.0 { known = publishing epoch place.old.me.0.known; born = b }, place.old.me.1)) }
+    ensures published { (b : ℕ) × (epoch ≤ b) × (place.new.me ≡ (record place.old.me.0 { known = publishing epoch place.old.me.0.known; born = b; waits = rotated epoch place.old.me.0.known.found place.old.me.0.waits }, place.old.me.1)) }
 {
     words.store::<OnPublish>(place, STRIDE * number + STATE, word_of(epoch));
 }

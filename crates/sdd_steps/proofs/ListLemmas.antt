@@ -18,34 +18,39 @@ pub unless : (b : Bool) → not b ≡ true → b ≡ false
 unless true h = absurd (cc)
 unless false h = refl
 
-abbrev pick : {P : Type 0} → Dec P → ℕ → ℕ → ℕ
-pick (yes _) a b = a
-pick (no _) a b = b
+module _ {A : Type 0} where
+  abbrev pick : {P : Type 0} → Dec P → A → A → A
+  pick (yes _) a b = a
+  pick (no _) a b = b
 
--- f with c at i
-pub put : (ℕ → ℕ) → ℕ → ℕ → ℕ → ℕ
-put f i c j = pick (ℕ_discrete j i) c (f j)
+  -- f with c at i
+  pub put : (ℕ → A) → ℕ → A → ℕ → A
+  put f i c j = pick (ℕ_discrete j i) c (f j)
 
-pub put_here : (f : ℕ → ℕ) (i c : ℕ) → put f i c i ≡ c
-unfolding put
-put_here f i c = go (ℕ_discrete i i)
-  where
-    go : (d : Dec (i ≡ i)) → pick d c (f i) ≡ c
-    go (yes _) = refl
-    go (no n) = absurd (n refl)
+  pub put_here : (f : ℕ → A) (i : ℕ) (c : A) → put f i c i ≡ c
+  unfolding put
+  put_here f i c = go (ℕ_discrete i i)
+    where
+      go : (d : Dec (i ≡ i)) → pick d c (f i) ≡ c
+      go (yes _) = refl
+      go (no n) = absurd (n refl)
 
-pub put_else : (f : ℕ → ℕ) (i c j : ℕ) → j ≢ i → put f i c j ≡ f j
-unfolding put
-put_else f i c j other = go (ℕ_discrete j i)
-  where
-    go : (d : Dec (j ≡ i)) → pick d c (f j) ≡ f j
-    go (yes e) = absurd (other e)
-    go (no _) = refl
+  pub put_else : (f : ℕ → A) (i : ℕ) (c : A) (j : ℕ) → j ≢ i → put f i c j ≡ f j
+  unfolding put
+  put_else f i c j other = go (ℕ_discrete j i)
+    where
+      go : (d : Dec (j ≡ i)) → pick d c (f j) ≡ f j
+      go (yes e) = absurd (other e)
+      go (no _) = refl
+
+  -- what holds of the new one here, and of the old ones elsewhere, holds of each
+  pub put_all : (P : ℕ → A → Type 0) (f : ℕ → A) (i : ℕ) (c : A) (j : ℕ) → P i c → (j ≢ i → P j (f j)) → P j (put f i c j)
+  put_all P f i c j here else = dite (ℕ_discrete j i)
+      (λ e. subst (λ (z : ℕ). P z (put f i c z)) (sym e) (subst (P i) (sym (put_here f i c)) here))
+      (λ e. subst (P j) (sym (put_else f i c j e)) (else e))
 
 pub put_at_most : (f : ℕ → ℕ) (i c n : ℕ) → c ≤ n → ((j : ℕ) → f j ≤ n) → (j : ℕ) → put f i c j ≤ n
-put_at_most f i c n here else j = dite (ℕ_discrete j i)
-    (λ e. subst (λ k. put f i c k ≤ n) (sym e) (subst (λ m. m ≤ n) (sym (put_here f i c)) here))
-    (λ e. subst (λ m. m ≤ n) (sym (put_else f i c j e)) (else j))
+put_at_most f i c n here else j = put_all (λ _ m. m ≤ n) f i c j here (λ _. else j)
 
 module _ {A : Type 0} where
   pub at_set : (l : List A) (i j : ℕ) (a b : A) → At (set l i a) j b → ((j ≡ i) × (a ≡ b)) ⊎ ((j ≢ i) × At l j b)

@@ -4,7 +4,7 @@ use Rattle.sdd_domain.proofs.Seats.{claims}
 use Rattle.sdd_domain.proofs.steps.claim.Goals as goal
 
 pub compare_exchange-requires : goal.compare_exchange-requires
-compare_exchange-requires c = (search rules, search rules, claims _ _ _ _ _ c.args.number c.requires.nobody c.requires.table.1)
+compare_exchange-requires c = (search rules, search rules, claims _ _ _ _ _ _ c.args.number c.requires.nobody.0 c.requires.nobody.1.0 c.requires.table.1)
 
 pub returns-clause-claimed : goal.returns-clause-claimed
 returns-clause-claimed c = λ h. (c.compare_exchange.ensures.2 c.args.number refl).0 (eqb-true c.compare_exchange.result 0 h)

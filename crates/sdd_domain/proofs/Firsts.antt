@@ -1,0 +1,92 @@
+-- the words and slots of a new place show that there is no item
+use Rattle.std.proofs.Common.{◌≡◌, ℕ, zero, suc, ◌+◌, ◌-◌, ◌*◌, ◌<◌, List, [], ◌∷◌, ◌++◌, length, map, replicate, get_or, sym, refl, ap, ◌∙◌, subst, ⊎_elim, arith, Option, None, length-append}
+use Rattle.std.proofs.lemmas.List.{get_or_append_left, get_or-append_right}
+use mathlib.Core.Logic.{dite}
+use mathlib.Core.Option.{some, some-ne-none}
+use native.Mathlib.Decide.{ℕ_discrete}
+use lib.ListN.{get_elem?, length-map}
+use Rattle.sdd_steps.specs.declared.item.Cell.{Cell}
+use Rattle.sdd_steps.specs.State.{At, Has, empty_cell}
+use Rattle.sdd_steps.specs.Invariant.{names_of}
+use Rattle.sdd_steps.proofs.ListLemmas.{at_map, at_mapped, at_inside, at_replicate, find_at, at_end}
+use Rattle.sdd_homes.specs.Book.{Content, blank, vacant, Book}
+use Rattle.sdd_homes.specs.Spares.{IsKept}
+use Rattle.sdd_domain.specs.Views.{spent}
+use Rattle.sdd_domain.specs.Layout.{cell_word, epoch_words, all_words, all_homes, all_spares, packed}
+use Rattle.sdd_domain.specs.Items.{code, Items}
+use Rattle.sdd_domain.specs.Rule.{beginning, numbers, first_words}
+use Rattle.sdd_domain.specs.declared.board.Acting.{Acting}
+use Rattle.sdd_domain.specs.declared.board.Plan.{Plan}
+
+pub many_of : {A : Type 0} (n : ℕ) (x : A) → length (replicate n x) ≡ n
+many_of zero x = refl
+many_of (suc n) x = ap suc (many_of n x)
+
+long_numbers : (n : ℕ) → length (numbers n) ≡ n
+long_numbers zero = refl
+long_numbers (suc n) = let l = length-append (numbers n) (n ∷ []) in let h = long_numbers n in omega arith
+
+zeros : (n i : ℕ) → get_or (replicate n zero) i 0 ≡ zero
+zeros zero i = refl
+zeros (suc n) zero = refl
+zeros (suc n) (suc i) = zeros n i
+
+numbers_at : (n i : ℕ) → i < n → get_or (numbers n) i 0 ≡ i
+numbers_at zero i lt = absurd (omega arith)
+numbers_at (suc n) i lt = let l = long_numbers n in dite (ℕ_discrete i n)
+    (λ e. get_or-append_right (numbers n) (n ∷ []) n i 0 l (omega arith) ∙ (ap (λ z. get_or (n ∷ []) z 0) (let none : i - n ≡ 0 = omega arith in none) ∙ sym e))
+    (λ ne. get_or_append_left (numbers n) (n ∷ []) 0 i (omega arith) ∙ numbers_at n i (omega arith))
+
+module _ (plan : Plan) where
+  abbrev idle : ℕ
+  idle = 8 * plan.sizes.participants + 15
+
+  abbrev behind : List ℕ
+  behind = numbers plan.sizes.cells ++ replicate plan.sizes.slots zero
+
+  pub long_first : length (first_words plan) ≡ all_words plan.sizes
+  long_first = let a = length-append (replicate idle zero) behind in let b = length-append (numbers plan.sizes.cells) (replicate plan.sizes.slots zero) in let c = many_of idle zero in let d = many_of plan.sizes.slots zero in let e = long_numbers plan.sizes.cells in omega arith
+
+  pub zero_words : (i : ℕ) → 0 < i → i < epoch_words plan.sizes.participants → get_or (first_words plan) i 0 ≡ 0
+  zero_words zero more less = absurd (omega arith)
+  zero_words (suc i) more less = let c = many_of idle zero in get_or_append_left (replicate idle zero) behind 0 i (omega arith) ∙ zeros idle i
+
+  pub cell_words_first : (c : ℕ) → c < plan.sizes.cells → get_or (first_words plan) (cell_word plan.sizes c) 0 ≡ c
+  cell_words_first c lt = let l = long_numbers plan.sizes.cells in let e : cell_word plan.sizes c ≡ suc (idle + c) = omega arith in ap (λ z. get_or (first_words plan) z 0) e
+      ∙ (get_or-append_right (replicate idle zero) behind idle (idle + c) 0 (many_of idle zero) (omega arith)
+      ∙ (ap (λ z. get_or behind z 0) (let d : idle + c - idle ≡ c = omega arith in d)
+      ∙ (get_or_append_left (numbers plan.sizes.cells) (replicate plan.sizes.slots zero) 0 c (omega arith) ∙ numbers_at plan.sizes.cells c lt)))
+
+-- all slots are free, and each user has the spare slot of its own number
+abbrev pub first_book : Book
+first_book = record { stage = λ _. vacant; share = λ _ _. 0; slot_of = λ _. 0; held = λ _. []; out = λ _. []; what = λ _. blank; spare = λ u. u; user = λ u. u; extra = λ _. blank }
+
+named_none : (plan : Plan) (c : ℕ) (o : Option ℕ) → At (names_of (beginning plan).cells) c o → o ≡ None
+named_none plan c o at = let t = at_mapped (λ (z : Cell). z.names) (replicate plan.sizes.cells empty_cell) c o at in sym t.2 ∙ ap (λ (z : Cell). z.names) (sym (at_replicate plan.sizes.cells c empty_cell t.0 t.1))
+
+only : (j : ℕ) (d : Acting) → At (spent ∷ []) j d → spent ≡ d
+only j d at = ⊎_elim (λ (h : At [] j d). absurd (some-ne-none d (sym h))) (λ t. t.1) (at_end [] spent j d at)
+
+module _ {S : Type 0} {IsIn : Content → S → Type 0} (plan : Plan) (words : List ℕ) (slots : List S) where
+  pub items_begin : length words ≡ all_words plan.sizes → ((c : ℕ) → c < plan.sizes.cells → get_or words (cell_word plan.sizes c) 0 ≡ c) → length slots ≡ all_homes plan.sizes + all_spares plan.sizes → ((i : ℕ) (y : S) → At slots i y → IsIn blank y)
+      → Items IsIn plan.sizes (beginning plan) first_book words (map some slots) (spent ∷ [])
+  items_begin long cells long_slots blanks = let many = many_of plan.sizes.cells empty_cell in
+      let lies : (i : ℕ) → i < length slots → (y : S) × (get_elem? (map some slots) i ≡ some (some y)) × IsIn blank y = (λ i lt. let t = find_at slots i lt in (t.0, at_map some slots i t.0 t.1, blanks i t.0 t.1)) in record {
+        parts = record { full_at = λ k i _ e. absurd (cc); partly_at = λ k f _ e. absurd (cc); vacant_at = λ _ _ _ _ _. refl; leases = λ p l h. absurd h; once = λ _. tt };
+        spares = record { users = λ _ _. refl; range = λ _ lt. lt; kept = λ c o _ at. subst (λ z. IsKept [] z blank) (sym (named_none plan c o at)) refl };
+        lying = record { long = length-map slots some ∙ long_slots; low = λ i lt _. lies i (omega arith); high = λ y lt _. lies (all_homes plan.sizes + y) (omega arith) };
+        standing = λ i it at. absurd (some-ne-none it (sym at));
+        settled = λ i it q at. absurd (some-ne-none it (sym at));
+        many = many;
+        long = long;
+        cell_words = λ c o at. let e = named_none plan c o at in let le = length-map (replicate plan.sizes.cells empty_cell) (λ (z : Cell). z.names) in let lt = at_inside (names_of (beginning plan).cells) c o at in cells c (omega arith) ∙ ((let z : c ≡ packed c 0 = omega arith in z) ∙ ap (λ z. packed c (code (λ _. 0) z)) (sym e));
+        slot_words = λ k i it _ e. absurd (cc);
+        vacancies = λ k _ _. refl;
+        given = λ i it at_i. absurd (cc);
+        waiting = λ j d w at_j kind has. let z : 0 ≡ d.kind = ap (λ (v : Acting). v.kind) (only j d at_j) in absurd (omega arith);
+        alone = λ c o at. ap (λ (z : Cell). z.holder) (sym (at_replicate plan.sizes.cells c empty_cell o at));
+        free = λ p _ _. refl;
+        hands = λ i it at. absurd (some-ne-none it (sym at));
+        owners = λ j d o at has. absurd (subst (λ (v : Acting). Has v.hand o) (sym (only j d at)) has);
+        seats = λ j d at k. let z : 0 ≡ d.kind = ap (λ (v : Acting). v.kind) (only j d at) in absurd (omega arith);
+      }

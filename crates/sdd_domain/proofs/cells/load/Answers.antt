@@ -1,0 +1,18 @@
+use Rattle.std.proofs.Common.{◌≡◌, ◌+◌, ◌*◌, subst, arith}
+use mathlib.Core.Option.{none}
+use Rattle.atomic_table.specs.Table.{step, Allows}
+use Rattle.sdd_domain.specs.Contents.{IsIn}
+use Rattle.sdd_domain.specs.Layout.{cell_word}
+use Rattle.sdd_domain.specs.Rule.{Shows}
+use Rattle.sdd_domain.specs.Plays.{load_then}
+use Rattle.sdd_domain.proofs.Loads.{loads}
+use Rattle.sdd_domain.proofs.cells.load.Goals as goal
+
+pub load-requires : goal.load-requires
+load-requires c = let t = c.requires.table in let plan = c.args.words.now.key in let place = c.args.place.now in let slots = c.args.words.now.table_id.slots in let same = t.1 in let few = t.2 in let inside = t.3 in let small = t.4 in let room = t.5 in
+    let word : cell_word plan.sizes c.args.cell ≡ 8 * c.args.participants + 16 + c.args.cell = omega arith in (
+      t.0,
+      omega arith,
+      subst (λ i. Allows (Shows IsIn plan) slots place.id place.me i (λ w. w) (load_then IsIn (step slots i 0 0 none) place.me)) word
+          (loads _ IsIn plan slots place.id c.args.cell place.me c.requires.open.0 c.requires.open.1 inside (omega arith)),
+    )

@@ -1,0 +1,202 @@
+//! The single steps of a participant on the words of cells.
+
+ghost use Rattle.std.specs.Prelude.{◌≡◌, ◌≢◌, ℕ, ◌∷◌, ◌+◌, ◌-◌, ◌*◌, ◌^◌, ◌<◌, ◌≤◌, true, List, Option, length, drop, IsTrue, IsFalse};
+ghost use Rattle.sdd_steps.specs.Steps.{is_inside, is_ready};
+ghost use Rattle.sdd_homes.specs.declared.Lease.{Lease};
+ghost use Rattle.sdd_homes.specs.Book.{Lends};
+ghost use Rattle.sdd_homes.specs.declared.Owner.{Owner};
+ghost use Rattle.sdd_steps.specs.State.{Has};
+ghost use Rattle.sdd_domain.specs.Contents.{IsIn};
+ghost use Rattle.sdd_steps.specs.declared.participant.Phase.TheVariants.{Opened};
+ghost use Rattle.sdd_domain.specs.Layout.{claim_word, all_words};
+ghost use Rattle.sdd_domain.specs.Plays.{load_then, HasLoaded, Refilled, ending, end_all_then, Brings, GetsBack, swap_then, cloning, clone_then, releasing_one, release_then, HasBegun, begin_then, CanEnd, ended_release, end_release_then, exchange_then};
+ghost use Rattle.sdd_domain.specs.declared.board.Home.{Home};
+
+use crate::board::{Acting, Home, Place, Words};
+use atomic_table::Play;
+
+struct OnLoad;
+
+impl Play<Home, Acting> for OnLoad {
+    ghost then = { load_then IsIn };
+}
+
+struct OnEndAll;
+
+impl Play<Home, Acting> for OnEndAll {
+    ghost then = { end_all_then };
+}
+
+struct OnSwap;
+
+impl Play<Home, Acting> for OnSwap {
+    ghost then = { swap_then IsIn };
+}
+
+struct OnExchange;
+
+impl Play<Home, Acting> for OnExchange {
+    ghost then = { exchange_then IsIn };
+}
+
+struct OnClone;
+
+impl Play<Home, Acting> for OnClone {
+    ghost then = { clone_then };
+}
+
+struct OnRelease;
+
+impl Play<Home, Acting> for OnRelease {
+    ghost then = { release_then };
+}
+
+struct OnBegin;
+
+impl Play<Home, Acting> for OnBegin {
+    ghost then = { begin_then IsIn };
+}
+
+struct OnEndRelease;
+
+impl Play<Home, Acting> for OnEndRelease {
+    ghost then = { end_release_then IsIn };
+}
+
+/// Loads the cell under the participant's open guard, for `participants` of them. If it names an item, the
+/// participant's parts of that come out of their home, unless they are leased already.
+pub(crate) fn load(words: &Words, place: &mut Place, participants: usize, cell: usize) -> u64
+    requires table { (place.old.table_id ≡ words.now.table_id) × (words.now.key.sizes.participants ≡ participants) × (participants ≤ 2 ^ 30) × (cell < words.now.key.sizes.cells) × (words.now.key.sizes.cells ≤ 2 ^ 30) × (all_words words.now.key.sizes ≤ words.now.table_id.words) }
+    requires open { (place.old.me.0.kind ≡ 1) × (is_inside place.old.me.0.known ≡ true) }
+    ensures seat { (place.new.table_id ≡ place.old.table_id) × (place.new.id ≡ place.old.id) }
+    ensures loaded { HasLoaded IsIn place.old.me result place.new.me }
+{
+    words.load::<OnLoad>(place, 8 * participants + 16 + cell)
+}
+
+/// Swaps the cell for the owner that the participant brings, or for none, as `word` tells, for `participants` of them.
+/// The owner's part goes into the cell in the same step, in the participant's spare slot, and the cell's spare slot
+/// comes out with the part of the owner that the cell had: that is in hand now, if there was one.
+pub(crate) fn swap(
+    words: &Words,
+    place: &mut Place,
+    participants: usize,
+    cell: usize,
+    word: u64,
+) -> u64
+    requires table { (place.old.table_id ≡ words.now.table_id) × (words.now.key.sizes.participants ≡ participants) × (participants ≤ 2 ^ 30) × (cell < words.now.key.sizes.cells) × (words.now.key.sizes.cells ≤ 2 ^ 30) × (all_words words.now.key.sizes ≤ words.now.table_id.words) }
+    requires ready { (place.old.me.0.kind ≡ 1) × (is_ready place.old.me.0.known ≡ true) × (place.old.me.0.releasing ≡ 0) }
+    requires brings { (new : Option Owner) × (os : List Owner) × (tail : List (ℕ × Home)) × Brings IsIn place.old.me new os word tail }
+    ensures seat { (place.new.table_id ≡ place.old.table_id) × (place.new.id ≡ place.old.id) }
+    ensures swapped { (new : Option Owner) (os : List Owner) (tail : List (ℕ × Home)) → Brings IsIn place.old.me new os word tail → GetsBack IsIn place.old.me os result tail place.new.me }
+{
+    words.swap::<OnSwap>(place, 8 * participants + 16 + cell, word)
+}
+
+/// Swaps the cell as `swap` does where its word is `expected`, and else loads it as `load` does, in one step either way.
+pub(crate) fn compare_exchange(
+    words: &Words,
+    place: &mut Place,
+    participants: usize,
+    cell: usize,
+    expected: u64,
+    word: u64,
+) -> u64
+    requires table { (place.old.table_id ≡ words.now.table_id) × (words.now.key.sizes.participants ≡ participants) × (participants ≤ 2 ^ 30) × (cell < words.now.key.sizes.cells) × (words.now.key.sizes.cells ≤ 2 ^ 30) × (all_words words.now.key.sizes ≤ words.now.table_id.words) }
+    requires ready { (place.old.me.0.kind ≡ 1) × (is_ready place.old.me.0.known ≡ true) × (is_inside place.old.me.0.known ≡ true) × (place.old.me.0.releasing ≡ 0) }
+    requires brings { (new : Option Owner) × (os : List Owner) × (tail : List (ℕ × Home)) × Brings IsIn place.old.me new os word tail }
+    ensures seat { (place.new.table_id ≡ place.old.table_id) × (place.new.id ≡ place.old.id) }
+    ensures hit { result ≡ expected → (new : Option Owner) (os : List Owner) (tail : List (ℕ × Home)) → Brings IsIn place.old.me new os word tail → GetsBack IsIn place.old.me os result tail place.new.me }
+    ensures miss { result ≢ expected → HasLoaded IsIn place.old.me result place.new.me }
+{
+    words.compare_exchange::<OnExchange>(place, 8 * participants + 16 + cell, expected, word)
+}
+
+/// Tries once to make one more owner of the item that is leased in `slot`, which has `owners` of them, for
+/// `participants` and `cells` of them. The owner is in hand, with one of the parts of the lease. Whether nobody was faster.
+pub(crate) fn clone_owner(
+    words: &Words,
+    place: &mut Place,
+    participants: usize,
+    cells: usize,
+    slot: usize,
+    owners: u64,
+) -> bool
+    requires table { (place.old.table_id ≡ words.now.table_id) × (words.now.key.sizes.participants ≡ participants) × (words.now.key.sizes.cells ≡ cells) × (participants ≤ 2 ^ 30) × (cells ≤ 2 ^ 30) × (slot < words.now.key.sizes.slots) × (words.now.key.sizes.slots ≤ 2 ^ 30) × (all_words words.now.key.sizes ≤ words.now.table_id.words) × (place.old.me.0.sizes ≡ words.now.key.sizes) }
+    requires ready { (place.old.me.0.kind ≡ 1) × (is_ready place.old.me.0.known ≡ true) }
+    requires leased { (l : Lease) × Has place.old.me.0.leases l × (l.slot ≡ slot) × (0 < l.count) }
+    requires counted { (0 < owners) × (owners < 2 ^ 32 - 1) }
+    ensures seat { (place.new.table_id ≡ place.old.table_id) × (place.new.id ≡ place.old.id) }
+    ensures cloned { IsTrue result → (l : Lease) → Has place.old.me.0.leases l → l.slot ≡ slot → place.new.me ≡ (cloning l place.old.me.0, place.old.me.1) }
+    ensures refused { IsFalse result → place.new.me ≡ place.old.me }
+{
+    words.compare_exchange::<OnClone>(
+        place,
+        8 * participants + 16 + cells + slot,
+        2 + owners,
+        3 + owners,
+    ) == 2 + owners
+}
+
+/// Begins the release of the owner that is first in hand where its item isn't leased: the participant's home of it comes
+/// out.
+pub(crate) fn begin_release(words: &Words, place: &mut Place)
+    requires table { (place.old.table_id ≡ words.now.table_id) × (0 < words.now.table_id.words) }
+    requires ready { (place.old.me.0.kind ≡ 1) × (place.old.me.0.releasing ≡ 0) }
+    requires owner { (o : Owner) × (os : List Owner) × (place.old.me.0.hand ≡ o ∷ os) × ¬ Lends place.old.me.0.leases o.slot }
+    ensures seat { (place.new.table_id ≡ place.old.table_id) × (place.new.id ≡ place.old.id) }
+    ensures begun { (o : Owner) (os : List Owner) → place.old.me.0.hand ≡ o ∷ os → HasBegun IsIn place.old.me o place.new.me }
+{
+    let _ = words.load::<OnBegin>(place, 0);
+}
+
+/// Releases the owner that is first in hand, of the item that is leased in `slot`, for `participants` and `cells` of
+/// them: its part is joined to the lease. Answers how many owners are left; with the last one the participant has
+/// retired the item, in the same step.
+pub(crate) fn release_owner(
+    words: &Words,
+    place: &mut Place,
+    participants: usize,
+    cells: usize,
+    slot: usize,
+) -> u64
+    requires table { (place.old.table_id ≡ words.now.table_id) × (words.now.key.sizes.participants ≡ participants) × (words.now.key.sizes.cells ≡ cells) × (participants ≤ 2 ^ 30) × (cells ≤ 2 ^ 30) × (slot < words.now.key.sizes.slots) × (words.now.key.sizes.slots ≤ 2 ^ 30) × (all_words words.now.key.sizes ≤ words.now.table_id.words) }
+    requires ready { (place.old.me.0.kind ≡ 1) × (is_ready place.old.me.0.known ≡ true) × (place.old.me.0.releasing ≡ 0) }
+    requires owner { (l : Lease) × (o : Owner) × (os : List Owner) × Has place.old.me.0.leases l × (l.slot ≡ slot) × (o.slot ≡ l.slot) × (place.old.me.0.hand ≡ o ∷ os) }
+    ensures seat { (place.new.table_id ≡ place.old.table_id) × (place.new.id ≡ place.old.id) }
+    ensures released { (l : Lease) (o : Owner) (os : List Owner) → Has place.old.me.0.leases l → o.slot ≡ l.slot → place.old.me.0.hand ≡ o ∷ os → place.new.me ≡ (releasing_one (result + 3) l os place.old.me.0, place.old.me.1) }
+{
+    words.fetch_sub::<OnRelease>(place, 8 * participants + 16 + cells + slot, 1) - 3
+}
+
+/// Ends the release that `begin_release` began, of the owner that is first in hand and whose item is in `slot`, for
+/// `participants` and `cells` of them: the participant's home of the item is in front of what is out with the seat, the
+/// owner's part joined to its parts, and goes back in the same step. Answers how many owners are left; with the last one
+/// the participant has retired the item, in that step too.
+pub(crate) fn end_release(
+    words: &Words,
+    place: &mut Place,
+    participants: usize,
+    cells: usize,
+    slot: usize,
+) -> u64
+    requires table { (place.old.table_id ≡ words.now.table_id) × (words.now.key.sizes.participants ≡ participants) × (words.now.key.sizes.cells ≡ cells) × (participants ≤ 2 ^ 30) × (cells ≤ 2 ^ 30) × (slot < words.now.key.sizes.slots) × (words.now.key.sizes.slots ≤ 2 ^ 30) × (all_words words.now.key.sizes ≤ words.now.table_id.words) }
+    requires ready { (place.old.me.0.kind ≡ 1) × (is_ready place.old.me.0.known ≡ true) }
+    requires begun { (l : Lease) × (ls : List Lease) × (o : Owner) × (os : List Owner) × (tail : List (ℕ × Home)) × (l.slot ≡ slot) × CanEnd IsIn place.old.me l ls o os tail }
+    ensures seat { (place.new.table_id ≡ place.old.table_id) × (place.new.id ≡ place.old.id) }
+    ensures ended { (l : Lease) (ls : List Lease) (o : Owner) (os : List Owner) (tail : List (ℕ × Home)) → CanEnd IsIn place.old.me l ls o os tail → place.new.me ≡ (ended_release (result + 3) l ls os place.old.me.0, tail) }
+{
+    words.fetch_sub::<OnEndRelease>(place, 8 * participants + 16 + cells + slot, 1) - 3
+}
+
+/// Closes the guard of participant `number`. All that was leased goes home in the same step: its slots are in front
+/// of what is out with the seat, in the order of the leases, each with its parts again.
+pub(crate) fn close(words: &Words, place: &mut Place, number: usize, epoch: u64)
+    requires table { (place.old.table_id ≡ words.now.table_id) × (number < 2 ^ 30) × (claim_word number < words.now.table_id.words) }
+    requires open { (place.old.me.0.kind ≡ 1) × (place.old.me.0.number ≡ number) × (place.old.me.0.known.phase ≡ Opened epoch) × (place.old.me.0.known.found ≡ epoch) × (place.old.me.0.scan ≡ 0) }
+    requires filled { (tail : List (ℕ × Home)) × Refilled IsIn place.old.me.0 place.old.me.0.leases place.old.me.1 tail }
+    ensures seat { (place.new.table_id ≡ place.old.table_id) × (place.new.id ≡ place.old.id) }
+    ensures closed { place.new.me ≡ (ending place.old.me.0, drop (length place.old.me.0.leases) place.old.me.1) }
+{
+    words.store::<OnEndAll>(place, 8 * number + 16, 0);
+}

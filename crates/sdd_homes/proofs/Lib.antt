@@ -1,0 +1,10 @@
+pub mod Totals
+pub mod Leases
+pub mod LyingLemmas
+pub mod PartLemmas
+pub mod Fillings
+pub mod HandLemmas
+pub mod OwnerLemmas
+pub mod SwapLemmas
+pub mod SpareLemmas
+pub mod ReclaimLemmas
