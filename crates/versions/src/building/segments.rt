@@ -1,10 +1,10 @@
 //! Lists of pairs cut into segments, some of which are taken over from an older version.
 
-ghost use Rattle.std.specs.Prelude.{◌≡◌, ◌≤◌, ◌<◌, ◌+◌, ◌++◌, ◌∷◌, [], Some, None, List, length, map, option_copied, slice_get, IfOk, OnOk};
+ghost use Rattle.std.specs.Prelude.{◌≡◌, ◌≤◌, ◌<◌, ◌+◌, ◌-◌, ◌++◌, ◌∷◌, [], Some, None, List, length, map, option_copied, slice_get, IfOk, OnOk};
 ghost use Rattle.leaf_array.specs.Pairs.{IsAscending};
 ghost use Rattle.leaf_array.specs.Values.{ClonesAreSame};
 ghost use Rattle.versions.specs.Cuts.{IsCut, IsSeparated, greatest_key, pairs_in};
-ghost use Rattle.versions.specs.Cutting.{IsClosing, IsCutting, IsRow, StaysApart, given, spent, trees};
+ghost use Rattle.versions.specs.Cutting.{IsClosing, IsCutting, IsRow, StaysApart, between, given, spent, trees};
 ghost use Rattle.versions.specs.Parts.{blocks_of_parts, made_in};
 
 use crate::building::draft::BaseVersion;
@@ -144,13 +144,11 @@ pub(crate) fn push<
 }
 
 /// Takes a segment of the older version over, whose keys are above all that were given.
-pub(crate) fn take<
-    K: Clone + Ord + Drop,
-    V: Clone + Drop,
-    N: Drop,
-    O: BaseVersion<K, V, N>,
-    const S: usize,
->(out: &mut SegmentBuilder<K, V, N>, old: &O, place: usize) -> Result<(), AllocError>
+fn take<K: Clone + Ord + Drop, V: Clone + Drop, N: Drop, O: BaseVersion<K, V, N>, const S: usize>(
+    out: &mut SegmentBuilder<K, V, N>,
+    old: &O,
+    place: usize,
+) -> Result<(), AllocError>
     requires keys { ClonesAreSame K.is_clone }
     requires values { ClonesAreSame V.is_clone }
     requires separated { IsSeparated (O.blocks old.now) (O.separators old.now) }
@@ -160,13 +158,66 @@ pub(crate) fn take<
     ensures pairs { OnOk result ((b : List (K × V)) → slice_get (O.blocks old.now) place ≡ Some b → given (O.named old.now) out.new ≡ given (O.named old.now) out.old ++ b) }
     ensures trees { OnOk result (trees out.new ≡ trees out.old) }
     ensures last { OnOk result ((b : List (K × V)) → slice_get (O.blocks old.now) place ≡ Some b → out.new.row.last ≡ length b) }
+    ensures tail { OnOk result (out.new.tail.pairs ≡ []) }
 {
     seal::<K, V, N, O, S>(out, old)?;
     take_over::<K, V, N, O, S>(out, old, place)?;
     Ok(())
 }
 
+/// Takes the segments of the older version from one place up to another over, whose keys are above all that were given. No
+/// key is compared.
+pub(crate) fn take_stretch<
+    K: Clone + Ord + Drop,
+    V: Clone + Drop,
+    N: Drop,
+    O: BaseVersion<K, V, N>,
+    const S: usize,
+>(out: &mut SegmentBuilder<K, V, N>, old: &O, from: usize, upto: usize) -> Result<(), AllocError>
+    requires keys { ClonesAreSame K.is_clone }
+    requires values { ClonesAreSame V.is_clone }
+    requires old { IsCut K.cmp S (O.blocks old.now) (O.separators old.now) }
+    requires whole { IsCutting (O.named old.now) K.cmp S (O.blocks old.now) out.old }
+    requires apart { StaysApart (O.named old.now) K.cmp S (O.blocks old.now) from out.old }
+    requires some { from < upto }
+    requires within { upto ≤ length (O.blocks old.now) }
+    requires rising { IsAscending K.cmp (given (O.named old.now) out.old ++ pairs_in (between from upto (O.blocks old.now))) }
+    ensures whole { OnOk result (IsCutting (O.named old.now) K.cmp S (O.blocks old.now) out.new) }
+    ensures pairs { OnOk result (given (O.named old.now) out.new ≡ given (O.named old.now) out.old ++ pairs_in (between from upto (O.blocks old.now))) }
+    ensures trees { OnOk result (trees out.new ≡ trees out.old) }
+    ensures last { OnOk result ((b : List (K × V)) → Some b ≡ slice_get (O.blocks old.now) (upto - 1) → out.new.row.last ≡ length b) }
+{
+    take::<K, V, N, O, S>(out, old, from)?;
+    for place in from + 1..upto {
+        take_next::<K, V, N, O, S>(out, old, place)?;
+    }
+    Ok(())
+}
+
+/// Takes a segment of the older version over where no tree is open.
+#[inline(always)]
+fn take_next<K: Clone + Ord + Drop, V: Drop, N: Drop, O: BaseVersion<K, V, N>, const S: usize>(
+    out: &mut SegmentBuilder<K, V, N>,
+    old: &O,
+    place: usize,
+) -> Result<(), AllocError>
+    requires keys { ClonesAreSame K.is_clone }
+    requires separated { IsSeparated (O.blocks old.now) (O.separators old.now) }
+    requires whole { IsCutting (O.named old.now) K.cmp S (O.blocks old.now) out.old }
+    requires apart { StaysApart (O.named old.now) K.cmp S (O.blocks old.now) place out.old }
+    requires none { out.old.tail.pairs ≡ [] }
+    ensures whole { OnOk result (IsCutting (O.named old.now) K.cmp S (O.blocks old.now) out.new) }
+    ensures pairs { OnOk result ((b : List (K × V)) → slice_get (O.blocks old.now) place ≡ Some b → given (O.named old.now) out.new ≡ given (O.named old.now) out.old ++ b) }
+    ensures trees { OnOk result (trees out.new ≡ trees out.old) }
+    ensures last { OnOk result ((b : List (K × V)) → slice_get (O.blocks old.now) place ≡ Some b → out.new.row.last ≡ length b) }
+    ensures tail { OnOk result (out.new.tail.pairs ≡ []) }
+{
+    take_over::<K, V, N, O, S>(out, old, place)?;
+    Ok(())
+}
+
 /// Puts a segment of the older version behind those that are done.
+#[inline(always)]
 fn take_over<K: Clone + Ord + Drop, V: Drop, N: Drop, O: BaseVersion<K, V, N>, const S: usize>(
     out: &mut SegmentBuilder<K, V, N>,
     old: &O,
