@@ -63,7 +63,7 @@ module _ {K V : Type 0} {s : ℕ} where
       module _ (w : State (Item K V s)) (i : ℕ) where
         -- one part more is placed
         pub stands_part : (p : Part K V (Loaded (Item K V s))) → IsTakeable u p → HasPlaced p i v w → StandsIn (n + makes p) (xs ++ i ∷ []) (bs ++ part_pairs (named_at (value_at u)) p ∷ []) u w
-        stands_part (parts.Made t) there h = stands_more n u v w xs bs i t st h.0 h.1 h.2 h.3
+        stands_part (parts.Made t) there h = stands_more n u v w xs bs i t.value st h.0 h.1 h.2 h.3
         stands_part (parts.Taken p) there h =
             let same : there.0 ≡ i = some_same (sym there.1 ∙ h.0) in
             let can : CanBeShared u i = subst (CanBeShared u) same there.2 in

@@ -6,7 +6,7 @@ ghost use Rattle.leaf_array.specs.Values.{ClonesAreSame};
 ghost use Rattle.std.specs.List.{All};
 ghost use Rattle.tree_index.specs.Shape.{AllKeys};
 ghost use Rattle.versions.specs.Changes.{ahead, apply_delta, changed, named_by, pair_left};
-ghost use Rattle.versions.specs.Cuts.{IsCut, pairs_in};
+ghost use Rattle.versions.specs.Cuts.{IsCut, IsSeparated, pairs_in};
 ghost use Rattle.versions.specs.Cutting.{IsCutting, IsFilled, IsPassedBy, IsReachedBy, IsThrifty, Joins, given};
 ghost use Rattle.versions.specs.Gone.{IsSpan, is_gone, without};
 ghost use Rattle.versions.specs.Parts.{blocks_of_parts, made_in};
@@ -17,7 +17,7 @@ use crate::building::draft::BaseVersion;
 use crate::building::gone::{Gone, apart_upto, covers, thins};
 use crate::building::scans::{ChangeScan, Sieve};
 use crate::building::segments::{
-    SegmentBuilder, Segments, begun, finish, greatest_at, push, take_stretch,
+    SegmentBuilder, Segments, begun, expect, finish, greatest_at, push, take_stretch,
 };
 use crate::read::view::place_of;
 use std::alloc::{AllocError, Global};
@@ -190,6 +190,52 @@ fn joins<K: Ord, V, N, const S: usize>(out: &SegmentBuilder<K, V, N>, size: usiz
     last > 0 && size <= S && last <= S - size
 }
 
+/// Tells how many pairs come of a segment and the changes up to its end.
+fn make_ready<K: Ord + Drop, V: Drop, N, O: BaseVersion<K, V, N>, const S: usize>(
+    out: &mut SegmentBuilder<K, V, N>,
+    changes: &ChangeScan<'_, K, Edit<'_, V>>,
+    old: &O,
+    place: usize,
+) -> Result<(), AllocError>
+    requires separated { IsSeparated (O.blocks old.now) (O.separators old.now) }
+    requires within { place < length (O.blocks old.now) }
+    ensures row { OnOk result (out.new.row ≡ out.old.row) }
+    ensures held { OnOk result (out.new.held ≡ out.old.held) }
+    ensures tail { OnOk result (out.new.tail.pairs ≡ out.old.tail.pairs) }
+    ensures length { OnOk result (out.new.length ≡ out.old.length) }
+{
+    let size = old.segment(place).len();
+    let more = changes_upto::<K, V, N, O, S>(changes, old, place);
+    expect::<K, V, N, S>(out, size.saturating_add(more))
+}
+
+/// How many changes come up to the end of the segment at a place, as far as they fit into one tree.
+fn changes_upto<K: Ord, V, N, O: BaseVersion<K, V, N>, const S: usize>(
+    changes: &ChangeScan<'_, K, Edit<'_, V>>,
+    old: &O,
+    place: usize,
+) -> usize
+    requires separated { IsSeparated (O.blocks old.now) (O.separators old.now) }
+    requires within { place < length (O.blocks old.now) }
+{
+    let Some(last) = greatest_at::<K, V, N, O>(old, place) else {
+        return 0;
+    };
+    let mut ahead = changes.copy();
+    for count in 0..S {
+        match ahead.front() {
+            None => return count,
+            Some((key, _)) => {
+                if key.cmp(last) == Ordering::Greater {
+                    return count;
+                }
+            },
+        }
+        ahead.step();
+    }
+    S
+}
+
 /// Merges what is left of a segment with the changes up to its end.
 fn merge_segment<
     K: Clone + Ord + Drop,
@@ -207,6 +253,7 @@ fn merge_segment<
     requires keys { ClonesAreSame K.is_clone }
     requires values { ClonesAreSame V.is_clone }
     requires within { place < length (O.blocks old.now) }
+    requires separated { IsSeparated (O.blocks old.now) (O.separators old.now) }
     requires sorted { IsAscending K.cmp (pairs_in (drop place (O.blocks old.now))) }
     requires whole { IsCutting (O.named old.now) K.cmp S (O.blocks old.now) out.old }
     requires rising { IsAscending K.cmp (given (O.named old.now) out.old ++ ahead K.cmp changes.old gone.now place (O.blocks old.now)) }
@@ -216,6 +263,7 @@ fn merge_segment<
     ensures fewer { OnOk result (length changes.new ≤ length changes.old) }
     ensures reached { OnOk result ((b : List (K × V)) → Some b ≡ slice_get (O.blocks old.now) place → IsReachedBy K.cmp changes.old (without K.cmp gone.now b) → length changes.new < length changes.old) }
 {
+    make_ready::<K, V, N, O, S>(out, changes, old, place)?;
     let mut pairs = Sieve::new(old.segment(place), gone);
     let mut more = true;
     while more {
@@ -301,6 +349,7 @@ fn put_all<
     ensures list { OnOk result (given (O.named old.now) out.new ≡ given (O.named old.now) out.old ++ apply_delta K.cmp changes.old []) }
     ensures filled { OnOk result (IsFilled S (length changes.old) 0 out.old out.new) }
 {
+    expect::<K, V, N, S>(out, changes.count())?;
     while let Some((changed, to)) = changes.front() {
         put::<K, V, N, O, S>(out, old, changed, to)?;
         changes.step();

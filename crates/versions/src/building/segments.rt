@@ -5,7 +5,7 @@ ghost use Rattle.leaf_array.specs.Pairs.{IsAscending};
 ghost use Rattle.leaf_array.specs.Values.{ClonesAreSame};
 ghost use Rattle.versions.specs.Cuts.{IsCut, IsSeparated, greatest_key, pairs_in};
 ghost use Rattle.versions.specs.Cutting.{IsClosing, IsCutting, IsRow, StaysApart, between, given, spent, trees};
-ghost use Rattle.versions.specs.Parts.{blocks_of_parts, made_in};
+ghost use Rattle.versions.specs.Parts.{IsMade, blocks_of_parts, made_in};
 
 use crate::building::draft::BaseVersion;
 use crate::building::scans::ChangeScan;
@@ -19,8 +19,8 @@ use tree_index::TreeIndex;
 pub enum Part<K: Ord, V, N> {
     /// The older segment of this name, which is taken over.
     Taken(N),
-    /// A segment that was made for it.
-    Made(Segment<K, V>),
+    /// A segment that was made for it: boxed, since there are few, and parts are moved.
+    Made(Box<Segment<K, V>>),
 }
 
 /// The segments of a list, in order, with the greatest key of each but the last.
@@ -70,6 +70,8 @@ pub(crate) struct SegmentBuilder<K: Ord, V, N> {
     pub(crate) held: Option<usize>,
     pub(crate) tail: Segment<K, V>,
     pub(crate) length: usize,
+    // up to how many pairs in all are known to come, so that a tree is begun with room for them
+    pub(crate) until: usize,
 }
 
 /// A builder that was given no pair, with room for all segments that changes of so many keys and ranges can leave.
@@ -96,6 +98,7 @@ pub(crate) fn begun<K: Ord + Drop, V: Drop, N: Drop, O: BaseVersion<K, V, N>, co
         held: None,
         tail: Segment::new(alloc),
         length: 0,
+        until: 0,
     })
 }
 
@@ -107,6 +110,28 @@ fn most_segments(count: usize, named: usize, s: usize) -> usize
     let touched = named.saturating_mul(2);
     let filled = count.saturating_mul(2).saturating_add(touched / (s + 1));
     count.saturating_add(touched).min(filled.saturating_add(2))
+}
+
+/// Tells that about so many pairs come next, so that a tree has room for them from its beginning on.
+pub(crate) fn expect<K: Ord + Drop, V: Drop, N, const S: usize>(
+    out: &mut SegmentBuilder<K, V, N>,
+    pairs: usize,
+) -> Result<(), AllocError>
+    ensures row { OnOk result (out.new.row ≡ out.old.row) }
+    ensures held { OnOk result (out.new.held ≡ out.old.held) }
+    ensures tail { OnOk result (out.new.tail.pairs ≡ out.old.tail.pairs) }
+    ensures length { OnOk result (out.new.length ≡ out.old.length) }
+{
+    out.until = out.length.saturating_add(pairs);
+    if pairs > 0 && out.tail.is_empty() {
+        out.tail = Segment::with_capacity(out.alloc, room_ahead::<K, V, N, S>(out))?;
+    }
+    Ok(())
+}
+
+/// For how many of the pairs that are known to come one tree has room.
+fn room_ahead<K: Ord, V, N, const S: usize>(out: &SegmentBuilder<K, V, N>) -> usize {
+    out.until.saturating_sub(out.length).min(S)
 }
 
 /// Takes a pair whose key is above all that were given. `usize::MAX` pairs are the most: one more is answered as memory.
@@ -136,7 +161,7 @@ pub(crate) fn push<
         out.length = length;
         Ok(())
     } else {
-        let next = single(out.alloc, key, value)?;
+        let next = single(out.alloc, room_ahead::<K, V, N, S>(out), key, value)?;
         close(out, next)?;
         out.length = length;
         Ok(())
@@ -269,6 +294,7 @@ pub(crate) fn finish<
         held: _,
         tail: _,
         length,
+        until: _,
     } = out;
     let Row {
         parts,
@@ -342,7 +368,7 @@ fn close<K: Clone + Ord + Drop, V: Drop, N: Drop>(
     next: Segment<K, V>,
 ) -> Result<(), AllocError>
     requires { ClonesAreSame K.is_clone }
-    ensures parts { OnOk result (out.new.row.parts.items ≡ out.old.row.parts.items ++ Part.Made out.old.tail ∷ []) }
+    ensures parts { OnOk result ((part : Part K V N) × IsMade out.old.tail part × (out.new.row.parts.items ≡ out.old.row.parts.items ++ part ∷ [])) }
     ensures separators { OnOk result (map Some out.new.row.separators.items ≡ map Some out.old.row.separators.items ++ greatest_key out.old.tail.pairs ∷ []) }
     ensures last { OnOk result (out.new.row.last ≡ length out.old.tail.pairs) }
     ensures held { OnOk result (out.new.held ≡ None) }
@@ -354,10 +380,20 @@ fn close<K: Clone + Ord + Drop, V: Drop, N: Drop>(
         None => return Err(AllocError),
     };
     let size = out.tail.len();
-    let tree = mem::replace(&mut out.tail, next);
-    give(&mut out.row, Part::Made(tree), key, size)?;
+    let part = made(out.alloc, mem::replace(&mut out.tail, next))?;
+    give(&mut out.row, part, key, size)?;
     out.held = None;
     Ok(())
+}
+
+/// A part with a tree that was made.
+fn made<K: Ord + Drop, V: Drop, N>(
+    alloc: Global,
+    tree: Segment<K, V>,
+) -> Result<Part<K, V, N>, AllocError>
+    ensures { IfOk result (λ part. IsMade tree part) }
+{
+    Ok(Part::Made(Box::new(alloc, tree)?))
 }
 
 /// Puts clones of a tree's pairs before those of a segment.
@@ -399,16 +435,17 @@ fn append<K: Clone + Ord + Drop, V: Clone + Drop>(
     Ok(())
 }
 
-/// A segment of one pair.
+/// A segment of one pair, with room for so many.
 fn single<K: Clone + Ord + Drop, V: Drop>(
     alloc: Global,
+    room: usize,
     key: K,
     value: V,
 ) -> Result<Segment<K, V>, AllocError>
     requires { ClonesAreSame K.is_clone }
     ensures { IfOk result (λ tree. tree.pairs ≡ (key, value) ∷ []) }
 {
-    let mut tree = Segment::new(alloc);
+    let mut tree = Segment::with_capacity(alloc, room)?;
     match tree.push(key, value) {
         Ok(()) => Ok(tree),
         Err(_) => Err(AllocError),
