@@ -190,28 +190,49 @@ fn joins<K: Ord, V, N, const S: usize>(out: &SegmentBuilder<K, V, N>, size: usiz
     last > 0 && size <= S && last <= S - size
 }
 
-/// Tells how many pairs come of a segment and the changes up to its end.
+/// Tells how many pairs come of the segment at a place and of those behind it, up to one that no change touches.
 fn make_ready<K: Ord + Drop, V: Drop, N, O: BaseVersion<K, V, N>, const S: usize>(
     out: &mut SegmentBuilder<K, V, N>,
     changes: &ChangeScan<'_, K, Edit<'_, V>>,
     old: &O,
     place: usize,
 ) -> Result<(), AllocError>
-    requires separated { IsSeparated (O.blocks old.now) (O.separators old.now) }
-    requires within { place < length (O.blocks old.now) }
+    requires old { IsCut K.cmp S (O.blocks old.now) (O.separators old.now) }
     ensures row { OnOk result (out.new.row ≡ out.old.row) }
     ensures held { OnOk result (out.new.held ≡ out.old.held) }
     ensures tail { OnOk result (out.new.tail.pairs ≡ out.old.tail.pairs) }
     ensures length { OnOk result (out.new.length ≡ out.old.length) }
 {
-    let size = old.segment(place).len();
-    let more = changes_upto::<K, V, N, O, S>(changes, old, place);
-    expect::<K, V, N, S>(out, size.saturating_add(more))
+    expect::<K, V, N, S>(out, pairs_ahead::<K, V, N, O, S>(changes, old, place))
 }
 
-/// How many changes come up to the end of the segment at a place, as far as they fit into one tree.
-fn changes_upto<K: Ord, V, N, O: BaseVersion<K, V, N>, const S: usize>(
+/// How many pairs come of the segment at a place and of those behind it, up to one that no change touches, and no further
+/// than two full trees take.
+fn pairs_ahead<K: Ord, V, N, O: BaseVersion<K, V, N>, const S: usize>(
     changes: &ChangeScan<'_, K, Edit<'_, V>>,
+    old: &O,
+    place: usize,
+) -> usize
+    requires old { IsCut K.cmp S (O.blocks old.now) (O.separators old.now) }
+{
+    let mut ahead = changes.copy();
+    let mut total = 0usize;
+    for at in place..old.count() {
+        if at > place && !reaches::<K, V, N, O, S>(&ahead, old, at) {
+            return total;
+        }
+        let more = pass_upto::<K, V, N, O, S>(&mut ahead, old, at);
+        total = total.saturating_add(old.segment(at).len().saturating_add(more));
+        if total / 2 >= S {
+            return total;
+        }
+    }
+    total
+}
+
+/// Passes the changes up to the end of the segment at a place, and counts them: at most as many as a tree takes.
+fn pass_upto<K: Ord, V, N, O: BaseVersion<K, V, N>, const S: usize>(
+    ahead: &mut ChangeScan<'_, K, Edit<'_, V>>,
     old: &O,
     place: usize,
 ) -> usize
@@ -221,7 +242,6 @@ fn changes_upto<K: Ord, V, N, O: BaseVersion<K, V, N>, const S: usize>(
     let Some(last) = greatest_at::<K, V, N, O>(old, place) else {
         return 0;
     };
-    let mut ahead = changes.copy();
     for count in 0..S {
         match ahead.front() {
             None => return count,
@@ -252,8 +272,8 @@ fn merge_segment<
 ) -> Result<(), AllocError>
     requires keys { ClonesAreSame K.is_clone }
     requires values { ClonesAreSame V.is_clone }
+    requires old { IsCut K.cmp S (O.blocks old.now) (O.separators old.now) }
     requires within { place < length (O.blocks old.now) }
-    requires separated { IsSeparated (O.blocks old.now) (O.separators old.now) }
     requires sorted { IsAscending K.cmp (pairs_in (drop place (O.blocks old.now))) }
     requires whole { IsCutting (O.named old.now) K.cmp S (O.blocks old.now) out.old }
     requires rising { IsAscending K.cmp (given (O.named old.now) out.old ++ ahead K.cmp changes.old gone.now place (O.blocks old.now)) }
