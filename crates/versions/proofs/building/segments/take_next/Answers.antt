@@ -1,9 +1,9 @@
-use Rattle.std.proofs.Common.{◌≡◌, ◌++◌, append-nil, length, refl, sym, ap, ◌∙◌, arith}
+use Rattle.std.proofs.Common.{◌++◌, append-nil, length, refl, sym, ap, ◌∙◌, arith}
 use Rattle.tree_index.proofs.WayLemmas.{some_same}
 use Rattle.versions.specs.Cuts.{pairs_in}
 use Rattle.versions.specs.Cutting.{given}
 use Rattle.versions.specs.Parts.{blocks_of_parts}
-use Rattle.versions.proofs.CuttingLemmas.{cutting_taken, given_taken, trees_taken, open_none}
+use Rattle.versions.proofs.CuttingLemmas.{cutting_taken, given_taken}
 use Rattle.versions.proofs.building.segments.take_next.Goals as goal
 
 pub returns-clause-whole : goal.returns-clause-whole
