@@ -19,8 +19,10 @@ unsafe extern "C" {
 const TASKS: [&str; 10] =
     ["build", "get", "open", "range", "walk", "record", "commit-each", "commit-all", "clear", "cut"];
 
-/// How often a time is measured; the least counts.
-const RUNS: usize = 7;
+/// How often a time is measured; the least counts. Of a million keys, building alone takes most of a second.
+fn runs(keys: usize) -> usize {
+    if keys < 1_000_000 { 7 } else { 3 }
+}
 
 /// Numbers spread over all of 64 bits, each once.
 fn spread(number: u64) -> u64 {
@@ -123,7 +125,7 @@ fn processor() -> f64 {
 
 fn times(task: &str, keys: &[u64], probes: &[u64], rounds: u32, maps: &[String]) {
     let mut least = vec![[f64::MAX; 2]; maps.len()];
-    for _ in 0..RUNS {
+    for _ in 0..runs(keys.len()) {
         for (map, least) in maps.iter().zip(&mut least) {
             for (with, least) in [0, rounds].into_iter().zip(least) {
                 let start = processor();

@@ -4,6 +4,8 @@
 #[cfg(test)]
 mod draft;
 #[cfg(test)]
+mod look_up;
+#[cfg(test)]
 mod placing;
 #[cfg(test)]
 mod single_steps;

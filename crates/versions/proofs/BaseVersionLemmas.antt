@@ -72,7 +72,7 @@ module _ {K V : Type 0} {s : ℕ} (at : ℕ → Option (Item K V s)) where
     blocks_plain (parts.Taken p ∷ ps) sizes =
         let here = among_of slots (loaded_slot p) (All-head (IsSized s) (named_among slots at p) (blocks_of_parts (named_among slots at) ps) sizes).0 in
         ap (λ (b : List (K × V)). b ∷ blocks_of_parts (named_among slots at) ps) here.pairs ∙ ap (λ bs. named_at at p ∷ bs) (blocks_plain ps (All-tail (IsSized s) (named_among slots at p) (blocks_of_parts (named_among slots at) ps) sizes))
-    blocks_plain (parts.Made t ∷ ps) sizes = ap (λ bs. t.pairs ∷ bs) (blocks_plain ps (All-tail (IsSized s) t.pairs (blocks_of_parts (named_among slots at) ps) sizes))
+    blocks_plain (parts.Made t ∷ ps) sizes = ap (λ bs. t.value.pairs ∷ bs) (blocks_plain ps (All-tail (IsSized s) t.value.pairs (blocks_of_parts (named_among slots at) ps) sizes))
 
 pub all_takeable : {K V : Type 0} {s : ℕ} (w : State (Item K V s)) (slots : List ℕ) → All (CanBeShared w) slots → (ps : List (Part K V (Loaded (Item K V s)))) → All (IsSized s) (blocks_of_parts (named_among slots (value_at w)) ps) → All (IsTakeable w) ps
 all_takeable {s} w slots can [] sizes = All-nil (IsTakeable w)
@@ -82,4 +82,4 @@ all_takeable {s} w slots can (parts.Taken p ∷ ps) sizes =
     All-cons (IsTakeable w) (parts.Taken p) ps (here.slot, here.is, all_named (CanBeShared w) slots here.slot can here.among, here.segment) (all_takeable w slots can ps (All-tail (IsSized s) (named_among slots (value_at w) p) rest sizes))
 all_takeable {s} w slots can (parts.Made t ∷ ps) sizes =
     let rest = blocks_of_parts (named_among slots (value_at w)) ps in
-    All-cons (IsTakeable w) (parts.Made t) ps tt (all_takeable w slots can ps (All-tail (IsSized s) t.pairs rest sizes))
+    All-cons (IsTakeable w) (parts.Made t) ps tt (all_takeable w slots can ps (All-tail (IsSized s) t.value.pairs rest sizes))

@@ -11,8 +11,9 @@ use Rattle.std.specs.List.{All}
 use Rattle.leaf_array.specs.Pairs.{IsAscending}
 use Rattle.tree_index.specs.Depth.{IsAbove}
 use Rattle.versions.specs.Cuts.{greatest_key, pairs_in, IsTight}
-use Rattle.versions.specs.Cutting.{IsClosing, IsCutting, IsHeld, IsHeldAt, IsRow, IsSized, StaysApart, given, last_size, one_open, spent, trees}
-use Rattle.versions.specs.Parts.{blocks_of_parts, made_in, makes, part_pairs}
+use Rattle.versions.specs.Cutting.{IsClosing, IsCutting, IsFilled, IsHeld, IsHeldAt, IsRow, IsSized, StaysApart, given, last_size, one_open, spent, trees}
+use Rattle.tree_index.specs.Tree.{Tree}
+use Rattle.versions.specs.Parts.{IsMade, blocks_of_parts, made_in, makes, part_pairs}
 use Rattle.versions.specs.declared.building.segments.Part.{Part}
 use Rattle.versions.specs.declared.building.segments.Part.TheVariants as parts
 use Rattle.versions.specs.declared.building.segments.Row.{Row}
@@ -168,6 +169,16 @@ module _ {K V N : Type 0} {named : N → List (K × V)} {s : ℕ} (c : SegmentBu
   pub made_closed : makes p ≡ 1 → made_in row.parts.items ≡ made_in c.row.parts.items + 1
   made_closed one = let more = made_behind c.row.parts.items p in let is = ap made_in items in omega (arith, more, is, one)
 
+-- a part that was made has the pairs of its tree, and counts as one
+module _ {K V N : Type 0} (named : N → List (K × V)) (tree : Tree K V) where
+  pub made_pairs : (p : Part K V N) → IsMade tree p → part_pairs named p ≡ tree.pairs
+  made_pairs (parts.Taken n) h = absurd h
+  made_pairs (parts.Made b) h = ap (λ (t : Tree K V). t.pairs) h
+
+  pub made_one : (p : Part K V N) → IsMade tree p → makes p ≡ 1
+  made_one (parts.Taken n) h = absurd h
+  made_one (parts.Made b) h = refl
+
 -- a tree that has a pair counts as one
 pub open_one : {X : Type 0} (xs : List X) → 0 < length xs → one_open xs ≡ 1
 open_one [] h = absurd (omega (arith, h))
@@ -296,6 +307,38 @@ module _ {K V N : Type 0} {cmp : K → K → Ordering} {named : N → List (K ×
       let is = ap made_in items in
       let none = ap one_open (ap (λ t. t.pairs) opens ∙ tail) in
       omega (arith, made, more, is, none)
+
+-- ---- another tree with the same pairs is open
+
+module _ {K V N : Type 0} (named : N → List (K × V)) (s : ℕ) (c c' : SegmentBuilder K V N) (row : c'.row ≡ c.row) (tail : c'.tail.pairs ≡ c.tail.pairs) where
+  pub given_same : given named c' ≡ given named c
+  given_same = ap (λ (r : Row K V N). pairs_in (blocks_of_parts named r.parts.items) ++ c'.tail.pairs) row ∙ ap (λ ps. pairs_in (blocks_of_parts named c.row.parts.items) ++ ps) tail
+
+  pub cutting_same : (cmp : K → K → Ordering) (blocks : List (List (K × V))) → IsCutting named cmp s blocks c → c'.held ≡ c.held → c'.length ≡ c.length → IsCutting named cmp s blocks c'
+  cutting_same cmp blocks h held count =
+      let size = ap length tail in
+      let all = ap length given_same in
+      record {
+        least = h.least;
+        most = h.most;
+        row = subst (IsRow named s) (sym row) h.row;
+        room = (let room = h.room in omega (arith, size, room));
+        rising = subst (IsAscending cmp) (sym given_same) h.rising;
+        count = (let was = h.count in omega (arith, count, all, was));
+        held = subst (λ (r : Row K V N). IsHeld named blocks r.parts.items c'.held) (sym row) (subst (IsHeld named blocks c.row.parts.items) (sym held) h.held);
+        fresh = λ none. subst (λ (r : Row K V N). (r.last ≡ 0) ⊎ (r.last ≡ s)) (sym row) (h.fresh (sym held ∙ none));
+      }
+
+  pub filled_same : (left : ℕ) → IsFilled s left left c c'
+  filled_same left =
+      let made = ap (λ (r : Row K V N). made_in r.parts.items) row in
+      let full = ap (λ n. s * n) made in
+      let size = ap length tail in
+      record {
+        spent = omega (arith, full, size);
+        some = λ some. omega (arith, size, some);
+        none = λ none. made;
+      }
 
 -- nothing was given
 pub cutting_none : {K V N : Type 0} (cmp : K → K → Ordering) (named : N → List (K × V)) (s : ℕ) (blocks : List (List (K × V))) (c : SegmentBuilder K V N) → 1 ≤ s → s ≤ 225 → c.row.parts.items ≡ [] → c.row.separators.items ≡ [] → c.row.last ≡ 0 → c.held ≡ None → c.tail.pairs ≡ [] → c.length ≡ 0 → IsCutting named cmp s blocks c

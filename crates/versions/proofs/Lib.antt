@@ -29,3 +29,4 @@ pub mod SharingLemmas
 pub mod PassLemmas
 pub mod PublishLemmas
 pub mod HalvingLemmas
+pub mod StretchLemmas

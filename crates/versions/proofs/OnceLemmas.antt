@@ -1,5 +1,5 @@
 -- No segment stands twice in a list.
-use Rattle.std.proofs.Common.{◌≡◌, ◌≢◌, ℕ, zero, suc, ◌+◌, ◌<◌, ◌≤◌, Option, None, Some, List, [], ◌∷◌, ◌++◌, length, map, refl, sym, ap, ◌∙◌, arith, subst, inl, inr}
+use Rattle.std.proofs.Common.{◌≡◌, ℕ, ◌≤◌, Option, None, Some, List, [], ◌∷◌, ◌++◌, length, map, refl, sym, ap, ◌∙◌, arith, subst, inl, inr}
 use Rattle.std.proofs.lemmas.Bool.Decides.{eqb_tells}
 use Rattle.std.proofs.lemmas.List.Elements.{All-head, All-tail}
 use Rattle.std.proofs.lemmas.List.Sums.{sum_by-cons}
@@ -14,7 +14,7 @@ use Rattle.tree_index.specs.Shape.{AllKeys}
 use Rattle.versions.specs.Cuts.{IsCut, pairs_in}
 use Rattle.versions.specs.Cutting.{IsSized}
 use Rattle.versions.specs.Placing.{slots_in}
-use Rattle.versions.proofs.FilterLemmas.{all_front, all_rear, rising_head, rising_rear, rising_tail}
+use Rattle.versions.proofs.FilterLemmas.{all_front, all_rear, rising_head, rising_rear}
 
 -- the slots that things name
 abbrev pub slots_by : {X : Type 0} → (X → Option ℕ) → List X → List ℕ

@@ -1,5 +1,5 @@
 -- Ranges that are gone from a list.
-use Rattle.std.proofs.Common.{◌≡◌, Bool, true, false, not, cond, ◌||◌, List, [], ◌∷◌, ◌++◌, drop, Option, Some, None, refl, sym, ap, ◌∙◌}
+use Rattle.std.proofs.Common.{◌≡◌, Bool, true, false, not, cond, ◌||◌, List, [], ◌∷◌, ◌++◌, arith, drop, length, Option, Some, None, refl, sym, ap, ◌∙◌}
 use Rattle.std.proofs.lemmas.Cmp.{alike_right}
 use Rattle.std.specs.Prelude.{slice_get}
 use Rattle.std.specs.BTreeMap.Range.{is_from_start, is_past_end, range_contains}
@@ -97,6 +97,11 @@ module _ {K : Type 0} (cmp : K → K → Ordering) where
   pub left_of : {V : Type 0} (gone : List (Gone K)) (ps : List (K × V)) (p : K × V) → Some p ≡ slice_get ps 0 → is_gone cmp gone p.0 ≡ false → IsLeft cmp gone ps
   left_of gone [] p e a = tt
   left_of gone (q ∷ ps) p e a = let same : p ≡ q = cc in ap (λ x. is_gone cmp gone x.0) (sym same) ∙ a
+
+  pub left_empty : {V : Type 0} (gone : List (Gone K)) → length gone ≡ 0 → (ps : List (K × V)) → IsLeft cmp gone ps
+  left_empty [] e [] = tt
+  left_empty [] e (p ∷ ps) = refl
+  left_empty (g ∷ gs) e ps = absurd (omega (arith, e))
 
   pub left_none : {V : Type 0} (gone : List (Gone K)) (ps : List (K × V)) → ◌≡◌ {A = Option (K × V)} None (slice_get ps 0) → IsLeft cmp gone ps
   left_none gone [] e = tt

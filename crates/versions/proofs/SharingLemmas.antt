@@ -1,5 +1,5 @@
 -- owners can't run out: directories and the root hold each item, and each holds it at most once
-use Rattle.std.proofs.Common.{◌≡◌, ◌==◌, ℕ, suc, ◌+◌, ◌<◌, ◌≤◌, true, false, cond, Option, None, Some, List, [], ◌∷◌, length, get_or, map, refl, ap, arith, subst}
+use Rattle.std.proofs.Common.{◌≡◌, ◌==◌, ℕ, suc, ◌+◌, ◌<◌, ◌≤◌, true, false, cond, Option, None, Some, List, [], ◌∷◌, length, get_or, map, refl, ap, arith}
 use Rattle.std.proofs.lemmas.List.Sums.{sum_by-cons}
 use Rattle.std.specs.List.{All, sum_by}
 use Rattle.std.specs.declared.cmp.Ordering.{Ordering}

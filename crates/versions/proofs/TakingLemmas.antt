@@ -1,22 +1,21 @@
 -- Parts of a version are placed, one after the other.
-use Rattle.std.proofs.Common.{◌≡◌, ◌≢◌, ℕ, zero, suc, ◌+◌, ◌<◌, ◌≤◌, Option, None, Some, List, [], ◌∷◌, ◌++◌, length, get_or, map, refl, sym, ap, ◌∙◌, arith, subst, inl, inr, get_or-set_other}
+use Rattle.std.proofs.Common.{◌≡◌, ◌≢◌, ℕ, ◌+◌, ◌≤◌, Option, None, Some, List, [], ◌∷◌, ◌++◌, refl, sym, ap, ◌∙◌, arith, subst, inl, inr, get_or-set_other}
 use Rattle.std.proofs.lemmas.Bool.Decides.{eqb_tells}
-use Rattle.std.proofs.lemmas.List.{map-append}
 use Rattle.std.proofs.lemmas.List.Elements.{All-head, All-tail}
 use Rattle.std.proofs.lemmas.List.Sums.{sum_by-cons}
 use Rattle.std.specs.Cmp.{IsTotalOrder}
 use Rattle.std.specs.declared.cmp.Ordering.{Ordering}
 use Rattle.std.specs.List.{All}
-use Rattle.sdd_base.specs.Frame.{IsLive, Frame, has_owner}
-use Rattle.sdd_base.specs.State.{IsFree, State, placed, status_at, value_at, with_status}
+use Rattle.sdd_base.specs.Frame.{has_owner}
+use Rattle.sdd_base.specs.State.{IsFree, State, status_at, value_at}
 use Rattle.sdd_base.specs.Steps.{hit, times}
 use Rattle.sdd_base.specs.Tokens.{loaded_slot}
 use Rattle.sdd_base.specs.declared.pointer.Loaded.{Loaded}
 use Rattle.sdd_base.specs.declared.status.Status.TheVariants as status
 use Rattle.sdd_base.proofs.ListLemmas.{hit-same, hit-other}
 use Rattle.tree_index.proofs.WayLemmas.{some_same}
-use Rattle.versions.specs.Cuts.{IsCut, pairs_in}
-use Rattle.versions.specs.Parts.{blocks_of_parts, made_in, makes, part_pairs}
+use Rattle.versions.specs.Cuts.{IsCut}
+use Rattle.versions.specs.Parts.{blocks_of_parts, makes, part_pairs}
 use Rattle.versions.specs.Placing.{CanBeShared, HasPlaced, IsTakeable, StandsIn, in_slot, named_at, slots_in, taken_slots}
 use Rattle.versions.specs.Versions.{IsSegment, pairs_of}
 use Rattle.versions.specs.declared.building.segments.Part.{Part}
@@ -63,7 +62,7 @@ module _ {K V : Type 0} {s : ℕ} where
       module _ (w : State (Item K V s)) (i : ℕ) where
         -- one part more is placed
         pub stands_part : (p : Part K V (Loaded (Item K V s))) → IsTakeable u p → HasPlaced p i v w → StandsIn (n + makes p) (xs ++ i ∷ []) (bs ++ part_pairs (named_at (value_at u)) p ∷ []) u w
-        stands_part (parts.Made t) there h = stands_more n u v w xs bs i t st h.0 h.1 h.2 h.3
+        stands_part (parts.Made t) there h = stands_more n u v w xs bs i t.value st h.0 h.1 h.2 h.3
         stands_part (parts.Taken p) there h =
             let same : there.0 ≡ i = some_same (sym there.1 ∙ h.0) in
             let can : CanBeShared u i = subst (CanBeShared u) same there.2 in

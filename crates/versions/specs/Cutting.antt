@@ -1,5 +1,5 @@
 -- A list that is being cut.
-use Rattle.std.specs.Prelude.{◌≡◌, ◌≢◌, ◌⊎◌, Bool, true, false, ℕ, ◌+◌, ◌-◌, ◌*◌, ◌≤◌, ◌<◌, List, [], ◌∷◌, ◌++◌, length, map, slice_get, Option, Some, None}
+use Rattle.std.specs.Prelude.{◌≡◌, ◌≢◌, ◌⊎◌, Bool, true, false, ℕ, ◌+◌, ◌-◌, ◌*◌, ◌≤◌, ◌<◌, List, [], ◌∷◌, ◌++◌, drop, length, map, slice_get, take, Option, Some, None}
 use Rattle.std.specs.declared.cmp.Ordering.{Ordering}
 use Rattle.std.specs.declared.cmp.Ordering.TheVariants.{Less, Greater}
 use Rattle.std.specs.List.{All}
@@ -11,6 +11,10 @@ use Rattle.versions.specs.declared.building.segments.Part.{Part}
 use Rattle.versions.specs.declared.building.segments.Part.TheVariants as parts
 use Rattle.versions.specs.declared.building.segments.Row.{Row}
 use Rattle.versions.specs.declared.building.segments.SegmentBuilder.{SegmentBuilder}
+
+-- what lies from one place of a list up to another
+abbrev pub between : {X : Type 0} → ℕ → ℕ → List X → List X
+between from upto xs = take (upto - from) (drop from xs)
 
 -- a block of 1 to s pairs
 abbrev pub IsSized : {X : Type 0} → ℕ → List X → Type 0

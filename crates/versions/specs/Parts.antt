@@ -1,5 +1,6 @@
 -- parts of a version that is being built
-use Rattle.std.specs.Prelude.{ℕ, List, map, sum_by}
+use Rattle.std.specs.Prelude.{◌≡◌, ℕ, List, map, sum_by}
+use Rattle.tree_index.specs.Tree.{Tree}
 use Rattle.versions.specs.declared.building.segments.Part.{Part}
 use Rattle.versions.specs.declared.building.segments.Part.TheVariants as parts
 
@@ -7,7 +8,7 @@ module _ {K V N : Type 0} where
   -- the pairs of a part, where older segments have these pairs by their names
   abbrev pub part_pairs : (N → List (K × V)) → Part K V N → List (K × V)
   part_pairs named (parts.Taken name) = named name
-  part_pairs named (parts.Made tree) = tree.pairs
+  part_pairs named (parts.Made tree) = tree.value.pairs
 
   abbrev pub blocks_of_parts : (N → List (K × V)) → List (Part K V N) → List (List (K × V))
   blocks_of_parts named ps = map (part_pairs named) ps
@@ -16,6 +17,11 @@ module _ {K V N : Type 0} where
   abbrev pub makes : Part K V N → ℕ
   makes (parts.Taken name) = 0
   makes (parts.Made tree) = 1
+
+  -- the part has this tree, which was made
+  abbrev pub IsMade : Tree K V → Part K V N → Type 0
+  IsMade tree (parts.Taken name) = ⊥
+  IsMade tree (parts.Made made) = made.value ≡ tree
 
   -- how many trees were made
   abbrev pub made_in : List (Part K V N) → ℕ

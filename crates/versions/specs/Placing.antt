@@ -118,7 +118,7 @@ module _ {K V : Type 0} {s : ℕ} where
   -- a part of a version is placed in a slot: a new segment, or one that was there and has one more owner
   abbrev pub HasPlaced : Part K V (Loaded (Item K V s)) → ℕ → State (Item K V s) → State (Item K V s) → Type 0
   HasPlaced (parts.Taken p) i w w' = (loaded_slot p ≡ Some i) × (n : ℕ) × (status_at w i ≡ status.Shared n) × (w' ≡ with_status i (status.Shared (n + 1)) w) × Frame w w'
-  HasPlaced (parts.Made t) i w w' = IsPlace w × IsFree w i × (w' ≡ placed i (items.Segment t) (status.Shared 1) w) × Frame w w'
+  HasPlaced (parts.Made t) i w w' = IsPlace w × IsFree w i × (w' ≡ placed i (items.Segment t.value) (status.Shared 1) w) × Frame w w'
 
   -- segments with these pairs stand in these slots, n of which are new, and their owners are in hand
   pub record StandsIn (n : ℕ) (slots : List ℕ) (blocks : List (List (K × V))) (w w' : State (Item K V s)) : Type 0 where

@@ -39,6 +39,18 @@ impl<K: Ord, V> Segment<K, V> {
         }
     }
 
+    /// A segment without pairs, with room for so many. Where memory is refused there is none.
+    pub(crate) fn with_capacity(alloc: Global, pairs: usize) -> Result<Self, AllocError>
+    where
+        K: Drop,
+        V: Drop,
+        ensures { IfOk result (λ segment. segment.pairs ≡ []) }
+    {
+        Ok(Segment {
+            tree: TreeIndex::with_capacity(alloc, pairs)?,
+        })
+    }
+
     /// A segment with clones of a tree's pairs, by one pass over them. Where memory is refused there is none.
     pub(crate) fn copied(alloc: Global, tree: &TreeIndex<K, V>) -> Result<Self, AllocError>
     where

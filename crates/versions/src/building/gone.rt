@@ -1,6 +1,6 @@
 //! Ranges of an older list that are gone, and the segments that they reach.
 
-ghost use Rattle.std.specs.Prelude.{◌≡◌, ◌<◌, ◌↔◌, ℕ, List, Some, IfOk, IsTrue, false, true, length, slice_get};
+ghost use Rattle.std.specs.Prelude.{◌≡◌, ◌≤◌, ◌<◌, ◌↔◌, ℕ, List, Some, IfOk, IsTrue, false, true, length, slice_get};
 ghost use Rattle.std.specs.List.{All};
 ghost use Rattle.leaf_array.specs.Values.{ClonesAreSame};
 ghost use Rattle.tree_index.specs.Shape.{AllKeys};
@@ -130,6 +130,23 @@ fn nears<K: Ord, V, N, O: BaseVersion<K, V, N>>(gone: &[Gone<K>], old: &O, place
     false
 }
 
+/// Up to which place the segments from one on lie apart from all ranges that are gone.
+pub(crate) fn apart_upto<K: Ord, V, N, O: BaseVersion<K, V, N>>(
+    gone: &[Gone<K>],
+    old: &O,
+    from: usize,
+) -> usize
+    requires { All (IsSpan K.cmp (O.blocks old.now)) gone.now }
+    ensures within { result ≤ length (O.blocks old.now) }
+    ensures apart { (i : ℕ) (b : List (K × V)) → from ≤ i → i < result → slice_get (O.blocks old.now) i ≡ Some b → AllKeys (λ k. is_gone K.cmp gone.now k ≡ false) b }
+{
+    let mut end = old.count();
+    for range in gone {
+        end = nears_at(range, from, end);
+    }
+    end
+}
+
 /// Whether a pair of a tree lies in a range that is gone.
 fn has_gone<K: Ord, V>(gone: &[Gone<K>], tree: &TreeIndex<K, V>) -> bool
     ensures some { IsTrue result → AllKeys (λ k. is_gone K.cmp gone.now k ≡ false) tree.now.pairs → ⊥ }
@@ -158,6 +175,23 @@ fn is_near<K>(range: &Gone<K>, place: usize) -> bool
         None => true,
     };
     from && upto
+}
+
+/// The first place from one on, and before an end, that is that of an end of a range or lies between both; the end, where
+/// there is none.
+fn nears_at<K>(range: &Gone<K>, from: usize, end: usize) -> usize
+    ensures upto { result ≤ end }
+    ensures apart { (i : ℕ) → from ≤ i → i < result → IsNear range.now i → ⊥ }
+{
+    if let Some(upto) = range.upto {
+        if upto < from {
+            return end;
+        }
+    }
+    match range.from {
+        Some(near) => { if near < end { near } else { end } },
+        None => 0,
+    }
 }
 
 /// Whether the segment at a place lies between those of the ends of a range.

@@ -6,16 +6,20 @@ ghost use Rattle.leaf_array.specs.Values.{ClonesAreSame};
 ghost use Rattle.std.specs.List.{All};
 ghost use Rattle.tree_index.specs.Shape.{AllKeys};
 ghost use Rattle.versions.specs.Changes.{ahead, apply_delta, changed, named_by, pair_left};
-ghost use Rattle.versions.specs.Cuts.{IsCut, pairs_in};
+ghost use Rattle.versions.specs.Cuts.{IsCut, IsSeparated, pairs_in};
 ghost use Rattle.versions.specs.Cutting.{IsCutting, IsFilled, IsPassedBy, IsReachedBy, IsThrifty, Joins, given};
 ghost use Rattle.versions.specs.Gone.{IsSpan, is_gone, without};
 ghost use Rattle.versions.specs.Parts.{blocks_of_parts, made_in};
+ghost use Rattle.versions.specs.SeparatorSearch.{IsOrdered};
 
 use crate::building::changes::{Changes, Edit};
 use crate::building::draft::BaseVersion;
-use crate::building::gone::{Gone, covers, thins};
+use crate::building::gone::{Gone, apart_upto, covers, thins};
 use crate::building::scans::{ChangeScan, Sieve};
-use crate::building::segments::{SegmentBuilder, Segments, begun, finish, greatest_at, push, take};
+use crate::building::segments::{
+    SegmentBuilder, Segments, begun, expect, finish, greatest_at, push, take_stretch,
+};
+use crate::read::view::place_of;
 use std::alloc::{AllocError, Global};
 use std::cmp::Ordering;
 
@@ -41,23 +45,25 @@ pub(crate) fn merged<
     let named = changes.edits.len().saturating_add(changes.gone.len());
     let mut out = begun::<K, V, N, O, S>(alloc, old, named)?;
     let mut left = ChangeScan::new(&changes.edits);
-    for place in 0..old.count() {
-        pass::<K, V, N, O, S>(&mut out, &mut left, &changes.gone, old, place)?;
+    let count = old.count();
+    let mut place = 0;
+    while place < count {
+        place = pass::<K, V, N, O, S>(&mut out, &mut left, &changes.gone, old, place)?;
     }
     put_all::<K, V, N, O, S>(&mut out, &mut left, old)?;
     let segments = finish::<K, V, N, O, S>(out, old)?;
     Ok(segments)
 }
 
-/// Takes the segment at a place over, or merges what is left of it with the changes that touch it. One that a range has
-/// all pairs of is passed by.
+/// Merges what is left of the segment at a place with the changes that touch it, or takes it over with those behind it that
+/// nothing touches. One that a range has all pairs of is passed by. Answers the place of the next segment.
 fn pass<K: Clone + Ord + Drop, V: Clone + Drop, N: Drop, O: BaseVersion<K, V, N>, const S: usize>(
     out: &mut SegmentBuilder<K, V, N>,
     changes: &mut ChangeScan<'_, K, Edit<'_, V>>,
     gone: &[Gone<K>],
     old: &O,
     place: usize,
-) -> Result<(), AllocError>
+) -> Result<usize, AllocError>
     requires keys { ClonesAreSame K.is_clone }
     requires values { ClonesAreSame V.is_clone }
     requires old { IsCut K.cmp S (O.blocks old.now) (O.separators old.now) }
@@ -65,23 +71,69 @@ fn pass<K: Clone + Ord + Drop, V: Clone + Drop, N: Drop, O: BaseVersion<K, V, N>
     requires within { place < length (O.blocks old.now) }
     requires whole { IsCutting (O.named old.now) K.cmp S (O.blocks old.now) out.old }
     requires rising { IsAscending K.cmp (given (O.named old.now) out.old ++ ahead K.cmp changes.old gone.now place (O.blocks old.now)) }
+    ensures behind { IfOk result (λ next. place < next) }
     ensures whole { OnOk result (IsCutting (O.named old.now) K.cmp S (O.blocks old.now) out.new) }
-    ensures list { OnOk result (given (O.named old.now) out.new ++ ahead K.cmp changes.new gone.now (place + 1) (O.blocks old.now) ≡ given (O.named old.now) out.old ++ ahead K.cmp changes.old gone.now place (O.blocks old.now)) }
-    ensures thrifty { OnOk result ((budget : ℕ) (last : Bool) → IsThrifty S budget (is_gone K.cmp gone.now) last (drop place (O.blocks old.now)) (length changes.old) out.old → (next : Bool) × IsThrifty S budget (is_gone K.cmp gone.now) next (drop (place + 1) (O.blocks old.now)) (length changes.new) out.new) }
+    ensures list { IfOk result (λ next. given (O.named old.now) out.new ++ ahead K.cmp changes.new gone.now next (O.blocks old.now) ≡ given (O.named old.now) out.old ++ ahead K.cmp changes.old gone.now place (O.blocks old.now)) }
+    ensures thrifty { IfOk result (λ next. (budget : ℕ) (last : Bool) → IsThrifty S budget (is_gone K.cmp gone.now) last (drop place (O.blocks old.now)) (length changes.old) out.old → (last' : Bool) × IsThrifty S budget (is_gone K.cmp gone.now) last' (drop next (O.blocks old.now)) (length changes.new) out.new) }
 {
+    // how many there are tells the proof that a place behind this one can be named
+    let _count = old.count();
+    let next = place + 1;
     if covers::<K, V, N, O>(gone, old, place) {
-        return Ok(());
+        return Ok(next);
     }
     if touches::<K, V, N, O, S>(changes, gone, old, place) {
         merge_segment::<K, V, N, O, S>(out, changes, gone, old, place)?;
-        return Ok(());
+        return Ok(next);
     }
     if joins::<K, V, N, S>(out, old.segment(place).len()) {
         merge_segment::<K, V, N, O, S>(out, changes, gone, old, place)?;
-        return Ok(());
+        return Ok(next);
     }
-    take::<K, V, N, O, S>(out, old, place)?;
-    Ok(())
+    let end = stretch_end::<K, V, N, O>(changes, gone, old, next);
+    take_stretch::<K, V, N, O, S>(out, old, place, end)?;
+    Ok(end)
+}
+
+/// Where the stretch from a place on ends: before the first segment there that the next change touches, or that lies near a
+/// range that is gone. The separators are halved, and no tree is read.
+fn stretch_end<K: Ord, V, N, O: BaseVersion<K, V, N>>(
+    changes: &ChangeScan<'_, K, Edit<'_, V>>,
+    gone: &[Gone<K>],
+    old: &O,
+    from: usize,
+) -> usize
+    requires ordered { IsOrdered K.cmp (O.blocks old.now) (O.separators old.now) }
+    requires spans { All (IsSpan K.cmp (O.blocks old.now)) gone.now }
+    requires within { from ≤ length (O.blocks old.now) }
+    ensures from { from ≤ result }
+    ensures within { result ≤ length (O.blocks old.now) }
+    ensures passed { (i : ℕ) (b : List (K × V)) → from ≤ i → i < result → Some b ≡ slice_get (O.blocks old.now) i → IsPassedBy K.cmp changes.now b × AllKeys (λ k. is_gone K.cmp gone.now k ≡ false) b }
+{
+    let apart = apart_upto::<K, V, N, O>(gone, old, from);
+    if apart <= from {
+        return from;
+    }
+    let reached = reached_at::<K, V, N, O>(changes, old);
+    if reached <= from {
+        return from;
+    }
+    if reached < apart { reached } else { apart }
+}
+
+/// The segment that the next change lies in or beside: those before it have lesser keys. Where there is no change, the place
+/// behind all.
+fn reached_at<K: Ord, V, N, O: BaseVersion<K, V, N>>(
+    changes: &ChangeScan<'_, K, Edit<'_, V>>,
+    old: &O,
+) -> usize
+    requires { IsOrdered K.cmp (O.blocks old.now) (O.separators old.now) }
+    ensures { (i : ℕ) (b : List (K × V)) → i < result → slice_get (O.blocks old.now) i ≡ Some b → IsPassedBy K.cmp changes.now b }
+{
+    match changes.front() {
+        None => old.count(),
+        Some((key, _)) => place_of(old.separators(), key),
+    }
 }
 
 /// Whether the next change touches the segment at a place, or a range that is gone has a pair of it.
@@ -138,6 +190,72 @@ fn joins<K: Ord, V, N, const S: usize>(out: &SegmentBuilder<K, V, N>, size: usiz
     last > 0 && size <= S && last <= S - size
 }
 
+/// Tells how many pairs come of the segment at a place and of those behind it, up to one that no change touches.
+fn make_ready<K: Ord + Drop, V: Drop, N, O: BaseVersion<K, V, N>, const S: usize>(
+    out: &mut SegmentBuilder<K, V, N>,
+    changes: &ChangeScan<'_, K, Edit<'_, V>>,
+    old: &O,
+    place: usize,
+) -> Result<(), AllocError>
+    requires old { IsCut K.cmp S (O.blocks old.now) (O.separators old.now) }
+    ensures row { OnOk result (out.new.row ≡ out.old.row) }
+    ensures held { OnOk result (out.new.held ≡ out.old.held) }
+    ensures tail { OnOk result (out.new.tail.pairs ≡ out.old.tail.pairs) }
+    ensures length { OnOk result (out.new.length ≡ out.old.length) }
+{
+    expect::<K, V, N, S>(out, pairs_ahead::<K, V, N, O, S>(changes, old, place))
+}
+
+/// How many pairs come of the segment at a place and of those behind it, up to one that no change touches, and no further
+/// than two full trees take.
+fn pairs_ahead<K: Ord, V, N, O: BaseVersion<K, V, N>, const S: usize>(
+    changes: &ChangeScan<'_, K, Edit<'_, V>>,
+    old: &O,
+    place: usize,
+) -> usize
+    requires old { IsCut K.cmp S (O.blocks old.now) (O.separators old.now) }
+{
+    let mut ahead = changes.copy();
+    let mut total = 0usize;
+    for at in place..old.count() {
+        if at > place && !reaches::<K, V, N, O, S>(&ahead, old, at) {
+            return total;
+        }
+        let more = pass_upto::<K, V, N, O, S>(&mut ahead, old, at);
+        total = total.saturating_add(old.segment(at).len().saturating_add(more));
+        if total / 2 >= S {
+            return total;
+        }
+    }
+    total
+}
+
+/// Passes the changes up to the end of the segment at a place, and counts them: at most as many as a tree takes.
+fn pass_upto<K: Ord, V, N, O: BaseVersion<K, V, N>, const S: usize>(
+    ahead: &mut ChangeScan<'_, K, Edit<'_, V>>,
+    old: &O,
+    place: usize,
+) -> usize
+    requires separated { IsSeparated (O.blocks old.now) (O.separators old.now) }
+    requires within { place < length (O.blocks old.now) }
+{
+    let Some(last) = greatest_at::<K, V, N, O>(old, place) else {
+        return 0;
+    };
+    for count in 0..S {
+        match ahead.front() {
+            None => return count,
+            Some((key, _)) => {
+                if key.cmp(last) == Ordering::Greater {
+                    return count;
+                }
+            },
+        }
+        ahead.step();
+    }
+    S
+}
+
 /// Merges what is left of a segment with the changes up to its end.
 fn merge_segment<
     K: Clone + Ord + Drop,
@@ -154,6 +272,7 @@ fn merge_segment<
 ) -> Result<(), AllocError>
     requires keys { ClonesAreSame K.is_clone }
     requires values { ClonesAreSame V.is_clone }
+    requires old { IsCut K.cmp S (O.blocks old.now) (O.separators old.now) }
     requires within { place < length (O.blocks old.now) }
     requires sorted { IsAscending K.cmp (pairs_in (drop place (O.blocks old.now))) }
     requires whole { IsCutting (O.named old.now) K.cmp S (O.blocks old.now) out.old }
@@ -164,6 +283,7 @@ fn merge_segment<
     ensures fewer { OnOk result (length changes.new ≤ length changes.old) }
     ensures reached { OnOk result ((b : List (K × V)) → Some b ≡ slice_get (O.blocks old.now) place → IsReachedBy K.cmp changes.old (without K.cmp gone.now b) → length changes.new < length changes.old) }
 {
+    make_ready::<K, V, N, O, S>(out, changes, old, place)?;
     let mut pairs = Sieve::new(old.segment(place), gone);
     let mut more = true;
     while more {
@@ -249,6 +369,7 @@ fn put_all<
     ensures list { OnOk result (given (O.named old.now) out.new ≡ given (O.named old.now) out.old ++ apply_delta K.cmp changes.old []) }
     ensures filled { OnOk result (IsFilled S (length changes.old) 0 out.old out.new) }
 {
+    expect::<K, V, N, S>(out, changes.count())?;
     while let Some((changed, to)) = changes.front() {
         put::<K, V, N, O, S>(out, old, changed, to)?;
         changes.step();

@@ -91,7 +91,7 @@ fn place_part<K: Ord + Drop, V: Drop, const S: usize>(
 {
     w.laws();
     match part {
-        Part::Made(tree) => place_segment(w, tree),
+        Part::Made(tree) => place_segment(w, Box::into_inner(tree)),
         Part::Taken(at) => take_over(w, at),
     }
 }

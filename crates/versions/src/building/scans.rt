@@ -36,6 +36,27 @@ impl<'t, K: Ord, V> ChangeScan<'t, K, V> {
         ChangeScan { cursor }
     }
 
+    /// The same pairs.
+    pub(crate) fn copy(&self) -> Self
+        ensures { result ≡ self.now }
+    {
+        ChangeScan {
+            cursor: self.cursor.clone(),
+        }
+    }
+
+    /// How many pairs are left: each is passed on the way.
+    pub(crate) fn count(&self) -> usize {
+        let mut ahead = self.copy();
+        let mut count = 0usize;
+        while let Some((key, _)) = ahead.front() {
+            let _ = key;
+            ahead.step();
+            count = count.saturating_add(1);
+        }
+        count
+    }
+
     /// The first pair that is left.
     #[inline(always)]
     pub(crate) fn front(&self) -> Option<(&'t K, &'t V)>
@@ -106,6 +127,9 @@ fn pass_gone<K: Ord, V>(pairs: &mut ChangeScan<'_, K, V>, gone: &[Gone<K>])
     ensures same { without K.cmp gone.now pairs.new ≡ without K.cmp gone.now pairs.old }
     ensures left { IsLeft K.cmp gone.now pairs.new }
 {
+    if gone.is_empty() {
+        return;
+    }
     while let Some((key, _)) = pairs.front() {
         if !is_gone(gone, key) {
             return;

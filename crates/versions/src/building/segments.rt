@@ -1,11 +1,11 @@
 //! Lists of pairs cut into segments, some of which are taken over from an older version.
 
-ghost use Rattle.std.specs.Prelude.{◌≡◌, ◌≤◌, ◌<◌, ◌+◌, ◌++◌, ◌∷◌, [], Some, None, List, length, map, option_copied, slice_get, IfOk, OnOk};
+ghost use Rattle.std.specs.Prelude.{◌≡◌, ◌≤◌, ◌<◌, ◌+◌, ◌-◌, ◌++◌, ◌∷◌, [], Some, None, List, length, map, option_copied, slice_get, IfOk, OnOk};
 ghost use Rattle.leaf_array.specs.Pairs.{IsAscending};
 ghost use Rattle.leaf_array.specs.Values.{ClonesAreSame};
 ghost use Rattle.versions.specs.Cuts.{IsCut, IsSeparated, greatest_key, pairs_in};
-ghost use Rattle.versions.specs.Cutting.{IsClosing, IsCutting, IsRow, StaysApart, given, spent, trees};
-ghost use Rattle.versions.specs.Parts.{blocks_of_parts, made_in};
+ghost use Rattle.versions.specs.Cutting.{IsClosing, IsCutting, IsRow, StaysApart, between, given, spent, trees};
+ghost use Rattle.versions.specs.Parts.{IsMade, blocks_of_parts, made_in};
 
 use crate::building::draft::BaseVersion;
 use crate::building::scans::ChangeScan;
@@ -19,8 +19,8 @@ use tree_index::TreeIndex;
 pub enum Part<K: Ord, V, N> {
     /// The older segment of this name, which is taken over.
     Taken(N),
-    /// A segment that was made for it.
-    Made(Segment<K, V>),
+    /// A segment that was made for it: boxed, since there are few, and parts are moved.
+    Made(Box<Segment<K, V>>),
 }
 
 /// The segments of a list, in order, with the greatest key of each but the last.
@@ -70,6 +70,8 @@ pub(crate) struct SegmentBuilder<K: Ord, V, N> {
     pub(crate) held: Option<usize>,
     pub(crate) tail: Segment<K, V>,
     pub(crate) length: usize,
+    // up to how many pairs in all are known to come, so that a tree is begun with room for them
+    pub(crate) until: usize,
 }
 
 /// A builder that was given no pair, with room for all segments that changes of so many keys and ranges can leave.
@@ -96,6 +98,7 @@ pub(crate) fn begun<K: Ord + Drop, V: Drop, N: Drop, O: BaseVersion<K, V, N>, co
         held: None,
         tail: Segment::new(alloc),
         length: 0,
+        until: 0,
     })
 }
 
@@ -107,6 +110,28 @@ fn most_segments(count: usize, named: usize, s: usize) -> usize
     let touched = named.saturating_mul(2);
     let filled = count.saturating_mul(2).saturating_add(touched / (s + 1));
     count.saturating_add(touched).min(filled.saturating_add(2))
+}
+
+/// Tells that about so many pairs come next, so that a tree has room for them from its beginning on.
+pub(crate) fn expect<K: Ord + Drop, V: Drop, N, const S: usize>(
+    out: &mut SegmentBuilder<K, V, N>,
+    pairs: usize,
+) -> Result<(), AllocError>
+    ensures row { OnOk result (out.new.row ≡ out.old.row) }
+    ensures held { OnOk result (out.new.held ≡ out.old.held) }
+    ensures tail { OnOk result (out.new.tail.pairs ≡ out.old.tail.pairs) }
+    ensures length { OnOk result (out.new.length ≡ out.old.length) }
+{
+    out.until = out.length.saturating_add(pairs);
+    if pairs > 0 && out.tail.is_empty() {
+        out.tail = Segment::with_capacity(out.alloc, room_ahead::<K, V, N, S>(out))?;
+    }
+    Ok(())
+}
+
+/// For how many of the pairs that are known to come one tree has room.
+fn room_ahead<K: Ord, V, N, const S: usize>(out: &SegmentBuilder<K, V, N>) -> usize {
+    out.until.saturating_sub(out.length).min(S)
 }
 
 /// Takes a pair whose key is above all that were given. `usize::MAX` pairs are the most: one more is answered as memory.
@@ -136,7 +161,7 @@ pub(crate) fn push<
         out.length = length;
         Ok(())
     } else {
-        let next = single(out.alloc, key, value)?;
+        let next = single(out.alloc, room_ahead::<K, V, N, S>(out), key, value)?;
         close(out, next)?;
         out.length = length;
         Ok(())
@@ -144,13 +169,11 @@ pub(crate) fn push<
 }
 
 /// Takes a segment of the older version over, whose keys are above all that were given.
-pub(crate) fn take<
-    K: Clone + Ord + Drop,
-    V: Clone + Drop,
-    N: Drop,
-    O: BaseVersion<K, V, N>,
-    const S: usize,
->(out: &mut SegmentBuilder<K, V, N>, old: &O, place: usize) -> Result<(), AllocError>
+fn take<K: Clone + Ord + Drop, V: Clone + Drop, N: Drop, O: BaseVersion<K, V, N>, const S: usize>(
+    out: &mut SegmentBuilder<K, V, N>,
+    old: &O,
+    place: usize,
+) -> Result<(), AllocError>
     requires keys { ClonesAreSame K.is_clone }
     requires values { ClonesAreSame V.is_clone }
     requires separated { IsSeparated (O.blocks old.now) (O.separators old.now) }
@@ -160,13 +183,66 @@ pub(crate) fn take<
     ensures pairs { OnOk result ((b : List (K × V)) → slice_get (O.blocks old.now) place ≡ Some b → given (O.named old.now) out.new ≡ given (O.named old.now) out.old ++ b) }
     ensures trees { OnOk result (trees out.new ≡ trees out.old) }
     ensures last { OnOk result ((b : List (K × V)) → slice_get (O.blocks old.now) place ≡ Some b → out.new.row.last ≡ length b) }
+    ensures tail { OnOk result (out.new.tail.pairs ≡ []) }
 {
     seal::<K, V, N, O, S>(out, old)?;
     take_over::<K, V, N, O, S>(out, old, place)?;
     Ok(())
 }
 
+/// Takes the segments of the older version from one place up to another over, whose keys are above all that were given. No
+/// key is compared.
+pub(crate) fn take_stretch<
+    K: Clone + Ord + Drop,
+    V: Clone + Drop,
+    N: Drop,
+    O: BaseVersion<K, V, N>,
+    const S: usize,
+>(out: &mut SegmentBuilder<K, V, N>, old: &O, from: usize, upto: usize) -> Result<(), AllocError>
+    requires keys { ClonesAreSame K.is_clone }
+    requires values { ClonesAreSame V.is_clone }
+    requires old { IsCut K.cmp S (O.blocks old.now) (O.separators old.now) }
+    requires whole { IsCutting (O.named old.now) K.cmp S (O.blocks old.now) out.old }
+    requires apart { StaysApart (O.named old.now) K.cmp S (O.blocks old.now) from out.old }
+    requires some { from < upto }
+    requires within { upto ≤ length (O.blocks old.now) }
+    requires rising { IsAscending K.cmp (given (O.named old.now) out.old ++ pairs_in (between from upto (O.blocks old.now))) }
+    ensures whole { OnOk result (IsCutting (O.named old.now) K.cmp S (O.blocks old.now) out.new) }
+    ensures pairs { OnOk result (given (O.named old.now) out.new ≡ given (O.named old.now) out.old ++ pairs_in (between from upto (O.blocks old.now))) }
+    ensures trees { OnOk result (trees out.new ≡ trees out.old) }
+    ensures last { OnOk result ((b : List (K × V)) → Some b ≡ slice_get (O.blocks old.now) (upto - 1) → out.new.row.last ≡ length b) }
+{
+    take::<K, V, N, O, S>(out, old, from)?;
+    for place in from + 1..upto {
+        take_next::<K, V, N, O, S>(out, old, place)?;
+    }
+    Ok(())
+}
+
+/// Takes a segment of the older version over where no tree is open.
+#[inline(always)]
+fn take_next<K: Clone + Ord + Drop, V: Drop, N: Drop, O: BaseVersion<K, V, N>, const S: usize>(
+    out: &mut SegmentBuilder<K, V, N>,
+    old: &O,
+    place: usize,
+) -> Result<(), AllocError>
+    requires keys { ClonesAreSame K.is_clone }
+    requires separated { IsSeparated (O.blocks old.now) (O.separators old.now) }
+    requires whole { IsCutting (O.named old.now) K.cmp S (O.blocks old.now) out.old }
+    requires apart { StaysApart (O.named old.now) K.cmp S (O.blocks old.now) place out.old }
+    requires none { out.old.tail.pairs ≡ [] }
+    ensures whole { OnOk result (IsCutting (O.named old.now) K.cmp S (O.blocks old.now) out.new) }
+    ensures pairs { OnOk result ((b : List (K × V)) → slice_get (O.blocks old.now) place ≡ Some b → given (O.named old.now) out.new ≡ given (O.named old.now) out.old ++ b) }
+    ensures trees { OnOk result (trees out.new ≡ trees out.old) }
+    ensures last { OnOk result ((b : List (K × V)) → slice_get (O.blocks old.now) place ≡ Some b → out.new.row.last ≡ length b) }
+    ensures tail { OnOk result (out.new.tail.pairs ≡ []) }
+{
+    take_over::<K, V, N, O, S>(out, old, place)?;
+    Ok(())
+}
+
 /// Puts a segment of the older version behind those that are done.
+#[inline(always)]
 fn take_over<K: Clone + Ord + Drop, V: Drop, N: Drop, O: BaseVersion<K, V, N>, const S: usize>(
     out: &mut SegmentBuilder<K, V, N>,
     old: &O,
@@ -218,6 +294,7 @@ pub(crate) fn finish<
         held: _,
         tail: _,
         length,
+        until: _,
     } = out;
     let Row {
         parts,
@@ -291,7 +368,7 @@ fn close<K: Clone + Ord + Drop, V: Drop, N: Drop>(
     next: Segment<K, V>,
 ) -> Result<(), AllocError>
     requires { ClonesAreSame K.is_clone }
-    ensures parts { OnOk result (out.new.row.parts.items ≡ out.old.row.parts.items ++ Part.Made out.old.tail ∷ []) }
+    ensures parts { OnOk result ((part : Part K V N) × IsMade out.old.tail part × (out.new.row.parts.items ≡ out.old.row.parts.items ++ part ∷ [])) }
     ensures separators { OnOk result (map Some out.new.row.separators.items ≡ map Some out.old.row.separators.items ++ greatest_key out.old.tail.pairs ∷ []) }
     ensures last { OnOk result (out.new.row.last ≡ length out.old.tail.pairs) }
     ensures held { OnOk result (out.new.held ≡ None) }
@@ -303,10 +380,20 @@ fn close<K: Clone + Ord + Drop, V: Drop, N: Drop>(
         None => return Err(AllocError),
     };
     let size = out.tail.len();
-    let tree = mem::replace(&mut out.tail, next);
-    give(&mut out.row, Part::Made(tree), key, size)?;
+    let part = made(out.alloc, mem::replace(&mut out.tail, next))?;
+    give(&mut out.row, part, key, size)?;
     out.held = None;
     Ok(())
+}
+
+/// A part with a tree that was made.
+fn made<K: Ord + Drop, V: Drop, N>(
+    alloc: Global,
+    tree: Segment<K, V>,
+) -> Result<Part<K, V, N>, AllocError>
+    ensures { IfOk result (λ part. IsMade tree part) }
+{
+    Ok(Part::Made(Box::new(alloc, tree)?))
 }
 
 /// Puts clones of a tree's pairs before those of a segment.
@@ -348,16 +435,17 @@ fn append<K: Clone + Ord + Drop, V: Clone + Drop>(
     Ok(())
 }
 
-/// A segment of one pair.
+/// A segment of one pair, with room for so many.
 fn single<K: Clone + Ord + Drop, V: Drop>(
     alloc: Global,
+    room: usize,
     key: K,
     value: V,
 ) -> Result<Segment<K, V>, AllocError>
     requires { ClonesAreSame K.is_clone }
     ensures { IfOk result (λ tree. tree.pairs ≡ (key, value) ∷ []) }
 {
-    let mut tree = Segment::new(alloc);
+    let mut tree = Segment::with_capacity(alloc, room)?;
     match tree.push(key, value) {
         Ok(()) => Ok(tree),
         Err(_) => Err(AllocError),

@@ -1,4 +1,4 @@
-use Rattle.std.proofs.Common.{◌≡◌, ◌*◌, ◌+◌, ◌++◌, Bool, false, not, drop, length, sym, ap, ◌∙◌, subst, arith}
+use Rattle.std.proofs.Common.{◌≡◌, ◌*◌, ◌++◌, Bool, false, not, drop, length, sym, ap, ◌∙◌, subst, arith}
 use Rattle.std.proofs.lemmas.Bool.{false≢true}
 use Rattle.leaf_array.specs.Pairs.{IsAscending}
 use Rattle.versions.specs.Changes.{ahead, apply_delta, named_by}
@@ -31,7 +31,6 @@ loop-place-init g c =
           behind = λ e z. absurd (false≢true e);
         },
       );
-      ends = c.count-place-end.ensures;
     }
 
 pub pass-requires-clause-rising : goal.pass-requires-clause-rising
@@ -46,18 +45,18 @@ pass-requires-clause-rising g c =
 pub loop-place-preserved : goal.loop-place-preserved
 loop-place-preserved g c =
     let i = c.loop-place.invariant in
-    let e = c.in_ok-pass.ensures in
+    let e = c.in_ok-place.ensures in
     let cmp = g.K.Ord.cmp in
     let named = g.O.BaseVersion.named c.args.old.now in
     let blocks = g.O.BaseVersion.blocks c.args.old.now in
     let value = c.deref.ensures.value in
     let budget = 2 * named_by c.args.changes.now in
     let place = c.loop-place.place in
+    let next = c.in_ok-place.place in
     record {
       whole = e.whole;
-      list = subst (λ gs. given named c.pass.new.out ++ ahead cmp c.pass.new.changes gs (place + 1) blocks ≡ given named c.loop-place.out ++ ahead cmp c.loop-place.left gs place blocks) value e.list ∙ i.list;
-      thrifty = subst (λ gs. (last : Bool) → IsThrifty g.row.S budget (is_gone cmp gs) last (drop place blocks) (length c.loop-place.left) c.loop-place.out → (next : Bool) × IsThrifty g.row.S budget (is_gone cmp gs) next (drop (place + 1) blocks) (length c.pass.new.changes) c.pass.new.out) value (e.thrifty budget) i.thrifty.0 i.thrifty.1;
-      ends = i.ends;
+      list = subst (λ gs. given named c.pass.new.out ++ ahead cmp c.pass.new.changes gs next blocks ≡ given named c.loop-place.out ++ ahead cmp c.loop-place.left gs place blocks) value e.list ∙ i.list;
+      thrifty = subst (λ gs. (last : Bool) → IsThrifty g.row.S budget (is_gone cmp gs) last (drop place blocks) (length c.loop-place.left) c.loop-place.out → (last' : Bool) × IsThrifty g.row.S budget (is_gone cmp gs) last' (drop next blocks) (length c.pass.new.changes) c.pass.new.out) value (e.thrifty budget) i.thrifty.0 i.thrifty.1;
     }
 
 pub put_all-requires-clause-whole : goal.put_all-requires-clause-whole
@@ -69,7 +68,7 @@ put_all-requires-clause-rising g c =
     let blocks = g.O.BaseVersion.blocks c.args.old.now in
     let gone = c.args.changes.now.gone.items in
     let i = c.loop-place.invariant in
-    let none = drop_out c.loop-place.place blocks (omega (arith, i.ends, c.loop-place-test.false)) in
+    let none = drop_out c.loop-place.place blocks (omega (arith, c.count-count.ensures, c.loop-place-test.false)) in
     let given' = given (g.O.BaseVersion.named c.args.old.now) c.loop-place.out in
     let all = sym (ap (λ bs. given' ++ apply_delta cmp c.loop-place.left (without cmp gone (pairs_in bs))) none) ∙ i.list in
     let up = rising_amended g.met.K.Ord.total c.args.changes.now.edits.pairs (without cmp gone (pairs_in blocks)) c.len.ensures.rising (rising_kept cmp (λ k. not (is_gone cmp gone k)) (pairs_in blocks) c.requires.whole.rising) in
@@ -80,7 +79,7 @@ returns-clause-list g c =
     let cmp = g.K.Ord.cmp in
     let blocks = g.O.BaseVersion.blocks c.args.old.now in
     let i = c.loop-place.invariant in
-    let none = drop_out c.loop-place.place blocks (omega (arith, i.ends, c.loop-place-test.false)) in
+    let none = drop_out c.loop-place.place blocks (omega (arith, c.count-count.ensures, c.loop-place-test.false)) in
     let given' = given (g.O.BaseVersion.named c.args.old.now) c.loop-place.out in
     let all = sym (ap (λ bs. given' ++ apply_delta cmp c.loop-place.left (without cmp c.args.changes.now.gone.items (pairs_in bs))) none) ∙ i.list in
     c.in_ok-segments.ensures.list ∙ (c.in_ok-put_all.ensures.list ∙ all)

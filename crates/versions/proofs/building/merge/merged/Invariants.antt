@@ -1,4 +1,4 @@
-use Rattle.std.proofs.Common.{◌≡◌, ◌*◌, ◌++◌, Bool, drop, length}
+use Rattle.std.proofs.Common.{◌≡◌, ◌*◌, ◌-◌, ◌++◌, Bool, drop, length}
 use Rattle.versions.specs.Changes.{ahead, changed, named_by}
 use Rattle.versions.specs.Cuts.{pairs_in}
 use Rattle.versions.specs.Cutting.{IsCutting, IsThrifty, given}
@@ -16,5 +16,7 @@ invariant-loop-place g l =
       whole : IsCutting named cmp g.row.S blocks l.out;
       list : given named l.out ++ ahead cmp l.left gone l.place blocks ≡ changed cmp l.changes (pairs_in blocks);
       thrifty : (last : Bool) × IsThrifty g.row.S (2 * named_by l.changes) (is_gone cmp gone) last (drop l.place blocks) (length l.left) l.out;
-      ends : l.place-end ≡ length blocks;
     }
+
+abbrev pub decreases-loop-place : goal.decreases-loop-place
+decreases-loop-place g l = l.count - l.place

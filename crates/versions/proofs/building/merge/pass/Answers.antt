@@ -1,18 +1,19 @@
-use Rattle.std.proofs.Common.{◌≡◌, ◌++◌, ◌+◌, ◌≤◌, true, false, not, inl, inr, drop, length, refl, sym, ap, ◌∙◌, subst, arith}
+use Rattle.std.proofs.Common.{◌≡◌, ◌++◌, ◌+◌, ◌-◌, ◌≤◌, true, false, not, inl, inr, drop, length, slice_get, refl, sym, ap, ◌∙◌, subst, arith}
 use Rattle.std.proofs.lemmas.Bool.{false≢true, cases_lt}
 use Rattle.std.proofs.lemmas.Bool.Decides.{eqb_tells}
+use Rattle.leaf_array.specs.Pairs.{IsAscending}
 use Rattle.tree_index.specs.Shape.{AllKeys}
 use Rattle.versions.specs.Changes.{ahead, apply_delta}
 use Rattle.versions.specs.Cuts.{pairs_in}
-use Rattle.versions.specs.Cutting.{IsReachedBy, IsSized, Joins, given, turns}
+use Rattle.versions.specs.Cutting.{IsPassedBy, IsReachedBy, IsSized, Joins, between, given, turns}
 use Rattle.versions.specs.Gone.{is_gone, without}
-use Rattle.versions.proofs.DeltaLemmas.{amended_passed}
 use Rattle.versions.proofs.FilterLemmas.{kept_upto, on_test}
 use Rattle.versions.proofs.GapLemmas.{all_alike, alike_turns, last_answer, turns_both}
 use Rattle.versions.proofs.MergeLemmas.{all_slice, first_behind, pairs_behind_rise, rising_part, taken, thrifty_joined, thrifty_none, thrifty_paid, thrifty_passed, tight_at}
-use Rattle.versions.proofs.RangeLemmas.{without_all, without_any, without_apart, without_covered}
+use Rattle.versions.proofs.RangeLemmas.{without_all, without_any, without_covered}
 use Rattle.versions.proofs.SeparatorSearchLemmas.{get_some}
 use Rattle.versions.proofs.ChangeScanLemmas.{block_at}
+use Rattle.versions.proofs.StretchLemmas.{each_from, pairs_between, some_between, stretch_ahead, stretch_turns}
 use Rattle.versions.proofs.building.merge.pass.Goals as goal
 
 -- ---- one that is covered
@@ -108,27 +109,34 @@ returns-then-joins-clause-thrifty g c = λ budget last t.
     let joins = subst (λ m. Joins g.row.S m c.args.out.now) (size ∙ sym same) (c.if-joins.ensures.0 refl) in
     (false, thrifty_joined g.row.S c.requires.whole.least c.args.out.now c.merge_segment-then-joins.new.out budget n _ _ test last false rest rest' (omega (arith, same, sized.1)) c.requires.whole.room t (e.filled b here) e.fewer refl (omega (arith, turned)) joins b (first_behind c.args.place blocks ∙ sym here) (sym same))
 
--- ---- one that is taken over
+-- ---- a stretch that is taken over
 
-pub take-requires-clause-apart : goal.take-requires-clause-apart
-take-requires-clause-apart g c =
+pub stretch_end-end-requires-clause-ordered : goal.stretch_end-end-requires-clause-ordered
+stretch_end-end-requires-clause-ordered g c = let cut = c.requires.old in record { some = λ k e h. (cut.sizes k e h).0; rising = cut.rising; separated = cut.separated }
+
+pub take_stretch-requires-clause-apart : goal.take_stretch-requires-clause-apart
+take_stretch-requires-clause-apart g c =
     let cmp = g.K.Ord.cmp in
     let blocks = g.O.BaseVersion.blocks c.args.old.now in
     let gone = c.args.gone.now in
+    let place = c.args.place in
+    let end = c.stretch_end-end.result in
     let b = c.segment.result.now.pairs in
     let seg = c.segment.ensures in
-    let passed = c.if-touches.ensures.passed refl b seg in
-    let rest = without cmp gone (pairs_in (drop (c.args.place + 1) blocks)) in
     let cs = c.args.changes.now in
     let out = c.args.out.now in
-    let split : ahead cmp cs gone c.args.place blocks ≡ b ++ apply_delta cmp cs rest = ap (λ ps. apply_delta cmp cs (without cmp gone ps)) (block_at c.args.place blocks b seg) ∙ (ap (apply_delta cmp cs) (without_apart cmp gone b (pairs_in (drop (c.args.place + 1) blocks)) passed.1) ∙ amended_passed g.met.K.Ord.total cs b rest passed.0) in
+    let less = c.stretch_end-end.ensures.from in
+    let each = each_from (λ d. IsPassedBy cmp cs d × AllKeys (λ k. is_gone cmp gone k ≡ false) d) blocks place end (c.if-touches.ensures.passed refl) c.stretch_end-end.ensures.passed in
+    let le : place ≤ end = omega (arith, less) in
+    let given' = given (g.O.BaseVersion.named c.args.old.now) out in
+    let up : IsAscending cmp (given' ++ pairs_in (between place end blocks)) = rising_part cmp given' (pairs_in (between place end blocks)) (apply_delta cmp cs (without cmp gone (pairs_in (drop end blocks)))) (ahead cmp cs gone place blocks) (stretch_ahead g.met.K.Ord.total blocks cs gone place end le each) c.requires.rising in
     let size = c.len.ensures.count in
     let not_joined : Joins g.row.S (length b) out → ⊥ = λ j. false≢true (c.if-joins.ensures.1 (subst (λ n. Joins g.row.S n out) (sym size) j)) in
     record {
       block = b;
       there = sym seg;
-      sized = all_slice (IsSized g.row.S) blocks c.args.place b c.requires.old.sizes (sym seg);
-      rising = rising_part cmp (given (g.O.BaseVersion.named c.args.old.now) out) b (apply_delta cmp cs rest) (ahead cmp cs gone c.args.place blocks) split c.requires.rising;
+      sized = all_slice (IsSized g.row.S) blocks place b c.requires.old.sizes (sym seg);
+      rising = rising_part cmp given' b (pairs_in (between (place + 1) end blocks)) (pairs_in (between place end blocks)) (pairs_between blocks place end b (omega (arith, less)) seg) up;
       closed = λ z some. elim (cases_lt g.row.S (out.row.last + length b)) [
         | inl more ↦ more
         | inr fits ↦ absurd (not_joined (inl (z, some, fits)))
@@ -139,38 +147,58 @@ take-requires-clause-apart g c =
       ];
     }
 
+pub take_stretch-requires-clause-rising : goal.take_stretch-requires-clause-rising
+take_stretch-requires-clause-rising g c =
+    let cmp = g.K.Ord.cmp in
+    let blocks = g.O.BaseVersion.blocks c.args.old.now in
+    let gone = c.args.gone.now in
+    let place = c.args.place in
+    let end = c.stretch_end-end.result in
+    let cs = c.args.changes.now in
+    let less = c.stretch_end-end.ensures.from in
+    let each = each_from (λ d. IsPassedBy cmp cs d × AllKeys (λ k. is_gone cmp gone k ≡ false) d) blocks place end (c.if-touches.ensures.passed refl) c.stretch_end-end.ensures.passed in
+    let le : place ≤ end = omega (arith, less) in
+    rising_part cmp (given (g.O.BaseVersion.named c.args.old.now) c.args.out.now) (pairs_in (between place end blocks)) (apply_delta cmp cs (without cmp gone (pairs_in (drop end blocks)))) (ahead cmp cs gone place blocks) (stretch_ahead g.met.K.Ord.total blocks cs gone place end le each) c.requires.rising
+
 pub returns-clause-list : goal.returns-clause-list
 returns-clause-list g c =
     let cmp = g.K.Ord.cmp in
     let blocks = g.O.BaseVersion.blocks c.args.old.now in
     let named = g.O.BaseVersion.named c.args.old.now in
     let gone = c.args.gone.now in
-    let b = c.segment.result.now.pairs in
-    let seg = c.segment.ensures in
-    let passed = c.if-touches.ensures.passed refl b seg in
-    let rest = without cmp gone (pairs_in (drop (c.args.place + 1) blocks)) in
+    let place = c.args.place in
+    let end = c.stretch_end-end.result in
     let cs = c.args.changes.now in
-    let split : ahead cmp cs gone c.args.place blocks ≡ b ++ apply_delta cmp cs rest = ap (λ ps. apply_delta cmp cs (without cmp gone ps)) (block_at c.args.place blocks b seg) ∙ (ap (apply_delta cmp cs) (without_apart cmp gone b (pairs_in (drop (c.args.place + 1) blocks)) passed.1) ∙ amended_passed g.met.K.Ord.total cs b rest passed.0) in
-    taken (given named c.args.out.now) (given named c.take.new.out) b (apply_delta cmp cs rest) (ahead cmp cs gone c.args.place blocks) (c.in_ok-take.ensures.pairs b (sym seg)) split
+    let less = c.stretch_end-end.ensures.from in
+    let each = each_from (λ d. IsPassedBy cmp cs d × AllKeys (λ k. is_gone cmp gone k ≡ false) d) blocks place end (c.if-touches.ensures.passed refl) c.stretch_end-end.ensures.passed in
+    let le : place ≤ end = omega (arith, less) in
+    taken (given named c.args.out.now) (given named c.take_stretch.new.out) (pairs_in (between place end blocks)) (apply_delta cmp cs (without cmp gone (pairs_in (drop end blocks)))) (ahead cmp cs gone place blocks) c.in_ok-take_stretch.ensures.pairs (stretch_ahead g.met.K.Ord.total blocks cs gone place end le each)
 
 pub returns-clause-thrifty : goal.returns-clause-thrifty
 returns-clause-thrifty g c = λ budget last t.
     let cmp = g.K.Ord.cmp in
     let blocks = g.O.BaseVersion.blocks c.args.old.now in
-    let test = is_gone cmp c.args.gone.now in
+    let gone = c.args.gone.now in
+    let place = c.args.place in
+    let end = c.stretch_end-end.result in
     let b = c.segment.result.now.pairs in
     let seg = c.segment.ensures in
-    let sized = all_slice (IsSized g.row.S) blocks c.args.place b c.requires.old.sizes (sym seg) in
-    let apart = (c.if-touches.ensures.passed refl b seg).1 in
-    let rest' = drop (c.args.place + 1) blocks in
-    let turned : turns test last (pairs_in (drop c.args.place blocks)) ≡ _ = ap (turns test last) (block_at c.args.place blocks b seg) ∙ alike_turns test last false b (pairs_in rest') sized.0 apart in
-    let same = c.in_ok-take.ensures.trees in
-    let size = c.in_ok-take.ensures.last b (sym seg) in (
+    let cs = c.args.changes.now in
+    let less = c.stretch_end-end.ensures.from in
+    let within = c.stretch_end-end.ensures.within in
+    let each = each_from (λ d. IsPassedBy cmp cs d × AllKeys (λ k. is_gone cmp gone k ≡ false) d) blocks place end (c.if-touches.ensures.passed refl) c.stretch_end-end.ensures.passed in
+    let le : place ≤ end = omega (arith, less) in
+    let sized = all_slice (IsSized g.row.S) blocks place b c.requires.old.sizes (sym seg) in
+    let turned = stretch_turns g.met.K.Ord.total blocks cs gone place end le each last (some_between blocks place end b (omega (arith, less)) seg sized.0) in
+    let same = c.in_ok-take_stretch.ensures.trees in
+    let before = get_some blocks (end - 1) (omega (arith, less, within)) in
+    let next : end - 1 + 1 ≡ end = omega (arith, less) in
+    let size = c.in_ok-take_stretch.ensures.last before.0 (sym before.1) in (
       false,
       record {
         all = (let all = t.all in omega (arith, same, all, turned));
         spare = λ z some d there fits.
-            let more = tight_at g.row.S blocks c.args.place b d c.requires.old.tight (sym seg) (sym (first_behind (c.args.place + 1) blocks) ∙ there) in
+            let more = tight_at g.row.S blocks (end - 1) before.0 d c.requires.old.tight before.1 (ap (slice_get blocks) next ∙ (sym (first_behind end blocks) ∙ there)) in
             absurd (omega (arith, more, size, fits));
         behind = λ e z. absurd (false≢true e);
       },

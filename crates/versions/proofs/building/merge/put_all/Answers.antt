@@ -2,8 +2,20 @@ use Rattle.std.proofs.Common.{◌++◌, [], append-nil, drop, length, refl, sym,
 use Rattle.leaf_array.specs.Pairs.{IsAscending}
 use Rattle.versions.specs.Changes.{apply_delta, pair_left}
 use Rattle.versions.specs.Cutting.{given}
+use Rattle.versions.proofs.CuttingLemmas.{cutting_same, filled_same, given_same}
 use Rattle.versions.proofs.MergeLemmas.{filled_then, head_of, length_first, none_of, rest_of_changes, rising_part, taken}
 use Rattle.versions.proofs.building.merge.put_all.Goals as goal
+
+pub loop-changed-init : goal.loop-changed-init
+loop-changed-init g c =
+    let named = g.O.BaseVersion.named c.args.old.now in
+    let out = c.expect.new.out in
+    let e = c.in_ok-expect.ensures in
+    record {
+      whole = cutting_same named g.row.S c.args.out.now out e.row e.tail g.K.Ord.cmp (g.O.BaseVersion.blocks c.args.old.now) c.requires.whole e.held e.length;
+      list = ap (λ ps. ps ++ apply_delta g.K.Ord.cmp c.args.changes.now []) (given_same named g.row.S c.args.out.now out e.row e.tail);
+      filled = filled_same named g.row.S c.args.out.now out e.row e.tail _;
+    }
 
 pub put-requires-clause-rising : goal.put-requires-clause-rising
 put-requires-clause-rising g c =

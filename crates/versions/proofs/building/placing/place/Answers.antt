@@ -1,4 +1,4 @@
-use Rattle.std.proofs.Common.{◌≡◌, ◌+◌, ap, ◌∙◌, sym, refl, subst, arith, map, length}
+use Rattle.std.proofs.Common.{ap, sym, refl, subst, arith}
 use Rattle.sdd_base.specs.Tokens.{shared_slot}
 use Rattle.sdd_base.specs.State.{value_at}
 use Rattle.versions.specs.Parts.{made_in}

@@ -1,6 +1,6 @@
 use Rattle.std.proofs.Common.{refl, ap, ◌∙◌, arith}
 use Rattle.versions.specs.declared.building.segments.SegmentBuilder.{SegmentBuilder}
-use Rattle.versions.proofs.CuttingLemmas.{above_tail, cutting_more, given_more, spent_more, cutting_next, given_next, spent_next}
+use Rattle.versions.proofs.CuttingLemmas.{made_one, made_pairs, above_tail, cutting_more, given_more, spent_more, cutting_next, given_next, spent_next}
 use Rattle.versions.proofs.building.segments.push.Goals as goal
 
 pub push-requires-clause-above : goal.push-requires-clause-above
@@ -37,13 +37,13 @@ returns-in_ok-close-clause-whole g c =
     let more = c.if-len.false in
     let room = c.requires.whole.room in
     let e = c.in_ok-close.ensures in
-    cutting_next g.met.K.Ord.total c.requires.whole c.args.key c.args.value c.requires.rising c' _ refl e.parts (ap (λ t. t.pairs) e.tail ∙ c.in_ok-next.ensures) (omega (arith, size, more, room)) e.separators e.last e.held c.in-Some.ensures.1
+    cutting_next g.met.K.Ord.total c.requires.whole c.args.key c.args.value c.requires.rising c' e.parts.0 (made_pairs (g.O.BaseVersion.named c.args.old.now) c.args.out.now.tail e.parts.0 e.parts.1) e.parts.2 (ap (λ t. t.pairs) e.tail ∙ c.in_ok-next.ensures) (omega (arith, size, more, room)) e.separators e.last e.held c.in-Some.ensures.1
 
 pub returns-in_ok-close-clause-pairs : goal.returns-in_ok-close-clause-pairs
 returns-in_ok-close-clause-pairs g c =
     let c' : SegmentBuilder g.row.K.Denot g.row.V.Denot g.row.N.Denot = record c.close.new.out { length = c.in-Some.length } in
     let e = c.in_ok-close.ensures in
-    given_next g.met.K.Ord.total c.requires.whole c.args.key c.args.value c.requires.rising c' _ refl e.parts (ap (λ t. t.pairs) e.tail ∙ c.in_ok-next.ensures)
+    given_next g.met.K.Ord.total c.requires.whole c.args.key c.args.value c.requires.rising c' e.parts.0 (made_pairs (g.O.BaseVersion.named c.args.old.now) c.args.out.now.tail e.parts.0 e.parts.1) e.parts.2 (ap (λ t. t.pairs) e.tail ∙ c.in_ok-next.ensures)
 
 pub returns-in_ok-close-clause-spent : goal.returns-in_ok-close-clause-spent
 returns-in_ok-close-clause-spent g c =
@@ -52,4 +52,4 @@ returns-in_ok-close-clause-spent g c =
     let more = c.if-len.false in
     let room = c.requires.whole.room in
     let e = c.in_ok-close.ensures in
-    spent_next g.met.K.Ord.total c.requires.whole c.args.key c.args.value c.requires.rising c' _ refl e.parts (ap (λ t. t.pairs) e.tail ∙ c.in_ok-next.ensures) (omega (arith, size, more, room)) refl
+    spent_next g.met.K.Ord.total c.requires.whole c.args.key c.args.value c.requires.rising c' e.parts.0 (made_pairs (g.O.BaseVersion.named c.args.old.now) c.args.out.now.tail e.parts.0 e.parts.1) e.parts.2 (ap (λ t. t.pairs) e.tail ∙ c.in_ok-next.ensures) (omega (arith, size, more, room)) (made_one (g.O.BaseVersion.named c.args.old.now) c.args.out.now.tail e.parts.0 e.parts.1)

@@ -1,9 +1,9 @@
-use Rattle.std.proofs.Common.{◌≡◌, ◌++◌, ◌<◌, ◌==◌, false, length, refl, sym, ap, ◌∙◌, arith, append-nil}
+use Rattle.std.proofs.Common.{◌≡◌, ◌++◌, ◌<◌, ◌==◌, false, length, sym, ap, ◌∙◌, arith, append-nil}
 use Rattle.std.proofs.lemmas.Bool.{eqb-true}
 use Rattle.std.proofs.lemmas.Bool.Decides.{nat_tests}
 use Rattle.versions.specs.Cuts.{pairs_in}
 use Rattle.versions.specs.Parts.{blocks_of_parts}
-use Rattle.versions.proofs.CuttingLemmas.{empty_of, made_closed, open_none, open_one, pairs_closed, row_closed}
+use Rattle.versions.proofs.CuttingLemmas.{empty_of, made_closed, made_one, made_pairs, open_none, open_one, pairs_closed, row_closed}
 use Rattle.versions.proofs.building.segments.seal.Goals as goal
 
 pub returns-then-is_empty-clause-row : goal.returns-then-is_empty-clause-row
@@ -32,14 +32,17 @@ join-requires-clause-some g c =
     grind (arith, nat_tests)
 
 pub returns-clause-row : goal.returns-clause-row
-returns-clause-row g c = row_closed c.join.new.out c.in_ok-join.ensures.closing _ _ refl c.in_ok-close.ensures.parts c.in_ok-close.ensures.separators c.in_ok-close.ensures.last
+returns-clause-row g c = let p = c.in_ok-close.ensures.parts in row_closed c.join.new.out c.in_ok-join.ensures.closing _ p.0 (made_pairs (g.O.BaseVersion.named c.args.old.now) c.join.new.out.tail p.0 p.1) p.2 c.in_ok-close.ensures.separators c.in_ok-close.ensures.last
 
 pub returns-clause-pairs : goal.returns-clause-pairs
-returns-clause-pairs g c = pairs_closed c.join.new.out c.in_ok-join.ensures.closing c.close.new.out.row _ refl c.in_ok-close.ensures.parts ∙ c.in_ok-join.ensures.pairs
+returns-clause-pairs g c = let p = c.in_ok-close.ensures.parts in pairs_closed c.join.new.out c.in_ok-join.ensures.closing c.close.new.out.row p.0 (made_pairs (g.O.BaseVersion.named c.args.old.now) c.join.new.out.tail p.0 p.1) p.2 ∙ c.in_ok-join.ensures.pairs
 
 pub returns-clause-made : goal.returns-clause-made
 returns-clause-made g c =
-    let more = made_closed c.join.new.out c.in_ok-join.ensures.closing c.close.new.out.row _ refl c.in_ok-close.ensures.parts refl in
+    let p = c.in_ok-close.ensures.parts in
+    let named = g.O.BaseVersion.named c.args.old.now in
+    let tail = c.join.new.out.tail in
+    let more = made_closed c.join.new.out c.in_ok-join.ensures.closing c.close.new.out.row p.0 (made_pairs named tail p.0 p.1) p.2 (made_one named tail p.0 p.1) in
     let same = c.in_ok-join.ensures.made in
     let filled : (length c.args.out.now.tail.pairs == 0) ≡ false = sym c.is_empty.ensures ∙ c.if-is_empty.false in
     let one = open_one c.args.out.now.tail.pairs (grind (arith, nat_tests)) in

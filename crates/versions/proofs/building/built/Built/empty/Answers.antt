@@ -1,4 +1,4 @@
-use Rattle.std.proofs.Common.{◌≡◌, length, ap, sym, ◌∙◌, arith}
+use Rattle.std.proofs.Common.{length, ap, sym, arith}
 use Rattle.versions.specs.Parts.{made_in}
 use Rattle.versions.proofs.building.built.Built.empty.Goals as goal
 

@@ -1,5 +1,4 @@
-use Rattle.std.proofs.Common.{◌≡◌, ◌≤◌, ◌+◌, ◌*◌, ◌/◌, length, ap, subst, arith}
-use Rattle.versions.specs.Parts.{made_in}
+use Rattle.std.proofs.Common.{◌≤◌, ◌+◌, ◌*◌, ◌/◌, length, ap, subst, arith}
 use Rattle.versions.specs.Placing.{Plan}
 use Rattle.versions.proofs.building.built.Built.slots.Goals as goal
 

@@ -1,4 +1,4 @@
-use Rattle.std.proofs.Common.{◌+◌, ◌≤◌, [], List, get_or, length, ap, ◌∙◌, subst, arith, sum_by}
+use Rattle.std.proofs.Common.{◌≤◌, List, get_or, length, ap, ◌∙◌, subst, arith, sum_by}
 use Rattle.std.proofs.lemmas.Bool.{false≢true}
 use Rattle.sdd_base.specs.State.{State, vacancy}
 use Rattle.sdd_base.specs.Tokens.{shared_cell, shared_slot}
