@@ -6,6 +6,7 @@ pub mod Depth
 pub mod Walk
 pub mod Prune
 pub mod Push
+pub mod Copy
 pub mod Cursor
 pub mod Ends
 pub mod LeafCursor

@@ -1,11 +1,11 @@
 //! Pairs that come by rising keys go behind the last one, without a search.
 
-ghost use Rattle.std.specs.Prelude.{◌≡◌, ◌<◌, ◌≤◌, ◌+◌, ◌^◌, ◌++◌, ◌∷◌, [], IsSome, IfSome};
+ghost use Rattle.std.specs.Prelude.{◌≡◌, ◌<◌, ◌≤◌, ◌+◌, ◌^◌, ◌++◌, ◌∷◌, [], IsSome, IfSome, true};
 ghost use Rattle.leaf_array.specs.Results.{IsSuccess, given_back};
 ghost use Rattle.leaf_array.specs.Values.{ClonesAreSame};
 ghost use Rattle.tree_index.specs.Content.{pairs_of, IsSound};
 ghost use Rattle.tree_index.specs.Depth.{IsAbove, ascending_headroom};
-ghost use Rattle.tree_index.specs.Push.{IsOpen};
+ghost use Rattle.tree_index.specs.Push.{IsOpen, IsTail};
 
 use crate::arenas::Arenas;
 use leaf_array::InsertResult;
@@ -40,7 +40,7 @@ impl<K: Ord, V> Arenas<K, V> {
 
     /// The last leaf, if it has pairs, and room for one more.
     #[inline]
-    fn open_leaf(&self) -> Option<usize>
+    pub(crate) fn open_leaf(&self) -> Option<usize>
         requires { IsSound K.cmp self.now }
         ensures { IfSome result (λ n. IsOpen self.now n) }
     {
@@ -59,14 +59,34 @@ impl<K: Ord, V> Arenas<K, V> {
         }
     }
 
+    /// Whether the last leaf, which has pairs, has room for one more, and it can be counted.
+    #[inline]
+    pub(crate) fn has_place(&self, at: usize) -> bool
+        requires { IsTail self.now at }
+        ensures open { result ≡ true → IsOpen self.now at }
+        ensures countable { result ≡ true → self.now.len + 1 < 2 ^ 64 }
+    {
+        if self.len == usize::MAX {
+            return false;
+        }
+        match self.leaves.get(at) {
+            Some(leaf) => {
+                let _ = leaf.len();
+                !leaf.array.is_full()
+            },
+            None => false,
+        }
+    }
+
     /// Puts a pair behind those of the last leaf.
     #[inline]
-    fn push_at(&mut self, at: usize, key: K, val: V)
+    pub(crate) fn push_at(&mut self, at: usize, key: K, val: V)
         requires sound { IsSound K.cmp self.old }
         requires countable { self.old.len + 1 < 2 ^ 64 }
         requires open { IsOpen self.old at }
         requires above { IsAbove K.cmp key (pairs_of self.old) }
         ensures sound { IsSound K.cmp self.new }
+        ensures tail { IsTail self.new at }
         ensures done { pairs_of self.new ≡ pairs_of self.old ++ (key, val) ∷ [] }
         ensures ascending { ascending_headroom K.cmp self.old ≤ ascending_headroom K.cmp self.new + 1 }
     {
