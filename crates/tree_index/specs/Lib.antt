@@ -8,6 +8,7 @@ pub mod Prune
 pub mod Push
 pub mod Copy
 pub mod Cursor
+pub mod Take
 pub mod Ends
 pub mod LeafCursor
 pub mod Standing
