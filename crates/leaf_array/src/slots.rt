@@ -247,6 +247,7 @@ impl<K: Ord, V> Slots<K, V> {
     where
         K: Drop,
         V: Drop,
+        requires { IsPacked self.old }
         ensures count { length self.new ≡ 15 }
         ensures places { self.new ≡ packed 0 self.old }
     {

@@ -6,16 +6,7 @@ use Rattle.tree_index.specs.declared.arenas.Arenas.{Arenas}
 use Rattle.tree_index.specs.Content.{leaves_of}
 use Rattle.tree_index.specs.Walk.{IsOwn}
 
--- the last leaf: it has pairs
-pub record IsTail {K V : Type 0} (a : Arenas K V) (n : ℕ) : Type 0 where
-  pub own : IsOwn a (Some n)
-  pub fore : List ℕ
-  pub last : leaves_of a ≡ fore ++ n ∷ []
-  pub leaf : Leaf K V
-  pub there : get a.leaves n ≡ Some leaf
-  pub some : 0 < length leaf.array.pairs
-
--- it has room for one more, too
+-- the last leaf: it has pairs, and room for one more
 pub record IsOpen {K V : Type 0} (a : Arenas K V) (n : ℕ) : Type 0 where
   pub own : IsOwn a (Some n)
   pub fore : List ℕ

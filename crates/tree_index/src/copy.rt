@@ -77,12 +77,13 @@ impl<K: Ord, V> Arenas<K, V> {
             return Ok(from);
         };
         let mut next = from;
-        while let Some(spot) = next {
-            if !self.has_place(at) {
-                return Ok(next);
-            }
+        let mut open = self.len < usize::MAX;
+        while open {
+            let Some(spot) = next else {
+                return Ok(None);
+            };
             let (key, val) = spot.pair();
-            self.push_at(at, key.clone()?, val.clone()?);
+            open = self.push_at(at, key.clone()?, val.clone()?);
             next = source.behind(spot);
         }
         Ok(next)

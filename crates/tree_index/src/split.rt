@@ -287,15 +287,12 @@ impl<K: Ord, V> Arenas<K, V> {
         ensures ascending { IsAbove K.cmp key.now (pairs_of self.old) → IsLeafFull K.cmp key.now self.old → 1 < ascending_headroom K.cmp self.old → ascending_headroom K.cmp self.old ≤ ascending_headroom K.cmp self.new }
     {
         let is_upper = split_point.separator.cmp(key).is_lt();
-        let (lower, before) = match self.leaves.get_mut(child) {
-            Some(leaf) => (leaf.split(split_point.whole), leaf.prev),
+        let lower = match self.leaves.get_mut(child) {
+            Some(leaf) => leaf.split(split_point.whole, child),
             None => unreachable!(),
         };
-        let fresh = self.leaves.insert_reserved(Leaf {
-            array: lower,
-            prev: before,
-            next: Some(child),
-        });
+        let before = lower.prev;
+        let fresh = self.leaves.insert_reserved(lower);
         link(&mut self.leaves, before, fresh, child);
         match self.nodes.get_mut(above) {
             Some(node) => node.insert(split_point.separator, fresh),

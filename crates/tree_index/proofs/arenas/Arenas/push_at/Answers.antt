@@ -13,7 +13,7 @@ use Rattle.tree_index.proofs.WalkLemmas.{own_there}
 use Rattle.tree_index.proofs.CopyLemmas.{upserted_behind}
 use Rattle.tree_index.proofs.ArenaLemmas.{with_leaf, thawed_on_way, leaf_counted, put_written, still_sound, upserted_written}
 use Rattle.tree_index.proofs.DepthLemmas.{rises_less, insert_room}
-use Rattle.tree_index.proofs.PushLemmas.{open_way, open_above, longer_by_one}
+use Rattle.tree_index.proofs.PushLemmas.{open_way, open_above, longer_by_one, roomy_used}
 use Rattle.tree_index.proofs.arenas.Arenas.push_at.Goals as goal
 
 pub unreachable-requires : goal.unreachable-requires
@@ -91,8 +91,8 @@ returns-clause-ascending g c =
     let there = (Updates-with_value a.leaves n m (rw here refl)).changed in
     rises_less a.height (root_room cmp a) (root_room cmp b) 1 (insert_room cmp o key c.args.val a b c.requires.above refl pairs n on l m here there (omega (arith, c.push.ensures.used)))
 
-pub returns-clause-tail : goal.returns-clause-tail
-returns-clause-tail g c =
+pub returns-clause-open : goal.returns-clause-open
+returns-clause-open g c more =
     let cmp = g.K.Ord.cmp in
     let o = g.met.K.Ord.total in
     let key = c.args.key in
@@ -115,4 +115,5 @@ returns-clause-tail g c =
       leaf = m;
       there = (Updates-with_value a.leaves n m (rw here refl)).changed;
       some = omega (arith, longer_by_one l.array.pairs m.array.pairs (key, c.args.val) c.push.ensures.pairs);
+      room = roomy_used m.array.used m.array.retired (sym c.is_full-full.ensures ∙ c.takes_more.ensures.room more) c.len.ensures.most;
     }
