@@ -76,27 +76,18 @@ pub(crate) fn fill<K, V>(place: &mut Place<K, V>, with: Place<K, V>)
     }
 }
 
-/// The place with `more` ranks more below its own, if it is live.
+/// Takes so many ranks more below a place's own, if it is live.
 #[inline(always)]
-pub(crate) fn widened<K, V>(place: Place<K, V>, more: u16) -> Place<K, V>
-    requires { top (place ∷ []) + more ≤ 15 }
-    ensures { result ∷ [] ≡ widened more (place ∷ []) }
+pub(crate) fn widen<K, V>(place: &mut Place<K, V>, more: u16)
+    requires { top (place.old ∷ []) + more ≤ 15 }
+    ensures { place.new ∷ [] ≡ widened more (place.old ∷ []) }
 {
     match place {
-        Place::Live {
-            slot,
-            gap,
-            key,
-            value,
-        } => Place::Live {
-            slot,
-            gap: gap + more,
-            key,
-            value,
-        },
-        other => other,
+        Place::Live { gap, .. } => *gap += more,
+        _ => {},
     }
 }
+
 /// Whether a place is live with a lesser key: one comparison at most.
 #[inline(always)]
 pub(crate) fn precedes<K: Ord, V>(place: &Place<K, V>, key: &K, steps: &mut Steps) -> bool
