@@ -316,37 +316,29 @@ impl<K: Ord, V> Arenas<K, V> {
         ensures removed { result ≡ true → pairs_of self.new ≡ removed K.cmp key.now (pairs_of self.old) }
         ensures kept { result ≡ false → pairs_of self.new ≡ pairs_of self.old }
     {
-        let (above, at) = self.way_to(key);
-        let (answer, leaf) = self.take_if(at, key, condition);
+        let (answer, leaf) = self.take_if(key, condition);
         if let Some(at) = leaf {
-            self.prune(above, at, key);
+            self.prune(at, key);
         }
         answer
     }
 
-    /// The same in the leaf on the way to the key, which stays: it is told where it has no pair left.
+    /// The same, but that the leaf stays: it is told where it has no pair left.
     #[inline(always)]
-    fn take_if<F: FnOnce(&V) -> bool>(
-        &mut self,
-        at: usize,
-        key: &K,
-        condition: F,
-    ) -> (bool, Option<usize>)
+    fn take_if<F: FnOnce(&V) -> bool>(&mut self, key: &K, condition: F) -> (bool, Option<usize>)
     where
         F: Drop,
-        requires on { at ≡ leaf_on_way K.cmp key.now self.old }
         requires callable { IfSome (lookup_entry (is_at (K.cmp key.now)) (pairs_of self.old)) (λ e. FnOnceTakesAt F.FnOnce condition e.1) }
         requires sound { IsSound K.cmp self.old }
         ensures sound { IsSound K.cmp self.new }
         ensures depth { self.new.height ≡ self.old.height }
-        ensures way { (steps : ℕ) → way K.cmp (content_of self.new) key.now steps self.new.root ≡ way K.cmp (content_of self.old) key.now steps self.old.root }
-        ensures planted { IfSome result.1 (λ n. self.old.height ≢ 0) }
         ensures absent { lookup_entry (is_at (K.cmp key.now)) (pairs_of self.old) ≡ None → result.0 ≡ false }
         ensures asked { IfSome (lookup_entry (is_at (K.cmp key.now)) (pairs_of self.old)) (λ e. FnOnceReturnsAt F.FnOnce condition e.1 result.0) }
         ensures removed { result.0 ≡ true → pairs_of self.new ≡ removed K.cmp key.now (pairs_of self.old) }
         ensures kept { result.0 ≡ false → pairs_of self.new ≡ pairs_of self.old }
         ensures emptied { IfSome result.1 (λ n. (n ≡ leaf_on_way K.cmp key.now self.new) × (held self.new n ≡ [])) }
     {
+        let at = self.leaf_of(key);
         match self.leaves.get_mut(at) {
             Some(leaf) => {
                 let before = leaf.len();

@@ -6,7 +6,6 @@ ghost use Rattle.slab.specs.Slab.{get};
 ghost use Rattle.tree_index.specs.Chain.{links, linked_out, times};
 ghost use Rattle.tree_index.specs.Content.{content_of, pairs_of, leaves_of, IsSound, AreSameArrays, leaf_on_way};
 ghost use Rattle.tree_index.specs.Prune.{IsFork, IsDetached, IsWithout, IsLowerable};
-ghost use Rattle.tree_index.specs.Shape.{way};
 ghost use Rattle.tree_index.specs.Walk.{held};
 
 use crate::arenas::Arenas;
@@ -53,51 +52,20 @@ impl<K: Ord, V> Arenas<K, V> {
         fork
     }
 
-    /// The node over leaves on the way to a key as a fork, if it has more than one child.
-    fn fork_at(&self, above: usize, key: &K) -> Option<Fork>
-        requires sound { IsSound K.cmp self.now }
-        requires planted { self.now.height ≢ 0 }
-        requires above { above ≡ way K.cmp (content_of self.now) key.now (self.now.height - 1) self.now.root }
-        ensures { IfSome result (λ f. IsFork K.cmp key.now self.now f) }
-    {
-        match self.nodes.get(above) {
-            Some(node) => {
-                if node.is_single() {
-                    return None;
-                }
-                let (place, child) = node.turn(key);
-                Some(Fork {
-                    node: above,
-                    place,
-                    child,
-                    height: 0,
-                })
-            },
-            None => None,
-        }
-    }
-
-    /// Takes a leaf without pairs, to which the way to a key leads and which is named with the node above it, out of
-    /// the tree, unless there is no other. It goes down once more only where it is the one child of that node.
+    /// Takes a leaf without pairs, to which the way to a key leads, out of the tree, unless there is no other.
     #[cold]
     #[inline(never)]
-    pub(crate) fn prune(&mut self, above: usize, leaf: usize, key: &K)
+    pub(crate) fn prune(&mut self, leaf: usize, key: &K)
     where
         K: Drop,
         V: Drop,
         requires sound { IsSound K.cmp self.old }
-        requires planted { self.old.height ≢ 0 }
-        requires above { above ≡ way K.cmp (content_of self.old) key.now (self.old.height - 1) self.old.root }
         requires on { leaf ≡ leaf_on_way K.cmp key.now self.old }
         requires empty { held self.old leaf ≡ [] }
         ensures sound { IsSound K.cmp self.new }
         ensures pairs { pairs_of self.new ≡ pairs_of self.old }
         ensures depth { self.new.height ≤ self.old.height }
     {
-        if let Some(fork) = self.fork_at(above, key) {
-            self.release(fork, leaf);
-            return;
-        }
         if let Some(fork) = self.find_fork(key) {
             self.release(fork, leaf);
         }

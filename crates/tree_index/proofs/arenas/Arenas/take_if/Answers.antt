@@ -21,8 +21,8 @@ remove_if-answer-requires-clause-thawed g c =
     let key = c.args.key.now in
     let a = c.args.self.now in
     let l : Leaf g.row.K.Denot g.row.V.Denot = c.in-Some.leaf.now in
-    let n = c.args.at in
-    let on = c.requires.on in
+    let n = c.leaf_of-at.result in
+    let on = c.leaf_of-at.ensures in
     let here : get a.leaves n ≡ Some l = sym c.in-Some.ensures.value in
     let s = c.requires.sound in
     thawed_on_way cmp o key a s n on l here
@@ -30,8 +30,8 @@ remove_if-answer-requires-clause-thawed g c =
 pub remove_if-answer-requires-clause-callable : goal.remove_if-answer-requires-clause-callable
 remove_if-answer-requires-clause-callable g c =
     let l : Leaf g.row.K.Denot g.row.V.Denot = c.in-Some.leaf.now in
-    let here : get c.args.self.now.leaves c.args.at ≡ Some l = sym c.in-Some.ensures.value in
-    rw (lookup_written g.K.Ord.cmp g.met.K.Ord.total c.args.key.now c.args.self.now c.requires.sound c.args.at c.requires.on l here) at c.requires.callable
+    let here : get c.args.self.now.leaves c.leaf_of-at.result ≡ Some l = sym c.in-Some.ensures.value in
+    rw (lookup_written g.K.Ord.cmp g.met.K.Ord.total c.args.key.now c.args.self.now c.requires.sound c.leaf_of-at.result c.leaf_of-at.ensures l here) at c.requires.callable
 
 pub overflow_sub-self : goal.overflow_sub-self
 overflow_sub-self g c =
@@ -40,8 +40,8 @@ overflow_sub-self g c =
     let key = c.args.key.now in
     let a = c.args.self.now in
     let l : Leaf g.row.K.Denot g.row.V.Denot = c.in-Some.leaf.now in
-    let n = c.args.at in
-    let on = c.requires.on in
+    let n = c.leaf_of-at.result in
+    let on = c.leaf_of-at.ensures in
     let here : get a.leaves n ≡ Some l = sym c.in-Some.ensures.value in
     let s = c.requires.sound in
     rw c.len-before.ensures.count (leaf_counted cmp o key a s n on l here)
@@ -53,8 +53,8 @@ overflow_add-self g c =
     let key = c.args.key.now in
     let a = c.args.self.now in
     let l : Leaf g.row.K.Denot g.row.V.Denot = c.in-Some.leaf.now in
-    let n = c.args.at in
-    let on = c.requires.on in
+    let n = c.leaf_of-at.result in
+    let on = c.leaf_of-at.ensures in
     let here : get a.leaves n ≡ Some l = sym c.in-Some.ensures.value in
     let s = c.requires.sound in
     let m : Leaf g.row.K.Denot g.row.V.Denot = c.remove_if-answer.new.self in
@@ -72,8 +72,8 @@ returns-in-Some-clause-sound g c =
     let key = c.args.key.now in
     let a = c.args.self.now in
     let l : Leaf g.row.K.Denot g.row.V.Denot = c.in-Some.leaf.now in
-    let n = c.args.at in
-    let on = c.requires.on in
+    let n = c.leaf_of-at.result in
+    let on = c.leaf_of-at.ensures in
     let here : get a.leaves n ≡ Some l = sym c.in-Some.ensures.value in
     let s = c.requires.sound in
     let m : Leaf g.row.K.Denot g.row.V.Denot = c.remove_if-answer.new.self in
@@ -89,8 +89,8 @@ returns-in-Some-clause-absent g c e =
     let key = c.args.key.now in
     let a = c.args.self.now in
     let l : Leaf g.row.K.Denot g.row.V.Denot = c.in-Some.leaf.now in
-    let n = c.args.at in
-    let on = c.requires.on in
+    let n = c.leaf_of-at.result in
+    let on = c.leaf_of-at.ensures in
     let here : get a.leaves n ≡ Some l = sym c.in-Some.ensures.value in
     let s = c.requires.sound in
     c.remove_if-answer.ensures.absent (sym (lookup_written cmp o key a s n on l here) ∙ e)
@@ -102,8 +102,8 @@ returns-in-Some-clause-asked g c =
     let key = c.args.key.now in
     let a = c.args.self.now in
     let l : Leaf g.row.K.Denot g.row.V.Denot = c.in-Some.leaf.now in
-    let n = c.args.at in
-    let on = c.requires.on in
+    let n = c.leaf_of-at.result in
+    let on = c.leaf_of-at.ensures in
     let here : get a.leaves n ≡ Some l = sym c.in-Some.ensures.value in
     let s = c.requires.sound in
     rw (lookup_written cmp o key a s n on l here) c.remove_if-answer.ensures.asked
@@ -115,8 +115,8 @@ returns-in-Some-clause-removed g c r =
     let key = c.args.key.now in
     let a = c.args.self.now in
     let l : Leaf g.row.K.Denot g.row.V.Denot = c.in-Some.leaf.now in
-    let n = c.args.at in
-    let on = c.requires.on in
+    let n = c.leaf_of-at.result in
+    let on = c.leaf_of-at.ensures in
     let here : get a.leaves n ≡ Some l = sym c.in-Some.ensures.value in
     let s = c.requires.sound in
     let m : Leaf g.row.K.Denot g.row.V.Denot = c.remove_if-answer.new.self in
@@ -132,8 +132,8 @@ returns-in-Some-clause-kept g c r =
     let key = c.args.key.now in
     let a = c.args.self.now in
     let l : Leaf g.row.K.Denot g.row.V.Denot = c.in-Some.leaf.now in
-    let n = c.args.at in
-    let on = c.requires.on in
+    let n = c.leaf_of-at.result in
+    let on = c.leaf_of-at.ensures in
     let here : get a.leaves n ≡ Some l = sym c.in-Some.ensures.value in
     let s = c.requires.sound in
     let m : Leaf g.row.K.Denot g.row.V.Denot = c.remove_if-answer.new.self in
@@ -145,7 +145,7 @@ returns-in-Some-clause-kept g c r =
 pub returns-in-None-clause-asked : goal.returns-in-None-clause-asked
 returns-in-None-clause-asked g c =
     let here = sym (rw c.in-None.is at c.get_mut.ensures.value) in
-    let none = ap (lookup_entry (is_at (g.K.Ord.cmp c.args.key.now))) (bare_pairs g.K.Ord.cmp g.met.K.Ord.total c.args.key.now c.args.self.now (none_sound g.K.Ord.cmp g.met.K.Ord.total c.args.key.now c.args.self.now (rw c.requires.on at here) c.requires.sound)) in
+    let none = ap (lookup_entry (is_at (g.K.Ord.cmp c.args.key.now))) (bare_pairs g.K.Ord.cmp g.met.K.Ord.total c.args.key.now c.args.self.now (none_sound g.K.Ord.cmp g.met.K.Ord.total c.args.key.now c.args.self.now (rw c.leaf_of-at.ensures at here) c.requires.sound)) in
     rw none tt
 
 pub returns-in-Some-clause-emptied : goal.returns-in-Some-clause-emptied
@@ -155,8 +155,8 @@ returns-in-Some-clause-emptied g c =
     let key = c.args.key.now in
     let a = c.args.self.now in
     let l : Leaf g.row.K.Denot g.row.V.Denot = c.in-Some.leaf.now in
-    let n = c.args.at in
-    let on = c.requires.on in
+    let n = c.leaf_of-at.result in
+    let on = c.leaf_of-at.ensures in
     let here : get a.leaves n ≡ Some l = sym c.in-Some.ensures.value in
     let s = c.requires.sound in
     let m : Leaf g.row.K.Denot g.row.V.Denot = c.remove_if-answer.new.self in
