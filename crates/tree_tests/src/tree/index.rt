@@ -277,7 +277,7 @@ fn clones_of_trees_that_lost_pairs_go_on_by_themselves(rt: HostRuntime) -> Resul
         assert_eq!(rt; copy.len(), tree.len());
         assert!(rt; copy.len() > 240 || copy.depth() <= 1);
         for key in 701..1000u64 {
-            assert!(rt; copy.push_last(key, key).is_ok());
+            assert!(rt; copy.insert_sync(key, key).is_ok());
         }
         for key in 0..1000u64 {
             let there = key > 700 || tree.contains(&key);
