@@ -1,21 +1,18 @@
 -- What an edit of a row of places does to its pairs, labels and slots.
-use Rattle.std.proofs.Common.{arith, ◌≡◌, ℕ, zero, suc, ◌+◌, ◌==◌, ◌<◌, ◌≤◌, ◌++◌, ◌∷◌, [], List, true, false, cond, length, take, drop, refl, ap, ◌∙◌, map, append_assoc}
+use Rattle.std.proofs.Common.{arith, ◌≡◌, ℕ, zero, suc, ◌+◌, ◌==◌, ◌<◌, ◌≤◌, ◌++◌, ◌∷◌, [], List, Bool, true, false, not, cond, length, take, drop, refl, ap, ◌∙◌, map, append_assoc}
 use Rattle.std.specs.List.{remove}
 use Rattle.leaf_array.specs.declared.place.Place.{Place}
 use Rattle.leaf_array.specs.declared.place.Place.TheVariants.{Empty, Dead, Live}
 use Rattle.std.specs.declared.cmp.Ordering.{Ordering}
 use Rattle.std.specs.Ordering.{is_lt}
 use Rattle.leaf_array.specs.Cells.{entered, handed_on, fallen}
-use Rattle.leaf_array.specs.Places.{live_pairs, labels_above, dead_pairs, top, has_room, pushed, sunk, widened, tombstones, renewed, paired, died, below, uses, IsEmptied, IsDeparted, IsPacked}
+use Rattle.leaf_array.specs.Places.{live_pairs, labels_above, dead_pairs, top, has_room, pushed, sunk, widened, tombstones, renewed, paired, packed, died, is_empty, below, uses, IsEmptied, IsDeparted, IsPacked, IsTailed}
+
+pub not_false : (b : Bool) → not b ≡ false → b ≡ true
+not_false true h = refl
+not_false false h = absurd (cc)
 
 module _ {K V : Type 0} where
-  -- behind an empty place all are empty
-  abbrev pub IsTailed : List (Place K V) → Type 0
-  IsTailed [] = Unit {0}
-  IsTailed (Empty ∷ ps) = IsEmptied ps
-  IsTailed (Dead s k v ∷ ps) = IsTailed ps
-  IsTailed (Live s g k v ∷ ps) = IsTailed ps
-
   tailed_emptied : (ps : List (Place K V)) → IsEmptied ps → IsTailed ps
   tailed_emptied [] h = tt
   tailed_emptied (Empty ∷ ps) h = h
@@ -40,6 +37,24 @@ module _ {K V : Type 0} where
   tailed_drop (suc n) (Empty ∷ ps) h = tailed_drop n ps (tailed_emptied ps h)
   tailed_drop (suc n) (Dead s k v ∷ ps) h = tailed_drop n ps h
   tailed_drop (suc n) (Live s g k v ∷ ps) h = tailed_drop n ps h
+
+  -- what stands behind a place
+  pub tailed_behind : (p : Place K V) (ps : List (Place K V)) → IsTailed (p ∷ ps) → IsTailed ps
+  tailed_behind Empty ps h = tailed_emptied ps h
+  tailed_behind (Dead s k v) ps h = h
+  tailed_behind (Live s g k v) ps h = h
+
+  pub emptied_behind : (p : Place K V) (ps : List (Place K V)) → is_empty p ≡ true → IsTailed (p ∷ ps) → IsEmptied ps
+  emptied_behind Empty ps e h = h
+  emptied_behind (Dead s k v) ps e h = absurd (cc)
+  emptied_behind (Live s g k v) ps e h = absurd (cc)
+
+  -- empty places stay so
+  pub emptied_packed : (n : ℕ) (ps : List (Place K V)) → IsEmptied ps → packed n ps ≡ ps
+  emptied_packed n [] h = refl
+  emptied_packed n (Empty ∷ ps) h = ap (λ qs. Empty ∷ qs) (emptied_packed (n + 1) ps h)
+  emptied_packed n (Dead s k v ∷ ps) h = absurd h
+  emptied_packed n (Live s g k v ∷ ps) h = absurd h
 
   -- ---- an empty place at the end
 

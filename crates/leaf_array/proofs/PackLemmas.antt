@@ -328,6 +328,20 @@ module _ {K V : Type 0} where
       let len2 : length (live_pairs ts) ≡ n = ap length live ∙ length-take-le n (live_pairs ps) (omega (arith, len)) in
       rw (← live) (sound_packed cmp ts qs n (packed_join (take n ps) (blank (drop n ps)) (packed_take n ps pk) (emptied_blank (drop n ps))) (length_blank n ps ∙ count) (rw live (sorted_take cmp n (live_pairs ps) so)) (omega (arith, len2, lt)) (sym len2) is)
 
+  -- both parts of a row are packed
+  pub packed_front : (n : ℕ) (ps es lower : List (Place K V)) → IsPacked ps → IsEmptied es → lower ≡ take n ps ++ es → IsPacked lower
+  packed_front n ps es lower pk e is = rw is (packed_join (take n ps) es (packed_take n ps pk) e)
+
+  pub packed_back : (n : ℕ) (ps es upper : List (Place K V)) → IsPacked ps → IsEmptied es → upper ≡ drop n ps ++ es → IsPacked upper
+  packed_back n ps es upper pk e is = rw is (packed_join (drop n ps) es (packed_drop n ps pk) e)
+
+  -- and so are those of a cut
+  pub packed_fore : (n : ℕ) (ps lower : List (Place K V)) → IsPacked ps → lower ≡ take n ps ++ take (length (drop n ps)) no_places → IsPacked lower
+  packed_fore n ps lower pk is = packed_front n ps (take (length (drop n ps)) no_places) lower pk (emptied_take (length (drop n ps)) no_places tt) is
+
+  pub packed_rear : (n : ℕ) (ps upper : List (Place K V)) → IsPacked ps → upper ≡ drop n ps ++ drop (length (drop n ps)) no_places → IsPacked upper
+  packed_rear n ps upper pk is = packed_back n ps (drop (length (drop n ps)) no_places) upper pk (emptied_drop (length (drop n ps)) no_places tt) is
+
   -- the two parts of a row
   pub sound_parts : (cmp : K → K → Ordering) (ps lower upper es fs qs rs : List (Place K V)) (len used n low : ℕ) → IsSound cmp ps len used
       → lower ≡ take n ps ++ es → upper ≡ drop n ps ++ fs → IsEmptied es → IsEmptied fs → length lower ≡ 15 → length upper ≡ 15 → low ≡ length (take n (live_pairs ps)) → qs ≡ packed 0 lower → rs ≡ packed 0 upper
@@ -336,8 +350,8 @@ module _ {K V : Type 0} where
   sound_parts cmp ps lower upper es fs qs rs len used n low s lower_is upper_is es_empty fs_empty lower_count upper_count low_is qs_is rs_is =
       let live_low : live_pairs lower ≡ take n (live_pairs ps) = ap live_pairs lower_is ∙ live_join (take n ps) es es_empty ∙ live_take n ps in
       let live_up : live_pairs upper ≡ drop n (live_pairs ps) = ap live_pairs upper_is ∙ live_join (drop n ps) fs fs_empty ∙ live_drop n ps s.packed in
-      let pk_low : IsPacked lower = rw lower_is (packed_join (take n ps) es (packed_take n ps s.packed) es_empty) in
-      let pk_up : IsPacked upper = rw upper_is (packed_join (drop n ps) fs (packed_drop n ps s.packed) fs_empty) in
+      let pk_low : IsPacked lower = packed_front n ps es lower s.packed es_empty lower_is in
+      let pk_up : IsPacked upper = packed_back n ps fs upper s.packed fs_empty upper_is in
       let both : length (take n (live_pairs ps)) + length (drop n (live_pairs ps)) ≡ length (live_pairs ps) = simp (length-take, length-drop) (omega arith) in
       let le : length (live_pairs ps) ≤ 15 = omega (arith, s.all, s.within) in (
         rw (← live_low) (sound_packed cmp lower qs low pk_low lower_count (rw live_low (sorted_take cmp n (live_pairs ps) s.sorted)) (omega (arith, ap length live_low, both, le)) (low_is ∙ ap length (sym live_low)) qs_is),

@@ -156,6 +156,13 @@ module _ {K V : Type 0} where
   IsPacked (Dead s k v ∷ ps) = IsDeparted ps
   IsPacked (Live s g k v ∷ ps) = IsPacked ps
 
+  -- behind an empty place all are empty
+  abbrev pub IsTailed : List (Place K V) → Type 0
+  IsTailed [] = Unit {0}
+  IsTailed (Empty ∷ ps) = IsEmptied ps
+  IsTailed (Dead s k v ∷ ps) = IsTailed ps
+  IsTailed (Live s g k v ∷ ps) = IsTailed ps
+
   module _ (cmp : K → K → Ordering) (key : K) where
     -- how many of the live places at the front have a lesser key
     abbrev pub below : List (Place K V) → ℕ

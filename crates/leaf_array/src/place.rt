@@ -1,10 +1,10 @@
 //! A place of an array.
 
-ghost use Rattle.std.specs.Prelude.{◌≡◌, ◌+◌, ◌<◌, ◌≤◌, ◌∷◌, ◌↔◌, [], List, Some, None, IsSome, IsTrue, MatchOption};
+ghost use Rattle.std.specs.Prelude.{◌≡◌, ◌+◌, ◌<◌, ◌≤◌, ◌∷◌, ◌↔◌, [], List, Some, None, IsSome, IsTrue, MatchOption, not};
 ghost use Rattle.leaf_array.specs.declared.place.Place.{Place};
 ghost use Rattle.leaf_array.specs.declared.place.Place.TheVariants.{Empty};
 ghost use Rattle.leaf_array.specs.Cells.{slot_of};
-ghost use Rattle.leaf_array.specs.Places.{top, widened, below, live_pair, died, renewed, paired, vacated, packed, pair_at_slot};
+ghost use Rattle.leaf_array.specs.Places.{top, widened, below, is_empty, live_pair, died, renewed, paired, vacated, packed, pair_at_slot};
 
 use crate::steps::Steps;
 use std::cmp::Ordering;
@@ -46,10 +46,21 @@ pub(crate) fn slot_of(place: u8) -> u8
     ensures slot { result ≡ slot_of place }
     ensures within { result < 15 }
 {
-    if place < 12 {
-        place - place % 4 + (place + 1) % 4
-    } else {
-        place
+    // A table is one read, where a sum takes ten instructions in each insertion.
+    match place {
+        0 => 1,
+        1 => 2,
+        2 => 3,
+        3 => 0,
+        4 => 5,
+        5 => 6,
+        6 => 7,
+        7 => 4,
+        8 => 9,
+        9 => 10,
+        10 => 11,
+        11 => 8,
+        _ => place,
     }
 }
 
@@ -65,27 +76,18 @@ pub(crate) fn fill<K, V>(place: &mut Place<K, V>, with: Place<K, V>)
     }
 }
 
-/// The place with `more` ranks more below its own, if it is live.
+/// Takes so many ranks more below a place's own, if it is live.
 #[inline(always)]
-pub(crate) fn widened<K, V>(place: Place<K, V>, more: u16) -> Place<K, V>
-    requires { top (place ∷ []) + more ≤ 15 }
-    ensures { result ∷ [] ≡ widened more (place ∷ []) }
+pub(crate) fn widen<K, V>(place: &mut Place<K, V>, more: u16)
+    requires { top (place.old ∷ []) + more ≤ 15 }
+    ensures { place.new ∷ [] ≡ widened more (place.old ∷ []) }
 {
     match place {
-        Place::Live {
-            slot,
-            gap,
-            key,
-            value,
-        } => Place::Live {
-            slot,
-            gap: gap + more,
-            key,
-            value,
-        },
-        other => other,
+        Place::Live { gap, .. } => *gap += more,
+        _ => {},
     }
 }
+
 /// Whether a place is live with a lesser key: one comparison at most.
 #[inline(always)]
 pub(crate) fn precedes<K: Ord, V>(place: &Place<K, V>, key: &K, steps: &mut Steps) -> bool
@@ -182,20 +184,25 @@ pub(crate) fn overwrite<K, V>(place: &mut Place<K, V>, key: K, value: V) -> (K, 
     }
 }
 
-/// Gives a live place the slot of a bitmap place and no gap. A dead pair is dropped.
+/// Gives a live place the slot of a bitmap place and no gap. A dead pair is dropped. It says whether the place was
+/// used.
 #[inline(always)]
-pub(crate) fn renumber<K: Drop, V: Drop>(place: &mut Place<K, V>, bitmap: u8)
+pub(crate) fn renumber<K: Drop, V: Drop>(place: &mut Place<K, V>, bitmap: u8) -> bool
     requires { bitmap < 15 }
-    ensures { (rest : List (Place K V)) → place.new ∷ packed (bitmap + 1) rest ≡ packed bitmap (place.old ∷ rest) }
+    ensures used { result ≡ not (is_empty place.old) }
+    ensures places { (rest : List (Place K V)) → place.new ∷ packed (bitmap + 1) rest ≡ packed bitmap (place.old ∷ rest) }
 {
     match place {
         Place::Live { slot, gap, .. } => {
             *slot = slot_of(bitmap);
             *gap = 0;
+            true
         },
-        _ => {
+        Place::Dead { .. } => {
             let _dead = mem::replace(place, Place::Empty);
+            true
         },
+        Place::Empty => false,
     }
 }
 

@@ -247,6 +247,7 @@ impl<K: Ord, V> Slots<K, V> {
     where
         K: Drop,
         V: Drop,
+        requires { IsPacked self.old }
         ensures count { length self.new ≡ 15 }
         ensures places { self.new ≡ packed 0 self.old }
     {
@@ -254,7 +255,7 @@ impl<K: Ord, V> Slots<K, V> {
     }
 
     /// Moves the eight lower places out, and the others down.
-    #[inline(never)]
+    #[inline(always)]
     pub(crate) fn split_half(&mut self) -> Self
         ensures mine_count { length self.new ≡ 15 }
         ensures lower_count { length result ≡ 15 }

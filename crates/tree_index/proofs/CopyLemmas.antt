@@ -1,5 +1,5 @@
 -- A list that grows behind its greatest key.
-use Rattle.std.proofs.Common.{◌≡◌, ℕ, zero, suc, ◌+◌, true, false, List, [], ◌∷◌, ◌++◌, take, Some, None, refl, ap, ◌∙◌, arith}
+use Rattle.std.proofs.Common.{◌≡◌, ℕ, zero, suc, ◌+◌, true, false, List, [], ◌∷◌, ◌++◌, take, Option, Some, None, refl, sym, ap, ◌∙◌, subst, arith}
 use Rattle.std.specs.Prelude.{slice_get}
 use Rattle.std.specs.declared.cmp.Ordering.{Ordering}
 use Rattle.std.specs.declared.cmp.Ordering.TheVariants.{Less}
@@ -9,7 +9,14 @@ use Rattle.std.specs.Map.{keys_of}
 use Rattle.std.proofs.lemmas.Map.Keys.{sorted_head, sorted_tail}
 use Rattle.leaf_array.specs.Pairs.{IsAscending}
 use Rattle.leaf_array.specs.Edits.{upserted}
+use Rattle.tree_index.specs.declared.arenas.Arenas.{Arenas}
+use Rattle.tree_index.specs.declared.walk.Position.{Position}
 use Rattle.tree_index.specs.Shape.{AllKeys}
+use Rattle.tree_index.specs.Content.{pairs_of, IsSound}
+use Rattle.tree_index.specs.Copy.{place}
+use Rattle.tree_index.specs.Depth.{IsAbove}
+use Rattle.tree_index.specs.Walk.{position, IsPosition}
+use Rattle.tree_index.proofs.EndLemmas.{spot_pair, rising_of}
 use Rattle.tree_index.proofs.ShapeLemmas.{turned, all_weaken}
 use Rattle.tree_index.proofs.LeafLemmas.{filter_all, filter_none}
 use Rattle.tree_index.proofs.RisingLemmas.{key_in}
@@ -34,3 +41,19 @@ module _ {K V : Type 0} {cmp : K → K → Ordering} (o : IsTotalOrder cmp) wher
   take_next n [] p h = absurd (let e : None ≡ Some p = h in cc)
   take_next zero (q ∷ ps) p h = ap (λ x. x ∷ []) (some_same h)
   take_next (suc n) (q ∷ ps) p h = let more : suc n + 1 ≡ suc (n + 1) = omega arith in ap (λ k. take k (q ∷ ps)) more ∙ ap (λ xs. q ∷ xs) (take_next n ps p h)
+
+-- a pair of clones that are the same is the pair itself
+pub copied_pair : {K V : Type 0} (ps : List (K × V)) {k l : K} {v w : V} {qs : List (K × V)} → l ≡ k → w ≡ v → qs ≡ ps ++ (l, w) ∷ [] → qs ≡ ps ++ (k, v) ∷ []
+copied_pair ps key val e = rw (sym key, sym val) e
+
+module _ {K V : Type 0} {cmp : K → K → Ordering} (o : IsTotalOrder cmp) (a b : Arenas K V) (s : IsSound cmp a) (spot : Position K V) (is : IsPosition a spot) (p : K × V) (at : slice_get spot.leaf.now.array.pairs spot.place ≡ Some p) (front : pairs_of b ≡ take (position a spot) (pairs_of a)) where
+  there : slice_get (pairs_of a) (position a spot) ≡ Some p
+  there = (spot_pair cmp a s spot is).0 ∙ at
+
+  -- the next pair of the source is above all of the copy
+  pub next_above : IsAbove cmp p.0 (pairs_of b)
+  next_above = subst (IsAbove cmp p.0) (sym front) (front_less o (position a spot) (pairs_of a) p (rising_of cmp o a s) there)
+
+  -- once it is behind them, the copy reaches one place further
+  pub next_front : (c : Arenas K V) (r : Option (Position K V)) → pairs_of c ≡ pairs_of b ++ p ∷ [] → place a r ≡ position a spot + 1 → pairs_of c ≡ take (place a r) (pairs_of a)
+  next_front c r more next = more ∙ ap (λ ps. ps ++ p ∷ []) front ∙ sym (take_next o (position a spot) (pairs_of a) p there) ∙ sym (ap (λ (m : ℕ). take m (pairs_of a)) next)

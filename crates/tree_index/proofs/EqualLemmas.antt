@@ -7,16 +7,8 @@ use Rattle.tree_index.specs.declared.arenas.Arenas.{Arenas}
 use Rattle.tree_index.specs.declared.walk.Position.{Position}
 use Rattle.tree_index.specs.Content.{pairs_of, IsSound}
 use Rattle.tree_index.specs.Walk.{position, IsPosition}
+use Rattle.tree_index.specs.Copy.{place, IsPlace}
 use Rattle.tree_index.proofs.EndLemmas.{spot_pair}
-
--- where a place stands, or the end of the list
-abbrev pub place : {K V : Type 0} → Arenas K V → Option (Position K V) → ℕ
-place a None = length (pairs_of a)
-place a (Some s) = position a s
-
-abbrev pub IsPlace : {K V : Type 0} → Arenas K V → Option (Position K V) → Type 0
-IsPlace a None = Unit {0}
-IsPlace a (Some s) = IsPosition a s
 
 module _ {X : Type 0} where
   pub drop_at : (n : ℕ) (xs : List X) (x : X) → slice_get xs n ≡ Some x → drop n xs ≡ x ∷ drop (n + 1) xs

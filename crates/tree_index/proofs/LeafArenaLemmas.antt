@@ -206,6 +206,10 @@ module _ {K V : Type 0} (cmp : K → K → Ordering) (o : IsTotalOrder cmp) (key
           let d = divided cmp o c key 0 steps a.root stands b split_point.separator fresh m.children split in
           way_more cmp b key steps 1 a.root ∙ ap (λ k. child_in cmp key k (b.node k)) d.same_way ∙ ap (child_in cmp key (parent cmp o c key 0 steps a.root stands)) split.there ∙ d.next
 
+      -- where the way to the key leads
+      pub done_on : cond (is_lt (cmp split_point.separator key)) at fresh ≡ way cmp b key a.height a.root
+      done_on = ap (λ (k : ℕ). cond (is_lt (cmp split_point.separator key)) k fresh) at_is ∙ subst (λ (n : ℕ). cond (is_lt (cmp split_point.separator key)) kid fresh ≡ way cmp b key n a.root) height_is (sym next_way)
+
       abbrev IsRoomy : ℕ → Type 0
       IsRoomy k = (x : Cells K V) × (b.leaf k ≡ Some x) × (x.retired ≡ false) × (x.used < 15)
 

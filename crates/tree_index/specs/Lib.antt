@@ -6,7 +6,9 @@ pub mod Depth
 pub mod Walk
 pub mod Prune
 pub mod Push
+pub mod Copy
 pub mod Cursor
+pub mod Take
 pub mod Ends
 pub mod LeafCursor
 pub mod Standing

@@ -1,6 +1,6 @@
 //! Leaves and nodes in their arenas, and the way down to a key.
 
-ghost use Rattle.std.specs.Prelude.{◌≡◌, ◌≢◌, ◌≤◌, ◌<◌, ◌+◌, ◌*◌, ◌-◌, ◌^◌, ◌⊎◌, ◌↔◌, IsTrue, IsSome, IfSome, Some, None, MatchOption, [], true, false, not, OnOk, OnErr, IfOk};
+ghost use Rattle.std.specs.Prelude.{ℕ, ◌≡◌, ◌≢◌, ◌≤◌, ◌<◌, ◌+◌, ◌*◌, ◌-◌, ◌^◌, ◌⊎◌, ◌↔◌, IsTrue, IsSome, IfSome, Some, None, MatchOption, [], true, false, not, OnOk, OnErr, IfOk};
 ghost use Rattle.std.specs.BTreeMap.{is_at};
 ghost use Rattle.std.specs.Map.{lookup_entry};
 ghost use Rattle.tree_index.specs.Shape.{way};
@@ -109,6 +109,29 @@ impl<K: Ord, V> Arenas<K, V> {
         self.node_at(0, key)
     }
 
+    /// The numbers of the node over leaves and of the leaf on the way to a key, by one way down.
+    #[inline(always)]
+    fn way_to(&self, key: &K) -> (usize, usize)
+        requires { IsSound K.cmp self.now }
+        ensures above { self.now.height ≢ 0 → result.0 ≡ way K.cmp (content_of self.now) key.now (self.now.height - 1) self.now.root }
+        ensures leaf { result.1 ≡ leaf_on_way K.cmp key.now self.now }
+    {
+        let mut above = self.root;
+        let mut at = self.root;
+        let mut height = self.height;
+        while height > 0 {
+            match self.nodes.get(at) {
+                Some(node) => {
+                    above = at;
+                    at = node.child(key);
+                },
+                None => unreachable!(),
+            }
+            height -= 1;
+        }
+        (above, at)
+    }
+
     /// The pair with this key.
     #[inline(always)]
     pub(crate) fn search_entry(&self, key: &K) -> Option<(&K, &V)>
@@ -136,14 +159,16 @@ impl<K: Ord, V> Arenas<K, V> {
     /// Inserts a pair into the leaf on the way to its key, and where `UPSERT` is true writes it over the one
     /// that has its key. It is full where no pair has the key, and that leaf has no room, or there is none.
     #[inline(always)]
-    pub(crate) fn insert<const UPSERT: bool>(&mut self, key: K, val: V) -> InsertResult<K, V>
+    fn insert<const UPSERT: bool>(&mut self, at: usize, key: K, val: V) -> InsertResult<K, V>
     where
         K: Drop,
         V: Drop,
         requires sound { IsSound K.cmp self.old }
+        requires on { at ≡ leaf_on_way K.cmp key self.old }
         requires countable { has_key K.cmp key (pairs_of self.old) ≡ false → self.old.len + 1 < 2 ^ 64 }
         ensures sound { IsSound K.cmp self.new }
         ensures depth { self.new.height ≡ self.old.height }
+        ensures way { (steps : ℕ) → way K.cmp (content_of self.new) key steps self.new.root ≡ way K.cmp (content_of self.old) key steps self.old.root }
         ensures back { IfSome (given_back result) (λ p. p ≡ (key, val)) }
         ensures kept { IsSome (given_back result) → pairs_of self.new ≡ pairs_of self.old }
         ensures full { IsFull result → HasRoom K.cmp key self.old → ⊥ }
@@ -156,7 +181,6 @@ impl<K: Ord, V> Arenas<K, V> {
         ensures ascending_headroom { IsSome (given_back result) → ascending_headroom K.cmp self.new ≡ ascending_headroom K.cmp self.old }
         ensures ascending { IsSuccess result → IsAbove K.cmp key (pairs_of self.old) → ascending_headroom K.cmp self.old ≤ ascending_headroom K.cmp self.new + 1 }
     {
-        let at = self.leaf_of(&key);
         match self.leaves.get_mut(at) {
             Some(leaf) => {
                 let before = leaf.len();
@@ -192,8 +216,9 @@ impl<K: Ord, V> Arenas<K, V> {
         if self.len == usize::MAX && self.lacks(&key) {
             return InsertResult::Full(key, val);
         }
-        match self.insert::<UPSERT>(key, val) {
-            InsertResult::Full(key, val) => self.put_full::<UPSERT>(key, val),
+        let (above, at) = self.way_to(&key);
+        match self.insert::<UPSERT>(at, key, val) {
+            InsertResult::Full(key, val) => self.put_full::<UPSERT>(above, at, key, val),
             answer => answer,
         }
     }
@@ -208,14 +233,23 @@ impl<K: Ord, V> Arenas<K, V> {
         !self.contains(key)
     }
 
-    /// Inserts a pair whose key no pair has, where the leaf on the way has no room.
+    /// Inserts a pair whose key no pair has, where the leaf on the way, which is named with the node above it,
+    /// has no room.
     #[cold]
     #[inline(never)]
-    fn put_full<const UPSERT: bool>(&mut self, key: K, val: V) -> InsertResult<K, V>
+    fn put_full<const UPSERT: bool>(
+        &mut self,
+        above: usize,
+        at: usize,
+        key: K,
+        val: V,
+    ) -> InsertResult<K, V>
     where
         K: Clone + Drop,
         V: Drop,
         requires sound { IsSound K.cmp self.old }
+        requires above { self.old.height ≢ 0 → above ≡ way K.cmp (content_of self.old) key (self.old.height - 1) self.old.root }
+        requires on { at ≡ leaf_on_way K.cmp key self.old }
         requires countable { self.old.len + 1 < 2 ^ 64 }
         requires clones { ClonesAreSame K.is_clone }
         requires full { HasRoom K.cmp key self.old → ⊥ }
@@ -232,8 +266,8 @@ impl<K: Ord, V> Arenas<K, V> {
         ensures ascending_headroom { IsSome (given_back result) → ascending_headroom K.cmp self.new ≡ ascending_headroom K.cmp self.old }
         ensures ascending { IsSuccess result → IsAbove K.cmp key (pairs_of self.old) → ascending_headroom K.cmp self.old ≤ ascending_headroom K.cmp self.new + 1 }
     {
-        match self.make_room(&key) {
-            Ok(()) => self.insert::<UPSERT>(key, val),
+        match self.make_room(above, at, &key) {
+            Ok(leaf) => self.insert::<UPSERT>(leaf, key, val),
             Err(_) => InsertResult::Full(key, val),
         }
     }

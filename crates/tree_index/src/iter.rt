@@ -6,6 +6,7 @@ ghost use Rattle.tree_index.specs.Cursor.{shown, shown_back, can_turn, turned, d
 
 use crate::cursor::Ends;
 use crate::range::Range;
+use crate::take::Take;
 use std::marker::Model;
 use std::ops::Bound;
 
@@ -58,6 +59,21 @@ impl<'t, K: Ord, V> Iter<'t, K, V> {
         ensures turned { self.new ≡ turned K.cmp self.old }
     {
         self.ends.flip(Bound::Unbounded, Bound::Unbounded)
+    }
+
+    /// At most so many of the pairs that the forward end gives.
+    #[inline(always)]
+    pub fn take(self, count: usize) -> Take<'t, K, V>
+        ensures { result ≡ record { cursor = self.entry; left = count } }
+    {
+        Take::new(
+            Range {
+                ends: self.ends,
+                lower: Bound::Unbounded,
+                upper: Bound::Unbounded,
+            },
+            count,
+        )
     }
 
     /// Another cursor with its ends at the same places.

@@ -251,35 +251,41 @@ impl<K: Ord, V> Leaf<K, V> {
         }
     }
 
-    /// Moves the pairs up to the cut to an array of their own.
-    pub(crate) fn split(&mut self, whole: bool) -> Array<K, V>
+    /// Moves the pairs up to the cut to a leaf of their own, which stands before this one, whose number is given.
+    pub(crate) fn split(&mut self, whole: bool, own: usize) -> Leaf<K, V>
     where
         K: Drop,
         V: Drop,
-        ensures lower { result.pairs ≡ take (cond whole (length self.old.array.pairs) 8) self.old.array.pairs }
+        ensures lower { result.array.pairs ≡ take (cond whole (length self.old.array.pairs) 8) self.old.array.pairs }
         ensures upper { self.new.array.pairs ≡ drop (cond whole (length self.old.array.pairs) 8) self.old.array.pairs }
-        ensures lower_thawed { self.old.array.frozen ≡ false → result.frozen ≡ false }
+        ensures lower_thawed { self.old.array.frozen ≡ false → result.array.frozen ≡ false }
         ensures upper_thawed { self.old.array.frozen ≡ false → self.new.array.frozen ≡ false }
-        ensures lower_living { result.retired ≡ (whole && self.old.array.retired) }
+        ensures lower_living { result.array.retired ≡ (whole && self.old.array.retired) }
         ensures upper_living { self.new.array.retired ≡ false }
-        ensures lower_used { whole ≡ false → result.used ≤ 8 }
+        ensures lower_used { whole ≡ false → result.array.used ≤ 8 }
         ensures upper_used { self.new.array.used ≤ 7 }
         ensures upper_clear { whole ≡ true → self.new.array.used ≡ 0 }
         ensures rising { IsAscending K.cmp self.old.array.pairs }
-        ensures lower_rising { IsAscending K.cmp result.pairs }
+        ensures lower_rising { IsAscending K.cmp result.array.pairs }
         ensures upper_rising { IsAscending K.cmp self.new.array.pairs }
         ensures prev { self.new.prev ≡ self.old.prev }
         ensures next { self.new.next ≡ self.old.next }
+        ensures lower_prev { result.prev ≡ self.old.prev }
+        ensures lower_next { result.next ≡ Some own }
     {
         let _ = self.array.len();
-        let lower = if whole {
+        let array = if whole {
             mem::replace(&mut self.array, Array::new())
         } else {
             self.array.split_half()
         };
-        let _ = lower.len();
+        let _ = array.len();
         let _ = self.array.len();
-        lower
+        Leaf {
+            array,
+            prev: self.prev,
+            next: Some(own),
+        }
     }
 }
 

@@ -34,6 +34,7 @@ mod push;
 mod range;
 mod removal;
 mod split;
+mod take;
 mod walk;
 
 pub use index::{InsertRefused, TreeIndex};
@@ -43,3 +44,4 @@ pub use leaf_array::Steps;
 pub use node::{InternalNode, LeafNode, Node};
 pub use proximity::Proximity;
 pub use range::Range;
+pub use take::Take;

@@ -1,6 +1,6 @@
 //! Pairs that come by rising keys go behind the last one, without a search.
 
-ghost use Rattle.std.specs.Prelude.{◌≡◌, ◌<◌, ◌≤◌, ◌+◌, ◌^◌, ◌++◌, ◌∷◌, [], IsSome, IfSome};
+ghost use Rattle.std.specs.Prelude.{◌≡◌, ◌<◌, ◌≤◌, ◌+◌, ◌^◌, ◌++◌, ◌∷◌, [], IsSome, IfSome, true, false};
 ghost use Rattle.leaf_array.specs.Results.{IsSuccess, given_back};
 ghost use Rattle.leaf_array.specs.Values.{ClonesAreSame};
 ghost use Rattle.tree_index.specs.Content.{pairs_of, IsSound};
@@ -31,7 +31,7 @@ impl<K: Ord, V> Arenas<K, V> {
     {
         if self.len < usize::MAX {
             if let Some(at) = self.open_leaf() {
-                self.push_at(at, key, val);
+                let _ = self.push_at(at, key, val);
                 return InsertResult::Success;
             }
         }
@@ -40,7 +40,7 @@ impl<K: Ord, V> Arenas<K, V> {
 
     /// The last leaf, if it has pairs, and room for one more.
     #[inline]
-    fn open_leaf(&self) -> Option<usize>
+    pub(crate) fn open_leaf(&self) -> Option<usize>
         requires { IsSound K.cmp self.now }
         ensures { IfSome result (λ n. IsOpen self.now n) }
     {
@@ -59,23 +59,37 @@ impl<K: Ord, V> Arenas<K, V> {
         }
     }
 
-    /// Puts a pair behind those of the last leaf.
+    /// Puts a pair behind those of the last leaf, and says whether there is room for one more, which can be counted.
     #[inline]
-    fn push_at(&mut self, at: usize, key: K, val: V)
+    pub(crate) fn push_at(&mut self, at: usize, key: K, val: V) -> bool
         requires sound { IsSound K.cmp self.old }
         requires countable { self.old.len + 1 < 2 ^ 64 }
         requires open { IsOpen self.old at }
         requires above { IsAbove K.cmp key (pairs_of self.old) }
         ensures sound { IsSound K.cmp self.new }
+        ensures open { result ≡ true → IsOpen self.new at }
+        ensures countable { result ≡ true → self.new.len + 1 < 2 ^ 64 }
         ensures done { pairs_of self.new ≡ pairs_of self.old ++ (key, val) ∷ [] }
         ensures ascending { ascending_headroom K.cmp self.old ≤ ascending_headroom K.cmp self.new + 1 }
     {
         match self.leaves.get_mut(at) {
             Some(leaf) => {
                 leaf.push(key, val);
+                let _ = leaf.len();
+                let full = leaf.array.is_full();
                 self.len += 1;
+                takes_more(full, self.len)
             },
             None => unreachable!(),
         }
     }
+}
+
+/// Whether a leaf that is full or not takes one more pair of a tree with so many.
+#[inline(always)]
+fn takes_more(full: bool, len: usize) -> bool
+    ensures room { result ≡ true → full ≡ false }
+    ensures countable { result ≡ true → len + 1 < 2 ^ 64 }
+{
+    !full && len < usize::MAX
 }

@@ -4,6 +4,7 @@ ghost use Rattle.std.specs.Prelude.{◌≡◌};
 ghost use Rattle.tree_index.specs.Cursor.{shown, shown_back, can_turn, turned, deref_pair};
 
 use crate::cursor::Ends;
+use crate::take::Take;
 use std::marker::Model;
 use std::ops::Bound;
 
@@ -56,6 +57,14 @@ impl<'t, K: Ord, V> Range<'t, K, V> {
         ensures turned { self.new ≡ turned K.cmp self.old }
     {
         self.ends.flip(self.lower, self.upper)
+    }
+
+    /// At most so many of the pairs that the forward end gives.
+    #[inline(always)]
+    pub fn take(self, count: usize) -> Take<'t, K, V>
+        ensures { result ≡ record { cursor = self.entry; left = count } }
+    {
+        Take::new(self, count)
     }
 
     /// Another cursor with its ends at the same places.

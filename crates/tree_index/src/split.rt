@@ -20,20 +20,29 @@ use std::alloc::AllocError;
 const CROWDED: usize = 12;
 
 impl<K: Ord, V> Arenas<K, V> {
-    /// Makes room for one more pair in the leaf on the way to a key. The pairs stay as they are, and so
-    /// does the height where memory is refused.
+    /// Makes room for one more pair in the leaf on the way to a key, which is named with the node above it, and
+    /// gives the leaf that the way leads to then. The pairs stay as they are, and so does the height where memory
+    /// is refused.
     #[cold]
     #[inline(never)]
-    pub(crate) fn make_room(&mut self, key: &K) -> Result<(), AllocError>
+    pub(crate) fn make_room(
+        &mut self,
+        above: usize,
+        at: usize,
+        key: &K,
+    ) -> Result<usize, AllocError>
     where
         K: Clone + Drop,
         V: Drop,
         requires sound { IsSound K.cmp self.old }
+        requires above { self.old.height ≢ 0 → above ≡ way K.cmp (content_of self.old) key.now (self.old.height - 1) self.old.root }
+        requires on { at ≡ leaf_on_way K.cmp key.now self.old }
         requires clones { ClonesAreSame K.is_clone }
         requires full { HasRoom K.cmp key.now self.old → ⊥ }
         ensures sound { IsSound K.cmp self.new }
         ensures pairs { pairs_of self.new ≡ pairs_of self.old }
         ensures room { OnOk result (HasRoom K.cmp key.now self.new) }
+        ensures on { IfOk result (λ n. n ≡ leaf_on_way K.cmp key.now self.new) }
         ensures refused { OnErr result (self.new.height ≡ self.old.height) }
         ensures ascending_headroom { OnErr result (ascending_headroom K.cmp self.new ≡ ascending_headroom K.cmp self.old) }
         ensures ascending { OnOk result (IsAbove K.cmp key.now (pairs_of self.old) → 1 < ascending_headroom K.cmp self.old → ascending_headroom K.cmp self.old ≤ ascending_headroom K.cmp self.new) }
@@ -41,10 +50,9 @@ impl<K: Ord, V> Arenas<K, V> {
         if self.height == 0 {
             return self.init_root(key);
         }
-        let at = self.leaf_of(key);
         if !self.is_crowded(at, key) {
             self.pack(at, key);
-            return Ok(());
+            return Ok(at);
         }
         let split_point = self.split_point(at, key)?;
         let Some(most) = self.height.checked_add(1) else {
@@ -52,13 +60,12 @@ impl<K: Ord, V> Arenas<K, V> {
         };
         self.leaves.reserve(1)?;
         self.nodes.reserve(most)?;
-        let above = self.split_nodes(key);
-        self.split_leaf(above, at, key, split_point);
-        Ok(())
+        let above = self.split_nodes(above, key);
+        Ok(self.split_leaf(above, at, key, split_point))
     }
 
-    /// Plants a first leaf under a first node.
-    fn init_root(&mut self, key: &K) -> Result<(), AllocError>
+    /// Plants a first leaf under a first node, and gives its number.
+    fn init_root(&mut self, key: &K) -> Result<usize, AllocError>
     where
         K: Drop,
         V: Drop,
@@ -67,6 +74,7 @@ impl<K: Ord, V> Arenas<K, V> {
         ensures sound { IsSound K.cmp self.new }
         ensures pairs { pairs_of self.new ≡ pairs_of self.old }
         ensures room { OnOk result (HasRoom K.cmp key.now self.new) }
+        ensures on { IfOk result (λ n. n ≡ leaf_on_way K.cmp key.now self.new) }
         ensures refused { OnErr result (self.new.height ≡ self.old.height) }
         ensures ascending_headroom { OnErr result (ascending_headroom K.cmp self.new ≡ ascending_headroom K.cmp self.old) }
         ensures ascending { OnOk result (ascending_headroom K.cmp self.old ≤ ascending_headroom K.cmp self.new) }
@@ -84,7 +92,7 @@ impl<K: Ord, V> Arenas<K, V> {
             last: leaf,
         });
         self.height = 1;
-        Ok(())
+        Ok(leaf)
     }
 
     /// Whether the leaf on the way to a key has so many pairs that it is to be split.
@@ -114,6 +122,7 @@ impl<K: Ord, V> Arenas<K, V> {
         ensures sound { IsSound K.cmp self.new }
         ensures pairs { pairs_of self.new ≡ pairs_of self.old }
         ensures room { HasRoom K.cmp key.now self.new }
+        ensures on { at ≡ leaf_on_way K.cmp key.now self.new }
         ensures height { self.new.height ≡ self.old.height }
         ensures ascending { ascending_headroom K.cmp self.old ≤ ascending_headroom K.cmp self.new }
     {
@@ -161,13 +170,14 @@ impl<K: Ord, V> Arenas<K, V> {
         }
     }
 
-    /// Makes room in the lowest node on the way to a key: where it is full, all that are full are split.
-    /// It gives the number of the lowest one then.
-    fn split_nodes(&mut self, key: &K) -> usize
+    /// Makes room in the lowest node on the way to a key, which is named: where it is full, all that are full are
+    /// split. It gives the number of the lowest one then.
+    fn split_nodes(&mut self, above: usize, key: &K) -> usize
     where
         K: Drop,
         requires sound { IsSound K.cmp self.old }
         requires planted { self.old.height ≢ 0 }
+        requires lowest { above ≡ way K.cmp (content_of self.old) key.now (self.old.height - 1) self.old.root }
         requires short { self.old.height + 1 < 2 ^ 64 }
         requires nodes { HasRoomFor self.old.nodes (self.old.height + 1) }
         ensures sound { IsSound K.cmp self.new }
@@ -179,7 +189,6 @@ impl<K: Ord, V> Arenas<K, V> {
         ensures still { NodeHasRoom K.cmp key.now self.old 1 → self.new ≡ self.old }
         ensures lowest { result ≡ way K.cmp (content_of self.new) key.now (self.new.height - 1) self.new.root }
     {
-        let above = self.node_at(1, key);
         if !self.is_full(above, 1, key) {
             return above;
         }
@@ -253,8 +262,14 @@ impl<K: Ord, V> Arenas<K, V> {
         }
     }
 
-    /// Splits the leaf on the way to a key, whose node has room.
-    fn split_leaf(&mut self, above: usize, child: usize, key: &K, split_point: SplitPoint<K>)
+    /// Splits the leaf on the way to a key, whose node has room, and gives the part that the way leads to then.
+    fn split_leaf(
+        &mut self,
+        above: usize,
+        child: usize,
+        key: &K,
+        split_point: SplitPoint<K>,
+    ) -> usize
     where
         K: Drop,
         V: Drop,
@@ -268,24 +283,31 @@ impl<K: Ord, V> Arenas<K, V> {
         ensures sound { IsSound K.cmp self.new }
         ensures pairs { pairs_of self.new ≡ pairs_of self.old }
         ensures room { HasRoom K.cmp key.now self.new }
+        ensures on { result ≡ leaf_on_way K.cmp key.now self.new }
         ensures ascending { IsAbove K.cmp key.now (pairs_of self.old) → IsLeafFull K.cmp key.now self.old → 1 < ascending_headroom K.cmp self.old → ascending_headroom K.cmp self.old ≤ ascending_headroom K.cmp self.new }
     {
-        let _ = key;
-        let (lower, before) = match self.leaves.get_mut(child) {
-            Some(leaf) => (leaf.split(split_point.whole), leaf.prev),
+        let is_upper = split_point.separator.cmp(key).is_lt();
+        let lower = match self.leaves.get_mut(child) {
+            Some(leaf) => leaf.split(split_point.whole, child),
             None => unreachable!(),
         };
-        let fresh = self.leaves.insert_reserved(Leaf {
-            array: lower,
-            prev: before,
-            next: Some(child),
-        });
+        let before = lower.prev;
+        let fresh = self.leaves.insert_reserved(lower);
         link(&mut self.leaves, before, fresh, child);
         match self.nodes.get_mut(above) {
             Some(node) => node.insert(split_point.separator, fresh),
             None => unreachable!(),
         }
+        chosen(is_upper, child, fresh)
     }
+}
+
+/// One of two numbers.
+#[inline(always)]
+fn chosen(is_first: bool, first: usize, second: usize) -> usize
+    ensures { result ≡ cond is_first first second }
+{
+    if is_first { first } else { second }
 }
 
 /// Links a new leaf in between two, of which the first may be missing.

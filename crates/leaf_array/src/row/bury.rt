@@ -1,17 +1,21 @@
 //! A live place that dies.
 
 ghost use Rattle.std.specs.Prelude.{◌≡◌, ◌<◌, ◌≤◌, ◌++◌, ◌∷◌, [], length, take, drop};
+ghost use Rattle.leaf_array.specs.declared.place.Place.TheVariants.{Empty};
 ghost use Rattle.leaf_array.specs.Places.{top, sunk, tombstones};
 
-use crate::place::{Place, fill, widened};
+use crate::place::{Place, fill, widen};
 use crate::row::{Last, Link, Places};
 use std::mem;
 
 /// A row in which live places die.
 pub(crate) trait Bury<K, V>: Places<K, V> {
-    /// Puts a place behind the live ones at the front, and gives the first of all these.
-    fn pull(&mut self, last: Place<K, V>) -> Place<K, V>
-        ensures { result ∷ Self.places self.new ≡ sunk last (Self.places self.old) };
+    ghost use Rattle.leaf_array.specs.declared.place.Place.TheVariants.{Empty};
+
+    /// Moves the live places at the front up by one, the first into a hole before them, and puts a place behind them.
+    fn sink(&mut self, hole: &mut Place<K, V>, last: Place<K, V>)
+        requires { hole.old ≡ Empty }
+        ensures { hole.new ∷ Self.places self.new ≡ sunk last (Self.places self.old) };
 
     /// Buries the live place `at`: it is dead, and behind the live ones.
     fn bury(&mut self, at: usize)
@@ -22,12 +26,13 @@ pub(crate) trait Bury<K, V>: Places<K, V> {
 
 impl<K, V> Bury<K, V> for Last<K, V> {
     #[inline(always)]
-    fn pull(&mut self, last: Place<K, V>) -> Place<K, V>
-        ensures { result ∷ self.new.head ∷ [] ≡ sunk last (self.old.head ∷ []) }
+    fn sink(&mut self, hole: &mut Place<K, V>, last: Place<K, V>)
+        requires { hole.old ≡ Empty }
+        ensures { hole.new ∷ self.new.head ∷ [] ≡ sunk last (self.old.head ∷ []) }
     {
         match &self.head {
-            Place::Live { .. } => mem::replace(&mut self.head, last),
-            _ => last,
+            Place::Live { .. } => fill(hole, mem::replace(&mut self.head, last)),
+            _ => fill(hole, last),
         }
     }
 
@@ -47,15 +52,16 @@ impl<K, V> Bury<K, V> for Last<K, V> {
 
 impl<K, V, R: Bury<K, V>> Bury<K, V> for Link<K, V, R> {
     #[inline(always)]
-    fn pull(&mut self, last: Place<K, V>) -> Place<K, V>
-        ensures { result ∷ self.new.head ∷ R.places self.new.rest ≡ sunk last (self.old.head ∷ R.places self.old.rest) }
+    fn sink(&mut self, hole: &mut Place<K, V>, last: Place<K, V>)
+        requires { hole.old ≡ Empty }
+        ensures { hole.new ∷ self.new.head ∷ R.places self.new.rest ≡ sunk last (self.old.head ∷ R.places self.old.rest) }
     {
         match &self.head {
             Place::Live { .. } => {
-                let next = self.rest.pull(last);
-                mem::replace(&mut self.head, next)
+                fill(hole, mem::replace(&mut self.head, Place::Empty));
+                self.rest.sink(&mut self.head, last);
             },
-            _ => last,
+            _ => fill(hole, last),
         }
     }
 
@@ -72,8 +78,9 @@ impl<K, V, R: Bury<K, V>> Bury<K, V> for Link<K, V, R> {
                 key,
                 value,
             } => {
-                let next = self.rest.pull(Place::Dead { slot, key, value });
-                fill(&mut self.head, widened(next, gap + 1));
+                self.rest
+                    .sink(&mut self.head, Place::Dead { slot, key, value });
+                widen(&mut self.head, gap + 1);
             },
             other => fill(&mut self.head, other),
         }

@@ -1,7 +1,7 @@
 //! The slots of a packed row.
 
 ghost use Rattle.std.specs.Prelude.{◌≡◌, ◌+◌, ◌≤◌, length};
-ghost use Rattle.leaf_array.specs.Places.{packed};
+ghost use Rattle.leaf_array.specs.Places.{packed, IsTailed};
 
 use crate::place::renumber;
 use crate::row::{Last, Link, Places};
@@ -9,22 +9,25 @@ use crate::row::{Last, Link, Places};
 /// A row whose pairs can be let go.
 pub(crate) trait Renumber<K: Drop, V: Drop>: Places<K, V> {
     /// Drops the dead pairs, and gives the live ones the slots of the bitmap places from `from` on, without gaps.
+    /// It goes no further than to the first empty place.
     fn renumber(&mut self, from: u8)
-        requires { from + length (Self.places self.old) ≤ 15 }
+        requires within { from + length (Self.places self.old) ≤ 15 }
+        requires tailed { IsTailed (Self.places self.old) }
         ensures { Self.places self.new ≡ packed from (Self.places self.old) };
 }
 
 impl<K: Drop, V: Drop> Renumber<K, V> for Last<K, V> {
     #[inline(always)]
     fn renumber(&mut self, from: u8) {
-        renumber(&mut self.head, from);
+        let _ = renumber(&mut self.head, from);
     }
 }
 
 impl<K: Drop, V: Drop, R: Renumber<K, V>> Renumber<K, V> for Link<K, V, R> {
     #[inline(always)]
     fn renumber(&mut self, from: u8) {
-        renumber(&mut self.head, from);
-        self.rest.renumber(from + 1);
+        if renumber(&mut self.head, from) {
+            self.rest.renumber(from + 1);
+        }
     }
 }

@@ -88,6 +88,21 @@ fn a_range_keeps_to_its_bounds(rt: HostRuntime) -> Result<(), Fail> {
 }
 
 #[test]
+fn a_cursor_gives_no_more_pairs_than_are_taken(rt: HostRuntime) -> Result<(), Fail> {
+    let tree = tree_of(&rt, rt.alloc(), &[(1, 2), (2, 3), (4, 6), (8, 12)]);
+    for (count, given) in [(0usize, 0usize), (2, 2), (3, 3), (9, 3)] {
+        let range = tree.range(Bound::Included(&2), Bound::Unbounded);
+        assert_eq!(rt; range.take(count).count(), given);
+    }
+    let mut first = tree.iter().take(1);
+    assert_eq!(rt; first.next(), Some((&1, &2)));
+    assert!(rt; first.next().is_none());
+    let mut beyond = tree.range(Bound::Excluded(&8), Bound::Unbounded).take(1);
+    assert!(rt; beyond.next().is_none());
+    Ok(())
+}
+
+#[test]
 fn an_excluded_bound_is_left_out(rt: HostRuntime) -> Result<(), Fail> {
     let mut tree = TreeIndex::new(rt.alloc());
     for key in 1..10u64 {

@@ -263,6 +263,33 @@ fn a_tree_of_keys_in_no_order_is_equal_to_its_clone(rt: HostRuntime) -> Result<(
 }
 
 #[test]
+fn clones_of_trees_that_lost_pairs_go_on_by_themselves(rt: HostRuntime) -> Result<(), Fail> {
+    for count in [0u64, 1, 14, 15, 16, 29, 30, 31, 45, 240, 241, 700] {
+        let mut tree: TreeIndex<u64, u64> = TreeIndex::new(rt.alloc());
+        for key in 0..count {
+            assert!(rt; tree.insert_sync(key * 389 % 701, key).is_ok());
+        }
+        for key in 0..count / 3 {
+            assert!(rt; tree.remove_sync(&(key * 389 % 701)));
+        }
+        let mut copy = tree.clone(rt.alloc())?;
+        assert!(rt; copy == tree);
+        assert_eq!(rt; copy.len(), tree.len());
+        assert!(rt; copy.len() > 240 || copy.depth() <= 1);
+        for key in 701..1000u64 {
+            assert!(rt; copy.insert_sync(key, key).is_ok());
+        }
+        for key in 0..1000u64 {
+            let there = key > 700 || tree.contains(&key);
+            assert_eq!(rt; copy.remove_sync(&key), there);
+        }
+        assert!(rt; copy.is_empty());
+        assert_eq!(rt; tree.len() as u64, count - count / 3);
+    }
+    Ok(())
+}
+
+#[test]
 fn a_day_is_kept_in_a_tree(rt: HostRuntime) -> Result<(), Fail> {
     let mut day: TreeIndex<u64, &str> = TreeIndex::new(rt.alloc());
     assert!(rt; day.upsert_sync(930, "dentist").is_ok());

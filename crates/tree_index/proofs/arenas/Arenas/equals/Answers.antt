@@ -3,7 +3,8 @@ use Rattle.std.specs.Cmp.Lexicographic.{pointwise}
 use Rattle.tree_index.specs.Content.{pairs_of}
 use Rattle.tree_index.specs.Walk.{position, IsPosition}
 use Rattle.tree_index.proofs.EndLemmas.{spot_pair}
-use Rattle.tree_index.proofs.EqualLemmas.{place, IsPlace, place_of_answer, place_is, spots_equal}
+use Rattle.tree_index.specs.Copy.{place, IsPlace}
+use Rattle.tree_index.proofs.EqualLemmas.{place_of_answer, place_is, spots_equal}
 use Rattle.tree_index.proofs.arenas.Arenas.equals.Goals as goal
 
 pub returns-then-not-are_equal : goal.returns-then-not-are_equal

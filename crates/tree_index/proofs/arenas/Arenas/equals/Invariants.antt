@@ -1,7 +1,7 @@
 use Rattle.std.proofs.Common.{◌≡◌, ◌-◌, ◌&&◌, length, drop}
 use Rattle.std.specs.Cmp.Lexicographic.{pointwise}
 use Rattle.tree_index.specs.Content.{pairs_of}
-use Rattle.tree_index.proofs.EqualLemmas.{place, IsPlace}
+use Rattle.tree_index.specs.Copy.{place, IsPlace}
 use Rattle.tree_index.proofs.arenas.Arenas.equals.Given as goal
 
 -- both stand at the same place, and the pairs before it are equal

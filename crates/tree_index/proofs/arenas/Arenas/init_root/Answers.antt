@@ -38,3 +38,12 @@ returns-clause-room g c =
     let on : way cmp b c.args.key.now 1 root ≡ leaf = rw n refl in
     let m : Leaf g.row.K.Denot g.row.V.Denot = record { array = c.new.result; prev = None; next = None } in
     record { leaf = m; there = rw on c.insert_reserved-leaf.ensures.updates.changed; living = rw c.new.ensures refl; room = rw c.new.ensures (omega arith) }
+
+pub returns-clause-on : goal.returns-clause-on
+returns-clause-on g c =
+    let leaf = c.insert_reserved-leaf.result in
+    let root = c.insert_reserved-self.result in
+    let b : Content g.row.K.Denot g.row.V.Denot = content c.insert_reserved-leaf.new.self c.insert_reserved-self.new.self in
+    let n : b.node root ≡ Some (no_cells false, leaf) = ap (option_map (λ (n : InnerNode g.row.K.Denot). (n.children, n.last))) c.insert_reserved-self.ensures.updates.changed ∙ ap (λ (d : Cells g.row.K.Denot ℕ). Some (d, leaf)) c.new-2.ensures in
+    let on : way g.K.Ord.cmp b c.args.key.now 1 root ≡ leaf = rw n refl in
+    sym on

@@ -76,3 +76,19 @@ returns-clause-ascending g c =
     let room = root_less cmp a b (returns-clause-pairs g c) refl (room_less a.leaves n l m here (omega (arith, c.pack.ensures.used, c.len.ensures.count, c.len.ensures.used))) in
     let less = rises_less a.height (root_room cmp a) (root_room cmp b) 0 (λ h. omega (arith, room)) in
     omega (arith, less)
+
+pub returns-clause-on : goal.returns-clause-on
+returns-clause-on g c =
+    let cmp = g.K.Ord.cmp in
+    let o = g.met.K.Ord.total in
+    let key = c.args.key.now in
+    let a = c.args.self.now in
+    let s = c.requires.sound in
+    let n = c.args.at in
+    let on = c.requires.on in
+    let l : Leaf g.row.K.Denot g.row.V.Denot = c.in-Some.leaf.now in
+    let here : get a.leaves n ≡ Some l = sym c.in-Some.ensures.value in
+    let m : Leaf g.row.K.Denot g.row.V.Denot = c.pack.new.self in
+    let p : m.array.pairs ≡ l.array.pairs = c.pack.ensures.pairs in
+    let w = rewritten cmp o key a s n on l here m a.len (c.pack.ensures.thawed ∙ leaf_open cmp o key a s c.requires.planted n on l here) (subst (IsAscending cmp) (sym p) c.len.ensures.rising) (λ low high within all. subst (AllKeys (IsWithin cmp low high)) (sym p) all) in
+    on ∙ sym w.same_way

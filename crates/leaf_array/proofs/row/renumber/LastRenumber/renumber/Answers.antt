@@ -2,4 +2,4 @@ use Rattle.std.proofs.Common.{[]}
 use Rattle.leaf_array.proofs.row.renumber.LastRenumber.renumber.Goals as goal
 
 pub returns : goal.returns
-returns g c = c.renumber.ensures []
+returns g c = c.renumber.ensures.places []
