@@ -1,31 +1,39 @@
-//! What the tests of places share: small places, and ends of what they made.
-
-ghost use Rattle.std.specs.Prelude.{◌≡◌, ◌<◌, ◌≤◌, length, IfOk};
-ghost use Rattle.sdd_base.specs.State.{fresh};
-ghost use Rattle.sdd_base.specs.Frame.{OnlyParticipant};
-ghost use Rattle.sdd_base.specs.Place.{IsOpen, IsOwned, IsShared};
-ghost use Rattle.sdd_base.specs.Tokens.{owned_slot, participant_of, shared_slot};
+//! What the tests of places share: small places, calls of them, and ends of what they made. What a call requires is asked of
+//! the place first, so that a test is a row of calls that asks nothing of the prover.
 
 use sdd_base::{
-    AtomicOwned, AtomicRaw, AtomicShared, Deferred, Holds, Owned, Shared, Sizes, World, WorldGuard,
-    world,
+    AtomicOwned, AtomicRaw, AtomicShared, Deferred, Holds, Owned, Ptr, Shared, Sizes, World,
+    WorldGuard, world,
 };
-use std::alloc::{AllocError, Global};
+use std::alloc::Global;
 use std::process::Abort;
 
-/// A world of numbers with two participants.
-pub(crate) fn numbers(alloc: Global, slots: usize, cells: usize) -> Result<World<u64>, AllocError>
-    requires slots { slots ≤ 8 }
-    requires cells { cells ≤ 8 }
-    ensures { IfOk result (λ w. w ≡ fresh (record { participants = 2; slots = slots; cells = cells; jobs = 0 })) }
-{
+/// A small world without jobs.
+pub(crate) fn place<T: Holds, R: Abort>(
+    rt: &R,
+    alloc: Global,
+    participants: usize,
+    slots: usize,
+    cells: usize,
+) -> World<T> {
+    if participants == 0 || participants > 8 || slots > 8 || cells > 8 {
+        panic!(rt; "a small place");
+    }
     let sizes = Sizes {
-        participants: 2,
+        participants,
         slots,
         cells,
         jobs: 0,
     };
-    World::new(alloc, sizes)
+    match World::new(alloc, sizes) {
+        Ok(w) => w,
+        Err(_) => panic!(rt; "memory is ample"),
+    }
+}
+
+/// A world of numbers with two participants.
+pub(crate) fn numbers<R: Abort>(rt: &R, alloc: Global, slots: usize, cells: usize) -> World<u64> {
+    place(rt, alloc, 2, slots, cells)
 }
 
 /// Ends a world in which nothing is out.
@@ -37,11 +45,10 @@ pub(crate) fn end<T: Holds, J: Deferred, R: Abort>(rt: &R, w: World<T, J>) {
 }
 
 /// One accelerated guard of participant `p`.
-pub(crate) fn pass<T: Holds>(w: &mut World<T>, p: usize) -> bool
-    requires { p < length w.old.participants }
-    ensures participants { length w.new.participants ≡ length w.old.participants }
-    ensures only { OnlyParticipant p w.old w.new }
-{
+pub(crate) fn pass<T: Holds>(w: &mut World<T>, p: usize) -> bool {
+    if p >= w.participants() {
+        return false;
+    }
     match world::guard::new(w, p) {
         Ok(guard) => {
             world::guard::accelerate(w, &guard);
@@ -53,11 +60,7 @@ pub(crate) fn pass<T: Holds>(w: &mut World<T>, p: usize) -> bool
 }
 
 /// `n` accelerated guards of participant `p`, one by one.
-pub(crate) fn passes<T: Holds>(w: &mut World<T>, p: usize, n: usize) -> bool
-    requires { p < length w.old.participants }
-    ensures participants { length w.new.participants ≡ length w.old.participants }
-    ensures only { OnlyParticipant p w.old w.new }
-{
+pub(crate) fn passes<T: Holds>(w: &mut World<T>, p: usize, n: usize) -> bool {
     let mut open = true;
     for _ in 0..n {
         open = pass(w, p) && open;
@@ -66,10 +69,7 @@ pub(crate) fn passes<T: Holds>(w: &mut World<T>, p: usize, n: usize) -> bool
 }
 
 /// A new item with one owner, where a slot is free.
-pub(crate) fn owned_item<R: Abort>(rt: &R, w: &mut World<u64>, value: u64) -> Owned<u64>
-    ensures live { IsOwned w.new (owned_slot result) }
-    ensures participants { w.new.participants ≡ w.old.participants }
-{
+pub(crate) fn owned_item<R: Abort>(rt: &R, w: &mut World<u64>, value: u64) -> Owned<u64> {
     match world::owned::new(w, value) {
         Ok(owned) => owned,
         Err(_) => panic!(rt; "a slot is free"),
@@ -77,13 +77,25 @@ pub(crate) fn owned_item<R: Abort>(rt: &R, w: &mut World<u64>, value: u64) -> Ow
 }
 
 /// A new item with counted owners, where a slot is free.
-pub(crate) fn shared_item<R: Abort>(rt: &R, w: &mut World<u64>, value: u64) -> Shared<u64>
-    ensures live { IsShared w.new (shared_slot result) }
-    ensures participants { w.new.participants ≡ w.old.participants }
-{
+pub(crate) fn shared_item<T: Holds, R: Abort>(rt: &R, w: &mut World<T>, value: T) -> Shared<T> {
     match world::shared::new(w, value) {
         Ok(shared) => shared,
         Err(_) => panic!(rt; "a slot is free"),
+    }
+}
+
+/// One more owner of an item, where few are out.
+pub(crate) fn cloned<T: Holds, R: Abort>(
+    rt: &R,
+    w: &mut World<T>,
+    shared: &Shared<T>,
+) -> Shared<T> {
+    if !world::shared::is_here(w, shared) {
+        panic!(rt; "its item is there");
+    }
+    match world::shared::clone(w, shared) {
+        Some(more) => more,
+        None => panic!(rt; "few owners are out"),
     }
 }
 
@@ -92,17 +104,51 @@ pub(crate) fn guarded<T: Holds, J: Deferred, R: Abort>(
     rt: &R,
     w: &mut World<T, J>,
     p: usize,
-) -> WorldGuard
-    requires { p < length w.old.participants }
-    ensures guard { participant_of result ≡ p }
-    ensures open { IsOpen w.new p }
-    ensures participants { length w.new.participants ≡ length w.old.participants }
-    ensures only { OnlyParticipant p w.old w.new }
-{
+) -> WorldGuard {
+    if p >= w.participants() {
+        panic!(rt; "there is such a participant");
+    }
     match world::guard::new(w, p) {
         Ok(guard) => guard,
         Err(_) => panic!(rt; "few guards are open"),
     }
+}
+
+/// Accelerates a guard, and closes it.
+pub(crate) fn close_fast<T: Holds, J: Deferred, R: Abort>(
+    rt: &R,
+    w: &mut World<T, J>,
+    guard: WorldGuard,
+) {
+    if !world::guard::is_open(w, &guard) {
+        panic!(rt; "the guard is open");
+    }
+    world::guard::accelerate(w, &guard);
+    close(rt, w, guard);
+}
+
+/// Retires an item, by participant `p`.
+pub(crate) fn retire<R: Abort>(rt: &R, w: &mut World<u64>, owned: Owned<u64>, p: usize) {
+    if !world::owned::is_here(w, &owned) || p >= w.participants() {
+        panic!(rt; "its item is there");
+    }
+    world::owned::retire(w, owned, p);
+}
+
+/// The value of an item with one owner.
+pub(crate) fn owned_value<R: Abort>(rt: &R, w: &World<u64>, owned: &Owned<u64>) -> u64 {
+    if !world::owned::is_here(w, owned) {
+        panic!(rt; "its item is there");
+    }
+    *world::owned::as_ref(w, owned)
+}
+
+/// What is read under a guard.
+pub(crate) fn read_at<R: Abort>(rt: &R, w: &World<u64>, at: &Ptr<'static, u64>) -> Option<u64> {
+    if !w.is_readable(at) {
+        panic!(rt; "a guard is open");
+    }
+    w.read(at).copied()
 }
 
 /// Closes a guard, which is open as each is that isn't closed.

@@ -1,91 +1,130 @@
 //! Items that are written and dropped in place.
 
 use crate::common::{
-    close, end, end_shared_cell, give_owned, give_shared, guarded, numbers, owned_item,
-    shared_item, used_after, value_of, was_last,
+    cloned, close, end, end_shared_cell, give_owned, give_shared, guarded, numbers, owned_item,
+    owned_value, retire, shared_item, used_after, value_of, was_last,
 };
-use crate::nested::dropped;
-use sdd_base::{ExclusiveAccess, GuardsOpen, NotLent, Shared, World, world};
+use sdd_base::{
+    AtomicShared, ExclusiveAccess, GuardsOpen, Holds, NotLent, Owned, Shared, World, world,
+};
 use std::process::Abort;
-use std::test::Fail;
 
-#[test]
-fn one_of_two_owners_is_given_back(rt: HostRuntime) -> Result<(), Fail> {
-    let mut w = numbers(rt.alloc(), 1, 0)?;
-    let first = shared_item(&rt, &mut w, 5);
-    let Some(second) = world::shared::clone(&mut w, &first) else {
-        panic!(rt; "few owners are out");
-    };
-    assert!(rt; !dropped(&rt, &mut w, first));
-    assert_eq!(rt; w.slots_in_use(), 1);
-    if !world::shared::is_here(&w, &second) {
-        panic!(rt; "it has one owner");
+/// Gives an owner back in place, where no guard is open, and answers whether it was the last.
+pub(crate) fn dropped<T: Holds, R: Abort>(rt: &R, w: &mut World<T>, shared: Shared<T>) -> bool {
+    if !world::shared::is_here(w, &shared) {
+        panic!(rt; "its item is there");
     }
-    assert!(rt; dropped(&rt, &mut w, second));
-    assert_eq!(rt; w.slots_in_use(), 0);
-    end(&rt, w);
-    Ok(())
+    match world::shared::drop_in_place(w, shared) {
+        Ok(last) => last,
+        Err(_) => panic!(rt; "no guard is open"),
+    }
 }
 
 #[test]
-fn what_waits_waits_on(rt: HostRuntime) -> Result<(), Fail> {
-    let mut w = numbers(rt.alloc(), 3, 0)?;
+fn one_of_two_owners_is_given_back(rt: HostRuntime) {
+    let mut w = numbers(&rt, rt.alloc(), 1, 0);
+    let first = shared_item(&rt, &mut w, 5);
+    let second = cloned(&rt, &mut w, &first);
+    let last = dropped(&rt, &mut w, first);
+    assert!(rt; !last && w.slots_in_use() == 1);
+    let last = dropped(&rt, &mut w, second);
+    assert!(rt; last && w.slots_in_use() == 0);
+    end(&rt, w);
+}
+
+/// Ends an item in place, or gives the owner back while a guard is open.
+fn drop_owned<R: Abort>(rt: &R, w: &mut World<u64>, owned: Owned<u64>) -> Result<(), Owned<u64>> {
+    if !world::owned::is_here(w, &owned) {
+        panic!(rt; "its item is there");
+    }
+    world::owned::drop_in_place(w, owned)
+}
+
+#[test]
+fn what_waits_waits_on(rt: HostRuntime) {
+    let mut w = numbers(&rt, rt.alloc(), 3, 0);
     let first = owned_item(&rt, &mut w, 5);
-    world::owned::retire(&mut w, first, 0);
+    retire(&rt, &mut w, first, 0);
     let second = owned_item(&rt, &mut w, 6);
-    match world::owned::drop_in_place(&mut w, second) {
+    match drop_owned(&rt, &mut w, second) {
         Ok(()) => {}
         Err(_) => panic!(rt; "no guard is open"),
     }
-    assert_eq!(rt; w.slots_in_use(), 1);
-    assert_eq!(rt; used_after(&rt, &mut w, 0, 3), 1);
-    assert_eq!(rt; used_after(&rt, &mut w, 0, 1), 0);
+    let used = w.slots_in_use();
+    let later = (used_after(&rt, &mut w, 0, 3), used_after(&rt, &mut w, 0, 1));
+    assert!(rt; (used, later) == (1, (1, 0)));
     end(&rt, w);
-    Ok(())
+}
+
+/// The owner that comes back, since a guard is open.
+fn kept_owned<R: Abort>(rt: &R, told: Result<(), Owned<u64>>) -> Owned<u64> {
+    match told {
+        Err(owned) => owned,
+        Ok(()) => panic!(rt; "a guard is open"),
+    }
 }
 
 #[test]
-fn no_owned_item_is_dropped_under_a_guard(rt: HostRuntime) -> Result<(), Fail> {
-    let mut w = numbers(rt.alloc(), 1, 0)?;
+fn no_owned_item_is_dropped_under_a_guard(rt: HostRuntime) {
+    let mut w = numbers(&rt, rt.alloc(), 1, 0);
     let guard = guarded(&rt, &mut w, 1);
     let owned = owned_item(&rt, &mut w, 5);
-    let Err(owned) = world::owned::drop_in_place(&mut w, owned) else {
-        panic!(rt; "a guard is open");
-    };
-    assert_eq!(rt; *world::owned::as_ref(&w, &owned), 5);
+    let told = drop_owned(&rt, &mut w, owned);
+    let owned = kept_owned(&rt, told);
+    assert!(rt; owned_value(&rt, &w, &owned) == 5);
     give_owned(&rt, &mut w, owned);
     close(&rt, &mut w, guard);
     end(&rt, w);
-    Ok(())
+}
+
+/// An owner whose item isn't dropped, since a guard is open.
+fn kept_shared<R: Abort>(rt: &R, w: &mut World<u64>, shared: Shared<u64>) -> Shared<u64> {
+    if !world::shared::is_here(w, &shared) {
+        panic!(rt; "its item is there");
+    }
+    match world::shared::drop_in_place(w, shared) {
+        Err(shared) => shared,
+        Ok(_) => panic!(rt; "a guard is open"),
+    }
 }
 
 #[test]
-fn no_shared_item_is_dropped_under_a_guard(rt: HostRuntime) -> Result<(), Fail> {
-    let mut w = numbers(rt.alloc(), 1, 0)?;
+fn no_shared_item_is_dropped_under_a_guard(rt: HostRuntime) {
+    let mut w = numbers(&rt, rt.alloc(), 1, 0);
     let guard = guarded(&rt, &mut w, 1);
     let shared = shared_item(&rt, &mut w, 6);
-    let Err(shared) = world::shared::drop_in_place(&mut w, shared) else {
-        panic!(rt; "a guard is open");
-    };
-    assert_eq!(rt; *world::shared::as_ref(&w, &shared), 6);
+    let shared = kept_shared(&rt, &mut w, shared);
+    assert!(rt; value_of(&rt, &w, &shared) == 6);
     give_shared(&rt, &mut w, shared);
     close(&rt, &mut w, guard);
     end(&rt, w);
+}
+
+/// Writes the value of an item with one owner, where it is lent.
+fn written_owned<R: Abort>(
+    rt: &R,
+    w: &mut World<u64>,
+    owner: &Owned<u64>,
+    new: u64,
+) -> Result<(), GuardsOpen> {
+    if !world::owned::is_here(w, owner) {
+        panic!(rt; "its item is there");
+    }
+    match world::owned::get_mut(w, owner) {
+        Ok(value) => *value = new,
+        Err(refused) => return Err(refused),
+    }
     Ok(())
 }
 
 #[test]
-fn an_owned_value_is_written(rt: HostRuntime) -> Result<(), Fail> {
-    let mut w = numbers(rt.alloc(), 1, 0)?;
+fn an_owned_value_is_written(rt: HostRuntime) {
+    let mut w = numbers(&rt, rt.alloc(), 1, 0);
     let owned = owned_item(&rt, &mut w, 5);
-    match world::owned::get_mut(&mut w, &owned) {
-        Ok(value) => *value = 7,
-        Err(_) => panic!(rt; "no guard is open"),
-    }
-    assert_eq!(rt; *world::owned::as_ref(&w, &owned), 7);
+    let written = written_owned(&rt, &mut w, &owned, 7).is_ok();
+    assert!(rt; written && owned_value(&rt, &w, &owned) == 7);
     give_owned(&rt, &mut w, owned);
     end(&rt, w);
-    Ok(())
 }
 
 /// Writes the value of an item, where it is lent.
@@ -106,88 +145,91 @@ fn written<R: Abort>(
 }
 
 #[test]
-fn a_shared_value_is_written_by_its_one_owner(rt: HostRuntime) -> Result<(), Fail> {
-    let mut w = numbers(rt.alloc(), 1, 0)?;
+fn a_shared_value_is_written_by_its_one_owner(rt: HostRuntime) {
+    let mut w = numbers(&rt, rt.alloc(), 1, 0);
     let first = shared_item(&rt, &mut w, 5);
-    let Some(second) = world::shared::clone(&mut w, &first) else {
-        panic!(rt; "few owners are out");
-    };
-    assert!(rt; written(&rt, &mut w, &first, 6) == Err(NotLent::NotSole));
-    assert!(rt; !was_last(&rt, &mut w, second));
-    assert!(rt; written(&rt, &mut w, &first, 7) == Ok(()));
-    assert_eq!(rt; value_of(&rt, &w, &first), 7);
+    let second = cloned(&rt, &mut w, &first);
+    let refused = written(&rt, &mut w, &first, 6) == Err(NotLent::NotSole);
+    let last = was_last(&rt, &mut w, second);
+    let done = written(&rt, &mut w, &first, 7) == Ok(());
+    assert!(rt; (refused, last, done) == (true, false, true));
+    assert!(rt; value_of(&rt, &w, &first) == 7);
     give_shared(&rt, &mut w, first);
     end(&rt, w);
-    Ok(())
 }
 
-#[test]
-fn a_value_is_written_by_the_cell_that_owns_it_alone(rt: HostRuntime) -> Result<(), Fail> {
-    let mut w = numbers(rt.alloc(), 1, 1)?;
-    let Ok(cell) = world::atomic_shared::new(&mut w, 5) else {
-        panic!(rt; "a slot and a cell are free");
-    };
-    assert!(rt; !w.has_open_guard());
-    match w.cell_mut(&cell) {
-        Ok(value) => {
-            assert!(rt; *value == 5);
-            *value = 7;
-        }
-        Err(_) => panic!(rt; "the cell is the one owner"),
+/// Writes the value that a cell of this owner keeps, where it is lent, and tells the one before.
+fn written_by_cell<R: Abort>(
+    rt: &R,
+    w: &mut World<u64>,
+    shared: Shared<u64>,
+    new: u64,
+) -> (AtomicShared<u64>, Result<u64, NotLent>) {
+    if !world::shared::is_here(w, &shared) {
+        panic!(rt; "its item is there");
     }
-    end_shared_cell(&rt, &mut w, cell);
-    end(&rt, w);
-    Ok(())
-}
-
-#[test]
-fn no_value_is_written_by_a_cell_beside_other_owners(rt: HostRuntime) -> Result<(), Fail> {
-    let mut w = numbers(rt.alloc(), 1, 1)?;
-    let first = shared_item(&rt, &mut w, 5);
-    let Some(second) = world::shared::clone(&mut w, &first) else {
-        panic!(rt; "few owners are out");
-    };
-    let cell = match world::atomic_shared::from(&mut w, second) {
+    let cell = match world::atomic_shared::from(w, shared) {
         Ok(cell) => cell,
         Err(_) => panic!(rt; "a cell is free"),
     };
-    assert_eq!(rt; w.cell_mut(&cell).err(), Some(NotLent::NotSole));
+    let told = match w.cell_mut(&cell) {
+        Ok(value) => {
+            let before = *value;
+            *value = new;
+            Ok(before)
+        }
+        Err(refused) => Err(refused),
+    };
+    (cell, told)
+}
+
+#[test]
+fn a_value_is_written_by_the_cell_that_owns_it_alone(rt: HostRuntime) {
+    let mut w = numbers(&rt, rt.alloc(), 1, 1);
+    let open = w.has_open_guard();
+    let shared = shared_item(&rt, &mut w, 5);
+    let (cell, told) = written_by_cell(&rt, &mut w, shared, 7);
+    assert!(rt; !open && told == Ok(5));
+    end_shared_cell(&rt, &mut w, cell);
+    end(&rt, w);
+}
+
+#[test]
+fn no_value_is_written_by_a_cell_beside_other_owners(rt: HostRuntime) {
+    let mut w = numbers(&rt, rt.alloc(), 1, 1);
+    let first = shared_item(&rt, &mut w, 5);
+    let second = cloned(&rt, &mut w, &first);
+    let (cell, told) = written_by_cell(&rt, &mut w, second, 7);
+    assert!(rt; told == Err(NotLent::NotSole) && value_of(&rt, &w, &first) == 5);
     give_shared(&rt, &mut w, first);
     end_shared_cell(&rt, &mut w, cell);
     end(&rt, w);
-    Ok(())
 }
 
 #[test]
-fn no_value_is_written_by_a_cell_under_a_guard(rt: HostRuntime) -> Result<(), Fail> {
-    let mut w = numbers(rt.alloc(), 1, 1)?;
+fn no_value_is_written_by_a_cell_under_a_guard(rt: HostRuntime) {
+    let mut w = numbers(&rt, rt.alloc(), 1, 1);
     let guard = guarded(&rt, &mut w, 0);
-    let Ok(cell) = world::atomic_shared::new(&mut w, 5) else {
-        panic!(rt; "a slot and a cell are free");
-    };
-    assert!(rt; w.has_open_guard());
-    assert_eq!(rt; w.cell_mut(&cell).err(), Some(NotLent::GuardsOpen));
+    let open = w.has_open_guard();
+    let shared = shared_item(&rt, &mut w, 5);
+    let (cell, told) = written_by_cell(&rt, &mut w, shared, 7);
+    assert!(rt; open && told == Err(NotLent::GuardsOpen));
     close(&rt, &mut w, guard);
     end_shared_cell(&rt, &mut w, cell);
     end(&rt, w);
-    Ok(())
 }
 
 #[test]
-fn nothing_is_written_under_a_guard(rt: HostRuntime) -> Result<(), Fail> {
-    let mut w = numbers(rt.alloc(), 2, 0)?;
+fn nothing_is_written_under_a_guard(rt: HostRuntime) {
+    let mut w = numbers(&rt, rt.alloc(), 2, 0);
     let guard = guarded(&rt, &mut w, 1);
     let owned = owned_item(&rt, &mut w, 5);
-    assert_eq!(rt;
-        world::owned::get_mut(&mut w, &owned).err(),
-        Some(GuardsOpen)
-    );
     let shared = shared_item(&rt, &mut w, 6);
+    assert!(rt; written_owned(&rt, &mut w, &owned, 7) == Err(GuardsOpen));
     assert!(rt; written(&rt, &mut w, &shared, 7) == Err(NotLent::GuardsOpen));
-    assert_eq!(rt; value_of(&rt, &w, &shared), 6);
+    assert!(rt; value_of(&rt, &w, &shared) == 6 && owned_value(&rt, &w, &owned) == 5);
     give_owned(&rt, &mut w, owned);
     give_shared(&rt, &mut w, shared);
     close(&rt, &mut w, guard);
     end(&rt, w);
-    Ok(())
 }

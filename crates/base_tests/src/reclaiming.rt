@@ -1,9 +1,12 @@
 //! When what was retired, deferred or collected is reclaimed.
 
-ghost use Rattle.std.specs.Prelude.{◌≡◌, ◌<◌, length};
-
-use crate::common::{close, end, guarded, numbers, owned_item, passes};
-use sdd_base::{Deferred, Job, PrivateCollector, Sizes, Task, World, world};
+use crate::common::{
+    close, close_fast, end, guarded, numbers, owned_item, passes, retire, shared_item, used_after,
+};
+use sdd_base::{
+    Deferred, Job, Owned, PrivateCollector, Shared, Sizes, Task, World, WorldGuard, world,
+};
+use std::alloc::Global;
 use std::process::Abort;
 use std::sync::Arc;
 use std::sync::atomic::{AtomicU32, Ordering};
@@ -21,14 +24,36 @@ impl Task for Count {
     }
 }
 
-#[test]
-fn a_job_runs_once_when_the_fourth_guard_opens(rt: HostRuntime) -> Result<(), Fail> {
+/// A place for one job.
+fn with_a_job<R: Abort>(rt: &R, alloc: Global) -> World<u64> {
     let sizes = Sizes {
         participants: 1,
         slots: 0,
         cells: 0,
         jobs: 1,
     };
+    match World::new(alloc, sizes) {
+        Ok(w) => w,
+        Err(_) => panic!(rt; "memory is ample"),
+    }
+}
+
+/// Defers a job, or runs it where there is no place for it; tells whether it waits.
+fn waits<R: Abort>(rt: &R, w: &mut World<u64>, guard: &WorldGuard, job: Job) -> bool {
+    if !world::guard::is_open(w, guard) {
+        panic!(rt; "the guard is open");
+    }
+    match world::guard::defer_execute(w, guard, job) {
+        Ok(()) => true,
+        Err(job) => {
+            job.run();
+            false
+        }
+    }
+}
+
+#[test]
+fn a_job_runs_once_when_the_fourth_guard_opens(rt: HostRuntime) -> Result<(), Fail> {
     let runs = Arc::new(rt.alloc(), AtomicU32::new(0))?;
     let other = Arc::new(rt.alloc(), AtomicU32::new(0))?;
     let counted = Count {
@@ -39,107 +64,138 @@ fn a_job_runs_once_when_the_fourth_guard_opens(rt: HostRuntime) -> Result<(), Fa
         runs: other.clone()?,
     };
     let another = Job::new(Box::new(rt.alloc(), refused)?);
-    let mut w: World<u64> = World::new(rt.alloc(), sizes)?;
-    let Ok(first) = world::guard::new(&mut w, 0) else {
-        panic!(rt; "no guard is open");
-    };
-    world::guard::accelerate(&mut w, &first);
-    assert!(rt; world::guard::defer_execute(&mut w, &first, job).is_ok());
-    match world::guard::defer_execute(&mut w, &first, another) {
-        Err(job) => job.run(),
-        Ok(()) => panic!(rt; "the one place has a job"),
-    }
-    assert_eq!(rt; other.load(Ordering::SeqCst), 1);
-    world::guard::close(&mut w, first);
-    assert!(rt; passes(&mut w, 0, 2));
-    assert_eq!(rt; runs.load(Ordering::SeqCst), 0);
-    let Ok(fourth) = world::guard::new(&mut w, 0) else {
-        panic!(rt; "no guard is open");
-    };
-    assert_eq!(rt; runs.load(Ordering::SeqCst), 1);
-    world::guard::close(&mut w, fourth);
-    assert!(rt; passes(&mut w, 0, 8));
-    assert_eq!(rt; runs.load(Ordering::SeqCst), 1);
+    let mut w = with_a_job(&rt, rt.alloc());
+    let first = guarded(&rt, &mut w, 0);
+    let waiting = (
+        waits(&rt, &mut w, &first, job),
+        waits(&rt, &mut w, &first, another),
+    );
+    assert!(rt; waiting == (true, false) && other.load(Ordering::SeqCst) == 1);
+    close_fast(&rt, &mut w, first);
+    let passed = passes(&mut w, 0, 2);
+    assert!(rt; passed && runs.load(Ordering::SeqCst) == 0);
+    let fourth = guarded(&rt, &mut w, 0);
+    assert!(rt; runs.load(Ordering::SeqCst) == 1);
+    close(&rt, &mut w, fourth);
+    let passed = passes(&mut w, 0, 8);
+    assert!(rt; passed && runs.load(Ordering::SeqCst) == 1);
     end(&rt, w);
     Ok(())
+}
+
+fn new_collector<R: Abort>(rt: &R, alloc: Global, w: &World<u64>) -> PrivateCollector<u64> {
+    match world::private_collector::new(alloc, w) {
+        Ok(collector) => collector,
+        Err(_) => panic!(rt; "memory is ample"),
+    }
+}
+
+/// Collects an item under a guard.
+fn collect<R: Abort>(
+    rt: &R,
+    w: &mut World<u64>,
+    collector: &mut PrivateCollector<u64>,
+    owned: Owned<u64>,
+    guard: &WorldGuard,
+) {
+    if !world::owned::is_here(w, &owned) || !world::guard::is_open(w, guard) {
+        panic!(rt; "its item is there, and the guard is open");
+    }
+    world::private_collector::collect_owned(w, collector, owned, guard);
+}
+
+/// Ends a collector by participant `p`.
+fn hand_over<R: Abort>(rt: &R, w: &mut World<u64>, collector: PrivateCollector<u64>, p: usize) {
+    if p >= w.participants() {
+        panic!(rt; "there is such a participant");
+    }
+    world::private_collector::hand_over(w, collector, p);
+}
+
+/// The value that an item gives back where no slot is free.
+fn given_back<R: Abort>(rt: &R, made: Result<Owned<u64>, u64>) -> u64 {
+    match made {
+        Err(value) => value,
+        Ok(_) => panic!(rt; "no slot is free"),
+    }
 }
 
 #[test]
-fn a_collector_hands_over_what_it_keeps(rt: HostRuntime) -> Result<(), Fail> {
-    let mut w = numbers(rt.alloc(), 1, 0)?;
-    let Ok(mut collector) = world::private_collector::new(rt.alloc(), &w) else {
-        panic!(rt; "memory is ample");
-    };
+fn a_collector_hands_over_what_it_keeps(rt: HostRuntime) {
+    let mut w = numbers(&rt, rt.alloc(), 1, 0);
+    let mut collector = new_collector(&rt, rt.alloc(), &w);
     let guard = guarded(&rt, &mut w, 0);
     let owned = owned_item(&rt, &mut w, 5);
-    world::private_collector::collect_owned(&mut w, &mut collector, owned, &guard);
-    world::guard::close(&mut w, guard);
-    world::private_collector::hand_over(&mut w, collector, 0);
-    match world::owned::new(&mut w, 6) {
-        Err(value) => assert_eq!(rt; value, 6),
-        Ok(_) => panic!(rt; "the item waits"),
-    }
-    assert!(rt; passes(&mut w, 0, 4));
-    assert_eq!(rt; w.slots_in_use(), 0);
+    collect(&rt, &mut w, &mut collector, owned, &guard);
+    close(&rt, &mut w, guard);
+    hand_over(&rt, &mut w, collector, 0);
+    let back = given_back(&rt, world::owned::new(&mut w, 6));
+    assert!(rt; (back, used_after(&rt, &mut w, 0, 4)) == (6, 0));
     end(&rt, w);
-    Ok(())
+}
+
+/// Collects an owner under a guard.
+fn collect_shared<R: Abort>(
+    rt: &R,
+    w: &mut World<u64>,
+    collector: &mut PrivateCollector<u64>,
+    shared: Shared<u64>,
+    guard: &WorldGuard,
+) {
+    if !world::shared::is_here(w, &shared) || !world::guard::is_open(w, guard) {
+        panic!(rt; "its item is there, and the guard is open");
+    }
+    let _last = world::private_collector::collect_shared(w, collector, shared, guard);
 }
 
 /// Collects a new item under a guard of participant 0, and answers how many slots are in use then.
-fn collect_one<R: Abort>(rt: &R, w: &mut World<u64>, collector: &mut PrivateCollector<u64>) -> usize
-    requires { 0 < length w.old.participants }
-    ensures { length w.new.participants ≡ length w.old.participants }
-{
-    let Ok(guard) = world::guard::new(w, 0) else {
-        panic!(rt; "no guard is open");
-    };
-    match world::shared::new(w, 7) {
-        Ok(shared) => world::private_collector::collect_shared(w, collector, shared, &guard),
-        Err(_) => panic!(rt; "a slot is free"),
-    };
+fn collect_one<R: Abort>(
+    rt: &R,
+    w: &mut World<u64>,
+    collector: &mut PrivateCollector<u64>,
+) -> usize {
+    let guard = guarded(rt, w, 0);
+    let shared = shared_item(rt, w, 7);
+    collect_shared(rt, w, collector, shared, &guard);
     let used = w.slots_in_use();
-    world::guard::accelerate(w, &guard);
-    world::guard::close(w, guard);
+    close_fast(rt, w, guard);
     used
 }
 
 #[test]
-fn a_later_collect_reclaims_what_three_raises_let_go(rt: HostRuntime) -> Result<(), Fail> {
-    let mut w = numbers(rt.alloc(), 4, 0)?;
-    let Ok(mut collector) = world::private_collector::new(rt.alloc(), &w) else {
-        panic!(rt; "memory is ample");
-    };
+fn a_later_collect_reclaims_what_three_raises_let_go(rt: HostRuntime) {
+    let mut w = numbers(&rt, rt.alloc(), 4, 0);
+    let mut collector = new_collector(&rt, rt.alloc(), &w);
     let mut used = [0usize; 5];
     for n in 0..5 {
         used[n] = collect_one(&rt, &mut w, &mut collector);
     }
-    world::private_collector::hand_over(&mut w, collector, 1);
-    assert_eq!(rt; used, [1, 2, 3, 3, 3]);
-    assert!(rt; passes(&mut w, 1, 4));
-    assert_eq!(rt; w.slots_in_use(), 0);
+    hand_over(&rt, &mut w, collector, 1);
+    assert!(rt; used == [1, 2, 3, 3, 3]);
+    assert!(rt; used_after(&rt, &mut w, 1, 4) == 0);
     end(&rt, w);
-    Ok(())
+}
+
+/// The epoch of a new guard, and whether its participant has garbage; the guard is closed.
+fn opened<R: Abort>(rt: &R, w: &mut World<u64>, p: usize) -> (u8, bool) {
+    let guard = guarded(rt, w, p);
+    if !world::guard::is_open(w, &guard) {
+        panic!(rt; "the guard is open");
+    }
+    let epoch = u8::from(world::guard::epoch(w, &guard));
+    let garbage = world::guard::has_garbage(w, &guard);
+    close(rt, w, guard);
+    (epoch, garbage)
 }
 
 #[test]
-fn the_64th_closing_scans_where_something_was_retired(rt: HostRuntime) -> Result<(), Fail> {
-    let mut w = numbers(rt.alloc(), 1, 0)?;
-    let Ok(owned) = world::owned::new(&mut w, 5) else {
-        panic!(rt; "a slot is free");
-    };
-    world::owned::retire(&mut w, owned, 0);
-    for _ in 0..63 {
-        let guard = guarded(&rt, &mut w, 0);
-        world::guard::close(&mut w, guard);
+fn the_64th_closing_scans_where_something_was_retired(rt: HostRuntime) {
+    let mut w = numbers(&rt, rt.alloc(), 1, 0);
+    let owned = owned_item(&rt, &mut w, 5);
+    retire(&rt, &mut w, owned, 0);
+    for _ in 0..64 {
+        assert!(rt; opened(&rt, &mut w, 0) == (0, true));
     }
-    let last = guarded(&rt, &mut w, 0);
-    assert_eq!(rt; u8::from(world::guard::epoch(&w, &last)), 0);
-    assert!(rt; world::guard::has_garbage(&w, &last));
-    world::guard::close(&mut w, last);
-    let next = guarded(&rt, &mut w, 1);
-    assert_eq!(rt; u8::from(world::guard::epoch(&w, &next)), 1);
-    assert!(rt; !world::guard::has_garbage(&w, &next));
-    close(&rt, &mut w, next);
+    assert!(rt; opened(&rt, &mut w, 1) == (1, false));
     end(&rt, w);
-    Ok(())
 }

@@ -23,6 +23,8 @@ mod session;
 #[cfg(test)]
 mod slots;
 #[cfg(test)]
+mod table;
+#[cfg(test)]
 mod text;
 #[cfg(test)]
 mod values;

@@ -146,28 +146,50 @@ fn insert_on(
     Ok(DeskCall::Commit(on, vec![in alloc; Write::Insert(key, value)]?))
 }
 
+// Opens sessions, and reads by a label that has none.
+fn open_some(calls: &mut Vec<DeskCall<u64, u64>>) -> Result<(), AllocError> {
+    let opened = [
+        DeskCall::Open(7),
+        DeskCall::Open(7),
+        DeskCall::Open(8),
+        DeskCall::Open(9),
+        DeskCall::Get(9, 1),
+    ];
+    for call in opened {
+        calls.push(call)?;
+    }
+    Ok(())
+}
+
+// Reads of each kind, by sessions of which one is closed on the way.
+fn read_some(calls: &mut Vec<DeskCall<u64, u64>>) -> Result<(), AllocError> {
+    let read = [
+        DeskCall::Get(7, 2),
+        DeskCall::Get(8, 1),
+        DeskCall::Close(8),
+        DeskCall::Open(9),
+        DeskCall::Get(9, 2),
+        DeskCall::Contains(9, 3),
+        DeskCall::Range(9, Bound::Unbounded, Bound::Unbounded),
+        DeskCall::Locate(9, 3),
+        DeskCall::Audit(ReadSet::Session(9)),
+        DeskCall::Audit(ReadSet::Session(8)),
+    ];
+    for call in read {
+        calls.push(call)?;
+    }
+    Ok(())
+}
+
 // Calls that meet each reply but those of memory.
 fn calls(alloc: Global) -> Result<Vec<DeskCall<u64, u64>>, AllocError> {
     let mut calls = Vec::new(alloc);
     calls.push(insert(alloc, 1, 10)?)?;
-    calls.push(DeskCall::Open(7))?;
-    calls.push(DeskCall::Open(7))?;
-    calls.push(DeskCall::Open(8))?;
-    calls.push(DeskCall::Open(9))?;
-    calls.push(DeskCall::Get(9, 1))?;
+    open_some(&mut calls)?;
     calls.push(insert_on(alloc, ReadSet::Session(8), 2, 20)?)?;
-    calls.push(DeskCall::Get(7, 2))?;
-    calls.push(DeskCall::Get(8, 1))?;
-    calls.push(DeskCall::Close(8))?;
-    calls.push(DeskCall::Open(9))?;
-    calls.push(DeskCall::Get(9, 2))?;
-    calls.push(DeskCall::Contains(9, 3))?;
-    calls.push(DeskCall::Range(9, Bound::Unbounded, Bound::Unbounded))?;
-    calls.push(DeskCall::Locate(9, 3))?;
-    calls.push(DeskCall::Audit(ReadSet::Session(9)))?;
-    calls.push(DeskCall::Audit(ReadSet::Session(8)))?;
-    let stale = claims_none(alloc, 2)?;
-    calls.push(insert_on(alloc, ReadSet::Receipt(stale), 3, 30)?)?;
+    read_some(&mut calls)?;
+    let stale = ReadSet::Receipt(claims_none(alloc, 2)?);
+    calls.push(insert_on(alloc, stale, 3, 30)?)?;
     calls.push(insert_on(alloc, ReadSet::Session(8), 3, 30)?)?;
     calls.push(DeskCall::Close(8))?;
     Ok(calls)

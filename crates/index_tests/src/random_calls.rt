@@ -5,6 +5,7 @@ ghost use Rattle.versions.specs.Sizes.{IsSized};
 
 use crate::dice::{Dice, thrown};
 use crate::plain;
+use crate::table::{looked_up, read_of};
 use leaf_array::plain::find_value;
 use ordered_index::{
     Accepted, Answer, Audit, Cause, Desk, DeskCall, DeskReply, LocalIndex, Query, ReadSet, Receipt,
@@ -40,6 +41,17 @@ struct Met {
     older: usize,
     unknown: usize,
     broken: usize,
+}
+
+impl Met {
+    // Whether each kind of reply was met.
+    fn has_all(&self) -> bool {
+        let least = self.accepted.min(self.several).min(self.shared);
+        let refused = self.conflicts.min(self.exhausted).min(self.no_slot);
+        let unseated = self.no_place.min(self.busy).min(self.no_session);
+        let audited = self.unknown.min(self.broken).min(self.older);
+        least.min(refused).min(unseated).min(audited) > 0
+    }
 }
 
 // A session: its label, its number, and what it recorded.
@@ -242,18 +254,18 @@ impl Lists {
                 self.follow_accepted(rt, wanted, &accepted, writes, room);
             }
             DeskReply::Refused(refused) => {
-                assert_eq!(rt; room.after, room.before);
+                assert!(rt; room.after == room.before);
                 assert!(rt; refused.writes.as_slice() == writes);
                 self.follow_refused(rt, wanted, refused.cause, writes, room);
             }
             DeskReply::NoSession(back) => {
-                assert_eq!(rt; room.after, room.before);
+                assert!(rt; room.after == room.before);
                 assert!(rt; back.as_slice() == writes);
                 assert!(rt; is_no_session(&wanted));
                 self.met.no_session = self.met.no_session.saturating_add(1);
             }
             reply => {
-                assert_eq!(rt; room.after, room.before);
+                assert!(rt; room.after == room.before);
                 self.follow_session(rt, alloc, label, wanted, &reply, room);
             }
         }
@@ -270,7 +282,7 @@ impl Lists {
     ) {
         match (wanted, reply) {
             (Wanted::Opened, DeskReply::Opened(told)) => {
-                assert_eq!(rt; *told, self.number() as u64);
+                assert!(rt; *told == self.number() as u64);
                 self.sit(rt, alloc, label);
             }
             (Wanted::NoPlace, DeskReply::NoPlace) => {
@@ -280,7 +292,7 @@ impl Lists {
                 self.met.busy = self.met.busy.saturating_add(1);
             }
             (Wanted::Closed(number), DeskReply::Closed(receipt)) => {
-                assert_eq!(rt; receipt.number, number as u64);
+                assert!(rt; receipt.number == number as u64);
                 let Some(session) = self.session(label) else {
                     panic!(rt; "no such session");
                 };
@@ -288,13 +300,13 @@ impl Lists {
                 self.sessions.retain(|session| session.label != label);
             }
             (Wanted::Number(number), DeskReply::Number(told)) => {
-                assert_eq!(rt; *told, number as u64);
+                assert!(rt; *told == number as u64);
             }
             (Wanted::Len(len), DeskReply::Len(told)) => {
-                assert_eq!(rt; *told, len);
+                assert!(rt; *told == len);
             }
             (Wanted::Slots, DeskReply::Slots(used)) => {
-                assert_eq!(rt; *used, room.after);
+                assert!(rt; *used == room.after);
             }
             (Wanted::Answer(query, answer), DeskReply::Answer(told)) => {
                 assert!(rt; *told == answer);
@@ -357,17 +369,15 @@ impl Lists {
     ) {
         match wanted {
             Wanted::Conflict(place) => {
-                assert_eq!(rt; cause, Cause::Conflict(place));
+                assert!(rt; cause == Cause::Conflict(place));
                 self.met.conflicts = self.met.conflicts.saturating_add(1);
             }
             Wanted::Exhausted => {
-                assert_eq!(rt; cause, Cause::Exhausted);
+                assert!(rt; cause == Cause::Exhausted);
                 self.met.exhausted = self.met.exhausted.saturating_add(1);
             }
             Wanted::Made(after, _) => {
-                assert_eq!(rt; cause, Cause::NoSlot);
-                assert!(rt; room.slots < room.before.saturating_add(room.of(after.len())));
-                assert!(rt; room.slots < room.before.saturating_add(room_of_writes(writes)));
+                assert!(rt; cause == Cause::NoSlot && room.is_short_for(after.len(), writes));
                 self.met.no_slot = self.met.no_slot.saturating_add(1);
             }
             _ => panic!(rt; "a reply of another kind"),
@@ -384,11 +394,9 @@ impl Lists {
     ) {
         match wanted {
             Wanted::Made(after, replies) => {
-                assert_eq!(rt; accepted.number, (self.number() as u64).saturating_add(1));
-                assert_eq!(rt; accepted.replies.as_slice(), replies.as_slice());
-                assert!(rt; room.after <= room.before.saturating_add(room.of(after.len())));
-                assert!(rt; room.after <= room.before.saturating_add(room_of_writes(writes)));
-                assert!(rt; room.after <= room.slots);
+                let number = (self.number() as u64).saturating_add(1);
+                assert!(rt; accepted.number == number && room.suffices(after.len(), writes));
+                assert!(rt; accepted.replies.as_slice() == replies.as_slice());
                 self.count_accepted(after.len(), room);
                 self.lists.push(Seq::from_vec(after)).expect(rt, "room");
             }
@@ -436,6 +444,19 @@ impl Room {
             .unwrap_or(0)
             .saturating_mul(2)
             .saturating_add(2)
+    }
+
+    // Whether a commit of these writes, which leave so many pairs, finds fewer free slots than it may take.
+    fn is_short_for(&self, pairs: usize, writes: &[Write<u64, u64>]) -> bool {
+        self.slots < self.before.saturating_add(self.of(pairs))
+            && self.slots < self.before.saturating_add(room_of_writes(writes))
+    }
+
+    // Whether an accepted commit of these writes, which leave so many pairs, took no more slots than it may.
+    fn suffices(&self, pairs: usize, writes: &[Write<u64, u64>]) -> bool {
+        self.after <= self.before.saturating_add(self.of(pairs))
+            && self.after <= self.before.saturating_add(room_of_writes(writes))
+            && self.after <= self.slots
     }
 
     // How many slots a version of so many pairs has at least: those of full segments, and its directory's.
@@ -548,52 +569,13 @@ fn look<R: Abort, const S: usize>(
         }
     };
     for key in 0..keys {
-        look_up(
-            rt,
-            index,
-            desk,
-            lists.list(number),
-            label,
-            number as u64,
-            key,
-        );
+        let list = lists.list(number);
+        let value = find_value(list, &key).copied();
+        let wanted = (number as u64, list.len(), value, value.is_some());
+        assert!(rt; looked_up(index, desk, label, key) == Some(wanted));
     }
     if number < lists.number() {
         lists.met.older = lists.met.older.saturating_add(1);
-    }
-}
-
-// Looks whether the session with the label has this list, at this key.
-fn look_up<R: Abort, const S: usize>(
-    rt: &R,
-    index: &LocalIndex<u64, u64, S>,
-    desk: &Desk<u64, u64>,
-    list: &[(u64, u64)],
-    label: u64,
-    number: u64,
-    key: u64,
-)
-    requires { Serves (record { index = index.now; desk = desk.now }) }
-{
-    let Some(session) = desk.session(label) else {
-        panic!(rt; "the session isn't at its desk");
-    };
-    assert_eq!(rt; index.number(session), number);
-    assert_eq!(rt; index.len(session), list.len());
-    assert_eq!(rt; index.get(session, &key), find_value(list, &key));
-    assert_eq!(rt;
-        index.contains(session, &key),
-        find_value(list, &key).is_some()
-    );
-}
-
-// The call that asks this.
-fn read_of(label: u64, query: Query<u64>) -> DeskCall<u64, u64> {
-    match query {
-        Query::Get(key) => DeskCall::Get(label, key),
-        Query::Contains(key) => DeskCall::Contains(label, key),
-        Query::Range(lower, upper) => DeskCall::Range(label, lower, upper),
-        Query::Locate(key) => DeskCall::Locate(label, key),
     }
 }
 
@@ -683,20 +665,7 @@ fn plays<R: Abort, const S: usize>(rt: &R, alloc: Global, slots: usize, start: D
         Ok(()) => {}
         Err(_open) => panic!(rt; "a session is open"),
     }
-    let met = &lists.met;
-    assert_eq!(rt; met.accepted, lists.number());
-    assert!(rt; met.accepted > 0);
-    assert!(rt; met.several > 0);
-    assert!(rt; met.shared > 0);
-    assert!(rt; met.conflicts > 0);
-    assert!(rt; met.exhausted > 0);
-    assert!(rt; met.no_slot > 0);
-    assert!(rt; met.no_place > 0);
-    assert!(rt; met.busy > 0);
-    assert!(rt; met.no_session > 0);
-    assert!(rt; met.older > 0);
-    assert!(rt; met.unknown > 0);
-    assert!(rt; met.broken > 0);
+    assert!(rt; lists.met.accepted == lists.number() && lists.met.has_all());
 }
 
 #[test]

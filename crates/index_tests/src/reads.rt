@@ -1,15 +1,21 @@
 //! Recorded reads, conflicts, audits and cursors.
 
-ghost use Rattle.std.specs.Prelude.{◌≡◌};
 ghost use Rattle.ordered_index.specs.State.{IsOpen};
 
-use crate::slots::{commit, end, inserts, refuse};
+use crate::slots::{commit, end, inserts};
+use crate::table::Call::{Close, Commit, CommitOn, Contains, Get, Locate, Open, Range};
+use crate::table::Told::{
+    Accepted, Audited, Between, Closed, ClosedWith, Exact, Got, Has, Larger, Listed, Opened,
+    Refused, Smaller,
+};
+use crate::table::{Call, Told, on_an_index};
 use ordered_index::{
-    Answer, Audit, Cause, LocalIndex, Near, Query, Receipt, Recorded, Seq, Session, Write,
+    Answer, Audit, Cause, LocalIndex, Near, Query, Receipt, Recorded, Reply, Seq, Session, Write,
 };
 use std::alloc::Global;
 use std::ops::Bound;
 use std::process::Abort;
+use std::test::Fail;
 use versions::Nearby;
 
 type Twos = LocalIndex<u64, u64, 2>;
@@ -17,22 +23,6 @@ type Twos = LocalIndex<u64, u64, 2>;
 const ROOM: &str = "room for an index";
 
 const FREE: &str = "a free place";
-
-// The answer to a query, which is recorded.
-fn ask<R: Abort>(
-    rt: &R,
-    index: &Twos,
-    session: &mut Session<u64, u64>,
-    query: Query<u64>,
-) -> Answer<u64, u64>
-    requires { IsOpen index.now session.old }
-    ensures { IsOpen index.now session.new }
-{
-    match index.read(session, query) {
-        Ok(answer) => answer,
-        Err(_refused) => panic!(rt; "memory was refused"),
-    }
-}
 
 // The answer that lists these pairs.
 fn pairs<R: Abort>(rt: &R, alloc: Global, pairs: &[(u64, u64)]) -> Answer<u64, u64> {
@@ -56,175 +46,248 @@ fn receipt<R: Abort>(
     }
 }
 
-// What an audit finds.
-fn audit<R: Abort>(rt: &R, index: &Twos, receipt: &Receipt<u64, u64>) -> Audit {
-    index.audit(receipt).expect(rt, "memory")
-}
+const TWO: [Write<u64, u64>; 2] = [Write::Insert(2, 2), Write::Insert(4, 4)];
 
-// The cause of a refusal.
-fn cause<R: Abort>(rt: &R, alloc: Global, index: &mut Twos, receipt: &Receipt<u64, u64>) -> Cause
-    ensures { index.new.places ≡ index.old.places }
-{
-    refuse(rt, alloc, index, receipt, &[]).cause
-}
+const INSERTED: [Reply; 5] = [Reply::Inserted; 5];
 
-// The list (2, 2), (4, 4), and a session whose receipt has the pairs from 3 to 5.
-fn range_is_read<R: Abort>(rt: &R, alloc: Global, write: Write<u64, u64>) -> Cause {
-    let mut index = Twos::new(alloc, 1, 32).expect(rt, ROOM);
-    let _two = commit(rt, alloc, &mut index, &inserts(rt, alloc, &[2, 4]));
-    let mut session = index.open().expect(rt, FREE);
-    let query = Query::Range(Bound::Included(3), Bound::Included(5));
-    let told = ask(rt, &index, &mut session, query);
-    assert!(rt; told == pairs(rt, alloc, &[(4, 4)]));
-    let receipt = index.close_session(session);
-    let _accepted = commit(rt, alloc, &mut index, &[write]);
-    let cause = cause(rt, alloc, &mut index, &receipt);
-    assert_eq!(rt; audit(rt, &index, &receipt), Audit::Yes);
-    end(rt, index);
-    cause
+// The list (2, 2), (4, 4), and a session whose receipt has the pairs from 3 to 5, on which a commit rests after this
+// write.
+fn range_is_read<R: Abort>(
+    rt: &R,
+    alloc: Global,
+    write: &'static [Write<u64, u64>],
+    replies: &'static [Reply],
+) {
+    let read = Query::Range(Bound::Included(3), Bound::Included(5));
+    let receipt = receipt(rt, alloc, 1, read, pairs(rt, alloc, &[(4, 4)]));
+    let rows = [
+        (Commit(&TWO), Accepted(1, &INSERTED[..2])),
+        (Open(1), Opened(1)),
+        (
+            Range(1, Bound::Included(3), Bound::Included(5)),
+            Listed(&[(4, 4)]),
+        ),
+        (Close(1), ClosedWith(0)),
+        (Commit(write), Accepted(2, replies)),
+        (CommitOn(0, &[]), Refused(Cause::Conflict(0))),
+        (Call::Audit(0), Audited(Audit::Yes)),
+    ];
+    on_an_index::<_, 2>(rt, alloc, 1, 32, u64::MAX, &[receipt], &rows);
 }
 
 #[test]
 fn a_pair_that_entered_a_recorded_range_conflicts(rt: HostRuntime) {
-    let entered = range_is_read(&rt, rt.alloc(), Write::Insert(5, 1));
-    assert_eq!(rt; entered, Cause::Conflict(0));
+    range_is_read(&rt, rt.alloc(), &[Write::Insert(5, 1)], &[Reply::Inserted]);
 }
 
 #[test]
 fn a_pair_that_left_a_recorded_range_conflicts(rt: HostRuntime) {
-    let left = range_is_read(&rt, rt.alloc(), Write::Remove(4));
-    assert_eq!(rt; left, Cause::Conflict(0));
+    range_is_read(&rt, rt.alloc(), &[Write::Remove(4)], &[Reply::Removed]);
+}
+
+const ODD: [Write<u64, u64>; 5] = [
+    Write::Insert(1, 1),
+    Write::Insert(3, 3),
+    Write::Insert(5, 5),
+    Write::Insert(7, 7),
+    Write::Insert(9, 9),
+];
+
+// A receipt of number 1 with a read of each kind, of the odd keys below ten.
+fn receipt_of_all(alloc: Global) -> Result<Receipt<u64, u64>, Fail> {
+    let mut reads: Vec<Recorded<u64, u64>> = Vec::new(alloc);
+    reads.push((Query::Get(3), Answer::Get(Some(3))))?;
+    reads.push((Query::Contains(4), Answer::Contains(false)))?;
+    reads.push((Query::Locate(4), Answer::Locate(Near::Between(3, 3, 5, 5))))?;
+    reads.push((Query::Locate(7), Answer::Locate(Near::Exact(7, 7))))?;
+    reads.push((Query::Locate(10), Answer::Locate(Near::Smaller(9, 9))))?;
+    reads.push((Query::Locate(0), Answer::Locate(Near::Larger(1, 1))))?;
+    Ok(Receipt {
+        number: 1,
+        reads: Seq::from_vec(reads),
+    })
 }
 
 #[test]
-fn each_kind_of_read_is_recorded(rt: HostRuntime) {
-    let alloc = rt.alloc();
-    let mut index = Twos::new(alloc, 1, 32).expect(&rt, ROOM);
-    let _five = commit(
-        &rt,
-        alloc,
-        &mut index,
-        &inserts(&rt, alloc, &[1, 3, 5, 7, 9]),
-    );
-    let mut session = index.open().expect(&rt, FREE);
-    assert!(rt; ask(&rt, &index, &mut session, Query::Get(3)) == Answer::Get(Some(3)));
-    assert!(rt; ask(&rt, &index, &mut session, Query::Contains(4)) == Answer::Contains(false));
-    let between = Answer::Locate(Near::Between(3, 3, 5, 5));
-    assert!(rt; ask(&rt, &index, &mut session, Query::Locate(4)) == between);
-    let exact = Answer::Locate(Near::Exact(7, 7));
-    assert!(rt; ask(&rt, &index, &mut session, Query::Locate(7)) == exact);
-    let smaller = Answer::Locate(Near::Smaller(9, 9));
-    assert!(rt; ask(&rt, &index, &mut session, Query::Locate(10)) == smaller);
-    let larger = Answer::Locate(Near::Larger(1, 1));
-    assert!(rt; ask(&rt, &index, &mut session, Query::Locate(0)) == larger);
-    assert_eq!(rt; index.receipt(&session).reads.as_slice().len(), 6);
-    let receipt = index.close_session(session);
-    assert_eq!(rt; receipt.number, 1);
-    assert_eq!(rt; audit(&rt, &index, &receipt), Audit::Yes);
-    end(&rt, index);
+fn each_kind_of_read_is_recorded(rt: HostRuntime) -> Result<(), Fail> {
+    let receipt = receipt_of_all(rt.alloc())?;
+    let rows = [
+        (Commit(&ODD), Accepted(1, &INSERTED)),
+        (Open(1), Opened(1)),
+        (Get(1, 3), Got(Some(3))),
+        (Contains(1, 4), Has(false)),
+        (Locate(1, 4), Between((3, 3), (5, 5))),
+        (Locate(1, 7), Exact(7, 7)),
+        (Locate(1, 10), Smaller(9, 9)),
+        (Locate(1, 0), Larger(1, 1)),
+        (Close(1), ClosedWith(0)),
+        (Call::Audit(0), Audited(Audit::Yes)),
+    ];
+    on_an_index::<_, 2>(&rt, rt.alloc(), 1, 32, u64::MAX, &[receipt], &rows);
+    Ok(())
 }
 
 #[test]
 fn forged_receipts_conflict_and_audit_no(rt: HostRuntime) {
     let alloc = rt.alloc();
-    let mut index = Twos::new(alloc, 0, 32).expect(&rt, ROOM);
-    let _two = commit(&rt, alloc, &mut index, &inserts(&rt, alloc, &[1, 2]));
     // an answer of another kind
     let kind = receipt(&rt, alloc, 0, Query::Get(1), Answer::Contains(true));
-    assert_eq!(rt; cause(&rt, alloc, &mut index, &kind), Cause::Conflict(0));
-    assert_eq!(rt; audit(&rt, &index, &kind), Audit::No(0));
     // pairs in another order
     let query = Query::Range(Bound::Included(1), Bound::Included(2));
     let turned = receipt(&rt, alloc, 1, query, pairs(&rt, alloc, &[(2, 2), (1, 1)]));
-    assert_eq!(rt; cause(&rt, alloc, &mut index, &turned), Cause::Conflict(0));
     // a pair within reversed bounds
     let query = Query::Range(Bound::Included(8), Bound::Excluded(1));
     let reversed = receipt(&rt, alloc, 1, query, pairs(&rt, alloc, &[(2, 2)]));
-    assert_eq!(rt;
-        cause(&rt, alloc, &mut index, &reversed),
-        Cause::Conflict(0)
+    let rows = [
+        (
+            Commit(&[Write::Insert(1, 1), Write::Insert(2, 2)]),
+            Accepted(1, &INSERTED[..2]),
+        ),
+        (CommitOn(0, &[]), Refused(Cause::Conflict(0))),
+        (Call::Audit(0), Audited(Audit::No(0))),
+        (CommitOn(1, &[]), Refused(Cause::Conflict(0))),
+        (CommitOn(2, &[]), Refused(Cause::Conflict(0))),
+    ];
+    on_an_index::<_, 2>(
+        &rt,
+        alloc,
+        0,
+        32,
+        u64::MAX,
+        &[kind, turned, reversed],
+        &rows,
     );
-    end(&rt, index);
 }
 
 #[test]
 fn an_audit_looks_at_the_list_of_the_number(rt: HostRuntime) {
     let alloc = rt.alloc();
-    let mut index = Twos::new(alloc, 0, 32).expect(&rt, ROOM);
-    let _one = commit(&rt, alloc, &mut index, &[Write::Upsert(1, 10)]);
-    let _two = commit(&rt, alloc, &mut index, &[Write::Upsert(1, 11)]);
     let older = receipt(&rt, alloc, 1, Query::Get(1), Answer::Get(Some(10)));
-    assert_eq!(rt; audit(&rt, &index, &older), Audit::Yes);
     let newer = receipt(&rt, alloc, 1, Query::Get(1), Answer::Get(Some(11)));
-    assert_eq!(rt; audit(&rt, &index, &newer), Audit::No(0));
     let present = receipt(&rt, alloc, 2, Query::Get(1), Answer::Get(Some(11)));
-    assert_eq!(rt; audit(&rt, &index, &present), Audit::Yes);
     let mut unknown = Receipt::blank(alloc);
     unknown.number = 9;
-    assert_eq!(rt; audit(&rt, &index, &unknown), Audit::Unknown);
-    end(&rt, index);
-}
-
-// Audits each of the numbers 0 to 6, by all pairs of its list, and by those of the next.
-fn audit_each<R: Abort>(rt: &R, alloc: Global, index: &Twos) {
-    let lists: [&[(u64, u64)]; 7] = [
-        &[],
-        &[(1, 10)],
-        &[(1, 10), (2, 20)],
-        &[(2, 21)],
-        &[(5, 50)],
-        &[(5, 50), (6, 60)],
-        &[(5, 50), (6, 60), (7, 70)],
+    let rows = [
+        (
+            Commit(&[Write::Upsert(1, 10)]),
+            Accepted(1, &[Reply::Upserted]),
+        ),
+        (
+            Commit(&[Write::Upsert(1, 11)]),
+            Accepted(2, &[Reply::Upserted]),
+        ),
+        (Call::Audit(0), Audited(Audit::Yes)),
+        (Call::Audit(1), Audited(Audit::No(0))),
+        (Call::Audit(2), Audited(Audit::Yes)),
+        (Call::Audit(3), Audited(Audit::Unknown)),
     ];
-    for number in 0..lists.len() {
-        let all = Query::Range(Bound::Unbounded, Bound::Unbounded);
-        let told = pairs(rt, alloc, lists[number]);
-        let own = receipt(rt, alloc, number as u64, all, told);
-        assert_eq!(rt; audit(rt, index, &own), Audit::Yes);
-        let all = Query::Range(Bound::Unbounded, Bound::Unbounded);
-        let told = pairs(rt, alloc, lists[(number + 1) % lists.len()]);
-        let other = receipt(rt, alloc, number as u64, all, told);
-        assert_eq!(rt; audit(rt, index, &other), Audit::No(0));
-    }
+    let receipts = [older, newer, present, unknown];
+    on_an_index::<_, 2>(&rt, alloc, 0, 32, u64::MAX, &receipts, &rows);
 }
 
-// The commits with the numbers 2 to 5.
-fn commit_four<R: Abort>(rt: &R, alloc: Global, index: &mut Twos)
-    ensures { index.new.places ≡ index.old.places }
-{
-    let _two = commit(rt, alloc, index, &[Write::Upsert(2, 20)]);
-    let _three = commit(rt, alloc, index, &[Write::Remove(1), Write::Upsert(2, 21)]);
-    let cleared = [Write::Insert(4, 40), Write::Clear, Write::Insert(5, 50)];
-    let _four = commit(rt, alloc, index, &cleared);
-    let _five = commit(rt, alloc, index, &[Write::Insert(6, 60)]);
+// The lists with the numbers 0 to 6 after the commits below.
+const LISTS: [&[(u64, u64)]; 7] = [
+    &[],
+    &[(1, 10)],
+    &[(1, 10), (2, 20)],
+    &[(2, 21)],
+    &[(5, 50)],
+    &[(5, 50), (6, 60)],
+    &[(5, 50), (6, 60), (7, 70)],
+];
+
+// Receipts of the numbers 0 to 6, each with all pairs of its own list, and then each with those of the next.
+fn receipts<R: Abort>(rt: &R, alloc: Global) -> Vec<Receipt<u64, u64>> {
+    let mut all = Vec::new(alloc);
+    for at in 0..14usize {
+        let list = LISTS[(at + at / 7) % 7];
+        let query = Query::Range(Bound::Unbounded, Bound::Unbounded);
+        let told = pairs(rt, alloc, list);
+        all.push(receipt(rt, alloc, (at % 7) as u64, query, told))
+            .expect(rt, ROOM);
+    }
+    all
+}
+
+const COMMIT_3: [Write<u64, u64>; 2] = [Write::Remove(1), Write::Upsert(2, 21)];
+
+const COMMIT_4: [Write<u64, u64>; 3] = [Write::Insert(4, 40), Write::Clear, Write::Insert(5, 50)];
+
+const REPLIES_4: [Reply; 3] = [Reply::Inserted, Reply::Cleared, Reply::Inserted];
+
+// The commits with the numbers 1 to 6.
+const COMMITS: [(Call, Told); 6] = [
+    (
+        Commit(&[Write::Upsert(1, 10)]),
+        Accepted(1, &[Reply::Upserted]),
+    ),
+    (
+        Commit(&[Write::Upsert(2, 20)]),
+        Accepted(2, &[Reply::Upserted]),
+    ),
+    (
+        Commit(&COMMIT_3),
+        Accepted(3, &[Reply::Removed, Reply::Upserted]),
+    ),
+    (Commit(&COMMIT_4), Accepted(4, &REPLIES_4)),
+    (
+        Commit(&[Write::Insert(6, 60)]),
+        Accepted(5, &[Reply::Inserted]),
+    ),
+    (
+        Commit(&[Write::Insert(7, 70)]),
+        Accepted(6, &[Reply::Inserted]),
+    ),
+];
+
+// Audits of those receipts: each number by its own list, and by the next.
+const AUDITS: [(Call, Told); 14] = [
+    (Call::Audit(0), Audited(Audit::Yes)),
+    (Call::Audit(1), Audited(Audit::Yes)),
+    (Call::Audit(2), Audited(Audit::Yes)),
+    (Call::Audit(3), Audited(Audit::Yes)),
+    (Call::Audit(4), Audited(Audit::Yes)),
+    (Call::Audit(5), Audited(Audit::Yes)),
+    (Call::Audit(6), Audited(Audit::Yes)),
+    (Call::Audit(7), Audited(Audit::No(0))),
+    (Call::Audit(8), Audited(Audit::No(0))),
+    (Call::Audit(9), Audited(Audit::No(0))),
+    (Call::Audit(10), Audited(Audit::No(0))),
+    (Call::Audit(11), Audited(Audit::No(0))),
+    (Call::Audit(12), Audited(Audit::No(0))),
+    (Call::Audit(13), Audited(Audit::No(0))),
+];
+
+// Puts rows behind others.
+fn append<R: Abort>(rt: &R, rows: &mut Vec<(Call, Told)>, more: &[(Call, Told)]) {
+    for row in more {
+        rows.push(*row).expect(rt, ROOM);
+    }
 }
 
 // Lists are made again from that of the session, from a clearing behind it, and from the empty one.
 #[test]
 fn an_audit_of_any_number_finds_its_list(rt: HostRuntime) {
-    let alloc = rt.alloc();
-    let mut index = Twos::new(alloc, 1, 64).expect(&rt, ROOM);
-    let _one = commit(&rt, alloc, &mut index, &[Write::Upsert(1, 10)]);
-    let session = index.open().expect(&rt, FREE);
-    commit_four(&rt, alloc, &mut index);
-    let _six = commit(&rt, alloc, &mut index, &[Write::Insert(7, 70)]);
-    audit_each(&rt, alloc, &index);
-    let _receipt = index.close_session(session);
-    audit_each(&rt, alloc, &index);
-    end(&rt, index);
+    let receipts = receipts(&rt, rt.alloc());
+    let mut rows = Vec::new(rt.alloc());
+    append(&rt, &mut rows, &COMMITS[..1]);
+    append(&rt, &mut rows, &[(Open(1), Opened(1))]);
+    append(&rt, &mut rows, &COMMITS[1..]);
+    append(&rt, &mut rows, &AUDITS);
+    append(&rt, &mut rows, &[(Close(1), Closed(1, 0))]);
+    append(&rt, &mut rows, &AUDITS);
+    on_an_index::<_, 2>(&rt, rt.alloc(), 1, 64, u64::MAX, &receipts, &rows);
 }
 
 #[test]
 fn an_audit_takes_no_later_list_for_an_earlier_one(rt: HostRuntime) {
-    let alloc = rt.alloc();
-    let mut index = Twos::new(alloc, 1, 64).expect(&rt, ROOM);
-    let _one = commit(&rt, alloc, &mut index, &[Write::Upsert(1, 10)]);
-    commit_four(&rt, alloc, &mut index);
-    let session = index.open().expect(&rt, FREE);
-    let _six = commit(&rt, alloc, &mut index, &[Write::Insert(7, 70)]);
-    audit_each(&rt, alloc, &index);
-    let _receipt = index.close_session(session);
-    end(&rt, index);
+    let receipts = receipts(&rt, rt.alloc());
+    let mut rows = Vec::new(rt.alloc());
+    append(&rt, &mut rows, &COMMITS[..5]);
+    append(&rt, &mut rows, &[(Open(1), Opened(5))]);
+    append(&rt, &mut rows, &COMMITS[5..]);
+    append(&rt, &mut rows, &AUDITS);
+    on_an_index::<_, 2>(&rt, rt.alloc(), 1, 64, u64::MAX, &receipts, &rows);
 }
 
 fn read(pair: Option<(&u64, &u64)>) -> Option<(u64, u64)> {
@@ -265,16 +328,30 @@ fn located(index: &Twos, session: &Session<u64, u64>, key: u64) -> Option<(u64, 
     }
 }
 
+// What a session reads by cursors of its list: steps along it, the first pair above 1, and the pair with the key 2.
+fn gone_along(
+    index: &Twos,
+    session: &Session<u64, u64>,
+) -> ([Option<(u64, u64)>; 4], [Option<(u64, u64)>; 2])
+    requires { IsOpen index.now session.now }
+{
+    let steps = walked(index, session);
+    let one = 1u64;
+    (
+        steps,
+        [above(index, session, &one), located(index, session, 2)],
+    )
+}
+
 #[test]
 fn a_session_walks_along_its_list(rt: HostRuntime) {
     let alloc = rt.alloc();
     let mut index = Twos::new(alloc, 1, 32).expect(&rt, ROOM);
     let _three = commit(&rt, alloc, &mut index, &inserts(&rt, alloc, &[1, 2, 3]));
     let session = index.open().expect(&rt, FREE);
-    let steps = [Some((1, 1)), Some((3, 3)), Some((2, 2)), None];
-    assert_eq!(rt; walked(&index, &session), steps);
-    assert_eq!(rt; above(&index, &session, &1), Some((2, 2)));
-    assert_eq!(rt; located(&index, &session, 2), Some((2, 2)));
+    let seen = gone_along(&index, &session);
     let _receipt = index.close_session(session);
     end(&rt, index);
+    let steps = [Some((1, 1)), Some((3, 3)), Some((2, 2)), None];
+    assert!(rt; seen == (steps, [Some((2, 2)); 2]));
 }

@@ -59,6 +59,25 @@ fn writes<R: Abort>(rt: &R, alloc: Global, met: &mut bool) -> Vec<Write<u64, u64
     }
 }
 
+// The number and the length of a session's list, and the value of a key there.
+fn seen(index: &Numbers, session: &Session<u64, u64>, key: u64) -> (u64, usize, Option<u64>)
+    requires { IsOpen index.now session.now }
+{
+    (
+        index.number(session),
+        index.len(session),
+        index.get(session, &key).copied(),
+    )
+}
+
+// The same of the present list.
+fn present<R: Abort>(rt: &R, index: &mut Numbers, key: u64) -> (u64, usize, Option<u64>) {
+    let session = index.open().expect(rt, "a free place");
+    let found = seen(index, &session, key);
+    let _receipt = index.close_session(session);
+    found
+}
+
 // Commits two inserts, again where memory was refused, and looks whether anything had changed then.
 fn commit<R: Abort>(rt: &R, alloc: Global, index: &mut Numbers, met: &mut bool) -> Accepted {
     let blank = Receipt::blank(alloc);
@@ -68,14 +87,9 @@ fn commit<R: Abort>(rt: &R, alloc: Global, index: &mut Numbers, met: &mut bool) 
         Err(refused) => refused,
     };
     *met = true;
-    assert!(rt; refused.cause == Cause::Memory);
-    assert!(rt; index.slots_in_use() == 1);
+    assert!(rt; refused.cause == Cause::Memory && index.slots_in_use() == 1);
     assert!(rt; refused.writes.as_slice() == &[Write::Insert(1, 10), Write::Insert(1, 11)][..]);
-    let session = index.open().expect(rt, "a free place");
-    assert!(rt; index.number(&session) == 0);
-    assert!(rt; index.len(&session) == 0);
-    assert!(rt; index.get(&session, &1).is_none());
-    let _receipt = index.close_session(session);
+    assert!(rt; present(rt, index, 1) == (0, 0, None));
     index.commit(&blank, refused.writes).expect(rt, TWICE)
 }
 
@@ -87,10 +101,7 @@ fn writes_and_reads<R: Abort>(rt: &R, alloc: Global) -> bool {
     assert!(rt; accepted.number == 1);
     assert!(rt; accepted.replies.as_slice() == &[Reply::Inserted, Reply::Duplicate][..]);
     // the empty version, a segment and a directory
-    assert!(rt; index.slots_in_use() == 3);
-    let session = index.open().expect(rt, "a free place");
-    assert!(rt; index.get(&session, &1) == Some(&10));
-    let _receipt = index.close_session(session);
+    assert!(rt; index.slots_in_use() == 3 && present(rt, &mut index, 1) == (1, 1, Some(10)));
     match index.close() {
         Ok(()) => met,
         Err(_open) => panic!(rt; "a session is open"),
@@ -233,12 +244,10 @@ fn takes_over<R: Abort>(rt: &R, alloc: Global) -> bool {
     let session = index.open().expect(rt, "a free place");
     let upsert = one(rt, alloc, &mut met);
     let accepted = write(rt, alloc, &mut index, upsert, &mut met);
-    assert!(rt; accepted.number == 2);
-    assert!(rt; index.slots_in_use() == 6);
-    assert!(rt; index.len(&session) == 6);
-    assert!(rt; index.get(&session, &1) == Some(&1));
-    assert!(rt; index.get(&session, &6) == Some(&6));
+    assert!(rt; accepted.number == 2 && index.slots_in_use() == 6);
+    let (first, last) = (seen(&index, &session, 1), seen(&index, &session, 6));
     let _receipt = index.close_session(session);
+    assert!(rt; (first, last) == ((1, 6, Some(1)), (1, 6, Some(6))));
     index.reclaim();
     assert!(rt; index.slots_in_use() == 4);
     match index.close() {
@@ -308,8 +317,7 @@ fn play_twice<R: Abort>(
     let all = calls(rt, alloc, 0, met);
     let played = match play_all(alloc, index, desk, all) {
         Ok(replies) => {
-            assert!(rt; replies.len() == 4);
-            assert!(rt; are_in_order(replies.as_slice(), 0));
+            assert!(rt; replies.len() == 4 && are_in_order(replies.as_slice(), 0));
             return;
         }
         Err((replies, AllocError)) => replies,

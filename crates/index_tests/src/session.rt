@@ -1,11 +1,13 @@
 //! Sessions and commits of an index, by example.
 
-ghost use Rattle.std.specs.Prelude.{◌≡◌};
 ghost use Rattle.ordered_index.specs.State.{IsOpen};
 
-use crate::slots::{commit, end};
+use crate::slots::end;
+use crate::table::Call::{Close, Commit, Look, Open};
+use crate::table::Told::{Accepted, Closed, NoPlace, Opened, Seen};
+use crate::table::on_an_index;
 use ordered_index::{
-    Answer, Cause, LocalIndex, NoPlace, Query, Receipt, Recorded, Reply, Seq, Session, Write,
+    Answer, Cause, LocalIndex, Query, Receipt, Recorded, Reply, Seq, Session, Write,
     clones_of_lists, equals_of_lists,
 };
 use std::alloc::{AllocError, Global};
@@ -37,59 +39,52 @@ fn claims(alloc: Global, key: u64, value: Option<u64>) -> Result<Receipt<u64, u6
     })
 }
 
-// Opening a session is refused.
-fn refuse_to_open<R: Abort>(rt: &R, index: &mut Numbers)
-    ensures { index.new ≡ index.old }
-{
-    match index.open() {
-        Err(NoPlace) => {}
-        Ok(_open) => panic!(rt; "a second session was opened"),
-    }
-}
-
-// An index whose closing is refused comes back.
-fn refuse_to_close<R: Abort>(rt: &R, index: Numbers) -> Numbers
-    ensures { result ≡ index }
+// Ends an index with a session, which is handed back, and closes the session then; gives the number that it read.
+fn refuse_to_close<R: Abort>(rt: &R, index: Numbers, session: Session<u64, u64>) -> (Numbers, u64)
+    requires { IsOpen index session }
 {
     match index.close() {
         Ok(()) => panic!(rt; "it was closed with a session open"),
-        Err(index) => index,
+        Err(mut back) => {
+            let receipt = back.close_session(session);
+            (back, receipt.number)
+        }
     }
 }
 
-// The number of the list that a session reads, and the values of two keys there.
-fn reads(
-    index: &Numbers,
-    session: &Session<u64, u64>,
-    keys: (u64, u64),
-) -> (u64, Option<u64>, Option<u64>)
-    requires { IsOpen index.now session.now }
-{
-    let one = index.get(session, &keys.0).copied();
-    let other = index.get(session, &keys.1).copied();
-    (index.number(session), one, other)
+#[test]
+fn an_index_isnt_closed_while_a_session_is_open(rt: HostRuntime) {
+    let mut index = Numbers::new(rt.alloc(), 1, 16).expect(&rt, ROOM);
+    let session = index.open().expect(&rt, FREE);
+    let (index, number) = refuse_to_close(&rt, index, session);
+    assert!(rt; number == 0);
+    end(&rt, index);
 }
+
+const TWICE: [Write<u64, u64>; 2] = [Write::Insert(1, 10), Write::Insert(1, 11)];
 
 #[test]
 fn a_session_reads_the_list_at_its_opening(rt: HostRuntime) {
-    let alloc = rt.alloc();
-    let mut index = Numbers::new(alloc, 1, 16).expect(&rt, ROOM);
-    let twice = [Write::Insert(1, 10), Write::Insert(1, 11)];
-    let accepted = commit(&rt, alloc, &mut index, &twice);
-    let wanted = [Reply::Inserted, Reply::Duplicate];
-    assert!(rt; accepted.number == 1 && accepted.replies.as_slice() == &wanted[..]);
-    let a = index.open().expect(&rt, FREE);
-    let accepted = commit(&rt, alloc, &mut index, &[Write::Insert(2, 20)]);
-    assert_eq!(rt; accepted.number, 2);
-    assert_eq!(rt; reads(&index, &a, (1, 2)), (1, Some(10), None));
-    refuse_to_open(&rt, &mut index);
-    let mut index = refuse_to_close(&rt, index);
-    assert_eq!(rt; index.close_session(a).number, 1);
-    let b = index.open().expect(&rt, FREE);
-    assert_eq!(rt; reads(&index, &b, (1, 2)), (2, Some(10), Some(20)));
-    assert_eq!(rt; index.receipt(&b).number, 2);
-    assert!(rt; index.close_session(b).reads.as_slice().is_empty());
-    end(&rt, index);
+    let rows = [
+        (
+            Commit(&TWICE),
+            Accepted(1, &[Reply::Inserted, Reply::Duplicate]),
+        ),
+        (Open(1), Opened(1)),
+        (
+            Commit(&[Write::Insert(2, 20)]),
+            Accepted(2, &[Reply::Inserted]),
+        ),
+        (Look(1, 1), Seen(1, 1, Some(10))),
+        (Look(1, 2), Seen(1, 1, None)),
+        (Open(2), NoPlace),
+        (Close(1), Closed(1, 0)),
+        (Open(2), Opened(2)),
+        (Look(2, 1), Seen(2, 2, Some(10))),
+        (Look(2, 2), Seen(2, 2, Some(20))),
+        (Close(2), Closed(2, 0)),
+    ];
+    on_an_index::<_, 2>(&rt, rt.alloc(), 1, 16, u64::MAX, &[], &rows);
 }
 
 // What a commit of inserts on a receipt is answered: its number, or why it is refused; then the writes come back.

@@ -1,24 +1,21 @@
 //! Slots and reclaiming, all writes with their replies, and sessions that outlast commits.
 
 ghost use Rattle.std.specs.Prelude.{◌≡◌};
-ghost use Rattle.ordered_index.specs.State.{IsOpen};
 
-use ordered_index::{
-    Accepted, Answer, Cause, LocalIndex, NoPlace, Query, Receipt, Recorded, Refused, Reply, Seq,
-    Session, Write,
+use crate::table::Call::{Close, Commit, CommitOn, InsertTo, Look, Open, Reclaim, Slots};
+use crate::table::Told::{
+    Accepted, AtMost, Closed, Done, Inserted, NoPlace, Opened, Refused, Seen,
 };
+use crate::table::{Told, on_an_index};
+use ordered_index::{Answer, Cause, LocalIndex, Query, Receipt, Recorded, Reply, Seq, Write};
 use std::alloc::{AllocError, Global};
 use std::ops::Bound;
 use std::process::Abort;
 
-// Indexes of numbers, with at most one pair and at most two pairs in a segment.
+// Indexes of numbers, with at most one pair in a segment.
 type Ones = LocalIndex<u64, u64, 1>;
 
-type Twos = LocalIndex<u64, u64, 2>;
-
 const ROOM: &str = "room for an index";
-
-const FREE: &str = "a free place";
 
 fn copied(alloc: Global, writes: &[Write<u64, u64>]) -> Result<Vec<Write<u64, u64>>, AllocError> {
     Vec::from_clones(alloc, writes)
@@ -41,7 +38,7 @@ pub(crate) fn commit<R: Abort, const S: usize>(
     alloc: Global,
     index: &mut LocalIndex<u64, u64, S>,
     writes: &[Write<u64, u64>],
-) -> Accepted
+) -> ordered_index::Accepted
     ensures { index.new.places ≡ index.old.places }
 {
     let blank = Receipt::blank(alloc);
@@ -49,23 +46,6 @@ pub(crate) fn commit<R: Abort, const S: usize>(
     index
         .commit(&blank, writes)
         .expect(rt, "an accepted commit")
-}
-
-// Commits writes, on a receipt, that are refused.
-pub(crate) fn refuse<R: Abort, const S: usize>(
-    rt: &R,
-    alloc: Global,
-    index: &mut LocalIndex<u64, u64, S>,
-    receipt: &Receipt<u64, u64>,
-    writes: &[Write<u64, u64>],
-) -> Refused<u64, u64>
-    ensures { index.new.places ≡ index.old.places }
-{
-    let writes = copied(alloc, writes).expect(rt, "room for writes");
-    match index.commit(receipt, writes) {
-        Ok(_accepted) => panic!(rt; "the commit was accepted"),
-        Err(refused) => refused,
-    }
 }
 
 // A receipt with this number that claims this answer to a look-up of the key.
@@ -94,309 +74,247 @@ pub(crate) fn end<R: Abort, const S: usize>(rt: &R, index: LocalIndex<u64, u64, 
     }
 }
 
+// Inserts of five keys, each its own value.
+const FIVE: [Write<u64, u64>; 5] = [
+    Write::Insert(1, 1),
+    Write::Insert(2, 2),
+    Write::Insert(3, 3),
+    Write::Insert(4, 4),
+    Write::Insert(5, 5),
+];
+
+const INSERTED: [Reply; 5] = [Reply::Inserted; 5];
+
 #[test]
 fn a_commit_without_slots_changes_nothing(rt: HostRuntime) {
-    let alloc = rt.alloc();
-    let blank = Receipt::blank(alloc);
-    let five = inserts(&rt, alloc, &[1, 2, 3, 4, 5]);
-    let two = inserts(&rt, alloc, &[1, 2]);
-    // three segments and a directory don't fit beside the empty version
-    let mut index = Twos::new(alloc, 1, 4).expect(&rt, ROOM);
-    let refused = refuse(&rt, alloc, &mut index, &blank, &five);
-    assert_eq!(rt; refused.cause, Cause::NoSlot);
-    assert!(rt; refused.writes == five);
-    assert_eq!(rt; index.slots_in_use(), 1);
-    let session = index.open().expect(&rt, FREE);
-    assert_eq!(rt; index.number(&session), 0);
-    assert_eq!(rt; index.len(&session), 0);
-    assert!(rt; !index.contains(&session, &1));
-    let _receipt = index.close_session(session);
-    // one segment and a directory do
-    let accepted = commit(&rt, alloc, &mut index, &two);
-    assert_eq!(rt; accepted.number, 1);
-    assert_eq!(rt; index.slots_in_use(), 3);
-    index.reclaim();
-    assert_eq!(rt; index.slots_in_use(), 2);
-    end(&rt, index);
+    let rows = [
+        // three segments and a directory don't fit beside the empty version
+        (Commit(&FIVE), Refused(Cause::NoSlot)),
+        (Slots, Told::Slots(1)),
+        (Open(1), Opened(0)),
+        (Look(1, 1), Seen(0, 0, None)),
+        (Close(1), Closed(0, 0)),
+        // one segment and a directory do
+        (Commit(&FIVE[..2]), Accepted(1, &INSERTED[..2])),
+        (Slots, Told::Slots(3)),
+        (Reclaim, Done),
+        (Slots, Told::Slots(2)),
+    ];
+    on_an_index::<_, 2>(&rt, rt.alloc(), 1, 4, u64::MAX, &[], &rows);
 }
 
 #[test]
 fn a_commit_takes_a_slot_for_each_segment_and_one_for_the_directory(rt: HostRuntime) {
-    let alloc = rt.alloc();
-    let five = inserts(&rt, alloc, &[1, 2, 3, 4, 5]);
-    let mut index = Twos::new(alloc, 1, 5).expect(&rt, ROOM);
-    assert_eq!(rt; index.slots_in_use(), 1);
-    let accepted = commit(&rt, alloc, &mut index, &five);
-    assert_eq!(rt; accepted.number, 1);
-    assert_eq!(rt; index.slots_in_use(), 5);
-    index.reclaim();
-    assert_eq!(rt; index.slots_in_use(), 4);
-    // nothing is left to reclaim
-    index.reclaim();
-    assert_eq!(rt; index.slots_in_use(), 4);
-    end(&rt, index);
+    let rows = [
+        (Slots, Told::Slots(1)),
+        (Commit(&FIVE), Accepted(1, &INSERTED)),
+        (Slots, Told::Slots(5)),
+        (Reclaim, Done),
+        (Slots, Told::Slots(4)),
+        // nothing is left to reclaim
+        (Reclaim, Done),
+        (Slots, Told::Slots(4)),
+    ];
+    on_an_index::<_, 2>(&rt, rt.alloc(), 1, 5, u64::MAX, &[], &rows);
 }
 
 #[test]
 fn each_pair_takes_a_slot_where_segments_have_one(rt: HostRuntime) {
-    let alloc = rt.alloc();
-    let three = inserts(&rt, alloc, &[1, 2, 3]);
-    let mut index = Ones::new(alloc, 1, 16).expect(&rt, ROOM);
-    let accepted = commit(&rt, alloc, &mut index, &three);
-    assert_eq!(rt; accepted.number, 1);
-    assert_eq!(rt; index.slots_in_use(), 5);
-    index.reclaim();
-    assert_eq!(rt; index.slots_in_use(), 4);
-    end(&rt, index);
+    let rows = [
+        (Commit(&FIVE[..3]), Accepted(1, &INSERTED[..3])),
+        (Slots, Told::Slots(5)),
+        (Reclaim, Done),
+        (Slots, Told::Slots(4)),
+    ];
+    on_an_index::<_, 1>(&rt, rt.alloc(), 1, 16, u64::MAX, &[], &rows);
 }
 
+// That an index isn't closed while one is open, a test of sessions looks at.
 #[test]
 fn a_version_stays_while_its_session_is_open(rt: HostRuntime) {
-    let alloc = rt.alloc();
-    let five = inserts(&rt, alloc, &[1, 2, 3, 4, 5]);
-    let mut index = Twos::new(alloc, 1, 16).expect(&rt, ROOM);
-    let accepted = commit(&rt, alloc, &mut index, &five);
-    assert_eq!(rt; accepted.number, 1);
-    index.reclaim();
-    assert_eq!(rt; index.slots_in_use(), 4);
-    let a = index.open().expect(&rt, FREE);
-    match index.open() {
-        Err(NoPlace) => {}
-        Ok(_open) => panic!(rt; "a second session was opened"),
-    }
-    let mut index = match index.close() {
-        Ok(()) => panic!(rt; "it was closed with a session open"),
-        Err(index) => index,
-    };
-    let accepted = commit(&rt, alloc, &mut index, &[Write::Clear]);
-    assert_eq!(rt; accepted.number, 2);
-    assert_eq!(rt; accepted.replies.as_slice(), &[Reply::Cleared][..]);
-    assert_eq!(rt; index.len(&a), 5);
-    // what a session has isn't reclaimed
-    index.reclaim();
-    assert_eq!(rt; index.slots_in_use(), 5);
-    assert_eq!(rt; index.len(&a), 5);
-    assert_eq!(rt; index.get(&a, &5).copied(), Some(5));
-    assert_eq!(rt; index.close_session(a).number, 1);
-    index.reclaim();
-    assert_eq!(rt; index.slots_in_use(), 1);
-    let b = index.open().expect(&rt, FREE);
-    assert_eq!(rt; index.number(&b), 2);
-    assert_eq!(rt; index.len(&b), 0);
-    let _receipt = index.close_session(b);
-    end(&rt, index);
+    let rows = [
+        (Commit(&FIVE), Accepted(1, &INSERTED)),
+        (Reclaim, Done),
+        (Slots, Told::Slots(4)),
+        (Open(1), Opened(1)),
+        (Open(2), NoPlace),
+        (Commit(&[Write::Clear]), Accepted(2, &[Reply::Cleared])),
+        (Look(1, 1), Seen(1, 5, Some(1))),
+        // what a session has isn't reclaimed
+        (Reclaim, Done),
+        (Slots, Told::Slots(5)),
+        (Look(1, 5), Seen(1, 5, Some(5))),
+        (Close(1), Closed(1, 0)),
+        (Reclaim, Done),
+        (Slots, Told::Slots(1)),
+        (Open(2), Opened(2)),
+        (Look(2, 5), Seen(2, 0, None)),
+    ];
+    on_an_index::<_, 2>(&rt, rt.alloc(), 1, 16, u64::MAX, &[], &rows);
 }
+
+const TWICE: [Write<u64, u64>; 2] = [Write::Insert(1, 10), Write::Insert(1, 11)];
 
 #[test]
 fn a_session_reads_on_while_its_pair_is_replaced(rt: HostRuntime) {
-    let alloc = rt.alloc();
-    let mut index = Twos::new(alloc, 2, 16).expect(&rt, ROOM);
-    let accepted = commit(
-        &rt,
-        alloc,
-        &mut index,
-        &[Write::Insert(1, 10), Write::Insert(1, 11)],
-    );
-    assert_eq!(rt; accepted.number, 1);
-    assert_eq!(rt;
-        accepted.replies.as_slice(),
-        &[Reply::Inserted, Reply::Duplicate][..]
-    );
-    let a = index.open().expect(&rt, FREE);
-    assert_eq!(rt; index.number(&a), 1);
-    let accepted = commit(&rt, alloc, &mut index, &[Write::Upsert(1, 11)]);
-    assert_eq!(rt; accepted.number, 2);
-    assert_eq!(rt; accepted.replies.as_slice(), &[Reply::Upserted][..]);
-    assert_eq!(rt; index.get(&a, &1).copied(), Some(10));
-    let b = index.open().expect(&rt, FREE);
-    assert_eq!(rt; index.number(&b), 2);
-    assert_eq!(rt; index.get(&b, &1).copied(), Some(11));
-    assert_eq!(rt; index.get(&a, &1).copied(), Some(10));
-    index.reclaim();
-    assert_eq!(rt; index.get(&a, &1).copied(), Some(10));
-    let _receipt = index.close_session(a);
-    let _receipt = index.close_session(b);
-    index.reclaim();
-    assert_eq!(rt; index.slots_in_use(), 2);
-    end(&rt, index);
+    let rows = [
+        (
+            Commit(&TWICE),
+            Accepted(1, &[Reply::Inserted, Reply::Duplicate]),
+        ),
+        (Open(1), Opened(1)),
+        (
+            Commit(&[Write::Upsert(1, 11)]),
+            Accepted(2, &[Reply::Upserted]),
+        ),
+        (Look(1, 1), Seen(1, 1, Some(10))),
+        (Open(2), Opened(2)),
+        (Look(2, 1), Seen(2, 1, Some(11))),
+        (Look(1, 1), Seen(1, 1, Some(10))),
+        (Reclaim, Done),
+        (Look(1, 1), Seen(1, 1, Some(10))),
+        (Close(1), Closed(1, 0)),
+        (Close(2), Closed(2, 0)),
+        (Reclaim, Done),
+        (Slots, Told::Slots(2)),
+    ];
+    on_an_index::<_, 2>(&rt, rt.alloc(), 2, 16, u64::MAX, &[], &rows);
 }
 
-// The value of a key in the list of a session, and whether a pair has the key.
-fn seen(index: &Twos, session: &Session<u64, u64>, key: u64) -> (Option<u64>, bool)
-    requires { IsOpen index.now session.now }
-{
-    (
-        index.get(session, &key).copied(),
-        index.contains(session, &key),
-    )
-}
+const OF_ALL_KINDS: [Write<u64, u64>; 7] = [
+    Write::Insert(1, 10),
+    Write::Insert(2, 20),
+    Write::Insert(2, 21),
+    Write::Upsert(2, 22),
+    Write::Upsert(4, 40),
+    Write::Remove(1),
+    Write::Remove(9),
+];
+
+const THEIR_REPLIES: [Reply; 7] = [
+    Reply::Inserted,
+    Reply::Inserted,
+    Reply::Duplicate,
+    Reply::Upserted,
+    Reply::Upserted,
+    Reply::Removed,
+    Reply::Absent,
+];
 
 #[test]
 fn inserts_upserts_and_removals_have_their_replies(rt: HostRuntime) {
-    let alloc = rt.alloc();
-    let writes = [
-        Write::Insert(1, 10),
-        Write::Insert(2, 20),
-        Write::Insert(2, 21),
-        Write::Upsert(2, 22),
-        Write::Upsert(4, 40),
-        Write::Remove(1),
-        Write::Remove(9),
+    let rows = [
+        (Commit(&OF_ALL_KINDS), Accepted(1, &THEIR_REPLIES)),
+        (Open(1), Opened(1)),
+        (Look(1, 1), Seen(1, 2, None)),
+        (Look(1, 2), Seen(1, 2, Some(22))),
+        (Look(1, 4), Seen(1, 2, Some(40))),
+        (Look(1, 9), Seen(1, 2, None)),
     ];
-    let wanted = [
-        Reply::Inserted,
-        Reply::Inserted,
-        Reply::Duplicate,
-        Reply::Upserted,
-        Reply::Upserted,
-        Reply::Removed,
-        Reply::Absent,
-    ];
-    let mut index = Twos::new(alloc, 1, 64).expect(&rt, ROOM);
-    let accepted = commit(&rt, alloc, &mut index, &writes);
-    assert_eq!(rt; accepted.number, 1);
-    assert_eq!(rt; accepted.replies.as_slice(), &wanted[..]);
-    let a = index.open().expect(&rt, FREE);
-    assert_eq!(rt; index.len(&a), 2);
-    let rows = [(1, None), (2, Some(22)), (4, Some(40)), (9, None)];
-    for (key, value) in rows {
-        assert_eq!(rt; seen(&index, &a, key), (value, value.is_some()));
-    }
-    let _receipt = index.close_session(a);
-    end(&rt, index);
+    on_an_index::<_, 2>(&rt, rt.alloc(), 1, 64, u64::MAX, &[], &rows);
 }
+
+const ODD: [Write<u64, u64>; 3] = [
+    Write::Insert(1, 1),
+    Write::Insert(3, 3),
+    Write::Insert(5, 5),
+];
+
+// reversed bounds contain no key
+const REVERSED: [Write<u64, u64>; 1] = [Write::RemoveRange(Bound::Included(8), Bound::Excluded(3))];
+
+const INNER: [Write<u64, u64>; 2] = [
+    Write::RemoveRange(Bound::Included(3), Bound::Excluded(5)),
+    Write::Insert(4, 4),
+];
+
+const ALL: [Write<u64, u64>; 3] = [
+    Write::Clear,
+    Write::Insert(7, 7),
+    Write::RemoveRange(Bound::Unbounded, Bound::Unbounded),
+];
+
+const CLEARED: [Reply; 3] = [Reply::Cleared, Reply::Inserted, Reply::RangeRemoved];
 
 #[test]
 fn ranges_are_removed_and_all_is_cleared(rt: HostRuntime) {
-    let alloc = rt.alloc();
-    let start = inserts(&rt, alloc, &[1, 3, 5]);
-    let mut index = Twos::new(alloc, 1, 64).expect(&rt, ROOM);
-    let accepted = commit(&rt, alloc, &mut index, &start);
-    assert_eq!(rt; accepted.number, 1);
-    // reversed bounds contain no key
-    let reversed = Write::RemoveRange(Bound::Included(8), Bound::Excluded(3));
-    let accepted = commit(&rt, alloc, &mut index, &[reversed]);
-    assert_eq!(rt; accepted.number, 2);
-    assert_eq!(rt; accepted.replies.as_slice(), &[Reply::RangeRemoved][..]);
-    let a = index.open().expect(&rt, FREE);
-    assert_eq!(rt; index.len(&a), 3);
-    let _receipt = index.close_session(a);
-    let inner = Write::RemoveRange(Bound::Included(3), Bound::Excluded(5));
-    let accepted = commit(&rt, alloc, &mut index, &[inner, Write::Insert(4, 4)]);
-    assert_eq!(rt;
-        accepted.replies.as_slice(),
-        &[Reply::RangeRemoved, Reply::Inserted][..]
-    );
-    let b = index.open().expect(&rt, FREE);
-    assert_eq!(rt; index.len(&b), 3);
-    assert!(rt; !index.contains(&b, &3));
-    assert!(rt; index.contains(&b, &4));
-    assert!(rt; index.contains(&b, &5));
-    let _receipt = index.close_session(b);
-    let all = Write::RemoveRange(Bound::Unbounded, Bound::Unbounded);
-    let accepted = commit(
-        &rt,
-        alloc,
-        &mut index,
-        &[Write::Clear, Write::Insert(7, 7), all],
-    );
-    assert_eq!(rt;
-        accepted.replies.as_slice(),
-        &[Reply::Cleared, Reply::Inserted, Reply::RangeRemoved][..]
-    );
-    let c = index.open().expect(&rt, FREE);
-    assert_eq!(rt; index.len(&c), 0);
-    let _receipt = index.close_session(c);
-    end(&rt, index);
+    let rows = [
+        (Commit(&ODD), Accepted(1, &INSERTED[..3])),
+        (Commit(&REVERSED), Accepted(2, &[Reply::RangeRemoved])),
+        (Open(1), Opened(2)),
+        (Look(1, 3), Seen(2, 3, Some(3))),
+        (Close(1), Closed(2, 0)),
+        (
+            Commit(&INNER),
+            Accepted(3, &[Reply::RangeRemoved, Reply::Inserted]),
+        ),
+        (Open(2), Opened(3)),
+        (Look(2, 3), Seen(3, 3, None)),
+        (Look(2, 4), Seen(3, 3, Some(4))),
+        (Look(2, 5), Seen(3, 3, Some(5))),
+        (Close(2), Closed(3, 0)),
+        (Commit(&ALL), Accepted(4, &CLEARED)),
+        (Open(3), Opened(4)),
+        (Look(3, 7), Seen(4, 0, None)),
+    ];
+    on_an_index::<_, 2>(&rt, rt.alloc(), 1, 64, u64::MAX, &[], &rows);
 }
 
-// Looks whether the present list has this number, and no pair with the key.
-fn look_for<R: Abort>(rt: &R, index: &mut Twos, number: u64, key: u64) {
-    let session = index.open().expect(rt, FREE);
-    let found = (index.number(&session), index.contains(&session, &key));
-    let _receipt = index.close_session(session);
-    assert_eq!(rt; found, (number, false));
-}
+const OTHER: [Write<u64, u64>; 1] = [Write::Upsert(2, 20)];
+
+const UPSERTED: [Reply; 1] = [Reply::Upserted];
 
 #[test]
 fn a_read_that_holds_again_is_no_conflict(rt: HostRuntime) {
-    let alloc = rt.alloc();
-    let ten = claims(&rt, alloc, 1, 1, Some(10));
-    let mut index = Twos::new(alloc, 1, 64).expect(&rt, ROOM);
-    let accepted = commit(&rt, alloc, &mut index, &[Write::Upsert(1, 10)]);
-    assert_eq!(rt; accepted.number, 1);
-    let accepted = commit(&rt, alloc, &mut index, &[Write::Upsert(1, 11)]);
-    assert_eq!(rt; accepted.number, 2);
-    // the answer differs, and nothing is written
-    let refused = refuse(&rt, alloc, &mut index, &ten, &[Write::Upsert(2, 20)]);
-    assert_eq!(rt; refused.cause, Cause::Conflict(0));
-    assert!(rt; refused.writes.as_slice() == &[Write::Upsert(2, 20)][..]);
-    look_for(&rt, &mut index, 2, 2);
-    // the list is another, but the answer is that of the receipt
-    let accepted = commit(&rt, alloc, &mut index, &[Write::Upsert(1, 10)]);
-    assert_eq!(rt; accepted.number, 3);
-    match index.commit(&ten, refused.writes) {
-        Ok(accepted) => assert_eq!(rt; accepted.number, 4),
-        Err(_refused) => panic!(rt; "the commit was refused"),
-    }
-    end(&rt, index);
+    let ten = claims(&rt, rt.alloc(), 1, 1, Some(10));
+    let rows = [
+        (Commit(&[Write::Upsert(1, 10)]), Accepted(1, &UPSERTED)),
+        (Commit(&[Write::Upsert(1, 11)]), Accepted(2, &UPSERTED)),
+        // the answer differs, and nothing is written
+        (CommitOn(0, &OTHER), Refused(Cause::Conflict(0))),
+        (Open(1), Opened(2)),
+        (Look(1, 2), Seen(2, 1, None)),
+        (Close(1), Closed(2, 0)),
+        // the list is another, but the answer is that of the receipt
+        (Commit(&[Write::Upsert(1, 10)]), Accepted(3, &UPSERTED)),
+        (CommitOn(0, &OTHER), Accepted(4, &UPSERTED)),
+    ];
+    on_an_index::<_, 2>(&rt, rt.alloc(), 1, 64, u64::MAX, &[ten], &rows);
 }
 
 // The causes come in an order: a conflict, the last number, and slots only then.
 #[test]
 fn slots_are_the_last_cause(rt: HostRuntime) {
-    let alloc = rt.alloc();
-    let blank = Receipt::blank(alloc);
-    let wrong = claims(&rt, alloc, 0, 1, Some(10));
-    let five = inserts(&rt, alloc, &[1, 2, 3, 4, 5]);
-    let mut index = Twos::with_last(alloc, 1, 4, 1).expect(&rt, ROOM);
-    let refused = refuse(&rt, alloc, &mut index, &wrong, &five);
-    assert_eq!(rt; refused.cause, Cause::Conflict(0));
-    let refused = refuse(&rt, alloc, &mut index, &blank, &five);
-    assert_eq!(rt; refused.cause, Cause::NoSlot);
-    let accepted = commit(&rt, alloc, &mut index, &[]);
-    assert_eq!(rt; accepted.number, 1);
-    let refused = refuse(&rt, alloc, &mut index, &blank, &five);
-    assert_eq!(rt; refused.cause, Cause::Exhausted);
-    end(&rt, index);
-}
-
-// Inserts of the keys from 1 to this one, each its own value.
-fn inserts_to<R: Abort>(rt: &R, alloc: Global, last: u64) -> Vec<Write<u64, u64>> {
-    let mut writes = Vec::new(alloc);
-    for key in 1..=last {
-        writes
-            .push(Write::Insert(key, key))
-            .expect(rt, "room for writes");
-    }
-    writes
+    let wrong = claims(&rt, rt.alloc(), 0, 1, Some(10));
+    let rows = [
+        (CommitOn(0, &FIVE), Refused(Cause::Conflict(0))),
+        (Commit(&FIVE), Refused(Cause::NoSlot)),
+        (Commit(&[]), Accepted(1, &[])),
+        (Commit(&FIVE), Refused(Cause::Exhausted)),
+    ];
+    on_an_index::<_, 2>(&rt, rt.alloc(), 1, 4, 1, &[wrong], &rows);
 }
 
 // Segments that no write touches are taken over: in each of a hundred segments one pair, and one of them is made anew.
 #[test]
 fn a_commit_takes_slots_for_what_it_touches(rt: HostRuntime) {
-    let alloc = rt.alloc();
-    let hundred = inserts_to(&rt, alloc, 100);
-    let mut index = Ones::new(alloc, 1, 105).expect(&rt, ROOM);
-    let accepted = commit(&rt, alloc, &mut index, &hundred);
-    assert_eq!(rt; accepted.number, 1);
-    index.reclaim();
-    assert_eq!(rt; index.slots_in_use(), 101);
-    let a = index.open().expect(&rt, FREE);
-    let accepted = commit(&rt, alloc, &mut index, &[Write::Upsert(50, 51)]);
-    assert_eq!(rt; accepted.replies.as_slice(), &[Reply::Upserted][..]);
-    assert!(rt; index.slots_in_use() <= 104);
-    assert_eq!(rt; index.get(&a, &50).copied(), Some(50));
-    assert_eq!(rt; index.get(&a, &51).copied(), Some(51));
-    let _receipt = index.close_session(a);
-    index.reclaim();
-    assert_eq!(rt; index.slots_in_use(), 101);
-    let b = index.open().expect(&rt, FREE);
-    assert_eq!(rt; index.get(&b, &50).copied(), Some(51));
-    assert_eq!(rt; index.get(&b, &49).copied(), Some(49));
-    assert_eq!(rt; index.len(&b), 100);
-    let _receipt = index.close_session(b);
-    end(&rt, index);
+    let rows = [
+        (InsertTo(100), Inserted(1, 100)),
+        (Reclaim, Done),
+        (Slots, Told::Slots(101)),
+        (Open(1), Opened(1)),
+        (Commit(&[Write::Upsert(50, 51)]), Accepted(2, &UPSERTED)),
+        (Slots, AtMost(104)),
+        (Look(1, 50), Seen(1, 100, Some(50))),
+        (Look(1, 51), Seen(1, 100, Some(51))),
+        (Close(1), Closed(1, 0)),
+        (Reclaim, Done),
+        (Slots, Told::Slots(101)),
+        (Open(2), Opened(2)),
+        (Look(2, 50), Seen(2, 100, Some(51))),
+        (Look(2, 49), Seen(2, 100, Some(49))),
+    ];
+    on_an_index::<_, 1>(&rt, rt.alloc(), 1, 105, u64::MAX, &[], &rows);
 }
 
 // Upserts of so many keys, each below another even key.

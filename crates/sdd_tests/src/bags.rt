@@ -1,23 +1,21 @@
 //! Bags: calls as data, so that a test of many calls is a table, and bags beside the multisets that they are.
 
 ghost use Rattle.std.specs.Prelude.{◌≡◌, ◌<◌, length};
-ghost use Rattle.sdd_base.specs.Place.{IsOpen, IsSized};
+ghost use Rattle.sdd_base.specs.Place.{IsOpen};
 ghost use Rattle.sdd.specs.Bags.{IsLength, IsSomeBag, bag_cells, into_cells};
 
 use crate::bags::Call::{IsEmpty, Len, Pop, Push, TryPush};
 use crate::bags::Reply::{Back, Count, Done, Is, Value};
-use crate::places::{end, give, sizes};
+use crate::places::{end, give, new_bag, place_of};
 use sdd::bag::{Bag, IntoIter};
 use sdd::linked_entry::LinkedEntry;
 use sdd::refusal::{FromIterRefused, NotMade};
 use sdd::world;
 use sdd_base::owner::Shared;
-use sdd_base::sizes::Sizes;
 use sdd_base::world as place;
 use sdd_base::world::World;
 use std::alloc::Global;
 use std::process::Abort;
-use std::test::Fail;
 
 /// The value of the entry that a pop gives, which is given back.
 pub(crate) fn pop<const N: usize>(w: &mut World<LinkedEntry<u64>>, bag: &Bag<u64, N>) -> Option<u64>
@@ -143,27 +141,22 @@ fn give_all<R: Abort>(
 fn on_a_bag<R: Abort, const N: usize>(
     rt: &R,
     alloc: Global,
-    sizes: Sizes,
+    sizes: (usize, usize),
     rows: &[(Call, Reply)],
-) -> Result<usize, Fail>
-    requires sizes { IsSized sizes }
-    requires length { IsLength N }
+) -> usize
+    requires { IsLength N }
 {
-    let mut w: World<LinkedEntry<u64>> = World::new(alloc, sizes)?;
-    if w.participants() == 0 {
-        panic!(rt; "it has a participant");
-    }
-    let Ok(bag) = world::bag::new::<u64, _, N>(alloc, &mut w) else {
-        panic!(rt; "its cells are free");
-    };
+    let (slots, cells) = sizes;
+    let mut w = place_of(rt, alloc, slots, cells);
+    let bag = new_bag::<_, N>(rt, alloc, &mut w);
     play(rt, &mut w, &bag, rows);
     let folded = fold(rt, alloc, &mut w, bag);
     end(rt, w);
-    Ok(folded)
+    folded
 }
 
 #[test]
-fn a_bag_of_one_gives_the_overflow_first(rt: HostRuntime) -> Result<(), Fail> {
+fn a_bag_of_one_gives_the_overflow_first(rt: HostRuntime) {
     let rows = [
         (IsEmpty, Is(true)),
         (TryPush(1), Done),
@@ -175,25 +168,23 @@ fn a_bag_of_one_gives_the_overflow_first(rt: HostRuntime) -> Result<(), Fail> {
         (Pop, Value(Some(1))),
         (Pop, Value(None)),
     ];
-    assert_eq!(rt; on_a_bag::<_, 1>(&rt, rt.alloc(), sizes(2, 4), &rows)?, 0);
-    Ok(())
+    assert!(rt; on_a_bag::<_, 1>(&rt, rt.alloc(), (2, 4), &rows) == 0);
 }
 
 #[test]
-fn a_bag_takes_a_cell_more_than_its_length(rt: HostRuntime) -> Result<(), Fail> {
-    let mut w: World<LinkedEntry<u64>> = World::new(rt.alloc(), sizes(1, 3))?;
+fn a_bag_takes_a_cell_more_than_its_length(rt: HostRuntime) {
+    let mut w = place_of(&rt, rt.alloc(), 1, 3);
     match world::bag::new::<u64, _, 3>(rt.alloc(), &mut w) {
         Ok(_) => panic!(rt; "three cells are free"),
         Err(refused) => assert_eq!(rt; refused, NotMade::NoSlot),
     }
     end(&rt, w);
     let rows = [(Push(7), Back(7)), (Len, Count(0))];
-    assert_eq!(rt; on_a_bag::<_, 2>(&rt, rt.alloc(), sizes(1, 3), &rows)?, 0);
-    Ok(())
+    assert!(rt; on_a_bag::<_, 2>(&rt, rt.alloc(), (1, 3), &rows) == 0);
 }
 
 #[test]
-fn a_bag_without_a_slot_hands_the_value_back(rt: HostRuntime) -> Result<(), Fail> {
+fn a_bag_without_a_slot_hands_the_value_back(rt: HostRuntime) {
     let rows = [
         (Push(1), Done),
         (TryPush(2), Done),
@@ -201,16 +192,15 @@ fn a_bag_without_a_slot_hands_the_value_back(rt: HostRuntime) -> Result<(), Fail
         (TryPush(4), Back(4)),
         (Len, Count(2)),
     ];
-    assert_eq!(rt; on_a_bag::<_, 32>(&rt, rt.alloc(), sizes(2, 40), &rows)?, 2);
-    Ok(())
+    assert!(rt; on_a_bag::<_, 32>(&rt, rt.alloc(), (2, 40), &rows) == 2);
 }
 
 #[test]
-fn every_owner_is_folded_once(rt: HostRuntime) -> Result<(), Fail> {
-    assert_eq!(rt; on_a_bag::<_, 1>(&rt, rt.alloc(), sizes(1, 3), &[])?, 0);
+fn every_owner_is_folded_once(rt: HostRuntime) {
+    assert!(rt; on_a_bag::<_, 1>(&rt, rt.alloc(), (1, 3), &[]) == 0);
+
     let rows = [(Push(1), Done), (Push(2), Done), (Push(3), Done)];
-    assert_eq!(rt; on_a_bag::<_, 2>(&rt, rt.alloc(), sizes(3, 6), &rows)?, 3);
-    Ok(())
+    assert!(rt; on_a_bag::<_, 2>(&rt, rt.alloc(), (3, 6), &rows) == 3);
 }
 
 /// The value of the next entry of a bag that is taken apart, which is given back.
@@ -234,20 +224,17 @@ fn take_apart<const N: usize>(
 }
 
 #[test]
-fn a_bag_is_taken_apart(rt: HostRuntime) -> Result<(), Fail> {
-    let mut w: World<LinkedEntry<u64>> = World::new(rt.alloc(), sizes(3, 5))?;
-    let Ok(bag) = world::bag::new::<u64, _, 1>(rt.alloc(), &mut w) else {
-        panic!(rt; "five cells are free");
-    };
-    assert_eq!(rt; world::bag::push(&mut w, &bag, 1), Ok(()));
-    assert_eq!(rt; world::bag::push(&mut w, &bag, 2), Ok(()));
+fn a_bag_is_taken_apart(rt: HostRuntime) {
+    let mut w = place_of(&rt, rt.alloc(), 3, 5);
+    let bag = new_bag::<_, 1>(&rt, rt.alloc(), &mut w);
+    assert!(rt; world::bag::push(&mut w, &bag, 1).is_ok());
+    assert!(rt; world::bag::push(&mut w, &bag, 2).is_ok());
     let iter = world::bag::into_iter(&w, bag);
-    assert_eq!(rt; take_apart(&mut w, &iter), Some(2));
-    assert_eq!(rt; take_apart(&mut w, &iter), Some(1));
-    assert_eq!(rt; take_apart(&mut w, &iter), None);
+    assert!(rt; take_apart(&mut w, &iter) == Some(2));
+    assert!(rt; take_apart(&mut w, &iter) == Some(1));
+    assert!(rt; take_apart(&mut w, &iter) == None);
     world::into_iter::retire(&mut w, iter, 0);
     end(&rt, w);
-    Ok(())
 }
 
 /// The next of a run of numbers, each far from the one before.
@@ -371,15 +358,13 @@ fn bag_call<R: Abort>(
 }
 
 #[test]
-fn a_bag_is_two_multisets(rt: HostRuntime) -> Result<(), Fail> {
-    let mut w: World<LinkedEntry<u64>> = World::new(rt.alloc(), sizes(300, 304))?;
+fn a_bag_is_two_multisets(rt: HostRuntime) {
+    let mut w = place_of(&rt, rt.alloc(), 300, 304);
     let mut primary = Vec::new(rt.alloc());
     let mut overflow = Vec::new(rt.alloc());
     let mut room = 300;
     let mut seed = 3;
-    let Ok(bag) = world::bag::new::<u64, _, 3>(rt.alloc(), &mut w) else {
-        panic!(rt; "a cell is free");
-    };
+    let bag = new_bag::<_, 3>(&rt, rt.alloc(), &mut w);
     for _step in 0..900 {
         seed = next(seed);
         bag_call(
@@ -392,42 +377,39 @@ fn a_bag_is_two_multisets(rt: HostRuntime) -> Result<(), Fail> {
             seed,
         );
     }
-    assert_eq!(rt; room, 0);
+    assert!(rt; room == 0);
     world::bag::retire(&mut w, bag, 0);
     end(&rt, w);
-    Ok(())
 }
 
 #[test]
-fn values_become_a_bag(rt: HostRuntime) -> Result<(), Fail> {
-    let mut w: World<LinkedEntry<u64>> = World::new(rt.alloc(), sizes(5, 9))?;
+fn values_become_a_bag(rt: HostRuntime) {
+    let mut w = place_of(&rt, rt.alloc(), 5, 9);
     let bag = match world::bag::from_iter::<u64, _, 2, _>(rt.alloc(), &mut w, 1..6) {
         Ok(bag) => bag,
         _ => panic!(rt; "there is room"),
     };
-    assert_eq!(rt; world::bag::len(&w, &bag), 5);
+    assert!(rt; world::bag::len(&w, &bag) == 5);
     let (third, fourth, fifth) = (pop(&mut w, &bag), pop(&mut w, &bag), pop(&mut w, &bag));
     assert!(rt; third.is_some() && fourth.is_some() && fifth.is_some());
-    assert_eq!(rt; pop(&mut w, &bag), Some(1));
-    assert_eq!(rt; pop(&mut w, &bag), Some(2));
-    assert_eq!(rt; pop(&mut w, &bag), None);
+    assert!(rt; pop(&mut w, &bag) == Some(1));
+    assert!(rt; pop(&mut w, &bag) == Some(2));
+    assert!(rt; pop(&mut w, &bag) == None);
     world::bag::retire(&mut w, bag, 0);
     end(&rt, w);
-    Ok(())
 }
 
 #[test]
-fn a_bag_without_room_hands_back_what_was_built(rt: HostRuntime) -> Result<(), Fail> {
-    let mut w: World<LinkedEntry<u64>> = World::new(rt.alloc(), sizes(3, 9))?;
+fn a_bag_without_room_hands_back_what_was_built(rt: HostRuntime) {
+    let mut w = place_of(&rt, rt.alloc(), 3, 9);
     match world::bag::from_iter::<u64, _, 2, _>(rt.alloc(), &mut w, 1..6) {
         Err(FromIterRefused::NoSlot(bag, value)) => {
             assert!(rt; value == 4);
-            assert_eq!(rt; world::bag::len(&w, &bag), 3);
-            assert_eq!(rt; pop(&mut w, &bag), Some(3));
+            assert!(rt; world::bag::len(&w, &bag) == 3);
+            assert!(rt; pop(&mut w, &bag) == Some(3));
             world::bag::retire(&mut w, bag, 0);
         }
         _ => panic!(rt; "three slots are free"),
     }
     end(&rt, w);
-    Ok(())
 }

@@ -8,7 +8,7 @@ ghost use Rattle.sdd.specs.Chain.{Leaves, Stays};
 ghost use Rattle.sdd.specs.Stacks.{IsMade, IsSomeStack, stack_cell};
 ghost use Rattle.sdd.specs.Queues.{IsSomeQueue, oldest_cell, newest_cell};
 
-use crate::places::{end, give, sizes};
+use crate::places::{close, end, give, guarded, place_of};
 use sdd::linked_entry::LinkedEntry;
 use sdd::queue::Queue;
 use sdd::refusal::NotMade;
@@ -20,7 +20,6 @@ use sdd_base::tag::Tag;
 use sdd_base::world as place;
 use sdd_base::world::World;
 use std::process::Abort;
-use std::test::Fail;
 
 /// Writes the value of an entry, and nothing else of it.
 fn write(entry: &mut LinkedEntry<u64>, value: u64)
@@ -44,8 +43,8 @@ fn retire<R: Abort>(rt: &R, w: &mut World<LinkedEntry<u64>>, entry: LinkedEntry<
 }
 
 #[test]
-fn an_entry_is_written_and_cloned(rt: HostRuntime) -> Result<(), Fail> {
-    let mut w: World<LinkedEntry<u64>> = World::new(rt.alloc(), sizes(2, 2))?;
+fn an_entry_is_written_and_cloned(rt: HostRuntime) {
+    let mut w = place_of(&rt, rt.alloc(), 2, 2);
     let Ok(mut entry) = world::linked_entry::new(&mut w, 5) else {
         panic!(rt; "a cell is free");
     };
@@ -54,7 +53,7 @@ fn an_entry_is_written_and_cloned(rt: HostRuntime) -> Result<(), Fail> {
         panic!(rt; "a cell is free");
     };
     assert!(rt; copy == entry);
-    assert_eq!(rt; (*entry.as_ref(), *copy.as_ref()), (7, 7));
+    assert!(rt; (*entry.as_ref(), *copy.as_ref()) == (7, 7));
     match world::linked_entry::clone(&mut w, &entry) {
         Ok(_) => panic!(rt; "no cell is free"),
         Err(refused) => assert_eq!(rt; refused, NotMade::NoSlot),
@@ -64,7 +63,6 @@ fn an_entry_is_written_and_cloned(rt: HostRuntime) -> Result<(), Fail> {
     retire(&rt, &mut w, entry);
     retire(&rt, &mut w, copy);
     end(&rt, w);
-    Ok(())
 }
 
 /// A new entry, given to the place.
@@ -133,37 +131,31 @@ fn put_behind_deleted<R: Abort>(rt: &R, w: &mut World<LinkedEntry<u64>>, guard: 
 }
 
 #[test]
-fn an_entry_comes_back_from_behind_a_deleted_one(rt: HostRuntime) -> Result<(), Fail> {
-    let mut w: World<LinkedEntry<u64>> = World::new(rt.alloc(), sizes(2, 4))?;
-    let Ok(guard) = place::guard::new(&mut w, 0) else {
-        panic!(rt; "no guard is open");
-    };
-    assert_eq!(rt; put_behind_deleted(&rt, &mut w, &guard), 2);
-    place::guard::close(&mut w, guard);
+fn an_entry_comes_back_from_behind_a_deleted_one(rt: HostRuntime) {
+    let mut w = place_of(&rt, rt.alloc(), 2, 4);
+    let guard = guarded(&rt, &mut w);
+    assert!(rt; put_behind_deleted(&rt, &mut w, &guard) == 2);
+    close(&rt, &mut w, guard);
     end(&rt, w);
-    Ok(())
 }
 
 #[test]
-fn an_entry_is_put_behind_another(rt: HostRuntime) -> Result<(), Fail> {
-    let mut w: World<LinkedEntry<u64>> = World::new(rt.alloc(), sizes(4, 6))?;
-    let Ok(guard) = place::guard::new(&mut w, 0) else {
-        panic!(rt; "no guard is open");
-    };
-    assert_eq!(rt; put_behind(&rt, &mut w, true, &guard), (2, true));
-    assert_eq!(rt; put_behind(&rt, &mut w, false, &guard), (2, false));
-    place::guard::close(&mut w, guard);
+fn an_entry_is_put_behind_another(rt: HostRuntime) {
+    let mut w = place_of(&rt, rt.alloc(), 4, 6);
+    let guard = guarded(&rt, &mut w);
+    assert!(rt; put_behind(&rt, &mut w, true, &guard) == (2, true));
+    assert!(rt; put_behind(&rt, &mut w, false, &guard) == (2, false));
+    close(&rt, &mut w, guard);
     end(&rt, w);
-    Ok(())
 }
 
 #[test]
-fn an_entry_is_made_where_a_cell_is_free(rt: HostRuntime) -> Result<(), Fail> {
-    let mut w: World<LinkedEntry<u64>> = World::new(rt.alloc(), sizes(1, 1))?;
+fn an_entry_is_made_where_a_cell_is_free(rt: HostRuntime) {
+    let mut w = place_of(&rt, rt.alloc(), 1, 1);
     let Ok(entry) = world::linked_entry::new(&mut w, 5) else {
         panic!(rt; "a cell is free");
     };
-    assert_eq!(rt; *entry.as_ref(), 5);
+    assert!(rt; *entry.as_ref() == 5);
     match world::linked_entry::new(&mut w, 6) {
         Ok(_) => panic!(rt; "the cell is taken"),
         Err(back) => assert_eq!(rt; back, 6),
@@ -175,5 +167,4 @@ fn an_entry_is_made_where_a_cell_is_free(rt: HostRuntime) -> Result<(), Fail> {
         Err(_) => panic!(rt; "a slot is free"),
     }
     end(&rt, w);
-    Ok(())
 }

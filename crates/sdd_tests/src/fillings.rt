@@ -7,7 +7,7 @@ ghost use Rattle.sdd.specs.Entries.{entry_link};
 ghost use Rattle.sdd.specs.Stacks.{IsSomeStack, stack_cell};
 ghost use Rattle.sdd.specs.Queues.{IsSomeQueue, oldest_cell, newest_cell};
 
-use crate::places::{end, sizes};
+use crate::places::{close, end, guarded, place_of, sizes};
 use crate::queues::{append, take};
 use crate::stacks::{delete, pop, push};
 use crate::walks::{three_of_queue, three_of_stack};
@@ -16,7 +16,6 @@ use sdd::queue::Queue;
 use sdd::refusal::{CloneRefused, FromIterRefused, NotMade};
 use sdd::stack::Stack;
 use sdd::world;
-use sdd_base::world as place;
 use sdd_base::world::World;
 use std::alloc::AllocError;
 use std::process::Abort;
@@ -129,73 +128,70 @@ fn stack_round<R: Abort>(rt: &R, w: &mut World<LinkedEntry<u64>>, n: u64)
 }
 
 #[test]
-fn values_become_a_queue(rt: HostRuntime) -> Result<(), Fail> {
-    let mut w: World<LinkedEntry<u64>> = World::new(rt.alloc(), sizes(400, 402))?;
+fn values_become_a_queue(rt: HostRuntime) {
+    let mut w = place_of(&rt, rt.alloc(), 400, 402);
     let queue = match world::queue::from_iter(&mut w, 1..4) {
         Ok(queue) => queue,
         _ => panic!(rt; "there is room"),
     };
-    assert_eq!(rt; three_of_queue(&w, &queue), (Some(1), Some(2), Some(3)));
-    assert_eq!(rt; append(&mut w, &queue, 4), Ok(()));
-    assert_eq!(rt; world::queue::len(&w, &queue), 4);
+    assert!(rt; three_of_queue(&w, &queue) == (Some(1), Some(2), Some(3)));
+    assert!(rt; append(&mut w, &queue, 4).is_ok());
+    assert!(rt; world::queue::len(&w, &queue) == 4);
     world::queue::retire(&mut w, queue, 0);
     queue_round(&rt, &mut w, 0);
     queue_round(&rt, &mut w, 1);
     queue_round(&rt, &mut w, 17);
     queue_round(&rt, &mut w, 100);
     end(&rt, w);
-    Ok(())
 }
 
 #[test]
-fn values_become_a_stack(rt: HostRuntime) -> Result<(), Fail> {
-    let mut w: World<LinkedEntry<u64>> = World::new(rt.alloc(), sizes(400, 402))?;
+fn values_become_a_stack(rt: HostRuntime) {
+    let mut w = place_of(&rt, rt.alloc(), 400, 402);
     let stack = match world::stack::from_iter(&mut w, 1..4) {
         Ok(stack) => stack,
         _ => panic!(rt; "there is room"),
     };
-    assert_eq!(rt; three_of_stack(&w, &stack), (Some(3), Some(2), Some(1)));
-    assert_eq!(rt; push(&mut w, &stack, 4), Ok(()));
-    assert_eq!(rt; world::stack::len(&w, &stack), 4);
+    assert!(rt; three_of_stack(&w, &stack) == (Some(3), Some(2), Some(1)));
+    assert!(rt; push(&mut w, &stack, 4).is_ok());
+    assert!(rt; world::stack::len(&w, &stack) == 4);
     world::stack::retire(&mut w, stack, 0);
     stack_round(&rt, &mut w, 0);
     stack_round(&rt, &mut w, 1);
     stack_round(&rt, &mut w, 17);
     stack_round(&rt, &mut w, 100);
     end(&rt, w);
-    Ok(())
 }
 
 #[test]
-fn values_without_room_hand_back_what_was_built(rt: HostRuntime) -> Result<(), Fail> {
-    let mut w: World<LinkedEntry<u64>> = World::new(rt.alloc(), sizes(2, 5))?;
+fn values_without_room_hand_back_what_was_built(rt: HostRuntime) {
+    let mut w = place_of(&rt, rt.alloc(), 2, 5);
     match world::queue::from_iter(&mut w, 1..5) {
         Err(FromIterRefused::NoSlot(queue, value)) => {
             assert!(rt; value == 3);
-            assert_eq!(rt; three_of_queue(&w, &queue), (Some(1), Some(2), None));
+            assert!(rt; three_of_queue(&w, &queue) == (Some(1), Some(2), None));
             world::queue::retire(&mut w, queue, 0);
         }
         Err(FromIterRefused::Unmade(_, _)) => panic!(rt; "two cells are free"),
         Ok(_) => panic!(rt; "two slots are free"),
     }
     end(&rt, w);
-    let mut w: World<LinkedEntry<u64>> = World::new(rt.alloc(), sizes(5, 3))?;
+    let mut w = place_of(&rt, rt.alloc(), 5, 3);
     match world::stack::from_iter(&mut w, 1..5) {
         Err(FromIterRefused::NoSlot(stack, value)) => {
             assert!(rt; value == 3);
-            assert_eq!(rt; three_of_stack(&w, &stack), (Some(2), Some(1), None));
+            assert!(rt; three_of_stack(&w, &stack) == (Some(2), Some(1), None));
             world::stack::retire(&mut w, stack, 0);
         }
         Err(FromIterRefused::Unmade(_, _)) => panic!(rt; "a cell is free"),
         Ok(_) => panic!(rt; "two cells are free for entries"),
     }
     end(&rt, w);
-    Ok(())
 }
 
 #[test]
-fn values_come_back_where_nothing_is_made(rt: HostRuntime) -> Result<(), Fail> {
-    let mut w: World<LinkedEntry<u64>> = World::new(rt.alloc(), sizes(2, 1))?;
+fn values_come_back_where_nothing_is_made(rt: HostRuntime) {
+    let mut w = place_of(&rt, rt.alloc(), 2, 1);
     match world::queue::from_iter(&mut w, 1..5) {
         Err(FromIterRefused::Unmade(refused, values)) => {
             assert!(rt; refused == NotMade::NoSlot && values.count() == 4);
@@ -209,7 +205,7 @@ fn values_come_back_where_nothing_is_made(rt: HostRuntime) -> Result<(), Fail> {
         _ => panic!(rt; "one cell is free"),
     }
     end(&rt, w);
-    let mut w: World<LinkedEntry<u64>> = World::new(rt.alloc(), sizes(2, 0))?;
+    let mut w = place_of(&rt, rt.alloc(), 2, 0);
     match world::stack::from_iter(&mut w, 1..5) {
         Err(FromIterRefused::Unmade(refused, values)) => {
             assert!(rt; refused == NotMade::NoSlot && values.count() == 4);
@@ -217,36 +213,32 @@ fn values_come_back_where_nothing_is_made(rt: HostRuntime) -> Result<(), Fail> {
         _ => panic!(rt; "no cell is free"),
     }
     end(&rt, w);
-    Ok(())
 }
 
 #[test]
-fn a_clone_of_a_stack_outlasts_it(rt: HostRuntime) -> Result<(), Fail> {
-    let mut w: World<LinkedEntry<u64>> = World::new(rt.alloc(), sizes(8, 10))?;
-    let Ok(guard) = place::guard::new(&mut w, 0) else {
-        panic!(rt; "no guard is open");
-    };
+fn a_clone_of_a_stack_outlasts_it(rt: HostRuntime) {
+    let mut w = place_of(&rt, rt.alloc(), 8, 10);
+    let guard = guarded(&rt, &mut w);
     let stack = match world::stack::from_iter(&mut w, 1..4) {
         Ok(stack) => stack,
         _ => panic!(rt; "there is room"),
     };
     assert!(rt; delete(&mut w, &stack, &guard));
-    assert_eq!(rt; push(&mut w, &stack, 4), Ok(()));
+    assert!(rt; push(&mut w, &stack, 4).is_ok());
     let copy = match copied_stack(&mut w, stack) {
         (Some(copy), None) => copy,
         _ => panic!(rt; "there is room"),
     };
-    assert_eq!(rt; three_of_stack(&w, &copy), (Some(4), Some(2), Some(1)));
-    assert_eq!(rt; world::stack::len(&w, &copy), 3);
+    assert!(rt; three_of_stack(&w, &copy) == (Some(4), Some(2), Some(1)));
+    assert!(rt; world::stack::len(&w, &copy) == 3);
     world::stack::retire(&mut w, copy, 0);
-    place::guard::close(&mut w, guard);
+    close(&rt, &mut w, guard);
     end(&rt, w);
-    Ok(())
 }
 
 #[test]
-fn a_clone_without_room_hands_back_what_was_built(rt: HostRuntime) -> Result<(), Fail> {
-    let mut w: World<LinkedEntry<u64>> = World::new(rt.alloc(), sizes(5, 10))?;
+fn a_clone_without_room_hands_back_what_was_built(rt: HostRuntime) {
+    let mut w = place_of(&rt, rt.alloc(), 5, 10);
     let queue = match world::queue::from_iter(&mut w, 1..4) {
         Ok(queue) => queue,
         _ => panic!(rt; "there is room"),
@@ -255,10 +247,10 @@ fn a_clone_without_room_hands_back_what_was_built(rt: HostRuntime) -> Result<(),
         (Some(copy), Some(NotMade::NoSlot)) => copy,
         _ => panic!(rt; "two slots are free"),
     };
-    assert_eq!(rt; three_of_queue(&w, &copy), (Some(1), Some(2), None));
+    assert!(rt; three_of_queue(&w, &copy) == (Some(1), Some(2), None));
     world::queue::retire(&mut w, copy, 0);
     end(&rt, w);
-    let mut w: World<LinkedEntry<u64>> = World::new(rt.alloc(), sizes(8, 6))?;
+    let mut w = place_of(&rt, rt.alloc(), 8, 6);
     let stack = match world::stack::from_iter(&mut w, 1..4) {
         Ok(stack) => stack,
         _ => panic!(rt; "there is room"),
@@ -267,10 +259,9 @@ fn a_clone_without_room_hands_back_what_was_built(rt: HostRuntime) -> Result<(),
         (Some(copy), Some(NotMade::NoSlot)) => copy,
         _ => panic!(rt; "two cells are free"),
     };
-    assert_eq!(rt; three_of_stack(&w, &copy), (Some(3), None, None));
+    assert!(rt; three_of_stack(&w, &copy) == (Some(3), None, None));
     world::stack::retire(&mut w, copy, 0);
     end(&rt, w);
-    Ok(())
 }
 
 #[test]
@@ -285,7 +276,7 @@ fn a_refused_clone_of_a_value_ends_a_clone(rt: HostRuntime) -> Result<(), Fail> 
         (Some(copy), Some(NotMade::Memory)) => copy,
         _ => panic!(rt; "the third one isn't cloned"),
     };
-    assert_eq!(rt; world::queue::len(&w, &copy), 2);
+    assert!(rt; world::queue::len(&w, &copy) == 2);
     world::queue::retire(&mut w, copy, 0);
     match w.close() {
         Ok(()) => {}

@@ -1,11 +1,11 @@
 //! Queues: calls as data, so that a test of many calls is a table.
 
 ghost use Rattle.std.specs.Prelude.{◌≡◌, ◌<◌, length};
-ghost use Rattle.sdd_base.specs.Place.{IsOpen, IsSized};
+ghost use Rattle.sdd_base.specs.Place.{IsOpen};
 ghost use Rattle.sdd.specs.Entries.{entry_link};
 ghost use Rattle.sdd.specs.Queues.{IsSomeQueue, oldest_cell, newest_cell};
 
-use crate::places::{end, sizes};
+use crate::places::{close, end, guarded, new_queue, new_stack, place_of};
 use crate::queues::Call::{
     Append, AppendMore, Front, IsEmpty, Len, Oldest, RefusedTake, Take, Three,
 };
@@ -16,12 +16,10 @@ use sdd::linked_entry::LinkedEntry;
 use sdd::queue::Queue;
 use sdd::world;
 use sdd_base::guard::WorldGuard;
-use sdd_base::sizes::Sizes;
 use sdd_base::world as place;
 use sdd_base::world::World;
 use std::alloc::Global;
 use std::process::Abort;
-use std::test::Fail;
 
 /// A call of a queue.
 #[derive(Clone, Copy)]
@@ -209,34 +207,23 @@ fn play<R: Abort>(
 }
 
 /// Makes the calls of a table on a new queue, under a guard, and ends both.
-fn on_a_queue<R: Abort>(
-    rt: &R,
-    alloc: Global,
-    sizes: Sizes,
-    rows: &[(Call, Reply)],
-) -> Result<(), Fail>
-    requires { IsSized sizes }
-{
-    let mut w: World<LinkedEntry<u64>> = World::new(alloc, sizes)?;
-    let Ok(guard) = place::guard::new(&mut w, 0) else {
-        panic!(rt; "no guard is open");
-    };
-    let Ok(queue) = world::queue::new(&mut w) else {
-        panic!(rt; "two cells are free");
-    };
+fn on_a_queue<R: Abort>(rt: &R, alloc: Global, sizes: (usize, usize), rows: &[(Call, Reply)]) {
+    let (slots, cells) = sizes;
+    let mut w = place_of(rt, alloc, slots, cells);
+    let guard = guarded(rt, &mut w);
+    let queue = new_queue(rt, &mut w);
     play(rt, &mut w, &queue, &guard, rows);
     world::queue::retire(&mut w, queue, 0);
-    place::guard::close(&mut w, guard);
+    close(rt, &mut w, guard);
     end(rt, w);
-    Ok(())
 }
 
 #[test]
-fn a_queue_gives_the_oldest_first(rt: HostRuntime) -> Result<(), Fail> {
+fn a_queue_gives_the_oldest_first(rt: HostRuntime) {
     on_a_queue(
         &rt,
         rt.alloc(),
-        sizes(3, 5),
+        (3, 5),
         &[
             (Take, Value(None)),
             (Append(1), Done),
@@ -247,15 +234,15 @@ fn a_queue_gives_the_oldest_first(rt: HostRuntime) -> Result<(), Fail> {
             (Take, Value(Some(3))),
             (Take, Value(None)),
         ],
-    )
+    );
 }
 
 #[test]
-fn a_queue_without_room_hands_the_value_back(rt: HostRuntime) -> Result<(), Fail> {
+fn a_queue_without_room_hands_the_value_back(rt: HostRuntime) {
     on_a_queue(
         &rt,
         rt.alloc(),
-        sizes(2, 4),
+        (2, 4),
         &[
             (IsEmpty, Is(true)),
             (Append(1), Done),
@@ -264,15 +251,15 @@ fn a_queue_without_room_hands_the_value_back(rt: HostRuntime) -> Result<(), Fail
             (Len, Count(2)),
             (IsEmpty, Is(false)),
         ],
-    )
+    );
 }
 
 #[test]
-fn a_queue_is_peeked_at_its_oldest(rt: HostRuntime) -> Result<(), Fail> {
+fn a_queue_is_peeked_at_its_oldest(rt: HostRuntime) {
     on_a_queue(
         &rt,
         rt.alloc(),
-        sizes(2, 4),
+        (2, 4),
         &[
             (Front, Value(None)),
             (Append(8), Done),
@@ -280,15 +267,15 @@ fn a_queue_is_peeked_at_its_oldest(rt: HostRuntime) -> Result<(), Fail> {
             (Front, Value(Some(8))),
             (Oldest, Value(Some(8))),
         ],
-    )
+    );
 }
 
 #[test]
-fn a_refused_pop_of_a_queue_gives_an_owner_that_comes_back(rt: HostRuntime) -> Result<(), Fail> {
+fn a_refused_pop_of_a_queue_gives_an_owner_that_comes_back(rt: HostRuntime) {
     on_a_queue(
         &rt,
         rt.alloc(),
-        sizes(3, 5),
+        (3, 5),
         &[
             (RefusedTake, Value(None)),
             (Append(1), Done),
@@ -302,15 +289,15 @@ fn a_refused_pop_of_a_queue_gives_an_owner_that_comes_back(rt: HostRuntime) -> R
             (Take, Value(Some(2))),
             (Take, Value(Some(3))),
         ],
-    )
+    );
 }
 
 #[test]
-fn a_walk_along_a_queue_gives_the_oldest_first(rt: HostRuntime) -> Result<(), Fail> {
+fn a_walk_along_a_queue_gives_the_oldest_first(rt: HostRuntime) {
     on_a_queue(
         &rt,
         rt.alloc(),
-        sizes(3, 5),
+        (3, 5),
         &[
             (AppendMore(7), Is(false)),
             (Append(1), Done),
@@ -320,21 +307,18 @@ fn a_walk_along_a_queue_gives_the_oldest_first(rt: HostRuntime) -> Result<(), Fa
             (AppendMore(4), Is(false)),
             (Three, Listed(Some(1), Some(2), Some(3))),
         ],
-    )
+    );
 }
 
 #[test]
-fn a_queue_takes_two_cells(rt: HostRuntime) -> Result<(), Fail> {
-    let mut w: World<LinkedEntry<u64>> = World::new(rt.alloc(), sizes(1, 1))?;
+fn a_queue_takes_two_cells(rt: HostRuntime) {
+    let mut w = place_of(&rt, rt.alloc(), 1, 1);
     match world::queue::new(&mut w) {
         Ok(_) => panic!(rt; "one cell is free"),
         Err(_) => {}
     }
-    let Ok(stack) = world::stack::new(&mut w) else {
-        panic!(rt; "a cell is free");
-    };
-    assert_eq!(rt; push(&mut w, &stack, 1), Err(1));
+    let stack = new_stack(&rt, &mut w);
+    assert!(rt; push(&mut w, &stack, 1) == Err(1));
     world::stack::retire(&mut w, stack, 0);
     end(&rt, w);
-    Ok(())
 }

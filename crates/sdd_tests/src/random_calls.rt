@@ -6,17 +6,15 @@ ghost use Rattle.sdd.specs.Stacks.{IsSomeStack, stack_cell};
 ghost use Rattle.sdd.specs.Queues.{IsSomeQueue, oldest_cell, newest_cell};
 
 use crate::fillings::{copied_queue, copied_stack};
-use crate::places::{end, sizes};
+use crate::places::{end, new_queue, new_stack, place_of};
 use crate::queues::{append, take};
 use crate::stacks::{pop, push};
 use sdd::linked_entry::LinkedEntry;
 use sdd::queue::Queue;
 use sdd::stack::Stack;
 use sdd::world;
-use sdd_base::world as place;
 use sdd_base::world::World;
 use std::process::Abort;
-use std::test::Fail;
 
 /// The next of a run of numbers, each far from the one before.
 fn next(seed: u64) -> u64 {
@@ -90,41 +88,35 @@ fn queue_call<R: Abort>(
 }
 
 #[test]
-fn a_stack_is_a_list_whose_end_comes_first(rt: HostRuntime) -> Result<(), Fail> {
-    let mut w: World<LinkedEntry<u64>> = World::new(rt.alloc(), sizes(400, 401))?;
+fn a_stack_is_a_list_whose_end_comes_first(rt: HostRuntime) {
+    let mut w = place_of(&rt, rt.alloc(), 400, 401);
     let mut list = Vec::new(rt.alloc());
     let mut room = 400;
     let mut seed = 1;
-    let Ok(stack) = world::stack::new(&mut w) else {
-        panic!(rt; "a cell is free");
-    };
+    let stack = new_stack(&rt, &mut w);
     for _step in 0..1000 {
         seed = next(seed);
         stack_call(&rt, &mut w, &stack, &mut list, &mut room, seed);
     }
-    assert_eq!(rt; room, 0);
+    assert!(rt; room == 0);
     world::stack::retire(&mut w, stack, 0);
     end(&rt, w);
-    Ok(())
 }
 
 #[test]
-fn a_queue_is_a_list(rt: HostRuntime) -> Result<(), Fail> {
-    let mut w: World<LinkedEntry<u64>> = World::new(rt.alloc(), sizes(400, 402))?;
+fn a_queue_is_a_list(rt: HostRuntime) {
+    let mut w = place_of(&rt, rt.alloc(), 400, 402);
     let mut list = Vec::new(rt.alloc());
     let mut room = 400;
     let mut seed = 2;
-    let Ok(queue) = world::queue::new(&mut w) else {
-        panic!(rt; "two cells are free");
-    };
+    let queue = new_queue(&rt, &mut w);
     for _step in 0..1000 {
         seed = next(seed);
         queue_call(&rt, &mut w, &queue, &mut list, &mut room, seed);
     }
-    assert_eq!(rt; room, 0);
+    assert!(rt; room == 0);
     world::queue::retire(&mut w, queue, 0);
     end(&rt, w);
-    Ok(())
 }
 
 /// As `stack_call`, or the stack's clone in its place, as `seed` says.
@@ -182,8 +174,8 @@ fn queue_turn<R: Abort>(
 }
 
 #[test]
-fn a_stack_of_values_and_its_clones_are_a_list(rt: HostRuntime) -> Result<(), Fail> {
-    let mut w: World<LinkedEntry<u64>> = World::new(rt.alloc(), sizes(3000, 3002))?;
+fn a_stack_of_values_and_its_clones_are_a_list(rt: HostRuntime) {
+    let mut w = place_of(&rt, rt.alloc(), 3000, 3002);
     let mut list = Vec::new(rt.alloc());
     for value in 0..20 {
         list.push(value).expect(&rt, "memory");
@@ -200,12 +192,11 @@ fn a_stack_of_values_and_its_clones_are_a_list(rt: HostRuntime) -> Result<(), Fa
     }
     world::stack::retire(&mut w, stack, 0);
     end(&rt, w);
-    Ok(())
 }
 
 #[test]
-fn a_queue_of_values_and_its_clones_are_a_list(rt: HostRuntime) -> Result<(), Fail> {
-    let mut w: World<LinkedEntry<u64>> = World::new(rt.alloc(), sizes(3000, 3004))?;
+fn a_queue_of_values_and_its_clones_are_a_list(rt: HostRuntime) {
+    let mut w = place_of(&rt, rt.alloc(), 3000, 3004);
     let mut list = Vec::new(rt.alloc());
     for value in 0..20 {
         list.push(value).expect(&rt, "memory");
@@ -222,5 +213,4 @@ fn a_queue_of_values_and_its_clones_are_a_list(rt: HostRuntime) -> Result<(), Fa
     }
     world::queue::retire(&mut w, queue, 0);
     end(&rt, w);
-    Ok(())
 }

@@ -1,10 +1,10 @@
 //! Stacks: calls as data, so that a test of many calls is a table.
 
 ghost use Rattle.std.specs.Prelude.{◌≡◌, ◌<◌, length, IfOk};
-ghost use Rattle.sdd_base.specs.Place.{IsOpen, IsSized};
+ghost use Rattle.sdd_base.specs.Place.{IsOpen};
 ghost use Rattle.sdd.specs.Stacks.{IsSomeStack, stack_cell};
 
-use crate::places::{end, give, sizes};
+use crate::places::{close, end, give, guarded, new_stack, place_of};
 use crate::stacks::Call::{
     Delete, Front, IsClear, IsDeleted, IsEmpty, IsMarked, Len, Mark, Pop, Push, PushFirst,
     RefusedPop, Second, SecondOwned, Three, Unmark,
@@ -15,12 +15,10 @@ use sdd::linked_entry::LinkedEntry;
 use sdd::stack::Stack;
 use sdd::world;
 use sdd_base::guard::WorldGuard;
-use sdd_base::sizes::Sizes;
 use sdd_base::world as place;
 use sdd_base::world::World;
 use std::alloc::Global;
 use std::process::Abort;
-use std::test::Fail;
 
 /// A call of a stack.
 #[derive(Clone, Copy)]
@@ -358,34 +356,23 @@ fn play<R: Abort>(
 }
 
 /// Makes the calls of a table on a new stack, under a guard, and ends both.
-fn on_a_stack<R: Abort>(
-    rt: &R,
-    alloc: Global,
-    sizes: Sizes,
-    rows: &[(Call, Reply)],
-) -> Result<(), Fail>
-    requires { IsSized sizes }
-{
-    let mut w: World<LinkedEntry<u64>> = World::new(alloc, sizes)?;
-    let Ok(guard) = place::guard::new(&mut w, 0) else {
-        panic!(rt; "no guard is open");
-    };
-    let Ok(stack) = world::stack::new(&mut w) else {
-        panic!(rt; "a cell is free");
-    };
+fn on_a_stack<R: Abort>(rt: &R, alloc: Global, sizes: (usize, usize), rows: &[(Call, Reply)]) {
+    let (slots, cells) = sizes;
+    let mut w = place_of(rt, alloc, slots, cells);
+    let guard = guarded(rt, &mut w);
+    let stack = new_stack(rt, &mut w);
     play(rt, &mut w, &stack, &guard, rows);
     world::stack::retire(&mut w, stack, 0);
-    place::guard::close(&mut w, guard);
+    close(rt, &mut w, guard);
     end(rt, w);
-    Ok(())
 }
 
 #[test]
-fn a_stack_gives_the_newest_first(rt: HostRuntime) -> Result<(), Fail> {
+fn a_stack_gives_the_newest_first(rt: HostRuntime) {
     on_a_stack(
         &rt,
         rt.alloc(),
-        sizes(3, 4),
+        (3, 4),
         &[
             (IsEmpty, Is(true)),
             (Push(1), Done),
@@ -397,15 +384,15 @@ fn a_stack_gives_the_newest_first(rt: HostRuntime) -> Result<(), Fail> {
             (Pop, Value(Some(2))),
             (IsEmpty, Is(false)),
         ],
-    )
+    );
 }
 
 #[test]
-fn deleted_entries_are_passed_over(rt: HostRuntime) -> Result<(), Fail> {
+fn deleted_entries_are_passed_over(rt: HostRuntime) {
     on_a_stack(
         &rt,
         rt.alloc(),
-        sizes(4, 8),
+        (4, 8),
         &[
             (Delete, Is(false)),
             (Push(1), Done),
@@ -419,15 +406,15 @@ fn deleted_entries_are_passed_over(rt: HostRuntime) -> Result<(), Fail> {
             (Pop, Value(Some(1))),
             (Pop, Value(None)),
         ],
-    )
+    );
 }
 
 #[test]
-fn an_entry_has_one_tag_at_a_time(rt: HostRuntime) -> Result<(), Fail> {
+fn an_entry_has_one_tag_at_a_time(rt: HostRuntime) {
     on_a_stack(
         &rt,
         rt.alloc(),
-        sizes(1, 2),
+        (1, 2),
         &[
             (Push(1), Done),
             (IsClear, Is(true)),
@@ -445,15 +432,15 @@ fn an_entry_has_one_tag_at_a_time(rt: HostRuntime) -> Result<(), Fail> {
             (Delete, Is(true)),
             (IsEmpty, Is(true)),
         ],
-    )
+    );
 }
 
 #[test]
-fn functions_see_the_first_undeleted_entry(rt: HostRuntime) -> Result<(), Fail> {
+fn functions_see_the_first_undeleted_entry(rt: HostRuntime) {
     on_a_stack(
         &rt,
         rt.alloc(),
-        sizes(3, 4),
+        (3, 4),
         &[
             (Front, Value(None)),
             (Push(5), Done),
@@ -463,15 +450,15 @@ fn functions_see_the_first_undeleted_entry(rt: HostRuntime) -> Result<(), Fail> 
             (Delete, Is(true)),
             (Front, Value(Some(5))),
         ],
-    )
+    );
 }
 
 #[test]
-fn a_value_is_pushed_on_a_condition(rt: HostRuntime) -> Result<(), Fail> {
+fn a_value_is_pushed_on_a_condition(rt: HostRuntime) {
     on_a_stack(
         &rt,
         rt.alloc(),
-        sizes(2, 3),
+        (2, 3),
         &[
             (PushFirst(5), Is(true)),
             (PushFirst(6), Is(false)),
@@ -479,15 +466,15 @@ fn a_value_is_pushed_on_a_condition(rt: HostRuntime) -> Result<(), Fail> {
             (Pop, Value(Some(5))),
             (PushFirst(7), Is(true)),
         ],
-    )
+    );
 }
 
 #[test]
-fn a_refused_pop_takes_nothing_and_its_owner_comes_back(rt: HostRuntime) -> Result<(), Fail> {
+fn a_refused_pop_takes_nothing_and_its_owner_comes_back(rt: HostRuntime) {
     on_a_stack(
         &rt,
         rt.alloc(),
-        sizes(3, 4),
+        (3, 4),
         &[
             (RefusedPop, Value(None)),
             (Push(1), Done),
@@ -500,15 +487,15 @@ fn a_refused_pop_takes_nothing_and_its_owner_comes_back(rt: HostRuntime) -> Resu
             (RefusedPop, Value(Some(1))),
             (Pop, Value(Some(1))),
         ],
-    )
+    );
 }
 
 #[test]
-fn the_next_entry_is_one_that_is_not_deleted(rt: HostRuntime) -> Result<(), Fail> {
+fn the_next_entry_is_one_that_is_not_deleted(rt: HostRuntime) {
     on_a_stack(
         &rt,
         rt.alloc(),
-        sizes(4, 5),
+        (4, 5),
         &[
             (Second, Value(None)),
             (Push(1), Done),
@@ -519,15 +506,15 @@ fn the_next_entry_is_one_that_is_not_deleted(rt: HostRuntime) -> Result<(), Fail
             (Push(3), Done),
             (Second, Value(Some(1))),
         ],
-    )
+    );
 }
 
 #[test]
-fn an_owner_of_the_next_entry_comes_back(rt: HostRuntime) -> Result<(), Fail> {
+fn an_owner_of_the_next_entry_comes_back(rt: HostRuntime) {
     on_a_stack(
         &rt,
         rt.alloc(),
-        sizes(4, 5),
+        (4, 5),
         &[
             (SecondOwned, Value(None)),
             (Push(1), Done),
@@ -541,15 +528,15 @@ fn an_owner_of_the_next_entry_comes_back(rt: HostRuntime) -> Result<(), Fail> {
             (Pop, Value(Some(3))),
             (Pop, Value(Some(1))),
         ],
-    )
+    );
 }
 
 #[test]
-fn a_walk_along_a_stack_gives_the_newest_first(rt: HostRuntime) -> Result<(), Fail> {
+fn a_walk_along_a_stack_gives_the_newest_first(rt: HostRuntime) {
     on_a_stack(
         &rt,
         rt.alloc(),
-        sizes(3, 4),
+        (3, 4),
         &[
             (Three, Listed(None, None, None)),
             (Push(1), Done),
@@ -558,15 +545,15 @@ fn a_walk_along_a_stack_gives_the_newest_first(rt: HostRuntime) -> Result<(), Fa
             (Push(3), Done),
             (Three, Listed(Some(3), Some(2), Some(1))),
         ],
-    )
+    );
 }
 
 #[test]
-fn a_walk_passes_deleted_entries(rt: HostRuntime) -> Result<(), Fail> {
+fn a_walk_passes_deleted_entries(rt: HostRuntime) {
     on_a_stack(
         &rt,
         rt.alloc(),
-        sizes(3, 4),
+        (3, 4),
         &[
             (Push(1), Done),
             (Push(2), Done),
@@ -574,35 +561,30 @@ fn a_walk_passes_deleted_entries(rt: HostRuntime) -> Result<(), Fail> {
             (Push(3), Done),
             (Three, Listed(Some(3), Some(1), None)),
         ],
-    )
+    );
 }
 
 #[test]
-fn all_entries_move_to_another_stack(rt: HostRuntime) -> Result<(), Fail> {
-    let mut w: World<LinkedEntry<u64>> = World::new(rt.alloc(), sizes(2, 4))?;
-    let Ok(stack) = world::stack::new(&mut w) else {
-        panic!(rt; "a cell is free");
-    };
-    assert_eq!(rt; push(&mut w, &stack, 1), Ok(()));
-    assert_eq!(rt; push(&mut w, &stack, 2), Ok(()));
+fn all_entries_move_to_another_stack(rt: HostRuntime) {
+    let mut w = place_of(&rt, rt.alloc(), 2, 4);
+    let stack = new_stack(&rt, &mut w);
+    assert!(rt; push(&mut w, &stack, 1).is_ok());
+    assert!(rt; push(&mut w, &stack, 2).is_ok());
     let other = match moved(&mut w, stack) {
         Ok(other) => other,
         Err(_) => panic!(rt; "a cell is free"),
     };
-    assert_eq!(rt; world::stack::len(&w, &other), 2);
-    assert_eq!(rt; pop(&mut w, &other), Some(2));
+    assert!(rt; world::stack::len(&w, &other) == 2);
+    assert!(rt; pop(&mut w, &other) == Some(2));
     world::stack::retire(&mut w, other, 0);
     end(&rt, w);
-    Ok(())
 }
 
 #[test]
-fn an_entry_is_popped_on_a_condition(rt: HostRuntime) -> Result<(), Fail> {
-    let mut w: World<LinkedEntry<u64>> = World::new(rt.alloc(), sizes(2, 4))?;
-    let Ok(stack) = world::stack::new(&mut w) else {
-        panic!(rt; "a cell is free");
-    };
-    assert_eq!(rt; push(&mut w, &stack, 5), Ok(()));
+fn an_entry_is_popped_on_a_condition(rt: HostRuntime) {
+    let mut w = place_of(&rt, rt.alloc(), 2, 4);
+    let stack = new_stack(&rt, &mut w);
+    assert!(rt; push(&mut w, &stack, 5).is_ok());
     let yes = |entry: &LinkedEntry<u64>| *entry.as_ref() == 5;
     let owner = match world::stack::pop_if(&mut w, &stack, 0, yes) {
         Ok(Some(owner)) => owner,
@@ -612,5 +594,4 @@ fn an_entry_is_popped_on_a_condition(rt: HostRuntime) -> Result<(), Fail> {
     world::stack::retire(&mut w, stack, 0);
     give(&rt, &mut w, owner);
     end(&rt, w);
-    Ok(())
 }

@@ -6,7 +6,7 @@ ghost use Rattle.sdd.specs.Entries.{entry_link};
 ghost use Rattle.sdd.specs.Stacks.{IsSomeStack, stack_cell};
 ghost use Rattle.sdd.specs.Queues.{IsSomeQueue, oldest_cell, newest_cell};
 
-use crate::places::{end, give, sizes};
+use crate::places::{close, end, give, guarded, new_queue, new_stack, place_of};
 use crate::queues::append;
 use crate::stacks::push;
 use sdd::linked_entry::LinkedEntry;
@@ -18,7 +18,6 @@ use sdd_base::owner::Shared;
 use sdd_base::world as place;
 use sdd_base::world::World;
 use std::process::Abort;
-use std::test::Fail;
 
 /// The first three values that a walk along a stack gives.
 pub(crate) fn three_of_stack(
@@ -77,25 +76,20 @@ fn second_is_shared<R: Abort>(
 }
 
 #[test]
-fn the_next_entry_is_shared(rt: HostRuntime) -> Result<(), Fail> {
-    let mut w: World<LinkedEntry<u64>> = World::new(rt.alloc(), sizes(4, 6))?;
-    let Ok(guard) = place::guard::new(&mut w, 0) else {
-        panic!(rt; "no guard is open");
-    };
-    let Ok(stack) = world::stack::new(&mut w) else {
-        panic!(rt; "a cell is free");
-    };
-    assert_eq!(rt; push(&mut w, &stack, 1), Ok(()));
-    assert_eq!(rt; push(&mut w, &stack, 2), Ok(()));
+fn the_next_entry_is_shared(rt: HostRuntime) {
+    let mut w = place_of(&rt, rt.alloc(), 4, 6);
+    let guard = guarded(&rt, &mut w);
+    let stack = new_stack(&rt, &mut w);
+    assert!(rt; push(&mut w, &stack, 1).is_ok());
+    assert!(rt; push(&mut w, &stack, 2).is_ok());
     assert!(rt; second_is_shared(&rt, &mut w, stack, &guard));
-    place::guard::close(&mut w, guard);
+    close(&rt, &mut w, guard);
     end(&rt, w);
-    Ok(())
 }
 
 #[test]
-fn entries_are_equal_by_value(rt: HostRuntime) -> Result<(), Fail> {
-    let mut w: World<LinkedEntry<u64>> = World::new(rt.alloc(), sizes(2, 2))?;
+fn entries_are_equal_by_value(rt: HostRuntime) {
+    let mut w = place_of(&rt, rt.alloc(), 2, 2);
     let Ok(one) = world::linked_entry::new(&mut w, 5) else {
         panic!(rt; "a cell is free");
     };
@@ -107,7 +101,7 @@ fn entries_are_equal_by_value(rt: HostRuntime) -> Result<(), Fail> {
         Ok(text) => text,
         Err(_) => panic!(rt; "memory"),
     };
-    assert_eq!(rt; text.as_str(), "5 5");
+    assert!(rt; text.as_str() == "5 5");
     match place::shared::new(&mut w, one) {
         Ok(owner) => {
             place::shared::release(&mut w, owner, 0);
@@ -121,32 +115,28 @@ fn entries_are_equal_by_value(rt: HostRuntime) -> Result<(), Fail> {
         Err(_) => panic!(rt; "a slot is free"),
     }
     end(&rt, w);
-    Ok(())
 }
 
 #[test]
-fn a_queue_is_popped_on_a_condition(rt: HostRuntime) -> Result<(), Fail> {
-    let mut w: World<LinkedEntry<u64>> = World::new(rt.alloc(), sizes(2, 5))?;
-    let Ok(queue) = world::queue::new(&mut w) else {
-        panic!(rt; "two cells are free");
-    };
-    assert_eq!(rt; append(&mut w, &queue, 5), Ok(()));
-    assert_eq!(rt; append(&mut w, &queue, 6), Ok(()));
+fn a_queue_is_popped_on_a_condition(rt: HostRuntime) {
+    let mut w = place_of(&rt, rt.alloc(), 2, 5);
+    let queue = new_queue(&rt, &mut w);
+    assert!(rt; append(&mut w, &queue, 5).is_ok());
+    assert!(rt; append(&mut w, &queue, 6).is_ok());
     let six = |entry: &LinkedEntry<u64>| *entry.as_ref() == 6;
     let refused = match world::queue::pop_if(&mut w, &queue, 0, six) {
         Err(owner) => owner,
         Ok(_) => panic!(rt; "the oldest is another"),
     };
-    assert_eq!(rt; three_of_queue(&w, &queue), (Some(5), Some(6), None));
+    assert!(rt; three_of_queue(&w, &queue) == (Some(5), Some(6), None));
     let five = |entry: &LinkedEntry<u64>| *entry.as_ref() == 5;
     let popped = match world::queue::pop_if(&mut w, &queue, 0, five) {
         Ok(Some(owner)) => owner,
         _ => panic!(rt; "the oldest is this one"),
     };
-    assert_eq!(rt; three_of_queue(&w, &queue), (Some(6), None, None));
+    assert!(rt; three_of_queue(&w, &queue) == (Some(6), None, None));
     world::queue::retire(&mut w, queue, 0);
     give(&rt, &mut w, refused);
     give(&rt, &mut w, popped);
     end(&rt, w);
-    Ok(())
 }

@@ -1,8 +1,9 @@
 //! Arrays by example.
 
-use leaf_array::{Array, InsertResult, RemoveResult};
+use leaf_array::{Array, RemoveResult};
 
 mod boundary;
+mod calls;
 mod cut;
 mod edit;
 mod iter;
@@ -14,10 +15,11 @@ mod walk;
 
 const ASCENDING: [u64; 15] = [0, 1, 2, 3, 4, 5, 6, 7, 8, 9, 10, 11, 12, 13, 14];
 
+/// An array of these keys, each its own value, which come in this order.
 fn holding(keys: &[u64]) -> Array<u64, u64> {
     let mut array = Array::new();
     for key in keys {
-        let _ = answer(array.insert::<false>(*key, *key));
+        let _inserted = array.insert::<false>(*key, *key);
     }
     array
 }
@@ -25,18 +27,9 @@ fn holding(keys: &[u64]) -> Array<u64, u64> {
 fn reversed(keys: &[u64]) -> Array<u64, u64> {
     let mut array = Array::new();
     for key in keys.iter().rev() {
-        let _ = answer(array.insert::<false>(*key, *key));
+        let _inserted = array.insert::<false>(*key, *key);
     }
     array
-}
-
-/// What an insertion answered: 0 for Success, 1 for Duplicate, 2 for Full.
-fn answer<K: Drop, V: Drop>(inserted: InsertResult<K, V>) -> u8 {
-    match inserted {
-        InsertResult::Success => 0,
-        InsertResult::Duplicate(_, _) => 1,
-        InsertResult::Full(_, _) => 2,
-    }
 }
 
 /// A text that comes first, one that comes last, and the numbers in their order as texts.
@@ -45,10 +38,10 @@ const TEXTS: [&str; 15] = [
 ];
 
 /// An array of these texts, each its own value.
-fn texts() -> Array<&'static str, &'static str> {
+fn texts(all: &[&'static str]) -> Array<&'static str, &'static str> {
     let mut array = Array::new();
-    for text in &TEXTS {
-        let _ = answer(array.insert::<false>(*text, *text));
+    for text in all {
+        let _inserted = array.insert::<false>(*text, *text);
     }
     array
 }

@@ -1,9 +1,11 @@
 //! Trees, their cursors, leaves and nodes by example.
 
+use std::alloc::Global;
 use std::process::Abort;
 use tree_index::leaf::Leaf;
 use tree_index::{Node, TreeIndex};
 
+mod calls;
 mod cursor;
 mod index;
 mod large;
@@ -27,4 +29,19 @@ fn leaf_at<'t, R: Abort>(rt: &R, tree: &'t TreeIndex<u64, u64>, key: u64) -> &'t
             Node::Internal(inner) => inner.child(&key),
         };
     }
+}
+
+/// A tree with these pairs.
+fn tree_of(alloc: Global, pairs: &[(u64, u64)]) -> TreeIndex<u64, u64> {
+    let mut tree = TreeIndex::new(alloc);
+    for (key, val) in pairs {
+        let _inserted = tree.insert_sync(*key, *val);
+    }
+    tree
+}
+
+/// The next of a fixed row of numbers in no order, as in Knuth's MMIX.
+fn stirred(seed: u64) -> u64 {
+    seed.wrapping_mul(6364136223846793005)
+        .wrapping_add(1442695040888963407)
 }

@@ -1,5 +1,8 @@
 //! Arrays cut in two.
 
+use super::calls::Call::{Metadata, Pair, PopLast, Remove};
+use super::calls::Told::{Number, Removed};
+use super::calls::{Told, play};
 use super::{ASCENDING, holding, reversed};
 use leaf_array::{Array, RemoveResult};
 
@@ -11,30 +14,35 @@ fn digits(array: &Array<u64, u64>) -> u64 {
     )
 }
 
-#[test]
-fn an_array_is_halved_by_moves(rt: HostRuntime) {
-    let mut upper = reversed(&ASCENDING);
-    assert_eq!(rt; upper.remove_if(&9, |_| true), RemoveResult::Success);
-    let lower = upper.split_half();
-    assert_eq!(rt; (lower.len(), upper.len()), (8, 6));
-    assert_eq!(rt; (digits(&lower), digits(&upper)), (0x01234567, 0x8ABCDE));
-    assert_eq!(rt; upper.metadata(), 0x6503214);
+/// The keys and the word of an array.
+fn shown(array: &Array<u64, u64>) -> (u64, usize) {
+    (digits(array), array.metadata())
 }
 
-/// The keys and the words of the two parts of an array of these keys, made in the reverse order and without
-/// 9, cut behind its first `at` pairs.
-fn cut_behind(at: usize) -> (u64, usize, u64, usize) {
-    let mut lower = reversed(&ASCENDING);
-    if lower.remove_if(&9, |_| true) != RemoveResult::Success || at > lower.len() {
-        return (0, 0, 0, 0);
+/// An array of the keys up to 14 without 9, which came in the reverse order.
+fn without_nine() -> Array<u64, u64> {
+    let mut array = reversed(&ASCENDING);
+    let _removed = array.remove_if(&9, |_| true);
+    array
+}
+
+#[test]
+fn an_array_is_halved_by_moves(rt: HostRuntime) {
+    let mut upper = without_nine();
+    let len = upper.len();
+    let lower = upper.split_half();
+    assert!(rt; (len, lower.len(), upper.len()) == (14, 8, 6));
+    assert!(rt; digits(&lower) == 0x01234567 && shown(&upper) == (0x8ABCDE, 0x6503214));
+}
+
+/// The keys and the words of the two parts of the array without 9, cut behind its first `at` pairs.
+fn cut_behind(at: usize) -> ((u64, usize), (u64, usize)) {
+    let mut lower = without_nine();
+    if at > lower.len() {
+        return ((0, 0), (0, 0));
     }
     let upper = lower.split_off(at);
-    (
-        digits(&lower),
-        lower.metadata(),
-        digits(&upper),
-        upper.metadata(),
-    )
+    (shown(&lower), shown(&upper))
 }
 
 #[test]
@@ -43,27 +51,21 @@ fn an_array_is_cut_at_each_boundary(rt: HostRuntime) {
     for at in 0..15usize {
         // both are as if their keys had come by themselves, in their order
         let (first, rest) = left.split_at(at.min(14));
-        let (lower, upper) = (holding(first), holding(rest));
-        assert_eq!(rt;
-            cut_behind(at),
-            (
-                digits(&lower),
-                lower.metadata(),
-                digits(&upper),
-                upper.metadata()
-            )
-        );
+        let wanted = (shown(&holding(first)), shown(&holding(rest)));
+        assert!(rt; cut_behind(at) == wanted);
     }
 }
 
 #[test]
 fn the_greatest_pair_is_taken_out(rt: HostRuntime) {
-    let mut array = holding(&[3, 1, 2]);
-    assert_eq!(rt; array.remove_if(&2, |_| true), RemoveResult::Success);
-    assert_eq!(rt; array.pop_last(), Some((3, 3)));
-    assert_eq!(rt; array.pair(0), Some((&1, &1)));
-    assert_eq!(rt; array.pair(1), None);
-    assert_eq!(rt; array.pair(15), None);
-    assert_eq!(rt; array.pop_last(), Some((1, 1)));
-    assert_eq!(rt; array.pop_last(), None);
+    let rows = [
+        (Remove(2), Removed(RemoveResult::Success)),
+        (PopLast, Told::Pair(Some((3, 3)))),
+        (Pair(0), Told::Pair(Some((1, 1)))),
+        (Pair(1), Told::Pair(None)),
+        (Pair(15), Told::Pair(None)),
+        (PopLast, Told::Pair(Some((1, 1)))),
+        (PopLast, Told::Pair(None)),
+    ];
+    play(&rt, &[3, 1, 2], &rows);
 }

@@ -1,6 +1,6 @@
 //! Iterators over slots.
 
-use super::{answer, holding, texts, without};
+use super::{TEXTS, holding, texts, without};
 use leaf_array::{Array, ArrayIter, ArrayRevIter};
 
 /// The slots of an iterator by rising rank, each a hexadecimal digit.
@@ -23,49 +23,68 @@ fn falling(array: &Array<&'static str, &'static str>) -> u64 {
 
 #[test]
 fn iterators_follow_the_ranks(rt: HostRuntime) {
-    let mut array = texts();
-    assert_eq!(rt; without(&mut array, &["10", "11", "12", "G", "M"]), 5);
+    let mut array = texts(&TEXTS);
+    let gone = without(&mut array, &["10", "11", "12", "G", "M"]);
     // the slots of "0" to "9"
-    assert_eq!(rt; rising(&array), 0x3056749AB8);
-    assert_eq!(rt; falling(&array), 0x8BA9476503);
+    assert!(rt; (gone, rising(&array), falling(&array)) == (5, 0x3056749AB8, 0x8BA9476503));
+}
+
+/// The slots that an iterator gives in five steps, and in the one after it has been rewound.
+fn rewound(array: &Array<u64, u64>) -> ([Option<u8>; 5], Option<u8>) {
+    let mut slots = ArrayIter::new(array);
+    let first = [
+        slots.next(),
+        slots.next(),
+        slots.next(),
+        slots.next(),
+        slots.next(),
+    ];
+    slots.rewind();
+    (first, slots.next())
+}
+
+/// The same of an iterator by falling ranks.
+fn rewound_falling(array: &Array<u64, u64>) -> ([Option<u8>; 5], Option<u8>) {
+    let mut slots = ArrayRevIter::new(array);
+    let first = [
+        slots.next(),
+        slots.next(),
+        slots.next(),
+        slots.next(),
+        slots.next(),
+    ];
+    slots.rewind();
+    (first, slots.next())
 }
 
 #[test]
 fn an_iterator_at_its_end_stays(rt: HostRuntime) {
     let array = holding(&[10, 20, 30]);
-    let mut rising = ArrayIter::new(&array);
-    assert_eq!(rt; rising.metadata(), array.metadata());
-    for slot in [Some(1u8), Some(2), Some(3), None, None] {
-        assert_eq!(rt; rising.next(), slot);
-    }
-    rising.rewind();
-    assert_eq!(rt; rising.next(), Some(1));
-    let mut falling = ArrayRevIter::new(&array);
-    assert_eq!(rt; falling.metadata(), array.metadata());
-    for slot in [Some(3u8), Some(2), Some(1), None, None] {
-        assert_eq!(rt; falling.next(), slot);
-    }
-    falling.rewind();
-    assert_eq!(rt; falling.next(), Some(3));
+    let words = (
+        ArrayIter::new(&array).metadata(),
+        ArrayRevIter::new(&array).metadata(),
+    );
+    assert!(rt; words == (array.metadata(), array.metadata()));
+    let forth = ([Some(1), Some(2), Some(3), None, None], Some(1));
+    let back = ([Some(3), Some(2), Some(1), None, None], Some(3));
+    assert!(rt; rewound(&array) == forth && rewound_falling(&array) == back);
 }
 
 #[test]
 fn an_iterator_turns_at_its_rank(rt: HostRuntime) {
     let array = holding(&[10, 20, 30]);
     let mut rising = ArrayIter::new(&array);
-    assert_eq!(rt; (rising.next(), rising.next()), (Some(1), Some(2)));
+    let forth = (rising.next(), rising.next());
     let mut falling = rising.clone().rev();
-    assert_eq!(rt; falling.next(), Some(1));
-    assert_eq!(rt; falling.clone().rev().next(), Some(2));
-    assert_eq!(rt; rising.next(), Some(3));
+    let back = falling.next();
+    let again = falling.clone().rev().next();
+    assert!(rt; (forth, back) == ((Some(1), Some(2)), Some(1)));
+    assert!(rt; (again, rising.next()) == (Some(2), Some(3)));
 }
 
 #[test]
 fn iterators_pass_over_what_was_removed(rt: HostRuntime) {
-    let mut array = Array::new();
-    for text in ["10", "20", "30"] {
-        assert_eq!(rt; answer(array.insert::<false>(text, text)), 0);
-    }
-    assert_eq!(rt; without(&mut array, &["20"]), 1);
-    assert_eq!(rt; (rising(&array), falling(&array)), (0x13, 0x31));
+    let mut array = texts(&["10", "20", "30"]);
+    let gone = without(&mut array, &["20"]);
+    assert!(rt; (gone, rising(&array), falling(&array)) == (1, 0x13, 0x31));
 }

@@ -1,7 +1,10 @@
 //! Calls that lend pairs and slots to closures.
 
+use super::calls::Call::{Insert, Len, Remove, SearchVal, Unfreeze};
+use super::calls::Told::{Done, Full, Number, Part, Removed};
+use super::calls::play_on;
 use super::slot::put_at;
-use super::{answer, holding, reversed};
+use super::{holding, reversed};
 use leaf_array::{Array, RemoveResult};
 
 /// Deals the pairs below 20 to `low` at their place, and the others to `high` four places lower. Gives
@@ -39,7 +42,7 @@ fn deal(
 fn mixed() -> Array<u64, u64> {
     let mut array = Array::new();
     for key in [11u64, 19, 32, 20, 1, 0] {
-        let _ = answer(array.insert::<false>(key, 17));
+        let _inserted = array.insert::<false>(key, 17);
     }
     array
 }
@@ -49,20 +52,26 @@ fn a_distributed_array_gives_its_pairs_to_others(rt: HostRuntime) {
     let mut old = mixed();
     let mut low: Array<u64, u64> = Array::new_frozen();
     let mut high: Array<u64, u64> = Array::new_frozen();
-    assert_eq!(rt; deal(&mut old, &mut low, &mut high), ((15, 6, false), 0));
-    assert_eq!(rt; answer(low.insert::<false>(5, 5)), 2);
-    if low.is_frozen() && high.is_frozen() {
-        low.unfreeze();
-        high.unfreeze();
-    }
-    assert_eq!(rt; (low.len(), high.len()), (4, 2));
-    for key in [0u64, 1, 11, 19] {
-        assert_eq!(rt; low.search_val(&key), Some(&17));
-    }
-    for key in [20u64, 32] {
-        assert_eq!(rt; high.search_val(&key), Some(&17));
-    }
-    assert_eq!(rt; answer(high.insert::<false>(5, 5)), 0);
+    let told = deal(&mut old, &mut low, &mut high);
+    assert!(rt; told == ((15, 6, false), 0));
+    let rows = [
+        (Insert(5, 5), Full(5, 5)),
+        (Unfreeze, Done),
+        (Len, Number(4)),
+        (SearchVal(0), Part(Some(17))),
+        (SearchVal(1), Part(Some(17))),
+        (SearchVal(11), Part(Some(17))),
+        (SearchVal(19), Part(Some(17))),
+    ];
+    play_on(&rt, &mut low, &rows);
+    let rows = [
+        (Unfreeze, Done),
+        (Len, Number(2)),
+        (SearchVal(20), Part(Some(17))),
+        (SearchVal(32), Part(Some(17))),
+        (Insert(5, 5), Done),
+    ];
+    play_on(&rt, &mut high, &rows);
 }
 
 #[test]
@@ -71,26 +80,33 @@ fn a_distributed_array_stays_as_it_was_and_frozen(rt: HostRuntime) {
     if !old.is_frozen() {
         let _ = old.distribute(|_, _, _| true, |_, _, _, _| {});
     }
-    for key in [1u64, 3] {
-        assert_eq!(rt; answer(old.insert::<false>(key, 0)), 2);
-    }
-    assert_eq!(rt; old.remove_if(&17, |_| true), RemoveResult::Frozen);
-    if old.is_frozen() {
-        old.unfreeze();
-    }
-    assert_eq!(rt; answer(old.insert::<false>(3, 7)), 0);
-    for key in [0u64, 1, 3, 11, 19, 20] {
-        assert_eq!(rt; old.remove_if(&key, |_| true), RemoveResult::Success);
-    }
-    assert_eq!(rt; old.remove_if(&32, |_| true), RemoveResult::Retired);
-    assert_eq!(rt; answer(old.insert::<false>(5, 5)), 2);
+    let gone = Removed(RemoveResult::Success);
+    let rows = [
+        (Insert(1, 0), Full(1, 0)),
+        (Insert(3, 0), Full(3, 0)),
+        (Remove(17), Removed(RemoveResult::Frozen)),
+        (Unfreeze, Done),
+        (Insert(3, 7), Done),
+        (Remove(0), gone),
+        (Remove(1), gone),
+        (Remove(3), gone),
+        (Remove(11), gone),
+        (Remove(19), gone),
+        (Remove(20), gone),
+        (Remove(32), Removed(RemoveResult::Retired)),
+        (Insert(5, 5), Full(5, 5)),
+    ];
+    play_on(&rt, &mut old, &rows);
 }
 
 #[test]
 fn a_showing_tells_removed_pairs_from_others(rt: HostRuntime) {
     let mut array = mixed();
-    assert_eq!(rt; answer(array.insert::<false>(3, 7)), 0);
-    assert_eq!(rt; array.remove_if(&1, |_| true), RemoveResult::Success);
+    let rows = [
+        (Insert(3, 7), Done),
+        (Remove(1), Removed(RemoveResult::Success)),
+    ];
+    play_on(&rt, &mut array, &rows);
     let mut gone: u64 = 0;
     let mut there: u64 = 0;
     let shown = array.for_each_all(
@@ -104,23 +120,21 @@ fn a_showing_tells_removed_pairs_from_others(rt: HostRuntime) {
             Ok(())
         },
     );
-    assert!(rt; shown.is_ok());
-    assert_eq!(rt; (gone, there), (1, 6));
+    assert!(rt; (shown.is_ok(), gone, there) == (true, 1, 6));
 }
 
 #[test]
 fn a_refused_preparation_distributes_nothing(rt: HostRuntime) {
     let mut array = holding(&[1, 2]);
     let mut dealt: u8 = 0;
+    let mut done = true;
     if !array.is_frozen() {
-        let done = array.distribute(
+        done = array.distribute(
             |_, _, _| false,
             |_, _, _, _| dealt = dealt.saturating_add(1),
         );
-        assert!(rt; !done);
     }
-    assert_eq!(rt; dealt, 0);
-    assert!(rt; array.is_frozen());
+    assert!(rt; (done, dealt, array.is_frozen()) == (false, 0, true));
 }
 
 // The conditions and functions of this test and the next may be called at numbers up to 5 alone, so each call
@@ -128,13 +142,12 @@ fn a_refused_preparation_distributes_nothing(rt: HostRuntime) {
 #[test]
 fn what_may_be_called_at_few_values_serves(rt: HostRuntime) {
     let mut frozen: Array<u64, u64> = Array::new_frozen();
-    assert_eq!(rt;
-        frozen.remove_if(&1, |val| 5 - *val > 2),
-        RemoveResult::Frozen
-    );
+    let kept = frozen.remove_if(&1, |val| 5 - *val > 2);
     let mut array: Array<u64, u64> = Array::new();
-    assert_eq!(rt; array.remove_if(&1, |val| 5 - *val > 2), RemoveResult::Fail);
-    assert_eq!(rt; array.fold(7, |made, key, _| made + (5 - *key)), 7);
+    let absent = array.remove_if(&1, |val| 5 - *val > 2);
+    let folded = array.fold(7, |made, key, _| made + (5 - *key));
+    assert!(rt; (kept, absent) == (RemoveResult::Frozen, RemoveResult::Fail));
+    assert!(rt; folded == 7);
 }
 
 #[test]
@@ -149,25 +162,28 @@ fn what_may_be_shown_few_slots_serves(rt: HostRuntime) {
             Ok(())
         },
     );
-    assert!(rt; shown.is_ok());
     let dealt = array.distribute(|_, len, _| 5 - len < 5, |_, _, _, place| left = 5 - place);
-    assert!(rt; !dealt);
-    assert_eq!(rt; left, 0);
+    assert!(rt; (shown.is_ok(), dealt, left) == (true, false, 0));
+}
+
+/// The slots that are shown where the array isn't frozen, and where it is, each a hexadecimal digit.
+fn shown_slots(array: &Array<u64, u64>) -> (u64, u64) {
+    let mut open: u64 = 0;
+    let mut frozen: u64 = 0;
+    array.for_each_pos(
+        |frozen| !frozen,
+        |slot| open = open.wrapping_mul(16).wrapping_add(u64::from(slot)),
+    );
+    array.for_each_pos(|frozen| frozen, |slot| frozen = u64::from(slot));
+    (open, frozen)
 }
 
 #[test]
 fn reachable_slots_are_shown_rising(rt: HostRuntime) {
     let mut array = holding(&[10, 20, 30, 40, 50]);
-    assert_eq!(rt; array.remove_if(&20, |_| true), RemoveResult::Success);
-    let mut slots: u64 = 0;
-    array.for_each_pos(
-        |frozen| !frozen,
-        |slot| slots = slots.wrapping_mul(16).wrapping_add(u64::from(slot)),
-    );
+    let gone = array.remove_if(&20, |_| true);
     // slot 2 had the removed pair
-    assert_eq!(rt; slots, 0x135);
-    array.for_each_pos(|frozen| frozen, |_| slots = 0);
-    assert_eq!(rt; slots, 0x135);
+    assert!(rt; gone == RemoveResult::Success && shown_slots(&array) == (0x135, 0));
 }
 
 #[test]
@@ -181,20 +197,18 @@ fn the_first_error_ends_a_showing(rt: HostRuntime) {
             if slot == 2 { Err(slot) } else { Ok(()) }
         },
     );
-    assert_eq!(rt; shown, Err(2));
-    assert_eq!(rt; calls, 2);
     let unasked = array.for_each_all(|_, _| false, |slot, _, _, _| Err(slot));
-    assert_eq!(rt; unasked, Ok(()));
+    assert!(rt; (shown.err(), calls, unasked.is_ok()) == (Some(2), 2, true));
 }
 
 #[test]
 fn a_fold_goes_through_the_pairs_by_key(rt: HostRuntime) {
     let mut array = reversed(&[1, 2, 3, 4]);
-    assert_eq!(rt; array.remove_if(&3, |_| true), RemoveResult::Success);
+    let gone = array.remove_if(&3, |_| true);
     let digits = array.fold(0u64, |made, key, val| {
         made.wrapping_mul(100)
             .wrapping_add(key.wrapping_mul(10))
             .wrapping_add(*val)
     });
-    assert_eq!(rt; digits, 112244);
+    assert!(rt; gone == RemoveResult::Success && digits == 112244);
 }

@@ -1,95 +1,79 @@
 //! Cursors by example, and beside a plain machine over a list.
 
+use super::calls::Call::{Clear, CountWithin};
+use super::calls::Step::{Flip, Get, GetBack, Next, NextBack};
+use super::calls::Told::{Done, Number};
+use super::calls::{Seen, Step, play, read, take, take_within, val_of, walk, walk_within};
+use super::{stirred, tree_of};
+use std::alloc::{AllocError, Global};
 use std::ops::Bound;
-use std::process::Abort;
 use std::test::Fail;
 use tree_index::{Iter, Proximity, Range, TreeIndex};
 
-/// A tree with these pairs.
-fn tree_of<R: Abort>(
-    rt: &R,
-    alloc: std::alloc::Global,
-    pairs: &[(u64, u64)],
-) -> TreeIndex<u64, u64> {
-    let mut tree = TreeIndex::new(alloc);
-    for (key, val) in pairs {
-        assert!(rt; tree.insert_sync(*key, *val).is_ok());
-    }
-    tree
-}
+// Steps through three pairs with the keys 1 to 3, each with the value 2.
+const TURNS: [(Step, Seen); 9] = [
+    (NextBack, Some((3, 2))),
+    (NextBack, Some((2, 2))),
+    (Flip, Some((0, 0))),
+    (Next, Some((3, 2))),
+    (Flip, Some((0, 0))),
+    (NextBack, Some((2, 2))),
+    (Next, Some((1, 2))),
+    (Next, None),
+    (Flip, None),
+];
 
-/// What a cursor tells at a call: 0 is `next`, 1 `next_back`, and else `flip`, told as (0, 0) where it turned.
-fn told(iter: &mut Iter<'_, u64, u64>, call: u8) -> Option<(u64, u64)> {
-    match call {
-        0 => read(iter.next()),
-        1 => read(iter.next_back()),
-        _ if iter.flip() => Some((0, 0)),
-        _ => None,
-    }
-}
-
-/// The same of a range.
-fn told_within(range: &mut Range<'_, u64, u64>, call: u8) -> Option<(u64, u64)> {
-    match call {
-        0 => read(range.next()),
-        1 => read(range.next_back()),
-        _ if range.flip() => Some((0, 0)),
-        _ => None,
-    }
+#[test]
+fn both_ends_go_through_three_pairs(rt: HostRuntime) {
+    let tree = tree_of(rt.alloc(), &[(1, 2), (2, 2), (3, 2)]);
+    walk(&rt, &mut tree.iter(), &TURNS);
 }
 
 #[test]
-fn both_ends_go_through_three_pairs(rt: HostRuntime) -> Result<(), Fail> {
-    let tree = tree_of(&rt, rt.alloc(), &[(1, 2), (2, 2), (3, 2)]);
-    let mut iter = tree.iter();
-    for (call, answer) in [
-        (1u8, Some((3u64, 2u64))),
-        (1, Some((2, 2))),
-        (2, Some((0, 0))),
-        (0, Some((3, 2))),
-        (2, Some((0, 0))),
-        (1, Some((2, 2))),
-        (0, Some((1, 2))),
-        (0, None),
-        (2, None),
-    ] {
-        assert_eq!(rt; told(&mut iter, call), answer);
-    }
-    Ok(())
+fn a_range_flips_at_its_bounds(rt: HostRuntime) {
+    let tree = tree_of(rt.alloc(), &[(1, 2), (2, 2), (3, 2), (4, 2)]);
+    let mut range = tree.range(Bound::Included(&1), Bound::Excluded(&4));
+    walk_within(&rt, &mut range, &TURNS);
 }
 
 #[test]
-fn a_cursor_that_is_done_stays_at_none(rt: HostRuntime) -> Result<(), Fail> {
-    let tree = tree_of(&rt, rt.alloc(), &[(1, 2), (2, 2), (3, 2)]);
-    let mut iter = tree.iter();
-    for key in 1..4u64 {
-        assert_eq!(rt; iter.next(), Some((&key, &2)));
-    }
-    assert!(rt; iter.next().is_none());
-    assert!(rt; iter.next().is_none());
-    assert!(rt; iter.get().is_none());
-    assert!(rt; iter.next_back().is_none());
-    Ok(())
+fn a_cursor_that_is_done_stays_at_none(rt: HostRuntime) {
+    let tree = tree_of(rt.alloc(), &[(1, 2), (2, 2), (3, 2)]);
+    let rows = [
+        (Next, Some((1, 2))),
+        (Next, Some((2, 2))),
+        (Next, Some((3, 2))),
+        (Next, None),
+        (Next, None),
+        (Get, None),
+        (NextBack, None),
+    ];
+    walk(&rt, &mut tree.iter(), &rows);
 }
 
 #[test]
-fn a_range_keeps_to_its_bounds(rt: HostRuntime) -> Result<(), Fail> {
-    let tree = tree_of(&rt, rt.alloc(), &[(1, 2), (2, 3), (4, 6), (8, 12)]);
+fn a_range_keeps_to_its_bounds(rt: HostRuntime) {
+    let tree = tree_of(rt.alloc(), &[(1, 2), (2, 3), (4, 6), (8, 12)]);
     let mut range = tree.range(Bound::Included(&3), Bound::Included(&4));
-    assert_eq!(rt; range.next(), Some((&4, &6)));
-    assert_eq!(rt; range.get(), Some((&4, &6)));
+    walk_within(
+        &rt,
+        &mut range,
+        &[(Next, Some((4, 6))), (Get, Some((4, 6)))],
+    );
     let mut iter = Iter::from(range.clone());
-    assert_eq!(rt; iter.next(), Some((&8, &12)));
-    assert!(rt; range.next().is_none());
-    assert!(rt; range.get().is_none());
-    assert!(rt; range.next_back().is_none());
-    assert_eq!(rt; range.get_back(), Some((&4, &6)));
-    Ok(())
+    walk(&rt, &mut iter, &[(Next, Some((8, 12)))]);
+    let rows = [
+        (Next, None),
+        (Get, None),
+        (NextBack, None),
+        (GetBack, Some((4, 6))),
+    ];
+    walk_within(&rt, &mut range, &rows);
 }
 
 #[test]
 fn a_cursor_gives_no_more_pairs_than_are_taken(rt: HostRuntime) -> Result<(), Fail> {
-    let tree = tree_of(&rt, rt.alloc(), &[(1, 2), (2, 3), (4, 6), (8, 12)]);
+    let tree = tree_of(rt.alloc(), &[(1, 2), (2, 3), (4, 6), (8, 12)]);
     for (count, given) in [(0usize, 0usize), (2, 2), (3, 3), (9, 3)] {
         let range = tree.range(Bound::Included(&2), Bound::Unbounded);
         assert_eq!(rt; range.take(count).count(), given);
@@ -103,49 +87,32 @@ fn a_cursor_gives_no_more_pairs_than_are_taken(rt: HostRuntime) -> Result<(), Fa
 }
 
 #[test]
-fn an_excluded_bound_is_left_out(rt: HostRuntime) -> Result<(), Fail> {
-    let mut tree = TreeIndex::new(rt.alloc());
-    for key in 1..10u64 {
-        assert!(rt; tree.insert_sync(key, key).is_ok());
-    }
-    assert!(rt;
-        tree.range(Bound::Included(&1), Bound::Excluded(&1))
-            .next()
-            .is_none()
-    );
-    assert_eq!(rt;
-        tree.range(Bound::Included(&4), Bound::Excluded(&8)).count(),
-        4
-    );
-    assert_eq!(rt;
-        tree.range(Bound::Included(&4), Bound::Included(&8)).count(),
-        5
-    );
-    assert_eq!(rt;
-        tree.range(Bound::Excluded(&4), Bound::Unbounded).count(),
-        5
-    );
-    Ok(())
-}
-
-#[test]
-fn a_range_flips_at_its_bounds(rt: HostRuntime) -> Result<(), Fail> {
-    let tree = tree_of(&rt, rt.alloc(), &[(1, 2), (2, 2), (3, 2), (4, 2)]);
-    let mut range = tree.range(Bound::Included(&1), Bound::Excluded(&4));
-    for (call, answer) in [
-        (1u8, Some((3u64, 2u64))),
-        (1, Some((2, 2))),
-        (2, Some((0, 0))),
-        (0, Some((3, 2))),
-        (2, Some((0, 0))),
-        (1, Some((2, 2))),
-        (0, Some((1, 2))),
-        (0, None),
-        (2, None),
-    ] {
-        assert_eq!(rt; told_within(&mut range, call), answer);
-    }
-    Ok(())
+fn an_excluded_bound_is_left_out(rt: HostRuntime) {
+    let pairs = [
+        (1, 1),
+        (2, 2),
+        (3, 3),
+        (4, 4),
+        (5, 5),
+        (6, 6),
+        (7, 7),
+        (8, 8),
+        (9, 9),
+    ];
+    let none = CountWithin(Bound::Included(1), Bound::Excluded(1));
+    let rows = [
+        (none, Number(0)),
+        (
+            CountWithin(Bound::Included(4), Bound::Excluded(8)),
+            Number(4),
+        ),
+        (
+            CountWithin(Bound::Included(4), Bound::Included(8)),
+            Number(5),
+        ),
+        (CountWithin(Bound::Excluded(4), Bound::Unbounded), Number(5)),
+    ];
+    play(&rt, &mut tree_of(rt.alloc(), &pairs), &rows);
 }
 
 /// An end of the plain machine.
@@ -263,6 +230,18 @@ impl<'l> Plain<'l> {
         }
     }
 
+    /// Takes the step that a cursor takes.
+    fn step(&mut self, step: Step) -> Seen {
+        match step {
+            Next => self.next(),
+            NextBack => self.next_back(),
+            Flip if self.flip() => Some((0, 0)),
+            Flip => None,
+            Get => self.get(),
+            GetBack => self.get_back(),
+        }
+    }
+
     fn flip(&mut self) -> bool {
         let turns = match (self.forward, self.backward) {
             (Place::Unopened, Place::Unopened) => true,
@@ -279,23 +258,20 @@ impl<'l> Plain<'l> {
     }
 }
 
-fn read(pair: Option<(&u64, &u64)>) -> Option<(u64, u64)> {
-    match pair {
-        Some((key, val)) => Some((*key, *val)),
-        None => None,
+/// One call on a range and on the plain machine, and a look at both ends: whether they tell the same.
+fn is_alike(range: &mut Range<'_, u64, u64>, plain: &mut Plain<'_>, kind: u64) -> bool {
+    let one = match kind {
+        0 | 1 | 2 => Next,
+        3 | 4 | 5 => NextBack,
+        6 => Flip,
+        _ => Get,
+    };
+    if kind == 7 {
+        *range = range.clone();
     }
-}
-
-/// One call on a range and on the plain machine.
-fn step<R: Abort>(rt: &R, range: &mut Range<'_, u64, u64>, plain: &mut Plain<'_>, kind: u64) {
-    match kind {
-        0 | 1 | 2 => assert_eq!(rt; read(range.next()), plain.next()),
-        3 | 4 | 5 => assert_eq!(rt; read(range.next_back()), plain.next_back()),
-        6 => assert_eq!(rt; range.flip(), plain.flip()),
-        _ => *range = range.clone(),
-    }
-    assert_eq!(rt; read(range.get()), plain.get());
-    assert_eq!(rt; read(range.get_back()), plain.get_back());
+    let same = take_within(range, one) == plain.step(one);
+    let here = take_within(range, Get) == plain.get();
+    same && here && take_within(range, GetBack) == plain.get_back()
 }
 
 /// A bound from a random number, for keys up to 300.
@@ -307,51 +283,62 @@ fn bound_of(seed: u64) -> Bound<u64> {
     }
 }
 
+/// A tree of keys below 300 in no order, of which some were removed again.
+fn thinned(alloc: Global, round: u64, seed: &mut u64) -> TreeIndex<u64, u64> {
+    let mut tree = TreeIndex::new(alloc);
+    for _ in 0..round.wrapping_mul(7) {
+        *seed = stirred(*seed);
+        let _ = tree.upsert_sync((*seed >> 33) % 300, *seed >> 40);
+    }
+    for key in 0..300u64 {
+        *seed = stirred(*seed);
+        if (*seed >> 33) % 5 < round % 5 || (100 <= key && key < 150) {
+            let _ = tree.remove_sync(&key);
+        }
+    }
+    tree
+}
+
+/// The pairs of a tree of keys below 300, by look-ups.
+fn listed(alloc: Global, tree: &TreeIndex<u64, u64>) -> Result<Vec<(u64, u64)>, AllocError> {
+    let mut pairs = Vec::new(alloc);
+    for key in 0..300u64 {
+        if let Some(val) = val_of(tree, key) {
+            pairs.push((key, val))?;
+        }
+    }
+    Ok(pairs)
+}
+
+/// Whether a random range answers a random number of random steps as the plain machine does.
+fn goes_alike(tree: &TreeIndex<u64, u64>, pairs: &[(u64, u64)], seed: &mut u64) -> bool {
+    *seed = stirred(*seed);
+    let lower = bound_of(*seed >> 20);
+    let upper = bound_of(*seed >> 40);
+    let mut range = tree.range(lower.as_ref(), upper.as_ref());
+    let mut plain = Plain {
+        pairs,
+        lower,
+        upper,
+        forward: Place::Unopened,
+        backward: Place::Unopened,
+    };
+    let mut alike = true;
+    for _ in 0..(*seed >> 50) % 100 {
+        *seed = stirred(*seed);
+        alike = is_alike(&mut range, &mut plain, (*seed >> 33) % 8) && alike;
+    }
+    alike
+}
+
 #[test]
 fn random_steps_answer_as_the_plain_machine(rt: HostRuntime) -> Result<(), Fail> {
     let mut seed = 11u64;
     for round in 0..60u64 {
-        let mut tree = TreeIndex::new(rt.alloc());
-        for _ in 0..round * 7 {
-            seed = seed
-                .wrapping_mul(6364136223846793005)
-                .wrapping_add(1442695040888963407);
-            let _ = tree.upsert_sync((seed >> 33) % 300, seed >> 40);
-        }
-        for key in 0..300u64 {
-            seed = seed
-                .wrapping_mul(6364136223846793005)
-                .wrapping_add(1442695040888963407);
-            if (seed >> 33) % 5 < round % 5 || (100 <= key && key < 150) {
-                let _ = tree.remove_sync(&key);
-            }
-        }
-        let mut pairs = std::vec::Vec::new(rt.alloc());
-        for key in 0..300u64 {
-            if let Some(val) = tree.peek(&key) {
-                pairs.push((key, *val))?;
-            }
-        }
+        let tree = thinned(rt.alloc(), round, &mut seed);
+        let pairs = listed(rt.alloc(), &tree)?;
         for _ in 0..10u32 {
-            seed = seed
-                .wrapping_mul(6364136223846793005)
-                .wrapping_add(1442695040888963407);
-            let lower = bound_of(seed >> 20);
-            let upper = bound_of(seed >> 40);
-            let mut range = tree.range(lower.as_ref(), upper.as_ref());
-            let mut plain = Plain {
-                pairs: &pairs,
-                lower,
-                upper,
-                forward: Place::Unopened,
-                backward: Place::Unopened,
-            };
-            for _ in 0..(seed >> 50) % 100 {
-                seed = seed
-                    .wrapping_mul(6364136223846793005)
-                    .wrapping_add(1442695040888963407);
-                step(&rt, &mut range, &mut plain, (seed >> 33) % 8);
-            }
+            assert!(rt; goes_alike(&tree, &pairs, &mut seed));
         }
     }
     Ok(())
@@ -359,7 +346,7 @@ fn random_steps_answer_as_the_plain_machine(rt: HostRuntime) -> Result<(), Fail>
 
 /// Where a key stands: 0 at its pair, 1 between two, 2 behind all, 3 before all, 4 in a tree without pairs; and
 /// the pairs at the forward and the backward end, of a pair that is there the first alone.
-fn stands(tree: &TreeIndex<u64, u64>, key: u64) -> (u8, Option<(u64, u64)>, Option<(u64, u64)>) {
+fn stands(tree: &TreeIndex<u64, u64>, key: u64) -> (u8, Seen, Seen) {
     match tree.locate(&key) {
         Proximity::Exact(iter) => (0, read(iter.get()), None),
         Proximity::Between(iter) => (1, read(iter.get()), read(iter.get_back())),
@@ -370,32 +357,35 @@ fn stands(tree: &TreeIndex<u64, u64>, key: u64) -> (u8, Option<(u64, u64)>, Opti
 }
 
 #[test]
-fn locate_finds_a_pair_or_its_neighbours(rt: HostRuntime) -> Result<(), Fail> {
-    let mut tree = tree_of(&rt, rt.alloc(), &[(1, 1), (3, 2), (5, 3), (7, 4)]);
+fn locate_finds_a_pair_or_its_neighbours(rt: HostRuntime) {
+    let mut tree = tree_of(rt.alloc(), &[(1, 1), (3, 2), (5, 3), (7, 4)]);
     for (key, place) in [
         (2u64, (1u8, Some((1u64, 1u64)), Some((3u64, 2u64)))),
         (5, (0, Some((5, 3)), None)),
         (8, (2, None, Some((7, 4)))),
         (0, (3, Some((1, 1)), None)),
     ] {
-        assert_eq!(rt; stands(&tree, key), place);
+        assert!(rt; stands(&tree, key) == place);
     }
-    tree.clear();
-    assert_eq!(rt; stands(&tree, 3), (4, None, None));
-    Ok(())
+    play(&rt, &mut tree, &[(Clear, Done)]);
+    assert!(rt; stands(&tree, 3) == (4, None, None));
+}
+
+/// What the steps of a cursor tell that stands between two pairs.
+fn between(tree: &TreeIndex<u64, u64>, key: u64) -> [Seen; 4] {
+    match tree.locate(&key) {
+        Proximity::Between(mut iter) => [
+            take(&mut iter, Next),
+            take(&mut iter, Get),
+            take(&mut iter, NextBack),
+            take(&mut iter, GetBack),
+        ],
+        _ => [None; 4],
+    }
 }
 
 #[test]
-fn a_cursor_between_two_pairs_goes_over_them(rt: HostRuntime) -> Result<(), Fail> {
-    let tree = tree_of(&rt, rt.alloc(), &[(1, 1), (3, 2), (5, 3), (7, 4)]);
-    match tree.locate(&2) {
-        Proximity::Between(mut iter) => {
-            let forth = (told(&mut iter, 0), read(iter.get()));
-            let back = (told(&mut iter, 1), read(iter.get_back()));
-            assert_eq!(rt; forth, (None, Some((3, 2))));
-            assert_eq!(rt; back, (None, Some((1, 1))));
-        }
-        _ => panic!(rt; "not between"),
-    }
-    Ok(())
+fn a_cursor_between_two_pairs_goes_over_them(rt: HostRuntime) {
+    let tree = tree_of(rt.alloc(), &[(1, 1), (3, 2), (5, 3), (7, 4)]);
+    assert!(rt; between(&tree, 2) == [None, Some((3, 2)), None, Some((1, 1))]);
 }

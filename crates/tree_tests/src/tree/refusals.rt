@@ -1,25 +1,25 @@
 //! Runs in which any one allocation may be refused. A script has each refused in turn: whatever is
 //! refused, nothing has changed, and the same call then succeeds.
 
+use super::calls::Call::{Insert, Upsert};
+use super::calls::Told::{Done, Duplicate, NoMemory};
+use super::calls::{holds, make, val_of};
+use super::stirred;
 use std::alloc::Global;
 use std::process::Abort;
-use tree_index::{InsertRefused, TreeIndex};
+use tree_index::TreeIndex;
 
-/// Inserts a pair, again where memory was refused, and looks whether anything had changed then.
-fn insert<R: Abort>(rt: &R, tree: &mut TreeIndex<u64, u64>, key: u64, met: &mut bool) {
-    let depth = tree.depth();
-    let len = tree.len();
-    match tree.insert_sync(key, !key) {
-        Ok(()) => {}
-        Err(InsertRefused::Duplicate(_, _)) => panic!(rt; "the key isn't there"),
-        Err(InsertRefused::Memory(back, val)) => {
-            *met = true;
-            assert!(rt; back == key && val == !key);
-            assert!(rt; tree.depth() == depth && tree.len() == len);
-            assert!(rt; !tree.contains(&key));
-            assert!(rt; tree.upsert_sync(back, val).is_ok());
-        }
+/// Inserts a pair, again where memory was refused; tells whether it was, and whether all is as it has to be:
+/// nothing had changed then.
+fn insert(tree: &mut TreeIndex<u64, u64>, key: u64) -> (bool, bool) {
+    let before = (tree.depth(), tree.len());
+    let told = make(tree, Insert(key, !key));
+    if told == Done {
+        return (false, true);
     }
+    let kept = (tree.depth(), tree.len()) == before && val_of(tree, key).is_none();
+    let as_said = told == NoMemory(key, !key) && kept;
+    (true, as_said && make(tree, Upsert(key, !key)) == Done)
 }
 
 /// Whether an allocation was refused while a tree grew.
@@ -28,55 +28,55 @@ fn grows<R: Abort>(rt: &R, alloc: Global) -> bool {
     let mut tree: TreeIndex<u64, u64> = TreeIndex::new(alloc);
     let mut key = 1u64;
     for _ in 0..700u32 {
-        key = key
-            .wrapping_mul(6364136223846793005)
-            .wrapping_add(1442695040888963407);
-        insert(rt, &mut tree, key, &mut met);
+        key = stirred(key);
+        let (refused, as_said) = insert(&mut tree, key);
+        assert!(rt; as_said);
+        met = met || refused;
     }
     assert!(rt; tree.len() == 700);
     key = 1;
     for _ in 0..700u32 {
-        key = key
-            .wrapping_mul(6364136223846793005)
-            .wrapping_add(1442695040888963407);
-        assert!(rt; tree.peek(&key) == Some(&!key));
+        key = stirred(key);
+        assert!(rt; val_of(&tree, key) == Some(!key));
+    }
+    met
+}
+
+/// Inserts the keys below a number, and tells whether memory was refused.
+fn fills<R: Abort>(rt: &R, tree: &mut TreeIndex<u64, u64>, last: u64) -> bool {
+    let mut met = false;
+    for key in 0..last {
+        let (refused, as_said) = insert(tree, key);
+        assert!(rt; as_said);
+        met = met || refused;
     }
     met
 }
 
 /// Whether an allocation was refused while a tree was cloned.
 fn clones<R: Abort>(rt: &R, alloc: Global) -> bool {
-    let mut met = false;
     let mut tree: TreeIndex<u64, u64> = TreeIndex::new(alloc);
-    for key in 0..100u64 {
-        insert(rt, &mut tree, key, &mut met);
-    }
+    let met = fills(rt, &mut tree, 100);
     match tree.clone(alloc) {
-        Ok(copy) => assert!(rt; copy == tree),
+        Ok(copy) => {
+            assert!(rt; copy == tree);
+            met
+        },
         Err(_) => {
-            met = true;
-            assert!(rt; tree.len() == 100);
-        }
+            assert!(rt; tree.len() == 100 && holds(&tree, 0, 100));
+            true
+        },
     }
-    met
 }
 
 /// Whether an allocation was refused while a leaf was filled, whose keys are duplicates then, and whose pairs are
 /// written over.
 fn repeats<R: Abort>(rt: &R, alloc: Global) -> bool {
-    let mut met = false;
     let mut tree: TreeIndex<u64, u64> = TreeIndex::new(alloc);
+    let met = fills(rt, &mut tree, 15);
     for key in 0..15u64 {
-        insert(rt, &mut tree, key, &mut met);
-    }
-    for key in 0..15u64 {
-        match tree.insert_sync(key, key) {
-            Err(InsertRefused::Duplicate(back, val)) => assert!(rt; back == key && val == key),
-            _ => panic!(rt; "the key is there"),
-        }
-    }
-    for key in 0..15u64 {
-        assert!(rt; tree.upsert_sync(key, key).is_ok());
+        assert!(rt; make(&mut tree, Insert(key, key)) == Duplicate(key, key));
+        assert!(rt; make(&mut tree, Upsert(key, key)) == Done);
     }
     assert!(rt; tree.len() == 15);
     met

@@ -1,38 +1,48 @@
 //! Removal of ranges by example, and beside a map of std.
 
+use super::calls::Call::{Contains, Len, RemoveRange};
+use super::calls::Told::{Done, Is, Number};
+use super::calls::{fill, make, play, val_of};
+use super::stirred;
+use std::alloc::Global;
 use std::collections::BTreeMap;
 use std::ops::Bound;
 use std::test::Fail;
 use tree_index::TreeIndex;
 
 #[test]
-fn a_range_is_removed_and_its_edges_are_kept(rt: HostRuntime) -> Result<(), Fail> {
+fn a_range_is_removed_and_its_edges_are_kept(rt: HostRuntime) {
     let mut tree = TreeIndex::new(rt.alloc());
-    for key in 1..8u64 {
-        assert!(rt; tree.insert_sync(key, key).is_ok());
+    assert!(rt; fill(&mut tree, 1, 8));
+    let rows = [
+        (RemoveRange(Bound::Included(3), Bound::Excluded(8)), Done),
+        (Contains(2), Is(true)),
+        (Contains(3), Is(false)),
+        (Len, Number(2)),
+    ];
+    play(&rt, &mut tree, &rows);
+}
+
+/// Whether a range that is removed leaves the keys outside alone, of the keys from 1 to 13.
+fn leaves_the_keys_outside(alloc: Global, low: u64, high: u64) -> bool {
+    let mut tree = TreeIndex::new(alloc);
+    let mut as_said = fill(&mut tree, 1, 14);
+    let range = RemoveRange(Bound::Included(low), Bound::Excluded(high));
+    as_said = make(&mut tree, range) == Done && as_said;
+    for key in 1..14u64 {
+        let outside = !(low <= key && key < high);
+        as_said = make(&mut tree, Contains(key)) == Is(outside) && as_said;
     }
-    tree.remove_range_sync(Bound::Included(&3), Bound::Excluded(&8));
-    assert!(rt; tree.contains(&2));
-    assert!(rt; !tree.contains(&3));
-    assert_eq!(rt; tree.len(), 2);
-    Ok(())
+    as_said
 }
 
 #[test]
-fn each_range_of_thirteen_keys_leaves_the_keys_outside(rt: HostRuntime) -> Result<(), Fail> {
+fn each_range_of_thirteen_keys_leaves_the_keys_outside(rt: HostRuntime) {
     for low in 0..15u64 {
         for high in 0..15u64 {
-            let mut tree = TreeIndex::new(rt.alloc());
-            for key in 1..14u64 {
-                assert!(rt; tree.insert_sync(key, key).is_ok());
-            }
-            tree.remove_range_sync(Bound::Included(&low), Bound::Excluded(&high));
-            for key in 1..14u64 {
-                assert_eq!(rt; tree.contains(&key), !(low <= key && key < high));
-            }
+            assert!(rt; leaves_the_keys_outside(rt.alloc(), low, high));
         }
     }
-    Ok(())
 }
 
 /// Whether a key lies within two bounds.
@@ -59,6 +69,23 @@ fn bound_of(seed: u64) -> Bound<u64> {
     }
 }
 
+/// Removes a range from a map, and tells whether a tree then has the pairs of the map, of keys below 400.
+fn is_alike(
+    tree: &TreeIndex<u64, u64>,
+    map: &mut BTreeMap<u64, u64>,
+    lower: Bound<u64>,
+    upper: Bound<u64>,
+) -> bool {
+    let mut alike = true;
+    for key in 0..400u64 {
+        if is_within(key, lower, upper) {
+            let _ = map.remove(&key);
+        }
+        alike = val_of(tree, key) == map.get(&key).copied() && alike;
+    }
+    alike && tree.len() == map.len() && tree.iter().count() == map.len()
+}
+
 #[test]
 fn random_ranges_leave_what_they_leave_of_a_map(rt: HostRuntime) -> Result<(), Fail> {
     let mut tree = TreeIndex::new(rt.alloc());
@@ -66,26 +93,14 @@ fn random_ranges_leave_what_they_leave_of_a_map(rt: HostRuntime) -> Result<(), F
     let mut seed = 5u64;
     for _ in 0..60u32 {
         for _ in 0..80u32 {
-            seed = seed
-                .wrapping_mul(6364136223846793005)
-                .wrapping_add(1442695040888963407);
+            seed = stirred(seed);
             let _ = tree.upsert_sync((seed >> 33) % 400, seed >> 8);
             map.insert((seed >> 33) % 400, seed >> 8)?;
         }
-        seed = seed
-            .wrapping_mul(6364136223846793005)
-            .wrapping_add(1442695040888963407);
-        let lower = bound_of(seed >> 20);
-        let upper = bound_of(seed >> 42);
-        tree.remove_range_sync(lower.as_ref(), upper.as_ref());
-        for key in 0..400u64 {
-            if is_within(key, lower, upper) {
-                let _ = map.remove(&key);
-            }
-            assert_eq!(rt; tree.peek(&key), map.get(&key));
-        }
-        assert_eq!(rt; tree.len(), map.len());
-        assert_eq!(rt; tree.iter().count(), map.len());
+        seed = stirred(seed);
+        let (lower, upper) = (bound_of(seed >> 20), bound_of(seed >> 42));
+        let removed = make(&mut tree, RemoveRange(lower, upper));
+        assert!(rt; removed == Done && is_alike(&tree, &mut map, lower, upper));
     }
     Ok(())
 }

@@ -1,152 +1,162 @@
 //! Trees that lose pairs: leaves that are emptied leave them, and so do nodes.
 
-use crate::tree::leaf_at;
+use super::calls::Call::{Count, Depth, First, Insert, IsEmpty, Last, Len, RemoveRange};
+use super::calls::Told::{Done, Is, Number, Pair};
+use super::calls::{fill, holds, lose, make, play, val_of};
+use super::{leaf_at, stirred};
 use std::ops::Bound;
 use std::process::Abort;
-use std::test::Fail;
 use tree_index::TreeIndex;
+
+/// How many pairs a leaf has, and the numbers of the ones on both sides.
+fn shape<R: Abort>(
+    rt: &R,
+    tree: &TreeIndex<u64, u64>,
+    key: u64,
+) -> (usize, Option<usize>, Option<usize>) {
+    let leaf = leaf_at(rt, tree, key);
+    (leaf.array.len(), leaf.prev, leaf.next)
+}
 
 /// Goes along the leaves of a tree by its keys, and counts them. Each names the ones on both sides, and no
 /// number is above `most`: two leaves apart name the one between them by the same number, so that none
-/// without pairs stands between them. Where the last one names another behind it, it gives the greatest number.
+/// without pairs stands between them. Where a leaf doesn't, or the last one names another behind it, it gives
+/// the greatest number.
 fn leaves_of<R: Abort>(rt: &R, tree: &TreeIndex<u64, u64>, most: usize) -> usize {
     let mut count = 0usize;
     let mut behind = None;
     let mut last = None;
-    let mut pairs = tree.iter();
     let mut in_leaf = 0usize;
-    for _ in 0..tree.len() {
-        let Some((key, _)) = pairs.next() else {
-            panic!(rt; "a pair less");
-        };
+    let mut linked = true;
+    for (key, _) in tree.iter() {
         if in_leaf == 0 {
-            let leaf = leaf_at(rt, tree, *key);
-            in_leaf = leaf.array.len();
-            assert!(rt; in_leaf > 0);
-            if count > 1 {
-                assert_eq!(rt; leaf.prev, behind);
-            }
-            assert_eq!(rt; leaf.prev.is_some(), count > 0);
-            assert!(rt; leaf.prev.unwrap_or(0) <= most && leaf.next.unwrap_or(0) <= most);
+            let (len, prev, next) = shape(rt, tree, *key);
+            let named = prev.is_some() == (count > 0) && (count < 2 || prev == behind);
+            let within = prev.unwrap_or(0) <= most && next.unwrap_or(0) <= most;
+            linked = len > 0 && named && within && linked;
+            in_leaf = len;
             behind = last;
-            last = leaf.next;
+            last = next;
             count = count.wrapping_add(1);
         }
         in_leaf = in_leaf.wrapping_sub(1);
     }
-    if last.is_some() { usize::MAX } else { count }
+    if linked && last.is_none() {
+        count
+    } else {
+        usize::MAX
+    }
 }
 
-/// The next random number.
-fn stirred(seed: u64) -> u64 {
-    seed.wrapping_mul(6364136223846793005)
-        .wrapping_add(1442695040888963407)
+/// Whether no more leaves are there than pairs, and as many pairs as are counted.
+fn is_lean<R: Abort>(rt: &R, tree: &TreeIndex<u64, u64>, most: usize) -> bool {
+    leaves_of(rt, tree, most) <= tree.len() && tree.iter().count() == tree.len()
 }
 
 #[test]
-fn leaves_go_with_their_pairs_whatever_the_order(rt: HostRuntime) -> Result<(), Fail> {
+fn leaves_go_with_their_pairs_whatever_the_order(rt: HostRuntime) {
     // rising, falling, and in no order: 1000 and 389 have no common divisor
     for step in [1u64, 999, 389] {
         let mut tree: TreeIndex<u64, u64> = TreeIndex::new(rt.alloc());
-        for key in 0..1000u64 {
-            assert!(rt; tree.insert_sync(key, key).is_ok());
-        }
-        assert!(rt; tree.depth() > 1);
+        assert!(rt; fill(&mut tree, 0, 1000) && tree.depth() > 1);
         for turn in 0..1000u64 {
             let key = turn.wrapping_mul(step) % 1000;
-            assert!(rt; tree.remove_sync(&key));
-            if turn % 50 == 49 {
-                assert!(rt; leaves_of(&rt, &tree, 1000) <= tree.len());
-                assert_eq!(rt; tree.iter().count(), tree.len());
-            }
+            assert!(rt;
+                lose(&mut tree, key, key + 1) && (turn % 50 != 49 || is_lean(&rt, &tree, 1000))
+            );
         }
-        assert!(rt; tree.is_empty());
         // one leaf under one node is left
-        assert_eq!(rt; tree.depth(), 1);
-        assert!(rt; tree.iter().next().is_none());
+        let rows = [(IsEmpty, Is(true)), (Depth, Number(1)), (First, Pair(None))];
+        play(&rt, &mut tree, &rows);
     }
-    Ok(())
 }
 
 #[test]
-fn a_queue_keeps_no_leaf_of_what_went_through_it(rt: HostRuntime) -> Result<(), Fail> {
+fn a_queue_keeps_no_leaf_of_what_went_through_it(rt: HostRuntime) {
     let mut queue: TreeIndex<u64, u64> = TreeIndex::new(rt.alloc());
-    for key in 0..100u64 {
-        assert!(rt; queue.insert_sync(key, !key).is_ok());
-    }
-    let before = leaves_of(&rt, &queue, 8);
+    assert!(rt; fill(&mut queue, 0, 100));
+    let most = leaves_of(&rt, &queue, 8).saturating_add(1);
+    assert!(rt; most < 100);
     for key in 100..3000u64 {
-        assert!(rt; queue.remove_sync(&key.wrapping_sub(100)));
-        assert!(rt; queue.insert_sync(key, !key).is_ok());
+        assert!(rt; lose(&mut queue, key - 100, key - 99) && fill(&mut queue, key, key + 1));
         // ten pairs to a leaf are there at least, and a leaf that went gave its place to another
         if key % 100 == 99 {
-            assert!(rt; leaves_of(&rt, &queue, 9) <= before.wrapping_add(1));
-            assert!(rt; queue.depth() <= 2);
+            assert!(rt; leaves_of(&rt, &queue, 9) <= most && queue.depth() <= 2);
         }
     }
-    assert_eq!(rt; queue.len(), 100);
-    assert_eq!(rt; queue.iter().next(), Some((&2900, &!2900)));
-    assert_eq!(rt; queue.iter().next_back(), Some((&2999, &!2999)));
-    Ok(())
+    let rows = [
+        (Len, Number(100)),
+        (First, Pair(Some((2900, !2900)))),
+        (Last, Pair(Some((2999, !2999)))),
+    ];
+    play(&rt, &mut queue, &rows);
+}
+
+/// Upserts a hundred keys below 500 in no order, and removes up to four hundred.
+fn stir(tree: &mut TreeIndex<u64, u64>, start: u64) -> u64 {
+    let mut seed = start;
+    for _ in 0..100u32 {
+        seed = stirred(seed);
+        let _ = tree.upsert_sync((seed >> 33) % 500, seed >> 8);
+    }
+    for _ in 0..400u32 {
+        seed = stirred(seed);
+        let _ = tree.remove_sync(&((seed >> 33) % 500));
+    }
+    seed
 }
 
 #[test]
-fn as_many_pairs_go_as_come_at_random(rt: HostRuntime) -> Result<(), Fail> {
+fn as_many_pairs_go_as_come_at_random(rt: HostRuntime) {
     let mut tree: TreeIndex<u64, u64> = TreeIndex::new(rt.alloc());
     let mut seed = 11u64;
     for _ in 0..20u32 {
-        for _ in 0..100u32 {
-            seed = stirred(seed);
-            let _ = tree.upsert_sync((seed >> 33) % 500, seed >> 8);
-        }
-        for _ in 0..400u32 {
-            seed = stirred(seed);
-            let _ = tree.remove_sync(&((seed >> 33) % 500));
-        }
-        assert!(rt; leaves_of(&rt, &tree, 500) <= tree.len());
-        assert_eq!(rt; tree.iter().count(), tree.len());
+        seed = stir(&mut tree, seed);
+        assert!(rt; is_lean(&rt, &tree, 500));
     }
-    Ok(())
 }
 
 #[test]
-fn a_range_takes_its_leaves_along(rt: HostRuntime) -> Result<(), Fail> {
+fn a_range_takes_its_leaves_along(rt: HostRuntime) {
     let mut tree: TreeIndex<u64, u64> = TreeIndex::new(rt.alloc());
-    for key in 0..5000u64 {
-        assert!(rt; tree.insert_sync(key, key).is_ok());
-    }
-    assert!(rt; tree.depth() > 2);
-    tree.remove_range_sync(Bound::Included(&20), Bound::Excluded(&4990));
-    assert_eq!(rt; tree.len(), 30);
+    assert!(rt; fill(&mut tree, 0, 5000) && tree.depth() > 2);
+    let middle = RemoveRange(Bound::Included(20), Bound::Excluded(4990));
+    play(&rt, &mut tree, &[(middle, Done), (Len, Number(30))]);
     // fifteen pairs to a leaf that rising keys filled: two on the left, of which one is cut, and one on the right
     assert!(rt; leaves_of(&rt, &tree, 400) <= 4);
-    tree.remove_range_sync(Bound::Unbounded, Bound::Excluded(&4990));
-    assert_eq!(rt; tree.len(), 10);
-    assert_eq!(rt; tree.depth(), 1);
-    tree.remove_range_sync(Bound::Unbounded, Bound::Unbounded);
-    assert_eq!(rt; tree.depth(), 1);
+    let rows = [
+        (RemoveRange(Bound::Unbounded, Bound::Excluded(4990)), Done),
+        (Len, Number(10)),
+        (Depth, Number(1)),
+        (RemoveRange(Bound::Unbounded, Bound::Unbounded), Done),
+        (Depth, Number(1)),
+    ];
+    play(&rt, &mut tree, &rows);
     for key in 0..300u64 {
-        assert!(rt; tree.insert_sync(key, key).is_ok());
-        assert_eq!(rt; tree.peek(&key), Some(&key));
+        assert!(rt; fill(&mut tree, key, key + 1) && holds(&tree, key, key + 1));
     }
-    assert_eq!(rt; tree.iter().count(), 300);
-    Ok(())
+    play(&rt, &mut tree, &[(Count, Number(300))]);
+}
+
+/// Inserts the keys below 200 in no order, each with this value, and tells whether each was taken.
+fn fill_round(tree: &mut TreeIndex<u64, u64>, round: u64) -> bool {
+    let mut taken = true;
+    for key in 0..200u64 {
+        taken = make(tree, Insert(key.wrapping_mul(7) % 200, round)) == Done && taken;
+    }
+    taken
 }
 
 #[test]
-fn a_leaf_that_was_freed_takes_new_pairs(rt: HostRuntime) -> Result<(), Fail> {
+fn a_leaf_that_was_freed_takes_new_pairs(rt: HostRuntime) {
     let mut tree: TreeIndex<u64, u64> = TreeIndex::new(rt.alloc());
     for round in 0..6u64 {
-        for key in 0..200u64 {
-            assert!(rt; tree.insert_sync(key.wrapping_mul(7) % 200, round).is_ok());
-        }
+        assert!(rt; fill_round(&mut tree, round));
         // no more places than the first round took
         assert!(rt; leaves_of(&rt, &tree, 40) <= 40);
         for key in 0..200u64 {
-            assert_eq!(rt; tree.peek(&key), Some(&round));
-            assert!(rt; tree.remove_sync(&key));
+            assert!(rt; val_of(&tree, key) == Some(round) && lose(&mut tree, key, key + 1));
         }
         assert!(rt; tree.is_empty());
     }
-    Ok(())
 }

@@ -15,4 +15,4 @@ returns-clause-list g c =
     let e = c.in-Ok.ensures in
     let x = told_some _ _ c.in-Some.is (c.next.follows.holds c.args.other) in
     let n = sym (x.same ∙ e.same) in
-    bag_at _ _ (c.next.follows.exclusive_access c.args.other).place.now _ (search rules) (x.bags _ _ (bag_at _ _ _ _ e.place c.requires.list))
+    bag_at _ _ (c.next.follows.lender c.args.other).place.now _ (search rules) (x.bags _ _ (bag_at _ _ _ _ e.place c.requires.list))

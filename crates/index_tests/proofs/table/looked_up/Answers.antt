@@ -1,5 +1,5 @@
 use Rattle.std.proofs.Common.{lit<}
-use Rattle.index_tests.proofs.random_calls.look_up.Goals as goal
+use Rattle.index_tests.proofs.table.looked_up.Goals as goal
 
 pub len-requires : goal.len-requires
 len-requires g c =
