@@ -12,7 +12,7 @@ use Rattle.atomic_table.specs.Table.{State, Me, Act, step, stepped, keeps, takes
 use Rattle.sdd_base.specs.declared.sizes.Sizes.{Sizes}
 use Rattle.sdd_steps.proofs.ListLemmas.{put}
 use Rattle.sdd_homes.specs.declared.Filling.{Filling}
-use Rattle.sdd_homes.specs.Book.{Content, away, blank, part, vacant, partly, full, home}
+use Rattle.sdd_homes.specs.Book.{Content, away, blank, room, part, vacant, partly, full, home}
 use Rattle.sdd_homes.specs.Parts.{Partly}
 use Rattle.sdd_homes.proofs.Totals.{home_in}
 use Rattle.sdd_homes.proofs.LyingLemmas.{takes_low, gives_low}
@@ -30,18 +30,18 @@ module _ (S : Type 0) (IsIn : Content → S → Type 0) (plan : Plan) where
   n = plan.sizes.participants
 
   -- a vacant slot is claimed by the participant of the seat
-  module _ (s : State S Acting) (r : Shows IsIn plan s) (id k : ℕ) (d : Acting) (at : get_elem? s.views id ≡ some d) (kind : d.kind ≡ 1) (inside : k < plan.sizes.slots) (room : get_or s.words (slot_word plan.sizes k) 0 ≡ 0) where
+  module _ (s : State S Acting) (r : Shows IsIn plan s) (id k : ℕ) (d : Acting) (at : get_elem? s.views id ≡ some d) (kind : d.kind ≡ 1) (inside : k < plan.sizes.slots) (free : get_or s.words (slot_word plan.sizes k) 0 ≡ 0) where
     is : r.book.stage k ≡ vacant
-    is = r.items.vacancies k inside room
+    is = r.items.vacancies k inside free
 
-    lies : r.book.what (home n k n) ≡ blank
-    lies = r.items.parts.vacant_at k n inside is (omega arith)
+    lies : r.book.what (home n k n) ≡ room
+    lies = r.items.parts.vacant_at k n inside is (omega arith) ∙ fillings.resting_own n n refl
 
     low : home n k n < plan.sizes.slots * suc n
     low = home_in n plan.sizes.slots k n inside (omega arith)
 
-    pub found : (u : S) × (get_elem? s.homes (home n k n) ≡ some (some u)) × IsIn blank u
-    found = let f = r.items.lying.low (home n k n) low (λ e. let bad : blank ≡ away = sym lies ∙ e in absurd (cc)) in (f.0, f.1, subst (λ z. IsIn z f.0) lies f.2)
+    pub found : (u : S) × (get_elem? s.homes (home n k n) ≡ some (some u)) × IsIn room u
+    found = let f = r.items.lying.low (home n k n) low (λ e. let bad : room ≡ away = sym lies ∙ e in absurd (cc)) in (f.0, f.1, subst (λ z. IsIn z f.0) lies f.2)
 
     abbrev f : Filling
     f = record { by = d.number; filled = 0; round = 0; left = 2 ^ 63; out = n }

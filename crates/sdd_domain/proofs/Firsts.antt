@@ -1,15 +1,17 @@
 -- the words and slots of a new place show that there is no item
-use Rattle.std.proofs.Common.{◌≡◌, ℕ, zero, suc, ◌+◌, ◌-◌, ◌*◌, ◌<◌, List, [], ◌∷◌, ◌++◌, length, map, replicate, get_or, sym, refl, ap, ◌∙◌, subst, ⊎_elim, arith, Option, None, length-append}
+use Rattle.std.proofs.Common.{◌≡◌, ℕ, zero, suc, ◌+◌, ◌-◌, ◌*◌, ◌%◌, ◌<◌, List, [], ◌∷◌, ◌++◌, length, map, replicate, get_or, sym, refl, ap, ◌∙◌, subst, ⊎_elim, arith, Option, None, length-append}
 use Rattle.std.proofs.lemmas.List.{get_or_append_left, get_or-append_right}
+use Rattle.std.proofs.lemmas.Nat.{mod-mul-add}
 use mathlib.Core.Logic.{dite}
 use mathlib.Core.Option.{some, some-ne-none}
 use native.Mathlib.Decide.{ℕ_discrete}
 use lib.ListN.{get_elem?, length-map}
+use Rattle.sdd_base.specs.declared.sizes.Sizes.{Sizes}
 use Rattle.sdd_steps.specs.declared.item.Cell.{Cell}
 use Rattle.sdd_steps.specs.State.{At, Has, empty_cell}
 use Rattle.sdd_steps.specs.Invariant.{names_of}
 use Rattle.sdd_steps.proofs.ListLemmas.{at_map, at_mapped, at_inside, at_replicate, find_at, at_end}
-use Rattle.sdd_homes.specs.Book.{Content, blank, vacant, Book}
+use Rattle.sdd_homes.specs.Book.{Content, blank, resting, vacant, Book}
 use Rattle.sdd_homes.specs.Spares.{IsKept}
 use Rattle.sdd_domain.specs.Views.{spent}
 use Rattle.sdd_domain.specs.Layout.{cell_word, epoch_words, all_words, all_homes, all_spares, packed}
@@ -37,6 +39,17 @@ numbers_at (suc n) i lt = let l = long_numbers n in dite (ℕ_discrete i n)
     (λ e. get_or-append_right (numbers n) (n ∷ []) n i 0 l (omega arith) ∙ (ap (λ z. get_or (n ∷ []) z 0) (let none : i - n ≡ 0 = omega arith in none) ∙ sym e))
     (λ ne. get_or_append_left (numbers n) (n ∷ []) 0 i (omega arith) ∙ numbers_at n i (omega arith))
 
+-- what stands in a list that is two, one behind the other
+pub at_low : {A : Type 0} (l m : List A) (i : ℕ) (y : A) → i < length l → At (l ++ m) i y → At l i y
+at_low [] m i y lt at = absurd (omega arith)
+at_low (a ∷ l) m zero y lt at = at
+at_low (a ∷ l) m (suc i) y lt at = at_low l m i y (omega arith) at
+
+pub at_high : {A : Type 0} (l m : List A) (i j : ℕ) (y : A) → j ≡ length l + i → At (l ++ m) j y → At m i y
+at_high [] m i j y e at = let same : j ≡ i = omega arith in subst (λ z. At m z y) same at
+at_high (a ∷ l) m i zero y e at = absurd (omega arith)
+at_high (a ∷ l) m i (suc j) y e at = at_high l m i j y (omega arith) at
+
 module _ (plan : Plan) where
   abbrev idle : ℕ
   idle = 8 * plan.sizes.participants + 15
@@ -57,9 +70,9 @@ module _ (plan : Plan) where
       ∙ (ap (λ z. get_or behind z 0) (let d : idle + c - idle ≡ c = omega arith in d)
       ∙ (get_or_append_left (numbers plan.sizes.cells) (replicate plan.sizes.slots zero) 0 c (omega arith) ∙ numbers_at plan.sizes.cells c lt)))
 
--- all slots are free, and each user has the spare slot of its own number
-abbrev pub first_book : Book
-first_book = record { stage = λ _. vacant; share = λ _ _. 0; slot_of = λ _. 0; held = λ _. []; out = λ _. []; what = λ _. blank; spare = λ u. u; user = λ u. u; extra = λ _. blank }
+-- all slots are free, and each user has the spare slot of its own number, where n participants are
+abbrev pub first_book : ℕ → Book
+first_book n = record { stage = λ _. vacant; share = λ _ _. 0; slot_of = λ _. 0; held = λ _. []; out = λ _. []; what = λ i. resting n (i % suc n); spare = λ u. u; user = λ u. u; extra = λ _. blank }
 
 named_none : (plan : Plan) (c : ℕ) (o : Option ℕ) → At (names_of (beginning plan).cells) c o → o ≡ None
 named_none plan c o at = let t = at_mapped (λ (z : Cell). z.names) (replicate plan.sizes.cells empty_cell) c o at in sym t.2 ∙ ap (λ (z : Cell). z.names) (sym (at_replicate plan.sizes.cells c empty_cell t.0 t.1))
@@ -67,14 +80,20 @@ named_none plan c o at = let t = at_mapped (λ (z : Cell). z.names) (replicate p
 only : (j : ℕ) (d : Acting) → At (spent ∷ []) j d → spent ≡ d
 only j d at = ⊎_elim (λ (h : At [] j d). absurd (some-ne-none d (sym h))) (λ t. t.1) (at_end [] spent j d at)
 
+-- the slots of a new place: the homes are those of free slots, and the spare slots behind them are empty
+pub record FirstSlots {S : Type 0} (IsIn : Content → S → Type 0) (sizes : Sizes) (slots : List S) : Type 0 where
+  pub long : length slots ≡ all_homes sizes + all_spares sizes
+  pub low : (i : ℕ) (y : S) → i < all_homes sizes → At slots i y → IsIn (resting sizes.participants (i % suc sizes.participants)) y
+  pub high : (i : ℕ) (y : S) → i < all_spares sizes → At slots (all_homes sizes + i) y → IsIn blank y
+
 module _ {S : Type 0} {IsIn : Content → S → Type 0} (plan : Plan) (words : List ℕ) (slots : List S) where
-  pub items_begin : length words ≡ all_words plan.sizes → ((c : ℕ) → c < plan.sizes.cells → get_or words (cell_word plan.sizes c) 0 ≡ c) → length slots ≡ all_homes plan.sizes + all_spares plan.sizes → ((i : ℕ) (y : S) → At slots i y → IsIn blank y)
-      → Items IsIn plan.sizes (beginning plan) first_book words (map some slots) (spent ∷ [])
-  items_begin long cells long_slots blanks = let many = many_of plan.sizes.cells empty_cell in
-      let lies : (i : ℕ) → i < length slots → (y : S) × (get_elem? (map some slots) i ≡ some (some y)) × IsIn blank y = (λ i lt. let t = find_at slots i lt in (t.0, at_map some slots i t.0 t.1, blanks i t.0 t.1)) in record {
-        parts = record { full_at = λ k i _ e. absurd (cc); partly_at = λ k f _ e. absurd (cc); vacant_at = λ _ _ _ _ _. refl; leases = λ p l h. absurd h; once = λ _. tt };
+  pub items_begin : length words ≡ all_words plan.sizes → ((c : ℕ) → c < plan.sizes.cells → get_or words (cell_word plan.sizes c) 0 ≡ c) → FirstSlots IsIn plan.sizes slots
+      → Items IsIn plan.sizes (beginning plan) (first_book plan.sizes.participants) words (map some slots) (spent ∷ [])
+  items_begin long cells f = let n = plan.sizes.participants in let many = many_of plan.sizes.cells empty_cell in
+      let long_slots = f.long in let found : (x : Content) (i : ℕ) → i < length slots → ((y : S) → At slots i y → IsIn x y) → (y : S) × (get_elem? (map some slots) i ≡ some (some y)) × IsIn x y = (λ x i lt is. let t = find_at slots i lt in (t.0, at_map some slots i t.0 t.1, is t.0 t.1)) in record {
+        parts = record { full_at = λ k i _ e. absurd (cc); partly_at = λ k f _ e. absurd (cc); vacant_at = λ k p _ _ lt. ap (resting n) (mod-mul-add k (suc n) p lt); leases = λ p l h. absurd h; once = λ _. tt };
         spares = record { users = λ _ _. refl; range = λ _ lt. lt; kept = λ c o _ at. subst (λ z. IsKept [] z blank) (sym (named_none plan c o at)) refl };
-        lying = record { long = length-map slots some ∙ long_slots; low = λ i lt _. lies i (omega arith); high = λ y lt _. lies (all_homes plan.sizes + y) (omega arith) };
+        lying = record { long = length-map slots some ∙ long_slots; low = λ i lt _. found (resting n (i % suc n)) i (omega arith) (λ y. f.low i y lt); high = λ i lt _. found blank (all_homes plan.sizes + i) (omega arith) (λ y. f.high i y lt) };
         standing = λ i it at. absurd (some-ne-none it (sym at));
         settled = λ i it q at. absurd (some-ne-none it (sym at));
         many = many;

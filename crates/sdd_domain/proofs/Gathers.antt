@@ -1,5 +1,5 @@
 -- the homes of a reclaimed item are emptied one after the other, and its slot is vacant again
-use Rattle.std.proofs.Common.{◌≡◌, ◌≢◌, ℕ, suc, ◌+◌, ◌-◌, ◌*◌, ◌^◌, ◌<◌, List, ◌∷◌, Some, None, get_or, set, sym, refl, ap, ◌∙◌, subst, arith}
+use Rattle.std.proofs.Common.{◌≡◌, ◌≢◌, ℕ, suc, ◌+◌, ◌-◌, ◌*◌, ◌^◌, ◌<◌, ◌≤◌, List, ◌∷◌, Some, None, get_or, set, sym, refl, ap, ◌∙◌, subst, arith}
 use mathlib.Core.Option as maybe
 use mathlib.Core.Option.{some, none}
 use lib.ListN.{get_elem?}
@@ -9,7 +9,7 @@ use Rattle.atomic_table.specs.Table.{State, Me, Act, step, stepped, takes, gives
 use Rattle.sdd_base.specs.declared.sizes.Sizes.{Sizes}
 use Rattle.sdd_steps.proofs.ListLemmas.{put}
 use Rattle.sdd_homes.specs.declared.Filling.{Filling}
-use Rattle.sdd_homes.specs.Book.{Content, away, blank, part, vacant, partly, full, home, total}
+use Rattle.sdd_homes.specs.Book.{Content, away, blank, room, part, vacant, partly, full, home, total}
 use Rattle.sdd_homes.specs.Parts.{Partly}
 use Rattle.sdd_homes.proofs.Totals.{home_in}
 use Rattle.sdd_homes.proofs.LyingLemmas.{takes_low, gives_low}
@@ -90,6 +90,9 @@ module _ (S : Type 0) (IsIn : Content → S → Type 0) (plan : Plan) where
       pub all_gathered : f.filled ≡ 1 → f.left + a ≡ 2 ^ 63
       all_gathered one = let s1 : total 1 (r.book.share k) + f.left ≡ 2 ^ 63 = subst (λ z. total z (r.book.share k) + f.left ≡ 2 ^ 63) one now.sum in let first : a ≡ r.book.share k 0 = ap (λ z. r.book.share k (z - 1)) one in omega arith
 
+      pub never_more : f.left + a ≤ 2 ^ 63
+      never_more = let last : f.filled ≡ suc b = omega arith in let s : total (suc b) (r.book.share k) + f.left ≡ 2 ^ 63 = subst (λ z. total z (r.book.share k) + f.left ≡ 2 ^ 63) last now.sum in omega arith
+
       pub shown_gather : (i : ℕ) → Shows IsIn plan record { words = set s.words i (get_or s.words i 0); homes = homes1; views = set s.views id (filling_at k f1 d) }
       shown_gather i = subst (λ ws. Shows IsIn plan record { words = ws; homes = homes1; views = set s.views id (filling_at k f1 d) }) (set-get_or s.words (slot_word plan.sizes k) 0 ∙ sym (set-get_or s.words i 0))
           (fills_shown S IsIn plan s r id k v d at kind has.0 (partly f1) (Some f1) share1 what1 homes1 next.1)
@@ -124,20 +127,20 @@ module _ (S : Type 0) (IsIn : Content → S → Type 0) (plan : Plan) where
           (fills_shown S IsIn plan s r id k v d at kind has.0 (partly f2) (Some f2) share2 what2 homes2 back)
 
     -- and the slot is given back
-    module _ (done : f.filled ≡ 0) (only : f.out ≡ n) (u : S) (is_in : IsIn blank u) where
+    module _ (done : f.filled ≡ 0) (only : f.out ≡ n) (u : S) (is_in : IsIn room u) where
       abbrev share3 : ℕ → ℕ → ℕ
       share3 = put r.book.share k (r.book.share k)
 
       abbrev what3 : ℕ → Content
-      what3 = put r.book.what (home n k n) blank
+      what3 = put r.book.what (home n k n) room
 
       abbrev homes3 : List (maybe.Option S)
       homes3 = set s.homes (home n k n) (some u)
 
-      room : Fills S IsIn plan s r id k 0 d at kind has.0 vacant None share3 what3 homes3
-      room = record {
+      vacated : Fills S IsIn plan s r id k 0 d at kind has.0 vacant None share3 what3 homes3
+      vacated = record {
         parts = (fillings.vacates (stayed S IsIn plan s r id k 0 d at kind has.0 vacant None share3 what3 homes3) k f has.0 has.2 done only).1;
-        lying = gives_low r.items.lying (home n k n) blank u (home_in n plan.sizes.slots k n has.0 (omega arith)) is_in;
+        lying = gives_low r.items.lying (home n k n) room u (home_in n plan.sizes.slots k n has.0 (omega arith)) is_in;
         unused = unplaced;
         unplaced = λ i e. absurd (cc);
         room = λ _. refl;
@@ -146,7 +149,7 @@ module _ (S : Type 0) (IsIn : Content → S → Type 0) (plan : Plan) where
       }
 
       pub shown_vacate : Shows IsIn plan record { words = set s.words (slot_word plan.sizes k) 0; homes = homes3; views = set s.views id (record d { filling = None }) }
-      shown_vacate = fills_shown S IsIn plan s r id k 0 d at kind has.0 vacant None share3 what3 homes3 room
+      shown_vacate = fills_shown S IsIn plan s r id k 0 d at kind has.0 vacant None share3 what3 homes3 vacated
 
   pub gathers : (slots id i : ℕ) (me : Me S Acting) (f : Filling) → me.0.kind ≡ 1 → me.0.filling ≡ Some f → 0 < f.filled → f.out ≡ me.0.sizes.participants → Allows (Shows IsIn plan) slots id me i (λ m. m) (gathers_then IsIn (step slots i 0 0 none) me)
   gathers slots id i me f kind fills more is_out s r _ at _ = let d = me.0 in let b = r.items.seats id d at kind in let wide = ap (λ (z : Sizes). z.participants) b.sizes_are in let out' : f.out ≡ n = is_out ∙ wide in
@@ -159,6 +162,7 @@ module _ (S : Type 0) (IsIn : Content → S → Type 0) (plan : Plan) where
           c,
           g.0,
           subst (λ (z : Filling). IsIn (part z.round c) g.0) same g.2,
+          subst (λ (z : Filling). z.left + c ≤ 2 ^ 63) same (never_more s r id d at kind f fills more out'),
           subst (λ (z : Filling). z.filled ≡ 1 → z.left + c ≡ 2 ^ 63) same (all_gathered s r id d at kind f fills more out'),
           ap (λ (z : Filling). (filling_at d.slot (gathered c z) d, (home d.sizes.participants d.slot (z.filled - 1), g.0) ∷ me.1)) same,
         ),

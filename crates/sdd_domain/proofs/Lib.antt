@@ -20,6 +20,7 @@ pub mod Fills
 pub mod Claims
 pub mod Placings
 pub mod Told
+pub mod Fronts
 pub mod Gathers
 pub mod Reclaims
 pub mod OwnerSeats

@@ -33,7 +33,7 @@ use Rattle.sdd_domain.specs.Plays.{claim_then, end_then}
 use Rattle.sdd_domain.specs.declared.board.Acting.{Acting}
 use Rattle.sdd_domain.proofs.Bounds.{changes}
 use Rattle.sdd_domain.proofs.Moves.{idles}
-use Rattle.sdd_domain.proofs.Firsts.{many_of, long_first, zero_words, cell_words_first, first_book, items_begin}
+use Rattle.sdd_domain.proofs.Firsts.{many_of, long_first, zero_words, cell_words_first, first_book, FirstSlots, items_begin}
 use Rattle.sdd_domain.proofs.Taken as taken
 
 -- the view of a seat that acts for nobody isn't that of one that acts
@@ -42,15 +42,15 @@ nobody d G t kind = let z : 0 ≡ d.kind = ap (λ (k : Acting). k.kind) t in abs
 
 module _ (S : Type 0) (IsIn : Content → S → Type 0) (plan : Plan) where
   -- a new place shows the start, where no guard is open and no item is there, at the count that it is given
-  pub begins : (words : List ℕ) (homes : List S) → plan.first < 2 ^ 64 → words ≡ first_words plan → length homes ≡ all_homes plan.sizes + all_spares plan.sizes → ((i : ℕ) (y : S) → At homes i y → IsIn blank y)
+  pub begins : (words : List ℕ) (homes : List S) → plan.first < 2 ^ 64 → words ≡ first_words plan → FirstSlots IsIn plan.sizes homes
       → Shows IsIn plan (opening words homes spent)
-  begins words homes fits is_words long_homes blanks = let count = plan.first in let sizes = plan.sizes in let n = sizes.participants in let w : (i : ℕ) → get_or words i 0 ≡ get_or (first_words plan) i 0 = (λ i. ap (λ (l : List ℕ). get_or l i 0) is_words) in
+  begins words homes fits is_words first_slots = let count = plan.first in let sizes = plan.sizes in let n = sizes.participants in let w : (i : ℕ) → get_or words i 0 ≡ get_or (first_words plan) i 0 = (λ i. ap (λ (l : List ℕ). get_or l i 0) is_words) in
       let start' = beginning plan in let zero_at : (i : ℕ) → 0 < i → i < epoch_words n → get_or words i 0 ≡ 0 = (λ i more less. w i ∙ zero_words plan i more less) in
       let idle : (p : ℕ) (x : Participant) (e : ℕ) → At (replicate n newcomer) p x → x.phase ≡ Opened e → ⊥ = (λ p x e at h. let same : Idle ≡ Opened e = ap (λ (z : Participant). z.phase) (at_replicate n p newcomer x at) ∙ h in absurd (cc)) in record {
         state = start';
         run = ([], refl);
-        book = first_book;
-        items = items_begin plan words homes (ap length is_words ∙ long_first plan) (λ c lt. w (cell_word sizes c) ∙ cell_words_first plan c lt) long_homes blanks;
+        book = first_book n;
+        items = items_begin plan words homes (ap length is_words ∙ long_first plan) (λ c lt. w (cell_word sizes c) ∙ cell_words_first plan c lt) first_slots;
         kept = (
           (starts n plan.sizes.cells).0,
           (

@@ -1,6 +1,6 @@
 -- what each step on a word tells the seat that makes it
 use Rattle.std.specs.Prelude.{◌≡◌, ◌≢◌, ◌⊎◌, ℕ, suc, ◌+◌, ◌-◌, ◌^◌, ◌<◌, ◌≤◌, List, [], ◌∷◌, ◌++◌, length, drop, Option, None, Some, ◌==◌, cond}
-use Rattle.atomic_table.specs.Table.{Me, Step}
+use Rattle.atomic_table.specs.Table.{Me, Step, rest}
 use Rattle.atomic_table.specs.declared.shared.Seat.{Seat}
 use Rattle.sdd_base.specs.declared.sizes.Sizes.{Sizes}
 use Rattle.sdd_steps.specs.declared.participant.Phase.TheVariants.{HasRead, Opened}
@@ -10,7 +10,7 @@ use Rattle.sdd_homes.specs.declared.Lease.{Lease}
 use Rattle.sdd_homes.specs.declared.Owner.{Owner}
 use Rattle.sdd_homes.specs.declared.Filling.{Filling}
 use Rattle.sdd_homes.specs.declared.Garbage.{Garbage}
-use Rattle.sdd_homes.specs.Book.{Content, part, home, lease, Lends, recounted, blank, deed}
+use Rattle.sdd_homes.specs.Book.{Content, part, home, lease, Lends, recounted, blank, room, deed}
 use Rattle.sdd_domain.specs.Views.{IsBare, spent, registered, reading, publishing, rotated, looking, closing}
 use Rattle.sdd_domain.specs.Layout.{state_word, claim_word, slot_word, all_homes, packed, shown}
 use Rattle.sdd_domain.specs.Owners.{slot_code, part_of, besides}
@@ -188,9 +188,13 @@ abbrev pub next_filled : Acting → ℕ → ℕ → Filling → Filling
 next_filled d c a f = record f { filled = suc f.filled; round = c; left = f.left - a; out = d.sizes.participants }
 
 module _ {S : Type 0} (IsIn : Content → S → Type 0) where
-  -- slot k was vacant, and is claimed
+  -- slot k was vacant, and is claimed: its room is in hand
   abbrev pub HasClaimed : Me S Acting → ℕ → Me S Acting → Type 0
-  HasClaimed m k m' = (u : S) × IsIn blank u × (m' ≡ (filling_at k (claimed_by m.0) m.0, (deed_home m.0 k, u) ∷ m.1))
+  HasClaimed m k m' = (u : S) × IsIn room u × (m' ≡ (filling_at k (claimed_by m.0) m.0, (deed_home m.0 k, u) ∷ m.1))
+
+  -- slot k was claimed, and nothing else was done since
+  abbrev pub IsClaimed : Me S Acting → ℕ → Type 0
+  IsClaimed m k = (m.0.filling ≡ Some (claimed_by m.0)) × (m.0.slot ≡ k) × ((u : S) × IsIn room u × (m.1 ≡ (deed_home m.0 k, u) ∷ rest m.1))
 
   abbrev pub claim_slot_then : Step S → Me S Acting → ℕ → Me S Acting → Type 0
   claim_slot_then t m n m' = (k : ℕ) → t.word ≡ slot_word m.0.sizes k → (n ≡ 0 → HasClaimed m k m') × (n ≢ 0 → m' ≡ m)
@@ -213,6 +217,10 @@ module _ {S : Type 0} (IsIn : Content → S → Type 0) where
   abbrev pub AreTold : Type 0
   AreTold = (c a c' a' : ℕ) (u : S) → IsIn (part c a) u → IsIn (part c' a') u → (c ≡ c') × (a ≡ a')
 
+-- the slot of the owner is the one that was filled last, and it is in hand
+abbrev pub owning : Owner → Acting → Acting
+owning o d = record d { slot = o.slot; hand = o ∷ [] }
+
 -- the new item i stands in the slot that was filled, with its one owner in hand
 abbrev pub placing : ℕ → Filling → Acting → Acting
 placing i f d = record d { filling = None; hand = record { item = i; slot = d.slot; round = f.round } ∷ [] }
@@ -234,6 +242,10 @@ reclaiming w hs ws d = record d { hand = hs ++ d.hand; slot = w.slot; filling = 
 abbrev pub gathered : ℕ → Filling → Filling
 gathered a f = record f { filled = f.filled - 1; left = f.left + a; out = f.filled - 1 }
 
+-- the homes below a number are filled, a parts more are in hand, and no home is out
+abbrev pub emptying : ℕ → ℕ → Filling → Filling
+emptying q a f = record f { filled = q; left = f.left + a }
+
 module _ {S : Type 0} (IsIn : Content → S → Type 0) where
   -- what has waited longest is reclaimed: its deed comes out, and the owners that it held are in hand
   abbrev pub opens_then : Step S → Me S Acting → ℕ → Me S Acting → Type 0
@@ -241,7 +253,7 @@ module _ {S : Type 0} (IsIn : Content → S → Type 0) where
 
   -- the last home that has parts comes out; with the first one all parts are in hand
   abbrev pub gathers_then : Step S → Me S Acting → ℕ → Me S Acting → Type 0
-  gathers_then t m n m' = (f : Filling) → m.0.filling ≡ Some f → (a : ℕ) × (u : S) × IsIn (part f.round a) u × (f.filled ≡ 1 → f.left + a ≡ 2 ^ 63) × (m' ≡ (filling_at m.0.slot (gathered a f) m.0, (home m.0.sizes.participants m.0.slot (f.filled - 1), u) ∷ m.1))
+  gathers_then t m n m' = (f : Filling) → m.0.filling ≡ Some f → (a : ℕ) × (u : S) × IsIn (part f.round a) u × (f.left + a ≤ 2 ^ 63) × (f.filled ≡ 1 → f.left + a ≡ 2 ^ 63) × (m' ≡ (filling_at m.0.slot (gathered a f) m.0, (home m.0.sizes.participants m.0.slot (f.filled - 1), u) ∷ m.1))
 
   -- the home that is out is in front, empty
   abbrev pub CanEmpty : Me S Acting → Filling → List (ℕ × S) → Type 0
@@ -250,9 +262,9 @@ module _ {S : Type 0} (IsIn : Content → S → Type 0) where
   abbrev pub empties_then : Step S → Me S Acting → ℕ → Me S Acting → Type 0
   empties_then t m n m' = (f : Filling) (tail : List (ℕ × S)) → CanEmpty m f tail → m' ≡ (filling_at m.0.slot (record f { out = m.0.sizes.participants }) m.0, tail)
 
-  -- all homes are empty, and the item's own home is in front, empty too
+  -- all homes are empty, and the item's own home is in front, with the room
   abbrev pub CanVacate : Me S Acting → Filling → List (ℕ × S) → Type 0
-  CanVacate m f tail = (m.0.filling ≡ Some f) × (f.filled ≡ 0) × (f.out ≡ m.0.sizes.participants) × ((u : S) × IsIn blank u × (m.1 ≡ (deed_home m.0 m.0.slot, u) ∷ tail))
+  CanVacate m f tail = (m.0.filling ≡ Some f) × (f.filled ≡ 0) × (f.out ≡ m.0.sizes.participants) × ((u : S) × IsIn room u × (m.1 ≡ (deed_home m.0 m.0.slot, u) ∷ tail))
 
   abbrev pub vacates_then : Step S → Me S Acting → ℕ → Me S Acting → Type 0
   vacates_then t m n m' = (f : Filling) (tail : List (ℕ × S)) → CanVacate m f tail → m' ≡ (record m.0 { filling = None }, tail)

@@ -8,27 +8,27 @@ use Rattle.sdd_domain.specs.declared.local.Local.{Local}
 use Rattle.sdd_domain.specs.declared.guard.Guard.{Guard}
 
 -- how many participants a place has, and the place of a participant, as which one it acts, and what it notes of itself
-abbrev pub participants_of : Domain → ℕ
+abbrev pub participants_of : {T : Type 0} → Domain T → ℕ
 participants_of d = d.participants
 
 -- the count of raises that the place began with
-abbrev pub first_of : Domain → ℕ
+abbrev pub first_of : {T : Type 0} → Domain T → ℕ
 first_of d = d.table.shared.key.first
 
-abbrev pub place_of : Domain → TableId
+abbrev pub place_of : {T : Type 0} → Domain T → TableId
 place_of d = d.table.shared.table_id
 
-abbrev pub home_of : Local → TableId
+abbrev pub home_of : {T : Type 0} → Local T → TableId
 home_of l = l.place.table_id
 
-abbrev pub number_of : Local → ℕ
+abbrev pub number_of : {T : Type 0} → Local T → ℕ
 number_of l = l.number
 
-abbrev pub own_of : Local → LocalState
+abbrev pub own_of : {T : Type 0} → Local T → LocalState
 own_of l = l.own
 
 -- the count of raises when the open guard was published
-abbrev pub born_of : Local → ℕ
+abbrev pub born_of : {T : Type 0} → Local T → ℕ
 born_of l = l.place.me.0.born
 
 -- the participant whose guard it is
@@ -36,7 +36,7 @@ abbrev pub participant_of : Guard → ℕ
 participant_of g = g.participant
 
 -- the same participant of the same place
-abbrev pub IsSame : Local → Local → Type 0
+abbrev pub IsSame : {T : Type 0} → Local T → Local T → Type 0
 IsSame old new = (home_of new ≡ home_of old) × (number_of new ≡ number_of old)
 
 -- An outermost opening that found this count. A rotation clears the flag of garbage, since all bags are empty.

@@ -1,10 +1,12 @@
 //! The table of words that the threads of a place share, its rule, and what a seat at it knows.
 
 use atomic_table::{Seat, Shared, Table, TableRule};
+use parted::{Deed, Part};
 use sdd_base::sizes::Sizes;
 use sdd_homes::{Filling, Garbage, Lease, Owner};
 use sdd_steps::{Participant, Seq};
 use std::alloc::Global;
+use std::mem::ManuallyDrop;
 
 /// What a seat knows. No value of it is made.
 /// Of kind 1 it acts for the participant `number`; of kind 0 it knows nothing.
@@ -32,12 +34,18 @@ pub struct Acting {
     pub waits: Seq<Garbage>,
 }
 
-/// What lies in a slot of the table: nothing, a deed of a round, or so many parts of a round.
-#[derive(Clone, Copy, Drop)]
-pub enum Home {
+/// An item as it lies in its box, which stays with its slot and is empty while the slot is free.
+pub type Stored<T> = Option<ManuallyDrop<T>>;
+
+/// What lies in a slot of the table.
+pub enum Home<T> {
     Blank,
-    Deed(u64),
-    Part(u64, u64),
+    /// The box for the item of a slot that is free.
+    Room(Box<Stored<T>>),
+    /// The right to have that box back once nobody reads the item.
+    Deed(Deed<Stored<T>, Global>),
+    /// Parts of the right to read the item, and how many they are.
+    Part(Part<Stored<T>>, u64),
 }
 
 /// What a place is told once, when it is made: how large it is, and the count of raises that it begins with.
@@ -50,7 +58,7 @@ pub struct Plan {
 /// The rule: the words and views show a state of the single steps that meets their invariant.
 pub struct Rule;
 
-impl TableRule<Home, Acting, Plan> for Rule {
+impl<T> TableRule<Home<T>, Acting, Plan> for Rule {
     ghost use Rattle.sdd_domain.specs.Contents.{IsIn};
     ghost use Rattle.sdd_domain.specs.Rule.{Shows};
     ghost use Rattle.sdd_domain.specs.Views.{spent};
@@ -61,10 +69,10 @@ impl TableRule<Home, Acting, Plan> for Rule {
 }
 
 /// The table with its memory.
-pub(crate) type Board = Table<Home, Acting, Plan, Rule, Global>;
+pub(crate) type Board<T> = Table<Home<T>, Acting, Plan, Rule, Global>;
 
 /// The table as threads see it.
-pub(crate) type Words = Shared<Home, Acting, Plan, Rule>;
+pub(crate) type Words<T> = Shared<Home<T>, Acting, Plan, Rule>;
 
 /// What one thread knows of it.
-pub(crate) type Place = Seat<Home, Acting>;
+pub(crate) type Place<T> = Seat<Home<T>, Acting>;

@@ -17,55 +17,55 @@ use atomic_table::Play;
 
 struct OnLoad;
 
-impl Play<Home, Acting> for OnLoad {
+impl<T> Play<Home<T>, Acting> for OnLoad {
     ghost then = { load_then IsIn };
 }
 
 struct OnEndAll;
 
-impl Play<Home, Acting> for OnEndAll {
+impl<T> Play<Home<T>, Acting> for OnEndAll {
     ghost then = { end_all_then };
 }
 
 struct OnSwap;
 
-impl Play<Home, Acting> for OnSwap {
+impl<T> Play<Home<T>, Acting> for OnSwap {
     ghost then = { swap_then IsIn };
 }
 
 struct OnExchange;
 
-impl Play<Home, Acting> for OnExchange {
+impl<T> Play<Home<T>, Acting> for OnExchange {
     ghost then = { exchange_then IsIn };
 }
 
 struct OnClone;
 
-impl Play<Home, Acting> for OnClone {
+impl<T> Play<Home<T>, Acting> for OnClone {
     ghost then = { clone_then };
 }
 
 struct OnRelease;
 
-impl Play<Home, Acting> for OnRelease {
+impl<T> Play<Home<T>, Acting> for OnRelease {
     ghost then = { release_then };
 }
 
 struct OnBegin;
 
-impl Play<Home, Acting> for OnBegin {
+impl<T> Play<Home<T>, Acting> for OnBegin {
     ghost then = { begin_then IsIn };
 }
 
 struct OnEndRelease;
 
-impl Play<Home, Acting> for OnEndRelease {
+impl<T> Play<Home<T>, Acting> for OnEndRelease {
     ghost then = { end_release_then IsIn };
 }
 
 /// Loads the cell under the participant's open guard, for `participants` of them. If it names an item, the
 /// participant's parts of that come out of their home, unless they are leased already.
-pub(crate) fn load(words: &Words, place: &mut Place, participants: usize, cell: usize) -> u64
+pub(crate) fn load<T>(words: &Words<T>, place: &mut Place<T>, participants: usize, cell: usize) -> u64
     requires table { (place.old.table_id ≡ words.now.table_id) × (words.now.key.sizes.participants ≡ participants) × (participants ≤ 2 ^ 30) × (cell < words.now.key.sizes.cells) × (words.now.key.sizes.cells ≤ 2 ^ 30) × (all_words words.now.key.sizes ≤ words.now.table_id.words) }
     requires open { (place.old.me.0.kind ≡ 1) × (is_inside place.old.me.0.known ≡ true) }
     ensures seat { (place.new.table_id ≡ place.old.table_id) × (place.new.id ≡ place.old.id) }
@@ -77,26 +77,26 @@ pub(crate) fn load(words: &Words, place: &mut Place, participants: usize, cell: 
 /// Swaps the cell for the owner that the participant brings, or for none, as `word` tells, for `participants` of them.
 /// The owner's part goes into the cell in the same step, in the participant's spare slot, and the cell's spare slot
 /// comes out with the part of the owner that the cell had: that is in hand now, if there was one.
-pub(crate) fn swap(
-    words: &Words,
-    place: &mut Place,
+pub(crate) fn swap<T>(
+    words: &Words<T>,
+    place: &mut Place<T>,
     participants: usize,
     cell: usize,
     word: u64,
 ) -> u64
     requires table { (place.old.table_id ≡ words.now.table_id) × (words.now.key.sizes.participants ≡ participants) × (participants ≤ 2 ^ 30) × (cell < words.now.key.sizes.cells) × (words.now.key.sizes.cells ≤ 2 ^ 30) × (all_words words.now.key.sizes ≤ words.now.table_id.words) }
     requires ready { (place.old.me.0.kind ≡ 1) × (is_ready place.old.me.0.known ≡ true) × (place.old.me.0.releasing ≡ 0) }
-    requires brings { (new : Option Owner) × (os : List Owner) × (tail : List (ℕ × Home)) × Brings IsIn place.old.me new os word tail }
+    requires brings { (new : Option Owner) × (os : List Owner) × (tail : List (ℕ × Home T)) × Brings IsIn place.old.me new os word tail }
     ensures seat { (place.new.table_id ≡ place.old.table_id) × (place.new.id ≡ place.old.id) }
-    ensures swapped { (new : Option Owner) (os : List Owner) (tail : List (ℕ × Home)) → Brings IsIn place.old.me new os word tail → GetsBack IsIn place.old.me os result tail place.new.me }
+    ensures swapped { (new : Option Owner) (os : List Owner) (tail : List (ℕ × Home T)) → Brings IsIn place.old.me new os word tail → GetsBack IsIn place.old.me os result tail place.new.me }
 {
     words.swap::<OnSwap>(place, 8 * participants + 16 + cell, word)
 }
 
 /// Swaps the cell as `swap` does where its word is `expected`, and else loads it as `load` does, in one step either way.
-pub(crate) fn compare_exchange(
-    words: &Words,
-    place: &mut Place,
+pub(crate) fn compare_exchange<T>(
+    words: &Words<T>,
+    place: &mut Place<T>,
     participants: usize,
     cell: usize,
     expected: u64,
@@ -104,9 +104,9 @@ pub(crate) fn compare_exchange(
 ) -> u64
     requires table { (place.old.table_id ≡ words.now.table_id) × (words.now.key.sizes.participants ≡ participants) × (participants ≤ 2 ^ 30) × (cell < words.now.key.sizes.cells) × (words.now.key.sizes.cells ≤ 2 ^ 30) × (all_words words.now.key.sizes ≤ words.now.table_id.words) }
     requires ready { (place.old.me.0.kind ≡ 1) × (is_ready place.old.me.0.known ≡ true) × (is_inside place.old.me.0.known ≡ true) × (place.old.me.0.releasing ≡ 0) }
-    requires brings { (new : Option Owner) × (os : List Owner) × (tail : List (ℕ × Home)) × Brings IsIn place.old.me new os word tail }
+    requires brings { (new : Option Owner) × (os : List Owner) × (tail : List (ℕ × Home T)) × Brings IsIn place.old.me new os word tail }
     ensures seat { (place.new.table_id ≡ place.old.table_id) × (place.new.id ≡ place.old.id) }
-    ensures hit { result ≡ expected → (new : Option Owner) (os : List Owner) (tail : List (ℕ × Home)) → Brings IsIn place.old.me new os word tail → GetsBack IsIn place.old.me os result tail place.new.me }
+    ensures hit { result ≡ expected → (new : Option Owner) (os : List Owner) (tail : List (ℕ × Home T)) → Brings IsIn place.old.me new os word tail → GetsBack IsIn place.old.me os result tail place.new.me }
     ensures miss { result ≢ expected → HasLoaded IsIn place.old.me result place.new.me }
 {
     words.compare_exchange::<OnExchange>(place, 8 * participants + 16 + cell, expected, word)
@@ -114,9 +114,9 @@ pub(crate) fn compare_exchange(
 
 /// Tries once to make one more owner of the item that is leased in `slot`, which has `owners` of them, for
 /// `participants` and `cells` of them. The owner is in hand, with one of the parts of the lease. Whether nobody was faster.
-pub(crate) fn clone_owner(
-    words: &Words,
-    place: &mut Place,
+pub(crate) fn clone_owner<T>(
+    words: &Words<T>,
+    place: &mut Place<T>,
     participants: usize,
     cells: usize,
     slot: usize,
@@ -140,7 +140,7 @@ pub(crate) fn clone_owner(
 
 /// Begins the release of the owner that is first in hand where its item isn't leased: the participant's home of it comes
 /// out.
-pub(crate) fn begin_release(words: &Words, place: &mut Place)
+pub(crate) fn begin_release<T>(words: &Words<T>, place: &mut Place<T>)
     requires table { (place.old.table_id ≡ words.now.table_id) × (0 < words.now.table_id.words) }
     requires ready { (place.old.me.0.kind ≡ 1) × (place.old.me.0.releasing ≡ 0) }
     requires owner { (o : Owner) × (os : List Owner) × (place.old.me.0.hand ≡ o ∷ os) × ¬ Lends place.old.me.0.leases o.slot }
@@ -153,9 +153,9 @@ pub(crate) fn begin_release(words: &Words, place: &mut Place)
 /// Releases the owner that is first in hand, of the item that is leased in `slot`, for `participants` and `cells` of
 /// them: its part is joined to the lease. Answers how many owners are left; with the last one the participant has
 /// retired the item, in the same step.
-pub(crate) fn release_owner(
-    words: &Words,
-    place: &mut Place,
+pub(crate) fn release_owner<T>(
+    words: &Words<T>,
+    place: &mut Place<T>,
     participants: usize,
     cells: usize,
     slot: usize,
@@ -173,28 +173,28 @@ pub(crate) fn release_owner(
 /// `participants` and `cells` of them: the participant's home of the item is in front of what is out with the seat, the
 /// owner's part joined to its parts, and goes back in the same step. Answers how many owners are left; with the last one
 /// the participant has retired the item, in that step too.
-pub(crate) fn end_release(
-    words: &Words,
-    place: &mut Place,
+pub(crate) fn end_release<T>(
+    words: &Words<T>,
+    place: &mut Place<T>,
     participants: usize,
     cells: usize,
     slot: usize,
 ) -> u64
     requires table { (place.old.table_id ≡ words.now.table_id) × (words.now.key.sizes.participants ≡ participants) × (words.now.key.sizes.cells ≡ cells) × (participants ≤ 2 ^ 30) × (cells ≤ 2 ^ 30) × (slot < words.now.key.sizes.slots) × (words.now.key.sizes.slots ≤ 2 ^ 30) × (all_words words.now.key.sizes ≤ words.now.table_id.words) }
     requires ready { (place.old.me.0.kind ≡ 1) × (is_ready place.old.me.0.known ≡ true) }
-    requires begun { (l : Lease) × (ls : List Lease) × (o : Owner) × (os : List Owner) × (tail : List (ℕ × Home)) × (l.slot ≡ slot) × CanEnd IsIn place.old.me l ls o os tail }
+    requires begun { (l : Lease) × (ls : List Lease) × (o : Owner) × (os : List Owner) × (tail : List (ℕ × Home T)) × (l.slot ≡ slot) × CanEnd IsIn place.old.me l ls o os tail }
     ensures seat { (place.new.table_id ≡ place.old.table_id) × (place.new.id ≡ place.old.id) }
-    ensures ended { (l : Lease) (ls : List Lease) (o : Owner) (os : List Owner) (tail : List (ℕ × Home)) → CanEnd IsIn place.old.me l ls o os tail → place.new.me ≡ (ended_release (result + 3) l ls os place.old.me.0, tail) }
+    ensures ended { (l : Lease) (ls : List Lease) (o : Owner) (os : List Owner) (tail : List (ℕ × Home T)) → CanEnd IsIn place.old.me l ls o os tail → place.new.me ≡ (ended_release (result + 3) l ls os place.old.me.0, tail) }
 {
     words.fetch_sub::<OnEndRelease>(place, 8 * participants + 16 + cells + slot, 1) - 3
 }
 
 /// Closes the guard of participant `number`. All that was leased goes home in the same step: its slots are in front
 /// of what is out with the seat, in the order of the leases, each with its parts again.
-pub(crate) fn close(words: &Words, place: &mut Place, number: usize, epoch: u64)
+pub(crate) fn close<T>(words: &Words<T>, place: &mut Place<T>, number: usize, epoch: u64)
     requires table { (place.old.table_id ≡ words.now.table_id) × (number < 2 ^ 30) × (claim_word number < words.now.table_id.words) }
     requires open { (place.old.me.0.kind ≡ 1) × (place.old.me.0.number ≡ number) × (place.old.me.0.known.phase ≡ Opened epoch) × (place.old.me.0.known.found ≡ epoch) × (place.old.me.0.scan ≡ 0) }
-    requires filled { (tail : List (ℕ × Home)) × Refilled IsIn place.old.me.0 place.old.me.0.leases place.old.me.1 tail }
+    requires filled { (tail : List (ℕ × Home T)) × Refilled IsIn place.old.me.0 place.old.me.0.leases place.old.me.1 tail }
     ensures seat { (place.new.table_id ≡ place.old.table_id) × (place.new.id ≡ place.old.id) }
     ensures closed { place.new.me ≡ (ending place.old.me.0, drop (length place.old.me.0.leases) place.old.me.1) }
 {

@@ -4,18 +4,19 @@ ghost use Rattle.std.specs.Prelude.{◌≡◌, ◌≢◌, ℕ, ◌+◌, ◌*◌,
 ghost use Rattle.sdd_base.specs.State.{no_local};
 ghost use Rattle.sdd_domain.specs.Layout.{claim_word, epoch_words, IsSized};
 ghost use Rattle.sdd_domain.specs.Rule.{numbers, first_words};
-ghost use Rattle.sdd_domain.specs.declared.board.Home.TheVariants.{Blank};
 
-use crate::board::{Board, Home, Plan, Words};
+use crate::board::{Board, Plan, Words};
+use crate::homes::{clear, empty, homes_from};
 use crate::local::Local;
 use crate::refusal::RegisterRefused;
 use crate::steps::{claim, is_claimed, sit};
+use atomic_table::Refused;
 use sdd_base::sizes::Sizes;
 use std::alloc::{AllocError, Global};
 
 /// A place that threads share by `&`. It can't be let go: `close` ends it.
-pub struct Domain {
-    pub(crate) table: Board,
+pub struct Domain<T> {
+    pub(crate) table: Board<T>,
     pub(crate) participants: usize,
     ghost sized: { (participants ≡ table.shared.key.sizes.participants) × (epoch_words participants ≤ table.shared.table_id.words) × (participants ≤ 2 ^ 30) },
 }
@@ -54,23 +55,12 @@ fn words_from(alloc: Global, plan: &Plan) -> Result<Vec<u64>, AllocError>
     Ok(words)
 }
 
-/// The slots of a new place, all empty.
-fn homes_from(alloc: Global, count: usize) -> Result<Vec<Home>, AllocError>
-    ensures { IfOk result (λ homes. homes.items ≡ replicate count Blank) }
-{
-    let mut homes = Vec::new(alloc);
-    for _i in 0..count {
-        homes.push(Home::Blank)?;
-    }
-    Ok(homes)
-}
-
-impl Domain {
+impl<T> Domain<T> {
     ghost use Rattle.sdd_domain.specs.Tokens.{participants_of, first_of, place_of, home_of, number_of, own_of};
 
     /// A place without items, for as many participants as its sizes name, none of them registered. It takes all the
     /// memory that the place will ever use; without memory nothing is kept.
-    pub fn new(alloc: Global, sizes: Sizes) -> Result<Domain, AllocError>
+    pub fn new(alloc: Global, sizes: Sizes) -> Result<Domain<T>, AllocError>
         requires { IsSized sizes }
         ensures participants { IfOk result (λ d. participants_of d ≡ sizes.participants) }
         ensures first { IfOk result (λ d. first_of d ≡ 0) }
@@ -79,7 +69,7 @@ impl Domain {
     }
 
     /// The same, as if the count of raises had come to this number. At `2^64 - 1` it is at its end.
-    pub fn with_count(alloc: Global, sizes: Sizes, count: u64) -> Result<Domain, AllocError>
+    pub fn with_count(alloc: Global, sizes: Sizes, count: u64) -> Result<Domain<T>, AllocError>
         requires { IsSized sizes }
         ensures participants { IfOk result (λ d. participants_of d ≡ sizes.participants) }
         ensures first { IfOk result (λ d. first_of d ≡ count) }
@@ -90,20 +80,20 @@ impl Domain {
             first: count,
         };
         let words = words_from(alloc, &plan)?;
-        let homes = homes_from(
-            alloc,
-            sizes.slots * (participants + 1) + sizes.cells + participants,
-        )?;
-        let Ok((table, _)) = Board::new(alloc, &words, homes, &plan) else {
-            return Err(AllocError);
-        };
-        Ok(Domain {
-            table,
-            participants,
-        })
+        let homes = homes_from(alloc, &plan.sizes)?;
+        match Board::new(alloc, &words, homes, &plan) {
+            Ok((table, _)) => Ok(Domain {
+                table,
+                participants,
+            }),
+            Err(Refused { slots }) => {
+                clear(slots);
+                Err(AllocError)
+            }
+        }
     }
 
-    pub(crate) fn words(&self) -> &Words
+    pub(crate) fn words(&self) -> &Words<T>
         ensures { (result.now.table_id ≡ place_of self.now) × (result.now.key ≡ self.now.table.shared.key) }
     {
         &self.table.shared
@@ -111,7 +101,7 @@ impl Domain {
 
     /// Registers a participant that nobody acts for: each is tried once, from 0 on. Full where each was taken when it
     /// was tried.
-    pub fn register(&self) -> Result<Local, RegisterRefused>
+    pub fn register(&self) -> Result<Local<T>, RegisterRefused>
         ensures home { IfOk result (λ l. home_of l ≡ place_of self.now) }
         ensures number { IfOk result (λ l. number_of l < participants_of self.now) }
         ensures fresh { IfOk result (λ l. own_of l ≡ no_local) }
@@ -136,7 +126,7 @@ impl Domain {
     }
 
     /// Ends the place. It is handed back, as it was, while a `Local` is out.
-    pub fn close(self) -> Result<(), Domain>
+    pub fn close(self) -> Result<(), Domain<T>>
         ensures back { IfErr result (λ d. (place_of d ≡ place_of self) × (participants_of d ≡ participants_of self) × (first_of d ≡ first_of self)) }
     {
         if self.any_claimed() {
@@ -146,7 +136,7 @@ impl Domain {
             table,
             participants: _,
         } = self;
-        drop(table);
+        empty(table.close());
         Ok(())
     }
 }

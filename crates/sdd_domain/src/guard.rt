@@ -28,7 +28,7 @@ impl Guard {
     /// Opens a guard of a participant, within those that it has open. An outermost opening reads the count of raises,
     /// and publishes it in a second step; where it isn't the one that was found before, the participant's bags move
     /// on. From then until the outermost closing the count is raised at most once.
-    pub fn new(domain: &Domain, local: &mut Local) -> Result<Guard, Nested>
+    pub fn new<T>(domain: &Domain<T>, local: &mut Local<T>) -> Result<Guard, Nested>
         requires { home_of local.old ≡ place_of domain.now }
         ensures guard { IfOk result (λ g. participant_of g ≡ number_of local.old) }
         ensures nested { IsErr result ↔ ((own_of local.old).nesting ≡ 4294967295) }
@@ -59,7 +59,7 @@ impl Guard {
     }
 
     /// The epoch of the place: its count of raises modulo 64. It is the one of the guard's publication, or the next.
-    pub fn epoch(&self, domain: &Domain, local: &mut Local) -> Epoch
+    pub fn epoch<T>(&self, domain: &Domain<T>, local: &mut Local<T>) -> Epoch
         requires home { home_of local.old ≡ place_of domain.now }
         requires mine { participant_of self.now ≡ number_of local.old }
         requires open { 0 < (own_of local.old).nesting }
@@ -71,7 +71,7 @@ impl Guard {
     }
 
     /// Whether the flag was set since the participant's bags were last found empty.
-    pub fn has_garbage(&self, local: &Local) -> bool
+    pub fn has_garbage<T>(&self, local: &Local<T>) -> bool
         requires { participant_of self.now ≡ number_of local.now }
         ensures { result ≡ (own_of local.now).garbage }
     {
@@ -79,7 +79,7 @@ impl Guard {
     }
 
     /// Sets that flag, so that a later closing scans.
-    pub fn set_has_garbage(&self, local: &mut Local)
+    pub fn set_has_garbage<T>(&self, local: &mut Local<T>)
         requires { participant_of self.now ≡ number_of local.old }
         ensures set { own_of local.new ≡ record (own_of local.old) { garbage = true } }
         ensures same { IsSame local.old local.new × (born_of local.new ≡ born_of local.old) }
@@ -88,7 +88,7 @@ impl Guard {
     }
 
     /// Asks that the outermost closing of this nesting scans.
-    pub fn accelerate(&self, local: &mut Local)
+    pub fn accelerate<T>(&self, local: &mut Local<T>)
         requires { participant_of self.now ≡ number_of local.old }
         ensures set { own_of local.new ≡ record (own_of local.old) { accelerated = true } }
         ensures same { IsSame local.old local.new × (born_of local.new ≡ born_of local.old) }
@@ -99,7 +99,7 @@ impl Guard {
     /// Closes a guard. An outermost closing scans first, if a guard of the nesting was accelerated or this is the 64th
     /// since the last scan with the flag of garbage set. A scan tries once for the scan lock, and raises the count by
     /// one if every open guard published the present one.
-    pub fn close(self, domain: &Domain, local: &mut Local)
+    pub fn close<T>(self, domain: &Domain<T>, local: &mut Local<T>)
         requires home { home_of local.old ≡ place_of domain.now }
         requires mine { participant_of self ≡ number_of local.old }
         requires open { 0 < (own_of local.old).nesting }

@@ -4,11 +4,11 @@ ghost use Rattle.sdd_domain.specs.Laws.{ShowsSafe, RaisedAtMostOnce};
 
 /// What the table of a place shows at any moment is a state of the single steps that meets their invariant, and so
 /// keeps their promise: nothing that an open guard has loaded is reclaimed.
-pub fn every_moment_is_safe()
-    ensures { ShowsSafe }
+pub fn every_moment_is_safe<T>()
+    ensures { ShowsSafe T }
 {}
 
 /// While a guard is open, the count of raises is that of its publication or the next one, whatever other threads do.
-pub fn the_count_is_raised_at_most_once()
-    ensures { RaisedAtMostOnce }
+pub fn the_count_is_raised_at_most_once<T>()
+    ensures { RaisedAtMostOnce T }
 {}

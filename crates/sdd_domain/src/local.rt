@@ -15,8 +15,8 @@ use crate::steps;
 use sdd_base::status::LocalState;
 
 /// A registered participant. It must be spent by `end`.
-pub struct Local {
-    pub(crate) place: Place,
+pub struct Local<T> {
+    pub(crate) place: Place<T>,
     pub(crate) number: usize,
     pub(crate) own: LocalState,
     ghost acts: { (place.me.0.kind ≡ 1) × (place.me.0.number ≡ number) × (place.me.0.scan ≡ 0) × (number < 2 ^ 30) × (claim_word number < place.table_id.words) × IsBare place.me.0 },
@@ -32,11 +32,11 @@ fn scans(own: &LocalState, closings: u8) -> bool
     own.accelerated || own.garbage && closings >= 64
 }
 
-impl Local {
+impl<T> Local<T> {
     ghost use Rattle.sdd_domain.specs.Tokens.{participants_of, place_of, home_of, number_of, own_of, born_of, begun, closed, IsSame};
 
     /// The participant that a seat has just come to act for.
-    pub(crate) fn registered(place: Place, number: usize) -> Local
+    pub(crate) fn registered(place: Place<T>, number: usize) -> Local<T>
         requires { (sizes : Sizes) × (spare : ℕ) × (place.me.0 ≡ registered sizes spare number) × (number < 2 ^ 30) × (claim_word number < place.table_id.words) }
         ensures { (home_of result ≡ place.table_id) × (number_of result ≡ number) × (own_of result ≡ no_local) }
     {
@@ -62,7 +62,7 @@ impl Local {
     }
 
     /// Opens an outermost guard.
-    pub(crate) fn begin(&mut self, domain: &Domain)
+    pub(crate) fn begin(&mut self, domain: &Domain<T>)
         requires home { home_of self.old ≡ place_of domain.now }
         requires closed { (own_of self.old).nesting ≡ 0 }
         ensures same { IsSame self.old self.new }
@@ -82,7 +82,7 @@ impl Local {
     }
 
     /// Closes an outermost guard, after a scan if one is due.
-    pub(crate) fn finish(&mut self, domain: &Domain)
+    pub(crate) fn finish(&mut self, domain: &Domain<T>)
         requires home { home_of self.old ≡ place_of domain.now }
         requires outermost { (own_of self.old).nesting ≡ 1 }
         ensures same { IsSame self.old self.new }
@@ -106,7 +106,7 @@ impl Local {
     }
 
     /// Ends the participant, which anybody may register from now on. Condition: none of its guards is open.
-    pub fn end(self, domain: &Domain)
+    pub fn end(self, domain: &Domain<T>)
         requires home { home_of self ≡ place_of domain.now }
         requires closed { (own_of self).nesting ≡ 0 }
     {

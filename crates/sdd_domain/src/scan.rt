@@ -9,9 +9,9 @@ use crate::board::{Place, Words};
 use crate::steps::{give_lock, is_present, look, raise, take_lock};
 
 /// Whether each other participant is closed or has published the count `epoch`. It stops at the first that isn't.
-fn all_agree(
-    words: &Words,
-    place: &mut Place,
+fn all_agree<T>(
+    words: &Words<T>,
+    place: &mut Place<T>,
     number: usize,
     participants: usize,
     epoch: u64,
@@ -33,7 +33,7 @@ fn all_agree(
 /// A scan of participant `number`, whose guard is open with the count `epoch`. It tries once for the scan lock, and
 /// raises the count by one only where that is the present one, and each other participant is closed or has published
 /// it. A count of `2^64 - 1` isn't raised.
-pub(crate) fn scan(words: &Words, place: &mut Place, number: usize, participants: usize, epoch: u64)
+pub(crate) fn scan<T>(words: &Words<T>, place: &mut Place<T>, number: usize, participants: usize, epoch: u64)
     requires table { (place.old.table_id ≡ words.now.table_id) × (words.now.key.sizes.participants ≡ participants) × (epoch_words participants ≤ words.now.table_id.words) × (participants ≤ 2 ^ 30) }
     requires open { Scans place.old number epoch 0 }
     ensures { (place.new.table_id ≡ place.old.table_id) × (place.new.id ≡ place.old.id) × (place.new.me.0.born ≡ place.old.me.0.born) × (place.new.me.1 ≡ place.old.me.1) × Scans place.new number epoch 0 }

@@ -18,57 +18,57 @@ use atomic_table::Play;
 
 struct OnClaim;
 
-impl Play<Home, Acting> for OnClaim {
+impl<T> Play<Home<T>, Acting> for OnClaim {
     ghost then = { claim_slot_then IsIn };
 }
 
 struct OnTake;
 
-impl Play<Home, Acting> for OnTake {
+impl<T> Play<Home<T>, Acting> for OnTake {
     ghost then = { fill_takes_then IsIn };
 }
 
 struct OnGive;
 
-impl Play<Home, Acting> for OnGive {
+impl<T> Play<Home<T>, Acting> for OnGive {
     ghost then = { fill_gives_then IsIn };
 }
 
 struct OnPlace;
 
-impl Play<Home, Acting> for OnPlace {
+impl<T> Play<Home<T>, Acting> for OnPlace {
     ghost then = { place_then IsIn };
 }
 
 struct OnOpen;
 
-impl Play<Home, Acting> for OnOpen {
+impl<T> Play<Home<T>, Acting> for OnOpen {
     ghost then = { opens_then IsIn };
 }
 
 struct OnGather;
 
-impl Play<Home, Acting> for OnGather {
+impl<T> Play<Home<T>, Acting> for OnGather {
     ghost then = { gathers_then IsIn };
 }
 
 struct OnEmpty;
 
-impl Play<Home, Acting> for OnEmpty {
+impl<T> Play<Home<T>, Acting> for OnEmpty {
     ghost then = { empties_then IsIn };
 }
 
 struct OnVacate;
 
-impl Play<Home, Acting> for OnVacate {
+impl<T> Play<Home<T>, Acting> for OnVacate {
     ghost then = { vacates_then IsIn };
 }
 
 /// Tries once to claim `slot`, for `participants` and `cells` of them. Where it was vacant it is the participant's to
-/// fill, and the item's own home is out, empty. Whether it was.
-pub(crate) fn claim(
-    words: &Words,
-    place: &mut Place,
+/// fill, and the item's own home is out, with the room for the item. Whether it was.
+pub(crate) fn claim<T>(
+    words: &Words<T>,
+    place: &mut Place<T>,
     participants: usize,
     cells: usize,
     slot: usize,
@@ -83,7 +83,7 @@ pub(crate) fn claim(
 }
 
 /// Takes the home of the next participant out of the slot that is being filled. It is empty.
-pub(crate) fn take_next(words: &Words, place: &mut Place)
+pub(crate) fn take_next<T>(words: &Words<T>, place: &mut Place<T>)
     requires table { (place.old.table_id ≡ words.now.table_id) × (0 < words.now.table_id.words) }
     requires filling { (place.old.me.0.kind ≡ 1) × ((f : Filling) × (place.old.me.0.filling ≡ Some f) × (f.filled < place.old.me.0.sizes.participants) × (f.out ≡ place.old.me.0.sizes.participants)) }
     ensures seat { (place.new.table_id ≡ place.old.table_id) × (place.new.id ≡ place.old.id) }
@@ -93,79 +93,79 @@ pub(crate) fn take_next(words: &Words, place: &mut Place)
 }
 
 /// Gives the home back that `take_next` took, with its parts. The first one tells which round the slot's parts are of.
-pub(crate) fn give_next(words: &Words, place: &mut Place)
+pub(crate) fn give_next<T>(words: &Words<T>, place: &mut Place<T>)
     requires table { (place.old.table_id ≡ words.now.table_id) × (0 < words.now.table_id.words) }
-    requires filling { (place.old.me.0.kind ≡ 1) × ((f : Filling) × (c : ℕ) × (a : ℕ) × (tail : List (ℕ × Home)) × CanFill IsIn place.old.me f c a tail) }
+    requires filling { (place.old.me.0.kind ≡ 1) × ((f : Filling) × (c : ℕ) × (a : ℕ) × (tail : List (ℕ × Home T)) × CanFill IsIn place.old.me f c a tail) }
     ensures seat { (place.new.table_id ≡ place.old.table_id) × (place.new.id ≡ place.old.id) }
-    ensures given { (f : Filling) (c a : ℕ) (tail : List (ℕ × Home)) → CanFill IsIn place.old.me f c a tail → place.new.me ≡ (filling_at place.old.me.0.slot (next_filled place.old.me.0 c a f) place.old.me.0, tail) }
+    ensures given { (f : Filling) (c a : ℕ) (tail : List (ℕ × Home T)) → CanFill IsIn place.old.me f c a tail → place.new.me ≡ (filling_at place.old.me.0.slot (next_filled place.old.me.0 c a f) place.old.me.0, tail) }
 {
     let _ = words.load::<OnGive>(place, 0);
 }
 
 /// Gives the slot to a new item, which holds the items whose owners are in hand, and has one owner, which is in hand from
 /// now on. The item's own home goes back in the same step, with its deed.
-pub(crate) fn place(
-    words: &Words,
-    place: &mut Place,
+pub(crate) fn place<T>(
+    words: &Words<T>,
+    place: &mut Place<T>,
     participants: usize,
     cells: usize,
     slot: usize,
 )
     requires table { (place.old.table_id ≡ words.now.table_id) × (words.now.key.sizes.participants ≡ participants) × (words.now.key.sizes.cells ≡ cells) × (participants ≤ 2 ^ 30) × (cells ≤ 2 ^ 30) × (slot < words.now.key.sizes.slots) × (words.now.key.sizes.slots ≤ 2 ^ 30) × (all_words words.now.key.sizes ≤ words.now.table_id.words) × (place.old.me.0.sizes ≡ words.now.key.sizes) }
     requires ready { (place.old.me.0.kind ≡ 1) × (is_ready place.old.me.0.known ≡ true) × (place.old.me.0.releasing ≡ 0) × (place.old.me.0.slot ≡ slot) }
-    requires filled { (f : Filling) × (tail : List (ℕ × Home)) × CanPlace IsIn place.old.me f tail }
+    requires filled { (f : Filling) × (tail : List (ℕ × Home T)) × CanPlace IsIn place.old.me f tail }
     ensures seat { (place.new.table_id ≡ place.old.table_id) × (place.new.id ≡ place.old.id) }
-    ensures placed { (f : Filling) (tail : List (ℕ × Home)) → CanPlace IsIn place.old.me f tail → (i : ℕ) × (place.new.me ≡ (placing i f place.old.me.0, tail)) }
+    ensures placed { (f : Filling) (tail : List (ℕ × Home T)) → CanPlace IsIn place.old.me f tail → (i : ℕ) × (place.new.me ≡ (placing i f place.old.me.0, tail)) }
 {
     words.store::<OnPlace>(place, 8 * participants + 16 + cells + slot, 3);
 }
 
 /// Begins to reclaim the item that waits the longest, which the participant retired three rotations ago. Nobody reads it:
 /// its deed comes out, all its parts are at home, and the owners that it held are in hand.
-pub(crate) fn open(words: &Words, place: &mut Place)
+pub(crate) fn open<T>(words: &Words<T>, place: &mut Place<T>)
     requires table { (place.old.table_id ≡ words.now.table_id) × (0 < words.now.table_id.words) }
     requires ready { (place.old.me.0.kind ≡ 1) × (is_ready place.old.me.0.known ≡ true) × (place.old.me.0.filling ≡ None) }
     requires waits { (w : Garbage) × (ws : List Garbage) × (place.old.me.0.waits ≡ ws ++ w ∷ []) × (w.age ≡ 3) }
     ensures seat { (place.new.table_id ≡ place.old.table_id) × (place.new.id ≡ place.old.id) }
-    ensures opened { (w : Garbage) (ws : List Garbage) → place.old.me.0.waits ≡ ws ++ w ∷ [] → (hs : List Owner) × (u : Home) × IsIn (deed w.round hs) u × (place.new.me ≡ (reclaiming w hs ws place.old.me.0, (deed_home place.old.me.0 w.slot, u) ∷ place.old.me.1)) }
+    ensures opened { (w : Garbage) (ws : List Garbage) → place.old.me.0.waits ≡ ws ++ w ∷ [] → (hs : List Owner) × (u : Home T) × IsIn (deed w.round hs) u × (place.new.me ≡ (reclaiming w hs ws place.old.me.0, (deed_home place.old.me.0 w.slot, u) ∷ place.old.me.1)) }
 {
     let _ = words.load::<OnOpen>(place, 0);
 }
 
 /// Takes the last home that has parts out of the slot of a reclaimed item. With that of the first participant all parts
 /// are in hand.
-pub(crate) fn gather(words: &Words, place: &mut Place)
+pub(crate) fn gather<T>(words: &Words<T>, place: &mut Place<T>)
     requires table { (place.old.table_id ≡ words.now.table_id) × (0 < words.now.table_id.words) }
     requires filled { (place.old.me.0.kind ≡ 1) × ((f : Filling) × (place.old.me.0.filling ≡ Some f) × (0 < f.filled) × (f.out ≡ place.old.me.0.sizes.participants)) }
     ensures seat { (place.new.table_id ≡ place.old.table_id) × (place.new.id ≡ place.old.id) }
-    ensures taken { (f : Filling) → place.old.me.0.filling ≡ Some f → (a : ℕ) × (u : Home) × IsIn (part f.round a) u × (f.filled ≡ 1 → f.left + a ≡ 2 ^ 63) × (place.new.me ≡ (filling_at place.old.me.0.slot (gathered a f) place.old.me.0, (home place.old.me.0.sizes.participants place.old.me.0.slot (f.filled - 1), u) ∷ place.old.me.1)) }
+    ensures taken { (f : Filling) → place.old.me.0.filling ≡ Some f → (a : ℕ) × (u : Home T) × IsIn (part f.round a) u × (f.left + a ≤ 2 ^ 63) × (f.filled ≡ 1 → f.left + a ≡ 2 ^ 63) × (place.new.me ≡ (filling_at place.old.me.0.slot (gathered a f) place.old.me.0, (home place.old.me.0.sizes.participants place.old.me.0.slot (f.filled - 1), u) ∷ place.old.me.1)) }
 {
     let _ = words.load::<OnGather>(place, 0);
 }
 
 /// Gives the home back that `gather` took. It is empty now.
-pub(crate) fn empty(words: &Words, place: &mut Place)
+pub(crate) fn empty<T>(words: &Words<T>, place: &mut Place<T>)
     requires table { (place.old.table_id ≡ words.now.table_id) × (0 < words.now.table_id.words) }
-    requires emptied { (place.old.me.0.kind ≡ 1) × ((f : Filling) × (tail : List (ℕ × Home)) × CanEmpty IsIn place.old.me f tail) }
+    requires emptied { (place.old.me.0.kind ≡ 1) × ((f : Filling) × (tail : List (ℕ × Home T)) × CanEmpty IsIn place.old.me f tail) }
     ensures seat { (place.new.table_id ≡ place.old.table_id) × (place.new.id ≡ place.old.id) }
-    ensures given { (f : Filling) (tail : List (ℕ × Home)) → CanEmpty IsIn place.old.me f tail → place.new.me ≡ (filling_at place.old.me.0.slot (record f { out = place.old.me.0.sizes.participants }) place.old.me.0, tail) }
+    ensures given { (f : Filling) (tail : List (ℕ × Home T)) → CanEmpty IsIn place.old.me f tail → place.new.me ≡ (filling_at place.old.me.0.slot (record f { out = place.old.me.0.sizes.participants }) place.old.me.0, tail) }
 {
     let _ = words.load::<OnEmpty>(place, 0);
 }
 
-/// Gives `slot` back, for `participants` and `cells` of them: all homes are empty, the item's own one too, which goes
+/// Gives `slot` back, for `participants` and `cells` of them: all homes are empty, and the room is in the item's own, which goes
 /// back in the same step.
-pub(crate) fn vacate(
-    words: &Words,
-    place: &mut Place,
+pub(crate) fn vacate<T>(
+    words: &Words<T>,
+    place: &mut Place<T>,
     participants: usize,
     cells: usize,
     slot: usize,
 )
     requires table { (place.old.table_id ≡ words.now.table_id) × (words.now.key.sizes.participants ≡ participants) × (words.now.key.sizes.cells ≡ cells) × (participants ≤ 2 ^ 30) × (cells ≤ 2 ^ 30) × (slot < words.now.key.sizes.slots) × (words.now.key.sizes.slots ≤ 2 ^ 30) × (all_words words.now.key.sizes ≤ words.now.table_id.words) × (place.old.me.0.sizes ≡ words.now.key.sizes) }
-    requires emptied { (place.old.me.0.kind ≡ 1) × (place.old.me.0.slot ≡ slot) × ((f : Filling) × (tail : List (ℕ × Home)) × CanVacate IsIn place.old.me f tail) }
+    requires emptied { (place.old.me.0.kind ≡ 1) × (place.old.me.0.slot ≡ slot) × ((f : Filling) × (tail : List (ℕ × Home T)) × CanVacate IsIn place.old.me f tail) }
     ensures seat { (place.new.table_id ≡ place.old.table_id) × (place.new.id ≡ place.old.id) }
-    ensures vacant { (f : Filling) (tail : List (ℕ × Home)) → CanVacate IsIn place.old.me f tail → place.new.me ≡ (record place.old.me.0 { filling = None }, tail) }
+    ensures vacant { (f : Filling) (tail : List (ℕ × Home T)) → CanVacate IsIn place.old.me f tail → place.new.me ≡ (record place.old.me.0 { filling = None }, tail) }
 {
     words.store::<OnVacate>(place, 8 * participants + 16 + cells + slot, 0);
 }

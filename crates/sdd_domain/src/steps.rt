@@ -28,73 +28,73 @@ const CLAIM: usize = 17;
 
 struct OnRead;
 
-impl Play<Home, Acting> for OnRead {
+impl<T> Play<Home<T>, Acting> for OnRead {
     ghost then = { read_then };
 }
 
 struct OnPublish;
 
-impl Play<Home, Acting> for OnPublish {
+impl<T> Play<Home<T>, Acting> for OnPublish {
     ghost then = { publish_then };
 }
 
 struct OnCount;
 
-impl Play<Home, Acting> for OnCount {
+impl<T> Play<Home<T>, Acting> for OnCount {
     ghost then = { count_then };
 }
 
 struct OnLook;
 
-impl Play<Home, Acting> for OnLook {
+impl<T> Play<Home<T>, Acting> for OnLook {
     ghost then = { look_then };
 }
 
 struct OnAgree;
 
-impl Play<Home, Acting> for OnAgree {
+impl<T> Play<Home<T>, Acting> for OnAgree {
     ghost then = { agree_then };
 }
 
 struct OnRaise;
 
-impl Play<Home, Acting> for OnRaise {
+impl<T> Play<Home<T>, Acting> for OnRaise {
     ghost then = { raise_then };
 }
 
 struct OnClose;
 
-impl Play<Home, Acting> for OnClose {
+impl<T> Play<Home<T>, Acting> for OnClose {
     ghost then = { close_then };
 }
 
 struct OnLock;
 
-impl Play<Home, Acting> for OnLock {
+impl<T> Play<Home<T>, Acting> for OnLock {
     ghost then = { lock_then };
 }
 
 struct OnUnlock;
 
-impl Play<Home, Acting> for OnUnlock {
+impl<T> Play<Home<T>, Acting> for OnUnlock {
     ghost then = { unlock_then };
 }
 
 struct OnSit;
 
-impl Play<Home, Acting> for OnSit {
+impl<T> Play<Home<T>, Acting> for OnSit {
     ghost then = { sit_then };
 }
 
 struct OnClaim;
 
-impl Play<Home, Acting> for OnClaim {
+impl<T> Play<Home<T>, Acting> for OnClaim {
     ghost then = { claim_then };
 }
 
 struct OnEnd;
 
-impl Play<Home, Acting> for OnEnd {
+impl<T> Play<Home<T>, Acting> for OnEnd {
     ghost then = { end_then };
 }
 
@@ -106,7 +106,7 @@ fn word_of(epoch: u64) -> u64
 }
 
 /// A new seat, which acts for nobody.
-pub(crate) fn sit(words: &Words) -> Place
+pub(crate) fn sit<T>(words: &Words<T>) -> Place<T>
     requires { 0 < words.now.table_id.words }
     ensures { (result.table_id ≡ words.now.table_id) × (result.me.0 ≡ spent) × (result.me.1 ≡ []) }
 {
@@ -115,7 +115,7 @@ pub(crate) fn sit(words: &Words) -> Place
 }
 
 /// Tries once to act for participant `number`.
-pub(crate) fn claim(words: &Words, place: &mut Place, number: usize) -> bool
+pub(crate) fn claim<T>(words: &Words<T>, place: &mut Place<T>, number: usize) -> bool
     requires table { (place.old.table_id ≡ words.now.table_id) × (number < words.now.key.sizes.participants) × (epoch_words words.now.key.sizes.participants ≤ words.now.table_id.words) × (words.now.key.sizes.participants ≤ 2 ^ 30) }
     requires nobody { (place.old.me.0.kind ≡ 0) × IsBare place.old.me.0 }
     ensures seat { (place.new.table_id ≡ place.old.table_id) × (place.new.id ≡ place.old.id) }
@@ -126,14 +126,14 @@ pub(crate) fn claim(words: &Words, place: &mut Place, number: usize) -> bool
 }
 
 /// Whether somebody acts for participant `number`.
-pub(crate) fn is_claimed(words: &Words, number: usize) -> bool
+pub(crate) fn is_claimed<T>(words: &Words<T>, number: usize) -> bool
     requires { (number < words.now.key.sizes.participants) × (epoch_words words.now.key.sizes.participants ≤ words.now.table_id.words) × (words.now.key.sizes.participants ≤ 2 ^ 30) }
 {
     words.peek(STRIDE * number + CLAIM) != 0
 }
 
 /// Ends what the seat does for participant `number`, which somebody else may act for from now on.
-pub(crate) fn end(words: &Words, place: &mut Place, number: usize)
+pub(crate) fn end<T>(words: &Words<T>, place: &mut Place<T>, number: usize)
     requires table { (place.old.table_id ≡ words.now.table_id) × (number < 2 ^ 30) × (claim_word number < words.now.table_id.words) }
     requires rests { (place.old.me.0.kind ≡ 1) × (place.old.me.0.number ≡ number) × (place.old.me.0.known.phase ≡ Idle) × (place.old.me.0.scan ≡ 0) × IsBare place.old.me.0 }
     ensures { (place.new.table_id ≡ place.old.table_id) × (place.new.id ≡ place.old.id) × (place.new.me ≡ (spent, place.old.me.1)) }
@@ -142,7 +142,7 @@ pub(crate) fn end(words: &Words, place: &mut Place, number: usize)
 }
 
 /// Reads the count of raises, for an opening.
-pub(crate) fn read_count(words: &Words, place: &mut Place) -> u64
+pub(crate) fn read_count<T>(words: &Words<T>, place: &mut Place<T>) -> u64
     requires table { (place.old.table_id ≡ words.now.table_id) × (0 < words.now.table_id.words) }
     requires closed { (place.old.me.0.kind ≡ 1) × (place.old.me.0.known.phase ≡ Idle) × (place.old.me.0.scan ≡ 0) }
     ensures { (place.new.table_id ≡ place.old.table_id) × (place.new.id ≡ place.old.id) × (place.new.me ≡ (record place.old.me.0 { known = reading result place.old.me.0.known }, place.old.me.1)) }
@@ -151,7 +151,7 @@ pub(crate) fn read_count(words: &Words, place: &mut Place) -> u64
 }
 
 /// Publishes the count that was read, and with it does the rotation that is due.
-pub(crate) fn publish(words: &Words, place: &mut Place, number: usize, epoch: u64)
+pub(crate) fn publish<T>(words: &Words<T>, place: &mut Place<T>, number: usize, epoch: u64)
     requires table { (place.old.table_id ≡ words.now.table_id) × (number < 2 ^ 30) × (claim_word number < words.now.table_id.words) }
     requires read { (place.old.me.0.kind ≡ 1) × (place.old.me.0.number ≡ number) × (place.old.me.0.known.phase ≡ HasRead epoch) × (place.old.me.0.scan ≡ 0) }
     ensures seat { (place.new.table_id ≡ place.old.table_id) × (place.new.id ≡ place.old.id) }
@@ -161,7 +161,7 @@ pub(crate) fn publish(words: &Words, place: &mut Place, number: usize, epoch: u6
 }
 
 /// Reads the count of raises under an open guard.
-pub(crate) fn count_under(words: &Words, place: &mut Place, epoch: u64) -> u64
+pub(crate) fn count_under<T>(words: &Words<T>, place: &mut Place<T>, epoch: u64) -> u64
     requires table { (place.old.table_id ≡ words.now.table_id) × (0 < words.now.table_id.words) }
     requires open { (place.old.me.0.kind ≡ 1) × (place.old.me.0.known.phase ≡ Opened epoch) }
     ensures seat { (place.new.table_id ≡ place.old.table_id) × (place.new.id ≡ place.old.id) × (place.new.me ≡ place.old.me) }
@@ -172,7 +172,7 @@ pub(crate) fn count_under(words: &Words, place: &mut Place, epoch: u64) -> u64
 }
 
 /// Closes the guard of participant `number`.
-pub(crate) fn close(words: &Words, place: &mut Place, number: usize, epoch: u64)
+pub(crate) fn close<T>(words: &Words<T>, place: &mut Place<T>, number: usize, epoch: u64)
     requires table { (place.old.table_id ≡ words.now.table_id) × (number < 2 ^ 30) × (claim_word number < words.now.table_id.words) }
     requires open { Scans place.old number epoch 0 }
     ensures { (place.new.table_id ≡ place.old.table_id) × (place.new.id ≡ place.old.id) × (place.new.me ≡ (record place.old.me.0 { known = closing place.old.me.0.known }, place.old.me.1)) }
@@ -181,7 +181,7 @@ pub(crate) fn close(words: &Words, place: &mut Place, number: usize, epoch: u64)
 }
 
 /// Tries once for the scan lock.
-pub(crate) fn take_lock(words: &Words, place: &mut Place, number: usize, epoch: u64) -> bool
+pub(crate) fn take_lock<T>(words: &Words<T>, place: &mut Place<T>, number: usize, epoch: u64) -> bool
     requires { (place.old.table_id ≡ words.now.table_id) × (lock_word < words.now.table_id.words) × Scans place.old number epoch 0 }
     ensures seat { (place.new.table_id ≡ place.old.table_id) × (place.new.id ≡ place.old.id) × (place.new.me.0.born ≡ place.old.me.0.born) × (place.new.me.1 ≡ place.old.me.1) }
     ensures stage { MatchBool result (Scans place.new number epoch 1) (Scans place.new number epoch 0) }
@@ -190,7 +190,7 @@ pub(crate) fn take_lock(words: &Words, place: &mut Place, number: usize, epoch: 
 }
 
 /// Whether the count is still the published one, under the scan lock.
-pub(crate) fn is_present(words: &Words, place: &mut Place, number: usize, epoch: u64) -> bool
+pub(crate) fn is_present<T>(words: &Words<T>, place: &mut Place<T>, number: usize, epoch: u64) -> bool
     requires { (place.old.table_id ≡ words.now.table_id) × (0 < words.now.table_id.words) × Scans place.old number epoch 1 }
     ensures seat { (place.new.table_id ≡ place.old.table_id) × (place.new.id ≡ place.old.id) × (place.new.me.0.born ≡ place.old.me.0.born) × (place.new.me.1 ≡ place.old.me.1) }
     ensures stage { MatchBool result (Scans place.new number epoch 2) (Scans place.new number epoch 1) }
@@ -199,7 +199,7 @@ pub(crate) fn is_present(words: &Words, place: &mut Place, number: usize, epoch:
 }
 
 /// Gives the scan lock back.
-pub(crate) fn give_lock(words: &Words, place: &mut Place, number: usize, epoch: u64)
+pub(crate) fn give_lock<T>(words: &Words<T>, place: &mut Place<T>, number: usize, epoch: u64)
     requires { (place.old.table_id ≡ words.now.table_id) × (lock_word < words.now.table_id.words) × (Scans place.old number epoch 1 ⊎ Scans place.old number epoch 2) }
     ensures { (place.new.table_id ≡ place.old.table_id) × (place.new.id ≡ place.old.id) × (place.new.me.0.born ≡ place.old.me.0.born) × (place.new.me.1 ≡ place.old.me.1) × Scans place.new number epoch 0 }
 {
@@ -208,7 +208,7 @@ pub(crate) fn give_lock(words: &Words, place: &mut Place, number: usize, epoch: 
 
 /// Whether the other is closed or has published the same count. It is asked under the scan lock, while the count is
 /// the published one.
-fn look_at(words: &Words, place: &mut Place, other: usize, epoch: u64) -> bool
+fn look_at<T>(words: &Words<T>, place: &mut Place<T>, other: usize, epoch: u64) -> bool
     requires table { (place.old.table_id ≡ words.now.table_id) × (other < words.now.key.sizes.participants) × (epoch_words words.now.key.sizes.participants ≤ words.now.table_id.words) × (words.now.key.sizes.participants ≤ 2 ^ 30) }
     requires open { (place.old.me.0.kind ≡ 1) × (place.old.me.0.number ≢ other) × (place.old.me.0.known.phase ≡ Opened epoch) × (place.old.me.0.known.found ≡ epoch) × (place.old.me.0.scan ≡ 2) }
     requires below { epoch < 2 ^ 64 - 1 }
@@ -221,9 +221,9 @@ fn look_at(words: &Words, place: &mut Place, other: usize, epoch: u64) -> bool
 }
 
 /// The same, for what a scan needs of it: who was looked at before stays so.
-pub(crate) fn look(
-    words: &Words,
-    place: &mut Place,
+pub(crate) fn look<T>(
+    words: &Words<T>,
+    place: &mut Place<T>,
     number: usize,
     other: usize,
     epoch: u64,
@@ -243,7 +243,7 @@ pub(crate) fn look(
 }
 
 /// Raises the count by one, where everybody else was looked at.
-pub(crate) fn raise(words: &Words, place: &mut Place, number: usize, epoch: u64)
+pub(crate) fn raise<T>(words: &Words<T>, place: &mut Place<T>, number: usize, epoch: u64)
     requires table { (place.old.table_id ≡ words.now.table_id) × (0 < words.now.table_id.words) }
     requires open { Scans place.old number epoch 2 }
     requires all { (q : ℕ) → q < words.now.key.sizes.participants → q ≢ number → Has place.old.me.0.known.looked q }

@@ -1,5 +1,5 @@
 -- a slot is claimed, filled, given to an item, emptied and given back: nobody has a lease of it
-use Rattle.std.proofs.Common.{◌≡◌, ◌≢◌, ◌⊎◌, ℕ, suc, ◌+◌, ◌-◌, ◌^◌, ◌<◌, ◌≤◌, sym, refl, ap, ◌∙◌, subst, ⊎_elim, arith, List}
+use Rattle.std.proofs.Common.{◌≡◌, ◌≢◌, ◌⊎◌, ℕ, suc, ◌+◌, ◌-◌, ◌^◌, ◌<◌, ◌≤◌, sym, refl, ap, ◌∙◌, subst, ⊎_elim, arith, List, cond, eq-eqb, ne_eqb}
 use mathlib.Core.Logic.{dite}
 use native.Mathlib.Decide.{ℕ_discrete}
 use Rattle.sdd_steps.specs.declared.item.Item.{Item}
@@ -7,18 +7,24 @@ use Rattle.sdd_steps.specs.State.{At}
 use Rattle.sdd_steps.proofs.ListLemmas.{same_at, put, put_here, put_else}
 use Rattle.sdd_homes.specs.declared.Filling.{Filling}
 use Rattle.sdd_homes.specs.declared.Owner.{Owner}
-use Rattle.sdd_homes.specs.Book.{Content, away, blank, deed, part, Stage, vacant, partly, full, Book, total, home, Lends}
+use Rattle.sdd_homes.specs.Book.{Content, away, blank, room, deed, part, Stage, vacant, partly, full, Book, total, home, resting, Lends}
 use Rattle.sdd_homes.specs.Parts.{Full, Partly, Parts}
 use Rattle.sdd_homes.proofs.Totals.{total_above}
 use Rattle.sdd_homes.proofs.Leases.{lends_has}
 use Rattle.sdd_homes.proofs.PartLemmas.{home_else, unleased, unleased_by}
+
+pub resting_own : (n p : ℕ) → p ≡ n → resting n p ≡ room
+resting_own n p e = ap (λ h. cond h room blank) (eq-eqb p n e)
+
+pub resting_else : (n p : ℕ) → p ≢ n → resting n p ≡ blank
+resting_else n p ne = ap (λ h. cond h room blank) (ne_eqb p n ne)
 
 module _ {n slots : ℕ} {items : List Item} {reason : ℕ → ℕ → Type 0} {book : Book} (r : Parts n slots items reason book) where
   abbrev pub Next : ℕ → Stage → (ℕ → ℕ) → (ℕ → Content) → Type 0
   Next k st g what' = Parts n slots items reason (record book { stage = put book.stage k st; share = put book.share k g; what = what' })
 
   slot_step : (k : ℕ) (st : Stage) (g : ℕ → ℕ) (what' : ℕ → Content) → ((p : ℕ) → ¬ Lends (book.out p) k) → ((k' p : ℕ) → k' ≢ k → p < suc n → what' (home n k' p) ≡ book.what (home n k' p))
-      → ((i : ℕ) → st ≡ full i → Full n items book.slot_of g book.out what' (book.held k) k i) → ((f : Filling) → st ≡ partly f → Partly n g what' k f) → ((p : ℕ) → st ≡ vacant → p < suc n → what' (home n k p) ≡ blank)
+      → ((i : ℕ) → st ≡ full i → Full n items book.slot_of g book.out what' (book.held k) k i) → ((f : Filling) → st ≡ partly f → Partly n g what' k f) → ((p : ℕ) → st ≡ vacant → p < suc n → what' (home n k p) ≡ resting n p)
       → Next k st g what'
   slot_step k st g what' alone others f y v = record {
     full_at = λ k' i l. dite (ℕ_discrete k' k)
@@ -67,7 +73,7 @@ module _ {n slots : ℕ} {items : List Item} {reason : ℕ → ℕ → Type 0} {
     pub here_at : (p' : ℕ) → p' ≡ p → after (home n k p') ≡ c
     here_at p' e = ap (λ z. after (home n k z)) e ∙ put_here book.what (home n k p) c
 
-    goes : (st : Stage) → ((i : ℕ) → st ≡ full i → Full n items book.slot_of g book.out after (book.held k) k i) → ((f : Filling) → st ≡ partly f → Partly n g after k f) → ((p' : ℕ) → st ≡ vacant → p' < suc n → after (home n k p') ≡ blank) → Next k st g after
+    goes : (st : Stage) → ((i : ℕ) → st ≡ full i → Full n items book.slot_of g book.out after (book.held k) k i) → ((f : Filling) → st ≡ partly f → Partly n g after k f) → ((p' : ℕ) → st ≡ vacant → p' < suc n → after (home n k p') ≡ resting n p') → Next k st g after
     goes st f y v = slot_step k st g after free (λ k' p' ne lt. home_else r k p c k' p' low lt (λ e. ne e.0)) f y v
 
     pub to_full : (i : ℕ) → Full n items book.slot_of g book.out after (book.held k) k i → Next k (full i) g after
@@ -76,7 +82,7 @@ module _ {n slots : ℕ} {items : List Item} {reason : ℕ → ℕ → Type 0} {
     pub to_partly : (f : Filling) → Partly n g after k f → Next k (partly f) g after
     to_partly f y = goes (partly f) (λ i e. absurd (cc)) (λ f' e. let same : f ≡ f' = cc in subst (Partly n g after k) same y) (λ p' e. absurd (cc))
 
-    pub to_vacant : ((p' : ℕ) → p' < suc n → after (home n k p') ≡ blank) → Next k vacant g after
+    pub to_vacant : ((p' : ℕ) → p' < suc n → after (home n k p') ≡ resting n p') → Next k vacant g after
     to_vacant v = goes vacant (λ i e. absurd (cc)) (λ f e. absurd (cc)) (λ p' _. v p')
 
   -- a free slot is claimed by p, and the item's own home, with the room, comes out
@@ -85,7 +91,7 @@ module _ {n slots : ℕ} {items : List Item} {reason : ℕ → ℕ → Type 0} {
     within = omega arith;
     sum = omega arith;
     filled = λ a lt. absurd (omega arith);
-    rest = λ a _ lt _. else_at k n away (book.share k) (omega arith) free a (omega arith) (λ e. omega arith) ∙ r.vacant_at k a inside is (omega arith);
+    rest = λ a _ lt _. else_at k n away (book.share k) (omega arith) free a (omega arith) (λ e. omega arith) ∙ (r.vacant_at k a inside is (omega arith) ∙ resting_else n a (λ e. omega arith));
   })
 
   module _ (k : ℕ) (f : Filling) (inside : k < slots) (is : book.stage k ≡ partly f) where
@@ -152,11 +158,11 @@ module _ {n slots : ℕ} {items : List Item} {reason : ℕ → ℕ → Type 0} {
         })
 
     -- all homes are empty, so all parts are in hand, and the room goes home
-    pub vacates : f.filled ≡ 0 → f.out ≡ n → (f.left ≡ 2 ^ 63) × Next k vacant (book.share k) (put book.what (home n k n) blank)
+    pub vacates : f.filled ≡ 0 → f.out ≡ n → (f.left ≡ 2 ^ 63) × Next k vacant (book.share k) (put book.what (home n k n) room)
     vacates none is_out = let s : total 0 (book.share k) + f.left ≡ 2 ^ 63 = subst (λ z. total z (book.share k) + f.left ≡ 2 ^ 63) none now.sum in (
       omega arith,
-      to_vacant k n blank (book.share k) (omega arith) alone (λ a lt. dite (ℕ_discrete a n) (λ e. here_at k n blank (book.share k) (omega arith) alone a e)
-          (λ ne. else_at k n blank (book.share k) (omega arith) alone a lt ne ∙ now.rest a (omega arith) (omega arith) (λ e. ne (e ∙ is_out)))),
+      to_vacant k n room (book.share k) (omega arith) alone (λ a lt. dite (ℕ_discrete a n) (λ e. here_at k n room (book.share k) (omega arith) alone a e ∙ sym (resting_own n a e))
+          (λ ne. else_at k n room (book.share k) (omega arith) alone a lt ne ∙ (now.rest a (omega arith) (omega arith) (λ e. ne (e ∙ is_out)) ∙ sym (resting_else n a ne)))),
     )
 
   -- nobody has a reason for a lease, and there is no owner: the deed comes out, and all parts are at home

@@ -4,10 +4,11 @@ use Rattle.sdd_homes.specs.declared.Lease.{Lease}
 use Rattle.sdd_homes.specs.declared.Filling.{Filling}
 use Rattle.sdd_homes.specs.declared.Owner.{Owner}
 
--- What lies in a slot of the table: nothing is known of it (it is out), an empty value, the deed of a round, with the owners that its item holds, or so many parts of a round
+-- What lies in a slot of the table: nothing is known of it (it is out), an empty value, the room for an item, the deed of a round, with the owners that its item holds, or so many parts of a round
 pub data Content : Type 0 where
   away : Content
   blank : Content
+  room : Content
   deed : ℕ → List Owner → Content
   part : ℕ → ℕ → Content
 
@@ -33,6 +34,10 @@ pub record Book : Type 0 where
 -- the home of participant p in slot k, for n participants; the home n is that of the deed
 abbrev pub home : ℕ → ℕ → ℕ → ℕ
 home n k p = k * suc n + p
+
+-- what lies in the home p of a free slot: the room for an item in the home of the deed, and nothing in the others
+abbrev pub resting : ℕ → ℕ → Content
+resting n p = cond (p == n) room blank
 
 -- f over all numbers below n
 abbrev pub total : ℕ → (ℕ → ℕ) → ℕ

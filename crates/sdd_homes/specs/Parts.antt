@@ -5,7 +5,7 @@ use Rattle.sdd_steps.specs.State.{At, Has}
 use Rattle.sdd_homes.specs.declared.Lease.{Lease}
 use Rattle.sdd_homes.specs.declared.Filling.{Filling}
 use Rattle.sdd_homes.specs.declared.Owner.{Owner}
-use Rattle.sdd_homes.specs.Book.{Content, blank, deed, part, Stage, vacant, partly, full, Book, home, total, Lends, Apart}
+use Rattle.sdd_homes.specs.Book.{Content, blank, deed, part, Stage, vacant, partly, full, Book, home, resting, total, Lends, Apart}
 
 -- The item i is in slot k. Homes that aren't leased have the parts of their participants. These, and one part of each owner, wherever that is, are all the parts that there are.
 pub record Full (n : ℕ) (items : List Item) (slot_of : ℕ → ℕ) (share : ℕ → ℕ) (out : ℕ → List Lease) (what : ℕ → Content) (held : List Owner) (k i : ℕ) : Type 0 where
@@ -36,6 +36,6 @@ pub record Leased (n slots : ℕ) (items : List Item) (reason : ℕ → ℕ → 
 pub record Parts (n slots : ℕ) (items : List Item) (reason : ℕ → ℕ → Type 0) (book : Book) : Type 0 where
   pub full_at : (k i : ℕ) → k < slots → book.stage k ≡ full i → Full n items book.slot_of (book.share k) book.out book.what (book.held k) k i
   pub partly_at : (k : ℕ) (f : Filling) → k < slots → book.stage k ≡ partly f → Partly n (book.share k) book.what k f
-  pub vacant_at : (k p : ℕ) → k < slots → book.stage k ≡ vacant → p < suc n → book.what (home n k p) ≡ blank
+  pub vacant_at : (k p : ℕ) → k < slots → book.stage k ≡ vacant → p < suc n → book.what (home n k p) ≡ resting n p
   pub leases : (p : ℕ) (l : Lease) → Has (book.out p) l → Leased n slots items reason book.stage book.share p l
   pub once : (p : ℕ) → Apart (book.out p)

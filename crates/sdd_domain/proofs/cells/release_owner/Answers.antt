@@ -9,7 +9,7 @@ use Rattle.sdd_domain.proofs.Releases.{releases_one}
 use Rattle.sdd_domain.proofs.cells.release_owner.Goals as goal
 
 pub fetch_sub-requires : goal.fetch_sub-requires
-fetch_sub-requires c = let t = c.requires.table in let plan = c.args.words.now.key in let place = c.args.place.now in let slots = c.args.words.now.table_id.slots in let same = t.1 in let cells = t.2 in let few = t.3 in let small = t.4 in let inside = t.5 in let low = t.6 in let room = t.7 in let l = c.requires.owner in
+fetch_sub-requires g c = let t = c.requires.table in let plan = c.args.words.now.key in let place = c.args.place.now in let slots = c.args.words.now.table_id.slots in let same = t.1 in let cells = t.2 in let few = t.3 in let small = t.4 in let inside = t.5 in let low = t.6 in let room = t.7 in let l = c.requires.owner in
     let is = l.4 in let word : slot_word plan.sizes l.0.slot ≡ 8 * c.args.participants + 16 + c.args.cells + c.args.slot = omega arith in (
       t.0,
       omega arith,
@@ -19,8 +19,8 @@ fetch_sub-requires c = let t = c.requires.table in let plan = c.args.words.now.k
 
 -- the released owner was counted
 pub overflow_sub-result : goal.overflow_sub-result
-overflow_sub-result c = let l = c.requires.owner in let told = c.fetch_sub.ensures.2 l.0 l.1 l.2 l.3 l.5 l.6 in let more = told.0 in omega arith
+overflow_sub-result g c = let l = c.requires.owner in let told = c.fetch_sub.ensures.2 l.0 l.1 l.2 l.3 l.5 l.6 in let more = told.0 in omega arith
 
 pub returns-clause-released : goal.returns-clause-released
-returns-clause-released c = λ l o os has slot first. let t = c.fetch_sub.ensures.2 l o os has slot first in let more = t.0 in let n : ℕ = c.fetch_sub.result in let same : n ≡ n - 3 + 3 = omega arith in
+returns-clause-released g c = λ l o os has slot first. let t = c.fetch_sub.ensures.2 l o os has slot first in let more = t.0 in let n : ℕ = c.fetch_sub.result in let same : n ≡ n - 3 + 3 = omega arith in
     t.1 ∙ ap (λ z. (releasing_one z l os c.args.place.now.me.0, c.args.place.now.me.1)) same

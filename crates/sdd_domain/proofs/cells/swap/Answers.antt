@@ -9,7 +9,7 @@ use Rattle.sdd_domain.proofs.Exchanges.{swaps}
 use Rattle.sdd_domain.proofs.cells.swap.Goals as goal
 
 pub swap-requires : goal.swap-requires
-swap-requires c = let t = c.requires.table in let plan = c.args.words.now.key in let place = c.args.place.now in let slots = c.args.words.now.table_id.slots in let same = t.1 in let few = t.2 in let inside = t.3 in let small = t.4 in let room = t.5 in let b = c.requires.brings in
+swap-requires g c = let t = c.requires.table in let plan = c.args.words.now.key in let place = c.args.place.now in let slots = c.args.words.now.table_id.slots in let same = t.1 in let few = t.2 in let inside = t.3 in let small = t.4 in let room = t.5 in let b = c.requires.brings in
     let word : cell_word plan.sizes c.args.cell ≡ 8 * c.args.participants + 16 + c.args.cell = omega arith in (
       t.0,
       omega arith,

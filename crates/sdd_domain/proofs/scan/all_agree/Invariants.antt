@@ -4,7 +4,7 @@ use Rattle.sdd_domain.specs.Plays.{Scans}
 use Rattle.sdd_domain.proofs.scan.all_agree.Given as goal
 
 abbrev pub invariant-loop-other : goal.invariant-loop-other
-invariant-loop-other l = record {
+invariant-loop-other g l = record {
   same : (l.place.table_id ≡ l.fn.place.table_id) × (l.place.id ≡ l.fn.place.id) × (l.place.me.0.born ≡ l.fn.place.me.0.born) × (l.place.me.1 ≡ l.fn.place.me.1);
   scans : Scans l.place l.number l.epoch 2;
   noted : (q : ℕ) → q < l.other → q ≢ l.number → Has l.place.me.0.known.looked q;

@@ -9,7 +9,7 @@ use Rattle.sdd_domain.proofs.Placings.{places_item}
 use Rattle.sdd_domain.proofs.slots.place.Goals as goal
 
 pub store-requires : goal.store-requires
-store-requires c = let t = c.requires.table in let plan = c.args.words.now.key in let place = c.args.place.now in let slots = c.args.words.now.table_id.slots in let same = t.1 in let cells = t.2 in let few = t.3 in let small = t.4 in let inside = t.5 in let low = t.6 in let room = t.7 in let r = c.requires.ready in let at = r.3 in let f = c.requires.filled in
+store-requires g c = let t = c.requires.table in let plan = c.args.words.now.key in let place = c.args.place.now in let slots = c.args.words.now.table_id.slots in let same = t.1 in let cells = t.2 in let few = t.3 in let small = t.4 in let inside = t.5 in let low = t.6 in let room = t.7 in let r = c.requires.ready in let at = r.3 in let f = c.requires.filled in
     let word : slot_word plan.sizes place.me.0.slot ≡ 8 * c.args.participants + 16 + c.args.cells + c.args.slot = omega arith in (
       t.0,
       omega arith,

@@ -3,4 +3,4 @@ use Rattle.sdd_domain.proofs.Seats.{sits}
 use Rattle.sdd_domain.proofs.steps.sit.Goals as goal
 
 pub load_new_seat-place-requires : goal.load_new_seat-place-requires
-load_new_seat-place-requires c = (search rules, sits _ _ _ _ _)
+load_new_seat-place-requires g c = (search rules, sits _ _ _ _ _)

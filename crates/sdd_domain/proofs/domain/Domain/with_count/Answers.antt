@@ -1,14 +1,17 @@
-use Rattle.std.proofs.Common.{ℕ, ◌+◌, ◌*◌, ap, sym, ◌∙◌, subst, List, length, arith}
+use Rattle.std.proofs.Common.{◌≡◌, ℕ, ◌+◌, ◌*◌, ◌++◌, ap, sym, ◌∙◌, subst, List, length, length-append, replicate, arith}
 use Rattle.sdd_steps.specs.State.{At}
 use Rattle.sdd_steps.proofs.ListLemmas.{at_replicate}
+use Rattle.sdd_domain.specs.Layout.{all_homes, all_spares}
 use Rattle.sdd_domain.specs.declared.board.Home.{Home}
 use Rattle.sdd_domain.specs.declared.board.Home.TheVariants.{Blank}
-use Rattle.sdd_domain.proofs.Firsts.{many_of}
+use Rattle.sdd_domain.proofs.Firsts.{many_of, at_low, at_high}
 use Rattle.sdd_domain.proofs.Seats.{begins}
 use Rattle.sdd_domain.proofs.domain.Domain.with_count.Goals as goal
 
 pub new-requires : goal.new-requires
-new-requires c = let sizes = c.args.sizes in let count : ℕ = sizes.slots * (sizes.participants + 1) + sizes.cells + sizes.participants in let filled = c.in_ok-homes.ensures in
-    begins _ _ (record { sizes = sizes; first = c.args.count }) c.deref.result.now c.in_ok-homes.homes.items (omega (arith, c.ranges.count)) (c.deref.ensures.value ∙ c.in_ok-words.ensures)
-    (let all = ap (λ (l : List Home). length l) filled ∙ many_of count Blank in omega arith)
-    (λ i y at. sym (at_replicate count i Blank y (subst (λ (l : List Home). At l i y) filled at)))
+new-requires g c = let sizes = c.args.sizes in let homes = c.in_ok-homes.ensures in let own = homes.0 in let spares : List (Home g.row.T.Denot) = replicate (all_spares sizes) Blank in
+    begins _ _ (record { sizes = sizes; first = c.args.count }) c.deref.result.now c.in_ok-homes.homes.items (omega (arith, c.ranges.count)) (c.deref.ensures.value ∙ c.in_ok-words.ensures) (record {
+      long = ap length homes.3 ∙ (length-append own spares ∙ (let a = homes.1 in let b : length spares ≡ all_spares sizes = many_of (all_spares sizes) Blank in omega arith));
+      low = λ i y lt at. homes.2 i y (at_low own spares i y (let a = homes.1 in omega arith) (subst (λ l. At l i y) homes.3 at));
+      high = λ i y lt at. sym (at_replicate (all_spares sizes) i Blank y (at_high own spares i (all_homes sizes + i) y (let a = homes.1 in omega arith) (subst (λ l. At l (all_homes sizes + i) y) homes.3 at)));
+    })

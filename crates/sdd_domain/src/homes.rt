@@ -1,0 +1,160 @@
+//! What lies in the slots of a place when it is made, and when it is closed.
+
+ghost use Rattle.std.specs.Prelude.{◌≡◌, ℕ, suc, ◌+◌, ◌*◌, ◌^◌, ◌<◌, ◌≤◌, ◌++◌, ◌∷◌, ◌%◌, List, [], replicate, length, vec_len, vec_capacity, IsSome, IfOk, OnOk};
+ghost use Rattle.core.specs.Mem.Slots.{IsFull};
+ghost use Rattle.sdd_homes.specs.declared.Owner.{Owner};
+ghost use Rattle.sdd_homes.specs.Book.{deed, part, resting, room};
+ghost use Rattle.sdd_domain.specs.Layout.{all_homes, all_spares, IsSized};
+ghost use Rattle.sdd_domain.specs.Contents.{IsIn, AreResting};
+ghost use Rattle.sdd_domain.specs.declared.board.Home.{Home};
+ghost use Rattle.sdd_domain.specs.declared.board.Home.TheVariants.{Blank};
+
+use crate::board::{Home, Stored};
+use atomic_table::Closed;
+use parted::{Deed, Part};
+use sdd_base::sizes::Sizes;
+use std::alloc::{AllocError, Global};
+use std::mem::ManuallyDrop;
+
+/// Lets go of what lies in a slot. No call of a place places an item yet, so there is an empty box at most.
+pub(crate) fn let_go<T>(home: Home<T>) {
+    match home {
+        Home::Blank => {}
+        Home::Room(room) => drop(room),
+        Home::Deed(deed) => drop(unsafe { ManuallyDrop::new_unchecked(deed) }),
+        Home::Part(part, _) => drop(unsafe { ManuallyDrop::new_unchecked(part) }),
+    }
+}
+
+/// The box of a free slot.
+pub(crate) fn room_of<T>(home: Home<T>) -> Box<Stored<T>>
+    requires { IsIn room home }
+{
+    match home {
+        Home::Room(room) => room,
+        other => {
+            let_go(other);
+            unreachable!()
+        }
+    }
+}
+
+/// The deed of an item.
+pub(crate) fn deed_of<T>(home: Home<T>) -> Deed<Stored<T>, Global>
+    requires { (r : ℕ) × (hs : List Owner) × IsIn (deed r hs) home }
+    ensures { (r : ℕ) (hs : List Owner) → IsIn (deed r hs) home → (result.life ≡ r) × IsSome result.value }
+{
+    match home {
+        Home::Deed(deed) => deed,
+        other => {
+            let_go(other);
+            unreachable!()
+        }
+    }
+}
+
+/// The parts that lie in a home, and how many they are.
+pub(crate) fn parts_of<T>(home: Home<T>) -> (Part<Stored<T>>, u64)
+    requires { (r : ℕ) × (c : ℕ) × IsIn (part r c) home }
+    ensures { (r c : ℕ) → IsIn (part r c) home → (result.0.life.id ≡ r) × (result.0.life.count ≡ c) × (result.1 ≡ c) × (0 < c) × IsSome result.0.seen.value }
+{
+    match home {
+        Home::Part(part, count) => (part, count),
+        other => {
+            let_go(other);
+            unreachable!()
+        }
+    }
+}
+
+/// Lets go of homes.
+pub(crate) fn clear<T>(homes: Vec<Home<T>>) {
+    let mut homes = homes;
+    while let Some(home) = homes.pop() {
+        let_go(home);
+    }
+    homes.destroy_empty();
+}
+
+/// Lets go of what a place had in its slots.
+pub(crate) fn empty<T>(closed: Closed<Home<T>, Global>)
+    requires { IsFull closed.slots }
+{
+    let mut closed = closed;
+    let mut at = 0;
+    while at < closed.slot_count() {
+        let_go(closed.take(at));
+        at += 1;
+    }
+    closed.free();
+}
+
+/// Adds a home where there is room.
+fn keep<T>(homes: &mut Vec<Home<T>>, home: Home<T>)
+    requires { vec_len homes.old < vec_capacity homes.old }
+    ensures items { homes.new.items ≡ homes.old.items ++ home ∷ [] }
+    ensures room { vec_capacity homes.old ≤ vec_capacity homes.new }
+{
+    match homes.push(home) {
+        Ok(()) => {}
+        Err(_) => unreachable!(),
+    }
+}
+
+/// What lies at first in home `at` of all, for `participants` of them: a box, if it is the home of a deed.
+fn first_home<T>(alloc: Global, participants: usize, at: usize) -> Result<Home<T>, AllocError>
+    requires { participants < 2 ^ 63 }
+    ensures { IfOk result (λ home. IsIn (resting participants (at % suc participants)) home) }
+{
+    if at % (participants + 1) != participants {
+        return Ok(Home::Blank);
+    }
+    match Box::new(alloc, None) {
+        Ok(room) => Ok(Home::Room(room)),
+        Err(_) => Err(AllocError),
+    }
+}
+
+/// The homes of free slots, so many of them, for `participants`, where there is room for these.
+fn push_rooms<T>(
+    homes: &mut Vec<Home<T>>,
+    alloc: Global,
+    participants: usize,
+    count: usize,
+) -> Result<(), AllocError>
+    requires { (homes.old.items ≡ []) × (count ≤ vec_capacity homes.old) × (participants < 2 ^ 63) }
+    ensures homes { OnOk result ((length homes.new.items ≡ count) × AreResting participants homes.new.items) }
+    ensures room { vec_capacity homes.old ≤ vec_capacity homes.new }
+{
+    for at in 0..count {
+        let home = first_home(alloc, participants, at)?;
+        keep(homes, home);
+    }
+    Ok(())
+}
+
+/// So many empty slots behind these, where there is room for them.
+fn push_blanks<T>(homes: &mut Vec<Home<T>>, count: usize)
+    requires { vec_len homes.old + count ≤ vec_capacity homes.old }
+    ensures { homes.new.items ≡ homes.old.items ++ replicate count Blank }
+{
+    for _i in 0..count {
+        keep(homes, Home::Blank);
+    }
+}
+
+/// The homes and spare slots of a new place.
+pub(crate) fn homes_from<T>(alloc: Global, sizes: &Sizes) -> Result<Vec<Home<T>>, AllocError>
+    requires { IsSized sizes.now }
+    ensures { IfOk result (λ homes. (own : List (Home T)) × (length own ≡ all_homes sizes.now) × AreResting sizes.now.participants own × (homes.items ≡ own ++ replicate (all_spares sizes.now) Blank)) }
+{
+    let own = sizes.slots * (sizes.participants + 1);
+    let spares = sizes.cells + sizes.participants;
+    let mut homes = Vec::with_capacity(alloc, own + spares)?;
+    if push_rooms(&mut homes, alloc, sizes.participants, own).is_err() {
+        clear(homes);
+        return Err(AllocError);
+    }
+    push_blanks(&mut homes, spares);
+    Ok(homes)
+}
