@@ -112,8 +112,8 @@ module _ (S : Type 0) (IsIn : Content → S → Type 0) (plan : Plan) where
           mine = g.none_left;
           others = g.others;
           same = refl;
-          written = record { long = w.long; high = λ j le. get_or-set_other s.words i j 0 0 (λ z. omega arith); freed = λ q' z small. inl (sym (w.claims q' (omega arith)) ∙ z) };
-          claimed = λ z. let one = a.claimed in let same = w.claims q inside in absurd (omega arith);
+          written = record { long = w.long; high = λ j le. get_or-set_other s.words i j 0 0 (λ z. omega arith); freed = λ q' small _. inl (w.claims q' (omega arith)) };
+          claimed = w.claims q inside ∙ a.claimed;
           apart = λ j v other at_v kind_v same. other (sym (r.epochs.seats j v at_v kind_v).seated ∙ (ap r.epochs.seat_of same ∙ a.seated));
         })),
         ap (λ (cs : List (ℕ × S)). (ending d, cs)) (carried.0 ∙ sym carried.1),

@@ -7,6 +7,8 @@ pub mod Looks
 pub mod Locks
 pub mod Firsts
 pub mod Seats
+pub mod Registers
+pub mod Ends
 pub mod Loads
 pub mod Closes
 pub mod Swaps

@@ -3,7 +3,7 @@
 ghost use Rattle.std.specs.Prelude.{◌≡◌, ◌≢◌, ℕ, ◌+◌, ◌*◌, ◌^◌, ◌<◌, ◌≤◌, [], ◌∷◌, ◌++◌, replicate, IfOk, OnOk, IfErr, OnErr};
 ghost use Rattle.sdd_base.specs.State.{no_local};
 ghost use Rattle.sdd_domain.specs.Layout.{claim_word, epoch_words, IsSized};
-ghost use Rattle.sdd_domain.specs.Rule.{numbers, first_words};
+ghost use Rattle.sdd_domain.specs.Rule.{numbers, first_eights, first_words};
 ghost use Rattle.sdd_domain.specs.declared.board.Home.TheVariants.{Blank};
 
 use crate::board::{Board, Home, Plan, Words};
@@ -17,7 +17,7 @@ use std::alloc::{AllocError, Global};
 pub struct Domain {
     pub(crate) table: Board,
     pub(crate) participants: usize,
-    ghost sized: { (participants ≡ table.shared.key.sizes.participants) × (epoch_words participants ≤ table.shared.table_id.words) × (participants ≤ 2 ^ 30) },
+    ghost sized: { (participants ≡ table.shared.key.sizes.participants) × (epoch_words participants ≤ table.shared.table_id.words) × (participants ≤ 2 ^ 30) × (table.shared.key.sizes.cells ≤ 2 ^ 30) },
 }
 
 /// So many words 0 behind these.
@@ -40,15 +40,30 @@ fn push_numbers(words: &mut Vec<u64>, count: usize) -> Result<(), AllocError>
     Ok(())
 }
 
-/// The words of a new place: the count of raises, then 0 but for cells, each of which has the spare slot of its own
-/// number.
+/// The words of `count` participants behind these, for so many cells: each is closed, and nobody acts for it. Its spare
+/// slot is behind those of the cells and of the participants before it.
+fn push_participants(words: &mut Vec<u64>, cells: usize, count: usize) -> Result<(), AllocError>
+    requires { (cells ≤ 2 ^ 30) × (count ≤ 2 ^ 30) }
+    ensures { OnOk result (words.new.items ≡ words.old.items ++ first_eights cells count) }
+{
+    for number in 0..count {
+        words.push(0)?;
+        words.push((cells + number + 1) as u64)?;
+        push_zeros(words, 6)?;
+    }
+    Ok(())
+}
+
+/// The words of a new place: the count of raises, those of participants, those of cells, each of which has the spare
+/// slot of its own number, and 0 for each slot.
 fn words_from(alloc: Global, plan: &Plan) -> Result<Vec<u64>, AllocError>
     requires { IsSized plan.now.sizes }
     ensures { IfOk result (λ words. words.items ≡ first_words plan.now) }
 {
     let mut words = Vec::new(alloc);
     words.push(plan.first)?;
-    push_zeros(&mut words, 8 * plan.sizes.participants + 15)?;
+    push_zeros(&mut words, 15)?;
+    push_participants(&mut words, plan.sizes.cells, plan.sizes.participants)?;
     push_numbers(&mut words, plan.sizes.cells)?;
     push_zeros(&mut words, plan.sizes.slots)?;
     Ok(words)
@@ -118,8 +133,8 @@ impl Domain {
     {
         let mut place = sit(self.words());
         for number in 0..self.participants {
-            if claim(self.words(), &mut place, number) {
-                return Ok(Local::registered(place, number));
+            if let Some(spare) = claim(self.words(), &mut place, number) {
+                return Ok(Local::registered(place, number, spare));
             }
         }
         Err(RegisterRefused::Full)

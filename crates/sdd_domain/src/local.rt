@@ -1,11 +1,12 @@
 //! One participant of a place, as the thread that acts for it has it.
 
-ghost use Rattle.std.specs.Prelude.{◌≡◌, ◌≢◌, ℕ, ◌+◌, ◌-◌, ◌*◌, ◌^◌, ◌<◌, ◌≤◌, ◌==◌, ◌&&◌, [], cond};
+ghost use Rattle.std.specs.Prelude.{◌≡◌, ◌≢◌, ℕ, ◌+◌, ◌-◌, ◌*◌, ◌^◌, ◌<◌, ◌≤◌, ◌==◌, ◌&&◌, true, [], cond};
 ghost use Rattle.sdd_base.specs.State.{no_local};
 ghost use Rattle.sdd_base.specs.Steps.{closings_after, scans};
 ghost use Rattle.sdd_steps.specs.declared.participant.Phase.TheVariants.{Idle, Opened};
-ghost use Rattle.sdd_domain.specs.Views.{IsBare, registered};
-ghost use Rattle.sdd_base.specs.declared.sizes.Sizes.{Sizes};
+ghost use Rattle.sdd_domain.specs.Contents.{IsIn, is_blank};
+ghost use Rattle.sdd_domain.specs.Views.{IsBare, spent};
+ghost use Rattle.sdd_domain.specs.Plays.{own_spare, has_just, HasRegistered};
 ghost use Rattle.sdd_domain.specs.Layout.{claim_word};
 
 use crate::board::Place;
@@ -18,8 +19,10 @@ use sdd_base::status::LocalState;
 pub struct Local {
     pub(crate) place: Place,
     pub(crate) number: usize,
+    pub(crate) spare: u64,
     pub(crate) own: LocalState,
     ghost acts: { (place.me.0.kind ≡ 1) × (place.me.0.number ≡ number) × (place.me.0.scan ≡ 0) × (number < 2 ^ 30) × (claim_word number < place.table_id.words) × IsBare place.me.0 },
+    ghost has_spare: { (place.me.0.spare ≡ spare) × (spare < 2 ^ 33) × (has_just is_blank (own_spare place.me.0 spare) place.me.1 ≡ true) },
     ghost phase: { place.me.0.known.phase ≡ cond (own.nesting == 0) Idle (Opened own.previous) },
     ghost found: { place.me.0.known.found ≡ own.previous },
     ghost noted: { own.published ≡ own.previous },
@@ -36,13 +39,15 @@ impl Local {
     ghost use Rattle.sdd_domain.specs.Tokens.{participants_of, place_of, home_of, number_of, own_of, born_of, begun, closed, IsSame};
 
     /// The participant that a seat has just come to act for.
-    pub(crate) fn registered(place: Place, number: usize) -> Local
-        requires { (sizes : Sizes) × (spare : ℕ) × (place.me.0 ≡ registered sizes spare number) × (number < 2 ^ 30) × (claim_word number < place.table_id.words) }
+    pub(crate) fn registered(place: Place, number: usize, spare: u64) -> Local
+        requires acts { HasRegistered IsIn (spent, []) number spare place.me × (spare < 2 ^ 33) }
+        requires table { (number < 2 ^ 30) × (claim_word number < place.table_id.words) }
         ensures { (home_of result ≡ place.table_id) × (number_of result ≡ number) × (own_of result ≡ no_local) }
     {
         Local {
             place,
             number,
+            spare,
             own: LocalState {
                 nesting: 0,
                 published: 0,
@@ -68,7 +73,12 @@ impl Local {
         ensures same { IsSame self.old self.new }
         ensures begun { (count : ℕ) × (count ≤ born_of self.new) × (own_of self.new ≡ begun count (own_of self.old)) }
     {
-        let Local { place, number, own } = self;
+        let Local {
+            place,
+            number,
+            own,
+            ..
+        } = self;
         let epoch = steps::read_count(domain.words(), place);
         steps::publish(domain.words(), place, *number, epoch);
         // Most openings find the count of the one before: then these stand as they are.
@@ -88,7 +98,12 @@ impl Local {
         ensures same { IsSame self.old self.new }
         ensures closed { own_of self.new ≡ closed (own_of self.old) }
     {
-        let Local { place, number, own } = self;
+        let Local {
+            place,
+            number,
+            own,
+            ..
+        } = self;
         let closings = if own.closings < 64 {
             own.closings + 1
         } else {
@@ -113,8 +128,9 @@ impl Local {
         let Local {
             mut place,
             number,
+            spare,
             own: _,
         } = self;
-        steps::end(domain.words(), &mut place, number);
+        steps::end(domain.words(), &mut place, number, spare);
     }
 }
