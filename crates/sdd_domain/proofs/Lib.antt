@@ -8,6 +8,7 @@ pub mod Locks
 pub mod Firsts
 pub mod Seats
 pub mod Registers
+pub mod Learns
 pub mod Ends
 pub mod Loads
 pub mod Closes

@@ -1,5 +1,6 @@
 -- what each step on a word tells the seat that makes it
 use Rattle.std.specs.Prelude.{◌≡◌, ◌≢◌, ◌⊎◌, ℕ, suc, ◌+◌, ◌-◌, ◌^◌, ◌<◌, ◌≤◌, List, [], ◌∷◌, ◌++◌, length, drop, Option, None, Some, Bool, false, ◌==◌, ◌&&◌, cond}
+use mathlib.Core.Option.{some}
 use Rattle.atomic_table.specs.Table.{Me, Step, rest}
 use Rattle.atomic_table.specs.declared.shared.Seat.{Seat}
 use Rattle.sdd_base.specs.declared.sizes.Sizes.{Sizes}
@@ -58,6 +59,10 @@ module _ {S : Type 0} where
   -- what was in front of what was out with the seat is back
   abbrev pub end_then : Step S → Me S Acting → ℕ → Me S Acting → Type 0
   end_then t m n m' = m' ≡ (spent, rest m.1)
+
+-- what is announced with the step, how large the place is, is so
+abbrev pub learn_then : {S : Type 0} → (S → Sizes → Type 0) → Step S → Me S Acting → ℕ → Me S Acting → Type 0
+learn_then Announces t m n m' = (m' ≡ m) × ((x : _) (z : Sizes) → t.said ≡ some x → Announces x z → m.0.sizes ≡ z)
 
 -- a scan leaves alone all but what it tells of the participant itself
 abbrev pub Steady : {S : Type 0} → Me S Acting → Me S Acting → Type 0

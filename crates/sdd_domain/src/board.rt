@@ -32,12 +32,14 @@ pub struct Acting {
     pub waits: Seq<Garbage>,
 }
 
-/// What lies in a slot of the table: nothing, a deed of a round, or so many parts of a round.
+/// What lies in a slot of the table: nothing, a deed of a round, or so many parts of a round. What announces how large
+/// the place is lies in none: it is only said to a seat.
 #[derive(Clone, Copy, Drop)]
 pub enum Home {
     Blank,
     Deed(u64),
     Part(u64, u64),
+    Announced(Sizes),
 }
 
 /// What a place is told once, when it is made: how large it is, and the count of raises that it begins with.

@@ -2,22 +2,22 @@
 
 ghost use Rattle.std.specs.Prelude.{◌≡◌, ◌≢◌, ℕ, ◌+◌, ◌*◌, ◌^◌, ◌<◌, ◌≤◌, [], ◌∷◌, ◌++◌, replicate, IfOk, OnOk, IfErr, OnErr};
 ghost use Rattle.sdd_base.specs.State.{no_local};
-ghost use Rattle.sdd_domain.specs.Layout.{claim_word, epoch_words, IsSized};
+ghost use Rattle.sdd_domain.specs.Layout.{all_words, IsSized};
 ghost use Rattle.sdd_domain.specs.Rule.{numbers, first_eights, first_words};
 ghost use Rattle.sdd_domain.specs.declared.board.Home.TheVariants.{Blank};
 
 use crate::board::{Board, Home, Plan, Words};
 use crate::local::Local;
 use crate::refusal::RegisterRefused;
-use crate::steps::{claim, is_claimed, sit};
+use crate::steps::{claim, is_claimed, learn, sit};
 use sdd_base::sizes::Sizes;
 use std::alloc::{AllocError, Global};
 
 /// A place that threads share by `&`. It can't be let go: `close` ends it.
 pub struct Domain {
     pub(crate) table: Board,
-    pub(crate) participants: usize,
-    ghost sized: { (participants ≡ table.shared.key.sizes.participants) × (epoch_words participants ≤ table.shared.table_id.words) × (participants ≤ 2 ^ 30) × (table.shared.key.sizes.cells ≤ 2 ^ 30) },
+    pub(crate) sizes: Sizes,
+    ghost sized: { (sizes ≡ table.shared.key.sizes) × IsSized sizes × (all_words sizes ≤ table.shared.table_id.words) },
 }
 
 /// So many words 0 behind these.
@@ -99,7 +99,6 @@ impl Domain {
         ensures participants { IfOk result (λ d. participants_of d ≡ sizes.participants) }
         ensures first { IfOk result (λ d. first_of d ≡ count) }
     {
-        let participants = sizes.participants;
         let plan = Plan {
             sizes,
             first: count,
@@ -107,19 +106,16 @@ impl Domain {
         let words = words_from(alloc, &plan)?;
         let homes = homes_from(
             alloc,
-            sizes.slots * (participants + 1) + sizes.cells + participants,
+            sizes.slots * (sizes.participants + 1) + sizes.cells + sizes.participants,
         )?;
         let Ok((table, _)) = Board::new(alloc, &words, homes, &plan) else {
             return Err(AllocError);
         };
-        Ok(Domain {
-            table,
-            participants,
-        })
+        Ok(Domain { table, sizes })
     }
 
     pub(crate) fn words(&self) -> &Words
-        ensures { (result.now.table_id ≡ place_of self.now) × (result.now.key ≡ self.now.table.shared.key) }
+        ensures { (result.now.table_id ≡ self.now.table.shared.table_id) × (result.now.key ≡ self.now.table.shared.key) }
     {
         &self.table.shared
     }
@@ -132,8 +128,9 @@ impl Domain {
         ensures fresh { IfOk result (λ l. own_of l ≡ no_local) }
     {
         let mut place = sit(self.words());
-        for number in 0..self.participants {
+        for number in 0..self.sizes.participants {
             if let Some(spare) = claim(self.words(), &mut place, number) {
+                learn(self.words(), &mut place, self.sizes);
                 return Ok(Local::registered(place, number, spare));
             }
         }
@@ -142,7 +139,7 @@ impl Domain {
 
     /// Whether somebody acts for a participant.
     fn any_claimed(&self) -> bool {
-        for number in 0..self.participants {
+        for number in 0..self.sizes.participants {
             if is_claimed(self.words(), number) {
                 return true;
             }
@@ -157,10 +154,7 @@ impl Domain {
         if self.any_claimed() {
             return Err(self);
         }
-        let Domain {
-            table,
-            participants: _,
-        } = self;
+        let Domain { table, sizes: _ } = self;
         drop(table);
         Ok(())
     }

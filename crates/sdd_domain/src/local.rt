@@ -42,7 +42,7 @@ impl Local {
     pub(crate) fn registered(place: Place, number: usize, spare: u64) -> Local
         requires acts { HasRegistered IsIn (spent, []) number spare place.me × (spare < 2 ^ 33) }
         requires table { (number < 2 ^ 30) × (claim_word number < place.table_id.words) }
-        ensures { (home_of result ≡ place.table_id) × (number_of result ≡ number) × (own_of result ≡ no_local) }
+        ensures { (home_of result ≡ (place.table_id, place.me.0.sizes)) × (number_of result ≡ number) × (own_of result ≡ no_local) }
     {
         Local {
             place,
@@ -111,7 +111,13 @@ impl Local {
         };
         let epoch = own.previous;
         if scans(own, closings) {
-            scan(domain.words(), place, *number, domain.participants, epoch);
+            scan(
+                domain.words(),
+                place,
+                *number,
+                domain.sizes.participants,
+                epoch,
+            );
             own.closings = 0;
         } else {
             own.closings = closings;

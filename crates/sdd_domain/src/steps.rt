@@ -4,17 +4,21 @@ ghost use Rattle.std.specs.Prelude.{◌≡◌, ◌≢◌, ◌⊎◌, ℕ, ◌∷
 ghost use Rattle.atomic_table.specs.Table.{rest};
 ghost use Rattle.sdd_steps.specs.State.{Has};
 ghost use Rattle.sdd_steps.specs.declared.participant.Phase.TheVariants.{Idle, HasRead, Opened};
-ghost use Rattle.sdd_domain.specs.Contents.{IsIn};
+ghost use Rattle.sdd_domain.specs.Contents.{IsIn, Announces};
 ghost use Rattle.sdd_domain.specs.Views.{IsBare, spent, reading, publishing, rotated, looking, closing};
 ghost use Rattle.sdd_domain.specs.Layout.{count_word, lock_word, state_word, claim_word, epoch_words, shown};
-ghost use Rattle.sdd_domain.specs.Plays.{read_then, publish_then, count_then, look_then, agree_then, raise_then, close_then, lock_then, unlock_then, sit_then, HasSpare, HasRegistered, claim_then, end_then, Steady, Scans};
+ghost use Rattle.sdd_domain.specs.Plays.{read_then, publish_then, count_then, look_then, agree_then, raise_then, close_then, lock_then, unlock_then, sit_then, HasSpare, HasRegistered, claim_then, learn_then, end_then, Steady, Scans};
 ghost use Rattle.sdd_domain.specs.declared.board.Home.{Home};
 
 use crate::board::{Acting, Home, Place, Words};
 use atomic_table::Play;
+use sdd_base::sizes::Sizes;
 
 /// The word of the count of raises.
 const COUNT: usize = 0;
+
+/// A word that is always 0.
+const STILL: usize = 1;
 
 /// The word of the scan lock.
 const LOCK: usize = 8;
@@ -95,6 +99,12 @@ impl Play<Home, Acting> for OnClaim {
     ghost then = { claim_then IsIn };
 }
 
+struct OnLearn;
+
+impl Play<Home, Acting> for OnLearn {
+    ghost then = { learn_then Announces };
+}
+
 struct OnEnd;
 
 impl Play<Home, Acting> for OnEnd {
@@ -127,6 +137,16 @@ pub(crate) fn claim(words: &Words, place: &mut Place, number: usize) -> Option<u
 {
     let found = words.swap::<OnClaim>(place, STRIDE * number + CLAIM, 0);
     if found == 0 { None } else { Some(found - 1) }
+}
+
+/// Tells the seat that the place has the sizes `sizes`. No word changes.
+pub(crate) fn learn(words: &Words, place: &mut Place, sizes: Sizes)
+    requires table { (place.old.table_id ≡ words.now.table_id) × (1 < words.now.table_id.words) × (sizes ≡ words.now.key.sizes) }
+    requires acts { place.old.me.0.kind ≡ 1 }
+    ensures seat { (place.new.table_id ≡ place.old.table_id) × (place.new.id ≡ place.old.id) × (place.new.me ≡ place.old.me) }
+    ensures learned { place.new.me.0.sizes ≡ sizes }
+{
+    words.compare_exchange_with::<OnLearn>(place, STILL, 0, 0, &Home::Announced(sizes));
 }
 
 /// Whether somebody acts for participant `number`.

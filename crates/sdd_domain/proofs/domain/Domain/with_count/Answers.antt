@@ -1,9 +1,8 @@
-use Rattle.std.proofs.Common.{ℕ, ◌+◌, ◌*◌, ◌^◌, ◌≤◌, ap, sym, ◌∙◌, subst, List, length, arith}
+use Rattle.std.proofs.Common.{ℕ, ◌+◌, ◌*◌, ap, sym, ◌∙◌, subst, List, length, arith}
 use Rattle.sdd_steps.specs.State.{At}
 use Rattle.sdd_steps.proofs.ListLemmas.{at_replicate}
 use Rattle.sdd_domain.specs.declared.board.Home.{Home}
 use Rattle.sdd_domain.specs.declared.board.Home.TheVariants.{Blank}
-use Rattle.sdd_base.specs.declared.sizes.Sizes.{Sizes}
 use Rattle.sdd_domain.specs.declared.board.Plan.{Plan}
 use Rattle.sdd_domain.proofs.Firsts.{many_of, long_first}
 use Rattle.sdd_domain.proofs.Seats.{begins}
@@ -18,4 +17,4 @@ new-requires c = let sizes = c.args.sizes in let count : ℕ = sizes.slots * (si
 pub invariant_of-result : goal.invariant_of-result
 invariant_of-result c = let sizes = c.args.sizes in let plan : Plan = record { sizes = sizes; first = c.args.count } in let told = c.in-Ok.ensures.ok in let key = ap (λ (z : Plan). z.sizes) told.5 in
     let long = told.0 ∙ (ap (λ (ws : List ℕ). length ws) (c.deref.ensures.value ∙ c.in_ok-words.ensures) ∙ long_first plan) in
-    record { sized = (ap (λ (z : Sizes). z.participants) (sym key), omega (arith, long), c.requires.1, subst (λ (z : Sizes). z.cells ≤ 2 ^ 30) (sym key) c.requires.3) }
+    record { sized = (sym key, c.requires, omega (arith, long)) }
