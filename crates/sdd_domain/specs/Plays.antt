@@ -42,9 +42,6 @@ module _ {S : Type 0} where
   abbrev pub raise_then : Step S → Me S Acting → ℕ → Me S Acting → Type 0
   raise_then t m n m' = m' ≡ (record m.0 { scan = 1 }, m.1)
 
-  abbrev pub close_then : Step S → Me S Acting → ℕ → Me S Acting → Type 0
-  close_then t m n m' = m' ≡ (record m.0 { known = closing m.0.known }, m.1)
-
   -- the scan lock is taken where it was free
   abbrev pub lock_then : Step S → Me S Acting → ℕ → Me S Acting → Type 0
   lock_then t m n m' = (n ≡ 0 → m' ≡ (record m.0 { scan = 1 }, m.1)) × (n ≢ 0 → m' ≡ m)
@@ -102,6 +99,10 @@ module _ {S : Type 0} (IsIn : Content → S → Type 0) where
   abbrev pub Refilled : Acting → List Lease → List (ℕ × S) → List (ℕ × S) → Type 0
   Refilled d [] carried tail = carried ≡ tail
   Refilled d (l ∷ ls) carried tail = (u : S) × (others : List (ℕ × S)) × IsIn (part l.round l.count) u × (carried ≡ (own_home d l.slot, u) ∷ others) × Refilled d ls others tail
+
+  -- all homes that are leased can go back
+  abbrev pub CanClose : Me S Acting → Type 0
+  CanClose m = (tail : List (ℕ × S)) × Refilled m.0 m.0.leases m.1 tail
 
 -- the guard is closed, and all leases have ended
 abbrev pub ending : Acting → Acting

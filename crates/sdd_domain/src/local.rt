@@ -1,18 +1,18 @@
 //! One participant of a place, as the thread that acts for it has it.
 
-ghost use Rattle.std.specs.Prelude.{◌≡◌, ◌≢◌, ℕ, ◌+◌, ◌-◌, ◌*◌, ◌^◌, ◌<◌, ◌≤◌, ◌==◌, ◌&&◌, true, [], cond};
+ghost use Rattle.std.specs.Prelude.{◌≡◌, ◌≢◌, ℕ, ◌+◌, ◌-◌, ◌*◌, ◌^◌, ◌<◌, ◌≤◌, ◌==◌, ◌&&◌, true, [], length, drop, cond};
 ghost use Rattle.sdd_base.specs.State.{no_local};
 ghost use Rattle.sdd_base.specs.Steps.{closings_after, scans};
 ghost use Rattle.sdd_steps.specs.declared.participant.Phase.TheVariants.{Idle, Opened};
 ghost use Rattle.sdd_domain.specs.Contents.{IsIn, is_blank};
 ghost use Rattle.sdd_domain.specs.Views.{IsBare, spent};
-ghost use Rattle.sdd_domain.specs.Plays.{own_spare, has_just, HasRegistered};
+ghost use Rattle.sdd_domain.specs.Plays.{own_spare, has_just, HasRegistered, CanClose};
 ghost use Rattle.sdd_domain.specs.Layout.{claim_word};
 
 use crate::board::Place;
 use crate::domain::Domain;
 use crate::scan::scan;
-use crate::steps;
+use crate::{cells, steps};
 use sdd_base::status::LocalState;
 
 /// A registered participant. It must be spent by `end`.
@@ -22,7 +22,7 @@ pub struct Local {
     pub(crate) spare: u64,
     pub(crate) own: LocalState,
     ghost acts: { (place.me.0.kind ≡ 1) × (place.me.0.number ≡ number) × (place.me.0.scan ≡ 0) × (number < 2 ^ 30) × (claim_word number < place.table_id.words) × IsBare place.me.0 },
-    ghost has_spare: { (place.me.0.spare ≡ spare) × (spare < 2 ^ 33) × (has_just is_blank (own_spare place.me.0 spare) place.me.1 ≡ true) },
+    ghost has_spare: { (place.me.0.spare ≡ spare) × (spare < 2 ^ 33) × (has_just is_blank (own_spare place.me.0 spare) (drop (length place.me.0.leases) place.me.1) ≡ true) },
     ghost phase: { place.me.0.known.phase ≡ cond (own.nesting == 0) Idle (Opened own.previous) },
     ghost found: { place.me.0.known.found ≡ own.previous },
     ghost noted: { own.published ≡ own.previous },
@@ -91,10 +91,12 @@ impl Local {
         own.accelerated = false;
     }
 
-    /// Closes an outermost guard, after a scan if one is due.
+    /// Closes an outermost guard, after a scan if one is due. What the guard leases goes home: its slots are in front of
+    /// what is out with the seat, each with its parts again.
     pub(crate) fn finish(&mut self, domain: &Domain)
         requires home { home_of self.old ≡ place_of domain.now }
         requires outermost { (own_of self.old).nesting ≡ 1 }
+        requires filled { CanClose IsIn self.old.place.me }
         ensures same { IsSame self.old self.new }
         ensures closed { own_of self.new ≡ closed (own_of self.old) }
     {
@@ -122,7 +124,7 @@ impl Local {
         } else {
             own.closings = closings;
         }
-        steps::close(domain.words(), place, *number, epoch);
+        cells::close(domain.words(), place, *number, epoch);
         own.nesting = 0;
     }
 

@@ -5,9 +5,9 @@ ghost use Rattle.atomic_table.specs.Table.{rest};
 ghost use Rattle.sdd_steps.specs.State.{Has};
 ghost use Rattle.sdd_steps.specs.declared.participant.Phase.TheVariants.{Idle, HasRead, Opened};
 ghost use Rattle.sdd_domain.specs.Contents.{IsIn, Announces};
-ghost use Rattle.sdd_domain.specs.Views.{IsBare, spent, reading, publishing, rotated, looking, closing};
+ghost use Rattle.sdd_domain.specs.Views.{IsBare, spent, reading, publishing, rotated, looking};
 ghost use Rattle.sdd_domain.specs.Layout.{count_word, lock_word, state_word, claim_word, epoch_words, shown};
-ghost use Rattle.sdd_domain.specs.Plays.{read_then, publish_then, count_then, look_then, agree_then, raise_then, close_then, lock_then, unlock_then, sit_then, HasSpare, HasRegistered, claim_then, learn_then, end_then, Steady, Scans};
+ghost use Rattle.sdd_domain.specs.Plays.{read_then, publish_then, count_then, look_then, agree_then, raise_then, lock_then, unlock_then, sit_then, HasSpare, HasRegistered, claim_then, learn_then, end_then, Steady, Scans};
 ghost use Rattle.sdd_domain.specs.declared.board.Home.{Home};
 
 use crate::board::{Acting, Home, Place, Words};
@@ -67,12 +67,6 @@ struct OnRaise;
 
 impl Play<Home, Acting> for OnRaise {
     ghost then = { raise_then };
-}
-
-struct OnClose;
-
-impl Play<Home, Acting> for OnClose {
-    ghost then = { close_then };
 }
 
 struct OnLock;
@@ -195,15 +189,6 @@ pub(crate) fn count_under(words: &Words, place: &mut Place, epoch: u64) -> u64
     ensures most { result ≤ place.old.me.0.born + 1 }
 {
     words.load::<OnCount>(place, COUNT)
-}
-
-/// Closes the guard of participant `number`.
-pub(crate) fn close(words: &Words, place: &mut Place, number: usize, epoch: u64)
-    requires table { (place.old.table_id ≡ words.now.table_id) × (number < 2 ^ 30) × (claim_word number < words.now.table_id.words) }
-    requires open { Scans place.old number epoch 0 × (place.old.me.0.leases ≡ []) }
-    ensures { (place.new.table_id ≡ place.old.table_id) × (place.new.id ≡ place.old.id) × (place.new.me ≡ (record place.old.me.0 { known = closing place.old.me.0.known }, place.old.me.1)) }
-{
-    words.store::<OnClose>(place, STRIDE * number + STATE, 0);
 }
 
 /// Tries once for the scan lock.
