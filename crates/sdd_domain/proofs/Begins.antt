@@ -87,8 +87,8 @@ module _ (S : Type 0) (IsIn : Content → S → Type 0) (plan : Plan) where
           mine = put_here r.book.out p (r.book.out p ++ new ∷ []) ∙ ap (λ ls. ls ++ new ∷ []) b.leases;
           others = λ q ne. put_else r.book.out p (r.book.out p ++ new ∷ []) q ne;
           same = refl;
-          written = record { long = refl; high = λ _ _. refl; freed = λ q z _. inl z };
-          claimed = λ e. let one = a.claimed in absurd (omega arith);
+          written = record { long = refl; high = λ _ _. refl; freed = λ _ _ _. inl refl };
+          claimed = a.claimed;
           apart = λ j e other here kind_e same. other (sym (r.epochs.seats j e here kind_e).seated ∙ (ap r.epochs.seat_of same ∙ a.seated));
         })))
 

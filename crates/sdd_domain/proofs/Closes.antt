@@ -25,7 +25,7 @@ use Rattle.sdd_domain.specs.Views.{closing}
 use Rattle.sdd_domain.specs.Layout.{state_word, claim_word, shown}
 use Rattle.sdd_domain.specs.Items.{Grip}
 use Rattle.sdd_domain.specs.Rule.{Shows}
-use Rattle.sdd_domain.specs.Plays.{own_home, Refilled, ending, end_all_then}
+use Rattle.sdd_domain.specs.Plays.{own_home, Steady, Refilled, CanClose, ending, end_all_then}
 use Rattle.sdd_domain.specs.declared.board.Acting.{Acting}
 use Rattle.sdd_domain.specs.declared.board.Plan.{Plan}
 use Rattle.sdd_domain.proofs.Taken as taken
@@ -45,6 +45,11 @@ module _ {S : Type 0} (IsIn : Content → S → Type 0) (d : Acting) where
   pub valid : (ls : List Lease) (carried : List (ℕ × S)) (homes : List (maybe.Option S)) → table.Valid homes carried (give_all ls)
   valid [] carried homes = tt
   valid (l ∷ ls) carried homes = (tt, valid ls (table.rest carried) (table.put_back homes carried))
+
+  -- a view with the same homes has the same ones
+  refilled_on : (d' : Acting) → d'.sizes ≡ d.sizes → d'.number ≡ d.number → (ls : List Lease) (carried tail : List (ℕ × S)) → Refilled IsIn d ls carried tail → Refilled IsIn d' ls carried tail
+  refilled_on d' sizes number [] carried tail is = is
+  refilled_on d' sizes number (l ∷ ls) carried tail r = (r.0, r.1, r.2, r.3 ∙ ap (λ (z : Sizes × ℕ). (home z.0.participants l.slot z.1, r.0) ∷ r.1) (λ j. (sym sizes j, sym number j)), refilled_on d' sizes number ls r.1 tail r.4)
 
   module _ (n slots spares p : ℕ) (items : List Item) (reason : ℕ → ℕ → Type 0) (low : p < n) (own : (k : ℕ) → own_home d k ≡ home n k p) where
     pub record Given (book : Book) (homes' : List (maybe.Option S)) : Type 0 where
@@ -72,6 +77,10 @@ module _ {S : Type 0} (IsIn : Content → S → Type 0) (d : Acting) where
           counted = g.counted;
           lying = g.lying;
         }
+
+-- a scan leaves the leases and their slots as they are
+pub closes_still : {S : Type 0} (IsIn : Content → S → Type 0) (m m' : Me S Acting) → Steady m m' → CanClose IsIn m → CanClose IsIn m'
+closes_still {S} IsIn m m' s r = (r.0, subst (λ (z : List Lease × List (ℕ × S)). Refilled IsIn m'.0 z.0 z.1 r.0) (λ j. (sym s.6 j, sym s.11 j)) (refilled_on IsIn m.0 m'.0 s.3 s.1 m.0.leases m.1 r.0 r.1))
 
 module _ (S : Type 0) (IsIn : Content → S → Type 0) (plan : Plan) where
   pub ends_all : (slots id p e : ℕ) (me : Me S Acting) (tail : List (ℕ × S)) → me.0.number ≡ p → me.0.kind ≡ 1 → me.0.known.phase ≡ Opened e → me.0.known.found ≡ e → me.0.scan ≡ 0 → Refilled IsIn me.0 me.0.leases me.1 tail
@@ -112,8 +121,8 @@ module _ (S : Type 0) (IsIn : Content → S → Type 0) (plan : Plan) where
           mine = g.none_left;
           others = g.others;
           same = refl;
-          written = record { long = w.long; high = λ j le. get_or-set_other s.words i j 0 0 (λ z. omega arith); freed = λ q' z small. inl (sym (w.claims q' (omega arith)) ∙ z) };
-          claimed = λ z. let one = a.claimed in let same = w.claims q inside in absurd (omega arith);
+          written = record { long = w.long; high = λ j le. get_or-set_other s.words i j 0 0 (λ z. omega arith); freed = λ q' small _. inl (w.claims q' (omega arith)) };
+          claimed = w.claims q inside ∙ a.claimed;
           apart = λ j v other at_v kind_v same. other (sym (r.epochs.seats j v at_v kind_v).seated ∙ (ap r.epochs.seat_of same ∙ a.seated));
         })),
         ap (λ (cs : List (ℕ × S)). (ending d, cs)) (carried.0 ∙ sym carried.1),

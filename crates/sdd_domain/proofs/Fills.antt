@@ -24,7 +24,7 @@ use Rattle.sdd_domain.specs.Rule.{Shows}
 use Rattle.sdd_domain.specs.declared.board.Acting.{Acting}
 use Rattle.sdd_domain.specs.declared.board.Plan.{Plan}
 use Rattle.sdd_domain.proofs.Moves.{items_change, slot_written}
-use Rattle.sdd_domain.proofs.Stirred.{grip_set, waits_stay}
+use Rattle.sdd_domain.proofs.Stirred.{rests_on, grip_set, waits_stay}
 
 module _ (S : Type 0) (IsIn : Content → S → Type 0) (plan : Plan) (s : State S Acting) (r : Shows IsIn plan s) (id k v : ℕ) (d : Acting) (at : get_elem? s.views id ≡ some d) (kind : d.kind ≡ 1)
     (inside : k < plan.sizes.slots) (st : Stage) (filling' : Option Filling) (share' : ℕ → ℕ → ℕ) (what' : ℕ → Content) (homes' : List (maybe.Option S)) where
@@ -94,7 +94,7 @@ module _ (S : Type 0) (IsIn : Content → S → Type 0) (plan : Plan) (s : State
       slot_words = slots_now;
       vacancies = vacancies_now;
       alone = r.items.alone;
-      free = λ p none low. r.items.free p (sym (get_or-set_other s.words word (claim_word p) v 0 (λ z. omega arith)) ∙ none) low;
+      free = λ p low some_. rests_on r.items words' p low (get_or-set_other s.words word (claim_word p) v 0 (λ z. omega arith)) some_;
       hands = λ i it at_i. let g = owned_set hand_of i s.views id d d' at in let old = r.items.hands i it at_i in omega arith;
       owners = λ j e o at_j has. set_all (λ _ e'. Has e'.hand o → Owns r.state.items r.book.slot_of o) s.views id d' (λ h. r.items.owners id d o at h) (λ j' e' _ e_at h. r.items.owners j' e' o e_at h) j e at_j has;
       given = r.items.given;

@@ -14,9 +14,9 @@ use Rattle.sdd_steps.proofs.ListLemmas.{at_map, at_mapped, at_inside, at_replica
 use Rattle.sdd_homes.specs.Book.{Content, blank, resting, vacant, Book}
 use Rattle.sdd_homes.specs.Spares.{IsKept}
 use Rattle.sdd_domain.specs.Views.{spent}
-use Rattle.sdd_domain.specs.Layout.{cell_word, epoch_words, all_words, all_homes, all_spares, packed}
+use Rattle.sdd_domain.specs.Layout.{state_word, claim_word, cell_word, all_words, all_homes, all_spares, packed}
 use Rattle.sdd_domain.specs.Items.{code, Items}
-use Rattle.sdd_domain.specs.Rule.{beginning, numbers, first_words}
+use Rattle.sdd_domain.specs.Rule.{beginning, numbers, first_eight, first_eights, first_words}
 use Rattle.sdd_domain.specs.declared.board.Acting.{Acting}
 use Rattle.sdd_domain.specs.declared.board.Plan.{Plan}
 
@@ -27,11 +27,6 @@ many_of (suc n) x = ap suc (many_of n x)
 long_numbers : (n : ℕ) → length (numbers n) ≡ n
 long_numbers zero = refl
 long_numbers (suc n) = let l = length-append (numbers n) (n ∷ []) in let h = long_numbers n in omega arith
-
-zeros : (n i : ℕ) → get_or (replicate n zero) i 0 ≡ zero
-zeros zero i = refl
-zeros (suc n) zero = refl
-zeros (suc n) (suc i) = zeros n i
 
 numbers_at : (n i : ℕ) → i < n → get_or (numbers n) i 0 ≡ i
 numbers_at zero i lt = absurd (omega arith)
@@ -50,24 +45,47 @@ at_high [] m i j y e at = let same : j ≡ i = omega arith in subst (λ z. At m 
 at_high (a ∷ l) m i zero y e at = absurd (omega arith)
 at_high (a ∷ l) m i (suc j) y e at = at_high l m i j y (omega arith) at
 
+long_eights : (cells n : ℕ) → length (first_eights cells n) ≡ 8 * n
+long_eights cells zero = refl
+long_eights cells (suc n) = let l = length-append (first_eights cells n) (first_eight (cells + n)) in let h = long_eights cells n in omega arith
+
+-- the words of participant p are those told of it
+eight_at : (cells n p j : ℕ) → p < n → j < 8 → get_or (first_eights cells n) (8 * p + j) 0 ≡ get_or (first_eight (cells + p)) j 0
+eight_at cells zero p j lt small = absurd (omega arith)
+eight_at cells (suc n) p j lt small = let l = long_eights cells n in dite (ℕ_discrete p n)
+    (λ e. get_or-append_right (first_eights cells n) (first_eight (cells + n)) (8 * n) (8 * p + j) 0 l (omega arith) ∙ (ap (λ z. get_or (first_eight (cells + n)) z 0) (let same : 8 * p + j - 8 * n ≡ j = omega arith in same) ∙ ap (λ z. get_or (first_eight (cells + z)) j 0) (sym e)))
+    (λ ne. get_or_append_left (first_eights cells n) (first_eight (cells + n)) 0 (8 * p + j) (omega arith) ∙ eight_at cells n p j (omega arith) small)
+
 module _ (plan : Plan) where
-  abbrev idle : ℕ
-  idle = 8 * plan.sizes.participants + 15
+  abbrev n : ℕ
+  n = plan.sizes.participants
+
+  abbrev eights : List ℕ
+  eights = first_eights plan.sizes.cells n
 
   abbrev behind : List ℕ
   behind = numbers plan.sizes.cells ++ replicate plan.sizes.slots zero
 
   pub long_first : length (first_words plan) ≡ all_words plan.sizes
-  long_first = let a = length-append (replicate idle zero) behind in let b = length-append (numbers plan.sizes.cells) (replicate plan.sizes.slots zero) in let c = many_of idle zero in let d = many_of plan.sizes.slots zero in let e = long_numbers plan.sizes.cells in omega arith
+  long_first = let a = length-append eights behind in let b = length-append (numbers plan.sizes.cells) (replicate plan.sizes.slots zero) in let c = long_eights plan.sizes.cells n in let d = many_of plan.sizes.slots zero in let e = long_numbers plan.sizes.cells in omega arith
 
-  pub zero_words : (i : ℕ) → 0 < i → i < epoch_words plan.sizes.participants → get_or (first_words plan) i 0 ≡ 0
-  zero_words zero more less = absurd (omega arith)
-  zero_words (suc i) more less = let c = many_of idle zero in get_or_append_left (replicate idle zero) behind 0 i (omega arith) ∙ zeros idle i
+  -- behind the first 16 words are those of participants, and then all others
+  past : (i j : ℕ) → i ≡ 16 + j → get_or (first_words plan) i 0 ≡ get_or (eights ++ behind) j 0
+  past i j e = get_or-append_right (plan.first ∷ replicate 15 zero) (eights ++ behind) 16 i 0 refl (omega arith) ∙ ap (λ z. get_or (eights ++ behind) z 0) (let d : i - 16 ≡ j = omega arith in d)
+
+  first_of_participant : (p j : ℕ) → p < n → j < 8 → get_or (first_words plan) (8 * p + 16 + j) 0 ≡ get_or (first_eight (plan.sizes.cells + p)) j 0
+  first_of_participant p j lt small = let l = long_eights plan.sizes.cells n in past (8 * p + 16 + j) (8 * p + j) (omega arith) ∙ (get_or_append_left eights behind 0 (8 * p + j) (omega arith) ∙ eight_at plan.sizes.cells n p j lt small)
+
+  pub state_words_first : (p : ℕ) → p < n → get_or (first_words plan) (state_word p) 0 ≡ 0
+  state_words_first p lt = ap (λ z. get_or (first_words plan) z 0) (let e : state_word p ≡ 8 * p + 16 + 0 = omega arith in e) ∙ first_of_participant p 0 lt (omega arith)
+
+  pub claim_words_first : (p : ℕ) → p < n → get_or (first_words plan) (claim_word p) 0 ≡ suc (plan.sizes.cells + p)
+  claim_words_first p lt = ap (λ z. get_or (first_words plan) z 0) (let e : claim_word p ≡ 8 * p + 16 + 1 = omega arith in e) ∙ first_of_participant p 1 lt (omega arith)
 
   pub cell_words_first : (c : ℕ) → c < plan.sizes.cells → get_or (first_words plan) (cell_word plan.sizes c) 0 ≡ c
-  cell_words_first c lt = let l = long_numbers plan.sizes.cells in let e : cell_word plan.sizes c ≡ suc (idle + c) = omega arith in ap (λ z. get_or (first_words plan) z 0) e
-      ∙ (get_or-append_right (replicate idle zero) behind idle (idle + c) 0 (many_of idle zero) (omega arith)
-      ∙ (ap (λ z. get_or behind z 0) (let d : idle + c - idle ≡ c = omega arith in d)
+  cell_words_first c lt = let l = long_numbers plan.sizes.cells in past (cell_word plan.sizes c) (8 * n + c) (omega arith)
+      ∙ (get_or-append_right eights behind (8 * n) (8 * n + c) 0 (long_eights plan.sizes.cells n) (omega arith)
+      ∙ (ap (λ z. get_or behind z 0) (let d : 8 * n + c - 8 * n ≡ c = omega arith in d)
       ∙ (get_or_append_left (numbers plan.sizes.cells) (replicate plan.sizes.slots zero) 0 c (omega arith) ∙ numbers_at plan.sizes.cells c lt)))
 
 -- all slots are free, and each user has the spare slot of its own number, where n participants are
@@ -87,9 +105,9 @@ pub record FirstSlots {S : Type 0} (IsIn : Content → S → Type 0) (sizes : Si
   pub high : (i : ℕ) (y : S) → i < all_spares sizes → At slots (all_homes sizes + i) y → IsIn blank y
 
 module _ {S : Type 0} {IsIn : Content → S → Type 0} (plan : Plan) (words : List ℕ) (slots : List S) where
-  pub items_begin : length words ≡ all_words plan.sizes → ((c : ℕ) → c < plan.sizes.cells → get_or words (cell_word plan.sizes c) 0 ≡ c) → FirstSlots IsIn plan.sizes slots
+  pub items_begin : length words ≡ all_words plan.sizes → ((p : ℕ) → p < plan.sizes.participants → get_or words (claim_word p) 0 ≡ suc (plan.sizes.cells + p)) → ((c : ℕ) → c < plan.sizes.cells → get_or words (cell_word plan.sizes c) 0 ≡ c) → FirstSlots IsIn plan.sizes slots
       → Items IsIn plan.sizes (beginning plan) (first_book plan.sizes.participants) words (map some slots) (spent ∷ [])
-  items_begin long cells f = let n = plan.sizes.participants in let many = many_of plan.sizes.cells empty_cell in
+  items_begin long claims cells f = let n = plan.sizes.participants in let many = many_of plan.sizes.cells empty_cell in
       let long_slots = f.long in let found : (x : Content) (i : ℕ) → i < length slots → ((y : S) → At slots i y → IsIn x y) → (y : S) × (get_elem? (map some slots) i ≡ some (some y)) × IsIn x y = (λ x i lt is. let t = find_at slots i lt in (t.0, at_map some slots i t.0 t.1, is t.0 t.1)) in record {
         parts = record { full_at = λ k i _ e. absurd (cc); partly_at = λ k f _ e. absurd (cc); vacant_at = λ k p _ _ lt. ap (resting n) (mod-mul-add k (suc n) p lt); leases = λ p l h. absurd h; once = λ _. tt };
         spares = record { users = λ _ _. refl; range = λ _ lt. lt; kept = λ c o _ at. subst (λ z. IsKept [] z blank) (sym (named_none plan c o at)) refl };
@@ -104,7 +122,7 @@ module _ {S : Type 0} {IsIn : Content → S → Type 0} (plan : Plan) (words : L
         given = λ i it at_i. absurd (cc);
         waiting = λ j d w at_j kind has. let z : 0 ≡ d.kind = ap (λ (v : Acting). v.kind) (only j d at_j) in absurd (omega arith);
         alone = λ c o at. ap (λ (z : Cell). z.holder) (sym (at_replicate plan.sizes.cells c empty_cell o at));
-        free = λ p _ _. refl;
+        free = λ p low _. (refl, claims p low, refl);
         hands = λ i it at. absurd (some-ne-none it (sym at));
         owners = λ j d o at has. absurd (subst (λ (v : Acting). Has v.hand o) (sym (only j d at)) has);
         seats = λ j d at k. let z : 0 ≡ d.kind = ap (λ (v : Acting). v.kind) (only j d at) in absurd (omega arith);

@@ -7,6 +7,9 @@ pub mod Looks
 pub mod Locks
 pub mod Firsts
 pub mod Seats
+pub mod Registers
+pub mod Learns
+pub mod Ends
 pub mod Loads
 pub mod Closes
 pub mod Swaps

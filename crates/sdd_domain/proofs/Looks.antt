@@ -121,7 +121,7 @@ module _ (S : Type 0) (IsIn : Content → S → Type 0) (plan : Plan) where
           book = r.book;
           items = let c = r.items.seats id d at kind in items.stays r.items core (set s.words 0 v) (set s.views id d') refl (stirred_none r.state.items)
               (λ q l _ y. ⊎_elim (λ (t : Loads r.state q l.item). inl t) (λ (g : Grip s.views q l.item). inr (grip_set s.views id d d' at (λ _ _ h. h) q l.item g)) y)
-              (record { long = length-set s.words 0 v; high = λ i le. get_or-set_other s.words 0 i v 0 (λ e. omega arith); freed = λ q none _. inl (sym (get_or-set_other s.words 0 (claim_word q) v 0 (λ e. omega arith)) ∙ none) })
+              (record { long = length-set s.words 0 v; high = λ i le. get_or-set_other s.words 0 i v 0 (λ e. omega arith); freed = λ q _ _. inl (get_or-set_other s.words 0 (claim_word q) v 0 (λ e. omega arith)) })
               (seated r.items id d d' at refl (λ _. record { sizes_are = c.sizes_are; leases = c.leases; spare = c.spare; fills = c.fills; distinct = c.distinct })) (items.waits_stay r.items id d' (λ w _ has. r.items.waiting id d w at kind has));
           born = r.born;
           bounded = raised r.state.participants r.state.count r.born r.bounded p x a.is present every;
@@ -132,7 +132,7 @@ module _ (S : Type 0) (IsIn : Content → S → Type 0) (plan : Plan) where
             many = many;
             count_is = get_or-set_same s.words 0 v 0 (omega arith) ∙ (ap (λ z. z + 1) now);
             states = λ q y at_q. get_or-set_other s.words 0 (state_word q) v 0 (λ e. omega arith) ∙ o.states q y at_q;
-            free = λ q y at_q none. o.free q y at_q (sym (get_or-set_other s.words 0 (claim_word q) v 0 (λ e. omega arith)) ∙ none);
+            free = λ q y at_q some_. o.free q y at_q (λ z. some_ (get_or-set_other s.words 0 (claim_word q) v 0 (λ e. omega arith) ∙ z));
             seats = λ j z at_j k. set_all (λ j' z'. z'.kind ≡ 1 → Acts core.participants core.count r.born (set s.words 0 v) o.seat_of o.scanner j' z') s.views id d'
                 (λ _. record { is = a.is; seated = a.seated; claimed = get_or-set_other s.words 0 (claim_word p) v 0 (λ e. omega arith) ∙ a.claimed; locked = λ _. (w1 ∙ lock.0, lock.1); present = λ more. absurd (omega arith); begun = a.begun; still = a.still })
                 (λ j' z' apart here kind'. let b = o.seats j' z' here kind' in record {

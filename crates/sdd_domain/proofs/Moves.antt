@@ -80,7 +80,7 @@ module _ (S : Type 0) (IsIn : Content → S → Type 0) (plan : Plan) where
       (λ e. ⊎_elim (λ (none : d.leases ≡ []). absurd (subst (λ (ls : List Lease). Has ls l) (ap r.book.out e ∙ (c.leases ∙ none)) has)) (λ (on : (i : ℕ) → Loads r.state p i → Loads m.core p i). inl (subst (λ z. Loads m.core z l.item) (sym e) (on l.item (subst (λ z. Loads r.state z l.item) e t)))) v.loads)
       (λ ne. inl (loads_others r.state m.core p d'.known m.changed q l.item ne t)))
       (λ (g : Grip s.views q l.item). inr (grip_set s.views id d d' at (λ q' i' h. subst (λ (z : Acting). Grasps z q' i') (sym v.same) h) q l.item g)) y) in
-      items.stays r.items m.core words' views' v.cells v.stirred why (record { long = w.long; high = high; freed = λ q none small. inl (sym (w.claims q (omega (arith, r.epochs.many))) ∙ none) })
+      items.stays r.items m.core words' views' v.cells v.stirred why (record { long = w.long; high = high; freed = λ q small _. inl (w.claims q (omega (arith, r.epochs.many))) })
       (seated r.items id d d' at (ap (λ (z : Acting). z.hand) v.same)
       (λ _. subst (Carries plan.sizes r.book) (sym v.same) (record { sizes_are = c.sizes_are; leases = c.leases; spare = c.spare; fills = c.fills; distinct = v.distinct c.distinct })))
       (items.waits_set r.items m.core.items id d' (λ u k has. subst (λ q. IsWaiting m.core.items r.book.slot_of q u) (sym m.number) (v.waits_mine r.book.slot_of u (λ u' h. r.items.waiting id d u' at kind h) has))
@@ -106,8 +106,8 @@ module _ (S : Type 0) (IsIn : Content → S → Type 0) (plan : Plan) where
       count_is = w.count ∙ (e.count_is ∙ sym m.count);
       states = λ q y at_q. set_all (λ q' y'. get_or words' (state_word q') 0 ≡ shown y'.phase) ps p x' w.mine
           (λ q' y' other here. w.others q' (at_inside ps q' y' here) other ∙ e.states q' y' here) q y (subst (λ l. At l q y) m.changed at_q);
-      free = λ q y at_q none. set_all (λ q' y'. get_or words' (claim_word q') 0 ≡ 0 → y' ≡ newcomer) ps p x' (λ z. let c = a.claimed in let k = w.claims p (at_inside ps p d.known a.is) in absurd (omega arith))
-          (λ q' y' other here z. e.free q' y' here (sym (w.claims q' (at_inside ps q' y' here)) ∙ z)) q y (subst (λ l. At l q y) m.changed at_q) none;
+      free = λ q y at_q some_. set_all (λ q' y'. get_or words' (claim_word q') 0 ≢ 0 → y' ≡ newcomer) ps p x' (λ z. absurd (z (w.claims p (at_inside ps p d.known a.is) ∙ a.claimed)))
+          (λ q' y' other here z. e.free q' y' here (λ t. z (w.claims q' (at_inside ps q' y' here) ∙ t))) q y (subst (λ l. At l q y) m.changed at_q) some_;
       seats = λ j z at_j k. set_all (λ j' z'. z'.kind ≡ 1 → Acts m.core.participants m.core.count (put r.born p d'.born) words' e.seat_of e.scanner j' z') s.views id d'
           (λ _. record {
             is = subst (λ (l : List Participant). At l d'.number x') (sym m.changed) (subst (λ k. At (set ps p x') k x') (sym m.number) (set_here ps p x' d.known a.is));

@@ -1,4 +1,4 @@
--- opening and closing a guard keep the rule of the table
+-- opening a guard keeps the rule of the table
 use Rattle.std.proofs.Common.{◌≡◌, ◌≢◌, ℕ, ◌≤◌, [], ◌∷◌, map, get_or, set, sym, refl, ap, ◌∙◌, subst, inl, inr, arith, None, List, cond, eq-eqb, ne_eqb}
 use mathlib.Core.Logic.{dite}
 use native.Mathlib.Decide.{ℕ_discrete}
@@ -6,18 +6,18 @@ use Rattle.atomic_table.specs.Table.{Me, step, keeps, Allows}
 use Rattle.sdd_domain.specs.declared.board.Plan.{Plan}
 use Rattle.sdd_steps.specs.declared.participant.Phase.TheVariants.{Idle, HasRead, Opened}
 use Rattle.sdd_steps.specs.declared.participant.Participant.{Participant}
-use Rattle.sdd_steps.specs.declared.step.Step.TheVariants.{ReadEpoch, Publish, Rotate, Close}
+use Rattle.sdd_steps.specs.declared.step.Step.TheVariants.{ReadEpoch, Publish, Rotate}
 use Rattle.sdd_steps.specs.State.{At, with_participant, Has}
 use Rattle.sdd_steps.specs.Steps.{older}
 use Rattle.sdd_steps.specs.State as steps
 use Rattle.sdd_steps.proofs.ListLemmas.{set_here}
 use Rattle.sdd_homes.specs.Reasons.{Loads}
 use Rattle.sdd_homes.proofs.SwapLemmas.{set_twice}
-use Rattle.sdd_domain.specs.Views.{reading, publishing, closing, rotated, older_waits}
+use Rattle.sdd_domain.specs.Views.{reading, publishing, rotated, older_waits}
 use Rattle.sdd_homes.specs.Book.{Content}
 use Rattle.sdd_domain.specs.Layout.{state_word, count_word, shown}
 use Rattle.sdd_domain.specs.Rule.{Runs, Shows}
-use Rattle.sdd_domain.specs.Plays.{read_then, publish_then, count_then, close_then}
+use Rattle.sdd_domain.specs.Plays.{read_then, publish_then, count_then}
 use Rattle.sdd_domain.specs.declared.board.Acting.{Acting}
 use Rattle.sdd_domain.proofs.Moves.{own_load, own_store, own_inside, idles}
 use Rattle.sdd_domain.proofs.Stirred.{Stirred, stirred_none, stirred_older, loads_none, waits_older, waits_older_else, distinct_older}
@@ -127,34 +127,3 @@ module _ (S : Type 0) (IsIn : Content → S → Type 0) (plan : Plan) where
       → Allows (Shows IsIn plan) slots id me count_word (λ k. k) (count_then (step slots count_word 0 0 mathlib.Core.Option.none) me)
   counts slots id me e kind is s r _ at _ = let d = me.0 in let i = own_inside S IsIn plan s r id d at kind e is in let i1 = i.1 in let i2 = i.2 in
       let here = r.epochs.count_is in (d, keeps, tt, idles S IsIn plan s r 0 id d at, (refl, omega arith, omega arith))
-
-  pub closes_at : (slots id : ℕ) (me : Me S Acting) (p e : ℕ) → me.0.number ≡ p → me.0.kind ≡ 1 → me.0.known.phase ≡ Opened e → me.0.known.found ≡ e → me.0.scan ≡ 0 → me.0.leases ≡ []
-      → Allows (Shows IsIn plan) slots id me (state_word p) (λ _. 0) (λ _. close_then (step slots (state_word p) 0 0 mathlib.Core.Option.none) me 0)
-  closes_at slots id me p e here kind is found still bare = subst (λ q. Allows (Shows IsIn plan) slots id me (state_word q) (λ _. 0) (λ _. close_then (step slots (state_word q) 0 0 mathlib.Core.Option.none) me 0)) here
-      (λ s r _ at _. let d = me.0 in let a = r.epochs.seats id d at kind in let x = d.known in let p = d.number in let d' : Acting = record d { known = closing d.known } in let core = with_participant r.state p (closing x) in (
-        d',
-        keeps,
-        tt,
-        own_store S IsIn plan s r 0 id d d' (record {
-          core = core;
-          runs = taken.one r.state (Close p) core (taken.closes r.state p x a.is e is (sym found));
-          count = refl;
-          changed = refl;
-          inside = λ n h. absurd (cc);
-          again = λ n h. absurd (cc);
-          looks = λ q y n h. absurd (cc);
-          still = λ h. refl;
-          number = refl;
-          scan = λ z. z;
-          present = λ z. absurd (omega arith);
-        }) (record {
-          cells = refl;
-          stirred = stirred_none r.state.items;
-          loads = inl bare;
-          same = refl;
-          distinct = λ h. h;
-          waits_mine = λ _ w all h. all w h;
-          waits_others = λ _ _ _ _ h. h;
-        }) at kind refl,
-        refl,
-      ))

@@ -33,7 +33,7 @@ module _ (S : Type 0) (IsIn : Content → S → Type 0) (plan : Plan) where
       run = r.run;
       kept = r.kept;
       book = r.book;
-      items = items.stays r.items r.state s.words views' refl (stirred_none r.state.items) why (record { long = refl; high = λ _ _. refl; freed = λ q z _. inl z }) seated waiting;
+      items = items.stays r.items r.state s.words views' refl (stirred_none r.state.items) why (record { long = refl; high = λ _ _. refl; freed = λ _ _ _. inl refl }) seated waiting;
       born = r.born;
       bounded = r.bounded;
       epochs = record { seat_of = o.seat_of; scanner = o.scanner; wide = o.wide; many = o.many; count_is = o.count_is; states = o.states; free = o.free; seats = acts };

@@ -46,7 +46,7 @@ use Rattle.sdd_domain.specs.declared.board.Plan.{Plan}
 use Rattle.sdd_domain.proofs.Taken as taken
 use Rattle.sdd_domain.proofs.Taken.{and_true}
 use Rattle.sdd_domain.proofs.Moves.{items_change, slot_written}
-use Rattle.sdd_domain.proofs.Stirred.{grip_set}
+use Rattle.sdd_domain.proofs.Stirred.{rests_on, grip_set}
 
 at_last : {A : Type 0} (l : List A) (a : A) → At (l ++ a ∷ []) (length l) a
 at_last [] a = refl
@@ -242,7 +242,7 @@ module _ (S : Type 0) (IsIn : Content → S → Type 0) (plan : Plan) where
       slot_words = slots_now;
       vacancies = vacancies_now;
       alone = r.items.alone;
-      free = λ q unclaimed low. r.items.free q (sym (get_or-set_other s.words word (claim_word q) 3 0 (λ z. omega arith)) ∙ unclaimed) low;
+      free = λ q low some_. rests_on r.items words' q low (get_or-set_other s.words word (claim_word q) 3 0 (λ z. omega arith)) some_;
       hands = hands_now;
       owners = λ j e o at_j h. set_all (λ _ e'. Has e'.hand o → Owns core.items slot_of' o) s.views id d' (⊎_elim (λ (e' : owner ≡ o). subst (Owns core.items slot_of') e' (item, here, refl, put_here r.book.slot_of i0 k)) (λ t. absurd t))
           (λ j' e' _ e_at h'. owns_on o (r.items.owners j' e' o e_at h')) j e at_j h;

@@ -29,7 +29,7 @@ use Rattle.sdd_domain.specs.Rule.{Runs, Shows}
 use Rattle.sdd_domain.specs.declared.board.Acting.{Acting}
 use Rattle.sdd_domain.specs.declared.board.Plan.{Plan}
 use Rattle.sdd_domain.proofs.Moves.{items_change, slot_written}
-use Rattle.sdd_domain.proofs.Stirred.{waits_set}
+use Rattle.sdd_domain.proofs.Stirred.{rests_on, waits_set}
 
 module _ (S : Type 0) (IsIn : Content → S → Type 0) (plan : Plan) (s : State S Acting) (r : Shows IsIn plan s) (id k i : ℕ) (d : Acting) (it it' : Item) (at : get_elem? s.views id ≡ some d) (kind : d.kind ≡ 1)
     (inside : k < plan.sizes.slots) (is : r.book.stage k ≡ full i) (here : At r.state.items i it) (leases' : List Lease) (hand' : List Owner) (releasing' : ℕ) (waits' : List Garbage) (share' : ℕ → ℕ → ℕ) (out' : ℕ → List Lease) (what' : ℕ → Content) (homes' : List (maybe.Option S)) where
@@ -128,8 +128,8 @@ module _ (S : Type 0) (IsIn : Content → S → Type 0) (plan : Plan) (s : State
       slot_words = slots_now;
       vacancies = vacancies_now;
       alone = r.items.alone;
-      free = λ p none low. let same = get_or-set_other s.words word (claim_word p) (2 + it'.owners) 0 (λ z. omega arith) in dite (ℕ_discrete p d.number)
-          (λ e. let one = a.claimed in let mine = ap (λ z. get_or s.words (claim_word z) 0) e in absurd (omega arith)) (λ ne. c.others p ne ∙ r.items.free p (sym same ∙ none) low);
+      free = λ p low some_. let same = get_or-set_other s.words word (claim_word p) (2 + it'.owners) 0 (λ z. omega arith) in let t = rests_on r.items words' p low same some_ in
+          (c.others p (λ e. some_ (same ∙ (ap (λ z. get_or s.words (claim_word z) 0) e ∙ a.claimed))) ∙ t.0, t.1, t.2);
       hands = hands_now;
       owners = λ j e o at_j has. set_all (λ _ e'. Has e'.hand o → Owns core.items r.book.slot_of o) s.views id d' (λ h. owns_on o (c.owns o h)) (λ j' e' _ e_at h. owns_on o (r.items.owners j' e' o e_at h)) j e at_j has;
       given = given_now;

@@ -15,7 +15,7 @@ use Rattle.sdd_steps.specs.State as steps
 use Rattle.sdd_steps.specs.State.{At, Has}
 use Rattle.sdd_steps.specs.Steps.{aged, left, older, left_by}
 use Rattle.sdd_steps.specs.Invariant.{names_of}
-use Rattle.sdd_steps.proofs.ListLemmas.{has_map, at_map, at_mapped, same_at, set_all, set_here, set_else}
+use Rattle.sdd_steps.proofs.ListLemmas.{put, put_else, has_map, at_map, at_mapped, same_at, set_all, set_here, set_else}
 use Rattle.sdd_homes.specs.declared.Lease.{Lease}
 use Rattle.sdd_homes.specs.declared.Owner.{Owner}
 use Rattle.sdd_homes.specs.declared.Garbage.{Garbage}
@@ -27,10 +27,10 @@ use Rattle.sdd_homes.specs.Parts.{Parts}
 use Rattle.sdd_homes.specs.Lying.{Lying}
 use Rattle.sdd_homes.proofs.PartLemmas as parts
 use Rattle.sdd_homes.proofs.PartLemmas.{Alike}
-use Rattle.sdd_homes.proofs.SpareLemmas.{stays_kept}
+use Rattle.sdd_homes.proofs.SpareLemmas.{stays_kept, refilled}
 use Rattle.sdd_homes.proofs.HandLemmas.{owned_set}
 use Rattle.sdd_domain.specs.Layout.{epoch_words, claim_word, cell_word, slot_word, all_homes, all_spares}
-use Rattle.sdd_domain.specs.Items.{hand_of, Grasps, Grip, Owns, IsWaiting, IsFilling, Carries, Items, Distinct}
+use Rattle.sdd_domain.specs.Items.{hand_of, Grasps, Grip, Owns, IsWaiting, IsFilling, Rests, Carries, Items, Distinct}
 use Rattle.sdd_domain.specs.Views.{older_waits}
 use Rattle.sdd_domain.specs.declared.board.Acting.{Acting}
 
@@ -123,11 +123,15 @@ pub waits_left : (p q : ℕ) (items : List Item) (slot_of : ℕ → ℕ) (w : Ga
 waits_left p q items slot_of w ne y = (left_by p y.0, at_map (left_by p) items w.item y.0 y.1, ap (left p) y.2 ∙ ap (λ b. cond b Waiting (Retired q w.age)) (ne_eqb q p ne), y.3, y.4)
 
 module _ {S : Type 0} {IsIn : Content → S → Type 0} {sizes : Sizes} {state : steps.State} {book : Book} {words : List ℕ} {homes : List (maybe.Option S)} {views : List Acting} (r : Items IsIn sizes state book words homes views) where
-  -- the words of items and cells stay, and a participant that is freed has no lease
+  -- the claim word of p is as it was
+  pub rests_on : (words' : List ℕ) (p : ℕ) → p < sizes.participants → get_or words' (claim_word p) 0 ≡ get_or words (claim_word p) 0 → get_or words' (claim_word p) 0 ≢ 0 → Rests sizes book words' p
+  rests_on words' p low same some_ = let t = r.free p low (λ e. some_ (same ∙ e)) in (t.0, same ∙ t.1, t.2)
+
+  -- the words of items and cells stay, and a participant that is freed rests
   pub record Untouched (words' : List ℕ) : Type 0 where
     pub long : length words' ≡ length words
     pub high : (i : ℕ) → epoch_words sizes.participants ≤ i → get_or words' i 0 ≡ get_or words i 0
-    pub freed : (p : ℕ) → get_or words' (claim_word p) 0 ≡ 0 → p < sizes.participants → (get_or words (claim_word p) 0 ≡ 0) ⊎ (book.out p ≡ [])
+    pub freed : (p : ℕ) → p < sizes.participants → get_or words' (claim_word p) 0 ≢ 0 → (get_or words' (claim_word p) 0 ≡ get_or words (claim_word p) 0) ⊎ Rests sizes book words' p
 
   -- views change, with the same owners in hand
   pub record Seated (views' : List Acting) : Type 0 where
@@ -151,12 +155,38 @@ module _ {S : Type 0} {IsIn : Content → S → Type 0} {sizes : Sizes} {state :
     slot_words = λ k i it' lk is at. let t = stir.back i it' at in w.high (slot_word sizes k) (omega arith) ∙ (r.slot_words k i t.0 lk is t.1 ∙ ap (λ z. 2 + z) (sym t.2.owners));
     vacancies = λ k lk none. r.vacancies k lk (sym (w.high (slot_word sizes k) (omega arith)) ∙ none);
     alone = λ c o at. r.alone c o (subst (λ (cs : List Cell). At cs c o) same at);
-    free = λ p none low. ⊎_elim (λ (z : get_or words (claim_word p) 0 ≡ 0). r.free p z low) (λ (z : book.out p ≡ []). z) (w.freed p none low);
+    free = λ p low some_. ⊎_elim (λ (z : get_or words' (claim_word p) 0 ≡ get_or words (claim_word p) 0). rests_on words' p low z some_) (λ (z : Rests sizes book words' p). z) (w.freed p low some_);
     hands = λ i it' at. let t = stir.back i it' at in t.2.hand ∙ (r.hands i t.0 t.1 ∙ sym (v.same i));
     owners = λ j d o at has. let t = v.owners j d o at has in let u = stir.ahead o.item t.0 t.1 in (u.0, u.1, u.2.value ∙ t.2, t.3);
     given = λ i it' at alive. let t = stir.back i it' at in let g = r.given i t.0 t.1 (λ q e. alive q (t.2.gone q e)) in (g.0 ∙ sym t.2.holds, λ o h. let w = g.1 o h in let u = stir.ahead o.item w.0 w.1 in (u.0, u.1, u.2.value ∙ w.2, w.3));
     waiting = waiting;
     seats = v.seats;
+  }
+
+  -- the spare slot of a participant for which somebody acts is out, or back
+  pub respared : (p : ℕ) (x : Content) (homes' : List (maybe.Option S)) → p < sizes.participants → get_or words (claim_word p) 0 ≡ 0 → Lying IsIn (all_homes sizes) (all_spares sizes) book.what (put book.extra (book.spare (sizes.cells + p)) x) homes'
+      → Items IsIn sizes state (record book { extra = put book.extra (book.spare (sizes.cells + p)) x }) words homes' views
+  respared p x homes' low claimed lies = let v = sizes.cells + p in let y = refilled r.spares v x (omega arith) (omega arith) in record {
+    parts = record { full_at = r.parts.full_at; partly_at = r.parts.partly_at; vacant_at = r.parts.vacant_at; leases = r.parts.leases; once = r.parts.once };
+    spares = y;
+    lying = lies;
+    standing = r.standing;
+    settled = r.settled;
+    many = r.many;
+    long = r.long;
+    cell_words = r.cell_words;
+    slot_words = r.slot_words;
+    vacancies = r.vacancies;
+    alone = r.alone;
+    free = λ q lq some_. let t = r.free q lq some_ in
+        let other : q ≢ p = (λ e. some_ (ap (λ z. get_or words (claim_word z) 0) e ∙ claimed)) in
+        let apart : book.spare (sizes.cells + q) ≢ book.spare v = (λ e. let u : sizes.cells + q ≡ v = sym (r.spares.users (sizes.cells + q) (omega arith)) ∙ (ap book.user e ∙ r.spares.users v (omega arith)) in other (omega arith)) in
+        (t.0, t.1, put_else book.extra (book.spare v) x (book.spare (sizes.cells + q)) apart ∙ t.2);
+    hands = r.hands;
+    owners = r.owners;
+    given = r.given;
+    waiting = r.waiting;
+    seats = λ j d at k. let b = r.seats j d at k in record { sizes_are = b.sizes_are; leases = b.leases; spare = b.spare; fills = b.fills; distinct = b.distinct };
   }
 
   -- one view changes, and what it and the others have retired
@@ -191,7 +221,7 @@ module _ {S : Type 0} {IsIn : Content → S → Type 0} {sizes : Sizes} {state :
       pub others : (q : ℕ) → q ≢ d.number → out' q ≡ book.out q
       pub same : d' ≡ record d { known = d'.known; leases = d'.leases; releasing = d'.releasing }
       pub written : Untouched words'
-      pub claimed : get_or words' (claim_word d.number) 0 ≢ 0
+      pub claimed : get_or words' (claim_word d.number) 0 ≡ 0
       pub apart : (j : ℕ) (e : Acting) → j ≢ id → At views j e → e.kind ≡ 1 → e.number ≢ d.number
 
     pub leased : At views id d → d.kind ≡ 1 → Leases → Items IsIn sizes core_of book_of words' homes' (set views id d')
@@ -207,8 +237,8 @@ module _ {S : Type 0} {IsIn : Content → S → Type 0} {sizes : Sizes} {state :
       slot_words = λ k i it lk is at_i. w.high (slot_word sizes k) (omega arith) ∙ r.slot_words k i it lk is at_i;
       vacancies = λ k lk none. r.vacancies k lk (sym (w.high (slot_word sizes k) (omega arith)) ∙ none);
       alone = r.alone;
-      free = λ p none low. dite (ℕ_discrete p d.number) (λ e. absurd (l.claimed (ap (λ z. get_or words' (claim_word z) 0) (sym e) ∙ none)))
-          (λ ne. l.others p ne ∙ ⊎_elim (λ (z : get_or words (claim_word p) 0 ≡ 0). r.free p z low) (λ (z : book.out p ≡ []). z) (w.freed p none low));
+      free = λ p low some_. let t = ⊎_elim (λ (z : get_or words' (claim_word p) 0 ≡ get_or words (claim_word p) 0). rests_on words' p low z some_) (λ (z : Rests sizes book words' p). z) (w.freed p low some_) in
+          (l.others p (λ e. some_ (ap (λ z. get_or words' (claim_word z) 0) e ∙ l.claimed)) ∙ t.0, t.1, t.2);
       hands = λ i it at_i. let h = owned_set hand_of i views id d d' at in let e = ap (λ (os : List Owner). steps.times i (items_of os)) hand in let g = r.hands i it at_i in omega arith;
       owners = λ j e o at_j has. set_all (λ j' e'. Has e'.hand o → Owns state.items book.slot_of o) views id d' (λ h. r.owners id d o at (subst (λ (os : List Owner). Has os o) hand h)) (λ j' e' _ here h. r.owners j' e' o here h) j e at_j has;
       given = r.given;

@@ -30,7 +30,7 @@ use Rattle.sdd_homes.specs.Lying.{Lying}
 use Rattle.sdd_homes.proofs.LyingLemmas.{gives_high, takes_high}
 use Rattle.sdd_homes.proofs.PartLemmas as parts
 use Rattle.sdd_homes.proofs.SwapLemmas.{Handy, handy_swapped, handy_back, hand_swapped, names_swapped, alone_swapped}
-use Rattle.sdd_homes.proofs.SpareLemmas.{Was, exchanged, spare_of_user, spare_of_cell, spare_of_others, swapped}
+use Rattle.sdd_homes.proofs.SpareLemmas.{Was, exchanged, spare_of_user, spare_of_cell, spare_of_others, extra_of_others, swapped}
 use Rattle.sdd_homes.proofs.HandLemmas.{owned_set, owned_some, mine_some}
 use Rattle.sdd_domain.specs.Layout.{cell_word, slot_word, claim_word, state_word, all_homes, all_spares, packed}
 use Rattle.sdd_domain.specs.Items.{hand_of, code, Grip, Owns, IsWaiting, Carries, Items}
@@ -39,7 +39,7 @@ use Rattle.sdd_domain.specs.Rule.{Runs, Shows}
 use Rattle.sdd_domain.specs.declared.board.Acting.{Acting}
 use Rattle.sdd_domain.specs.declared.board.Plan.{Plan}
 use Rattle.sdd_domain.proofs.Moves.{moved, own_inside}
-use Rattle.sdd_domain.proofs.Stirred.{grip_set, waits_set}
+use Rattle.sdd_domain.proofs.Stirred.{rests_on, grip_set, waits_set}
 use Rattle.sdd_domain.proofs.Taken as taken
 use Rattle.sdd_domain.proofs.Taken.{and_true, or_left}
 
@@ -233,7 +233,9 @@ module _ (S : Type 0) (IsIn : Content → S → Type 0) (plan : Plan) (s : State
     slot_words = λ k i it' lk is at_i. let w = back i it' at_i in get_or-set_other s.words cw (slot_word plan.sizes k) value 0 (λ z. omega arith) ∙ (r.items.slot_words k i w.0 lk is w.1 ∙ ap (λ (z : Item). 2 + z.owners) (sym w.2));
     vacancies = λ k lk none. r.items.vacancies k lk (sym (get_or-set_other s.words cw (slot_word plan.sizes k) value 0 (λ z. omega arith)) ∙ none);
     alone = alone_swapped r.state c (item_of new) r.items.alone;
-    free = λ p none low_p. r.items.free p (sym (get_or-set_other s.words cw (claim_word p) value 0 (λ z. omega arith)) ∙ none) low_p;
+    free = λ p low_p some_. let same = get_or-set_other s.words cw (claim_word p) value 0 (λ z. omega arith) in let t = rests_on r.items words' p low_p same some_ in
+        let other : p ≢ d.number = (λ e. some_ (same ∙ (ap (λ z. get_or s.words (claim_word z) 0) e ∙ (r.epochs.seats id d at kind).claimed))) in
+        (t.0, t.1 ∙ ap suc (sym (spare_of_others r.items.spares c v (part_of new) lc lv ne (plan.sizes.cells + p) (λ z. omega arith) (λ z. other (omega arith)))), extra_of_others r.items.spares c v (part_of new) lc lv ne (plan.sizes.cells + p) (omega arith) (λ z. omega arith) (λ z. other (omega arith)) ∙ t.2);
     hands = hands_now;
     owners = owners_now;
     given = λ i it' at_i alive. let w = back i it' at_i in let g = r.items.given i w.0 w.1 (λ q e. alive q (ap (λ (z : Item). z.state) w.2 ∙ e)) in (g.0 ∙ sym (ap (λ (z : Item). z.holds) w.2), λ o h. owns_on o (g.1 o h));

@@ -1,9 +1,10 @@
 -- what lies in a slot of the table, by its content
-use Rattle.std.specs.Prelude.{◌≡◌, ℕ, suc, ◌%◌, ◌<◌, List, [], IsSome}
+use Rattle.std.specs.Prelude.{◌≡◌, Bool, true, false, ℕ, suc, ◌%◌, ◌<◌, List, [], IsSome}
+use Rattle.sdd_base.specs.declared.sizes.Sizes.{Sizes}
 use Rattle.sdd_steps.specs.State.{At}
 use Rattle.sdd_homes.specs.Book.{Content, away, blank, room, deed, part, resting}
 use Rattle.sdd_domain.specs.declared.board.Home.{Home}
-use Rattle.sdd_domain.specs.declared.board.Home.TheVariants.{Blank, Room, Deed, Part}
+use Rattle.sdd_domain.specs.declared.board.Home.TheVariants.{Blank, Room, Deed, Part, Announced}
 
 -- an item is read by its parts, and had back by its deed; items hold no owners yet
 module _ {T : Type 0} where
@@ -17,3 +18,15 @@ module _ {T : Type 0} where
   -- these are the homes of free slots, for n participants
   abbrev pub AreResting : ℕ → List (Home T) → Type 0
   AreResting n homes = (i : ℕ) (y : Home T) → At homes i y → IsIn (resting n (i % suc n)) y
+
+  -- whether it is empty
+  abbrev pub is_blank : Home T → Bool
+  is_blank Blank = true
+  is_blank (Room b) = false
+  is_blank (Deed d) = false
+  is_blank (Part p c) = false
+  is_blank (Announced z) = false
+
+  -- the value is none of a slot, and announces how large the place is
+  abbrev pub Announces : Home T → Sizes → Type 0
+  Announces y z = y ≡ Announced z

@@ -11,7 +11,7 @@ use Rattle.sdd_steps.specs.Invariant.{names_of}
 use Rattle.sdd_homes.specs.declared.Owner.{Owner}
 use Rattle.sdd_homes.specs.declared.Filling.{Filling}
 use Rattle.sdd_homes.specs.declared.Garbage.{Garbage}
-use Rattle.sdd_homes.specs.Book.{Content, vacant, partly, full, Book}
+use Rattle.sdd_homes.specs.Book.{Content, blank, vacant, partly, full, Book}
 use Rattle.sdd_homes.specs.Parts.{Parts}
 use Rattle.sdd_homes.specs.Spares.{Spares}
 use Rattle.sdd_homes.specs.Reasons.{Why}
@@ -56,6 +56,10 @@ abbrev pub Distinct : List Garbage → Type 0
 Distinct [] = Unit {0}
 Distinct (w ∷ ws) = ((v : Garbage) → Has ws v → v.item ≢ w.item) × Distinct ws
 
+-- nobody acts for p: none of its homes is out, and its spare slot, which its claim word tells, is empty
+abbrev pub Rests : Sizes → Book → List ℕ → ℕ → Type 0
+Rests sizes book words p = (book.out p ≡ []) × (slice_index words (claim_word p) ≡ suc (book.spare (sizes.cells + p))) × (book.extra (book.spare (sizes.cells + p)) ≡ blank)
+
 -- what stands of a view that acts for a participant
 pub record Carries (sizes : Sizes) (book : Book) (d : Acting) : Type 0 where
   pub sizes_are : d.sizes ≡ sizes
@@ -76,7 +80,7 @@ pub record Items {S : Type 0} (IsIn : Content → S → Type 0) (sizes : Sizes) 
   pub slot_words : (k i : ℕ) (it : Item) → k < sizes.slots → book.stage k ≡ full i → At state.items i it → slice_index words (slot_word sizes k) ≡ 2 + it.owners
   pub vacancies : (k : ℕ) → k < sizes.slots → slice_index words (slot_word sizes k) ≡ 0 → book.stage k ≡ vacant
   pub alone : (c : ℕ) (o : Cell) → At state.cells c o → o.holder ≡ None
-  pub free : (p : ℕ) → slice_index words (claim_word p) ≡ 0 → p < sizes.participants → book.out p ≡ []
+  pub free : (p : ℕ) → p < sizes.participants → slice_index words (claim_word p) ≢ 0 → Rests sizes book words p
   pub hands : (i : ℕ) (it : Item) → At state.items i it → it.hand ≡ owned hand_of i views
   pub owners : (j : ℕ) (d : Acting) (o : Owner) → At views j d → Has d.hand o → Owns state.items book.slot_of o
   pub given : (i : ℕ) (it : Item) → At state.items i it → ((q : ℕ) → it.state ≢ Reclaimed q) → IsGiven state.items book.slot_of (book.held (book.slot_of i)) it

@@ -11,7 +11,7 @@ count_word = 0
 abbrev pub lock_word : ℕ
 lock_word = 8
 
--- what a participant has published, and whether somebody acts for it
+-- what a participant has published, and 0 while somebody acts for it, else one more than its spare slot
 abbrev pub state_word : ℕ → ℕ
 state_word p = 8 * p + 16
 

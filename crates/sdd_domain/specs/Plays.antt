@@ -1,5 +1,6 @@
 -- what each step on a word tells the seat that makes it
-use Rattle.std.specs.Prelude.{◌≡◌, ◌≢◌, ◌⊎◌, ℕ, suc, ◌+◌, ◌-◌, ◌^◌, ◌<◌, ◌≤◌, List, [], ◌∷◌, ◌++◌, length, drop, Option, None, Some, ◌==◌, cond}
+use Rattle.std.specs.Prelude.{◌≡◌, ◌≢◌, ◌⊎◌, ℕ, suc, ◌+◌, ◌-◌, ◌^◌, ◌<◌, ◌≤◌, List, [], ◌∷◌, ◌++◌, length, drop, Option, None, Some, Bool, false, ◌==◌, ◌&&◌, cond}
+use mathlib.Core.Option.{some}
 use Rattle.atomic_table.specs.Table.{Me, Step, rest}
 use Rattle.atomic_table.specs.declared.shared.Seat.{Seat}
 use Rattle.sdd_base.specs.declared.sizes.Sizes.{Sizes}
@@ -11,7 +12,7 @@ use Rattle.sdd_homes.specs.declared.Owner.{Owner}
 use Rattle.sdd_homes.specs.declared.Filling.{Filling}
 use Rattle.sdd_homes.specs.declared.Garbage.{Garbage}
 use Rattle.sdd_homes.specs.Book.{Content, part, home, lease, Lends, recounted, blank, room, deed}
-use Rattle.sdd_domain.specs.Views.{IsBare, spent, registered, reading, publishing, rotated, looking, closing}
+use Rattle.sdd_domain.specs.Views.{spent, registered, reading, publishing, rotated, looking, closing}
 use Rattle.sdd_domain.specs.Layout.{state_word, claim_word, slot_word, all_homes, packed, shown}
 use Rattle.sdd_domain.specs.Owners.{slot_code, part_of, besides}
 use Rattle.sdd_domain.specs.declared.board.Acting.{Acting}
@@ -41,9 +42,6 @@ module _ {S : Type 0} where
   abbrev pub raise_then : Step S → Me S Acting → ℕ → Me S Acting → Type 0
   raise_then t m n m' = m' ≡ (record m.0 { scan = 1 }, m.1)
 
-  abbrev pub close_then : Step S → Me S Acting → ℕ → Me S Acting → Type 0
-  close_then t m n m' = m' ≡ (record m.0 { known = closing m.0.known }, m.1)
-
   -- the scan lock is taken where it was free
   abbrev pub lock_then : Step S → Me S Acting → ℕ → Me S Acting → Type 0
   lock_then t m n m' = (n ≡ 0 → m' ≡ (record m.0 { scan = 1 }, m.1)) × (n ≢ 0 → m' ≡ m)
@@ -55,16 +53,22 @@ module _ {S : Type 0} where
   abbrev pub sit_then : Step S → Me S Acting → ℕ → Me S Acting → Type 0
   sit_then t m n m' = m'.0 ≡ spent
 
-  -- a participant for which nobody acts is claimed
-  abbrev pub claim_then : Step S → Me S Acting → ℕ → Me S Acting → Type 0
-  claim_then t m n m' = (q : ℕ) → t.word ≡ claim_word q → (n ≡ 0 → (sizes : Sizes) × (y : ℕ) × (m' ≡ (registered sizes y q, m.1))) × (n ≢ 0 → m' ≡ m)
-
+  -- what was in front of what was out with the seat is back
   abbrev pub end_then : Step S → Me S Acting → ℕ → Me S Acting → Type 0
-  end_then t m n m' = m' ≡ (spent, m.1)
+  end_then t m n m' = m' ≡ (spent, rest m.1)
+
+-- what is announced with the step, how large the place is, is so
+abbrev pub learn_then : {S : Type 0} → (S → Sizes → Type 0) → Step S → Me S Acting → ℕ → Me S Acting → Type 0
+learn_then Announces t m n m' = (m' ≡ m) × ((x : _) (z : Sizes) → t.said ≡ some x → Announces x z → m.0.sizes ≡ z)
+
+-- a scan leaves alone all but what it tells of the participant itself
+abbrev pub Steady : {S : Type 0} → Me S Acting → Me S Acting → Type 0
+Steady m m' = (m'.0.kind ≡ m.0.kind) × (m'.0.number ≡ m.0.number) × (m'.0.born ≡ m.0.born) × (m'.0.sizes ≡ m.0.sizes) × (m'.0.spare ≡ m.0.spare) × (m'.0.hand ≡ m.0.hand) × (m'.0.leases ≡ m.0.leases) × (m'.0.releasing ≡ m.0.releasing) × (m'.0.slot ≡ m.0.slot)
+    × (m'.0.filling ≡ m.0.filling) × (m'.0.waits ≡ m.0.waits) × (m'.1 ≡ m.1)
 
 -- the seat acts for p, whose guard is open with the count e, at this stage of a scan
 abbrev pub Scans : {S : Type 0} → Seat S Acting → ℕ → ℕ → ℕ → Type 0
-Scans s p e stage = (s.me.0.kind ≡ 1) × (s.me.0.number ≡ p) × (s.me.0.known.phase ≡ Opened e) × (s.me.0.known.found ≡ e) × (s.me.0.scan ≡ stage) × IsBare s.me.0
+Scans s p e stage = (s.me.0.kind ≡ 1) × (s.me.0.number ≡ p) × (s.me.0.known.phase ≡ Opened e) × (s.me.0.known.found ≡ e) × (s.me.0.scan ≡ stage)
 
 -- where the participant's home of a slot lies
 abbrev pub own_home : Acting → ℕ → ℕ
@@ -96,6 +100,10 @@ module _ {S : Type 0} (IsIn : Content → S → Type 0) where
   Refilled d [] carried tail = carried ≡ tail
   Refilled d (l ∷ ls) carried tail = (u : S) × (others : List (ℕ × S)) × IsIn (part l.round l.count) u × (carried ≡ (own_home d l.slot, u) ∷ others) × Refilled d ls others tail
 
+  -- all homes that are leased can go back
+  abbrev pub CanClose : Me S Acting → Type 0
+  CanClose m = (tail : List (ℕ × S)) × Refilled m.0 m.0.leases m.1 tail
+
 -- the guard is closed, and all leases have ended
 abbrev pub ending : Acting → Acting
 ending d = record d { known = closing d.known; leases = [] }
@@ -107,7 +115,25 @@ end_all_then t m n m' = m' ≡ (ending m.0, drop (length m.0.leases) m.1)
 abbrev pub own_spare : Acting → ℕ → ℕ
 own_spare d y = all_homes d.sizes + y
 
+-- whether just the slot k is out with a seat, and is empty
+abbrev pub has_just : {S : Type 0} → (S → Bool) → ℕ → List (ℕ × S) → Bool
+has_just is_blank k [] = false
+has_just is_blank k (x ∷ []) = (x.0 == k) && is_blank x.1
+has_just is_blank k (x ∷ y ∷ ys) = false
+
 module _ {S : Type 0} (IsIn : Content → S → Type 0) where
+  -- the participant's spare slot is in front of what is out with the seat, and is empty
+  abbrev pub HasSpare : Me S Acting → List (ℕ × S) → Type 0
+  HasSpare m tail = (u : S) × IsIn blank u × (m.1 ≡ (own_spare m.0 m.0.spare, u) ∷ tail)
+
+  -- the seat has come to act for the participant q, whose spare slot y came out
+  abbrev pub HasRegistered : Me S Acting → ℕ → ℕ → Me S Acting → Type 0
+  HasRegistered m q y m' = (sizes : Sizes) × (m'.0 ≡ registered sizes y q) × HasSpare m' m.1
+
+  -- a participant for which nobody acts is claimed: its word tells its spare slot
+  abbrev pub claim_then : Step S → Me S Acting → ℕ → Me S Acting → Type 0
+  claim_then t m n m' = (q : ℕ) → t.word ≡ claim_word q → (n ≡ 0 → m' ≡ m) × ((y : ℕ) → n ≡ suc y → (y < 2 ^ 33) × HasRegistered m q y m')
+
   -- the participant's spare slot is in front of what is out with the seat, with the part of an owner in hand, or empty; and w is its word for a cell
   abbrev pub Brings : Me S Acting → Option Owner → List Owner → ℕ → List (ℕ × S) → Type 0
   Brings m new os w tail = (m.0.hand ≡ besides new os) × (w ≡ packed m.0.spare (slot_code new)) × ((u : S) × IsIn (part_of new) u × (m.1 ≡ (own_spare m.0 m.0.spare, u) ∷ tail))

@@ -1,5 +1,5 @@
 -- The rule of the table of a shared place: its words and views show a state of the single steps that meets their invariant.
-use Rattle.std.specs.Prelude.{◌≡◌, ℕ, zero, suc, ◌+◌, ◌*◌, ◌<◌, ◌≤◌, List, [], ◌∷◌, ◌++◌, length, replicate, slice_index}
+use Rattle.std.specs.Prelude.{◌≡◌, ◌≢◌, ℕ, zero, suc, ◌+◌, ◌<◌, ◌≤◌, List, [], ◌∷◌, ◌++◌, length, replicate, slice_index}
 use mathlib.Core.Option.{some}
 use lib.ListN.{get_elem?}
 use Rattle.atomic_table.specs.Table.{State}
@@ -22,7 +22,7 @@ module _ (participants : List Participant) (count : ℕ) (born : ℕ → ℕ) (w
   pub record Acts (d : Acting) : Type 0 where
     pub is : At participants d.number d.known
     pub seated : seat_of d.number ≡ j
-    pub claimed : slice_index words (claim_word d.number) ≡ 1
+    pub claimed : slice_index words (claim_word d.number) ≡ 0
     pub locked : 0 < d.scan → (slice_index words lock_word ≡ 1) × (scanner ≡ j)
     pub present : 1 < d.scan → d.known.phase ≡ Opened count
     pub begun : (e : ℕ) → d.known.phase ≡ Opened e → d.born ≡ born d.number
@@ -41,7 +41,7 @@ pub record Epochs (n : ℕ) (state : steps.State) (born : ℕ → ℕ) (words : 
   pub many : length state.participants ≡ n
   pub count_is : slice_index words count_word ≡ state.count
   pub states : (p : ℕ) (x : Participant) → At state.participants p x → slice_index words (state_word p) ≡ shown x.phase
-  pub free : (p : ℕ) (x : Participant) → At state.participants p x → slice_index words (claim_word p) ≡ 0 → x ≡ newcomer
+  pub free : (p : ℕ) (x : Participant) → At state.participants p x → slice_index words (claim_word p) ≢ 0 → x ≡ newcomer
   pub seats : (j : ℕ) (d : Acting) → get_elem? views j ≡ some d → d.kind ≡ 1 → Acts state.participants state.count born words seat_of scanner j d
 
 -- Single steps lead from one state to another.
@@ -57,9 +57,18 @@ abbrev pub numbers : ℕ → List ℕ
 numbers zero = []
 numbers (suc n) = numbers n ++ n ∷ []
 
--- the words of a new place: the count, and behind it 0 but for cells, each of which has the spare slot of its own number
+-- the eight words of a participant that has the spare slot y: it is closed, and nobody acts for it
+abbrev pub first_eight : ℕ → List ℕ
+first_eight y = zero ∷ suc y ∷ replicate 6 zero
+
+-- those of the participants below n, whose spare slots are behind those of so many cells
+abbrev pub first_eights : ℕ → ℕ → List ℕ
+first_eights cells zero = []
+first_eights cells (suc n) = first_eights cells n ++ first_eight (cells + n)
+
+-- the words of a new place: the count, 15 of 0, those of participants, those of cells, each of which has the spare slot of its own number, and 0 for each slot
 abbrev pub first_words : Plan → List ℕ
-first_words plan = plan.first ∷ (replicate (8 * plan.sizes.participants + 15) zero ++ (numbers plan.sizes.cells ++ replicate plan.sizes.slots zero))
+first_words plan = plan.first ∷ (replicate 15 zero ++ (first_eights plan.sizes.cells plan.sizes.participants ++ (numbers plan.sizes.cells ++ replicate plan.sizes.slots zero)))
 
 -- Between any two steps: single steps have led from the beginning to a state that meets their invariant, and the words and views show it.
 pub record Shows {S : Type 0} (IsIn : Content → S → Type 0) (plan : Plan) (s : State S Acting) : Type 0 where

@@ -1,25 +1,27 @@
 -- what places, participants and guards show to clauses
 use Rattle.std.specs.Prelude.{◌≡◌, ℕ, ◌-◌, ◌==◌, ◌&&◌, false, cond}
 use Rattle.atomic_table.specs.Seated.{TableId}
+use Rattle.sdd_base.specs.declared.sizes.Sizes.{Sizes}
 use Rattle.sdd_base.specs.declared.status.LocalState.{LocalState}
 use Rattle.sdd_base.specs.Steps.{closings_after, scans}
 use Rattle.sdd_domain.specs.declared.domain.Domain.{Domain}
 use Rattle.sdd_domain.specs.declared.local.Local.{Local}
 use Rattle.sdd_domain.specs.declared.guard.Guard.{Guard}
 
--- how many participants a place has, and the place of a participant, as which one it acts, and what it notes of itself
+-- how many participants a place has
 abbrev pub participants_of : {T : Type 0} → Domain T → ℕ
-participants_of d = d.participants
+participants_of d = d.sizes.participants
 
 -- the count of raises that the place began with
 abbrev pub first_of : {T : Type 0} → Domain T → ℕ
 first_of d = d.table.shared.key.first
 
-abbrev pub place_of : {T : Type 0} → Domain T → TableId
-place_of d = d.table.shared.table_id
+-- a place, with its sizes; the place of a participant, as which one it acts, and what it notes of itself
+abbrev pub place_of : {T : Type 0} → Domain T → TableId × Sizes
+place_of d = (d.table.shared.table_id, d.table.shared.key.sizes)
 
-abbrev pub home_of : {T : Type 0} → Local T → TableId
-home_of l = l.place.table_id
+abbrev pub home_of : {T : Type 0} → Local T → TableId × Sizes
+home_of l = (l.place.table_id, l.place.me.0.sizes)
 
 abbrev pub number_of : {T : Type 0} → Local T → ℕ
 number_of l = l.number

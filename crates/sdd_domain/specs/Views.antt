@@ -20,9 +20,9 @@ holding o = record spent { kind = 3; hand = o ∷ [] }
 abbrev pub registered : Sizes → ℕ → ℕ → Acting
 registered sizes y p = record spent { kind = 1; number = p; sizes = sizes; spare = y }
 
--- nothing of items is out with the seat
+-- the seat has no owner, and nothing of the participant's homes
 abbrev pub IsBare : Acting → Type 0
-IsBare d = (d.hand ≡ []) × (d.leases ≡ []) × (d.releasing ≡ 0) × (d.waits ≡ [])
+IsBare d = (d.hand ≡ []) × (d.leases ≡ []) × (d.releasing ≡ 0)
 
 -- a participant without a guard, which found this count at its previous opening
 abbrev pub rested : ℕ → Participant

@@ -46,6 +46,8 @@ pub enum Home<T> {
     Deed(Deed<Stored<T>, Global>),
     /// Parts of the right to read the item, and how many they are.
     Part(Part<Stored<T>>, u64),
+    /// How large the place is: this lies in no slot, and is only said to a seat.
+    Announced(Sizes),
 }
 
 /// What a place is told once, when it is made: how large it is, and the count of raises that it begins with.

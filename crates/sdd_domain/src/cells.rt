@@ -7,9 +7,8 @@ ghost use Rattle.sdd_homes.specs.Book.{Lends};
 ghost use Rattle.sdd_homes.specs.declared.Owner.{Owner};
 ghost use Rattle.sdd_steps.specs.State.{Has};
 ghost use Rattle.sdd_domain.specs.Contents.{IsIn};
-ghost use Rattle.sdd_steps.specs.declared.participant.Phase.TheVariants.{Opened};
 ghost use Rattle.sdd_domain.specs.Layout.{claim_word, all_words};
-ghost use Rattle.sdd_domain.specs.Plays.{load_then, HasLoaded, Refilled, ending, end_all_then, Brings, GetsBack, swap_then, cloning, clone_then, releasing_one, release_then, HasBegun, begin_then, CanEnd, ended_release, end_release_then, exchange_then};
+ghost use Rattle.sdd_domain.specs.Plays.{Scans, load_then, HasLoaded, CanClose, ending, end_all_then, Brings, GetsBack, swap_then, cloning, clone_then, releasing_one, release_then, HasBegun, begin_then, CanEnd, ended_release, end_release_then, exchange_then};
 ghost use Rattle.sdd_domain.specs.declared.board.Home.{Home};
 
 use crate::board::{Acting, Home, Place, Words};
@@ -193,8 +192,8 @@ pub(crate) fn end_release<T>(
 /// of what is out with the seat, in the order of the leases, each with its parts again.
 pub(crate) fn close<T>(words: &Words<T>, place: &mut Place<T>, number: usize, epoch: u64)
     requires table { (place.old.table_id ≡ words.now.table_id) × (number < 2 ^ 30) × (claim_word number < words.now.table_id.words) }
-    requires open { (place.old.me.0.kind ≡ 1) × (place.old.me.0.number ≡ number) × (place.old.me.0.known.phase ≡ Opened epoch) × (place.old.me.0.known.found ≡ epoch) × (place.old.me.0.scan ≡ 0) }
-    requires filled { (tail : List (ℕ × Home T)) × Refilled IsIn place.old.me.0 place.old.me.0.leases place.old.me.1 tail }
+    requires open { Scans place.old number epoch 0 }
+    requires filled { CanClose IsIn place.old.me }
     ensures seat { (place.new.table_id ≡ place.old.table_id) × (place.new.id ≡ place.old.id) }
     ensures closed { place.new.me ≡ (ending place.old.me.0, drop (length place.old.me.0.leases) place.old.me.1) }
 {

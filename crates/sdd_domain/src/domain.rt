@@ -2,14 +2,14 @@
 
 ghost use Rattle.std.specs.Prelude.{◌≡◌, ◌≢◌, ℕ, ◌+◌, ◌*◌, ◌^◌, ◌<◌, ◌≤◌, [], ◌∷◌, ◌++◌, replicate, IfOk, OnOk, IfErr, OnErr};
 ghost use Rattle.sdd_base.specs.State.{no_local};
-ghost use Rattle.sdd_domain.specs.Layout.{claim_word, epoch_words, IsSized};
-ghost use Rattle.sdd_domain.specs.Rule.{numbers, first_words};
+ghost use Rattle.sdd_domain.specs.Layout.{all_words, IsSized};
+ghost use Rattle.sdd_domain.specs.Rule.{numbers, first_eights, first_words};
 
 use crate::board::{Board, Plan, Words};
 use crate::homes::{clear, empty, homes_from};
 use crate::local::Local;
 use crate::refusal::RegisterRefused;
-use crate::steps::{claim, is_claimed, sit};
+use crate::steps::{claim, is_claimed, learn, sit};
 use atomic_table::Refused;
 use sdd_base::sizes::Sizes;
 use std::alloc::{AllocError, Global};
@@ -17,8 +17,8 @@ use std::alloc::{AllocError, Global};
 /// A place that threads share by `&`. It can't be let go: `close` ends it.
 pub struct Domain<T> {
     pub(crate) table: Board<T>,
-    pub(crate) participants: usize,
-    ghost sized: { (participants ≡ table.shared.key.sizes.participants) × (epoch_words participants ≤ table.shared.table_id.words) × (participants ≤ 2 ^ 30) },
+    pub(crate) sizes: Sizes,
+    ghost sized: { (sizes ≡ table.shared.key.sizes) × IsSized sizes × (all_words sizes ≤ table.shared.table_id.words) },
 }
 
 /// So many words 0 behind these.
@@ -41,15 +41,30 @@ fn push_numbers(words: &mut Vec<u64>, count: usize) -> Result<(), AllocError>
     Ok(())
 }
 
-/// The words of a new place: the count of raises, then 0 but for cells, each of which has the spare slot of its own
-/// number.
+/// The words of `count` participants behind these, for so many cells: each is closed, and nobody acts for it. Its spare
+/// slot is behind those of the cells and of the participants before it.
+fn push_participants(words: &mut Vec<u64>, cells: usize, count: usize) -> Result<(), AllocError>
+    requires { (cells ≤ 2 ^ 30) × (count ≤ 2 ^ 30) }
+    ensures { OnOk result (words.new.items ≡ words.old.items ++ first_eights cells count) }
+{
+    for number in 0..count {
+        words.push(0)?;
+        words.push((cells + number + 1) as u64)?;
+        push_zeros(words, 6)?;
+    }
+    Ok(())
+}
+
+/// The words of a new place: the count of raises, those of participants, those of cells, each of which has the spare
+/// slot of its own number, and 0 for each slot.
 fn words_from(alloc: Global, plan: &Plan) -> Result<Vec<u64>, AllocError>
     requires { IsSized plan.now.sizes }
     ensures { IfOk result (λ words. words.items ≡ first_words plan.now) }
 {
     let mut words = Vec::new(alloc);
     words.push(plan.first)?;
-    push_zeros(&mut words, 8 * plan.sizes.participants + 15)?;
+    push_zeros(&mut words, 15)?;
+    push_participants(&mut words, plan.sizes.cells, plan.sizes.participants)?;
     push_numbers(&mut words, plan.sizes.cells)?;
     push_zeros(&mut words, plan.sizes.slots)?;
     Ok(words)
@@ -74,7 +89,6 @@ impl<T> Domain<T> {
         ensures participants { IfOk result (λ d. participants_of d ≡ sizes.participants) }
         ensures first { IfOk result (λ d. first_of d ≡ count) }
     {
-        let participants = sizes.participants;
         let plan = Plan {
             sizes,
             first: count,
@@ -82,10 +96,7 @@ impl<T> Domain<T> {
         let words = words_from(alloc, &plan)?;
         let homes = homes_from(alloc, &plan.sizes)?;
         match Board::new(alloc, &words, homes, &plan) {
-            Ok((table, _)) => Ok(Domain {
-                table,
-                participants,
-            }),
+            Ok((table, _)) => Ok(Domain { table, sizes }),
             Err(Refused { slots }) => {
                 clear(slots);
                 Err(AllocError)
@@ -94,7 +105,7 @@ impl<T> Domain<T> {
     }
 
     pub(crate) fn words(&self) -> &Words<T>
-        ensures { (result.now.table_id ≡ place_of self.now) × (result.now.key ≡ self.now.table.shared.key) }
+        ensures { (result.now.table_id ≡ self.now.table.shared.table_id) × (result.now.key ≡ self.now.table.shared.key) }
     {
         &self.table.shared
     }
@@ -107,9 +118,10 @@ impl<T> Domain<T> {
         ensures fresh { IfOk result (λ l. own_of l ≡ no_local) }
     {
         let mut place = sit(self.words());
-        for number in 0..self.participants {
-            if claim(self.words(), &mut place, number) {
-                return Ok(Local::registered(place, number));
+        for number in 0..self.sizes.participants {
+            if let Some(spare) = claim(self.words(), &mut place, number) {
+                learn(self.words(), &mut place, self.sizes);
+                return Ok(Local::registered(place, number, spare));
             }
         }
         Err(RegisterRefused::Full)
@@ -117,7 +129,7 @@ impl<T> Domain<T> {
 
     /// Whether somebody acts for a participant.
     fn any_claimed(&self) -> bool {
-        for number in 0..self.participants {
+        for number in 0..self.sizes.participants {
             if is_claimed(self.words(), number) {
                 return true;
             }
@@ -132,10 +144,7 @@ impl<T> Domain<T> {
         if self.any_claimed() {
             return Err(self);
         }
-        let Domain {
-            table,
-            participants: _,
-        } = self;
+        let Domain { table, sizes: _ } = self;
         empty(table.close());
         Ok(())
     }

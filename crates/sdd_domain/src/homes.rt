@@ -23,6 +23,7 @@ pub(crate) fn let_go<T>(home: Home<T>) {
         Home::Room(room) => drop(room),
         Home::Deed(deed) => drop(unsafe { ManuallyDrop::new_unchecked(deed) }),
         Home::Part(part, _) => drop(unsafe { ManuallyDrop::new_unchecked(part) }),
+        Home::Announced(_) => {}
     }
 }
 

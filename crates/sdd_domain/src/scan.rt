@@ -3,7 +3,7 @@
 ghost use Rattle.std.specs.Prelude.{◌≡◌, ◌≢◌, ℕ, ◌+◌, ◌*◌, ◌-◌, ◌^◌, ◌<◌, ◌≤◌, IsTrue};
 ghost use Rattle.sdd_steps.specs.State.{Has};
 ghost use Rattle.sdd_domain.specs.Layout.{epoch_words};
-ghost use Rattle.sdd_domain.specs.Plays.{Scans};
+ghost use Rattle.sdd_domain.specs.Plays.{Steady, Scans};
 
 use crate::board::{Place, Words};
 use crate::steps::{give_lock, is_present, look, raise, take_lock};
@@ -19,7 +19,7 @@ fn all_agree<T>(
     requires table { (place.old.table_id ≡ words.now.table_id) × (words.now.key.sizes.participants ≡ participants) × (epoch_words participants ≤ words.now.table_id.words) × (participants ≤ 2 ^ 30) }
     requires open { Scans place.old number epoch 2 }
     requires below { epoch < 2 ^ 64 - 1 }
-    ensures seat { (place.new.table_id ≡ place.old.table_id) × (place.new.id ≡ place.old.id) × (place.new.me.0.born ≡ place.old.me.0.born) × (place.new.me.1 ≡ place.old.me.1) × Scans place.new number epoch 2 }
+    ensures seat { (place.new.table_id ≡ place.old.table_id) × (place.new.id ≡ place.old.id) × Steady place.old.me place.new.me × Scans place.new number epoch 2 }
     ensures noted { IsTrue result → (q : ℕ) → q < participants → q ≢ number → Has place.new.me.0.known.looked q }
 {
     for other in 0..participants {
@@ -36,7 +36,7 @@ fn all_agree<T>(
 pub(crate) fn scan<T>(words: &Words<T>, place: &mut Place<T>, number: usize, participants: usize, epoch: u64)
     requires table { (place.old.table_id ≡ words.now.table_id) × (words.now.key.sizes.participants ≡ participants) × (epoch_words participants ≤ words.now.table_id.words) × (participants ≤ 2 ^ 30) }
     requires open { Scans place.old number epoch 0 }
-    ensures { (place.new.table_id ≡ place.old.table_id) × (place.new.id ≡ place.old.id) × (place.new.me.0.born ≡ place.old.me.0.born) × (place.new.me.1 ≡ place.old.me.1) × Scans place.new number epoch 0 }
+    ensures { (place.new.table_id ≡ place.old.table_id) × (place.new.id ≡ place.old.id) × Steady place.old.me place.new.me × Scans place.new number epoch 0 }
 {
     if epoch == u64::MAX || !take_lock(words, place, number, epoch) {
         return;

@@ -1,18 +1,25 @@
 //! The single steps of a participant on the words of a place: each is one operation on one word.
 
-ghost use Rattle.std.specs.Prelude.{◌≡◌, ◌≢◌, ◌⊎◌, ℕ, ◌+◌, ◌-◌, ◌*◌, ◌^◌, ◌<◌, ◌≤◌, [], IsTrue, IsFalse, MatchBool};
+ghost use Rattle.std.specs.Prelude.{◌≡◌, ◌≢◌, ◌⊎◌, ℕ, ◌∷◌, ◌+◌, ◌-◌, ◌*◌, ◌^◌, ◌<◌, ◌≤◌, [], List, IsTrue, IsFalse, IfSome, IfNone, MatchBool};
+ghost use Rattle.atomic_table.specs.Table.{rest};
 ghost use Rattle.sdd_steps.specs.State.{Has};
 ghost use Rattle.sdd_steps.specs.declared.participant.Phase.TheVariants.{Idle, HasRead, Opened};
-ghost use Rattle.sdd_base.specs.declared.sizes.Sizes.{Sizes};
-ghost use Rattle.sdd_domain.specs.Views.{IsBare, spent, registered, reading, publishing, rotated, looking, closing};
+ghost use Rattle.sdd_domain.specs.Contents.{IsIn, Announces};
+ghost use Rattle.sdd_domain.specs.Views.{IsBare, spent, reading, publishing, rotated, looking};
 ghost use Rattle.sdd_domain.specs.Layout.{count_word, lock_word, state_word, claim_word, epoch_words, shown};
-ghost use Rattle.sdd_domain.specs.Plays.{read_then, publish_then, count_then, look_then, agree_then, raise_then, close_then, lock_then, unlock_then, sit_then, claim_then, end_then, Scans};
+ghost use Rattle.sdd_domain.specs.Plays.{read_then, publish_then, count_then, look_then, agree_then, raise_then, lock_then, unlock_then, sit_then, HasSpare, HasRegistered, claim_then, learn_then, end_then, Steady, Scans};
+ghost use Rattle.sdd_domain.specs.declared.board.Home.{Home};
 
 use crate::board::{Acting, Home, Place, Words};
+use crate::homes::let_go;
 use atomic_table::Play;
+use sdd_base::sizes::Sizes;
 
 /// The word of the count of raises.
 const COUNT: usize = 0;
+
+/// A word that is always 0.
+const STILL: usize = 1;
 
 /// The word of the scan lock.
 const LOCK: usize = 8;
@@ -23,7 +30,8 @@ const STRIDE: usize = 8;
 /// Where the first participant publishes.
 const STATE: usize = 16;
 
-/// Where it stands whether somebody acts for the first participant.
+/// Where it stands whether somebody acts for the first participant: then it is 0, and else one more than the number of
+/// the participant's spare slot.
 const CLAIM: usize = 17;
 
 struct OnRead;
@@ -62,12 +70,6 @@ impl<T> Play<Home<T>, Acting> for OnRaise {
     ghost then = { raise_then };
 }
 
-struct OnClose;
-
-impl<T> Play<Home<T>, Acting> for OnClose {
-    ghost then = { close_then };
-}
-
 struct OnLock;
 
 impl<T> Play<Home<T>, Acting> for OnLock {
@@ -89,7 +91,13 @@ impl<T> Play<Home<T>, Acting> for OnSit {
 struct OnClaim;
 
 impl<T> Play<Home<T>, Acting> for OnClaim {
-    ghost then = { claim_then };
+    ghost then = { claim_then IsIn };
+}
+
+struct OnLearn;
+
+impl<T> Play<Home<T>, Acting> for OnLearn {
+    ghost then = { learn_then Announces };
 }
 
 struct OnEnd;
@@ -114,31 +122,46 @@ pub(crate) fn sit<T>(words: &Words<T>) -> Place<T>
     place
 }
 
-/// Tries once to act for participant `number`.
-pub(crate) fn claim<T>(words: &Words<T>, place: &mut Place<T>, number: usize) -> bool
-    requires table { (place.old.table_id ≡ words.now.table_id) × (number < words.now.key.sizes.participants) × (epoch_words words.now.key.sizes.participants ≤ words.now.table_id.words) × (words.now.key.sizes.participants ≤ 2 ^ 30) }
+/// Tries once to act for participant `number`. Where nobody did, its spare slot comes out, empty: which one it is.
+pub(crate) fn claim<T>(words: &Words<T>, place: &mut Place<T>, number: usize) -> Option<u64>
+    requires table { (place.old.table_id ≡ words.now.table_id) × (number < words.now.key.sizes.participants) × (epoch_words words.now.key.sizes.participants ≤ words.now.table_id.words) × (words.now.key.sizes.participants ≤ 2 ^ 30) × (words.now.key.sizes.cells ≤ 2 ^ 30) }
     requires nobody { (place.old.me.0.kind ≡ 0) × IsBare place.old.me.0 }
     ensures seat { (place.new.table_id ≡ place.old.table_id) × (place.new.id ≡ place.old.id) }
-    ensures claimed { IsTrue result → (sizes : Sizes) × (y : ℕ) × (place.new.me ≡ (registered sizes y number, place.old.me.1)) }
-    ensures refused { IsFalse result → place.new.me ≡ place.old.me }
+    ensures claimed { IfSome result (λ y. (y < 2 ^ 33) × HasRegistered IsIn place.old.me number y place.new.me) }
+    ensures refused { IfNone result (place.new.me ≡ place.old.me) }
 {
-    words.compare_exchange::<OnClaim>(place, STRIDE * number + CLAIM, 0, 1) == 0
+    let found = words.swap::<OnClaim>(place, STRIDE * number + CLAIM, 0);
+    if found == 0 { None } else { Some(found - 1) }
+}
+
+/// Tells the seat that the place has the sizes `sizes`. No word changes.
+pub(crate) fn learn<T>(words: &Words<T>, place: &mut Place<T>, sizes: Sizes)
+    requires table { (place.old.table_id ≡ words.now.table_id) × (1 < words.now.table_id.words) × (sizes ≡ words.now.key.sizes) }
+    requires acts { place.old.me.0.kind ≡ 1 }
+    ensures seat { (place.new.table_id ≡ place.old.table_id) × (place.new.id ≡ place.old.id) × (place.new.me ≡ place.old.me) }
+    ensures learned { place.new.me.0.sizes ≡ sizes }
+{
+    let said = Home::Announced(sizes);
+    words.compare_exchange_with::<OnLearn>(place, STILL, 0, 0, &said);
+    let_go(said);
 }
 
 /// Whether somebody acts for participant `number`.
 pub(crate) fn is_claimed<T>(words: &Words<T>, number: usize) -> bool
     requires { (number < words.now.key.sizes.participants) × (epoch_words words.now.key.sizes.participants ≤ words.now.table_id.words) × (words.now.key.sizes.participants ≤ 2 ^ 30) }
 {
-    words.peek(STRIDE * number + CLAIM) != 0
+    words.peek(STRIDE * number + CLAIM) == 0
 }
 
-/// Ends what the seat does for participant `number`, which somebody else may act for from now on.
-pub(crate) fn end<T>(words: &Words<T>, place: &mut Place<T>, number: usize)
+/// Ends what the seat does for participant `number`, which somebody else may act for from now on. Its spare slot, which
+/// is in front of what is out with the seat, goes back empty.
+pub(crate) fn end<T>(words: &Words<T>, place: &mut Place<T>, number: usize, spare: u64)
     requires table { (place.old.table_id ≡ words.now.table_id) × (number < 2 ^ 30) × (claim_word number < words.now.table_id.words) }
     requires rests { (place.old.me.0.kind ≡ 1) × (place.old.me.0.number ≡ number) × (place.old.me.0.known.phase ≡ Idle) × (place.old.me.0.scan ≡ 0) × IsBare place.old.me.0 }
-    ensures { (place.new.table_id ≡ place.old.table_id) × (place.new.id ≡ place.old.id) × (place.new.me ≡ (spent, place.old.me.1)) }
+    requires spare { (place.old.me.0.spare ≡ spare) × (spare < 2 ^ 33) × ((tail : List (ℕ × Home T)) × HasSpare IsIn place.old.me tail) }
+    ensures { (place.new.table_id ≡ place.old.table_id) × (place.new.id ≡ place.old.id) × (place.new.me ≡ (spent, rest place.old.me.1)) }
 {
-    words.store::<OnEnd>(place, STRIDE * number + CLAIM, 0);
+    words.store::<OnEnd>(place, STRIDE * number + CLAIM, spare + 1);
 }
 
 /// Reads the count of raises, for an opening.
@@ -171,19 +194,10 @@ pub(crate) fn count_under<T>(words: &Words<T>, place: &mut Place<T>, epoch: u64)
     words.load::<OnCount>(place, COUNT)
 }
 
-/// Closes the guard of participant `number`.
-pub(crate) fn close<T>(words: &Words<T>, place: &mut Place<T>, number: usize, epoch: u64)
-    requires table { (place.old.table_id ≡ words.now.table_id) × (number < 2 ^ 30) × (claim_word number < words.now.table_id.words) }
-    requires open { Scans place.old number epoch 0 }
-    ensures { (place.new.table_id ≡ place.old.table_id) × (place.new.id ≡ place.old.id) × (place.new.me ≡ (record place.old.me.0 { known = closing place.old.me.0.known }, place.old.me.1)) }
-{
-    words.store::<OnClose>(place, STRIDE * number + STATE, 0);
-}
-
 /// Tries once for the scan lock.
 pub(crate) fn take_lock<T>(words: &Words<T>, place: &mut Place<T>, number: usize, epoch: u64) -> bool
     requires { (place.old.table_id ≡ words.now.table_id) × (lock_word < words.now.table_id.words) × Scans place.old number epoch 0 }
-    ensures seat { (place.new.table_id ≡ place.old.table_id) × (place.new.id ≡ place.old.id) × (place.new.me.0.born ≡ place.old.me.0.born) × (place.new.me.1 ≡ place.old.me.1) }
+    ensures seat { (place.new.table_id ≡ place.old.table_id) × (place.new.id ≡ place.old.id) × Steady place.old.me place.new.me }
     ensures stage { MatchBool result (Scans place.new number epoch 1) (Scans place.new number epoch 0) }
 {
     words.compare_exchange::<OnLock>(place, LOCK, 0, 1) == 0
@@ -192,7 +206,7 @@ pub(crate) fn take_lock<T>(words: &Words<T>, place: &mut Place<T>, number: usize
 /// Whether the count is still the published one, under the scan lock.
 pub(crate) fn is_present<T>(words: &Words<T>, place: &mut Place<T>, number: usize, epoch: u64) -> bool
     requires { (place.old.table_id ≡ words.now.table_id) × (0 < words.now.table_id.words) × Scans place.old number epoch 1 }
-    ensures seat { (place.new.table_id ≡ place.old.table_id) × (place.new.id ≡ place.old.id) × (place.new.me.0.born ≡ place.old.me.0.born) × (place.new.me.1 ≡ place.old.me.1) }
+    ensures seat { (place.new.table_id ≡ place.old.table_id) × (place.new.id ≡ place.old.id) × Steady place.old.me place.new.me }
     ensures stage { MatchBool result (Scans place.new number epoch 2) (Scans place.new number epoch 1) }
 {
     words.load::<OnAgree>(place, COUNT) == epoch
@@ -201,7 +215,7 @@ pub(crate) fn is_present<T>(words: &Words<T>, place: &mut Place<T>, number: usiz
 /// Gives the scan lock back.
 pub(crate) fn give_lock<T>(words: &Words<T>, place: &mut Place<T>, number: usize, epoch: u64)
     requires { (place.old.table_id ≡ words.now.table_id) × (lock_word < words.now.table_id.words) × (Scans place.old number epoch 1 ⊎ Scans place.old number epoch 2) }
-    ensures { (place.new.table_id ≡ place.old.table_id) × (place.new.id ≡ place.old.id) × (place.new.me.0.born ≡ place.old.me.0.born) × (place.new.me.1 ≡ place.old.me.1) × Scans place.new number epoch 0 }
+    ensures { (place.new.table_id ≡ place.old.table_id) × (place.new.id ≡ place.old.id) × Steady place.old.me place.new.me × Scans place.new number epoch 0 }
 {
     words.store::<OnUnlock>(place, LOCK, 0);
 }
@@ -231,7 +245,7 @@ pub(crate) fn look<T>(
     requires table { (place.old.table_id ≡ words.now.table_id) × (other < words.now.key.sizes.participants) × (epoch_words words.now.key.sizes.participants ≤ words.now.table_id.words) × (words.now.key.sizes.participants ≤ 2 ^ 30) }
     requires open { Scans place.old number epoch 2 × (number ≢ other) }
     requires below { epoch < 2 ^ 64 - 1 }
-    ensures seat { (place.new.table_id ≡ place.old.table_id) × (place.new.id ≡ place.old.id) × (place.new.me.0.born ≡ place.old.me.0.born) × (place.new.me.1 ≡ place.old.me.1) × Scans place.new number epoch 2 }
+    ensures seat { (place.new.table_id ≡ place.old.table_id) × (place.new.id ≡ place.old.id) × Steady place.old.me place.new.me × Scans place.new number epoch 2 }
     ensures noted { IsTrue result → Has place.new.me.0.known.looked other }
     ensures more { (q : ℕ) → Has place.old.me.0.known.looked q → Has place.new.me.0.known.looked q }
 {
@@ -248,7 +262,7 @@ pub(crate) fn raise<T>(words: &Words<T>, place: &mut Place<T>, number: usize, ep
     requires open { Scans place.old number epoch 2 }
     requires all { (q : ℕ) → q < words.now.key.sizes.participants → q ≢ number → Has place.old.me.0.known.looked q }
     requires below { epoch < 2 ^ 64 - 1 }
-    ensures { (place.new.table_id ≡ place.old.table_id) × (place.new.id ≡ place.old.id) × (place.new.me.0.born ≡ place.old.me.0.born) × (place.new.me.1 ≡ place.old.me.1) × Scans place.new number epoch 1 }
+    ensures { (place.new.table_id ≡ place.old.table_id) × (place.new.id ≡ place.old.id) × Steady place.old.me place.new.me × Scans place.new number epoch 1 }
 {
     words.store::<OnRaise>(place, COUNT, epoch + 1);
 }

@@ -1,13 +1,12 @@
-use Rattle.std.proofs.Common.{◌∙◌, sym, refl, rules, eqb-true, eq-eqb}
-use Rattle.std.proofs.lemmas.Bool.{false≢true}
-use Rattle.sdd_domain.proofs.Seats.{claims}
+use Rattle.std.proofs.Common.{◌-◌, rules, arith, refl}
+use Rattle.sdd_domain.proofs.Registers.{claims}
 use Rattle.sdd_domain.proofs.steps.claim.Goals as goal
 
-pub compare_exchange-requires : goal.compare_exchange-requires
-compare_exchange-requires g c = (search rules, search rules, claims _ _ _ _ _ _ c.args.number c.requires.nobody.0 c.requires.nobody.1.0 c.requires.table.1)
+pub swap-found-requires : goal.swap-found-requires
+swap-found-requires g c = (search rules, search rules, claims _ _ _ _ _ _ c.args.number c.requires.nobody.0 c.requires.nobody.1.0 c.requires.table.1 (let few = c.requires.table.3 in let small = c.requires.table.4 in omega arith))
 
-pub returns-clause-claimed : goal.returns-clause-claimed
-returns-clause-claimed g c = λ h. (c.compare_exchange.ensures.2 c.args.number refl).0 (eqb-true c.compare_exchange.result 0 h)
+pub returns-then-found-eq0-clause-refused : goal.returns-then-found-eq0-clause-refused
+returns-then-found-eq0-clause-refused g c = (c.swap-found.ensures.2 c.args.number refl).0 c.if-found-eq0.true
 
-pub returns-clause-refused : goal.returns-clause-refused
-returns-clause-refused g c = λ h. (c.compare_exchange.ensures.2 c.args.number refl).1 (λ e. false≢true (sym h ∙ eq-eqb c.compare_exchange.result 0 e))
+pub returns-else-found-eq0-clause-claimed : goal.returns-else-found-eq0-clause-claimed
+returns-else-found-eq0-clause-claimed g c = let some_ = c.if-found-eq0.false in (c.swap-found.ensures.2 c.args.number refl).1 (c.swap-found.result - 1) (omega arith)

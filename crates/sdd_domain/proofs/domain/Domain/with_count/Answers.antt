@@ -4,7 +4,8 @@ use Rattle.sdd_steps.proofs.ListLemmas.{at_replicate}
 use Rattle.sdd_domain.specs.Layout.{all_homes, all_spares}
 use Rattle.sdd_domain.specs.declared.board.Home.{Home}
 use Rattle.sdd_domain.specs.declared.board.Home.TheVariants.{Blank}
-use Rattle.sdd_domain.proofs.Firsts.{many_of, at_low, at_high}
+use Rattle.sdd_domain.specs.declared.board.Plan.{Plan}
+use Rattle.sdd_domain.proofs.Firsts.{many_of, at_low, at_high, long_first}
 use Rattle.sdd_domain.proofs.Seats.{begins}
 use Rattle.sdd_domain.proofs.domain.Domain.with_count.Goals as goal
 
@@ -15,3 +16,8 @@ new-requires g c = let sizes = c.args.sizes in let homes = c.in_ok-homes.ensures
       low = λ i y lt at. homes.2 i y (at_low own spares i y (let a = homes.1 in omega arith) (subst (λ l. At l i y) homes.3 at));
       high = λ i y lt at. sym (at_replicate (all_spares sizes) i Blank y (at_high own spares i (all_homes sizes + i) y (let a = homes.1 in omega arith) (subst (λ l. At l (all_homes sizes + i) y) homes.3 at)));
     })
+
+pub invariant_of-result : goal.invariant_of-result
+invariant_of-result g c = let sizes = c.args.sizes in let plan : Plan = record { sizes = sizes; first = c.args.count } in let told = c.in-Ok.ensures.ok in let key = ap (λ (z : Plan). z.sizes) told.5 in
+    let long = told.0 ∙ (ap (λ (ws : List ℕ). length ws) (c.deref.ensures.value ∙ c.in_ok-words.ensures) ∙ long_first plan) in
+    record { sized = (sym key, c.requires, omega (arith, long)) }

@@ -1,0 +1,162 @@
+-- the end of a participant keeps the rule of the table
+use Rattle.std.proofs.Common.{◌≡◌, ◌≢◌, ℕ, suc, ◌+◌, ◌<◌, ◌≤◌, List, [], map, get_or, set, sym, refl, ap, ◌∙◌, subst, ⊎_elim, inl, inr, arith, length-set, get_or-set_other, get_or-set_same}
+use mathlib.Core.Logic.{dite}
+use mathlib.Core.Option as maybe
+use mathlib.Core.Option.{some, none}
+use native.Mathlib.Decide.{ℕ_discrete}
+use lib.ListN.{get_elem?}
+use Rattle.atomic_table.specs.Table.{State, Me, step, stepped, gives, Allows}
+use Rattle.sdd_domain.specs.declared.board.Plan.{Plan}
+use Rattle.sdd_steps.specs.declared.participant.Phase.TheVariants.{Idle, Opened}
+use Rattle.sdd_steps.specs.declared.participant.Participant.{Participant}
+use Rattle.sdd_steps.specs.declared.step.Step.TheVariants.{End}
+use Rattle.sdd_steps.specs.State.{At, Has, newcomer, start}
+use Rattle.sdd_steps.specs.Steps.{left_by}
+use Rattle.sdd_steps.specs.State as steps
+use Rattle.sdd_steps.proofs.ListLemmas.{put, put_here, put_else, set_all, set_else, at_inside}
+use Rattle.sdd_homes.specs.declared.Lease.{Lease}
+use Rattle.sdd_homes.specs.declared.Owner.{Owner}
+use Rattle.sdd_homes.specs.Reasons.{Loads}
+use Rattle.sdd_homes.specs.Hands.{items_of}
+use Rattle.sdd_domain.specs.Views.{IsBare, spent}
+use Rattle.sdd_domain.specs.Items.{Grip, Rests, Carries, Items}
+use Rattle.sdd_domain.proofs.Stirred.{stirred_none, stirred_left, grip_set, loads_others, seated}
+use Rattle.sdd_domain.proofs.Stirred as items
+use Rattle.sdd_base.specs.declared.sizes.Sizes.{Sizes}
+use Rattle.sdd_homes.specs.Book.{Content, blank, Book}
+use Rattle.sdd_homes.specs.Lying.{Lying}
+use Rattle.sdd_homes.proofs.LyingLemmas.{gives_high}
+use Rattle.sdd_domain.specs.Layout.{state_word, claim_word, epoch_words, all_homes, all_spares, shown}
+use Rattle.sdd_domain.specs.Rule.{Acts, Runs, beginning, Shows}
+use Rattle.sdd_domain.specs.Plays.{HasSpare, end_then}
+use Rattle.sdd_domain.specs.declared.board.Acting.{Acting}
+use Rattle.sdd_domain.proofs.Bounds.{changes}
+use Rattle.sdd_domain.proofs.Taken as taken
+
+module _ (S : Type 0) (IsIn : Content → S → Type 0) (plan : Plan) where
+  -- the participant ends: what it retired waits, its spare slot goes back, and the next one that acts for it is a newcomer
+  module _ (s : State S Acting) (r : Shows IsIn plan s) (id : ℕ) (d : Acting) (at : get_elem? s.views id ≡ some d) (kind : d.kind ≡ 1) (is : d.known.phase ≡ Idle) (still : d.scan ≡ 0) (bare : IsBare d) (u : S) (is_blank : IsIn blank u) where
+    abbrev p : ℕ
+    p = d.number
+
+    abbrev i : ℕ
+    i = claim_word p
+
+    abbrev v : ℕ
+    v = plan.sizes.cells + p
+
+    abbrev y : ℕ
+    y = r.book.spare v
+
+    abbrev ps : List Participant
+    ps = r.state.participants
+
+    abbrev x' : Participant
+    x' = record d.known { found = 0 }
+
+    abbrev core : steps.State
+    core = record r.state { participants = set ps p x'; items = map (left_by p) r.state.items }
+
+    abbrev words' : List ℕ
+    words' = set s.words i (suc d.spare)
+
+    abbrev views' : List Acting
+    views' = set s.views id spent
+
+    abbrev homes' : List (maybe.Option S)
+    homes' = set s.homes (all_homes plan.sizes + d.spare) (some u)
+
+    abbrev book' : Book
+    book' = record r.book { extra = put r.book.extra y blank }
+
+    acts : Acts ps r.state.count r.born s.words r.epochs.seat_of r.epochs.scanner id d
+    acts = r.epochs.seats id d at kind
+
+    carries : Carries plan.sizes r.book d
+    carries = r.items.seats id d at kind
+
+    low : p < plan.sizes.participants
+    low = let inside = at_inside ps p d.known acts.is in let many = r.epochs.many in omega arith
+
+    new : x' ≡ newcomer
+    new = ap (λ (z : Participant). record z { found = 0 }) (acts.still is)
+
+    runs : Runs r.state core
+    runs = taken.one r.state (End p) core (taken.ends r.state p d.known acts.is is (λ j it at_j. r.items.settled j it p at_j))
+
+    now : get_or words' i 0 ≡ suc d.spare
+    now = let wide = r.epochs.wide in let l = low in get_or-set_same s.words i (suc d.spare) 0 (omega arith)
+
+    else_same : (q : ℕ) → q ≢ p → get_or words' (claim_word q) 0 ≡ get_or s.words (claim_word q) 0
+    else_same q ne = get_or-set_other s.words i (claim_word q) (suc d.spare) 0 (λ e. ne (omega arith))
+
+    out : r.book.out p ≡ []
+    out = carries.leases ∙ bare.1
+
+    -- the spare slot is back while the participant is still claimed
+    back : Items IsIn plan.sizes r.state book' s.words homes' s.views
+    back = items.respared r.items p blank homes' low acts.claimed
+        (subst (λ z. Lying IsIn (all_homes plan.sizes) (all_spares plan.sizes) r.book.what book'.extra (set s.homes (all_homes plan.sizes + z) (some u))) carries.spare (gives_high r.items.lying y blank u (r.items.spares.range v (let l = low in omega arith)) is_blank))
+
+    items_now : Items IsIn plan.sizes core book' words' homes' views'
+    items_now = items.stays back core words' views' refl (stirred_left p r.state.items)
+        (λ q l has z. dite (ℕ_discrete q p)
+        (λ e. absurd (subst (λ (ls : List Lease). Has ls l) (ap r.book.out e ∙ out) has))
+        (λ ne. ⊎_elim (λ (t : Loads r.state q l.item). inl (loads_others r.state core p x' refl q l.item ne t))
+        (λ (g : Grip s.views q l.item). inr (grip_set s.views id d spent at (λ q' i' h. absurd (subst (λ (os : List Owner). Has (items_of os) i') bare.0 h.3)) q l.item g)) z))
+        (record {
+          long = length-set s.words i (suc d.spare);
+          high = λ j le. let l = low in get_or-set_other s.words i j (suc d.spare) 0 (λ e. omega arith);
+          freed = λ q _ _. dite (ℕ_discrete q p) (λ e. inr (subst (Rests plan.sizes book' words') (sym e) (out, now ∙ ap suc (sym carries.spare), put_here r.book.extra y blank))) (λ ne. inl (else_same q ne));
+        })
+        (seated back id d spent at (sym bare.0) (λ k. absurd (omega arith)))
+        (items.waits_set back core.items id spent (λ w k _. absurd (omega arith))
+        (λ j e w other here k has. let x = r.epochs.seats j e here k in items.waits_left p e.number r.state.items r.book.slot_of w (λ same. other (sym x.seated ∙ (ap r.epochs.seat_of same ∙ acts.seated))) (r.items.waiting j e w here k has)))
+
+    acts_now : (j : ℕ) (z : Acting) → At views' j z → z.kind ≡ 1 → Acts core.participants core.count (put r.born p (r.born p)) words' r.epochs.seat_of r.epochs.scanner j z
+    acts_now j z at_j k = let o = r.epochs in set_all (λ j' z'. z'.kind ≡ 1 → Acts core.participants core.count (put r.born p (r.born p)) words' o.seat_of o.scanner j' z') s.views id spent
+        (λ k'. absurd (omega arith))
+        (λ j' z' other here kind'. let b = o.seats j' z' here kind' in let apart : z'.number ≢ p = (λ same. other (sym b.seated ∙ (ap o.seat_of same ∙ acts.seated))) in record {
+          is = set_else ps p z'.number x' apart ∙ b.is;
+          seated = b.seated;
+          claimed = else_same z'.number apart ∙ b.claimed;
+          locked = λ more. let l = b.locked more in (get_or-set_other s.words i 8 (suc d.spare) 0 (λ e. omega arith) ∙ l.0, l.1);
+          present = b.present;
+          begun = λ n h. b.begun n h ∙ sym (put_else r.born p (r.born p) z'.number apart);
+          still = b.still;
+        }) j z at_j k
+
+    pub shown_end : Shows IsIn plan record { words = words'; homes = homes'; views = views' }
+    shown_end = let o = r.epochs in record {
+      state = core;
+      run = taken.goes_on (beginning plan) r.state core r.run runs;
+      kept = taken.run_keeps r.state core runs r.kept;
+      book = book';
+      items = items_now;
+      born = put r.born p (r.born p);
+      bounded = changes ps r.state.count r.born r.bounded p d.known x' (r.born p) acts.is (λ e h. let bad : Idle ≡ Opened e = sym is ∙ h in absurd (cc)) (λ e h. inr (h, refl)) (λ q z e h. let bad : Idle ≡ Opened r.state.count = sym is ∙ h in absurd (cc));
+      epochs = record {
+        seat_of = o.seat_of;
+        scanner = o.scanner;
+        wide = subst (λ m. epoch_words plan.sizes.participants ≤ m) (sym (length-set s.words i (suc d.spare))) o.wide;
+        many = length-set ps p x' ∙ o.many;
+        count_is = get_or-set_other s.words i 0 (suc d.spare) 0 (λ e. omega arith) ∙ o.count_is;
+        states = set_all (λ q z. get_or words' (state_word q) 0 ≡ shown z.phase) ps p x'
+            (get_or-set_other s.words i (state_word p) (suc d.spare) 0 (λ e. omega arith) ∙ o.states p d.known acts.is)
+            (λ q z _ here. get_or-set_other s.words i (state_word q) (suc d.spare) 0 (λ e. omega arith) ∙ o.states q z here);
+        free = set_all (λ q z. get_or words' (claim_word q) 0 ≢ 0 → z ≡ newcomer) ps p x' (λ _. new) (λ q z other here some_. o.free q z here (λ e. some_ (else_same q other ∙ e)));
+        seats = acts_now;
+      };
+    }
+
+  pub ends_at : (slots id : ℕ) (me : Me S Acting) (p w : ℕ) (tail : List (ℕ × S)) → me.0.number ≡ p → me.0.kind ≡ 1 → me.0.known.phase ≡ Idle → me.0.scan ≡ 0 → IsBare me.0 → w ≡ suc me.0.spare → HasSpare IsIn me tail
+      → Allows (Shows IsIn plan) slots id me (claim_word p) (λ _. w) (λ _. end_then (step slots (claim_word p) w 0 none) me w)
+  ends_at slots id me p w tail here kind is still bare word has s r _ at _ = let d = me.0 in let u = has.0 in (
+    spent,
+    gives,
+    tt,
+    subst (λ (cs : List (ℕ × S)). Shows IsIn plan (stepped s (claim_word p) w id cs spent gives)) (sym has.2)
+        (subst (λ (z : ℕ × ℕ × Sizes). Shows IsIn plan record { words = set s.words (claim_word z.0) z.1; homes = set s.homes (all_homes z.2 + d.spare) (some u); views = set s.views id spent }) (λ j. (here j, sym word j, sym (r.items.seats id d at kind).sizes_are j))
+        (shown_end s r id d at kind is still bare u has.1)),
+    refl,
+  )

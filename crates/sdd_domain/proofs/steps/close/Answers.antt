@@ -1,6 +1,0 @@
-use Rattle.std.proofs.Common.{rules}
-use Rattle.sdd_domain.proofs.Openings.{closes_at}
-use Rattle.sdd_domain.proofs.steps.close.Goals as goal
-
-pub store-requires : goal.store-requires
-store-requires g c = let r = c.requires.open in (search rules, search rules, closes_at _ _ _ _ _ _ c.args.number c.args.epoch r.1 r.0 r.2 r.3 r.4 r.5.1)
