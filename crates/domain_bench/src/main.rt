@@ -42,7 +42,7 @@ fn task_of(threads: &str, kind: &str, rounds: &str) -> Option<(u8, Kind, u32)>
 }
 
 /// A guard, opened and closed: the epoch that it saw.
-fn pass(domain: &Domain, local: &mut Local, accelerated: bool) -> Epoch
+fn pass(domain: &Domain<u64>, local: &mut Local<u64>, accelerated: bool) -> Epoch
     requires home { home_of local.old ≡ place_of domain.now }
     requires shallow { (own_of local.old).nesting ≤ 1 }
     ensures same { IsSame local.old local.new }
@@ -62,7 +62,7 @@ fn pass(domain: &Domain, local: &mut Local, accelerated: bool) -> Epoch
 /// So many guards one by one, within the one that may be open: the sum of the epochs that they saw. It is compiled by
 /// itself, so that what is open isn't known to it beforehand.
 #[inline(never)]
-fn passes(domain: &Domain, local: &mut Local, accelerated: bool, rounds: u32) -> u64
+fn passes(domain: &Domain<u64>, local: &mut Local<u64>, accelerated: bool, rounds: u32) -> u64
     requires home { home_of local.old ≡ place_of domain.now }
     requires shallow { (own_of local.old).nesting ≤ 1 }
     ensures same { IsSame local.old local.new }
@@ -77,7 +77,7 @@ fn passes(domain: &Domain, local: &mut Local, accelerated: bool, rounds: u32) ->
 }
 
 /// The rounds of one thread. None if no participant was free.
-fn work(domain: &Domain, kind: Kind, rounds: u32) -> Option<u64> {
+fn work(domain: &Domain<u64>, kind: Kind, rounds: u32) -> Option<u64> {
     let mut local = domain.register().ok()?;
     let sum = match kind {
         Kind::Plain => passes(domain, &mut local, false, rounds),
@@ -96,7 +96,7 @@ fn work(domain: &Domain, kind: Kind, rounds: u32) -> Option<u64> {
 }
 
 /// Ends a place, as soon as nobody is registered.
-fn end<R: Wait>(rt: &R, mut domain: Domain) {
+fn end<R: Wait>(rt: &R, mut domain: Domain<u64>) {
     for _ in rt.forever() {
         match domain.close() {
             Ok(()) => return,

@@ -26,7 +26,7 @@ pub(crate) fn only(participants: u8) -> Sizes
 }
 
 /// A participant of the place, which has one that is free.
-pub(crate) fn member<R: Abort>(rt: &R, domain: &Domain) -> Local
+pub(crate) fn member<R: Abort>(rt: &R, domain: &Domain<u64>) -> Local<u64>
     ensures home { home_of result ≡ place_of domain.now }
     ensures closed { (own_of result).nesting ≡ 0 }
 {
@@ -37,7 +37,7 @@ pub(crate) fn member<R: Abort>(rt: &R, domain: &Domain) -> Local
 }
 
 /// Why nobody can be registered.
-pub(crate) fn refused<R: Abort>(rt: &R, domain: &Domain) -> RegisterRefused {
+pub(crate) fn refused<R: Abort>(rt: &R, domain: &Domain<u64>) -> RegisterRefused {
     match domain.register() {
         Ok(_) => panic!(rt; "no participant is free"),
         Err(refused) => refused,
@@ -45,7 +45,7 @@ pub(crate) fn refused<R: Abort>(rt: &R, domain: &Domain) -> RegisterRefused {
 }
 
 /// Ends a place in which nobody is registered.
-pub(crate) fn end<R: Abort>(rt: &R, domain: Domain) {
+pub(crate) fn end<R: Abort>(rt: &R, domain: Domain<u64>) {
     match domain.close() {
         Ok(()) => {}
         Err(_) => panic!(rt; "nobody is registered"),

@@ -11,7 +11,7 @@ use sdd_domain::local::Local;
 use std::test::Fail;
 
 /// A guard, opened and closed one by one, accelerated or not: the epoch that it saw.
-pub(crate) fn pass(domain: &Domain, local: &mut Local, accelerated: bool) -> u8
+pub(crate) fn pass(domain: &Domain<u64>, local: &mut Local<u64>, accelerated: bool) -> u8
     requires home { home_of local.old ≡ place_of domain.now }
     requires closed { (own_of local.old).nesting ≡ 0 }
     ensures same { IsSame local.old local.new }
@@ -29,7 +29,7 @@ pub(crate) fn pass(domain: &Domain, local: &mut Local, accelerated: bool) -> u8
 }
 
 /// The epochs that four accelerated guards see, one by one.
-fn four(domain: &Domain, local: &mut Local) -> [u8; 4]
+fn four(domain: &Domain<u64>, local: &mut Local<u64>) -> [u8; 4]
     requires home { home_of local.old ≡ place_of domain.now }
     requires closed { (own_of local.old).nesting ≡ 0 }
     ensures same { IsSame local.old local.new }
@@ -42,7 +42,7 @@ fn four(domain: &Domain, local: &mut Local) -> [u8; 4]
 }
 
 /// So many guards that aren't accelerated, one by one.
-fn plain(domain: &Domain, local: &mut Local, count: u8)
+fn plain(domain: &Domain<u64>, local: &mut Local<u64>, count: u8)
     requires home { home_of local.old ≡ place_of domain.now }
     requires closed { (own_of local.old).nesting ≡ 0 }
     ensures same { IsSame local.old local.new }

@@ -13,7 +13,7 @@ use std::test::Fail;
 use std::thread::join;
 
 /// An accelerated guard under which the epoch is read three times: whether it went on by one at most.
-fn is_steady(domain: &Domain, local: &mut Local) -> bool
+fn is_steady(domain: &Domain<u64>, local: &mut Local<u64>) -> bool
     requires home { home_of local.old ≡ place_of domain.now }
     requires closed { (own_of local.old).nesting ≡ 0 }
     ensures same { IsSame local.old local.new }
@@ -36,7 +36,7 @@ fn goes_on(earlier: Epoch, later: Epoch) -> bool {
 }
 
 /// A thousand accelerated guards of one participant: how many were steady. None if no participant was free.
-fn stays(domain: &Domain) -> Option<u32> {
+fn stays(domain: &Domain<u64>) -> Option<u32> {
     let Ok(mut local) = domain.register() else {
         return None;
     };
@@ -52,7 +52,7 @@ fn stays(domain: &Domain) -> Option<u32> {
 
 /// A thousand participants one after the other, each with one accelerated guard: how many were registered and had a
 /// steady guard.
-fn comes_and_goes(domain: &Domain) -> Option<u32> {
+fn comes_and_goes(domain: &Domain<u64>) -> Option<u32> {
     let mut steady = 0;
     for _i in 0..1000u32 {
         let Ok(mut local) = domain.register() else {
