@@ -1,5 +1,5 @@
 -- a release begins where the item isn't leased: the participant's home of it comes out
-use Rattle.std.proofs.Common.{◌≡◌, ℕ, suc, ◌<◌, List, [], ◌∷◌, ◌++◌, get_or, set, sym, refl, ap, ◌∙◌, subst, ⊎_elim, inl, inr, arith}
+use Rattle.std.proofs.Common.{◌≡◌, ℕ, suc, ◌^◌, ◌<◌, List, [], ◌∷◌, ◌++◌, get_or, set, sym, refl, ap, ◌∙◌, subst, ⊎_elim, inl, inr, arith}
 use mathlib.Core.Option.{some, none}
 use lib.ListN.{get_elem?}
 use lib.Seq.{set-get_or}
@@ -15,7 +15,7 @@ use Rattle.sdd_homes.specs.Book.{Content, away, part, full, home, Lends, lease}
 use Rattle.sdd_homes.specs.Parts.{Parts}
 use Rattle.sdd_homes.specs.Reasons.{Loads, Why}
 use Rattle.sdd_homes.proofs.HandLemmas.{has_item, owned_some, mine_some}
-use Rattle.sdd_homes.proofs.Totals.{home_in}
+use Rattle.sdd_homes.proofs.Totals.{home_in, total_put}
 use Rattle.sdd_homes.proofs.LyingLemmas.{takes_low}
 use Rattle.sdd_homes.proofs.PartLemmas as parts
 use Rattle.sdd_domain.specs.Items.{hand_of, Grip, Owns}
@@ -40,7 +40,7 @@ module _ (S : Type 0) (IsIn : Content → S → Type 0) (plan : Plan) where
     own : Owns r.state.items r.book.slot_of o
     own = r.items.owners id d o at in_hand
 
-    stand : (o.slot < plan.sizes.slots) × (r.book.stage o.slot ≡ full o.item)
+    pub stand : (o.slot < plan.sizes.slots) × (r.book.stage o.slot ≡ full o.item)
     stand = let w = own in let g = r.items.hands o.item w.0 w.1 in let some_ = owned_some hand_of o.item s.views id d at in let mine = mine_some hand_of o.item d o in_hand refl in let count = (r.kept.0.owned o.item w.0 w.1).counted in
         let alive = (r.kept.0.owned o.item w.0 w.1).is_live (omega arith) in subst (λ z. (z < plan.sizes.slots) × (r.book.stage z ≡ full o.item)) w.3 (r.items.standing o.item w.0 w.1 (λ q e. let bad : Live ≡ Reclaimed q = sym alive ∙ e in absurd (cc)))
 
@@ -55,6 +55,11 @@ module _ (S : Type 0) (IsIn : Content → S → Type 0) (plan : Plan) where
 
     lies : r.book.what (home n o.slot p) ≡ part o.round c
     lies = let f = r.items.parts.full_at o.slot o.item stand.0 stand.1 in let w = own in f.homes p low unleased ∙ ap (λ z. part z c) (ap (λ (z : Item). z.value) (same_at r.state.items o.item f.it w.0 f.here w.1) ∙ w.2)
+
+    -- an owner has one part, so the participant hasn't all of them
+    pub few : c < 2 ^ 63
+    few = let f = r.items.parts.full_at o.slot o.item stand.0 stand.1 in let w = own in let g = r.items.hands o.item w.0 w.1 in let some_ = owned_some hand_of o.item s.views id d at in let mine = mine_some hand_of o.item d o in_hand refl in let count = (r.kept.0.owned o.item w.0 w.1).counted in
+        let same = ap (λ (z : Item). z.owners) (same_at r.state.items o.item f.it w.0 f.here w.1) in let all = f.sum in let part_of_all = total_put n (r.book.share o.slot) p 0 low in omega arith
 
     pub found : (u : S) × (get_elem? s.homes (home n o.slot p) ≡ some (some u)) × IsIn (part o.round c) u
     found = let f = r.items.lying.low (home n o.slot p) (home_in n plan.sizes.slots o.slot p stand.0 (omega (arith, low))) (λ e. let bad : part o.round c ≡ away = sym lies ∙ e in absurd (cc)) in (f.0, f.1, subst (λ z. IsIn z f.0) lies f.2)
@@ -103,6 +108,8 @@ module _ (S : Type 0) (IsIn : Content → S → Type 0) (plan : Plan) where
           r.book.share o.slot d.number,
           f.0,
           subst (λ (z : Owner). IsIn (part z.round (r.book.share o.slot d.number)) f.0) same f.2,
+          few s r id d o os at kind idle first free,
+          subst (λ (z : Owner). z.slot < d.sizes.slots) same (subst (λ (z : Sizes). o.slot < z.slots) (sym (r.items.seats id d at kind).sizes_are) (stand s r id d o os at kind idle first free).0),
           λ j. (record d { leases = d.leases ++ lease (same j).slot (same j).item (r.book.share o.slot d.number) (same j).round ∷ []; releasing = suc (same j).item }, (own_home d (same j).slot, f.0) ∷ me.1),
         ),
       )

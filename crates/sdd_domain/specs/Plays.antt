@@ -1,5 +1,5 @@
 -- what each step on a word tells the seat that makes it
-use Rattle.std.specs.Prelude.{◌≡◌, ◌≢◌, ◌⊎◌, ℕ, suc, ◌+◌, ◌-◌, ◌^◌, ◌<◌, ◌≤◌, List, [], ◌∷◌, ◌++◌, length, drop, Option, None, Some, Bool, false, ◌==◌, ◌&&◌, cond}
+use Rattle.std.specs.Prelude.{◌≡◌, ◌≢◌, ◌⊎◌, ℕ, suc, ◌+◌, ◌-◌, ◌^◌, ◌<◌, ◌≤◌, List, [], ◌∷◌, ◌++◌, length, take, drop, Option, None, Some, Bool, false, ◌==◌, ◌&&◌, cond}
 use mathlib.Core.Option.{some}
 use Rattle.atomic_table.specs.Table.{Me, Step, rest}
 use Rattle.atomic_table.specs.declared.shared.Seat.{Seat}
@@ -171,7 +171,7 @@ release_then t m n m' = (l : Lease) (o : Owner) (os : List Owner) → Has m.0.le
 
 -- a release of the owner o begins: the participant's home of its item comes out
 abbrev pub HasBegun : {S : Type 0} → (Content → S → Type 0) → Me S Acting → Owner → Me S Acting → Type 0
-HasBegun IsIn m o m' = (c : ℕ) × (u : _) × IsIn (part o.round c) u × (m' ≡ (record m.0 { leases = m.0.leases ++ lease o.slot o.item c o.round ∷ []; releasing = suc o.item }, (own_home m.0 o.slot, u) ∷ m.1))
+HasBegun IsIn m o m' = (c : ℕ) × (u : _) × IsIn (part o.round c) u × (c < 2 ^ 63) × (o.slot < m.0.sizes.slots) × (m' ≡ (record m.0 { leases = m.0.leases ++ lease o.slot o.item c o.round ∷ []; releasing = suc o.item }, (own_home m.0 o.slot, u) ∷ m.1))
 
 -- the owner is the first in hand
 abbrev pub begin_then : {S : Type 0} → (Content → S → Type 0) → Step S → Me S Acting → ℕ → Me S Acting → Type 0
@@ -242,6 +242,17 @@ module _ {S : Type 0} (IsIn : Content → S → Type 0) where
   -- a value is so many parts of one round only
   abbrev pub AreTold : Type 0
   AreTold = (c a c' a' : ℕ) (u : S) → IsIn (part c a) u → IsIn (part c' a') u → (c ≡ c') × (a ≡ a')
+
+-- the owners in hand but the first; the view of a seat that has the first one
+abbrev pub others_in : Acting → Acting
+others_in d = record d { hand = drop 1 d.hand }
+
+abbrev pub first_in : Acting → Acting
+first_in d = record spent { kind = 3; hand = take 1 d.hand }
+
+-- the owners of another seat come into the hand
+abbrev pub joined_by : Acting → Acting → Acting
+joined_by d e = record d { hand = e.hand ++ d.hand }
 
 -- the slot of the owner is the one that was filled last, and it is in hand
 abbrev pub owning : Owner → Acting → Acting

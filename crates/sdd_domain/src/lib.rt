@@ -12,6 +12,7 @@ pub mod guard;
 mod homes;
 pub mod laws;
 pub mod local;
+mod owners;
 mod placing;
 mod reclaiming;
 pub mod refusal;
