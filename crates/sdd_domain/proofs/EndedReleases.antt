@@ -1,5 +1,5 @@
 -- a release that began ends: the owner's part goes home with the participant's own ones, in the step that counts the owner no more
-use Rattle.std.proofs.Common.{◌≡◌, ◌≢◌, ℕ, suc, ◌+◌, ◌-◌, ◌%◌, ◌<◌, List, [], ◌∷◌, ◌++◌, get_or, set, sym, refl, ap, ◌∙◌, subst, ⊎_elim, inl, inr, arith, true}
+use Rattle.std.proofs.Common.{◌≡◌, ◌≢◌, ℕ, suc, ◌+◌, ◌-◌, ◌%◌, ◌<◌, List, length, [], ◌∷◌, ◌++◌, get_or, set, sym, refl, ap, ◌∙◌, subst, ⊎_elim, inl, inr, arith, true}
 use Rattle.std.proofs.lemmas.List.{append_cancel_right}
 use mathlib.Core.Logic.{dite}
 use mathlib.Core.Option as maybe
@@ -36,6 +36,7 @@ use Rattle.sdd_domain.specs.Plays.{own_home, retiring, CanEnd, ended_release, en
 use Rattle.sdd_domain.specs.declared.board.Acting.{Acting}
 use Rattle.sdd_domain.specs.declared.board.Plan.{Plan}
 use Rattle.sdd_domain.proofs.Recounts.{Recounts, waits_else, recounted_shown}
+use Rattle.sdd_domain.proofs.Crowds.{fewer_wait}
 use Rattle.sdd_domain.proofs.Releases as releases
 use Rattle.sdd_domain.proofs.Releases.{lowered, lowers, never_due, less_one}
 
@@ -187,6 +188,7 @@ module _ (S : Type 0) (IsIn : Content → S → Type 0) (plan : Plan) where
   pub ends_one : (slots id : ℕ) (me : Me S Acting) (l : Lease) (ls : List Lease) (o : Owner) (os : List Owner) (tail : List (ℕ × S)) → me.0.kind ≡ 1 → is_ready me.0.known ≡ true → CanEnd IsIn me l ls o os tail
       → Allows (Shows IsIn plan) slots id me (slot_word plan.sizes l.slot) (λ k. (k + (18446744073709551616 - 1)) % 18446744073709551616) (end_release_then IsIn (step slots (slot_word plan.sizes l.slot) 1 0 none) me)
   ends_one slots id me l ls o os tail kind ready can s r _ at fits = let d = me.0 in let i : ℕ = slot_word plan.sizes l.slot in let m : ℕ = get_or s.words i 0 in let more = some_left s r id d l ls o os at kind ready can.0 can.1 can.2 can.3 in
+      let held : Has d.hand o = subst (λ (z : List Owner). Has z o) (sym can.1) (inl refl) in let room = subst (λ (z : Sizes). length d.waits < z.slots) (sym (r.items.seats id d at kind).sizes_are) (fewer_wait S IsIn plan s r id d o at kind held) in
       let u = can.4.0 in let once = subst Apart (r.items.seats id d at kind).leases (r.items.parts.once d.number) in let d' = ended_release m l ls os d in
       let shown = subst (λ (z : Sizes). Shows IsIn plan record { words = set s.words i (m - 1); homes = set s.homes (home z.participants l.slot d.number) (some u); views = set s.views id d' }) (sym (r.items.seats id d at kind).sizes_are)
       (subst (λ z. Shows IsIn plan record { words = set s.words i (m - 1); homes = set s.homes (home n l.slot d.number) (some u); views = set s.views id (ended_release z l ls os d) }) (sym (word_is s r id d l ls o os at kind ready can.0 can.1 can.2 can.3)) (shown_end s r id d l ls o os at kind ready can.0 can.1 can.2 can.3 u can.4.1)) in
@@ -195,5 +197,5 @@ module _ (S : Type 0) (IsIn : Content → S → Type 0) (plan : Plan) where
         gives,
         tt,
         subst (λ (cs : List (ℕ × S)). Shows IsIn plan (stepped s i ((m + (18446744073709551616 - 1)) % 18446744073709551616) id cs d' gives)) (sym can.4.2) kept,
-        λ l1 ls1 o1 os1 tail1 can1. let same = one_end me l l1 ls ls1 o o1 os os1 tail tail1 once can can1 in (more, λ j. (ended_release m (same.0 j) (same.1 j) (same.2 j) d, (ap table.rest can.4.2 ∙ same.3) j)),
+        λ l1 ls1 o1 os1 tail1 can1. let same = one_end me l l1 ls ls1 o o1 os os1 tail tail1 once can can1 in (more, room, λ j. (ended_release m (same.0 j) (same.1 j) (same.2 j) d, (ap table.rest can.4.2 ∙ same.3) j)),
       )

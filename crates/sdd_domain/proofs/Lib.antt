@@ -18,6 +18,7 @@ pub mod Recounts
 pub mod Clones
 pub mod Releases
 pub mod Begins
+pub mod Crowds
 pub mod EndedReleases
 pub mod Fills
 pub mod Claims

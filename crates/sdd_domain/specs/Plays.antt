@@ -187,7 +187,7 @@ module _ {S : Type 0} (IsIn : Content → S → Type 0) where
   CanEnd m l ls o os tail = (m.0.leases ≡ ls ++ l ∷ []) × (m.0.hand ≡ o ∷ os) × (o.slot ≡ l.slot) × (m.0.releasing ≡ suc o.item) × ((u : S) × IsIn (part l.round (l.count + 1)) u × (m.1 ≡ (own_home m.0 l.slot, u) ∷ tail))
 
   abbrev pub end_release_then : Step S → Me S Acting → ℕ → Me S Acting → Type 0
-  end_release_then t m n m' = (l : Lease) (ls : List Lease) (o : Owner) (os : List Owner) (tail : List (ℕ × S)) → CanEnd m l ls o os tail → (2 < n) × (m' ≡ (ended_release n l ls os m.0, tail))
+  end_release_then t m n m' = (l : Lease) (ls : List Lease) (o : Owner) (os : List Owner) (tail : List (ℕ × S)) → CanEnd m l ls o os tail → (2 < n) × (length m.0.waits < m.0.sizes.slots) × (m' ≡ (ended_release n l ls os m.0, tail))
 
 module _ {S : Type 0} (IsIn : Content → S → Type 0) where
   -- a cell with the word given is swapped; another one is loaded

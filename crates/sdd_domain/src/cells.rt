@@ -183,6 +183,7 @@ pub(crate) fn end_release<T>(
     requires ready { (place.old.me.0.kind ≡ 1) × (is_ready place.old.me.0.known ≡ true) }
     requires begun { (l : Lease) × (ls : List Lease) × (o : Owner) × (os : List Owner) × (tail : List (ℕ × Home T)) × (l.slot ≡ slot) × CanEnd IsIn place.old.me l ls o os tail }
     ensures seat { (place.new.table_id ≡ place.old.table_id) × (place.new.id ≡ place.old.id) }
+    ensures room { length place.old.me.0.waits < place.old.me.0.sizes.slots }
     ensures ended { (l : Lease) (ls : List Lease) (o : Owner) (os : List Owner) (tail : List (ℕ × Home T)) → CanEnd IsIn place.old.me l ls o os tail → place.new.me ≡ (ended_release (result + 3) l ls os place.old.me.0, tail) }
 {
     words.fetch_sub::<OnEndRelease>(place, 8 * participants + 16 + cells + slot, 1) - 3

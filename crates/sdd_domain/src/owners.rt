@@ -1,6 +1,6 @@
 //! Owners outside of calls: each has a seat of its own, which comes into the hand of a participant for a call.
 
-ghost use Rattle.std.specs.Prelude.{◌≡◌, ℕ, ◌+◌, ◌-◌, ◌*◌, ◌^◌, ◌<◌, ◌≤◌, List, [], ◌∷◌, true, IsSome};
+ghost use Rattle.std.specs.Prelude.{◌≡◌, ℕ, ◌+◌, ◌-◌, ◌*◌, ◌^◌, ◌<◌, ◌≤◌, List, [], ◌∷◌, length, true, IsSome};
 ghost use Rattle.sdd_steps.specs.Steps.{is_ready};
 ghost use Rattle.sdd_homes.specs.declared.Owner.{Owner};
 ghost use Rattle.sdd_domain.specs.Layout.{all_words, IsSized};
@@ -68,6 +68,7 @@ pub(crate) fn release<T>(
     requires owner { (o : Owner) × (os : List Owner) × (place.old.me.0.hand ≡ o ∷ os) × (o.slot ≡ slot) × (o.round ≡ owner.part.life.id) }
     requires there { IsSome owner.part.seen.value }
     ensures seat { (place.new.table_id ≡ place.old.table_id) × (place.new.id ≡ place.old.id) }
+    ensures room { length place.old.me.0.waits < sizes.now.slots }
     ensures released { (o : Owner) (os : List Owner) → place.old.me.0.hand ≡ o ∷ os → place.new.me ≡ (record place.old.me.0 { hand = os; waits = retiring (result + 3) (lease o.slot o.item 0 o.round) place.old.me.0.waits }, place.old.me.1) }
 {
     let home = slot * (sizes.participants + 1) + number;

@@ -23,4 +23,7 @@ overflow_sub-result g c = let l = c.requires.begun in let told = c.fetch_sub.ens
 
 pub returns-clause-ended : goal.returns-clause-ended
 returns-clause-ended g c = λ l ls o os tail can. let t = c.fetch_sub.ensures.2 l ls o os tail can in let more = t.0 in let n : ℕ = c.fetch_sub.result in let same : n ≡ n - 3 + 3 = omega arith in
-    t.1 ∙ ap (λ z. (ended_release z l ls os c.args.place.now.me.0, tail)) same
+    t.2 ∙ ap (λ z. (ended_release z l ls os c.args.place.now.me.0, tail)) same
+
+pub returns-clause-room : goal.returns-clause-room
+returns-clause-room g c = let l = c.requires.begun in (c.fetch_sub.ensures.2 l.0 l.1 l.2 l.3 l.4 l.6).1

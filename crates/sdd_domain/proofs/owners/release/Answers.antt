@@ -1,4 +1,4 @@
-use Rattle.std.proofs.Common.{◌≡◌, ℕ, suc, ◌+◌, ◌*◌, ◌^◌, ◌<◌, List, [], ◌∷◌, ◌++◌, IsSome, ap, sym, ◌∙◌, subst, refl, arith}
+use Rattle.std.proofs.Common.{◌≡◌, ℕ, suc, ◌+◌, ◌*◌, ◌^◌, ◌<◌, List, [], ◌∷◌, ◌++◌, length, IsSome, ap, sym, ◌∙◌, subst, refl, arith}
 use Rattle.atomic_table.specs.Table.{Me, rest}
 use Rattle.sdd_base.specs.declared.sizes.Sizes.{Sizes}
 use Rattle.sdd_homes.specs.declared.Owner.{Owner}
@@ -75,3 +75,8 @@ returns-clause-released g c = λ o' os' first'. let m = c.args.place.now.me in l
     after m m1 o b i r e.2 m2 m3 i r' Blank y e.3 e'.2 e'.3 q.1 k c.end_release.new.place.me c.requires.ready.4 c.requires.ready.3
         (c.end_release.ensures.ended (lease o.slot o.item n o.round) [] o q.1 m.1 (can m m1 o b i r e.2 m2 m3 i r' Blank y e.3 e'.2 e'.3 q.1 c.requires.ready.4 q.2 is_in))
         ∙ λ j. (record m.0 { hand = others j; waits = retiring k (lease (same j).slot (same j).item 0 (same j).round) m.0.waits }, m.1)
+
+pub returns-clause-room : goal.returns-clause-room
+returns-clause-room g c = let m = c.args.place.now.me in let q = c.requires.owner in let o = q.0 in let b = c.begin_release.ensures.begun o q.1 q.2 in let i : ℕ = c.args.slot * (c.args.sizes.now.participants + 1) + c.args.number in let e = c.exchange.ensures in let e' = c.exchange-2.ensures in
+    let is = joined m c.begin_release.new.place.me o b i c.exchange.result e.2 c.exchange.new.seat.me c.exchange-2.new.seat.me i c.exchange-2.result Blank _ e.3 e'.2 e'.3 in
+    subst (λ (z : Sizes). length m.0.waits < z.slots) c.requires.table.2 (subst (λ (t : Me _ Acting). length t.0.waits < t.0.sizes.slots) is c.end_release.ensures.room)
