@@ -27,5 +27,6 @@ pub mod Told
 pub mod Fronts
 pub mod Gathers
 pub mod Reclaims
+pub mod Aged
 pub mod OwnerSeats
 pub mod GiveUps

@@ -103,7 +103,7 @@ module _ (S : Type 0) (IsIn : Content → S → Type 0) (plan : Plan) where
     abbrev core : steps.State
     core = record core1 { items = given_up i ks core1.items }
 
-    stand : (k < plan.sizes.slots) × (r.book.stage k ≡ full i)
+    pub stand : (k < plan.sizes.slots) × (r.book.stage k ≡ full i)
     stand = let t = r.items.standing i it is_waiting.1 (λ q e. let bad : Retired p w.age ≡ Reclaimed q = sym is_waiting.2 ∙ e in absurd (cc)) in subst (λ z. (z < plan.sizes.slots) × (r.book.stage z ≡ full i)) is_waiting.4 t
 
     here1 : At core1.items i it1
@@ -295,5 +295,5 @@ module _ (S : Type 0) (IsIn : Content → S → Type 0) (plan : Plan) where
     takes (deed_home d w.slot) g.0,
     ap (λ z. get_elem? s.homes (home z w.slot z)) wide ∙ g.1,
     subst (λ z. Shows IsIn plan record { words = set s.words i (get_or s.words i 0); homes = set s.homes (home z w.slot z) none; views = set s.views id (record d { hand = r.book.held w.slot ++ d.hand; slot = w.slot; filling = Some (record { by = d.number; filled = z; round = w.round; left = 0; out = z }); waits = ws }) }) (sym wide) (shown_open s r id d w ws at kind ready waits old i),
-    λ w' ws' waits'. let same = snoc_same ws ws' w w' (sym waits ∙ waits') in (r.book.held w.slot, g.0, subst (λ (z : Garbage). IsIn (deed z.round (r.book.held w.slot)) g.0) same.1 g.2, λ j. (reclaiming (same.1 j) (r.book.held w.slot) (same.0 j) d, (deed_home d (same.1 j).slot, g.0) ∷ me.1)),
+    λ w' ws' waits'. let same = snoc_same ws ws' w w' (sym waits ∙ waits') in let inside = subst (λ (z : Sizes). w.slot < z.slots) (sym b.sizes_are) (stand s r id d w ws at kind ready waits old).0 in (subst (λ (z : Garbage). z.slot < d.sizes.slots) same.1 inside, (r.book.held w.slot, g.0, subst (λ (z : Garbage). IsIn (deed z.round (r.book.held w.slot)) g.0) same.1 g.2, λ j. (reclaiming (same.1 j) (r.book.held w.slot) (same.0 j) d, (deed_home d (same.1 j).slot, g.0) ∷ me.1))),
   )

@@ -3,6 +3,7 @@ pub mod Layout
 pub mod Items
 pub mod Owners
 pub mod Contents
+pub mod Bags
 pub mod Rule
 pub mod Plays
 pub mod Tokens

@@ -286,7 +286,7 @@ emptying q a f = record f { filled = q; left = f.left + a }
 module _ {S : Type 0} (IsIn : Content → S → Type 0) where
   -- what has waited longest is reclaimed: its deed comes out, and the owners that it held are in hand
   abbrev pub opens_then : Step S → Me S Acting → ℕ → Me S Acting → Type 0
-  opens_then t m n m' = (w : Garbage) (ws : List Garbage) → m.0.waits ≡ ws ++ w ∷ [] → (hs : List Owner) × (u : S) × IsIn (deed w.round hs) u × (m' ≡ (reclaiming w hs ws m.0, (deed_home m.0 w.slot, u) ∷ m.1))
+  opens_then t m n m' = (w : Garbage) (ws : List Garbage) → m.0.waits ≡ ws ++ w ∷ [] → (w.slot < m.0.sizes.slots) × ((hs : List Owner) × (u : S) × IsIn (deed w.round hs) u × (m' ≡ (reclaiming w hs ws m.0, (deed_home m.0 w.slot, u) ∷ m.1)))
 
   -- the last home that has parts comes out; with the first one all parts are in hand
   abbrev pub gathers_then : Step S → Me S Acting → ℕ → Me S Acting → Type 0

@@ -5,6 +5,7 @@
 //! another thread. Items and cells don't stand in a place of this kind yet.
 #![tactic(auto)]
 
+mod bags;
 mod board;
 mod cells;
 pub mod domain;

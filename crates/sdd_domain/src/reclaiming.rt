@@ -3,10 +3,13 @@
 ghost use Rattle.std.specs.Prelude.{◌≡◌, ℕ, ◌+◌, ◌-◌, ◌^◌, ◌<◌, ◌≤◌, ◌++◌, ◌∷◌, [], List, true, Some, None, IsSome};
 ghost use Rattle.sdd_steps.specs.Steps.{is_ready};
 ghost use Rattle.sdd_homes.specs.declared.Filling.{Filling};
+ghost use Rattle.std.specs.VecDeque.{deque_capacity};
 ghost use Rattle.sdd_homes.specs.declared.Garbage.{Garbage};
+ghost use Rattle.sdd_domain.specs.Bags.{ages, Waits};
 ghost use Rattle.sdd_domain.specs.Layout.{all_words, IsSized};
 ghost use Rattle.sdd_domain.specs.Plays.{emptying, filling_at};
 
+use crate::bags::Bags;
 use crate::board::{Home, Place, Stored, Words};
 use crate::homes::{deed_of, let_go, parts_of};
 use crate::slots;
@@ -57,18 +60,38 @@ fn gather_all<T>(
 /// Reclaims the item that waits the longest, in `slot`, which the participant retired three rotations ago. The item is
 /// the answer, and the slot is free.
 pub(crate) fn reclaim<T>(words: &Words<T>, place: &mut Place<T>, sizes: &Sizes, slot: usize) -> T
-    requires table { (place.old.table_id ≡ words.now.table_id) × (words.now.key.sizes ≡ sizes.now) × (place.old.me.0.sizes ≡ sizes.now) × IsSized sizes.now × (slot < sizes.now.slots) × (all_words sizes.now ≤ words.now.table_id.words) }
+    requires table { (place.old.table_id ≡ words.now.table_id) × (words.now.key.sizes ≡ sizes.now) × (place.old.me.0.sizes ≡ sizes.now) × IsSized sizes.now × (all_words sizes.now ≤ words.now.table_id.words) }
     requires ready { (place.old.me.0.kind ≡ 1) × (is_ready place.old.me.0.known ≡ true) × (place.old.me.0.filling ≡ None) × (place.old.me.0.hand ≡ []) }
     requires waits { (w : Garbage) × (ws : List Garbage) × (place.old.me.0.waits ≡ ws ++ w ∷ []) × (w.age ≡ 3) × (w.slot ≡ slot) }
     ensures seat { (place.new.table_id ≡ place.old.table_id) × (place.new.id ≡ place.old.id) }
     ensures reclaimed { (w : Garbage) (ws : List Garbage) → place.old.me.0.waits ≡ ws ++ w ∷ [] → place.new.me ≡ (record place.old.me.0 { slot = slot; waits = ws }, place.old.me.1) }
 {
-    let own = slot * (sizes.participants + 1) + sizes.participants;
     slots::open(words, place);
+    let own = slot * (sizes.participants + 1) + sizes.participants;
     let deed = deed_of(words.exchange(place, own, Home::Blank));
     let all = gather_all(words, place, sizes.participants, slot);
     let (item, room) = take_out(deed, all);
     let_go(words.exchange(place, own, Home::Room(room)));
     slots::vacate(words, place, sizes.participants, sizes.cells, slot);
     item
+}
+
+/// Reclaims all that is due, of what the participant retired.
+pub(crate) fn reclaim_due<T: Drop>(
+    words: &Words<T>,
+    place: &mut Place<T>,
+    sizes: &Sizes,
+    bags: &mut Bags,
+)
+    requires table { (place.old.table_id ≡ words.now.table_id) × (words.now.key.sizes ≡ sizes.now) × (place.old.me.0.sizes ≡ sizes.now) × IsSized sizes.now × (all_words sizes.now ≤ words.now.table_id.words) }
+    requires ready { (place.old.me.0.kind ≡ 1) × (is_ready place.old.me.0.known ≡ true) × (place.old.me.0.filling ≡ None) × (place.old.me.0.hand ≡ []) }
+    requires waits { Waits place.old.me.0.waits bags.old.slots.items (ages bags.old.current bags.old.previous bags.old.next bags.old.due) }
+    ensures seat { (place.new.table_id ≡ place.old.table_id) × (place.new.id ≡ place.old.id) }
+    ensures reclaimed { (k : ℕ) × (ws : List Garbage) × (place.new.me ≡ (record place.old.me.0 { slot = k; waits = ws }, place.old.me.1)) }
+    ensures waits { Waits place.new.me.0.waits bags.new.slots.items (ages bags.new.current bags.new.previous bags.new.next bags.new.due) }
+    ensures bags { (bags.new.due ≡ 0) × (deque_capacity bags.new.slots ≡ deque_capacity bags.old.slots) }
+{
+    while let Some(slot) = bags.take_due() {
+        drop(reclaim(words, place, sizes, slot));
+    }
 }

@@ -127,6 +127,7 @@ pub(crate) fn open<T>(words: &Words<T>, place: &mut Place<T>)
     requires ready { (place.old.me.0.kind ≡ 1) × (is_ready place.old.me.0.known ≡ true) × (place.old.me.0.filling ≡ None) }
     requires waits { (w : Garbage) × (ws : List Garbage) × (place.old.me.0.waits ≡ ws ++ w ∷ []) × (w.age ≡ 3) }
     ensures seat { (place.new.table_id ≡ place.old.table_id) × (place.new.id ≡ place.old.id) }
+    ensures inside { (w : Garbage) (ws : List Garbage) → place.old.me.0.waits ≡ ws ++ w ∷ [] → w.slot < place.old.me.0.sizes.slots }
     ensures opened { (w : Garbage) (ws : List Garbage) → place.old.me.0.waits ≡ ws ++ w ∷ [] → (hs : List Owner) × (u : Home T) × IsIn (deed w.round hs) u × (place.new.me ≡ (reclaiming w hs ws place.old.me.0, (deed_home place.old.me.0 w.slot, u) ∷ place.old.me.1)) }
 {
     let _ = words.load::<OnOpen>(place, 0);

@@ -1,0 +1,82 @@
+//! What a participant has retired, by how often it has rotated since.
+
+ghost use Rattle.std.specs.Prelude.{◌≡◌, ℕ, ◌+◌, ◌<◌, ◌≤◌, ◌++◌, ◌∷◌, [], List, IfOk, IfSome, IfNone};
+ghost use Rattle.std.specs.VecDeque.{deque_len, deque_capacity};
+ghost use Rattle.sdd_homes.specs.declared.Garbage.{Garbage};
+ghost use Rattle.sdd_domain.specs.Views.{older_waits};
+ghost use Rattle.sdd_domain.specs.Bags.{ages, Waits};
+
+use std::alloc::{AllocError, Global};
+use std::collections::VecDeque;
+
+/// Three bags, by age, and what is due: that was retired three rotations ago.
+pub struct Bags {
+    /// The slots of all that waits, what was retired last in front.
+    pub slots: VecDeque<usize>,
+    pub current: usize,
+    pub previous: usize,
+    pub next: usize,
+    pub due: usize,
+    ghost counted: { deque_len slots ≡ current + previous + next + due },
+}
+
+impl Bags {
+    /// Empty bags, with room for so many items.
+    pub(crate) fn new(alloc: Global, room: usize) -> Result<Bags, AllocError>
+        ensures { IfOk result (λ b. Waits [] b.slots.items (ages b.current b.previous b.next b.due) × (b.due ≡ 0) × (room ≤ deque_capacity b.slots)) }
+    {
+        let slots = VecDeque::with_capacity(alloc, room)?;
+        Ok(Bags {
+            slots,
+            current: 0,
+            previous: 0,
+            next: 0,
+            due: 0,
+        })
+    }
+
+    /// Puts an item into the current bag, where there is room for it.
+    pub(crate) fn retire(&mut self, slot: usize)
+        requires { deque_len self.old.slots < deque_capacity self.old.slots }
+        ensures retired { (ws : List Garbage) (w : Garbage) → Waits ws self.old.slots.items (ages self.old.current self.old.previous self.old.next self.old.due) → w.slot ≡ slot → w.age ≡ 0 → Waits (w ∷ ws) self.new.slots.items (ages self.new.current self.new.previous self.new.next self.new.due) }
+        ensures same { (self.new.due ≡ self.old.due) × (deque_capacity self.new.slots ≡ deque_capacity self.old.slots) }
+    {
+        let Bags { slots, current, .. } = self;
+        slots.push_front_reserved(slot);
+        *current += 1;
+    }
+
+    /// Turns the bags by one, where nothing is due.
+    pub(crate) fn rotate(&mut self)
+        requires { self.old.due ≡ 0 }
+        ensures rotated { (ws : List Garbage) → Waits ws self.old.slots.items (ages self.old.current self.old.previous self.old.next self.old.due) → Waits (older_waits ws) self.new.slots.items (ages self.new.current self.new.previous self.new.next self.new.due) }
+        ensures same { deque_capacity self.new.slots ≡ deque_capacity self.old.slots }
+    {
+        let Bags {
+            slots: _,
+            current,
+            previous,
+            next,
+            due,
+        } = self;
+        *due = *next;
+        *next = *previous;
+        *previous = *current;
+        *current = 0;
+    }
+
+    /// Takes out what has waited longest, if it is due.
+    pub(crate) fn take_due(&mut self) -> Option<usize>
+        ensures taken { IfSome result (λ slot. (ws : List Garbage) → Waits ws self.old.slots.items (ages self.old.current self.old.previous self.old.next self.old.due) → (vs : List Garbage) × (w : Garbage) × (ws ≡ vs ++ w ∷ []) × (w.slot ≡ slot) × (w.age ≡ 3) × Waits vs self.new.slots.items (ages self.new.current self.new.previous self.new.next self.new.due)) }
+        ensures less { IfSome result (λ _. self.new.due + 1 ≡ self.old.due) }
+        ensures none { IfNone result ((self.new ≡ self.old) × (self.old.due ≡ 0)) }
+        ensures same { deque_capacity self.new.slots ≡ deque_capacity self.old.slots }
+    {
+        let Bags { slots, due, .. } = self;
+        if *due == 0 {
+            return None;
+        }
+        *due -= 1;
+        slots.pop_back()
+    }
+}
