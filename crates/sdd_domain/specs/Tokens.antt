@@ -1,5 +1,5 @@
 -- what places, participants and guards show to clauses
-use Rattle.std.specs.Prelude.{◌≡◌, ℕ, ◌-◌, ◌==◌, ◌&&◌, false, cond}
+use Rattle.std.specs.Prelude.{◌≡◌, Bool, false, ℕ, ◌-◌, ◌==◌, length, cond}
 use Rattle.atomic_table.specs.Seated.{TableId}
 use Rattle.sdd_base.specs.declared.sizes.Sizes.{Sizes}
 use Rattle.sdd_base.specs.declared.status.LocalState.{LocalState}
@@ -33,6 +33,10 @@ own_of l = l.own
 abbrev pub born_of : {T : Type 0} → Local T → ℕ
 born_of l = l.place.me.0.born
 
+-- how many items the participant has retired that aren't reclaimed yet
+abbrev pub waiting_of : {T : Type 0} → Local T → ℕ
+waiting_of l = length l.place.me.0.waits
+
 -- the participant whose guard it is
 abbrev pub participant_of : Guard → ℕ
 participant_of g = g.participant
@@ -41,9 +45,9 @@ participant_of g = g.participant
 abbrev pub IsSame : {T : Type 0} → Local T → Local T → Type 0
 IsSame old new = (home_of new ≡ home_of old) × (number_of new ≡ number_of old)
 
--- An outermost opening that found this count. A rotation clears the flag of garbage, since all bags are empty.
-abbrev pub begun : ℕ → LocalState → LocalState
-begun count m = record { nesting = 1; published = count; previous = count; accelerated = false; garbage = m.garbage && (m.previous == count); closings = m.closings }
+-- An outermost opening that found this count. A rotation sets the flag of garbage if anything waits behind it, and else clears it.
+abbrev pub begun : ℕ → Bool → LocalState → LocalState
+begun count waits m = record { nesting = 1; published = count; previous = count; accelerated = false; garbage = cond (m.previous == count) m.garbage waits; closings = m.closings }
 
 -- a closing
 abbrev pub closed : LocalState → LocalState

@@ -1,6 +1,6 @@
 //! What a participant has retired, by how often it has rotated since.
 
-ghost use Rattle.std.specs.Prelude.{◌≡◌, ℕ, ◌+◌, ◌<◌, ◌≤◌, ◌++◌, ◌∷◌, [], List, IfOk, IfSome, IfNone};
+ghost use Rattle.std.specs.Prelude.{◌≡◌, ℕ, ◌+◌, ◌<◌, ◌≤◌, ◌++◌, ◌∷◌, [], List, IfOk, length, IfSome, IfNone, nat_lt};
 ghost use Rattle.std.specs.VecDeque.{deque_len, deque_capacity};
 ghost use Rattle.sdd_homes.specs.declared.Garbage.{Garbage};
 ghost use Rattle.sdd_domain.specs.Views.{older_waits};
@@ -10,6 +10,7 @@ use std::alloc::{AllocError, Global};
 use std::collections::VecDeque;
 
 /// Three bags, by age, and what is due: that was retired three rotations ago.
+#[derive(Drop)]
 pub struct Bags {
     /// The slots of all that waits, what was retired last in front.
     pub slots: VecDeque<usize>,
@@ -63,6 +64,13 @@ impl Bags {
         *next = *previous;
         *previous = *current;
         *current = 0;
+    }
+
+    /// Whether anything waits.
+    pub(crate) fn has_some(&self) -> bool
+        ensures { (ws : List Garbage) → Waits ws self.now.slots.items (ages self.now.current self.now.previous self.now.next self.now.due) → result ≡ nat_lt 0 (length ws) }
+    {
+        self.slots.len() > 0
     }
 
     /// Takes out what has waited longest, if it is due.

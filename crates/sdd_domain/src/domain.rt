@@ -5,6 +5,7 @@ ghost use Rattle.sdd_base.specs.State.{no_local};
 ghost use Rattle.sdd_domain.specs.Layout.{all_words, IsSized};
 ghost use Rattle.sdd_domain.specs.Rule.{numbers, first_eights, first_words};
 
+use crate::bags::Bags;
 use crate::board::{Board, Plan, Words};
 use crate::homes::{clear, empty, homes_from};
 use crate::local::Local;
@@ -18,6 +19,7 @@ use std::alloc::{AllocError, Global};
 pub struct Domain<T> {
     pub(crate) table: Board<T>,
     pub(crate) sizes: Sizes,
+    heap: Global,
     ghost sized: { (sizes ≡ table.shared.key.sizes) × IsSized sizes × (all_words sizes ≤ table.shared.table_id.words) },
 }
 
@@ -96,7 +98,11 @@ impl<T> Domain<T> {
         let words = words_from(alloc, &plan)?;
         let homes = homes_from(alloc, &plan.sizes)?;
         match Board::new(alloc, &words, homes, &plan) {
-            Ok((table, _)) => Ok(Domain { table, sizes }),
+            Ok((table, _)) => Ok(Domain {
+                table,
+                sizes,
+                heap: alloc,
+            }),
             Err(Refused { slots }) => {
                 clear(slots);
                 Err(AllocError)
@@ -117,11 +123,14 @@ impl<T> Domain<T> {
         ensures number { IfOk result (λ l. number_of l < participants_of self.now) }
         ensures fresh { IfOk result (λ l. own_of l ≡ no_local) }
     {
+        let Ok(bags) = Bags::new(self.heap, self.sizes.slots) else {
+            return Err(RegisterRefused::Memory);
+        };
         let mut place = sit(self.words());
         for number in 0..self.sizes.participants {
             if let Some(spare) = claim(self.words(), &mut place, number) {
                 learn(self.words(), &mut place, self.sizes);
-                return Ok(Local::registered(place, number, spare));
+                return Ok(Local::registered(place, number, spare, bags));
             }
         }
         Err(RegisterRefused::Full)
@@ -144,7 +153,11 @@ impl<T> Domain<T> {
         if self.any_claimed() {
             return Err(self);
         }
-        let Domain { table, sizes: _ } = self;
+        let Domain {
+            table,
+            sizes: _,
+            heap: _,
+        } = self;
         empty(table.close());
         Ok(())
     }

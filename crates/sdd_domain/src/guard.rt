@@ -1,7 +1,7 @@
 //! Guards of a place that threads share.
 
-ghost use Rattle.std.specs.Prelude.{◌≡◌, ℕ, ◌+◌, ◌<◌, ◌≤◌, ◌%◌, ◌↔◌, true, IsErr, IfOk, IfSome, IfNone, OnOk, OnErr};
-ghost use Rattle.sdd_domain.specs.Tokens.{place_of, home_of, number_of, own_of, born_of, participant_of, begun, closed, IsSame};
+ghost use Rattle.std.specs.Prelude.{◌≡◌, ℕ, ◌+◌, ◌<◌, ◌≤◌, ◌%◌, ◌↔◌, true, IsErr, IfOk, IfSome, IfNone, OnOk, OnErr, nat_lt};
+ghost use Rattle.sdd_domain.specs.Tokens.{place_of, home_of, number_of, own_of, born_of, participant_of, waiting_of, begun, closed, IsSame};
 
 use crate::domain::Domain;
 use crate::local::Local;
@@ -28,12 +28,12 @@ impl Guard {
     /// Opens a guard of a participant, within those that it has open. An outermost opening reads the count of raises,
     /// and publishes it in a second step; where it isn't the one that was found before, the participant's bags move
     /// on. From then until the outermost closing the count is raised at most once.
-    pub fn new<T>(domain: &Domain<T>, local: &mut Local<T>) -> Result<Guard, Nested>
+    pub fn new<T: Drop>(domain: &Domain<T>, local: &mut Local<T>) -> Result<Guard, Nested>
         requires { home_of local.old ≡ place_of domain.now }
         ensures guard { IfOk result (λ g. participant_of g ≡ number_of local.old) }
         ensures nested { IsErr result ↔ ((own_of local.old).nesting ≡ 4294967295) }
         ensures refused { OnErr result ((own_of local.new ≡ own_of local.old) × (born_of local.new ≡ born_of local.old)) }
-        ensures outermost { (own_of local.old).nesting ≡ 0 → (count : ℕ) × (count ≤ born_of local.new) × (own_of local.new ≡ begun count (own_of local.old)) }
+        ensures outermost { (own_of local.old).nesting ≡ 0 → (count : ℕ) × (count ≤ born_of local.new) × (own_of local.new ≡ begun count (nat_lt 0 (waiting_of local.new)) (own_of local.old)) }
         ensures inner { 0 < (own_of local.old).nesting → born_of local.new ≡ born_of local.old }
         ensures counted { OnOk result (0 < (own_of local.old).nesting → own_of local.new ≡ record (own_of local.old) { nesting = (own_of local.old).nesting + 1 }) }
         ensures same { IsSame local.old local.new }

@@ -1,18 +1,24 @@
 //! One participant of a place, as the thread that acts for it has it.
 
-ghost use Rattle.std.specs.Prelude.{◌≡◌, ◌≢◌, ℕ, ◌+◌, ◌-◌, ◌*◌, ◌^◌, ◌<◌, ◌≤◌, ◌==◌, ◌&&◌, true, [], length, drop, cond};
+ghost use Rattle.std.specs.Prelude.{◌≡◌, ◌≢◌, ℕ, ◌+◌, ◌-◌, ◌*◌, ◌^◌, ◌<◌, ◌≤◌, ◌==◌, ◌&&◌, true, List, [], length, drop, cond, nat_lt, None};
+ghost use Rattle.std.specs.VecDeque.{deque_capacity};
 ghost use Rattle.sdd_base.specs.State.{no_local};
 ghost use Rattle.sdd_base.specs.Steps.{closings_after, scans};
 ghost use Rattle.sdd_steps.specs.declared.participant.Phase.TheVariants.{Idle, Opened};
+ghost use Rattle.sdd_homes.specs.declared.Garbage.{Garbage};
 ghost use Rattle.sdd_domain.specs.Contents.{IsIn, is_blank};
-ghost use Rattle.sdd_domain.specs.Views.{IsBare, spent};
+ghost use Rattle.sdd_domain.specs.Bags.{ages, Waits};
+ghost use Rattle.sdd_domain.specs.Views.{IsBare, spent, rotated};
 ghost use Rattle.sdd_domain.specs.Plays.{own_spare, has_just, HasRegistered, CanClose};
-ghost use Rattle.sdd_domain.specs.Layout.{claim_word};
+ghost use Rattle.sdd_domain.specs.Layout.{claim_word, all_words, IsSized};
 
-use crate::board::Place;
+use crate::bags::Bags;
+use crate::board::{Place, Words};
 use crate::domain::Domain;
+use crate::reclaiming::reclaim_due;
 use crate::scan::scan;
 use crate::{cells, steps};
+use sdd_base::sizes::Sizes;
 use sdd_base::status::LocalState;
 
 /// A registered participant. It must be spent by `end`.
@@ -21,11 +27,17 @@ pub struct Local<T> {
     pub(crate) number: usize,
     pub(crate) spare: u64,
     pub(crate) own: LocalState,
+    /// What it has retired.
+    pub(crate) bags: Bags,
+    /// Where to look for a free slot first.
+    pub(crate) next: usize,
     ghost acts: { (place.me.0.kind ≡ 1) × (place.me.0.number ≡ number) × (place.me.0.scan ≡ 0) × (number < 2 ^ 30) × (claim_word number < place.table_id.words) × IsBare place.me.0 },
     ghost has_spare: { (place.me.0.spare ≡ spare) × (spare < 2 ^ 33) × (has_just is_blank (own_spare place.me.0 spare) (drop (length place.me.0.leases) place.me.1) ≡ true) },
     ghost phase: { place.me.0.known.phase ≡ cond (own.nesting == 0) Idle (Opened own.previous) },
     ghost found: { place.me.0.known.found ≡ own.previous },
     ghost noted: { own.published ≡ own.previous },
+    ghost fills: { place.me.0.filling ≡ None },
+    ghost waits: { Waits place.me.0.waits bags.slots.items (ages bags.current bags.previous bags.next bags.due) × (bags.due ≡ 0) × (place.me.0.sizes.slots ≤ deque_capacity bags.slots) },
 }
 
 /// Whether this outermost closing scans, where `closings` counts it.
@@ -35,13 +47,50 @@ fn scans(own: &LocalState, closings: u8) -> bool
     own.accelerated || own.garbage && closings >= 64
 }
 
+/// Behind a publication: turns the bags if the count isn't the one that was found before, and reclaims what is due then.
+fn turn<T: Drop>(
+    words: &Words<T>,
+    place: &mut Place<T>,
+    sizes: &Sizes,
+    own: &mut LocalState,
+    bags: &mut Bags,
+    epoch: u64,
+)
+    requires table { (place.old.table_id ≡ words.now.table_id) × (words.now.key.sizes ≡ sizes.now) × (place.old.me.0.sizes ≡ sizes.now) × IsSized sizes.now × (all_words sizes.now ≤ words.now.table_id.words) }
+    requires open { (place.old.me.0.kind ≡ 1) × (place.old.me.0.known.phase ≡ Opened epoch) × (place.old.me.0.known.found ≡ epoch) × (place.old.me.0.filling ≡ None) × (place.old.me.0.hand ≡ []) }
+    requires noted { own.old.published ≡ own.old.previous }
+    requires waits { (ws : List Garbage) × (place.old.me.0.waits ≡ rotated epoch own.old.previous ws) × Waits ws bags.old.slots.items (ages bags.old.current bags.old.previous bags.old.next bags.old.due) }
+    requires done { bags.old.due ≡ 0 }
+    ensures seat { (place.new.table_id ≡ place.old.table_id) × (place.new.id ≡ place.old.id) }
+    ensures reclaimed { (k : ℕ) × (ws : List Garbage) × (place.new.me ≡ (record place.old.me.0 { slot = k; waits = ws }, place.old.me.1)) }
+    ensures waits { Waits place.new.me.0.waits bags.new.slots.items (ages bags.new.current bags.new.previous bags.new.next bags.new.due) }
+    ensures bags { (bags.new.due ≡ 0) × (deque_capacity bags.new.slots ≡ deque_capacity bags.old.slots) }
+    ensures own { own.new ≡ record own.old { garbage = cond (own.old.previous == epoch) own.old.garbage (nat_lt 0 (length place.new.me.0.waits)); published = epoch; previous = epoch } }
+{
+    // Most openings find the count of the one before.
+    if own.previous == epoch {
+        return;
+    }
+    bags.rotate();
+    reclaim_due(words, place, sizes, bags);
+    own.garbage = bags.has_some();
+    own.published = epoch;
+    own.previous = epoch;
+}
+
 impl<T> Local<T> {
-    ghost use Rattle.sdd_domain.specs.Tokens.{participants_of, place_of, home_of, number_of, own_of, born_of, begun, closed, IsSame};
+    ghost use Rattle.sdd_domain.specs.Tokens.{participants_of, place_of, home_of, number_of, own_of, born_of, begun, closed, waiting_of, IsSame};
 
     /// The participant that a seat has just come to act for.
-    pub(crate) fn registered(place: Place<T>, number: usize, spare: u64) -> Local<T>
+    pub(crate) fn registered(
+        place: Place<T>,
+        number: usize,
+        spare: u64,
+        bags: Bags,
+    ) -> Local<T>
         requires acts { HasRegistered IsIn (spent, []) number spare place.me × (spare < 2 ^ 33) }
         requires table { (number < 2 ^ 30) × (claim_word number < place.table_id.words) }
+        requires bags { Waits [] bags.slots.items (ages bags.current bags.previous bags.next bags.due) × (bags.due ≡ 0) × (place.me.0.sizes.slots ≤ deque_capacity bags.slots) }
         ensures { (home_of result ≡ (place.table_id, place.me.0.sizes)) × (number_of result ≡ number) × (own_of result ≡ no_local) }
     {
         Local {
@@ -56,6 +105,8 @@ impl<T> Local<T> {
                 garbage: false,
                 closings: 0,
             },
+            bags,
+            next: 0,
         }
     }
 
@@ -68,25 +119,23 @@ impl<T> Local<T> {
 
     /// Opens an outermost guard.
     pub(crate) fn begin(&mut self, domain: &Domain<T>)
+    where
+        T: Drop,
         requires home { home_of self.old ≡ place_of domain.now }
         requires closed { (own_of self.old).nesting ≡ 0 }
         ensures same { IsSame self.old self.new }
-        ensures begun { (count : ℕ) × (count ≤ born_of self.new) × (own_of self.new ≡ begun count (own_of self.old)) }
+        ensures begun { (count : ℕ) × (count ≤ born_of self.new) × (own_of self.new ≡ begun count (nat_lt 0 (waiting_of self.new)) (own_of self.old)) }
     {
         let Local {
             place,
             number,
             own,
+            bags,
             ..
         } = self;
         let epoch = steps::read_count(domain.words(), place);
         steps::publish(domain.words(), place, *number, epoch);
-        // Most openings find the count of the one before: then these stand as they are.
-        if own.previous != epoch {
-            own.garbage = false;
-            own.published = epoch;
-            own.previous = epoch;
-        }
+        turn(domain.words(), place, &domain.sizes, own, bags, epoch);
         own.nesting = 1;
         own.accelerated = false;
     }
@@ -138,6 +187,8 @@ impl<T> Local<T> {
             number,
             spare,
             own: _,
+            bags: _,
+            next: _,
         } = self;
         steps::end(domain.words(), &mut place, number, spare);
     }
