@@ -6,5 +6,6 @@ pub mod Contents
 pub mod Bags
 pub mod Rule
 pub mod Plays
+pub mod Sharing
 pub mod Tokens
 pub mod Laws

@@ -1,6 +1,7 @@
 -- one owner, or none, as cells and hands show it
-use Rattle.std.specs.Prelude.{ℕ, suc, List, ◌∷◌, Option, None, Some}
+use Rattle.std.specs.Prelude.{ℕ, suc, List, [], ◌∷◌, Option, None, Some}
 use Rattle.sdd_homes.specs.declared.Owner.{Owner}
+use Rattle.sdd_domain.specs.declared.board.Acting.{Acting}
 use Rattle.sdd_homes.specs.Book.{Content, blank, part}
 
 -- its item, if there is one
@@ -22,3 +23,12 @@ part_of (Some o) = part o.round 1
 abbrev pub besides : Option Owner → List Owner → List Owner
 besides None os = os
 besides (Some o) os = o ∷ os
+
+-- the item of the first owner that a seat holds
+abbrev pub item_first : List Owner → ℕ
+item_first [] = 0
+item_first (o ∷ os) = o.item
+
+abbrev pub item_in : List Acting → ℕ
+item_in [] = 0
+item_in (d ∷ ds) = item_first d.hand

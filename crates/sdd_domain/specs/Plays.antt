@@ -157,6 +157,10 @@ cloning l d = record d { leases = recounted l.slot (l.count - 1) d.leases; hand 
 abbrev pub clone_then : {S : Type 0} → Step S → Me S Acting → ℕ → Me S Acting → Type 0
 clone_then t m n m' = (l : Lease) → Has m.0.leases l → t.word ≡ slot_word m.0.sizes l.slot → (n ≡ t.first → m' ≡ (cloning l m.0, m.1)) × (n ≢ t.first → m' ≡ m)
 
+-- the item of this owner was just retired
+abbrev pub retired : Owner → Garbage
+retired o = record { item = o.item; slot = o.slot; round = o.round; age = 0 }
+
 -- with the last owner the item waits, with age 0; 3 is the word of an item with one owner
 abbrev pub retiring : ℕ → Lease → List Garbage → List Garbage
 retiring n l ws = cond (n == 3) (record { item = l.item; slot = l.slot; round = l.round; age = 0 } ∷ ws) ws

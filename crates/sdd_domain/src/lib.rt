@@ -18,6 +18,7 @@ mod placing;
 mod reclaiming;
 pub mod refusal;
 mod scan;
+pub mod shared;
 mod slots;
 mod steps;
 mod stored;

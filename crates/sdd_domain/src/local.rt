@@ -36,7 +36,7 @@ pub struct Local<T> {
     ghost phase: { place.me.0.known.phase ≡ cond (own.nesting == 0) Idle (Opened own.previous) },
     ghost found: { place.me.0.known.found ≡ own.previous },
     ghost noted: { own.published ≡ own.previous },
-    ghost fills: { place.me.0.filling ≡ None },
+    ghost fills: { (place.me.0.filling ≡ None) × (next < 2 ^ 63) × (number < place.me.0.sizes.participants) },
     ghost waits: { Waits place.me.0.waits bags.slots.items (ages bags.current bags.previous bags.next bags.due) × (bags.due ≡ 0) × (place.me.0.sizes.slots ≤ deque_capacity bags.slots) },
 }
 
@@ -89,7 +89,7 @@ impl<T> Local<T> {
         bags: Bags,
     ) -> Local<T>
         requires acts { HasRegistered IsIn (spent, []) number spare place.me × (spare < 2 ^ 33) }
-        requires table { (number < 2 ^ 30) × (claim_word number < place.table_id.words) }
+        requires table { (number < 2 ^ 30) × (number < place.me.0.sizes.participants) × (claim_word number < place.table_id.words) }
         requires bags { Waits [] bags.slots.items (ages bags.current bags.previous bags.next bags.due) × (bags.due ≡ 0) × (place.me.0.sizes.slots ≤ deque_capacity bags.slots) }
         ensures { (home_of result ≡ (place.table_id, place.me.0.sizes)) × (number_of result ≡ number) × (own_of result ≡ no_local) }
     {

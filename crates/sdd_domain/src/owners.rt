@@ -5,8 +5,7 @@ ghost use Rattle.sdd_steps.specs.Steps.{is_ready};
 ghost use Rattle.sdd_homes.specs.declared.Owner.{Owner};
 ghost use Rattle.sdd_domain.specs.Layout.{all_words, IsSized};
 ghost use Rattle.sdd_domain.specs.Views.{spent, holding};
-ghost use Rattle.sdd_domain.specs.Plays.{others_in, first_in, joined_by, retiring};
-ghost use Rattle.sdd_homes.specs.Book.{lease};
+ghost use Rattle.sdd_domain.specs.Plays.{others_in, first_in, joined_by, retired};
 
 use crate::board::{Acting, Home, Place, Stored, Words};
 use crate::cells;
@@ -63,16 +62,17 @@ pub(crate) fn release<T>(
     slot: usize,
     owner: One<Stored<T>>,
 ) -> u64
-    requires table { (place.old.table_id ≡ words.now.table_id) × (words.now.key.sizes ≡ sizes.now) × (place.old.me.0.sizes ≡ sizes.now) × IsSized sizes.now × (all_words sizes.now ≤ words.now.table_id.words) × (number < sizes.now.participants) × (slot < sizes.now.slots) }
+    requires table { (place.old.table_id ≡ words.now.table_id) × (words.now.key.sizes ≡ sizes.now) × (place.old.me.0.sizes ≡ sizes.now) × IsSized sizes.now × (all_words sizes.now ≤ words.now.table_id.words) × (number < sizes.now.participants) }
     requires ready { (place.old.me.0.kind ≡ 1) × (place.old.me.0.number ≡ number) × (is_ready place.old.me.0.known ≡ true) × (place.old.me.0.releasing ≡ 0) × (place.old.me.0.leases ≡ []) }
     requires owner { (o : Owner) × (os : List Owner) × (place.old.me.0.hand ≡ o ∷ os) × (o.slot ≡ slot) × (o.round ≡ owner.part.life.id) }
     requires there { IsSome owner.part.seen.value }
     ensures seat { (place.new.table_id ≡ place.old.table_id) × (place.new.id ≡ place.old.id) }
     ensures room { length place.old.me.0.waits < sizes.now.slots }
-    ensures released { (o : Owner) (os : List Owner) → place.old.me.0.hand ≡ o ∷ os → place.new.me ≡ (record place.old.me.0 { hand = os; waits = retiring (result + 3) (lease o.slot o.item 0 o.round) place.old.me.0.waits }, place.old.me.1) }
+    ensures kept { 0 < result → (o : Owner) (os : List Owner) → place.old.me.0.hand ≡ o ∷ os → place.new.me ≡ (record place.old.me.0 { hand = os }, place.old.me.1) }
+    ensures retired { result ≡ 0 → (o : Owner) (os : List Owner) → place.old.me.0.hand ≡ o ∷ os → place.new.me ≡ (record place.old.me.0 { hand = os; waits = retired o ∷ place.old.me.0.waits }, place.old.me.1) }
 {
-    let home = slot * (sizes.participants + 1) + number;
     cells::begin_release(words, place);
+    let home = slot * (sizes.participants + 1) + number;
     let (mut own, count) = parts_of(words.exchange(place, home, Home::Blank));
     own.join(owner.into_part());
     let_go(words.exchange(place, home, Home::Part(own, count + 1)));

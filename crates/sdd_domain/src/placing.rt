@@ -1,6 +1,7 @@
 //! Placing an item: a free slot is claimed, the homes of the participants get their parts, and the item is in the slot.
 
-ghost use Rattle.std.specs.Prelude.{◌≡◌, ◌⊎◌, ℕ, ◌+◌, ◌-◌, ◌^◌, ◌<◌, ◌≤◌, [], true, Some, None, IsSome, IfOk, IfErr};
+ghost use Rattle.std.specs.Prelude.{◌≡◌, ◌⊎◌, ℕ, ◌+◌, ◌-◌, ◌^◌, ◌<◌, ◌≤◌, [], true, Some, None, IsSome, IsSomeAnd, IfOk, IfErr};
+ghost use Rattle.std.specs.Mem.{manually_drop_value};
 ghost use Rattle.atomic_table.specs.Table.{rest};
 ghost use Rattle.sdd_steps.specs.Steps.{is_ready};
 ghost use Rattle.sdd_homes.specs.declared.Filling.{Filling};
@@ -85,7 +86,7 @@ fn place_at<T>(
     requires claimed { IsClaimed IsIn place.old.me slot }
     ensures seat { (place.new.table_id ≡ place.old.table_id) × (place.new.id ≡ place.old.id) }
     ensures placed { (i : ℕ) × (f : Filling) × (f.round ≡ result.part.life.id) × (place.new.me ≡ (placing i f place.old.me.0, rest place.old.me.1)) }
-    ensures there { IsSome result.part.seen.value }
+    ensures value { IsSomeAnd result.part.seen.value (λ m. manually_drop_value m ≡ item) }
 {
     let own = slot * (sizes.participants + 1) + sizes.participants;
     let room = room_of(words.exchange(place, own, Home::Blank));
@@ -108,7 +109,7 @@ pub(crate) fn place_item<T>(
     requires table { (place.old.table_id ≡ words.now.table_id) × (words.now.key.sizes ≡ sizes.now) × (place.old.me.0.sizes ≡ sizes.now) × IsSized sizes.now × (from < 2 ^ 63) × (all_words sizes.now ≤ words.now.table_id.words) }
     requires ready { (place.old.me.0.kind ≡ 1) × (is_ready place.old.me.0.known ≡ true) × (place.old.me.0.releasing ≡ 0) × (place.old.me.0.hand ≡ []) × (place.old.me.0.filling ≡ None) }
     ensures seat { (place.new.table_id ≡ place.old.table_id) × (place.new.id ≡ place.old.id) }
-    ensures placed { IfOk result (λ t. (o : Owner) × (o.slot ≡ t.0) × (o.round ≡ t.1.part.life.id) × (t.0 < sizes.now.slots) × (place.new.me ≡ (owning o place.old.me.0, place.old.me.1)) × IsSome t.1.part.seen.value) }
+    ensures placed { IfOk result (λ t. (o : Owner) × (o.slot ≡ t.0) × (o.round ≡ t.1.part.life.id) × (t.0 < sizes.now.slots) × (place.new.me ≡ (owning o place.old.me.0, place.old.me.1)) × IsSomeAnd t.1.part.seen.value (λ m. manually_drop_value m ≡ item)) }
     ensures refused { IfErr result (λ back. (back ≡ item) × (place.new.me ≡ place.old.me)) }
 {
     for step in 0..sizes.slots {

@@ -1,6 +1,7 @@
 //! An item in its box, frozen and had back.
 
-ghost use Rattle.std.specs.Prelude.{◌≡◌, ◌^◌, IsSome};
+ghost use Rattle.std.specs.Prelude.{◌≡◌, ◌^◌, IsSome, IsSomeAnd};
+ghost use Rattle.std.specs.Mem.{manually_drop_value};
 
 use crate::board::Stored;
 use parted::{Deed, Part, freeze, thaw};
@@ -13,7 +14,8 @@ pub(crate) fn store<T>(
     item: T,
 ) -> (Deed<Stored<T>, Global>, Part<Stored<T>>)
     ensures round { (result.1.life.id ≡ result.0.life) × (result.1.life.count ≡ 2 ^ 63) }
-    ensures there { IsSome result.0.value × IsSome result.1.seen.value }
+    ensures there { IsSome result.0.value }
+    ensures value { IsSomeAnd result.1.seen.value (λ m. manually_drop_value m ≡ item) }
 {
     *room = Some(unsafe { ManuallyDrop::new_unchecked(item) });
     freeze(room)

@@ -1,11 +1,12 @@
-use Rattle.std.proofs.Common.{◌≡◌, ℕ, suc, ◌+◌, ◌*◌, ◌^◌, ◌<◌, List, [], ◌∷◌, ◌++◌, length, IsSome, ap, sym, ◌∙◌, subst, refl, arith}
+use Rattle.std.proofs.Common.{◌≡◌, ℕ, suc, ◌+◌, ◌*◌, ◌^◌, ◌<◌, List, [], ◌∷◌, ◌++◌, cond, ne_eqb, length, IsSome, ap, sym, ◌∙◌, subst, refl, arith}
 use Rattle.atomic_table.specs.Table.{Me, rest}
 use Rattle.sdd_base.specs.declared.sizes.Sizes.{Sizes}
 use Rattle.sdd_homes.specs.declared.Owner.{Owner}
+use Rattle.sdd_homes.specs.declared.Garbage.{Garbage}
 use Rattle.sdd_homes.specs.declared.Lease.{Lease}
 use Rattle.sdd_homes.specs.Book.{part, lease}
 use Rattle.sdd_domain.specs.Contents.{IsIn}
-use Rattle.sdd_domain.specs.Plays.{own_home, HasBegun, CanEnd, ended_release, retiring}
+use Rattle.sdd_domain.specs.Plays.{own_home, HasBegun, CanEnd, ended_release, retired, retiring}
 use Rattle.sdd_domain.specs.declared.board.Acting.{Acting}
 use Rattle.sdd_domain.specs.declared.board.Home.{Home}
 use Rattle.sdd_domain.specs.declared.board.Home.TheVariants.{Blank, Part}
@@ -46,6 +47,13 @@ module _ {T : Type 0} (m0 m1 : Me (Home T) Acting) (o : Owner) (begun : HasBegun
     after : (os : List Owner) (k : ℕ) (m4 : Me (Home T) Acting) → m0.0.leases ≡ [] → m0.0.releasing ≡ 0 → m4 ≡ (ended_release k l [] os m3.0, m0.1) → m4 ≡ (record m0.0 { hand = os; waits = retiring k (lease o.slot o.item 0 o.round) m0.0.waits }, m0.1)
     after os k m4 none idle e = e ∙ (ap (λ (t : Me (Home T) Acting). (ended_release k l [] os t.0, m0.1)) joined ∙ λ j. (record m0.0 { leases = sym none j; hand = os; releasing = sym idle j; waits = retiring k (lease o.slot o.item 0 o.round) m0.0.waits }, m0.1))
 
+-- what waits is the same, or one item more
+still : (r : ℕ) (ws : List Garbage) (o : Owner) → 0 < r → retiring (r + 3) (lease o.slot o.item 0 o.round) ws ≡ ws
+still r ws o more = ap (λ b. cond b (retired o ∷ ws) ws) (ne_eqb (r + 3) 3 (λ e. omega arith))
+
+gone : (r : ℕ) (ws : List Garbage) (o : Owner) → r ≡ 0 → retiring (r + 3) (lease o.slot o.item 0 o.round) ws ≡ retired o ∷ ws
+gone r ws o none = ap (λ z. retiring (z + 3) (lease o.slot o.item 0 o.round) ws) none
+
 pub parts_of-own-requires : goal.parts_of-own-requires
 parts_of-own-requires g c = let q = c.requires.owner in let b = c.begin_release.ensures.begun q.0 q.1 q.2 in let e = c.exchange.ensures in
     (q.0.round, b.0, had c.args.place.now.me c.begin_release.new.place.me q.0 b (c.args.slot * (c.args.sizes.now.participants + 1) + c.args.number) c.exchange.result e.2)
@@ -66,15 +74,25 @@ end_release-requires-clause-begun g c = let m = c.args.place.now.me in let q = c
     let all : s.life.count ≡ n + 1 = omega arith in let is_in : IsIn (part o.round (n + 1)) y = (s, ap (λ z. Part s (z + 1)) p.2, ap (λ z. z.id) told.life ∙ p.0, all, omega arith, subst (λ z. IsSome z.value) (sym told.seen) p.4) in
     (lease o.slot o.item n o.round, [], o, q.1, m.1, q.3, can m m1 o b i r e.2 m2 m3 i r' Blank y e.3 e'.2 e'.3 q.1 c.requires.ready.4 q.2 is_in)
 
-pub returns-clause-released : goal.returns-clause-released
-returns-clause-released g c = λ o' os' first'. let m = c.args.place.now.me in let q = c.requires.owner in let o = q.0 in let b = c.begin_release.ensures.begun o q.1 q.2 in let n : ℕ = b.0 in let i : ℕ = c.args.slot * (c.args.sizes.now.participants + 1) + c.args.number in let e = c.exchange.ensures in let e' = c.exchange-2.ensures in
+pub returns-clause-kept : goal.returns-clause-kept
+returns-clause-kept g c = λ more o' os' first'. let m = c.args.place.now.me in let q = c.requires.owner in let o = q.0 in let b = c.begin_release.ensures.begun o q.1 q.2 in let n : ℕ = b.0 in let i : ℕ = c.args.slot * (c.args.sizes.now.participants + 1) + c.args.number in let e = c.exchange.ensures in let e' = c.exchange-2.ensures in
     let m1 = c.begin_release.new.place.me in let m2 = c.exchange.new.seat.me in let m3 = c.exchange-2.new.seat.me in let r = c.exchange.result in let r' = c.exchange-2.result in let s = c.join.new.self in let told = c.join.ensures in let y = Part s (c.parts_of-own.result.1 + 1) in
     let p = c.parts_of-own.ensures o.round n (had m m1 o b i r e.2) in let many : c.parts_of-own.result.0.life.count ≡ n = p.1 in let one = c.into_part.ensures.1 in let sum = ap (λ z. z.count) told.life in
     let all : s.life.count ≡ n + 1 = omega arith in let is_in : IsIn (part o.round (n + 1)) y = (s, ap (λ z. Part s (z + 1)) p.2, ap (λ z. z.id) told.life ∙ p.0, all, omega arith, subst (λ z. IsSome z.value) (sym told.seen) p.4) in
     let lists : o ∷ q.1 ≡ o' ∷ os' = sym q.2 ∙ first' in let same : o ≡ o' = cc in let others : q.1 ≡ os' = cc in let k : ℕ = c.end_release.result + 3 in
     after m m1 o b i r e.2 m2 m3 i r' Blank y e.3 e'.2 e'.3 q.1 k c.end_release.new.place.me c.requires.ready.4 c.requires.ready.3
         (c.end_release.ensures.ended (lease o.slot o.item n o.round) [] o q.1 m.1 (can m m1 o b i r e.2 m2 m3 i r' Blank y e.3 e'.2 e'.3 q.1 c.requires.ready.4 q.2 is_in))
-        ∙ λ j. (record m.0 { hand = others j; waits = retiring k (lease (same j).slot (same j).item 0 (same j).round) m.0.waits }, m.1)
+        ∙ λ j. (record m.0 { hand = others j; waits = still c.end_release.result m.0.waits o more j }, m.1)
+
+pub returns-clause-retired : goal.returns-clause-retired
+returns-clause-retired g c = λ none o' os' first'. let m = c.args.place.now.me in let q = c.requires.owner in let o = q.0 in let b = c.begin_release.ensures.begun o q.1 q.2 in let n : ℕ = b.0 in let i : ℕ = c.args.slot * (c.args.sizes.now.participants + 1) + c.args.number in let e = c.exchange.ensures in let e' = c.exchange-2.ensures in
+    let m1 = c.begin_release.new.place.me in let m2 = c.exchange.new.seat.me in let m3 = c.exchange-2.new.seat.me in let r = c.exchange.result in let r' = c.exchange-2.result in let s = c.join.new.self in let told = c.join.ensures in let y = Part s (c.parts_of-own.result.1 + 1) in
+    let p = c.parts_of-own.ensures o.round n (had m m1 o b i r e.2) in let many : c.parts_of-own.result.0.life.count ≡ n = p.1 in let one = c.into_part.ensures.1 in let sum = ap (λ z. z.count) told.life in
+    let all : s.life.count ≡ n + 1 = omega arith in let is_in : IsIn (part o.round (n + 1)) y = (s, ap (λ z. Part s (z + 1)) p.2, ap (λ z. z.id) told.life ∙ p.0, all, omega arith, subst (λ z. IsSome z.value) (sym told.seen) p.4) in
+    let lists : o ∷ q.1 ≡ o' ∷ os' = sym q.2 ∙ first' in let same : o ≡ o' = cc in let others : q.1 ≡ os' = cc in let k : ℕ = c.end_release.result + 3 in
+    after m m1 o b i r e.2 m2 m3 i r' Blank y e.3 e'.2 e'.3 q.1 k c.end_release.new.place.me c.requires.ready.4 c.requires.ready.3
+        (c.end_release.ensures.ended (lease o.slot o.item n o.round) [] o q.1 m.1 (can m m1 o b i r e.2 m2 m3 i r' Blank y e.3 e'.2 e'.3 q.1 c.requires.ready.4 q.2 is_in))
+        ∙ λ j. (record m.0 { hand = others j; waits = (gone c.end_release.result m.0.waits o none ∙ ap (λ z. retired z ∷ m.0.waits) same) j }, m.1)
 
 pub returns-clause-room : goal.returns-clause-room
 returns-clause-room g c = let m = c.args.place.now.me in let q = c.requires.owner in let o = q.0 in let b = c.begin_release.ensures.begun o q.1 q.2 in let i : ℕ = c.args.slot * (c.args.sizes.now.participants + 1) + c.args.number in let e = c.exchange.ensures in let e' = c.exchange-2.ensures in

@@ -20,5 +20,5 @@ returns-then-claim-clause-placed g c = let k : ℕ = (c.args.from + c.loop-step.
       p.2,
       mod_below (c.args.from + c.loop-step.step) c.args.sizes.now.slots (omega arith),
       placed p.0 k p.1 c.loop-step.place.me c.claim.new.place.me c.place_at-part.new.place.me old (c.claim.ensures.claimed c.if-claim.true) p.3 ∙ ap (λ (z : Me _ Acting). (owning (record { item = p.0; slot = k; round = p.1.round }) z.0, z.1)) s,
-      c.place_at-part.ensures.there,
+      c.place_at-part.ensures.value,
     )

@@ -1,0 +1,83 @@
+//! Owners of the items of a place that threads share.
+
+ghost use Rattle.std.specs.Prelude.{◌≡◌, ◌≢◌, ℕ, ◌+◌, ◌<◌, ◌∷◌, [], ◌||◌, true, IsSome, IsTrue, IsFalse, IfOk, IfErr};
+ghost use Rattle.sdd_domain.specs.Views.{holding};
+ghost use Rattle.sdd_domain.specs.Owners.{item_in};
+ghost use Rattle.sdd_homes.specs.declared.Owner.{Owner};
+
+use crate::board::{Acting, Stored};
+use crate::domain::Domain;
+use crate::local::Local;
+use crate::owners::{part_with, release, take_in};
+use crate::placing::place_item;
+use atomic_table::Badge;
+use parted::One;
+
+/// One of the owners of an item, which stays, as it is, while it has owners. It must be spent by `release`. Whoever
+/// has it reads the item, without any step on a word of the place.
+pub struct Shared<T> {
+    pub(crate) slot: usize,
+    pub(crate) part: One<Stored<T>>,
+    pub(crate) seat: Badge<Acting>,
+    ghost owns: { seat.views ≡ holding (record { item = item_in seat.views; slot = slot; round = part.part.life.id }) ∷ [] },
+    ghost there: { IsSome part.part.seen.value },
+}
+
+impl<T> Shared<T> {
+    ghost use Rattle.sdd_domain.specs.Tokens.{place_of, home_of, own_of, born_of, waiting_of, IsSame};
+    ghost use Rattle.sdd_domain.specs.Sharing.{kept_in, IsOf};
+
+    /// Places an item in a free slot, and gives its first owner. Where each slot was taken when it was tried, the item
+    /// is back. It takes no memory.
+    pub fn new(item: T, domain: &Domain<T>, local: &mut Local<T>) -> Result<Shared<T>, T>
+        requires home { home_of local.old ≡ place_of domain.now }
+        ensures home { IfOk result (λ s. kept_in s ≡ (place_of domain.now).0) }
+        ensures item { IfOk result (λ s. IsOf s item) }
+        ensures refused { IfErr result (λ back. back ≡ item) }
+        ensures same { IsSame local.old local.new × (own_of local.new ≡ own_of local.old) × (born_of local.new ≡ born_of local.old) × (waiting_of local.new ≡ waiting_of local.old) }
+    {
+        let Local { place, next, .. } = local;
+        let (slot, part) = place_item(domain.words(), place, &domain.sizes, *next, item)?;
+        *next = slot + 1;
+        let seat = part_with(domain.words(), place);
+        Ok(Shared { slot, part, seat })
+    }
+
+    /// The item.
+    pub fn as_ref(&self) -> &T
+        ensures { IsOf self.now result.now }
+    {
+        match self.part.get() {
+            Some(item) => item,
+            None => unreachable!(),
+        }
+    }
+
+    /// Gives the owner back. Whether it was the last one: then the participant has retired the item, which is reclaimed
+    /// once no guard can read it, as the participant opens its guards. It takes no memory.
+    pub fn release(self, domain: &Domain<T>, local: &mut Local<T>) -> bool
+        requires home { home_of local.old ≡ place_of domain.now }
+        requires mine { kept_in self ≡ (place_of domain.now).0 }
+        ensures last { IsTrue result → waiting_of local.new ≡ waiting_of local.old + 1 }
+        ensures more { IsFalse result → waiting_of local.new ≡ waiting_of local.old }
+        ensures own { own_of local.new ≡ record (own_of local.old) { garbage = (own_of local.old).garbage || result } }
+        ensures same { IsSame local.old local.new × (born_of local.new ≡ born_of local.old) }
+    {
+        let Shared { slot, part, seat } = self;
+        let Local {
+            place,
+            number,
+            own,
+            bags,
+            ..
+        } = local;
+        take_in(domain.words(), place, seat);
+        let left = release(domain.words(), place, &domain.sizes, *number, slot, part);
+        if left > 0 {
+            return false;
+        }
+        bags.retire(slot);
+        own.garbage = true;
+        true
+    }
+}
