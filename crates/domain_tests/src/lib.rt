@@ -6,6 +6,8 @@ mod domain;
 #[cfg(test)]
 mod guard;
 #[cfg(test)]
+mod items;
+#[cfg(test)]
 mod refusals;
 #[cfg(test)]
 mod threads;

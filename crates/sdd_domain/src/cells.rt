@@ -64,7 +64,12 @@ impl<T> Play<Home<T>, Acting> for OnEndRelease {
 
 /// Loads the cell under the participant's open guard, for `participants` of them. If it names an item, the
 /// participant's parts of that come out of their home, unless they are leased already.
-pub(crate) fn load<T>(words: &Words<T>, place: &mut Place<T>, participants: usize, cell: usize) -> u64
+pub(crate) fn load<T>(
+    words: &Words<T>,
+    place: &mut Place<T>,
+    participants: usize,
+    cell: usize,
+) -> u64
     requires table { (place.old.table_id ≡ words.now.table_id) × (words.now.key.sizes.participants ≡ participants) × (participants ≤ 2 ^ 30) × (cell < words.now.key.sizes.cells) × (words.now.key.sizes.cells ≤ 2 ^ 30) × (all_words words.now.key.sizes ≤ words.now.table_id.words) }
     requires open { (place.old.me.0.kind ≡ 1) × (is_inside place.old.me.0.known ≡ true) }
     ensures seat { (place.new.table_id ≡ place.old.table_id) × (place.new.id ≡ place.old.id) }

@@ -10,6 +10,7 @@ use crate::board::{Board, Plan, Words};
 use crate::homes::{clear, empty, homes_from};
 use crate::local::Local;
 use crate::refusal::RegisterRefused;
+use crate::slots::has_owner;
 use crate::steps::{claim, is_claimed, learn, sit};
 use atomic_table::Refused;
 use sdd_base::sizes::Sizes;
@@ -146,11 +147,21 @@ impl<T> Domain<T> {
         false
     }
 
-    /// Ends the place. It is handed back, as it was, while a `Local` is out.
+    /// Whether an item has an owner.
+    fn any_owned(&self) -> bool {
+        for slot in 0..self.sizes.slots {
+            if has_owner(self.words(), &self.sizes, slot) {
+                return true;
+            }
+        }
+        false
+    }
+
+    /// Ends the place. It is handed back, as it was, while a `Local` or an owner is out.
     pub fn close(self) -> Result<(), Domain<T>>
         ensures back { IfErr result (λ d. (place_of d ≡ place_of self) × (participants_of d ≡ participants_of self) × (first_of d ≡ first_of self)) }
     {
-        if self.any_claimed() {
+        if self.any_claimed() || self.any_owned() {
             return Err(self);
         }
         let Domain {

@@ -82,12 +82,7 @@ impl<T> Local<T> {
     ghost use Rattle.sdd_domain.specs.Tokens.{participants_of, place_of, home_of, number_of, own_of, born_of, begun, closed, waiting_of, IsSame};
 
     /// The participant that a seat has just come to act for.
-    pub(crate) fn registered(
-        place: Place<T>,
-        number: usize,
-        spare: u64,
-        bags: Bags,
-    ) -> Local<T>
+    pub(crate) fn registered(place: Place<T>, number: usize, spare: u64, bags: Bags) -> Local<T>
         requires acts { HasRegistered IsIn (spent, []) number spare place.me × (spare < 2 ^ 33) }
         requires table { (number < 2 ^ 30) × (number < place.me.0.sizes.participants) × (claim_word number < place.table_id.words) }
         requires bags { Waits [] bags.slots.items (ages bags.current bags.previous bags.next bags.due) × (bags.due ≡ 0) × (place.me.0.sizes.slots ≤ deque_capacity bags.slots) }

@@ -46,7 +46,11 @@ fn fill_home<T>(
 {
     slots::take_next(words, place);
     let part = all.split(count);
-    let_go(words.exchange(place, slot * (participants + 1) + at, Home::Part(part, count)));
+    let_go(words.exchange(
+        place,
+        slot * (participants + 1) + at,
+        Home::Part(part, count),
+    ));
     slots::give_next(words, place);
 }
 

@@ -33,7 +33,13 @@ fn all_agree<T>(
 /// A scan of participant `number`, whose guard is open with the count `epoch`. It tries once for the scan lock, and
 /// raises the count by one only where that is the present one, and each other participant is closed or has published
 /// it. A count of `2^64 - 1` isn't raised.
-pub(crate) fn scan<T>(words: &Words<T>, place: &mut Place<T>, number: usize, participants: usize, epoch: u64)
+pub(crate) fn scan<T>(
+    words: &Words<T>,
+    place: &mut Place<T>,
+    number: usize,
+    participants: usize,
+    epoch: u64,
+)
     requires table { (place.old.table_id ≡ words.now.table_id) × (words.now.key.sizes.participants ≡ participants) × (epoch_words participants ≤ words.now.table_id.words) × (participants ≤ 2 ^ 30) }
     requires open { Scans place.old number epoch 0 }
     ensures { (place.new.table_id ≡ place.old.table_id) × (place.new.id ≡ place.old.id) × Steady place.old.me place.new.me × Scans place.new number epoch 0 }

@@ -6,7 +6,7 @@ ghost use Rattle.std.specs.Prelude.{◌≡◌, ℕ, ◌+◌, ◌*◌, ◌^◌, �
 ghost use Rattle.sdd_steps.specs.Steps.{is_ready};
 ghost use Rattle.sdd_homes.specs.declared.Filling.{Filling};
 ghost use Rattle.sdd_domain.specs.Contents.{IsIn};
-ghost use Rattle.sdd_domain.specs.Layout.{all_words};
+ghost use Rattle.sdd_domain.specs.Layout.{all_words, IsSized};
 ghost use Rattle.sdd_domain.specs.Plays.{HasClaimed, claim_slot_then, HasTaken, fill_takes_then, CanFill, next_filled, filling_at, fill_gives_then, CanPlace, placing, place_then, opens_then, reclaiming, deed_home, gathers_then, gathered, CanEmpty, empties_then, CanVacate, vacates_then};
 ghost use Rattle.sdd_homes.specs.declared.Garbage.{Garbage};
 ghost use Rattle.sdd_homes.specs.declared.Owner.{Owner};
@@ -15,6 +15,7 @@ ghost use Rattle.sdd_domain.specs.declared.board.Home.{Home};
 
 use crate::board::{Acting, Home, Place, Words};
 use atomic_table::Play;
+use sdd_base::sizes::Sizes;
 
 struct OnClaim;
 
@@ -62,6 +63,13 @@ struct OnVacate;
 
 impl<T> Play<Home<T>, Acting> for OnVacate {
     ghost then = { vacates_then IsIn };
+}
+
+/// Whether the item in `slot` has an owner, if there is one.
+pub(crate) fn has_owner<T>(words: &Words<T>, sizes: &Sizes, slot: usize) -> bool
+    requires { (words.now.key.sizes ≡ sizes.now) × IsSized sizes.now × (slot < sizes.now.slots) × (all_words sizes.now ≤ words.now.table_id.words) }
+{
+    words.peek(8 * sizes.participants + 16 + sizes.cells + slot) > 2
 }
 
 /// Tries once to claim `slot`, for `participants` and `cells` of them. Where it was vacant it is the participant's to

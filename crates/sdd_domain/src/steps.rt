@@ -195,7 +195,12 @@ pub(crate) fn count_under<T>(words: &Words<T>, place: &mut Place<T>, epoch: u64)
 }
 
 /// Tries once for the scan lock.
-pub(crate) fn take_lock<T>(words: &Words<T>, place: &mut Place<T>, number: usize, epoch: u64) -> bool
+pub(crate) fn take_lock<T>(
+    words: &Words<T>,
+    place: &mut Place<T>,
+    number: usize,
+    epoch: u64,
+) -> bool
     requires { (place.old.table_id ≡ words.now.table_id) × (lock_word < words.now.table_id.words) × Scans place.old number epoch 0 }
     ensures seat { (place.new.table_id ≡ place.old.table_id) × (place.new.id ≡ place.old.id) × Steady place.old.me place.new.me }
     ensures stage { MatchBool result (Scans place.new number epoch 1) (Scans place.new number epoch 0) }
@@ -204,7 +209,12 @@ pub(crate) fn take_lock<T>(words: &Words<T>, place: &mut Place<T>, number: usize
 }
 
 /// Whether the count is still the published one, under the scan lock.
-pub(crate) fn is_present<T>(words: &Words<T>, place: &mut Place<T>, number: usize, epoch: u64) -> bool
+pub(crate) fn is_present<T>(
+    words: &Words<T>,
+    place: &mut Place<T>,
+    number: usize,
+    epoch: u64,
+) -> bool
     requires { (place.old.table_id ≡ words.now.table_id) × (0 < words.now.table_id.words) × Scans place.old number epoch 1 }
     ensures seat { (place.new.table_id ≡ place.old.table_id) × (place.new.id ≡ place.old.id) × Steady place.old.me place.new.me }
     ensures stage { MatchBool result (Scans place.new number epoch 2) (Scans place.new number epoch 1) }

@@ -81,8 +81,8 @@ returns-clause-kept g c = λ more o' os' first'. let m = c.args.place.now.me in 
     let all : s.life.count ≡ n + 1 = omega arith in let is_in : IsIn (part o.round (n + 1)) y = (s, ap (λ z. Part s (z + 1)) p.2, ap (λ z. z.id) told.life ∙ p.0, all, omega arith, subst (λ z. IsSome z.value) (sym told.seen) p.4) in
     let lists : o ∷ q.1 ≡ o' ∷ os' = sym q.2 ∙ first' in let same : o ≡ o' = cc in let others : q.1 ≡ os' = cc in let k : ℕ = c.end_release.result + 3 in
     after m m1 o b i r e.2 m2 m3 i r' Blank y e.3 e'.2 e'.3 q.1 k c.end_release.new.place.me c.requires.ready.4 c.requires.ready.3
-        (c.end_release.ensures.ended (lease o.slot o.item n o.round) [] o q.1 m.1 (can m m1 o b i r e.2 m2 m3 i r' Blank y e.3 e'.2 e'.3 q.1 c.requires.ready.4 q.2 is_in))
-        ∙ λ j. (record m.0 { hand = others j; waits = still c.end_release.result m.0.waits o more j }, m.1)
+    (c.end_release.ensures.ended (lease o.slot o.item n o.round) [] o q.1 m.1 (can m m1 o b i r e.2 m2 m3 i r' Blank y e.3 e'.2 e'.3 q.1 c.requires.ready.4 q.2 is_in))
+    ∙ λ j. (record m.0 { hand = others j; waits = still c.end_release.result m.0.waits o more j }, m.1)
 
 pub returns-clause-retired : goal.returns-clause-retired
 returns-clause-retired g c = λ none o' os' first'. let m = c.args.place.now.me in let q = c.requires.owner in let o = q.0 in let b = c.begin_release.ensures.begun o q.1 q.2 in let n : ℕ = b.0 in let i : ℕ = c.args.slot * (c.args.sizes.now.participants + 1) + c.args.number in let e = c.exchange.ensures in let e' = c.exchange-2.ensures in
@@ -91,8 +91,8 @@ returns-clause-retired g c = λ none o' os' first'. let m = c.args.place.now.me 
     let all : s.life.count ≡ n + 1 = omega arith in let is_in : IsIn (part o.round (n + 1)) y = (s, ap (λ z. Part s (z + 1)) p.2, ap (λ z. z.id) told.life ∙ p.0, all, omega arith, subst (λ z. IsSome z.value) (sym told.seen) p.4) in
     let lists : o ∷ q.1 ≡ o' ∷ os' = sym q.2 ∙ first' in let same : o ≡ o' = cc in let others : q.1 ≡ os' = cc in let k : ℕ = c.end_release.result + 3 in
     after m m1 o b i r e.2 m2 m3 i r' Blank y e.3 e'.2 e'.3 q.1 k c.end_release.new.place.me c.requires.ready.4 c.requires.ready.3
-        (c.end_release.ensures.ended (lease o.slot o.item n o.round) [] o q.1 m.1 (can m m1 o b i r e.2 m2 m3 i r' Blank y e.3 e'.2 e'.3 q.1 c.requires.ready.4 q.2 is_in))
-        ∙ λ j. (record m.0 { hand = others j; waits = (gone c.end_release.result m.0.waits o none ∙ ap (λ z. retired z ∷ m.0.waits) same) j }, m.1)
+    (c.end_release.ensures.ended (lease o.slot o.item n o.round) [] o q.1 m.1 (can m m1 o b i r e.2 m2 m3 i r' Blank y e.3 e'.2 e'.3 q.1 c.requires.ready.4 q.2 is_in))
+    ∙ λ j. (record m.0 { hand = others j; waits = (gone c.end_release.result m.0.waits o none ∙ ap (λ z. retired z ∷ m.0.waits) same) j }, m.1)
 
 pub returns-clause-room : goal.returns-clause-room
 returns-clause-room g c = let m = c.args.place.now.me in let q = c.requires.owner in let o = q.0 in let b = c.begin_release.ensures.begun o q.1 q.2 in let i : ℕ = c.args.slot * (c.args.sizes.now.participants + 1) + c.args.number in let e = c.exchange.ensures in let e' = c.exchange-2.ensures in

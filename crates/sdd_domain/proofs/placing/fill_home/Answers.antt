@@ -30,8 +30,14 @@ give_next-requires-clause-filling g c = let m = c.args.place.now.me in let q = c
     let n : ℕ = c.args.count in let all = c.args.all.now in let y = Part p n in let low = q.2 in let less = q.3 in let left = q.5 in let wide = c.requires.table.3 in let few = c.requires.parts in let is_in : IsIn (part all.life.id n) y = (p, refl, ap (λ l. l.id) s.taken.1, ap (λ l. l.count) s.taken.1, few.0, subst (λ z. IsSome z.value) (sym s.taken.0) few.3) in
     let new = filled m.0 m.1 c.take_next.new.place.me c.exchange.new.seat.me f t.0 c.exchange.result y (c.args.slot * (c.args.participants + 1) + c.args.at) t.2 e.2 e.3 in (
       ap (λ (z : Me _ Acting). z.0.kind) new ∙ c.requires.table.2,
-      (next_out f, all.life.id, n, m.1, can m.0 m.1 c.take_next.new.place.me c.exchange.new.seat.me f t.0 c.exchange.result y (c.args.slot * (c.args.participants + 1) + c.args.at) t.2 e.2 e.3 all.life.id n (omega arith) (let z = few.1 in omega arith)
-          (⊎_elim (λ (z : c.args.at ≡ 0). inl (low ∙ z)) (λ z. inr z) q.6) is_in),
+      (
+        next_out f,
+        all.life.id,
+        n,
+        m.1,
+        can m.0 m.1 c.take_next.new.place.me c.exchange.new.seat.me f t.0 c.exchange.result y (c.args.slot * (c.args.participants + 1) + c.args.at) t.2 e.2 e.3 all.life.id n (omega arith) (let z = few.1 in omega arith)
+            (⊎_elim (λ (z : c.args.at ≡ 0). inl (low ∙ z)) (λ z. inr z) q.6) is_in,
+      ),
     )
 
 pub returns-clause-filled : goal.returns-clause-filled

@@ -41,9 +41,12 @@ fill_homes-requires-clause-filling g c = let m = c.args.place.now.me in let own 
     (claimed_by m.0, ap (λ (z : Me _ Acting). z.0.filling) is ∙ q.0, refl, ap (λ (z : Sizes). z.participants) c.requires.table.2, refl)
 
 pub place-requires-clause-filled : goal.place-requires-clause-filled
-place-requires-clause-filled g c = let m = c.args.place.now.me in let own : ℕ = c.args.slot * (c.args.sizes.now.participants + 1) + c.args.sizes.now.participants in let e = c.exchange.ensures in let e' = c.exchange-2.ensures in let q = c.requires.claimed in let x = c.fill_homes.ensures.filled in let d = c.store-deed in
-    (x.0, rest m.1, can c.args.slot own own m c.exchange.new.seat.me c.exchange-2.new.seat.me c.exchange.result c.exchange-2.result Blank (Deed d.result.0) q e.2 e.3 e'.2 e'.3 c.fill_homes.new.place.me x.0 x.5
-        (x.1 ∙ ap (λ (z : Sizes). z.participants) (sym c.requires.table.2)) x.3 (d.result.0, refl, sym d.ensures.round.0 ∙ sym x.4, d.ensures.there, c.requires.ready.3))
+place-requires-clause-filled g c = let m = c.args.place.now.me in let own : ℕ = c.args.slot * (c.args.sizes.now.participants + 1) + c.args.sizes.now.participants in let e = c.exchange.ensures in let e' = c.exchange-2.ensures in let q = c.requires.claimed in let x = c.fill_homes.ensures.filled in let d = c.store-deed in (
+  x.0,
+  rest m.1,
+  can c.args.slot own own m c.exchange.new.seat.me c.exchange-2.new.seat.me c.exchange.result c.exchange-2.result Blank (Deed d.result.0) q e.2 e.3 e'.2 e'.3 c.fill_homes.new.place.me x.0 x.5
+      (x.1 ∙ ap (λ (z : Sizes). z.participants) (sym c.requires.table.2)) x.3 (d.result.0, refl, sym d.ensures.round.0 ∙ sym x.4, d.ensures.there, c.requires.ready.3),
+)
 
 pub returns-clause-placed : goal.returns-clause-placed
 returns-clause-placed g c = let m = c.args.place.now.me in let own : ℕ = c.args.slot * (c.args.sizes.now.participants + 1) + c.args.sizes.now.participants in let e = c.exchange.ensures in let e' = c.exchange-2.ensures in let q = c.requires.claimed in let x = c.fill_homes.ensures.filled in let d = c.store-deed in

@@ -65,4 +65,4 @@ returns-clause-reclaimed g c = λ w' ws' waits'. let m = c.args.place.now.me in 
     let is = emptied c.args.slot i m m1 m2 q.0 q.1 t.0 t.1 r q.4 t.3 e.2 e.3 in let a = c.gather_all-all.ensures.gathered _ (ap (λ (z : Me _ Acting). z.0.filling) is) in
     let ready = can c.args.slot i m m1 m2 q.0 q.1 t.0 t.1 r q.4 t.3 e.2 e.3 m3 m4 a.0 i r' y a.4 e'.2 e'.3 a.1 (a.2 ∙ sym (ap (λ (z : Sizes). z.participants) c.requires.table.2)) (_, refl) in
     after c.args.slot i m m1 m2 q.0 q.1 t.0 t.1 r q.4 t.3 e.2 e.3 m3 m4 a.0 i r' y a.4 e'.2 e'.3 c.vacate.new.place.me t.2.4 c.requires.ready.2 (c.vacate.ensures.vacant a.0 m.1 ready)
-        ∙ ap (λ xs. (record m.0 { slot = c.args.slot; waits = xs }, m.1)) (snoc_same q.1 ws' q.0 w' (sym q.2 ∙ waits')).0
+    ∙ ap (λ xs. (record m.0 { slot = c.args.slot; waits = xs }, m.1)) (snoc_same q.1 ws' q.0 w' (sym q.2 ∙ waits')).0
