@@ -1,18 +1,19 @@
-//! Opens and closes guards of crossbeam-epoch, and times them beside those of the crate `domain_bench`, for `guards`.
+//! Opens and closes guards of crossbeam-epoch, and places and retires items, and times these beside those of the crate `domain_bench`, for `guards`.
 //!
 //! `guards THREADS KIND ROUNDS` runs the rounds of `domain_bench` with guards of crossbeam-epoch. `guards times PROGRAM
 //! THREADS..` prints for each kind and number of threads what a round costs here and in the other program.
-use crossbeam_epoch::pin;
+use crossbeam_epoch::{Owned, pin};
 use std::process::Command;
 use std::sync::atomic::AtomicU64;
 use std::sync::atomic::Ordering::SeqCst;
 use std::time::Instant;
 
 /// The kinds of guards, and how many rounds of each are timed.
-const KINDS: [(&str, u32); 3] = [
+const KINDS: [(&str, u32); 4] = [
     ("plain", 10_000_000),
     ("accelerated", 2_000_000),
     ("nested", 50_000_000),
+    ("items", 1_000_000),
 ];
 
 /// So many guards one by one, within the one that may be open: the sum of what was read under them.
@@ -29,8 +30,27 @@ fn passes(word: &AtomicU64, accelerated: bool, rounds: u32) -> u64 {
     sum
 }
 
+/// So many items one by one, each placed, read and retired under a guard: the sum of what was read.
+#[inline(never)]
+fn items(rounds: u32) -> u64 {
+    let mut sum = 0u64;
+    for i in 0..rounds {
+        let guard = pin();
+        let item = Owned::new(u64::from(i)).into_shared(&guard);
+        // SAFETY: nobody else has the item, and it is read under the guard.
+        sum = sum.wrapping_add(*unsafe { item.deref() });
+        // SAFETY: no other pointer to it is left.
+        unsafe { guard.defer_destroy(item) };
+        guard.flush();
+    }
+    sum
+}
+
 /// The rounds of one thread.
 fn work(word: &AtomicU64, kind: &str, rounds: u32) -> u64 {
+    if kind == "items" {
+        return items(rounds);
+    }
     let outer = (kind == "nested").then(pin);
     let sum = passes(word, kind == "accelerated", rounds);
     drop(outer);
@@ -84,8 +104,11 @@ fn cost(program: &str, threads: u32, kind: &str, rounds: u32, wanted: Option<u64
     [used_by_children() - used, wall]
 }
 
-/// What the epochs add up to that one thread reads, if each accelerated guard raises the count by one.
-fn epochs(kind: &str, rounds: u32) -> u64 {
+/// What that adds up to that one thread reads: its items, or epochs, if each accelerated guard raises the count by one.
+fn sum_of(kind: &str, rounds: u32) -> u64 {
+    if kind == "items" {
+        return (0..u64::from(rounds)).sum();
+    }
     let raised = if kind == "accelerated" { rounds } else { 0 };
     (0..u64::from(raised)).map(|count| count % 64).sum()
 }
@@ -97,7 +120,7 @@ fn times(programs: [&str; 2], threads: u32, kind: &str, rounds: u32) -> [[f64; 2
     for _ in 0..7 {
         for (at, program) in programs.iter().enumerate() {
             for (rounds, least) in [0, rounds].into_iter().zip(&mut least[at]) {
-                let wanted = (at == 1 && threads == 1).then(|| epochs(kind, rounds));
+                let wanted = (at == 1 && threads == 1).then(|| sum_of(kind, rounds));
                 let found = cost(program, threads, kind, rounds, wanted);
                 *least = [least[0].min(found[0]), least[1].min(found[1])];
             }

@@ -1,12 +1,15 @@
-//! Guards of a place that threads share, opened and closed over and over: what `bench/guards` measures.
+//! Guards and items of a place that threads share, over and over: what `bench/guards` measures.
 //!
-//! `domain_bench THREADS KIND ROUNDS` runs so many rounds in each of so many threads, and each thread has a participant
-//! of its own. A round opens a guard, reads the epoch under it, and closes it. The guards are `plain`, `accelerated`,
-//! or `nested` in one that is open throughout. The sum of the epochs that were read is printed, which is 0 while
-//! nothing raises the count. Without arguments nothing is done.
+//! `domain_bench THREADS KIND ROUNDS [PARTICIPANTS]` runs so many rounds in each of so many threads, and each thread has
+//! a participant of its own, of so many, or of as many as there are threads. A round opens a guard, reads the epoch
+//! under it, and closes it. The guards are `plain`, `accelerated`, or `nested` in one that is open throughout. The sum
+//! of the epochs that were read is printed, which is 0 while nothing raises the count. A round of `items` places a
+//! number, reads it, gives its owner back, and opens and closes an accelerated guard, which reclaims what is due; the
+//! sum of the numbers that were read is printed. Without arguments nothing is done.
 #![tactic(auto)]
 
 ghost use Rattle.std.specs.Prelude.{◌≡◌, ◌≤◌, IfSome};
+ghost use Rattle.sdd_domain.specs.Layout.{IsSized};
 ghost use Rattle.sdd_domain.specs.Tokens.{place_of, home_of, own_of, IsSame};
 
 use sdd_base::epoch::Epoch;
@@ -14,6 +17,7 @@ use sdd_base::sizes::Sizes;
 use sdd_domain::domain::Domain;
 use sdd_domain::guard::Guard;
 use sdd_domain::local::Local;
+use sdd_domain::shared::Shared;
 use std::sync::Wait;
 use std::{env, io, thread};
 
@@ -22,6 +26,7 @@ enum Kind {
     Plain,
     Accelerated,
     Nested,
+    Items,
 }
 
 /// The threads, the kind and the rounds that three arguments name, if they do.
@@ -32,6 +37,7 @@ fn task_of(threads: &str, kind: &str, rounds: &str) -> Option<(u8, Kind, u32)>
         "plain" => Kind::Plain,
         "accelerated" => Kind::Accelerated,
         "nested" => Kind::Nested,
+        "items" => Kind::Items,
         _ => return None,
     };
     let threads = threads.parse::<u8>().ok()?;
@@ -76,6 +82,25 @@ fn passes(domain: &Domain<u64>, local: &mut Local<u64>, accelerated: bool, round
     sum
 }
 
+/// So many items one by one, each with an accelerated guard behind it: the sum of what was placed and read.
+#[inline(never)]
+fn items(domain: &Domain<u64>, local: &mut Local<u64>, rounds: u32) -> u64
+    requires home { home_of local.old ≡ place_of domain.now }
+    requires closed { (own_of local.old).nesting ≡ 0 }
+    ensures same { IsSame local.old local.new }
+    ensures closed { (own_of local.new).nesting ≡ 0 }
+{
+    let mut sum: u64 = 0;
+    for i in 0..rounds {
+        if let Ok(owner) = Shared::new(u64::from(i), domain, local) {
+            sum = sum.wrapping_add(*owner.as_ref());
+            owner.release(domain, local);
+        }
+        let _ = pass(domain, local, true);
+    }
+    sum
+}
+
 /// The rounds of one thread. None if no participant was free.
 fn work(domain: &Domain<u64>, kind: Kind, rounds: u32) -> Option<u64> {
     let mut local = domain.register().ok()?;
@@ -90,6 +115,7 @@ fn work(domain: &Domain<u64>, kind: Kind, rounds: u32) -> Option<u64> {
             outer.close(domain, &mut local);
             sum
         }
+        Kind::Items => items(domain, &mut local, rounds),
     };
     local.end(domain);
     Some(sum)
@@ -115,6 +141,23 @@ fn total(sums: &[Option<u64>]) -> Option<u64> {
     Some(all)
 }
 
+/// The sizes of a place for so many participants, and for their items if these are measured.
+fn sizes_of(kind: Kind, participants: u8) -> Sizes
+    requires { 1 ≤ participants }
+    ensures { IsSized result }
+{
+    let participants = usize::from(participants);
+    Sizes {
+        participants,
+        slots: match kind {
+            Kind::Items => 64 * participants,
+            _ => 0,
+        },
+        cells: 0,
+        jobs: 0,
+    }
+}
+
 fn main(rt: HostRuntime) -> io::Result<()> {
     let mut words = env::args(&rt)?.skip(1);
     let Some(threads) = words.next() else {
@@ -127,18 +170,15 @@ fn main(rt: HostRuntime) -> io::Result<()> {
     let Some((threads, kind, rounds)) = task else {
         return Err(io::ErrorKind::InvalidInput.into());
     };
-    let participants = usize::from(threads);
-    let sizes = Sizes {
-        participants,
-        slots: 0,
-        cells: 0,
-        jobs: 0,
+    let participants = match words.next() {
+        Some(number) => number.as_str().parse::<u8>().unwrap_or(threads).max(threads),
+        None => threads,
     };
-    let domain = Domain::new(rt.alloc(), sizes)?;
+    let domain = Domain::new(rt.alloc(), sizes_of(kind, participants))?;
     let sums = thread::map_indices(
         &rt,
         rt.alloc(),
-        participants,
+        usize::from(threads),
         &|_| work(&domain, kind, rounds),
     );
     end(&rt, domain);

@@ -131,7 +131,7 @@ fn thousand(domain: &Domain<u64>, salt: u64) -> Option<u32> {
     };
     let mut good = 0;
     for i in 0..1000u32 {
-        let item = salt + u64::from(i);
+        let item = salt.wrapping_add(u64::from(i));
         if let Ok(owner) = Shared::new(item, domain, &mut local) {
             let same = *owner.as_ref() == item;
             if owner.release(domain, &mut local) && same {
@@ -161,7 +161,7 @@ fn differing(domain: &Domain<u64>, salt: u64) -> Option<(u32, bool)> {
     let mut other = 0;
     let mut some = false;
     for i in 0..1000u32 {
-        let item = salt + u64::from(i);
+        let item = salt.wrapping_add(u64::from(i));
         if let Ok(owner) = Shared::new(item, domain, &mut local) {
             if *owner.as_ref() != item {
                 other += 1;
