@@ -7,7 +7,7 @@ use Rattle.tree_index.specs.declared.arenas.Arenas.{Arenas}
 use Rattle.tree_index.specs.declared.walk.Position.{Position}
 use Rattle.tree_index.specs.Content.{pairs_of, IsSound}
 use Rattle.tree_index.specs.Walk.{position, IsPosition}
-use Rattle.tree_index.specs.Copy.{place, IsPlace}
+use Rattle.tree_index.specs.Copy.{place, IsPositionOrEnd}
 use Rattle.tree_index.proofs.EndLemmas.{spot_pair}
 
 module _ {X : Type 0} where
@@ -34,7 +34,7 @@ module _ {K V : Type 0} (a : Arenas K V) (n : ℕ) where
   place_of_answer None none some = sym none
   place_of_answer (Some s) none some = some
 
-pub place_is : {K V : Type 0} (a : Arenas K V) (r : Option (Position K V)) → IfSome r (λ s. IsPosition a s) → IsPlace a r
+pub place_is : {K V : Type 0} (a : Arenas K V) (r : Option (Position K V)) → IfSome r (λ s. IsPosition a s) → IsPositionOrEnd a r
 place_is a None is = tt
 place_is a (Some s) is = is
 

@@ -3,7 +3,7 @@ use Rattle.std.specs.Cmp.Lexicographic.{pointwise}
 use Rattle.tree_index.specs.Content.{pairs_of}
 use Rattle.tree_index.specs.Walk.{position, IsPosition}
 use Rattle.tree_index.proofs.EndLemmas.{spot_pair}
-use Rattle.tree_index.specs.Copy.{place, IsPlace}
+use Rattle.tree_index.specs.Copy.{place, IsPositionOrEnd}
 use Rattle.tree_index.proofs.EqualLemmas.{place_of_answer, place_is, spots_equal}
 use Rattle.tree_index.proofs.arenas.Arenas.equals.Goals as goal
 
@@ -14,8 +14,8 @@ returns-then-not-are_equal g c =
     let x = c.in-Some-Some.a in
     let y = c.in-Some-Some.b in
     let E : g.row.K.Denot × g.row.V.Denot → g.row.K.Denot × g.row.V.Denot → Bool = λ p q. g.K.PartialEq.eq p.0 q.0 && g.V.PartialEq.eq p.1 q.1 in
-    let is_x : IsPosition a x = subst (IsPlace a) c.in-Some-Some.is-0 c.loop-left.invariant.left in
-    let is_y : IsPosition b y = subst (IsPlace b) c.in-Some-Some.is-1 c.loop-left.invariant.right in
+    let is_x : IsPosition a x = subst (IsPositionOrEnd a) c.in-Some-Some.is-0 c.loop-left.invariant.left in
+    let is_y : IsPosition b y = subst (IsPositionOrEnd b) c.in-Some-Some.is-1 c.loop-left.invariant.right in
     let at : place a c.loop-left.left ≡ position a x = ap (place a) c.in-Some-Some.is-0 in
     let together : position a x ≡ position b y = sym at ∙ c.loop-left.invariant.together ∙ ap (place b) c.in-Some-Some.is-1 in
     let step = spots_equal g.K.Ord.cmp E a b c.requires.first c.requires.second x y is_x is_y together _ _ c.pair.ensures c.pair-in-Some-Some.ensures in
@@ -27,7 +27,7 @@ pub loop-left-smaller : goal.loop-left-smaller
 loop-left-smaller g c =
     let a = c.args.self.now in
     let x = c.in-Some-Some.a in
-    let is_x : IsPosition a x = subst (IsPlace a) c.in-Some-Some.is-0 c.loop-left.invariant.left in
+    let is_x : IsPosition a x = subst (IsPositionOrEnd a) c.in-Some-Some.is-0 c.loop-left.invariant.left in
     let at : place a c.loop-left.left ≡ position a x = ap (place a) c.in-Some-Some.is-0 in
     let next = place_of_answer a (position a x + 1) c.behind-left.result c.behind-left.ensures.none c.behind-left.ensures.there in
     let within = (spot_pair g.K.Ord.cmp a c.requires.first x is_x).1 in
@@ -40,8 +40,8 @@ loop-left-preserved g c =
     let x = c.in-Some-Some.a in
     let y = c.in-Some-Some.b in
     let E : g.row.K.Denot × g.row.V.Denot → g.row.K.Denot × g.row.V.Denot → Bool = λ p q. g.K.PartialEq.eq p.0 q.0 && g.V.PartialEq.eq p.1 q.1 in
-    let is_x : IsPosition a x = subst (IsPlace a) c.in-Some-Some.is-0 c.loop-left.invariant.left in
-    let is_y : IsPosition b y = subst (IsPlace b) c.in-Some-Some.is-1 c.loop-left.invariant.right in
+    let is_x : IsPosition a x = subst (IsPositionOrEnd a) c.in-Some-Some.is-0 c.loop-left.invariant.left in
+    let is_y : IsPosition b y = subst (IsPositionOrEnd b) c.in-Some-Some.is-1 c.loop-left.invariant.right in
     let at : place a c.loop-left.left ≡ position a x = ap (place a) c.in-Some-Some.is-0 in
     let together : position a x ≡ position b y = sym at ∙ c.loop-left.invariant.together ∙ ap (place b) c.in-Some-Some.is-1 in
     let step = spots_equal g.K.Ord.cmp E a b c.requires.first c.requires.second x y is_x is_y together _ _ c.pair.ensures c.pair-in-Some-Some.ensures in

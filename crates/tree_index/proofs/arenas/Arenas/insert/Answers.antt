@@ -9,7 +9,7 @@ use Rattle.tree_index.proofs.ArenaLemmas.{IsPut, put_of, put_length, put_there, 
 use Rattle.leaf_array.specs.Pairs.{has_key}
 use Rattle.tree_index.specs.Content.{pairs_of}
 use Rattle.tree_index.specs.declared.arenas.Arenas.{Arenas}
-use Rattle.tree_index.specs.Depth.{root_room, rises}
+use Rattle.tree_index.specs.Depth.{root_room, headroom_for}
 use Rattle.tree_index.proofs.LeafLemmas.{roomy}
 use Rattle.tree_index.proofs.DepthLemmas.{full_back, root_less, room_less, room_more, insert_room, rises_less}
 use Rattle.tree_index.proofs.arenas.Arenas.insert.Goals as goal
@@ -236,7 +236,7 @@ returns-in-Some-clause-ascending_headroom g c k =
     let less = root_less cmp a b pairs refl (room_less a.leaves n l m here (omega (arith, used))) in
     let more = root_less cmp b a (sym pairs) refl (room_more a.leaves n l m here used) in
     let same : root_room cmp b ≡ root_room cmp a = omega (arith, less, more) in
-    ap (rises a.height) same
+    ap (headroom_for a.height) same
 
 pub returns-in-Some-clause-ascending : goal.returns-in-Some-clause-ascending
 returns-in-Some-clause-ascending g c d above =
