@@ -91,5 +91,5 @@ module _ {K : Type 0} {cmp : K → K → Ordering} (laws : IsTotalOrder cmp) whe
           | Greater ↦ λ e. rw e (lookup-below key ps rest)
         ]) refl
 
-    pub value_at-upserted : (key : K) (value : V) (pairs : List (K × V)) → value_of_key cmp key (upserted cmp key value pairs) ≡ Some value
-    value_at-upserted key value pairs = lookup-below key pairs ((key, value) ∷ above cmp key pairs) ∙ rw (tied_itself laws key) refl
+    pub value_of_key-upserted : (key : K) (value : V) (pairs : List (K × V)) → value_of_key cmp key (upserted cmp key value pairs) ≡ Some value
+    value_of_key-upserted key value pairs = lookup-below key pairs ((key, value) ∷ above cmp key pairs) ∙ rw (tied_itself laws key) refl

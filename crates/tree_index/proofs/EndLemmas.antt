@@ -22,7 +22,7 @@ use Rattle.tree_index.specs.Shape.{joined_over, leaf_pairs, pairs_under, Stands}
 use Rattle.tree_index.specs.Content.{content_of, pairs_of, leaves_of, HasNoTree, IsSound}
 use Rattle.tree_index.specs.Cursor.{before_start, forth}
 use Rattle.tree_index.specs.Walk.{pairs_in_leaf, position, IsPosition}
-use Rattle.tree_index.proofs.RowLemmas.{parting, before_parted, gathered_parted}
+use Rattle.tree_index.proofs.RowLemmas.{parting, before_parted, joined_over_parted}
 use Rattle.tree_index.proofs.WalkLemmas.{once, all_held, held_is}
 use Rattle.tree_index.proofs.RisingLemmas.{rising_under, earlier, not_earlier}
 use Rattle.tree_index.proofs.GrowLemmas.{none_rising}
@@ -49,7 +49,7 @@ module _ {K V : Type 0} (cmp : K → K → Ordering) (a : Arenas K V) (s : IsSou
       let same : f n ≡ spot.leaf.now.array.pairs = held_is a n spot.leaf.now is.insertion_point.there in
       let within : spot.place < length (f n) = subst (λ (ps : List (K × V)). spot.place < length ps) (sym same) is.within in
       let before = before_parted f n (leaves_of a) p.fore p.rear p.all (once cmp a s is.insertion_point.own.0 n) in
-      let all : pairs_of a ≡ joined_over f p.fore ++ (f n ++ joined_over f p.rear) = all_held a ∙ gathered_parted f n (leaves_of a) p.fore p.rear p.all in
+      let all : pairs_of a ≡ joined_over f p.fore ++ (f n ++ joined_over f p.rear) = all_held a ∙ joined_over_parted f n (leaves_of a) p.fore p.rear p.all in
       let long : length (pairs_of a) ≡ length (joined_over f p.fore) + (length (f n) + length (joined_over f p.rear)) = ap length all ∙ simp length-append in
       (ap (λ ps. slice_get ps (position a spot)) all ∙ slice_middle (joined_over f p.fore) (f n) (joined_over f p.rear) (position a spot) spot.place (omega (arith, before)) within ∙ ap (λ ps. slice_get ps spot.place) same, omega (arith, before, within, long))
 

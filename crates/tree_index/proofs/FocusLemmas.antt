@@ -9,7 +9,7 @@ use Rattle.std.specs.BTreeMap.{insert_entry, is_at}
 use Rattle.std.proofs.lemmas.List.{append-nil}
 use Rattle.leaf_array.specs.Cells.{Cells}
 use Rattle.tree_index.specs.Shape.{ArenaContent, IsOver, IsUpTo, IsWithin, AreBetween, AllKeys, child_for, child_in, way, joined_along, joined_over, leaf_pairs, sum_along, node_joined, node_sum, pairs_under, leaves_under, leaf_times, node_times, IsNode, IsTree}
-use Rattle.tree_index.proofs.ShapeLemmas.{over_trans, upto_trans, turned, passed, not_passed, upto_less, all_append, all_weaken, gathered_append, held_under, self_once, Agrees, bounded, bounded_along, IsSame, kept, kept_along}
+use Rattle.tree_index.proofs.ShapeLemmas.{over_trans, upto_trans, turned, passed, not_passed, upto_less, all_append, all_weaken, joined_over_append, held_under, self_once, Agrees, bounded, bounded_along, IsSame, kept, kept_along}
 
 -- so many steps above a height
 abbrev pub over : ℕ → ℕ → ℕ
@@ -233,7 +233,7 @@ module _ {K V : Type 0} (cmp : K → K → Ordering) (o : IsTotalOrder cmp) (a :
         back = r.back;
         lefts = leaves_under a height e.1 ++ r.lefts;
         rights = r.rights;
-        fore = rw (held_under a height e.1, r.fore) (sym (gathered_append (λ n. leaf_pairs (a.leaf n)) (leaves_under a height e.1) r.lefts));
+        fore = rw (held_under a height e.1, r.fore) (sym (joined_over_append (λ n. leaf_pairs (a.leaf n)) (leaves_under a height e.1) r.lefts));
         leaves = λ n. leaf_times a n height e.1 + r.leaves n;
         nodes = λ n. node_times a n height e.1 + r.nodes n;
         tree = rw c r.tree;
@@ -342,7 +342,7 @@ module _ {K V : Type 0} (cmp : K → K → Ordering) (o : IsTotalOrder cmp) (a :
         back = f.back ++ r.back;
         lefts = r.lefts ++ f.lefts;
         rights = f.rights ++ r.rights;
-        fore = rw (r.fore, f.fore) (sym (gathered_append (λ n. leaf_pairs (a.leaf n)) r.lefts f.lefts));
+        fore = rw (r.fore, f.fore) (sym (joined_over_append (λ n. leaf_pairs (a.leaf n)) r.lefts f.lefts));
         leaves = λ m. r.leaves m + f.leaves m;
         nodes = λ m. cond (at == m) 1 0 + (r.nodes m + f.nodes m);
         tree = rw c f.tree;

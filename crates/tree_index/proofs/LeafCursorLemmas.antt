@@ -12,7 +12,7 @@ use Rattle.tree_index.specs.Content.{pairs_of, leaves_of, IsSound}
 use Rattle.tree_index.specs.Cursor.{before_start, up_to_end}
 use Rattle.tree_index.specs.Walk.{pairs_in_leaf, position, IsPosition}
 use Rattle.tree_index.specs.LeafCursor.{IsPart, ranked}
-use Rattle.tree_index.proofs.RowLemmas.{parting, before_parted, gathered_parted}
+use Rattle.tree_index.proofs.RowLemmas.{parting, before_parted, joined_over_parted}
 use Rattle.tree_index.proofs.WalkLemmas.{once, all_held, held_is}
 
 module _ {K V : Type 0} where
@@ -32,7 +32,7 @@ module _ {K V : Type 0} where
       record {
         fore = joined_over f p.fore;
         rear = joined_over f p.rear;
-        all = all_held a ∙ gathered_parted f n (leaves_of a) p.fore p.rear p.all ∙ ap (λ ps. joined_over f p.fore ++ (ps ++ joined_over f p.rear)) same;
+        all = all_held a ∙ joined_over_parted f n (leaves_of a) p.fore p.rear p.all ∙ ap (λ ps. joined_over f p.fore ++ (ps ++ joined_over f p.rear)) same;
       }
 
 -- where what is counted at the front of a list ends within a part of it, it is counted in that part

@@ -21,7 +21,7 @@ use Rattle.tree_index.specs.Chain.{leaf_links, times, first_or, IsLinked}
 use Rattle.tree_index.specs.Content.{content_of, pairs_of, leaves_of, HasNoTree, IsSound}
 use Rattle.tree_index.specs.Walk.{pairs_in_leaf, starts_at, IsOwnLeaf, IsPassed}
 use Rattle.tree_index.specs.declared.arenas.Arenas.{Arenas}
-use Rattle.tree_index.proofs.ShapeLemmas.{all_append, all_weaken, gathered_append}
+use Rattle.tree_index.proofs.ShapeLemmas.{all_append, all_weaken, joined_over_append}
 use Rattle.tree_index.proofs.LeafLemmas.{filter_all}
 use Rattle.tree_index.proofs.RisingLemmas.{to_keys}
 use Rattle.tree_index.proofs.WalkLemmas.{all_held, held_is, once, stands_of, leaf_around}
@@ -205,7 +205,7 @@ module _ {K V : Type 0} (cmp : K → K → Ordering) (o : IsTotalOrder cmp) (low
     rear = rear;
     all = order len ∙ all_is ∙ simp append_assoc;
     first = next ∙ behind;
-    keys = subst (AllKeys (IsOutside cmp lower upper)) (sym (gathered_append (pairs_in_leaf (cleared len)) passed.fore (n ∷ []))) (all_append (IsOutside cmp lower upper) (joined_over (pairs_in_leaf (cleared len)) passed.fore) (joined_over (pairs_in_leaf (cleared len)) (n ∷ []))
+    keys = subst (AllKeys (IsOutside cmp lower upper)) (sym (joined_over_append (pairs_in_leaf (cleared len)) passed.fore (n ∷ []))) (all_append (IsOutside cmp lower upper) (joined_over (pairs_in_leaf (cleared len)) passed.fore) (joined_over (pairs_in_leaf (cleared len)) (n ∷ []))
         (subst (AllKeys (IsOutside cmp lower upper)) (sym (held_fore len)) passed.keys)
         (subst (AllKeys (IsOutside cmp lower upper)) (sym (append-nil (pairs_in_leaf (cleared len) n))) (subst (AllKeys (IsOutside cmp lower upper)) (sym (held_here len)) (left_outside cmp lower upper (pairs_in_leaf a n)))));
   }

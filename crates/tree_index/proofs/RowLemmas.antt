@@ -6,7 +6,7 @@ use Rattle.std.proofs.lemmas.List.{length-append}
 use Rattle.tree_index.specs.Shape.{joined_over}
 use Rattle.tree_index.specs.Chain.{Links, times, first_or, IsLinked}
 use Rattle.tree_index.specs.Walk.{pairs_before, rest}
-use Rattle.tree_index.proofs.ShapeLemmas.{gathered_append}
+use Rattle.tree_index.proofs.ShapeLemmas.{joined_over_append}
 use Rattle.tree_index.proofs.WayLemmas.{some_same}
 use Rattle.tree_index.proofs.ChainLemmas.{times_append, first_times}
 
@@ -48,8 +48,8 @@ module _ {X : Type 0} (f : ℕ → List X) where
       ap (pairs_before f n) e ∙ before_front n xs ys (omega (arith, times_append n xs (n ∷ ys), first_times n ys, all))
 
   -- and all of it, up to a number in it
-  pub gathered_parted : (n : ℕ) (ns xs ys : List ℕ) → ns ≡ xs ++ n ∷ ys → joined_over f ns ≡ joined_over f xs ++ (f n ++ joined_over f ys)
-  gathered_parted n ns xs ys e = ap (joined_over f) e ∙ gathered_append f xs (n ∷ ys)
+  pub joined_over_parted : (n : ℕ) (ns xs ys : List ℕ) → ns ≡ xs ++ n ∷ ys → joined_over f ns ≡ joined_over f xs ++ (f n ++ joined_over f ys)
+  joined_over_parted n ns xs ys e = ap (joined_over f) e ∙ joined_over_append f xs (n ∷ ys)
 
 pub linked_at : (g : Links) (before behind : Option ℕ) (n : ℕ) (xs ys : List ℕ) → IsLinked g before (xs ++ n ∷ ys) behind → g n ≡ Some (last_or before xs, first_or behind ys)
 linked_at g before behind n [] ys l = l.0
@@ -119,7 +119,7 @@ module _ {X : Type 0} (f : ℕ → List X) (g : Links) (ns : List ℕ) (linked :
   neighbours_of n xs ys e =
       let here = before_parted f n ns xs ys e (once n) in
       let place = before_parted (λ k. k ∷ []) n ns xs ys e (once n) in
-      let whole : length (joined_over (λ (k : ℕ). k ∷ []) ns) ≡ length (joined_over (λ (k : ℕ). k ∷ []) xs) + suc (length (joined_over (λ (k : ℕ). k ∷ []) ys)) = ap length (gathered_parted (λ (k : ℕ). k ∷ []) n ns xs ys e) ∙ simp length-append (omega arith) in
+      let whole : length (joined_over (λ (k : ℕ). k ∷ []) ns) ≡ length (joined_over (λ (k : ℕ). k ∷ []) xs) + suc (length (joined_over (λ (k : ℕ). k ∷ []) ys)) = ap length (joined_over_parted (λ (k : ℕ). k ∷ []) n ns xs ys e) ∙ simp length-append (omega arith) in
       record {
         next_own = own ys e;
         next_starts = start ys e here;
@@ -137,15 +137,15 @@ module _ {X : Type 0} (f : ℕ → List X) (g : Links) (ns : List ℕ) (linked :
       own (m ∷ zs) e = inside ns m (xs ++ n ∷ []) zs (moved m zs e)
 
       start : (zs : List ℕ) → ns ≡ xs ++ n ∷ zs → pairs_before f n ns ≡ length (joined_over f xs) → starts f ns (first_or None zs) ≡ pairs_before f n ns + length (f n)
-      start [] e here = ap length (gathered_parted f n ns xs [] e) ∙ simp length-append (omega (arith, here))
+      start [] e here = ap length (joined_over_parted f n ns xs [] e) ∙ simp length-append (omega (arith, here))
       start (m ∷ zs) e here =
-          let all : length (joined_over f (xs ++ n ∷ [])) ≡ length (joined_over f xs) + length (f n) = ap length (gathered_append f xs (n ∷ [])) ∙ simp length-append (omega arith) in
+          let all : length (joined_over f (xs ++ n ∷ [])) ≡ length (joined_over f xs) + length (f n) = ap length (joined_over_append f xs (n ∷ [])) ∙ simp length-append (omega arith) in
           before_parted f m ns (xs ++ n ∷ []) zs (moved m zs e) (once m) ∙ omega (arith, all, here)
 
       fewer : (zs : List ℕ) → ns ≡ xs ++ n ∷ zs → pairs_before (λ (k : ℕ). k ∷ []) n ns ≡ length (joined_over (λ (k : ℕ). k ∷ []) xs) → length (joined_over (λ (k : ℕ). k ∷ []) ns) ≡ length (joined_over (λ (k : ℕ). k ∷ []) xs) + suc (length (joined_over (λ (k : ℕ). k ∷ []) ys)) → rest ns (first_or None zs) < rest ns (Some n)
       fewer [] e place whole = omega (arith, one_each ns)
       fewer (m ∷ zs) e place whole =
-          let all : length (joined_over (λ (k : ℕ). k ∷ []) (xs ++ n ∷ [])) ≡ suc (length (joined_over (λ (k : ℕ). k ∷ []) xs)) = ap length (gathered_append (λ (k : ℕ). k ∷ []) xs (n ∷ [])) ∙ simp length-append (omega arith) in
+          let all : length (joined_over (λ (k : ℕ). k ∷ []) (xs ++ n ∷ [])) ≡ suc (length (joined_over (λ (k : ℕ). k ∷ []) xs)) = ap length (joined_over_append (λ (k : ℕ). k ∷ []) xs (n ∷ [])) ∙ simp length-append (omega arith) in
           let next = before_parted (λ (k : ℕ). k ∷ []) m ns (xs ++ n ∷ []) zs (moved m zs e) (once m) in
           omega (arith, all, next, place, whole, one_each ns)
 
@@ -158,8 +158,8 @@ module _ {X : Type 0} (f : ℕ → List X) (g : Links) (ns : List ℕ) (linked :
           let last : last_or None xs ≡ Some m = ap (last_or None) some.2 ∙ last_append None us m in
           let front = before_parted f m ns us (n ∷ ys) back (once m) in
           let count = before_parted (λ (k : ℕ). k ∷ []) m ns us (n ∷ ys) back (once m) in
-          let all : length (joined_over f xs) ≡ length (joined_over f us) + length (f m) = ap (λ ks. length (joined_over f ks)) some.2 ∙ ap length (gathered_append f us (m ∷ [])) ∙ simp length-append (omega arith) in
-          let more : length (joined_over (λ (k : ℕ). k ∷ []) xs) ≡ suc (length (joined_over (λ (k : ℕ). k ∷ []) us)) = ap (λ ks. length (joined_over (λ (k : ℕ). k ∷ []) ks)) some.2 ∙ ap length (gathered_append (λ (k : ℕ). k ∷ []) us (m ∷ [])) ∙ simp length-append (omega arith) in
+          let all : length (joined_over f xs) ≡ length (joined_over f us) + length (f m) = ap (λ ks. length (joined_over f ks)) some.2 ∙ ap length (joined_over_append f us (m ∷ [])) ∙ simp length-append (omega arith) in
+          let more : length (joined_over (λ (k : ℕ). k ∷ []) xs) ≡ suc (length (joined_over (λ (k : ℕ). k ∷ []) us)) = ap (λ ks. length (joined_over (λ (k : ℕ). k ∷ []) ks)) some.2 ∙ ap length (joined_over_append (λ (k : ℕ). k ∷ []) us (m ∷ [])) ∙ simp length-append (omega arith) in
           rw last (inside ns m us (n ∷ ys) back, omega (arith, front, all, here), omega (arith, count, more, place))
 
   -- what a number of the row names
@@ -189,7 +189,7 @@ last_own f ns n once e = split (by_last ns)
         let same : some.1 ≡ n = some_same (sym (ap (last_or None) some.2 ∙ last_append None some.0 some.1) ∙ e) in
         let all : ns ≡ some.0 ++ n ∷ [] = some.2 ∙ ap (λ k. some.0 ++ k ∷ []) same in
         let here = before_parted f n ns some.0 [] all once in
-        let whole : length (joined_over f ns) ≡ length (joined_over f some.0) + length (f n) = ap length (gathered_parted f n ns some.0 [] all) ∙ simp length-append (omega arith) in
+        let whole : length (joined_over f ns) ≡ length (joined_over f some.0) + length (f n) = ap length (joined_over_parted f n ns some.0 [] all) ∙ simp length-append (omega arith) in
         (inside ns n some.0 [] all, omega (arith, here, whole))
 
 pub linked_there : (g : Links) (ns : List ℕ) (n : ℕ) → IsLinked g None ns None → times n ns ≢ 0 → (l : Option ℕ × Option ℕ) × (g n ≡ Some l)

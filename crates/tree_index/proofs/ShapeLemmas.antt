@@ -59,9 +59,9 @@ self_once at more e =
     let one : ◌≡◌ {A = ℕ} (cond (at == at) 1 0) (suc zero) = ap (λ c. cond c (suc zero) zero) (eq-eqb at at refl) in
     omega (arith, one, e)
 
-pub gathered_append : {X : Type 0} (f : ℕ → List X) (xs ys : List ℕ) → joined_over f (xs ++ ys) ≡ joined_over f xs ++ joined_over f ys
-gathered_append f [] ys = refl
-gathered_append f (x ∷ xs) ys = rw (gathered_append f xs ys) (simp append_assoc)
+pub joined_over_append : {X : Type 0} (f : ℕ → List X) (xs ys : List ℕ) → joined_over f (xs ++ ys) ≡ joined_over f xs ++ joined_over f ys
+joined_over_append f [] ys = refl
+joined_over_append f (x ∷ xs) ys = rw (joined_over_append f xs ys) (simp append_assoc)
 
 module _ {K V : Type 0} where
   pub all_append : (P : K → Type 0) (xs ys : List (K × V)) → AllKeys P xs → AllKeys P ys → AllKeys P (xs ++ ys)
@@ -75,7 +75,7 @@ module _ {K V : Type 0} where
   -- the pairs of a tree are those of its leaves
   held_along : (f : ℕ → List (K × V)) (g : ℕ → List ℕ) (h : ℕ → List (K × V)) → ((at : ℕ) → f at ≡ joined_over h (g at)) → (es : List (K × ℕ)) (last : ℕ) → joined_along f es last ≡ joined_over h (joined_along g es last)
   held_along f g h each [] last = each last
-  held_along f g h each (e ∷ es) last = rw (each e.1, held_along f g h each es last) (sym (gathered_append h (g e.1) (joined_along g es last)))
+  held_along f g h each (e ∷ es) last = rw (each e.1, held_along f g h each es last) (sym (joined_over_append h (g e.1) (joined_along g es last)))
 
   held_node : (f : ℕ → List (K × V)) (g : ℕ → List ℕ) (h : ℕ → List (K × V)) → ((at : ℕ) → f at ≡ joined_over h (g at)) → (n : Option (Cells K ℕ × ℕ)) → node_joined f n ≡ joined_over h (node_joined g n)
   held_node f g h each None = refl

@@ -19,7 +19,7 @@ use Rattle.tree_index.specs.Walk.{pairs_in_leaf, IsOwnLeaf}
 use Rattle.tree_index.proofs.WayLemmas.{some_same}
 use Rattle.tree_index.proofs.ChainLemmas.{linked_kept, times_append, first_times}
 use Rattle.tree_index.proofs.LinkLemmas.{links_kept}
-use Rattle.tree_index.proofs.RowLemmas.{gathered_parted}
+use Rattle.tree_index.proofs.RowLemmas.{joined_over_parted}
 use Rattle.tree_index.proofs.WalkLemmas.{once, all_held, held_is, stands_of}
 use Rattle.tree_index.proofs.ArenaLemmas.{all_filtered, middle_length}
 
@@ -76,11 +76,11 @@ module _ {K V : Type 0} (a b : ArenaContent K V) (nodes : (n : ℕ) → b.node n
 
 module _ {X : Type 0} (f g : ℕ → List X) where
   -- numbers that don't stand in a list hold what they may
-  pub gathered_kept : (n : ℕ) (ns : List ℕ) → ((k : ℕ) → k ≢ n → g k ≡ f k) → times n ns ≡ 0 → joined_over g ns ≡ joined_over f ns
-  gathered_kept n [] same none = refl
-  gathered_kept n (m ∷ ns) same none =
+  pub joined_over_kept : (n : ℕ) (ns : List ℕ) → ((k : ℕ) → k ≢ n → g k ≡ f k) → times n ns ≡ 0 → joined_over g ns ≡ joined_over f ns
+  joined_over_kept n [] same none = refl
+  joined_over_kept n (m ∷ ns) same none =
       let apart : m ≢ n = λ e. (let one : ◌≡◌ {A = ℕ} (cond (m == n) 1 0) 1 = ap (λ b. cond b 1 0) (eq-eqb m n e) in omega (arith, one, none)) in
-      rw (same m apart, gathered_kept n ns same (omega (arith, none))) refl
+      rw (same m apart, joined_over_kept n ns same (omega (arith, none))) refl
 
 filter_twice : {X : Type 0} (test : X → Bool) (xs : List X) → filter test (filter test xs) ≡ filter test xs
 filter_twice test [] = refl
@@ -132,21 +132,21 @@ module _ {K V : Type 0} (cmp : K → K → Ordering) (test : K → Bool) (a : Ar
         omega (arith, times_append n fore (n ∷ rear), first_times n rear, most)
 
     pub thin_fore : (len : ℕ) → joined_over (pairs_in_leaf (thinned len)) fore ≡ joined_over (pairs_in_leaf a) fore
-    thin_fore len = gathered_kept (pairs_in_leaf a) (pairs_in_leaf (thinned len)) n fore (thin_others len) (omega (arith, counted))
+    thin_fore len = joined_over_kept (pairs_in_leaf a) (pairs_in_leaf (thinned len)) n fore (thin_others len) (omega (arith, counted))
 
     thin_rear : (len : ℕ) → joined_over (pairs_in_leaf (thinned len)) rear ≡ joined_over (pairs_in_leaf a) rear
-    thin_rear len = gathered_kept (pairs_in_leaf a) (pairs_in_leaf (thinned len)) n rear (thin_others len) (omega (arith, counted))
+    thin_rear len = joined_over_kept (pairs_in_leaf a) (pairs_in_leaf (thinned len)) n rear (thin_others len) (omega (arith, counted))
 
     pub thin_pairs : (len : ℕ) → pairs_of (thinned len) ≡ joined_over (pairs_in_leaf a) fore ++ (filter (λ p. test p.0) (pairs_in_leaf a n) ++ joined_over (pairs_in_leaf a) rear)
     thin_pairs len =
-        all_held (thinned len) ∙ gathered_parted (pairs_in_leaf (thinned len)) n (leaves_of (thinned len)) fore rear (thin_order len ∙ all)
+        all_held (thinned len) ∙ joined_over_parted (pairs_in_leaf (thinned len)) n (leaves_of (thinned len)) fore rear (thin_order len ∙ all)
         ∙ rw (thin_fore len, thin_here len, thin_rear len) refl
 
     length_of : (len : ℕ) → length (pairs_of (thinned len)) ≡ length (joined_over (pairs_in_leaf a) fore ++ (filter (λ p. test p.0) (pairs_in_leaf a n) ++ joined_over (pairs_in_leaf a) rear))
     length_of len = ap length (thin_pairs len)
 
     pub whole_pairs : pairs_of a ≡ joined_over (pairs_in_leaf a) fore ++ (pairs_in_leaf a n ++ joined_over (pairs_in_leaf a) rear)
-    whole_pairs = all_held a ∙ gathered_parted (pairs_in_leaf a) n (leaves_of a) fore rear all
+    whole_pairs = all_held a ∙ joined_over_parted (pairs_in_leaf a) n (leaves_of a) fore rear all
 
     pub thin_same : (len : ℕ) → filter (λ p. test p.0) (pairs_of (thinned len)) ≡ filter (λ p. test p.0) (pairs_of a)
     thin_same len =

@@ -16,7 +16,7 @@ use Rattle.tree_index.specs.Cursor.{before_start}
 use Rattle.tree_index.specs.Walk.{pairs_before, rest, pairs_in_leaf, starts_at, ends_at, IsOwnLeaf}
 use Rattle.tree_index.proofs.ShapeLemmas.{held_under}
 use Rattle.tree_index.proofs.ChainLemmas.{times_counted, times_append, first_times}
-use Rattle.tree_index.proofs.RowLemmas.{Own, starts, ends, reach, neighbours, parting, gathered_parted, before_parted, linked_there, last_or, last_joined, first_own, last_own}
+use Rattle.tree_index.proofs.RowLemmas.{Own, starts, ends, reach, neighbours, parting, joined_over_parted, before_parted, linked_there, last_or, last_joined, first_own, last_own}
 use Rattle.tree_index.proofs.WayLemmas.{some_same, around}
 use Rattle.tree_index.proofs.NodeLemmas.{leaf_content}
 use Rattle.tree_index.proofs.InsertionPointLemmas.{bound_at, bound_middle}
@@ -148,7 +148,7 @@ module _ {K V : Type 0} (cmp : K → K → Ordering) (a : ArenaContent K V) wher
 pub leaf_counted : {K V : Type 0} (cmp : K → K → Ordering) (a : Arenas K V) (s : IsSound cmp a) (n : ℕ) (own : IsOwnLeaf a (Some n)) (l : Leaf K V) → get a.leaves n ≡ Some l → length l.array.pairs ≤ a.len
 leaf_counted cmp a s n own l here =
     let p = parting n (leaves_of a) own.1 in
-    let whole : length (pairs_of a) ≡ length (joined_over (pairs_in_leaf a) p.fore) + (length (pairs_in_leaf a n) + length (joined_over (pairs_in_leaf a) p.rear)) = ap length (all_held a ∙ gathered_parted (pairs_in_leaf a) n (leaves_of a) p.fore p.rear p.all) ∙ simp length-append in
+    let whole : length (pairs_of a) ≡ length (joined_over (pairs_in_leaf a) p.fore) + (length (pairs_in_leaf a n) + length (joined_over (pairs_in_leaf a) p.rear)) = ap length (all_held a ∙ joined_over_parted (pairs_in_leaf a) n (leaves_of a) p.fore p.rear p.all) ∙ simp length-append in
     let same : length (pairs_in_leaf a n) ≡ length l.array.pairs = ap length (held_is a n l here) in
     omega (arith, s.count, whole, same)
 

@@ -29,9 +29,9 @@ use Rattle.tree_index.proofs.ShapeLemmas.{all_weaken}
 use Rattle.tree_index.proofs.LeafLemmas.{filter_none}
 use Rattle.tree_index.proofs.WayLemmas.{some_same, Around, around, leaf_there}
 use Rattle.tree_index.proofs.ChainLemmas.{times_append, first_times}
-use Rattle.tree_index.proofs.RowLemmas.{parting, before_parted, gathered_parted, linked_at}
+use Rattle.tree_index.proofs.RowLemmas.{parting, before_parted, joined_over_parted, linked_at}
 use Rattle.tree_index.proofs.RisingLemmas.{to_keys}
-use Rattle.tree_index.proofs.ThinLemmas.{gathered_kept}
+use Rattle.tree_index.proofs.ThinLemmas.{joined_over_kept}
 use Rattle.tree_index.proofs.WalkLemmas.{all_held, held_is, once, stands_of}
 use Rattle.tree_index.proofs.RemovalLemmas.{past_trans, first_split}
 
@@ -94,7 +94,7 @@ module _ {K V : Type 0} (P : K → Type 0) where
   pub leaf_keys : (f : ℕ → List (K × V)) (n : ℕ) (ns : List ℕ) → times n ns ≢ 0 → AllKeys P (joined_over f ns) → AllKeys P (f n)
   leaf_keys f n ns h a =
       let p = parting n ns h in
-      (part_of (f n) (joined_over f p.rear) (part_of (joined_over f p.fore) (f n ++ joined_over f p.rear) (subst (AllKeys P) (gathered_parted f n ns p.fore p.rear p.all) a)).1).0
+      (part_of (f n) (joined_over f p.rear) (part_of (joined_over f p.fore) (f n ++ joined_over f p.rear) (subst (AllKeys P) (joined_over_parted f n ns p.fore p.rear p.all) a)).1).0
 
 -- what stands behind the leaf on the way to a key
 module _ {K V : Type 0} (cmp : K → K → Ordering) (o : IsTotalOrder cmp) (key : K) (a : Arenas K V) (s : IsSound cmp a) (planted : a.height ≢ 0) where
@@ -108,7 +108,7 @@ module _ {K V : Type 0} (cmp : K → K → Ordering) (o : IsTotalOrder cmp) (key
   rights_hold =
       let r = way_around in
       let at = leaf_on_way cmp key a in
-      let all : joined_over (pairs_in_leaf a) r.lefts ++ (pairs_in_leaf a at ++ joined_over (pairs_in_leaf a) r.rights) ≡ joined_over (pairs_in_leaf a) r.lefts ++ (way_leaf.0.pairs ++ r.back) = sym (gathered_parted (pairs_in_leaf a) at (leaves_of a) r.lefts r.rights r.order) ∙ sym (all_held a) ∙ r.pairs ∙ ap (λ ps. ps ++ (way_leaf.0.pairs ++ r.back)) r.fore in
+      let all : joined_over (pairs_in_leaf a) r.lefts ++ (pairs_in_leaf a at ++ joined_over (pairs_in_leaf a) r.rights) ≡ joined_over (pairs_in_leaf a) r.lefts ++ (way_leaf.0.pairs ++ r.back) = sym (joined_over_parted (pairs_in_leaf a) at (leaves_of a) r.lefts r.rights r.order) ∙ sym (all_held a) ∙ r.pairs ∙ ap (λ ps. ps ++ (way_leaf.0.pairs ++ r.back)) r.fore in
       let same : pairs_in_leaf a at ≡ way_leaf.0.pairs = ap leaf_pairs way_leaf.1 in
       append_cancel_left way_leaf.0.pairs (joined_over (pairs_in_leaf a) r.rights) r.back (ap (λ ps. ps ++ joined_over (pairs_in_leaf a) r.rights) (sym same) ∙ append_cancel_left (joined_over (pairs_in_leaf a) r.lefts) (pairs_in_leaf a at ++ joined_over (pairs_in_leaf a) r.rights) (way_leaf.0.pairs ++ r.back) all)
 
@@ -209,7 +209,7 @@ module _ {K V : Type 0} (cmp : K → K → Ordering) (lower upper : Bound K) (a 
           rear = without.rear;
           all = without.order;
           first = next_is;
-          keys = subst (AllKeys P) (sym (gathered_kept (pairs_in_leaf a) (pairs_in_leaf b) n without.fore without.kept out)) (subst (λ ns. AllKeys P (joined_over (pairs_in_leaf a) ns)) (sym same) passed.keys);
+          keys = subst (AllKeys P) (sym (joined_over_kept (pairs_in_leaf a) (pairs_in_leaf b) n without.fore without.kept out)) (subst (λ ns. AllKeys P (joined_over (pairs_in_leaf a) ns)) (sym same) passed.keys);
         }
 
 -- what a leaf names behind itself is the first of those behind it

@@ -4,7 +4,7 @@ use Rattle.tree_index.specs.Content.{pairs_of}
 use Rattle.tree_index.specs.Walk.{position, IsPosition}
 use Rattle.tree_index.proofs.EndLemmas.{spot_pair}
 use Rattle.tree_index.specs.Copy.{place, IsPositionOrEnd}
-use Rattle.tree_index.proofs.EqualLemmas.{place_of_answer, place_is, spots_equal}
+use Rattle.tree_index.proofs.EqualLemmas.{end_position_answer, place_is, spots_equal}
 use Rattle.tree_index.proofs.arenas.Arenas.equals.Goals as goal
 
 pub returns-then-not-are_equal : goal.returns-then-not-are_equal
@@ -29,7 +29,7 @@ loop-left-smaller g c =
     let x = c.in-Some-Some.a in
     let is_x : IsPosition a x = subst (IsPositionOrEnd a) c.in-Some-Some.is-0 c.loop-left.invariant.left in
     let at : place a c.loop-left.left ≡ position a x = ap (place a) c.in-Some-Some.is-0 in
-    let next = place_of_answer a (position a x + 1) c.behind-left.result c.behind-left.ensures.none c.behind-left.ensures.there in
+    let next = end_position_answer a (position a x + 1) c.behind-left.result c.behind-left.ensures.none c.behind-left.ensures.there in
     let within = (spot_pair g.K.Ord.cmp a c.requires.first x is_x).1 in
     omega (arith, at, next, within)
 
@@ -46,8 +46,8 @@ loop-left-preserved g c =
     let together : position a x ≡ position b y = sym at ∙ c.loop-left.invariant.together ∙ ap (place b) c.in-Some-Some.is-1 in
     let step = spots_equal g.K.Ord.cmp E a b c.requires.first c.requires.second x y is_x is_y together _ _ c.pair.ensures c.pair-in-Some-Some.ensures in
     let same = subst (λ (n : ℕ). pointwise E (drop n (pairs_of a)) (drop n (pairs_of b)) ≡ pointwise E (pairs_of a) (pairs_of b)) at c.loop-left.invariant.same in
-    let next = place_of_answer a (position a x + 1) c.behind-left.result c.behind-left.ensures.none c.behind-left.ensures.there in
-    let other = place_of_answer b (position b y + 1) c.behind-right.result c.behind-right.ensures.none c.behind-right.ensures.there in
+    let next = end_position_answer a (position a x + 1) c.behind-left.result c.behind-left.ensures.none c.behind-left.ensures.there in
+    let other = end_position_answer b (position b y + 1) c.behind-right.result c.behind-right.ensures.none c.behind-right.ensures.there in
     let equal = sym c.are_equal.ensures ∙ c.if-not-are_equal.false in
     record {
       left = place_is a c.behind-left.result c.behind-left.ensures.spot;
