@@ -80,7 +80,7 @@ IsReadable w None = Unit {0}
 IsReadable w (Some i) = (i < length w.states) × (is_used (status_at w i) ≡ true)
 
 -- the sizes that a place may have
-pub record ArePlaceSizes (n : Sizes) : Type 0 where
+pub record IsSized (n : Sizes) : Type 0 where
   pub some : 1 ≤ n.participants
   pub participants : n.participants ≤ 1073741824
   pub slots : n.slots ≤ 1073741824

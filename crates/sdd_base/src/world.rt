@@ -6,7 +6,7 @@
 ghost use Rattle.std.specs.Prelude.{◌≡◌, ◌⊎◌, ℕ, IsOk, IfOk, IfErr, IfNone, IfSome, IsTrue, IsFalse, ◌↔◌, Some, None, is_some, sum_by, length};
 ghost use Rattle.sdd_base.specs.State.{fresh, in_use, value_at, vacancy, IsUnused};
 ghost use Rattle.sdd_base.specs.Steps.{AllSwept, NoneOpen};
-ghost use Rattle.sdd_base.specs.Place.{IsPlace, IsOpen, IsReadable, ArePlaceSizes};
+ghost use Rattle.sdd_base.specs.Place.{IsPlace, IsOpen, IsReadable, IsSized};
 ghost use Rattle.sdd_base.specs.Tokens.{loaded_slot, ptr_slot};
 
 use crate::cell::AtomicShared;
@@ -57,7 +57,7 @@ impl<T, J: Deferred> World<T, J> {
     /// A place without items, whose participants are named by 0, 1, .. . It takes all the memory that the place will
     /// ever use; without memory nothing is kept.
     pub fn new(alloc: Global, sizes: Sizes) -> Result<World<T, J>, AllocError>
-        requires { ArePlaceSizes sizes }
+        requires { IsSized sizes }
         ensures { IfOk result (λ w. w ≡ fresh sizes) }
     {
         Ok(World {
