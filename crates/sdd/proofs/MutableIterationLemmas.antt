@@ -293,7 +293,7 @@ module _ {T : Type 0} (w : State (LinkedEntry T)) where
   -- what was found can be lent
   module _ (c : ℕ) (cs ds : List ℕ) (es : List (Entry (LinkedEntry T))) (f : Finds w c ds es) where
     pub found_slot : slot_in w c ≡ f.first.slot
-    found_slot = ap (λ (k : Cell). Rattle.sdd_base.specs.Filled.slot_of k) f.here
+    found_slot = ap (λ (k : Cell). Rattle.sdd_base.specs.Filled.cell_slot k) f.here
 
     pub found_filled : IsFilled w c
     found_filled = record { inside = inside_cells w.cells c (Some f.first.slot) tag.None f.here; item = f.first.slot; tag = tag.None; is = f.here; shared = item_shared entry_link w f.first f.item }

@@ -65,11 +65,11 @@ module _ (s : State) (p : ℕ) (x : Participant) (at : At s.participants p x) wh
   read = participant_read s p x at
 
   pub reads : x.phase ≡ Idle → Steps s (ReadEpoch p) (with_participant s p (record x { phase = HasRead s.count }))
-  reads is = (participant_passes is_idle s p x at (ap Rattle.sdd_steps.specs.Steps.idle is), λ j. with_participant s p (record (sym read j) { phase = HasRead s.count }))
+  reads is = (participant_passes is_idle s p x at (ap Rattle.sdd_steps.specs.Steps.is_idle_phase is), λ j. with_participant s p (record (sym read j) { phase = HasRead s.count }))
 
   pub publishes : (e : ℕ) → x.phase ≡ HasRead e → Steps s (Publish p) (with_participant s p (record x { phase = Opened e; reread = None; looked = []; loaded = [] }))
   publishes e is = (
-    participant_passes is_reading s p x at (ap Rattle.sdd_steps.specs.Steps.reading is),
+    participant_passes is_reading s p x at (ap Rattle.sdd_steps.specs.Steps.is_reading_phase is),
     (λ j. with_participant s p (record x { phase = Opened (ap count_of (sym is) j); reread = None; looked = []; loaded = [] }))
         ∙ (λ j. with_participant s p (record (sym read j) { phase = Opened (count_of (sym read j).phase); reread = None; looked = []; loaded = [] })),
   )
@@ -106,7 +106,7 @@ module _ (s : State) (p : ℕ) (x : Participant) (at : At s.participants p x) wh
   -- nothing is due to it
   pub ends : x.phase ≡ Idle → ((i : ℕ) (it : Item) → At s.items i it → it.state ≢ Due p) → Steps s (End p) (record s { participants = set s.participants p (record x { found = 0 }); items = map (left_by p) s.items })
   ends is none = (
-    and_true (participant_is is_idle s p) (none_due p s.items) (participant_passes is_idle s p x at (ap Rattle.sdd_steps.specs.Steps.idle is)) (none_are_due p s.items none),
+    and_true (participant_is is_idle s p) (none_due p s.items) (participant_passes is_idle s p x at (ap Rattle.sdd_steps.specs.Steps.is_idle_phase is)) (none_are_due p s.items none),
     λ j. record s { participants = set s.participants p (record (sym read j) { found = 0 }); items = map (left_by p) s.items },
   )
 
