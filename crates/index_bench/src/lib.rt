@@ -9,7 +9,7 @@
 ghost use Rattle.std.specs.Prelude.{◌≡◌};
 ghost use Rattle.std.specs.Option.{unwrap_or};
 ghost use Rattle.std.specs.Ordering.{nat_cmp};
-ghost use Rattle.leaf_array.specs.Pairs.{value_at};
+ghost use Rattle.leaf_array.specs.Pairs.{value_of_key};
 ghost use Rattle.index_bench.specs.Sums.{sum_found};
 
 use std::alloc::Global;
@@ -242,7 +242,7 @@ fn scan<'t>(tree: &'t TreeIndex<u64, u64>, from: &'t u64, sum: u64) -> u64 {
 /// The value at a key, 0 where there is none.
 #[inline(always)]
 fn found(tree: &TreeIndex<u64, u64>, key: &u64) -> u64
-    ensures { result ≡ unwrap_or (value_at nat_cmp key.now tree.now.pairs) 0 }
+    ensures { result ≡ unwrap_or (value_of_key nat_cmp key.now tree.now.pairs) 0 }
 {
     match tree.peek(key) {
         Some(value) => *value,

@@ -4,10 +4,10 @@ use Rattle.std.proofs.lemmas.List.{take_all, length-drop}
 use Rattle.std.proofs.Math.Seq.{take-add}
 use Rattle.std.specs.Io.KnownBytes.{Consumes, Appends, Keeps, IsAtEnd}
 use Rattle.std.specs.List.{AllByRecursion}
-use Rattle.index_script.specs.Lines.{Lacks, joined, Begins, ended, kept}
-use Rattle.index_script.specs.Script.{Script, Acts, Outputs}
-use Rattle.index_script.specs.Runs.{Answered, Breaks, Ends, StopsReading, StopsWriting, StopsForMemory}
-use Rattle.index_script.specs.Inside.{Answers, Falters, Taken, Feeds, BreaksOff, FeedBreaks, StopsShort, FeedStops, Serves, Finishes}
+use Rattle.index_script.specs.Lines.{Lacks, joined_lines, Begins, ended, kept}
+use Rattle.index_script.specs.Script.{Script, ActsOnLine, Outputs}
+use Rattle.index_script.specs.Runs.{Answered, Breaks, RunsToEnd, StopsReading, StopsWriting, StopsForMemory}
+use Rattle.index_script.specs.Inside.{Answers, Falters, Taken, Feeds, BreaksOff, FeedBreaks, StopsShort, FeedStops, TakesAllRead, Finishes}
 use Rattle.index_script.proofs.NumberLemmas.{kept_some}
 
 pub Appends-trans : (a b c : Option (List ℕ)) (xs ys : List ℕ) → Appends a b xs → Appends b c ys → Appends a c (xs ++ ys)
@@ -43,11 +43,11 @@ Appends-next a b c bytes i n p q =
     subst (Appends a c) (sym (take-add i n bytes)) (Appends-trans a b c (take i bytes) (take n (drop i bytes)) p (subst (λ l. Appends b c (take n l)) rest q))
 
 -- lines: more bytes behind them, and one line more
-joined-more : (lines : List (List ℕ)) (rest more : List ℕ) → joined lines rest ++ more ≡ joined lines (rest ++ more)
+joined-more : (lines : List (List ℕ)) (rest more : List ℕ) → joined_lines lines rest ++ more ≡ joined_lines lines (rest ++ more)
 joined-more [] rest more = refl
-joined-more (l ∷ ls) rest more = append_assoc l (10 ∷ joined ls rest) more ∙ ap (λ r. l ++ 10 ∷ r) (joined-more ls rest more)
+joined-more (l ∷ ls) rest more = append_assoc l (10 ∷ joined_lines ls rest) more ∙ ap (λ r. l ++ 10 ∷ r) (joined-more ls rest more)
 
-joined-line : (lines : List (List ℕ)) (line rest : List ℕ) → joined lines (line ++ 10 ∷ rest) ≡ joined (lines ++ line ∷ []) rest
+joined-line : (lines : List (List ℕ)) (line rest : List ℕ) → joined_lines lines (line ++ 10 ∷ rest) ≡ joined_lines (lines ++ line ∷ []) rest
 joined-line [] line rest = refl
 joined-line (l ∷ ls) line rest = ap (λ r. l ++ 10 ∷ r) (joined-line ls line rest)
 
@@ -76,9 +76,9 @@ ended-more lines (b ∷ bs) e = refl
 
 module _ (width : ℕ) where
   -- one line more has its reply behind the others
-  Outputs-push : (old mid new : Script) (lines : List (List ℕ)) (output line text : List ℕ) → Outputs width old lines output mid → Acts width mid line text new → Outputs width old (lines ++ line ∷ []) (output ++ text) new
+  Outputs-push : (old mid new : Script) (lines : List (List ℕ)) (output line text : List ℕ) → Outputs width old lines output mid → ActsOnLine width mid line text new → Outputs width old (lines ++ line ∷ []) (output ++ text) new
   Outputs-push old mid new [] output line text h acts =
-      (new, text, [], ap (λ o. o ++ text) h.0 ∙ sym (append-nil text), subst (λ m. Acts width m line text new) h.1 acts, (refl, refl))
+      (new, text, [], ap (λ o. o ++ text) h.0 ∙ sym (append-nil text), subst (λ m. ActsOnLine width m line text new) h.1 acts, (refl, refl))
   Outputs-push old mid new (l ∷ lines) output line text h acts =
       (h.0, h.1, h.2 ++ text, ap (λ o. o ++ text) h.3 ∙ append_assoc h.1 h.2 text, h.4, Outputs-push h.0 mid new lines h.2 line text h.5 acts)
 
@@ -131,7 +131,7 @@ module _ (width : ℕ) where
       begins = record {
         whole =
             (Begins-more input t.lines t.line (part ++ 10 ∷ []) t.splits.begins).whole
-            ∙ ap (joined t.lines) (sym (append_assoc t.line part (10 ∷ [])))
+            ∙ ap (joined_lines t.lines) (sym (append_assoc t.line part (10 ∷ [])))
             ∙ joined-line t.lines (t.line ++ part) [];
         unbroken = unbroken-push t.lines (t.line ++ part) t.splits.begins.unbroken (Lacks-append 10 t.line part t.splits.rest lacks);
       };
@@ -185,7 +185,7 @@ module _ (width : ℕ) where
       subst (λ i. StopsShort width start i before w'') (append_assoc input done rest ∙ ap (λ r. input ++ r) (sym p))
       (Taken-stops start (input ++ done) rest before w' w'' begun mid (fed start input before t) kept)
 
-  module _ (start now : Script) (r r' r'' w w' begun : Option (List ℕ)) (s : Serves width start r r' w w' begun now) where
+  module _ (start now : Script) (r r' r'' w w' begun : Option (List ℕ)) (s : TakesAllRead width start r r' w w' begun now) where
     -- a read fails
     pub serves-fails : Keeps r' r'' → StopsReading width start r r'' w w'
     serves-fails kept = record {
@@ -217,7 +217,7 @@ module _ (width : ℕ) where
     same-line e = sym (kept_some [] s.taken.line (sym e ∙ s.taken.keeps)).0
 
     -- the input ends behind an LF, or with a line that is answered
-    pub serves-ends : (w'' : Option (List ℕ)) (new : Script) → Consumes r' r'' [] → IsAtEnd r'' → Finishes width now begun w' w'' new → Ends width start r r'' w w''
+    pub serves-ends : (w'' : Option (List ℕ)) (new : Script) → Consumes r' r'' [] → IsAtEnd r'' → Finishes width now begun w' w'' new → RunsToEnd width start r r'' w w''
     serves-ends w'' new none end (inl f) = record {
       input = s.input;
       lines = s.taken.lines;
@@ -265,7 +265,7 @@ module _ (width : ℕ) where
     }
 
     -- a piece is taken
-    pub serves-piece : (piece : List ℕ) (w'' begun' : Option (List ℕ)) (new : Script) → Consumes r' r'' piece → Feeds width now begun piece w' w'' begun' new → Serves width start r r'' w w'' begun' new
+    pub serves-piece : (piece : List ℕ) (w'' begun' : Option (List ℕ)) (new : Script) → Consumes r' r'' piece → Feeds width now begun piece w' w'' begun' new → TakesAllRead width start r r'' w w'' begun' new
     serves-piece piece w'' begun' new read fed = record {
       input = s.input ++ piece;
       read = Consumes-trans r r' r'' s.input piece s.read read;
@@ -300,7 +300,7 @@ module _ (width : ℕ) where
         }
 
   -- before the first read
-  pub serves-none : (start : Script) (r w begun : Option (List ℕ)) → begun ≡ kept [] → Serves width start r r w w begun start
+  pub serves-none : (start : Script) (r w begun : Option (List ℕ)) → begun ≡ kept [] → TakesAllRead width start r r w w begun start
   serves-none start r w begun e = record {
     input = [];
     read = Consumes-same r;

@@ -11,7 +11,7 @@ use Rattle.index_script.specs.Lines.{Lacks, kept}
 use Rattle.std.specs.Prelude.{MatchOption, Option, IfSome, IfNone}
 use Rattle.std.specs.Borrow.{Bor}
 use Rattle.std.specs.List.{AllByRecursion}
-use Rattle.index_script.specs.Requests.{IsNumber, HasFirst, AreTwo, IsUnknown, Command, Insert, Upsert, Remove, Delete, Clear, Discard, Commit, Open, Close, Get, Has, Range, Near, Audit, Len, Number, Reclaim, Slots, name_of, Form, Alone, WithNumber, WithReads, WithTwo, WithValue, WithBounds, WithRange, MissesWords, form_of, Fits, HasWords, IsUnfit, Asks, Reads}
+use Rattle.index_script.specs.Requests.{IsNumber, HasFirst, AreTwo, MissesCommand, Command, Insert, Upsert, Remove, Delete, Clear, Discard, Commit, Open, Close, Get, Has, Range, Near, Audit, Len, Number, Reclaim, Slots, name_of, Form, Alone, WithNumber, WithReads, WithTwo, WithValue, WithBounds, WithRange, MissesWords, form_of, FitsForm, HasWords, IsUnfit, Asks, LineAsksFor}
 use Rattle.index_script.specs.declared.request.Request.{Request}
 use Rattle.index_script.specs.declared.request.Request.TheVariants as requests
 use Rattle.index_script.specs.declared.request.Fault.{Fault}
@@ -115,11 +115,11 @@ name_lacks Reclaim = search rules
 name_lacks Slots = search rules
 
 -- the first of several words is no name
-pub unknown_first : (line word rest : List ℕ) → (line ≡ word ++ 32 ∷ rest) × Lacks 32 word → ((command : Command) → word ≡ name_of command → ⊥) → IsUnknown line
+pub unknown_first : (line word rest : List ℕ) → (line ≡ word ++ 32 ∷ rest) × Lacks 32 word → ((command : Command) → word ≡ name_of command → ⊥) → MissesCommand line
 unknown_first line word rest cut others command h = first_of line word rest (name_of command) cut (name_lacks command) (others command) h
 
 -- the only word is no name
-pub unknown_only : (word : List ℕ) → Lacks 32 word → ((command : Command) → word ≡ name_of command → ⊥) → IsUnknown word
+pub unknown_only : (word : List ℕ) → Lacks 32 word → ((command : Command) → word ≡ name_of command → ⊥) → MissesCommand word
 unknown_only word lacks others command h = others command (only_is word (name_of command) lacks h)
 
 -- what stands behind a word
@@ -187,14 +187,14 @@ alone_ones = Clear ∷ Discard ∷ Reclaim ∷ Slots ∷ []
 pub only_of_many : (line word rest : List ℕ) → (line ≡ word ++ 32 ∷ rest) × Lacks 32 word → IsOneOf alone_ones word → MissesWords line
 only_of_many line word rest = too_many alone_ones line word rest (refl, (refl, (refl, (refl, tt))))
 
-fits_behind : (form : Form) (word rest : List ℕ) → HasWords form word (word ++ 32 ∷ rest) → Fits form rest
+fits_behind : (form : Form) (word rest : List ℕ) → HasWords form word (word ++ 32 ∷ rest) → FitsForm form rest
 fits_behind Alone word rest h = absurd (omega (arith, ap length h, length-append word (32 ∷ rest)))
-fits_behind WithNumber word rest h = subst (Fits WithNumber) (sym (behind_same word rest h.0 h.1)) h.2
-fits_behind WithReads word rest h = subst (Fits WithReads) (sym (behind_same word rest h.0 h.1)) h.2
-fits_behind WithTwo word rest h = subst (Fits WithTwo) (sym (behind_same word rest h.0 h.1)) h.2
-fits_behind WithValue word rest h = subst (Fits WithValue) (sym (behind_same word rest h.0 h.1)) h.2
-fits_behind WithBounds word rest h = subst (Fits WithBounds) (sym (behind_same word rest h.0 h.1)) h.2
-fits_behind WithRange word rest h = subst (Fits WithRange) (sym (behind_same word rest h.0 h.1)) h.2
+fits_behind WithNumber word rest h = subst (FitsForm WithNumber) (sym (behind_same word rest h.0 h.1)) h.2
+fits_behind WithReads word rest h = subst (FitsForm WithReads) (sym (behind_same word rest h.0 h.1)) h.2
+fits_behind WithTwo word rest h = subst (FitsForm WithTwo) (sym (behind_same word rest h.0 h.1)) h.2
+fits_behind WithValue word rest h = subst (FitsForm WithValue) (sym (behind_same word rest h.0 h.1)) h.2
+fits_behind WithBounds word rest h = subst (FitsForm WithBounds) (sym (behind_same word rest h.0 h.1)) h.2
+fits_behind WithRange word rest h = subst (FitsForm WithRange) (sym (behind_same word rest h.0 h.1)) h.2
 
 -- what stands behind the first word isn't what belongs there
 pub unfit : (command : Command) (rest : List ℕ) (fault : Fault) → IsUnfit (form_of command) rest fault → Asks (name_of command ++ 32 ∷ rest) (requests.Faulty fault)
@@ -219,7 +219,7 @@ no_reads rest faults.Session other why = why
 no_reads rest faults.Busy other why = why
 
 -- one word where more are wanted
-pub no_value : (rest : List ℕ) → Lacks 32 rest → Fits WithValue rest → ⊥
+pub no_value : (rest : List ℕ) → Lacks 32 rest → FitsForm WithValue rest → ⊥
 no_value rest lacks h = not_lacking 32 h.0 h.1 (subst (Lacks 32) h.2.text lacks)
 
 pub no_second : (rest one two : List ℕ) → Lacks 32 rest → AreTwo rest one two → ⊥
@@ -232,11 +232,11 @@ not_two rest one more a b first second cut again w =
     not_lacking 32 a b (subst (Lacks 32) (sym same.1 ∙ again) w.second)
 
 -- one word where three are wanted
-pub no_third : (rest : List ℕ) → Lacks 32 rest → Fits WithRange rest → ⊥
+pub no_third : (rest : List ℕ) → Lacks 32 rest → FitsForm WithRange rest → ⊥
 no_third rest lacks h = not_lacking 32 h.0 (h.1 ++ 32 ∷ h.2) (subst (Lacks 32) h.3.text lacks)
 
 -- not two behind the first
-pub not_three : (rest one behind : List ℕ) → (rest ≡ one ++ 32 ∷ behind) × Lacks 32 one → ((two three : List ℕ) → AreTwo behind two three → ⊥) → Fits WithRange rest → ⊥
+pub not_three : (rest one behind : List ℕ) → (rest ≡ one ++ 32 ∷ behind) × Lacks 32 one → ((two three : List ℕ) → AreTwo behind two three → ⊥) → FitsForm WithRange rest → ⊥
 not_three rest one behind cut none h =
     let same = parts_unique 32 one h.0 behind (h.1 ++ 32 ∷ h.2) cut.1 h.3.first (sym cut.0 ∙ h.3.text) in
     none h.1 h.2 (record { text = same.1; first = h.3.second; second = h.3.third })
@@ -251,7 +251,7 @@ mark_none mark bs None h = h
 mark_none mark bs (Some x) h = tt
 
 -- a text asks for what the line asks for, if it isn't too long
-pub read_text : (line : List ℕ) (request : Request) → length line ≤ 65536 → IsUtf8 line → Asks line request → Reads line request
+pub read_text : (line : List ℕ) (request : Request) → length line ≤ 65536 → IsUtf8 line → Asks line request → LineAsksFor line request
 read_text line (requests.Insert key value) short text asks = (short, text, asks)
 read_text line (requests.Upsert key value) short text asks = (short, text, asks)
 read_text line (requests.Remove key) short text asks = (short, text, asks)

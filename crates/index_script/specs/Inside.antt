@@ -2,8 +2,8 @@
 use Rattle.std.specs.Prelude.{◌≡◌, ◌≢◌, ℕ, ◌⊎◌, Option, List, [], ◌++◌, take}
 use Rattle.std.specs.Io.KnownBytes.{Consumes, Appends}
 use Rattle.index_script.specs.Lines.{Begins, Splits, kept}
-use Rattle.index_script.specs.Script.{Script, Acts}
-use Rattle.index_script.specs.Runs.{Answered, Breaks, IsNext}
+use Rattle.index_script.specs.Script.{Script, ActsOnLine}
+use Rattle.index_script.specs.Runs.{Answered, Breaks, IsNextLine}
 use Rattle.ordered_index.specs.declared.play.DeskCall.{DeskCall}
 use Rattle.ordered_index.specs.declared.play.DeskCall.TheVariants as calls
 use Rattle.ordered_index.specs.declared.play.DeskReply.{DeskReply}
@@ -15,17 +15,17 @@ IsNoCommit (calls.Commit on writes) = ⊥
 IsNoCommit call = Unit {0}
 
 -- the writes that a reply to a commit gives back; else those that are staged
-abbrev pub given_back : DeskReply ℕ (List ℕ) → List (Write ℕ (List ℕ)) → List (Write ℕ (List ℕ))
-given_back (replies.Refused refused) staged = refused.writes.items
-given_back (replies.NoSession back) staged = back.items
-given_back reply staged = staged
+abbrev pub writes_given_back : DeskReply ℕ (List ℕ) → List (Write ℕ (List ℕ)) → List (Write ℕ (List ℕ))
+writes_given_back (replies.Refused refused) staged = refused.writes.items
+writes_given_back (replies.NoSession back) staged = back.items
+writes_given_back reply staged = staged
 
 -- on an index whose segments have so many pairs at most
 module _ (width : ℕ) where
   -- a line is acted on, and its reply written
   pub record Answers (old : Script) (line : List ℕ) (writer writer' : Option (List ℕ)) (new : Script) : Type 0 where
     pub text : List ℕ
-    pub acts : Acts width old line text new
+    pub acts : ActsOnLine width old line text new
     pub written : Appends writer writer' text
 
   -- a line is acted on, and a beginning of its reply written
@@ -33,7 +33,7 @@ module _ (width : ℕ) where
     pub text : List ℕ
     pub n : ℕ
     pub new : Script
-    pub acts : Acts width old line text new
+    pub acts : ActsOnLine width old line text new
     pub written : Appends writer writer' (take n text)
 
   -- the input was taken: its complete lines are answered, and its begun line is kept
@@ -55,7 +55,7 @@ module _ (width : ℕ) where
     pub rest : List ℕ
     pub line : List ℕ
     pub begins : Begins input lines rest
-    pub next : IsNext line rest
+    pub next : IsNextLine line rest
     pub breaks : Breaks width start lines line before writer
 
   abbrev pub FeedBreaks : Script → Option (List ℕ) → List ℕ → Option (List ℕ) → Option (List ℕ) → Type 0
@@ -75,7 +75,7 @@ module _ (width : ℕ) where
       (start : Script) (input : List ℕ) (before : Option (List ℕ)) → Taken start input before writer begun old → StopsShort start (input ++ piece) before writer'
 
   -- all that was read was taken
-  pub record Serves (start : Script) (reader reader' before writer : Option (List ℕ)) (begun : Option (List ℕ)) (now : Script) : Type 0 where
+  pub record TakesAllRead (start : Script) (reader reader' before writer : Option (List ℕ)) (begun : Option (List ℕ)) (now : Script) : Type 0 where
     pub input : List ℕ
     pub read : Consumes reader reader' input
     pub taken : Taken start input before writer begun now

@@ -7,13 +7,13 @@ abbrev pub Lacks : ℕ → List ℕ → Type 0
 Lacks byte bytes = AllByRecursion (λ b. b ≢ byte) bytes
 
 -- these lines, each with its LF, and what comes after them
-abbrev pub joined : List (List ℕ) → List ℕ → List ℕ
-joined [] rest = rest
-joined (line ∷ lines) rest = line ++ 10 ∷ joined lines rest
+abbrev pub joined_lines : List (List ℕ) → List ℕ → List ℕ
+joined_lines [] rest = rest
+joined_lines (line ∷ lines) rest = line ++ 10 ∷ joined_lines lines rest
 
 -- the input begins with these lines, each ended by its LF, and goes on with the rest
 pub record Begins (input : List ℕ) (lines : List (List ℕ)) (rest : List ℕ) : Type 0 where
-  pub whole : input ≡ joined lines rest
+  pub whole : input ≡ joined_lines lines rest
   pub unbroken : AllByRecursion (Lacks 10) lines
 
 -- the input has these complete lines and no other; a line that isn't complete is begun behind them

@@ -126,14 +126,14 @@ form_of Reclaim = Alone
 form_of Slots = Alone
 
 -- what stands behind the first word and a space has as many words as belong there
-abbrev pub Fits : Form → List ℕ → Type 0
-Fits Alone rest = ⊥
-Fits WithNumber rest = Lacks 32 rest
-Fits WithReads rest = Lacks 32 rest
-Fits WithTwo rest = (one two : List ℕ) × AreTwo rest one two
-Fits WithValue rest = (one value : List ℕ) × AreSplit rest one value
-Fits WithBounds rest = (one two : List ℕ) × AreTwo rest one two
-Fits WithRange rest = (one two three : List ℕ) × AreThree rest one two three
+abbrev pub FitsForm : Form → List ℕ → Type 0
+FitsForm Alone rest = ⊥
+FitsForm WithNumber rest = Lacks 32 rest
+FitsForm WithReads rest = Lacks 32 rest
+FitsForm WithTwo rest = (one two : List ℕ) × AreTwo rest one two
+FitsForm WithValue rest = (one value : List ℕ) × AreSplit rest one value
+FitsForm WithBounds rest = (one two : List ℕ) × AreTwo rest one two
+FitsForm WithRange rest = (one two three : List ℕ) × AreThree rest one two three
 
 -- it has them, but one that is to be a number isn't
 abbrev pub HasNoNumber : Form → List ℕ → Type 0
@@ -153,11 +153,11 @@ HasNoBound form rest = ⊥
 -- the line has as many words as belong to its first
 abbrev pub HasWords : Form → List ℕ → List ℕ → Type 0
 HasWords Alone word line = line ≡ word
-HasWords form word line = (rest : List ℕ) × (line ≡ word ++ 32 ∷ rest) × Fits form rest
+HasWords form word line = (rest : List ℕ) × (line ≡ word ++ 32 ∷ rest) × FitsForm form rest
 
 -- no command begins with the first word of the line
-abbrev pub IsUnknown : List ℕ → Type 0
-IsUnknown line = (command : Command) → HasFirst (name_of command) line → ⊥
+abbrev pub MissesCommand : List ℕ → Type 0
+MissesCommand line = (command : Command) → HasFirst (name_of command) line → ⊥
 
 -- the line is known by its first word, but hasn't the words that belong to it
 abbrev pub MissesWords : List ℕ → Type 0
@@ -173,7 +173,7 @@ MissesBound line = (command : Command) × (rest : List ℕ) × (line ≡ name_of
 
 -- why what stands behind the first word isn't what belongs there
 abbrev pub IsUnfit : Form → List ℕ → Fault → Type 0
-IsUnfit form rest faults.Words = Fits form rest → ⊥
+IsUnfit form rest faults.Words = FitsForm form rest → ⊥
 IsUnfit form rest faults.Number = HasNoNumber form rest
 IsUnfit form rest faults.Bound = HasNoBound form rest
 IsUnfit form rest fault = ⊥
@@ -200,14 +200,14 @@ Asks line (requests.Len label) = (label < 2 ^ 64) × (line ≡ codes "len " ++ d
 Asks line (requests.Number label) = (label < 2 ^ 64) × (line ≡ codes "number " ++ decimal label)
 Asks line requests.Reclaim = line ≡ codes "reclaim"
 Asks line requests.Slots = line ≡ codes "slots"
-Asks line (requests.Faulty faults.Command) = IsUnknown line
+Asks line (requests.Faulty faults.Command) = MissesCommand line
 Asks line (requests.Faulty faults.Words) = MissesWords line
 Asks line (requests.Faulty faults.Number) = MissesNumber line
 Asks line (requests.Faulty faults.Bound) = MissesBound line
 Asks line (requests.Faulty fault) = ⊥
 
 -- a line asks for this: too long and not a text come before all else
-abbrev pub Reads : List ℕ → Request → Type 0
-Reads line (requests.Faulty faults.Long) = 65536 < length line
-Reads line (requests.Faulty faults.Text) = (length line ≤ 65536) × (IsUtf8 line → ⊥)
-Reads line request = (length line ≤ 65536) × IsUtf8 line × Asks line request
+abbrev pub LineAsksFor : List ℕ → Request → Type 0
+LineAsksFor line (requests.Faulty faults.Long) = 65536 < length line
+LineAsksFor line (requests.Faulty faults.Text) = (length line ≤ 65536) × (IsUtf8 line → ⊥)
+LineAsksFor line request = (length line ≤ 65536) × IsUtf8 line × Asks line request

@@ -4,11 +4,11 @@ use Rattle.std.specs.Io.KnownBytes.{Consumes, Appends, IsAtEnd}
 use Rattle.index_script.specs.declared.run.RunError.{RunError}
 use Rattle.index_script.specs.declared.run.RunError.TheVariants as errors
 use Rattle.index_script.specs.Lines.{Lacks, Begins, Splits, AreLines}
-use Rattle.index_script.specs.Script.{Script, Acts, Outputs}
+use Rattle.index_script.specs.Script.{Script, ActsOnLine, Outputs}
 
 -- this is the first line of what comes
-abbrev pub IsNext : List ℕ → List ℕ → Type 0
-IsNext line rest = Lacks 10 line × ((rest ≡ line) ⊎ ((more : List ℕ) × (rest ≡ line ++ 10 ∷ more)))
+abbrev pub IsNextLine : List ℕ → List ℕ → Type 0
+IsNextLine line rest = Lacks 10 line × ((rest ≡ line) ⊎ ((more : List ℕ) × (rest ≡ line ++ 10 ∷ more)))
 
 -- on an index whose segments have so many pairs at most
 module _ (width : ℕ) where
@@ -26,11 +26,11 @@ module _ (width : ℕ) where
     pub text : List ℕ
     pub n : ℕ
     pub outputs : Outputs width old lines output mid
-    pub acts : Acts width mid line text new
+    pub acts : ActsOnLine width mid line text new
     pub written : Appends writer writer' (output ++ take n text)
 
   -- all input was read, and each of its lines answered
-  pub record Ends (old : Script) (reader reader' writer writer' : Option (List ℕ)) : Type 0 where
+  pub record RunsToEnd (old : Script) (reader reader' writer writer' : Option (List ℕ)) : Type 0 where
     pub input : List ℕ
     pub lines : List (List ℕ)
     pub new : Script
@@ -57,7 +57,7 @@ module _ (width : ℕ) where
     pub line : List ℕ
     pub read : Consumes reader reader' input
     pub begins : Begins input lines rest
-    pub next : IsNext line rest
+    pub next : IsNextLine line rest
     pub breaks : Breaks old lines line writer writer'
 
   -- what was read begins with lines that were answered, and nothing was written for what follows

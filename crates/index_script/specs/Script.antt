@@ -10,7 +10,7 @@ use Rattle.ordered_index.specs.declared.play.DeskReply.{DeskReply}
 use Rattle.ordered_index.specs.declared.play.DeskReply.TheVariants as replies
 use Rattle.index_script.specs.declared.request.Request.{Request}
 use Rattle.index_script.specs.declared.request.Request.TheVariants as requests
-use Rattle.index_script.specs.Requests.{Reads}
+use Rattle.index_script.specs.Requests.{LineAsksFor}
 use Rattle.index_script.specs.Replies.{discarded_text, fault_text, staged_text, Prints}
 
 -- the index with its desk, the staged writes, and the number of the present line
@@ -20,8 +20,8 @@ pub record Script : Type 0 where
   pub line : ℕ
 
 -- before the first line: no commit, no session, nothing staged, and the one slot of the empty version in use
-abbrev pub fresh : ℕ → ℕ → Script
-fresh places slots = record {
+abbrev pub fresh_script : ℕ → ℕ → Script
+fresh_script places slots = record {
   machine = record {
     index = record { history = []; places = replicate places None; last = 2 ^ 64 - 1; slots = slots; used = 1; raises = 0 };
     desk = replicate places None;
@@ -83,11 +83,11 @@ module _ (width : ℕ) where
   Meets old (requests.Faulty fault) text new = (new ≡ old) × (text ≡ fault_text old.line fault)
 
   -- a line has this reply, and the script goes on so
-  abbrev pub Acts : Script → List ℕ → List ℕ → Script → Type 0
-  Acts old line text new = (request : Request) × Reads line request × Meets (at_next old) request text new
+  abbrev pub ActsOnLine : Script → List ℕ → List ℕ → Script → Type 0
+  ActsOnLine old line text new = (request : Request) × LineAsksFor line request × Meets (at_next old) request text new
 
   -- lines have this output, the reply of each behind that of the line before
   abbrev pub Outputs : Script → List (List ℕ) → List ℕ → Script → Type 0
   Outputs old [] output new = (output ≡ []) × (new ≡ old)
   Outputs old (line ∷ lines) output new =
-      (mid : Script) × (text : List ℕ) × (rest : List ℕ) × (output ≡ text ++ rest) × Acts old line text mid × Outputs mid lines rest new
+      (mid : Script) × (text : List ℕ) × (rest : List ℕ) × (output ≡ text ++ rest) × ActsOnLine old line text mid × Outputs mid lines rest new

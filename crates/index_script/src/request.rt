@@ -5,7 +5,7 @@ ghost use Rattle.std.specs.Fmt.{decimal};
 ghost use Rattle.std.specs.Option.{option_copied};
 ghost use Rattle.index_script.specs.Lines.{Lacks, kept};
 ghost use Rattle.index_script.specs.Replies.{word_of};
-ghost use Rattle.index_script.specs.Requests.{AreTwo, Asks, IsSmall, IsUnfit, Reads, WithBounds, WithNumber, WithRange, WithTwo, WithValue, bound_text};
+ghost use Rattle.index_script.specs.Requests.{AreTwo, Asks, IsSmall, IsUnfit, LineAsksFor, WithBounds, WithNumber, WithRange, WithTwo, WithValue, bound_text};
 
 use crate::words::{bound, number, split_word};
 use ordered_index::Text;
@@ -98,7 +98,7 @@ pub enum Request {
 
 /// What a line asks for, by its bytes, or by none where it is longer than it may be.
 pub fn read_line(alloc: Global, line: Option<&[u8]>) -> Result<Request, AllocError>
-    ensures { IfOk result (λ request. (whole : List ℕ) → option_copied line.entry ≡ kept whole → Reads whole request) }
+    ensures { IfOk result (λ request. (whole : List ℕ) → option_copied line.entry ≡ kept whole → LineAsksFor whole request) }
 {
     let Some(bytes) = line else {
         return Ok(Request::Faulty(Fault::Long));

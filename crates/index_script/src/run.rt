@@ -2,10 +2,10 @@
 
 ghost use Rattle.std.specs.Prelude.{◌≡◌, ◌+◌, ◌<◌, ◌≤◌, ◌^◌, ℕ, List, [], ◌++◌, IfErr, OnOk, OnErr, IsErrOf, length, take};
 ghost use Rattle.std.specs.Io.KnownBytes.{Consumes, Appends, IsAtEnd};
-ghost use Rattle.versions.specs.Sizes.{IsSized};
+ghost use Rattle.versions.specs.Sizes.{IsStoreSized};
 ghost use Rattle.index_script.specs.Lines.{kept};
-ghost use Rattle.index_script.specs.Script.{fresh};
-ghost use Rattle.index_script.specs.Runs.{Ends, StopsReading, StopsWriting, StopsForMemory, status_of, complaint_of};
+ghost use Rattle.index_script.specs.Script.{fresh_script};
+ghost use Rattle.index_script.specs.Runs.{RunsToEnd, StopsReading, StopsWriting, StopsForMemory, status_of, complaint_of};
 ghost use Rattle.index_script.specs.Inside.{Answers, Falters, Finishes, Feeds, FeedBreaks, FeedStops};
 
 use crate::line::{Begun, split_line};
@@ -52,11 +52,11 @@ pub fn run<const S: usize, R: Read, W: Write>(
     places: usize,
     slots: usize,
 ) -> Result<(), RunError>
-    requires { IsSized places slots S }
-    ensures done { OnOk result (Ends S (fresh places slots) (R.remaining reader.old) (R.remaining reader.new) (W.contents writer.old) (W.contents writer.new)) }
-    ensures read { IsErrOf result RunError.Read → StopsReading S (fresh places slots) (R.remaining reader.old) (R.remaining reader.new) (W.contents writer.old) (W.contents writer.new) }
-    ensures write { IsErrOf result RunError.Write → StopsWriting S (fresh places slots) (R.remaining reader.old) (R.remaining reader.new) (W.contents writer.old) (W.contents writer.new) }
-    ensures memory { IsErrOf result RunError.Memory → StopsForMemory S (fresh places slots) (R.remaining reader.old) (R.remaining reader.new) (W.contents writer.old) (W.contents writer.new) }
+    requires { IsStoreSized places slots S }
+    ensures done { OnOk result (RunsToEnd S (fresh_script places slots) (R.remaining reader.old) (R.remaining reader.new) (W.contents writer.old) (W.contents writer.new)) }
+    ensures read { IsErrOf result RunError.Read → StopsReading S (fresh_script places slots) (R.remaining reader.old) (R.remaining reader.new) (W.contents writer.old) (W.contents writer.new) }
+    ensures write { IsErrOf result RunError.Write → StopsWriting S (fresh_script places slots) (R.remaining reader.old) (R.remaining reader.new) (W.contents writer.old) (W.contents writer.new) }
+    ensures memory { IsErrOf result RunError.Memory → StopsForMemory S (fresh_script places slots) (R.remaining reader.old) (R.remaining reader.new) (W.contents writer.old) (W.contents writer.new) }
 {
     let Ok(mut script) = Script::<S>::new(alloc, places, slots) else {
         return Err(RunError::Memory);
@@ -74,7 +74,7 @@ fn serve<const S: usize, R: Read, W: Write>(
     writer: &mut W,
 ) -> Result<(), RunError>
     requires { script.old.line ≡ 0 }
-    ensures done { OnOk result (Ends S script.old (R.remaining reader.old) (R.remaining reader.new) (W.contents writer.old) (W.contents writer.new)) }
+    ensures done { OnOk result (RunsToEnd S script.old (R.remaining reader.old) (R.remaining reader.new) (W.contents writer.old) (W.contents writer.new)) }
     ensures read { IsErrOf result RunError.Read → StopsReading S script.old (R.remaining reader.old) (R.remaining reader.new) (W.contents writer.old) (W.contents writer.new) }
     ensures write { IsErrOf result RunError.Write → StopsWriting S script.old (R.remaining reader.old) (R.remaining reader.new) (W.contents writer.old) (W.contents writer.new) }
     ensures memory { IsErrOf result RunError.Memory → StopsForMemory S script.old (R.remaining reader.old) (R.remaining reader.new) (W.contents writer.old) (W.contents writer.new) }

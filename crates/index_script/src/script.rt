@@ -5,11 +5,11 @@ ghost use Rattle.std.specs.Option.{option_copied};
 ghost use Rattle.std.specs.String.{string_bytes};
 ghost use Rattle.std.specs.Ordering.{nat_cmp};
 ghost use Rattle.ordered_index.specs.Desk.{Step, CommitStep};
-ghost use Rattle.versions.specs.Sizes.{IsSized};
-ghost use Rattle.ordered_index.specs.State.{IsIdle};
+ghost use Rattle.versions.specs.Sizes.{IsStoreSized};
+ghost use Rattle.ordered_index.specs.State.{HasNoSession};
 ghost use Rattle.index_script.specs.Lines.{kept};
-ghost use Rattle.index_script.specs.Inside.{IsNoCommit, given_back};
-ghost use Rattle.index_script.specs.Script.{Script, Acts, Discards, Meets, Plays, Stages, at_next, fresh};
+ghost use Rattle.index_script.specs.Inside.{IsNoCommit, writes_given_back};
+ghost use Rattle.index_script.specs.Script.{Script, ActsOnLine, Discards, Meets, Plays, Stages, at_next, fresh_script};
 
 use crate::reply::{write_discarded, write_fault, write_reply, write_staged};
 use crate::request::{Request, read_line};
@@ -44,8 +44,8 @@ impl<const S: usize> Model for Script<S> {
 impl<const S: usize> Script<S> {
     /// A script before its first line, on an empty index. Refused where memory is.
     pub fn new(alloc: Global, places: usize, slots: usize) -> Result<Self, AllocError>
-        requires { IsSized places slots S }
-        ensures { IfOk result (λ script. script ≡ fresh places slots) }
+        requires { IsStoreSized places slots S }
+        ensures { IfOk result (λ script. script ≡ fresh_script places slots) }
     {
         let index = LocalIndex::new(alloc, places, slots)?;
         match Desk::new(alloc, places) {
@@ -68,7 +68,7 @@ impl<const S: usize> Script<S> {
     /// text has room for [`LONGEST_FAULT`](crate::reply::LONGEST_FAULT) bytes.
     pub fn act(&mut self, line: Option<&[u8]>, text: &mut String) -> Result<(), AllocError>
         requires { self.old.line + 1 < 2 ^ 64 }
-        ensures ok { OnOk result ((whole : List ℕ) → option_copied line.entry ≡ kept whole → Acts S self.old whole (string_bytes text.new) self.new) }
+        ensures ok { OnOk result ((whole : List ℕ) → option_copied line.entry ≡ kept whole → ActsOnLine S self.old whole (string_bytes text.new) self.new) }
         ensures counted { OnOk result (self.new.line ≡ self.old.line + 1) }
     {
         text.clear();
@@ -187,7 +187,7 @@ impl<const S: usize> Script<S> {
     // Stages again what a refused commit gives back.
     fn take_back(&mut self, reply: DeskReply<u64, Text>)
         ensures machine { self.new.machine ≡ self.old.machine }
-        ensures staged { self.new.staged ≡ given_back reply self.old.staged }
+        ensures staged { self.new.staged ≡ writes_given_back reply self.old.staged }
         ensures line { self.new.line ≡ self.old.line }
     {
         match reply {
@@ -200,7 +200,7 @@ impl<const S: usize> Script<S> {
 
 // Ends an index without sessions.
 fn end_index<const S: usize>(index: LocalIndex<u64, Text, S>)
-    requires { IsIdle index }
+    requires { HasNoSession index }
 {
     match index.close() {
         Ok(()) => {}

@@ -1,7 +1,7 @@
 //! How many comparisons a look-up makes, by keys that count them.
 
-ghost use Rattle.versions.specs.Sizes.{IsSized};
-ghost use Rattle.ordered_index.specs.State.{IsOpen};
+ghost use Rattle.versions.specs.Sizes.{IsStoreSized};
+ghost use Rattle.ordered_index.specs.State.{IsSessionOf};
 
 use leaf_array::Array;
 use ordered_index::{LocalIndex, Receipt, Session, Write};
@@ -115,7 +115,7 @@ fn look_up<'c, const S: usize>(
     count: &'c Cell<u64>,
     number: u64,
 ) -> ([Option<u64>; 2], [bool; 2], u64)
-    requires { IsOpen index.now session.now }
+    requires { IsSessionOf index.now session.now }
 {
     let mut steps = Steps::new();
     let key = CountedKey { number, count };
@@ -144,7 +144,7 @@ fn look_up_all<'c, R: Abort, const S: usize>(
     last: u64,
     most: u64,
 )
-    requires { IsOpen index.now session.now }
+    requires { IsSessionOf index.now session.now }
 {
     for number in 0..=last.saturating_add(1) {
         let there = 1 <= number && number <= last;
@@ -162,7 +162,7 @@ fn look_up_among<R: Abort, const S: usize>(
     last: u64,
     most: u64,
 )
-    requires { IsSized 1 slots S }
+    requires { IsStoreSized 1 slots S }
 {
     let count = Cell::new(0u64);
     let mut index: LocalIndex<CountedKey<'_>, u64, S> = LocalIndex::new(alloc, 1, slots).expect(

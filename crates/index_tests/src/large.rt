@@ -1,6 +1,6 @@
 //! Calls with many writes, many reads and many pairs: a body that gives up on them has another answer.
 
-ghost use Rattle.ordered_index.specs.State.{IsOpen};
+ghost use Rattle.ordered_index.specs.State.{IsSessionOf};
 
 use crate::slots::end;
 use ordered_index::{
@@ -69,7 +69,7 @@ fn commit<R: Abort>(
 
 // Whether the list of a session has the keys below a number, each its own value, and no other.
 fn has_all(index: &Wide, session: &Session<u64, u64>, count: u64) -> bool
-    requires { IsOpen index.now session.now }
+    requires { IsSessionOf index.now session.now }
 {
     let mut next = 0u64;
     let mut in_order = true;

@@ -1,7 +1,7 @@
 //! Lists of calls at random, made on an index and on plain lists, one for each number: both have to answer the same.
 
 ghost use Rattle.ordered_index.specs.Desk.{Serves};
-ghost use Rattle.versions.specs.Sizes.{IsSized};
+ghost use Rattle.versions.specs.Sizes.{IsStoreSized};
 
 use crate::dice::{Dice, thrown};
 use crate::plain;
@@ -647,7 +647,7 @@ fn steps<R: Abort, const S: usize>(
 
 // Makes many calls on an index with so many slots, and looks that each kind of reply was met.
 fn plays<R: Abort, const S: usize>(rt: &R, alloc: Global, slots: usize, start: Dice)
-    requires { IsSized 2 slots S }
+    requires { IsStoreSized 2 slots S }
 {
     let mut dice = start;
     let mut lists = Lists::new(alloc).expect(rt, "room for lists");

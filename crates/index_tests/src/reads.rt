@@ -1,6 +1,6 @@
 //! Recorded reads, conflicts, audits and cursors.
 
-ghost use Rattle.ordered_index.specs.State.{IsOpen};
+ghost use Rattle.ordered_index.specs.State.{IsSessionOf};
 
 use crate::slots::{commit, end, inserts};
 use crate::table::Call::{Close, Commit, CommitOn, Contains, Get, Locate, Open, Range};
@@ -299,7 +299,7 @@ fn read(pair: Option<(&u64, &u64)>) -> Option<(u64, u64)> {
 
 // Steps along the list of a session: one forth, one back, and two forth.
 fn walked(index: &Twos, session: &Session<u64, u64>) -> [Option<(u64, u64)>; 4]
-    requires { IsOpen index.now session.now }
+    requires { IsSessionOf index.now session.now }
 {
     let mut walk = index.iter(session);
     [
@@ -312,7 +312,7 @@ fn walked(index: &Twos, session: &Session<u64, u64>) -> [Option<(u64, u64)>; 4]
 
 // The first pair above a key.
 fn above<'a>(index: &'a Twos, session: &Session<u64, u64>, key: &'a u64) -> Option<(u64, u64)>
-    requires { IsOpen index.now session.now }
+    requires { IsSessionOf index.now session.now }
 {
     let mut rest = index.range(session, Bound::Excluded(key), Bound::Unbounded);
     read(rest.next())
@@ -320,7 +320,7 @@ fn above<'a>(index: &'a Twos, session: &Session<u64, u64>, key: &'a u64) -> Opti
 
 // The pair with a key, where it is located exactly.
 fn located(index: &Twos, session: &Session<u64, u64>, key: u64) -> Option<(u64, u64)>
-    requires { IsOpen index.now session.now }
+    requires { IsSessionOf index.now session.now }
 {
     match index.locate(session, &key) {
         Nearby::Exact(at) => read(at.get()),
@@ -333,7 +333,7 @@ fn gone_along(
     index: &Twos,
     session: &Session<u64, u64>,
 ) -> ([Option<(u64, u64)>; 4], [Option<(u64, u64)>; 2])
-    requires { IsOpen index.now session.now }
+    requires { IsSessionOf index.now session.now }
 {
     let steps = walked(index, session);
     let one = 1u64;

@@ -3,7 +3,7 @@
 
 ghost use Rattle.std.specs.Prelude.{◌≡◌, [], None, replicate, ◌^◌, ◌-◌};
 ghost use Rattle.ordered_index.specs.Desk.{Serves};
-ghost use Rattle.ordered_index.specs.State.{IsOpen};
+ghost use Rattle.ordered_index.specs.State.{IsSessionOf};
 
 use ordered_index::{
     Accepted, Answer, Audit, Cause, Desk, DeskCall, DeskReply, LocalIndex, Query, ReadSet, Receipt,
@@ -61,7 +61,7 @@ fn writes<R: Abort>(rt: &R, alloc: Global, met: &mut bool) -> Vec<Write<u64, u64
 
 // The number and the length of a session's list, and the value of a key there.
 fn seen(index: &Numbers, session: &Session<u64, u64>, key: u64) -> (u64, usize, Option<u64>)
-    requires { IsOpen index.now session.now }
+    requires { IsSessionOf index.now session.now }
 {
     (
         index.number(session),
@@ -132,8 +132,8 @@ fn read<R: Abort>(
     session: &mut Session<u64, u64>,
     met: &mut bool,
 ) -> Answer<u64, u64>
-    requires { IsOpen index.now session.old }
-    ensures { IsOpen index.now session.new }
+    requires { IsSessionOf index.now session.old }
+    ensures { IsSessionOf index.now session.new }
 {
     let all = Query::Range(Bound::Unbounded, Bound::Unbounded);
     if let Ok(answer) = index.read(session, all) {

@@ -1,6 +1,6 @@
 //! Sessions and commits of an index, by example.
 
-ghost use Rattle.ordered_index.specs.State.{IsOpen};
+ghost use Rattle.ordered_index.specs.State.{IsSessionOf};
 
 use crate::slots::end;
 use crate::table::Call::{Close, Commit, Look, Open};
@@ -41,7 +41,7 @@ fn claims(alloc: Global, key: u64, value: Option<u64>) -> Result<Receipt<u64, u6
 
 // Ends an index with a session, which is handed back, and closes the session then; gives the number that it read.
 fn refuse_to_close<R: Abort>(rt: &R, index: Numbers, session: Session<u64, u64>) -> (Numbers, u64)
-    requires { IsOpen index session }
+    requires { IsSessionOf index session }
 {
     match index.close() {
         Ok(()) => panic!(rt; "it was closed with a session open"),

@@ -1,7 +1,7 @@
 //! Calls of an index as data, by a desk that keeps its sessions, so that a test of many calls is a table.
 
 ghost use Rattle.ordered_index.specs.Desk.{Serves};
-ghost use Rattle.versions.specs.Sizes.{IsSized};
+ghost use Rattle.versions.specs.Sizes.{IsStoreSized};
 
 use ordered_index::{
     Accepted, Answer, Audit, Cause, Desk, DeskCall, DeskReply, LocalIndex, Near, Query, ReadSet,
@@ -306,7 +306,7 @@ pub(crate) fn on_an_index<R: Abort, const S: usize>(
     receipts: &[Receipt<u64, u64>],
     rows: &[(Call, Told)],
 )
-    requires { IsSized places slots S }
+    requires { IsStoreSized places slots S }
 {
     let Ok(mut index) = LocalIndex::<u64, u64, S>::with_last(alloc, places, slots, last) else {
         panic!(rt; "memory is ample");

@@ -6,7 +6,7 @@ use Rattle.leaf_array.specs.declared.place.Place.TheVariants.{Empty, Dead, Live}
 use Rattle.std.specs.declared.cmp.Ordering.{Ordering}
 use Rattle.std.specs.Ordering.{is_lt}
 use Rattle.leaf_array.specs.Cells.{entered, handed_on, fallen}
-use Rattle.leaf_array.specs.Places.{live_pairs, labels_above, dead_pairs, top, has_room, pushed, sunk, widened, tombstones, renewed, paired, packed, died, is_empty, below, uses, IsEmptied, IsDeparted, IsPacked, IsTailed}
+use Rattle.leaf_array.specs.Places.{live_pairs, labels_above, dead_pairs, top, has_room, pushed, sunk, widened, tombstones, renewed, paired, repacked, died, is_empty, live_below, slot_uses, IsEmptied, IsDeparted, IsPacked, IsTailed}
 
 pub not_false : (b : Bool) → not b ≡ false → b ≡ true
 not_false true h = refl
@@ -50,7 +50,7 @@ module _ {K V : Type 0} where
   emptied_behind (Live s g k v) ps e h = absurd (cc)
 
   -- empty places stay so
-  pub emptied_packed : (n : ℕ) (ps : List (Place K V)) → IsEmptied ps → packed n ps ≡ ps
+  pub emptied_packed : (n : ℕ) (ps : List (Place K V)) → IsEmptied ps → repacked n ps ≡ ps
   emptied_packed n [] h = refl
   emptied_packed n (Empty ∷ ps) h = ap (λ qs. Empty ∷ qs) (emptied_packed (n + 1) ps h)
   emptied_packed n (Dead s k v ∷ ps) h = absurd h
@@ -99,7 +99,7 @@ module _ {K V : Type 0} where
   top_end (Dead s k v ∷ ps) = refl
   top_end (Live s g k v ∷ ps) = ap (λ n. g + 1 + n) (top_end ps)
 
-  pub uses_end : (slot : ℕ) (ps : List (Place K V)) → uses slot (ps ++ Empty ∷ []) ≡ uses slot ps
+  pub uses_end : (slot : ℕ) (ps : List (Place K V)) → slot_uses slot (ps ++ Empty ∷ []) ≡ slot_uses slot ps
   uses_end slot [] = refl
   uses_end slot (Empty ∷ ps) = uses_end slot ps
   uses_end slot (Dead s k v ∷ ps) = ap (λ n. cond (s == slot) 1 0 + n) (uses_end slot ps)
@@ -147,12 +147,12 @@ module _ {K V : Type 0} where
   room_behind zero (Live s g k v ∷ ps) pk le lt = room_behind zero ps pk (omega arith) (omega (arith, lt))
   room_behind (suc n) (Live s g k v ∷ ps) pk le lt = room_behind n ps pk (omega (arith, le)) (omega (arith, lt))
 
-  pub below_live : (cmp : K → K → Ordering) (key : K) (ps : List (Place K V)) → below cmp key ps ≤ length (live_pairs ps)
+  pub below_live : (cmp : K → K → Ordering) (key : K) (ps : List (Place K V)) → live_below cmp key ps ≤ length (live_pairs ps)
   below_live cmp key [] = omega arith
   below_live cmp key (Empty ∷ ps) = omega arith
   below_live cmp key (Dead s k v ∷ ps) = omega arith
   below_live cmp key (Live s g k v ∷ ps) =
-      elim (is_lt (cmp k key)) as (λ b. cond b (suc (below cmp key ps)) 0 ≤ suc (length (live_pairs ps))) [ true ↦ omega (arith, below_live cmp key ps) | false ↦ omega arith ]
+      elim (is_lt (cmp k key)) as (λ b. cond b (suc (live_below cmp key ps)) 0 ≤ suc (length (live_pairs ps))) [ true ↦ omega (arith, below_live cmp key ps) | false ↦ omega arith ]
 
   -- ---- a new live place behind n live ones
 
@@ -186,7 +186,7 @@ module _ {K V : Type 0} where
     top_insert (suc n) (Dead t k v ∷ ps) le = absurd (omega (arith, le))
     top_insert (suc n) (Live t g k v ∷ ps) le = let h : n ≤ length (live_pairs ps) = omega (arith, le) in omega (arith, top_insert n ps h)
 
-    pub uses_insert : (h slot n : ℕ) (ps : List (Place K V)) → uses slot (take n ps ++ Live s h key val ∷ drop n ps) ≡ cond (s == slot) 1 0 + uses slot ps
+    pub uses_insert : (h slot n : ℕ) (ps : List (Place K V)) → slot_uses slot (take n ps ++ Live s h key val ∷ drop n ps) ≡ cond (s == slot) 1 0 + slot_uses slot ps
     uses_insert h slot zero ps = refl
     uses_insert h slot (suc n) [] = refl
     uses_insert h slot (suc n) (Empty ∷ ps) = uses_insert h slot n ps
@@ -273,7 +273,7 @@ module _ {K V : Type 0} where
     top_bury (Dead t k v ∷ ps) = refl
     top_bury (Live t g k v ∷ ps) = ap (λ n. g + 1 + n) (top_bury ps)
 
-    pub uses_bury : (slot n : ℕ) (ps : List (Place K V)) → uses slot (take n ps ++ Dead s key val ∷ drop n ps) ≡ cond (s == slot) 1 0 + uses slot ps
+    pub uses_bury : (slot n : ℕ) (ps : List (Place K V)) → slot_uses slot (take n ps ++ Dead s key val ∷ drop n ps) ≡ cond (s == slot) 1 0 + slot_uses slot ps
     uses_bury slot zero ps = refl
     uses_bury slot (suc n) [] = refl
     uses_bury slot (suc n) (Empty ∷ ps) = uses_bury slot n ps
@@ -313,7 +313,7 @@ module _ {K V : Type 0} where
     top_sunk (Dead s k v ∷ ps) = refl
     top_sunk (Live s g k v ∷ ps) = ap (λ n. g + 1 + n) (top_sunk ps)
 
-    uses_sunk : (slot : ℕ) (ps : List (Place K V)) → uses slot (sunk (Dead t key val) ps) ≡ cond (t == slot) 1 0 + uses slot ps
+    uses_sunk : (slot : ℕ) (ps : List (Place K V)) → slot_uses slot (sunk (Dead t key val) ps) ≡ cond (t == slot) 1 0 + slot_uses slot ps
     uses_sunk slot [] = refl
     uses_sunk slot (Empty ∷ ps) = refl
     uses_sunk slot (Dead s k v ∷ ps) = refl
@@ -349,7 +349,7 @@ module _ {K V : Type 0} where
   top_widened n (Dead s k v ∷ ps) = omega arith
   top_widened n (Live s g k v ∷ ps) = omega arith
 
-  uses_widened : (slot n : ℕ) (ps : List (Place K V)) → uses slot (widened n ps) ≡ uses slot ps
+  uses_widened : (slot n : ℕ) (ps : List (Place K V)) → slot_uses slot (widened n ps) ≡ slot_uses slot ps
   uses_widened slot n [] = refl
   uses_widened slot n (Empty ∷ ps) = refl
   uses_widened slot n (Dead s k v ∷ ps) = refl
@@ -402,7 +402,7 @@ module _ {K V : Type 0} where
   top_remove zero (Live s g k v ∷ ps) lt = omega (arith, top_widened (g + 1) (sunk (Dead s k v) ps), top_sunk s k v ps)
   top_remove (suc n) (Live s g k v ∷ ps) lt = let h : n < length (live_pairs ps) = omega (arith, lt) in omega (arith, top_remove n ps h)
 
-  pub uses_remove : (slot n : ℕ) (ps : List (Place K V)) → n < length (live_pairs ps) → uses slot (take n ps ++ tombstones (drop n ps)) ≡ uses slot ps
+  pub uses_remove : (slot n : ℕ) (ps : List (Place K V)) → n < length (live_pairs ps) → slot_uses slot (take n ps ++ tombstones (drop n ps)) ≡ slot_uses slot ps
   uses_remove slot zero [] lt = absurd (omega (arith, lt))
   uses_remove slot (suc n) [] lt = absurd (omega (arith, lt))
   uses_remove slot zero (Empty ∷ ps) lt = absurd (omega (arith, lt))
@@ -502,7 +502,7 @@ module _ {K V : Type 0} where
     pub val : V
     pub died_is : died (drop n ps) ≡ Dead slot key val
     pub fallen_is : fallen n (labels_above low ps) (live_pairs ps) ≡ (slot, (key, val)) ∷ []
-    pub uses_is : (s : ℕ) (k : K) (v : V) (other : ℕ) → uses other (take n ps ++ renewed s k v (drop n ps)) + cond (slot == other) 1 0 ≡ cond (s == other) 1 0 + uses other ps
+    pub uses_is : (s : ℕ) (k : K) (v : V) (other : ℕ) → slot_uses other (take n ps ++ renewed s k v (drop n ps)) + cond (slot == other) 1 0 ≡ cond (s == other) 1 0 + slot_uses other ps
     pub paired_is : (k : K) (v : V) → paired k v (drop n ps) ≡ renewed slot k v (drop n ps)
     pub labels_is : handed_on n slot (labels_above low ps) ≡ labels_above low ps
 

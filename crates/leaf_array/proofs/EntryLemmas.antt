@@ -11,7 +11,7 @@ use Rattle.std.specs.Map.{keys_of, lookup, lookup_entry, remove_entry}
 use Rattle.std.specs.BTreeMap.{insert_entry, is_at}
 use Rattle.leaf_array.specs.Cells.{lesser}
 use Rattle.leaf_array.specs.Edits.{above, below, removed, upserted}
-use Rattle.leaf_array.specs.Pairs.{IsAscending, has_key, value_at}
+use Rattle.leaf_array.specs.Pairs.{IsAscending, has_key, value_of_key}
 use Rattle.leaf_array.proofs.ListLemmas.{IsAscending-removed}
 use Rattle.leaf_array.proofs.OrderLemmas.{turn_less}
 
@@ -113,6 +113,6 @@ module _ {K V : Type 0} (cmp : K → K → Ordering) (key : K) where
   has_lookup [] = refl
   has_lookup (e ∷ es) = elim (is_at (cmp key) e.0) as (λ b. (b || has_key cmp key es) ≡ is_some (cond b (Some e.1) (lookup (is_at (cmp key)) es))) [ true ↦ refl | false ↦ has_lookup es ]
 
-  pub value_lookup : (es : List (K × V)) → value_at cmp key es ≡ option_map (λ e. e.1) (lookup_entry (is_at (cmp key)) es)
+  pub value_lookup : (es : List (K × V)) → value_of_key cmp key es ≡ option_map (λ e. e.1) (lookup_entry (is_at (cmp key)) es)
   value_lookup [] = refl
   value_lookup (e ∷ es) = elim (is_at (cmp key) e.0) as (λ b. cond b (Some e.1) (lookup (is_at (cmp key)) es) ≡ option_map (λ e. e.1) (cond b (Some e) (lookup_entry (is_at (cmp key)) es))) [ true ↦ refl | false ↦ value_lookup es ]

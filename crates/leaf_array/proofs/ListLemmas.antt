@@ -11,7 +11,7 @@ use Rattle.std.specs.List.Sorted.{IsStrictlySortedBy}
 use Rattle.std.specs.Map.{keys_of, lookup}
 use Rattle.std.specs.Ordering.{is_gt, is_lt, ordering_reverse}
 use Rattle.leaf_array.specs.Edits.{above, below, removed, upserted}
-use Rattle.leaf_array.specs.Pairs.{IsAscending, value_at}
+use Rattle.leaf_array.specs.Pairs.{IsAscending, value_of_key}
 
 -- what each passing element has, each element of the filtered list has
 all_filtered : {X : Type 0} (test : X → Bool) (P : X → Type 0) → ((x : X) → test x ≡ true → P x) → (xs : List X) → AllByRecursion P (filter test xs)
@@ -91,5 +91,5 @@ module _ {K : Type 0} {cmp : K → K → Ordering} (laws : IsTotalOrder cmp) whe
           | Greater ↦ λ e. rw e (lookup-below key ps rest)
         ]) refl
 
-    pub value_at-upserted : (key : K) (value : V) (pairs : List (K × V)) → value_at cmp key (upserted cmp key value pairs) ≡ Some value
-    value_at-upserted key value pairs = lookup-below key pairs ((key, value) ∷ above cmp key pairs) ∙ rw (tied_itself laws key) refl
+    pub value_of_key-upserted : (key : K) (value : V) (pairs : List (K × V)) → value_of_key cmp key (upserted cmp key value pairs) ≡ Some value
+    value_of_key-upserted key value pairs = lookup-below key pairs ((key, value) ∷ above cmp key pairs) ∙ rw (tied_itself laws key) refl

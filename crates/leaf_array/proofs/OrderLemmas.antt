@@ -13,7 +13,7 @@ use Rattle.std.proofs.lemmas.Map.Keys.{sorted_head, sorted_tail}
 use Rattle.leaf_array.specs.declared.place.Place.{Place}
 use Rattle.leaf_array.specs.declared.place.Place.TheVariants.{Empty, Dead, Live}
 use Rattle.leaf_array.specs.Cells.{lesser}
-use Rattle.leaf_array.specs.Places.{live_pairs, renewed, below, least, IsHit, IsMiss}
+use Rattle.leaf_array.specs.Places.{live_pairs, renewed, live_below, least, IsHit, IsMiss}
 
 less_of : (o : Ordering) → is_lt o ≡ true → o ≡ Less
 less_of Less h = refl
@@ -31,7 +31,7 @@ module _ {K : Type 0} (cmp : K → K → Ordering) (laws : IsTotalOrder cmp) whe
   turn_equal x y h = rw h at (laws.antisymm y x)
 
 module _ {K V : Type 0} (cmp : K → K → Ordering) (key : K) where
-  pub below_lesser : (ps : List (Place K V)) → below cmp key ps ≡ lesser cmp key (live_pairs ps)
+  pub below_lesser : (ps : List (Place K V)) → live_below cmp key ps ≡ lesser cmp key (live_pairs ps)
   below_lesser [] = refl
   below_lesser (Empty ∷ ps) = refl
   below_lesser (Dead s k v ∷ ps) = refl
@@ -62,12 +62,12 @@ module _ {K V : Type 0} (cmp : K → K → Ordering) (laws : IsTotalOrder cmp) (
         | false ↦ λ b so m. lookup-none (is_at (cmp key)) ((k, v) ∷ live_pairs ps) (none_below_head laws key (k, v) (live_pairs ps) so (turn_greater cmp laws k key (m (k, v) refl)))
       ]) refl
 
-  pub hit_within : (ps : List (Place K V)) → IsHit cmp key ps → below cmp key ps < length (live_pairs ps)
+  pub hit_within : (ps : List (Place K V)) → IsHit cmp key ps → live_below cmp key ps < length (live_pairs ps)
   hit_within [] = λ h. absurd (let e : None ≡ Some h.0 = h.1 in cc)
   hit_within (Empty ∷ ps) = λ h. absurd (let e : None ≡ Some h.0 = h.1 in cc)
   hit_within (Dead s k v ∷ ps) = λ h. absurd (let e : None ≡ Some h.0 = h.1 in cc)
   hit_within (Live s g k v ∷ ps) =
-      elim (is_lt (cmp k key)) as (λ b. ((e : K × V) × (cond b (least cmp key ps) (Some (k, v)) ≡ Some e) × (cmp e.0 key ≡ Equal)) → cond b (suc (below cmp key ps)) 0 < suc (length (live_pairs ps))) [
+      elim (is_lt (cmp k key)) as (λ b. ((e : K × V) × (cond b (least cmp key ps) (Some (k, v)) ≡ Some e) × (cmp e.0 key ≡ Equal)) → cond b (suc (live_below cmp key ps)) 0 < suc (length (live_pairs ps))) [
         | true ↦ λ h. omega (arith, hit_within ps h)
         | false ↦ λ h. omega arith
       ]
@@ -75,13 +75,13 @@ module _ {K V : Type 0} (cmp : K → K → Ordering) (laws : IsTotalOrder cmp) (
   -- ---- a new pair
 
   pub pairs_insert : (s h : ℕ) (val : V) (ps : List (Place K V)) → IsMiss cmp key ps
-      → live_pairs (take (below cmp key ps) ps ++ Live s h key val ∷ drop (below cmp key ps) ps) ≡ insert_entry cmp (live_pairs ps) key val
+      → live_pairs (take (live_below cmp key ps) ps ++ Live s h key val ∷ drop (live_below cmp key ps) ps) ≡ insert_entry cmp (live_pairs ps) key val
   pairs_insert s h val [] = λ m. refl
   pairs_insert s h val (Empty ∷ ps) = λ m. refl
   pairs_insert s h val (Dead t k v ∷ ps) = λ m. refl
   pairs_insert s h val (Live t g k v ∷ ps) =
       (elim (is_lt (cmp k key)) as (λ b. is_lt (cmp k key) ≡ b → ((e : K × V) → cond b (least cmp key ps) (Some (k, v)) ≡ Some e → cmp e.0 key ≡ Greater)
-      → live_pairs (take (cond b (suc (below cmp key ps)) 0) (Live t g k v ∷ ps) ++ Live s h key val ∷ drop (cond b (suc (below cmp key ps)) 0) (Live t g k v ∷ ps)) ≡ insert_entry cmp ((k, v) ∷ live_pairs ps) key val) [
+      → live_pairs (take (cond b (suc (live_below cmp key ps)) 0) (Live t g k v ∷ ps) ++ Live s h key val ∷ drop (cond b (suc (live_below cmp key ps)) 0) (Live t g k v ∷ ps)) ≡ insert_entry cmp ((k, v) ∷ live_pairs ps) key val) [
         | true ↦ λ b m. let u = turn_less cmp laws k key (less_of (cmp k key) b) in rw u (ap (λ qs. (k, v) ∷ qs) (pairs_insert s h val ps m))
         | false ↦ λ b m. let u = turn_greater cmp laws k key (m (k, v) refl) in rw u refl
       ]) refl
@@ -96,13 +96,13 @@ module _ {K V : Type 0} (cmp : K → K → Ordering) (laws : IsTotalOrder cmp) (
       rw u refl
 
   pub pairs_renew : (s : ℕ) (val : V) (ps : List (Place K V)) → IsStrictlySortedBy cmp (keys_of (live_pairs ps)) → IsHit cmp key ps
-      → live_pairs (take (below cmp key ps) ps ++ renewed s key val (drop (below cmp key ps) ps)) ≡ insert_entry cmp (remove_entry (is_at (cmp key)) (live_pairs ps)) key val
+      → live_pairs (take (live_below cmp key ps) ps ++ renewed s key val (drop (live_below cmp key ps) ps)) ≡ insert_entry cmp (remove_entry (is_at (cmp key)) (live_pairs ps)) key val
   pairs_renew s val [] = λ so h. absurd (let e : None ≡ Some h.0 = h.1 in cc)
   pairs_renew s val (Empty ∷ ps) = λ so h. absurd (let e : None ≡ Some h.0 = h.1 in cc)
   pairs_renew s val (Dead t k v ∷ ps) = λ so h. absurd (let e : None ≡ Some h.0 = h.1 in cc)
   pairs_renew s val (Live t g k v ∷ ps) =
       (elim (is_lt (cmp k key)) as (λ b. is_lt (cmp k key) ≡ b → IsStrictlySortedBy cmp (k ∷ keys_of (live_pairs ps)) → ((e : K × V) × (cond b (least cmp key ps) (Some (k, v)) ≡ Some e) × (cmp e.0 key ≡ Equal))
-      → live_pairs (take (cond b (suc (below cmp key ps)) 0) (Live t g k v ∷ ps) ++ renewed s key val (drop (cond b (suc (below cmp key ps)) 0) (Live t g k v ∷ ps)))
+      → live_pairs (take (cond b (suc (live_below cmp key ps)) 0) (Live t g k v ∷ ps) ++ renewed s key val (drop (cond b (suc (live_below cmp key ps)) 0) (Live t g k v ∷ ps)))
       ≡ insert_entry cmp (remove_entry (is_at (cmp key)) ((k, v) ∷ live_pairs ps)) key val) [
         | true ↦ λ b so h. let u = turn_less cmp laws k key (less_of (cmp k key) b) in rw u (rw u (ap (λ qs. (k, v) ∷ qs) (pairs_renew s val ps (sorted_tail cmp k (keys_of (live_pairs ps)) so) h)))
         | false ↦ λ b so h.

@@ -8,8 +8,8 @@ use Rattle.std.specs.List.Sorted.{IsStrictlySortedBy}
 use Rattle.std.specs.Map.{keys_of}
 use Rattle.leaf_array.specs.declared.place.Place.{Place}
 use Rattle.leaf_array.specs.declared.place.Place.TheVariants.{Empty, Dead, Live}
-use Rattle.leaf_array.specs.Cells.{lesser, slot_of, fresh_labels, filled}
-use Rattle.leaf_array.specs.Places.{live_pair, live_pairs, labels_above, dead_pairs, packed, vacated, least, top, uses, uses_below, no_half, no_places, IsEmptied, IsDeparted, IsPacked, IsSound, cells_of}
+use Rattle.leaf_array.specs.Cells.{lesser, slot_of, fresh_labels, filled_array}
+use Rattle.leaf_array.specs.Places.{live_pair, live_pairs, labels_above, dead_pairs, repacked, front_vacated, least, top, slot_uses, uses_below, no_half, no_places, IsEmptied, IsDeparted, IsPacked, IsArray, cells_of}
 
 pub past_end : {X : Type 0} (xs : List X) (n : ℕ) → length xs ≤ n → slice_get xs n ≡ None
 past_end [] zero le = refl
@@ -73,64 +73,64 @@ module _ {K V : Type 0} where
   emptied_live (Dead s k v ∷ ps) h = refl
   emptied_live (Live s g k v ∷ ps) h = absurd h
 
-  emptied_packed : (n : ℕ) (ps : List (Place K V)) → IsEmptied ps → IsEmptied (packed n ps)
+  emptied_packed : (n : ℕ) (ps : List (Place K V)) → IsEmptied ps → IsEmptied (repacked n ps)
   emptied_packed n [] h = tt
   emptied_packed n (Empty ∷ ps) h = emptied_packed (n + 1) ps h
   emptied_packed n (Dead s k v ∷ ps) h = absurd h
   emptied_packed n (Live s g k v ∷ ps) h = absurd h
 
-  departed_packed : (n : ℕ) (ps : List (Place K V)) → IsDeparted ps → IsEmptied (packed n ps)
+  departed_packed : (n : ℕ) (ps : List (Place K V)) → IsDeparted ps → IsEmptied (repacked n ps)
   departed_packed n [] h = tt
   departed_packed n (Empty ∷ ps) h = emptied_packed (n + 1) ps h
   departed_packed n (Dead s k v ∷ ps) h = departed_packed (n + 1) ps h
   departed_packed n (Live s g k v ∷ ps) h = absurd h
 
-  pub packed_packed : (n : ℕ) (ps : List (Place K V)) → IsPacked ps → IsPacked (packed n ps)
+  pub packed_packed : (n : ℕ) (ps : List (Place K V)) → IsPacked ps → IsPacked (repacked n ps)
   packed_packed n [] h = tt
   packed_packed n (Empty ∷ ps) h = emptied_packed (n + 1) ps h
   packed_packed n (Dead s k v ∷ ps) h = departed_packed (n + 1) ps h
   packed_packed n (Live s g k v ∷ ps) h = packed_packed (n + 1) ps h
 
-  pub live_packed : (n : ℕ) (ps : List (Place K V)) → IsPacked ps → live_pairs (packed n ps) ≡ live_pairs ps
+  pub live_packed : (n : ℕ) (ps : List (Place K V)) → IsPacked ps → live_pairs (repacked n ps) ≡ live_pairs ps
   live_packed n [] h = refl
   live_packed n (Empty ∷ ps) h = refl
   live_packed n (Dead s k v ∷ ps) h = refl
   live_packed n (Live s g k v ∷ ps) h = ap (λ qs. (k, v) ∷ qs) (live_packed (n + 1) ps h)
 
-  pub labels_packed : (n : ℕ) (ps : List (Place K V)) → labels_above n (packed n ps) ≡ fresh_labels n (length (live_pairs ps))
+  pub labels_packed : (n : ℕ) (ps : List (Place K V)) → labels_above n (repacked n ps) ≡ fresh_labels n (length (live_pairs ps))
   labels_packed n [] = refl
   labels_packed n (Empty ∷ ps) = refl
   labels_packed n (Dead s k v ∷ ps) = refl
   labels_packed n (Live s g k v ∷ ps) = let e : n + 0 + 1 ≡ n + 1 = omega arith in rw e (ap (λ ls. (slot_of n, n + 1) ∷ ls) (labels_packed (n + 1) ps))
 
-  pub dead_packed : (n : ℕ) (ps : List (Place K V)) → dead_pairs (packed n ps) ≡ []
+  pub dead_packed : (n : ℕ) (ps : List (Place K V)) → dead_pairs (repacked n ps) ≡ []
   dead_packed n [] = refl
   dead_packed n (Empty ∷ ps) = dead_packed (n + 1) ps
   dead_packed n (Dead s k v ∷ ps) = dead_packed (n + 1) ps
   dead_packed n (Live s g k v ∷ ps) = dead_packed (n + 1) ps
 
-  pub top_packed : (n : ℕ) (ps : List (Place K V)) → top (packed n ps) ≡ length (live_pairs ps)
+  pub top_packed : (n : ℕ) (ps : List (Place K V)) → top (repacked n ps) ≡ length (live_pairs ps)
   top_packed n [] = refl
   top_packed n (Empty ∷ ps) = refl
   top_packed n (Dead s k v ∷ ps) = refl
   top_packed n (Live s g k v ∷ ps) = omega (arith, top_packed (n + 1) ps)
 
-  uses_emptied : (slot : ℕ) (ps : List (Place K V)) → IsEmptied ps → uses slot ps ≡ 0
+  uses_emptied : (slot : ℕ) (ps : List (Place K V)) → IsEmptied ps → slot_uses slot ps ≡ 0
   uses_emptied slot [] h = refl
   uses_emptied slot (Empty ∷ ps) h = uses_emptied slot ps h
   uses_emptied slot (Dead s k v ∷ ps) h = absurd h
   uses_emptied slot (Live s g k v ∷ ps) h = absurd h
 
-  pub uses_packed : (slot n : ℕ) (ps : List (Place K V)) → IsPacked ps → uses slot (packed n ps) + uses_below slot n ≡ uses_below slot (n + length (live_pairs ps))
+  pub uses_packed : (slot n : ℕ) (ps : List (Place K V)) → IsPacked ps → slot_uses slot (repacked n ps) + uses_below slot n ≡ uses_below slot (n + length (live_pairs ps))
   uses_packed slot n [] h = let e : n + 0 ≡ n = omega arith in rw e (omega arith)
-  uses_packed slot n (Empty ∷ ps) h = let e : n + 0 ≡ n = omega arith in rw e (omega (arith, uses_emptied slot (packed (n + 1) ps) (emptied_packed (n + 1) ps h)))
-  uses_packed slot n (Dead s k v ∷ ps) h = let e : n + 0 ≡ n = omega arith in rw e (omega (arith, uses_emptied slot (packed (n + 1) ps) (departed_packed (n + 1) ps h)))
+  uses_packed slot n (Empty ∷ ps) h = let e : n + 0 ≡ n = omega arith in rw e (omega (arith, uses_emptied slot (repacked (n + 1) ps) (emptied_packed (n + 1) ps h)))
+  uses_packed slot n (Dead s k v ∷ ps) h = let e : n + 0 ≡ n = omega arith in rw e (omega (arith, uses_emptied slot (repacked (n + 1) ps) (departed_packed (n + 1) ps h)))
   uses_packed slot n (Live s g k v ∷ ps) h =
       let e : n + suc (length (live_pairs ps)) ≡ n + 1 + length (live_pairs ps) = omega arith in
       let e1 : uses_below slot (n + 1) ≡ cond (slot_of n == slot) 1 0 + uses_below slot n = let e2 : n + 1 ≡ suc n = omega arith in ap (uses_below slot) e2 in
       rw e (omega (arith, uses_packed slot (n + 1) ps h, e1))
 
-  pub length_packed : (n : ℕ) (ps : List (Place K V)) → length (packed n ps) ≡ length ps
+  pub length_packed : (n : ℕ) (ps : List (Place K V)) → length (repacked n ps) ≡ length ps
   length_packed n [] = refl
   length_packed n (Empty ∷ ps) = omega (arith, length_packed (n + 1) ps)
   length_packed n (Dead s k v ∷ ps) = omega (arith, length_packed (n + 1) ps)
@@ -261,8 +261,8 @@ module _ {K V : Type 0} where
     sorted_drop (suc n) (e ∷ es) h = sorted_drop n es h.1
 
     -- a packed row in order, numbered anew, is an array with its pairs and nothing else
-    pub sound_packed : (ps qs : List (Place K V)) (len : ℕ) → IsPacked ps → length ps ≡ 15 → IsStrictlySortedBy cmp (keys_of (live_pairs ps)) → length (live_pairs ps) ≤ 15 → len ≡ length (live_pairs ps) → qs ≡ packed 0 ps
-        → IsSound cmp qs len len × ((f : Bool) → cells_of qs len f false ≡ filled f (live_pairs ps))
+    pub sound_packed : (ps qs : List (Place K V)) (len : ℕ) → IsPacked ps → length ps ≡ 15 → IsStrictlySortedBy cmp (keys_of (live_pairs ps)) → length (live_pairs ps) ≤ 15 → len ≡ length (live_pairs ps) → qs ≡ repacked 0 ps
+        → IsArray cmp qs len len × ((f : Bool) → cells_of qs len f false ≡ filled_array f (live_pairs ps))
     sound_packed ps qs len pk count so le len_is is =
         let live : live_pairs qs ≡ live_pairs ps = rw is (live_packed 0 ps pk) in
         let dead : dead_pairs qs ≡ [] = rw is (dead_packed 0 ps) in
@@ -275,7 +275,7 @@ module _ {K V : Type 0} where
             all = omega (arith, len_is, ap length live, ap length dead);
             within = omega (arith, len_is, le);
             ranks = omega (arith, ap top is, top_packed 0 ps, len_is);
-            slots = λ slot. let e : 0 + length (live_pairs ps) ≡ len = omega (arith, len_is) in let u = rw e at (uses_packed slot 0 ps pk) in omega (arith, ap (uses slot) is, u);
+            slots = λ slot. let e : 0 + length (live_pairs ps) ≡ len = omega (arith, len_is) in let u = rw e at (uses_packed slot 0 ps pk) in omega (arith, ap (slot_uses slot) is, u);
           },
           λ f. rw (live, dead, labels, len_is) refl,
         )
@@ -291,17 +291,17 @@ module _ {K V : Type 0} where
   emptied_blank [] = tt
   emptied_blank (p ∷ ps) = emptied_blank ps
 
-  packed_blank : (n : ℕ) (ps : List (Place K V)) → packed n (blank ps) ≡ blank ps
+  packed_blank : (n : ℕ) (ps : List (Place K V)) → repacked n (blank ps) ≡ blank ps
   packed_blank n [] = refl
   packed_blank n (p ∷ ps) = ap (λ qs. Empty ∷ qs) (packed_blank (n + 1) ps)
 
-  packed_none : (n : ℕ) (ps : List (Place K V)) → IsPacked ps → 0 ≡ length (live_pairs ps) → packed n ps ≡ blank ps
+  packed_none : (n : ℕ) (ps : List (Place K V)) → IsPacked ps → 0 ≡ length (live_pairs ps) → repacked n ps ≡ blank ps
   packed_none n [] pk e = refl
   packed_none n (Empty ∷ ps) pk e = ap (λ qs. Empty ∷ qs) (packed_none (n + 1) ps (packed_departed ps (departed_emptied ps pk)) (ap length (sym (emptied_live ps pk))))
   packed_none n (Dead s k v ∷ ps) pk e = ap (λ qs. Empty ∷ qs) (packed_none (n + 1) ps (packed_departed ps pk) (ap length (sym (departed_live ps pk))))
   packed_none n (Live s g k v ∷ ps) pk e = absurd (omega (arith, e))
 
-  vacated_packed : (m n : ℕ) (ps : List (Place K V)) → IsPacked ps → suc n ≡ length (live_pairs ps) → take n (packed m ps) ++ vacated (drop n (packed m ps)) ≡ packed m (take n ps ++ blank (drop n ps))
+  vacated_packed : (m n : ℕ) (ps : List (Place K V)) → IsPacked ps → suc n ≡ length (live_pairs ps) → take n (repacked m ps) ++ front_vacated (drop n (repacked m ps)) ≡ repacked m (take n ps ++ blank (drop n ps))
   vacated_packed m zero [] pk e = absurd (omega (arith, e))
   vacated_packed m (suc n) [] pk e = absurd (omega (arith, e))
   vacated_packed m zero (Empty ∷ ps) pk e = absurd (omega (arith, e))
@@ -318,12 +318,12 @@ module _ {K V : Type 0} where
   length_blank (suc n) (p ∷ ps) = ap suc (length_blank n ps)
 
   pub sound_vacated : (cmp : K → K → Ordering) (ps rs qs : List (Place K V)) (n : ℕ) → IsPacked ps → length ps ≡ 15 → IsStrictlySortedBy cmp (keys_of (live_pairs ps)) → n + 1 ≡ length (live_pairs ps) → n < 15
-      → rs ≡ packed 0 ps → qs ≡ take n rs ++ vacated (drop n rs)
-      → IsSound cmp qs n n × ((f : Bool) → cells_of qs n f false ≡ filled f (take n (live_pairs ps)))
+      → rs ≡ repacked 0 ps → qs ≡ take n rs ++ front_vacated (drop n rs)
+      → IsArray cmp qs n n × ((f : Bool) → cells_of qs n f false ≡ filled_array f (take n (live_pairs ps)))
   sound_vacated cmp ps rs qs n pk count so len lt rs_is qs_is =
       let ts : List (Place K V) = take n ps ++ blank (drop n ps) in
       let e : suc n ≡ length (live_pairs ps) = omega (arith, len) in
-      let is : qs ≡ packed 0 ts = (rw rs_is at qs_is) ∙ vacated_packed 0 n ps pk e in
+      let is : qs ≡ repacked 0 ts = (rw rs_is at qs_is) ∙ vacated_packed 0 n ps pk e in
       let live : live_pairs ts ≡ take n (live_pairs ps) = live_join (take n ps) (blank (drop n ps)) (emptied_blank (drop n ps)) ∙ live_take n ps in
       let len2 : length (live_pairs ts) ≡ n = ap length live ∙ length-take-le n (live_pairs ps) (omega (arith, len)) in
       rw (← live) (sound_packed cmp ts qs n (packed_join (take n ps) (blank (drop n ps)) (packed_take n ps pk) (emptied_blank (drop n ps))) (length_blank n ps ∙ count) (rw live (sorted_take cmp n (live_pairs ps) so)) (omega (arith, len2, lt)) (sym len2) is)
@@ -343,10 +343,10 @@ module _ {K V : Type 0} where
   packed_rear n ps upper pk is = packed_back n ps (drop (length (drop n ps)) no_places) upper pk (emptied_drop (length (drop n ps)) no_places tt) is
 
   -- the two parts of a row
-  pub sound_parts : (cmp : K → K → Ordering) (ps lower upper es fs qs rs : List (Place K V)) (len used n low : ℕ) → IsSound cmp ps len used
-      → lower ≡ take n ps ++ es → upper ≡ drop n ps ++ fs → IsEmptied es → IsEmptied fs → length lower ≡ 15 → length upper ≡ 15 → low ≡ length (take n (live_pairs ps)) → qs ≡ packed 0 lower → rs ≡ packed 0 upper
-      → (IsSound cmp qs low low × ((f : Bool) → cells_of qs low f false ≡ filled f (take n (live_pairs ps))))
-      × (IsSound cmp rs (len - low) (len - low) × ((f : Bool) → cells_of rs (len - low) f false ≡ filled f (drop n (live_pairs ps))))
+  pub sound_parts : (cmp : K → K → Ordering) (ps lower upper es fs qs rs : List (Place K V)) (len used n low : ℕ) → IsArray cmp ps len used
+      → lower ≡ take n ps ++ es → upper ≡ drop n ps ++ fs → IsEmptied es → IsEmptied fs → length lower ≡ 15 → length upper ≡ 15 → low ≡ length (take n (live_pairs ps)) → qs ≡ repacked 0 lower → rs ≡ repacked 0 upper
+      → (IsArray cmp qs low low × ((f : Bool) → cells_of qs low f false ≡ filled_array f (take n (live_pairs ps))))
+      × (IsArray cmp rs (len - low) (len - low) × ((f : Bool) → cells_of rs (len - low) f false ≡ filled_array f (drop n (live_pairs ps))))
   sound_parts cmp ps lower upper es fs qs rs len used n low s lower_is upper_is es_empty fs_empty lower_count upper_count low_is qs_is rs_is =
       let live_low : live_pairs lower ≡ take n (live_pairs ps) = ap live_pairs lower_is ∙ live_join (take n ps) es es_empty ∙ live_take n ps in
       let live_up : live_pairs upper ≡ drop n (live_pairs ps) = ap live_pairs upper_is ∙ live_join (drop n ps) fs fs_empty ∙ live_drop n ps s.packed in
@@ -359,17 +359,17 @@ module _ {K V : Type 0} where
       )
 
   -- the two halves of a row
-  pub sound_halves : (cmp : K → K → Ordering) (ps mine lower qs rs : List (Place K V)) (len used low : ℕ) → IsSound cmp ps len used
-      → mine ≡ drop 8 ps ++ Empty ∷ no_half → lower ≡ take 8 ps ++ no_half → length mine ≡ 15 → length lower ≡ 15 → low ≡ length (take 8 (live_pairs ps)) → qs ≡ packed 0 lower → rs ≡ packed 0 mine
-      → (IsSound cmp qs low low × ((f : Bool) → cells_of qs low f false ≡ filled f (take 8 (live_pairs ps))))
-      × (IsSound cmp rs (len - low) (len - low) × ((f : Bool) → cells_of rs (len - low) f false ≡ filled f (drop 8 (live_pairs ps))))
+  pub sound_halves : (cmp : K → K → Ordering) (ps mine lower qs rs : List (Place K V)) (len used low : ℕ) → IsArray cmp ps len used
+      → mine ≡ drop 8 ps ++ Empty ∷ no_half → lower ≡ take 8 ps ++ no_half → length mine ≡ 15 → length lower ≡ 15 → low ≡ length (take 8 (live_pairs ps)) → qs ≡ repacked 0 lower → rs ≡ repacked 0 mine
+      → (IsArray cmp qs low low × ((f : Bool) → cells_of qs low f false ≡ filled_array f (take 8 (live_pairs ps))))
+      × (IsArray cmp rs (len - low) (len - low) × ((f : Bool) → cells_of rs (len - low) f false ≡ filled_array f (drop 8 (live_pairs ps))))
   sound_halves cmp ps mine lower qs rs len used low s mine_is lower_is mine_count lower_count low_is qs_is rs_is = sound_parts cmp ps lower mine no_half (Empty ∷ no_half) qs rs len used 8 low s lower_is mine_is tt tt lower_count mine_count low_is qs_is rs_is
 
   -- cut behind n places
-  pub sound_cut : (cmp : K → K → Ordering) (ps lower upper qs rs : List (Place K V)) (len used n low : ℕ) → IsSound cmp ps len used
-      → lower ≡ take n ps ++ take (length (drop n ps)) no_places → upper ≡ drop n ps ++ drop (length (drop n ps)) no_places → length lower ≡ 15 → length upper ≡ 15 → low ≡ length (take n (live_pairs ps)) → qs ≡ packed 0 lower → rs ≡ packed 0 upper
-      → (IsSound cmp qs low low × ((f : Bool) → cells_of qs low f false ≡ filled f (take n (live_pairs ps))))
-      × (IsSound cmp rs (len - low) (len - low) × ((f : Bool) → cells_of rs (len - low) f false ≡ filled f (drop n (live_pairs ps))))
+  pub sound_cut : (cmp : K → K → Ordering) (ps lower upper qs rs : List (Place K V)) (len used n low : ℕ) → IsArray cmp ps len used
+      → lower ≡ take n ps ++ take (length (drop n ps)) no_places → upper ≡ drop n ps ++ drop (length (drop n ps)) no_places → length lower ≡ 15 → length upper ≡ 15 → low ≡ length (take n (live_pairs ps)) → qs ≡ repacked 0 lower → rs ≡ repacked 0 upper
+      → (IsArray cmp qs low low × ((f : Bool) → cells_of qs low f false ≡ filled_array f (take n (live_pairs ps))))
+      × (IsArray cmp rs (len - low) (len - low) × ((f : Bool) → cells_of rs (len - low) f false ≡ filled_array f (drop n (live_pairs ps))))
   sound_cut cmp ps lower upper qs rs len used n low s lower_is upper_is lower_count upper_count low_is qs_is rs_is =
       sound_parts cmp ps lower upper (take (length (drop n ps)) no_places) (drop (length (drop n ps)) no_places) qs rs len used n low s lower_is upper_is
       (emptied_take (length (drop n ps)) no_places tt) (emptied_drop (length (drop n ps)) no_places tt) lower_count upper_count low_is qs_is rs_is
@@ -380,10 +380,10 @@ module _ {K V : Type 0} where
   pub low_length : (xs : List (K × V)) (low len n : ℕ) → len ≡ length xs → low ≡ min len n → low ≡ length (take n xs)
   low_length xs low len n e h = simp length-take (omega (arith, e, h))
 
-  pub vacated_pair : (ps rs : List (Place K V)) (n : ℕ) → IsPacked ps → rs ≡ packed 0 ps → live_pair (slice_index_or rs n Empty) ≡ slice_get (live_pairs ps) n
-  vacated_pair ps rs n pk is = rw is (live_get n (packed 0 ps) (packed_packed 0 ps pk) ∙ ap (λ xs. slice_get xs n) (live_packed 0 ps pk))
+  pub vacated_pair : (ps rs : List (Place K V)) (n : ℕ) → IsPacked ps → rs ≡ repacked 0 ps → live_pair (slice_index_or rs n Empty) ≡ slice_get (live_pairs ps) n
+  vacated_pair ps rs n pk is = rw is (live_get n (repacked 0 ps) (packed_packed 0 ps pk) ∙ ap (λ xs. slice_get xs n) (live_packed 0 ps pk))
 
-  pub vacated_some : (ps rs : List (Place K V)) (n : ℕ) → IsPacked ps → rs ≡ packed 0 ps → n < length (live_pairs ps) → IsSome (live_pair (slice_index_or rs n Empty))
+  pub vacated_some : (ps rs : List (Place K V)) (n : ℕ) → IsPacked ps → rs ≡ repacked 0 ps → n < length (live_pairs ps) → IsSome (live_pair (slice_index_or rs n Empty))
   vacated_some ps rs n pk is lt = rw (vacated_pair ps rs n pk is) (within_some (live_pairs ps) n lt)
 
   pub take_none : (xs : List (K × V)) (len : ℕ) → len ≡ length xs → len ≡ 0 → take (length xs - 1) xs ≡ xs

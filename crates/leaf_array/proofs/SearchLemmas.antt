@@ -10,7 +10,7 @@ use Rattle.std.specs.Map.{keys_of}
 use Rattle.std.proofs.lemmas.Map.Keys.{sorted_head, sorted_tail}
 use Rattle.leaf_array.specs.declared.place.Place.{Place}
 use Rattle.leaf_array.specs.declared.place.Place.TheVariants.{Empty, Dead, Live}
-use Rattle.leaf_array.specs.Places.{live_pairs, below, least, IsEmptied, IsDeparted, IsPacked, IsMiss}
+use Rattle.leaf_array.specs.Places.{live_pairs, live_below, least, IsEmptied, IsDeparted, IsPacked, IsMiss}
 
 less_is : (o : Ordering) → is_lt o ≡ true → o ≡ Less
 less_is Less h = refl
@@ -23,7 +23,7 @@ greater_is Equal h n = absurd (n refl)
 greater_is Greater h n = refl
 
 module _ {K V : Type 0} (cmp : K → K → Ordering) (key : K) where
-  past_emptied : (n : ℕ) (ps : List (Place K V)) → IsEmptied ps → below cmp key (slice_index_or ps n Empty ∷ []) ≡ 0
+  past_emptied : (n : ℕ) (ps : List (Place K V)) → IsEmptied ps → live_below cmp key (slice_index_or ps n Empty ∷ []) ≡ 0
   past_emptied zero [] h = refl
   past_emptied (suc n) [] h = refl
   past_emptied zero (Empty ∷ ps) h = refl
@@ -31,7 +31,7 @@ module _ {K V : Type 0} (cmp : K → K → Ordering) (key : K) where
   past_emptied n (Dead s k v ∷ ps) h = absurd h
   past_emptied n (Live s g k v ∷ ps) h = absurd h
 
-  past_departed : (n : ℕ) (ps : List (Place K V)) → IsDeparted ps → below cmp key (slice_index_or ps n Empty ∷ []) ≡ 0
+  past_departed : (n : ℕ) (ps : List (Place K V)) → IsDeparted ps → live_below cmp key (slice_index_or ps n Empty ∷ []) ≡ 0
   past_departed zero [] h = refl
   past_departed (suc n) [] h = refl
   past_departed zero (Empty ∷ ps) h = refl
@@ -40,12 +40,12 @@ module _ {K V : Type 0} (cmp : K → K → Ordering) (key : K) where
   past_departed (suc n) (Dead s k v ∷ ps) h = past_departed n ps h
   past_departed n (Live s g k v ∷ ps) h = absurd h
 
-  lesser_head : (s g : ℕ) (k : K) (v : V) → 0 < below cmp key (Live s g k v ∷ []) → is_lt (cmp k key) ≡ true
+  lesser_head : (s g : ℕ) (k : K) (v : V) → 0 < live_below cmp key (Live s g k v ∷ []) → is_lt (cmp k key) ≡ true
   lesser_head s g k v h = (elim (is_lt (cmp k key)) as (λ b. 0 < cond b 1 0 → b ≡ true) [ true ↦ λ e. refl | false ↦ λ e. absurd (omega (arith, e)) ]) h
 
   -- what is below each key is below a place that is live with a lesser key
   lesser_from : (laws : IsTotalOrder cmp) (k : K) (n : ℕ) (ps : List (Place K V))
-      → IsPacked ps → AllByRecursion (λ y. cmp k y ≡ Less) (keys_of (live_pairs ps)) → 0 < below cmp key (slice_index_or ps n Empty ∷ []) → is_lt (cmp k key) ≡ true
+      → IsPacked ps → AllByRecursion (λ y. cmp k y ≡ Less) (keys_of (live_pairs ps)) → 0 < live_below cmp key (slice_index_or ps n Empty ∷ []) → is_lt (cmp k key) ≡ true
   lesser_from laws k zero [] pk all h = absurd (omega (arith, h))
   lesser_from laws k (suc n) [] pk all h = absurd (omega (arith, h))
   lesser_from laws k zero (Empty ∷ ps) pk all h = absurd (omega (arith, h))
@@ -56,8 +56,8 @@ module _ {K V : Type 0} (cmp : K → K → Ordering) (key : K) where
   lesser_from laws k (suc n) (Live s g k2 v ∷ ps) pk all h = lesser_from laws k n ps pk all.1 h
 
   pub below_past : (laws : IsTotalOrder cmp) (n : ℕ) (ps : List (Place K V))
-      → IsPacked ps → IsStrictlySortedBy cmp (keys_of (live_pairs ps)) → 0 < below cmp key (slice_index_or ps n Empty ∷ [])
-      → (below cmp key ps ≡ suc n + below cmp key (drop (suc n) ps)) × (least cmp key ps ≡ least cmp key (drop (suc n) ps))
+      → IsPacked ps → IsStrictlySortedBy cmp (keys_of (live_pairs ps)) → 0 < live_below cmp key (slice_index_or ps n Empty ∷ [])
+      → (live_below cmp key ps ≡ suc n + live_below cmp key (drop (suc n) ps)) × (least cmp key ps ≡ least cmp key (drop (suc n) ps))
   below_past laws zero [] pk so h = absurd (omega (arith, h))
   below_past laws (suc n) [] pk so h = absurd (omega (arith, h))
   below_past laws zero (Empty ∷ ps) pk so h = absurd (omega (arith, h))
@@ -71,23 +71,23 @@ module _ {K V : Type 0} (cmp : K → K → Ordering) (key : K) where
       rw lt (omega (arith, r.0), r.1)
 
   -- no more places have a lesser key than there are
-  pub below_most : (ps : List (Place K V)) → below cmp key ps ≤ length ps
+  pub below_most : (ps : List (Place K V)) → live_below cmp key ps ≤ length ps
   below_most [] = omega arith
   below_most (Empty ∷ ps) = omega arith
   below_most (Dead s k v ∷ ps) = omega arith
-  below_most (Live s g k v ∷ ps) = elim (is_lt (cmp k key)) as (λ b. cond b (suc (below cmp key ps)) 0 ≤ suc (length ps)) [ true ↦ omega (arith, below_most ps) | false ↦ omega arith ]
+  below_most (Live s g k v ∷ ps) = elim (is_lt (cmp k key)) as (λ b. cond b (suc (live_below cmp key ps)) 0 ≤ suc (length ps)) [ true ↦ omega (arith, below_most ps) | false ↦ omega arith ]
 
   -- no place behind one without a lesser key counts
-  pub below_stops : (n : ℕ) (ps : List (Place K V)) → (0 < below cmp key (slice_index_or ps n Empty ∷ []) → ⊥) → below cmp key ps ≤ n
+  pub below_stops : (n : ℕ) (ps : List (Place K V)) → (0 < live_below cmp key (slice_index_or ps n Empty ∷ []) → ⊥) → live_below cmp key ps ≤ n
   below_stops n [] none = omega arith
   below_stops n (Empty ∷ ps) none = omega arith
   below_stops n (Dead s k v ∷ ps) none = omega arith
   below_stops zero (Live s g k v ∷ ps) none =
-      (elim (is_lt (cmp k key)) as (λ b. (0 < cond b 1 0 → ⊥) → cond b (suc (below cmp key ps)) 0 ≤ 0) [
+      (elim (is_lt (cmp k key)) as (λ b. (0 < cond b 1 0 → ⊥) → cond b (suc (live_below cmp key ps)) 0 ≤ 0) [
         | true ↦ λ h. absurd (h (omega arith))
         | false ↦ λ h. omega arith
       ]) none
-  below_stops (suc n) (Live s g k v ∷ ps) none = elim (is_lt (cmp k key)) as (λ b. cond b (suc (below cmp key ps)) 0 ≤ suc n) [ true ↦ omega (arith, below_stops n ps none) | false ↦ omega arith ]
+  below_stops (suc n) (Live s g k v ∷ ps) none = elim (is_lt (cmp k key)) as (λ b. cond b (suc (live_below cmp key ps)) 0 ≤ suc n) [ true ↦ omega (arith, below_stops n ps none) | false ↦ omega arith ]
 
   -- the pair at which a search ends isn't lesser
   pub least_not_lesser : (ps : List (Place K V)) (e : K × V) → least cmp key ps ≡ Some e → is_lt (cmp e.0 key) ≡ false

@@ -7,7 +7,7 @@ use Rattle.std.proofs.lemmas.Bool.Decides.{nat_tests}
 use Rattle.leaf_array.specs.declared.place.Place.{Place}
 use Rattle.leaf_array.specs.declared.place.Place.TheVariants.{Empty, Dead, Live}
 use Rattle.leaf_array.specs.Cells.{slot_of, rank_in, standing, reachable_in, tombstones_in}
-use Rattle.leaf_array.specs.Places.{live_pairs, labels_above, dead_pairs, pair_at_slot, stands, uses, uses_below, IsEmptied, IsDeparted, IsPacked}
+use Rattle.leaf_array.specs.Places.{live_pairs, labels_above, dead_pairs, pair_at_slot, stands, slot_uses, uses_below, IsEmptied, IsDeparted, IsPacked}
 
 module _ {K V : Type 0} where
   emptied_slot : (slot : ℕ) (ps : List (Place K V)) → IsEmptied ps → pair_at_slot slot ps ≡ tombstones_in slot (dead_pairs ps)
@@ -32,13 +32,13 @@ module _ {K V : Type 0} where
         | false ↦ slot_pair slot (low + g + 1) ps h
       ]
 
-  pub slot_some : (slot : ℕ) (ps : List (Place K V)) → 0 < uses slot ps → IsSome (pair_at_slot slot ps)
+  pub slot_some : (slot : ℕ) (ps : List (Place K V)) → 0 < slot_uses slot ps → IsSome (pair_at_slot slot ps)
   slot_some slot [] = λ h. absurd (omega (arith, h))
   slot_some slot (Empty ∷ ps) = λ h. slot_some slot ps h
   slot_some slot (Dead s k v ∷ ps) =
-      elim (s == slot) as (λ b. 0 < cond b 1 0 + uses slot ps → IsSome (cond b (Some (k, v)) (pair_at_slot slot ps))) [ true ↦ λ h. refl | false ↦ λ h. slot_some slot ps (omega (arith, h)) ]
+      elim (s == slot) as (λ b. 0 < cond b 1 0 + slot_uses slot ps → IsSome (cond b (Some (k, v)) (pair_at_slot slot ps))) [ true ↦ λ h. refl | false ↦ λ h. slot_some slot ps (omega (arith, h)) ]
   slot_some slot (Live s g k v ∷ ps) =
-      elim (s == slot) as (λ b. 0 < cond b 1 0 + uses slot ps → IsSome (cond b (Some (k, v)) (pair_at_slot slot ps))) [ true ↦ λ h. refl | false ↦ λ h. slot_some slot ps (omega (arith, h)) ]
+      elim (s == slot) as (λ b. 0 < cond b 1 0 + slot_uses slot ps → IsSome (cond b (Some (k, v)) (pair_at_slot slot ps))) [ true ↦ λ h. refl | false ↦ λ h. slot_some slot ps (omega (arith, h)) ]
 
 module _ {K V : Type 0} where
   pub stands_labels : (slot low : ℕ) (ps : List (Place K V)) → stands slot ps ≡ standing slot (labels_above low ps)

@@ -12,8 +12,8 @@ use Rattle.std.proofs.lemmas.Bool.{false≢true}
 use Rattle.std.proofs.lemmas.Bool.Decides.{nat_tests}
 use Rattle.leaf_array.specs.declared.place.Place.{Place}
 use Rattle.leaf_array.specs.declared.place.Place.TheVariants.{Empty, Dead, Live}
-use Rattle.leaf_array.specs.Cells.{Cells, is_nil, lesser, slot_of, inserted, replaced, overwritten, removed, removed_at, appended, entered, handed_on, fallen}
-use Rattle.leaf_array.specs.Places.{live_pair, live_pairs, labels_above, dead_pairs, has_room, pushed, tombstones, renewed, paired, died, below, least, top, uses, no_places, IsPacked, IsHit, IsMiss, IsSound, cells_of}
+use Rattle.leaf_array.specs.Cells.{Cells, is_nil, lesser, slot_of, array_inserted, array_replaced, array_overwritten, array_removed, removed_at, appended, entered, handed_on, fallen}
+use Rattle.leaf_array.specs.Places.{live_pair, live_pairs, labels_above, dead_pairs, has_room, pushed, tombstones, renewed, paired, died, live_below, least, top, slot_uses, no_places, IsPacked, IsHit, IsMiss, IsArray, cells_of}
 use Rattle.leaf_array.proofs.SearchLemmas.{least_not_lesser, missed}
 use Rattle.leaf_array.proofs.OrderLemmas.{below_lesser, found_entry, missing, hit_within, pairs_insert, pairs_renew}
 use Rattle.leaf_array.proofs.PackLemmas.{least_at, past_end}
@@ -52,7 +52,7 @@ module _ {K V : Type 0} (cmp : K → K → Ordering) (laws : IsTotalOrder cmp) (
   miss_from ps h e found = missed cmp key ps e.0 e.1 found (λ q. false≢true (sym h ∙ has_from ps (e, found, q))) e found
 
   pub found_some : (ps : List (Place K V)) (k : K) (v : V) → least cmp key ps ≡ Some (k, v) → cmp k key ≡ Equal
-      → (below cmp key ps ≡ lesser cmp key (live_pairs ps)) × (below cmp key ps < length (live_pairs ps)) × (lookup_entry (is_at (cmp key)) (live_pairs ps) ≡ Some (k, v))
+      → (live_below cmp key ps ≡ lesser cmp key (live_pairs ps)) × (live_below cmp key ps < length (live_pairs ps)) × (lookup_entry (is_at (cmp key)) (live_pairs ps) ≡ Some (k, v))
   found_some ps k v e q = (below_lesser cmp key ps, hit_within cmp laws key ps ((k, v), e, q), found_entry cmp laws key ps (k, v) e q)
 
   pub found_none : (ps : List (Place K V)) → IsStrictlySortedBy cmp (keys_of (live_pairs ps)) → IsMiss cmp key ps → lookup_entry (is_at (cmp key)) (live_pairs ps) ≡ None
@@ -64,7 +64,7 @@ module _ {K V : Type 0} (cmp : K → K → Ordering) (laws : IsTotalOrder cmp) (
   pub missed_all : (ps : List (Place K V)) → least cmp key ps ≡ None → IsMiss cmp key ps
   missed_all ps h e q = absurd (let bad : None ≡ Some e = cc in false≢true (ap is_some bad))
 
-  pub room_at : (ps : List (Place K V)) (len used at : ℕ) → IsSound cmp ps len used → used < 15 → at ≡ lesser cmp key (live_pairs ps) → has_room (drop at ps) ≡ true
+  pub room_at : (ps : List (Place K V)) (len used at : ℕ) → IsArray cmp ps len used → used < 15 → at ≡ lesser cmp key (live_pairs ps) → has_room (drop at ps) ≡ true
   room_at ps len used at s lt e =
       let le : at ≤ length (live_pairs ps) = omega (arith, e, below_lesser cmp key ps, edit.below_live cmp key ps) in
       edit.room_behind at ps s.packed le (omega (arith, s.all, s.count, lt))
@@ -79,7 +79,7 @@ module _ {K V : Type 0} (cmp : K → K → Ordering) (laws : IsTotalOrder cmp) (
   live_at zero (Live s g k v ∷ ps) lt = refl
   live_at (suc n) (Live s g k v ∷ ps) lt = live_at n ps (omega (arith, lt))
 
-  pub live_at_key : (ps : List (Place K V)) (len used at : ℕ) → IsSound cmp ps len used → at ≡ lesser cmp key (live_pairs ps) → is_some (lookup (is_at (cmp key)) (live_pairs ps)) ≡ true
+  pub live_at_key : (ps : List (Place K V)) (len used at : ℕ) → IsArray cmp ps len used → at ≡ lesser cmp key (live_pairs ps) → is_some (lookup (is_at (cmp key)) (live_pairs ps)) ≡ true
       → IsSome (live_pair (slice_index_or ps at Empty))
   live_at_key ps len used at s e there = live_at at ps (omega (arith, e, below_lesser cmp key ps, hit_within cmp laws key ps (hit_from ps there s.sorted)))
 
@@ -87,17 +87,17 @@ module _ {K V : Type 0} (cmp : K → K → Ordering) (laws : IsTotalOrder cmp) (
 
   -- a row with a new live place behind n others, h ranks above the place before it
   pub record IsPut (val : V) (h : ℕ) (ps qs : List (Place K V)) (len used : ℕ) : Type 0 where
-    pub sound : IsSound cmp qs (len + 1) (used + 1)
+    pub sound : IsArray cmp qs (len + 1) (used + 1)
     pub entries : live_pairs qs ≡ insert_entry cmp (live_pairs ps) key val
-    pub pairs : live_pairs qs ≡ live_pairs (take (below cmp key ps) ps ++ Live (slot_of used) h key val ∷ drop (below cmp key ps) ps)
-    pub labels : labels_above 0 qs ≡ labels_above 0 (take (below cmp key ps) ps ++ Live (slot_of used) h key val ∷ drop (below cmp key ps) ps)
+    pub pairs : live_pairs qs ≡ live_pairs (take (live_below cmp key ps) ps ++ Live (slot_of used) h key val ∷ drop (live_below cmp key ps) ps)
+    pub labels : labels_above 0 qs ≡ labels_above 0 (take (live_below cmp key ps) ps ++ Live (slot_of used) h key val ∷ drop (live_below cmp key ps) ps)
     pub dead : dead_pairs qs ≡ dead_pairs ps
 
-  sound_put : (val : V) (h : ℕ) (ps qs : List (Place K V)) (len used at : ℕ) → IsSound cmp ps len used → used < 15 → at ≡ lesser cmp key (live_pairs ps)
+  sound_put : (val : V) (h : ℕ) (ps qs : List (Place K V)) (len used at : ℕ) → IsArray cmp ps len used → used < 15 → at ≡ lesser cmp key (live_pairs ps)
       → is_some (lookup (is_at (cmp key)) (live_pairs ps)) ≡ false → length qs ≡ 15 → qs ≡ take at ps ++ pushed (Live (slot_of used) h key val) (drop at ps)
-      → top (take (below cmp key ps) ps ++ Live (slot_of used) h key val ∷ drop (below cmp key ps) ps) ≤ used + 1 → IsPut val h ps qs len used
+      → top (take (live_below cmp key ps) ps ++ Live (slot_of used) h key val ∷ drop (live_below cmp key ps) ps) ≤ used + 1 → IsPut val h ps qs len used
   sound_put val h ps qs len used at s lt e absent count is low =
-      let n = below cmp key ps in
+      let n = live_below cmp key ps in
       let en : at ≡ n = e ∙ sym (below_lesser cmp key ps) in
       let le : n ≤ length (live_pairs ps) = edit.below_live cmp key ps in
       let room : length (live_pairs ps) + length (dead_pairs ps) < length ps = omega (arith, s.all, s.count, lt) in
@@ -117,7 +117,7 @@ module _ {K V : Type 0} (cmp : K → K → Ordering) (laws : IsTotalOrder cmp) (
           all = omega (arith, longer, s.all, ap length dead);
           within = omega (arith, lt);
           ranks = omega (arith, edit.top_end qs, ap top turn, low);
-          slots = λ slot. let e1 : used + 1 ≡ suc used = omega arith in rw e1 (omega (arith, edit.uses_end slot qs, ap (uses slot) turn, edit.uses_insert (slot_of used) key val h slot n ps, s.slots slot));
+          slots = λ slot. let e1 : used + 1 ≡ suc used = omega arith in rw e1 (omega (arith, edit.uses_end slot qs, ap (slot_uses slot) turn, edit.uses_insert (slot_of used) key val h slot n ps, s.slots slot));
         };
         entries = entries;
         pairs = pairs;
@@ -125,12 +125,12 @@ module _ {K V : Type 0} (cmp : K → K → Ordering) (laws : IsTotalOrder cmp) (
         dead = dead;
       }
 
-  pub sound_place : (val : V) (ps qs : List (Place K V)) (len used at : ℕ) → IsSound cmp ps len used → used < 15 → at ≡ lesser cmp key (live_pairs ps)
+  pub sound_place : (val : V) (ps qs : List (Place K V)) (len used at : ℕ) → IsArray cmp ps len used → used < 15 → at ≡ lesser cmp key (live_pairs ps)
       → is_some (lookup (is_at (cmp key)) (live_pairs ps)) ≡ false → length qs ≡ 15 → qs ≡ take at ps ++ pushed (Live (slot_of used) 0 key val) (drop at ps)
-      → IsSound cmp qs (len + 1) (used + 1)
-      × ((f r : Bool) → cells_of qs (used + 1) f false ≡ inserted cmp key val (cells_of ps used f r))
+      → IsArray cmp qs (len + 1) (used + 1)
+      × ((f r : Bool) → cells_of qs (used + 1) f false ≡ array_inserted cmp key val (cells_of ps used f r))
   sound_place val ps qs len used at s lt e absent count is =
-      let n = below cmp key ps in
+      let n = live_below cmp key ps in
       let le : n ≤ length (live_pairs ps) = edit.below_live cmp key ps in
       let put = sound_put val 0 ps qs len used at s lt e absent count is (omega (arith, edit.top_insert (slot_of used) key val n ps le, s.ranks)) in
       let labels : labels_above 0 qs ≡ entered 0 (lesser cmp key (live_pairs ps)) (slot_of used) (labels_above 0 ps) =
@@ -142,12 +142,12 @@ module _ {K V : Type 0} (cmp : K → K → Ordering) (laws : IsTotalOrder cmp) (
       → is_some (lookup (is_at (cmp key)) (live_pairs ps)) ≡ false
   absent_last ps so last = missing_from ps so (missed_all ps (least_at cmp key ps ∙ past_end (live_pairs ps) (lesser cmp key (live_pairs ps)) (omega (arith, last))))
 
-  pub sound_append : (val : V) (ps qs : List (Place K V)) (len used h : ℕ) → IsSound cmp ps len used → used < 15 → lesser cmp key (live_pairs ps) ≡ length (live_pairs ps)
+  pub sound_append : (val : V) (ps qs : List (Place K V)) (len used h : ℕ) → IsArray cmp ps len used → used < 15 → lesser cmp key (live_pairs ps) ≡ length (live_pairs ps)
       → h ≡ used - top ps → length qs ≡ 15 → qs ≡ take len ps ++ pushed (Live (slot_of used) h key val) (drop len ps)
-      → IsSound cmp qs (len + 1) (used + 1)
+      → IsArray cmp qs (len + 1) (used + 1)
       × ((f r : Bool) → cells_of qs (used + 1) f false ≡ appended key val (cells_of ps used f r))
   sound_append val ps qs len used h s lt last gap count is =
-      let n = below cmp key ps in
+      let n = live_below cmp key ps in
       let end : n ≡ length (live_pairs ps) = below_lesser cmp key ps ∙ last in
       let up : top ps + h + 1 ≡ used + 1 = omega (arith, gap, s.ranks) in
       let put = sound_put val h ps qs len used len s lt (s.live ∙ sym last) (absent_last ps s.sorted last) count is (omega (arith, edit.top_last (slot_of used) key val h n ps end, up)) in
@@ -158,12 +158,12 @@ module _ {K V : Type 0} (cmp : K → K → Ordering) (laws : IsTotalOrder cmp) (
 
   -- ---- another pair for the one that has the key, in its place
 
-  pub sound_overwrite : (val : V) (ps qs : List (Place K V)) (len used at : ℕ) → IsSound cmp ps len used → at ≡ lesser cmp key (live_pairs ps)
+  pub sound_overwrite : (val : V) (ps qs : List (Place K V)) (len used at : ℕ) → IsArray cmp ps len used → at ≡ lesser cmp key (live_pairs ps)
       → is_some (lookup (is_at (cmp key)) (live_pairs ps)) ≡ true → length qs ≡ 15 → qs ≡ take at ps ++ paired key val (drop at ps)
-      → IsSound cmp qs len used
-      × ((f r : Bool) → cells_of qs used f r ≡ overwritten cmp key val (cells_of ps used f r))
+      → IsArray cmp qs len used
+      × ((f r : Bool) → cells_of qs used f r ≡ array_overwritten cmp key val (cells_of ps used f r))
   sound_overwrite val ps qs len used at s e there count is =
-      let n = below cmp key ps in
+      let n = live_below cmp key ps in
       let en : at ≡ n = e ∙ sym (below_lesser cmp key ps) in
       let hit = hit_from ps there s.sorted in
       let in_live : n < length (live_pairs ps) = hit_within cmp laws key ps hit in
@@ -184,14 +184,14 @@ module _ {K V : Type 0} (cmp : K → K → Ordering) (laws : IsTotalOrder cmp) (
           all = omega (arith, same, s.all, ap length dead);
           within = s.within;
           ranks = omega (arith, ap top is2, edit.top_renew w.slot key val n ps, s.ranks);
-          slots = λ slot. omega (arith, ap (uses slot) is2, w.uses_is w.slot key val slot, s.slots slot);
+          slots = λ slot. omega (arith, ap (slot_uses slot) is2, w.uses_is w.slot key val slot, s.slots slot);
         },
         λ f r. rw (live, labels, dead) refl,
       )
 
   -- ---- another pair for the one that has the key, which dies
 
-  pub room_behind_live : (val : V) (ps mid : List (Place K V)) (len used at : ℕ) → IsSound cmp ps len used → used < 15 → at ≡ lesser cmp key (live_pairs ps)
+  pub room_behind_live : (val : V) (ps mid : List (Place K V)) (len used at : ℕ) → IsArray cmp ps len used → used < 15 → at ≡ lesser cmp key (live_pairs ps)
       → is_some (lookup (is_at (cmp key)) (live_pairs ps)) ≡ true → mid ≡ take at ps ++ renewed (slot_of used) key val (drop at ps) → length mid ≡ 15 → has_room (drop len mid) ≡ true
   room_behind_live val ps mid len used at s lt e there mid_is mid_count =
       let sl = slot_of used in
@@ -201,13 +201,13 @@ module _ {K V : Type 0} (cmp : K → K → Ordering) (laws : IsTotalOrder cmp) (
       let mid_packed : IsPacked mid = rw mid_is (edit.packed_renew sl key val at ps in_live s.packed) in
       edit.room_behind len mid mid_packed (omega (arith, s.live, mid_len)) (omega (arith, s.all, mid_len, ap length mid_dead, mid_count, lt))
 
-  pub sound_replace : (val : V) (ps mid qs : List (Place K V)) (old : Place K V) (len used at : ℕ) → IsSound cmp ps len used → used < 15 → at ≡ lesser cmp key (live_pairs ps)
+  pub sound_replace : (val : V) (ps mid qs : List (Place K V)) (old : Place K V) (len used at : ℕ) → IsArray cmp ps len used → used < 15 → at ≡ lesser cmp key (live_pairs ps)
       → is_some (lookup (is_at (cmp key)) (live_pairs ps)) ≡ true → length qs ≡ 15
       → old ≡ died (drop at ps) → mid ≡ take at ps ++ renewed (slot_of used) key val (drop at ps) → length mid ≡ 15 → qs ≡ take len mid ++ pushed old (drop len mid)
-      → IsSound cmp qs len (used + 1)
-      × ((f r : Bool) → cells_of qs (used + 1) f r ≡ replaced cmp key val (cells_of ps used f r))
+      → IsArray cmp qs len (used + 1)
+      × ((f r : Bool) → cells_of qs (used + 1) f r ≡ array_replaced cmp key val (cells_of ps used f r))
   sound_replace val ps mid qs old len used at s lt e there count was mid_is mid_count is =
-      let n = below cmp key ps in
+      let n = live_below cmp key ps in
       let sl = slot_of used in
       let en : at ≡ n = e ∙ sym (below_lesser cmp key ps) in
       let hit = hit_from ps there s.sorted in
@@ -244,7 +244,7 @@ module _ {K V : Type 0} (cmp : K → K → Ordering) (laws : IsTotalOrder cmp) (
           all = omega (arith, same, s.all, ap length dead0);
           within = omega (arith, lt);
           ranks = omega (arith, edit.top_end qs, ap top turn, edit.top_bury w.slot w.key w.val mid, ap top mid_is2, edit.top_renew sl key val n ps, s.ranks);
-          slots = λ slot. let e1 : used + 1 ≡ suc used = omega arith in rw e1 (omega (arith, edit.uses_end slot qs, ap (uses slot) turn, edit.uses_bury w.slot w.key w.val slot l mid, ap (uses slot) mid_is2, w.uses_is sl key val slot, s.slots slot));
+          slots = λ slot. let e1 : used + 1 ≡ suc used = omega arith in rw e1 (omega (arith, edit.uses_end slot qs, ap (slot_uses slot) turn, edit.uses_bury w.slot w.key w.val slot l mid, ap (slot_uses slot) mid_is2, w.uses_is sl key val slot, s.slots slot));
         },
         λ f r. rw (live, labels, dead) refl,
       )
@@ -262,8 +262,8 @@ module _ {K V : Type 0} (cmp : K → K → Ordering) where
   live_remove zero (Live s g k v ∷ ps) lt = edit.live_tombstones s g k v ps
   live_remove (suc n) (Live s g k v ∷ ps) lt = ap (λ qs. (k, v) ∷ qs) (live_remove n ps (omega (arith, lt)))
 
-  pub sound_bury : (ps qs : List (Place K V)) (len used at : ℕ) → IsSound cmp ps len used → at < length (live_pairs ps) → length qs ≡ 15 → qs ≡ take at ps ++ tombstones (drop at ps)
-      → IsSound cmp qs (len - 1) used
+  pub sound_bury : (ps qs : List (Place K V)) (len used at : ℕ) → IsArray cmp ps len used → at < length (live_pairs ps) → length qs ≡ 15 → qs ≡ take at ps ++ tombstones (drop at ps)
+      → IsArray cmp qs (len - 1) used
       × ((f r r2 : Bool) → r2 ≡ (r || len - 1 == 0 && not f) → cells_of qs used f r2 ≡ removed_at at (cells_of ps used f r))
   sound_bury ps qs len used at s lt count is =
       let live : live_pairs qs ≡ remove (live_pairs ps) at = rw is (live_remove at ps lt) in
@@ -281,12 +281,12 @@ module _ {K V : Type 0} (cmp : K → K → Ordering) where
           all = omega (arith, shorter, s.all, deader);
           within = s.within;
           ranks = omega (arith, ap top is, edit.top_remove at ps lt, s.ranks);
-          slots = λ slot. ap (uses slot) is ∙ edit.uses_remove slot at ps lt ∙ s.slots slot;
+          slots = λ slot. ap (slot_uses slot) is ∙ edit.uses_remove slot at ps lt ∙ s.slots slot;
         },
         λ f r r2 e. rw (e, last, live, labels, dead) refl,
       )
 
-  pub sound_new : IsSound {K = K} {V = V} cmp no_places 0 0
+  pub sound_new : IsArray {K = K} {V = V} cmp no_places 0 0
   sound_new = record { count = refl; packed = tt; sorted = sort.sorted_nil cmp; live = refl; all = refl; within = omega arith; ranks = omega arith; slots = λ slot. refl }
 
   top_drop : (n : ℕ) (ps : List (Place K V)) → n < length (live_pairs ps) → top (drop n ps) ≤ top ps
@@ -296,13 +296,13 @@ module _ {K V : Type 0} (cmp : K → K → Ordering) where
   top_drop (suc n) (Dead s k v ∷ ps) lt = absurd (omega (arith, lt))
   top_drop (suc n) (Live s g k v ∷ ps) lt = let h : n < length (live_pairs ps) = omega (arith, lt) in omega (arith, top_drop n ps h)
 
-  pub top_behind : (ps : List (Place K V)) (len used at : ℕ) → IsSound cmp ps len used → at < length (live_pairs ps) → top (drop at ps) ≤ 15
+  pub top_behind : (ps : List (Place K V)) (len used at : ℕ) → IsArray cmp ps len used → at < length (live_pairs ps) → top (drop at ps) ≤ 15
   top_behind ps len used at s lt = omega (arith, top_drop at ps lt, s.ranks, s.within)
 
-  pub live_count : (ps : List (Place K V)) (len used : ℕ) → IsSound cmp ps len used → length (live_pairs ps) ≤ 15
+  pub live_count : (ps : List (Place K V)) (len used : ℕ) → IsArray cmp ps len used → length (live_pairs ps) ≤ 15
   live_count ps len used s = omega (arith, s.all, s.within)
 
 -- the pair of a key, removed by its place
 pub removed_is : {K V : Type 0} (cmp : K → K → Ordering) (laws : IsTotalOrder cmp) (key : K) (a : Cells K V) → is_some (lookup (is_at (cmp key)) a.pairs) ≡ true → IsStrictlySortedBy cmp (keys_of a.pairs)
-    → removed_at (lesser cmp key a.pairs) a ≡ removed cmp key a
+    → removed_at (lesser cmp key a.pairs) a ≡ array_removed cmp key a
 removed_is cmp laws key a there so = ap (λ ps. record (removed_at (lesser cmp key a.pairs) a) { pairs = ps }) (sort.remove_at_key cmp laws a.pairs key there so)

@@ -142,8 +142,8 @@ module _ {K V : Type 0} where
   no_cells frozen = record { pairs = []; used = 0; frozen = frozen; retired = false; labels = []; tombstones = [] }
 
   -- an array with these pairs in the lowest places, and nothing else
-  abbrev pub filled : Bool → List (K × V) → Cells K V
-  filled frozen pairs = record { pairs = pairs; used = length pairs; frozen = frozen; retired = false; labels = fresh_labels 0 (length pairs); tombstones = [] }
+  abbrev pub filled_array : Bool → List (K × V) → Cells K V
+  filled_array frozen pairs = record { pairs = pairs; used = length pairs; frozen = frozen; retired = false; labels = fresh_labels 0 (length pairs); tombstones = [] }
 
   -- without the pair behind n others; an array that loses its last pair retires, unless it is frozen
   abbrev pub removed_at : ℕ → Cells K V → Cells K V
@@ -166,16 +166,16 @@ module _ {K V : Type 0} where
     lesser (p ∷ ps) = cond (is_lt (cmp p.0 key)) (suc (lesser ps)) 0
 
     -- whether a pair has the key
-    abbrev pub has : Cells K V → Bool
-    has a = is_some (lookup (is_at (cmp key)) a.pairs)
+    abbrev pub array_has_key : Cells K V → Bool
+    array_has_key a = is_some (lookup (is_at (cmp key)) a.pairs)
 
     -- with a new pair, which takes the lowest clear bitmap place; the array isn't retired
-    abbrev pub inserted : V → Cells K V → Cells K V
-    inserted val a = record a { pairs = insert_entry cmp a.pairs key val; used = a.used + 1; retired = false; labels = entered 0 (lesser a.pairs) (slot_of a.used) a.labels }
+    abbrev pub array_inserted : V → Cells K V → Cells K V
+    array_inserted val a = record a { pairs = insert_entry cmp a.pairs key val; used = a.used + 1; retired = false; labels = entered 0 (lesser a.pairs) (slot_of a.used) a.labels }
 
     -- with a new pair for the one that has the key, whose rank it takes over
-    abbrev pub replaced : V → Cells K V → Cells K V
-    replaced val a =
+    abbrev pub array_replaced : V → Cells K V → Cells K V
+    array_replaced val a =
         record a {
           pairs = insert_entry cmp (remove_entry (is_at (cmp key)) a.pairs) key val;
           used = a.used + 1;
@@ -184,9 +184,9 @@ module _ {K V : Type 0} where
         }
 
     -- with a new pair for the one that has the key, in its slot
-    abbrev pub overwritten : V → Cells K V → Cells K V
-    overwritten val a = record a { pairs = insert_entry cmp (remove_entry (is_at (cmp key)) a.pairs) key val }
+    abbrev pub array_overwritten : V → Cells K V → Cells K V
+    array_overwritten val a = record a { pairs = insert_entry cmp (remove_entry (is_at (cmp key)) a.pairs) key val }
 
     -- without the pair that has the key
-    abbrev pub removed : Cells K V → Cells K V
-    removed a = record (removed_at (lesser a.pairs) a) { pairs = remove_entry (is_at (cmp key)) a.pairs }
+    abbrev pub array_removed : Cells K V → Cells K V
+    array_removed a = record (removed_at (lesser a.pairs) a) { pairs = remove_entry (is_at (cmp key)) a.pairs }

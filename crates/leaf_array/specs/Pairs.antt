@@ -16,5 +16,5 @@ module _ {K V : Type 0} (cmp : K → K → Ordering) where
   has_key key pairs = list_any (λ p. is_at (cmp key) p.0) pairs
 
   -- the value of the pair with the key
-  abbrev pub value_at : K → List (K × V) → Option V
-  value_at key pairs = lookup (is_at (cmp key)) pairs
+  abbrev pub value_of_key : K → List (K × V) → Option V
+  value_of_key key pairs = lookup (is_at (cmp key)) pairs

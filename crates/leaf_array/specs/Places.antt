@@ -101,18 +101,18 @@ module _ {K V : Type 0} where
   died (Live s g k v ∷ ps) = Dead s k v
 
   -- the first place, if it is live, empty
-  abbrev pub vacated : List (Place K V) → List (Place K V)
-  vacated [] = []
-  vacated (Empty ∷ ps) = Empty ∷ ps
-  vacated (Dead s k v ∷ ps) = Dead s k v ∷ ps
-  vacated (Live s g k v ∷ ps) = Empty ∷ ps
+  abbrev pub front_vacated : List (Place K V) → List (Place K V)
+  front_vacated [] = []
+  front_vacated (Empty ∷ ps) = Empty ∷ ps
+  front_vacated (Dead s k v ∷ ps) = Dead s k v ∷ ps
+  front_vacated (Live s g k v ∷ ps) = Empty ∷ ps
 
   -- each live place with no gap and the slot of the bitmap place that it stands at, counted from n; the others empty
-  abbrev pub packed : ℕ → List (Place K V) → List (Place K V)
-  packed n [] = []
-  packed n (Empty ∷ ps) = Empty ∷ packed (n + 1) ps
-  packed n (Dead s k v ∷ ps) = Empty ∷ packed (n + 1) ps
-  packed n (Live s g k v ∷ ps) = Live (slot_of n) 0 k v ∷ packed (n + 1) ps
+  abbrev pub repacked : ℕ → List (Place K V) → List (Place K V)
+  repacked n [] = []
+  repacked n (Empty ∷ ps) = Empty ∷ repacked (n + 1) ps
+  repacked n (Dead s k v ∷ ps) = Empty ∷ repacked (n + 1) ps
+  repacked n (Live s g k v ∷ ps) = Live (slot_of n) 0 k v ∷ repacked (n + 1) ps
 
   -- how many live places at the front stand before the one with a slot
   abbrev pub stands : ℕ → List (Place K V) → ℕ
@@ -165,11 +165,11 @@ module _ {K V : Type 0} where
 
   module _ (cmp : K → K → Ordering) (key : K) where
     -- how many of the live places at the front have a lesser key
-    abbrev pub below : List (Place K V) → ℕ
-    below [] = 0
-    below (Empty ∷ ps) = 0
-    below (Dead s k v ∷ ps) = 0
-    below (Live s g k v ∷ ps) = cond (is_lt (cmp k key)) (suc (below ps)) 0
+    abbrev pub live_below : List (Place K V) → ℕ
+    live_below [] = 0
+    live_below (Empty ∷ ps) = 0
+    live_below (Dead s k v ∷ ps) = 0
+    live_below (Live s g k v ∷ ps) = cond (is_lt (cmp k key)) (suc (live_below ps)) 0
 
     -- the pair behind these
     abbrev pub least : List (Place K V) → Option (K × V)
@@ -187,11 +187,11 @@ module _ {K V : Type 0} where
     IsMiss ps = (e : K × V) → least ps ≡ Some e → cmp e.0 key ≡ Greater
 
 -- how many places have a slot
-abbrev pub uses : {K V : Type 0} → ℕ → List (Place K V) → ℕ
-uses slot [] = 0
-uses slot (Empty ∷ ps) = uses slot ps
-uses slot (Dead s k v ∷ ps) = cond (s == slot) 1 0 + uses slot ps
-uses slot (Live s g k v ∷ ps) = cond (s == slot) 1 0 + uses slot ps
+abbrev pub slot_uses : {K V : Type 0} → ℕ → List (Place K V) → ℕ
+slot_uses slot [] = 0
+slot_uses slot (Empty ∷ ps) = slot_uses slot ps
+slot_uses slot (Dead s k v ∷ ps) = cond (s == slot) 1 0 + slot_uses slot ps
+slot_uses slot (Live s g k v ∷ ps) = cond (s == slot) 1 0 + slot_uses slot ps
 
 -- how many of the n lowest bitmap places have a slot
 abbrev pub uses_below : ℕ → ℕ → ℕ
@@ -199,7 +199,7 @@ uses_below slot zero = 0
 uses_below slot (suc n) = cond (slot_of n == slot) 1 0 + uses_below slot n
 
 -- the places of an array
-pub record IsSound {K V : Type 0} (cmp : K → K → Ordering) (ps : List (Place K V)) (len used : ℕ) : Type 0 where
+pub record IsArray {K V : Type 0} (cmp : K → K → Ordering) (ps : List (Place K V)) (len used : ℕ) : Type 0 where
   pub count : length ps ≡ 15
   pub packed : IsPacked ps
   pub sorted : IsStrictlySortedBy cmp (keys_of (live_pairs ps))
@@ -207,7 +207,7 @@ pub record IsSound {K V : Type 0} (cmp : K → K → Ordering) (ps : List (Place
   pub all : used ≡ length (live_pairs ps) + length (dead_pairs ps)
   pub within : used ≤ 15
   pub ranks : top ps ≤ used
-  pub slots : (slot : ℕ) → uses slot ps ≡ uses_below slot used
+  pub slots : (slot : ℕ) → slot_uses slot ps ≡ uses_below slot used
 
 -- what a contract sees of an array with these places
 abbrev pub cells_of : {K V : Type 0} → List (Place K V) → ℕ → Bool → Bool → Cells K V

@@ -5,7 +5,7 @@ use Rattle.leaf_array.specs.declared.result.InsertResult.{InsertResult}
 use Rattle.leaf_array.specs.declared.result.InsertResult.TheVariants.{Success, Duplicate, Full}
 use Rattle.leaf_array.specs.declared.result.RemoveResult.{RemoveResult}
 use Rattle.leaf_array.specs.declared.result.RemoveResult.TheVariants as removal
-use Rattle.leaf_array.specs.Cells.{Cells, has}
+use Rattle.leaf_array.specs.Cells.{Cells, array_has_key}
 
 module _ {K V : Type 0} where
   abbrev pub IsSuccess : InsertResult K V → Type 0
@@ -35,11 +35,11 @@ module _ {K V : Type 0} where
 
   -- an insertion that finds the key
   abbrev pub is_repeated : Bool → (K → K → Ordering) → K → Cells K V → Bool
-  is_repeated upsert cmp key a = not (is_closed a) && not upsert && has cmp key a
+  is_repeated upsert cmp key a = not (is_closed a) && not upsert && array_has_key cmp key a
 
   -- an insertion that finds no place
   abbrev pub is_refused : Bool → (K → K → Ordering) → K → Cells K V → Bool
-  is_refused upsert cmp key a = is_closed a || a.used == 15 && (upsert || not (has cmp key a))
+  is_refused upsert cmp key a = is_closed a || a.used == 15 && (upsert || not (array_has_key cmp key a))
 
 -- whether a pair was removed
 abbrev pub is_removal : RemoveResult → Bool

@@ -5,7 +5,7 @@ ghost use Rattle.std.specs.BTreeMap.{is_at};
 ghost use Rattle.std.specs.Map.{lookup_entry, keys_of};
 ghost use Rattle.std.specs.List.Sorted.{IsStrictlySortedBy};
 ghost use Rattle.std.specs.Fn.{FnOnceReturnsAt, FnOnceTakesAt};
-ghost use Rattle.leaf_array.specs.Cells.{no_cells, in_slot, IsUsed, is_nil, entered, standing, rank_in, slot_of, first_above, last_below, newest, lesser, has, inserted, appended, replaced, overwritten, removed, removed_at, filled};
+ghost use Rattle.leaf_array.specs.Cells.{no_cells, in_slot, IsUsed, is_nil, entered, standing, rank_in, slot_of, first_above, last_below, newest, lesser, array_has_key, array_inserted, appended, array_replaced, array_overwritten, array_removed, removed_at, filled_array};
 ghost use Rattle.leaf_array.specs.Words.{word};
 ghost use Rattle.leaf_array.specs.Results.{IsSuccess, IsDuplicate, IsFull, given_back, is_repeated, is_refused, is_removal};
 ghost use Rattle.leaf_array.specs.declared.result.RemoveResult.TheVariants.{Retired, Fail, Frozen};
@@ -30,10 +30,10 @@ pub struct Array<K: Ord, V> {
     ghost retired_empty: { IsTrue retired → len ≡ 0 },
 }
 
-/// Invariant: specs/Places.antt, IsSound: the reachable pairs lie in the places by rising keys, each in a slot of its own.
+/// Invariant: specs/Places.antt, IsArray: the reachable pairs lie in the places by rising keys, each in a slot of its own.
 impl<K: Ord, V> Model for Array<K, V> {
     ghost use Rattle.leaf_array.specs.Cells.{Cells, cells_code};
-    ghost use Rattle.leaf_array.specs.Places.{IsSound, cells_of};
+    ghost use Rattle.leaf_array.specs.Places.{IsArray, cells_of};
 
     ghost Value = { Cells K V };
 
@@ -41,7 +41,7 @@ impl<K: Ord, V> Model for Array<K, V> {
 
     ghost view = { λ a. cells_of a.slots a.used a.frozen a.retired };
 
-    ghost invariant = { λ a. IsSound K.cmp a.slots a.len a.used };
+    ghost invariant = { λ a. IsArray K.cmp a.slots a.len a.used };
 }
 
 impl<K: Ord, V> Array<K, V> {
@@ -256,8 +256,8 @@ impl<K: Ord, V> Array<K, V> {
     /// The place of the pair with this key, or the place that a new one would take.
     #[inline(always)]
     fn find(&self, key: &K) -> Result<usize, usize>
-        ensures hit { IfOk result (λ at. (at ≡ lesser K.cmp key.now self.now.pairs) × (has K.cmp key.now self.now ≡ true)) }
-        ensures miss { IfErr result (λ at. (at ≡ lesser K.cmp key.now self.now.pairs) × (has K.cmp key.now self.now ≡ false)) }
+        ensures hit { IfOk result (λ at. (at ≡ lesser K.cmp key.now self.now.pairs) × (array_has_key K.cmp key.now self.now ≡ true)) }
+        ensures miss { IfErr result (λ at. (at ≡ lesser K.cmp key.now self.now.pairs) × (array_has_key K.cmp key.now self.now ≡ false)) }
     {
         self.slots.find(key)
     }
@@ -268,8 +268,8 @@ impl<K: Ord, V> Array<K, V> {
     pub(crate) fn place(&mut self, at: usize, key: K, val: V)
         requires room { self.old.used < 15 }
         requires place { at ≡ lesser K.cmp key self.old.pairs }
-        requires absent { has K.cmp key self.old ≡ false }
-        ensures { self.new ≡ inserted K.cmp key val self.old }
+        requires absent { array_has_key K.cmp key self.old ≡ false }
+        ensures { self.new ≡ array_inserted K.cmp key val self.old }
     {
         let slot = slot_of(self.used);
         self.slots.insert(
@@ -312,8 +312,8 @@ impl<K: Ord, V> Array<K, V> {
     fn replace(&mut self, at: usize, key: K, val: V)
         requires room { self.old.used < 15 }
         requires place { at ≡ lesser K.cmp key self.old.pairs }
-        requires there { has K.cmp key self.old ≡ true }
-        ensures { self.new ≡ replaced K.cmp key val self.old }
+        requires there { array_has_key K.cmp key self.old ≡ true }
+        ensures { self.new ≡ array_replaced K.cmp key val self.old }
     {
         let dead = self.slots.renew(at, slot_of(self.used), key, val);
         self.slots.insert(usize::from(self.len), dead);
@@ -325,8 +325,8 @@ impl<K: Ord, V> Array<K, V> {
     #[inline]
     fn overwrite(&mut self, at: usize, key: K, val: V) -> (K, V)
         requires place { at ≡ lesser K.cmp key self.old.pairs }
-        requires there { has K.cmp key self.old ≡ true }
-        ensures { self.new ≡ overwritten K.cmp key val self.old }
+        requires there { array_has_key K.cmp key self.old ≡ true }
+        ensures { self.new ≡ array_overwritten K.cmp key val self.old }
     {
         self.slots.overwrite(at, key, val)
     }
@@ -411,7 +411,7 @@ impl<K: Ord, V> Array<K, V> {
     where
         K: Drop,
         V: Drop,
-        ensures { self.new ≡ filled self.old.frozen self.old.pairs }
+        ensures { self.new ≡ filled_array self.old.frozen self.old.pairs }
     {
         self.slots.renumber();
         self.used = self.len;
@@ -423,8 +423,8 @@ impl<K: Ord, V> Array<K, V> {
     where
         K: Drop,
         V: Drop,
-        ensures lower { result ≡ filled false (take 8 self.old.pairs) }
-        ensures upper { self.new ≡ filled self.old.frozen (drop 8 self.old.pairs) }
+        ensures lower { result ≡ filled_array false (take 8 self.old.pairs) }
+        ensures upper { self.new ≡ filled_array self.old.frozen (drop 8 self.old.pairs) }
     {
         let mut slots = self.slots.split_half();
         slots.renumber();
@@ -453,8 +453,8 @@ impl<K: Ord, V> Array<K, V> {
         K: Drop,
         V: Drop,
         requires { at ≤ length self.old.pairs }
-        ensures lower { self.new ≡ filled self.old.frozen (take at self.old.pairs) }
-        ensures upper { result ≡ filled false (drop at self.old.pairs) }
+        ensures lower { self.new ≡ filled_array self.old.frozen (take at self.old.pairs) }
+        ensures upper { result ≡ filled_array false (drop at self.old.pairs) }
     {
         let mut slots = self.slots.cut(at);
         slots.renumber();
@@ -479,7 +479,7 @@ impl<K: Ord, V> Array<K, V> {
         K: Drop,
         V: Drop,
         ensures pair { result ≡ slice_get self.old.pairs (length self.old.pairs - 1) }
-        ensures rest { self.new ≡ filled self.old.frozen (take (length self.old.pairs - 1) self.old.pairs) }
+        ensures rest { self.new ≡ filled_array self.old.frozen (take (length self.old.pairs - 1) self.old.pairs) }
     {
         self.slots.renumber();
         self.retired = false;
@@ -496,12 +496,12 @@ impl<K: Ord, V> Array<K, V> {
     #[inline(always)]
     pub fn insert<const UPSERT: bool>(&mut self, key: K, val: V) -> InsertResult<K, V>
         ensures full { IsFull result ↔ IsTrue (is_refused UPSERT K.cmp key self.old) }
-        ensures absent { IsFull result → UPSERT ≡ false → self.old.frozen ≡ false → has K.cmp key self.old ≡ false }
+        ensures absent { IsFull result → UPSERT ≡ false → self.old.frozen ≡ false → array_has_key K.cmp key self.old ≡ false }
         ensures duplicate { IsDuplicate result ↔ IsTrue (is_repeated UPSERT K.cmp key self.old) }
         ensures back { IfSome (given_back result) (λ p. p ≡ (key, val)) }
         ensures kept { IsSome (given_back result) → self.new ≡ self.old }
-        ensures inserted { IsSuccess result → has K.cmp key self.old ≡ false → self.new ≡ inserted K.cmp key val self.old }
-        ensures replaced { IsSuccess result → has K.cmp key self.old ≡ true → self.new ≡ replaced K.cmp key val self.old }
+        ensures inserted { IsSuccess result → array_has_key K.cmp key self.old ≡ false → self.new ≡ array_inserted K.cmp key val self.old }
+        ensures replaced { IsSuccess result → array_has_key K.cmp key self.old ≡ true → self.new ≡ array_replaced K.cmp key val self.old }
     {
         if self.frozen || self.retired {
             return InsertResult::Full(key, val);
@@ -534,12 +534,12 @@ impl<K: Ord, V> Array<K, V> {
         K: Drop,
         V: Drop,
         ensures full { IsFull result ↔ IsTrue (is_refused false K.cmp key self.old) }
-        ensures absent { IsFull result → self.old.frozen ≡ false → has K.cmp key self.old ≡ false }
+        ensures absent { IsFull result → self.old.frozen ≡ false → array_has_key K.cmp key self.old ≡ false }
         ensures duplicate { IsDuplicate result ↔ IsTrue (is_repeated UPSERT K.cmp key self.old) }
         ensures back { IfSome (given_back result) (λ p. p ≡ (key, val)) }
         ensures kept { IsSome (given_back result) → self.new ≡ self.old }
-        ensures inserted { IsSuccess result → has K.cmp key self.old ≡ false → self.new ≡ inserted K.cmp key val self.old }
-        ensures overwritten { IsSuccess result → has K.cmp key self.old ≡ true → self.new ≡ overwritten K.cmp key val self.old }
+        ensures inserted { IsSuccess result → array_has_key K.cmp key self.old ≡ false → self.new ≡ array_inserted K.cmp key val self.old }
+        ensures overwritten { IsSuccess result → array_has_key K.cmp key self.old ≡ true → self.new ≡ array_overwritten K.cmp key val self.old }
     {
         if self.frozen || self.retired {
             return InsertResult::Full(key, val);
@@ -573,7 +573,7 @@ impl<K: Ord, V> Array<K, V> {
         ensures frozen { result ≡ Frozen ↔ self.old.frozen ≡ true }
         ensures absent { self.old.frozen ≡ false → lookup_entry (is_at (K.cmp key.now)) self.old.pairs ≡ None → result ≡ Fail }
         ensures asked { self.old.frozen ≡ false → IfSome (lookup_entry (is_at (K.cmp key.now)) self.old.pairs) (λ e. FnOnceReturnsAt F.FnOnce condition e.1 (is_removal result)) }
-        ensures removed { is_removal result ≡ true → self.new ≡ removed K.cmp key.now self.old }
+        ensures removed { is_removal result ≡ true → self.new ≡ array_removed K.cmp key.now self.old }
         ensures kept { is_removal result ≡ false → self.new ≡ self.old }
         ensures last { is_removal result ≡ true → (result ≡ Retired ↔ self.new.pairs ≡ []) }
     {

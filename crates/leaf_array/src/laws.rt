@@ -5,7 +5,7 @@ ghost use Rattle.std.specs.BTreeMap.{insert_entry, is_at};
 ghost use Rattle.std.specs.Map.{lookup, lookup_entry, remove_entry};
 ghost use Rattle.std.specs.Option.{is_some, option_map};
 ghost use Rattle.leaf_array.specs.Edits.{inserted, removed, upserted};
-ghost use Rattle.leaf_array.specs.Pairs.{IsAscending, has_key, value_at};
+ghost use Rattle.leaf_array.specs.Pairs.{IsAscending, has_key, value_of_key};
 
 /// An ascending list stays ascending when a pair is put at its place, so also where an insert adds
 /// one.
@@ -20,7 +20,7 @@ pub fn removing_keeps_ascending<K: Ord, V>()
 
 /// A pair that was put at its place is what its key finds.
 pub fn upserting_is_found<K: Ord, V>()
-    ensures { (key : K) (value : V) (pairs : List (K × V)) → value_at K.cmp key (upserted K.cmp key value pairs) ≡ Some value }
+    ensures { (key : K) (value : V) (pairs : List (K × V)) → value_of_key K.cmp key (upserted K.cmp key value pairs) ≡ Some value }
 {}
 
 /// An entry put into an ascending list that doesn't have its key, in the words of std's maps, is an insert.
@@ -41,5 +41,5 @@ pub fn taking_out_is_removing<K: Ord, V>()
 /// A list has a key exactly if std's look-up finds something, and its value is that of the entry found.
 pub fn finding_is_looking_up<K: Ord, V>()
     ensures has { (key : K) (pairs : List (K × V)) → has_key K.cmp key pairs ≡ is_some (lookup (is_at (K.cmp key)) pairs) }
-    ensures value { (key : K) (pairs : List (K × V)) → value_at K.cmp key pairs ≡ option_map (λ e. e.1) (lookup_entry (is_at (K.cmp key)) pairs) }
+    ensures value { (key : K) (pairs : List (K × V)) → value_of_key K.cmp key pairs ≡ option_map (λ e. e.1) (lookup_entry (is_at (K.cmp key)) pairs) }
 {}

@@ -4,7 +4,7 @@ ghost use Rattle.std.specs.Prelude.{◌≡◌, ◌+◌, ◌<◌, ◌≤◌, ◌�
 ghost use Rattle.leaf_array.specs.declared.place.Place.{Place};
 ghost use Rattle.leaf_array.specs.declared.place.Place.TheVariants.{Empty};
 ghost use Rattle.leaf_array.specs.Cells.{slot_of};
-ghost use Rattle.leaf_array.specs.Places.{top, widened, below, is_empty, live_pair, died, renewed, paired, vacated, packed, pair_at_slot};
+ghost use Rattle.leaf_array.specs.Places.{top, widened, live_below, is_empty, live_pair, died, renewed, paired, front_vacated, repacked, pair_at_slot};
 
 use crate::steps::Steps;
 use std::cmp::Ordering;
@@ -91,7 +91,7 @@ pub(crate) fn widen<K, V>(place: &mut Place<K, V>, more: u16)
 /// Whether a place is live with a lesser key: one comparison at most.
 #[inline(always)]
 pub(crate) fn precedes<K: Ord, V>(place: &Place<K, V>, key: &K, steps: &mut Steps) -> bool
-    ensures lesser { IsTrue result ↔ (0 < below K.cmp key.now (place.now ∷ [])) }
+    ensures lesser { IsTrue result ↔ (0 < live_below K.cmp key.now (place.now ∷ [])) }
     ensures cost { steps.new.count ≤ steps.old.count + 1 }
     ensures raised { steps.old.count ≤ steps.new.count }
 {
@@ -190,7 +190,7 @@ pub(crate) fn overwrite<K, V>(place: &mut Place<K, V>, key: K, value: V) -> (K, 
 pub(crate) fn renumber<K: Drop, V: Drop>(place: &mut Place<K, V>, bitmap: u8) -> bool
     requires { bitmap < 15 }
     ensures used { result ≡ not (is_empty place.old) }
-    ensures places { (rest : List (Place K V)) → place.new ∷ packed (bitmap + 1) rest ≡ packed bitmap (place.old ∷ rest) }
+    ensures places { (rest : List (Place K V)) → place.new ∷ repacked (bitmap + 1) rest ≡ repacked bitmap (place.old ∷ rest) }
 {
     match place {
         Place::Live { slot, gap, .. } => {
@@ -211,7 +211,7 @@ pub(crate) fn renumber<K: Drop, V: Drop>(place: &mut Place<K, V>, bitmap: u8) ->
 pub(crate) fn vacate<K, V>(place: &mut Place<K, V>) -> (K, V)
     requires { IsSome (live_pair place.old) }
     ensures pair { Some result ≡ live_pair place.old }
-    ensures places { (rest : List (Place K V)) → place.new ∷ rest ≡ vacated (place.old ∷ rest) }
+    ensures places { (rest : List (Place K V)) → place.new ∷ rest ≡ front_vacated (place.old ∷ rest) }
 {
     match mem::replace(place, Place::Empty) {
         Place::Live {

@@ -3,14 +3,14 @@
 ghost use Rattle.std.specs.Prelude.{◌≡◌, ◌++◌, IfOk, OnOk};
 ghost use Rattle.std.specs.Option.{option_copied};
 ghost use Rattle.leaf_array.specs.Edits.{above, below, inserted, removed, upserted};
-ghost use Rattle.leaf_array.specs.Pairs.{has_key, value_at};
+ghost use Rattle.leaf_array.specs.Pairs.{has_key, value_of_key};
 ghost use Rattle.leaf_array.specs.Values.{ClonesAreSame};
 
 use std::alloc::{AllocError, Global};
 
 /// The value of the pair with the key, as `BTreeMap::get` finds it.
 pub fn find_value<'a, K: Ord, V>(pairs: &'a [(K, V)], key: &K) -> Option<&'a V>
-    ensures { option_copied result ≡ value_at K.cmp key.now pairs.now }
+    ensures { option_copied result ≡ value_of_key K.cmp key.now pairs.now }
 {
     for pair in pairs {
         if key.cmp(&pair.0).is_eq() {

@@ -3,7 +3,7 @@
 ghost use Rattle.std.specs.Prelude.{◌≡◌, ◌+◌, ◌<◌, ◌≤◌, ◌++◌, ◌∷◌, [], length, take, drop, IsTrue, IsSome, Some, None, MatchOption, IfOk, IfErr, option_copied, slice_index_or};
 ghost use Rattle.leaf_array.specs.declared.place.Place.TheVariants.{Empty};
 ghost use Rattle.leaf_array.specs.Cells.{rank_in, first_above, last_below, newest, lesser, entered};
-ghost use Rattle.leaf_array.specs.Places.{live_pair, live_pairs, dead_pairs, labels_above, top, has_room, pushed, tombstones, renewed, paired, died, vacated, packed, pair_at_slot, stands, below, least, no_places, no_half, IsPacked};
+ghost use Rattle.leaf_array.specs.Places.{live_pair, live_pairs, dead_pairs, labels_above, top, has_room, pushed, tombstones, renewed, paired, died, front_vacated, repacked, pair_at_slot, stands, live_below, least, no_places, no_half, IsPacked};
 
 use crate::place::{Place, precedes};
 use crate::row::{
@@ -65,7 +65,7 @@ impl<K: Ord, V> Slots<K, V> {
         requires sorted { IsStrictlySortedBy K.cmp (keys_of (live_pairs self.now)) }
         ensures cost { steps.new.count ≤ steps.old.count + 9 }
         ensures raised { steps.old.count ≤ steps.new.count }
-        ensures place { result.0 ≡ below K.cmp key.now self.now }
+        ensures place { result.0 ≡ live_below K.cmp key.now self.now }
         ensures pair { MatchOption result.1 (least K.cmp key.now self.now ≡ None) (λ e. least K.cmp key.now self.now ≡ Some (e.0.now, e.1.now)) }
     {
         let upper = &self.all.rest.rest.rest.rest.rest.rest.rest;
@@ -203,7 +203,7 @@ impl<K: Ord, V> Slots<K, V> {
         requires { IsSome (live_pair (slice_index_or self.old at Empty)) }
         ensures count { length self.new ≡ 15 }
         ensures pair { Some result ≡ live_pair (slice_index_or self.old at Empty) }
-        ensures places { self.new ≡ take at self.old ++ vacated (drop at self.old) }
+        ensures places { self.new ≡ take at self.old ++ front_vacated (drop at self.old) }
     {
         self.all.vacate(at)
     }
@@ -249,7 +249,7 @@ impl<K: Ord, V> Slots<K, V> {
         V: Drop,
         requires { IsPacked self.old }
         ensures count { length self.new ≡ 15 }
-        ensures places { self.new ≡ packed 0 self.old }
+        ensures places { self.new ≡ repacked 0 self.old }
     {
         self.all.renumber(0);
     }

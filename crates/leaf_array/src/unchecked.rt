@@ -1,7 +1,7 @@
 //! Insertions and removals for a caller that knows already where a pair belongs.
 
 ghost use Rattle.std.specs.Prelude.{◌≡◌, ◌≢◌, ◌<◌, ◌++◌, ◌∷◌, ◌&&◌, [], not, true, false, cond, length};
-ghost use Rattle.leaf_array.specs.Cells.{slot_of, rank_in, lesser, has, is_nil, standing, inserted, appended, removed_at};
+ghost use Rattle.leaf_array.specs.Cells.{slot_of, rank_in, lesser, array_has_key, is_nil, standing, array_inserted, appended, removed_at};
 ghost use Rattle.leaf_array.specs.Words.{word};
 ghost use Rattle.leaf_array.specs.declared.result.RemoveResult.TheVariants.{Success, Retired};
 
@@ -14,7 +14,7 @@ impl<K: Ord, V> Array<K, V> {
     pub fn insert_dry(&self, key: &K) -> (u8, usize)
         requires { self.now.used < 15 }
         ensures place { result.0 ≡ self.now.used }
-        ensures word { (val : V) → result.1 ≡ word (inserted K.cmp key.now val self.now) }
+        ensures word { (val : V) → result.1 ≡ word (array_inserted K.cmp key.now val self.now) }
     {
         let at = self.lower_bound(key).0;
         (self.used(), self.word_beside(at))
@@ -27,12 +27,12 @@ impl<K: Ord, V> Array<K, V> {
     /// bitmap place. A retired array takes the pair, and is retired no more.
     pub fn insert_unchecked(&mut self, key: K, val: V, place: u8, metadata: usize) -> u8
         requires room { self.old.used < 15 }
-        requires absent { has K.cmp key self.old ≡ false }
+        requires absent { array_has_key K.cmp key self.old ≡ false }
         requires place { place ≡ self.old.used }
-        requires dry { metadata ≢ 0 → metadata ≡ word (inserted K.cmp key val self.old) }
+        requires dry { metadata ≢ 0 → metadata ≡ word (array_inserted K.cmp key val self.old) }
         requires last { metadata ≡ 0 → (self.old.frozen ≡ true) × (lesser K.cmp key self.old.pairs ≡ length self.old.pairs) }
         ensures slot { result ≡ slot_of place }
-        ensures inserted { metadata ≢ 0 → self.new ≡ inserted K.cmp key val self.old }
+        ensures inserted { metadata ≢ 0 → self.new ≡ array_inserted K.cmp key val self.old }
         ensures appended { metadata ≡ 0 → self.new ≡ appended key val self.old }
     {
         if metadata == 0 {
@@ -48,7 +48,7 @@ impl<K: Ord, V> Array<K, V> {
     pub fn push_last(&mut self, key: K, val: V)
         requires room { self.old.used < 15 }
         requires last { lesser K.cmp key self.old.pairs ≡ length self.old.pairs }
-        ensures cells { self.new ≡ inserted K.cmp key val self.old }
+        ensures cells { self.new ≡ array_inserted K.cmp key val self.old }
         ensures pairs { self.new.pairs ≡ self.old.pairs ++ (key, val) ∷ [] }
     {
         let at = self.len();

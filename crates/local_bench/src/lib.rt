@@ -7,7 +7,7 @@
 #![tactic(auto)]
 
 ghost use Rattle.std.specs.Prelude.{◌≡◌, ◌≤◌};
-ghost use Rattle.ordered_index.specs.State.{IsIdle};
+ghost use Rattle.ordered_index.specs.State.{HasNoSession};
 
 mod commits;
 mod reads;
@@ -104,7 +104,7 @@ fn repeat<const S: usize>(
 
 /// Ends an index that has no session.
 fn end<const S: usize>(index: LocalIndex<u64, u64, S>)
-    requires { IsIdle index }
+    requires { HasNoSession index }
 {
     match index.close() {
         Ok(()) => {}

@@ -1,7 +1,7 @@
 //! Tasks that read.
 
 ghost use Rattle.std.specs.Prelude.{◌≡◌, None, IfSome, IfNone, slice_set};
-ghost use Rattle.ordered_index.specs.State.{IsOpen};
+ghost use Rattle.ordered_index.specs.State.{IsSessionOf};
 
 use crate::task::Task;
 use ordered_index::{Answer, LocalIndex, Query, Receipt, Session};
@@ -30,7 +30,7 @@ pub(crate) fn read_task<const S: usize>(
 pub(crate) fn begin<const S: usize>(
     index: &mut LocalIndex<u64, u64, S>,
 ) -> Option<Session<u64, u64>>
-    ensures open { IfSome result (λ s. IsOpen index.new s) }
+    ensures open { IfSome result (λ s. IsSessionOf index.new s) }
     ensures places { IfSome result (λ s. slice_set index.new.places s.place None ≡ index.old.places) }
     ensures refused { IfNone result (index.new.places ≡ index.old.places) }
 {
@@ -46,7 +46,7 @@ pub(crate) fn shut<const S: usize>(
     index: &mut LocalIndex<u64, u64, S>,
     session: Session<u64, u64>,
 ) -> Receipt<u64, u64>
-    requires { IsOpen index.old session }
+    requires { IsSessionOf index.old session }
     ensures { index.new.places ≡ slice_set index.old.places session.place None }
 {
     index.close_session(session)
@@ -101,7 +101,7 @@ fn get_all<const S: usize>(
     session: &Session<u64, u64>,
     probes: &[u64],
 ) -> u64
-    requires { IsOpen index.now session.now }
+    requires { IsSessionOf index.now session.now }
 {
     let mut sum = 0u64;
     for probe in probes {
@@ -121,7 +121,7 @@ fn range_all<const S: usize>(
     session: &Session<u64, u64>,
     probes: &[u64],
 ) -> u64
-    requires { IsOpen index.now session.now }
+    requires { IsSessionOf index.now session.now }
 {
     let mut sum = 0u64;
     for probe in probes {
@@ -138,7 +138,7 @@ fn range_one<'t, const S: usize>(
     session: &Session<u64, u64>,
     from: &'t u64,
 ) -> u64
-    requires { IsOpen index.now session.now }
+    requires { IsSessionOf index.now session.now }
 {
     let mut sum = 0u64;
     for (_, value) in index
@@ -153,7 +153,7 @@ fn range_one<'t, const S: usize>(
 /// Reads all pairs.
 #[inline(never)]
 fn walk<const S: usize>(index: &LocalIndex<u64, u64, S>, session: &Session<u64, u64>) -> u64
-    requires { IsOpen index.now session.now }
+    requires { IsSessionOf index.now session.now }
 {
     let mut sum = 0u64;
     for (_, value) in index.iter(session) {
@@ -169,8 +169,8 @@ fn record_all<const S: usize>(
     session: &mut Session<u64, u64>,
     probes: &[u64],
 ) -> u64
-    requires { IsOpen index.now session.old }
-    ensures open { IsOpen index.now session.new }
+    requires { IsSessionOf index.now session.old }
+    ensures open { IsSessionOf index.now session.new }
     ensures place { session.new.place ≡ session.old.place }
 {
     let mut sum = 0u64;

@@ -9,7 +9,7 @@ use Rattle.std.specs.declared.cmp.Ordering.{Ordering}
 use Rattle.std.specs.declared.cmp.Ordering.TheVariants.{Less, Equal, Greater}
 use Rattle.std.specs.declared.ops.Bound.{Bound}
 use Rattle.leaf_array.specs.Pairs.{has_key}
-use Rattle.leaf_array.proofs.ListLemmas.{value_at-upserted}
+use Rattle.leaf_array.proofs.ListLemmas.{value_of_key-upserted}
 use Rattle.versions.specs.Writes.{after_write, after_writes}
 use Rattle.versions.specs.declared.write.Write.{Write}
 use Rattle.versions.specs.declared.write.Write.TheVariants as writes
@@ -25,7 +25,7 @@ use Rattle.ordered_index.proofs.ReceiptLemmas.{first_of}
 module _ {K V : Type 0} {cmp : K → K → Ordering} (o : IsTotalOrder cmp) where
   -- a value that is written again is read again, whatever was written before
   pub written_back : (between : List (Write K V)) (pairs : List (K × V)) (key : K) (value : V) → Holds cmp (after_writes cmp (between ++ writes.Upsert key value ∷ []) pairs) (queries.Get key, answers.Get (Some value))
-  written_back [] pairs key value = ap answers.Get (sym (value_at-upserted o key value pairs))
+  written_back [] pairs key value = ap answers.Get (sym (value_of_key-upserted o key value pairs))
   written_back (w ∷ ws) pairs key value = written_back ws (after_write cmp w pairs) key value
 
   module _ (lower upper : Bound K) (key : K) (inside : range_contains cmp lower upper key ≡ true) where

@@ -7,7 +7,7 @@ use Rattle.std.specs.Prelude.{Result, Ok, Err, IfOk, OnErr}
 use Rattle.std.specs.declared.alloc.AllocError.{AllocError}
 use Rattle.ordered_index.specs.declared.query.Query.{Query}
 use Rattle.ordered_index.specs.declared.query.Answer.{Answer}
-use Rattle.ordered_index.specs.State.{State, OpenSession, IsOpen, IsOpenAt, Opens, Closes, Reads}
+use Rattle.ordered_index.specs.State.{State, OpenSession, IsSessionOf, IsOpenAt, Opens, Closes, Reads}
 use Rattle.ordered_index.specs.Desk.{Step, Run, Machine, Serves, KeepsAll, SitsAt, IsUnknown, LeavesSeat, TakesSeat, cleared}
 use Rattle.ordered_index.specs.declared.desk.Seat.{Seat}
 use Rattle.ordered_index.specs.declared.play.DeskCall.{DeskCall}
@@ -64,7 +64,7 @@ module _ {K V : Type 0} where
   kept-open old new place p at number e n h = ap (λ (s : State K V). slice_get s.places at) e ∙ set-other old.places place p at n ∙ h
 
   -- the same of a seat, whose session is at the seat's place
-  kept-seat : (old new : State K V) (place : ℕ) (p : Option ℕ) (at : ℕ) (seat : Seat K V) → new ≡ record old { places = set old.places place p } → place ≢ at → seat.session.place ≡ at → IsOpen old seat.session → IsOpen new seat.session
+  kept-seat : (old new : State K V) (place : ℕ) (p : Option ℕ) (at : ℕ) (seat : Seat K V) → new ≡ record old { places = set old.places place p } → place ≢ at → seat.session.place ≡ at → IsSessionOf old seat.session → IsSessionOf new seat.session
   kept-seat old new place p at seat e n here h = kept-open old new place p seat.session.place seat.session.receipt.number e (λ same. n (same ∙ here)) h
 
   serves-leave : (old new : State K V) (desk : List (Option (Seat K V))) (place : ℕ) → Serves (record { index = old; desk = desk }) → Closes old place new → Serves (record { index = new; desk = set desk place None })
@@ -78,12 +78,12 @@ module _ {K V : Type 0} where
   serves-sit old new desk seat s opens =
       let place : ℕ = seat.session.place in
       let number : ℕ = seat.session.receipt.number in
-      let here : IsOpen new seat.session = ap (λ (x : State K V). slice_get x.places place) opens.changed ∙ set-there old.places place (Some number) None opens.free in
+      let here : IsSessionOf new seat.session = ap (λ (x : State K V). slice_get x.places place) opens.changed ∙ set-there old.places place (Some number) None opens.free in
       record {
         room = kept-room old new desk place (Some number) (Some seat) s opens.changed;
         placed = λ at one h. ⊎_elim (λ q. let same : one ≡ seat = (let d = q.1 in cc) in ap (λ (x : Seat K V). x.session.place) same ∙ q.0) (λ q. s.placed at one q.1) (get-set desk place (Some seat) at (Some one) h);
         opened = λ at one h. ⊎_elim
-            (λ q. let same : one ≡ seat = (let d = q.1 in cc) in subst (λ (x : Seat K V). IsOpen new x.session) (sym same) here)
+            (λ q. let same : one ≡ seat = (let d = q.1 in cc) in subst (λ (x : Seat K V). IsSessionOf new x.session) (sym same) here)
             (λ q. kept-seat old new place (Some number) at one opens.changed q.0 (s.placed at one q.1) (s.opened at one q.1))
             (get-set desk place (Some seat) at (Some one) h);
       }
@@ -168,14 +168,14 @@ module _ {K V : Type 0} where
   pub serves-read : (index : State K V) (desk : List (Option (Seat K V))) (label place : ℕ) (seat : Seat K V) (session : OpenSession K V) → Serves (record { index = index; desk = desk }) → SitsAt desk label place seat → session.place ≡ seat.session.place → session.receipt.number ≡ seat.session.receipt.number → Serves (record { index = index; desk = set desk place (Some (record seat { session = session })) })
   serves-read index desk label place seat session s sat same numbered =
       let moved : Seat K V = record seat { session = session } in
-      let here : IsOpen index session = ap (λ p. slice_get index.places p) same ∙ s.opened place seat sat.there ∙ ap (λ n. Some (Some n)) (sym numbered) in
+      let here : IsSessionOf index session = ap (λ p. slice_get index.places p) same ∙ s.opened place seat sat.there ∙ ap (λ n. Some (Some n)) (sym numbered) in
       record {
         room = let k = s.room in omega (arith, k, length-set desk place (Some moved));
         placed = λ at one h. ⊎_elim
             (λ q. let is : one ≡ moved = (let d = q.1 in cc) in ap (λ (x : Seat K V). x.session.place) is ∙ same ∙ s.placed place seat sat.there ∙ q.0)
             (λ q. s.placed at one q.1) (get-set desk place (Some moved) at (Some one) h);
         opened = λ at one h. ⊎_elim
-            (λ q. let is : one ≡ moved = (let d = q.1 in cc) in subst (λ (x : Seat K V). IsOpen index x.session) (sym is) here)
+            (λ q. let is : one ≡ moved = (let d = q.1 in cc) in subst (λ (x : Seat K V). IsSessionOf index x.session) (sym is) here)
             (λ q. s.opened at one q.1) (get-set desk place (Some moved) at (Some one) h);
       }
 
@@ -192,7 +192,7 @@ module _ {K V : Type 0} where
   -- from old with its desk, the sessions behind the seats that are left are closed
   pub record Closing (desk : List (Option (Seat K V))) (old : State K V) (seats : List (Option (Seat K V))) (new : State K V) : Type 0 where
     pub placed : (place : ℕ) (seat : Seat K V) → slice_get seats place ≡ Some (Some seat) → seat.session.place ≡ place
-    pub opened : (place : ℕ) (seat : Seat K V) → slice_get seats place ≡ Some (Some seat) → IsOpen new seat.session
+    pub opened : (place : ℕ) (seat : Seat K V) → slice_get seats place ≡ Some (Some seat) → IsSessionOf new seat.session
     pub places : cleared seats new.places ≡ cleared desk old.places
     pub others : new ≡ record old { places = new.places }
 
@@ -227,7 +227,7 @@ module _ {K V : Type 0} where
   closing-one desk old seats rest (Some seat) mid new e closes c = closing-seat desk old seats rest seat mid new e closes c
 
   -- the session of the last seat is open
-  pub closing-open : (desk : List (Option (Seat K V))) (old : State K V) (seats rest : List (Option (Seat K V))) (seat : Option (Seat K V)) (mid : State K V) → seats ≡ rest ++ seat ∷ [] → Closing desk old seats mid → IfSome seat (λ s. IsOpen mid s.session)
+  pub closing-open : (desk : List (Option (Seat K V))) (old : State K V) (seats rest : List (Option (Seat K V))) (seat : Option (Seat K V)) (mid : State K V) → seats ≡ rest ++ seat ∷ [] → Closing desk old seats mid → IfSome seat (λ s. IsSessionOf mid s.session)
   closing-open desk old seats rest None mid e c = tt
   closing-open desk old seats rest (Some seat) mid e c = c.opened (length rest) seat (rw e (get-end rest (Some seat)))
 

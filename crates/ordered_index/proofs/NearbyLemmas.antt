@@ -12,13 +12,13 @@ use Rattle.leaf_array.specs.Cells.{lesser}
 use Rattle.leaf_array.specs.Edits.{above, below}
 use Rattle.leaf_array.specs.Pairs.{IsAscending, has_key}
 use Rattle.std.specs.declared.ops.Bound.TheVariants.{Unbounded}
-use Rattle.tree_index.specs.Cursor.{Cursor, kept_above, kept_below, shown, shown_back}
+use Rattle.tree_index.specs.Cursor.{Cursor, kept_above, kept_below, shown_forth, shown_back}
 use Rattle.tree_index.specs.Proximity.{IsLocated}
 use Rattle.tree_index.specs.Shape.{AllKeys}
 use Rattle.tree_index.specs.declared.proximity.Proximity.TheVariants.{Exact, Between, Smaller, Larger}
 use Rattle.tree_index.proofs.LeafLemmas.{has_entry}
 use Rattle.versions.proofs.FilterLemmas.{all_behind, all_over, none_below, rising_tail}
-use Rattle.ordered_index.specs.Answers.{last_of, near, near_by}
+use Rattle.ordered_index.specs.Answers.{last_pair, near, near_by}
 
 taken_get : {X : Type 0} (xs : List X) (n i : ℕ) → i < n → slice_get (take n xs) i ≡ slice_get xs i
 taken_get [] zero i h = refl
@@ -88,8 +88,8 @@ module _ {K V : Type 0} {cmp : K → K → Ordering} (o : IsTotalOrder cmp) (key
     | false ↦ omega arith
   ]
 
-  smaller_last : (ps : List (K × V)) → IsAscending cmp ps → 0 < lesser cmp key ps → last_of (below cmp key ps) ≡ slice_get ps (lesser cmp key ps - 1)
-  smaller_last ps up some = ap last_of (below_taken ps up) ∙ last_taken (lesser cmp key ps) ps some (lesser_within ps)
+  smaller_last : (ps : List (K × V)) → IsAscending cmp ps → 0 < lesser cmp key ps → last_pair (below cmp key ps) ≡ slice_get ps (lesser cmp key ps - 1)
+  smaller_last ps up some = ap last_pair (below_taken ps up) ∙ last_taken (lesser cmp key ps) ps some (lesser_within ps)
 
   entry_not : (ps : List (K × V)) → has_key cmp key ps ≡ false → lookup_entry (is_at (cmp key)) ps ≡ None
   entry_not ps h = none_of (lookup_entry (is_at (cmp key)) ps) (sym (has_entry cmp key ps) ∙ h)
@@ -110,17 +110,17 @@ module _ {K V : Type 0} {cmp : K → K → Ordering} (o : IsTotalOrder cmp) (key
     alone None s l e = cc
     alone (Some p) s l e = refl
 
-    pub near_exact : (got : Option (K × V)) → got ≡ shown cmp c → IsLocated cmp key ps (Exact c) → near_by got None None ≡ near cmp key ps
+    pub near_exact : (got : Option (K × V)) → got ≡ shown_forth cmp c → IsLocated cmp key ps (Exact c) → near_by got None None ≡ near cmp key ps
     near_exact got g at =
         let there = entry_there ps up at.0 in
-        let is : got ≡ lookup_entry (is_at (cmp key)) ps = g ∙ ap (shown cmp) at.1 ∙ kept cmp (slice_get ps (lesser cmp key ps)) ∙ sym there in
-        rw is (alone (lookup_entry (is_at (cmp key)) ps) (last_of (below cmp key ps)) (slice_get (above cmp key ps) 0) (sym (has_entry cmp key ps) ∙ at.0))
+        let is : got ≡ lookup_entry (is_at (cmp key)) ps = g ∙ ap (shown_forth cmp) at.1 ∙ kept cmp (slice_get ps (lesser cmp key ps)) ∙ sym there in
+        rw is (alone (lookup_entry (is_at (cmp key)) ps) (last_pair (below cmp key ps)) (slice_get (above cmp key ps) 0) (sym (has_entry cmp key ps) ∙ at.0))
 
-    pub near_between : (got back : Option (K × V)) → got ≡ shown cmp c → back ≡ shown_back cmp c → IsLocated cmp key ps (Between c) → near_by None got back ≡ near cmp key ps
+    pub near_between : (got back : Option (K × V)) → got ≡ shown_forth cmp c → back ≡ shown_back cmp c → IsLocated cmp key ps (Between c) → near_by None got back ≡ near cmp key ps
     near_between got back g b at =
         rw (entry_not ps at.0, smaller_last ps up at.1, above_first ps at.0)
         (ap (near_by None got) (b ∙ ap (shown_back cmp) at.3 ∙ kept_back cmp (slice_get ps (lesser cmp key ps)))
-        ∙ ap (λ x. near_by None x (slice_get ps (lesser cmp key ps))) (g ∙ ap (shown cmp) at.3 ∙ kept cmp (slice_get ps (lesser cmp key ps - 1))))
+        ∙ ap (λ x. near_by None x (slice_get ps (lesser cmp key ps))) (g ∙ ap (shown_forth cmp) at.3 ∙ kept cmp (slice_get ps (lesser cmp key ps - 1))))
 
     pub near_smaller : (back : Option (K × V)) → back ≡ shown_back cmp c → IsLocated cmp key ps (Smaller c) → near_by None back None ≡ near cmp key ps
     near_smaller back b at =
@@ -130,8 +130,8 @@ module _ {K V : Type 0} {cmp : K → K → Ordering} (o : IsTotalOrder cmp) (key
         (ap (λ x. near_by None x None) (b ∙ ap (shown_back cmp) at.2 ∙ kept_back cmp (slice_get ps (length ps - 1)) ∙ ap (slice_get ps) (sym n))
         ∙ ap (near_by None (slice_get ps (lesser cmp key ps - 1))) (sym (ap (slice_get ps) at.1 ∙ out ps)))
 
-    pub near_larger : (got : Option (K × V)) → got ≡ shown cmp c → IsLocated cmp key ps (Larger c) → near_by None None got ≡ near cmp key ps
+    pub near_larger : (got : Option (K × V)) → got ≡ shown_forth cmp c → IsLocated cmp key ps (Larger c) → near_by None None got ≡ near cmp key ps
     near_larger got g at =
-        let none : last_of (below cmp key ps) ≡ None = ap last_of (below_taken ps up ∙ ap (λ n. take n ps) at.1) in
+        let none : last_pair (below cmp key ps) ≡ None = ap last_pair (below_taken ps up ∙ ap (λ n. take n ps) at.1) in
         rw (entry_not ps at.0, none, above_first ps at.0, at.1)
-        (ap (near_by None None) (g ∙ ap (shown cmp) at.3 ∙ kept cmp (slice_get ps 0)))
+        (ap (near_by None None) (g ∙ ap (shown_forth cmp) at.3 ∙ kept cmp (slice_get ps 0)))

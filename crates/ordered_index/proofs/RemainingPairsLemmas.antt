@@ -18,7 +18,7 @@ use Rattle.tree_index.specs.declared.cursor.End.{End}
 use Rattle.tree_index.specs.declared.cursor.End.TheVariants.{Unopened, At, Done}
 use Rattle.tree_index.proofs.ShapeLemmas.{all_weaken}
 use Rattle.versions.proofs.FilterLemmas.{on_test, rising_head, rising_tail}
-use Rattle.ordered_index.specs.RemainingPairs.{IsStart, behind_end, left_by, run_within}
+use Rattle.ordered_index.specs.RemainingPairs.{IsStart, behind_end, remaining_pairs, run_within}
 
 module _ {K : Type 0} {cmp : K → K → Ordering} (o : IsTotalOrder cmp) where
   le_after : (a p k : K) (r : Ordering) → cmp a p ≡ r → is_le r ≡ true → cmp p k ≡ Less → is_le (cmp a k) ≡ true
@@ -121,18 +121,18 @@ module _ {K V : Type 0} (cmp : K → K → Ordering) where
   some_kept upper None e = e
   some_kept upper (Some p) e = refl
 
-  pub first_of : (c : Cursor K V) → c.backward ≡ Unopened → next_of cmp c ≡ slice_get (left_by cmp c) 0
+  pub first_of : (c : Cursor K V) → c.backward ≡ Unopened → next_of cmp c ≡ slice_get (remaining_pairs cmp c) 0
   first_of c alone =
       rw alone (ap (kept_below cmp c.upper) (forth_first c.lower c.pairs c.forward) ∙ sym (run_first c.upper (behind_end cmp c.lower c.pairs c.forward)))
 
-  pub rest_of : (c : Cursor K V) → c.backward ≡ Unopened → is_some (next_of cmp c) ≡ true → left_by cmp (moved_forth cmp c) ≡ drop 1 (left_by cmp c)
+  pub rest_of : (c : Cursor K V) → c.backward ≡ Unopened → is_some (next_of cmp c) ≡ true → remaining_pairs cmp (moved_forth cmp c) ≡ drop 1 (remaining_pairs cmp c)
   rest_of c alone some =
       let kept : is_some (kept_below cmp c.upper (pair_at c.pairs (forth cmp c.lower c.pairs c.forward))) ≡ true = rw alone at some in
       ap (run_within cmp c.upper) (forth_rest c.lower c.pairs c.forward (some_kept c.upper (pair_at c.pairs (forth cmp c.lower c.pairs c.forward)) kept))
       ∙ run_rest c.upper (behind_end cmp c.lower c.pairs c.forward) (ap (λ p. is_some (kept_below cmp c.upper p)) (sym (forth_first c.lower c.pairs c.forward)) ∙ kept)
 
 -- a cursor that hasn't been asked is yet to give the pairs between its bounds
-pub left_at_start : {K V : Type 0} {cmp : K → K → Ordering} → IsTotalOrder cmp → (c : Cursor K V) → IsStart cmp c → left_by cmp c ≡ entries_between cmp c.lower c.upper c.pairs
+pub left_at_start : {K V : Type 0} {cmp : K → K → Ordering} → IsTotalOrder cmp → (c : Cursor K V) → IsStart cmp c → remaining_pairs cmp c ≡ entries_between cmp c.lower c.upper c.pairs
 left_at_start {cmp = cmp} o c s = rw s.forward (start_between o c.lower c.upper c.pairs s.rising)
 
 -- a pair was given where the next one is there

@@ -15,11 +15,11 @@ use Rattle.versions.specs.Writes.{after_write, after_writes}
 use Rattle.versions.specs.declared.write.Write.{Write}
 use Rattle.versions.specs.declared.write.Write.TheVariants.{Clear}
 use Rattle.ordered_index.proofs.RunLemmas.{kept_list}
-use Rattle.ordered_index.specs.Invariant.{IsKept, state_of}
+use Rattle.ordered_index.specs.Invariant.{IsIndex, index_state}
 use Rattle.ordered_index.specs.Serial.{after_all}
 use Rattle.ordered_index.specs.State.{list_at}
 use Rattle.versions.specs.Store.{IsKeptHere, Store, Version}
-use Rattle.ordered_index.specs.RemainingPairs.{IsStart, left_by, run_within}
+use Rattle.ordered_index.specs.RemainingPairs.{IsStart, remaining_pairs, run_within}
 use Rattle.ordered_index.specs.declared.transaction.Transaction.{Transaction}
 
 take_less : {X : Type 0} (f n : ℕ) (xs : List X) → f ≤ n → take f (take n xs) ≡ take f xs
@@ -59,7 +59,7 @@ module _ {K V : Type 0} (cmp : K → K → Ordering) where
   run_whole [] = refl
   run_whole (p ∷ ps) = ap (λ qs. p ∷ qs) (run_whole ps)
 
-  pub left_whole : (c : Cursor K V) → IsStart cmp c → c.lower ≡ Unbounded → c.upper ≡ Unbounded → left_by cmp c ≡ c.pairs
+  pub left_whole : (c : Cursor K V) → IsStart cmp c → c.lower ≡ Unbounded → c.upper ≡ Unbounded → remaining_pairs cmp c ≡ c.pairs
   left_whole c start lower upper = rw (start.forward, lower, upper, start_none cmp c.pairs) (run_whole c.pairs)
 
 module _ {K V : Type 0} {cmp : K → K → Ordering} (o : IsTotalOrder cmp) where
@@ -72,7 +72,7 @@ module _ {K V : Type 0} {cmp : K → K → Ordering} (o : IsTotalOrder cmp) wher
       let under = rising_under cmp done q (rising_front cmp (done ++ q ∷ []) left (subst (IsAscending cmp) (sym whole) up)) in
       ap (λ (r : K × V). upserted cmp r.0 r.1 done ++ left) (sym same) ∙ ap (λ ps. ps ++ left) (upserted_behind o q.0 q.1 done under) ∙ whole
 
-module _ {K V : Type 0} (cmp : K → K → Ordering) {width last : ℕ} {store : Store K V} {history : List (Transaction K V)} (kept : IsKept cmp width store history last) where
+module _ {K V : Type 0} (cmp : K → K → Ordering) {width last : ℕ} {store : Store K V} {history : List (Transaction K V)} (kept : IsIndex cmp width store history last) where
   -- the transactions since a version that is kept lead from its list to that of a later number
-  pub made_of : (v : Version K V) (f n : ℕ) → IsKeptHere v store → v.number ≡ f → f ≤ n → after_all cmp (take (n - f) (drop f history)) v.pairs ≡ list_at cmp (state_of store history last) n
+  pub made_of : (v : Version K V) (f n : ℕ) → IsKeptHere v store → v.number ≡ f → f ≤ n → after_all cmp (take (n - f) (drop f history)) v.pairs ≡ list_at cmp (index_state store history last) n
   made_of v f n here numbered h = ap (after_all cmp (take (n - f) (drop f history))) (kept_list cmp kept v f here numbered) ∙ after_between cmp f n history [] h

@@ -6,7 +6,7 @@ use Rattle.std.specs.BTreeMap.Range.{entries_between}
 use Rattle.std.specs.Map.{lookup_entry}
 use Rattle.std.specs.declared.cmp.Ordering.{Ordering}
 use Rattle.leaf_array.specs.Edits.{above, below}
-use Rattle.leaf_array.specs.Pairs.{has_key, value_at}
+use Rattle.leaf_array.specs.Pairs.{has_key, value_of_key}
 use Rattle.ordered_index.specs.declared.query.Query.{Query}
 use Rattle.ordered_index.specs.declared.query.Query.TheVariants as queries
 use Rattle.ordered_index.specs.declared.query.Answer.{Answer}
@@ -23,8 +23,8 @@ module _ {K V : Type 0} where
   near_by None None (Some l) = nears.Larger l.0 l.1
   near_by None None None = nears.Empty
 
-  abbrev pub last_of : List (K × V) → Option (K × V)
-  last_of pairs = slice_get pairs (length pairs - 1)
+  abbrev pub last_pair : List (K × V) → Option (K × V)
+  last_pair pairs = slice_get pairs (length pairs - 1)
 
   -- what borrowed keys and values are
   abbrev pub behind : Near (Bor K) (Bor V) → Near K V
@@ -37,11 +37,11 @@ module _ {K V : Type 0} where
 module _ {K V : Type 0} (cmp : K → K → Ordering) where
   -- what stands at a key or around it
   abbrev pub near : K → List (K × V) → Near K V
-  near key pairs = near_by (lookup_entry (is_at (cmp key)) pairs) (last_of (below cmp key pairs)) (slice_get (above cmp key pairs) 0)
+  near key pairs = near_by (lookup_entry (is_at (cmp key)) pairs) (last_pair (below cmp key pairs)) (slice_get (above cmp key pairs) 0)
 
   -- the answer to a query
   abbrev pub answer_to : Query K → List (K × V) → Answer K V
-  answer_to (queries.Get key) pairs = answers.Get (value_at cmp key pairs)
+  answer_to (queries.Get key) pairs = answers.Get (value_of_key cmp key pairs)
   answer_to (queries.Contains key) pairs = answers.Contains (has_key cmp key pairs)
   answer_to (queries.Range lower upper) pairs = answers.Range (entries_between cmp lower upper pairs)
   answer_to (queries.Locate key) pairs = answers.Locate (near key pairs)

@@ -1,7 +1,7 @@
 -- A desk keeps sessions of an index by labels, each in the seat of its place. Calls of both, and runs of calls.
 use Rattle.std.specs.Prelude.{◌≡◌, ◌≢◌, ℕ, ◌≤◌, List, [], ◌∷◌, length, Option, Some, None, slice_get, slice_set}
 use Rattle.std.specs.declared.cmp.Ordering.{Ordering}
-use Rattle.ordered_index.specs.State.{State, OpenSession, IsOpen, IsOpenAt, IsFull, Opens, Closes, list_at, Accepts, Refuses, Reads, Audits, Reclaims, MayAccept, number_of}
+use Rattle.ordered_index.specs.State.{State, OpenSession, IsSessionOf, IsOpenAt, HasNoPlace, Opens, Closes, list_at, Accepts, Refuses, Reads, Audits, Reclaims, MayAccept, latest_number}
 use Rattle.ordered_index.specs.declared.query.Query.{Query}
 use Rattle.ordered_index.specs.declared.query.Query.TheVariants as queries
 use Rattle.versions.specs.declared.write.Write.{Write}
@@ -38,7 +38,7 @@ module _ {K V : Type 0} where
   pub record Serves (m : Machine K V) : Type 0 where
     pub room : length m.index.places ≤ length m.desk
     pub placed : (place : ℕ) (seat : Seat K V) → slice_get m.desk place ≡ Some (Some seat) → seat.session.place ≡ place
-    pub opened : (place : ℕ) (seat : Seat K V) → slice_get m.desk place ≡ Some (Some seat) → IsOpen m.index seat.session
+    pub opened : (place : ℕ) (seat : Seat K V) → slice_get m.desk place ≡ Some (Some seat) → IsSessionOf m.index seat.session
 
   -- each session of the index sits at the desk
   abbrev pub KeepsAll : Machine K V → Type 0
@@ -88,7 +88,7 @@ module _ {K V : Type 0} where
     -- a used label is busy, before a place is sought
     abbrev pub OpenStep : Machine K V → ℕ → DeskReply K V → Machine K V → Type 0
     OpenStep old label (replies.Opened number) new = TakesSeat old label number new
-    OpenStep old label replies.NoPlace new = IsUnknown old.desk label × IsFull old.index × (new ≡ old)
+    OpenStep old label replies.NoPlace new = IsUnknown old.desk label × HasNoPlace old.index × (new ≡ old)
     OpenStep old label replies.Busy new = IsKnown old.desk label × (new ≡ old)
     OpenStep old label reply new = ⊥
 
@@ -163,7 +163,7 @@ module _ {K V : Type 0} where
     MayWantMemory m (calls.Contains label key) = IsKnown m.desk label
     MayWantMemory m (calls.Range label lower upper) = IsKnown m.desk label
     MayWantMemory m (calls.Locate label key) = IsKnown m.desk label
-    MayWantMemory m (calls.Audit on) = (receipt : Receipt K V) × RestsOn m.desk on receipt × (receipt.number ≤ number_of m.index)
+    MayWantMemory m (calls.Audit on) = (receipt : Receipt K V) × RestsOn m.desk on receipt × (receipt.number ≤ latest_number m.index)
     MayWantMemory m (calls.Commit on writes) = (receipt : Receipt K V) × RestsOn m.desk on receipt × MayAccept cmp m.index receipt.reads
     MayWantMemory m (calls.Open label) = ⊥
     MayWantMemory m (calls.Close label) = ⊥

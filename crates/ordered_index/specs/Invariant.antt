@@ -10,8 +10,8 @@ use Rattle.ordered_index.specs.declared.transaction.Transaction.{Transaction}
 
 module _ {K V : Type 0} where
   -- an index, by its fields
-  abbrev pub state_of : Store K V → List (Transaction K V) → ℕ → State K V
-  state_of store history last = record {
+  abbrev pub index_state : Store K V → List (Transaction K V) → ℕ → State K V
+  index_state store history last = record {
     history = history;
     places = map (option_map (λ v. v.number)) store.readers;
     last = last;
@@ -27,7 +27,7 @@ module _ {K V : Type 0} where
       pub list : v.pairs ≡ after_all cmp (take v.number history) []
 
     -- the history is a serial run; the present version is that after all of it, and each reader's is of some number
-    pub record IsKept (width : ℕ) (store : Store K V) (history : List (Transaction K V)) (last : ℕ) : Type 0 where
+    pub record IsIndex (width : ℕ) (store : Store K V) (history : List (Transaction K V)) (last : ℕ) : Type 0 where
       pub some_pair : 1 ≤ width
       pub segment_fits : width ≤ 225
       pub serial : IsSerial cmp history []

@@ -20,8 +20,8 @@ module _ {K V : Type 0} (cmp : K → K → Ordering) where
   behind_end lower pairs (At p) = drop (p + 1) pairs
   behind_end lower pairs Done = []
 
-  abbrev pub left_by : Cursor K V → List (K × V)
-  left_by c = run_within c.upper (behind_end c.lower c.pairs c.forward)
+  abbrev pub remaining_pairs : Cursor K V → List (K × V)
+  remaining_pairs c = run_within c.upper (behind_end c.lower c.pairs c.forward)
 
   -- a cursor that hasn't been asked, over rising keys
   pub record IsStart (c : Cursor K V) : Type 0 where

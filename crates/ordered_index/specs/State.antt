@@ -35,29 +35,29 @@ pub record OpenSession (K V : Type 0) : Type 0 where
 
 module _ {K V : Type 0} where
   -- the number of the present list
-  abbrev pub number_of : State K V → ℕ
-  number_of s = length s.history
+  abbrev pub latest_number : State K V → ℕ
+  latest_number s = length s.history
 
   -- a session with this number is open at this place
   abbrev pub IsOpenAt : State K V → ℕ → ℕ → Type 0
   IsOpenAt s place number = slice_get s.places place ≡ Some (Some number)
 
   -- the session is one of the index
-  abbrev pub IsOpen : State K V → OpenSession K V → Type 0
-  IsOpen s session = IsOpenAt s session.place session.receipt.number
+  abbrev pub IsSessionOf : State K V → OpenSession K V → Type 0
+  IsSessionOf s session = IsOpenAt s session.place session.receipt.number
 
   -- no place is free
-  abbrev pub IsFull : State K V → Type 0
-  IsFull s = All IsSome s.places
+  abbrev pub HasNoPlace : State K V → Type 0
+  HasNoPlace s = All IsSome s.places
 
   -- no session is open
-  abbrev pub IsIdle : State K V → Type 0
-  IsIdle s = All (λ p. p ≡ None) s.places
+  abbrev pub HasNoSession : State K V → Type 0
+  HasNoSession s = All (λ p. p ≡ None) s.places
 
   -- a session opens at a free place, with the present number and a receipt without reads
   pub record Opens (old : State K V) (session : OpenSession K V) (new : State K V) : Type 0 where
     pub free : slice_get old.places session.place ≡ Some None
-    pub present : session.receipt.number ≡ number_of old
+    pub present : session.receipt.number ≡ latest_number old
     pub unread : session.receipt.reads ≡ []
     pub changed : new ≡ record old { places = slice_set old.places session.place (Some session.receipt.number) }
 
@@ -72,7 +72,7 @@ module _ {K V : Type 0} where
 
     -- the present list
     abbrev pub present : State K V → List (K × V)
-    present s = list_at s (number_of s)
+    present s = list_at s (latest_number s)
 
     -- what these reads and writes add to the history
     abbrev pub transaction_of : State K V → List (Read K V) → List (Write K V) → Transaction K V
@@ -85,27 +85,27 @@ module _ {K V : Type 0} where
 
     -- whether the reads of a receipt hold of the list of its number, if there is one
     abbrev pub Audits : State K V → Receipt K V → Audit → Type 0
-    Audits s receipt audits.Yes = (receipt.number ≤ number_of s) × All (Holds cmp (list_at s receipt.number)) receipt.reads
-    Audits s receipt (audits.No place) = (receipt.number ≤ number_of s) × IsFirstConflict cmp (list_at s receipt.number) receipt.reads place
-    Audits s receipt audits.Unknown = number_of s < receipt.number
+    Audits s receipt audits.Yes = (receipt.number ≤ latest_number s) × All (Holds cmp (list_at s receipt.number)) receipt.reads
+    Audits s receipt (audits.No place) = (receipt.number ≤ latest_number s) × IsFirstConflict cmp (list_at s receipt.number) receipt.reads place
+    Audits s receipt audits.Unknown = latest_number s < receipt.number
 
     -- each read holds, and the last number isn't reached
     pub record MayAccept (s : State K V) (reads : List (Read K V)) : Type 0 where
       pub reads_hold : All (Holds cmp (present s)) reads
-      pub not_last : number_of s ≢ s.last
+      pub not_last : latest_number s ≢ s.last
 
     module _ (width : ℕ) where
       -- why a commit of these reads and writes may be refused, with so many pairs in a segment at most
       abbrev pub MayRefuse : State K V → List (Read K V) → List (Write K V) → Cause → Type 0
       MayRefuse s reads writes (causes.Conflict place) = IsFirstConflict cmp (present s) reads place
-      MayRefuse s reads writes causes.Exhausted = All (Holds cmp (present s)) reads × (number_of s ≡ s.last)
+      MayRefuse s reads writes causes.Exhausted = All (Holds cmp (present s)) reads × (latest_number s ≡ s.last)
       MayRefuse s reads writes causes.Memory = MayAccept s reads
       MayRefuse s reads writes causes.NoSlot = MayAccept s reads × (s.slots < s.used + room_for width (length (after_writes cmp writes (present s))))
 
       -- the writes are made, and the transaction is the last one of the history
       pub record Accepts (old : State K V) (reads : List (Read K V)) (writes : List (Write K V)) (told : Accepted) (new : State K V) : Type 0 where
         pub may : MayAccept old reads
-        pub number : told.number ≡ number_of old + 1
+        pub number : told.number ≡ latest_number old + 1
         pub replies : told.replies.items ≡ replies_to cmp writes (present old)
         pub changed : new ≡ record old { history = old.history ++ transaction_of old reads writes ∷ []; used = new.used }
         pub room : new.used ≤ old.used + room_for width (length (after_writes cmp writes (present old)))
@@ -126,4 +126,4 @@ module _ {K V : Type 0} where
       pub record Reclaims (old new : State K V) : Type 0 where
         pub changed : new ≡ record old { used = new.used; raises = new.raises }
         pub fewer : new.used ≤ old.used
-        pub left : IsIdle old → old.raises ≤ 2 ^ 64 - 9 → new.used ≤ room_for width (length (present old))
+        pub left : HasNoSession old → old.raises ≤ 2 ^ 64 - 9 → new.used ≤ room_for width (length (present old))

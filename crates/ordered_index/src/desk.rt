@@ -1,7 +1,7 @@
 //! Sessions of one index, by labels.
 
 ghost use Rattle.std.specs.Prelude.{◌≡◌, ◌≢◌, [], None, Some, IfOk, IsTrue, IsFalse, IfSome, IfNone, MatchOption, ℕ, length, replicate, slice_get, slice_set};
-ghost use Rattle.ordered_index.specs.State.{IsOpen, Closes};
+ghost use Rattle.ordered_index.specs.State.{IsSessionOf, Closes};
 ghost use Rattle.ordered_index.specs.Desk.{Clears, Serves, SitsAt, IsUnknown};
 
 use crate::index::LocalIndex;
@@ -106,7 +106,7 @@ fn close_seat<K: Clone + Ord, V: Clone + Eq, const S: usize>(
     index: &mut LocalIndex<K, V, S>,
     seat: Option<Seat<K, V>>,
 )
-    requires { IfSome seat (λ s. IsOpen index.old s.session) }
+    requires { IfSome seat (λ s. IsSessionOf index.old s.session) }
     ensures { MatchOption seat (index.new ≡ index.old) (λ s. Closes index.old s.session.place index.new) }
 {
     match seat {

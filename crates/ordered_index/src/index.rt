@@ -2,7 +2,7 @@
 
 ghost use Rattle.std.specs.Prelude.{ℕ, ◌+◌, ◌≢◌, ◌≤◌, ◌≡◌, [], None, IfSome, IfNone, IfOk, OnOk, IsErr, IsOk, OnErr, replicate, length, List, IfErr, ◌-◌, ◌*◌, ◌<◌, ◌^◌, ◌↔◌, ◌++◌, ◌∷◌, vec_capacity};
 ghost use Rattle.std.specs.Option.{option_copied};
-ghost use Rattle.leaf_array.specs.Pairs.{has_key, value_at};
+ghost use Rattle.leaf_array.specs.Pairs.{has_key, value_of_key};
 ghost use Rattle.leaf_array.specs.Values.{ClonesAreSame, EqualsAreSame};
 ghost use Rattle.std.specs.Range.Bound.{bound_map};
 ghost use Rattle.tree_index.specs.Cursor.{whole};
@@ -13,8 +13,8 @@ ghost use Rattle.versions.specs.Cuts.{pairs_in};
 ghost use Rattle.versions.specs.Writes.{after_writes, replies_to};
 ghost use Rattle.std.specs.List.{All};
 ghost use Rattle.ordered_index.specs.Serial.{Holds, IsFirstConflict};
-ghost use Rattle.versions.specs.Sizes.{IsSized, room_for, segments_for};
-ghost use Rattle.ordered_index.specs.State.{State, number_of, IsOpen, IsFull, IsIdle, Opens, Closes, list_at, present, transaction_of, MayAccept, MayRefuse, Commits, Refuses, Reads, Audits, Reclaims};
+ghost use Rattle.versions.specs.Sizes.{IsStoreSized, room_for, segments_for};
+ghost use Rattle.ordered_index.specs.State.{State, latest_number, IsSessionOf, HasNoPlace, HasNoSession, Opens, Closes, list_at, present, transaction_of, MayAccept, MayRefuse, Commits, Refuses, Reads, Audits, Reclaims};
 
 use crate::commit::{Accepted, Cause, Refused};
 use crate::ordered_view::{answer, first_conflict};
@@ -57,24 +57,24 @@ pub struct LocalIndex<K: Clone + Ord, V: Clone + Eq, const S: usize> {
     last: u64,
 }
 
-/// Invariant: specs/Invariant.antt, IsKept: the history is a serial run, the present version is the list after it, and each
+/// Invariant: specs/Invariant.antt, IsIndex: the history is a serial run, the present version is the list after it, and each
 /// session's version is the list of its number.
 impl<K: Clone + Ord, V: Clone + Eq, const S: usize> Model for LocalIndex<K, V, S> {
     ghost use Rattle.ordered_index.specs.State.{State};
-    ghost use Rattle.ordered_index.specs.Invariant.{IsKept, state_of};
+    ghost use Rattle.ordered_index.specs.Invariant.{IsIndex, index_state};
 
     ghost Value = { State K V };
 
-    ghost view = { λ a. state_of a.store a.history.items a.last };
+    ghost view = { λ a. index_state a.store a.history.items a.last };
 
-    ghost invariant = { λ a. IsKept K.cmp S a.store a.history.items a.last };
+    ghost invariant = { λ a. IsIndex K.cmp S a.store a.history.items a.last };
 }
 
 impl<K: Clone + Ord, V: Clone + Eq, const S: usize> LocalIndex<K, V, S> {
     /// An empty index, for so many sessions at a time and with so many slots, of which the empty
     /// version takes one. Its last number is `2^64 - 1`. Refused where memory is.
     pub fn new(alloc: Global, places: usize, slots: usize) -> Result<Self, AllocError>
-        requires { IsSized places slots S }
+        requires { IsStoreSized places slots S }
         ensures { IfOk result (λ index. index ≡ record { history = []; places = replicate places None; last = 2 ^ 64 - 1; slots = slots; used = 1; raises = 0 }) }
     {
         Self::with_last(alloc, places, slots, u64::MAX)
@@ -88,7 +88,7 @@ impl<K: Clone + Ord, V: Clone + Eq, const S: usize> LocalIndex<K, V, S> {
         slots: usize,
         last: u64,
     ) -> Result<Self, AllocError>
-        requires { IsSized places slots S }
+        requires { IsStoreSized places slots S }
         ensures { IfOk result (λ index. index ≡ record { history = []; places = replicate places None; last = last; slots = slots; used = 1; raises = 0 }) }
     {
         Ok(LocalIndex {
@@ -103,8 +103,8 @@ impl<K: Clone + Ord, V: Clone + Eq, const S: usize> LocalIndex<K, V, S> {
     /// memory.
     pub fn open(&mut self) -> Result<Session<K, V>, NoPlace>
         ensures opens { IfOk result (λ session. Opens self.old session self.new) }
-        ensures is_open { IfOk result (λ session. IsOpen self.new session) }
-        ensures full { IsErr result ↔ IsFull self.old }
+        ensures is_open { IfOk result (λ session. IsSessionOf self.new session) }
+        ensures full { IsErr result ↔ HasNoPlace self.old }
         ensures err { OnErr result (self.new ≡ self.old) }
     {
         let number = self.history.len() as u64;
@@ -128,8 +128,8 @@ impl<K: Clone + Ord, V: Clone + Eq, const S: usize> LocalIndex<K, V, S> {
     /// The value of the pair with the key, in the session's list, as `BTreeMap::get` finds it. The
     /// read isn't recorded.
     pub fn get(&self, session: &Session<K, V>, key: &K) -> Option<&V>
-        requires { IsOpen self.now session.now }
-        ensures { option_copied result ≡ value_at K.cmp key.now (list_at K.cmp self.now session.now.receipt.number) }
+        requires { IsSessionOf self.now session.now }
+        ensures { option_copied result ≡ value_of_key K.cmp key.now (list_at K.cmp self.now session.now.receipt.number) }
     {
         let mut steps = Steps::new();
         self.get_counted(session, key, &mut steps)
@@ -138,8 +138,8 @@ impl<K: Clone + Ord, V: Clone + Eq, const S: usize> LocalIndex<K, V, S> {
     /// The same, with its comparisons of keys counted: at most thirty, and one more for each binary digit of
     /// the number of segments, in at most `2 * (n / (S + 1)) + 1` of which `n` pairs lie. An empty list makes none.
     pub fn get_counted(&self, session: &Session<K, V>, key: &K, steps: &mut Steps) -> Option<&V>
-        requires { IsOpen self.now session.now }
-        ensures value { option_copied result ≡ value_at K.cmp key.now (list_at K.cmp self.now session.now.receipt.number) }
+        requires { IsSessionOf self.now session.now }
+        ensures value { option_copied result ≡ value_of_key K.cmp key.now (list_at K.cmp self.now session.now.receipt.number) }
         ensures cost { (digits : ℕ) → segments_for S (length (list_at K.cmp self.now session.now.receipt.number)) < 2 ^ digits → steps.new.count ≤ steps.old.count + 30 + digits }
         ensures raised { steps.old.count ≤ steps.new.count }
         ensures none { list_at K.cmp self.now session.now.receipt.number ≡ [] → steps.new.count ≡ steps.old.count }
@@ -149,7 +149,7 @@ impl<K: Clone + Ord, V: Clone + Eq, const S: usize> LocalIndex<K, V, S> {
 
     /// Whether a pair of the session's list has the key. The read isn't recorded.
     pub fn contains(&self, session: &Session<K, V>, key: &K) -> bool
-        requires { IsOpen self.now session.now }
+        requires { IsSessionOf self.now session.now }
         ensures { result ≡ has_key K.cmp key.now (list_at K.cmp self.now session.now.receipt.number) }
     {
         let mut steps = Steps::new();
@@ -159,7 +159,7 @@ impl<K: Clone + Ord, V: Clone + Eq, const S: usize> LocalIndex<K, V, S> {
     /// The same, with its comparisons of keys counted: as many as those of
     /// [`get_counted`](LocalIndex::get_counted) at most.
     pub fn contains_counted(&self, session: &Session<K, V>, key: &K, steps: &mut Steps) -> bool
-        requires { IsOpen self.now session.now }
+        requires { IsSessionOf self.now session.now }
         ensures found { result ≡ has_key K.cmp key.now (list_at K.cmp self.now session.now.receipt.number) }
         ensures cost { (digits : ℕ) → segments_for S (length (list_at K.cmp self.now session.now.receipt.number)) < 2 ^ digits → steps.new.count ≤ steps.old.count + 30 + digits }
         ensures raised { steps.old.count ≤ steps.new.count }
@@ -170,7 +170,7 @@ impl<K: Clone + Ord, V: Clone + Eq, const S: usize> LocalIndex<K, V, S> {
 
     /// How many pairs the session's list has.
     pub fn len(&self, session: &Session<K, V>) -> usize
-        requires { IsOpen self.now session.now }
+        requires { IsSessionOf self.now session.now }
         ensures { result ≡ length (list_at K.cmp self.now session.now.receipt.number) }
     {
         self.list_of(session).len()
@@ -179,7 +179,7 @@ impl<K: Clone + Ord, V: Clone + Eq, const S: usize> LocalIndex<K, V, S> {
     /// Where the key stands in the session's list, with a cursor there (as `locate` of a `TreeIndex`
     /// gives it). The read isn't recorded.
     pub fn locate<'a>(&'a self, session: &Session<K, V>, key: &K) -> Nearby<'a, K, V, S>
-        requires { IsOpen self.now session.now }
+        requires { IsSessionOf self.now session.now }
         ensures { IsLocated K.cmp key.now (list_at K.cmp self.now session.now.receipt.number) (as_proximity result) }
     {
         self.list_of(session).locate(key)
@@ -187,7 +187,7 @@ impl<K: Clone + Ord, V: Clone + Eq, const S: usize> LocalIndex<K, V, S> {
 
     /// A cursor over all pairs of the session's list. What it gives isn't recorded.
     pub fn iter<'a>(&'a self, session: &Session<K, V>) -> Walk<'a, K, V, S>
-        requires { IsOpen self.now session.now }
+        requires { IsSessionOf self.now session.now }
         ensures { result ≡ whole (list_at K.cmp self.now session.now.receipt.number) Unopened Unopened }
     {
         self.list_of(session)
@@ -201,7 +201,7 @@ impl<K: Clone + Ord, V: Clone + Eq, const S: usize> LocalIndex<K, V, S> {
         lower: Bound<&'a K>,
         upper: Bound<&'a K>,
     ) -> Walk<'a, K, V, S>
-        requires { IsOpen self.now session.now }
+        requires { IsSessionOf self.now session.now }
         ensures { result ≡ record { pairs = list_at K.cmp self.now session.now.receipt.number; lower = bound_map (λ k. k.now) lower.entry; upper = bound_map (λ k. k.now) upper.entry; forward = Unopened; backward = Unopened } }
     {
         self.list_of(session).walk(lower, upper)
@@ -214,7 +214,7 @@ impl<K: Clone + Ord, V: Clone + Eq, const S: usize> LocalIndex<K, V, S> {
         session: &mut Session<K, V>,
         query: Query<K>,
     ) -> Result<Answer<K, V>, AllocError>
-        requires session { IsOpen self.now session.old }
+        requires session { IsSessionOf self.now session.old }
         requires keys { ClonesAreSame K.is_clone }
         requires values { ClonesAreSame V.is_clone }
         ensures read { IfOk result (λ answer. Reads K.cmp self.now session.old query answer session.new) }
@@ -283,7 +283,7 @@ impl<K: Clone + Ord, V: Clone + Eq, const S: usize> LocalIndex<K, V, S> {
         requires equal_keys { EqualsAreSame K.eq }
         requires equal_values { EqualsAreSame V.eq }
         ensures audits { IfOk result (Audits K.cmp self.now receipt.now) }
-        ensures unknown { OnErr result (receipt.now.number ≤ number_of self.now) }
+        ensures unknown { OnErr result (receipt.now.number ≤ latest_number self.now) }
     {
         if receipt.number > self.present_number() {
             return Ok(Audit::Unknown);
@@ -317,7 +317,7 @@ impl<K: Clone + Ord, V: Clone + Eq, const S: usize> LocalIndex<K, V, S> {
 
     /// Closes a session, and gives its receipt.
     pub fn close_session(&mut self, session: Session<K, V>) -> Receipt<K, V>
-        requires { IsOpen self.old session }
+        requires { IsSessionOf self.old session }
         ensures receipt { result ≡ session.receipt }
         ensures closes { Closes self.old session.place self.new }
     {
@@ -328,7 +328,7 @@ impl<K: Clone + Ord, V: Clone + Eq, const S: usize> LocalIndex<K, V, S> {
 
     /// Ends the index. It is handed back, as it was, exactly if a session is open.
     pub fn close(self) -> Result<(), Self>
-        ensures idle { IsOk result ↔ IsIdle self }
+        ensures idle { IsOk result ↔ HasNoSession self }
         ensures err { IfErr result (λ back. back ≡ self) }
     {
         if !self.store.is_idle() {
@@ -346,7 +346,7 @@ impl<K: Clone + Ord, V: Clone + Eq, const S: usize> LocalIndex<K, V, S> {
 
     // The version that a session reads.
     fn list_of(&self, session: &Session<K, V>) -> LocalView<'_, K, V, S>
-        requires { IsOpen self.now session.now }
+        requires { IsSessionOf self.now session.now }
         ensures list { pairs_in result ≡ list_at K.cmp self.now session.now.receipt.number }
         ensures few { length result ≤ segments_for S (length (list_at K.cmp self.now session.now.receipt.number)) }
     {
@@ -375,7 +375,7 @@ impl<K: Clone + Ord, V: Clone + Eq, const S: usize> LocalIndex<K, V, S> {
 
     // The first read that doesn't hold of the list of the receipt's number: a version that is kept, or rebuilt.
     fn conflict_at(&self, receipt: &Receipt<K, V>) -> Result<Option<usize>, AllocError>
-        requires number { receipt.now.number ≤ number_of self.now }
+        requires number { receipt.now.number ≤ latest_number self.now }
         requires keys { ClonesAreSame K.is_clone }
         requires values { ClonesAreSame V.is_clone }
         requires equal_keys { EqualsAreSame K.eq }
@@ -395,7 +395,7 @@ impl<K: Clone + Ord, V: Clone + Eq, const S: usize> LocalIndex<K, V, S> {
 
     // The list of a number, rebuilt from the nearest version before it.
     fn rebuild_at(&self, number: u64) -> Result<TreeIndex<K, V>, AllocError>
-        requires number { number ≤ number_of self.now }
+        requires number { number ≤ latest_number self.now }
         requires keys { ClonesAreSame K.is_clone }
         requires values { ClonesAreSame V.is_clone }
         ensures { IfOk result (λ list. list.pairs ≡ list_at K.cmp self.now number) }
@@ -419,14 +419,14 @@ impl<K: Clone + Ord, V: Clone + Eq, const S: usize> LocalIndex<K, V, S> {
     }
 
     fn present_number(&self) -> u64
-        ensures { result ≡ number_of self.now }
+        ensures { result ≡ latest_number self.now }
     {
         self.history.len() as u64
     }
 
     fn next_number(&self) -> u64
-        requires { number_of self.now ≢ self.now.last }
-        ensures { result ≡ number_of self.now + 1 }
+        requires { latest_number self.now ≢ self.now.last }
+        ensures { result ≡ latest_number self.now + 1 }
     {
         // what is read here tells the proof that the number is below the last one
         let _last = self.last;

@@ -8,7 +8,7 @@ ghost use Rattle.leaf_array.specs.Pairs.{has_key};
 ghost use Rattle.versions.specs.Writes.{after_writes};
 ghost use Rattle.versions.specs.declared.write.Write.TheVariants as writes;
 ghost use Rattle.ordered_index.specs.Answers.{answer_to};
-ghost use Rattle.ordered_index.specs.Receipts.{IsOwn};
+ghost use Rattle.ordered_index.specs.Receipts.{IsOwnReceipt};
 ghost use Rattle.ordered_index.specs.Serial.{Holds, Read};
 ghost use Rattle.ordered_index.specs.State.{State, OpenSession, Opens, Reads, Commits, Audits, MayRefuse, present};
 ghost use Rattle.ordered_index.specs.declared.commit.Accepted.{Accepted};
@@ -27,11 +27,11 @@ ghost use Rattle.versions.specs.declared.write.Write.{Write};
 /// meanwhile: it is so when the session opens, each read keeps it so, and so do a commit and every
 /// call that leaves the history.
 pub fn own_receipts_audit_yes<K: Ord, V>()
-    ensures opens { (old new : State K V) (session : OpenSession K V) → Opens old session new → IsOwn K.cmp new session.receipt }
-    ensures reads { (s : State K V) (old new : OpenSession K V) (query : Query K) (answer : Answer K V) → Reads K.cmp s old query answer new → IsOwn K.cmp s old.receipt → IsOwn K.cmp s new.receipt }
-    ensures commits { (width : ℕ) (old new : State K V) (reads : List (Read K V)) (writes : List (Write K V)) (result : Result Accepted (Refused K V)) (receipt : Receipt K V) → Commits K.cmp width old reads writes result new → IsOwn K.cmp old receipt → IsOwn K.cmp new receipt }
-    ensures others { (old new : State K V) (receipt : Receipt K V) → new.history ≡ old.history → IsOwn K.cmp old receipt → IsOwn K.cmp new receipt }
-    ensures audits { (s : State K V) (receipt : Receipt K V) (found : Audit) → IsOwn K.cmp s receipt → Audits K.cmp s receipt found → found ≡ audits.Yes }
+    ensures opens { (old new : State K V) (session : OpenSession K V) → Opens old session new → IsOwnReceipt K.cmp new session.receipt }
+    ensures reads { (s : State K V) (old new : OpenSession K V) (query : Query K) (answer : Answer K V) → Reads K.cmp s old query answer new → IsOwnReceipt K.cmp s old.receipt → IsOwnReceipt K.cmp s new.receipt }
+    ensures commits { (width : ℕ) (old new : State K V) (reads : List (Read K V)) (writes : List (Write K V)) (result : Result Accepted (Refused K V)) (receipt : Receipt K V) → Commits K.cmp width old reads writes result new → IsOwnReceipt K.cmp old receipt → IsOwnReceipt K.cmp new receipt }
+    ensures others { (old new : State K V) (receipt : Receipt K V) → new.history ≡ old.history → IsOwnReceipt K.cmp old receipt → IsOwnReceipt K.cmp new receipt }
+    ensures audits { (s : State K V) (receipt : Receipt K V) (found : Audit) → IsOwnReceipt K.cmp s receipt → Audits K.cmp s receipt found → found ≡ audits.Yes }
 {}
 
 /// Reads that hold of the present list are no conflict, whatever was committed since they were made:

@@ -4,7 +4,7 @@ ghost use Rattle.std.specs.Prelude.{◌≡◌, ◌↔◌, List, IsTrue, IfOk, If
 ghost use Rattle.std.specs.BTreeMap.Range.{entries_between};
 ghost use Rattle.std.specs.List.{All};
 ghost use Rattle.std.specs.Option.{option_copied};
-ghost use Rattle.leaf_array.specs.Pairs.{has_key, value_at};
+ghost use Rattle.leaf_array.specs.Pairs.{has_key, value_of_key};
 ghost use Rattle.leaf_array.specs.Values.{ClonesAreSame, EqualsAreSame};
 ghost use Rattle.tree_index.specs.Cursor.{deref_pair};
 ghost use Rattle.ordered_index.specs.Answers.{answer_to, behind, near, near_by};
@@ -23,7 +23,7 @@ pub trait OrderedView<K: Clone + Ord, V: Clone + Eq> {
 
     /// The value of the pair with the key.
     fn find(&self, key: &K) -> Option<&V>
-        ensures { option_copied result ≡ value_at K.cmp key.now (pairs self.now) };
+        ensures { option_copied result ≡ value_of_key K.cmp key.now (pairs self.now) };
 
     /// Whether these are the pairs within the bounds.
     fn has_between(&self, lower: &Bound<K>, upper: &Bound<K>, told: &[(K, V)]) -> bool

@@ -3,7 +3,7 @@
 ghost use Rattle.std.specs.Prelude.{◌≡◌, ◌<◌, ◌≤◌, [], ℕ, IfOk, IfErr, IfSome, IfNone, OnErr, OnOk, take, length};
 ghost use Rattle.leaf_array.specs.Values.{ClonesAreSame, EqualsAreSame};
 ghost use Rattle.ordered_index.specs.Desk.{Serves, KeepsAll, RestsOn, RestsOnNone, OpenStep, CloseStep, ReadStep, AuditStep, NumberStep, LenStep, CommitStep, IsKnown, MayWantMemory, Step, Run};
-ghost use Rattle.ordered_index.specs.State.{MayAccept, number_of};
+ghost use Rattle.ordered_index.specs.State.{MayAccept, latest_number};
 
 use crate::commit::{Accepted, Cause, Refused};
 use crate::desk::{Desk, Seat};
@@ -251,7 +251,7 @@ fn play_audit<K: Clone + Ord, V: Clone + Eq, const S: usize>(
     requires values { ClonesAreSame V.is_clone }
     requires equal_keys { EqualsAreSame K.eq }
     requires equal_values { EqualsAreSame V.eq }
-    ensures memory { OnErr result ((receipt : Receipt K V) × RestsOn desk.now on.now receipt × (receipt.number ≤ number_of index.now)) }
+    ensures memory { OnErr result ((receipt : Receipt K V) × RestsOn desk.now on.now receipt × (receipt.number ≤ latest_number index.now)) }
     ensures step { IfOk result (λ reply. AuditStep K.cmp S (record { index = index.now; desk = desk.now }) on.now reply (record { index = index.now; desk = desk.now })) }
 {
     let blank = Receipt::blank(alloc);

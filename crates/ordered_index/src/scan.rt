@@ -5,7 +5,7 @@ ghost use Rattle.std.specs.BTreeMap.Range.{entries_between};
 ghost use Rattle.leaf_array.specs.Values.{ClonesAreSame, EqualsAreSame};
 ghost use Rattle.tree_index.specs.Cursor.{Cursor, GoesForth, deref_pair};
 ghost use Rattle.tree_index.specs.declared.cursor.End.TheVariants.{Unopened};
-ghost use Rattle.ordered_index.specs.RemainingPairs.{IsStart, left_by};
+ghost use Rattle.ordered_index.specs.RemainingPairs.{IsStart, remaining_pairs};
 
 use std::alloc::{AllocError, Global};
 use tree_index::Range;
@@ -70,8 +70,8 @@ pub(crate) fn next<'t, K: Ord + 't, V: 't, C: Steps<'t, K, V>>(
 ) -> Option<(&'t K, &'t V)>
     requires { (C.cursor cursor.old).backward ≡ Unopened }
     ensures alone { (C.cursor cursor.new).backward ≡ Unopened }
-    ensures first { deref_pair result ≡ slice_get (left_by K.cmp (C.cursor cursor.old)) 0 }
-    ensures left { IsSome result → left_by K.cmp (C.cursor cursor.new) ≡ drop 1 (left_by K.cmp (C.cursor cursor.old)) }
+    ensures first { deref_pair result ≡ slice_get (remaining_pairs K.cmp (C.cursor cursor.old)) 0 }
+    ensures left { IsSome result → remaining_pairs K.cmp (C.cursor cursor.new) ≡ drop 1 (remaining_pairs K.cmp (C.cursor cursor.old)) }
 {
     cursor.step()
 }

@@ -3,7 +3,7 @@
 ghost use Rattle.std.specs.Prelude.{◌≡◌, ◌≤◌, ◌<◌, ◌+◌, ◌^◌, [], ℕ, length};
 ghost use Rattle.std.specs.Option.{option_copied};
 ghost use Rattle.std.specs.declared.ops.Bound.TheVariants.{Unbounded};
-ghost use Rattle.leaf_array.specs.Pairs.{value_at};
+ghost use Rattle.leaf_array.specs.Pairs.{value_of_key};
 ghost use Rattle.versions.specs.Cuts.{pairs_in};
 ghost use Rattle.ordered_index.specs.Answers.{behind, near};
 ghost use Rattle.ordered_index.specs.RemainingPairs.{IsStart};
@@ -34,7 +34,7 @@ pub(crate) fn value_in<'w, K: Ord, V, W: Trees<K, V>>(
     version: &VersionView<'w, K, V, W>,
     key: &K,
 ) -> Option<&'w V>
-    ensures { option_copied result ≡ value_at K.cmp key.now (pairs_in version.now) }
+    ensures { option_copied result ≡ value_of_key K.cmp key.now (pairs_in version.now) }
 {
     let mut steps = tree_index::Steps::new();
     value_in_counted(version, key, &mut steps)
@@ -46,7 +46,7 @@ pub(crate) fn value_in_counted<'w, K: Ord, V, W: Trees<K, V>>(
     key: &K,
     steps: &mut tree_index::Steps,
 ) -> Option<&'w V>
-    ensures value { option_copied result ≡ value_at K.cmp key.now (pairs_in version.now) }
+    ensures value { option_copied result ≡ value_of_key K.cmp key.now (pairs_in version.now) }
     ensures cost { (digits : ℕ) → length version.now < 2 ^ digits → steps.new.count ≤ steps.old.count + 30 + digits }
     ensures raised { steps.old.count ≤ steps.new.count }
     ensures none { pairs_in version.now ≡ [] → steps.new.count ≡ steps.old.count }

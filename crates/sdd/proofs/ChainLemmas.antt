@@ -9,7 +9,7 @@ use Rattle.sdd_base.specs.declared.status.Status.{Status}
 use Rattle.sdd_base.specs.declared.status.Status.TheVariants as status
 use Rattle.sdd_base.specs.declared.status.Cell.{Cell}
 use Rattle.sdd_base.specs.declared.status.Cell.TheVariants as cell
-use Rattle.sdd.specs.Chain.{Entry, slots, links, IsOut, AreOut, IsItem, IsList, IsDetached, Fits, TookFirst, first_slot, Leaves, Stays, HasLink, Begins, deleted}
+use Rattle.sdd.specs.Chain.{Entry, slots, links, IsOut, AreOut, IsItem, IsList, IsDetached, FitsBefore, TookFirst, first_slot, Leaves, Stays, HasLink, BeginsWithItem, deleted}
 
 -- what isn't the default lies within the list
 pub inside_cells : (cs : List Cell) (c : ℕ) (o : Option ℕ) (t : Tag) → get_or cs c cell.Free ≡ cell.OfShared o t → c < length cs
@@ -201,7 +201,7 @@ module _ {L : Type 0} (link : L → Option ℕ) where
     abbrev pub putting : State L
     putting = with_cell c (cell.OfShared (Some e.slot) t) (with_cell e.link (cell.OfShared (first_slot es) e.tag) (with_cell c (cell.OfShared None t) w))
 
-    pub put_first : IsList link w c t es → IsDetached link w e → Fits c es e → IsList link putting c t (e ∷ es) × Leaves (c ∷ e.link ∷ []) [] w putting
+    pub put_first : IsList link w c t es → IsDetached link w e → FitsBefore c es e → IsList link putting c t (e ∷ es) × Leaves (c ∷ e.link ∷ []) [] w putting
     put_first h k f =
         let l = written2 w c e.link (cell.OfShared (Some e.slot) t) (cell.OfShared (first_slot es) e.tag) (cell.OfShared None t) in
         let inside : c < length w.cells = (head_cell w c t es h).inside in
@@ -283,7 +283,7 @@ module _ {L : Type 0} (link : L → Option ℕ) where
       (refl, rw e h, rw e (leaves_all [] [] w))
   took_none w w1 c t (e ∷ es) h k = absurd (none_some e.slot (k (Some e.slot) t h.0).0)
 
-  module _ (w w1 : State L) (c i d d' : ℕ) (r : Option ℕ) (t : Tag) (es : List (Entry L)) (e : Entry L) (h : IsList link w c t es) (k : IsDetached link w e) (f : Fits c es e) (at : i ≡ e.slot) (named : Names w i d) (same : d' ≡ d) (took : Took w w1 c r) where
+  module _ (w w1 : State L) (c i d d' : ℕ) (r : Option ℕ) (t : Tag) (es : List (Entry L)) (e : Entry L) (h : IsList link w c t es) (k : IsDetached link w e) (f : FitsBefore c es e) (at : i ≡ e.slot) (named : Names w i d) (same : d' ≡ d) (took : Took w w1 c r) where
     emptied : (r ≡ first_slot es) × (w1 ≡ with_cell c (cell.OfShared None t) w)
     emptied = took (first_slot es) t (hung_first w c t es h)
 
@@ -358,7 +358,7 @@ module _ {L : Type 0} (link : L → Option ℕ) where
   pub starts_cell : (w : State L) (c d : ℕ) (t : Tag) (es : List (Entry L)) (item : L) → Starts w c t es item → link item ≡ Some d → IsSharedCell w d
   starts_cell w c d t es item k e = subst (λ (j : ℕ). IsSharedCell w j) (some_same k.first.link d (sym (starts_link w c t es item k) ∙ e)) (head_cell link w k.first.link k.first.tag k.rest k.hung.4)
 
-  pub begins : (w : State L) (c d : ℕ) (t u : Tag) (gone : Bool) (es : List (Entry L)) (item : L) → Starts w c t es item → link item ≡ Some d → ((o : Option ℕ) (v : Tag) → cell_at w d ≡ cell.OfShared o v → u ≡ v) → gone ≡ deleted u → Begins es item d gone
+  pub begins : (w : State L) (c d : ℕ) (t u : Tag) (gone : Bool) (es : List (Entry L)) (item : L) → Starts w c t es item → link item ≡ Some d → ((o : Option ℕ) (v : Tag) → cell_at w d ≡ cell.OfShared o v → u ≡ v) → gone ≡ deleted u → BeginsWithItem es item d gone
   begins w c d t u gone es item k e tagged is =
       let at : d ≡ k.first.link = some_same d k.first.link (sym e ∙ starts_link w c t es item k) in
       let tag : u ≡ k.first.tag = tagged (first_slot k.rest) k.first.tag (ap (λ (j : ℕ). cell_at w j) at ∙ hung_first link w k.first.link k.first.tag k.rest k.hung.4) in

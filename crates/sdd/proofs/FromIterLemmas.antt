@@ -8,7 +8,7 @@ use Rattle.sdd_base.specs.declared.status.Status.{Status}
 use Rattle.sdd_base.specs.declared.status.Status.TheVariants as status
 use Rattle.sdd_base.specs.declared.status.Cell.{Cell}
 use Rattle.sdd_base.specs.declared.status.Cell.TheVariants as cell
-use Rattle.sdd.specs.Chain.{Entry, slots, links, IsOut, AreOut, IsList, IsDetached, Fits, CanHang, Begins, Leaves, Stays, deleted, undeleted, end_cell}
+use Rattle.sdd.specs.Chain.{Entry, slots, links, IsOut, AreOut, IsList, IsDetached, FitsBefore, CanHang, BeginsWithItem, Leaves, Stays, deleted, undeleted, end_cell}
 use Rattle.sdd.specs.Entries.{entry_value, entry_link}
 use Rattle.sdd.specs.Stacks.{IsNew, IsMade}
 use Rattle.sdd.specs.Queues.{IsQueue}
@@ -312,13 +312,13 @@ module _ {T : Type 0} (w : State (LinkedEntry T)) where
 
 -- the first entry of a list is copied, or not
 module _ {T : Type 0} (es : List (Entry (LinkedEntry T))) (item : LinkedEntry T) (c d : ℕ) (at : c ≡ d) where
-  pub copies_gone : Begins es item d true → Copies es c None
+  pub copies_gone : BeginsWithItem es item d true → Copies es c None
   copies_gone b = record { first = b.first; rest = b.rest; is = b.is; at = at ∙ b.link_is; value = ap (λ (v : Bool). cond v None (Some (entry_value b.first.item))) b.gone_is }
 
-  pub copies_kept : (v : T) → Begins es item d false → v ≡ entry_value item → Copies es c (Some v)
+  pub copies_kept : (v : T) → BeginsWithItem es item d false → v ≡ entry_value item → Copies es c (Some v)
   copies_kept v b same = record { first = b.first; rest = b.rest; is = b.is; at = at ∙ b.link_is; value = ap (λ (x : T). Some x) (same ∙ ap entry_value b.item_is) ∙ ap (λ (u : Bool). cond u None (Some (entry_value b.first.item))) b.gone_is }
 
-  pub cant_copy : (is_infallible : T → Type 0) → Begins es item d false → ¬ is_infallible (entry_value item) → CantCopy is_infallible es
+  pub cant_copy : (is_infallible : T → Type 0) → BeginsWithItem es item d false → ¬ is_infallible (entry_value item) → CantCopy is_infallible es
   cant_copy is_infallible b never = record { first = b.first; rest = b.rest; is = b.is; kept = sym b.gone_is; refused = subst (λ (x : LinkedEntry T). ¬ is_infallible (entry_value x)) b.item_is never }
 
 -- why a value was copied
@@ -343,7 +343,7 @@ module _ {T : Type 0} (w w1 w2 : State (LinkedEntry T)) (k d i : ℕ) (v : T) (e
   pub last_hangs : CanHang entry_link w1 d i
   last_hangs = can_hang w w1 l d i i tag.None v [] blank m refl
 
-  module _ (put : (t : Tag) (es : List (Entry (LinkedEntry T))) (e : Entry (LinkedEntry T)) → IsList entry_link w1 d t es → IsDetached entry_link w1 e → Fits d es e → i ≡ e.slot → IsList entry_link w2 d t (e ∷ es) × Leaves (d ∷ e.link ∷ []) [] w1 w2) where
+  module _ (put : (t : Tag) (es : List (Entry (LinkedEntry T))) (e : Entry (LinkedEntry T)) → IsList entry_link w1 d t es → IsDetached entry_link w1 e → FitsBefore d es e → i ≡ e.slot → IsList entry_link w2 d t (e ∷ es) × Leaves (d ∷ e.link ∷ []) [] w1 w2) where
     put_last : IsList entry_link w2 k tag.None (m.entry ∷ []) × Leaves (k ∷ m.entry.link ∷ []) [] w1 w2
     put_last = subst (λ (j : ℕ). IsList entry_link w2 j tag.None (m.entry ∷ []) × Leaves (j ∷ m.entry.link ∷ []) [] w1 w2) at (put tag.None [] m.entry (still_hung w w1 l d tag.None [] blank) m.loose (new_fits w d tag.None v m.entry [] blank m.new) m.at)
 

@@ -4,7 +4,7 @@ use Rattle.std.specs.List.{list_all}
 use Rattle.std.proofs.lemmas.List.Sums.{sum_by-set}
 use Rattle.sdd_base.specs.Holding.{Hold, OwnedItem, SharedItem, OwnedIn, SharedIn}
 use Rattle.sdd_base.specs.State.{State, status_at, value_at, cell_at, participant_at, local_at, with_local, with_status, with_cell, retired, taken, vacated, raised, is_present, rotated_bags}
-use Rattle.sdd_base.specs.Steps.{given, given_all, held_in, released_as, disowned_as, owned_ended_as, shared_ended_as, due_reclaimed, due_reclaimed_as, reclaimed, rotated, begun, opened, closed, scanned, scans, closings_after}
+use Rattle.sdd_base.specs.Steps.{given, given_all, held_in, released_as, disowned_as, owned_ended_as, shared_ended_as, due_reclaimed, due_reclaimed_as, reclaimed, participant_rotated, count_published, guard_opened, guard_closed, scanned, scans, closings_after}
 use Rattle.sdd_base.specs.Place.{IsPlace}
 use Rattle.sdd_base.specs.Frame.{has_owner}
 use Rattle.sdd_base.specs.Counting.{Counted, kept_by, shared_owners, tally}
@@ -131,11 +131,11 @@ module _ {T : Type 0} (i : ℕ) where
       let b = fewer_reclaimed holds p n (due_reclaimed holds p w) in
       omega (arith, a, b)
 
-  pub fewer_opened : (holds : T → List Hold) (p : ℕ) (w : State T) → owners (opened holds p w) ≤ owners w
+  pub fewer_opened : (holds : T → List Hold) (p : ℕ) (w : State T) → owners (guard_opened holds p w) ≤ owners w
   fewer_opened holds p w =
-      let r : owners (rotated holds p (begun p w)) ≤ owners w = fewer_reclaimed holds p (length (participant_at (begun p w) p).oldest) (rotated_bags p (begun p w)) in
-      let outer : owners (cond ((local_at w p).previous == w.count) (begun p w) (rotated holds p (begun p w))) ≤ owners w = elim ((local_at w p).previous == w.count) as (λ b. owners (cond b (begun p w) (rotated holds p (begun p w))) ≤ owners w) [ true ↦ omega arith | false ↦ r ] in
-      elim ((local_at w p).nesting == 0) as (λ b. owners (cond b (cond ((local_at w p).previous == w.count) (begun p w) (rotated holds p (begun p w))) (with_local p (record (local_at w p) { nesting = (local_at w p).nesting + 1 }) w)) ≤ owners w) [ true ↦ outer | false ↦ omega arith ]
+      let r : owners (participant_rotated holds p (count_published p w)) ≤ owners w = fewer_reclaimed holds p (length (participant_at (count_published p w) p).oldest) (rotated_bags p (count_published p w)) in
+      let outer : owners (cond ((local_at w p).previous == w.count) (count_published p w) (participant_rotated holds p (count_published p w))) ≤ owners w = elim ((local_at w p).previous == w.count) as (λ b. owners (cond b (count_published p w) (participant_rotated holds p (count_published p w))) ≤ owners w) [ true ↦ omega arith | false ↦ r ] in
+      elim ((local_at w p).nesting == 0) as (λ b. owners (cond b (cond ((local_at w p).previous == w.count) (count_published p w) (participant_rotated holds p (count_published p w))) (with_local p (record (local_at w p) { nesting = (local_at w p).nesting + 1 }) w)) ≤ owners w) [ true ↦ outer | false ↦ omega arith ]
 
 -- what cells keep counts among the owners
 keeps_one : (i : ℕ) (t : Tag) → tally (SharedItem i) (kept_by (cell.OfShared (Some i) t)) ≡ 1
@@ -164,7 +164,7 @@ module _ {T : Type 0} (holds : T → List Hold) (hand : List Hold) (w : State T)
 -- a guard opens where the owners are counted
 module _ {T : Type 0} (p : ℕ) (hand : List Hold) (w : State (LinkedEntry T)) (place : IsPlace w) (known : p < length w.participants) (counted : Counted entry_holds hand w) where
   abbrev after : State (LinkedEntry T)
-  after = opened entry_holds p w
+  after = guard_opened entry_holds p w
 
   still : Counted entry_holds hand after
   still = counted_opened entry_holds p hand w place known counted
@@ -247,7 +247,7 @@ module _ {T : Type 0} (p : ℕ) (hand : List Hold) (w : State (LinkedEntry T)) (
       }
 
 -- a guard that closes leaves all cells and items
-pub leaves_closed : {L : Type 0} (p : ℕ) (w : State L) → Leaves [] [] w (closed p w)
+pub leaves_closed : {L : Type 0} (p : ℕ) (w : State L) → Leaves [] [] w (guard_closed p w)
 leaves_closed {L} p w =
     let m = local_at w p in
     let G : State L → Type 0 = λ x. Leaves [] [] w x in

@@ -5,8 +5,8 @@ use Rattle.sdd_base.specs.State.{State, cell_at, vacancy, emptiness}
 use Rattle.sdd_base.specs.Place.{IsShared}
 use Rattle.sdd_base.specs.declared.tag.Tag.{Tag}
 use Rattle.sdd_base.specs.declared.status.Cell.TheVariants as cell
-use Rattle.sdd.specs.Chain.{Entry, slots, links, IsOut, IsItem, IsList, IsDetached, Leaves, Fits, CanHang}
-use Rattle.sdd.specs.Nodes.{IsNode, CanInsert, Inserts, IsApart, Retags, retagged, inserted, Has}
+use Rattle.sdd.specs.Chain.{Entry, slots, links, IsOut, IsItem, IsList, IsDetached, Leaves, FitsBefore, CanHang}
+use Rattle.sdd.specs.Nodes.{NamesEntry, CanInsert, Inserts, IsApart, Retags, retagged, inserted_behind, HasSlot}
 use Rattle.sdd.specs.Entries.{entry_link}
 use Rattle.sdd.specs.Stacks.{IsMade}
 use Rattle.sdd.specs.declared.linked_entry.LinkedEntry.{LinkedEntry}
@@ -14,13 +14,13 @@ use Rattle.sdd.proofs.FromIterLemmas.{used_cell, used_slot}
 use Rattle.sdd.proofs.ChainLemmas.{cell_left, item_left, hung_out, leaves_then, leaves_more, item_shared}
 use Rattle.sdd.proofs.NodeLemmas.{same_link, link_in, retagged_links, retagged_slots}
 
-inserted_links : {L : Type 0} (i j : ℕ) (x : Entry L) (es : List (Entry L)) → IsOut j (links es) → j ≢ x.link → IsOut j (links (inserted i x es))
+inserted_links : {L : Type 0} (i j : ℕ) (x : Entry L) (es : List (Entry L)) → IsOut j (links es) → j ≢ x.link → IsOut j (links (inserted_behind i x es))
 inserted_links i j x [] out ne = tt
-inserted_links i j x (e ∷ es) out ne = elim (e.slot == i) as (λ v. IsOut j (links (cond v (e ∷ x ∷ es) (e ∷ inserted i x es)))) [ true ↦ (out.0, (ne, out.1)) | false ↦ (out.0, inserted_links i j x es out.1 ne) ]
+inserted_links i j x (e ∷ es) out ne = elim (e.slot == i) as (λ v. IsOut j (links (cond v (e ∷ x ∷ es) (e ∷ inserted_behind i x es)))) [ true ↦ (out.0, (ne, out.1)) | false ↦ (out.0, inserted_links i j x es out.1 ne) ]
 
-inserted_slots : {L : Type 0} (i j : ℕ) (x : Entry L) (es : List (Entry L)) → IsOut j (slots es) → j ≢ x.slot → IsOut j (slots (inserted i x es))
+inserted_slots : {L : Type 0} (i j : ℕ) (x : Entry L) (es : List (Entry L)) → IsOut j (slots es) → j ≢ x.slot → IsOut j (slots (inserted_behind i x es))
 inserted_slots i j x [] out ne = tt
-inserted_slots i j x (e ∷ es) out ne = elim (e.slot == i) as (λ v. IsOut j (slots (cond v (e ∷ x ∷ es) (e ∷ inserted i x es)))) [ true ↦ (out.0, (ne, out.1)) | false ↦ (out.0, inserted_slots i j x es out.1 ne) ]
+inserted_slots i j x (e ∷ es) out ne = elim (e.slot == i) as (λ v. IsOut j (slots (cond v (e ∷ x ∷ es) (e ∷ inserted_behind i x es)))) [ true ↦ (out.0, (ne, out.1)) | false ↦ (out.0, inserted_slots i j x es out.1 ne) ]
 
 slots_retagged : {L : Type 0} (i : ℕ) (u : Tag) (es : List (Entry L)) → slots (retagged i u es) ≡ slots es
 slots_retagged i u [] = refl
@@ -29,10 +29,10 @@ slots_retagged i u (e ∷ es) = elim (e.slot == i) as (λ v. slots (cond v (reco
 module _ {L : Type 0} (link : L → Option ℕ) where
   -- an entry is put first into the cell that is the link of e
   abbrev pub Put : State L → State L → ℕ → Entry L → Type 0
-  Put w w' d x = (t : Tag) (es : List (Entry L)) (y : Entry L) → IsList link w d t es → IsDetached link w y → Fits d es y → x.slot ≡ y.slot → IsList link w' d t (y ∷ es) × Leaves (d ∷ y.link ∷ []) [] w w'
+  Put w w' d x = (t : Tag) (es : List (Entry L)) (y : Entry L) → IsList link w d t es → IsDetached link w y → FitsBefore d es y → x.slot ≡ y.slot → IsList link w' d t (y ∷ es) × Leaves (d ∷ y.link ∷ []) [] w w'
 
   module _ (w w' : State L) (e x : Entry L) (k : IsItem link w e) (loose : IsDetached link w x) (put : Put w w' e.link x) (l : Leaves (e.link ∷ x.link ∷ []) [] w w') where
-    fit : (fs : List (Entry L)) (t : Tag) → IsList link w e.link t fs → IsApart e.link fs x → Fits e.link fs x
+    fit : (fs : List (Entry L)) (t : Tag) → IsList link w e.link t fs → IsApart e.link fs x → FitsBefore e.link fs x
     fit fs t h a = record { cell = (a.cell, hung_out link w e.link t fs h); link = a.link; slot = a.slot }
 
     insert_here : (c : ℕ) (t : Tag) (f : Entry L) (fs : List (Entry L)) → IsList link w c t (f ∷ fs) → f.slot ≡ e.slot → IsApart c (f ∷ fs) x → IsList link w' c t (f ∷ x ∷ fs)
@@ -48,32 +48,32 @@ module _ {L : Type 0} (link : L → Option ℕ) where
           subst (λ (j : ℕ). IsList link w' j f.tag (x ∷ fs)) (sym same) now,
         )
 
-    insert_in : (c : ℕ) (t : Tag) (es : List (Entry L)) → IsList link w c t es → Has e.slot es → IsApart c es x → IsList link w' c t (inserted e.slot x es)
+    insert_in : (c : ℕ) (t : Tag) (es : List (Entry L)) → IsList link w c t es → HasSlot e.slot es → IsApart c es x → IsList link w' c t (inserted_behind e.slot x es)
     insert_in c t [] h has a = absurd (has tt)
     insert_in c t (f ∷ fs) h has a = elim (eqb_tells f.slot e.slot) [
-      | inl q ↦ subst (λ (b : Bool). IsList link w' c t (cond b (f ∷ x ∷ fs) (f ∷ inserted e.slot x fs))) (sym q.0) (insert_here c t f fs h q.1 a)
+      | inl q ↦ subst (λ (b : Bool). IsList link w' c t (cond b (f ∷ x ∷ fs) (f ∷ inserted_behind e.slot x fs))) (sym q.0) (insert_here c t f fs h q.1 a)
       | inr q ↦
-          let rest : Has e.slot fs = λ out. has (λ p. q.1 (sym p), out) in
+          let rest : HasSlot e.slot fs = λ out. has (λ p. q.1 (sym p), out) in
           let ne : c ≢ e.link = link_in link w e k c f.link f.tag fs h.4 rest h.2.1 in
-          let all : IsList link w' c t (f ∷ inserted e.slot x fs) = (
+          let all : IsList link w' c t (f ∷ inserted_behind e.slot x fs) = (
             cell_left link (e.link ∷ x.link ∷ []) [] w w' c (Some f.slot) t l (ne, (a.cell, tt)) h.0,
             item_left link (e.link ∷ x.link ∷ []) [] w w' f l tt h.1,
             (h.2.0, inserted_links e.slot c x fs h.2.1 a.cell),
             inserted_slots e.slot f.slot x fs h.3 (λ p. a.slot.0 (sym p)),
             insert_in f.link f.tag fs h.4 rest (record { cell = λ p. a.link.0 (sym p); link = a.link.1; slot = a.slot.1 }),
           ) in
-          subst (λ (b : Bool). IsList link w' c t (cond b (f ∷ x ∷ fs) (f ∷ inserted e.slot x fs))) (sym q.0) all
+          subst (λ (b : Bool). IsList link w' c t (cond b (f ∷ x ∷ fs) (f ∷ inserted_behind e.slot x fs))) (sym q.0) all
     ]
 
   -- the entry has another tag, and then another one is put behind it
-  module _ (w w1 w2 : State L) (e x : Entry L) (u : Tag) (o : Option ℕ) (n : IsNode link w o e) (loose : IsDetached link w x) (r : Retags link w w1 e u) (l : Leaves (e.link ∷ []) [] w w1) (ne : e.link ≢ x.link) where
+  module _ (w w1 w2 : State L) (e x : Entry L) (u : Tag) (o : Option ℕ) (n : NamesEntry link w o e) (loose : IsDetached link w x) (r : Retags link w w1 e u) (l : Leaves (e.link ∷ []) [] w w1) (ne : e.link ≢ x.link) where
     pub loose_still : IsDetached link w1 x
     loose_still = record { item = item_left link (e.link ∷ []) [] w w1 x l tt loose.item; empty = cell_left link (e.link ∷ []) [] w w1 x.link None x.tag l (λ q. ne (sym q), tt) loose.empty }
 
     pub hangs_behind : (rest : List (Entry L)) → IsList link w e.link e.tag rest → IsApart e.link rest x → (d i : ℕ) → d ≡ e.link → i ≡ x.slot → CanHang link w1 d i
     hangs_behind rest h a d i same at =
         let h1 = r.behind rest h in
-        record { tag = u; entries = rest; entry = x; hung = subst (λ (j : ℕ). IsList link w1 j u rest) (sym same) h1; loose = loose_still; fits = subst (λ (j : ℕ). Fits j rest x) (sym same) (record { cell = (a.cell, hung_out link w1 e.link u rest h1); link = a.link; slot = a.slot }); at = at }
+        record { tag = u; entries = rest; entry = x; hung = subst (λ (j : ℕ). IsList link w1 j u rest) (sym same) h1; loose = loose_still; fits = subst (λ (j : ℕ). FitsBefore j rest x) (sym same) (record { cell = (a.cell, hung_out link w1 e.link u rest h1); link = a.link; slot = a.slot }); at = at }
 
     module _ (put : Put w1 w2 e.link x) (rest : List (Entry L)) (h : IsList link w e.link e.tag rest) (a : IsApart e.link rest x) where
       put_behind : (es : List (Entry L)) → IsList link w e.link e.tag es → IsApart e.link es x → IsList link w2 e.link u (x ∷ es) × Leaves (e.link ∷ x.link ∷ []) [] w1 w2
@@ -96,8 +96,8 @@ module _ {L : Type 0} (link : L → Option ℕ) where
       inserts_leaves = leaves_then (e.link ∷ x.link ∷ []) [] w w1 w2 (leaves_more (e.link ∷ []) [] (e.link ∷ x.link ∷ []) [] w w1 (λ j out. (out.0, tt)) (λ j out. out) l) (put_behind rest h a).1
 
   -- the same of a cell and a slot that are known to be these
-  pub put_at : (w w' : State L) (d i k : ℕ) (x : Entry L) → d ≡ k → i ≡ x.slot → ((t : Tag) (es : List (Entry L)) (y : Entry L) → IsList link w d t es → IsDetached link w y → Fits d es y → i ≡ y.slot → IsList link w' d t (y ∷ es) × Leaves (d ∷ y.link ∷ []) [] w w') → Put w w' k x
-  put_at w w' d i k x same at put = λ t es y h l f s. subst (λ (j : ℕ). IsList link w' j t (y ∷ es) × Leaves (j ∷ y.link ∷ []) [] w w') same (put t es y (subst (λ (j : ℕ). IsList link w j t es) (sym same) h) l (subst (λ (j : ℕ). Fits j es y) (sym same) f) (at ∙ s))
+  pub put_at : (w w' : State L) (d i k : ℕ) (x : Entry L) → d ≡ k → i ≡ x.slot → ((t : Tag) (es : List (Entry L)) (y : Entry L) → IsList link w d t es → IsDetached link w y → FitsBefore d es y → i ≡ y.slot → IsList link w' d t (y ∷ es) × Leaves (d ∷ y.link ∷ []) [] w w') → Put w w' k x
+  put_at w w' d i k x same at put = λ t es y h l f s. subst (λ (j : ℕ). IsList link w' j t (y ∷ es) × Leaves (j ∷ y.link ∷ []) [] w w') same (put t es y (subst (λ (j : ℕ). IsList link w j t es) (sym same) h) l (subst (λ (j : ℕ). FitsBefore j es y) (sym same) f) (at ∙ s))
 
 pub tag_same : (o o' : Option ℕ) (t u : Tag) → cell.OfShared o t ≡ cell.OfShared o' u → t ≡ u
 tag_same o o' t u e = cc

@@ -6,7 +6,7 @@ use Rattle.sdd_base.specs.declared.tag.Tag.{Tag}
 use Rattle.sdd_base.specs.declared.tag.Tag.TheVariants as tag
 use Rattle.sdd_base.specs.declared.status.Status.TheVariants as status
 use Rattle.sdd_base.specs.declared.status.Cell.TheVariants as cell
-use Rattle.sdd.specs.Chain.{Entry, slots, links, IsOut, IsList, IsDetached, Leaves, SameUses, TookFirst, Fits, CanHang, first_item, first_slot, skip, undeleted, deleted}
+use Rattle.sdd.specs.Chain.{Entry, slots, links, IsOut, IsList, IsDetached, Leaves, SameUses, TookFirst, FitsBefore, CanHang, first_item, first_slot, skip, undeleted, deleted}
 use Rattle.sdd.specs.Entries.{entry_link}
 use Rattle.sdd.specs.Stacks.{IsNew, IsMade}
 use Rattle.sdd.specs.declared.linked_entry.LinkedEntry.{LinkedEntry}
@@ -57,7 +57,7 @@ first_none [] h = refl
 first_none (e ∷ es) h = absurd (some_nothing e.slot h)
 
 -- a new entry fits before any list
-pub new_fits : {T : Type 0} (w : State (LinkedEntry T)) (c : ℕ) (t : Tag) (v : T) (e : Entry (LinkedEntry T)) (es : List (Entry (LinkedEntry T))) → IsList entry_link w c t es → IsNew w v e → Fits c es e
+pub new_fits : {T : Type 0} (w : State (LinkedEntry T)) (c : ℕ) (t : Tag) (v : T) (e : Entry (LinkedEntry T)) (es : List (Entry (LinkedEntry T))) → IsList entry_link w c t es → IsNew w v e → FitsBefore c es e
 new_fits w c t v e es h n =
     let out = free_cell_out entry_link w e.link c t es n.link.1 h in
     record { cell = (λ q. out.0 (sym q), hung_out entry_link w c t es h); link = out.1; slot = free_slot_out entry_link w e.slot c t es n.slot.1 h }

@@ -18,7 +18,7 @@ use Rattle.sdd_base.specs.declared.status.Cell.{Cell}
 use Rattle.sdd_base.specs.declared.status.Cell.TheVariants as cell
 use Rattle.sdd.specs.Chain.{Entry, slots, links, IsOut, IsItem, IsList, Hangs, Leaves}
 use Rattle.sdd.specs.Bags.{AreApart, AreOwn, AreSingle, IsBag, IsNull, IsRow, IsSomeBag, joined, cell_of}
-use Rattle.sdd.specs.Entries.{entry_link, entry_value, with_value}
+use Rattle.sdd.specs.Entries.{entry_link, entry_value, entry_with_value}
 use Rattle.sdd.specs.Iters.{first_value}
 use Rattle.sdd.specs.MutableIteration.{AreHung, AreOnce, IsLeft, IsSomeLeft, Finds, Gives, Revalues, Visits, revalue, revalued, walk_bag, walk_cells, walk_name, walk_place}
 use Rattle.sdd.specs.declared.bag.IterMut.{IterMut}
@@ -39,7 +39,7 @@ inside_values [] i x h = cc
 inside_values (v ∷ vs) zero x h = omega arith
 inside_values (v ∷ vs) (suc i) x h = let r = inside_values vs i x h in omega (arith, r)
 
-link_kept : {T : Type 0} (v : T) (e : LinkedEntry T) → entry_link (with_value v e) ≡ entry_link e
+link_kept : {T : Type 0} (v : T) (e : LinkedEntry T) → entry_link (entry_with_value v e) ≡ entry_link e
 unfolding Rattle.sdd.specs.declared.linked_entry.LinkedEntry.TheViews.roll-LinkedEntry denote.Hole.Carrier.roll Rattle.sdd.specs.declared.linked_entry.LinkedEntry.TheViews.out-LinkedEntry denote.Hole.Carrier.out
 link_kept v (LinkedEntry' i None') = refl
 link_kept v (LinkedEntry' i (Some' c)) = refl
@@ -47,13 +47,13 @@ link_kept v (LinkedEntry' i (Some' c)) = refl
 -- an item with another value
 module _ {T : Type 0} (i : ℕ) (v : T) where
   slot_same : (e : Entry (LinkedEntry T)) → (revalue i v e).slot ≡ e.slot
-  slot_same e = elim (e.slot == i) as (λ b. (cond b (record e { item = with_value v e.item }) e).slot ≡ e.slot) [ true ↦ refl | false ↦ refl ]
+  slot_same e = elim (e.slot == i) as (λ b. (cond b (record e { item = entry_with_value v e.item }) e).slot ≡ e.slot) [ true ↦ refl | false ↦ refl ]
 
   link_same : (e : Entry (LinkedEntry T)) → (revalue i v e).link ≡ e.link
-  link_same e = elim (e.slot == i) as (λ b. (cond b (record e { item = with_value v e.item }) e).link ≡ e.link) [ true ↦ refl | false ↦ refl ]
+  link_same e = elim (e.slot == i) as (λ b. (cond b (record e { item = entry_with_value v e.item }) e).link ≡ e.link) [ true ↦ refl | false ↦ refl ]
 
   tag_same : (e : Entry (LinkedEntry T)) → (revalue i v e).tag ≡ e.tag
-  tag_same e = elim (e.slot == i) as (λ b. (cond b (record e { item = with_value v e.item }) e).tag ≡ e.tag) [ true ↦ refl | false ↦ refl ]
+  tag_same e = elim (e.slot == i) as (λ b. (cond b (record e { item = entry_with_value v e.item }) e).tag ≡ e.tag) [ true ↦ refl | false ↦ refl ]
 
   slots_same : (es : List (Entry (LinkedEntry T))) → slots (revalued i v es) ≡ slots es
   slots_same [] = refl
@@ -79,24 +79,24 @@ module _ {T : Type 0} (i : ℕ) (v : T) where
   -- it is written into a place
   module _ (w : State (LinkedEntry T)) (x : LinkedEntry T) (here : value_at w i ≡ Some x) where
     abbrev written : State (LinkedEntry T)
-    written = with_item i (with_value v x) w
+    written = with_item i (entry_with_value v x) w
 
     pub leaves_written : Leaves [] (i ∷ []) w written
-    leaves_written = record { cells = λ c out used. refl; uses = λ j out used. refl; values = λ j out used. get_or-set_other w.values i j (Some (with_value v x)) None out.0 }
+    leaves_written = record { cells = λ c out used. refl; uses = λ j out used. refl; values = λ j out used. get_or-set_other w.values i j (Some (entry_with_value v x)) None out.0 }
 
-    now_there : value_at written i ≡ Some (with_value v x)
-    now_there = get_or-set_same w.values i (Some (with_value v x)) None (inside_values w.values i x here)
+    now_there : value_at written i ≡ Some (entry_with_value v x)
+    now_there = get_or-set_same w.values i (Some (entry_with_value v x)) None (inside_values w.values i x here)
 
     item_revalued : (e : Entry (LinkedEntry T)) → IsItem entry_link w e → IsItem entry_link written (revalue i v e)
     item_revalued e h = elim (eqb_tells e.slot i) [
-      | inl q ↦ subst (λ b. IsItem entry_link written (cond b (record e { item = with_value v e.item }) e)) (sym q.0) (record {
+      | inl q ↦ subst (λ b. IsItem entry_link written (cond b (record e { item = entry_with_value v e.item }) e)) (sym q.0) (record {
         owners = h.owners;
         shared = h.shared;
         owned = h.owned;
-        here = ap (λ (j : ℕ). value_at written j) q.1 ∙ now_there ∙ ap (λ (y : LinkedEntry T). Some (with_value v y)) (the_same x e.item (sym here ∙ ap (λ (j : ℕ). value_at w j) (sym q.1) ∙ h.here));
+        here = ap (λ (j : ℕ). value_at written j) q.1 ∙ now_there ∙ ap (λ (y : LinkedEntry T). Some (entry_with_value v y)) (the_same x e.item (sym here ∙ ap (λ (j : ℕ). value_at w j) (sym q.1) ∙ h.here));
         linked = link_kept v e.item ∙ h.linked;
       })
-      | inr q ↦ subst (λ b. IsItem entry_link written (cond b (record e { item = with_value v e.item }) e)) (sym q.0) (item_left entry_link [] (i ∷ []) w written e leaves_written (q.1, tt) h)
+      | inr q ↦ subst (λ b. IsItem entry_link written (cond b (record e { item = entry_with_value v e.item }) e)) (sym q.0) (item_left entry_link [] (i ∷ []) w written e leaves_written (q.1, tt) h)
     ]
 
     pub hung_revalued : (c : ℕ) (t : Tag) (es : List (Entry (LinkedEntry T))) → IsList entry_link w c t es → IsList entry_link written c t (revalued i v es)
@@ -293,7 +293,7 @@ module _ {T : Type 0} (w : State (LinkedEntry T)) where
   -- what was found can be lent
   module _ (c : ℕ) (cs ds : List ℕ) (es : List (Entry (LinkedEntry T))) (f : Finds w c ds es) where
     pub found_slot : slot_in w c ≡ f.first.slot
-    found_slot = ap (λ (k : Cell). Rattle.sdd_base.specs.Filled.slot_of k) f.here
+    found_slot = ap (λ (k : Cell). Rattle.sdd_base.specs.Filled.cell_slot k) f.here
 
     pub found_filled : IsFilled w c
     found_filled = record { inside = inside_cells w.cells c (Some f.first.slot) tag.None f.here; item = f.first.slot; tag = tag.None; is = f.here; shared = item_shared entry_link w f.first f.item }
@@ -314,10 +314,10 @@ module _ {T : Type 0} (w : State (LinkedEntry T)) where
     found_value x v there is = ap first_value f.is ∙ ap (λ (u : T). Some u) (sym (is ∙ ap entry_value (same_item x there)))
 
     -- it is given, and v is written
-    pub found_given : (x : LinkedEntry T) (v : T) (w' : State (LinkedEntry T)) → IsLeft w cs es → value_at w (slot_in w c) ≡ Some x → w' ≡ with_item (slot_in w c) (with_value v x) w → Gives w w' ds v es
+    pub found_given : (x : LinkedEntry T) (v : T) (w' : State (LinkedEntry T)) → IsLeft w cs es → value_at w (slot_in w c) ≡ Some x → w' ≡ with_item (slot_in w c) (entry_with_value v x) w → Gives w w' ds v es
     found_given x v w' l there is =
         let same : x ≡ f.first.item = same_item x there in
-        let is' : w' ≡ with_item f.first.slot (with_value v f.first.item) w = is ∙ ap (λ (j : ℕ). with_item j (with_value v x) w) found_slot ∙ ap (λ (y : LinkedEntry T). with_item f.first.slot (with_value v y) w) same in
+        let is' : w' ≡ with_item f.first.slot (entry_with_value v f.first.item) w = is ∙ ap (λ (j : ℕ). with_item j (entry_with_value v x) w) found_slot ∙ ap (λ (y : LinkedEntry T). with_item f.first.slot (entry_with_value v y) w) same in
         record {
           first = f.first;
           rest = f.rest;

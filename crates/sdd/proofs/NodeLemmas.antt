@@ -9,7 +9,7 @@ use Rattle.sdd_base.specs.declared.tag.Tag.{Tag}
 use Rattle.sdd_base.specs.declared.status.Cell.{Cell}
 use Rattle.sdd_base.specs.declared.status.Cell.TheVariants as cell
 use Rattle.sdd.specs.Chain.{Entry, slots, links, IsOut, IsItem, IsList, Leaves, first_slot, undeleted, deleted}
-use Rattle.sdd.specs.Nodes.{IsNode, IsSomeNode, IsListed, Retags, retagged, Has}
+use Rattle.sdd.specs.Nodes.{NamesEntry, NamesSomeEntry, IsListed, Retags, retagged, HasSlot}
 use Rattle.sdd.proofs.ChainLemmas.{cell_left, item_left, leaves_write, leaves_all, out_of_none, wrote_same, inside_cells, some_same, the_same, hung_out, hung_first, kept_same, rehung, some_nothing}
 use Rattle.sdd.proofs.ReleaseLemmas.{out_of_one}
 
@@ -23,10 +23,10 @@ retagged_slots i j u (e ∷ es) out = elim (e.slot == i) as (λ v. IsOut j (slot
 
 module _ {L : Type 0} (link : L → Option ℕ) where
   -- what is read there is the entry's item
-  pub node_item : (w : State L) (o : Option ℕ) (e : Entry L) (item : L) → IsNode link w o e → ((i : ℕ) → o ≡ Some i → Some item ≡ value_at w i) → link item ≡ Some e.link
+  pub node_item : (w : State L) (o : Option ℕ) (e : Entry L) (item : L) → NamesEntry link w o e → ((i : ℕ) → o ≡ Some i → Some item ≡ value_at w i) → link item ≡ Some e.link
   node_item w o e item n read = ap link (the_same item e.item (read e.slot n.names ∙ n.item.here)) ∙ n.item.linked
 
-  pub node_cell : (w : State L) (o : Option ℕ) (e : Entry L) (d : ℕ) → IsNode link w o e → d ≡ e.link → IsSharedCell w d
+  pub node_cell : (w : State L) (o : Option ℕ) (e : Entry L) (d : ℕ) → NamesEntry link w o e → d ≡ e.link → IsSharedCell w d
   node_cell w o e d n at = subst (λ (j : ℕ). IsSharedCell w j) (sym at) (record { inside = inside_cells w.cells e.link n.next e.tag n.kept; item = n.next; tag = e.tag; is = n.kept })
 
   -- an item has one link
@@ -35,14 +35,14 @@ module _ {L : Type 0} (link : L → Option ℕ) where
     same_link f h at = some_same f.link e.link (sym h.linked ∙ ap link (the_same f.item e.item (sym h.here ∙ ap (λ (i : ℕ). value_at w i) at ∙ k.here)) ∙ k.linked)
 
     -- a cell that no link of a list with the entry is, isn't the entry's link
-    pub link_in : (a b : ℕ) (t : Tag) (es : List (Entry L)) → IsList link w b t es → Has e.slot es → IsOut a (links es) → a ≢ e.link
+    pub link_in : (a b : ℕ) (t : Tag) (es : List (Entry L)) → IsList link w b t es → HasSlot e.slot es → IsOut a (links es) → a ≢ e.link
     link_in a b t [] h has out = absurd (has tt)
     link_in a b t (f ∷ fs) h has out = elim (eqb_tells f.slot e.slot) [
       | inl q ↦ subst (λ (j : ℕ). a ≢ j) (same_link f h.1 q.1) out.0
       | inr q ↦ link_in a f.link f.tag fs h.4 (λ rest. has (λ p. q.1 (sym p), rest)) out.1
     ]
 
-  module _ (w w' : State L) (e : Entry L) (u : Tag) (o : Option ℕ) (n : IsNode link w o e) (is : w' ≡ with_cell e.link (cell.OfShared n.next u) w) where
+  module _ (w w' : State L) (e : Entry L) (u : Tag) (o : Option ℕ) (n : NamesEntry link w o e) (is : w' ≡ with_cell e.link (cell.OfShared n.next u) w) where
     pub retag_leaves : Leaves (e.link ∷ []) [] w w'
     retag_leaves = subst (λ (v : State L). Leaves (e.link ∷ []) [] w v) (sym is) (leaves_write (e.link ∷ []) [] w w e.link (cell.OfShared n.next u) (λ j out. out.0) (leaves_all (e.link ∷ []) [] w))
 
@@ -66,12 +66,12 @@ module _ {L : Type 0} (link : L → Option ℕ) where
           rehung link (e.link ∷ []) [] w w' f.link f.link f.tag u fs h.4 now retag_leaves (out_of_one (links fs) e.link (subst (λ (j : ℕ). IsOut j (links fs)) same out)) (out_of_none (slots fs)) out,
         )
 
-    pub retag_hung : (c : ℕ) (t : Tag) (es : List (Entry L)) → IsList link w c t es → Has e.slot es → IsList link w' c t (retagged e.slot u es)
+    pub retag_hung : (c : ℕ) (t : Tag) (es : List (Entry L)) → IsList link w c t es → HasSlot e.slot es → IsList link w' c t (retagged e.slot u es)
     retag_hung c t [] h has = absurd (has tt)
     retag_hung c t (f ∷ fs) h has = elim (eqb_tells f.slot e.slot) [
       | inl q ↦ subst (λ (b : Bool). IsList link w' c t (cond b (record f { tag = u } ∷ fs) (f ∷ retagged e.slot u fs))) (sym q.0) (retag_first c t f fs h q.1)
       | inr q ↦
-          let rest : Has e.slot fs = λ out. has (λ p. q.1 (sym p), out) in
+          let rest : HasSlot e.slot fs = λ out. has (λ p. q.1 (sym p), out) in
           let ne : c ≢ e.link = link_in w e n.item c f.link f.tag fs h.4 rest h.2.1 in
           let all : IsList link w' c t (f ∷ retagged e.slot u fs) = (
             cell_left link (e.link ∷ []) [] w w' c (Some f.slot) t retag_leaves (ne, tt) h.0,
@@ -105,15 +105,15 @@ set_state {L} w w1 w2 d d2 l o r t t' u at at2 kept was e1 filled =
 
 -- the first entry of a list is one that a pointer may name
 module _ {L : Type 0} (link : L → Option ℕ) where
-  first_node : (w : State L) (c i : ℕ) (t : Tag) (es : List (Entry L)) → IsList link w c t es → first_slot es ≡ Some i → IsSomeNode link w (Some i)
+  first_node : (w : State L) (c i : ℕ) (t : Tag) (es : List (Entry L)) → IsList link w c t es → first_slot es ≡ Some i → NamesSomeEntry link w (Some i)
   first_node w c i t [] h is = absurd (some_nothing i (sym is))
   first_node w c i t (e ∷ es) h is = record { entry = e; is = record { names = sym is; item = h.1; next = first_slot es; kept = hung_first link w e.link e.tag es h.4 } }
 
-  node_by : (w : State L) (c : ℕ) (t : Tag) (es : List (Entry L)) → IsList link w c t es → (o : Option ℕ) → first_slot es ≡ o → IfSome o (λ i. IsSomeNode link w (Some i))
+  node_by : (w : State L) (c : ℕ) (t : Tag) (es : List (Entry L)) → IsList link w c t es → (o : Option ℕ) → first_slot es ≡ o → IfSome o (λ i. NamesSomeEntry link w (Some i))
   node_by w c t es h None is = tt
   node_by w c t es h (Some i) is = first_node w c i t es h is
 
-  pub hung_node : (w : State L) (c : ℕ) (t u : Tag) (es : List (Entry L)) → IsList link w c t es → (o : Option ℕ) → cell_at w c ≡ cell.OfShared o u → IfSome o (λ i. IsSomeNode link w (Some i))
+  pub hung_node : (w : State L) (c : ℕ) (t u : Tag) (es : List (Entry L)) → IsList link w c t es → (o : Option ℕ) → cell_at w c ≡ cell.OfShared o u → IfSome o (λ i. NamesSomeEntry link w (Some i))
   hung_node w c t u es h o kept = node_by w c t es h o (kept_same (first_slot es) o t u (sym (hung_first link w c t es h) ∙ kept))
 
 -- some list hangs behind the first entry of a list
@@ -129,9 +129,9 @@ module _ {L : Type 0} (link : L → Option ℕ) where
   pub hung_listed : (w : State L) (c : ℕ) (t u : Tag) (es : List (Entry L)) → IsList link w c t es → (o : Option ℕ) → cell_at w c ≡ cell.OfShared o u → IfSome o (λ i. IsListed link w (Some i))
   hung_listed w c t u es h o kept = listed_by w c t es h o (kept_same (first_slot es) o t u (sym (hung_first link w c t es h) ∙ kept))
 
-pub has_first : {L : Type 0} (i : ℕ) (es : List (Entry L)) → first_slot (undeleted es) ≡ Some i → Has i es
+pub has_first : {L : Type 0} (i : ℕ) (es : List (Entry L)) → first_slot (undeleted es) ≡ Some i → HasSlot i es
 has_first i [] is = absurd (some_nothing i (sym is))
-has_first i (e ∷ es) is = (elim (deleted e.tag) as (λ v. first_slot (cond v (undeleted es) (e ∷ undeleted es)) ≡ Some i → Has i (e ∷ es)) [ true ↦ λ k out. has_first i es k out.1 | false ↦ λ k out. out.0 (sym (some_same e.slot i k)) ]) is
+has_first i (e ∷ es) is = (elim (deleted e.tag) as (λ v. first_slot (cond v (undeleted es) (e ∷ undeleted es)) ≡ Some i → HasSlot i (e ∷ es)) [ true ↦ λ k out. has_first i es k out.1 | false ↦ λ k out. out.0 (sym (some_same e.slot i k)) ]) is
 
 -- the first undeleted entry was given another tag, or not: some list hangs there still
 module _ {L : Type 0} (link : L → Option ℕ) (w w' : State L) (c : ℕ) (t u : Tag) (es : List (Entry L)) (h : IsList link w c t es) where
@@ -139,15 +139,15 @@ module _ {L : Type 0} (link : L → Option ℕ) (w w' : State L) (c : ℕ) (t u 
     pub entries : List (Entry L)
     pub is : IsList link w' c t entries
 
-  retagged_by : (o : Option ℕ) (i : ℕ) → o ≡ Some i → o ≡ first_slot (undeleted es) → (n : IsSomeNode link w (Some i)) → (r : Bool) → (r ≡ true → (e : Entry L) → IsNode link w o e → Retags link w w' e u) → (r ≡ false → w' ≡ w) → Hung
+  retagged_by : (o : Option ℕ) (i : ℕ) → o ≡ Some i → o ≡ first_slot (undeleted es) → (n : NamesSomeEntry link w (Some i)) → (r : Bool) → (r ≡ true → (e : Entry L) → NamesEntry link w o e → Retags link w w' e u) → (r ≡ false → w' ≡ w) → Hung
   retagged_by o i is first n true did kept =
       let m = n.is in
-      let node : IsNode link w o n.entry = record { names = is ∙ m.names; item = m.item; next = m.next; kept = m.kept } in
+      let node : NamesEntry link w o n.entry = record { names = is ∙ m.names; item = m.item; next = m.next; kept = m.kept } in
       let at : first_slot (undeleted es) ≡ Some n.entry.slot = sym first ∙ is ∙ m.names in
       record { entries = retagged n.entry.slot u es; is = (did refl n.entry node).lists c t es h (has_first n.entry.slot es at) }
   retagged_by o i is first n false did kept = record { entries = es; is = subst (λ (v : State L). IsList link v c t es) (sym (kept refl)) h }
 
-  pub retagged_first : (o : Option ℕ) → o ≡ first_slot (undeleted es) → IfSome o (λ i. IsSomeNode link w (Some i)) → true ≡ is_some o → (r : Bool) → (r ≡ true → (e : Entry L) → IsNode link w o e → Retags link w w' e u) → (r ≡ false → w' ≡ w) → Hung
+  pub retagged_first : (o : Option ℕ) → o ≡ first_slot (undeleted es) → IfSome o (λ i. NamesSomeEntry link w (Some i)) → true ≡ is_some o → (r : Bool) → (r ≡ true → (e : Entry L) → NamesEntry link w o e → Retags link w w' e u) → (r ≡ false → w' ≡ w) → Hung
   retagged_first None first n some r did kept = absurd (false≢true (sym some))
   retagged_first (Some i) first n some r did kept = retagged_by (Some i) i refl first n r did kept
 

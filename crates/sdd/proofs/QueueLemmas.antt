@@ -9,7 +9,7 @@ use Rattle.sdd_base.specs.declared.tag.Tag.TheVariants as tag
 use Rattle.sdd_base.specs.declared.status.Status.TheVariants as status
 use Rattle.sdd_base.specs.declared.status.Cell.TheVariants as cell
 use Rattle.sdd.specs.Chain.{Entry, slots, links, IsOut, AreOut, IsItem, IsList, IsDetached, Leaves, SameUses, skip, undeleted, deleted, first_slot, MoreOwners, OneMore}
-use Rattle.sdd.specs.Queues.{last_slot, HasTwo, IsQueue, Follows, CanFollow, vacated}
+use Rattle.sdd.specs.Queues.{last_slot, HasTwo, IsQueue, Follows, CanFollow, cell_vacated}
 use Rattle.sdd.specs.Stacks.{IsNew, IsMade}
 use Rattle.sdd.specs.Entries.{entry_link}
 use Rattle.sdd.specs.declared.linked_entry.LinkedEntry.{LinkedEntry}
@@ -59,7 +59,7 @@ module _ {L : Type 0} (link : L → Option ℕ) where
   newest_live w c d es q i k = two_shared w i (newest_shared w c d es q i k)
 
   -- the newest cell was emptied
-  forgot_as : (p c d : ℕ) (o : Option ℕ) (es : List (Entry L)) (w : State L) → IsQueue link w c d es → last_slot es ≡ o → IsList link (vacated p d o w) c tag.None es × (cell_at (vacated p d o w) d ≡ cell.OfShared None tag.None) × Leaves (d ∷ []) (slots es) w (vacated p d o w)
+  forgot_as : (p c d : ℕ) (o : Option ℕ) (es : List (Entry L)) (w : State L) → IsQueue link w c d es → last_slot es ≡ o → IsList link (cell_vacated p d o w) c tag.None es × (cell_at (cell_vacated p d o w) d ≡ cell.OfShared None tag.None) × Leaves (d ∷ []) (slots es) w (cell_vacated p d o w)
   forgot_as p c d None es w q is =
       let v : State L = with_cell d (cell.OfShared None tag.None) w in
       let l : Leaves (d ∷ []) [] w v = leaves_write (d ∷ []) [] w w d (cell.OfShared None tag.None) (λ j out. out.0) (leaves_all (d ∷ []) [] w) in
@@ -85,7 +85,7 @@ module _ {L : Type 0} (link : L → Option ℕ) where
     pub newest : cell_at w1 d ≡ cell.OfShared None tag.None
     pub leaves : Leaves (d ∷ []) (slots es) w w1
 
-  pub forgot : (p c d : ℕ) (es : List (Entry L)) (w w1 : State L) → IsQueue link w c d es → w1 ≡ vacated p d (last_slot es) w → Forgot w w1 c d es
+  pub forgot : (p c d : ℕ) (es : List (Entry L)) (w w1 : State L) → IsQueue link w c d es → w1 ≡ cell_vacated p d (last_slot es) w → Forgot w w1 c d es
   forgot p c d es w w1 q e =
       let r = forgot_as p c d (last_slot es) es w q refl in
       subst (λ (v : State L). Forgot w v c d es) (sym e) (record { hung = r.0; newest = r.1; leaves = r.2 })
@@ -198,7 +198,7 @@ module _ {L : Type 0} (link : L → Option ℕ) (w w1 w2 w3 : State L) (c d i p 
       }
 
   -- that was the last one
-  settled_none : k.rest ≡ [] → Settled (vacated p d (last_slot es) w3)
+  settled_none : k.rest ≡ [] → Settled (cell_vacated p d (last_slot es) w3)
   settled_none none =
       let last : last_slot es ≡ Some k.entry.slot = last3 ∙ ap (λ (xs : List (Entry L)). last_slot (k.entry ∷ xs)) none in
       let v : State L = with_cell d (cell.OfShared None tag.None) w3 in
@@ -217,13 +217,13 @@ module _ {L : Type 0} (link : L → Option ℕ) (w w1 w2 w3 : State L) (c d i p 
         gone = record { item = spare_item link p k.entry.slot two.owners v e two.is two.two item; empty = gone4 };
         leaves = leaves_then (c ∷ d ∷ links es) (slots es) w v w4 (leaves_then (c ∷ d ∷ links es) (slots es) w w3 v wider (leaves_more (d ∷ []) [] (c ∷ d ∷ links es) (slots es) w3 v (λ j out. (out.1.0, tt)) (λ j out. tt) wrote)) (leaves_more [] (k.entry.slot ∷ []) (c ∷ d ∷ links es) (slots es) v w4 (λ j out. tt) (λ j out. (last_in es k.entry.slot j last out, tt)) l4);
       } in
-      subst (λ (o : Option ℕ). Settled (vacated p d o w3)) (sym last) result
+      subst (λ (o : Option ℕ). Settled (cell_vacated p d o w3)) (sym last) result
 
-  settled_by : (w4 : State L) → ((j : ℕ) (t : Tag) → cell_at w3 c ≡ cell.OfShared (Some j) t → w4 ≡ w3) → ((o : Option ℕ) (t : Tag) → cell_at w3 c ≡ cell.OfShared None t → cell_at w3 d ≡ cell.OfShared o tag.None → w4 ≡ vacated p d o w3) → (xs : List (Entry L)) → k.rest ≡ xs → Settled w4
+  settled_by : (w4 : State L) → ((j : ℕ) (t : Tag) → cell_at w3 c ≡ cell.OfShared (Some j) t → w4 ≡ w3) → ((o : Option ℕ) (t : Tag) → cell_at w3 c ≡ cell.OfShared None t → cell_at w3 d ≡ cell.OfShared o tag.None → w4 ≡ cell_vacated p d o w3) → (xs : List (Entry L)) → k.rest ≡ xs → Settled w4
   settled_by w4 some none [] e = subst Settled (sym (none (last_slot es) tag.None (subst (λ (xs : List (Entry L)). IsList link w3 c tag.None xs) e left3) newest3)) (settled_none e)
   settled_by w4 some none (f ∷ fs) e = subst Settled (sym (some f.slot tag.None (subst (λ (xs : List (Entry L)). IsList link w3 c tag.None xs) e left3).0)) (settled_more f fs e)
 
-  pub settled : (w4 : State L) → ((j : ℕ) (t : Tag) → cell_at w3 c ≡ cell.OfShared (Some j) t → w4 ≡ w3) → ((o : Option ℕ) (t : Tag) → cell_at w3 c ≡ cell.OfShared None t → cell_at w3 d ≡ cell.OfShared o tag.None → w4 ≡ vacated p d o w3) → Settled w4
+  pub settled : (w4 : State L) → ((j : ℕ) (t : Tag) → cell_at w3 c ≡ cell.OfShared (Some j) t → w4 ≡ w3) → ((o : Option ℕ) (t : Tag) → cell_at w3 c ≡ cell.OfShared None t → cell_at w3 d ≡ cell.OfShared o tag.None → w4 ≡ cell_vacated p d o w3) → Settled w4
   settled w4 some none = settled_by w4 some none k.rest refl
 
 -- one owner of at least three is given back

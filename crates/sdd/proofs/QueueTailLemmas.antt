@@ -7,7 +7,7 @@ use Rattle.sdd_base.specs.declared.tag.Tag.{Tag}
 use Rattle.sdd_base.specs.declared.tag.Tag.TheVariants as tag
 use Rattle.sdd_base.specs.declared.status.Status.TheVariants as status
 use Rattle.sdd_base.specs.declared.status.Cell.TheVariants as cell
-use Rattle.sdd.specs.Chain.{Entry, slots, links, IsOut, IsItem, IsList, IsDetached, HasLink, Leaves, Fits, CanHang, end_cell}
+use Rattle.sdd.specs.Chain.{Entry, slots, links, IsOut, IsItem, IsList, IsDetached, HasLink, Leaves, FitsBefore, CanHang, end_cell}
 use Rattle.sdd.specs.Queues.{last_slot, HasTwo, IsQueue, Follows}
 use Rattle.sdd.proofs.ChainLemmas.{hung_left, cell_left, item_left, leaves_then, leaves_more, leaves_all, leaves_write, out_of_none, wrote_same, inside_cells, inside_states, some_same, some_nothing, kept_same, Names}
 use Rattle.sdd.proofs.ReleaseLemmas.{leaves_released, spare_owner, out_of_one}
@@ -94,7 +94,7 @@ module _ {L : Type 0} (link : L → Option ℕ) where
     first_hung : es ≡ [] → IsList link w1 c tag.None []
     first_hung none = subst (λ (xs : List (Entry L)). IsList link w1 c tag.None xs) none hung1
 
-    first_fit : Fits c [] e
+    first_fit : FitsBefore c [] e
     first_fit = record { cell = (λ p. f.oldest (sym p), tt); link = tt; slot = tt }
 
     pub first_fits : es ≡ [] → CanHang link w1 c i
@@ -114,7 +114,7 @@ module _ {L : Type 0} (link : L → Option ℕ) where
     newest_slot : Some i ≡ last_slot (es ++ e ∷ [])
     newest_slot = ap (λ (m : ℕ). Some m) at ∙ sym (last_append es e)
 
-    pub first_appended : (w2 : State L) → es ≡ [] → HasTwo w i → ((t : Tag) (xs : List (Entry L)) (x : Entry L) → IsList link w1 c t xs → IsDetached link w1 x → Fits c xs x → i ≡ x.slot → IsList link w2 c t (x ∷ xs) × Leaves (c ∷ x.link ∷ []) [] w1 w2) → IsQueue link w2 c d (es ++ e ∷ []) × Leaves (e.link ∷ c ∷ d ∷ links es) (slots es) w w2
+    pub first_appended : (w2 : State L) → es ≡ [] → HasTwo w i → ((t : Tag) (xs : List (Entry L)) (x : Entry L) → IsList link w1 c t xs → IsDetached link w1 x → FitsBefore c xs x → i ≡ x.slot → IsList link w2 c t (x ∷ xs) × Leaves (c ∷ x.link ∷ []) [] w1 w2) → IsQueue link w2 c d (es ++ e ∷ []) × Leaves (e.link ∷ c ∷ d ∷ links es) (slots es) w w2
     first_appended w2 none two put =
         let r = put tag.None [] e (first_hung none) loose1 first_fit at in
         let ne : d ≢ e.link = λ p. f.newest (sym p) in (
@@ -143,13 +143,13 @@ module _ {L : Type 0} (link : L → Option ℕ) where
         last_hung : IsList link w1 d' (end_tag tag.None es) []
         last_hung = subst (λ (m : ℕ). IsList link w1 m (end_tag tag.None es) []) (sym at_end) (hung_end w1 c tag.None es hung1)
 
-        last_fit : Fits d' [] e
+        last_fit : FitsBefore d' [] e
         last_fit = record { cell = (λ p. end_out e.link c es f.oldest f.link (sym p ∙ at_end), tt); link = tt; slot = tt }
 
         pub last_fits : CanHang link w1 d' i
         last_fits = record { tag = end_tag tag.None es; entries = []; entry = e; hung = last_hung; loose = loose1; fits = last_fit; at = at }
 
-        module _ (w2 : State L) (put : (t : Tag) (xs : List (Entry L)) (x : Entry L) → IsList link w1 d' t xs → IsDetached link w1 x → Fits d' xs x → i ≡ x.slot → IsList link w2 d' t (x ∷ xs) × Leaves (d' ∷ x.link ∷ []) [] w1 w2) where
+        module _ (w2 : State L) (put : (t : Tag) (xs : List (Entry L)) (x : Entry L) → IsList link w1 d' t xs → IsDetached link w1 x → FitsBefore d' xs x → i ≡ x.slot → IsList link w2 d' t (x ∷ xs) × Leaves (d' ∷ x.link ∷ []) [] w1 w2) where
           put2 : IsList link w2 (end_cell c es) (end_tag tag.None es) (e ∷ []) × Leaves (end_cell c es ∷ e.link ∷ []) [] w1 w2
           put2 = subst (λ (m : ℕ). IsList link w2 m (end_tag tag.None es) (e ∷ []) × Leaves (m ∷ e.link ∷ []) [] w1 w2) at_end (put (end_tag tag.None es) [] e last_hung loose1 last_fit at)
 

@@ -9,7 +9,7 @@ use Rattle.sdd_base.specs.declared.tag.Tag.{Tag}
 use Rattle.sdd_base.specs.declared.status.Status.{Status}
 use Rattle.sdd_base.specs.declared.status.Status.TheVariants as status
 use Rattle.sdd_base.specs.declared.status.Cell.TheVariants as cell
-use Rattle.sdd.specs.Chain.{Entry, slots, links, IsOut, AreOut, IsItem, IsList, IsDetached, Leaves, Stays, TookFirst, Hangs, Begins, Cut, Dropped, SameUses, OneMore, skip}
+use Rattle.sdd.specs.Chain.{Entry, slots, links, IsOut, AreOut, IsItem, IsList, IsDetached, Leaves, Stays, TookFirst, Hangs, BeginsWithItem, Cut, CutDeleted, SameUses, OneMore, skip}
 use Rattle.sdd.proofs.ChainLemmas.{hung_left, leaves_then, leaves_more, leaves_all, out_of_none, some_same, inside_cells, inside_states}
 use Rattle.sdd.proofs.WalkLemmas.{skipped_first, kept_first, hung_length}
 use Rattle.std.proofs.lemmas.List.{nil_from_length, set-get_or, set-set}
@@ -138,7 +138,7 @@ module _ {L : Type 0} (link : L → Option ℕ) where
   }
 
   -- the first of the rest was given back
-  abbrev pub cut_next : (w w1 w2 : State L) (c d n : ℕ) (t : Tag) (item : L) (gone : Bool) (es : List (Entry L)) (k : Cut link w w1 c t es n) → Begins k.rest item d gone → ((u : Tag) (e : Entry L) (xs : List (Entry L)) → IsList link w1 c u (e ∷ xs) → IsList link w2 c u xs × Leaves (c ∷ e.link ∷ []) (e.slot ∷ []) w1 w2) → Cut link w w2 c t es (n + 1)
+  abbrev pub cut_next : (w w1 w2 : State L) (c d n : ℕ) (t : Tag) (item : L) (gone : Bool) (es : List (Entry L)) (k : Cut link w w1 c t es n) → BeginsWithItem k.rest item d gone → ((u : Tag) (e : Entry L) (xs : List (Entry L)) → IsList link w1 c u (e ∷ xs) → IsList link w2 c u xs × Leaves (c ∷ e.link ∷ []) (e.slot ∷ []) w1 w2) → Cut link w w2 c t es (n + 1)
   cut_next w w1 w2 c d n t item gone es k b step =
       let h : IsList link w1 c t (b.first ∷ b.rest) = subst (λ (xs : List (Entry L)). IsList link w1 c t xs) b.is k.hung in
       let r = step t b.first b.rest h in
@@ -155,10 +155,10 @@ module _ {L : Type 0} (link : L → Option ℕ) where
         inner_slots = λ j out. (outer' j out).1;
       }
 
-  pub drop_start : (w : State L) (c : ℕ) (t : Tag) (es : List (Entry L)) → IsList link w c t es → Dropped link w w c t es 0
+  pub drop_start : (w : State L) (c : ℕ) (t : Tag) (es : List (Entry L)) → IsList link w c t es → CutDeleted link w w c t es 0
   drop_start w c t es h = record { cut = cut_start w c t es h; skipped = refl }
 
-  pub drop_next : (w w1 w2 : State L) (c d n : ℕ) (t : Tag) (item : L) (es : List (Entry L)) (k : Dropped link w w1 c t es n) → Begins k.cut.rest item d true → ((u : Tag) (e : Entry L) (xs : List (Entry L)) → IsList link w1 c u (e ∷ xs) → IsList link w2 c u xs × Leaves (c ∷ e.link ∷ []) (e.slot ∷ []) w1 w2) → Dropped link w w2 c t es (n + 1)
+  pub drop_next : (w w1 w2 : State L) (c d n : ℕ) (t : Tag) (item : L) (es : List (Entry L)) (k : CutDeleted link w w1 c t es n) → BeginsWithItem k.cut.rest item d true → ((u : Tag) (e : Entry L) (xs : List (Entry L)) → IsList link w1 c u (e ∷ xs) → IsList link w2 c u xs × Leaves (c ∷ e.link ∷ []) (e.slot ∷ []) w1 w2) → CutDeleted link w w2 c t es (n + 1)
   drop_next w w1 w2 c d n t item es k b step = record { cut = cut_next w w1 w2 c d n t item true es k.cut b step; skipped = sym (skipped_first b.first b.rest (sym b.gone_is)) ∙ ap skip (sym b.is) ∙ k.skipped }
 
   -- where the rest is empty, or begins with an undeleted entry, it is what was to be left
@@ -166,19 +166,19 @@ module _ {L : Type 0} (link : L → Option ℕ) where
     pub hung : IsList link w1 c t (skip es)
     pub same : SameUses w w1 (slots (skip es))
 
-  left_by : (w w1 : State L) (c n : ℕ) (t : Tag) (es : List (Entry L)) (k : Dropped link w w1 c t es n) → k.cut.rest ≡ skip es → Left w w1 c t es
+  left_by : (w w1 : State L) (c n : ℕ) (t : Tag) (es : List (Entry L)) (k : CutDeleted link w w1 c t es n) → k.cut.rest ≡ skip es → Left w w1 c t es
   left_by w w1 c n t es k e = record { hung = subst (λ (xs : List (Entry L)). IsList link w1 c t xs) e k.cut.hung; same = subst (λ (xs : List (Entry L)). SameUses w w1 (slots xs)) e k.cut.same }
 
-  pub drop_none : (w w1 : State L) (c n : ℕ) (t : Tag) (es : List (Entry L)) (k : Dropped link w w1 c t es n) → k.cut.rest ≡ [] → Left w w1 c t es
+  pub drop_none : (w w1 : State L) (c n : ℕ) (t : Tag) (es : List (Entry L)) (k : CutDeleted link w w1 c t es n) → k.cut.rest ≡ [] → Left w w1 c t es
   drop_none w w1 c n t es k none = left_by w w1 c n t es k (none ∙ ap skip (sym none) ∙ k.skipped)
 
-  pub drop_some : (w w1 : State L) (c d n : ℕ) (t : Tag) (item : L) (es : List (Entry L)) (k : Dropped link w w1 c t es n) → Begins k.cut.rest item d false → Left w w1 c t es
+  pub drop_some : (w w1 : State L) (c d n : ℕ) (t : Tag) (item : L) (es : List (Entry L)) (k : CutDeleted link w w1 c t es n) → BeginsWithItem k.cut.rest item d false → Left w w1 c t es
   drop_some w w1 c d n t item es k b = left_by w w1 c n t es k (b.is ∙ sym (kept_first b.first b.rest (sym b.gone_is)) ∙ ap skip (sym b.is) ∙ k.skipped)
 
   cut_all : (w w1 : State L) (c n : ℕ) (t : Tag) (es : List (Entry L)) → IsList link w c t es → in_use w ≤ n → (k : Cut link w w1 c t es n) → k.rest ≡ []
   cut_all w w1 c n t es h enough k = let m = hung_length link w c t es h in nil_from_length k.rest (omega (arith, m, k.passed, enough))
 
-  pub drop_all : (w w1 : State L) (c n : ℕ) (t : Tag) (es : List (Entry L)) → IsList link w c t es → in_use w ≤ n → Dropped link w w1 c t es n → Left w w1 c t es
+  pub drop_all : (w w1 : State L) (c n : ℕ) (t : Tag) (es : List (Entry L)) → IsList link w c t es → in_use w ≤ n → CutDeleted link w w1 c t es n → Left w w1 c t es
   drop_all w w1 c n t es h enough k = drop_none w w1 c n t es k (cut_all w w1 c n t es h enough k.cut)
 
   pub cleared : (w w1 : State L) (c n : ℕ) (t : Tag) (es : List (Entry L)) (k : Cut link w w1 c t es n) → k.rest ≡ [] → IsList link w1 c t []
@@ -191,7 +191,7 @@ module _ {L : Type 0} (link : L → Option ℕ) where
   pub loose_cell : (w : State L) (e : Entry L) → IsDetached link w e → (d : ℕ) → d ≡ e.link → IsSharedCell w d
   loose_cell w e k d at = subst (λ (j : ℕ). IsSharedCell w j) (sym at) (record { inside = inside_cells w.cells e.link None e.tag k.empty; item = None; tag = e.tag; is = k.empty })
 
-  pub drop_hangs : (w1 w2 : State L) (c d : ℕ) (item : L) (gone : Bool) → (h : Hangs link w1 c) → Begins h.entries item d gone → ((u : Tag) (e : Entry L) (xs : List (Entry L)) → IsList link w1 c u (e ∷ xs) → IsList link w2 c u xs × Leaves (c ∷ e.link ∷ []) (e.slot ∷ []) w1 w2) → Hangs link w2 c
+  pub drop_hangs : (w1 w2 : State L) (c d : ℕ) (item : L) (gone : Bool) → (h : Hangs link w1 c) → BeginsWithItem h.entries item d gone → ((u : Tag) (e : Entry L) (xs : List (Entry L)) → IsList link w1 c u (e ∷ xs) → IsList link w2 c u xs × Leaves (c ∷ e.link ∷ []) (e.slot ∷ []) w1 w2) → Hangs link w2 c
   drop_hangs w1 w2 c d item gone h b step = record { tag = h.tag; entries = b.rest; is = (step h.tag b.first b.rest (subst (λ (xs : List (Entry L)). IsList link w1 c h.tag xs) b.is h.is)).0 }
 
   -- another number of owners

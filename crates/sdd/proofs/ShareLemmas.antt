@@ -5,7 +5,7 @@ use Rattle.sdd_base.specs.State.{State, status_at, cell_at, with_status}
 use Rattle.sdd_base.specs.declared.tag.Tag.{Tag}
 use Rattle.sdd_base.specs.declared.status.Status.TheVariants as status
 use Rattle.sdd_base.specs.declared.status.Cell.TheVariants as cell
-use Rattle.sdd.specs.Chain.{Entry, slots, links, IsOut, IsList, IsDetached, Leaves, Fits, CanHang, TookFirst, MoreOwners, OneMore}
+use Rattle.sdd.specs.Chain.{Entry, slots, links, IsOut, IsList, IsDetached, Leaves, FitsBefore, CanHang, TookFirst, MoreOwners, OneMore}
 use Rattle.sdd.proofs.ChainLemmas.{full_empty, kept_same, some_same, hung_out, leaves_then, leaves_more, leaves_all, inside_states}
 use Rattle.sdd.proofs.ReleaseLemmas.{item_owners, hung_owners}
 use Rattle.sdd.proofs.ListHeadLemmas.{TookSome, took_nothing, same_use}
@@ -43,13 +43,13 @@ module _ {L : Type 0} (link : L → Option ℕ) (w w1 w2 : State L) (c i : ℕ) 
         leaves = subst (λ (v : State L). Leaves [] (i ∷ []) w1 v) (sym e) (leaves_owners w1 i m);
       }
 
-  fits_off : IsList link w2 c t k.rest → Fits c k.rest k.entry
+  fits_off : IsList link w2 c t k.rest → FitsBefore c k.rest k.entry
   fits_off g = record { cell = (k.apart, hung_out link w2 c t k.rest g); link = k.out; slot = k.alone }
 
   pub can_return : Off → CanHang link w2 c i
   can_return o = record { tag = t; entries = k.rest; entry = k.entry; hung = o.left; loose = o.loose; fits = fits_off o.left; at = k.at }
 
-  module _ (w3 : State L) (o : Off) (put : (u : Tag) (xs : List (Entry L)) (x : Entry L) → IsList link w2 c u xs → IsDetached link w2 x → Fits c xs x → i ≡ x.slot → IsList link w3 c u (x ∷ xs) × Leaves (c ∷ x.link ∷ []) [] w2 w3) where
+  module _ (w3 : State L) (o : Off) (put : (u : Tag) (xs : List (Entry L)) (x : Entry L) → IsList link w2 c u xs → IsDetached link w2 x → FitsBefore c xs x → i ≡ x.slot → IsList link w3 c u (x ∷ xs) × Leaves (c ∷ x.link ∷ []) [] w2 w3) where
     back : IsList link w3 c t (k.entry ∷ k.rest) × Leaves (c ∷ k.entry.link ∷ []) [] w2 w3
     back = put t k.rest k.entry o.left o.loose (fits_off o.left) k.at
 

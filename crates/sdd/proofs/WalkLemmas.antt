@@ -7,7 +7,7 @@ use Rattle.sdd_base.specs.State.{State, usage, in_use}
 use Rattle.sdd_base.specs.declared.tag.Tag.{Tag}
 use Rattle.sdd_base.specs.declared.status.Status.{Status}
 use Rattle.sdd_base.specs.declared.status.Status.TheVariants as status
-use Rattle.sdd.specs.Chain.{Entry, front_tag, slots, IsOut, IsList, Hangs, Begins, Skipped, Counted, deleted, skip, undeleted}
+use Rattle.sdd.specs.Chain.{Entry, front_tag, slots, IsOut, IsList, Hangs, BeginsWithItem, Skipped, PassedEntries, deleted, skip, undeleted}
 
 -- slots with items, none of them twice
 abbrev pub AreUsed : List Status → List ℕ → Type 0
@@ -57,19 +57,19 @@ module _ {L : Type 0} (link : L → Option ℕ) where
   hung_length w c t es h = let r = used_slots w.states (slots es) (hung_used w c t es h) in omega (arith, r, length-slots es)
 
   -- the rest behind the first entry
-  pub behind : (w : State L) (c d : ℕ) (t : Tag) (item : L) (gone : Bool) (es : List (Entry L)) → IsList link w c t es → (b : Begins es item d gone) → IsList link w d b.first.tag b.rest
+  pub behind : (w : State L) (c d : ℕ) (t : Tag) (item : L) (gone : Bool) (es : List (Entry L)) → IsList link w c t es → (b : BeginsWithItem es item d gone) → IsList link w d b.first.tag b.rest
   behind w c d t item gone es h b =
       let g = subst (λ (xs : List (Entry L)). IsList link w c t xs) b.is h in
       subst (λ (j : ℕ). IsList link w j b.first.tag b.rest) (sym b.link_is) g.4
 
-  pub behind_hangs : (w : State L) (c d : ℕ) (item : L) (gone : Bool) → (h : Hangs link w c) → Begins h.entries item d gone → Hangs link w d
+  pub behind_hangs : (w : State L) (c d : ℕ) (item : L) (gone : Bool) → (h : Hangs link w c) → BeginsWithItem h.entries item d gone → Hangs link w d
   behind_hangs w c d item gone h b = record { tag = b.first.tag; entries = b.rest; is = behind w c d h.tag item gone h.entries h.is b }
 
   -- deleted entries are passed, one by one
   pub skip_start : (w : State L) (c : ℕ) (t : Tag) (es : List (Entry L)) → IsList link w c t es → Skipped link w t es 0 c
   skip_start w c t es h = record { tag = t; rest = es; hung = h; same = refl; tags = refl; passed = omega arith }
 
-  pub skip_next : (w : State L) (t : Tag) (es : List (Entry L)) (n c d : ℕ) (item : L) (k : Skipped link w t es n c) → Begins k.rest item d true → Skipped link w t es (n + 1) d
+  pub skip_next : (w : State L) (t : Tag) (es : List (Entry L)) (n c d : ℕ) (item : L) (k : Skipped link w t es n c) → BeginsWithItem k.rest item d true → Skipped link w t es (n + 1) d
   skip_next w t es n c d item k b = record {
     tag = b.first.tag;
     rest = b.rest;
@@ -82,14 +82,14 @@ module _ {L : Type 0} (link : L → Option ℕ) where
   pub skip_none : (w : State L) (t : Tag) (es : List (Entry L)) (n c : ℕ) (k : Skipped link w t es n c) → k.rest ≡ [] → (u : Tag) × IsList link w c u (skip es) × (u ≡ front_tag t es)
   skip_none w t es n c k none = (k.tag, subst (λ (xs : List (Entry L)). IsList link w c k.tag xs) (none ∙ ap skip (sym none) ∙ k.same) k.hung, ap (λ (xs : List (Entry L)). front_tag k.tag xs) (sym none) ∙ k.tags)
 
-  pub skip_some : (w : State L) (t : Tag) (es : List (Entry L)) (n c d : ℕ) (item : L) (k : Skipped link w t es n c) → Begins k.rest item d false → (u : Tag) × IsList link w c u (skip es) × (u ≡ front_tag t es)
+  pub skip_some : (w : State L) (t : Tag) (es : List (Entry L)) (n c d : ℕ) (item : L) (k : Skipped link w t es n c) → BeginsWithItem k.rest item d false → (u : Tag) × IsList link w c u (skip es) × (u ≡ front_tag t es)
   skip_some w t es n c d item k b = (k.tag, subst (λ (xs : List (Entry L)). IsList link w c k.tag xs) (b.is ∙ sym (kept_first b.first b.rest (sym b.gone_is)) ∙ ap skip (sym b.is) ∙ k.same) k.hung, sym (front_kept k.tag b.first b.rest (sym b.gone_is)) ∙ ap (λ (xs : List (Entry L)). front_tag k.tag xs) (sym b.is) ∙ k.tags)
 
   pub skip_all : (w : State L) (es : List (Entry L)) (n c c0 : ℕ) (t0 : Tag) → IsList link w c0 t0 es → in_use w ≤ n → Skipped link w t0 es n c → (u : Tag) × IsList link w c u (skip es) × (u ≡ front_tag t0 es)
   skip_all w es n c c0 t0 h enough k = let m = hung_length w c0 t0 es h in skip_none w t0 es n c k (nil_from_length k.rest (omega (arith, m, k.passed, enough)))
 
   -- entries are passed and the undeleted ones counted
-  pub count_start : (w : State L) (c : ℕ) (t : Tag) (es : List (Entry L)) → IsList link w c t es → Counted link w es 0 0 c
+  pub count_start : (w : State L) (c : ℕ) (t : Tag) (es : List (Entry L)) → IsList link w c t es → PassedEntries link w es 0 0 c
   count_start w c t es h = record { tag = t; rest = es; hung = h; same = omega arith; passed = omega arith }
 
   gone_one : (first : Entry L) (rest : List (Entry L)) → deleted first.tag ≡ true → length (undeleted (first ∷ rest)) ≡ length (undeleted rest)
@@ -98,7 +98,7 @@ module _ {L : Type 0} (link : L → Option ℕ) where
   kept_one : (first : Entry L) (rest : List (Entry L)) → deleted first.tag ≡ false → length (undeleted (first ∷ rest)) ≡ suc (length (undeleted rest))
   kept_one first rest e = rw e refl
 
-  count_gone : (w : State L) (es : List (Entry L)) (n m c d : ℕ) (item : L) (k : Counted link w es n m c) → Begins k.rest item d true → Counted link w es (n + 1) m d
+  count_gone : (w : State L) (es : List (Entry L)) (n m c d : ℕ) (item : L) (k : PassedEntries link w es n m c) → BeginsWithItem k.rest item d true → PassedEntries link w es (n + 1) m d
   count_gone w es n m c d item k b = record {
     tag = b.first.tag;
     rest = b.rest;
@@ -107,7 +107,7 @@ module _ {L : Type 0} (link : L → Option ℕ) where
     passed = let e : length k.rest ≡ length (b.first ∷ b.rest) = ap length b.is in omega (arith, e, k.passed);
   }
 
-  count_kept : (w : State L) (es : List (Entry L)) (n m c d : ℕ) (item : L) (k : Counted link w es n m c) → Begins k.rest item d false → Counted link w es (n + 1) (m + 1) d
+  count_kept : (w : State L) (es : List (Entry L)) (n m c d : ℕ) (item : L) (k : PassedEntries link w es n m c) → BeginsWithItem k.rest item d false → PassedEntries link w es (n + 1) (m + 1) d
   count_kept w es n m c d item k b = record {
     tag = b.first.tag;
     rest = b.rest;
@@ -116,14 +116,14 @@ module _ {L : Type 0} (link : L → Option ℕ) where
     passed = let e : length k.rest ≡ length (b.first ∷ b.rest) = ap length b.is in omega (arith, e, k.passed);
   }
 
-  pub count_next : (w : State L) (es : List (Entry L)) (n m c d : ℕ) (item : L) (gone : Bool) (k : Counted link w es n m c) → Begins k.rest item d gone → Counted link w es (n + 1) (cond gone m (m + 1)) d
+  pub count_next : (w : State L) (es : List (Entry L)) (n m c d : ℕ) (item : L) (gone : Bool) (k : PassedEntries link w es n m c) → BeginsWithItem k.rest item d gone → PassedEntries link w es (n + 1) (cond gone m (m + 1)) d
   count_next w es n m c d item true k b = count_gone w es n m c d item k b
   count_next w es n m c d item false k b = count_kept w es n m c d item k b
 
-  pub count_none : (w : State L) (es : List (Entry L)) (n m c : ℕ) (k : Counted link w es n m c) → k.rest ≡ [] → m ≡ length (undeleted es)
+  pub count_none : (w : State L) (es : List (Entry L)) (n m c : ℕ) (k : PassedEntries link w es n m c) → k.rest ≡ [] → m ≡ length (undeleted es)
   count_none w es n m c k none = let e : length (undeleted k.rest) ≡ 0 = ap (λ (xs : List (Entry L)). length (undeleted xs)) none in omega (arith, e, k.same)
 
-  pub count_all : (w : State L) (es : List (Entry L)) (n m c c0 : ℕ) (t0 : Tag) → IsList link w c0 t0 es → in_use w ≤ n → Counted link w es n m c → m ≡ length (undeleted es)
+  pub count_all : (w : State L) (es : List (Entry L)) (n m c c0 : ℕ) (t0 : Tag) → IsList link w c0 t0 es → in_use w ≤ n → PassedEntries link w es n m c → m ≡ length (undeleted es)
   count_all w es n m c c0 t0 h enough k = let l = hung_length w c0 t0 es h in count_none w es n m c k (nil_from_length k.rest (omega (arith, l, k.passed, enough)))
 
 -- counting takes at most one more

@@ -11,10 +11,10 @@ use Rattle.sdd_base.specs.declared.status.Status.TheVariants as status
 use Rattle.sdd_base.specs.declared.tag.Tag.{Tag}
 use Rattle.sdd_base.specs.declared.tag.Tag.TheVariants as tag
 use Rattle.sdd.specs.Bags.{IsBag, IsSomeBag, bag_cells, IsRow, IsSameBag, AreOwn, AreSpare, PutsPrimary, PutsOverflow, TakesOne}
-use Rattle.sdd.specs.Chain.{Entry, IsList, IsDetached, Leaves, first_item, first_slot, links, slots, undeleted, Fits}
+use Rattle.sdd.specs.Chain.{Entry, IsList, IsDetached, Leaves, first_item, first_slot, links, slots, undeleted, FitsBefore}
 use Rattle.sdd.specs.Entries.{entry_link, entry_value}
-use Rattle.sdd.specs.Nodes.{IsApart, IsNode}
-use Rattle.sdd.specs.Queues.{Appends, IsQueue, IsSomeQueue, KeepsQueue, Takes, newest_cell, oldest_cell, Follows, vacated}
+use Rattle.sdd.specs.Nodes.{IsApart, NamesEntry}
+use Rattle.sdd.specs.Queues.{Appends, IsQueue, IsSomeQueue, KeepsQueue, Takes, newest_cell, oldest_cell, Follows, cell_vacated}
 use Rattle.sdd.specs.Stacks.{IsStack, Pops, stack_cell}
 use Rattle.sdd.specs.declared.bag.Bag.{Bag}
 use Rattle.sdd.specs.declared.linked_entry.LinkedEntry.{LinkedEntry}
@@ -147,7 +147,7 @@ module _ {L : Type 0} where
 
   -- the entry in slot i hangs before all others
   abbrev pub HangsFirst : (L → Option ℕ) → State L → State L → AtomicShared L → ℕ → Type 0
-  HangsFirst link w w' from i = (t : Tag) (es : List (Entry L)) (e : Entry L) → IsList link w (shared_cell from) t es → IsDetached link w e → Fits (shared_cell from) es e → i ≡ e.slot → IsList link w' (shared_cell from) t (e ∷ es) × Leaves (shared_cell from ∷ e.link ∷ []) [] w w'
+  HangsFirst link w w' from i = (t : Tag) (es : List (Entry L)) (e : Entry L) → IsList link w (shared_cell from) t es → IsDetached link w e → FitsBefore (shared_cell from) es e → i ≡ e.slot → IsList link w' (shared_cell from) t (e ∷ es) × Leaves (shared_cell from ∷ e.link ∷ []) [] w w'
 
   -- the first entry is gone, and those behind it hang here
   abbrev pub DropsFirst : (L → Option ℕ) → State L → State L → AtomicShared L → Type 0
@@ -159,7 +159,7 @@ module _ {L : Type 0} where
 
   -- where the oldest cell is empty, p gives back what the newest one keeps
   abbrev pub ClearsNewest : ℕ → State L → State L → AtomicShared L → AtomicShared L → Type 0
-  ClearsNewest p w w' oldest newest = (o : Option ℕ) (t : Tag) → cell_at w (shared_cell oldest) ≡ cell.OfShared None t → cell_at w (shared_cell newest) ≡ cell.OfShared o tag.None → w' ≡ vacated p (shared_cell newest) o w
+  ClearsNewest p w w' oldest newest = (o : Option ℕ) (t : Tag) → cell_at w (shared_cell oldest) ≡ cell.OfShared None t → cell_at w (shared_cell newest) ≡ cell.OfShared o tag.None → w' ≡ cell_vacated p (shared_cell newest) o w
 
   -- whatever list hangs from a cell, with the tag there
   abbrev pub OfList : (L → Option ℕ) → State L → AtomicShared L → (Tag → List (Entry L) → Type 0) → Type 0
@@ -171,11 +171,11 @@ module _ {L : Type 0} where
 
   -- whatever entry slot o names, and the list behind it
   abbrev pub OfNode : (L → Option ℕ) → State L → Option ℕ → (Entry L → List (Entry L) → Type 0) → Type 0
-  OfNode link w o P = (e : Entry L) (es : List (Entry L)) → IsNode link w o e → IsList link w e.link e.tag es → P e es
+  OfNode link w o P = (e : Entry L) (es : List (Entry L)) → NamesEntry link w o e → IsList link w e.link e.tag es → P e es
 
   -- an entry x in no list, in slot i, that can come behind the one that slot o names
   abbrev pub OfInsertion : (L → Option ℕ) → State L → Option ℕ → ℕ → (Entry L → Entry L → Type 0) → Type 0
-  OfInsertion link w o i P = (e : Entry L) (x : Entry L) (es : List (Entry L)) → IsNode link w o e → IsList link w e.link e.tag es → IsDetached link w x → i ≡ x.slot → IsApart e.link es x → P e x
+  OfInsertion link w o i P = (e : Entry L) (x : Entry L) (es : List (Entry L)) → NamesEntry link w o e → IsList link w e.link e.tag es → IsDetached link w x → i ≡ x.slot → IsApart e.link es x → P e x
 
   -- the first undeleted entry behind the one that slot o names has as many owners as there can be
   abbrev pub NextIsFull : (L → Option ℕ) → State L → Option ℕ → Type 0

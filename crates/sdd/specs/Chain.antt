@@ -82,7 +82,7 @@ pub record IsDetached {L : Type 0} (link : L → Option ℕ) (w : State L) (e : 
   pub empty : cell_at w e.link ≡ cell.OfShared None e.tag
 
 -- an entry can hang before a list that hangs from cell c
-pub record Fits {L : Type 0} (c : ℕ) (es : List (Entry L)) (e : Entry L) : Type 0 where
+pub record FitsBefore {L : Type 0} (c : ℕ) (es : List (Entry L)) (e : Entry L) : Type 0 where
   pub cell : IsOut c (links (e ∷ es))
   pub link : IsOut e.link (links es)
   pub slot : IsOut e.slot (slots es)
@@ -114,7 +114,7 @@ pub record CanHang {L : Type 0} (link : L → Option ℕ) (w : State L) (c i : �
   pub entry : Entry L
   pub hung : IsList link w c tag entries
   pub loose : IsDetached link w entry
-  pub fits : Fits c entries entry
+  pub fits : FitsBefore c entries entry
   pub at : i ≡ entry.slot
 
 -- the list without the deleted entries at its front
@@ -128,7 +128,7 @@ front_tag t [] = t
 front_tag t (e ∷ es) = cond (deleted e.tag) (front_tag e.tag es) t
 
 -- a list begins with this item, whose link is this cell, and which is deleted or not
-pub record Begins {L : Type 0} (es : List (Entry L)) (item : L) (link : ℕ) (gone : Bool) : Type 0 where
+pub record BeginsWithItem {L : Type 0} (es : List (Entry L)) (item : L) (link : ℕ) (gone : Bool) : Type 0 where
   pub first : Entry L
   pub rest : List (Entry L)
   pub is : es ≡ first ∷ rest
@@ -146,7 +146,7 @@ pub record Skipped {L : Type 0} (link : L → Option ℕ) (w : State L) (t : Tag
   pub passed : n + length rest ≡ length es
 
 -- n entries of a list were passed, m of them undeleted, and the rest hangs from cell c
-pub record Counted {L : Type 0} (link : L → Option ℕ) (w : State L) (es : List (Entry L)) (n m c : ℕ) : Type 0 where
+pub record PassedEntries {L : Type 0} (link : L → Option ℕ) (w : State L) (es : List (Entry L)) (n m c : ℕ) : Type 0 where
   pub tag : Tag
   pub rest : List (Entry L)
   pub hung : IsList link w c tag rest
@@ -180,7 +180,7 @@ pub record Cut {L : Type 0} (link : L → Option ℕ) (w w' : State L) (c : ℕ)
   pub inner_slots : (j : ℕ) → IsOut j (slots es) → IsOut j (slots rest)
 
 -- and all of these were deleted
-pub record Dropped {L : Type 0} (link : L → Option ℕ) (w w' : State L) (c : ℕ) (t : Tag) (es : List (Entry L)) (n : ℕ) : Type 0 where
+pub record CutDeleted {L : Type 0} (link : L → Option ℕ) (w w' : State L) (c : ℕ) (t : Tag) (es : List (Entry L)) (n : ℕ) : Type 0 where
   pub cut : Cut link w w' c t es n
   pub skipped : skip cut.rest ≡ skip es
 

@@ -9,8 +9,8 @@ abbrev pub entry_value : {T : Type 0} → LinkedEntry T → T
 entry_value {T} e = (out-LinkedEntry T e).instance
 
 -- the entry with another value
-abbrev pub with_value : {T : Type 0} → T → LinkedEntry T → LinkedEntry T
-with_value {T} v e = roll-LinkedEntry T (record (out-LinkedEntry T e) { instance = v })
+abbrev pub entry_with_value : {T : Type 0} → T → LinkedEntry T → LinkedEntry T
+entry_with_value {T} v e = roll-LinkedEntry T (record (out-LinkedEntry T e) { instance = v })
 
 -- the link is gone once the entry gave it up
 abbrev pub entry_link : {T : Type 0} → LinkedEntry T → Option ℕ

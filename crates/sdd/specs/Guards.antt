@@ -4,7 +4,7 @@ use Rattle.sdd_base.specs.Counting.{Counted, tally}
 use Rattle.sdd_base.specs.Holding.{Hold, SharedIn}
 use Rattle.sdd_base.specs.Place.{IsPlace}
 use Rattle.sdd_base.specs.State.{State}
-use Rattle.sdd_base.specs.Steps.{closed, opened}
+use Rattle.sdd_base.specs.Steps.{guard_closed, guard_opened}
 use Rattle.sdd_base.specs.declared.tag.Tag.{Tag}
 use Rattle.sdd.specs.Bags.{IsBag}
 use Rattle.sdd.specs.Chain.{Entry, IsList, Leaves}
@@ -20,7 +20,7 @@ pub record CanOpen {T : Type 0} (p : ℕ) (hand : List Hold) (w : State (LinkedE
 
 -- containers whose cells are in hand are the same while a guard opens, whatever that reclaims, and while one closes
 pub record GuardsLeave (T : Type 0) : Type 0 where
-  pub lists : (c p : ℕ) (t : Tag) (es : List (Entry (LinkedEntry T))) (hand : List Hold) (w : State (LinkedEntry T)) → CanOpen p hand w → 1 ≤ tally (SharedIn c) hand → IsList entry_link w c t es → IsList entry_link (opened entry_holds p w) c t es
-  pub queues : (c d p : ℕ) (es : List (Entry (LinkedEntry T))) (hand : List Hold) (w : State (LinkedEntry T)) → CanOpen p hand w → 1 ≤ tally (SharedIn c) hand → 1 ≤ tally (SharedIn d) hand → IsQueue entry_link w c d es → IsQueue entry_link (opened entry_holds p w) c d es
-  pub bags : (n p : ℕ) (cs : List ℕ) (ps os : List (Entry (LinkedEntry T))) (hand : List Hold) (w : State (LinkedEntry T)) → CanOpen p hand w → ((k : ℕ) → k < length cs → 1 ≤ tally (SharedIn (get_or cs k 0)) hand) → IsBag n w cs ps os → IsBag n (opened entry_holds p w) cs ps os
-  pub closing : (p : ℕ) (w : State (LinkedEntry T)) → Leaves [] [] w (closed p w)
+  pub lists : (c p : ℕ) (t : Tag) (es : List (Entry (LinkedEntry T))) (hand : List Hold) (w : State (LinkedEntry T)) → CanOpen p hand w → 1 ≤ tally (SharedIn c) hand → IsList entry_link w c t es → IsList entry_link (guard_opened entry_holds p w) c t es
+  pub queues : (c d p : ℕ) (es : List (Entry (LinkedEntry T))) (hand : List Hold) (w : State (LinkedEntry T)) → CanOpen p hand w → 1 ≤ tally (SharedIn c) hand → 1 ≤ tally (SharedIn d) hand → IsQueue entry_link w c d es → IsQueue entry_link (guard_opened entry_holds p w) c d es
+  pub bags : (n p : ℕ) (cs : List ℕ) (ps os : List (Entry (LinkedEntry T))) (hand : List Hold) (w : State (LinkedEntry T)) → CanOpen p hand w → ((k : ℕ) → k < length cs → 1 ≤ tally (SharedIn (get_or cs k 0)) hand) → IsBag n w cs ps os → IsBag n (guard_opened entry_holds p w) cs ps os
+  pub closing : (p : ℕ) (w : State (LinkedEntry T)) → Leaves [] [] w (guard_closed p w)

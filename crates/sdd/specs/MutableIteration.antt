@@ -12,7 +12,7 @@ use Rattle.sdd_base.specs.declared.tag.Tag.TheVariants as tag
 use Rattle.sdd_base.specs.declared.status.Cell.TheVariants as cell
 use Rattle.sdd.specs.Chain.{Entry, IsItem, IsList, IsOut, slots}
 use Rattle.sdd.specs.Bags.{AreOwn, IsBag, IsSomeBag, joined}
-use Rattle.sdd.specs.Entries.{entry_link, with_value}
+use Rattle.sdd.specs.Entries.{entry_link, entry_with_value}
 use Rattle.sdd.specs.contracts.bag.IterMut.{the_row}
 use Rattle.sdd.specs.declared.bag.IterMut.{IterMut}
 use Rattle.sdd.specs.declared.bag.Stop.{Stop}
@@ -73,7 +73,7 @@ pub record IsSomeLeft {T : Type 0} (w : State (LinkedEntry T)) (cs : List ℕ) :
 
 -- the same entries, that in slot i with another value
 abbrev pub revalue : {T : Type 0} → ℕ → T → Entry (LinkedEntry T) → Entry (LinkedEntry T)
-revalue i v e = cond (e.slot == i) (record e { item = with_value v e.item }) e
+revalue i v e = cond (e.slot == i) (record e { item = entry_with_value v e.item }) e
 
 abbrev pub revalued : {T : Type 0} → ℕ → T → List (Entry (LinkedEntry T)) → List (Entry (LinkedEntry T))
 revalued i v es = map (revalue i v) es
@@ -97,7 +97,7 @@ pub record Gives {T : Type 0} (w w' : State (LinkedEntry T)) (cs : List ℕ) (v 
   pub first : Entry (LinkedEntry T)
   pub rest : List (Entry (LinkedEntry T))
   pub is : es ≡ first ∷ rest
-  pub now : w' ≡ with_item first.slot (with_value v first.item) w
+  pub now : w' ≡ with_item first.slot (entry_with_value v first.item) w
   pub left : IsLeft w' cs rest
   pub revalues : Revalues w w' first.slot v
 
@@ -113,7 +113,7 @@ pub record Visits {T W : Type 0} (state : W → State (LinkedEntry T)) (s s' : I
   pub gives : (es : List (Entry (LinkedEntry T))) → IsLeft (state (walk_place s)) (walk_cells s) es → Gives (state (walk_place s)) (state (walk_place s')) (walk_cells s') v es
 
 -- the walk s is at its end, and stays there
-pub record Ends {T W : Type 0} (s s' : IterMut T W) : Type 0 where
+pub record StaysAtEnd {T W : Type 0} (s s' : IterMut T W) : Type 0 where
   pub same : walk_name s' ≡ walk_name s
   pub bag : walk_bag s' ≡ walk_bag s
   pub place : walk_place s' ≡ walk_place s
@@ -125,4 +125,4 @@ module _ (T W : RattleType) where
   walk_row = the_row (record { mir = named 1; lft = [] }) T W
 
   abbrev pub LendsNext : (W.Denot → State (LinkedEntry T.Denot)) → MutBor walk_row.Denot → Option (MutBor T.Denot) → Fml
-  LendsNext state s r = LendsSo walk_row T s r (λ s' v. OnSome r (Visits state s.now s' v)) (λ s'. IfNone r (Ends s.now s'))
+  LendsNext state s r = LendsSo walk_row T s r (λ s' v. OnSome r (Visits state s.now s' v)) (λ s'. IfNone r (StaysAtEnd s.now s'))

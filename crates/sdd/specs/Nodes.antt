@@ -7,22 +7,22 @@ use Rattle.sdd_base.specs.declared.status.Cell.TheVariants as cell
 use Rattle.sdd.specs.Chain.{Entry, IsItem, IsList, IsDetached, IsOut, slots, links}
 
 -- a pointer to slot o names this entry: its item is there, and its link keeps a next one or none
-pub record IsNode {L : Type 0} (link : L → Option ℕ) (w : State L) (o : Option ℕ) (e : Entry L) : Type 0 where
+pub record NamesEntry {L : Type 0} (link : L → Option ℕ) (w : State L) (o : Option ℕ) (e : Entry L) : Type 0 where
   pub names : o ≡ Some e.slot
   pub item : IsItem link w e
   pub next : Option ℕ
   pub kept : cell_at w e.link ≡ cell.OfShared next e.tag
 
 -- it names some entry
-pub record IsSomeNode {L : Type 0} (link : L → Option ℕ) (w : State L) (o : Option ℕ) : Type 0 where
+pub record NamesSomeEntry {L : Type 0} (link : L → Option ℕ) (w : State L) (o : Option ℕ) : Type 0 where
   pub entry : Entry L
-  pub is : IsNode link w o entry
+  pub is : NamesEntry link w o entry
 
 -- it names an entry, and some list hangs behind that
 pub record IsListed {L : Type 0} (link : L → Option ℕ) (w : State L) (o : Option ℕ) : Type 0 where
   pub entry : Entry L
   pub rest : List (Entry L)
-  pub is : IsNode link w o entry
+  pub is : NamesEntry link w o entry
   pub hung : IsList link w entry.link entry.tag rest
 
 abbrev pub clear : Tag → Bool
@@ -43,13 +43,13 @@ retagged i u [] = []
 retagged i u (e ∷ es) = cond (e.slot == i) (record e { tag = u } ∷ es) (e ∷ retagged i u es)
 
 -- an entry of a list is in slot i
-abbrev pub Has : {L : Type 0} → ℕ → List (Entry L) → Type 0
-Has i es = IsOut i (slots es) → ⊥
+abbrev pub HasSlot : {L : Type 0} → ℕ → List (Entry L) → Type 0
+HasSlot i es = IsOut i (slots es) → ⊥
 
 -- a list in which entry x comes behind the one in slot i
-abbrev pub inserted : {L : Type 0} → ℕ → Entry L → List (Entry L) → List (Entry L)
-inserted i x [] = []
-inserted i x (e ∷ es) = cond (e.slot == i) (e ∷ x ∷ es) (e ∷ inserted i x es)
+abbrev pub inserted_behind : {L : Type 0} → ℕ → Entry L → List (Entry L) → List (Entry L)
+inserted_behind i x [] = []
+inserted_behind i x (e ∷ es) = cond (e.slot == i) (e ∷ x ∷ es) (e ∷ inserted_behind i x es)
 
 -- an entry isn't in a list that hangs from cell c
 pub record IsApart {L : Type 0} (c : ℕ) (es : List (Entry L)) (x : Entry L) : Type 0 where
@@ -61,7 +61,7 @@ pub record IsApart {L : Type 0} (c : ℕ) (es : List (Entry L)) (x : Entry L) : 
 pub record CanInsert {L : Type 0} (link : L → Option ℕ) (w : State L) (o : Option ℕ) (i : ℕ) : Type 0 where
   pub entry : Entry L
   pub rest : List (Entry L)
-  pub is : IsNode link w o entry
+  pub is : NamesEntry link w o entry
   pub hung : IsList link w entry.link entry.tag rest
   pub new : Entry L
   pub at : i ≡ new.slot
@@ -72,11 +72,11 @@ pub record CanInsert {L : Type 0} (link : L → Option ℕ) (w : State L) (o : O
 
 -- entry x was put behind entry e, which has another tag now
 pub record Inserts {L : Type 0} (link : L → Option ℕ) (w w' : State L) (e : Entry L) (u : Tag) (x : Entry L) : Type 0 where
-  pub lists : (c : ℕ) (t : Tag) (es : List (Entry L)) → IsList link w c t es → Has e.slot es → IsApart c es x → IsList link w' c t (inserted e.slot x (retagged e.slot u es))
+  pub lists : (c : ℕ) (t : Tag) (es : List (Entry L)) → IsList link w c t es → HasSlot e.slot es → IsApart c es x → IsList link w' c t (inserted_behind e.slot x (retagged e.slot u es))
   pub behind : (es : List (Entry L)) → IsList link w e.link e.tag es → IsApart e.link es x → IsList link w' e.link u (x ∷ es)
 
 -- the tag of an entry was changed, alone and in each list that has it, and what is behind it stays
 pub record Retags {L : Type 0} (link : L → Option ℕ) (w w' : State L) (e : Entry L) (u : Tag) : Type 0 where
-  pub node : IsNode link w' (Some e.slot) (record e { tag = u })
-  pub lists : (c : ℕ) (t : Tag) (es : List (Entry L)) → IsList link w c t es → Has e.slot es → IsList link w' c t (retagged e.slot u es)
+  pub node : NamesEntry link w' (Some e.slot) (record e { tag = u })
+  pub lists : (c : ℕ) (t : Tag) (es : List (Entry L)) → IsList link w c t es → HasSlot e.slot es → IsList link w' c t (retagged e.slot u es)
   pub behind : (es : List (Entry L)) → IsList link w e.link e.tag es → IsList link w' e.link u es

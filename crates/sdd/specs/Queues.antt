@@ -92,6 +92,6 @@ pub record Takes {T : Type 0} (w' : State (LinkedEntry T)) (c d i : ℕ) (es : L
   pub gone : IsDetached entry_link w' (record entry { tag = tag.Second })
 
 -- a cell is emptied, and participant p gives back what it kept
-abbrev pub vacated : {L : Type 0} → ℕ → ℕ → Option ℕ → State L → State L
-vacated p d None w = with_cell d (cell.OfShared None tag.None) w
-vacated p d (Some i) w = released p i (with_cell d (cell.OfShared None tag.None) w)
+abbrev pub cell_vacated : {L : Type 0} → ℕ → ℕ → Option ℕ → State L → State L
+cell_vacated p d None w = with_cell d (cell.OfShared None tag.None) w
+cell_vacated p d (Some i) w = released p i (with_cell d (cell.OfShared None tag.None) w)

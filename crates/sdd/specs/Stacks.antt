@@ -56,7 +56,7 @@ pub record Pops {T : Type 0} (w' : State (LinkedEntry T)) (c i : ℕ) (es : List
   pub gone : IsDetached entry_link w' (record entry { tag = tag.Second })
 
 -- whether a call with a condition took an entry
-abbrev pub taken : {S E : Type 0} → Result (Option S) E → Bool
-taken (Ok None) = false
-taken (Ok (Some s)) = true
-taken (Err e) = false
+abbrev pub took_entry : {S E : Type 0} → Result (Option S) E → Bool
+took_entry (Ok None) = false
+took_entry (Ok (Some s)) = true
+took_entry (Err e) = false

@@ -3,7 +3,7 @@
 ghost use Rattle.std.specs.Prelude.{◌≡◌};
 ghost use Rattle.std.specs.Borrow.{Lends, sem};
 ghost use Rattle.sdd.specs.contracts.linked_entry.LinkedEntry.{the_row};
-ghost use Rattle.sdd.specs.Entries.{entry_value, entry_link, with_value};
+ghost use Rattle.sdd.specs.Entries.{entry_value, entry_link, entry_with_value};
 
 use crate::linked_list::LinkedList;
 use sdd_base::cell::AtomicShared;
@@ -27,7 +27,7 @@ impl<T> LinkedEntry<T> {
 
     /// The value, for writing. Once the borrow is over, the entry has what was last written, and the link that it had.
     pub fn as_mut(&mut self) -> &mut T
-        ensures* writes { sem 𝓛 (Lends (the_row T.row) T.row self.entry result (λ v. with_value v self.entry.now)) }
+        ensures* writes { sem 𝓛 (Lends (the_row T.row) T.row self.entry result (λ v. entry_with_value v self.entry.now)) }
         ensures value { result.now ≡ entry_value self.old }
     {
         &mut self.instance

@@ -7,7 +7,7 @@ use Rattle.std.proofs.lemmas.Bool.Decides.{eqb_tells}
 use Rattle.std.proofs.lemmas.List.Sorted.{IsPermutation-reverse, sum_by-IsPermutation}
 use Rattle.std.proofs.lemmas.List.{nil_from_length}
 use Rattle.sdd_base.specs.Holding.{Hold, OwnedItem, SharedItem, OwnedIn, SharedIn}
-use Rattle.sdd_base.specs.State.{State, ParticipantState, put_participant, retired, waiting_as, nobody, status_at, value_at, participant_at, left_due, is_used, taken, weight, turned, rotated_bags, with_status, with_cell, with_local, vacated, occupied}
+use Rattle.sdd_base.specs.State.{State, ParticipantState, put_participant, retired, waiting_as, nobody, status_at, value_at, participant_at, left_due, is_used, taken, weight, bags_moved_on, rotated_bags, with_status, with_cell, with_local, vacated, occupied}
 use Rattle.sdd_base.specs.Steps.{times, hit, released_as, disowned_as, owned_ended_as, shared_ended_as, given, given_all, due_reclaimed_as, due_reclaimed, reclaimed, held_in}
 use Rattle.sdd_base.specs.Place.{Sound, held_times}
 use Rattle.sdd_base.specs.declared.status.Status.{Status}
@@ -167,7 +167,7 @@ times_left i j is m was =
 pub times_reversed : (j : ℕ) (xs : List ℕ) → times j (reverse xs) ≡ times j xs
 times_reversed j xs = sum_by-IsPermutation (λ k. hit k j) xs (reverse xs) (IsPermutation-reverse xs)
 
-pub times_turned : (j : ℕ) (m : ParticipantState) → m.due ≡ [] → held_times j (turned m) ≡ held_times j m
+pub times_turned : (j : ℕ) (m : ParticipantState) → m.due ≡ [] → held_times j (bags_moved_on m) ≡ held_times j m
 times_turned j m none =
     let e : times j m.due ≡ times j [] = ap (times j) none in
     omega (arith, e, times_reversed j m.oldest)
@@ -198,7 +198,7 @@ sound_taken {T} w p i is h known inside here was =
 pub sound_turned : {T : Type 0} (w : State T) (p : ℕ) → Sound w → p < length w.participants → (participant_at w p).due ≡ [] → Sound (rotated_bags p w)
 sound_turned w p h known none = record {
   sizes = h.sizes;
-  once = λ j. omega (arith, h.once j, times_set w.participants p j (turned (participant_at w p)) known, times_turned j (participant_at w p) none);
+  once = λ j. omega (arith, h.once j, times_set w.participants p j (bags_moved_on (participant_at w p)) known, times_turned j (participant_at w p) none);
   filled = h.filled;
 }
 

@@ -2,8 +2,8 @@
 use Rattle.std.proofs.Common.{◌≡◌, ◌≢◌, ℕ, zero, suc, ◌+◌, ◌-◌, ◌<◌, ◌≤◌, ◌==◌, true, false, Option, None, Some, List, [], ◌∷◌, ◌++◌, length, get_or, refl, sym, ap, ◌∙◌, arith, length-set, subst, cond, reverse, get_or-set_other, get_or-set_same, leb}
 use Rattle.std.proofs.lemmas.List.{length-reverse}
 use Rattle.sdd_base.specs.Holding.{Hold, OwnedItem, SharedItem, OwnedIn, SharedIn}
-use Rattle.sdd_base.specs.State.{State, ParticipantState, status_at, value_at, cell_at, participant_at, local_at, with_status, with_cell, with_local, retired, taken, rotated_bags, turned, nobody, marked, left_due, weight}
-use Rattle.sdd_base.specs.Steps.{hit, times, held_in, given, given_all, released_as, disowned_as, owned_ended_as, shared_ended_as, due_reclaimed, due_reclaimed_as, reclaimed, rotated, begun, opened}
+use Rattle.sdd_base.specs.State.{State, ParticipantState, status_at, value_at, cell_at, participant_at, local_at, with_status, with_cell, with_local, retired, taken, rotated_bags, bags_moved_on, nobody, with_local_state, left_due, weight}
+use Rattle.sdd_base.specs.Steps.{hit, times, held_in, given, given_all, released_as, disowned_as, owned_ended_as, shared_ended_as, due_reclaimed, due_reclaimed_as, reclaimed, participant_rotated, count_published, guard_opened}
 use Rattle.sdd_base.specs.Place.{Sound, IsPlace}
 use Rattle.sdd_base.specs.Counting.{tally, same_hold, keeps_shared, Counted, HeldCellsStay}
 use Rattle.sdd_base.specs.declared.status.Status.{Status}
@@ -135,25 +135,25 @@ module _ {T : Type 0} (holds : T → List Hold) (c i : ℕ) where
       let rest = leaves_reclaimed p n hand v is (sym r.due) (omega (arith, size)) r.sound (omega (arith, r.known, known)) (omega (arith, out, split)) (elsewhere hand w v first.value some) first.counted in
       record { counted = rest.counted; same = rest.same ∙ first.same; value = rest.value ∙ first.value }
 
-  cell_rotated : (p : ℕ) (hand : List Hold) (w : State T) → IsPlace w → p < length w.participants → weight (status_at w i) ≡ 0 → Elsewhere hand w → Counted holds hand w → cell_at (rotated holds p w) c ≡ cell_at w c
+  cell_rotated : (p : ℕ) (hand : List Hold) (w : State T) → IsPlace w → p < length w.participants → weight (status_at w i) ≡ 0 → Elsewhere hand w → Counted holds hand w → cell_at (participant_rotated holds p w) c ≡ cell_at w c
   cell_rotated p hand w place known light some h =
       let m = participant_at w p in
       let u : State T = rotated_bags p w in
-      let at : participant_at u p ≡ turned m = get_or-set_same w.participants p (turned m) nobody known in
+      let at : participant_at u p ≡ bags_moved_on m = get_or-set_same w.participants p (bags_moved_on m) nobody known in
       let due : (participant_at u p).due ≡ reverse m.oldest = ap (λ (m : ParticipantState). m.due) at in
       let out : times i (participant_at u p).due ≡ 0 = omega (arith, ap (times i) due, times_reversed i m.oldest, bag_waits w p i place.sound known, light) in
-      let x = leaves_reclaimed p (length m.oldest) hand u (participant_at u p).due refl (ap length due ∙ length-reverse m.oldest) (sound_turned w p place.sound known (place.idle p)) (omega (arith, known, length-set w.participants p (turned m))) out some (counted_same holds hand w u refl refl refl h) in
+      let x = leaves_reclaimed p (length m.oldest) hand u (participant_at u p).due refl (ap length due ∙ length-reverse m.oldest) (sound_turned w p place.sound known (place.idle p)) (omega (arith, known, length-set w.participants p (bags_moved_on m))) out some (counted_same holds hand w u refl refl refl h) in
       x.same
 
-  pub cell_opened : (p : ℕ) (hand : List Hold) (w : State T) → IsPlace w → p < length w.participants → weight (status_at w i) ≡ 0 → Elsewhere hand w → Counted holds hand w → cell_at (opened holds p w) c ≡ cell_at w c
+  pub cell_opened : (p : ℕ) (hand : List Hold) (w : State T) → IsPlace w → p < length w.participants → weight (status_at w i) ≡ 0 → Elsewhere hand w → Counted holds hand w → cell_at (guard_opened holds p w) c ≡ cell_at w c
   cell_opened p hand w place known light some h =
       let m = local_at w p in
-      let b : State T = begun p w in
+      let b : State T = count_published p w in
       let n : State T = with_local p (record m { nesting = m.nesting + 1 }) w in
-      let kb : p < length b.participants = omega (arith, known, length-set w.participants p (marked (record m { nesting = 1; published = w.count; previous = w.count; accelerated = false }) (participant_at w p))) in
-      let turns : cell_at (rotated holds p b) c ≡ cell_at w c = cell_rotated p hand b (place_begun w p place known) kb light some (counted_same holds hand w b refl refl refl h) in
-      let outer : cell_at (cond (m.previous == w.count) b (rotated holds p b)) c ≡ cell_at w c = elim (m.previous == w.count) as (λ k. cell_at (cond k b (rotated holds p b)) c ≡ cell_at w c) [ true ↦ refl | false ↦ turns ] in
-      elim (m.nesting == 0) as (λ k. cell_at (cond k (cond (m.previous == w.count) b (rotated holds p b)) n) c ≡ cell_at w c) [ true ↦ outer | false ↦ refl ]
+      let kb : p < length b.participants = omega (arith, known, length-set w.participants p (with_local_state (record m { nesting = 1; published = w.count; previous = w.count; accelerated = false }) (participant_at w p))) in
+      let turns : cell_at (participant_rotated holds p b) c ≡ cell_at w c = cell_rotated p hand b (place_begun w p place known) kb light some (counted_same holds hand w b refl refl refl h) in
+      let outer : cell_at (cond (m.previous == w.count) b (participant_rotated holds p b)) c ≡ cell_at w c = elim (m.previous == w.count) as (λ k. cell_at (cond k b (participant_rotated holds p b)) c ≡ cell_at w c) [ true ↦ refl | false ↦ turns ] in
+      elim (m.nesting == 0) as (λ k. cell_at (cond k (cond (m.previous == w.count) b (participant_rotated holds p b)) n) c ≡ cell_at w c) [ true ↦ outer | false ↦ refl ]
 
 -- past the last slot nothing waits
 beyond : (ss : List Status) → weight (get_or ss (length ss) status.Free) ≡ 0

@@ -5,8 +5,8 @@ use Rattle.std.proofs.lemmas.List.Sums.{sum_by-set, sum_by-cons, sum_by-append}
 use Rattle.std.proofs.lemmas.Bool.{false≢true}
 use Rattle.std.proofs.lemmas.Bool.Decides.{nat_tests, eqb_tells}
 use Rattle.sdd_base.specs.Holding.{Hold, OwnedItem, SharedItem, OwnedIn, SharedIn}
-use Rattle.sdd_base.specs.State.{State, ParticipantState, status_at, value_at, cell_at, participant_at, local_at, placed, with_value, changing, recalled, removed, waiting_as, IsIdle, with_status, with_cell, with_local, retired, taken, vacated, weight, is_used, IsFree, IsFreeCell, rotated_bags, turned, raised, is_present, nobody, marked, fresh}
-use Rattle.sdd_base.specs.Steps.{overdue, purged, set_aside, handed, handed_as, hit, held_in, given, given_all, released_as, disowned_as, owned_ended_as, shared_ended_as, due_reclaimed, due_reclaimed_as, reclaimed, rotated, begun, opened, closed, scanned, scans, closings_after}
+use Rattle.sdd_base.specs.State.{State, ParticipantState, status_at, value_at, cell_at, participant_at, local_at, placed, with_value, changing, recalled, slot_freed, waiting_as, IsIdle, with_status, with_cell, with_local, retired, taken, vacated, weight, is_used, IsFree, IsFreeCell, rotated_bags, bags_moved_on, raised, is_present, nobody, with_local_state, fresh}
+use Rattle.sdd_base.specs.Steps.{overdue, purged, set_aside, handed_over, handed_over_as, hit, held_in, given, given_all, released_as, disowned_as, owned_ended_as, shared_ended_as, due_reclaimed, due_reclaimed_as, reclaimed, participant_rotated, count_published, guard_opened, guard_closed, scanned, scans, closings_after}
 use Rattle.sdd_base.proofs.SlotLemmas.{at_most}
 use Rattle.sdd_base.specs.Place.{Sound, IsPlace, IsShared, IsOwned, IsSharedCell}
 use Rattle.sdd_base.specs.Counting.{same_hold, tally, kept_by, single_owner, shared_owners, keeps_owned, keeps_shared, owners_of, Counted, OwnersAreCounted}
@@ -406,14 +406,14 @@ module _ {T : Type 0} (holds : T → List Hold) where
       let r = reclaims_next holds w p i is sound known (sym e) in
       counted_reclaimed p n hand (due_reclaimed holds p w) is (sym r.due) (omega (arith, size)) r.sound (omega (arith, r.known)) (counted_next p i is hand w sound known (sym e) h)
 
-  pub counted_rotated : (p : ℕ) (hand : List Hold) (w : State T) → IsPlace w → p < length w.participants → Counted holds hand w → Counted holds hand (rotated holds p w)
+  pub counted_rotated : (p : ℕ) (hand : List Hold) (w : State T) → IsPlace w → p < length w.participants → Counted holds hand w → Counted holds hand (participant_rotated holds p w)
   counted_rotated p hand w place known h =
       let m = participant_at w p in
       let u : State T = rotated_bags p w in
-      let at : participant_at u p ≡ turned m = get_or-set_same w.participants p (turned m) nobody known in
+      let at : participant_at u p ≡ bags_moved_on m = get_or-set_same w.participants p (bags_moved_on m) nobody known in
       let due : (participant_at u p).due ≡ reverse m.oldest = ap (λ (m : ParticipantState). m.due) at in
       let r : State T = reclaimed holds p (length m.oldest) u in
-      let hr : Counted holds hand r = counted_reclaimed p (length m.oldest) hand u (participant_at u p).due refl (ap length due ∙ length-reverse m.oldest) (sound_turned w p place.sound known (place.idle p)) (omega (arith, length-set w.participants p (turned m))) (counted_same hand w u refl refl refl h) in
+      let hr : Counted holds hand r = counted_reclaimed p (length m.oldest) hand u (participant_at u p).due refl (ap length due ∙ length-reverse m.oldest) (sound_turned w p place.sound known (place.idle p)) (omega (arith, length-set w.participants p (bags_moved_on m))) (counted_same hand w u refl refl refl h) in
       counted_same hand r _ refl refl refl hr
 
   -- what dropping goes through
@@ -456,18 +456,18 @@ module _ {T : Type 0} (holds : T → List Hold) where
         omega (arith, h.each k, old, same_owners k w (with_value i v w) refl refl, tally-append k (holds v) hand, tally-append k (holds u) hand, sum_by-set (λ o. tally k (held_in holds o)) w.values i (Some v) None inside);
   }
 
-  pub counted_opened : (p : ℕ) (hand : List Hold) (w : State T) → IsPlace w → p < length w.participants → Counted holds hand w → Counted holds hand (opened holds p w)
+  pub counted_opened : (p : ℕ) (hand : List Hold) (w : State T) → IsPlace w → p < length w.participants → Counted holds hand w → Counted holds hand (guard_opened holds p w)
   counted_opened p hand w place known h =
       let m = local_at w p in
-      let b : State T = begun p w in
+      let b : State T = count_published p w in
       let n : State T = with_local p (record m { nesting = m.nesting + 1 }) w in
       let first : Counted holds hand b = counted_same hand w b refl refl refl h in
-      let kb : p < length b.participants = omega (arith, length-set w.participants p (marked (record m { nesting = 1; published = w.count; previous = w.count; accelerated = false }) (participant_at w p))) in
-      let third : Counted holds hand (rotated holds p b) = counted_rotated p hand b (place_begun w p place known) kb first in
-      let outer : Counted holds hand (cond (m.previous == w.count) b (rotated holds p b)) = elim (m.previous == w.count) as (λ c. Counted holds hand (cond c b (rotated holds p b))) [ true ↦ first | false ↦ third ] in
-      elim (m.nesting == 0) as (λ c. Counted holds hand (cond c (cond (m.previous == w.count) b (rotated holds p b)) n)) [ true ↦ outer | false ↦ counted_same hand w n refl refl refl h ]
+      let kb : p < length b.participants = omega (arith, length-set w.participants p (with_local_state (record m { nesting = 1; published = w.count; previous = w.count; accelerated = false }) (participant_at w p))) in
+      let third : Counted holds hand (participant_rotated holds p b) = counted_rotated p hand b (place_begun w p place known) kb first in
+      let outer : Counted holds hand (cond (m.previous == w.count) b (participant_rotated holds p b)) = elim (m.previous == w.count) as (λ c. Counted holds hand (cond c b (participant_rotated holds p b))) [ true ↦ first | false ↦ third ] in
+      elim (m.nesting == 0) as (λ c. Counted holds hand (cond c (cond (m.previous == w.count) b (participant_rotated holds p b)) n)) [ true ↦ outer | false ↦ counted_same hand w n refl refl refl h ]
 
-  pub counted_closed : (p : ℕ) (hand : List Hold) (w : State T) → Counted holds hand w → Counted holds hand (closed p w)
+  pub counted_closed : (p : ℕ) (hand : List Hold) (w : State T) → Counted holds hand w → Counted holds hand (guard_closed p w)
   counted_closed p hand w h =
       let m = local_at w p in
       let k1 : LocalState = record m { nesting = 0; closings = 0 } in
@@ -562,27 +562,27 @@ module _ {T : Type 0} (holds : T → List Hold) where
       elim (ltb (length is) n) as (λ b. Counted holds hand (cond b (with_status i s w) (retired p i w))) [ true ↦ put | false ↦ out ]
 
   -- what was collected is taken: what it held is in hand
-  counted_removed : (i n : ℕ) (hand : List Hold) (w : State T) → Sound w → status_at w i ≡ status.Collected n → Counted holds hand w → Counted holds (held_in holds (value_at w i) ++ hand) (removed i w)
+  counted_removed : (i n : ℕ) (hand : List Hold) (w : State T) → Sound w → status_at w i ≡ status.Collected n → Counted holds hand w → Counted holds (held_in holds (value_at w i) ++ hand) (slot_freed i w)
   counted_removed i n hand w sound is h = record {
     each = λ k.
         let inside = inside_by w.states i (status.Collected n) (sym is) (λ f. cc) in
-        let u : Uses w (removed i w) i status.Free = record { states = refl; cells = refl; inside = inside } in
-        omega (arith, h.each k, tally-append k (held_in holds (value_at w i)) hand, sum_by-set (λ v. tally k (held_in holds v)) w.values i None None (omega (arith, sound.sizes, inside)), uses_same k w (removed i w) i status.Free u (sym (ap single_owner is)) (sym (ap shared_owners is)));
+        let u : Uses w (slot_freed i w) i status.Free = record { states = refl; cells = refl; inside = inside } in
+        omega (arith, h.each k, tally-append k (held_in holds (value_at w i)) hand, sum_by-set (λ v. tally k (held_in holds v)) w.values i None None (omega (arith, sound.sizes, inside)), uses_same k w (slot_freed i w) i status.Free u (sym (ap single_owner is)) (sym (ap shared_owners is)));
   }
 
   counted_purged : (p : ℕ) (is : List ℕ) (hand : List Hold) (w : State T) → Sound w → p < length w.participants → Counted holds hand w → Counted holds hand (purged holds p is w)
   counted_purged p [] hand w sound known h = h
   counted_purged p (i ∷ is) hand w sound known h =
-      let v : State T = given_all p (held_in holds (value_at w i)) (removed i w) in
+      let v : State T = given_all p (held_in holds (value_at w i)) (slot_freed i w) in
       (elim (overdue w.count (status_at w i)) as (λ b. overdue w.count (status_at w i) ≡ b → Counted holds hand (cond b (purged holds p is v) w)) [
         | true ↦ λ e.
             let n = overdue_noted w.count (status_at w i) e in
             let g = purges_next holds p i w sound known e in
-            counted_purged p is hand v g.sound (omega (arith, g.known, known)) (counted_all p (held_in holds (value_at w i)) hand (removed i w) (counted_removed i n.note hand w sound n.is h))
+            counted_purged p is hand v g.sound (omega (arith, g.known, known)) (counted_all p (held_in holds (value_at w i)) hand (slot_freed i w) (counted_removed i n.note hand w sound n.is h))
         | false ↦ λ e. h
       ]) refl
 
-  counted_handed_as : (s : Status) (p i : ℕ) (hand : List Hold) (w : State T) → s ≡ status_at w i → Counted holds hand w → Counted holds hand (handed_as s p i w)
+  counted_handed_as : (s : Status) (p i : ℕ) (hand : List Hold) (w : State T) → s ≡ status_at w i → Counted holds hand w → Counted holds hand (handed_over_as s p i w)
   counted_handed_as status.Free p i hand w e h = h
   counted_handed_as status.Owned p i hand w e h = h
   counted_handed_as (status.Shared n) p i hand w e h = h
@@ -592,9 +592,9 @@ module _ {T : Type 0} (holds : T → List Hold) where
   counted_handed_as status.Idle p i hand w e h = h
   counted_handed_as status.Deferred p i hand w e h = h
 
-  counted_handed : (p : ℕ) (is : List ℕ) (hand : List Hold) (w : State T) → Counted holds hand w → Counted holds hand (handed p is w)
+  counted_handed : (p : ℕ) (is : List ℕ) (hand : List Hold) (w : State T) → Counted holds hand w → Counted holds hand (handed_over p is w)
   counted_handed p [] hand w h = h
-  counted_handed p (i ∷ is) hand w h = counted_handed p is hand (handed_as (status_at w i) p i w) (counted_handed_as (status_at w i) p i hand w refl h)
+  counted_handed p (i ∷ is) hand w h = counted_handed p is hand (handed_over_as (status_at w i) p i w) (counted_handed_as (status_at w i) p i hand w refl h)
 
   counted_deferred : (p i : ℕ) (hand : List Hold) (w : State T) → IsIdle w i → Counted holds hand w → Counted holds hand (waiting_as status.Deferred p i w)
   counted_deferred p i hand w idle h = use_changed i status.Deferred hand w (waiting_as status.Deferred p i w) (record { states = refl; cells = refl; inside = idle.0 }) refl (sym (ap single_owner idle.1)) (sym (ap shared_owners idle.1)) h

@@ -7,7 +7,7 @@ use Rattle.std.proofs.lemmas.List.{take-append-drop, ext_get_or, append_assoc, a
 use Rattle.std.proofs.lemmas.List.Sums.{sum_by-append}
 use Rattle.std.proofs.lemmas.Bool.Decides.{eqb_tells}
 use Rattle.sdd_base.specs.Holding.{Hold, OwnedItem, SharedItem, OwnedIn, SharedIn}
-use Rattle.sdd_base.specs.State.{State, ParticipantState, participant_at, nobody, changing, recalled, marked, local_at, with_local, with_cell, with_status, status_at, value_at, cell_at, put_participant, retired, taken, left_due, occupied, weight}
+use Rattle.sdd_base.specs.State.{State, ParticipantState, participant_at, nobody, changing, recalled, with_local_state, local_at, with_local, with_cell, with_status, status_at, value_at, cell_at, put_participant, retired, taken, left_due, occupied, weight}
 use Rattle.sdd_base.specs.Steps.{times, hit, given, given_all, released_as, disowned_as, owned_ended_as, shared_ended_as, due_reclaimed, due_reclaimed_as, held_in}
 use Rattle.sdd_base.specs.Dropping.{undone, undone_times, Dropped}
 use Rattle.sdd_base.specs.Place.{Sound, IsPlace, held_times}
@@ -236,14 +236,14 @@ pub undoing_end : {T : Type 0} (holds : T → List Hold) (h : Hold) (w v v' w' :
 undoing_end {T} holds h w v v' w' m place u short f k to =
     let e : w' ≡ with_local 0 (local_at w 0) v = to ∙ ap (λ (n : LocalState). with_local 0 n v') k ∙ ap (λ (s : State T). with_local 0 (local_at w 0) s) f in
     let x : State T = with_local 0 (local_at w 0) v in
-    let at : participant_at x 0 ≡ marked (local_at w 0) (participant_at v 0) = get_or-set_same v.participants 0 (marked (local_at w 0) (participant_at v 0)) nobody u.known in
+    let at : participant_at x 0 ≡ with_local_state (local_at w 0) (participant_at v 0) = get_or-set_same v.participants 0 (with_local_state (local_at w 0) (participant_at v 0)) nobody u.known in
     let none : u.more ≡ [] = nil_from_length u.more (omega (arith, short, ap length u.current, length-append (participant_at w 0).current u.more)) in
     let bag : (participant_at v 0).current ≡ (participant_at w 0).current = u.current ∙ ap (λ (ys : List ℕ). (participant_at w 0).current ++ ys) none ∙ append-nil _ in
-    let mine : participant_at x 0 ≡ participant_at w 0 = at ∙ same_participant (marked (local_at w 0) (participant_at v 0)) (participant_at w 0) refl bag (ap (λ (k : Calm). k.prior) u.calm) (ap (λ (k : Calm). k.oldest) u.calm) (u.idle ∙ sym (place.idle 0)) in
-    let size : length x.participants ≡ length w.participants = length-set v.participants 0 (marked (local_at w 0) (participant_at v 0)) ∙ u.size in
+    let mine : participant_at x 0 ≡ participant_at w 0 = at ∙ same_participant (with_local_state (local_at w 0) (participant_at v 0)) (participant_at w 0) refl bag (ap (λ (k : Calm). k.prior) u.calm) (ap (λ (k : Calm). k.oldest) u.calm) (u.idle ∙ sym (place.idle 0)) in
+    let size : length x.participants ≡ length w.participants = length-set v.participants 0 (with_local_state (local_at w 0) (participant_at v 0)) ∙ u.size in
     let each : (k : ℕ) → participant_at x k ≡ participant_at w k = λ k. elim (eqb_tells k 0) [
       | inl t ↦ let P : ℕ → Type 0 = λ j. participant_at x j ≡ participant_at w j in subst P (sym t.1) mine
-      | inr t ↦ get_or-set_other v.participants 0 k (marked (local_at w 0) (participant_at v 0)) nobody t.1 ∙ u.others k t.1
+      | inr t ↦ get_or-set_other v.participants 0 k (with_local_state (local_at w 0) (participant_at v 0)) nobody t.1 ∙ u.others k t.1
     ] in
     let all : x.participants ≡ w.participants = ext_get_or nobody x.participants w.participants size (λ i lt. each i) in
     let whole : Undone holds h w x = record {

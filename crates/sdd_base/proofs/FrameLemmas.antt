@@ -4,8 +4,8 @@ use Rattle.std.specs.List.{list_all, sum_by}
 use Rattle.std.proofs.lemmas.Bool.{false≢true}
 use Rattle.std.proofs.lemmas.Bool.Decides.{eqb_tells}
 use Rattle.sdd_base.specs.Holding.{Hold}
-use Rattle.sdd_base.specs.State.{State, ParticipantState, nobody, status_at, value_at, participant_at, local_at, is_used, weight, with_local, marked, with_status, placed, with_cell, raised, is_present}
-use Rattle.sdd_base.specs.Steps.{times, begun, rotated, opened, closed, scanned, scans, closings_after}
+use Rattle.sdd_base.specs.State.{State, ParticipantState, nobody, status_at, value_at, participant_at, local_at, is_used, weight, with_local, with_local_state, with_status, placed, with_cell, raised, is_present}
+use Rattle.sdd_base.specs.Steps.{times, count_published, participant_rotated, guard_opened, guard_closed, scanned, scans, closings_after}
 use Rattle.sdd_base.specs.Place.{Sound, IsPlace, IsOpen, IsShared, IsOwnedCell, IsSharedCell, IsRawCell, held_times}
 use Rattle.sdd_base.specs.declared.tag.Tag.{Tag}
 use Rattle.sdd_base.specs.declared.status.Cell.TheVariants as cell
@@ -72,12 +72,12 @@ only_gives p w w' g = g.others
 pub keeps_local : {T : Type 0} (w : State T) (p : ℕ) (k : LocalState) → p < length w.participants → (IsOpen w p → k.published ≡ (local_at w p).published) → (local_at w p).previous ≤ k.previous → Frame w (with_local p k w)
 keeps_local {T} w p k known same rises =
     let w' : State T = with_local p k w in
-    let at : participant_at w' p ≡ marked k (participant_at w p) = get_or-set_same w.participants p (marked k (participant_at w p)) nobody known in
-    let other : (j : ℕ) → j ≢ p → participant_at w' j ≡ participant_at w j = λ j n. get_or-set_other w.participants p j (marked k (participant_at w p)) nobody n in
+    let at : participant_at w' p ≡ with_local_state k (participant_at w p) = get_or-set_same w.participants p (with_local_state k (participant_at w p)) nobody known in
+    let other : (j : ℕ) → j ≢ p → participant_at w' j ≡ participant_at w j = λ j n. get_or-set_other w.participants p j (with_local_state k (participant_at w p)) nobody n in
     record {
       states = refl;
       cells = refl;
-      participants = length-set w.participants p (marked k (participant_at w p));
+      participants = length-set w.participants p (with_local_state k (participant_at w p));
       lives = λ i l. refl;
       protects = λ q i o o' h.
           let published : (local_at w' q).published ≡ (local_at w q).published = elim (eqb_tells q p) [
@@ -107,7 +107,7 @@ keeps_local {T} w p k known same rises =
     }
 
 pub only_local : {T : Type 0} (w : State T) (p : ℕ) (k : LocalState) → OnlyParticipant p w (with_local p k w)
-only_local w p k = λ j n. get_or-set_other w.participants p j (marked k (participant_at w p)) nobody n
+only_local w p k = λ j n. get_or-set_other w.participants p j (with_local_state k (participant_at w p)) nobody n
 
 -- a live item is in no bag
 pub live_light : (s : Status) → has_owner s ≡ true → weight s ≡ 0
@@ -131,16 +131,16 @@ live_used status.Idle h = h
 live_used status.Deferred h = h
 
 -- an outermost opening that rotates
-pub keeps_turned : {T : Type 0} (holds : T → List Hold) (w : State T) (p : ℕ) → IsPlace w → p < length w.participants → (local_at w p).nesting ≡ 0 → (local_at w p).previous ≢ w.count → Frame w (rotated holds p (begun p w)) × OnlyParticipant p w (rotated holds p (begun p w))
+pub keeps_turned : {T : Type 0} (holds : T → List Hold) (w : State T) (p : ℕ) → IsPlace w → p < length w.participants → (local_at w p).nesting ≡ 0 → (local_at w p).previous ≢ w.count → Frame w (participant_rotated holds p (count_published p w)) × OnlyParticipant p w (participant_rotated holds p (count_published p w))
 keeps_turned {T} holds w p h known closed' differs =
     let k : LocalState = record (local_at w p) { nesting = 1; published = w.count; previous = w.count; accelerated = false } in
-    let b : State T = begun p w in
+    let b : State T = count_published p w in
     let hb = place_begun w p h known in
-    let atb : participant_at b p ≡ marked k (participant_at w p) = get_or-set_same w.participants p (marked k (participant_at w p)) nobody known in
-    let otherb : (j : ℕ) → j ≢ p → participant_at b j ≡ participant_at w j = λ j n. get_or-set_other w.participants p j (marked k (participant_at w p)) nobody n in
-    let sizeb : length b.participants ≡ length w.participants = length-set w.participants p (marked k (participant_at w p)) in
+    let atb : participant_at b p ≡ with_local_state k (participant_at w p) = get_or-set_same w.participants p (with_local_state k (participant_at w p)) nobody known in
+    let otherb : (j : ℕ) → j ≢ p → participant_at b j ≡ participant_at w j = λ j n. get_or-set_other w.participants p j (with_local_state k (participant_at w p)) nobody n in
+    let sizeb : length b.participants ≡ length w.participants = length-set w.participants p (with_local_state k (participant_at w p)) in
     let r = rotates holds b p hb (omega (arith, sizeb)) in
-    let w' : State T = rotated holds p b in
+    let w' : State T = participant_rotated holds p b in
     let other : (j : ℕ) → j ≢ p → participant_at w' j ≡ participant_at w j = λ j n. r.others j n ∙ otherb j n in
     let behind : (local_at w p).previous < w.count = omega (arith, h.past p, differs) in
     let previous : (local_at w' p).previous ≡ w.count = r.previous ∙ ap (λ (m : ParticipantState). m.local.previous) atb in
@@ -183,22 +183,22 @@ keeps_turned {T} holds w p h known closed' differs =
       other,
     )
 
-pub keeps_opened : {T : Type 0} (holds : T → List Hold) (w : State T) (p : ℕ) → IsPlace w → p < length w.participants → Frame w (opened holds p w) × OnlyParticipant p w (opened holds p w)
+pub keeps_opened : {T : Type 0} (holds : T → List Hold) (w : State T) (p : ℕ) → IsPlace w → p < length w.participants → Frame w (guard_opened holds p w) × OnlyParticipant p w (guard_opened holds p w)
 keeps_opened {T} holds w p h known =
     let m = local_at w p in
-    let b : State T = begun p w in
+    let b : State T = count_published p w in
     let n : State T = with_local p (record m { nesting = m.nesting + 1 }) w in
     let G : State T → Type 0 = λ x. Frame w x × OnlyParticipant p w x in
     elim (eqb_tells m.nesting 0) [
-      | inl t ↦ subst (λ (c : Bool). G (cond c (cond (m.previous == w.count) b (rotated holds p b)) n)) (sym t.0)
+      | inl t ↦ subst (λ (c : Bool). G (cond c (cond (m.previous == w.count) b (participant_rotated holds p b)) n)) (sym t.0)
           (elim (eqb_tells m.previous w.count) [
-            | inl s ↦ subst (λ (c : Bool). G (cond c b (rotated holds p b))) (sym s.0) (keeps_local w p _ known (λ o. absurd (omega (arith, o, t.1))) (h.past p), only_local w p _)
-            | inr s ↦ subst (λ (c : Bool). G (cond c b (rotated holds p b))) (sym s.0) (keeps_turned holds w p h known t.1 s.1)
+            | inl s ↦ subst (λ (c : Bool). G (cond c b (participant_rotated holds p b))) (sym s.0) (keeps_local w p _ known (λ o. absurd (omega (arith, o, t.1))) (h.past p), only_local w p _)
+            | inr s ↦ subst (λ (c : Bool). G (cond c b (participant_rotated holds p b))) (sym s.0) (keeps_turned holds w p h known t.1 s.1)
           ])
-      | inr t ↦ subst (λ (c : Bool). G (cond c (cond (m.previous == w.count) b (rotated holds p b)) n)) (sym t.0) (keeps_local w p _ known (λ o. refl) (omega arith), only_local w p _)
+      | inr t ↦ subst (λ (c : Bool). G (cond c (cond (m.previous == w.count) b (participant_rotated holds p b)) n)) (sym t.0) (keeps_local w p _ known (λ o. refl) (omega arith), only_local w p _)
     ]
 
-pub keeps_closed : {T : Type 0} (w : State T) (p : ℕ) → p < length w.participants → Frame w (closed p w) × OnlyParticipant p w (closed p w)
+pub keeps_closed : {T : Type 0} (w : State T) (p : ℕ) → p < length w.participants → Frame w (guard_closed p w) × OnlyParticipant p w (guard_closed p w)
 keeps_closed {T} w p known =
     let m = local_at w p in
     let G : State T → Type 0 = λ x. Frame w x × OnlyParticipant p w x in
@@ -269,25 +269,25 @@ stays_until_closed q i w [] opens h run = refl
 stays_until_closed q i w (v ∷ vs) opens h run = let s = run.0.protects q i opens run.1 h in stays_until_closed q i v vs run.1 s.1 run.2 ∙ s.0
 
 -- what was opened is open
-pub opened_open : {T : Type 0} (holds : T → List Hold) (w : State T) (p : ℕ) → IsPlace w → p < length w.participants → IsOpen (opened holds p w) p
+pub opened_open : {T : Type 0} (holds : T → List Hold) (w : State T) (p : ℕ) → IsPlace w → p < length w.participants → IsOpen (guard_opened holds p w) p
 opened_open {T} holds w p h known =
     let m = local_at w p in
     let k : LocalState = record m { nesting = 1; published = w.count; previous = w.count; accelerated = false } in
-    let b : State T = begun p w in
+    let b : State T = count_published p w in
     let n : State T = with_local p (record m { nesting = m.nesting + 1 }) w in
-    let kb : p < length b.participants = omega (arith, length-set w.participants p (marked k (participant_at w p))) in
-    let atb : (local_at b p).nesting ≡ 1 = ap (λ (m : ParticipantState). m.local.nesting) (get_or-set_same w.participants p (marked k (participant_at w p)) nobody known) in
-    let atn : (local_at n p).nesting ≡ m.nesting + 1 = ap (λ (m : ParticipantState). m.local.nesting) (get_or-set_same w.participants p (marked (record m { nesting = m.nesting + 1 }) (participant_at w p)) nobody known) in
+    let kb : p < length b.participants = omega (arith, length-set w.participants p (with_local_state k (participant_at w p))) in
+    let atb : (local_at b p).nesting ≡ 1 = ap (λ (m : ParticipantState). m.local.nesting) (get_or-set_same w.participants p (with_local_state k (participant_at w p)) nobody known) in
+    let atn : (local_at n p).nesting ≡ m.nesting + 1 = ap (λ (m : ParticipantState). m.local.nesting) (get_or-set_same w.participants p (with_local_state (record m { nesting = m.nesting + 1 }) (participant_at w p)) nobody known) in
     let first : IsOpen b p = omega (arith, atb) in
-    let third : IsOpen (rotated holds p b) p = let r = (rotates holds b p (place_begun w p h known) kb).nesting in omega (arith, r, atb) in
-    let outer : IsOpen (cond (m.previous == w.count) b (rotated holds p b)) p = elim (m.previous == w.count) as (λ c. IsOpen (cond c b (rotated holds p b)) p) [ true ↦ first | false ↦ third ] in
-    elim (m.nesting == 0) as (λ c. IsOpen (cond c (cond (m.previous == w.count) b (rotated holds p b)) n) p) [ true ↦ outer | false ↦ omega (arith, atn) ]
+    let third : IsOpen (participant_rotated holds p b) p = let r = (rotates holds b p (place_begun w p h known) kb).nesting in omega (arith, r, atb) in
+    let outer : IsOpen (cond (m.previous == w.count) b (participant_rotated holds p b)) p = elim (m.previous == w.count) as (λ c. IsOpen (cond c b (participant_rotated holds p b)) p) [ true ↦ first | false ↦ third ] in
+    elim (m.nesting == 0) as (λ c. IsOpen (cond c (cond (m.previous == w.count) b (participant_rotated holds p b)) n) p) [ true ↦ outer | false ↦ omega (arith, atn) ]
 
 -- a local state that leaves the nesting leaves it of all
 pub nests_local : {T : Type 0} (w : State T) (p : ℕ) (k : LocalState) → p < length w.participants → k.nesting ≡ (local_at w p).nesting → (q : ℕ) → (local_at (with_local p k w) q).nesting ≡ (local_at w q).nesting
 nests_local {T} w p k known same q = elim (eqb_tells q p) [
-  | inl t ↦ let P : ℕ → Type 0 = λ j. (local_at (with_local p k w) j).nesting ≡ (local_at w j).nesting in let here : P p = ap (λ (m : ParticipantState). m.local.nesting) (get_or-set_same w.participants p (marked k (participant_at w p)) nobody known) ∙ same in subst P (sym t.1) here
-  | inr t ↦ ap (λ (m : ParticipantState). m.local.nesting) (get_or-set_other w.participants p q (marked k (participant_at w p)) nobody t.1)
+  | inl t ↦ let P : ℕ → Type 0 = λ j. (local_at (with_local p k w) j).nesting ≡ (local_at w j).nesting in let here : P p = ap (λ (m : ParticipantState). m.local.nesting) (get_or-set_same w.participants p (with_local_state k (participant_at w p)) nobody known) ∙ same in subst P (sym t.1) here
+  | inr t ↦ ap (λ (m : ParticipantState). m.local.nesting) (get_or-set_other w.participants p q (with_local_state k (participant_at w p)) nobody t.1)
 ]
 
 -- what was made is there

@@ -5,10 +5,10 @@ use Rattle.std.proofs.lemmas.Bool.{false≢true}
 use Rattle.std.proofs.lemmas.Bool.Decides.{eqb_tells}
 use Rattle.std.proofs.lemmas.List.Sums.{sum_by-cons}
 use Rattle.sdd_base.specs.Holding.{Hold}
-use Rattle.sdd_base.specs.State.{State, ParticipantState, nobody, status_at, value_at, participant_at, local_at, with_local, marked, with_status, retired, rotated_bags, turned, raised, is_present, is_used, usage, in_use}
-use Rattle.sdd_base.specs.Steps.{reclaimed, rotated, begun, opened, closed, settled, scanned, scans, closings_after, bags_empty, is_nil, released, released_as}
+use Rattle.sdd_base.specs.State.{State, ParticipantState, nobody, status_at, value_at, participant_at, local_at, with_local, with_local_state, with_status, retired, rotated_bags, bags_moved_on, raised, is_present, is_used, usage, in_use}
+use Rattle.sdd_base.specs.Steps.{reclaimed, participant_rotated, count_published, guard_opened, guard_closed, settled, scanned, scans, closings_after, bags_empty, is_nil, released, released_as}
 use Rattle.sdd_base.specs.Place.{IsPlace}
-use Rattle.sdd_base.specs.Passing.{Shrinks, IsQuiet, Stands, GivesOnly}
+use Rattle.sdd_base.specs.Passing.{Shrinks, IsQuiet, OnlyParticipantsChange, GivesOnly}
 use Rattle.sdd_base.specs.declared.status.Status.{Status}
 use Rattle.sdd_base.specs.declared.status.Status.TheVariants as status
 use Rattle.sdd_base.specs.declared.status.LocalState.{LocalState}
@@ -41,8 +41,8 @@ uses_less : {T : Type 0} (w w' : State T) → IsPlace w → IsPlace w' → lengt
 uses_less w w' h h' size values = sum_below usage status.Free w'.states w.states size (λ j. usage_less (value_at w j) (value_at w' j) (status_at w j) (status_at w' j) (h.sound.filled j) (h'.sound.filled j) (values j))
 
 module _ {T : Type 0} (holds : T → List Hold) where
-  local_set : (p : ℕ) (k : LocalState) (w : State T) → p < length w.participants → participant_at (with_local p k w) p ≡ marked k (participant_at w p)
-  local_set p k w known = get_or-set_same w.participants p (marked k (participant_at w p)) nobody known
+  local_set : (p : ℕ) (k : LocalState) (w : State T) → p < length w.participants → participant_at (with_local p k w) p ≡ with_local_state k (participant_at w p)
+  local_set p k w known = get_or-set_same w.participants p (with_local_state k (participant_at w p)) nobody known
 
   nil_of : (xs : List ℕ) → is_nil xs ≡ true → xs ≡ []
   nil_of [] e = refl
@@ -55,15 +55,15 @@ module _ {T : Type 0} (holds : T → List Hold) where
   abbrev begin_at : ℕ → State T → LocalState
   begin_at p w = record (local_at w p) { nesting = 1; published = w.count; previous = w.count; accelerated = false }
 
-  begun_quiet : (p : ℕ) (w : State T) → p < length w.participants → IsQuiet w p → Stands w (begun p w) × IsQuiet (begun p w) p
+  begun_quiet : (p : ℕ) (w : State T) → p < length w.participants → IsQuiet w p → OnlyParticipantsChange w (count_published p w) × IsQuiet (count_published p w) p
   begun_quiet p w known q =
-      let at : participant_at (begun p w) p ≡ marked (record (local_at w p) { nesting = 1; published = w.count; previous = w.count; accelerated = false }) (participant_at w p) = local_set p (record (local_at w p) { nesting = 1; published = w.count; previous = w.count; accelerated = false }) w known in (
+      let at : participant_at (count_published p w) p ≡ with_local_state (record (local_at w p) { nesting = 1; published = w.count; previous = w.count; accelerated = false }) (participant_at w p) = local_set p (record (local_at w p) { nesting = 1; published = w.count; previous = w.count; accelerated = false }) w known in (
         record { count = refl; values = refl; states = refl; cells = refl },
         record { empty = ap bags_empty at ∙ q.empty; clean = ap (λ (m : ParticipantState). m.local.garbage) at ∙ q.clean; slow = ap (λ (m : ParticipantState). m.local.accelerated) at },
       )
 
   -- where the oldest bag is empty, a rotation reclaims nothing
-  rotated_quiet : (p : ℕ) (w : State T) → p < length w.participants → IsQuiet w p → Stands w (rotated holds p w) × IsQuiet (rotated holds p w) p
+  rotated_quiet : (p : ℕ) (w : State T) → p < length w.participants → IsQuiet w p → OnlyParticipantsChange w (participant_rotated holds p w) × IsQuiet (participant_rotated holds p w) p
   rotated_quiet p w known q =
       let m = participant_at w p in
       let three = both_true (is_nil m.current) (is_nil m.prior && is_nil m.oldest) q.empty in
@@ -71,14 +71,14 @@ module _ {T : Type 0} (holds : T → List Hold) where
       let u : State T = rotated_bags p w in
       let s : State T = settled p u in
       let none : length m.oldest ≡ 0 = ap length (nil_of m.oldest two.1) in
-      let is : rotated holds p w ≡ s = ap (λ (n : ℕ). settled p (reclaimed holds p n u)) none in
-      let size = length-set w.participants p (turned m) in
-      let atu : participant_at u p ≡ turned m = get_or-set_same w.participants p (turned m) nobody known in
+      let is : participant_rotated holds p w ≡ s = ap (λ (n : ℕ). settled p (reclaimed holds p n u)) none in
+      let size = length-set w.participants p (bags_moved_on m) in
+      let atu : participant_at u p ≡ bags_moved_on m = get_or-set_same w.participants p (bags_moved_on m) nobody known in
       let flag : LocalState = record (local_at u p) { garbage = (local_at u p).garbage && not (bags_empty (participant_at u p)) } in
-      let ats : participant_at s p ≡ marked flag (participant_at u p) = local_set p flag u (omega (arith, size, known)) in
+      let ats : participant_at s p ≡ with_local_state flag (participant_at u p) = local_set p flag u (omega (arith, size, known)) in
       let clean : (local_at u p).garbage ≡ false = ap (λ (x : ParticipantState). x.local.garbage) atu ∙ q.clean in
       let bags : bags_empty (participant_at u p) ≡ true = ap bags_empty atu ∙ ap (λ (b : Bool). is_nil [] && (b && is_nil m.prior)) three.0 ∙ two.0 in
-      let all : Stands w s × IsQuiet s p = (
+      let all : OnlyParticipantsChange w s × IsQuiet s p = (
         record { count = refl; values = refl; states = refl; cells = refl },
         record {
           empty = ap bags_empty ats ∙ bags;
@@ -86,29 +86,29 @@ module _ {T : Type 0} (holds : T → List Hold) where
           slow = ap (λ (x : ParticipantState). x.local.accelerated) ats ∙ ap (λ (x : ParticipantState). x.local.accelerated) atu ∙ q.slow;
         },
       ) in
-      subst (λ (x : State T). Stands w x × IsQuiet x p) (sym is) all
+      subst (λ (x : State T). OnlyParticipantsChange w x × IsQuiet x p) (sym is) all
 
-  stands_then : (u v w : State T) → Stands u v → Stands v w → Stands u w
+  stands_then : (u v w : State T) → OnlyParticipantsChange u v → OnlyParticipantsChange v w → OnlyParticipantsChange u w
   stands_then u v w a b = record { count = b.count ∙ a.count; values = b.values ∙ a.values; states = b.states ∙ a.states; cells = b.cells ∙ a.cells }
 
-  opened_quiet : (p : ℕ) (w : State T) → IsPlace w → p < length w.participants → IsQuiet w p → Stands w (opened holds p w) × IsQuiet (opened holds p w) p
+  opened_quiet : (p : ℕ) (w : State T) → IsPlace w → p < length w.participants → IsQuiet w p → OnlyParticipantsChange w (guard_opened holds p w) × IsQuiet (guard_opened holds p w) p
   opened_quiet p w h known q =
-      let P : State T → Type 0 = λ x. Stands w x × IsQuiet x p in
+      let P : State T → Type 0 = λ x. OnlyParticipantsChange w x × IsQuiet x p in
       let more : LocalState = record (local_at w p) { nesting = (local_at w p).nesting + 1 } in
       let b = begun_quiet p w known q in
-      let size : length (begun p w).participants ≡ length w.participants = length-set w.participants p (marked (begin_at p w) (participant_at w p)) in
-      let r = rotated_quiet p (begun p w) (omega (arith, size, known)) b.1 in
-      let at : participant_at (with_local p more w) p ≡ marked more (participant_at w p) = local_set p more w known in
+      let size : length (count_published p w).participants ≡ length w.participants = length-set w.participants p (with_local_state (begin_at p w) (participant_at w p)) in
+      let r = rotated_quiet p (count_published p w) (omega (arith, size, known)) b.1 in
+      let at : participant_at (with_local p more w) p ≡ with_local_state more (participant_at w p) = local_set p more w known in
       let nested : P (with_local p more w) = (
         record { count = refl; values = refl; states = refl; cells = refl },
         record { empty = ap bags_empty at ∙ q.empty; clean = ap (λ (m : ParticipantState). m.local.garbage) at ∙ q.clean; slow = ap (λ (m : ParticipantState). m.local.accelerated) at ∙ q.slow },
       ) in
-      let first : P (cond ((local_at w p).previous == w.count) (begun p w) (rotated holds p (begun p w))) = elim ((local_at w p).previous == w.count) as (λ c. P (cond c (begun p w) (rotated holds p (begun p w)))) [ true ↦ b | false ↦ (stands_then w (begun p w) _ b.0 r.0, r.1) ] in
-      elim ((local_at w p).nesting == 0) as (λ c. P (cond c (cond ((local_at w p).previous == w.count) (begun p w) (rotated holds p (begun p w))) (with_local p more w))) [ true ↦ first | false ↦ nested ]
+      let first : P (cond ((local_at w p).previous == w.count) (count_published p w) (participant_rotated holds p (count_published p w))) = elim ((local_at w p).previous == w.count) as (λ c. P (cond c (count_published p w) (participant_rotated holds p (count_published p w)))) [ true ↦ b | false ↦ (stands_then w (count_published p w) _ b.0 r.0, r.1) ] in
+      elim ((local_at w p).nesting == 0) as (λ c. P (cond c (cond ((local_at w p).previous == w.count) (count_published p w) (participant_rotated holds p (count_published p w))) (with_local p more w))) [ true ↦ first | false ↦ nested ]
 
-  closed_quiet : (p : ℕ) (w : State T) → p < length w.participants → IsQuiet w p → Stands w (closed p w) × IsQuiet (closed p w) p
+  closed_quiet : (p : ℕ) (w : State T) → p < length w.participants → IsQuiet w p → OnlyParticipantsChange w (guard_closed p w) × IsQuiet (guard_closed p w) p
   closed_quiet p w known q =
-      let P : State T → Type 0 = λ x. Stands w x × IsQuiet x p in
+      let P : State T → Type 0 = λ x. OnlyParticipantsChange w x × IsQuiet x p in
       let m = local_at w p in
       let local : (k : LocalState) → k.garbage ≡ m.garbage → k.accelerated ≡ m.accelerated → P (with_local p k w) = λ k g a.
       let at = local_set p k w known in (
@@ -122,16 +122,16 @@ module _ {T : Type 0} (holds : T → List Hold) where
       let outer : P (cond (scans m) scan last) = subst (λ (b : Bool). P (cond b scan last)) (sym none) (local (record m { nesting = 0; closings = closings_after m }) refl refl) in
       elim (m.nesting == 1) as (λ c. P (cond c (cond (scans m) scan last) inner)) [ true ↦ outer | false ↦ local (record m { nesting = m.nesting - 1 }) refl refl ]
 
-  opened_only : (p : ℕ) (w : State T) → IsPlace w → p < length w.participants → Shrinks w (opened holds p w) × (in_use (opened holds p w) ≤ in_use w) × ((local_at (opened holds p w) p).nesting ≡ (local_at w p).nesting + 1)
+  opened_only : (p : ℕ) (w : State T) → IsPlace w → p < length w.participants → Shrinks w (guard_opened holds p w) × (in_use (guard_opened holds p w) ≤ in_use w) × ((local_at (guard_opened holds p w) p).nesting ≡ (local_at w p).nesting + 1)
   opened_only p w h known =
-      let o : State T = opened holds p w in
+      let o : State T = guard_opened holds p w in
       let size : length o.states ≡ length w.states = (keeps_opened holds w p h known).0.states in
       elim (eqb_tells (local_at w p).nesting 0) [
         | inl t ↦ let O = opens holds w p h known t.1 in (O.shrinks, uses_less w o h O.place size O.shrinks.values, O.nesting ∙ ap (λ (n : ℕ). n + 1) (sym t.1))
         | inr t ↦
             let more : LocalState = record (local_at w p) { nesting = (local_at w p).nesting + 1 } in
             let x : State T = with_local p more w in
-            let first : State T = cond ((local_at w p).previous == w.count) (begun p w) (rotated holds p (begun p w)) in
+            let first : State T = cond ((local_at w p).previous == w.count) (count_published p w) (participant_rotated holds p (count_published p w)) in
             let is : o ≡ x = ap (λ (b : Bool). cond b first x) t.0 in
             let S : Shrinks w x = record { values = λ j u e. e; cells = λ c j e. e; jobs = λ j e. e; plain = λ j e. e } in
             let all : Shrinks w x × (in_use x ≤ in_use w) × ((local_at x p).nesting ≡ (local_at w p).nesting + 1) = (S, omega arith, ap (λ (m : ParticipantState). m.local.nesting) (local_set p more w known)) in
@@ -141,7 +141,7 @@ module _ {T : Type 0} (holds : T → List Hold) where
   abbrev LeavesItems : ℕ → State T → State T → Type 0
   LeavesItems p w x = (x.values ≡ w.values) × (x.states ≡ w.states) × (x.cells ≡ w.cells) × ((local_at x p).nesting ≡ (local_at w p).nesting - 1)
 
-  closed_only : (p : ℕ) (w : State T) → p < length w.participants → LeavesItems p w (closed p w)
+  closed_only : (p : ℕ) (w : State T) → p < length w.participants → LeavesItems p w (guard_closed p w)
   closed_only p w known =
       let m = local_at w p in
       let scan : State T = with_local p (record m { nesting = 0; closings = 0 }) (scanned w) in
@@ -157,10 +157,10 @@ module _ {T : Type 0} (holds : T → List Hold) where
             ] in
             let a : LeavesItems p w scan = scans-all (list_all (is_present w.count) w.participants && ltb w.count 18446744073709551615) in
             let b : LeavesItems p w last = (refl, refl, refl, ap (λ (x : ParticipantState). x.local.nesting) (local_set p (record m { nesting = 0; closings = closings_after m }) w known) ∙ none) in
-            let is : closed p w ≡ cond (scans m) scan last = ap (λ (c : Bool). cond c (cond (scans m) scan last) inner) t.0 in
+            let is : guard_closed p w ≡ cond (scans m) scan last = ap (λ (c : Bool). cond c (cond (scans m) scan last) inner) t.0 in
             subst (λ (x : State T). LeavesItems p w x) (sym is) (elim (scans m) as (λ c. LeavesItems p w (cond c scan last)) [ true ↦ a | false ↦ b ])
         | inr t ↦
-            let is : closed p w ≡ inner = ap (λ (c : Bool). cond c (cond (scans m) scan last) inner) t.0 in
+            let is : guard_closed p w ≡ inner = ap (λ (c : Bool). cond c (cond (scans m) scan last) inner) t.0 in
             let b : LeavesItems p w inner = (refl, refl, refl, ap (λ (x : ParticipantState). x.local.nesting) (local_set p (record m { nesting = m.nesting - 1 }) w known)) in
             subst (λ (x : State T). LeavesItems p w x) (sym is) b
       ]

@@ -5,10 +5,10 @@ use Rattle.std.proofs.lemmas.Bool.Decides.{nat_tests, eqb_tells}
 use Rattle.std.proofs.lemmas.List.{length-append, length-reverse}
 use Rattle.std.proofs.lemmas.List.Sums.{sum_by-set, sum_by-cons, sum_by-append}
 use Rattle.sdd_base.specs.Holding.{Hold, OwnedItem, SharedItem, OwnedIn, SharedIn}
-use Rattle.sdd_base.specs.State.{State, ParticipantState, status_at, value_at, cell_at, participant_at, local_at, with_status, with_cell, with_local, waiting_as, retired, taken, vacated, weight, rotated_bags, turned, raised, is_present, nobody, marked, removed, changing, recalled}
-use Rattle.sdd_base.specs.Steps.{times, hit, given, given_all, released_as, disowned_as, owned_ended_as, shared_ended_as, due_reclaimed, due_reclaimed_as, held_in, reclaimed, rotated, begun, opened, closed, scanned, scans, closings_after, overdue, set_aside, enqueued, purged, left_waiting, handed, handed_as, IsTimely}
+use Rattle.sdd_base.specs.State.{State, ParticipantState, status_at, value_at, cell_at, participant_at, local_at, with_status, with_cell, with_local, waiting_as, retired, taken, vacated, weight, rotated_bags, bags_moved_on, raised, is_present, nobody, with_local_state, slot_freed, changing, recalled}
+use Rattle.sdd_base.specs.Steps.{times, hit, given, given_all, released_as, disowned_as, owned_ended_as, shared_ended_as, due_reclaimed, due_reclaimed_as, held_in, reclaimed, participant_rotated, count_published, guard_opened, guard_closed, scanned, scans, closings_after, overdue, set_aside, enqueued, purged, left_waiting, handed_over, handed_over_as, IsTimely}
 use Rattle.sdd_base.specs.Place.{Sound, IsPlace}
-use Rattle.sdd_base.specs.Notes.{note_of, note_at, noted, AreCollected, NotesRise, SameNotes, IsInOrder, NoneOverdue, CollectorsAreInOrder}
+use Rattle.sdd_base.specs.Notes.{note_of, note_at, note_count, AreCollected, NotesRise, SameNotes, IsInOrder, NoneOverdue, CollectorsAreInOrder}
 use Rattle.sdd_base.specs.declared.status.Status.{Status}
 use Rattle.sdd_base.specs.declared.status.Status.TheVariants as status
 use Rattle.sdd_base.specs.declared.status.LocalState.{LocalState}
@@ -33,32 +33,32 @@ note_set ss i j s inside even =
     ]
 
 -- a note comes
-noted_up : (ss : List Status) (i j : ℕ) (s : Status) → i < length ss → noted (get_or ss i status.Free) ≡ 0 → noted s ≡ 1 → noted (get_or (set ss i s) j status.Free) ≡ noted (get_or ss j status.Free) + hit i j
+noted_up : (ss : List Status) (i j : ℕ) (s : Status) → i < length ss → note_count (get_or ss i status.Free) ≡ 0 → note_count s ≡ 1 → note_count (get_or (set ss i s) j status.Free) ≡ note_count (get_or ss j status.Free) + hit i j
 noted_up ss i j s inside light heavy =
     elim (eqb_tells j i) [
       | inl t ↦
-          let P : ℕ → Type 0 = λ k. noted (get_or (set ss i s) k status.Free) ≡ noted (get_or ss k status.Free) + hit i k in
-          let here : P i = omega (arith, ap noted (get_or-set_same ss i s status.Free inside), hit-same i, light, heavy) in
+          let P : ℕ → Type 0 = λ k. note_count (get_or (set ss i s) k status.Free) ≡ note_count (get_or ss k status.Free) + hit i k in
+          let here : P i = omega (arith, ap note_count (get_or-set_same ss i s status.Free inside), hit-same i, light, heavy) in
           subst P (sym t.1) here
-      | inr t ↦ omega (arith, ap noted (get_or-set_other ss i j s status.Free t.1), hit-other i j t.1)
+      | inr t ↦ omega (arith, ap note_count (get_or-set_other ss i j s status.Free t.1), hit-other i j t.1)
     ]
 
 -- a note goes
-noted_down : (ss : List Status) (i j : ℕ) (s : Status) → i < length ss → noted (get_or ss i status.Free) ≡ 1 → noted s ≡ 0 → noted (get_or (set ss i s) j status.Free) + hit i j ≡ noted (get_or ss j status.Free)
+noted_down : (ss : List Status) (i j : ℕ) (s : Status) → i < length ss → note_count (get_or ss i status.Free) ≡ 1 → note_count s ≡ 0 → note_count (get_or (set ss i s) j status.Free) + hit i j ≡ note_count (get_or ss j status.Free)
 noted_down ss i j s inside heavy light =
     elim (eqb_tells j i) [
       | inl t ↦
-          let P : ℕ → Type 0 = λ k. noted (get_or (set ss i s) k status.Free) + hit i k ≡ noted (get_or ss k status.Free) in
-          let here : P i = omega (arith, ap noted (get_or-set_same ss i s status.Free inside), hit-same i, light, heavy) in
+          let P : ℕ → Type 0 = λ k. note_count (get_or (set ss i s) k status.Free) + hit i k ≡ note_count (get_or ss k status.Free) in
+          let here : P i = omega (arith, ap note_count (get_or-set_same ss i s status.Free inside), hit-same i, light, heavy) in
           subst P (sym t.1) here
-      | inr t ↦ omega (arith, ap noted (get_or-set_other ss i j s status.Free t.1), hit-other i j t.1)
+      | inr t ↦ omega (arith, ap note_count (get_or-set_other ss i j s status.Free t.1), hit-other i j t.1)
     ]
 
-noted-one : (s : Status) → noted s ≤ 1
+noted-one : (s : Status) → note_count s ≤ 1
 noted-one s = elim (is_some (note_of s)) as (λ b. cond b 1 0 ≤ 1) [ true ↦ omega arith | false ↦ omega arith ]
 
 -- a slot of which a count was noted
-noted_inside : (ss : List Status) (i : ℕ) → 1 ≤ noted (get_or ss i status.Free) → i < length ss
+noted_inside : (ss : List Status) (i : ℕ) → 1 ≤ note_count (get_or ss i status.Free) → i < length ss
 noted_inside [] i h = absurd (omega arith)
 noted_inside (s ∷ ss) zero h = omega arith
 noted_inside (s ∷ ss) (suc i) h = let r = noted_inside ss i h in omega (arith, r)
@@ -74,17 +74,17 @@ vacated_note status.Idle h = refl
 vacated_note status.Deferred h = refl
 
 -- what names a slot twice names no slot of which a count was noted
-names_fit : (names : List ℕ) (ss : List Status) → ((j : ℕ) → times j names ≤ noted (get_or ss j status.Free)) → length names ≤ sum_by noted ss
+names_fit : (names : List ℕ) (ss : List Status) → ((j : ℕ) → times j names ≤ note_count (get_or ss j status.Free)) → length names ≤ sum_by note_count ss
 names_fit [] ss h = omega arith
 names_fit (i ∷ is) ss h =
     let ss' = set ss i status.Free in
     let mine : times i (i ∷ is) ≡ hit i i + times i is = sum_by-cons (λ k. hit k i) i is in
-    let one : noted (get_or ss i status.Free) ≡ 1 = omega (arith, h i, mine, hit-same i, noted-one (get_or ss i status.Free)) in
+    let one : note_count (get_or ss i status.Free) ≡ 1 = omega (arith, h i, mine, hit-same i, noted-one (get_or ss i status.Free)) in
     let inside = noted_inside ss i (omega (arith, one)) in
-    let each : (j : ℕ) → times j is ≤ noted (get_or ss' j status.Free) = λ j.
+    let each : (j : ℕ) → times j is ≤ note_count (get_or ss' j status.Free) = λ j.
     let whole : times j (i ∷ is) ≡ hit i j + times j is = sum_by-cons (λ k. hit k j) i is in
     omega (arith, h j, whole, noted_down ss i j status.Free inside one refl) in
-    let less = sum_by-set noted ss i status.Free status.Free inside in
+    let less = sum_by-set note_count ss i status.Free status.Free inside in
     let rest = names_fit is ss' each in
     omega (arith, less, rest, one)
 
@@ -102,7 +102,7 @@ late_as c n status.Deferred e = cc
 soon : (c n m : ℕ) → n ≤ m → leb (n + 3) c ≡ false → leb (m + 3) c ≡ false
 soon c n m le h = grind (arith, nat_tests)
 
-fresh_noted : (m n j : ℕ) → noted (get_or (replicate m status.Free ++ replicate n status.Idle) j status.Free) ≡ 0
+fresh_noted : (m n j : ℕ) → note_count (get_or (replicate m status.Free ++ replicate n status.Idle) j status.Free) ≡ 0
 fresh_noted zero zero j = refl
 fresh_noted zero (suc n) zero = refl
 fresh_noted zero (suc n) (suc j) = fresh_noted zero n j
@@ -186,7 +186,7 @@ module _ {T : Type 0} where
   rise_same low [] w w' s h = omega (arith, h, s.count)
   rise_same low (i ∷ is) w w' s h = (h.0, s.notes i ∙ h.1, h.2, rise_same h.0 is w w' s h.3)
 
-  handed_noted : (p i : ℕ) (w : State T) (s : Status) → noted s ≡ 1 → handed_as s p i w ≡ retired p i w
+  handed_noted : (p i : ℕ) (w : State T) (s : Status) → note_count s ≡ 1 → handed_over_as s p i w ≡ retired p i w
   handed_noted p i w status.Free h = absurd (omega (arith, h))
   handed_noted p i w status.Owned h = absurd (omega (arith, h))
   handed_noted p i w (status.Shared n) h = absurd (omega (arith, h))
@@ -199,8 +199,8 @@ module _ {T : Type 0} where
   has_room : (mine others : List ℕ) (i : ℕ) (w : State T) → AreCollected (mine ++ others) w → i < length w.states → note_at w i ≡ None → length mine < length w.states
   has_room mine others i w h inside none =
       let fit = names_fit (mine ++ others) w.states (λ j. omega (arith, h j)) in
-      let free : noted (status_at w i) ≡ 0 = ap (λ (o : Option ℕ). cond (is_some o) 1 0) none in
-      let less = light_sum noted noted-one w.states i status.Free inside free in
+      let free : note_count (status_at w i) ≡ 0 = ap (λ (o : Option ℕ). cond (is_some o) 1 0) none in
+      let less = light_sum note_count noted-one w.states i status.Free inside free in
       omega (arith, fit, less, length-append mine others)
 
   -- what rises from n on rises from below too
@@ -252,10 +252,10 @@ module _ {T : Type 0} (holds : T → List Hold) where
   purged_all : (p : ℕ) (mine others : List ℕ) (w : State T) → AreCollected (mine ++ others) w → NotesRise w 0 mine → Purged (left_waiting holds p mine w) others w (purged holds p mine w)
   purged_all p [] others w named rise = record { count = refl; named = named; rise = rise; first = tt }
   purged_all p (i ∷ is) others w named rise =
-      let u : State T = removed i w in
+      let u : State T = slot_freed i w in
       let v : State T = given_all p (held_in holds (value_at w i)) u in
       let here : times i ((i ∷ is) ++ others) ≡ hit i i + times i (is ++ others) = sum_by-cons (λ k. hit k i) i (is ++ others) in
-      let one : noted (status_at w i) ≡ 1 = omega (arith, named i, here, hit-same i, noted-one (status_at w i)) in
+      let one : note_count (status_at w i) ≡ 1 = omega (arith, named i, here, hit-same i, noted-one (status_at w i)) in
       let inside = noted_inside w.states i (omega (arith, one)) in
       let split : times i (is ++ others) ≡ times i is + times i others = sum_by-append (λ k. hit k i) is others in
       let none : times i is ≡ 0 = omega (arith, named i, here, hit-same i, one, split) in
@@ -280,7 +280,7 @@ module _ {T : Type 0} (holds : T → List Hold) where
   collects p n i mine others w room inside none h =
       let s = status.Collected w.count in
       let u : State T = with_status i s w in
-      let free : noted (status_at w i) ≡ 0 = ap (λ (o : Option ℕ). cond (is_some o) 1 0) none in
+      let free : note_count (status_at w i) ≡ 0 = ap (λ (o : Option ℕ). cond (is_some o) 1 0) none in
       let out : times i (mine ++ others) ≡ times i mine + times i others = sum_by-append (λ k. hit k i) mine others in
       let far : times i mine ≡ 0 = omega (arith, h.named i, free, out) in
       let mark : note_at u i ≡ Some u.count = ap note_of (get_or-set_same w.states i s status.Free inside) in
@@ -294,17 +294,17 @@ module _ {T : Type 0} (holds : T → List Hold) where
       let fits : ltb (length mine) n ≡ true = grind (arith, nat_tests) in
       subst (λ (b : Bool). IsInOrder (cond b (mine ++ i ∷ []) mine) others (cond b u (retired p i w))) (sym fits) whole
 
-  hands_over : (p : ℕ) (mine others : List ℕ) (w : State T) → AreCollected (mine ++ others) w → AreCollected others (handed p mine w)
+  hands_over : (p : ℕ) (mine others : List ℕ) (w : State T) → AreCollected (mine ++ others) w → AreCollected others (handed_over p mine w)
   hands_over p [] others w h = h
   hands_over p (i ∷ is) others w h =
       let here : times i ((i ∷ is) ++ others) ≡ hit i i + times i (is ++ others) = sum_by-cons (λ k. hit k i) i (is ++ others) in
-      let one : noted (status_at w i) ≡ 1 = omega (arith, h i, here, hit-same i, noted-one (status_at w i)) in
+      let one : note_count (status_at w i) ≡ 1 = omega (arith, h i, here, hit-same i, noted-one (status_at w i)) in
       let inside = noted_inside w.states i (omega (arith, one)) in
       let next : AreCollected (is ++ others) (retired p i w) = λ j.
       let whole : times j ((i ∷ is) ++ others) ≡ hit i j + times j (is ++ others) = sum_by-cons (λ k. hit k j) i (is ++ others) in
       omega (arith, h j, whole, noted_down w.states i j status.Retired inside one refl) in
-      let to : AreCollected others (handed p is (retired p i w)) = hands_over p is others (retired p i w) next in
-      subst (λ (v : State T). AreCollected others (handed p is v)) (sym (handed_noted p i w (status_at w i) one)) to
+      let to : AreCollected others (handed_over p is (retired p i w)) = hands_over p is others (retired p i w) next in
+      subst (λ (v : State T). AreCollected others (handed_over p is v)) (sym (handed_noted p i w (status_at w i) one)) to
 
   same_next : (p i : ℕ) (is : List ℕ) (w : State T) → Sound w → p < length w.participants → (participant_at w p).due ≡ i ∷ is → Quiet w (due_reclaimed holds p w)
   same_next p i is w sound known was =
@@ -322,28 +322,28 @@ module _ {T : Type 0} (holds : T → List Hold) where
       let v : State T = due_reclaimed holds p w in
       same_then w v (reclaimed holds p n v) (same_next p i is w sound known (sym e)) (same_reclaimed p n v is (sym r.due) (omega (arith, size)) r.sound (omega (arith, r.known, known)))
 
-  same_rotated : (p : ℕ) (w : State T) → IsPlace w → p < length w.participants → Quiet w (rotated holds p w)
+  same_rotated : (p : ℕ) (w : State T) → IsPlace w → p < length w.participants → Quiet w (participant_rotated holds p w)
   same_rotated p w place known =
       let m = participant_at w p in
       let u : State T = rotated_bags p w in
-      let at : participant_at u p ≡ turned m = get_or-set_same w.participants p (turned m) nobody known in
+      let at : participant_at u p ≡ bags_moved_on m = get_or-set_same w.participants p (bags_moved_on m) nobody known in
       let due : (participant_at u p).due ≡ reverse m.oldest = ap (λ (m : ParticipantState). m.due) at in
-      let q = same_reclaimed p (length m.oldest) u (participant_at u p).due refl (ap length due ∙ length-reverse m.oldest) (sound_turned w p place.sound known (place.idle p)) (omega (arith, known, length-set w.participants p (turned m))) in
+      let q = same_reclaimed p (length m.oldest) u (participant_at u p).due refl (ap length due ∙ length-reverse m.oldest) (sound_turned w p place.sound known (place.idle p)) (omega (arith, known, length-set w.participants p (bags_moved_on m))) in
       record { count = q.count; notes = q.notes }
 
-  same_opened : (p : ℕ) (w : State T) → IsPlace w → p < length w.participants → SameNotes w (opened holds p w)
+  same_opened : (p : ℕ) (w : State T) → IsPlace w → p < length w.participants → SameNotes w (guard_opened holds p w)
   same_opened p w place known =
       let m = local_at w p in
-      let b : State T = begun p w in
+      let b : State T = count_published p w in
       let n : State T = with_local p (record m { nesting = m.nesting + 1 }) w in
-      let kb : p < length b.participants = omega (arith, known, length-set w.participants p (marked (record m { nesting = 1; published = w.count; previous = w.count; accelerated = false }) (participant_at w p))) in
+      let kb : p < length b.participants = omega (arith, known, length-set w.participants p (with_local_state (record m { nesting = 1; published = w.count; previous = w.count; accelerated = false }) (participant_at w p))) in
       let q = same_rotated p b (place_begun w p place known) kb in
-      let turns : SameNotes w (rotated holds p b) = record { count = omega (arith, q.count); notes = q.notes } in
+      let turns : SameNotes w (participant_rotated holds p b) = record { count = omega (arith, q.count); notes = q.notes } in
       let plain : (k : LocalState) → SameNotes w (with_local p k w) = λ k. record { count = omega arith; notes = λ i. refl } in
-      let outer : SameNotes w (cond (m.previous == w.count) b (rotated holds p b)) = elim (m.previous == w.count) as (λ c. SameNotes w (cond c b (rotated holds p b))) [ true ↦ plain (record m { nesting = 1; published = w.count; previous = w.count; accelerated = false }) | false ↦ turns ] in
-      elim (m.nesting == 0) as (λ c. SameNotes w (cond c (cond (m.previous == w.count) b (rotated holds p b)) n)) [ true ↦ outer | false ↦ plain (record m { nesting = m.nesting + 1 }) ]
+      let outer : SameNotes w (cond (m.previous == w.count) b (participant_rotated holds p b)) = elim (m.previous == w.count) as (λ c. SameNotes w (cond c b (participant_rotated holds p b))) [ true ↦ plain (record m { nesting = 1; published = w.count; previous = w.count; accelerated = false }) | false ↦ turns ] in
+      elim (m.nesting == 0) as (λ c. SameNotes w (cond c (cond (m.previous == w.count) b (participant_rotated holds p b)) n)) [ true ↦ outer | false ↦ plain (record m { nesting = m.nesting + 1 }) ]
 
-  same_closed : (p : ℕ) (w : State T) → SameNotes w (closed p w)
+  same_closed : (p : ℕ) (w : State T) → SameNotes w (guard_closed p w)
   same_closed p w =
       let m = local_at w p in
       let k1 : LocalState = record m { nesting = 0; closings = 0 } in

@@ -6,8 +6,8 @@ use Rattle.std.proofs.lemmas.Bool.Decides.{eqb_tells, nat_tests}
 use Rattle.std.proofs.lemmas.List.{length-reverse}
 use Rattle.std.proofs.lemmas.List.Sums.{sum_by-cons}
 use Rattle.sdd_base.specs.Holding.{Hold, OwnedItem, SharedItem, OwnedIn, SharedIn}
-use Rattle.sdd_base.specs.State.{State, ParticipantState, nobody, status_at, value_at, cell_at, participant_at, local_at, with_local, marked, with_status, with_cell, retired, put_participant, taken, left_due, vacated, rotated_bags, turned, raised, is_present, is_used, weight}
-use Rattle.sdd_base.specs.Steps.{hit, times, released_as, disowned_as, owned_ended_as, shared_ended_as, given, given_all, held_in, due_reclaimed, due_reclaimed_as, reclaimed, rotated, begun, opened, closed, scanned, scans, closings_after, bags_empty, is_nil}
+use Rattle.sdd_base.specs.State.{State, ParticipantState, nobody, status_at, value_at, cell_at, participant_at, local_at, with_local, with_local_state, with_status, with_cell, retired, put_participant, taken, left_due, vacated, rotated_bags, bags_moved_on, raised, is_present, is_used, weight}
+use Rattle.sdd_base.specs.Steps.{hit, times, released_as, disowned_as, owned_ended_as, shared_ended_as, given, given_all, held_in, due_reclaimed, due_reclaimed_as, reclaimed, participant_rotated, count_published, guard_opened, guard_closed, scanned, scans, closings_after, bags_empty, is_nil}
 use Rattle.sdd_base.specs.Place.{Sound, IsPlace, IsOpen, held_times}
 use Rattle.sdd_base.specs.Frame.{OnlyParticipant}
 use Rattle.sdd_base.specs.Counting.{tally, same_hold}
@@ -217,12 +217,12 @@ module _ {T : Type 0} (holds : T → List Hold) where
 
   -- the bags have moved on
   due_turned : (w : State T) (p : ℕ) → p < length w.participants → (participant_at (rotated_bags p w) p).due ≡ reverse (participant_at w p).oldest
-  due_turned w p known = ap (λ (m : ParticipantState). m.due) (get_or-set_same w.participants p (turned (participant_at w p)) nobody known)
+  due_turned w p known = ap (λ (m : ParticipantState). m.due) (get_or-set_same w.participants p (bags_moved_on (participant_at w p)) nobody known)
 
-  pub shrinks_rotated : (w : State T) (p : ℕ) → IsPlace w → p < length w.participants → Shrinks w (rotated holds p w)
+  pub shrinks_rotated : (w : State T) (p : ℕ) → IsPlace w → p < length w.participants → Shrinks w (participant_rotated holds p w)
   shrinks_rotated w p h known =
       let u : State T = rotated_bags p w in
-      let size : length u.participants ≡ length w.participants = length-set w.participants p (turned (participant_at w p)) in
+      let size : length u.participants ≡ length w.participants = length-set w.participants p (bags_moved_on (participant_at w p)) in
       let due = due_turned w p known in
       let s = shrinks_runs p (length (participant_at w p).oldest) u (participant_at u p).due refl (ap length due ∙ length-reverse (participant_at w p).oldest) (sound_turned w p h.sound known (h.idle p)) (omega (arith, size, known)) in
       record { values = s.values; cells = s.cells; jobs = s.jobs; plain = s.plain }
@@ -265,21 +265,21 @@ module _ {T : Type 0} (holds : T → List Hold) (level : T → ℕ) where
     pub prior : Below b (participant_at w p).prior w
     pub oldest : Below c (participant_at w p).oldest w
 
-  lowers_rotated : (a b n p : ℕ) (w : State T) → IsPlace w → p < length w.participants → IsLayered holds level w → Bounds a b (n + 1) p w → Bounds n a b p (rotated holds p w)
+  lowers_rotated : (a b n p : ℕ) (w : State T) → IsPlace w → p < length w.participants → IsLayered holds level w → Bounds a b (n + 1) p w → Bounds n a b p (participant_rotated holds p w)
   lowers_rotated a b n p w h known layered bounds =
       let m = participant_at w p in
       let u : State T = rotated_bags p w in
-      let size : length u.participants ≡ length w.participants = length-set w.participants p (turned m) in
+      let size : length u.participants ≡ length w.participants = length-set w.participants p (bags_moved_on m) in
       let due = due_turned holds w p known in
-      let none : (participant_at u p).current ≡ [] = ap (λ (m : ParticipantState). m.current) (get_or-set_same w.participants p (turned m) nobody known) in
+      let none : (participant_at u p).current ≡ [] = ap (λ (m : ParticipantState). m.current) (get_or-set_same w.participants p (bags_moved_on m) nobody known) in
       let r : State T = reclaimed holds p (length m.oldest) u in
       let cur : Below n (participant_at r p).current r = lowers_runs n p (length m.oldest) u (participant_at u p).due refl (ap length due ∙ length-reverse m.oldest) (sound_turned w p h.sound known (h.idle p)) (omega (arith, size, known)) layered (λ j v s e. bounds.oldest j v (let t = ap (times j) due in let x = times_reversed j m.oldest in omega (arith, s, t, x)) e) (λ j v s e. absurd (let t = ap (times j) none in omega (arith, s, t))) in
       let R = rotates holds w p h known in
       let s = shrinks_rotated holds w p h known in
       let mark : LocalState = record (local_at r p) { garbage = (local_at r p).garbage && not (bags_empty (participant_at r p)) } in
-      let x : State T = rotated holds p w in
-      let sizex : length x.participants ≡ length r.participants = length-set r.participants p (marked mark (participant_at r p)) in
-      let atx : participant_at x p ≡ marked mark (participant_at r p) = get_or-set_same r.participants p (marked mark (participant_at r p)) nobody (omega (arith, sizex, R.known, known)) in
+      let x : State T = participant_rotated holds p w in
+      let sizex : length x.participants ≡ length r.participants = length-set r.participants p (with_local_state mark (participant_at r p)) in
+      let atx : participant_at x p ≡ with_local_state mark (participant_at r p) = get_or-set_same r.participants p (with_local_state mark (participant_at r p)) nobody (omega (arith, sizex, R.known, known)) in
       record {
         current = λ j v t e. let bag = ap (λ (m : ParticipantState). times j m.current) atx in cur j v (omega (arith, t, bag)) e;
         prior = λ j v t e. let bag = ap (times j) R.prior in bounds.current j v (omega (arith, t, bag)) (s.values j v e);
@@ -297,36 +297,36 @@ pub record Opens {T : Type 0} (p : ℕ) (w o : State T) : Type 0 where
   pub place : IsPlace o
   pub shrinks : Shrinks w o
 
-opened_first : {T : Type 0} (holds : T → List Hold) (w : State T) (p : ℕ) → (local_at w p).nesting ≡ 0 → opened holds p w ≡ cond ((local_at w p).previous == w.count) (begun p w) (rotated holds p (begun p w))
-opened_first {T} holds w p none = let X : State T = cond ((local_at w p).previous == w.count) (begun p w) (rotated holds p (begun p w)) in let Y : State T = with_local p (record (local_at w p) { nesting = (local_at w p).nesting + 1 }) w in ap (λ (n : ℕ). cond (n == 0) X Y) none
+opened_first : {T : Type 0} (holds : T → List Hold) (w : State T) (p : ℕ) → (local_at w p).nesting ≡ 0 → guard_opened holds p w ≡ cond ((local_at w p).previous == w.count) (count_published p w) (participant_rotated holds p (count_published p w))
+opened_first {T} holds w p none = let X : State T = cond ((local_at w p).previous == w.count) (count_published p w) (participant_rotated holds p (count_published p w)) in let Y : State T = with_local p (record (local_at w p) { nesting = (local_at w p).nesting + 1 }) w in ap (λ (n : ℕ). cond (n == 0) X Y) none
 
 module _ {T : Type 0} (holds : T → List Hold) (w : State T) (p : ℕ) (h : IsPlace w) (known : p < length w.participants) (none : (local_at w p).nesting ≡ 0) where
   abbrev begin_local : LocalState
   begin_local = record (local_at w p) { nesting = 1; published = w.count; previous = w.count; accelerated = false }
 
-  begun_at : participant_at (begun p w) p ≡ marked begin_local (participant_at w p)
-  begun_at = get_or-set_same w.participants p (marked begin_local (participant_at w p)) nobody known
+  begun_at : participant_at (count_published p w) p ≡ with_local_state begin_local (participant_at w p)
+  begun_at = get_or-set_same w.participants p (with_local_state begin_local (participant_at w p)) nobody known
 
-  begun_known : p < length (begun p w).participants
-  begun_known = let size = length-set w.participants p (marked begin_local (participant_at w p)) in omega (arith, size, known)
+  begun_known : p < length (count_published p w).participants
+  begun_known = let size = length-set w.participants p (with_local_state begin_local (participant_at w p)) in omega (arith, size, known)
 
-  opens_begun : Opens p w (begun p w)
+  opens_begun : Opens p w (count_published p w)
   opens_begun = record {
     count = refl;
     nesting = ap (λ (m : ParticipantState). m.local.nesting) begun_at;
     published = ap (λ (m : ParticipantState). m.local.published) begun_at;
     previous = ap (λ (m : ParticipantState). m.local.previous) begun_at;
-    others = λ k n. get_or-set_other w.participants p k (marked begin_local (participant_at w p)) nobody n;
-    participants = length-set w.participants p (marked begin_local (participant_at w p));
+    others = λ k n. get_or-set_other w.participants p k (with_local_state begin_local (participant_at w p)) nobody n;
+    participants = length-set w.participants p (with_local_state begin_local (participant_at w p));
     place = place_begun w p h known;
     shrinks = record { values = λ j u e. e; cells = λ c j e. e; jobs = λ j e. e; plain = λ j e. e };
   }
 
-  opens_turned : Opens p w (rotated holds p (begun p w))
+  opens_turned : Opens p w (participant_rotated holds p (count_published p w))
   opens_turned =
       let b = opens_begun in
-      let r = rotates holds (begun p w) p b.place begun_known in
-      let s = shrinks_rotated holds (begun p w) p b.place begun_known in
+      let r = rotates holds (count_published p w) p b.place begun_known in
+      let s = shrinks_rotated holds (count_published p w) p b.place begun_known in
       record {
         count = r.count;
         nesting = r.nesting ∙ b.nesting;
@@ -338,11 +338,11 @@ module _ {T : Type 0} (holds : T → List Hold) (w : State T) (p : ℕ) (h : IsP
         shrinks = record { values = s.values; cells = s.cells; jobs = s.jobs; plain = s.plain };
       }
 
-  pub opens : Opens p w (opened holds p w)
-  opens = subst (λ (x : State T). Opens p w x) (sym (opened_first holds w p none)) (elim ((local_at w p).previous == w.count) as (λ b. Opens p w (cond b (begun p w) (rotated holds p (begun p w)))) [ true ↦ opens_begun | false ↦ opens_turned ])
+  pub opens : Opens p w (guard_opened holds p w)
+  opens = subst (λ (x : State T). Opens p w x) (sym (opened_first holds w p none)) (elim ((local_at w p).previous == w.count) as (λ b. Opens p w (cond b (count_published p w) (participant_rotated holds p (count_published p w)))) [ true ↦ opens_begun | false ↦ opens_turned ])
 
   module _ (level : T → ℕ) (layered : IsLayered holds level w) where
-    begun_bounds : (a b c : ℕ) → Bounds holds level a b c p w → Bounds holds level a b c p (begun p w)
+    begun_bounds : (a b c : ℕ) → Bounds holds level a b c p w → Bounds holds level a b c p (count_published p w)
     begun_bounds a b c x = record {
       current = λ j v t e. let bag = ap (λ (m : ParticipantState). times j m.current) begun_at in x.current j v (omega (arith, t, bag)) e;
       prior = λ j v t e. let bag = ap (λ (m : ParticipantState). times j m.prior) begun_at in x.prior j v (omega (arith, t, bag)) e;
@@ -350,21 +350,21 @@ module _ {T : Type 0} (holds : T → List Hold) (w : State T) (p : ℕ) (h : IsP
     }
 
     -- an opening that finds another count
-    opened_lower : (a b n : ℕ) → (local_at w p).previous ≢ w.count → Bounds holds level a b (n + 1) p w → Bounds holds level n a b p (opened holds p w)
+    opened_lower : (a b n : ℕ) → (local_at w p).previous ≢ w.count → Bounds holds level a b (n + 1) p w → Bounds holds level n a b p (guard_opened holds p w)
     opened_lower a b n differs x =
-        let y : Bounds holds level n a b p (rotated holds p (begun p w)) = lowers_rotated holds level a b n p (begun p w) opens_begun.place begun_known layered (begun_bounds a b (n + 1) x) in
+        let y : Bounds holds level n a b p (participant_rotated holds p (count_published p w)) = lowers_rotated holds level a b n p (count_published p w) opens_begun.place begun_known layered (begun_bounds a b (n + 1) x) in
         elim (eqb_tells (local_at w p).previous w.count) [
           | inl t ↦ absurd (differs t.1)
-          | inr t ↦ subst (λ (x : State T). Bounds holds level n a b p x) (sym (opened_first holds w p none ∙ ap (λ (c : Bool). cond c (begun p w) (rotated holds p (begun p w))) t.0)) y
+          | inr t ↦ subst (λ (x : State T). Bounds holds level n a b p x) (sym (opened_first holds w p none ∙ ap (λ (c : Bool). cond c (count_published p w) (participant_rotated holds p (count_published p w))) t.0)) y
         ]
 
     -- any opening
-    opened_same : (n : ℕ) → Bounds holds level n n n p w → Bounds holds level n n n p (opened holds p w)
+    opened_same : (n : ℕ) → Bounds holds level n n n p w → Bounds holds level n n n p (guard_opened holds p w)
     opened_same n x =
         let z = begun_bounds n n n x in
-        let more : Bounds holds level n n (n + 1) p (begun p w) = record { current = z.current; prior = z.prior; oldest = λ j v t e. let l = z.oldest j v t e in omega (arith, l) } in
-        let y : Bounds holds level n n n p (rotated holds p (begun p w)) = lowers_rotated holds level n n n p (begun p w) opens_begun.place begun_known layered more in
-        subst (λ (x : State T). Bounds holds level n n n p x) (sym (opened_first holds w p none)) (elim ((local_at w p).previous == w.count) as (λ b. Bounds holds level n n n p (cond b (begun p w) (rotated holds p (begun p w)))) [ true ↦ z | false ↦ y ])
+        let more : Bounds holds level n n (n + 1) p (count_published p w) = record { current = z.current; prior = z.prior; oldest = λ j v t e. let l = z.oldest j v t e in omega (arith, l) } in
+        let y : Bounds holds level n n n p (participant_rotated holds p (count_published p w)) = lowers_rotated holds level n n n p (count_published p w) opens_begun.place begun_known layered more in
+        subst (λ (x : State T). Bounds holds level n n n p x) (sym (opened_first holds w p none)) (elim ((local_at w p).previous == w.count) as (λ b. Bounds holds level n n n p (cond b (count_published p w) (participant_rotated holds p (count_published p w)))) [ true ↦ z | false ↦ y ])
 
 present_closed : (n : ℕ) (m : ParticipantState) → m.local.nesting ≡ 0 → is_present n m ≡ true
 present_closed n m e = ap (λ (x : ℕ). (x == 0) || (m.local.published == n)) e
@@ -381,7 +381,7 @@ scanned_raises {T} w all less =
     let below : ltb w.count 18446744073709551615 ≡ true = grind (arith, nat_tests) in
     ap (λ (b : Bool). cond (b && ltb w.count 18446744073709551615) (raised w) w) all ∙ ap (λ (b : Bool). cond b (raised w) w) below
 
-closed_scans : {T : Type 0} (w : State T) (p : ℕ) → (local_at w p).nesting ≡ 1 → (local_at w p).accelerated ≡ true → closed p w ≡ with_local p (record (local_at w p) { nesting = 0; closings = 0 }) (scanned w)
+closed_scans : {T : Type 0} (w : State T) (p : ℕ) → (local_at w p).nesting ≡ 1 → (local_at w p).accelerated ≡ true → guard_closed p w ≡ with_local p (record (local_at w p) { nesting = 0; closings = 0 }) (scanned w)
 closed_scans {T} w p one fast =
     let m = local_at w p in
     let X : State T = with_local p (record m { nesting = 0; closings = 0 }) (scanned w) in
@@ -405,16 +405,16 @@ record IsPassed {T : Type 0} (p : ℕ) (w o w' : State T) : Type 0 where
   pub place : IsPlace w'
 
 module _ {T : Type 0} (holds : T → List Hold) where
-  is_passed : (n p : ℕ) (w : State T) → CanPass (suc n) p w → IsPassed p w (opened holds p w) (passed holds p w)
+  is_passed : (n p : ℕ) (w : State T) → CanPass (suc n) p w → IsPassed p w (guard_opened holds p w) (passed holds p w)
   is_passed n p w c =
-      let o : State T = opened holds p w in
+      let o : State T = guard_opened holds p w in
       let O = opens holds w p c.place c.known (c.none_open p) in
       let fast : LocalState = record (local_at o p) { accelerated = true } in
       let a : State T = accelerated p o in
       let ko : p < length o.participants = (let size = O.participants in let known = c.known in omega (arith, size, known)) in
-      let ata : participant_at a p ≡ marked fast (participant_at o p) = get_or-set_same o.participants p (marked fast (participant_at o p)) nobody ko in
-      let othera : (k : ℕ) → k ≢ p → participant_at a k ≡ participant_at o k = λ k n. get_or-set_other o.participants p k (marked fast (participant_at o p)) nobody n in
-      let sizea : length a.participants ≡ length o.participants = length-set o.participants p (marked fast (participant_at o p)) in
+      let ata : participant_at a p ≡ with_local_state fast (participant_at o p) = get_or-set_same o.participants p (with_local_state fast (participant_at o p)) nobody ko in
+      let othera : (k : ℕ) → k ≢ p → participant_at a k ≡ participant_at o k = λ k n. get_or-set_other o.participants p k (with_local_state fast (participant_at o p)) nobody n in
+      let sizea : length a.participants ≡ length o.participants = length-set o.participants p (with_local_state fast (participant_at o p)) in
       let ka : p < length a.participants = omega (arith, sizea, ko) in
       let one : (local_at a p).nesting ≡ 1 = ap (λ (m : ParticipantState). m.local.nesting) ata ∙ O.nesting in
       let quick : (local_at a p).accelerated ≡ true = ap (λ (m : ParticipantState). m.local.accelerated) ata in
@@ -426,9 +426,9 @@ module _ {T : Type 0} (holds : T → List Hold) where
       let less : a.count < 18446744073709551615 = (let same = O.count in let room = c.room in omega (arith, same, room)) in
       let k : LocalState = record (local_at a p) { nesting = 0; closings = 0 } in
       let x : State T = with_local p k (raised a) in
-      let is : closed p a ≡ x = closed_scans a p one quick ∙ ap (λ (s : State T). with_local p k s) (scanned_raises a all less) in
-      let atx : participant_at x p ≡ marked k (participant_at a p) = get_or-set_same a.participants p (marked k (participant_at a p)) nobody ka in
-      let otherx : (j : ℕ) → j ≢ p → participant_at x j ≡ participant_at a j = λ j n. get_or-set_other a.participants p j (marked k (participant_at a p)) nobody n in
+      let is : guard_closed p a ≡ x = closed_scans a p one quick ∙ ap (λ (s : State T). with_local p k s) (scanned_raises a all less) in
+      let atx : participant_at x p ≡ with_local_state k (participant_at a p) = get_or-set_same a.participants p (with_local_state k (participant_at a p)) nobody ka in
+      let otherx : (j : ℕ) → j ≢ p → participant_at x j ≡ participant_at a j = λ j n. get_or-set_other a.participants p j (with_local_state k (participant_at a p)) nobody n in
       let open' : IsOpen a p = omega (arith, one) in
       let placea : IsPlace a = place_local o p fast O.place ko (record { past = O.place.past p; began = O.place.began p; near = O.place.near p }) in
       let placex : IsPlace x = subst (λ (s : State T). IsPlace s) is (place_closed a p placea ka open') in
@@ -438,7 +438,7 @@ module _ {T : Type 0} (holds : T → List Hold) where
         previous = ap (λ (m : ParticipantState). m.local.previous) (atx) ∙ ap (λ (m : ParticipantState). m.local.previous) ata ∙ O.previous;
         nesting = ap (λ (m : ParticipantState). m.local.nesting) atx;
         others = λ j n. otherx j n ∙ othera j n ∙ O.others j n;
-        participants = length-set a.participants p (marked k (participant_at a p)) ∙ sizea ∙ O.participants;
+        participants = length-set a.participants p (with_local_state k (participant_at a p)) ∙ sizea ∙ O.participants;
         current = ap (λ (m : ParticipantState). m.current) atx ∙ ap (λ (m : ParticipantState). m.current) ata;
         prior = ap (λ (m : ParticipantState). m.prior) atx ∙ ap (λ (m : ParticipantState). m.prior) ata;
         oldest = ap (λ (m : ParticipantState). m.oldest) atx ∙ ap (λ (m : ParticipantState). m.oldest) ata;

@@ -6,8 +6,8 @@ use Rattle.std.proofs.lemmas.Bool.Decides.{eqb_tells, nat_tests}
 use Rattle.std.proofs.lemmas.List.{length-reverse, length-replicate, length-append}
 use Rattle.std.proofs.lemmas.List.Folds.{sum_by-replicate}
 use Rattle.sdd_base.specs.Holding.{Hold}
-use Rattle.sdd_base.specs.State.{State, ParticipantState, participant_at, nobody, turned, rotated_bags, with_local, marked, weight, status_at, value_at, is_used, local_at, raised, is_present, fresh, occupied}
-use Rattle.sdd_base.specs.Steps.{times, reclaimed, rotated, begun, opened, closed, scanned, bags_empty, scans, closings_after}
+use Rattle.sdd_base.specs.State.{State, ParticipantState, participant_at, nobody, bags_moved_on, rotated_bags, with_local, with_local_state, weight, status_at, value_at, is_used, local_at, raised, is_present, fresh, occupied}
+use Rattle.sdd_base.specs.Steps.{times, reclaimed, participant_rotated, count_published, guard_opened, guard_closed, scanned, bags_empty, scans, closings_after}
 use Rattle.sdd_base.specs.Place.{IsPlace, IsOpen, held_times}
 use Rattle.sdd_base.specs.declared.sizes.Sizes.{Sizes}
 use Rattle.sdd_base.specs.declared.status.Status.TheVariants as status
@@ -56,11 +56,11 @@ pub record Fits {T : Type 0} (w : State T) (k : LocalState) : Type 0 where
 pub place_local : {T : Type 0} (w : State T) (p : ℕ) (k : LocalState) → IsPlace w → p < length w.participants → Fits w k → IsPlace (with_local p k w)
 place_local {T} w p k h known f =
     let w' : State T = with_local p k w in
-    let at : participant_at w' p ≡ marked k (participant_at w p) = get_or-set_same w.participants p (marked k (participant_at w p)) nobody known in
-    let other : (j : ℕ) → j ≢ p → participant_at w' j ≡ participant_at w j = λ j n. get_or-set_other w.participants p j (marked k (participant_at w p)) nobody n in
+    let at : participant_at w' p ≡ with_local_state k (participant_at w p) = get_or-set_same w.participants p (with_local_state k (participant_at w p)) nobody known in
+    let other : (j : ℕ) → j ≢ p → participant_at w' j ≡ participant_at w j = λ j n. get_or-set_other w.participants p j (with_local_state k (participant_at w p)) nobody n in
     record {
       sound = sound_local w p k h.sound known;
-      some = omega (arith, h.some, length-set w.participants p (marked k (participant_at w p)));
+      some = omega (arith, h.some, length-set w.participants p (with_local_state k (participant_at w p)));
       idle = λ j. elim (eqb_tells j p) [
         | inl t ↦ let P : ℕ → Type 0 = λ i. (participant_at w' i).due ≡ [] in let here : P p = ap (λ (m : ParticipantState). m.due) at ∙ h.idle p in subst P (sym t.1) here
         | inr t ↦ ap (λ (m : ParticipantState). m.due) (other j t.1) ∙ h.idle j
@@ -97,17 +97,17 @@ pub record Rotates {T : Type 0} (p : ℕ) (w w' : State T) : Type 0 where
   pub current : (participant_at w p).oldest ≡ [] → (participant_at w' p).current ≡ []
   pub place : IsPlace w'
 
-pub rotates : {T : Type 0} (holds : T → List Hold) (w : State T) (p : ℕ) → IsPlace w → p < length w.participants → Rotates p w (rotated holds p w)
+pub rotates : {T : Type 0} (holds : T → List Hold) (w : State T) (p : ℕ) → IsPlace w → p < length w.participants → Rotates p w (participant_rotated holds p w)
 rotates {T} holds w p h known =
     let m = participant_at w p in
     let u : State T = rotated_bags p w in
-    let sizeu : length u.participants ≡ length w.participants = length-set w.participants p (turned m) in
-    let at : participant_at u p ≡ turned m = get_or-set_same w.participants p (turned m) nobody known in
+    let sizeu : length u.participants ≡ length w.participants = length-set w.participants p (bags_moved_on m) in
+    let at : participant_at u p ≡ bags_moved_on m = get_or-set_same w.participants p (bags_moved_on m) nobody known in
     let due : (participant_at u p).due ≡ reverse m.oldest = ap (λ (m : ParticipantState). m.due) at in
     let o = runs_out holds p (length m.oldest) u (participant_at u p).due refl (ap length due ∙ length-reverse m.oldest) (sound_turned w p h.sound known (h.idle p)) (omega (arith, sizeu)) in
     let r : State T = reclaimed holds p (length m.oldest) u in
-    let othersr : (k : ℕ) → k ≢ p → participant_at r k ≡ participant_at w k = λ k n. o.others k n ∙ get_or-set_other w.participants p k (turned m) nobody n in
-    let calmr : calm (participant_at r p) ≡ calm (turned m) = o.calm ∙ ap calm at in
+    let othersr : (k : ℕ) → k ≢ p → participant_at r k ≡ participant_at w k = λ k n. o.others k n ∙ get_or-set_other w.participants p k (bags_moved_on m) nobody n in
+    let calmr : calm (participant_at r p) ≡ calm (bags_moved_on m) = o.calm ∙ ap calm at in
     let nestingr : (local_at r p).nesting ≡ (local_at w p).nesting = ap (λ (c : Calm). c.nesting) calmr in
     let publishedr : (local_at r p).published ≡ (local_at w p).published = ap (λ (c : Calm). c.published) calmr in
     let previousr : (local_at r p).previous ≡ (local_at w p).previous = ap (λ (c : Calm). c.previous) calmr in
@@ -134,39 +134,39 @@ rotates {T} holds w p h known =
     } in
     let mark : LocalState = record (local_at r p) { garbage = (local_at r p).garbage && not (bags_empty (participant_at r p)) } in
     let x : State T = with_local p mark r in
-    let atx : participant_at x p ≡ marked mark (participant_at r p) = get_or-set_same r.participants p (marked mark (participant_at r p)) nobody knownr in
+    let atx : participant_at x p ≡ with_local_state mark (participant_at r p) = get_or-set_same r.participants p (with_local_state mark (participant_at r p)) nobody knownr in
     record {
       count = o.count;
       stays = λ j none. o.stays j (ap (times j) due ∙ times_reversed j m.oldest ∙ none);
       places = o.places;
       cells = o.cells;
-      known = length-set r.participants p (marked mark (participant_at r p)) ∙ o.known ∙ sizeu;
+      known = length-set r.participants p (with_local_state mark (participant_at r p)) ∙ o.known ∙ sizeu;
       prior = ap (λ (m : ParticipantState). m.prior) atx ∙ ap (λ (c : Calm). c.prior) calmr;
       oldest = ap (λ (m : ParticipantState). m.oldest) atx ∙ ap (λ (c : Calm). c.oldest) calmr;
       nesting = ap (λ (m : ParticipantState). m.local.nesting) atx ∙ nestingr;
       published = ap (λ (m : ParticipantState). m.local.published) atx ∙ publishedr;
       previous = ap (λ (m : ParticipantState). m.local.previous) atx ∙ previousr;
-      others = λ k n. get_or-set_other r.participants p k (marked mark (participant_at r p)) nobody n ∙ othersr k n;
+      others = λ k n. get_or-set_other r.participants p k (with_local_state mark (participant_at r p)) nobody n ∙ othersr k n;
       noted = o.noted;
       occupied = omega (arith, o.occupied, ap length due, length-reverse m.oldest);
       current = λ e. ap (λ (m : ParticipantState). m.current) atx ∙ ap (λ (xs : List ℕ). (participant_at (reclaimed holds p (length xs) u) p).current) e ∙ ap (λ (m : ParticipantState). m.current) at;
       place = place_local r p mark placer knownr (record { past = placer.past p; began = placer.began p; near = placer.near p });
     }
 
-pub place_begun : {T : Type 0} (w : State T) (p : ℕ) → IsPlace w → p < length w.participants → IsPlace (begun p w)
+pub place_begun : {T : Type 0} (w : State T) (p : ℕ) → IsPlace w → p < length w.participants → IsPlace (count_published p w)
 place_begun w p h known = place_local w p (record (local_at w p) { nesting = 1; published = w.count; previous = w.count; accelerated = false }) h known (record { past = omega arith; began = λ o. omega arith; near = λ o. omega arith })
 
-pub place_opened : {T : Type 0} (holds : T → List Hold) (w : State T) (p : ℕ) → IsPlace w → p < length w.participants → IsPlace (opened holds p w)
+pub place_opened : {T : Type 0} (holds : T → List Hold) (w : State T) (p : ℕ) → IsPlace w → p < length w.participants → IsPlace (guard_opened holds p w)
 place_opened {T} holds w p h known =
-    let b : State T = begun p w in
+    let b : State T = count_published p w in
     let n : State T = with_local p (record (local_at w p) { nesting = (local_at w p).nesting + 1 }) w in
     let first : IsPlace b = place_begun w p h known in
-    let kb : p < length b.participants = omega (arith, length-set w.participants p (marked (record (local_at w p) { nesting = 1; published = w.count; previous = w.count; accelerated = false }) (participant_at w p))) in
-    let third : IsPlace (rotated holds p b) = (rotates holds b p first kb).place in
+    let kb : p < length b.participants = omega (arith, length-set w.participants p (with_local_state (record (local_at w p) { nesting = 1; published = w.count; previous = w.count; accelerated = false }) (participant_at w p))) in
+    let third : IsPlace (participant_rotated holds p b) = (rotates holds b p first kb).place in
     elim (eqb_tells (local_at w p).nesting 0) [
-      | inl t ↦ subst (λ (c : Bool). IsPlace (cond c (cond ((local_at w p).previous == w.count) b (rotated holds p b)) n)) (sym t.0)
-          (elim ((local_at w p).previous == w.count) as (λ c. IsPlace (cond c b (rotated holds p b))) [ true ↦ first | false ↦ third ])
-      | inr t ↦ subst (λ (c : Bool). IsPlace (cond c (cond ((local_at w p).previous == w.count) b (rotated holds p b)) n)) (sym t.0)
+      | inl t ↦ subst (λ (c : Bool). IsPlace (cond c (cond ((local_at w p).previous == w.count) b (participant_rotated holds p b)) n)) (sym t.0)
+          (elim ((local_at w p).previous == w.count) as (λ c. IsPlace (cond c b (participant_rotated holds p b))) [ true ↦ first | false ↦ third ])
+      | inr t ↦ subst (λ (c : Bool). IsPlace (cond c (cond ((local_at w p).previous == w.count) b (participant_rotated holds p b)) n)) (sym t.0)
           (let some : 0 < (local_at w p).nesting = omega (arith, t.1) in
           place_local w p _ h known (record { past = h.past p; began = λ o. h.began p some; near = λ o. h.near p some }))
     ]
@@ -210,7 +210,7 @@ place_scanned {T} w h =
       | false ↦ λ e. h
     ]) refl
 
-pub place_closed : {T : Type 0} (w : State T) (p : ℕ) → IsPlace w → p < length w.participants → IsOpen w p → IsPlace (closed p w)
+pub place_closed : {T : Type 0} (w : State T) (p : ℕ) → IsPlace w → p < length w.participants → IsOpen w p → IsPlace (guard_closed p w)
 place_closed {T} w p h known opens =
     let m = local_at w p in
     let s : State T = scanned w in

@@ -3,8 +3,8 @@ use Rattle.std.proofs.Common.{◌≡◌, ◌≢◌, ℕ, ◌+◌, ◌-◌, ◌<�
 use Rattle.std.proofs.lemmas.Bool.{false≢true}
 use Rattle.std.proofs.lemmas.Bool.Decides.{nat_tests, eqb_tells}
 use Rattle.sdd_base.specs.Holding.{Hold}
-use Rattle.sdd_base.specs.State.{State, status_at, value_at, participant_at, local_at, is_used, weight, with_status, retired, removed}
-use Rattle.sdd_base.specs.Steps.{given_all, held_in, overdue, IsTimely, purged, left_waiting, set_aside, handed, handed_as, times, released, released_as}
+use Rattle.sdd_base.specs.State.{State, status_at, value_at, participant_at, local_at, is_used, weight, with_status, retired, slot_freed}
+use Rattle.sdd_base.specs.Steps.{given_all, held_in, overdue, IsTimely, purged, left_waiting, set_aside, handed_over, handed_over_as, times, released, released_as}
 use Rattle.sdd_base.specs.Place.{Sound, IsPlace, IsOpen, IsOwned, IsShared}
 use Rattle.sdd_base.specs.Frame.{has_owner, IsLive, Protects, Frame, OnlyParticipant}
 use Rattle.sdd_base.specs.declared.status.Status.{Status}
@@ -15,7 +15,7 @@ use Rattle.sdd_base.proofs.FrameLemmas.{keeps_leaves, keeps_refl}
 
 module _ {T : Type 0} where
   -- a slot that waited in no bag is free
-  pub sound_removed : (w : State T) (i : ℕ) → Sound w → i < length w.states → weight (status_at w i) ≡ 0 → Sound (removed i w)
+  pub sound_removed : (w : State T) (i : ℕ) → Sound w → i < length w.states → weight (status_at w i) ≡ 0 → Sound (slot_freed i w)
   sound_removed w i h inside light = record {
     sizes = length-set w.values i None ∙ h.sizes ∙ sym (length-set w.states i status.Free);
     once = λ j. h.once j ∙ sym (weight_same w.states i j status.Free inside (sym light));
@@ -81,11 +81,11 @@ live_timely c status.Idle h = refl
 live_timely c status.Deferred h = refl
 
 module _ {T : Type 0} (holds : T → List Hold) where
-  pub purges_next : (p i : ℕ) (w : State T) → Sound w → p < length w.participants → overdue w.count (status_at w i) ≡ true → Purges p w (given_all p (held_in holds (value_at w i)) (removed i w))
+  pub purges_next : (p i : ℕ) (w : State T) → Sound w → p < length w.participants → overdue w.count (status_at w i) ≡ true → Purges p w (given_all p (held_in holds (value_at w i)) (slot_freed i w))
   purges_next p i w h known late =
       let n = overdue_noted w.count (status_at w i) late in
       let inside : i < length w.states = inside_by w.states i (status.Collected n.note) (sym n.is) (λ e. cc) in
-      let u : State T = removed i w in
+      let u : State T = slot_freed i w in
       let su = sound_removed w i h inside (ap weight n.is) in
       let g = gives_all u p (held_in holds (value_at w i)) su known in
       record {
@@ -120,7 +120,7 @@ module _ {T : Type 0} (holds : T → List Hold) where
   pub purges : (p : ℕ) (is : List ℕ) (w : State T) → Sound w → p < length w.participants → Purges p w (purged holds p is w)
   purges p [] w h known = purges_refl p w h
   purges p (i ∷ is) w h known =
-      let v : State T = given_all p (held_in holds (value_at w i)) (removed i w) in
+      let v : State T = given_all p (held_in holds (value_at w i)) (slot_freed i w) in
       (elim (overdue w.count (status_at w i)) as (λ b. overdue w.count (status_at w i) ≡ b → Purges p w (cond b (purged holds p is v) w)) [
         | true ↦ λ e. let first = purges_next p i w h known e in purges_then p w v _ first (purges p is v first.sound (omega (arith, first.known, known)))
         | false ↦ λ e. purges_refl p w h
@@ -316,7 +316,7 @@ module _ {T : Type 0} where
   nests_then p i u w v x e c s q = ap (λ (c : Calm). c.nesting) (calm_at p v x s.calm q) ∙ c.nests q ∙ ap (λ (s : State T). (local_at s q).nesting) e
 
   -- what is handed over
-  handed_one : (p i : ℕ) (s : Status) (w : State T) → s ≡ status_at w i → Sound w → p < length w.participants → Leaves p w (handed_as s p i w)
+  handed_one : (p i : ℕ) (s : Status) (w : State T) → s ≡ status_at w i → Sound w → p < length w.participants → Leaves p w (handed_over_as s p i w)
   handed_one p i status.Free w e h known = leaves_refl p w h
   handed_one p i status.Owned w e h known = leaves_refl p w h
   handed_one p i (status.Shared n) w e h known = leaves_refl p w h
@@ -326,24 +326,24 @@ module _ {T : Type 0} where
   handed_one p i status.Idle w e h known = leaves_refl p w h
   handed_one p i status.Deferred w e h known = leaves_refl p w h
 
-  pub handed_leaves : (p : ℕ) (is : List ℕ) (w : State T) → Sound w → p < length w.participants → Leaves p w (handed p is w)
+  pub handed_leaves : (p : ℕ) (is : List ℕ) (w : State T) → Sound w → p < length w.participants → Leaves p w (handed_over p is w)
   handed_leaves p [] w h known = leaves_refl p w h
   handed_leaves p (i ∷ is) w h known =
-      let v : State T = handed_as (status_at w i) p i w in
+      let v : State T = handed_over_as (status_at w i) p i w in
       let first = handed_one p i (status_at w i) w refl h known in
       leaves_then p w v _ first (handed_leaves p is v first.sound (omega (arith, first.known, known)))
 
 -- one place of a private bag more
-pub purged_next : {T : Type 0} (holds : T → List Hold) (p i : ℕ) (is : List ℕ) (w : State T) → overdue w.count (status_at w i) ≡ true → purged holds p (i ∷ is) w ≡ purged holds p is (given_all p (held_in holds (value_at w i)) (removed i w))
-purged_next {T} holds p i is w e = let X : State T = purged holds p is (given_all p (held_in holds (value_at w i)) (removed i w)) in ap (λ (b : Bool). cond b X w) e
+pub purged_next : {T : Type 0} (holds : T → List Hold) (p i : ℕ) (is : List ℕ) (w : State T) → overdue w.count (status_at w i) ≡ true → purged holds p (i ∷ is) w ≡ purged holds p is (given_all p (held_in holds (value_at w i)) (slot_freed i w))
+purged_next {T} holds p i is w e = let X : State T = purged holds p is (given_all p (held_in holds (value_at w i)) (slot_freed i w)) in ap (λ (b : Bool). cond b X w) e
 
-pub left_next : {T : Type 0} (holds : T → List Hold) (p i : ℕ) (is : List ℕ) (w : State T) → overdue w.count (status_at w i) ≡ true → left_waiting holds p (i ∷ is) w ≡ left_waiting holds p is (given_all p (held_in holds (value_at w i)) (removed i w))
-left_next {T} holds p i is w e = let X : List ℕ = left_waiting holds p is (given_all p (held_in holds (value_at w i)) (removed i w)) in ap (λ (b : Bool). cond b X (i ∷ is)) e
+pub left_next : {T : Type 0} (holds : T → List Hold) (p i : ℕ) (is : List ℕ) (w : State T) → overdue w.count (status_at w i) ≡ true → left_waiting holds p (i ∷ is) w ≡ left_waiting holds p is (given_all p (held_in holds (value_at w i)) (slot_freed i w))
+left_next {T} holds p i is w e = let X : List ℕ = left_waiting holds p is (given_all p (held_in holds (value_at w i)) (slot_freed i w)) in ap (λ (b : Bool). cond b X (i ∷ is)) e
 
 -- nothing is overdue at the front
 pub purged_done : {T : Type 0} (holds : T → List Hold) (p : ℕ) (is : List ℕ) (w : State T) → IsTimely w is → (purged holds p is w ≡ w) × (left_waiting holds p is w ≡ is)
 purged_done holds p [] w h = (refl, refl)
 purged_done {T} holds p (i ∷ is) w h =
-    let X : State T = purged holds p is (given_all p (held_in holds (value_at w i)) (removed i w)) in
-    let Y : List ℕ = left_waiting holds p is (given_all p (held_in holds (value_at w i)) (removed i w)) in
+    let X : State T = purged holds p is (given_all p (held_in holds (value_at w i)) (slot_freed i w)) in
+    let Y : List ℕ = left_waiting holds p is (given_all p (held_in holds (value_at w i)) (slot_freed i w)) in
     (ap (λ (b : Bool). cond b X w) h, ap (λ (b : Bool). cond b Y (i ∷ is)) h)

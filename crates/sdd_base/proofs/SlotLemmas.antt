@@ -20,7 +20,7 @@ use Rattle.std.proofs.lemmas.List.{set-get_or, get_or_default, nil_from_length, 
 use Rattle.std.proofs.lemmas.Bool.Decides.{nat_tests}
 use Rattle.std.proofs.Math.ListN.{get_or-map as at_map}
 use Rattle.sdd_base.specs.State.{weight}
-use Rattle.sdd_base.specs.View.{IsTable, IsStack, Lists, HasRoom, waiting, participant_state, state_of}
+use Rattle.sdd_base.specs.View.{IsTable, IsFreeList, Lists, BagsHaveRoom, waiting, participant_state, state_of}
 use Rattle.sdd_base.specs.declared.bags.Participant.{Participant}
 use Rattle.sdd_base.specs.declared.status.Status.{Status}
 use Rattle.sdd_base.specs.declared.status.Status.TheVariants as status
@@ -93,24 +93,24 @@ pub filled_same : {T J : Type 0} (a : Inside T J) (i : ℕ) (s : Status) → IsT
 filled_same a i s h e = h.filled ∙ sym (map-set_same is_used a.states.items i s status.Free e)
 
 -- where a place doesn't wait yet, a bag has room for it
-pub has_room : (n : ℕ) (ss : List Status) (ms : List Participant) (i p : ℕ) (q : Participant) → n ≡ length ss → sum_by waiting ms ≤ sum_by weight ss → All (HasRoom n) ms → i < length ss → weight (get_or ss i status.Free) ≡ 0 → p < length ms → q ≡ get_or ms p q → length q.current.items < vec_capacity q.current
+pub has_room : (n : ℕ) (ss : List Status) (ms : List Participant) (i p : ℕ) (q : Participant) → n ≡ length ss → sum_by waiting ms ≤ sum_by weight ss → All (BagsHaveRoom n) ms → i < length ss → weight (get_or ss i status.Free) ≡ 0 → p < length ms → q ≡ get_or ms p q → length q.current.items < vec_capacity q.current
 has_room n ss ms i p q e waits room inside light known is =
     let after = sum_by-set weight ss i status.Retired status.Free inside in
     let all = weight-le (set ss i status.Retired) in
     let size = length-set {A = Status} ss i status.Retired in
     let part = get_or-le-sum_by waiting ms p q known in
-    let mine : HasRoom n (get_or ms p q) = All-get_or (HasRoom n) ms p q known room in
+    let mine : BagsHaveRoom n (get_or ms p q) = All-get_or (BagsHaveRoom n) ms p q known room in
     let cap = mine.current in
     let same = ap waiting is in
     let caps = ap (λ (x : Participant). vec_capacity x.current) is in
     omega arith
 
 -- where a place waits in the current bag, there is room for it among what is due
-pub due_room : (n : ℕ) (ss : List Status) (ms : List Participant) (p : ℕ) (q : Participant) → n ≡ length ss → sum_by waiting ms ≤ sum_by weight ss → All (HasRoom n) ms → p < length ms → q ≡ get_or ms p q → length q.current.items ≢ 0 → length q.due.items < vec_capacity q.due
+pub due_room : (n : ℕ) (ss : List Status) (ms : List Participant) (p : ℕ) (q : Participant) → n ≡ length ss → sum_by waiting ms ≤ sum_by weight ss → All (BagsHaveRoom n) ms → p < length ms → q ≡ get_or ms p q → length q.current.items ≢ 0 → length q.due.items < vec_capacity q.due
 due_room n ss ms p q e waits room known is some =
     let all = weight-le ss in
     let part = get_or-le-sum_by waiting ms p q known in
-    let mine : HasRoom n (get_or ms p q) = All-get_or (HasRoom n) ms p q known room in
+    let mine : BagsHaveRoom n (get_or ms p q) = All-get_or (BagsHaveRoom n) ms p q known room in
     let cap = mine.due in
     let same = ap waiting is in
     let caps = ap (λ (x : Participant). vec_capacity x.due) is in
@@ -140,13 +140,13 @@ changed_view a p f q q' known is shown =
     let put : State _ → List ParticipantState → State _ = λ (s : State _) (ms : List ParticipantState). record s { participants = ms } in
     ap (put w) (participants_after f a.participants.items p q q' known is shown)
 
-pub room_set : (n : ℕ) (ms : List Participant) (p : ℕ) (q q' : Participant) → All (HasRoom n) ms → p < length ms → q ≡ get_or ms p q → (HasRoom n q → HasRoom n q') → All (HasRoom n) (set ms p q')
+pub room_set : (n : ℕ) (ms : List Participant) (p : ℕ) (q q' : Participant) → All (BagsHaveRoom n) ms → p < length ms → q ≡ get_or ms p q → (BagsHaveRoom n q → BagsHaveRoom n q') → All (BagsHaveRoom n) (set ms p q')
 room_set n ms p q q' all known is keeps =
-    let mine : HasRoom n (get_or ms p q) = All-get_or (HasRoom n) ms p q known all in
-    let mine' : HasRoom n q = subst (λ (x : Participant). HasRoom n x) (sym is) mine in
-    All-set (HasRoom n) ms p q' (keeps mine') all
+    let mine : BagsHaveRoom n (get_or ms p q) = All-get_or (BagsHaveRoom n) ms p q known all in
+    let mine' : BagsHaveRoom n q = subst (λ (x : Participant). BagsHaveRoom n x) (sym is) mine in
+    All-set (BagsHaveRoom n) ms p q' (keeps mine') all
 
-pub changed_invariant : {T J : Type 0} (a : Inside T J) (p : ℕ) (q q' : Participant) → IsTable a → p < length a.participants.items → q ≡ get_or a.participants.items p q → (HasRoom (length a.states.items) q → HasRoom (length a.states.items) q') → waiting q' ≤ waiting q → IsTable (record a { participants = with_item a.participants p q' })
+pub changed_invariant : {T J : Type 0} (a : Inside T J) (p : ℕ) (q q' : Participant) → IsTable a → p < length a.participants.items → q ≡ get_or a.participants.items p q → (BagsHaveRoom (length a.states.items) q → BagsHaveRoom (length a.states.items) q') → waiting q' ≤ waiting q → IsTable (record a { participants = with_item a.participants p q' })
 changed_invariant a p q q' h known is keeps less =
     let parts = sum_by-set waiting a.participants.items p q' q known in
     let same = ap waiting is in
@@ -163,13 +163,13 @@ changed_invariant a p q q' h known is keeps less =
     }
 
 -- place i is used in another way, whatever else changes
-pub states_invariant : {T J : Type 0} (a : Inside T J) (v : Vec (Option T)) (jb : Vec (Option J)) (u : ℕ) (ms : Vec Participant) (fr idl : Vec ℕ) (i : ℕ) (s : Status) → IsTable a → length jb.items ≡ length a.jobs.items → is_job s ≡ is_job (get_or a.states.items i status.Free) → map is_some v.items ≡ map is_used (set a.states.items i s) → u ≡ sum_by usage (set a.states.items i s) → All (HasRoom (length a.states.items)) ms.items → sum_by waiting ms.items ≤ sum_by weight (set a.states.items i s) → Lists vacancy (set a.states.items i s) fr.items → length a.states.items ≤ vec_capacity fr → Lists idleness (set a.states.items i s) idl.items → length a.states.items ≤ vec_capacity idl → IsTable (record a { used = u; values = v; jobs = jb; states = with_item a.states i s; participants = ms; free = fr; idle = idl })
+pub states_invariant : {T J : Type 0} (a : Inside T J) (v : Vec (Option T)) (jb : Vec (Option J)) (u : ℕ) (ms : Vec Participant) (fr idl : Vec ℕ) (i : ℕ) (s : Status) → IsTable a → length jb.items ≡ length a.jobs.items → is_job s ≡ is_job (get_or a.states.items i status.Free) → map is_some v.items ≡ map is_used (set a.states.items i s) → u ≡ sum_by usage (set a.states.items i s) → All (BagsHaveRoom (length a.states.items)) ms.items → sum_by waiting ms.items ≤ sum_by weight (set a.states.items i s) → Lists vacancy (set a.states.items i s) fr.items → length a.states.items ≤ vec_capacity fr → Lists idleness (set a.states.items i s) idl.items → length a.states.items ≤ vec_capacity idl → IsTable (record a { used = u; values = v; jobs = jb; states = with_item a.states i s; participants = ms; free = fr; idle = idl })
 states_invariant a v jb u ms fr idl i s h many kind fill tally room waits slots roomy places roomier =
     let size = length-set {A = Status} a.states.items i s in
     record {
       filled = fill;
       tally = tally;
-      room = subst (λ (m : ℕ). All (HasRoom m) ms.items) (sym size) room;
+      room = subst (λ (m : ℕ). All (BagsHaveRoom m) ms.items) (sym size) room;
       waits = waits;
       kinds = map-set_same is_job a.states.items i s status.Free kind ∙ h.kinds ∙ ap (λ (n : ℕ). replicate a.slots false ++ replicate n true) (sym many);
       slots = record { lists = slots; room = omega (arith, size, roomy) };
@@ -201,7 +201,7 @@ retired_view a p i q q' known is shown =
     let put : State _ → List ParticipantState → State _ = λ (s : State _) (ms : List ParticipantState). record s { states = set a.states.items i status.Retired; participants = ms } in
     ap (put w) (participants_after (put_participant i) a.participants.items p q q' known is shown)
 
-pub retired_invariant : {T J : Type 0} (a : Inside T J) (p i : ℕ) (q q' : Participant) → IsTable a → p < length a.participants.items → i < length a.states.items → is_used (get_or a.states.items i status.Free) ≡ true → weight (get_or a.states.items i status.Free) ≡ 0 → q ≡ get_or a.participants.items p q → ((n : ℕ) → HasRoom n q → HasRoom n q') → waiting q' ≡ waiting q + 1 → IsTable (record a { states = with_item a.states i status.Retired; participants = with_item a.participants p q' })
+pub retired_invariant : {T J : Type 0} (a : Inside T J) (p i : ℕ) (q q' : Participant) → IsTable a → p < length a.participants.items → i < length a.states.items → is_used (get_or a.states.items i status.Free) ≡ true → weight (get_or a.states.items i status.Free) ≡ 0 → q ≡ get_or a.participants.items p q → ((n : ℕ) → BagsHaveRoom n q → BagsHaveRoom n q') → waiting q' ≡ waiting q + 1 → IsTable (record a { states = with_item a.states i status.Retired; participants = with_item a.participants p q' })
 retired_invariant a p i q q' h known inside was light is keeps more =
     let s = status.Retired in
     let sums = sum_by-set weight a.states.items i s status.Free inside in
@@ -317,7 +317,7 @@ light_sum f small (x ∷ xs) zero d lt none = omega (arith, light_all f small xs
 light_sum f small (x ∷ xs) (suc i) d lt none = omega (arith, light_sum f small xs i d (omega arith) none, sum_by-cons f x xs, small x)
 
 -- room for one more name
-pub stack_room : {X : Type 0} (f : X → ℕ) → ((x : X) → f x ≤ 1) → (all : List X) (i : ℕ) (d : X) (st : Vec ℕ) → IsStack f all st → i < length all → f (get_or all i d) ≡ 0 → vec_len st < vec_capacity st
+pub stack_room : {X : Type 0} (f : X → ℕ) → ((x : X) → f x ≤ 1) → (all : List X) (i : ℕ) (d : X) (st : Vec ℕ) → IsFreeList f all st → i < length all → f (get_or all i d) ≡ 0 → vec_len st < vec_capacity st
 stack_room f small all i d st h inside none = omega (arith, h.lists.count, h.room, st.ok.0, light_sum f small all i d inside none)
 
 pub vacancy-one : (s : Status) → vacancy s ≤ 1
@@ -462,7 +462,7 @@ job_room a i h is =
     (r.0, omega (arith, r.1, a.jobs.ok.0))
 
 -- a job is put into a place
-pub deferred_invariant : {T J : Type 0} (a : Inside T J) (p i : ℕ) (q q' : Participant) (jb : Vec (Option J)) (idl : Vec ℕ) → IsTable a → p < length a.participants.items → i < length a.states.items → get_or a.states.items i status.Free ≡ status.Idle → length jb.items ≡ length a.jobs.items → q ≡ get_or a.participants.items p q → ((n : ℕ) → HasRoom n q → HasRoom n q') → waiting q' ≡ waiting q + 1 → a.idle.items ≡ idl.items ++ i ∷ [] → vec_capacity a.idle ≤ vec_capacity idl → IsTable (record a { states = with_item a.states i status.Deferred; jobs = jb; participants = with_item a.participants p q'; idle = idl })
+pub deferred_invariant : {T J : Type 0} (a : Inside T J) (p i : ℕ) (q q' : Participant) (jb : Vec (Option J)) (idl : Vec ℕ) → IsTable a → p < length a.participants.items → i < length a.states.items → get_or a.states.items i status.Free ≡ status.Idle → length jb.items ≡ length a.jobs.items → q ≡ get_or a.participants.items p q → ((n : ℕ) → BagsHaveRoom n q → BagsHaveRoom n q') → waiting q' ≡ waiting q + 1 → a.idle.items ≡ idl.items ++ i ∷ [] → vec_capacity a.idle ≤ vec_capacity idl → IsTable (record a { states = with_item a.states i status.Deferred; jobs = jb; participants = with_item a.participants p q'; idle = idl })
 deferred_invariant a p i q q' jb idl h known inside was many is keeps more popped cap =
     let s = status.Deferred in
     let sums = sum_by-set weight a.states.items i s status.Free inside in
@@ -484,7 +484,7 @@ deferred_view a p i q q' known is shown =
     ap (put w) (participants_after (put_participant i) a.participants.items p q q' known is shown)
 
 -- an item that was due is gone
-pub vacated_invariant : {T J : Type 0} (a : Inside T J) (x : Option T) (p i : ℕ) (q q' : Participant) (fr : Vec ℕ) → IsTable a → p < length a.participants.items → i < length a.states.items → get_or a.states.items i status.Free ≡ status.Retired → x ≡ None → q ≡ get_or a.participants.items p q → ((n : ℕ) → HasRoom n q → HasRoom n q') → waiting q' + 1 ≡ waiting q → fr.items ≡ a.free.items ++ i ∷ [] → vec_capacity a.free ≤ vec_capacity fr → IsTable (record a { used = a.used - 1; values = with_item a.values i x; states = with_item a.states i status.Free; participants = with_item a.participants p q'; free = fr })
+pub vacated_invariant : {T J : Type 0} (a : Inside T J) (x : Option T) (p i : ℕ) (q q' : Participant) (fr : Vec ℕ) → IsTable a → p < length a.participants.items → i < length a.states.items → get_or a.states.items i status.Free ≡ status.Retired → x ≡ None → q ≡ get_or a.participants.items p q → ((n : ℕ) → BagsHaveRoom n q → BagsHaveRoom n q') → waiting q' + 1 ≡ waiting q → fr.items ≡ a.free.items ++ i ∷ [] → vec_capacity a.free ≤ vec_capacity fr → IsTable (record a { used = a.used - 1; values = with_item a.values i x; states = with_item a.states i status.Free; participants = with_item a.participants p q'; free = fr })
 vacated_invariant a x p i q q' fr h known inside was gone is keeps less pushed cap =
     let s = status.Free in
     let sums = sum_by-set weight a.states.items i s status.Free inside in
@@ -515,7 +515,7 @@ removed_invariant a x i fr h inside was light gone pushed cap =
     (lists_same idleness a.states.items i s status.Free a.idle.items inside (sym (used-idleness _ was)) h.places.lists) h.places.room
 
 -- a job that was due is gone
-pub run_invariant : {T J : Type 0} (a : Inside T J) (x : Option T) (jb : Vec (Option J)) (p i : ℕ) (q q' : Participant) (idl : Vec ℕ) → IsTable a → length jb.items ≡ length a.jobs.items → p < length a.participants.items → i < length a.states.items → get_or a.states.items i status.Free ≡ status.Deferred → x ≡ None → q ≡ get_or a.participants.items p q → ((n : ℕ) → HasRoom n q → HasRoom n q') → waiting q' + 1 ≡ waiting q → idl.items ≡ a.idle.items ++ i ∷ [] → vec_capacity a.idle ≤ vec_capacity idl → IsTable (record a { values = with_item a.values i x; jobs = jb; states = with_item a.states i status.Idle; participants = with_item a.participants p q'; idle = idl })
+pub run_invariant : {T J : Type 0} (a : Inside T J) (x : Option T) (jb : Vec (Option J)) (p i : ℕ) (q q' : Participant) (idl : Vec ℕ) → IsTable a → length jb.items ≡ length a.jobs.items → p < length a.participants.items → i < length a.states.items → get_or a.states.items i status.Free ≡ status.Deferred → x ≡ None → q ≡ get_or a.participants.items p q → ((n : ℕ) → BagsHaveRoom n q → BagsHaveRoom n q') → waiting q' + 1 ≡ waiting q → idl.items ≡ a.idle.items ++ i ∷ [] → vec_capacity a.idle ≤ vec_capacity idl → IsTable (record a { values = with_item a.values i x; jobs = jb; states = with_item a.states i status.Idle; participants = with_item a.participants p q'; idle = idl })
 run_invariant a x jb p i q q' idl h many known inside was gone is keeps less pushed cap =
     let s = status.Idle in
     let sums = sum_by-set weight a.states.items i s status.Free inside in
@@ -560,14 +560,14 @@ replicate-add zero n x = let e : 0 + n ≡ n = omega arith in ap (λ (k : ℕ). 
 replicate-add {X} (suc m) n x = let e : suc m + n ≡ suc (m + n) = omega arith in ap (λ (k : ℕ). replicate k x) e ∙ ap (λ (xs : List X). x ∷ xs) (replicate-add m n x)
 
 -- a new store
-pub table_fresh : {T J : Type 0} (a : Inside T J) (m n : ℕ) → a.used ≡ 0 → a.slots ≡ m → length a.jobs.items ≡ n → a.values.items ≡ replicate (m + n) None → a.states.items ≡ replicate m status.Free ++ replicate n status.Idle → All (HasRoom (m + n)) a.participants.items → sum_by waiting a.participants.items ≡ 0 → Lists vacancy a.states.items a.free.items → m + n ≤ vec_capacity a.free → Lists idleness a.states.items a.idle.items → m + n ≤ vec_capacity a.idle → IsStack emptiness a.cells.items a.free_cells → IsTable a
+pub table_fresh : {T J : Type 0} (a : Inside T J) (m n : ℕ) → a.used ≡ 0 → a.slots ≡ m → length a.jobs.items ≡ n → a.values.items ≡ replicate (m + n) None → a.states.items ≡ replicate m status.Free ++ replicate n status.Idle → All (BagsHaveRoom (m + n)) a.participants.items → sum_by waiting a.participants.items ≡ 0 → Lists vacancy a.states.items a.free.items → m + n ≤ vec_capacity a.free → Lists idleness a.states.items a.idle.items → m + n ≤ vec_capacity a.idle → IsFreeList emptiness a.cells.items a.free_cells → IsTable a
 table_fresh a m n u first many v s room none free roomy idle roomier cells =
     let size : length a.states.items ≡ m + n = ap length s ∙ length-append (replicate m status.Free) (replicate n status.Idle) ∙ omega (arith, length-replicate m status.Free, length-replicate n status.Idle) in
     let count : sum_by usage a.states.items ≡ 0 = ap (sum_by usage) s ∙ sum_by-append usage (replicate m status.Free) (replicate n status.Idle) ∙ omega (arith, sum_by-replicate usage m status.Free, sum_by-replicate usage n status.Idle) in
     record {
       filled = ap (map is_some) v ∙ map-replicate is_some (m + n) None ∙ replicate-add m n false ∙ sym (ap (map is_used) s ∙ map-append is_used (replicate m status.Free) (replicate n status.Idle) ∙ ap (λ (bs : List Bool). bs ++ map is_used (replicate n status.Idle)) (map-replicate is_used m status.Free) ∙ ap (λ (bs : List Bool). replicate m false ++ bs) (map-replicate is_used n status.Idle));
       tally = u ∙ sym count;
-      room = subst (λ (k : ℕ). All (HasRoom k) a.participants.items) (sym size) room;
+      room = subst (λ (k : ℕ). All (BagsHaveRoom k) a.participants.items) (sym size) room;
       waits = omega (arith, none);
       kinds = ap (map is_job) s ∙ map-append is_job (replicate m status.Free) (replicate n status.Idle) ∙ ap (λ (bs : List Bool). bs ++ map is_job (replicate n status.Idle)) (map-replicate is_job m status.Free) ∙ ap (λ (bs : List Bool). replicate m false ++ bs) (map-replicate is_job n status.Idle) ∙ ap (λ (k : ℕ). replicate k false ++ replicate n true) (sym first) ∙ ap (λ (k : ℕ). replicate a.slots false ++ replicate k true) (sym many);
       slots = record { lists = free; room = omega (arith, size, roomy) };

@@ -5,7 +5,7 @@ use Rattle.std.proofs.lemmas.Bool.{false≢true}
 use Rattle.std.proofs.lemmas.Bool.Decides.{eqb_tells}
 use Rattle.sdd_base.specs.Holding.{Hold}
 use Rattle.sdd_base.specs.State.{State, ParticipantState, participant_at, nobody, occupied}
-use Rattle.sdd_base.specs.Steps.{rotated, rotated_each, is_nil, bags_empty, Swept, AllSwept}
+use Rattle.sdd_base.specs.Steps.{participant_rotated, rotated_each, is_nil, bags_empty, Swept, AllSwept}
 use Rattle.sdd_base.specs.Place.{IsPlace}
 use Rattle.sdd_base.specs.Frame.{OnlyParticipant}
 use Rattle.sdd_base.proofs.PlaceLemmas.{Rotates, rotates}
@@ -46,13 +46,13 @@ pub falls : {T : Type 0} (w w' : State T) (p : ℕ) → Rotates p w w' → bags_
 falls w w' p r some = falls_by (participant_at w p).current (participant_at w p).prior (participant_at w p).oldest (participant_at w' p).current (participant_at w' p).prior (participant_at w' p).oldest _ _ some r.prior r.oldest r.occupied r.current
 
 -- one rotation more
-pub each-push : {T : Type 0} (holds : T → List Hold) (ps : List ℕ) (p : ℕ) (w : State T) → rotated_each holds (ps ++ p ∷ []) w ≡ rotated holds p (rotated_each holds ps w)
+pub each-push : {T : Type 0} (holds : T → List Hold) (ps : List ℕ) (p : ℕ) (w : State T) → rotated_each holds (ps ++ p ∷ []) w ≡ participant_rotated holds p (rotated_each holds ps w)
 each-push holds [] p w = refl
-each-push holds (q ∷ ps) p w = each-push holds ps p (rotated holds q w)
+each-push holds (q ∷ ps) p w = each-push holds ps p (participant_rotated holds q w)
 
 pub each-append : {T : Type 0} (holds : T → List Hold) (ps qs : List ℕ) (w : State T) → rotated_each holds (ps ++ qs) w ≡ rotated_each holds qs (rotated_each holds ps w)
 each-append holds [] qs w = refl
-each-append holds (p ∷ ps) qs w = each-append holds ps qs (rotated holds p w)
+each-append holds (p ∷ ps) qs w = each-append holds ps qs (participant_rotated holds p w)
 
 -- as far as the loop has come
 pub record Sweeping {T : Type 0} (holds : T → List Hold) (p : ℕ) (w v : State T) : Type 0 where
@@ -66,15 +66,15 @@ pub record Sweeping {T : Type 0} (holds : T → List Hold) (p : ℕ) (w v : Stat
 pub sweeping_start : {T : Type 0} (holds : T → List Hold) (p : ℕ) (w : State T) → p < length w.participants → IsPlace w → Sweeping holds p w w
 sweeping_start holds p w participant place = record { participant = participant; place = place; turns = 0; now = refl; known = refl; only = λ k n. refl }
 
-pub sweeping_next : {T : Type 0} (holds : T → List Hold) (p : ℕ) (w v v' : State T) → Sweeping holds p w v → v' ≡ rotated holds p v → bags_empty (participant_at v p) ≡ false → (left v' p < left v p) × Sweeping holds p w v'
+pub sweeping_next : {T : Type 0} (holds : T → List Hold) (p : ℕ) (w v v' : State T) → Sweeping holds p w v → v' ≡ participant_rotated holds p v → bags_empty (participant_at v p) ≡ false → (left v' p < left v p) × Sweeping holds p w v'
 sweeping_next {T} holds p w v v' h e some =
     let r = rotates holds v p h.place h.participant in
-    let u : State T = rotated holds p v in
+    let u : State T = participant_rotated holds p v in
     let next : Sweeping holds p w u = record {
       participant = omega (arith, r.known, h.participant);
       place = r.place;
       turns = h.turns + 1;
-      now = ap (λ (x : State T). rotated holds p x) h.now ∙ sym (each-push holds (replicate h.turns p) p w) ∙ ap (λ (ps : List ℕ). rotated_each holds ps w) (sym (replicate-push h.turns p));
+      now = ap (λ (x : State T). participant_rotated holds p x) h.now ∙ sym (each-push holds (replicate h.turns p) p w) ∙ ap (λ (ps : List ℕ). rotated_each holds ps w) (sym (replicate-push h.turns p));
       known = r.known ∙ h.known;
       only = λ k n. r.others k n ∙ h.only k n;
     } in

@@ -3,7 +3,7 @@ use Rattle.std.specs.Prelude.{◌≡◌, ℕ, ◌+◌, ◌<◌, ◌≤◌, Optio
 use Rattle.std.specs.List.{sum_by}
 use Rattle.sdd_base.specs.Holding.{Hold, OwnedItem, SharedItem, OwnedIn, SharedIn}
 use Rattle.sdd_base.specs.State.{State, status_at, value_at, cell_at, placed, with_value, with_status, with_cell, waiting_as, IsFree, IsFreeCell, IsIdle, fresh}
-use Rattle.sdd_base.specs.Steps.{hit, held_in, given, opened, closed, set_aside, purged, handed}
+use Rattle.sdd_base.specs.Steps.{hit, held_in, given, guard_opened, guard_closed, set_aside, purged, handed_over}
 use Rattle.sdd_base.specs.Dropping.{Dropped}
 use Rattle.sdd_base.specs.Frame.{IsLive}
 use Rattle.sdd_base.specs.Place.{IsPlace, IsShared, IsOwned, IsSharedCell}
@@ -116,8 +116,8 @@ pub record OwnersAreCounted {T : Type 0} (holds : T → List Hold) : Type 0 wher
   -- an item is written: what it will hold comes out of the hand, and what it held into it
   pub written : (i : ℕ) (u v : T) (hand : List Hold) (w : State T) → i < length w.values → value_at w i ≡ Some u → Counted holds (holds v ++ hand) w → Counted holds (holds u ++ hand) (with_value i v w)
   -- guards open and close
-  pub opened : (p : ℕ) (hand : List Hold) (w : State T) → IsPlace w → p < length w.participants → Counted holds hand w → Counted holds hand (opened holds p w)
-  pub closed : (p : ℕ) (hand : List Hold) (w : State T) → Counted holds hand w → Counted holds hand (closed p w)
+  pub opened : (p : ℕ) (hand : List Hold) (w : State T) → IsPlace w → p < length w.participants → Counted holds hand w → Counted holds hand (guard_opened holds p w)
+  pub closed : (p : ℕ) (hand : List Hold) (w : State T) → Counted holds hand w → Counted holds hand (guard_closed p w)
   -- a cell of shared items is made, changed and ended
   pub cell_made : (c : ℕ) (o : Option ℕ) (t : Tag) (hand : List Hold) (w : State T) → IsFreeCell w c → Counted holds (kept_by (cell.OfShared o t) ++ hand) w → Counted holds (SharedIn c ∷ hand) (with_cell c (cell.OfShared o t) w)
   pub cell_swapped : (c : ℕ) (o o' : Option ℕ) (t t' : Tag) (hand : List Hold) (w : State T) → c < length w.cells → cell_at w c ≡ cell.OfShared o t → Counted holds (kept_by (cell.OfShared o' t') ++ hand) w → Counted holds (kept_by (cell.OfShared o t) ++ hand) (with_cell c (cell.OfShared o' t') w)
@@ -137,13 +137,13 @@ pub record OwnersAreCounted {T : Type 0} (holds : T → List Hold) : Type 0 wher
   pub collected_owned : (p n i : ℕ) (is : List ℕ) (hand : List Hold) (w : State T) → Counted holds (OwnedItem i ∷ hand) w → Counted holds hand (set_aside p n is i w)
   pub collected_shared : (p n i : ℕ) (is : List ℕ) (hand : List Hold) (w : State T) → status_at w i ≡ status.Shared 1 → Counted holds (SharedItem i ∷ hand) w → Counted holds hand (set_aside p n is i w)
   pub purged : (p : ℕ) (is : List ℕ) (hand : List Hold) (w : State T) → IsPlace w → p < length w.participants → Counted holds hand w → Counted holds hand (purged holds p is w)
-  pub handed : (p : ℕ) (is : List ℕ) (hand : List Hold) (w : State T) → Counted holds hand w → Counted holds hand (handed p is w)
+  pub handed : (p : ℕ) (is : List ℕ) (hand : List Hold) (w : State T) → Counted holds hand w → Counted holds hand (handed_over p is w)
   -- a job waits
   pub deferred : (p i : ℕ) (hand : List Hold) (w : State T) → IsIdle w i → Counted holds hand w → Counted holds hand (waiting_as status.Deferred p i w)
 
 -- what a cell keeps stays while a guard opens, whatever that reclaims
 pub record HeldCellsStay {T : Type 0} (holds : T → List Hold) : Type 0 where
   -- where the cell's owner is in hand
-  pub hand : (c p : ℕ) (hand : List Hold) (w : State T) → IsPlace w → p < length w.participants → 1 ≤ tally (SharedIn c) hand → Counted holds hand w → cell_at (opened holds p w) c ≡ cell_at w c
+  pub hand : (c p : ℕ) (hand : List Hold) (w : State T) → IsPlace w → p < length w.participants → 1 ≤ tally (SharedIn c) hand → Counted holds hand w → cell_at (guard_opened holds p w) c ≡ cell_at w c
   -- where it is in an item that has an owner
-  pub item : (c i p : ℕ) (hand : List Hold) (w : State T) → IsPlace w → p < length w.participants → IsLive w i → 1 ≤ tally (SharedIn c) (held_in holds (value_at w i)) → Counted holds hand w → cell_at (opened holds p w) c ≡ cell_at w c
+  pub item : (c i p : ℕ) (hand : List Hold) (w : State T) → IsPlace w → p < length w.participants → IsLive w i → 1 ≤ tally (SharedIn c) (held_in holds (value_at w i)) → Counted holds hand w → cell_at (guard_opened holds p w) c ≡ cell_at w c

@@ -7,15 +7,15 @@ use Rattle.sdd_base.specs.declared.status.Cell.{Cell}
 use Rattle.sdd_base.specs.declared.status.Cell.TheVariants as cell
 
 -- the slot of the item that a cell keeps, 0 where it keeps none
-abbrev pub slot_of : Cell → ℕ
-slot_of cell.Free = 0
-slot_of (cell.OfOwned o t) = 0
-slot_of (cell.OfShared None t) = 0
-slot_of (cell.OfShared (Some i) t) = i
-slot_of (cell.OfRaw o t) = 0
+abbrev pub cell_slot : Cell → ℕ
+cell_slot cell.Free = 0
+cell_slot (cell.OfOwned o t) = 0
+cell_slot (cell.OfShared None t) = 0
+cell_slot (cell.OfShared (Some i) t) = i
+cell_slot (cell.OfRaw o t) = 0
 
 abbrev pub slot_in : {T : Type 0} → State T → ℕ → ℕ
-slot_in w c = slot_of (cell_at w c)
+slot_in w c = cell_slot (cell_at w c)
 
 -- cell c keeps an owner of a shared item
 pub record IsFilled {T : Type 0} (w : State T) (c : ℕ) : Type 0 where

@@ -2,7 +2,7 @@
 use Rattle.std.specs.Prelude.{◌≡◌, ℕ, ◌<◌, ◌≤◌, false, cond, is_some, Option, None, Some, List, [], ◌∷◌, ◌++◌, length}
 use Rattle.sdd_base.specs.Holding.{Hold}
 use Rattle.sdd_base.specs.State.{State, status_at, placed, with_value, with_status, with_cell, waiting_as, IsFree, IsIdle, fresh}
-use Rattle.sdd_base.specs.Steps.{times, given, opened, closed, overdue, set_aside, enqueued, purged, left_waiting, handed}
+use Rattle.sdd_base.specs.Steps.{times, given, guard_opened, guard_closed, overdue, set_aside, enqueued, purged, left_waiting, handed_over}
 use Rattle.sdd_base.specs.Dropping.{Dropped}
 use Rattle.sdd_base.specs.Place.{IsPlace}
 use Rattle.sdd_base.specs.declared.sizes.Sizes.{Sizes}
@@ -25,12 +25,12 @@ abbrev pub note_at : {T : Type 0} → State T → ℕ → Option ℕ
 note_at w i = note_of (status_at w i)
 
 -- 1 for a slot of which a count was noted
-abbrev pub noted : Status → ℕ
-noted s = cond (is_some (note_of s)) 1 0
+abbrev pub note_count : Status → ℕ
+note_count s = cond (is_some (note_of s)) 1 0
 
 -- the collectors, one behind the other, name each slot of which a count was noted once, and no other
 abbrev pub AreCollected : {T : Type 0} → List ℕ → State T → Type 0
-AreCollected all w = (j : ℕ) → times j all ≡ noted (status_at w j)
+AreCollected all w = (j : ℕ) → times j all ≡ note_count (status_at w j)
 
 -- the notes rise along a collector from low on, at most to the count
 abbrev pub NotesRise : {T : Type 0} → State T → ℕ → List ℕ → Type 0
@@ -62,8 +62,8 @@ pub record CollectorsAreInOrder {T : Type 0} (holds : T → List Hold) : Type 0 
   pub given : (p : ℕ) (h : Hold) (w : State T) → SameNotes w (given p h w)
   pub dropped : (h : Hold) (w w' : State T) → IsPlace w → Dropped holds h w w' → SameNotes w w'
   pub deferred : (p i : ℕ) (w : State T) → IsIdle w i → SameNotes w (waiting_as status.Deferred p i w)
-  pub opened : (p : ℕ) (w : State T) → IsPlace w → p < length w.participants → SameNotes w (opened holds p w)
-  pub closed : (p : ℕ) (w : State T) → SameNotes w (closed p w)
+  pub opened : (p : ℕ) (w : State T) → IsPlace w → p < length w.participants → SameNotes w (guard_opened holds p w)
+  pub closed : (p : ℕ) (w : State T) → SameNotes w (guard_closed p w)
   -- so collectors name the same slots, and their notes rise
   pub named : (all : List ℕ) (w w' : State T) → SameNotes w w' → AreCollected all w → AreCollected all w'
   pub rise : (low : ℕ) (mine : List ℕ) (w w' : State T) → SameNotes w w' → NotesRise w low mine → NotesRise w' low mine
@@ -72,4 +72,4 @@ pub record CollectorsAreInOrder {T : Type 0} (holds : T → List Hold) : Type 0 
   -- an item is collected, what is overdue is reclaimed, and the rest is handed over
   pub collected : (p n i : ℕ) (mine others : List ℕ) (w : State T) → length mine < n → i < length w.states → note_at w i ≡ None → IsInOrder mine others w → IsInOrder (enqueued n mine i) others (set_aside p n mine i w)
   pub purged : (p : ℕ) (mine others : List ℕ) (w : State T) → IsInOrder mine others w → IsInOrder (left_waiting holds p mine w) others (purged holds p mine w) × NoneOverdue (left_waiting holds p mine w) (purged holds p mine w)
-  pub handed : (p : ℕ) (mine others : List ℕ) (w : State T) → AreCollected (mine ++ others) w → AreCollected others (handed p mine w)
+  pub handed : (p : ℕ) (mine others : List ℕ) (w : State T) → AreCollected (mine ++ others) w → AreCollected others (handed_over p mine w)

@@ -2,7 +2,7 @@
 use Rattle.std.specs.Prelude.{◌≡◌, ◌≢◌, ℕ, zero, suc, ◌+◌, ◌-◌, ◌<◌, ◌≤◌, Bool, true, false, ltb, Option, None, Some, List, length}
 use Rattle.sdd_base.specs.Holding.{Hold, OwnedItem, SharedItem, OwnedIn, SharedIn}
 use Rattle.sdd_base.specs.State.{State, participant_at, local_at, status_at, value_at, cell_at, with_local, in_use}
-use Rattle.sdd_base.specs.Steps.{opened, closed, released, bags_empty, NoneOpen}
+use Rattle.sdd_base.specs.Steps.{guard_opened, guard_closed, released, bags_empty, NoneOpen}
 use Rattle.sdd_base.specs.Place.{IsPlace, held_times}
 use Rattle.sdd_base.specs.Frame.{OnlyParticipant}
 use Rattle.sdd_base.specs.Counting.{tally}
@@ -47,7 +47,7 @@ pub record IsQuiet {T : Type 0} (w : State T) (p : ℕ) : Type 0 where
   pub slow : (local_at w p).accelerated ≡ false
 
 -- all but the participants stands as it was
-pub record Stands {T : Type 0} (w w' : State T) : Type 0 where
+pub record OnlyParticipantsChange {T : Type 0} (w w' : State T) : Type 0 where
   pub count : w'.count ≡ w.count
   pub values : w'.values ≡ w.values
   pub states : w'.states ≡ w.states
@@ -56,12 +56,12 @@ pub record Stands {T : Type 0} (w w' : State T) : Type 0 where
 -- what guards and owners that are given back leave
 pub record GivesOnly {T : Type 0} (holds : T → List Hold) : Type 0 where
   -- a guard that opens only takes away; it counts
-  pub opening : (p : ℕ) (w : State T) → IsPlace w → p < length w.participants → Shrinks w (opened holds p w) × (in_use (opened holds p w) ≤ in_use w) × ((local_at (opened holds p w) p).nesting ≡ (local_at w p).nesting + 1)
+  pub opening : (p : ℕ) (w : State T) → IsPlace w → p < length w.participants → Shrinks w (guard_opened holds p w) × (in_use (guard_opened holds p w) ≤ in_use w) × ((local_at (guard_opened holds p w) p).nesting ≡ (local_at w p).nesting + 1)
   -- one that closes leaves all items and cells
-  pub closing : (p : ℕ) (w : State T) → p < length w.participants → ((closed p w).values ≡ w.values) × ((closed p w).states ≡ w.states) × ((closed p w).cells ≡ w.cells) × ((local_at (closed p w) p).nesting ≡ (local_at w p).nesting - 1)
+  pub closing : (p : ℕ) (w : State T) → p < length w.participants → ((guard_closed p w).values ≡ w.values) × ((guard_closed p w).states ≡ w.states) × ((guard_closed p w).cells ≡ w.cells) × ((local_at (guard_closed p w) p).nesting ≡ (local_at w p).nesting - 1)
   -- where nothing waits for p, its guards leave the count too, and nothing waits for it
-  pub quiet_opening : (p : ℕ) (w : State T) → IsPlace w → p < length w.participants → IsQuiet w p → Stands w (opened holds p w) × IsQuiet (opened holds p w) p
-  pub quiet_closing : (p : ℕ) (w : State T) → p < length w.participants → IsQuiet w p → Stands w (closed p w) × IsQuiet (closed p w) p
+  pub quiet_opening : (p : ℕ) (w : State T) → IsPlace w → p < length w.participants → IsQuiet w p → OnlyParticipantsChange w (guard_opened holds p w) × IsQuiet (guard_opened holds p w) p
+  pub quiet_closing : (p : ℕ) (w : State T) → p < length w.participants → IsQuiet w p → OnlyParticipantsChange w (guard_closed p w) × IsQuiet (guard_closed p w) p
   -- an owner that is given back takes nothing away yet
   pub giving_back : (p i : ℕ) (w : State T) → IsPlace w → p < length w.participants → Shrinks w (released p i w) × (in_use (released p i w) ≡ in_use w) × ((released p i w).count ≡ w.count)
 
@@ -71,7 +71,7 @@ accelerated p w = with_local p (record (local_at w p) { accelerated = true }) w
 
 -- p opens a guard, accelerates it and closes it
 abbrev pub passed : {T : Type 0} → (T → List Hold) → ℕ → State T → State T
-passed holds p w = closed p (accelerated p (opened holds p w))
+passed holds p w = guard_closed p (accelerated p (guard_opened holds p w))
 
 -- so n times, one by one
 abbrev pub passed_times : {T : Type 0} → (T → List Hold) → ℕ → ℕ → State T → State T

@@ -175,8 +175,8 @@ abbrev pub with_value : {T : Type 0} → ℕ → T → State T → State T
 with_value i v w = record w { values = set w.values i (Some v) }
 
 -- slot i is free, and its value is gone
-abbrev pub removed : {T : Type 0} → ℕ → State T → State T
-removed i w = record w { values = set w.values i None; states = set w.states i status.Free }
+abbrev pub slot_freed : {T : Type 0} → ℕ → State T → State T
+slot_freed i w = record w { values = set w.values i None; states = set w.states i status.Free }
 
 abbrev pub raised : {T : Type 0} → State T → State T
 raised w = record w { count = w.count + 1 }
@@ -185,11 +185,11 @@ raised w = record w { count = w.count + 1 }
 abbrev pub changing : {T : Type 0} → ℕ → (ParticipantState → ParticipantState) → State T → State T
 changing p f w = record w { participants = set w.participants p (f (participant_at w p)) }
 
-abbrev pub marked : LocalState → ParticipantState → ParticipantState
-marked k m = record m { local = k }
+abbrev pub with_local_state : LocalState → ParticipantState → ParticipantState
+with_local_state k m = record m { local = k }
 
 abbrev pub with_local : {T : Type 0} → ℕ → LocalState → State T → State T
-with_local p k w = changing p (marked k) w
+with_local p k w = changing p (with_local_state k) w
 
 -- place i waits in the current bag of m, which has garbage from now on
 abbrev pub put_participant : ℕ → ParticipantState → ParticipantState
@@ -203,11 +203,11 @@ abbrev pub retired : {T : Type 0} → ℕ → ℕ → State T → State T
 retired p i w = waiting_as status.Retired p i w
 
 -- the bags move on, and what was in the oldest is due
-abbrev pub turned : ParticipantState → ParticipantState
-turned m = record m { due = reverse m.oldest; oldest = m.prior; prior = m.current; current = [] }
+abbrev pub bags_moved_on : ParticipantState → ParticipantState
+bags_moved_on m = record m { due = reverse m.oldest; oldest = m.prior; prior = m.current; current = [] }
 
 abbrev pub rotated_bags : {T : Type 0} → ℕ → State T → State T
-rotated_bags p w = changing p turned w
+rotated_bags p w = changing p bags_moved_on w
 
 -- the place that came last into the current bag is due
 abbrev pub recalled : ParticipantState → ParticipantState

@@ -2,7 +2,7 @@
 use Rattle.std.specs.Prelude.{◌≡◌, ℕ, zero, suc, ◌+◌, ◌-◌, ◌==◌, Bool, true, false, not, ◌&&◌, ◌||◌, cond, Option, None, Some, List, [], ◌∷◌, ◌++◌, length, replicate, min, leb, ltb}
 use Rattle.std.specs.List.{list_all, sum_by}
 use Rattle.sdd_base.specs.Holding.{Hold, OwnedItem, SharedItem, OwnedIn, SharedIn}
-use Rattle.sdd_base.specs.State.{State, ParticipantState, status_at, value_at, cell_at, participant_at, local_at, with_status, with_cell, with_local, retired, removed, rotated_bags, taken, raised, is_present}
+use Rattle.sdd_base.specs.State.{State, ParticipantState, status_at, value_at, cell_at, participant_at, local_at, with_status, with_cell, with_local, retired, slot_freed, rotated_bags, taken, raised, is_present}
 use Rattle.sdd_base.specs.declared.status.Status.{Status}
 use Rattle.sdd_base.specs.declared.status.Status.TheVariants as status
 use Rattle.sdd_base.specs.declared.status.Cell.{Cell}
@@ -115,18 +115,18 @@ abbrev pub settled : {T : Type 0} → ℕ → State T → State T
 settled p w = with_local p (record (local_at w p) { garbage = (local_at w p).garbage && not (bags_empty (participant_at w p)) }) w
 
 -- the bags of p move on once, and what was in the oldest is reclaimed
-abbrev pub rotated : {T : Type 0} → (T → List Hold) → ℕ → State T → State T
-rotated holds p w = settled p (reclaimed holds p (length (participant_at w p).oldest) (rotated_bags p w))
+abbrev pub participant_rotated : {T : Type 0} → (T → List Hold) → ℕ → State T → State T
+participant_rotated holds p w = settled p (reclaimed holds p (length (participant_at w p).oldest) (rotated_bags p w))
 
 -- p publishes the count
-abbrev pub begun : {T : Type 0} → ℕ → State T → State T
-begun p w = with_local p (record (local_at w p) { nesting = 1; published = w.count; previous = w.count; accelerated = false }) w
+abbrev pub count_published : {T : Type 0} → ℕ → State T → State T
+count_published p w = with_local p (record (local_at w p) { nesting = 1; published = w.count; previous = w.count; accelerated = false }) w
 
 -- p opens a guard: an outermost one publishes the count, and rotates where that isn't the one found before
-abbrev pub opened : {T : Type 0} → (T → List Hold) → ℕ → State T → State T
-opened holds p w =
+abbrev pub guard_opened : {T : Type 0} → (T → List Hold) → ℕ → State T → State T
+guard_opened holds p w =
     cond ((local_at w p).nesting == 0)
-    (cond ((local_at w p).previous == w.count) (begun p w) (rotated holds p (begun p w)))
+    (cond ((local_at w p).previous == w.count) (count_published p w) (participant_rotated holds p (count_published p w)))
     (with_local p (record (local_at w p) { nesting = (local_at w p).nesting + 1 }) w)
 
 -- the count is raised by one if every open guard published it, and it isn't at its end
@@ -141,8 +141,8 @@ abbrev pub scans : LocalState → Bool
 scans m = m.accelerated || (m.garbage && leb 64 (closings_after m))
 
 -- p closes a guard
-abbrev pub closed : {T : Type 0} → ℕ → State T → State T
-closed p w =
+abbrev pub guard_closed : {T : Type 0} → ℕ → State T → State T
+guard_closed p w =
     cond ((local_at w p).nesting == 1)
     (cond (scans (local_at w p))
     (with_local p (record (local_at w p) { nesting = 0; closings = 0 }) (scanned w))
@@ -168,12 +168,12 @@ IsTimely w (i ∷ is) = overdue w.count (status_at w i) ≡ false
 -- p reclaims what is overdue at the front of a private bag
 abbrev pub purged : {T : Type 0} → (T → List Hold) → ℕ → List ℕ → State T → State T
 purged holds p [] w = w
-purged holds p (i ∷ is) w = cond (overdue w.count (status_at w i)) (purged holds p is (given_all p (held_in holds (value_at w i)) (removed i w))) w
+purged holds p (i ∷ is) w = cond (overdue w.count (status_at w i)) (purged holds p is (given_all p (held_in holds (value_at w i)) (slot_freed i w))) w
 
 -- what that leaves in the bag
 abbrev pub left_waiting : {T : Type 0} → (T → List Hold) → ℕ → List ℕ → State T → List ℕ
 left_waiting holds p [] w = []
-left_waiting holds p (i ∷ is) w = cond (overdue w.count (status_at w i)) (left_waiting holds p is (given_all p (held_in holds (value_at w i)) (removed i w))) (i ∷ is)
+left_waiting holds p (i ∷ is) w = cond (overdue w.count (status_at w i)) (left_waiting holds p is (given_all p (held_in holds (value_at w i)) (slot_freed i w))) (i ∷ is)
 
 -- an item waits in a private bag with room for n, which notes the count; where that is full, p retires it
 abbrev pub set_aside : {T : Type 0} → ℕ → ℕ → List ℕ → ℕ → State T → State T
@@ -183,24 +183,24 @@ abbrev pub enqueued : ℕ → List ℕ → ℕ → List ℕ
 enqueued n is i = cond (ltb (length is) n) (is ++ i ∷ []) is
 
 -- what waits in a private bag is retired by p
-abbrev pub handed_as : {T : Type 0} → Status → ℕ → ℕ → State T → State T
-handed_as status.Free p i w = w
-handed_as status.Owned p i w = w
-handed_as (status.Shared n) p i w = w
-handed_as status.Raw p i w = w
-handed_as (status.Collected n) p i w = retired p i w
-handed_as status.Retired p i w = w
-handed_as status.Idle p i w = w
-handed_as status.Deferred p i w = w
+abbrev pub handed_over_as : {T : Type 0} → Status → ℕ → ℕ → State T → State T
+handed_over_as status.Free p i w = w
+handed_over_as status.Owned p i w = w
+handed_over_as (status.Shared n) p i w = w
+handed_over_as status.Raw p i w = w
+handed_over_as (status.Collected n) p i w = retired p i w
+handed_over_as status.Retired p i w = w
+handed_over_as status.Idle p i w = w
+handed_over_as status.Deferred p i w = w
 
-abbrev pub handed : {T : Type 0} → ℕ → List ℕ → State T → State T
-handed p [] w = w
-handed p (i ∷ is) w = handed p is (handed_as (status_at w i) p i w)
+abbrev pub handed_over : {T : Type 0} → ℕ → List ℕ → State T → State T
+handed_over p [] w = w
+handed_over p (i ∷ is) w = handed_over p is (handed_over_as (status_at w i) p i w)
 
 -- participants rotate one after the other
 abbrev pub rotated_each : {T : Type 0} → (T → List Hold) → List ℕ → State T → State T
 rotated_each holds [] w = w
-rotated_each holds (p ∷ ps) w = rotated_each holds ps (rotated holds p w)
+rotated_each holds (p ∷ ps) w = rotated_each holds ps (participant_rotated holds p w)
 
 -- p rotated until its bags were empty
 pub record Swept {T : Type 0} (holds : T → List Hold) (p : ℕ) (w w' : State T) : Type 0 where

@@ -65,8 +65,8 @@ abbrev pub loaded_slot : {T : Type 0} → Loaded T → Option ℕ
 loaded_slot r = r.slot
 
 -- the participant whose guard it is
-abbrev pub participant_of : WorldGuard → ℕ
-participant_of g = g.participant
+abbrev pub guard_participant : WorldGuard → ℕ
+guard_participant g = g.participant
 
 -- the slots that wait in a private bag, in the order in which they came, and for how many it has room
 abbrev pub waiting_in : {T : Type 0} → PrivateCollector T → List ℕ

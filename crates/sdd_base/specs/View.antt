@@ -29,7 +29,7 @@ abbrev pub waiting : Participant → ℕ
 waiting p = length p.current.items + length p.prior.items + length p.oldest.items + length p.due.items
 
 -- each bag of a participant has room for n places
-pub record HasRoom (n : ℕ) (p : Participant) : Type 0 where
+pub record BagsHaveRoom (n : ℕ) (p : Participant) : Type 0 where
   pub current : n ≤ vec_capacity p.current
   pub prior : n ≤ vec_capacity p.prior
   pub oldest : n ≤ vec_capacity p.oldest
@@ -41,17 +41,17 @@ pub record Lists {X : Type 0} (f : X → ℕ) (all : List X) (names : List ℕ) 
   pub count : length names ≡ sum_by f all
 
 -- a stack of such names, with room for all
-pub record IsStack {X : Type 0} (f : X → ℕ) (all : List X) (stack : Vec ℕ) : Type 0 where
+pub record IsFreeList {X : Type 0} (f : X → ℕ) (all : List X) (stack : Vec ℕ) : Type 0 where
   pub lists : Lists f all stack.items
   pub room : length all ≤ vec_capacity stack
 
 pub record IsTable {T J : Type 0} (w : Inside T J) : Type 0 where
   pub filled : map is_some w.values.items ≡ map is_used w.states.items
   pub tally : w.used ≡ sum_by usage w.states.items
-  pub room : All (HasRoom (length w.states.items)) w.participants.items
+  pub room : All (BagsHaveRoom (length w.states.items)) w.participants.items
   pub waits : sum_by waiting w.participants.items ≤ sum_by weight w.states.items
   -- the slots come first, then the job places
   pub kinds : map is_job w.states.items ≡ replicate w.slots false ++ replicate (length w.jobs.items) true
-  pub slots : IsStack vacancy w.states.items w.free
-  pub places : IsStack idleness w.states.items w.idle
-  pub cells : IsStack emptiness w.cells.items w.free_cells
+  pub slots : IsFreeList vacancy w.states.items w.free
+  pub places : IsFreeList idleness w.states.items w.idle
+  pub cells : IsFreeList emptiness w.cells.items w.free_cells

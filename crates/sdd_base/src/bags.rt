@@ -1,8 +1,8 @@
 //! The bags of a participant, with room for every place from the start.
 
 ghost use Rattle.std.specs.Prelude.{◌≡◌, ◌≢◌, ℕ, ◌+◌, ◌<◌, ◌≤◌, List, [], ◌∷◌, length, MatchOption, IfOk, vec_capacity};
-ghost use Rattle.sdd_base.specs.State.{nobody, put_participant, turned, left_due, recalled};
-ghost use Rattle.sdd_base.specs.View.{HasRoom, participant_state, waiting};
+ghost use Rattle.sdd_base.specs.State.{nobody, put_participant, bags_moved_on, left_due, recalled};
+ghost use Rattle.sdd_base.specs.View.{BagsHaveRoom, participant_state, waiting};
 
 use crate::status::LocalState;
 use std::alloc::{AllocError, Global};
@@ -22,7 +22,7 @@ impl Participant {
     /// A participant whose bags have room for `n` places each.
     pub(crate) fn new(alloc: Global, n: usize) -> Result<Participant, AllocError>
         ensures shown { IfOk result (λ q. participant_state q ≡ nobody) }
-        ensures room { IfOk result (λ q. HasRoom n q) }
+        ensures room { IfOk result (λ q. BagsHaveRoom n q) }
         ensures waits { IfOk result (λ q. waiting q ≡ 0) }
     {
         Ok(Participant {
@@ -45,7 +45,7 @@ impl Participant {
     pub(crate) fn put(&mut self, i: usize)
         requires { length self.old.current.items < vec_capacity self.old.current }
         ensures shown { participant_state self.new ≡ put_participant i (participant_state self.old) }
-        ensures room { (n : ℕ) → HasRoom n self.old → HasRoom n self.new }
+        ensures room { (n : ℕ) → BagsHaveRoom n self.old → BagsHaveRoom n self.new }
         ensures waits { waiting self.new ≡ waiting self.old + 1 }
     {
         self.local.garbage = true;
@@ -58,7 +58,7 @@ impl Participant {
     /// The next place that is due.
     pub(crate) fn next(&mut self) -> Option<usize>
         ensures shown { MatchOption result (((participant_state self.old).due ≡ []) × (participant_state self.new ≡ participant_state self.old)) (λ i. (is : List ℕ) × ((participant_state self.old).due ≡ i ∷ is) × (participant_state self.new ≡ left_due is (participant_state self.old))) }
-        ensures room { (n : ℕ) → HasRoom n self.old → HasRoom n self.new }
+        ensures room { (n : ℕ) → BagsHaveRoom n self.old → BagsHaveRoom n self.new }
         ensures waits { MatchOption result (waiting self.new ≡ waiting self.old) (λ _. waiting self.new + 1 ≡ waiting self.old) }
     {
         self.due.pop()
@@ -68,7 +68,7 @@ impl Participant {
     pub(crate) fn unretire(&mut self)
         requires { length self.old.current.items ≢ 0 → length self.old.due.items < vec_capacity self.old.due }
         ensures shown { participant_state self.new ≡ recalled (participant_state self.old) }
-        ensures room { (n : ℕ) → HasRoom n self.old → HasRoom n self.new }
+        ensures room { (n : ℕ) → BagsHaveRoom n self.old → BagsHaveRoom n self.new }
         ensures waits { waiting self.new ≡ waiting self.old }
     {
         let Some(i) = self.current.pop() else {
@@ -83,8 +83,8 @@ impl Participant {
     /// The bags move on, and the oldest is due.
     pub(crate) fn turn(&mut self)
         requires { length self.old.due.items ≡ 0 }
-        ensures shown { participant_state self.new ≡ turned (participant_state self.old) }
-        ensures room { (n : ℕ) → HasRoom n self.old → HasRoom n self.new }
+        ensures shown { participant_state self.new ≡ bags_moved_on (participant_state self.old) }
+        ensures room { (n : ℕ) → BagsHaveRoom n self.old → BagsHaveRoom n self.new }
         ensures waits { waiting self.new ≡ waiting self.old }
     {
         mem::swap(&mut self.due, &mut self.oldest);

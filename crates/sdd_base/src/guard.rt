@@ -1,7 +1,7 @@
 //! Guards of a place of one thread.
 
 ghost use Rattle.std.specs.Prelude.{◌≡◌};
-ghost use Rattle.sdd_base.specs.Tokens.{participant_of};
+ghost use Rattle.sdd_base.specs.Tokens.{guard_participant};
 
 /// An open guard of a participant. It must be spent by `world::guard::close`.
 pub struct WorldGuard {
@@ -11,7 +11,7 @@ pub struct WorldGuard {
 impl WorldGuard {
     /// The participant whose guard it is.
     pub fn participant(&self) -> usize
-        ensures { result ≡ participant_of self.now }
+        ensures { result ≡ guard_participant self.now }
     {
         self.participant
     }

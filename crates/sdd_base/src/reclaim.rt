@@ -3,7 +3,7 @@
 ghost use Rattle.std.specs.Prelude.{◌≡◌, ◌+◌, ◌-◌, ◌<◌, ◌≤◌, ℕ, List, [], ◌∷◌, length, leb, IsTrue, IsFalse, IfSome, IfNone, true};
 ghost use Rattle.std.specs.VecDeque.{deque_capacity};
 ghost use Rattle.sdd_base.specs.State.{is_used, status_at, participant_at, local_at, weight};
-ghost use Rattle.sdd_base.specs.Steps.{released, disowned, owned_ended, shared_ended, given, given_all, rotated, opened, closed, begun, scanned, IsNext, Swept, AllSwept, purged, left_waiting, enqueued, set_aside, handed, overdue, IsTimely, closings_after, scans as scans_at};
+ghost use Rattle.sdd_base.specs.Steps.{released, disowned, owned_ended, shared_ended, given, given_all, participant_rotated, guard_opened, guard_closed, count_published, scanned, IsNext, Swept, AllSwept, purged, left_waiting, enqueued, set_aside, handed_over, overdue, IsTimely, closings_after, scans as scans_at};
 ghost use Rattle.sdd_base.specs.Dropping.{undone, Dropped};
 ghost use Rattle.sdd_base.specs.Place.{Sound, IsPlace, IsOwned, IsShared};
 ghost use Rattle.sdd_base.specs.Frame.{OnlyParticipant};
@@ -136,7 +136,7 @@ pub(crate) fn turn_over<T: Holds, J: Deferred>(table: &mut Table<T, J>, p: usize
     requires participant { p < length table.old.participants }
     requires sound { Sound table.old }
     requires idle { (participant_at table.old p).due ≡ [] }
-    ensures { table.new ≡ rotated T.holds p table.old }
+    ensures { table.new ≡ participant_rotated T.holds p table.old }
 {
     table.turn(p);
     while reclaim_next(table, p) {}
@@ -307,7 +307,7 @@ pub(crate) fn hand_over<T, J: Deferred>(
     waiting: &mut VecDeque<usize>,
 )
     requires { p < length table.old.participants }
-    ensures { table.new ≡ handed p waiting.old.items table.old }
+    ensures { table.new ≡ handed_over p waiting.old.items table.old }
 {
     while let Some(slot) = waiting.pop_front() {
         if let Status::Collected(_) = table.status_of(slot) {
@@ -326,7 +326,7 @@ fn scans(local: &LocalState, closings: u8) -> bool
 /// Participant `p` publishes the count.
 fn begin<T, J: Deferred>(table: &mut Table<T, J>, p: usize)
     requires { p < length table.old.participants }
-    ensures { table.new ≡ begun p table.old }
+    ensures { table.new ≡ count_published p table.old }
 {
     let count = table.count();
     let mut local = table.local(p);
@@ -352,7 +352,7 @@ pub(crate) fn open<T: Holds, J: Deferred>(table: &mut Table<T, J>, p: usize)
     requires sound { Sound table.old }
     requires idle { (participant_at table.old p).due ≡ [] }
     requires room { (local_at table.old p).nesting < 4294967295 }
-    ensures { table.new ≡ opened T.holds p table.old }
+    ensures { table.new ≡ guard_opened T.holds p table.old }
 {
     let mut local = table.local(p);
     if local.nesting == 0 {
@@ -371,7 +371,7 @@ pub(crate) fn open<T: Holds, J: Deferred>(table: &mut Table<T, J>, p: usize)
 pub(crate) fn close<T, J: Deferred>(table: &mut Table<T, J>, p: usize)
     requires participant { p < length table.old.participants }
     requires open { 0 < (local_at table.old p).nesting }
-    ensures { table.new ≡ closed p table.old }
+    ensures { table.new ≡ guard_closed p table.old }
 {
     let mut local = table.local(p);
     if local.nesting == 1 {

@@ -4,9 +4,9 @@
 ghost use Rattle.std.specs.Prelude.{◌≡◌, ◌≢◌, ℕ, ◌+◌, ◌<◌, ◌≤◌, ◌^◌, ◌-◌, List, length, MatchOption, MatchResult, Some, None, OnOk, IfSome, IfNone, IfOk, IfErr, [], ◌∷◌, false, true, replicate, IsTrue, IsFalse, ◌↔◌, sum_by, vec_capacity, vec_len, ◌++◌, map, All, IsSome};
 ghost use Rattle.std.specs.Borrow.{sem};
 ghost use Rattle.std.specs.Option.Follows.{option_follows_value};
-ghost use Rattle.sdd_base.specs.State.{changing, recalled, IsIdle, NoneIdle, with_status, with_local, IsFree, NoneFree, IsFreeCell, NoCellFree, in_use, IsUnused, waiting_as, status_at, participant_at, value_at, cell_at, rotated_bags, placed, raised, nobody, TakesDue, with_cell, is_present, is_used, weight, idleness, vacancy, emptiness, fresh, removed, usage};
+ghost use Rattle.sdd_base.specs.State.{changing, recalled, IsIdle, NoneIdle, with_status, with_local, IsFree, NoneFree, IsFreeCell, NoCellFree, in_use, IsUnused, waiting_as, status_at, participant_at, value_at, cell_at, rotated_bags, placed, raised, nobody, TakesDue, with_cell, is_present, is_used, weight, idleness, vacancy, emptiness, fresh, slot_freed, usage};
 ghost use Rattle.std.specs.List.{list_all};
-ghost use Rattle.sdd_base.specs.View.{Lists, IsStack, HasRoom, participant_state, waiting};
+ghost use Rattle.sdd_base.specs.View.{Lists, IsFreeList, BagsHaveRoom, participant_state, waiting};
 ghost use Rattle.sdd_base.specs.Steps.{bags_empty, NoneOpen};
 ghost use Rattle.sdd_base.specs.Place.{IsOpen};
 
@@ -232,7 +232,7 @@ impl<T, J: Deferred> Table<T, J> {
         requires used { is_used (status_at self.old i) ≡ true }
         requires waits_not { weight (status_at self.old i) ≡ 0 }
         ensures value { Some result ≡ value_at self.old i }
-        ensures state { self.new ≡ removed i self.old }
+        ensures state { self.new ≡ slot_freed i self.old }
     {
         self.states[i] = Status::Free;
         self.used -= 1;
@@ -517,7 +517,7 @@ fn idle_places(
 /// `n` free cells, and their names.
 fn free_cells(alloc: Global, n: usize) -> Result<(Vec<Cell>, Vec<usize>), AllocError>
     ensures cells { IfOk result (λ r. r.0.items ≡ replicate n Cell.Free) }
-    ensures free { IfOk result (λ r. IsStack emptiness r.0.items r.1) }
+    ensures free { IfOk result (λ r. IsFreeList emptiness r.0.items r.1) }
 {
     let mut cells = Vec::with_capacity(alloc, n)?;
     let mut free = Vec::with_capacity(alloc, n)?;
@@ -531,7 +531,7 @@ fn free_cells(alloc: Global, n: usize) -> Result<(Vec<Cell>, Vec<usize>), AllocE
 /// `n` participants whose bags have room for `places` places.
 fn new_participants(alloc: Global, n: usize, places: usize) -> Result<Vec<Participant>, AllocError>
     ensures participants { IfOk result (λ r. map participant_state r.items ≡ replicate n nobody) }
-    ensures room { IfOk result (λ r. All (HasRoom places) r.items) }
+    ensures room { IfOk result (λ r. All (BagsHaveRoom places) r.items) }
     ensures waits { IfOk result (λ r. sum_by waiting r.items ≡ 0) }
 {
     let mut participants = Vec::with_capacity(alloc, n)?;

@@ -161,8 +161,8 @@ module _ (S : Type 0) (IsIn : Content → S → Type 0) (plan : Plan) where
         others = λ q ne. put_else out1 p ls q ne ∙ put_else r.book.out p (recounted k c (r.book.out p)) q ne;
         value = refl;
         settled = λ q. never_due p q it live_owned;
-        hand_here = let h = held in let one = points_self i in let split = ap (λ (z : List Owner). steps.times i (items_of z)) first in let mine = ap (steps.tally i) same_item in omega arith;
-        hand_else = λ j ne. let none_of = points_other j i (λ e. ne (sym e)) in let split = ap (λ (z : List Owner). steps.times j (items_of z)) first in let mine = ap (steps.tally j) same_item in omega arith;
+        hand_here = let h = held in let one = points_self i in let split = ap (λ (z : List Owner). steps.times i (items_of z)) first in let mine = ap (steps.one_if_same i) same_item in omega arith;
+        hand_else = λ j ne. let none_of = points_other j i (λ e. ne (sym e)) in let split = ap (λ (z : List Owner). steps.times j (items_of z)) first in let mine = ap (steps.one_if_same j) same_item in omega arith;
         alive = live_owned;
         holds = refl;
         distinct = releases.distinct_now S IsIn plan s r id d l o os at kind ready has first slot;

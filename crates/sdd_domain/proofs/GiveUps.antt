@@ -6,7 +6,7 @@ use Rattle.sdd_steps.specs.declared.participant.Participant.{Participant}
 use Rattle.sdd_steps.specs.declared.item.Item.{Item}
 use Rattle.sdd_steps.specs.declared.item.ItemState.TheVariants.{Reclaimed}
 use Rattle.sdd_steps.specs.declared.step.Step.TheVariants.{GiveUp}
-use Rattle.sdd_steps.specs.State.{State, At, Has, times, tally, has, without, no_item, participant_is, item_is}
+use Rattle.sdd_steps.specs.State.{State, At, Has, times, one_if_same, has, without, no_item, participant_is, item_is}
 use Rattle.sdd_steps.specs.Steps.{handed, is_ready, is_reclaimed}
 use Rattle.sdd_steps.proofs.Enabling.{participant_passes, item_passes}
 use Rattle.sdd_steps.proofs.ListLemmas.{get_at, set_here, set_else, at_inside, find_at, same_at}
@@ -50,10 +50,10 @@ module _ (i : ℕ) where
   pub given_else : (ks : List ℕ) (items : List Item) (j : ℕ) (y : Item) → At items j y → j ≢ i → Others ks → At (given_up ks items) j (record y { hand = y.hand + times j ks })
   given_else [] items j y at ne _ = let same : y.hand ≡ y.hand + 0 = omega arith in subst (λ m. At items j (record y { hand = m })) same at
   given_else (k ∷ ks) items j y at ne others = dite (ℕ_discrete k j)
-      (λ e. let one : tally j k ≡ 1 = ap (λ b. cond b 1 0) (eq-eqb k j e) in let more : y.hand + 1 + times j ks ≡ y.hand + (tally j k + times j ks) = omega arith in
+      (λ e. let one : one_if_same j k ≡ 1 = ap (λ b. cond b 1 0) (eq-eqb k j e) in let more : y.hand + 1 + times j ks ≡ y.hand + (one_if_same j k + times j ks) = omega arith in
       let at' : At (gives k items) j (handed y) = subst (λ m. At (gives k items) m (handed y)) e (gives_at k items y (subst (λ m. At items m y) (sym e) at) (others k (inl refl))) in
       subst (λ m. At (given_up ks (gives k items)) j (record y { hand = m })) more (given_else ks (gives k items) j (handed y) at' ne (λ q h. others q (inr h))))
-      (λ nk. let zero_ : tally j k ≡ 0 = ap (λ b. cond b 1 0) (ne_eqb k j nk) in let same : y.hand + times j ks ≡ y.hand + (tally j k + times j ks) = omega arith in
+      (λ nk. let zero_ : one_if_same j k ≡ 0 = ap (λ b. cond b 1 0) (ne_eqb k j nk) in let same : y.hand + times j ks ≡ y.hand + (one_if_same j k + times j ks) = omega arith in
       subst (λ m. At (given_up ks (gives k items)) j (record y { hand = m })) same (given_else ks (gives k items) j y (gives_else k items j y at ne (λ e. nk (sym e))) ne (λ q h. others q (inr h))))
 
   pub given_length : (ks : List ℕ) (items : List Item) → length (given_up ks items) ≡ length items

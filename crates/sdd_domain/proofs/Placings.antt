@@ -14,7 +14,7 @@ use Rattle.sdd_steps.specs.declared.item.ItemState.TheVariants.{Due, Reclaimed}
 use Rattle.sdd_steps.specs.declared.step.Step.TheVariants.{Place}
 use Rattle.sdd_steps.specs.State as steps
 use Rattle.sdd_steps.specs.State.{At, Has, times, no_item, item_at, participant_is}
-use Rattle.sdd_steps.specs.Steps.{is_ready, all_have_loose_owners, all_alone, paid, placed}
+use Rattle.sdd_steps.specs.Steps.{is_ready, all_have_loose_owners, all_alone, paid, new_item}
 use Rattle.sdd_steps.specs.Invariant.{names_of}
 use Rattle.sdd_steps.proofs.CountLemmas.{points_self, points_other, paid_length, paid_at, placed_all}
 use Rattle.sdd_steps.proofs.Enabling.{participant_passes}
@@ -78,7 +78,7 @@ module _ (S : Type 0) (IsIn : Content → S → Type 0) (plan : Plan) where
     holds = items_of d.hand
 
     abbrev item : Item
-    item = placed f.round holds
+    item = new_item f.round holds
 
     abbrev core : steps.State
     core = record r.state { items = paid holds r.state.items ++ item ∷ [] }

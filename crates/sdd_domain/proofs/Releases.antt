@@ -163,8 +163,8 @@ module _ (S : Type 0) (IsIn : Content → S → Type 0) (plan : Plan) where
         others = λ q ne. put_else r.book.out p (recounted l.slot c (r.book.out p)) q ne;
         value = refl;
         settled = λ q. never_due p q it live_owned;
-        hand_here = let h = held in let one = points_self l.item in let split = ap (λ (z : List Owner). steps.times l.item (items_of z)) first in let mine = ap (steps.tally l.item) same_item in omega arith;
-        hand_else = λ j ne. let none_of = points_other j l.item (λ e. ne (sym e)) in let split = ap (λ (z : List Owner). steps.times j (items_of z)) first in let mine = ap (steps.tally j) same_item in omega arith;
+        hand_here = let h = held in let one = points_self l.item in let split = ap (λ (z : List Owner). steps.times l.item (items_of z)) first in let mine = ap (steps.one_if_same l.item) same_item in omega arith;
+        hand_else = λ j ne. let none_of = points_other j l.item (λ e. ne (sym e)) in let split = ap (λ (z : List Owner). steps.times j (items_of z)) first in let mine = ap (steps.one_if_same j) same_item in omega arith;
         alive = live_owned;
         holds = refl;
         distinct = distinct_now;

@@ -11,7 +11,7 @@ use Rattle.sdd_steps.specs.declared.item.ItemState.TheVariants.{Live, Due, Retir
 use Rattle.sdd_steps.specs.declared.step.Step.{Step}
 use Rattle.sdd_steps.specs.declared.step.Step.TheVariants.{ReadEpoch, Publish, Rotate, Look, Raise, Close, End}
 use Rattle.sdd_steps.specs.State.{State, At, Has, has, with_participant, participant_at, participant_is}
-use Rattle.sdd_steps.specs.Steps.{Steps, Schedule, opened, is_idle, is_reading, is_turning, is_inside, agrees, count_of, all_looked, older, left_by, is_due, none_due}
+use Rattle.sdd_steps.specs.Steps.{Steps, Schedule, is_opened_phase, is_idle, is_reading, is_turning, is_inside, agrees, count_of, all_looked, older, left_by, is_due, none_due}
 use Rattle.sdd_steps.specs.Invariant.{Inv}
 use Rattle.sdd_steps.proofs.Law.{keeps}
 use Rattle.sdd_domain.specs.Rule.{Runs}
@@ -28,7 +28,7 @@ or_right true b e = refl
 or_right false b e = e
 
 inside : (x : Participant) (e : ℕ) → x.phase ≡ Opened e → e ≡ x.found → is_inside x ≡ true
-inside x e is found = and_true (opened x.phase) (count_of x.phase == x.found) (ap opened is) (eq-eqb (count_of x.phase) x.found (ap count_of is ∙ found))
+inside x e is found = and_true (is_opened_phase x.phase) (count_of x.phase == x.found) (ap is_opened_phase is) (eq-eqb (count_of x.phase) x.found (ap count_of is ∙ found))
 
 has_true : (i : ℕ) (l : List ℕ) → Has l i → has i l ≡ true
 has_true i [] h = absurd h
@@ -44,9 +44,9 @@ agreed : (count : ℕ) (y : Participant) → ((e : ℕ) → y.phase ≡ Opened e
 agreed count y h = go y.phase refl
   where
     go : (f : Phase) → y.phase ≡ f → agrees count y ≡ true
-    go Idle e = or_left (not (opened y.phase)) (count_of y.phase == count) (ap (λ z. not (opened z)) e)
-    go (HasRead m) e = or_left (not (opened y.phase)) (count_of y.phase == count) (ap (λ z. not (opened z)) e)
-    go (Opened m) e = or_right (not (opened y.phase)) (count_of y.phase == count) (eq-eqb (count_of y.phase) count (ap count_of e ∙ h m e))
+    go Idle e = or_left (not (is_opened_phase y.phase)) (count_of y.phase == count) (ap (λ z. not (is_opened_phase z)) e)
+    go (HasRead m) e = or_left (not (is_opened_phase y.phase)) (count_of y.phase == count) (ap (λ z. not (is_opened_phase z)) e)
+    go (Opened m) e = or_right (not (is_opened_phase y.phase)) (count_of y.phase == count) (eq-eqb (count_of y.phase) count (ap count_of e ∙ h m e))
 
 undue : (p : ℕ) (f : ItemState) → f ≢ Due p → not (is_due p f) ≡ true
 undue p Live h = refl
@@ -65,18 +65,18 @@ module _ (s : State) (p : ℕ) (x : Participant) (at : At s.participants p x) wh
   read = participant_read s p x at
 
   pub reads : x.phase ≡ Idle → Steps s (ReadEpoch p) (with_participant s p (record x { phase = HasRead s.count }))
-  reads is = (participant_passes is_idle s p x at (ap Rattle.sdd_steps.specs.Steps.idle is), λ j. with_participant s p (record (sym read j) { phase = HasRead s.count }))
+  reads is = (participant_passes is_idle s p x at (ap Rattle.sdd_steps.specs.Steps.is_idle_phase is), λ j. with_participant s p (record (sym read j) { phase = HasRead s.count }))
 
   pub publishes : (e : ℕ) → x.phase ≡ HasRead e → Steps s (Publish p) (with_participant s p (record x { phase = Opened e; reread = None; looked = []; loaded = [] }))
   publishes e is = (
-    participant_passes is_reading s p x at (ap Rattle.sdd_steps.specs.Steps.reading is),
+    participant_passes is_reading s p x at (ap Rattle.sdd_steps.specs.Steps.is_reading_phase is),
     (λ j. with_participant s p (record x { phase = Opened (ap count_of (sym is) j); reread = None; looked = []; loaded = [] }))
         ∙ (λ j. with_participant s p (record (sym read j) { phase = Opened (count_of (sym read j).phase); reread = None; looked = []; loaded = [] })),
   )
 
   pub rotates : (e : ℕ) → x.phase ≡ Opened e → e ≢ x.found → Steps s (Rotate p) (record s { participants = set s.participants p (record x { found = e }); items = map (older p) s.items })
   rotates e is differs = (
-    participant_passes is_turning s p x at (and_true (opened x.phase) (not (count_of x.phase == x.found)) (ap opened is) (ap not (ne_eqb (count_of x.phase) x.found (λ h. differs (sym (ap count_of is) ∙ h))))),
+    participant_passes is_turning s p x at (and_true (is_opened_phase x.phase) (not (count_of x.phase == x.found)) (ap is_opened_phase is) (ap not (ne_eqb (count_of x.phase) x.found (λ h. differs (sym (ap count_of is) ∙ h))))),
     (λ j. record s { participants = set s.participants p (record x { found = ap count_of (sym is) j }); items = map (older p) s.items })
         ∙ (λ j. record s { participants = set s.participants p (record (sym read j) { found = count_of (sym read j).phase }); items = map (older p) s.items }),
   )
@@ -106,7 +106,7 @@ module _ (s : State) (p : ℕ) (x : Participant) (at : At s.participants p x) wh
   -- nothing is due to it
   pub ends : x.phase ≡ Idle → ((i : ℕ) (it : Item) → At s.items i it → it.state ≢ Due p) → Steps s (End p) (record s { participants = set s.participants p (record x { found = 0 }); items = map (left_by p) s.items })
   ends is none = (
-    and_true (participant_is is_idle s p) (none_due p s.items) (participant_passes is_idle s p x at (ap Rattle.sdd_steps.specs.Steps.idle is)) (none_are_due p s.items none),
+    and_true (participant_is is_idle s p) (none_due p s.items) (participant_passes is_idle s p x at (ap Rattle.sdd_steps.specs.Steps.is_idle_phase is)) (none_are_due p s.items none),
     λ j. record s { participants = set s.participants p (record (sym read j) { found = 0 }); items = map (left_by p) s.items },
   )
 

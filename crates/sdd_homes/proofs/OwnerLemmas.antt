@@ -2,7 +2,7 @@
 use Rattle.std.proofs.Common.{◌≡◌, ◌≢◌, ℕ, ◌+◌, ◌-◌, ◌<◌, refl, ◌∙◌, arith, List, [], ◌∷◌, ◌++◌, set}
 use Rattle.sdd_steps.specs.declared.item.Item.{Item}
 use Rattle.sdd_steps.specs.State.{At, times}
-use Rattle.sdd_steps.specs.Steps.{paid, placed}
+use Rattle.sdd_steps.specs.Steps.{paid, new_item}
 use Rattle.sdd_steps.proofs.ListLemmas.{put, set_here, set_else, at_longer}
 use Rattle.sdd_steps.proofs.CountLemmas.{paid_at}
 use Rattle.sdd_homes.specs.Book.{full, Book, Lends, recounted}
@@ -28,5 +28,5 @@ module _ {n slots : ℕ} {items : List Item} {reason : ℕ → ℕ → Type 0} {
   clones some_left = counts (raised it) (book.share k p - 1) refl (omega arith)
 
 -- old items keep value and owners at a placing
-pub alike_placed : (v : ℕ) (hs : List ℕ) (items : List Item) (i : ℕ) → Alike items (paid hs items ++ placed v hs ∷ []) i
-alike_placed v hs items i it at = (record it { hand = it.hand - times i hs }, at_longer (paid hs items) (placed v hs ∷ []) i (record it { hand = it.hand - times i hs }) (paid_at hs items i it at), refl, refl)
+pub alike_placed : (v : ℕ) (hs : List ℕ) (items : List Item) (i : ℕ) → Alike items (paid hs items ++ new_item v hs ∷ []) i
+alike_placed v hs items i it at = (record it { hand = it.hand - times i hs }, at_longer (paid hs items) (new_item v hs ∷ []) i (record it { hand = it.hand - times i hs }) (paid_at hs items i it at), refl, refl)

@@ -8,9 +8,9 @@ use Rattle.sdd_steps.specs.declared.item.Item.{Item}
 use Rattle.sdd_steps.specs.declared.item.Cell.{Cell}
 use Rattle.sdd_steps.specs.declared.item.ItemState.{ItemState}
 use Rattle.sdd_steps.specs.declared.item.ItemState.TheVariants.{Live, Reclaimed}
-use Rattle.sdd_steps.specs.State.{At, Has, has, tally, times, without, no_item, empty_cell}
-use Rattle.sdd_steps.specs.Steps.{handed, unhanded, paid, placed, taken_up, all_have_loose_owners}
-use Rattle.sdd_steps.specs.Invariant.{points, uses, held, names_of, Owned, Counted}
+use Rattle.sdd_steps.specs.State.{At, Has, has, one_if_same, times, without, no_item, empty_cell}
+use Rattle.sdd_steps.specs.Steps.{handed, unhanded, paid, new_item, taken_up, all_have_loose_owners}
+use Rattle.sdd_steps.specs.Invariant.{points, uses, held, names_of, Owned, AllOwnersCounted}
 use Rattle.sdd_steps.proofs.ListLemmas.{set_all, set_here, set_else, same_at, find_at, at_inside, at_mapped, at_end, get_at, either, both}
 
 pub uses_set : (i : ℕ) (names : List (Option ℕ)) (c : ℕ) (o o' : Option ℕ) → At names c o → uses i (set names c o') + points i o ≡ uses i names + points i o'
@@ -38,10 +38,10 @@ uses_none i [] n = refl
 uses_none i (x ∷ l) n = let t = uses_none i l (λ c. n (suc c)) in let e = points_not i x (λ h. n 0 (ap some h)) in omega arith
 
 -- one number at the front of a list
-count_here : (i j : ℕ) → j ≡ i → tally i j ≡ 1
+count_here : (i j : ℕ) → j ≡ i → one_if_same i j ≡ 1
 count_here i j e = ap (λ b. cond b 1 0) (eq-eqb j i e)
 
-count_else : (i j : ℕ) → j ≢ i → tally i j ≡ 0
+count_else : (i j : ℕ) → j ≢ i → one_if_same i j ≡ 0
 count_else i j e = ap (λ b. cond b 1 0) (ne_eqb j i e)
 
 pub has_has : (i : ℕ) (l : List ℕ) → has i l ≡ true → Has l i
@@ -95,11 +95,11 @@ held_same : (j : ℕ) (items : List Item) (i : ℕ) (it it' : Item) → At items
 held_same j items i it it' at same = let h = held_set j items i it it' at in let e : times j it'.holds ≡ times j it.holds = ap (times j) same in omega arith
 
 -- an item changes, but not what it holds
-pub counted_step : (names names' : List (Option ℕ)) (items : List Item) (k : Counted names items) (i : ℕ) (it it' : Item) → At items i it → it'.holds ≡ it.holds
+pub counted_step : (names names' : List (Option ℕ)) (items : List Item) (k : AllOwnersCounted names items) (i : ℕ) (it it' : Item) → At items i it → it'.holds ≡ it.holds
     → ((j : ℕ) → j ≢ i → uses j names' ≡ uses j names)
     → (it'.owners ≡ it'.hand + uses i names' + held i items) × (it'.state ≡ Live → 0 < it'.owners) × (0 < it'.owners → it'.state ≡ Live) × (it'.owners ≤ 2 ^ 32 - 1)
     → ((c : ℕ) (j : ℕ) → At names' c (Some j) → j < length items)
-    → Counted names' (set items i it')
+    → AllOwnersCounted names' (set items i it')
 counted_step names names' items k i it it' at same others now named = let l = length-set items i it' in record {
   owned = set_all (λ j z. Owned j names' (set items i it') z) items i it'
       (let h = held_same i items i it it' at same in let n = now.0 in record { counted = omega arith; has_owner = now.1; is_live = now.2; limit = now.3 })
@@ -109,8 +109,8 @@ counted_step names names' items k i it it' at same others now named = let l = le
 }
 
 -- a reclaimed item gives one owner up, to the hand
-pub counted_give_up : (names : List (Option ℕ)) (items : List Item) (k : Counted names items) (p j i : ℕ) (w it : Item) → At items j w → w.state ≡ Reclaimed p → Has w.holds i → At items i it
-    → (i ≢ j) × Counted names (set (set items j (record w { holds = without i w.holds })) i (handed it))
+pub counted_give_up : (names : List (Option ℕ)) (items : List Item) (k : AllOwnersCounted names items) (p j i : ℕ) (w it : Item) → At items j w → w.state ≡ Reclaimed p → Has w.holds i → At items i it
+    → (i ≢ j) × AllOwnersCounted names (set (set items j (record w { holds = without i w.holds })) i (handed it))
 counted_give_up names items k p j i w it at_j gone has at_i =
     let w' : Item = record w { holds = without i w.holds } in let it' : Item = handed it in let one = set items j w' in let all = set one i it' in
     let oi = k.owned i it at_i in let ci = oi.counted in let some_held = held_some i items j w at_j in let some_times = times_has i w.holds has in let alive : it.state ≡ Live = oi.is_live (omega arith) in
@@ -140,7 +140,7 @@ module _ (f : ItemState → ItemState) (items : List Item) where
   held_changed i [] = refl
   held_changed i (x ∷ l) = let h = held_changed i l in omega arith
 
-  pub counted_states : (names : List (Option ℕ)) → f Live ≡ Live → ((z : ItemState) → f z ≡ Live → z ≡ Live) → Counted names items → Counted names (map changed items)
+  pub counted_states : (names : List (Option ℕ)) → f Live ≡ Live → ((z : ItemState) → f z ≡ Live → z ≡ Live) → AllOwnersCounted names items → AllOwnersCounted names (map changed items)
   counted_states names stays back k = let l = length-map items changed in record {
     owned = λ i it at. let t = at_mapped changed items i it at in let o = k.owned i t.0 t.1 in let c = o.counted in let h = held_changed i items in
         subst (Owned i names (map changed items)) t.2 (record { counted = omega arith; has_owner = λ l. o.has_owner (back t.0.state l); is_live = λ h. ap f (o.is_live h) ∙ stays; limit = o.limit });
@@ -158,10 +158,10 @@ paid_at [] items k it at = let same : it.hand ≡ it.hand - 0 = omega arith in s
 paid_at (h ∷ hs) items k it at = let x = get_or items h no_item in let items' = set items h (unhanded x) in dite (ℕ_discrete h k)
     (λ e. let c = count_here k h e in let here : At items h it = subst (λ m. At items m it) (sym e) at in let same : x ≡ it = get_at items h no_item it here in
     let at' : At items' k (unhanded it) = subst (λ m. At items' m (unhanded it)) e (subst (λ (z : Item). At items' h (unhanded z)) same (set_here items h (unhanded x) it here)) in
-    let less : it.hand - 1 - times k hs ≡ it.hand - (tally k h + times k hs) = omega arith in
+    let less : it.hand - 1 - times k hs ≡ it.hand - (one_if_same k h + times k hs) = omega arith in
     subst (λ n. At (paid hs items') k (record it { hand = n })) less (paid_at hs items' k (unhanded it) at'))
     (λ e. let c = count_else k h e in let at' : At items' k it = set_else items h k (unhanded x) (λ z. e (sym z)) ∙ at in
-    let less : it.hand - times k hs ≡ it.hand - (tally k h + times k hs) = omega arith in
+    let less : it.hand - times k hs ≡ it.hand - (one_if_same k h + times k hs) = omega arith in
     subst (λ n. At (paid hs items') k (record it { hand = n })) less (paid_at hs items' k it at'))
 
 pub held_paid : (i : ℕ) (hs : List ℕ) (items : List Item) → held i (paid hs items) ≡ held i items
@@ -182,19 +182,19 @@ held_none n [] never = refl
 held_none n (x ∷ l) never = let a = times_none n x.holds (never 0 x refl) in let b = held_none n l (λ j. never (suc j)) in omega arith
 
 -- each item after a placing is an old one that paid, or the new one
-pub placed_all : (v : ℕ) (hs : List ℕ) (items : List Item) (P : ℕ → Item → Type 0) → P (length items) (placed v hs) → ((k : ℕ) (it : Item) → At items k it → P k (record it { hand = it.hand - times k hs }))
-    → (k : ℕ) (z : Item) → At (paid hs items ++ placed v hs ∷ []) k z → P k z
+pub placed_all : (v : ℕ) (hs : List ℕ) (items : List Item) (P : ℕ → Item → Type 0) → P (length items) (new_item v hs) → ((k : ℕ) (it : Item) → At items k it → P k (record it { hand = it.hand - times k hs }))
+    → (k : ℕ) (z : Item) → At (paid hs items ++ new_item v hs ∷ []) k z → P k z
 placed_all v hs items P here old k z at = let n = paid_length hs items in ⊎_elim
     (λ (h : At (paid hs items) k z). let inside = at_inside (paid hs items) k z h in let t = find_at items k (omega arith) in
     subst (P k) (same_at (paid hs items) k (record t.0 { hand = t.0.hand - times k hs }) z (paid_at hs items k t.0 t.1) h) (old k t.0 t.1))
-    (λ (h : (k ≡ length (paid hs items)) × (placed v hs ≡ z)). subst (λ (x : ℕ × Item). P x.0 x.1) (λ u. (sym (h.0 ∙ n) u, h.1 u)) here)
-    (at_end (paid hs items) (placed v hs) k z at)
+    (λ (h : (k ≡ length (paid hs items)) × (new_item v hs ≡ z)). subst (λ (x : ℕ × Item). P x.0 x.1) (λ u. (sym (h.0 ∙ n) u, h.1 u)) here)
+    (at_end (paid hs items) (new_item v hs) k z at)
 
 pub counted_placed : (v : ℕ) (hs : List ℕ) (names : List (Option ℕ)) (items : List Item) → ((k : ℕ) → Has hs k → k < length items) → ((k : ℕ) (it : Item) → At items k it → times k hs ≤ it.hand)
-    → Counted names items → Counted names (paid hs items ++ placed v hs ∷ [])
-counted_placed v hs names items had fits c = let all = paid hs items ++ placed v hs ∷ [] in
-    let n : length all ≡ length items + 1 = (let a = length-append (paid hs items) (placed v hs ∷ []) in let b = paid_length hs items in omega arith) in
-    let more : (k : ℕ) → held k all ≡ held k items + times k hs = (λ k. let a = held_end k (paid hs items) (placed v hs) in let b = held_paid k hs items in omega arith) in record {
+    → AllOwnersCounted names items → AllOwnersCounted names (paid hs items ++ new_item v hs ∷ [])
+counted_placed v hs names items had fits c = let all = paid hs items ++ new_item v hs ∷ [] in
+    let n : length all ≡ length items + 1 = (let a = length-append (paid hs items) (new_item v hs ∷ []) in let b = paid_length hs items in omega arith) in
+    let more : (k : ℕ) → held k all ≡ held k items + times k hs = (λ k. let a = held_end k (paid hs items) (new_item v hs) in let b = held_paid k hs items in omega arith) in record {
       owned = placed_all v hs items (λ k z. Owned k names all z)
           (let u = uses_none (length items) names (λ d at. let h = c.named d (length items) at in omega arith) in
           let h = held_none (length items) items (λ j w at has. let h = c.holding j w (length items) at has in omega arith) in

@@ -10,7 +10,7 @@ use Rattle.sdd_steps.specs.declared.participant.Participant.{Participant}
 use Rattle.sdd_steps.specs.declared.item.Item.{Item}
 use Rattle.sdd_steps.specs.declared.item.Cell.{Cell}
 use Rattle.sdd_steps.specs.State.{State, At, Has, has, participant_at, cell_at, item_at, participant_is, cell_is, item_is, newcomer, empty_cell, no_item}
-use Rattle.sdd_steps.specs.Steps.{idle, reading, opened, count_of, is_idle, is_turning, is_inside, is_ready, agrees, all_looked, is_live, is_due, is_reclaimed, is_left, is_past, is_reclaimable, named, noted, aged, left}
+use Rattle.sdd_steps.specs.Steps.{is_idle_phase, is_reading_phase, is_opened_phase, count_of, is_idle, is_turning, is_inside, is_ready, agrees, all_looked, is_live, is_due, is_reclaimed, is_left, is_past, is_reclaimable, named, noted, aged, left}
 use Rattle.sdd_steps.specs.Invariant.{Standing}
 use Rattle.sdd_steps.proofs.ListLemmas.{at_get, both, either, unless}
 use Rattle.sdd_steps.proofs.CountLemmas.{has_has}
@@ -24,17 +24,17 @@ cell_there test s c h = let b = both (nat_lt c (length s.cells)) (test (cell_at 
 pub item_there : (test : Item → Bool) (s : State) (i : ℕ) → item_is test s i ≡ true → At s.items i (item_at s i) × (test (item_at s i) ≡ true)
 item_there test s i h = let b = both (nat_lt i (length s.items)) (test (item_at s i)) h in (at_get s.items i no_item (ltb-true i (length s.items) b.0), b.1)
 
-pub idle_is : (f : Phase) → idle f ≡ true → f ≡ Idle
+pub idle_is : (f : Phase) → is_idle_phase f ≡ true → f ≡ Idle
 idle_is Idle h = refl
 idle_is (HasRead e) h = absurd (cc)
 idle_is (Opened e) h = absurd (cc)
 
-pub reading_is : (f : Phase) → reading f ≡ true → f ≡ HasRead (count_of f)
+pub reading_is : (f : Phase) → is_reading_phase f ≡ true → f ≡ HasRead (count_of f)
 reading_is Idle h = absurd (cc)
 reading_is (HasRead e) h = refl
 reading_is (Opened e) h = absurd (cc)
 
-pub opened_is : (f : Phase) → opened f ≡ true → f ≡ Opened (count_of f)
+pub opened_is : (f : Phase) → is_opened_phase f ≡ true → f ≡ Opened (count_of f)
 opened_is Idle h = absurd (cc)
 opened_is (HasRead e) h = absurd (cc)
 opened_is (Opened e) h = refl
@@ -46,20 +46,20 @@ abbrev pub Ready : Participant → Type 0
 Ready x = (x.phase ≡ Idle) ⊎ ((e : ℕ) × Inside x e)
 
 pub inside_is : (x : Participant) → is_inside x ≡ true → Inside x (count_of x.phase)
-inside_is x h = let b = both (opened x.phase) (count_of x.phase == x.found) h in (opened_is x.phase b.0, eqb-true (count_of x.phase) x.found b.1)
+inside_is x h = let b = both (is_opened_phase x.phase) (count_of x.phase == x.found) h in (opened_is x.phase b.0, eqb-true (count_of x.phase) x.found b.1)
 
 not_same : (a b : ℕ) → not (a == b) ≡ true → a ≢ b
 not_same a b h e = let yes : (a == b) ≡ true = eq-eqb a b e in let no : (a == b) ≡ false = unless (a == b) h in let bad : true ≡ false = sym yes ∙ no in cc
 
 pub turning_is : (x : Participant) → is_turning x ≡ true → (x.phase ≡ Opened (count_of x.phase)) × (count_of x.phase ≢ x.found)
-turning_is x h = let b = both (opened x.phase) (not (count_of x.phase == x.found)) h in (opened_is x.phase b.0, not_same (count_of x.phase) x.found b.1)
+turning_is x h = let b = both (is_opened_phase x.phase) (not (count_of x.phase == x.found)) h in (opened_is x.phase b.0, not_same (count_of x.phase) x.found b.1)
 
 pub ready_is : (x : Participant) → is_ready x ≡ true → Ready x
 ready_is x h = ⊎_elim (λ t. inl (idle_is x.phase t)) (λ t. inr (count_of x.phase, inside_is x t)) (either (is_idle x) (is_inside x) h)
 
 pub agrees_is : (count : ℕ) (y : Participant) → agrees count y ≡ true → (e : ℕ) → y.phase ≡ Opened e → e ≡ count
-agrees_is count y h e is = ⊎_elim (λ t. let unshut : opened y.phase ≡ true = ap opened is in let shut : opened y.phase ≡ false = unless (opened y.phase) t in let bad : true ≡ false = sym unshut ∙ shut in cc)
-    (λ t. sym (ap count_of is) ∙ eqb-true (count_of y.phase) count t) (either (not (opened y.phase)) (count_of y.phase == count) h)
+agrees_is count y h e is = ⊎_elim (λ t. let unshut : is_opened_phase y.phase ≡ true = ap is_opened_phase is in let shut : is_opened_phase y.phase ≡ false = unless (is_opened_phase y.phase) t in let bad : true ≡ false = sym unshut ∙ shut in cc)
+    (λ t. sym (ap count_of is) ∙ eqb-true (count_of y.phase) count t) (either (not (is_opened_phase y.phase)) (count_of y.phase == count) h)
 
 pub looked_is : (p : ℕ) (looked : List ℕ) (n : ℕ) → all_looked p looked n ≡ true → (q : ℕ) → q < n → q ≢ p → Has looked q
 looked_is p looked zero h q less other = absurd (omega arith)

@@ -11,7 +11,7 @@ use Rattle.sdd_steps.specs.declared.step.Step.{Step}
 use Rattle.sdd_steps.specs.declared.step.Step.TheVariants.{ReadEpoch, Publish, Rotate, LoadCell, LoadInHand, ReadSegment, SwapCell, Release, Retire, Collect, Look, Raise, Reclaim, GiveUp, GiveUpCell, Close, Place, RaiseOwners, Reread, End, TakeOver}
 use Rattle.sdd_steps.specs.State.{State, At, Has, has, participant_at, cell_at, item_at, participant_is, cell_is, item_is, newcomer, empty_cell, no_item, start}
 use Rattle.sdd_steps.specs.Steps.{enabled, after, Steps, Schedule, is_idle, is_reading, is_turning, is_inside, is_ready, has_loose_owner, is_full, is_live, is_due, is_reclaimed, is_left, is_reclaimable, is_offered, is_reachable, is_within, agrees, all_looked, all_have_loose_owners, all_alone, none_due, holder_is, count_of, named, let_go, emptied, filled, seen, with_state}
-use Rattle.sdd_steps.specs.Invariant.{Counted, Facts, Guarded, Standing, Inv, Safe, names_of}
+use Rattle.sdd_steps.specs.Invariant.{AllOwnersCounted, Facts, Guarded, Standing, Inv, Safe, names_of}
 use Rattle.sdd_steps.specs.Snapshots.{CanAge, HasRoom}
 use Rattle.sdd_steps.proofs.ListLemmas.{both, at_inside, at_mapped, at_replicate, find_at, get_at, has_map, read_or}
 use Rattle.sdd_steps.proofs.CountLemmas.{has_has, times_has, held_some, names_reheld, names_kept}
@@ -19,7 +19,7 @@ use Rattle.sdd_steps.proofs.EnabledLemmas.{participant_there, cell_there, item_t
 use Rattle.sdd_steps.proofs.StepLemmas.{named_there, live_in_hand, reads, publishes, closes, loads, looks_at, rereads, rotates, ends, raises, retires, collects, reclaims, adds_owner, releases, places, reholds, empties_cell, emptied_cell, emptied_hand, fills_cell, gives_up_owner}
 
 module _ (s : State) (i : Inv s) where
-  abbrev k : Counted (names_of s.cells) s.items
+  abbrev k : AllOwnersCounted (names_of s.cells) s.items
   k = i.0
 
   abbrev b : ℕ → ℕ

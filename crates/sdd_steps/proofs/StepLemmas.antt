@@ -10,14 +10,14 @@ use Rattle.sdd_steps.specs.declared.participant.Participant.{Participant}
 use Rattle.sdd_steps.specs.declared.item.Item.{Item}
 use Rattle.sdd_steps.specs.declared.item.Cell.{Cell}
 use Rattle.sdd_steps.specs.State.{State, At, Has, times, without, cell_at, item_at, with_participant, with_item, no_item, empty_cell}
-use Rattle.sdd_steps.specs.Steps.{loaded_as, handed, unhanded, emptied, filled, after_release, count_of, older, aged, left, left_by, noted, paid, placed, taken_up, all_have_loose_owners}
-use Rattle.sdd_steps.specs.Invariant.{Ageing, Counted, Same, Standing, Facts, Inv, names_of}
+use Rattle.sdd_steps.specs.Steps.{loaded_as, handed, unhanded, emptied, filled, after_release, count_of, older, aged, left, left_by, noted, paid, new_item, taken_up, all_have_loose_owners}
+use Rattle.sdd_steps.specs.Invariant.{Ageing, AllOwnersCounted, Same, Standing, Facts, Inv, names_of}
 use Rattle.sdd_steps.proofs.ListLemmas.{put, set_all, set_here, set_else, same_at, at_inside, at_get, get_at, at_mapped, at_map, at_longer, has_end}
 use Rattle.sdd_steps.proofs.CountLemmas.{uses_set, uses_some, points_self, points_other, times_some, counted_step, counted_give_up, counted_states, counted_placed, placed_all, paid_at, names_set, names_taken_up, loose_has, has_without}
 use Rattle.sdd_steps.proofs.FactLemmas.{Holding, participant_step, items_step, item_step, same_state, cells_step}
 use Rattle.sdd_steps.proofs.EnabledLemmas.{Inside, Ready, Reclaimable, aged_from, aged_standing, aged_live, aged_noted, left_from, left_standing, left_live, left_noted}
 
-module _ (s : State) (k : Counted (names_of s.cells) s.items) (born since : ℕ → ℕ) (f : Facts s born since) where
+module _ (s : State) (k : AllOwnersCounted (names_of s.cells) s.items) (born since : ℕ → ℕ) (f : Facts s born since) where
   abbrev More : State → Type 0
   More t = (b : ℕ → ℕ) × (n : ℕ → ℕ) × Facts t b n
 
@@ -222,13 +222,13 @@ module _ (s : State) (k : Counted (names_of s.cells) s.items) (born since : ℕ 
         (born, put since i (since i), same_state s born since k.holding f i it (made it.state) s.cells at_i refl refl (λ _ _. refl)),
       ))
 
-  gives_up : (p j i : ℕ) (w it : Item) → At s.items j w → w.state ≡ Reclaimed p → Has w.holds i → At s.items i it → Counted (names_of s.cells) (set (set s.items j (record w { holds = without i w.holds })) i (handed it)) × (i ≢ j) × Facts (record s { items = set s.items j (record w { holds = without i w.holds }) }) born (put since j (since j))
+  gives_up : (p j i : ℕ) (w it : Item) → At s.items j w → w.state ≡ Reclaimed p → Has w.holds i → At s.items i it → AllOwnersCounted (names_of s.cells) (set (set s.items j (record w { holds = without i w.holds })) i (handed it)) × (i ≢ j) × Facts (record s { items = set s.items j (record w { holds = without i w.holds }) }) born (put since j (since j))
   gives_up p j i w it at_j gone has at_i = let c = counted_give_up (names_of s.cells) s.items k p j i w it at_j gone has at_i in
       (c.1, c.0, same_state s born since k.holding f j w (record w { holds = without i w.holds }) s.cells at_j refl refl (λ b st. absurd (subst (Standing b (since j)) gone st)))
 
   empties : (c i : ℕ) (o : Cell) (it : Item) → At s.cells c o → o.names ≡ Some i → At s.items i it → Inv (record s { cells = set s.cells c (record o { names = None }); items = set s.items i (handed it) })
   empties c i o it at_c is at_i = let o' : Cell = record o { names = None } in let w = k.owned i it at_i in let n = w.counted in let names = names_of s.cells in let at_n = at_name c o i at_c is in (
-    subst (λ l. Counted l (set s.items i (handed it))) (sym (names_set s.cells c o'))
+    subst (λ l. AllOwnersCounted l (set s.items i (handed it))) (sym (names_set s.cells c o'))
         (counted_step names (set names c None) s.items k i it (handed it) at_i refl
         (λ j other. let u = uses_set j names c (Some i) None at_n in let e = points_other j i (λ h. other (sym h)) in omega arith)
         (let u = uses_set i names c (Some i) None at_n in let e = points_self i in (omega arith, w.has_owner, w.is_live, w.limit))
@@ -239,7 +239,7 @@ module _ (s : State) (k : Counted (names_of s.cells) s.items) (born since : ℕ 
   fills : (c i : ℕ) (o : Cell) (it : Item) → At s.cells c o → o.names ≡ None → At s.items i it → 0 < it.hand → Inv (record s { cells = set s.cells c (record o { names = Some i }); items = set s.items i (unhanded it) })
   fills c i o it at_c is at_i more = let o' : Cell = record o { names = Some i } in let w = k.owned i it at_i in let n = w.counted in let names = names_of s.cells in
       let at_n : At names c None = subst (At names c) is (at_map (λ (z : Cell). z.names) s.cells c o at_c) in (
-        subst (λ l. Counted l (set s.items i (unhanded it))) (sym (names_set s.cells c o'))
+        subst (λ l. AllOwnersCounted l (set s.items i (unhanded it))) (sym (names_set s.cells c o'))
             (counted_step names (set names c (Some i)) s.items k i it (unhanded it) at_i refl
             (λ j other. let u = uses_set j names c None (Some i) at_n in let e = points_other j i (λ h. other (sym h)) in omega arith)
             (let u = uses_set i names c None (Some i) at_n in let e = points_self i in (omega arith, w.has_owner, w.is_live, w.limit))
@@ -247,15 +247,15 @@ module _ (s : State) (k : Counted (names_of s.cells) s.items) (born since : ℕ 
         (born, put since i (since i), same_state s born since k.holding f i it (unhanded it) (set s.cells c o') at_i refl refl (λ _ _. refl)),
       )
 
-  pub places : (v : ℕ) (hs cs : List ℕ) → all_have_loose_owners s.items hs hs ≡ true → Inv (record s { cells = taken_up (length s.items) cs s.cells; items = paid hs s.items ++ placed v hs ∷ [] })
-  places v hs cs loose = let all = paid hs s.items ++ placed v hs ∷ [] in let cells' = taken_up (length s.items) cs s.cells in (
-    subst (λ l. Counted l all) (sym (names_taken_up (length s.items) cs s.cells)) (counted_placed v hs (names_of s.cells) s.items (λ m has. (loose_has s.items hs hs loose m has).0)
+  pub places : (v : ℕ) (hs cs : List ℕ) → all_have_loose_owners s.items hs hs ≡ true → Inv (record s { cells = taken_up (length s.items) cs s.cells; items = paid hs s.items ++ new_item v hs ∷ [] })
+  places v hs cs loose = let all = paid hs s.items ++ new_item v hs ∷ [] in let cells' = taken_up (length s.items) cs s.cells in (
+    subst (λ l. AllOwnersCounted l all) (sym (names_taken_up (length s.items) cs s.cells)) (counted_placed v hs (names_of s.cells) s.items (λ m has. (loose_has s.items hs hs loose m has).0)
         (λ m it at. ⊎_elim (λ (e : times m hs ≡ 0). omega arith) (λ (has : Has hs m). let h = (loose_has s.items hs hs loose m has).1 in let e : (get_or s.items m no_item).hand ≡ it.hand = ap (λ (z : Item). z.hand) (get_at s.items m no_item it at) in omega arith) (times_some m hs)) k),
     (
       born,
       since,
       items_step s born since since k.holding f all cells'
-          (λ m it at. (record it { hand = it.hand - times m hs }, at_longer (paid hs s.items) (placed v hs ∷ []) m (record it { hand = it.hand - times m hs }) (paid_at hs s.items m it at), record { value = refl; holds = λ _ _. refl; stands = λ _ _ _ st. st }))
+          (λ m it at. (record it { hand = it.hand - times m hs }, at_longer (paid hs s.items) (new_item v hs ∷ []) m (record it { hand = it.hand - times m hs }) (paid_at hs s.items m it at), record { value = refl; holds = λ _ _. refl; stands = λ _ _ _ st. st }))
           f.dated
           (λ j z r a y here is at_r. placed_all v hs s.items (λ j' z'. z'.state ≡ Retired r a → Ageing (since j') a y.found y.phase) (λ e. absurd (cc)) (λ j' it at' e. f.ageing j' it r a y at' e at_r) j z here is)
           (λ j z m here is. placed_all v hs s.items (λ j' z'. z'.state ≡ Collected m → since j' ≤ m + 1) (λ e. absurd (cc)) (λ j' it at' e. f.noted j' it m at' e) j z here is),
@@ -264,7 +264,7 @@ module _ (s : State) (k : Counted (names_of s.cells) s.items) (born since : ℕ 
 
 -- who holds cells changes
 pub reholds : (s : State) (cells' : List Cell) → names_of cells' ≡ names_of s.cells → Inv s → Inv (record s { cells = cells' })
-reholds s cells' same (k, (b, n, f)) = (subst (λ l. Counted l s.items) (sym same) k, (b, n, cells_step s cells' b n f))
+reholds s cells' same (k, (b, n, f)) = (subst (λ l. AllOwnersCounted l s.items) (sym same) k, (b, n, cells_step s cells' b n f))
 
 pub empties_cell : (s : State) (c : ℕ) (o : Option ℕ) → At s.cells c (cell_at s c) → (cell_at s c).names ≡ o → Inv s → Inv (emptied s c o)
 empties_cell s c None at is i = i

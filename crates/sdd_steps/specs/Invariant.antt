@@ -10,13 +10,13 @@ use Rattle.sdd_steps.specs.declared.participant.Participant.{Participant}
 use Rattle.sdd_steps.specs.declared.item.Item.{Item}
 use Rattle.sdd_steps.specs.declared.item.Cell.{Cell}
 use Rattle.sdd_steps.specs.declared.step.Step.{Step}
-use Rattle.sdd_steps.specs.State.{State, At, Has, tally, times, start}
+use Rattle.sdd_steps.specs.State.{State, At, Has, one_if_same, times, start}
 use Rattle.sdd_steps.specs.Steps.{Steps, Schedule, seen}
 
 -- How often cells name the item i, and how often items hold it, half reclaimed ones with what they still hold
 abbrev pub points : ℕ → Option ℕ → ℕ
 points i None = 0
-points i (Some j) = tally i j
+points i (Some j) = one_if_same i j
 
 abbrev pub uses : ℕ → List (Option ℕ) → ℕ
 uses i [] = 0
@@ -36,7 +36,7 @@ pub record Owned (i : ℕ) (names : List (Option ℕ)) (items : List Item) (it :
   pub is_live : 0 < it.owners → it.state ≡ Live
   pub limit : it.owners ≤ 2 ^ 32 - 1
 
-pub record Counted (names : List (Option ℕ)) (items : List Item) : Type 0 where
+pub record AllOwnersCounted (names : List (Option ℕ)) (items : List Item) : Type 0 where
   pub owned : (i : ℕ) (it : Item) → At items i it → Owned i names items it
   pub named : (c : ℕ) (i : ℕ) → At names c (Some i) → i < length items
   pub holding : (j : ℕ) (w : Item) (i : ℕ) → At items j w → Has w.holds i → i < length items
@@ -80,7 +80,7 @@ pub record Facts (s : State) (born since : ℕ → ℕ) : Type 0 where
 
 -- The invariant: owners are counted, and counts can be told for publications and retirements that meet the rest
 abbrev pub Inv : State → Type 0
-Inv s = Counted (names_of s.cells) s.items × ((born : ℕ → ℕ) × (since : ℕ → ℕ) × Facts s born since)
+Inv s = AllOwnersCounted (names_of s.cells) s.items × ((born : ℕ → ℕ) × (since : ℕ → ℕ) × Facts s born since)
 
 -- The promise for an item that was loaded: it isn't reclaimed, its value is as it was, it still holds what it held, and each of these is live with an owner and has the value that it had
 pub record Intact (s : State) (h : Loaded) : Type 0 where

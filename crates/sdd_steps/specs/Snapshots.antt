@@ -6,8 +6,8 @@ use Rattle.sdd_steps.specs.declared.snapshot.Snapshot.{Snapshot}
 use Rattle.sdd_steps.specs.declared.item.Item.{Item}
 use Rattle.sdd_steps.specs.declared.item.ItemState.TheVariants.{Retired}
 
-abbrev pub shown : Snapshot → State
-shown s = record { count = s.count; participants = s.participants.items; cells = s.cells.items; items = s.items.items }
+abbrev pub snapshot_state : Snapshot → State
+snapshot_state s = record { count = s.count; participants = s.participants.items; cells = s.cells.items; items = s.items.items }
 
 -- items retired by p may age by one
 abbrev pub CanAge : ℕ → List Item → Type 0

@@ -68,8 +68,8 @@ Has [] y = ⊥
 Has (x ∷ xs) y = (x ≡ y) ⊎ Has xs y
 
 -- 1 for the number i
-abbrev pub tally : ℕ → ℕ → ℕ
-tally i j = cond (j == i) 1 0
+abbrev pub one_if_same : ℕ → ℕ → ℕ
+one_if_same i j = cond (j == i) 1 0
 
 -- whether a list of numbers has i, and how often
 abbrev pub has : ℕ → List ℕ → Bool
@@ -78,7 +78,7 @@ has i (j ∷ js) = (j == i) || has i js
 
 abbrev pub times : ℕ → List ℕ → ℕ
 times i [] = 0
-times i (j ∷ js) = tally i j + times i js
+times i (j ∷ js) = one_if_same i j + times i js
 
 -- the list without its first i
 abbrev pub without : ℕ → List ℕ → List ℕ

@@ -14,20 +14,20 @@ use Rattle.sdd_steps.specs.declared.step.Step.TheVariants.{ReadEpoch, Publish, R
 use Rattle.sdd_steps.specs.State.{State, participant_at, cell_at, item_at, participant_is, cell_is, item_is, with_participant, with_cell, with_item, has, times, without, no_item, empty_cell}
 
 -- phases: without a guard; the count was read and not published; a guard is open
-abbrev pub idle : Phase → Bool
-idle Idle = true
-idle (HasRead e) = false
-idle (Opened e) = false
+abbrev pub is_idle_phase : Phase → Bool
+is_idle_phase Idle = true
+is_idle_phase (HasRead e) = false
+is_idle_phase (Opened e) = false
 
-abbrev pub reading : Phase → Bool
-reading Idle = false
-reading (HasRead e) = true
-reading (Opened e) = false
+abbrev pub is_reading_phase : Phase → Bool
+is_reading_phase Idle = false
+is_reading_phase (HasRead e) = true
+is_reading_phase (Opened e) = false
 
-abbrev pub opened : Phase → Bool
-opened Idle = false
-opened (HasRead e) = false
-opened (Opened e) = true
+abbrev pub is_opened_phase : Phase → Bool
+is_opened_phase Idle = false
+is_opened_phase (HasRead e) = false
+is_opened_phase (Opened e) = true
 
 -- the count that was read
 abbrev pub count_of : Phase → ℕ
@@ -36,18 +36,18 @@ count_of (HasRead e) = e
 count_of (Opened e) = e
 
 abbrev pub is_idle : Participant → Bool
-is_idle x = idle x.phase
+is_idle x = is_idle_phase x.phase
 
 abbrev pub is_reading : Participant → Bool
-is_reading x = reading x.phase
+is_reading x = is_reading_phase x.phase
 
 -- it published another count than its previous opening found, so its rotation is due
 abbrev pub is_turning : Participant → Bool
-is_turning x = opened x.phase && not (count_of x.phase == x.found)
+is_turning x = is_opened_phase x.phase && not (count_of x.phase == x.found)
 
 -- its guard is open, and no rotation is due
 abbrev pub is_inside : Participant → Bool
-is_inside x = opened x.phase && (count_of x.phase == x.found)
+is_inside x = is_opened_phase x.phase && (count_of x.phase == x.found)
 
 -- it is free to take steps that ask for no guard
 abbrev pub is_ready : Participant → Bool
@@ -55,7 +55,7 @@ is_ready x = is_idle x || is_inside x
 
 -- closed, or open with the present count
 abbrev pub agrees : ℕ → Participant → Bool
-agrees count x = not (opened x.phase) || (count_of x.phase == count)
+agrees count x = not (is_opened_phase x.phase) || (count_of x.phase == count)
 
 -- each number below n is p or was looked at
 abbrev pub all_looked : ℕ → List ℕ → ℕ → Bool
@@ -198,8 +198,8 @@ seen items k = record { item = k; value = (get_or items k no_item).value }
 abbrev pub loaded_as : List Item → ℕ → Loaded
 loaded_as items i = record { item = i; value = (get_or items i no_item).value; holds = map (seen items) (get_or items i no_item).holds }
 
-abbrev pub loading : State → ℕ → ℕ → State
-loading s p i = with_participant s p (record (participant_at s p) { loaded = (participant_at s p).loaded ++ loaded_as s.items i ∷ [] })
+abbrev pub with_loaded : State → ℕ → ℕ → State
+with_loaded s p i = with_participant s p (record (participant_at s p) { loaded = (participant_at s p).loaded ++ loaded_as s.items i ∷ [] })
 
 -- an owner comes into the hand, or leaves it
 abbrev pub handed : Item → Item
@@ -265,8 +265,8 @@ abbrev pub taken_up : ℕ → List ℕ → List Cell → List Cell
 taken_up i [] cells = cells
 taken_up i (c ∷ cs) cells = taken_up i cs (set cells c (record (get_or cells c empty_cell) { holder = Some i }))
 
-abbrev pub placed : ℕ → List ℕ → Item
-placed value holds = record { value = value; hand = 1; owners = 1; holds = holds; state = Live }
+abbrev pub new_item : ℕ → List ℕ → Item
+new_item value holds = record { value = value; hand = 1; owners = 1; holds = holds; state = Live }
 
 -- the note in a private bag
 abbrev pub noted : Option ℕ → ItemState
@@ -278,8 +278,8 @@ abbrev pub after : State → Step → State
 after s (ReadEpoch p) = with_participant s p (record (participant_at s p) { phase = HasRead s.count })
 after s (Publish p) = with_participant s p (record (participant_at s p) { phase = Opened (count_of (participant_at s p).phase); reread = None; looked = []; loaded = [] })
 after s (Rotate p) = record s { participants = set s.participants p (record (participant_at s p) { found = count_of (participant_at s p).phase }); items = map (older p) s.items }
-after s (LoadCell p c) = loading s p (named (cell_at s c).names)
-after s (LoadInHand p i) = loading s p i
+after s (LoadCell p c) = with_loaded s p (named (cell_at s c).names)
+after s (LoadInHand p i) = with_loaded s p i
 after s (ReadSegment p i k) = s
 after s (SwapCell p c new) = filled (emptied s c (cell_at s c).names) c new
 after s (Release p i) = with_item s i (after_release p (item_at s i))
@@ -291,7 +291,7 @@ after s (Reclaim p i) = record (with_state s i (Reclaimed p)) { cells = map (let
 after s (GiveUp p j i) = let w = item_at s j in let t = with_item s j (record w { holds = without i w.holds }) in with_item t i (handed (item_at t i))
 after s (GiveUpCell p c) = let t = emptied s c (cell_at s c).names in with_cell t c (record (cell_at t c) { holder = None })
 after s (Close p) = with_participant s p (record (participant_at s p) { phase = Idle; reread = None; looked = []; loaded = [] })
-after s (Place p value holds cells) = record s { cells = taken_up (length s.items) cells s.cells; items = paid holds s.items ++ placed value holds ∷ [] }
+after s (Place p value holds cells) = record s { cells = taken_up (length s.items) cells s.cells; items = paid holds s.items ++ new_item value holds ∷ [] }
 after s (RaiseOwners p i) = with_item s i (record (item_at s i) { hand = (item_at s i).hand + 1; owners = (item_at s i).owners + 1 })
 after s (Reread p) = with_participant s p (record (participant_at s p) { reread = Some s.count })
 after s (End p) = record s { participants = set s.participants p (record (participant_at s p) { found = 0 }); items = map (left_by p) s.items }

@@ -2,8 +2,8 @@
 
 ghost use Rattle.std.specs.Prelude.{◌≡◌, ℕ, ◌<◌, ◌+◌, ◌-◌, ◌^◌, true, map, length, None, OnOk, IfOk, IfErr};
 ghost use Rattle.sdd_steps.specs.State.{no_item, participant_at, cell_at, item_at, with_item, without};
-ghost use Rattle.sdd_steps.specs.Steps.{seen, loaded_as, loading, handed, unhanded, emptied, filled, with_state, aged, left, older, left_by, let_go, noted, paid, taken_up, enabled, after};
-ghost use Rattle.sdd_steps.specs.Snapshots.{shown, CanAge, HasRoom};
+ghost use Rattle.sdd_steps.specs.Steps.{seen, loaded_as, with_loaded, handed, unhanded, emptied, filled, with_state, aged, left, older, left_by, let_go, noted, paid, taken_up, enabled, after};
+ghost use Rattle.sdd_steps.specs.Snapshots.{snapshot_state, CanAge, HasRoom};
 ghost use Rattle.sdd_steps.specs.declared.item.ItemState.TheVariants as item_state;
 ghost use Rattle.sdd_steps.specs.declared.step.Step.TheVariants as step;
 
@@ -133,7 +133,7 @@ fn seen_all(alloc: Global, items: &[Item], holds: &[usize]) -> Result<Vec<Seen>,
 
 impl Snapshot {
     fn read_epoch(&mut self, alloc: Global, p: usize) -> Result<(), AllocError>
-        ensures { OnOk result (shown self.new ≡ after (shown self.old) (step.ReadEpoch p)) }
+        ensures { OnOk result (snapshot_state self.new ≡ after (snapshot_state self.old) (step.ReadEpoch p)) }
     {
         let mut x = self.participant_copy(alloc, p)?;
         x.phase = Phase::HasRead(self.count);
@@ -142,7 +142,7 @@ impl Snapshot {
     }
 
     fn publish(&mut self, alloc: Global, p: usize) -> Result<(), AllocError>
-        ensures { OnOk result (shown self.new ≡ after (shown self.old) (step.Publish p)) }
+        ensures { OnOk result (snapshot_state self.new ≡ after (snapshot_state self.old) (step.Publish p)) }
     {
         let mut opened = self.participant_copy(alloc, p)?;
         opened.phase = Phase::Opened(opened.phase.count());
@@ -154,8 +154,8 @@ impl Snapshot {
     }
 
     fn rotate(&mut self, alloc: Global, p: usize) -> Result<(), AllocError>
-        requires { CanAge p (shown self.old).items }
-        ensures { OnOk result (shown self.new ≡ after (shown self.old) (step.Rotate p)) }
+        requires { CanAge p (snapshot_state self.old).items }
+        ensures { OnOk result (snapshot_state self.new ≡ after (snapshot_state self.old) (step.Rotate p)) }
     {
         let mut x = self.participant_copy(alloc, p)?;
         x.found = x.phase.count();
@@ -165,7 +165,7 @@ impl Snapshot {
     }
 
     fn loaded_as(&self, alloc: Global, i: usize) -> Result<Loaded, AllocError>
-        ensures { IfOk result (λ h. h ≡ loaded_as (shown self.now).items i) }
+        ensures { IfOk result (λ h. h ≡ loaded_as (snapshot_state self.now).items i) }
     {
         let item = self.item_copy(alloc, i)?;
         let holds = seen_all(alloc, &self.items, item.holds.as_slice())?;
@@ -177,7 +177,7 @@ impl Snapshot {
     }
 
     fn load(&mut self, alloc: Global, p: usize, i: usize) -> Result<(), AllocError>
-        ensures { OnOk result (shown self.new ≡ loading (shown self.old) p i) }
+        ensures { OnOk result (snapshot_state self.new ≡ with_loaded (snapshot_state self.old) p i) }
     {
         let mut x = self.participant_copy(alloc, p)?;
         x.loaded.push(self.loaded_as(alloc, i)?)?;
@@ -186,7 +186,7 @@ impl Snapshot {
     }
 
     fn load_cell(&mut self, alloc: Global, p: usize, c: usize) -> Result<(), AllocError>
-        ensures { OnOk result (shown self.new ≡ after (shown self.old) (step.LoadCell p c)) }
+        ensures { OnOk result (snapshot_state self.new ≡ after (snapshot_state self.old) (step.LoadCell p c)) }
     {
         match self.cell(c).names {
             Some(i) => self.load(alloc, p, i),
@@ -196,8 +196,8 @@ impl Snapshot {
 
     // An owner of item i comes into the hand.
     fn hand(&mut self, alloc: Global, i: usize) -> Result<(), AllocError>
-        requires { (item_at (shown self.old) i).hand < 2 ^ 64 - 1 }
-        ensures { OnOk result (shown self.new ≡ with_item (shown self.old) i (handed (item_at (shown self.old) i))) }
+        requires { (item_at (snapshot_state self.old) i).hand < 2 ^ 64 - 1 }
+        ensures { OnOk result (snapshot_state self.new ≡ with_item (snapshot_state self.old) i (handed (item_at (snapshot_state self.old) i))) }
     {
         let mut item = self.item_copy(alloc, i)?;
         item.hand += 1;
@@ -207,7 +207,7 @@ impl Snapshot {
 
     // An owner of item i leaves the hand.
     fn unhand(&mut self, alloc: Global, i: usize) -> Result<(), AllocError>
-        ensures { OnOk result (shown self.new ≡ with_item (shown self.old) i (unhanded (item_at (shown self.old) i))) }
+        ensures { OnOk result (snapshot_state self.new ≡ with_item (snapshot_state self.old) i (unhanded (item_at (snapshot_state self.old) i))) }
     {
         let mut item = self.item_copy(alloc, i)?;
         item.hand = item.hand.saturating_sub(1);
@@ -217,8 +217,8 @@ impl Snapshot {
 
     // The item of cell c, if any, comes into the hand.
     fn empty_cell(&mut self, alloc: Global, c: usize) -> Result<(), AllocError>
-        requires { (i : ℕ) → (item_at (shown self.old) i).hand < 2 ^ 64 - 1 }
-        ensures { OnOk result (shown self.new ≡ emptied (shown self.old) c (cell_at (shown self.old) c).names) }
+        requires { (i : ℕ) → (item_at (snapshot_state self.old) i).hand < 2 ^ 64 - 1 }
+        ensures { OnOk result (snapshot_state self.new ≡ emptied (snapshot_state self.old) c (cell_at (snapshot_state self.old) c).names) }
     {
         let o = self.cell(c);
         match o.names {
@@ -238,7 +238,7 @@ impl Snapshot {
 
     // An item, if any, comes out of the hand into cell c.
     fn fill_cell(&mut self, alloc: Global, c: usize, new: Option<usize>) -> Result<(), AllocError>
-        ensures { OnOk result (shown self.new ≡ filled (shown self.old) c new) }
+        ensures { OnOk result (snapshot_state self.new ≡ filled (snapshot_state self.old) c new) }
     {
         match new {
             None => Ok(()),
@@ -263,15 +263,15 @@ impl Snapshot {
         c: usize,
         new: Option<usize>,
     ) -> Result<(), AllocError>
-        requires { (i : ℕ) → (item_at (shown self.old) i).hand < 2 ^ 64 - 1 }
-        ensures { OnOk result (shown self.new ≡ after (shown self.old) (step.SwapCell p c new)) }
+        requires { (i : ℕ) → (item_at (snapshot_state self.old) i).hand < 2 ^ 64 - 1 }
+        ensures { OnOk result (snapshot_state self.new ≡ after (snapshot_state self.old) (step.SwapCell p c new)) }
     {
         self.empty_cell(alloc, c)?;
         self.fill_cell(alloc, c, new)
     }
 
     fn release(&mut self, alloc: Global, p: usize, i: usize) -> Result<(), AllocError>
-        ensures { OnOk result (shown self.new ≡ after (shown self.old) (step.Release p i)) }
+        ensures { OnOk result (snapshot_state self.new ≡ after (snapshot_state self.old) (step.Release p i)) }
     {
         let mut item = self.item_copy(alloc, i)?;
         item.hand = item.hand.saturating_sub(1);
@@ -284,7 +284,7 @@ impl Snapshot {
     }
 
     fn set_state(&mut self, alloc: Global, i: usize, state: ItemState) -> Result<(), AllocError>
-        ensures { OnOk result (shown self.new ≡ with_state (shown self.old) i state) }
+        ensures { OnOk result (snapshot_state self.new ≡ with_state (snapshot_state self.old) i state) }
     {
         let mut item = self.item_copy(alloc, i)?;
         item.state = state;
@@ -293,7 +293,7 @@ impl Snapshot {
     }
 
     fn collect(&mut self, alloc: Global, p: usize, i: usize) -> Result<(), AllocError>
-        ensures { OnOk result (shown self.new ≡ after (shown self.old) (step.Collect p i)) }
+        ensures { OnOk result (snapshot_state self.new ≡ after (snapshot_state self.old) (step.Collect p i)) }
     {
         let x = self.participant_copy(alloc, p)?;
         let state = match x.reread {
@@ -304,7 +304,7 @@ impl Snapshot {
     }
 
     fn look(&mut self, alloc: Global, p: usize, q: usize) -> Result<(), AllocError>
-        ensures { OnOk result (shown self.new ≡ after (shown self.old) (step.Look p q)) }
+        ensures { OnOk result (snapshot_state self.new ≡ after (snapshot_state self.old) (step.Look p q)) }
     {
         let mut x = self.participant_copy(alloc, p)?;
         x.looked.push(q)?;
@@ -313,7 +313,7 @@ impl Snapshot {
     }
 
     fn reclaim(&mut self, alloc: Global, p: usize, i: usize) -> Result<(), AllocError>
-        ensures { OnOk result (shown self.new ≡ after (shown self.old) (step.Reclaim p i)) }
+        ensures { OnOk result (snapshot_state self.new ≡ after (snapshot_state self.old) (step.Reclaim p i)) }
     {
         self.cells = let_go_all(alloc, i, &self.cells)?;
         self.set_state(alloc, i, ItemState::Reclaimed(p))
@@ -321,7 +321,7 @@ impl Snapshot {
 
     // The first item, without an owner of the second one.
     fn lose(&mut self, alloc: Global, j: usize, i: usize) -> Result<(), AllocError>
-        ensures { OnOk result (shown self.new ≡ with_item (shown self.old) j (record (item_at (shown self.old) j) { holds = without i (item_at (shown self.old) j).holds })) }
+        ensures { OnOk result (snapshot_state self.new ≡ with_item (snapshot_state self.old) j (record (item_at (snapshot_state self.old) j) { holds = without i (item_at (snapshot_state self.old) j).holds })) }
     {
         let mut item = self.item_copy(alloc, j)?;
         item.holds = Seq::from_vec(without(alloc, i, item.holds.as_slice())?);
@@ -330,16 +330,16 @@ impl Snapshot {
     }
 
     fn give_up(&mut self, alloc: Global, p: usize, j: usize, i: usize) -> Result<(), AllocError>
-        requires { (k : ℕ) → (item_at (shown self.old) k).hand < 2 ^ 64 - 1 }
-        ensures { OnOk result (shown self.new ≡ after (shown self.old) (step.GiveUp p j i)) }
+        requires { (k : ℕ) → (item_at (snapshot_state self.old) k).hand < 2 ^ 64 - 1 }
+        ensures { OnOk result (snapshot_state self.new ≡ after (snapshot_state self.old) (step.GiveUp p j i)) }
     {
         self.lose(alloc, j, i)?;
         self.hand(alloc, i)
     }
 
     fn give_up_cell(&mut self, alloc: Global, p: usize, c: usize) -> Result<(), AllocError>
-        requires { (i : ℕ) → (item_at (shown self.old) i).hand < 2 ^ 64 - 1 }
-        ensures { OnOk result (shown self.new ≡ after (shown self.old) (step.GiveUpCell p c)) }
+        requires { (i : ℕ) → (item_at (snapshot_state self.old) i).hand < 2 ^ 64 - 1 }
+        ensures { OnOk result (snapshot_state self.new ≡ after (snapshot_state self.old) (step.GiveUpCell p c)) }
     {
         self.empty_cell(alloc, c)?;
         let o = self.cell(c);
@@ -354,7 +354,7 @@ impl Snapshot {
     }
 
     fn close(&mut self, alloc: Global, p: usize) -> Result<(), AllocError>
-        ensures { OnOk result (shown self.new ≡ after (shown self.old) (step.Close p)) }
+        ensures { OnOk result (snapshot_state self.new ≡ after (snapshot_state self.old) (step.Close p)) }
     {
         let mut closed = self.participant_copy(alloc, p)?;
         closed.phase = Phase::Idle;
@@ -367,7 +367,7 @@ impl Snapshot {
 
     // An owner of each item of the list leaves the hand.
     fn pay(&mut self, alloc: Global, holds: &[usize]) -> Result<(), AllocError>
-        ensures { OnOk result (shown self.new ≡ record (shown self.old) { items = paid holds.now (shown self.old).items }) }
+        ensures { OnOk result (snapshot_state self.new ≡ record (snapshot_state self.old) { items = paid holds.now (snapshot_state self.old).items }) }
     {
         for k in holds {
             self.unhand(alloc, *k)?;
@@ -377,7 +377,7 @@ impl Snapshot {
 
     // Item i holds the cells of the list.
     fn take_up(&mut self, i: usize, cells: &[usize])
-        ensures { shown self.new ≡ record (shown self.old) { cells = taken_up i cells.now (shown self.old).cells } }
+        ensures { snapshot_state self.new ≡ record (snapshot_state self.old) { cells = taken_up i cells.now (snapshot_state self.old).cells } }
     {
         for c in cells {
             let o = self.cell(*c);
@@ -399,7 +399,7 @@ impl Snapshot {
         holds: Seq<usize>,
         cells: &[usize],
     ) -> Result<(), AllocError>
-        ensures { OnOk result (shown self.new ≡ after (shown self.old) (step.Place p value holds cells.now)) }
+        ensures { OnOk result (snapshot_state self.new ≡ after (snapshot_state self.old) (step.Place p value holds cells.now)) }
     {
         let next = self.items.len();
         self.take_up(next, cells);
@@ -415,9 +415,9 @@ impl Snapshot {
     }
 
     fn raise_owners(&mut self, alloc: Global, p: usize, i: usize) -> Result<(), AllocError>
-        requires hand { (item_at (shown self.old) i).hand < 2 ^ 64 - 1 }
-        requires owners { (item_at (shown self.old) i).owners < 2 ^ 64 - 1 }
-        ensures { OnOk result (shown self.new ≡ after (shown self.old) (step.RaiseOwners p i)) }
+        requires hand { (item_at (snapshot_state self.old) i).hand < 2 ^ 64 - 1 }
+        requires owners { (item_at (snapshot_state self.old) i).owners < 2 ^ 64 - 1 }
+        ensures { OnOk result (snapshot_state self.new ≡ after (snapshot_state self.old) (step.RaiseOwners p i)) }
     {
         let mut item = self.item_copy(alloc, i)?;
         item.hand += 1;
@@ -427,7 +427,7 @@ impl Snapshot {
     }
 
     fn reread(&mut self, alloc: Global, p: usize) -> Result<(), AllocError>
-        ensures { OnOk result (shown self.new ≡ after (shown self.old) (step.Reread p)) }
+        ensures { OnOk result (snapshot_state self.new ≡ after (snapshot_state self.old) (step.Reread p)) }
     {
         let mut x = self.participant_copy(alloc, p)?;
         x.reread = Some(self.count);
@@ -436,7 +436,7 @@ impl Snapshot {
     }
 
     fn end(&mut self, alloc: Global, p: usize) -> Result<(), AllocError>
-        ensures { OnOk result (shown self.new ≡ after (shown self.old) (step.End p)) }
+        ensures { OnOk result (snapshot_state self.new ≡ after (snapshot_state self.old) (step.End p)) }
     {
         let mut x = self.participant_copy(alloc, p)?;
         x.found = 0;
@@ -448,16 +448,16 @@ impl Snapshot {
     // One more than the present count.
     fn raise(&mut self)
         requires { self.old.count < 2 ^ 64 - 1 }
-        ensures { shown self.new ≡ record (shown self.old) { count = self.old.count + 1 } }
+        ensures { snapshot_state self.new ≡ record (snapshot_state self.old) { count = self.old.count + 1 } }
     {
         self.count += 1;
     }
 
     /// Takes a step that is enabled. Where memory is refused nothing is known of what is left.
     pub(crate) fn take(&mut self, alloc: Global, step: Step) -> Result<(), AllocError>
-        requires enabled { enabled (shown self.old) step ≡ true }
-        requires room { HasRoom (shown self.old) }
-        ensures { OnOk result (shown self.new ≡ after (shown self.old) step) }
+        requires enabled { enabled (snapshot_state self.old) step ≡ true }
+        requires room { HasRoom (snapshot_state self.old) }
+        ensures { OnOk result (snapshot_state self.new ≡ after (snapshot_state self.old) step) }
     {
         match step {
             Step::ReadEpoch(p) => self.read_epoch(alloc, p),

@@ -2,8 +2,8 @@
 
 ghost use Rattle.std.specs.Prelude.{◌≡◌, ◌<◌, ◌||◌, ◌&&◌, ◌==◌, ◌^◌, ◌-◌, nat_lt, not, is_some, length};
 ghost use Rattle.sdd_steps.specs.State.{participant_is, cell_is, item_is, participant_at, has, times};
-ghost use Rattle.sdd_steps.specs.Steps.{idle, reading, opened, count_of, is_idle, is_reading, is_turning, is_inside, is_ready, is_full, is_live, is_due, is_reclaimed, is_left, is_past, is_reclaimable, has_loose_owner, is_offered, is_reachable, is_within, stands_alone, holder_is, agrees, all_looked, all_have_loose_owners, all_alone, none_due, was_loaded, was_held, segment_loaded, enabled};
-ghost use Rattle.sdd_steps.specs.Snapshots.{shown};
+ghost use Rattle.sdd_steps.specs.Steps.{is_idle_phase, is_reading_phase, is_opened_phase, count_of, is_idle, is_reading, is_turning, is_inside, is_ready, is_full, is_live, is_due, is_reclaimed, is_left, is_past, is_reclaimable, has_loose_owner, is_offered, is_reachable, is_within, stands_alone, holder_is, agrees, all_looked, all_have_loose_owners, all_alone, none_due, was_loaded, was_held, segment_loaded, enabled};
+ghost use Rattle.sdd_steps.specs.Snapshots.{snapshot_state};
 
 use crate::item::{Cell, Item, ItemState};
 use crate::participant::{Loaded, Participant, Phase, Seen};
@@ -12,7 +12,7 @@ use crate::step::Step;
 
 impl Phase {
     fn is_idle(self) -> bool
-        ensures { result ≡ idle self }
+        ensures { result ≡ is_idle_phase self }
     {
         match self {
             Phase::Idle => true,
@@ -21,7 +21,7 @@ impl Phase {
     }
 
     fn is_reading(self) -> bool
-        ensures { result ≡ reading self }
+        ensures { result ≡ is_reading_phase self }
     {
         match self {
             Phase::HasRead(_) => true,
@@ -30,7 +30,7 @@ impl Phase {
     }
 
     fn is_opened(self) -> bool
-        ensures { result ≡ opened self }
+        ensures { result ≡ is_opened_phase self }
     {
         match self {
             Phase::Opened(_) => true,
@@ -257,56 +257,56 @@ impl Cell {
 
 impl Snapshot {
     fn is_idle(&self, p: usize) -> bool
-        ensures { result ≡ participant_is is_idle (shown self.now) p }
+        ensures { result ≡ participant_is is_idle (snapshot_state self.now) p }
     {
         p < self.participants.len() && self.participant(p).phase.is_idle()
     }
 
     fn is_reading(&self, p: usize) -> bool
-        ensures { result ≡ participant_is is_reading (shown self.now) p }
+        ensures { result ≡ participant_is is_reading (snapshot_state self.now) p }
     {
         p < self.participants.len() && self.participant(p).phase.is_reading()
     }
 
     fn is_turning(&self, p: usize) -> bool
-        ensures { result ≡ participant_is is_turning (shown self.now) p }
+        ensures { result ≡ participant_is is_turning (snapshot_state self.now) p }
     {
         p < self.participants.len() && self.participant(p).is_turning()
     }
 
     fn is_inside(&self, p: usize) -> bool
-        ensures { result ≡ participant_is is_inside (shown self.now) p }
+        ensures { result ≡ participant_is is_inside (snapshot_state self.now) p }
     {
         p < self.participants.len() && self.participant(p).is_inside()
     }
 
     fn is_ready(&self, p: usize) -> bool
-        ensures { result ≡ participant_is is_ready (shown self.now) p }
+        ensures { result ≡ participant_is is_ready (snapshot_state self.now) p }
     {
         p < self.participants.len() && self.participant(p).is_ready()
     }
 
     fn agrees(&self, q: usize) -> bool
-        ensures { result ≡ participant_is (agrees self.now.count) (shown self.now) q }
+        ensures { result ≡ participant_is (agrees self.now.count) (snapshot_state self.now) q }
     {
         q < self.participants.len() && self.participant(q).agrees(self.count)
     }
 
     fn has_reread(&self, p: usize) -> bool
-        ensures { result ≡ participant_is (λ x. is_inside x && is_some x.reread) (shown self.now) p }
+        ensures { result ≡ participant_is (λ x. is_inside x && is_some x.reread) (snapshot_state self.now) p }
     {
         self.is_inside(p) && self.participant(p).reread.is_some()
     }
 
     fn has_segment(&self, p: usize, i: usize, k: usize) -> bool
-        ensures { result ≡ participant_is (λ x. is_inside x && segment_loaded i k x.loaded) (shown self.now) p }
+        ensures { result ≡ participant_is (λ x. is_inside x && segment_loaded i k x.loaded) (snapshot_state self.now) p }
     {
         self.is_inside(p) && segment_loaded(i, k, self.participant(p).loaded.as_slice())
     }
 
     // The participant published the present count and has looked at all others.
     fn has_looked(&self, p: usize) -> bool
-        ensures { result ≡ participant_is (λ x. is_inside x && (count_of x.phase == self.now.count) && all_looked p x.looked (length self.now.participants.items)) (shown self.now) p }
+        ensures { result ≡ participant_is (λ x. is_inside x && (count_of x.phase == self.now.count) && all_looked p x.looked (length self.now.participants.items)) (snapshot_state self.now) p }
     {
         if !self.is_inside(p) {
             return false;
@@ -316,32 +316,32 @@ impl Snapshot {
     }
 
     fn has_loose_owner(&self, i: usize) -> bool
-        ensures { result ≡ item_is has_loose_owner (shown self.now) i }
+        ensures { result ≡ item_is has_loose_owner (snapshot_state self.now) i }
     {
         i < self.items.len() && self.item(i).hand > 0
     }
 
     fn is_due(&self, p: usize, i: usize) -> bool
-        ensures { result ≡ item_is (λ it. is_due p it.state) (shown self.now) i }
+        ensures { result ≡ item_is (λ it. is_due p it.state) (snapshot_state self.now) i }
     {
         i < self.items.len() && self.item(i).state.is_due(p)
     }
 
     fn is_reclaimable(&self, p: usize, i: usize) -> bool
         requires { p < length self.now.participants.items }
-        ensures { result ≡ item_is (λ it. is_reclaimable p (participant_at (shown self.now) p) it.state) (shown self.now) i }
+        ensures { result ≡ item_is (λ it. is_reclaimable p (participant_at (snapshot_state self.now) p) it.state) (snapshot_state self.now) i }
     {
         i < self.items.len() && self.item(i).state.is_reclaimable(p, self.participant(p))
     }
 
     fn is_left(&self, i: usize) -> bool
-        ensures { result ≡ item_is (λ it. is_left it.state) (shown self.now) i }
+        ensures { result ≡ item_is (λ it. is_left it.state) (snapshot_state self.now) i }
     {
         i < self.items.len() && self.item(i).state.is_left()
     }
 
     fn may_raise_owners(&self, i: usize) -> bool
-        ensures { result ≡ item_is (λ it. is_live it.state && nat_lt it.owners (2 ^ 32 - 1)) (shown self.now) i }
+        ensures { result ≡ item_is (λ it. is_live it.state && nat_lt it.owners (2 ^ 32 - 1)) (snapshot_state self.now) i }
     {
         i < self.items.len()
             && self.item(i).state.is_live()
@@ -349,19 +349,19 @@ impl Snapshot {
     }
 
     fn is_reclaimed(&self, p: usize, j: usize) -> bool
-        ensures { result ≡ item_is (λ w. is_reclaimed p w.state) (shown self.now) j }
+        ensures { result ≡ item_is (λ w. is_reclaimed p w.state) (snapshot_state self.now) j }
     {
         j < self.items.len() && self.item(j).state.is_reclaimed(p)
     }
 
     fn gives_up(&self, p: usize, j: usize, i: usize) -> bool
-        ensures { result ≡ item_is (λ w. is_reclaimed p w.state && has i w.holds) (shown self.now) j }
+        ensures { result ≡ item_is (λ w. is_reclaimed p w.state && has i w.holds) (snapshot_state self.now) j }
     {
         self.is_reclaimed(p, j) && has(i, self.item(j).holds.as_slice())
     }
 
     fn is_offered(&self, new: Option<usize>) -> bool
-        ensures { result ≡ is_offered (shown self.now) new }
+        ensures { result ≡ is_offered (snapshot_state self.now) new }
     {
         match new {
             None => true,
@@ -370,7 +370,7 @@ impl Snapshot {
     }
 
     fn is_reachable(&self, o: Cell) -> bool
-        ensures { result ≡ is_reachable (shown self.now) o }
+        ensures { result ≡ is_reachable (snapshot_state self.now) o }
     {
         match o.holder {
             None => true,
@@ -379,7 +379,7 @@ impl Snapshot {
     }
 
     fn is_within(&self, p: usize, o: Cell) -> bool
-        ensures { result ≡ is_within (shown self.now) p o }
+        ensures { result ≡ is_within (snapshot_state self.now) p o }
     {
         match o.holder {
             Some(j) => { self.is_inside(p) && was_loaded(j, self.participant(p).loaded.as_slice()) }
@@ -388,7 +388,7 @@ impl Snapshot {
     }
 
     fn reaches(&self, p: usize, c: usize) -> bool
-        ensures { result ≡ cell_is (λ o. is_reachable (shown self.now) o || is_within (shown self.now) p o) (shown self.now) c }
+        ensures { result ≡ cell_is (λ o. is_reachable (snapshot_state self.now) o || is_within (snapshot_state self.now) p o) (snapshot_state self.now) c }
     {
         if c >= self.cells.len() {
             return false;
@@ -398,13 +398,13 @@ impl Snapshot {
     }
 
     fn may_load(&self, p: usize, c: usize) -> bool
-        ensures { result ≡ cell_is (λ o. is_full o && (is_reachable (shown self.now) o || is_within (shown self.now) p o)) (shown self.now) c }
+        ensures { result ≡ cell_is (λ o. is_full o && (is_reachable (snapshot_state self.now) o || is_within (snapshot_state self.now) p o)) (snapshot_state self.now) c }
     {
         c < self.cells.len() && self.cell(c).is_full() && self.reaches(p, c)
     }
 
     fn gives_up_cell(&self, p: usize, c: usize) -> bool
-        ensures { result ≡ cell_is (λ o. is_full o && holder_is (item_is (λ w. is_reclaimed p w.state) (shown self.now)) o.holder) (shown self.now) c }
+        ensures { result ≡ cell_is (λ o. is_full o && holder_is (item_is (λ w. is_reclaimed p w.state) (snapshot_state self.now)) o.holder) (snapshot_state self.now) c }
     {
         if c >= self.cells.len() || !self.cell(c).is_full() {
             return false;
@@ -417,7 +417,7 @@ impl Snapshot {
 
     /// Whether a step is enabled.
     pub(crate) fn is_enabled(&self, step: &Step) -> bool
-        ensures { result ≡ enabled (shown self.now) step.now }
+        ensures { result ≡ enabled (snapshot_state self.now) step.now }
     {
         match step {
             Step::ReadEpoch(p) => self.is_idle(*p),

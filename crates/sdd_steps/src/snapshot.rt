@@ -2,7 +2,7 @@
 
 ghost use Rattle.std.specs.Prelude.{◌≡◌, ◌<◌, length, IfOk};
 ghost use Rattle.sdd_steps.specs.State.{newcomer, participant_at, cell_at, item_at, with_participant, with_cell, with_item};
-ghost use Rattle.sdd_steps.specs.Snapshots.{shown};
+ghost use Rattle.sdd_steps.specs.Snapshots.{snapshot_state};
 
 use crate::item::{Cell, Item, ItemState};
 use crate::participant::{Loaded, Participant, Phase, Seen};
@@ -94,7 +94,7 @@ impl Copied for Item {
 
 impl Snapshot {
     pub(crate) fn copied(&self, alloc: Global) -> Result<Snapshot, AllocError>
-        ensures { IfOk result (λ t. shown t ≡ shown self.now) }
+        ensures { IfOk result (λ t. snapshot_state t ≡ snapshot_state self.now) }
     {
         Ok(Snapshot {
             count: self.count,
@@ -106,13 +106,13 @@ impl Snapshot {
 
     pub(crate) fn participant(&self, p: usize) -> &Participant
         requires { p < length self.now.participants.items }
-        ensures { result.now ≡ participant_at (shown self.now) p }
+        ensures { result.now ≡ participant_at (snapshot_state self.now) p }
     {
         &self.participants[p]
     }
 
     pub(crate) fn cell(&self, c: usize) -> Cell
-        ensures { result ≡ cell_at (shown self.now) c }
+        ensures { result ≡ cell_at (snapshot_state self.now) c }
     {
         match self.cells.get(c) {
             Some(o) => *o,
@@ -125,7 +125,7 @@ impl Snapshot {
 
     pub(crate) fn item(&self, i: usize) -> &Item
         requires { i < length self.now.items.items }
-        ensures { result.now ≡ item_at (shown self.now) i }
+        ensures { result.now ≡ item_at (snapshot_state self.now) i }
     {
         &self.items[i]
     }
@@ -136,7 +136,7 @@ impl Snapshot {
         alloc: Global,
         p: usize,
     ) -> Result<Participant, AllocError>
-        ensures { IfOk result (λ x. x ≡ participant_at (shown self.now) p) }
+        ensures { IfOk result (λ x. x ≡ participant_at (snapshot_state self.now) p) }
     {
         match self.participants.get(p) {
             Some(x) => x.copied(alloc),
@@ -146,7 +146,7 @@ impl Snapshot {
 
     /// An item as it is, to be changed and set again.
     pub(crate) fn item_copy(&self, alloc: Global, i: usize) -> Result<Item, AllocError>
-        ensures { IfOk result (λ it. it ≡ item_at (shown self.now) i) }
+        ensures { IfOk result (λ it. it ≡ item_at (snapshot_state self.now) i) }
     {
         match self.items.get(i) {
             Some(item) => item.copied(alloc),
@@ -161,7 +161,7 @@ impl Snapshot {
     }
 
     pub(crate) fn set_participant(&mut self, p: usize, x: Participant)
-        ensures { shown self.new ≡ with_participant (shown self.old) p x }
+        ensures { snapshot_state self.new ≡ with_participant (snapshot_state self.old) p x }
     {
         if p < self.participants.len() {
             self.participants[p] = x;
@@ -169,7 +169,7 @@ impl Snapshot {
     }
 
     pub(crate) fn set_cell(&mut self, c: usize, o: Cell)
-        ensures { shown self.new ≡ with_cell (shown self.old) c o }
+        ensures { snapshot_state self.new ≡ with_cell (snapshot_state self.old) c o }
     {
         if c < self.cells.len() {
             self.cells[c] = o;
@@ -177,7 +177,7 @@ impl Snapshot {
     }
 
     pub(crate) fn set_item(&mut self, i: usize, item: Item)
-        ensures { shown self.new ≡ with_item (shown self.old) i item }
+        ensures { snapshot_state self.new ≡ with_item (snapshot_state self.old) i item }
     {
         if i < self.items.len() {
             self.items[i] = item;

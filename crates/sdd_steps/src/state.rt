@@ -4,7 +4,7 @@ ghost use Rattle.std.specs.Prelude.{◌≡◌, ◌<◌, ◌≤◌, ◌^◌, fals
 ghost use Rattle.sdd_steps.specs.State.{start};
 ghost use Rattle.sdd_steps.specs.Steps.{enabled, Steps};
 ghost use Rattle.sdd_steps.specs.Invariant.{Safe};
-ghost use Rattle.sdd_steps.specs.Snapshots.{shown};
+ghost use Rattle.sdd_steps.specs.Snapshots.{snapshot_state};
 
 use crate::item::{Cell, Item};
 use crate::participant::Participant;
@@ -29,11 +29,11 @@ impl Model for State {
     ghost Value = { core.State };
 
     ghost use Rattle.sdd_steps.specs.Invariant.{Inv};
-    ghost use Rattle.sdd_steps.specs.Snapshots.{shown};
+    ghost use Rattle.sdd_steps.specs.Snapshots.{snapshot_state};
 
-    ghost view = { λ s. shown s.snapshot };
+    ghost view = { λ s. snapshot_state s.snapshot };
 
-    ghost invariant = { λ s. Inv (shown s.snapshot) };
+    ghost invariant = { λ s. Inv (snapshot_state s.snapshot) };
 }
 
 impl State {

@@ -21,10 +21,10 @@ use Rattle.leaf_array.specs.declared.result.InsertResult.TheVariants.{Success, D
 use Rattle.tree_index.specs.declared.leaf.Leaf.{Leaf}
 use Rattle.tree_index.specs.declared.arenas.Arenas.{Arenas}
 use Rattle.tree_index.specs.Shape.{IsWithin, AllKeys, way, leaf_pairs, pairs_under, Stands}
-use Rattle.tree_index.specs.Chain.{links, IsLinked}
+use Rattle.tree_index.specs.Chain.{leaf_links, IsLinked}
 use Rattle.tree_index.proofs.ChainLemmas.{linked_kept}
 use Rattle.tree_index.proofs.LinkLemmas.{links_kept}
-use Rattle.tree_index.specs.Content.{content_of, pairs_of, leaves_of, IsBare, IsSound}
+use Rattle.tree_index.specs.Content.{content_of, pairs_of, leaves_of, HasNoTree, IsSound}
 use Rattle.tree_index.proofs.WayLemmas.{around, leaf_thawed, lookup_way, leaf_there, Written, written, upserted_middle, removed_middle, has_middle}
 use Rattle.tree_index.proofs.ShapeLemmas.{all_append}
 
@@ -39,7 +39,7 @@ module _ {K V : Type 0} (cmp : K → K → Ordering) (o : IsTotalOrder cmp) (key
   pub stands_with : (l : Leaf K V) → get a.leaves on_way ≡ Some l → IsSound cmp a → (a.height ≢ 0) × Stands cmp (content_of a) a.height a.root
   stands_with l here s = split s.stands
     where
-      split : IsBare a ⊎ (a.height ≢ 0) × Stands cmp (content_of a) a.height a.root → (a.height ≢ 0) × Stands cmp (content_of a) a.height a.root
+      split : HasNoTree a ⊎ (a.height ≢ 0) × Stands cmp (content_of a) a.height a.root → (a.height ≢ 0) × Stands cmp (content_of a) a.height a.root
       split (inl bare) = absurd (let e : Some l ≡ None = sym here ∙ bare.empty on_way in cc)
       split (inr stands) = stands
 
@@ -48,16 +48,16 @@ module _ {K V : Type 0} (cmp : K → K → Ordering) (o : IsTotalOrder cmp) (key
   lookup_sound l here s = lookup_way cmp o key (content_of a) a.height a.root l.array (stands_with l here s).1.tree (array_at on_way (Some l) here)
 
   -- where no leaf is found, there are no pairs
-  pub none_sound : get a.leaves on_way ≡ None → IsSound cmp a → IsBare a
+  pub none_sound : get a.leaves on_way ≡ None → IsSound cmp a → HasNoTree a
   none_sound here s = split s.stands
     where
-      split : IsBare a ⊎ (a.height ≢ 0) × Stands cmp (content_of a) a.height a.root → IsBare a
+      split : HasNoTree a ⊎ (a.height ≢ 0) × Stands cmp (content_of a) a.height a.root → HasNoTree a
       split (inl bare) = bare
       split (inr stands) =
           let t = leaf_there cmp o key (content_of a) a.height a.root stands.1.tree in
           absurd (let e : None ≡ Some t.0 = sym (array_at on_way None here) ∙ t.1 in cc)
 
-  pub bare_pairs : IsBare a → pairs_of a ≡ []
+  pub bare_pairs : HasNoTree a → pairs_of a ≡ []
   bare_pairs b = ap (λ n. pairs_under (content_of a) n a.root) b.flat ∙ ap leaf_pairs (array_at a.root None (b.empty a.root))
 
 -- ---- what an edit of a leaf leaves
@@ -146,9 +146,9 @@ module _ {K V : Type 0} (cmp : K → K → Ordering) (o : IsTotalOrder cmp) (key
       (λ k. refl)
       thawed rising keys
 
-  still_linked : (m : Leaf K V) (len : ℕ) → m.prev ≡ l.prev → m.next ≡ l.next → Rewritten m len → a.height ≢ 0 → IsLinked (links (with_value a.leaves n m)) None (leaves_of (with_leaf m len)) None
+  still_linked : (m : Leaf K V) (len : ℕ) → m.prev ≡ l.prev → m.next ≡ l.next → Rewritten m len → a.height ≢ 0 → IsLinked (leaf_links (with_value a.leaves n m)) None (leaves_of (with_leaf m len)) None
   still_linked m len p q w h =
-      subst (λ ns. IsLinked (links (with_value a.leaves n m)) None ns None) (sym w.order) (linked_kept (links a.leaves) (links (with_value a.leaves n m)) None (leaves_of a) None (λ k d. links_kept a.leaves n l m here p q k) (s.linked h))
+      subst (λ ns. IsLinked (leaf_links (with_value a.leaves n m)) None ns None) (sym w.order) (linked_kept (leaf_links a.leaves) (leaf_links (with_value a.leaves n m)) None (leaves_of a) None (λ k d. links_kept a.leaves n l m here p q k) (s.linked h))
 
   pub still_sound : (m : Leaf K V) (before after : ℕ) → m.prev ≡ l.prev → m.next ≡ l.next → before ≡ length l.array.pairs → after ≡ length m.array.pairs → Rewritten m (a.len - before + after) → IsSound cmp (with_leaf m (a.len - before + after))
   still_sound m before after p q b f w =

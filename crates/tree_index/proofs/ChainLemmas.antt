@@ -4,7 +4,7 @@ use Rattle.std.specs.Option.{option_map}
 use Rattle.std.proofs.lemmas.Bool.{eq-eqb}
 use Rattle.std.proofs.lemmas.Bool.Decides.{eqb_tells}
 use Rattle.leaf_array.specs.Cells.{Cells}
-use Rattle.tree_index.specs.Shape.{Content, joined_along, node_joined, sum_along, node_sum, leaves_under, leaf_times}
+use Rattle.tree_index.specs.Shape.{ArenaContent, joined_along, node_joined, sum_along, node_sum, leaves_under, leaf_times}
 use Rattle.tree_index.specs.Chain.{Links, times, first_or, IsLinked, is_named, linked_in}
 use Rattle.tree_index.proofs.WayLemmas.{some_same}
 
@@ -110,7 +110,7 @@ module _ (f old g : Links) (fresh at : ℕ) (p q : Option ℕ) (here : f at ≡ 
           let zero_x = c r.0 r.2 in
           others x a b (λ d. let e : r.0 ≡ x = some_same (sym r.1 ∙ d) in let one : ◌≡◌ {A = ℕ} (cond (x == r.0) 1 0) 1 = ap (λ b. cond b 1 0) (eq-eqb x r.0 (sym e)) in omega (arith, one, zero_x)) ∙ h
 
-module _ {K V : Type 0} (a : Content K V) where
+module _ {K V : Type 0} (a : ArenaContent K V) where
   times_along : (n : ℕ) (f : ℕ → List ℕ) (g : ℕ → ℕ) → ((at : ℕ) → times n (f at) ≡ g at) → (es : List (K × ℕ)) (last : ℕ) → times n (joined_along f es last) ≡ sum_along g es last
   times_along n f g each [] last = each last
   times_along n f g each (e ∷ es) last = omega (arith, times_append n (f e.1) (joined_along f es last), each e.1, times_along n f g each es last)

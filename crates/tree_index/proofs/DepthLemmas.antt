@@ -21,23 +21,23 @@ use Rattle.tree_index.specs.declared.leaf.Leaf.{Leaf}
 use Rattle.tree_index.specs.declared.node.InnerNode.{InnerNode}
 use Rattle.tree_index.specs.declared.arenas.Arenas.{Arenas}
 use Rattle.tree_index.specs.Shape.{AllKeys, child_for, child_in, way}
-use Rattle.tree_index.specs.Content.{content_of, pairs_of, HasRoom, NodeHasRoom, IsLeafFull}
+use Rattle.tree_index.specs.Content.{content_of, pairs_of, LeafHasRoom, NodeHasRoom, IsLeafFull}
 use Rattle.tree_index.specs.SplitPoints.{key_at}
 use Rattle.tree_index.proofs.WayLemmas.{some_same}
 use Rattle.tree_index.proofs.CopyLemmas.{upserted_behind}
-use Rattle.tree_index.specs.Depth.{IsAbove, leaf_room, is_reached, node_room, root_room, rises, ascending_headroom}
+use Rattle.tree_index.specs.Depth.{IsAbove, leaf_room, is_reached, node_room, root_room, headroom_for, ascending_headroom}
 
 -- as many as before, or fewer by some
-pub rises_less : (height room more d : ℕ) → (height ≡ 1 → room ≤ more + d) → rises height room ≤ rises height more + d
-rises_less zero room more d h = omega arith
-rises_less (suc zero) room more d h = omega (arith, h refl)
-rises_less (suc (suc height)) room more d h = omega arith
+pub headroom_less : (height room more d : ℕ) → (height ≡ 1 → room ≤ more + d) → headroom_for height room ≤ headroom_for height more + d
+headroom_less zero room more d h = omega arith
+headroom_less (suc zero) room more d h = omega (arith, h refl)
+headroom_less (suc (suc height)) room more d h = omega arith
 
 -- what is above 0 has a depth of at most 1
-pub rises_flat : (height room : ℕ) → 0 < rises height room → height ≤ 1
-rises_flat zero room h = omega arith
-rises_flat (suc zero) room h = omega arith
-rises_flat (suc (suc height)) room h = absurd (omega (arith, h))
+pub headroom_flat : (height room : ℕ) → 0 < headroom_for height room → height ≤ 1
+headroom_flat zero room h = omega arith
+headroom_flat (suc zero) room h = omega arith
+headroom_flat (suc (suc height)) room h = absurd (omega (arith, h))
 
 module _ {X : Type 0} (f : X → Bool) where
   pub any_fore : (xs ys : List X) → list_any f xs ≡ true → list_any f (xs ++ ys) ≡ true
@@ -123,15 +123,15 @@ module _ {K V : Type 0} (cmp : K → K → Ordering) (a : Arenas K V) where
   room_is n there reached = rw (there, reached) refl
 
 -- as few as 1, or as many as before
-pub rises_more : (height room more : ℕ) → (height ≡ 1 → 0 < room → room ≤ more) → 1 < rises height room → rises height room ≤ rises height more
-rises_more zero room more h u = omega arith
-rises_more (suc zero) room more h u = omega (arith, h refl (omega (arith, u)))
-rises_more (suc (suc height)) room more h u = absurd (omega (arith, u))
+pub headroom_more : (height room more : ℕ) → (height ≡ 1 → 0 < room → room ≤ more) → 1 < headroom_for height room → headroom_for height room ≤ headroom_for height more
+headroom_more zero room more h u = omega arith
+headroom_more (suc zero) room more h u = omega (arith, h refl (omega (arith, u)))
+headroom_more (suc (suc height)) room more h u = absurd (omega (arith, u))
 
-pub rises_one : (height room : ℕ) → 1 < rises height room → height ≢ 0 → (height ≡ 1) × (0 < room)
-rises_one zero room u h = absurd (h refl)
-rises_one (suc zero) room u h = (refl, omega (arith, u))
-rises_one (suc (suc height)) room u h = absurd (omega (arith, u))
+pub headroom_one : (height room : ℕ) → 1 < headroom_for height room → height ≢ 0 → (height ≡ 1) × (0 < room)
+headroom_one zero room u h = absurd (h refl)
+headroom_one (suc zero) room u h = (refl, omega (arith, u))
+headroom_one (suc (suc height)) room u h = absurd (omega (arith, u))
 
 module _ {K V : Type 0} (cmp : K → K → Ordering) (pairs : List (K × V)) (f g : ℕ → ℕ) where
   node_less : (d : ℕ) → ((n : ℕ) → f n ≤ g n) → (m : Option (InnerNode K)) → node_room cmp pairs f m ≤ node_room cmp pairs g m
@@ -220,7 +220,7 @@ module _ {K V : Type 0} (cmp : K → K → Ordering) (o : IsTotalOrder cmp) (key
   -- a flat tree with places left, whose last leaf is full, has room in its node
   pub flat_node : 1 < ascending_headroom cmp a → a.height ≢ 0 → IsAbove cmp key (pairs_of a) → IsLeafFull cmp key a → NodeHasRoom cmp key a 1
   flat_node some planted above full =
-      let one = rises_one a.height (root_room cmp a) some planted in
+      let one = headroom_one a.height (root_room cmp a) some planted in
       by_root cmp a (λ r. 0 < r → NodeHasRoom cmp key a 1) (λ z. absurd (omega (arith, z))) (λ t there reached room.
       let last = last_way cmp o key a t one.0 there above reached in
       let none : leaf_room (get a.leaves t.last) ≡ 0 = ap (λ (k : ℕ). leaf_room (get a.leaves k)) (sym last) ∙ ap leaf_room full.there ∙ ap (λ (k : ℕ). 15 - k) full.full in
@@ -228,7 +228,7 @@ module _ {K V : Type 0} (cmp : K → K → Ordering) (o : IsTotalOrder cmp) (key
       record { node = t; there = ap (λ (k : ℕ). get a.nodes (way cmp (content_of a) key k a.root)) top ∙ there; room = omega (arith, room, none) }) one.1
 
   -- a leaf on the way without room that isn't retired is full
-  pub full_of : (l : Leaf K V) → get a.leaves (way cmp (content_of a) key a.height a.root) ≡ Some l → l.array.used ≤ 15 → 12 ≤ length l.array.pairs → (l.array.retired ≡ true → length l.array.pairs ≡ 0) → (HasRoom cmp key a → ⊥) → IsLeafFull cmp key a
+  pub full_of : (l : Leaf K V) → get a.leaves (way cmp (content_of a) key a.height a.root) ≡ Some l → l.array.used ≤ 15 → 12 ≤ length l.array.pairs → (l.array.retired ≡ true → length l.array.pairs ≡ 0) → (LeafHasRoom cmp key a → ⊥) → IsLeafFull cmp key a
   full_of l there most long living none =
       record { leaf = l; there = there; full = split (leb_tells 15 l.array.used) (is_living l.array.retired refl) }
     where

@@ -14,11 +14,11 @@ use Rattle.tree_index.specs.declared.leaf.Leaf.{Leaf}
 use Rattle.tree_index.specs.declared.node.InnerNode.{InnerNode}
 use Rattle.tree_index.specs.declared.arenas.Arenas.{Arenas}
 use Rattle.tree_index.specs.declared.prune.Fork.{Fork}
-use Rattle.tree_index.specs.Shape.{Content, child_for, leaf_pairs, pairs_under, leaves_under, leaf_times, node_times, IsNode, Stands}
-use Rattle.tree_index.specs.Chain.{links, times, IsLinked, linked_out}
+use Rattle.tree_index.specs.Shape.{ArenaContent, child_for, leaf_pairs, pairs_under, leaves_under, leaf_times, node_times, IsNode, Stands}
+use Rattle.tree_index.specs.Chain.{leaf_links, times, IsLinked, linked_out}
 use Rattle.tree_index.specs.Content.{content_of, pairs_of, leaves_of, leaf_on_way, IsSound, AreSameArrays}
-use Rattle.tree_index.specs.Prune.{IsSingle, IsFork, IsDetached, IsWithout}
-use Rattle.tree_index.specs.Walk.{held}
+use Rattle.tree_index.specs.Prune.{IsSingle, IsFork, IsCutOff, IsWithout}
+use Rattle.tree_index.specs.Walk.{pairs_in_leaf}
 use Rattle.tree_index.proofs.FocusLemmas.{over, over_is, Turn, Focus, shed}
 use Rattle.tree_index.proofs.WayLemmas.{some_same}
 use Rattle.tree_index.proofs.ChainLemmas.{times_counted}
@@ -73,7 +73,7 @@ shed_done {K} cmp key old new place on more inside outside = split (by_place pla
 
 module _ {K V : Type 0} (cmp : K → K → Ordering) (o : IsTotalOrder cmp) (key : K) (a : Arenas K V) (s : IsSound cmp a) (f : Fork) (fork : IsFork cmp key a f) (leaf : ℕ) (on_leaf : leaf ≡ leaf_on_way cmp key a)
     (gone : Leaf K V) (here : get a.leaves leaf ≡ Some gone) (old : InnerNode K) (old_there : get a.nodes f.node ≡ Some old) where
-  abbrev c : Content K V
+  abbrev c : ArenaContent K V
   c = content_of a
 
   abbrev left : ℕ
@@ -136,12 +136,12 @@ module _ {K V : Type 0} (cmp : K → K → Ordering) (o : IsTotalOrder cmp) (key
   old_order : leaves_of a ≡ lefts ++ leaf ∷ rights
   old_order = subst (λ (n : ℕ). leaves_under c n a.root ≡ lefts ++ leaf ∷ rights) height_is (order_total cmp o c key left steps a.root stands ∙ ap (λ ns. lefts ++ ns ++ rights) (single_leaves c left (kid cmp o c key left steps a.root stands) leaf single) ∙ simp append_assoc)
 
-  old_held : held a leaf ≡ gone.array.pairs
+  old_held : pairs_in_leaf a leaf ≡ gone.array.pairs
   old_held = ap leaf_pairs (leaf_content cmp o key a leaf (Some gone) here)
 
-  old_pairs : pairs_of a ≡ front ++ (held a leaf ++ back)
+  old_pairs : pairs_of a ≡ front ++ (pairs_in_leaf a leaf ++ back)
   old_pairs =
-      subst (λ (n : ℕ). pairs_under c n a.root ≡ front ++ (held a leaf ++ back)) height_is (
+      subst (λ (n : ℕ). pairs_under c n a.root ≡ front ++ (pairs_in_leaf a leaf ++ back)) height_is (
       (up.rebuilt c (record { leaf = λ n d. refl; node = λ n d. refl }) up.tree).pairs
       ∙ ap (λ ps. up.front ++ ps ++ up.back) (pairs_total cmp o c key left steps a.root stands ∙ ap (λ ps. at_up.front ++ ps ++ at_up.back) (single_pairs c left (kid cmp o c key left steps a.root stands) leaf single))
       ∙ simp append_assoc
@@ -152,11 +152,11 @@ module _ {K V : Type 0} (cmp : K → K → Ordering) (o : IsTotalOrder cmp) (key
   gone_counted = (middle_length front gone.array.pairs [] back a.len (s.count ∙ ap length old_pairs ∙ ap (λ ps. length (front ++ (ps ++ back))) old_held)).0
 
   module _ (new : InnerNode K) (new_node : IsNode new.children) (rest : shed cmp key old.children.pairs old.last ≡ Some (new.children.pairs, new.last)) (linked : Slab (Leaf K V)) (arrays : AreSameArrays a.leaves linked)
-      (named : (n : ℕ) → links linked n ≡ linked_out gone.prev gone.next (links a.leaves) n) (fewer : ℕ) (counted : fewer ≡ length gone.array.pairs) where
+      (named : (n : ℕ) → leaf_links linked n ≡ linked_out gone.prev gone.next (leaf_links a.leaves) n) (fewer : ℕ) (counted : fewer ≡ length gone.array.pairs) where
     abbrev pub done : Arenas K V
     done = record { leaves = linked; nodes = with_value a.nodes f.node new; root = a.root; height = a.height; len = a.len - fewer }
 
-    abbrev b : Content K V
+    abbrev b : ArenaContent K V
     b = content_of done
 
     turned : Updates a.nodes (with_value a.nodes f.node new) f.node (Some new)
@@ -192,12 +192,12 @@ module _ {K V : Type 0} (cmp : K → K → Ordering) (o : IsTotalOrder cmp) (key
         let m : leaf_times c n a.height a.root ≤ 1 = subst (λ (h : ℕ). leaf_times c n h a.root ≤ 1) height_is (stands.leaf_once n) in
         subst (λ ns. times n ns ≤ 1) old_order (omega (arith, e, m))
 
-    done_linked : IsLinked (links linked) None (leaves_of done) None
+    done_linked : IsLinked (leaf_links linked) None (leaves_of done) None
     done_linked =
-        let old_linked : IsLinked (links a.leaves) None (lefts ++ leaf ∷ rights) None = subst (λ ns. IsLinked (links a.leaves) None ns None) old_order (s.linked planted_) in
-        let names : links a.leaves leaf ≡ Some (gone.prev, gone.next) = ap (option_map (λ (l : Leaf K V). (l.prev, l.next))) here in
-        let e : ◌≡◌ {A = Option ℕ × Option ℕ} (gone.prev, gone.next) _ = some_same (sym names ∙ linked_at (links a.leaves) None None leaf lefts rights old_linked) in
-        subst (λ ns. IsLinked (links linked) None ns None) (sym new_order) (linked_left (links a.leaves) (links linked) leaf gone.prev gone.next names named None lefts rights (ap (λ (r : Option ℕ × Option ℕ). r.1) e) old_linked once (λ n q. cc))
+        let old_linked : IsLinked (leaf_links a.leaves) None (lefts ++ leaf ∷ rights) None = subst (λ ns. IsLinked (leaf_links a.leaves) None ns None) old_order (s.linked planted_) in
+        let names : leaf_links a.leaves leaf ≡ Some (gone.prev, gone.next) = ap (option_map (λ (l : Leaf K V). (l.prev, l.next))) here in
+        let e : ◌≡◌ {A = Option ℕ × Option ℕ} (gone.prev, gone.next) _ = some_same (sym names ∙ linked_at (leaf_links a.leaves) None None leaf lefts rights old_linked) in
+        subst (λ ns. IsLinked (leaf_links linked) None ns None) (sym new_order) (linked_left (leaf_links a.leaves) (leaf_links linked) leaf gone.prev gone.next names named None lefts rights (ap (λ (r : Option ℕ × Option ℕ). r.1) e) old_linked once (λ n q. cc))
 
     pub done_sound : IsSound cmp done
     done_sound = record {
@@ -209,14 +209,14 @@ module _ {K V : Type 0} (cmp : K → K → Ordering) (o : IsTotalOrder cmp) (key
           omega (arith, m, e, counted);
     }
 
-    pub done_loose : IsDetached done f.height f.child leaf
+    pub done_loose : IsCutOff done f.height f.child leaf
     done_loose =
         let k = kid cmp o c key left steps a.root stands in
         let off : (n : ℕ) → node_times c n left k ≢ 0 → b.node n ≡ c.node n = λ n d. others n (λ e. at_parent cmp o c key left steps a.root stands n e (omega (arith, d, node_total cmp o c key left steps a.root stands n, stands.node_once n))) in
         let kept = single_kept c b left k leaf single off in
         let total : (n : ℕ) → node_times b n a.height a.root + node_times c n left k ≤ 1 =
         λ n. subst (λ (h : ℕ). node_times b n h a.root + node_times c n left k ≤ 1) height_is (omega (arith, left_over.node n, stands.node_once n)) in
-        subst (λ (n : ℕ). IsDetached done f.height n leaf) (sym kid_is) (record {
+        subst (λ (n : ℕ). IsCutOff done f.height n leaf) (sym kid_is) (record {
           planted = planted_;
           single = kept.0;
           once = λ n. omega (arith, kept.1 n, total n);

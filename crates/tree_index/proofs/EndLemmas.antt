@@ -18,11 +18,11 @@ use Rattle.tree_index.specs.declared.walk.Position.{Position}
 use Rattle.tree_index.specs.declared.cursor.End.{End}
 use Rattle.tree_index.specs.declared.cursor.End.TheVariants.{Unopened, At, Done}
 use Rattle.tree_index.specs.declared.arenas.Arenas.{Arenas}
-use Rattle.tree_index.specs.Shape.{gathered, leaf_pairs, pairs_under, Stands}
-use Rattle.tree_index.specs.Content.{content_of, pairs_of, leaves_of, IsBare, IsSound}
+use Rattle.tree_index.specs.Shape.{joined_over, leaf_pairs, pairs_under, Stands}
+use Rattle.tree_index.specs.Content.{content_of, pairs_of, leaves_of, HasNoTree, IsSound}
 use Rattle.tree_index.specs.Cursor.{before_start, forth}
-use Rattle.tree_index.specs.Walk.{held, position, IsPosition}
-use Rattle.tree_index.proofs.RowLemmas.{parting, before_parted, gathered_parted}
+use Rattle.tree_index.specs.Walk.{pairs_in_leaf, position, IsPosition}
+use Rattle.tree_index.proofs.RowLemmas.{parting, before_parted, joined_over_parted}
 use Rattle.tree_index.proofs.WalkLemmas.{once, all_held, held_is}
 use Rattle.tree_index.proofs.RisingLemmas.{rising_under, earlier, not_earlier}
 use Rattle.tree_index.proofs.GrowLemmas.{none_rising}
@@ -44,21 +44,21 @@ module _ {K V : Type 0} (cmp : K → K → Ordering) (a : Arenas K V) (s : IsSou
   pub spot_pair : (slice_get (pairs_of a) (position a spot) ≡ slice_get spot.leaf.now.array.pairs spot.place) × (position a spot < length (pairs_of a))
   spot_pair =
       let n = spot.at in
-      let f = held a in
+      let f = pairs_in_leaf a in
       let p = parting n (leaves_of a) is.insertion_point.own.1 in
       let same : f n ≡ spot.leaf.now.array.pairs = held_is a n spot.leaf.now is.insertion_point.there in
       let within : spot.place < length (f n) = subst (λ (ps : List (K × V)). spot.place < length ps) (sym same) is.within in
       let before = before_parted f n (leaves_of a) p.fore p.rear p.all (once cmp a s is.insertion_point.own.0 n) in
-      let all : pairs_of a ≡ gathered f p.fore ++ (f n ++ gathered f p.rear) = all_held a ∙ gathered_parted f n (leaves_of a) p.fore p.rear p.all in
-      let long : length (pairs_of a) ≡ length (gathered f p.fore) + (length (f n) + length (gathered f p.rear)) = ap length all ∙ simp length-append in
-      (ap (λ ps. slice_get ps (position a spot)) all ∙ slice_middle (gathered f p.fore) (f n) (gathered f p.rear) (position a spot) spot.place (omega (arith, before)) within ∙ ap (λ ps. slice_get ps spot.place) same, omega (arith, before, within, long))
+      let all : pairs_of a ≡ joined_over f p.fore ++ (f n ++ joined_over f p.rear) = all_held a ∙ joined_over_parted f n (leaves_of a) p.fore p.rear p.all in
+      let long : length (pairs_of a) ≡ length (joined_over f p.fore) + (length (f n) + length (joined_over f p.rear)) = ap length all ∙ simp length-append in
+      (ap (λ ps. slice_get ps (position a spot)) all ∙ slice_middle (joined_over f p.fore) (f n) (joined_over f p.rear) (position a spot) spot.place (omega (arith, before)) within ∙ ap (λ ps. slice_get ps spot.place) same, omega (arith, before, within, long))
 
 module _ {K V : Type 0} (cmp : K → K → Ordering) (o : IsTotalOrder cmp) (a : Arenas K V) (s : IsSound cmp a) where
   -- the pairs are strictly ascending by key
   pub rising_of : IsAscending cmp (pairs_of a)
   rising_of = split s.stands
     where
-      split : IsBare a ⊎ (a.height ≢ 0) × Stands cmp (content_of a) a.height a.root → IsAscending cmp (pairs_of a)
+      split : HasNoTree a ⊎ (a.height ≢ 0) × Stands cmp (content_of a) a.height a.root → IsAscending cmp (pairs_of a)
       split (inl bare) =
           let none : pairs_of a ≡ [] = ap (λ n. pairs_under (content_of a) n a.root) bare.flat ∙ ap (λ x. leaf_pairs (option_map (λ (l : Leaf K V). l.array) x)) (bare.empty a.root) in
           subst (IsAscending cmp) (sym none) (none_rising cmp)

@@ -7,7 +7,7 @@ use Rattle.tree_index.specs.declared.arenas.Arenas.{Arenas}
 use Rattle.tree_index.specs.declared.walk.Position.{Position}
 use Rattle.tree_index.specs.Content.{pairs_of, IsSound}
 use Rattle.tree_index.specs.Walk.{position, IsPosition}
-use Rattle.tree_index.specs.Copy.{place, IsPlace}
+use Rattle.tree_index.specs.Copy.{place, IsPositionOrEnd}
 use Rattle.tree_index.proofs.EndLemmas.{spot_pair}
 
 module _ {X : Type 0} where
@@ -30,11 +30,11 @@ module _ {X : Type 0} where
     end_equal a b = rw (drop_all n xs a, drop_all n ys b) refl
 
 module _ {K V : Type 0} (a : Arenas K V) (n : ℕ) where
-  pub place_of_answer : (r : Option (Position K V)) → IfNone r (n ≡ length (pairs_of a)) → IfSome r (λ s. position a s ≡ n) → place a r ≡ n
-  place_of_answer None none some = sym none
-  place_of_answer (Some s) none some = some
+  pub end_position_answer : (r : Option (Position K V)) → IfNone r (n ≡ length (pairs_of a)) → IfSome r (λ s. position a s ≡ n) → place a r ≡ n
+  end_position_answer None none some = sym none
+  end_position_answer (Some s) none some = some
 
-pub place_is : {K V : Type 0} (a : Arenas K V) (r : Option (Position K V)) → IfSome r (λ s. IsPosition a s) → IsPlace a r
+pub place_is : {K V : Type 0} (a : Arenas K V) (r : Option (Position K V)) → IfSome r (λ s. IsPosition a s) → IsPositionOrEnd a r
 place_is a None is = tt
 place_is a (Some s) is = is
 

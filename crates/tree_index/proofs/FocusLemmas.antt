@@ -8,8 +8,8 @@ use Rattle.std.specs.Map.{lookup}
 use Rattle.std.specs.BTreeMap.{insert_entry, is_at}
 use Rattle.std.proofs.lemmas.List.{append-nil}
 use Rattle.leaf_array.specs.Cells.{Cells}
-use Rattle.tree_index.specs.Shape.{Content, IsOver, IsUpTo, IsWithin, AreBetween, AllKeys, child_for, child_in, way, joined_along, gathered, leaf_pairs, sum_along, node_joined, node_sum, pairs_under, leaves_under, leaf_times, node_times, IsNode, IsTree}
-use Rattle.tree_index.proofs.ShapeLemmas.{over_trans, upto_trans, turned, passed, not_passed, upto_less, all_append, all_weaken, gathered_append, held_under, self_once, Agrees, bounded, bounded_along, IsSame, kept, kept_along}
+use Rattle.tree_index.specs.Shape.{ArenaContent, IsOver, IsUpTo, IsWithin, AreBetween, AllKeys, child_for, child_in, way, joined_along, joined_over, leaf_pairs, sum_along, node_joined, node_sum, pairs_under, leaves_under, leaf_times, node_times, IsNode, IsTree}
+use Rattle.tree_index.proofs.ShapeLemmas.{over_trans, upto_trans, turned, passed, not_passed, upto_less, all_append, all_weaken, joined_over_append, held_under, self_once, Agrees, bounded, bounded_along, IsSame, kept, kept_along}
 
 -- so many steps above a height
 abbrev pub over : ℕ → ℕ → ℕ
@@ -47,9 +47,9 @@ abbrev pub left_sum : {K : Type 0} → (ℕ → ℕ) → Option (List (K × ℕ)
 left_sum f None = 0
 left_sum f (Some s) = sum_along f s.0 s.1
 
-module _ {K V : Type 0} (cmp : K → K → Ordering) (a : Content K V) (key : K) (height : ℕ) where
+module _ {K V : Type 0} (cmp : K → K → Ordering) (a : ArenaContent K V) (key : K) (height : ℕ) where
   -- what the children are when the one on the way to the key changes, and nothing else does
-  pub record Again (b : Content K V) (es : List (K × ℕ)) (last : ℕ) (low high : Option K) (front back : List (K × V)) (lefts rights : List ℕ) (leaves nodes : ℕ → ℕ) : Type 0 where
+  pub record Again (b : ArenaContent K V) (es : List (K × ℕ)) (last : ℕ) (low high : Option K) (front back : List (K × V)) (lefts rights : List ℕ) (leaves nodes : ℕ → ℕ) : Type 0 where
     pub between : AreBetween cmp (IsTree cmp b height) es last low high
     pub pairs : joined_along (pairs_under b height) es last ≡ front ++ pairs_under b height (child_for cmp key es last) ++ back
     pub order : joined_along (leaves_under b height) es last ≡ lefts ++ leaves_under b height (child_for cmp key es last) ++ rights
@@ -57,7 +57,7 @@ module _ {K V : Type 0} (cmp : K → K → Ordering) (a : Content K V) (key : K)
     pub node : (n : ℕ) → sum_along (node_times b n height) es last ≡ nodes n + node_times b n height (child_for cmp key es last)
 
   -- the same, where a new child comes before it
-  pub record Parted (b : Content K V) (sep : K) (fresh : ℕ) (es : List (K × ℕ)) (last : ℕ) (low high : Option K) (front back : List (K × V)) (lefts rights : List ℕ) (leaves nodes : ℕ → ℕ) : Type 0 where
+  pub record Parted (b : ArenaContent K V) (sep : K) (fresh : ℕ) (es : List (K × ℕ)) (last : ℕ) (low high : Option K) (front back : List (K × V)) (lefts rights : List ℕ) (leaves nodes : ℕ → ℕ) : Type 0 where
     pub child : child_for cmp key (insert_entry cmp es sep fresh) last ≡ cond (is_lt (cmp sep key)) (child_for cmp key es last) fresh
     pub between : AreBetween cmp (IsTree cmp b height) (insert_entry cmp es sep fresh) last low high
     pub pairs : joined_along (pairs_under b height) (insert_entry cmp es sep fresh) last ≡ front ++ (pairs_under b height fresh ++ pairs_under b height (child_for cmp key es last)) ++ back
@@ -66,7 +66,7 @@ module _ {K V : Type 0} (cmp : K → K → Ordering) (a : Content K V) (key : K)
     pub node : (n : ℕ) → sum_along (node_times b n height) (insert_entry cmp es sep fresh) last ≡ nodes n + (node_times b n height fresh + node_times b n height (child_for cmp key es last))
 
   -- what the others are without it, when nothing else changes
-  pub record Left (b : Content K V) (s : Option (List (K × ℕ) × ℕ)) (low high : Option K) (front back : List (K × V)) (lefts rights : List ℕ) (leaves nodes : ℕ → ℕ) : Type 0 where
+  pub record Left (b : ArenaContent K V) (s : Option (List (K × ℕ) × ℕ)) (low high : Option K) (front back : List (K × V)) (lefts rights : List ℕ) (leaves nodes : ℕ → ℕ) : Type 0 where
     pub between : AreLeft cmp (IsTree cmp b height) s low high
     pub pairs : left_joined (pairs_under b height) s ≡ front ++ back
     pub order : left_joined (leaves_under b height) s ≡ lefts ++ rights
@@ -81,7 +81,7 @@ module _ {K V : Type 0} (cmp : K → K → Ordering) (a : Content K V) (key : K)
     pub back : List (K × V)
     pub lefts : List ℕ
     pub rights : List ℕ
-    pub fore : front ≡ gathered (λ n. leaf_pairs (a.leaf n)) lefts
+    pub fore : front ≡ joined_over (λ n. leaf_pairs (a.leaf n)) lefts
     pub leaves : ℕ → ℕ
     pub nodes : ℕ → ℕ
     pub tree : IsTree cmp a height (child_for cmp key es last) from upto
@@ -90,9 +90,9 @@ module _ {K V : Type 0} (cmp : K → K → Ordering) (a : Content K V) (key : K)
     pub absent : (sep : K) → IsWithin cmp from upto sep → IsUnder cmp upto sep → lookup (is_at (cmp sep)) es ≡ None
     pub before : AllKeys (λ k. cmp k key ≡ Less) front
     pub behind : AllKeys (λ k. cmp key k ≡ Less) back
-    pub again : (b : Content K V) → Agrees a b leaves nodes → IsTree cmp b height (child_for cmp key es last) from upto → Again b es last low high front back lefts rights leaves nodes
-    pub parted : (b : Content K V) (sep : K) (fresh : ℕ) → Agrees a b leaves nodes → IsWithin cmp from upto sep → IsUnder cmp upto sep → IsTree cmp b height fresh from (Some sep) → IsTree cmp b height (child_for cmp key es last) (Some sep) upto → Parted b sep fresh es last low high front back lefts rights leaves nodes
-    pub left : (b : Content K V) → Agrees a b leaves nodes → Left b (shed cmp key es last) low high front back lefts rights leaves nodes
+    pub again : (b : ArenaContent K V) → Agrees a b leaves nodes → IsTree cmp b height (child_for cmp key es last) from upto → Again b es last low high front back lefts rights leaves nodes
+    pub parted : (b : ArenaContent K V) (sep : K) (fresh : ℕ) → Agrees a b leaves nodes → IsWithin cmp from upto sep → IsUnder cmp upto sep → IsTree cmp b height fresh from (Some sep) → IsTree cmp b height (child_for cmp key es last) (Some sep) upto → Parted b sep fresh es last low high front back lefts rights leaves nodes
+    pub left : (b : ArenaContent K V) → Agrees a b leaves nodes → Left b (shed cmp key es last) low high front back lefts rights leaves nodes
 
 module _ {K : Type 0} (cmp : K → K → Ordering) (o : IsTotalOrder cmp) where
   -- no separator above a bound is a key below it
@@ -102,7 +102,7 @@ module _ {K : Type 0} (cmp : K → K → Ordering) (o : IsTotalOrder cmp) where
       let far : cmp sep e.0 ≡ Less = o.trans sep m e.0 h t.0.0 in
       rw far (absent_above P es last e.0 high sep t.2 far)
 
-module _ {K V : Type 0} (cmp : K → K → Ordering) (a : Content K V) where
+module _ {K V : Type 0} (cmp : K → K → Ordering) (a : ArenaContent K V) where
   pub widened_along : (P : ℕ → Option K → Option K → Type 0) → ((at : ℕ) (low high wide_low wide_high : Option K) → ((k : K) → IsOver cmp low k → IsOver cmp wide_low k) → ((k : K) → IsUpTo cmp high k → IsUpTo cmp wide_high k) → P at low high → P at wide_low wide_high)
       → (es : List (K × ℕ)) (last : ℕ) (low high wide_low wide_high : Option K) → ((k : K) → IsOver cmp low k → IsOver cmp wide_low k) → ((k : K) → IsUpTo cmp high k → IsUpTo cmp wide_high k) → AreBetween cmp P es last low high → AreBetween cmp P es last wide_low wide_high
   widened_along P each [] last low high wide_low wide_high over upto t = each last low high wide_low wide_high over upto t
@@ -117,7 +117,7 @@ module _ {K V : Type 0} (cmp : K → K → Ordering) (a : Content K V) where
   widened zero at low high wide_low wide_high over upto t = (t.0, t.1, record { thawed = t.2.thawed; rising = t.2.rising; within = all_weaken (IsWithin cmp low high) (IsWithin cmp wide_low wide_high) (λ k w. (over k w.0, upto k w.1)) t.0.pairs t.2.within })
   widened (suc height) at low high wide_low wide_high over upto t = (t.0, t.1, t.2, widened_along (IsTree cmp a height) (widened height) t.0.0.pairs t.0.1 low high wide_low wide_high over upto t.3)
 
-module _ {K V : Type 0} (cmp : K → K → Ordering) (o : IsTotalOrder cmp) (a : Content K V) (key : K) (height : ℕ) where
+module _ {K V : Type 0} (cmp : K → K → Ordering) (o : IsTotalOrder cmp) (a : ArenaContent K V) (key : K) (height : ℕ) where
   turn_last : (last : ℕ) (low high : Option K) → IsTree cmp a height last low high → IsWithin cmp low high key → Turn cmp a key height [] last low high
   turn_last last low high t w = record {
     from = low;
@@ -148,7 +148,7 @@ module _ {K V : Type 0} (cmp : K → K → Ordering) (o : IsTotalOrder cmp) (a :
   }
 
   -- what is left in front of what is left behind it
-  left_past : (b : Content K V) (e : K × ℕ) (s : Option (List (K × ℕ) × ℕ)) (low high : Option K) (front back : List (K × V)) (lefts rights : List ℕ) (leaves nodes : ℕ → ℕ) → IsWithin cmp low high e.0 → IsSame cmp a b height e.1 low (Some e.0) → Left cmp a key height b s (Some e.0) high front back lefts rights leaves nodes
+  left_past : (b : ArenaContent K V) (e : K × ℕ) (s : Option (List (K × ℕ) × ℕ)) (low high : Option K) (front back : List (K × V)) (lefts rights : List ℕ) (leaves nodes : ℕ → ℕ) → IsWithin cmp low high e.0 → IsSame cmp a b height e.1 low (Some e.0) → Left cmp a key height b s (Some e.0) high front back lefts rights leaves nodes
       → Left cmp a key height b (Some (in_front e s)) low high (pairs_under a height e.1 ++ front) back (leaves_under a height e.1 ++ lefts) rights (λ n. leaf_times a n height e.1 + leaves n) (λ n. node_times a n height e.1 + nodes n)
   left_past b e None low high front back lefts rights leaves nodes w f l = record {
     between = widened cmp b height e.1 low (Some e.0) low high (λ k h. h) (λ k h. upto_trans o high e.0 k h w.1) f.tree;
@@ -222,9 +222,9 @@ module _ {K V : Type 0} (cmp : K → K → Ordering) (o : IsTotalOrder cmp) (a :
   turn_past e es last low high t h r =
       let far : cmp e.0 key ≡ Less = passed o e.0 key h in
       let c : child_for cmp key (e ∷ es) last ≡ child_for cmp key es last = ap (λ b. cond b (child_for cmp key es last) e.1) h in
-      let first : (b : Content K V) → Agrees a b (λ n. leaf_times a n height e.1 + r.leaves n) (λ n. node_times a n height e.1 + r.nodes n) → IsSame cmp a b height e.1 low (Some e.0) =
+      let first : (b : ArenaContent K V) → Agrees a b (λ n. leaf_times a n height e.1 + r.leaves n) (λ n. node_times a n height e.1 + r.nodes n) → IsSame cmp a b height e.1 low (Some e.0) =
       λ b s. kept cmp a b height e.1 low (Some e.0) t.1 (record { leaf = λ n d. s.leaf n (omega (arith, d)); node = λ n d. s.node n (omega (arith, d)) }) in
-      let rest : (b : Content K V) → Agrees a b (λ n. leaf_times a n height e.1 + r.leaves n) (λ n. node_times a n height e.1 + r.nodes n) → Agrees a b r.leaves r.nodes =
+      let rest : (b : ArenaContent K V) → Agrees a b (λ n. leaf_times a n height e.1 + r.leaves n) (λ n. node_times a n height e.1 + r.nodes n) → Agrees a b r.leaves r.nodes =
       λ b s. record { leaf = λ n d. s.leaf n (omega (arith, d)); node = λ n d. s.node n (omega (arith, d)) } in
       record {
         from = r.from;
@@ -233,7 +233,7 @@ module _ {K V : Type 0} (cmp : K → K → Ordering) (o : IsTotalOrder cmp) (a :
         back = r.back;
         lefts = leaves_under a height e.1 ++ r.lefts;
         rights = r.rights;
-        fore = rw (held_under a height e.1, r.fore) (sym (gathered_append (λ n. leaf_pairs (a.leaf n)) (leaves_under a height e.1) r.lefts));
+        fore = rw (held_under a height e.1, r.fore) (sym (joined_over_append (λ n. leaf_pairs (a.leaf n)) (leaves_under a height e.1) r.lefts));
         leaves = λ n. leaf_times a n height e.1 + r.leaves n;
         nodes = λ n. node_times a n height e.1 + r.nodes n;
         tree = rw c r.tree;
@@ -278,9 +278,9 @@ module _ {K V : Type 0} (cmp : K → K → Ordering) (o : IsTotalOrder cmp) (a :
         | false ↦ λ h. turn_here e es last low high t w h
       ]) refl
 
-module _ {K V : Type 0} (cmp : K → K → Ordering) (a : Content K V) (key : K) (height : ℕ) where
+module _ {K V : Type 0} (cmp : K → K → Ordering) (a : ArenaContent K V) (key : K) (height : ℕ) where
   -- what a tree is when what stands so many steps down on the way to the key changes, and nothing else does
-  pub record Rebuilt (b : Content K V) (steps at : ℕ) (low high : Option K) (front back : List (K × V)) (lefts rights : List ℕ) (leaves nodes : ℕ → ℕ) : Type 0 where
+  pub record Rebuilt (b : ArenaContent K V) (steps at : ℕ) (low high : Option K) (front back : List (K × V)) (lefts rights : List ℕ) (leaves nodes : ℕ → ℕ) : Type 0 where
     pub same_way : way cmp b key steps at ≡ way cmp a key steps at
     pub tree : IsTree cmp b (over steps height) at low high
     pub pairs : pairs_under b (over steps height) at ≡ front ++ pairs_under b height (way cmp a key steps at) ++ back
@@ -296,16 +296,16 @@ module _ {K V : Type 0} (cmp : K → K → Ordering) (a : Content K V) (key : K)
     pub back : List (K × V)
     pub lefts : List ℕ
     pub rights : List ℕ
-    pub fore : front ≡ gathered (λ n. leaf_pairs (a.leaf n)) lefts
+    pub fore : front ≡ joined_over (λ n. leaf_pairs (a.leaf n)) lefts
     pub leaves : ℕ → ℕ
     pub nodes : ℕ → ℕ
     pub tree : IsTree cmp a height (way cmp a key steps at) from upto
     pub key_within : IsWithin cmp from upto key
     pub before : AllKeys (λ k. cmp k key ≡ Less) front
     pub behind : AllKeys (λ k. cmp key k ≡ Less) back
-    pub rebuilt : (b : Content K V) → Agrees a b leaves nodes → IsTree cmp b height (way cmp a key steps at) from upto → Rebuilt b steps at low high front back lefts rights leaves nodes
+    pub rebuilt : (b : ArenaContent K V) → Agrees a b leaves nodes → IsTree cmp b height (way cmp a key steps at) from upto → Rebuilt b steps at low high front back lefts rights leaves nodes
 
-module _ {K V : Type 0} (cmp : K → K → Ordering) (o : IsTotalOrder cmp) (a : Content K V) (key : K) (height : ℕ) where
+module _ {K V : Type 0} (cmp : K → K → Ordering) (o : IsTotalOrder cmp) (a : ArenaContent K V) (key : K) (height : ℕ) where
   focus_here : (at : ℕ) (low high : Option K) → IsTree cmp a height at low high → IsWithin cmp low high key → Focus cmp a key height 0 at low high
   focus_here at low high t w = record {
     from = low;
@@ -342,7 +342,7 @@ module _ {K V : Type 0} (cmp : K → K → Ordering) (o : IsTotalOrder cmp) (a :
         back = f.back ++ r.back;
         lefts = r.lefts ++ f.lefts;
         rights = f.rights ++ r.rights;
-        fore = rw (r.fore, f.fore) (sym (gathered_append (λ n. leaf_pairs (a.leaf n)) r.lefts f.lefts));
+        fore = rw (r.fore, f.fore) (sym (joined_over_append (λ n. leaf_pairs (a.leaf n)) r.lefts f.lefts));
         leaves = λ m. r.leaves m + f.leaves m;
         nodes = λ m. cond (at == m) 1 0 + (r.nodes m + f.nodes m);
         tree = rw c f.tree;

@@ -7,11 +7,11 @@ use Rattle.leaf_array.specs.Cells.{Cells}
 use Rattle.tree_index.specs.declared.leaf.Leaf.{Leaf}
 use Rattle.tree_index.specs.declared.node.InnerNode.{InnerNode}
 use Rattle.tree_index.specs.declared.arenas.Arenas.{Arenas}
-use Rattle.tree_index.specs.Shape.{Content, AreBetween, joined_along, sum_along, node_joined, node_sum, leaf_pairs, pairs_under, leaves_under, leaf_times, node_times, IsTree, Stands}
-use Rattle.tree_index.specs.Chain.{links, times, IsLinked}
-use Rattle.tree_index.specs.Content.{content_of, pairs_of, leaves_of, IsBare, IsSound}
-use Rattle.tree_index.specs.Prune.{IsDetached, IsLowerable}
-use Rattle.tree_index.specs.Walk.{held}
+use Rattle.tree_index.specs.Shape.{ArenaContent, AreBetween, joined_along, sum_along, node_joined, node_sum, leaf_pairs, pairs_under, leaves_under, leaf_times, node_times, IsTree, Stands}
+use Rattle.tree_index.specs.Chain.{leaf_links, times, IsLinked}
+use Rattle.tree_index.specs.Content.{content_of, pairs_of, leaves_of, HasNoTree, IsSound}
+use Rattle.tree_index.specs.Prune.{IsCutOff, IsLowerable}
+use Rattle.tree_index.specs.Walk.{pairs_in_leaf}
 use Rattle.tree_index.proofs.ShapeLemmas.{self_once, IsSame, kept}
 use Rattle.tree_index.proofs.WayLemmas.{some_same}
 use Rattle.tree_index.proofs.ChainLemmas.{times_counted, linked_kept}
@@ -27,13 +27,13 @@ abbrev names_in : {K V : Type 0} → Option (Leaf K V) → Option (Option ℕ ×
 names_in = option_map (λ l. (l.prev, l.next))
 
 module _ {K V : Type 0} (cmp : K → K → Ordering) (a : Arenas K V) (s : IsSound cmp a) (planted : a.height ≢ 0) where
-  abbrev c : Content K V
+  abbrev c : ArenaContent K V
   c = content_of a
 
   standing : Stands cmp c a.height a.root
   standing = split s.stands
     where
-      split : IsBare a ⊎ (a.height ≢ 0) × Stands cmp c a.height a.root → Stands cmp c a.height a.root
+      split : HasNoTree a ⊎ (a.height ≢ 0) × Stands cmp c a.height a.root → Stands cmp c a.height a.root
       split (inl bare) = absurd (planted bare.flat)
       split (inr stands) = stands.1
 
@@ -41,7 +41,7 @@ module _ {K V : Type 0} (cmp : K → K → Ordering) (a : Arenas K V) (s : IsSou
     abbrev pub fewer : Arenas K V
     fewer = record { leaves = a.leaves; nodes = nodes; root = a.root; height = a.height; len = a.len }
 
-    abbrev b : Content K V
+    abbrev b : ArenaContent K V
     b = content_of fewer
 
     others : (m : ℕ) → m ≢ n → b.node m ≡ c.node m
@@ -60,15 +60,15 @@ module _ {K V : Type 0} (cmp : K → K → Ordering) (a : Arenas K V) (s : IsSou
       pub fewer_sound : IsSound cmp fewer
       fewer_sound = record {
         stands = inr (planted, record { tree = same.tree; leaf_once = λ m. omega (arith, same.leaves m, standing.leaf_once m); node_once = λ m. omega (arith, same.nodes m, standing.node_once m) });
-        linked = λ h. subst (λ ns. IsLinked (links a.leaves) None ns None) (sym same.order) (s.linked h);
+        linked = λ h. subst (λ ns. IsLinked (leaf_links a.leaves) None ns None) (sym same.order) (s.linked h);
         count = s.count ∙ sym (ap length same.pairs);
       }
 
-    first_out : (height leaf : ℕ) → IsDetached a (suc height) n leaf → node_times c n a.height a.root ≡ 0
+    first_out : (height leaf : ℕ) → IsCutOff a (suc height) n leaf → node_times c n a.height a.root ≡ 0
     first_out height leaf t = t.apart n (λ e. self_once n (node_times c n height t.single.0.1) (sym (single_nodes c n height n leaf t.single) ∙ e))
 
     -- the first of nodes with one child each leaves the arena, and the others are left
-    pub freed : (height leaf : ℕ) (gone : InnerNode K) → get a.nodes n ≡ Some gone → (t : IsDetached a (suc height) n leaf) → IsSound cmp fewer × (pairs_of fewer ≡ pairs_of a) × (leaves_of fewer ≡ leaves_of a) × IsDetached fewer height gone.last leaf
+    pub freed : (height leaf : ℕ) (gone : InnerNode K) → get a.nodes n ≡ Some gone → (t : IsCutOff a (suc height) n leaf) → IsSound cmp fewer × (pairs_of fewer ≡ pairs_of a) × (leaves_of fewer ≡ leaves_of a) × IsCutOff fewer height gone.last leaf
     freed height leaf gone here t =
         let out = first_out height leaf t in
         let next : ℕ = t.single.0.1 in
@@ -78,7 +78,7 @@ module _ {K V : Type 0} (cmp : K → K → Ordering) (a : Arenas K V) (s : IsSou
           fewer_sound out,
           fewer_pairs out,
           fewer_order out,
-          subst (λ (j : ℕ). IsDetached fewer height j leaf) last (record {
+          subst (λ (j : ℕ). IsCutOff fewer height j leaf) last (record {
             planted = planted;
             single = k.0;
             once = λ m. omega (arith, k.1 m, down m, t.once m);
@@ -93,7 +93,7 @@ module _ {K V : Type 0} (cmp : K → K → Ordering) (a : Arenas K V) (s : IsSou
     abbrev pub without_leaf : Arenas K V
     without_leaf = record { leaves = leaves; nodes = a.nodes; root = a.root; height = a.height; len = a.len }
 
-    abbrev d : Content K V
+    abbrev d : ArenaContent K V
     d = content_of without_leaf
 
     apart : (m : ℕ) → times m (leaves_of a) ≢ 0 → m ≢ n
@@ -102,11 +102,11 @@ module _ {K V : Type 0} (cmp : K → K → Ordering) (a : Arenas K V) (s : IsSou
     unchanged : IsSame cmp c d a.height a.root None None
     unchanged = kept cmp c d a.height a.root None None standing.tree (record { leaf = λ m h. ap array_in (u.others m (apart m (λ e. h (sym (times_counted c m a.height a.root) ∙ e)))); node = λ m h. refl })
 
-    pub freed_leaf : IsSound cmp without_leaf × (pairs_of without_leaf ≡ pairs_of a) × (leaves_of without_leaf ≡ leaves_of a) × ((m : ℕ) → m ≢ n → held without_leaf m ≡ held a m)
+    pub freed_leaf : IsSound cmp without_leaf × (pairs_of without_leaf ≡ pairs_of a) × (leaves_of without_leaf ≡ leaves_of a) × ((m : ℕ) → m ≢ n → pairs_in_leaf without_leaf m ≡ pairs_in_leaf a m)
     freed_leaf = (
       record {
         stands = inr (planted, record { tree = unchanged.tree; leaf_once = λ m. omega (arith, unchanged.leaves m, standing.leaf_once m); node_once = λ m. omega (arith, unchanged.nodes m, standing.node_once m) });
-        linked = λ h. subst (λ ns. IsLinked (links leaves) None ns None) (sym unchanged.order) (linked_kept (links a.leaves) (links leaves) None (leaves_of a) None (λ m e. ap names_in (u.others m (apart m e))) (s.linked h));
+        linked = λ h. subst (λ ns. IsLinked (leaf_links leaves) None ns None) (sym unchanged.order) (linked_kept (leaf_links a.leaves) (leaf_links leaves) None (leaves_of a) None (λ m e. ap names_in (u.others m (apart m e))) (s.linked h));
         count = s.count ∙ sym (ap length unchanged.pairs);
       },
       unchanged.pairs,
@@ -122,10 +122,10 @@ module _ {K V : Type 0} (cmp : K → K → Ordering) (a : Arenas K V) (s : IsSou
   abbrev pub lowered : Arenas K V
   lowered = record { leaves = a.leaves; nodes = nodes; root = child; height = m; len = a.len }
 
-  abbrev old : Content K V
+  abbrev old : ArenaContent K V
   old = content_of a
 
-  abbrev new : Content K V
+  abbrev new : ArenaContent K V
   new = content_of lowered
 
   height_is : a.height ≡ suc m
@@ -176,6 +176,6 @@ module _ {K V : Type 0} (cmp : K → K → Ordering) (a : Arenas K V) (s : IsSou
         node_once = λ n. omega (arith, same_below.nodes n, nodes_are n, stands.node_once n);
       },
     );
-    linked = λ h. subst (λ ns. IsLinked (links a.leaves) None ns None) (sym lowered_order) (s.linked (λ e. omega (arith, e, only.tall)));
+    linked = λ h. subst (λ ns. IsLinked (leaf_links a.leaves) None ns None) (sym lowered_order) (s.linked (λ e. omega (arith, e, only.tall)));
     count = s.count ∙ sym (ap length lowered_pairs);
   }

@@ -4,7 +4,7 @@ use Rattle.std.specs.declared.cmp.Ordering.{Ordering}
 use Rattle.std.specs.Ordering.{is_lt}
 use Rattle.std.specs.List.Sorted.{IsStrictlySortedBy}
 use Rattle.leaf_array.specs.Cells.{no_cells}
-use Rattle.tree_index.specs.Shape.{Content, child_for, child_in, way, sum_along, node_sum, pairs_under, leaves_under, leaf_times, node_times, IsNode, IsTree, Stands}
+use Rattle.tree_index.specs.Shape.{ArenaContent, child_for, child_in, way, sum_along, node_sum, pairs_under, leaves_under, leaf_times, node_times, IsNode, IsTree, Stands}
 use Rattle.std.proofs.lemmas.Bool.Decides.{eqb_tells}
 use Rattle.tree_index.proofs.ShapeLemmas.{self_once, Agrees, kept}
 use Rattle.tree_index.proofs.WayLemmas.{tree_below}
@@ -21,7 +21,7 @@ at_most_one false = omega arith
 empty_node : {K : Type 0} → IsNode {K = K} (no_cells false)
 empty_node = record { thawed = refl; living = refl; packed = refl }
 
-module _ {K V : Type 0} (cmp : K → K → Ordering) (b : Content K V) where
+module _ {K V : Type 0} (cmp : K → K → Ordering) (b : ArenaContent K V) where
   -- a node over one empty leaf
   pub one_node : (leaf root : ℕ) → b.leaf leaf ≡ Some (no_cells false) → b.node root ≡ Some (no_cells false, leaf) → Stands cmp b 1 root
   one_node leaf root l n = record {
@@ -36,7 +36,7 @@ module _ {K V : Type 0} (cmp : K → K → Ordering) (b : Content K V) where
   pub one_order : (leaf root : ℕ) → b.node root ≡ Some (no_cells false, leaf) → leaves_under b 1 root ≡ leaf ∷ []
   one_order leaf root n = rw n refl
 
-module _ {K V : Type 0} (cmp : K → K → Ordering) (a b : Content K V) where
+module _ {K V : Type 0} (cmp : K → K → Ordering) (a b : ArenaContent K V) where
   -- a tree whose numbers hold the same has the same ways
   pub child_counted : (f : ℕ → ℕ) (key : K) (es : List (K × ℕ)) (last : ℕ) → f (child_for cmp key es last) ≤ sum_along f es last
   child_counted f key [] last = omega arith
@@ -62,7 +62,7 @@ module _ {K V : Type 0} (cmp : K → K → Ordering) (a b : Content K V) where
       ap (λ m. way cmp b key height (child_in cmp key at m)) (here ∙ t.1) ∙ rest ∙ sym (ap (λ m. way cmp a key height (child_in cmp key at m)) t.1)
 
 -- a new root over the present one
-module _ {K V : Type 0} (cmp : K → K → Ordering) (a b : Content K V) (height root fresh : ℕ) (s : Stands cmp a height root)
+module _ {K V : Type 0} (cmp : K → K → Ordering) (a b : ArenaContent K V) (height root fresh : ℕ) (s : Stands cmp a height root)
     (absent : a.node fresh ≡ None) (there : b.node fresh ≡ Some (no_cells false, root)) (others : (n : ℕ) → n ≢ fresh → b.node n ≡ a.node n) (leaves : (n : ℕ) → b.leaf n ≡ a.leaf n) where
   fresh_unused : node_times a fresh height root ≡ 0
   fresh_unused = node_absent cmp a fresh absent height root None None s.tree

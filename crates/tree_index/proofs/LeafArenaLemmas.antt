@@ -17,9 +17,9 @@ use Rattle.tree_index.specs.declared.leaf.SplitPoint.{SplitPoint}
 use Rattle.tree_index.specs.declared.node.InnerNode.{InnerNode}
 use Rattle.tree_index.specs.declared.arenas.Arenas.{Arenas}
 use Rattle.tree_index.specs.SplitPoints.{IsSplitPoint, key_at}
-use Rattle.tree_index.specs.Shape.{Content, AllKeys, IsWithin, way, child_in, pairs_under, leaves_under, leaf_times, IsLeaf, IsNode, Stands}
-use Rattle.tree_index.specs.Content.{content_of, pairs_of, leaves_of, IsSound, HasRoom, IsLeafFull, AreSameArrays}
-use Rattle.tree_index.specs.Chain.{links, times, IsLinked, linked_in}
+use Rattle.tree_index.specs.Shape.{ArenaContent, AllKeys, IsWithin, way, child_in, pairs_under, leaves_under, leaf_times, IsLeaf, IsNode, Stands}
+use Rattle.tree_index.specs.Content.{content_of, pairs_of, leaves_of, IsSound, LeafHasRoom, IsLeafFull, AreSameArrays}
+use Rattle.tree_index.specs.Chain.{leaf_links, times, IsLinked, linked_in}
 use Rattle.tree_index.proofs.ChainLemmas.{times_counted, linked_split}
 use Rattle.tree_index.proofs.LinkLemmas.{links_kept}
 use Rattle.tree_index.proofs.ShapeLemmas.{self_once}
@@ -44,7 +44,7 @@ array_some (Some l) c h = (l, refl, some_same h)
 module _ {K V : Type 0} (cmp : K → K → Ordering) (o : IsTotalOrder cmp) (key : K) (a : Arenas K V) (s : IsSound cmp a) (planted_ : a.height ≢ 0)
     (above at : ℕ) (on_above : above ≡ way cmp (content_of a) key (a.height - 1) a.root) (on_child : at ≡ way cmp (content_of a) key a.height a.root)
     (whole upper low : Leaf K V) (here : get a.leaves at ≡ Some whole) (split_point : SplitPoint K) (fits : IsSplitPoint cmp key whole.array.pairs split_point) (rising : IsAscending cmp whole.array.pairs) where
-  abbrev c : Content K V
+  abbrev c : ArenaContent K V
   c = content_of a
 
   abbrev steps : ℕ
@@ -93,12 +93,12 @@ module _ {K V : Type 0} (cmp : K → K → Ordering) (o : IsTotalOrder cmp) (key
     module _ (lower_pairs : low.array.pairs ≡ take n whole.array.pairs) (upper_pairs : upper.array.pairs ≡ drop n whole.array.pairs) (lower_rising : IsAscending cmp low.array.pairs) (upper_rising : IsAscending cmp upper.array.pairs)
         (lower_thawed : low.array.frozen ≡ false) (upper_thawed : upper.array.frozen ≡ false) (lower_living : low.array.retired ≡ (split_point.whole && whole.array.retired)) (upper_living : upper.array.retired ≡ false)
         (lower_used : split_point.whole ≡ false → low.array.used ≤ 8) (upper_used : upper.array.used ≤ 7)
-        (leaves linked : Slab (Leaf K V)) (fresh : ℕ) (added : Updates (with_value a.leaves at upper) leaves fresh (Some low)) (vacant : get (with_value a.leaves at upper) fresh ≡ None) (arrays : AreSameArrays leaves linked) (named : (n : ℕ) → links linked n ≡ linked_in fresh upper.prev at (links leaves) n) (upper_prev : upper.prev ≡ whole.prev) (upper_next : upper.next ≡ whole.next) (low_prev : low.prev ≡ upper.prev) (low_next : low.next ≡ Some at)
+        (leaves linked : Slab (Leaf K V)) (fresh : ℕ) (added : Updates (with_value a.leaves at upper) leaves fresh (Some low)) (vacant : get (with_value a.leaves at upper) fresh ≡ None) (arrays : AreSameArrays leaves linked) (named : (n : ℕ) → leaf_links linked n ≡ linked_in fresh upper.prev at (leaf_links leaves) n) (upper_prev : upper.prev ≡ whole.prev) (upper_next : upper.next ≡ whole.next) (low_prev : low.prev ≡ upper.prev) (low_next : low.next ≡ Some at)
         (m : InnerNode K) (m_node : IsNode m.children) (m_pairs : m.children.pairs ≡ insert_entry cmp old.children.pairs split_point.separator fresh) (m_last : m.last ≡ old.last) where
       abbrev pub done : Arenas K V
       done = record { leaves = linked; nodes = with_value a.nodes above m; root = a.root; height = a.height; len = a.len }
 
-      abbrev b : Content K V
+      abbrev b : ArenaContent K V
       b = content_of done
 
       abbrev array : Option (Leaf K V) → Option (Cells K V)
@@ -181,15 +181,15 @@ module _ {K V : Type 0} (cmp : K → K → Ordering) (o : IsTotalOrder cmp) (key
       abbrev named_by : Option (Leaf K V) → Option (Option ℕ × Option ℕ)
       named_by = option_map (λ (l : Leaf K V). (l.prev, l.next))
 
-      done_linked : IsLinked (links linked) None (leaves_of done) None
+      done_linked : IsLinked (leaf_links linked) None (leaves_of done) None
       done_linked =
-          subst (λ ns. IsLinked (links linked) None ns None) (sym new_order)
-          (linked_split (links a.leaves) (links leaves) (links linked) fresh at whole.prev whole.next (ap named_by here)
+          subst (λ ns. IsLinked (leaf_links linked) None ns None) (sym new_order)
+          (linked_split (leaf_links a.leaves) (leaf_links leaves) (leaf_links linked) fresh at whole.prev whole.next (ap named_by here)
           (λ k d. ap named_by (added.others k d) ∙ links_kept a.leaves at whole upper here upper_prev upper_next k)
           (ap named_by added.changed ∙ rw (low_prev, upper_prev, low_next) refl)
-          (λ k. named k ∙ ap (λ (p : Option ℕ). linked_in fresh p at (links leaves) k) upper_prev)
+          (λ k. named k ∙ ap (λ (p : Option ℕ). linked_in fresh p at (leaf_links leaves) k) upper_prev)
           rights None None lefts
-          (subst (λ ns. IsLinked (links a.leaves) None ns None) old_order (s.linked planted_))
+          (subst (λ ns. IsLinked (leaf_links a.leaves) None ns None) old_order (s.linked planted_))
           (λ k. omega (arith, counted k, once k))
           (omega (arith, counted fresh, fresh_unused))
           (λ k e. cc))
@@ -227,7 +227,7 @@ module _ {K V : Type 0} (cmp : K → K → Ordering) (o : IsTotalOrder cmp) (key
             | false ↦ λ q. (low.array, at_fresh, lower_living ∙ ap (λ w. w && whole.array.retired) (halved q), omega (arith, lower_used (halved q)))
           ]) refl)
 
-      pub done_room : HasRoom cmp key done
+      pub done_room : LeafHasRoom cmp key done
       done_room =
           let r : IsRoomy (way cmp b key a.height a.root) = subst (λ (n : ℕ). IsRoomy (way cmp b key n a.root)) height_is roomy in
           let l = array_some (get linked (way cmp b key a.height a.root)) r.0 r.1 in

@@ -7,12 +7,12 @@ use Rattle.std.specs.declared.ops.Bound.{Bound}
 use Rattle.std.specs.BTreeMap.Range.{is_from_start, is_past_end}
 use Rattle.tree_index.specs.declared.walk.Position.{Position}
 use Rattle.tree_index.specs.declared.arenas.Arenas.{Arenas}
-use Rattle.tree_index.specs.Shape.{gathered}
+use Rattle.tree_index.specs.Shape.{joined_over}
 use Rattle.tree_index.specs.Content.{pairs_of, leaves_of, IsSound}
 use Rattle.tree_index.specs.Cursor.{before_start, up_to_end}
-use Rattle.tree_index.specs.Walk.{held, position, IsPosition}
+use Rattle.tree_index.specs.Walk.{pairs_in_leaf, position, IsPosition}
 use Rattle.tree_index.specs.LeafCursor.{IsPart, ranked}
-use Rattle.tree_index.proofs.RowLemmas.{parting, before_parted, gathered_parted}
+use Rattle.tree_index.proofs.RowLemmas.{parting, before_parted, joined_over_parted}
 use Rattle.tree_index.proofs.WalkLemmas.{once, all_held, held_is}
 
 module _ {K V : Type 0} where
@@ -26,13 +26,13 @@ module _ {K V : Type 0} where
   pub spot_part : (a : Arenas K V) (spot : Position K V) → IsPosition a spot → IsPart spot.leaf.now.array.pairs (pairs_of a)
   spot_part a spot is =
       let n = spot.at in
-      let f = held a in
+      let f = pairs_in_leaf a in
       let p = parting n (leaves_of a) is.insertion_point.own.1 in
       let same : f n ≡ spot.leaf.now.array.pairs = held_is a n spot.leaf.now is.insertion_point.there in
       record {
-        fore = gathered f p.fore;
-        rear = gathered f p.rear;
-        all = all_held a ∙ gathered_parted f n (leaves_of a) p.fore p.rear p.all ∙ ap (λ ps. gathered f p.fore ++ (ps ++ gathered f p.rear)) same;
+        fore = joined_over f p.fore;
+        rear = joined_over f p.rear;
+        all = all_held a ∙ joined_over_parted f n (leaves_of a) p.fore p.rear p.all ∙ ap (λ ps. joined_over f p.fore ++ (ps ++ joined_over f p.rear)) same;
       }
 
 -- where what is counted at the front of a list ends within a part of it, it is counted in that part
@@ -75,7 +75,7 @@ module _ {K V : Type 0} (cmp : K → K → Ordering) (a : Arenas K V) (s : IsSou
   position_there =
       let n = spot.at in
       let p = parting n (leaves_of a) is.insertion_point.own.1 in
-      ap (λ m. m + spot.place) (before_parted (held a) n (leaves_of a) p.fore p.rear p.all (once cmp a s is.insertion_point.own.0 n))
+      ap (λ m. m + spot.place) (before_parted (pairs_in_leaf a) n (leaves_of a) p.fore p.rear p.all (once cmp a s is.insertion_point.own.0 n))
 
   -- the place of the first pair within a bound is the first within it of its leaf
   pub start_there : position a spot ≡ before_start cmp b (pairs_of a) → before_start cmp b spot.leaf.now.array.pairs ≡ spot.place

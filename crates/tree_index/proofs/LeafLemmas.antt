@@ -10,10 +10,10 @@ use Rattle.std.specs.Map.{keys_of, lookup_entry}
 use Rattle.std.specs.Option.{is_some, IfSome}
 use Rattle.std.proofs.lemmas.Map.Keys.{sorted_head}
 use Rattle.leaf_array.specs.Edits.{removed, upserted}
-use Rattle.leaf_array.specs.Pairs.{IsAscending, has_key, value_at}
+use Rattle.leaf_array.specs.Pairs.{IsAscending, has_key, value_of_key}
 use Rattle.leaf_array.specs.declared.result.InsertResult.{InsertResult}
 use Rattle.leaf_array.specs.declared.result.InsertResult.TheVariants.{Success, Duplicate, Full}
-use Rattle.leaf_array.specs.Cells.{Cells, has, inserted, overwritten}
+use Rattle.leaf_array.specs.Cells.{Cells, array_has_key, array_inserted, array_overwritten}
 use Rattle.leaf_array.specs.Results.{IsSuccess, IsDuplicate, IsFull, is_closed, is_repeated}
 use Rattle.leaf_array.proofs.EntryLemmas.{insert_upserted, exchange_upserted, has_lookup}
 use Rattle.tree_index.specs.Shape.{AllKeys}
@@ -51,8 +51,8 @@ last_of_three true true c h = h
 last_of_three true false c h = cc
 last_of_three false b c h = cc
 
-pub repeated_has : {K V : Type 0} (upsert : Bool) (cmp : K → K → Ordering) (key : K) (a : Cells K V) → IsTrue (is_repeated upsert cmp key a) → has cmp key a ≡ true
-repeated_has upsert cmp key a h = last_of_three (not (is_closed a)) (not upsert) (has cmp key a) h
+pub repeated_has : {K V : Type 0} (upsert : Bool) (cmp : K → K → Ordering) (key : K) (a : Cells K V) → IsTrue (is_repeated upsert cmp key a) → array_has_key cmp key a ≡ true
+repeated_has upsert cmp key a h = last_of_three (not (is_closed a)) (not upsert) (array_has_key cmp key a) h
 
 unique_of : (closed full upsert there : Bool) → (IsTrue (closed || full && not there) → ⊥) → (IsTrue (not closed && not upsert && there) → ⊥) → upsert ≡ false → there ≡ false
 unique_of true full upsert there a b e = absurd (a refl)
@@ -67,9 +67,9 @@ unique (Full k v) closed full upsert there a b s e = absurd s
 
 module _ {K V : Type 0} (cmp : K → K → Ordering) (o : IsTotalOrder cmp) (key : K) (val : V) where
   -- a pair that is put into an array is put into its list
-  pub put_is : (old new : Cells K V) → IsAscending cmp old.pairs → (has cmp key old ≡ false → new ≡ inserted cmp key val old) → (has cmp key old ≡ true → new ≡ overwritten cmp key val old) → new.pairs ≡ upserted cmp key val old.pairs
+  pub put_is : (old new : Cells K V) → IsAscending cmp old.pairs → (array_has_key cmp key old ≡ false → new ≡ array_inserted cmp key val old) → (array_has_key cmp key old ≡ true → new ≡ array_overwritten cmp key val old) → new.pairs ≡ upserted cmp key val old.pairs
   put_is old new up absent there =
-      (elim (has cmp key old) as (λ b. has cmp key old ≡ b → new.pairs ≡ upserted cmp key val old.pairs) [
+      (elim (array_has_key cmp key old) as (λ b. array_has_key cmp key old ≡ b → new.pairs ≡ upserted cmp key val old.pairs) [
         | true ↦ λ b. ap (λ (c : Cells K V). c.pairs) (there b) ∙ exchange_upserted cmp o key val old.pairs up
         | false ↦ λ b. ap (λ (c : Cells K V). c.pairs) (absent b) ∙ insert_upserted cmp o key val old.pairs up (has_lookup cmp key old.pairs ∙ b)
       ]) refl
@@ -97,28 +97,28 @@ pub removed_of : {K V : Type 0} (cmp : K → K → Ordering) (key : K) (old new 
 removed_of cmp key old new true there none h = there refl
 removed_of cmp key old new false there none h = none refl ∙ sym (removed_none cmp key old (sym h))
 
-pub value_none : {K V : Type 0} (cmp : K → K → Ordering) (key : K) (ps : List (K × V)) → value_at cmp key ps ≡ None → lookup_entry (is_at (cmp key)) ps ≡ None
+pub value_none : {K V : Type 0} (cmp : K → K → Ordering) (key : K) (ps : List (K × V)) → value_of_key cmp key ps ≡ None → lookup_entry (is_at (cmp key)) ps ≡ None
 value_none cmp key [] h = refl
 value_none cmp key (p ∷ ps) h =
-    (elim (is_at (cmp key) p.0) as (λ b. cond b (Some p.1) (value_at cmp key ps) ≡ None → cond b (Some p) (lookup_entry (is_at (cmp key)) ps) ≡ None) [
+    (elim (is_at (cmp key) p.0) as (λ b. cond b (Some p.1) (value_of_key cmp key ps) ≡ None → cond b (Some p) (lookup_entry (is_at (cmp key)) ps) ≡ None) [
       | true ↦ λ h. cc
       | false ↦ λ h. value_none cmp key ps h
     ]) h
 
 -- what holds of the value of the pair found holds of the value found
-pub value_asked : {K V : Type 0} (cmp : K → K → Ordering) (key : K) (ps : List (K × V)) (P : V → Type 0) → IfSome (lookup_entry (is_at (cmp key)) ps) (λ e. P e.1) → IfSome (value_at cmp key ps) P
+pub value_asked : {K V : Type 0} (cmp : K → K → Ordering) (key : K) (ps : List (K × V)) (P : V → Type 0) → IfSome (lookup_entry (is_at (cmp key)) ps) (λ e. P e.1) → IfSome (value_of_key cmp key ps) P
 value_asked cmp key [] P h = h
 value_asked cmp key (p ∷ ps) P h =
-    (elim (is_at (cmp key) p.0) as (λ b. IfSome (cond b (Some p) (lookup_entry (is_at (cmp key)) ps)) (λ e. P e.1) → IfSome (cond b (Some p.1) (value_at cmp key ps)) P) [
+    (elim (is_at (cmp key) p.0) as (λ b. IfSome (cond b (Some p) (lookup_entry (is_at (cmp key)) ps)) (λ e. P e.1) → IfSome (cond b (Some p.1) (value_of_key cmp key ps)) P) [
       | true ↦ λ h. h
       | false ↦ λ h. value_asked cmp key ps P h
     ]) h
 
 -- and the other way round
-pub entry_asked : {K V : Type 0} (cmp : K → K → Ordering) (key : K) (ps : List (K × V)) (P : V → Type 0) → IfSome (value_at cmp key ps) P → IfSome (lookup_entry (is_at (cmp key)) ps) (λ e. P e.1)
+pub entry_asked : {K V : Type 0} (cmp : K → K → Ordering) (key : K) (ps : List (K × V)) (P : V → Type 0) → IfSome (value_of_key cmp key ps) P → IfSome (lookup_entry (is_at (cmp key)) ps) (λ e. P e.1)
 entry_asked cmp key [] P h = h
 entry_asked cmp key (p ∷ ps) P h =
-    (elim (is_at (cmp key) p.0) as (λ b. IfSome (cond b (Some p.1) (value_at cmp key ps)) P → IfSome (cond b (Some p) (lookup_entry (is_at (cmp key)) ps)) (λ e. P e.1)) [
+    (elim (is_at (cmp key) p.0) as (λ b. IfSome (cond b (Some p.1) (value_of_key cmp key ps)) P → IfSome (cond b (Some p) (lookup_entry (is_at (cmp key)) ps)) (λ e. P e.1)) [
       | true ↦ λ h. h
       | false ↦ λ h. entry_asked cmp key ps P h
     ]) h

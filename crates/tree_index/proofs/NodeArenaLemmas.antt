@@ -11,8 +11,8 @@ use Rattle.slab.proofs.SlabLemmas.{Updates-with_value}
 use Rattle.leaf_array.specs.Cells.{Cells}
 use Rattle.tree_index.specs.declared.node.InnerNode.{InnerNode}
 use Rattle.tree_index.specs.declared.arenas.Arenas.{Arenas}
-use Rattle.tree_index.specs.Shape.{Content, way, pairs_under, leaves_under, IsNode, Stands}
-use Rattle.tree_index.specs.Chain.{links, IsLinked}
+use Rattle.tree_index.specs.Shape.{ArenaContent, way, pairs_under, leaves_under, IsNode, Stands}
+use Rattle.tree_index.specs.Chain.{leaf_links, IsLinked}
 use Rattle.tree_index.specs.Content.{content_of, pairs_of, leaves_of, IsSound, NodeHasRoom}
 use Rattle.tree_index.proofs.FocusLemmas.{over, over_is}
 use Rattle.tree_index.proofs.WayLemmas.{some_same}
@@ -31,7 +31,7 @@ module _ {K V : Type 0} (cmp : K → K → Ordering) (o : IsTotalOrder cmp) (key
     (parts : whole.children.pairs ≡ low.children.pairs ++ (sep, low.last) ∷ up.children.pairs) (low_node : IsNode low.children) (up_node : IsNode up.children) (up_used : up.children.used ≡ 7) (low_used : low.children.used ≡ 7) (up_last : up.last ≡ whole.last)
     (nodes : Slab (InnerNode K)) (fresh : ℕ) (added : Updates (with_value a.nodes at up) nodes fresh (Some low)) (vacant : get (with_value a.nodes at up) fresh ≡ None)
     (old : InnerNode K) (there : get nodes above ≡ Some old) where
-  abbrev c : Content K V
+  abbrev c : ArenaContent K V
   c = content_of a
 
   abbrev steps : ℕ
@@ -103,7 +103,7 @@ module _ {K V : Type 0} (cmp : K → K → Ordering) (o : IsTotalOrder cmp) (key
     abbrev pub done : Arenas K V
     done = record { leaves = a.leaves; nodes = with_value nodes above m; root = a.root; height = a.height; len = a.len }
 
-    abbrev b : Content K V
+    abbrev b : ArenaContent K V
     b = content_of done
 
     last_turn : Updates nodes (with_value nodes above m) above (Some m)
@@ -143,7 +143,7 @@ module _ {K V : Type 0} (cmp : K → K → Ordering) (o : IsTotalOrder cmp) (key
     pub done_sound : slab_len a.nodes ≤ slab_len done.nodes → IsSound cmp done
     done_sound more = record {
       stands = inr ((λ e. omega (arith, e)), subst (λ (n : ℕ). Stands cmp b n a.root) height_is (node_divided cmp o c key l steps a.root stands b fresh low.children up.children m.children sep low.last y ys split).stands);
-      linked = λ h. subst (λ ns. IsLinked (links a.leaves) None ns None) (sym done_order) (s.linked h);
+      linked = λ h. subst (λ ns. IsLinked (leaf_links a.leaves) None ns None) (sym done_order) (s.linked h);
       count = s.count ∙ sym (ap length done_pairs);
     }
 

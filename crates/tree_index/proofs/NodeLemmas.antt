@@ -13,7 +13,7 @@ use Rattle.tree_index.specs.declared.leaf.Leaf.{Leaf}
 use Rattle.tree_index.specs.declared.node.InnerNode.{InnerNode}
 use Rattle.tree_index.specs.declared.arenas.Arenas.{Arenas}
 use Rattle.tree_index.specs.Shape.{way, IsNode, IsTree, Stands}
-use Rattle.tree_index.specs.Content.{content_of, pairs_of, IsLeafFull, IsBare, IsSound, AreSameArrays}
+use Rattle.tree_index.specs.Content.{content_of, pairs_of, IsLeafFull, HasNoTree, IsSound, AreSameArrays}
 use Rattle.tree_index.specs.Depth.{ascending_headroom}
 use Rattle.tree_index.proofs.FocusLemmas.{over, over_is, focus}
 use Rattle.tree_index.proofs.WayLemmas.{some_same, leaf_there, leaf_thawed}
@@ -22,14 +22,14 @@ module _ {K V : Type 0} (cmp : K → K → Ordering) (o : IsTotalOrder cmp) (key
   pub planted : IsSound cmp a → a.height ≢ 0 → Stands cmp (content_of a) a.height a.root
   planted s h = split s.stands
     where
-      split : IsBare a ⊎ (a.height ≢ 0) × Stands cmp (content_of a) a.height a.root → Stands cmp (content_of a) a.height a.root
+      split : HasNoTree a ⊎ (a.height ≢ 0) × Stands cmp (content_of a) a.height a.root → Stands cmp (content_of a) a.height a.root
       split (inl bare) = absurd (h bare.flat)
       split (inr stands) = stands.1
 
-  pub bare_of : IsSound cmp a → a.height ≡ 0 → IsBare a
+  pub bare_of : IsSound cmp a → a.height ≡ 0 → HasNoTree a
   bare_of s h = split s.stands
     where
-      split : IsBare a ⊎ (a.height ≢ 0) × Stands cmp (content_of a) a.height a.root → IsBare a
+      split : HasNoTree a ⊎ (a.height ≢ 0) × Stands cmp (content_of a) a.height a.root → HasNoTree a
       split (inl bare) = bare
       split (inr stands) = absurd (stands.0 h)
 
@@ -111,7 +111,7 @@ module _ {K V : Type 0} (cmp : K → K → Ordering) (a : Arenas K V) (leaves : 
   same_slots : IsSound cmp a → IsSound cmp (roomier a.leaves.slots a.nodes.slots)
   same_slots s = record { stands = split s.stands; linked = s.linked; count = s.count }
     where
-      split : IsBare a ⊎ (a.height ≢ 0) × Stands cmp (content_of a) a.height a.root → IsBare (roomier a.leaves.slots a.nodes.slots) ⊎ (a.height ≢ 0) × Stands cmp (content_of a) a.height a.root
+      split : HasNoTree a ⊎ (a.height ≢ 0) × Stands cmp (content_of a) a.height a.root → HasNoTree (roomier a.leaves.slots a.nodes.slots) ⊎ (a.height ≢ 0) × Stands cmp (content_of a) a.height a.root
       split (inl bare) = inl (record { flat = bare.flat; empty = bare.empty })
       split (inr stands) = inr stands
 

@@ -7,7 +7,7 @@ use Rattle.std.specs.Map.{lookup}
 use Rattle.std.specs.BTreeMap.{insert_entry, is_at}
 use Rattle.std.proofs.lemmas.Bool.Decides.{eqb_tells}
 use Rattle.leaf_array.specs.Cells.{Cells}
-use Rattle.tree_index.specs.Shape.{Content, child_for, child_in, way, joined_along, sum_along, node_joined, node_sum, pairs_under, leaves_under, leaf_times, node_times, IsNode, IsTree, Stands}
+use Rattle.tree_index.specs.Shape.{ArenaContent, child_for, child_in, way, joined_along, sum_along, node_joined, node_sum, pairs_under, leaves_under, leaf_times, node_times, IsNode, IsTree, Stands}
 use Rattle.tree_index.proofs.ShapeLemmas.{self_once, Agrees, AreSame, kept, kept_along}
 use Rattle.tree_index.proofs.FocusLemmas.{over}
 use Rattle.tree_index.proofs.WayLemmas.{tree_below}
@@ -16,11 +16,11 @@ use Rattle.tree_index.proofs.GrowLemmas.{at_most_one, child_counted, way_kept}
 use Rattle.tree_index.proofs.SplitLemmas.{parent, kids, last, child, around_parent, around_child, IsSplit, IsDivided, divided, leaf_total, node_total, none_node, at_parent, order_total}
 
 -- a way in two parts
-pub way_more : {K V : Type 0} (cmp : K → K → Ordering) (a : Content K V) (key : K) (steps more at : ℕ) → way cmp a key (over steps more) at ≡ way cmp a key more (way cmp a key steps at)
+pub way_more : {K V : Type 0} (cmp : K → K → Ordering) (a : ArenaContent K V) (key : K) (steps more at : ℕ) → way cmp a key (over steps more) at ≡ way cmp a key more (way cmp a key steps at)
 way_more cmp a key zero more at = refl
 way_more cmp a key (suc steps) more at = way_more cmp a key steps more (child_in cmp key at (a.node at))
 
-module _ {K V : Type 0} (cmp : K → K → Ordering) (o : IsTotalOrder cmp) (a : Content K V) (key : K) (left steps root : ℕ) (s : Stands cmp a (over steps (suc (suc left))) root) where
+module _ {K V : Type 0} (cmp : K → K → Ordering) (o : IsTotalOrder cmp) (a : ArenaContent K V) (key : K) (left steps root : ℕ) (s : Stands cmp a (over steps (suc (suc left))) root) where
   abbrev p : ℕ
   p = parent cmp o a key (suc left) steps root s
 
@@ -42,7 +42,7 @@ module _ {K V : Type 0} (cmp : K → K → Ordering) (o : IsTotalOrder cmp) (a :
   pub child_is : way cmp a key (over steps 1) root ≡ c
   child_is = way_more cmp a key steps 1 root ∙ ap (child_in cmp key p) (around_parent cmp o a key (suc left) steps root s).tree.1
 
-  module _ (b : Content K V) (fresh : ℕ) (lower upper node : Cells K ℕ) (sep : K) (mid : ℕ) (y : K × ℕ) (ys : List (K × ℕ)) where
+  module _ (b : ArenaContent K V) (fresh : ℕ) (lower upper node : Cells K ℕ) (sep : K) (mid : ℕ) (y : K × ℕ) (ys : List (K × ℕ)) where
     -- the separator between the halves isn't among those above
     pub not_above : full.0.pairs ≡ lower.pairs ++ (sep, mid) ∷ (y ∷ ys) → lookup (is_at (cmp sep)) (kids cmp o a key (suc left) steps root s) ≡ None
     not_above parts =

@@ -7,7 +7,7 @@ use Rattle.std.specs.declared.cmp.Ordering.{Ordering}
 use Rattle.std.specs.Ordering.{is_lt}
 use Rattle.std.specs.Cmp.{IsTotalOrder}
 use Rattle.leaf_array.specs.Cells.{Cells, lesser}
-use Rattle.tree_index.specs.Shape.{Content, child_for, child_in, way, joined_along, sum_along, node_joined, node_sum, leaf_pairs, pairs_under, leaves_under, leaf_times, node_times, IsNode, Stands}
+use Rattle.tree_index.specs.Shape.{ArenaContent, child_for, child_in, way, joined_along, sum_along, node_joined, node_sum, leaf_pairs, pairs_under, leaves_under, leaf_times, node_times, IsNode, Stands}
 use Rattle.tree_index.specs.Content.{content_of}
 use Rattle.tree_index.specs.declared.node.InnerNode.{InnerNode}
 use Rattle.tree_index.specs.declared.arenas.Arenas.{Arenas}
@@ -43,7 +43,7 @@ module _ {K : Type 0} (cmp : K → K → Ordering) (key : K) where
         | false ↦ λ h. absurd (omega (arith, h))
       ]) h
 
-module _ {K V : Type 0} (cmp : K → K → Ordering) (o : IsTotalOrder cmp) (a : Content K V) (key : K) (left steps root : ℕ) (s : Stands cmp a (over steps (suc left)) root) where
+module _ {K V : Type 0} (cmp : K → K → Ordering) (o : IsTotalOrder cmp) (a : ArenaContent K V) (key : K) (left steps root : ℕ) (s : Stands cmp a (over steps (suc left)) root) where
   abbrev pub above : ℕ
   above = parent cmp o a key left steps root s
 
@@ -57,21 +57,21 @@ module _ {K V : Type 0} (cmp : K → K → Ordering) (o : IsTotalOrder cmp) (a :
   kid = child cmp o a key left steps root s
 
   -- the node above has one child less, and all else is as it was, but under that child
-  pub record IsPruned (b : Content K V) (node : Cells K ℕ) (end : ℕ) : Type 0 where
+  pub record IsPruned (b : ArenaContent K V) (node : Cells K ℕ) (end : ℕ) : Type 0 where
     pub there : b.node above ≡ Some (node, end)
     pub rest : shed cmp key outer.tree.0.0.pairs outer.tree.0.1 ≡ Some (node.pairs, end)
     pub is_node : IsNode node
     pub leaf_same : (n : ℕ) → leaf_times a n left kid ≡ 0 → b.leaf n ≡ a.leaf n
     pub node_same : (n : ℕ) → node_times a n left kid ≡ 0 → n ≢ above → b.node n ≡ a.node n
 
-  pub record Remains (b : Content K V) : Type 0 where
+  pub record Remains (b : ArenaContent K V) : Type 0 where
     pub stands : Stands cmp b (over steps (suc left)) root
     pub pairs : pairs_under b (over steps (suc left)) root ≡ (outer.front ++ inner.front) ++ (inner.back ++ outer.back)
     pub order : leaves_under b (over steps (suc left)) root ≡ (outer.lefts ++ inner.lefts) ++ (inner.rights ++ outer.rights)
     pub leaf : (n : ℕ) → leaf_times b n (over steps (suc left)) root + leaf_times a n left kid ≡ leaf_times a n (over steps (suc left)) root
     pub node : (n : ℕ) → node_times b n (over steps (suc left)) root + node_times a n left kid ≡ node_times a n (over steps (suc left)) root
 
-  module _ (b : Content K V) (node : Cells K ℕ) (end : ℕ) (t : IsPruned b node end) where
+  module _ (b : ArenaContent K V) (node : Cells K ℕ) (end : ℕ) (t : IsPruned b node end) where
     agrees_inner : Agrees a b inner.leaves inner.nodes
     agrees_inner = record {
       leaf = λ n d. t.leaf_same n (omega (arith, d, leaf_total cmp o a key left steps root s n, s.leaf_once n));
@@ -108,7 +108,7 @@ module _ {K V : Type 0} (cmp : K → K → Ordering) (o : IsTotalOrder cmp) (a :
 
 -- ---- nodes with one child each
 
-module _ {K V : Type 0} (a : Content K V) where
+module _ {K V : Type 0} (a : ArenaContent K V) where
   pub single_leaves : (height at leaf : ℕ) → IsSingle a height at leaf → leaves_under a height at ≡ leaf ∷ []
   single_leaves zero at leaf t = ap (λ (n : ℕ). n ∷ []) t
   single_leaves (suc height) at leaf t = ap (node_joined (leaves_under a height)) t.1 ∙ ap (λ es. joined_along (leaves_under a height) es t.0.1) t.2 ∙ single_leaves height t.0.1 leaf t.3
@@ -130,7 +130,7 @@ module _ {K V : Type 0} (a : Content K V) where
   single_more (suc height) at next n t there none = (t.0, t.1, t.2, single_more height t.0.1 next n t.3 there none)
 
 -- they stay as long as their numbers hold what they did
-pub single_kept : {K V : Type 0} (a b : Content K V) (height at leaf : ℕ) → IsSingle a height at leaf → ((n : ℕ) → node_times a n height at ≢ 0 → b.node n ≡ a.node n) → IsSingle b height at leaf × ((n : ℕ) → node_times b n height at ≡ node_times a n height at)
+pub single_kept : {K V : Type 0} (a b : ArenaContent K V) (height at leaf : ℕ) → IsSingle a height at leaf → ((n : ℕ) → node_times a n height at ≢ 0 → b.node n ≡ a.node n) → IsSingle b height at leaf × ((n : ℕ) → node_times b n height at ≡ node_times a n height at)
 single_kept a b zero at leaf t same = (t, λ n. refl)
 single_kept a b (suc height) at leaf t same =
     let here : b.node at ≡ a.node at = same at (self_once at (node_sum (node_times a at height) (a.node at))) in

@@ -8,12 +8,12 @@ use Rattle.std.proofs.lemmas.Bool.Decides.{eqb_tells}
 use Rattle.std.proofs.lemmas.List.{length-append}
 use Rattle.leaf_array.specs.Cells.{lesser}
 use Rattle.tree_index.specs.declared.arenas.Arenas.{Arenas}
-use Rattle.tree_index.specs.Shape.{AllKeys, gathered}
+use Rattle.tree_index.specs.Shape.{AllKeys, joined_over}
 use Rattle.tree_index.specs.Chain.{times}
 use Rattle.tree_index.specs.Content.{pairs_of, leaves_of, leaf_on_way, IsSound}
 use Rattle.tree_index.specs.Depth.{IsAbove}
-use Rattle.tree_index.specs.Push.{IsOpen}
-use Rattle.tree_index.specs.Walk.{held}
+use Rattle.tree_index.specs.Push.{LastLeafHasRoom}
+use Rattle.tree_index.specs.Walk.{pairs_in_leaf}
 use Rattle.tree_index.proofs.ShapeLemmas.{turned}
 use Rattle.tree_index.proofs.ChainLemmas.{times_append, first_times}
 use Rattle.tree_index.proofs.WalkLemmas.{all_held, held_is}
@@ -43,28 +43,28 @@ last_in [] (l ∷ ls) rights n at e = absurd (empty ls (let tail : [] ≡ ls ++ 
     empty (x ∷ xs) h = cc
 last_in (f ∷ fs) (l ∷ ls) rights n at e = last_in fs ls rights n at (let tail : fs ++ n ∷ [] ≡ ls ++ at ∷ rights = cc in tail)
 
-module _ {K V : Type 0} (cmp : K → K → Ordering) (o : IsTotalOrder cmp) (key : K) (a : Arenas K V) (s : IsSound cmp a) (n : ℕ) (open_ : IsOpen a n) (above : IsAbove cmp key (pairs_of a)) where
+module _ {K V : Type 0} (cmp : K → K → Ordering) (o : IsTotalOrder cmp) (key : K) (a : Arenas K V) (s : IsSound cmp a) (n : ℕ) (open_ : LastLeafHasRoom a n) (above : IsAbove cmp key (pairs_of a)) where
   -- the way to a key above all others leads to the last leaf
   pub open_way : n ≡ leaf_on_way cmp key a
   open_way =
       let r = way_around cmp o key a s open_.own.0 in
       let at = leaf_on_way cmp key a in
       let less = (part_of (λ k. cmp k key ≡ Less) _ r.back (part_of (λ k. cmp k key ≡ Less) r.front _ (subst (AllKeys (λ k. cmp k key ≡ Less)) r.pairs above)).1).1 in
-      let none : gathered (held a) r.rights ≡ [] = rights_hold cmp o key a s open_.own.0 ∙ none_between cmp o key r.back less r.behind in
+      let none : joined_over (pairs_in_leaf a) r.rights ≡ [] = rights_hold cmp o key a s open_.own.0 ∙ none_between cmp o key r.back less r.behind in
       split at r.rights none (last_in open_.fore r.lefts r.rights n at (sym open_.last ∙ r.order)) (eqb_tells at n)
     where
-      split : (at : ℕ) (rights : List ℕ) → gathered (held a) rights ≡ [] → times n (at ∷ rights) ≢ 0 → ((at == n) ≡ true × (at ≡ n)) ⊎ ((at == n) ≡ false × (at ≢ n)) → n ≡ at
+      split : (at : ℕ) (rights : List ℕ) → joined_over (pairs_in_leaf a) rights ≡ [] → times n (at ∷ rights) ≢ 0 → ((at == n) ≡ true × (at ≡ n)) ⊎ ((at == n) ≡ false × (at ≢ n)) → n ≡ at
       split at rights none there (inl e) = sym e.1
       split at rights none there (inr e) =
           let here : ◌≡◌ {A = ℕ} (cond (at == n) 1 0) 0 = ap (λ b. cond b 1 0) e.0 in
-          let kept = leaf_keys (λ k. ⊥) (held a) n rights (λ z. there (omega (arith, here, z))) (subst (AllKeys (λ k. ⊥)) (sym none) tt) in
+          let kept = leaf_keys (λ k. ⊥) (pairs_in_leaf a) n rights (λ z. there (omega (arith, here, z))) (subst (AllKeys (λ k. ⊥)) (sym none) tt) in
           absurd (none_held open_.leaf.array.pairs open_.some (subst (AllKeys (λ k. ⊥)) (held_is a n open_.leaf open_.there) kept))
 
   -- its keys are below it too
   pub open_above : AllKeys (λ k. cmp k key ≡ Less) open_.leaf.array.pairs
   open_above =
       subst (AllKeys (λ k. cmp k key ≡ Less)) (held_is a n open_.leaf open_.there)
-      (leaf_keys (λ k. cmp k key ≡ Less) (held a) n (leaves_of a) open_.own.1 (subst (AllKeys (λ k. cmp k key ≡ Less)) (all_held a) above))
+      (leaf_keys (λ k. cmp k key ≡ Less) (pairs_in_leaf a) n (leaves_of a) open_.own.1 (subst (AllKeys (λ k. cmp k key ≡ Less)) (all_held a) above))
 
 pub longer_by_one : {X : Type 0} (old new : List X) (x : X) → new ≡ old ++ x ∷ [] → length new ≡ length old + 1
 longer_by_one old new x e = ap length e ∙ simp length-append refl

@@ -16,12 +16,12 @@ use Rattle.std.specs.BTreeMap.Range.{range_contains, is_from_start, is_past_end}
 use Rattle.std.specs.Map.{keys_of}
 use Rattle.std.proofs.lemmas.Map.Keys.{sorted_head, sorted_tail}
 use Rattle.leaf_array.specs.Pairs.{IsAscending}
-use Rattle.tree_index.specs.Shape.{AllKeys, gathered, way, leaf_pairs, pairs_under, Stands}
-use Rattle.tree_index.specs.Chain.{links, times, first_or, IsLinked}
-use Rattle.tree_index.specs.Content.{content_of, pairs_of, leaves_of, IsBare, IsSound}
-use Rattle.tree_index.specs.Walk.{held, starts_at, IsOwn, IsPassed}
+use Rattle.tree_index.specs.Shape.{AllKeys, joined_over, way, leaf_pairs, pairs_under, Stands}
+use Rattle.tree_index.specs.Chain.{leaf_links, times, first_or, IsLinked}
+use Rattle.tree_index.specs.Content.{content_of, pairs_of, leaves_of, HasNoTree, IsSound}
+use Rattle.tree_index.specs.Walk.{pairs_in_leaf, starts_at, IsOwnLeaf, IsPassed}
 use Rattle.tree_index.specs.declared.arenas.Arenas.{Arenas}
-use Rattle.tree_index.proofs.ShapeLemmas.{all_append, all_weaken, gathered_append}
+use Rattle.tree_index.proofs.ShapeLemmas.{all_append, all_weaken, joined_over_append}
 use Rattle.tree_index.proofs.LeafLemmas.{filter_all}
 use Rattle.tree_index.proofs.RisingLemmas.{to_keys}
 use Rattle.tree_index.proofs.WalkLemmas.{all_held, held_is, once, stands_of, leaf_around}
@@ -60,7 +60,7 @@ module _ {K : Type 0} (cmp : K → K → Ordering) (lower upper : Bound K) where
   all_passed a p =
       filter_all (λ k. not (range_contains cmp lower upper k)) (pairs_of a)
       (all_weaken IsOutside (λ k. not (range_contains cmp lower upper k) ≡ true) (λ k h. ap not h) (pairs_of a)
-      (subst (AllKeys IsOutside) (sym (all_held a ∙ ap (gathered (held a)) (p.all ∙ ap (λ ns. p.fore ++ ns) (none_left p.rear p.first) ∙ append-nil p.fore))) p.keys))
+      (subst (AllKeys IsOutside) (sym (all_held a ∙ ap (joined_over (pairs_in_leaf a)) (p.all ∙ ap (λ ns. p.fore ++ ns) (none_left p.rear p.first) ∙ append-nil p.fore))) p.keys))
     where
       none_left : (ns : List ℕ) → None ≡ first_or None ns → ns ≡ []
       none_left [] e = refl
@@ -91,7 +91,7 @@ module _ {K V : Type 0} {cmp : K → K → Ordering} (o : IsTotalOrder cmp) (low
   behind_outside (q ∷ front) p back up e = behind_outside front p back (sorted_tail cmp q.0 (keys_of (front ++ p ∷ back)) up) e
 
 pub passed_less : {K V : Type 0} (P Q : K → Type 0) → ((k : K) → P k → Q k) → (a : Arenas K V) (x : Option ℕ) → IsPassed P a x → IsPassed Q a x
-passed_less P Q f a x p = record { fore = p.fore; rear = p.rear; all = p.all; first = p.first; keys = all_weaken P Q f (gathered (held a) p.fore) p.keys }
+passed_less P Q f a x p = record { fore = p.fore; rear = p.rear; all = p.all; first = p.first; keys = all_weaken P Q f (joined_over (pairs_in_leaf a) p.fore) p.keys }
 
 pub filtered_length : {X : Type 0} (test : X → Bool) (xs : List X) → length (filter test xs) ≤ length xs
 filtered_length test [] = omega arith
@@ -123,19 +123,19 @@ module _ {K V : Type 0} (cmp : K → K → Ordering) (P : K → Type 0) (a : Are
   empty_keys (p ∷ ps) e = absurd (omega (arith, e))
 
   -- nothing comes before a leaf at which the pairs start
-  pub start_passed : (x : Option ℕ) → IsOwn a x → starts_at a x ≡ 0 → IsPassed P a x
+  pub start_passed : (x : Option ℕ) → IsOwnLeaf a x → starts_at a x ≡ 0 → IsPassed P a x
   start_passed None own e =
-      record { fore = leaves_of a; rear = []; all = sym (append-nil (leaves_of a)); first = refl; keys = empty_keys (gathered (held a) (leaves_of a)) (sym (ap length (all_held a)) ∙ e) }
+      record { fore = leaves_of a; rear = []; all = sym (append-nil (leaves_of a)); first = refl; keys = empty_keys (joined_over (pairs_in_leaf a) (leaves_of a)) (sym (ap length (all_held a)) ∙ e) }
   start_passed (Some n) own e =
       let p = parting n (leaves_of a) own.1 in
-      let before = before_parted (held a) n (leaves_of a) p.fore p.rear p.all (once cmp a s own.0 n) in
-      record { fore = p.fore; rear = n ∷ p.rear; all = p.all; first = refl; keys = empty_keys (gathered (held a) p.fore) (sym before ∙ e) }
+      let before = before_parted (pairs_in_leaf a) n (leaves_of a) p.fore p.rear p.all (once cmp a s own.0 n) in
+      record { fore = p.fore; rear = n ∷ p.rear; all = p.all; first = refl; keys = empty_keys (joined_over (pairs_in_leaf a) p.fore) (sym before ∙ e) }
 
   -- nor anything at all in a bare tree
   pub bare_passed : a.height ≡ 0 → IsPassed P a None
   bare_passed flat = split s.stands
     where
-      split : IsBare a ⊎ (a.height ≢ 0) × Stands cmp (content_of a) a.height a.root → IsPassed P a None
+      split : HasNoTree a ⊎ (a.height ≢ 0) × Stands cmp (content_of a) a.height a.root → IsPassed P a None
       split (inl bare) =
           let none : pairs_of a ≡ [] = ap (λ n. pairs_under (content_of a) n a.root) bare.flat ∙ ap (λ x. leaf_pairs (option_map (λ (l : Leaf K V). l.array) x)) (bare.empty a.root) in
           start_passed None tt (ap length none)
@@ -143,7 +143,7 @@ module _ {K V : Type 0} (cmp : K → K → Ordering) (P : K → Type 0) (a : Are
 
 module _ {K V : Type 0} (cmp : K → K → Ordering) (o : IsTotalOrder cmp) (key : K) (beyond : Bool) (a : Arenas K V) (s : IsSound cmp a) (h : a.height ≢ 0) (n : ℕ) (on : n ≡ way cmp (content_of a) key a.height a.root) where
   -- what comes before the leaf on the way to a key lies before bounds at the key
-  pub way_passed : IsOwn a (Some n) × IsPassed (λ k. is_from_start cmp (bound_at key beyond) k ≡ false) a (Some n)
+  pub way_passed : IsOwnLeaf a (Some n) × IsPassed (λ k. is_from_start cmp (bound_at key beyond) k ≡ false) a (Some n)
   way_passed =
       let tree = (stands_of cmp a s h).tree in
       let there = leaf_there cmp o key (content_of a) a.height a.root tree in
@@ -160,7 +160,7 @@ module _ {K V : Type 0} (cmp : K → K → Ordering) (o : IsTotalOrder cmp) (key
       )
 
 -- a leaf that loses its pairs within a range
-module _ {K V : Type 0} (cmp : K → K → Ordering) (o : IsTotalOrder cmp) (lower upper : Bound K) (a : Arenas K V) (s : IsSound cmp a) (n : ℕ) (own : IsOwn a (Some n)) (passed : IsPassed (IsOutside cmp lower upper) a (Some n)) (l m : Leaf K V) (here : get a.leaves n ≡ Some l)
+module _ {K V : Type 0} (cmp : K → K → Ordering) (o : IsTotalOrder cmp) (lower upper : Bound K) (a : Arenas K V) (s : IsSound cmp a) (n : ℕ) (own : IsOwnLeaf a (Some n)) (passed : IsPassed (IsOutside cmp lower upper) a (Some n)) (l m : Leaf K V) (here : get a.leaves n ≡ Some l)
     (pairs : m.array.pairs ≡ filter (λ p. not (range_contains cmp lower upper p.0)) l.array.pairs) (frozen : m.array.frozen ≡ l.array.frozen) (rising : IsAscending cmp m.array.pairs) (prev : m.prev ≡ l.prev) (next : m.next ≡ l.next) where
   abbrev test : K → Bool
   test k = not (range_contains cmp lower upper k)
@@ -186,16 +186,16 @@ module _ {K V : Type 0} (cmp : K → K → Ordering) (o : IsTotalOrder cmp) (low
   order : (len : ℕ) → leaves_of (cleared len) ≡ leaves_of a
   order = thin_order cmp test a s n own l m here pairs frozen rising prev next
 
-  held_fore : (len : ℕ) → gathered (held (cleared len)) passed.fore ≡ gathered (held a) passed.fore
+  held_fore : (len : ℕ) → joined_over (pairs_in_leaf (cleared len)) passed.fore ≡ joined_over (pairs_in_leaf a) passed.fore
   held_fore = thin_fore cmp test a s n own l m here pairs frozen rising prev next passed.fore rear all_is
 
-  held_here : (len : ℕ) → held (cleared len) n ≡ filter (λ p. test p.0) (held a n)
+  held_here : (len : ℕ) → pairs_in_leaf (cleared len) n ≡ filter (λ p. test p.0) (pairs_in_leaf a n)
   held_here = thin_here cmp test a s n own l m here pairs frozen rising prev next
 
-  pub cleared_own : (len : ℕ) → IsOwn (cleared len) m.next
-  cleared_own len = split m.next (subst (IsOwn a) (sym next) (leaf_around cmp a s n l own here).next_own)
+  pub cleared_own : (len : ℕ) → IsOwnLeaf (cleared len) m.next
+  cleared_own len = split m.next (subst (IsOwnLeaf a) (sym next) (leaf_around cmp a s n l own here).next_own)
     where
-      split : (x : Option ℕ) → IsOwn a x → IsOwn (cleared len) x
+      split : (x : Option ℕ) → IsOwnLeaf a x → IsOwnLeaf (cleared len) x
       split None w = tt
       split (Some k) w = (w.0, subst (λ ns. times k ns ≢ 0) (sym (order len)) w.1)
 
@@ -205,14 +205,14 @@ module _ {K V : Type 0} (cmp : K → K → Ordering) (o : IsTotalOrder cmp) (low
     rear = rear;
     all = order len ∙ all_is ∙ simp append_assoc;
     first = next ∙ behind;
-    keys = subst (AllKeys (IsOutside cmp lower upper)) (sym (gathered_append (held (cleared len)) passed.fore (n ∷ []))) (all_append (IsOutside cmp lower upper) (gathered (held (cleared len)) passed.fore) (gathered (held (cleared len)) (n ∷ []))
+    keys = subst (AllKeys (IsOutside cmp lower upper)) (sym (joined_over_append (pairs_in_leaf (cleared len)) passed.fore (n ∷ []))) (all_append (IsOutside cmp lower upper) (joined_over (pairs_in_leaf (cleared len)) passed.fore) (joined_over (pairs_in_leaf (cleared len)) (n ∷ []))
         (subst (AllKeys (IsOutside cmp lower upper)) (sym (held_fore len)) passed.keys)
-        (subst (AllKeys (IsOutside cmp lower upper)) (sym (append-nil (held (cleared len) n))) (subst (AllKeys (IsOutside cmp lower upper)) (sym (held_here len)) (left_outside cmp lower upper (held a n)))));
+        (subst (AllKeys (IsOutside cmp lower upper)) (sym (append-nil (pairs_in_leaf (cleared len) n))) (subst (AllKeys (IsOutside cmp lower upper)) (sym (held_here len)) (left_outside cmp lower upper (pairs_in_leaf a n)))));
   }
     where
       behind : l.next ≡ first_or None rear
       behind =
-          let at = linked_at (links a.leaves) None None n passed.fore rear (subst (λ ks. IsLinked (links a.leaves) None ks None) all_is (s.linked own.0)) in
+          let at = linked_at (leaf_links a.leaves) None None n passed.fore rear (subst (λ ks. IsLinked (leaf_links a.leaves) None ks None) all_is (s.linked own.0)) in
           let e : ◌≡◌ {A = Option (Option ℕ × Option ℕ)} (Some (l.prev, l.next)) (Some (last_or None passed.fore, first_or None rear)) = sym (ap (option_map (λ (x : Leaf K V). (x.prev, x.next))) here) ∙ at in
           ap (λ (x : Option ℕ × Option ℕ). x.1) (some_same e)
 
@@ -220,12 +220,12 @@ module _ {K V : Type 0} (cmp : K → K → Ordering) (o : IsTotalOrder cmp) (low
   cleared_last len sound some past =
       let last = last_split m.array.pairs some in
       let far : is_past_end cmp upper last.1.0 ≡ true = subst (λ (x : Option K). IfSome x (λ k. is_past_end cmp upper k ≡ true)) last.3 past in
-      let filtered : filter (λ p. test p.0) (held a n) ≡ last.0 ++ last.1 ∷ [] = ap (filter (λ (p : K × V). test p.0)) (held_is a n l here) ∙ sym pairs ∙ last.2 in
+      let filtered : filter (λ p. test p.0) (pairs_in_leaf a n) ≡ last.0 ++ last.1 ∷ [] = ap (filter (λ (p : K × V). test p.0)) (held_is a n l here) ∙ sym pairs ∙ last.2 in
       let whole = thin_pairs cmp test a s n own l m here pairs frozen rising prev next passed.fore rear all_is len in
-      let split : pairs_of (cleared len) ≡ (gathered (held a) passed.fore ++ last.0) ++ last.1 ∷ gathered (held a) rear = whole ∙ ap (λ ps. gathered (held a) passed.fore ++ (ps ++ gathered (held a) rear)) filtered ∙ simp append_assoc in
+      let split : pairs_of (cleared len) ≡ (joined_over (pairs_in_leaf a) passed.fore ++ last.0) ++ last.1 ∷ joined_over (pairs_in_leaf a) rear = whole ∙ ap (λ ps. joined_over (pairs_in_leaf a) passed.fore ++ (ps ++ joined_over (pairs_in_leaf a) rear)) filtered ∙ simp append_assoc in
       let up = subst (IsAscending cmp) split (rising_of cmp o (cleared len) sound) in
-      let outside = all_append (IsOutside cmp lower upper) (gathered (held a) passed.fore) (filter (λ p. test p.0) (held a n) ++ gathered (held a) rear) passed.keys
-      (all_append (IsOutside cmp lower upper) (filter (λ p. test p.0) (held a n)) (gathered (held a) rear) (left_outside cmp lower upper (held a n)) (behind_outside o lower upper (gathered (held a) passed.fore ++ last.0) last.1 (gathered (held a) rear) up far)) in
+      let outside = all_append (IsOutside cmp lower upper) (joined_over (pairs_in_leaf a) passed.fore) (filter (λ p. test p.0) (pairs_in_leaf a n) ++ joined_over (pairs_in_leaf a) rear) passed.keys
+      (all_append (IsOutside cmp lower upper) (filter (λ p. test p.0) (pairs_in_leaf a n)) (joined_over (pairs_in_leaf a) rear) (left_outside cmp lower upper (pairs_in_leaf a n)) (behind_outside o lower upper (joined_over (pairs_in_leaf a) passed.fore ++ last.0) last.1 (joined_over (pairs_in_leaf a) rear) up far)) in
       record {
         fore = leaves_of (cleared len);
         rear = [];

@@ -11,7 +11,7 @@ use Rattle.std.specs.Map.{keys_of}
 use Rattle.std.proofs.lemmas.Map.Keys.{sorted_head, sorted_tail}
 use Rattle.leaf_array.specs.Pairs.{IsAscending}
 use Rattle.leaf_array.specs.Cells.{Cells}
-use Rattle.tree_index.specs.Shape.{Content, AreBetween, AllKeys, IsWithin, joined_along, node_joined, leaf_pairs, pairs_under, IsTree}
+use Rattle.tree_index.specs.Shape.{ArenaContent, AreBetween, AllKeys, IsWithin, joined_along, node_joined, leaf_pairs, pairs_under, IsTree}
 use Rattle.tree_index.proofs.ShapeLemmas.{turned, upto_less, all_append, all_weaken, bounded, bounded_along}
 use Rattle.tree_index.proofs.WayLemmas.{some_same}
 
@@ -44,7 +44,7 @@ module _ {K V : Type 0} {cmp : K → K → Ordering} (o : IsTotalOrder cmp) wher
       (all_weaken (λ k. cmp m k ≡ Less) (λ y. cmp x.0 y ≡ Less) (λ k l. upto_less o x.0 m k c.0 l) ys d)))
       (rising_append m xs ys (sorted_tail cmp x.0 (keys_of xs) a) b c.1 d)
 
-  rising_along : (a : Content K V) (height : ℕ) → ((at : ℕ) (low high : Option K) → IsTree cmp a height at low high → IsAscending cmp (pairs_under a height at)) → (es : List (K × ℕ)) (last : ℕ) (low high : Option K) → AreBetween cmp (IsTree cmp a height) es last low high → IsAscending cmp (joined_along (pairs_under a height) es last)
+  rising_along : (a : ArenaContent K V) (height : ℕ) → ((at : ℕ) (low high : Option K) → IsTree cmp a height at low high → IsAscending cmp (pairs_under a height at)) → (es : List (K × ℕ)) (last : ℕ) (low high : Option K) → AreBetween cmp (IsTree cmp a height) es last low high → IsAscending cmp (joined_along (pairs_under a height) es last)
   rising_along a height each [] last low high t = each last low high t
   rising_along a height each (e ∷ es) last low high t =
       rising_append e.0 (pairs_under a height e.1) (joined_along (pairs_under a height) es last)
@@ -54,7 +54,7 @@ module _ {K V : Type 0} {cmp : K → K → Ordering} (o : IsTotalOrder cmp) wher
       (all_weaken (IsWithin cmp (Some e.0) high) (λ k. cmp e.0 k ≡ Less) (λ k w. w.0) _ (bounded_along o a (pairs_under a height) (IsTree cmp a height) (bounded o a height) es last (Some e.0) high t.2))
 
   -- the pairs of a tree are strictly ascending by key
-  pub rising_under : (a : Content K V) (height at : ℕ) (low high : Option K) → IsTree cmp a height at low high → IsAscending cmp (pairs_under a height at)
+  pub rising_under : (a : ArenaContent K V) (height at : ℕ) (low high : Option K) → IsTree cmp a height at low high → IsAscending cmp (pairs_under a height at)
   rising_under a zero at low high t = subst (λ (x : Option (Cells K V)). IsAscending cmp (leaf_pairs x)) (sym t.1) t.2.rising
   rising_under a (suc height) at low high t = subst (λ (x : Option (Cells K ℕ × ℕ)). IsAscending cmp (node_joined (pairs_under a height) x)) (sym t.1) (rising_along a height (rising_under a height) t.0.0.pairs t.0.1 low high t.3)
 

@@ -3,10 +3,10 @@ use Rattle.std.proofs.Common.{◌≡◌, ◌≢◌, ◌≤◌, ◌<◌, ◌⊎�
 use Rattle.std.proofs.lemmas.Bool.{eq-eqb}
 use Rattle.std.proofs.lemmas.Bool.Decides.{eqb_tells}
 use Rattle.std.proofs.lemmas.List.{length-append}
-use Rattle.tree_index.specs.Shape.{gathered}
+use Rattle.tree_index.specs.Shape.{joined_over}
 use Rattle.tree_index.specs.Chain.{Links, times, first_or, IsLinked}
 use Rattle.tree_index.specs.Walk.{pairs_before, rest}
-use Rattle.tree_index.proofs.ShapeLemmas.{gathered_append}
+use Rattle.tree_index.proofs.ShapeLemmas.{joined_over_append}
 use Rattle.tree_index.proofs.WayLemmas.{some_same}
 use Rattle.tree_index.proofs.ChainLemmas.{times_append, first_times}
 
@@ -34,22 +34,22 @@ parting n (m ∷ ns) h = split (parting n ns) (eqb_tells m n)
 
 module _ {X : Type 0} (f : ℕ → List X) where
   -- what comes before a number that isn't in the front
-  before_front : (n : ℕ) (xs ys : List ℕ) → times n xs ≡ 0 → pairs_before f n (xs ++ n ∷ ys) ≡ length (gathered f xs)
+  before_front : (n : ℕ) (xs ys : List ℕ) → times n xs ≡ 0 → pairs_before f n (xs ++ n ∷ ys) ≡ length (joined_over f xs)
   before_front n [] ys h = ap (λ b. cond b 0 (length (f n) + pairs_before f n ys)) (eq-eqb n n refl)
   before_front n (x ∷ xs) ys h = split (before_front n xs ys) (eqb_tells x n)
     where
-      split : (times n xs ≡ 0 → pairs_before f n (xs ++ n ∷ ys) ≡ length (gathered f xs)) → ((x == n) ≡ true × (x ≡ n)) ⊎ ((x == n) ≡ false × (x ≢ n)) → pairs_before f n (x ∷ (xs ++ n ∷ ys)) ≡ length (gathered f (x ∷ xs))
+      split : (times n xs ≡ 0 → pairs_before f n (xs ++ n ∷ ys) ≡ length (joined_over f xs)) → ((x == n) ≡ true × (x ≡ n)) ⊎ ((x == n) ≡ false × (x ≢ n)) → pairs_before f n (x ∷ (xs ++ n ∷ ys)) ≡ length (joined_over f (x ∷ xs))
       split more (inl e) = absurd (let one : ◌≡◌ {A = ℕ} (cond (x == n) 1 0) 1 = ap (λ b. cond b 1 0) e.0 in omega (arith, one, h))
       split more (inr e) = let zero_here : ◌≡◌ {A = ℕ} (cond (x == n) 1 0) 0 = ap (λ b. cond b 1 0) e.0 in rw e.0 (simp length-append (omega (arith, more (omega (arith, zero_here, h)))))
 
-  pub before_parted : (n : ℕ) (ns xs ys : List ℕ) → ns ≡ xs ++ n ∷ ys → times n ns ≤ 1 → pairs_before f n ns ≡ length (gathered f xs)
+  pub before_parted : (n : ℕ) (ns xs ys : List ℕ) → ns ≡ xs ++ n ∷ ys → times n ns ≤ 1 → pairs_before f n ns ≡ length (joined_over f xs)
   before_parted n ns xs ys e once =
       let all : times n (xs ++ n ∷ ys) ≤ 1 = subst (λ ks. times n ks ≤ 1) e once in
       ap (pairs_before f n) e ∙ before_front n xs ys (omega (arith, times_append n xs (n ∷ ys), first_times n ys, all))
 
   -- and all of it, up to a number in it
-  pub gathered_parted : (n : ℕ) (ns xs ys : List ℕ) → ns ≡ xs ++ n ∷ ys → gathered f ns ≡ gathered f xs ++ (f n ++ gathered f ys)
-  gathered_parted n ns xs ys e = ap (gathered f) e ∙ gathered_append f xs (n ∷ ys)
+  pub joined_over_parted : (n : ℕ) (ns xs ys : List ℕ) → ns ≡ xs ++ n ∷ ys → joined_over f ns ≡ joined_over f xs ++ (f n ++ joined_over f ys)
+  joined_over_parted n ns xs ys e = ap (joined_over f) e ∙ joined_over_append f xs (n ∷ ys)
 
 pub linked_at : (g : Links) (before behind : Option ℕ) (n : ℕ) (xs ys : List ℕ) → IsLinked g before (xs ++ n ∷ ys) behind → g n ≡ Some (last_or before xs, first_or behind ys)
 linked_at g before behind n [] ys l = l.0
@@ -88,7 +88,7 @@ module _ {X : Type 0} (f : ℕ → List X) (ns : List ℕ) where
   Own (Some n) = times n ns ≢ 0
 
   abbrev pub starts : Option ℕ → ℕ
-  starts None = length (gathered f ns)
+  starts None = length (joined_over f ns)
   starts (Some n) = pairs_before f n ns
 
   abbrev pub ends : Option ℕ → ℕ
@@ -109,7 +109,7 @@ inside ns n xs ys e z =
     let all : times n (xs ++ n ∷ ys) ≡ 0 = subst (λ ks. times n ks ≡ 0) e z in
     omega (arith, times_append n xs (n ∷ ys), first_times n ys, all)
 
-one_each : (ns : List ℕ) → length (gathered (λ (k : ℕ). k ∷ []) ns) ≡ length ns
+one_each : (ns : List ℕ) → length (joined_over (λ (k : ℕ). k ∷ []) ns) ≡ length ns
 one_each [] = refl
 one_each (n ∷ ns) = omega (arith, one_each ns)
 
@@ -119,7 +119,7 @@ module _ {X : Type 0} (f : ℕ → List X) (g : Links) (ns : List ℕ) (linked :
   neighbours_of n xs ys e =
       let here = before_parted f n ns xs ys e (once n) in
       let place = before_parted (λ k. k ∷ []) n ns xs ys e (once n) in
-      let whole : length (gathered (λ (k : ℕ). k ∷ []) ns) ≡ length (gathered (λ (k : ℕ). k ∷ []) xs) + suc (length (gathered (λ (k : ℕ). k ∷ []) ys)) = ap length (gathered_parted (λ (k : ℕ). k ∷ []) n ns xs ys e) ∙ simp length-append (omega arith) in
+      let whole : length (joined_over (λ (k : ℕ). k ∷ []) ns) ≡ length (joined_over (λ (k : ℕ). k ∷ []) xs) + suc (length (joined_over (λ (k : ℕ). k ∷ []) ys)) = ap length (joined_over_parted (λ (k : ℕ). k ∷ []) n ns xs ys e) ∙ simp length-append (omega arith) in
       record {
         next_own = own ys e;
         next_starts = start ys e here;
@@ -136,21 +136,21 @@ module _ {X : Type 0} (f : ℕ → List X) (g : Links) (ns : List ℕ) (linked :
       own [] e = tt
       own (m ∷ zs) e = inside ns m (xs ++ n ∷ []) zs (moved m zs e)
 
-      start : (zs : List ℕ) → ns ≡ xs ++ n ∷ zs → pairs_before f n ns ≡ length (gathered f xs) → starts f ns (first_or None zs) ≡ pairs_before f n ns + length (f n)
-      start [] e here = ap length (gathered_parted f n ns xs [] e) ∙ simp length-append (omega (arith, here))
+      start : (zs : List ℕ) → ns ≡ xs ++ n ∷ zs → pairs_before f n ns ≡ length (joined_over f xs) → starts f ns (first_or None zs) ≡ pairs_before f n ns + length (f n)
+      start [] e here = ap length (joined_over_parted f n ns xs [] e) ∙ simp length-append (omega (arith, here))
       start (m ∷ zs) e here =
-          let all : length (gathered f (xs ++ n ∷ [])) ≡ length (gathered f xs) + length (f n) = ap length (gathered_append f xs (n ∷ [])) ∙ simp length-append (omega arith) in
+          let all : length (joined_over f (xs ++ n ∷ [])) ≡ length (joined_over f xs) + length (f n) = ap length (joined_over_append f xs (n ∷ [])) ∙ simp length-append (omega arith) in
           before_parted f m ns (xs ++ n ∷ []) zs (moved m zs e) (once m) ∙ omega (arith, all, here)
 
-      fewer : (zs : List ℕ) → ns ≡ xs ++ n ∷ zs → pairs_before (λ (k : ℕ). k ∷ []) n ns ≡ length (gathered (λ (k : ℕ). k ∷ []) xs) → length (gathered (λ (k : ℕ). k ∷ []) ns) ≡ length (gathered (λ (k : ℕ). k ∷ []) xs) + suc (length (gathered (λ (k : ℕ). k ∷ []) ys)) → rest ns (first_or None zs) < rest ns (Some n)
+      fewer : (zs : List ℕ) → ns ≡ xs ++ n ∷ zs → pairs_before (λ (k : ℕ). k ∷ []) n ns ≡ length (joined_over (λ (k : ℕ). k ∷ []) xs) → length (joined_over (λ (k : ℕ). k ∷ []) ns) ≡ length (joined_over (λ (k : ℕ). k ∷ []) xs) + suc (length (joined_over (λ (k : ℕ). k ∷ []) ys)) → rest ns (first_or None zs) < rest ns (Some n)
       fewer [] e place whole = omega (arith, one_each ns)
       fewer (m ∷ zs) e place whole =
-          let all : length (gathered (λ (k : ℕ). k ∷ []) (xs ++ n ∷ [])) ≡ suc (length (gathered (λ (k : ℕ). k ∷ []) xs)) = ap length (gathered_append (λ (k : ℕ). k ∷ []) xs (n ∷ [])) ∙ simp length-append (omega arith) in
+          let all : length (joined_over (λ (k : ℕ). k ∷ []) (xs ++ n ∷ [])) ≡ suc (length (joined_over (λ (k : ℕ). k ∷ []) xs)) = ap length (joined_over_append (λ (k : ℕ). k ∷ []) xs (n ∷ [])) ∙ simp length-append (omega arith) in
           let next = before_parted (λ (k : ℕ). k ∷ []) m ns (xs ++ n ∷ []) zs (moved m zs e) (once m) in
           omega (arith, all, next, place, whole, one_each ns)
 
-      prev : (xs ≡ []) ⊎ ((us : List ℕ) × (m : ℕ) × (xs ≡ us ++ m ∷ [])) → pairs_before f n ns ≡ length (gathered f xs) → pairs_before (λ (k : ℕ). k ∷ []) n ns ≡ length (gathered (λ (k : ℕ). k ∷ []) xs) → Own f ns (last_or None xs) × (ends f ns (last_or None xs) ≡ pairs_before f n ns) × (reach ns (last_or None xs) < reach ns (Some n))
-      prev (inl none) here place = rw none (tt, sym (here ∙ ap (λ ks. length (gathered f ks)) none), omega arith)
+      prev : (xs ≡ []) ⊎ ((us : List ℕ) × (m : ℕ) × (xs ≡ us ++ m ∷ [])) → pairs_before f n ns ≡ length (joined_over f xs) → pairs_before (λ (k : ℕ). k ∷ []) n ns ≡ length (joined_over (λ (k : ℕ). k ∷ []) xs) → Own f ns (last_or None xs) × (ends f ns (last_or None xs) ≡ pairs_before f n ns) × (reach ns (last_or None xs) < reach ns (Some n))
+      prev (inl none) here place = rw none (tt, sym (here ∙ ap (λ ks. length (joined_over f ks)) none), omega arith)
       prev (inr some) here place =
           let us = some.0 in
           let m = some.1 in
@@ -158,8 +158,8 @@ module _ {X : Type 0} (f : ℕ → List X) (g : Links) (ns : List ℕ) (linked :
           let last : last_or None xs ≡ Some m = ap (last_or None) some.2 ∙ last_append None us m in
           let front = before_parted f m ns us (n ∷ ys) back (once m) in
           let count = before_parted (λ (k : ℕ). k ∷ []) m ns us (n ∷ ys) back (once m) in
-          let all : length (gathered f xs) ≡ length (gathered f us) + length (f m) = ap (λ ks. length (gathered f ks)) some.2 ∙ ap length (gathered_append f us (m ∷ [])) ∙ simp length-append (omega arith) in
-          let more : length (gathered (λ (k : ℕ). k ∷ []) xs) ≡ suc (length (gathered (λ (k : ℕ). k ∷ []) us)) = ap (λ ks. length (gathered (λ (k : ℕ). k ∷ []) ks)) some.2 ∙ ap length (gathered_append (λ (k : ℕ). k ∷ []) us (m ∷ [])) ∙ simp length-append (omega arith) in
+          let all : length (joined_over f xs) ≡ length (joined_over f us) + length (f m) = ap (λ ks. length (joined_over f ks)) some.2 ∙ ap length (joined_over_append f us (m ∷ [])) ∙ simp length-append (omega arith) in
+          let more : length (joined_over (λ (k : ℕ). k ∷ []) xs) ≡ suc (length (joined_over (λ (k : ℕ). k ∷ []) us)) = ap (λ ks. length (joined_over (λ (k : ℕ). k ∷ []) ks)) some.2 ∙ ap length (joined_over_append (λ (k : ℕ). k ∷ []) us (m ∷ [])) ∙ simp length-append (omega arith) in
           rw last (inside ns m us (n ∷ ys) back, omega (arith, front, all, here), omega (arith, count, more, place))
 
   -- what a number of the row names
@@ -180,16 +180,16 @@ first_own f (m ∷ ns) n e =
     let on : (m == n) ≡ true = eq-eqb m n same in
     (λ z. let one : ◌≡◌ {A = ℕ} (cond (m == n) 1 0) 1 = ap (λ b. cond b 1 0) on in omega (arith, one, z), ap (λ b. cond b 0 (length (f m) + pairs_before f n ns)) on)
 
-pub last_own : {X : Type 0} (f : ℕ → List X) (ns : List ℕ) (n : ℕ) → times n ns ≤ 1 → last_or None ns ≡ Some n → (times n ns ≢ 0) × (pairs_before f n ns + length (f n) ≡ length (gathered f ns))
+pub last_own : {X : Type 0} (f : ℕ → List X) (ns : List ℕ) (n : ℕ) → times n ns ≤ 1 → last_or None ns ≡ Some n → (times n ns ≢ 0) × (pairs_before f n ns + length (f n) ≡ length (joined_over f ns))
 last_own f ns n once e = split (by_last ns)
   where
-    split : (ns ≡ []) ⊎ ((us : List ℕ) × (m : ℕ) × (ns ≡ us ++ m ∷ [])) → (times n ns ≢ 0) × (pairs_before f n ns + length (f n) ≡ length (gathered f ns))
+    split : (ns ≡ []) ⊎ ((us : List ℕ) × (m : ℕ) × (ns ≡ us ++ m ∷ [])) → (times n ns ≢ 0) × (pairs_before f n ns + length (f n) ≡ length (joined_over f ns))
     split (inl none) = absurd (let i : None ≡ Some n = sym (ap (last_or None) none) ∙ e in cc)
     split (inr some) =
         let same : some.1 ≡ n = some_same (sym (ap (last_or None) some.2 ∙ last_append None some.0 some.1) ∙ e) in
         let all : ns ≡ some.0 ++ n ∷ [] = some.2 ∙ ap (λ k. some.0 ++ k ∷ []) same in
         let here = before_parted f n ns some.0 [] all once in
-        let whole : length (gathered f ns) ≡ length (gathered f some.0) + length (f n) = ap length (gathered_parted f n ns some.0 [] all) ∙ simp length-append (omega arith) in
+        let whole : length (joined_over f ns) ≡ length (joined_over f some.0) + length (f n) = ap length (joined_over_parted f n ns some.0 [] all) ∙ simp length-append (omega arith) in
         (inside ns n some.0 [] all, omega (arith, here, whole))
 
 pub linked_there : (g : Links) (ns : List ℕ) (n : ℕ) → IsLinked g None ns None → times n ns ≢ 0 → (l : Option ℕ × Option ℕ) × (g n ≡ Some l)

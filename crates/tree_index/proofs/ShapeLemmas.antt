@@ -7,7 +7,7 @@ use Rattle.std.specs.Cmp.{IsTotalOrder}
 use Rattle.std.proofs.lemmas.Cmp.{upto}
 use Rattle.std.proofs.lemmas.Bool.{eq-eqb}
 use Rattle.leaf_array.specs.Cells.{Cells}
-use Rattle.tree_index.specs.Shape.{Content, IsOver, IsUpTo, IsWithin, AreBetween, AllKeys, joined_along, gathered, sum_along, leaf_pairs, node_joined, node_sum, pairs_under, leaves_under, leaf_times, node_times, IsTree}
+use Rattle.tree_index.specs.Shape.{ArenaContent, IsOver, IsUpTo, IsWithin, AreBetween, AllKeys, joined_along, joined_over, sum_along, leaf_pairs, node_joined, node_sum, pairs_under, leaves_under, leaf_times, node_times, IsTree}
 
 module _ {K : Type 0} {cmp : K → K → Ordering} (o : IsTotalOrder cmp) where
   pub over_trans : (low : Option K) (m k : K) → IsOver cmp low m → cmp m k ≡ Less → IsOver cmp low k
@@ -59,9 +59,9 @@ self_once at more e =
     let one : ◌≡◌ {A = ℕ} (cond (at == at) 1 0) (suc zero) = ap (λ c. cond c (suc zero) zero) (eq-eqb at at refl) in
     omega (arith, one, e)
 
-pub gathered_append : {X : Type 0} (f : ℕ → List X) (xs ys : List ℕ) → gathered f (xs ++ ys) ≡ gathered f xs ++ gathered f ys
-gathered_append f [] ys = refl
-gathered_append f (x ∷ xs) ys = rw (gathered_append f xs ys) (simp append_assoc)
+pub joined_over_append : {X : Type 0} (f : ℕ → List X) (xs ys : List ℕ) → joined_over f (xs ++ ys) ≡ joined_over f xs ++ joined_over f ys
+joined_over_append f [] ys = refl
+joined_over_append f (x ∷ xs) ys = rw (joined_over_append f xs ys) (simp append_assoc)
 
 module _ {K V : Type 0} where
   pub all_append : (P : K → Type 0) (xs ys : List (K × V)) → AllKeys P xs → AllKeys P ys → AllKeys P (xs ++ ys)
@@ -73,27 +73,27 @@ module _ {K V : Type 0} where
   all_weaken P Q f (x ∷ xs) a = (f x.0 a.0, all_weaken P Q f xs a.1)
 
   -- the pairs of a tree are those of its leaves
-  held_along : (f : ℕ → List (K × V)) (g : ℕ → List ℕ) (h : ℕ → List (K × V)) → ((at : ℕ) → f at ≡ gathered h (g at)) → (es : List (K × ℕ)) (last : ℕ) → joined_along f es last ≡ gathered h (joined_along g es last)
+  held_along : (f : ℕ → List (K × V)) (g : ℕ → List ℕ) (h : ℕ → List (K × V)) → ((at : ℕ) → f at ≡ joined_over h (g at)) → (es : List (K × ℕ)) (last : ℕ) → joined_along f es last ≡ joined_over h (joined_along g es last)
   held_along f g h each [] last = each last
-  held_along f g h each (e ∷ es) last = rw (each e.1, held_along f g h each es last) (sym (gathered_append h (g e.1) (joined_along g es last)))
+  held_along f g h each (e ∷ es) last = rw (each e.1, held_along f g h each es last) (sym (joined_over_append h (g e.1) (joined_along g es last)))
 
-  held_node : (f : ℕ → List (K × V)) (g : ℕ → List ℕ) (h : ℕ → List (K × V)) → ((at : ℕ) → f at ≡ gathered h (g at)) → (n : Option (Cells K ℕ × ℕ)) → node_joined f n ≡ gathered h (node_joined g n)
+  held_node : (f : ℕ → List (K × V)) (g : ℕ → List ℕ) (h : ℕ → List (K × V)) → ((at : ℕ) → f at ≡ joined_over h (g at)) → (n : Option (Cells K ℕ × ℕ)) → node_joined f n ≡ joined_over h (node_joined g n)
   held_node f g h each None = refl
   held_node f g h each (Some n) = held_along f g h each n.0.pairs n.1
 
-  pub held_under : (a : Content K V) (height at : ℕ) → pairs_under a height at ≡ gathered (λ n. leaf_pairs (a.leaf n)) (leaves_under a height at)
+  pub held_under : (a : ArenaContent K V) (height at : ℕ) → pairs_under a height at ≡ joined_over (λ n. leaf_pairs (a.leaf n)) (leaves_under a height at)
   held_under a zero at = sym (append-nil (leaf_pairs (a.leaf at)))
   held_under a (suc height) at = held_node (pairs_under a height) (leaves_under a height) (λ n. leaf_pairs (a.leaf n)) (held_under a height) (a.node at)
 
   -- two contents hold the same at all numbers that are counted
-  pub record Agrees (a b : Content K V) (leaves nodes : ℕ → ℕ) : Type 0 where
+  pub record Agrees (a b : ArenaContent K V) (leaves nodes : ℕ → ℕ) : Type 0 where
     pub leaf : (n : ℕ) → leaves n ≢ 0 → b.leaf n ≡ a.leaf n
     pub node : (n : ℕ) → nodes n ≢ 0 → b.node n ≡ a.node n
 
-  pub agrees_less : (a b : Content K V) (leaves nodes fewer few : ℕ → ℕ) → ((n : ℕ) → fewer n ≢ 0 → leaves n ≢ 0) → ((n : ℕ) → few n ≢ 0 → nodes n ≢ 0) → Agrees a b leaves nodes → Agrees a b fewer few
+  pub agrees_less : (a b : ArenaContent K V) (leaves nodes fewer few : ℕ → ℕ) → ((n : ℕ) → fewer n ≢ 0 → leaves n ≢ 0) → ((n : ℕ) → few n ≢ 0 → nodes n ≢ 0) → Agrees a b leaves nodes → Agrees a b fewer few
   agrees_less a b leaves nodes fewer few f h s = record { leaf = λ n e. s.leaf n (f n e); node = λ n e. s.node n (h n e) }
 
-module _ {K V : Type 0} {cmp : K → K → Ordering} (o : IsTotalOrder cmp) (a : Content K V) where
+module _ {K V : Type 0} {cmp : K → K → Ordering} (o : IsTotalOrder cmp) (a : ArenaContent K V) where
   pub bounded_along : (f : ℕ → List (K × V)) (P : ℕ → Option K → Option K → Type 0) → ((at : ℕ) (low high : Option K) → P at low high → AllKeys (IsWithin cmp low high) (f at)) → (es : List (K × ℕ)) (last : ℕ) (low high : Option K) → AreBetween cmp P es last low high → AllKeys (IsWithin cmp low high) (joined_along f es last)
   bounded_along f P each [] last low high b = each last low high b
   bounded_along f P each (e ∷ es) last low high b =
@@ -106,7 +106,7 @@ module _ {K V : Type 0} {cmp : K → K → Ordering} (o : IsTotalOrder cmp) (a :
   bounded zero at low high t = rw t.1 t.2.within
   bounded (suc height) at low high t = rw t.1 (bounded_along (pairs_under a height) (IsTree cmp a height) (bounded height) t.0.0.pairs t.0.1 low high t.3)
 
-module _ {K V : Type 0} (cmp : K → K → Ordering) (a b : Content K V) where
+module _ {K V : Type 0} (cmp : K → K → Ordering) (a b : ArenaContent K V) where
   -- a tree whose numbers hold the same is the same tree
   pub record IsSame (height at : ℕ) (low high : Option K) : Type 0 where
     pub tree : IsTree cmp b height at low high

@@ -7,11 +7,11 @@ use Rattle.std.specs.BTreeMap.{insert_entry}
 use Rattle.std.proofs.lemmas.Bool.{eq-eqb}
 use Rattle.std.proofs.lemmas.Bool.Decides.{eqb_tells}
 use Rattle.leaf_array.specs.Cells.{Cells}
-use Rattle.tree_index.specs.Shape.{Content, IsWithin, AreBetween, child_for, way, joined_along, sum_along, node_joined, node_sum, pairs_under, leaves_under, leaf_times, node_times, IsNode, IsTree, Stands}
+use Rattle.tree_index.specs.Shape.{ArenaContent, IsWithin, AreBetween, child_for, way, joined_along, sum_along, node_joined, node_sum, pairs_under, leaves_under, leaf_times, node_times, IsNode, IsTree, Stands}
 use Rattle.tree_index.proofs.ShapeLemmas.{Agrees}
 use Rattle.tree_index.proofs.FocusLemmas.{over, IsUnder, Turn, turn, Focus, focus, Parted}
 
-module _ {K V : Type 0} (cmp : K → K → Ordering) (a : Content K V) where
+module _ {K V : Type 0} (cmp : K → K → Ordering) (a : ArenaContent K V) where
   absent_along : (f : ℕ → ℕ) (P : ℕ → Option K → Option K → Type 0) → ((at : ℕ) (low high : Option K) → P at low high → f at ≡ 0) → (es : List (K × ℕ)) (last : ℕ) (low high : Option K) → AreBetween cmp P es last low high → sum_along f es last ≡ 0
   absent_along f P each [] last low high t = each last low high t
   absent_along f P each (e ∷ es) last low high t = omega (arith, each e.1 low (Some e.0) t.1, absent_along f P each es last (Some e.0) high t.2)
@@ -42,7 +42,7 @@ by_option : {X : Type 0} (P : Type 0) (x : Option X) → (x ≡ None → P) → 
 by_option P None none some = none refl
 by_option P (Some y) none some = some (λ e. cc)
 
-module _ {K V : Type 0} (cmp : K → K → Ordering) (o : IsTotalOrder cmp) (a : Content K V) (key : K) (left steps root : ℕ) (s : Stands cmp a (over steps (suc left)) root) where
+module _ {K V : Type 0} (cmp : K → K → Ordering) (o : IsTotalOrder cmp) (a : ArenaContent K V) (key : K) (left steps root : ℕ) (s : Stands cmp a (over steps (suc left)) root) where
   -- the node over the child that is split, and what stands around both
   abbrev pub parent : ℕ
   parent = way cmp a key steps root
@@ -63,7 +63,7 @@ module _ {K V : Type 0} (cmp : K → K → Ordering) (o : IsTotalOrder cmp) (a :
   child = child_for cmp key kids last
 
   -- what a split leaves: two children for one, a node with one more separator, and all else as it was
-  pub record IsSplit (b : Content K V) (sep : K) (fresh : ℕ) (node : Cells K ℕ) : Type 0 where
+  pub record IsSplit (b : ArenaContent K V) (sep : K) (fresh : ℕ) (node : Cells K ℕ) : Type 0 where
     pub within : IsWithin cmp around_child.from around_child.upto sep
     pub under : IsUnder cmp around_child.upto sep
     pub lower : IsTree cmp b left fresh around_child.from (Some sep)
@@ -80,7 +80,7 @@ module _ {K V : Type 0} (cmp : K → K → Ordering) (o : IsTotalOrder cmp) (a :
     pub is_node : IsNode node
 
   -- the tree stands, its pairs are as they were, and the way goes on to one of the two
-  pub record IsDivided (b : Content K V) (sep : K) (fresh : ℕ) (node : Cells K ℕ) : Type 0 where
+  pub record IsDivided (b : ArenaContent K V) (sep : K) (fresh : ℕ) (node : Cells K ℕ) : Type 0 where
     pub stands : Stands cmp b (over steps (suc left)) root
     pub pairs : pairs_under b (over steps (suc left)) root ≡ pairs_under a (over steps (suc left)) root
     pub order : leaves_under b (over steps (suc left)) root ≡ (around_parent.lefts ++ around_child.lefts) ++ (leaves_under b left fresh ++ leaves_under b left child) ++ (around_child.rights ++ around_parent.rights)
@@ -120,7 +120,7 @@ module _ {K V : Type 0} (cmp : K → K → Ordering) (o : IsTotalOrder cmp) (a :
   pub at_parent : (n : ℕ) → n ≡ parent → ◌≢◌ {A = ℕ} (cond (parent == n) 1 0) 0
   at_parent n e z = let one : (parent == n) ≡ true = eq-eqb parent n (sym e) in let q : ◌≡◌ {A = ℕ} 1 0 = sym (ap (λ b. cond b 1 0) one) ∙ z in omega (arith, q)
 
-  module _ (b : Content K V) (sep : K) (fresh : ℕ) (node : Cells K ℕ) (t : IsSplit b sep fresh node) where
+  module _ (b : ArenaContent K V) (sep : K) (fresh : ℕ) (node : Cells K ℕ) (t : IsSplit b sep fresh node) where
     agrees_child : Agrees a b around_child.leaves around_child.nodes
     agrees_child = record {
       leaf = λ n d. t.leaf_same n (omega (arith, d, leaf_total n, s.leaf_once n)) (λ e. d (omega (arith, leaf_total n, none_leaf n e)));

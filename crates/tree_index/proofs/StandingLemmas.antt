@@ -11,7 +11,7 @@ use Rattle.slab.specs.Slab.{get}
 use Rattle.leaf_array.specs.Cells.{Cells}
 use Rattle.tree_index.specs.declared.node.InnerNode.{InnerNode}
 use Rattle.tree_index.specs.declared.arenas.Arenas.{Arenas}
-use Rattle.tree_index.specs.Shape.{Content, IsWithin, AreBetween, child_for, AllKeys, joined_along, node_joined, pairs_under, IsTree}
+use Rattle.tree_index.specs.Shape.{ArenaContent, IsWithin, AreBetween, child_for, AllKeys, joined_along, node_joined, pairs_under, IsTree}
 use Rattle.tree_index.specs.Content.{content_of}
 use Rattle.tree_index.specs.Standing.{IsAround}
 use Rattle.tree_index.proofs.ShapeLemmas.{all_append, all_weaken, bounded, bounded_along, upto_less, passed, not_passed}
@@ -31,7 +31,7 @@ module _ {K V : Type 0} (cmp : K → K → Ordering) (key : K) where
         greater = all_append (λ k. cmp key k ≡ Less) p.rear q.rear p.greater q.greater;
       }
 
-module _ {K V : Type 0} (cmp : K → K → Ordering) (o : IsTotalOrder cmp) (key : K) (a : Content K V) where
+module _ {K V : Type 0} (cmp : K → K → Ordering) (o : IsTotalOrder cmp) (key : K) (a : ArenaContent K V) where
   lookup_along : (f : ℕ → List (K × V)) (P : ℕ → Option K → Option K → Type 0) → ((at : ℕ) (low high : Option K) → P at low high → AllKeys (IsWithin cmp low high) (f at))
       → (es : List (K × ℕ)) (last : ℕ) (low high : Option K) → AreBetween cmp P es last low high → lookup_entry (is_at (cmp key)) (joined_along f es last) ≡ lookup_entry (is_at (cmp key)) (f (child_for cmp key es last))
   lookup_along f P each [] last low high t = refl

@@ -12,14 +12,14 @@ use Rattle.leaf_array.specs.Cells.{Cells}
 use Rattle.leaf_array.specs.Pairs.{IsAscending}
 use Rattle.tree_index.specs.declared.leaf.Leaf.{Leaf}
 use Rattle.tree_index.specs.declared.arenas.Arenas.{Arenas}
-use Rattle.tree_index.specs.Shape.{Content, AreBetween, AllKeys, IsWithin, joined_along, node_joined, sum_along, node_sum, gathered, leaf_pairs, leaves_under, leaf_times, node_times, IsLeaf, IsTree, Stands}
-use Rattle.tree_index.specs.Chain.{links, times, IsLinked}
+use Rattle.tree_index.specs.Shape.{ArenaContent, AreBetween, AllKeys, IsWithin, joined_along, node_joined, sum_along, node_sum, joined_over, leaf_pairs, leaves_under, leaf_times, node_times, IsLeaf, IsTree, Stands}
+use Rattle.tree_index.specs.Chain.{leaf_links, times, IsLinked}
 use Rattle.tree_index.specs.Content.{content_of, pairs_of, leaves_of, IsSound}
-use Rattle.tree_index.specs.Walk.{held, IsOwn}
+use Rattle.tree_index.specs.Walk.{pairs_in_leaf, IsOwnLeaf}
 use Rattle.tree_index.proofs.WayLemmas.{some_same}
 use Rattle.tree_index.proofs.ChainLemmas.{linked_kept, times_append, first_times}
 use Rattle.tree_index.proofs.LinkLemmas.{links_kept}
-use Rattle.tree_index.proofs.RowLemmas.{gathered_parted}
+use Rattle.tree_index.proofs.RowLemmas.{joined_over_parted}
 use Rattle.tree_index.proofs.WalkLemmas.{once, all_held, held_is, stands_of}
 use Rattle.tree_index.proofs.ArenaLemmas.{all_filtered, middle_length}
 
@@ -42,7 +42,7 @@ module _ {K : Type 0} (f g : ℕ → ℕ) (same : (n : ℕ) → f n ≡ g n) whe
   sum_same (Some n) = summed_same n.0.pairs n.1
 
 -- the nodes are the same
-module _ {K V : Type 0} (a b : Content K V) (nodes : (n : ℕ) → b.node n ≡ a.node n) where
+module _ {K V : Type 0} (a b : ArenaContent K V) (nodes : (n : ℕ) → b.node n ≡ a.node n) where
   pub order_same : (height at : ℕ) → leaves_under b height at ≡ leaves_under a height at
   order_same zero at = refl
   order_same (suc height) at = ap (node_joined (leaves_under b height)) (nodes at) ∙ node_same (leaves_under b height) (leaves_under a height) (order_same height) (a.node at)
@@ -76,11 +76,11 @@ module _ {K V : Type 0} (a b : Content K V) (nodes : (n : ℕ) → b.node n ≡ 
 
 module _ {X : Type 0} (f g : ℕ → List X) where
   -- numbers that don't stand in a list hold what they may
-  pub gathered_kept : (n : ℕ) (ns : List ℕ) → ((k : ℕ) → k ≢ n → g k ≡ f k) → times n ns ≡ 0 → gathered g ns ≡ gathered f ns
-  gathered_kept n [] same none = refl
-  gathered_kept n (m ∷ ns) same none =
+  pub joined_over_kept : (n : ℕ) (ns : List ℕ) → ((k : ℕ) → k ≢ n → g k ≡ f k) → times n ns ≡ 0 → joined_over g ns ≡ joined_over f ns
+  joined_over_kept n [] same none = refl
+  joined_over_kept n (m ∷ ns) same none =
       let apart : m ≢ n = λ e. (let one : ◌≡◌ {A = ℕ} (cond (m == n) 1 0) 1 = ap (λ b. cond b 1 0) (eq-eqb m n e) in omega (arith, one, none)) in
-      rw (same m apart, gathered_kept n ns same (omega (arith, none))) refl
+      rw (same m apart, joined_over_kept n ns same (omega (arith, none))) refl
 
 filter_twice : {X : Type 0} (test : X → Bool) (xs : List X) → filter test (filter test xs) ≡ filter test xs
 filter_twice test [] = refl
@@ -91,7 +91,7 @@ filter_twice test (x ∷ xs) =
     ]) refl
 
 -- a leaf of a sound tree is thinned by a test
-module _ {K V : Type 0} (cmp : K → K → Ordering) (test : K → Bool) (a : Arenas K V) (s : IsSound cmp a) (n : ℕ) (own : IsOwn a (Some n)) (l m : Leaf K V) (here : get a.leaves n ≡ Some l)
+module _ {K V : Type 0} (cmp : K → K → Ordering) (test : K → Bool) (a : Arenas K V) (s : IsSound cmp a) (n : ℕ) (own : IsOwnLeaf a (Some n)) (l m : Leaf K V) (here : get a.leaves n ≡ Some l)
     (pairs : m.array.pairs ≡ filter (λ p. test p.0) l.array.pairs) (frozen : m.array.frozen ≡ l.array.frozen) (rising : IsAscending cmp m.array.pairs) (prev : m.prev ≡ l.prev) (next : m.next ≡ l.next) where
   abbrev pub thinned : ℕ → Arenas K V
   thinned len = record { leaves = with_value a.leaves n m; nodes = a.nodes; root = a.root; height = a.height; len = len }
@@ -102,10 +102,10 @@ module _ {K V : Type 0} (cmp : K → K → Ordering) (test : K → Bool) (a : Ar
   abbrev array : Option (Leaf K V) → Option (Cells K V)
   array = option_map (λ (x : Leaf K V). x.array)
 
-  pub thin_others : (len k : ℕ) → k ≢ n → held (thinned len) k ≡ held a k
+  pub thin_others : (len k : ℕ) → k ≢ n → pairs_in_leaf (thinned len) k ≡ pairs_in_leaf a k
   thin_others len k d = ap (λ x. leaf_pairs (array x)) (u.others k d)
 
-  pub thin_here : (len : ℕ) → held (thinned len) n ≡ filter (λ p. test p.0) (held a n)
+  pub thin_here : (len : ℕ) → pairs_in_leaf (thinned len) n ≡ filter (λ p. test p.0) (pairs_in_leaf a n)
   thin_here len = ap (λ x. leaf_pairs (array x)) u.changed ∙ pairs ∙ sym (ap (filter (λ (p : K × V). test p.0)) (held_is a n l here))
 
   pub thin_order : (len : ℕ) → leaves_of (thinned len) ≡ leaves_of a
@@ -131,44 +131,44 @@ module _ {K V : Type 0} (cmp : K → K → Ordering) (test : K → Bool) (a : Ar
         let most : times n (fore ++ n ∷ rear) ≤ 1 = subst (λ ks. times n ks ≤ 1) all (once cmp a s own.0 n) in
         omega (arith, times_append n fore (n ∷ rear), first_times n rear, most)
 
-    pub thin_fore : (len : ℕ) → gathered (held (thinned len)) fore ≡ gathered (held a) fore
-    thin_fore len = gathered_kept (held a) (held (thinned len)) n fore (thin_others len) (omega (arith, counted))
+    pub thin_fore : (len : ℕ) → joined_over (pairs_in_leaf (thinned len)) fore ≡ joined_over (pairs_in_leaf a) fore
+    thin_fore len = joined_over_kept (pairs_in_leaf a) (pairs_in_leaf (thinned len)) n fore (thin_others len) (omega (arith, counted))
 
-    thin_rear : (len : ℕ) → gathered (held (thinned len)) rear ≡ gathered (held a) rear
-    thin_rear len = gathered_kept (held a) (held (thinned len)) n rear (thin_others len) (omega (arith, counted))
+    thin_rear : (len : ℕ) → joined_over (pairs_in_leaf (thinned len)) rear ≡ joined_over (pairs_in_leaf a) rear
+    thin_rear len = joined_over_kept (pairs_in_leaf a) (pairs_in_leaf (thinned len)) n rear (thin_others len) (omega (arith, counted))
 
-    pub thin_pairs : (len : ℕ) → pairs_of (thinned len) ≡ gathered (held a) fore ++ (filter (λ p. test p.0) (held a n) ++ gathered (held a) rear)
+    pub thin_pairs : (len : ℕ) → pairs_of (thinned len) ≡ joined_over (pairs_in_leaf a) fore ++ (filter (λ p. test p.0) (pairs_in_leaf a n) ++ joined_over (pairs_in_leaf a) rear)
     thin_pairs len =
-        all_held (thinned len) ∙ gathered_parted (held (thinned len)) n (leaves_of (thinned len)) fore rear (thin_order len ∙ all)
+        all_held (thinned len) ∙ joined_over_parted (pairs_in_leaf (thinned len)) n (leaves_of (thinned len)) fore rear (thin_order len ∙ all)
         ∙ rw (thin_fore len, thin_here len, thin_rear len) refl
 
-    length_of : (len : ℕ) → length (pairs_of (thinned len)) ≡ length (gathered (held a) fore ++ (filter (λ p. test p.0) (held a n) ++ gathered (held a) rear))
+    length_of : (len : ℕ) → length (pairs_of (thinned len)) ≡ length (joined_over (pairs_in_leaf a) fore ++ (filter (λ p. test p.0) (pairs_in_leaf a n) ++ joined_over (pairs_in_leaf a) rear))
     length_of len = ap length (thin_pairs len)
 
-    pub whole_pairs : pairs_of a ≡ gathered (held a) fore ++ (held a n ++ gathered (held a) rear)
-    whole_pairs = all_held a ∙ gathered_parted (held a) n (leaves_of a) fore rear all
+    pub whole_pairs : pairs_of a ≡ joined_over (pairs_in_leaf a) fore ++ (pairs_in_leaf a n ++ joined_over (pairs_in_leaf a) rear)
+    whole_pairs = all_held a ∙ joined_over_parted (pairs_in_leaf a) n (leaves_of a) fore rear all
 
     pub thin_same : (len : ℕ) → filter (λ p. test p.0) (pairs_of (thinned len)) ≡ filter (λ p. test p.0) (pairs_of a)
     thin_same len =
         let t : K × V → Bool = λ p. test p.0 in
         ap (filter t) (thin_pairs len)
-        ∙ filter-append t (gathered (held a) fore) (filter t (held a n) ++ gathered (held a) rear)
-        ∙ ap (λ ps. filter t (gathered (held a) fore) ++ ps) (filter-append t (filter t (held a n)) (gathered (held a) rear) ∙ ap (λ ps. ps ++ filter t (gathered (held a) rear)) (filter_twice t (held a n)) ∙ sym (filter-append t (held a n) (gathered (held a) rear)))
-        ∙ sym (filter-append t (gathered (held a) fore) (held a n ++ gathered (held a) rear))
+        ∙ filter-append t (joined_over (pairs_in_leaf a) fore) (filter t (pairs_in_leaf a n) ++ joined_over (pairs_in_leaf a) rear)
+        ∙ ap (λ ps. filter t (joined_over (pairs_in_leaf a) fore) ++ ps) (filter-append t (filter t (pairs_in_leaf a n)) (joined_over (pairs_in_leaf a) rear) ∙ ap (λ ps. ps ++ filter t (joined_over (pairs_in_leaf a) rear)) (filter_twice t (pairs_in_leaf a n)) ∙ sym (filter-append t (pairs_in_leaf a n) (joined_over (pairs_in_leaf a) rear)))
+        ∙ sym (filter-append t (joined_over (pairs_in_leaf a) fore) (pairs_in_leaf a n ++ joined_over (pairs_in_leaf a) rear))
         ∙ sym (ap (filter t) whole_pairs)
 
     pub thin_counted : length l.array.pairs ≤ a.len
-    thin_counted = subst (λ (ps : List (K × V)). length ps ≤ a.len) (held_is a n l here) (middle_length (gathered (held a) fore) (held a n) (held a n) (gathered (held a) rear) a.len (s.count ∙ ap length whole_pairs)).0
+    thin_counted = subst (λ (ps : List (K × V)). length ps ≤ a.len) (held_is a n l here) (middle_length (joined_over (pairs_in_leaf a) fore) (pairs_in_leaf a n) (pairs_in_leaf a n) (joined_over (pairs_in_leaf a) rear) a.len (s.count ∙ ap length whole_pairs)).0
 
     pub thin_sound : (before after : ℕ) → before ≡ length l.array.pairs → after ≡ length m.array.pairs → IsSound cmp (thinned (a.len - before + after))
     thin_sound before after b f =
         let len : ℕ = a.len - before + after in
-        let held_new : filter (λ p. test p.0) (held a n) ≡ m.array.pairs = ap (filter (λ (p : K × V). test p.0)) (held_is a n l here) ∙ sym pairs in
-        let counts = (middle_length (gathered (held a) fore) (held a n) (filter (λ p. test p.0) (held a n)) (gathered (held a) rear) a.len (s.count ∙ ap length whole_pairs)).1 in
-        let old_len : length (held a n) ≡ before = ap length (held_is a n l here) ∙ sym b in
-        let new_len : length (filter (λ p. test p.0) (held a n)) ≡ after = ap length held_new ∙ sym f in
+        let held_new : filter (λ p. test p.0) (pairs_in_leaf a n) ≡ m.array.pairs = ap (filter (λ (p : K × V). test p.0)) (held_is a n l here) ∙ sym pairs in
+        let counts = (middle_length (joined_over (pairs_in_leaf a) fore) (pairs_in_leaf a n) (filter (λ p. test p.0) (pairs_in_leaf a n)) (joined_over (pairs_in_leaf a) rear) a.len (s.count ∙ ap length whole_pairs)).1 in
+        let old_len : length (pairs_in_leaf a n) ≡ before = ap length (held_is a n l here) ∙ sym b in
+        let new_len : length (filter (λ p. test p.0) (pairs_in_leaf a n)) ≡ after = ap length held_new ∙ sym f in
         record {
           stands = inr (own.0, thin_stands (content_of a) (content_of (thinned len)) (λ k. refl) cmp (thin_leaf len) a.height a.root (stands_of cmp a s own.0));
-          linked = λ h. subst (λ ns. IsLinked (links (with_value a.leaves n m)) None ns None) (sym (thin_order len)) (linked_kept (links a.leaves) (links (with_value a.leaves n m)) None (leaves_of a) None (λ k d. links_kept a.leaves n l m here prev next k) (s.linked h));
+          linked = λ h. subst (λ ns. IsLinked (leaf_links (with_value a.leaves n m)) None ns None) (sym (thin_order len)) (linked_kept (leaf_links a.leaves) (leaf_links (with_value a.leaves n m)) None (leaves_of a) None (λ k d. links_kept a.leaves n l m here prev next k) (s.linked h));
           count = omega (arith, counts, old_len, new_len, length_of len);
         }

@@ -9,14 +9,14 @@ use Rattle.slab.specs.Slab.{get}
 use Rattle.leaf_array.specs.Cells.{Cells}
 use Rattle.tree_index.specs.declared.leaf.Leaf.{Leaf}
 use Rattle.tree_index.specs.declared.arenas.Arenas.{Arenas}
-use Rattle.tree_index.specs.Shape.{Content, AreBetween, joined_along, node_joined, first_child, gathered, way, leaf_pairs, leaves_under, IsTree, Stands}
-use Rattle.tree_index.specs.Chain.{links, times, first_or}
-use Rattle.tree_index.specs.Content.{content_of, pairs_of, leaves_of, IsBare, IsSound}
+use Rattle.tree_index.specs.Shape.{ArenaContent, AreBetween, joined_along, node_joined, first_child, joined_over, way, leaf_pairs, leaves_under, IsTree, Stands}
+use Rattle.tree_index.specs.Chain.{leaf_links, times, first_or}
+use Rattle.tree_index.specs.Content.{content_of, pairs_of, leaves_of, HasNoTree, IsSound}
 use Rattle.tree_index.specs.Cursor.{before_start}
-use Rattle.tree_index.specs.Walk.{pairs_before, rest, held, starts_at, ends_at, IsOwn}
+use Rattle.tree_index.specs.Walk.{pairs_before, rest, pairs_in_leaf, starts_at, ends_at, IsOwnLeaf}
 use Rattle.tree_index.proofs.ShapeLemmas.{held_under}
 use Rattle.tree_index.proofs.ChainLemmas.{times_counted, times_append, first_times}
-use Rattle.tree_index.proofs.RowLemmas.{Own, starts, ends, reach, neighbours, parting, gathered_parted, before_parted, linked_there, last_or, last_joined, first_own, last_own}
+use Rattle.tree_index.proofs.RowLemmas.{Own, starts, ends, reach, neighbours, parting, joined_over_parted, before_parted, linked_there, last_or, last_joined, first_own, last_own}
 use Rattle.tree_index.proofs.WayLemmas.{some_same, around}
 use Rattle.tree_index.proofs.NodeLemmas.{leaf_content}
 use Rattle.tree_index.proofs.InsertionPointLemmas.{bound_at, bound_middle}
@@ -25,80 +25,80 @@ module _ {K V : Type 0} (cmp : K → K → Ordering) (a : Arenas K V) (s : IsSou
   pub stands_of : a.height ≢ 0 → Stands cmp (content_of a) a.height a.root
   stands_of h = split s.stands
     where
-      split : IsBare a ⊎ (a.height ≢ 0) × Stands cmp (content_of a) a.height a.root → Stands cmp (content_of a) a.height a.root
+      split : HasNoTree a ⊎ (a.height ≢ 0) × Stands cmp (content_of a) a.height a.root → Stands cmp (content_of a) a.height a.root
       split (inl bare) = absurd (h bare.flat)
       split (inr stands) = stands.1
 
   pub once : a.height ≢ 0 → (n : ℕ) → times n (leaves_of a) ≤ 1
   once h n = omega (arith, times_counted (content_of a) n a.height a.root, (stands_of h).leaf_once n)
 
-pub all_held : {K V : Type 0} (a : Arenas K V) → pairs_of a ≡ gathered (held a) (leaves_of a)
+pub all_held : {K V : Type 0} (a : Arenas K V) → pairs_of a ≡ joined_over (pairs_in_leaf a) (leaves_of a)
 all_held a = held_under (content_of a) a.height a.root
 
 -- what a leaf of the tree holds
-pub held_is : {K V : Type 0} (a : Arenas K V) (n : ℕ) (l : Leaf K V) → get a.leaves n ≡ Some l → held a n ≡ l.array.pairs
+pub held_is : {K V : Type 0} (a : Arenas K V) (n : ℕ) (l : Leaf K V) → get a.leaves n ≡ Some l → pairs_in_leaf a n ≡ l.array.pairs
 held_is a n l here = ap (λ (x : Option (Leaf _ _)). leaf_pairs (option_map (λ l. l.array) x)) here
 
 -- what lies around a leaf of the tree
 pub record LeafAround {K V : Type 0} (a : Arenas K V) (n : ℕ) (l : Leaf K V) : Type 0 where
-  pub next_own : IsOwn a l.next
+  pub next_own : IsOwnLeaf a l.next
   pub next_starts : starts_at a l.next ≡ starts_at a (Some n) + length l.array.pairs
   pub next_rest : rest (leaves_of a) l.next < rest (leaves_of a) (Some n)
-  pub prev_own : IsOwn a l.prev
+  pub prev_own : IsOwnLeaf a l.prev
   pub prev_ends : ends_at a l.prev ≡ starts_at a (Some n)
   pub prev_reach : reach (leaves_of a) l.prev < reach (leaves_of a) (Some n)
 
 module _ {K V : Type 0} (cmp : K → K → Ordering) (a : Arenas K V) (s : IsSound cmp a) where
   -- a number of the tree is that of a leaf
-  pub own_there : (n : ℕ) → IsOwn a (Some n) → get a.leaves n ≢ None
+  pub own_there : (n : ℕ) → IsOwnLeaf a (Some n) → get a.leaves n ≢ None
   own_there n own e =
-      let l = linked_there (links a.leaves) (leaves_of a) n (s.linked own.0) own.1 in
+      let l = linked_there (leaf_links a.leaves) (leaves_of a) n (s.linked own.0) own.1 in
       let x : None ≡ Some l.0 = ap (option_map (λ (l : Leaf K V). (l.prev, l.next))) (sym e) ∙ l.1 in
       cc
 
-  pub leaf_around : (n : ℕ) (l : Leaf K V) → IsOwn a (Some n) → get a.leaves n ≡ Some l → LeafAround a n l
+  pub leaf_around : (n : ℕ) (l : Leaf K V) → IsOwnLeaf a (Some n) → get a.leaves n ≡ Some l → LeafAround a n l
   leaf_around n l own here =
-      let r = neighbours (held a) (links a.leaves) (leaves_of a) (s.linked own.0) (once cmp a s own.0) n l.prev l.next own.1 (ap (option_map (λ (l : Leaf K V). (l.prev, l.next))) here) in
+      let r = neighbours (pairs_in_leaf a) (leaf_links a.leaves) (leaves_of a) (s.linked own.0) (once cmp a s own.0) n l.prev l.next own.1 (ap (option_map (λ (l : Leaf K V). (l.prev, l.next))) here) in
       let same = held_is a n l here in
       record {
         next_own = owned l.next r.next_own;
-        next_starts = started l.next ∙ r.next_starts ∙ ap (λ (ps : List (K × V)). pairs_before (held a) n (leaves_of a) + length ps) same;
+        next_starts = started l.next ∙ r.next_starts ∙ ap (λ (ps : List (K × V)). pairs_before (pairs_in_leaf a) n (leaves_of a) + length ps) same;
         next_rest = r.next_rest;
         prev_own = owned l.prev r.prev_own;
         prev_ends = ended l.prev ∙ r.prev_ends;
         prev_reach = r.prev_reach;
       }
     where
-      owned : (x : Option ℕ) → Own (held a) (leaves_of a) x → IsOwn a x
+      owned : (x : Option ℕ) → Own (pairs_in_leaf a) (leaves_of a) x → IsOwnLeaf a x
       owned None w = tt
       owned (Some m) w = (own.0, w)
 
-      started : (x : Option ℕ) → starts_at a x ≡ starts (held a) (leaves_of a) x
+      started : (x : Option ℕ) → starts_at a x ≡ starts (pairs_in_leaf a) (leaves_of a) x
       started None = ap length (all_held a)
       started (Some m) = refl
 
-      ended : (x : Option ℕ) → ends_at a x ≡ ends (held a) (leaves_of a) x
+      ended : (x : Option ℕ) → ends_at a x ≡ ends (pairs_in_leaf a) (leaves_of a) x
       ended None = refl
       ended (Some m) = refl
 
 module _ {K V : Type 0} (cmp : K → K → Ordering) (o : IsTotalOrder cmp) (key : K) (a : Arenas K V) (s : IsSound cmp a) where
   -- the leaf on the way to a key, and the place in it before a bound at the key
-  pub way_own : (h : a.height ≢ 0) (n : ℕ) (l : Leaf K V) → n ≡ way cmp (content_of a) key a.height a.root → get a.leaves n ≡ Some l → IsOwn a (Some n)
+  pub way_own : (h : a.height ≢ 0) (n : ℕ) (l : Leaf K V) → n ≡ way cmp (content_of a) key a.height a.root → get a.leaves n ≡ Some l → IsOwnLeaf a (Some n)
   way_own h n l on here =
       let r = around cmp o key (content_of a) a.height a.root l.array (stands_of cmp a s h).tree (ap (content_of a).leaf (sym on) ∙ leaf_content cmp o key a n (Some l) here) in
       let order : leaves_of a ≡ r.lefts ++ n ∷ r.rights = r.order ∙ ap (λ k. r.lefts ++ k ∷ r.rights) (sym on) in
       (h, λ z. let all : times n (r.lefts ++ n ∷ r.rights) ≡ 0 = subst (λ ks. times n ks ≡ 0) order z in omega (arith, times_append n r.lefts (n ∷ r.rights), first_times n r.rights, all))
 
-  pub way_place : (h : a.height ≢ 0) (n : ℕ) (l : Leaf K V) → n ≡ way cmp (content_of a) key a.height a.root → get a.leaves n ≡ Some l → (beyond : Bool) → pairs_before (held a) n (leaves_of a) + before_start cmp (bound_at key beyond) l.array.pairs ≡ before_start cmp (bound_at key beyond) (pairs_of a)
+  pub way_place : (h : a.height ≢ 0) (n : ℕ) (l : Leaf K V) → n ≡ way cmp (content_of a) key a.height a.root → get a.leaves n ≡ Some l → (beyond : Bool) → pairs_before (pairs_in_leaf a) n (leaves_of a) + before_start cmp (bound_at key beyond) l.array.pairs ≡ before_start cmp (bound_at key beyond) (pairs_of a)
   way_place h n l on here beyond =
       let r = around cmp o key (content_of a) a.height a.root l.array (stands_of cmp a s h).tree (ap (content_of a).leaf (sym on) ∙ leaf_content cmp o key a n (Some l) here) in
       let order : leaves_of a ≡ r.lefts ++ n ∷ r.rights = r.order ∙ ap (λ k. r.lefts ++ k ∷ r.rights) (sym on) in
-      let before : pairs_before (held a) n (leaves_of a) ≡ length r.front = before_parted (held a) n (leaves_of a) r.lefts r.rights order (once cmp a s h n) ∙ ap length (sym r.fore) in
+      let before : pairs_before (pairs_in_leaf a) n (leaves_of a) ≡ length r.front = before_parted (pairs_in_leaf a) n (leaves_of a) r.lefts r.rights order (once cmp a s h n) ∙ ap length (sym r.fore) in
       let all = ap (before_start cmp (bound_at key beyond)) r.pairs ∙ bound_middle cmp o key beyond r.front l.array.pairs r.back r.before r.behind in
       omega (arith, before, all)
 
 -- the first and the last leaf of a tree are those of its first and its last child
-module _ {K V : Type 0} (cmp : K → K → Ordering) (a : Content K V) where
+module _ {K V : Type 0} (cmp : K → K → Ordering) (a : ArenaContent K V) where
   some_along : (f : ℕ → List ℕ) (P : ℕ → Option K → Option K → Type 0) → ((at : ℕ) (low high : Option K) → P at low high → (m : ℕ) × (ms : List ℕ) × (f at ≡ m ∷ ms))
       → (es : List (K × ℕ)) (last : ℕ) (low high : Option K) → AreBetween cmp P es last low high → (m : ℕ) × (ms : List ℕ) × (joined_along f es last ≡ m ∷ ms)
   some_along f P each [] last low high t = each last low high t
@@ -145,20 +145,20 @@ module _ {K V : Type 0} (cmp : K → K → Ordering) (a : Content K V) where
         record { low = r.0; high = r.1; tree = r.2; same = r.3 ∙ sym (ap (λ m. last_or None (node_joined (leaves_under a height) m)) here) }
 
 -- a leaf of a sound tree has no more pairs than are counted
-pub leaf_counted : {K V : Type 0} (cmp : K → K → Ordering) (a : Arenas K V) (s : IsSound cmp a) (n : ℕ) (own : IsOwn a (Some n)) (l : Leaf K V) → get a.leaves n ≡ Some l → length l.array.pairs ≤ a.len
+pub leaf_counted : {K V : Type 0} (cmp : K → K → Ordering) (a : Arenas K V) (s : IsSound cmp a) (n : ℕ) (own : IsOwnLeaf a (Some n)) (l : Leaf K V) → get a.leaves n ≡ Some l → length l.array.pairs ≤ a.len
 leaf_counted cmp a s n own l here =
     let p = parting n (leaves_of a) own.1 in
-    let whole : length (pairs_of a) ≡ length (gathered (held a) p.fore) + (length (held a n) + length (gathered (held a) p.rear)) = ap length (all_held a ∙ gathered_parted (held a) n (leaves_of a) p.fore p.rear p.all) ∙ simp length-append in
-    let same : length (held a n) ≡ length l.array.pairs = ap length (held_is a n l here) in
+    let whole : length (pairs_of a) ≡ length (joined_over (pairs_in_leaf a) p.fore) + (length (pairs_in_leaf a n) + length (joined_over (pairs_in_leaf a) p.rear)) = ap length (all_held a ∙ joined_over_parted (pairs_in_leaf a) n (leaves_of a) p.fore p.rear p.all) ∙ simp length-append in
+    let same : length (pairs_in_leaf a n) ≡ length l.array.pairs = ap length (held_is a n l here) in
     omega (arith, s.count, whole, same)
 
 -- where the first and the last leaf of a sound tree stand
 module _ {K V : Type 0} (cmp : K → K → Ordering) (a : Arenas K V) (s : IsSound cmp a) (h : a.height ≢ 0) (n : ℕ) where
-  pub first_is_own : first_or None (leaves_of a) ≡ Some n → IsOwn a (Some n) × (starts_at a (Some n) ≡ 0)
-  first_is_own e = let r = first_own (held a) (leaves_of a) n e in ((h, r.0), r.1)
+  pub first_is_own : first_or None (leaves_of a) ≡ Some n → IsOwnLeaf a (Some n) × (starts_at a (Some n) ≡ 0)
+  first_is_own e = let r = first_own (pairs_in_leaf a) (leaves_of a) n e in ((h, r.0), r.1)
 
-  pub last_is_own : last_or None (leaves_of a) ≡ Some n → IsOwn a (Some n) × (ends_at a (Some n) ≡ length (pairs_of a))
-  last_is_own e = let r = last_own (held a) (leaves_of a) n (once cmp a s h n) e in ((h, r.0), r.1 ∙ sym (ap length (all_held a)))
+  pub last_is_own : last_or None (leaves_of a) ≡ Some n → IsOwnLeaf a (Some n) × (ends_at a (Some n) ≡ length (pairs_of a))
+  last_is_own e = let r = last_own (pairs_in_leaf a) (leaves_of a) n (once cmp a s h n) e in ((h, r.0), r.1 ∙ sym (ap length (all_held a)))
 
 -- where an answer is nothing, and where it is something
 pub if_none : {X : Type 0} {P Q : Type 0} (r : Option X) → (P → Q) → IfNone r P → IfNone r Q

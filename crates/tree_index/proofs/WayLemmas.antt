@@ -12,7 +12,7 @@ use Rattle.std.proofs.lemmas.List.Elements.{filter-append}
 use Rattle.leaf_array.specs.Cells.{Cells}
 use Rattle.leaf_array.specs.Edits.{below, removed, upserted}
 use Rattle.leaf_array.specs.Pairs.{IsAscending, has_key}
-use Rattle.tree_index.specs.Shape.{Content, gathered, IsWithin, AreBetween, AllKeys, child_for, child_in, way, leaf_pairs, pairs_under, leaves_under, IsTree, Stands}
+use Rattle.tree_index.specs.Shape.{ArenaContent, joined_over, IsWithin, AreBetween, AllKeys, child_for, child_in, way, leaf_pairs, pairs_under, leaves_under, IsTree, Stands}
 use Rattle.tree_index.proofs.ShapeLemmas.{all_weaken, turned, self_once}
 use Rattle.tree_index.proofs.LeafLemmas.{filter_all, filter_none}
 use Rattle.tree_index.proofs.FocusLemmas.{over, over_is, Focus, focus}
@@ -94,7 +94,7 @@ some_same h = cc
 over_zero : (steps : ℕ) → over steps 0 ≡ steps
 over_zero steps = omega (arith, over_is steps 0)
 
-module _ {K V : Type 0} (cmp : K → K → Ordering) (o : IsTotalOrder cmp) (key : K) (a : Content K V) where
+module _ {K V : Type 0} (cmp : K → K → Ordering) (o : IsTotalOrder cmp) (key : K) (a : ArenaContent K V) where
   -- the pairs around those of the leaf on the way
   pub record Around (height root at : ℕ) (c : Cells K V) : Type 0 where
     pub front : List (K × V)
@@ -104,7 +104,7 @@ module _ {K V : Type 0} (cmp : K → K → Ordering) (o : IsTotalOrder cmp) (key
     pub pairs : pairs_under a height root ≡ front ++ (c.pairs ++ back)
     pub lefts : List ℕ
     pub rights : List ℕ
-    pub fore : front ≡ gathered (λ n. leaf_pairs (a.leaf n)) lefts
+    pub fore : front ≡ joined_over (λ n. leaf_pairs (a.leaf n)) lefts
     pub order : leaves_under a height root ≡ lefts ++ at ∷ rights
 
   focus_leaf : (height root : ℕ) → IsTree cmp a (over height 0) root None None → Focus cmp a key 0 height root None None
@@ -132,7 +132,7 @@ module _ {K V : Type 0} (cmp : K → K → Ordering) (o : IsTotalOrder cmp) (key
       ap (λ ps. lookup_entry (is_at (cmp key)) ps) r.pairs ∙ lookup_middle cmp o key r.front r.back r.before r.behind c.pairs
 
   -- another array in the leaf on the way
-  pub record Written (b : Content K V) (height steps root : ℕ) (c d : Cells K V) : Type 0 where
+  pub record Written (b : ArenaContent K V) (height steps root : ℕ) (c d : Cells K V) : Type 0 where
     pub front : List (K × V)
     pub back : List (K × V)
     pub before : AllKeys (λ k. cmp k key ≡ Less) front
@@ -143,7 +143,7 @@ module _ {K V : Type 0} (cmp : K → K → Ordering) (o : IsTotalOrder cmp) (key
     pub same_way : way cmp b key steps root ≡ way cmp a key steps root
     pub order : leaves_under b height root ≡ leaves_under a height root
 
-  written_over : (b : Content K V) (height root : ℕ) (c d : Cells K V) → Stands cmp a (over height 0) root → a.leaf (way cmp a key height root) ≡ Some c → b.leaf (way cmp a key height root) ≡ Some d
+  written_over : (b : ArenaContent K V) (height root : ℕ) (c d : Cells K V) → Stands cmp a (over height 0) root → a.leaf (way cmp a key height root) ≡ Some c → b.leaf (way cmp a key height root) ≡ Some d
       → ((n : ℕ) → n ≢ way cmp a key height root → b.leaf n ≡ a.leaf n) → ((n : ℕ) → b.node n ≡ a.node n)
       → d.frozen ≡ false → IsAscending cmp d.pairs → ((low high : Option K) → IsWithin cmp low high key → AllKeys (IsWithin cmp low high) c.pairs → AllKeys (IsWithin cmp low high) d.pairs)
       → Written b (over height 0) height root c d
@@ -172,14 +172,14 @@ module _ {K V : Type 0} (cmp : K → K → Ordering) (o : IsTotalOrder cmp) (key
         order = u.order ∙ sym r.order;
       }
 
-  pub written : (b : Content K V) (height root : ℕ) (c d : Cells K V) → Stands cmp a height root → a.leaf (way cmp a key height root) ≡ Some c → b.leaf (way cmp a key height root) ≡ Some d
+  pub written : (b : ArenaContent K V) (height root : ℕ) (c d : Cells K V) → Stands cmp a height root → a.leaf (way cmp a key height root) ≡ Some c → b.leaf (way cmp a key height root) ≡ Some d
       → ((n : ℕ) → n ≢ way cmp a key height root → b.leaf n ≡ a.leaf n) → ((n : ℕ) → b.node n ≡ a.node n)
       → d.frozen ≡ false → IsAscending cmp d.pairs → ((low high : Option K) → IsWithin cmp low high key → AllKeys (IsWithin cmp low high) c.pairs → AllKeys (IsWithin cmp low high) d.pairs)
       → Written b height height root c d
   written b height root c d s here there others nodes thawed rising keys =
       subst (λ (n : ℕ). Written b n height root c d) (over_zero height) (written_over b height root c d (subst (λ (n : ℕ). Stands cmp a n root) (sym (over_zero height)) s) here there others nodes thawed rising keys)
 
-module _ {K V : Type 0} (cmp : K → K → Ordering) (key : K) (a : Content K V) where
+module _ {K V : Type 0} (cmp : K → K → Ordering) (key : K) (a : ArenaContent K V) where
   -- one step down from a node
   pub record IsStep (height steps at next : ℕ) : Type 0 where
     pub low : Option K
@@ -194,7 +194,7 @@ module _ {K V : Type 0} (cmp : K → K → Ordering) (key : K) (a : Content K V)
       let below = tree_below cmp key (IsTree cmp a height) n.0.pairs n.1 low high (subst P same t.3) in
       record { low = below.0; high = below.1; tree = below.2; same_way = sym (ap (λ m. way cmp a key steps (child_in cmp key at m)) here) }
 
-module _ {K V : Type 0} (cmp : K → K → Ordering) (o : IsTotalOrder cmp) (key : K) (a : Content K V) where
+module _ {K V : Type 0} (cmp : K → K → Ordering) (o : IsTotalOrder cmp) (key : K) (a : ArenaContent K V) where
   -- the leaf on the way is not frozen
   pub leaf_thawed : (height root : ℕ) (c : Cells K V) → IsTree cmp a height root None None → a.leaf (way cmp a key height root) ≡ Some c → c.frozen ≡ false
   leaf_thawed height root c t here =

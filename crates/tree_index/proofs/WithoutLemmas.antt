@@ -20,18 +20,18 @@ use Rattle.leaf_array.specs.Pairs.{IsAscending}
 use Rattle.tree_index.specs.declared.leaf.Leaf.{Leaf}
 use Rattle.tree_index.specs.declared.arenas.Arenas.{Arenas}
 use Rattle.tree_index.specs.SplitPoints.{key_at}
-use Rattle.tree_index.specs.Shape.{AllKeys, gathered, leaf_pairs}
-use Rattle.tree_index.specs.Chain.{links, times, first_or, IsLinked}
+use Rattle.tree_index.specs.Shape.{AllKeys, joined_over, leaf_pairs}
+use Rattle.tree_index.specs.Chain.{leaf_links, times, first_or, IsLinked}
 use Rattle.tree_index.specs.Content.{content_of, pairs_of, leaves_of, leaf_on_way, IsSound}
 use Rattle.tree_index.specs.Prune.{IsWithout}
-use Rattle.tree_index.specs.Walk.{held, rest, IsOwn, IsPassed}
+use Rattle.tree_index.specs.Walk.{pairs_in_leaf, rest, IsOwnLeaf, IsPassed}
 use Rattle.tree_index.proofs.ShapeLemmas.{all_weaken}
 use Rattle.tree_index.proofs.LeafLemmas.{filter_none}
 use Rattle.tree_index.proofs.WayLemmas.{some_same, Around, around, leaf_there}
 use Rattle.tree_index.proofs.ChainLemmas.{times_append, first_times}
-use Rattle.tree_index.proofs.RowLemmas.{parting, before_parted, gathered_parted, linked_at}
+use Rattle.tree_index.proofs.RowLemmas.{parting, before_parted, joined_over_parted, linked_at}
 use Rattle.tree_index.proofs.RisingLemmas.{to_keys}
-use Rattle.tree_index.proofs.ThinLemmas.{gathered_kept}
+use Rattle.tree_index.proofs.ThinLemmas.{joined_over_kept}
 use Rattle.tree_index.proofs.WalkLemmas.{all_held, held_is, once, stands_of}
 use Rattle.tree_index.proofs.RemovalLemmas.{past_trans, first_split}
 
@@ -91,10 +91,10 @@ module _ {K V : Type 0} (P : K → Type 0) where
   part_of (x ∷ xs) ys a = let r = part_of xs ys a.1 in ((a.0, r.0), r.1)
 
   -- what holds of all that leaves hold, holds of each
-  pub leaf_keys : (f : ℕ → List (K × V)) (n : ℕ) (ns : List ℕ) → times n ns ≢ 0 → AllKeys P (gathered f ns) → AllKeys P (f n)
+  pub leaf_keys : (f : ℕ → List (K × V)) (n : ℕ) (ns : List ℕ) → times n ns ≢ 0 → AllKeys P (joined_over f ns) → AllKeys P (f n)
   leaf_keys f n ns h a =
       let p = parting n ns h in
-      (part_of (f n) (gathered f p.rear) (part_of (gathered f p.fore) (f n ++ gathered f p.rear) (subst (AllKeys P) (gathered_parted f n ns p.fore p.rear p.all) a)).1).0
+      (part_of (f n) (joined_over f p.rear) (part_of (joined_over f p.fore) (f n ++ joined_over f p.rear) (subst (AllKeys P) (joined_over_parted f n ns p.fore p.rear p.all) a)).1).0
 
 -- what stands behind the leaf on the way to a key
 module _ {K V : Type 0} (cmp : K → K → Ordering) (o : IsTotalOrder cmp) (key : K) (a : Arenas K V) (s : IsSound cmp a) (planted : a.height ≢ 0) where
@@ -104,19 +104,19 @@ module _ {K V : Type 0} (cmp : K → K → Ordering) (o : IsTotalOrder cmp) (key
   abbrev pub way_around : Around cmp o key (content_of a) a.height a.root (leaf_on_way cmp key a) way_leaf.0
   way_around = around cmp o key (content_of a) a.height a.root way_leaf.0 (stands_of cmp a s planted).tree way_leaf.1
 
-  pub rights_hold : gathered (held a) way_around.rights ≡ way_around.back
+  pub rights_hold : joined_over (pairs_in_leaf a) way_around.rights ≡ way_around.back
   rights_hold =
       let r = way_around in
       let at = leaf_on_way cmp key a in
-      let all : gathered (held a) r.lefts ++ (held a at ++ gathered (held a) r.rights) ≡ gathered (held a) r.lefts ++ (way_leaf.0.pairs ++ r.back) = sym (gathered_parted (held a) at (leaves_of a) r.lefts r.rights r.order) ∙ sym (all_held a) ∙ r.pairs ∙ ap (λ ps. ps ++ (way_leaf.0.pairs ++ r.back)) r.fore in
-      let same : held a at ≡ way_leaf.0.pairs = ap leaf_pairs way_leaf.1 in
-      append_cancel_left way_leaf.0.pairs (gathered (held a) r.rights) r.back (ap (λ ps. ps ++ gathered (held a) r.rights) (sym same) ∙ append_cancel_left (gathered (held a) r.lefts) (held a at ++ gathered (held a) r.rights) (way_leaf.0.pairs ++ r.back) all)
+      let all : joined_over (pairs_in_leaf a) r.lefts ++ (pairs_in_leaf a at ++ joined_over (pairs_in_leaf a) r.rights) ≡ joined_over (pairs_in_leaf a) r.lefts ++ (way_leaf.0.pairs ++ r.back) = sym (joined_over_parted (pairs_in_leaf a) at (leaves_of a) r.lefts r.rights r.order) ∙ sym (all_held a) ∙ r.pairs ∙ ap (λ ps. ps ++ (way_leaf.0.pairs ++ r.back)) r.fore in
+      let same : pairs_in_leaf a at ≡ way_leaf.0.pairs = ap leaf_pairs way_leaf.1 in
+      append_cancel_left way_leaf.0.pairs (joined_over (pairs_in_leaf a) r.rights) r.back (ap (λ ps. ps ++ joined_over (pairs_in_leaf a) r.rights) (sym same) ∙ append_cancel_left (joined_over (pairs_in_leaf a) r.lefts) (pairs_in_leaf a at ++ joined_over (pairs_in_leaf a) r.rights) (way_leaf.0.pairs ++ r.back) all)
 
-module _ {K V : Type 0} (cmp : K → K → Ordering) (o : IsTotalOrder cmp) (a : Arenas K V) (s : IsSound cmp a) (n : ℕ) (own : IsOwn a (Some n)) (l : Leaf K V) (here : get a.leaves n ≡ Some l) (key : K) (there : key_at l.array.pairs 0 ≡ Some key) where
+module _ {K V : Type 0} (cmp : K → K → Ordering) (o : IsTotalOrder cmp) (a : Arenas K V) (s : IsSound cmp a) (n : ℕ) (own : IsOwnLeaf a (Some n)) (l : Leaf K V) (here : get a.leaves n ≡ Some l) (key : K) (there : key_at l.array.pairs 0 ≡ Some key) where
   apart : cmp key key ≢ Less
   apart e = let x : Less ≡ Equal = sym e ∙ tied_itself o key in cc
 
-  in_leaf : (P : K → Type 0) → AllKeys P (held a n) → P key
+  in_leaf : (P : K → Type 0) → AllKeys P (pairs_in_leaf a n) → P key
   in_leaf P all = key_held P l.array.pairs key there (subst (AllKeys P) (held_is a n l here) all)
 
   -- the way to the first key of a leaf leads to that leaf
@@ -126,8 +126,8 @@ module _ {K V : Type 0} (cmp : K → K → Ordering) (o : IsTotalOrder cmp) (a :
       let at = leaf_on_way cmp key a in
       let behind = rights_hold cmp o key a s own.0 in
       let counted : times n r.lefts + (cond (at == n) 1 0 + times n r.rights) ≢ 0 = λ z. own.1 (ap (times n) r.order ∙ times_append n r.lefts (at ∷ r.rights) ∙ z) in
-      let left : times n r.lefts ≡ 0 = by_zero (times n r.lefts) (λ d. apart (in_leaf (λ k. cmp k key ≡ Less) (leaf_keys (λ k. cmp k key ≡ Less) (held a) n r.lefts d (subst (AllKeys (λ k. cmp k key ≡ Less)) r.fore r.before)))) in
-      let right : times n r.rights ≡ 0 = by_zero (times n r.rights) (λ d. apart (in_leaf (λ k. cmp key k ≡ Less) (leaf_keys (λ k. cmp key k ≡ Less) (held a) n r.rights d (subst (AllKeys (λ k. cmp key k ≡ Less)) (sym behind) r.behind)))) in
+      let left : times n r.lefts ≡ 0 = by_zero (times n r.lefts) (λ d. apart (in_leaf (λ k. cmp k key ≡ Less) (leaf_keys (λ k. cmp k key ≡ Less) (pairs_in_leaf a) n r.lefts d (subst (AllKeys (λ k. cmp k key ≡ Less)) r.fore r.before)))) in
+      let right : times n r.rights ≡ 0 = by_zero (times n r.rights) (λ d. apart (in_leaf (λ k. cmp key k ≡ Less) (leaf_keys (λ k. cmp key k ≡ Less) (pairs_in_leaf a) n r.rights d (subst (AllKeys (λ k. cmp key k ≡ Less)) (sym behind) r.behind)))) in
       split r.lefts r.rights at left right counted (eqb_tells at n)
     where
       by_zero : (m : ℕ) → (m ≢ 0 → ⊥) → m ≡ 0
@@ -138,7 +138,7 @@ module _ {K V : Type 0} (cmp : K → K → Ordering) (o : IsTotalOrder cmp) (a :
       split lefts rights at x y c (inl e) = sym e.1
       split lefts rights at x y c (inr e) = absurd (c (let z : ◌≡◌ {A = ℕ} (cond (at == n) 1 0) 0 = ap (λ b. cond b 1 0) e.0 in omega (arith, x, y, z)))
 
-one_each : (ns : List ℕ) → length (gathered (λ (k : ℕ). k ∷ []) ns) ≡ length ns
+one_each : (ns : List ℕ) → length (joined_over (λ (k : ℕ). k ∷ []) ns) ≡ length ns
 one_each [] = refl
 one_each (n ∷ ns) = omega (arith, one_each ns)
 
@@ -163,7 +163,7 @@ same_fore n (x ∷ xs) ys (u ∷ us) vs e h =
     let tail : xs ++ n ∷ ys ≡ us ++ n ∷ vs = cc in
     rw (head, same_fore n xs ys us vs tail (omega (arith, h))) refl
 
-module _ {K V : Type 0} (cmp : K → K → Ordering) (lower upper : Bound K) (a b : Arenas K V) (s : IsSound cmp a) (n : ℕ) (own : IsOwn a (Some n)) (without : IsWithout n a b) where
+module _ {K V : Type 0} (cmp : K → K → Ordering) (lower upper : Bound K) (a b : Arenas K V) (s : IsSound cmp a) (n : ℕ) (own : IsOwnLeaf a (Some n)) (without : IsWithout n a b) where
   abbrev test : K → Bool
   test k = not (range_contains cmp lower upper k)
 
@@ -174,18 +174,18 @@ module _ {K V : Type 0} (cmp : K → K → Ordering) (lower upper : Bound K) (a 
   parted = subst (λ ns. times n ns ≤ 1) without.order_was alone
 
   -- a filter of what lies outside leaves the same
-  pub without_same : AllKeys (λ k. range_contains cmp lower upper k ≡ true) (held a n) → filter (λ p. test p.0) (pairs_of b) ≡ filter (λ p. test p.0) (pairs_of a)
+  pub without_same : AllKeys (λ k. range_contains cmp lower upper k ≡ true) (pairs_in_leaf a n) → filter (λ p. test p.0) (pairs_of b) ≡ filter (λ p. test p.0) (pairs_of a)
   without_same within =
-      let none : filter (λ p. test p.0) (held a n) ≡ [] = filter_none test (held a n) (all_weaken (λ k. range_contains cmp lower upper k ≡ true) (λ k. test k ≡ false) (λ k h. ap not h) (held a n) within) in
+      let none : filter (λ p. test p.0) (pairs_in_leaf a n) ≡ [] = filter_none test (pairs_in_leaf a n) (all_weaken (λ k. range_contains cmp lower upper k ≡ true) (λ k. test k ≡ false) (λ k h. ap not h) (pairs_in_leaf a n) within) in
       let f : List (K × V) → List (K × V) = filter (λ p. test p.0) in
       ap f without.now ∙ filter-append (λ p. test p.0) without.front without.back
-      ∙ sym (ap f without.was ∙ filter-append (λ p. test p.0) without.front (held a n ++ without.back) ∙ ap (λ ps. f without.front ++ ps) (filter-append (λ p. test p.0) (held a n) without.back ∙ ap (λ ps. ps ++ f without.back) none))
+      ∙ sym (ap f without.was ∙ filter-append (λ p. test p.0) without.front (pairs_in_leaf a n ++ without.back) ∙ ap (λ ps. f without.front ++ ps) (filter-append (λ p. test p.0) (pairs_in_leaf a n) without.back ∙ ap (λ ps. ps ++ f without.back) none))
 
   module _ (next : Option ℕ) (next_is : next ≡ first_or None without.rear) where
-    pub without_own : b.height ≢ 0 → IsOwn b next
-    without_own h = subst (IsOwn b) (sym next_is) (first_own without.rear without.order)
+    pub without_own : b.height ≢ 0 → IsOwnLeaf b next
+    without_own h = subst (IsOwnLeaf b) (sym next_is) (first_own without.rear without.order)
       where
-        first_own : (rear : List ℕ) → leaves_of b ≡ without.fore ++ rear → IsOwn b (first_or None rear)
+        first_own : (rear : List ℕ) → leaves_of b ≡ without.fore ++ rear → IsOwnLeaf b (first_or None rear)
         first_own [] e = tt
         first_own (r ∷ rs) e = (h, λ z. let all : times r (without.fore ++ r ∷ rs) ≡ 0 = ap (times r) (sym e) ∙ z in omega (arith, all, times_append r without.fore (r ∷ rs), first_times r rs))
 
@@ -209,13 +209,13 @@ module _ {K V : Type 0} (cmp : K → K → Ordering) (lower upper : Bound K) (a 
           rear = without.rear;
           all = without.order;
           first = next_is;
-          keys = subst (AllKeys P) (sym (gathered_kept (held a) (held b) n without.fore without.kept out)) (subst (λ ns. AllKeys P (gathered (held a) ns)) (sym same) passed.keys);
+          keys = subst (AllKeys P) (sym (joined_over_kept (pairs_in_leaf a) (pairs_in_leaf b) n without.fore without.kept out)) (subst (λ ns. AllKeys P (joined_over (pairs_in_leaf a) ns)) (sym same) passed.keys);
         }
 
 -- what a leaf names behind itself is the first of those behind it
-pub next_of : {K V : Type 0} (cmp : K → K → Ordering) (a b : Arenas K V) (s : IsSound cmp a) (n : ℕ) (own : IsOwn a (Some n)) (without : IsWithout n a b) (l : Leaf K V) → get a.leaves n ≡ Some l → l.next ≡ first_or None without.rear
+pub next_of : {K V : Type 0} (cmp : K → K → Ordering) (a b : Arenas K V) (s : IsSound cmp a) (n : ℕ) (own : IsOwnLeaf a (Some n)) (without : IsWithout n a b) (l : Leaf K V) → get a.leaves n ≡ Some l → l.next ≡ first_or None without.rear
 next_of {K} {V} cmp a b s n own without l here =
-    let at = linked_at (links a.leaves) None None n without.fore without.rear (subst (λ ns. IsLinked (links a.leaves) None ns None) without.order_was (s.linked own.0)) in
+    let at = linked_at (leaf_links a.leaves) None None n without.fore without.rear (subst (λ ns. IsLinked (leaf_links a.leaves) None ns None) without.order_was (s.linked own.0)) in
     let e : ◌≡◌ {A = Option (Option ℕ × Option ℕ)} (Some (l.prev, l.next)) _ = sym (ap (option_map (λ (x : Leaf K V). (x.prev, x.next))) here) ∙ at in
     ap (λ (x : Option ℕ × Option ℕ). x.1) (some_same e)
 

@@ -9,8 +9,8 @@ abbrev pub Links : Type 0
 Links = ℕ → Option (Option ℕ × Option ℕ)
 
 -- what the leaves of an arena name
-abbrev pub links : {K V : Type 0} → Slab (Leaf K V) → Links
-links leaves n = option_map (λ l. (l.prev, l.next)) (get leaves n)
+abbrev pub leaf_links : {K V : Type 0} → Slab (Leaf K V) → Links
+leaf_links leaves n = option_map (λ l. (l.prev, l.next)) (get leaves n)
 
 -- the first of a list, or the other where it is empty
 abbrev pub first_or : Option ℕ → List ℕ → Option ℕ

@@ -8,18 +8,18 @@ use Rattle.tree_index.specs.declared.node.InnerNode.{InnerNode}
 use Rattle.tree_index.specs.declared.arenas.Arenas.{Arenas}
 use Rattle.tree_index.specs.declared.leaf.SplitPoint.{SplitPoint}
 use Rattle.tree_index.specs.SplitPoints.{IsSplitPoint}
-use Rattle.tree_index.specs.Shape.{Content, pairs_under, leaves_under, way, Stands}
-use Rattle.tree_index.specs.Chain.{links, IsLinked}
+use Rattle.tree_index.specs.Shape.{ArenaContent, pairs_under, leaves_under, way, Stands}
+use Rattle.tree_index.specs.Chain.{leaf_links, IsLinked}
 
 module _ {K V : Type 0} where
   -- the arrays in two arenas
-  abbrev pub content : Slab (Leaf K V) → Slab (InnerNode K) → Content K V
+  abbrev pub content : Slab (Leaf K V) → Slab (InnerNode K) → ArenaContent K V
   content leaves nodes = record {
     leaf = λ at. option_map (λ l. l.array) (get leaves at);
     node = λ at. option_map (λ n. (n.children, n.last)) (get nodes at);
   }
 
-  abbrev pub content_of : Arenas K V → Content K V
+  abbrev pub content_of : Arenas K V → ArenaContent K V
   content_of a = content a.leaves a.nodes
 
   -- the pairs in order
@@ -31,18 +31,18 @@ module _ {K V : Type 0} where
   leaves_of a = leaves_under (content_of a) a.height a.root
 
   -- nothing is planted
-  pub record IsBare (a : Arenas K V) : Type 0 where
+  pub record HasNoTree (a : Arenas K V) : Type 0 where
     pub flat : a.height ≡ 0
     pub empty : (at : ℕ) → get a.leaves at ≡ None
 
   -- nothing is planted, or a tree of at least one node stands
   pub record IsSound (cmp : K → K → Ordering) (a : Arenas K V) : Type 0 where
-    pub stands : IsBare a ⊎ (a.height ≢ 0) × Stands cmp (content_of a) a.height a.root
-    pub linked : a.height ≢ 0 → IsLinked (links a.leaves) None (leaves_of a) None
+    pub stands : HasNoTree a ⊎ (a.height ≢ 0) × Stands cmp (content_of a) a.height a.root
+    pub linked : a.height ≢ 0 → IsLinked (leaf_links a.leaves) None (leaves_of a) None
     pub count : a.len ≡ length (pairs_of a)
 
   -- the leaf on the way to a key takes one more pair
-  pub record HasRoom (cmp : K → K → Ordering) (key : K) (a : Arenas K V) : Type 0 where
+  pub record LeafHasRoom (cmp : K → K → Ordering) (key : K) (a : Arenas K V) : Type 0 where
     pub leaf : Leaf K V
     pub there : get a.leaves (way cmp (content_of a) key a.height a.root) ≡ Some leaf
     pub living : leaf.array.retired ≡ false

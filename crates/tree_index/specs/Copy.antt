@@ -13,13 +13,13 @@ module _ {K V : Type 0} where
   place a None = length (pairs_of a)
   place a (Some s) = position a s
 
-  abbrev pub IsPlace : Arenas K V → Option (Position K V) → Type 0
-  IsPlace a None = Unit {0}
-  IsPlace a (Some s) = IsPosition a s
+  abbrev pub IsPositionOrEnd : Arenas K V → Option (Position K V) → Type 0
+  IsPositionOrEnd a None = Unit {0}
+  IsPositionOrEnd a (Some s) = IsPosition a s
 
   -- the copy has the pairs up to a place, and for each of them it has taken one of its own places at most
   pub record IsCopied (cmp : K → K → Ordering) (source copy : Arenas K V) (next : Option (Position K V)) : Type 0 where
     pub sound : IsSound cmp copy
-    pub spot : IsPlace source next
+    pub spot : IsPositionOrEnd source next
     pub front : pairs_of copy ≡ take (place source next) (pairs_of source)
     pub places : 241 ≤ ascending_headroom cmp copy + length (pairs_of copy)

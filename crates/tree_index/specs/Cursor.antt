@@ -66,8 +66,8 @@ module _ {K V : Type 0} (cmp : K → K → Ordering) where
   kept_above lower (Some p) = cond (is_from_start cmp lower p.0) (Some p) None
 
   -- the pair of the forward end, if it lies within the upper bound; of the backward end, if it lies within the lower one
-  abbrev pub shown : Cursor K V → Option (K × V)
-  shown c = kept_below c.upper (pair_at c.pairs c.forward)
+  abbrev pub shown_forth : Cursor K V → Option (K × V)
+  shown_forth c = kept_below c.upper (pair_at c.pairs c.forward)
 
   abbrev pub shown_back : Cursor K V → Option (K × V)
   shown_back c = kept_above c.lower (pair_at c.pairs c.backward)
@@ -80,7 +80,7 @@ module _ {K V : Type 0} (cmp : K → K → Ordering) where
 
   -- an end that has moved answers its pair, as long as the two ends haven't met
   abbrev pub next_of : Cursor K V → Option (K × V)
-  next_of c = cond (lies_before (moved_forth c).forward c.backward) (shown (moved_forth c)) None
+  next_of c = cond (lies_before (moved_forth c).forward c.backward) (shown_forth (moved_forth c)) None
 
   abbrev pub next_back_of : Cursor K V → Option (K × V)
   next_back_of c = cond (lies_before c.forward (moved_back c).backward) (shown_back (moved_back c)) None
@@ -88,7 +88,7 @@ module _ {K V : Type 0} (cmp : K → K → Ordering) where
   -- a cursor turns where one end alone is open and shows a pair, or none is
   abbrev pub turns : Cursor K V → End ℕ → End ℕ → Bool
   turns c Unopened Unopened = true
-  turns c forward Unopened = is_some (shown c)
+  turns c forward Unopened = is_some (shown_forth c)
   turns c Unopened backward = is_some (shown_back c)
   turns c forward backward = false
 
@@ -123,8 +123,8 @@ stop_of c (At p) = p
 stop_of c Done = 0
 
 -- how many pairs lie between the two ends
-abbrev pub between : {K V : Type 0} → Cursor K V → ℕ
-between c = stop_of c c.backward - start_of c c.forward
+abbrev pub count_between : {K V : Type 0} → Cursor K V → ℕ
+count_between c = stop_of c c.backward - start_of c c.forward
 
 -- ---- cursors as stored values
 

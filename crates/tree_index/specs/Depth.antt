@@ -34,11 +34,11 @@ module _ {K V : Type 0} (cmp : K → K → Ordering) where
   root_room a = node_room (pairs_of a) (λ n. leaf_room (get a.leaves n)) (get a.nodes a.root)
 
 -- for a depth, and the places that its root has if that is a node over leaves
-abbrev pub rises : ℕ → ℕ → ℕ
-rises zero room = 241
-rises (suc zero) room = suc room
-rises (suc (suc height)) room = 0
+abbrev pub headroom_for : ℕ → ℕ → ℕ
+headroom_for zero room = 241
+headroom_for (suc zero) room = suc room
+headroom_for (suc (suc height)) room = 0
 
 -- 0 where the depth is more than 1; else one more than the number of pairs, each above all others, that the tree takes at least before it is
 abbrev pub ascending_headroom : {K V : Type 0} → (K → K → Ordering) → Arenas K V → ℕ
-ascending_headroom cmp a = rises a.height (root_room cmp a)
+ascending_headroom cmp a = headroom_for a.height (root_room cmp a)

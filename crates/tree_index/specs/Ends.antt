@@ -18,10 +18,10 @@ module _ {K V : Type 0} where
   IsEnd a (At s) = IsPosition a s
   IsEnd a Done = Unit {0}
 
-  abbrev pub place_of : Arenas K V → End (Position K V) → End ℕ
-  place_of a Unopened = Unopened
-  place_of a (At s) = At (position a s)
-  place_of a Done = Done
+  abbrev pub end_position : Arenas K V → End (Position K V) → End ℕ
+  end_position a Unopened = Unopened
+  end_position a (At s) = At (position a s)
+  end_position a Done = Done
 
   pub record IsReady (cmp : K → K → Ordering) (e : Ends K V) : Type 0 where
     pub sound : IsSound cmp e.arenas.now
@@ -30,4 +30,4 @@ module _ {K V : Type 0} where
 
   -- the cursor that two ends and two bounds make
   abbrev pub cursor_of : Ends K V → Bound K → Bound K → Cursor K V
-  cursor_of e lower upper = record { pairs = pairs_of e.arenas.now; lower = lower; upper = upper; forward = place_of e.arenas.now e.forward; backward = place_of e.arenas.now e.backward }
+  cursor_of e lower upper = record { pairs = pairs_of e.arenas.now; lower = lower; upper = upper; forward = end_position e.arenas.now e.forward; backward = end_position e.arenas.now e.backward }

@@ -5,9 +5,9 @@ use Rattle.tree_index.specs.declared.node.Node.TheVariants.{Internal, Leaf}
 
 module _ {K V : Type 0} where
   -- the pairs under it
-  abbrev pub pairs_in : Node K V → List (K × V)
-  pairs_in (Internal n) = n.pairs
-  pairs_in (Leaf pairs) = pairs
+  abbrev pub node_pairs : Node K V → List (K × V)
+  node_pairs (Internal n) = n.pairs
+  node_pairs (Leaf pairs) = pairs
 
   -- how many nodes lie from it down to a leaf
   abbrev pub height_in : Node K V → ℕ

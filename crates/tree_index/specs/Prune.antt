@@ -6,14 +6,14 @@ use Rattle.leaf_array.specs.Cells.{Cells, lesser}
 use Rattle.tree_index.specs.declared.node.InnerNode.{InnerNode}
 use Rattle.tree_index.specs.declared.arenas.Arenas.{Arenas}
 use Rattle.tree_index.specs.declared.prune.Fork.{Fork}
-use Rattle.tree_index.specs.Shape.{Content, child_for, way, node_times}
+use Rattle.tree_index.specs.Shape.{ArenaContent, child_for, way, node_times}
 use Rattle.tree_index.specs.Chain.{times}
 use Rattle.tree_index.specs.Content.{content_of, pairs_of, leaves_of, leaf_on_way}
-use Rattle.tree_index.specs.Walk.{held}
+use Rattle.tree_index.specs.Walk.{pairs_in_leaf}
 
 module _ {K V : Type 0} where
   -- so many nodes with one child each lead from a number to a leaf
-  abbrev pub IsSingle : Content K V → ℕ → ℕ → ℕ → Type 0
+  abbrev pub IsSingle : ArenaContent K V → ℕ → ℕ → ℕ → Type 0
   IsSingle a zero at leaf = at ≡ leaf
   IsSingle a (suc height) at leaf = (n : Cells K ℕ × ℕ) × (a.node at ≡ Some n) × (n.0.pairs ≡ []) × IsSingle a height n.1 leaf
 
@@ -29,7 +29,7 @@ module _ {K V : Type 0} where
     pub single : IsSingle (content_of a) f.height f.child (leaf_on_way cmp key a)
 
   -- a leaf, and the nodes from a number down to it, don't stand in the tree
-  pub record IsDetached (a : Arenas K V) (height at leaf : ℕ) : Type 0 where
+  pub record IsCutOff (a : Arenas K V) (height at leaf : ℕ) : Type 0 where
     pub planted : a.height ≢ 0
     pub single : IsSingle (content_of a) height at leaf
     pub once : (n : ℕ) → node_times (content_of a) n height at ≤ 1
@@ -41,13 +41,13 @@ module _ {K V : Type 0} where
   pub record IsWithout (leaf : ℕ) (old new : Arenas K V) : Type 0 where
     pub front : List (K × V)
     pub back : List (K × V)
-    pub was : pairs_of old ≡ front ++ (held old leaf ++ back)
+    pub was : pairs_of old ≡ front ++ (pairs_in_leaf old leaf ++ back)
     pub now : pairs_of new ≡ front ++ back
     pub fore : List ℕ
     pub rear : List ℕ
     pub order_was : leaves_of old ≡ fore ++ leaf ∷ rear
     pub order : leaves_of new ≡ fore ++ rear
-    pub kept : (n : ℕ) → n ≢ leaf → held new n ≡ held old n
+    pub kept : (n : ℕ) → n ≢ leaf → pairs_in_leaf new n ≡ pairs_in_leaf old n
 
   -- the root has one child, which is a node
   pub record IsLowerable (a : Arenas K V) : Type 0 where

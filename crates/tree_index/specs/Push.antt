@@ -4,11 +4,11 @@ use Rattle.slab.specs.Slab.{get}
 use Rattle.tree_index.specs.declared.leaf.Leaf.{Leaf}
 use Rattle.tree_index.specs.declared.arenas.Arenas.{Arenas}
 use Rattle.tree_index.specs.Content.{leaves_of}
-use Rattle.tree_index.specs.Walk.{IsOwn}
+use Rattle.tree_index.specs.Walk.{IsOwnLeaf}
 
 -- the last leaf: it has pairs, and room for one more
-pub record IsOpen {K V : Type 0} (a : Arenas K V) (n : ℕ) : Type 0 where
-  pub own : IsOwn a (Some n)
+pub record LastLeafHasRoom {K V : Type 0} (a : Arenas K V) (n : ℕ) : Type 0 where
+  pub own : IsOwnLeaf a (Some n)
   pub fore : List ℕ
   pub last : leaves_of a ≡ fore ++ n ∷ []
   pub leaf : Leaf K V

@@ -7,7 +7,7 @@ use Rattle.leaf_array.specs.Cells.{Cells}
 use Rattle.leaf_array.specs.Pairs.{IsAscending}
 
 -- what the arenas hold at each number: the array of a leaf; the children of a node with their separators, and the one behind them
-pub record Content (K V : Type 0) : Type 0 where
+pub record ArenaContent (K V : Type 0) : Type 0 where
   pub leaf : ℕ → Option (Cells K V)
   pub node : ℕ → Option (Cells K ℕ × ℕ)
 
@@ -50,9 +50,9 @@ joined_along f [] last = f last
 joined_along f (e ∷ es) last = f e.1 ++ joined_along f es last
 
 -- what numbers hold, in their order
-abbrev pub gathered : {X : Type 0} → (ℕ → List X) → List ℕ → List X
-gathered f [] = []
-gathered f (n ∷ ns) = f n ++ gathered f ns
+abbrev pub joined_over : {X : Type 0} → (ℕ → List X) → List ℕ → List X
+joined_over f [] = []
+joined_over f (n ∷ ns) = f n ++ joined_over f ns
 
 -- the sum over the children
 abbrev pub sum_along : {K : Type 0} → (ℕ → ℕ) → List (K × ℕ) → ℕ → ℕ
@@ -85,27 +85,27 @@ module _ {K V : Type 0} where
   leaf_pairs (Some c) = c.pairs
 
   -- the pairs under a number at this height, in order
-  abbrev pub pairs_under : Content K V → ℕ → ℕ → List (K × V)
+  abbrev pub pairs_under : ArenaContent K V → ℕ → ℕ → List (K × V)
   pairs_under a zero at = leaf_pairs (a.leaf at)
   pairs_under a (suc height) at = node_joined (pairs_under a height) (a.node at)
 
   -- the numbers of the leaves under a number at this height, in order
-  abbrev pub leaves_under : Content K V → ℕ → ℕ → List ℕ
+  abbrev pub leaves_under : ArenaContent K V → ℕ → ℕ → List ℕ
   leaves_under a zero at = at ∷ []
   leaves_under a (suc height) at = node_joined (leaves_under a height) (a.node at)
 
   -- how often a leaf, and how often a node, stands under a number at this height
-  abbrev pub leaf_times : Content K V → ℕ → ℕ → ℕ → ℕ
+  abbrev pub leaf_times : ArenaContent K V → ℕ → ℕ → ℕ → ℕ
   leaf_times a n zero at = cond (at == n) 1 0
   leaf_times a n (suc height) at = node_sum (leaf_times a n height) (a.node at)
 
-  abbrev pub node_times : Content K V → ℕ → ℕ → ℕ → ℕ
+  abbrev pub node_times : ArenaContent K V → ℕ → ℕ → ℕ → ℕ
   node_times a n zero at = 0
   node_times a n (suc height) at = cond (at == n) 1 0 + node_sum (node_times a n height) (a.node at)
 
   module _ (cmp : K → K → Ordering) where
     -- the number that so many steps down lead to, on the way to a key
-    abbrev pub way : Content K V → K → ℕ → ℕ → ℕ
+    abbrev pub way : ArenaContent K V → K → ℕ → ℕ → ℕ
     way a key zero at = at
     way a key (suc steps) at = way a key steps (child_in cmp key at (a.node at))
 
@@ -116,12 +116,12 @@ module _ {K V : Type 0} where
       pub within : AllKeys (IsWithin cmp low high) c.pairs
 
     -- a tree of this height, whose keys lie between two bounds
-    abbrev pub IsTree : Content K V → ℕ → ℕ → Option K → Option K → Type 0
+    abbrev pub IsTree : ArenaContent K V → ℕ → ℕ → Option K → Option K → Type 0
     IsTree a zero at low high = (c : Cells K V) × (a.leaf at ≡ Some c) × IsLeaf low high c
     IsTree a (suc height) at low high = (n : Cells K ℕ × ℕ) × (a.node at ≡ Some n) × IsNode n.0 × AreBetween cmp (IsTree a height) n.0.pairs n.1 low high
 
     -- a tree in which each leaf and each node stands once
-    pub record Stands (a : Content K V) (height root : ℕ) : Type 0 where
+    pub record Stands (a : ArenaContent K V) (height root : ℕ) : Type 0 where
       pub tree : IsTree a height root None None
       pub leaf_once : (n : ℕ) → leaf_times a n height root ≤ 1
       pub node_once : (n : ℕ) → node_times a n height root ≤ 1

@@ -25,8 +25,8 @@ pub record IsAround {K V : Type 0} (cmp : K → K → Ordering) (key : K) (part 
 
 module _ {K V : Type 0} where
   -- the pairs under it, in order
-  abbrev pub pairs_below : Standing K V → List (K × V)
-  pairs_below s = pairs_under (content_of s.arenas.now) s.height s.at
+  abbrev pub standing_pairs : Standing K V → List (K × V)
+  standing_pairs s = pairs_under (content_of s.arenas.now) s.height s.at
 
   -- a tree stands there, within some bounds
   pub record IsStanding (cmp : K → K → Ordering) (s : Standing K V) : Type 0 where

@@ -14,15 +14,15 @@ abbrev pub tree_code : {K V : Type 0} → Coded K → Coded V → Coded (Tree K 
 tree_code {K} {V} k v = code_by (List (K × V) × (ℕ × ℕ)) (coded× (coded_list (coded× k v)) (coded× coded_ℕ coded_ℕ)) (λ t. (t.pairs, (t.depth, t.ascending_headroom))) (λ p. record { pairs = p.0; depth = p.1.0; ascending_headroom = p.1.1 }) (λ _. refl)
 
 module _ {K V : Type 0} where
-  abbrev pub IsDuplicate : InsertRefused K V → Type 0
-  IsDuplicate (Duplicate k v) = Unit {0}
-  IsDuplicate (Memory k v) = ⊥
+  abbrev pub RefusedAsDuplicate : InsertRefused K V → Type 0
+  RefusedAsDuplicate (Duplicate k v) = Unit {0}
+  RefusedAsDuplicate (Memory k v) = ⊥
 
-  abbrev pub IsMemory : InsertRefused K V → Type 0
-  IsMemory (Duplicate k v) = ⊥
-  IsMemory (Memory k v) = Unit {0}
+  abbrev pub RefusedForMemory : InsertRefused K V → Type 0
+  RefusedForMemory (Duplicate k v) = ⊥
+  RefusedForMemory (Memory k v) = Unit {0}
 
   -- the pair that comes back
-  abbrev pub given_back : InsertRefused K V → K × V
-  given_back (Duplicate k v) = (k, v)
-  given_back (Memory k v) = (k, v)
+  abbrev pub refused_pair : InsertRefused K V → K × V
+  refused_pair (Duplicate k v) = (k, v)
+  refused_pair (Memory k v) = (k, v)

@@ -3,7 +3,7 @@ use Rattle.std.specs.Prelude.{◌≡◌, ◌≢◌, ◌≤◌, ◌<◌, ◌+◌,
 use Rattle.slab.specs.Slab.{get}
 use Rattle.tree_index.specs.declared.arenas.Arenas.{Arenas}
 use Rattle.tree_index.specs.declared.walk.Position.{Position}
-use Rattle.tree_index.specs.Shape.{AllKeys, gathered, leaf_pairs}
+use Rattle.tree_index.specs.Shape.{AllKeys, joined_over, leaf_pairs}
 use Rattle.tree_index.specs.Chain.{times, first_or}
 use Rattle.tree_index.specs.Content.{content_of, pairs_of, leaves_of}
 
@@ -18,32 +18,32 @@ rest ns None = 0
 rest ns (Some n) = suc (length ns - pairs_before (λ k. k ∷ []) n ns)
 
 module _ {K V : Type 0} where
-  abbrev pub held : Arenas K V → ℕ → List (K × V)
-  held a n = leaf_pairs ((content_of a).leaf n)
+  abbrev pub pairs_in_leaf : Arenas K V → ℕ → List (K × V)
+  pairs_in_leaf a n = leaf_pairs ((content_of a).leaf n)
 
   -- how many pairs come before a place
   abbrev pub position : Arenas K V → Position K V → ℕ
-  position a s = pairs_before (held a) s.at (leaves_of a) + s.place
+  position a s = pairs_before (pairs_in_leaf a) s.at (leaves_of a) + s.place
 
   -- how many pairs come before the leaf with this number: all, where none is named
   abbrev pub starts_at : Arenas K V → Option ℕ → ℕ
   starts_at a None = length (pairs_of a)
-  starts_at a (Some n) = pairs_before (held a) n (leaves_of a)
+  starts_at a (Some n) = pairs_before (pairs_in_leaf a) n (leaves_of a)
 
   -- how many pairs there are up to the end of the leaf with this number: none, where none is named
   abbrev pub ends_at : Arenas K V → Option ℕ → ℕ
   ends_at a None = 0
-  ends_at a (Some n) = pairs_before (held a) n (leaves_of a) + length (held a n)
+  ends_at a (Some n) = pairs_before (pairs_in_leaf a) n (leaves_of a) + length (pairs_in_leaf a n)
 
   -- the number, if there is one, is that of a leaf of the tree
-  abbrev pub IsOwn : Arenas K V → Option ℕ → Type 0
-  IsOwn a None = Unit {0}
-  IsOwn a (Some n) = (a.height ≢ 0) × (times n (leaves_of a) ≢ 0)
+  abbrev pub IsOwnLeaf : Arenas K V → Option ℕ → Type 0
+  IsOwnLeaf a None = Unit {0}
+  IsOwnLeaf a (Some n) = (a.height ≢ 0) × (times n (leaves_of a) ≢ 0)
 
   -- a place in a leaf of the tree, at one of its pairs or behind them
   pub record IsInsertionPoint (a : Arenas K V) (s : Position K V) : Type 0 where
     pub there : get a.leaves s.at ≡ Some s.leaf.now
-    pub own : IsOwn a (Some s.at)
+    pub own : IsOwnLeaf a (Some s.at)
     pub most : s.place ≤ length s.leaf.now.array.pairs
 
   -- the place of a pair
@@ -57,7 +57,7 @@ module _ {K V : Type 0} where
     pub rear : List ℕ
     pub all : leaves_of a ≡ fore ++ rear
     pub first : next ≡ first_or None rear
-    pub keys : AllKeys P (gathered (held a) fore)
+    pub keys : AllKeys P (joined_over (pairs_in_leaf a) fore)
 
   -- the place behind n pairs, if there is a pair
   abbrev pub IsFirstPosition : Arenas K V → ℕ → Option (Position K V) → Type 0

@@ -5,9 +5,9 @@ ghost use Rattle.std.specs.BTreeMap.{is_at};
 ghost use Rattle.std.specs.Map.{lookup_entry};
 ghost use Rattle.tree_index.specs.Shape.{way};
 ghost use Rattle.tree_index.specs.Depth.{IsAbove, ascending_headroom};
-ghost use Rattle.tree_index.specs.Content.{content_of, pairs_of, IsSound, HasRoom, leaf_on_way};
+ghost use Rattle.tree_index.specs.Content.{content_of, pairs_of, IsSound, LeafHasRoom, leaf_on_way};
 ghost use Rattle.leaf_array.specs.Edits.{removed, upserted};
-ghost use Rattle.tree_index.specs.Walk.{held};
+ghost use Rattle.tree_index.specs.Walk.{pairs_in_leaf};
 ghost use Rattle.std.specs.Fn.{FnOnceReturnsAt, FnOnceTakesAt};
 ghost use Rattle.leaf_array.specs.Pairs.{has_key};
 ghost use Rattle.leaf_array.specs.Values.{ClonesAreSame};
@@ -171,13 +171,13 @@ impl<K: Ord, V> Arenas<K, V> {
         ensures way { (steps : ℕ) → way K.cmp (content_of self.new) key steps self.new.root ≡ way K.cmp (content_of self.old) key steps self.old.root }
         ensures back { IfSome (given_back result) (λ p. p ≡ (key, val)) }
         ensures kept { IsSome (given_back result) → pairs_of self.new ≡ pairs_of self.old }
-        ensures full { IsFull result → HasRoom K.cmp key self.old → ⊥ }
+        ensures full { IsFull result → LeafHasRoom K.cmp key self.old → ⊥ }
         ensures absent { IsFull result → has_key K.cmp key (pairs_of self.old) ≡ false }
         ensures duplicate { IsDuplicate result → has_key K.cmp key (pairs_of self.old) ≡ true }
         ensures repeated { IsDuplicate result → UPSERT ≡ false }
         ensures unique { IsSuccess result → UPSERT ≡ false → has_key K.cmp key (pairs_of self.old) ≡ false }
         ensures done { IsSuccess result → pairs_of self.new ≡ upserted K.cmp key val (pairs_of self.old) }
-        ensures still { IsFull result → HasRoom K.cmp key self.new → ⊥ }
+        ensures still { IsFull result → LeafHasRoom K.cmp key self.new → ⊥ }
         ensures ascending_headroom { IsSome (given_back result) → ascending_headroom K.cmp self.new ≡ ascending_headroom K.cmp self.old }
         ensures ascending { IsSuccess result → IsAbove K.cmp key (pairs_of self.old) → ascending_headroom K.cmp self.old ≤ ascending_headroom K.cmp self.new + 1 }
     {
@@ -252,7 +252,7 @@ impl<K: Ord, V> Arenas<K, V> {
         requires on { at ≡ leaf_on_way K.cmp key self.old }
         requires countable { self.old.len + 1 < 2 ^ 64 }
         requires clones { ClonesAreSame K.is_clone }
-        requires full { HasRoom K.cmp key self.old → ⊥ }
+        requires full { LeafHasRoom K.cmp key self.old → ⊥ }
         requires absent { has_key K.cmp key (pairs_of self.old) ≡ false }
         ensures sound { IsSound K.cmp self.new }
         ensures back { IfSome (given_back result) (λ p. p ≡ (key, val)) }
@@ -336,7 +336,7 @@ impl<K: Ord, V> Arenas<K, V> {
         ensures asked { IfSome (lookup_entry (is_at (K.cmp key.now)) (pairs_of self.old)) (λ e. FnOnceReturnsAt F.FnOnce condition e.1 result.0) }
         ensures removed { result.0 ≡ true → pairs_of self.new ≡ removed K.cmp key.now (pairs_of self.old) }
         ensures kept { result.0 ≡ false → pairs_of self.new ≡ pairs_of self.old }
-        ensures emptied { IfSome result.1 (λ n. (n ≡ leaf_on_way K.cmp key.now self.new) × (held self.new n ≡ [])) }
+        ensures emptied { IfSome result.1 (λ n. (n ≡ leaf_on_way K.cmp key.now self.new) × (pairs_in_leaf self.new n ≡ [])) }
     {
         let at = self.leaf_of(key);
         match self.leaves.get_mut(at) {

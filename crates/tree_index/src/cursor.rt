@@ -4,9 +4,9 @@ ghost use Rattle.std.specs.Prelude.{◌≡◌, IfSome, Some, None, cond, nat_lt,
 ghost use Rattle.std.specs.declared.ops.Bound.{Bound};
 ghost use Rattle.std.specs.Range.Bound.{bound_map};
 ghost use Rattle.tree_index.specs.Content.{pairs_of, IsSound};
-ghost use Rattle.tree_index.specs.Cursor.{forth, back, lies_before, pair_at, kept_below, kept_above, moved_forth, moved_back, next_of, next_back_of, shown, shown_back, can_turn, turned, deref_pair};
+ghost use Rattle.tree_index.specs.Cursor.{forth, back, lies_before, pair_at, kept_below, kept_above, moved_forth, moved_back, next_of, next_back_of, shown_forth, shown_back, can_turn, turned, deref_pair};
 ghost use Rattle.tree_index.specs.declared.cursor.End.TheVariants.{Unopened, At};
-ghost use Rattle.tree_index.specs.Ends.{IsEnd, IsReady, place_of, cursor_of};
+ghost use Rattle.tree_index.specs.Ends.{IsEnd, IsReady, end_position, cursor_of};
 ghost use Rattle.tree_index.specs.Walk.{position, IsPosition};
 
 use crate::arenas::Arenas;
@@ -95,7 +95,7 @@ impl<'t, K: Ord, V> Ends<'t, K, V> {
     #[inline(always)]
     pub(crate) fn get(&self, upper: Bound<&'t K>) -> Option<(&'t K, &'t V)>
         requires { IsReady K.cmp self.now }
-        ensures { deref_pair result ≡ kept_below K.cmp (bound_map (λ k. k.now) upper.entry) (pair_at (pairs_of self.now.arenas.now) (place_of self.now.arenas.now self.now.forward)) }
+        ensures { deref_pair result ≡ kept_below K.cmp (bound_map (λ k. k.now) upper.entry) (pair_at (pairs_of self.now.arenas.now) (end_position self.now.arenas.now self.now.forward)) }
     {
         self.arenas.shown(self.forward, upper)
     }
@@ -103,7 +103,7 @@ impl<'t, K: Ord, V> Ends<'t, K, V> {
     /// The pair of the backward end, if it lies within the lower bound.
     pub(crate) fn get_back(&self, lower: Bound<&'t K>) -> Option<(&'t K, &'t V)>
         requires { IsReady K.cmp self.now }
-        ensures { deref_pair result ≡ kept_above K.cmp (bound_map (λ k. k.now) lower.entry) (pair_at (pairs_of self.now.arenas.now) (place_of self.now.arenas.now self.now.backward)) }
+        ensures { deref_pair result ≡ kept_above K.cmp (bound_map (λ k. k.now) lower.entry) (pair_at (pairs_of self.now.arenas.now) (end_position self.now.arenas.now self.now.backward)) }
     {
         self.arenas.shown_back(self.backward, lower)
     }
@@ -142,7 +142,7 @@ impl<'t, K: Ord, V> Ends<'t, K, V> {
     fn beside(&self) -> Option<(Position<'t, K, V>, (&'t K, &'t V))>
         requires { IsReady K.cmp self.now }
         ensures end { IfSome result (λ n. IsEnd self.now.arenas.now (At n.0)) }
-        ensures place { IfSome result (λ n. (lower : Bound K) → place_of self.now.arenas.now (At n.0) ≡ forth K.cmp lower (pairs_of self.now.arenas.now) (place_of self.now.arenas.now self.now.forward)) }
+        ensures place { IfSome result (λ n. (lower : Bound K) → end_position self.now.arenas.now (At n.0) ≡ forth K.cmp lower (pairs_of self.now.arenas.now) (end_position self.now.arenas.now self.now.forward)) }
         ensures pair { IfSome result (λ n. slice_get n.0.leaf.now.array.pairs n.0.place ≡ Some (n.1.0.now, n.1.1.now)) }
     {
         match self.forward {
@@ -156,7 +156,7 @@ impl<'t, K: Ord, V> Ends<'t, K, V> {
     fn forth(&self, lower: Bound<&'t K>) -> End<Position<'t, K, V>>
         requires { IsReady K.cmp self.now }
         ensures end { IsEnd self.now.arenas.now result }
-        ensures place { place_of self.now.arenas.now result ≡ forth K.cmp (bound_map (λ k. k.now) lower.entry) (pairs_of self.now.arenas.now) (place_of self.now.arenas.now self.now.forward) }
+        ensures place { end_position self.now.arenas.now result ≡ forth K.cmp (bound_map (λ k. k.now) lower.entry) (pairs_of self.now.arenas.now) (end_position self.now.arenas.now self.now.forward) }
     {
         match self.forward {
             End::Unopened => match self.arenas.first_within(lower) {
@@ -176,7 +176,7 @@ impl<'t, K: Ord, V> Ends<'t, K, V> {
     fn back(&self, upper: Bound<&'t K>) -> End<Position<'t, K, V>>
         requires { IsReady K.cmp self.now }
         ensures end { IsEnd self.now.arenas.now result }
-        ensures place { place_of self.now.arenas.now result ≡ back K.cmp (bound_map (λ k. k.now) upper.entry) (pairs_of self.now.arenas.now) (place_of self.now.arenas.now self.now.backward) }
+        ensures place { end_position self.now.arenas.now result ≡ back K.cmp (bound_map (λ k. k.now) upper.entry) (pairs_of self.now.arenas.now) (end_position self.now.arenas.now self.now.backward) }
     {
         match self.backward {
             End::Unopened => match self.arenas.last_within(upper) {
@@ -206,7 +206,7 @@ impl<K: Ord, V> Arenas<K, V> {
         requires spot { IsPosition self.now spot }
         requires backward { IsEnd self.now backward }
         requires own { slice_get spot.leaf.now.array.pairs spot.place ≡ Some (own.0.now, own.1.now) }
-        ensures { deref_pair result ≡ cond (lies_before (At (position self.now spot.entry)) (place_of self.now backward.entry)) (kept_below K.cmp (bound_map (λ k. k.now) upper.entry) (slice_get (pairs_of self.now) (position self.now spot.entry))) None }
+        ensures { deref_pair result ≡ cond (lies_before (At (position self.now spot.entry)) (end_position self.now backward.entry)) (kept_below K.cmp (bound_map (λ k. k.now) upper.entry) (slice_get (pairs_of self.now) (position self.now spot.entry))) None }
     {
         if self.precedes(spot, own, backward) {
             below(own, upper)
@@ -227,7 +227,7 @@ impl<K: Ord, V> Arenas<K, V> {
         requires spot { IsPosition self.now spot }
         requires backward { IsEnd self.now backward }
         requires own { slice_get spot.leaf.now.array.pairs spot.place ≡ Some (own.0.now, own.1.now) }
-        ensures { result ≡ lies_before (At (position self.now spot.entry)) (place_of self.now backward.entry) }
+        ensures { result ≡ lies_before (At (position self.now spot.entry)) (end_position self.now backward.entry) }
     {
         match backward {
             End::Unopened => true,
@@ -261,7 +261,7 @@ impl<K: Ord, V> Arenas<K, V> {
         requires sound { IsSound K.cmp self.now }
         requires first { IsEnd self.now a }
         requires second { IsEnd self.now b }
-        ensures { result ≡ lies_before (place_of self.now a.entry) (place_of self.now b.entry) }
+        ensures { result ≡ lies_before (end_position self.now a.entry) (end_position self.now b.entry) }
     {
         match (a, b) {
             (_, End::Unopened) => true,
@@ -280,7 +280,7 @@ impl<K: Ord, V> Arenas<K, V> {
     ) -> Option<(&'t K, &'t V)>
         requires sound { IsSound K.cmp self.now }
         requires end { IsEnd self.now end }
-        ensures { deref_pair result ≡ kept_below K.cmp (bound_map (λ k. k.now) upper.entry) (pair_at (pairs_of self.now) (place_of self.now end.entry)) }
+        ensures { deref_pair result ≡ kept_below K.cmp (bound_map (λ k. k.now) upper.entry) (pair_at (pairs_of self.now) (end_position self.now end.entry)) }
     {
         match end {
             End::At(spot) => below(spot.pair(), upper),
@@ -297,7 +297,7 @@ impl<K: Ord, V> Arenas<K, V> {
     ) -> Option<(&'t K, &'t V)>
         requires sound { IsSound K.cmp self.now }
         requires end { IsEnd self.now end }
-        ensures { deref_pair result ≡ kept_above K.cmp (bound_map (λ k. k.now) lower.entry) (pair_at (pairs_of self.now) (place_of self.now end.entry)) }
+        ensures { deref_pair result ≡ kept_above K.cmp (bound_map (λ k. k.now) lower.entry) (pair_at (pairs_of self.now) (end_position self.now end.entry)) }
     {
         match end {
             End::At(spot) => above(spot.pair(), lower),

@@ -7,16 +7,16 @@ ghost use Rattle.std.specs.Fn.{FnOnceReturnsAt, FnOnceTakesAt};
 ghost use Rattle.std.specs.List.{filter};
 ghost use Rattle.std.specs.BTreeMap.Range.{range_contains};
 ghost use Rattle.leaf_array.specs.Edits.{inserted, removed, upserted};
-ghost use Rattle.leaf_array.specs.Pairs.{has_key, value_at, IsAscending};
+ghost use Rattle.leaf_array.specs.Pairs.{has_key, value_of_key, IsAscending};
 ghost use Rattle.leaf_array.specs.Values.{ClonesAreSame};
 ghost use Rattle.std.specs.Range.Bound.{bound_map};
 ghost use Rattle.tree_index.specs.declared.cursor.End.TheVariants.{Unopened};
 ghost use Rattle.tree_index.specs.Cursor.{whole};
-ghost use Rattle.tree_index.specs.Nodes.{height_in, is_internal, pairs_in};
+ghost use Rattle.tree_index.specs.Nodes.{height_in, is_internal, node_pairs};
 ghost use Rattle.tree_index.specs.Proximity.{IsLocated};
 ghost use Rattle.tree_index.specs.Reads.{FnOnceTakesPair};
 ghost use Rattle.tree_index.specs.Depth.{IsAbove};
-ghost use Rattle.tree_index.specs.Tree.{IsDuplicate, IsMemory, given_back};
+ghost use Rattle.tree_index.specs.Tree.{RefusedAsDuplicate, RefusedForMemory, refused_pair};
 
 use crate::arenas::Arenas;
 use crate::cursor::Ends;
@@ -141,9 +141,9 @@ impl<K: Ord, V> TreeIndex<K, V> {
         requires clones { ClonesAreSame K.is_clone }
         ensures inserted { OnOk result (self.new.pairs ≡ inserted K.cmp key val self.old.pairs) }
         ensures absent { IsOk result → has_key K.cmp key self.old.pairs ≡ false }
-        ensures duplicate { IfErr result (λ e. IsDuplicate e → has_key K.cmp key self.old.pairs ≡ true) }
-        ensures memory { IfErr result (λ e. IsMemory e → has_key K.cmp key self.old.pairs ≡ false) }
-        ensures back { IfErr result (λ e. given_back e ≡ (key, val)) }
+        ensures duplicate { IfErr result (λ e. RefusedAsDuplicate e → has_key K.cmp key self.old.pairs ≡ true) }
+        ensures memory { IfErr result (λ e. RefusedForMemory e → has_key K.cmp key self.old.pairs ≡ false) }
+        ensures back { IfErr result (λ e. refused_pair e ≡ (key, val)) }
         ensures refused { OnErr result (self.new ≡ self.old) }
         ensures ascending { IsOk result → IsAbove K.cmp key self.old.pairs → self.old.ascending_headroom ≤ self.new.ascending_headroom + 1 }
     {
@@ -236,7 +236,7 @@ impl<K: Ord, V> TreeIndex<K, V> {
     /// The value at this key.
     #[inline]
     pub fn peek(&self, key: &K) -> Option<&V>
-        ensures { option_copied result ≡ value_at K.cmp key.now self.now.pairs }
+        ensures { option_copied result ≡ value_of_key K.cmp key.now self.now.pairs }
     {
         match self.arenas.search_entry(key) {
             Some((_, value)) => Some(value),
@@ -315,7 +315,7 @@ impl<K: Ord, V> TreeIndex<K, V> {
     /// The root node, if there is one: none while nothing was inserted since the tree was new or cleared.
     pub fn root(&self) -> Option<Node<'_, K, V>>
         ensures planted { IsSome result ↔ (0 < self.now.depth) }
-        ensures pairs { IfSome result (λ n. pairs_in n ≡ self.now.pairs) }
+        ensures pairs { IfSome result (λ n. node_pairs n ≡ self.now.pairs) }
         ensures kind { IfSome result (λ n. IsTrue (is_internal n) ↔ (1 < self.now.depth)) }
         ensures height { IfSome result (λ n. height_in n ≡ self.now.depth) }
     {
@@ -344,9 +344,9 @@ impl<K: Ord, V> TreeIndex<K, V> {
         K: Drop,
         V: Drop,
         F: Drop,
-        requires { IfSome (value_at K.cmp key.now self.old.pairs) (FnOnceTakesAt F.FnOnce condition) }
-        ensures absent { value_at K.cmp key.now self.old.pairs ≡ None → result ≡ false }
-        ensures asked { IfSome (value_at K.cmp key.now self.old.pairs) (λ v. FnOnceReturnsAt F.FnOnce condition v result) }
+        requires { IfSome (value_of_key K.cmp key.now self.old.pairs) (FnOnceTakesAt F.FnOnce condition) }
+        ensures absent { value_of_key K.cmp key.now self.old.pairs ≡ None → result ≡ false }
+        ensures asked { IfSome (value_of_key K.cmp key.now self.old.pairs) (λ v. FnOnceReturnsAt F.FnOnce condition v result) }
         ensures removed { result ≡ true → self.new.pairs ≡ removed K.cmp key.now self.old.pairs }
         ensures kept { result ≡ false → self.new.pairs ≡ self.old.pairs }
         ensures depth { self.new.depth ≤ self.old.depth }

@@ -2,7 +2,7 @@
 
 ghost use Rattle.std.specs.Prelude.{◌≡◌};
 ghost use Rattle.std.specs.declared.ops.Bound.TheVariants.{Unbounded};
-ghost use Rattle.tree_index.specs.Cursor.{shown, shown_back, can_turn, turned, deref_pair};
+ghost use Rattle.tree_index.specs.Cursor.{shown_forth, shown_back, can_turn, turned, deref_pair};
 
 use crate::cursor::Ends;
 use crate::range::Range;
@@ -40,7 +40,7 @@ impl<'t, K: Ord, V> Iter<'t, K, V> {
     /// The pair of the forward end, if it stands at one.
     #[inline(always)]
     pub fn get(&self) -> Option<(&'t K, &'t V)>
-        ensures { deref_pair result ≡ shown K.cmp self.now }
+        ensures { deref_pair result ≡ shown_forth K.cmp self.now }
     {
         self.ends.get(Bound::Unbounded)
     }
@@ -86,13 +86,13 @@ impl<'t, K: Ord, V> Iter<'t, K, V> {
 
 impl<'t, K: Ord, V> Iterator for Iter<'t, K, V> {
     ghost use Rattle.std.specs.Iterator.{at_most};
-    ghost use Rattle.tree_index.specs.Cursor.{GoesForth, between};
+    ghost use Rattle.tree_index.specs.Cursor.{GoesForth, count_between};
 
     type Item = (&'t K, &'t V);
 
     ghost next_gives = { GoesForth K.cmp };
 
-    ghost remaining = { λ c. at_most (between c) };
+    ghost remaining = { λ c. at_most (count_between c) };
 
     /// Moves the forward end to the next pair, and gives it unless the ends met.
     #[inline(always)]

@@ -13,9 +13,9 @@ ghost use Rattle.std.specs.List.{remove};
 ghost use Rattle.leaf_array.specs.Cells.{lesser};
 ghost use Rattle.std.specs.BTreeMap.{is_at, insert_entry};
 ghost use Rattle.std.specs.Map.{lookup, lookup_entry};
-ghost use Rattle.tree_index.specs.Nodes.{height_in, is_internal, pairs_in};
+ghost use Rattle.tree_index.specs.Nodes.{height_in, is_internal, node_pairs};
 ghost use Rattle.tree_index.specs.Reads.{FnOnceTakesPair};
-ghost use Rattle.tree_index.specs.Standing.{pairs_below, IsAround, IsStanding};
+ghost use Rattle.tree_index.specs.Standing.{standing_pairs, IsAround, IsStanding};
 ghost use Rattle.tree_index.specs.Shape.{child_for, first_child, IsNode};
 
 use leaf_array::{Array, InsertResult, Steps};
@@ -45,7 +45,7 @@ impl<'t, K: Ord, V> Node<'t, K, V> {
     pub(crate) fn over(standing: Standing<'t, K, V>) -> Self
         requires stands { IsStanding K.cmp standing }
         requires node { standing.height ≢ 0 }
-        ensures pairs { pairs_in result ≡ pairs_below standing.entry }
+        ensures pairs { node_pairs result ≡ standing_pairs standing.entry }
         ensures height { height_in result ≡ standing.entry.height }
         ensures kind { IsTrue (is_internal result) ↔ (1 < standing.entry.height) }
     {
@@ -61,8 +61,8 @@ impl<'t, K: Ord, V> Node<'t, K, V> {
     pub fn read_entry<R, F: FnOnce(&K, &V) -> R>(&self, key: &K, f: F) -> Option<R>
     where
         F: Drop,
-        requires { IfSome (lookup_entry (is_at (K.cmp key.now)) (pairs_in self.now)) (FnOnceTakesPair F.FnOnce f) }
-        ensures { MatchOption result (lookup_entry (is_at (K.cmp key.now)) (pairs_in self.now) ≡ None) (λ r. (k : _) × (v : _) × (lookup_entry (is_at (K.cmp key.now)) (pairs_in self.now) ≡ Some (k.now, v.now)) × F.post f k v r) }
+        requires { IfSome (lookup_entry (is_at (K.cmp key.now)) (node_pairs self.now)) (FnOnceTakesPair F.FnOnce f) }
+        ensures { MatchOption result (lookup_entry (is_at (K.cmp key.now)) (node_pairs self.now) ≡ None) (λ r. (k : _) × (v : _) × (lookup_entry (is_at (K.cmp key.now)) (node_pairs self.now) ≡ Some (k.now, v.now)) × F.post f k v r) }
     {
         match self {
             Node::Internal(node) => node.read_entry(key, f),
@@ -78,8 +78,8 @@ impl<'t, K: Ord, V> InternalNode<'t, K, V> {
     ///
     /// A child has one node less down to a leaf, so a way down from child to child ends at a node over leaves.
     pub fn child(&self, key: &K) -> Node<'t, K, V>
-        ensures found { lookup_entry (is_at (K.cmp key.now)) self.now.pairs ≡ lookup_entry (is_at (K.cmp key.now)) (pairs_in result) }
-        ensures around { IsAround K.cmp key.now (pairs_in result) self.now.pairs }
+        ensures found { lookup_entry (is_at (K.cmp key.now)) self.now.pairs ≡ lookup_entry (is_at (K.cmp key.now)) (node_pairs result) }
+        ensures around { IsAround K.cmp key.now (node_pairs result) self.now.pairs }
         ensures height { height_in result + 1 ≡ self.now.height }
     {
         Node::over(self.standing.child(key))

@@ -6,7 +6,7 @@ ghost use Rattle.tree_index.specs.Proximity.{IsLocated};
 ghost use Rattle.tree_index.specs.Content.{pairs_of, IsSound};
 ghost use Rattle.tree_index.specs.Cursor.{whole};
 ghost use Rattle.leaf_array.specs.Cells.{lesser};
-ghost use Rattle.tree_index.specs.Ends.{IsEnd, place_of};
+ghost use Rattle.tree_index.specs.Ends.{IsEnd, end_position};
 ghost use Rattle.tree_index.specs.Walk.{position, IsInsertionPoint, IsPosition};
 
 use crate::arenas::Arenas;
@@ -83,7 +83,7 @@ impl<K: Ord, V> Arenas<K, V> {
         requires sound { IsSound K.cmp self.now }
         requires forward { IsEnd self.now forward }
         requires backward { IsEnd self.now backward }
-        ensures { result ≡ whole (pairs_of self.now) (place_of self.now forward.entry) (place_of self.now backward.entry) }
+        ensures { result ≡ whole (pairs_of self.now) (end_position self.now forward.entry) (end_position self.now backward.entry) }
     {
         Iter {
             ends: Ends {

@@ -3,10 +3,10 @@
 ghost use Rattle.std.specs.Prelude.{◌≡◌, ◌≢◌, ◌≤◌, ◌<◌, ◌+◌, ◌-◌, ◌==◌, ℕ, cond, IfSome, IfNone, Some, None, [], true, length};
 ghost use Rattle.std.specs.Option.{option_map};
 ghost use Rattle.slab.specs.Slab.{get};
-ghost use Rattle.tree_index.specs.Chain.{links, linked_out, times};
+ghost use Rattle.tree_index.specs.Chain.{leaf_links, linked_out, times};
 ghost use Rattle.tree_index.specs.Content.{content_of, pairs_of, leaves_of, IsSound, AreSameArrays, leaf_on_way};
-ghost use Rattle.tree_index.specs.Prune.{IsFork, IsDetached, IsWithout, IsLowerable};
-ghost use Rattle.tree_index.specs.Walk.{held};
+ghost use Rattle.tree_index.specs.Prune.{IsFork, IsCutOff, IsWithout, IsLowerable};
+ghost use Rattle.tree_index.specs.Walk.{pairs_in_leaf};
 
 use crate::arenas::Arenas;
 use crate::leaf::Leaf;
@@ -61,7 +61,7 @@ impl<K: Ord, V> Arenas<K, V> {
         V: Drop,
         requires sound { IsSound K.cmp self.old }
         requires on { leaf ≡ leaf_on_way K.cmp key.now self.old }
-        requires empty { held self.old leaf ≡ [] }
+        requires empty { pairs_in_leaf self.old leaf ≡ [] }
         ensures sound { IsSound K.cmp self.new }
         ensures pairs { pairs_of self.new ≡ pairs_of self.old }
         ensures depth { self.new.height ≤ self.old.height }
@@ -97,7 +97,7 @@ impl<K: Ord, V> Arenas<K, V> {
         requires fork { (key : K) × IsFork K.cmp key self.old fork × (leaf ≡ leaf_on_way K.cmp key self.old) }
         ensures sound { IsSound K.cmp self.new }
         ensures without { IsWithout leaf self.old self.new }
-        ensures loose { IsDetached self.new fork.height fork.child leaf }
+        ensures loose { IsCutOff self.new fork.height fork.child leaf }
         ensures depth { self.new.height ≡ self.old.height }
     {
         let (prev, next) = match self.leaves.get(leaf) {
@@ -120,11 +120,11 @@ impl<K: Ord, V> Arenas<K, V> {
         K: Drop,
         V: Drop,
         requires sound { IsSound K.cmp self.old }
-        requires loose { IsDetached self.old left from leaf }
+        requires loose { IsCutOff self.old left from leaf }
         ensures sound { IsSound K.cmp self.new }
         ensures pairs { pairs_of self.new ≡ pairs_of self.old }
         ensures order { leaves_of self.new ≡ leaves_of self.old }
-        ensures held { (n : ℕ) → n ≢ leaf → held self.new n ≡ held self.old n }
+        ensures held { (n : ℕ) → n ≢ leaf → pairs_in_leaf self.new n ≡ pairs_in_leaf self.old n }
         ensures depth { self.new.height ≡ self.old.height }
     {
         let mut at = from;
@@ -172,7 +172,7 @@ impl<K: Ord, V> Arenas<K, V> {
 /// Links two leaves with each other, of which each may be missing.
 fn join<K: Ord, V>(leaves: &mut Slab<Leaf<K, V>>, before: Option<usize>, behind: Option<usize>)
     ensures arrays { AreSameArrays leaves.old leaves.new }
-    ensures links { (n : ℕ) → links leaves.new n ≡ linked_out before behind (links leaves.old) n }
+    ensures links { (n : ℕ) → leaf_links leaves.new n ≡ linked_out before behind (leaf_links leaves.old) n }
 {
     if let Some(at) = behind {
         name_before(leaves, at, before);
@@ -185,7 +185,7 @@ fn join<K: Ord, V>(leaves: &mut Slab<Leaf<K, V>>, before: Option<usize>, behind:
 /// Names the leaf before one, if that is there.
 fn name_before<K: Ord, V>(leaves: &mut Slab<Leaf<K, V>>, at: usize, before: Option<usize>)
     ensures arrays { AreSameArrays leaves.old leaves.new }
-    ensures links { (n : ℕ) → links leaves.new n ≡ option_map (λ l. (cond (at == n) before l.0, l.1)) (links leaves.old n) }
+    ensures links { (n : ℕ) → leaf_links leaves.new n ≡ option_map (λ l. (cond (at == n) before l.0, l.1)) (leaf_links leaves.old n) }
 {
     if let Some(leaf) = leaves.get_mut(at) {
         leaf.prev = before;
@@ -195,7 +195,7 @@ fn name_before<K: Ord, V>(leaves: &mut Slab<Leaf<K, V>>, at: usize, before: Opti
 /// Names the leaf behind one, if that is there.
 fn name_behind<K: Ord, V>(leaves: &mut Slab<Leaf<K, V>>, at: usize, behind: Option<usize>)
     ensures arrays { AreSameArrays leaves.old leaves.new }
-    ensures links { (n : ℕ) → links leaves.new n ≡ option_map (λ l. (l.0, cond (at == n) behind l.1)) (links leaves.old n) }
+    ensures links { (n : ℕ) → leaf_links leaves.new n ≡ option_map (λ l. (l.0, cond (at == n) behind l.1)) (leaf_links leaves.old n) }
 {
     if let Some(leaf) = leaves.get_mut(at) {
         leaf.next = behind;

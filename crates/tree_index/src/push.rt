@@ -5,7 +5,7 @@ ghost use Rattle.leaf_array.specs.Results.{IsSuccess, given_back};
 ghost use Rattle.leaf_array.specs.Values.{ClonesAreSame};
 ghost use Rattle.tree_index.specs.Content.{pairs_of, IsSound};
 ghost use Rattle.tree_index.specs.Depth.{IsAbove, ascending_headroom};
-ghost use Rattle.tree_index.specs.Push.{IsOpen};
+ghost use Rattle.tree_index.specs.Push.{LastLeafHasRoom};
 
 use crate::arenas::Arenas;
 use leaf_array::InsertResult;
@@ -42,7 +42,7 @@ impl<K: Ord, V> Arenas<K, V> {
     #[inline]
     pub(crate) fn open_leaf(&self) -> Option<usize>
         requires { IsSound K.cmp self.now }
-        ensures { IfSome result (λ n. IsOpen self.now n) }
+        ensures { IfSome result (λ n. LastLeafHasRoom self.now n) }
     {
         let Some(at) = self.last_leaf() else {
             return None;
@@ -64,10 +64,10 @@ impl<K: Ord, V> Arenas<K, V> {
     pub(crate) fn push_at(&mut self, at: usize, key: K, val: V) -> bool
         requires sound { IsSound K.cmp self.old }
         requires countable { self.old.len + 1 < 2 ^ 64 }
-        requires open { IsOpen self.old at }
+        requires open { LastLeafHasRoom self.old at }
         requires above { IsAbove K.cmp key (pairs_of self.old) }
         ensures sound { IsSound K.cmp self.new }
-        ensures open { result ≡ true → IsOpen self.new at }
+        ensures open { result ≡ true → LastLeafHasRoom self.new at }
         ensures countable { result ≡ true → self.new.len + 1 < 2 ^ 64 }
         ensures done { pairs_of self.new ≡ pairs_of self.old ++ (key, val) ∷ [] }
         ensures ascending { ascending_headroom K.cmp self.old ≤ ascending_headroom K.cmp self.new + 1 }

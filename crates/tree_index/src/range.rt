@@ -1,7 +1,7 @@
 //! A cursor over the pairs of a tree within two bounds.
 
 ghost use Rattle.std.specs.Prelude.{◌≡◌};
-ghost use Rattle.tree_index.specs.Cursor.{shown, shown_back, can_turn, turned, deref_pair};
+ghost use Rattle.tree_index.specs.Cursor.{shown_forth, shown_back, can_turn, turned, deref_pair};
 
 use crate::cursor::Ends;
 use crate::take::Take;
@@ -38,7 +38,7 @@ impl<'t, K: Ord, V> Model for Range<'t, K, V> {
 impl<'t, K: Ord, V> Range<'t, K, V> {
     /// The pair of the forward end, if it stands at one within the upper bound.
     pub fn get(&self) -> Option<(&'t K, &'t V)>
-        ensures { deref_pair result ≡ shown K.cmp self.now }
+        ensures { deref_pair result ≡ shown_forth K.cmp self.now }
     {
         self.ends.get(self.upper)
     }
@@ -81,13 +81,13 @@ impl<'t, K: Ord, V> Range<'t, K, V> {
 
 impl<'t, K: Ord, V> Iterator for Range<'t, K, V> {
     ghost use Rattle.std.specs.Iterator.{at_most};
-    ghost use Rattle.tree_index.specs.Cursor.{GoesForth, between};
+    ghost use Rattle.tree_index.specs.Cursor.{GoesForth, count_between};
 
     type Item = (&'t K, &'t V);
 
     ghost next_gives = { GoesForth K.cmp };
 
-    ghost remaining = { λ c. at_most (between c) };
+    ghost remaining = { λ c. at_most (count_between c) };
 
     /// Moves the forward end to the next pair, and gives it if it lies within the upper bound and the
     /// ends haven't met.

@@ -7,7 +7,7 @@ ghost use Rattle.std.specs.BTreeMap.Range.{range_contains, is_from_start};
 ghost use Rattle.tree_index.specs.Content.{pairs_of, leaves_of, leaf_on_way, IsSound};
 ghost use Rattle.tree_index.specs.Prune.{IsFork};
 ghost use Rattle.tree_index.specs.Shape.{AllKeys};
-ghost use Rattle.tree_index.specs.Walk.{held, rest, IsOwn, IsPassed};
+ghost use Rattle.tree_index.specs.Walk.{pairs_in_leaf, rest, IsOwnLeaf, IsPassed};
 
 use crate::arenas::Arenas;
 use crate::prune::Fork;
@@ -37,9 +37,9 @@ impl<K: Ord, V> Arenas<K, V> {
     /// The fork above a leaf whose pairs lie within two bounds, if it has some, and there is one.
     fn fork_within(&self, at: usize, lower: &Bound<&K>, upper: &Bound<&K>) -> Option<Fork>
         requires sound { IsSound K.cmp self.now }
-        requires own { IsOwn self.now (Some at) }
+        requires own { IsOwnLeaf self.now (Some at) }
         ensures fork { IfSome result (λ f. (key : K) × IsFork K.cmp key self.now f × (at ≡ leaf_on_way K.cmp key self.now)) }
-        ensures within { IfSome result (λ f. AllKeys (λ k. range_contains K.cmp (bound_map (λ k. k.now) lower.now) (bound_map (λ k. k.now) upper.now) k ≡ true) (held self.now at)) }
+        ensures within { IfSome result (λ f. AllKeys (λ k. range_contains K.cmp (bound_map (λ k. k.now) lower.now) (bound_map (λ k. k.now) upper.now) k ≡ true) (pairs_in_leaf self.now at)) }
     {
         match self.leaves.get(at) {
             Some(leaf) => {
@@ -66,11 +66,11 @@ impl<K: Ord, V> Arenas<K, V> {
         V: Drop,
         requires sound { IsSound K.cmp self.old }
         requires fork { (key : K) × IsFork K.cmp key self.old fork × (at ≡ leaf_on_way K.cmp key self.old) }
-        requires within { AllKeys (λ k. range_contains K.cmp (bound_map (λ k. k.now) lower) (bound_map (λ k. k.now) upper) k ≡ true) (held self.old at) }
-        requires own { IsOwn self.old (Some at) }
+        requires within { AllKeys (λ k. range_contains K.cmp (bound_map (λ k. k.now) lower) (bound_map (λ k. k.now) upper) k ≡ true) (pairs_in_leaf self.old at) }
+        requires own { IsOwnLeaf self.old (Some at) }
         requires passed { IsPassed (λ k. range_contains K.cmp (bound_map (λ k. k.now) lower) (bound_map (λ k. k.now) upper) k ≡ false) self.old (Some at) }
         ensures sound { IsSound K.cmp self.new }
-        ensures own { IsOwn self.new result }
+        ensures own { IsOwnLeaf self.new result }
         ensures passed { IsPassed (λ k. range_contains K.cmp (bound_map (λ k. k.now) lower.entry) (bound_map (λ k. k.now) upper.entry) k ≡ false) self.new result }
         ensures same { filter (λ p. not (range_contains K.cmp (bound_map (λ k. k.now) lower.entry) (bound_map (λ k. k.now) upper.entry) p.0)) (pairs_of self.new) ≡ filter (λ p. not (range_contains K.cmp (bound_map (λ k. k.now) lower.entry) (bound_map (λ k. k.now) upper.entry) p.0)) (pairs_of self.old) }
         ensures fewer { rest (leaves_of self.new) result < rest (leaves_of self.old) (Some at) }
@@ -89,7 +89,7 @@ impl<K: Ord, V> Arenas<K, V> {
     /// The leaf where the pairs within a lower bound begin, if there is one.
     fn leaf_from(&self, lower: &Bound<&K>) -> Option<usize>
         requires { IsSound K.cmp self.now }
-        ensures own { IsOwn self.now result }
+        ensures own { IsOwnLeaf self.now result }
         ensures passed { IsPassed (λ k. is_from_start K.cmp (bound_map (λ k. k.now) lower.now) k ≡ false) self.now result }
     {
         if self.height == 0 {
@@ -105,10 +105,10 @@ impl<K: Ord, V> Arenas<K, V> {
     /// pairs that are left there lie past the upper bound.
     fn remove_in(&mut self, at: usize, lower: Bound<&K>, upper: Bound<&K>) -> Option<usize>
         requires sound { IsSound K.cmp self.old }
-        requires own { IsOwn self.old (Some at) }
+        requires own { IsOwnLeaf self.old (Some at) }
         requires passed { IsPassed (λ k. range_contains K.cmp (bound_map (λ k. k.now) lower) (bound_map (λ k. k.now) upper) k ≡ false) self.old (Some at) }
         ensures sound { IsSound K.cmp self.new }
-        ensures own { IsOwn self.new result }
+        ensures own { IsOwnLeaf self.new result }
         ensures passed { IsPassed (λ k. range_contains K.cmp (bound_map (λ k. k.now) lower.entry) (bound_map (λ k. k.now) upper.entry) k ≡ false) self.new result }
         ensures same { filter (λ p. not (range_contains K.cmp (bound_map (λ k. k.now) lower.entry) (bound_map (λ k. k.now) upper.entry) p.0)) (pairs_of self.new) ≡ filter (λ p. not (range_contains K.cmp (bound_map (λ k. k.now) lower.entry) (bound_map (λ k. k.now) upper.entry) p.0)) (pairs_of self.old) }
         ensures order { leaves_of self.new ≡ leaves_of self.old }

@@ -4,10 +4,10 @@ ghost use Rattle.std.specs.Prelude.{◌≡◌, ◌≢◌, ◌≤◌, ◌<◌, �
 ghost use Rattle.std.specs.Option.{option_map};
 ghost use Rattle.leaf_array.specs.Values.{ClonesAreSame};
 ghost use Rattle.slab.specs.Slab.{get, HasRoomFor, slab_len};
-ghost use Rattle.tree_index.specs.Chain.{links, linked_in};
+ghost use Rattle.tree_index.specs.Chain.{leaf_links, linked_in};
 ghost use Rattle.tree_index.specs.Depth.{IsAbove, ascending_headroom};
 ghost use Rattle.tree_index.specs.Shape.{way};
-ghost use Rattle.tree_index.specs.Content.{content_of, pairs_of, IsSound, HasRoom, NodeHasRoom, IsNodeFull, IsLeafFull, IsSplitPointThere, AreSameArrays, leaf_on_way};
+ghost use Rattle.tree_index.specs.Content.{content_of, pairs_of, IsSound, LeafHasRoom, NodeHasRoom, IsNodeFull, IsLeafFull, IsSplitPointThere, AreSameArrays, leaf_on_way};
 
 use crate::arenas::Arenas;
 use crate::leaf::{Leaf, SplitPoint};
@@ -38,10 +38,10 @@ impl<K: Ord, V> Arenas<K, V> {
         requires above { self.old.height ≢ 0 → above ≡ way K.cmp (content_of self.old) key.now (self.old.height - 1) self.old.root }
         requires on { at ≡ leaf_on_way K.cmp key.now self.old }
         requires clones { ClonesAreSame K.is_clone }
-        requires full { HasRoom K.cmp key.now self.old → ⊥ }
+        requires full { LeafHasRoom K.cmp key.now self.old → ⊥ }
         ensures sound { IsSound K.cmp self.new }
         ensures pairs { pairs_of self.new ≡ pairs_of self.old }
-        ensures room { OnOk result (HasRoom K.cmp key.now self.new) }
+        ensures room { OnOk result (LeafHasRoom K.cmp key.now self.new) }
         ensures on { IfOk result (λ n. n ≡ leaf_on_way K.cmp key.now self.new) }
         ensures refused { OnErr result (self.new.height ≡ self.old.height) }
         ensures ascending_headroom { OnErr result (ascending_headroom K.cmp self.new ≡ ascending_headroom K.cmp self.old) }
@@ -73,7 +73,7 @@ impl<K: Ord, V> Arenas<K, V> {
         requires bare { self.old.height ≡ 0 }
         ensures sound { IsSound K.cmp self.new }
         ensures pairs { pairs_of self.new ≡ pairs_of self.old }
-        ensures room { OnOk result (HasRoom K.cmp key.now self.new) }
+        ensures room { OnOk result (LeafHasRoom K.cmp key.now self.new) }
         ensures on { IfOk result (λ n. n ≡ leaf_on_way K.cmp key.now self.new) }
         ensures refused { OnErr result (self.new.height ≡ self.old.height) }
         ensures ascending_headroom { OnErr result (ascending_headroom K.cmp self.new ≡ ascending_headroom K.cmp self.old) }
@@ -101,7 +101,7 @@ impl<K: Ord, V> Arenas<K, V> {
         requires planted { self.now.height ≢ 0 }
         requires on { at ≡ leaf_on_way K.cmp key.now self.now }
         ensures crowded { IfSome (get self.now.leaves (leaf_on_way K.cmp key.now self.now)) (λ l. result ≡ not (nat_lt (length l.array.pairs) 12)) }
-        ensures full { result ≡ true → (HasRoom K.cmp key.now self.now → ⊥) → IsLeafFull K.cmp key.now self.now }
+        ensures full { result ≡ true → (LeafHasRoom K.cmp key.now self.now → ⊥) → IsLeafFull K.cmp key.now self.now }
     {
         let _ = key;
         match self.leaves.get(at) {
@@ -121,7 +121,7 @@ impl<K: Ord, V> Arenas<K, V> {
         requires sparse { IfSome (get self.old.leaves (leaf_on_way K.cmp key.now self.old)) (λ l. length l.array.pairs < 12) }
         ensures sound { IsSound K.cmp self.new }
         ensures pairs { pairs_of self.new ≡ pairs_of self.old }
-        ensures room { HasRoom K.cmp key.now self.new }
+        ensures room { LeafHasRoom K.cmp key.now self.new }
         ensures on { at ≡ leaf_on_way K.cmp key.now self.new }
         ensures height { self.new.height ≡ self.old.height }
         ensures ascending { ascending_headroom K.cmp self.old ≤ ascending_headroom K.cmp self.new }
@@ -282,7 +282,7 @@ impl<K: Ord, V> Arenas<K, V> {
         requires room { HasRoomFor self.old.leaves 1 }
         ensures sound { IsSound K.cmp self.new }
         ensures pairs { pairs_of self.new ≡ pairs_of self.old }
-        ensures room { HasRoom K.cmp key.now self.new }
+        ensures room { LeafHasRoom K.cmp key.now self.new }
         ensures on { result ≡ leaf_on_way K.cmp key.now self.new }
         ensures ascending { IsAbove K.cmp key.now (pairs_of self.old) → IsLeafFull K.cmp key.now self.old → 1 < ascending_headroom K.cmp self.old → ascending_headroom K.cmp self.old ≤ ascending_headroom K.cmp self.new }
     {
@@ -318,7 +318,7 @@ fn link<K: Ord, V>(
     behind: usize,
 )
     ensures arrays { AreSameArrays leaves.old leaves.new }
-    ensures links { (n : ℕ) → links leaves.new n ≡ linked_in fresh before behind (links leaves.old) n }
+    ensures links { (n : ℕ) → leaf_links leaves.new n ≡ linked_in fresh before behind (leaf_links leaves.old) n }
 {
     set_prev(leaves, behind, fresh);
     if let Some(at) = before {
@@ -329,7 +329,7 @@ fn link<K: Ord, V>(
 /// Names the leaf before one, if that is there.
 fn set_prev<K: Ord, V>(leaves: &mut Slab<Leaf<K, V>>, at: usize, prev: usize)
     ensures arrays { AreSameArrays leaves.old leaves.new }
-    ensures links { (n : ℕ) → links leaves.new n ≡ linked_in prev None at (links leaves.old) n }
+    ensures links { (n : ℕ) → leaf_links leaves.new n ≡ linked_in prev None at (leaf_links leaves.old) n }
 {
     if let Some(leaf) = leaves.get_mut(at) {
         leaf.prev = Some(prev);
@@ -339,7 +339,7 @@ fn set_prev<K: Ord, V>(leaves: &mut Slab<Leaf<K, V>>, at: usize, prev: usize)
 /// Names the leaf behind one, if that is there.
 fn set_next<K: Ord, V>(leaves: &mut Slab<Leaf<K, V>>, at: usize, next: usize)
     ensures arrays { AreSameArrays leaves.old leaves.new }
-    ensures links { (n : ℕ) → links leaves.new n ≡ option_map (λ l. (l.0, cond (at == n) (Some next) l.1)) (links leaves.old n) }
+    ensures links { (n : ℕ) → leaf_links leaves.new n ≡ option_map (λ l. (l.0, cond (at == n) (Some next) l.1)) (leaf_links leaves.old n) }
 {
     if let Some(leaf) = leaves.get_mut(at) {
         leaf.next = Some(next);

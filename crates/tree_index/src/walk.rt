@@ -6,7 +6,7 @@ ghost use Rattle.std.specs.declared.ops.Bound.TheVariants.{Included, Excluded, U
 ghost use Rattle.tree_index.specs.Chain.{first_or};
 ghost use Rattle.tree_index.specs.Content.{pairs_of, leaves_of, IsSound};
 ghost use Rattle.tree_index.specs.Cursor.{before_start, up_to_end};
-ghost use Rattle.tree_index.specs.Walk.{position, starts_at, ends_at, IsOwn, IsInsertionPoint, IsPosition};
+ghost use Rattle.tree_index.specs.Walk.{position, starts_at, ends_at, IsOwnLeaf, IsInsertionPoint, IsPosition};
 
 use crate::arenas::Arenas;
 use crate::leaf::Leaf;
@@ -39,7 +39,7 @@ impl<K: Ord, V> Arenas<K, V> {
     /// The first leaf, if one is planted.
     pub(crate) fn first_leaf(&self) -> Option<usize>
         requires { IsSound K.cmp self.now }
-        ensures own { IsOwn self.now result }
+        ensures own { IsOwnLeaf self.now result }
         ensures first { starts_at self.now result ≡ 0 }
     {
         if self.height == 0 {
@@ -60,7 +60,7 @@ impl<K: Ord, V> Arenas<K, V> {
     /// The last leaf, if one is planted.
     pub(crate) fn last_leaf(&self) -> Option<usize>
         requires { IsSound K.cmp self.now }
-        ensures own { IsOwn self.now result }
+        ensures own { IsOwnLeaf self.now result }
         ensures last { ends_at self.now result ≡ length (pairs_of self.now) }
         ensures order { IfSome result (λ n. (fore : List ℕ) × (leaves_of self.now ≡ fore ++ n ∷ [])) }
     {
@@ -84,7 +84,7 @@ impl<K: Ord, V> Arenas<K, V> {
     #[inline(never)]
     pub(crate) fn first_from(&self, from: Option<usize>) -> Option<Position<'_, K, V>>
         requires sound { IsSound K.cmp self.now }
-        requires own { IsOwn self.now from }
+        requires own { IsOwnLeaf self.now from }
         ensures none { IfNone result (starts_at self.now from ≡ length (pairs_of self.now)) }
         ensures spot { IfSome result (λ s. IsPosition self.now s) }
         ensures there { IfSome result (λ s. position self.now s ≡ starts_at self.now from) }
@@ -108,7 +108,7 @@ impl<K: Ord, V> Arenas<K, V> {
     /// The last pair of the leaf with this number and those before it.
     pub(crate) fn last_from(&self, from: Option<usize>) -> Option<Position<'_, K, V>>
         requires sound { IsSound K.cmp self.now }
-        requires own { IsOwn self.now from }
+        requires own { IsOwnLeaf self.now from }
         ensures none { IfNone result (ends_at self.now from ≡ 0) }
         ensures spot { IfSome result (λ s. IsPosition self.now s) }
         ensures there { IfSome result (λ s. position self.now s + 1 ≡ ends_at self.now from) }

@@ -6,7 +6,7 @@ ghost use Rattle.sdd_base.specs.Counting.{Counted};
 ghost use Rattle.sdd_base.specs.Holding.{Hold, SharedIn, SharedItem};
 ghost use Rattle.sdd_base.specs.Place.{IsOpen};
 ghost use Rattle.sdd_base.specs.State.{value_at};
-ghost use Rattle.sdd_base.specs.Tokens.{participant_of, shared_cell, shared_slot};
+ghost use Rattle.sdd_base.specs.Tokens.{guard_participant, shared_cell, shared_slot};
 ghost use Rattle.std.specs.List.{All};
 ghost use Rattle.versions.specs.Items.{held_by, slots_of};
 ghost use Rattle.versions.specs.Placing.{CanBeShared, IsPlaceable};
@@ -383,7 +383,7 @@ fn begin_reading<R: Abort>(
     requires root { (hand : List Hold) × Counted held_by (SharedIn (shared_cell root.now) ∷ hand) w.old }
     ensures participants { 1 < length w.new.participants }
     ensures reader { IsOpen w.new 0 }
-    ensures guard { participant_of result.0 ≡ 0 }
+    ensures guard { guard_participant result.0 ≡ 0 }
     ensures counted { (hand : List Hold) → Counted held_by hand w.old → Counted held_by hand w.new }
 {
     w.laws();
@@ -400,7 +400,7 @@ fn begin_reading<R: Abort>(
 fn end_reading(w: &mut World<Two, NoJob>, reading: WorldGuard)
     requires participants { 1 < length w.old.participants }
     requires reader { IsOpen w.old 0 }
-    requires guard { participant_of reading ≡ 0 }
+    requires guard { guard_participant reading ≡ 0 }
     ensures participants { 1 < length w.new.participants }
     ensures counted { (hand : List Hold) → Counted held_by hand w.old → Counted held_by hand w.new }
 {

@@ -5,9 +5,9 @@ use Rattle.std.proofs.lemmas.List.{length-map, length-take}
 use Rattle.sdd_base.specs.Tokens.{kept_slot}
 use Rattle.sdd_base.specs.declared.owner.Kept.{Kept}
 use Rattle.versions.specs.Cuts.{IsCut, IsSeparated, greatest_key, pairs_in}
-use Rattle.versions.specs.Items.{owners_of}
+use Rattle.versions.specs.Items.{segment_owners}
 use Rattle.versions.specs.SeparatorSearch.{IsOrdered}
-use Rattle.versions.specs.Versions.{IsSegment, IsVersion, blocks_of, pairs_of}
+use Rattle.versions.specs.Versions.{IsSegment, IsVersion, blocks_of, segment_pairs}
 use Rattle.versions.specs.Views.{IsView, blocks_at}
 use Rattle.versions.specs.declared.directory.Directory.{Directory}
 use Rattle.versions.specs.declared.item.Item.{Item}
@@ -34,14 +34,14 @@ module _ {K V : Type 0} {s : ℕ} (cmp : K → K → Ordering) (at : ℕ → Opt
   has_at k = IsSegment (at (kept_slot k))
 
   abbrev pub pairs_at : Kept → List (K × V)
-  pairs_at k = pairs_of (at (kept_slot k))
+  pairs_at k = segment_pairs (at (kept_slot k))
 
   pub viewed_blocks : blocks_of at d ≡ blocks_at pairs_at d
-  viewed_blocks = map-map (λ i. pairs_of (at i)) kept_slot (owners_of d)
+  viewed_blocks = map-map (λ i. segment_pairs (at i)) kept_slot (segment_owners d)
 
   pub version_viewed : IsVersion cmp at d → IsView cmp has_at pairs_at d
   version_viewed v = record {
-    segments = λ k e h. let long = length-map (owners_of d) kept_slot in subst (λ i. IsSegment (at i)) (get_map kept_slot (owners_of d) k 0 e h) (v.segments k 0 (omega (arith, long, h)));
+    segments = λ k e h. let long = length-map (segment_owners d) kept_slot in subst (λ i. IsSegment (at i)) (get_map kept_slot (segment_owners d) k 0 e h) (v.segments k 0 (omega (arith, long, h)));
     ordered = subst (λ bs. IsOrdered cmp bs d.separators.items) viewed_blocks (record { some = λ k e h. (v.cut.sizes k e h).0; rising = v.cut.rising; separated = v.cut.separated });
     counted = v.counted ∙ ap (λ bs. length (pairs_in bs)) viewed_blocks;
   }

@@ -16,9 +16,9 @@ use Rattle.std.specs.declared.ops.Bound.{Bound}
 use Rattle.std.specs.declared.ops.Bound.TheVariants.{Unbounded}
 use Rattle.tree_index.specs.declared.cursor.End.{End}
 use Rattle.tree_index.specs.declared.cursor.End.TheVariants.{Unopened, At, Done}
-use Rattle.tree_index.specs.Cursor.{Cursor, whole, forth, back, before_start, up_to_end, kept_above, kept_below, lies_before, moved_back, moved_forth, next_back_of, next_of, pair_at, deref_pair, shown, shown_back}
+use Rattle.tree_index.specs.Cursor.{Cursor, whole, forth, back, before_start, up_to_end, kept_above, kept_below, lies_before, moved_back, moved_forth, next_back_of, next_of, pair_at, deref_pair, shown_forth, shown_back}
 use Rattle.versions.specs.Cuts.{pairs_in}
-use Rattle.versions.specs.CursorEnds.{fore_place, further, pairs_before, rear_place, AreRising, IsFore, IsForeAt, IsPairAt, IsRear, IsRearAt}
+use Rattle.versions.specs.CursorEnds.{fore_place, further, pairs_before_block, rear_place, AreRising, IsFore, IsForeAt, IsPairAt, IsRear, IsRearAt}
 use Rattle.versions.specs.declared.read.position.CursorEnd.TheVariants as cursor_ends
 use Rattle.versions.specs.declared.read.position.Position.{Position}
 use Rattle.versions.proofs.PlaceLemmas.{next_before, pair_in, place_inside_all}
@@ -83,7 +83,7 @@ module _ {K V : Type 0} (cmp : K → K → Ordering) where
       ]
 
   module _ (blocks : List (List (K × V))) (i : ℕ) (b : List (K × V)) (here : slice_get blocks i ≡ Some b) (n : ℕ) where
-    pub fore_at : (s : ℕ) (c : Cursor K V) → c ≡ whole b (At s) Unopened → s < length b → n ≡ pairs_before blocks i + s → IsForeAt blocks n (record { segment = i; cursor = c })
+    pub fore_at : (s : ℕ) (c : Cursor K V) → c ≡ whole b (At s) Unopened → s < length b → n ≡ pairs_before_block blocks i + s → IsForeAt blocks n (record { segment = i; cursor = c })
     fore_at s c e h at =
         subst (λ c. IsForeAt blocks n (record { segment = i; cursor = c })) (sym e) (record {
           stands = record { place = s; here = here; within = h; is = refl };
@@ -91,9 +91,9 @@ module _ {K V : Type 0} (cmp : K → K → Ordering) where
           place = ap (λ m. At m) (sym at);
         })
 
-    pub rear_at : (s : ℕ) (c : Cursor K V) → c ≡ whole b Unopened (At (s - 1)) → 0 < s → s ≤ length b → n ≡ pairs_before blocks i + s → IsRearAt blocks n (record { segment = i; cursor = c })
+    pub rear_at : (s : ℕ) (c : Cursor K V) → c ≡ whole b Unopened (At (s - 1)) → 0 < s → s ≤ length b → n ≡ pairs_before_block blocks i + s → IsRearAt blocks n (record { segment = i; cursor = c })
     rear_at s c e some h at =
-        let same : pairs_before blocks i + (s - 1) ≡ n - 1 = omega (arith, some, at) in
+        let same : pairs_before_block blocks i + (s - 1) ≡ n - 1 = omega (arith, some, at) in
         subst (λ c. IsRearAt blocks n (record { segment = i; cursor = c })) (sym e) (record {
           stands = record { place = s - 1; here = here; within = omega (arith, some, h); is = refl };
           alone = refl;
@@ -102,7 +102,7 @@ module _ {K V : Type 0} (cmp : K → K → Ordering) where
         })
 
     module _ (r : Option (Bor K × Bor V)) where
-      pub found_fore : (lower : Bound K) → n ≡ pairs_before blocks i + before_start cmp lower b → deref_pair r ≡ next_of cmp (from_bound lower b) → (pair : Bor K × Bor V) → r ≡ Some pair → (c : Cursor K V) → c ≡ whole b (forth cmp lower b Unopened) Unopened → IsForeAt blocks n (record { segment = i; cursor = c }) × IsPairAt blocks n pair
+      pub found_fore : (lower : Bound K) → n ≡ pairs_before_block blocks i + before_start cmp lower b → deref_pair r ≡ next_of cmp (from_bound lower b) → (pair : Bor K × Bor V) → r ≡ Some pair → (c : Cursor K V) → c ≡ whole b (forth cmp lower b Unopened) Unopened → IsForeAt blocks n (record { segment = i; cursor = c }) × IsPairAt blocks n pair
       found_fore lower starts answer pair is c e =
           let told : Some (pair.0.now, pair.1.now) ≡ next_of cmp (from_bound lower b) = sym (ap deref_pair is) ∙ answer in
           elim (first_step lower b) [
@@ -118,13 +118,13 @@ module _ {K V : Type 0} (cmp : K → K → Ordering) where
         | inr d ↦ d.0
       ]
 
-      pub found_rear : (upper : Bound K) → n ≡ pairs_before blocks i + up_to_end cmp upper b → deref_pair r ≡ next_back_of cmp (upto_bound upper b) → (pair : Bor K × Bor V) → r ≡ Some pair → (c : Cursor K V) → c ≡ whole b Unopened (back cmp upper b Unopened) → IsRearAt blocks n (record { segment = i; cursor = c }) × IsPairAt blocks (n - 1) pair
+      pub found_rear : (upper : Bound K) → n ≡ pairs_before_block blocks i + up_to_end cmp upper b → deref_pair r ≡ next_back_of cmp (upto_bound upper b) → (pair : Bor K × Bor V) → r ≡ Some pair → (c : Cursor K V) → c ≡ whole b Unopened (back cmp upper b Unopened) → IsRearAt blocks n (record { segment = i; cursor = c }) × IsPairAt blocks (n - 1) pair
       found_rear upper ends answer pair is c e =
           let told : Some (pair.0.now, pair.1.now) ≡ next_back_of cmp (upto_bound upper b) = sym (ap deref_pair is) ∙ answer in
           let last = up_to_end cmp upper b in
           elim (last_step upper b) [
             | inl d ↦
-                let same : n - 1 ≡ pairs_before blocks i + (last - 1) = omega (arith, d.0, ends) in
+                let same : n - 1 ≡ pairs_before_block blocks i + (last - 1) = omega (arith, d.0, ends) in
                 let most = end_all upper b in
                 (rear_at last c (e ∙ ap (λ f. whole b Unopened f) d.1) d.0 most ends, ap (slice_get (pairs_in blocks)) same ∙ pair_in blocks i b here (last - 1) (omega (arith, d.0, most)) ∙ sym (told ∙ d.2))
             | inr d ↦ absurd (some_none (told ∙ d.1))
@@ -143,19 +143,19 @@ module _ {K V : Type 0} (cmp : K → K → Ordering) where
 
 module _ {K V : Type 0} (cmp : K → K → Ordering) (blocks : List (List (K × V))) (s : Position K V) where
   -- the pair of an end is the one at its place
-  pub fore_pair : (h : IsFore blocks s) → (fore_place blocks (cursor_ends.At s) ≡ At (pairs_before blocks s.segment + h.place)) × (shown cmp s.cursor ≡ slice_get (pairs_in blocks) (pairs_before blocks s.segment + h.place))
+  pub fore_pair : (h : IsFore blocks s) → (fore_place blocks (cursor_ends.At s) ≡ At (pairs_before_block blocks s.segment + h.place)) × (shown_forth cmp s.cursor ≡ slice_get (pairs_in blocks) (pairs_before_block blocks s.segment + h.place))
   fore_pair h = (
-    ap (λ (c : Cursor K V). further (pairs_before blocks s.segment) c.forward) h.is,
-    ap (shown cmp) h.is ∙ kept_all cmp (slice_get s.cursor.pairs h.place) ∙ sym (pair_in blocks s.segment s.cursor.pairs h.here h.place h.within),
+    ap (λ (c : Cursor K V). further (pairs_before_block blocks s.segment) c.forward) h.is,
+    ap (shown_forth cmp) h.is ∙ kept_all cmp (slice_get s.cursor.pairs h.place) ∙ sym (pair_in blocks s.segment s.cursor.pairs h.here h.place h.within),
   )
 
-  pub rear_pair : (h : IsRear blocks s) → (rear_place blocks (cursor_ends.At s) ≡ At (pairs_before blocks s.segment + h.place)) × (shown_back cmp s.cursor ≡ slice_get (pairs_in blocks) (pairs_before blocks s.segment + h.place))
+  pub rear_pair : (h : IsRear blocks s) → (rear_place blocks (cursor_ends.At s) ≡ At (pairs_before_block blocks s.segment + h.place)) × (shown_back cmp s.cursor ≡ slice_get (pairs_in blocks) (pairs_before_block blocks s.segment + h.place))
   rear_pair h = (
-    ap (λ (c : Cursor K V). further (pairs_before blocks s.segment) c.backward) h.is,
+    ap (λ (c : Cursor K V). further (pairs_before_block blocks s.segment) c.backward) h.is,
     ap (shown_back cmp) h.is ∙ above_all cmp (slice_get s.cursor.pairs h.place) ∙ sym (pair_in blocks s.segment s.cursor.pairs h.here h.place h.within),
   )
 
-  pub fore_shows : IsFore blocks s → pair_at (pairs_in blocks) (fore_place blocks (cursor_ends.At s)) ≡ shown cmp s.cursor
+  pub fore_shows : IsFore blocks s → pair_at (pairs_in blocks) (fore_place blocks (cursor_ends.At s)) ≡ shown_forth cmp s.cursor
   fore_shows h = ap (pair_at (pairs_in blocks)) (fore_pair h).0 ∙ sym (fore_pair h).1
 
   pub rear_shows : IsRear blocks s → pair_at (pairs_in blocks) (rear_place blocks (cursor_ends.At s)) ≡ shown_back cmp s.cursor
@@ -165,7 +165,7 @@ module _ {K V : Type 0} (cmp : K → K → Ordering) (blocks : List (List (K × 
     pub stands : IsFore blocks t
     pub alone : t.cursor.backward ≡ s.cursor.backward
     pub place : (lower : Bound K) → fore_place blocks (cursor_ends.At t) ≡ forth cmp lower (pairs_in blocks) (fore_place blocks (cursor_ends.At s))
-    pub pair : shown cmp t.cursor ≡ pair_at (pairs_in blocks) (fore_place blocks (cursor_ends.At t))
+    pub pair : shown_forth cmp t.cursor ≡ pair_at (pairs_in blocks) (fore_place blocks (cursor_ends.At t))
 
   pub record IsRearStep (t : Position K V) : Type 0 where
     pub stands : IsRear blocks t
@@ -179,11 +179,11 @@ module _ {K V : Type 0} (cmp : K → K → Ordering) (blocks : List (List (K × 
     told P c e h = subst (λ n. P (record { segment = n; cursor = t.cursor })) (sym same) (subst (λ d. P (record { segment = s.segment; cursor = d })) (sym e) h)
 
     -- it goes to the next pair of its segment, or stood at the last one
-    pub stepped_fore : (h : IsFore blocks s) → t.cursor ≡ moved_forth cmp s.cursor → IsForeStep t ⊎ (shown cmp t.cursor ≡ None) × (pairs_before blocks (s.segment + 1) ≡ pairs_before blocks s.segment + h.place + 1)
+    pub stepped_fore : (h : IsFore blocks s) → t.cursor ≡ moved_forth cmp s.cursor → IsForeStep t ⊎ (shown_forth cmp t.cursor ≡ None) × (pairs_before_block blocks (s.segment + 1) ≡ pairs_before_block blocks s.segment + h.place + 1)
     stepped_fore h e =
         let b = s.cursor.pairs in
         let p = h.place in
-        let before = pairs_before blocks s.segment in
+        let before = pairs_before_block blocks s.segment in
         let moved = e ∙ ap (moved_forth cmp) h.is in
         elim (leb_tells (suc (p + 1)) (length b)) [
           | inl d ↦
@@ -197,14 +197,14 @@ module _ {K V : Type 0} (cmp : K → K → Ordering) (blocks : List (List (K × 
               }))
           | inr d ↦
               let out : length b ≤ p + 1 = omega (arith, d.1) in
-              inr (ap (shown cmp) (moved ∙ ap (λ f. whole b f s.cursor.backward) (on_more (p + 1) (length b) (At (p + 1)) Done out)), omega (arith, next_before blocks s.segment b h.here, out, h.within))
+              inr (ap (shown_forth cmp) (moved ∙ ap (λ f. whole b f s.cursor.backward) (on_more (p + 1) (length b) (At (p + 1)) Done out)), omega (arith, next_before blocks s.segment b h.here, out, h.within))
         ]
 
     pub stepped_rear : (h : IsRear blocks s) → t.cursor ≡ moved_back cmp s.cursor → IsRearStep t ⊎ (shown_back cmp t.cursor ≡ None) × (h.place ≡ 0)
     stepped_rear h e =
         let b = s.cursor.pairs in
         let p = h.place in
-        let before = pairs_before blocks s.segment in
+        let before = pairs_before_block blocks s.segment in
         let moved = e ∙ ap (moved_back cmp) h.is in
         elim (leb_tells 1 p) [
           | inl d ↦
@@ -223,24 +223,24 @@ module _ {K V : Type 0} (cmp : K → K → Ordering) (blocks : List (List (K × 
         ]
 
   -- such an end shows a pair
-  pub fore_shown : IsFore blocks s → shown cmp s.cursor ≡ None → ⊥
-  fore_shown h none = some_none (sym (get_some s.cursor.pairs h.place h.within).1 ∙ sym (ap (shown cmp) h.is ∙ kept_all cmp (slice_get s.cursor.pairs h.place)) ∙ none)
+  pub fore_shown : IsFore blocks s → shown_forth cmp s.cursor ≡ None → ⊥
+  fore_shown h none = some_none (sym (get_some s.cursor.pairs h.place h.within).1 ∙ sym (ap (shown_forth cmp) h.is ∙ kept_all cmp (slice_get s.cursor.pairs h.place)) ∙ none)
 
   pub rear_shown : IsRear blocks s → shown_back cmp s.cursor ≡ None → ⊥
   rear_shown h none = some_none (sym (get_some s.cursor.pairs h.place h.within).1 ∙ sym (ap (shown_back cmp) h.is ∙ above_all cmp (slice_get s.cursor.pairs h.place)) ∙ none)
 
 module _ {K V : Type 0} (cmp : K → K → Ordering) (blocks : List (List (K × V))) (s t : Position K V) (same : t.segment ≡ s.segment) (r : Option (Bor K × Bor V)) where
   -- a step that gives a pair stays in its segment, and one that gives none leaves it
-  pub stays_fore : IsFore blocks s → t.cursor ≡ moved_forth cmp s.cursor → deref_pair r ≡ shown cmp t.cursor → (pair : Bor K × Bor V) → r ≡ Some pair → IsForeStep cmp blocks s t
+  pub stays_fore : IsFore blocks s → t.cursor ≡ moved_forth cmp s.cursor → deref_pair r ≡ shown_forth cmp t.cursor → (pair : Bor K × Bor V) → r ≡ Some pair → IsForeStep cmp blocks s t
   stays_fore h e answer pair is = elim (stepped_fore cmp blocks s t same h e) [
     | inl d ↦ d
     | inr d ↦ absurd (some_none (sym (ap deref_pair is) ∙ answer ∙ d.0))
   ]
 
-  pub leaves_fore : (h : IsFore blocks s) → t.cursor ≡ moved_forth cmp s.cursor → deref_pair r ≡ shown cmp t.cursor → r ≡ None → pairs_before blocks (t.segment + 1) ≡ pairs_before blocks s.segment + h.place + 1
+  pub leaves_fore : (h : IsFore blocks s) → t.cursor ≡ moved_forth cmp s.cursor → deref_pair r ≡ shown_forth cmp t.cursor → r ≡ None → pairs_before_block blocks (t.segment + 1) ≡ pairs_before_block blocks s.segment + h.place + 1
   leaves_fore h e answer is = elim (stepped_fore cmp blocks s t same h e) [
     | inl d ↦ absurd (fore_shown cmp blocks t d.stands (sym answer ∙ ap deref_pair is))
-    | inr d ↦ ap (λ i. pairs_before blocks (i + 1)) same ∙ d.1
+    | inr d ↦ ap (λ i. pairs_before_block blocks (i + 1)) same ∙ d.1
   ]
 
   pub stays_rear : IsRear blocks s → t.cursor ≡ moved_back cmp s.cursor → deref_pair r ≡ shown_back cmp t.cursor → (pair : Bor K × Bor V) → r ≡ Some pair → IsRearStep cmp blocks s t
@@ -249,10 +249,10 @@ module _ {K V : Type 0} (cmp : K → K → Ordering) (blocks : List (List (K × 
     | inr d ↦ absurd (some_none (sym (ap deref_pair is) ∙ answer ∙ d.0))
   ]
 
-  pub leaves_rear : (h : IsRear blocks s) → t.cursor ≡ moved_back cmp s.cursor → deref_pair r ≡ shown_back cmp t.cursor → r ≡ None → pairs_before blocks t.segment ≡ pairs_before blocks s.segment + h.place
+  pub leaves_rear : (h : IsRear blocks s) → t.cursor ≡ moved_back cmp s.cursor → deref_pair r ≡ shown_back cmp t.cursor → r ≡ None → pairs_before_block blocks t.segment ≡ pairs_before_block blocks s.segment + h.place
   leaves_rear h e answer is = elim (stepped_rear cmp blocks s t same h e) [
     | inl d ↦ absurd (rear_shown cmp blocks t d.stands (sym answer ∙ ap deref_pair is))
-    | inr d ↦ ap (pairs_before blocks) same ∙ omega (arith, d.1)
+    | inr d ↦ ap (pairs_before_block blocks) same ∙ omega (arith, d.1)
   ]
 
 -- keys tell which of two places comes first

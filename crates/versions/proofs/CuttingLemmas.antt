@@ -11,9 +11,9 @@ use Rattle.std.specs.List.{All}
 use Rattle.leaf_array.specs.Pairs.{IsAscending}
 use Rattle.tree_index.specs.Depth.{IsAbove}
 use Rattle.versions.specs.Cuts.{greatest_key, pairs_in, IsTight}
-use Rattle.versions.specs.Cutting.{IsClosing, IsCutting, IsFilled, IsHeld, IsHeldAt, IsRow, IsSized, StaysApart, given, last_size, one_open, spent, trees}
+use Rattle.versions.specs.Cutting.{IsClosing, IsCutting, GivesNoMoreThanRead, IsHeld, IsHeldAt, IsSegmentRow, IsSegmentSized, StaysApart, given_pairs, last_size, one_open, room_spent, trees}
 use Rattle.tree_index.specs.Tree.{Tree}
-use Rattle.versions.specs.Parts.{IsMade, blocks_of_parts, made_in, makes, part_pairs}
+use Rattle.versions.specs.Parts.{HasMadeTree, blocks_of_parts, made_in, makes, part_pairs}
 use Rattle.versions.specs.declared.building.segments.Part.{Part}
 use Rattle.versions.specs.declared.building.segments.Part.TheVariants as parts
 use Rattle.versions.specs.declared.building.segments.Row.{Row}
@@ -25,16 +25,16 @@ use Rattle.versions.proofs.FilterLemmas.{rising_under, rising_none, rising_front
 
 module _ {K V : Type 0} where
   -- a block goes behind blocks that don't fit into one with it
-  pub tight_next : (s : ℕ) (bs : List (List (K × V))) (b : List (K × V)) → All (IsSized s) bs → IsTight s bs → ((last_size bs ≡ 0) ⊎ (s < last_size bs + length b)) → IsTight s (bs ++ b ∷ [])
+  pub tight_next : (s : ℕ) (bs : List (List (K × V))) (b : List (K × V)) → All (IsSegmentSized s) bs → IsTight s bs → ((last_size bs ≡ 0) ⊎ (s < last_size bs + length b)) → IsTight s (bs ++ b ∷ [])
   tight_next s [] b sizes t h = (tt, tt)
   tight_next s (c ∷ []) b sizes t h = (
     elim h [
-      | inl none ↦ let some = (All-head (IsSized s) c [] sizes).0 in absurd (omega (arith, none, some))
+      | inl none ↦ let some = (All-head (IsSegmentSized s) c [] sizes).0 in absurd (omega (arith, none, some))
       | inr more ↦ more
     ],
     (tt, tt),
   )
-  tight_next s (c ∷ (d ∷ bs)) b sizes t h = (t.0, tight_next s (d ∷ bs) b (All-tail (IsSized s) c (d ∷ bs) sizes) t.1 h)
+  tight_next s (c ∷ (d ∷ bs)) b sizes t h = (t.0, tight_next s (d ∷ bs) b (All-tail (IsSegmentSized s) c (d ∷ bs) sizes) t.1 h)
 
   -- a larger block in place of the last one
   pub tight_larger : (s : ℕ) (bs : List (List (K × V))) (b c : List (K × V)) → length b ≤ length c → IsTight s (bs ++ b ∷ []) → IsTight s (bs ++ c ∷ [])
@@ -88,7 +88,7 @@ module _ {K V N : Type 0} {cmp : K → K → Ordering} {named : N → List (K ×
       let last = h.row.last in
       let behind : (last_size (blocks_of_parts named c.row.parts.items) ≡ 0) ⊎ (s < last_size (blocks_of_parts named c.row.parts.items) + length c.tail.pairs) = subst (λ n. (n ≡ 0) ⊎ (s < n + length c.tail.pairs)) last apart in
       record {
-        sizes = All-push (IsSized s) (blocks_of_parts named c.row.parts.items) c.tail.pairs h.row.sizes (some, h.room);
+        sizes = All-push (IsSegmentSized s) (blocks_of_parts named c.row.parts.items) c.tail.pairs h.row.sizes (some, h.room);
         tight = tight_next s (blocks_of_parts named c.row.parts.items) c.tail.pairs h.row.sizes h.row.tight behind;
         separated = h.row.separated;
       }
@@ -108,7 +108,7 @@ module _ {K V N : Type 0} {cmp : K → K → Ordering} {named : N → List (K ×
     pub held_size : c.row.last ≡ length (named held_at.name)
     held_size = h.row.last ∙ (ap (λ ps. last_size (blocks_of_parts named ps)) held_at.is ∙ (ap last_size (blocks_behind named held_at.front (parts.Taken held_at.name)) ∙ last_behind (blocks_of_parts named held_at.front) (named held_at.name)))
 
-    held_pairs : given named c ≡ pairs_in (blocks_of_parts named held_at.front) ++ (named held_at.name ++ c.tail.pairs)
+    held_pairs : given_pairs named c ≡ pairs_in (blocks_of_parts named held_at.front) ++ (named held_at.name ++ c.tail.pairs)
     held_pairs = ap (λ ps. pairs_in (blocks_of_parts named ps) ++ c.tail.pairs) held_at.is ∙ (ap (λ bs. pairs_in bs ++ c.tail.pairs) (blocks_behind named held_at.front (parts.Taken held_at.name)) ∙ (ap (λ ps. ps ++ c.tail.pairs) (pairs_behind (blocks_of_parts named held_at.front) (named held_at.name)) ∙ append_assoc (pairs_in (blocks_of_parts named held_at.front)) (named held_at.name) c.tail.pairs))
 
     pub held_rising : IsAscending cmp (named held_at.name ++ c.tail.pairs)
@@ -126,16 +126,16 @@ module _ {K V N : Type 0} {cmp : K → K → Ordering} {named : N → List (K ×
       closing_joined =
           let long : length (named held_at.name ++ c.tail.pairs) ≡ length (named held_at.name) + length c.tail.pairs = length-append (named held_at.name) c.tail.pairs in
           let last = held_size in
-          let sized : IsSized s (named held_at.name ++ c.tail.pairs) = (omega (arith, long, some), omega (arith, long, fits, last)) in
+          let sized : IsSegmentSized s (named held_at.name ++ c.tail.pairs) = (omega (arith, long, some), omega (arith, long, fits, last)) in
           let blocks' : blocks_of_parts named c'.row.parts.items ++ c'.tail.pairs ∷ [] ≡ fore ++ (named held_at.name ++ c.tail.pairs) ∷ [] = ap (λ ps. blocks_of_parts named ps ++ c'.tail.pairs ∷ []) fewer ∙ ap (λ b. fore ++ b ∷ []) both in
           let shorter : take (length (blocks_of_parts named c.row.parts.items) - 1) (blocks_of_parts named c.row.parts.items) ≡ fore = popped fore (named held_at.name) (blocks_of_parts named c.row.parts.items) (take (length (blocks_of_parts named c.row.parts.items) - 1) (blocks_of_parts named c.row.parts.items)) (length (blocks_of_parts named c.row.parts.items)) whole refl refl in
           record {
-            sizes = subst (All (IsSized s)) (sym blocks') (All-push (IsSized s) fore (named held_at.name ++ c.tail.pairs) (all_fore (IsSized s) fore (named held_at.name ∷ []) (subst (All (IsSized s)) whole h.row.sizes)) sized);
+            sizes = subst (All (IsSegmentSized s)) (sym blocks') (All-push (IsSegmentSized s) fore (named held_at.name ++ c.tail.pairs) (all_fore (IsSegmentSized s) fore (named held_at.name ∷ []) (subst (All (IsSegmentSized s)) whole h.row.sizes)) sized);
             tight = subst (IsTight s) (sym blocks') (tight_larger s fore (named held_at.name) (named held_at.name ++ c.tail.pairs) (omega (arith, long)) (subst (IsTight s) whole h.row.tight));
             separated = less_separated c.row.separators.items c'.row.separators.items (blocks_of_parts named c.row.parts.items) n h.row.separated size less ∙ (ap (map greatest_key) shorter ∙ sym (ap (λ ps. map greatest_key (blocks_of_parts named ps)) fewer));
           }
 
-    pub given_joined : (items : List (Part K V N)) (tail : List (K × V)) → items ≡ held_at.front → tail ≡ named held_at.name ++ c.tail.pairs → pairs_in (blocks_of_parts named items) ++ tail ≡ given named c
+    pub given_joined : (items : List (Part K V N)) (tail : List (K × V)) → items ≡ held_at.front → tail ≡ named held_at.name ++ c.tail.pairs → pairs_in (blocks_of_parts named items) ++ tail ≡ given_pairs named c
     given_joined items tail fewer both = ap (λ ps. pairs_in (blocks_of_parts named ps) ++ tail) fewer ∙ (ap (λ b. pairs_in (blocks_of_parts named held_at.front) ++ b) both ∙ sym held_pairs)
 
     pub made_joined : (items : List (Part K V N)) → items ≡ held_at.front → made_in items ≡ made_in c.row.parts.items
@@ -148,9 +148,9 @@ module _ {K V N : Type 0} (named : N → List (K × V)) (front : List (Part K V 
   pub blocks_given : blocks_of_parts named row.parts.items ≡ blocks_of_parts named front ++ b ∷ []
   blocks_given = ap (blocks_of_parts named) items ∙ (blocks_behind named front p ∙ ap (λ c. blocks_of_parts named front ++ c ∷ []) same)
 
-  pub row_given : (s : ℕ) (keys : List K) → All (IsSized s) (blocks_of_parts named front ++ b ∷ []) → IsTight s (blocks_of_parts named front ++ b ∷ []) → map Some keys ≡ map greatest_key (blocks_of_parts named front) → map Some row.separators.items ≡ map Some keys ++ greatest_key b ∷ [] → row.last ≡ length b → IsRow named s row
+  pub row_given : (s : ℕ) (keys : List K) → All (IsSegmentSized s) (blocks_of_parts named front ++ b ∷ []) → IsTight s (blocks_of_parts named front ++ b ∷ []) → map Some keys ≡ map greatest_key (blocks_of_parts named front) → map Some row.separators.items ≡ map Some keys ++ greatest_key b ∷ [] → row.last ≡ length b → IsSegmentRow named s row
   row_given s keys sizes tight separated more last = record {
-    sizes = subst (All (IsSized s)) (sym blocks_given) sizes;
+    sizes = subst (All (IsSegmentSized s)) (sym blocks_given) sizes;
     tight = subst (IsTight s) (sym blocks_given) tight;
     separated = more ∙ (ap (λ ks. ks ++ greatest_key b ∷ []) separated ∙ (sym (map-append greatest_key (blocks_of_parts named front) (b ∷ [])) ∙ ap (map greatest_key) (sym blocks_given)));
     last = last ∙ (sym (last_behind (blocks_of_parts named front) b) ∙ ap last_size (sym blocks_given));
@@ -160,10 +160,10 @@ module _ {K V N : Type 0} (named : N → List (K × V)) (front : List (Part K V 
   pairs_given = ap pairs_in blocks_given ∙ pairs_behind (blocks_of_parts named front) b
 
 module _ {K V N : Type 0} {named : N → List (K × V)} {s : ℕ} (c : SegmentBuilder K V N) (h : IsClosing named s c) (row : Row K V N) (p : Part K V N) (tail : part_pairs named p ≡ c.tail.pairs) (items : row.parts.items ≡ c.row.parts.items ++ p ∷ []) where
-  pub row_closed : map Some row.separators.items ≡ map Some c.row.separators.items ++ greatest_key c.tail.pairs ∷ [] → row.last ≡ length c.tail.pairs → IsRow named s row
+  pub row_closed : map Some row.separators.items ≡ map Some c.row.separators.items ++ greatest_key c.tail.pairs ∷ [] → row.last ≡ length c.tail.pairs → IsSegmentRow named s row
   row_closed keys last = row_given named c.row.parts.items c.tail.pairs row p tail items s c.row.separators.items h.sizes h.tight h.separated keys last
 
-  pub pairs_closed : pairs_in (blocks_of_parts named row.parts.items) ≡ given named c
+  pub pairs_closed : pairs_in (blocks_of_parts named row.parts.items) ≡ given_pairs named c
   pairs_closed = pairs_given named c.row.parts.items c.tail.pairs row p tail items
 
   pub made_closed : makes p ≡ 1 → made_in row.parts.items ≡ made_in c.row.parts.items + 1
@@ -171,11 +171,11 @@ module _ {K V N : Type 0} {named : N → List (K × V)} {s : ℕ} (c : SegmentBu
 
 -- a part that was made has the pairs of its tree, and counts as one
 module _ {K V N : Type 0} (named : N → List (K × V)) (tree : Tree K V) where
-  pub made_pairs : (p : Part K V N) → IsMade tree p → part_pairs named p ≡ tree.pairs
+  pub made_pairs : (p : Part K V N) → HasMadeTree tree p → part_pairs named p ≡ tree.pairs
   made_pairs (parts.Taken n) h = absurd h
   made_pairs (parts.Made b) h = ap (λ (t : Tree K V). t.pairs) h
 
-  pub made_one : (p : Part K V N) → IsMade tree p → makes p ≡ 1
+  pub made_one : (p : Part K V N) → HasMadeTree tree p → makes p ≡ 1
   made_one (parts.Taken n) h = absurd h
   made_one (parts.Made b) h = refl
 
@@ -194,17 +194,17 @@ empty_of (x ∷ xs) h = absurd (omega (arith, h))
 
 -- ---- pairs are given
 
-module _ {K V N : Type 0} {cmp : K → K → Ordering} (o : IsTotalOrder cmp) {named : N → List (K × V)} {s : ℕ} {blocks : List (List (K × V))} {c : SegmentBuilder K V N} (h : IsCutting named cmp s blocks c) (key : K) (val : V) (up : IsAscending cmp (given named c ++ (key, val) ∷ [])) where
+module _ {K V N : Type 0} {cmp : K → K → Ordering} (o : IsTotalOrder cmp) {named : N → List (K × V)} {s : ℕ} {blocks : List (List (K × V))} {c : SegmentBuilder K V N} (h : IsCutting named cmp s blocks c) (key : K) (val : V) (up : IsAscending cmp (given_pairs named c ++ (key, val) ∷ [])) where
   -- the key is above those of the open tree
   pub above_tail : IsAbove cmp key c.tail.pairs
-  above_tail = all_rear (λ k. cmp k key ≡ Less) (pairs_in (blocks_of_parts named c.row.parts.items)) c.tail.pairs (rising_under cmp (given named c) (key, val) up)
+  above_tail = all_rear (λ k. cmp k key ≡ Less) (pairs_in (blocks_of_parts named c.row.parts.items)) c.tail.pairs (rising_under cmp (given_pairs named c) (key, val) up)
 
-  longer : length (given named c ++ (key, val) ∷ []) ≡ length (given named c) + 1
-  longer = length-append (given named c) ((key, val) ∷ [])
+  longer : length (given_pairs named c ++ (key, val) ∷ []) ≡ length (given_pairs named c) + 1
+  longer = length-append (given_pairs named c) ((key, val) ∷ [])
 
   -- it takes the pair
   module _ (c' : SegmentBuilder K V N) (row : c'.row ≡ c.row) (held : c'.held ≡ c.held) (tail : c'.tail.pairs ≡ c.tail.pairs ++ (key, val) ∷ []) where
-    pub given_more : given named c' ≡ given named c ++ (key, val) ∷ []
+    pub given_more : given_pairs named c' ≡ given_pairs named c ++ (key, val) ∷ []
     given_more = ap (λ (r : Row K V N). pairs_in (blocks_of_parts named r.parts.items) ++ c'.tail.pairs) row ∙ (ap (λ ps. pairs_in (blocks_of_parts named c.row.parts.items) ++ ps) tail ∙ sym (append_assoc (pairs_in (blocks_of_parts named c.row.parts.items)) c.tail.pairs ((key, val) ∷ [])))
 
     pub tail_more : length c'.tail.pairs ≡ length c.tail.pairs + 1
@@ -217,7 +217,7 @@ module _ {K V N : Type 0} {cmp : K → K → Ordering} (o : IsTotalOrder cmp) {n
         record {
           least = h.least;
           most = h.most;
-          row = subst (IsRow named s) (sym row) h.row;
+          row = subst (IsSegmentRow named s) (sym row) h.row;
           room = omega (arith, more, room);
           rising = subst (IsAscending cmp) (sym given_more) up;
           count = omega (arith, count, all, h.count);
@@ -225,7 +225,7 @@ module _ {K V N : Type 0} {cmp : K → K → Ordering} (o : IsTotalOrder cmp) {n
           fresh = λ none. subst (λ (r : Row K V N). (r.last ≡ 0) ⊎ (r.last ≡ s)) (sym row) (h.fresh (sym held ∙ none));
         }
 
-    pub spent_more : spent s c' ≡ spent s c + 1
+    pub spent_more : room_spent s c' ≡ room_spent s c + 1
     spent_more = let same = ap (λ (r : Row K V N). s * made_in r.parts.items) row in let more = tail_more in omega (arith, same, more)
 
   -- it is full
@@ -237,8 +237,8 @@ module _ {K V N : Type 0} {cmp : K → K → Ordering} (o : IsTotalOrder cmp) {n
 
   -- another one begins with the pair
   module _ (c' : SegmentBuilder K V N) (p : Part K V N) (was : part_pairs named p ≡ c.tail.pairs) (items : c'.row.parts.items ≡ c.row.parts.items ++ p ∷ []) (tail : c'.tail.pairs ≡ (key, val) ∷ []) where
-    pub given_next : given named c' ≡ given named c ++ (key, val) ∷ []
-    given_next = ap (λ ps. ps ++ c'.tail.pairs) (pairs_given named c.row.parts.items c.tail.pairs c'.row p was items) ∙ ap (λ ps. given named c ++ ps) tail
+    pub given_next : given_pairs named c' ≡ given_pairs named c ++ (key, val) ∷ []
+    given_next = ap (λ ps. ps ++ c'.tail.pairs) (pairs_given named c.row.parts.items c.tail.pairs c'.row p was items) ∙ ap (λ ps. given_pairs named c ++ ps) tail
 
     pub cutting_next : length c.tail.pairs ≡ s → map Some c'.row.separators.items ≡ map Some c.row.separators.items ++ greatest_key c.tail.pairs ∷ [] → c'.row.last ≡ length c.tail.pairs → c'.held ≡ None → c'.length ≡ c.length + 1 → IsCutting named cmp s blocks c'
     cutting_next full keys last none count =
@@ -256,7 +256,7 @@ module _ {K V N : Type 0} {cmp : K → K → Ordering} (o : IsTotalOrder cmp) {n
           fresh = λ e. inr (last ∙ full);
         }
 
-    pub spent_next : length c.tail.pairs ≡ s → makes p ≡ 1 → spent s c' ≡ spent s c + 1
+    pub spent_next : length c.tail.pairs ≡ s → makes p ≡ 1 → room_spent s c' ≡ room_spent s c + 1
     spent_next full one =
         let made : made_in c'.row.parts.items ≡ made_in c.row.parts.items + 1 = made_closed c (closing_full full) c'.row p was items one in
         let times : s * (made_in c.row.parts.items + 1) ≡ s * made_in c.row.parts.items + s = grind arith in
@@ -267,12 +267,12 @@ module _ {K V N : Type 0} {cmp : K → K → Ordering} (o : IsTotalOrder cmp) {n
 -- ---- an older segment is taken over
 
 module _ {K V N : Type 0} {cmp : K → K → Ordering} {named : N → List (K × V)} {s : ℕ} {blocks : List (List (K × V))} {c : SegmentBuilder K V N} (h : IsCutting named cmp s blocks c) (place : ℕ) (a : StaysApart named cmp s blocks place c) (mid c' : SegmentBuilder K V N) (name : N) where
-  pub cutting_taken : IsRow named s mid.row → pairs_in (blocks_of_parts named mid.row.parts.items) ≡ given named c → (0 < length c.tail.pairs → length c.tail.pairs ≤ mid.row.last) → (length c.tail.pairs ≡ 0 → mid.row.last ≡ c.row.last) → mid.tail.pairs ≡ [] → mid.length ≡ c.length
+  pub cutting_taken : IsSegmentRow named s mid.row → pairs_in (blocks_of_parts named mid.row.parts.items) ≡ given_pairs named c → (0 < length c.tail.pairs → length c.tail.pairs ≤ mid.row.last) → (length c.tail.pairs ≡ 0 → mid.row.last ≡ c.row.last) → mid.tail.pairs ≡ [] → mid.length ≡ c.length
       → named name ≡ a.block → c'.row.parts.items ≡ mid.row.parts.items ++ parts.Taken name ∷ [] → map Some c'.row.separators.items ≡ map Some mid.row.separators.items ++ greatest_key a.block ∷ [] → (c'.row.last ≡ length a.block) × (c'.length ≡ mid.length + length a.block) → c'.held ≡ Some place → c'.tail ≡ mid.tail → IsCutting named cmp s blocks c'
   cutting_taken row pairs last same tail count is items keys sized held opens =
       let b = a.block in
       let none : c'.tail.pairs ≡ [] = ap (λ t. t.pairs) opens ∙ tail in
-      let all : given named c' ≡ given named c ++ b = ap (λ ps. ps ++ c'.tail.pairs) (pairs_given named mid.row.parts.items b c'.row (parts.Taken name) is items) ∙ (ap (λ ps. (pairs_in (blocks_of_parts named mid.row.parts.items) ++ b) ++ ps) none ∙ (append-nil (pairs_in (blocks_of_parts named mid.row.parts.items) ++ b) ∙ ap (λ ps. ps ++ b) pairs)) in
+      let all : given_pairs named c' ≡ given_pairs named c ++ b = ap (λ ps. ps ++ c'.tail.pairs) (pairs_given named mid.row.parts.items b c'.row (parts.Taken name) is items) ∙ (ap (λ ps. (pairs_in (blocks_of_parts named mid.row.parts.items) ++ b) ++ ps) none ∙ (append-nil (pairs_in (blocks_of_parts named mid.row.parts.items) ++ b) ∙ ap (λ ps. ps ++ b) pairs)) in
       let apart : (mid.row.last ≡ 0) ⊎ (s < mid.row.last + length b) = elim (eqb_tells (length c.tail.pairs) 0) [
         | inl z ↦ elim (eqb_tells c.row.last 0) [
           | inl y ↦ inl (same z.1 ∙ y.1)
@@ -282,12 +282,12 @@ module _ {K V N : Type 0} {cmp : K → K → Ordering} {named : N → List (K ×
       ] in
       let fronts = blocks_of_parts named mid.row.parts.items in
       let behind : (last_size fronts ≡ 0) ⊎ (s < last_size fronts + length b) = subst (λ n. (n ≡ 0) ⊎ (s < n + length b)) row.last apart in
-      let long = ap length all ∙ length-append (given named c) b in
+      let long = ap length all ∙ length-append (given_pairs named c) b in
       let count' = sized.1 in
       record {
         least = h.least;
         most = h.most;
-        row = row_given named mid.row.parts.items b c'.row (parts.Taken name) is items s mid.row.separators.items (All-push (IsSized s) fronts b row.sizes a.sized) (tight_next s fronts b row.sizes row.tight behind) row.separated keys sized.0;
+        row = row_given named mid.row.parts.items b c'.row (parts.Taken name) is items s mid.row.separators.items (All-push (IsSegmentSized s) fronts b row.sizes a.sized) (tight_next s fronts b row.sizes row.tight behind) row.separated keys sized.0;
         room = (let z = ap length none in omega (arith, z));
         rising = subst (IsAscending cmp) (sym all) a.rising;
         count = (let before = h.count in omega (arith, count', count, before, long));
@@ -295,7 +295,7 @@ module _ {K V N : Type 0} {cmp : K → K → Ordering} {named : N → List (K ×
         fresh = λ e. absurd (let f = sym held ∙ e in cc);
       }
 
-  pub given_taken : pairs_in (blocks_of_parts named mid.row.parts.items) ≡ given named c → mid.tail.pairs ≡ [] → named name ≡ a.block → c'.row.parts.items ≡ mid.row.parts.items ++ parts.Taken name ∷ [] → c'.tail ≡ mid.tail → given named c' ≡ given named c ++ a.block
+  pub given_taken : pairs_in (blocks_of_parts named mid.row.parts.items) ≡ given_pairs named c → mid.tail.pairs ≡ [] → named name ≡ a.block → c'.row.parts.items ≡ mid.row.parts.items ++ parts.Taken name ∷ [] → c'.tail ≡ mid.tail → given_pairs named c' ≡ given_pairs named c ++ a.block
   given_taken pairs tail is items opens =
       let b = a.block in
       let none : c'.tail.pairs ≡ [] = ap (λ t. t.pairs) opens ∙ tail in
@@ -311,7 +311,7 @@ module _ {K V N : Type 0} {cmp : K → K → Ordering} {named : N → List (K ×
 -- ---- another tree with the same pairs is open
 
 module _ {K V N : Type 0} (named : N → List (K × V)) (s : ℕ) (c c' : SegmentBuilder K V N) (row : c'.row ≡ c.row) (tail : c'.tail.pairs ≡ c.tail.pairs) where
-  pub given_same : given named c' ≡ given named c
+  pub given_same : given_pairs named c' ≡ given_pairs named c
   given_same = ap (λ (r : Row K V N). pairs_in (blocks_of_parts named r.parts.items) ++ c'.tail.pairs) row ∙ ap (λ ps. pairs_in (blocks_of_parts named c.row.parts.items) ++ ps) tail
 
   pub cutting_same : (cmp : K → K → Ordering) (blocks : List (List (K × V))) → IsCutting named cmp s blocks c → c'.held ≡ c.held → c'.length ≡ c.length → IsCutting named cmp s blocks c'
@@ -321,7 +321,7 @@ module _ {K V N : Type 0} (named : N → List (K × V)) (s : ℕ) (c c' : Segmen
       record {
         least = h.least;
         most = h.most;
-        row = subst (IsRow named s) (sym row) h.row;
+        row = subst (IsSegmentRow named s) (sym row) h.row;
         room = (let room = h.room in omega (arith, size, room));
         rising = subst (IsAscending cmp) (sym given_same) h.rising;
         count = (let was = h.count in omega (arith, count, all, was));
@@ -329,7 +329,7 @@ module _ {K V N : Type 0} (named : N → List (K × V)) (s : ℕ) (c c' : Segmen
         fresh = λ none. subst (λ (r : Row K V N). (r.last ≡ 0) ⊎ (r.last ≡ s)) (sym row) (h.fresh (sym held ∙ none));
       }
 
-  pub filled_same : (left : ℕ) → IsFilled s left left c c'
+  pub filled_same : (left : ℕ) → GivesNoMoreThanRead s left left c c'
   filled_same left =
       let made = ap (λ (r : Row K V N). made_in r.parts.items) row in
       let full = ap (λ n. s * n) made in
@@ -344,12 +344,12 @@ module _ {K V N : Type 0} (named : N → List (K × V)) (s : ℕ) (c c' : Segmen
 pub cutting_none : {K V N : Type 0} (cmp : K → K → Ordering) (named : N → List (K × V)) (s : ℕ) (blocks : List (List (K × V))) (c : SegmentBuilder K V N) → 1 ≤ s → s ≤ 225 → c.row.parts.items ≡ [] → c.row.separators.items ≡ [] → c.row.last ≡ 0 → c.held ≡ None → c.tail.pairs ≡ [] → c.length ≡ 0 → IsCutting named cmp s blocks c
 cutting_none {K} {V} cmp named s blocks c least most parts' keys last held tail count =
     let none = ap (blocks_of_parts named) parts' in
-    let empty : given named c ≡ [] = ap (λ bs. pairs_in bs ++ c.tail.pairs) none ∙ tail in
+    let empty : given_pairs named c ≡ [] = ap (λ bs. pairs_in bs ++ c.tail.pairs) none ∙ tail in
     record {
       least = least;
       most = most;
       row = record {
-        sizes = subst (All (IsSized s)) (sym none) (All-nil (IsSized s));
+        sizes = subst (All (IsSegmentSized s)) (sym none) (All-nil (IsSegmentSized s));
         tight = subst (IsTight s) (sym none) tt;
         separated = ap (map Some) keys ∙ ap (map greatest_key) (sym none);
         last = last ∙ ap last_size (sym none);

@@ -15,7 +15,7 @@ use Rattle.std.specs.declared.cmp.Ordering.TheVariants.{Less, Equal, Greater}
 use Rattle.std.specs.Option.{is_some}
 use Rattle.std.specs.Ordering.{is_gt, is_lt, is_eq}
 use Rattle.leaf_array.specs.Edits.{above, below, removed, upserted}
-use Rattle.leaf_array.specs.Pairs.{IsAscending, has_key, value_at}
+use Rattle.leaf_array.specs.Pairs.{IsAscending, has_key, value_of_key}
 use Rattle.tree_index.specs.Shape.{AllKeys}
 use Rattle.tree_index.proofs.ArenaLemmas.{all_filtered}
 use Rattle.tree_index.proofs.LeafLemmas.{filter_all}
@@ -202,7 +202,7 @@ module _ {K V : Type 0} {cmp : K → K → Ordering} (o : IsTotalOrder cmp) wher
         | Greater ↦ λ c. on_test (test p.0) (λ a. rw (a, c) (fair_has test fair k ps)) (λ a. rw a (fair_has test fair k ps))
       ]) refl
 
-  not_noted : (k : K) (cs : List (K × Option V)) → AllKeys (λ y. cmp k y ≡ Less) cs → value_at cmp k cs ≡ None
+  not_noted : (k : K) (cs : List (K × Option V)) → AllKeys (λ y. cmp k y ≡ Less) cs → value_of_key cmp k cs ≡ None
   not_noted k [] a = refl
   not_noted k (c ∷ cs) a = let l = a.0 in rw l (not_noted k cs a.1)
 
@@ -210,18 +210,18 @@ module _ {K V : Type 0} {cmp : K → K → Ordering} (o : IsTotalOrder cmp) wher
   left_has k c None = elim (is_eq (cmp k c)) as (λ b. false ≡ (b && false)) [ true ↦ refl | false ↦ refl ]
   left_has k c (Some v) = elim (is_eq (cmp k c)) as (λ b. (b || false) ≡ (b && true)) [ true ↦ refl | false ↦ refl ]
 
-  pub has_amended : (k : K) (cs : List (K × Option V)) (ps : List (K × V)) → IsAscending cmp cs → has_key cmp k (apply_delta cmp cs ps) ≡ found (value_at cmp k cs) (has_key cmp k ps)
+  pub has_amended : (k : K) (cs : List (K × Option V)) (ps : List (K × V)) → IsAscending cmp cs → has_key cmp k (apply_delta cmp cs ps) ≡ found (value_of_key cmp k cs) (has_key cmp k ps)
   has_amended k [] ps up = refl
   has_amended k (c ∷ cs) ps up =
       let lower = below cmp c.0 ps in
       let upper = above cmp c.0 ps in
       let rest = has_amended k cs upper (rising_tail cmp c cs up) in
-      let parts : has_key cmp k (apply_delta cmp (c ∷ cs) ps) ≡ (has_key cmp k lower || (has_key cmp k (pair_left c.0 c.1) || found (value_at cmp k cs) (has_key cmp k upper))) =
+      let parts : has_key cmp k (apply_delta cmp (c ∷ cs) ps) ≡ (has_key cmp k lower || (has_key cmp k (pair_left c.0 c.1) || found (value_of_key cmp k cs) (has_key cmp k upper))) =
       list_any-append (λ p. is_at (cmp k) p.0) lower (pair_left c.0 c.1 ++ apply_delta cmp cs upper)
       ∙ ap (λ b. has_key cmp k lower || b) (list_any-append (λ p. is_at (cmp k) p.0) (pair_left c.0 c.1) (apply_delta cmp cs upper) ∙ ap (λ b. has_key cmp k (pair_left c.0 c.1) || b) rest) in
       let in_lower : has_key cmp k lower ≡ (is_gt (cmp c.0 k) && has_key cmp k ps) = fair_has (λ y. is_gt (cmp c.0 y)) (fair_below o c.0) k ps in
       let in_upper : has_key cmp k upper ≡ (is_lt (cmp c.0 k) && has_key cmp k ps) = fair_has (λ y. is_lt (cmp c.0 y)) (fair_above o c.0) k ps in
-      parts ∙ (elim (cmp k c.0) as (λ d. cmp k c.0 ≡ d → (has_key cmp k lower || (has_key cmp k (pair_left c.0 c.1) || found (value_at cmp k cs) (has_key cmp k upper))) ≡ found (cond (is_eq d) (Some c.1) (value_at cmp k cs)) (has_key cmp k ps)) [
+      parts ∙ (elim (cmp k c.0) as (λ d. cmp k c.0 ≡ d → (has_key cmp k lower || (has_key cmp k (pair_left c.0 c.1) || found (value_of_key cmp k cs) (has_key cmp k upper))) ≡ found (cond (is_eq d) (Some c.1) (value_of_key cmp k cs)) (has_key cmp k ps)) [
         | Less ↦ λ d.
             let t : cmp c.0 k ≡ Greater = turned o k c.0 d in
             let none = not_noted k cs (all_over o k c cs d up).1 in

@@ -9,7 +9,7 @@ use Rattle.tree_index.specs.declared.cursor.End.{End}
 use Rattle.tree_index.specs.declared.cursor.End.TheVariants.{Unopened, At, Done}
 use Rattle.tree_index.specs.Cursor.{Cursor, whole, can_turn, turned, turns}
 use Rattle.versions.specs.Cuts.{pairs_in}
-use Rattle.versions.specs.CursorEnds.{fore_place, pairs_before, rear_place, swapped, AreRising, IsFore, IsForeAt, IsRear, IsRearAt, IsWalking}
+use Rattle.versions.specs.CursorEnds.{fore_place, pairs_before_block, rear_place, swapped, AreRising, IsFore, IsForeAt, IsRear, IsRearAt, IsWalking}
 use Rattle.versions.specs.declared.read.position.CursorEnd.{CursorEnd}
 use Rattle.versions.specs.declared.read.position.CursorEnd.TheVariants as cursor_ends
 use Rattle.versions.specs.declared.read.position.Position.{Position}
@@ -98,7 +98,7 @@ module _ {K V : Type 0} (cmp : K → K → Ordering) (blocks : List (List (K × 
     ends_turned cursor_ends.Unopened cursor_ends.Done h t = absurd (false≢true t)
     ends_turned (cursor_ends.At s) (cursor_ends.At u) h t =
         let c = walk_of (cursor_ends.At s) (cursor_ends.At u) in
-        absurd (false≢true (sym (ap (λ x. turns cmp c x c.backward) (fore_pair cmp blocks s h.forward_stands).0 ∙ ap (λ y. turns cmp c (At (pairs_before blocks s.segment + h.forward_stands.place)) y) (rear_pair cmp blocks u h.backward_stands).0) ∙ t))
+        absurd (false≢true (sym (ap (λ x. turns cmp c x c.backward) (fore_pair cmp blocks s h.forward_stands).0 ∙ ap (λ y. turns cmp c (At (pairs_before_block blocks s.segment + h.forward_stands.place)) y) (rear_pair cmp blocks u h.backward_stands).0) ∙ t))
     ends_turned (cursor_ends.At s) cursor_ends.Done h t =
         let c = walk_of (cursor_ends.At s) cursor_ends.Done in
         absurd (false≢true (sym (ap (λ x. turns cmp c x Done) (fore_pair cmp blocks s h.forward_stands).0) ∙ t))
@@ -124,7 +124,7 @@ module _ {K V : Type 0} (cmp : K → K → Ordering) (blocks : List (List (K × 
   -- the place behind n pairs has a pair
   pub fore_inside : (s : Position K V) → IsForeAt blocks n s → n < length (pairs_in blocks)
   fore_inside s h =
-      let at : pairs_before blocks s.segment + h.stands.place ≡ n = at_same (sym (fore_pair cmp blocks s h.stands).0 ∙ h.place) in
+      let at : pairs_before_block blocks s.segment + h.stands.place ≡ n = at_same (sym (fore_pair cmp blocks s h.stands).0 ∙ h.place) in
       subst (λ m. m < length (pairs_in blocks)) at (place_inside_all blocks s.segment s.cursor.pairs h.stands.here h.stands.place h.stands.within)
 
   -- a walk stands between two neighbours, whose ends have changed places

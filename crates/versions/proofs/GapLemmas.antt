@@ -11,7 +11,7 @@ use Rattle.std.specs.Ordering.{is_le, is_lt}
 use Rattle.leaf_array.specs.Pairs.{IsAscending}
 use Rattle.tree_index.specs.Shape.{AllKeys}
 use Rattle.tree_index.proofs.ShapeLemmas.{all_weaken}
-use Rattle.versions.specs.Cutting.{differ, turns}
+use Rattle.versions.specs.Cutting.{differ, turn_count}
 use Rattle.versions.specs.Gone.{is_gone}
 use Rattle.versions.specs.declared.building.gone.Gone.{Gone}
 use Rattle.versions.proofs.FilterLemmas.{on_test, rising_head, rising_tail}
@@ -32,25 +32,25 @@ module _ {K V : Type 0} (test : K → Bool) where
   last_answer last [] = last
   last_answer last (p ∷ ps) = last_answer (test p.0) ps
 
-  pub turns_both : (last : Bool) (xs ys : List (K × V)) → turns test last (xs ++ ys) ≡ turns test last xs + turns test (last_answer last xs) ys
+  pub turns_both : (last : Bool) (xs ys : List (K × V)) → turn_count test last (xs ++ ys) ≡ turn_count test last xs + turn_count test (last_answer last xs) ys
   turns_both last [] ys = omega arith
   turns_both last (x ∷ xs) ys = let rest = turns_both (test x.0) xs ys in omega (arith, rest)
 
   -- without a turn all are alike
-  pub all_alike : (last : Bool) (xs : List (K × V)) → turns test last xs ≡ 0 → AllKeys (λ k. test k ≡ last) xs
+  pub all_alike : (last : Bool) (xs : List (K × V)) → turn_count test last xs ≡ 0 → AllKeys (λ k. test k ≡ last) xs
   all_alike last [] h = tt
   all_alike last (x ∷ xs) h =
       let same : test x.0 ≡ last = differ_none last (test x.0) (omega (arith, h)) in
       (same, subst (λ b. AllKeys (λ k. test k ≡ b) xs) same (all_alike (test x.0) xs (omega (arith, h))))
 
   -- pairs that are alike turn at most once
-  pub alike_turns : (last v : Bool) (xs ys : List (K × V)) → 1 ≤ length xs → AllKeys (λ k. test k ≡ v) xs → turns test last (xs ++ ys) ≡ differ last v + turns test v ys
+  pub alike_turns : (last v : Bool) (xs ys : List (K × V)) → 1 ≤ length xs → AllKeys (λ k. test k ≡ v) xs → turn_count test last (xs ++ ys) ≡ differ last v + turn_count test v ys
   alike_turns last v [] ys some a = absurd (omega (arith, some))
-  alike_turns last v (x ∷ []) ys some a = ap (λ b. differ last b + turns test b ys) a.0
+  alike_turns last v (x ∷ []) ys some a = ap (λ b. differ last b + turn_count test b ys) a.0
   alike_turns last v (x ∷ (z ∷ xs)) ys some a =
       let rest = alike_turns v v (z ∷ xs) ys (omega arith) a.1 in
       let same = differ_same v in
-      ap (λ b. differ last b + turns test b ((z ∷ xs) ++ ys)) a.0 ∙ omega (arith, rest, same)
+      ap (λ b. differ last b + turn_count test b ((z ∷ xs) ++ ys)) a.0 ∙ omega (arith, rest, same)
 
 differ_or : (a b c d : Bool) → differ (a || b) (c || d) ≤ differ a c + differ b d
 differ_or true b true d = omega arith
@@ -64,14 +64,14 @@ differ_or false false true true = omega arith
 differ_or false false true false = omega arith
 differ_or false b false d = omega arith
 
-pub turns_or : {K V : Type 0} (f g : K → Bool) (a b : Bool) (ps : List (K × V)) → turns (λ k. f k || g k) (a || b) ps ≤ turns f a ps + turns g b ps
+pub turns_or : {K V : Type 0} (f g : K → Bool) (a b : Bool) (ps : List (K × V)) → turn_count (λ k. f k || g k) (a || b) ps ≤ turn_count f a ps + turn_count g b ps
 turns_or f g a b [] = omega arith
 turns_or f g a b (p ∷ ps) =
     let one = differ_or a b (f p.0) (g p.0) in
     let rest = turns_or f g (f p.0) (g p.0) ps in
     omega (arith, one, rest)
 
-turns_never : {K V : Type 0} (ps : List (K × V)) → turns (λ (k : K). false) false ps ≡ 0
+turns_never : {K V : Type 0} (ps : List (K × V)) → turn_count (λ (k : K). false) false ps ≡ 0
 turns_never [] = refl
 turns_never (p ∷ ps) = let rest = turns_never ps in omega (arith, rest)
 
@@ -111,42 +111,42 @@ module _ {K : Type 0} {cmp : K → K → Ordering} (o : IsTotalOrder cmp) where
     abbrev inside : K → Bool
     inside k = range_contains cmp lower upper k
 
-    turns_past : {V : Type 0} (ps : List (K × V)) → AllKeys (λ k. is_past_end cmp upper k ≡ true) ps → turns inside false ps ≡ 0
+    turns_past : {V : Type 0} (ps : List (K × V)) → AllKeys (λ k. is_past_end cmp upper k ≡ true) ps → turn_count inside false ps ≡ 0
     turns_past [] a = refl
     turns_past (p ∷ ps) a =
         let out : inside p.0 ≡ false = ap (λ b. is_from_start cmp lower p.0 && not b) a.0 ∙ no_right (is_from_start cmp lower p.0) in
         let rest = turns_past ps a.1 in
-        let all : turns inside false (p ∷ ps) ≡ 0 + turns inside false ps = ap (λ b. differ false b + turns inside b ps) out in
+        let all : turn_count inside false (p ∷ ps) ≡ 0 + turn_count inside false ps = ap (λ b. differ false b + turn_count inside b ps) out in
         omega (arith, rest, all)
 
-    turns_from : {V : Type 0} (ps : List (K × V)) → IsAscending cmp ps → AllKeys (λ k. is_from_start cmp lower k ≡ true) ps → turns inside true ps ≤ 1
+    turns_from : {V : Type 0} (ps : List (K × V)) → IsAscending cmp ps → AllKeys (λ k. is_from_start cmp lower k ≡ true) ps → turn_count inside true ps ≤ 1
     turns_from [] up a = omega arith
     turns_from (p ∷ ps) up a =
         on_test (is_past_end cmp upper p.0)
         (λ e. let out : inside p.0 ≡ false = ap (λ b. is_from_start cmp lower p.0 && not b) e ∙ no_right (is_from_start cmp lower p.0) in
         let none = turns_past ps (all_weaken (λ y. cmp p.0 y ≡ Less) (λ y. is_past_end cmp upper y ≡ true) (λ y l. past_on upper p.0 y e l) ps (rising_head cmp p ps up)) in
-        let all : turns inside true (p ∷ ps) ≡ 1 + turns inside false ps = ap (λ b. differ true b + turns inside b ps) out in
+        let all : turn_count inside true (p ∷ ps) ≡ 1 + turn_count inside false ps = ap (λ b. differ true b + turn_count inside b ps) out in
         omega (arith, none, all))
         (λ e. let here : inside p.0 ≡ true = ap (λ b. is_from_start cmp lower p.0 && not b) e ∙ ap (λ b. b && true) a.0 in
         let rest = turns_from ps (rising_tail cmp p ps up) a.1 in
-        let all : turns inside true (p ∷ ps) ≡ 0 + turns inside true ps = ap (λ b. differ true b + turns inside b ps) here in
+        let all : turn_count inside true (p ∷ ps) ≡ 0 + turn_count inside true ps = ap (λ b. differ true b + turn_count inside b ps) here in
         omega (arith, rest, all))
 
     -- a range begins and ends
-    turns_range : {V : Type 0} (ps : List (K × V)) → IsAscending cmp ps → turns inside false ps ≤ 2
+    turns_range : {V : Type 0} (ps : List (K × V)) → IsAscending cmp ps → turn_count inside false ps ≤ 2
     turns_range [] up = omega arith
     turns_range (p ∷ ps) up =
         on_test (inside p.0)
         (λ e. let from : is_from_start cmp lower p.0 ≡ true = both_left (is_from_start cmp lower p.0) (not (is_past_end cmp upper p.0)) e in
         let rest = turns_from ps (rising_tail cmp p ps up) (all_weaken (λ y. cmp p.0 y ≡ Less) (λ y. is_from_start cmp lower y ≡ true) (λ y l. from_on lower p.0 y from l) ps (rising_head cmp p ps up)) in
-        let all : turns inside false (p ∷ ps) ≡ 1 + turns inside true ps = ap (λ b. differ false b + turns inside b ps) e in
+        let all : turn_count inside false (p ∷ ps) ≡ 1 + turn_count inside true ps = ap (λ b. differ false b + turn_count inside b ps) e in
         omega (arith, rest, all))
         (λ e. let rest = turns_range ps (rising_tail cmp p ps up) in
-        let all : turns inside false (p ∷ ps) ≡ 0 + turns inside false ps = ap (λ b. differ false b + turns inside b ps) e in
+        let all : turn_count inside false (p ∷ ps) ≡ 0 + turn_count inside false ps = ap (λ b. differ false b + turn_count inside b ps) e in
         omega (arith, rest, all))
 
   -- so ranges make at most two turns each
-  pub turns_gone : {V : Type 0} (gone : List (Gone K)) (ps : List (K × V)) → IsAscending cmp ps → turns (is_gone cmp gone) false ps ≤ 2 * length gone
+  pub turns_gone : {V : Type 0} (gone : List (Gone K)) (ps : List (K × V)) → IsAscending cmp ps → turn_count (is_gone cmp gone) false ps ≤ 2 * length gone
   turns_gone [] ps up = let none = turns_never ps in omega (arith, none)
   turns_gone (g ∷ gs) ps up =
       let one = turns_range g.lower g.upper ps up in

@@ -13,7 +13,7 @@ use Rattle.tree_index.specs.Cursor.{Cursor, whole}
 use Rattle.tree_index.specs.SplitPoints.{is_keyed}
 use Rattle.tree_index.specs.declared.cursor.End.TheVariants.{Unopened, At}
 use Rattle.versions.specs.Cuts.{pairs_in}
-use Rattle.versions.specs.CursorEnds.{fore_place, pairs_before, rear_place, AreRising, IsAround, IsForeAt, IsRearAt, IsWalking}
+use Rattle.versions.specs.CursorEnds.{fore_place, pairs_before_block, rear_place, AreRising, IsBlockAround, IsForeAt, IsRearAt, IsWalking}
 use Rattle.versions.specs.declared.read.position.CursorEnd.TheVariants as cursor_ends
 use Rattle.versions.specs.declared.read.position.Position.{Position}
 use Rattle.versions.proofs.CursorEndLemmas.{fore_at, rear_at}
@@ -21,7 +21,7 @@ use Rattle.versions.proofs.FilterLemmas.{rising_front, rising_rear}
 use Rattle.versions.proofs.PlaceLemmas.{has_around, lesser_around, next_before, place_inside_all}
 use Rattle.versions.proofs.SeparatorSearchLemmas.{around_block}
 
-module _ {K V : Type 0} (cmp : K → K → Ordering) (o : IsTotalOrder cmp) (key : K) (blocks : List (List (K × V))) (rise : AreRising cmp blocks) (i : ℕ) (a : IsAround cmp key blocks i) (b : List (K × V)) (here : slice_get blocks i ≡ Some b) where
+module _ {K V : Type 0} (cmp : K → K → Ordering) (o : IsTotalOrder cmp) (key : K) (blocks : List (List (K × V))) (rise : AreRising cmp blocks) (i : ℕ) (a : IsBlockAround cmp key blocks i) (b : List (K × V)) (here : slice_get blocks i ≡ Some b) where
   block_rises : IsAscending cmp b
   block_rises =
       let rest = pairs_in (drop (suc i) blocks) in
@@ -60,7 +60,7 @@ module _ {K V : Type 0} (cmp : K → K → Ordering) (o : IsTotalOrder cmp) (key
   is_inside c some within e =
       let l = lesser cmp key b in
       let all = lesser_around cmp o key blocks i a b here in
-      let before : pairs_before blocks i + (l - 1) ≡ lesser cmp key (pairs_in blocks) - 1 = omega (arith, all, some) in
+      let before : pairs_before_block blocks i + (l - 1) ≡ lesser cmp key (pairs_in blocks) - 1 = omega (arith, all, some) in
       subst (λ c. IsInside (position c)) (sym e) (record {
         walking = record {
           blocks_rise = rise;
@@ -71,18 +71,18 @@ module _ {K V : Type 0} (cmp : K → K → Ordering) (o : IsTotalOrder cmp) (key
         };
         some = omega (arith, all, some);
         within = omega (arith, all, place_inside_all blocks i b here l within);
-        ends = ap (λ n. whole (pairs_in blocks) (At n) (At (pairs_before blocks i + l))) before ∙ ap (λ n. whole (pairs_in blocks) (At (lesser cmp key (pairs_in blocks) - 1)) (At n)) (sym all);
+        ends = ap (λ n. whole (pairs_in blocks) (At n) (At (pairs_before_block blocks i + l))) before ∙ ap (λ n. whole (pairs_in blocks) (At (lesser cmp key (pairs_in blocks) - 1)) (At n)) (sym all);
       })
 
   -- ---- before all pairs of the block, or behind them
 
-  pub first_at : (c : Cursor K V) → lesser cmp key b ≡ 0 → 0 < length b → c ≡ whole b (At 0) Unopened → IsForeAt blocks (pairs_before blocks i) (position c) × (lesser cmp key (pairs_in blocks) ≡ pairs_before blocks i)
-  first_at c none some e = (fore_at cmp blocks i b here (pairs_before blocks i) 0 c e some (omega arith), omega (arith, lesser_around cmp o key blocks i a b here, none))
+  pub first_at : (c : Cursor K V) → lesser cmp key b ≡ 0 → 0 < length b → c ≡ whole b (At 0) Unopened → IsForeAt blocks (pairs_before_block blocks i) (position c) × (lesser cmp key (pairs_in blocks) ≡ pairs_before_block blocks i)
+  first_at c none some e = (fore_at cmp blocks i b here (pairs_before_block blocks i) 0 c e some (omega arith), omega (arith, lesser_around cmp o key blocks i a b here, none))
 
-  pub last_at : (c : Cursor K V) → lesser cmp key b ≡ length b → 0 < length b → c ≡ whole b Unopened (At (length b - 1)) → IsRearAt blocks (pairs_before blocks (i + 1)) (position c) × (lesser cmp key (pairs_in blocks) ≡ pairs_before blocks (i + 1)) × (has_key cmp key (pairs_in blocks) ≡ false)
+  pub last_at : (c : Cursor K V) → lesser cmp key b ≡ length b → 0 < length b → c ≡ whole b Unopened (At (length b - 1)) → IsRearAt blocks (pairs_before_block blocks (i + 1)) (position c) × (lesser cmp key (pairs_in blocks) ≡ pairs_before_block blocks (i + 1)) × (has_key cmp key (pairs_in blocks) ≡ false)
   last_at c all some e =
       let next = next_before blocks i b here in (
-        rear_at cmp blocks i b here (pairs_before blocks (i + 1)) (length b) c e some (omega arith) next,
+        rear_at cmp blocks i b here (pairs_before_block blocks (i + 1)) (length b) c e some (omega arith) next,
         omega (arith, lesser_around cmp o key blocks i a b here, all, next),
         has_around cmp o key blocks i a b here ∙ past_end (omega (arith, all)),
       )

@@ -16,7 +16,7 @@ use Rattle.std.specs.Option.{option_map}
 use Rattle.tree_index.specs.Shape.{AllKeys}
 use Rattle.tree_index.proofs.WayLemmas.{some_same}
 use Rattle.versions.specs.Cuts.{greatest_key, pairs_in, IsTight}
-use Rattle.versions.specs.Cutting.{IsFilled, IsReachedBy, IsThrifty, Joins, differ, trees, turns}
+use Rattle.versions.specs.Cutting.{GivesNoMoreThanRead, IsReachedBy, IsThrifty, Joins, differ, trees, turn_count}
 use Rattle.versions.specs.Parts.{made_in}
 use Rattle.versions.specs.declared.building.segments.SegmentBuilder.{SegmentBuilder}
 use Rattle.versions.proofs.BlockListLemmas.{pairs_in-append}
@@ -143,7 +143,7 @@ module _ {K V X : Type 0} (cmp : K → K → Ordering) where
 -- ---- how many trees are made
 
 module _ {K V N : Type 0} (s : ℕ) where
-  pub filled_then : (a b d : ℕ) (c c' c'' : SegmentBuilder K V N) → IsFilled s a b c c' → IsFilled s b d c' c'' → IsFilled s a d c c''
+  pub filled_then : (a b d : ℕ) (c c' c'' : SegmentBuilder K V N) → GivesNoMoreThanRead s a b c c' → GivesNoMoreThanRead s b d c' c'' → GivesNoMoreThanRead s a d c c''
   filled_then a b d c c' c'' f h = record {
     spent = (let x = f.spent in let y = h.spent in omega (arith, x, y));
     some = λ some. h.some (f.some some);
@@ -153,7 +153,7 @@ module _ {K V N : Type 0} (s : ℕ) where
     ]);
   }
 
-  pub filled_none : (a b : ℕ) (c : SegmentBuilder K V N) → b ≤ a → IsFilled s a b c c
+  pub filled_none : (a b : ℕ) (c : SegmentBuilder K V N) → b ≤ a → GivesNoMoreThanRead s a b c c
   filled_none a b c le = record { spent = omega (arith, le); some = λ h. h; none = λ e. refl }
 
 -- so many full trees and a pair more have no more pairs than full trees and some pairs
@@ -169,7 +169,7 @@ upto_full s a b j least h = elim (cases_lt a (b + j)) [
 
 module _ {K V N : Type 0} (s : ℕ) (least : 1 ≤ s) (c c' : SegmentBuilder K V N) where
   -- at most one tree for a full segment, and one for each change
-  pub trees_after : (n left left' : ℕ) → n ≤ s → length c.tail.pairs ≤ s → left' ≤ left → IsFilled s (n + left) left' c c' → trees c' + left' ≤ trees c + 1 + left
+  pub trees_after : (n left left' : ℕ) → n ≤ s → length c.tail.pairs ≤ s → left' ≤ left → GivesNoMoreThanRead s (n + left) left' c c' → trees c' + left' ≤ trees c + 1 + left
   trees_after n left left' small room fewer f =
       let m = made_in c.row.parts.items in
       let m' = made_in c'.row.parts.items in
@@ -196,7 +196,7 @@ module _ {K V N : Type 0} (s : ℕ) (least : 1 ≤ s) (c c' : SegmentBuilder K V
       ]
 
   -- none for a segment that fits into the open tree
-  pub trees_joined : (n left left' : ℕ) → 0 < length c.tail.pairs → length c.tail.pairs + n ≤ s → left' ≤ left → IsFilled s (n + left) left' c c' → trees c' + left' ≤ trees c + left
+  pub trees_joined : (n left left' : ℕ) → 0 < length c.tail.pairs → length c.tail.pairs + n ≤ s → left' ≤ left → GivesNoMoreThanRead s (n + left) left' c c' → trees c' + left' ≤ trees c + left
   trees_joined n left left' some small fewer f =
       let m = made_in c.row.parts.items in
       let m' = made_in c'.row.parts.items in
@@ -209,7 +209,7 @@ module _ {K V N : Type 0} (s : ℕ) (least : 1 ≤ s) (c c' : SegmentBuilder K V
       omega (arith, after, before, up, fewer)
 
   -- one for each change behind all segments
-  pub trees_behind : (left : ℕ) → length c.tail.pairs ≤ s → IsFilled s left 0 c c' → trees c' ≤ trees c + left
+  pub trees_behind : (left : ℕ) → length c.tail.pairs ≤ s → GivesNoMoreThanRead s left 0 c c' → trees c' ≤ trees c + left
   trees_behind left room f =
       let m = made_in c.row.parts.items in
       let m' = made_in c'.row.parts.items in
@@ -235,12 +235,12 @@ module _ {K V N : Type 0} (s : ℕ) (least : 1 ≤ s) (c c' : SegmentBuilder K V
       ]
 
   -- what was made of blocks, the first of which was passed; and how often those behind turn
-  module _ (budget n left left' : ℕ) (test : K → Bool) (last next : Bool) (rest rest' : List (List (K × V))) (small : n ≤ s) (room : length c.tail.pairs ≤ s) (t : IsThrifty s budget test last rest left c) (f : IsFilled s (n + left) left' c c') (fewer : left' ≤ left) where
+  module _ (budget n left left' : ℕ) (test : K → Bool) (last next : Bool) (rest rest' : List (List (K × V))) (small : n ≤ s) (room : length c.tail.pairs ≤ s) (t : IsThrifty s budget test last rest left c) (f : GivesNoMoreThanRead s (n + left) left' c c') (fewer : left' ≤ left) where
     none_made : length c'.tail.pairs ≡ 0 → trees c' ≤ trees c
     none_made z = let same = f.none z in let none = open_none c'.tail.pairs z in omega (arith, same, none)
 
     -- a change or a turn was passed
-    pub thrifty_paid : 1 + left' + turns test next (pairs_in rest') ≤ left + turns test last (pairs_in rest) → IsThrifty s budget test next rest' left' c'
+    pub thrifty_paid : 1 + left' + turn_count test next (pairs_in rest') ≤ left + turn_count test last (pairs_in rest) → IsThrifty s budget test next rest' left' c'
     thrifty_paid pays =
         let up = trees_after n left left' small room fewer f in
         let all = t.all in
@@ -251,12 +251,12 @@ module _ {K V N : Type 0} (s : ℕ) (least : 1 ≤ s) (c c' : SegmentBuilder K V
         }
 
     -- nothing was left of it, as of what came before it
-    pub thrifty_none : n ≡ 0 → left' ≡ left → last ≡ true → turns test next (pairs_in rest') ≡ turns test last (pairs_in rest) → IsThrifty s budget test next rest' left' c'
+    pub thrifty_none : n ≡ 0 → left' ≡ left → last ≡ true → turn_count test next (pairs_in rest') ≡ turn_count test last (pairs_in rest) → IsThrifty s budget test next rest' left' c'
     thrifty_none none same gone turns' =
         let spent = f.spent in
         let up = trees_behind 0 room (record { spent = omega (arith, spent, none, same); some = f.some; none = f.none }) in
         let all = t.all in
-        let more : length c'.tail.pairs ≡ 0 → trees c + 1 + 2 * left + turns test last (pairs_in rest) ≤ budget = λ z. t.behind gone (elim (eqb_tells (length c.tail.pairs) 0) [
+        let more : length c'.tail.pairs ≡ 0 → trees c + 1 + 2 * left + turn_count test last (pairs_in rest) ≤ budget = λ z. t.behind gone (elim (eqb_tells (length c.tail.pairs) 0) [
           | inl y ↦ y.1
           | inr y ↦ let some = y.1 in let still = f.some (omega (arith, some)) in absurd (omega (arith, still, z))
         ]) in
@@ -267,7 +267,7 @@ module _ {K V N : Type 0} (s : ℕ) (least : 1 ≤ s) (c c' : SegmentBuilder K V
         }
 
     -- the segment was joined with what was last
-    pub thrifty_joined : next ≡ false → turns test next (pairs_in rest') ≤ turns test last (pairs_in rest) → Joins s n c → (b : List (K × V)) → slice_get rest 0 ≡ Some b → length b ≡ n → IsThrifty s budget test next rest' left' c'
+    pub thrifty_joined : next ≡ false → turn_count test next (pairs_in rest') ≤ turn_count test last (pairs_in rest) → Joins s n c → (b : List (K × V)) → slice_get rest 0 ≡ Some b → length b ≡ n → IsThrifty s budget test next rest' left' c'
     thrifty_joined here turns' joins b there size = elim joins [
       | inl j ↦
           let more = t.spare j.0 j.1 b there (let fits = j.2 in omega (arith, fits, size)) in
@@ -289,7 +289,7 @@ module _ {K V N : Type 0} (s : ℕ) (least : 1 ≤ s) (c c' : SegmentBuilder K V
     ]
 
 -- a block was passed by, of which nothing is left
-pub thrifty_passed : {K V N : Type 0} (s budget left : ℕ) (test : K → Bool) (last : Bool) (rest rest' : List (List (K × V))) (c : SegmentBuilder K V N) → turns test last (pairs_in rest) ≡ differ last true + turns test true (pairs_in rest') → IsThrifty s budget test last rest left c → IsThrifty s budget test true rest' left c
+pub thrifty_passed : {K V N : Type 0} (s budget left : ℕ) (test : K → Bool) (last : Bool) (rest rest' : List (List (K × V))) (c : SegmentBuilder K V N) → turn_count test last (pairs_in rest) ≡ differ last true + turn_count test true (pairs_in rest') → IsThrifty s budget test last rest left c → IsThrifty s budget test true rest' left c
 thrifty_passed s budget left test true rest rest' c e t =
     let all = t.all in
     record {

@@ -12,7 +12,7 @@ use Rattle.sdd_base.proofs.ListLemmas.{hit-same, hit-other}
 use Rattle.leaf_array.specs.Pairs.{IsAscending}
 use Rattle.tree_index.specs.Shape.{AllKeys}
 use Rattle.versions.specs.Cuts.{IsCut, pairs_in}
-use Rattle.versions.specs.Cutting.{IsSized}
+use Rattle.versions.specs.Cutting.{IsSegmentSized}
 use Rattle.versions.specs.Placing.{slots_in}
 use Rattle.versions.proofs.FilterLemmas.{all_front, all_rear, rising_head, rising_rear}
 
@@ -43,17 +43,17 @@ module _ {X K V : Type 0} (cmp : K → K → Ordering) (o : IsTotalOrder cmp) (s
   some_first [] h = absurd (omega (arith, h))
   some_first (p ∷ ps) h = (p, ps, refl)
 
-  pub once_by : (xs : List X) → All (IsSized s) (map f xs) → IsAscending cmp (pairs_in (map f xs)) → (j : ℕ) → times j (slots_by slot xs) ≤ 1
+  pub once_by : (xs : List X) → All (IsSegmentSized s) (map f xs) → IsAscending cmp (pairs_in (map f xs)) → (j : ℕ) → times j (slots_by slot xs) ≤ 1
   once_by [] sizes up j = omega arith
   once_by (x ∷ xs) sizes up j =
-      let rest = once_by xs (All-tail (IsSized s) (f x) (map f xs) sizes) (rising_rear cmp (f x) (pairs_in (map f xs)) up) j in
+      let rest = once_by xs (All-tail (IsSegmentSized s) (f x) (map f xs) sizes) (rising_rear cmp (f x) (pairs_in (map f xs)) up) j in
       (elim (slot x) as (λ (q : Option ℕ). slot x ≡ q → times j (slots_in q (slots_by slot xs)) ≤ 1) [
         | None ↦ λ h. rest
         | Some i ↦ λ h.
             let sum = sum_by-cons (λ k. hit k j) i (slots_by slot xs) in
             elim (eqb_tells i j) [
               | inl t ↦
-                  let first = some_first (f x) (All-head (IsSized s) (f x) (map f xs) sizes).0 in
+                  let first = some_first (f x) (All-head (IsSegmentSized s) (f x) (map f xs) sizes).0 in
                   let here : at j ≡ first.0 ∷ first.1 = ap at (sym t.1) ∙ (sym (same x i h) ∙ first.2) in
                   let over = rising_head cmp first.0 (first.1 ++ pairs_in (map f xs)) (subst (λ b. IsAscending cmp (b ++ pairs_in (map f xs))) first.2 up) in
                   let none = absent j first.0 first.1 here xs (all_rear _ first.1 (pairs_in (map f xs)) over) in

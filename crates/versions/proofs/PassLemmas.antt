@@ -9,7 +9,7 @@ use Rattle.sdd_base.specs.Holding.{SharedIn}
 use Rattle.sdd_base.specs.Passing.{CanPass, accelerated, is_plain, passed, passed_times, slot_kept}
 use Rattle.sdd_base.specs.Place.{IsOpen, IsPlace}
 use Rattle.sdd_base.specs.State.{ParticipantState, State, cell_at, in_use, local_at, usage, value_at}
-use Rattle.sdd_base.specs.Steps.{opened}
+use Rattle.sdd_base.specs.Steps.{guard_opened}
 use Rattle.sdd_base.specs.declared.status.Cell.{Cell}
 use Rattle.sdd_base.specs.declared.status.Cell.TheVariants as cell
 use Rattle.sdd_base.specs.declared.status.LocalState.{LocalState}
@@ -21,7 +21,7 @@ use Rattle.sdd_base.proofs.PlaceLemmas.{place_closed, place_local}
 use Rattle.sdd_base.proofs.IdleParticipantLemmas.{gives_only}
 use Rattle.versions.specs.Items.{held_by, slots_of}
 use Rattle.versions.specs.Reclaiming.{IsRooted}
-use Rattle.versions.specs.Versions.{blocks_of, pairs_of}
+use Rattle.versions.specs.Versions.{blocks_of, segment_pairs}
 use Rattle.versions.proofs.BlockListLemmas.{blocks_fit}
 use Rattle.versions.specs.declared.item.Item.{Item}
 use Rattle.versions.specs.Sizes.{room_for}
@@ -37,7 +37,7 @@ module _ {K V : Type 0} {s : ℕ} (cmp : K → K → Ordering) where
     p = length places
 
     abbrev o : State (Item K V s)
-    o = opened held_by p w
+    o = guard_opened held_by p w
 
     abbrev fast : LocalState
     fast = record (local_at o p) { accelerated = true }
@@ -180,7 +180,7 @@ module _ {K V : Type 0} {s : ℕ} (cmp : K → K → Ordering) where
       } in
       let left = (passes_leave_one {K = K} {V = V} {s = s}).left (length places) root store.slot d w can rooted in
       let few = blocks_fit s (blocks_of (value_at w) d) store.version.whole.cut.tight in
-      let long = length-map (slots_of d) (λ i. pairs_of (value_at w i)) in
+      let long = length-map (slots_of d) (λ i. segment_pairs (value_at w i)) in
       subst (λ (ps : List (K × V)). in_use (passed_times held_by (length places) 8 w) ≤ room_for s (length ps)) store.version.list (omega (arith, left, few, long))
 
   -- the writer's guards, one by one, as the code makes them

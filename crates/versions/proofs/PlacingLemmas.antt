@@ -23,9 +23,9 @@ use Rattle.versions.specs.Items.{held_by, slots_of}
 use Rattle.std.specs.Cmp.{IsTotalOrder}
 use Rattle.sdd_base.specs.Steps.{times}
 use Rattle.versions.specs.Parts.{blocks_of_parts, made_in}
-use Rattle.versions.specs.Placing.{IsNoDirectory, IsLevelled, Adds, StandsIn, Places, Plan, list_planned, named_at}
+use Rattle.versions.specs.Placing.{IsNoDirectory, IsLevelled, AddsItems, StandsIn, Places, Plan, list_planned, named_at}
 use Rattle.versions.proofs.OnceLemmas.{slots_once}
-use Rattle.versions.specs.Versions.{IsSegment, pairs_of, blocks_of}
+use Rattle.versions.specs.Versions.{IsSegment, segment_pairs, blocks_of}
 use Rattle.sdd_base.specs.declared.owner.Kept.{Kept}
 use Rattle.versions.specs.declared.directory.Directory.{Directory}
 use Rattle.versions.specs.declared.item.Item.{Item}
@@ -115,7 +115,7 @@ module _ {K V : Type 0} {s : ℕ} where
     owned_still : (j : ℕ) → IsShared w j → IsShared w' j
     owned_still j sh = record { inside = (let size = length-set w.states i (status.Shared 1) in let inside = sh.inside in omega (arith, size, inside)); owners = sh.owners; is = status_there j (live_apart j (ap has_owner sh.is)) ∙ sh.is }
 
-    adds_one : Frame w w' → ((hand : List Hold) → Counted held_by hand w → IsLevelled w → IsLevelled w') → Adds 1 w w'
+    adds_one : Frame w w' → ((hand : List Hold) → Counted held_by hand w → IsLevelled w → IsLevelled w') → AddsItems 1 w w'
     adds_one keeps levelled = record {
       count = refl;
       participants = refl;
@@ -217,7 +217,7 @@ module _ {K V : Type 0} {s : ℕ} where
         (second.0 ∙ first.0, second.1);
   }
 
-  adds_then : (m n : ℕ) (u v w : State (Item K V s)) → Adds m u v → Adds n v w → ((hand : List Hold) → Counted held_by hand u → IsLevelled u → IsLevelled w) → Adds (m + n) u w
+  adds_then : (m n : ℕ) (u v w : State (Item K V s)) → AddsItems m u v → AddsItems n v w → ((hand : List Hold) → Counted held_by hand u → IsLevelled u → IsLevelled w) → AddsItems (m + n) u w
   adds_then m n u v w a b levelled = record {
     count = b.count ∙ a.count;
     participants = b.participants ∙ a.participants;
@@ -231,7 +231,7 @@ module _ {K V : Type 0} {s : ℕ} where
     levelled = levelled;
   }
 
-  adds_none : (w : State (Item K V s)) → Frame w w → Adds 0 w w
+  adds_none : (w : State (Item K V s)) → Frame w w → AddsItems 0 w w
   adds_none w keeps = record { count = refl; participants = refl; cells = refl; keeps = keeps; lives = λ i l. l; owned = λ i sh. sh; uses = omega arith; frees = omega arith; plain = λ p. p; levelled = λ hand c l. l }
 
   keeps_refl : (w : State (Item K V s)) → Frame w w
@@ -253,16 +253,16 @@ module _ {K V : Type 0} {s : ℕ} where
       let x : Item K V s = items.Segment t in
       let v' : State (Item K V s) = placed i x (status.Shared 1) v in
       let keeps : Frame v v' = subst (λ (y : State (Item K V s)). Frame v y) is keeps' in
-      let one : Adds 1 v v' = adds_one v i x place free keeps (λ hand c l. levelled_segment v i t place free l) in
+      let one : AddsItems 1 v v' = adds_one v i x place free keeps (λ hand c l. levelled_segment v i t place free l) in
       let old : (k : ℕ) → IsLive v k → value_at v' k ≡ value_at v k = λ k l. value_there v i x place free k (live_apart v i x place free k l) in
       let whole : StandsIn (n + 1) (xs ++ i ∷ []) (bs ++ t.pairs ∷ []) u v' = record {
         adds = (adds_then n 1 u v v' st.adds one (λ hand c l. levelled_segment v i t place free (st.adds.levelled hand c l)));
         segments = All-push (λ k. IsSegment (value_at v' k)) xs i (λ k d h. subst (λ (o : Option (Item K V s)). IsSegment o) (sym (old (get_or xs k d) (st.lives k d h))) (st.segments k d h)) (subst (λ (o : Option (Item K V s)). IsSegment o) (sym (value_here v i x place free)) tt);
         lives = All-push (λ k. IsLive v' k) xs i (λ k d h. one.lives (get_or xs k d) (st.lives k d h)) (live_here v i x place free);
         hold =
-            let before = map_same (λ k. pairs_of (value_at v' k)) (λ k. pairs_of (value_at v k)) xs (λ k d h. ap (λ (o : Option (Item K V s)). pairs_of o) (old (get_or xs k d) (st.lives k d h))) in
-            let here : pairs_of (value_at v' i) ≡ t.pairs = ap (λ (o : Option (Item K V s)). pairs_of o) (value_here v i x place free) in
-            map-append (λ k. pairs_of (value_at v' k)) xs (i ∷ []) ∙ ap (λ ys. ys ++ pairs_of (value_at v' i) ∷ []) (before ∙ st.hold) ∙ ap (λ y. bs ++ y ∷ []) here;
+            let before = map_same (λ k. segment_pairs (value_at v' k)) (λ k. segment_pairs (value_at v k)) xs (λ k d h. ap (λ (o : Option (Item K V s)). segment_pairs o) (old (get_or xs k d) (st.lives k d h))) in
+            let here : segment_pairs (value_at v' i) ≡ t.pairs = ap (λ (o : Option (Item K V s)). segment_pairs o) (value_here v i x place free) in
+            map-append (λ k. segment_pairs (value_at v' k)) xs (i ∷ []) ∙ ap (λ ys. ys ++ segment_pairs (value_at v' i) ∷ []) (before ∙ st.hold) ∙ ap (λ y. bs ++ y ∷ []) here;
         counted = λ hand c.
             let next = counted_placed_shared held_by i x (reverse (map SharedItem xs) ++ hand) v place free (st.counted hand c) in
             let names : reverse (map SharedItem (xs ++ i ∷ [])) ≡ SharedItem i ∷ reverse (map SharedItem xs) = ap reverse (map-append SharedItem xs (i ∷ [])) ∙ reverse-append (map SharedItem xs) (SharedItem i ∷ []) in
@@ -296,7 +296,7 @@ module _ {K V : Type 0} {s : ℕ} where
           | inr e ↦ record { inside = omega (arith, size, within); owners = sh.owners; is = owners_there j e.1 ∙ sh.is }
         ]
 
-    adds_owner : Frame v more_owners → Adds 0 v more_owners
+    adds_owner : Frame v more_owners → AddsItems 0 v more_owners
     adds_owner keeps = record {
       count = refl;
       participants = refl;
@@ -310,37 +310,37 @@ module _ {K V : Type 0} {s : ℕ} where
       levelled = λ hand c l. record { flat = l.flat; once = l.once };
     }
 
-  pub stands_taken : (n : ℕ) (u v w : State (Item K V s)) (xs : List ℕ) (bs : List (List (K × V))) (i k : ℕ) → StandsIn n xs bs u v → i < length v.states → status_at v i ≡ status.Shared k → IsSegment (value_at v i) → w ≡ with_status i (status.Shared (k + 1)) v → Frame v w → StandsIn n (xs ++ i ∷ []) (bs ++ pairs_of (value_at v i) ∷ []) u w
+  pub stands_taken : (n : ℕ) (u v w : State (Item K V s)) (xs : List ℕ) (bs : List (List (K × V))) (i k : ℕ) → StandsIn n xs bs u v → i < length v.states → status_at v i ≡ status.Shared k → IsSegment (value_at v i) → w ≡ with_status i (status.Shared (k + 1)) v → Frame v w → StandsIn n (xs ++ i ∷ []) (bs ++ segment_pairs (value_at v i) ∷ []) u w
   stands_taken n u v w xs bs i k st inside was segment is keeps' =
       let v' : State (Item K V s) = with_status i (status.Shared (k + 1)) v in
       let keeps : Frame v v' = subst (λ (y : State (Item K V s)). Frame v y) is keeps' in
-      let none : Adds 0 v v' = adds_owner v i k inside was keeps in
+      let none : AddsItems 0 v v' = adds_owner v i k inside was keeps in
       let same : n + 0 ≡ n = omega arith in
       let live : IsLive v i = ap has_owner was in
-      let whole : StandsIn n (xs ++ i ∷ []) (bs ++ pairs_of (value_at v i) ∷ []) u v' = record {
-        adds = subst (λ (m : ℕ). Adds m u v') same (adds_then n 0 u v v' st.adds none (λ hand c l. let m = st.adds.levelled hand c l in record { flat = m.flat; once = m.once }));
+      let whole : StandsIn n (xs ++ i ∷ []) (bs ++ segment_pairs (value_at v i) ∷ []) u v' = record {
+        adds = subst (λ (m : ℕ). AddsItems m u v') same (adds_then n 0 u v v' st.adds none (λ hand c l. let m = st.adds.levelled hand c l in record { flat = m.flat; once = m.once }));
         segments = All-push (λ j. IsSegment (value_at v j)) xs i st.segments segment;
         lives = All-push (λ j. IsLive v' j) xs i (λ j d h. none.lives (get_or xs j d) (st.lives j d h)) (none.lives i live);
-        hold = map-append (λ j. pairs_of (value_at v j)) xs (i ∷ []) ∙ ap (λ ys. ys ++ pairs_of (value_at v i) ∷ []) st.hold;
+        hold = map-append (λ j. segment_pairs (value_at v j)) xs (i ∷ []) ∙ ap (λ ys. ys ++ segment_pairs (value_at v i) ∷ []) st.hold;
         counted = λ hand c.
             let next = (owners_are_counted held_by).cloned i k (reverse (map SharedItem xs) ++ hand) v was inside (st.counted hand c) in
             let names : reverse (map SharedItem (xs ++ i ∷ [])) ≡ SharedItem i ∷ reverse (map SharedItem xs) = ap reverse (map-append SharedItem xs (i ∷ [])) ∙ reverse-append (map SharedItem xs) (SharedItem i ∷ []) in
             subst (λ (hs : List Hold). Counted held_by (hs ++ hand) v') (sym names) next;
       } in
-      subst (λ (y : State (Item K V s)). StandsIn n (xs ++ i ∷ []) (bs ++ pairs_of (value_at v i) ∷ []) u y) (sym is) whole
+      subst (λ (y : State (Item K V s)). StandsIn n (xs ++ i ∷ []) (bs ++ segment_pairs (value_at v i) ∷ []) u y) (sym is) whole
 
   -- the directory of segments that stand is placed
   pub places_directory : (cmp : K → K → Ordering) → IsTotalOrder cmp → (u v w : State (Item K V s)) (plan : Plan K V s) (i : ℕ) (d : Directory K Kept) → plan.number ≡ d.number → StandsIn (made_in plan.parts) (slots_of d) (blocks_of_parts (named_at (value_at u)) plan.parts) u v → IsCut cmp s (blocks_of_parts (named_at (value_at u)) plan.parts) d.separators.items → d.length ≡ length (list_planned (value_at u) plan) → IsPlace v → IsFree v i → w ≡ placed i (items.Directory d) (status.Shared 1) v → Frame v w → Places cmp plan i u w
   places_directory cmp o u v w plan i d numbers st cut counts place free is keeps' =
       let bs : List (List (K × V)) = blocks_of_parts (named_at (value_at u)) plan.parts in
-      let names = slots_once cmp o (λ k. pairs_of (value_at v k)) (slots_of d) (subst (λ (ys : List (List (K × V))). IsCut cmp s ys d.separators.items) (sym st.hold) cut) in
+      let names = slots_once cmp o (λ k. segment_pairs (value_at v k)) (slots_of d) (subst (λ (ys : List (List (K × V))). IsCut cmp s ys d.separators.items) (sym st.hold) cut) in
       let x : Item K V s = items.Directory d in
       let v' : State (Item K V s) = placed i x (status.Shared 1) v in
       let keeps : Frame v v' = subst (λ (y : State (Item K V s)). Frame v y) is keeps' in
       let level : (hand : List Hold) → Counted held_by hand v → IsLevelled v → IsLevelled v' = λ hand c l. levelled_directory v i d hand place free c st.lives st.segments names l in
-      let one : Adds 1 v v' = adds_one v i x place free keeps level in
+      let one : AddsItems 1 v v' = adds_one v i x place free keeps level in
       let old : (k : ℕ) → IsLive v k → value_at v' k ≡ value_at v k = λ k l. value_there v i x place free k (live_apart v i x place free k l) in
-      let same : blocks_of (value_at v') d ≡ bs = map_same (λ k. pairs_of (value_at v' k)) (λ k. pairs_of (value_at v k)) (slots_of d) (λ k e h. ap (λ (o : Option (Item K V s)). pairs_of o) (old (get_or (slots_of d) k e) (st.lives k e h))) ∙ st.hold in
+      let same : blocks_of (value_at v') d ≡ bs = map_same (λ k. segment_pairs (value_at v' k)) (λ k. segment_pairs (value_at v k)) (slots_of d) (λ k e h. ap (λ (o : Option (Item K V s)). segment_pairs o) (old (get_or (slots_of d) k e) (st.lives k e h))) ∙ st.hold in
       let whole : Places cmp plan i u v' = record {
         adds = adds_then (made_in plan.parts) 1 u v v' st.adds one (λ hand c l. level (reverse (map SharedItem (slots_of d)) ++ hand) (st.counted hand c) (st.adds.levelled hand c l));
         version = record {

@@ -8,8 +8,8 @@ use Rattle.sdd_base.specs.Frame.{IsLive, Frame, OnlyParticipant, has_owner}
 use Rattle.sdd_base.specs.Holding.{Hold, SharedIn}
 use Rattle.sdd_base.specs.Passing.{CanPass, IsLayered, NoJobWaits, PassesReclaim, accelerated, is_plain, passed, passed_times, slot_held}
 use Rattle.sdd_base.specs.Place.{IsPlace}
-use Rattle.sdd_base.specs.State.{State, in_use, local_at, marked, participant_at, value_at}
-use Rattle.sdd_base.specs.Steps.{bags_empty, opened}
+use Rattle.sdd_base.specs.State.{State, in_use, local_at, with_local_state, participant_at, value_at}
+use Rattle.sdd_base.specs.Steps.{bags_empty, guard_opened}
 use Rattle.sdd_base.specs.declared.status.Cell.{Cell}
 use Rattle.sdd_base.specs.declared.status.Cell.TheVariants as cell
 use Rattle.sdd_base.specs.declared.status.Status.{Status}
@@ -77,19 +77,19 @@ module _ {K V : Type 0} {s : ℕ} where
   pub counted_passed : (p : ℕ) (hand : List Hold) (w : State (Item K V s)) → IsPlace w → p < length w.participants → Counted held_by hand w → Counted held_by hand (passed held_by p w)
   counted_passed p hand w place known counted =
       let owners : OwnersAreCounted {T = Item K V s} held_by = owners_are_counted held_by in
-      let o : State (Item K V s) = opened held_by p w in
+      let o : State (Item K V s) = guard_opened held_by p w in
       owners.closed p hand (accelerated p o) (counted_same held_by hand o (accelerated p o) refl refl refl (owners.opened p hand w place known counted))
 
   -- over one pass, the root keeps its version
   rooted_passed : (n p c i : ℕ) (d : Directory K Kept) (w : State (Item K V s)) → CanPass (suc n) p w → IsRooted p c i d w → IsRooted p c i d (passed held_by p w)
   rooted_passed n p c i d w can r =
       let hand : List Hold = SharedIn c ∷ [] in
-      let o : State (Item K V s) = opened held_by p w in
+      let o : State (Item K V s) = guard_opened held_by p w in
       let a : State (Item K V s) = accelerated p o in
       let owners : OwnersAreCounted {T = Item K V s} held_by = owners_are_counted held_by in
       let opening = (gives_only held_by).opening p w can.place can.known in
       let keeps : Frame w o = (keeps_opened held_by w p can.place can.known).0 in
-      let inside : p < length a.participants = (let size = length-set o.participants p (marked (record (local_at o p) { accelerated = true }) (participant_at o p)) in let same = keeps.participants in let known = can.known in omega (arith, size, same, known)) in
+      let inside : p < length a.participants = (let size = length-set o.participants p (with_local_state (record (local_at o p) { accelerated = true }) (participant_at o p)) in let same = keeps.participants in let known = can.known in omega (arith, size, same, known)) in
       let closing = (gives_only held_by).closing p a inside in
       let live : IsLive w i = ap has_owner (owners.kept c i r.tag hand w r.root r.counted).is in
       let one : same_hold (SharedIn c) (SharedIn c) ≡ 1 = hit-same c in

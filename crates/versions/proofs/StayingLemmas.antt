@@ -13,7 +13,7 @@ use Rattle.versions.specs.Cuts.{IsCut, pairs_in}
 use Rattle.versions.specs.Items.{held_by, slots_of}
 use Rattle.versions.specs.Placing.{HasVersion}
 use Rattle.versions.specs.Staying.{IsSeen, VersionsStay}
-use Rattle.versions.specs.Versions.{IsSegment, blocks_of, pairs_of}
+use Rattle.versions.specs.Versions.{IsSegment, blocks_of, segment_pairs}
 use Rattle.sdd_base.specs.declared.owner.Kept.{Kept}
 use Rattle.versions.specs.declared.directory.Directory.{Directory}
 use Rattle.versions.specs.declared.item.Item.{Item}
@@ -25,7 +25,7 @@ module _ {K V : Type 0} {s : ℕ} (cmp : K → K → Ordering) where
   same_version : (w w' : State (Item K V s)) (i number : ℕ) (pairs : List (K × V)) (v : HasVersion cmp w i number pairs) → value_at w' i ≡ value_at w i → All (λ j. value_at w' j ≡ value_at w j) (slots_of v.directory) → HasVersion cmp w' i number pairs
   same_version w w' i number pairs v here there =
       let d = v.directory in
-      let blocks : blocks_of (value_at w') d ≡ blocks_of (value_at w) d = map_same (λ j. pairs_of (value_at w' j)) (λ j. pairs_of (value_at w j)) (slots_of d) (λ k e h. ap (λ (o : Option (Item K V s)). pairs_of o) (there k e h)) in
+      let blocks : blocks_of (value_at w') d ≡ blocks_of (value_at w) d = map_same (λ j. segment_pairs (value_at w' j)) (λ j. segment_pairs (value_at w j)) (slots_of d) (λ k e h. ap (λ (o : Option (Item K V s)). segment_pairs o) (there k e h)) in
       record {
         directory = d;
         is = here ∙ v.is;

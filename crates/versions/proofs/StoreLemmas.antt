@@ -10,11 +10,11 @@ use Rattle.std.specs.declared.cmp.Ordering.{Ordering}
 use Rattle.sdd_base.specs.Counting.{Counted, same_hold, tally}
 use Rattle.sdd_base.specs.Frame.{IsLive, Frame, OnlyParticipant, has_owner}
 use Rattle.sdd_base.specs.Holding.{SharedIn}
-use Rattle.sdd_base.specs.Passing.{IsPlain, IsQuiet, Shrinks, Stands, is_plain, slot_kept}
+use Rattle.sdd_base.specs.Passing.{IsPlain, IsQuiet, Shrinks, OnlyParticipantsChange, is_plain, slot_kept}
 use Rattle.sdd_base.specs.Place.{IsOpen, IsPlace, IsReadable, IsShared, IsSharedCell}
 use Rattle.sdd_base.specs.State.{State, ParticipantState, cell_at, in_use, is_used, local_at, usage, value_at}
-use Rattle.sdd_base.specs.Steps.{bags_empty, closed, opened}
-use Rattle.sdd_base.specs.Tokens.{loaded_slot, participant_of}
+use Rattle.sdd_base.specs.Steps.{bags_empty, guard_closed, guard_opened}
+use Rattle.sdd_base.specs.Tokens.{loaded_slot, guard_participant}
 use Rattle.sdd_base.specs.declared.status.Cell.{Cell}
 use Rattle.sdd_base.specs.declared.status.Status.{Status}
 use Rattle.sdd_base.specs.declared.status.Status.TheVariants as status
@@ -32,7 +32,7 @@ use Rattle.versions.specs.Versions.{list_of}
 use Rattle.versions.specs.declared.item.Item.{Item}
 use Rattle.versions.proofs.ReclaimLemmas.{levelled_after}
 use Rattle.versions.proofs.StayingLemmas.{versions_stay}
-use Rattle.versions.specs.Store.{IsReader, IsStore, Reads, Version, read_by, store_of, version_in, version_of}
+use Rattle.versions.specs.Store.{IsReader, IsStore, HasVersionOpen, Version, read_by, store_of, version_in, version_of}
 use Rattle.versions.specs.declared.store.readers.Opened.{Opened}
 use Rattle.versions.proofs.OptionLemmas.{mapped_none, mapped_some, read_there}
 
@@ -91,7 +91,7 @@ module _ {K V : Type 0} {s : ℕ} (cmp : K → K → Ordering) where
         record { once = once; guard = r.guard; slot = r.slot; named = r.named; number = r.number; pairs = r.pairs; version = t.0; seen = t.1 }
 
     -- which read what they read before
-    pub reads_same : (p q : ℕ) (o : Opened K V s) → q ≢ p → Frame w w' → OnlyParticipant p w w' → Reads cmp w q o → read_by w' o ≡ read_by w o
+    pub reads_same : (p q : ℕ) (o : Opened K V s) → q ≢ p → Frame w w' → OnlyParticipant p w w' → HasVersionOpen cmp w q o → read_by w' o ≡ read_by w o
     reads_same p q o ne keeps only r =
         let once : (local_at w' q).nesting ≡ 1 = ap (λ (m : ParticipantState). m.local.nesting) (only q ne) ∙ r.once in
         let was = r.once in
@@ -142,7 +142,7 @@ module _ {K V : Type 0} {s : ℕ} (cmp : K → K → Ordering) where
       here (Some o) e = ap (λ (v : Version K V). Some v) (same 0 o (sym e))
 
   -- where only participants changed, the same is shown
-  pub stands_shows : (w w' : State (Item K V s)) (root : ℕ) (places : List (Option (Opened K V s))) → Stands w w' → store_of w' root places ≡ store_of w root places
+  pub stands_shows : (w w' : State (Item K V s)) (root : ℕ) (places : List (Option (Opened K V s))) → OnlyParticipantsChange w w' → store_of w' root places ≡ store_of w root places
   stands_shows w w' root places stands =
       ap (λ (n : ℕ). store_of (record w' { count = n }) root places) stands.count
       ∙ ap (λ (vs : List (Option (Item K V s))). store_of (record w' { count = w.count; values = vs }) root places) stands.values
@@ -152,7 +152,7 @@ module _ {K V : Type 0} {s : ℕ} (cmp : K → K → Ordering) where
   module _ (w : State (Item K V s)) (root : ℕ) (places : List (Option (Opened K V s))) (store : IsStore cmp w root places) (p : ℕ) (known : p < length w.participants) where
     -- a guard opens
     abbrev started : State (Item K V s)
-    started = opened held_by p w
+    started = guard_opened held_by p w
 
     pub opened_moves : Moves p root w started
     opened_moves =
@@ -178,7 +178,7 @@ module _ {K V : Type 0} {s : ℕ} (cmp : K → K → Ordering) where
     opened_used = (owners_are_counted held_by).cell_in_hand root [] started opened_moves.counted
 
     -- a reader opens
-    pub store_opened : (o : Opened K V s) → p < length places → get_or places p None ≡ None → participant_of o.guard ≡ p → loaded_slot o.root ≡ Some store.slot → IsStore cmp started root (set places p (Some o))
+    pub store_opened : (o : Opened K V s) → p < length places → get_or places p None ≡ None → guard_participant o.guard ≡ p → loaded_slot o.root ≡ Some store.slot → IsStore cmp started root (set places p (Some o))
     store_opened o inside free guard named =
         let moves = opened_moves in
         let named' : cell_at started root ≡ cell.OfShared (Some store.slot) tag.None = opened_cell ∙ store.named in
@@ -187,7 +187,7 @@ module _ {K V : Type 0} {s : ℕ} (cmp : K → K → Ordering) where
         let live : IsLive started store.slot = ap has_owner shared.is in
         let closed_before : (local_at w p).nesting ≡ 0 = subst (λ (x : Option (Opened K V s)). IsReader cmp w p x) free (store.readers p) in
         let more = opened_nesting in
-        let reads : Reads cmp started p o = record {
+        let reads : HasVersionOpen cmp started p o = record {
           once = omega (arith, more, closed_before);
           guard = guard;
           slot = store.slot;
@@ -214,7 +214,7 @@ module _ {K V : Type 0} {s : ℕ} (cmp : K → K → Ordering) where
 
     -- a guard closes
     abbrev ended : State (Item K V s)
-    ended = closed p w
+    ended = guard_closed p w
 
     closed_moves : IsOpen w p → Moves p root w ended
     closed_moves opens =
@@ -232,7 +232,7 @@ module _ {K V : Type 0} {s : ℕ} (cmp : K → K → Ordering) where
     -- a reader closes
     pub store_closed : (o : Opened K V s) → p < length places → get_or places p None ≡ Some o → IsStore cmp ended root (set places p None)
     store_closed o inside there =
-        let r : Reads cmp w p o = subst (λ (x : Option (Opened K V s)). IsReader cmp w p x) there (store.readers p) in
+        let r : HasVersionOpen cmp w p o = subst (λ (x : Option (Opened K V s)). IsReader cmp w p x) there (store.readers p) in
         let was = r.once in
         let moves = closed_moves (omega (arith, was)) in
         let same = (gives_only held_by).closing p w known in
@@ -286,7 +286,7 @@ module _ {K V : Type 0} {s : ℕ} (cmp : K → K → Ordering) where
   pub record ReaderAt (w : State (Item K V s)) (places : List (Option (Opened K V s))) (place : ℕ) (o : Opened K V s) (v : Version K V) : Type 0 where
     pub inside : place < length places
     pub at : get_or places place None ≡ Some o
-    pub reads : Reads cmp w place o
+    pub reads : HasVersionOpen cmp w place o
     pub shows : read_by w o ≡ v
 
   -- the reader that is found at a place
@@ -333,7 +333,7 @@ module _ {K V : Type 0} {s : ℕ} (cmp : K → K → Ordering) where
       (t.0, t.1, subst (λ (x : Option (Opened K V s)). IsReader cmp w place x) t.1 (store.readers place))
 
   -- what a reader has can be read
-  pub reads_readable : (w : State (Item K V s)) (p : ℕ) (o : Opened K V s) → Reads cmp w p o → IsReadable w (loaded_slot o.root)
+  pub reads_readable : (w : State (Item K V s)) (p : ℕ) (o : Opened K V s) → HasVersionOpen cmp w p o → IsReadable w (loaded_slot o.root)
   reads_readable w p o r = subst (λ (x : Option ℕ). IsReadable w x) (sym r.named) (used_inside w.states r.slot r.seen.item.used, r.seen.item.used)
 
   -- the present version is in use, and no more slots than there are

@@ -9,8 +9,8 @@ use Rattle.tree_index.specs.Shape.{AllKeys}
 use Rattle.tree_index.proofs.ShapeLemmas.{all_append}
 use Rattle.versions.specs.Changes.{ahead, apply_delta}
 use Rattle.versions.specs.Cuts.{pairs_in}
-use Rattle.versions.specs.Cutting.{IsPassedBy, between, differ, turns}
-use Rattle.versions.specs.Gone.{is_gone, without}
+use Rattle.versions.specs.Cutting.{IsPassedBy, between, differ, turn_count}
+use Rattle.versions.specs.Gone.{is_gone, without_gone}
 use Rattle.versions.specs.declared.building.gone.Gone.{Gone}
 use Rattle.versions.proofs.BlockListLemmas.{pairs_in-append}
 use Rattle.versions.proofs.DeltaLemmas.{amended_passed}
@@ -82,8 +82,8 @@ module _ {K V : Type 0} {cmp : K → K → Ordering} (o : IsTotalOrder cmp) (blo
   passed : IsPassedBy cmp cs stretch
   passed change first = all_between (λ k. cmp k change.0 ≡ Less) place end blocks (λ i b from upto here. (each i b from upto here).0 change first)
 
-  pub stretch_ahead : ahead cmp cs gone place blocks ≡ stretch ++ apply_delta cmp cs (without cmp gone (pairs_in (drop end blocks)))
-  stretch_ahead = ap (λ ps. apply_delta cmp cs (without cmp gone ps)) (pairs_behind_stretch blocks place end le) ∙ (ap (apply_delta cmp cs) (without_apart cmp gone stretch (pairs_in (drop end blocks)) apart) ∙ amended_passed o cs stretch (without cmp gone (pairs_in (drop end blocks))) passed)
+  pub stretch_ahead : ahead cmp cs gone place blocks ≡ stretch ++ apply_delta cmp cs (without_gone cmp gone (pairs_in (drop end blocks)))
+  stretch_ahead = ap (λ ps. apply_delta cmp cs (without_gone cmp gone ps)) (pairs_behind_stretch blocks place end le) ∙ (ap (apply_delta cmp cs) (without_apart cmp gone stretch (pairs_in (drop end blocks)) apart) ∙ amended_passed o cs stretch (without_gone cmp gone (pairs_in (drop end blocks))) passed)
 
-  pub stretch_turns : (last : Bool) → 1 ≤ length stretch → turns (is_gone cmp gone) last (pairs_in (drop place blocks)) ≡ differ last false + turns (is_gone cmp gone) false (pairs_in (drop end blocks))
-  stretch_turns last some = ap (turns (is_gone cmp gone) last) (pairs_behind_stretch blocks place end le) ∙ alike_turns (is_gone cmp gone) last false stretch (pairs_in (drop end blocks)) some apart
+  pub stretch_turns : (last : Bool) → 1 ≤ length stretch → turn_count (is_gone cmp gone) last (pairs_in (drop place blocks)) ≡ differ last false + turn_count (is_gone cmp gone) false (pairs_in (drop end blocks))
+  stretch_turns last some = ap (turn_count (is_gone cmp gone) last) (pairs_behind_stretch blocks place end le) ∙ alike_turns (is_gone cmp gone) last false stretch (pairs_in (drop end blocks)) some apart

@@ -3,8 +3,8 @@ use Rattle.std.proofs.Common.{◌≡◌, ℕ, zero, suc, ◌≤◌, ◌&&◌, Op
 use Rattle.std.proofs.lemmas.Bool.{cases_lt}
 use Rattle.std.proofs.lemmas.List.{get_or_past, reverse-append, set_past}
 use Rattle.sdd_base.specs.Holding.{Hold, SharedItem}
-use Rattle.sdd_base.specs.State.{IsUnused, ParticipantState, State, marked, local_at, participant_at, nobody, rotated_bags, status_at, taken, turned, value_at}
-use Rattle.sdd_base.specs.Steps.{AllSwept, bags_empty, due_reclaimed, due_reclaimed_as, given, given_all, held_in, reclaimed, rotated, rotated_each, settled}
+use Rattle.sdd_base.specs.State.{IsUnused, ParticipantState, State, with_local_state, local_at, participant_at, nobody, rotated_bags, status_at, taken, bags_moved_on, value_at}
+use Rattle.sdd_base.specs.Steps.{AllSwept, bags_empty, due_reclaimed, due_reclaimed_as, given, given_all, held_in, reclaimed, participant_rotated, rotated_each, settled}
 use Rattle.sdd_base.specs.declared.status.Cell.{Cell}
 use Rattle.sdd_base.specs.declared.status.Cell.TheVariants as cell
 use Rattle.sdd_base.proofs.CellLemmas.{cells_released_as}
@@ -46,21 +46,21 @@ module _ {K V : Type 0} {s : ℕ} where
   cells_reclaimed p zero w = refl
   cells_reclaimed p (suc n) w = cells_reclaimed p n (due_reclaimed held_by p w) ∙ cells_due p (participant_at w p).due w
 
-  cells_rotated : (p : ℕ) (w : State (Item K V s)) → (rotated held_by p w).cells ≡ w.cells
+  cells_rotated : (p : ℕ) (w : State (Item K V s)) → (participant_rotated held_by p w).cells ≡ w.cells
   cells_rotated p w = cells_reclaimed p (length (participant_at w p).oldest) (rotated_bags p w)
 
   -- a number that names no participant rotates nothing
-  rotated_past : (p : ℕ) (w : State (Item K V s)) → length w.participants ≤ p → rotated held_by p w ≡ w
+  rotated_past : (p : ℕ) (w : State (Item K V s)) → length w.participants ≤ p → participant_rotated held_by p w ≡ w
   rotated_past p w past =
       let m = participant_at w p in
       let u : State (Item K V s) = rotated_bags p w in
       let none : length m.oldest ≡ 0 = ap (λ (x : ParticipantState). length x.oldest) (get_or_past w.participants p nobody past) in
-      let size = length-set w.participants p (turned m) in
+      let size = length-set w.participants p (bags_moved_on m) in
       let flag = record (local_at u p) { garbage = (local_at u p).garbage && not (bags_empty (participant_at u p)) } in
-      let same : set u.participants p (marked flag (participant_at u p)) ≡ w.participants = set_past u.participants p (marked flag (participant_at u p)) (omega (arith, size, past)) ∙ set_past w.participants p (turned m) past in
+      let same : set u.participants p (with_local_state flag (participant_at u p)) ≡ w.participants = set_past u.participants p (with_local_state flag (participant_at u p)) (omega (arith, size, past)) ∙ set_past w.participants p (bags_moved_on m) past in
       ap (λ (n : ℕ). settled p (reclaimed held_by p n u)) none ∙ ap (λ (ms : List ParticipantState). record w { participants = ms }) same
 
-  rootless_rotated : (p : ℕ) (w : State (Item K V s)) → IsRootless w → IsRootless (rotated held_by p w)
+  rootless_rotated : (p : ℕ) (w : State (Item K V s)) → IsRootless w → IsRootless (participant_rotated held_by p w)
   rootless_rotated p w r = elim (cases_lt p (length w.participants)) [
     | inl known ↦
         let shrinks = shrinks_rotated held_by w p r.place known in
@@ -68,7 +68,7 @@ module _ {K V : Type 0} {s : ℕ} where
           place = (rotates held_by w p r.place known).place;
           counted = counted_rotated held_by p [] w r.place known r.counted;
           plain = λ j. shrinks.plain j (r.plain j);
-          levelled = levelled_after w (rotated held_by p w) shrinks.values r.levelled;
+          levelled = levelled_after w (participant_rotated held_by p w) shrinks.values r.levelled;
           cells = λ c. ap (λ (cs : List Cell). get_or cs c cell.Free) (cells_rotated p w) ∙ r.cells c;
         }
     | inr past ↦ subst (λ (x : State (Item K V s)). IsRootless x) (sym (rotated_past p w past)) r
@@ -76,7 +76,7 @@ module _ {K V : Type 0} {s : ℕ} where
 
   rootless_each : (ps : List ℕ) (w : State (Item K V s)) → IsRootless w → IsRootless (rotated_each held_by ps w)
   rootless_each [] w r = r
-  rootless_each (p ∷ ps) w r = rootless_each ps (rotated held_by p w) (rootless_rotated p w r)
+  rootless_each (p ∷ ps) w r = rootless_each ps (participant_rotated held_by p w) (rootless_rotated p w r)
 
   leaves_none : (w w' : State (Item K V s)) → IsRootless w → AllSwept held_by w w' → IsUnused w'
   leaves_none w w' r swept =

@@ -16,8 +16,8 @@ use Rattle.sdd_base.proofs.ListLemmas.{hit-same, hit-other}
 use Rattle.tree_index.proofs.WayLemmas.{some_same}
 use Rattle.versions.specs.Cuts.{IsCut}
 use Rattle.versions.specs.Parts.{blocks_of_parts, makes, part_pairs}
-use Rattle.versions.specs.Placing.{CanBeShared, HasPlaced, IsTakeable, StandsIn, in_slot, named_at, slots_in, taken_slots}
-use Rattle.versions.specs.Versions.{IsSegment, pairs_of}
+use Rattle.versions.specs.Placing.{CanBeShared, HasPlaced, IsTakeable, StandsIn, pairs_in_slot, named_at, slots_in, taken_slots}
+use Rattle.versions.specs.Versions.{IsSegment, segment_pairs}
 use Rattle.versions.specs.declared.building.segments.Part.{Part}
 use Rattle.versions.specs.declared.building.segments.Part.TheVariants as parts
 use Rattle.versions.specs.declared.item.Item.{Item}
@@ -70,7 +70,7 @@ module _ {K V : Type 0} {s : ℕ} where
             let value = st.adds.keeps.lives i (ap has_owner can.is) in
             let long = st.adds.keeps.states in
             let inside = can.inside in
-            let pairs : pairs_of (value_at v i) ≡ named_at (value_at u) p = ap (λ (o : Option (Item K V s)). pairs_of o) value ∙ sym (ap (λ (q : Option ℕ). in_slot (value_at u) q) h.0) in
+            let pairs : segment_pairs (value_at v i) ≡ named_at (value_at u) p = ap (λ (o : Option (Item K V s)). segment_pairs o) value ∙ sym (ap (λ (q : Option ℕ). pairs_in_slot (value_at u) q) h.0) in
             let none : n + 0 ≡ n = omega arith in
             let whole = stands_taken n u v w xs bs i h.1 st (omega (arith, long, inside)) h.2 (subst (λ (o : Option (Item K V s)). IsSegment o) (sym value) segment) h.3 h.4 in
             subst (λ (m : ℕ). StandsIn m (xs ++ i ∷ []) (bs ++ named_at (value_at u) p ∷ []) u w) (sym none) (subst (λ (b : List (K × V)). StandsIn n (xs ++ i ∷ []) (bs ++ b ∷ []) u w) pairs whole)
@@ -109,10 +109,10 @@ module _ {K V : Type 0} {s : ℕ} where
   slots_taken (parts.Taken p ∷ ps) = ap (λ is. slots_in (loaded_slot p) is) (slots_taken ps)
   slots_taken (parts.Made t ∷ ps) = slots_taken ps
 
-  named_slot : (at : ℕ → Option (Item K V s)) (p : Part K V (Loaded (Item K V s))) (i : ℕ) → part_slot p ≡ Some i → part_pairs (named_at at) p ≡ pairs_of (at i)
+  named_slot : (at : ℕ → Option (Item K V s)) (p : Part K V (Loaded (Item K V s))) (i : ℕ) → part_slot p ≡ Some i → part_pairs (named_at at) p ≡ segment_pairs (at i)
   unfolding part_slot
-  named_slot at (parts.Taken p) i e = ap (λ (q : Option ℕ). in_slot at q) e
+  named_slot at (parts.Taken p) i e = ap (λ (q : Option ℕ). pairs_in_slot at q) e
   named_slot at (parts.Made t) i e = cc
 
   pub taken_once : (cmp : K → K → Ordering) (o : IsTotalOrder cmp) (at : ℕ → Option (Item K V s)) (ps : List (Part K V (Loaded (Item K V s)))) (keys : List K) → IsCut cmp s (blocks_of_parts (named_at at) ps) keys → (j : ℕ) → times j (taken_slots ps) ≤ 1
-  taken_once cmp o at ps keys cut j = subst (λ ys. times j ys ≤ 1) (slots_taken ps) (once_by cmp o s part_slot (part_pairs (named_at at)) (λ i. pairs_of (at i)) (named_slot at) ps cut.sizes cut.rising j)
+  taken_once cmp o at ps keys cut j = subst (λ ys. times j ys ≤ 1) (slots_taken ps) (once_by cmp o s part_slot (part_pairs (named_at at)) (λ i. segment_pairs (at i)) (named_slot at) ps cut.sizes cut.rising j)

@@ -4,7 +4,7 @@ use Rattle.std.specs.Prelude.{ℕ, ◌+◌, List, [], ◌∷◌, ◌++◌, drop,
 use Rattle.std.specs.declared.cmp.Ordering.{Ordering}
 use Rattle.leaf_array.specs.Edits.{above, below}
 use Rattle.versions.specs.Cuts.{pairs_in}
-use Rattle.versions.specs.Gone.{without}
+use Rattle.versions.specs.Gone.{without_gone}
 use Rattle.versions.specs.declared.building.changes.Changes.{Changes}
 use Rattle.versions.specs.declared.building.gone.Gone.{Gone}
 
@@ -21,11 +21,11 @@ module _ {K V : Type 0} where
 
   -- the list that changes make of one: what ranges leave of it, and then the edits
   abbrev pub changed : (K → K → Ordering) → Changes K V → List (K × V) → List (K × V)
-  changed cmp c pairs = apply_delta cmp c.edits.pairs (without cmp c.gone.items pairs)
+  changed cmp c pairs = apply_delta cmp c.edits.pairs (without_gone cmp c.gone.items pairs)
 
   -- the list that edits make of what ranges leave of blocks, from a place on
   abbrev pub ahead : (K → K → Ordering) → List (K × Option V) → List (Gone K) → ℕ → List (List (K × V)) → List (K × V)
-  ahead cmp edits gone place blocks = apply_delta cmp edits (without cmp gone (pairs_in (drop place blocks)))
+  ahead cmp edits gone place blocks = apply_delta cmp edits (without_gone cmp gone (pairs_in (drop place blocks)))
 
   -- how many keys and ranges they name
   abbrev pub named_by : Changes K V → ℕ

@@ -15,7 +15,7 @@ use Rattle.versions.specs.declared.read.position.CursorEnd.TheVariants as cursor
 use Rattle.versions.specs.declared.read.position.Position.{Position}
 
 -- the keys before a block are lesser than this one, and those behind it greater
-pub record IsAround {K V : Type 0} (cmp : K → K → Ordering) (key : K) (blocks : List (List (K × V))) (place : ℕ) : Type 0 where
+pub record IsBlockAround {K V : Type 0} (cmp : K → K → Ordering) (key : K) (blocks : List (List (K × V))) (place : ℕ) : Type 0 where
   pub within : place < length blocks
   pub before : AllKeys (λ k. cmp k key ≡ Less) (pairs_in (take place blocks))
   pub behind : AllKeys (λ k. cmp key k ≡ Less) (pairs_in (drop (suc place) blocks))
@@ -33,8 +33,8 @@ further n Done = Done
 
 module _ {K V : Type 0} where
   -- how many pairs stand in the blocks before one
-  abbrev pub pairs_before : List (List (K × V)) → ℕ → ℕ
-  pairs_before blocks n = length (pairs_in (take n blocks))
+  abbrev pub pairs_before_block : List (List (K × V)) → ℕ → ℕ
+  pairs_before_block blocks n = length (pairs_in (take n blocks))
 
   -- the forward end of a cursor over a block stands at one of its pairs; so does the backward end
   pub record IsFore (blocks : List (List (K × V))) (s : Position K V) : Type 0 where
@@ -74,25 +74,25 @@ module _ {K V : Type 0} where
   -- where it stands among the pairs of all blocks
   abbrev pub fore_place : List (List (K × V)) → CursorEnd K V → End ℕ
   fore_place blocks cursor_ends.Unopened = Unopened
-  fore_place blocks (cursor_ends.At s) = further (pairs_before blocks s.segment) s.cursor.forward
+  fore_place blocks (cursor_ends.At s) = further (pairs_before_block blocks s.segment) s.cursor.forward
   fore_place blocks cursor_ends.Done = Done
 
   abbrev pub rear_place : List (List (K × V)) → CursorEnd K V → End ℕ
   rear_place blocks cursor_ends.Unopened = Unopened
-  rear_place blocks (cursor_ends.At s) = further (pairs_before blocks s.segment) s.cursor.backward
+  rear_place blocks (cursor_ends.At s) = further (pairs_before_block blocks s.segment) s.cursor.backward
   rear_place blocks cursor_ends.Done = Done
 
   -- its forward end stands behind n pairs, alone; its backward end stands at the last of n pairs, alone
   pub record IsForeAt (blocks : List (List (K × V))) (n : ℕ) (s : Position K V) : Type 0 where
     pub stands : IsFore blocks s
     pub alone : s.cursor.backward ≡ Unopened
-    pub place : further (pairs_before blocks s.segment) s.cursor.forward ≡ At n
+    pub place : further (pairs_before_block blocks s.segment) s.cursor.forward ≡ At n
 
   pub record IsRearAt (blocks : List (List (K × V))) (n : ℕ) (s : Position K V) : Type 0 where
     pub stands : IsRear blocks s
     pub alone : s.cursor.forward ≡ Unopened
     pub some : 0 < n
-    pub place : further (pairs_before blocks s.segment) s.cursor.backward ≡ At (n - 1)
+    pub place : further (pairs_before_block blocks s.segment) s.cursor.backward ≡ At (n - 1)
 
   -- the pair stands at this place of the blocks
   abbrev pub IsPairAt : List (List (K × V)) → ℕ → Bor K × Bor V → Type 0

@@ -17,8 +17,8 @@ abbrev pub between : {X : Type 0} → ℕ → ℕ → List X → List X
 between from upto xs = take (upto - from) (drop from xs)
 
 -- a block of 1 to s pairs
-abbrev pub IsSized : {X : Type 0} → ℕ → List X → Type 0
-IsSized s b = (1 ≤ length b) × (length b ≤ s)
+abbrev pub IsSegmentSized : {X : Type 0} → ℕ → List X → Type 0
+IsSegmentSized s b = (1 ≤ length b) × (length b ≤ s)
 
 -- how many pairs the last block has, 0 where there is none
 abbrev pub last_size : {X : Type 0} → List (List X) → ℕ
@@ -38,9 +38,9 @@ differ true false = 1
 differ false true = 1
 differ false false = 0
 
-abbrev pub turns : {K V : Type 0} → (K → Bool) → Bool → List (K × V) → ℕ
-turns test last [] = 0
-turns test last (p ∷ ps) = differ last (test p.0) + turns test (test p.0) ps
+abbrev pub turn_count : {K V : Type 0} → (K → Bool) → Bool → List (K × V) → ℕ
+turn_count test last [] = 0
+turn_count test last (p ∷ ps) = differ last (test p.0) + turn_count test (test p.0) ps
 
 module _ {K V N : Type 0} where
   -- how many trees were made
@@ -48,17 +48,17 @@ module _ {K V N : Type 0} where
   trees c = made_in c.row.parts.items + one_open c.tail.pairs
 
   -- the pairs for which there is room up to the last one, in trees of s pairs
-  abbrev pub spent : ℕ → SegmentBuilder K V N → ℕ
-  spent s c = s * made_in c.row.parts.items + length c.tail.pairs
+  abbrev pub room_spent : ℕ → SegmentBuilder K V N → ℕ
+  room_spent s c = s * made_in c.row.parts.items + length c.tail.pairs
 
   module _ (named : N → List (K × V)) where
     -- the pairs that were given
-    abbrev pub given : SegmentBuilder K V N → List (K × V)
-    given c = pairs_in (blocks_of_parts named c.row.parts.items) ++ c.tail.pairs
+    abbrev pub given_pairs : SegmentBuilder K V N → List (K × V)
+    given_pairs c = pairs_in (blocks_of_parts named c.row.parts.items) ++ c.tail.pairs
 
     -- segments of 1 to s pairs, none of which two neighbours could do without, with the greatest key of each
-    pub record IsRow (s : ℕ) (row : Row K V N) : Type 0 where
-      pub sizes : All (IsSized s) (blocks_of_parts named row.parts.items)
+    pub record IsSegmentRow (s : ℕ) (row : Row K V N) : Type 0 where
+      pub sizes : All (IsSegmentSized s) (blocks_of_parts named row.parts.items)
       pub tight : IsTight s (blocks_of_parts named row.parts.items)
       pub separated : map Some row.separators.items ≡ map greatest_key (blocks_of_parts named row.parts.items)
       pub last : row.last ≡ last_size (blocks_of_parts named row.parts.items)
@@ -78,16 +78,16 @@ module _ {K V N : Type 0} where
     pub record IsCutting (cmp : K → K → Ordering) (s : ℕ) (blocks : List (List (K × V))) (c : SegmentBuilder K V N) : Type 0 where
       pub least : 1 ≤ s
       pub most : s ≤ 225
-      pub row : IsRow s c.row
+      pub row : IsSegmentRow s c.row
       pub room : length c.tail.pairs ≤ s
-      pub rising : IsAscending cmp (given c)
-      pub count : c.length ≡ length (given c)
+      pub rising : IsAscending cmp (given_pairs c)
+      pub count : c.length ≡ length (given_pairs c)
       pub held : IsHeld blocks c.row.parts.items c.held
       pub fresh : c.held ≡ None → (c.row.last ≡ 0) ⊎ (c.row.last ≡ s)
 
     -- the open tree can end behind the segments that are done
     pub record IsClosing (s : ℕ) (c : SegmentBuilder K V N) : Type 0 where
-      pub sizes : All (IsSized s) (blocks_of_parts named c.row.parts.items ++ c.tail.pairs ∷ [])
+      pub sizes : All (IsSegmentSized s) (blocks_of_parts named c.row.parts.items ++ c.tail.pairs ∷ [])
       pub tight : IsTight s (blocks_of_parts named c.row.parts.items ++ c.tail.pairs ∷ [])
       pub separated : map Some c.row.separators.items ≡ map greatest_key (blocks_of_parts named c.row.parts.items)
 
@@ -95,8 +95,8 @@ module _ {K V N : Type 0} where
     pub record StaysApart (cmp : K → K → Ordering) (s : ℕ) (blocks : List (List (K × V))) (place : ℕ) (c : SegmentBuilder K V N) : Type 0 where
       pub block : List (K × V)
       pub there : slice_get blocks place ≡ Some block
-      pub sized : IsSized s block
-      pub rising : IsAscending cmp (given c ++ block)
+      pub sized : IsSegmentSized s block
+      pub rising : IsAscending cmp (given_pairs c ++ block)
       pub closed : length c.tail.pairs ≡ 0 → 0 < c.row.last → s < c.row.last + length block
       pub opened : 0 < length c.tail.pairs → s < length c.tail.pairs + length block
 
@@ -105,17 +105,17 @@ module _ {K V N : Type 0} where
   Joins s n c = ((length c.tail.pairs ≡ 0) × (0 < c.row.last) × (c.row.last + n ≤ s)) ⊎ ((0 < length c.tail.pairs) × (length c.tail.pairs + n ≤ s))
 
   -- no more than was read was given: from so many pairs and changes that were left to so many
-  pub record IsFilled (s left left' : ℕ) (c c' : SegmentBuilder K V N) : Type 0 where
-    pub spent : spent s c' + left' ≤ spent s c + left
+  pub record GivesNoMoreThanRead (s left left' : ℕ) (c c' : SegmentBuilder K V N) : Type 0 where
+    pub spent : room_spent s c' + left' ≤ room_spent s c + left
     pub some : 0 < length c.tail.pairs → 0 < length c'.tail.pairs
     pub none : length c'.tail.pairs ≡ 0 → made_in c'.row.parts.items ≡ made_in c.row.parts.items
 
   -- with so many edits left, no more trees were made than two for each that was passed, and one for each turn between pairs
   -- that are gone and others: one less, where the next segment fits into one with the last one, or pairs before it are gone
   pub record IsThrifty (s budget : ℕ) (test : K → Bool) (last : Bool) (rest : List (List (K × V))) (left : ℕ) (c : SegmentBuilder K V N) : Type 0 where
-    pub all : trees c + 2 * left + turns test last (pairs_in rest) ≤ budget
-    pub spare : length c.tail.pairs ≡ 0 → 0 < c.row.last → (b : List (K × V)) → slice_get rest 0 ≡ Some b → c.row.last + length b ≤ s → trees c + 1 + 2 * left + turns test last (pairs_in rest) ≤ budget
-    pub behind : last ≡ true → length c.tail.pairs ≡ 0 → trees c + 1 + 2 * left + turns test last (pairs_in rest) ≤ budget
+    pub all : trees c + 2 * left + turn_count test last (pairs_in rest) ≤ budget
+    pub spare : length c.tail.pairs ≡ 0 → 0 < c.row.last → (b : List (K × V)) → slice_get rest 0 ≡ Some b → c.row.last + length b ≤ s → trees c + 1 + 2 * left + turn_count test last (pairs_in rest) ≤ budget
+    pub behind : last ≡ true → length c.tail.pairs ≡ 0 → trees c + 1 + 2 * left + turn_count test last (pairs_in rest) ≤ budget
 
 module _ {K V X : Type 0} (cmp : K → K → Ordering) where
   -- the first change is at or below the last key of a segment; or all keys are below it

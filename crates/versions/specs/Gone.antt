@@ -15,13 +15,13 @@ is_gone cmp [] key = false
 is_gone cmp (g ∷ gs) key = range_contains cmp g.lower g.upper key || is_gone cmp gs key
 
 -- the pairs that lie in none of them
-abbrev pub without : {K V : Type 0} → (K → K → Ordering) → List (Gone K) → List (K × V) → List (K × V)
-without cmp gone pairs = filter (λ p. not (is_gone cmp gone p.0)) pairs
+abbrev pub without_gone : {K V : Type 0} → (K → K → Ordering) → List (Gone K) → List (K × V) → List (K × V)
+without_gone cmp gone pairs = filter (λ p. not (is_gone cmp gone p.0)) pairs
 
 -- the first pair, if there is one, isn't gone
-abbrev pub IsLeft : {K V : Type 0} → (K → K → Ordering) → List (Gone K) → List (K × V) → Type 0
-IsLeft cmp gone [] = Unit {0}
-IsLeft cmp gone (p ∷ ps) = is_gone cmp gone p.0 ≡ false
+abbrev pub FirstIsLeft : {K V : Type 0} → (K → K → Ordering) → List (Gone K) → List (K × V) → Type 0
+FirstIsLeft cmp gone [] = Unit {0}
+FirstIsLeft cmp gone (p ∷ ps) = is_gone cmp gone p.0 ≡ false
 
 -- a place among blocks, and that of an end of a range, if it has a bound there: at it or behind, behind, at it or before, before
 abbrev pub IsFrom : Option ℕ → ℕ → Type 0

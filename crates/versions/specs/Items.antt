@@ -8,12 +8,12 @@ use Rattle.versions.specs.declared.item.Item.{Item}
 use Rattle.versions.specs.declared.item.Item.TheVariants as items
 
 -- the owners of the segments of a directory, in order
-abbrev pub owners_of : {K O : Type 0} → Directory K O → List O
-owners_of d = d.segments.items
+abbrev pub segment_owners : {K O : Type 0} → Directory K O → List O
+segment_owners d = d.segments.items
 
 -- their slots, where it stands in a place of one thread
 abbrev pub slots_of : {K : Type 0} → Directory K Kept → List ℕ
-slots_of d = map kept_slot (owners_of d)
+slots_of d = map kept_slot (segment_owners d)
 
 -- a directory gives its segments up from the last one on
 abbrev pub held_by : {K V : Type 0} {s : ℕ} → Item K V s → List Hold

@@ -19,9 +19,9 @@ module _ {K V N : Type 0} where
   makes (parts.Made tree) = 1
 
   -- the part has this tree, which was made
-  abbrev pub IsMade : Tree K V → Part K V N → Type 0
-  IsMade tree (parts.Taken name) = ⊥
-  IsMade tree (parts.Made made) = made.value ≡ tree
+  abbrev pub HasMadeTree : Tree K V → Part K V N → Type 0
+  HasMadeTree tree (parts.Taken name) = ⊥
+  HasMadeTree tree (parts.Made made) = made.value ≡ tree
 
   -- how many trees were made
   abbrev pub made_in : List (Part K V N) → ℕ

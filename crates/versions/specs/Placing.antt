@@ -14,7 +14,7 @@ use Rattle.sdd_base.specs.declared.pointer.Loaded.{Loaded}
 use Rattle.sdd_base.specs.declared.status.Status.TheVariants as status
 use Rattle.versions.specs.Cuts.{IsCut, pairs_in}
 use Rattle.versions.specs.Items.{held_by, slots_of}
-use Rattle.versions.specs.Versions.{IsSegment, IsVersion, pairs_of, list_of}
+use Rattle.versions.specs.Versions.{IsSegment, IsVersion, segment_pairs, list_of}
 use Rattle.sdd_base.specs.declared.owner.Kept.{Kept}
 use Rattle.versions.specs.declared.directory.Directory.{Directory}
 use Rattle.versions.specs.Parts.{blocks_of_parts, made_in}
@@ -30,18 +30,18 @@ slots_in (Some i) is = i ∷ is
 
 module _ {K V : Type 0} {s : ℕ} where
   -- the pairs of the segment in a slot, where these items stand in the slots
-  abbrev pub in_slot : (ℕ → Option (Item K V s)) → Option ℕ → List (K × V)
-  in_slot at None = []
-  in_slot at (Some i) = pairs_of (at i)
+  abbrev pub pairs_in_slot : (ℕ → Option (Item K V s)) → Option ℕ → List (K × V)
+  pairs_in_slot at None = []
+  pairs_in_slot at (Some i) = segment_pairs (at i)
 
   -- those of the segment that a pointer names
   abbrev pub named_at : (ℕ → Option (Item K V s)) → Loaded (Item K V s) → List (K × V)
-  named_at at p = in_slot at (loaded_slot p)
+  named_at at p = pairs_in_slot at (loaded_slot p)
 
   -- where the slot is one of these
   abbrev pub in_one_of : List ℕ → (ℕ → Option (Item K V s)) → Option ℕ → List (K × V)
   in_one_of slots at None = []
-  in_one_of slots at (Some i) = cond (nat_lt 0 (times i slots)) (pairs_of (at i)) []
+  in_one_of slots at (Some i) = cond (nat_lt 0 (times i slots)) (segment_pairs (at i)) []
 
   abbrev pub named_among : List ℕ → (ℕ → Option (Item K V s)) → Loaded (Item K V s) → List (K × V)
   named_among slots at p = in_one_of slots at (loaded_slot p)
@@ -75,7 +75,7 @@ module _ {K V : Type 0} {s : ℕ} where
     pub once : (i : ℕ) (d : Directory K Kept) → value_at w i ≡ Some (items.Directory d) → (j : ℕ) → times j (slots_of d) ≤ 1
 
   -- n items more, and all else as it was
-  pub record Adds (n : ℕ) (w w' : State (Item K V s)) : Type 0 where
+  pub record AddsItems (n : ℕ) (w w' : State (Item K V s)) : Type 0 where
     pub count : w'.count ≡ w.count
     pub participants : w'.participants ≡ w.participants
     pub cells : w'.cells ≡ w.cells
@@ -122,10 +122,10 @@ module _ {K V : Type 0} {s : ℕ} where
 
   -- segments with these pairs stand in these slots, n of which are new, and their owners are in hand
   pub record StandsIn (n : ℕ) (slots : List ℕ) (blocks : List (List (K × V))) (w w' : State (Item K V s)) : Type 0 where
-    pub adds : Adds n w w'
+    pub adds : AddsItems n w w'
     pub segments : All (λ i. IsSegment (value_at w' i)) slots
     pub lives : All (λ i. IsLive w' i) slots
-    pub hold : map (λ i. pairs_of (value_at w' i)) slots ≡ blocks
+    pub hold : map (λ i. segment_pairs (value_at w' i)) slots ≡ blocks
     pub counted : (hand : List Hold) → Counted held_by hand w → Counted held_by (reverse (map SharedItem slots) ++ hand) w'
 
   -- a directory stands in this slot, which is the version of that number with that list
@@ -138,12 +138,12 @@ module _ {K V : Type 0} {s : ℕ} where
 
   -- the version is placed, and its one owner is in hand
   pub record Places (cmp : K → K → Ordering) (plan : Plan K V s) (slot : ℕ) (w w' : State (Item K V s)) : Type 0 where
-    pub adds : Adds (slots_for plan) w w'
+    pub adds : AddsItems (slots_for plan) w w'
     pub version : HasVersion cmp w' slot plan.number (list_planned (value_at w) plan)
     pub shared : IsShared w' slot
     pub counted : (hand : List Hold) → Counted held_by hand w → Counted held_by (SharedItem slot ∷ hand) w'
 
 -- p gives back what the cell kept, if it kept an owner
-abbrev pub given_back : {T : Type 0} → ℕ → Option ℕ → State T → State T
-given_back p None w = w
-given_back p (Some i) w = released p i w
+abbrev pub owner_given_back : {T : Type 0} → ℕ → Option ℕ → State T → State T
+owner_given_back p None w = w
+owner_given_back p (Some i) w = released p i w

@@ -2,7 +2,7 @@
 use Rattle.std.specs.Prelude.{ℕ, ◌+◌, ◌*◌, ◌/◌, ◌≤◌, ◌<◌, ◌^◌}
 
 -- so many places for readers, so many slots, and at most s pairs in a segment
-pub record IsSized (readers slots s : ℕ) : Type 0 where
+pub record IsStoreSized (readers slots s : ℕ) : Type 0 where
   pub readers_fit : readers < 2 ^ 30
   pub some_slot : 1 ≤ slots
   pub slots_fit : slots ≤ 2 ^ 30

@@ -7,7 +7,7 @@ use Rattle.sdd_base.specs.Holding.{SharedIn}
 use Rattle.sdd_base.specs.Passing.{IsPlain, IsQuiet, slot_kept}
 use Rattle.sdd_base.specs.Place.{IsPlace}
 use Rattle.sdd_base.specs.State.{State, cell_at, in_use, local_at, value_at}
-use Rattle.sdd_base.specs.Tokens.{loaded_slot, participant_of}
+use Rattle.sdd_base.specs.Tokens.{loaded_slot, guard_participant}
 use Rattle.sdd_base.specs.declared.status.Cell.TheVariants as cell
 use Rattle.sdd_base.specs.declared.tag.Tag.TheVariants as tag
 use Rattle.versions.specs.Items.{held_by}
@@ -70,9 +70,9 @@ module _ {K V : Type 0} {s : ℕ} where
 
   module _ (cmp : K → K → Ordering) where
     -- the one guard of participant p, under which it has a version that stays while the guard is open
-    pub record Reads (w : State (Item K V s)) (p : ℕ) (o : Opened K V s) : Type 0 where
+    pub record HasVersionOpen (w : State (Item K V s)) (p : ℕ) (o : Opened K V s) : Type 0 where
       pub once : (local_at w p).nesting ≡ 1
-      pub guard : participant_of o.guard ≡ p
+      pub guard : guard_participant o.guard ≡ p
       pub slot : ℕ
       pub named : loaded_slot o.root ≡ Some slot
       pub number : ℕ
@@ -83,7 +83,7 @@ module _ {K V : Type 0} {s : ℕ} where
     -- participant p has a reader, or no guard
     abbrev pub IsReader : State (Item K V s) → ℕ → Option (Opened K V s) → Type 0
     IsReader w p None = (local_at w p).nesting ≡ 0
-    IsReader w p (Some o) = Reads w p o
+    IsReader w p (Some o) = HasVersionOpen w p o
 
     -- there are so few slots that owners can be counted; the root's version is there, and the readers'; nothing else has
     -- an owner outside; only the writer, which comes behind the readers, has anything that waits

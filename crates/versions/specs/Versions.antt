@@ -11,10 +11,10 @@ use Rattle.versions.specs.declared.item.Item.TheVariants as items
 
 module _ {K V : Type 0} {s : ℕ} where
   -- the pairs of a segment
-  abbrev pub pairs_of : Option (Item K V s) → List (K × V)
-  pairs_of None = []
-  pairs_of (Some (items.Directory d)) = []
-  pairs_of (Some (items.Segment t)) = t.pairs
+  abbrev pub segment_pairs : Option (Item K V s) → List (K × V)
+  segment_pairs None = []
+  segment_pairs (Some (items.Directory d)) = []
+  segment_pairs (Some (items.Segment t)) = t.pairs
 
   abbrev pub IsSegment : Option (Item K V s) → Type 0
   IsSegment None = ⊥
@@ -23,7 +23,7 @@ module _ {K V : Type 0} {s : ℕ} where
 
   -- the segments of a directory, where these items stand in the slots
   abbrev pub blocks_of : (ℕ → Option (Item K V s)) → Directory K Kept → List (List (K × V))
-  blocks_of at d = map (λ i. pairs_of (at i)) (slots_of d)
+  blocks_of at d = map (λ i. segment_pairs (at i)) (slots_of d)
 
   -- its list
   abbrev pub list_of : (ℕ → Option (Item K V s)) → Directory K Kept → List (K × V)

@@ -1,7 +1,7 @@
 //! Directories: versions of a list, as segments in order.
 
 ghost use Rattle.std.specs.Prelude.{◌≡◌, length};
-ghost use Rattle.versions.specs.Items.{owners_of};
+ghost use Rattle.versions.specs.Items.{segment_owners};
 
 /// A version of a list: the owners of its segments in order, where `O` is an owner of a segment.
 ///
@@ -25,7 +25,7 @@ impl<K, O> Directory<K, O> {
 
     /// How many segments the version has: none where its list is empty.
     pub fn segments(&self) -> usize
-        ensures { result ≡ length (owners_of self.now) }
+        ensures { result ≡ length (segment_owners self.now) }
     {
         self.segments.len()
     }

@@ -1,7 +1,7 @@
 //! Items.
 
 ghost use Rattle.std.specs.Prelude.{◌≡◌, ◌≤◌, Some, IfSome, IfNone};
-ghost use Rattle.versions.specs.Versions.{IsSegment, pairs_of};
+ghost use Rattle.versions.specs.Versions.{IsSegment, segment_pairs};
 
 use crate::directory::Directory;
 use crate::segment::Segment;
@@ -30,7 +30,7 @@ impl<K: Ord, V, const S: usize> Item<K, V, S> {
     /// The tree of a segment. Condition: it is one.
     pub(crate) fn segment(&self) -> &TreeIndex<K, V>
         requires { IsSegment (Some self.now) }
-        ensures pairs { result.now.pairs ≡ pairs_of (Some self.now) }
+        ensures pairs { result.now.pairs ≡ segment_pairs (Some self.now) }
         ensures flat { result.now.depth ≤ 1 }
     {
         match self {

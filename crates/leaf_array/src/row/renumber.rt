@@ -1,7 +1,7 @@
 //! The slots of a packed row.
 
 ghost use Rattle.std.specs.Prelude.{◌≡◌, ◌+◌, ◌≤◌, length};
-ghost use Rattle.leaf_array.specs.Places.{packed, IsTailed};
+ghost use Rattle.leaf_array.specs.Places.{repacked, IsTailed};
 
 use crate::place::renumber;
 use crate::row::{Last, Link, Places};
@@ -13,7 +13,7 @@ pub(crate) trait Renumber<K: Drop, V: Drop>: Places<K, V> {
     fn renumber(&mut self, from: u8)
         requires within { from + length (Self.places self.old) ≤ 15 }
         requires tailed { IsTailed (Self.places self.old) }
-        ensures { Self.places self.new ≡ packed from (Self.places self.old) };
+        ensures { Self.places self.new ≡ repacked from (Self.places self.old) };
 }
 
 impl<K: Drop, V: Drop> Renumber<K, V> for Last<K, V> {

@@ -2,7 +2,7 @@
 
 ghost use Rattle.std.specs.Prelude.{◌≡◌, ◌+◌, ◌<◌, ◌++◌, ◌∷◌, [], length, take, drop, IsSome, Some, slice_index_or};
 ghost use Rattle.leaf_array.specs.declared.place.Place.TheVariants.{Empty};
-ghost use Rattle.leaf_array.specs.Places.{live_pair, renewed, paired, died, vacated};
+ghost use Rattle.leaf_array.specs.Places.{live_pair, renewed, paired, died, front_vacated};
 
 use crate::place::{Place, overwrite, renew, vacate};
 use crate::row::{Last, Link, Places};
@@ -41,7 +41,7 @@ pub(crate) trait Vacate<K, V>: Places<K, V> {
     fn vacate(&mut self, at: usize) -> (K, V)
         requires { IsSome (live_pair (slice_index_or (Self.places self.old) at Empty)) }
         ensures pair { Some result ≡ live_pair (slice_index_or (Self.places self.old) at Empty) }
-        ensures places { Self.places self.new ≡ take at (Self.places self.old) ++ vacated (drop at (Self.places self.old)) };
+        ensures places { Self.places self.new ≡ take at (Self.places self.old) ++ front_vacated (drop at (Self.places self.old)) };
 }
 
 impl<K, V> Put<K, V> for Last<K, V> {
@@ -130,7 +130,7 @@ impl<K, V> Vacate<K, V> for Last<K, V> {
     fn vacate(&mut self, at: usize) -> (K, V)
         requires { IsSome (live_pair (slice_index_or (self.old.head ∷ []) at Empty)) }
         ensures pair { Some result ≡ live_pair (slice_index_or (self.old.head ∷ []) at Empty) }
-        ensures places { self.new.head ∷ [] ≡ take at (self.old.head ∷ []) ++ vacated (drop at (self.old.head ∷ [])) }
+        ensures places { self.new.head ∷ [] ≡ take at (self.old.head ∷ []) ++ front_vacated (drop at (self.old.head ∷ [])) }
     {
         if at > 0 {
             unreachable!();
@@ -144,7 +144,7 @@ impl<K, V, R: Vacate<K, V>> Vacate<K, V> for Link<K, V, R> {
     fn vacate(&mut self, at: usize) -> (K, V)
         requires { IsSome (live_pair (slice_index_or (self.old.head ∷ R.places self.old.rest) at Empty)) }
         ensures pair { Some result ≡ live_pair (slice_index_or (self.old.head ∷ R.places self.old.rest) at Empty) }
-        ensures places { self.new.head ∷ R.places self.new.rest ≡ take at (self.old.head ∷ R.places self.old.rest) ++ vacated (drop at (self.old.head ∷ R.places self.old.rest)) }
+        ensures places { self.new.head ∷ R.places self.new.rest ≡ take at (self.old.head ∷ R.places self.old.rest) ++ front_vacated (drop at (self.old.head ∷ R.places self.old.rest)) }
     {
         if at > 0 {
             return self.rest.vacate(at - 1);

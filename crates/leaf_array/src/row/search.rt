@@ -1,7 +1,7 @@
 //! Search by key.
 
 ghost use Rattle.std.specs.Prelude.{◌≡◌, ◌+◌, ◌≤◌, length, Some, None, MatchOption};
-ghost use Rattle.leaf_array.specs.Places.{below, least};
+ghost use Rattle.leaf_array.specs.Places.{live_below, least};
 
 use crate::place::Place;
 use crate::row::{Last, Link, Places};
@@ -14,9 +14,9 @@ pub(crate) trait Search<K: Ord, V>: Places<K, V> {
     /// place before it, and one for its own.
     fn lower(&self, at: usize, key: &K, steps: &mut Steps) -> (usize, Option<(&K, &V)>)
         requires { at + length (Self.places self.now) ≤ 15 }
-        ensures cost { steps.new.count ≤ steps.old.count + below K.cmp key.now (Self.places self.now) + 1 }
+        ensures cost { steps.new.count ≤ steps.old.count + live_below K.cmp key.now (Self.places self.now) + 1 }
         ensures raised { steps.old.count ≤ steps.new.count }
-        ensures place { result.0 ≡ at + below K.cmp key.now (Self.places self.now) }
+        ensures place { result.0 ≡ at + live_below K.cmp key.now (Self.places self.now) }
         ensures pair { MatchOption result.1 (least K.cmp key.now (Self.places self.now) ≡ None) (λ e. least K.cmp key.now (Self.places self.now) ≡ Some (e.0.now, e.1.now)) };
 }
 

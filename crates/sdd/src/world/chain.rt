@@ -7,7 +7,7 @@ ghost use Rattle.sdd_base.specs.State.{IsFreeCell, cell_at, status_at, with_cell
 ghost use Rattle.sdd_base.specs.Frame.{OnlyParticipant};
 ghost use Rattle.sdd_base.specs.Place.{IsSharedCell};
 ghost use Rattle.sdd_base.specs.Tokens.{shared_cell, shared_slot, shared_slots, link_cell};
-ghost use Rattle.sdd.specs.Chain.{Entry, IsItem, IsList, Hangs, HasLink, IsDetached, Fits, TookFirst, Leaves, Stays, CanHang, deleted, Begins, skip, undeleted, first_item, first_slot, front_tag, slots, SameUses, MoreOwners, OneMore};
+ghost use Rattle.sdd.specs.Chain.{Entry, IsItem, IsList, Hangs, HasLink, IsDetached, FitsBefore, TookFirst, Leaves, Stays, CanHang, deleted, BeginsWithItem, skip, undeleted, first_item, first_slot, front_tag, slots, SameUses, MoreOwners, OneMore};
 ghost use Rattle.sdd.specs.Calls.{DropsFirst, Empties, HangsFirst, OfList, OnlyList};
 
 use crate::linked_list::LinkedList;
@@ -119,7 +119,7 @@ pub(crate) fn first<'w, L: LinkedList, J: Deferred>(
 ) -> Option<Front<'w, L>>
     requires { Hangs L.link w.now (shared_cell cell.now) }
     ensures none { IfNone result (OfList L.link w.now cell.now (λ t es. es ≡ [])) }
-    ensures some { IfSome result (λ f. OfList L.link w.now cell.now (λ t es. Begins es f.item.now (shared_cell f.link.now) f.deleted)) }
+    ensures some { IfSome result (λ f. OfList L.link w.now cell.now (λ t es. BeginsWithItem es f.item.now (shared_cell f.link.now) f.deleted)) }
 {
     let Some(item) = atomic_shared::as_ref(w, cell) else {
         return None;

@@ -7,7 +7,7 @@ ghost use Rattle.sdd_base.specs.Place.{IsShared};
 ghost use Rattle.sdd_base.specs.Steps.{released};
 ghost use Rattle.sdd_base.specs.declared.tag.Tag.{Tag};
 ghost use Rattle.sdd.specs.Chain.{Entry, IsList, Leaves, Stays, deleted, undeleted, skip, first_slot, front_tag};
-ghost use Rattle.sdd.specs.Nodes.{IsNode, IsSomeNode, IsListed, CanInsert, Inserts, Retags, clear, marked};
+ghost use Rattle.sdd.specs.Nodes.{NamesEntry, NamesSomeEntry, IsListed, CanInsert, Inserts, Retags, clear, marked};
 ghost use Rattle.sdd.specs.Calls.{NextIsFull, OfInsertion, OfNode};
 
 use crate::linked_list::LinkedList;
@@ -23,8 +23,8 @@ use sdd_base::world::{World, atomic_shared};
 
 /// The link of the entry that `at` names.
 fn link_at<L: LinkedList, J: Deferred>(w: &World<L, J>, at: &Ptr<'static, L>) -> Link<L>
-    requires { IsSomeNode L.link w.now (ptr_slot at.now) }
-    ensures { (e : Entry L) → IsNode L.link w.now (ptr_slot at.now) e → link_cell result ≡ e.link }
+    requires { NamesSomeEntry L.link w.now (ptr_slot at.now) }
+    ensures { (e : Entry L) → NamesEntry L.link w.now (ptr_slot at.now) e → link_cell result ≡ e.link }
 {
     match w.read(at) {
         Some(item) => Link::of(item.link_ref()),
@@ -34,17 +34,17 @@ fn link_at<L: LinkedList, J: Deferred>(w: &World<L, J>, at: &Ptr<'static, L>) ->
 
 /// The tag of the entry that `at` names.
 fn tag_of<L: LinkedList, J: Deferred>(w: &World<L, J>, at: &Ptr<'static, L>) -> Tag
-    requires { IsSomeNode L.link w.now (ptr_slot at.now) }
-    ensures { (e : Entry L) → IsNode L.link w.now (ptr_slot at.now) e → result ≡ e.tag }
+    requires { NamesSomeEntry L.link w.now (ptr_slot at.now) }
+    ensures { (e : Entry L) → NamesEntry L.link w.now (ptr_slot at.now) e → result ≡ e.tag }
 {
     atomic_shared::tag(w, link_at(w, at).cell())
 }
 
 /// Gives the entry that `at` names another tag.
 fn set_tag<L: LinkedList, J: Deferred>(w: &mut World<L, J>, at: &Ptr<'static, L>, tag: Tag)
-    requires { IsSomeNode L.link w.old (ptr_slot at.now) }
-    ensures retags { (e : Entry L) → IsNode L.link w.old (ptr_slot at.now) e → Retags L.link w.old w.new e tag }
-    ensures leaves { (e : Entry L) → IsNode L.link w.old (ptr_slot at.now) e → Leaves (e.link ∷ []) [] w.old w.new }
+    requires { NamesSomeEntry L.link w.old (ptr_slot at.now) }
+    ensures retags { (e : Entry L) → NamesEntry L.link w.old (ptr_slot at.now) e → Retags L.link w.old w.new e tag }
+    ensures leaves { (e : Entry L) → NamesEntry L.link w.old (ptr_slot at.now) e → Leaves (e.link ∷ []) [] w.old w.new }
     ensures participants { w.new.participants ≡ w.old.participants }
     ensures stays { Stays w.old w.new }
 {
@@ -75,35 +75,35 @@ fn is_marked_tag(tag: Tag) -> bool
 
 /// Whether the entry that `at` names is neither marked nor deleted.
 pub fn is_clear<L: LinkedList, J: Deferred>(w: &World<L, J>, at: Ptr<'static, L>) -> bool
-    requires { IsSomeNode L.link w.now (ptr_slot at) }
-    ensures { (e : Entry L) → IsNode L.link w.now (ptr_slot at.entry) e → result ≡ clear e.tag }
+    requires { NamesSomeEntry L.link w.now (ptr_slot at) }
+    ensures { (e : Entry L) → NamesEntry L.link w.now (ptr_slot at.entry) e → result ≡ clear e.tag }
 {
     is_clear_tag(tag_of(w, &at))
 }
 
 /// Whether the entry that `at` names is marked.
 pub fn is_marked<L: LinkedList, J: Deferred>(w: &World<L, J>, at: Ptr<'static, L>) -> bool
-    requires { IsSomeNode L.link w.now (ptr_slot at) }
-    ensures { (e : Entry L) → IsNode L.link w.now (ptr_slot at.entry) e → result ≡ marked e.tag }
+    requires { NamesSomeEntry L.link w.now (ptr_slot at) }
+    ensures { (e : Entry L) → NamesEntry L.link w.now (ptr_slot at.entry) e → result ≡ marked e.tag }
 {
     is_marked_tag(tag_of(w, &at))
 }
 
 /// Whether the entry that `at` names is deleted.
 pub fn is_deleted<L: LinkedList, J: Deferred>(w: &World<L, J>, at: Ptr<'static, L>) -> bool
-    requires { IsSomeNode L.link w.now (ptr_slot at) }
-    ensures { (e : Entry L) → IsNode L.link w.now (ptr_slot at.entry) e → result ≡ deleted e.tag }
+    requires { NamesSomeEntry L.link w.now (ptr_slot at) }
+    ensures { (e : Entry L) → NamesEntry L.link w.now (ptr_slot at.entry) e → result ≡ deleted e.tag }
 {
     chain::is_deleted(tag_of(w, &at))
 }
 
 /// LocalState a clear entry, and answers whether it was clear.
 pub fn mark<L: LinkedList, J: Deferred>(w: &mut World<L, J>, at: Ptr<'static, L>) -> bool
-    requires { IsSomeNode L.link w.old (ptr_slot at) }
-    ensures when { (e : Entry L) → IsNode L.link w.old (ptr_slot at.entry) e → result ≡ clear e.tag }
-    ensures marked { IsTrue result → (e : Entry L) → IsNode L.link w.old (ptr_slot at.entry) e → Retags L.link w.old w.new e Tag.First }
+    requires { NamesSomeEntry L.link w.old (ptr_slot at) }
+    ensures when { (e : Entry L) → NamesEntry L.link w.old (ptr_slot at.entry) e → result ≡ clear e.tag }
+    ensures marked { IsTrue result → (e : Entry L) → NamesEntry L.link w.old (ptr_slot at.entry) e → Retags L.link w.old w.new e Tag.First }
     ensures kept { IsFalse result → w.new ≡ w.old }
-    ensures leaves { (e : Entry L) → IsNode L.link w.old (ptr_slot at.entry) e → Leaves (e.link ∷ []) [] w.old w.new }
+    ensures leaves { (e : Entry L) → NamesEntry L.link w.old (ptr_slot at.entry) e → Leaves (e.link ∷ []) [] w.old w.new }
     ensures participants { w.new.participants ≡ w.old.participants }
     ensures stays { Stays w.old w.new }
 {
@@ -116,11 +116,11 @@ pub fn mark<L: LinkedList, J: Deferred>(w: &mut World<L, J>, at: Ptr<'static, L>
 
 /// Clears a marked entry, and answers whether it was marked.
 pub fn unmark<L: LinkedList, J: Deferred>(w: &mut World<L, J>, at: Ptr<'static, L>) -> bool
-    requires { IsSomeNode L.link w.old (ptr_slot at) }
-    ensures when { (e : Entry L) → IsNode L.link w.old (ptr_slot at.entry) e → result ≡ marked e.tag }
-    ensures cleared { IsTrue result → (e : Entry L) → IsNode L.link w.old (ptr_slot at.entry) e → Retags L.link w.old w.new e Tag.None }
+    requires { NamesSomeEntry L.link w.old (ptr_slot at) }
+    ensures when { (e : Entry L) → NamesEntry L.link w.old (ptr_slot at.entry) e → result ≡ marked e.tag }
+    ensures cleared { IsTrue result → (e : Entry L) → NamesEntry L.link w.old (ptr_slot at.entry) e → Retags L.link w.old w.new e Tag.None }
     ensures kept { IsFalse result → w.new ≡ w.old }
-    ensures leaves { (e : Entry L) → IsNode L.link w.old (ptr_slot at.entry) e → Leaves (e.link ∷ []) [] w.old w.new }
+    ensures leaves { (e : Entry L) → NamesEntry L.link w.old (ptr_slot at.entry) e → Leaves (e.link ∷ []) [] w.old w.new }
     ensures participants { w.new.participants ≡ w.old.participants }
     ensures stays { Stays w.old w.new }
 {
@@ -134,11 +134,11 @@ pub fn unmark<L: LinkedList, J: Deferred>(w: &mut World<L, J>, at: Ptr<'static, 
 /// Deletes an entry that isn't deleted, and answers whether it did. It stays linked until it is passed at the front of
 /// its list.
 pub fn delete_self<L: LinkedList, J: Deferred>(w: &mut World<L, J>, at: Ptr<'static, L>) -> bool
-    requires { IsSomeNode L.link w.old (ptr_slot at) }
-    ensures when { (e : Entry L) → IsNode L.link w.old (ptr_slot at.entry) e → result ≡ not (deleted e.tag) }
-    ensures deleted { IsTrue result → (e : Entry L) → IsNode L.link w.old (ptr_slot at.entry) e → Retags L.link w.old w.new e Tag.Second }
+    requires { NamesSomeEntry L.link w.old (ptr_slot at) }
+    ensures when { (e : Entry L) → NamesEntry L.link w.old (ptr_slot at.entry) e → result ≡ not (deleted e.tag) }
+    ensures deleted { IsTrue result → (e : Entry L) → NamesEntry L.link w.old (ptr_slot at.entry) e → Retags L.link w.old w.new e Tag.Second }
     ensures kept { IsFalse result → w.new ≡ w.old }
-    ensures leaves { (e : Entry L) → IsNode L.link w.old (ptr_slot at.entry) e → Leaves (e.link ∷ []) [] w.old w.new }
+    ensures leaves { (e : Entry L) → NamesEntry L.link w.old (ptr_slot at.entry) e → Leaves (e.link ∷ []) [] w.old w.new }
     ensures participants { w.new.participants ≡ w.old.participants }
     ensures stays { Stays w.old w.new }
 {
@@ -167,7 +167,7 @@ pub fn push_back<L: LinkedList, J: Deferred>(
     guard: &WorldGuard,
 ) -> Result<Ptr<'static, L>, Shared<L>>
     requires { CanInsert L.link w.old (ptr_slot at) (shared_slot entry) }
-    ensures when { (e : Entry L) → IsNode L.link w.old (ptr_slot at.entry) e → IsErr result ↔ (deleted e.tag ≡ true) }
+    ensures when { (e : Entry L) → NamesEntry L.link w.old (ptr_slot at.entry) e → IsErr result ↔ (deleted e.tag ≡ true) }
     ensures back { IfErr result (λ s. (shared_slot s ≡ shared_slot entry) × (w.new ≡ w.old)) }
     ensures pointer { IfOk result (λ r. (ptr_slot r ≡ Some (shared_slot entry)) × (ptr_tag r ≡ cond mark Tag.First Tag.None)) }
     ensures pushed { OnOk result (OfInsertion L.link w.old (ptr_slot at.entry) (shared_slot entry) (λ e x. Inserts L.link w.old w.new e (cond mark Tag.First Tag.None) x)) }
@@ -193,7 +193,7 @@ pub fn next_ptr<L: LinkedList, J: Deferred>(
     requires { IsListed L.link w.now (ptr_slot at) }
     ensures next { OfNode L.link w.now (ptr_slot at.entry) (λ e es. ptr_slot result ≡ first_slot (undeleted es)) }
     ensures tag { OfNode L.link w.now (ptr_slot at.entry) (λ e es. ptr_tag result ≡ front_tag e.tag es) }
-    ensures node { IfSome (ptr_slot result) (λ i. IsSomeNode L.link w.now (Some i)) }
+    ensures node { IfSome (ptr_slot result) (λ i. NamesSomeEntry L.link w.now (Some i)) }
     ensures listed { IfSome (ptr_slot result) (λ i. IsListed L.link w.now (Some i)) }
 {
     match w.read(&at) {

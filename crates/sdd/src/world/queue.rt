@@ -6,10 +6,10 @@ ghost use Rattle.sdd_base.specs.Frame.{OnlyParticipant};
 ghost use Rattle.sdd_base.specs.Place.{IsShared};
 ghost use Rattle.sdd_base.specs.Steps.{released};
 ghost use Rattle.sdd_base.specs.Tokens.{shared_slot, ptr_slot, ptr_tag};
-ghost use Rattle.sdd.specs.Nodes.{IsSomeNode, IsListed};
+ghost use Rattle.sdd.specs.Nodes.{NamesSomeEntry, IsListed};
 ghost use Rattle.std.specs.Fn.{FnOnceReturnsAt};
 ghost use Rattle.std.specs.Option.{option_copied};
-ghost use Rattle.sdd.specs.Stacks.{taken};
+ghost use Rattle.sdd.specs.Stacks.{took_entry};
 ghost use Rattle.sdd.specs.Chain.{Hangs, IsList, Leaves, Stays, undeleted, first_item, first_slot, front_tag, skip, links, slots};
 ghost use Rattle.sdd.specs.Entries.{entry_link};
 ghost use Rattle.sdd.specs.Iters.{iter_cell};
@@ -225,7 +225,7 @@ pub fn peek<T, J: Deferred>(
     requires { SomeQueueIn w.now queue.now }
     ensures first { (es : _) → QueueIn w.now queue.now es → ptr_slot result ≡ first_slot (undeleted es) }
     ensures tag { (es : _) → QueueIn w.now queue.now es → ptr_tag result ≡ front_tag Tag.None es }
-    ensures node { IfSome (ptr_slot result) (λ i. IsSomeNode entry_link w.now (Some i)) }
+    ensures node { IfSome (ptr_slot result) (λ i. NamesSomeEntry entry_link w.now (Some i)) }
     ensures listed { IfSome (ptr_slot result) (λ i. IsListed entry_link w.now (Some i)) }
 {
     atomic_shared::load(w, chain::skip_from(w, &queue.oldest), guard)
@@ -355,12 +355,12 @@ pub fn pop_if<T, J: Deferred, F: FnOnce(&LinkedEntry<T>) -> bool + Drop>(
     requires callable { F.IsAlwaysCallable f }
     requires participant { p < length w.old.participants }
     requires list { SomeQueueIn w.old queue.now }
-    ensures asked { (es : _) → QueueIn w.old queue.now es → IfSome (first_item (undeleted es)) (λ v. FnOnceReturnsAt F.FnOnce f v (taken result)) }
+    ensures asked { (es : _) → QueueIn w.old queue.now es → IfSome (first_item (undeleted es)) (λ v. FnOnceReturnsAt F.FnOnce f v (took_entry result)) }
     ensures popped { (es : _) → QueueIn w.old queue.now es → IfOk result (λ r. IfSome r (λ s. TakesFrom w.new queue.now s es)) }
     ensures live { IfOk result (λ r. IfSome r (λ s. IsShared w.new (shared_slot s))) }
     ensures owner { IfErr result (λ s. IsShared w.new (shared_slot s)) }
     ensures spare { IfErr result (λ s. (p : ℕ) (es : _) → QueueIn w.old queue.now es → KeepsEntries (released p (shared_slot s) w.new) queue.now es) }
-    ensures kept { taken result ≡ false → (es : _) → QueueIn w.old queue.now es → KeepsEntries w.new queue.now es }
+    ensures kept { took_entry result ≡ false → (es : _) → QueueIn w.old queue.now es → KeepsEntries w.new queue.now es }
     ensures refused { IfErr result (λ s. (es : _) → QueueIn w.old queue.now es → Some (shared_slot s) ≡ first_slot (undeleted es)) }
     ensures full { (es : _) → QueueIn w.old queue.now es → IfOk result (λ r. IfNone r (FirstIsFull w.old es)) }
     ensures list { SomeQueueIn w.new queue.now }

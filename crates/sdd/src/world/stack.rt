@@ -6,7 +6,7 @@ ghost use Rattle.sdd_base.specs.Frame.{OnlyParticipant};
 ghost use Rattle.sdd_base.specs.Place.{IsShared};
 ghost use Rattle.sdd_base.specs.Steps.{released};
 ghost use Rattle.sdd_base.specs.Tokens.{link_cell, shared_slot, ptr_slot, ptr_tag};
-ghost use Rattle.sdd.specs.Nodes.{IsSomeNode, IsListed};
+ghost use Rattle.sdd.specs.Nodes.{NamesSomeEntry, IsListed};
 ghost use Rattle.std.specs.Option.{option_copied};
 ghost use Rattle.std.specs.Fn.{FnOnceReturnsAt};
 ghost use Rattle.sdd.specs.Chain.{Hangs, IsList, Leaves, Stays, undeleted, first_item, first_slot, front_tag, skip};
@@ -16,7 +16,7 @@ ghost use Rattle.std.specs.Iterator.{IsFiniteIterable};
 ghost use Rattle.sdd.specs.Copies.{ClonesAreSame};
 ghost use Rattle.sdd.specs.FromIter.{entry_values, ExtendsLast, FillsStack, IfUnmade, IfNoSlot, IfUncopied, IfPartly};
 ghost use Rattle.sdd.specs.Refusals.{refused_value, IsCondition, IsNoSlot};
-ghost use Rattle.sdd.specs.Stacks.{stack_cell, taken, IsSomeStack, Pushes};
+ghost use Rattle.sdd.specs.Stacks.{stack_cell, took_entry, IsSomeStack, Pushes};
 ghost use Rattle.sdd.specs.Calls.{AskedFirst, CanAskFirst, CopiesStackUpTo, CopiesUpTo, FirstIsFull, GivesAll, GivesUpTo, NoRoom, OnlyStack, PopsFrom, StackIn};
 
 use crate::iter::Iter;
@@ -212,7 +212,7 @@ pub fn peek<T, J: Deferred>(
     requires { IsSomeStack w.now (stack_cell stack.now) }
     ensures first { (es : _) → StackIn w.now stack.now es → ptr_slot result ≡ first_slot (undeleted es) }
     ensures tag { (es : _) → StackIn w.now stack.now es → ptr_tag result ≡ front_tag Tag.None es }
-    ensures node { IfSome (ptr_slot result) (λ i. IsSomeNode entry_link w.now (Some i)) }
+    ensures node { IfSome (ptr_slot result) (λ i. NamesSomeEntry entry_link w.now (Some i)) }
     ensures listed { IfSome (ptr_slot result) (λ i. IsListed entry_link w.now (Some i)) }
 {
     atomic_shared::load(w, chain::skip_from(w, &stack.newest), guard)
@@ -330,9 +330,9 @@ pub fn pop_if<T, J: Deferred, F: FnOnce(&LinkedEntry<T>) -> bool + Drop>(
     requires callable { F.IsAlwaysCallable f }
     requires participant { p < length w.old.participants }
     requires list { IsSomeStack w.old (stack_cell stack.now) }
-    ensures asked { (es : _) → StackIn w.old stack.now es → IfSome (first_item (undeleted es)) (λ v. FnOnceReturnsAt F.FnOnce f v (taken result)) }
+    ensures asked { (es : _) → StackIn w.old stack.now es → IfSome (first_item (undeleted es)) (λ v. FnOnceReturnsAt F.FnOnce f v (took_entry result)) }
     ensures popped { (es : _) → StackIn w.old stack.now es → IfOk result (λ r. IfSome r (λ s. PopsFrom w.new stack.now s es)) }
-    ensures kept { taken result ≡ false → (es : _) → StackIn w.old stack.now es → StackIn w.new stack.now (skip es) }
+    ensures kept { took_entry result ≡ false → (es : _) → StackIn w.old stack.now es → StackIn w.new stack.now (skip es) }
     ensures live { IfOk result (λ r. IfSome r (λ s. IsShared w.new (shared_slot s))) }
     ensures owner { IfErr result (λ s. IsShared w.new (shared_slot s)) }
     ensures spare { IfErr result (λ s. (p : ℕ) (es : _) → StackIn w.old stack.now es → StackIn (released p (shared_slot s) w.new) stack.now (skip es)) }

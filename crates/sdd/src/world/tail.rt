@@ -6,7 +6,7 @@ ghost use Rattle.sdd_base.specs.Frame.{OnlyParticipant};
 ghost use Rattle.sdd_base.specs.Place.{IsShared, IsSharedCell};
 ghost use Rattle.sdd_base.specs.Tokens.{shared_cell, shared_slot};
 ghost use Rattle.sdd.specs.Chain.{Entry, IsList, Hangs, IsDetached, Leaves, Stays, links, slots};
-ghost use Rattle.sdd.specs.Queues.{IsQueue, Follows, CanFollow, HasTwo, vacated};
+ghost use Rattle.sdd.specs.Queues.{IsQueue, Follows, CanFollow, HasTwo, cell_vacated};
 ghost use Rattle.sdd.specs.Calls.{AppendsLast, ClearsNewest};
 
 use crate::linked_list::LinkedList;
@@ -51,7 +51,7 @@ pub(crate) fn forget<L, J: Deferred>(w: &mut World<L, J>, newest: &AtomicShared<
     requires participant { p < length w.old.participants }
     requires newest { (o : Option ℕ) × (cell_at w.old (shared_cell newest.now) ≡ Cell.OfShared o Tag.None) }
     requires last { (i : ℕ) → cell_at w.old (shared_cell newest.now) ≡ Cell.OfShared (Some i) Tag.None → IsShared w.old i }
-    ensures forgot { (o : Option ℕ) → cell_at w.old (shared_cell newest.now) ≡ Cell.OfShared o Tag.None → w.new ≡ vacated p (shared_cell newest.now) o w.old }
+    ensures forgot { (o : Option ℕ) → cell_at w.old (shared_cell newest.now) ≡ Cell.OfShared o Tag.None → w.new ≡ cell_vacated p (shared_cell newest.now) o w.old }
     ensures only { OnlyParticipant p w.old w.new }
     ensures stays { Stays w.old w.new }
 {

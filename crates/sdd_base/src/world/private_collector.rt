@@ -5,11 +5,11 @@
 
 ghost use Rattle.std.specs.Prelude.{◌≡◌, ◌<◌, ℕ, [], length, leb, IfOk, IsTrue, IsFalse};
 ghost use Rattle.sdd_base.specs.State.{status_at, local_at};
-ghost use Rattle.sdd_base.specs.Steps.{released, handed};
+ghost use Rattle.sdd_base.specs.Steps.{released, handed_over};
 ghost use Rattle.sdd_base.specs.Collecting.{collected, left_with, swept_by, left_in};
 ghost use Rattle.sdd_base.specs.Frame.{Frame, OnlyParticipant};
 ghost use Rattle.sdd_base.specs.Place.{IsOwned, IsShared};
-ghost use Rattle.sdd_base.specs.Tokens.{owned_slot, shared_slot, participant_of, waiting_in, room_of};
+ghost use Rattle.sdd_base.specs.Tokens.{owned_slot, shared_slot, guard_participant, waiting_in, room_of};
 
 use crate::collector::PrivateCollector;
 use crate::guard::WorldGuard;
@@ -46,16 +46,16 @@ pub fn collect_owned<T: Holds, J: Deferred>(
     owned: Owned<T>,
     guard: &WorldGuard,
 )
-    requires participant { participant_of guard.now < length w.old.participants }
+    requires participant { guard_participant guard.now < length w.old.participants }
     requires live { IsOwned w.old (owned_slot owned) }
-    ensures state { IsOwned (swept_by T.holds (participant_of guard.now) collector.old w.old) (owned_slot owned) → w.new ≡ collected T.holds (participant_of guard.now) collector.old (owned_slot owned) w.old }
-    ensures left { IsOwned (swept_by T.holds (participant_of guard.now) collector.old w.old) (owned_slot owned) → waiting_in collector.new ≡ left_with T.holds (participant_of guard.now) collector.old (owned_slot owned) w.old }
-    ensures gone { ¬ IsOwned (swept_by T.holds (participant_of guard.now) collector.old w.old) (owned_slot owned) → w.new ≡ swept_by T.holds (participant_of guard.now) collector.old w.old }
-    ensures others { ¬ IsOwned (swept_by T.holds (participant_of guard.now) collector.old w.old) (owned_slot owned) → waiting_in collector.new ≡ left_in T.holds (participant_of guard.now) collector.old w.old }
+    ensures state { IsOwned (swept_by T.holds (guard_participant guard.now) collector.old w.old) (owned_slot owned) → w.new ≡ collected T.holds (guard_participant guard.now) collector.old (owned_slot owned) w.old }
+    ensures left { IsOwned (swept_by T.holds (guard_participant guard.now) collector.old w.old) (owned_slot owned) → waiting_in collector.new ≡ left_with T.holds (guard_participant guard.now) collector.old (owned_slot owned) w.old }
+    ensures gone { ¬ IsOwned (swept_by T.holds (guard_participant guard.now) collector.old w.old) (owned_slot owned) → w.new ≡ swept_by T.holds (guard_participant guard.now) collector.old w.old }
+    ensures others { ¬ IsOwned (swept_by T.holds (guard_participant guard.now) collector.old w.old) (owned_slot owned) → waiting_in collector.new ≡ left_in T.holds (guard_participant guard.now) collector.old w.old }
     ensures room { room_of collector.new ≡ room_of collector.old }
     ensures nests { (q : ℕ) → (local_at w.new q).nesting ≡ (local_at w.old q).nesting }
     ensures keeps { Frame w.old w.new }
-    ensures only { OnlyParticipant (participant_of guard.now) w.old w.new }
+    ensures only { OnlyParticipant (guard_participant guard.now) w.old w.new }
 {
     let Owned { slot, of: _ } = owned;
     let p = guard.participant;
@@ -72,18 +72,18 @@ pub fn collect_shared<T: Holds, J: Deferred>(
     shared: Shared<T>,
     guard: &WorldGuard,
 ) -> bool
-    requires participant { participant_of guard.now < length w.old.participants }
+    requires participant { guard_participant guard.now < length w.old.participants }
     requires live { IsShared w.old (shared_slot shared) }
-    ensures last { (n : ℕ) → status_at (swept_by T.holds (participant_of guard.now) collector.old w.old) (shared_slot shared) ≡ Status.Shared n → result ≡ leb n 1 }
-    ensures shared { IsTrue result → IsShared (swept_by T.holds (participant_of guard.now) collector.old w.old) (shared_slot shared) }
-    ensures state { IsTrue result → w.new ≡ collected T.holds (participant_of guard.now) collector.old (shared_slot shared) w.old }
-    ensures left { IsTrue result → waiting_in collector.new ≡ left_with T.holds (participant_of guard.now) collector.old (shared_slot shared) w.old }
-    ensures released { IsFalse result → w.new ≡ released (participant_of guard.now) (shared_slot shared) (swept_by T.holds (participant_of guard.now) collector.old w.old) }
-    ensures others { IsFalse result → waiting_in collector.new ≡ left_in T.holds (participant_of guard.now) collector.old w.old }
+    ensures last { (n : ℕ) → status_at (swept_by T.holds (guard_participant guard.now) collector.old w.old) (shared_slot shared) ≡ Status.Shared n → result ≡ leb n 1 }
+    ensures shared { IsTrue result → IsShared (swept_by T.holds (guard_participant guard.now) collector.old w.old) (shared_slot shared) }
+    ensures state { IsTrue result → w.new ≡ collected T.holds (guard_participant guard.now) collector.old (shared_slot shared) w.old }
+    ensures left { IsTrue result → waiting_in collector.new ≡ left_with T.holds (guard_participant guard.now) collector.old (shared_slot shared) w.old }
+    ensures released { IsFalse result → w.new ≡ released (guard_participant guard.now) (shared_slot shared) (swept_by T.holds (guard_participant guard.now) collector.old w.old) }
+    ensures others { IsFalse result → waiting_in collector.new ≡ left_in T.holds (guard_participant guard.now) collector.old w.old }
     ensures room { room_of collector.new ≡ room_of collector.old }
     ensures nests { (q : ℕ) → (local_at w.new q).nesting ≡ (local_at w.old q).nesting }
     ensures keeps { Frame w.old w.new }
-    ensures only { OnlyParticipant (participant_of guard.now) w.old w.new }
+    ensures only { OnlyParticipant (guard_participant guard.now) w.old w.new }
 {
     let Shared { slot, of: _ } = shared;
     let p = guard.participant;
@@ -94,7 +94,7 @@ pub fn collect_shared<T: Holds, J: Deferred>(
 /// Ends the collector: what waits in it goes to the current bag of participant `p`.
 pub fn hand_over<T, J: Deferred>(w: &mut World<T, J>, collector: PrivateCollector<T>, p: usize)
     requires { p < length w.old.participants }
-    ensures handed { w.new ≡ handed p (waiting_in collector) w.old }
+    ensures handed { w.new ≡ handed_over p (waiting_in collector) w.old }
     ensures nests { (q : ℕ) → (local_at w.new q).nesting ≡ (local_at w.old q).nesting }
     ensures keeps { Frame w.old w.new }
     ensures only { OnlyParticipant p w.old w.new }

@@ -21,13 +21,13 @@ pub struct InternalNode<'t, K: Ord, V> {
 /// Invariant: specs/Standing.antt, IsStanding: the node stands in a sound tree; its children are nodes.
 impl<'t, K: Ord, V> Model for InternalNode<'t, K, V> {
     ghost use Rattle.std.specs.Prelude.{◌<◌};
-    ghost use Rattle.tree_index.specs.Standing.{pairs_below, IsStanding, Nested, nested_code};
+    ghost use Rattle.tree_index.specs.Standing.{standing_pairs, IsStanding, Nested, nested_code};
 
     ghost Value = { Nested K V };
 
     ghost coded = { nested_code K.code V.code };
 
-    ghost view = { λ n. record { pairs = pairs_below n.standing; height = n.standing.height } };
+    ghost view = { λ n. record { pairs = standing_pairs n.standing; height = n.standing.height } };
 
     ghost invariant = { λ n. IsStanding K.cmp n.standing × (1 < n.standing.height) };
 }

@@ -23,13 +23,13 @@ pub struct LeafNode<'t, K: Ord, V> {
 impl<'t, K: Ord, V> Model for LeafNode<'t, K, V> {
     ghost use Rattle.std.specs.Prelude.{List, ◌≡◌};
     ghost use Rattle.std.specs.Coded.{coded×, coded_list};
-    ghost use Rattle.tree_index.specs.Standing.{pairs_below, IsStanding};
+    ghost use Rattle.tree_index.specs.Standing.{standing_pairs, IsStanding};
 
     ghost Value = { List (K × V) };
 
     ghost coded = { coded_list (coded× K.code V.code) };
 
-    ghost view = { λ n. pairs_below n.standing };
+    ghost view = { λ n. standing_pairs n.standing };
 
     ghost invariant = { λ n. IsStanding K.cmp n.standing × (n.standing.height ≡ 1) };
 }

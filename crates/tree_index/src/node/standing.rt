@@ -4,7 +4,7 @@ ghost use Rattle.std.specs.Prelude.{◌≡◌, ◌≢◌, ◌+◌, IfSome, Match
 ghost use Rattle.std.specs.BTreeMap.{is_at};
 ghost use Rattle.std.specs.Map.{lookup_entry};
 ghost use Rattle.tree_index.specs.Reads.{FnOnceTakesPair};
-ghost use Rattle.tree_index.specs.Standing.{pairs_below, IsAround, IsStanding};
+ghost use Rattle.tree_index.specs.Standing.{standing_pairs, IsAround, IsStanding};
 
 use crate::arenas::Arenas;
 use crate::leaf::Leaf;
@@ -22,9 +22,9 @@ impl<'t, K: Ord, V> Standing<'t, K, V> {
     pub(crate) fn read_entry<R, F: FnOnce(&K, &V) -> R>(&self, key: &K, f: F) -> Option<R>
     where
         F: Drop,
-        requires callable { IfSome (lookup_entry (is_at (K.cmp key.now)) (pairs_below self.now)) (FnOnceTakesPair F.FnOnce f) }
+        requires callable { IfSome (lookup_entry (is_at (K.cmp key.now)) (standing_pairs self.now)) (FnOnceTakesPair F.FnOnce f) }
         requires stands { IsStanding K.cmp self.now }
-        ensures { MatchOption result (lookup_entry (is_at (K.cmp key.now)) (pairs_below self.now) ≡ None) (λ r. (k : _) × (v : _) × (lookup_entry (is_at (K.cmp key.now)) (pairs_below self.now) ≡ Some (k.now, v.now)) × F.post f k v r) }
+        ensures { MatchOption result (lookup_entry (is_at (K.cmp key.now)) (standing_pairs self.now) ≡ None) (λ r. (k : _) × (v : _) × (lookup_entry (is_at (K.cmp key.now)) (standing_pairs self.now) ≡ Some (k.now, v.now)) × F.post f k v r) }
     {
         match self.leaf(key).array.search_entry(key) {
             Some((stored, value)) => Some(f(stored, value)),
@@ -35,8 +35,8 @@ impl<'t, K: Ord, V> Standing<'t, K, V> {
     /// The leaf under it on the way to a key.
     pub(crate) fn leaf(&self, key: &K) -> &'t Leaf<K, V>
         requires { IsStanding K.cmp self.now }
-        ensures found { lookup_entry (is_at (K.cmp key.now)) (pairs_below self.now) ≡ lookup_entry (is_at (K.cmp key.now)) result.now.array.pairs }
-        ensures around { IsAround K.cmp key.now result.now.array.pairs (pairs_below self.now) }
+        ensures found { lookup_entry (is_at (K.cmp key.now)) (standing_pairs self.now) ≡ lookup_entry (is_at (K.cmp key.now)) result.now.array.pairs }
+        ensures around { IsAround K.cmp key.now result.now.array.pairs (standing_pairs self.now) }
     {
         let mut at = *self;
         while at.height > 0 {
@@ -55,8 +55,8 @@ impl<'t, K: Ord, V> Standing<'t, K, V> {
         ensures arenas { result.arenas.now ≡ self.now.arenas.now }
         ensures stands { IsStanding K.cmp result }
         ensures height { result.height + 1 ≡ self.now.height }
-        ensures found { lookup_entry (is_at (K.cmp key.now)) (pairs_below self.now) ≡ lookup_entry (is_at (K.cmp key.now)) (pairs_below result) }
-        ensures around { IsAround K.cmp key.now (pairs_below result) (pairs_below self.now) }
+        ensures found { lookup_entry (is_at (K.cmp key.now)) (standing_pairs self.now) ≡ lookup_entry (is_at (K.cmp key.now)) (standing_pairs result) }
+        ensures around { IsAround K.cmp key.now (standing_pairs result) (standing_pairs self.now) }
     {
         match self.arenas.nodes.get(self.at) {
             Some(node) => Standing {

@@ -7,8 +7,8 @@ ghost use Rattle.std.specs.List.{All};
 ghost use Rattle.tree_index.specs.Shape.{AllKeys};
 ghost use Rattle.versions.specs.Changes.{ahead, apply_delta, changed, named_by, pair_left};
 ghost use Rattle.versions.specs.Cuts.{IsCut, IsSeparated, pairs_in};
-ghost use Rattle.versions.specs.Cutting.{IsCutting, IsFilled, IsPassedBy, IsReachedBy, IsThrifty, Joins, given};
-ghost use Rattle.versions.specs.Gone.{IsSpan, is_gone, without};
+ghost use Rattle.versions.specs.Cutting.{IsCutting, GivesNoMoreThanRead, IsPassedBy, IsReachedBy, IsThrifty, Joins, given_pairs};
+ghost use Rattle.versions.specs.Gone.{IsSpan, is_gone, without_gone};
 ghost use Rattle.versions.specs.Parts.{blocks_of_parts, made_in};
 ghost use Rattle.versions.specs.SeparatorSearch.{IsOrdered};
 
@@ -70,10 +70,10 @@ fn pass<K: Clone + Ord + Drop, V: Clone + Drop, N: Drop, O: BaseVersion<K, V, N>
     requires spans { All (IsSpan K.cmp (O.blocks old.now)) gone.now }
     requires within { place < length (O.blocks old.now) }
     requires whole { IsCutting (O.named old.now) K.cmp S (O.blocks old.now) out.old }
-    requires rising { IsAscending K.cmp (given (O.named old.now) out.old ++ ahead K.cmp changes.old gone.now place (O.blocks old.now)) }
+    requires rising { IsAscending K.cmp (given_pairs (O.named old.now) out.old ++ ahead K.cmp changes.old gone.now place (O.blocks old.now)) }
     ensures behind { IfOk result (λ next. place < next) }
     ensures whole { OnOk result (IsCutting (O.named old.now) K.cmp S (O.blocks old.now) out.new) }
-    ensures list { IfOk result (λ next. given (O.named old.now) out.new ++ ahead K.cmp changes.new gone.now next (O.blocks old.now) ≡ given (O.named old.now) out.old ++ ahead K.cmp changes.old gone.now place (O.blocks old.now)) }
+    ensures list { IfOk result (λ next. given_pairs (O.named old.now) out.new ++ ahead K.cmp changes.new gone.now next (O.blocks old.now) ≡ given_pairs (O.named old.now) out.old ++ ahead K.cmp changes.old gone.now place (O.blocks old.now)) }
     ensures thrifty { IfOk result (λ next. (budget : ℕ) (last : Bool) → IsThrifty S budget (is_gone K.cmp gone.now) last (drop place (O.blocks old.now)) (length changes.old) out.old → (last' : Bool) × IsThrifty S budget (is_gone K.cmp gone.now) last' (drop next (O.blocks old.now)) (length changes.new) out.new) }
 {
     // how many there are tells the proof that a place behind this one can be named
@@ -276,12 +276,12 @@ fn merge_segment<
     requires within { place < length (O.blocks old.now) }
     requires sorted { IsAscending K.cmp (pairs_in (drop place (O.blocks old.now))) }
     requires whole { IsCutting (O.named old.now) K.cmp S (O.blocks old.now) out.old }
-    requires rising { IsAscending K.cmp (given (O.named old.now) out.old ++ ahead K.cmp changes.old gone.now place (O.blocks old.now)) }
+    requires rising { IsAscending K.cmp (given_pairs (O.named old.now) out.old ++ ahead K.cmp changes.old gone.now place (O.blocks old.now)) }
     ensures whole { OnOk result (IsCutting (O.named old.now) K.cmp S (O.blocks old.now) out.new) }
-    ensures list { OnOk result (given (O.named old.now) out.new ++ ahead K.cmp changes.new gone.now (place + 1) (O.blocks old.now) ≡ given (O.named old.now) out.old ++ ahead K.cmp changes.old gone.now place (O.blocks old.now)) }
-    ensures filled { OnOk result ((b : List (K × V)) → Some b ≡ slice_get (O.blocks old.now) place → IsFilled S (length (without K.cmp gone.now b) + length changes.old) (length changes.new) out.old out.new) }
+    ensures list { OnOk result (given_pairs (O.named old.now) out.new ++ ahead K.cmp changes.new gone.now (place + 1) (O.blocks old.now) ≡ given_pairs (O.named old.now) out.old ++ ahead K.cmp changes.old gone.now place (O.blocks old.now)) }
+    ensures filled { OnOk result ((b : List (K × V)) → Some b ≡ slice_get (O.blocks old.now) place → GivesNoMoreThanRead S (length (without_gone K.cmp gone.now b) + length changes.old) (length changes.new) out.old out.new) }
     ensures fewer { OnOk result (length changes.new ≤ length changes.old) }
-    ensures reached { OnOk result ((b : List (K × V)) → Some b ≡ slice_get (O.blocks old.now) place → IsReachedBy K.cmp changes.old (without K.cmp gone.now b) → length changes.new < length changes.old) }
+    ensures reached { OnOk result ((b : List (K × V)) → Some b ≡ slice_get (O.blocks old.now) place → IsReachedBy K.cmp changes.old (without_gone K.cmp gone.now b) → length changes.new < length changes.old) }
 {
     make_ready::<K, V, N, O, S>(out, changes, old, place)?;
     let mut pairs = Sieve::new(old.segment(place), gone);
@@ -310,13 +310,13 @@ fn merge_next<
 ) -> Result<bool, AllocError>
     requires keys { ClonesAreSame K.is_clone }
     requires values { ClonesAreSame V.is_clone }
-    requires sorted { IsAscending K.cmp (pairs.old ++ without K.cmp gone.now (pairs_in (drop (place + 1) (O.blocks old.now)))) }
+    requires sorted { IsAscending K.cmp (pairs.old ++ without_gone K.cmp gone.now (pairs_in (drop (place + 1) (O.blocks old.now)))) }
     requires whole { IsCutting (O.named old.now) K.cmp S (O.blocks old.now) out.old }
-    requires rising { IsAscending K.cmp (given (O.named old.now) out.old ++ apply_delta K.cmp changes.old (pairs.old ++ without K.cmp gone.now (pairs_in (drop (place + 1) (O.blocks old.now))))) }
+    requires rising { IsAscending K.cmp (given_pairs (O.named old.now) out.old ++ apply_delta K.cmp changes.old (pairs.old ++ without_gone K.cmp gone.now (pairs_in (drop (place + 1) (O.blocks old.now))))) }
     ensures whole { OnOk result (IsCutting (O.named old.now) K.cmp S (O.blocks old.now) out.new) }
-    ensures list { OnOk result (given (O.named old.now) out.new ++ apply_delta K.cmp changes.new (pairs.new ++ without K.cmp gone.now (pairs_in (drop (place + 1) (O.blocks old.now)))) ≡ given (O.named old.now) out.old ++ apply_delta K.cmp changes.old (pairs.old ++ without K.cmp gone.now (pairs_in (drop (place + 1) (O.blocks old.now))))) }
-    ensures sorted { OnOk result (IsAscending K.cmp (pairs.new ++ without K.cmp gone.now (pairs_in (drop (place + 1) (O.blocks old.now))))) }
-    ensures filled { OnOk result (IsFilled S (length pairs.old + length changes.old) (length pairs.new + length changes.new) out.old out.new) }
+    ensures list { OnOk result (given_pairs (O.named old.now) out.new ++ apply_delta K.cmp changes.new (pairs.new ++ without_gone K.cmp gone.now (pairs_in (drop (place + 1) (O.blocks old.now)))) ≡ given_pairs (O.named old.now) out.old ++ apply_delta K.cmp changes.old (pairs.old ++ without_gone K.cmp gone.now (pairs_in (drop (place + 1) (O.blocks old.now))))) }
+    ensures sorted { OnOk result (IsAscending K.cmp (pairs.new ++ without_gone K.cmp gone.now (pairs_in (drop (place + 1) (O.blocks old.now))))) }
+    ensures filled { OnOk result (GivesNoMoreThanRead S (length pairs.old + length changes.old) (length pairs.new + length changes.new) out.old out.new) }
     ensures reached { OnOk result (IsReachedBy K.cmp changes.old pairs.old → IsReachedBy K.cmp changes.new pairs.new ⊎ (length changes.new < length changes.old)) }
     ensures fewer { IfOk result (λ more. more ≡ true → length changes.new + length pairs.new < length changes.old + length pairs.old) }
     ensures less { OnOk result (length changes.new ≤ length changes.old) }
@@ -364,10 +364,10 @@ fn put_all<
     requires keys { ClonesAreSame K.is_clone }
     requires values { ClonesAreSame V.is_clone }
     requires whole { IsCutting (O.named old.now) K.cmp S (O.blocks old.now) out.old }
-    requires rising { IsAscending K.cmp (given (O.named old.now) out.old ++ apply_delta K.cmp changes.old []) }
+    requires rising { IsAscending K.cmp (given_pairs (O.named old.now) out.old ++ apply_delta K.cmp changes.old []) }
     ensures whole { OnOk result (IsCutting (O.named old.now) K.cmp S (O.blocks old.now) out.new) }
-    ensures list { OnOk result (given (O.named old.now) out.new ≡ given (O.named old.now) out.old ++ apply_delta K.cmp changes.old []) }
-    ensures filled { OnOk result (IsFilled S (length changes.old) 0 out.old out.new) }
+    ensures list { OnOk result (given_pairs (O.named old.now) out.new ≡ given_pairs (O.named old.now) out.old ++ apply_delta K.cmp changes.old []) }
+    ensures filled { OnOk result (GivesNoMoreThanRead S (length changes.old) 0 out.old out.new) }
 {
     expect::<K, V, N, S>(out, changes.count())?;
     while let Some((changed, to)) = changes.front() {
@@ -387,10 +387,10 @@ fn put<K: Clone + Ord + Drop, V: Clone + Drop, N: Drop, O: BaseVersion<K, V, N>,
     requires keys { ClonesAreSame K.is_clone }
     requires values { ClonesAreSame V.is_clone }
     requires whole { IsCutting (O.named old.now) K.cmp S (O.blocks old.now) out.old }
-    requires rising { IsAscending K.cmp (given (O.named old.now) out.old ++ pair_left key.now to.now) }
+    requires rising { IsAscending K.cmp (given_pairs (O.named old.now) out.old ++ pair_left key.now to.now) }
     ensures whole { OnOk result (IsCutting (O.named old.now) K.cmp S (O.blocks old.now) out.new) }
-    ensures pairs { OnOk result (given (O.named old.now) out.new ≡ given (O.named old.now) out.old ++ pair_left key.now to.now) }
-    ensures filled { OnOk result (IsFilled S 1 0 out.old out.new) }
+    ensures pairs { OnOk result (given_pairs (O.named old.now) out.new ≡ given_pairs (O.named old.now) out.old ++ pair_left key.now to.now) }
+    ensures filled { OnOk result (GivesNoMoreThanRead S 1 0 out.old out.new) }
 {
     match to.value() {
         Some(value) => copy::<K, V, N, O, S>(out, old, key, value),
@@ -408,10 +408,10 @@ fn copy<K: Clone + Ord + Drop, V: Clone + Drop, N: Drop, O: BaseVersion<K, V, N>
     requires keys { ClonesAreSame K.is_clone }
     requires values { ClonesAreSame V.is_clone }
     requires whole { IsCutting (O.named old.now) K.cmp S (O.blocks old.now) out.old }
-    requires rising { IsAscending K.cmp (given (O.named old.now) out.old ++ (key.now, value.now) ∷ []) }
+    requires rising { IsAscending K.cmp (given_pairs (O.named old.now) out.old ++ (key.now, value.now) ∷ []) }
     ensures whole { OnOk result (IsCutting (O.named old.now) K.cmp S (O.blocks old.now) out.new) }
-    ensures pairs { OnOk result (given (O.named old.now) out.new ≡ given (O.named old.now) out.old ++ (key.now, value.now) ∷ []) }
-    ensures filled { OnOk result (IsFilled S 1 0 out.old out.new) }
+    ensures pairs { OnOk result (given_pairs (O.named old.now) out.new ≡ given_pairs (O.named old.now) out.old ++ (key.now, value.now) ∷ []) }
+    ensures filled { OnOk result (GivesNoMoreThanRead S 1 0 out.old out.new) }
 {
     push::<K, V, N, O, S>(out, old, key.clone()?, value.clone()?)
 }

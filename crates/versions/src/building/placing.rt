@@ -8,7 +8,7 @@ ghost use Rattle.sdd_base.specs.Tokens.{kept_slot, loaded_slot, shared_cell, sha
 ghost use Rattle.std.specs.List.{All};
 ghost use Rattle.sdd_base.specs.Steps.{times};
 ghost use Rattle.versions.specs.Parts.{blocks_of_parts, made_in, makes};
-ghost use Rattle.versions.specs.Placing.{CanBeShared, HasPlaced, IsPlaceable, IsTakeable, Places, StandsIn, given_back, named_at, slots_for, taken_slots};
+ghost use Rattle.versions.specs.Placing.{CanBeShared, HasPlaced, IsPlaceable, IsTakeable, Places, StandsIn, owner_given_back, named_at, slots_for, taken_slots};
 
 use crate::building::built::Built;
 use crate::building::segments::{Part, Segments};
@@ -139,7 +139,7 @@ pub fn publish<K: Ord, V, const S: usize>(
     requires participant { p < length w.old.participants }
     requires root { IsSharedCell w.old (shared_cell root.now) }
     requires owned { (i : ℕ) (tag : Tag) → cell_at w.old (shared_cell root.now) ≡ Cell.OfShared (Some i) tag → IsShared w.old i }
-    ensures published { (o : Option ℕ) (tag : Tag) → cell_at w.old (shared_cell root.now) ≡ Cell.OfShared o tag → w.new ≡ given_back p o (with_cell (shared_cell root.now) (Cell.OfShared (Some (shared_slot new)) Tag.None) w.old) }
+    ensures published { (o : Option ℕ) (tag : Tag) → cell_at w.old (shared_cell root.now) ≡ Cell.OfShared o tag → w.new ≡ owner_given_back p o (with_cell (shared_cell root.now) (Cell.OfShared (Some (shared_slot new)) Tag.None) w.old) }
     ensures used { IsSharedCell w.new (shared_cell root.now) }
     ensures keeps { Frame w.old w.new }
     ensures only { OnlyParticipant p w.old w.new }

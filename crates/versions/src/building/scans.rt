@@ -2,7 +2,7 @@
 
 ghost use Rattle.std.specs.Prelude.{◌≡◌, drop, slice_get};
 ghost use Rattle.tree_index.specs.Cursor.{deref_pair};
-ghost use Rattle.versions.specs.Gone.{IsLeft, without};
+ghost use Rattle.versions.specs.Gone.{FirstIsLeft, without_gone};
 
 use crate::building::gone::{Gone, is_gone};
 use std::marker::Model;
@@ -81,22 +81,22 @@ pub(crate) struct Sieve<'t, K: Ord, V> {
     gone: &'t [Gone<K>],
 }
 
-/// Invariant: specs/Gone.antt, IsLeft: the first pair that is left isn't gone.
+/// Invariant: specs/Gone.antt, FirstIsLeft: the first pair that is left isn't gone.
 impl<'t, K: Ord, V> Model for Sieve<'t, K, V> {
     ghost use Rattle.std.specs.Prelude.{List};
-    ghost use Rattle.versions.specs.Gone.{IsLeft, without};
+    ghost use Rattle.versions.specs.Gone.{FirstIsLeft, without_gone};
 
     ghost Value = { List (K × V) };
 
-    ghost view = { λ s. without K.cmp s.gone.now s.pairs };
+    ghost view = { λ s. without_gone K.cmp s.gone.now s.pairs };
 
-    ghost invariant = { λ s. IsLeft K.cmp s.gone.now s.pairs };
+    ghost invariant = { λ s. FirstIsLeft K.cmp s.gone.now s.pairs };
 }
 
 impl<'t, K: Ord, V> Sieve<'t, K, V> {
     /// All pairs of a tree that lie in none of these ranges.
     pub(crate) fn new(tree: &'t TreeIndex<K, V>, gone: &'t [Gone<K>]) -> Self
-        ensures { result ≡ without K.cmp gone.now tree.now.pairs }
+        ensures { result ≡ without_gone K.cmp gone.now tree.now.pairs }
     {
         let mut pairs = ChangeScan::new(tree);
         pass_gone(&mut pairs, gone);
@@ -124,8 +124,8 @@ impl<'t, K: Ord, V> Sieve<'t, K, V> {
 /// Passes the pairs up to the first one that isn't gone.
 #[inline(always)]
 fn pass_gone<K: Ord, V>(pairs: &mut ChangeScan<'_, K, V>, gone: &[Gone<K>])
-    ensures same { without K.cmp gone.now pairs.new ≡ without K.cmp gone.now pairs.old }
-    ensures left { IsLeft K.cmp gone.now pairs.new }
+    ensures same { without_gone K.cmp gone.now pairs.new ≡ without_gone K.cmp gone.now pairs.old }
+    ensures left { FirstIsLeft K.cmp gone.now pairs.new }
 {
     if gone.is_empty() {
         return;

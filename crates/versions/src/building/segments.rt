@@ -4,8 +4,8 @@ ghost use Rattle.std.specs.Prelude.{◌≡◌, ◌≤◌, ◌<◌, ◌+◌, ◌-
 ghost use Rattle.leaf_array.specs.Pairs.{IsAscending};
 ghost use Rattle.leaf_array.specs.Values.{ClonesAreSame};
 ghost use Rattle.versions.specs.Cuts.{IsCut, IsSeparated, greatest_key, pairs_in};
-ghost use Rattle.versions.specs.Cutting.{IsClosing, IsCutting, IsRow, StaysApart, between, given, spent, trees};
-ghost use Rattle.versions.specs.Parts.{IsMade, blocks_of_parts, made_in};
+ghost use Rattle.versions.specs.Cutting.{IsClosing, IsCutting, IsSegmentRow, StaysApart, between, given_pairs, room_spent, trees};
+ghost use Rattle.versions.specs.Parts.{HasMadeTree, blocks_of_parts, made_in};
 
 use crate::building::draft::BaseVersion;
 use crate::building::scans::ChangeScan;
@@ -82,7 +82,7 @@ pub(crate) fn begun<K: Ord + Drop, V: Drop, N: Drop, O: BaseVersion<K, V, N>, co
 ) -> Result<SegmentBuilder<K, V, N>, AllocError>
     requires { (1 ≤ S) × (S ≤ 225) }
     ensures whole { IfOk result (λ out. IsCutting (O.named old.now) K.cmp S (O.blocks old.now) out) }
-    ensures empty { IfOk result (λ out. given (O.named old.now) out ≡ []) }
+    ensures empty { IfOk result (λ out. given_pairs (O.named old.now) out ≡ []) }
     ensures none { IfOk result (λ out. (trees out ≡ 0) × (out.row.last ≡ 0)) }
 {
     let most = most_segments(old.count(), named, S);
@@ -144,10 +144,10 @@ pub(crate) fn push<
 >(out: &mut SegmentBuilder<K, V, N>, old: &O, key: K, value: V) -> Result<(), AllocError>
     requires clones { ClonesAreSame K.is_clone }
     requires whole { IsCutting (O.named old.now) K.cmp S (O.blocks old.now) out.old }
-    requires rising { IsAscending K.cmp (given (O.named old.now) out.old ++ (key, value) ∷ []) }
+    requires rising { IsAscending K.cmp (given_pairs (O.named old.now) out.old ++ (key, value) ∷ []) }
     ensures whole { OnOk result (IsCutting (O.named old.now) K.cmp S (O.blocks old.now) out.new) }
-    ensures pairs { OnOk result (given (O.named old.now) out.new ≡ given (O.named old.now) out.old ++ (key, value) ∷ []) }
-    ensures spent { OnOk result (spent S out.new ≡ spent S out.old + 1) }
+    ensures pairs { OnOk result (given_pairs (O.named old.now) out.new ≡ given_pairs (O.named old.now) out.old ++ (key, value) ∷ []) }
+    ensures spent { OnOk result (room_spent S out.new ≡ room_spent S out.old + 1) }
     ensures some { OnOk result (0 < length out.new.tail.pairs) }
 {
     let _ = old;
@@ -180,7 +180,7 @@ fn take<K: Clone + Ord + Drop, V: Clone + Drop, N: Drop, O: BaseVersion<K, V, N>
     requires whole { IsCutting (O.named old.now) K.cmp S (O.blocks old.now) out.old }
     requires apart { StaysApart (O.named old.now) K.cmp S (O.blocks old.now) place out.old }
     ensures whole { OnOk result (IsCutting (O.named old.now) K.cmp S (O.blocks old.now) out.new) }
-    ensures pairs { OnOk result ((b : List (K × V)) → slice_get (O.blocks old.now) place ≡ Some b → given (O.named old.now) out.new ≡ given (O.named old.now) out.old ++ b) }
+    ensures pairs { OnOk result ((b : List (K × V)) → slice_get (O.blocks old.now) place ≡ Some b → given_pairs (O.named old.now) out.new ≡ given_pairs (O.named old.now) out.old ++ b) }
     ensures trees { OnOk result (trees out.new ≡ trees out.old) }
     ensures last { OnOk result ((b : List (K × V)) → slice_get (O.blocks old.now) place ≡ Some b → out.new.row.last ≡ length b) }
     ensures tail { OnOk result (out.new.tail.pairs ≡ []) }
@@ -206,9 +206,9 @@ pub(crate) fn take_stretch<
     requires apart { StaysApart (O.named old.now) K.cmp S (O.blocks old.now) from out.old }
     requires some { from < upto }
     requires within { upto ≤ length (O.blocks old.now) }
-    requires rising { IsAscending K.cmp (given (O.named old.now) out.old ++ pairs_in (between from upto (O.blocks old.now))) }
+    requires rising { IsAscending K.cmp (given_pairs (O.named old.now) out.old ++ pairs_in (between from upto (O.blocks old.now))) }
     ensures whole { OnOk result (IsCutting (O.named old.now) K.cmp S (O.blocks old.now) out.new) }
-    ensures pairs { OnOk result (given (O.named old.now) out.new ≡ given (O.named old.now) out.old ++ pairs_in (between from upto (O.blocks old.now))) }
+    ensures pairs { OnOk result (given_pairs (O.named old.now) out.new ≡ given_pairs (O.named old.now) out.old ++ pairs_in (between from upto (O.blocks old.now))) }
     ensures trees { OnOk result (trees out.new ≡ trees out.old) }
     ensures last { OnOk result ((b : List (K × V)) → Some b ≡ slice_get (O.blocks old.now) (upto - 1) → out.new.row.last ≡ length b) }
 {
@@ -232,7 +232,7 @@ fn take_next<K: Clone + Ord + Drop, V: Drop, N: Drop, O: BaseVersion<K, V, N>, c
     requires apart { StaysApart (O.named old.now) K.cmp S (O.blocks old.now) place out.old }
     requires none { out.old.tail.pairs ≡ [] }
     ensures whole { OnOk result (IsCutting (O.named old.now) K.cmp S (O.blocks old.now) out.new) }
-    ensures pairs { OnOk result ((b : List (K × V)) → slice_get (O.blocks old.now) place ≡ Some b → given (O.named old.now) out.new ≡ given (O.named old.now) out.old ++ b) }
+    ensures pairs { OnOk result ((b : List (K × V)) → slice_get (O.blocks old.now) place ≡ Some b → given_pairs (O.named old.now) out.new ≡ given_pairs (O.named old.now) out.old ++ b) }
     ensures trees { OnOk result (trees out.new ≡ trees out.old) }
     ensures last { OnOk result ((b : List (K × V)) → slice_get (O.blocks old.now) place ≡ Some b → out.new.row.last ≡ length b) }
     ensures tail { OnOk result (out.new.tail.pairs ≡ []) }
@@ -283,7 +283,7 @@ pub(crate) fn finish<
     requires values { ClonesAreSame V.is_clone }
     requires whole { IsCutting (O.named old.now) K.cmp S (O.blocks old.now) out }
     ensures cut { IfOk result (λ made. IsCut K.cmp S (blocks_of_parts (O.named old.now) made.parts.items) made.separators.items) }
-    ensures list { IfOk result (λ made. pairs_in (blocks_of_parts (O.named old.now) made.parts.items) ≡ given (O.named old.now) out) }
+    ensures list { IfOk result (λ made. pairs_in (blocks_of_parts (O.named old.now) made.parts.items) ≡ given_pairs (O.named old.now) out) }
     ensures length { IfOk result (λ made. made.length ≡ length (pairs_in (blocks_of_parts (O.named old.now) made.parts.items))) }
     ensures made { IfOk result (λ made. made_in made.parts.items ≡ trees out) }
 {
@@ -317,8 +317,8 @@ fn seal<K: Clone + Ord + Drop, V: Clone + Drop, N: Drop, O: BaseVersion<K, V, N>
     requires keys { ClonesAreSame K.is_clone }
     requires values { ClonesAreSame V.is_clone }
     requires whole { IsCutting (O.named old.now) K.cmp S (O.blocks old.now) out.old }
-    ensures row { OnOk result (IsRow (O.named old.now) S out.new.row) }
-    ensures pairs { OnOk result (pairs_in (blocks_of_parts (O.named old.now) out.new.row.parts.items) ≡ given (O.named old.now) out.old) }
+    ensures row { OnOk result (IsSegmentRow (O.named old.now) S out.new.row) }
+    ensures pairs { OnOk result (pairs_in (blocks_of_parts (O.named old.now) out.new.row.parts.items) ≡ given_pairs (O.named old.now) out.old) }
     ensures made { OnOk result (made_in out.new.row.parts.items ≡ trees out.old) }
     ensures last { OnOk result (0 < length out.old.tail.pairs → length out.old.tail.pairs ≤ out.new.row.last) }
     ensures same { OnOk result (length out.old.tail.pairs ≡ 0 → out.new.row.last ≡ out.old.row.last) }
@@ -344,7 +344,7 @@ fn join<K: Clone + Ord + Drop, V: Clone + Drop, N: Drop, O: BaseVersion<K, V, N>
     requires whole { IsCutting (O.named old.now) K.cmp S (O.blocks old.now) out.old }
     requires some { 0 < length out.old.tail.pairs }
     ensures closing { OnOk result (IsClosing (O.named old.now) S out.new) }
-    ensures pairs { OnOk result (given (O.named old.now) out.new ≡ given (O.named old.now) out.old) }
+    ensures pairs { OnOk result (given_pairs (O.named old.now) out.new ≡ given_pairs (O.named old.now) out.old) }
     ensures made { OnOk result (made_in out.new.row.parts.items ≡ made_in out.old.row.parts.items) }
     ensures tail { OnOk result (length out.old.tail.pairs ≤ length out.new.tail.pairs) }
     ensures length { OnOk result (out.new.length ≡ out.old.length) }
@@ -368,7 +368,7 @@ fn close<K: Clone + Ord + Drop, V: Drop, N: Drop>(
     next: Segment<K, V>,
 ) -> Result<(), AllocError>
     requires { ClonesAreSame K.is_clone }
-    ensures parts { OnOk result ((part : Part K V N) × IsMade out.old.tail part × (out.new.row.parts.items ≡ out.old.row.parts.items ++ part ∷ [])) }
+    ensures parts { OnOk result ((part : Part K V N) × HasMadeTree out.old.tail part × (out.new.row.parts.items ≡ out.old.row.parts.items ++ part ∷ [])) }
     ensures separators { OnOk result (map Some out.new.row.separators.items ≡ map Some out.old.row.separators.items ++ greatest_key out.old.tail.pairs ∷ []) }
     ensures last { OnOk result (out.new.row.last ≡ length out.old.tail.pairs) }
     ensures held { OnOk result (out.new.held ≡ None) }
@@ -391,7 +391,7 @@ fn made<K: Ord + Drop, V: Drop, N>(
     alloc: Global,
     tree: Segment<K, V>,
 ) -> Result<Part<K, V, N>, AllocError>
-    ensures { IfOk result (λ part. IsMade tree part) }
+    ensures { IfOk result (λ part. HasMadeTree tree part) }
 {
     Ok(Part::Made(Box::new(alloc, tree)?))
 }

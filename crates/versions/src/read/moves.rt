@@ -5,7 +5,7 @@ ghost use Rattle.std.specs.Range.Bound.{bound_map};
 ghost use Rattle.tree_index.specs.Cursor.{forth, back, before_start, up_to_end, lies_before, pair_at, deref_pair};
 ghost use Rattle.tree_index.specs.declared.cursor.End.TheVariants.{At, Done, Unopened};
 ghost use Rattle.versions.specs.Cuts.{pairs_in};
-ghost use Rattle.versions.specs.CursorEnds.{pairs_before, fore_place, rear_place, AreRising, IsForeAlone, IsForeAt, IsPairAt, IsRearAlone, IsRearAt, StandsFore, StandsRear};
+ghost use Rattle.versions.specs.CursorEnds.{pairs_before_block, fore_place, rear_place, AreRising, IsForeAlone, IsForeAt, IsPairAt, IsRearAlone, IsRearAt, StandsFore, StandsRear};
 
 use crate::read::position::{CursorEnd, Position};
 use crate::read::trees::Trees;
@@ -54,7 +54,7 @@ impl<'a, K: Ord, V, W: Trees<K, V>> VersionView<'a, K, V, W> {
         requires within { segment < length self.now }
         ensures stands { StandsFore self.now end.new }
         ensures alone { IsForeAlone end.new }
-        ensures place { fore_place self.now end.new ≡ cond (nat_lt (pairs_before self.now (segment + 1)) (length (pairs_in self.now))) (At (pairs_before self.now (segment + 1))) Done }
+        ensures place { fore_place self.now end.new ≡ cond (nat_lt (pairs_before_block self.now (segment + 1)) (length (pairs_in self.now))) (At (pairs_before_block self.now (segment + 1))) Done }
         ensures pair { deref_pair result ≡ pair_at (pairs_in self.now) (fore_place self.now end.new) }
     {
         let version = self.copy();
@@ -212,8 +212,8 @@ impl<'a, K: Ord, V, W: Trees<K, V>> VersionView<'a, K, V, W> {
     pub(crate) fn first_behind(&self, segment: usize) -> Option<Found<'a, K, V>>
         requires rising { AreRising K.cmp self.now }
         requires within { segment < length self.now }
-        ensures some { IfSome result (λ found. IsForeAt self.now (pairs_before self.now (segment + 1)) found.0 × IsPairAt self.now (pairs_before self.now (segment + 1)) found.1) }
-        ensures none { IfNone result (pairs_before self.now (segment + 1) ≡ length (pairs_in self.now)) }
+        ensures some { IfSome result (λ found. IsForeAt self.now (pairs_before_block self.now (segment + 1)) found.0 × IsPairAt self.now (pairs_before_block self.now (segment + 1)) found.1) }
+        ensures none { IfNone result (pairs_before_block self.now (segment + 1) ≡ length (pairs_in self.now)) }
     {
         let count = self.segment_count();
         let segment = segment + 1;
@@ -232,8 +232,8 @@ impl<'a, K: Ord, V, W: Trees<K, V>> VersionView<'a, K, V, W> {
     pub(crate) fn last_before(&self, segment: usize) -> Option<Found<'a, K, V>>
         requires rising { AreRising K.cmp self.now }
         requires within { segment < length self.now }
-        ensures some { IfSome result (λ found. IsRearAt self.now (pairs_before self.now segment) found.0 × IsPairAt self.now ((pairs_before self.now segment) - 1) found.1) }
-        ensures none { IfNone result (pairs_before self.now segment ≡ 0) }
+        ensures some { IfSome result (λ found. IsRearAt self.now (pairs_before_block self.now segment) found.0 × IsPairAt self.now ((pairs_before_block self.now segment) - 1) found.1) }
+        ensures none { IfNone result (pairs_before_block self.now segment ≡ 0) }
     {
         if segment == 0 {
             return None;
@@ -250,7 +250,7 @@ impl<'a, K: Ord, V, W: Trees<K, V>> VersionView<'a, K, V, W> {
     fn place_from(&self, lower: Bound<&'a K>) -> usize
         requires { 0 < length self.now }
         ensures within { result < length self.now }
-        ensures place { (b : List (K × V)) → slice_get self.now result ≡ Some b → before_start K.cmp (bound_map (λ k. k.now) lower.entry) (pairs_in self.now) ≡ pairs_before self.now result + before_start K.cmp (bound_map (λ k. k.now) lower.entry) b }
+        ensures place { (b : List (K × V)) → slice_get self.now result ≡ Some b → before_start K.cmp (bound_map (λ k. k.now) lower.entry) (pairs_in self.now) ≡ pairs_before_block self.now result + before_start K.cmp (bound_map (λ k. k.now) lower.entry) b }
     {
         match lower {
             Bound::Included(key) => self.around(key),
@@ -263,7 +263,7 @@ impl<'a, K: Ord, V, W: Trees<K, V>> VersionView<'a, K, V, W> {
     fn place_upto(&self, upper: Bound<&'a K>) -> usize
         requires { 0 < length self.now }
         ensures within { result < length self.now }
-        ensures place { (b : List (K × V)) → slice_get self.now result ≡ Some b → up_to_end K.cmp (bound_map (λ k. k.now) upper.entry) (pairs_in self.now) ≡ pairs_before self.now result + up_to_end K.cmp (bound_map (λ k. k.now) upper.entry) b }
+        ensures place { (b : List (K × V)) → slice_get self.now result ≡ Some b → up_to_end K.cmp (bound_map (λ k. k.now) upper.entry) (pairs_in self.now) ≡ pairs_before_block self.now result + up_to_end K.cmp (bound_map (λ k. k.now) upper.entry) b }
     {
         match upper {
             Bound::Included(key) => self.around(key),

@@ -6,7 +6,7 @@ ghost use Rattle.leaf_array.specs.Pairs.{has_key};
 ghost use Rattle.tree_index.specs.Cursor.{whole};
 ghost use Rattle.tree_index.specs.Proximity.{IsLocated};
 ghost use Rattle.versions.specs.Cuts.{pairs_in};
-ghost use Rattle.versions.specs.CursorEnds.{fore_place, rear_place, pairs_before, AreRising, IsForeAt, IsRearAt, IsWalking};
+ghost use Rattle.versions.specs.CursorEnds.{fore_place, rear_place, pairs_before_block, AreRising, IsForeAt, IsRearAt, IsWalking};
 ghost use Rattle.versions.specs.Nearby.{as_proximity};
 
 use crate::read::position::{CursorEnd, Position};
@@ -64,8 +64,8 @@ impl<'a, K: Ord, V, W: Trees<K, V>> VersionView<'a, K, V, W> {
     /// Where a key stands that is less than the first pair of a segment, and greater than those before it.
     fn before_first(&self, first: Position<'a, K, V>) -> Nearby<'a, K, V, W>
         requires rising { AreRising K.cmp self.now }
-        requires first { IsForeAt self.now (pairs_before self.now first.segment) first }
-        ensures { (key : K) → lesser K.cmp key (pairs_in self.now) ≡ pairs_before self.now first.entry.segment → has_key K.cmp key (pairs_in self.now) ≡ false → IsLocated K.cmp key (pairs_in self.now) (as_proximity result) }
+        requires first { IsForeAt self.now (pairs_before_block self.now first.segment) first }
+        ensures { (key : K) → lesser K.cmp key (pairs_in self.now) ≡ pairs_before_block self.now first.entry.segment → has_key K.cmp key (pairs_in self.now) ≡ false → IsLocated K.cmp key (pairs_in self.now) (as_proximity result) }
     {
         match self.last_before(first.segment) {
             Some((smaller, _)) => {
@@ -79,8 +79,8 @@ impl<'a, K: Ord, V, W: Trees<K, V>> VersionView<'a, K, V, W> {
     /// Where a key stands that is greater than the last pair of a segment, and less than those behind it.
     fn behind_last(&self, last: Position<'a, K, V>) -> Nearby<'a, K, V, W>
         requires rising { AreRising K.cmp self.now }
-        requires last { IsRearAt self.now (pairs_before self.now (last.segment + 1)) last }
-        ensures { (key : K) → lesser K.cmp key (pairs_in self.now) ≡ pairs_before self.now (last.entry.segment + 1) → has_key K.cmp key (pairs_in self.now) ≡ false → IsLocated K.cmp key (pairs_in self.now) (as_proximity result) }
+        requires last { IsRearAt self.now (pairs_before_block self.now (last.segment + 1)) last }
+        ensures { (key : K) → lesser K.cmp key (pairs_in self.now) ≡ pairs_before_block self.now (last.entry.segment + 1) → has_key K.cmp key (pairs_in self.now) ≡ false → IsLocated K.cmp key (pairs_in self.now) (as_proximity result) }
     {
         match self.first_behind(last.segment) {
             Some((larger, _)) => {

@@ -1,7 +1,7 @@
 //! An end of a walk: a place in a segment.
 
 ghost use Rattle.std.specs.Prelude.{◌≡◌};
-ghost use Rattle.tree_index.specs.Cursor.{moved_back, moved_forth, deref_pair, shown, shown_back};
+ghost use Rattle.tree_index.specs.Cursor.{moved_back, moved_forth, deref_pair, shown_forth, shown_back};
 ghost use Rattle.versions.specs.CursorEnds.{swapped};
 
 use tree_index::Iter;
@@ -29,7 +29,7 @@ impl<'a, K: Ord, V> Position<'a, K, V> {
     pub(crate) fn step(&mut self) -> Option<(&'a K, &'a V)>
         ensures segment { self.new.segment ≡ self.old.segment }
         ensures cursor { self.new.cursor ≡ moved_forth K.cmp self.old.cursor }
-        ensures pair { deref_pair result ≡ shown K.cmp self.new.cursor }
+        ensures pair { deref_pair result ≡ shown_forth K.cmp self.new.cursor }
     {
         match self.cursor.next() {
             Some(pair) => Some(pair),
@@ -41,7 +41,7 @@ impl<'a, K: Ord, V> Position<'a, K, V> {
     /// The pair of the forward end.
     #[inline(always)]
     fn pair(&self) -> Option<(&'a K, &'a V)>
-        ensures { deref_pair result ≡ shown K.cmp self.now.cursor }
+        ensures { deref_pair result ≡ shown_forth K.cmp self.now.cursor }
     {
         pair_of(self.cursor.clone())
     }
@@ -111,7 +111,7 @@ impl<'a, K: Ord, V> CursorEnd<'a, K, V> {
 // The cursor is a copy, so that the one in a walk can stay in registers.
 #[inline(never)]
 fn pair_of<'a, K: Ord, V>(cursor: Iter<'a, K, V>) -> Option<(&'a K, &'a V)>
-    ensures { deref_pair result ≡ shown K.cmp cursor.entry }
+    ensures { deref_pair result ≡ shown_forth K.cmp cursor.entry }
 {
     cursor.get()
 }

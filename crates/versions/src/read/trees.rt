@@ -30,13 +30,13 @@ pub trait Trees<K: Ord, V> {
 impl<K: Ord, V, const S: usize> Trees<K, V> for World<Item<K, V, S>, NoJob> {
     ghost use Rattle.sdd_base.specs.State.{value_at};
     ghost use Rattle.sdd_base.specs.Tokens.{kept_slot};
-    ghost use Rattle.versions.specs.Versions.{IsSegment, pairs_of};
+    ghost use Rattle.versions.specs.Versions.{IsSegment, segment_pairs};
 
     type Owner = Kept;
 
     ghost has = { λ w k. IsSegment (value_at w (kept_slot k)) };
 
-    ghost pairs = { λ w k. pairs_of (value_at w (kept_slot k)) };
+    ghost pairs = { λ w k. segment_pairs (value_at w (kept_slot k)) };
 
     fn tree<'a>(&'a self, at: &'a Kept) -> &'a TreeIndex<K, V> {
         shared::kept_ref(self, at).segment()

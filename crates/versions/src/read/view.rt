@@ -6,7 +6,7 @@ ghost use Rattle.std.specs.Map.{lookup_entry};
 ghost use Rattle.std.specs.Range.Bound.{bound_map};
 ghost use Rattle.tree_index.specs.declared.cursor.End.TheVariants.{Unopened};
 ghost use Rattle.versions.specs.Cuts.{pairs_in};
-ghost use Rattle.versions.specs.CursorEnds.{AreRising, IsAround};
+ghost use Rattle.versions.specs.CursorEnds.{AreRising, IsBlockAround};
 ghost use Rattle.versions.specs.SeparatorSearch.{IsPlaceOf};
 ghost use Rattle.versions.specs.Views.{IsView, blocks_at};
 
@@ -151,7 +151,7 @@ impl<'a, K: Ord, V, W: Trees<K, V>> VersionView<'a, K, V, W> {
     /// The segment that a key lies in or beside: those before it have lesser keys, and those behind it greater ones.
     pub(crate) fn around(&self, key: &K) -> usize
         requires { 0 < length self.now }
-        ensures { IsAround K.cmp key.now self.now result }
+        ensures { IsBlockAround K.cmp key.now self.now result }
     {
         place_of(&self.directory.separators, key)
     }
@@ -160,7 +160,7 @@ impl<'a, K: Ord, V, W: Trees<K, V>> VersionView<'a, K, V, W> {
     #[inline]
     fn around_counted(&self, key: &K, steps: &mut Steps) -> usize
         requires { 0 < length self.now }
-        ensures place { IsAround K.cmp key.now self.now result }
+        ensures place { IsBlockAround K.cmp key.now self.now result }
         ensures cost { (digits : ℕ) → length self.now < 2 ^ digits → steps.new.count ≤ steps.old.count + digits }
         ensures raised { steps.old.count ≤ steps.new.count }
     {

@@ -1,7 +1,7 @@
 //! A cursor over the list of a version.
 
 ghost use Rattle.std.specs.Prelude.{◌≡◌};
-ghost use Rattle.tree_index.specs.Cursor.{shown, shown_back, can_turn, turned, deref_pair};
+ghost use Rattle.tree_index.specs.Cursor.{shown_forth, shown_back, can_turn, turned, deref_pair};
 
 use crate::bounds::{above, below};
 use crate::read::position::CursorEnd;
@@ -47,7 +47,7 @@ impl<'a, K: Ord, V, W: Trees<K, V>> Model for Walk<'a, K, V, W> {
 impl<'a, K: Ord, V, W: Trees<K, V>> Walk<'a, K, V, W> {
     /// The pair of the forward end, if it stands at one within the upper bound.
     pub fn get(&self) -> Option<(&'a K, &'a V)>
-        ensures { deref_pair result ≡ shown K.cmp self.now }
+        ensures { deref_pair result ≡ shown_forth K.cmp self.now }
     {
         match &self.forward {
             CursorEnd::At(position) => match position.cursor.get() {
@@ -114,13 +114,13 @@ impl<'a, K: Ord, V, W: Trees<K, V>> Walk<'a, K, V, W> {
 
 impl<'a, K: Ord, V, W: Trees<K, V>> Iterator for Walk<'a, K, V, W> {
     ghost use Rattle.std.specs.Iterator.{at_most};
-    ghost use Rattle.tree_index.specs.Cursor.{GoesForth, between};
+    ghost use Rattle.tree_index.specs.Cursor.{GoesForth, count_between};
 
     type Item = (&'a K, &'a V);
 
     ghost next_gives = { GoesForth K.cmp };
 
-    ghost remaining = { λ c. at_most (between c) };
+    ghost remaining = { λ c. at_most (count_between c) };
 
     /// Moves the forward end to the next pair, and gives it if it lies within the upper bound and the ends haven't met.
     #[inline(always)]

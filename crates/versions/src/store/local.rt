@@ -9,7 +9,7 @@ ghost use Rattle.sdd_base.specs.Tokens.{shared_cell};
 ghost use Rattle.versions.specs.Cuts.{pairs_in};
 ghost use Rattle.versions.specs.Items.{slots_of};
 ghost use Rattle.versions.specs.Placing.{CanBeShared};
-ghost use Rattle.versions.specs.Sizes.{IsSized, room_for, segments_for};
+ghost use Rattle.versions.specs.Sizes.{IsStoreSized, room_for, segments_for};
 ghost use Rattle.versions.specs.Store.{Version, IsKeptHere, IsStore, no_version, version_in};
 ghost use Rattle.versions.specs.Versions.{IsVersion, list_of};
 ghost use Rattle.versions.specs.Writes.{after_writes, replies_to};
@@ -71,20 +71,20 @@ pub enum WriteRefused {
 /// outside; `free` names the places without a reader.
 impl<K: Ord, V, const S: usize> Model for LocalStore<K, V, S> {
     ghost use Rattle.sdd_base.specs.Tokens.{shared_cell};
-    ghost use Rattle.sdd_base.specs.View.{IsStack};
+    ghost use Rattle.sdd_base.specs.View.{IsFreeList};
     ghost use Rattle.versions.specs.Store.{Store, store_of, IsStore, gap};
 
     ghost Value = { Store K V };
 
     ghost view = { λ a. store_of a.world (shared_cell a.root) a.readers.items };
 
-    ghost invariant = { λ a. IsStore K.cmp a.world (shared_cell a.root) a.readers.items × IsStack gap a.readers.items a.free };
+    ghost invariant = { λ a. IsStore K.cmp a.world (shared_cell a.root) a.readers.items × IsFreeList gap a.readers.items a.free };
 }
 
 impl<K: Clone + Ord, V: Clone, const S: usize> LocalStore<K, V, S> {
     /// The empty list, with number 0, and so many places for readers. Refused where memory is.
     pub fn new(alloc: Global, readers: usize, slots: usize) -> Result<Self, AllocError>
-        requires { IsSized readers slots S }
+        requires { IsStoreSized readers slots S }
         ensures { IfOk result (λ s. s ≡ record { present = no_version; readers = replicate readers None; slots = slots; used = 1; raises = 0 }) }
     {
         let mut free = Vec::with_capacity(alloc, readers)?;

@@ -4,8 +4,8 @@ ghost use Rattle.std.specs.Prelude.{◌≡◌, ◌≤◌, ◌<◌, ℕ, List, Op
 ghost use Rattle.std.specs.List.{All};
 ghost use Rattle.std.specs.Option.{option_map};
 ghost use Rattle.sdd_base.specs.State.{value_at};
-ghost use Rattle.sdd_base.specs.View.{IsStack};
-ghost use Rattle.versions.specs.Store.{IsStore, Reads, Version, gap, read_by};
+ghost use Rattle.sdd_base.specs.View.{IsFreeList};
+ghost use Rattle.versions.specs.Store.{IsStore, HasVersionOpen, Version, gap, read_by};
 ghost use Rattle.versions.specs.Versions.{IsVersion, list_of};
 
 use crate::directory::Directory;
@@ -86,7 +86,7 @@ pub(crate) fn free_all<K: Ord, V, const S: usize>(
     requires room { count ≤ vec_capacity readers.old }
     requires names { count ≤ vec_capacity free.old }
     ensures readers { readers.new.items ≡ replicate count None }
-    ensures free { IsStack gap readers.new.items free.new }
+    ensures free { IsFreeList gap readers.new.items free.new }
 {
     for place in 0..count {
         readers.push_reserved(None);
@@ -112,7 +112,7 @@ fn seen<'w, K: Ord, V, const S: usize>(
     w: &'w World<Item<K, V, S>, NoJob>,
     opened: &Opened<K, V, S>,
 ) -> &'w Directory<K, Kept>
-    requires { (p : ℕ) × Reads K.cmp w.now p opened.now }
+    requires { (p : ℕ) × HasVersionOpen K.cmp w.now p opened.now }
     ensures version { IsVersion K.cmp (value_at w.now) result.now }
     ensures is { record { number = result.now.number; pairs = list_of (value_at w.now) result.now } ≡ read_by w.now opened.now }
 {

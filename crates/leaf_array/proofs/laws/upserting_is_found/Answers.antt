@@ -1,5 +1,5 @@
-use Rattle.leaf_array.proofs.ListLemmas.{value_at-upserted}
+use Rattle.leaf_array.proofs.ListLemmas.{value_of_key-upserted}
 use Rattle.leaf_array.proofs.laws.upserting_is_found.Goals as goal
 
 pub returns : goal.returns
-returns g c = value_at-upserted g.met.K.Ord.total
+returns g c = value_of_key-upserted g.met.K.Ord.total

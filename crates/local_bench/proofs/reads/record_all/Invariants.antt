@@ -1,9 +1,9 @@
 use Rattle.std.proofs.Common.{◌≡◌}
-use Rattle.ordered_index.specs.State.{IsOpen}
+use Rattle.ordered_index.specs.State.{IsSessionOf}
 use Rattle.local_bench.proofs.reads.record_all.Given as goal
 
 abbrev pub invariant-loop-probe : goal.invariant-loop-probe
 invariant-loop-probe g l = record {
-  is_open : IsOpen l.index l.session;
+  is_open : IsSessionOf l.index l.session;
   place : l.session.place ≡ l.fn.session.place;
 }

@@ -1,6 +1,6 @@
 use Rattle.std.proofs.Common.{◌≡◌, refl, sym, None}
 use Rattle.std.specs.List.{slice_get}
-use Rattle.ordered_index.specs.RemainingPairs.{left_by}
+use Rattle.ordered_index.specs.RemainingPairs.{remaining_pairs}
 use Rattle.ordered_index.proofs.ReplayLemmas.{gathered_more, left_whole}
 use Rattle.ordered_index.proofs.RemainingPairsLemmas.{done_all}
 use Rattle.ordered_index.proofs.replay.gathered.Goals as goal
@@ -16,7 +16,7 @@ gathering-preserved g c =
     let i = c.gathering.invariant in
     let key = c.requires.keys c.in-Some.key.now c.in_ok-clone.field-0 c.in_ok-clone.ensures.cases in
     let value = c.requires.values c.in-Some.value.now c.in_ok-clone-2.field-0 c.in_ok-clone-2.ensures.cases in
-    let more = gathered_more g.met.K.Ord.total c.gathering.list.pairs (left_by g.K.Ord.cmp (g.C.Steps.cursor c.gathering.cursor)) _ (c.in-Some.key.now, c.in-Some.value.now) i.given c.requires.start.rising (sym c.in-Some.ensures.first) in
+    let more = gathered_more g.met.K.Ord.total c.gathering.list.pairs (remaining_pairs g.K.Ord.cmp (g.C.Steps.cursor c.gathering.cursor)) _ (c.in-Some.key.now, c.in-Some.value.now) i.given c.requires.start.rising (sym c.in-Some.ensures.first) in
     record {
       alone = c.next.ensures.alone;
       given = rw (c.in-Ok.ensures.upserted, key, value, c.in-Some.ensures.left refl) more;
@@ -24,5 +24,5 @@ gathering-preserved g c =
 
 pub returns : goal.returns
 returns g c =
-    let first : slice_get (left_by g.K.Ord.cmp (g.C.Steps.cursor c.gathering.cursor)) 0 ≡ None = sym c.in_default.ensures.first in
-    done_all c.gathering.list.pairs (left_by g.K.Ord.cmp (g.C.Steps.cursor c.gathering.cursor)) _ c.gathering.invariant.given first
+    let first : slice_get (remaining_pairs g.K.Ord.cmp (g.C.Steps.cursor c.gathering.cursor)) 0 ≡ None = sym c.in_default.ensures.first in
+    done_all c.gathering.list.pairs (remaining_pairs g.K.Ord.cmp (g.C.Steps.cursor c.gathering.cursor)) _ c.gathering.invariant.given first

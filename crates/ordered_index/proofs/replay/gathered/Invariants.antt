@@ -1,14 +1,14 @@
 use Rattle.std.proofs.Common.{◌≡◌, ◌++◌, length}
 use Rattle.tree_index.specs.declared.cursor.End.TheVariants.{Unopened}
-use Rattle.ordered_index.specs.RemainingPairs.{left_by}
+use Rattle.ordered_index.specs.RemainingPairs.{remaining_pairs}
 use Rattle.ordered_index.proofs.replay.gathered.Given as goal
 
 -- what was given so far is in the list, and the rest is yet to be given
 abbrev pub invariant-gathering : goal.invariant-gathering
 invariant-gathering g l = record {
   alone : (g.C.Steps.cursor l.cursor).backward ≡ Unopened;
-  given : l.list.pairs ++ left_by g.K.Ord.cmp (g.C.Steps.cursor l.cursor) ≡ (g.C.Steps.cursor l.fn.cursor).pairs;
+  given : l.list.pairs ++ remaining_pairs g.K.Ord.cmp (g.C.Steps.cursor l.cursor) ≡ (g.C.Steps.cursor l.fn.cursor).pairs;
 }
 
 abbrev pub decreases-gathering : goal.decreases-gathering
-decreases-gathering g l = length (left_by g.K.Ord.cmp (g.C.Steps.cursor l.cursor))
+decreases-gathering g l = length (remaining_pairs g.K.Ord.cmp (g.C.Steps.cursor l.cursor))

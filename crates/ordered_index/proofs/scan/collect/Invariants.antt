@@ -1,14 +1,14 @@
 use Rattle.std.proofs.Common.{◌≡◌, ◌++◌, length}
 use Rattle.tree_index.specs.declared.cursor.End.TheVariants.{Unopened}
-use Rattle.ordered_index.specs.RemainingPairs.{left_by}
+use Rattle.ordered_index.specs.RemainingPairs.{remaining_pairs}
 use Rattle.ordered_index.proofs.scan.collect.Given as goal
 
 -- what was given so far is copied, and the rest is yet to be given
 abbrev pub invariant-copying : goal.invariant-copying
 invariant-copying g l = record {
   alone : (g.C.Steps.cursor l.cursor).backward ≡ Unopened;
-  given : l.copy.items ++ left_by g.K.Ord.cmp (g.C.Steps.cursor l.cursor) ≡ left_by g.K.Ord.cmp (g.C.Steps.cursor l.fn.cursor);
+  given : l.copy.items ++ remaining_pairs g.K.Ord.cmp (g.C.Steps.cursor l.cursor) ≡ remaining_pairs g.K.Ord.cmp (g.C.Steps.cursor l.fn.cursor);
 }
 
 abbrev pub decreases-copying : goal.decreases-copying
-decreases-copying g l = length (left_by g.K.Ord.cmp (g.C.Steps.cursor l.cursor))
+decreases-copying g l = length (remaining_pairs g.K.Ord.cmp (g.C.Steps.cursor l.cursor))

@@ -1,5 +1,5 @@
 use Rattle.std.proofs.Common.{ap, ◌∙◌}
-use Rattle.ordered_index.specs.RemainingPairs.{left_by}
+use Rattle.ordered_index.specs.RemainingPairs.{remaining_pairs}
 use Rattle.ordered_index.proofs.RemainingPairsLemmas.{first_of, given_some, rest_of}
 use Rattle.ordered_index.proofs.scan.next.Goals as goal
 
@@ -8,5 +8,5 @@ returns-clause-first g c = c.step.ensures.0 ∙ first_of g.K.Ord.cmp (g.C.Steps.
 
 pub returns-clause-left : goal.returns-clause-left
 returns-clause-left g c = λ some.
-    ap (left_by g.K.Ord.cmp) c.step.ensures.1
+    ap (remaining_pairs g.K.Ord.cmp) c.step.ensures.1
     ∙ rest_of g.K.Ord.cmp (g.C.Steps.cursor c.args.cursor.now) c.requires (given_some c.step.result _ c.step.ensures.0 some)

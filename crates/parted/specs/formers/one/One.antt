@@ -14,15 +14,15 @@ use Rattle.parted.specs.declared.one.One.{One}
 use Rattle.parted.specs.contracts.one.One as C
 
 -- all of it but its value: where that lies, under which life, that the token is that life's, and that it is one
-abbrev pub Frame : Type 0
-Frame = Ptr × (life : ℕ) × (id : ℕ) × (_ : life ≡ id) × (count : ℕ) × (count ≡ 1)
+abbrev pub OneWithoutValue : Type 0
+OneWithoutValue = Ptr × (life : ℕ) × (id : ℕ) × (_ : life ≡ id) × (count : ℕ) × (count ≡ 1)
 
 abbrev pub the_former : Former {0} → Former {0}
-the_former g = via (pair (const Frame) g) (λ X. One (g.Of X)) (λ X p. ((p.part.seen.ptr, p.part.seen.life, p.part.life.id, p.part.same, p.part.life.count, p.one), p.part.seen.value))
+the_former g = via (pair (const OneWithoutValue) g) (λ X. One (g.Of X)) (λ X p. ((p.part.seen.ptr, p.part.seen.life, p.part.life.id, p.part.same, p.part.life.count, p.one), p.part.seen.value))
     (λ X v. record { part = record { seen = record { ptr = v.0.0; value = v.1; life = v.0.1 }; life = record { id = v.0.2; count = v.0.4 }; same = v.0.3 }; one = v.0.5 }) (λ X p. refl) (λ X v. refl)
 
 abbrev pub the_weighed : {g : Former {0}} → Weighed g → Weighed (the_former g)
-the_weighed w = let both = w_pair (w_const Frame) w in record {
+the_weighed w = let both = w_pair (w_const OneWithoutValue) w in record {
   weight = λ X μ p. both.weight X μ ((p.part.seen.ptr, p.part.seen.life, p.part.life.id, p.part.same, p.part.life.count, p.one), p.part.seen.value);
   puts = λ X μ p. both.puts X μ ((p.part.seen.ptr, p.part.seen.life, p.part.life.id, p.part.same, p.part.life.count, p.one), p.part.seen.value);
 }

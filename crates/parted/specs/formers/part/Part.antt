@@ -14,15 +14,15 @@ use Rattle.parted.specs.declared.part.Part.{Part}
 use Rattle.parted.specs.contracts.part.Part as C
 
 -- all of a part but its value: where it lies, under which life, and that the tokens are that life's
-abbrev pub Frame : Type 0
-Frame = Ptr × (life : ℕ) × (id : ℕ) × (_ : life ≡ id) × ℕ
+abbrev pub PartWithoutValue : Type 0
+PartWithoutValue = Ptr × (life : ℕ) × (id : ℕ) × (_ : life ≡ id) × ℕ
 
 abbrev pub the_former : Former {0} → Former {0}
-the_former g = via (pair (const Frame) g) (λ X. Part (g.Of X)) (λ X p. ((p.seen.ptr, p.seen.life, p.life.id, p.same, p.life.count), p.seen.value))
+the_former g = via (pair (const PartWithoutValue) g) (λ X. Part (g.Of X)) (λ X p. ((p.seen.ptr, p.seen.life, p.life.id, p.same, p.life.count), p.seen.value))
     (λ X v. record { seen = record { ptr = v.0.0; value = v.1; life = v.0.1 }; life = record { id = v.0.2; count = v.0.4 }; same = v.0.3 }) (λ X p. refl) (λ X v. refl)
 
 abbrev pub the_weighed : {g : Former {0}} → Weighed g → Weighed (the_former g)
-the_weighed w = let both = w_pair (w_const Frame) w in record {
+the_weighed w = let both = w_pair (w_const PartWithoutValue) w in record {
   weight = λ X μ p. both.weight X μ ((p.seen.ptr, p.seen.life, p.life.id, p.same, p.life.count), p.seen.value);
   puts = λ X μ p. both.puts X μ ((p.seen.ptr, p.seen.life, p.life.id, p.same, p.life.count), p.seen.value);
 }

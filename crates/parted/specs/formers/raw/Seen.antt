@@ -14,14 +14,14 @@ use Rattle.parted.specs.declared.raw.Seen.{Seen}
 use Rattle.parted.specs.contracts.raw.Seen as C
 
 -- all of a `Seen` but its value
-abbrev pub Frame : Type 0
-Frame = Ptr × ℕ
+abbrev pub SeenWithoutValue : Type 0
+SeenWithoutValue = Ptr × ℕ
 
 abbrev pub the_former : Former {0} → Former {0}
-the_former g = via (pair (const Frame) g) (λ X. Seen (g.Of X)) (λ X s. ((s.ptr, s.life), s.value)) (λ X v. record { ptr = v.0.0; value = v.1; life = v.0.1 }) (λ X s. refl) (λ X v. refl)
+the_former g = via (pair (const SeenWithoutValue) g) (λ X. Seen (g.Of X)) (λ X s. ((s.ptr, s.life), s.value)) (λ X v. record { ptr = v.0.0; value = v.1; life = v.0.1 }) (λ X s. refl) (λ X v. refl)
 
 abbrev pub the_weighed : {g : Former {0}} → Weighed g → Weighed (the_former g)
-the_weighed w = let both = w_pair (w_const Frame) w in record {
+the_weighed w = let both = w_pair (w_const SeenWithoutValue) w in record {
   weight = λ X μ s. both.weight X μ ((s.ptr, s.life), s.value);
   puts = λ X μ s. both.puts X μ ((s.ptr, s.life), s.value);
 }

@@ -2,8 +2,8 @@ use Rattle.std.proofs.Common.{◌≡◌, ◌∙◌, ℕ, ap, sym, subst, arith, 
 use Rattle.sdd_base.specs.Counting.{Counted}
 use Rattle.sdd_base.specs.Passing.{accelerated, passed}
 use Rattle.sdd_base.specs.State.{State}
-use Rattle.sdd_base.specs.Steps.{closed, opened}
-use Rattle.sdd_base.specs.Tokens.{participant_of}
+use Rattle.sdd_base.specs.Steps.{guard_closed, guard_opened}
+use Rattle.sdd_base.specs.Tokens.{guard_participant}
 use Rattle.versions.specs.Items.{held_by}
 use Rattle.versions.specs.declared.item.Item.{Item}
 use Rattle.versions.proofs.ReclaimLemmas.{counted_passed}
@@ -16,16 +16,16 @@ loop-preserved c =
     let w = c.loop.w in
     elim c.match-new.branch [
       | in-Ok b ↦
-          let q = participant_of b.in-Ok.open in
+          let q = guard_participant b.in-Ok.open in
           let new = b.in-Ok.ensures in
           let accelerate = b.accelerate.ensures in
           let close = b.close.ensures in
           let now : c.match-new.w ≡ passed held_by 0 w =
           b.w-is
           ∙ close.closed
-          ∙ ap (λ (x : State (Item ℕ ℕ 2)). closed q x) accelerate.set
-          ∙ ap (λ (x : State (Item ℕ ℕ 2)). closed q (accelerated q x)) new.opened.1
-          ∙ ap (λ (k : ℕ). closed k (accelerated k (opened held_by 0 w))) new.opened.0 in
+          ∙ ap (λ (x : State (Item ℕ ℕ 2)). guard_closed q x) accelerate.set
+          ∙ ap (λ (x : State (Item ℕ ℕ 2)). guard_closed q (accelerated q x)) new.opened.1
+          ∙ ap (λ (k : ℕ). guard_closed k (accelerated k (guard_opened held_by 0 w))) new.opened.0 in
           let same = ap (λ (x : State (Item ℕ ℕ 2)). length x.participants) b.w-is in
           let one = new.keeps.participants in
           let two = accelerate.keeps.participants in

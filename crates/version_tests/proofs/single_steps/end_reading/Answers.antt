@@ -1,7 +1,7 @@
 use Rattle.std.proofs.Common.{ℕ, sym, subst}
 use Rattle.sdd_base.specs.Counting.{Counted, OwnersAreCounted}
 use Rattle.sdd_base.specs.State.{State}
-use Rattle.sdd_base.specs.Tokens.{participant_of}
+use Rattle.sdd_base.specs.Tokens.{guard_participant}
 use Rattle.sdd_base.proofs.CountLemmas.{owners_are_counted}
 use Rattle.versions.specs.Items.{held_by}
 use Rattle.versions.specs.declared.item.Item.{Item}
@@ -10,4 +10,4 @@ use Rattle.version_tests.proofs.single_steps.end_reading.Goals as goal
 pub returns-clause-counted : goal.returns-clause-counted
 returns-clause-counted c = λ hand h.
     let owners : OwnersAreCounted {T = Item ℕ ℕ 2} held_by = owners_are_counted held_by in
-    subst (λ (x : State (Item ℕ ℕ 2)). Counted held_by hand x) (sym c.close.ensures.closed) (owners.closed (participant_of c.args.reading) hand c.args.w.now h)
+    subst (λ (x : State (Item ℕ ℕ 2)). Counted held_by hand x) (sym c.close.ensures.closed) (owners.closed (guard_participant c.args.reading) hand c.args.w.now h)

@@ -9,13 +9,13 @@ use Rattle.sdd_base.specs.declared.tag.Tag.{Tag}
 use Rattle.sdd_base.specs.declared.tag.Tag.TheVariants as tag
 use Rattle.sdd_base.proofs.CountLemmas.{owners_are_counted}
 use Rattle.versions.specs.Items.{held_by}
-use Rattle.versions.specs.Placing.{given_back}
+use Rattle.versions.specs.Placing.{owner_given_back}
 use Rattle.versions.specs.declared.item.Item.{Item}
 use Rattle.version_tests.proofs.Settled.{counted_first}
 use Rattle.version_tests.proofs.single_steps.replace.Goals as goal
 
 -- what the cell kept is given back, and the rest stays counted
-counted_back : (p : ℕ) (o : Option ℕ) (t : Tag) (hand : List Hold) (w : State (Item ℕ ℕ 2)) → OwnersAreCounted {T = Item ℕ ℕ 2} held_by → Counted held_by (kept_by (cell.OfShared o t) ++ hand) w → Counted held_by hand (given_back p o w)
+counted_back : (p : ℕ) (o : Option ℕ) (t : Tag) (hand : List Hold) (w : State (Item ℕ ℕ 2)) → OwnersAreCounted {T = Item ℕ ℕ 2} held_by → Counted held_by (kept_by (cell.OfShared o t) ++ hand) w → Counted held_by hand (owner_given_back p o w)
 counted_back p None t hand w owners h = h
 counted_back p (Some i) t hand w owners h = owners.given p (SharedItem i) hand w h
 

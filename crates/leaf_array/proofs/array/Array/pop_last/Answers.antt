@@ -1,6 +1,6 @@
 use Rattle.std.proofs.Common.{arith, ◌∙◌, ap, ◌-◌, sym}
 use Rattle.leaf_array.specs.Places.{live_pairs}
-use Rattle.leaf_array.specs.Cells.{filled}
+use Rattle.leaf_array.specs.Cells.{filled_array}
 use Rattle.leaf_array.proofs.PackLemmas.{sound_packed, sound_vacated, vacated_some, vacated_pair, take_none}
 use Rattle.leaf_array.proofs.SoundLemmas.{live_count}
 use Rattle.leaf_array.proofs.array.Array.pop_last.Goals as goal
@@ -11,7 +11,7 @@ invariant_of-self g c = (sound_packed g.K.Ord.cmp c.self.inside.slots c.renumber
 pub returns-then-self-eq0-clause-rest : goal.returns-then-self-eq0-clause-rest
 returns-then-self-eq0-clause-rest g c =
     rw (← c.self.view_is) ((sound_packed g.K.Ord.cmp c.self.inside.slots c.renumber.new.self c.self.inside.len c.self.invariant.packed c.self.invariant.count c.self.invariant.sorted (live_count g.K.Ord.cmp c.self.inside.slots c.self.inside.len c.self.inside.used c.self.invariant) c.self.invariant.live c.renumber.ensures.places).1 c.self.inside.frozen
-    ∙ ap (filled c.self.inside.frozen) (sym (take_none (live_pairs c.self.inside.slots) c.self.inside.len c.self.invariant.live c.if-self-eq0.true)))
+    ∙ ap (filled_array c.self.inside.frozen) (sym (take_none (live_pairs c.self.inside.slots) c.self.inside.len c.self.invariant.live c.if-self-eq0.true)))
 
 pub vacate-requires : goal.vacate-requires
 vacate-requires g c = rw c.from.ensures (vacated_some c.self.inside.slots c.renumber.new.self (c.self.inside.len - 1) c.self.invariant.packed c.renumber.ensures.places (omega (arith, c.self.invariant.live, c.if-self-eq0.false)))

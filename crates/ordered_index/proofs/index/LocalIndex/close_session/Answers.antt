@@ -1,6 +1,6 @@
 use Rattle.std.proofs.Common.{ℕ, None, ap, ◌∙◌, lit<, set}
 use Rattle.std.specs.List.{slice_get}
-use Rattle.ordered_index.specs.Invariant.{state_of}
+use Rattle.ordered_index.specs.Invariant.{index_state}
 use Rattle.ordered_index.specs.State.{State}
 use Rattle.versions.specs.Store.{Store}
 use Rattle.ordered_index.proofs.RunLemmas.{kept_close, session_version, sets_shows}
@@ -16,7 +16,7 @@ invariant_of-self g c = kept_close g.K.Ord.cmp c.self.invariant c.close.new.self
 
 pub returns-clause-closes : goal.returns-clause-closes
 returns-clause-closes g c =
-    ap (λ (x : Store _ _). state_of x c.self.inside.history.items c.self.inside.last) c.close.ensures
+    ap (λ (x : Store _ _). index_state x c.self.inside.history.items c.self.inside.last) c.close.ensures
     ∙ sets_shows g.K.Ord.cmp c.self.inside.store c.self.inside.history.items c.self.inside.last c.into_parts-place.result.0 None
     ∙ ap (λ (x : State _ _). record x { places = set x.places c.into_parts-place.result.0 None }) c.self.view_is
     ∙ ap (λ (n : ℕ). record c.args.self.now { places = set c.args.self.now.places n None }) c.into_parts-place.ensures.place

@@ -1,7 +1,7 @@
 use Rattle.std.proofs.Common.{◌+◌, Err, [], ◌∷◌, ◌++◌, length, refl, sym, ap, ◌∙◌, subst, arith}
 use Rattle.versions.specs.Sizes.{room_for}
 use Rattle.versions.specs.Writes.{after_writes, replies_to}
-use Rattle.ordered_index.specs.Invariant.{state_of}
+use Rattle.ordered_index.specs.Invariant.{index_state}
 use Rattle.ordered_index.specs.State.{MayAccept, State, present}
 use Rattle.ordered_index.specs.declared.transaction.Transaction.{Transaction}
 use Rattle.ordered_index.proofs.RunLemmas.{kept_append, length-replies, present_number, present_pairs}
@@ -56,7 +56,7 @@ copied_replies-replies-requires-clause-fits g c =
 pub invariant_of-self-2 : goal.invariant_of-self-2
 invariant_of-self-2 g c =
     let store = c.self.inside.store in
-    let before : State _ _ = state_of store c.self.inside.history.items c.self.inside.last in
+    let before : State _ _ = index_state store c.self.inside.history.items c.self.inside.last in
     let t : Transaction _ _ = record { reads = c.args.prepared.reads; writes = c.from_vec.result; replies = c.from_vec-2.result } in
     let written = c.as_slice.ensures.value ∙ sym c.from_vec.ensures in
     let pairs = present_pairs g.K.Ord.cmp c.self.invariant in

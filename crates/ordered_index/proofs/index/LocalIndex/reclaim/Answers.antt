@@ -1,6 +1,6 @@
 use Rattle.std.proofs.Common.{◌≡◌, ◌≤◌, ◌^◌, ◌-◌, None, length, sym, ap, ◌∙◌, subst}
 use Rattle.std.specs.List.{All}
-use Rattle.ordered_index.specs.Invariant.{state_of}
+use Rattle.ordered_index.specs.Invariant.{index_state}
 use Rattle.versions.specs.Sizes.{room_for}
 use Rattle.ordered_index.specs.State.{State, present}
 use Rattle.versions.specs.Store.{Store, Version}
@@ -15,7 +15,7 @@ pub returns : goal.returns
 returns g c =
     let now = c.reclaim.new.self in
     record {
-      changed = ap (λ (x : Store _ _). state_of x c.self.inside.history.items c.self.inside.last) c.reclaim.ensures.same ∙ ap (λ (x : State _ _). record x { used = now.used; raises = now.raises }) c.self.view_is;
+      changed = ap (λ (x : Store _ _). index_state x c.self.inside.history.items c.self.inside.last) c.reclaim.ensures.same ∙ ap (λ (x : State _ _). record x { used = now.used; raises = now.raises }) c.self.view_is;
       fewer = subst (λ (x : State _ _). now.used ≤ x.used) c.self.view_is c.reclaim.ensures.fewer;
       left = λ idle raises.
           let none = all_none (λ (v : Version _ _). v.number) c.self.inside.store.readers (subst (λ (x : State _ _). All (λ p. p ≡ None) x.places) (sym c.self.view_is) idle) in

@@ -1,6 +1,6 @@
 use Rattle.std.proofs.Common.{arith, sym, subst, ◌≤◌, ◌+◌, ℕ}
 use Rattle.sdd_base.specs.Tokens.{shared_cell}
-use Rattle.sdd.specs.Chain.{Counted}
+use Rattle.sdd.specs.Chain.{PassedEntries}
 use Rattle.sdd.proofs.WalkLemmas.{count_next, count_small, count_all, behind_hangs}
 use Rattle.sdd.proofs.world.chain.count.Goals as goal
 
@@ -13,6 +13,6 @@ loop-passed-preserved g c =
     let v = c.loop-passed.invariant in
     record {
       hangs = behind_hangs g.L.LinkedList.link _ _ _ _ _ v.hangs (b v.hangs.tag v.hangs.entries v.hangs.is);
-      counted = λ t es h. let k = v.counted t es h in subst (λ (m : ℕ). Counted g.L.LinkedList.link c.args.w.now es (c.loop-passed._passed + 1) m (shared_cell c.in-Some.entry.link.now)) (sym c.counted-count.ensures) (count_next g.L.LinkedList.link _ es _ _ _ _ _ _ k (b k.tag k.rest k.hung));
+      counted = λ t es h. let k = v.counted t es h in subst (λ (m : ℕ). PassedEntries g.L.LinkedList.link c.args.w.now es (c.loop-passed._passed + 1) m (shared_cell c.in-Some.entry.link.now)) (sym c.counted-count.ensures) (count_next g.L.LinkedList.link _ es _ _ _ _ _ _ k (b k.tag k.rest k.hung));
       small = subst (λ (m : ℕ). m ≤ c.loop-passed._passed + 1) (sym c.counted-count.ensures) (count_small c.in-Some.entry.deleted _ _ v.small);
     }

@@ -1,6 +1,6 @@
 use Rattle.std.proofs.Common.{refl, ◌∙◌, arith, subst, Bool}
 use Rattle.sdd_base.specs.Tokens.{shared_cell}
-use Rattle.sdd.specs.Chain.{Begins}
+use Rattle.sdd.specs.Chain.{BeginsWithItem}
 use Rattle.sdd.proofs.ChainLemmas.{stays_then, stays_refl}
 use Rattle.sdd.proofs.ReleaseLemmas.{drop_start, drop_next, drop_all, drop_hangs}
 use Rattle.sdd.proofs.world.chain.skip_deleted.Goals as goal
@@ -15,7 +15,7 @@ loop-passed-preserved g c =
       hangs = drop_hangs g.L.LinkedList.link _ _ _ _ _ _ v.hangs (b v.hangs.tag v.hangs.entries v.hangs.is) c.drop_first.ensures.dropped;
       dropped = λ t es h.
           let k = v.dropped t es h in
-          let begins = subst (λ (gone : Bool). Begins k.cut.rest f.item.now (shared_cell f.link.now) gone) c.if-not-front.false (b t k.cut.rest k.cut.hung) in
+          let begins = subst (λ (gone : Bool). BeginsWithItem k.cut.rest f.item.now (shared_cell f.link.now) gone) c.if-not-front.false (b t k.cut.rest k.cut.hung) in
           drop_next g.L.LinkedList.link _ _ _ _ _ _ t _ es k begins c.drop_first.ensures.dropped;
       only = λ k ne. c.drop_first.ensures.only k ne ∙ v.only k ne;
       stays = stays_then _ _ _ v.stays c.drop_first.ensures.stays;

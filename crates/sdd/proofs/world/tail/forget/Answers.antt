@@ -5,7 +5,7 @@ use Rattle.sdd_base.specs.Place.{IsShared}
 use Rattle.sdd_base.specs.Tokens.{shared_cell}
 use Rattle.sdd_base.specs.declared.tag.Tag.TheVariants as tag
 use Rattle.sdd_base.specs.declared.status.Cell.TheVariants as cell
-use Rattle.sdd.specs.Queues.{vacated}
+use Rattle.sdd.specs.Queues.{cell_vacated}
 use Rattle.sdd.proofs.ChainLemmas.{stays_then, shared_write}
 use Rattle.sdd.proofs.ReleaseLemmas.{stays_released}
 use Rattle.sdd.proofs.world.tail.forget.Goals as goal
@@ -19,7 +19,7 @@ release-requires-clause-live g c =
 pub returns-in-Some-clause-forgot : goal.returns-in-Some-clause-forgot
 returns-in-Some-clause-forgot g c = λ o h.
     let k = c.in-Some.ensures.took o tag.None h in
-    subst (λ (r : Option ℕ). c.release.new.w ≡ vacated c.args.p (shared_cell c.args.newest.now) r c.args.w.now) k.0 (c.release.ensures.released ∙ ap (λ (v : State _). released c.args.p c.in-Some.last.slot v) k.1)
+    subst (λ (r : Option ℕ). c.release.new.w ≡ cell_vacated c.args.p (shared_cell c.args.newest.now) r c.args.w.now) k.0 (c.release.ensures.released ∙ ap (λ (v : State _). released c.args.p c.in-Some.last.slot v) k.1)
 
 pub returns-in-Some-clause-stays : goal.returns-in-Some-clause-stays
 returns-in-Some-clause-stays g c = stays_then _ _ _ c.in-Some.ensures.stays (stays_released c.args.p c.in-Some.last.slot _ _ c.release.ensures.released c.release.ensures.keeps c.release.ensures.nests)

@@ -1,5 +1,5 @@
 use Rattle.std.proofs.Common.{ap, ◌∙◌, refl, arith}
-use Rattle.sdd_base.specs.State.{marked, changing}
+use Rattle.sdd_base.specs.State.{with_local_state, changing}
 use Rattle.sdd_base.proofs.SlotLemmas.{changed_view, changed_invariant, known_in}
 use Rattle.sdd_base.proofs.table.Table.set_local.Goals as goal
 
@@ -11,4 +11,4 @@ invariant_of-self g c =
 pub returns : goal.returns
 returns g c =
     let known = known_in c.self.inside c.args.self.now _ c.self.view_is c.requires in
-    changed_view c.self.inside c.args.p (marked c.args.local) c.index_mut.result.now _ known c.index_mut.ensures.value refl ∙ ap (λ w. changing c.args.p (marked c.args.local) w) c.self.view_is
+    changed_view c.self.inside c.args.p (with_local_state c.args.local) c.index_mut.result.now _ known c.index_mut.ensures.value refl ∙ ap (λ w. changing c.args.p (with_local_state c.args.local) w) c.self.view_is

@@ -1,5 +1,5 @@
 use Rattle.std.proofs.Common.{ap, ◌∙◌, arith}
-use Rattle.sdd_base.specs.State.{turned, changing}
+use Rattle.sdd_base.specs.State.{bags_moved_on, changing}
 use Rattle.sdd_base.proofs.SlotLemmas.{changed_view, changed_invariant, known_in}
 use Rattle.sdd_base.proofs.table.Table.turn.Goals as goal
 
@@ -11,4 +11,4 @@ invariant_of-self g c =
 pub returns : goal.returns
 returns g c =
     let known = known_in c.self.inside c.args.self.now _ c.self.view_is c.requires.participant in
-    changed_view c.self.inside c.args.p turned c.index_mut.result.now _ known c.index_mut.ensures.value c.turn.ensures.shown ∙ ap (λ w. changing c.args.p turned w) c.self.view_is
+    changed_view c.self.inside c.args.p bags_moved_on c.index_mut.result.now _ known c.index_mut.ensures.value c.turn.ensures.shown ∙ ap (λ w. changing c.args.p bags_moved_on w) c.self.view_is

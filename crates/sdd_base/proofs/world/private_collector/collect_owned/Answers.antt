@@ -1,14 +1,14 @@
 use Rattle.std.proofs.Common.{subst, sym, ◌<◌, length, arith}
 use Rattle.sdd_base.specs.State.{State}
 use Rattle.sdd_base.specs.Place.{IsOwned}
-use Rattle.sdd_base.specs.Tokens.{owned_slot, participant_of, waiting_in}
+use Rattle.sdd_base.specs.Tokens.{owned_slot, guard_participant, waiting_in}
 use Rattle.sdd_base.proofs.PrivateCollectorLemmas.{sets_owned_left, clears, keeps_then, only_then, nests_then}
 use Rattle.sdd_base.proofs.world.private_collector.collect_owned.Goals as goal
 
 pub invariant_of-w : goal.invariant_of-w
 invariant_of-w g c =
     let w = c.w.inside.table in
-    let p = participant_of c.args.guard.now in
+    let p = guard_participant c.args.guard.now in
     let i = owned_slot c.args.owned in
     let known : p < length w.participants = subst (λ (w : State _). p < length w.participants) (sym c.w.view_is) c.requires.participant in
     let live : IsOwned w i = subst (λ (w : State _). IsOwned w i) (sym c.w.view_is) c.requires.live in
@@ -20,7 +20,7 @@ invariant_of-w g c =
 pub returns-clause-keeps : goal.returns-clause-keeps
 returns-clause-keeps g c =
     let w = c.w.inside.table in
-    let p = participant_of c.args.guard.now in
+    let p = guard_participant c.args.guard.now in
     let i = owned_slot c.args.owned in
     let known : p < length w.participants = subst (λ (w : State _). p < length w.participants) (sym c.w.view_is) c.requires.participant in
     let live : IsOwned w i = subst (λ (w : State _). IsOwned w i) (sym c.w.view_is) c.requires.live in
@@ -32,7 +32,7 @@ returns-clause-keeps g c =
 pub returns-clause-only : goal.returns-clause-only
 returns-clause-only g c =
     let w = c.w.inside.table in
-    let p = participant_of c.args.guard.now in
+    let p = guard_participant c.args.guard.now in
     let i = owned_slot c.args.owned in
     let known : p < length w.participants = subst (λ (w : State _). p < length w.participants) (sym c.w.view_is) c.requires.participant in
     let live : IsOwned w i = subst (λ (w : State _). IsOwned w i) (sym c.w.view_is) c.requires.live in
@@ -44,7 +44,7 @@ returns-clause-only g c =
 pub returns-clause-nests : goal.returns-clause-nests
 returns-clause-nests g c =
     let w = c.w.inside.table in
-    let p = participant_of c.args.guard.now in
+    let p = guard_participant c.args.guard.now in
     let i = owned_slot c.args.owned in
     let known : p < length w.participants = subst (λ (w : State _). p < length w.participants) (sym c.w.view_is) c.requires.participant in
     let live : IsOwned w i = subst (λ (w : State _). IsOwned w i) (sym c.w.view_is) c.requires.live in
@@ -56,7 +56,7 @@ returns-clause-nests g c =
 pub leave_owned-kept-requires-clause-participant : goal.leave_owned-kept-requires-clause-participant
 leave_owned-kept-requires-clause-participant g c =
     let w = c.w.inside.table in
-    let p = participant_of c.args.guard.now in
+    let p = guard_participant c.args.guard.now in
     let i = owned_slot c.args.owned in
     let known : p < length w.participants = subst (λ (w : State _). p < length w.participants) (sym c.w.view_is) c.requires.participant in
     let live : IsOwned w i = subst (λ (w : State _). IsOwned w i) (sym c.w.view_is) c.requires.live in
@@ -67,7 +67,7 @@ leave_owned-kept-requires-clause-participant g c =
 pub leave_owned-kept-requires-clause-slot : goal.leave_owned-kept-requires-clause-slot
 leave_owned-kept-requires-clause-slot g c =
     let w = c.w.inside.table in
-    let p = participant_of c.args.guard.now in
+    let p = guard_participant c.args.guard.now in
     let i = owned_slot c.args.owned in
     let known : p < length w.participants = subst (λ (w : State _). p < length w.participants) (sym c.w.view_is) c.requires.participant in
     let live : IsOwned w i = subst (λ (w : State _). IsOwned w i) (sym c.w.view_is) c.requires.live in

@@ -1,6 +1,6 @@
 use Rattle.std.proofs.Common.{subst, sym, ◌<◌, length}
 use Rattle.sdd_base.specs.State.{State}
-use Rattle.sdd_base.specs.Steps.{handed}
+use Rattle.sdd_base.specs.Steps.{handed_over}
 use Rattle.sdd_base.specs.Tokens.{waiting_in}
 use Rattle.sdd_base.proofs.BagInvariantLemmas.{calms}
 use Rattle.sdd_base.proofs.PlaceLemmas.{place_leaves}
@@ -14,7 +14,7 @@ invariant_of-w g c =
     let p = c.args.p in
     let is = waiting_in c.args.collector in
     let known : p < length w.participants = subst (λ (w : State _). p < length w.participants) (sym c.w.view_is) c.requires in
-    is_place _ (handed p is w) c.hand_over.ensures (place_leaves w (handed p is w) p c.w.invariant (handed_leaves p is w c.w.invariant.sound known))
+    is_place _ (handed_over p is w) c.hand_over.ensures (place_leaves w (handed_over p is w) p c.w.invariant (handed_leaves p is w c.w.invariant.sound known))
 
 pub returns-clause-keeps : goal.returns-clause-keeps
 returns-clause-keeps g c =
@@ -22,7 +22,7 @@ returns-clause-keeps g c =
     let p = c.args.p in
     let is = waiting_in c.args.collector in
     let known : p < length w.participants = subst (λ (w : State _). p < length w.participants) (sym c.w.view_is) c.requires in
-    kept w _ _ (handed p is w) c.w.view_is c.hand_over.ensures (keeps_leaves p w (handed p is w) c.w.invariant.sound (handed_leaves p is w c.w.invariant.sound known))
+    kept w _ _ (handed_over p is w) c.w.view_is c.hand_over.ensures (keeps_leaves p w (handed_over p is w) c.w.invariant.sound (handed_leaves p is w c.w.invariant.sound known))
 
 pub returns-clause-only : goal.returns-clause-only
 returns-clause-only g c =
@@ -30,7 +30,7 @@ returns-clause-only g c =
     let p = c.args.p in
     let is = waiting_in c.args.collector in
     let known : p < length w.participants = subst (λ (w : State _). p < length w.participants) (sym c.w.view_is) c.requires in
-    only_of p w _ _ (handed p is w) c.w.view_is c.hand_over.ensures (handed_leaves p is w c.w.invariant.sound known).others
+    only_of p w _ _ (handed_over p is w) c.w.view_is c.hand_over.ensures (handed_leaves p is w c.w.invariant.sound known).others
 
 pub returns-clause-nests : goal.returns-clause-nests
 returns-clause-nests g c =
@@ -38,4 +38,4 @@ returns-clause-nests g c =
     let p = c.args.p in
     let is = waiting_in c.args.collector in
     let known : p < length w.participants = subst (λ (w : State _). p < length w.participants) (sym c.w.view_is) c.requires in
-    nests_calms p w _ _ (handed p is w) c.w.view_is c.hand_over.ensures (calms p w (handed p is w) (handed_leaves p is w c.w.invariant.sound known))
+    nests_calms p w _ _ (handed_over p is w) c.w.view_is c.hand_over.ensures (calms p w (handed_over p is w) (handed_leaves p is w c.w.invariant.sound known))

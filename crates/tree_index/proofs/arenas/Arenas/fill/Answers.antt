@@ -1,10 +1,10 @@
 use Rattle.std.proofs.Common.{◌≡◌, ◌+◌, take, sym, ap, ◌∙◌, subst, arith}
 use Rattle.tree_index.specs.Content.{pairs_of}
-use Rattle.tree_index.specs.Copy.{place, IsPlace}
+use Rattle.tree_index.specs.Copy.{place, IsPositionOrEnd}
 use Rattle.tree_index.specs.Depth.{IsAbove}
 use Rattle.tree_index.specs.Walk.{position, IsPosition}
 use Rattle.tree_index.proofs.EndLemmas.{spot_pair}
-use Rattle.tree_index.proofs.EqualLemmas.{place_of_answer, place_is}
+use Rattle.tree_index.proofs.EqualLemmas.{end_position_answer, place_is}
 use Rattle.tree_index.proofs.CopyLemmas.{copied_pair, next_above, next_front}
 use Rattle.tree_index.proofs.PushLemmas.{longer_by_one}
 use Rattle.tree_index.proofs.arenas.Arenas.fill.Goals as goal
@@ -12,16 +12,16 @@ use Rattle.tree_index.proofs.arenas.Arenas.fill.Goals as goal
 pub push_at-open-requires-clause-above : goal.push_at-open-requires-clause-above
 push_at-open-requires-clause-above g c =
     let a = c.args.source.now in
-    let spot : IsPosition a c.in-Some-next.spot = subst (IsPlace a) c.in-Some-next.is c.loop-open.invariant.copied.spot in
+    let spot : IsPosition a c.in-Some-next.spot = subst (IsPositionOrEnd a) c.in-Some-next.is c.loop-open.invariant.copied.spot in
     let front = c.loop-open.invariant.copied.front ∙ ap (λ r. take (place a r) (pairs_of a)) c.in-Some-next.is in
     subst (λ k. IsAbove g.K.Ord.cmp k (pairs_of c.loop-open.self)) (sym (c.requires.keys _ _ c.in_ok-clone.ensures.cases)) (next_above g.met.K.Ord.total a c.loop-open.self c.requires.source c.in-Some-next.spot spot _ c.pair.ensures front)
 
 pub loop-open-smaller : goal.loop-open-smaller
 loop-open-smaller g c =
     let a = c.args.source.now in
-    let spot : IsPosition a c.in-Some-next.spot = subst (IsPlace a) c.in-Some-next.is c.loop-open.invariant.copied.spot in
+    let spot : IsPosition a c.in-Some-next.spot = subst (IsPositionOrEnd a) c.in-Some-next.is c.loop-open.invariant.copied.spot in
     let at : place a c.loop-open.next ≡ position a c.in-Some-next.spot = ap (place a) c.in-Some-next.is in
-    let next = place_of_answer a (position a c.in-Some-next.spot + 1) c.behind-next.result c.behind-next.ensures.none c.behind-next.ensures.there in
+    let next = end_position_answer a (position a c.in-Some-next.spot + 1) c.behind-next.result c.behind-next.ensures.none c.behind-next.ensures.there in
     let within = (spot_pair g.K.Ord.cmp a c.requires.source c.in-Some-next.spot spot).1 in
     omega (arith, at, next, within)
 
@@ -30,10 +30,10 @@ loop-open-preserved g c =
     let a = c.args.source.now in
     let b = c.loop-open.self in
     let old = c.loop-open.invariant.copied in
-    let spot : IsPosition a c.in-Some-next.spot = subst (IsPlace a) c.in-Some-next.is old.spot in
+    let spot : IsPosition a c.in-Some-next.spot = subst (IsPositionOrEnd a) c.in-Some-next.is old.spot in
     let at : place a c.loop-open.next ≡ position a c.in-Some-next.spot = ap (place a) c.in-Some-next.is in
     let front = old.front ∙ ap (λ r. take (place a r) (pairs_of a)) c.in-Some-next.is in
-    let next = place_of_answer a (position a c.in-Some-next.spot + 1) c.behind-next.result c.behind-next.ensures.none c.behind-next.ensures.there in
+    let next = end_position_answer a (position a c.in-Some-next.spot + 1) c.behind-next.result c.behind-next.ensures.none c.behind-next.ensures.there in
     let pushed = copied_pair (pairs_of b) (c.requires.keys _ _ c.in_ok-clone.ensures.cases) (c.requires.values _ _ c.in_ok-clone-2.ensures.cases) c.push_at-open.ensures.done in
     let more = longer_by_one (pairs_of b) (pairs_of c.push_at-open.new.self) _ c.push_at-open.ensures.done in
     record {

@@ -1,14 +1,14 @@
 use Rattle.std.proofs.Common.{◌≡◌, ◌≤◌, ◌<◌, ◌+◌, ◌-◌, true, length}
 use Rattle.tree_index.specs.Content.{pairs_of}
 use Rattle.tree_index.specs.Copy.{place, IsCopied}
-use Rattle.tree_index.specs.Push.{IsOpen}
+use Rattle.tree_index.specs.Push.{LastLeafHasRoom}
 use Rattle.tree_index.proofs.arenas.Arenas.fill.Given as goal
 
 -- as long as it is open, the last leaf has room, and the copy has got no shorter
 abbrev pub invariant-loop-open : goal.invariant-loop-open
 invariant-loop-open g l = record {
   copied : IsCopied g.K.Ord.cmp l.source l.self l.next;
-  room : l.open ≡ true → IsOpen l.self l.at;
+  room : l.open ≡ true → LastLeafHasRoom l.self l.at;
   countable : l.open ≡ true → l.self.len + 1 < 18446744073709551616;
   further : place l.source l.initial.next ≤ place l.source l.next;
 }

@@ -3,7 +3,7 @@ use Rattle.std.specs.Option.{option_map}
 use Rattle.slab.specs.Slab.{get}
 use Rattle.leaf_array.specs.Cells.{Cells}
 use Rattle.tree_index.specs.declared.node.InnerNode.{InnerNode}
-use Rattle.tree_index.specs.Shape.{Content, IsTree, way}
+use Rattle.tree_index.specs.Shape.{ArenaContent, IsTree, way}
 use Rattle.tree_index.specs.Content.{content_of}
 use Rattle.tree_index.proofs.WayLemmas.{IsStep, step_down}
 use Rattle.tree_index.proofs.PruneLemmas.{IsForkTo, each_some, on_next, fork_here, fork_above}
@@ -11,7 +11,7 @@ use Rattle.tree_index.proofs.arenas.Arenas.find_fork.Goals as goal
 
 pub unreachable-requires : goal.unreachable-requires
 unreachable-requires g c =
-    let a : Content g.row.K.Denot g.row.V.Denot = content_of c.args.self.now in
+    let a : ArenaContent g.row.K.Denot g.row.V.Denot = content_of c.args.self.now in
     let height = c.loop-height.height in
     let at = c.loop-height.at in
     let t = c.loop-height.invariant.tree (omega arith) in
@@ -23,7 +23,7 @@ unreachable-requires g c =
 pub loop-height-preserved-then-not-is_single : goal.loop-height-preserved-then-not-is_single
 loop-height-preserved-then-not-is_single g c =
     let a = c.args.self.now in
-    let b : Content g.row.K.Denot g.row.V.Denot = content_of a in
+    let b : ArenaContent g.row.K.Denot g.row.V.Denot = content_of a in
     let cmp = g.K.Ord.cmp in
     let key = c.args.key.now in
     let h : ℕ = c.loop-height.height - 1 in
@@ -47,7 +47,7 @@ loop-height-preserved-then-not-is_single g c =
 pub loop-height-preserved : goal.loop-height-preserved
 loop-height-preserved g c =
     let a = c.args.self.now in
-    let b : Content g.row.K.Denot g.row.V.Denot = content_of a in
+    let b : ArenaContent g.row.K.Denot g.row.V.Denot = content_of a in
     let cmp = g.K.Ord.cmp in
     let key = c.args.key.now in
     let h : ℕ = c.loop-height.height - 1 in

@@ -1,13 +1,13 @@
 use Rattle.std.proofs.Common.{◌≡◌}
 use Rattle.tree_index.specs.Content.{leaves_of}
-use Rattle.tree_index.specs.Walk.{starts_at, IsOwn}
+use Rattle.tree_index.specs.Walk.{starts_at, IsOwnLeaf}
 use Rattle.tree_index.specs.Walk.{rest}
 use Rattle.tree_index.proofs.arenas.Arenas.first_from.Given as goal
 
 -- no pair lies in the leaves passed over
 abbrev pub invariant-loop-next : goal.invariant-loop-next
 invariant-loop-next g l = record {
-  own : IsOwn l.self l.next;
+  own : IsOwnLeaf l.self l.next;
   same : starts_at l.self l.next ≡ starts_at l.self l.fn.from;
 }
 

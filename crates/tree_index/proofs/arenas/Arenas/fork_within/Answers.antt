@@ -8,7 +8,7 @@ use Rattle.tree_index.specs.declared.prune.Fork.{Fork}
 use Rattle.tree_index.specs.Shape.{AllKeys}
 use Rattle.tree_index.specs.Prune.{IsFork}
 use Rattle.tree_index.specs.Content.{leaf_on_way}
-use Rattle.tree_index.specs.Walk.{held}
+use Rattle.tree_index.specs.Walk.{pairs_in_leaf}
 use Rattle.tree_index.proofs.WalkLemmas.{held_is}
 use Rattle.tree_index.proofs.PruneLemmas.{each_some}
 use Rattle.tree_index.proofs.WithoutLemmas.{own_way}
@@ -35,5 +35,5 @@ returns-then-lies_within-clause-within g c =
     let here : get a.leaves n ≡ Some l = sym c.in-Some.ensures in
     let lower = bound_map (λ (k : Bor g.row.K.Denot). k.now) c.args.lower.now in
     let upper = bound_map (λ (k : Bor g.row.K.Denot). k.now) c.args.upper.now in
-    each_some (IsFork cmp c.key.result.now a) (λ (f : Fork). AllKeys (λ k. range_contains cmp lower upper k ≡ true) (held a n)) c.find_fork.result
+    each_some (IsFork cmp c.key.result.now a) (λ (f : Fork). AllKeys (λ k. range_contains cmp lower upper k ≡ true) (pairs_in_leaf a n)) c.find_fork.result
     (λ f p. subst (AllKeys (λ k. range_contains cmp lower upper k ≡ true)) (sym (held_is a n l here)) (c.if-lies_within.ensures.within refl)) c.find_fork.ensures

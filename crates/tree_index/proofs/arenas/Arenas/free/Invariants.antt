@@ -1,6 +1,6 @@
 use Rattle.std.proofs.Common.{◌≡◌}
 use Rattle.tree_index.specs.Content.{pairs_of, leaves_of, IsSound}
-use Rattle.tree_index.specs.Prune.{IsDetached}
+use Rattle.tree_index.specs.Prune.{IsCutOff}
 use Rattle.tree_index.proofs.arenas.Arenas.free.Given as goal
 
 -- the tree stands as it did, and what is left to be freed doesn't stand in it
@@ -11,7 +11,7 @@ invariant-loop-height g l = record {
   order : leaves_of l.self ≡ leaves_of l.fn.self;
   leaves : l.self.leaves ≡ l.fn.self.leaves;
   depth : l.self.height ≡ l.fn.self.height;
-  loose : IsDetached l.self l.height l.at l.leaf;
+  loose : IsCutOff l.self l.height l.at l.leaf;
 }
 
 abbrev pub decreases-loop-height : goal.decreases-loop-height

@@ -4,8 +4,8 @@ use Rattle.std.specs.Option.{option_map}
 use Rattle.slab.specs.Slab.{get}
 use Rattle.leaf_array.specs.Cells.{Cells, no_cells}
 use Rattle.tree_index.specs.declared.node.InnerNode.{InnerNode}
-use Rattle.tree_index.specs.Shape.{Content, way, pairs_under, leaves_under, Stands}
-use Rattle.tree_index.specs.Chain.{links, IsLinked}
+use Rattle.tree_index.specs.Shape.{ArenaContent, way, pairs_under, leaves_under, Stands}
+use Rattle.tree_index.specs.Chain.{leaf_links, IsLinked}
 use Rattle.tree_index.specs.Content.{content, content_of}
 use Rattle.tree_index.proofs.NodeLemmas.{planted}
 use Rattle.tree_index.proofs.GrowLemmas.{raised, raised_pairs, raised_order, raised_way}
@@ -19,7 +19,7 @@ returns-clause-sound g c =
     let fresh = c.insert_reserved-self.result in
     let up = c.insert_reserved-self.ensures.updates in
     let node : Option (InnerNode g.row.K.Denot) → Option (Cells g.row.K.Denot ℕ × ℕ) = option_map (λ (n : InnerNode g.row.K.Denot). (n.children, n.last)) in
-    let b : Content g.row.K.Denot g.row.V.Denot = content a.leaves c.insert_reserved-self.new.self in
+    let b : ArenaContent g.row.K.Denot g.row.V.Denot = content a.leaves c.insert_reserved-self.new.self in
     let there : b.node fresh ≡ Some (no_cells false, a.root) = ap node up.changed ∙ ap (λ (d : Cells g.row.K.Denot ℕ). Some (d, a.root)) c.new.ensures in
     let absent : (content_of a).node fresh ≡ None = ap node c.insert_reserved-self.ensures.was_vacant in
     let s = planted cmp g.met.K.Ord.total key a c.requires.sound c.requires.planted in
@@ -27,7 +27,7 @@ returns-clause-sound g c =
     let pairs = raised_pairs cmp (content_of a) b a.height a.root fresh s absent there (λ n d. ap node (up.others n d)) (λ n. refl) in
     record {
       stands = inr (λ e. omega (arith, e), subst (λ (n : ℕ). Stands cmp b n fresh) (sym more) (raised cmp (content_of a) b a.height a.root fresh s absent there (λ n d. ap node (up.others n d)) (λ n. refl)));
-      linked = λ h. subst (λ ns. IsLinked (links a.leaves) None ns None) (sym (ap (λ (n : ℕ). leaves_under b n fresh) more ∙ raised_order cmp (content_of a) b a.height a.root fresh s absent there (λ n d. ap node (up.others n d)) (λ n. refl))) (c.requires.sound.linked c.requires.planted);
+      linked = λ h. subst (λ ns. IsLinked (leaf_links a.leaves) None ns None) (sym (ap (λ (n : ℕ). leaves_under b n fresh) more ∙ raised_order cmp (content_of a) b a.height a.root fresh s absent there (λ n d. ap node (up.others n d)) (λ n. refl))) (c.requires.sound.linked c.requires.planted);
       count = c.requires.sound.count ∙ sym (ap length (ap (λ (n : ℕ). pairs_under b n fresh) more ∙ pairs));
     }
 
@@ -39,7 +39,7 @@ returns-clause-pairs g c =
     let fresh = c.insert_reserved-self.result in
     let up = c.insert_reserved-self.ensures.updates in
     let node : Option (InnerNode g.row.K.Denot) → Option (Cells g.row.K.Denot ℕ × ℕ) = option_map (λ (n : InnerNode g.row.K.Denot). (n.children, n.last)) in
-    let b : Content g.row.K.Denot g.row.V.Denot = content a.leaves c.insert_reserved-self.new.self in
+    let b : ArenaContent g.row.K.Denot g.row.V.Denot = content a.leaves c.insert_reserved-self.new.self in
     let there : b.node fresh ≡ Some (no_cells false, a.root) = ap node up.changed ∙ ap (λ (d : Cells g.row.K.Denot ℕ). Some (d, a.root)) c.new.ensures in
     let absent : (content_of a).node fresh ≡ None = ap node c.insert_reserved-self.ensures.was_vacant in
     let s = planted cmp g.met.K.Ord.total key a c.requires.sound c.requires.planted in
@@ -54,7 +54,7 @@ returns-clause-leaf g c =
     let fresh = c.insert_reserved-self.result in
     let up = c.insert_reserved-self.ensures.updates in
     let node : Option (InnerNode g.row.K.Denot) → Option (Cells g.row.K.Denot ℕ × ℕ) = option_map (λ (n : InnerNode g.row.K.Denot). (n.children, n.last)) in
-    let b : Content g.row.K.Denot g.row.V.Denot = content a.leaves c.insert_reserved-self.new.self in
+    let b : ArenaContent g.row.K.Denot g.row.V.Denot = content a.leaves c.insert_reserved-self.new.self in
     let there : b.node fresh ≡ Some (no_cells false, a.root) = ap node up.changed ∙ ap (λ (d : Cells g.row.K.Denot ℕ). Some (d, a.root)) c.new.ensures in
     let absent : (content_of a).node fresh ≡ None = ap node c.insert_reserved-self.ensures.was_vacant in
     let s = planted cmp g.met.K.Ord.total key a c.requires.sound c.requires.planted in
@@ -69,7 +69,7 @@ returns-clause-room g c =
     let fresh = c.insert_reserved-self.result in
     let up = c.insert_reserved-self.ensures.updates in
     let node : Option (InnerNode g.row.K.Denot) → Option (Cells g.row.K.Denot ℕ × ℕ) = option_map (λ (n : InnerNode g.row.K.Denot). (n.children, n.last)) in
-    let b : Content g.row.K.Denot g.row.V.Denot = content a.leaves c.insert_reserved-self.new.self in
+    let b : ArenaContent g.row.K.Denot g.row.V.Denot = content a.leaves c.insert_reserved-self.new.self in
     let there : b.node fresh ≡ Some (no_cells false, a.root) = ap node up.changed ∙ ap (λ (d : Cells g.row.K.Denot ℕ). Some (d, a.root)) c.new.ensures in
     let absent : (content_of a).node fresh ≡ None = ap node c.insert_reserved-self.ensures.was_vacant in
     let s = planted cmp g.met.K.Ord.total key a c.requires.sound c.requires.planted in

@@ -4,7 +4,7 @@ use Rattle.std.specs.Option.{option_map}
 use Rattle.leaf_array.specs.Cells.{Cells, no_cells}
 use Rattle.tree_index.specs.declared.leaf.Leaf.{Leaf}
 use Rattle.tree_index.specs.declared.node.InnerNode.{InnerNode}
-use Rattle.tree_index.specs.Shape.{Content, way}
+use Rattle.tree_index.specs.Shape.{ArenaContent, way}
 use Rattle.tree_index.specs.Content.{content}
 use Rattle.tree_index.proofs.ArenaLemmas.{bare_pairs}
 use Rattle.tree_index.proofs.NodeLemmas.{bare_of}
@@ -17,7 +17,7 @@ returns-clause-sound g c =
     let a = c.args.self.now in
     let leaf = c.insert_reserved-leaf.result in
     let root = c.insert_reserved-self.result in
-    let b : Content g.row.K.Denot g.row.V.Denot = content c.insert_reserved-leaf.new.self c.insert_reserved-self.new.self in
+    let b : ArenaContent g.row.K.Denot g.row.V.Denot = content c.insert_reserved-leaf.new.self c.insert_reserved-self.new.self in
     let l : b.leaf leaf ≡ Some (no_cells false) = ap (option_map (λ (l : Leaf g.row.K.Denot g.row.V.Denot). l.array)) c.insert_reserved-leaf.ensures.updates.changed ∙ ap Some c.new.ensures in
     let n : b.node root ≡ Some (no_cells false, leaf) = ap (option_map (λ (n : InnerNode g.row.K.Denot). (n.children, n.last))) c.insert_reserved-self.ensures.updates.changed ∙ ap (λ (d : Cells g.row.K.Denot ℕ). Some (d, leaf)) c.new-2.ensures in
     let none = bare_pairs cmp g.met.K.Ord.total c.args.key.now a (bare_of cmp g.met.K.Ord.total c.args.key.now a c.requires.sound c.requires.bare) in
@@ -33,7 +33,7 @@ returns-clause-room g c =
     let cmp = g.K.Ord.cmp in
     let leaf = c.insert_reserved-leaf.result in
     let root = c.insert_reserved-self.result in
-    let b : Content g.row.K.Denot g.row.V.Denot = content c.insert_reserved-leaf.new.self c.insert_reserved-self.new.self in
+    let b : ArenaContent g.row.K.Denot g.row.V.Denot = content c.insert_reserved-leaf.new.self c.insert_reserved-self.new.self in
     let n : b.node root ≡ Some (no_cells false, leaf) = ap (option_map (λ (n : InnerNode g.row.K.Denot). (n.children, n.last))) c.insert_reserved-self.ensures.updates.changed ∙ ap (λ (d : Cells g.row.K.Denot ℕ). Some (d, leaf)) c.new-2.ensures in
     let on : way cmp b c.args.key.now 1 root ≡ leaf = rw n refl in
     let m : Leaf g.row.K.Denot g.row.V.Denot = record { array = c.new.result; prev = None; next = None } in
@@ -43,7 +43,7 @@ pub returns-clause-on : goal.returns-clause-on
 returns-clause-on g c =
     let leaf = c.insert_reserved-leaf.result in
     let root = c.insert_reserved-self.result in
-    let b : Content g.row.K.Denot g.row.V.Denot = content c.insert_reserved-leaf.new.self c.insert_reserved-self.new.self in
+    let b : ArenaContent g.row.K.Denot g.row.V.Denot = content c.insert_reserved-leaf.new.self c.insert_reserved-self.new.self in
     let n : b.node root ≡ Some (no_cells false, leaf) = ap (option_map (λ (n : InnerNode g.row.K.Denot). (n.children, n.last))) c.insert_reserved-self.ensures.updates.changed ∙ ap (λ (d : Cells g.row.K.Denot ℕ). Some (d, leaf)) c.new-2.ensures in
     let on : way g.K.Ord.cmp b c.args.key.now 1 root ≡ leaf = rw n refl in
     sym on

@@ -9,9 +9,9 @@ use Rattle.tree_index.proofs.ArenaLemmas.{IsPut, put_of, put_length, put_there, 
 use Rattle.leaf_array.specs.Pairs.{has_key}
 use Rattle.tree_index.specs.Content.{pairs_of}
 use Rattle.tree_index.specs.declared.arenas.Arenas.{Arenas}
-use Rattle.tree_index.specs.Depth.{root_room, rises}
+use Rattle.tree_index.specs.Depth.{root_room, headroom_for}
 use Rattle.tree_index.proofs.LeafLemmas.{roomy}
-use Rattle.tree_index.proofs.DepthLemmas.{full_back, root_less, room_less, room_more, insert_room, rises_less}
+use Rattle.tree_index.proofs.DepthLemmas.{full_back, root_less, room_less, room_more, insert_room, headroom_less}
 use Rattle.tree_index.proofs.arenas.Arenas.insert.Goals as goal
 
 pub insert-answer-requires : goal.insert-answer-requires
@@ -236,7 +236,7 @@ returns-in-Some-clause-ascending_headroom g c k =
     let less = root_less cmp a b pairs refl (room_less a.leaves n l m here (omega (arith, used))) in
     let more = root_less cmp b a (sym pairs) refl (room_more a.leaves n l m here used) in
     let same : root_room cmp b ≡ root_room cmp a = omega (arith, less, more) in
-    ap (rises a.height) same
+    ap (headroom_for a.height) same
 
 pub returns-in-Some-clause-ascending : goal.returns-in-Some-clause-ascending
 returns-in-Some-clause-ascending g c d above =
@@ -256,4 +256,4 @@ returns-in-Some-clause-ascending g c d above =
     let b : Arenas g.row.K.Denot g.row.V.Denot = with_leaf cmp o key a s n on l here m len in
     let pairs = upserted_written cmp o key a s n on l here m len w c.args.val (c.insert-answer.ensures.done d) in
     let there = (Updates-with_value a.leaves n m (rw here refl)).changed in
-    rises_less a.height (root_room cmp a) (root_room cmp b) 1 (insert_room cmp o key c.args.val a b above refl pairs n on l m here there (c.insert-answer.ensures.used d))
+    headroom_less a.height (root_room cmp a) (root_room cmp b) 1 (insert_room cmp o key c.args.val a b above refl pairs n on l m here there (c.insert-answer.ensures.used d))

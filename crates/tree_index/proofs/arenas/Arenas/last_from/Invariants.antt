@@ -1,13 +1,13 @@
 use Rattle.std.proofs.Common.{◌≡◌}
 use Rattle.tree_index.specs.Content.{leaves_of}
-use Rattle.tree_index.specs.Walk.{ends_at, IsOwn}
+use Rattle.tree_index.specs.Walk.{ends_at, IsOwnLeaf}
 use Rattle.tree_index.proofs.RowLemmas.{reach}
 use Rattle.tree_index.proofs.arenas.Arenas.last_from.Given as goal
 
 -- no pair lies in the leaves passed over
 abbrev pub invariant-loop-prev : goal.invariant-loop-prev
 invariant-loop-prev g l = record {
-  own : IsOwn l.self l.prev;
+  own : IsOwnLeaf l.self l.prev;
   same : ends_at l.self l.prev ≡ ends_at l.self l.fn.from;
 }
 

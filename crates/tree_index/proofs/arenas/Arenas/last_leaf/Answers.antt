@@ -2,7 +2,7 @@ use Rattle.std.proofs.Common.{◌≡◌, ◌-◌, ℕ, zero, suc, Some, None, sy
 use Rattle.std.specs.Option.{option_map}
 use Rattle.leaf_array.specs.Cells.{Cells}
 use Rattle.tree_index.specs.declared.node.InnerNode.{InnerNode}
-use Rattle.tree_index.specs.Shape.{Content, IsTree, leaves_under}
+use Rattle.tree_index.specs.Shape.{ArenaContent, IsTree, leaves_under}
 use Rattle.tree_index.specs.Content.{content_of, leaves_of}
 use Rattle.tree_index.proofs.RowLemmas.{last_or, row_end}
 use Rattle.tree_index.proofs.WalkLemmas.{IsEdge, last_step, last_is_own}
@@ -10,7 +10,7 @@ use Rattle.tree_index.proofs.arenas.Arenas.last_leaf.Goals as goal
 
 pub loop-height-preserved : goal.loop-height-preserved
 loop-height-preserved g c =
-    let a : Content g.row.K.Denot g.row.V.Denot = content_of c.args.self.now in
+    let a : ArenaContent g.row.K.Denot g.row.V.Denot = content_of c.args.self.now in
     let h : ℕ = c.loop-height.height - 1 in
     let at = c.loop-height.at in
     let deeper : c.loop-height.height ≡ suc h = omega arith in

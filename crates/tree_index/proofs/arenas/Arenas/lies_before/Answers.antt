@@ -5,7 +5,7 @@ use Rattle.tree_index.specs.declared.cursor.End.{End}
 use Rattle.tree_index.specs.declared.cursor.End.TheVariants.{At}
 use Rattle.tree_index.specs.Cursor.{lies_before}
 use Rattle.tree_index.specs.Walk.{IsPosition}
-use Rattle.tree_index.specs.Ends.{IsEnd, place_of}
+use Rattle.tree_index.specs.Ends.{IsEnd, end_position}
 use Rattle.tree_index.proofs.EndLemmas.{key_order}
 use Rattle.tree_index.proofs.arenas.Arenas.lies_before.Goals as goal
 
@@ -18,5 +18,5 @@ returns-in-At-At g c =
     let second : IsPosition a y = subst (IsEnd a) c.in-At-At.is-1 c.requires.second in
     let order = key_order g.K.Ord.cmp g.met.K.Ord.total a c.requires.sound x y first second _ _ c.pair.ensures c.pair-in-At-At.ensures in
     let answer : c.is_lt.result ≡ _ = c.is_lt.ensures ∙ ap is_lt c.cmp.ensures ∙ order in
-    let stays : End (Position g.row.K.Denot g.row.V.Denot) → End (Position g.row.K.Denot g.row.V.Denot) → Type 0 = λ e f. c.is_lt.result ≡ lies_before (place_of a e) (place_of a f) in
+    let stays : End (Position g.row.K.Denot g.row.V.Denot) → End (Position g.row.K.Denot g.row.V.Denot) → Type 0 = λ e f. c.is_lt.result ≡ lies_before (end_position a e) (end_position a f) in
     subst (λ f. stays c.args.a f) (sym c.in-At-At.is-1) (subst (λ e. stays e (At y)) (sym c.in-At-At.is-0) answer)

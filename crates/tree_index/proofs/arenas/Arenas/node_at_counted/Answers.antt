@@ -1,7 +1,7 @@
 use Rattle.std.proofs.Common.{◌≡◌, ℕ, suc, ◌-◌, Some, None, sym, ap, ◌∙◌, subst, arith}
 use Rattle.std.specs.Option.{option_map}
 use Rattle.leaf_array.specs.Cells.{Cells}
-use Rattle.tree_index.specs.Shape.{Content, IsTree, way}
+use Rattle.tree_index.specs.Shape.{ArenaContent, IsTree, way}
 use Rattle.tree_index.specs.Content.{content_of}
 use Rattle.tree_index.specs.declared.node.InnerNode.{InnerNode}
 use Rattle.tree_index.proofs.WayLemmas.{IsStep, step_down}
@@ -9,7 +9,7 @@ use Rattle.tree_index.proofs.arenas.Arenas.node_at_counted.Goals as goal
 
 pub unreachable-requires : goal.unreachable-requires
 unreachable-requires g c =
-    let a : Content g.row.K.Denot g.row.V.Denot = content_of c.args.self.now in
+    let a : ArenaContent g.row.K.Denot g.row.V.Denot = content_of c.args.self.now in
     let height = c.loop-height.height in
     let at = c.loop-height.at in
     let t = c.loop-height.invariant.tree (omega arith) in
@@ -20,7 +20,7 @@ unreachable-requires g c =
 
 pub loop-height-preserved : goal.loop-height-preserved
 loop-height-preserved g c =
-    let a : Content g.row.K.Denot g.row.V.Denot = content_of c.args.self.now in
+    let a : ArenaContent g.row.K.Denot g.row.V.Denot = content_of c.args.self.now in
     let cmp = g.K.Ord.cmp in
     let key = c.args.key.now in
     let left = c.args.left in

@@ -3,7 +3,7 @@ use Rattle.std.specs.Prelude.{length, IfSome}
 use Rattle.slab.specs.Slab.{get, with_value}
 use Rattle.tree_index.specs.declared.arenas.Arenas.{Arenas}
 use Rattle.tree_index.specs.Depth.{root_room}
-use Rattle.tree_index.proofs.DepthLemmas.{root_less, room_less, rises_less}
+use Rattle.tree_index.proofs.DepthLemmas.{root_less, room_less, headroom_less}
 use Rattle.leaf_array.specs.Pairs.{IsAscending}
 use Rattle.tree_index.specs.declared.leaf.Leaf.{Leaf}
 use Rattle.tree_index.specs.Shape.{AllKeys, IsWithin}
@@ -74,7 +74,7 @@ returns-clause-ascending g c =
     let m : Leaf g.row.K.Denot g.row.V.Denot = c.pack.new.self in
     let b : Arenas g.row.K.Denot g.row.V.Denot = record { leaves = with_value a.leaves n m; nodes = a.nodes; root = a.root; height = a.height; len = a.len } in
     let room = root_less cmp a b (returns-clause-pairs g c) refl (room_less a.leaves n l m here (omega (arith, c.pack.ensures.used, c.len.ensures.count, c.len.ensures.used))) in
-    let less = rises_less a.height (root_room cmp a) (root_room cmp b) 0 (λ h. omega (arith, room)) in
+    let less = headroom_less a.height (root_room cmp a) (root_room cmp b) 0 (λ h. omega (arith, room)) in
     omega (arith, less)
 
 pub returns-clause-on : goal.returns-clause-on

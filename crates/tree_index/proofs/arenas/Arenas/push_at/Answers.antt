@@ -12,7 +12,7 @@ use Rattle.tree_index.proofs.WayLemmas.{some_same}
 use Rattle.tree_index.proofs.WalkLemmas.{own_there}
 use Rattle.tree_index.proofs.CopyLemmas.{upserted_behind}
 use Rattle.tree_index.proofs.ArenaLemmas.{with_leaf, thawed_on_way, leaf_counted, put_written, still_sound, upserted_written}
-use Rattle.tree_index.proofs.DepthLemmas.{rises_less, insert_room}
+use Rattle.tree_index.proofs.DepthLemmas.{headroom_less, insert_room}
 use Rattle.tree_index.proofs.PushLemmas.{open_way, open_above, longer_by_one, roomy_used}
 use Rattle.tree_index.proofs.arenas.Arenas.push_at.Goals as goal
 
@@ -89,7 +89,7 @@ returns-clause-ascending g c =
     let b : Arenas g.row.K.Denot g.row.V.Denot = with_leaf cmp o key a s n on l here m (a.len + 1) in
     let pairs = upserted_written cmp o key a s n on l here m (a.len + 1) w c.args.val put in
     let there = (Updates-with_value a.leaves n m (rw here refl)).changed in
-    rises_less a.height (root_room cmp a) (root_room cmp b) 1 (insert_room cmp o key c.args.val a b c.requires.above refl pairs n on l m here there (omega (arith, c.push.ensures.used)))
+    headroom_less a.height (root_room cmp a) (root_room cmp b) 1 (insert_room cmp o key c.args.val a b c.requires.above refl pairs n on l m here there (omega (arith, c.push.ensures.used)))
 
 pub returns-clause-open : goal.returns-clause-open
 returns-clause-open g c more =

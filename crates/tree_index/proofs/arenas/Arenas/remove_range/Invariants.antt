@@ -3,14 +3,14 @@ use Rattle.std.specs.List.{filter}
 use Rattle.std.specs.Range.Bound.{bound_map}
 use Rattle.std.specs.BTreeMap.Range.{range_contains}
 use Rattle.tree_index.specs.Content.{pairs_of, leaves_of, IsSound}
-use Rattle.tree_index.specs.Walk.{rest, IsOwn, IsPassed}
+use Rattle.tree_index.specs.Walk.{rest, IsOwnLeaf, IsPassed}
 use Rattle.tree_index.proofs.arenas.Arenas.remove_range.Given as goal
 
 -- the leaves passed hold no key within the bounds, and what a filter would leave is as it was
 abbrev pub invariant-loop-next : goal.invariant-loop-next
 invariant-loop-next g l = record {
   sound : IsSound g.K.Ord.cmp l.self;
-  own : IsOwn l.self l.next;
+  own : IsOwnLeaf l.self l.next;
   passed : IsPassed (λ k. range_contains g.K.Ord.cmp (bound_map (λ k. k.now) l.fn.lower) (bound_map (λ k. k.now) l.fn.upper) k ≡ false) l.self l.next;
   same : filter (λ p. not (range_contains g.K.Ord.cmp (bound_map (λ k. k.now) l.fn.lower) (bound_map (λ k. k.now) l.fn.upper) p.0)) (pairs_of l.self) ≡ filter (λ p. not (range_contains g.K.Ord.cmp (bound_map (λ k. k.now) l.fn.lower) (bound_map (λ k. k.now) l.fn.upper) p.0)) (pairs_of l.fn.self);
   depth : l.self.height ≤ l.fn.self.height;

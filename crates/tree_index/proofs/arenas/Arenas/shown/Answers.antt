@@ -6,7 +6,7 @@ use Rattle.tree_index.specs.declared.cursor.End.{End}
 use Rattle.tree_index.specs.Content.{pairs_of}
 use Rattle.tree_index.specs.Cursor.{kept_below, pair_at, deref_pair}
 use Rattle.tree_index.specs.Walk.{IsPosition}
-use Rattle.tree_index.specs.Ends.{IsEnd, place_of}
+use Rattle.tree_index.specs.Ends.{IsEnd, end_position}
 use Rattle.tree_index.proofs.EndLemmas.{spot_pair}
 use Rattle.tree_index.proofs.arenas.Arenas.shown.Goals as goal
 
@@ -16,5 +16,5 @@ returns-in-At g c =
     let bound = bound_map (λ (k : Bor g.row.K.Denot). k.now) c.args.upper in
     let spot : IsPosition a c.in-At.spot = subst (IsEnd a) c.in-At.is c.requires.end in
     let pair = (spot_pair g.K.Ord.cmp a c.requires.sound c.in-At.spot spot).0 ∙ c.pair.ensures in
-    subst (λ (e : End (Position g.row.K.Denot g.row.V.Denot)). deref_pair c.below.result ≡ kept_below g.K.Ord.cmp bound (pair_at (pairs_of a) (place_of a e))) (sym c.in-At.is)
+    subst (λ (e : End (Position g.row.K.Denot g.row.V.Denot)). deref_pair c.below.result ≡ kept_below g.K.Ord.cmp bound (pair_at (pairs_of a) (end_position a e))) (sym c.in-At.is)
     (c.below.ensures ∙ sym (ap (kept_below g.K.Ord.cmp bound) pair))

@@ -8,7 +8,7 @@ use Rattle.std.specs.Option.{option_map}
 use Rattle.leaf_array.specs.Edits.{removed}
 use Rattle.tree_index.specs.Shape.{leaf_pairs}
 use Rattle.tree_index.specs.Content.{leaf_on_way}
-use Rattle.tree_index.specs.Walk.{held}
+use Rattle.tree_index.specs.Walk.{pairs_in_leaf}
 use Rattle.tree_index.proofs.PruneLemmas.{each_some, no_pairs}
 use Rattle.tree_index.specs.declared.leaf.Leaf.{Leaf}
 use Rattle.tree_index.proofs.ArenaLemmas.{with_leaf, written_there, thawed_on_way, leaf_counted, taken_of, taken_written, removed_length, still_sound, kept_written, removed_written, lookup_written, none_sound, bare_pairs}
@@ -164,6 +164,6 @@ returns-in-Some-clause-emptied g c =
     let len : ℕ = a.len - c.len-before.result + c.len-after.result in
     let w = taken_written cmp o key a s n on l here m len taken c.remove_if-answer.ensures.thawed c.len-after.ensures.rising in
     let new = with_leaf cmp o key a s n on l here m len in
-    each_some (λ (k : ℕ). (k ≡ n) × (c.len-after.result ≡ 0)) (λ (k : ℕ). (k ≡ leaf_on_way cmp key new) × (held new k ≡ [])) c.emptied.result
-    (λ k e. (e.0 ∙ on ∙ sym w.same_way, ap (held new) (e.0 ∙ on) ∙ ap leaf_pairs (ap (option_map (λ (x : Leaf g.row.K.Denot g.row.V.Denot). x.array)) (ap (get new.leaves) (sym w.same_way) ∙ written_there cmp o key a s n on l here m len w)) ∙ no_pairs m.array.pairs (sym c.len-after.ensures.count ∙ e.1)))
+    each_some (λ (k : ℕ). (k ≡ n) × (c.len-after.result ≡ 0)) (λ (k : ℕ). (k ≡ leaf_on_way cmp key new) × (pairs_in_leaf new k ≡ [])) c.emptied.result
+    (λ k e. (e.0 ∙ on ∙ sym w.same_way, ap (pairs_in_leaf new) (e.0 ∙ on) ∙ ap leaf_pairs (ap (option_map (λ (x : Leaf g.row.K.Denot g.row.V.Denot). x.array)) (ap (get new.leaves) (sym w.same_way) ∙ written_there cmp o key a s n on l here m len w)) ∙ no_pairs m.array.pairs (sym c.len-after.ensures.count ∙ e.1)))
     c.emptied.ensures

@@ -1,7 +1,7 @@
 use Rattle.std.proofs.Common.{◌≡◌, ◌≢◌, ℕ, suc, ◌+◌, ◌-◌, Some, None, sym, ap, ◌∙◌, subst, refl, arith}
 use Rattle.std.specs.Option.{option_map}
 use Rattle.leaf_array.specs.Cells.{Cells}
-use Rattle.tree_index.specs.Shape.{Content, IsTree, way, child_in}
+use Rattle.tree_index.specs.Shape.{ArenaContent, IsTree, way, child_in}
 use Rattle.tree_index.specs.Content.{content_of}
 use Rattle.tree_index.specs.declared.node.InnerNode.{InnerNode}
 use Rattle.tree_index.proofs.WayLemmas.{IsStep, step_down}
@@ -11,7 +11,7 @@ use Rattle.tree_index.proofs.arenas.Arenas.way_to.Goals as goal
 
 pub unreachable-requires : goal.unreachable-requires
 unreachable-requires g c =
-    let a : Content g.row.K.Denot g.row.V.Denot = content_of c.args.self.now in
+    let a : ArenaContent g.row.K.Denot g.row.V.Denot = content_of c.args.self.now in
     let height = c.loop-height.height in
     let at = c.loop-height.at in
     let t = c.loop-height.invariant.tree (omega arith) in
@@ -22,7 +22,7 @@ unreachable-requires g c =
 
 pub loop-height-preserved : goal.loop-height-preserved
 loop-height-preserved g c =
-    let a : Content g.row.K.Denot g.row.V.Denot = content_of c.args.self.now in
+    let a : ArenaContent g.row.K.Denot g.row.V.Denot = content_of c.args.self.now in
     let cmp = g.K.Ord.cmp in
     let key = c.args.key.now in
     let root = c.args.self.now.root in

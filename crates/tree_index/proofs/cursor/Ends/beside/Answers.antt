@@ -5,7 +5,7 @@ use Rattle.tree_index.specs.declared.cursor.End.TheVariants.{At}
 use Rattle.tree_index.specs.Content.{pairs_of}
 use Rattle.tree_index.specs.Cursor.{forth}
 use Rattle.tree_index.specs.Walk.{position}
-use Rattle.tree_index.specs.Ends.{place_of}
+use Rattle.tree_index.specs.Ends.{end_position}
 use Rattle.tree_index.proofs.EndLemmas.{spot_pair, forth_next}
 use Rattle.tree_index.proofs.WalkLemmas.{if_both}
 use Rattle.tree_index.proofs.cursor.Ends.beside.Goals as goal
@@ -17,6 +17,6 @@ returns-in-At-clause-place g c =
     let from : ℕ = position a c.in-At.spot in
     if_both
     c.beside.result
-    (λ n is there lower. subst (λ (e : End (Position g.row.K.Denot g.row.V.Denot)). ◌≡◌ {A = End ℕ} (At (position a n.0)) (forth cmp lower (pairs_of a) (place_of a e))) (sym c.in-At.is) (forth_next cmp lower (pairs_of a) (position a n.0) (spot_pair cmp a c.requires.sound n.0 is).1 from there))
+    (λ n is there lower. subst (λ (e : End (Position g.row.K.Denot g.row.V.Denot)). ◌≡◌ {A = End ℕ} (At (position a n.0)) (forth cmp lower (pairs_of a) (end_position a e))) (sym c.in-At.is) (forth_next cmp lower (pairs_of a) (position a n.0) (spot_pair cmp a c.requires.sound n.0 is).1 from there))
     c.beside.ensures.spot
     c.beside.ensures.there

@@ -7,7 +7,7 @@ use Rattle.tree_index.specs.declared.cursor.End.TheVariants.{At}
 use Rattle.tree_index.specs.Content.{pairs_of}
 use Rattle.tree_index.specs.Cursor.{forth}
 use Rattle.tree_index.specs.Walk.{position}
-use Rattle.tree_index.specs.Ends.{place_of}
+use Rattle.tree_index.specs.Ends.{end_position}
 use Rattle.tree_index.proofs.EndLemmas.{spot_pair, forth_first, forth_next}
 use Rattle.tree_index.proofs.cursor.Ends.forth.Goals as goal
 
@@ -18,7 +18,7 @@ returns-in-Some-clause-place g c =
     let lower = bound_map (λ (k : Bor g.row.K.Denot). k.now) c.args.lower in
     let n : ℕ = position a c.in-Some.spot in
     let within = (spot_pair cmp a c.requires.sound c.in-Some.spot c.in-Some.ensures.spot).1 in
-    subst (λ (e : End (Position g.row.K.Denot g.row.V.Denot)). ◌≡◌ {A = End ℕ} (At n) (forth cmp lower (pairs_of a) (place_of a e))) (sym c.in-Unopened.is) (forth_first cmp lower (pairs_of a) n within c.in-Some.ensures.there)
+    subst (λ (e : End (Position g.row.K.Denot g.row.V.Denot)). ◌≡◌ {A = End ℕ} (At n) (forth cmp lower (pairs_of a) (end_position a e))) (sym c.in-Unopened.is) (forth_first cmp lower (pairs_of a) n within c.in-Some.ensures.there)
 
 pub returns-in-Some-behind-clause-place : goal.returns-in-Some-behind-clause-place
 returns-in-Some-behind-clause-place g c =
@@ -27,4 +27,4 @@ returns-in-Some-behind-clause-place g c =
     let lower = bound_map (λ (k : Bor g.row.K.Denot). k.now) c.args.lower in
     let n : ℕ = position a c.in-Some-behind.next in
     let within = (spot_pair cmp a c.requires.sound c.in-Some-behind.next c.in-Some-behind.ensures.spot).1 in
-    subst (λ (e : End (Position g.row.K.Denot g.row.V.Denot)). ◌≡◌ {A = End ℕ} (At n) (forth cmp lower (pairs_of a) (place_of a e))) (sym c.in-At.is) (forth_next cmp lower (pairs_of a) n within (position a c.in-At.spot) c.in-Some-behind.ensures.there)
+    subst (λ (e : End (Position g.row.K.Denot g.row.V.Denot)). ◌≡◌ {A = End ℕ} (At n) (forth cmp lower (pairs_of a) (end_position a e))) (sym c.in-At.is) (forth_next cmp lower (pairs_of a) n within (position a c.in-At.spot) c.in-Some-behind.ensures.there)

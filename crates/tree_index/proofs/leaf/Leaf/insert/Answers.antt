@@ -1,7 +1,7 @@
 use Rattle.std.proofs.Common.{◌∙◌, ◌==◌, not, nat_eq}
 use denote.Param.{value_of, number}
 use Rattle.leaf_array.specs.Results.{is_closed}
-use Rattle.leaf_array.specs.Cells.{has}
+use Rattle.leaf_array.specs.Cells.{array_has_key}
 use Rattle.leaf_array.proofs.EntryLemmas.{has_lookup}
 use Rattle.tree_index.proofs.LeafLemmas.{repeated_has, unique, put_is}
 use Rattle.tree_index.proofs.leaf.Leaf.insert.Goals as goal
@@ -13,7 +13,7 @@ returns-clause-duplicate g c r =
 pub returns-clause-unique : goal.returns-clause-unique
 returns-clause-unique g c s e =
     let a = c.args.self.now.array in
-    has_lookup g.K.Ord.cmp c.args.key a.pairs ∙ unique c.put.result (is_closed a) (a.used == 15) (not (nat_eq (value_of (number g.row.UPSERT)) 0)) (has g.K.Ord.cmp c.args.key a) c.put.ensures.full.1 c.put.ensures.duplicate.1 s e
+    has_lookup g.K.Ord.cmp c.args.key a.pairs ∙ unique c.put.result (is_closed a) (a.used == 15) (not (nat_eq (value_of (number g.row.UPSERT)) 0)) (array_has_key g.K.Ord.cmp c.args.key a) c.put.ensures.full.1 c.put.ensures.duplicate.1 s e
 
 pub returns-clause-done : goal.returns-clause-done
 returns-clause-done g c s =

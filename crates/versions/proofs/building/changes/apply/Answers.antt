@@ -3,7 +3,7 @@ use Rattle.leaf_array.specs.Edits.{upserted}
 use Rattle.versions.specs.Changes.{apply_delta, changed}
 use Rattle.versions.specs.Cuts.{pairs_in}
 use Rattle.versions.specs.declared.building.changes.Changes.{Changes}
-use Rattle.versions.specs.Gone.{is_gone, without}
+use Rattle.versions.specs.Gone.{is_gone, without_gone}
 use Rattle.versions.specs.Writes.{after_write}
 use Rattle.versions.proofs.FilterLemmas.{rising_kept}
 use Rattle.versions.proofs.DeltaLemmas.{noted, noted_few, noted_none, removed_absent, all_cleared}
@@ -17,7 +17,7 @@ returns-then-not-has-clause-list g c =
 pub returns-in_ok-note-in-Insert-clause-list : goal.returns-in_ok-note-in-Insert-clause-list
 returns-in_ok-note-in-Insert-clause-list g c =
     let cmp = g.K.Ord.cmp in
-    let old = without g.K.Ord.cmp c.args.changes.now.gone.items (pairs_in (g.O.BaseVersion.blocks c.args.old.now)) in
+    let old = without_gone g.K.Ord.cmp c.args.changes.now.gone.items (pairs_in (g.O.BaseVersion.blocks c.args.old.now)) in
     let now = apply_delta cmp c.args.changes.now.edits.pairs old in
     let key = c.in-Insert.key in
     let facts = c.in_ok-note-in-Insert.ensures in
@@ -28,7 +28,7 @@ returns-in_ok-note-in-Insert-clause-list g c =
 pub returns-in_ok-note-in-Upsert-clause-list : goal.returns-in_ok-note-in-Upsert-clause-list
 returns-in_ok-note-in-Upsert-clause-list g c =
     let cmp = g.K.Ord.cmp in
-    let old = without g.K.Ord.cmp c.args.changes.now.gone.items (pairs_in (g.O.BaseVersion.blocks c.args.old.now)) in
+    let old = without_gone g.K.Ord.cmp c.args.changes.now.gone.items (pairs_in (g.O.BaseVersion.blocks c.args.old.now)) in
     let now = apply_delta cmp c.args.changes.now.edits.pairs old in
     let key = c.in-Upsert.key in
     let facts = c.in_ok-note-in-Upsert.ensures in
@@ -39,7 +39,7 @@ returns-in_ok-note-in-Upsert-clause-list g c =
 pub returns-in_ok-note-in-Remove-clause-list : goal.returns-in_ok-note-in-Remove-clause-list
 returns-in_ok-note-in-Remove-clause-list g c =
     let cmp = g.K.Ord.cmp in
-    let old = without g.K.Ord.cmp c.args.changes.now.gone.items (pairs_in (g.O.BaseVersion.blocks c.args.old.now)) in
+    let old = without_gone g.K.Ord.cmp c.args.changes.now.gone.items (pairs_in (g.O.BaseVersion.blocks c.args.old.now)) in
     let now = apply_delta cmp c.args.changes.now.edits.pairs old in
     let facts = c.in_ok-note-in-Remove.ensures in
     ap (λ cs. apply_delta cmp cs old) facts.noted

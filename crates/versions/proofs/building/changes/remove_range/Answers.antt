@@ -4,7 +4,7 @@ use Rattle.std.specs.List.{All}
 use Rattle.std.specs.BTreeMap.Range.{range_contains}
 use Rattle.versions.specs.Changes.{apply_delta}
 use Rattle.versions.specs.Cuts.{pairs_in}
-use Rattle.versions.specs.Gone.{IsSpan, is_gone, without}
+use Rattle.versions.specs.Gone.{IsSpan, is_gone, without_gone}
 use Rattle.versions.proofs.DeltaLemmas.{kept_amended}
 use Rattle.versions.proofs.FilterLemmas.{kept, kept_upto, rising_kept}
 use Rattle.versions.proofs.RangeLemmas.{outside, fair_other, fair_range, without_more}
@@ -22,11 +22,11 @@ returns-clause-list g c =
     let range = c.in_ok-range_of.field-0 in
     let e = c.in_ok-range_of.ensures in
     let left : c.remove_range_sync.new.self.pairs ≡ kept (outside test) edits = c.remove_range_sync.ensures.removed ∙ rw (c.as_ref.ensures, c.as_ref-2.ensures) refl in
-    let more : without cmp (gone ++ range ∷ []) old ≡ kept (outside test) (without cmp gone old) = without_more cmp gone range old ∙ (ap (λ l. kept (outside (λ y. range_contains cmp l range.upper y)) (without cmp gone old)) e.lower ∙ ap (λ u. kept (outside (λ y. range_contains cmp lower u y)) (without cmp gone old)) e.upper) in
-    ap (λ cs. apply_delta cmp cs (without cmp c.push.new.self.items old)) left
-    ∙ (ap (λ gs. apply_delta cmp (kept (outside test) edits) (without cmp gs old)) c.in_ok-push.ensures.items
+    let more : without_gone cmp (gone ++ range ∷ []) old ≡ kept (outside test) (without_gone cmp gone old) = without_more cmp gone range old ∙ (ap (λ l. kept (outside (λ y. range_contains cmp l range.upper y)) (without_gone cmp gone old)) e.lower ∙ ap (λ u. kept (outside (λ y. range_contains cmp lower u y)) (without_gone cmp gone old)) e.upper) in
+    ap (λ cs. apply_delta cmp cs (without_gone cmp c.push.new.self.items old)) left
+    ∙ (ap (λ gs. apply_delta cmp (kept (outside test) edits) (without_gone cmp gs old)) c.in_ok-push.ensures.items
     ∙ (ap (apply_delta cmp (kept (outside test) edits)) more
-    ∙ sym (kept_amended g.met.K.Ord.total (outside test) (fair_other g.met.K.Ord.total test (fair_range g.met.K.Ord.total lower upper)) edits (without cmp gone old) c.len.ensures.rising (rising_kept cmp (λ k. not (is_gone cmp gone k)) old c.requires.ordered.rising))))
+    ∙ sym (kept_amended g.met.K.Ord.total (outside test) (fair_other g.met.K.Ord.total test (fair_range g.met.K.Ord.total lower upper)) edits (without_gone cmp gone old) c.len.ensures.rising (rising_kept cmp (λ k. not (is_gone cmp gone k)) old c.requires.ordered.rising))))
 
 pub returns-clause-few : goal.returns-clause-few
 returns-clause-few g c =

@@ -3,7 +3,7 @@ use Rattle.std.proofs.lemmas.List.{drop_more}
 use Rattle.std.specs.List.{All}
 use Rattle.std.proofs.lemmas.List.Elements.{All-nil}
 use Rattle.versions.specs.Changes.{apply_delta, changed}
-use Rattle.versions.specs.Gone.{IsSpan, without}
+use Rattle.versions.specs.Gone.{IsSpan, without_gone}
 use Rattle.versions.proofs.RangeLemmas.{without_none}
 use Rattle.versions.specs.Cuts.{pairs_in}
 use Rattle.versions.specs.Writes.{after_writes, replies_to, reply_to}
@@ -15,7 +15,7 @@ loop-write-init g c =
     let cmp = g.K.Ord.cmp in
     let blocks = g.O.BaseVersion.blocks c.args.old.now in
     let old = pairs_in blocks in
-    let none : changed cmp c.unchanged-changes.result old ≡ old = ap (λ cs. apply_delta cmp cs (without cmp c.unchanged-changes.result.gone.items old)) c.unchanged-changes.ensures.edits ∙ (ap (λ gs. without cmp gs old) c.unchanged-changes.ensures.gone ∙ without_none cmp old) in
+    let none : changed cmp c.unchanged-changes.result old ≡ old = ap (λ cs. apply_delta cmp cs (without_gone cmp c.unchanged-changes.result.gone.items old)) c.unchanged-changes.ensures.edits ∙ (ap (λ gs. without_gone cmp gs old) c.unchanged-changes.ensures.gone ∙ without_none cmp old) in
     record {
       list = ap (after_writes cmp c.args.writes.now) none;
       few = (let a = ap length c.unchanged-changes.ensures.edits in let b = ap length c.unchanged-changes.ensures.gone in omega (arith, a, b));

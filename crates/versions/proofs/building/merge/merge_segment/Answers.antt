@@ -4,11 +4,11 @@ use Rattle.leaf_array.specs.Pairs.{IsAscending}
 use Rattle.tree_index.proofs.WayLemmas.{some_same}
 use Rattle.versions.specs.Changes.{apply_delta}
 use Rattle.versions.specs.Cuts.{pairs_in}
-use Rattle.versions.specs.Cutting.{IsReachedBy, given}
+use Rattle.versions.specs.Cutting.{IsReachedBy, given_pairs}
 use Rattle.versions.proofs.CuttingLemmas.{cutting_same, filled_same, given_same}
 use Rattle.versions.proofs.MergeLemmas.{filled_none, filled_then, never_reached}
 use Rattle.versions.proofs.ChangeScanLemmas.{block_at}
-use Rattle.versions.specs.Gone.{is_gone, without}
+use Rattle.versions.specs.Gone.{is_gone, without_gone}
 use Rattle.versions.proofs.FilterLemmas.{on_test, rising_kept}
 use Rattle.std.proofs.lemmas.List.Elements.{filter-append}
 use Rattle.versions.proofs.building.merge.merge_segment.Goals as goal
@@ -19,16 +19,16 @@ loop-more-init g c =
     let blocks = g.O.BaseVersion.blocks c.args.old.now in
     let gone = c.args.gone.now in
     let test = λ (k : g.row.K.Denot). not (is_gone cmp gone k) in
-    let rest = without cmp gone (pairs_in (drop (c.args.place + 1) blocks)) in
+    let rest = without_gone cmp gone (pairs_in (drop (c.args.place + 1) blocks)) in
     let b = c.segment.result.now.pairs in
-    let whole : c.new-pairs.result ++ rest ≡ without cmp gone (pairs_in (drop c.args.place blocks)) = ap (λ ps. ps ++ rest) c.new-pairs.ensures ∙ (sym (filter-append (λ p. test p.0) b (pairs_in (drop (c.args.place + 1) blocks))) ∙ ap (without cmp gone) (sym (block_at c.args.place blocks b c.segment.ensures))) in
-    let block : (b : List (g.row.K.Denot × g.row.V.Denot)) → Some b ≡ _ → without cmp gone b ≡ c.new-pairs.result = λ b e. ap (without cmp gone) (some_same (e ∙ sym c.segment.ensures)) ∙ sym c.new-pairs.ensures in
+    let whole : c.new-pairs.result ++ rest ≡ without_gone cmp gone (pairs_in (drop c.args.place blocks)) = ap (λ ps. ps ++ rest) c.new-pairs.ensures ∙ (sym (filter-append (λ p. test p.0) b (pairs_in (drop (c.args.place + 1) blocks))) ∙ ap (without_gone cmp gone) (sym (block_at c.args.place blocks b c.segment.ensures))) in
+    let block : (b : List (g.row.K.Denot × g.row.V.Denot)) → Some b ≡ _ → without_gone cmp gone b ≡ c.new-pairs.result = λ b e. ap (without_gone cmp gone) (some_same (e ∙ sym c.segment.ensures)) ∙ sym c.new-pairs.ensures in
     let e = c.in_ok-make_ready.ensures in
     let named = g.O.BaseVersion.named c.args.old.now in
     let out = c.make_ready.new.out in
     record {
       whole = cutting_same named g.row.S c.args.out.now out e.row e.tail cmp blocks c.requires.whole e.held e.length;
-      list = ap (λ ps. given named out ++ apply_delta cmp c.args.changes.now ps) whole ∙ ap (λ ps. ps ++ apply_delta cmp c.args.changes.now (without cmp gone (pairs_in (drop c.args.place blocks)))) (given_same named g.row.S c.args.out.now out e.row e.tail);
+      list = ap (λ ps. given_pairs named out ++ apply_delta cmp c.args.changes.now ps) whole ∙ ap (λ ps. ps ++ apply_delta cmp c.args.changes.now (without_gone cmp gone (pairs_in (drop c.args.place blocks)))) (given_same named g.row.S c.args.out.now out e.row e.tail);
       sorted = subst (IsAscending cmp) (sym whole) (rising_kept cmp test (pairs_in (drop c.args.place blocks)) c.requires.sorted);
       filled = λ b here. filled_then g.row.S _ _ _ c.args.out.now out out (filled_same named g.row.S c.args.out.now out e.row e.tail _) (filled_none g.row.S _ _ out (let same = ap length (block b here) in omega (arith, same)));
       fewer = omega arith;

@@ -2,9 +2,9 @@ use Rattle.std.proofs.Common.{◌≡◌, ◌⊎◌, ◌<◌, ◌≤◌, ◌++◌
 use Rattle.std.specs.Prelude.{slice_get}
 use Rattle.leaf_array.specs.Pairs.{IsAscending}
 use Rattle.versions.specs.Changes.{ahead, apply_delta}
-use Rattle.versions.specs.Gone.{without}
+use Rattle.versions.specs.Gone.{without_gone}
 use Rattle.versions.specs.Cuts.{pairs_in}
-use Rattle.versions.specs.Cutting.{IsCutting, IsFilled, IsReachedBy, given}
+use Rattle.versions.specs.Cutting.{IsCutting, GivesNoMoreThanRead, IsReachedBy, given_pairs}
 use Rattle.versions.proofs.building.merge.merge_segment.Given as goal
 
 -- what is given, and what is yet to be merged
@@ -13,14 +13,14 @@ invariant-loop-more g l =
     let cmp = g.K.Ord.cmp in
     let named = g.O.BaseVersion.named l.old in
     let blocks = g.O.BaseVersion.blocks l.old in
-    let rest = without cmp l.gone (pairs_in (drop (l.place + 1) blocks)) in
+    let rest = without_gone cmp l.gone (pairs_in (drop (l.place + 1) blocks)) in
     record {
       whole : IsCutting named cmp g.row.S blocks l.out;
-      list : given named l.out ++ apply_delta cmp l.changes (l.pairs ++ rest) ≡ given named l.fn.out ++ ahead cmp l.fn.changes l.gone l.place blocks;
+      list : given_pairs named l.out ++ apply_delta cmp l.changes (l.pairs ++ rest) ≡ given_pairs named l.fn.out ++ ahead cmp l.fn.changes l.gone l.place blocks;
       sorted : IsAscending cmp (l.pairs ++ rest);
-      filled : (b : List (g.row.K.Denot × g.row.V.Denot)) → Some b ≡ slice_get blocks l.place → IsFilled g.row.S (length (without cmp l.gone b) + length l.fn.changes) (length l.pairs + length l.changes) l.fn.out l.out;
+      filled : (b : List (g.row.K.Denot × g.row.V.Denot)) → Some b ≡ slice_get blocks l.place → GivesNoMoreThanRead g.row.S (length (without_gone cmp l.gone b) + length l.fn.changes) (length l.pairs + length l.changes) l.fn.out l.out;
       fewer : length l.changes ≤ length l.fn.changes;
-      reached : (b : List (g.row.K.Denot × g.row.V.Denot)) → Some b ≡ slice_get blocks l.place → IsReachedBy cmp l.fn.changes (without cmp l.gone b) → IsReachedBy cmp l.changes l.pairs ⊎ (length l.changes < length l.fn.changes);
+      reached : (b : List (g.row.K.Denot × g.row.V.Denot)) → Some b ≡ slice_get blocks l.place → IsReachedBy cmp l.fn.changes (without_gone cmp l.gone b) → IsReachedBy cmp l.changes l.pairs ⊎ (length l.changes < length l.fn.changes);
       done : l.more ≡ false → l.pairs ≡ [];
     }
 

@@ -3,8 +3,8 @@ use Rattle.std.proofs.lemmas.Bool.{false≢true}
 use Rattle.leaf_array.specs.Pairs.{IsAscending}
 use Rattle.versions.specs.Changes.{ahead, apply_delta, named_by}
 use Rattle.versions.specs.Cuts.{pairs_in}
-use Rattle.versions.specs.Cutting.{IsThrifty, given}
-use Rattle.versions.specs.Gone.{is_gone, without}
+use Rattle.versions.specs.Cutting.{IsThrifty, given_pairs}
+use Rattle.versions.specs.Gone.{is_gone, without_gone}
 use Rattle.versions.proofs.DeltaLemmas.{rising_amended}
 use Rattle.versions.proofs.FilterLemmas.{rising_kept}
 use Rattle.versions.proofs.GapLemmas.{turns_gone}
@@ -22,7 +22,7 @@ loop-place-init g c =
     let turns' = turns_gone g.met.K.Ord.total gone old c.requires.whole.rising in
     record {
       whole = c.in_ok-out.ensures.whole;
-      list = ap (λ ps. ps ++ apply_delta cmp c.new-left.result (without cmp gone old)) c.in_ok-out.ensures.empty ∙ ap (λ cs. apply_delta cmp cs (without cmp gone old)) c.new-left.ensures;
+      list = ap (λ ps. ps ++ apply_delta cmp c.new-left.result (without_gone cmp gone old)) c.in_ok-out.ensures.empty ∙ ap (λ cs. apply_delta cmp cs (without_gone cmp gone old)) c.new-left.ensures;
       thrifty = (
         false,
         record {
@@ -38,9 +38,9 @@ pass-requires-clause-rising g c =
     let cmp = g.K.Ord.cmp in
     let gone = c.args.changes.now.gone.items in
     let old = pairs_in (g.O.BaseVersion.blocks c.args.old.now) in
-    let up = rising_amended g.met.K.Ord.total c.args.changes.now.edits.pairs (without cmp gone old) c.len.ensures.rising (rising_kept cmp (λ k. not (is_gone cmp gone k)) old c.requires.whole.rising) in
+    let up = rising_amended g.met.K.Ord.total c.args.changes.now.edits.pairs (without_gone cmp gone old) c.len.ensures.rising (rising_kept cmp (λ k. not (is_gone cmp gone k)) old c.requires.whole.rising) in
     let rising = subst (IsAscending cmp) (sym c.loop-place.invariant.list) up in
-    subst (λ gs. IsAscending cmp (given (g.O.BaseVersion.named c.args.old.now) c.loop-place.out ++ ahead cmp c.loop-place.left gs c.loop-place.place (g.O.BaseVersion.blocks c.args.old.now))) (sym c.deref.ensures.value) rising
+    subst (λ gs. IsAscending cmp (given_pairs (g.O.BaseVersion.named c.args.old.now) c.loop-place.out ++ ahead cmp c.loop-place.left gs c.loop-place.place (g.O.BaseVersion.blocks c.args.old.now))) (sym c.deref.ensures.value) rising
 
 pub loop-place-preserved : goal.loop-place-preserved
 loop-place-preserved g c =
@@ -55,7 +55,7 @@ loop-place-preserved g c =
     let next = c.in_ok-place.place in
     record {
       whole = e.whole;
-      list = subst (λ gs. given named c.pass.new.out ++ ahead cmp c.pass.new.changes gs next blocks ≡ given named c.loop-place.out ++ ahead cmp c.loop-place.left gs place blocks) value e.list ∙ i.list;
+      list = subst (λ gs. given_pairs named c.pass.new.out ++ ahead cmp c.pass.new.changes gs next blocks ≡ given_pairs named c.loop-place.out ++ ahead cmp c.loop-place.left gs place blocks) value e.list ∙ i.list;
       thrifty = subst (λ gs. (last : Bool) → IsThrifty g.row.S budget (is_gone cmp gs) last (drop place blocks) (length c.loop-place.left) c.loop-place.out → (last' : Bool) × IsThrifty g.row.S budget (is_gone cmp gs) last' (drop next blocks) (length c.pass.new.changes) c.pass.new.out) value (e.thrifty budget) i.thrifty.0 i.thrifty.1;
     }
 
@@ -69,9 +69,9 @@ put_all-requires-clause-rising g c =
     let gone = c.args.changes.now.gone.items in
     let i = c.loop-place.invariant in
     let none = drop_out c.loop-place.place blocks (omega (arith, c.count-count.ensures, c.loop-place-test.false)) in
-    let given' = given (g.O.BaseVersion.named c.args.old.now) c.loop-place.out in
-    let all = sym (ap (λ bs. given' ++ apply_delta cmp c.loop-place.left (without cmp gone (pairs_in bs))) none) ∙ i.list in
-    let up = rising_amended g.met.K.Ord.total c.args.changes.now.edits.pairs (without cmp gone (pairs_in blocks)) c.len.ensures.rising (rising_kept cmp (λ k. not (is_gone cmp gone k)) (pairs_in blocks) c.requires.whole.rising) in
+    let given' = given_pairs (g.O.BaseVersion.named c.args.old.now) c.loop-place.out in
+    let all = sym (ap (λ bs. given' ++ apply_delta cmp c.loop-place.left (without_gone cmp gone (pairs_in bs))) none) ∙ i.list in
+    let up = rising_amended g.met.K.Ord.total c.args.changes.now.edits.pairs (without_gone cmp gone (pairs_in blocks)) c.len.ensures.rising (rising_kept cmp (λ k. not (is_gone cmp gone k)) (pairs_in blocks) c.requires.whole.rising) in
     subst (IsAscending cmp) (sym all) up
 
 pub returns-clause-list : goal.returns-clause-list
@@ -80,8 +80,8 @@ returns-clause-list g c =
     let blocks = g.O.BaseVersion.blocks c.args.old.now in
     let i = c.loop-place.invariant in
     let none = drop_out c.loop-place.place blocks (omega (arith, c.count-count.ensures, c.loop-place-test.false)) in
-    let given' = given (g.O.BaseVersion.named c.args.old.now) c.loop-place.out in
-    let all = sym (ap (λ bs. given' ++ apply_delta cmp c.loop-place.left (without cmp c.args.changes.now.gone.items (pairs_in bs))) none) ∙ i.list in
+    let given' = given_pairs (g.O.BaseVersion.named c.args.old.now) c.loop-place.out in
+    let all = sym (ap (λ bs. given' ++ apply_delta cmp c.loop-place.left (without_gone cmp c.args.changes.now.gone.items (pairs_in bs))) none) ∙ i.list in
     c.in_ok-segments.ensures.list ∙ (c.in_ok-put_all.ensures.list ∙ all)
 
 pub returns-clause-few : goal.returns-clause-few

@@ -1,7 +1,7 @@
 use Rattle.std.proofs.Common.{◌≡◌, ◌*◌, ◌-◌, ◌++◌, Bool, drop, length}
 use Rattle.versions.specs.Changes.{ahead, changed, named_by}
 use Rattle.versions.specs.Cuts.{pairs_in}
-use Rattle.versions.specs.Cutting.{IsCutting, IsThrifty, given}
+use Rattle.versions.specs.Cutting.{IsCutting, IsThrifty, given_pairs}
 use Rattle.versions.specs.Gone.{is_gone}
 use Rattle.versions.proofs.building.merge.merged.Given as goal
 
@@ -14,7 +14,7 @@ invariant-loop-place g l =
     let gone = l.changes.gone.items in
     record {
       whole : IsCutting named cmp g.row.S blocks l.out;
-      list : given named l.out ++ ahead cmp l.left gone l.place blocks ≡ changed cmp l.changes (pairs_in blocks);
+      list : given_pairs named l.out ++ ahead cmp l.left gone l.place blocks ≡ changed cmp l.changes (pairs_in blocks);
       thrifty : (last : Bool) × IsThrifty g.row.S (2 * named_by l.changes) (is_gone cmp gone) last (drop l.place blocks) (length l.left) l.out;
     }
 

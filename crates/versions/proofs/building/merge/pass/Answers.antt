@@ -5,8 +5,8 @@ use Rattle.leaf_array.specs.Pairs.{IsAscending}
 use Rattle.tree_index.specs.Shape.{AllKeys}
 use Rattle.versions.specs.Changes.{ahead, apply_delta}
 use Rattle.versions.specs.Cuts.{pairs_in}
-use Rattle.versions.specs.Cutting.{IsPassedBy, IsReachedBy, IsSized, Joins, between, given, turns}
-use Rattle.versions.specs.Gone.{is_gone, without}
+use Rattle.versions.specs.Cutting.{IsPassedBy, IsReachedBy, IsSegmentSized, Joins, between, given_pairs, turn_count}
+use Rattle.versions.specs.Gone.{is_gone, without_gone}
 use Rattle.versions.proofs.FilterLemmas.{kept_upto, on_test}
 use Rattle.versions.proofs.GapLemmas.{all_alike, alike_turns, last_answer, turns_both}
 use Rattle.versions.proofs.MergeLemmas.{all_slice, first_behind, pairs_behind_rise, rising_part, taken, thrifty_joined, thrifty_none, thrifty_paid, thrifty_passed, tight_at}
@@ -24,8 +24,8 @@ returns-then-covers-clause-list g c =
     let blocks = g.O.BaseVersion.blocks c.args.old.now in
     let gone = c.args.gone.now in
     let b = get_some blocks c.args.place c.requires.within in
-    let none : without cmp gone (pairs_in (drop c.args.place blocks)) ≡ without cmp gone (pairs_in (drop (c.args.place + 1) blocks)) = ap (without cmp gone) (block_at c.args.place blocks b.0 (sym b.1)) ∙ without_covered cmp gone b.0 (pairs_in (drop (c.args.place + 1) blocks)) (c.if-covers.ensures refl b.0 b.1) in
-    ap (λ ps. given (g.O.BaseVersion.named c.args.old.now) c.args.out.now ++ apply_delta cmp c.args.changes.now ps) (sym none)
+    let none : without_gone cmp gone (pairs_in (drop c.args.place blocks)) ≡ without_gone cmp gone (pairs_in (drop (c.args.place + 1) blocks)) = ap (without_gone cmp gone) (block_at c.args.place blocks b.0 (sym b.1)) ∙ without_covered cmp gone b.0 (pairs_in (drop (c.args.place + 1) blocks)) (c.if-covers.ensures refl b.0 b.1) in
+    ap (λ ps. given_pairs (g.O.BaseVersion.named c.args.old.now) c.args.out.now ++ apply_delta cmp c.args.changes.now ps) (sym none)
 
 pub returns-then-covers-clause-thrifty : goal.returns-then-covers-clause-thrifty
 returns-then-covers-clause-thrifty g c = λ budget last t.
@@ -33,8 +33,8 @@ returns-then-covers-clause-thrifty g c = λ budget last t.
     let blocks = g.O.BaseVersion.blocks c.args.old.now in
     let gone = c.args.gone.now in
     let b = get_some blocks c.args.place c.requires.within in
-    let sized = all_slice (IsSized g.row.S) blocks c.args.place b.0 c.requires.old.sizes b.1 in
-    let turned = ap (turns (is_gone cmp gone) last) (block_at c.args.place blocks b.0 (sym b.1)) ∙ alike_turns (is_gone cmp gone) last true b.0 (pairs_in (drop (c.args.place + 1) blocks)) sized.0 (c.if-covers.ensures refl b.0 b.1) in
+    let sized = all_slice (IsSegmentSized g.row.S) blocks c.args.place b.0 c.requires.old.sizes b.1 in
+    let turned = ap (turn_count (is_gone cmp gone) last) (block_at c.args.place blocks b.0 (sym b.1)) ∙ alike_turns (is_gone cmp gone) last true b.0 (pairs_in (drop (c.args.place + 1) blocks)) sized.0 (c.if-covers.ensures refl b.0 b.1) in
     (true, thrifty_passed g.row.S budget (length c.args.changes.now) (is_gone cmp gone) last (drop c.args.place blocks) (drop (c.args.place + 1) blocks) c.args.out.now turned t)
 
 -- ---- one that is merged
@@ -54,16 +54,16 @@ returns-then-touches-clause-thrifty g c = λ budget last t.
     let found = get_some blocks c.args.place c.requires.within in
     let b = found.0 in
     let here = sym found.1 in
-    let sized = all_slice (IsSized g.row.S) blocks c.args.place b c.requires.old.sizes found.1 in
+    let sized = all_slice (IsSegmentSized g.row.S) blocks c.args.place b c.requires.old.sizes found.1 in
     let fewer' = kept_upto (λ k. not (test k)) b in
     let e = c.in_ok-merge_segment.ensures in
     let rest = drop c.args.place blocks in
     let rest' = drop (c.args.place + 1) blocks in
     let next = last_answer test last b in
-    let turned : turns test last (pairs_in rest) ≡ turns test last b + turns test next (pairs_in rest') = ap (turns test last) (block_at c.args.place blocks b here) ∙ turns_both test last b (pairs_in rest') in
+    let turned : turn_count test last (pairs_in rest) ≡ turn_count test last b + turn_count test next (pairs_in rest') = ap (turn_count test last) (block_at c.args.place blocks b here) ∙ turns_both test last b (pairs_in rest') in
     let left = length c.args.changes.now in
     let left' = length c.merge_segment.new.changes in
-    let n = length (without cmp gone b) in
+    let n = length (without_gone cmp gone b) in
     let small : n ≤ g.row.S = omega (arith, fewer', sized.1) in
     let fewer = e.fewer in
     let paid = thrifty_paid g.row.S c.requires.whole.least c.args.out.now c.merge_segment.new.out budget n left left' test last next rest rest' small c.requires.whole.room t (e.filled b here) fewer in
@@ -71,7 +71,7 @@ returns-then-touches-clause-thrifty g c = λ budget last t.
       next,
       elim (cases_lt left' left) [
         | inl less ↦ paid (omega (arith, less, turned))
-        | inr same ↦ elim (eqb_tells (turns test last b) 0) [
+        | inr same ↦ elim (eqb_tells (turn_count test last b) 0) [
           | inr some ↦ let more = some.1 in paid (omega (arith, more, turned, fewer))
           | inl z ↦
               let alike = all_alike test last b z.1 in
@@ -97,14 +97,14 @@ returns-then-joins-clause-thrifty g c = λ budget last t.
     let test = is_gone cmp gone in
     let b = c.segment.result.now.pairs in
     let here = c.segment.ensures in
-    let sized = all_slice (IsSized g.row.S) blocks c.args.place b c.requires.old.sizes (sym here) in
+    let sized = all_slice (IsSegmentSized g.row.S) blocks c.args.place b c.requires.old.sizes (sym here) in
     let apart = (c.if-touches.ensures.passed refl b here).1 in
     let same = ap length (without_all cmp gone b apart) in
     let e = c.in_ok-merge_segment-2.ensures in
     let rest = drop c.args.place blocks in
     let rest' = drop (c.args.place + 1) blocks in
-    let turned : turns test last (pairs_in rest) ≡ _ = ap (turns test last) (block_at c.args.place blocks b here) ∙ alike_turns test last false b (pairs_in rest') sized.0 apart in
-    let n = length (without cmp gone b) in
+    let turned : turn_count test last (pairs_in rest) ≡ _ = ap (turn_count test last) (block_at c.args.place blocks b here) ∙ alike_turns test last false b (pairs_in rest') sized.0 apart in
+    let n = length (without_gone cmp gone b) in
     let size = c.len.ensures.count in
     let joins = subst (λ m. Joins g.row.S m c.args.out.now) (size ∙ sym same) (c.if-joins.ensures.0 refl) in
     (false, thrifty_joined g.row.S c.requires.whole.least c.args.out.now c.merge_segment-then-joins.new.out budget n _ _ test last false rest rest' (omega (arith, same, sized.1)) c.requires.whole.room t (e.filled b here) e.fewer refl (omega (arith, turned)) joins b (first_behind c.args.place blocks ∙ sym here) (sym same))
@@ -128,14 +128,14 @@ take_stretch-requires-clause-apart g c =
     let less = c.stretch_end-end.ensures.from in
     let each = each_from (λ d. IsPassedBy cmp cs d × AllKeys (λ k. is_gone cmp gone k ≡ false) d) blocks place end (c.if-touches.ensures.passed refl) c.stretch_end-end.ensures.passed in
     let le : place ≤ end = omega (arith, less) in
-    let given' = given (g.O.BaseVersion.named c.args.old.now) out in
-    let up : IsAscending cmp (given' ++ pairs_in (between place end blocks)) = rising_part cmp given' (pairs_in (between place end blocks)) (apply_delta cmp cs (without cmp gone (pairs_in (drop end blocks)))) (ahead cmp cs gone place blocks) (stretch_ahead g.met.K.Ord.total blocks cs gone place end le each) c.requires.rising in
+    let given' = given_pairs (g.O.BaseVersion.named c.args.old.now) out in
+    let up : IsAscending cmp (given' ++ pairs_in (between place end blocks)) = rising_part cmp given' (pairs_in (between place end blocks)) (apply_delta cmp cs (without_gone cmp gone (pairs_in (drop end blocks)))) (ahead cmp cs gone place blocks) (stretch_ahead g.met.K.Ord.total blocks cs gone place end le each) c.requires.rising in
     let size = c.len.ensures.count in
     let not_joined : Joins g.row.S (length b) out → ⊥ = λ j. false≢true (c.if-joins.ensures.1 (subst (λ n. Joins g.row.S n out) (sym size) j)) in
     record {
       block = b;
       there = sym seg;
-      sized = all_slice (IsSized g.row.S) blocks place b c.requires.old.sizes (sym seg);
+      sized = all_slice (IsSegmentSized g.row.S) blocks place b c.requires.old.sizes (sym seg);
       rising = rising_part cmp given' b (pairs_in (between (place + 1) end blocks)) (pairs_in (between place end blocks)) (pairs_between blocks place end b (omega (arith, less)) seg) up;
       closed = λ z some. elim (cases_lt g.row.S (out.row.last + length b)) [
         | inl more ↦ more
@@ -158,7 +158,7 @@ take_stretch-requires-clause-rising g c =
     let less = c.stretch_end-end.ensures.from in
     let each = each_from (λ d. IsPassedBy cmp cs d × AllKeys (λ k. is_gone cmp gone k ≡ false) d) blocks place end (c.if-touches.ensures.passed refl) c.stretch_end-end.ensures.passed in
     let le : place ≤ end = omega (arith, less) in
-    rising_part cmp (given (g.O.BaseVersion.named c.args.old.now) c.args.out.now) (pairs_in (between place end blocks)) (apply_delta cmp cs (without cmp gone (pairs_in (drop end blocks)))) (ahead cmp cs gone place blocks) (stretch_ahead g.met.K.Ord.total blocks cs gone place end le each) c.requires.rising
+    rising_part cmp (given_pairs (g.O.BaseVersion.named c.args.old.now) c.args.out.now) (pairs_in (between place end blocks)) (apply_delta cmp cs (without_gone cmp gone (pairs_in (drop end blocks)))) (ahead cmp cs gone place blocks) (stretch_ahead g.met.K.Ord.total blocks cs gone place end le each) c.requires.rising
 
 pub returns-clause-list : goal.returns-clause-list
 returns-clause-list g c =
@@ -172,7 +172,7 @@ returns-clause-list g c =
     let less = c.stretch_end-end.ensures.from in
     let each = each_from (λ d. IsPassedBy cmp cs d × AllKeys (λ k. is_gone cmp gone k ≡ false) d) blocks place end (c.if-touches.ensures.passed refl) c.stretch_end-end.ensures.passed in
     let le : place ≤ end = omega (arith, less) in
-    taken (given named c.args.out.now) (given named c.take_stretch.new.out) (pairs_in (between place end blocks)) (apply_delta cmp cs (without cmp gone (pairs_in (drop end blocks)))) (ahead cmp cs gone place blocks) c.in_ok-take_stretch.ensures.pairs (stretch_ahead g.met.K.Ord.total blocks cs gone place end le each)
+    taken (given_pairs named c.args.out.now) (given_pairs named c.take_stretch.new.out) (pairs_in (between place end blocks)) (apply_delta cmp cs (without_gone cmp gone (pairs_in (drop end blocks)))) (ahead cmp cs gone place blocks) c.in_ok-take_stretch.ensures.pairs (stretch_ahead g.met.K.Ord.total blocks cs gone place end le each)
 
 pub returns-clause-thrifty : goal.returns-clause-thrifty
 returns-clause-thrifty g c = λ budget last t.
@@ -188,7 +188,7 @@ returns-clause-thrifty g c = λ budget last t.
     let within = c.stretch_end-end.ensures.within in
     let each = each_from (λ d. IsPassedBy cmp cs d × AllKeys (λ k. is_gone cmp gone k ≡ false) d) blocks place end (c.if-touches.ensures.passed refl) c.stretch_end-end.ensures.passed in
     let le : place ≤ end = omega (arith, less) in
-    let sized = all_slice (IsSized g.row.S) blocks place b c.requires.old.sizes (sym seg) in
+    let sized = all_slice (IsSegmentSized g.row.S) blocks place b c.requires.old.sizes (sym seg) in
     let turned = stretch_turns g.met.K.Ord.total blocks cs gone place end le each last (some_between blocks place end b (omega (arith, less)) seg sized.0) in
     let same = c.in_ok-take_stretch.ensures.trees in
     let before = get_some blocks (end - 1) (omega (arith, less, within)) in

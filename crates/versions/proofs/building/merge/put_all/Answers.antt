@@ -1,7 +1,7 @@
 use Rattle.std.proofs.Common.{◌++◌, [], append-nil, drop, length, refl, sym, ap, ◌∙◌, subst, arith}
 use Rattle.leaf_array.specs.Pairs.{IsAscending}
 use Rattle.versions.specs.Changes.{apply_delta, pair_left}
-use Rattle.versions.specs.Cutting.{given}
+use Rattle.versions.specs.Cutting.{given_pairs}
 use Rattle.versions.proofs.CuttingLemmas.{cutting_same, filled_same, given_same}
 use Rattle.versions.proofs.MergeLemmas.{filled_then, head_of, length_first, none_of, rest_of_changes, rising_part, taken}
 use Rattle.versions.proofs.building.merge.put_all.Goals as goal
@@ -25,7 +25,7 @@ put-requires-clause-rising g c =
     let k = c.in-Some.changed.now in
     let to = c.in-Some.to.now in
     let split = rest_of_changes g.met.K.Ord.total cs [] k to (head_of cs (k, to) c.in-Some.ensures) refl in
-    rising_part cmp (given (g.O.BaseVersion.named c.args.old.now) c.loop-changed.out) (pair_left k to) (apply_delta cmp (drop 1 cs) []) (apply_delta cmp cs []) split (subst (IsAscending cmp) (sym i.list) c.requires.rising)
+    rising_part cmp (given_pairs (g.O.BaseVersion.named c.args.old.now) c.loop-changed.out) (pair_left k to) (apply_delta cmp (drop 1 cs) []) (apply_delta cmp cs []) split (subst (IsAscending cmp) (sym i.list) c.requires.rising)
 
 pub loop-changed-preserved : goal.loop-changed-preserved
 loop-changed-preserved g c =
@@ -42,7 +42,7 @@ loop-changed-preserved g c =
     let next = ap length c.step.ensures in
     record {
       whole = e.whole;
-      list = taken (given named c.loop-changed.out) (given named c.put.new.out) (pair_left k to) (apply_delta cmp c.step.new.self []) (apply_delta cmp cs []) e.pairs split ∙ i.list;
+      list = taken (given_pairs named c.loop-changed.out) (given_pairs named c.put.new.out) (pair_left k to) (apply_delta cmp c.step.new.self []) (apply_delta cmp cs []) e.pairs split ∙ i.list;
       filled = filled_then g.row.S _ (length cs) _ _ _ _ i.filled (record { spent = (let x = e.filled.spent in omega (arith, x, long, next)); some = e.filled.some; none = e.filled.none });
     }
 
@@ -50,6 +50,6 @@ pub returns-clause-list : goal.returns-clause-list
 returns-clause-list g c =
     let cmp = g.K.Ord.cmp in
     let i = c.loop-changed.invariant in
-    let given' = given (g.O.BaseVersion.named c.args.old.now) c.loop-changed.out in
+    let given' = given_pairs (g.O.BaseVersion.named c.args.old.now) c.loop-changed.out in
     let none = none_of c.loop-changed.changes c.in_default.ensures in
     sym (append-nil given') ∙ (sym (ap (λ cs. given' ++ apply_delta cmp cs []) none) ∙ i.list)

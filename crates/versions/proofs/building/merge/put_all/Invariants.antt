@@ -1,6 +1,6 @@
 use Rattle.std.proofs.Common.{◌≡◌, ◌++◌, [], length}
 use Rattle.versions.specs.Changes.{apply_delta}
-use Rattle.versions.specs.Cutting.{IsCutting, IsFilled, given}
+use Rattle.versions.specs.Cutting.{IsCutting, GivesNoMoreThanRead, given_pairs}
 use Rattle.versions.proofs.building.merge.put_all.Given as goal
 
 -- what is given, and what is left
@@ -10,8 +10,8 @@ invariant-loop-changed g l =
     let named = g.O.BaseVersion.named l.old in
     record {
       whole : IsCutting named cmp g.row.S (g.O.BaseVersion.blocks l.old) l.out;
-      list : given named l.out ++ apply_delta cmp l.changes [] ≡ given named l.fn.out ++ apply_delta cmp l.fn.changes [];
-      filled : IsFilled g.row.S (length l.fn.changes) (length l.changes) l.fn.out l.out;
+      list : given_pairs named l.out ++ apply_delta cmp l.changes [] ≡ given_pairs named l.fn.out ++ apply_delta cmp l.fn.changes [];
+      filled : GivesNoMoreThanRead g.row.S (length l.fn.changes) (length l.changes) l.fn.out l.out;
     }
 
 abbrev pub decreases-loop-changed : goal.decreases-loop-changed

@@ -1,11 +1,11 @@
 use Rattle.std.proofs.Common.{◌≡◌, ◌++◌, ◌∷◌, [], Some, map, ap, ◌∙◌, subst}
 use Rattle.std.proofs.lemmas.List.{map-append}
 use Rattle.versions.specs.Cuts.{greatest_key}
-use Rattle.versions.specs.Parts.{IsMade}
+use Rattle.versions.specs.Parts.{HasMadeTree}
 use Rattle.versions.proofs.building.segments.close.Goals as goal
 
 pub returns-clause-parts : goal.returns-clause-parts
-returns-clause-parts g c = (c.in_ok-part.part, subst (λ t. IsMade t c.in_ok-part.part) c.replace.ensures.value c.in_ok-part.ensures, c.in_ok-give.ensures.parts)
+returns-clause-parts g c = (c.in_ok-part.part, subst (λ t. HasMadeTree t c.in_ok-part.part) c.replace.ensures.value c.in_ok-part.ensures, c.in_ok-give.ensures.parts)
 
 pub returns-clause-separators : goal.returns-clause-separators
 returns-clause-separators g c =

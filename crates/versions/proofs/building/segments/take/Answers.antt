@@ -1,6 +1,6 @@
 use Rattle.std.proofs.Common.{◌++◌, sym, ap, ◌∙◌}
 use Rattle.tree_index.proofs.WayLemmas.{some_same}
-use Rattle.versions.specs.Cutting.{given}
+use Rattle.versions.specs.Cutting.{given_pairs}
 use Rattle.versions.proofs.CuttingLemmas.{cutting_taken, given_taken}
 use Rattle.versions.proofs.building.segments.take.Goals as goal
 
@@ -19,7 +19,7 @@ returns-clause-pairs g c = λ b there.
     let t = c.in_ok-take_over.ensures in
     let is = some_same (t.part.1 ∙ a.there) in
     let same = some_same (sym a.there ∙ there) in
-    given_taken c.requires.whole c.args.place a c.seal.new.out c.take_over.new.out t.part.0 s.pairs s.tail is t.part.2 t.tail ∙ ap (λ ps. given (g.O.BaseVersion.named c.args.old.now) c.args.out.now ++ ps) same
+    given_taken c.requires.whole c.args.place a c.seal.new.out c.take_over.new.out t.part.0 s.pairs s.tail is t.part.2 t.tail ∙ ap (λ ps. given_pairs (g.O.BaseVersion.named c.args.old.now) c.args.out.now ++ ps) same
 
 pub returns-clause-tail : goal.returns-clause-tail
 returns-clause-tail g c = ap (λ t. t.pairs) c.in_ok-take_over.ensures.tail ∙ c.in_ok-seal.ensures.tail

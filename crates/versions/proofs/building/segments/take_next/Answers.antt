@@ -1,7 +1,7 @@
 use Rattle.std.proofs.Common.{◌++◌, append-nil, length, refl, sym, ap, ◌∙◌, arith}
 use Rattle.tree_index.proofs.WayLemmas.{some_same}
 use Rattle.versions.specs.Cuts.{pairs_in}
-use Rattle.versions.specs.Cutting.{given}
+use Rattle.versions.specs.Cutting.{given_pairs}
 use Rattle.versions.specs.Parts.{blocks_of_parts}
 use Rattle.versions.proofs.CuttingLemmas.{cutting_taken, given_taken}
 use Rattle.versions.proofs.building.segments.take_next.Goals as goal
@@ -28,4 +28,4 @@ returns-clause-pairs g c = λ b there.
     let same = some_same (sym a.there ∙ there) in
     let front = pairs_in (blocks_of_parts (g.O.BaseVersion.named c.args.old.now) out.row.parts.items) in
     let all = sym (append-nil front) ∙ ap (λ ps. front ++ ps) (sym none) in
-    given_taken c.requires.whole c.args.place a out c.take_over.new.out t.part.0 all none is t.part.2 t.tail ∙ ap (λ ps. given (g.O.BaseVersion.named c.args.old.now) out ++ ps) same
+    given_taken c.requires.whole c.args.place a out c.take_over.new.out t.part.0 all none is t.part.2 t.tail ∙ ap (λ ps. given_pairs (g.O.BaseVersion.named c.args.old.now) out ++ ps) same

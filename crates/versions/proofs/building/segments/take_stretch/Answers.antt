@@ -1,7 +1,7 @@
 use Rattle.std.proofs.Common.{◌≡◌, ◌++◌, ◌+◌, ◌-◌, ◌<◌, append-nil, length, slice_get, sym, ap, ◌∙◌, subst, arith}
 use Rattle.leaf_array.specs.Pairs.{IsAscending}
 use Rattle.versions.specs.Cuts.{pairs_in}
-use Rattle.versions.specs.Cutting.{IsSized, between, given}
+use Rattle.versions.specs.Cutting.{IsSegmentSized, between, given_pairs}
 use Rattle.versions.proofs.MergeLemmas.{all_slice, rising_part, taken, tight_at}
 use Rattle.versions.proofs.SeparatorSearchLemmas.{get_some}
 use Rattle.versions.proofs.StretchLemmas.{between_none, pairs_between}
@@ -17,7 +17,7 @@ loop-place-init g c =
     let e = c.in_ok-take.ensures in
     record {
       whole = e.whole;
-      pairs = taken (given named c.args.out.now) (given named c.take.new.out) a.block (pairs_in (between (from + 1) upto blocks)) (pairs_in (between from upto blocks)) (e.pairs a.block a.there) (pairs_between blocks from upto a.block c.requires.some (sym a.there));
+      pairs = taken (given_pairs named c.args.out.now) (given_pairs named c.take.new.out) a.block (pairs_in (between (from + 1) upto blocks)) (pairs_in (between from upto blocks)) (e.pairs a.block a.there) (pairs_between blocks from upto a.block c.requires.some (sym a.there));
       trees = e.trees;
       none = e.tail;
       last = λ b here. let same : from + 1 - 1 ≡ from = omega arith in e.last b (sym (here ∙ ap (slice_get blocks) same));
@@ -45,8 +45,8 @@ take_next-requires-clause-apart g c =
     record {
       block = b.0;
       there = b.1;
-      sized = all_slice (IsSized g.row.S) blocks place b.0 c.requires.old.sizes b.1;
-      rising = rising_part cmp (given named c.loop-place.out) b.0 (pairs_in (between (place + 1) upto blocks)) (pairs_in (between place upto blocks)) (pairs_between blocks place upto b.0 less (sym b.1)) (subst (IsAscending cmp) (sym i.pairs) c.requires.rising);
+      sized = all_slice (IsSegmentSized g.row.S) blocks place b.0 c.requires.old.sizes b.1;
+      rising = rising_part cmp (given_pairs named c.loop-place.out) b.0 (pairs_in (between (place + 1) upto blocks)) (pairs_in (between place upto blocks)) (pairs_between blocks place upto b.0 less (sym b.1)) (subst (IsAscending cmp) (sym i.pairs) c.requires.rising);
       closed = λ z some. omega (arith, more, last);
       opened = λ some. let none = ap length i.none in absurd (omega (arith, some, none));
     }
@@ -65,7 +65,7 @@ loop-place-preserved g c =
     let b = get_some blocks place (omega (arith, less, within)) in
     record {
       whole = e.whole;
-      pairs = taken (given named c.loop-place.out) (given named c.take_next.new.out) b.0 (pairs_in (between (place + 1) upto blocks)) (pairs_in (between place upto blocks)) (e.pairs b.0 b.1) (pairs_between blocks place upto b.0 less (sym b.1)) ∙ i.pairs;
+      pairs = taken (given_pairs named c.loop-place.out) (given_pairs named c.take_next.new.out) b.0 (pairs_in (between (place + 1) upto blocks)) (pairs_in (between place upto blocks)) (e.pairs b.0 b.1) (pairs_between blocks place upto b.0 less (sym b.1)) ∙ i.pairs;
       trees = e.trees ∙ i.trees;
       none = e.tail;
       last = λ d here. let same : place + 1 - 1 ≡ place = omega arith in e.last d (sym (here ∙ ap (slice_get blocks) same));
@@ -76,7 +76,7 @@ loop-place-preserved g c =
 pub returns-clause-pairs : goal.returns-clause-pairs
 returns-clause-pairs g c =
     let blocks = g.O.BaseVersion.blocks c.args.old.now in
-    let given' = given (g.O.BaseVersion.named c.args.old.now) c.loop-place.out in
+    let given' = given_pairs (g.O.BaseVersion.named c.args.old.now) c.loop-place.out in
     let i = c.loop-place.invariant in
     let upto = i.upto in
     let all : c.loop-place.place ≡ c.args.upto = (let no = c.loop-place-test.false in omega (arith, no, upto)) in

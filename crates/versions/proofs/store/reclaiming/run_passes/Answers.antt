@@ -1,7 +1,7 @@
 use Rattle.std.proofs.Common.{◌≡◌, ℕ, refl, ap, ◌∙◌, arith, true}
 use Rattle.sdd_base.specs.Passing.{accelerated, passed_times}
 use Rattle.sdd_base.specs.State.{State, local_at, with_local}
-use Rattle.sdd_base.specs.Steps.{closed}
+use Rattle.sdd_base.specs.Steps.{guard_closed}
 use Rattle.versions.specs.Items.{held_by}
 use Rattle.versions.proofs.PassLemmas.{passing_closed, passing_known, passing_next}
 use Rattle.versions.proofs.store.reclaiming.run_passes.Goals as goal
@@ -20,7 +20,7 @@ loop-preserved g c =
     let p = c.args.writer in
     let own = c.in-Ok.ensures.opened.0 in
     let fast = c.accelerate.ensures.set ∙ ap (λ (q : ℕ). with_local q (record (local_at c.new.new.w q) { accelerated = true }) c.new.new.w) own in
-    let pass = c.close.ensures.closed ∙ ap (λ (q : ℕ). closed q c.accelerate.new.w) own ∙ ap (λ (w : State _). closed p w) fast ∙ ap (λ (w : State _). closed p (accelerated p w)) c.in-Ok.ensures.opened.1 in
+    let pass = c.close.ensures.closed ∙ ap (λ (q : ℕ). guard_closed q c.accelerate.new.w) own ∙ ap (λ (w : State _). guard_closed p w) fast ∙ ap (λ (w : State _). guard_closed p (accelerated p w)) c.in-Ok.ensures.opened.1 in
     passing_next g.K.Ord.cmp c.loop.counter c.args.w.now c.loop.w c.requires.0 p c.requires.1 c.requires.2 c.requires.3 c.loop.invariant c.close.new.w pass
 
 pub returns : goal.returns

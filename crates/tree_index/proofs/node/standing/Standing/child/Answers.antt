@@ -4,7 +4,7 @@ use Rattle.std.specs.BTreeMap.{is_at}
 use Rattle.std.specs.Map.{lookup_entry}
 use Rattle.leaf_array.specs.Cells.{Cells}
 use Rattle.tree_index.specs.declared.node.InnerNode.{InnerNode}
-use Rattle.tree_index.specs.Shape.{Content, IsTree, pairs_under}
+use Rattle.tree_index.specs.Shape.{ArenaContent, IsTree, pairs_under}
 use Rattle.tree_index.specs.Content.{content_of}
 use Rattle.tree_index.specs.Standing.{IsAround}
 use Rattle.tree_index.proofs.WayLemmas.{IsStep, step_down}
@@ -13,7 +13,7 @@ use Rattle.tree_index.proofs.node.standing.Standing.child.Goals as goal
 
 pub unreachable-requires : goal.unreachable-requires
 unreachable-requires g c =
-    let a : Content g.row.K.Denot g.row.V.Denot = content_of c.args.self.now.arenas.now in
+    let a : ArenaContent g.row.K.Denot g.row.V.Denot = content_of c.args.self.now.arenas.now in
     let s = c.args.self.now in
     let deeper : s.height ≡ suc (s.height - 1) = omega (arith, c.requires.node) in
     let t = subst (λ (n : ℕ). IsTree g.K.Ord.cmp a n s.at c.requires.stands.low c.requires.stands.high) deeper c.requires.stands.tree in
@@ -22,7 +22,7 @@ unreachable-requires g c =
 
 pub returns-clause-stands : goal.returns-clause-stands
 returns-clause-stands g c =
-    let a : Content g.row.K.Denot g.row.V.Denot = content_of c.args.self.now.arenas.now in
+    let a : ArenaContent g.row.K.Denot g.row.V.Denot = content_of c.args.self.now.arenas.now in
     let s = c.args.self.now in
     let deeper : s.height ≡ suc (s.height - 1) = omega (arith, c.requires.node) in
     let t = subst (λ (n : ℕ). IsTree g.K.Ord.cmp a n s.at c.requires.stands.low c.requires.stands.high) deeper c.requires.stands.tree in
@@ -33,7 +33,7 @@ returns-clause-stands g c =
 
 pub returns-clause-found : goal.returns-clause-found
 returns-clause-found g c =
-    let a : Content g.row.K.Denot g.row.V.Denot = content_of c.args.self.now.arenas.now in
+    let a : ArenaContent g.row.K.Denot g.row.V.Denot = content_of c.args.self.now.arenas.now in
     let s = c.args.self.now in
     let key = c.args.key.now in
     let deeper : s.height ≡ suc (s.height - 1) = omega (arith, c.requires.node) in
@@ -44,7 +44,7 @@ returns-clause-found g c =
 
 pub returns-clause-around : goal.returns-clause-around
 returns-clause-around g c =
-    let a : Content g.row.K.Denot g.row.V.Denot = content_of c.args.self.now.arenas.now in
+    let a : ArenaContent g.row.K.Denot g.row.V.Denot = content_of c.args.self.now.arenas.now in
     let s = c.args.self.now in
     let key = c.args.key.now in
     let deeper : s.height ≡ suc (s.height - 1) = omega (arith, c.requires.node) in

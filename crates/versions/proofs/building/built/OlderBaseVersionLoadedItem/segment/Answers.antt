@@ -3,7 +3,7 @@ use Rattle.std.specs.Prelude.{slice_get}
 use Rattle.sdd_base.specs.State.{value_at}
 use Rattle.versions.specs.Items.{slots_of}
 use Rattle.versions.specs.Placing.{Base}
-use Rattle.versions.specs.Versions.{IsSegment, blocks_of, pairs_of}
+use Rattle.versions.specs.Versions.{IsSegment, blocks_of, segment_pairs}
 use Rattle.versions.proofs.SlotLemmas.{block_at, segment_at, slots_many}
 use Rattle.versions.proofs.building.built.OlderBaseVersionLoadedItem.segment.Goals as goal
 
@@ -12,7 +12,7 @@ tree-requires g c =
     let w = c.self.inside.w.now in
     let d = c.self.inside.dir.now in
     let h = subst (λ (o : Base _ _ _). c.args.place < length (blocks_of (value_at o.state) o.directory)) (sym c.self.view_is) c.requires in
-    let within = slots_many (λ i. pairs_of (value_at w i)) (slots_of d) c.args.place h in
+    let within = slots_many (λ i. segment_pairs (value_at w i)) (slots_of d) c.args.place h in
     (omega arith, segment_at d.segments.items c.index.result.now c.args.place c.index.ensures within (λ i. IsSegment (value_at w i)) c.self.invariant.segments)
 
 pub returns : goal.returns
@@ -20,6 +20,6 @@ returns g c =
     let w = c.self.inside.w.now in
     let d = c.self.inside.dir.now in
     let h = subst (λ (o : Base _ _ _). c.args.place < length (blocks_of (value_at o.state) o.directory)) (sym c.self.view_is) c.requires in
-    let within = slots_many (λ i. pairs_of (value_at w i)) (slots_of d) c.args.place h in
+    let within = slots_many (λ i. segment_pairs (value_at w i)) (slots_of d) c.args.place h in
     subst (λ (o : Base _ _ _). Some c.tree.result.now.pairs ≡ slice_get (blocks_of (value_at o.state) o.directory) c.args.place) c.self.view_is
-    (ap (λ ps. Some ps) c.tree.ensures.pairs ∙ sym (block_at d.segments.items c.index.result.now c.args.place c.index.ensures within (λ i. pairs_of (value_at w i))))
+    (ap (λ ps. Some ps) c.tree.ensures.pairs ∙ sym (block_at d.segments.items c.index.result.now c.args.place c.index.ensures within (λ i. segment_pairs (value_at w i))))

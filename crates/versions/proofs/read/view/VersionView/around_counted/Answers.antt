@@ -1,5 +1,5 @@
 use Rattle.std.proofs.Common.{◌<◌, ◌≤◌, ◌+◌, ◌*◌, ◌-◌, ◌^◌, List, length, sym, subst, arith}
-use Rattle.versions.specs.CursorEnds.{IsAround}
+use Rattle.versions.specs.CursorEnds.{IsBlockAround}
 use Rattle.versions.specs.SeparatorSearch.{IsPlaceOf}
 use Rattle.versions.specs.Views.{blocks_at}
 use Rattle.versions.proofs.HalvingLemmas.{digits_hold, separators_fewer}
@@ -12,7 +12,7 @@ returns-clause-place g c =
     let blocks = blocks_at (g.W.Trees.pairs c.self.inside.source.now) dir in
     let at = subst (λ keys. IsPlaceOf g.K.Ord.cmp c.args.key.now keys c.place_of_counted.result) c.deref.ensures.value c.place_of_counted.ensures.place in
     let some = subst (λ bs. 0 < length bs) (sym c.self.view_is) c.requires in
-    subst (λ bs. IsAround g.K.Ord.cmp c.args.key.now bs c.place_of_counted.result) c.self.view_is (around_place g.K.Ord.cmp g.met.K.Ord.total c.args.key.now blocks dir.separators.items c.place_of_counted.result c.self.invariant.ordered at some)
+    subst (λ bs. IsBlockAround g.K.Ord.cmp c.args.key.now bs c.place_of_counted.result) c.self.view_is (around_place g.K.Ord.cmp g.met.K.Ord.total c.args.key.now blocks dir.separators.items c.place_of_counted.result c.self.invariant.ordered at some)
 
 -- there is one separator less than segments
 pub returns-clause-cost : goal.returns-clause-cost

@@ -4,7 +4,7 @@ use Rattle.std.specs.Range.Bound.{bound_map}
 use Rattle.tree_index.specs.Cursor.{back, deref_pair}
 use Rattle.tree_index.specs.declared.cursor.End.TheVariants.{At, Done}
 use Rattle.versions.specs.Cuts.{pairs_in}
-use Rattle.versions.specs.CursorEnds.{pairs_before, rear_place, StandsRear}
+use Rattle.versions.specs.CursorEnds.{pairs_before_block, rear_place, StandsRear}
 use Rattle.versions.proofs.CursorEndLemmas.{leaves_rear, on_less, on_more, rear_pair, stays_rear, IsRearStep}
 use Rattle.versions.proofs.SeparatorSearchLemmas.{inside_of}
 use Rattle.versions.proofs.read.view.VersionView.back.Goals as goal
@@ -43,8 +43,8 @@ returns-in-Some-last_before-clause-place g c =
     let stood = subst (StandsRear blocks) c.in-At.is c.requires.stands in
     let left = leaves_rear cmp blocks s t c.step_back.ensures.segment c.step_back.result stood c.step_back.ensures.cursor c.step_back.ensures.pair c.in_default.is in
     let found = c.in-Some-last_before.ensures.some in
-    let at = pairs_before blocks s.segment + stood.place in
-    let same : pairs_before blocks t.segment - 1 ≡ at - 1 = ap (λ n. n - 1) left in
+    let at = pairs_before_block blocks s.segment + stood.place in
+    let same : pairs_before_block blocks t.segment - 1 ≡ at - 1 = ap (λ n. n - 1) left in
     let some : 0 < at = subst (λ n. 0 < n) left found.0.some in
     found.0.place ∙ ap (λ n. At n) same ∙ sym (ap (λ e. back cmp upper (pairs_in blocks) (rear_place blocks e)) c.in-At.is ∙ ap (back cmp upper (pairs_in blocks)) (rear_pair cmp blocks s stood).0 ∙ on_less 0 at (At (at - 1)) Done some)
 
@@ -57,5 +57,5 @@ returns-in-None-clause-place g c =
     let upper = bound_map (λ (k : Bor g.row.K.Denot). k.now) c.args.upper in
     let stood = subst (StandsRear blocks) c.in-At.is c.requires.stands in
     let left = leaves_rear cmp blocks s t c.step_back.ensures.segment c.step_back.result stood c.step_back.ensures.cursor c.step_back.ensures.pair c.in_default.is in
-    let at = pairs_before blocks s.segment + stood.place in
+    let at = pairs_before_block blocks s.segment + stood.place in
     sym (ap (λ e. back cmp upper (pairs_in blocks) (rear_place blocks e)) c.in-At.is ∙ ap (back cmp upper (pairs_in blocks)) (rear_pair cmp blocks s stood).0 ∙ on_more 0 at (At (at - 1)) Done (omega (arith, left, c.in-None.ensures.none)))

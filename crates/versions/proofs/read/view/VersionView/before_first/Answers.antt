@@ -2,7 +2,7 @@ use Rattle.std.proofs.Common.{◌-◌, sym, ap, ◌∙◌, arith, subst}
 use Rattle.tree_index.specs.Cursor.{whole}
 use Rattle.tree_index.specs.declared.cursor.End.TheVariants.{At, Unopened}
 use Rattle.versions.specs.Cuts.{pairs_in}
-use Rattle.versions.specs.CursorEnds.{fore_place, pairs_before, rear_place, swapped, IsWalking}
+use Rattle.versions.specs.CursorEnds.{fore_place, pairs_before_block, rear_place, swapped, IsWalking}
 use Rattle.versions.specs.declared.read.position.CursorEnd.TheVariants as cursor_ends
 use Rattle.versions.proofs.FlipLemmas.{fore_inside, stands_between}
 use Rattle.versions.proofs.read.view.VersionView.before_first.Goals as goal
@@ -11,14 +11,14 @@ pub walk_at-requires : goal.walk_at-requires
 walk_at-requires g c =
     let cmp = g.K.Ord.cmp in
     let blocks = c.args.self.now in
-    let between = stands_between cmp blocks (pairs_before blocks c.args.first.segment) c.in-Some.smaller c.args.first c.requires.rising c.in-Some.ensures.some.0 c.requires.first in
+    let between = stands_between cmp blocks (pairs_before_block blocks c.args.first.segment) c.in-Some.smaller c.args.first c.requires.rising c.in-Some.ensures.some.0 c.requires.first in
     subst (λ f. IsWalking cmp blocks f (cursor_ends.At c.swapped-in-Some.result)) (sym c.swapped.ensures) (subst (λ b. IsWalking cmp blocks (swapped cmp (cursor_ends.At c.in-Some.smaller)) b) (sym c.swapped-in-Some.ensures) between.walking)
 
 pub returns-in-Some : goal.returns-in-Some
 returns-in-Some g c = λ key there absent.
     let cmp = g.K.Ord.cmp in
     let blocks = c.args.self.now in
-    let n = pairs_before blocks c.args.first.segment in
+    let n = pairs_before_block blocks c.args.first.segment in
     let found = c.in-Some.ensures.some.0 in
     let between = stands_between cmp blocks n c.in-Some.smaller c.args.first c.requires.rising found c.requires.first in
     let ends = ap (λ f. whole (pairs_in blocks) (fore_place blocks f) (rear_place blocks (cursor_ends.At c.swapped-in-Some.result))) c.swapped.ensures ∙ ap (λ b. whole (pairs_in blocks) (fore_place blocks (swapped cmp (cursor_ends.At c.in-Some.smaller))) (rear_place blocks b)) c.swapped-in-Some.ensures in (
@@ -34,6 +34,6 @@ returns-in-None g c = λ key there absent.
     let none = c.in-None.ensures.none in (
       absent,
       there ∙ none,
-      omega (arith, none, fore_inside g.K.Ord.cmp blocks (pairs_before blocks c.args.first.segment) c.args.first c.requires.first),
+      omega (arith, none, fore_inside g.K.Ord.cmp blocks (pairs_before_block blocks c.args.first.segment) c.args.first c.requires.first),
       c.walk_at-in-None.ensures ∙ ap (λ x. whole (pairs_in blocks) x Unopened) (c.requires.first.place ∙ ap (λ m. At m) none),
     )

@@ -2,7 +2,7 @@ use Rattle.std.proofs.Common.{◌+◌, ◌-◌, sym, ap, ◌∙◌, arith, subst
 use Rattle.tree_index.specs.Cursor.{whole}
 use Rattle.tree_index.specs.declared.cursor.End.TheVariants.{At, Unopened}
 use Rattle.versions.specs.Cuts.{pairs_in}
-use Rattle.versions.specs.CursorEnds.{fore_place, pairs_before, rear_place, swapped, IsWalking}
+use Rattle.versions.specs.CursorEnds.{fore_place, pairs_before_block, rear_place, swapped, IsWalking}
 use Rattle.versions.specs.declared.read.position.CursorEnd.TheVariants as cursor_ends
 use Rattle.versions.proofs.FlipLemmas.{fore_inside, stands_between}
 use Rattle.versions.proofs.read.view.VersionView.behind_last.Goals as goal
@@ -11,14 +11,14 @@ pub walk_at-requires : goal.walk_at-requires
 walk_at-requires g c =
     let cmp = g.K.Ord.cmp in
     let blocks = c.args.self.now in
-    let between = stands_between cmp blocks (pairs_before blocks (c.args.last.segment + 1)) c.args.last c.in-Some.larger c.requires.rising c.requires.last c.in-Some.ensures.some.0 in
+    let between = stands_between cmp blocks (pairs_before_block blocks (c.args.last.segment + 1)) c.args.last c.in-Some.larger c.requires.rising c.requires.last c.in-Some.ensures.some.0 in
     subst (λ f. IsWalking cmp blocks f (cursor_ends.At c.swapped-in-Some.result)) (sym c.swapped.ensures) (subst (λ b. IsWalking cmp blocks (swapped cmp (cursor_ends.At c.args.last)) b) (sym c.swapped-in-Some.ensures) between.walking)
 
 pub returns-in-Some : goal.returns-in-Some
 returns-in-Some g c = λ key there absent.
     let cmp = g.K.Ord.cmp in
     let blocks = c.args.self.now in
-    let n = pairs_before blocks (c.args.last.segment + 1) in
+    let n = pairs_before_block blocks (c.args.last.segment + 1) in
     let found = c.in-Some.ensures.some.0 in
     let between = stands_between cmp blocks n c.args.last c.in-Some.larger c.requires.rising c.requires.last found in
     let ends = ap (λ f. whole (pairs_in blocks) (fore_place blocks f) (rear_place blocks (cursor_ends.At c.swapped-in-Some.result))) c.swapped.ensures ∙ ap (λ b. whole (pairs_in blocks) (fore_place blocks (swapped cmp (cursor_ends.At c.args.last))) (rear_place blocks b)) c.swapped-in-Some.ensures in (

@@ -2,7 +2,7 @@ use Rattle.std.proofs.Common.{◌+◌, ◌≡◌, ap, ◌∙◌, arith}
 use Rattle.std.specs.declared.ops.Bound.TheVariants.{Unbounded}
 use Rattle.tree_index.proofs.InsertionPointLemmas.{start_none}
 use Rattle.tree_index.specs.Cursor.{moved_forth, next_of}
-use Rattle.versions.specs.CursorEnds.{pairs_before}
+use Rattle.versions.specs.CursorEnds.{pairs_before_block}
 use Rattle.versions.proofs.CursorEndLemmas.{block_some, found_fore, none_fore}
 use Rattle.versions.proofs.read.view.VersionView.first_behind.Goals as goal
 
@@ -22,5 +22,5 @@ returns-clause-some g c =
     let i = c.args.segment + 1 in
     let answer = c.next.ensures.steps.0 ∙ ap (next_of cmp) c.iter-cursor.ensures.cursor in
     let moved = c.next.ensures.steps.1 ∙ ap (moved_forth cmp) c.iter-cursor.ensures.cursor in
-    let starts : pairs_before c.args.self.now i ≡ pairs_before c.args.self.now i + _ = omega (arith, start_none cmp b) in
-    found_fore cmp c.args.self.now i b c.tree.ensures.pairs (pairs_before c.args.self.now i) c.next.result Unbounded starts answer c.in-Some.pair c.in-Some.is c.next.new.self moved
+    let starts : pairs_before_block c.args.self.now i ≡ pairs_before_block c.args.self.now i + _ = omega (arith, start_none cmp b) in
+    found_fore cmp c.args.self.now i b c.tree.ensures.pairs (pairs_before_block c.args.self.now i) c.next.result Unbounded starts answer c.in-Some.pair c.in-Some.is c.next.new.self moved

@@ -6,7 +6,7 @@ use Rattle.std.specs.declared.ops.Bound.TheVariants.{Unbounded}
 use Rattle.tree_index.specs.Cursor.{Cursor, before_start, moved_forth, next_of}
 use Rattle.tree_index.proofs.InsertionPointLemmas.{start_all}
 use Rattle.versions.specs.Cuts.{pairs_in}
-use Rattle.versions.specs.CursorEnds.{pairs_before, IsForeAt, IsPairAt}
+use Rattle.versions.specs.CursorEnds.{pairs_before_block, IsForeAt, IsPairAt}
 use Rattle.versions.proofs.CursorEndLemmas.{found_fore, none_fore}
 use Rattle.versions.proofs.PlaceLemmas.{next_before}
 use Rattle.versions.proofs.read.view.VersionView.first_within.Goals as goal
@@ -24,7 +24,7 @@ returns-in-Some-clause-some g c =
     found_fore cmp blocks c.place_from-segment.result b c.tree.ensures.pairs (before_start cmp lower (pairs_in blocks)) c.next.result lower starts answer c.in-Some.pair c.in-Some.is c.from-cursor.result kept
 
 -- the pairs of the segment all lie before the bound
-abbrev same_place : (g : _) (c : goal.After-first_behind g) → pairs_before c.args.self.now (c.place_from-segment.result + 1) ≡ before_start g.K.Ord.cmp (bound_map (λ k. k.now) c.args.lower) (pairs_in c.args.self.now)
+abbrev same_place : (g : _) (c : goal.After-first_behind g) → pairs_before_block c.args.self.now (c.place_from-segment.result + 1) ≡ before_start g.K.Ord.cmp (bound_map (λ k. k.now) c.args.lower) (pairs_in c.args.self.now)
 same_place g c =
     let cmp = g.K.Ord.cmp in
     let blocks = c.args.self.now in

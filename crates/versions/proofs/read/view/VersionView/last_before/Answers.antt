@@ -2,7 +2,7 @@ use Rattle.std.proofs.Common.{◌+◌, ◌-◌, ◌≡◌, ap, ◌∙◌, sym, a
 use Rattle.std.specs.declared.ops.Bound.TheVariants.{Unbounded}
 use Rattle.tree_index.proofs.InsertionPointLemmas.{end_none}
 use Rattle.tree_index.specs.Cursor.{moved_back, next_back_of, up_to_end}
-use Rattle.versions.specs.CursorEnds.{pairs_before}
+use Rattle.versions.specs.CursorEnds.{pairs_before_block}
 use Rattle.versions.proofs.CursorEndLemmas.{block_some, found_rear, none_rear}
 use Rattle.versions.proofs.PlaceLemmas.{next_before}
 use Rattle.versions.proofs.read.view.VersionView.last_before.Goals as goal
@@ -26,5 +26,5 @@ returns-clause-some g c =
     let answer = c.next_back.ensures.steps.0 ∙ ap (next_back_of cmp) c.iter-cursor.ensures.cursor in
     let moved = c.next_back.ensures.steps.1 ∙ ap (moved_back cmp) c.iter-cursor.ensures.cursor in
     let one : i + 1 ≡ c.args.segment = omega (arith, c.if-segment-eq0.false) in
-    let ends : pairs_before blocks c.args.segment ≡ pairs_before blocks i + up_to_end cmp Unbounded b = sym (ap (pairs_before blocks) one) ∙ next_before blocks i b c.tree.ensures.pairs ∙ ap (λ n. pairs_before blocks i + n) (sym (end_none cmp b)) in
-    found_rear cmp blocks i b c.tree.ensures.pairs (pairs_before blocks c.args.segment) c.next_back.result Unbounded ends answer c.in-Some.pair c.in-Some.is c.next_back.new.self moved
+    let ends : pairs_before_block blocks c.args.segment ≡ pairs_before_block blocks i + up_to_end cmp Unbounded b = sym (ap (pairs_before_block blocks) one) ∙ next_before blocks i b c.tree.ensures.pairs ∙ ap (λ n. pairs_before_block blocks i + n) (sym (end_none cmp b)) in
+    found_rear cmp blocks i b c.tree.ensures.pairs (pairs_before_block blocks c.args.segment) c.next_back.result Unbounded ends answer c.in-Some.pair c.in-Some.is c.next_back.new.self moved

@@ -5,7 +5,7 @@ use Rattle.std.specs.Range.Bound.{bound_map}
 use Rattle.std.specs.declared.ops.Bound.TheVariants.{Unbounded}
 use Rattle.tree_index.specs.Cursor.{Cursor, moved_back, next_back_of, up_to_end}
 use Rattle.versions.specs.Cuts.{pairs_in}
-use Rattle.versions.specs.CursorEnds.{pairs_before, IsRearAt, IsPairAt}
+use Rattle.versions.specs.CursorEnds.{pairs_before_block, IsRearAt, IsPairAt}
 use Rattle.versions.proofs.CursorEndLemmas.{found_rear, none_rear}
 use Rattle.versions.proofs.read.view.VersionView.last_within.Goals as goal
 
@@ -22,7 +22,7 @@ returns-in-Some-clause-some g c =
     found_rear cmp blocks c.place_upto-segment.result b c.tree.ensures.pairs (up_to_end cmp upper (pairs_in blocks)) c.next_back.result upper ends answer c.in-Some.pair c.in-Some.is c.from-cursor.result kept
 
 -- the pairs of the segment all lie behind the bound
-abbrev same_place : (g : _) (c : goal.After-last_before g) → pairs_before c.args.self.now c.place_upto-segment.result ≡ up_to_end g.K.Ord.cmp (bound_map (λ k. k.now) c.args.upper) (pairs_in c.args.self.now)
+abbrev same_place : (g : _) (c : goal.After-last_before g) → pairs_before_block c.args.self.now c.place_upto-segment.result ≡ up_to_end g.K.Ord.cmp (bound_map (λ k. k.now) c.args.upper) (pairs_in c.args.self.now)
 same_place g c =
     let cmp = g.K.Ord.cmp in
     let blocks = c.args.self.now in

@@ -1,6 +1,6 @@
 use Rattle.std.proofs.Common.{ℕ, None, set, sym, ap, ◌∙◌, subst, arith}
 use Rattle.sdd_base.specs.Place.{IsOpen}
-use Rattle.sdd_base.specs.Steps.{closed}
+use Rattle.sdd_base.specs.Steps.{guard_closed}
 use Rattle.sdd_base.specs.Tokens.{shared_cell}
 use Rattle.sdd_base.proofs.SlotLemmas.{stack_room}
 use Rattle.versions.specs.Store.{Store, gap, store_of}
@@ -30,7 +30,7 @@ invariant_of-self g c =
     let r = reader_at g.K.Ord.cmp c.self.inside.world (shared_cell c.self.inside.root) c.self.inside.readers.items c.self.invariant.0 c.args.place c.index_mut.result.now c.index_mut.ensures.value c.requires.0 c.in-Some.field-0 (rw (← shown) at c.requires.1) (sym c.replace.ensures.value ∙ c.in-Some.is) in
     let inside = r.inside in
     let participants = c.self.invariant.0.participants in
-    let now = c.close.ensures.closed ∙ ap (λ (n : ℕ). closed n c.self.inside.world) r.reads.guard in
+    let now = c.close.ensures.closed ∙ ap (λ (n : ℕ). guard_closed n c.self.inside.world) r.reads.guard in
     rw (now, c.replace.ensures.after) (store_closed g.K.Ord.cmp c.self.inside.world (shared_cell c.self.inside.root) c.self.inside.readers.items c.self.invariant.0 c.args.place (omega (arith, inside, participants)) c.in-Some.field-0 r.inside r.at, stack_given c.self.inside.readers.items c.self.inside.free c.self.invariant.1 c.args.place c.push_reserved.new.self c.in-Some.field-0 r.inside r.at c.push_reserved.ensures.items (omega (arith, c.push_reserved.ensures.capacity)))
 
 pub push_reserved-requires : goal.push_reserved-requires
@@ -50,8 +50,8 @@ returns g c =
     let r = reader_at g.K.Ord.cmp c.self.inside.world (shared_cell c.self.inside.root) c.self.inside.readers.items c.self.invariant.0 c.args.place c.index_mut.result.now c.index_mut.ensures.value c.requires.0 c.in-Some.field-0 (rw (← shown) at c.requires.1) (sym c.replace.ensures.value ∙ c.in-Some.is) in
     let inside = r.inside in
     let participants = c.self.invariant.0.participants in
-    let now = c.close.ensures.closed ∙ ap (λ (n : ℕ). closed n c.self.inside.world) r.reads.guard in
+    let now = c.close.ensures.closed ∙ ap (λ (n : ℕ). guard_closed n c.self.inside.world) r.reads.guard in
     ap (λ w. store_of w (shared_cell c.self.inside.root) (set c.self.inside.readers.items c.args.place c.replace.new.dest)) now
-    ∙ ap (λ o. store_of (closed c.args.place c.self.inside.world) (shared_cell c.self.inside.root) (set c.self.inside.readers.items c.args.place o)) c.replace.ensures.after
+    ∙ ap (λ o. store_of (guard_closed c.args.place c.self.inside.world) (shared_cell c.self.inside.root) (set c.self.inside.readers.items c.args.place o)) c.replace.ensures.after
     ∙ closed_shows g.K.Ord.cmp c.self.inside.world (shared_cell c.self.inside.root) c.self.inside.readers.items c.self.invariant.0 c.args.place (omega (arith, inside, participants)) inside
     ∙ ap (λ (x : Store _ _). record x { readers = set x.readers c.args.place None }) c.self.view_is

@@ -1,7 +1,7 @@
 use Rattle.std.proofs.Common.{◌<◌, IsSome, Some, refl, length, set, sym, ap, ◌∙◌, subst, arith}
 use Rattle.sdd_base.specs.Passing.{slot_kept}
 use Rattle.sdd_base.specs.State.{State, cell_at}
-use Rattle.sdd_base.specs.Steps.{opened}
+use Rattle.sdd_base.specs.Steps.{guard_opened}
 use Rattle.sdd_base.specs.Tokens.{shared_cell}
 use Rattle.versions.specs.Items.{held_by}
 use Rattle.std.specs.List.{slice_get}
@@ -64,7 +64,7 @@ returns-clause-opened g c =
     let known : c.in-Some.place < length c.self.inside.world.participants = omega (arith, inside, participants) in
     let named = ap slot_kept (sym c.loaded-root.ensures.1 ∙ ap (λ (w : State _). cell_at w (shared_cell c.self.inside.root)) c.in-Ok.ensures.opened.1 ∙ opened_cell g.K.Ord.cmp c.self.inside.world (shared_cell c.self.inside.root) c.self.inside.readers.items store c.in-Some.place known ∙ store.named) in
     ap (λ w. store_of w (shared_cell c.self.inside.root) (set c.self.inside.readers.items c.in-Some.place c.replace.new.dest)) c.in-Ok.ensures.opened.1
-    ∙ ap (λ o. store_of (opened held_by c.in-Some.place c.self.inside.world) (shared_cell c.self.inside.root) (set c.self.inside.readers.items c.in-Some.place o)) c.replace.ensures.after
+    ∙ ap (λ o. store_of (guard_opened held_by c.in-Some.place c.self.inside.world) (shared_cell c.self.inside.root) (set c.self.inside.readers.items c.in-Some.place o)) c.replace.ensures.after
     ∙ opened_shows g.K.Ord.cmp c.self.inside.world (shared_cell c.self.inside.root) c.self.inside.readers.items store c.in-Some.place known (record { guard = c.in-Ok.guard; root = c.loaded-root.result }) free.0 named
     ∙ ap (λ (x : Store _ _). record x { readers = set x.readers c.in-Some.place (Some x.present) }) c.self.view_is
 
