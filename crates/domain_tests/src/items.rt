@@ -193,13 +193,16 @@ fn four_threads_place_and_release_beside_each_other(rt: HostRuntime) -> Result<(
 }
 
 #[test]
-fn an_owner_crosses_threads(rt: HostRuntime) -> Result<(), Fail> {
+fn what_an_owner_lends_is_read_by_threads_and_released_by_anybody(
+    rt: HostRuntime,
+) -> Result<(), Fail> {
     let domain = Domain::new(rt.alloc(), sized(2, 2))?;
     let mut here = member(&rt, &domain);
-    let owner = placed(&rt, &domain, &mut here, 9);
-    let (seen, last) = join(&rt, || *owner.as_ref(), || 0u64);
-    assert_eq!(rt; (seen, last), (9, 0));
     let mut there = member(&rt, &domain);
+    let owner = placed(&rt, &domain, &mut here, 9);
+    let item = owner.as_ref();
+    let seen = join(&rt, || *item, || *item);
+    assert_eq!(rt; seen, (9, 9));
     assert!(rt; owner.release(&domain, &mut there));
     there.end(&domain);
     here.end(&domain);

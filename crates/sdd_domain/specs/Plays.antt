@@ -158,8 +158,8 @@ abbrev pub clone_then : {S : Type 0} → Step S → Me S Acting → ℕ → Me S
 clone_then t m n m' = (l : Lease) → Has m.0.leases l → t.word ≡ slot_word m.0.sizes l.slot → (n ≡ t.first → m' ≡ (cloning l m.0, m.1)) × (n ≢ t.first → m' ≡ m)
 
 -- the item of this owner was just retired
-abbrev pub retired : Owner → Garbage
-retired o = record { item = o.item; slot = o.slot; round = o.round; age = 0 }
+abbrev pub just_retired : Owner → Garbage
+just_retired o = record { item = o.item; slot = o.slot; round = o.round; age = 0 }
 
 -- with the last owner the item waits, with age 0; 3 is the word of an item with one owner
 abbrev pub retiring : ℕ → Lease → List Garbage → List Garbage
@@ -223,8 +223,8 @@ module _ {S : Type 0} (IsIn : Content → S → Type 0) where
   HasClaimed m k m' = (u : S) × IsIn room u × (m' ≡ (filling_at k (claimed_by m.0) m.0, (deed_home m.0 k, u) ∷ m.1))
 
   -- slot k was claimed, and nothing else was done since
-  abbrev pub IsClaimed : Me S Acting → ℕ → Type 0
-  IsClaimed m k = (m.0.filling ≡ Some (claimed_by m.0)) × (m.0.slot ≡ k) × ((u : S) × IsIn room u × (m.1 ≡ (deed_home m.0 k, u) ∷ rest m.1))
+  abbrev pub IsJustClaimed : Me S Acting → ℕ → Type 0
+  IsJustClaimed m k = (m.0.filling ≡ Some (claimed_by m.0)) × (m.0.slot ≡ k) × ((u : S) × IsIn room u × (m.1 ≡ (deed_home m.0 k, u) ∷ rest m.1))
 
   abbrev pub claim_slot_then : Step S → Me S Acting → ℕ → Me S Acting → Type 0
   claim_slot_then t m n m' = (k : ℕ) → t.word ≡ slot_word m.0.sizes k → (n ≡ 0 → HasClaimed m k m') × (n ≢ 0 → m' ≡ m)

@@ -5,7 +5,7 @@ ghost use Rattle.sdd_steps.specs.Steps.{is_ready};
 ghost use Rattle.sdd_homes.specs.declared.Owner.{Owner};
 ghost use Rattle.sdd_domain.specs.Layout.{all_words, IsSized};
 ghost use Rattle.sdd_domain.specs.Views.{spent, holding};
-ghost use Rattle.sdd_domain.specs.Plays.{others_in, first_in, joined_by, retired};
+ghost use Rattle.sdd_domain.specs.Plays.{others_in, first_in, joined_by, just_retired};
 
 use crate::board::{Acting, Home, Place, Stored, Words};
 use crate::cells;
@@ -69,7 +69,7 @@ pub(crate) fn release<T>(
     ensures seat { (place.new.table_id ≡ place.old.table_id) × (place.new.id ≡ place.old.id) }
     ensures room { length place.old.me.0.waits < sizes.now.slots }
     ensures kept { 0 < result → (o : Owner) (os : List Owner) → place.old.me.0.hand ≡ o ∷ os → place.new.me ≡ (record place.old.me.0 { hand = os }, place.old.me.1) }
-    ensures retired { result ≡ 0 → (o : Owner) (os : List Owner) → place.old.me.0.hand ≡ o ∷ os → place.new.me ≡ (record place.old.me.0 { hand = os; waits = retired o ∷ place.old.me.0.waits }, place.old.me.1) }
+    ensures retired { result ≡ 0 → (o : Owner) (os : List Owner) → place.old.me.0.hand ≡ o ∷ os → place.new.me ≡ (record place.old.me.0 { hand = os; waits = just_retired o ∷ place.old.me.0.waits }, place.old.me.1) }
 {
     cells::begin_release(words, place);
     let home = slot * (sizes.participants + 1) + number;

@@ -8,7 +8,7 @@ ghost use Rattle.sdd_homes.specs.declared.Filling.{Filling};
 ghost use Rattle.sdd_homes.specs.declared.Owner.{Owner};
 ghost use Rattle.sdd_domain.specs.Contents.{IsIn};
 ghost use Rattle.sdd_domain.specs.Layout.{all_words, IsSized};
-ghost use Rattle.sdd_domain.specs.Plays.{IsClaimed, filling_at, next_filled, owning, placing};
+ghost use Rattle.sdd_domain.specs.Plays.{IsJustClaimed, filling_at, next_filled, owning, placing};
 
 use crate::board::{Home, Place, Stored, Words};
 use crate::homes::{let_go, room_of};
@@ -87,7 +87,7 @@ fn place_at<T>(
 ) -> One<Stored<T>>
     requires table { (place.old.table_id ≡ words.now.table_id) × (words.now.key.sizes ≡ sizes.now) × (place.old.me.0.sizes ≡ sizes.now) × IsSized sizes.now × (slot < sizes.now.slots) × (all_words sizes.now ≤ words.now.table_id.words) }
     requires ready { (place.old.me.0.kind ≡ 1) × (is_ready place.old.me.0.known ≡ true) × (place.old.me.0.releasing ≡ 0) × (place.old.me.0.hand ≡ []) }
-    requires claimed { IsClaimed IsIn place.old.me slot }
+    requires claimed { IsJustClaimed IsIn place.old.me slot }
     ensures seat { (place.new.table_id ≡ place.old.table_id) × (place.new.id ≡ place.old.id) }
     ensures placed { (i : ℕ) × (f : Filling) × (f.round ≡ result.part.life.id) × (place.new.me ≡ (placing i f place.old.me.0, rest place.old.me.1)) }
     ensures value { IsSomeAnd result.part.seen.value (λ m. manually_drop_value m ≡ item) }

@@ -25,14 +25,14 @@ pub struct Shared<T> {
 
 impl<T> Shared<T> {
     ghost use Rattle.sdd_domain.specs.Tokens.{place_of, home_of, own_of, born_of, waiting_of, IsSame};
-    ghost use Rattle.sdd_domain.specs.Sharing.{kept_in, IsOf};
+    ghost use Rattle.sdd_domain.specs.Sharing.{kept_in, HasItem};
 
     /// Places an item in a free slot, and gives its first owner. Where each slot was taken when it was tried, the item
     /// is back. It takes no memory.
     pub fn new(item: T, domain: &Domain<T>, local: &mut Local<T>) -> Result<Shared<T>, T>
         requires home { home_of local.old ≡ place_of domain.now }
         ensures home { IfOk result (λ s. kept_in s ≡ (place_of domain.now).0) }
-        ensures item { IfOk result (λ s. IsOf s item) }
+        ensures item { IfOk result (λ s. HasItem s item) }
         ensures refused { IfErr result (λ back. back ≡ item) }
         ensures same { IsSame local.old local.new × (own_of local.new ≡ own_of local.old) × (born_of local.new ≡ born_of local.old) × (waiting_of local.new ≡ waiting_of local.old) }
     {
@@ -45,7 +45,7 @@ impl<T> Shared<T> {
 
     /// The item.
     pub fn as_ref(&self) -> &T
-        ensures { IsOf self.now result.now }
+        ensures { HasItem self.now result.now }
     {
         match self.part.get() {
             Some(item) => item,

@@ -6,7 +6,7 @@ use Rattle.sdd_homes.specs.declared.Garbage.{Garbage}
 use Rattle.sdd_homes.specs.declared.Lease.{Lease}
 use Rattle.sdd_homes.specs.Book.{part, lease}
 use Rattle.sdd_domain.specs.Contents.{IsIn}
-use Rattle.sdd_domain.specs.Plays.{own_home, HasBegun, CanEnd, ended_release, retired, retiring}
+use Rattle.sdd_domain.specs.Plays.{own_home, HasBegun, CanEnd, ended_release, just_retired, retiring}
 use Rattle.sdd_domain.specs.declared.board.Acting.{Acting}
 use Rattle.sdd_domain.specs.declared.board.Home.{Home}
 use Rattle.sdd_domain.specs.declared.board.Home.TheVariants.{Blank, Part}
@@ -49,9 +49,9 @@ module _ {T : Type 0} (m0 m1 : Me (Home T) Acting) (o : Owner) (begun : HasBegun
 
 -- what waits is the same, or one item more
 still : (r : ℕ) (ws : List Garbage) (o : Owner) → 0 < r → retiring (r + 3) (lease o.slot o.item 0 o.round) ws ≡ ws
-still r ws o more = ap (λ b. cond b (retired o ∷ ws) ws) (ne_eqb (r + 3) 3 (λ e. omega arith))
+still r ws o more = ap (λ b. cond b (just_retired o ∷ ws) ws) (ne_eqb (r + 3) 3 (λ e. omega arith))
 
-gone : (r : ℕ) (ws : List Garbage) (o : Owner) → r ≡ 0 → retiring (r + 3) (lease o.slot o.item 0 o.round) ws ≡ retired o ∷ ws
+gone : (r : ℕ) (ws : List Garbage) (o : Owner) → r ≡ 0 → retiring (r + 3) (lease o.slot o.item 0 o.round) ws ≡ just_retired o ∷ ws
 gone r ws o none = ap (λ z. retiring (z + 3) (lease o.slot o.item 0 o.round) ws) none
 
 pub parts_of-own-requires : goal.parts_of-own-requires
@@ -92,7 +92,7 @@ returns-clause-retired g c = λ none o' os' first'. let m = c.args.place.now.me 
     let lists : o ∷ q.1 ≡ o' ∷ os' = sym q.2 ∙ first' in let same : o ≡ o' = cc in let others : q.1 ≡ os' = cc in let k : ℕ = c.end_release.result + 3 in
     after m m1 o b i r e.2 m2 m3 i r' Blank y e.3 e'.2 e'.3 q.1 k c.end_release.new.place.me c.requires.ready.4 c.requires.ready.3
     (c.end_release.ensures.ended (lease o.slot o.item n o.round) [] o q.1 m.1 (can m m1 o b i r e.2 m2 m3 i r' Blank y e.3 e'.2 e'.3 q.1 c.requires.ready.4 q.2 is_in))
-    ∙ λ j. (record m.0 { hand = others j; waits = (gone c.end_release.result m.0.waits o none ∙ ap (λ z. retired z ∷ m.0.waits) same) j }, m.1)
+    ∙ λ j. (record m.0 { hand = others j; waits = (gone c.end_release.result m.0.waits o none ∙ ap (λ z. just_retired z ∷ m.0.waits) same) j }, m.1)
 
 pub returns-clause-room : goal.returns-clause-room
 returns-clause-room g c = let m = c.args.place.now.me in let q = c.requires.owner in let o = q.0 in let b = c.begin_release.ensures.begun o q.1 q.2 in let i : ℕ = c.args.slot * (c.args.sizes.now.participants + 1) + c.args.number in let e = c.exchange.ensures in let e' = c.exchange-2.ensures in

@@ -5,7 +5,7 @@ use Rattle.sdd_homes.specs.declared.Filling.{Filling}
 use Rattle.sdd_homes.specs.declared.Owner.{Owner}
 use Rattle.sdd_homes.specs.Book.{deed}
 use Rattle.sdd_domain.specs.Contents.{IsIn}
-use Rattle.sdd_domain.specs.Plays.{IsClaimed, claimed_by, deed_home, filling_at, CanPlace, placing}
+use Rattle.sdd_domain.specs.Plays.{IsJustClaimed, claimed_by, deed_home, filling_at, CanPlace, placing}
 use Rattle.sdd_domain.specs.declared.board.Acting.{Acting}
 use Rattle.sdd_domain.specs.declared.board.Home.{Home}
 use Rattle.sdd_domain.specs.declared.board.Home.TheVariants.{Blank, Deed}
@@ -13,7 +13,7 @@ use Rattle.sdd_domain.proofs.Fronts.{came_out, put_in}
 use Rattle.sdd_domain.proofs.placing.place_at.Goals as goal
 
 -- the deed lies in the home that was out
-module _ {T : Type 0} (k i i' : ℕ) (m0 m1 m2 : Me (Home T) Acting) (r r' b y : Home T) (claimed : IsClaimed IsIn m0 k)
+module _ {T : Type 0} (k i i' : ℕ) (m0 m1 m2 : Me (Home T) Acting) (r r' b y : Home T) (claimed : IsJustClaimed IsIn m0 k)
     (front : m0.1 ≡ (i, r) ∷ rest m0.1) (first : m1 ≡ (m0.0, (i, b) ∷ rest m0.1)) (front' : m1.1 ≡ (i', r') ∷ rest m1.1) (second : m2 ≡ (m1.0, (i', y) ∷ rest m1.1)) where
   abbrev at : ℕ
   at = deed_home m0.0 k

@@ -8,14 +8,14 @@ use Rattle.sdd_domain.specs.Bags.{ages, Waits}
 use Rattle.sdd_domain.specs.Contents.{is_blank}
 use Rattle.sdd_domain.specs.Layout.{claim_word}
 use Rattle.sdd_domain.specs.Owners.{item_in}
-use Rattle.sdd_domain.specs.Plays.{own_spare, has_just, retired}
+use Rattle.sdd_domain.specs.Plays.{own_spare, has_just, just_retired}
 use Rattle.sdd_domain.specs.declared.board.Acting.{Acting}
 use Rattle.sdd_domain.proofs.shared.Shared.release.Goals as goal
 
 pub invariant_of-local-2 : goal.invariant_of-local-2
 invariant_of-local-2 g c = let l = c.args.local.now in let m = l.place.me in let s = c.args.self in let o : Owner = record { item = item_in s.seat.views; slot = s.slot; round = s.part.part.life.id } in let t = c.take_in.ensures.taken o s.owns in
     let none : c.release-left.result ≡ 0 = (let more = c.if-left-gt0.false in omega arith) in let first = ap (λ (z : Me _ Acting). z.0.hand) t ∙ ap (λ os. o ∷ os) l.acts.5.0 in
-    let all = c.release-left.ensures.retired none o [] first ∙ ap (λ (z : Me _ Acting). (record z.0 { hand = []; waits = retired o ∷ z.0.waits }, z.1)) t in let table = c.release-left.ensures.seat.0 ∙ c.take_in.ensures.seat.0 in record {
+    let all = c.release-left.ensures.retired none o [] first ∙ ap (λ (z : Me _ Acting). (record z.0 { hand = []; waits = just_retired o ∷ z.0.waits }, z.1)) t in let table = c.release-left.ensures.seat.0 ∙ c.take_in.ensures.seat.0 in record {
       acts = (
         ap (λ (z : Me _ Acting). z.0.kind) all ∙ l.acts.0,
         ap (λ (z : Me _ Acting). z.0.number) all ∙ l.acts.1,
@@ -30,7 +30,7 @@ invariant_of-local-2 g c = let l = c.args.local.now in let m = l.place.me in let
       noted = l.noted;
       fills = (ap (λ (z : Me _ Acting). z.0.filling) all ∙ l.fills.0, l.fills.1, subst (λ (z : Me _ Acting). l.number < z.0.sizes.participants) (sym all) l.fills.2);
       waits = (
-        subst (λ (z : Me _ Acting). Waits z.0.waits c.retire.new.self.slots.items (ages c.retire.new.self.current c.retire.new.self.previous c.retire.new.self.next c.retire.new.self.due)) (sym all) (c.retire.ensures.retired m.0.waits (retired o) l.waits.0 refl refl),
+        subst (λ (z : Me _ Acting). Waits z.0.waits c.retire.new.self.slots.items (ages c.retire.new.self.current c.retire.new.self.previous c.retire.new.self.next c.retire.new.self.due)) (sym all) (c.retire.ensures.retired m.0.waits (just_retired o) l.waits.0 refl refl),
         c.retire.ensures.same.0 ∙ l.waits.1,
         subst (λ (z : Me _ Acting). z.0.sizes.slots ≤ deque_capacity c.retire.new.self.slots) (sym all) (let a = l.waits.2 in let b = c.retire.ensures.same.1 in omega arith),
       );
