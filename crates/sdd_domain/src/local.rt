@@ -4,9 +4,9 @@ ghost use Rattle.std.specs.Prelude.{◌≡◌, ◌≢◌, ℕ, ◌+◌, ◌-◌,
 ghost use Rattle.sdd_base.specs.State.{no_local};
 ghost use Rattle.sdd_base.specs.Steps.{closings_after, scans};
 ghost use Rattle.sdd_steps.specs.declared.participant.Phase.TheVariants.{Idle, Opened};
-ghost use Rattle.sdd_domain.specs.Contents.{IsIn, is_blank};
+ghost use Rattle.sdd_domain.specs.Contents.{IsIn, is_blank, is_bag, slots_of, slots_in, room_in};
 ghost use Rattle.sdd_domain.specs.Views.{IsBare, spent};
-ghost use Rattle.sdd_domain.specs.Plays.{own_spare, has_just, HasRegistered, CanClose};
+ghost use Rattle.sdd_domain.specs.Plays.{own_spare, own_bag, has_both, HasRegistered, CanClose};
 ghost use Rattle.sdd_domain.specs.Layout.{claim_word};
 
 use crate::board::Place;
@@ -22,7 +22,8 @@ pub struct Local<T> {
     pub(crate) spare: u64,
     pub(crate) own: LocalState,
     ghost acts: { (place.me.0.kind ≡ 1) × (place.me.0.number ≡ number) × (place.me.0.scan ≡ 0) × (number < 2 ^ 30) × (claim_word number < place.table_id.words) × IsBare place.me.0 },
-    ghost has_spare: { (place.me.0.spare ≡ spare) × (spare < 2 ^ 33) × (has_just is_blank (own_spare place.me.0 spare) (drop (length place.me.0.leases) place.me.1) ≡ true) },
+    ghost has_spare: { (place.me.0.spare ≡ spare) × (spare < 2 ^ 33) × (has_both is_blank is_bag (own_spare place.me.0 spare) (own_bag place.me.0) (drop (length place.me.0.leases) place.me.1) ≡ true) },
+    ghost has_bag: { (place.me.0.waits ≡ []) × (slots_in (drop (length place.me.0.leases) place.me.1) ≡ slots_of place.me.0.left) × (place.me.0.sizes.slots ≤ room_in (drop (length place.me.0.leases) place.me.1)) },
     ghost phase: { place.me.0.known.phase ≡ cond (own.nesting == 0) Idle (Opened own.previous) },
     ghost found: { place.me.0.known.found ≡ own.previous },
     ghost noted: { own.published ≡ own.previous },
