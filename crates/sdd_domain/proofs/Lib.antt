@@ -26,5 +26,6 @@ pub mod Told
 pub mod Fronts
 pub mod Gathers
 pub mod Reclaims
+pub mod Takeovers
 pub mod OwnerSeats
 pub mod GiveUps

@@ -50,7 +50,7 @@ use Rattle.sdd_domain.proofs.Stirred.{still_left, grip_set}
 use Rattle.sdd_domain.proofs.GiveUps.{given_up, given_here, given_else, given_back, gives_up}
 
 -- the last one is of no other's item, and the others are of different ones
-init_distinct : (ws : List Garbage) (w : Garbage) → Distinct (ws ++ w ∷ []) → ((v : Garbage) → Has ws v → v.item ≢ w.item) × Distinct ws
+pub init_distinct : (ws : List Garbage) (w : Garbage) → Distinct (ws ++ w ∷ []) → ((v : Garbage) → Has ws v → v.item ≢ w.item) × Distinct ws
 init_distinct [] w h = ((λ v has. absurd has), tt)
 init_distinct (x ∷ ws) w h = let t = init_distinct ws w h.1 in (
   (λ v has. ⊎_elim (λ (e : x ≡ v). λ same. h.0 w (has_last ws w) (sym same ∙ ap (λ (z : Garbage). z.item) (sym e))) (λ (k : Has ws v). t.0 v k) has),

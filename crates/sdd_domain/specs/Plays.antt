@@ -273,6 +273,14 @@ module _ {S : Type 0} (IsIn : Content → S → Type 0) where
   abbrev pub place_then : Step S → Me S Acting → ℕ → Me S Acting → Type 0
   place_then t m n m' = (f : Filling) (tail : List (ℕ × S)) → CanPlace m f tail → (i : ℕ) × (m' ≡ (placing i f m.0, tail))
 
+-- the item w, which was left, is retired by the participant now, with age 0; the others are still left
+abbrev pub taking_over : Garbage → List Garbage → Acting → Acting
+taking_over w ws d = record d { left = ws; waits = record w { age = 0 } ∷ d.waits }
+
+-- the last of what was left is taken over
+abbrev pub take_over_then : {S : Type 0} → Step S → Me S Acting → ℕ → Me S Acting → Type 0
+take_over_then t m n m' = (w : Garbage) (ws : List Garbage) → m.0.left ≡ ws ++ w ∷ [] → m' ≡ (taking_over w ws m.0, m.1)
+
 -- the item w is being reclaimed, and has given up the owners hs; the others still wait
 abbrev pub reclaiming : Garbage → List Owner → List Garbage → Acting → Acting
 reclaiming w hs ws d = record d { hand = hs ++ d.hand; slot = w.slot; filling = Some (record { by = d.number; filled = d.sizes.participants; round = w.round; left = 0; out = d.sizes.participants }); waits = ws }
