@@ -80,7 +80,7 @@ module _ {S : Type 0} (IsIn : Content → S → Type 0) (d : Acting) where
 
 -- a scan leaves the leases and their slots as they are
 pub closes_still : {S : Type 0} (IsIn : Content → S → Type 0) (m m' : Me S Acting) → Steady m m' → CanClose IsIn m → CanClose IsIn m'
-closes_still {S} IsIn m m' s r = (r.0, subst (λ (z : List Lease × List (ℕ × S)). Refilled IsIn m'.0 z.0 z.1 r.0) (λ j. (sym s.6 j, sym s.11 j)) (refilled_on IsIn m.0 m'.0 s.3 s.1 m.0.leases m.1 r.0 r.1))
+closes_still {S} IsIn m m' s r = (r.0, subst (λ (z : List Lease × List (ℕ × S)). Refilled IsIn m'.0 z.0 z.1 r.0) (λ j. (sym s.6 j, sym s.12 j)) (refilled_on IsIn m.0 m'.0 s.3 s.1 m.0.leases m.1 r.0 r.1))
 
 module _ (S : Type 0) (IsIn : Content → S → Type 0) (plan : Plan) where
   pub ends_all : (slots id p e : ℕ) (me : Me S Acting) (tail : List (ℕ × S)) → me.0.number ≡ p → me.0.kind ≡ 1 → me.0.known.phase ≡ Opened e → me.0.known.found ≡ e → me.0.scan ≡ 0 → Refilled IsIn me.0 me.0.leases me.1 tail
@@ -89,7 +89,7 @@ module _ (S : Type 0) (IsIn : Content → S → Type 0) (plan : Plan) where
       (λ s r _ at _. let d = me.0 in let q : ℕ = d.number in let n : ℕ = plan.sizes.participants in let a = r.epochs.seats id d at kind in let b = r.items.seats id d at kind in let x = d.known in let d' = ending d in let i : ℕ = state_word q in
       let core = with_participant r.state q (closing x) in let words' = set s.words i 0 in let wide = r.epochs.wide in let many = r.epochs.many in let inside = at_inside r.state.participants q x a.is in
       let homes' = table.homes_after s.homes me.1 (give_all IsIn d d.leases) in let carried = given IsIn d d.leases me.1 tail filled in
-      let g = gives_all IsIn d n plan.sizes.slots (plan.sizes.cells + n) q r.state.items (Why r.state (Grip s.views)) (omega arith) (λ k. ap (λ (z : Sizes). home z.participants k q) b.sizes_are) d.leases r.book s.homes me.1 tail r.items.parts r.items.lying b.leases filled in
+      let g = gives_all IsIn d n plan.sizes.slots (plan.sizes.cells + n + n) q r.state.items (Why r.state (Grip s.views)) (omega arith) (λ k. ap (λ (z : Sizes). home z.participants k q) b.sizes_are) d.leases r.book s.homes me.1 tail r.items.parts r.items.lying b.leases filled in
       let m : Moves r.state r.born d d' = (record {
         core = core;
         runs = taken.one r.state (Close q) core (taken.closes r.state q x a.is e is (sym found));

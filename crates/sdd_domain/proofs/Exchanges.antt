@@ -85,7 +85,7 @@ module _ (S : Type 0) (IsIn : Content → S → Type 0) (plan : Plan) where
 
       -- what lies in the cell's spare slot
       found : (old : Option Owner) → Had old → (v : S) × (get_elem? s.homes (own_spare d y) ≡ some (some v)) × IsIn (part_of old) v
-      found old h = let f = r.items.lying.high y range (λ e. part_there old (sym h.2 ∙ e)) in (f.0, ap (λ (z : Sizes). get_elem? s.homes (all_homes z + y)) (r.items.seats id d at kind).sizes_are ∙ f.1, subst (λ z. IsIn z f.0) h.2 f.2)
+      found old h = let f = r.items.lying.high y (let l = range in omega arith) (λ e. part_there old (sym h.2 ∙ e)) in (f.0, ap (λ (z : Sizes). get_elem? s.homes (all_homes z + y)) (r.items.seats id d at kind).sizes_are ∙ f.1, subst (λ z. IsIn z f.0) h.2 f.2)
 
       pub swapped : (v : Acting) × (act : Act S) × table.Valid s.homes carried act × Shows IsIn plan (stepped s w value id carried v act) × GetsBack IsIn (d, carried) os (get_or s.words w 0) tail (v, table.carried_after carried act)
       swapped = let h = had lc in let old = h.0 in let f = found old h.1 in let in_range = range in let d' : Acting = record d { spare = y; hand = besides old os } in (

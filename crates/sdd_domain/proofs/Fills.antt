@@ -18,7 +18,7 @@ use Rattle.sdd_homes.specs.Reasons.{Loads, Why}
 use Rattle.sdd_homes.specs.Lying.{Lying}
 use Rattle.sdd_homes.proofs.PartLemmas as parts
 use Rattle.sdd_homes.proofs.HandLemmas.{owned_set}
-use Rattle.sdd_domain.specs.Layout.{cell_word, slot_word, claim_word, all_homes, all_spares}
+use Rattle.sdd_domain.specs.Layout.{cell_word, slot_word, claim_word, all_homes, all_extras}
 use Rattle.sdd_domain.specs.Items.{hand_of, Grip, Owns, Carries, Items}
 use Rattle.sdd_domain.specs.Rule.{Shows}
 use Rattle.sdd_domain.specs.declared.board.Acting.{Acting}
@@ -51,7 +51,7 @@ module _ (S : Type 0) (IsIn : Content → S → Type 0) (plan : Plan) (s : State
   -- no item is in the slot, before or after; the word is 0 only where it is vacant after; and nobody else fills it
   pub record Fills : Type 0 where
     pub parts : Parts plan.sizes.participants plan.sizes.slots r.state.items (Why r.state (Grip views')) book'
-    pub lying : Lying IsIn (all_homes plan.sizes) (all_spares plan.sizes) what' r.book.extra homes'
+    pub lying : Lying IsIn (all_homes plan.sizes) (all_extras plan.sizes) what' r.book.extra homes'
     pub unused : (i : ℕ) → r.book.stage k ≢ full i
     pub unplaced : (i : ℕ) → st ≢ full i
     pub room : v ≡ 0 → st ≡ vacant
@@ -76,10 +76,10 @@ module _ (S : Type 0) (IsIn : Content → S → Type 0) (plan : Plan) (s : State
 
     seats_now : (j : ℕ) (e : Acting) → At views' j e → e.kind ≡ 1 → Carries plan.sizes book' e
     seats_now = set_all (λ _ e. e.kind ≡ 1 → Carries plan.sizes book' e) s.views id d'
-        (λ _. let b = r.items.seats id d at kind in record { sizes_are = b.sizes_are; leases = b.leases; spare = b.spare; fills = λ f e. let t = c.mine f e in (inside, t.0, put_here r.book.stage k st ∙ t.1); distinct = b.distinct })
+        (λ _. let b = r.items.seats id d at kind in record { sizes_are = b.sizes_are; leases = b.leases; spare = b.spare; fills = λ f e. let t = c.mine f e in (inside, t.0, put_here r.book.stage k st ∙ t.1); distinct = b.distinct; left = b.left })
         (λ j e other e_at e_kind. let b = r.items.seats j e e_at e_kind in let a = r.epochs.seats id d at kind in let x = r.epochs.seats j e e_at e_kind in
         let apart : (f : Filling) → r.book.stage e.slot ≡ partly f → f.by ≡ e.number → e.slot ≢ k = (λ f is by same. other (sym x.seated ∙ (ap r.epochs.seat_of (sym by ∙ c.alone f (ap r.book.stage (sym same) ∙ is)) ∙ a.seated))) in
-        record { sizes_are = b.sizes_are; leases = b.leases; spare = b.spare; fills = λ f h. let t = b.fills f h in (t.0, t.1, stage_else e.slot (apart f t.2 t.1) ∙ t.2); distinct = b.distinct })
+        record { sizes_are = b.sizes_are; leases = b.leases; spare = b.spare; fills = λ f h. let t = b.fills f h in (t.0, t.1, stage_else e.slot (apart f t.2 t.1) ∙ t.2); distinct = b.distinct; left = b.left })
 
     items_now : Items IsIn plan.sizes r.state book' words' homes' views'
     items_now = record {
@@ -99,6 +99,7 @@ module _ (S : Type 0) (IsIn : Content → S → Type 0) (plan : Plan) (s : State
       owners = λ j e o at_j has. set_all (λ _ e'. Has e'.hand o → Owns r.state.items r.book.slot_of o) s.views id d' (λ h. r.items.owners id d o at h) (λ j' e' _ e_at h. r.items.owners j' e' o e_at h) j e at_j has;
       given = r.items.given;
       waiting = waits_stay r.items id d' (λ w _ h. r.items.waiting id d w at kind h);
+      leftovers = r.items.leftovers;
       seats = seats_now;
     }
 

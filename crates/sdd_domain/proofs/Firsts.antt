@@ -1,20 +1,20 @@
 -- the words and slots of a new place show that there is no item
-use Rattle.std.proofs.Common.{◌≡◌, ℕ, zero, suc, ◌+◌, ◌-◌, ◌*◌, ◌%◌, ◌<◌, List, [], ◌∷◌, ◌++◌, length, map, replicate, get_or, sym, refl, ap, ◌∙◌, subst, ⊎_elim, arith, Option, None, length-append}
+use Rattle.std.proofs.Common.{◌≡◌, ℕ, zero, suc, ◌+◌, ◌-◌, ◌*◌, ◌%◌, ◌<◌, List, [], ◌∷◌, ◌++◌, length, map, replicate, get_or, sym, refl, ap, ◌∙◌, subst, ⊎_elim, arith, Option, None, length-append, cond, nat_lt, lt-ltb, le-ltb}
 use Rattle.std.proofs.lemmas.List.{get_or_append_left, get_or-append_right}
 use Rattle.std.proofs.lemmas.Nat.{mod-mul-add}
 use mathlib.Core.Logic.{dite}
 use mathlib.Core.Option.{some, some-ne-none}
-use native.Mathlib.Decide.{ℕ_discrete}
+use native.Mathlib.Decide.{ℕ_discrete, dec_le}
 use lib.ListN.{get_elem?, length-map}
 use Rattle.sdd_base.specs.declared.sizes.Sizes.{Sizes}
 use Rattle.sdd_steps.specs.declared.item.Cell.{Cell}
 use Rattle.sdd_steps.specs.State.{At, Has, empty_cell}
 use Rattle.sdd_steps.specs.Invariant.{names_of}
 use Rattle.sdd_steps.proofs.ListLemmas.{at_map, at_mapped, at_inside, at_replicate, find_at, at_end}
-use Rattle.sdd_homes.specs.Book.{Content, blank, resting, vacant, Book}
+use Rattle.sdd_homes.specs.Book.{Content, blank, bag, resting, vacant, Book}
 use Rattle.sdd_homes.specs.Spares.{IsKept}
 use Rattle.sdd_domain.specs.Views.{spent}
-use Rattle.sdd_domain.specs.Layout.{state_word, claim_word, cell_word, all_words, all_homes, all_spares, packed}
+use Rattle.sdd_domain.specs.Layout.{state_word, claim_word, cell_word, all_words, all_homes, all_spares, all_extras, bag_place, packed}
 use Rattle.sdd_domain.specs.Items.{code, Items}
 use Rattle.sdd_domain.specs.Rule.{beginning, numbers, first_eight, first_eights, first_words}
 use Rattle.sdd_domain.specs.declared.board.Acting.{Acting}
@@ -88,9 +88,18 @@ module _ (plan : Plan) where
       ∙ (ap (λ z. get_or behind z 0) (let d : 8 * n + c - 8 * n ≡ c = omega arith in d)
       ∙ (get_or_append_left (numbers plan.sizes.cells) (replicate plan.sizes.slots zero) 0 c (omega arith) ∙ numbers_at plan.sizes.cells c lt)))
 
--- all slots are free, and each user has the spare slot of its own number, where n participants are
-abbrev pub first_book : ℕ → Book
-first_book n = record { stage = λ _. vacant; share = λ _ _. 0; slot_of = λ _. 0; held = λ _. []; out = λ _. []; what = λ i. resting n (i % suc n); spare = λ u. u; user = λ u. u; extra = λ _. blank }
+-- all slots are free, each user has the spare slot of its own number, and bags are empty
+abbrev pub first_book : Sizes → Book
+first_book sizes = record { stage = λ _. vacant; share = λ _ _. 0; slot_of = λ _. 0; held = λ _. []; out = λ _. []; left = λ _. []; what = λ i. resting sizes.participants (i % suc sizes.participants); spare = λ u. u; user = λ u. u; extra = λ y. cond (nat_lt y (all_spares sizes)) blank (bag sizes.slots []) }
+
+abbrev extra_first : Sizes → ℕ → Content
+extra_first sizes y = cond (nat_lt y (all_spares sizes)) blank (bag sizes.slots [])
+
+spare_first : (sizes : Sizes) (y : ℕ) → y < all_spares sizes → extra_first sizes y ≡ blank
+spare_first sizes y lt = ap (λ b. cond b blank (bag sizes.slots [])) (lt-ltb y (all_spares sizes) lt)
+
+bag_first : (sizes : Sizes) (p : ℕ) → extra_first sizes (bag_place sizes p) ≡ bag sizes.slots []
+bag_first sizes p = ap (λ b. cond b blank (bag sizes.slots [])) (le-ltb (bag_place sizes p) (all_spares sizes) (omega arith))
 
 named_none : (plan : Plan) (c : ℕ) (o : Option ℕ) → At (names_of (beginning plan).cells) c o → o ≡ None
 named_none plan c o at = let t = at_mapped (λ (z : Cell). z.names) (replicate plan.sizes.cells empty_cell) c o at in sym t.2 ∙ ap (λ (z : Cell). z.names) (sym (at_replicate plan.sizes.cells c empty_cell t.0 t.1))
@@ -98,20 +107,32 @@ named_none plan c o at = let t = at_mapped (λ (z : Cell). z.names) (replicate p
 only : (j : ℕ) (d : Acting) → At (spent ∷ []) j d → spent ≡ d
 only j d at = ⊎_elim (λ (h : At [] j d). absurd (some-ne-none d (sym h))) (λ t. t.1) (at_end [] spent j d at)
 
--- the slots of a new place: the homes are those of free slots, and the spare slots behind them are empty
+-- the slots of a new place: the homes are those of free slots, the spare slots behind them are empty, and so are the bags behind those
 pub record FirstSlots {S : Type 0} (IsIn : Content → S → Type 0) (sizes : Sizes) (slots : List S) : Type 0 where
-  pub long : length slots ≡ all_homes sizes + all_spares sizes
+  pub long : length slots ≡ all_homes sizes + all_extras sizes
   pub low : (i : ℕ) (y : S) → i < all_homes sizes → At slots i y → IsIn (resting sizes.participants (i % suc sizes.participants)) y
   pub high : (i : ℕ) (y : S) → i < all_spares sizes → At slots (all_homes sizes + i) y → IsIn blank y
+  pub bags : (p : ℕ) (y : S) → p < sizes.participants → At slots (all_homes sizes + bag_place sizes p) y → IsIn (bag sizes.slots []) y
+
+-- the slot i is at home with what the content tells
+abbrev Found : {S : Type 0} → (Content → S → Type 0) → List S → Content → ℕ → Type 0
+Found {S} IsIn slots x i = (y : S) × (get_elem? (map some slots) i ≡ some (some y)) × IsIn x y
 
 module _ {S : Type 0} {IsIn : Content → S → Type 0} (plan : Plan) (words : List ℕ) (slots : List S) where
   pub items_begin : length words ≡ all_words plan.sizes → ((p : ℕ) → p < plan.sizes.participants → get_or words (claim_word p) 0 ≡ suc (plan.sizes.cells + p)) → ((c : ℕ) → c < plan.sizes.cells → get_or words (cell_word plan.sizes c) 0 ≡ c) → FirstSlots IsIn plan.sizes slots
-      → Items IsIn plan.sizes (beginning plan) (first_book plan.sizes.participants) words (map some slots) (spent ∷ [])
+      → Items IsIn plan.sizes (beginning plan) (first_book plan.sizes) words (map some slots) (spent ∷ [])
   items_begin long claims cells f = let n = plan.sizes.participants in let many = many_of plan.sizes.cells empty_cell in
-      let long_slots = f.long in let found : (x : Content) (i : ℕ) → i < length slots → ((y : S) → At slots i y → IsIn x y) → (y : S) × (get_elem? (map some slots) i ≡ some (some y)) × IsIn x y = (λ x i lt is. let t = find_at slots i lt in (t.0, at_map some slots i t.0 t.1, is t.0 t.1)) in record {
+      let long_slots = f.long in let found : (x : Content) (i : ℕ) → i < length slots → ((y : S) → At slots i y → IsIn x y) → Found IsIn slots x i = (λ x i lt is. let t = find_at slots i lt in (t.0, at_map some slots i t.0 t.1, is t.0 t.1)) in record {
         parts = record { full_at = λ k i _ e. absurd (cc); partly_at = λ k f _ e. absurd (cc); vacant_at = λ k p _ _ lt. ap (resting n) (mod-mul-add k (suc n) p lt); leases = λ p l h. absurd h; once = λ _. tt };
-        spares = record { users = λ _ _. refl; range = λ _ lt. lt; kept = λ c o _ at. subst (λ z. IsKept [] z blank) (sym (named_none plan c o at)) refl };
-        lying = record { long = length-map slots some ∙ long_slots; low = λ i lt _. found (resting n (i % suc n)) i (omega arith) (λ y. f.low i y lt); high = λ i lt _. found blank (all_homes plan.sizes + i) (omega arith) (λ y. f.high i y lt) };
+        spares = record { users = λ _ _. refl; range = λ _ lt. lt; kept = λ c o lc at. subst (λ z. IsKept [] z (extra_first plan.sizes c)) (sym (named_none plan c o at)) (spare_first plan.sizes c (omega arith)) };
+        lying = record {
+          long = length-map slots some ∙ long_slots;
+          low = λ i lt _. found (resting n (i % suc n)) i (omega arith) (λ y. f.low i y lt);
+          high = λ i lt _. dite (dec_le (suc i) (all_spares plan.sizes))
+              (λ low. subst (λ b. Found IsIn slots (cond b blank (bag plan.sizes.slots [])) (all_homes plan.sizes + i)) (sym (lt-ltb i (all_spares plan.sizes) low)) (found blank (all_homes plan.sizes + i) (omega arith) (λ y. f.high i y low)))
+              (λ up. let p : ℕ = i - all_spares plan.sizes in let is : i ≡ bag_place plan.sizes p = omega arith in subst (λ b. Found IsIn slots (cond b blank (bag plan.sizes.slots [])) (all_homes plan.sizes + i)) (sym (le-ltb i (all_spares plan.sizes) (omega arith)))
+              (found (bag plan.sizes.slots []) (all_homes plan.sizes + i) (omega arith) (λ y at. f.bags p y (omega arith) (subst (λ z. At slots (all_homes plan.sizes + z) y) is at))));
+        };
         standing = λ i it at. absurd (some-ne-none it (sym at));
         settled = λ i it q at. absurd (some-ne-none it (sym at));
         many = many;
@@ -122,7 +143,8 @@ module _ {S : Type 0} {IsIn : Content → S → Type 0} (plan : Plan) (words : L
         given = λ i it at_i. absurd (cc);
         waiting = λ j d w at_j kind has. let z : 0 ≡ d.kind = ap (λ (v : Acting). v.kind) (only j d at_j) in absurd (omega arith);
         alone = λ c o at. ap (λ (z : Cell). z.holder) (sym (at_replicate plan.sizes.cells c empty_cell o at));
-        free = λ p low _. (refl, claims p low, refl);
+        free = λ p low _. (refl, claims p low, spare_first plan.sizes (plan.sizes.cells + p) (omega arith), bag_first plan.sizes p);
+        leftovers = record { waits = λ p w h. absurd h; once = λ _. tt; apart = λ p q v w h. absurd h };
         hands = λ i it at. absurd (some-ne-none it (sym at));
         owners = λ j d o at has. absurd (subst (λ (v : Acting). Has v.hand o) (sym (only j d at)) has);
         seats = λ j d at k. let z : 0 ≡ d.kind = ap (λ (v : Acting). v.kind) (only j d at) in absurd (omega arith);

@@ -24,9 +24,11 @@ pub mod Fills
 pub mod Claims
 pub mod Placings
 pub mod Told
+pub mod Bagged
 pub mod Fronts
 pub mod Gathers
 pub mod Reclaims
 pub mod Aged
+pub mod Takeovers
 pub mod OwnerSeats
 pub mod GiveUps

@@ -20,8 +20,8 @@ use Rattle.sdd_homes.specs.declared.Lease.{Lease}
 use Rattle.sdd_homes.specs.declared.Garbage.{Garbage}
 use Rattle.sdd_homes.specs.Reasons.{Loads, Why}
 use Rattle.sdd_domain.specs.Layout.{state_word, claim_word, slot_word, lock_word, count_word, epoch_words, shown}
-use Rattle.sdd_domain.specs.Items.{Grasps, Grip, IsWaiting, Carries, Items, Distinct}
-use Rattle.sdd_domain.proofs.Stirred.{Stirred, stirred_none, grip_set, loads_others, seated}
+use Rattle.sdd_domain.specs.Items.{Grasps, Grip, IsWaiting, IsLeft, Carries, Items, Distinct}
+use Rattle.sdd_domain.proofs.Stirred.{Stirred, stirred_none, still_left, grip_set, loads_others, seated}
 use Rattle.sdd_domain.proofs.Stirred as items
 use Rattle.sdd_domain.specs.Rule.{Acts, Bounded, Runs, beginning, Shows}
 use Rattle.sdd_domain.proofs.Bounds.{changes}
@@ -53,6 +53,7 @@ module _ (state core : steps.State) (d d' : Acting) where
     pub distinct : Distinct d.waits → Distinct d'.waits
     pub waits_mine : (slot_of : ℕ → ℕ) (w : Garbage) → ((v : Garbage) → Has d.waits v → IsWaiting state.items slot_of d.number v) → Has d'.waits w → IsWaiting core.items slot_of d.number w
     pub waits_others : (slot_of : ℕ → ℕ) (q : ℕ) (w : Garbage) → q ≢ d.number → IsWaiting state.items slot_of q w → IsWaiting core.items slot_of q w
+    pub lefts : (slot_of : ℕ → ℕ) (w : Garbage) → IsLeft state.items slot_of w → IsLeft core.items slot_of w
 
 -- the words change at most where this participant publishes
 module _ (m p : ℕ) (before after : List ℕ) where
@@ -82,9 +83,10 @@ module _ (S : Type 0) (IsIn : Content → S → Type 0) (plan : Plan) where
       (λ (g : Grip s.views q l.item). inr (grip_set s.views id d d' at (λ q' i' h. subst (λ (z : Acting). Grasps z q' i') (sym v.same) h) q l.item g)) y) in
       items.stays r.items m.core words' views' v.cells v.stirred why (record { long = w.long; high = high; freed = λ q small _. inl (w.claims q (omega (arith, r.epochs.many))) })
       (seated r.items id d d' at (ap (λ (z : Acting). z.hand) v.same)
-      (λ _. subst (Carries plan.sizes r.book) (sym v.same) (record { sizes_are = c.sizes_are; leases = c.leases; spare = c.spare; fills = c.fills; distinct = v.distinct c.distinct })))
+      (λ _. subst (Carries plan.sizes r.book) (sym v.same) (record { sizes_are = c.sizes_are; leases = c.leases; spare = c.spare; fills = c.fills; distinct = v.distinct c.distinct; left = c.left })))
       (items.waits_set r.items m.core.items id d' (λ u k has. subst (λ q. IsWaiting m.core.items r.book.slot_of q u) (sym m.number) (v.waits_mine r.book.slot_of u (λ u' h. r.items.waiting id d u' at kind h) has))
       (λ j e u other here k has. let a = r.epochs.seats id d at kind in let x = r.epochs.seats j e here k in v.waits_others r.book.slot_of e.number u (λ same. other (sym x.seated ∙ (ap r.epochs.seat_of same ∙ a.seated))) (r.items.waiting j e u here k has)))
+      (still_left r.items.leftovers (λ u h. v.lefts r.book.slot_of u h))
 
   -- what stands of epochs is kept, with what is told of items and cells
   pub moved : (s : Table) (r : Shown s) (id : ℕ) (d d' : Acting) (words' : List ℕ) (homes' : List (maybe.Option S)) (book' : Book) (m : Moves r.state r.born d d') → get_elem? s.views id ≡ some d → d.kind ≡ 1
@@ -188,6 +190,7 @@ module _ (S : Type 0) (IsIn : Content → S → Type 0) (plan : Plan) where
     distinct = λ h. h;
     waits_mine = λ _ w all h. all w h;
     waits_others = λ _ _ _ _ h. h;
+    lefts = λ _ _ h. h;
   }) at kind refl
 
   -- nothing is told

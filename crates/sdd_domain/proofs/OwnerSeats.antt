@@ -33,7 +33,7 @@ module _ (S : Type 0) (IsIn : Content → S → Type 0) (plan : Plan) where
       run = r.run;
       kept = r.kept;
       book = r.book;
-      items = items.stays r.items r.state s.words views' refl (stirred_none r.state.items) why (record { long = refl; high = λ _ _. refl; freed = λ _ _ _. inl refl }) seated waiting;
+      items = items.stays r.items r.state s.words views' refl (stirred_none r.state.items) why (record { long = refl; high = λ _ _. refl; freed = λ _ _ _. inl refl }) seated waiting r.items.leftovers;
       born = r.born;
       bounded = r.bounded;
       epochs = record { seat_of = o.seat_of; scanner = o.scanner; wide = o.wide; many = o.many; count_is = o.count_is; states = o.states; free = o.free; seats = acts };
@@ -49,7 +49,7 @@ module _ (S : Type 0) (IsIn : Content → S → Type 0) (plan : Plan) where
             (λ (h : get_elem? (set s.views id left) j ≡ some e). set_all (λ _ e'. Has e'.hand w → Owns r.state.items r.book.slot_of w) s.views id left (λ t. r.items.owners id d w at (subst (λ (z : List Owner). Has z w) (sym first) (inr t))) (λ j' e' _ here t. r.items.owners j' e' w here t) j e h has)
             (λ (t : right ≡ e). r.items.owners id d w at (subst (λ (z : List Owner). Has z w) (sym first) (⊎_elim (λ (k : o ≡ w). inl k) (λ t'. absurd t') (subst (λ (z : Acting). Has z.hand w) (sym t) has)))) (at_snoc (set s.views id left) right e j at_j);
         seats = λ j e at_j k. ⊎_elim
-            (λ (h : get_elem? (set s.views id left) j ≡ some e). set_all (λ _ e'. e'.kind ≡ 1 → Carries plan.sizes r.book e') s.views id left (λ _. record { sizes_are = c.sizes_are; leases = c.leases; spare = c.spare; fills = c.fills; distinct = c.distinct }) (λ j' e' _ here k'. r.items.seats j' e' here k') j e h k)
+            (λ (h : get_elem? (set s.views id left) j ≡ some e). set_all (λ _ e'. e'.kind ≡ 1 → Carries plan.sizes r.book e') s.views id left (λ _. record { sizes_are = c.sizes_are; leases = c.leases; spare = c.spare; fills = c.fills; distinct = c.distinct; left = c.left }) (λ j' e' _ here k'. r.items.seats j' e' here k') j e h k)
             (λ (t : right ≡ e). let z : 3 ≡ e.kind = ap (λ (y : Acting). y.kind) t in absurd (omega arith)) (at_snoc (set s.views id left) right e j at_j);
       })
       (λ q l _. ⊎_elim (λ (t : Loads r.state q l.item). inl t) (λ (g : Grip s.views q l.item). let h = items.grip_set s.views id d left at (λ _ _ y. let z = y.2 in absurd (omega arith)) q l.item g in inr (h.0, h.1, at_longer (set s.views id left) (right ∷ []) h.0 h.1 h.2, h.3)))
@@ -70,7 +70,7 @@ module _ (S : Type 0) (IsIn : Content → S → Type 0) (plan : Plan) where
       (record {
         same = λ i. let g = owned_set hand_of i s.views id d both at in let h = owned_set hand_of i mid other w spent there in omega arith;
         owners = λ j e v at_j has. each (λ _ e'. Has e'.hand v → Owns r.state.items r.book.slot_of v) (λ h. ⊎_elim (λ (k : o ≡ v). subst (Owns r.state.items r.book.slot_of) k own) (λ (t : Has d.hand v). r.items.owners id d v at t) h) (λ t. absurd t) (λ j' e' here t. r.items.owners j' e' v here t) j e at_j has;
-        seats = λ j e at_j k. each (λ _ e'. e'.kind ≡ 1 → Carries plan.sizes r.book e') (λ _. record { sizes_are = c.sizes_are; leases = c.leases; spare = c.spare; fills = c.fills; distinct = c.distinct }) (λ z. absurd (omega arith)) (λ j' e' here k'. r.items.seats j' e' here k') j e at_j k;
+        seats = λ j e at_j k. each (λ _ e'. e'.kind ≡ 1 → Carries plan.sizes r.book e') (λ _. record { sizes_are = c.sizes_are; leases = c.leases; spare = c.spare; fills = c.fills; distinct = c.distinct; left = c.left }) (λ z. absurd (omega arith)) (λ j' e' here k'. r.items.seats j' e' here k') j e at_j k;
       })
       (λ q l _. ⊎_elim (λ (t : Loads r.state q l.item). inl t)
       (λ (g : Grip s.views q l.item). let h = items.grip_set s.views id d both at (λ _ _ y. (y.0, y.1, y.2, inr y.3)) q l.item g in inr (items.grip_set mid other w spent there (λ _ _ y. let z = y.0 in absurd (omega arith)) q l.item h)))

@@ -10,7 +10,8 @@ use Rattle.atomic_table.specs.Table.{State, Me, Act, step, stepped, gives, Allow
 use Rattle.sdd_base.specs.declared.sizes.Sizes.{Sizes}
 use Rattle.sdd_steps.specs.declared.item.Item.{Item}
 use Rattle.sdd_steps.specs.declared.item.Cell.{Cell}
-use Rattle.sdd_steps.specs.declared.item.ItemState.TheVariants.{Due, Reclaimed}
+use Rattle.sdd_steps.specs.declared.item.ItemState.{ItemState}
+use Rattle.sdd_steps.specs.declared.item.ItemState.TheVariants.{Due, Retired, Waiting, Reclaimed}
 use Rattle.sdd_steps.specs.declared.step.Step.TheVariants.{Place}
 use Rattle.sdd_steps.specs.State as steps
 use Rattle.sdd_steps.specs.State.{At, Has, times, no_item, item_at, participant_is}
@@ -37,8 +38,8 @@ use Rattle.sdd_homes.proofs.OwnerLemmas.{alike_placed}
 use Rattle.sdd_homes.proofs.SpareLemmas.{Was, stays_kept}
 use Rattle.sdd_homes.proofs.PartLemmas as parts
 use Rattle.sdd_homes.proofs.Fillings as fillings
-use Rattle.sdd_domain.specs.Layout.{cell_word, slot_word, claim_word, packed, all_homes, all_spares}
-use Rattle.sdd_domain.specs.Items.{hand_of, code, Grip, Owns, IsWaiting, Carries, Items, IsGiven}
+use Rattle.sdd_domain.specs.Layout.{cell_word, slot_word, claim_word, packed, all_homes, all_extras}
+use Rattle.sdd_domain.specs.Items.{hand_of, code, Grip, Owns, HasState, IsWaiting, Carries, Items, IsGiven}
 use Rattle.sdd_domain.specs.Rule.{Runs, Shows}
 use Rattle.sdd_domain.specs.Plays.{placing, CanPlace, place_then}
 use Rattle.sdd_domain.specs.declared.board.Acting.{Acting}
@@ -46,7 +47,7 @@ use Rattle.sdd_domain.specs.declared.board.Plan.{Plan}
 use Rattle.sdd_domain.proofs.Taken as taken
 use Rattle.sdd_domain.proofs.Taken.{and_true}
 use Rattle.sdd_domain.proofs.Moves.{items_change, slot_written}
-use Rattle.sdd_domain.proofs.Stirred.{rests_on, grip_set}
+use Rattle.sdd_domain.proofs.Stirred.{rests_on, still_left, grip_set}
 
 at_last : {A : Type 0} (l : List A) (a : A) → At (l ++ a ∷ []) (length l) a
 at_last [] a = refl
@@ -167,7 +168,7 @@ module _ (S : Type 0) (IsIn : Content → S → Type 0) (plan : Plan) where
     spares_now : Spares plan.sizes.cells n (names_of r.state.cells) core.items book'
     spares_now = let y = stays_kept r.items.spares core.items was in record { users = y.users; range = y.range; kept = y.kept }
 
-    lies : Lying IsIn (all_homes plan.sizes) (all_spares plan.sizes) what' r.book.extra homes'
+    lies : Lying IsIn (all_homes plan.sizes) (all_extras plan.sizes) what' r.book.extra homes'
     lies = gives_low r.items.lying (home n k n) (deed f.round d.hand) u (home_in n plan.sizes.slots k n has.0 (omega arith)) is_in
 
     stands : (i : ℕ) (w : Item) → At core.items i w → ((q : ℕ) → w.state ≢ Reclaimed q) → (slot_of' i < plan.sizes.slots) × (stage' (slot_of' i) ≡ full i)
@@ -216,17 +217,17 @@ module _ (S : Type 0) (IsIn : Content → S → Type 0) (plan : Plan) where
 
     seats_now : (j : ℕ) (e : Acting) → At views' j e → e.kind ≡ 1 → Carries plan.sizes book' e
     seats_now = set_all (λ _ e. e.kind ≡ 1 → Carries plan.sizes book' e) s.views id d'
-        (λ _. let b = r.items.seats id d at kind in record { sizes_are = b.sizes_are; leases = b.leases; spare = b.spare; fills = λ g e. absurd (cc); distinct = b.distinct })
+        (λ _. let b = r.items.seats id d at kind in record { sizes_are = b.sizes_are; leases = b.leases; spare = b.spare; fills = λ g e. absurd (cc); distinct = b.distinct; left = b.left })
         (λ j e other e_at e_kind. let b = r.items.seats j e e_at e_kind in let a = r.epochs.seats id d at kind in let x = r.epochs.seats j e e_at e_kind in
         let apart : (g : Filling) → r.book.stage e.slot ≡ partly g → g.by ≡ e.number → e.slot ≢ k = (λ g is by same. let both : partly f ≡ partly g = sym has.2 ∙ (ap r.book.stage (sym same) ∙ is) in let same_f : f ≡ g = cc in
         other (sym x.seated ∙ (ap r.epochs.seat_of (sym by ∙ (ap (λ (z : Filling). z.by) (sym same_f) ∙ has.1)) ∙ a.seated))) in
-        record { sizes_are = b.sizes_are; leases = b.leases; spare = b.spare; fills = λ g h. let t = b.fills g h in (t.0, t.1, put_else r.book.stage k (full i0) e.slot (apart g t.2 t.1) ∙ t.2); distinct = b.distinct })
+        record { sizes_are = b.sizes_are; leases = b.leases; spare = b.spare; fills = λ g h. let t = b.fills g h in (t.0, t.1, put_else r.book.stage k (full i0) e.slot (apart g t.2 t.1) ∙ t.2); distinct = b.distinct; left = b.left })
 
-    waits_on : (q : ℕ) (w : Garbage) → IsWaiting r.state.items r.book.slot_of q w → IsWaiting core.items slot_of' q w
-    waits_on q w h = (record h.0 { hand = h.0.hand - times w.item holds }, is_there w.item h.0 h.1, h.2, h.3, put_else r.book.slot_of i0 k w.item (older w.item h.0 h.1) ∙ h.4)
+    waits_on : (st : ItemState) (w : Garbage) → HasState r.state.items r.book.slot_of st w → HasState core.items slot_of' st w
+    waits_on st w h = (record h.0 { hand = h.0.hand - times w.item holds }, is_there w.item h.0 h.1, h.2, h.3, put_else r.book.slot_of i0 k w.item (older w.item h.0 h.1) ∙ h.4)
 
     waits_now : (j : ℕ) (e : Acting) (w : Garbage) → At views' j e → e.kind ≡ 1 → Has e.waits w → IsWaiting core.items slot_of' e.number w
-    waits_now j e w at_j = set_all (λ _ e'. e'.kind ≡ 1 → Has e'.waits w → IsWaiting core.items slot_of' e'.number w) s.views id d' (λ _ h. waits_on d.number w (r.items.waiting id d w at kind h)) (λ j' e' _ here k' h. waits_on e'.number w (r.items.waiting j' e' w here k' h)) j e at_j
+    waits_now j e w at_j = set_all (λ _ e'. e'.kind ≡ 1 → Has e'.waits w → IsWaiting core.items slot_of' e'.number w) s.views id d' (λ _ h. waits_on (Retired d.number w.age) w (r.items.waiting id d w at kind h)) (λ j' e' _ here k' h. waits_on (Retired e'.number w.age) w (r.items.waiting j' e' w here k' h)) j e at_j
 
     items_now : Items IsIn plan.sizes core book' words' homes' views'
     items_now = record {
@@ -248,6 +249,7 @@ module _ (S : Type 0) (IsIn : Content → S → Type 0) (plan : Plan) where
           (λ j' e' _ e_at h'. owns_on o (r.items.owners j' e' o e_at h')) j e at_j h;
       given = given_now;
       waiting = waits_now;
+      leftovers = still_left r.items.leftovers (waits_on Waiting);
       seats = seats_now;
     }
 

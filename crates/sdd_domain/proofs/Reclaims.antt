@@ -10,7 +10,8 @@ use Rattle.atomic_table.specs.Table.{State, Me, step, takes, Allows}
 use Rattle.sdd_base.specs.declared.sizes.Sizes.{Sizes}
 use Rattle.sdd_steps.specs.declared.item.Item.{Item}
 use Rattle.sdd_steps.specs.declared.item.Cell.{Cell}
-use Rattle.sdd_steps.specs.declared.item.ItemState.TheVariants.{Due, Retired, Reclaimed, Live}
+use Rattle.sdd_steps.specs.declared.item.ItemState.{ItemState}
+use Rattle.sdd_steps.specs.declared.item.ItemState.TheVariants.{Due, Retired, Waiting, Reclaimed, Live}
 use Rattle.sdd_steps.specs.declared.step.Step.TheVariants.{Reclaim}
 use Rattle.sdd_steps.specs.State as steps
 use Rattle.sdd_steps.specs.State.{At, Has, times, participant_at, item_is, participant_is, with_item}
@@ -36,7 +37,7 @@ use Rattle.sdd_homes.proofs.ReclaimLemmas.{reclaimed_free}
 use Rattle.sdd_homes.proofs.PartLemmas as parts
 use Rattle.sdd_homes.proofs.Fillings as fillings
 use Rattle.sdd_domain.specs.Layout.{slot_word}
-use Rattle.sdd_domain.specs.Items.{hand_of, Grip, Owns, IsWaiting, Distinct, Carries, Items, IsGiven}
+use Rattle.sdd_domain.specs.Items.{hand_of, Grip, Owns, HasState, IsWaiting, Distinct, Carries, Items, IsGiven}
 use Rattle.sdd_domain.specs.Rule.{Runs, Shows}
 use Rattle.sdd_domain.specs.Plays.{deed_home, reclaiming, opens_then}
 use Rattle.sdd_domain.specs.declared.board.Acting.{Acting}
@@ -45,11 +46,11 @@ use Rattle.sdd_domain.proofs.Taken as taken
 use Rattle.sdd_domain.proofs.Taken.{and_true}
 use Rattle.sdd_domain.proofs.Looks.{has_last, has_more}
 use Rattle.sdd_domain.proofs.Moves.{items_change, reads_only}
-use Rattle.sdd_domain.proofs.Stirred.{grip_set}
+use Rattle.sdd_domain.proofs.Stirred.{still_left, grip_set}
 use Rattle.sdd_domain.proofs.GiveUps.{given_up, given_here, given_else, given_back, gives_up}
 
 -- the last one is of no other's item, and the others are of different ones
-init_distinct : (ws : List Garbage) (w : Garbage) → Distinct (ws ++ w ∷ []) → ((v : Garbage) → Has ws v → v.item ≢ w.item) × Distinct ws
+pub init_distinct : (ws : List Garbage) (w : Garbage) → Distinct (ws ++ w ∷ []) → ((v : Garbage) → Has ws v → v.item ≢ w.item) × Distinct ws
 init_distinct [] w h = ((λ v has. absurd has), tt)
 init_distinct (x ∷ ws) w h = let t = init_distinct ws w h.1 in (
   (λ v has. ⊎_elim (λ (e : x ≡ v). λ same. h.0 w (has_last ws w) (sym same ∙ ap (λ (z : Garbage). z.item) (sym e))) (λ (k : Has ws v). t.0 v k) has),
@@ -236,8 +237,8 @@ module _ (S : Type 0) (IsIn : Content → S → Type 0) (plan : Plan) where
     alone_now : (c : ℕ) (o : Cell) → At core.cells c o → o.holder ≡ None
     alone_now c o at_c = let z = at_mapped (let_go i) r.state.cells c o at_c in ap (λ (y : Cell). y.holder) (sym z.2) ∙ ap (λ h. cond (is_held_by i h && not (is_full z.0)) None h) (r.items.alone c z.0 z.1)
 
-    waits_else : (q : ℕ) (v : Garbage) → v.item ≢ i → IsWaiting r.state.items r.book.slot_of q v → IsWaiting core.items r.book.slot_of q v
-    waits_else q v ne h = (record h.0 { hand = h.0.hand + times v.item ks }, given_else i ks core1.items v.item h.0 (set_else r.state.items i v.item it1 ne ∙ h.1) ne others, h.2, h.3, h.4)
+    waits_else : (st : ItemState) (v : Garbage) → v.item ≢ i → HasState r.state.items r.book.slot_of st v → HasState core.items r.book.slot_of st v
+    waits_else st v ne h = (record h.0 { hand = h.0.hand + times v.item ks }, given_else i ks core1.items v.item h.0 (set_else r.state.items i v.item it1 ne ∙ h.1) ne others, h.2, h.3, h.4)
 
     distinct : ((v : Garbage) → Has ws v → v.item ≢ i) × Distinct ws
     distinct = init_distinct ws w (subst Distinct waits (r.items.seats id d at kind).distinct)
@@ -250,18 +251,19 @@ module _ (S : Type 0) (IsIn : Content → S → Type 0) (plan : Plan) where
 
     waits_now : (j : ℕ) (e : Acting) (v : Garbage) → At views' j e → e.kind ≡ 1 → Has e.waits v → IsWaiting core.items r.book.slot_of e.number v
     waits_now j e v at_j = set_all (λ _ e'. e'.kind ≡ 1 → Has e'.waits v → IsWaiting core.items r.book.slot_of e'.number v) s.views id d'
-        (λ _ has. waits_else p v (distinct.0 v has) (r.items.waiting id d v at kind (subst (λ (z : List Garbage). Has z v) (sym waits) (has_more ws w v has))))
-        (λ j' e' other here_e kind_e has. waits_else e'.number v (others_item j' e' v other here_e kind_e has) (r.items.waiting j' e' v here_e kind_e has)) j e at_j
+        (λ _ has. waits_else (Retired p v.age) v (distinct.0 v has) (r.items.waiting id d v at kind (subst (λ (z : List Garbage). Has z v) (sym waits) (has_more ws w v has))))
+        (λ j' e' other here_e kind_e has. waits_else (Retired e'.number v.age) v (others_item j' e' v other here_e kind_e has) (r.items.waiting j' e' v here_e kind_e has)) j e at_j
 
     seats_now : (j : ℕ) (e : Acting) → At views' j e → e.kind ≡ 1 → Carries plan.sizes book' e
     seats_now = set_all (λ _ e. e.kind ≡ 1 → Carries plan.sizes book' e) s.views id d'
-        (λ _. let b = r.items.seats id d at kind in record { sizes_are = b.sizes_are; leases = b.leases; spare = b.spare; fills = λ g e. let same : f ≡ g = cc in (stand.0, ap (λ (z : Filling). z.by) (sym same), put_here r.book.stage k (partly f) ∙ ap partly same); distinct = distinct.1 })
+        (λ _. let b = r.items.seats id d at kind in record { sizes_are = b.sizes_are; leases = b.leases; spare = b.spare; fills = λ g e. let same : f ≡ g = cc in (stand.0, ap (λ (z : Filling). z.by) (sym same), put_here r.book.stage k (partly f) ∙ ap partly same); distinct = distinct.1; left = b.left })
         (λ j e other e_at e_kind. let b = r.items.seats j e e_at e_kind in record {
           sizes_are = b.sizes_are;
           leases = b.leases;
           spare = b.spare;
           fills = λ g h. let t = b.fills g h in (t.0, t.1, stage_else e.slot (λ same. let bad : full i ≡ partly g = sym stand.1 ∙ (ap r.book.stage (sym same) ∙ t.2) in absurd (cc)) ∙ t.2);
           distinct = b.distinct;
+          left = b.left;
         })
 
     items_now : Items IsIn plan.sizes core book' s.words homes' views'
@@ -282,6 +284,7 @@ module _ (S : Type 0) (IsIn : Content → S → Type 0) (plan : Plan) where
       owners = owners_now;
       given = given_now;
       waiting = waits_now;
+      leftovers = still_left r.items.leftovers (λ v h. waits_else Waiting v (λ e. let one : h.0 ≡ it = same_at r.state.items i h.0 it (subst (λ m. At r.state.items m h.0) e h.1) is_waiting.1 in let bad : Waiting ≡ Retired p w.age = sym h.2 ∙ (ap (λ (z : Item). z.state) one ∙ is_waiting.2) in absurd (cc)) h);
       seats = seats_now;
     }
 

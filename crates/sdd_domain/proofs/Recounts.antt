@@ -8,7 +8,8 @@ use lib.ListN.{get_elem?, length-map}
 use Rattle.atomic_table.specs.Table.{State}
 use Rattle.sdd_steps.specs.declared.item.Item.{Item}
 use Rattle.sdd_steps.specs.declared.item.Cell.{Cell}
-use Rattle.sdd_steps.specs.declared.item.ItemState.TheVariants.{Live, Due, Retired, Reclaimed}
+use Rattle.sdd_steps.specs.declared.item.ItemState.{ItemState}
+use Rattle.sdd_steps.specs.declared.item.ItemState.TheVariants.{Live, Due, Retired, Waiting, Reclaimed}
 use Rattle.sdd_steps.specs.State as steps
 use Rattle.sdd_steps.specs.State.{At, Has, times}
 use Rattle.sdd_steps.specs.Invariant.{names_of}
@@ -23,13 +24,13 @@ use Rattle.sdd_homes.specs.Reasons.{Why}
 use Rattle.sdd_homes.specs.Lying.{Lying}
 use Rattle.sdd_homes.proofs.SpareLemmas.{Was, stays_kept}
 use Rattle.sdd_homes.proofs.HandLemmas.{owned_set}
-use Rattle.sdd_domain.specs.Layout.{cell_word, slot_word, claim_word, all_homes, all_spares}
-use Rattle.sdd_domain.specs.Items.{hand_of, Grip, Owns, IsWaiting, Carries, Items, Distinct, IsGiven}
+use Rattle.sdd_domain.specs.Layout.{cell_word, slot_word, claim_word, all_homes, all_extras}
+use Rattle.sdd_domain.specs.Items.{hand_of, Grip, Owns, HasState, IsWaiting, Carries, Items, Distinct, IsGiven}
 use Rattle.sdd_domain.specs.Rule.{Runs, Shows}
 use Rattle.sdd_domain.specs.declared.board.Acting.{Acting}
 use Rattle.sdd_domain.specs.declared.board.Plan.{Plan}
 use Rattle.sdd_domain.proofs.Moves.{items_change, slot_written}
-use Rattle.sdd_domain.proofs.Stirred.{rests_on, waits_set}
+use Rattle.sdd_domain.proofs.Stirred.{rests_on, still_left, waits_set}
 
 module _ (S : Type 0) (IsIn : Content → S → Type 0) (plan : Plan) (s : State S Acting) (r : Shows IsIn plan s) (id k i : ℕ) (d : Acting) (it it' : Item) (at : get_elem? s.views id ≡ some d) (kind : d.kind ≡ 1)
     (inside : k < plan.sizes.slots) (is : r.book.stage k ≡ full i) (here : At r.state.items i it) (leases' : List Lease) (hand' : List Owner) (releasing' : ℕ) (waits' : List Garbage) (share' : ℕ → ℕ → ℕ) (out' : ℕ → List Lease) (what' : ℕ → Content) (homes' : List (maybe.Option S)) where
@@ -54,7 +55,7 @@ module _ (S : Type 0) (IsIn : Content → S → Type 0) (plan : Plan) (s : State
   -- parts are counted with the item as it is after the step, and so are owners in hand
   pub record Recounts : Type 0 where
     pub parts : Parts plan.sizes.participants plan.sizes.slots core.items (Why core (Grip views')) book'
-    pub lying : Lying IsIn (all_homes plan.sizes) (all_spares plan.sizes) what' r.book.extra homes'
+    pub lying : Lying IsIn (all_homes plan.sizes) (all_extras plan.sizes) what' r.book.extra homes'
     pub mine : out' d.number ≡ leases'
     pub others : (q : ℕ) → q ≢ d.number → out' q ≡ r.book.out q
     pub value : it'.value ≡ it.value
@@ -68,9 +69,12 @@ module _ (S : Type 0) (IsIn : Content → S → Type 0) (plan : Plan) (s : State
     pub waits : (w : Garbage) → Has waits' w → IsWaiting core.items r.book.slot_of d.number w
 
   -- the item has an owner, so nobody has retired it
-  pub waits_else : it.state ≡ Live → (q : ℕ) (w : Garbage) → IsWaiting r.state.items r.book.slot_of q w → IsWaiting core.items r.book.slot_of q w
-  waits_else alive q w h = let ne : w.item ≢ i = (λ e. let same : h.0 ≡ it = same_at r.state.items i h.0 it (subst (λ m. At r.state.items m h.0) e h.1) here in let bad : Live ≡ Retired q w.age = sym alive ∙ (ap (λ (z : Item). z.state) (sym same) ∙ h.2) in absurd (cc)) in
+  state_else : it.state ≡ Live → (st : ItemState) (w : Garbage) → Live ≢ st → HasState r.state.items r.book.slot_of st w → HasState core.items r.book.slot_of st w
+  state_else alive st w dead h = let ne : w.item ≢ i = (λ e. let same : h.0 ≡ it = same_at r.state.items i h.0 it (subst (λ m. At r.state.items m h.0) e h.1) here in dead (sym alive ∙ (ap (λ (z : Item). z.state) (sym same) ∙ h.2))) in
       (h.0, set_else r.state.items i w.item it' ne ∙ h.1, h.2, h.3, h.4)
+
+  pub waits_else : it.state ≡ Live → (q : ℕ) (w : Garbage) → IsWaiting r.state.items r.book.slot_of q w → IsWaiting core.items r.book.slot_of q w
+  waits_else alive q w h = state_else alive (Retired q w.age) w (λ e. absurd (cc)) h
 
   module _ (c : Recounts) where
     slot_is : r.book.slot_of i ≡ k
@@ -111,9 +115,9 @@ module _ (S : Type 0) (IsIn : Content → S → Type 0) (plan : Plan) (s : State
         (λ (h : (j ≢ i) × At r.state.items j w). let old = r.items.hands j w h.1 in let own = c.hand_else j h.0 in omega arith) (at_set r.state.items i j it' w at_j)
 
     seats_now : (j : ℕ) (e : Acting) → At views' j e → e.kind ≡ 1 → Carries plan.sizes book' e
-    seats_now = set_all (λ _ e. e.kind ≡ 1 → Carries plan.sizes book' e) s.views id d' (λ _. let b = r.items.seats id d at kind in record { sizes_are = b.sizes_are; leases = c.mine; spare = b.spare; fills = b.fills; distinct = c.distinct })
+    seats_now = set_all (λ _ e. e.kind ≡ 1 → Carries plan.sizes book' e) s.views id d' (λ _. let b = r.items.seats id d at kind in record { sizes_are = b.sizes_are; leases = c.mine; spare = b.spare; fills = b.fills; distinct = c.distinct; left = b.left })
         (λ j e other e_at e_kind. let b = r.items.seats j e e_at e_kind in let a = r.epochs.seats id d at kind in let x = r.epochs.seats j e e_at e_kind in
-        record { sizes_are = b.sizes_are; leases = c.others e.number (λ same. other (sym x.seated ∙ (ap r.epochs.seat_of same ∙ a.seated))) ∙ b.leases; spare = b.spare; fills = b.fills; distinct = b.distinct })
+        record { sizes_are = b.sizes_are; leases = c.others e.number (λ same. other (sym x.seated ∙ (ap r.epochs.seat_of same ∙ a.seated))) ∙ b.leases; spare = b.spare; fills = b.fills; distinct = b.distinct; left = b.left })
 
     items_now : Items IsIn plan.sizes core book' words' homes' views'
     items_now = let y = stays_kept r.items.spares core.items (λ j _ _. was j) in let a = r.epochs.seats id d at kind in record {
@@ -129,11 +133,12 @@ module _ (S : Type 0) (IsIn : Content → S → Type 0) (plan : Plan) (s : State
       vacancies = vacancies_now;
       alone = r.items.alone;
       free = λ p low some_. let same = get_or-set_other s.words word (claim_word p) (2 + it'.owners) 0 (λ z. omega arith) in let t = rests_on r.items words' p low same some_ in
-          (c.others p (λ e. some_ (same ∙ (ap (λ z. get_or s.words (claim_word z) 0) e ∙ a.claimed))) ∙ t.0, t.1, t.2);
+          (c.others p (λ e. some_ (same ∙ (ap (λ z. get_or s.words (claim_word z) 0) e ∙ a.claimed))) ∙ t.0, t.1, t.2, t.3);
       hands = hands_now;
       owners = λ j e o at_j has. set_all (λ _ e'. Has e'.hand o → Owns core.items r.book.slot_of o) s.views id d' (λ h. owns_on o (c.owns o h)) (λ j' e' _ e_at h. owns_on o (r.items.owners j' e' o e_at h)) j e at_j has;
       given = given_now;
       waiting = waits_set r.items core.items id d' (λ w _ h. c.waits w h) (λ j e w _ e_at k' h. waits_else c.alive e.number w (r.items.waiting j e w e_at k' h));
+      leftovers = still_left r.items.leftovers (λ w h. state_else c.alive Waiting w (λ e. absurd (cc)) h);
       seats = seats_now;
     }
 

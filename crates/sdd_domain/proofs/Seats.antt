@@ -36,7 +36,7 @@ module _ (S : Type 0) (IsIn : Content → S → Type 0) (plan : Plan) where
       let idle : (p : ℕ) (x : Participant) (e : ℕ) → At (replicate n newcomer) p x → x.phase ≡ Opened e → ⊥ = (λ p x e at h. let same : Idle ≡ Opened e = ap (λ (z : Participant). z.phase) (at_replicate n p newcomer x at) ∙ h in absurd (cc)) in record {
         state = start';
         run = ([], refl);
-        book = first_book n;
+        book = first_book sizes;
         items = items_begin plan words homes (ap length is_words ∙ long_first plan) (λ p lt. w (claim_word p) ∙ claim_words_first plan p lt) (λ c lt. w (cell_word sizes c) ∙ cell_words_first plan c lt) first_slots;
         kept = (
           (starts n plan.sizes.cells).0,
@@ -86,7 +86,7 @@ module _ (S : Type 0) (IsIn : Content → S → Type 0) (plan : Plan) where
             same = λ i. let e = owned_end hand_of i s.views spent in omega arith;
             owners = λ j d o' e has. ⊎_elim (λ (h : get_elem? s.views j ≡ some d). r.items.owners j d o' h has) (λ (t : spent ≡ d). absurd (subst (λ (v : Acting). Has v.hand o') (sym t) has)) (at_snoc s.views spent d j e);
             seats = λ j d e kind. ⊎_elim (λ (h : get_elem? s.views j ≡ some d). r.items.seats j d h kind) (λ (t : spent ≡ d). nobody d _ t kind) (at_snoc s.views spent d j e);
-          }) (λ j d w e kind has. ⊎_elim (λ (h : get_elem? s.views j ≡ some d). r.items.waiting j d w h kind has) (λ (t : spent ≡ d). nobody d _ t kind) (at_snoc s.views spent d j e));
+          }) (λ j d w e kind has. ⊎_elim (λ (h : get_elem? s.views j ≡ some d). r.items.waiting j d w h kind has) (λ (t : spent ≡ d). nobody d _ t kind) (at_snoc s.views spent d j e)) r.items.leftovers;
       born = r.born;
       bounded = r.bounded;
       epochs = record {

@@ -7,6 +7,8 @@ use Rattle.atomic_table.specs.Table.{State}
 use Rattle.atomic_table.proofs.Lists.{set_again}
 use Rattle.sdd_steps.specs.declared.participant.Participant.{Participant}
 use Rattle.sdd_steps.specs.declared.item.Item.{Item}
+use Rattle.sdd_steps.specs.declared.item.ItemState.{ItemState}
+use Rattle.sdd_steps.specs.declared.item.ItemState.TheVariants.{Retired, Waiting}
 use Rattle.sdd_steps.specs.declared.item.Cell.{Cell}
 use Rattle.sdd_steps.specs.declared.step.Step.TheVariants.{SwapCell}
 use Rattle.sdd_steps.specs.State as steps
@@ -20,7 +22,7 @@ use Rattle.sdd_homes.specs.Book.{Content, away, part}
 use Rattle.sdd_homes.specs.Hands.{items_of, owned}
 use Rattle.sdd_homes.proofs.SwapLemmas.{long_swapped}
 use Rattle.sdd_steps.specs.Invariant.{Inv}
-use Rattle.sdd_steps.proofs.ListLemmas.{put, set_all, at_set, at_inside, at_map, same_at}
+use Rattle.sdd_steps.proofs.ListLemmas.{put, put_else, set_all, at_set, at_inside, at_map, same_at}
 use Rattle.sdd_homes.specs.declared.Lease.{Lease}
 use Rattle.sdd_homes.specs.Book.{Book}
 use Rattle.sdd_homes.specs.Reasons.{Loads, Why}
@@ -32,14 +34,14 @@ use Rattle.sdd_homes.proofs.PartLemmas as parts
 use Rattle.sdd_homes.proofs.SwapLemmas.{Handy, handy_swapped, handy_back, hand_swapped, names_swapped, alone_swapped}
 use Rattle.sdd_homes.proofs.SpareLemmas.{Was, exchanged, spare_of_user, spare_of_cell, spare_of_others, extra_of_others, swapped}
 use Rattle.sdd_homes.proofs.HandLemmas.{owned_set, owned_some, mine_some}
-use Rattle.sdd_domain.specs.Layout.{cell_word, slot_word, claim_word, state_word, all_homes, all_spares, packed}
-use Rattle.sdd_domain.specs.Items.{hand_of, code, Grip, Owns, IsWaiting, Carries, Items}
+use Rattle.sdd_domain.specs.Layout.{cell_word, slot_word, claim_word, state_word, all_homes, all_extras, bag_place, packed}
+use Rattle.sdd_domain.specs.Items.{hand_of, code, Grip, Owns, HasState, IsWaiting, Carries, Items}
 use Rattle.sdd_domain.specs.Owners.{item_of, slot_code, part_of, besides}
 use Rattle.sdd_domain.specs.Rule.{Runs, Shows}
 use Rattle.sdd_domain.specs.declared.board.Acting.{Acting}
 use Rattle.sdd_domain.specs.declared.board.Plan.{Plan}
 use Rattle.sdd_domain.proofs.Moves.{moved, own_inside}
-use Rattle.sdd_domain.proofs.Stirred.{rests_on, grip_set, waits_set}
+use Rattle.sdd_domain.proofs.Stirred.{rests_on, still_left, grip_set, waits_set}
 use Rattle.sdd_domain.proofs.Taken as taken
 use Rattle.sdd_domain.proofs.Taken.{and_true, or_left}
 
@@ -181,9 +183,9 @@ module _ (S : Type 0) (IsIn : Content → S → Type 0) (plan : Plan) (s : State
   abbrev homes' : List (maybe.Option S)
   homes' = set (set s.homes (all_homes plan.sizes + d.spare) (some u)) (all_homes plan.sizes + r.book.spare c) none
 
-  lies : Lying IsIn (all_homes plan.sizes) (all_spares plan.sizes) r.book.what book'.extra homes'
-  lies = let b = r.items.seats id d at kind in takes_high (subst (λ z. Lying IsIn (all_homes plan.sizes) (all_spares plan.sizes) r.book.what (put r.book.extra (r.book.spare v) (part_of new)) (set s.homes (all_homes plan.sizes + z) (some u))) b.spare
-      (gives_high r.items.lying (r.book.spare v) (part_of new) u (r.items.spares.range v lv) is_in)) (r.book.spare c) (r.items.spares.range c (omega arith))
+  lies : Lying IsIn (all_homes plan.sizes) (all_extras plan.sizes) r.book.what book'.extra homes'
+  lies = let b = r.items.seats id d at kind in takes_high (subst (λ z. Lying IsIn (all_homes plan.sizes) (all_extras plan.sizes) r.book.what (put r.book.extra (r.book.spare v) (part_of new)) (set s.homes (all_homes plan.sizes + z) (some u))) b.spare
+      (gives_high r.items.lying (r.book.spare v) (part_of new) u (let in_ = r.items.spares.range v lv in omega arith) is_in)) (r.book.spare c) (let in_ = r.items.spares.range c (omega arith) in omega arith)
 
   cells_now : (e : ℕ) (x : Option ℕ) → At (names_of t.cells) e x → get_or words' (cell_word plan.sizes e) 0 ≡ packed (book'.spare e) (code r.book.slot_of x)
   cells_now e x at_e = let b = r.items.seats id d at kind in let long = r.items.long in ⊎_elim
@@ -205,20 +207,21 @@ module _ (S : Type 0) (IsIn : Content → S → Type 0) (plan : Plan) (s : State
 
   seats_now : (j : ℕ) (e : Acting) → At (set s.views id d') j e → e.kind ≡ 1 → Carries plan.sizes book' e
   seats_now = set_all (λ _ e'. e'.kind ≡ 1 → Carries plan.sizes book' e') s.views id d'
-      (λ _. let b = r.items.seats id d at kind in record { sizes_are = b.sizes_are; leases = b.leases; spare = spare_of_user r.items.spares c v (part_of new) lc lv ne; fills = b.fills; distinct = b.distinct })
+      (λ _. let b = r.items.seats id d at kind in record { sizes_are = b.sizes_are; leases = b.leases; spare = spare_of_user r.items.spares c v (part_of new) lc lv ne; fills = b.fills; distinct = b.distinct; left = b.left })
       (λ j' e' other here k. let b = r.items.seats j' e' here k in let a = r.epochs.seats id d at kind in let x = r.epochs.seats j' e' here k in let apart : e'.number ≢ d.number = (λ same. other (sym x.seated ∙ (ap r.epochs.seat_of same ∙ a.seated))) in record {
         sizes_are = b.sizes_are;
         fills = b.fills;
         distinct = b.distinct;
+        left = b.left;
         leases = b.leases;
         spare = spare_of_others r.items.spares c v (part_of new) lc lv ne (plan.sizes.cells + e'.number) (λ z. omega arith) (λ z. apart (omega arith)) ∙ b.spare;
       })
 
-  waits_on : (q : ℕ) (w : Garbage) → IsWaiting r.state.items r.book.slot_of q w → IsWaiting t.items r.book.slot_of q w
-  waits_on q w h = let a = ahead w.item h.0 h.1 in (a.0, a.1, ap (λ (z : Item). z.state) a.2 ∙ h.2, ap (λ (z : Item). z.value) a.2 ∙ h.3, h.4)
+  waits_on : (st : ItemState) (w : Garbage) → HasState r.state.items r.book.slot_of st w → HasState t.items r.book.slot_of st w
+  waits_on st w h = let a = ahead w.item h.0 h.1 in (a.0, a.1, ap (λ (z : Item). z.state) a.2 ∙ h.2, ap (λ (z : Item). z.value) a.2 ∙ h.3, h.4)
 
   waits_now : (j : ℕ) (e : Acting) (w : Garbage) → At (set s.views id d') j e → e.kind ≡ 1 → Has e.waits w → IsWaiting t.items r.book.slot_of e.number w
-  waits_now = waits_set r.items t.items id d' (λ w _ h. waits_on d.number w (r.items.waiting id d w at kind h)) (λ j e w _ here k h. waits_on e.number w (r.items.waiting j e w here k h))
+  waits_now = waits_set r.items t.items id d' (λ w _ h. waits_on (Retired d.number w.age) w (r.items.waiting id d w at kind h)) (λ j e w _ here k h. waits_on (Retired e.number w.age) w (r.items.waiting j e w here k h))
 
   items_now : Items IsIn plan.sizes t book' words' homes' (set s.views id d')
   items_now = record {
@@ -235,11 +238,12 @@ module _ (S : Type 0) (IsIn : Content → S → Type 0) (plan : Plan) (s : State
     alone = alone_swapped r.state c (item_of new) r.items.alone;
     free = λ p low_p some_. let same = get_or-set_other s.words cw (claim_word p) value 0 (λ z. omega arith) in let t = rests_on r.items words' p low_p same some_ in
         let other : p ≢ d.number = (λ e. some_ (same ∙ (ap (λ z. get_or s.words (claim_word z) 0) e ∙ (r.epochs.seats id d at kind).claimed))) in
-        (t.0, t.1 ∙ ap suc (sym (spare_of_others r.items.spares c v (part_of new) lc lv ne (plan.sizes.cells + p) (λ z. omega arith) (λ z. other (omega arith)))), extra_of_others r.items.spares c v (part_of new) lc lv ne (plan.sizes.cells + p) (omega arith) (λ z. omega arith) (λ z. other (omega arith)) ∙ t.2);
+        (t.0, t.1 ∙ ap suc (sym (spare_of_others r.items.spares c v (part_of new) lc lv ne (plan.sizes.cells + p) (λ z. omega arith) (λ z. other (omega arith)))), extra_of_others r.items.spares c v (part_of new) lc lv ne (plan.sizes.cells + p) (omega arith) (λ z. omega arith) (λ z. other (omega arith)) ∙ t.2, put_else (put r.book.extra (r.book.spare v) (part_of new)) (r.book.spare c) away (bag_place plan.sizes p) (λ z. let in_ = r.items.spares.range c (omega arith) in omega arith) ∙ (put_else r.book.extra (r.book.spare v) (part_of new) (bag_place plan.sizes p) (λ z. let in_ = r.items.spares.range v lv in omega arith) ∙ t.3));
     hands = hands_now;
     owners = owners_now;
     given = λ i it' at_i alive. let w = back i it' at_i in let g = r.items.given i w.0 w.1 (λ q e. alive q (ap (λ (z : Item). z.state) w.2 ∙ e)) in (g.0 ∙ sym (ap (λ (z : Item). z.holds) w.2), λ o h. owns_on o (g.1 o h));
     waiting = waits_now;
+    leftovers = still_left r.items.leftovers (waits_on Waiting);
     seats = seats_now;
   }
     where

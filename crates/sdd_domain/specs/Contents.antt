@@ -1,10 +1,15 @@
 -- what lies in a slot of the table, by its content
-use Rattle.std.specs.Prelude.{◌≡◌, Bool, true, false, ℕ, suc, ◌%◌, ◌<◌, List, [], IsSome}
+use Rattle.std.specs.Prelude.{◌≡◌, Bool, true, false, ℕ, suc, ◌%◌, ◌<◌, ◌≤◌, List, [], ◌∷◌, map, length, vec_capacity, IsSome}
 use Rattle.sdd_base.specs.declared.sizes.Sizes.{Sizes}
 use Rattle.sdd_steps.specs.State.{At}
-use Rattle.sdd_homes.specs.Book.{Content, away, blank, room, deed, part, resting}
+use Rattle.sdd_homes.specs.declared.Garbage.{Garbage}
+use Rattle.sdd_homes.specs.Book.{Content, away, blank, room, deed, part, bag, resting}
 use Rattle.sdd_domain.specs.declared.board.Home.{Home}
-use Rattle.sdd_domain.specs.declared.board.Home.TheVariants.{Blank, Room, Deed, Part, Announced}
+use Rattle.sdd_domain.specs.declared.board.Home.TheVariants.{Blank, Room, Deed, Part, Left, Announced}
+
+-- the slots of these items, in their order
+abbrev pub slots_of : List Garbage → List ℕ
+slots_of = map (λ (w : Garbage). w.slot)
 
 -- an item is read by its parts, and had back by its deed; items hold no owners yet
 module _ {T : Type 0} where
@@ -14,10 +19,15 @@ module _ {T : Type 0} where
   IsIn room y = (b : _) × (y ≡ Room b)
   IsIn (deed r hs) y = (d : _) × (y ≡ Deed d) × (d.life ≡ r) × IsSome d.value × (hs ≡ [])
   IsIn (part r c) y = (p : _) × (y ≡ Part p c) × (p.life.id ≡ r) × (p.life.count ≡ c) × (0 < c) × IsSome p.seen.value
+  IsIn (bag n ws) y = (v : _) × (y ≡ Left v) × (v.items ≡ slots_of ws) × (n ≤ vec_capacity v) × (length ws ≤ n)
 
   -- these are the homes of free slots, for n participants
   abbrev pub AreResting : ℕ → List (Home T) → Type 0
   AreResting n homes = (i : ℕ) (y : Home T) → At homes i y → IsIn (resting n (i % suc n)) y
+
+  -- these are empty bags, with room for n slots
+  abbrev pub AreBags : ℕ → List (Home T) → Type 0
+  AreBags n homes = (i : ℕ) (y : Home T) → At homes i y → IsIn (bag n []) y
 
   -- whether it is empty
   abbrev pub is_blank : Home T → Bool
@@ -25,6 +35,7 @@ module _ {T : Type 0} where
   is_blank (Room b) = false
   is_blank (Deed d) = false
   is_blank (Part p c) = false
+  is_blank (Left v) = false
   is_blank (Announced z) = false
 
   -- the value is none of a slot, and announces how large the place is

@@ -4,20 +4,21 @@ use mathlib.Core.Option as maybe
 use Rattle.sdd_base.specs.declared.sizes.Sizes.{Sizes}
 use Rattle.sdd_steps.specs.declared.item.Item.{Item}
 use Rattle.sdd_steps.specs.declared.item.Cell.{Cell}
-use Rattle.sdd_steps.specs.declared.item.ItemState.TheVariants.{Due, Retired, Reclaimed}
+use Rattle.sdd_steps.specs.declared.item.ItemState.{ItemState}
+use Rattle.sdd_steps.specs.declared.item.ItemState.TheVariants.{Due, Retired, Waiting, Reclaimed}
 use Rattle.sdd_steps.specs.State as steps
 use Rattle.sdd_steps.specs.State.{At, Has}
 use Rattle.sdd_steps.specs.Invariant.{names_of}
 use Rattle.sdd_homes.specs.declared.Owner.{Owner}
 use Rattle.sdd_homes.specs.declared.Filling.{Filling}
 use Rattle.sdd_homes.specs.declared.Garbage.{Garbage}
-use Rattle.sdd_homes.specs.Book.{Content, blank, vacant, partly, full, Book}
+use Rattle.sdd_homes.specs.Book.{Content, blank, bag, vacant, partly, full, Book}
 use Rattle.sdd_homes.specs.Parts.{Parts}
 use Rattle.sdd_homes.specs.Spares.{Spares}
 use Rattle.sdd_homes.specs.Reasons.{Why}
 use Rattle.sdd_homes.specs.Lying.{Lying}
 use Rattle.sdd_homes.specs.Hands.{items_of, owned}
-use Rattle.sdd_domain.specs.Layout.{claim_word, cell_word, slot_word, packed, all_words, all_homes, all_spares}
+use Rattle.sdd_domain.specs.Layout.{claim_word, cell_word, slot_word, packed, all_words, all_homes, all_extras, bag_place}
 use Rattle.sdd_domain.specs.declared.board.Acting.{Acting}
 
 abbrev pub hand_of : Acting → List Owner
@@ -43,9 +44,17 @@ Owns items slot_of o = (it : Item) × At items o.item it × (it.value ≡ o.roun
 abbrev pub IsGiven : List Item → (ℕ → ℕ) → List Owner → Item → Type 0
 IsGiven items slot_of hs it = (items_of hs ≡ it.holds) × ((o : Owner) → Has hs o → Owns items slot_of o)
 
--- p retired the item w.item, so many rotations ago
+-- the item w.item has this state, and is in the slot and of the round that w tells
+abbrev pub HasState : List Item → (ℕ → ℕ) → ItemState → Garbage → Type 0
+HasState items slot_of state w = (it : Item) × At items w.item it × (it.state ≡ state) × (it.value ≡ w.round) × (slot_of w.item ≡ w.slot)
+
+-- p retired it, so many rotations ago
 abbrev pub IsWaiting : List Item → (ℕ → ℕ) → ℕ → Garbage → Type 0
-IsWaiting items slot_of p w = (it : Item) × At items w.item it × (it.state ≡ Retired p w.age) × (it.value ≡ w.round) × (slot_of w.item ≡ w.slot)
+IsWaiting items slot_of p w = HasState items slot_of (Retired p w.age) w
+
+-- who retired it has ended, and nobody has taken it over
+abbrev pub IsLeft : List Item → (ℕ → ℕ) → Garbage → Type 0
+IsLeft items slot_of w = HasState items slot_of Waiting w
 
 -- the slot that the view's participant fills or empties, if it does
 abbrev pub IsFilling : Sizes → Book → Acting → Type 0
@@ -56,9 +65,15 @@ abbrev pub Distinct : List Garbage → Type 0
 Distinct [] = Unit {0}
 Distinct (w ∷ ws) = ((v : Garbage) → Has ws v → v.item ≢ w.item) × Distinct ws
 
--- nobody acts for p: none of its homes is out, and its spare slot, which its claim word tells, is empty
+-- what participants left: no item is in two bags, or in one twice
+pub record Leftovers (items : List Item) (slot_of : ℕ → ℕ) (left : ℕ → List Garbage) : Type 0 where
+  pub waits : (p : ℕ) (w : Garbage) → Has (left p) w → IsLeft items slot_of w
+  pub once : (p : ℕ) → Distinct (left p)
+  pub apart : (p q : ℕ) (v w : Garbage) → Has (left p) v → Has (left q) w → v.item ≡ w.item → p ≡ q
+
+-- nobody acts for p: none of its homes is out, its spare slot, which its claim word tells, is empty, and its bag has what it left
 abbrev pub Rests : Sizes → Book → List ℕ → ℕ → Type 0
-Rests sizes book words p = (book.out p ≡ []) × (slice_index words (claim_word p) ≡ suc (book.spare (sizes.cells + p))) × (book.extra (book.spare (sizes.cells + p)) ≡ blank)
+Rests sizes book words p = (book.out p ≡ []) × (slice_index words (claim_word p) ≡ suc (book.spare (sizes.cells + p))) × (book.extra (book.spare (sizes.cells + p)) ≡ blank) × (book.extra (bag_place sizes p) ≡ bag sizes.slots (book.left p))
 
 -- what stands of a view that acts for a participant
 pub record Carries (sizes : Sizes) (book : Book) (d : Acting) : Type 0 where
@@ -67,11 +82,12 @@ pub record Carries (sizes : Sizes) (book : Book) (d : Acting) : Type 0 where
   pub spare : book.spare (sizes.cells + d.number) ≡ d.spare
   pub fills : IsFilling sizes book d
   pub distinct : Distinct d.waits
+  pub left : book.left d.number ≡ d.left
 
 pub record Items {S : Type 0} (IsIn : Content → S → Type 0) (sizes : Sizes) (state : steps.State) (book : Book) (words : List ℕ) (homes : List (maybe.Option S)) (views : List Acting) : Type 0 where
   pub parts : Parts sizes.participants sizes.slots state.items (Why state (Grip views)) book
   pub spares : Spares sizes.cells sizes.participants (names_of state.cells) state.items book
-  pub lying : Lying IsIn (all_homes sizes) (all_spares sizes) book.what book.extra homes
+  pub lying : Lying IsIn (all_homes sizes) (all_extras sizes) book.what book.extra homes
   pub standing : (i : ℕ) (it : Item) → At state.items i it → ((q : ℕ) → it.state ≢ Reclaimed q) → (book.slot_of i < sizes.slots) × (book.stage (book.slot_of i) ≡ full i)
   pub settled : (i : ℕ) (it : Item) (q : ℕ) → At state.items i it → it.state ≢ Due q
   pub many : length state.cells ≡ sizes.cells
@@ -85,4 +101,5 @@ pub record Items {S : Type 0} (IsIn : Content → S → Type 0) (sizes : Sizes) 
   pub owners : (j : ℕ) (d : Acting) (o : Owner) → At views j d → Has d.hand o → Owns state.items book.slot_of o
   pub given : (i : ℕ) (it : Item) → At state.items i it → ((q : ℕ) → it.state ≢ Reclaimed q) → IsGiven state.items book.slot_of (book.held (book.slot_of i)) it
   pub waiting : (j : ℕ) (d : Acting) (w : Garbage) → At views j d → d.kind ≡ 1 → Has d.waits w → IsWaiting state.items book.slot_of d.number w
+  pub leftovers : Leftovers state.items book.slot_of book.left
   pub seats : (j : ℕ) (d : Acting) → At views j d → d.kind ≡ 1 → Carries sizes book d

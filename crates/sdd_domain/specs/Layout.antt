@@ -32,12 +32,19 @@ slot_word sizes k = epoch_words sizes.participants + sizes.cells + k
 abbrev pub all_words : Sizes → ℕ
 all_words sizes = epoch_words sizes.participants + sizes.cells + sizes.slots
 
--- The slots of the table: homes, one of each participant and one more for each slot for items; then spare ones, one for each cell and participant.
+-- The slots of the table: homes, one of each participant and one more for each slot for items; then spare ones, one for each cell and participant; then a bag of each participant.
 abbrev pub all_homes : Sizes → ℕ
 all_homes sizes = sizes.slots * suc sizes.participants
 
 abbrev pub all_spares : Sizes → ℕ
 all_spares sizes = sizes.cells + sizes.participants
+
+-- where the bag of p lies among the slots behind the homes, and how many these are
+abbrev pub bag_place : Sizes → ℕ → ℕ
+bag_place sizes p = all_spares sizes + p
+
+abbrev pub all_extras : Sizes → ℕ
+all_extras sizes = all_spares sizes + sizes.participants
 
 -- the word of a cell: its spare slot, and the code of what it names
 abbrev pub packed : ℕ → ℕ → ℕ

@@ -11,9 +11,9 @@ use Rattle.sdd_homes.specs.declared.Lease.{Lease}
 use Rattle.sdd_homes.specs.declared.Owner.{Owner}
 use Rattle.sdd_homes.specs.declared.Filling.{Filling}
 use Rattle.sdd_homes.specs.declared.Garbage.{Garbage}
-use Rattle.sdd_homes.specs.Book.{Content, part, home, lease, Lends, recounted, blank, room, deed}
+use Rattle.sdd_homes.specs.Book.{Content, part, home, lease, Lends, recounted, blank, room, deed, bag}
 use Rattle.sdd_domain.specs.Views.{spent, registered, reading, publishing, rotated, looking, closing}
-use Rattle.sdd_domain.specs.Layout.{state_word, claim_word, slot_word, all_homes, packed, shown}
+use Rattle.sdd_domain.specs.Layout.{state_word, claim_word, slot_word, all_homes, bag_place, packed, shown}
 use Rattle.sdd_domain.specs.Owners.{slot_code, part_of, besides}
 use Rattle.sdd_domain.specs.declared.board.Acting.{Acting}
 
@@ -53,9 +53,9 @@ module _ {S : Type 0} where
   abbrev pub sit_then : Step S → Me S Acting → ℕ → Me S Acting → Type 0
   sit_then t m n m' = m'.0 ≡ spent
 
-  -- what was in front of what was out with the seat is back
+  -- the two slots that were in front of what was out with the seat are back
   abbrev pub end_then : Step S → Me S Acting → ℕ → Me S Acting → Type 0
-  end_then t m n m' = m' ≡ (spent, rest m.1)
+  end_then t m n m' = m' ≡ (spent, rest (rest m.1))
 
 -- what is announced with the step, how large the place is, is so
 abbrev pub learn_then : {S : Type 0} → (S → Sizes → Type 0) → Step S → Me S Acting → ℕ → Me S Acting → Type 0
@@ -64,7 +64,7 @@ learn_then Announces t m n m' = (m' ≡ m) × ((x : _) (z : Sizes) → t.said �
 -- a scan leaves alone all but what it tells of the participant itself
 abbrev pub Steady : {S : Type 0} → Me S Acting → Me S Acting → Type 0
 Steady m m' = (m'.0.kind ≡ m.0.kind) × (m'.0.number ≡ m.0.number) × (m'.0.born ≡ m.0.born) × (m'.0.sizes ≡ m.0.sizes) × (m'.0.spare ≡ m.0.spare) × (m'.0.hand ≡ m.0.hand) × (m'.0.leases ≡ m.0.leases) × (m'.0.releasing ≡ m.0.releasing) × (m'.0.slot ≡ m.0.slot)
-    × (m'.0.filling ≡ m.0.filling) × (m'.0.waits ≡ m.0.waits) × (m'.1 ≡ m.1)
+    × (m'.0.filling ≡ m.0.filling) × (m'.0.waits ≡ m.0.waits) × (m'.0.left ≡ m.0.left) × (m'.1 ≡ m.1)
 
 -- the seat acts for p, whose guard is open with the count e, at this stage of a scan
 abbrev pub Scans : {S : Type 0} → Seat S Acting → ℕ → ℕ → ℕ → Type 0
@@ -115,20 +115,33 @@ end_all_then t m n m' = m' ≡ (ending m.0, drop (length m.0.leases) m.1)
 abbrev pub own_spare : Acting → ℕ → ℕ
 own_spare d y = all_homes d.sizes + y
 
--- whether just the slot k is out with a seat, and is empty
-abbrev pub has_just : {S : Type 0} → (S → Bool) → ℕ → List (ℕ × S) → Bool
-has_just is_blank k [] = false
-has_just is_blank k (x ∷ []) = (x.0 == k) && is_blank x.1
-has_just is_blank k (x ∷ y ∷ ys) = false
+-- where the participant's bag lies
+abbrev pub own_bag : Acting → ℕ
+own_bag d = all_homes d.sizes + bag_place d.sizes d.number
+
+-- whether just the slots k and l are out with a seat, with values that pass these tests
+abbrev pub has_both : {S : Type 0} → (S → Bool) → (S → Bool) → ℕ → ℕ → List (ℕ × S) → Bool
+has_both first second k l [] = false
+has_both first second k l (x ∷ []) = false
+has_both first second k l (x ∷ y ∷ []) = ((x.0 == k) && first x.1) && ((y.0 == l) && second y.1)
+has_both first second k l (x ∷ y ∷ z ∷ zs) = false
 
 module _ {S : Type 0} (IsIn : Content → S → Type 0) where
   -- the participant's spare slot is in front of what is out with the seat, and is empty
   abbrev pub HasSpare : Me S Acting → List (ℕ × S) → Type 0
   HasSpare m tail = (u : S) × IsIn blank u × (m.1 ≡ (own_spare m.0 m.0.spare, u) ∷ tail)
 
-  -- the seat has come to act for the participant q, whose spare slot y came out
+  -- behind it is the participant's bag, with these items
+  abbrev pub HasBag : Me S Acting → List Garbage → List (ℕ × S) → Type 0
+  HasBag m ws tail = (b : S) × IsIn (bag m.0.sizes.slots ws) b × HasSpare m ((own_bag m.0, b) ∷ tail)
+
+  -- the seat has come to act for the participant q, whose spare slot y came out, and whose bag
   abbrev pub HasRegistered : Me S Acting → ℕ → ℕ → Me S Acting → Type 0
-  HasRegistered m q y m' = (sizes : Sizes) × (m'.0 ≡ registered sizes y q) × HasSpare m' m.1
+  HasRegistered m q y m' = (sizes : Sizes) × (ws : List Garbage) × (m'.0 ≡ registered sizes y ws q) × HasBag m' ws m.1
+
+  -- the participant leaves what it retired, behind what it hasn't taken over
+  abbrev pub CanLeave : Me S Acting → List (ℕ × S) → Type 0
+  CanLeave m tail = HasBag m (m.0.left ++ m.0.waits) tail
 
   -- a participant for which nobody acts is claimed: its word tells its spare slot
   abbrev pub claim_then : Step S → Me S Acting → ℕ → Me S Acting → Type 0
@@ -274,6 +287,14 @@ module _ {S : Type 0} (IsIn : Content → S → Type 0) where
   -- an item was placed that holds the items whose owners were in hand
   abbrev pub place_then : Step S → Me S Acting → ℕ → Me S Acting → Type 0
   place_then t m n m' = (f : Filling) (tail : List (ℕ × S)) → CanPlace m f tail → (i : ℕ) × (m' ≡ (placing i f m.0, tail))
+
+-- the item w, which was left, is retired by the participant now, with age 0; the others are still left
+abbrev pub taking_over : Garbage → List Garbage → Acting → Acting
+taking_over w ws d = record d { left = ws; waits = record w { age = 0 } ∷ d.waits }
+
+-- the last of what was left is taken over
+abbrev pub take_over_then : {S : Type 0} → Step S → Me S Acting → ℕ → Me S Acting → Type 0
+take_over_then t m n m' = (w : Garbage) (ws : List Garbage) → m.0.left ≡ ws ++ w ∷ [] → m' ≡ (taking_over w ws m.0, m.1)
 
 -- the item w is being reclaimed, and has given up the owners hs; the others still wait
 abbrev pub reclaiming : Garbage → List Owner → List Garbage → Acting → Acting

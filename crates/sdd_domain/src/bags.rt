@@ -24,7 +24,7 @@ pub struct Bags {
 impl Bags {
     /// Empty bags, with room for so many items.
     pub(crate) fn new(alloc: Global, room: usize) -> Result<Bags, AllocError>
-        ensures { IfOk result (λ b. Waits [] b.slots.items (ages b.current b.previous b.next b.due) × (b.due ≡ 0) × (room ≤ deque_capacity b.slots)) }
+        ensures { IfOk result (λ b. Waits [] b.slots.items (ages b.current b.previous b.next b.due) × (b.due ≡ 0) × (deque_capacity b.slots ≡ room)) }
     {
         let slots = VecDeque::with_capacity(alloc, room)?;
         Ok(Bags {
@@ -41,6 +41,7 @@ impl Bags {
         requires { deque_len self.old.slots < deque_capacity self.old.slots }
         ensures retired { (ws : List Garbage) (w : Garbage) → Waits ws self.old.slots.items (ages self.old.current self.old.previous self.old.next self.old.due) → w.slot ≡ slot → w.age ≡ 0 → Waits (w ∷ ws) self.new.slots.items (ages self.new.current self.new.previous self.new.next self.new.due) }
         ensures same { (self.new.due ≡ self.old.due) × (deque_capacity self.new.slots ≡ deque_capacity self.old.slots) }
+        ensures longer { deque_len self.new.slots ≡ deque_len self.old.slots + 1 }
     {
         let Bags { slots, current, .. } = self;
         slots.push_front_reserved(slot);

@@ -32,6 +32,8 @@ pub struct Acting {
     pub filling: Option<Filling>,
     /// What the participant has retired.
     pub waits: Seq<Garbage>,
+    /// What was left when the participant ended before, and isn't taken over yet.
+    pub left: Seq<Garbage>,
 }
 
 /// An item as it lies in its box, which stays with its slot and is empty while the slot is free.
@@ -46,6 +48,8 @@ pub enum Home<T> {
     Deed(Deed<Stored<T>, Global>),
     /// Parts of the right to read the item, and how many they are.
     Part(Part<Stored<T>>, u64),
+    /// A participant's bag: the slots of the items that it left when it ended.
+    Left(Vec<usize>),
     /// How large the place is: this lies in no slot, and is only said to a seat.
     Announced(Sizes),
 }

@@ -131,7 +131,14 @@ impl<T> Domain<T> {
         for number in 0..self.sizes.participants {
             if let Some(spare) = claim(self.words(), &mut place, number) {
                 learn(self.words(), &mut place, self.sizes);
-                return Ok(Local::registered(place, number, spare, bags));
+                return Ok(Local::registered(
+                    self.words(),
+                    place,
+                    &self.sizes,
+                    number,
+                    spare,
+                    bags,
+                ));
             }
         }
         Err(RegisterRefused::Full)

@@ -2,10 +2,11 @@
 
 ghost use Rattle.std.specs.Prelude.{◌≡◌, ℕ, suc, ◌+◌, ◌*◌, ◌^◌, ◌<◌, ◌≤◌, ◌++◌, ◌∷◌, ◌%◌, List, [], replicate, length, vec_len, vec_capacity, IsSome, IfOk, OnOk};
 ghost use Rattle.core.specs.Mem.Slots.{IsFull};
+ghost use Rattle.sdd_homes.specs.declared.Garbage.{Garbage};
 ghost use Rattle.sdd_homes.specs.declared.Owner.{Owner};
-ghost use Rattle.sdd_homes.specs.Book.{deed, part, resting, room};
+ghost use Rattle.sdd_homes.specs.Book.{bag, deed, part, resting, room};
 ghost use Rattle.sdd_domain.specs.Layout.{all_homes, all_spares, IsSized};
-ghost use Rattle.sdd_domain.specs.Contents.{IsIn, AreResting};
+ghost use Rattle.sdd_domain.specs.Contents.{IsIn, slots_of, AreResting, AreBags};
 ghost use Rattle.sdd_domain.specs.declared.board.Home.{Home};
 ghost use Rattle.sdd_domain.specs.declared.board.Home.TheVariants.{Blank};
 
@@ -23,6 +24,7 @@ pub(crate) fn let_go<T>(home: Home<T>) {
         Home::Room(room) => drop(room),
         Home::Deed(deed) => drop(unsafe { ManuallyDrop::new_unchecked(deed) }),
         Home::Part(part, _) => drop(unsafe { ManuallyDrop::new_unchecked(part) }),
+        Home::Left(slots) => drop(slots),
         Home::Announced(_) => {}
     }
 }
@@ -61,6 +63,20 @@ pub(crate) fn parts_of<T>(home: Home<T>) -> (Part<Stored<T>>, u64)
 {
     match home {
         Home::Part(part, count) => (part, count),
+        other => {
+            let_go(other);
+            unreachable!()
+        }
+    }
+}
+
+/// The slots that are in a bag.
+pub(crate) fn slots_left<T>(home: Home<T>) -> Vec<usize>
+    requires { (n : ℕ) × (ws : List Garbage) × IsIn (bag n ws) home }
+    ensures { (n : ℕ) (ws : List Garbage) → IsIn (bag n ws) home → (result.items ≡ slots_of ws) × (n ≤ vec_capacity result) × (length ws ≤ n) }
+{
+    match home {
+        Home::Left(slots) => slots,
         other => {
             let_go(other);
             unreachable!()
@@ -137,25 +153,61 @@ fn push_rooms<T>(
 /// So many empty slots behind these, where there is room for them.
 fn push_blanks<T>(homes: &mut Vec<Home<T>>, count: usize)
     requires { vec_len homes.old + count ≤ vec_capacity homes.old }
-    ensures { homes.new.items ≡ homes.old.items ++ replicate count Blank }
+    ensures homes { homes.new.items ≡ homes.old.items ++ replicate count Blank }
+    ensures room { vec_capacity homes.old ≤ vec_capacity homes.new }
 {
     for _i in 0..count {
         keep(homes, Home::Blank);
     }
 }
 
-/// The homes and spare slots of a new place.
+/// Empty bags behind these, so many of them, where there is room for them; each has room for `slots` numbers.
+fn push_bags<T>(
+    homes: &mut Vec<Home<T>>,
+    alloc: Global,
+    slots: usize,
+    count: usize,
+) -> Result<(), AllocError>
+    requires { vec_len homes.old + count ≤ vec_capacity homes.old }
+    ensures { OnOk result ((bags : List (Home T)) × (length bags ≡ count) × AreBags slots bags × (homes.new.items ≡ homes.old.items ++ bags)) }
+{
+    for _i in 0..count {
+        let bag = Vec::with_capacity(alloc, slots)?;
+        keep(homes, Home::Left(bag));
+    }
+    Ok(())
+}
+
+/// Puts the bags of `count` participants behind the homes, or lets go of these.
+fn with_bags<T>(
+    homes: Vec<Home<T>>,
+    alloc: Global,
+    slots: usize,
+    count: usize,
+) -> Result<Vec<Home<T>>, AllocError>
+    requires { vec_len homes + count ≤ vec_capacity homes }
+    ensures { IfOk result (λ all. (bags : List (Home T)) × (length bags ≡ count) × AreBags slots bags × (all.items ≡ homes.items ++ bags)) }
+{
+    let mut homes = homes;
+    if push_bags(&mut homes, alloc, slots, count).is_err() {
+        clear(homes);
+        return Err(AllocError);
+    }
+    Ok(homes)
+}
+
+/// The homes and spare slots of a new place, and its bags.
 pub(crate) fn homes_from<T>(alloc: Global, sizes: &Sizes) -> Result<Vec<Home<T>>, AllocError>
     requires { IsSized sizes.now }
-    ensures { IfOk result (λ homes. (own : List (Home T)) × (length own ≡ all_homes sizes.now) × AreResting sizes.now.participants own × (homes.items ≡ own ++ replicate (all_spares sizes.now) Blank)) }
+    ensures { IfOk result (λ homes. (own : List (Home T)) × (bags : List (Home T)) × (length own ≡ all_homes sizes.now) × AreResting sizes.now.participants own × (length bags ≡ sizes.now.participants) × AreBags sizes.now.slots bags × (homes.items ≡ (own ++ replicate (all_spares sizes.now) Blank) ++ bags)) }
 {
     let own = sizes.slots * (sizes.participants + 1);
     let spares = sizes.cells + sizes.participants;
-    let mut homes = Vec::with_capacity(alloc, own + spares)?;
+    let mut homes = Vec::with_capacity(alloc, own + spares + sizes.participants)?;
     if push_rooms(&mut homes, alloc, sizes.participants, own).is_err() {
         clear(homes);
         return Err(AllocError);
     }
     push_blanks(&mut homes, spares);
-    Ok(homes)
+    with_bags(homes, alloc, sizes.slots, sizes.participants)
 }

@@ -12,6 +12,7 @@ pub mod domain;
 pub mod guard;
 mod homes;
 pub mod laws;
+mod left;
 pub mod local;
 mod owners;
 mod placing;

@@ -1,6 +1,6 @@
 //! One participant of a place, as the thread that acts for it has it.
 
-ghost use Rattle.std.specs.Prelude.{◌≡◌, ◌≢◌, ℕ, ◌+◌, ◌-◌, ◌*◌, ◌^◌, ◌<◌, ◌≤◌, ◌==◌, ◌&&◌, true, List, [], length, drop, cond, nat_lt, None};
+ghost use Rattle.std.specs.Prelude.{◌≡◌, ◌≢◌, ℕ, ◌+◌, ◌-◌, ◌*◌, ◌^◌, ◌<◌, ◌≤◌, ◌==◌, ◌&&◌, true, List, [], length, drop, cond, nat_lt, vec_capacity, None};
 ghost use Rattle.std.specs.VecDeque.{deque_capacity};
 ghost use Rattle.sdd_base.specs.State.{no_local};
 ghost use Rattle.sdd_base.specs.Steps.{closings_after, scans};
@@ -9,12 +9,13 @@ ghost use Rattle.sdd_homes.specs.declared.Garbage.{Garbage};
 ghost use Rattle.sdd_domain.specs.Contents.{IsIn, is_blank};
 ghost use Rattle.sdd_domain.specs.Bags.{ages, Waits};
 ghost use Rattle.sdd_domain.specs.Views.{IsBare, spent, rotated};
-ghost use Rattle.sdd_domain.specs.Plays.{own_spare, has_just, HasRegistered, CanClose};
+ghost use Rattle.sdd_domain.specs.Plays.{own_spare, own_bag, has_both, HasRegistered, CanClose};
 ghost use Rattle.sdd_domain.specs.Layout.{claim_word, all_words, IsSized};
 
 use crate::bags::Bags;
 use crate::board::{Place, Words};
 use crate::domain::Domain;
+use crate::left::{bag_in, bag_out, filled, take_left};
 use crate::reclaiming::reclaim_due;
 use crate::scan::scan;
 use crate::{cells, steps};
@@ -29,15 +30,18 @@ pub struct Local<T> {
     pub(crate) own: LocalState,
     /// What it has retired.
     pub(crate) bags: Bags,
+    /// What it will leave its retired items in.
+    pub(crate) bag: Vec<usize>,
     /// Where to look for a free slot first.
     pub(crate) next: usize,
     ghost acts: { (place.me.0.kind ≡ 1) × (place.me.0.number ≡ number) × (place.me.0.scan ≡ 0) × (number < 2 ^ 30) × (claim_word number < place.table_id.words) × IsBare place.me.0 },
-    ghost has_spare: { (place.me.0.spare ≡ spare) × (spare < 2 ^ 33) × (has_just is_blank (own_spare place.me.0 spare) (drop (length place.me.0.leases) place.me.1) ≡ true) },
+    ghost has_spare: { (place.me.0.spare ≡ spare) × (spare < 2 ^ 33) × (has_both is_blank is_blank (own_spare place.me.0 spare) (own_bag place.me.0) (drop (length place.me.0.leases) place.me.1) ≡ true) },
+    ghost leaves: { (place.me.0.left ≡ []) × (bag.items ≡ []) × (place.me.0.sizes.slots ≤ vec_capacity bag) },
     ghost phase: { place.me.0.known.phase ≡ cond (own.nesting == 0) Idle (Opened own.previous) },
     ghost found: { place.me.0.known.found ≡ own.previous },
     ghost noted: { own.published ≡ own.previous },
     ghost fills: { (place.me.0.filling ≡ None) × (next < 2 ^ 63) × (number < place.me.0.sizes.participants) },
-    ghost waits: { Waits place.me.0.waits bags.slots.items (ages bags.current bags.previous bags.next bags.due) × (bags.due ≡ 0) × (place.me.0.sizes.slots ≤ deque_capacity bags.slots) },
+    ghost waits: { Waits place.me.0.waits bags.slots.items (ages bags.current bags.previous bags.next bags.due) × (bags.due ≡ 0) × (deque_capacity bags.slots ≡ place.me.0.sizes.slots) },
 }
 
 /// Whether this outermost closing scans, where `closings` counts it.
@@ -81,13 +85,22 @@ fn turn<T: Drop>(
 impl<T> Local<T> {
     ghost use Rattle.sdd_domain.specs.Tokens.{participants_of, place_of, home_of, number_of, own_of, born_of, begun, closed, waiting_of, IsSame};
 
-    /// The participant that a seat has just come to act for.
-    pub(crate) fn registered(place: Place<T>, number: usize, spare: u64, bags: Bags) -> Local<T>
+    /// The participant that a seat has just come to act for. What was left where it ended before is taken over.
+    pub(crate) fn registered(
+        words: &Words<T>,
+        mut place: Place<T>,
+        sizes: &Sizes,
+        number: usize,
+        spare: u64,
+        mut bags: Bags,
+    ) -> Local<T>
         requires acts { HasRegistered IsIn (spent, []) number spare place.me × (spare < 2 ^ 33) }
-        requires table { (number < 2 ^ 30) × (number < place.me.0.sizes.participants) × (claim_word number < place.table_id.words) }
-        requires bags { Waits [] bags.slots.items (ages bags.current bags.previous bags.next bags.due) × (bags.due ≡ 0) × (place.me.0.sizes.slots ≤ deque_capacity bags.slots) }
+        requires table { (place.table_id ≡ words.now.table_id) × (words.now.key.sizes ≡ sizes.now) × (place.me.0.sizes ≡ sizes.now) × IsSized sizes.now × (all_words sizes.now ≤ words.now.table_id.words) × (number < sizes.now.participants) }
+        requires bags { Waits [] bags.slots.items (ages bags.current bags.previous bags.next bags.due) × (bags.due ≡ 0) × (deque_capacity bags.slots ≡ sizes.now.slots) }
         ensures { (home_of result ≡ (place.table_id, place.me.0.sizes)) × (number_of result ≡ number) × (own_of result ≡ no_local) }
     {
+        let left = bag_out(words, &mut place, sizes, number);
+        let bag = take_left(words, &mut place, left, &mut bags);
         Local {
             place,
             number,
@@ -101,6 +114,7 @@ impl<T> Local<T> {
                 closings: 0,
             },
             bags,
+            bag,
             next: 0,
         }
     }
@@ -182,9 +196,12 @@ impl<T> Local<T> {
             number,
             spare,
             own: _,
-            bags: _,
+            bags,
+            bag,
             next: _,
         } = self;
+        let left = filled(bag, bags);
+        bag_in(domain.words(), &mut place, &domain.sizes, number, left);
         steps::end(domain.words(), &mut place, number, spare);
     }
 }

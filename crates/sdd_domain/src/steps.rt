@@ -1,13 +1,15 @@
 //! The single steps of a participant on the words of a place: each is one operation on one word.
 
-ghost use Rattle.std.specs.Prelude.{◌≡◌, ◌≢◌, ◌⊎◌, ℕ, ◌∷◌, ◌+◌, ◌-◌, ◌*◌, ◌^◌, ◌<◌, ◌≤◌, [], List, IsTrue, IsFalse, IfSome, IfNone, MatchBool};
+ghost use Rattle.std.specs.Prelude.{◌≡◌, ◌≢◌, ◌⊎◌, ℕ, ◌∷◌, ◌++◌, ◌+◌, ◌-◌, ◌*◌, ◌^◌, ◌<◌, ◌≤◌, true, [], List, IsTrue, IsFalse, IfSome, IfNone, MatchBool};
 ghost use Rattle.atomic_table.specs.Table.{rest};
+ghost use Rattle.sdd_homes.specs.declared.Garbage.{Garbage};
 ghost use Rattle.sdd_steps.specs.State.{Has};
+ghost use Rattle.sdd_steps.specs.Steps.{is_ready};
 ghost use Rattle.sdd_steps.specs.declared.participant.Phase.TheVariants.{Idle, HasRead, Opened};
 ghost use Rattle.sdd_domain.specs.Contents.{IsIn, Announces};
 ghost use Rattle.sdd_domain.specs.Views.{IsBare, spent, reading, publishing, rotated, looking};
 ghost use Rattle.sdd_domain.specs.Layout.{count_word, lock_word, state_word, claim_word, epoch_words, shown};
-ghost use Rattle.sdd_domain.specs.Plays.{read_then, publish_then, count_then, look_then, agree_then, raise_then, lock_then, unlock_then, sit_then, HasSpare, HasRegistered, claim_then, learn_then, end_then, Steady, Scans};
+ghost use Rattle.sdd_domain.specs.Plays.{read_then, publish_then, count_then, look_then, agree_then, raise_then, lock_then, unlock_then, sit_then, HasRegistered, CanLeave, claim_then, learn_then, taking_over, take_over_then, end_then, Steady, Scans};
 ghost use Rattle.sdd_domain.specs.declared.board.Home.{Home};
 
 use crate::board::{Acting, Home, Place, Words};
@@ -100,6 +102,12 @@ impl<T> Play<Home<T>, Acting> for OnLearn {
     ghost then = { learn_then Announces };
 }
 
+struct OnTakeOver;
+
+impl<T> Play<Home<T>, Acting> for OnTakeOver {
+    ghost then = { take_over_then };
+}
+
 struct OnEnd;
 
 impl<T> Play<Home<T>, Acting> for OnEnd {
@@ -122,7 +130,8 @@ pub(crate) fn sit<T>(words: &Words<T>) -> Place<T>
     place
 }
 
-/// Tries once to act for participant `number`. Where nobody did, its spare slot comes out, empty: which one it is.
+/// Tries once to act for participant `number`. Where nobody did, its spare slot comes out, empty: which one it is; and
+/// behind that its bag, with what was left when it ended before.
 pub(crate) fn claim<T>(words: &Words<T>, place: &mut Place<T>, number: usize) -> Option<u64>
     requires table { (place.old.table_id ≡ words.now.table_id) × (number < words.now.key.sizes.participants) × (epoch_words words.now.key.sizes.participants ≤ words.now.table_id.words) × (words.now.key.sizes.participants ≤ 2 ^ 30) × (words.now.key.sizes.cells ≤ 2 ^ 30) }
     requires nobody { (place.old.me.0.kind ≡ 0) × IsBare place.old.me.0 }
@@ -153,13 +162,26 @@ pub(crate) fn is_claimed<T>(words: &Words<T>, number: usize) -> bool
     words.peek(STRIDE * number + CLAIM) == 0
 }
 
+/// Takes over the last of the items that were left where the participant ended before: the participant has retired it,
+/// and hasn't rotated since. The bag that is out stays as it is. No word changes.
+pub(crate) fn take_over<T>(words: &Words<T>, place: &mut Place<T>)
+    requires table { (place.old.table_id ≡ words.now.table_id) × (1 < words.now.table_id.words) }
+    requires ready { (place.old.me.0.kind ≡ 1) × (is_ready place.old.me.0.known ≡ true) }
+    requires left { (w : Garbage) × (ws : List Garbage) × (place.old.me.0.left ≡ ws ++ w ∷ []) }
+    ensures seat { (place.new.table_id ≡ place.old.table_id) × (place.new.id ≡ place.old.id) }
+    ensures taken { (w : Garbage) (ws : List Garbage) → place.old.me.0.left ≡ ws ++ w ∷ [] → place.new.me ≡ (taking_over w ws place.old.me.0, place.old.me.1) }
+{
+    let _ = words.load::<OnTakeOver>(place, STILL);
+}
+
 /// Ends what the seat does for participant `number`, which somebody else may act for from now on. Its spare slot, which
-/// is in front of what is out with the seat, goes back empty.
+/// is in front of what is out with the seat, goes back empty, and behind that its bag: there the participant leaves what
+/// it retired, behind what it hasn't taken over.
 pub(crate) fn end<T>(words: &Words<T>, place: &mut Place<T>, number: usize, spare: u64)
     requires table { (place.old.table_id ≡ words.now.table_id) × (number < 2 ^ 30) × (claim_word number < words.now.table_id.words) }
     requires rests { (place.old.me.0.kind ≡ 1) × (place.old.me.0.number ≡ number) × (place.old.me.0.known.phase ≡ Idle) × (place.old.me.0.scan ≡ 0) × IsBare place.old.me.0 }
-    requires spare { (place.old.me.0.spare ≡ spare) × (spare < 2 ^ 33) × ((tail : List (ℕ × Home T)) × HasSpare IsIn place.old.me tail) }
-    ensures { (place.new.table_id ≡ place.old.table_id) × (place.new.id ≡ place.old.id) × (place.new.me ≡ (spent, rest place.old.me.1)) }
+    requires spare { (place.old.me.0.spare ≡ spare) × (spare < 2 ^ 33) × ((tail : List (ℕ × Home T)) × CanLeave IsIn place.old.me tail) }
+    ensures { (place.new.table_id ≡ place.old.table_id) × (place.new.id ≡ place.old.id) × (place.new.me ≡ (spent, rest (rest place.old.me.1))) }
 {
     words.store::<OnEnd>(place, STRIDE * number + CLAIM, spare + 1);
 }

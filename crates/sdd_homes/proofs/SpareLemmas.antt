@@ -92,3 +92,11 @@ module _ {cells n : ℕ} {names : List (Option ℕ)} {items : List Item} {book :
     range = r.range;
     kept = λ c o lc at. subst (IsKept items o) (sym (put_else book.extra (book.spare v) x (book.spare c) (differ c v (omega arith) lv (λ e. omega arith)))) (r.kept c o lc at);
   }
+
+  -- what lies behind the spare slots changes
+  pub beside : (y : ℕ) (x : Content) → cells + n ≤ y → Spares cells n names items (record book { extra = put book.extra y x })
+  beside y x behind = record {
+    users = r.users;
+    range = r.range;
+    kept = λ c o lc at. let low = r.range c (omega arith) in subst (IsKept items o) (sym (put_else book.extra y x (book.spare c) (λ e. omega arith))) (r.kept c o lc at);
+  }

@@ -1,4 +1,4 @@
-use Rattle.std.proofs.Common.{◌≡◌, ◌<◌, ◌≤◌, ◌+◌, List, [], ◌∷◌, length, drop, ap, sym, ◌∙◌, subst, refl, arith}
+use Rattle.std.proofs.Common.{◌≡◌, ◌<◌, ◌≤◌, ◌+◌, List, [], ◌∷◌, length, drop, vec_capacity, ap, sym, ◌∙◌, subst, refl, arith}
 use Rattle.std.specs.VecDeque.{deque_capacity}
 use Rattle.atomic_table.specs.Seated.{TableId}
 use Rattle.atomic_table.specs.Table.{Me}
@@ -8,7 +8,7 @@ use Rattle.sdd_domain.specs.Bags.{ages, Waits}
 use Rattle.sdd_domain.specs.Contents.{is_blank}
 use Rattle.sdd_domain.specs.Layout.{claim_word}
 use Rattle.sdd_domain.specs.Owners.{item_in}
-use Rattle.sdd_domain.specs.Plays.{own_spare, has_just, just_retired}
+use Rattle.sdd_domain.specs.Plays.{own_spare, own_bag, has_both, just_retired}
 use Rattle.sdd_domain.specs.declared.board.Acting.{Acting}
 use Rattle.sdd_domain.proofs.shared.Shared.release.Goals as goal
 
@@ -24,7 +24,8 @@ invariant_of-local-2 g c = let l = c.args.local.now in let m = l.place.me in let
         subst (λ (z : TableId). claim_word l.number < z.words) (sym table) l.acts.4,
         (ap (λ (z : Me _ Acting). z.0.hand) all, ap (λ (z : Me _ Acting). z.0.leases) all ∙ l.acts.5.1, ap (λ (z : Me _ Acting). z.0.releasing) all ∙ l.acts.5.2),
       );
-      has_spare = (ap (λ (z : Me _ Acting). z.0.spare) all ∙ l.has_spare.0, l.has_spare.1, ap (λ (z : Me _ Acting). has_just is_blank (own_spare z.0 l.spare) (drop (length z.0.leases) z.1)) all ∙ l.has_spare.2);
+      has_spare = (ap (λ (z : Me _ Acting). z.0.spare) all ∙ l.has_spare.0, l.has_spare.1, ap (λ (z : Me _ Acting). has_both is_blank is_blank (own_spare z.0 l.spare) (own_bag z.0) (drop (length z.0.leases) z.1)) all ∙ l.has_spare.2);
+      leaves = (ap (λ (z : Me _ Acting). z.0.left) all ∙ l.leaves.0, l.leaves.1, subst (λ (z : Me _ Acting). z.0.sizes.slots ≤ vec_capacity l.bag) (sym all) l.leaves.2);
       phase = ap (λ (z : Me _ Acting). z.0.known.phase) all ∙ l.phase;
       found = ap (λ (z : Me _ Acting). z.0.known.found) all ∙ l.found;
       noted = l.noted;
@@ -32,6 +33,6 @@ invariant_of-local-2 g c = let l = c.args.local.now in let m = l.place.me in let
       waits = (
         subst (λ (z : Me _ Acting). Waits z.0.waits c.retire.new.self.slots.items (ages c.retire.new.self.current c.retire.new.self.previous c.retire.new.self.next c.retire.new.self.due)) (sym all) (c.retire.ensures.retired m.0.waits (just_retired o) l.waits.0 refl refl),
         c.retire.ensures.same.0 ∙ l.waits.1,
-        subst (λ (z : Me _ Acting). z.0.sizes.slots ≤ deque_capacity c.retire.new.self.slots) (sym all) (let a = l.waits.2 in let b = c.retire.ensures.same.1 in omega arith),
+        c.retire.ensures.same.1 ∙ (l.waits.2 ∙ sym (ap (λ (z : Me _ Acting). z.0.sizes.slots) all)),
       );
     }

@@ -1,0 +1,43 @@
+use Rattle.std.proofs.Common.{◌≡◌, ◌≤◌, ◌++◌, List, [], ◌∷◌, ◌==◌, length, drop, vec_capacity, cond, ap, sym, ◌∙◌, subst, refl, arith}
+use lib.ListN.{length-map}
+use Rattle.std.specs.VecDeque.{deque_len, deque_capacity}
+use Rattle.atomic_table.specs.Table.{Me}
+use Rattle.sdd_steps.specs.declared.participant.Phase.TheVariants.{Idle, Opened}
+use Rattle.sdd_homes.specs.declared.Garbage.{Garbage}
+use Rattle.sdd_domain.specs.Contents.{is_blank, slots_of}
+use Rattle.sdd_domain.specs.Plays.{own_spare, own_bag, has_both}
+use Rattle.sdd_domain.specs.declared.board.Acting.{Acting}
+use Rattle.sdd_domain.specs.declared.board.Home.{Home}
+use Rattle.sdd_domain.specs.declared.board.Home.TheVariants.{Blank, Left}
+use Rattle.sdd_domain.specs.declared.local.Local.{Local}
+use Rattle.sdd_domain.proofs.Bagged.{both_out}
+use Rattle.sdd_domain.proofs.local.Local.end.Goals as goal
+
+out : {T : Type 0} (l : Local T) → l.place.me.1 ≡ (own_spare l.place.me.0 l.spare, Blank) ∷ (own_bag l.place.me.0, Blank) ∷ []
+out l = both_out l.place.me (own_spare l.place.me.0 l.spare) (own_bag l.place.me.0) l.acts.5.1 l.has_spare.2
+
+pub bag_in-requires-clause-out : goal.bag_in-requires-clause-out
+bag_in-requires-clause-out g c = let l = c.args.self in (own_spare l.place.me.0 l.spare, Blank, out l)
+
+pub end-requires-clause-rests : goal.end-requires-clause-rests
+end-requires-clause-rests g c = let l = c.args.self in let e = c.bag_in.ensures.filled (own_spare l.place.me.0 l.spare) Blank (out l) in let none = c.requires.closed in (
+  ap (λ (z : Me _ Acting). z.0.kind) e ∙ l.acts.0,
+  ap (λ (z : Me _ Acting). z.0.number) e ∙ l.acts.1,
+  ap (λ (z : Me _ Acting). z.0.known.phase) e ∙ (l.phase ∙ ap (λ n. cond (n == 0) Idle (Opened l.own.previous)) none),
+  ap (λ (z : Me _ Acting). z.0.scan) e ∙ l.acts.2,
+  (ap (λ (z : Me _ Acting). z.0.hand) e ∙ l.acts.5.0, ap (λ (z : Me _ Acting). z.0.leases) e ∙ l.acts.5.1, ap (λ (z : Me _ Acting). z.0.releasing) e ∙ l.acts.5.2),
+)
+
+pub end-requires-clause-spare : goal.end-requires-clause-spare
+end-requires-clause-spare g c = let l = c.args.self in let m = l.place.me in let v = c.filled-left.result in let e = c.bag_in.ensures.filled (own_spare m.0 l.spare) Blank (out l) in let f = c.filled-left.ensures in
+    let lost : m.0.left ++ m.0.waits ≡ m.0.waits = ap (λ (ws : List Garbage). ws ++ m.0.waits) l.leaves.0 in let slots = ap (λ (z : Me _ Acting). z.0.sizes.slots) e in let long = length-map m.0.waits (λ (w : Garbage). w.slot) in let many = ap length l.waits.0.0 in let room = l.waits.2 in let counts = l.bags.slots.ok.0 in let fits = l.bags.slots.small.1 in (
+      ap (λ (z : Me _ Acting). z.0.spare) e ∙ l.has_spare.0,
+      l.has_spare.1,
+      ([], (Left v, (
+        v,
+        refl,
+        f.0 ∙ (sym l.waits.0.0 ∙ (ap slots_of (sym lost) ∙ sym (ap (λ (z : Me _ Acting). slots_of (z.0.left ++ z.0.waits)) e))),
+        (let a = l.leaves.2 in let b = f.1 in omega arith),
+        subst (λ (z : Me _ Acting). length (z.0.left ++ z.0.waits) ≤ z.0.sizes.slots) (sym e) (subst (λ (ws : List Garbage). length ws ≤ m.0.sizes.slots) (sym lost) (omega arith)),
+      ), (Blank, refl, ap (λ (z : Me _ Acting). z.1) e ∙ ap (λ (z : Me _ Acting). (own_spare z.0 l.spare, Blank) ∷ (own_bag z.0, Left v) ∷ []) (sym e) ∙ λ j. (own_spare c.bag_in.new.place.me.0 (sym (ap (λ (z : Me _ Acting). z.0.spare) e ∙ l.has_spare.0) j), Blank) ∷ (own_bag c.bag_in.new.place.me.0, Left v) ∷ []))),
+    )
