@@ -171,7 +171,11 @@ fn main(rt: HostRuntime) -> io::Result<()> {
         return Err(io::ErrorKind::InvalidInput.into());
     };
     let participants = match words.next() {
-        Some(number) => number.as_str().parse::<u8>().unwrap_or(threads).max(threads),
+        Some(number) => number
+            .as_str()
+            .parse::<u8>()
+            .unwrap_or(threads)
+            .max(threads),
         None => threads,
     };
     let domain = Domain::new(rt.alloc(), sizes_of(kind, participants))?;

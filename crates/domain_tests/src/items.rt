@@ -123,6 +123,34 @@ fn a_place_is_handed_back_while_an_owner_is_out(rt: HostRuntime) -> Result<(), F
     Ok(())
 }
 
+#[test]
+fn what_an_ended_participant_left_is_reclaimed_by_the_next_one(
+    rt: HostRuntime,
+) -> Result<(), Fail> {
+    let domain = Domain::new(rt.alloc(), sized(1, 2))?;
+    let mut local = member(&rt, &domain);
+    let first = placed(&rt, &domain, &mut local, 1);
+    let second = placed(&rt, &domain, &mut local, 2);
+    assert!(rt; first.release(&domain, &mut local));
+    let _ = pass(&domain, &mut local, true);
+    assert!(rt; second.release(&domain, &mut local));
+    local.end(&domain);
+    let mut local = member(&rt, &domain);
+    for _i in 0..3u32 {
+        let _ = pass(&domain, &mut local, true);
+        assert_eq!(rt; refused(&rt, &domain, &mut local, 3), 3);
+    }
+    let _ = pass(&domain, &mut local, true);
+    let first = placed(&rt, &domain, &mut local, 4);
+    let second = placed(&rt, &domain, &mut local, 5);
+    assert_eq!(rt; (*first.as_ref(), *second.as_ref()), (4, 5));
+    assert!(rt; second.release(&domain, &mut local));
+    assert!(rt; first.release(&domain, &mut local));
+    local.end(&domain);
+    end(&rt, domain);
+    Ok(())
+}
+
 /// A thousand items, placed, read and released one after the other, with an accelerated guard behind each: how many
 /// were placed and read as they were. None if no participant was free.
 fn thousand(domain: &Domain<u64>, salt: u64) -> Option<u32> {

@@ -2,11 +2,14 @@
 
 ghost use Rattle.std.specs.Prelude.{◌≡◌, ◌≢◌, ℕ, ◌+◌, ◌*◌, ◌^◌, ◌<◌, ◌≤◌, [], ◌∷◌, ◌++◌, replicate, IfOk, OnOk, IfErr, OnErr};
 ghost use Rattle.sdd_base.specs.State.{no_local};
+ghost use Rattle.std.specs.VecDeque.{deque_capacity};
+ghost use Rattle.sdd_domain.specs.Bags.{ages, Waits};
 ghost use Rattle.sdd_domain.specs.Layout.{all_words, IsSized};
 ghost use Rattle.sdd_domain.specs.Rule.{numbers, first_eights, first_words};
 
 use crate::bags::Bags;
 use crate::board::{Board, Plan, Words};
+use crate::guard::Guard;
 use crate::homes::{clear, empty, homes_from};
 use crate::local::Local;
 use crate::refusal::RegisterRefused;
@@ -124,24 +127,64 @@ impl<T> Domain<T> {
         ensures number { IfOk result (λ l. number_of l < participants_of self.now) }
         ensures fresh { IfOk result (λ l. own_of l ≡ no_local) }
     {
-        let Ok(bags) = Bags::new(self.heap, self.sizes.slots) else {
+        let Ok(mut bags) = Bags::new(self.heap, self.sizes.slots) else {
             return Err(RegisterRefused::Memory);
         };
-        let mut place = sit(self.words());
         for number in 0..self.sizes.participants {
-            if let Some(spare) = claim(self.words(), &mut place, number) {
-                learn(self.words(), &mut place, self.sizes);
-                return Ok(Local::registered(
-                    self.words(),
-                    place,
-                    &self.sizes,
-                    number,
-                    spare,
-                    bags,
-                ));
+            match self.acting_for(number, bags) {
+                Ok(local) => return Ok(local),
+                Err(back) => bags = back,
             }
         }
         Err(RegisterRefused::Full)
+    }
+
+    /// Tries once to act for a participant, with empty bags, which are back where somebody else does.
+    fn acting_for(&self, number: usize, bags: Bags) -> Result<Local<T>, Bags>
+        requires low { number < participants_of self.now }
+        requires empty { Waits [] bags.slots.items (ages bags.current bags.previous bags.next bags.due) × (bags.due ≡ 0) × (deque_capacity bags.slots ≡ self.now.sizes.slots) }
+        ensures home { IfOk result (λ l. home_of l ≡ place_of self.now) }
+        ensures number { IfOk result (λ l. number_of l ≡ number) }
+        ensures fresh { IfOk result (λ l. own_of l ≡ no_local) }
+        ensures refused { IfErr result (λ back. back ≡ bags) }
+    {
+        let mut place = sit(self.words());
+        let Some(spare) = claim(self.words(), &mut place, number) else {
+            return Err(bags);
+        };
+        learn(self.words(), &mut place, self.sizes);
+        Ok(Local::registered(self.words(), place, &self.sizes, number, spare, bags))
+    }
+
+    /// Opens and closes four accelerated guards of a participant, and ends it.
+    fn run_out(&self, local: Local<T>)
+    where
+        T: Drop,
+        requires { (home_of local ≡ place_of self.now) × ((own_of local).nesting ≡ 0) }
+    {
+        let mut local = local;
+        for _i in 0..4u32 {
+            if let Ok(guard) = Guard::new(self, &mut local) {
+                guard.accelerate(&mut local);
+                guard.close(self, &mut local);
+            }
+        }
+        local.end(self);
+    }
+
+    /// Reclaims all that participants left, where nobody has a guard open and memory isn't refused.
+    fn reclaim_left(&self)
+    where
+        T: Drop,
+    {
+        for number in 0..self.sizes.participants {
+            let Ok(bags) = Bags::new(self.heap, self.sizes.slots) else {
+                return;
+            };
+            if let Ok(local) = self.acting_for(number, bags) {
+                self.run_out(local);
+            }
+        }
     }
 
     /// Whether somebody acts for a participant.
@@ -164,13 +207,17 @@ impl<T> Domain<T> {
         false
     }
 
-    /// Ends the place. It is handed back, as it was, while a `Local` or an owner is out.
+    /// Ends the place, and drops what still waits. It is handed back while a `Local` or an owner is out. Where memory is
+    /// refused, what waits is let go without being dropped.
     pub fn close(self) -> Result<(), Domain<T>>
+    where
+        T: Drop,
         ensures back { IfErr result (λ d. (place_of d ≡ place_of self) × (participants_of d ≡ participants_of self) × (first_of d ≡ first_of self)) }
     {
         if self.any_claimed() || self.any_owned() {
             return Err(self);
         }
+        self.reclaim_left();
         let Domain {
             table,
             sizes: _,

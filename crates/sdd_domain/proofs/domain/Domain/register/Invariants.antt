@@ -2,7 +2,4 @@ use Rattle.std.proofs.Common.{◌≡◌}
 use Rattle.sdd_domain.proofs.domain.Domain.register.Given as goal
 
 abbrev pub invariant-loop-number : goal.invariant-loop-number
-invariant-loop-number g l = record {
-  home : l.place.table_id ≡ l.initial.place.table_id;
-  nobody : l.place.me ≡ l.initial.place.me;
-}
+invariant-loop-number g l = record { same : l.bags ≡ l.initial.bags }

@@ -33,11 +33,18 @@ end-requires-clause-spare g c = let l = c.args.self in let m = l.place.me in let
     let lost : m.0.left ++ m.0.waits ≡ m.0.waits = ap (λ (ws : List Garbage). ws ++ m.0.waits) l.leaves.0 in let slots = ap (λ (z : Me _ Acting). z.0.sizes.slots) e in let long = length-map m.0.waits (λ (w : Garbage). w.slot) in let many = ap length l.waits.0.0 in let room = l.waits.2 in let counts = l.bags.slots.ok.0 in let fits = l.bags.slots.small.1 in (
       ap (λ (z : Me _ Acting). z.0.spare) e ∙ l.has_spare.0,
       l.has_spare.1,
-      ([], (Left v, (
-        v,
-        refl,
-        f.0 ∙ (sym l.waits.0.0 ∙ (ap slots_of (sym lost) ∙ sym (ap (λ (z : Me _ Acting). slots_of (z.0.left ++ z.0.waits)) e))),
-        (let a = l.leaves.2 in let b = f.1 in omega arith),
-        subst (λ (z : Me _ Acting). length (z.0.left ++ z.0.waits) ≤ z.0.sizes.slots) (sym e) (subst (λ (ws : List Garbage). length ws ≤ m.0.sizes.slots) (sym lost) (omega arith)),
-      ), (Blank, refl, ap (λ (z : Me _ Acting). z.1) e ∙ ap (λ (z : Me _ Acting). (own_spare z.0 l.spare, Blank) ∷ (own_bag z.0, Left v) ∷ []) (sym e) ∙ λ j. (own_spare c.bag_in.new.place.me.0 (sym (ap (λ (z : Me _ Acting). z.0.spare) e ∙ l.has_spare.0) j), Blank) ∷ (own_bag c.bag_in.new.place.me.0, Left v) ∷ []))),
+      (
+        [],
+        (
+          Left v,
+          (
+            v,
+            refl,
+            f.0 ∙ (sym l.waits.0.0 ∙ (ap slots_of (sym lost) ∙ sym (ap (λ (z : Me _ Acting). slots_of (z.0.left ++ z.0.waits)) e))),
+            (let a = l.leaves.2 in let b = f.1 in omega arith),
+            subst (λ (z : Me _ Acting). length (z.0.left ++ z.0.waits) ≤ z.0.sizes.slots) (sym e) (subst (λ (ws : List Garbage). length ws ≤ m.0.sizes.slots) (sym lost) (omega arith)),
+          ),
+          (Blank, refl, ap (λ (z : Me _ Acting). z.1) e ∙ ap (λ (z : Me _ Acting). (own_spare z.0 l.spare, Blank) ∷ (own_bag z.0, Left v) ∷ []) (sym e) ∙ λ j. (own_spare c.bag_in.new.place.me.0 (sym (ap (λ (z : Me _ Acting). z.0.spare) e ∙ l.has_spare.0) j), Blank) ∷ (own_bag c.bag_in.new.place.me.0, Left v) ∷ []),
+        ),
+      ),
     )
