@@ -1,5 +1,5 @@
 -- bags that are turned by one, and what has waited longest, taken out of them
-use Rattle.std.proofs.Common.{◌≡◌, ℕ, zero, suc, ◌+◌, List, [], ◌∷◌, ◌++◌, map, replicate, append_assoc, Option, Some, None, IfSome, option_to_list, sym, refl, ap, ◌∙◌, subst}
+use Rattle.std.proofs.Common.{◌≡◌, ℕ, zero, suc, ◌+◌, List, [], ◌∷◌, ◌++◌, map, replicate, append_assoc, Option, Some, None, IfSome, option_to_list, sym, refl, ap, ◌∙◌}
 use Rattle.sdd_homes.specs.declared.Garbage.{Garbage}
 use Rattle.sdd_domain.specs.Views.{older_waits}
 use Rattle.sdd_domain.specs.Bags.{ages, Waits}

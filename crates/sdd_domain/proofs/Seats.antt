@@ -1,5 +1,5 @@
 -- the start of a place, and a new seat, keep the rule of the table
-use Rattle.std.proofs.Common.{◌≡◌, ℕ, ◌+◌, ◌^◌, ◌<◌, List, [], ◌∷◌, ◌++◌, length, replicate, get_or, sym, refl, ap, ◌∙◌, subst, ⊎_elim, inl, inr, arith}
+use Rattle.std.proofs.Common.{◌≡◌, ℕ, ◌^◌, ◌<◌, List, [], ◌∷◌, ◌++◌, length, replicate, get_or, sym, refl, ap, ◌∙◌, subst, ⊎_elim, inl, inr, arith}
 use mathlib.Core.Option.{some}
 use lib.ListN.{get_elem?}
 use Rattle.atomic_table.specs.Table.{Enters, opening}
@@ -17,8 +17,8 @@ use Rattle.sdd_domain.specs.Views.{spent}
 use Rattle.sdd_domain.specs.Items.{hand_of, Grip}
 use Rattle.sdd_domain.proofs.Stirred.{stirred_none, stirred_left, grip_set, loads_others, seated}
 use Rattle.sdd_domain.proofs.Stirred as items
-use Rattle.sdd_homes.specs.Book.{Content, blank}
-use Rattle.sdd_domain.specs.Layout.{state_word, claim_word, cell_word, all_homes, all_spares, shown}
+use Rattle.sdd_homes.specs.Book.{Content}
+use Rattle.sdd_domain.specs.Layout.{state_word, claim_word, cell_word, shown}
 use Rattle.sdd_domain.specs.Rule.{beginning, first_words, Shows}
 use Rattle.sdd_domain.specs.declared.board.Acting.{Acting}
 use Rattle.sdd_domain.proofs.Firsts.{many_of, long_first, state_words_first, claim_words_first, cell_words_first, first_book, FirstSlots, items_begin}

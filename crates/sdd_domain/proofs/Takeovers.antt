@@ -1,5 +1,5 @@
 -- a participant takes over an item that was left where it ended before
-use Rattle.std.proofs.Common.{◌≡◌, ◌≢◌, true, ℕ, ◌+◌, ◌<◌, List, [], ◌∷◌, ◌++◌, get_or, set, sym, refl, ap, ◌∙◌, subst, ⊎_elim, inl, inr, arith}
+use Rattle.std.proofs.Common.{◌≡◌, ◌≢◌, true, ℕ, List, [], ◌∷◌, ◌++◌, get_or, set, sym, refl, ap, ◌∙◌, subst, ⊎_elim, inl, inr, arith}
 use mathlib.Core.Logic.{dite}
 use mathlib.Core.Option.{some, none}
 use native.Mathlib.Decide.{ℕ_discrete}
@@ -8,14 +8,13 @@ use lib.Seq.{set-get_or}
 use Rattle.atomic_table.specs.Table.{State, Me, step, keeps, Allows}
 use Rattle.sdd_steps.specs.declared.item.Item.{Item}
 use Rattle.sdd_steps.specs.declared.item.ItemState.{ItemState}
-use Rattle.sdd_steps.specs.declared.item.ItemState.TheVariants.{Due, Retired, Waiting, Reclaimed}
+use Rattle.sdd_steps.specs.declared.item.ItemState.TheVariants.{Retired, Waiting, Reclaimed}
 use Rattle.sdd_steps.specs.declared.step.Step.TheVariants.{TakeOver}
 use Rattle.sdd_steps.specs.State as steps
 use Rattle.sdd_steps.specs.State.{At, Has, item_is, participant_is}
 use Rattle.sdd_steps.specs.Steps.{is_ready, is_left}
 use Rattle.sdd_steps.proofs.Enabling.{participant_passes, item_passes, item_read}
 use Rattle.sdd_steps.proofs.ListLemmas.{put, put_here, put_else, put_all, at_set, set_all, set_here, set_else, same_at}
-use Rattle.sdd_homes.specs.declared.Owner.{Owner}
 use Rattle.sdd_homes.specs.declared.Garbage.{Garbage}
 use Rattle.sdd_homes.specs.Book.{Content, bag, Book}
 use Rattle.sdd_homes.specs.Reasons.{Loads}

@@ -1,13 +1,8 @@
 -- what the value of a slot tells
-use Rattle.std.proofs.Common.{◌≡◌, ◌==◌, ◌&&◌, ◌≤◌, ◌++◌, ◌∷◌, [], List, ℕ, true, drop, length, refl, subst, eqb-true, ◌∙◌, sym, ap}
-use Rattle.atomic_table.specs.Table.{Me}
+use Rattle.std.proofs.Common.{◌≡◌, ◌==◌, ◌&&◌, ◌∷◌, [], List, ℕ, true, refl, eqb-true, ◌∙◌, sym, ap}
 use Rattle.sdd_steps.proofs.ListLemmas.{both}
-use Rattle.sdd_homes.specs.declared.Garbage.{Garbage}
-use Rattle.sdd_homes.specs.declared.Lease.{Lease}
-use Rattle.sdd_homes.specs.Book.{blank, bag}
 use Rattle.sdd_domain.specs.Contents.{IsIn, is_blank}
 use Rattle.sdd_domain.specs.Plays.{AreTold, has_both}
-use Rattle.sdd_domain.specs.declared.board.Acting.{Acting}
 use Rattle.sdd_domain.specs.declared.board.Home.{Home}
 use Rattle.sdd_domain.specs.declared.board.Home.TheVariants.{Blank, Room, Deed, Part, Left, Announced}
 

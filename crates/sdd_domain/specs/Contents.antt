@@ -1,5 +1,5 @@
 -- what lies in a slot of the table, by its content
-use Rattle.std.specs.Prelude.{◌≡◌, Bool, true, false, ℕ, suc, ◌%◌, ◌<◌, ◌≤◌, List, [], ◌∷◌, map, length, vec_capacity, IsSome}
+use Rattle.std.specs.Prelude.{◌≡◌, Bool, true, false, ℕ, suc, ◌%◌, ◌<◌, ◌≤◌, List, [], map, length, vec_capacity, IsSome}
 use Rattle.sdd_base.specs.declared.sizes.Sizes.{Sizes}
 use Rattle.sdd_steps.specs.State.{At}
 use Rattle.sdd_homes.specs.declared.Garbage.{Garbage}

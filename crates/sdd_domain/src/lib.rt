@@ -1,8 +1,9 @@
-//! The reclamation core that threads share: epochs, participants and guards of one place.
+//! The reclamation core that threads share: epochs, participants, guards and owned items of one place.
 //!
 //! A [`Domain`](domain::Domain) is lent to threads by `&`. A thread registers a participant, and acts for it with the
-//! [`Local`](local::Local) that it got; [guards](guard::Guard) are opened and closed with that. No call waits for
-//! another thread. Items and cells don't stand in a place of this kind yet.
+//! [`Local`](local::Local) that it got; [guards](guard::Guard) are opened and closed with that. A
+//! [`Shared`](shared::Shared) owns an item, which is reclaimed some guards after its last owner was released. No call
+//! waits for another thread. Cells don't stand in a place of this kind yet.
 #![tactic(auto)]
 
 mod bags;

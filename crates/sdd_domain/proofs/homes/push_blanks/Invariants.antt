@@ -1,4 +1,4 @@
-use Rattle.std.proofs.Common.{◌≡◌, ◌++◌, ◌+◌, ◌≤◌, replicate, vec_capacity}
+use Rattle.std.proofs.Common.{◌≡◌, ◌++◌, ◌≤◌, replicate, vec_capacity}
 use Rattle.sdd_domain.specs.declared.board.Home.TheVariants.{Blank}
 use Rattle.sdd_domain.proofs.homes.push_blanks.Given as goal
 

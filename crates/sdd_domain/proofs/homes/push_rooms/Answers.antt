@@ -1,4 +1,4 @@
-use Rattle.std.proofs.Common.{◌≡◌, ℕ, suc, ◌+◌, ◌%◌, ◌++◌, ◌∷◌, [], ap, sym, ◌∙◌, subst, ⊎_elim, arith, length, length-append}
+use Rattle.std.proofs.Common.{◌≡◌, ℕ, suc, ◌%◌, ◌∷◌, [], ap, subst, ⊎_elim, arith, length, length-append}
 use Rattle.sdd_steps.specs.State.{At}
 use Rattle.sdd_steps.proofs.ListLemmas.{at_end}
 use Rattle.sdd_homes.specs.Book.{resting}

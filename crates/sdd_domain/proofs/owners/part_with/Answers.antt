@@ -1,4 +1,4 @@
-use Rattle.std.proofs.Common.{rules, List, ◌∷◌, take, drop, sym, subst}
+use Rattle.std.proofs.Common.{List, take, drop, sym, subst}
 use Rattle.atomic_table.specs.Table.{Splits}
 use Rattle.sdd_homes.specs.declared.Owner.{Owner}
 use Rattle.sdd_domain.specs.Contents.{IsIn}

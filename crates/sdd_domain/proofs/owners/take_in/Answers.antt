@@ -1,4 +1,4 @@
-use Rattle.std.proofs.Common.{◌≡◌, List, [], ◌∷◌, ◌++◌, sym, ◌∙◌, subst}
+use Rattle.std.proofs.Common.{◌≡◌, [], ◌∷◌, ◌++◌, sym, ◌∙◌, subst}
 use Rattle.atomic_table.specs.Table.{Joins}
 use Rattle.sdd_domain.specs.Contents.{IsIn}
 use Rattle.sdd_domain.specs.Rule.{Shows}

@@ -1,4 +1,4 @@
-use Rattle.std.proofs.Common.{◌≡◌, refl, inl, arith}
+use Rattle.std.proofs.Common.{refl, inl, arith}
 use Rattle.sdd_domain.proofs.placing.fill_homes.Goals as goal
 
 pub loop-at-init : goal.loop-at-init

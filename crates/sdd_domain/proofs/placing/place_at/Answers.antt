@@ -1,15 +1,14 @@
-use Rattle.std.proofs.Common.{◌≡◌, ℕ, suc, ◌+◌, ◌*◌, ◌^◌, List, [], ◌∷◌, Some, IsSome, ap, sym, ◌∙◌, subst, refl, arith}
+use Rattle.std.proofs.Common.{◌≡◌, ℕ, ◌+◌, ◌*◌, ◌∷◌, ap, sym, ◌∙◌, subst, refl}
 use Rattle.atomic_table.specs.Table.{Me, rest}
 use Rattle.sdd_base.specs.declared.sizes.Sizes.{Sizes}
 use Rattle.sdd_homes.specs.declared.Filling.{Filling}
-use Rattle.sdd_homes.specs.declared.Owner.{Owner}
 use Rattle.sdd_homes.specs.Book.{deed}
 use Rattle.sdd_domain.specs.Contents.{IsIn}
 use Rattle.sdd_domain.specs.Plays.{IsJustClaimed, claimed_by, deed_home, filling_at, CanPlace, placing}
 use Rattle.sdd_domain.specs.declared.board.Acting.{Acting}
 use Rattle.sdd_domain.specs.declared.board.Home.{Home}
 use Rattle.sdd_domain.specs.declared.board.Home.TheVariants.{Blank, Deed}
-use Rattle.sdd_domain.proofs.Fronts.{came_out, put_in}
+use Rattle.sdd_domain.proofs.Fronts.{put_in}
 use Rattle.sdd_domain.proofs.placing.place_at.Goals as goal
 
 -- the deed lies in the home that was out

@@ -1,10 +1,10 @@
-use Rattle.std.proofs.Common.{◌≡◌, ℕ, ◌+◌, ◌*◌, ◌++◌, List, [], ◌∷◌, Some, None, ap, sym, ◌∙◌, subst, refl}
+use Rattle.std.proofs.Common.{◌≡◌, ℕ, ◌+◌, ◌*◌, ◌++◌, List, [], ◌∷◌, None, ap, sym, ◌∙◌, subst, refl}
 use Rattle.atomic_table.specs.Table.{Me, rest}
 use Rattle.sdd_base.specs.declared.sizes.Sizes.{Sizes}
 use Rattle.sdd_homes.specs.declared.Filling.{Filling}
 use Rattle.sdd_homes.specs.declared.Garbage.{Garbage}
 use Rattle.sdd_homes.specs.declared.Owner.{Owner}
-use Rattle.sdd_homes.specs.Book.{deed, home}
+use Rattle.sdd_homes.specs.Book.{deed}
 use Rattle.sdd_domain.specs.Contents.{IsIn}
 use Rattle.sdd_domain.specs.Plays.{deed_home, reclaiming, filling_at, CanVacate}
 use Rattle.sdd_domain.specs.declared.board.Acting.{Acting}

@@ -1,4 +1,4 @@
-use Rattle.std.proofs.Common.{ℕ, List, sym, ap, ◌∙◌, subst}
+use Rattle.std.proofs.Common.{ℕ, List, sym, subst}
 use Rattle.atomic_table.specs.Table.{Me}
 use Rattle.sdd_domain.specs.Contents.{IsIn}
 use Rattle.sdd_domain.specs.Views.{spent}

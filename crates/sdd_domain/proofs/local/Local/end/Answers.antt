@@ -1,13 +1,11 @@
-use Rattle.std.proofs.Common.{◌≡◌, ◌≤◌, ◌++◌, List, [], ◌∷◌, ◌==◌, length, drop, vec_capacity, cond, ap, sym, ◌∙◌, subst, refl, arith}
+use Rattle.std.proofs.Common.{◌≡◌, ◌≤◌, ◌++◌, List, [], ◌∷◌, ◌==◌, length, cond, ap, sym, ◌∙◌, subst, refl, arith}
 use lib.ListN.{length-map}
-use Rattle.std.specs.VecDeque.{deque_len, deque_capacity}
 use Rattle.atomic_table.specs.Table.{Me}
 use Rattle.sdd_steps.specs.declared.participant.Phase.TheVariants.{Idle, Opened}
 use Rattle.sdd_homes.specs.declared.Garbage.{Garbage}
-use Rattle.sdd_domain.specs.Contents.{is_blank, slots_of}
-use Rattle.sdd_domain.specs.Plays.{own_spare, own_bag, has_both}
+use Rattle.sdd_domain.specs.Contents.{slots_of}
+use Rattle.sdd_domain.specs.Plays.{own_spare, own_bag}
 use Rattle.sdd_domain.specs.declared.board.Acting.{Acting}
-use Rattle.sdd_domain.specs.declared.board.Home.{Home}
 use Rattle.sdd_domain.specs.declared.board.Home.TheVariants.{Blank, Left}
 use Rattle.sdd_domain.specs.declared.local.Local.{Local}
 use Rattle.sdd_domain.proofs.Bagged.{both_out}

@@ -1,8 +1,6 @@
-use Rattle.std.proofs.Common.{◌≡◌, ◌<◌, ◌≤◌, ◌+◌, List, [], ◌∷◌, length, drop, vec_capacity, ap, sym, ◌∙◌, subst, refl, arith}
-use Rattle.std.specs.VecDeque.{deque_capacity}
+use Rattle.std.proofs.Common.{◌≡◌, ◌<◌, ◌≤◌, [], ◌∷◌, length, drop, vec_capacity, ap, sym, ◌∙◌, subst, refl, arith}
 use Rattle.atomic_table.specs.Seated.{TableId}
 use Rattle.atomic_table.specs.Table.{Me}
-use Rattle.sdd_base.specs.declared.sizes.Sizes.{Sizes}
 use Rattle.sdd_homes.specs.declared.Owner.{Owner}
 use Rattle.sdd_domain.specs.Bags.{ages, Waits}
 use Rattle.sdd_domain.specs.Contents.{is_blank}
