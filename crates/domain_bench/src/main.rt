@@ -47,7 +47,8 @@ fn task_of(threads: &str, kind: &str, rounds: &str) -> Option<(u8, Kind, u32)>
     Some((threads, kind, rounds.parse::<u32>().ok()?))
 }
 
-/// A guard, opened and closed: the epoch that it saw.
+/// A guard, opened and closed: the epoch that it saw. It is compiled into each of its callers.
+#[inline(always)]
 fn pass(domain: &Domain<u64>, local: &mut Local<u64>, accelerated: bool) -> Epoch
     requires home { home_of local.old ≡ place_of domain.now }
     requires shallow { (own_of local.old).nesting ≤ 1 }

@@ -76,7 +76,8 @@ pub(crate) fn reclaim<T>(words: &Words<T>, place: &mut Place<T>, sizes: &Sizes, 
     item
 }
 
-/// Reclaims all that is due, of what the participant retired.
+/// Reclaims all that is due, of what the participant retired. It is compiled by itself, since few openings rotate.
+#[inline(never)]
 pub(crate) fn reclaim_due<T: Drop>(
     words: &Words<T>,
     place: &mut Place<T>,
