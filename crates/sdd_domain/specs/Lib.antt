@@ -1,5 +1,6 @@
 pub mod Views
 pub mod Layout
+pub mod Fitting
 pub mod Items
 pub mod Owners
 pub mod Contents

@@ -6,6 +6,7 @@ ghost use Rattle.sdd_homes.specs.declared.Lease.{Lease};
 ghost use Rattle.sdd_homes.specs.Book.{Lends};
 ghost use Rattle.sdd_homes.specs.declared.Owner.{Owner};
 ghost use Rattle.sdd_steps.specs.State.{Has};
+ghost use Rattle.sdd_domain.specs.Fitting.{FitsSlot, FitsCell};
 ghost use Rattle.sdd_domain.specs.Contents.{IsIn};
 ghost use Rattle.sdd_domain.specs.Layout.{claim_word, all_words};
 ghost use Rattle.sdd_domain.specs.Plays.{Scans, load_then, HasLoaded, CanClose, ending, end_all_then, Brings, GetsBack, swap_then, cloning, clone_then, releasing_one, release_then, HasBegun, begin_then, CanEnd, ended_release, end_release_then, exchange_then};
@@ -70,7 +71,7 @@ pub(crate) fn load<T>(
     participants: usize,
     cell: usize,
 ) -> u64
-    requires table { (place.old.table_id ≡ words.now.table_id) × (words.now.key.sizes.participants ≡ participants) × (participants ≤ 2 ^ 30) × (cell < words.now.key.sizes.cells) × (words.now.key.sizes.cells ≤ 2 ^ 30) × (all_words words.now.key.sizes ≤ words.now.table_id.words) }
+    requires table { FitsCell words.now.table_id words.now.key.sizes place.old.table_id participants cell }
     requires open { (place.old.me.0.kind ≡ 1) × (is_inside place.old.me.0.known ≡ true) }
     ensures seat { (place.new.table_id ≡ place.old.table_id) × (place.new.id ≡ place.old.id) }
     ensures loaded { HasLoaded IsIn place.old.me result place.new.me }
@@ -88,7 +89,7 @@ pub(crate) fn swap<T>(
     cell: usize,
     word: u64,
 ) -> u64
-    requires table { (place.old.table_id ≡ words.now.table_id) × (words.now.key.sizes.participants ≡ participants) × (participants ≤ 2 ^ 30) × (cell < words.now.key.sizes.cells) × (words.now.key.sizes.cells ≤ 2 ^ 30) × (all_words words.now.key.sizes ≤ words.now.table_id.words) }
+    requires table { FitsCell words.now.table_id words.now.key.sizes place.old.table_id participants cell }
     requires ready { (place.old.me.0.kind ≡ 1) × (is_ready place.old.me.0.known ≡ true) × (place.old.me.0.releasing ≡ 0) }
     requires brings { (new : Option Owner) × (os : List Owner) × (tail : List (ℕ × Home T)) × Brings IsIn place.old.me new os word tail }
     ensures seat { (place.new.table_id ≡ place.old.table_id) × (place.new.id ≡ place.old.id) }
@@ -106,7 +107,7 @@ pub(crate) fn compare_exchange<T>(
     expected: u64,
     word: u64,
 ) -> u64
-    requires table { (place.old.table_id ≡ words.now.table_id) × (words.now.key.sizes.participants ≡ participants) × (participants ≤ 2 ^ 30) × (cell < words.now.key.sizes.cells) × (words.now.key.sizes.cells ≤ 2 ^ 30) × (all_words words.now.key.sizes ≤ words.now.table_id.words) }
+    requires table { FitsCell words.now.table_id words.now.key.sizes place.old.table_id participants cell }
     requires ready { (place.old.me.0.kind ≡ 1) × (is_ready place.old.me.0.known ≡ true) × (is_inside place.old.me.0.known ≡ true) × (place.old.me.0.releasing ≡ 0) }
     requires brings { (new : Option Owner) × (os : List Owner) × (tail : List (ℕ × Home T)) × Brings IsIn place.old.me new os word tail }
     ensures seat { (place.new.table_id ≡ place.old.table_id) × (place.new.id ≡ place.old.id) }
@@ -126,7 +127,7 @@ pub(crate) fn clone_owner<T>(
     slot: usize,
     owners: u64,
 ) -> bool
-    requires table { (place.old.table_id ≡ words.now.table_id) × (words.now.key.sizes.participants ≡ participants) × (words.now.key.sizes.cells ≡ cells) × (participants ≤ 2 ^ 30) × (cells ≤ 2 ^ 30) × (slot < words.now.key.sizes.slots) × (words.now.key.sizes.slots ≤ 2 ^ 30) × (all_words words.now.key.sizes ≤ words.now.table_id.words) × (place.old.me.0.sizes ≡ words.now.key.sizes) }
+    requires table { FitsSlot words.now.table_id words.now.key.sizes place.old.table_id place.old.me.0.sizes participants cells slot }
     requires ready { (place.old.me.0.kind ≡ 1) × (is_ready place.old.me.0.known ≡ true) }
     requires leased { (l : Lease) × Has place.old.me.0.leases l × (l.slot ≡ slot) × (0 < l.count) }
     requires counted { (0 < owners) × (owners < 2 ^ 32 - 1) }

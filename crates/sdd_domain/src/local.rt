@@ -6,6 +6,7 @@ ghost use Rattle.sdd_base.specs.State.{no_local};
 ghost use Rattle.sdd_base.specs.Steps.{closings_after, scans};
 ghost use Rattle.sdd_steps.specs.declared.participant.Phase.TheVariants.{Idle, Opened};
 ghost use Rattle.sdd_homes.specs.declared.Garbage.{Garbage};
+ghost use Rattle.sdd_domain.specs.Fitting.{FitsSizes};
 ghost use Rattle.sdd_domain.specs.Contents.{IsIn, is_blank};
 ghost use Rattle.sdd_domain.specs.Bags.{ages, Waits};
 ghost use Rattle.sdd_domain.specs.Views.{IsBare, spent, rotated};
@@ -60,7 +61,7 @@ fn turn<T: Drop>(
     bags: &mut Bags,
     epoch: u64,
 )
-    requires table { (place.old.table_id ≡ words.now.table_id) × (words.now.key.sizes ≡ sizes.now) × (place.old.me.0.sizes ≡ sizes.now) × IsSized sizes.now × (all_words sizes.now ≤ words.now.table_id.words) }
+    requires table { FitsSizes words.now.table_id words.now.key.sizes place.old.table_id place.old.me.0.sizes sizes.now }
     requires open { (place.old.me.0.kind ≡ 1) × (place.old.me.0.known.phase ≡ Opened epoch) × (place.old.me.0.known.found ≡ epoch) × (place.old.me.0.filling ≡ None) × (place.old.me.0.hand ≡ []) }
     requires noted { own.old.published ≡ own.old.previous }
     requires waits { (ws : List Garbage) × (place.old.me.0.waits ≡ rotated epoch own.old.previous ws) × Waits ws bags.old.slots.items (ages bags.old.current bags.old.previous bags.old.next bags.old.due) }

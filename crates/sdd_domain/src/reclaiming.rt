@@ -5,6 +5,7 @@ ghost use Rattle.sdd_steps.specs.Steps.{is_ready};
 ghost use Rattle.sdd_homes.specs.declared.Filling.{Filling};
 ghost use Rattle.std.specs.VecDeque.{deque_capacity};
 ghost use Rattle.sdd_homes.specs.declared.Garbage.{Garbage};
+ghost use Rattle.sdd_domain.specs.Fitting.{FitsSizes};
 ghost use Rattle.sdd_domain.specs.Bags.{ages, Waits};
 ghost use Rattle.sdd_domain.specs.Layout.{all_words, IsSized};
 ghost use Rattle.sdd_domain.specs.Plays.{emptying, filling_at};
@@ -60,7 +61,7 @@ fn gather_all<T>(
 /// Reclaims the item that waits the longest, in `slot`, which the participant retired three rotations ago. The item is
 /// the answer, and the slot is free.
 pub(crate) fn reclaim<T>(words: &Words<T>, place: &mut Place<T>, sizes: &Sizes, slot: usize) -> T
-    requires table { (place.old.table_id ≡ words.now.table_id) × (words.now.key.sizes ≡ sizes.now) × (place.old.me.0.sizes ≡ sizes.now) × IsSized sizes.now × (all_words sizes.now ≤ words.now.table_id.words) }
+    requires table { FitsSizes words.now.table_id words.now.key.sizes place.old.table_id place.old.me.0.sizes sizes.now }
     requires ready { (place.old.me.0.kind ≡ 1) × (is_ready place.old.me.0.known ≡ true) × (place.old.me.0.filling ≡ None) × (place.old.me.0.hand ≡ []) }
     requires waits { (w : Garbage) × (ws : List Garbage) × (place.old.me.0.waits ≡ ws ++ w ∷ []) × (w.age ≡ 3) × (w.slot ≡ slot) }
     ensures seat { (place.new.table_id ≡ place.old.table_id) × (place.new.id ≡ place.old.id) }
@@ -84,7 +85,7 @@ pub(crate) fn reclaim_due<T: Drop>(
     sizes: &Sizes,
     bags: &mut Bags,
 )
-    requires table { (place.old.table_id ≡ words.now.table_id) × (words.now.key.sizes ≡ sizes.now) × (place.old.me.0.sizes ≡ sizes.now) × IsSized sizes.now × (all_words sizes.now ≤ words.now.table_id.words) }
+    requires table { FitsSizes words.now.table_id words.now.key.sizes place.old.table_id place.old.me.0.sizes sizes.now }
     requires ready { (place.old.me.0.kind ≡ 1) × (is_ready place.old.me.0.known ≡ true) × (place.old.me.0.filling ≡ None) × (place.old.me.0.hand ≡ []) }
     requires waits { Waits place.old.me.0.waits bags.old.slots.items (ages bags.old.current bags.old.previous bags.old.next bags.old.due) }
     ensures seat { (place.new.table_id ≡ place.old.table_id) × (place.new.id ≡ place.old.id) }

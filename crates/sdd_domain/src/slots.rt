@@ -5,6 +5,7 @@
 ghost use Rattle.std.specs.Prelude.{◌≡◌, ℕ, ◌+◌, ◌*◌, ◌^◌, ◌<◌, ◌≤◌, ◌-◌, ◌++◌, ◌∷◌, [], true, List, Some, None, IsTrue, IsFalse};
 ghost use Rattle.sdd_steps.specs.Steps.{is_ready};
 ghost use Rattle.sdd_homes.specs.declared.Filling.{Filling};
+ghost use Rattle.sdd_domain.specs.Fitting.{FitsSlot};
 ghost use Rattle.sdd_domain.specs.Contents.{IsIn};
 ghost use Rattle.sdd_domain.specs.Layout.{all_words, IsSized};
 ghost use Rattle.sdd_domain.specs.Plays.{HasClaimed, claim_slot_then, HasTaken, fill_takes_then, CanFill, next_filled, filling_at, fill_gives_then, CanPlace, placing, place_then, opens_then, reclaiming, deed_home, gathers_then, gathered, CanEmpty, empties_then, CanVacate, vacates_then};
@@ -81,7 +82,7 @@ pub(crate) fn claim<T>(
     cells: usize,
     slot: usize,
 ) -> bool
-    requires table { (place.old.table_id ≡ words.now.table_id) × (words.now.key.sizes.participants ≡ participants) × (words.now.key.sizes.cells ≡ cells) × (participants ≤ 2 ^ 30) × (cells ≤ 2 ^ 30) × (slot < words.now.key.sizes.slots) × (words.now.key.sizes.slots ≤ 2 ^ 30) × (all_words words.now.key.sizes ≤ words.now.table_id.words) × (place.old.me.0.sizes ≡ words.now.key.sizes) }
+    requires table { FitsSlot words.now.table_id words.now.key.sizes place.old.table_id place.old.me.0.sizes participants cells slot }
     requires ready { (place.old.me.0.kind ≡ 1) × (place.old.me.0.filling ≡ None) }
     ensures seat { (place.new.table_id ≡ place.old.table_id) × (place.new.id ≡ place.old.id) }
     ensures claimed { IsTrue result → HasClaimed IsIn place.old.me slot place.new.me }
@@ -119,7 +120,7 @@ pub(crate) fn place<T>(
     cells: usize,
     slot: usize,
 )
-    requires table { (place.old.table_id ≡ words.now.table_id) × (words.now.key.sizes.participants ≡ participants) × (words.now.key.sizes.cells ≡ cells) × (participants ≤ 2 ^ 30) × (cells ≤ 2 ^ 30) × (slot < words.now.key.sizes.slots) × (words.now.key.sizes.slots ≤ 2 ^ 30) × (all_words words.now.key.sizes ≤ words.now.table_id.words) × (place.old.me.0.sizes ≡ words.now.key.sizes) }
+    requires table { FitsSlot words.now.table_id words.now.key.sizes place.old.table_id place.old.me.0.sizes participants cells slot }
     requires ready { (place.old.me.0.kind ≡ 1) × (is_ready place.old.me.0.known ≡ true) × (place.old.me.0.releasing ≡ 0) × (place.old.me.0.slot ≡ slot) }
     requires filled { (f : Filling) × (tail : List (ℕ × Home T)) × CanPlace IsIn place.old.me f tail }
     ensures seat { (place.new.table_id ≡ place.old.table_id) × (place.new.id ≡ place.old.id) }
@@ -171,7 +172,7 @@ pub(crate) fn vacate<T>(
     cells: usize,
     slot: usize,
 )
-    requires table { (place.old.table_id ≡ words.now.table_id) × (words.now.key.sizes.participants ≡ participants) × (words.now.key.sizes.cells ≡ cells) × (participants ≤ 2 ^ 30) × (cells ≤ 2 ^ 30) × (slot < words.now.key.sizes.slots) × (words.now.key.sizes.slots ≤ 2 ^ 30) × (all_words words.now.key.sizes ≤ words.now.table_id.words) × (place.old.me.0.sizes ≡ words.now.key.sizes) }
+    requires table { FitsSlot words.now.table_id words.now.key.sizes place.old.table_id place.old.me.0.sizes participants cells slot }
     requires emptied { (place.old.me.0.kind ≡ 1) × (place.old.me.0.slot ≡ slot) × ((f : Filling) × (tail : List (ℕ × Home T)) × CanVacate IsIn place.old.me f tail) }
     ensures seat { (place.new.table_id ≡ place.old.table_id) × (place.new.id ≡ place.old.id) }
     ensures vacant { (f : Filling) (tail : List (ℕ × Home T)) → CanVacate IsIn place.old.me f tail → place.new.me ≡ (record place.old.me.0 { filling = None }, tail) }
