@@ -79,8 +79,9 @@ fn words_from(alloc: Global, plan: &Plan) -> Result<Vec<u64>, AllocError>
 impl<T> Domain<T> {
     ghost use Rattle.sdd_domain.specs.Tokens.{participants_of, first_of, place_of, home_of, number_of, own_of};
 
-    /// A place without items, for as many participants as its sizes name, none of them registered. It takes all the
-    /// memory that the place will ever use; without memory nothing is kept.
+    /// A place without items, for as many participants as its sizes name, none of them registered. It takes all memory
+    /// of the place but what `register` takes: homes for slots times participants, and a box for the item of each slot.
+    /// Without memory nothing is kept.
     pub fn new(alloc: Global, sizes: Sizes) -> Result<Domain<T>, AllocError>
         requires { IsSized sizes }
         ensures participants { IfOk result (λ d. participants_of d ≡ sizes.participants) }
@@ -121,7 +122,8 @@ impl<T> Domain<T> {
     }
 
     /// Registers a participant that nobody acts for: each is tried once, from 0 on. Full where each was taken when it
-    /// was tried.
+    /// was tried, and Memory where there was none for what it will retire, eight bytes a slot. What was left where the
+    /// participant ended before is its own from now on.
     pub fn register(&self) -> Result<Local<T>, RegisterRefused>
         ensures home { IfOk result (λ l. home_of l ≡ place_of self.now) }
         ensures number { IfOk result (λ l. number_of l < participants_of self.now) }

@@ -187,7 +187,8 @@ impl<T> Local<T> {
         own.nesting = 0;
     }
 
-    /// Ends the participant, which anybody may register from now on. Condition: none of its guards is open.
+    /// Ends the participant, which anybody may register from now on. What it retired and didn't reclaim stays in its bag,
+    /// for whoever acts for it next. Condition: none of its guards is open.
     pub fn end(self, domain: &Domain<T>)
         requires home { home_of self ≡ place_of domain.now }
         requires closed { (own_of self).nesting ≡ 0 }
