@@ -1,28 +1,53 @@
 //! Runs in which any one allocation may be refused. A script has each refused in turn: whatever is refused, nothing was
 //! kept, and the same call then succeeds.
 
-use crate::domain::{end, member, only};
+ghost use Rattle.std.specs.Prelude.{◌≡◌, ℕ};
+ghost use Rattle.sdd_domain.specs.Tokens.{home_of, own_of, place_of};
+
+use crate::domain::{end, member};
 use crate::guard::pass;
+use crate::items::sized;
 use sdd_domain::domain::Domain;
+use sdd_domain::local::Local;
+use sdd_domain::refusal::RegisterRefused;
+use sdd_domain::shared::Shared;
 use std::alloc::{AllocError, Global};
 use std::process::Abort;
 use std::test::Fail;
 
-/// Whether an allocation was refused while a place was made, used and ended. Only its making takes memory.
+/// A participant, registered at once or, where memory was refused, by a second try; and whether it was refused.
+fn registered<R: Abort>(rt: &R, domain: &Domain<u64>) -> (Local<u64>, bool)
+    ensures home { home_of result.0 ≡ place_of domain.now }
+    ensures closed { (own_of result.0).nesting ≡ 0 }
+{
+    match domain.register() {
+        Ok(local) => (local, false),
+        Err(RegisterRefused::Memory) => (member(rt, domain), true),
+        Err(RegisterRefused::Full) => panic!(rt; "a participant is free"),
+    }
+}
+
+/// Whether an allocation was refused while a place was made and a participant registered. Placing an item, reading and
+/// reclaiming it take no memory.
 fn makes_and_ends<R: Abort>(rt: &R, alloc: Global) -> bool {
-    let (domain, met) = match Domain::new(alloc, only(3)) {
+    let (domain, met) = match Domain::new(alloc, sized(3, 2)) {
         Ok(domain) => (domain, false),
         Err(AllocError) => (
-            Domain::new(alloc, only(3)).expect(rt, "memory was refused twice"),
+            Domain::new(alloc, sized(3, 2)).expect(rt, "memory was refused twice"),
             true,
         ),
     };
-    let mut local = member(rt, &domain);
+    let (mut local, again) = registered(rt, &domain);
+    let Ok(owner) = Shared::new(7, &domain, &mut local) else {
+        panic!(rt; "a slot is free");
+    };
+    assert!(rt; *owner.as_ref() == 7);
+    assert!(rt; owner.release(&domain, &mut local));
     assert!(rt; pass(&domain, &mut local, true) == 0);
     assert!(rt; pass(&domain, &mut local, true) == 1);
     local.end(&domain);
     end(rt, domain);
-    met
+    met || again
 }
 
 #[test]
