@@ -1,17 +1,18 @@
 -- the spare slot and the bag of a participant, which are out with its seat, and empty
-use Rattle.std.proofs.Common.{◌≡◌, ◌&&◌, true, ℕ, List, [], ◌∷◌, drop, length, eq-eqb, sym, refl, ap, ◌∙◌}
+use Rattle.std.proofs.Common.{◌≡◌, true, ℕ, List, [], ◌∷◌, sym, ap, ◌∙◌, subst}
 use Rattle.atomic_table.specs.Table.{Me}
 use Rattle.sdd_homes.specs.declared.Lease.{Lease}
-use Rattle.sdd_domain.specs.Contents.{is_blank}
-use Rattle.sdd_domain.specs.Plays.{has_both}
+use Rattle.sdd_domain.specs.Contents.{is_blank, blanks}
+use Rattle.sdd_domain.specs.Leases.{has_all, leased_homes}
 use Rattle.sdd_domain.specs.declared.board.Acting.{Acting}
 use Rattle.sdd_domain.specs.declared.board.Home.{Home}
 use Rattle.sdd_domain.specs.declared.board.Home.TheVariants.{Blank}
-use Rattle.sdd_domain.proofs.Told.{both_there}
+use Rattle.sdd_domain.proofs.Told.{all_there, are_there}
 
 module _ {T : Type 0} where
-  pub both_out : (m : Me (Home T) Acting) (k l : ℕ) → m.0.leases ≡ [] → has_both is_blank is_blank k l (drop (length m.0.leases) m.1) ≡ true → m.1 ≡ (k, Blank) ∷ (l, Blank) ∷ []
-  both_out m k l none out = let all : drop (length m.0.leases) m.1 ≡ m.1 = ap (λ (ls : List Lease). drop (length ls) m.1) none in sym all ∙ both_there k l (drop (length m.0.leases) m.1) out
+  pub both_out : (m : Me (Home T) Acting) (k l : ℕ) → m.0.leases ≡ [] → has_all is_blank (k ∷ l ∷ leased_homes m.0 m.0.leases) m.1 ≡ true → m.1 ≡ (k, Blank) ∷ (l, Blank) ∷ []
+  both_out m k l none out = all_there (k ∷ l ∷ leased_homes m.0 m.0.leases) m.1 out ∙ ap (λ (ls : List Lease). blanks (k ∷ l ∷ leased_homes m.0 ls)) none
 
-  pub are_both : (m : Me (Home T) Acting) (k l : ℕ) → m.0.leases ≡ [] → m.1 ≡ (k, Blank) ∷ (l, Blank) ∷ [] → has_both is_blank is_blank k l (drop (length m.0.leases) m.1) ≡ true
-  are_both m k l none is = ap (λ (ls : List Lease). has_both is_blank is_blank k l (drop (length ls) m.1)) none ∙ (ap (has_both is_blank is_blank k l) is ∙ λ j. (eq-eqb k k refl j && true) && (eq-eqb l l refl j && true))
+  -- so are the homes of what is leased behind them
+  pub are_out : (m : Me (Home T) Acting) (k l : ℕ) (ls : List ℕ) → leased_homes m.0 m.0.leases ≡ ls → m.1 ≡ blanks (k ∷ l ∷ ls) → has_all is_blank (k ∷ l ∷ leased_homes m.0 m.0.leases) m.1 ≡ true
+  are_out m k l ls same is = (λ j. has_all is_blank (k ∷ l ∷ same j) (is j)) ∙ are_there T (k ∷ l ∷ ls)

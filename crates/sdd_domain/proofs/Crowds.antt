@@ -1,4 +1,4 @@
--- how many items can wait
+-- how many items can wait, and how many slots be leased
 use Rattle.std.proofs.Common.{◌≡◌, ◌≢◌, ◌⊎◌, ℕ, zero, suc, ◌<◌, ◌≤◌, List, [], ◌∷◌, map, length, sym, refl, ap, ◌∙◌, subst, ⊎_elim, inl, inr, arith}
 use mathlib.Core.Logic.{dite}
 use mathlib.Core.Option.{some}
@@ -11,7 +11,8 @@ use Rattle.sdd_steps.specs.State.{Has}
 use Rattle.sdd_steps.proofs.ListLemmas.{same_at}
 use Rattle.sdd_homes.specs.declared.Garbage.{Garbage}
 use Rattle.sdd_homes.specs.declared.Owner.{Owner}
-use Rattle.sdd_homes.specs.Book.{Content, full}
+use Rattle.sdd_homes.specs.declared.Lease.{Lease}
+use Rattle.sdd_homes.specs.Book.{Content, full, Lends, Apart}
 use Rattle.sdd_homes.proofs.HandLemmas.{owned_some, mine_some}
 use Rattle.sdd_domain.specs.Items.{hand_of, Owns, Distinct}
 use Rattle.sdd_domain.specs.Rule.{Shows}
@@ -52,6 +53,31 @@ fits zero (x ∷ xs) low a = let bad = low x (inl refl) in absurd (omega arith)
 fits (suc n) xs low a = ⊎_elim
     (λ (h : Has xs n). let l = without xs n a h in let e = l.fewer in let f = fits n l.others (λ x t. let o = l.had x t in let lt = low x o.0 in let ne = o.1 in omega arith) l.apart in omega arith)
     (λ (not_there : ¬ Has xs n). let f = fits n xs (λ x t. let lt = low x t in let ne : x ≢ n = (λ e. not_there (subst (Has xs) e t)) in omega arith) a in omega arith) (is_there xs n)
+
+leased_slots : List Lease → List ℕ
+leased_slots ls = map (λ (l : Lease). l.slot) ls
+
+-- a slot that is leased, and its lease
+lends_slot : (ls : List Lease) (k : ℕ) → Has (leased_slots ls) k → Lends ls k
+unfolding leased_slots
+lends_slot [] k h = absurd h
+lends_slot (l ∷ ls) k h = ⊎_elim (λ (e : l.slot ≡ k). inl e) (λ (t : Has (leased_slots ls) k). inr (lends_slot ls k t)) h
+
+lease_there : (ls : List Lease) (k : ℕ) → Has (leased_slots ls) k → (l : Lease) × Has ls l × (l.slot ≡ k)
+unfolding leased_slots
+lease_there [] k h = absurd h
+lease_there (l ∷ ls) k h = ⊎_elim (λ (e : l.slot ≡ k). (l, inl refl, e)) (λ (t : Has (leased_slots ls) k). let g = lease_there ls k t in (g.0, inr g.1, g.2)) h
+
+leases_apart : (ls : List Lease) → Apart ls → AreApart (leased_slots ls)
+unfolding leased_slots
+leases_apart [] a = tt
+leases_apart (l ∷ ls) a = ((λ h. a.0 (lends_slot ls l.slot h)), leases_apart ls a.1)
+
+-- leases of different slots, and one slot that isn't leased, are at most all slots
+pub fewer_leased : (n : ℕ) (ls : List Lease) (k : ℕ) → k < n → ¬ Lends ls k → ((l : Lease) → Has ls l → l.slot < n) → Apart ls → length ls < n
+unfolding leased_slots
+fewer_leased n ls k low free all apart = let long = length-map ls (λ (l : Lease). l.slot) in let f = fits n (k ∷ leased_slots ls) (λ x h. ⊎_elim (λ (e : k ≡ x). subst (λ z. z < n) e low) (λ (t : Has (leased_slots ls) x). let g = lease_there ls x t in subst (λ z. z < n) g.2 (all g.0 g.1)) h)
+    ((λ h. free (lends_slot ls k h)), leases_apart ls apart) in omega arith
 
 slots_of : List Garbage → List ℕ
 slots_of ws = map (λ (w : Garbage). w.slot) ws

@@ -2,6 +2,7 @@ pub mod Stirred
 pub mod Taken
 pub mod Bounds
 pub mod Moves
+pub mod Nested
 pub mod Openings
 pub mod Looks
 pub mod Locks
@@ -9,6 +10,9 @@ pub mod Firsts
 pub mod Seats
 pub mod Registers
 pub mod Learns
+pub mod Leased
+pub mod Leasing
+pub mod Rows
 pub mod Ends
 pub mod Loads
 pub mod Closes

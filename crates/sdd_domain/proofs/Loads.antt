@@ -1,5 +1,5 @@
 -- the load of a cell keeps the rule of the table
-use Rattle.std.proofs.Common.{◌≡◌, ◌&&◌, ◌||◌, not, is_some, true, ℕ, ◌+◌, ◌^◌, ◌<◌, ◌≤◌, List, [], ◌∷◌, ◌++◌, get_or, set, sym, refl, ap, ◌∙◌, subst, ⊎_elim, inl, inr, arith, Option, None, Some}
+use Rattle.std.proofs.Common.{◌≡◌, ◌&&◌, ◌||◌, not, is_some, true, ℕ, ◌+◌, ◌^◌, ◌<◌, ◌≤◌, List, [], ◌∷◌, ◌++◌, get_or, set, length, sym, refl, ap, ◌∙◌, subst, ⊎_elim, inl, inr, arith, Option, None, Some}
 use mathlib.Core.Logic.{dite}
 use mathlib.Core.Option.{some, none}
 use native.Mathlib.Decide.{ℕ_discrete}
@@ -7,6 +7,7 @@ use lib.ListN.{get_elem?}
 use lib.Seq.{set-get_or}
 use Rattle.atomic_table.specs.Table as table
 use Rattle.atomic_table.specs.Table.{State, Me, step, Act, keeps, takes, stepped, Allows}
+use Rattle.sdd_base.specs.declared.sizes.Sizes.{Sizes}
 use Rattle.sdd_steps.specs.declared.participant.Phase.TheVariants.{Idle, Opened}
 use Rattle.sdd_steps.specs.declared.participant.Participant.{Participant}
 use Rattle.sdd_steps.specs.declared.participant.Loaded.{Loaded}
@@ -23,10 +24,10 @@ use Rattle.sdd_steps.proofs.StepLemmas.{named_there}
 use Rattle.sdd_steps.proofs.EnabledLemmas.{inside_is}
 use Rattle.sdd_steps.proofs.Enabling.{participant_passes, participant_read, cell_passes, cell_read}
 use Rattle.sdd_homes.specs.declared.Lease.{Lease}
-use Rattle.sdd_homes.specs.Book.{Content, away, part, full, home, Lends, lease}
+use Rattle.sdd_homes.specs.Book.{Content, away, part, full, home, Lends, Apart, lease}
 use Rattle.sdd_homes.specs.Parts.{Parts}
 use Rattle.sdd_homes.specs.Reasons.{Loads, Why}
-use Rattle.sdd_homes.proofs.Totals.{home_in}
+use Rattle.sdd_homes.proofs.Totals.{home_in, total_put}
 use Rattle.sdd_homes.proofs.Leases.{has_lends, lends_or}
 use Rattle.sdd_homes.proofs.LyingLemmas.{takes_low}
 use Rattle.sdd_homes.proofs.PartLemmas as parts
@@ -39,6 +40,7 @@ use Rattle.sdd_domain.specs.declared.board.Plan.{Plan}
 use Rattle.sdd_domain.proofs.Taken as taken
 use Rattle.sdd_domain.proofs.Taken.{and_true, or_left}
 use Rattle.sdd_domain.proofs.Moves.{Moves, moved, own_load, reads_only, own_inside, idles}
+use Rattle.sdd_domain.proofs.Crowds.{fewer_leased}
 use Rattle.sdd_domain.proofs.Stirred.{stirred_none, grip_set, loads_others, leased}
 use Rattle.sdd_domain.proofs.Looks.{has_last, has_more}
 
@@ -155,6 +157,14 @@ module _ (S : Type 0) (IsIn : Content → S → Type 0) (plan : Plan) where
       pub found : (u : S) × (get_elem? s.homes (home n k p) ≡ some (some u)) × IsIn (part h.value count) u
       found = let f = r.items.lying.low (home n k p) (home_in n plan.sizes.slots k p stand.0 (omega (arith, low))) (λ e. let bad : part h.value count ≡ away = sym lies ∙ e in absurd (cc)) in (f.0, f.1, subst (λ z. IsIn z f.0) lies f.2)
 
+      -- a participant has no more than all parts of an item
+      pub few : count ≤ 2 ^ 63
+      few = let f = r.items.parts.full_at k i stand.0 stand.1 in let all = f.sum in let part_of_all = total_put n (r.book.share k) p 0 low in omega arith
+
+      -- the slots that it has leased are other ones
+      pub fewer : length d.leases < plan.sizes.slots
+      fewer = fewer_leased plan.sizes.slots d.leases k stand.0 free (λ l h. (r.items.parts.leases p l (subst (λ ls. Has ls l) (sym (r.items.seats id d at kind).leases) h)).inside) (subst Apart (r.items.seats id d at kind).leases (r.items.parts.once p))
+
       abbrev out' : ℕ → List Lease
       out' = put r.book.out p (r.book.out p ++ new ∷ [])
 
@@ -190,12 +200,12 @@ module _ (S : Type 0) (IsIn : Content → S → Type 0) (plan : Plan) where
         | None ↦ λ e. (d, keeps, tt, idles S IsIn plan s r w id d at, (y, omega arith, inl (r.items.cell_words c None (named_at None e), refl)))
         | Some i ↦ λ e. let k : ℕ = r.book.slot_of i in let word = r.items.cell_words c (Some i) (named_at (Some i) e) in let h = loaded_as r.state.items i in ⊎_elim
             (λ (had : Lends d.leases k). (loading h d.leases d, keeps, tt, again_leased s r id c i d at kind inside o.0 o.1 e w, (y, omega arith, inr (k, h, word, inl (is_leased s r id c i d at kind inside o.0 o.1 e had, refl)))))
-            (λ (free : ¬ Lends d.leases k). let f = found s r id c i d at kind inside o.0 o.1 e free in let b = r.items.seats id d at kind in let count : ℕ = r.book.share k d.number in let sizes = ap (λ (z : Rattle.sdd_base.specs.declared.sizes.Sizes.Sizes). home z.participants k d.number) b.sizes_are in (
+            (λ (free : ¬ Lends d.leases k). let f = found s r id c i d at kind inside o.0 o.1 e free in let b = r.items.seats id d at kind in let count : ℕ = r.book.share k d.number in let sizes = ap (λ (z : Sizes). home z.participants k d.number) b.sizes_are in (
               loading h (d.leases ++ lease k i count h.value ∷ []) d,
               takes (own_home d k) f.0,
               ap (get_elem? s.homes) sizes ∙ f.1,
               subst (λ z. Shows IsIn plan record { words = set s.words w (get_or s.words w 0); homes = set s.homes z none; views = set s.views id (loading h (d.leases ++ lease k i count h.value ∷ []) d) }) (sym sizes) (newly_leased s r id c i d at kind inside o.0 o.1 e free w),
-              (y, omega arith, inr (k, h, word, inr (free, (count, f.0, f.2, refl)))),
+              (y, omega arith, inr (k, h, word, inr (free, subst (λ (z : Sizes). k < z.slots) (sym b.sizes_are) (stand s r id c i d at kind inside o.0 o.1 e).0, subst (λ (z : Sizes). length d.leases < z.slots) (sym b.sizes_are) (fewer s r id c i d at kind inside o.0 o.1 e free), (count, f.0, f.2, few s r id c i d at kind inside o.0 o.1 e free, refl)))),
             ))
             (lends_or d.leases k)
       ]) refl

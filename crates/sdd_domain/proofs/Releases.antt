@@ -1,5 +1,5 @@
 -- an owner in hand is released, and its part joined to the participant's lease of the item; with the last owner the item is retired in the same step
-use Rattle.std.proofs.Common.{◌≡◌, ◌≢◌, ◌==◌, ◌%◌, cond, true, ℕ, ◌+◌, ◌-◌, ◌<◌, List, ◌∷◌, get_or, set, sym, refl, ap, ◌∙◌, subst, ⊎_elim, inl, inr, arith, eq-eqb, ne_eqb, lt-ltb, ◌⊎◌, false}
+use Rattle.std.proofs.Common.{◌≡◌, ◌≢◌, ◌==◌, ◌%◌, cond, true, ℕ, ◌+◌, ◌-◌, ◌^◌, ◌<◌, List, ◌∷◌, get_or, set, length, sym, refl, ap, ◌∙◌, subst, ⊎_elim, inl, inr, arith, eq-eqb, ne_eqb, lt-ltb, ◌⊎◌, false}
 use mathlib.Core.Logic.{dite}
 use mathlib.Core.Option.{some, none}
 use native.Mathlib.Decide.{ℕ_discrete}
@@ -32,6 +32,9 @@ use Rattle.sdd_domain.specs.Rule.{Runs, Shows}
 use Rattle.sdd_domain.specs.Plays.{retiring, releasing_one, release_then}
 use Rattle.sdd_domain.specs.declared.board.Acting.{Acting}
 use Rattle.sdd_domain.specs.declared.board.Plan.{Plan}
+use Rattle.sdd_base.specs.declared.sizes.Sizes.{Sizes}
+use Rattle.sdd_homes.proofs.Totals.{total_put}
+use Rattle.sdd_domain.proofs.Crowds.{fewer_wait}
 use Rattle.sdd_domain.proofs.Taken as taken
 use Rattle.sdd_domain.proofs.Taken.{and_true}
 use Rattle.sdd_domain.proofs.Stirred.{grip_set}
@@ -138,6 +141,16 @@ module _ (S : Type 0) (IsIn : Content → S → Type 0) (plan : Plan) where
     pub some_left : 2 < get_or s.words (slot_word plan.sizes l.slot) 0
     some_left = let w = word_is in let h = owned in omega arith
 
+    -- the owner has one part, so the participant hasn't all of them
+    pub few : l.count < 2 ^ 63
+    few = let z = y.count in let some_owner = owned in let all = f.sum in let part_of_all = total_put n (r.book.share l.slot) p 0 y.low in omega arith
+
+    pub waits_fit : length d.waits < d.sizes.slots
+    waits_fit = subst (λ (z : Sizes). length d.waits < z.slots) (sym (r.items.seats id d at kind).sizes_are) (fewer_wait S IsIn plan s r id d o at kind in_hand)
+
+    same_round : o.round ≡ l.round
+    same_round = let w = r.items.owners id d o at in_hand in let one = same_at r.state.items l.item w.0 it (subst (λ m. At r.state.items m w.0) same_item w.1) f.here in sym w.2 ∙ (ap (λ (z : Item). z.value) one ∙ y.round it f.here)
+
     module _ (idle : d.releasing ≡ 0) where
       abbrev out' : ℕ → List Lease
       out' = put r.book.out p (recounted l.slot c (r.book.out p))
@@ -185,5 +198,5 @@ module _ (S : Type 0) (IsIn : Content → S → Type 0) (plan : Plan) where
     tt,
     subst (λ z. Shows IsIn plan record { words = set s.words i z; homes = s.homes; views = set s.views id (releasing_one k l os d) }) (sym (less_one k (omega arith) fits)) (subst (λ z. Shows IsIn plan record { words = set s.words i (k - 1); homes = s.homes; views = set s.views id (releasing_one z l os d) }) (sym (word_is s r id d l o os at kind ready has first slot)) (shown_release s r id d l o os at kind ready has first slot idle)),
     λ e o' os' has_e slot_e first_e. let heads : o ∷ os ≡ o' ∷ os' = sym first ∙ first_e in let owners : o ≡ o' = cc in let rest : os ≡ os' = cc in let same : l ≡ e = same_lease d.leases l e once has has_e (sym slot ∙ (ap (λ (z : Owner). z.slot) owners ∙ slot_e)) in
-        (more, λ j. (releasing_one k (same j) (rest j) d, me.1)),
+        (more, subst (λ (z : Lease). z.count < 2 ^ 63) same (few s r id d l o os at kind ready has first slot), waits_fit s r id d l o os at kind ready has first slot, once, ap (λ (z : Owner). z.round) (sym owners) ∙ (same_round s r id d l o os at kind ready has first slot ∙ ap (λ (z : Lease). z.round) same), λ j. (releasing_one k (same j) (rest j) d, me.1)),
   )

@@ -1,8 +1,9 @@
 -- what the value of a slot tells
-use Rattle.std.proofs.Common.{◌≡◌, ◌==◌, ◌&&◌, ◌∷◌, [], List, ℕ, true, refl, eqb-true, ◌∙◌, sym, ap}
+use Rattle.std.proofs.Common.{◌≡◌, ◌==◌, ◌&&◌, ◌∷◌, [], List, ℕ, true, refl, eq-eqb, eqb-true, ◌∙◌, sym, ap}
 use Rattle.sdd_steps.proofs.ListLemmas.{both}
-use Rattle.sdd_domain.specs.Contents.{IsIn, is_blank}
-use Rattle.sdd_domain.specs.Plays.{AreTold, has_both}
+use Rattle.sdd_domain.specs.Contents.{IsIn, is_blank, blanks}
+use Rattle.sdd_domain.specs.Plays.{AreTold}
+use Rattle.sdd_domain.specs.Leases.{has_all}
 use Rattle.sdd_domain.specs.declared.board.Home.{Home}
 use Rattle.sdd_domain.specs.declared.board.Home.TheVariants.{Blank, Room, Deed, Part, Left, Announced}
 
@@ -19,10 +20,13 @@ blank_there (Part p c) e = absurd (cc)
 blank_there (Left v) e = absurd (cc)
 blank_there (Announced z) e = absurd (cc)
 
--- two empty slots are out with the seat
-pub both_there : {T : Type 0} (k l : ℕ) (cs : List (ℕ × Home T)) → has_both is_blank is_blank k l cs ≡ true → cs ≡ (k, Blank) ∷ (l, Blank) ∷ []
-both_there k l [] e = absurd (cc)
-both_there k l (x ∷ []) e = absurd (cc)
-both_there k l (x ∷ y ∷ []) e = let t = both ((x.0 == k) && is_blank x.1) ((y.0 == l) && is_blank y.1) e in let f = both (x.0 == k) (is_blank x.1) t.0 in let g = both (y.0 == l) (is_blank y.1) t.1 in
-    λ j. (eqb-true x.0 k f.0 j, blank_there x.1 f.1 j) ∷ (eqb-true y.0 l g.0 j, blank_there y.1 g.1 j) ∷ []
-both_there k l (x ∷ y ∷ z ∷ zs) e = absurd (cc)
+-- just these slots are out with a seat, and empty
+pub all_there : {T : Type 0} (ks : List ℕ) (cs : List (ℕ × Home T)) → has_all is_blank ks cs ≡ true → cs ≡ blanks ks
+all_there [] [] e = refl
+all_there [] (x ∷ xs) e = absurd (cc)
+all_there (k ∷ ks) [] e = absurd (cc)
+all_there (k ∷ ks) (x ∷ xs) e = let t = both ((x.0 == k) && is_blank x.1) (has_all is_blank ks xs) e in let f = both (x.0 == k) (is_blank x.1) t.0 in λ j. (eqb-true x.0 k f.0 j, blank_there x.1 f.1 j) ∷ all_there ks xs t.1 j
+
+pub are_there : (T : Type 0) (ks : List ℕ) → has_all is_blank ks (blanks {T = T} ks) ≡ true
+are_there T [] = refl
+are_there T (k ∷ ks) = λ j. (eq-eqb k k refl j && true) && are_there T ks j

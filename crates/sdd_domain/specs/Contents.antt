@@ -38,6 +38,10 @@ module _ {T : Type 0} where
   is_blank (Left v) = false
   is_blank (Announced z) = false
 
+  -- these slots, each with nothing in it
+  abbrev pub blanks : List ℕ → List (ℕ × Home T)
+  blanks = map (λ (k : ℕ). (k, Blank))
+
   -- the value is none of a slot, and announces how large the place is
   abbrev pub Announces : Home T → Sizes → Type 0
   Announces y z = y ≡ Announced z

@@ -5,8 +5,10 @@ pub mod Items
 pub mod Owners
 pub mod Contents
 pub mod Bags
+pub mod Ledgers
 pub mod Rule
 pub mod Plays
+pub mod Leases
 pub mod Sharing
 pub mod Tokens
 pub mod Laws

@@ -11,7 +11,7 @@ use Rattle.sdd_homes.specs.declared.Lease.{Lease}
 use Rattle.sdd_homes.specs.declared.Owner.{Owner}
 use Rattle.sdd_homes.specs.declared.Filling.{Filling}
 use Rattle.sdd_homes.specs.declared.Garbage.{Garbage}
-use Rattle.sdd_homes.specs.Book.{Content, part, home, lease, Lends, recounted, blank, room, deed, bag}
+use Rattle.sdd_homes.specs.Book.{Content, part, home, lease, Lends, Apart, recounted, blank, room, deed, bag}
 use Rattle.sdd_domain.specs.Views.{spent, registered, reading, publishing, rotated, looking, closing}
 use Rattle.sdd_domain.specs.Layout.{state_word, claim_word, slot_word, all_homes, bag_place, packed, shown}
 use Rattle.sdd_domain.specs.Owners.{slot_code, part_of, besides}
@@ -83,9 +83,9 @@ abbrev pub IsLeased : List Lease → ℕ → Loaded → Type 0
 IsLeased ls k h = (l : Lease) × Has ls l × (l.slot ≡ k) × (l.item ≡ h.item) × (l.round ≡ h.value)
 
 module _ {S : Type 0} (IsIn : Content → S → Type 0) where
-  -- the participant's home of the slot k comes out with its parts of the item
+  -- the participant's home of the slot k comes out with its parts of the item; not all slots were leased
   abbrev pub takes_home : Me S Acting → ℕ → Loaded → Me S Acting → Type 0
-  takes_home m k h m' = ¬ Lends m.0.leases k × ((c : ℕ) × (u : S) × IsIn (part h.value c) u × (m' ≡ (loading h (m.0.leases ++ lease k h.item c h.value ∷ []) m.0, (own_home m.0 k, u) ∷ m.1)))
+  takes_home m k h m' = ¬ Lends m.0.leases k × (k < m.0.sizes.slots) × (length m.0.leases < m.0.sizes.slots) × ((c : ℕ) × (u : S) × IsIn (part h.value c) u × (c ≤ 2 ^ 63) × (m' ≡ (loading h (m.0.leases ++ lease k h.item c h.value ∷ []) m.0, (own_home m.0 k, u) ∷ m.1)))
 
   -- the cell is empty; or its item was leased already; or the participant's home of it comes out
   abbrev pub HasLoaded : Me S Acting → ℕ → Me S Acting → Type 0
@@ -118,13 +118,6 @@ own_spare d y = all_homes d.sizes + y
 -- where the participant's bag lies
 abbrev pub own_bag : Acting → ℕ
 own_bag d = all_homes d.sizes + bag_place d.sizes d.number
-
--- whether just the slots k and l are out with a seat, with values that pass these tests
-abbrev pub has_both : {S : Type 0} → (S → Bool) → (S → Bool) → ℕ → ℕ → List (ℕ × S) → Bool
-has_both first second k l [] = false
-has_both first second k l (x ∷ []) = false
-has_both first second k l (x ∷ y ∷ []) = ((x.0 == k) && first x.1) && ((y.0 == l) && second y.1)
-has_both first second k l (x ∷ y ∷ z ∷ zs) = false
 
 module _ {S : Type 0} (IsIn : Content → S → Type 0) where
   -- the participant's spare slot is in front of what is out with the seat, and is empty
@@ -184,7 +177,7 @@ releasing_one n l os d = record d { leases = recounted l.slot (l.count + 1) d.le
 
 -- the first owner in hand is released
 abbrev pub release_then : {S : Type 0} → Step S → Me S Acting → ℕ → Me S Acting → Type 0
-release_then t m n m' = (l : Lease) (o : Owner) (os : List Owner) → Has m.0.leases l → o.slot ≡ l.slot → m.0.hand ≡ o ∷ os → (2 < n) × (m' ≡ (releasing_one n l os m.0, m.1))
+release_then t m n m' = (l : Lease) (o : Owner) (os : List Owner) → Has m.0.leases l → o.slot ≡ l.slot → m.0.hand ≡ o ∷ os → (2 < n) × (l.count < 2 ^ 63) × (length m.0.waits < m.0.sizes.slots) × Apart m.0.leases × (o.round ≡ l.round) × (m' ≡ (releasing_one n l os m.0, m.1))
 
 -- a release of the owner o begins: the participant's home of its item comes out
 abbrev pub HasBegun : {S : Type 0} → (Content → S → Type 0) → Me S Acting → Owner → Me S Acting → Type 0

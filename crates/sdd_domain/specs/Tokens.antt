@@ -4,6 +4,7 @@ use Rattle.atomic_table.specs.Seated.{TableId}
 use Rattle.sdd_base.specs.declared.sizes.Sizes.{Sizes}
 use Rattle.sdd_base.specs.declared.status.LocalState.{LocalState}
 use Rattle.sdd_base.specs.Steps.{closings_after, scans}
+use Rattle.sdd_domain.specs.Leases.{life_number}
 use Rattle.sdd_domain.specs.declared.domain.Domain.{Domain}
 use Rattle.sdd_domain.specs.declared.local.Local.{Local}
 use Rattle.sdd_domain.specs.declared.guard.Guard.{Guard}
@@ -41,9 +42,20 @@ waiting_of l = length l.place.me.0.waits
 abbrev pub participant_of : Guard → ℕ
 participant_of g = g.participant
 
+-- the nest of guards that are open within one outermost one, as a guard and the participant tell it: which participant's, and which of its nests
+abbrev pub nest_of : Guard → ℕ × ℕ
+nest_of g = (g.participant, g.life.id)
+
+abbrev pub nest_in : {T : Type 0} → Local T → ℕ × ℕ
+nest_in l = (l.number, life_number l.life)
+
 -- the same participant of the same place
 abbrev pub IsSame : {T : Type 0} → Local T → Local T → Type 0
 IsSame old new = (home_of new ≡ home_of old) × (number_of new ≡ number_of old)
+
+-- and the same guards are open
+abbrev pub IsWithin : {T : Type 0} → Local T → Local T → Type 0
+IsWithin old new = IsSame old new × (nest_in new ≡ nest_in old)
 
 -- An outermost opening that found this count. A rotation sets the flag of garbage if anything waits behind it, and else clears it.
 abbrev pub begun : ℕ → Bool → LocalState → LocalState

@@ -3,7 +3,7 @@
 ghost use Rattle.std.specs.Prelude.{◌≡◌, ◌≢◌, ℕ, ◌∷◌, ◌+◌, ◌-◌, ◌*◌, ◌^◌, ◌<◌, ◌≤◌, true, List, Option, length, drop, IsTrue, IsFalse};
 ghost use Rattle.sdd_steps.specs.Steps.{is_inside, is_ready};
 ghost use Rattle.sdd_homes.specs.declared.Lease.{Lease};
-ghost use Rattle.sdd_homes.specs.Book.{Lends};
+ghost use Rattle.sdd_homes.specs.Book.{Lends, Apart};
 ghost use Rattle.sdd_homes.specs.declared.Owner.{Owner};
 ghost use Rattle.sdd_steps.specs.State.{Has};
 ghost use Rattle.sdd_domain.specs.Fitting.{FitsSlot, FitsCell};
@@ -169,6 +169,7 @@ pub(crate) fn release_owner<T>(
     requires ready { (place.old.me.0.kind ≡ 1) × (is_ready place.old.me.0.known ≡ true) × (place.old.me.0.releasing ≡ 0) }
     requires owner { (l : Lease) × (o : Owner) × (os : List Owner) × Has place.old.me.0.leases l × (l.slot ≡ slot) × (o.slot ≡ l.slot) × (place.old.me.0.hand ≡ o ∷ os) }
     ensures seat { (place.new.table_id ≡ place.old.table_id) × (place.new.id ≡ place.old.id) }
+    ensures few { (l : Lease) (o : Owner) (os : List Owner) → Has place.old.me.0.leases l → o.slot ≡ l.slot → place.old.me.0.hand ≡ o ∷ os → (l.count < 2 ^ 63) × (length place.old.me.0.waits < place.old.me.0.sizes.slots) × Apart place.old.me.0.leases × (o.round ≡ l.round) }
     ensures released { (l : Lease) (o : Owner) (os : List Owner) → Has place.old.me.0.leases l → o.slot ≡ l.slot → place.old.me.0.hand ≡ o ∷ os → place.new.me ≡ (releasing_one (result + 3) l os place.old.me.0, place.old.me.1) }
 {
     words.fetch_sub::<OnRelease>(place, 8 * participants + 16 + cells + slot, 1) - 3

@@ -2,16 +2,14 @@
 
 ghost use Rattle.std.specs.Prelude.{◌≡◌, ◌≢◌, ℕ, ◌+◌, ◌*◌, ◌^◌, ◌<◌, ◌≤◌, [], ◌∷◌, ◌++◌, replicate, IfOk, OnOk, IfErr, OnErr};
 ghost use Rattle.sdd_base.specs.State.{no_local};
-ghost use Rattle.std.specs.VecDeque.{deque_capacity};
-ghost use Rattle.sdd_domain.specs.Bags.{ages, Waits};
 ghost use Rattle.sdd_domain.specs.Layout.{all_words, IsSized};
 ghost use Rattle.sdd_domain.specs.Rule.{numbers, first_eights, first_words};
 
-use crate::bags::Bags;
 use crate::board::{Board, Plan, Words};
 use crate::guard::Guard;
 use crate::homes::{clear, empty, homes_from};
 use crate::local::Local;
+use crate::ledger::Ledger;
 use crate::refusal::RegisterRefused;
 use crate::slots::has_owner;
 use crate::steps::{claim, is_claimed, learn, sit};
@@ -77,6 +75,7 @@ fn words_from(alloc: Global, plan: &Plan) -> Result<Vec<u64>, AllocError>
 }
 
 impl<T> Domain<T> {
+    ghost use Rattle.sdd_domain.specs.Ledgers.{IsEmpty};
     ghost use Rattle.sdd_domain.specs.Tokens.{participants_of, first_of, place_of, home_of, number_of, own_of};
 
     /// A place without items, for as many participants as its sizes name, none of them registered. It takes all memory
@@ -129,33 +128,34 @@ impl<T> Domain<T> {
         ensures number { IfOk result (λ l. number_of l < participants_of self.now) }
         ensures fresh { IfOk result (λ l. own_of l ≡ no_local) }
     {
-        let Ok(mut bags) = Bags::new(self.heap, self.sizes.slots) else {
+        let Ok(mut ledger) = Ledger::new(self.heap, self.sizes.slots) else {
             return Err(RegisterRefused::Memory);
         };
         for number in 0..self.sizes.participants {
-            match self.acting_for(number, bags) {
+            match self.acting_for(number, ledger) {
                 Ok(local) => return Ok(local),
-                Err(back) => bags = back,
+                Err(back) => ledger = back,
             }
         }
+        ledger.free();
         Err(RegisterRefused::Full)
     }
 
-    /// Tries once to act for a participant, with empty bags, which are back where somebody else does.
-    fn acting_for(&self, number: usize, bags: Bags) -> Result<Local<T>, Bags>
+    /// Tries once to act for a participant, with an empty ledger, which is back where somebody else does.
+    fn acting_for(&self, number: usize, ledger: Ledger<T>) -> Result<Local<T>, Ledger<T>>
         requires low { number < participants_of self.now }
-        requires empty { Waits [] bags.slots.items (ages bags.current bags.previous bags.next bags.due) × (bags.due ≡ 0) × (deque_capacity bags.slots ≡ self.now.sizes.slots) }
+        requires empty { IsEmpty self.now.sizes.slots ledger }
         ensures home { IfOk result (λ l. home_of l ≡ place_of self.now) }
         ensures number { IfOk result (λ l. number_of l ≡ number) }
         ensures fresh { IfOk result (λ l. own_of l ≡ no_local) }
-        ensures refused { IfErr result (λ back. back ≡ bags) }
+        ensures refused { IfErr result (λ back. back ≡ ledger) }
     {
         let mut place = sit(self.words());
         let Some(spare) = claim(self.words(), &mut place, number) else {
-            return Err(bags);
+            return Err(ledger);
         };
         learn(self.words(), &mut place, self.sizes);
-        Ok(Local::registered(self.words(), place, &self.sizes, number, spare, bags))
+        Ok(Local::registered(self.words(), place, &self.sizes, number, spare, ledger))
     }
 
     /// Opens and closes four accelerated guards of a participant, and ends it.
@@ -180,11 +180,12 @@ impl<T> Domain<T> {
         T: Drop,
     {
         for number in 0..self.sizes.participants {
-            let Ok(bags) = Bags::new(self.heap, self.sizes.slots) else {
+            let Ok(ledger) = Ledger::new(self.heap, self.sizes.slots) else {
                 return;
             };
-            if let Ok(local) = self.acting_for(number, bags) {
-                self.run_out(local);
+            match self.acting_for(number, ledger) {
+                Ok(local) => self.run_out(local),
+                Err(ledger) => ledger.free(),
             }
         }
     }

@@ -1,11 +1,11 @@
 //! Guards of a place that threads share.
 
 ghost use Rattle.std.specs.Prelude.{◌≡◌, ℕ, ◌+◌, ◌<◌, ◌≤◌, ◌%◌, ◌↔◌, true, IsErr, IfOk, IfSome, IfNone, OnOk, OnErr, nat_lt};
-ghost use Rattle.sdd_domain.specs.Tokens.{place_of, home_of, number_of, own_of, born_of, participant_of, waiting_of, begun, closed, IsSame};
 
 use crate::domain::Domain;
 use crate::local::Local;
 use crate::steps;
+use parted::Life;
 use sdd_base::epoch::Epoch;
 use sdd_base::refusal::Nested;
 
@@ -19,35 +19,40 @@ pub fn deeper(nesting: u32) -> Option<u32>
 }
 
 /// An open guard of a participant. It must be spent by `close`. It belongs to the participant's `Local`, and is used
-/// with that alone.
+/// with that alone. While it is borrowed, what was loaded under it can be read.
 pub struct Guard {
-    participant: usize,
+    pub(crate) participant: usize,
+    pub(crate) life: Life,
+    ghost one: { life.count ≡ 1 },
 }
 
 impl Guard {
+    ghost use Rattle.sdd_domain.specs.Tokens.{place_of, home_of, number_of, own_of, born_of, participant_of, waiting_of, nest_of, nest_in, begun, closed, IsSame, IsWithin};
+
     /// Opens a guard of a participant, within those that it has open. An outermost opening reads the count of raises,
     /// and publishes it in a second step; where it isn't the one that was found before, the participant's bags move
     /// on. From then until the outermost closing the count is raised at most once.
     pub fn new<T: Drop>(domain: &Domain<T>, local: &mut Local<T>) -> Result<Guard, Nested>
         requires { home_of local.old ≡ place_of domain.now }
-        ensures guard { IfOk result (λ g. participant_of g ≡ number_of local.old) }
+        ensures guard { IfOk result (λ g. (participant_of g ≡ number_of local.old) × (nest_of g ≡ nest_in local.new)) }
         ensures nested { IsErr result ↔ ((own_of local.old).nesting ≡ 4294967295) }
-        ensures refused { OnErr result ((own_of local.new ≡ own_of local.old) × (born_of local.new ≡ born_of local.old)) }
+        ensures refused { OnErr result ((own_of local.new ≡ own_of local.old) × (born_of local.new ≡ born_of local.old) × (nest_in local.new ≡ nest_in local.old)) }
         ensures outermost { (own_of local.old).nesting ≡ 0 → (count : ℕ) × (count ≤ born_of local.new) × (own_of local.new ≡ begun count (nat_lt 0 (waiting_of local.new)) (own_of local.old)) }
-        ensures inner { 0 < (own_of local.old).nesting → born_of local.new ≡ born_of local.old }
+        ensures inner { 0 < (own_of local.old).nesting → (born_of local.new ≡ born_of local.old) × (nest_in local.new ≡ nest_in local.old) }
         ensures counted { OnOk result (0 < (own_of local.old).nesting → own_of local.new ≡ record (own_of local.old) { nesting = (own_of local.old).nesting + 1 }) }
         ensures same { IsSame local.old local.new }
     {
         let Some(nesting) = deeper(local.own.nesting) else {
             return Err(Nested);
         };
-        if nesting == 1 {
-            local.begin(domain);
+        let life = if nesting == 1 {
+            local.begin(domain)
         } else {
-            local.own.nesting = nesting;
-        }
+            local.deepen(nesting)
+        };
         Ok(Guard {
             participant: local.number,
+            life,
         })
     }
 
@@ -61,10 +66,10 @@ impl Guard {
     /// The epoch of the place: its count of raises modulo 64. It is the one of the guard's publication, or the next.
     pub fn epoch<T>(&self, domain: &Domain<T>, local: &mut Local<T>) -> Epoch
         requires home { home_of local.old ≡ place_of domain.now }
-        requires mine { participant_of self.now ≡ number_of local.old }
+        requires mine { nest_of self.now ≡ nest_in local.old }
         requires open { 0 < (own_of local.old).nesting }
         ensures epoch { (count : ℕ) × (result ≡ count % 64) × (born_of local.old ≤ count) × (count ≤ born_of local.old + 1) }
-        ensures same { IsSame local.old local.new × (own_of local.new ≡ own_of local.old) × (born_of local.new ≡ born_of local.old) }
+        ensures same { IsWithin local.old local.new × (own_of local.new ≡ own_of local.old) × (born_of local.new ≡ born_of local.old) }
     {
         let epoch = local.own.previous;
         Epoch::of_count(steps::count_under(domain.words(), &mut local.place, epoch))
@@ -72,7 +77,7 @@ impl Guard {
 
     /// Whether the flag was set since the participant's bags were last found empty.
     pub fn has_garbage<T>(&self, local: &Local<T>) -> bool
-        requires { participant_of self.now ≡ number_of local.now }
+        requires { nest_of self.now ≡ nest_in local.now }
         ensures { result ≡ (own_of local.now).garbage }
     {
         local.own.garbage
@@ -80,38 +85,41 @@ impl Guard {
 
     /// Sets that flag, so that a later closing scans.
     pub fn set_has_garbage<T>(&self, local: &mut Local<T>)
-        requires { participant_of self.now ≡ number_of local.old }
+        requires { nest_of self.now ≡ nest_in local.old }
         ensures set { own_of local.new ≡ record (own_of local.old) { garbage = true } }
-        ensures same { IsSame local.old local.new × (born_of local.new ≡ born_of local.old) }
+        ensures same { IsWithin local.old local.new × (born_of local.new ≡ born_of local.old) }
     {
         local.own.garbage = true;
     }
 
     /// Asks that the outermost closing of this nesting scans.
     pub fn accelerate<T>(&self, local: &mut Local<T>)
-        requires { participant_of self.now ≡ number_of local.old }
+        requires { nest_of self.now ≡ nest_in local.old }
         ensures set { own_of local.new ≡ record (own_of local.old) { accelerated = true } }
-        ensures same { IsSame local.old local.new × (born_of local.new ≡ born_of local.old) }
+        ensures same { IsWithin local.old local.new × (born_of local.new ≡ born_of local.old) }
     {
         local.own.accelerated = true;
     }
 
     /// Closes a guard. An outermost closing scans first, if a guard of the nesting was accelerated or this is the 64th
-    /// since the last scan with the flag of garbage set. A scan tries once for the scan lock, and raises the count by
+    /// since the last scan with the flag of garbage set. All that was loaded under the nesting goes home. A scan tries once for the scan lock, and raises the count by
     /// one if every open guard published the present one.
     pub fn close<T>(self, domain: &Domain<T>, local: &mut Local<T>)
         requires home { home_of local.old ≡ place_of domain.now }
-        requires mine { participant_of self ≡ number_of local.old }
+        requires mine { nest_of self ≡ nest_in local.old }
         requires open { 0 < (own_of local.old).nesting }
         ensures closed { own_of local.new ≡ closed (own_of local.old) }
-        ensures inner { 1 < (own_of local.old).nesting → born_of local.new ≡ born_of local.old }
+        ensures inner { 1 < (own_of local.old).nesting → (born_of local.new ≡ born_of local.old) × (nest_in local.new ≡ nest_in local.old) }
         ensures same { IsSame local.old local.new }
     {
-        let Guard { participant: _ } = self;
+        let Guard {
+            participant: _,
+            life,
+        } = self;
         if local.own.nesting == 1 {
-            local.finish(domain);
+            local.finish(domain, life);
         } else {
-            local.own.nesting -= 1;
+            local.rise(life);
         }
     }
 }

@@ -1,6 +1,7 @@
 //! One participant of a place, as the thread that acts for it has it.
 
-ghost use Rattle.std.specs.Prelude.{◌≡◌, ◌≢◌, ℕ, ◌+◌, ◌-◌, ◌*◌, ◌^◌, ◌<◌, ◌≤◌, ◌==◌, ◌&&◌, true, List, [], length, drop, cond, nat_lt, vec_capacity, None};
+ghost use Rattle.std.specs.Prelude.{◌≡◌, ◌≢◌, ℕ, ◌+◌, ◌-◌, ◌*◌, ◌^◌, ◌<◌, ◌≤◌, ◌==◌, ◌&&◌, true, List, [], ◌∷◌, length, cond, map, nat_lt, vec_capacity, None};
+ghost use Rattle.std.specs.Option.{ForNone, ForSome};
 ghost use Rattle.std.specs.VecDeque.{deque_capacity};
 ghost use Rattle.sdd_base.specs.State.{no_local};
 ghost use Rattle.sdd_base.specs.Steps.{closings_after, scans};
@@ -9,19 +10,26 @@ ghost use Rattle.sdd_homes.specs.declared.Garbage.{Garbage};
 ghost use Rattle.sdd_domain.specs.Fitting.{FitsSizes};
 ghost use Rattle.sdd_domain.specs.Contents.{IsIn, is_blank};
 ghost use Rattle.sdd_domain.specs.Bags.{ages, Waits};
-ghost use Rattle.sdd_domain.specs.Views.{IsBare, spent, rotated};
-ghost use Rattle.sdd_domain.specs.Plays.{own_spare, own_bag, has_both, HasRegistered, CanClose};
-ghost use Rattle.sdd_domain.specs.Layout.{claim_word, all_words, IsSized};
+ghost use Rattle.sdd_domain.specs.Views.{spent, rotated};
+ghost use Rattle.sdd_domain.specs.Leases.{life_number, row_told, lease_told, leased_homes, slots_in, all_below, has_all};
+ghost use Rattle.sdd_domain.specs.Plays.{own_spare, own_bag, HasRegistered, Scans, Steady};
+ghost use Rattle.sdd_domain.specs.Layout.{claim_word, epoch_words, all_words, IsSized};
 
 use crate::bags::Bags;
 use crate::board::{Place, Words};
 use crate::domain::Domain;
+use crate::leases::give_home;
+use crate::ledger::Ledger;
 use crate::left::{bag_in, bag_out, filled, take_left};
+use crate::lives::{first_token, last_token, no_token};
 use crate::reclaiming::reclaim_due;
+use crate::row::Row;
 use crate::scan::scan;
 use crate::{cells, steps};
+use parted::Life;
 use sdd_base::sizes::Sizes;
 use sdd_base::status::LocalState;
+use std::collections::VecDeque;
 
 /// A registered participant. It must be spent by `end`.
 pub struct Local<T> {
@@ -35,8 +43,15 @@ pub struct Local<T> {
     pub(crate) bag: Vec<usize>,
     /// Where to look for a free slot first.
     pub(crate) next: usize,
-    ghost acts: { (place.me.0.kind ≡ 1) × (place.me.0.number ≡ number) × (place.me.0.scan ≡ 0) × (number < 2 ^ 30) × (claim_word number < place.table_id.words) × IsBare place.me.0 },
-    ghost has_spare: { (place.me.0.spare ≡ spare) × (spare < 2 ^ 33) × (has_both is_blank is_blank (own_spare place.me.0 spare) (own_bag place.me.0) (drop (length place.me.0.leases) place.me.1) ≡ true) },
+    /// What its open guards haven't of their life.
+    pub(crate) life: Option<Life>,
+    /// What it has leased, in the order in which it was loaded.
+    pub(crate) rows: VecDeque<Row<T>>,
+    ghost acts: { (place.me.0.kind ≡ 1) × (place.me.0.number ≡ number) × (place.me.0.scan ≡ 0) × (number < 2 ^ 30) × (claim_word number < place.table_id.words) × (place.me.0.hand ≡ []) × (place.me.0.releasing ≡ 0) },
+    ghost has_spare: { (place.me.0.spare ≡ spare) × (spare < 2 ^ 33) × (has_all is_blank (own_spare place.me.0 spare ∷ own_bag place.me.0 ∷ leased_homes place.me.0 place.me.0.leases) place.me.1 ≡ true) },
+    ghost lends: { (map row_told rows.items ≡ map (lease_told (life_number life)) place.me.0.leases) × (place.me.0.sizes.slots ≤ deque_capacity rows) × (all_below place.me.0.sizes.slots (slots_in rows.items) ≡ true) },
+    ghost shut: { ForNone life ((own.nesting ≡ 0) × (place.me.0.leases ≡ [])) },
+    ghost alive: { ForSome life (λ f. (0 < own.nesting) × (f.count + own.nesting ≡ 2 ^ 63)) },
     ghost leaves: { (place.me.0.left ≡ []) × (bag.items ≡ []) × (place.me.0.sizes.slots ≤ vec_capacity bag) },
     ghost phase: { place.me.0.known.phase ≡ cond (own.nesting == 0) Idle (Opened own.previous) },
     ghost found: { place.me.0.known.found ≡ own.previous },
@@ -50,6 +65,34 @@ fn scans(own: &LocalState, closings: u8) -> bool
     ensures { closings ≡ closings_after own.now → result ≡ scans own.now }
 {
     own.accelerated || own.garbage && closings >= 64
+}
+
+/// Counts an outermost closing, and scans if one is due.
+fn scan_due<T>(
+    words: &Words<T>,
+    place: &mut Place<T>,
+    number: usize,
+    participants: usize,
+    own: &mut LocalState,
+)
+    requires table { (place.old.table_id ≡ words.now.table_id) × (words.now.key.sizes.participants ≡ participants) × (epoch_words participants ≤ words.now.table_id.words) × (participants ≤ 2 ^ 30) }
+    requires open { Scans place.old number own.old.previous 0 }
+    ensures seat { (place.new.table_id ≡ place.old.table_id) × (place.new.id ≡ place.old.id) × Steady place.old.me place.new.me }
+    ensures open { Scans place.new number own.old.previous 0 }
+    ensures counted { own.new ≡ record own.old { closings = cond (scans own.old) 0 (closings_after own.old) } }
+{
+    let closings = if own.closings < 64 {
+        own.closings + 1
+    } else {
+        64
+    };
+    if scans(own, closings) {
+        let epoch = own.previous;
+        scan(words, place, number, participants, epoch);
+        own.closings = 0;
+    } else {
+        own.closings = closings;
+    }
 }
 
 /// Behind a publication: turns the bags if the count isn't the one that was found before, and reclaims what is due then.
@@ -84,7 +127,8 @@ fn turn<T: Drop>(
 }
 
 impl<T> Local<T> {
-    ghost use Rattle.sdd_domain.specs.Tokens.{participants_of, place_of, home_of, number_of, own_of, born_of, begun, closed, waiting_of, IsSame};
+    ghost use Rattle.sdd_domain.specs.Ledgers.{IsEmpty};
+    ghost use Rattle.sdd_domain.specs.Tokens.{participants_of, place_of, home_of, number_of, own_of, born_of, begun, closed, waiting_of, nest_in, IsSame, IsWithin};
 
     /// The participant that a seat has just come to act for. What was left where it ended before is taken over.
     pub(crate) fn registered(
@@ -93,13 +137,14 @@ impl<T> Local<T> {
         sizes: &Sizes,
         number: usize,
         spare: u64,
-        mut bags: Bags,
+        ledger: Ledger<T>,
     ) -> Local<T>
         requires acts { HasRegistered IsIn (spent, []) number spare place.me × (spare < 2 ^ 33) }
         requires table { (place.table_id ≡ words.now.table_id) × (words.now.key.sizes ≡ sizes.now) × (place.me.0.sizes ≡ sizes.now) × IsSized sizes.now × (all_words sizes.now ≤ words.now.table_id.words) × (number < sizes.now.participants) }
-        requires bags { Waits [] bags.slots.items (ages bags.current bags.previous bags.next bags.due) × (bags.due ≡ 0) × (deque_capacity bags.slots ≡ sizes.now.slots) }
+        requires empty { IsEmpty sizes.now.slots ledger }
         ensures { (home_of result ≡ (place.table_id, place.me.0.sizes)) × (number_of result ≡ number) × (own_of result ≡ no_local) }
     {
+        let Ledger { mut bags, rows } = ledger;
         let left = bag_out(words, &mut place, sizes, number);
         let bag = take_left(words, &mut place, left, &mut bags);
         Local {
@@ -117,6 +162,8 @@ impl<T> Local<T> {
             bags,
             bag,
             next: 0,
+            life: None,
+            rows,
         }
     }
 
@@ -127,13 +174,14 @@ impl<T> Local<T> {
         self.number
     }
 
-    /// Opens an outermost guard.
-    pub(crate) fn begin(&mut self, domain: &Domain<T>)
+    /// Opens an outermost guard, and begins its life.
+    pub(crate) fn begin(&mut self, domain: &Domain<T>) -> Life
     where
         T: Drop,
         requires home { home_of self.old ≡ place_of domain.now }
         requires closed { (own_of self.old).nesting ≡ 0 }
         ensures same { IsSame self.old self.new }
+        ensures life { (result.count ≡ 1) × ((number_of self.old, result.id) ≡ nest_in self.new) }
         ensures begun { (count : ℕ) × (count ≤ born_of self.new) × (own_of self.new ≡ begun count (nat_lt 0 (waiting_of self.new)) (own_of self.old)) }
     {
         let Local {
@@ -141,6 +189,7 @@ impl<T> Local<T> {
             number,
             own,
             bags,
+            life,
             ..
         } = self;
         let epoch = steps::read_count(domain.words(), place);
@@ -148,14 +197,41 @@ impl<T> Local<T> {
         turn(domain.words(), place, &domain.sizes, own, bags, epoch);
         own.nesting = 1;
         own.accelerated = false;
+        first_token(life)
     }
 
-    /// Closes an outermost guard, after a scan if one is due. What the guard leases goes home: its slots are in front of
-    /// what is out with the seat, each with its parts again.
-    pub(crate) fn finish(&mut self, domain: &Domain<T>)
+    /// Opens one more guard within those that are open, which are `nesting` then.
+    pub(crate) fn deepen(&mut self, nesting: u32) -> Life
+        requires { (0 < (own_of self.old).nesting) × (nesting ≡ (own_of self.old).nesting + 1) }
+        ensures same { IsWithin self.old self.new × (born_of self.new ≡ born_of self.old) × (waiting_of self.new ≡ waiting_of self.old) }
+        ensures life { (result.count ≡ 1) × ((number_of self.old, result.id) ≡ nest_in self.new) }
+        ensures deeper { own_of self.new ≡ record (own_of self.old) { nesting = nesting } }
+    {
+        self.own.nesting = nesting;
+        match &mut self.life {
+            Some(rest) => rest.split_one(),
+            None => unreachable!(),
+        }
+    }
+
+    /// Closes a guard within others.
+    pub(crate) fn rise(&mut self, life: Life)
+        requires { (1 < (own_of self.old).nesting) × (life.count ≡ 1) × ((number_of self.old, life.id) ≡ nest_in self.old) }
+        ensures same { IsWithin self.old self.new × (born_of self.new ≡ born_of self.old) × (waiting_of self.new ≡ waiting_of self.old) }
+        ensures closed { own_of self.new ≡ record (own_of self.old) { nesting = (own_of self.old).nesting - 1 } }
+    {
+        self.own.nesting -= 1;
+        match &mut self.life {
+            Some(rest) => rest.join(life),
+            None => unreachable!(),
+        }
+    }
+
+    /// Closes an outermost guard, after a scan if one is due, and ends its life: all that was leased goes home.
+    pub(crate) fn finish(&mut self, domain: &Domain<T>, token: Life)
         requires home { home_of self.old ≡ place_of domain.now }
         requires outermost { (own_of self.old).nesting ≡ 1 }
-        requires filled { CanClose IsIn self.old.place.me }
+        requires last { (token.count ≡ 1) × ((number_of self.old, token.id) ≡ nest_in self.old) }
         ensures same { IsSame self.old self.new }
         ensures closed { own_of self.new ≡ closed (own_of self.old) }
     {
@@ -163,26 +239,27 @@ impl<T> Local<T> {
             place,
             number,
             own,
+            life,
+            rows,
             ..
         } = self;
-        let closings = if own.closings < 64 {
-            own.closings + 1
-        } else {
-            64
-        };
         let epoch = own.previous;
-        if scans(own, closings) {
-            scan(
-                domain.words(),
-                place,
-                *number,
-                domain.sizes.participants,
-                epoch,
-            );
-            own.closings = 0;
-        } else {
-            own.closings = closings;
-        }
+        scan_due(
+            domain.words(),
+            place,
+            *number,
+            domain.sizes.participants,
+            own,
+        );
+        let ended = last_token(life, token);
+        give_home(
+            domain.words(),
+            place,
+            domain.sizes.participants,
+            *number,
+            rows,
+            &ended,
+        );
         cells::close(domain.words(), place, *number, epoch);
         own.nesting = 0;
     }
@@ -201,7 +278,11 @@ impl<T> Local<T> {
             bags,
             bag,
             next: _,
+            life,
+            rows,
         } = self;
+        no_token(life);
+        rows.destroy_empty();
         let left = filled(bag, bags);
         bag_in(domain.words(), &mut place, &domain.sizes, number, left);
         steps::end(domain.words(), &mut place, number, spare);

@@ -24,7 +24,7 @@ pub struct Shared<T> {
 }
 
 impl<T> Shared<T> {
-    ghost use Rattle.sdd_domain.specs.Tokens.{place_of, home_of, own_of, born_of, waiting_of, IsSame};
+    ghost use Rattle.sdd_domain.specs.Tokens.{place_of, home_of, own_of, born_of, waiting_of, IsWithin};
     ghost use Rattle.sdd_domain.specs.Sharing.{kept_in, HasItem};
 
     /// Places an item in a free slot, and gives its first owner. Where each slot was taken when it was tried, the item
@@ -34,7 +34,7 @@ impl<T> Shared<T> {
         ensures home { IfOk result (λ s. kept_in s ≡ (place_of domain.now).0) }
         ensures item { IfOk result (λ s. HasItem s item) }
         ensures refused { IfErr result (λ back. back ≡ item) }
-        ensures same { IsSame local.old local.new × (own_of local.new ≡ own_of local.old) × (born_of local.new ≡ born_of local.old) × (waiting_of local.new ≡ waiting_of local.old) }
+        ensures same { IsWithin local.old local.new × (own_of local.new ≡ own_of local.old) × (born_of local.new ≡ born_of local.old) × (waiting_of local.new ≡ waiting_of local.old) }
     {
         let Local { place, next, .. } = local;
         let (slot, part) = place_item(domain.words(), place, &domain.sizes, *next, item)?;
@@ -61,7 +61,7 @@ impl<T> Shared<T> {
         ensures last { IsTrue result → waiting_of local.new ≡ waiting_of local.old + 1 }
         ensures more { IsFalse result → waiting_of local.new ≡ waiting_of local.old }
         ensures own { own_of local.new ≡ record (own_of local.old) { garbage = (own_of local.old).garbage || result } }
-        ensures same { IsSame local.old local.new × (born_of local.new ≡ born_of local.old) }
+        ensures same { IsWithin local.old local.new × (born_of local.new ≡ born_of local.old) }
     {
         let Shared { slot, part, seat } = self;
         let Local {
@@ -69,10 +69,19 @@ impl<T> Shared<T> {
             number,
             own,
             bags,
+            rows,
             ..
         } = local;
         take_in(domain.words(), place, seat);
-        let left = release(domain.words(), place, &domain.sizes, *number, slot, part);
+        let left = release(
+            domain.words(),
+            place,
+            &domain.sizes,
+            *number,
+            rows,
+            slot,
+            part,
+        );
         if left > 0 {
             return false;
         }

@@ -23,4 +23,7 @@ overflow_sub-result g c = let l = c.requires.owner in let told = c.fetch_sub.ens
 
 pub returns-clause-released : goal.returns-clause-released
 returns-clause-released g c = λ l o os has slot first. let t = c.fetch_sub.ensures.2 l o os has slot first in let more = t.0 in let n : ℕ = c.fetch_sub.result in let same : n ≡ n - 3 + 3 = omega arith in
-    t.1 ∙ ap (λ z. (releasing_one z l os c.args.place.now.me.0, c.args.place.now.me.1)) same
+    t.5 ∙ ap (λ z. (releasing_one z l os c.args.place.now.me.0, c.args.place.now.me.1)) same
+
+pub returns-clause-few : goal.returns-clause-few
+returns-clause-few g c = λ l o os has slot first. let t = c.fetch_sub.ensures.2 l o os has slot first in (t.1, t.2, t.3, t.4)

@@ -7,27 +7,32 @@ use Rattle.sdd_domain.specs.Contents.{slots_of}
 use Rattle.sdd_domain.specs.Plays.{own_spare, own_bag}
 use Rattle.sdd_domain.specs.declared.board.Acting.{Acting}
 use Rattle.sdd_domain.specs.declared.board.Home.TheVariants.{Blank, Left}
+use Rattle.sdd_domain.specs.Leases.{life_number}
 use Rattle.sdd_domain.specs.declared.local.Local.{Local}
 use Rattle.sdd_domain.proofs.Bagged.{both_out}
+use Rattle.sdd_domain.proofs.Nested.{none_leased, no_rows}
 use Rattle.sdd_domain.proofs.local.Local.end.Goals as goal
 
-out : {T : Type 0} (l : Local T) → l.place.me.1 ≡ (own_spare l.place.me.0 l.spare, Blank) ∷ (own_bag l.place.me.0, Blank) ∷ []
-out l = both_out l.place.me (own_spare l.place.me.0 l.spare) (own_bag l.place.me.0) l.acts.5.1 l.has_spare.2
+out : {T : Type 0} (l : Local T) → l.own.nesting ≡ 0 → l.place.me.1 ≡ (own_spare l.place.me.0 l.spare, Blank) ∷ (own_bag l.place.me.0, Blank) ∷ []
+out l nothing = both_out l.place.me (own_spare l.place.me.0 l.spare) (own_bag l.place.me.0) (none_leased l nothing) l.has_spare.2
+
+pub destroy_empty-requires : goal.destroy_empty-requires
+destroy_empty-requires g c = let l = c.args.self in let none = no_rows (life_number l.life) l.place.me.0.leases l.rows.items l.lends.0 (none_leased l c.requires.closed) in let is = l.rows.ok.0 in omega arith
 
 pub bag_in-requires-clause-out : goal.bag_in-requires-clause-out
-bag_in-requires-clause-out g c = let l = c.args.self in (own_spare l.place.me.0 l.spare, Blank, out l)
+bag_in-requires-clause-out g c = let l = c.args.self in (own_spare l.place.me.0 l.spare, Blank, out l c.requires.closed)
 
 pub end-requires-clause-rests : goal.end-requires-clause-rests
-end-requires-clause-rests g c = let l = c.args.self in let e = c.bag_in.ensures.filled (own_spare l.place.me.0 l.spare) Blank (out l) in let none = c.requires.closed in (
+end-requires-clause-rests g c = let l = c.args.self in let e = c.bag_in.ensures.filled (own_spare l.place.me.0 l.spare) Blank (out l c.requires.closed) in let none = c.requires.closed in (
   ap (λ (z : Me _ Acting). z.0.kind) e ∙ l.acts.0,
   ap (λ (z : Me _ Acting). z.0.number) e ∙ l.acts.1,
   ap (λ (z : Me _ Acting). z.0.known.phase) e ∙ (l.phase ∙ ap (λ n. cond (n == 0) Idle (Opened l.own.previous)) none),
   ap (λ (z : Me _ Acting). z.0.scan) e ∙ l.acts.2,
-  (ap (λ (z : Me _ Acting). z.0.hand) e ∙ l.acts.5.0, ap (λ (z : Me _ Acting). z.0.leases) e ∙ l.acts.5.1, ap (λ (z : Me _ Acting). z.0.releasing) e ∙ l.acts.5.2),
+  (ap (λ (z : Me _ Acting). z.0.hand) e ∙ l.acts.5, ap (λ (z : Me _ Acting). z.0.leases) e ∙ none_leased l none, ap (λ (z : Me _ Acting). z.0.releasing) e ∙ l.acts.6),
 )
 
 pub end-requires-clause-spare : goal.end-requires-clause-spare
-end-requires-clause-spare g c = let l = c.args.self in let m = l.place.me in let v = c.filled-left.result in let e = c.bag_in.ensures.filled (own_spare m.0 l.spare) Blank (out l) in let f = c.filled-left.ensures in
+end-requires-clause-spare g c = let l = c.args.self in let m = l.place.me in let v = c.filled-left.result in let e = c.bag_in.ensures.filled (own_spare m.0 l.spare) Blank (out l c.requires.closed) in let f = c.filled-left.ensures in
     let lost : m.0.left ++ m.0.waits ≡ m.0.waits = ap (λ (ws : List Garbage). ws ++ m.0.waits) l.leaves.0 in let slots = ap (λ (z : Me _ Acting). z.0.sizes.slots) e in let long = length-map m.0.waits (λ (w : Garbage). w.slot) in let many = ap length l.waits.0.0 in let room = l.waits.2 in let counts = l.bags.slots.ok.0 in let fits = l.bags.slots.small.1 in (
       ap (λ (z : Me _ Acting). z.0.spare) e ∙ l.has_spare.0,
       l.has_spare.1,

@@ -1,4 +1,4 @@
-use Rattle.std.proofs.Common.{◌≡◌, ◌<◌, ℕ, List, [], ◌∷◌, length, ap, sym, ◌∙◌, subst, refl, arith}
+use Rattle.std.proofs.Common.{◌≡◌, ◌<◌, ℕ, ◌≤◌, List, [], ◌∷◌, length, map, ap, sym, ◌∙◌, subst, refl, arith}
 use lib.ListN.{length-map}
 use Rattle.atomic_table.specs.Seated.{TableId}
 use Rattle.atomic_table.specs.Table.{Me}
@@ -6,12 +6,15 @@ use Rattle.sdd_base.specs.declared.sizes.Sizes.{Sizes}
 use Rattle.sdd_homes.specs.declared.Garbage.{Garbage}
 use Rattle.sdd_domain.specs.Contents.{IsIn, slots_of}
 use Rattle.sdd_domain.specs.Layout.{claim_word}
+use Rattle.std.specs.VecDeque.{deque_capacity}
+use Rattle.sdd_domain.specs.Leases.{row_told, lease_told, leased_homes, slots_in, all_below}
+use Rattle.sdd_domain.specs.declared.row.Row.{Row}
 use Rattle.sdd_domain.specs.Plays.{own_spare, own_bag, HasRegistered}
 use Rattle.sdd_domain.specs.Views.{spent, registered}
 use Rattle.sdd_domain.specs.declared.board.Acting.{Acting}
 use Rattle.sdd_domain.specs.declared.board.Home.{Home}
 use Rattle.sdd_domain.specs.declared.board.Home.TheVariants.{Blank}
-use Rattle.sdd_domain.proofs.Bagged.{are_both}
+use Rattle.sdd_domain.proofs.Bagged.{are_out}
 use Rattle.sdd_domain.proofs.local.Local.registered.Goals as goal
 
 -- the bag was behind the spare slot, and is empty now
@@ -44,7 +47,7 @@ take_left-bag-requires-clause-left g c = let r = c.requires.acts.0 in let m = c.
 
 pub take_left-bag-requires-clause-room : goal.take_left-bag-requires-clause-room
 take_left-bag-requires-clause-room g c = let r = c.requires.acts.0 in let m = c.args.place.me in let e = c.bag_out-left.ensures in let l = e.left (own_spare m.0 m.0.spare) r.3.2.0 m.0.sizes.slots r.1 r.3.0 r.3.1 (front c.args.number c.args.spare m c.bag_out-left.new.place.me r e.emptied) in
-    let many = ap length l.0 in let long = length-map r.1 (λ (w : Garbage). w.slot) in let most = l.2 in let none = ap length c.requires.bags.0.0 in let counts = c.args.bags.slots.ok.0 in let room = c.requires.bags.2 in let sizes = ap (λ (z : Sizes). z.slots) c.requires.table.2 in let is = c.bag_out-left.result.ok in omega arith
+    let many = ap length l.0 in let long = length-map r.1 (λ (w : Garbage). w.slot) in let most = l.2 in let none = ap length c.requires.empty.0.0 in let counts = c.args.ledger.bags.slots.ok.0 in let room = c.requires.empty.2 in let sizes = ap (λ (z : Sizes). z.slots) c.requires.table.2 in let is = c.bag_out-left.result.ok in omega arith
 
 pub invariant_of-result : goal.invariant_of-result
 invariant_of-result g c = let r = c.requires.acts.0 in let m = c.args.place.me in let m1 = c.bag_out-left.new.place.me in let m2 = c.take_left-bag.new.place.me in let b = c.bag_out-left.ensures in let t = c.take_left-bag.ensures in let q : ℕ = c.args.number in let y : ℕ = c.args.spare in
@@ -56,13 +59,17 @@ invariant_of-result g c = let r = c.requires.acts.0 in let m = c.args.place.me i
         ap (λ (d : Acting). d.scan) is,
         omega arith,
         subst (λ (z : TableId). claim_word q < z.words) (sym table) (subst (λ (z : TableId). claim_word q < z.words) (sym c.requires.table.0) (omega arith)),
-        (ap (λ (d : Acting). d.hand) is, none, ap (λ (d : Acting). d.releasing) is),
+        ap (λ (d : Acting). d.hand) is,
+        ap (λ (d : Acting). d.releasing) is,
       );
-      has_spare = (ap (λ (d : Acting). d.spare) is, c.requires.acts.1, are_both m2 (own_spare m2.0 y) (own_bag m2.0) none lies);
+      has_spare = (ap (λ (d : Acting). d.spare) is, c.requires.acts.1, are_out m2 (own_spare m2.0 y) (own_bag m2.0) [] (ap (leased_homes m2.0) none) lies);
+      lends = (ap (map row_told) c.requires.empty.3 ∙ sym (ap (map (lease_told 0)) none), subst (λ (z : Sizes). z.slots ≤ deque_capacity c.args.ledger.rows) (sym wide) c.requires.empty.4, ap (λ (rs : List (Row _)). all_below m2.0.sizes.slots (slots_in rs)) c.requires.empty.3);
+      shut = λ _. (refl, none);
+      alive = λ f e. absurd (cc);
       leaves = (ap (λ (d : Acting). d.left) is, t.empty.0, (let a = l.1 in let e = t.empty.1 in let w = ap (λ (z : Sizes). z.slots) wide in let v = ap (λ (z : Sizes). z.slots) c.requires.table.2 in omega arith));
       phase = ap (λ (d : Acting). d.known.phase) is;
       found = ap (λ (d : Acting). d.known.found) is;
       noted = refl;
       fills = (ap (λ (d : Acting). d.filling) is, omega arith, subst (λ (z : Sizes). q < z.participants) (sym wide) low);
-      waits = (t.waits, t.bags.0 ∙ c.requires.bags.1, t.bags.1 ∙ (c.requires.bags.2 ∙ sym (ap (λ (z : Sizes). z.slots) wide)));
+      waits = (t.waits, t.bags.0 ∙ c.requires.empty.1, t.bags.1 ∙ (c.requires.empty.2 ∙ sym (ap (λ (z : Sizes). z.slots) wide)));
     }

@@ -1,0 +1,78 @@
+//! What a participant has leased under its open guards goes home.
+
+ghost use Rattle.std.specs.Prelude.{◌≡◌, ℕ, ◌+◌, ◌*◌, ◌^◌, ◌<◌, ◌≤◌, ◌++◌, ◌∷◌, [], List, map, length, drop, slice_index_or, IfSome, IfNone};
+ghost use Rattle.std.specs.VecDeque.{deque_capacity, deque_len};
+ghost use Rattle.sdd_domain.specs.Contents.{IsIn, blanks};
+ghost use Rattle.sdd_domain.specs.Leases.{row_told, lease_told, leased_homes};
+ghost use Rattle.sdd_steps.specs.State.{Has};
+ghost use Rattle.sdd_domain.specs.Plays.{Refilled};
+ghost use Rattle.sdd_domain.specs.declared.row.Row.{Row};
+ghost use Rattle.sdd_domain.specs.declared.board.Home.{Home};
+
+use crate::board::{Home, Place, Words};
+use crate::homes::let_go;
+use crate::row::Row;
+use parted::Ended;
+use std::collections::VecDeque;
+
+/// Which row is that of the item in `slot`, if it is leased.
+pub(crate) fn row_of<T>(rows: &VecDeque<Row<T>>, slot: usize) -> Option<usize>
+    ensures leased { IfSome result (λ at. (at < deque_len rows.now) × ((d : Row T) → (slice_index_or rows.now.items at d).slot ≡ slot)) }
+    ensures free { IfNone result (¬ Has (map (λ (r : Row T). r.slot) rows.now.items) slot) }
+{
+    for at in 0..rows.len() {
+        if rows[at].slot == slot {
+            return Some(at);
+        }
+    }
+    None
+}
+
+/// Fills the homes of all leases, which are in front of what is out with the seat, and go behind the others.
+fn refill<T>(
+    words: &Words<T>,
+    place: &mut Place<T>,
+    participants: usize,
+    number: usize,
+    rows: &mut VecDeque<Row<T>>,
+    ended: &Ended,
+)
+    requires table { (place.old.table_id ≡ words.now.table_id) × (place.old.me.0.sizes.participants ≡ participants) × (participants ≤ 2 ^ 30) × (place.old.me.0.number ≡ number) × (number < 2 ^ 30) }
+    requires rows { map row_told rows.old.items ≡ map (lease_told ended.now.id) place.old.me.0.leases }
+    requires out { place.old.me.1 ≡ blanks (leased_homes place.old.me.0 place.old.me.0.leases) ++ drop (length place.old.me.0.leases) place.old.me.1 }
+    ensures seat { (place.new.table_id ≡ place.old.table_id) × (place.new.id ≡ place.old.id) }
+    ensures filled { (xs : List (ℕ × Home T)) × Refilled IsIn place.old.me.0 place.old.me.0.leases xs [] × (place.new.me ≡ (place.old.me.0, drop (length place.old.me.0.leases) place.old.me.1 ++ xs)) }
+    ensures empty { (rows.new.items ≡ []) × (deque_capacity rows.new ≡ deque_capacity rows.old) }
+{
+    while let Some(row) = rows.pop_front() {
+        let home = row.slot * (participants + 1) + number;
+        let count = row.count;
+        let parts = row.into_parts(ended);
+        let_go(words.exchange(place, home, Home::Part(parts, count)));
+        place.turn();
+    }
+}
+
+/// Gives the parts of all leases back to their homes, once the life that they were lent to is over. The homes are in front
+/// of what is out with the seat then, and behind them the two slots that were in front.
+pub(crate) fn give_home<T>(
+    words: &Words<T>,
+    place: &mut Place<T>,
+    participants: usize,
+    number: usize,
+    rows: &mut VecDeque<Row<T>>,
+    ended: &Ended,
+)
+    requires table { (place.old.table_id ≡ words.now.table_id) × (place.old.me.0.sizes.participants ≡ participants) × (participants ≤ 2 ^ 30) × (place.old.me.0.number ≡ number) × (number < 2 ^ 30) }
+    requires rows { map row_told rows.old.items ≡ map (lease_told ended.now.id) place.old.me.0.leases }
+    requires out { (k : ℕ) × (l : ℕ) × (place.old.me.1 ≡ blanks (k ∷ l ∷ leased_homes place.old.me.0 place.old.me.0.leases)) }
+    ensures seat { (place.new.table_id ≡ place.old.table_id) × (place.new.id ≡ place.old.id) }
+    ensures filled { (k l : ℕ) → place.old.me.1 ≡ blanks (k ∷ l ∷ leased_homes place.old.me.0 place.old.me.0.leases) → (xs : List (ℕ × Home T)) × Refilled IsIn place.old.me.0 place.old.me.0.leases xs (blanks (k ∷ l ∷ [])) × (place.new.me ≡ (place.old.me.0, xs)) }
+    ensures empty { (rows.new.items ≡ []) × (deque_capacity rows.new ≡ deque_capacity rows.old) }
+{
+    place.turn();
+    place.turn();
+    refill(words, place, participants, number, rows, ended);
+    place.turn();
+    place.turn();
+}

@@ -1,0 +1,65 @@
+//! Loading a cell under an open guard: the item that it names is leased, so that the guard reads it.
+
+ghost use Rattle.std.specs.Prelude.{◌≡◌, ◌⊎◌, ℕ, ◌+◌, ◌-◌, ◌*◌, ◌^◌, ◌<◌, ◌≤◌, ◌++◌, ◌∷◌, [], List, Bool, length, map, true, IfSome, IfNone};
+ghost use Rattle.std.specs.VecDeque.{deque_capacity, deque_len};
+ghost use Rattle.sdd_steps.specs.Steps.{is_inside};
+ghost use Rattle.sdd_steps.specs.declared.participant.Loaded.{Loaded};
+ghost use Rattle.sdd_homes.specs.declared.Lease.{Lease};
+ghost use Rattle.sdd_domain.specs.Contents.{is_blank};
+ghost use Rattle.sdd_domain.specs.Fitting.{FitsSizes};
+ghost use Rattle.sdd_domain.specs.Leases.{row_told, lease_told, leased_homes, slots_in, all_below, has_all, HasLeased};
+
+use crate::board::{Home, Place, Words};
+use crate::cells;
+use crate::homes::parts_of;
+use crate::leases::row_of;
+use crate::row::Row;
+use parted::Life;
+use sdd_base::sizes::Sizes;
+use std::collections::VecDeque;
+
+/// The slot that a cell's word names, if it names one: one more than it stands above the number of the spare slot.
+pub(crate) fn slot_named(word: u64) -> Option<usize>
+    ensures some { IfSome result (λ k. (k < 2 ^ 31) × ((y c : ℕ) → y < 2 ^ 33 → word ≡ y + 2 ^ 33 * c → c ≡ k + 1)) }
+    ensures none { IfNone result ((y c : ℕ) → y < 2 ^ 33 → word ≡ y + 2 ^ 33 * c → c ≡ 0) }
+{
+    let code = word / (1 << 33);
+    if code == 0 {
+        None
+    } else {
+        Some(code as usize - 1)
+    }
+}
+
+/// Loads the cell under the open guards of participant `number`, whose life this is. Which row is that of the item that
+/// it names, if it names one.
+pub(crate) fn lease<T>(
+    words: &Words<T>,
+    place: &mut Place<T>,
+    sizes: &Sizes,
+    number: usize,
+    rows: &mut VecDeque<Row<T>>,
+    life: &Life,
+    cell: usize,
+) -> Option<usize>
+    requires table { FitsSizes words.now.table_id words.now.key.sizes place.old.table_id place.old.me.0.sizes sizes.now × (number < sizes.now.participants) × (cell < sizes.now.cells) }
+    requires open { (place.old.me.0.kind ≡ 1) × (place.old.me.0.number ≡ number) × (is_inside place.old.me.0.known ≡ true) }
+    requires rows { (map row_told rows.old.items ≡ map (lease_told life.now.id) place.old.me.0.leases) × (all_below sizes.now.slots (slots_in rows.old.items) ≡ true) × (sizes.now.slots ≤ deque_capacity rows.old) }
+    requires out { (k : ℕ) × (l : ℕ) × (has_all is_blank (k ∷ l ∷ leased_homes place.old.me.0 place.old.me.0.leases) place.old.me.1 ≡ true) }
+    ensures seat { (place.new.table_id ≡ place.old.table_id) × (place.new.id ≡ place.old.id) }
+    ensures row { IfSome result (λ at. at < deque_len rows.new) }
+    ensures loaded { HasLeased place.old.me place.new.me }
+    ensures rows { (map row_told rows.new.items ≡ map (lease_told life.now.id) place.new.me.0.leases) × (all_below sizes.now.slots (slots_in rows.new.items) ≡ true) × (deque_capacity rows.new ≡ deque_capacity rows.old) }
+    ensures out { (k l : ℕ) → has_all is_blank (k ∷ l ∷ leased_homes place.old.me.0 place.old.me.0.leases) place.old.me.1 ≡ true → has_all is_blank (k ∷ l ∷ leased_homes place.new.me.0 place.new.me.0.leases) place.new.me.1 ≡ true }
+{
+    let word = cells::load(words, place, sizes.participants, cell);
+    let slot = slot_named(word)?;
+    if let Some(at) = row_of(rows, slot) {
+        return Some(at);
+    }
+    let home = slot * (sizes.participants + 1) + number;
+    let (parts, count) = parts_of(words.exchange(place, home, Home::Blank));
+    place.turn();
+    rows.push_back_reserved(Row::new(slot, parts, count, life));
+    Some(rows.len() - 1)
+}
