@@ -10,5 +10,7 @@ pub mod Rule
 pub mod Plays
 pub mod Leases
 pub mod Sharing
+pub mod Cells
 pub mod Tokens
+pub mod Pointers
 pub mod Laws

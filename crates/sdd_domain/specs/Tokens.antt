@@ -13,6 +13,10 @@ use Rattle.sdd_domain.specs.declared.guard.Guard.{Guard}
 abbrev pub participants_of : {T : Type 0} → Domain T → ℕ
 participants_of d = d.sizes.participants
 
+-- and how many cells
+abbrev pub cells_of : {T : Type 0} → Domain T → ℕ
+cells_of d = d.sizes.cells
+
 -- the count of raises that the place began with
 abbrev pub first_of : {T : Type 0} → Domain T → ℕ
 first_of d = d.table.shared.key.first

@@ -1,18 +1,19 @@
 //! What a participant has leased under its open guards goes home.
 
-ghost use Rattle.std.specs.Prelude.{◌≡◌, ℕ, ◌+◌, ◌*◌, ◌^◌, ◌<◌, ◌≤◌, ◌++◌, ◌∷◌, [], List, map, length, drop, slice_index_or, IfSome, IfNone};
+ghost use Rattle.std.specs.Prelude.{◌≡◌, ℕ, ◌+◌, ◌*◌, ◌^◌, ◌<◌, ◌≤◌, ◌++◌, ◌∷◌, [], List, map, length, drop, slice_index_or, IfSome, IfNone, IsSome};
 ghost use Rattle.std.specs.VecDeque.{deque_capacity, deque_len};
 ghost use Rattle.sdd_domain.specs.Contents.{IsIn, blanks};
 ghost use Rattle.sdd_domain.specs.Leases.{row_told, lease_told, leased_homes};
 ghost use Rattle.sdd_steps.specs.State.{Has};
+ghost use Rattle.sdd_homes.specs.declared.Lease.{Lease};
 ghost use Rattle.sdd_domain.specs.Plays.{Refilled};
 ghost use Rattle.sdd_domain.specs.declared.row.Row.{Row};
 ghost use Rattle.sdd_domain.specs.declared.board.Home.{Home};
 
-use crate::board::{Home, Place, Words};
+use crate::board::{Home, Place, Stored, Words};
 use crate::homes::let_go;
 use crate::row::Row;
-use parted::Ended;
+use parted::{Ended, Seen};
 use std::collections::VecDeque;
 
 /// Which row is that of the item in `slot`, if it is leased.
@@ -26,6 +27,19 @@ pub(crate) fn row_of<T>(rows: &VecDeque<Row<T>>, slot: usize) -> Option<usize>
         }
     }
     None
+}
+
+/// What a row's item is seen as, and its slot.
+pub(crate) fn seen_at<T>(
+    rows: &VecDeque<Row<T>>,
+    at: Option<usize>,
+) -> Option<(usize, Seen<Stored<T>>)>
+    requires { IfSome at (λ i. i < deque_len rows.now) }
+    ensures there { IfSome result (λ t. IsSome t.1.value) }
+    ensures under { IfSome result (λ t. (life : ℕ) (ls : List Lease) → map row_told rows.now.items ≡ map (lease_told life) ls → t.1.life ≡ life) }
+{
+    let row = &rows[at?];
+    Some((row.slot, row.lent.see()))
 }
 
 /// Fills the homes of all leases, which are in front of what is out with the seat, and go behind the others.

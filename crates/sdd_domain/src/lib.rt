@@ -6,6 +6,7 @@
 //! waits for another thread. Cells don't stand in a place of this kind yet.
 #![tactic(auto)]
 
+pub mod atomic_shared;
 mod bags;
 mod board;
 mod cells;
@@ -21,6 +22,7 @@ mod loading;
 pub mod local;
 mod owners;
 mod placing;
+pub mod pointer;
 mod reclaiming;
 pub mod refusal;
 mod row;
@@ -29,3 +31,4 @@ pub mod shared;
 mod slots;
 mod steps;
 mod stored;
+mod swapping;

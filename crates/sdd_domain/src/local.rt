@@ -1,6 +1,6 @@
 //! One participant of a place, as the thread that acts for it has it.
 
-ghost use Rattle.std.specs.Prelude.{◌≡◌, ◌≢◌, ℕ, ◌+◌, ◌-◌, ◌*◌, ◌^◌, ◌<◌, ◌≤◌, ◌==◌, ◌&&◌, true, List, [], ◌∷◌, length, cond, map, nat_lt, vec_capacity, None};
+ghost use Rattle.std.specs.Prelude.{◌≡◌, ◌≢◌, ℕ, ◌+◌, ◌-◌, ◌*◌, ◌^◌, ◌<◌, ◌≤◌, ◌==◌, ◌&&◌, true, List, [], ◌∷◌, length, cond, map, nat_lt, vec_capacity, None, IfSome, IsSome};
 ghost use Rattle.std.specs.Option.{ForNone, ForSome};
 ghost use Rattle.std.specs.VecDeque.{deque_capacity};
 ghost use Rattle.sdd_base.specs.State.{no_local};
@@ -16,17 +16,18 @@ ghost use Rattle.sdd_domain.specs.Plays.{own_spare, own_bag, HasRegistered, Scan
 ghost use Rattle.sdd_domain.specs.Layout.{claim_word, epoch_words, all_words, IsSized};
 
 use crate::bags::Bags;
-use crate::board::{Place, Words};
+use crate::board::{Place, Stored, Words};
 use crate::domain::Domain;
-use crate::leases::give_home;
+use crate::leases::{give_home, seen_at};
 use crate::ledger::Ledger;
 use crate::left::{bag_in, bag_out, filled, take_left};
+use crate::loading::lease;
 use crate::lives::{first_token, last_token, no_token};
 use crate::reclaiming::reclaim_due;
 use crate::row::Row;
 use crate::scan::scan;
 use crate::{cells, steps};
-use parted::Life;
+use parted::{Life, Seen};
 use sdd_base::sizes::Sizes;
 use sdd_base::status::LocalState;
 use std::collections::VecDeque;
@@ -128,7 +129,7 @@ fn turn<T: Drop>(
 
 impl<T> Local<T> {
     ghost use Rattle.sdd_domain.specs.Ledgers.{IsEmpty};
-    ghost use Rattle.sdd_domain.specs.Tokens.{participants_of, place_of, home_of, number_of, own_of, born_of, begun, closed, waiting_of, nest_in, IsSame, IsWithin};
+    ghost use Rattle.sdd_domain.specs.Tokens.{participants_of, cells_of, place_of, home_of, number_of, own_of, born_of, begun, closed, waiting_of, nest_in, IsSame, IsWithin};
 
     /// The participant that a seat has just come to act for. What was left where it ended before is taken over.
     pub(crate) fn registered(
@@ -225,6 +226,41 @@ impl<T> Local<T> {
             Some(rest) => rest.join(life),
             None => unreachable!(),
         }
+    }
+
+    /// Loads a cell under an open guard: what the item in which slot is seen as under the nest of guards, if the cell
+    /// names one.
+    pub(crate) fn lease(
+        &mut self,
+        domain: &Domain<T>,
+        cell: usize,
+    ) -> Option<(usize, Seen<Stored<T>>)>
+        requires home { home_of self.old ≡ place_of domain.now }
+        requires open { 0 < (own_of self.old).nesting }
+        requires inside { cell < cells_of domain.now }
+        ensures seen { IfSome result (λ t. ((number_of self.old, t.1.life) ≡ nest_in self.old) × IsSome t.1.value) }
+        ensures same { IsWithin self.old self.new × (own_of self.new ≡ own_of self.old) × (born_of self.new ≡ born_of self.old) × (waiting_of self.new ≡ waiting_of self.old) }
+    {
+        let Local {
+            place,
+            number,
+            life,
+            rows,
+            ..
+        } = self;
+        let Some(life) = life else {
+            unreachable!()
+        };
+        let at = lease(
+            domain.words(),
+            place,
+            &domain.sizes,
+            *number,
+            rows,
+            life,
+            cell,
+        );
+        seen_at(rows, at)
     }
 
     /// Closes an outermost guard, after a scan if one is due, and ends its life: all that was leased goes home.

@@ -1,6 +1,6 @@
 //! Owners of the items of a place that threads share.
 
-ghost use Rattle.std.specs.Prelude.{◌≡◌, ◌≢◌, ℕ, ◌+◌, ◌<◌, ◌∷◌, [], ◌||◌, true, IsSome, IsTrue, IsFalse, IfOk, IfErr};
+ghost use Rattle.std.specs.Prelude.{◌≡◌, ◌≢◌, ℕ, ◌+◌, ◌^◌, ◌<◌, ◌∷◌, [], ◌||◌, true, IsSome, IsTrue, IsFalse, IfOk, IfErr};
 ghost use Rattle.sdd_domain.specs.Views.{holding};
 ghost use Rattle.sdd_domain.specs.Owners.{item_in};
 ghost use Rattle.sdd_homes.specs.declared.Owner.{Owner};
@@ -21,6 +21,7 @@ pub struct Shared<T> {
     pub(crate) seat: Badge<Acting>,
     ghost owns: { seat.views ≡ holding (record { item = item_in seat.views; slot = slot; round = part.part.life.id }) ∷ [] },
     ghost there: { IsSome part.part.seen.value },
+    ghost low: { slot + 1 < 2 ^ 31 },
 }
 
 impl<T> Shared<T> {

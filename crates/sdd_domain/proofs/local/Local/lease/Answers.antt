@@ -1,0 +1,48 @@
+use Rattle.std.proofs.Common.{◌≡◌, ◌<◌, ◌≤◌, true, ℕ, List, [], ◌∷◌, map, vec_capacity, IfSome, IsSome, Some, None, sym, refl, ap, ◌∙◌, subst}
+use Rattle.std.specs.VecDeque.{deque_capacity}
+use Rattle.atomic_table.specs.Seated.{TableId}
+use Rattle.sdd_base.specs.declared.sizes.Sizes.{Sizes}
+use Rattle.sdd_domain.specs.Bags.{ages, Waits}
+use Rattle.sdd_domain.specs.Contents.{is_blank}
+use Rattle.sdd_domain.specs.Layout.{claim_word}
+use Rattle.sdd_domain.specs.Leases.{row_told, lease_told, life_number, leased_homes, has_all, slots_in, all_below}
+use Rattle.sdd_domain.specs.Plays.{own_spare, own_bag}
+use Rattle.sdd_homes.specs.declared.Lease.{Lease}
+use Rattle.sdd_domain.specs.Tokens.{number_of, nest_in}
+use Rattle.sdd_domain.specs.declared.board.Acting.{Acting}
+use Rattle.sdd_domain.proofs.local.Local.lease.Goals as goal
+
+pub invariant_of-self : goal.invariant_of-self
+invariant_of-self g c = let l = c.args.self.now in let d = l.place.me.0 in let m = c.lease-at.new.place.me in let e = c.lease-at.ensures.loaded.2 in let table = c.lease-at.ensures.seat.0 in let told = c.lease-at.ensures.rows in let rows = c.lease-at.new.rows in let sizes : m.0.sizes ≡ d.sizes = ap (λ (z : Acting). z.sizes) e in
+    let home : d.sizes ≡ c.args.domain.now.sizes = ap (λ (t : TableId × Sizes). t.1) c.requires.home ∙ sym c.args.domain.now.sized.0 in record {
+      acts = (
+        ap (λ (z : Acting). z.kind) e ∙ l.acts.0,
+        ap (λ (z : Acting). z.number) e ∙ l.acts.1,
+        ap (λ (z : Acting). z.scan) e ∙ l.acts.2,
+        l.acts.3,
+        subst (λ (z : TableId). claim_word l.number < z.words) (sym table) l.acts.4,
+        ap (λ (z : Acting). z.hand) e ∙ l.acts.5,
+        ap (λ (z : Acting). z.releasing) e ∙ l.acts.6,
+      );
+      has_spare = (ap (λ (z : Acting). z.spare) e ∙ l.has_spare.0, l.has_spare.1, ap (λ (z : Acting). has_all is_blank (own_spare z l.spare ∷ own_bag z ∷ leased_homes m.0 m.0.leases) m.1) e ∙ c.lease-at.ensures.out (own_spare d l.spare) (own_bag d) l.has_spare.2);
+      lends = (
+        told.0,
+        subst (λ (z : Sizes). z.slots ≤ deque_capacity rows) (sym sizes) (subst (λ n. d.sizes.slots ≤ n) (sym told.2) l.lends.1),
+        subst (λ (z : Sizes). all_below z.slots (slots_in rows.items) ≡ true) (sym (sizes ∙ home)) told.1,
+      );
+      shut = λ x. absurd (cc);
+      alive = λ f x. l.alive f (c.in-Some.is ∙ x);
+      leaves = (ap (λ (z : Acting). z.left) e ∙ l.leaves.0, l.leaves.1, subst (λ (z : Sizes). z.slots ≤ vec_capacity l.bag) (sym sizes) l.leaves.2);
+      phase = ap (λ (z : Acting). z.known.phase) e ∙ l.phase;
+      found = ap (λ (z : Acting). z.known.found) e ∙ l.found;
+      noted = l.noted;
+      fills = (ap (λ (z : Acting). z.filling) e ∙ l.fills.0, l.fills.1, subst (λ (z : Sizes). l.number < z.participants) (sym sizes) l.fills.2);
+      waits = (subst (λ (z : Acting). Waits z.waits l.bags.slots.items (ages l.bags.current l.bags.previous l.bags.next l.bags.due)) (sym e) l.waits.0, l.waits.1, l.waits.2 ∙ sym (ap (λ (z : Sizes). z.slots) sizes));
+    }
+
+pub returns-clause-seen : goal.returns-clause-seen
+returns-clause-seen g c = let l = c.args.self.now in (elim c.seen_at.result as (λ r. c.seen_at.result ≡ r → IfSome r (λ t. ((number_of l, t.1.life) ≡ nest_in l) × IsSome t.1.value)) [
+  | None ↦ λ e. tt
+  | Some t ↦ λ e. let under = subst (λ r. IfSome r (λ t. (life : ℕ) (ls : List Lease) → map row_told c.lease-at.new.rows.items ≡ map (lease_told life) ls → t.1.life ≡ life)) e c.seen_at.ensures.under in
+        ((λ j. (l.number, (under c.in-Some.life.id c.lease-at.new.place.me.0.leases c.lease-at.ensures.rows.0 ∙ sym (ap life_number c.in-Some.is)) j)), subst (λ r. IfSome r (λ t. IsSome t.1.value)) e c.seen_at.ensures.there)
+]) refl

@@ -1,0 +1,7 @@
+-- what cells show to clauses
+use Rattle.std.specs.Prelude.{ℕ}
+use Rattle.sdd_domain.specs.declared.atomic_shared.AtomicShared.{AtomicShared}
+
+-- its number, among the cells of its place
+abbrev pub cell_of : AtomicShared → ℕ
+cell_of c = c.cell

@@ -1,0 +1,111 @@
+//! What a participant brings to a cell and gets back from it, in its spare slot.
+
+ghost use Rattle.std.specs.Prelude.{◌≡◌, ℕ, ◌+◌, ◌*◌, ◌^◌, ◌<◌, ◌≤◌, ◌∷◌, [], ◌%◌, List, Option, true, IfSome};
+ghost use Rattle.atomic_table.specs.Table.{Me, rest};
+ghost use Rattle.sdd_steps.specs.Steps.{is_ready};
+ghost use Rattle.sdd_homes.specs.declared.Owner.{Owner};
+ghost use Rattle.sdd_domain.specs.Contents.{IsIn};
+ghost use Rattle.sdd_domain.specs.Fitting.{FitsSizes};
+ghost use Rattle.sdd_domain.specs.Owners.{besides};
+ghost use Rattle.sdd_domain.specs.Plays.{own_spare, Brings, GetsBack};
+ghost use Rattle.sdd_domain.specs.Sharing.{kept_in};
+ghost use Rattle.sdd_domain.specs.declared.board.Acting.{Acting};
+ghost use Rattle.sdd_domain.specs.declared.board.Home.{Home};
+ghost use Rattle.sdd_domain.specs.declared.board.Home.TheVariants.{Blank};
+
+use crate::board::{Home, Place, Words};
+use crate::cells::swap;
+use crate::homes::{let_go, parts_of};
+use crate::owners::{part_with, take_in};
+use crate::shared::Shared;
+use parted::One;
+use sdd_base::sizes::Sizes;
+
+/// Where a spare slot lies.
+fn spare_at(sizes: &Sizes, spare: u64) -> usize
+    requires { (sizes.now.slots ≤ 2 ^ 30) × (sizes.now.participants ≤ 2 ^ 30) × (spare < 2 ^ 33) }
+    ensures { result ≡ sizes.now.slots * (sizes.now.participants + 1) + spare }
+{
+    sizes.slots * (sizes.participants + 1) + spare as usize
+}
+
+/// Puts the part of an owner into the participant's spare slot, and the owner into its hand, or leaves both empty. The
+/// word that says so in a cell is the answer.
+pub(crate) fn bring<T>(
+    words: &Words<T>,
+    place: &mut Place<T>,
+    sizes: &Sizes,
+    spare: u64,
+    new: Option<Shared<T>>,
+) -> u64
+    requires table { FitsSizes words.now.table_id words.now.key.sizes place.old.table_id place.old.me.0.sizes sizes.now }
+    requires ready { (place.old.me.0.kind ≡ 1) × (place.old.me.0.hand ≡ []) × (place.old.me.0.spare ≡ spare) × (spare < 2 ^ 33) }
+    requires out { (tail : List (ℕ × Home T)) × (place.old.me.1 ≡ (own_spare place.old.me.0 spare, Blank) ∷ tail) }
+    requires mine { IfSome new (λ s. kept_in s ≡ words.now.table_id) }
+    ensures seat { (place.new.table_id ≡ place.old.table_id) × (place.new.id ≡ place.old.id) }
+    ensures brings { (tail : List (ℕ × Home T)) → place.old.me.1 ≡ (own_spare place.old.me.0 spare, Blank) ∷ tail → (owner : Option Owner) × Brings IsIn place.new.me owner [] result tail × (place.new.me.0 ≡ record place.old.me.0 { hand = besides owner [] }) }
+{
+    let Some(owner) = new else {
+        return spare;
+    };
+    let Shared { slot, part, seat } = owner;
+    take_in(words, place, seat);
+    let at = spare_at(sizes, spare);
+    let_go(words.exchange(place, at, Home::Part(part.into_part(), 1)));
+    spare + (1 << 33) * (slot as u64 + 1)
+}
+
+/// Takes what a cell gave back: the number of the spare slot that is the participant's now, and the owner whose part was
+/// in it, if there was one.
+pub(crate) fn take_back<T>(
+    words: &Words<T>,
+    place: &mut Place<T>,
+    sizes: &Sizes,
+    word: u64,
+) -> (u64, Option<Shared<T>>)
+    requires table { FitsSizes words.now.table_id words.now.key.sizes place.old.table_id place.old.me.0.sizes sizes.now }
+    requires ready { (place.old.me.0.kind ≡ 1) × (place.old.me.0.releasing ≡ 0) }
+    requires back { (m : Me (Home T) Acting) × (tail : List (ℕ × Home T)) × GetsBack IsIn m [] word tail place.old.me }
+    ensures seat { (place.new.table_id ≡ place.old.table_id) × (place.new.id ≡ place.old.id) }
+    ensures spare { result.0 < 2 ^ 33 }
+    ensures back { (m : Me (Home T) Acting) (tail : List (ℕ × Home T)) → GetsBack IsIn m [] word tail place.old.me → place.new.me ≡ (record m.0 { spare = result.0; hand = [] }, (own_spare m.0 result.0, Blank) ∷ tail) }
+    ensures mine { IfSome result.1 (λ s. kept_in s ≡ words.now.table_id) }
+{
+    let spare = word % (1 << 33);
+    let code = word / (1 << 33);
+    if code == 0 {
+        return (spare, None);
+    }
+    let at = spare_at(sizes, spare);
+    let (part, _) = parts_of(words.exchange(place, at, Home::Blank));
+    let seat = part_with(words, place);
+    let owner = Shared {
+        slot: code as usize - 1,
+        part: One::from_part(part),
+        seat,
+    };
+    (spare, Some(owner))
+}
+
+/// Swaps what a cell owns, in one step. The number of the participant's spare slot is another one then.
+pub(crate) fn swap_owner<T>(
+    words: &Words<T>,
+    place: &mut Place<T>,
+    sizes: &Sizes,
+    spare: u64,
+    cell: usize,
+    new: Option<Shared<T>>,
+) -> (u64, Option<Shared<T>>)
+    requires table { FitsSizes words.now.table_id words.now.key.sizes place.old.table_id place.old.me.0.sizes sizes.now × (cell < sizes.now.cells) }
+    requires ready { (place.old.me.0.kind ≡ 1) × (is_ready place.old.me.0.known ≡ true) × (place.old.me.0.releasing ≡ 0) × (place.old.me.0.hand ≡ []) × (place.old.me.0.spare ≡ spare) × (spare < 2 ^ 33) }
+    requires out { (tail : List (ℕ × Home T)) × (place.old.me.1 ≡ (own_spare place.old.me.0 spare, Blank) ∷ tail) }
+    requires mine { IfSome new (λ s. kept_in s ≡ words.now.table_id) }
+    ensures seat { (place.new.table_id ≡ place.old.table_id) × (place.new.id ≡ place.old.id) }
+    ensures spare { result.0 < 2 ^ 33 }
+    ensures swapped { (tail : List (ℕ × Home T)) → place.old.me.1 ≡ (own_spare place.old.me.0 spare, Blank) ∷ tail → place.new.me ≡ (record place.old.me.0 { spare = result.0; hand = [] }, (own_spare place.old.me.0 result.0, Blank) ∷ tail) }
+    ensures mine { IfSome result.1 (λ s. kept_in s ≡ words.now.table_id) }
+{
+    let word = bring(words, place, sizes, spare, new);
+    let found = swap(words, place, sizes.participants, cell, word);
+    take_back(words, place, sizes, found)
+}
