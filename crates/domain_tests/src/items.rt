@@ -29,7 +29,12 @@ pub(crate) fn sized(participants: u8, slots: u8) -> Sizes
 }
 
 /// The item's owner, where a slot is free.
-fn placed<R: Abort>(rt: &R, domain: &Domain<u64>, local: &mut Local<u64>, item: u64) -> Shared<u64>
+pub(crate) fn placed<R: Abort>(
+    rt: &R,
+    domain: &Domain<u64>,
+    local: &mut Local<u64>,
+    item: u64,
+) -> Shared<u64>
     requires home { home_of local.old ≡ place_of domain.now }
     ensures place { kept_in result ≡ (place_of domain.now).0 }
     ensures same { IsSame local.old local.new × (own_of local.new ≡ own_of local.old) }
@@ -41,7 +46,12 @@ fn placed<R: Abort>(rt: &R, domain: &Domain<u64>, local: &mut Local<u64>, item: 
 }
 
 /// The item, which is back where no slot is free.
-fn refused<R: Abort>(rt: &R, domain: &Domain<u64>, local: &mut Local<u64>, item: u64) -> u64
+pub(crate) fn refused<R: Abort>(
+    rt: &R,
+    domain: &Domain<u64>,
+    local: &mut Local<u64>,
+    item: u64,
+) -> u64
     requires home { home_of local.old ≡ place_of domain.now }
     ensures same { IsSame local.old local.new × (own_of local.new ≡ own_of local.old) }
 {

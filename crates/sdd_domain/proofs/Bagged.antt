@@ -1,5 +1,5 @@
 -- the spare slot and the bag of a participant, which are out with its seat, and empty
-use Rattle.std.proofs.Common.{◌≡◌, true, ℕ, List, [], ◌∷◌, sym, ap, ◌∙◌, subst}
+use Rattle.std.proofs.Common.{◌≡◌, true, ℕ, List, [], ◌∷◌, ap, ◌∙◌}
 use Rattle.atomic_table.specs.Table.{Me}
 use Rattle.sdd_homes.specs.declared.Lease.{Lease}
 use Rattle.sdd_domain.specs.Contents.{is_blank, blanks}

@@ -1,12 +1,12 @@
 -- what a load told, and the rows behind it
-use Rattle.std.proofs.Common.{◌≡◌, ◌⊎◌, ◌&&◌, true, ℕ, suc, ◌+◌, ◌*◌, ◌^◌, ◌<◌, ◌≤◌, List, [], ◌∷◌, ◌++◌, map, length, nat_lt, lt-ltb, ⊎_elim, inl, inr, refl, sym, ap, ◌∙◌, subst, arith}
+use Rattle.std.proofs.Common.{◌≡◌, ◌⊎◌, ◌&&◌, true, ℕ, suc, ◌+◌, ◌*◌, ◌^◌, ◌<◌, List, [], ◌∷◌, ◌++◌, map, length, nat_lt, lt-ltb, ⊎_elim, refl, sym, ap, ◌∙◌, subst, arith}
 use lib.ListN.{length-map}
 use Rattle.atomic_table.specs.Table.{Me, rest, turned}
 use Rattle.sdd_steps.specs.State.{Has}
 use Rattle.sdd_steps.specs.declared.participant.Loaded.{Loaded}
 use Rattle.sdd_steps.proofs.ListLemmas.{both}
 use Rattle.sdd_homes.specs.declared.Lease.{Lease}
-use Rattle.sdd_homes.specs.Book.{Content, part, lease, Lends}
+use Rattle.sdd_homes.specs.Book.{Content, part, lease}
 use Rattle.sdd_domain.specs.Contents.{IsIn, is_blank, blanks}
 use Rattle.sdd_domain.specs.Leases.{row_told, lease_told, leased_homes, slots_in, all_below, has_all}
 use Rattle.sdd_domain.specs.Plays.{HasLoaded, IsLeased, takes_home, loading, own_home}

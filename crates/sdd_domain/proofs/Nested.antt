@@ -1,10 +1,9 @@
 -- what a participant knows of its guards and of what it has leased
-use Rattle.std.proofs.Common.{◌≡◌, ℕ, List, [], ◌∷◌, map, length, Option, None, Some, sym, refl, ap, ◌∙◌, arith}
-use lib.ListN.{length-map}
+use Rattle.std.proofs.Common.{◌≡◌, ℕ, List, [], ◌∷◌, map, length, None, Some, refl, ap, ◌∙◌, arith}
 use Rattle.atomic_table.specs.Table.{Me}
 use Rattle.sdd_homes.specs.declared.Lease.{Lease}
 use Rattle.sdd_homes.specs.Book.{home}
-use Rattle.sdd_domain.specs.Leases.{life_number, row_told, lease_told, leased_homes}
+use Rattle.sdd_domain.specs.Leases.{row_told, lease_told, leased_homes}
 use Rattle.sdd_domain.specs.Plays.{Steady}
 use Rattle.sdd_domain.specs.declared.board.Acting.{Acting}
 use Rattle.sdd_domain.specs.declared.local.Local.{Local}

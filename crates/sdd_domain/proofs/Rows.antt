@@ -1,5 +1,5 @@
 -- rows and the leases that they tell
-use Rattle.std.proofs.Common.{◌≡◌, ◌≢◌, ◌<◌, ◌==◌, ◌&&◌, true, ℕ, zero, suc, cond, List, [], ◌∷◌, map, length, slice_index_or, slice_set, ⊎_elim, inl, inr, eq-eqb, ne_eqb, ltb-true, nat_lt, refl, sym, ap, ◌∙◌, subst, arith}
+use Rattle.std.proofs.Common.{◌≡◌, ◌≢◌, ◌<◌, true, ℕ, zero, suc, cond, List, [], ◌∷◌, map, length, slice_index_or, slice_set, ⊎_elim, inl, inr, eq-eqb, ne_eqb, ltb-true, nat_lt, refl, sym, ap, ◌∙◌, subst, arith}
 use Rattle.sdd_steps.specs.State.{Has}
 use Rattle.sdd_steps.proofs.ListLemmas.{both}
 use Rattle.sdd_homes.specs.declared.Lease.{Lease}

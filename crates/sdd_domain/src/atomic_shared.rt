@@ -1,13 +1,15 @@
 //! Cells that own an item, or nothing.
 
-ghost use Rattle.std.specs.Prelude.{◌≡◌, ◌<◌, IfSome};
+ghost use Rattle.std.specs.Prelude.{◌≡◌, ◌<◌, ◌||◌, Bool, IfSome, IfOk, IfErr};
 
+use crate::cells::is_null;
 use crate::domain::Domain;
 use crate::guard::Guard;
 use crate::local::Local;
 use crate::pointer::{Loaded, Ptr};
 use crate::shared::Shared;
 use crate::swapping::swap_owner;
+use std::sync::atomic::Ordering;
 
 /// A cell of a place: it owns an item, or nothing.
 pub struct AtomicShared {
@@ -19,6 +21,49 @@ impl AtomicShared {
     ghost use Rattle.sdd_domain.specs.Pointers.{IsUnder};
     ghost use Rattle.sdd_domain.specs.Sharing.{kept_in};
     ghost use Rattle.sdd_domain.specs.Tokens.{place_of, home_of, own_of, born_of, waiting_of, cells_of, nest_of, nest_in, IsWithin};
+
+    /// A cell that owns nothing, if nobody has one of those that the place has: each is tried once. It must be spent by
+    /// `into_shared` or `retire`.
+    pub fn null<T>(domain: &Domain<T>) -> Option<AtomicShared>
+        ensures inside { IfSome result (λ c. cell_of c < cells_of domain.now) }
+    {
+        for cell in 0..domain.sizes.cells {
+            if !domain.taken[cell].swap(true, Ordering::SeqCst) {
+                return Some(AtomicShared { cell });
+            }
+        }
+        None
+    }
+
+    /// A cell that owns this item. The owner is back where there is no cell.
+    pub fn from<T>(
+        owner: Shared<T>,
+        domain: &Domain<T>,
+        local: &mut Local<T>,
+    ) -> Result<AtomicShared, Shared<T>>
+        requires home { home_of local.old ≡ place_of domain.now }
+        requires mine { kept_in owner ≡ (place_of domain.now).0 }
+        ensures inside { IfOk result (λ c. cell_of c < cells_of domain.now) }
+        ensures refused { IfErr result (λ back. back ≡ owner) }
+        ensures same { IsWithin local.old local.new × (born_of local.new ≡ born_of local.old) }
+        ensures own { (flag : Bool) × (own_of local.new ≡ record (own_of local.old) { garbage = flag }) }
+    {
+        let Some(cell) = AtomicShared::null(domain) else {
+            return Err(owner);
+        };
+        // Whoever had the cell before left nothing in it.
+        if let Some(old) = cell.swap(Some(owner), domain, local) {
+            old.release(domain, local);
+        }
+        Ok(cell)
+    }
+
+    /// Whether the cell owns nothing, as it is found in one step.
+    pub fn is_null<T>(&self, domain: &Domain<T>) -> bool
+        requires inside { cell_of self.now < cells_of domain.now }
+    {
+        is_null(domain.words(), &domain.sizes, self.cell)
+    }
 
     /// What the cell names, as it is found in one step. The item stays, as it is, until the outermost guard closes,
     /// whatever other threads do with the cell.
@@ -38,12 +83,7 @@ impl AtomicShared {
     }
 
     /// The same, without a borrow of the guard.
-    pub fn loaded<T>(
-        &self,
-        domain: &Domain<T>,
-        guard: &Guard,
-        local: &mut Local<T>,
-    ) -> Loaded<T>
+    pub fn loaded<T>(&self, domain: &Domain<T>, guard: &Guard, local: &mut Local<T>) -> Loaded<T>
         requires home { home_of local.old ≡ place_of domain.now }
         requires mine { nest_of guard.now ≡ nest_in local.old }
         requires open { 0 < (own_of local.old).nesting }
@@ -56,7 +96,10 @@ impl AtomicShared {
                 slot,
                 seen: Some(seen),
             },
-            None => Loaded { slot: 0, seen: None },
+            None => Loaded {
+                slot: 0,
+                seen: None,
+            },
         }
     }
 
@@ -74,15 +117,33 @@ impl AtomicShared {
         ensures same { IsWithin local.old local.new × (own_of local.new ≡ own_of local.old) × (born_of local.new ≡ born_of local.old) × (waiting_of local.new ≡ waiting_of local.old) }
     {
         let Local { place, spare, .. } = local;
-        let (free, old) = swap_owner(
-            domain.words(),
-            place,
-            &domain.sizes,
-            *spare,
-            self.cell,
-            new,
-        );
+        let (free, old) = swap_owner(domain.words(), place, &domain.sizes, *spare, self.cell, new);
         *spare = free;
         old
+    }
+
+    /// What the cell owned. The cell is the next one's that asks for one.
+    pub fn into_shared<T>(self, domain: &Domain<T>, local: &mut Local<T>) -> Option<Shared<T>>
+        requires home { home_of local.old ≡ place_of domain.now }
+        requires inside { cell_of self < cells_of domain.now }
+        ensures home { IfSome result (λ s. kept_in s ≡ (place_of domain.now).0) }
+        ensures same { IsWithin local.old local.new × (own_of local.new ≡ own_of local.old) × (born_of local.new ≡ born_of local.old) × (waiting_of local.new ≡ waiting_of local.old) }
+    {
+        let owner = self.swap(None, domain, local);
+        let AtomicShared { cell } = self;
+        domain.taken[cell].store(false, Ordering::SeqCst);
+        owner
+    }
+
+    /// Gives the cell back, and releases what it owned. Whether that was the last owner of its item.
+    pub fn retire<T>(self, domain: &Domain<T>, local: &mut Local<T>) -> bool
+        requires home { home_of local.old ≡ place_of domain.now }
+        requires inside { cell_of self < cells_of domain.now }
+        ensures same { IsWithin local.old local.new × (born_of local.new ≡ born_of local.old) × (own_of local.new ≡ record (own_of local.old) { garbage = (own_of local.old).garbage || result }) }
+    {
+        match self.into_shared(domain, local) {
+            Some(owner) => owner.release(domain, local),
+            None => false,
+        }
     }
 }

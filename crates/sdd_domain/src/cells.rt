@@ -8,12 +8,13 @@ ghost use Rattle.sdd_homes.specs.declared.Owner.{Owner};
 ghost use Rattle.sdd_steps.specs.State.{Has};
 ghost use Rattle.sdd_domain.specs.Fitting.{FitsSlot, FitsCell};
 ghost use Rattle.sdd_domain.specs.Contents.{IsIn};
-ghost use Rattle.sdd_domain.specs.Layout.{claim_word, all_words};
+ghost use Rattle.sdd_domain.specs.Layout.{claim_word, all_words, IsSized};
 ghost use Rattle.sdd_domain.specs.Plays.{Scans, load_then, HasLoaded, CanClose, ending, end_all_then, Brings, GetsBack, swap_then, cloning, clone_then, releasing_one, release_then, HasBegun, begin_then, CanEnd, ended_release, end_release_then, exchange_then};
 ghost use Rattle.sdd_domain.specs.declared.board.Home.{Home};
 
 use crate::board::{Acting, Home, Place, Words};
 use atomic_table::Play;
+use sdd_base::sizes::Sizes;
 
 struct OnLoad;
 
@@ -61,6 +62,13 @@ struct OnEndRelease;
 
 impl<T> Play<Home<T>, Acting> for OnEndRelease {
     ghost then = { end_release_then IsIn };
+}
+
+/// Whether the cell names no item.
+pub(crate) fn is_null<T>(words: &Words<T>, sizes: &Sizes, cell: usize) -> bool
+    requires { (words.now.key.sizes ≡ sizes.now) × IsSized sizes.now × (cell < sizes.now.cells) × (all_words sizes.now ≤ words.now.table_id.words) }
+{
+    words.peek(8 * sizes.participants + 16 + cell) < 1 << 33
 }
 
 /// Loads the cell under the participant's open guard, for `participants` of them. If it names an item, the

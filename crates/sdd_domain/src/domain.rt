@@ -1,6 +1,6 @@
 //! A place that threads share.
 
-ghost use Rattle.std.specs.Prelude.{◌≡◌, ◌≢◌, ℕ, ◌+◌, ◌*◌, ◌^◌, ◌<◌, ◌≤◌, [], ◌∷◌, ◌++◌, replicate, IfOk, OnOk, IfErr, OnErr};
+ghost use Rattle.std.specs.Prelude.{◌≡◌, ◌≢◌, ℕ, ◌+◌, ◌*◌, ◌^◌, ◌<◌, ◌≤◌, [], ◌∷◌, ◌++◌, replicate, vec_len, IfOk, OnOk, IfErr, OnErr};
 ghost use Rattle.sdd_base.specs.State.{no_local};
 ghost use Rattle.sdd_domain.specs.Layout.{all_words, IsSized};
 ghost use Rattle.sdd_domain.specs.Rule.{numbers, first_eights, first_words};
@@ -8,20 +8,24 @@ ghost use Rattle.sdd_domain.specs.Rule.{numbers, first_eights, first_words};
 use crate::board::{Board, Plan, Words};
 use crate::guard::Guard;
 use crate::homes::{clear, empty, homes_from};
-use crate::local::Local;
 use crate::ledger::Ledger;
+use crate::local::Local;
 use crate::refusal::RegisterRefused;
 use crate::slots::has_owner;
 use crate::steps::{claim, is_claimed, learn, sit};
 use atomic_table::Refused;
 use sdd_base::sizes::Sizes;
 use std::alloc::{AllocError, Global};
+use std::sync::atomic::AtomicBool;
 
 /// A place that threads share by `&`. It can't be let go: `close` ends it.
 pub struct Domain<T> {
     pub(crate) table: Board<T>,
     pub(crate) sizes: Sizes,
     heap: Global,
+    /// Which cells somebody has.
+    pub(crate) taken: Vec<AtomicBool>,
+    ghost cells: { vec_len taken ≡ sizes.cells },
     ghost sized: { (sizes ≡ table.shared.key.sizes) × IsSized sizes × (all_words sizes ≤ table.shared.table_id.words) },
 }
 
@@ -74,6 +78,17 @@ fn words_from(alloc: Global, plan: &Plan) -> Result<Vec<u64>, AllocError>
     Ok(words)
 }
 
+/// So many cells that nobody has.
+fn free_cells(alloc: Global, count: usize) -> Result<Vec<AtomicBool>, AllocError>
+    ensures { IfOk result (λ taken. vec_len taken ≡ count) }
+{
+    let mut taken = Vec::with_capacity(alloc, count)?;
+    for _i in 0..count {
+        taken.push(AtomicBool::new(false))?;
+    }
+    Ok(taken)
+}
+
 impl<T> Domain<T> {
     ghost use Rattle.sdd_domain.specs.Ledgers.{IsEmpty};
     ghost use Rattle.sdd_domain.specs.Tokens.{participants_of, first_of, place_of, home_of, number_of, own_of};
@@ -100,12 +115,14 @@ impl<T> Domain<T> {
             first: count,
         };
         let words = words_from(alloc, &plan)?;
+        let taken = free_cells(alloc, sizes.cells)?;
         let homes = homes_from(alloc, &plan.sizes)?;
         match Board::new(alloc, &words, homes, &plan) {
             Ok((table, _)) => Ok(Domain {
                 table,
                 sizes,
                 heap: alloc,
+                taken,
             }),
             Err(Refused { slots }) => {
                 clear(slots);
@@ -225,6 +242,7 @@ impl<T> Domain<T> {
             table,
             sizes: _,
             heap: _,
+            taken: _,
         } = self;
         empty(table.close());
         Ok(())

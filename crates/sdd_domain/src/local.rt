@@ -21,8 +21,8 @@ use crate::domain::Domain;
 use crate::leases::{give_home, seen_at};
 use crate::ledger::Ledger;
 use crate::left::{bag_in, bag_out, filled, take_left};
-use crate::loading::lease;
 use crate::lives::{first_token, last_token, no_token};
+use crate::loading::lease;
 use crate::reclaiming::reclaim_due;
 use crate::row::Row;
 use crate::scan::scan;
@@ -248,9 +248,7 @@ impl<T> Local<T> {
             rows,
             ..
         } = self;
-        let Some(life) = life else {
-            unreachable!()
-        };
+        let Some(life) = life else { unreachable!() };
         let at = lease(
             domain.words(),
             place,

@@ -1,8 +1,4 @@
-use Rattle.std.proofs.Common.{◌≡◌, ◌∷◌, sym, ap, ◌∙◌, subst}
-use Rattle.sdd_domain.specs.Leases.{row_told, lease_told}
-use Rattle.sdd_domain.specs.declared.board.Acting.{Acting}
-use Rattle.atomic_table.specs.Table.{Me}
-use Rattle.sdd_domain.proofs.Leased.{both_behind, leased_ahead, filled_home}
+use Rattle.sdd_domain.proofs.Leased.{leased_ahead, filled_home}
 use Rattle.sdd_domain.proofs.leases.give_home.Goals as goal
 
 pub refill-requires-clause-out : goal.refill-requires-clause-out

@@ -1,15 +1,14 @@
-use Rattle.std.proofs.Common.{◌≡◌, ◌<◌, ℕ, ◌+◌, ◌*◌, List, [], ◌∷◌, ◌++◌, map, length, drop, IsSome, append_assoc, append-nil, refl, sym, ap, ◌∙◌, subst}
-use Rattle.atomic_table.specs.Table.{Me, rest}
+use Rattle.std.proofs.Common.{◌≡◌, ◌<◌, ℕ, ◌+◌, ◌*◌, List, [], ◌∷◌, ◌++◌, map, length, drop, append_assoc, sym, ap, ◌∙◌, subst}
+use Rattle.atomic_table.specs.Table.{rest}
 use Rattle.sdd_homes.specs.declared.Lease.{Lease}
 use Rattle.sdd_homes.specs.Book.{home, part}
 use Rattle.sdd_domain.specs.Contents.{IsIn, blanks}
 use Rattle.sdd_domain.specs.Leases.{row_told, lease_told, leased_homes}
-use Rattle.sdd_domain.specs.Plays.{Refilled, own_home}
-use Rattle.sdd_domain.specs.declared.board.Acting.{Acting}
+use Rattle.sdd_domain.specs.Plays.{own_home}
 use Rattle.sdd_domain.specs.declared.board.Home.{Home}
 use Rattle.sdd_domain.specs.declared.board.Home.TheVariants.{Blank, Part}
 use Rattle.sdd_domain.specs.declared.row.Row.{Row}
-use Rattle.sdd_domain.proofs.Leased.{first_told, none_told, more_filled, home_at, front, turned_on}
+use Rattle.sdd_domain.proofs.Leased.{first_told, more_filled, home_at, front, turned_on}
 use Rattle.sdd_domain.proofs.leases.refill.Goals as goal
 
 -- the row that came out is that of the next lease

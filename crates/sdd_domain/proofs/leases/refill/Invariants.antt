@@ -1,10 +1,9 @@
-use Rattle.std.proofs.Common.{◌≡◌, ℕ, ◌++◌, ◌∷◌, [], List, map, length, drop}
+use Rattle.std.proofs.Common.{◌≡◌, ℕ, ◌++◌, [], List, map, length, drop}
 use Rattle.std.specs.VecDeque.{deque_len, deque_capacity}
 use Rattle.sdd_homes.specs.declared.Lease.{Lease}
 use Rattle.sdd_domain.specs.Contents.{IsIn, blanks}
 use Rattle.sdd_domain.specs.Leases.{row_told, lease_told, leased_homes}
 use Rattle.sdd_domain.specs.Plays.{Refilled}
-use Rattle.sdd_domain.specs.declared.board.Acting.{Acting}
 use Rattle.sdd_domain.specs.declared.board.Home.{Home}
 use Rattle.sdd_domain.proofs.leases.refill.Given as goal
 

@@ -1,4 +1,4 @@
-use Rattle.std.proofs.Common.{◌≡◌, ◌<◌, ℕ, length, IfSome, ap, ◌∙◌, subst, arith}
+use Rattle.std.proofs.Common.{◌<◌, ℕ, IfSome, ap, ◌∙◌, subst, arith}
 use Rattle.std.specs.VecDeque.{deque_len}
 use Rattle.sdd_domain.specs.declared.row.Row.{Row}
 use Rattle.sdd_domain.proofs.Rows.{row_at}

@@ -3,7 +3,7 @@ use Rattle.atomic_table.specs.Table.{Me, rest}
 use Rattle.sdd_base.specs.declared.sizes.Sizes.{Sizes}
 use Rattle.sdd_steps.specs.State.{Has}
 use Rattle.sdd_homes.specs.declared.Lease.{Lease}
-use Rattle.sdd_homes.specs.Book.{home, part}
+use Rattle.sdd_homes.specs.Book.{home}
 use Rattle.sdd_domain.specs.Contents.{IsIn, is_blank}
 use Rattle.sdd_domain.specs.Leases.{row_told, lease_told, leased_homes, slots_in, all_below, has_all}
 use Rattle.sdd_domain.specs.Plays.{own_home, loading, IsLeased, takes_home}
@@ -11,7 +11,6 @@ use Rattle.sdd_steps.specs.declared.participant.Loaded.{Loaded}
 use Rattle.sdd_domain.proofs.Rows.{row_at, slots_told, has_slot}
 use Rattle.sdd_domain.specs.declared.board.Acting.{Acting}
 use Rattle.sdd_domain.specs.declared.board.Home.{Home}
-use Rattle.sdd_domain.specs.declared.board.Home.TheVariants.{Blank}
 use Rattle.sdd_domain.specs.declared.row.Row.{Row}
 use Rattle.sdd_domain.proofs.Leased.{home_at}
 use Rattle.sdd_domain.proofs.Leasing.{nothing_named, slot_found, was_leased, is_new, new, had, front, behind, all_out, more_told, more_below, as_many}

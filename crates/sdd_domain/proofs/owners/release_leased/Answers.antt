@@ -1,4 +1,4 @@
-use Rattle.std.proofs.Common.{◌≡◌, ◌<◌, ◌≤◌, ℕ, ◌+◌, cond, ◌==◌, true, length, List, [], ◌∷◌, map, slice_index_or, slice_set, ne_eqb, sym, refl, ap, ◌∙◌, subst, arith}
+use Rattle.std.proofs.Common.{◌≡◌, ◌<◌, ◌≤◌, ℕ, ◌+◌, cond, true, length, List, ◌∷◌, map, slice_index_or, slice_set, ne_eqb, sym, refl, ap, ◌∙◌, subst, arith}
 use Rattle.sdd_base.specs.declared.sizes.Sizes.{Sizes}
 use Rattle.sdd_steps.specs.State.{Has}
 use Rattle.sdd_homes.specs.declared.Garbage.{Garbage}
@@ -7,7 +7,7 @@ use Rattle.sdd_homes.specs.declared.Owner.{Owner}
 use Rattle.sdd_homes.specs.Book.{recounted}
 use Rattle.sdd_domain.specs.Leases.{row_told, lease_told, slots_in, all_below}
 use Rattle.sdd_domain.specs.Layout.{all_words}
-use Rattle.sdd_domain.specs.Plays.{releasing_one, retiring}
+use Rattle.sdd_domain.specs.Plays.{retiring}
 use Rattle.sdd_domain.specs.declared.board.Acting.{Acting}
 use Rattle.sdd_domain.specs.declared.row.Row.{Row}
 use Rattle.sdd_domain.proofs.Rows.{RowAt, row_at, slots_told, has_slot, is_below, recounted_slots}

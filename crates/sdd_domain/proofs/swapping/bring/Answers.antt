@@ -1,9 +1,7 @@
-use Rattle.std.proofs.Common.{◌≡◌, ℕ, suc, ◌+◌, ◌*◌, List, [], ◌∷◌, Some, IsSome, Fits, w64, sym, refl, ap, ◌∙◌, subst, arith}
+use Rattle.std.proofs.Common.{◌≡◌, ℕ, suc, ◌+◌, ◌*◌, [], ◌∷◌, Some, IsSome, sym, refl, ap, ◌∙◌, subst, arith}
 use Rattle.atomic_table.specs.Table.{Me}
 use Rattle.sdd_homes.specs.declared.Owner.{Owner}
-use Rattle.sdd_homes.specs.Book.{part}
-use Rattle.sdd_domain.specs.Contents.{IsIn}
-use Rattle.sdd_domain.specs.Owners.{item_in, besides}
+use Rattle.sdd_domain.specs.Owners.{item_in}
 use Rattle.sdd_domain.specs.Plays.{own_spare}
 use Rattle.sdd_domain.specs.declared.board.Acting.{Acting}
 use Rattle.sdd_domain.specs.declared.board.Home.{Home}
@@ -22,8 +20,7 @@ pub returns-clause-brings : goal.returns-clause-brings
 returns-clause-brings g c = λ tail is. let m = c.args.place.now.me in let d = m.0 in let s = c.in-Some.owner in let spare : ℕ = c.args.spare in let o : Owner = record { item = item_in s.seat.views; slot = s.slot; round = s.part.part.life.id } in
     let t = c.take_in.ensures.taken o s.owns in let e = c.exchange.ensures in let p = c.into_part.result in let y : Home _ = Part p 1 in let mine = c.into_part.ensures in let m2 = c.exchange.new.seat.me in
     let all : m2 ≡ (record d { hand = o ∷ d.hand }, (own_spare d spare, y) ∷ tail) = put_in c.take_in.new.place.me m2 (own_spare d spare) c.spare_at-at.result Blank c.exchange.result y tail (ap (λ (z : Me _ Acting). z.1) t ∙ is) e.2 e.3 ∙ ap (λ (z : Me _ Acting). (z.0, (own_spare d spare, y) ∷ tail)) t in
-    let hand : m2.0 ≡ record d { hand = o ∷ [] } = ap (λ (z : Me _ Acting). z.0) all ∙ ap (λ hs. record d { hand = o ∷ hs }) c.requires.ready.1 in let same : m2.0.spare ≡ spare = ap (λ (z : Acting). z.spare) hand ∙ c.requires.ready.2 in let next : suc s.slot ≡ s.slot + 1 = omega arith in
-    (
+    let hand : m2.0 ≡ record d { hand = o ∷ [] } = ap (λ (z : Me _ Acting). z.0) all ∙ ap (λ hs. record d { hand = o ∷ hs }) c.requires.ready.1 in let same : m2.0.spare ≡ spare = ap (λ (z : Acting). z.spare) hand ∙ c.requires.ready.2 in let next : suc s.slot ≡ s.slot + 1 = omega arith in (
       Some o,
       (
         ap (λ (z : Acting). z.hand) hand,

@@ -1,10 +1,7 @@
-use Rattle.std.proofs.Common.{◌≡◌, ℕ, List, [], ◌∷◌, true, sym, refl, ap, ◌∙◌, subst}
+use Rattle.std.proofs.Common.{ℕ, [], ◌∷◌, ap, ◌∙◌}
 use Rattle.atomic_table.specs.Table.{Me}
-use Rattle.sdd_base.specs.declared.sizes.Sizes.{Sizes}
 use Rattle.sdd_steps.specs.Steps.{is_ready}
-use Rattle.sdd_domain.specs.Contents.{IsIn}
-use Rattle.sdd_domain.specs.Owners.{besides}
-use Rattle.sdd_domain.specs.Plays.{own_spare, Brings, GetsBack}
+use Rattle.sdd_domain.specs.Plays.{own_spare}
 use Rattle.sdd_domain.specs.declared.board.Acting.{Acting}
 use Rattle.sdd_domain.specs.declared.board.Home.{Home}
 use Rattle.sdd_domain.proofs.swapping.swap_owner.Goals as goal

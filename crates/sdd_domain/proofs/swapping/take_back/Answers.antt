@@ -1,5 +1,5 @@
-use Rattle.std.proofs.Common.{◌≡◌, ◌≢◌, ℕ, suc, ◌+◌, ◌-◌, ◌*◌, ◌/◌, ◌%◌, ◌<◌, List, [], ◌∷◌, take, Option, None, Some, IsSome, sym, refl, ap, ◌∙◌, subst, arith}
-use Rattle.atomic_table.specs.Table.{Me, rest}
+use Rattle.std.proofs.Common.{◌≡◌, ◌≢◌, ℕ, suc, ◌+◌, ◌-◌, ◌*◌, ◌/◌, ◌%◌, ◌<◌, List, [], ◌∷◌, take, Option, None, Some, IsSome, sym, ap, ◌∙◌, subst, arith}
+use Rattle.atomic_table.specs.Table.{Me}
 use Rattle.sdd_homes.specs.declared.Owner.{Owner}
 use Rattle.sdd_homes.specs.Book.{part}
 use Rattle.sdd_domain.specs.Contents.{IsIn}
@@ -9,8 +9,7 @@ use Rattle.sdd_domain.specs.Plays.{own_spare, GetsBack}
 use Rattle.sdd_domain.specs.Views.{spent, holding}
 use Rattle.sdd_domain.specs.declared.board.Acting.{Acting}
 use Rattle.sdd_domain.specs.declared.board.Home.{Home}
-use Rattle.sdd_domain.specs.declared.board.Home.TheVariants.{Blank}
-use Rattle.sdd_domain.proofs.Fronts.{came_out, put_in}
+use Rattle.sdd_domain.proofs.Fronts.{came_out}
 use Rattle.sdd_domain.proofs.swapping.take_back.Goals as goal
 
 -- the word names an owner, whose part is in the spare slot

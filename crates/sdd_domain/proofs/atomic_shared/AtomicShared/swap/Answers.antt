@@ -1,12 +1,11 @@
-use Rattle.std.proofs.Common.{◌≡◌, ◌<◌, ◌≤◌, true, ℕ, List, [], ◌∷◌, length, map, vec_capacity, sym, refl, ap, ◌∙◌, subst}
+use Rattle.std.proofs.Common.{◌≡◌, ◌<◌, ◌≤◌, true, ℕ, List, ◌∷◌, length, map, vec_capacity, sym, refl, ap, ◌∙◌, subst}
 use Rattle.std.specs.VecDeque.{deque_capacity}
 use Rattle.atomic_table.specs.Seated.{TableId}
 use Rattle.atomic_table.specs.Table.{Me}
-use Rattle.sdd_base.specs.declared.sizes.Sizes.{Sizes}
 use Rattle.sdd_domain.specs.Bags.{ages, Waits}
-use Rattle.sdd_domain.specs.Contents.{is_blank, blanks}
+use Rattle.sdd_domain.specs.Contents.{blanks}
 use Rattle.sdd_domain.specs.Layout.{claim_word}
-use Rattle.sdd_domain.specs.Leases.{lease_told, life_number, leased_homes, has_all, slots_in, all_below}
+use Rattle.sdd_domain.specs.Leases.{lease_told, life_number, leased_homes, slots_in, all_below}
 use Rattle.sdd_domain.specs.Plays.{own_spare, own_bag}
 use Rattle.sdd_domain.specs.declared.board.Acting.{Acting}
 use Rattle.sdd_domain.specs.declared.board.Home.{Home}

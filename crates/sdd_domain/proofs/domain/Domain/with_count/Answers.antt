@@ -22,4 +22,4 @@ new-requires g c = let sizes = c.args.sizes in let homes = c.in_ok-homes.ensures
 pub invariant_of-result : goal.invariant_of-result
 invariant_of-result g c = let sizes = c.args.sizes in let plan : Plan = record { sizes = sizes; first = c.args.count } in let told = c.in-Ok.ensures.ok in let key = ap (λ (z : Plan). z.sizes) told.5 in
     let long = told.0 ∙ (ap (λ (ws : List ℕ). length ws) (c.deref.ensures.value ∙ c.in_ok-words.ensures) ∙ long_first plan) in
-    record { sized = (sym key, c.requires, omega (arith, long)) }
+    record { cells = c.in_ok-taken.ensures; sized = (sym key, c.requires, omega (arith, long)) }

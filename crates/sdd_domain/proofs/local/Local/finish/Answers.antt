@@ -1,13 +1,12 @@
-use Rattle.std.proofs.Common.{◌≡◌, ◌<◌, ◌≤◌, ℕ, List, [], ◌∷◌, length, drop, map, vec_capacity, IsNone, Some, sym, refl, ap, ◌∙◌, subst}
+use Rattle.std.proofs.Common.{◌≡◌, ◌<◌, ◌≤◌, ℕ, List, [], ◌∷◌, length, drop, map, vec_capacity, IsNone, sym, refl, ap, ◌∙◌, subst}
 use Rattle.std.specs.VecDeque.{deque_capacity}
 use Rattle.atomic_table.specs.Seated.{TableId}
 use Rattle.atomic_table.specs.Table.{Me}
 use Rattle.sdd_base.specs.declared.sizes.Sizes.{Sizes}
 use Rattle.sdd_base.specs.declared.status.LocalState.{LocalState}
-use Rattle.sdd_homes.specs.declared.Lease.{Lease}
 use Rattle.sdd_domain.specs.Bags.{ages, Waits}
 use Rattle.sdd_domain.specs.Contents.{IsIn, blanks}
-use Rattle.sdd_domain.specs.Layout.{claim_word, all_homes}
+use Rattle.sdd_domain.specs.Layout.{claim_word}
 use Rattle.sdd_domain.specs.Leases.{life_number, row_told, lease_told, leased_homes, slots_in, all_below}
 use Rattle.sdd_domain.specs.declared.row.Row.{Row}
 use Rattle.sdd_domain.specs.Plays.{own_spare, own_bag, ending, Refilled, Steady}

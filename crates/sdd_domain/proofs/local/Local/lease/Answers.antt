@@ -1,4 +1,4 @@
-use Rattle.std.proofs.Common.{◌≡◌, ◌<◌, ◌≤◌, true, ℕ, List, [], ◌∷◌, map, vec_capacity, IfSome, IsSome, Some, None, sym, refl, ap, ◌∙◌, subst}
+use Rattle.std.proofs.Common.{◌≡◌, ◌<◌, ◌≤◌, true, ℕ, List, ◌∷◌, map, vec_capacity, IfSome, IsSome, Some, None, sym, refl, ap, ◌∙◌, subst}
 use Rattle.std.specs.VecDeque.{deque_capacity}
 use Rattle.atomic_table.specs.Seated.{TableId}
 use Rattle.sdd_base.specs.declared.sizes.Sizes.{Sizes}
@@ -44,5 +44,5 @@ pub returns-clause-seen : goal.returns-clause-seen
 returns-clause-seen g c = let l = c.args.self.now in (elim c.seen_at.result as (λ r. c.seen_at.result ≡ r → IfSome r (λ t. ((number_of l, t.1.life) ≡ nest_in l) × IsSome t.1.value)) [
   | None ↦ λ e. tt
   | Some t ↦ λ e. let under = subst (λ r. IfSome r (λ t. (life : ℕ) (ls : List Lease) → map row_told c.lease-at.new.rows.items ≡ map (lease_told life) ls → t.1.life ≡ life)) e c.seen_at.ensures.under in
-        ((λ j. (l.number, (under c.in-Some.life.id c.lease-at.new.place.me.0.leases c.lease-at.ensures.rows.0 ∙ sym (ap life_number c.in-Some.is)) j)), subst (λ r. IfSome r (λ t. IsSome t.1.value)) e c.seen_at.ensures.there)
+      ((λ j. (l.number, (under c.in-Some.life.id c.lease-at.new.place.me.0.leases c.lease-at.ensures.rows.0 ∙ sym (ap life_number c.in-Some.is)) j)), subst (λ r. IfSome r (λ t. IsSome t.1.value)) e c.seen_at.ensures.there)
 ]) refl

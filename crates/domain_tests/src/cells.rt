@@ -1,0 +1,319 @@
+//! Cells of a place that threads share, and what guards load from them.
+
+ghost use Rattle.std.specs.Prelude.{◌≡◌, ◌<◌, ◌≤◌, ℕ};
+ghost use Rattle.sdd_domain.specs.Cells.{cell_of};
+ghost use Rattle.sdd_domain.specs.Sharing.{kept_in};
+ghost use Rattle.sdd_domain.specs.Tokens.{place_of, home_of, own_of, cells_of, nest_of, nest_in, IsSame, IsWithin};
+
+use crate::domain::{end, member};
+use crate::guard::pass;
+use crate::items::{placed, refused, sized};
+use sdd_base::sizes::Sizes;
+use sdd_domain::atomic_shared::AtomicShared;
+use sdd_domain::domain::Domain;
+use sdd_domain::guard::Guard;
+use sdd_domain::local::Local;
+use sdd_domain::shared::Shared;
+use std::process::Abort;
+use std::test::Fail;
+use std::thread::join;
+
+/// A cell that owns an item with this value.
+fn cell_with<R: Abort>(
+    rt: &R,
+    domain: &Domain<u64>,
+    local: &mut Local<u64>,
+    item: u64,
+) -> AtomicShared
+    requires home { home_of local.old ≡ place_of domain.now }
+    requires closed { (own_of local.old).nesting ≡ 0 }
+    ensures inside { cell_of result < cells_of domain.now }
+    ensures same { IsSame local.old local.new }
+    ensures closed { (own_of local.new).nesting ≡ 0 }
+{
+    let owner = placed(rt, domain, local, item);
+    match AtomicShared::from(owner, domain, local) {
+        Ok(cell) => cell,
+        Err(owner) => {
+            owner.release(domain, local);
+            panic!(rt; "a cell is free")
+        }
+    }
+}
+
+/// What the cell's item is, under a guard of its own.
+fn read(domain: &Domain<u64>, local: &mut Local<u64>, cell: &AtomicShared) -> Option<u64>
+    requires home { home_of local.old ≡ place_of domain.now }
+    requires closed { (own_of local.old).nesting ≡ 0 }
+    requires inside { cell_of cell.now < cells_of domain.now }
+    ensures same { IsSame local.old local.new }
+    ensures closed { (own_of local.new).nesting ≡ 0 }
+{
+    let Ok(guard) = Guard::new(domain, local) else {
+        unreachable!();
+    };
+    let item = cell.load(domain, &guard, local).as_ref().copied();
+    guard.close(domain, local);
+    item
+}
+
+/// Puts an item with this value into the cell, and releases the one that it had: whether it was the last owner.
+fn put<R: Abort>(
+    rt: &R,
+    domain: &Domain<u64>,
+    local: &mut Local<u64>,
+    cell: &AtomicShared,
+    item: u64,
+) -> Option<bool>
+    requires home { home_of local.old ≡ place_of domain.now }
+    requires closed { (own_of local.old).nesting ≡ 0 }
+    requires inside { cell_of cell.now < cells_of domain.now }
+    ensures same { IsSame local.old local.new }
+    ensures closed { (own_of local.new).nesting ≡ 0 }
+{
+    let owner = placed(rt, domain, local, item);
+    let old = cell.swap(Some(owner), domain, local)?;
+    Some(old.release(domain, local))
+}
+
+#[test]
+fn a_cell_owns_what_was_swapped_into_it(rt: HostRuntime) -> Result<(), Fail> {
+    let domain = Domain::new(rt.alloc(), sized(1, 3))?;
+    let mut local = member(&rt, &domain);
+    let Some(cell) = AtomicShared::null(&domain) else {
+        panic!(&rt; "a cell is free");
+    };
+    assert!(rt; cell.is_null(&domain));
+    assert_eq!(rt; read(&domain, &mut local, &cell), None);
+    assert_eq!(rt; put(&rt, &domain, &mut local, &cell, 7), None);
+    assert!(rt; !cell.is_null(&domain));
+    assert_eq!(rt; read(&domain, &mut local, &cell), Some(7));
+    assert_eq!(rt; put(&rt, &domain, &mut local, &cell, 8), Some(true));
+    assert_eq!(rt; read(&domain, &mut local, &cell), Some(8));
+    let Some(owner) = cell.into_shared(&domain, &mut local) else {
+        panic!(&rt; "the cell owned an item");
+    };
+    assert_eq!(rt; *owner.as_ref(), 8);
+    assert!(rt; owner.release(&domain, &mut local));
+    local.end(&domain);
+    end(&rt, domain);
+    Ok(())
+}
+
+#[test]
+fn what_was_loaded_is_read_until_its_guard_closes(rt: HostRuntime) -> Result<(), Fail> {
+    let domain = Domain::new(rt.alloc(), sized(2, 3))?;
+    let mut here = member(&rt, &domain);
+    let mut there = member(&rt, &domain);
+    let cell = cell_with(&rt, &domain, &mut here, 7);
+    let Ok(guard) = Guard::new(&domain, &mut here) else {
+        unreachable!();
+    };
+    let first = cell.load(&domain, &guard, &mut here);
+    assert_eq!(rt; put(&rt, &domain, &mut there, &cell, 8), Some(true));
+    for _i in 0..8u32 {
+        let _ = pass(&domain, &mut there, true);
+    }
+    let second = cell.load(&domain, &guard, &mut here);
+    assert_eq!(rt;
+        (first.as_ref().copied(), second.as_ref().copied()),
+        (Some(7), Some(8))
+    );
+    assert!(rt; first != second);
+    assert!(rt; second == cell.load(&domain, &guard, &mut here));
+    guard.close(&domain, &mut here);
+    assert!(rt; cell.retire(&domain, &mut here));
+    there.end(&domain);
+    here.end(&domain);
+    end(&rt, domain);
+    Ok(())
+}
+
+#[test]
+fn an_owner_is_released_under_the_guard_that_loaded_its_item(rt: HostRuntime) -> Result<(), Fail> {
+    let domain = Domain::new(rt.alloc(), sized(1, 1))?;
+    let mut local = member(&rt, &domain);
+    let cell = cell_with(&rt, &domain, &mut local, 5);
+    let Ok(guard) = Guard::new(&domain, &mut local) else {
+        unreachable!();
+    };
+    let loaded = cell.load(&domain, &guard, &mut local);
+    let Some(owner) = cell.swap(None, &domain, &mut local) else {
+        panic!(&rt; "the cell owned an item");
+    };
+    assert!(rt; owner.release(&domain, &mut local));
+    assert_eq!(rt; loaded.as_ref().copied(), Some(5));
+    assert!(rt; cell.load(&domain, &guard, &mut local).is_null());
+    guard.close(&domain, &mut local);
+    for _i in 0..4u32 {
+        assert_eq!(rt; refused(&rt, &domain, &mut local, 6), 6);
+        let _ = pass(&domain, &mut local, true);
+    }
+    let owner = placed(&rt, &domain, &mut local, 6);
+    assert!(rt; owner.release(&domain, &mut local));
+    assert!(rt; !cell.retire(&domain, &mut local));
+    local.end(&domain);
+    end(&rt, domain);
+    Ok(())
+}
+
+#[test]
+fn what_an_inner_guard_loaded_is_read_under_the_outer_one(rt: HostRuntime) -> Result<(), Fail> {
+    let domain = Domain::new(rt.alloc(), sized(1, 2))?;
+    let mut local = member(&rt, &domain);
+    let cell = cell_with(&rt, &domain, &mut local, 3);
+    let Ok(outer) = Guard::new(&domain, &mut local) else {
+        unreachable!();
+    };
+    let Ok(inner) = Guard::new(&domain, &mut local) else {
+        panic!(&rt; "two guards nest");
+    };
+    let loaded = cell.loaded(&domain, &inner, &mut local);
+    inner.close(&domain, &mut local);
+    assert!(rt; !loaded.is_null());
+    assert_eq!(rt; loaded.as_ref(&outer).copied(), Some(3));
+    outer.close(&domain, &mut local);
+    assert!(rt; cell.retire(&domain, &mut local));
+    local.end(&domain);
+    end(&rt, domain);
+    Ok(())
+}
+
+/// Whether no cell is free.
+fn no_cell(domain: &Domain<u64>, local: &mut Local<u64>) -> bool
+    requires home { home_of local.old ≡ place_of domain.now }
+    requires closed { (own_of local.old).nesting ≡ 0 }
+    ensures same { IsSame local.old local.new }
+    ensures closed { (own_of local.new).nesting ≡ 0 }
+{
+    match AtomicShared::null(domain) {
+        Some(cell) => {
+            cell.retire(domain, local);
+            false
+        }
+        None => true,
+    }
+}
+
+#[test]
+fn a_cell_that_was_retired_is_free_again(rt: HostRuntime) -> Result<(), Fail> {
+    let one = Sizes {
+        participants: 1,
+        slots: 2,
+        cells: 1,
+        jobs: 0,
+    };
+    let domain = Domain::new(rt.alloc(), one)?;
+    let mut local = member(&rt, &domain);
+    let first = cell_with(&rt, &domain, &mut local, 1);
+    assert!(rt; no_cell(&domain, &mut local));
+    let owner = placed(&rt, &domain, &mut local, 2);
+    let owner = match AtomicShared::from(owner, &domain, &mut local) {
+        Err(owner) => owner,
+        Ok(cell) => {
+            cell.retire(&domain, &mut local);
+            panic!(&rt; "no cell is free")
+        }
+    };
+    assert_eq!(rt; *owner.as_ref(), 2);
+    assert!(rt; owner.release(&domain, &mut local));
+    assert!(rt; first.retire(&domain, &mut local));
+    assert!(rt; !no_cell(&domain, &mut local));
+    local.end(&domain);
+    end(&rt, domain);
+    Ok(())
+}
+
+#[test]
+fn a_place_is_handed_back_while_a_cell_owns_an_item(rt: HostRuntime) -> Result<(), Fail> {
+    let domain = Domain::new(rt.alloc(), sized(1, 2))?;
+    let mut local = member(&rt, &domain);
+    let cell = cell_with(&rt, &domain, &mut local, 1);
+    local.end(&domain);
+    let Err(domain) = domain.close() else {
+        panic!(&rt; "a cell owns an item");
+    };
+    let mut local = member(&rt, &domain);
+    assert_eq!(rt; read(&domain, &mut local, &cell), Some(1));
+    assert!(rt; cell.retire(&domain, &mut local));
+    local.end(&domain);
+    end(&rt, domain);
+    Ok(())
+}
+
+/// Swaps an item into the cell, so many times, reads what it loads before that and after, and releases what comes out:
+/// how many items read under one guard were another after a swap. None if no participant was free.
+fn swapping(domain: &Domain<u64>, cell: &AtomicShared, salt: u64) -> Option<u32>
+    requires inside { cell_of cell.now < cells_of domain.now }
+{
+    let Ok(mut local) = domain.register() else {
+        return None;
+    };
+    let mut changed = 0;
+    for i in 0..1000u32 {
+        if !keeps(domain, &mut local, cell, salt.wrapping_add(u64::from(i))) {
+            changed += 1;
+        }
+        let _ = pass(domain, &mut local, true);
+    }
+    local.end(domain);
+    Some(changed)
+}
+
+/// Loads the cell, swaps an item into it, if a slot is free, and releases what comes out: whether what was loaded is the
+/// same after that.
+fn keeps(domain: &Domain<u64>, local: &mut Local<u64>, cell: &AtomicShared, item: u64) -> bool
+    requires home { home_of local.old ≡ place_of domain.now }
+    requires closed { (own_of local.old).nesting ≡ 0 }
+    requires inside { cell_of cell.now < cells_of domain.now }
+    ensures same { IsSame local.old local.new }
+    ensures closed { (own_of local.new).nesting ≡ 0 }
+{
+    let Ok(guard) = Guard::new(domain, local) else {
+        unreachable!();
+    };
+    let loaded = cell.loaded(domain, &guard, local);
+    let before = loaded.as_ref(&guard).copied();
+    replace(domain, local, cell, item);
+    let after = loaded.as_ref(&guard).copied();
+    guard.close(domain, local);
+    before == after
+}
+
+/// Puts an item into the cell, where a slot is free, and releases the one that it had.
+fn replace(domain: &Domain<u64>, local: &mut Local<u64>, cell: &AtomicShared, item: u64)
+    requires home { home_of local.old ≡ place_of domain.now }
+    requires inside { cell_of cell.now < cells_of domain.now }
+    ensures same { IsWithin local.old local.new × ((own_of local.new).nesting ≡ (own_of local.old).nesting) }
+{
+    if let Ok(owner) = Shared::new(item, domain, local) {
+        if let Some(old) = cell.swap(Some(owner), domain, local) {
+            old.release(domain, local);
+        }
+    }
+}
+
+#[test]
+fn four_threads_load_swap_and_release_one_cell(rt: HostRuntime) -> Result<(), Fail> {
+    let domain = Domain::new(rt.alloc(), sized(5, 64))?;
+    let mut local = member(&rt, &domain);
+    let cell = cell_with(&rt, &domain, &mut local, 1);
+    let ((a, b), (c, d)) = join(
+        &rt,
+        || join(
+            &rt,
+            || swapping(&domain, &cell, 0),
+            || swapping(&domain, &cell, 10_000),
+        ),
+        || join(
+            &rt,
+            || swapping(&domain, &cell, 20_000),
+            || swapping(&domain, &cell, 30_000),
+        ),
+    );
+    assert_eq!(rt; [a, b, c, d], [Some(0), Some(0), Some(0), Some(0)]);
+    assert!(rt; cell.retire(&domain, &mut local));
+    local.end(&domain);
+    end(&rt, domain);
+    Ok(())
+}
