@@ -241,11 +241,17 @@ fn a_place_is_handed_back_while_a_cell_owns_an_item(rt: HostRuntime) -> Result<(
     Ok(())
 }
 
+/// A cell and its place, which threads share.
+struct Scene<'a> {
+    domain: &'a Domain<u64>,
+    cell: &'a AtomicShared,
+    ghost inside: { cell_of cell.now < cells_of domain.now },
+}
+
 /// Swaps an item into the cell, so many times, reads what it loads before that and after, and releases what comes out:
 /// how many items read under one guard were another after a swap. None if no participant was free.
-fn swapping(domain: &Domain<u64>, cell: &AtomicShared, salt: u64) -> Option<u32>
-    requires inside { cell_of cell.now < cells_of domain.now }
-{
+fn swapping(scene: &Scene, salt: u64) -> Option<u32> {
+    let Scene { domain, cell } = *scene;
     let Ok(mut local) = domain.register() else {
         return None;
     };
@@ -298,17 +304,17 @@ fn four_threads_load_swap_and_release_one_cell(rt: HostRuntime) -> Result<(), Fa
     let domain = Domain::new(rt.alloc(), sized(5, 64))?;
     let mut local = member(&rt, &domain);
     let cell = cell_with(&rt, &domain, &mut local, 1);
+    let scene = Scene {
+        domain: &domain,
+        cell: &cell,
+    };
     let ((a, b), (c, d)) = join(
         &rt,
+        || join(&rt, || swapping(&scene, 0), || swapping(&scene, 10_000)),
         || join(
             &rt,
-            || swapping(&domain, &cell, 0),
-            || swapping(&domain, &cell, 10_000),
-        ),
-        || join(
-            &rt,
-            || swapping(&domain, &cell, 20_000),
-            || swapping(&domain, &cell, 30_000),
+            || swapping(&scene, 20_000),
+            || swapping(&scene, 30_000),
         ),
     );
     assert_eq!(rt; [a, b, c, d], [Some(0), Some(0), Some(0), Some(0)]);

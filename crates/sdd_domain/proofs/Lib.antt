@@ -10,6 +10,7 @@ pub mod Firsts
 pub mod Seats
 pub mod Registers
 pub mod Learns
+pub mod Keeps
 pub mod Leased
 pub mod Leasing
 pub mod Rows

@@ -200,6 +200,14 @@ module _ {S : Type 0} (IsIn : Content → S → Type 0) where
   end_release_then t m n m' = (l : Lease) (ls : List Lease) (o : Owner) (os : List Owner) (tail : List (ℕ × S)) → CanEnd m l ls o os tail → (2 < n) × (length m.0.waits < m.0.sizes.slots) × (m' ≡ (ended_release n l ls os m.0, tail))
 
 module _ {S : Type 0} (IsIn : Content → S → Type 0) where
+  -- the participant's home of an item that it releases or clones is out as the last lease, and in front of what is out with the seat, with all parts of the lease
+  abbrev pub CanKeep : Me S Acting → Lease → List Lease → List (ℕ × S) → Type 0
+  CanKeep m l ls tail = (m.0.leases ≡ ls ++ l ∷ []) × (m.0.releasing ≡ suc l.item) × ((u : S) × IsIn (part l.round l.count) u × (m.1 ≡ (own_home m.0 l.slot, u) ∷ tail))
+
+  -- the home is back, and the owners in hand stay
+  abbrev pub keep_then : Step S → Me S Acting → ℕ → Me S Acting → Type 0
+  keep_then t m n m' = (l : Lease) (ls : List Lease) (tail : List (ℕ × S)) → CanKeep m l ls tail → m' ≡ (record m.0 { leases = ls; releasing = 0 }, tail)
+
   -- a cell with the word given is swapped; another one is loaded
   abbrev pub exchange_then : Step S → Me S Acting → ℕ → Me S Acting → Type 0
   exchange_then t m w m' = (w ≡ t.first → (new : Option Owner) (os : List Owner) (tail : List (ℕ × S)) → Brings IsIn m new os t.second tail → GetsBack IsIn m os w tail m') × (w ≢ t.first → HasLoaded IsIn m w m')

@@ -9,7 +9,7 @@ ghost use Rattle.sdd_steps.specs.State.{Has};
 ghost use Rattle.sdd_domain.specs.Fitting.{FitsSlot, FitsCell};
 ghost use Rattle.sdd_domain.specs.Contents.{IsIn};
 ghost use Rattle.sdd_domain.specs.Layout.{claim_word, all_words, IsSized};
-ghost use Rattle.sdd_domain.specs.Plays.{Scans, load_then, HasLoaded, CanClose, ending, end_all_then, Brings, GetsBack, swap_then, cloning, clone_then, releasing_one, release_then, HasBegun, begin_then, CanEnd, ended_release, end_release_then, exchange_then};
+ghost use Rattle.sdd_domain.specs.Plays.{Scans, load_then, HasLoaded, CanClose, ending, end_all_then, Brings, GetsBack, swap_then, cloning, clone_then, releasing_one, release_then, HasBegun, begin_then, CanEnd, ended_release, end_release_then, CanKeep, keep_then, exchange_then};
 ghost use Rattle.sdd_domain.specs.declared.board.Home.{Home};
 
 use crate::board::{Acting, Home, Place, Words};
@@ -56,6 +56,12 @@ struct OnBegin;
 
 impl<T> Play<Home<T>, Acting> for OnBegin {
     ghost then = { begin_then IsIn };
+}
+
+struct OnKeep;
+
+impl<T> Play<Home<T>, Acting> for OnKeep {
+    ghost then = { keep_then IsIn };
 }
 
 struct OnEndRelease;
@@ -161,6 +167,17 @@ pub(crate) fn begin_release<T>(words: &Words<T>, place: &mut Place<T>)
     ensures begun { (o : Owner) (os : List Owner) → place.old.me.0.hand ≡ o ∷ os → HasBegun IsIn place.old.me o place.new.me }
 {
     let _ = words.load::<OnBegin>(place, 0);
+}
+
+/// Gives the home back that `begin_release` took out, which is in front of what is out with the seat, with all parts of
+/// its lease. The owners in hand stay.
+pub(crate) fn keep_home<T>(words: &Words<T>, place: &mut Place<T>)
+    requires table { (place.old.table_id ≡ words.now.table_id) × (0 < words.now.table_id.words) }
+    requires out { (place.old.me.0.kind ≡ 1) × ((l : Lease) × (ls : List Lease) × (tail : List (ℕ × Home T)) × CanKeep IsIn place.old.me l ls tail) }
+    ensures seat { (place.new.table_id ≡ place.old.table_id) × (place.new.id ≡ place.old.id) }
+    ensures kept { (l : Lease) (ls : List Lease) (tail : List (ℕ × Home T)) → CanKeep IsIn place.old.me l ls tail → place.new.me ≡ (record place.old.me.0 { leases = ls; releasing = 0 }, tail) }
+{
+    let _ = words.load::<OnKeep>(place, 0);
 }
 
 /// Releases the owner that is first in hand, of the item that is leased in `slot`, for `participants` and `cells` of

@@ -138,8 +138,8 @@ impl<T> Domain<T> {
     }
 
     /// Registers a participant that nobody acts for: each is tried once, from 0 on. Full where each was taken when it
-    /// was tried, and Memory where there was none for what it will retire, eight bytes a slot. What was left where the
-    /// participant ended before is its own from now on.
+    /// was tried, and Memory where there was none to note what it will retire and lease, 48 bytes a slot. What was left
+    /// where the participant ended before is its own from now on.
     pub fn register(&self) -> Result<Local<T>, RegisterRefused>
         ensures home { IfOk result (λ l. home_of l ≡ place_of self.now) }
         ensures number { IfOk result (λ l. number_of l < participants_of self.now) }
