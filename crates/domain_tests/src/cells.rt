@@ -242,6 +242,7 @@ fn a_place_is_handed_back_while_a_cell_owns_an_item(rt: HostRuntime) -> Result<(
 }
 
 /// A cell and its place, which threads share.
+#[derive(Drop)]
 struct Scene<'a> {
     domain: &'a Domain<u64>,
     cell: &'a AtomicShared,
