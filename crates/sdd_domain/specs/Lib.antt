@@ -14,3 +14,4 @@ pub mod Cells
 pub mod Tokens
 pub mod Pointers
 pub mod Laws
+pub mod formers

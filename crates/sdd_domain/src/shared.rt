@@ -10,7 +10,7 @@ use crate::domain::Domain;
 use crate::local::Local;
 use crate::owners::{part_with, release, take_in};
 use crate::placing::place_item;
-use atomic_table::Badge;
+use calm::Calm;
 use parted::One;
 
 /// One of the owners of an item, which stays, as it is, while it has owners. It must be spent by `release`. Whoever
@@ -18,8 +18,8 @@ use parted::One;
 pub struct Shared<T> {
     pub(crate) slot: usize,
     pub(crate) part: One<Stored<T>>,
-    pub(crate) seat: Badge<Acting>,
-    ghost owns: { seat.views ≡ holding (record { item = item_in seat.views; slot = slot; round = part.part.life.id }) ∷ [] },
+    pub(crate) seat: Calm<Acting>,
+    ghost owns: { seat.badge.views ≡ holding (record { item = item_in seat.badge.views; slot = slot; round = part.part.life.id }) ∷ [] },
     ghost there: { IsSome part.part.seen.value },
     ghost low: { slot + 1 < 2 ^ 31 },
 }
@@ -40,7 +40,7 @@ impl<T> Shared<T> {
         let Local { place, next, .. } = local;
         let (slot, part) = place_item(domain.words(), place, &domain.sizes, *next, item)?;
         *next = slot + 1;
-        let seat = part_with(domain.words(), place);
+        let seat = Calm::new(part_with(domain.words(), place));
         Ok(Shared { slot, part, seat })
     }
 
@@ -73,7 +73,7 @@ impl<T> Shared<T> {
             rows,
             ..
         } = local;
-        take_in(domain.words(), place, seat);
+        take_in(domain.words(), place, seat.into_badge());
         let left = release(
             domain.words(),
             place,
