@@ -10,6 +10,8 @@ mod guard;
 #[cfg(test)]
 mod items;
 #[cfg(test)]
+mod nested;
+#[cfg(test)]
 mod refusals;
 #[cfg(test)]
 mod threads;

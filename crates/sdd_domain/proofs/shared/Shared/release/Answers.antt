@@ -53,7 +53,7 @@ module _ {T : Type 0} (l : Local T) (s : Shared T) (m1 : Me (Home T) Acting) (ta
           (ap (λ ks. has_all is_blank (own_spare d l.spare ∷ own_bag d ∷ ks) l.place.me.1) (same_homes d ls d.leases (same_slots ls is)) ∙ l.has_spare.2)
 
 pub invariant_of-local : goal.invariant_of-local
-invariant_of-local g c = let l = c.args.local.now in let d = l.place.me.0 in let s = c.args.self in let m1 = c.take_in.new.place.me in let m2 = c.release-left.new.place.me in let taken = (λ o e. c.take_in.ensures.taken o (ap (λ (b : Badge Acting). b.views) c.into_badge.ensures ∙ e)) in let r = c.release-left.ensures.released in let rows = c.release-left.new.rows in
+invariant_of-local g c = let l = c.args.local.now in let d = l.place.me.0 in let s = c.args.self in let m1 = c.take_in.new.place.me in let m2 = c.release-left.new.place.me in let taken = (λ (o : Owner) (e : s.seat.badge.views ≡ holding o ∷ []). c.take_in.ensures.taken o (ap (λ (b : Badge Acting). b.views) c.into_badge.ensures ∙ e)) in let r = c.release-left.ensures.released in let rows = c.release-left.new.rows in
     let all = kept l s m1 taken c.release-left.result m2 r.0 r.1 r.2 c.if-left-gt0.true in let table = c.release-left.ensures.seat.0 ∙ c.take_in.ensures.seat.0 in record {
       acts = (
         ap (λ (z : Me _ Acting). z.0.kind) all ∙ l.acts.0,
@@ -81,7 +81,7 @@ invariant_of-local g c = let l = c.args.local.now in let d = l.place.me.0 in let
     }
 
 pub invariant_of-local-2 : goal.invariant_of-local-2
-invariant_of-local-2 g c = let l = c.args.local.now in let d = l.place.me.0 in let s = c.args.self in let m1 = c.take_in.new.place.me in let m2 = c.release-left.new.place.me in let taken = (λ o e. c.take_in.ensures.taken o (ap (λ (b : Badge Acting). b.views) c.into_badge.ensures ∙ e)) in let r = c.release-left.ensures.released in let rows = c.release-left.new.rows in
+invariant_of-local-2 g c = let l = c.args.local.now in let d = l.place.me.0 in let s = c.args.self in let m1 = c.take_in.new.place.me in let m2 = c.release-left.new.place.me in let taken = (λ (o : Owner) (e : s.seat.badge.views ≡ holding o ∷ []). c.take_in.ensures.taken o (ap (λ (b : Badge Acting). b.views) c.into_badge.ensures ∙ e)) in let r = c.release-left.ensures.released in let rows = c.release-left.new.rows in
     let none : c.release-left.result ≡ 0 = (let more = c.if-left-gt0.false in omega arith) in let w = retired l s m1 taken c.release-left.result m2 r.0 r.1 r.2 none in let bags = c.retire.new.self in let all = w.3 in let table = c.release-left.ensures.seat.0 ∙ c.take_in.ensures.seat.0 in record {
       acts = (
         ap (λ (z : Me _ Acting). z.0.kind) all ∙ l.acts.0,
