@@ -1,8 +1,9 @@
 //! The fifteen places of an array.
 
-ghost use Rattle.std.specs.Prelude.{◌≡◌, ◌+◌, ◌<◌, ◌≤◌, ◌++◌, ◌∷◌, [], length, take, drop, IsTrue, IsSome, Some, None, MatchOption, IfOk, IfErr, option_copied, slice_index_or};
+ghost use Rattle.std.specs.Prelude.{◌≡◌, ◌+◌, ◌<◌, ◌≤◌, ◌++◌, ◌∷◌, [], length, take, drop, IsTrue, IsSome, Some, IfOk, IfErr, option_copied, slice_index_or};
 ghost use Rattle.leaf_array.specs.declared.place.Place.TheVariants.{Empty};
 ghost use Rattle.leaf_array.specs.Cells.{rank_in, first_above, last_below, newest, lesser, entered};
+ghost use Rattle.leaf_array.specs.Lookups.{LendsPair};
 ghost use Rattle.leaf_array.specs.Places.{live_pair, live_pairs, dead_pairs, labels_above, top, has_room, pushed, tombstones, renewed, paired, died, front_vacated, repacked, pair_at_slot, stands, live_below, least, no_places, no_half, IsPacked};
 
 use crate::place::{Place, precedes};
@@ -41,21 +42,6 @@ impl<K: Ord, V> Slots<K, V> {
     ghost use Rattle.std.specs.Option.{is_some};
     ghost use Rattle.std.specs.Prelude.{true, false};
 
-    #[inline(always)]
-    pub(crate) fn new() -> Self
-        ensures { result ≡ no_places }
-    {
-        Slots { all: Link::new() }
-    }
-
-    /// The pair of the live place `at`.
-    #[inline(always)]
-    pub(crate) fn pair(&self, at: usize) -> Option<(&K, &V)>
-        ensures { MatchOption result (live_pair (slice_index_or self.now at Empty) ≡ None) (λ e. live_pair (slice_index_or self.now at Empty) ≡ Some (e.0.now, e.1.now)) }
-    {
-        self.all.pair(at)
-    }
-
     /// The first live place whose key isn't less, and its pair.
     ///
     /// The eighth place says in which half it is: at most nine comparisons.
@@ -66,7 +52,7 @@ impl<K: Ord, V> Slots<K, V> {
         ensures cost { steps.new.count ≤ steps.old.count + 9 }
         ensures raised { steps.old.count ≤ steps.new.count }
         ensures place { result.0 ≡ live_below K.cmp key.now self.now }
-        ensures pair { MatchOption result.1 (least K.cmp key.now self.now ≡ None) (λ e. least K.cmp key.now self.now ≡ Some (e.0.now, e.1.now)) }
+        ensures pair { LendsPair result.1 (least K.cmp key.now self.now) }
     {
         let upper = &self.all.rest.rest.rest.rest.rest.rest.rest;
         if precedes(&upper.head, key, steps) {
@@ -92,6 +78,24 @@ impl<K: Ord, V> Slots<K, V> {
             },
             None => Err(at),
         }
+    }
+}
+
+// No order of keys here: each bound on the keys makes the proof of each of these calls longer.
+impl<K, V> Slots<K, V> {
+    #[inline(always)]
+    pub(crate) fn new() -> Self
+        ensures { result ≡ no_places }
+    {
+        Slots { all: Link::new() }
+    }
+
+    /// The pair of the live place `at`.
+    #[inline(always)]
+    pub(crate) fn pair(&self, at: usize) -> Option<(&K, &V)>
+        ensures { LendsPair result (live_pair (slice_index_or self.now at Empty)) }
+    {
+        self.all.pair(at)
     }
 
     #[inline(always)]
@@ -146,7 +150,7 @@ impl<K: Ord, V> Slots<K, V> {
 
     #[inline(always)]
     pub(crate) fn in_slot(&self, slot: u8) -> Option<(&K, &V)>
-        ensures { MatchOption result (pair_at_slot slot self.now ≡ None) (λ e. pair_at_slot slot self.now ≡ Some (e.0.now, e.1.now)) }
+        ensures { LendsPair result (pair_at_slot slot self.now) }
     {
         self.all.in_slot(slot)
     }
