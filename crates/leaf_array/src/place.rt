@@ -5,7 +5,7 @@ ghost use Rattle.leaf_array.specs.declared.place.Place.{Place};
 ghost use Rattle.leaf_array.specs.declared.place.Place.TheVariants.{Empty};
 ghost use Rattle.leaf_array.specs.Cells.{slot_of};
 ghost use Rattle.leaf_array.specs.Lookups.{LendsPair, LendsPairOr};
-ghost use Rattle.leaf_array.specs.Places.{top, widened, live_below, is_empty, live_pair, died, renewed, paired, front_vacated, repacked, pair_at_slot};
+ghost use Rattle.leaf_array.specs.Places.{top, widened, live_below, is_empty, live_pair, paired, repacked, pair_at_slot};
 
 use crate::steps::Steps;
 use std::cmp::Ordering;
@@ -134,39 +134,6 @@ pub(crate) fn pair_in_slot<K, V>(place: &Place<K, V>, slot: u8) -> Option<(&K, &
     }
 }
 
-/// Gives a live place another slot and pair, and what it was, dead.
-#[inline(always)]
-pub(crate) fn renew<K, V>(place: &mut Place<K, V>, slot: u8, key: K, value: V) -> Place<K, V>
-    requires { IsSome (live_pair place.old) }
-    ensures old { (rest : List (Place K V)) → result ≡ died (place.old ∷ rest) }
-    ensures new { (rest : List (Place K V)) → place.new ∷ rest ≡ renewed slot key value (place.old ∷ rest) }
-{
-    match mem::replace(place, Place::Empty) {
-        Place::Live {
-            slot: old,
-            gap,
-            key: old_key,
-            value: old_value,
-        } => {
-            fill(
-                place,
-                Place::Live {
-                    slot,
-                    gap,
-                    key,
-                    value,
-                },
-            );
-            Place::Dead {
-                slot: old,
-                key: old_key,
-                value: old_value,
-            }
-        },
-        _ => unreachable!(),
-    }
-}
-
 /// Writes another pair into a live place, and gives the one that was there.
 #[inline(always)]
 pub(crate) fn overwrite<K, V>(place: &mut Place<K, V>, key: K, value: V) -> (K, V)
@@ -204,23 +171,5 @@ pub(crate) fn renumber<K: Drop, V: Drop>(place: &mut Place<K, V>, bitmap: u8) ->
             true
         },
         Place::Empty => false,
-    }
-}
-
-/// Takes the pair of a live place out, which is empty then.
-#[inline(always)]
-pub(crate) fn vacate<K, V>(place: &mut Place<K, V>) -> (K, V)
-    requires { IsSome (live_pair place.old) }
-    ensures pair { Some result ≡ live_pair place.old }
-    ensures places { (rest : List (Place K V)) → place.new ∷ rest ≡ front_vacated (place.old ∷ rest) }
-{
-    match mem::replace(place, Place::Empty) {
-        Place::Live {
-            slot: _,
-            gap: _,
-            key,
-            value,
-        } => (key, value),
-        _ => unreachable!(),
     }
 }

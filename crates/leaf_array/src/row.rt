@@ -26,7 +26,7 @@ pub(crate) use labels::Labels;
 pub(crate) use lend::Lend;
 pub(crate) use ranks::{Ranks, Top};
 pub(crate) use renumber::Renumber;
-pub(crate) use replace::{Overwrite, Put, Renew, Vacate};
+pub(crate) use replace::{Overwrite, Put};
 pub(crate) use search::Search;
 
 /// A row of empty places.

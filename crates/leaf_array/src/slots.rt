@@ -8,8 +8,8 @@ ghost use Rattle.leaf_array.specs.Places.{live_pair, live_pairs, dead_pairs, lab
 
 use crate::place::{Place, precedes};
 use crate::row::{
-    Blank, Bury, Enter, Exchange, Labels, Last, Lend, Link, Overwrite, Put, Ranks, Renew, Renumber,
-    Search, Top, Vacate,
+    Blank, Bury, Enter, Exchange, Labels, Last, Lend, Link, Overwrite, Put, Ranks, Renumber,
+    Search, Top,
 };
 use crate::steps::Steps;
 use std::cmp::Ordering;
@@ -184,12 +184,34 @@ impl<K, V> Slots<K, V> {
 
     #[inline(always)]
     pub(crate) fn renew(&mut self, at: usize, slot: u8, key: K, value: V) -> Place<K, V>
-        requires { IsSome (live_pair (slice_index_or self.old at Empty)) }
+        requires count { length self.old ≡ 15 }
+        requires live { IsSome (live_pair (slice_index_or self.old at Empty)) }
         ensures count { length self.new ≡ 15 }
         ensures old { result ≡ died (drop at self.old) }
         ensures places { self.new ≡ take at self.old ++ renewed slot key value (drop at self.old) }
     {
-        self.all.renew(at, slot, key, value)
+        match self.put(at, Place::Empty) {
+            Place::Live {
+                slot: old,
+                gap,
+                key: old_key,
+                value: old_value,
+            } => {
+                let renewed = Place::Live {
+                    slot,
+                    gap,
+                    key,
+                    value,
+                };
+                self.fill(at, renewed);
+                Place::Dead {
+                    slot: old,
+                    key: old_key,
+                    value: old_value,
+                }
+            },
+            _ => unreachable!(),
+        }
     }
 
     #[inline(always)]
@@ -204,12 +226,21 @@ impl<K, V> Slots<K, V> {
 
     #[inline(always)]
     pub(crate) fn vacate(&mut self, at: usize) -> (K, V)
-        requires { IsSome (live_pair (slice_index_or self.old at Empty)) }
+        requires count { length self.old ≡ 15 }
+        requires live { IsSome (live_pair (slice_index_or self.old at Empty)) }
         ensures count { length self.new ≡ 15 }
         ensures pair { Some result ≡ live_pair (slice_index_or self.old at Empty) }
         ensures places { self.new ≡ take at self.old ++ front_vacated (drop at self.old) }
     {
-        self.all.vacate(at)
+        match self.put(at, Place::Empty) {
+            Place::Live {
+                slot: _,
+                gap: _,
+                key,
+                value,
+            } => (key, value),
+            _ => unreachable!(),
+        }
     }
 
     /// Puts a place where the one at `at` is, and gives that one.
@@ -220,6 +251,19 @@ impl<K, V> Slots<K, V> {
         ensures places { self.new ≡ take at self.old ++ place ∷ drop (at + 1) self.old }
     {
         self.all.put(at, place)
+    }
+
+    /// Puts a place where an empty one is.
+    fn fill(&mut self, at: usize, place: Place<K, V>)
+        requires within { at < 15 }
+        requires empty { slice_index_or self.old at Empty ≡ Empty }
+        ensures count { length self.new ≡ 15 }
+        ensures places { self.new ≡ take at self.old ++ place ∷ drop (at + 1) self.old }
+    {
+        match self.put(at, place) {
+            Place::Empty => {},
+            _ => unreachable!(),
+        }
     }
 
     /// Moves the places from `at` on to the front of other ones.
@@ -235,10 +279,7 @@ impl<K, V> Slots<K, V> {
         let mut from = at;
         while from < 15 {
             let place = self.put(from, Place::Empty);
-            match upper.put(from - at, place) {
-                Place::Empty => {},
-                _ => unreachable!(),
-            }
+            upper.fill(from - at, place);
             from += 1;
         }
         upper

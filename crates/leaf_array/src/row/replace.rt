@@ -3,9 +3,9 @@
 ghost use Rattle.std.specs.Prelude.{◌≡◌, ◌+◌, ◌<◌, ◌++◌, ◌∷◌, [], length, take, drop, IsSome, Some, slice_index_or, List};
 ghost use Rattle.leaf_array.specs.declared.place.Place.{Place};
 ghost use Rattle.leaf_array.specs.declared.place.Place.TheVariants.{Empty};
-ghost use Rattle.leaf_array.specs.Places.{live_pair, renewed, paired, died, front_vacated};
+ghost use Rattle.leaf_array.specs.Places.{live_pair, paired};
 
-use crate::place::{Place, overwrite, renew, vacate};
+use crate::place::{Place, overwrite};
 use crate::row::{Last, Link};
 use std::mem;
 
@@ -20,17 +20,6 @@ pub(crate) trait Put<K, V> {
         ensures new { places self.new ≡ take at (places self.old) ++ place ∷ drop (at + 1) (places self.old) };
 }
 
-/// A row in which a live place gets another slot and pair.
-pub(crate) trait Renew<K, V> {
-    ghost places: { Self → List (Place K V) };
-
-    /// Gives the live place `at` another slot and pair, and what it was, dead.
-    fn renew(&mut self, at: usize, slot: u8, key: K, value: V) -> Place<K, V>
-        requires { IsSome (live_pair (slice_index_or (places self.old) at Empty)) }
-        ensures old { result ≡ died (drop at (places self.old)) }
-        ensures new { places self.new ≡ take at (places self.old) ++ renewed slot key value (drop at (places self.old)) };
-}
-
 /// A row in which a live place gets another pair.
 pub(crate) trait Overwrite<K, V> {
     ghost places: { Self → List (Place K V) };
@@ -40,17 +29,6 @@ pub(crate) trait Overwrite<K, V> {
         requires { IsSome (live_pair (slice_index_or (places self.old) at Empty)) }
         ensures pair { Some result ≡ live_pair (slice_index_or (places self.old) at Empty) }
         ensures new { places self.new ≡ take at (places self.old) ++ paired key value (drop at (places self.old)) };
-}
-
-/// A row of which a pair is taken out.
-pub(crate) trait Vacate<K, V> {
-    ghost places: { Self → List (Place K V) };
-
-    /// Takes the pair of the live place `at` out.
-    fn vacate(&mut self, at: usize) -> (K, V)
-        requires { IsSome (live_pair (slice_index_or (places self.old) at Empty)) }
-        ensures pair { Some result ≡ live_pair (slice_index_or (places self.old) at Empty) }
-        ensures places { places self.new ≡ take at (places self.old) ++ front_vacated (drop at (places self.old)) };
 }
 
 impl<K, V> Put<K, V> for Last<K, V> {
@@ -79,38 +57,6 @@ impl<K, V, R: Put<K, V>> Put<K, V> for Link<K, V, R> {
             return self.rest.put(at - 1, place);
         }
         mem::replace(&mut self.head, place)
-    }
-}
-
-impl<K, V> Renew<K, V> for Last<K, V> {
-    ghost places = { λ l. l.head ∷ [] };
-
-    #[inline(always)]
-    fn renew(&mut self, at: usize, slot: u8, key: K, value: V) -> Place<K, V>
-        requires { IsSome (live_pair (slice_index_or (self.old.head ∷ []) at Empty)) }
-        ensures old { result ≡ died (drop at (self.old.head ∷ [])) }
-        ensures new { self.new.head ∷ [] ≡ take at (self.old.head ∷ []) ++ renewed slot key value (drop at (self.old.head ∷ [])) }
-    {
-        if at > 0 {
-            unreachable!();
-        }
-        renew(&mut self.head, slot, key, value)
-    }
-}
-
-impl<K, V, R: Renew<K, V>> Renew<K, V> for Link<K, V, R> {
-    ghost places = { λ l. l.head ∷ R.places l.rest };
-
-    #[inline(always)]
-    fn renew(&mut self, at: usize, slot: u8, key: K, value: V) -> Place<K, V>
-        requires { IsSome (live_pair (slice_index_or (self.old.head ∷ R.places self.old.rest) at Empty)) }
-        ensures old { result ≡ died (drop at (self.old.head ∷ R.places self.old.rest)) }
-        ensures new { self.new.head ∷ R.places self.new.rest ≡ take at (self.old.head ∷ R.places self.old.rest) ++ renewed slot key value (drop at (self.old.head ∷ R.places self.old.rest)) }
-    {
-        if at > 0 {
-            return self.rest.renew(at - 1, slot, key, value);
-        }
-        renew(&mut self.head, slot, key, value)
     }
 }
 
@@ -143,37 +89,5 @@ impl<K, V, R: Overwrite<K, V>> Overwrite<K, V> for Link<K, V, R> {
             return self.rest.overwrite(at - 1, key, value);
         }
         overwrite(&mut self.head, key, value)
-    }
-}
-
-impl<K, V> Vacate<K, V> for Last<K, V> {
-    ghost places = { λ l. l.head ∷ [] };
-
-    #[inline(always)]
-    fn vacate(&mut self, at: usize) -> (K, V)
-        requires { IsSome (live_pair (slice_index_or (self.old.head ∷ []) at Empty)) }
-        ensures pair { Some result ≡ live_pair (slice_index_or (self.old.head ∷ []) at Empty) }
-        ensures places { self.new.head ∷ [] ≡ take at (self.old.head ∷ []) ++ front_vacated (drop at (self.old.head ∷ [])) }
-    {
-        if at > 0 {
-            unreachable!();
-        }
-        vacate(&mut self.head)
-    }
-}
-
-impl<K, V, R: Vacate<K, V>> Vacate<K, V> for Link<K, V, R> {
-    ghost places = { λ l. l.head ∷ R.places l.rest };
-
-    #[inline(always)]
-    fn vacate(&mut self, at: usize) -> (K, V)
-        requires { IsSome (live_pair (slice_index_or (self.old.head ∷ R.places self.old.rest) at Empty)) }
-        ensures pair { Some result ≡ live_pair (slice_index_or (self.old.head ∷ R.places self.old.rest) at Empty) }
-        ensures places { self.new.head ∷ R.places self.new.rest ≡ take at (self.old.head ∷ R.places self.old.rest) ++ front_vacated (drop at (self.old.head ∷ R.places self.old.rest)) }
-    {
-        if at > 0 {
-            return self.rest.vacate(at - 1);
-        }
-        vacate(&mut self.head)
     }
 }

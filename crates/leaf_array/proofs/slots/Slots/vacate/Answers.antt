@@ -1,16 +1,6 @@
-use Rattle.std.proofs.Common.{IsSome, slice_index_or, refl, sym, subst}
-use Rattle.leaf_array.specs.declared.place.Place.TheVariants.{Empty}
-use Rattle.leaf_array.specs.Places.{live_pair}
+use Rattle.std.proofs.Common.{arith}
+use Rattle.leaf_array.proofs.PlaceLemmas.{live_within}
 use Rattle.leaf_array.proofs.slots.Slots.vacate.Goals as goal
 
-pub vacate-requires : goal.vacate-requires
-vacate-requires g c = subst (λ ps. IsSome (live_pair (slice_index_or ps c.args.at Empty))) (sym c.self.view_is) c.requires
-
-pub returns-clause-count : goal.returns-clause-count
-returns-clause-count g c = refl
-
-pub returns-clause-pair : goal.returns-clause-pair
-returns-clause-pair g c = rw (← c.self.view_is) c.vacate.ensures.pair
-
-pub returns-clause-places : goal.returns-clause-places
-returns-clause-places g c = rw (← c.self.view_is) c.vacate.ensures.places
+pub put-requires : goal.put-requires
+put-requires g c = omega (arith, c.requires.count, live_within c.args.self.now c.args.at c.requires.live)

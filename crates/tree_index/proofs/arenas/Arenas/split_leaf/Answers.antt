@@ -1,4 +1,4 @@
-use Rattle.std.proofs.Common.{◌≡◌, ℕ, cond, Option, Some, sym, ap, ◌∙◌, subst, refl}
+use Rattle.std.proofs.Common.{◌≡◌, ℕ, cond, Option, Some, sym, ap, ◌∙◌, subst}
 use Rattle.std.specs.Ordering.{is_lt}
 use Rattle.slab.specs.Slab.{get}
 use Rattle.tree_index.specs.declared.leaf.Leaf.{Leaf}

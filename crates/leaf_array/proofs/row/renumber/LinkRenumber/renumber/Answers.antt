@@ -1,4 +1,4 @@
-use Rattle.std.proofs.Common.{◌≡◌, ◌+◌, ◌∷◌, Bool, true, false, not, sym, ap, ◌∙◌}
+use Rattle.std.proofs.Common.{◌≡◌, ◌+◌, ◌∷◌, true, sym, ap, ◌∙◌}
 use Rattle.leaf_array.specs.Places.{is_empty}
 use Rattle.leaf_array.proofs.EditLemmas.{emptied_behind, emptied_packed, not_false}
 use Rattle.leaf_array.proofs.row.renumber.LinkRenumber.renumber.Goals as goal
