@@ -1,9 +1,10 @@
 -- The words of std's maps and those of the edits of lists agree where keys ascend.
-use Rattle.std.proofs.Common.{arith, ◌≡◌, suc, ◌++◌, ◌∷◌, ◌||◌, [], List, true, false, cond, not, length, refl, sym, ap, ◌∙◌, Some}
+use Rattle.std.proofs.Common.{arith, ◌≡◌, suc, ◌++◌, ◌∷◌, ◌||◌, [], List, true, false, cond, not, length, refl, sym, ap, ◌∙◌, Option, Some, None}
 use Rattle.std.specs.declared.cmp.Ordering.{Ordering}
 use Rattle.std.specs.declared.cmp.Ordering.TheVariants.{Less, Equal, Greater}
 use Rattle.std.specs.Ordering.{is_lt, is_gt, is_eq, match_ordering}
-use Rattle.std.specs.Option.{is_some, option_map}
+use Rattle.std.specs.Borrow.{Bor}
+use Rattle.std.specs.Option.{is_some, option_copied, option_map}
 use Rattle.std.specs.Cmp.{IsTotalOrder}
 use Rattle.std.specs.List.{AllByRecursion}
 use Rattle.std.specs.List.Sorted.{IsStrictlySortedBy}
@@ -116,3 +117,8 @@ module _ {K V : Type 0} (cmp : K → K → Ordering) (key : K) where
   pub value_lookup : (es : List (K × V)) → value_of_key cmp key es ≡ option_map (λ e. e.1) (lookup_entry (is_at (cmp key)) es)
   value_lookup [] = refl
   value_lookup (e ∷ es) = elim (is_at (cmp key) e.0) as (λ b. cond b (Some e.1) (lookup (is_at (cmp key)) es) ≡ option_map (λ e. e.1) (cond b (Some e) (lookup_entry (is_at (cmp key)) es))) [ true ↦ refl | false ↦ value_lookup es ]
+
+-- a copy is there where what was copied is
+pub copied_some : {V : Type 0} (o : Option (Bor V)) → is_some (option_copied o) ≡ is_some o
+copied_some None = refl
+copied_some (Some v) = refl

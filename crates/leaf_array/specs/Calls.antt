@@ -1,6 +1,6 @@
 -- What an array calls its callers' closures with, and in which order.
 use Rattle.std.specs.Prelude.{◌≡◌, ◌⊎◌, ℕ, ◌==◌, Bool, nat_lt, List, [], ◌∷◌, ◌++◌, map, Option, Some, Result, Ok, Err}
-use Rattle.std.specs.List.{filter, range_with_len, FoldsTo}
+use Rattle.std.specs.List.{filter, range_with_len, enumerate_from, FoldsTo}
 use Rattle.std.specs.Fn.{Called, Takes, Mut}
 use denote.Ref.{Bor}
 use Rattle.leaf_array.specs.Cells.{Cells, slot_of, rank_in, in_slot}
@@ -29,6 +29,10 @@ module _ {F K V : Type 0} where
   abbrev pub TakesDealt : Mut F (Bor K × (Bor V × (ℕ × (ℕ × Unit {0})))) (Unit {0}) → ℕ → F → ℕ × (K × V) → Type 0
   TakesDealt g boundary f e = (key : Bor K) (value : Bor V) → key.now ≡ e.1.0 → value.now ≡ e.1.1 → Takes g f (key, (value, (boundary, (e.0, tt))))
 
+  -- the pairs may be dealt in their order, with a boundary
+  abbrev pub MayDeal : Mut F (Bor K × (Bor V × (ℕ × (ℕ × Unit {0})))) (Unit {0}) → ℕ → F → List (K × V) → Type 0
+  MayDeal g boundary f pairs = TakesEach (TakesDealt g boundary) (IsDealt g boundary) f (enumerate_from 0 pairs)
+
   -- a call at what was made of the pairs before, and the next key and its value
   pub record IsFolded {B : Type 0} (g : Mut F (B × (Bor K × (Bor V × Unit {0}))) B) (p : F × B) (e : K × V) (q : F × B) : Type 0 where
     pub key : Bor K
@@ -55,3 +59,12 @@ module _ {F K V : Type 0} where
 abbrev pub TriesEach : {F A E : Type 0} → (F → A → Result (Unit {0}) E → F → Type 0) → F → List A → Result (Unit {0}) E → F → Type 0
 TriesEach step f [] r last = (r ≡ Ok tt) × (f ≡ last)
 TriesEach {F} {A} {E} step f (x ∷ xs) r last = ((next : F) × step f x (Ok tt) next × TriesEach step next xs r last) ⊎ ((e : E) × (r ≡ Err e) × step f x (Err e) last)
+
+module _ {F K V E : Type 0} (g : Mut F (ℕ × (ℕ × (Option (Bor K × Bor V) × (Bool × Unit {0})))) (Result (Unit {0}) E)) (a : Cells K V) where
+  -- the slots whose bits are set may be shown in the order of their bitmap places
+  abbrev pub MayShow : F → Type 0
+  MayShow f = TakesEach (TakesShown g a) (λ f slot f'. IsShown g a f slot (Ok tt) f') f (slots_in_order a.used)
+
+  -- they are shown in that order, up to the first error, and r is what this answers
+  abbrev pub IsShownAll : F → Result (Unit {0}) E → Type 0
+  IsShownAll f r = (last : F) × TriesEach (IsShown g a) f (slots_in_order a.used) r last

@@ -2,6 +2,7 @@ pub mod Pairs
 pub mod Edits
 pub mod Values
 pub mod Cells
+pub mod Lookups
 pub mod Places
 pub mod Results
 pub mod Words

@@ -1,11 +1,13 @@
 //! An array of at most fifteen pairs, by rising keys.
 
-ghost use Rattle.std.specs.Prelude.{◌≡◌, ◌↔◌, ◌+◌, ◌==◌, ◌<◌, ◌≤◌, ◌||◌, ◌&&◌, ◌-◌, not, take, drop, IsTrue, IsSome, [], length, slice_get, true, false, Some, None, MatchOption, IfSome, IfOk, IfErr, option_copied};
+ghost use Rattle.std.specs.Prelude.{◌≡◌, ◌↔◌, ◌+◌, ◌==◌, ◌<◌, ◌≤◌, ◌||◌, ◌&&◌, ◌-◌, not, take, drop, IsTrue, IsSome, [], length, slice_get, true, false, Some, None, IfSome, IfOk, IfErr, option_copied};
 ghost use Rattle.std.specs.BTreeMap.{is_at};
 ghost use Rattle.std.specs.Map.{lookup_entry, keys_of};
 ghost use Rattle.std.specs.List.Sorted.{IsStrictlySortedBy};
+ghost use Rattle.std.specs.Option.{option_map};
 ghost use Rattle.std.specs.Fn.{FnOnceReturnsAt, FnOnceTakesAt};
 ghost use Rattle.leaf_array.specs.Cells.{no_cells, in_slot, IsUsed, is_nil, entered, standing, rank_in, slot_of, first_above, last_below, newest, lesser, array_has_key, array_inserted, appended, array_replaced, array_overwritten, array_removed, removed_at, filled_array};
+ghost use Rattle.leaf_array.specs.Lookups.{LendsPair, LendsValue};
 ghost use Rattle.leaf_array.specs.Words.{word};
 ghost use Rattle.leaf_array.specs.Results.{IsSuccess, IsDuplicate, IsFull, given_back, is_repeated, is_refused, is_removal};
 ghost use Rattle.leaf_array.specs.declared.result.RemoveResult.TheVariants.{Retired, Fail, Frozen};
@@ -162,7 +164,7 @@ impl<K: Ord, V> Array<K, V> {
 
     /// The pair in a slot.
     pub(crate) fn entry(&self, slot: u8) -> Option<(&K, &V)>
-        ensures pair { MatchOption result (in_slot slot self.now ≡ None) (λ e. in_slot slot self.now ≡ Some (e.0.now, e.1.now)) }
+        ensures pair { LendsPair result (in_slot slot self.now) }
         ensures used { IsUsed slot self.now → IsSome result }
     {
         let _ = &self.len;
@@ -241,7 +243,9 @@ impl<K: Ord, V> Array<K, V> {
     fn found(&self, key: &K, steps: &mut Steps) -> Option<(usize, (&K, &V))>
         ensures cost { steps.new.count ≤ steps.old.count + 10 }
         ensures raised { steps.old.count ≤ steps.new.count }
-        ensures pair { MatchOption result (lookup_entry (is_at (K.cmp key.now)) self.now.pairs ≡ None) (λ f. (f.0 ≡ lesser K.cmp key.now self.now.pairs) × (f.0 < length self.now.pairs) × (lookup_entry (is_at (K.cmp key.now)) self.now.pairs ≡ Some (f.1.0.now, f.1.1.now))) }
+        ensures place { IfSome result (λ f. f.0 ≡ lesser K.cmp key.now self.now.pairs) }
+        ensures within { IfSome result (λ f. f.0 < length self.now.pairs) }
+        ensures pair { LendsPair (option_map (λ f. f.1) result) (lookup_entry (is_at (K.cmp key.now)) self.now.pairs) }
     {
         let (at, pair) = self.slots.lower(key, steps);
         match pair {
@@ -345,7 +349,7 @@ impl<K: Ord, V> Array<K, V> {
     /// The pair with this key.
     #[inline(always)]
     pub fn search_entry(&self, key: &K) -> Option<(&K, &V)>
-        ensures { MatchOption result (lookup_entry (is_at (K.cmp key.now)) self.now.pairs ≡ None) (λ e. lookup_entry (is_at (K.cmp key.now)) self.now.pairs ≡ Some (e.0.now, e.1.now)) }
+        ensures { LendsPair result (lookup_entry (is_at (K.cmp key.now)) self.now.pairs) }
     {
         let mut steps = Steps::new();
         self.search_entry_counted(key, &mut steps)
@@ -354,7 +358,7 @@ impl<K: Ord, V> Array<K, V> {
     /// The pair with this key, by at most fifteen comparisons, which are counted.
     #[inline(always)]
     pub fn search_entry_counted(&self, key: &K, steps: &mut Steps) -> Option<(&K, &V)>
-        ensures pair { MatchOption result (lookup_entry (is_at (K.cmp key.now)) self.now.pairs ≡ None) (λ e. lookup_entry (is_at (K.cmp key.now)) self.now.pairs ≡ Some (e.0.now, e.1.now)) }
+        ensures pair { LendsPair result (lookup_entry (is_at (K.cmp key.now)) self.now.pairs) }
         ensures cost { steps.new.count ≤ steps.old.count + 15 }
         ensures raised { steps.old.count ≤ steps.new.count }
     {
@@ -367,7 +371,7 @@ impl<K: Ord, V> Array<K, V> {
     /// The value of the pair with this key.
     #[inline(always)]
     pub fn search_val(&self, key: &K) -> Option<&V>
-        ensures { MatchOption result (lookup_entry (is_at (K.cmp key.now)) self.now.pairs ≡ None) (λ v. (k : K) × (lookup_entry (is_at (K.cmp key.now)) self.now.pairs ≡ Some (k, v.now))) }
+        ensures { LendsValue result (lookup_entry (is_at (K.cmp key.now)) self.now.pairs) }
     {
         let mut steps = Steps::new();
         match self.found(key, &mut steps) {
@@ -380,7 +384,7 @@ impl<K: Ord, V> Array<K, V> {
     #[inline(always)]
     pub fn lower_bound(&self, key: &K) -> (usize, Option<(&K, &V)>)
         ensures place { result.0 ≡ lesser K.cmp key.now self.now.pairs }
-        ensures pair { MatchOption result.1 (slice_get self.now.pairs (lesser K.cmp key.now self.now.pairs) ≡ None) (λ e. slice_get self.now.pairs (lesser K.cmp key.now self.now.pairs) ≡ Some (e.0.now, e.1.now)) }
+        ensures pair { LendsPair result.1 (slice_get self.now.pairs (lesser K.cmp key.now self.now.pairs)) }
     {
         let mut steps = Steps::new();
         self.lower_bound_counted(key, &mut steps)
@@ -390,7 +394,7 @@ impl<K: Ord, V> Array<K, V> {
     #[inline(always)]
     pub fn lower_bound_counted(&self, key: &K, steps: &mut Steps) -> (usize, Option<(&K, &V)>)
         ensures place { result.0 ≡ lesser K.cmp key.now self.now.pairs }
-        ensures pair { MatchOption result.1 (slice_get self.now.pairs (lesser K.cmp key.now self.now.pairs) ≡ None) (λ e. slice_get self.now.pairs (lesser K.cmp key.now self.now.pairs) ≡ Some (e.0.now, e.1.now)) }
+        ensures pair { LendsPair result.1 (slice_get self.now.pairs (lesser K.cmp key.now self.now.pairs)) }
         ensures cost { steps.new.count ≤ steps.old.count + 15 }
         ensures raised { steps.old.count ≤ steps.new.count }
     {
@@ -400,7 +404,7 @@ impl<K: Ord, V> Array<K, V> {
     /// The pair that comes behind `at` others.
     #[inline(always)]
     pub fn pair(&self, at: usize) -> Option<(&K, &V)>
-        ensures { MatchOption result (slice_get self.now.pairs at ≡ None) (λ e. slice_get self.now.pairs at ≡ Some (e.0.now, e.1.now)) }
+        ensures { LendsPair result (slice_get self.now.pairs at) }
     {
         let _ = &self.len;
         self.slots.pair(at)

@@ -25,7 +25,7 @@ pub fn upserting_is_found<K: Ord, V>()
 
 /// An entry put into an ascending list that doesn't have its key, in the words of std's maps, is an insert.
 pub fn entering_is_inserting<K: Ord, V>()
-    ensures { (key : K) (value : V) (pairs : List (K × V)) → IsAscending K.cmp pairs → has_key K.cmp key pairs ≡ false → insert_entry K.cmp pairs key value ≡ inserted K.cmp key value pairs }
+    ensures { (key : K) (val : V) (ps : List (K × V)) → IsAscending K.cmp ps → has_key K.cmp key ps ≡ false → insert_entry K.cmp ps key val ≡ inserted K.cmp key val ps }
 {}
 
 /// An entry put into an ascending list in the place of any with its key is an upsert.

@@ -1,10 +1,11 @@
 //! A place of an array.
 
-ghost use Rattle.std.specs.Prelude.{◌≡◌, ◌+◌, ◌<◌, ◌≤◌, ◌∷◌, ◌↔◌, [], List, Some, None, IsSome, IsTrue, MatchOption, not};
+ghost use Rattle.std.specs.Prelude.{◌≡◌, ◌+◌, ◌<◌, ◌≤◌, ◌∷◌, ◌↔◌, [], List, Some, IsSome, IsTrue, not};
 ghost use Rattle.leaf_array.specs.declared.place.Place.{Place};
 ghost use Rattle.leaf_array.specs.declared.place.Place.TheVariants.{Empty};
 ghost use Rattle.leaf_array.specs.Cells.{slot_of};
-ghost use Rattle.leaf_array.specs.Places.{top, widened, live_below, is_empty, live_pair, died, renewed, paired, front_vacated, repacked, pair_at_slot};
+ghost use Rattle.leaf_array.specs.Lookups.{LendsPair, LendsPairOr};
+ghost use Rattle.leaf_array.specs.Places.{top, widened, live_below, is_empty, live_pair, paired, repacked, pair_at_slot};
 
 use crate::steps::Steps;
 use std::cmp::Ordering;
@@ -104,7 +105,7 @@ pub(crate) fn precedes<K: Ord, V>(place: &Place<K, V>, key: &K, steps: &mut Step
 /// The pair of a live place.
 #[inline(always)]
 pub(crate) fn pair_of<K, V>(place: &Place<K, V>) -> Option<(&K, &V)>
-    ensures { MatchOption result (live_pair place.now ≡ None) (λ e. live_pair place.now ≡ Some (e.0.now, e.1.now)) }
+    ensures { LendsPair result (live_pair place.now) }
 {
     match place {
         Place::Live { key, value, .. } => Some((key, value)),
@@ -115,7 +116,7 @@ pub(crate) fn pair_of<K, V>(place: &Place<K, V>) -> Option<(&K, &V)>
 /// The pair of a place that has this slot, dead or alive.
 #[inline(always)]
 pub(crate) fn pair_in_slot<K, V>(place: &Place<K, V>, slot: u8) -> Option<(&K, &V)>
-    ensures { (rest : List (Place K V)) → MatchOption result (pair_at_slot slot (place.now ∷ rest) ≡ pair_at_slot slot rest) (λ e. pair_at_slot slot (place.now ∷ rest) ≡ Some (e.0.now, e.1.now)) }
+    ensures { (rest : List (Place K V)) → LendsPairOr (pair_at_slot slot rest) result (pair_at_slot slot (place.now ∷ rest)) }
 {
     match place {
         Place::Live {
@@ -130,39 +131,6 @@ pub(crate) fn pair_in_slot<K, V>(place: &Place<K, V>, slot: u8) -> Option<(&K, &
             value,
         } if *own == slot => Some((key, value)),
         _ => None,
-    }
-}
-
-/// Gives a live place another slot and pair, and what it was, dead.
-#[inline(always)]
-pub(crate) fn renew<K, V>(place: &mut Place<K, V>, slot: u8, key: K, value: V) -> Place<K, V>
-    requires { IsSome (live_pair place.old) }
-    ensures old { (rest : List (Place K V)) → result ≡ died (place.old ∷ rest) }
-    ensures new { (rest : List (Place K V)) → place.new ∷ rest ≡ renewed slot key value (place.old ∷ rest) }
-{
-    match mem::replace(place, Place::Empty) {
-        Place::Live {
-            slot: old,
-            gap,
-            key: old_key,
-            value: old_value,
-        } => {
-            fill(
-                place,
-                Place::Live {
-                    slot,
-                    gap,
-                    key,
-                    value,
-                },
-            );
-            Place::Dead {
-                slot: old,
-                key: old_key,
-                value: old_value,
-            }
-        },
-        _ => unreachable!(),
     }
 }
 
@@ -203,23 +171,5 @@ pub(crate) fn renumber<K: Drop, V: Drop>(place: &mut Place<K, V>, bitmap: u8) ->
             true
         },
         Place::Empty => false,
-    }
-}
-
-/// Takes the pair of a live place out, which is empty then.
-#[inline(always)]
-pub(crate) fn vacate<K, V>(place: &mut Place<K, V>) -> (K, V)
-    requires { IsSome (live_pair place.old) }
-    ensures pair { Some result ≡ live_pair place.old }
-    ensures places { (rest : List (Place K V)) → place.new ∷ rest ≡ front_vacated (place.old ∷ rest) }
-{
-    match mem::replace(place, Place::Empty) {
-        Place::Live {
-            slot: _,
-            gap: _,
-            key,
-            value,
-        } => (key, value),
-        _ => unreachable!(),
     }
 }

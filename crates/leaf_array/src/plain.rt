@@ -24,12 +24,7 @@ pub fn find_value<'a, K: Ord, V>(pairs: &'a [(K, V)], key: &K) -> Option<&'a V>
 pub fn contains_key<K: Ord, V>(pairs: &[(K, V)], key: &K) -> bool
     ensures { result ≡ has_key K.cmp key.now pairs.now }
 {
-    for pair in pairs {
-        if key.cmp(&pair.0).is_eq() {
-            return true;
-        }
-    }
-    false
+    find_value(pairs, key).is_some()
 }
 
 /// A copy of the list with the pair at its place, instead of any pair with its key.

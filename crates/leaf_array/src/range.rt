@@ -2,7 +2,7 @@
 
 ghost use Rattle.std.specs.Prelude.{◌≡◌, ◌++◌, ◌||◌, ◌&&◌, not, true, false, MatchOption, slice_get};
 ghost use Rattle.std.specs.List.{filter};
-ghost use Rattle.std.specs.Range.Bound.{bound_map};
+ghost use Rattle.leaf_array.specs.Lookups.{deref_bound};
 ghost use Rattle.std.specs.BTreeMap.Range.{range_contains, is_from_start, is_past_end};
 ghost use Rattle.leaf_array.specs.Cells.{is_nil, labels_left, taken_out};
 
@@ -16,9 +16,9 @@ impl<K: Ord, V> Array<K, V> {
     /// Each keeps its slot, as [`Array::key`] and [`Array::val`] show, and the greatest of them is the one that
     /// was removed last. An array that isn't frozen and so loses its last pair retires.
     pub fn remove_range(&mut self, lo: Bound<&K>, hi: Bound<&K>)
-        ensures pairs { self.new.pairs ≡ filter (λ p. not (range_contains K.cmp (bound_map (λ k. k.now) lo.entry) (bound_map (λ k. k.now) hi.entry) p.0)) self.old.pairs }
-        ensures labels { self.new.labels ≡ labels_left (λ k. range_contains K.cmp (bound_map (λ k. k.now) lo.entry) (bound_map (λ k. k.now) hi.entry) k) self.old.pairs self.old.labels }
-        ensures tombstones { self.new.tombstones ≡ taken_out (λ k. range_contains K.cmp (bound_map (λ k. k.now) lo.entry) (bound_map (λ k. k.now) hi.entry) k) self.old.pairs self.old.labels ++ self.old.tombstones }
+        ensures pairs { self.new.pairs ≡ filter (λ p. not (range_contains K.cmp (deref_bound lo.entry) (deref_bound hi.entry) p.0)) self.old.pairs }
+        ensures labels { self.new.labels ≡ labels_left (λ k. range_contains K.cmp (deref_bound lo.entry) (deref_bound hi.entry) k) self.old.pairs self.old.labels }
+        ensures tombstones { self.new.tombstones ≡ taken_out (λ k. range_contains K.cmp (deref_bound lo.entry) (deref_bound hi.entry) k) self.old.pairs self.old.labels ++ self.old.tombstones }
         ensures used { self.new.used ≡ self.old.used }
         ensures frozen { self.new.frozen ≡ self.old.frozen }
         ensures retired { self.new.retired ≡ (self.old.retired || is_nil self.new.pairs && not (is_nil self.old.pairs) && not self.old.frozen) }
@@ -35,7 +35,7 @@ impl<K: Ord, V> Array<K, V> {
 
     /// Whether the key of the pair at `at` lies within two bounds.
     fn is_within(&self, at: usize, lo: &Bound<&K>, hi: &Bound<&K>) -> bool
-        ensures { MatchOption (slice_get self.now.pairs at) (result ≡ false) (λ p. result ≡ range_contains K.cmp (bound_map (λ k. k.now) lo.now) (bound_map (λ k. k.now) hi.now) p.0) }
+        ensures { MatchOption (slice_get self.now.pairs at) (result ≡ false) (λ p. result ≡ range_contains K.cmp (deref_bound lo.now) (deref_bound hi.now) p.0) }
     {
         match self.pair(at) {
             Some((key, _)) => is_from(lo, key) && !is_past(hi, key),
@@ -46,7 +46,7 @@ impl<K: Ord, V> Array<K, V> {
 
 /// Whether a key is inside a lower bound.
 fn is_from<K: Ord>(lo: &Bound<&K>, key: &K) -> bool
-    ensures { result ≡ is_from_start K.cmp (bound_map (λ k. k.now) lo.now) key.now }
+    ensures { result ≡ is_from_start K.cmp (deref_bound lo.now) key.now }
 {
     match lo {
         Bound::Included(low) => compare(*low, key).is_le(),
@@ -57,7 +57,7 @@ fn is_from<K: Ord>(lo: &Bound<&K>, key: &K) -> bool
 
 /// Whether a key is outside an upper bound.
 fn is_past<K: Ord>(hi: &Bound<&K>, key: &K) -> bool
-    ensures { result ≡ is_past_end K.cmp (bound_map (λ k. k.now) hi.now) key.now }
+    ensures { result ≡ is_past_end K.cmp (deref_bound hi.now) key.now }
 {
     match hi {
         Bound::Included(high) => compare(*high, key).is_lt(),

@@ -1,8 +1,9 @@
 //! Rows of places: a method is written once, for the last place and for a place with the rest of the row behind it.
 //!
 //! A place for each pair of type parameters stands in a field of its own: an array of them would ask each caller that it fits in memory.
-//! A row of fifteen compiles to straight code for all of them. A trait has one or two methods, since the
-//! proof of a call goes through all methods of its trait for each of the fifteen.
+//! A row of fifteen compiles to straight code for all of them. A trait has one or two methods and says for itself
+//! which places a row has, since the proof of a call goes through all methods of its trait, and of the traits that
+//! this one stands on, for each of the fifteen.
 
 ghost use Rattle.std.specs.Prelude.{◌≡◌, List};
 
@@ -25,24 +26,19 @@ pub(crate) use labels::Labels;
 pub(crate) use lend::Lend;
 pub(crate) use ranks::{Ranks, Top};
 pub(crate) use renumber::Renumber;
-pub(crate) use replace::{Overwrite, Put, Renew, Vacate};
+pub(crate) use replace::{Overwrite, Put};
 pub(crate) use search::Search;
 
-/// A row, as contracts see it.
-pub(crate) trait Places<K, V> {
+/// A row of empty places.
+pub(crate) trait Blank<K, V> {
     ghost use Rattle.leaf_array.specs.declared.place.Place.{Place};
 
     ghost places: { Self → List (Place K V) };
-}
-
-/// A row of empty places.
-pub(crate) trait Blank<K, V>: Places<K, V> {
-    ghost use Rattle.leaf_array.specs.declared.place.Place.{Place};
 
     ghost blank: { List (Place K V) };
 
     fn new() -> Self
-        ensures { Self.places result ≡ blank };
+        ensures { places result ≡ blank };
 }
 
 /// The last place of a row.
@@ -58,21 +54,11 @@ pub(crate) struct Link<K, V, R> {
     pub(crate) rest: R,
 }
 
-impl<K, V> Places<K, V> for Last<K, V> {
-    ghost use Rattle.std.specs.Prelude.{◌∷◌, []};
-
-    ghost places = { λ l. l.head ∷ [] };
-}
-
-impl<K, V, R: Places<K, V>> Places<K, V> for Link<K, V, R> {
-    ghost use Rattle.std.specs.Prelude.{◌∷◌};
-
-    ghost places = { λ l. l.head ∷ R.places l.rest };
-}
-
 impl<K, V> Blank<K, V> for Last<K, V> {
     ghost use Rattle.std.specs.Prelude.{◌∷◌, []};
     ghost use Rattle.leaf_array.specs.declared.place.Place.TheVariants.{Empty};
+
+    ghost places = { λ l. l.head ∷ [] };
 
     ghost blank = { Empty ∷ [] };
 
@@ -85,6 +71,8 @@ impl<K, V> Blank<K, V> for Last<K, V> {
 impl<K, V, R: Blank<K, V>> Blank<K, V> for Link<K, V, R> {
     ghost use Rattle.std.specs.Prelude.{◌∷◌};
     ghost use Rattle.leaf_array.specs.declared.place.Place.TheVariants.{Empty};
+
+    ghost places = { λ l. l.head ∷ R.places l.rest };
 
     ghost blank = { Empty ∷ R.blank };
 

@@ -1,14 +1,15 @@
 //! The fifteen places of an array.
 
-ghost use Rattle.std.specs.Prelude.{◌≡◌, ◌+◌, ◌<◌, ◌≤◌, ◌++◌, ◌∷◌, [], length, take, drop, IsTrue, IsSome, Some, None, MatchOption, IfOk, IfErr, option_copied, slice_index_or};
+ghost use Rattle.std.specs.Prelude.{◌≡◌, ◌+◌, ◌<◌, ◌≤◌, ◌++◌, ◌∷◌, [], length, take, drop, IsTrue, IsSome, Some, IfOk, IfErr, option_copied, slice_index_or};
 ghost use Rattle.leaf_array.specs.declared.place.Place.TheVariants.{Empty};
 ghost use Rattle.leaf_array.specs.Cells.{rank_in, first_above, last_below, newest, lesser, entered};
+ghost use Rattle.leaf_array.specs.Lookups.{LendsPair};
 ghost use Rattle.leaf_array.specs.Places.{live_pair, live_pairs, dead_pairs, labels_above, top, has_room, pushed, tombstones, renewed, paired, died, front_vacated, repacked, pair_at_slot, stands, live_below, least, no_places, no_half, IsPacked};
 
 use crate::place::{Place, precedes};
 use crate::row::{
-    Blank, Bury, Enter, Exchange, Labels, Last, Lend, Link, Overwrite, Put, Ranks, Renew, Renumber,
-    Search, Top, Vacate,
+    Blank, Bury, Enter, Exchange, Labels, Last, Lend, Link, Overwrite, Put, Ranks, Renumber,
+    Search, Top,
 };
 use crate::steps::Steps;
 use std::cmp::Ordering;
@@ -41,21 +42,6 @@ impl<K: Ord, V> Slots<K, V> {
     ghost use Rattle.std.specs.Option.{is_some};
     ghost use Rattle.std.specs.Prelude.{true, false};
 
-    #[inline(always)]
-    pub(crate) fn new() -> Self
-        ensures { result ≡ no_places }
-    {
-        Slots { all: Link::new() }
-    }
-
-    /// The pair of the live place `at`.
-    #[inline(always)]
-    pub(crate) fn pair(&self, at: usize) -> Option<(&K, &V)>
-        ensures { MatchOption result (live_pair (slice_index_or self.now at Empty) ≡ None) (λ e. live_pair (slice_index_or self.now at Empty) ≡ Some (e.0.now, e.1.now)) }
-    {
-        self.all.pair(at)
-    }
-
     /// The first live place whose key isn't less, and its pair.
     ///
     /// The eighth place says in which half it is: at most nine comparisons.
@@ -66,7 +52,7 @@ impl<K: Ord, V> Slots<K, V> {
         ensures cost { steps.new.count ≤ steps.old.count + 9 }
         ensures raised { steps.old.count ≤ steps.new.count }
         ensures place { result.0 ≡ live_below K.cmp key.now self.now }
-        ensures pair { MatchOption result.1 (least K.cmp key.now self.now ≡ None) (λ e. least K.cmp key.now self.now ≡ Some (e.0.now, e.1.now)) }
+        ensures pair { LendsPair result.1 (least K.cmp key.now self.now) }
     {
         let upper = &self.all.rest.rest.rest.rest.rest.rest.rest;
         if precedes(&upper.head, key, steps) {
@@ -92,6 +78,24 @@ impl<K: Ord, V> Slots<K, V> {
             },
             None => Err(at),
         }
+    }
+}
+
+// No order of keys here: each bound on the keys makes the proof of each of these calls longer.
+impl<K, V> Slots<K, V> {
+    #[inline(always)]
+    pub(crate) fn new() -> Self
+        ensures { result ≡ no_places }
+    {
+        Slots { all: Link::new() }
+    }
+
+    /// The pair of the live place `at`.
+    #[inline(always)]
+    pub(crate) fn pair(&self, at: usize) -> Option<(&K, &V)>
+        ensures { LendsPair result (live_pair (slice_index_or self.now at Empty)) }
+    {
+        self.all.pair(at)
     }
 
     #[inline(always)]
@@ -146,7 +150,7 @@ impl<K: Ord, V> Slots<K, V> {
 
     #[inline(always)]
     pub(crate) fn in_slot(&self, slot: u8) -> Option<(&K, &V)>
-        ensures { MatchOption result (pair_at_slot slot self.now ≡ None) (λ e. pair_at_slot slot self.now ≡ Some (e.0.now, e.1.now)) }
+        ensures { LendsPair result (pair_at_slot slot self.now) }
     {
         self.all.in_slot(slot)
     }
@@ -180,12 +184,34 @@ impl<K: Ord, V> Slots<K, V> {
 
     #[inline(always)]
     pub(crate) fn renew(&mut self, at: usize, slot: u8, key: K, value: V) -> Place<K, V>
-        requires { IsSome (live_pair (slice_index_or self.old at Empty)) }
+        requires count { length self.old ≡ 15 }
+        requires live { IsSome (live_pair (slice_index_or self.old at Empty)) }
         ensures count { length self.new ≡ 15 }
         ensures old { result ≡ died (drop at self.old) }
         ensures places { self.new ≡ take at self.old ++ renewed slot key value (drop at self.old) }
     {
-        self.all.renew(at, slot, key, value)
+        match self.put(at, Place::Empty) {
+            Place::Live {
+                slot: old,
+                gap,
+                key: old_key,
+                value: old_value,
+            } => {
+                let renewed = Place::Live {
+                    slot,
+                    gap,
+                    key,
+                    value,
+                };
+                self.fill(at, renewed);
+                Place::Dead {
+                    slot: old,
+                    key: old_key,
+                    value: old_value,
+                }
+            },
+            _ => unreachable!(),
+        }
     }
 
     #[inline(always)]
@@ -200,12 +226,21 @@ impl<K: Ord, V> Slots<K, V> {
 
     #[inline(always)]
     pub(crate) fn vacate(&mut self, at: usize) -> (K, V)
-        requires { IsSome (live_pair (slice_index_or self.old at Empty)) }
+        requires count { length self.old ≡ 15 }
+        requires live { IsSome (live_pair (slice_index_or self.old at Empty)) }
         ensures count { length self.new ≡ 15 }
         ensures pair { Some result ≡ live_pair (slice_index_or self.old at Empty) }
         ensures places { self.new ≡ take at self.old ++ front_vacated (drop at self.old) }
     {
-        self.all.vacate(at)
+        match self.put(at, Place::Empty) {
+            Place::Live {
+                slot: _,
+                gap: _,
+                key,
+                value,
+            } => (key, value),
+            _ => unreachable!(),
+        }
     }
 
     /// Puts a place where the one at `at` is, and gives that one.
@@ -216,6 +251,19 @@ impl<K: Ord, V> Slots<K, V> {
         ensures places { self.new ≡ take at self.old ++ place ∷ drop (at + 1) self.old }
     {
         self.all.put(at, place)
+    }
+
+    /// Puts a place where an empty one is.
+    fn fill(&mut self, at: usize, place: Place<K, V>)
+        requires within { at < 15 }
+        requires empty { slice_index_or self.old at Empty ≡ Empty }
+        ensures count { length self.new ≡ 15 }
+        ensures places { self.new ≡ take at self.old ++ place ∷ drop (at + 1) self.old }
+    {
+        match self.put(at, place) {
+            Place::Empty => {},
+            _ => unreachable!(),
+        }
     }
 
     /// Moves the places from `at` on to the front of other ones.
@@ -231,10 +279,7 @@ impl<K: Ord, V> Slots<K, V> {
         let mut from = at;
         while from < 15 {
             let place = self.put(from, Place::Empty);
-            match upper.put(from - at, place) {
-                Place::Empty => {},
-                _ => unreachable!(),
-            }
+            upper.fill(from - at, place);
             from += 1;
         }
         upper

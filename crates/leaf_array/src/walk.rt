@@ -3,7 +3,7 @@
 ghost use Rattle.std.specs.Prelude.{◌≡◌, IsTrue, Bool, true, false, Ok};
 ghost use Rattle.std.specs.List.{FoldsTo, enumerate_from};
 ghost use Rattle.leaf_array.specs.Words.{boundary};
-ghost use Rattle.leaf_array.specs.Calls.{ranked_slots, slots_in_order, IsDealt, IsFolded, IsShown, TakesDealt, TakesEach, TakesFolded, TakesShown, TriesEach};
+ghost use Rattle.leaf_array.specs.Calls.{ranked_slots, IsDealt, IsFolded, IsShownAll, MayDeal, MayShow, TakesEach, TakesFolded};
 
 use crate::array::Array;
 use crate::place::slot_of;
@@ -21,7 +21,7 @@ impl<K: Ord, V> Array<K, V> {
     ) -> bool
         requires open { self.old.frozen ≡ false }
         requires asked { P.pre prepare (boundary self.old).0 (boundary self.old).1 (boundary self.old).2 }
-        requires dealt { P.post prepare (boundary self.old).0 (boundary self.old).1 (boundary self.old).2 true → TakesEach (TakesDealt F.FnMut (boundary self.old).0) (IsDealt F.FnMut (boundary self.old).0) dist (enumerate_from 0 self.old.pairs) }
+        requires dealt { P.post prepare (boundary self.old).0 (boundary self.old).1 (boundary self.old).2 true → MayDeal F.FnMut (boundary self.old).0 dist self.old.pairs }
         ensures frozen { self.new ≡ record self.old { frozen = true } }
         ensures prepared { P.post prepare (boundary self.old).0 (boundary self.old).1 (boundary self.old).2 result }
         ensures dealt { IsTrue result → (last : F) × FoldsTo (IsDealt F.FnMut (boundary self.old).0) dist (enumerate_from 0 self.old.pairs) last }
@@ -37,7 +37,7 @@ impl<K: Ord, V> Array<K, V> {
 
     /// Calls `dist` at each reachable key and value, with a boundary and the place of the pair.
     fn deal<F: FnMut(&K, &V, u8, u8)>(&self, boundary: u8, mut dist: F)
-        requires { TakesEach (TakesDealt F.FnMut boundary) (IsDealt F.FnMut boundary) dist (enumerate_from 0 self.now.pairs) }
+        requires { MayDeal F.FnMut boundary dist self.now.pairs }
         ensures { (last : F) × FoldsTo (IsDealt F.FnMut boundary) dist (enumerate_from 0 self.now.pairs) last }
     {
         let mut at = 0;
@@ -85,8 +85,8 @@ impl<K: Ord, V> Array<K, V> {
         F: FnMut(u8, u8, Option<(&K, &V)>, bool) -> Result<(), E>,
     >(&self, p: P, f: F) -> Result<(), E>
         requires asked { P.pre p self.now.frozen self.now.retired }
-        requires shown { P.post p self.now.frozen self.now.retired true → TakesEach (TakesShown F.FnMut self.now) (λ f slot g. IsShown F.FnMut self.now f slot (Ok tt) g) f (slots_in_order self.now.used) }
-        ensures { (wanted : Bool) × P.post p self.now.frozen self.now.retired wanted × (IsTrue wanted → (last : F) × TriesEach (IsShown F.FnMut self.now) f (slots_in_order self.now.used) result last) × (wanted ≡ false → result ≡ Ok tt) }
+        requires shown { P.post p self.now.frozen self.now.retired true → MayShow F.FnMut self.now f }
+        ensures { (wanted : Bool) × P.post p self.now.frozen self.now.retired wanted × (IsTrue wanted → IsShownAll F.FnMut self.now f result) × (wanted ≡ false → result ≡ Ok tt) }
     {
         if p(self.is_frozen(), self.is_retired()) {
             self.show(f)
@@ -100,8 +100,8 @@ impl<K: Ord, V> Array<K, V> {
         &self,
         mut f: F,
     ) -> Result<(), E>
-        requires { TakesEach (TakesShown F.FnMut self.now) (λ f slot g. IsShown F.FnMut self.now f slot (Ok tt) g) f (slots_in_order self.now.used) }
-        ensures { (last : F) × TriesEach (IsShown F.FnMut self.now) f (slots_in_order self.now.used) result last }
+        requires { MayShow F.FnMut self.now f }
+        ensures { IsShownAll F.FnMut self.now f result }
     {
         let mut place: u8 = 0;
         while place < self.used() {

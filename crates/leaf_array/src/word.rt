@@ -1,7 +1,8 @@
 //! The word of ranks by slots, and what is read off it.
 
-ghost use Rattle.std.specs.Prelude.{◌≡◌, ◌≤◌, ◌<◌, ◌+◌, ◌^◌, ◌&&◌, cond, nat_lt, false, Some, None, MatchOption, slice_get};
+ghost use Rattle.std.specs.Prelude.{◌≡◌, ◌≤◌, ◌<◌, ◌+◌, ◌^◌, ◌&&◌, cond, nat_lt, false, slice_get};
 ghost use Rattle.leaf_array.specs.Cells.{lesser, entered, slot_of};
+ghost use Rattle.leaf_array.specs.Lookups.{LendsValue};
 ghost use Rattle.leaf_array.specs.Words.{ranks_from, word, score, boundary};
 
 use crate::array::Array;
@@ -72,7 +73,7 @@ impl<K: Ord, V> Array<K, V> {
 
     /// The value of the least key that isn't less, and the word.
     pub fn min_greater_equal(&self, key: &K) -> (Option<&V>, usize)
-        ensures value { MatchOption result.0 (slice_get self.now.pairs (lesser K.cmp key.now self.now.pairs) ≡ None) (λ v. (k : K) × (slice_get self.now.pairs (lesser K.cmp key.now self.now.pairs) ≡ Some (k, v.now))) }
+        ensures value { LendsValue result.0 (slice_get self.now.pairs (lesser K.cmp key.now self.now.pairs)) }
         ensures word { result.1 ≡ word self.now }
     {
         let mut steps = Steps::new();
@@ -81,7 +82,7 @@ impl<K: Ord, V> Array<K, V> {
 
     /// The same, by at most fifteen comparisons, which are counted.
     pub fn min_greater_equal_counted(&self, key: &K, steps: &mut Steps) -> (Option<&V>, usize)
-        ensures value { MatchOption result.0 (slice_get self.now.pairs (lesser K.cmp key.now self.now.pairs) ≡ None) (λ v. (k : K) × (slice_get self.now.pairs (lesser K.cmp key.now self.now.pairs) ≡ Some (k, v.now))) }
+        ensures value { LendsValue result.0 (slice_get self.now.pairs (lesser K.cmp key.now self.now.pairs)) }
         ensures word { result.1 ≡ word self.now }
         ensures cost { steps.new.count ≤ steps.old.count + 15 }
         ensures raised { steps.old.count ≤ steps.new.count }

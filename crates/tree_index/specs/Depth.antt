@@ -1,5 +1,5 @@
 -- How far a tree is from a depth of more than 1.
-use Rattle.std.specs.Prelude.{◌≡◌, ℕ, zero, suc, ◌+◌, ◌*◌, ◌-◌, Bool, true, cond, ◌&&◌, List, [], ◌∷◌, Option, Some, None}
+use Rattle.std.specs.Prelude.{◌≡◌, ℕ, zero, suc, ◌<◌, ◌≤◌, ◌+◌, ◌*◌, ◌-◌, Bool, true, cond, ◌&&◌, List, [], ◌∷◌, Option, Some, None}
 use Rattle.std.specs.declared.cmp.Ordering.{Ordering}
 use Rattle.std.specs.declared.cmp.Ordering.TheVariants.{Less}
 use Rattle.std.specs.Ordering.{is_le}
@@ -42,3 +42,7 @@ headroom_for (suc (suc height)) room = 0
 -- 0 where the depth is more than 1; else one more than the number of pairs, each above all others, that the tree takes at least before it is
 abbrev pub ascending_headroom : {K V : Type 0} → (K → K → Ordering) → Arenas K V → ℕ
 ascending_headroom cmp a = headroom_for a.height (root_room cmp a)
+
+-- the tree takes as many pairs above all others as before, or more, while it took any and the next one has this key
+abbrev pub KeepsHeadroom : {K V : Type 0} → (K → K → Ordering) → K → Arenas K V → Arenas K V → Type 0
+KeepsHeadroom cmp key old new = IsAbove cmp key (pairs_of old) → 1 < ascending_headroom cmp old → ascending_headroom cmp old ≤ ascending_headroom cmp new

@@ -1,5 +1,5 @@
 -- The two ends of a cursor in the leaves of a tree.
-use Rattle.std.specs.Prelude.{ℕ}
+use Rattle.std.specs.Prelude.{ℕ, cond, slice_get, Option, None}
 use Rattle.std.specs.declared.cmp.Ordering.{Ordering}
 use Rattle.std.specs.declared.ops.Bound.{Bound}
 use Rattle.tree_index.specs.declared.arenas.Arenas.{Arenas}
@@ -9,7 +9,7 @@ use Rattle.tree_index.specs.declared.cursor.End.TheVariants.{Unopened, At, Done}
 use Rattle.tree_index.specs.declared.cursor.Ends.{Ends}
 use Rattle.tree_index.specs.Content.{pairs_of, IsSound}
 use Rattle.tree_index.specs.Walk.{position, IsPosition}
-use Rattle.tree_index.specs.Cursor.{Cursor}
+use Rattle.tree_index.specs.Cursor.{Cursor, forth, back, lies_before, kept_below}
 
 module _ {K V : Type 0} where
   -- an end that stands somewhere stands at a pair
@@ -27,6 +27,17 @@ module _ {K V : Type 0} where
     pub sound : IsSound cmp e.arenas.now
     pub forward : IsEnd e.arenas.now e.forward
     pub backward : IsEnd e.arenas.now e.backward
+
+  -- where the forward end goes, from a lower bound if it stands nowhere yet; and the backward one, from an upper bound
+  abbrev pub forth_of : (K → K → Ordering) → Bound K → Ends K V → End ℕ
+  forth_of cmp lower e = forth cmp lower (pairs_of e.arenas.now) (end_position e.arenas.now e.forward)
+
+  abbrev pub back_of : (K → K → Ordering) → Bound K → Ends K V → End ℕ
+  back_of cmp upper e = back cmp upper (pairs_of e.arenas.now) (end_position e.arenas.now e.backward)
+
+  -- the pair of a place, if that lies before a backward end, and the pair within an upper bound
+  abbrev pub given_pair : (K → K → Ordering) → Bound K → Arenas K V → Position K V → End (Position K V) → Option (K × V)
+  given_pair cmp upper a s backward = cond (lies_before (At (position a s)) (end_position a backward)) (kept_below cmp upper (slice_get (pairs_of a) (position a s))) None
 
   -- the cursor that two ends and two bounds make
   abbrev pub cursor_of : Ends K V → Bound K → Bound K → Cursor K V

@@ -53,6 +53,13 @@ module _ {K V : Type 0} where
   abbrev pub pairs_below : LeafCursor K V → ℕ
   pairs_below c = cond (c.rank == 0) (length c.pairs) (c.rank - 1)
 
+  -- the pair with the next greater key, and the one with the next lesser key
+  abbrev pub next_greater : (K → K → Ordering) → K → List (K × V) → Option (K × V)
+  next_greater cmp key pairs = slice_get pairs (before_start cmp (Excluded key) pairs)
+
+  abbrev pub next_lesser : (K → K → Ordering) → K → List (K × V) → Option (K × V)
+  next_lesser cmp key pairs = ranked (up_to_end cmp (Excluded key) pairs) pairs
+
   -- the pair of a cursor that may be there
   abbrev pub stood : Option (LeafPosition K V) → Option (K × V)
   stood None = None

@@ -1,5 +1,8 @@
 -- A leaf that leaves a tree, and what leaves it with that leaf.
-use Rattle.std.specs.Prelude.{◌≡◌, ◌≢◌, ◌≤◌, ◌<◌, ◌-◌, ℕ, zero, suc, List, [], ◌∷◌, ◌++◌, Some, None}
+use Rattle.std.specs.Prelude.{◌≡◌, ◌≢◌, ◌≤◌, ◌<◌, ◌-◌, ℕ, zero, suc, not, List, [], ◌∷◌, ◌++◌, Some, None}
+use Rattle.std.specs.List.{filter}
+use Rattle.std.specs.BTreeMap.Range.{range_contains}
+use Rattle.std.specs.declared.ops.Bound.{Bound}
 use Rattle.std.specs.declared.cmp.Ordering.{Ordering}
 use Rattle.slab.specs.Slab.{get}
 use Rattle.leaf_array.specs.Cells.{Cells, lesser}
@@ -55,3 +58,7 @@ module _ {K V : Type 0} where
     pub root : InnerNode K
     pub there : get a.nodes a.root ≡ Some root
     pub single : root.children.pairs ≡ []
+
+  -- the same pairs lie outside two bounds
+  abbrev pub AreSameOutside : (K → K → Ordering) → Bound K → Bound K → List (K × V) → List (K × V) → Type 0
+  AreSameOutside cmp lower upper old new = filter (λ p. not (range_contains cmp lower upper p.0)) new ≡ filter (λ p. not (range_contains cmp lower upper p.0)) old

@@ -1,6 +1,6 @@
 //! Leaves and nodes in their arenas, and the way down to a key.
 
-ghost use Rattle.std.specs.Prelude.{ℕ, ◌≡◌, ◌≢◌, ◌≤◌, ◌<◌, ◌+◌, ◌*◌, ◌-◌, ◌^◌, ◌⊎◌, ◌↔◌, IsTrue, IsSome, IfSome, Some, None, MatchOption, [], true, false, not, OnOk, OnErr, IfOk};
+ghost use Rattle.std.specs.Prelude.{ℕ, ◌≡◌, ◌≢◌, ◌≤◌, ◌<◌, ◌+◌, ◌*◌, ◌-◌, ◌^◌, IsSome, IfSome, Some, None, [], true, false, not, IfOk};
 ghost use Rattle.std.specs.BTreeMap.{is_at};
 ghost use Rattle.std.specs.Map.{lookup_entry};
 ghost use Rattle.tree_index.specs.Shape.{way};
@@ -9,6 +9,7 @@ ghost use Rattle.tree_index.specs.Content.{content_of, pairs_of, IsSound, LeafHa
 ghost use Rattle.leaf_array.specs.Edits.{removed, upserted};
 ghost use Rattle.tree_index.specs.Walk.{pairs_in_leaf};
 ghost use Rattle.std.specs.Fn.{FnOnceReturnsAt, FnOnceTakesAt};
+ghost use Rattle.leaf_array.specs.Lookups.{LendsPair};
 ghost use Rattle.leaf_array.specs.Pairs.{has_key};
 ghost use Rattle.leaf_array.specs.Values.{ClonesAreSame};
 ghost use Rattle.leaf_array.specs.Results.{IsSuccess, IsDuplicate, IsFull, given_back};
@@ -136,7 +137,7 @@ impl<K: Ord, V> Arenas<K, V> {
     #[inline(always)]
     pub(crate) fn search_entry(&self, key: &K) -> Option<(&K, &V)>
         requires { IsSound K.cmp self.now }
-        ensures { MatchOption result (lookup_entry (is_at (K.cmp key.now)) (pairs_of self.now) ≡ None) (λ e. lookup_entry (is_at (K.cmp key.now)) (pairs_of self.now) ≡ Some (e.0.now, e.1.now)) }
+        ensures { LendsPair result (lookup_entry (is_at (K.cmp key.now)) (pairs_of self.now)) }
     {
         let mut steps = Steps::new();
         self.search_entry_counted(key, &mut steps)
@@ -146,7 +147,7 @@ impl<K: Ord, V> Arenas<K, V> {
     #[inline(always)]
     pub(crate) fn search_entry_counted(&self, key: &K, steps: &mut Steps) -> Option<(&K, &V)>
         requires { IsSound K.cmp self.now }
-        ensures pair { MatchOption result (lookup_entry (is_at (K.cmp key.now)) (pairs_of self.now) ≡ None) (λ e. lookup_entry (is_at (K.cmp key.now)) (pairs_of self.now) ≡ Some (e.0.now, e.1.now)) }
+        ensures pair { LendsPair result (lookup_entry (is_at (K.cmp key.now)) (pairs_of self.now)) }
         ensures cost { steps.new.count ≤ steps.old.count + 15 * (self.now.height + 1) }
         ensures raised { steps.old.count ≤ steps.new.count }
     {

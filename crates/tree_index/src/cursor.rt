@@ -1,12 +1,12 @@
 //! A cursor: two ends that go along the pairs of a tree, one forward and one backward.
 
-ghost use Rattle.std.specs.Prelude.{◌≡◌, IfSome, Some, None, cond, nat_lt, slice_get};
+ghost use Rattle.std.specs.Prelude.{◌≡◌, IfSome, Some, None, nat_lt, slice_get};
 ghost use Rattle.std.specs.declared.ops.Bound.{Bound};
-ghost use Rattle.std.specs.Range.Bound.{bound_map};
+ghost use Rattle.leaf_array.specs.Lookups.{deref_bound};
 ghost use Rattle.tree_index.specs.Content.{pairs_of, IsSound};
-ghost use Rattle.tree_index.specs.Cursor.{forth, back, lies_before, pair_at, kept_below, kept_above, moved_forth, moved_back, next_of, next_back_of, shown_forth, shown_back, can_turn, turned, deref_pair};
+ghost use Rattle.tree_index.specs.Cursor.{lies_before, pair_at, kept_below, kept_above, moved_forth, moved_back, next_of, next_back_of, shown_back, can_turn, turned, deref_pair};
 ghost use Rattle.tree_index.specs.declared.cursor.End.TheVariants.{Unopened, At};
-ghost use Rattle.tree_index.specs.Ends.{IsEnd, IsReady, end_position, cursor_of};
+ghost use Rattle.tree_index.specs.Ends.{IsEnd, IsReady, end_position, cursor_of, forth_of, back_of, given_pair};
 ghost use Rattle.tree_index.specs.Walk.{position, IsPosition};
 
 use crate::arenas::Arenas;
@@ -55,8 +55,8 @@ impl<'t, K: Ord, V> Ends<'t, K, V> {
     ) -> Option<(&'t K, &'t V)>
         requires { IsReady K.cmp self.old }
         ensures ready { IsReady K.cmp self.new }
-        ensures moved { cursor_of self.new (bound_map (λ k. k.now) lower.entry) (bound_map (λ k. k.now) upper.entry) ≡ moved_forth K.cmp (cursor_of self.old (bound_map (λ k. k.now) lower.entry) (bound_map (λ k. k.now) upper.entry)) }
-        ensures answer { deref_pair result ≡ next_of K.cmp (cursor_of self.old (bound_map (λ k. k.now) lower.entry) (bound_map (λ k. k.now) upper.entry)) }
+        ensures moved { cursor_of self.new (deref_bound lower.entry) (deref_bound upper.entry) ≡ moved_forth K.cmp (cursor_of self.old (deref_bound lower.entry) (deref_bound upper.entry)) }
+        ensures answer { deref_pair result ≡ next_of K.cmp (cursor_of self.old (deref_bound lower.entry) (deref_bound upper.entry)) }
     {
         // Most steps stay in their leaf: there one look at the place says whether a pair is there and finds it.
         if let Some((spot, pair)) = self.beside() {
@@ -80,8 +80,8 @@ impl<'t, K: Ord, V> Ends<'t, K, V> {
     ) -> Option<(&'t K, &'t V)>
         requires { IsReady K.cmp self.old }
         ensures ready { IsReady K.cmp self.new }
-        ensures moved { cursor_of self.new (bound_map (λ k. k.now) lower.entry) (bound_map (λ k. k.now) upper.entry) ≡ moved_back K.cmp (cursor_of self.old (bound_map (λ k. k.now) lower.entry) (bound_map (λ k. k.now) upper.entry)) }
-        ensures answer { deref_pair result ≡ next_back_of K.cmp (cursor_of self.old (bound_map (λ k. k.now) lower.entry) (bound_map (λ k. k.now) upper.entry)) }
+        ensures moved { cursor_of self.new (deref_bound lower.entry) (deref_bound upper.entry) ≡ moved_back K.cmp (cursor_of self.old (deref_bound lower.entry) (deref_bound upper.entry)) }
+        ensures answer { deref_pair result ≡ next_back_of K.cmp (cursor_of self.old (deref_bound lower.entry) (deref_bound upper.entry)) }
     {
         self.backward = self.back(upper);
         if self.arenas.lies_before(self.forward, self.backward) {
@@ -95,7 +95,7 @@ impl<'t, K: Ord, V> Ends<'t, K, V> {
     #[inline(always)]
     pub(crate) fn get(&self, upper: Bound<&'t K>) -> Option<(&'t K, &'t V)>
         requires { IsReady K.cmp self.now }
-        ensures { deref_pair result ≡ kept_below K.cmp (bound_map (λ k. k.now) upper.entry) (pair_at (pairs_of self.now.arenas.now) (end_position self.now.arenas.now self.now.forward)) }
+        ensures { deref_pair result ≡ kept_below K.cmp (deref_bound upper.entry) (pair_at (pairs_of self.now.arenas.now) (end_position self.now.arenas.now self.now.forward)) }
     {
         self.arenas.shown(self.forward, upper)
     }
@@ -103,7 +103,7 @@ impl<'t, K: Ord, V> Ends<'t, K, V> {
     /// The pair of the backward end, if it lies within the lower bound.
     pub(crate) fn get_back(&self, lower: Bound<&'t K>) -> Option<(&'t K, &'t V)>
         requires { IsReady K.cmp self.now }
-        ensures { deref_pair result ≡ kept_above K.cmp (bound_map (λ k. k.now) lower.entry) (pair_at (pairs_of self.now.arenas.now) (end_position self.now.arenas.now self.now.backward)) }
+        ensures { deref_pair result ≡ kept_above K.cmp (deref_bound lower.entry) (pair_at (pairs_of self.now.arenas.now) (end_position self.now.arenas.now self.now.backward)) }
     {
         self.arenas.shown_back(self.backward, lower)
     }
@@ -112,8 +112,8 @@ impl<'t, K: Ord, V> Ends<'t, K, V> {
     pub(crate) fn flip(&mut self, lower: Bound<&'t K>, upper: Bound<&'t K>) -> bool
         requires { IsReady K.cmp self.old }
         ensures ready { IsReady K.cmp self.new }
-        ensures answer { result ≡ can_turn K.cmp (cursor_of self.old (bound_map (λ k. k.now) lower.entry) (bound_map (λ k. k.now) upper.entry)) }
-        ensures turned { cursor_of self.new (bound_map (λ k. k.now) lower.entry) (bound_map (λ k. k.now) upper.entry) ≡ turned K.cmp (cursor_of self.old (bound_map (λ k. k.now) lower.entry) (bound_map (λ k. k.now) upper.entry)) }
+        ensures answer { result ≡ can_turn K.cmp (cursor_of self.old (deref_bound lower.entry) (deref_bound upper.entry)) }
+        ensures turned { cursor_of self.new (deref_bound lower.entry) (deref_bound upper.entry) ≡ turned K.cmp (cursor_of self.old (deref_bound lower.entry) (deref_bound upper.entry)) }
     {
         let turns = self.can_turn(lower, upper);
         if turns {
@@ -127,7 +127,7 @@ impl<'t, K: Ord, V> Ends<'t, K, V> {
     /// Whether one end alone is open and shows a pair, or none is.
     fn can_turn(&self, lower: Bound<&'t K>, upper: Bound<&'t K>) -> bool
         requires { IsReady K.cmp self.now }
-        ensures { result ≡ can_turn K.cmp (cursor_of self.now (bound_map (λ k. k.now) lower.entry) (bound_map (λ k. k.now) upper.entry)) }
+        ensures { result ≡ can_turn K.cmp (cursor_of self.now (deref_bound lower.entry) (deref_bound upper.entry)) }
     {
         match (&self.forward, &self.backward) {
             (End::Unopened, End::Unopened) => true,
@@ -142,7 +142,7 @@ impl<'t, K: Ord, V> Ends<'t, K, V> {
     fn beside(&self) -> Option<(Position<'t, K, V>, (&'t K, &'t V))>
         requires { IsReady K.cmp self.now }
         ensures end { IfSome result (λ n. IsEnd self.now.arenas.now (At n.0)) }
-        ensures place { IfSome result (λ n. (lower : Bound K) → end_position self.now.arenas.now (At n.0) ≡ forth K.cmp lower (pairs_of self.now.arenas.now) (end_position self.now.arenas.now self.now.forward)) }
+        ensures place { IfSome result (λ n. (lower : Bound K) → end_position self.now.arenas.now (At n.0) ≡ forth_of K.cmp lower self.now) }
         ensures pair { IfSome result (λ n. slice_get n.0.leaf.now.array.pairs n.0.place ≡ Some (n.1.0.now, n.1.1.now)) }
     {
         match self.forward {
@@ -156,7 +156,7 @@ impl<'t, K: Ord, V> Ends<'t, K, V> {
     fn forth(&self, lower: Bound<&'t K>) -> End<Position<'t, K, V>>
         requires { IsReady K.cmp self.now }
         ensures end { IsEnd self.now.arenas.now result }
-        ensures place { end_position self.now.arenas.now result ≡ forth K.cmp (bound_map (λ k. k.now) lower.entry) (pairs_of self.now.arenas.now) (end_position self.now.arenas.now self.now.forward) }
+        ensures place { end_position self.now.arenas.now result ≡ forth_of K.cmp (deref_bound lower.entry) self.now }
     {
         match self.forward {
             End::Unopened => match self.arenas.first_within(lower) {
@@ -176,7 +176,7 @@ impl<'t, K: Ord, V> Ends<'t, K, V> {
     fn back(&self, upper: Bound<&'t K>) -> End<Position<'t, K, V>>
         requires { IsReady K.cmp self.now }
         ensures end { IsEnd self.now.arenas.now result }
-        ensures place { end_position self.now.arenas.now result ≡ back K.cmp (bound_map (λ k. k.now) upper.entry) (pairs_of self.now.arenas.now) (end_position self.now.arenas.now self.now.backward) }
+        ensures place { end_position self.now.arenas.now result ≡ back_of K.cmp (deref_bound upper.entry) self.now }
     {
         match self.backward {
             End::Unopened => match self.arenas.last_within(upper) {
@@ -206,7 +206,7 @@ impl<K: Ord, V> Arenas<K, V> {
         requires spot { IsPosition self.now spot }
         requires backward { IsEnd self.now backward }
         requires own { slice_get spot.leaf.now.array.pairs spot.place ≡ Some (own.0.now, own.1.now) }
-        ensures { deref_pair result ≡ cond (lies_before (At (position self.now spot.entry)) (end_position self.now backward.entry)) (kept_below K.cmp (bound_map (λ k. k.now) upper.entry) (slice_get (pairs_of self.now) (position self.now spot.entry))) None }
+        ensures { deref_pair result ≡ given_pair K.cmp (deref_bound upper.entry) self.now spot.entry backward.entry }
     {
         if self.precedes(spot, own, backward) {
             below(own, upper)
@@ -280,7 +280,7 @@ impl<K: Ord, V> Arenas<K, V> {
     ) -> Option<(&'t K, &'t V)>
         requires sound { IsSound K.cmp self.now }
         requires end { IsEnd self.now end }
-        ensures { deref_pair result ≡ kept_below K.cmp (bound_map (λ k. k.now) upper.entry) (pair_at (pairs_of self.now) (end_position self.now end.entry)) }
+        ensures { deref_pair result ≡ kept_below K.cmp (deref_bound upper.entry) (pair_at (pairs_of self.now) (end_position self.now end.entry)) }
     {
         match end {
             End::At(spot) => below(spot.pair(), upper),
@@ -297,7 +297,7 @@ impl<K: Ord, V> Arenas<K, V> {
     ) -> Option<(&'t K, &'t V)>
         requires sound { IsSound K.cmp self.now }
         requires end { IsEnd self.now end }
-        ensures { deref_pair result ≡ kept_above K.cmp (bound_map (λ k. k.now) lower.entry) (pair_at (pairs_of self.now) (end_position self.now end.entry)) }
+        ensures { deref_pair result ≡ kept_above K.cmp (deref_bound lower.entry) (pair_at (pairs_of self.now) (end_position self.now end.entry)) }
     {
         match end {
             End::At(spot) => above(spot.pair(), lower),
@@ -309,7 +309,7 @@ impl<K: Ord, V> Arenas<K, V> {
 /// A pair, if it lies within an upper bound.
 #[inline(always)]
 fn below<'t, K: Ord, V>(pair: (&'t K, &'t V), upper: Bound<&'t K>) -> Option<(&'t K, &'t V)>
-    ensures { deref_pair result ≡ kept_below K.cmp (bound_map (λ k. k.now) upper.entry) (Some (pair.entry.0.now, pair.entry.1.now)) }
+    ensures { deref_pair result ≡ kept_below K.cmp (deref_bound upper.entry) (Some (pair.entry.0.now, pair.entry.1.now)) }
 {
     let past = match upper {
         Bound::Included(high) => high.cmp(pair.0).is_lt(),
@@ -322,7 +322,7 @@ fn below<'t, K: Ord, V>(pair: (&'t K, &'t V), upper: Bound<&'t K>) -> Option<(&'
 /// A pair, if it lies within a lower bound.
 #[inline(always)]
 fn above<'t, K: Ord, V>(pair: (&'t K, &'t V), lower: Bound<&'t K>) -> Option<(&'t K, &'t V)>
-    ensures { deref_pair result ≡ kept_above K.cmp (bound_map (λ k. k.now) lower.entry) (Some (pair.entry.0.now, pair.entry.1.now)) }
+    ensures { deref_pair result ≡ kept_above K.cmp (deref_bound lower.entry) (Some (pair.entry.0.now, pair.entry.1.now)) }
 {
     let within = match lower {
         Bound::Included(low) => low.cmp(pair.0).is_le(),

@@ -1,20 +1,20 @@
 //! The tree as users see it.
 
-ghost use Rattle.std.specs.Prelude.{◌≡◌, ◌≤◌, ◌<◌, ◌^◌, ◌+◌, ◌*◌, ◌==◌, ◌↔◌, IsTrue, IsSome, IfSome, IfErr, OnOk, OnErr, IsErr, IsOk, IfOk, MatchOption, [], ◌∷◌, ◌++◌, Some, None, true, false, not, length, option_copied};
+ghost use Rattle.std.specs.Prelude.{◌≡◌, ◌≤◌, ◌<◌, ◌^◌, ◌+◌, ◌*◌, ◌==◌, ◌↔◌, IsTrue, IsSome, IfSome, IfErr, OnOk, OnErr, IsErr, IsOk, IfOk, [], ◌∷◌, ◌++◌, Some, None, true, false, not, length, option_copied};
 ghost use Rattle.std.specs.BTreeMap.{is_at};
 ghost use Rattle.std.specs.Map.{lookup_entry};
 ghost use Rattle.std.specs.Fn.{FnOnceReturnsAt, FnOnceTakesAt};
 ghost use Rattle.std.specs.List.{filter};
 ghost use Rattle.std.specs.BTreeMap.Range.{range_contains};
 ghost use Rattle.leaf_array.specs.Edits.{inserted, removed, upserted};
+ghost use Rattle.leaf_array.specs.Lookups.{LendsPair, deref_bound};
 ghost use Rattle.leaf_array.specs.Pairs.{has_key, value_of_key, IsAscending};
 ghost use Rattle.leaf_array.specs.Values.{ClonesAreSame};
-ghost use Rattle.std.specs.Range.Bound.{bound_map};
 ghost use Rattle.tree_index.specs.declared.cursor.End.TheVariants.{Unopened};
 ghost use Rattle.tree_index.specs.Cursor.{whole};
 ghost use Rattle.tree_index.specs.Nodes.{height_in, is_internal, node_pairs};
 ghost use Rattle.tree_index.specs.Proximity.{IsLocated};
-ghost use Rattle.tree_index.specs.Reads.{FnOnceTakesPair};
+ghost use Rattle.tree_index.specs.Reads.{FnOnceReadsPair, FnOnceTakesPair};
 ghost use Rattle.tree_index.specs.Depth.{IsAbove};
 ghost use Rattle.tree_index.specs.Tree.{RefusedAsDuplicate, RefusedForMemory, refused_pair};
 
@@ -216,7 +216,7 @@ impl<K: Ord, V> TreeIndex<K, V> {
 
     /// The pair with this key.
     pub fn peek_entry(&self, key: &K) -> Option<(&K, &V)>
-        ensures { MatchOption result (lookup_entry (is_at (K.cmp key.now)) self.now.pairs ≡ None) (λ e. lookup_entry (is_at (K.cmp key.now)) self.now.pairs ≡ Some (e.0.now, e.1.now)) }
+        ensures { LendsPair result (lookup_entry (is_at (K.cmp key.now)) self.now.pairs) }
     {
         let mut steps = Steps::new();
         self.peek_entry_counted(key, &mut steps)
@@ -226,7 +226,7 @@ impl<K: Ord, V> TreeIndex<K, V> {
     /// in a tree of a depth of at most 1.
     #[inline]
     pub fn peek_entry_counted(&self, key: &K, steps: &mut Steps) -> Option<(&K, &V)>
-        ensures pair { MatchOption result (lookup_entry (is_at (K.cmp key.now)) self.now.pairs ≡ None) (λ e. lookup_entry (is_at (K.cmp key.now)) self.now.pairs ≡ Some (e.0.now, e.1.now)) }
+        ensures pair { LendsPair result (lookup_entry (is_at (K.cmp key.now)) self.now.pairs) }
         ensures cost { steps.new.count ≤ steps.old.count + 15 * (self.now.depth + 1) }
         ensures raised { steps.old.count ≤ steps.new.count }
     {
@@ -250,7 +250,7 @@ impl<K: Ord, V> TreeIndex<K, V> {
     where
         F: Drop,
         requires { IfSome (lookup_entry (is_at (K.cmp key.now)) self.now.pairs) (FnOnceTakesPair F.FnOnce f) }
-        ensures { MatchOption result (lookup_entry (is_at (K.cmp key.now)) self.now.pairs ≡ None) (λ r. (k : _) × (v : _) × (lookup_entry (is_at (K.cmp key.now)) self.now.pairs ≡ Some (k.now, v.now)) × F.post f k v r) }
+        ensures { FnOnceReadsPair F.FnOnce f (lookup_entry (is_at (K.cmp key.now)) self.now.pairs) result }
     {
         match self.arenas.search_entry(key) {
             Some((stored, value)) => Some(f(stored, value)),
@@ -264,7 +264,7 @@ impl<K: Ord, V> TreeIndex<K, V> {
     where
         F: Drop,
         requires { IfSome (lookup_entry (is_at (K.cmp key.now)) self.now.pairs) (FnOnceTakesPair F.FnOnce f) }
-        ensures { MatchOption result (lookup_entry (is_at (K.cmp key.now)) self.now.pairs ≡ None) (λ r. (k : _) × (v : _) × (lookup_entry (is_at (K.cmp key.now)) self.now.pairs ≡ Some (k.now, v.now)) × F.post f k v r) }
+        ensures { FnOnceReadsPair F.FnOnce f (lookup_entry (is_at (K.cmp key.now)) self.now.pairs) result }
     {
         self.peek_with(key, f)
     }
@@ -282,7 +282,7 @@ impl<K: Ord, V> TreeIndex<K, V> {
     where
         K: Drop,
         V: Drop,
-        ensures removed { self.new.pairs ≡ filter (λ p. not (range_contains K.cmp (bound_map (λ k. k.now) lower.entry) (bound_map (λ k. k.now) upper.entry) p.0)) self.old.pairs }
+        ensures removed { self.new.pairs ≡ filter (λ p. not (range_contains K.cmp (deref_bound lower.entry) (deref_bound upper.entry) p.0)) self.old.pairs }
         ensures depth { self.new.depth ≤ self.old.depth }
     {
         self.arenas.remove_range(lower, upper);
@@ -302,7 +302,7 @@ impl<K: Ord, V> TreeIndex<K, V> {
     /// A cursor over the pairs within two bounds. Reversed bounds contain none.
     pub fn range<'t>(&'t self, lower: Bound<&'t K>, upper: Bound<&'t K>) -> Range<'t, K, V>
         ensures countable { length self.now.pairs < 2 ^ 64 }
-        ensures cursor { result ≡ record { pairs = self.now.pairs; lower = bound_map (λ k. k.now) lower.entry; upper = bound_map (λ k. k.now) upper.entry; forward = Unopened; backward = Unopened } }
+        ensures cursor { result ≡ record { pairs = self.now.pairs; lower = deref_bound lower.entry; upper = deref_bound upper.entry; forward = Unopened; backward = Unopened } }
     {
         let _ = self.len();
         Range {

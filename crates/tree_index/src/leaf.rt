@@ -15,11 +15,11 @@ ghost use Rattle.std.specs.BTreeMap.{is_at};
 ghost use Rattle.std.specs.Map.{lookup_entry};
 ghost use Rattle.std.specs.Fn.{FnOnceReturnsAt, FnOnceTakesAt};
 ghost use Rattle.std.specs.List.{filter};
-ghost use Rattle.std.specs.Range.Bound.{bound_map};
 ghost use Rattle.std.specs.BTreeMap.Range.{range_contains, is_from_start, is_past_end};
 ghost use Rattle.tree_index.specs.Shape.{AllKeys};
 ghost use Rattle.leaf_array.specs.Cells.{no_cells};
 ghost use Rattle.leaf_array.specs.Edits.{removed, upserted};
+ghost use Rattle.leaf_array.specs.Lookups.{deref_bound};
 ghost use Rattle.leaf_array.specs.Pairs.{has_key, IsAscending};
 ghost use Rattle.leaf_array.specs.Values.{ClonesAreSame};
 ghost use Rattle.std.specs.declared.ops.Bound.TheVariants.{Included, Excluded};
@@ -132,7 +132,7 @@ impl<K: Ord, V> Leaf<K, V> {
 
     /// Removes the pairs whose keys lie within two bounds.
     pub(crate) fn remove_range(&mut self, lower: Bound<&K>, upper: Bound<&K>)
-        ensures pairs { self.new.array.pairs ≡ filter (λ p. not (range_contains K.cmp (bound_map (λ k. k.now) lower.entry) (bound_map (λ k. k.now) upper.entry) p.0)) self.old.array.pairs }
+        ensures pairs { self.new.array.pairs ≡ filter (λ p. not (range_contains K.cmp (deref_bound lower.entry) (deref_bound upper.entry) p.0)) self.old.array.pairs }
         ensures thawed { self.new.array.frozen ≡ self.old.array.frozen }
         ensures prev { self.new.prev ≡ self.old.prev }
         ensures next { self.new.next ≡ self.old.next }
@@ -143,7 +143,7 @@ impl<K: Ord, V> Leaf<K, V> {
     /// Whether the leaf has pairs, and all lie within two bounds.
     pub(crate) fn lies_within(&self, lower: &Bound<&K>, upper: &Bound<&K>) -> bool
         ensures some { result ≡ true → 0 < length self.now.array.pairs }
-        ensures within { result ≡ true → AllKeys (λ k. range_contains K.cmp (bound_map (λ k. k.now) lower.now) (bound_map (λ k. k.now) upper.now) k ≡ true) self.now.array.pairs }
+        ensures within { result ≡ true → AllKeys (λ k. range_contains K.cmp (deref_bound lower.now) (deref_bound upper.now) k ≡ true) self.now.array.pairs }
     {
         let len = self.array.len();
         if len == 0 {
@@ -156,7 +156,8 @@ impl<K: Ord, V> Leaf<K, V> {
 
     /// Whether the leaf has a pair past an upper bound.
     pub(crate) fn ends_past(&self, upper: &Bound<&K>) -> bool
-        ensures { result ≡ true → IfSome (key_at self.now.array.pairs (length self.now.array.pairs - 1)) (λ k. is_past_end K.cmp (bound_map (λ k. k.now) upper.now) k ≡ true) × (0 < length self.now.array.pairs) }
+        ensures some { result ≡ true → 0 < length self.now.array.pairs }
+        ensures past { result ≡ true → IfSome (key_at self.now.array.pairs (length self.now.array.pairs - 1)) (λ k. is_past_end K.cmp (deref_bound upper.now) k ≡ true) }
     {
         let len = self.array.len();
         if len == 0 {
@@ -291,7 +292,7 @@ impl<K: Ord, V> Leaf<K, V> {
 
 /// Whether a key lies within a lower bound.
 fn starts_in<K: Ord>(lower: &Bound<&K>, key: &K) -> bool
-    ensures { result ≡ is_from_start K.cmp (bound_map (λ k. k.now) lower.now) key.now }
+    ensures { result ≡ is_from_start K.cmp (deref_bound lower.now) key.now }
 {
     match lower {
         Bound::Included(low) => (*low).cmp(key).is_le(),
@@ -302,7 +303,7 @@ fn starts_in<K: Ord>(lower: &Bound<&K>, key: &K) -> bool
 
 /// Whether a key lies past an upper bound.
 fn ends_out<K: Ord>(upper: &Bound<&K>, key: &K) -> bool
-    ensures { result ≡ is_past_end K.cmp (bound_map (λ k. k.now) upper.now) key.now }
+    ensures { result ≡ is_past_end K.cmp (deref_bound upper.now) key.now }
 {
     match upper {
         Bound::Included(high) => (*high).cmp(key).is_lt(),

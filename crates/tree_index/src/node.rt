@@ -8,13 +8,13 @@
 //! }
 //! ```
 
-ghost use Rattle.std.specs.Prelude.{◌≡◌, ◌≢◌, ◌+◌, ◌-◌, ◌<◌, ◌≤◌, ◌==◌, ◌++◌, ◌∷◌, ◌↔◌, IsTrue, IfSome, MatchOption, Some, None, [], true, false, length, take, slice_get};
+ghost use Rattle.std.specs.Prelude.{◌≡◌, ◌≢◌, ◌+◌, ◌-◌, ◌<◌, ◌≤◌, ◌==◌, ◌++◌, ◌∷◌, ◌↔◌, IsTrue, IfSome, Some, None, [], true, false, length, take, slice_get};
 ghost use Rattle.std.specs.List.{remove};
 ghost use Rattle.leaf_array.specs.Cells.{lesser};
 ghost use Rattle.std.specs.BTreeMap.{is_at, insert_entry};
 ghost use Rattle.std.specs.Map.{lookup, lookup_entry};
 ghost use Rattle.tree_index.specs.Nodes.{height_in, is_internal, node_pairs};
-ghost use Rattle.tree_index.specs.Reads.{FnOnceTakesPair};
+ghost use Rattle.tree_index.specs.Reads.{FnOnceReadsPair, FnOnceTakesPair};
 ghost use Rattle.tree_index.specs.Standing.{standing_pairs, IsAround, IsStanding};
 ghost use Rattle.tree_index.specs.Shape.{child_for, first_child, IsNode};
 
@@ -62,7 +62,7 @@ impl<'t, K: Ord, V> Node<'t, K, V> {
     where
         F: Drop,
         requires { IfSome (lookup_entry (is_at (K.cmp key.now)) (node_pairs self.now)) (FnOnceTakesPair F.FnOnce f) }
-        ensures { MatchOption result (lookup_entry (is_at (K.cmp key.now)) (node_pairs self.now) ≡ None) (λ r. (k : _) × (v : _) × (lookup_entry (is_at (K.cmp key.now)) (node_pairs self.now) ≡ Some (k.now, v.now)) × F.post f k v r) }
+        ensures { FnOnceReadsPair F.FnOnce f (lookup_entry (is_at (K.cmp key.now)) (node_pairs self.now)) result }
     {
         match self {
             Node::Internal(node) => node.read_entry(key, f),
@@ -197,7 +197,8 @@ impl<K: Ord> InnerNode<K> {
         requires within { place ≤ length self.old.children.pairs }
         ensures node { IsNode self.new.children }
         ensures inner { place < length self.old.children.pairs → (self.new.children.pairs ≡ remove self.old.children.pairs place) × (self.new.last ≡ self.old.last) }
-        ensures outer { place ≡ length self.old.children.pairs → (self.new.children.pairs ≡ take (length self.old.children.pairs - 1) self.old.children.pairs) × IfSome (slice_get self.old.children.pairs (length self.old.children.pairs - 1)) (λ e. self.new.last ≡ e.1) }
+        ensures outer { place ≡ length self.old.children.pairs → self.new.children.pairs ≡ take (length self.old.children.pairs - 1) self.old.children.pairs }
+        ensures last { place ≡ length self.old.children.pairs → IfSome (slice_get self.old.children.pairs (length self.old.children.pairs - 1)) (λ e. self.new.last ≡ e.1) }
     {
         if place < self.children.len() {
             self.children.bury(place);

@@ -22,7 +22,7 @@ pub struct Range<'t, K: Ord, V> {
 
 /// Invariant: specs/Ends.antt, IsReady: both ends stand at places of a sound tree.
 impl<'t, K: Ord, V> Model for Range<'t, K, V> {
-    ghost use Rattle.std.specs.Range.Bound.{bound_map};
+    ghost use Rattle.leaf_array.specs.Lookups.{deref_bound};
     ghost use Rattle.tree_index.specs.Cursor.{Cursor, cursor_code};
     ghost use Rattle.tree_index.specs.Ends.{IsReady, cursor_of};
 
@@ -30,7 +30,7 @@ impl<'t, K: Ord, V> Model for Range<'t, K, V> {
 
     ghost coded = { cursor_code K.code V.code };
 
-    ghost view = { λ r. cursor_of r.ends (bound_map (λ k. k.now) r.lower) (bound_map (λ k. k.now) r.upper) };
+    ghost view = { λ r. cursor_of r.ends (deref_bound r.lower) (deref_bound r.upper) };
 
     ghost invariant = { λ r. IsReady K.cmp r.ends };
 }

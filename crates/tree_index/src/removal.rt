@@ -2,10 +2,10 @@
 
 ghost use Rattle.std.specs.Prelude.{◌≡◌, ◌≤◌, ◌<◌, IfSome, not, false, true, None, Some};
 ghost use Rattle.std.specs.List.{filter};
-ghost use Rattle.std.specs.Range.Bound.{bound_map};
+ghost use Rattle.leaf_array.specs.Lookups.{deref_bound};
 ghost use Rattle.std.specs.BTreeMap.Range.{range_contains, is_from_start};
 ghost use Rattle.tree_index.specs.Content.{pairs_of, leaves_of, leaf_on_way, IsSound};
-ghost use Rattle.tree_index.specs.Prune.{IsFork};
+ghost use Rattle.tree_index.specs.Prune.{AreSameOutside, IsFork};
 ghost use Rattle.tree_index.specs.Shape.{AllKeys};
 ghost use Rattle.tree_index.specs.Walk.{pairs_in_leaf, rest, IsOwnLeaf, IsPassed};
 
@@ -22,7 +22,7 @@ impl<K: Ord, V> Arenas<K, V> {
         V: Drop,
         requires { IsSound K.cmp self.old }
         ensures sound { IsSound K.cmp self.new }
-        ensures pairs { pairs_of self.new ≡ filter (λ p. not (range_contains K.cmp (bound_map (λ k. k.now) lower.entry) (bound_map (λ k. k.now) upper.entry) p.0)) (pairs_of self.old) }
+        ensures pairs { pairs_of self.new ≡ filter (λ p. not (range_contains K.cmp (deref_bound lower.entry) (deref_bound upper.entry) p.0)) (pairs_of self.old) }
         ensures depth { self.new.height ≤ self.old.height }
     {
         let mut next = self.leaf_from(&lower);
@@ -39,7 +39,7 @@ impl<K: Ord, V> Arenas<K, V> {
         requires sound { IsSound K.cmp self.now }
         requires own { IsOwnLeaf self.now (Some at) }
         ensures fork { IfSome result (λ f. (key : K) × IsFork K.cmp key self.now f × (at ≡ leaf_on_way K.cmp key self.now)) }
-        ensures within { IfSome result (λ f. AllKeys (λ k. range_contains K.cmp (bound_map (λ k. k.now) lower.now) (bound_map (λ k. k.now) upper.now) k ≡ true) (pairs_in_leaf self.now at)) }
+        ensures within { IfSome result (λ f. AllKeys (λ k. range_contains K.cmp (deref_bound lower.now) (deref_bound upper.now) k ≡ true) (pairs_in_leaf self.now at)) }
     {
         match self.leaves.get(at) {
             Some(leaf) => {
@@ -66,13 +66,13 @@ impl<K: Ord, V> Arenas<K, V> {
         V: Drop,
         requires sound { IsSound K.cmp self.old }
         requires fork { (key : K) × IsFork K.cmp key self.old fork × (at ≡ leaf_on_way K.cmp key self.old) }
-        requires within { AllKeys (λ k. range_contains K.cmp (bound_map (λ k. k.now) lower) (bound_map (λ k. k.now) upper) k ≡ true) (pairs_in_leaf self.old at) }
+        requires within { AllKeys (λ k. range_contains K.cmp (deref_bound lower) (deref_bound upper) k ≡ true) (pairs_in_leaf self.old at) }
         requires own { IsOwnLeaf self.old (Some at) }
-        requires passed { IsPassed (λ k. range_contains K.cmp (bound_map (λ k. k.now) lower) (bound_map (λ k. k.now) upper) k ≡ false) self.old (Some at) }
+        requires passed { IsPassed (λ k. range_contains K.cmp (deref_bound lower) (deref_bound upper) k ≡ false) self.old (Some at) }
         ensures sound { IsSound K.cmp self.new }
         ensures own { IsOwnLeaf self.new result }
-        ensures passed { IsPassed (λ k. range_contains K.cmp (bound_map (λ k. k.now) lower.entry) (bound_map (λ k. k.now) upper.entry) k ≡ false) self.new result }
-        ensures same { filter (λ p. not (range_contains K.cmp (bound_map (λ k. k.now) lower.entry) (bound_map (λ k. k.now) upper.entry) p.0)) (pairs_of self.new) ≡ filter (λ p. not (range_contains K.cmp (bound_map (λ k. k.now) lower.entry) (bound_map (λ k. k.now) upper.entry) p.0)) (pairs_of self.old) }
+        ensures passed { IsPassed (λ k. range_contains K.cmp (deref_bound lower.entry) (deref_bound upper.entry) k ≡ false) self.new result }
+        ensures same { AreSameOutside K.cmp (deref_bound lower.entry) (deref_bound upper.entry) (pairs_of self.old) (pairs_of self.new) }
         ensures fewer { rest (leaves_of self.new) result < rest (leaves_of self.old) (Some at) }
         ensures depth { self.new.height ≤ self.old.height }
     {
@@ -90,7 +90,7 @@ impl<K: Ord, V> Arenas<K, V> {
     fn leaf_from(&self, lower: &Bound<&K>) -> Option<usize>
         requires { IsSound K.cmp self.now }
         ensures own { IsOwnLeaf self.now result }
-        ensures passed { IsPassed (λ k. is_from_start K.cmp (bound_map (λ k. k.now) lower.now) k ≡ false) self.now result }
+        ensures passed { IsPassed (λ k. is_from_start K.cmp (deref_bound lower.now) k ≡ false) self.now result }
     {
         if self.height == 0 {
             return None;
@@ -106,11 +106,11 @@ impl<K: Ord, V> Arenas<K, V> {
     fn remove_in(&mut self, at: usize, lower: Bound<&K>, upper: Bound<&K>) -> Option<usize>
         requires sound { IsSound K.cmp self.old }
         requires own { IsOwnLeaf self.old (Some at) }
-        requires passed { IsPassed (λ k. range_contains K.cmp (bound_map (λ k. k.now) lower) (bound_map (λ k. k.now) upper) k ≡ false) self.old (Some at) }
+        requires passed { IsPassed (λ k. range_contains K.cmp (deref_bound lower) (deref_bound upper) k ≡ false) self.old (Some at) }
         ensures sound { IsSound K.cmp self.new }
         ensures own { IsOwnLeaf self.new result }
-        ensures passed { IsPassed (λ k. range_contains K.cmp (bound_map (λ k. k.now) lower.entry) (bound_map (λ k. k.now) upper.entry) k ≡ false) self.new result }
-        ensures same { filter (λ p. not (range_contains K.cmp (bound_map (λ k. k.now) lower.entry) (bound_map (λ k. k.now) upper.entry) p.0)) (pairs_of self.new) ≡ filter (λ p. not (range_contains K.cmp (bound_map (λ k. k.now) lower.entry) (bound_map (λ k. k.now) upper.entry) p.0)) (pairs_of self.old) }
+        ensures passed { IsPassed (λ k. range_contains K.cmp (deref_bound lower.entry) (deref_bound upper.entry) k ≡ false) self.new result }
+        ensures same { AreSameOutside K.cmp (deref_bound lower.entry) (deref_bound upper.entry) (pairs_of self.old) (pairs_of self.new) }
         ensures order { leaves_of self.new ≡ leaves_of self.old }
         ensures fewer { rest (leaves_of self.old) result < rest (leaves_of self.old) (Some at) }
         ensures depth { self.new.height ≡ self.old.height }

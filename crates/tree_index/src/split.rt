@@ -5,7 +5,7 @@ ghost use Rattle.std.specs.Option.{option_map};
 ghost use Rattle.leaf_array.specs.Values.{ClonesAreSame};
 ghost use Rattle.slab.specs.Slab.{get, HasRoomFor, slab_len};
 ghost use Rattle.tree_index.specs.Chain.{leaf_links, linked_in};
-ghost use Rattle.tree_index.specs.Depth.{IsAbove, ascending_headroom};
+ghost use Rattle.tree_index.specs.Depth.{KeepsHeadroom, ascending_headroom};
 ghost use Rattle.tree_index.specs.Shape.{way};
 ghost use Rattle.tree_index.specs.Content.{content_of, pairs_of, IsSound, LeafHasRoom, NodeHasRoom, IsNodeFull, IsLeafFull, IsSplitPointThere, AreSameArrays, leaf_on_way};
 
@@ -45,7 +45,7 @@ impl<K: Ord, V> Arenas<K, V> {
         ensures on { IfOk result (λ n. n ≡ leaf_on_way K.cmp key.now self.new) }
         ensures refused { OnErr result (self.new.height ≡ self.old.height) }
         ensures ascending_headroom { OnErr result (ascending_headroom K.cmp self.new ≡ ascending_headroom K.cmp self.old) }
-        ensures ascending { OnOk result (IsAbove K.cmp key.now (pairs_of self.old) → 1 < ascending_headroom K.cmp self.old → ascending_headroom K.cmp self.old ≤ ascending_headroom K.cmp self.new) }
+        ensures ascending { OnOk result (KeepsHeadroom K.cmp key.now self.old self.new) }
     {
         if self.height == 0 {
             return self.init_root(key);
@@ -284,7 +284,7 @@ impl<K: Ord, V> Arenas<K, V> {
         ensures pairs { pairs_of self.new ≡ pairs_of self.old }
         ensures room { LeafHasRoom K.cmp key.now self.new }
         ensures on { result ≡ leaf_on_way K.cmp key.now self.new }
-        ensures ascending { IsAbove K.cmp key.now (pairs_of self.old) → IsLeafFull K.cmp key.now self.old → 1 < ascending_headroom K.cmp self.old → ascending_headroom K.cmp self.old ≤ ascending_headroom K.cmp self.new }
+        ensures ascending { IsLeafFull K.cmp key.now self.old → KeepsHeadroom K.cmp key.now self.old self.new }
     {
         let is_upper = split_point.separator.cmp(key).is_lt();
         let lower = match self.leaves.get_mut(child) {

@@ -1,9 +1,8 @@
 //! From pair to pair, along the leaves.
 
-ghost use Rattle.std.specs.Prelude.{◌≡◌, ◌≢◌, ◌≤◌, ◌<◌, ◌+◌, ◌-◌, ◌||◌, MatchOption, IfSome, IfNone, Some, None, ℕ, List, [], ◌∷◌, ◌++◌, suc, cond, length, slice_get};
-ghost use Rattle.std.specs.Range.Bound.{bound_map};
+ghost use Rattle.std.specs.Prelude.{◌≡◌, ◌<◌, ◌+◌, ◌-◌, IfSome, IfNone, Some, None, ℕ, List, [], ◌∷◌, ◌++◌, cond, length, slice_get};
+ghost use Rattle.leaf_array.specs.Lookups.{deref_bound};
 ghost use Rattle.std.specs.declared.ops.Bound.TheVariants.{Included, Excluded, Unbounded};
-ghost use Rattle.tree_index.specs.Chain.{first_or};
 ghost use Rattle.tree_index.specs.Content.{pairs_of, leaves_of, IsSound};
 ghost use Rattle.tree_index.specs.Cursor.{before_start, up_to_end};
 ghost use Rattle.tree_index.specs.Walk.{position, starts_at, ends_at, IsOwnLeaf, IsInsertionPoint, IsPosition};
@@ -273,9 +272,9 @@ impl<K: Ord, V> Arenas<K, V> {
     #[inline(never)]
     pub(crate) fn first_within(&self, lower: Bound<&K>) -> Option<Position<'_, K, V>>
         requires { IsSound K.cmp self.now }
-        ensures none { IfNone result (before_start K.cmp (bound_map (λ k. k.now) lower.entry) (pairs_of self.now) ≡ length (pairs_of self.now)) }
+        ensures none { IfNone result (before_start K.cmp (deref_bound lower.entry) (pairs_of self.now) ≡ length (pairs_of self.now)) }
         ensures spot { IfSome result (λ s. IsPosition self.now s) }
-        ensures there { IfSome result (λ s. position self.now s ≡ before_start K.cmp (bound_map (λ k. k.now) lower.entry) (pairs_of self.now)) }
+        ensures there { IfSome result (λ s. position self.now s ≡ before_start K.cmp (deref_bound lower.entry) (pairs_of self.now)) }
     {
         match lower {
             Bound::Included(key) => self.first_past(key, false),
@@ -287,9 +286,9 @@ impl<K: Ord, V> Arenas<K, V> {
     /// The last pair within an upper bound.
     pub(crate) fn last_within(&self, upper: Bound<&K>) -> Option<Position<'_, K, V>>
         requires { IsSound K.cmp self.now }
-        ensures none { IfNone result (up_to_end K.cmp (bound_map (λ k. k.now) upper.entry) (pairs_of self.now) ≡ 0) }
+        ensures none { IfNone result (up_to_end K.cmp (deref_bound upper.entry) (pairs_of self.now) ≡ 0) }
         ensures spot { IfSome result (λ s. IsPosition self.now s) }
-        ensures there { IfSome result (λ s. position self.now s + 1 ≡ up_to_end K.cmp (bound_map (λ k. k.now) upper.entry) (pairs_of self.now)) }
+        ensures there { IfSome result (λ s. position self.now s + 1 ≡ up_to_end K.cmp (deref_bound upper.entry) (pairs_of self.now)) }
     {
         match upper {
             Bound::Included(key) => self.last_up_to(key, true),

@@ -1,30 +1,33 @@
 //! A live place that dies.
 
-ghost use Rattle.std.specs.Prelude.{◌≡◌, ◌<◌, ◌≤◌, ◌++◌, ◌∷◌, [], length, take, drop};
+ghost use Rattle.std.specs.Prelude.{◌≡◌, ◌<◌, ◌≤◌, ◌++◌, ◌∷◌, [], length, take, drop, List};
+ghost use Rattle.leaf_array.specs.declared.place.Place.{Place};
 ghost use Rattle.leaf_array.specs.declared.place.Place.TheVariants.{Empty};
 ghost use Rattle.leaf_array.specs.Places.{top, sunk, tombstones};
 
 use crate::place::{Place, fill, widen};
-use crate::row::{Last, Link, Places};
+use crate::row::{Last, Link};
 use std::mem;
 
 /// A row in which live places die.
-pub(crate) trait Bury<K, V>: Places<K, V> {
-    ghost use Rattle.leaf_array.specs.declared.place.Place.TheVariants.{Empty};
+pub(crate) trait Bury<K, V> {
+    ghost places: { Self → List (Place K V) };
 
     /// Moves the live places at the front up by one, the first into a hole before them, and puts a place behind them.
     fn sink(&mut self, hole: &mut Place<K, V>, last: Place<K, V>)
         requires { hole.old ≡ Empty }
-        ensures { hole.new ∷ Self.places self.new ≡ sunk last (Self.places self.old) };
+        ensures { hole.new ∷ places self.new ≡ sunk last (places self.old) };
 
     /// Buries the live place `at`: it is dead, and behind the live ones.
     fn bury(&mut self, at: usize)
-        requires rank { top (drop at (Self.places self.old)) ≤ 15 }
-        requires place { at < length (Self.places self.old) }
-        ensures { Self.places self.new ≡ take at (Self.places self.old) ++ tombstones (drop at (Self.places self.old)) };
+        requires rank { top (drop at (places self.old)) ≤ 15 }
+        requires place { at < length (places self.old) }
+        ensures { places self.new ≡ take at (places self.old) ++ tombstones (drop at (places self.old)) };
 }
 
 impl<K, V> Bury<K, V> for Last<K, V> {
+    ghost places = { λ l. l.head ∷ [] };
+
     #[inline(always)]
     fn sink(&mut self, hole: &mut Place<K, V>, last: Place<K, V>)
         requires { hole.old ≡ Empty }
@@ -51,6 +54,8 @@ impl<K, V> Bury<K, V> for Last<K, V> {
 }
 
 impl<K, V, R: Bury<K, V>> Bury<K, V> for Link<K, V, R> {
+    ghost places = { λ l. l.head ∷ R.places l.rest };
+
     #[inline(always)]
     fn sink(&mut self, hole: &mut Place<K, V>, last: Place<K, V>)
         requires { hole.old ≡ Empty }

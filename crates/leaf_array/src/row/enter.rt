@@ -1,26 +1,31 @@
 //! One place more.
 
-ghost use Rattle.std.specs.Prelude.{◌≡◌, ◌++◌, ◌∷◌, [], take, drop, IsTrue};
+ghost use Rattle.std.specs.Prelude.{◌≡◌, ◌++◌, ◌∷◌, [], take, drop, IsTrue, List};
+ghost use Rattle.leaf_array.specs.declared.place.Place.{Place};
 ghost use Rattle.leaf_array.specs.Places.{has_room, pushed};
 
 use crate::place::{Place, fill};
-use crate::row::{Last, Link, Places};
+use crate::row::{Last, Link};
 use std::mem;
 
 /// A row that takes one more place in.
-pub(crate) trait Enter<K, V>: Places<K, V> {
+pub(crate) trait Enter<K, V> {
+    ghost places: { Self → List (Place K V) };
+
     /// Puts a place in at the front. Those up to the first that is empty move on.
     fn push(&mut self, place: Place<K, V>)
-        requires { IsTrue (has_room (Self.places self.old)) }
-        ensures { Self.places self.new ≡ pushed place (Self.places self.old) };
+        requires { IsTrue (has_room (places self.old)) }
+        ensures { places self.new ≡ pushed place (places self.old) };
 
     /// Puts a place in at `at`.
     fn insert(&mut self, at: usize, place: Place<K, V>)
-        requires { IsTrue (has_room (drop at (Self.places self.old))) }
-        ensures { Self.places self.new ≡ take at (Self.places self.old) ++ pushed place (drop at (Self.places self.old)) };
+        requires { IsTrue (has_room (drop at (places self.old))) }
+        ensures { places self.new ≡ take at (places self.old) ++ pushed place (drop at (places self.old)) };
 }
 
 impl<K, V> Enter<K, V> for Last<K, V> {
+    ghost places = { λ l. l.head ∷ [] };
+
     #[inline(always)]
     fn push(&mut self, place: Place<K, V>)
         requires { IsTrue (has_room (self.old.head ∷ [])) }
@@ -42,6 +47,8 @@ impl<K, V> Enter<K, V> for Last<K, V> {
 }
 
 impl<K, V, R: Enter<K, V>> Enter<K, V> for Link<K, V, R> {
+    ghost places = { λ l. l.head ∷ R.places l.rest };
+
     #[inline(always)]
     fn push(&mut self, place: Place<K, V>)
         requires { IsTrue (has_room (self.old.head ∷ R.places self.old.rest)) }

@@ -1,29 +1,35 @@
 //! Pairs and keys lent by place and by slot.
 
-ghost use Rattle.std.specs.Prelude.{◌≡◌, Some, None, MatchOption, option_copied, slice_index_or};
+ghost use Rattle.std.specs.Prelude.{◌≡◌, option_copied, slice_index_or, ◌∷◌, [], List};
+ghost use Rattle.leaf_array.specs.declared.place.Place.{Place};
 ghost use Rattle.leaf_array.specs.declared.place.Place.TheVariants.{Empty};
 ghost use Rattle.leaf_array.specs.Cells.{newest};
+ghost use Rattle.leaf_array.specs.Lookups.{LendsPair};
 ghost use Rattle.leaf_array.specs.Places.{live_pair, dead_pairs, pair_at_slot};
 
 use crate::place::{Place, pair_in_slot, pair_of};
-use crate::row::{Last, Link, Places};
+use crate::row::{Last, Link};
 
 /// A row that lends its pairs.
-pub(crate) trait Lend<K, V>: Places<K, V> {
+pub(crate) trait Lend<K, V> {
+    ghost places: { Self → List (Place K V) };
+
     /// The pair of the live place `at`.
     fn pair(&self, at: usize) -> Option<(&K, &V)>
-        ensures { MatchOption result (live_pair (slice_index_or (Self.places self.now) at Empty) ≡ None) (λ e. live_pair (slice_index_or (Self.places self.now) at Empty) ≡ Some (e.0.now, e.1.now)) };
+        ensures { LendsPair result (live_pair (slice_index_or (places self.now) at Empty)) };
 
     /// The pair with this slot, dead or alive.
     fn in_slot(&self, slot: u8) -> Option<(&K, &V)>
-        ensures { MatchOption result (pair_at_slot slot (Self.places self.now) ≡ None) (λ e. pair_at_slot slot (Self.places self.now) ≡ Some (e.0.now, e.1.now)) };
+        ensures { LendsPair result (pair_at_slot slot (places self.now)) };
 
     /// The key of the first dead place.
     fn newest(&self) -> Option<&K>
-        ensures { option_copied result ≡ newest (dead_pairs (Self.places self.now)) };
+        ensures { option_copied result ≡ newest (dead_pairs (places self.now)) };
 }
 
 impl<K, V> Lend<K, V> for Last<K, V> {
+    ghost places = { λ l. l.head ∷ [] };
+
     #[inline(always)]
     fn pair(&self, at: usize) -> Option<(&K, &V)> {
         if at > 0 {
@@ -47,6 +53,8 @@ impl<K, V> Lend<K, V> for Last<K, V> {
 }
 
 impl<K, V, R: Lend<K, V>> Lend<K, V> for Link<K, V, R> {
+    ghost places = { λ l. l.head ∷ R.places l.rest };
+
     #[inline(always)]
     fn pair(&self, at: usize) -> Option<(&K, &V)> {
         if at == 0 {

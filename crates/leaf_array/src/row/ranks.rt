@@ -1,34 +1,41 @@
 //! Ranks by slot.
 
-ghost use Rattle.std.specs.Prelude.{◌≡◌, ◌+◌, ◌<◌, ◌≤◌};
+ghost use Rattle.std.specs.Prelude.{◌≡◌, ◌+◌, ◌<◌, ◌≤◌, ◌∷◌, [], List};
+ghost use Rattle.leaf_array.specs.declared.place.Place.{Place};
 ghost use Rattle.leaf_array.specs.Cells.{rank_in, entered};
 ghost use Rattle.leaf_array.specs.Places.{labels_above, top};
 
 use crate::place::Place;
-use crate::row::{Last, Link, Places};
+use crate::row::{Last, Link};
 
 /// A row that says which rank a slot has.
-pub(crate) trait Ranks<K, V>: Places<K, V> {
+pub(crate) trait Ranks<K, V> {
+    ghost places: { Self → List (Place K V) };
+
     /// The rank of the live place with this slot, 0 if none has it, where those before the row go up to `low`.
     fn rank_of(&self, slot: u8, low: u16) -> u16
-        requires { low + top (Self.places self.now) ≤ 15 }
-        ensures { result ≡ rank_in slot (labels_above low (Self.places self.now)) };
+        requires { low + top (places self.now) ≤ 15 }
+        ensures { result ≡ rank_in slot (labels_above low (places self.now)) };
 
     /// The rank that a slot would have if a live place with the slot `fresh` came in at `at`, where those before the row go up to `low`.
     fn rank_beside(&self, at: usize, fresh: u8, slot: u8, low: u16) -> u16
-        requires { low + top (Self.places self.now) < 15 }
-        ensures { result ≡ rank_in slot (entered low at fresh (labels_above low (Self.places self.now))) };
+        requires { low + top (places self.now) < 15 }
+        ensures { result ≡ rank_in slot (entered low at fresh (labels_above low (places self.now))) };
 }
 
 /// A row that says how far its ranks go.
-pub(crate) trait Top<K, V>: Places<K, V> {
+pub(crate) trait Top<K, V> {
+    ghost places: { Self → List (Place K V) };
+
     /// The rank of the last live place, where those before the row go up to `low`.
     fn top(&self, low: u16) -> u16
-        requires { low + top (Self.places self.now) ≤ 15 }
-        ensures { result ≡ low + top (Self.places self.now) };
+        requires { low + top (places self.now) ≤ 15 }
+        ensures { result ≡ low + top (places self.now) };
 }
 
 impl<K, V> Ranks<K, V> for Last<K, V> {
+    ghost places = { λ l. l.head ∷ [] };
+
     #[inline(always)]
     fn rank_of(&self, slot: u8, low: u16) -> u16 {
         match &self.head {
@@ -67,6 +74,8 @@ impl<K, V> Ranks<K, V> for Last<K, V> {
 }
 
 impl<K, V, R: Ranks<K, V>> Ranks<K, V> for Link<K, V, R> {
+    ghost places = { λ l. l.head ∷ R.places l.rest };
+
     #[inline(always)]
     fn rank_of(&self, slot: u8, low: u16) -> u16 {
         match &self.head {
@@ -107,6 +116,8 @@ impl<K, V, R: Ranks<K, V>> Ranks<K, V> for Link<K, V, R> {
 }
 
 impl<K, V> Top<K, V> for Last<K, V> {
+    ghost places = { λ l. l.head ∷ [] };
+
     #[inline(always)]
     fn top(&self, low: u16) -> u16 {
         match &self.head {
@@ -117,6 +128,8 @@ impl<K, V> Top<K, V> for Last<K, V> {
 }
 
 impl<K, V, R: Top<K, V>> Top<K, V> for Link<K, V, R> {
+    ghost places = { λ l. l.head ∷ R.places l.rest };
+
     #[inline(always)]
     fn top(&self, low: u16) -> u16 {
         match &self.head {

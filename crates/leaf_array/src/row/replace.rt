@@ -1,50 +1,39 @@
 //! A place in the stead of another.
 
-ghost use Rattle.std.specs.Prelude.{◌≡◌, ◌+◌, ◌<◌, ◌++◌, ◌∷◌, [], length, take, drop, IsSome, Some, slice_index_or};
+ghost use Rattle.std.specs.Prelude.{◌≡◌, ◌+◌, ◌<◌, ◌++◌, ◌∷◌, [], length, take, drop, IsSome, Some, slice_index_or, List};
+ghost use Rattle.leaf_array.specs.declared.place.Place.{Place};
 ghost use Rattle.leaf_array.specs.declared.place.Place.TheVariants.{Empty};
-ghost use Rattle.leaf_array.specs.Places.{live_pair, renewed, paired, died, front_vacated};
+ghost use Rattle.leaf_array.specs.Places.{live_pair, paired};
 
-use crate::place::{Place, overwrite, renew, vacate};
-use crate::row::{Last, Link, Places};
+use crate::place::{Place, overwrite};
+use crate::row::{Last, Link};
 use std::mem;
 
 /// A row in which a place takes the stead of another.
-pub(crate) trait Put<K, V>: Places<K, V> {
+pub(crate) trait Put<K, V> {
+    ghost places: { Self → List (Place K V) };
+
     /// Puts a place where the one at `at` is, and gives that one.
     fn put(&mut self, at: usize, place: Place<K, V>) -> Place<K, V>
-        requires { at < length (Self.places self.old) }
-        ensures old { result ≡ slice_index_or (Self.places self.old) at Empty }
-        ensures new { Self.places self.new ≡ take at (Self.places self.old) ++ place ∷ drop (at + 1) (Self.places self.old) };
-}
-
-/// A row in which a live place gets another slot and pair.
-pub(crate) trait Renew<K, V>: Places<K, V> {
-    /// Gives the live place `at` another slot and pair, and what it was, dead.
-    fn renew(&mut self, at: usize, slot: u8, key: K, value: V) -> Place<K, V>
-        requires { IsSome (live_pair (slice_index_or (Self.places self.old) at Empty)) }
-        ensures old { result ≡ died (drop at (Self.places self.old)) }
-        ensures new { Self.places self.new ≡ take at (Self.places self.old) ++ renewed slot key value (drop at (Self.places self.old)) };
+        requires { at < length (places self.old) }
+        ensures old { result ≡ slice_index_or (places self.old) at Empty }
+        ensures new { places self.new ≡ take at (places self.old) ++ place ∷ drop (at + 1) (places self.old) };
 }
 
 /// A row in which a live place gets another pair.
-pub(crate) trait Overwrite<K, V>: Places<K, V> {
+pub(crate) trait Overwrite<K, V> {
+    ghost places: { Self → List (Place K V) };
+
     /// Writes another pair into the live place `at`, and gives the one that was there.
     fn overwrite(&mut self, at: usize, key: K, value: V) -> (K, V)
-        requires { IsSome (live_pair (slice_index_or (Self.places self.old) at Empty)) }
-        ensures pair { Some result ≡ live_pair (slice_index_or (Self.places self.old) at Empty) }
-        ensures new { Self.places self.new ≡ take at (Self.places self.old) ++ paired key value (drop at (Self.places self.old)) };
-}
-
-/// A row of which a pair is taken out.
-pub(crate) trait Vacate<K, V>: Places<K, V> {
-    /// Takes the pair of the live place `at` out.
-    fn vacate(&mut self, at: usize) -> (K, V)
-        requires { IsSome (live_pair (slice_index_or (Self.places self.old) at Empty)) }
-        ensures pair { Some result ≡ live_pair (slice_index_or (Self.places self.old) at Empty) }
-        ensures places { Self.places self.new ≡ take at (Self.places self.old) ++ front_vacated (drop at (Self.places self.old)) };
+        requires { IsSome (live_pair (slice_index_or (places self.old) at Empty)) }
+        ensures pair { Some result ≡ live_pair (slice_index_or (places self.old) at Empty) }
+        ensures new { places self.new ≡ take at (places self.old) ++ paired key value (drop at (places self.old)) };
 }
 
 impl<K, V> Put<K, V> for Last<K, V> {
+    ghost places = { λ l. l.head ∷ [] };
+
     #[inline(always)]
     fn put(&mut self, at: usize, place: Place<K, V>) -> Place<K, V>
         requires { at < length (self.old.head ∷ []) }
@@ -56,6 +45,8 @@ impl<K, V> Put<K, V> for Last<K, V> {
 }
 
 impl<K, V, R: Put<K, V>> Put<K, V> for Link<K, V, R> {
+    ghost places = { λ l. l.head ∷ R.places l.rest };
+
     #[inline(always)]
     fn put(&mut self, at: usize, place: Place<K, V>) -> Place<K, V>
         requires { at < length (self.old.head ∷ R.places self.old.rest) }
@@ -69,35 +60,9 @@ impl<K, V, R: Put<K, V>> Put<K, V> for Link<K, V, R> {
     }
 }
 
-impl<K, V> Renew<K, V> for Last<K, V> {
-    #[inline(always)]
-    fn renew(&mut self, at: usize, slot: u8, key: K, value: V) -> Place<K, V>
-        requires { IsSome (live_pair (slice_index_or (self.old.head ∷ []) at Empty)) }
-        ensures old { result ≡ died (drop at (self.old.head ∷ [])) }
-        ensures new { self.new.head ∷ [] ≡ take at (self.old.head ∷ []) ++ renewed slot key value (drop at (self.old.head ∷ [])) }
-    {
-        if at > 0 {
-            unreachable!();
-        }
-        renew(&mut self.head, slot, key, value)
-    }
-}
-
-impl<K, V, R: Renew<K, V>> Renew<K, V> for Link<K, V, R> {
-    #[inline(always)]
-    fn renew(&mut self, at: usize, slot: u8, key: K, value: V) -> Place<K, V>
-        requires { IsSome (live_pair (slice_index_or (self.old.head ∷ R.places self.old.rest) at Empty)) }
-        ensures old { result ≡ died (drop at (self.old.head ∷ R.places self.old.rest)) }
-        ensures new { self.new.head ∷ R.places self.new.rest ≡ take at (self.old.head ∷ R.places self.old.rest) ++ renewed slot key value (drop at (self.old.head ∷ R.places self.old.rest)) }
-    {
-        if at > 0 {
-            return self.rest.renew(at - 1, slot, key, value);
-        }
-        renew(&mut self.head, slot, key, value)
-    }
-}
-
 impl<K, V> Overwrite<K, V> for Last<K, V> {
+    ghost places = { λ l. l.head ∷ [] };
+
     #[inline(always)]
     fn overwrite(&mut self, at: usize, key: K, value: V) -> (K, V)
         requires { IsSome (live_pair (slice_index_or (self.old.head ∷ []) at Empty)) }
@@ -112,6 +77,8 @@ impl<K, V> Overwrite<K, V> for Last<K, V> {
 }
 
 impl<K, V, R: Overwrite<K, V>> Overwrite<K, V> for Link<K, V, R> {
+    ghost places = { λ l. l.head ∷ R.places l.rest };
+
     #[inline(always)]
     fn overwrite(&mut self, at: usize, key: K, value: V) -> (K, V)
         requires { IsSome (live_pair (slice_index_or (self.old.head ∷ R.places self.old.rest) at Empty)) }
@@ -122,33 +89,5 @@ impl<K, V, R: Overwrite<K, V>> Overwrite<K, V> for Link<K, V, R> {
             return self.rest.overwrite(at - 1, key, value);
         }
         overwrite(&mut self.head, key, value)
-    }
-}
-
-impl<K, V> Vacate<K, V> for Last<K, V> {
-    #[inline(always)]
-    fn vacate(&mut self, at: usize) -> (K, V)
-        requires { IsSome (live_pair (slice_index_or (self.old.head ∷ []) at Empty)) }
-        ensures pair { Some result ≡ live_pair (slice_index_or (self.old.head ∷ []) at Empty) }
-        ensures places { self.new.head ∷ [] ≡ take at (self.old.head ∷ []) ++ front_vacated (drop at (self.old.head ∷ [])) }
-    {
-        if at > 0 {
-            unreachable!();
-        }
-        vacate(&mut self.head)
-    }
-}
-
-impl<K, V, R: Vacate<K, V>> Vacate<K, V> for Link<K, V, R> {
-    #[inline(always)]
-    fn vacate(&mut self, at: usize) -> (K, V)
-        requires { IsSome (live_pair (slice_index_or (self.old.head ∷ R.places self.old.rest) at Empty)) }
-        ensures pair { Some result ≡ live_pair (slice_index_or (self.old.head ∷ R.places self.old.rest) at Empty) }
-        ensures places { self.new.head ∷ R.places self.new.rest ≡ take at (self.old.head ∷ R.places self.old.rest) ++ front_vacated (drop at (self.old.head ∷ R.places self.old.rest)) }
-    {
-        if at > 0 {
-            return self.rest.vacate(at - 1);
-        }
-        vacate(&mut self.head)
     }
 }

@@ -1,10 +1,9 @@
 //! A cursor over the pairs of one leaf, by rising keys.
 
-ghost use Rattle.std.specs.Prelude.{◌≡◌, ◌-◌, IfNone, IfSome, MatchOption, None, Some, length, option_copied, slice_get};
-ghost use Rattle.std.specs.declared.ops.Bound.TheVariants.{Excluded};
-ghost use Rattle.tree_index.specs.Cursor.{before_start, deref_pair};
+ghost use Rattle.std.specs.Prelude.{◌≡◌, ◌-◌, IfNone, IfSome, MatchOption, None, Some, length, option_copied};
+ghost use Rattle.tree_index.specs.Cursor.{deref_pair};
 ghost use Rattle.tree_index.specs.SplitPoints.{key_at};
-ghost use Rattle.tree_index.specs.LeafCursor.{at_start, key_behind, IsFirstAbove, ranked, IsPart};
+ghost use Rattle.tree_index.specs.LeafCursor.{at_start, key_behind, next_greater, IsFirstAbove, ranked, IsPart};
 
 use crate::index::TreeIndex;
 use crate::leaf::{Leaf, LeafPosition, RevIter};
@@ -76,7 +75,7 @@ impl<'l, K: Ord, V> Iter<'l, K, V> {
     /// Where it goes, it comes to the first pair of the new leaf above that key: of all its pairs the first, where the old
     /// leaf is one of the tree.
     pub fn jump(&mut self, tree: &'l TreeIndex<K, V>) -> Option<(&'l K, &'l V)>
-        ensures next { MatchOption (key_behind self.old) (result ≡ None) (λ k. deref_pair result ≡ slice_get tree.now.pairs (before_start K.cmp (Excluded k) tree.now.pairs)) }
+        ensures next { MatchOption (key_behind self.old) (result ≡ None) (λ k. deref_pair result ≡ next_greater K.cmp k tree.now.pairs) }
         ensures shown { IfSome result (λ p. ranked self.new.rank self.new.pairs ≡ Some (p.0.now, p.1.now)) }
         ensures leaf { IfSome result (λ p. IsPart self.new.pairs tree.now.pairs) }
         ensures end { IfSome result (λ p. IfSome (key_behind self.old) (λ k. IsFirstAbove K.cmp k self.new)) }

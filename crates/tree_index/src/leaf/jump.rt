@@ -5,7 +5,7 @@ ghost use Rattle.std.specs.declared.ops.Bound.{Bound};
 ghost use Rattle.std.specs.declared.ops.Bound.TheVariants.{Excluded};
 ghost use Rattle.tree_index.specs.Content.{pairs_of, IsSound};
 ghost use Rattle.tree_index.specs.Cursor.{before_start, up_to_end};
-ghost use Rattle.tree_index.specs.LeafCursor.{at_start, cursor_at, key_before, key_behind, IsFirstAbove, IsLastBelow, IsPart, ranked, stood};
+ghost use Rattle.tree_index.specs.LeafCursor.{at_start, cursor_at, key_before, key_behind, IsFirstAbove, IsLastBelow, IsPart, next_greater, next_lesser, ranked, stood};
 ghost use Rattle.tree_index.specs.Walk.{position, IsFirstPosition, IsLastPosition, IsPosition};
 
 use crate::arenas::Arenas;
@@ -17,7 +17,7 @@ impl<'l, K: Ord, V> LeafPosition<'l, K, V> {
     /// The first pair behind those of its leaf.
     pub(crate) fn past(&self, arenas: &'l Arenas<K, V>) -> Option<LeafPosition<'l, K, V>>
         requires { IsSound K.cmp arenas.now }
-        ensures pair { MatchOption (key_behind (cursor_at self.now)) (stood result ≡ None) (λ k. stood result ≡ slice_get (pairs_of arenas.now) (before_start K.cmp (Excluded k) (pairs_of arenas.now))) }
+        ensures pair { MatchOption (key_behind (cursor_at self.now)) (stood result ≡ None) (λ k. stood result ≡ next_greater K.cmp k (pairs_of arenas.now)) }
         ensures there { IfSome result (λ s. IsSome (ranked s.rank s.leaf.now.array.pairs)) }
         ensures part { IfSome result (λ s. IsPart s.leaf.now.array.pairs (pairs_of arenas.now)) }
         ensures end { IfSome result (λ s. IfSome (key_behind (cursor_at self.now)) (λ k. IsFirstAbove K.cmp k (cursor_at s))) }
@@ -31,7 +31,7 @@ impl<'l, K: Ord, V> LeafPosition<'l, K, V> {
     /// The last pair before those of its leaf.
     pub(crate) fn short_of(&self, arenas: &'l Arenas<K, V>) -> Option<LeafPosition<'l, K, V>>
         requires { IsSound K.cmp arenas.now }
-        ensures pair { MatchOption (key_before (cursor_at self.now)) (stood result ≡ None) (λ k. stood result ≡ ranked (up_to_end K.cmp (Excluded k) (pairs_of arenas.now)) (pairs_of arenas.now)) }
+        ensures pair { MatchOption (key_before (cursor_at self.now)) (stood result ≡ None) (λ k. stood result ≡ next_lesser K.cmp k (pairs_of arenas.now)) }
         ensures there { IfSome result (λ s. IsSome (ranked s.rank s.leaf.now.array.pairs)) }
         ensures part { IfSome result (λ s. IsPart s.leaf.now.array.pairs (pairs_of arenas.now)) }
         ensures end { IfSome result (λ s. IfSome (key_before (cursor_at self.now)) (λ k. IsLastBelow K.cmp k (cursor_at s))) }

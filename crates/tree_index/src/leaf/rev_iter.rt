@@ -1,10 +1,9 @@
 //! A cursor over the pairs of one leaf, by falling keys.
 
 ghost use Rattle.std.specs.Prelude.{◌≡◌, IfNone, IfSome, MatchOption, None, Some, option_copied};
-ghost use Rattle.std.specs.declared.ops.Bound.TheVariants.{Excluded};
-ghost use Rattle.tree_index.specs.Cursor.{deref_pair, up_to_end};
+ghost use Rattle.tree_index.specs.Cursor.{deref_pair};
 ghost use Rattle.tree_index.specs.SplitPoints.{key_at};
-ghost use Rattle.tree_index.specs.LeafCursor.{at_start, key_before, IsLastBelow, ranked, IsPart};
+ghost use Rattle.tree_index.specs.LeafCursor.{at_start, key_before, next_lesser, IsLastBelow, ranked, IsPart};
 
 use crate::index::TreeIndex;
 use crate::leaf::{Iter, Leaf, LeafPosition};
@@ -73,7 +72,7 @@ impl<'l, K: Ord, V> RevIter<'l, K, V> {
     /// Where it goes, it comes to the last pair of the new leaf below that key: of all its pairs the last, where the old
     /// leaf is one of the tree.
     pub fn jump(&mut self, tree: &'l TreeIndex<K, V>) -> Option<(&'l K, &'l V)>
-        ensures next { MatchOption (key_before self.old) (result ≡ None) (λ k. deref_pair result ≡ ranked (up_to_end K.cmp (Excluded k) tree.now.pairs) tree.now.pairs) }
+        ensures next { MatchOption (key_before self.old) (result ≡ None) (λ k. deref_pair result ≡ next_lesser K.cmp k tree.now.pairs) }
         ensures shown { IfSome result (λ p. ranked self.new.rank self.new.pairs ≡ Some (p.0.now, p.1.now)) }
         ensures leaf { IfSome result (λ p. IsPart self.new.pairs tree.now.pairs) }
         ensures end { IfSome result (λ p. IfSome (key_before self.old) (λ k. IsLastBelow K.cmp k self.new)) }

@@ -1,9 +1,9 @@
 //! A node over other nodes.
 
-ghost use Rattle.std.specs.Prelude.{◌≡◌, IfSome, MatchOption, Some, None};
+ghost use Rattle.std.specs.Prelude.{IfSome};
 ghost use Rattle.std.specs.BTreeMap.{is_at};
 ghost use Rattle.std.specs.Map.{lookup_entry};
-ghost use Rattle.tree_index.specs.Reads.{FnOnceTakesPair};
+ghost use Rattle.tree_index.specs.Reads.{FnOnceReadsPair, FnOnceTakesPair};
 
 use crate::node::Standing;
 use std::marker::Model;
@@ -39,7 +39,7 @@ impl<'t, K: Ord, V> InternalNode<'t, K, V> {
     where
         F: Drop,
         requires { IfSome (lookup_entry (is_at (K.cmp key.now)) self.now.pairs) (FnOnceTakesPair F.FnOnce f) }
-        ensures { MatchOption result (lookup_entry (is_at (K.cmp key.now)) self.now.pairs ≡ None) (λ r. (k : _) × (v : _) × (lookup_entry (is_at (K.cmp key.now)) self.now.pairs ≡ Some (k.now, v.now)) × F.post f k v r) }
+        ensures { FnOnceReadsPair F.FnOnce f (lookup_entry (is_at (K.cmp key.now)) self.now.pairs) result }
     {
         self.standing.read_entry(key, f)
     }

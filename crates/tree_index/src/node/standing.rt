@@ -1,9 +1,9 @@
 //! A number in the arenas at which a tree stands, which the kinds of nodes share.
 
-ghost use Rattle.std.specs.Prelude.{◌≡◌, ◌≢◌, ◌+◌, IfSome, MatchOption, Some, None};
+ghost use Rattle.std.specs.Prelude.{◌≡◌, ◌≢◌, ◌+◌, IfSome, Some, None};
 ghost use Rattle.std.specs.BTreeMap.{is_at};
 ghost use Rattle.std.specs.Map.{lookup_entry};
-ghost use Rattle.tree_index.specs.Reads.{FnOnceTakesPair};
+ghost use Rattle.tree_index.specs.Reads.{FnOnceReadsPair, FnOnceTakesPair};
 ghost use Rattle.tree_index.specs.Standing.{standing_pairs, IsAround, IsStanding};
 
 use crate::arenas::Arenas;
@@ -24,7 +24,7 @@ impl<'t, K: Ord, V> Standing<'t, K, V> {
         F: Drop,
         requires callable { IfSome (lookup_entry (is_at (K.cmp key.now)) (standing_pairs self.now)) (FnOnceTakesPair F.FnOnce f) }
         requires stands { IsStanding K.cmp self.now }
-        ensures { MatchOption result (lookup_entry (is_at (K.cmp key.now)) (standing_pairs self.now) ≡ None) (λ r. (k : _) × (v : _) × (lookup_entry (is_at (K.cmp key.now)) (standing_pairs self.now) ≡ Some (k.now, v.now)) × F.post f k v r) }
+        ensures { FnOnceReadsPair F.FnOnce f (lookup_entry (is_at (K.cmp key.now)) (standing_pairs self.now)) result }
     {
         match self.leaf(key).array.search_entry(key) {
             Some((stored, value)) => Some(f(stored, value)),

@@ -3,11 +3,17 @@ use Rattle.leaf_array.proofs.SearchLemmas.{missed}
 use Rattle.leaf_array.proofs.SoundLemmas.{found_some, found_none, missed_all}
 use Rattle.leaf_array.proofs.array.Array.found.Goals as goal
 
-pub returns-in-Equal-clause-pair : goal.returns-in-Equal-clause-pair
-returns-in-Equal-clause-pair g c =
+pub returns-in-Equal : goal.returns-in-Equal
+returns-in-Equal g c =
     let found = rw c.in-Some.is at c.lower-at.ensures.pair in
     let f = found_some g.K.Ord.cmp g.met.K.Ord.total c.args.key.now c.self.inside.slots c.in-Some.stored.now c.in-Some.value.now found (sym c.compare.ensures.order ∙ c.in-Equal.is) in
-    rw (← c.self.view_is) (c.lower-at.ensures.place ∙ f.0, omega (arith, c.lower-at.ensures.place, f.1), f.2)
+    record {
+      cost = omega (arith, c.lower-at.ensures.cost, c.compare.ensures);
+      raised = omega (arith, c.lower-at.ensures.raised, c.compare.ensures);
+      place = rw (← c.self.view_is) (c.lower-at.ensures.place ∙ f.0);
+      within = rw (← c.self.view_is) (omega (arith, c.lower-at.ensures.place, f.1));
+      pair = rw (← c.self.view_is) f.2;
+    }
 
 pub returns-in_default-clause-pair : goal.returns-in_default-clause-pair
 returns-in_default-clause-pair g c =

@@ -13,8 +13,11 @@ returns-then-self-eq0-clause-rest g c =
     rw (← c.self.view_is) ((sound_packed g.K.Ord.cmp c.self.inside.slots c.renumber.new.self c.self.inside.len c.self.invariant.packed c.self.invariant.count c.self.invariant.sorted (live_count g.K.Ord.cmp c.self.inside.slots c.self.inside.len c.self.inside.used c.self.invariant) c.self.invariant.live c.renumber.ensures.places).1 c.self.inside.frozen
     ∙ ap (filled_array c.self.inside.frozen) (sym (take_none (live_pairs c.self.inside.slots) c.self.inside.len c.self.invariant.live c.if-self-eq0.true)))
 
-pub vacate-requires : goal.vacate-requires
-vacate-requires g c = rw c.from.ensures (vacated_some c.self.inside.slots c.renumber.new.self (c.self.inside.len - 1) c.self.invariant.packed c.renumber.ensures.places (omega (arith, c.self.invariant.live, c.if-self-eq0.false)))
+pub vacate-requires-clause-count : goal.vacate-requires-clause-count
+vacate-requires-clause-count g c = c.renumber.ensures.count
+
+pub vacate-requires-clause-live : goal.vacate-requires-clause-live
+vacate-requires-clause-live g c = rw c.from.ensures (vacated_some c.self.inside.slots c.renumber.new.self (c.self.inside.len - 1) c.self.invariant.packed c.renumber.ensures.places (omega (arith, c.self.invariant.live, c.if-self-eq0.false)))
 
 pub invariant_of-self-2 : goal.invariant_of-self-2
 invariant_of-self-2 g c = (sound_vacated g.K.Ord.cmp c.self.inside.slots c.renumber.new.self c.vacate.new.self (c.self.inside.len - 1) c.self.invariant.packed c.self.invariant.count c.self.invariant.sorted (omega (arith, c.self.invariant.live, c.if-self-eq0.false)) (omega (arith, c.self.invariant.live, c.if-self-eq0.false, live_count g.K.Ord.cmp c.self.inside.slots c.self.inside.len c.self.inside.used c.self.invariant)) c.renumber.ensures.places (rw c.from.ensures at c.vacate.ensures.places)).0

@@ -1,8 +1,11 @@
 use Rattle.leaf_array.proofs.SoundLemmas.{live_at_key, room_behind_live, sound_replace}
 use Rattle.leaf_array.proofs.array.Array.replace.Goals as goal
 
-pub renew-dead-requires : goal.renew-dead-requires
-renew-dead-requires g c =
+pub renew-dead-requires-clause-count : goal.renew-dead-requires-clause-count
+renew-dead-requires-clause-count g c = c.self.invariant.count
+
+pub renew-dead-requires-clause-live : goal.renew-dead-requires-clause-live
+renew-dead-requires-clause-live g c =
     live_at_key g.K.Ord.cmp g.met.K.Ord.total c.args.key c.self.inside.slots c.self.inside.len c.self.inside.used c.args.at c.self.invariant
     (rw (← c.self.view_is) at c.requires.place) (rw (← c.self.view_is) at c.requires.there)
 

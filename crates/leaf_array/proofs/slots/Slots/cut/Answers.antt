@@ -9,7 +9,7 @@ loop-from-preserved g c =
       begun = omega (arith, inv.begun);
       within = omega (arith, c.loop-from-test.true);
       mine = lower_step c.args.at c.loop-from.from c.args.self.now c.loop-from.self c.put-place.new.self c.requires.count inv.begun c.loop-from-test.true inv.mine c.put-place.ensures.places;
-      others = upper_step c.args.at c.loop-from.from c.args.self.now c.loop-from.self c.loop-from.upper c.put.new.self c.put-place.result c.requires.count inv.begun c.loop-from-test.true inv.mine c.put-place.ensures.old inv.others c.put.ensures.places;
+      others = upper_step c.args.at c.loop-from.from c.args.self.now c.loop-from.self c.loop-from.upper c.fill.new.self c.put-place.result c.requires.count inv.begun c.loop-from-test.true inv.mine c.put-place.ensures.old inv.others c.fill.ensures.places;
     }
 
 pub returns-clause-lower : goal.returns-clause-lower

@@ -84,7 +84,7 @@ returns-clause-sound g c =
     let old : InnerNode g.row.K.Denot = c.in-Some-get_mut.node.now in
     let there : get a.nodes f.node ≡ Some old = sym c.in-Some-get_mut.ensures.value in
     let new : InnerNode g.row.K.Denot = c.shed.new.self in
-    let rest = shed_done cmp key old new f.place (place_is cmp o key a s f fork leaf on gone here old there) (more cmp o key a s f fork leaf on gone here old there) c.shed.ensures.inner c.shed.ensures.outer in
+    let rest = shed_done cmp key old new f.place (place_is cmp o key a s f fork leaf on gone here old there) (more cmp o key a s f fork leaf on gone here old there) c.shed.ensures.inner (λ h. (c.shed.ensures.outer h, c.shed.ensures.last h)) in
     done_sound cmp o key a s f fork leaf on gone here old there new c.shed.ensures.node rest c.join.new.leaves c.join.ensures.arrays c.join.ensures.links c.len.result c.len.ensures.count
 
 pub returns-clause-without : goal.returns-clause-without
@@ -103,7 +103,7 @@ returns-clause-without g c =
     let old : InnerNode g.row.K.Denot = c.in-Some-get_mut.node.now in
     let there : get a.nodes f.node ≡ Some old = sym c.in-Some-get_mut.ensures.value in
     let new : InnerNode g.row.K.Denot = c.shed.new.self in
-    let rest = shed_done cmp key old new f.place (place_is cmp o key a s f fork leaf on gone here old there) (more cmp o key a s f fork leaf on gone here old there) c.shed.ensures.inner c.shed.ensures.outer in
+    let rest = shed_done cmp key old new f.place (place_is cmp o key a s f fork leaf on gone here old there) (more cmp o key a s f fork leaf on gone here old there) c.shed.ensures.inner (λ h. (c.shed.ensures.outer h, c.shed.ensures.last h)) in
     done_without cmp o key a s f fork leaf on gone here old there new c.shed.ensures.node rest c.join.new.leaves c.join.ensures.arrays c.join.ensures.links c.len.result c.len.ensures.count
 
 pub returns-clause-loose : goal.returns-clause-loose
@@ -122,5 +122,5 @@ returns-clause-loose g c =
     let old : InnerNode g.row.K.Denot = c.in-Some-get_mut.node.now in
     let there : get a.nodes f.node ≡ Some old = sym c.in-Some-get_mut.ensures.value in
     let new : InnerNode g.row.K.Denot = c.shed.new.self in
-    let rest = shed_done cmp key old new f.place (place_is cmp o key a s f fork leaf on gone here old there) (more cmp o key a s f fork leaf on gone here old there) c.shed.ensures.inner c.shed.ensures.outer in
+    let rest = shed_done cmp key old new f.place (place_is cmp o key a s f fork leaf on gone here old there) (more cmp o key a s f fork leaf on gone here old there) c.shed.ensures.inner (λ h. (c.shed.ensures.outer h, c.shed.ensures.last h)) in
     done_loose cmp o key a s f fork leaf on gone here old there new c.shed.ensures.node rest c.join.new.leaves c.join.ensures.arrays c.join.ensures.links c.len.result c.len.ensures.count

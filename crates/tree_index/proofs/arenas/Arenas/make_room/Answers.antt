@@ -46,6 +46,6 @@ returns-clause-ascending g c above some =
     let over_b : IsAbove cmp key (pairs_of b) = subst (IsAbove cmp key) (sym pairs) above in
     let more : 1 < ascending_headroom cmp b = omega (arith, same, some) in
     let still : c.split_nodes-above.new.self ≡ b = c.split_nodes-above.ensures.still (flat_node cmp o key b more c.if-self-eq0.false over_b full) in
-    let grown : ascending_headroom cmp c.split_nodes-above.new.self ≤ ascending_headroom cmp c.split_leaf.new.self = c.split_leaf.ensures.ascending (subst (λ (x : Arenas g.row.K.Denot g.row.V.Denot). IsAbove cmp key (pairs_of x)) (sym still) over_b) (subst (IsLeafFull cmp key) (sym still) full) (subst (λ (x : Arenas g.row.K.Denot g.row.V.Denot). 1 < ascending_headroom cmp x) (sym still) more) in
+    let grown : ascending_headroom cmp c.split_nodes-above.new.self ≤ ascending_headroom cmp c.split_leaf.new.self = c.split_leaf.ensures.ascending (subst (IsLeafFull cmp key) (sym still) full) (subst (λ (x : Arenas g.row.K.Denot g.row.V.Denot). IsAbove cmp key (pairs_of x)) (sym still) over_b) (subst (λ (x : Arenas g.row.K.Denot g.row.V.Denot). 1 < ascending_headroom cmp x) (sym still) more) in
     let to : ascending_headroom cmp c.split_nodes-above.new.self ≡ ascending_headroom cmp b = ap (ascending_headroom cmp) still in
     omega (arith, grown, to, same)

@@ -110,8 +110,7 @@ returns-then-ends_past-clause-passed g c =
     let here : get a.leaves c.args.at ≡ Some l = sym c.in-Some.ensures.value in
     let len : ℕ = a.len - c.len-before.result + c.len.result in
     let sound = cleared_sound cmp o lower upper a s c.args.at c.requires.own c.requires.passed l m here c.remove_range.ensures.pairs c.remove_range.ensures.thawed c.len.ensures.rising c.remove_range.ensures.prev c.remove_range.ensures.next c.len-before.result c.len.result c.len-before.ensures.count c.len.ensures.count in
-    let past = c.ends_past.ensures c.if-ends_past.true in
-    cleared_last cmp o lower upper a s c.args.at c.requires.own c.requires.passed l m here c.remove_range.ensures.pairs c.remove_range.ensures.thawed c.len.ensures.rising c.remove_range.ensures.prev c.remove_range.ensures.next len sound past.1 past.0
+    cleared_last cmp o lower upper a s c.args.at c.requires.own c.requires.passed l m here c.remove_range.ensures.pairs c.remove_range.ensures.thawed c.len.ensures.rising c.remove_range.ensures.prev c.remove_range.ensures.next len sound (c.ends_past.ensures.some c.if-ends_past.true) (c.ends_past.ensures.past c.if-ends_past.true)
 
 pub returns-else-ends_past-clause-own : goal.returns-else-ends_past-clause-own
 returns-else-ends_past-clause-own g c =

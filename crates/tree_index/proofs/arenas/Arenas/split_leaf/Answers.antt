@@ -1,4 +1,4 @@
-use Rattle.std.proofs.Common.{◌≡◌, ℕ, cond, Option, Some, sym, ap, ◌∙◌, subst, refl}
+use Rattle.std.proofs.Common.{◌≡◌, ℕ, cond, Option, Some, sym, ap, ◌∙◌, subst}
 use Rattle.std.specs.Ordering.{is_lt}
 use Rattle.slab.specs.Slab.{get}
 use Rattle.tree_index.specs.declared.leaf.Leaf.{Leaf}
@@ -101,7 +101,7 @@ returns-clause-room g c =
     done_room cmp o key a c.requires.sound c.requires.planted c.args.above c.args.child c.requires.lowest c.requires.on whole upper low here split_point fits c.split-lower.ensures.rising old there c.split-lower.ensures.lower c.split-lower.ensures.upper c.split-lower.ensures.lower_rising c.split-lower.ensures.upper_rising (c.split-lower.ensures.lower_thawed thawed) (c.split-lower.ensures.upper_thawed thawed) c.split-lower.ensures.lower_living c.split-lower.ensures.upper_living c.split-lower.ensures.lower_used c.split-lower.ensures.upper_used c.insert_reserved-fresh.new.self c.link.new.leaves c.insert_reserved-fresh.result c.insert_reserved-fresh.ensures.updates c.insert_reserved-fresh.ensures.was_vacant c.link.ensures.arrays (λ n. c.link.ensures.links n ∙ ap (λ (p : Option ℕ). linked_in c.insert_reserved-fresh.result p c.args.child (leaf_links c.insert_reserved-fresh.new.self) n) (c.split-lower.ensures.lower_prev ∙ sym c.split-lower.ensures.prev)) c.split-lower.ensures.prev c.split-lower.ensures.next (c.split-lower.ensures.lower_prev ∙ sym c.split-lower.ensures.prev) c.split-lower.ensures.lower_next c.insert.new.self c.insert.ensures.node c.insert.ensures.separators c.insert.ensures.last
 
 pub returns-clause-ascending : goal.returns-clause-ascending
-returns-clause-ascending g c over_all crowd some =
+returns-clause-ascending g c crowd over_all some =
     let cmp = g.K.Ord.cmp in
     let o = g.met.K.Ord.total in
     let key = c.args.key.now in

@@ -1,4 +1,4 @@
-use Rattle.std.proofs.Common.{◌≡◌, ◌+◌, ◌∷◌, Bool, true, false, not, sym, ap, ◌∙◌}
+use Rattle.std.proofs.Common.{◌≡◌, ◌+◌, ◌∷◌, true, sym, ap, ◌∙◌}
 use Rattle.leaf_array.specs.Places.{is_empty}
 use Rattle.leaf_array.proofs.EditLemmas.{emptied_behind, emptied_packed, not_false}
 use Rattle.leaf_array.proofs.row.renumber.LinkRenumber.renumber.Goals as goal
@@ -6,7 +6,7 @@ use Rattle.leaf_array.proofs.row.renumber.LinkRenumber.renumber.Goals as goal
 -- where the place is empty, so are those behind it
 pub returns-else-renumber : goal.returns-else-renumber
 returns-else-renumber g c =
-    let rest = g.R.Places.places c.args.self.now.rest in
+    let rest = g.R.Renumber.places c.args.self.now.rest in
     let none : is_empty c.args.self.now.head ≡ true = not_false (is_empty c.args.self.now.head) (sym c.renumber.ensures.used ∙ c.if-renumber.false) in
     let same = emptied_packed (c.args.from + 1) rest (emptied_behind c.args.self.now.head rest none c.requires.tailed) in
     ap (λ qs. c.renumber.new.place ∷ qs) (sym same) ∙ c.renumber.ensures.places rest
