@@ -22,9 +22,7 @@ use crate::query::{Answer, Query};
 use crate::replay::replay;
 use crate::seq::Seq;
 use crate::session::Session;
-use crate::transaction::{
-    Audit, Receipt, Recorded, Transaction, copied_answer, copied_reads, copied_replies,
-};
+use crate::transaction::{Audit, Receipt, Recorded, Transaction, copied_reads, copied_replies};
 use crate::version_view::{Nearby, Walk, value_in_counted};
 use std::alloc::{AllocError, Global};
 use std::marker::Model;
@@ -221,8 +219,7 @@ impl<K: Clone + Ord, V: Clone + Eq, const S: usize> LocalIndex<K, V, S> {
         ensures refused { OnErr result (session.new ≡ session.old) }
     {
         let told = answer(self.alloc, &self.list_of(session), &query)?;
-        let kept = copied_answer(&told)?;
-        session.note(query, kept)?;
+        session.note(query, &told)?;
         Ok(told)
     }
 
