@@ -114,11 +114,11 @@ module _ {K V : Type 0} where
   FoundRear blocks n found = IsRearAt blocks n found.0 × IsPairAt blocks (n - 1) found.1
 
   -- how many pairs of a list lie before a lower bound, and how many up to an upper one
-  abbrev pub pairs_before : (K → K → Ordering) → Bound (Bor K) → List (K × V) → ℕ
-  pairs_before cmp lower pairs = before_start cmp (bound_map (λ k. k.now) lower) pairs
+  abbrev pub count_before : (K → K → Ordering) → Bound (Bor K) → List (K × V) → ℕ
+  count_before cmp lower pairs = before_start cmp (bound_map (λ k. k.now) lower) pairs
 
-  abbrev pub pairs_upto : (K → K → Ordering) → Bound (Bor K) → List (K × V) → ℕ
-  pairs_upto cmp upper pairs = up_to_end cmp (bound_map (λ k. k.now) upper) pairs
+  abbrev pub count_upto : (K → K → Ordering) → Bound (Bor K) → List (K × V) → ℕ
+  count_upto cmp upper pairs = up_to_end cmp (bound_map (λ k. k.now) upper) pairs
 
   -- whatever key no pair has, and n pairs have lesser ones
   abbrev pub OfAbsent : (K → K → Ordering) → List (List (K × V)) → ℕ → (K → Type 0) → Type 0

@@ -5,7 +5,7 @@ ghost use Rattle.std.specs.Range.Bound.{bound_map};
 ghost use Rattle.tree_index.specs.Cursor.{forth, back, lies_before, pair_at, deref_pair};
 ghost use Rattle.tree_index.specs.declared.cursor.End.TheVariants.{At, Done, Unopened};
 ghost use Rattle.versions.specs.Cuts.{pairs_in};
-ghost use Rattle.versions.specs.CursorEnds.{pairs_before, pairs_before_block, pairs_upto, fore_place, rear_place, AreRising, CountsInto, FoundFore, FoundRear, IsForeAlone, IsPairAt, IsRearAlone, StandsFore, StandsRear};
+ghost use Rattle.versions.specs.CursorEnds.{count_before, pairs_before_block, count_upto, fore_place, rear_place, AreRising, CountsInto, FoundFore, FoundRear, IsForeAlone, IsPairAt, IsRearAlone, StandsFore, StandsRear};
 
 use crate::read::position::{CursorEnd, Position};
 use crate::read::trees::Trees;
@@ -169,8 +169,8 @@ impl<'a, K: Ord, V, W: Trees<K, V>> VersionView<'a, K, V, W> {
     #[inline(never)]
     fn first_within(&self, lower: Bound<&'a K>) -> Option<Found<'a, K, V>>
         requires { AreRising K.cmp self.now }
-        ensures some { IfSome result (FoundFore self.now (pairs_before K.cmp lower.entry (pairs_in self.now))) }
-        ensures none { IfNone result (pairs_before K.cmp lower.entry (pairs_in self.now) ≡ length (pairs_in self.now)) }
+        ensures some { IfSome result (FoundFore self.now (count_before K.cmp lower.entry (pairs_in self.now))) }
+        ensures none { IfNone result (count_before K.cmp lower.entry (pairs_in self.now) ≡ length (pairs_in self.now)) }
     {
         if self.segment_count() == 0 {
             return None;
@@ -190,8 +190,8 @@ impl<'a, K: Ord, V, W: Trees<K, V>> VersionView<'a, K, V, W> {
     #[inline(never)]
     fn last_within(&self, upper: Bound<&'a K>) -> Option<Found<'a, K, V>>
         requires { AreRising K.cmp self.now }
-        ensures some { IfSome result (FoundRear self.now (pairs_upto K.cmp upper.entry (pairs_in self.now))) }
-        ensures none { IfNone result (pairs_upto K.cmp upper.entry (pairs_in self.now) ≡ 0) }
+        ensures some { IfSome result (FoundRear self.now (count_upto K.cmp upper.entry (pairs_in self.now))) }
+        ensures none { IfNone result (count_upto K.cmp upper.entry (pairs_in self.now) ≡ 0) }
     {
         if self.segment_count() == 0 {
             return None;
@@ -250,7 +250,7 @@ impl<'a, K: Ord, V, W: Trees<K, V>> VersionView<'a, K, V, W> {
     fn place_from(&self, lower: Bound<&'a K>) -> usize
         requires { 0 < length self.now }
         ensures within { result < length self.now }
-        ensures place { CountsInto self.now result (pairs_before K.cmp lower.entry) }
+        ensures place { CountsInto self.now result (count_before K.cmp lower.entry) }
     {
         match lower {
             Bound::Included(key) => self.around(key),
@@ -263,7 +263,7 @@ impl<'a, K: Ord, V, W: Trees<K, V>> VersionView<'a, K, V, W> {
     fn place_upto(&self, upper: Bound<&'a K>) -> usize
         requires { 0 < length self.now }
         ensures within { result < length self.now }
-        ensures place { CountsInto self.now result (pairs_upto K.cmp upper.entry) }
+        ensures place { CountsInto self.now result (count_upto K.cmp upper.entry) }
     {
         match upper {
             Bound::Included(key) => self.around(key),
