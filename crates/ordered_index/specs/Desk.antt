@@ -180,5 +180,5 @@ module _ {K V : Type 0} where
     Run old (call ∷ calls) [] new = ⊥
 
     -- the calls before one of them may be given these replies
-    abbrev pub StopsShort : Machine K V → List (DeskCall K V) → List (DeskReply K V) → Machine K V → Type 0
-    StopsShort old calls replies new = (n : ℕ) × (n < length calls) × Run old (take n calls) replies new
+    abbrev pub RunsUpTo : Machine K V → List (DeskCall K V) → List (DeskReply K V) → Machine K V → Type 0
+    RunsUpTo old calls replies new = (n : ℕ) × (n < length calls) × Run old (take n calls) replies new
