@@ -1,5 +1,5 @@
 -- A desk keeps sessions of an index by labels, each in the seat of its place. Calls of both, and runs of calls.
-use Rattle.std.specs.Prelude.{◌≡◌, ◌≢◌, ℕ, ◌≤◌, List, [], ◌∷◌, length, Option, Some, None, slice_get, slice_set}
+use Rattle.std.specs.Prelude.{◌≡◌, ◌≢◌, ℕ, ◌<◌, ◌≤◌, List, [], ◌∷◌, length, Option, Some, None, slice_get, slice_set, take}
 use Rattle.std.specs.declared.cmp.Ordering.{Ordering}
 use Rattle.ordered_index.specs.State.{State, OpenSession, IsSessionOf, IsOpenAt, HasNoPlace, Opens, Closes, list_at, Accepts, Refuses, Reads, Audits, Reclaims, MayAccept, latest_number}
 use Rattle.ordered_index.specs.declared.query.Query.{Query}
@@ -178,3 +178,7 @@ module _ {K V : Type 0} where
     Run old (call ∷ calls) (reply ∷ replies) new = (mid : Machine K V) × Step old call reply mid × Run mid calls replies new
     Run old [] (reply ∷ replies) new = ⊥
     Run old (call ∷ calls) [] new = ⊥
+
+    -- the calls before one of them may be given these replies
+    abbrev pub RunsUpTo : Machine K V → List (DeskCall K V) → List (DeskReply K V) → Machine K V → Type 0
+    RunsUpTo old calls replies new = (n : ℕ) × (n < length calls) × Run old (take n calls) replies new

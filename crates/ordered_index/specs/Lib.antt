@@ -5,3 +5,4 @@ pub mod State
 pub mod Invariant
 pub mod Desk
 pub mod Receipts
+pub mod Conflicts

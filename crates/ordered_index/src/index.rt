@@ -4,12 +4,12 @@ ghost use Rattle.std.specs.Prelude.{ℕ, ◌+◌, ◌≢◌, ◌≤◌, ◌≡�
 ghost use Rattle.std.specs.Option.{option_copied};
 ghost use Rattle.leaf_array.specs.Pairs.{has_key, value_of_key};
 ghost use Rattle.leaf_array.specs.Values.{ClonesAreSame, EqualsAreSame};
-ghost use Rattle.std.specs.Range.Bound.{bound_map};
 ghost use Rattle.tree_index.specs.Cursor.{whole};
 ghost use Rattle.tree_index.specs.Proximity.{IsLocated};
 ghost use Rattle.tree_index.specs.declared.cursor.End.TheVariants.{Unopened};
 ghost use Rattle.versions.specs.Nearby.{as_proximity};
 ghost use Rattle.versions.specs.Cuts.{pairs_in};
+ghost use Rattle.versions.specs.Views.{cursor_within};
 ghost use Rattle.versions.specs.Writes.{after_writes, replies_to};
 ghost use Rattle.std.specs.List.{All};
 ghost use Rattle.ordered_index.specs.Serial.{Holds, IsFirstConflict};
@@ -22,9 +22,7 @@ use crate::query::{Answer, Query};
 use crate::replay::replay;
 use crate::seq::Seq;
 use crate::session::Session;
-use crate::transaction::{
-    Audit, Receipt, Recorded, Transaction, copied_answer, copied_reads, copied_replies,
-};
+use crate::transaction::{Audit, Receipt, Recorded, Transaction, copied_reads, copied_replies};
 use crate::version_view::{Nearby, Walk, value_in_counted};
 use std::alloc::{AllocError, Global};
 use std::marker::Model;
@@ -202,7 +200,7 @@ impl<K: Clone + Ord, V: Clone + Eq, const S: usize> LocalIndex<K, V, S> {
         upper: Bound<&'a K>,
     ) -> Walk<'a, K, V, S>
         requires { IsSessionOf self.now session.now }
-        ensures { result ≡ record { pairs = list_at K.cmp self.now session.now.receipt.number; lower = bound_map (λ k. k.now) lower.entry; upper = bound_map (λ k. k.now) upper.entry; forward = Unopened; backward = Unopened } }
+        ensures { result ≡ cursor_within (list_at K.cmp self.now session.now.receipt.number) lower.entry upper.entry }
     {
         self.list_of(session).walk(lower, upper)
     }
@@ -221,8 +219,7 @@ impl<K: Clone + Ord, V: Clone + Eq, const S: usize> LocalIndex<K, V, S> {
         ensures refused { OnErr result (session.new ≡ session.old) }
     {
         let told = answer(self.alloc, &self.list_of(session), &query)?;
-        let kept = copied_answer(&told)?;
-        session.note(query, kept)?;
+        session.note(query, &told)?;
         Ok(told)
     }
 

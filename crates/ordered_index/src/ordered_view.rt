@@ -11,6 +11,7 @@ ghost use Rattle.ordered_index.specs.Answers.{answer_to, behind, near, near_by};
 ghost use Rattle.ordered_index.specs.Serial.{Holds, IsFirstConflict};
 
 use crate::query::{Answer, Near, Query};
+use crate::scan::copied_pair;
 use crate::seq::Seq;
 use crate::transaction::Recorded;
 use std::alloc::{AllocError, Global};
@@ -145,17 +146,23 @@ fn cloned<K: Clone, V: Clone>(found: &Near<&K, &V>) -> Result<Near<K, V>, AllocE
     ensures { IfOk result (λ copy. copy ≡ behind found.now) }
 {
     match found {
-        Near::Exact(k, v) => Ok(Near::Exact((**k).clone()?, (**v).clone()?)),
-        Near::Between(k, v, l, w) => {
-            Ok(Near::Between(
-                (**k).clone()?,
-                (**v).clone()?,
-                (**l).clone()?,
-                (**w).clone()?,
-            ))
+        Near::Exact(k, v) => {
+            let (key, value) = copied_pair(*k, *v)?;
+            Ok(Near::Exact(key, value))
         }
-        Near::Smaller(k, v) => Ok(Near::Smaller((**k).clone()?, (**v).clone()?)),
-        Near::Larger(k, v) => Ok(Near::Larger((**k).clone()?, (**v).clone()?)),
+        Near::Between(k, v, l, w) => {
+            let smaller = copied_pair(*k, *v)?;
+            let larger = copied_pair(*l, *w)?;
+            Ok(Near::Between(smaller.0, smaller.1, larger.0, larger.1))
+        }
+        Near::Smaller(k, v) => {
+            let (key, value) = copied_pair(*k, *v)?;
+            Ok(Near::Smaller(key, value))
+        }
+        Near::Larger(k, v) => {
+            let (key, value) = copied_pair(*k, *v)?;
+            Ok(Near::Larger(key, value))
+        }
         Near::Empty => Ok(Near::Empty),
     }
 }

@@ -1,8 +1,8 @@
 //! Lists of calls, made one after the other.
 
-ghost use Rattle.std.specs.Prelude.{◌≡◌, ◌<◌, ◌≤◌, [], ℕ, IfOk, IfErr, IfSome, IfNone, OnErr, OnOk, take, length};
+ghost use Rattle.std.specs.Prelude.{◌≡◌, ◌≤◌, [], IfOk, IfErr, IfSome, IfNone, OnErr};
 ghost use Rattle.leaf_array.specs.Values.{ClonesAreSame, EqualsAreSame};
-ghost use Rattle.ordered_index.specs.Desk.{Serves, KeepsAll, RestsOn, RestsOnNone, OpenStep, CloseStep, ReadStep, AuditStep, NumberStep, LenStep, CommitStep, IsKnown, MayWantMemory, Step, Run};
+ghost use Rattle.ordered_index.specs.Desk.{Serves, KeepsAll, RestsOn, RestsOnNone, OpenStep, CloseStep, ReadStep, AuditStep, NumberStep, LenStep, CommitStep, IsKnown, MayWantMemory, Step, Run, RunsUpTo};
 ghost use Rattle.ordered_index.specs.State.{MayAccept, latest_number};
 
 use crate::commit::{Accepted, Cause, Refused};
@@ -103,7 +103,7 @@ pub fn play_all<K: Clone + Ord, V: Clone + Eq, const S: usize>(
     requires equal_keys { EqualsAreSame K.eq }
     requires equal_values { EqualsAreSame V.eq }
     ensures run { IfOk result (λ replies. Run K.cmp S (record { index = index.old; desk = desk.old }) calls.items replies.items (record { index = index.new; desk = desk.new })) }
-    ensures stopped { IfErr result (λ stop. (n : ℕ) × (n < length calls.items) × Run K.cmp S (record { index = index.old; desk = desk.old }) (take n calls.items) stop.0.items (record { index = index.new; desk = desk.new })) }
+    ensures stopped { IfErr result (λ stop. RunsUpTo K.cmp S (record { index = index.old; desk = desk.old }) calls.items stop.0.items (record { index = index.new; desk = desk.new })) }
     ensures serves { Serves (record { index = index.new; desk = desk.new }) }
     ensures keeps_all { KeepsAll (record { index = index.old; desk = desk.old }) → KeepsAll (record { index = index.new; desk = desk.new }) }
 {

@@ -12,7 +12,7 @@ ghost use Rattle.ordered_index.specs.RemainingPairs.{IsStart};
 
 use crate::ordered_view::{OrderedView, around};
 use crate::query::Near;
-use crate::scan::{Steps, collect, matches, next};
+use crate::scan::{Steps, collect, copied_pair, matches, next};
 use crate::transaction::Transaction;
 use crate::version_view::walk_all;
 use std::alloc::{AllocError, Global};
@@ -97,7 +97,8 @@ fn gathered<'t, K: Clone + Ord + 't, V: Clone + 't, C: Steps<'t, K, V>>(
     let mut cursor = cursor;
     let mut list = TreeIndex::new(alloc);
     'gathering: while let Some((key, value)) = next(&mut cursor) {
-        let Ok(()) = list.upsert_sync(key.clone()?, value.clone()?) else {
+        let (key, value) = copied_pair(key, value)?;
+        let Ok(()) = list.upsert_sync(key, value) else {
             return Err(AllocError);
         };
     }
@@ -144,14 +145,20 @@ fn apply<K: Clone + Ord, V: Clone>(
     ensures { OnOk result (list.new.pairs ≡ after_write K.cmp write.now list.old.pairs) }
 {
     match write {
-        Write::Insert(key, value) => match list.insert_sync(key.clone()?, value.clone()?) {
-            Err(InsertRefused::Memory(_, _)) => Err(AllocError),
-            _ => Ok(()),
-        },
-        Write::Upsert(key, value) => match list.upsert_sync(key.clone()?, value.clone()?) {
-            Ok(()) => Ok(()),
-            Err(_) => Err(AllocError),
-        },
+        Write::Insert(key, value) => {
+            let (key, value) = copied_pair(key, value)?;
+            match list.insert_sync(key, value) {
+                Err(InsertRefused::Memory(_, _)) => Err(AllocError),
+                _ => Ok(()),
+            }
+        }
+        Write::Upsert(key, value) => {
+            let (key, value) = copied_pair(key, value)?;
+            match list.upsert_sync(key, value) {
+                Ok(()) => Ok(()),
+                Err(_) => Err(AllocError),
+            }
+        }
         Write::Remove(key) => {
             list.remove_sync(key);
             Ok(())

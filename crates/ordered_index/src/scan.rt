@@ -59,9 +59,18 @@ pub(crate) fn collect<'t, K: Clone + Ord + 't, V: Clone + 't, C: Steps<'t, K, V>
     let mut cursor = cursor;
     let mut copy = Vec::new(alloc);
     'copying: while let Some((key, value)) = next(&mut cursor) {
-        copy.push((key.clone()?, value.clone()?))?;
+        copy.push(copied_pair(key, value)?)?;
     }
     Ok(copy)
+}
+
+/// A copy of a pair.
+pub(crate) fn copied_pair<K: Clone, V: Clone>(key: &K, value: &V) -> Result<(K, V), AllocError>
+    requires keys { ClonesAreSame K.is_clone }
+    requires values { ClonesAreSame V.is_clone }
+    ensures { IfOk result (λ pair. pair ≡ (key.now, value.now)) }
+{
+    Ok((key.clone()?, value.clone()?))
 }
 
 /// The next pair that a cursor is yet to give.

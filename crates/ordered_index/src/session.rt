@@ -1,9 +1,10 @@
 //! A session's token.
 
 ghost use Rattle.std.specs.Prelude.{◌≡◌, ◌∷◌, ◌++◌, [], ℕ, OnOk, OnErr};
+ghost use Rattle.leaf_array.specs.Values.{ClonesAreSame};
 
 use crate::query::{Answer, Query};
-use crate::transaction::Receipt;
+use crate::transaction::{Receipt, copied_answer};
 use std::alloc::AllocError;
 use std::marker::Model;
 
@@ -59,12 +60,15 @@ impl<K, V> Session<K, V> {
     }
 }
 
-impl<K: Drop, V: Drop> Session<K, V> {
-    // Puts a read at the end of the receipt. Without memory the receipt stays as it was.
-    pub(crate) fn note(&mut self, query: Query<K>, answer: Answer<K, V>) -> Result<(), AllocError>
-        ensures ok { OnOk result (self.new ≡ record self.old { receipt = record self.old.receipt { reads = self.old.receipt.reads ++ (query, answer) ∷ [] } }) }
+impl<K: Clone + Drop, V: Clone + Drop> Session<K, V> {
+    // Puts a read at the end of the receipt, with a copy of its answer. Without memory the receipt stays as it was.
+    pub(crate) fn note(&mut self, query: Query<K>, told: &Answer<K, V>) -> Result<(), AllocError>
+        requires keys { ClonesAreSame K.is_clone }
+        requires values { ClonesAreSame V.is_clone }
+        ensures ok { OnOk result (self.new ≡ record self.old { receipt = record self.old.receipt { reads = self.old.receipt.reads ++ (query, told.now) ∷ [] } }) }
         ensures err { OnErr result (self.new ≡ self.old) }
     {
+        let answer = copied_answer(told)?;
         match self.receipt.reads.push((query, answer)) {
             Ok(()) => Ok(()),
             Err(_) => Err(AllocError),

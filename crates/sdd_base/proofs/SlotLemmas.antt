@@ -1,5 +1,5 @@
 -- what a change of one place and one participant leaves of the store
-use Rattle.std.proofs.Common.{◌≡◌, ◌≢◌, ℕ, zero, suc, ◌+◌, ◌<◌, ◌≤◌, ◌-◌, ◌==◌, Bool, true, false, Option, List, [], ◌∷◌, ◌++◌, length, map, get_or, set, refl, sym, ap, ◌∙◌, arith, length-set, vec_capacity, vec_len, is_some, subst, reverse, ◌&&◌, None, Some, MatchOption, cond, replicate}
+use Rattle.std.proofs.Common.{◌≡◌, ◌≢◌, ℕ, zero, suc, ◌+◌, ◌<◌, ◌≤◌, ◌-◌, ◌==◌, Bool, true, false, Option, List, [], ◌∷◌, ◌++◌, length, map, get_or, set, refl, sym, ap, ◌∙◌, arith, length-set, vec_capacity, vec_len, is_some, subst, reverse, ◌&&◌, None, Some, IfNone, IfSome, MatchOption, cond, replicate}
 use Rattle.std.specs.List.{sum_by, All, list_all}
 use Rattle.std.proofs.lemmas.List.{map-set, get_or-map, length-map}
 use Rattle.std.specs.Vec.{with_item}
@@ -126,12 +126,16 @@ participants_after f ms p q q' known is shown =
     map-set participant_state ms p q' ∙ ap (λ (m : ParticipantState). set (map participant_state ms) p m) (shown ∙ ap f (sym there))
 
 -- what another element of a bag leaves
-pub next_shown : (q : Participant) (v : Vec ℕ) (r : Option ℕ) → q.due.items ≡ v.items ++ option_to_list r → MatchOption r (length q.due.items ≡ 0) (λ _. Unit {0}) → MatchOption r (((participant_state q).due ≡ []) × (participant_state (record q { due = v }) ≡ participant_state q)) (λ i. (is : List ℕ) × ((participant_state q).due ≡ i ∷ is) × (participant_state (record q { due = v }) ≡ left_due is (participant_state q)))
-next_shown q v None e z =
+pub next_none : (q : Participant) (v : Vec ℕ) (r : Option ℕ) → q.due.items ≡ v.items ++ option_to_list r → MatchOption r (length q.due.items ≡ 0) (λ _. Unit {0}) → IfNone r (((participant_state q).due ≡ []) × (participant_state (record q { due = v }) ≡ participant_state q))
+next_none q v None e z =
     let same : v.items ≡ q.due.items = sym (e ∙ append-nil v.items) in
     let none : q.due.items ≡ [] = nil_from_length q.due.items z in
     (ap reverse none, ap (λ (xs : List ℕ). record (participant_state q) { due = reverse xs }) same)
-next_shown q v (Some i) e z = (reverse v.items, ap reverse e ∙ reverse-append v.items (i ∷ []), refl)
+next_none q v (Some i) e z = tt
+
+pub next_taken : (q : Participant) (v : Vec ℕ) (r : Option ℕ) → q.due.items ≡ v.items ++ option_to_list r → IfSome r (λ i. (is : List ℕ) × ((participant_state q).due ≡ i ∷ is) × (participant_state (record q { due = v }) ≡ left_due is (participant_state q)))
+next_taken q v None e = tt
+next_taken q v (Some i) e = (reverse v.items, ap reverse e ∙ reverse-append v.items (i ∷ []), refl)
 
 -- a change of one participant alone
 pub changed_view : {T J : Type 0} (a : Inside T J) (p : ℕ) (f : ParticipantState → ParticipantState) (q q' : Participant) → p < length a.participants.items → q ≡ get_or a.participants.items p q → participant_state q' ≡ f (participant_state q) → state_of (record a { participants = with_item a.participants p q' }) ≡ changing p f (state_of a)

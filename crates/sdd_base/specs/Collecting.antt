@@ -1,8 +1,9 @@
 -- what collecting an item makes of a place and of a collector
-use Rattle.std.specs.Prelude.{ℕ, List}
+use Rattle.std.specs.Prelude.{◌≡◌, ℕ, List}
 use Rattle.sdd_base.specs.Holding.{Hold}
 use Rattle.sdd_base.specs.State.{State}
 use Rattle.sdd_base.specs.Steps.{set_aside, enqueued, purged, left_waiting}
+use Rattle.sdd_base.specs.Place.{IsOwned}
 use Rattle.sdd_base.specs.Tokens.{waiting_in, room_of}
 use Rattle.sdd_base.specs.declared.collector.PrivateCollector.{PrivateCollector}
 
@@ -21,3 +22,10 @@ module _ {T : Type 0} (holds : T → List Hold) (p : ℕ) (c : PrivateCollector 
 
   abbrev pub left_with : ℕ → State T → List ℕ
   left_with i w = enqueued (room_of c) (left_in w) i
+
+  -- c, which becomes d, takes in the owned item of slot i, unless that was reclaimed before
+  pub record CollectsOwned (i : ℕ) (d : PrivateCollector T) (w w' : State T) : Type 0 where
+    pub state : IsOwned (swept_by w) i → w' ≡ collected i w
+    pub left : IsOwned (swept_by w) i → waiting_in d ≡ left_with i w
+    pub gone : ¬ IsOwned (swept_by w) i → w' ≡ swept_by w
+    pub others : ¬ IsOwned (swept_by w) i → waiting_in d ≡ left_in w

@@ -1,7 +1,7 @@
 -- what holds of every place of one thread between two calls
-use Rattle.std.specs.Prelude.{◌≡◌, ℕ, ◌+◌, ◌<◌, ◌≤◌, [], length, is_some, Option, None, Some, true}
+use Rattle.std.specs.Prelude.{◌≡◌, ◌≢◌, ℕ, ◌+◌, ◌<◌, ◌≤◌, [], length, is_some, Option, None, Some, true}
 use Rattle.std.specs.List.{sum_by}
-use Rattle.sdd_base.specs.State.{State, ParticipantState, status_at, value_at, cell_at, participant_at, local_at, weight, is_used}
+use Rattle.sdd_base.specs.State.{State, ParticipantState, status_at, value_at, cell_at, participant_at, local_at, weight, is_used, with_status, with_cell}
 use Rattle.sdd_base.specs.Steps.{times}
 use Rattle.sdd_base.specs.declared.tag.Tag.{Tag}
 use Rattle.sdd_base.specs.declared.sizes.Sizes.{Sizes}
@@ -73,6 +73,22 @@ pub record HasItem {T : Type 0} (w : State T) (i : ℕ) : Type 0 where
 -- slot i has a shared item with one owner alone
 abbrev pub HasOneOwner : {T : Type 0} → State T → ℕ → Type 0
 HasOneOwner w i = (n : ℕ) × (status_at w i ≡ status.Shared n) × (n ≤ 1)
+
+-- the item in slot i has one owner more
+abbrev pub AddsOwner : {T : Type 0} → ℕ → State T → State T → Type 0
+AddsOwner i w w' = (n : ℕ) × (status_at w i ≡ status.Shared n) × (w' ≡ with_status i (status.Shared (n + 1)) w)
+
+-- slot i has no shared item, or one with as many owners as are counted
+abbrev pub TakesNoOwner : {T : Type 0} → ℕ → State T → Type 0
+TakesNoOwner i w = (n : ℕ) → n < 4294967295 → status_at w i ≢ status.Shared n
+
+-- a new cell c copies a cell of shared items, which keeps an item or none, with a tag
+pub record CopiesCell {T : Type 0} (c : ℕ) (item : Option ℕ) (tag : Tag) (w w' : State T) : Type 0 where
+  -- it keeps one more owner of the item
+  pub more : (i n : ℕ) → item ≡ Some i → status_at w i ≡ status.Shared n → n < 4294967295 → w' ≡ with_cell c (cell.OfShared (Some i) tag) (with_status i (status.Shared (n + 1)) w)
+  -- and none where the item takes none
+  pub none : (i : ℕ) → item ≡ Some i → TakesNoOwner i w → w' ≡ with_cell c (cell.OfShared None tag) w
+  pub null : item ≡ None → w' ≡ with_cell c (cell.OfShared None tag) w
 
 -- a pointer is null, or names an item that is there
 abbrev pub IsReadable : {T : Type 0} → State T → Option ℕ → Type 0

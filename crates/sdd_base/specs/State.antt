@@ -6,6 +6,7 @@ use Rattle.sdd_base.specs.declared.status.Cell.{Cell}
 use Rattle.sdd_base.specs.declared.status.Cell.TheVariants as cell
 use Rattle.sdd_base.specs.declared.status.LocalState.{LocalState}
 use Rattle.sdd_base.specs.declared.sizes.Sizes.{Sizes}
+use Rattle.sdd_base.specs.declared.tag.Tag.{Tag}
 
 -- a participant: its notes on itself, the places in its three bags (of age 0, 1 and 2), and those that are being reclaimed
 pub record ParticipantState : Type 0 where
@@ -166,6 +167,13 @@ with_status i s w = record w { states = set w.states i s }
 
 abbrev pub with_cell : {T : Type 0} → ℕ → Cell → State T → State T
 with_cell c k w = record w { cells = set w.cells c k }
+
+-- a cell that has tag t, where it is in use
+abbrev pub with_tag : Tag → Cell → Cell
+with_tag t cell.Free = cell.Free
+with_tag t (cell.OfOwned o s) = cell.OfOwned o t
+with_tag t (cell.OfShared o s) = cell.OfShared o t
+with_tag t (cell.OfRaw o s) = cell.OfRaw o t
 
 abbrev pub placed : {T : Type 0} → ℕ → T → Status → State T → State T
 placed i v s w = record w { values = set w.values i (Some v); states = set w.states i s }

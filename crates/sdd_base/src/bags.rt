@@ -1,6 +1,6 @@
 //! The bags of a participant, with room for every place from the start.
 
-ghost use Rattle.std.specs.Prelude.{◌≡◌, ◌≢◌, ℕ, ◌+◌, ◌<◌, ◌≤◌, List, [], ◌∷◌, length, MatchOption, IfOk, vec_capacity};
+ghost use Rattle.std.specs.Prelude.{◌≡◌, ◌≢◌, ℕ, ◌+◌, ◌<◌, List, [], ◌∷◌, length, MatchOption, IfNone, IfSome, IfOk, vec_capacity};
 ghost use Rattle.sdd_base.specs.State.{nobody, put_participant, bags_moved_on, left_due, recalled};
 ghost use Rattle.sdd_base.specs.View.{BagsHaveRoom, participant_state, waiting};
 
@@ -57,7 +57,8 @@ impl Participant {
 
     /// The next place that is due.
     pub(crate) fn next(&mut self) -> Option<usize>
-        ensures shown { MatchOption result (((participant_state self.old).due ≡ []) × (participant_state self.new ≡ participant_state self.old)) (λ i. (is : List ℕ) × ((participant_state self.old).due ≡ i ∷ is) × (participant_state self.new ≡ left_due is (participant_state self.old))) }
+        ensures none { IfNone result (((participant_state self.old).due ≡ []) × (participant_state self.new ≡ participant_state self.old)) }
+        ensures taken { IfSome result (λ i. (is : List ℕ) × ((participant_state self.old).due ≡ i ∷ is) × (participant_state self.new ≡ left_due is (participant_state self.old))) }
         ensures room { (n : ℕ) → BagsHaveRoom n self.old → BagsHaveRoom n self.new }
         ensures waits { MatchOption result (waiting self.new ≡ waiting self.old) (λ _. waiting self.new + 1 ≡ waiting self.old) }
     {

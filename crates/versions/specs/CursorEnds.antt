@@ -1,11 +1,14 @@
 -- The ends of a walk over blocks.
-use Rattle.std.specs.Prelude.{◌≡◌, ℕ, suc, ◌+◌, ◌-◌, ◌<◌, ◌≤◌, List, length, drop, take, slice_get, Some}
+use Rattle.std.specs.Prelude.{◌≡◌, ℕ, suc, ◌+◌, ◌-◌, ◌<◌, ◌≤◌, false, List, length, drop, take, slice_get, Some}
 use Rattle.std.specs.Borrow.{Bor}
 use Rattle.std.specs.declared.cmp.Ordering.{Ordering}
 use Rattle.std.specs.declared.cmp.Ordering.TheVariants.{Less}
+use Rattle.std.specs.declared.ops.Bound.{Bound}
 use Rattle.std.specs.List.{All}
-use Rattle.leaf_array.specs.Pairs.{IsAscending}
-use Rattle.tree_index.specs.Cursor.{whole, turned}
+use Rattle.std.specs.Range.Bound.{bound_map}
+use Rattle.leaf_array.specs.Cells.{lesser}
+use Rattle.leaf_array.specs.Pairs.{IsAscending, has_key}
+use Rattle.tree_index.specs.Cursor.{whole, turned, before_start, up_to_end}
 use Rattle.tree_index.specs.Shape.{AllKeys}
 use Rattle.tree_index.specs.declared.cursor.End.{End}
 use Rattle.tree_index.specs.declared.cursor.End.TheVariants.{Unopened, At, Done}
@@ -97,6 +100,29 @@ module _ {K V : Type 0} where
   -- the pair stands at this place of the blocks
   abbrev pub IsPairAt : List (List (K × V)) → ℕ → Bor K × Bor V → Type 0
   IsPairAt blocks n pair = slice_get (pairs_in blocks) n ≡ Some (pair.0.now, pair.1.now)
+
+  -- a count of pairs at the front reaches into the block at a place
+  abbrev pub CountsInto : List (List (K × V)) → ℕ → (List (K × V) → ℕ) → Type 0
+  CountsInto blocks place count = (b : List (K × V)) → slice_get blocks place ≡ Some b → count (pairs_in blocks) ≡ pairs_before_block blocks place + count b
+
+  -- a position whose forward end stands behind n pairs, with the pair there; whose backward end stands at the last of n
+  -- pairs, with that one
+  abbrev pub FoundFore : List (List (K × V)) → ℕ → Position K V × (Bor K × Bor V) → Type 0
+  FoundFore blocks n found = IsForeAt blocks n found.0 × IsPairAt blocks n found.1
+
+  abbrev pub FoundRear : List (List (K × V)) → ℕ → Position K V × (Bor K × Bor V) → Type 0
+  FoundRear blocks n found = IsRearAt blocks n found.0 × IsPairAt blocks (n - 1) found.1
+
+  -- how many pairs of a list lie before a lower bound, and how many up to an upper one
+  abbrev pub count_before : (K → K → Ordering) → Bound (Bor K) → List (K × V) → ℕ
+  count_before cmp lower pairs = before_start cmp (bound_map (λ k. k.now) lower) pairs
+
+  abbrev pub count_upto : (K → K → Ordering) → Bound (Bor K) → List (K × V) → ℕ
+  count_upto cmp upper pairs = up_to_end cmp (bound_map (λ k. k.now) upper) pairs
+
+  -- whatever key no pair has, and n pairs have lesser ones
+  abbrev pub OfAbsent : (K → K → Ordering) → List (List (K × V)) → ℕ → (K → Type 0) → Type 0
+  OfAbsent cmp blocks n P = (key : K) → lesser cmp key (pairs_in blocks) ≡ n → has_key cmp key (pairs_in blocks) ≡ false → P key
 
   -- the ends of its cursor change places
   abbrev pub swapped : (K → K → Ordering) → CursorEnd K V → CursorEnd K V

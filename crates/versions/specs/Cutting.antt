@@ -5,12 +5,19 @@ use Rattle.std.specs.declared.cmp.Ordering.TheVariants.{Less, Greater}
 use Rattle.std.specs.List.{All}
 use Rattle.leaf_array.specs.Pairs.{IsAscending}
 use Rattle.tree_index.specs.Shape.{AllKeys}
+use Rattle.versions.specs.Changes.{ahead, apply_delta}
 use Rattle.versions.specs.Cuts.{IsTight, greatest_key, pairs_in}
+use Rattle.versions.specs.Gone.{is_gone, without_gone}
 use Rattle.versions.specs.Parts.{blocks_of_parts, made_in}
+use Rattle.versions.specs.declared.building.gone.Gone.{Gone}
 use Rattle.versions.specs.declared.building.segments.Part.{Part}
 use Rattle.versions.specs.declared.building.segments.Part.TheVariants as parts
 use Rattle.versions.specs.declared.building.segments.Row.{Row}
 use Rattle.versions.specs.declared.building.segments.SegmentBuilder.{SegmentBuilder}
+
+-- whatever block stands at a place
+abbrev pub OfBlock : {X : Type 0} → List (List X) → ℕ → (List X → Type 0) → Type 0
+OfBlock blocks place P = (b : List _) → Some b ≡ slice_get blocks place → P b
 
 -- what lies from one place of a list up to another
 abbrev pub between : {X : Type 0} → ℕ → ℕ → List X → List X
@@ -117,6 +124,23 @@ module _ {K V N : Type 0} where
     pub spare : length c.tail.pairs ≡ 0 → 0 < c.row.last → (b : List (K × V)) → slice_get rest 0 ≡ Some b → c.row.last + length b ≤ s → trees c + 1 + 2 * left + turn_count test last (pairs_in rest) ≤ budget
     pub behind : last ≡ true → length c.tail.pairs ≡ 0 → trees c + 1 + 2 * left + turn_count test last (pairs_in rest) ≤ budget
 
+  -- whatever the budget is, it is kept to, from one place of the blocks with so many edits left to another
+  abbrev pub StaysThrifty : ℕ → (K → Bool) → List (List (K × V)) → ℕ → ℕ → SegmentBuilder K V N → ℕ → ℕ → SegmentBuilder K V N → Type 0
+  StaysThrifty s test blocks place left c place' left' c' = (budget : ℕ) (last : Bool) → IsThrifty s budget test last (drop place blocks) left c → (last' : Bool) × IsThrifty s budget test last' (drop place' blocks) left' c'
+
+-- what is left of the block at a place, and of those behind it less what is gone
+abbrev pub rest_behind : {K V : Type 0} → (K → K → Ordering) → List (Gone K) → List (List (K × V)) → ℕ → List (K × V) → List (K × V)
+rest_behind cmp gone blocks place pairs = pairs ++ without_gone cmp gone (pairs_in (drop (place + 1) blocks))
+
+-- the list that comes of the pairs that were given, of the edits that are left, and of the blocks from a place on, less
+-- what is gone, stays the same; or of what is left of the block at a place, and of those behind it
+module _ {K V N : Type 0} (named : N → List (K × V)) (cmp : K → K → Ordering) (gone : List (Gone K)) (blocks : List (List (K × V))) where
+  abbrev pub KeepsListFrom : ℕ → List (K × Option V) → SegmentBuilder K V N → ℕ → List (K × Option V) → SegmentBuilder K V N → Type 0
+  KeepsListFrom place edits c place' edits' c' = given_pairs named c' ++ ahead cmp edits' gone place' blocks ≡ given_pairs named c ++ ahead cmp edits gone place blocks
+
+  abbrev pub KeepsListWithin : ℕ → List (K × V) → List (K × Option V) → SegmentBuilder K V N → List (K × V) → List (K × Option V) → SegmentBuilder K V N → Type 0
+  KeepsListWithin place pairs edits c pairs' edits' c' = given_pairs named c' ++ apply_delta cmp edits' (rest_behind cmp gone blocks place pairs') ≡ given_pairs named c ++ apply_delta cmp edits (rest_behind cmp gone blocks place pairs)
+
 module _ {K V X : Type 0} (cmp : K → K → Ordering) where
   -- the first change is at or below the last key of a segment; or all keys are below it
   pub record IsReachedBy (changes : List (K × X)) (pairs : List (K × V)) : Type 0 where
@@ -128,3 +152,10 @@ module _ {K V X : Type 0} (cmp : K → K → Ordering) where
 
   abbrev pub IsPassedBy : List (K × X) → List (K × V) → Type 0
   IsPassedBy changes pairs = (change : K × X) → slice_get changes 0 ≡ Some change → AllKeys (λ k. cmp k change.0 ≡ Less) pairs
+
+  -- neither the first change nor a range that is gone touches a block; or one of them does
+  abbrev pub IsUntouched : List (K × X) → List (Gone K) → List (K × V) → Type 0
+  IsUntouched changes gone b = IsPassedBy changes b × AllKeys (λ k. is_gone cmp gone k ≡ false) b
+
+  abbrev pub IsTouched : List (K × X) → List (Gone K) → List (K × V) → Type 0
+  IsTouched changes gone b = IsReachedBy changes b ⊎ (AllKeys (λ k. is_gone cmp gone k ≡ false) b → ⊥)

@@ -7,11 +7,13 @@ use Rattle.sdd_base.specs.Frame.{Frame, IsLive}
 use Rattle.sdd_base.specs.Holding.{Hold, SharedItem}
 use Rattle.sdd_base.specs.Passing.{IsPlain}
 use Rattle.sdd_base.specs.Place.{IsPlace, IsShared}
-use Rattle.sdd_base.specs.State.{IsFree, State, in_use, placed, status_at, vacancy, value_at, with_status}
+use Rattle.sdd_base.specs.State.{IsFree, State, in_use, placed, status_at, vacancy, value_at, with_cell, with_status}
 use Rattle.sdd_base.specs.Steps.{released, times}
 use Rattle.sdd_base.specs.Tokens.{loaded_slot}
 use Rattle.sdd_base.specs.declared.pointer.Loaded.{Loaded}
+use Rattle.sdd_base.specs.declared.status.Cell.TheVariants as cell
 use Rattle.sdd_base.specs.declared.status.Status.TheVariants as status
+use Rattle.sdd_base.specs.declared.tag.Tag.TheVariants as tag
 use Rattle.versions.specs.Cuts.{IsCut, pairs_in}
 use Rattle.versions.specs.Items.{held_by, slots_of}
 use Rattle.versions.specs.Versions.{IsSegment, IsVersion, segment_pairs, list_of}
@@ -147,3 +149,7 @@ module _ {K V : Type 0} {s : ℕ} where
 abbrev pub owner_given_back : {T : Type 0} → ℕ → Option ℕ → State T → State T
 owner_given_back p None w = w
 owner_given_back p (Some i) w = released p i w
+
+-- cell c names the item in slot i, without a tag, and p gives back what the cell kept
+abbrev pub root_set : {T : Type 0} → ℕ → ℕ → ℕ → Option ℕ → State T → State T
+root_set p c i kept w = owner_given_back p kept (with_cell c (cell.OfShared (Some i) tag.None) w)

@@ -14,14 +14,22 @@ use Rattle.versions.specs.Items.{held_by}
 use Rattle.versions.specs.Placing.{HasVersion, IsLevelled}
 use Rattle.versions.specs.Staying.{IsSeen}
 use Rattle.versions.specs.Versions.{list_of}
+use Rattle.sdd_base.specs.declared.owner.Kept.{Kept}
+use Rattle.versions.specs.Writes.{after_writes}
+use Rattle.versions.specs.declared.directory.Directory.{Directory}
 use Rattle.versions.specs.declared.item.Item.{Item}
 use Rattle.versions.specs.declared.item.Item.TheVariants as items
 use Rattle.versions.specs.declared.store.readers.Opened.{Opened}
+use Rattle.versions.specs.declared.write.Write.{Write}
 
 -- a list, and its number
 pub record Version (K V : Type 0) : Type 0 where
   pub number : ℕ
   pub pairs : List (K × V)
+
+-- the version that writes leave of one, under the next number
+abbrev pub next_version : {K V : Type 0} → (K → K → Ordering) → List (Write K V) → Version K V → Version K V
+next_version cmp writes v = record { number = v.number + 1; pairs = after_writes cmp writes v.pairs }
 
 -- the present version; at each place the one that its reader has; how many slots there are and are in use; how often the
 -- epoch was raised
@@ -45,9 +53,13 @@ abbrev pub no_version : {K V : Type 0} → Version K V
 no_version = record { number = 0; pairs = [] }
 
 module _ {K V : Type 0} {s : ℕ} where
+  -- the version of a directory
+  abbrev pub directory_version : (ℕ → Option (Item K V s)) → Directory K Kept → Version K V
+  directory_version at d = record { number = d.number; pairs = list_of at d }
+
   abbrev pub version_of : (ℕ → Option (Item K V s)) → Option (Item K V s) → Version K V
   version_of at None = no_version
-  version_of at (Some (items.Directory d)) = record { number = d.number; pairs = list_of at d }
+  version_of at (Some (items.Directory d)) = directory_version at d
   version_of at (Some (items.Segment t)) = no_version
 
   -- the version in a slot

@@ -1,6 +1,7 @@
 -- Writes of a list of pairs: the list that each leaves, and what it is told.
 use Rattle.std.specs.Prelude.{cond, not, List, [], ◌∷◌}
 use Rattle.std.specs.declared.cmp.Ordering.{Ordering}
+use Rattle.std.specs.declared.ops.Bound.{Bound}
 use Rattle.std.specs.BTreeMap.Range.{range_contains}
 use Rattle.std.specs.List.{filter}
 use Rattle.leaf_array.specs.Edits.{inserted, removed, upserted}
@@ -11,12 +12,16 @@ use Rattle.versions.specs.declared.write.Write.{Write}
 use Rattle.versions.specs.declared.write.Write.TheVariants as writes
 
 module _ {K V : Type 0} (cmp : K → K → Ordering) where
+  -- the pairs whose keys lie outside two bounds
+  abbrev pub pairs_outside : Bound K → Bound K → List (K × V) → List (K × V)
+  pairs_outside lower upper pairs = filter (λ p. not (range_contains cmp lower upper p.0)) pairs
+
   -- the list that a write leaves
   abbrev pub after_write : Write K V → List (K × V) → List (K × V)
   after_write (writes.Insert key value) pairs = inserted cmp key value pairs
   after_write (writes.Upsert key value) pairs = upserted cmp key value pairs
   after_write (writes.Remove key) pairs = removed cmp key pairs
-  after_write (writes.RemoveRange lower upper) pairs = filter (λ p. not (range_contains cmp lower upper p.0)) pairs
+  after_write (writes.RemoveRange lower upper) pairs = pairs_outside lower upper pairs
   after_write writes.Clear pairs = []
 
   -- what a write is told

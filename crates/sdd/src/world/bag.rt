@@ -1,12 +1,11 @@
 //! Bags over a `World`.
 
-ghost use Rattle.std.specs.Prelude.{◌≡◌, ◌<◌, ◌≤◌, ◌⊎◌, ◌↔◌, ◌++◌, List, [], length, IfOk, IfErr, OnErr, OnOk, MatchOption, IsTrue, IsErrOf};
+ghost use Rattle.std.specs.Prelude.{◌≡◌, ◌<◌, ◌≤◌, ◌⊎◌, ◌↔◌, ◌++◌, [], length, IfOk, IfErr, OnErr, OnOk, IsTrue, IsErrOf};
 ghost use Rattle.sdd_base.specs.State.{emptiness};
 ghost use Rattle.sdd_base.specs.Frame.{OnlyParticipant};
 ghost use Rattle.std.specs.List.{sum_by, FoldsTo};
-ghost use Rattle.sdd_base.specs.Tokens.{shared_slot};
-ghost use Rattle.sdd.specs.Chain.{Entry, Leaves, Stays};
-ghost use Rattle.sdd.specs.Bags.{IsLength, PutsPrimary, PutsOverflow, TakesOne, IsSameBag, CallsWith, AreOwn, AreSpare, AreFreeCells, bag_cells, into_cells};
+ghost use Rattle.sdd.specs.Chain.{Leaves, Stays};
+ghost use Rattle.sdd.specs.Bags.{IsLength, PutsPrimary, CallsWith, AreFreeCells, bag_cells, into_cells};
 ghost use Rattle.std.specs.Iterator.{IsFiniteIterable};
 ghost use Rattle.sdd.specs.FromIter.{FillsBag, IfUnmade, IfNoSlot};
 ghost use Rattle.sdd.specs.declared.linked_entry.LinkedEntry.{LinkedEntry};
@@ -97,7 +96,8 @@ pub fn from_iter<T, J: Deferred, const ARRAY_LEN: usize, I: IntoIterator<Item = 
     requires length { IsLength ARRAY_LEN }
     requires ends { IsFiniteIterable I.into_iter_gives I.IntoIter.can_next I.IntoIter.remaining values }
     ensures filled { IfOk result (λ b. GivesAll I.into_iter_gives I.IntoIter.next_gives values (λ vs. FillsBag ARRAY_LEN w.old w.new (bag_cells b) vs)) }
-    ensures partly { IfErr result (λ e. IfNoSlot e (λ b v. GivesUpTo I.into_iter_gives I.IntoIter.next_gives values v (λ vs. FillsBag ARRAY_LEN w.old w.new (bag_cells b) vs × NoRoom w.new))) }
+    ensures partly { IfErr result (λ e. IfNoSlot e (λ b v. GivesUpTo I.into_iter_gives I.IntoIter.next_gives values v (λ vs. FillsBag ARRAY_LEN w.old w.new (bag_cells b) vs))) }
+    ensures room { IfErr result (λ e. IfNoSlot e (λ _ _. NoRoom w.new)) }
     ensures none { IfErr result (λ e. IfUnmade e (λ r back. (back ≡ values) × (w.new ≡ w.old) × (r ≡ NotMade.NoSlot → sum_by emptiness w.old.cells ≤ ARRAY_LEN))) }
     ensures list { IfOk result (λ b. SomeBagIn w.new b) }
     ensures built { IfErr result (λ e. IfNoSlot e (λ b _. SomeBagIn w.new b)) }

@@ -1,13 +1,12 @@
 //! Walks along the bags of a place that lend each value for writing.
 
-ghost use Rattle.std.specs.Prelude.{◌≡◌, ◌≢◌, ◌<◌, ◌≤◌, ◌⊎◌, ◌↔◌, ◌++◌, ℕ, List, [], ◌∷◌, length, drop, map, Some, IfOk, IfSome, IfNone, IsErr, MatchOption, false};
+ghost use Rattle.std.specs.Prelude.{◌≡◌, ◌<◌, ◌≤◌, ◌⊎◌, ◌↔◌, ℕ, [], ◌∷◌, length, drop, map, Some, IfOk, IfSome, IfNone, IsErr, MatchOption, false};
 ghost use Rattle.std.specs.Borrow.{RestsIfErr, sem};
 ghost use Rattle.sdd_base.specs.Place.{IsOpen};
 ghost use Rattle.sdd_base.specs.Tokens.{link_cell, shared_cell};
-ghost use Rattle.sdd.specs.Chain.{Entry};
-ghost use Rattle.sdd.specs.Bags.{IsBag, IsNull, IsSomeBag, bag_cells};
+ghost use Rattle.sdd.specs.Bags.{IsNull, IsSomeBag, bag_cells};
 ghost use Rattle.sdd.specs.Iters.{first_value};
-ghost use Rattle.sdd.specs.MutableIteration.{StaysAtEnd, Finds, IsLeft, IsSomeLeft, LendsNext, cells_from, stop_cells, stop_here, walk_bag, walk_cells, walk_name, walk_place};
+ghost use Rattle.sdd.specs.MutableIteration.{Finds, IsLeft, IsSomeLeft, LendsNext, cells_from, stop_cells, stop_here, walk_bag, walk_cells, walk_name, walk_place};
 ghost use Rattle.sdd.specs.declared.linked_entry.LinkedEntry.{LinkedEntry};
 ghost use Rattle.sdd.specs.Calls.{OfWalk, WalksBag};
 
@@ -127,7 +126,8 @@ impl<'a, T, W: WalkedPlace<T>> IterMut<'a, T, W> {
         ensures same { walk_name self.new ≡ walk_name self.old }
         ensures bag { walk_bag self.new ≡ walk_bag self.old }
         ensures place { walk_place self.new ≡ walk_place self.old }
-        ensures none { IfNone result ((walk_cells self.new ≡ walk_cells self.old) × ((es : List (Entry (LinkedEntry T))) → IsLeft (W.state (walk_place self.old)) (walk_cells self.old) es → es ≡ [])) }
+        ensures cells { IfNone result (walk_cells self.new ≡ walk_cells self.old) }
+        ensures none { IfNone result (OfWalk (W.state (walk_place self.old)) (walk_cells self.old) (λ es. es ≡ [])) }
         ensures some { IfSome result (λ c. OfWalk (W.state (walk_place self.old)) (walk_cells self.old) (Finds (W.state (walk_place self.old)) (link_cell c) (walk_cells self.new))) }
     {
         let from = Link::of(self.at.cell());
@@ -145,7 +145,7 @@ impl<'a, T, W: WalkedPlace<T>> IterMut<'a, T, W> {
     pub fn next(&mut self) -> Option<&mut T>
         requires { IsSomeLeft (W.state (walk_place self.old)) (walk_cells self.old) }
         ensures* lends { sem 𝓛 (LendsNext T.row W.row W.state self.entry result) }
-        ensures gives { (es : List (Entry (LinkedEntry T))) → IsLeft (W.state (walk_place self.old)) (walk_cells self.old) es → MatchOption result (es ≡ []) (λ v. first_value es ≡ Some v.now) }
+        ensures gives { OfWalk (W.state (walk_place self.old)) (walk_cells self.old) (λ es. MatchOption result (es ≡ []) (λ v. first_value es ≡ Some v.now)) }
     {
         let Some(here) = self.advance() else {
             return None;

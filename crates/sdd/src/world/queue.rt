@@ -8,7 +8,6 @@ ghost use Rattle.sdd_base.specs.Steps.{released};
 ghost use Rattle.sdd_base.specs.Tokens.{shared_slot, ptr_slot, ptr_tag};
 ghost use Rattle.sdd.specs.Nodes.{NamesSomeEntry, IsListed};
 ghost use Rattle.std.specs.Fn.{FnOnceReturnsAt};
-ghost use Rattle.std.specs.Option.{option_copied};
 ghost use Rattle.sdd.specs.Stacks.{took_entry};
 ghost use Rattle.sdd.specs.Chain.{Hangs, IsList, Leaves, Stays, undeleted, first_item, first_slot, front_tag, skip, links, slots};
 ghost use Rattle.sdd.specs.Entries.{entry_link};
@@ -18,7 +17,7 @@ ghost use Rattle.sdd.specs.Copies.{ClonesAreSame};
 ghost use Rattle.sdd.specs.FromIter.{entry_values, Extends, FillsQueue, IfUnmade, IfNoSlot, IfUncopied, IfPartly};
 ghost use Rattle.sdd.specs.Refusals.{refused_value, IsCondition, IsNoSlot};
 ghost use Rattle.sdd.specs.Queues.{oldest_cell, newest_cell, HasOldest};
-ghost use Rattle.sdd.specs.Calls.{AppendsTo, AskedFirst, CanAskFirst, CopiesQueueUpTo, CopiesUpTo, FirstIsFull, GivesAll, GivesUpTo, KeepsEntries, NoRoom, NoTwoCells, OnlyQueue, QueueIn, SomeQueueIn, TakesFrom};
+ghost use Rattle.sdd.specs.Calls.{AppendsTo, AskedFirst, CanAskFirst, CopiesQueueUpTo, FirstIsFull, GivesAll, GivesUpTo, KeepsEntries, NoRoom, NoTwoCells, OnlyQueue, QueueIn, SomeQueueIn, TakesFrom};
 
 use crate::iter::Iter;
 use crate::linked_entry::LinkedEntry;
@@ -121,7 +120,8 @@ pub fn from_iter<T, J: Deferred, I: IntoIterator<Item = T>>(
     requires participant { 0 < length w.old.participants }
     requires ends { IsFiniteIterable I.into_iter_gives I.IntoIter.can_next I.IntoIter.remaining values }
     ensures filled { IfOk result (λ q. GivesAll I.into_iter_gives I.IntoIter.next_gives values (λ vs. FillsQueue w.old w.new (oldest_cell q) (newest_cell q) vs)) }
-    ensures partly { IfErr result (λ e. IfNoSlot e (λ q v. GivesUpTo I.into_iter_gives I.IntoIter.next_gives values v (λ vs. FillsQueue w.old w.new (oldest_cell q) (newest_cell q) vs × NoRoom w.new))) }
+    ensures partly { IfErr result (λ e. IfNoSlot e (λ q v. GivesUpTo I.into_iter_gives I.IntoIter.next_gives values v (λ vs. FillsQueue w.old w.new (oldest_cell q) (newest_cell q) vs))) }
+    ensures room { IfErr result (λ e. IfNoSlot e (λ _ _. NoRoom w.new)) }
     ensures none { IfErr result (λ e. IfUnmade e (λ r back. (r ≡ NotMade.NoSlot) × (back ≡ values) × (w.new ≡ w.old) × NoTwoCells w.old)) }
     ensures list { IfOk result (λ q. SomeQueueIn w.new q) }
     ensures built { IfErr result (λ e. IfNoSlot e (λ q _. SomeQueueIn w.new q)) }
@@ -288,7 +288,7 @@ pub fn push_if<T, J: Deferred, F: FnOnce(Option<&LinkedEntry<T>>) -> bool>(
     requires callable { CanAskFirst F.pre f (QueueIn w.old queue.now) }
     requires participant { 0 < length w.old.participants }
     requires list { SomeQueueIn w.old queue.now }
-    ensures asked { (es : _) → QueueIn w.old queue.now es → (o : _) × (r : Bool) × (option_copied o ≡ first_item (undeleted es)) × F.post f o r × (IsErrAnd result IsCondition ↔ (r ≡ false)) }
+    ensures asked { (r : Bool) × AskedFirst F.post f (QueueIn w.old queue.now) r × (IsErrAnd result IsCondition ↔ (r ≡ false)) }
     ensures pushed { IfOk result (λ s. AppendsTo w.old w.new queue.now value s) }
     ensures back { IfErr result (λ e. (refused_value e ≡ value) × (w.new ≡ w.old)) }
     ensures full { IfErr result (λ e. IsNoSlot e → NoRoom w.old) }

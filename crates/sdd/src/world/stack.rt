@@ -7,7 +7,6 @@ ghost use Rattle.sdd_base.specs.Place.{IsShared};
 ghost use Rattle.sdd_base.specs.Steps.{released};
 ghost use Rattle.sdd_base.specs.Tokens.{link_cell, shared_slot, ptr_slot, ptr_tag};
 ghost use Rattle.sdd.specs.Nodes.{NamesSomeEntry, IsListed};
-ghost use Rattle.std.specs.Option.{option_copied};
 ghost use Rattle.std.specs.Fn.{FnOnceReturnsAt};
 ghost use Rattle.sdd.specs.Chain.{Hangs, IsList, Leaves, Stays, undeleted, first_item, first_slot, front_tag, skip};
 ghost use Rattle.sdd.specs.Entries.{entry_link};
@@ -17,7 +16,7 @@ ghost use Rattle.sdd.specs.Copies.{ClonesAreSame};
 ghost use Rattle.sdd.specs.FromIter.{entry_values, ExtendsLast, FillsStack, IfUnmade, IfNoSlot, IfUncopied, IfPartly};
 ghost use Rattle.sdd.specs.Refusals.{refused_value, IsCondition, IsNoSlot};
 ghost use Rattle.sdd.specs.Stacks.{stack_cell, took_entry, IsSomeStack, Pushes};
-ghost use Rattle.sdd.specs.Calls.{AskedFirst, CanAskFirst, CopiesStackUpTo, CopiesUpTo, FirstIsFull, GivesAll, GivesUpTo, NoRoom, OnlyStack, PopsFrom, StackIn};
+ghost use Rattle.sdd.specs.Calls.{AskedFirst, CanAskFirst, CopiesStackUpTo, FirstIsFull, GivesAll, GivesUpTo, NoRoom, OnlyStack, PopsFrom, StackIn};
 
 use crate::iter::Iter;
 use crate::linked_entry::LinkedEntry;
@@ -114,7 +113,8 @@ pub fn from_iter<T, J: Deferred, I: IntoIterator<Item = T>>(
 ) -> Result<Stack<T>, FromIterRefused<Stack<T>, T, I>>
     requires { IsFiniteIterable I.into_iter_gives I.IntoIter.can_next I.IntoIter.remaining values }
     ensures filled { IfOk result (λ s. GivesAll I.into_iter_gives I.IntoIter.next_gives values (λ vs. FillsStack w.old w.new (stack_cell s) (reverse vs))) }
-    ensures partly { IfErr result (λ e. IfNoSlot e (λ s v. GivesUpTo I.into_iter_gives I.IntoIter.next_gives values v (λ vs. FillsStack w.old w.new (stack_cell s) (reverse vs) × NoRoom w.new))) }
+    ensures partly { IfErr result (λ e. IfNoSlot e (λ s v. GivesUpTo I.into_iter_gives I.IntoIter.next_gives values v (λ vs. FillsStack w.old w.new (stack_cell s) (reverse vs)))) }
+    ensures room { IfErr result (λ e. IfNoSlot e (λ _ _. NoRoom w.new)) }
     ensures none { IfErr result (λ e. IfUnmade e (λ r back. (r ≡ NotMade.NoSlot) × (back ≡ values) × (w.new ≡ w.old) × NoCellFree w.old)) }
     ensures list { IfOk result (λ s. IsSomeStack w.new (stack_cell s)) }
     ensures built { IfErr result (λ e. IfNoSlot e (λ s _. IsSomeStack w.new (stack_cell s))) }
@@ -299,7 +299,7 @@ pub fn push_if<T, J: Deferred, F: FnOnce(Option<&LinkedEntry<T>>) -> bool>(
 ) -> Result<Shared<LinkedEntry<T>>, PushRefused<T>>
     requires callable { CanAskFirst F.pre f (StackIn w.old stack.now) }
     requires list { IsSomeStack w.old (stack_cell stack.now) }
-    ensures asked { (es : _) → StackIn w.old stack.now es → (o : _) × (r : Bool) × (option_copied o ≡ first_item (undeleted es)) × F.post f o r × (IsErrAnd result IsCondition ↔ (r ≡ false)) }
+    ensures asked { (r : Bool) × AskedFirst F.post f (StackIn w.old stack.now) r × (IsErrAnd result IsCondition ↔ (r ≡ false)) }
     ensures pushed { IfOk result (λ s. Pushes w.old w.new value (stack_cell stack.now) (shared_slot s)) }
     ensures back { IfErr result (λ e. (refused_value e ≡ value) × (w.new ≡ w.old)) }
     ensures full { IfErr result (λ e. IsNoSlot e → NoRoom w.old) }

@@ -1,7 +1,7 @@
 //! Cells that keep the owner of an item, or none, with a tag.
 
-ghost use Rattle.std.specs.Prelude.{◌≡◌, ◌≢◌, ◌<◌, ℕ, length, IfOk, IfErr, IfSome, IfNone, OnErr, Some, None, IsTrue, IsFalse, ◌↔◌, ◌⊎◌, MatchResult, Option};
-ghost use Rattle.sdd_base.specs.State.{local_at, IsFree, NoneFree, IsFreeCell, NoCellFree, placed, with_cell, cell_at};
+ghost use Rattle.std.specs.Prelude.{◌≡◌, ◌≢◌, ◌<◌, ℕ, length, IfOk, IfErr, OnOk, OnErr, Some, None, IsTrue, IsFalse, ◌↔◌, ◌⊎◌, Option};
+ghost use Rattle.sdd_base.specs.State.{local_at, IsFree, NoneFree, IsFreeCell, NoCellFree, placed, with_cell, with_tag, cell_at};
 ghost use Rattle.sdd_base.specs.Steps.{owned_ended};
 ghost use Rattle.sdd_base.specs.Frame.{Frame, OnlyParticipant};
 ghost use Rattle.sdd_base.specs.Place.{IsOwnedCell};
@@ -22,7 +22,8 @@ use std::marker::PhantomData;
 /// Makes an item of `value` and a cell that keeps it, without a tag, exactly if a slot and a cell are free; else
 /// `value` comes back.
 pub fn new<T, J: Deferred>(w: &mut World<T, J>, value: T) -> Result<AtomicOwned<T>, T>
-    ensures made { IfOk result (λ c. IsFreeCell w.old (owned_cell c) × (i : ℕ) × IsFree w.old i × (w.new ≡ with_cell (owned_cell c) (Cell.OfOwned (Some i) Tag.None) (placed i value Status.Owned w.old))) }
+    ensures free { IfOk result (λ c. IsFreeCell w.old (owned_cell c)) }
+    ensures made { IfOk result (λ c. (i : ℕ) × IsFree w.old i × (w.new ≡ with_cell (owned_cell c) (Cell.OfOwned (Some i) Tag.None) (placed i value Status.Owned w.old))) }
     ensures refused { IfErr result (λ v. (v ≡ value) × (w.new ≡ w.old) × (NoneFree w.old ⊎ NoCellFree w.old)) }
     ensures used { IfOk result (λ c. IsOwnedCell w.new (owned_cell c)) }
     ensures keeps { Frame w.old w.new }
@@ -159,7 +160,8 @@ pub fn update_tag_if<T, J: Deferred, P: Found<T>, F: FnOnce(P) -> bool>(
 ) -> bool
     requires cell { IsOwnedCell w.old (owned_cell cell.now) }
     requires callable { F.IsAlwaysCallable f }
-    ensures asked { (r : P) × (cell_at w.old (owned_cell cell.now) ≡ Cell.OfOwned (P.names r) (P.tagged r)) × F.post f r result × (IsTrue result → w.new ≡ with_cell (owned_cell cell.now) (Cell.OfOwned (P.names r) tag) w.old) }
+    ensures asked { (r : P) × (cell_at w.old (owned_cell cell.now) ≡ Cell.OfOwned (P.names r) (P.tagged r)) × F.post f r result }
+    ensures tagged { IsTrue result → w.new ≡ with_cell (owned_cell cell.now) (with_tag tag (cell_at w.old (owned_cell cell.now))) w.old }
     ensures kept { IsFalse result → w.new ≡ w.old }
     ensures used { IsOwnedCell w.new (owned_cell cell.now) }
     ensures keeps { Frame w.old w.new }
@@ -186,7 +188,9 @@ pub fn compare_exchange<T, J: Deferred>(
     _guard: &WorldGuard,
 ) -> Result<(Option<Owned<T>>, Ptr<'static, T>), (Option<Owned<T>>, Ptr<'static, T>)>
     requires { IsOwnedCell w.old (owned_cell cell.now) }
-    ensures exchanged { IfOk result (λ r. (cell_at w.old (owned_cell cell.now) ≡ Cell.OfOwned (ptr_slot current.entry) (ptr_tag current.entry)) × (owned_slots r.0 ≡ ptr_slot current.entry) × (ptr_slot r.1 ≡ owned_slots new.0) × (ptr_tag r.1 ≡ new.1) × (w.new ≡ with_cell (owned_cell cell.now) (Cell.OfOwned (owned_slots new.0) new.1) w.old)) }
+    ensures was { OnOk result (cell_at w.old (owned_cell cell.now) ≡ Cell.OfOwned (ptr_slot current.entry) (ptr_tag current.entry)) }
+    ensures now { OnOk result (w.new ≡ with_cell (owned_cell cell.now) (Cell.OfOwned (owned_slots new.0) new.1) w.old) }
+    ensures given { IfOk result (λ r. (owned_slots r.0 ≡ ptr_slot current.entry) × (ptr_slot r.1 ≡ owned_slots new.0) × (ptr_tag r.1 ≡ new.1)) }
     ensures found { IfErr result (λ r. (cell_at w.old (owned_cell cell.now) ≡ Cell.OfOwned (ptr_slot r.1) (ptr_tag r.1)) × (owned_slots r.0 ≡ owned_slots new.0) × (w.new ≡ w.old)) }
     ensures differs { OnErr result (cell_at w.old (owned_cell cell.now) ≢ Cell.OfOwned (ptr_slot current.entry) (ptr_tag current.entry)) }
     ensures used { IsOwnedCell w.new (owned_cell cell.now) }
@@ -229,7 +233,9 @@ pub fn compare_exchange_weak<T, J: Deferred>(
     guard: &WorldGuard,
 ) -> Result<(Option<Owned<T>>, Ptr<'static, T>), (Option<Owned<T>>, Ptr<'static, T>)>
     requires { IsOwnedCell w.old (owned_cell cell.now) }
-    ensures exchanged { IfOk result (λ r. (cell_at w.old (owned_cell cell.now) ≡ Cell.OfOwned (ptr_slot current.entry) (ptr_tag current.entry)) × (owned_slots r.0 ≡ ptr_slot current.entry) × (ptr_slot r.1 ≡ owned_slots new.0) × (ptr_tag r.1 ≡ new.1) × (w.new ≡ with_cell (owned_cell cell.now) (Cell.OfOwned (owned_slots new.0) new.1) w.old)) }
+    ensures was { OnOk result (cell_at w.old (owned_cell cell.now) ≡ Cell.OfOwned (ptr_slot current.entry) (ptr_tag current.entry)) }
+    ensures now { OnOk result (w.new ≡ with_cell (owned_cell cell.now) (Cell.OfOwned (owned_slots new.0) new.1) w.old) }
+    ensures given { IfOk result (λ r. (owned_slots r.0 ≡ ptr_slot current.entry) × (ptr_slot r.1 ≡ owned_slots new.0) × (ptr_tag r.1 ≡ new.1)) }
     ensures found { IfErr result (λ r. (cell_at w.old (owned_cell cell.now) ≡ Cell.OfOwned (ptr_slot r.1) (ptr_tag r.1)) × (owned_slots r.0 ≡ owned_slots new.0) × (w.new ≡ w.old)) }
     ensures differs { OnErr result (cell_at w.old (owned_cell cell.now) ≢ Cell.OfOwned (ptr_slot current.entry) (ptr_tag current.entry)) }
     ensures used { IsOwnedCell w.new (owned_cell cell.now) }

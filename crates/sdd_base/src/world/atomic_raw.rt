@@ -1,7 +1,7 @@
 //! Cells that name an item which they don't own, or none, with a tag.
 
-ghost use Rattle.std.specs.Prelude.{◌≡◌, ◌≢◌, ℕ, IfOk, IfErr, IfSome, IfNone, OnErr, Some, None, IsTrue, IsFalse, ◌↔◌, Option};
-ghost use Rattle.sdd_base.specs.State.{IsFreeCell, NoCellFree, with_cell, cell_at};
+ghost use Rattle.std.specs.Prelude.{◌≡◌, ◌≢◌, ℕ, IfOk, IfErr, OnOk, OnErr, Some, None, IsTrue, IsFalse, ◌↔◌, Option};
+ghost use Rattle.sdd_base.specs.State.{IsFreeCell, NoCellFree, with_cell, with_tag, cell_at};
 ghost use Rattle.sdd_base.specs.Frame.{Frame};
 ghost use Rattle.sdd_base.specs.Place.{IsRawCell};
 ghost use Rattle.sdd_base.specs.Tokens.{raw_cell, raw_slot, raw_tag};
@@ -129,7 +129,8 @@ pub fn update_tag_if<T, J: Deferred, F: FnOnce(RawPtr<T>) -> bool>(
 ) -> bool
     requires cell { IsRawCell w.old (raw_cell cell.now) }
     requires callable { F.IsAlwaysCallable f }
-    ensures asked { (r : RawPtr _) × (cell_at w.old (raw_cell cell.now) ≡ Cell.OfRaw (raw_slot r) (raw_tag r)) × F.post f r result × (IsTrue result → w.new ≡ with_cell (raw_cell cell.now) (Cell.OfRaw (raw_slot r) tag) w.old) }
+    ensures asked { (r : RawPtr _) × (cell_at w.old (raw_cell cell.now) ≡ Cell.OfRaw (raw_slot r) (raw_tag r)) × F.post f r result }
+    ensures tagged { IsTrue result → w.new ≡ with_cell (raw_cell cell.now) (with_tag tag (cell_at w.old (raw_cell cell.now))) w.old }
     ensures kept { IsFalse result → w.new ≡ w.old }
     ensures used { IsRawCell w.new (raw_cell cell.now) }
     ensures keeps { Frame w.old w.new }
@@ -160,7 +161,9 @@ pub fn compare_exchange<T, J: Deferred>(
     guard: &WorldGuard,
 ) -> Result<RawPtr<T>, RawPtr<T>>
     requires { IsRawCell w.old (raw_cell cell.now) }
-    ensures exchanged { IfOk result (λ r. (cell_at w.old (raw_cell cell.now) ≡ Cell.OfRaw (raw_slot current) (raw_tag current)) × (raw_slot r ≡ raw_slot current) × (raw_tag r ≡ raw_tag current) × (w.new ≡ with_cell (raw_cell cell.now) (Cell.OfRaw (raw_slot new) (raw_tag new)) w.old)) }
+    ensures was { OnOk result (cell_at w.old (raw_cell cell.now) ≡ Cell.OfRaw (raw_slot current) (raw_tag current)) }
+    ensures now { OnOk result (w.new ≡ with_cell (raw_cell cell.now) (Cell.OfRaw (raw_slot new) (raw_tag new)) w.old) }
+    ensures given { IfOk result (λ r. (raw_slot r ≡ raw_slot current) × (raw_tag r ≡ raw_tag current)) }
     ensures found { IfErr result (λ r. (cell_at w.old (raw_cell cell.now) ≡ Cell.OfRaw (raw_slot r) (raw_tag r)) × (w.new ≡ w.old)) }
     ensures differs { OnErr result (cell_at w.old (raw_cell cell.now) ≢ Cell.OfRaw (raw_slot current) (raw_tag current)) }
     ensures used { IsRawCell w.new (raw_cell cell.now) }
@@ -184,7 +187,8 @@ pub fn fetch_update<T, J: Deferred, F: FnOnce(RawPtr<T>) -> Option<RawPtr<T>>>(
 ) -> Result<RawPtr<T>, RawPtr<T>>
     requires cell { IsRawCell w.old (raw_cell cell.now) }
     requires callable { F.IsAlwaysCallable f }
-    ensures updated { IfOk result (λ r. (cell_at w.old (raw_cell cell.now) ≡ Cell.OfRaw (raw_slot r) (raw_tag r)) × (n : RawPtr _) × F.post f r (Some n) × (w.new ≡ with_cell (raw_cell cell.now) (Cell.OfRaw (raw_slot n) (raw_tag n)) w.old)) }
+    ensures was { IfOk result (λ r. cell_at w.old (raw_cell cell.now) ≡ Cell.OfRaw (raw_slot r) (raw_tag r)) }
+    ensures updated { IfOk result (λ r. (n : RawPtr _) × F.post f r (Some n) × (w.new ≡ with_cell (raw_cell cell.now) (Cell.OfRaw (raw_slot n) (raw_tag n)) w.old)) }
     ensures kept { IfErr result (λ r. (cell_at w.old (raw_cell cell.now) ≡ Cell.OfRaw (raw_slot r) (raw_tag r)) × F.post f r None × (w.new ≡ w.old)) }
     ensures used { IsRawCell w.new (raw_cell cell.now) }
     ensures keeps { Frame w.old w.new }

@@ -1,10 +1,10 @@
 //! Cells that keep one owner of an item, or none, with a tag.
 
-ghost use Rattle.std.specs.Prelude.{◌≡◌, ◌≢◌, ◌<◌, ℕ, ◌+◌, length, IfOk, IfErr, IfSome, IfNone, OnErr, Some, None, IsTrue, IsFalse, ◌↔◌, ◌⊎◌, MatchResult, Option, is_some, true};
-ghost use Rattle.sdd_base.specs.State.{local_at, IsFree, NoneFree, IsFreeCell, NoCellFree, placed, value_at, with_cell, cell_at, status_at, with_status};
+ghost use Rattle.std.specs.Prelude.{◌≡◌, ◌≢◌, ◌<◌, ℕ, length, IfOk, IfErr, IfSome, IfNone, OnOk, OnErr, Some, None, IsTrue, IsFalse, ◌↔◌, ◌⊎◌, Option, is_some, true};
+ghost use Rattle.sdd_base.specs.State.{local_at, IsFree, NoneFree, IsFreeCell, NoCellFree, placed, value_at, with_cell, with_tag, cell_at, status_at};
 ghost use Rattle.sdd_base.specs.Steps.{shared_ended};
 ghost use Rattle.sdd_base.specs.Frame.{Frame, OnlyParticipant};
-ghost use Rattle.sdd_base.specs.Place.{IsReadable, IsShared, IsSharedCell};
+ghost use Rattle.sdd_base.specs.Place.{IsReadable, IsShared, IsSharedCell, AddsOwner, TakesNoOwner, CopiesCell};
 ghost use Rattle.sdd_base.specs.Tokens.{loaded_slot, shared_cell, shared_slot, shared_slots, ptr_slot, ptr_tag};
 
 use crate::cell::AtomicShared;
@@ -22,7 +22,8 @@ use std::marker::PhantomData;
 /// Makes an item of `value` and a cell that keeps it, without a tag, exactly if a slot and a cell are free; else
 /// `value` comes back.
 pub fn new<T, J: Deferred>(w: &mut World<T, J>, value: T) -> Result<AtomicShared<T>, T>
-    ensures made { IfOk result (λ c. IsFreeCell w.old (shared_cell c) × (i : ℕ) × IsFree w.old i × (w.new ≡ with_cell (shared_cell c) (Cell.OfShared (Some i) Tag.None) (placed i value (Status.Shared 1) w.old))) }
+    ensures free { IfOk result (λ c. IsFreeCell w.old (shared_cell c)) }
+    ensures made { IfOk result (λ c. (i : ℕ) × IsFree w.old i × (w.new ≡ with_cell (shared_cell c) (Cell.OfShared (Some i) Tag.None) (placed i value (Status.Shared 1) w.old))) }
     ensures refused { IfErr result (λ v. (v ≡ value) × (w.new ≡ w.old) × (NoneFree w.old ⊎ NoCellFree w.old)) }
     ensures used { IfOk result (λ c. IsSharedCell w.new (shared_cell c)) }
     ensures keeps { Frame w.old w.new }
@@ -192,7 +193,8 @@ pub fn update_tag_if<T, J: Deferred, P: Found<T>, F: FnOnce(P) -> bool>(
 ) -> bool
     requires cell { IsSharedCell w.old (shared_cell cell.now) }
     requires callable { F.IsAlwaysCallable f }
-    ensures asked { (r : P) × (cell_at w.old (shared_cell cell.now) ≡ Cell.OfShared (P.names r) (P.tagged r)) × F.post f r result × (IsTrue result → w.new ≡ with_cell (shared_cell cell.now) (Cell.OfShared (P.names r) tag) w.old) }
+    ensures asked { (r : P) × (cell_at w.old (shared_cell cell.now) ≡ Cell.OfShared (P.names r) (P.tagged r)) × F.post f r result }
+    ensures tagged { IsTrue result → w.new ≡ with_cell (shared_cell cell.now) (with_tag tag (cell_at w.old (shared_cell cell.now))) w.old }
     ensures kept { IsFalse result → w.new ≡ w.old }
     ensures used { IsSharedCell w.new (shared_cell cell.now) }
     ensures keeps { Frame w.old w.new }
@@ -219,7 +221,9 @@ pub fn compare_exchange<T, J: Deferred>(
     _guard: &WorldGuard,
 ) -> Result<(Option<Shared<T>>, Ptr<'static, T>), (Option<Shared<T>>, Ptr<'static, T>)>
     requires { IsSharedCell w.old (shared_cell cell.now) }
-    ensures exchanged { IfOk result (λ r. (cell_at w.old (shared_cell cell.now) ≡ Cell.OfShared (ptr_slot current.entry) (ptr_tag current.entry)) × (shared_slots r.0 ≡ ptr_slot current.entry) × (ptr_slot r.1 ≡ shared_slots new.0) × (ptr_tag r.1 ≡ new.1) × (w.new ≡ with_cell (shared_cell cell.now) (Cell.OfShared (shared_slots new.0) new.1) w.old)) }
+    ensures was { OnOk result (cell_at w.old (shared_cell cell.now) ≡ Cell.OfShared (ptr_slot current.entry) (ptr_tag current.entry)) }
+    ensures now { OnOk result (w.new ≡ with_cell (shared_cell cell.now) (Cell.OfShared (shared_slots new.0) new.1) w.old) }
+    ensures given { IfOk result (λ r. (shared_slots r.0 ≡ ptr_slot current.entry) × (ptr_slot r.1 ≡ shared_slots new.0) × (ptr_tag r.1 ≡ new.1)) }
     ensures found { IfErr result (λ r. (cell_at w.old (shared_cell cell.now) ≡ Cell.OfShared (ptr_slot r.1) (ptr_tag r.1)) × (shared_slots r.0 ≡ shared_slots new.0) × (w.new ≡ w.old)) }
     ensures differs { OnErr result (cell_at w.old (shared_cell cell.now) ≢ Cell.OfShared (ptr_slot current.entry) (ptr_tag current.entry)) }
     ensures used { IsSharedCell w.new (shared_cell cell.now) }
@@ -262,7 +266,9 @@ pub fn compare_exchange_weak<T, J: Deferred>(
     guard: &WorldGuard,
 ) -> Result<(Option<Shared<T>>, Ptr<'static, T>), (Option<Shared<T>>, Ptr<'static, T>)>
     requires { IsSharedCell w.old (shared_cell cell.now) }
-    ensures exchanged { IfOk result (λ r. (cell_at w.old (shared_cell cell.now) ≡ Cell.OfShared (ptr_slot current.entry) (ptr_tag current.entry)) × (shared_slots r.0 ≡ ptr_slot current.entry) × (ptr_slot r.1 ≡ shared_slots new.0) × (ptr_tag r.1 ≡ new.1) × (w.new ≡ with_cell (shared_cell cell.now) (Cell.OfShared (shared_slots new.0) new.1) w.old)) }
+    ensures was { OnOk result (cell_at w.old (shared_cell cell.now) ≡ Cell.OfShared (ptr_slot current.entry) (ptr_tag current.entry)) }
+    ensures now { OnOk result (w.new ≡ with_cell (shared_cell cell.now) (Cell.OfShared (shared_slots new.0) new.1) w.old) }
+    ensures given { IfOk result (λ r. (shared_slots r.0 ≡ ptr_slot current.entry) × (ptr_slot r.1 ≡ shared_slots new.0) × (ptr_tag r.1 ≡ new.1)) }
     ensures found { IfErr result (λ r. (cell_at w.old (shared_cell cell.now) ≡ Cell.OfShared (ptr_slot r.1) (ptr_tag r.1)) × (shared_slots r.0 ≡ shared_slots new.0) × (w.new ≡ w.old)) }
     ensures differs { OnErr result (cell_at w.old (shared_cell cell.now) ≢ Cell.OfShared (ptr_slot current.entry) (ptr_tag current.entry)) }
     ensures used { IsSharedCell w.new (shared_cell cell.now) }
@@ -278,9 +284,9 @@ pub fn get_shared<T, J: Deferred>(
     _guard: &WorldGuard,
 ) -> Option<Shared<T>>
     requires { IsSharedCell w.old (shared_cell cell.now) }
-    ensures more { IfSome result (λ s. (tag : Tag) × (cell_at w.old (shared_cell cell.now) ≡ Cell.OfShared (Some (shared_slot s)) tag) × (n : ℕ) × (status_at w.old (shared_slot s) ≡ Status.Shared n) × (w.new ≡ with_status (shared_slot s) (Status.Shared (n + 1)) w.old)) }
+    ensures more { IfSome result (λ s. (tag : Tag) × (cell_at w.old (shared_cell cell.now) ≡ Cell.OfShared (Some (shared_slot s)) tag) × AddsOwner (shared_slot s) w.old w.new) }
     ensures room { IfSome result (λ s. (n : ℕ) → status_at w.old (shared_slot s) ≡ Status.Shared n → n < 4294967295) }
-    ensures none { IfNone result ((w.new ≡ w.old) × ((i n : ℕ) (tag : Tag) → cell_at w.old (shared_cell cell.now) ≡ Cell.OfShared (Some i) tag → n < 4294967295 → status_at w.old i ≢ Status.Shared n)) }
+    ensures none { IfNone result ((w.new ≡ w.old) × ((i : ℕ) (tag : Tag) → cell_at w.old (shared_cell cell.now) ≡ Cell.OfShared (Some i) tag → TakesNoOwner i w.old)) }
     ensures live { IfSome result (λ s. IsShared w.new (shared_slot s)) }
     ensures keeps { Frame w.old w.new }
 {
@@ -302,9 +308,7 @@ pub fn clone<T, J: Deferred>(
     ensures free { IfOk result (λ c. IsFreeCell w.old (shared_cell c)) }
     ensures used { IfOk result (λ c. IsSharedCell w.new (shared_cell c)) }
     ensures refused { OnErr result ((w.new ≡ w.old) × NoCellFree w.old) }
-    ensures more { (i n : ℕ) (tag : Tag) → cell_at w.old (shared_cell cell.now) ≡ Cell.OfShared (Some i) tag → status_at w.old i ≡ Status.Shared n → n < 4294967295 → IfOk result (λ c. w.new ≡ with_cell (shared_cell c) (Cell.OfShared (Some i) tag) (with_status i (Status.Shared (n + 1)) w.old)) }
-    ensures none { (i : ℕ) (tag : Tag) → cell_at w.old (shared_cell cell.now) ≡ Cell.OfShared (Some i) tag → ((n : ℕ) → n < 4294967295 → status_at w.old i ≢ Status.Shared n) → IfOk result (λ c. w.new ≡ with_cell (shared_cell c) (Cell.OfShared None tag) w.old) }
-    ensures null { (tag : Tag) → cell_at w.old (shared_cell cell.now) ≡ Cell.OfShared None tag → IfOk result (λ c. w.new ≡ with_cell (shared_cell c) (Cell.OfShared None tag) w.old) }
+    ensures copied { (item : Option ℕ) (tag : Tag) → cell_at w.old (shared_cell cell.now) ≡ Cell.OfShared item tag → IfOk result (λ c. CopiesCell (shared_cell c) item tag w.old w.new) }
     ensures keeps { Frame w.old w.new }
 {
     if w.table.has_no_cell() {

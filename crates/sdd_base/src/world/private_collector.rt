@@ -6,7 +6,7 @@
 ghost use Rattle.std.specs.Prelude.{◌≡◌, ◌<◌, ℕ, [], length, leb, IfOk, IsTrue, IsFalse};
 ghost use Rattle.sdd_base.specs.State.{status_at, local_at};
 ghost use Rattle.sdd_base.specs.Steps.{released, handed_over};
-ghost use Rattle.sdd_base.specs.Collecting.{collected, left_with, swept_by, left_in};
+ghost use Rattle.sdd_base.specs.Collecting.{CollectsOwned, collected, left_with, swept_by, left_in};
 ghost use Rattle.sdd_base.specs.Frame.{Frame, OnlyParticipant};
 ghost use Rattle.sdd_base.specs.Place.{IsOwned, IsShared};
 ghost use Rattle.sdd_base.specs.Tokens.{owned_slot, shared_slot, guard_participant, waiting_in, room_of};
@@ -48,10 +48,7 @@ pub fn collect_owned<T: Holds, J: Deferred>(
 )
     requires participant { guard_participant guard.now < length w.old.participants }
     requires live { IsOwned w.old (owned_slot owned) }
-    ensures state { IsOwned (swept_by T.holds (guard_participant guard.now) collector.old w.old) (owned_slot owned) → w.new ≡ collected T.holds (guard_participant guard.now) collector.old (owned_slot owned) w.old }
-    ensures left { IsOwned (swept_by T.holds (guard_participant guard.now) collector.old w.old) (owned_slot owned) → waiting_in collector.new ≡ left_with T.holds (guard_participant guard.now) collector.old (owned_slot owned) w.old }
-    ensures gone { ¬ IsOwned (swept_by T.holds (guard_participant guard.now) collector.old w.old) (owned_slot owned) → w.new ≡ swept_by T.holds (guard_participant guard.now) collector.old w.old }
-    ensures others { ¬ IsOwned (swept_by T.holds (guard_participant guard.now) collector.old w.old) (owned_slot owned) → waiting_in collector.new ≡ left_in T.holds (guard_participant guard.now) collector.old w.old }
+    ensures collects { CollectsOwned T.holds (guard_participant guard.now) collector.old (owned_slot owned) collector.new w.old w.new }
     ensures room { room_of collector.new ≡ room_of collector.old }
     ensures nests { (q : ℕ) → (local_at w.new q).nesting ≡ (local_at w.old q).nesting }
     ensures keeps { Frame w.old w.new }

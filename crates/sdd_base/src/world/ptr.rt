@@ -1,9 +1,9 @@
 //! Owners from pointers.
 
-ghost use Rattle.std.specs.Prelude.{◌≡◌, ◌≢◌, ◌<◌, ◌+◌, ℕ, IfSome, Some, None, IfNone};
-ghost use Rattle.sdd_base.specs.State.{with_status, status_at};
+ghost use Rattle.std.specs.Prelude.{◌≡◌, ◌<◌, ◌+◌, ℕ, IfSome, Some, None, IfNone};
+ghost use Rattle.sdd_base.specs.State.{status_at};
 ghost use Rattle.sdd_base.specs.Frame.{Frame};
-ghost use Rattle.sdd_base.specs.Place.{IsShared};
+ghost use Rattle.sdd_base.specs.Place.{IsShared, AddsOwner, TakesNoOwner};
 ghost use Rattle.sdd_base.specs.Tokens.{shared_slot, ptr_slot};
 
 use crate::job::Deferred;
@@ -14,9 +14,9 @@ use crate::world::World;
 
 /// One more owner of the item in `slot`, where it is a `Shared` one below the greatest count.
 pub(crate) fn add_owner<T, J: Deferred>(w: &mut World<T, J>, slot: usize) -> Option<Shared<T>>
-    ensures more { IfSome result (λ s. (shared_slot s ≡ slot) × (n : ℕ) × (status_at w.old slot ≡ Status.Shared n) × (w.new ≡ with_status slot (Status.Shared (n + 1)) w.old)) }
+    ensures more { IfSome result (λ s. (shared_slot s ≡ slot) × AddsOwner slot w.old w.new) }
     ensures room { IfSome result (λ s. (n : ℕ) → status_at w.old (shared_slot s) ≡ Status.Shared n → n < 4294967295) }
-    ensures none { IfNone result ((w.new ≡ w.old) × ((n : ℕ) → n < 4294967295 → status_at w.old slot ≢ Status.Shared n)) }
+    ensures none { IfNone result ((w.new ≡ w.old) × TakesNoOwner slot w.old) }
     ensures live { IfSome result (λ s. IsShared w.new (shared_slot s)) }
     ensures keeps { Frame w.old w.new }
 {
@@ -35,9 +35,9 @@ pub(crate) fn add_owner<T, J: Deferred>(w: &mut World<T, J>, slot: usize) -> Opt
 /// One more owner of the item that `at` names; none on null, on an `Owned` item, on one that was retired, and at the
 /// greatest count of owners.
 pub fn get_shared<T, J: Deferred>(w: &mut World<T, J>, at: Ptr<'static, T>) -> Option<Shared<T>>
-    ensures more { IfSome result (λ s. (ptr_slot at.entry ≡ Some (shared_slot s)) × (n : ℕ) × (status_at w.old (shared_slot s) ≡ Status.Shared n) × (w.new ≡ with_status (shared_slot s) (Status.Shared (n + 1)) w.old)) }
+    ensures more { IfSome result (λ s. (ptr_slot at.entry ≡ Some (shared_slot s)) × AddsOwner (shared_slot s) w.old w.new) }
     ensures room { IfSome result (λ s. (n : ℕ) → status_at w.old (shared_slot s) ≡ Status.Shared n → n < 4294967295) }
-    ensures none { IfNone result ((w.new ≡ w.old) × IfSome (ptr_slot at.entry) (λ i. (n : ℕ) → n < 4294967295 → status_at w.old i ≢ Status.Shared n)) }
+    ensures none { IfNone result ((w.new ≡ w.old) × IfSome (ptr_slot at.entry) (λ i. TakesNoOwner i w.old)) }
     ensures live { IfSome result (λ s. IsShared w.new (shared_slot s)) }
     ensures keeps { Frame w.old w.new }
 {

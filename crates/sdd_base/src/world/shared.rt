@@ -1,13 +1,13 @@
 //! Items with counted owners.
 
-ghost use Rattle.std.specs.Prelude.{◌≡◌, ◌≢◌, ◌<◌, ◌+◌, ℕ, length, leb, IfOk, IfErr, IfSome, OnErr, Some, None, IfNone, IsTrue, ◌↔◌, OnOk, IsErr, IsErrOf, IsSome, IsFalse};
+ghost use Rattle.std.specs.Prelude.{◌≡◌, ◌<◌, ◌+◌, ℕ, length, leb, IfOk, IfErr, IfSome, OnErr, Some, None, IfNone, IsTrue, ◌↔◌, OnOk, IsErr, IsErrOf, IsSome, IsFalse};
 ghost use Rattle.std.specs.Borrow.{LendsIfOk, sem};
-ghost use Rattle.sdd_base.specs.State.{local_at, IsFree, NoneFree, placed, value_at, with_status, status_at};
+ghost use Rattle.sdd_base.specs.State.{local_at, IsFree, NoneFree, placed, value_at, status_at};
 ghost use Rattle.sdd_base.specs.Steps.{released};
 ghost use Rattle.sdd_base.specs.Frame.{Frame, OnlyParticipant};
 ghost use Rattle.sdd_base.specs.Dropping.{Dropped};
 ghost use Rattle.sdd_base.specs.Holding.{SharedItem};
-ghost use Rattle.sdd_base.specs.Place.{IsOpen, IsShared, HasOneOwner};
+ghost use Rattle.sdd_base.specs.Place.{IsOpen, IsShared, HasOneOwner, AddsOwner, TakesNoOwner};
 ghost use Rattle.sdd_base.specs.Tokens.{kept_slot, loaded_slot, shared_slot, ptr_slot, ptr_tag};
 
 use crate::exclusive_access::ExclusiveAccess;
@@ -57,7 +57,7 @@ pub fn new_with<T, J: Deferred, F: FnOnce() -> T + Drop>(
 #[tactic(auto, using(crate::proofs::FrameLemmas::shared_more))]
 pub fn clone<T, J: Deferred>(w: &mut World<T, J>, shared: &Shared<T>) -> Option<Shared<T>>
     requires { IsShared w.old (shared_slot shared.now) }
-    ensures more { IfSome result (λ s. (shared_slot s ≡ shared_slot shared.now) × (n : ℕ) × (status_at w.old (shared_slot s) ≡ Status.Shared n) × (w.new ≡ with_status (shared_slot s) (Status.Shared (n + 1)) w.old)) }
+    ensures more { IfSome result (λ s. (shared_slot s ≡ shared_slot shared.now) × AddsOwner (shared_slot s) w.old w.new) }
     ensures full { IfNone result ((w.new ≡ w.old) × (status_at w.old (shared_slot shared.now) ≡ Status.Shared 4294967295)) }
     ensures live { IsShared w.new (shared_slot shared.now) }
     ensures keeps { Frame w.old w.new }
@@ -77,8 +77,8 @@ pub fn clone<T, J: Deferred>(w: &mut World<T, J>, shared: &Shared<T>) -> Option<
 
 /// One more owner of the item that was loaded, as `ptr::get_shared` of one that a pointer names.
 pub fn of_loaded<T, J: Deferred>(w: &mut World<T, J>, at: &Loaded<T>) -> Option<Shared<T>>
-    ensures more { IfSome result (λ s. (loaded_slot at.now ≡ Some (shared_slot s)) × (n : ℕ) × (status_at w.old (shared_slot s) ≡ Status.Shared n) × (w.new ≡ with_status (shared_slot s) (Status.Shared (n + 1)) w.old)) }
-    ensures none { IfNone result ((w.new ≡ w.old) × IfSome (loaded_slot at.now) (λ i. (n : ℕ) → n < 4294967295 → status_at w.old i ≢ Status.Shared n)) }
+    ensures more { IfSome result (λ s. (loaded_slot at.now ≡ Some (shared_slot s)) × AddsOwner (shared_slot s) w.old w.new) }
+    ensures none { IfNone result ((w.new ≡ w.old) × IfSome (loaded_slot at.now) (λ i. TakesNoOwner i w.old)) }
     ensures live { IfSome result (λ s. IsShared w.new (shared_slot s)) }
     ensures keeps { Frame w.old w.new }
 {
@@ -198,10 +198,10 @@ pub fn try_from<T, J: Deferred>(
     w: &mut World<T, J>,
     at: Ptr<'static, T>,
 ) -> Result<Shared<T>, Ptr<'static, T>>
-    ensures more { IfOk result (λ s. (ptr_slot at.entry ≡ Some (shared_slot s)) × (n : ℕ) × (status_at w.old (shared_slot s) ≡ Status.Shared n) × (w.new ≡ with_status (shared_slot s) (Status.Shared (n + 1)) w.old)) }
+    ensures more { IfOk result (λ s. (ptr_slot at.entry ≡ Some (shared_slot s)) × AddsOwner (shared_slot s) w.old w.new) }
     ensures back { IfErr result (λ r. (ptr_slot r ≡ ptr_slot at.entry) × (ptr_tag r ≡ ptr_tag at.entry) × (w.new ≡ w.old)) }
     ensures room { IfOk result (λ s. (n : ℕ) → status_at w.old (shared_slot s) ≡ Status.Shared n → n < 4294967295) }
-    ensures none { OnErr result (IfSome (ptr_slot at.entry) (λ i. (n : ℕ) → n < 4294967295 → status_at w.old i ≢ Status.Shared n)) }
+    ensures none { OnErr result (IfSome (ptr_slot at.entry) (λ i. TakesNoOwner i w.old)) }
     ensures live { IfOk result (λ s. IsShared w.new (shared_slot s)) }
     ensures keeps { Frame w.old w.new }
 {

@@ -1,16 +1,15 @@
 //! Changes of a list: what comes of keys, and the ranges whose pairs are gone.
 
-ghost use Rattle.std.specs.Prelude.{◌≡◌, ◌≤◌, ◌+◌, ◌∷◌, [], Some, None, not, option_copied, OnOk, IfOk};
-ghost use Rattle.std.specs.List.{All, filter};
-ghost use Rattle.std.specs.BTreeMap.Range.{range_contains};
-ghost use Rattle.leaf_array.specs.Edits.{removed, upserted};
+ghost use Rattle.std.specs.Prelude.{◌≡◌, ◌≤◌, ◌+◌, [], Some, None, option_copied, OnOk, IfOk};
+ghost use Rattle.std.specs.List.{All};
+ghost use Rattle.leaf_array.specs.Edits.{upserted};
 ghost use Rattle.leaf_array.specs.Pairs.{has_key, IsAscending};
 ghost use Rattle.leaf_array.specs.Values.{ClonesAreSame};
 ghost use Rattle.versions.specs.Changes.{changed, named_by};
 ghost use Rattle.versions.specs.Cuts.{pairs_in};
 ghost use Rattle.versions.specs.Gone.{IsSpan};
 ghost use Rattle.versions.specs.SeparatorSearch.{IsOrdered};
-ghost use Rattle.versions.specs.Writes.{after_write, reply_to};
+ghost use Rattle.versions.specs.Writes.{after_write, pairs_outside, reply_to};
 ghost use Rattle.std.specs.Option.{is_some};
 
 use crate::building::draft::BaseVersion;
@@ -129,7 +128,7 @@ fn remove_range<K: Clone + Ord + Drop, V: Drop, N, O: BaseVersion<K, V, N>>(
     requires keys { ClonesAreSame K.is_clone }
     requires ordered { IsOrdered K.cmp (O.blocks old.now) (O.separators old.now) }
     requires spans { All (IsSpan K.cmp (O.blocks old.now)) changes.old.gone.items }
-    ensures list { OnOk result (changed K.cmp changes.new (pairs_in (O.blocks old.now)) ≡ filter (λ p. not (range_contains K.cmp lower.now upper.now p.0)) (changed K.cmp changes.old (pairs_in (O.blocks old.now)))) }
+    ensures list { OnOk result (changed K.cmp changes.new (pairs_in (O.blocks old.now)) ≡ pairs_outside K.cmp lower.now upper.now (changed K.cmp changes.old (pairs_in (O.blocks old.now)))) }
     ensures few { OnOk result (named_by changes.new ≤ named_by changes.old + 1) }
     ensures spans { OnOk result (All (IsSpan K.cmp (O.blocks old.now)) changes.new.gone.items) }
 {

@@ -1,13 +1,12 @@
 //! A version and changes of it, merged into segments by one pass over those that a change touches.
 
-ghost use Rattle.std.specs.Prelude.{◌≡◌, ◌≤◌, ◌<◌, ◌+◌, ◌*◌, ◌++◌, ◌∷◌, ◌↔◌, ◌⊎◌, [], ℕ, Bool, true, false, IsTrue, List, drop, length, slice_get, Some, IfOk, OnOk};
+ghost use Rattle.std.specs.Prelude.{◌≡◌, ◌≤◌, ◌<◌, ◌+◌, ◌*◌, ◌++◌, ◌∷◌, ◌↔◌, ◌⊎◌, [], ℕ, true, false, IsTrue, List, drop, length, slice_get, Some, IfOk, OnOk};
 ghost use Rattle.leaf_array.specs.Pairs.{IsAscending};
 ghost use Rattle.leaf_array.specs.Values.{ClonesAreSame};
 ghost use Rattle.std.specs.List.{All};
-ghost use Rattle.tree_index.specs.Shape.{AllKeys};
 ghost use Rattle.versions.specs.Changes.{ahead, apply_delta, changed, named_by, pair_left};
 ghost use Rattle.versions.specs.Cuts.{IsCut, IsSeparated, pairs_in};
-ghost use Rattle.versions.specs.Cutting.{IsCutting, GivesNoMoreThanRead, IsPassedBy, IsReachedBy, IsThrifty, Joins, given_pairs};
+ghost use Rattle.versions.specs.Cutting.{IsCutting, GivesNoMoreThanRead, IsPassedBy, IsReachedBy, IsTouched, IsUntouched, Joins, KeepsListFrom, KeepsListWithin, OfBlock, StaysThrifty, given_pairs, rest_behind};
 ghost use Rattle.versions.specs.Gone.{IsSpan, is_gone, without_gone};
 ghost use Rattle.versions.specs.Parts.{blocks_of_parts, made_in};
 ghost use Rattle.versions.specs.SeparatorSearch.{IsOrdered};
@@ -73,8 +72,8 @@ fn pass<K: Clone + Ord + Drop, V: Clone + Drop, N: Drop, O: BaseVersion<K, V, N>
     requires rising { IsAscending K.cmp (given_pairs (O.named old.now) out.old ++ ahead K.cmp changes.old gone.now place (O.blocks old.now)) }
     ensures behind { IfOk result (λ next. place < next) }
     ensures whole { OnOk result (IsCutting (O.named old.now) K.cmp S (O.blocks old.now) out.new) }
-    ensures list { IfOk result (λ next. given_pairs (O.named old.now) out.new ++ ahead K.cmp changes.new gone.now next (O.blocks old.now) ≡ given_pairs (O.named old.now) out.old ++ ahead K.cmp changes.old gone.now place (O.blocks old.now)) }
-    ensures thrifty { IfOk result (λ next. (budget : ℕ) (last : Bool) → IsThrifty S budget (is_gone K.cmp gone.now) last (drop place (O.blocks old.now)) (length changes.old) out.old → (last' : Bool) × IsThrifty S budget (is_gone K.cmp gone.now) last' (drop next (O.blocks old.now)) (length changes.new) out.new) }
+    ensures list { IfOk result (λ next. KeepsListFrom (O.named old.now) K.cmp gone.now (O.blocks old.now) place changes.old out.old next changes.new out.new) }
+    ensures thrifty { IfOk result (λ next. StaysThrifty S (is_gone K.cmp gone.now) (O.blocks old.now) place (length changes.old) out.old next (length changes.new) out.new) }
 {
     // how many there are tells the proof that a place behind this one can be named
     let _count = old.count();
@@ -108,7 +107,7 @@ fn stretch_end<K: Ord, V, N, O: BaseVersion<K, V, N>>(
     requires within { from ≤ length (O.blocks old.now) }
     ensures from { from ≤ result }
     ensures within { result ≤ length (O.blocks old.now) }
-    ensures passed { (i : ℕ) (b : List (K × V)) → from ≤ i → i < result → Some b ≡ slice_get (O.blocks old.now) i → IsPassedBy K.cmp changes.now b × AllKeys (λ k. is_gone K.cmp gone.now k ≡ false) b }
+    ensures passed { (i : ℕ) (b : List (K × V)) → from ≤ i → i < result → Some b ≡ slice_get (O.blocks old.now) i → IsUntouched K.cmp changes.now gone.now b }
 {
     let apart = apart_upto::<K, V, N, O>(gone, old, from);
     if apart <= from {
@@ -146,8 +145,8 @@ fn touches<K: Ord, V, N, O: BaseVersion<K, V, N>, const S: usize>(
     requires old { IsCut K.cmp S (O.blocks old.now) (O.separators old.now) }
     requires spans { All (IsSpan K.cmp (O.blocks old.now)) gone.now }
     requires within { place < length (O.blocks old.now) }
-    ensures touched { IsTrue result → (b : List (K × V)) → Some b ≡ slice_get (O.blocks old.now) place → IsReachedBy K.cmp changes.now b ⊎ (AllKeys (λ k. is_gone K.cmp gone.now k ≡ false) b → ⊥) }
-    ensures passed { result ≡ false → (b : List (K × V)) → Some b ≡ slice_get (O.blocks old.now) place → IsPassedBy K.cmp changes.now b × AllKeys (λ k. is_gone K.cmp gone.now k ≡ false) b }
+    ensures touched { IsTrue result → OfBlock (O.blocks old.now) place (IsTouched K.cmp changes.now gone.now) }
+    ensures passed { result ≡ false → OfBlock (O.blocks old.now) place (IsUntouched K.cmp changes.now gone.now) }
 {
     if reaches::<K, V, N, O, S>(changes, old, place) {
         return true;
@@ -163,8 +162,8 @@ fn reaches<K: Ord, V, N, O: BaseVersion<K, V, N>, const S: usize>(
 ) -> bool
     requires old { IsCut K.cmp S (O.blocks old.now) (O.separators old.now) }
     requires within { place < length (O.blocks old.now) }
-    ensures reached { IsTrue result → (b : List (K × V)) → Some b ≡ slice_get (O.blocks old.now) place → IsReachedBy K.cmp changes.now b }
-    ensures passed { result ≡ false → (b : List (K × V)) → Some b ≡ slice_get (O.blocks old.now) place → IsPassedBy K.cmp changes.now b }
+    ensures reached { IsTrue result → OfBlock (O.blocks old.now) place (IsReachedBy K.cmp changes.now) }
+    ensures passed { result ≡ false → OfBlock (O.blocks old.now) place (IsPassedBy K.cmp changes.now) }
 {
     match changes.front() {
         None => false,
@@ -278,10 +277,10 @@ fn merge_segment<
     requires whole { IsCutting (O.named old.now) K.cmp S (O.blocks old.now) out.old }
     requires rising { IsAscending K.cmp (given_pairs (O.named old.now) out.old ++ ahead K.cmp changes.old gone.now place (O.blocks old.now)) }
     ensures whole { OnOk result (IsCutting (O.named old.now) K.cmp S (O.blocks old.now) out.new) }
-    ensures list { OnOk result (given_pairs (O.named old.now) out.new ++ ahead K.cmp changes.new gone.now (place + 1) (O.blocks old.now) ≡ given_pairs (O.named old.now) out.old ++ ahead K.cmp changes.old gone.now place (O.blocks old.now)) }
-    ensures filled { OnOk result ((b : List (K × V)) → Some b ≡ slice_get (O.blocks old.now) place → GivesNoMoreThanRead S (length (without_gone K.cmp gone.now b) + length changes.old) (length changes.new) out.old out.new) }
+    ensures list { OnOk result (KeepsListFrom (O.named old.now) K.cmp gone.now (O.blocks old.now) place changes.old out.old (place + 1) changes.new out.new) }
+    ensures filled { OnOk result (OfBlock (O.blocks old.now) place (λ b. GivesNoMoreThanRead S (length (without_gone K.cmp gone.now b) + length changes.old) (length changes.new) out.old out.new)) }
     ensures fewer { OnOk result (length changes.new ≤ length changes.old) }
-    ensures reached { OnOk result ((b : List (K × V)) → Some b ≡ slice_get (O.blocks old.now) place → IsReachedBy K.cmp changes.old (without_gone K.cmp gone.now b) → length changes.new < length changes.old) }
+    ensures reached { OnOk result (OfBlock (O.blocks old.now) place (λ b. IsReachedBy K.cmp changes.old (without_gone K.cmp gone.now b) → length changes.new < length changes.old)) }
 {
     make_ready::<K, V, N, O, S>(out, changes, old, place)?;
     let mut pairs = Sieve::new(old.segment(place), gone);
@@ -310,12 +309,12 @@ fn merge_next<
 ) -> Result<bool, AllocError>
     requires keys { ClonesAreSame K.is_clone }
     requires values { ClonesAreSame V.is_clone }
-    requires sorted { IsAscending K.cmp (pairs.old ++ without_gone K.cmp gone.now (pairs_in (drop (place + 1) (O.blocks old.now)))) }
+    requires sorted { IsAscending K.cmp (rest_behind K.cmp gone.now (O.blocks old.now) place pairs.old) }
     requires whole { IsCutting (O.named old.now) K.cmp S (O.blocks old.now) out.old }
-    requires rising { IsAscending K.cmp (given_pairs (O.named old.now) out.old ++ apply_delta K.cmp changes.old (pairs.old ++ without_gone K.cmp gone.now (pairs_in (drop (place + 1) (O.blocks old.now))))) }
+    requires rising { IsAscending K.cmp (given_pairs (O.named old.now) out.old ++ apply_delta K.cmp changes.old (rest_behind K.cmp gone.now (O.blocks old.now) place pairs.old)) }
     ensures whole { OnOk result (IsCutting (O.named old.now) K.cmp S (O.blocks old.now) out.new) }
-    ensures list { OnOk result (given_pairs (O.named old.now) out.new ++ apply_delta K.cmp changes.new (pairs.new ++ without_gone K.cmp gone.now (pairs_in (drop (place + 1) (O.blocks old.now)))) ≡ given_pairs (O.named old.now) out.old ++ apply_delta K.cmp changes.old (pairs.old ++ without_gone K.cmp gone.now (pairs_in (drop (place + 1) (O.blocks old.now))))) }
-    ensures sorted { OnOk result (IsAscending K.cmp (pairs.new ++ without_gone K.cmp gone.now (pairs_in (drop (place + 1) (O.blocks old.now))))) }
+    ensures list { OnOk result (KeepsListWithin (O.named old.now) K.cmp gone.now (O.blocks old.now) place pairs.old changes.old out.old pairs.new changes.new out.new) }
+    ensures sorted { OnOk result (IsAscending K.cmp (rest_behind K.cmp gone.now (O.blocks old.now) place pairs.new)) }
     ensures filled { OnOk result (GivesNoMoreThanRead S (length pairs.old + length changes.old) (length pairs.new + length changes.new) out.old out.new) }
     ensures reached { OnOk result (IsReachedBy K.cmp changes.old pairs.old → IsReachedBy K.cmp changes.new pairs.new ⊎ (length changes.new < length changes.old)) }
     ensures fewer { IfOk result (λ more. more ≡ true → length changes.new + length pairs.new < length changes.old + length pairs.old) }

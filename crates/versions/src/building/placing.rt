@@ -1,14 +1,14 @@
 //! Placing versions, and publishing them.
 
-ghost use Rattle.std.specs.Prelude.{◌≡◌, ◌<◌, ◌≤◌, ◌+◌, ◌∷◌, [], ℕ, Option, None, Some, IfOk, IfErr, IsOk, OnErr, length, sum_by, vec_len, vec_capacity, map};
+ghost use Rattle.std.specs.Prelude.{◌≡◌, ◌<◌, ◌≤◌, ◌+◌, [], ℕ, Option, None, Some, IfOk, IfErr, IsOk, OnErr, length, sum_by, vec_capacity, map};
 ghost use Rattle.sdd_base.specs.Frame.{Frame, OnlyParticipant};
 ghost use Rattle.sdd_base.specs.Place.{IsShared, IsSharedCell};
-ghost use Rattle.sdd_base.specs.State.{IsFree, cell_at, placed, status_at, vacancy, value_at, with_cell, with_status};
+ghost use Rattle.sdd_base.specs.State.{IsFree, cell_at, placed, status_at, vacancy, value_at, with_status};
 ghost use Rattle.sdd_base.specs.Tokens.{kept_slot, loaded_slot, shared_cell, shared_slot};
 ghost use Rattle.std.specs.List.{All};
 ghost use Rattle.sdd_base.specs.Steps.{times};
 ghost use Rattle.versions.specs.Parts.{blocks_of_parts, made_in, makes};
-ghost use Rattle.versions.specs.Placing.{CanBeShared, HasPlaced, IsPlaceable, IsTakeable, Places, StandsIn, owner_given_back, named_at, slots_for, taken_slots};
+ghost use Rattle.versions.specs.Placing.{CanBeShared, HasPlaced, IsPlaceable, IsTakeable, Places, StandsIn, named_at, root_set, slots_for, taken_slots};
 
 use crate::building::built::Built;
 use crate::building::segments::{Part, Segments};
@@ -139,7 +139,7 @@ pub fn publish<K: Ord, V, const S: usize>(
     requires participant { p < length w.old.participants }
     requires root { IsSharedCell w.old (shared_cell root.now) }
     requires owned { (i : ℕ) (tag : Tag) → cell_at w.old (shared_cell root.now) ≡ Cell.OfShared (Some i) tag → IsShared w.old i }
-    ensures published { (o : Option ℕ) (tag : Tag) → cell_at w.old (shared_cell root.now) ≡ Cell.OfShared o tag → w.new ≡ owner_given_back p o (with_cell (shared_cell root.now) (Cell.OfShared (Some (shared_slot new)) Tag.None) w.old) }
+    ensures published { (o : Option ℕ) (tag : Tag) → cell_at w.old (shared_cell root.now) ≡ Cell.OfShared o tag → w.new ≡ root_set p (shared_cell root.now) (shared_slot new) o w.old }
     ensures used { IsSharedCell w.new (shared_cell root.now) }
     ensures keeps { Frame w.old w.new }
     ensures only { OnlyParticipant p w.old w.new }

@@ -4,7 +4,7 @@ ghost use Rattle.std.specs.Prelude.{◌≡◌, ◌≤◌, ◌<◌, ◌+◌, ◌-
 ghost use Rattle.leaf_array.specs.Pairs.{IsAscending};
 ghost use Rattle.leaf_array.specs.Values.{ClonesAreSame};
 ghost use Rattle.versions.specs.Cuts.{IsCut, IsSeparated, greatest_key, pairs_in};
-ghost use Rattle.versions.specs.Cutting.{IsClosing, IsCutting, IsSegmentRow, StaysApart, between, given_pairs, room_spent, trees};
+ghost use Rattle.versions.specs.Cutting.{IsClosing, IsCutting, IsSegmentRow, OfBlock, StaysApart, between, given_pairs, room_spent, trees};
 ghost use Rattle.versions.specs.Parts.{HasMadeTree, blocks_of_parts, made_in};
 
 use crate::building::draft::BaseVersion;
@@ -252,8 +252,8 @@ fn take_over<K: Clone + Ord + Drop, V: Drop, N: Drop, O: BaseVersion<K, V, N>, c
     requires separated { IsSeparated (O.blocks old.now) (O.separators old.now) }
     requires within { place < length (O.blocks old.now) }
     ensures part { OnOk result ((name : N) × (Some (O.named old.now name) ≡ slice_get (O.blocks old.now) place) × (out.new.row.parts.items ≡ out.old.row.parts.items ++ Part.Taken name ∷ [])) }
-    ensures separators { OnOk result ((b : List (K × V)) → Some b ≡ slice_get (O.blocks old.now) place → map Some out.new.row.separators.items ≡ map Some out.old.row.separators.items ++ greatest_key b ∷ []) }
-    ensures last { OnOk result ((b : List (K × V)) → Some b ≡ slice_get (O.blocks old.now) place → (out.new.row.last ≡ length b) × (out.new.length ≡ out.old.length + length b)) }
+    ensures separators { OnOk result (OfBlock (O.blocks old.now) place (λ b. map Some out.new.row.separators.items ≡ map Some out.old.row.separators.items ++ greatest_key b ∷ [])) }
+    ensures last { OnOk result (OfBlock (O.blocks old.now) place (λ b. (out.new.row.last ≡ length b) × (out.new.length ≡ out.old.length + length b))) }
     ensures held { OnOk result (out.new.held ≡ Some place) }
     ensures tail { OnOk result (out.new.tail ≡ out.old.tail) }
 {

@@ -1,11 +1,11 @@
 //! How the ends of a walk move over segments.
 
-ghost use Rattle.std.specs.Prelude.{◌≡◌, ◌<◌, ◌+◌, ◌-◌, ℕ, List, Some, IfSome, IfNone, cond, length, nat_lt, slice_get};
+ghost use Rattle.std.specs.Prelude.{◌≡◌, ◌<◌, ◌+◌, ◌-◌, ℕ, Some, IfSome, IfNone, cond, length, nat_lt};
 ghost use Rattle.std.specs.Range.Bound.{bound_map};
-ghost use Rattle.tree_index.specs.Cursor.{forth, back, before_start, up_to_end, lies_before, pair_at, deref_pair};
+ghost use Rattle.tree_index.specs.Cursor.{forth, back, lies_before, pair_at, deref_pair};
 ghost use Rattle.tree_index.specs.declared.cursor.End.TheVariants.{At, Done, Unopened};
 ghost use Rattle.versions.specs.Cuts.{pairs_in};
-ghost use Rattle.versions.specs.CursorEnds.{pairs_before_block, fore_place, rear_place, AreRising, IsForeAlone, IsForeAt, IsPairAt, IsRearAlone, IsRearAt, StandsFore, StandsRear};
+ghost use Rattle.versions.specs.CursorEnds.{count_before, pairs_before_block, count_upto, fore_place, rear_place, AreRising, CountsInto, FoundFore, FoundRear, IsForeAlone, IsPairAt, IsRearAlone, StandsFore, StandsRear};
 
 use crate::read::position::{CursorEnd, Position};
 use crate::read::trees::Trees;
@@ -169,8 +169,8 @@ impl<'a, K: Ord, V, W: Trees<K, V>> VersionView<'a, K, V, W> {
     #[inline(never)]
     fn first_within(&self, lower: Bound<&'a K>) -> Option<Found<'a, K, V>>
         requires { AreRising K.cmp self.now }
-        ensures some { IfSome result (λ found. IsForeAt self.now (before_start K.cmp (bound_map (λ k. k.now) lower.entry) (pairs_in self.now)) found.0 × IsPairAt self.now (before_start K.cmp (bound_map (λ k. k.now) lower.entry) (pairs_in self.now)) found.1) }
-        ensures none { IfNone result (before_start K.cmp (bound_map (λ k. k.now) lower.entry) (pairs_in self.now) ≡ length (pairs_in self.now)) }
+        ensures some { IfSome result (FoundFore self.now (count_before K.cmp lower.entry (pairs_in self.now))) }
+        ensures none { IfNone result (count_before K.cmp lower.entry (pairs_in self.now) ≡ length (pairs_in self.now)) }
     {
         if self.segment_count() == 0 {
             return None;
@@ -190,8 +190,8 @@ impl<'a, K: Ord, V, W: Trees<K, V>> VersionView<'a, K, V, W> {
     #[inline(never)]
     fn last_within(&self, upper: Bound<&'a K>) -> Option<Found<'a, K, V>>
         requires { AreRising K.cmp self.now }
-        ensures some { IfSome result (λ found. IsRearAt self.now (up_to_end K.cmp (bound_map (λ k. k.now) upper.entry) (pairs_in self.now)) found.0 × IsPairAt self.now ((up_to_end K.cmp (bound_map (λ k. k.now) upper.entry) (pairs_in self.now)) - 1) found.1) }
-        ensures none { IfNone result (up_to_end K.cmp (bound_map (λ k. k.now) upper.entry) (pairs_in self.now) ≡ 0) }
+        ensures some { IfSome result (FoundRear self.now (count_upto K.cmp upper.entry (pairs_in self.now))) }
+        ensures none { IfNone result (count_upto K.cmp upper.entry (pairs_in self.now) ≡ 0) }
     {
         if self.segment_count() == 0 {
             return None;
@@ -212,7 +212,7 @@ impl<'a, K: Ord, V, W: Trees<K, V>> VersionView<'a, K, V, W> {
     pub(crate) fn first_behind(&self, segment: usize) -> Option<Found<'a, K, V>>
         requires rising { AreRising K.cmp self.now }
         requires within { segment < length self.now }
-        ensures some { IfSome result (λ found. IsForeAt self.now (pairs_before_block self.now (segment + 1)) found.0 × IsPairAt self.now (pairs_before_block self.now (segment + 1)) found.1) }
+        ensures some { IfSome result (FoundFore self.now (pairs_before_block self.now (segment + 1))) }
         ensures none { IfNone result (pairs_before_block self.now (segment + 1) ≡ length (pairs_in self.now)) }
     {
         let count = self.segment_count();
@@ -232,7 +232,7 @@ impl<'a, K: Ord, V, W: Trees<K, V>> VersionView<'a, K, V, W> {
     pub(crate) fn last_before(&self, segment: usize) -> Option<Found<'a, K, V>>
         requires rising { AreRising K.cmp self.now }
         requires within { segment < length self.now }
-        ensures some { IfSome result (λ found. IsRearAt self.now (pairs_before_block self.now segment) found.0 × IsPairAt self.now ((pairs_before_block self.now segment) - 1) found.1) }
+        ensures some { IfSome result (FoundRear self.now (pairs_before_block self.now segment)) }
         ensures none { IfNone result (pairs_before_block self.now segment ≡ 0) }
     {
         if segment == 0 {
@@ -250,7 +250,7 @@ impl<'a, K: Ord, V, W: Trees<K, V>> VersionView<'a, K, V, W> {
     fn place_from(&self, lower: Bound<&'a K>) -> usize
         requires { 0 < length self.now }
         ensures within { result < length self.now }
-        ensures place { (b : List (K × V)) → slice_get self.now result ≡ Some b → before_start K.cmp (bound_map (λ k. k.now) lower.entry) (pairs_in self.now) ≡ pairs_before_block self.now result + before_start K.cmp (bound_map (λ k. k.now) lower.entry) b }
+        ensures place { CountsInto self.now result (count_before K.cmp lower.entry) }
     {
         match lower {
             Bound::Included(key) => self.around(key),
@@ -263,7 +263,7 @@ impl<'a, K: Ord, V, W: Trees<K, V>> VersionView<'a, K, V, W> {
     fn place_upto(&self, upper: Bound<&'a K>) -> usize
         requires { 0 < length self.now }
         ensures within { result < length self.now }
-        ensures place { (b : List (K × V)) → slice_get self.now result ≡ Some b → up_to_end K.cmp (bound_map (λ k. k.now) upper.entry) (pairs_in self.now) ≡ pairs_before_block self.now result + up_to_end K.cmp (bound_map (λ k. k.now) upper.entry) b }
+        ensures place { CountsInto self.now result (count_upto K.cmp upper.entry) }
     {
         match upper {
             Bound::Included(key) => self.around(key),

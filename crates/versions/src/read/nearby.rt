@@ -1,12 +1,10 @@
 //! Where a key stands in a version.
 
-ghost use Rattle.std.specs.Prelude.{◌≡◌, ◌+◌, false};
-ghost use Rattle.leaf_array.specs.Cells.{lesser};
-ghost use Rattle.leaf_array.specs.Pairs.{has_key};
+ghost use Rattle.std.specs.Prelude.{◌≡◌, ◌+◌};
 ghost use Rattle.tree_index.specs.Cursor.{whole};
 ghost use Rattle.tree_index.specs.Proximity.{IsLocated};
 ghost use Rattle.versions.specs.Cuts.{pairs_in};
-ghost use Rattle.versions.specs.CursorEnds.{fore_place, rear_place, pairs_before_block, AreRising, IsForeAt, IsRearAt, IsWalking};
+ghost use Rattle.versions.specs.CursorEnds.{fore_place, rear_place, pairs_before_block, AreRising, OfAbsent, IsForeAt, IsRearAt, IsWalking};
 ghost use Rattle.versions.specs.Nearby.{as_proximity};
 
 use crate::read::position::{CursorEnd, Position};
@@ -65,7 +63,7 @@ impl<'a, K: Ord, V, W: Trees<K, V>> VersionView<'a, K, V, W> {
     fn before_first(&self, first: Position<'a, K, V>) -> Nearby<'a, K, V, W>
         requires rising { AreRising K.cmp self.now }
         requires first { IsForeAt self.now (pairs_before_block self.now first.segment) first }
-        ensures { (key : K) → lesser K.cmp key (pairs_in self.now) ≡ pairs_before_block self.now first.entry.segment → has_key K.cmp key (pairs_in self.now) ≡ false → IsLocated K.cmp key (pairs_in self.now) (as_proximity result) }
+        ensures { OfAbsent K.cmp self.now (pairs_before_block self.now first.entry.segment) (λ key. IsLocated K.cmp key (pairs_in self.now) (as_proximity result)) }
     {
         match self.last_before(first.segment) {
             Some((smaller, _)) => {
@@ -80,7 +78,7 @@ impl<'a, K: Ord, V, W: Trees<K, V>> VersionView<'a, K, V, W> {
     fn behind_last(&self, last: Position<'a, K, V>) -> Nearby<'a, K, V, W>
         requires rising { AreRising K.cmp self.now }
         requires last { IsRearAt self.now (pairs_before_block self.now (last.segment + 1)) last }
-        ensures { (key : K) → lesser K.cmp key (pairs_in self.now) ≡ pairs_before_block self.now (last.entry.segment + 1) → has_key K.cmp key (pairs_in self.now) ≡ false → IsLocated K.cmp key (pairs_in self.now) (as_proximity result) }
+        ensures { OfAbsent K.cmp self.now (pairs_before_block self.now (last.entry.segment + 1)) (λ key. IsLocated K.cmp key (pairs_in self.now) (as_proximity result)) }
     {
         match self.first_behind(last.segment) {
             Some((larger, _)) => {

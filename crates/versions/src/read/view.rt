@@ -1,14 +1,10 @@
 //! A version to be read, whatever lends its segments.
 
-ghost use Rattle.std.specs.Prelude.{◌≡◌, ◌<◌, ◌≤◌, ◌+◌, ◌*◌, ◌-◌, ◌^◌, [], ℕ, None, Some, MatchOption, length, slice_get};
-ghost use Rattle.std.specs.BTreeMap.{is_at};
-ghost use Rattle.std.specs.Map.{lookup_entry};
-ghost use Rattle.std.specs.Range.Bound.{bound_map};
-ghost use Rattle.tree_index.specs.declared.cursor.End.TheVariants.{Unopened};
+ghost use Rattle.std.specs.Prelude.{◌≡◌, ◌<◌, ◌≤◌, ◌+◌, ◌*◌, ◌-◌, ◌^◌, [], ℕ, None, Some, length, slice_get};
 ghost use Rattle.versions.specs.Cuts.{pairs_in};
 ghost use Rattle.versions.specs.CursorEnds.{AreRising, IsBlockAround};
 ghost use Rattle.versions.specs.SeparatorSearch.{IsPlaceOf};
-ghost use Rattle.versions.specs.Views.{IsView, blocks_at};
+ghost use Rattle.versions.specs.Views.{IsView, LooksUp, blocks_at, cursor_within};
 
 use crate::directory::Directory;
 use crate::read::position::CursorEnd;
@@ -96,7 +92,7 @@ impl<'a, K: Ord, V, W: Trees<K, V>> VersionView<'a, K, V, W> {
 
     /// The pair with this key: one search of the directory by halving, and one of a tree. It clones nothing.
     pub fn get(&self, key: &K) -> Option<(&'a K, &'a V)>
-        ensures { MatchOption result (lookup_entry (is_at (K.cmp key.now)) (pairs_in self.now) ≡ None) (λ e. lookup_entry (is_at (K.cmp key.now)) (pairs_in self.now) ≡ Some (e.0.now, e.1.now)) }
+        ensures { LooksUp K.cmp key.now (pairs_in self.now) result }
     {
         let mut steps = Steps::new();
         self.get_counted(key, &mut steps)
@@ -106,7 +102,7 @@ impl<'a, K: Ord, V, W: Trees<K, V>> VersionView<'a, K, V, W> {
     /// thirty more. There is none where there is no segment.
     #[inline]
     pub fn get_counted(&self, key: &K, steps: &mut Steps) -> Option<(&'a K, &'a V)>
-        ensures pair { MatchOption result (lookup_entry (is_at (K.cmp key.now)) (pairs_in self.now) ≡ None) (λ e. lookup_entry (is_at (K.cmp key.now)) (pairs_in self.now) ≡ Some (e.0.now, e.1.now)) }
+        ensures pair { LooksUp K.cmp key.now (pairs_in self.now) result }
         ensures cost { (digits : ℕ) → length self.now < 2 ^ digits → steps.new.count ≤ steps.old.count + 30 + digits }
         ensures raised { steps.old.count ≤ steps.new.count }
         ensures none { pairs_in self.now ≡ [] → steps.new.count ≡ steps.old.count }
@@ -121,7 +117,7 @@ impl<'a, K: Ord, V, W: Trees<K, V>> VersionView<'a, K, V, W> {
 
     /// A cursor over the pairs within two bounds. Reversed bounds contain no pair. It takes no memory.
     pub fn walk(&self, lower: Bound<&'a K>, upper: Bound<&'a K>) -> Walk<'a, K, V, W>
-        ensures { result ≡ record { pairs = pairs_in self.now; lower = bound_map (λ k. k.now) lower.entry; upper = bound_map (λ k. k.now) upper.entry; forward = Unopened; backward = Unopened } }
+        ensures { result ≡ cursor_within (pairs_in self.now) lower.entry upper.entry }
     {
         Walk {
             version: self.copy(),

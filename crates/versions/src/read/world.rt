@@ -1,18 +1,15 @@
 //! Versions in a place of one thread.
 
-ghost use Rattle.std.specs.Prelude.{◌≡◌, ◌<◌, ◌≤◌, ◌+◌, ◌^◌, [], ℕ, List, None, Some, MatchOption, length};
-ghost use Rattle.std.specs.BTreeMap.{is_at};
-ghost use Rattle.std.specs.Map.{lookup_entry};
-ghost use Rattle.std.specs.Range.Bound.{bound_map};
+ghost use Rattle.std.specs.Prelude.{◌≡◌, ◌<◌, ◌≤◌, ◌+◌, ◌^◌, [], ℕ, List, None, Some, length};
 ghost use Rattle.sdd_base.specs.Place.{IsReadable, IsShared};
 ghost use Rattle.sdd_base.specs.State.{value_at};
 ghost use Rattle.sdd_base.specs.Tokens.{loaded_slot, shared_slot};
 ghost use Rattle.tree_index.specs.Proximity.{IsLocated};
-ghost use Rattle.tree_index.specs.declared.cursor.End.TheVariants.{Unopened};
 ghost use Rattle.versions.specs.Items.{slots_of};
 ghost use Rattle.versions.specs.Nearby.{as_proximity};
 ghost use Rattle.versions.specs.Placing.{HasVersion};
 ghost use Rattle.versions.specs.Versions.{IsVersion, blocks_of, list_of};
+ghost use Rattle.versions.specs.Views.{LooksUp, cursor_within};
 
 use crate::directory::Directory;
 use crate::item::Item;
@@ -80,7 +77,7 @@ pub fn look_up<'a, K: Ord, V, const S: usize>(
     key: &K,
 ) -> Option<(&'a K, &'a V)>
     requires { IsVersion K.cmp (value_at w.now) dir.now }
-    ensures { MatchOption result (lookup_entry (is_at (K.cmp key.now)) (list_of (value_at w.now) dir.now) ≡ None) (λ e. lookup_entry (is_at (K.cmp key.now)) (list_of (value_at w.now) dir.now) ≡ Some (e.0.now, e.1.now)) }
+    ensures { LooksUp K.cmp key.now (list_of (value_at w.now) dir.now) result }
 {
     let mut steps = Steps::new();
     look_up_counted(w, dir, key, &mut steps)
@@ -94,7 +91,7 @@ pub fn look_up_counted<'a, K: Ord, V, const S: usize>(
     steps: &mut Steps,
 ) -> Option<(&'a K, &'a V)>
     requires { IsVersion K.cmp (value_at w.now) dir.now }
-    ensures pair { MatchOption result (lookup_entry (is_at (K.cmp key.now)) (list_of (value_at w.now) dir.now) ≡ None) (λ e. lookup_entry (is_at (K.cmp key.now)) (list_of (value_at w.now) dir.now) ≡ Some (e.0.now, e.1.now)) }
+    ensures pair { LooksUp K.cmp key.now (list_of (value_at w.now) dir.now) result }
     ensures cost { (digits : ℕ) → length (slots_of dir.now) < 2 ^ digits → steps.new.count ≤ steps.old.count + 30 + digits }
     ensures raised { steps.old.count ≤ steps.new.count }
     ensures none { list_of (value_at w.now) dir.now ≡ [] → steps.new.count ≡ steps.old.count }
@@ -122,7 +119,7 @@ pub fn walk<'a, K: Ord, V, const S: usize>(
 ) -> Walk<'a, K, V, World<Item<K, V, S>, NoJob>>
     requires { IsVersion K.cmp (value_at w.now) dir.now }
     ensures countable { length (list_of (value_at w.now) dir.now) < 2 ^ 64 }
-    ensures cursor { result ≡ record { pairs = list_of (value_at w.now) dir.now; lower = bound_map (λ k. k.now) lower.entry; upper = bound_map (λ k. k.now) upper.entry; forward = Unopened; backward = Unopened } }
+    ensures cursor { result ≡ cursor_within (list_of (value_at w.now) dir.now) lower.entry upper.entry }
 {
     let version = view_of(w, dir);
     version.laws();

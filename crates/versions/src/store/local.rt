@@ -1,6 +1,6 @@
 //! The store of one thread.
 
-ghost use Rattle.std.specs.Prelude.{◌≡◌, ◌≤◌, ◌<◌, ◌+◌, ◌-◌, ◌*◌, ◌^◌, ℕ, List, Option, None, Some, IfOk, IfSome, IfNone, IsErrOf, IsSome, IsTrue, ◌↔◌, OnOk, OnErr, length, replicate, slice_get, slice_set};
+ghost use Rattle.std.specs.Prelude.{◌≡◌, ◌≤◌, ◌<◌, ◌+◌, ◌-◌, ◌*◌, ◌^◌, List, Option, None, Some, IfOk, IfSome, IfNone, IsErrOf, IsSome, IsTrue, ◌↔◌, OnOk, OnErr, length, replicate, slice_get, slice_set};
 ghost use Rattle.std.specs.List.{All};
 ghost use Rattle.leaf_array.specs.Values.{ClonesAreSame};
 ghost use Rattle.sdd_base.specs.Passing.{slot_kept};
@@ -10,7 +10,7 @@ ghost use Rattle.versions.specs.Cuts.{pairs_in};
 ghost use Rattle.versions.specs.Items.{slots_of};
 ghost use Rattle.versions.specs.Placing.{CanBeShared};
 ghost use Rattle.versions.specs.Sizes.{IsStoreSized, room_for, segments_for};
-ghost use Rattle.versions.specs.Store.{Version, IsKeptHere, IsStore, no_version, version_in};
+ghost use Rattle.versions.specs.Store.{Version, IsKeptHere, IsStore, next_version, no_version, version_in};
 ghost use Rattle.versions.specs.Versions.{IsVersion, list_of};
 ghost use Rattle.versions.specs.Writes.{after_writes, replies_to};
 ghost use Rattle.versions.specs.declared.store.readers.Opened.{Opened};
@@ -208,7 +208,7 @@ impl<K: Clone + Ord, V: Clone, const S: usize> LocalStore<K, V, S> {
         requires last { self.old.present.number < 2 ^ 64 - 1 }
         requires keys { ClonesAreSame K.is_clone }
         requires values { ClonesAreSame V.is_clone }
-        ensures written { OnOk result (self.new ≡ record self.old { present = record { number = self.old.present.number + 1; pairs = after_writes K.cmp writes.now self.old.present.pairs }; used = self.new.used }) }
+        ensures written { OnOk result (self.new ≡ record self.old { present = next_version K.cmp writes.now self.old.present; used = self.new.used }) }
         ensures replies { IfOk result (λ told. told.items ≡ replies_to K.cmp writes.now self.old.present.pairs) }
         ensures room { OnOk result (self.new.used ≤ self.old.used + room_for S (length (after_writes K.cmp writes.now self.old.present.pairs))) }
         ensures few { OnOk result (self.new.used ≤ self.old.used + (2 * length writes.now + 1)) }

@@ -1,11 +1,11 @@
 //! The places of readers: each has a guard, and the version that it loaded under it.
 
-ghost use Rattle.std.specs.Prelude.{◌≡◌, ◌≤◌, ◌<◌, ℕ, List, Option, None, Some, [], IfSome, IsTrue, ◌↔◌, map, replicate, slice_get, vec_capacity};
+ghost use Rattle.std.specs.Prelude.{◌≡◌, ◌≤◌, ◌<◌, ℕ, Option, None, Some, [], IfSome, IsTrue, ◌↔◌, map, replicate, slice_get, vec_capacity};
 ghost use Rattle.std.specs.List.{All};
 ghost use Rattle.std.specs.Option.{option_map};
 ghost use Rattle.sdd_base.specs.State.{value_at};
 ghost use Rattle.sdd_base.specs.View.{IsFreeList};
-ghost use Rattle.versions.specs.Store.{IsStore, HasVersionOpen, Version, gap, read_by};
+ghost use Rattle.versions.specs.Store.{IsStore, HasVersionOpen, Version, directory_version, gap, read_by};
 ghost use Rattle.versions.specs.Versions.{IsVersion, list_of};
 
 use crate::directory::Directory;
@@ -48,7 +48,7 @@ pub(crate) fn nearest<'w, K: Ord, V, const S: usize>(
 ) -> Option<&'w Directory<K, Kept>>
     requires { (root : ℕ) × IsStore K.cmp w.now root readers.now }
     ensures version { IfSome result (λ d. IsVersion K.cmp (value_at w.now) d.now) }
-    ensures reader { IfSome result (λ d. (place : ℕ) × (slice_get (map (option_map (read_by w.now)) readers.now) place ≡ Some (Some (record { number = d.now.number; pairs = list_of (value_at w.now) d.now })))) }
+    ensures reader { IfSome result (λ d. (place : ℕ) × (slice_get (map (option_map (read_by w.now)) readers.now) place ≡ Some (Some (directory_version (value_at w.now) d.now)))) }
     ensures number { IfSome result (λ d. d.now.number ≤ number) }
 {
     let mut found: Option<&'w Directory<K, Kept>> = None;

@@ -1,4 +1,4 @@
-use Rattle.std.proofs.Common.{◌≡◌, refl, sym, None}
+use Rattle.std.proofs.Common.{◌≡◌, refl, sym, ap, None}
 use Rattle.std.specs.List.{slice_get}
 use Rattle.ordered_index.specs.RemainingPairs.{remaining_pairs}
 use Rattle.ordered_index.proofs.ReplayLemmas.{gathered_more, left_whole}
@@ -14,12 +14,11 @@ gathering-init g c = record {
 pub gathering-preserved : goal.gathering-preserved
 gathering-preserved g c =
     let i = c.gathering.invariant in
-    let key = c.requires.keys c.in-Some.key.now c.in_ok-clone.field-0 c.in_ok-clone.ensures.cases in
-    let value = c.requires.values c.in-Some.value.now c.in_ok-clone-2.field-0 c.in_ok-clone-2.ensures.cases in
+    let pair = c.in_ok-key.ensures in
     let more = gathered_more g.met.K.Ord.total c.gathering.list.pairs (remaining_pairs g.K.Ord.cmp (g.C.Steps.cursor c.gathering.cursor)) _ (c.in-Some.key.now, c.in-Some.value.now) i.given c.requires.start.rising (sym c.in-Some.ensures.first) in
     record {
       alone = c.next.ensures.alone;
-      given = rw (c.in-Ok.ensures.upserted, key, value, c.in-Some.ensures.left refl) more;
+      given = rw (c.in-Ok.ensures.upserted, ap (λ (p : _ × _). p.0) pair, ap (λ (p : _ × _). p.1) pair, c.in-Some.ensures.left refl) more;
     }
 
 pub returns : goal.returns

@@ -28,8 +28,11 @@ returns-in-Err-push-clause-partly g c =
       c.next.new.self,
       c.into_iter-value-iterator.ensures.into_iter_gives,
       (c.loop-value.value-iterator, c.loop-value.yielded_by, subst (λ (x : _). g.I.IntoIter.Iterator.next_gives c.loop-value.value-iterator (Some x) c.next.new.self) (sym r.0) c.in-Some.ensures.steps),
-      ((bag_same c.args.w.now g.row.ARRAY_LEN c.loop-value.w c.push.new.w (bag_cells c.in-Ok.bag) c.loop-value.yielded c.in-Err-push.ensures.refused.1 c.loop-value.invariant.built).fills, subst (λ (v : State _). NoneFree v ⊎ NoCellFree v) (sym r.1) r.2),
+      (bag_same c.args.w.now g.row.ARRAY_LEN c.loop-value.w c.push.new.w (bag_cells c.in-Ok.bag) c.loop-value.yielded c.in-Err-push.ensures.refused.1 c.loop-value.invariant.built).fills,
     )
+
+pub returns-in-Err-push-clause-room : goal.returns-in-Err-push-clause-room
+returns-in-Err-push-clause-room g c = let r = c.in-Err-push.ensures.refused in subst (λ (v : State _). NoneFree v ⊎ NoCellFree v) (sym r.1) r.2
 
 pub returns-in-Err-push-clause-leaves : goal.returns-in-Err-push-clause-leaves
 returns-in-Err-push-clause-leaves g c = (bag_same c.args.w.now g.row.ARRAY_LEN c.loop-value.w c.push.new.w (bag_cells c.in-Ok.bag) c.loop-value.yielded c.in-Err-push.ensures.refused.1 c.loop-value.invariant.built).leaves

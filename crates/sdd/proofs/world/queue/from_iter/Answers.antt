@@ -36,8 +36,11 @@ returns-in-Err-add-clause-partly g c =
       c.next.new.self,
       c.into_iter-value-iterator.ensures.into_iter_gives,
       (c.loop-value.value-iterator, c.loop-value.yielded_by, subst (λ (o : Option _). g.I.IntoIter.Iterator.next_gives c.loop-value.value-iterator o c.next.new.self) r.0 c.in-Some.ensures.steps),
-      ((queue_same c.args.w.now c.loop-value.w c.add.new.w (oldest_cell c.in-Ok.queue) (newest_cell c.in-Ok.queue) c.loop-value.yielded c.in-Err-add.ensures.refused.1 c.loop-value.invariant.built).fills, subst (λ (v : State _). NoneFree v ⊎ NoCellFree v) (sym r.1) r.2),
+      (queue_same c.args.w.now c.loop-value.w c.add.new.w (oldest_cell c.in-Ok.queue) (newest_cell c.in-Ok.queue) c.loop-value.yielded c.in-Err-add.ensures.refused.1 c.loop-value.invariant.built).fills,
     )
+
+pub returns-in-Err-add-clause-room : goal.returns-in-Err-add-clause-room
+returns-in-Err-add-clause-room g c = let r = c.in-Err-add.ensures.refused in subst (λ (v : State _). NoneFree v ⊎ NoCellFree v) (sym r.1) r.2
 
 pub returns-in-Err-add-clause-leaves : goal.returns-in-Err-add-clause-leaves
 returns-in-Err-add-clause-leaves g c = (queue_same c.args.w.now c.loop-value.w c.add.new.w (oldest_cell c.in-Ok.queue) (newest_cell c.in-Ok.queue) c.loop-value.yielded c.in-Err-add.ensures.refused.1 c.loop-value.invariant.built).leaves

@@ -28,8 +28,11 @@ returns-in-Err-put-clause-partly g c =
       c.next.new.self,
       c.into_iter-value-iterator.ensures.into_iter_gives,
       (c.loop-value.value-iterator, c.loop-value.yielded_by, subst (λ (x : _). g.I.IntoIter.Iterator.next_gives c.loop-value.value-iterator (Some x) c.next.new.self) (sym r.0) c.in-Some.ensures.steps),
-      ((stack_same c.args.w.now c.loop-value.w c.put.new.w (stack_cell c.in-Ok.stack) (reverse c.loop-value.yielded) c.in-Err-put.ensures.refused.1 c.loop-value.invariant.built).fills, subst (λ (v : State _). NoneFree v ⊎ NoCellFree v) (sym r.1) r.2),
+      (stack_same c.args.w.now c.loop-value.w c.put.new.w (stack_cell c.in-Ok.stack) (reverse c.loop-value.yielded) c.in-Err-put.ensures.refused.1 c.loop-value.invariant.built).fills,
     )
+
+pub returns-in-Err-put-clause-room : goal.returns-in-Err-put-clause-room
+returns-in-Err-put-clause-room g c = let r = c.in-Err-put.ensures.refused in subst (λ (v : State _). NoneFree v ⊎ NoCellFree v) (sym r.1) r.2
 
 pub returns-in-Err-put-clause-leaves : goal.returns-in-Err-put-clause-leaves
 returns-in-Err-put-clause-leaves g c = (stack_same c.args.w.now c.loop-value.w c.put.new.w (stack_cell c.in-Ok.stack) (reverse c.loop-value.yielded) c.in-Err-put.ensures.refused.1 c.loop-value.invariant.built).leaves

@@ -15,35 +15,35 @@ invariant_of-self g c =
 pub returns-in-None : goal.returns-in-None
 returns-in-None g c =
     let known = known_in c.self.inside c.args.self.now _ c.self.view_is c.requires.participant in
-    let s = c.in-None.ensures.shown in
+    let s = c.in-None.ensures.none in
     let m = due_in c.self.inside c.args.p c.index_mut.result.now known c.index_mut.ensures.value in
     (ap (λ (w : State _). (participant_at w c.args.p).due) (sym c.self.view_is) ∙ ap (λ (m : ParticipantState). m.due) m ∙ s.0, same_view c.self.inside c.args.p c.index_mut.result.now _ known c.index_mut.ensures.value s.1 ∙ c.self.view_is)
 
 pub index-requires : goal.index-requires
 index-requires g c =
     let known = known_in c.self.inside c.args.self.now _ c.self.view_is c.requires.participant in
-    let s = c.in-Some.ensures.shown in
+    let s = c.in-Some.ensures.taken in
     let d = due_waits c.self.inside c.args.self.now c.args.p c.index_mut.result.now c.in-Some.i s.0 c.self.view_is known c.index_mut.ensures.value s.1 c.requires.waits in
     omega (arith, d.0, c.self.inside.states.ok.0)
 
 pub index_mut-requires-then-has_item : goal.index_mut-requires-then-has_item
 index_mut-requires-then-has_item g c =
     let known = known_in c.self.inside c.args.self.now _ c.self.view_is c.requires.participant in
-    let s = c.in-Some.ensures.shown in
+    let s = c.in-Some.ensures.taken in
     let d = due_waits c.self.inside c.args.self.now c.args.p c.index_mut.result.now c.in-Some.i s.0 c.self.view_is known c.index_mut.ensures.value s.1 c.requires.waits in
     omega (arith, d.0, c.self.inside.states.ok.0)
 
 pub index_mut-requires-in-Some : goal.index_mut-requires-in-Some
 index_mut-requires-in-Some g c =
     let known = known_in c.self.inside c.args.self.now _ c.self.view_is c.requires.participant in
-    let s = c.in-Some.ensures.shown in
+    let s = c.in-Some.ensures.taken in
     let d = due_waits c.self.inside c.args.self.now c.args.p c.index_mut.result.now c.in-Some.i s.0 c.self.view_is known c.index_mut.ensures.value s.1 c.requires.waits in
     omega (arith, d.0, c.self.inside.states.ok.0)
 
 pub overflow_sub-self : goal.overflow_sub-self
 overflow_sub-self g c =
     let known = known_in c.self.inside c.args.self.now _ c.self.view_is c.requires.participant in
-    let s = c.in-Some.ensures.shown in
+    let s = c.in-Some.ensures.taken in
     let d = due_waits c.self.inside c.args.self.now c.args.p c.index_mut.result.now c.in-Some.i s.0 c.self.view_is known c.index_mut.ensures.value s.1 c.requires.waits in
     let at = get_or_default c.self.inside.states.items c.in-Some.i c.index.result.now status.Free d.0 in
     let used : is_used (get_or c.self.inside.states.items c.in-Some.i status.Free) ≡ true = ap is_used (sym at) ∙ ap is_used (sym c.index.ensures) ∙ sym c.has_item.ensures ∙ c.if-has_item.true in
@@ -54,7 +54,7 @@ overflow_sub-self g c =
 pub keep_name-requires : goal.keep_name-requires
 keep_name-requires g c =
     let known = known_in c.self.inside c.args.self.now _ c.self.view_is c.requires.participant in
-    let s = c.in-Some.ensures.shown in
+    let s = c.in-Some.ensures.taken in
     let d = due_waits c.self.inside c.args.self.now c.args.p c.index_mut.result.now c.in-Some.i s.0 c.self.view_is known c.index_mut.ensures.value s.1 c.requires.waits in
     let at = get_or_default c.self.inside.states.items c.in-Some.i c.index.result.now status.Free d.0 in
     let used : is_used (get_or c.self.inside.states.items c.in-Some.i status.Free) ≡ true = ap is_used (sym at) ∙ ap is_used (sym c.index.ensures) ∙ sym c.has_item.ensures ∙ c.if-has_item.true in
@@ -64,14 +64,14 @@ keep_name-requires g c =
 pub index_mut-requires-then-has_item-2 : goal.index_mut-requires-then-has_item-2
 index_mut-requires-then-has_item-2 g c =
     let known = known_in c.self.inside c.args.self.now _ c.self.view_is c.requires.participant in
-    let s = c.in-Some.ensures.shown in
+    let s = c.in-Some.ensures.taken in
     let d = due_waits c.self.inside c.args.self.now c.args.p c.index_mut.result.now c.in-Some.i s.0 c.self.view_is known c.index_mut.ensures.value s.1 c.requires.waits in
     within_values c.self.inside c.in-Some.i c.self.invariant d.0
 
 pub invariant_of-self-then-has_item : goal.invariant_of-self-then-has_item
 invariant_of-self-then-has_item g c =
     let known = known_in c.self.inside c.args.self.now _ c.self.view_is c.requires.participant in
-    let s = c.in-Some.ensures.shown in
+    let s = c.in-Some.ensures.taken in
     let d = due_waits c.self.inside c.args.self.now c.args.p c.index_mut.result.now c.in-Some.i s.0 c.self.view_is known c.index_mut.ensures.value s.1 c.requires.waits in
     let at = get_or_default c.self.inside.states.items c.in-Some.i c.index.result.now status.Free d.0 in
     let used : is_used (get_or c.self.inside.states.items c.in-Some.i status.Free) ≡ true = ap is_used (sym at) ∙ ap is_used (sym c.index.ensures) ∙ sym c.has_item.ensures ∙ c.if-has_item.true in
@@ -82,7 +82,7 @@ invariant_of-self-then-has_item g c =
 pub returns-then-has_item : goal.returns-then-has_item
 returns-then-has_item g c =
     let known = known_in c.self.inside c.args.self.now _ c.self.view_is c.requires.participant in
-    let s = c.in-Some.ensures.shown in
+    let s = c.in-Some.ensures.taken in
     let d = due_waits c.self.inside c.args.self.now c.args.p c.index_mut.result.now c.in-Some.i s.0 c.self.view_is known c.index_mut.ensures.value s.1 c.requires.waits in
     let at = get_or_default c.self.inside.states.items c.in-Some.i c.index.result.now status.Free d.0 in
     let used : is_used (get_or c.self.inside.states.items c.in-Some.i status.Free) ≡ true = ap is_used (sym at) ∙ ap is_used (sym c.index.ensures) ∙ sym c.has_item.ensures ∙ c.if-has_item.true in
@@ -93,7 +93,7 @@ returns-then-has_item g c =
 pub keep_name-requires-in-Some : goal.keep_name-requires-in-Some
 keep_name-requires-in-Some g c =
     let known = known_in c.self.inside c.args.self.now _ c.self.view_is c.requires.participant in
-    let s = c.in-Some.ensures.shown in
+    let s = c.in-Some.ensures.taken in
     let d = due_waits c.self.inside c.args.self.now c.args.p c.index_mut.result.now c.in-Some.i s.0 c.self.view_is known c.index_mut.ensures.value s.1 c.requires.waits in
     let at = get_or_default c.self.inside.states.items c.in-Some.i c.index.result.now status.Free d.0 in
     let used : is_used (get_or c.self.inside.states.items c.in-Some.i status.Free) ≡ false = ap is_used (sym at) ∙ ap is_used (sym c.index.ensures) ∙ sym c.has_item.ensures ∙ c.if-has_item.false in
@@ -103,7 +103,7 @@ keep_name-requires-in-Some g c =
 pub overflow_sub-i : goal.overflow_sub-i
 overflow_sub-i g c =
     let known = known_in c.self.inside c.args.self.now _ c.self.view_is c.requires.participant in
-    let s = c.in-Some.ensures.shown in
+    let s = c.in-Some.ensures.taken in
     let d = due_waits c.self.inside c.args.self.now c.args.p c.index_mut.result.now c.in-Some.i s.0 c.self.view_is known c.index_mut.ensures.value s.1 c.requires.waits in
     let at = get_or_default c.self.inside.states.items c.in-Some.i c.index.result.now status.Free d.0 in
     let used : is_used (get_or c.self.inside.states.items c.in-Some.i status.Free) ≡ false = ap is_used (sym at) ∙ ap is_used (sym c.index.ensures) ∙ sym c.has_item.ensures ∙ c.if-has_item.false in
@@ -112,7 +112,7 @@ overflow_sub-i g c =
 pub index_mut-requires-in-Some-2 : goal.index_mut-requires-in-Some-2
 index_mut-requires-in-Some-2 g c =
     let known = known_in c.self.inside c.args.self.now _ c.self.view_is c.requires.participant in
-    let s = c.in-Some.ensures.shown in
+    let s = c.in-Some.ensures.taken in
     let d = due_waits c.self.inside c.args.self.now c.args.p c.index_mut.result.now c.in-Some.i s.0 c.self.view_is known c.index_mut.ensures.value s.1 c.requires.waits in
     let at = get_or_default c.self.inside.states.items c.in-Some.i c.index.result.now status.Free d.0 in
     let used : is_used (get_or c.self.inside.states.items c.in-Some.i status.Free) ≡ false = ap is_used (sym at) ∙ ap is_used (sym c.index.ensures) ∙ sym c.has_item.ensures ∙ c.if-has_item.false in
@@ -121,14 +121,14 @@ index_mut-requires-in-Some-2 g c =
 pub index_mut-requires-in-Some-3 : goal.index_mut-requires-in-Some-3
 index_mut-requires-in-Some-3 g c =
     let known = known_in c.self.inside c.args.self.now _ c.self.view_is c.requires.participant in
-    let s = c.in-Some.ensures.shown in
+    let s = c.in-Some.ensures.taken in
     let d = due_waits c.self.inside c.args.self.now c.args.p c.index_mut.result.now c.in-Some.i s.0 c.self.view_is known c.index_mut.ensures.value s.1 c.requires.waits in
     within_values c.self.inside c.in-Some.i c.self.invariant d.0
 
 pub invariant_of-self-in-Some : goal.invariant_of-self-in-Some
 invariant_of-self-in-Some g c =
     let known = known_in c.self.inside c.args.self.now _ c.self.view_is c.requires.participant in
-    let s = c.in-Some.ensures.shown in
+    let s = c.in-Some.ensures.taken in
     let d = due_waits c.self.inside c.args.self.now c.args.p c.index_mut.result.now c.in-Some.i s.0 c.self.view_is known c.index_mut.ensures.value s.1 c.requires.waits in
     let at = get_or_default c.self.inside.states.items c.in-Some.i c.index.result.now status.Free d.0 in
     let used : is_used (get_or c.self.inside.states.items c.in-Some.i status.Free) ≡ false = ap is_used (sym at) ∙ ap is_used (sym c.index.ensures) ∙ sym c.has_item.ensures ∙ c.if-has_item.false in
@@ -139,7 +139,7 @@ invariant_of-self-in-Some g c =
 pub returns-else-has_item : goal.returns-else-has_item
 returns-else-has_item g c =
     let known = known_in c.self.inside c.args.self.now _ c.self.view_is c.requires.participant in
-    let s = c.in-Some.ensures.shown in
+    let s = c.in-Some.ensures.taken in
     let d = due_waits c.self.inside c.args.self.now c.args.p c.index_mut.result.now c.in-Some.i s.0 c.self.view_is known c.index_mut.ensures.value s.1 c.requires.waits in
     let at = get_or_default c.self.inside.states.items c.in-Some.i c.index.result.now status.Free d.0 in
     let used : is_used (get_or c.self.inside.states.items c.in-Some.i status.Free) ≡ false = ap is_used (sym at) ∙ ap is_used (sym c.index.ensures) ∙ sym c.has_item.ensures ∙ c.if-has_item.false in
