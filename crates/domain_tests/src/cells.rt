@@ -1,9 +1,9 @@
 //! Cells of a place that threads share, and what guards load from them.
 
 ghost use Rattle.std.specs.Prelude.{◌≡◌, ◌<◌, ◌≤◌, ℕ};
-ghost use Rattle.sdd_domain.specs.Cells.{cell_of};
+ghost use Rattle.sdd_domain.specs.Cells.{cell_number};
 ghost use Rattle.sdd_domain.specs.Sharing.{kept_in};
-ghost use Rattle.sdd_domain.specs.Tokens.{place_of, home_of, own_of, cells_of, nest_of, nest_in, IsSame, IsWithin};
+ghost use Rattle.sdd_domain.specs.Tokens.{place_of, home_of, own_of, cell_count, nest_of, nest_in, IsSame, IsInNest};
 
 use crate::domain::{end, member};
 use crate::guard::pass;
@@ -27,7 +27,7 @@ fn cell_with<R: Abort>(
 ) -> AtomicShared
     requires home { home_of local.old ≡ place_of domain.now }
     requires closed { (own_of local.old).nesting ≡ 0 }
-    ensures inside { cell_of result < cells_of domain.now }
+    ensures inside { cell_number result < cell_count domain.now }
     ensures same { IsSame local.old local.new }
     ensures closed { (own_of local.new).nesting ≡ 0 }
 {
@@ -45,7 +45,7 @@ fn cell_with<R: Abort>(
 fn read(domain: &Domain<u64>, local: &mut Local<u64>, cell: &AtomicShared) -> Option<u64>
     requires home { home_of local.old ≡ place_of domain.now }
     requires closed { (own_of local.old).nesting ≡ 0 }
-    requires inside { cell_of cell.now < cells_of domain.now }
+    requires inside { cell_number cell.now < cell_count domain.now }
     ensures same { IsSame local.old local.new }
     ensures closed { (own_of local.new).nesting ≡ 0 }
 {
@@ -67,7 +67,7 @@ fn put<R: Abort>(
 ) -> Option<bool>
     requires home { home_of local.old ≡ place_of domain.now }
     requires closed { (own_of local.old).nesting ≡ 0 }
-    requires inside { cell_of cell.now < cells_of domain.now }
+    requires inside { cell_number cell.now < cell_count domain.now }
     ensures same { IsSame local.old local.new }
     ensures closed { (own_of local.new).nesting ≡ 0 }
 {
@@ -246,7 +246,7 @@ fn a_place_is_handed_back_while_a_cell_owns_an_item(rt: HostRuntime) -> Result<(
 struct Scene<'a> {
     domain: &'a Domain<u64>,
     cell: &'a AtomicShared,
-    ghost inside: { cell_of cell.now < cells_of domain.now },
+    ghost inside: { cell_number cell.now < cell_count domain.now },
 }
 
 /// Swaps an item into the cell, so many times, reads what it loads before that and after, and releases what comes out:
@@ -272,7 +272,7 @@ fn swapping(scene: &Scene, salt: u64) -> Option<u32> {
 fn keeps(domain: &Domain<u64>, local: &mut Local<u64>, cell: &AtomicShared, item: u64) -> bool
     requires home { home_of local.old ≡ place_of domain.now }
     requires closed { (own_of local.old).nesting ≡ 0 }
-    requires inside { cell_of cell.now < cells_of domain.now }
+    requires inside { cell_number cell.now < cell_count domain.now }
     ensures same { IsSame local.old local.new }
     ensures closed { (own_of local.new).nesting ≡ 0 }
 {
@@ -290,8 +290,8 @@ fn keeps(domain: &Domain<u64>, local: &mut Local<u64>, cell: &AtomicShared, item
 /// Puts an item into the cell, where a slot is free, and releases the one that it had.
 fn replace(domain: &Domain<u64>, local: &mut Local<u64>, cell: &AtomicShared, item: u64)
     requires home { home_of local.old ≡ place_of domain.now }
-    requires inside { cell_of cell.now < cells_of domain.now }
-    ensures same { IsWithin local.old local.new × ((own_of local.new).nesting ≡ (own_of local.old).nesting) }
+    requires inside { cell_number cell.now < cell_count domain.now }
+    ensures same { IsInNest local.old local.new × ((own_of local.new).nesting ≡ (own_of local.old).nesting) }
 {
     if let Ok(owner) = Shared::new(item, domain, local) {
         if let Some(old) = cell.swap(Some(owner), domain, local) {

@@ -79,8 +79,8 @@ unfolding leased_slots
 fewer_leased n ls k low free all apart = let long = length-map ls (λ (l : Lease). l.slot) in let f = fits n (k ∷ leased_slots ls) (λ x h. ⊎_elim (λ (e : k ≡ x). subst (λ z. z < n) e low) (λ (t : Has (leased_slots ls) x). let g = lease_there ls x t in subst (λ z. z < n) g.2 (all g.0 g.1)) h)
     ((λ h. free (lends_slot ls k h)), leases_apart ls apart) in omega arith
 
-slots_of : List Garbage → List ℕ
-slots_of ws = map (λ (w : Garbage). w.slot) ws
+garbage_slots : List Garbage → List ℕ
+garbage_slots ws = map (λ (w : Garbage). w.slot) ws
 
 module _ (S : Type 0) (IsIn : Content → S → Type 0) (plan : Plan) where
   -- while a participant has an owner in hand, it has retired fewer items than there are slots
@@ -109,18 +109,18 @@ module _ (S : Type 0) (IsIn : Content → S → Type 0) (plan : Plan) where
     owned_apart w h e = let t = r.items.waiting id d w at kind h in let u = own in let same : o.item ≡ w.item = one_item w.slot o.item w.item (subst (λ z. r.book.stage z ≡ full o.item) e owner_stands.1) (waiting_stands w h).1 in
         let one = same_at r.state.items w.item u.0 t.0 (subst (λ z. get_elem? r.state.items z ≡ some u.0) same u.1) t.1 in let bad : Live ≡ Retired d.number w.age = sym lives ∙ (ap (λ (z : Item). z.state) one ∙ t.2) in absurd (cc)
 
-    slot_there : (ws : List Garbage) (k : ℕ) → Has (slots_of ws) k → (w : Garbage) × Has ws w × (w.slot ≡ k)
-    unfolding slots_of
+    slot_there : (ws : List Garbage) (k : ℕ) → Has (garbage_slots ws) k → (w : Garbage) × Has ws w × (w.slot ≡ k)
+    unfolding garbage_slots
     slot_there [] k h = absurd h
-    slot_there (w ∷ ws) k h = ⊎_elim (λ (e : w.slot ≡ k). (w, inl refl, e)) (λ (t : Has (slots_of ws) k). let g = slot_there ws k t in (g.0, inr g.1, g.2)) h
+    slot_there (w ∷ ws) k h = ⊎_elim (λ (e : w.slot ≡ k). (w, inl refl, e)) (λ (t : Has (garbage_slots ws) k). let g = slot_there ws k t in (g.0, inr g.1, g.2)) h
 
-    apart : (ws : List Garbage) → Distinct ws → ((w : Garbage) → Has ws w → Stands w.slot w.item) → AreApart (slots_of ws)
-    unfolding slots_of
+    apart : (ws : List Garbage) → Distinct ws → ((w : Garbage) → Has ws w → Stands w.slot w.item) → AreApart (garbage_slots ws)
+    unfolding garbage_slots
     apart [] a stand = tt
     apart (w ∷ ws) a stand = ((λ h. let g = slot_there ws w.slot h in a.0 g.0 g.1 (one_item w.slot g.0.item w.item (subst (λ z. r.book.stage z ≡ full g.0.item) g.2 (stand g.0 (inr g.1)).1) (stand w (inl refl)).1)), apart ws a.1 (λ v t. stand v (inr t)))
 
     pub fewer_wait : length d.waits < plan.sizes.slots
-    unfolding slots_of
-    fewer_wait = let long = length-map d.waits (λ (w : Garbage). w.slot) in let f = fits plan.sizes.slots (o.slot ∷ slots_of d.waits)
-        (λ x h. ⊎_elim (λ (e : o.slot ≡ x). subst (λ z. z < plan.sizes.slots) e owner_stands.0) (λ (t : Has (slots_of d.waits) x). let g = slot_there d.waits x t in subst (λ z. z < plan.sizes.slots) g.2 (waiting_stands g.0 g.1).0) h)
+    unfolding garbage_slots
+    fewer_wait = let long = length-map d.waits (λ (w : Garbage). w.slot) in let f = fits plan.sizes.slots (o.slot ∷ garbage_slots d.waits)
+        (λ x h. ⊎_elim (λ (e : o.slot ≡ x). subst (λ z. z < plan.sizes.slots) e owner_stands.0) (λ (t : Has (garbage_slots d.waits) x). let g = slot_there d.waits x t in subst (λ z. z < plan.sizes.slots) g.2 (waiting_stands g.0 g.1).0) h)
         ((λ h. let g = slot_there d.waits o.slot h in owned_apart g.0 g.1 (sym g.2)), apart d.waits (r.items.seats id d at kind).distinct waiting_stands) in omega arith

@@ -22,7 +22,7 @@ use Rattle.sdd_homes.specs.declared.Garbage.{Garbage}
 use Rattle.sdd_homes.specs.Reasons.{Loads}
 use Rattle.sdd_homes.specs.Hands.{items_of}
 use Rattle.sdd_domain.specs.Views.{IsBare, spent}
-use Rattle.sdd_domain.specs.Items.{Grip, Rests, IsWaiting, IsLeft, Distinct, Leftovers, Carries, Items}
+use Rattle.sdd_domain.specs.Items.{Grip, Rests, IsWaiting, IsLeftover, Distinct, Leftovers, Carries, Items}
 use Rattle.sdd_domain.proofs.Stirred.{stirred_none, stirred_left, grip_set, loads_others, seated}
 use Rattle.sdd_domain.proofs.Stirred as items
 use Rattle.sdd_base.specs.declared.sizes.Sizes.{Sizes}
@@ -144,7 +144,7 @@ module _ (S : Type 0) (IsIn : Content → S → Type 0) (plan : Plan) where
         (λ _ h. inl h)
 
     -- what was left is nothing that a participant has retired
-    unlike : (v w : Garbage) → IsLeft r.state.items r.book.slot_of v → IsWaiting r.state.items r.book.slot_of p w → v.item ≢ w.item
+    unlike : (v w : Garbage) → IsLeftover r.state.items r.book.slot_of v → IsWaiting r.state.items r.book.slot_of p w → v.item ≢ w.item
     unlike v w a h e = let same : a.0 ≡ h.0 = same_at r.state.items w.item a.0 h.0 (subst (λ m. At r.state.items m a.0) e a.1) h.1 in let bad : Waiting ≡ Retired p w.age = sym a.2 ∙ (ap (λ (z : Item). z.state) same ∙ h.2) in absurd (cc)
 
     leaves : Leftovers core.items r.book.slot_of left'

@@ -8,7 +8,7 @@ use Rattle.sdd_steps.proofs.ListLemmas.{both}
 use Rattle.sdd_homes.specs.declared.Lease.{Lease}
 use Rattle.sdd_homes.specs.Book.{Content, part, lease}
 use Rattle.sdd_domain.specs.Contents.{IsIn, is_blank, blanks}
-use Rattle.sdd_domain.specs.Leases.{row_told, lease_told, leased_homes, slots_in, all_below, has_all}
+use Rattle.sdd_domain.specs.Leases.{row_told, lease_told, leased_homes, row_slots, all_below, has_all}
 use Rattle.sdd_domain.specs.Plays.{HasLoaded, IsLeased, takes_home, loading, own_home}
 use Rattle.sdd_domain.specs.declared.board.Acting.{Acting}
 use Rattle.sdd_domain.specs.declared.board.Home.{Home}
@@ -31,10 +31,10 @@ module _ {S : Type 0} (IsIn : Content → S → Type 0) (m m' : Me S Acting) (w 
 -- whether it was leased, as the rows tell
 module _ {T : Type 0} (life : ℕ) (rows : List (Row T)) (m m' : Me (Home T) Acting) (k : ℕ) (h : Loaded) (told : map row_told rows ≡ map (lease_told life) m.0.leases)
     (is : (IsLeased m.0.leases k h × (m' ≡ (loading h m.0.leases m.0, m.1))) ⊎ takes_home IsIn m k h m') where
-  pub was_leased : Has (slots_in rows) k → m' ≡ (loading h m.0.leases m.0, m.1)
+  pub was_leased : Has (row_slots rows) k → m' ≡ (loading h m.0.leases m.0, m.1)
   was_leased has = ⊎_elim (λ (t : IsLeased m.0.leases k h × (m' ≡ (loading h m.0.leases m.0, m.1))). t.1) (λ (t : takes_home IsIn m k h m'). absurd (t.0 (slot_lent m.0.leases k (subst (λ ks. Has ks k) (slots_told life rows m.0.leases told) has)))) is
 
-  pub is_new : ¬ Has (slots_in rows) k → takes_home IsIn m k h m'
+  pub is_new : ¬ Has (row_slots rows) k → takes_home IsIn m k h m'
   is_new free = ⊎_elim (λ (t : IsLeased m.0.leases k h × (m' ≡ (loading h m.0.leases m.0, m.1))). let l : Lease = t.0.0 in absurd (free (subst (λ ks. Has ks k) (sym (slots_told life rows m.0.leases told)) (subst (Has (map (λ (x : Lease). x.slot) m.0.leases)) t.0.2 (has_slot m.0.leases l t.0.1)))))
       (λ (t : takes_home IsIn m k h m'). t) is
 
@@ -75,9 +75,9 @@ more_told life [] (x ∷ ls) r l e one = absurd (cc)
 more_told life (x ∷ rows) [] r l e one = absurd (cc)
 more_told life (x ∷ rows) (y ∷ ls) r l e one = let first : row_told x ≡ lease_told life y = cc in let others : map row_told rows ≡ map (lease_told life) ls = cc in λ j. first j ∷ more_told life rows ls r l others one j
 
-pub more_below : {T : Type 0} (n : ℕ) (rows : List (Row T)) (r : Row T) → all_below n (slots_in rows) ≡ true → r.slot < n → all_below n (slots_in (rows ++ r ∷ [])) ≡ true
+pub more_below : {T : Type 0} (n : ℕ) (rows : List (Row T)) (r : Row T) → all_below n (row_slots rows) ≡ true → r.slot < n → all_below n (row_slots (rows ++ r ∷ [])) ≡ true
 more_below n [] r e low = λ j. lt-ltb r.slot n low j && true
-more_below n (x ∷ rows) r e low = let f = both (nat_lt x.slot n) (all_below n (slots_in rows)) e in λ j. f.0 j && more_below n rows r f.1 low j
+more_below n (x ∷ rows) r e low = let f = both (nat_lt x.slot n) (all_below n (row_slots rows)) e in λ j. f.0 j && more_below n rows r f.1 low j
 
 pub as_many : {T : Type 0} (life : ℕ) (rows : List (Row T)) (ls : List Lease) → map row_told rows ≡ map (lease_told life) ls → length rows ≡ length ls
 as_many life rows ls e = sym (length-map rows row_told) ∙ (ap length e ∙ length-map ls (lease_told life))

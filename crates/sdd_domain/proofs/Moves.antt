@@ -20,7 +20,7 @@ use Rattle.sdd_homes.specs.declared.Lease.{Lease}
 use Rattle.sdd_homes.specs.declared.Garbage.{Garbage}
 use Rattle.sdd_homes.specs.Reasons.{Loads, Why}
 use Rattle.sdd_domain.specs.Layout.{state_word, claim_word, slot_word, lock_word, count_word, epoch_words, shown}
-use Rattle.sdd_domain.specs.Items.{Grasps, Grip, IsWaiting, IsLeft, Carries, Items, Distinct}
+use Rattle.sdd_domain.specs.Items.{Grasps, Grip, IsWaiting, IsLeftover, Carries, Items, Distinct}
 use Rattle.sdd_domain.proofs.Stirred.{Stirred, stirred_none, still_left, grip_set, loads_others, seated}
 use Rattle.sdd_domain.proofs.Stirred as items
 use Rattle.sdd_domain.specs.Rule.{Acts, Bounded, Runs, beginning, Shows}
@@ -53,7 +53,7 @@ module _ (state core : steps.State) (d d' : Acting) where
     pub distinct : Distinct d.waits → Distinct d'.waits
     pub waits_mine : (slot_of : ℕ → ℕ) (w : Garbage) → ((v : Garbage) → Has d.waits v → IsWaiting state.items slot_of d.number v) → Has d'.waits w → IsWaiting core.items slot_of d.number w
     pub waits_others : (slot_of : ℕ → ℕ) (q : ℕ) (w : Garbage) → q ≢ d.number → IsWaiting state.items slot_of q w → IsWaiting core.items slot_of q w
-    pub lefts : (slot_of : ℕ → ℕ) (w : Garbage) → IsLeft state.items slot_of w → IsLeft core.items slot_of w
+    pub lefts : (slot_of : ℕ → ℕ) (w : Garbage) → IsLeftover state.items slot_of w → IsLeftover core.items slot_of w
 
 -- the words change at most where this participant publishes
 module _ (m p : ℕ) (before after : List ℕ) where

@@ -22,7 +22,7 @@ use Rattle.sdd_domain.specs.declared.board.Acting.{Acting}
 use Rattle.sdd_domain.proofs.Moves.{own_load, own_store, own_inside, idles}
 use Rattle.sdd_domain.proofs.Stirred.{Stirred, stirred_none, stirred_older, loads_none, waits_older, waits_older_else, distinct_older, left_older}
 use Rattle.sdd_domain.proofs.Taken as taken
-use Rattle.sdd_domain.specs.Items.{IsWaiting, IsLeft, Distinct}
+use Rattle.sdd_domain.specs.Items.{IsWaiting, IsLeftover, Distinct}
 use Rattle.sdd_homes.specs.declared.Garbage.{Garbage}
 
 -- p publishes the count that it read, and rotates if it found another one before
@@ -36,7 +36,7 @@ record Published (core : steps.State) (p e : ℕ) (x : Participant) : Type 0 whe
   distinct : (ws : List Garbage) → Distinct ws → Distinct (rotated e x.found ws)
   waits_mine : (slot_of : ℕ → ℕ) (ws : List Garbage) (w : Garbage) → ((v : Garbage) → Has ws v → IsWaiting core.items slot_of p v) → Has (rotated e x.found ws) w → IsWaiting next.items slot_of p w
   waits_others : (slot_of : ℕ → ℕ) (q : ℕ) (w : Garbage) → q ≢ p → IsWaiting core.items slot_of q w → IsWaiting next.items slot_of q w
-  lefts : (slot_of : ℕ → ℕ) (w : Garbage) → IsLeft core.items slot_of w → IsLeft next.items slot_of w
+  lefts : (slot_of : ℕ → ℕ) (w : Garbage) → IsLeftover core.items slot_of w → IsLeftover next.items slot_of w
 
 published : (core : steps.State) (p e : ℕ) (x : Participant) → At core.participants p x → x.phase ≡ HasRead e → Published core p e x
 published core p e x at is = let x1 : Participant = record x { phase = Opened e; reread = None; looked = []; loaded = [] } in let t = with_participant core p x1 in

@@ -5,13 +5,13 @@ use Rattle.sdd_steps.proofs.ListLemmas.{both}
 use Rattle.sdd_homes.specs.declared.Lease.{Lease}
 use Rattle.sdd_homes.specs.Book.{Lends, Apart, recounted}
 use Rattle.sdd_homes.proofs.Leases.{lends_has, recounted_none}
-use Rattle.sdd_domain.specs.Leases.{row_told, lease_told, leased_homes, slots_in, all_below}
+use Rattle.sdd_domain.specs.Leases.{row_told, lease_told, leased_homes, row_slots, all_below}
 use Rattle.sdd_domain.specs.Plays.{own_home}
 use Rattle.sdd_domain.specs.declared.board.Acting.{Acting}
 use Rattle.sdd_domain.specs.declared.row.Row.{Row}
 
 -- rows are where the leases that they tell are
-pub slots_told : {T : Type 0} (life : ℕ) (rows : List (Row T)) (ls : List Lease) → map row_told rows ≡ map (lease_told life) ls → slots_in rows ≡ map (λ (l : Lease). l.slot) ls
+pub slots_told : {T : Type 0} (life : ℕ) (rows : List (Row T)) (ls : List Lease) → map row_told rows ≡ map (lease_told life) ls → row_slots rows ≡ map (λ (l : Lease). l.slot) ls
 slots_told life [] [] e = refl
 slots_told life [] (l ∷ ls) e = absurd (cc)
 slots_told life (r ∷ rows) [] e = absurd (cc)

@@ -30,7 +30,7 @@ use Rattle.sdd_homes.proofs.PartLemmas.{Alike}
 use Rattle.sdd_homes.proofs.SpareLemmas.{stays_kept, refilled, beside}
 use Rattle.sdd_homes.proofs.HandLemmas.{owned_set}
 use Rattle.sdd_domain.specs.Layout.{epoch_words, claim_word, cell_word, slot_word, all_homes, all_extras, bag_place}
-use Rattle.sdd_domain.specs.Items.{hand_of, Grasps, Grip, Owns, IsWaiting, IsLeft, Leftovers, IsFilling, Rests, Carries, Items, Distinct}
+use Rattle.sdd_domain.specs.Items.{hand_of, Grasps, Grip, Owns, IsWaiting, IsLeftover, Leftovers, IsFilling, Rests, Carries, Items, Distinct}
 use Rattle.sdd_domain.specs.Views.{older_waits}
 use Rattle.sdd_domain.specs.declared.board.Acting.{Acting}
 
@@ -123,17 +123,17 @@ pub waits_left : (p q : ℕ) (items : List Item) (slot_of : ℕ → ℕ) (w : Ga
 waits_left p q items slot_of w ne y = (left_by p y.0, at_map (left_by p) items w.item y.0 y.1, ap (left p) y.2 ∙ ap (λ b. cond b Waiting (Retired q w.age)) (ne_eqb q p ne), y.3, y.4)
 
 -- what was left is so where participants rotate or end, and what p has retired is left where p ends
-pub left_older : (p : ℕ) (items : List Item) (slot_of : ℕ → ℕ) (w : Garbage) → IsLeft items slot_of w → IsLeft (map (older p) items) slot_of w
+pub left_older : (p : ℕ) (items : List Item) (slot_of : ℕ → ℕ) (w : Garbage) → IsLeftover items slot_of w → IsLeftover (map (older p) items) slot_of w
 left_older p items slot_of w y = (older p y.0, at_map (older p) items w.item y.0 y.1, ap (aged p) y.2, y.3, y.4)
 
-pub left_on : (p : ℕ) (items : List Item) (slot_of : ℕ → ℕ) (w : Garbage) → IsLeft items slot_of w → IsLeft (map (left_by p) items) slot_of w
+pub left_on : (p : ℕ) (items : List Item) (slot_of : ℕ → ℕ) (w : Garbage) → IsLeftover items slot_of w → IsLeftover (map (left_by p) items) slot_of w
 left_on p items slot_of w y = (left_by p y.0, at_map (left_by p) items w.item y.0 y.1, ap (left p) y.2, y.3, y.4)
 
-pub waits_no_more : (p : ℕ) (items : List Item) (slot_of : ℕ → ℕ) (w : Garbage) → IsWaiting items slot_of p w → IsLeft (map (left_by p) items) slot_of w
+pub waits_no_more : (p : ℕ) (items : List Item) (slot_of : ℕ → ℕ) (w : Garbage) → IsWaiting items slot_of p w → IsLeftover (map (left_by p) items) slot_of w
 waits_no_more p items slot_of w y = (left_by p y.0, at_map (left_by p) items w.item y.0 y.1, ap (left p) y.2 ∙ ap (λ b. cond b Waiting (Retired p w.age)) (eq-eqb p p refl), y.3, y.4)
 
 -- items change, and those that are left don't
-pub still_left : {items items' : List Item} {slot_of slot_of' : ℕ → ℕ} {left : ℕ → List Garbage} → Leftovers items slot_of left → ((w : Garbage) → IsLeft items slot_of w → IsLeft items' slot_of' w) → Leftovers items' slot_of' left
+pub still_left : {items items' : List Item} {slot_of slot_of' : ℕ → ℕ} {left : ℕ → List Garbage} → Leftovers items slot_of left → ((w : Garbage) → IsLeftover items slot_of w → IsLeftover items' slot_of' w) → Leftovers items' slot_of' left
 still_left l on = record { waits = λ p w h. on w (l.waits p w h); once = l.once; apart = l.apart }
 
 module _ {S : Type 0} {IsIn : Content → S → Type 0} {sizes : Sizes} {state : steps.State} {book : Book} {words : List ℕ} {homes : List (maybe.Option S)} {views : List Acting} (r : Items IsIn sizes state book words homes views) where

@@ -20,7 +20,7 @@ use Rattle.sdd_homes.specs.Book.{Content, bag, Book}
 use Rattle.sdd_homes.specs.Reasons.{Loads}
 use Rattle.sdd_homes.proofs.HandLemmas.{owned_set}
 use Rattle.sdd_domain.specs.Layout.{claim_word}
-use Rattle.sdd_domain.specs.Items.{hand_of, Grip, Owns, HasState, IsWaiting, IsLeft, Leftovers, Distinct, Carries, Items}
+use Rattle.sdd_domain.specs.Items.{hand_of, Grip, Owns, HasState, IsWaiting, IsLeftover, Leftovers, Distinct, Carries, Items}
 use Rattle.sdd_domain.specs.Rule.{Runs, Shows}
 use Rattle.sdd_domain.specs.Plays.{taking_over, take_over_then}
 use Rattle.sdd_domain.specs.declared.board.Acting.{Acting}
@@ -59,7 +59,7 @@ module _ (S : Type 0) (IsIn : Content → S → Type 0) (plan : Plan) where
     there : Has (r.book.left p) w
     there = subst (λ (z : List Garbage). Has z w) (sym is_last) (has_last ws w)
 
-    was_left : IsLeft r.state.items r.book.slot_of w
+    was_left : IsLeftover r.state.items r.book.slot_of w
     was_left = r.items.leftovers.waits p w there
 
     abbrev it : Item

@@ -8,8 +8,8 @@ use Rattle.sdd_domain.specs.declared.board.Home.{Home}
 use Rattle.sdd_domain.specs.declared.board.Home.TheVariants.{Blank, Room, Deed, Part, Left, Announced}
 
 -- the slots of these items, in their order
-abbrev pub slots_of : List Garbage → List ℕ
-slots_of = map (λ (w : Garbage). w.slot)
+abbrev pub garbage_slots : List Garbage → List ℕ
+garbage_slots = map (λ (w : Garbage). w.slot)
 
 -- an item is read by its parts, and had back by its deed; items hold no owners yet
 module _ {T : Type 0} where
@@ -19,7 +19,7 @@ module _ {T : Type 0} where
   IsIn room y = (b : _) × (y ≡ Room b)
   IsIn (deed r hs) y = (d : _) × (y ≡ Deed d) × (d.life ≡ r) × IsSome d.value × (hs ≡ [])
   IsIn (part r c) y = (p : _) × (y ≡ Part p c) × (p.life.id ≡ r) × (p.life.count ≡ c) × (0 < c) × IsSome p.seen.value
-  IsIn (bag n ws) y = (v : _) × (y ≡ Left v) × (v.items ≡ slots_of ws) × (n ≤ vec_capacity v) × (length ws ≤ n)
+  IsIn (bag n ws) y = (v : _) × (y ≡ Left v) × (v.items ≡ garbage_slots ws) × (n ≤ vec_capacity v) × (length ws ≤ n)
 
   -- these are the homes of free slots, for n participants
   abbrev pub AreResting : ℕ → List (Home T) → Type 0

@@ -53,8 +53,8 @@ abbrev pub IsWaiting : List Item → (ℕ → ℕ) → ℕ → Garbage → Type 
 IsWaiting items slot_of p w = HasState items slot_of (Retired p w.age) w
 
 -- who retired it has ended, and nobody has taken it over
-abbrev pub IsLeft : List Item → (ℕ → ℕ) → Garbage → Type 0
-IsLeft items slot_of w = HasState items slot_of Waiting w
+abbrev pub IsLeftover : List Item → (ℕ → ℕ) → Garbage → Type 0
+IsLeftover items slot_of w = HasState items slot_of Waiting w
 
 -- the slot that the view's participant fills or empties, if it does
 abbrev pub IsFilling : Sizes → Book → Acting → Type 0
@@ -67,7 +67,7 @@ Distinct (w ∷ ws) = ((v : Garbage) → Has ws v → v.item ≢ w.item) × Dist
 
 -- what participants left: no item is in two bags, or in one twice
 pub record Leftovers (items : List Item) (slot_of : ℕ → ℕ) (left : ℕ → List Garbage) : Type 0 where
-  pub waits : (p : ℕ) (w : Garbage) → Has (left p) w → IsLeft items slot_of w
+  pub waits : (p : ℕ) (w : Garbage) → Has (left p) w → IsLeftover items slot_of w
   pub once : (p : ℕ) → Distinct (left p)
   pub apart : (p q : ℕ) (v w : Garbage) → Has (left p) v → Has (left q) w → v.item ≡ w.item → p ≡ q
 

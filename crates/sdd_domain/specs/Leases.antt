@@ -35,8 +35,8 @@ has_all test (k ∷ ks) [] = false
 has_all test (k ∷ ks) (x ∷ xs) = ((x.0 == k) && test x.1) && has_all test ks xs
 
 -- where the rows' items are
-abbrev pub slots_in : {T : Type 0} → List (Row T) → List ℕ
-slots_in = map (λ r. r.slot)
+abbrev pub row_slots : {T : Type 0} → List (Row T) → List ℕ
+row_slots = map (λ r. r.slot)
 
 -- whether all numbers are below n
 abbrev pub all_below : ℕ → List ℕ → Bool

@@ -9,5 +9,5 @@ abbrev pub kept_in : {T : Type 0} → Shared T → TableId
 kept_in s = s.seat.badge.table_id
 
 -- it is an owner of an item with this value
-abbrev pub HasItem : {T : Type 0} → Shared T → T → Type 0
-HasItem s x = IsSomeAnd s.part.part.seen.value (λ m. manually_drop_value m ≡ x)
+abbrev pub IsOwnerOf : {T : Type 0} → Shared T → T → Type 0
+IsOwnerOf s x = IsSomeAnd s.part.part.seen.value (λ m. manually_drop_value m ≡ x)

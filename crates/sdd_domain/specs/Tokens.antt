@@ -14,8 +14,8 @@ abbrev pub participants_of : {T : Type 0} → Domain T → ℕ
 participants_of d = d.sizes.participants
 
 -- and how many cells
-abbrev pub cells_of : {T : Type 0} → Domain T → ℕ
-cells_of d = d.sizes.cells
+abbrev pub cell_count : {T : Type 0} → Domain T → ℕ
+cell_count d = d.sizes.cells
 
 -- the count of raises that the place began with
 abbrev pub first_of : {T : Type 0} → Domain T → ℕ
@@ -58,8 +58,8 @@ abbrev pub IsSame : {T : Type 0} → Local T → Local T → Type 0
 IsSame old new = (home_of new ≡ home_of old) × (number_of new ≡ number_of old)
 
 -- and the same guards are open
-abbrev pub IsWithin : {T : Type 0} → Local T → Local T → Type 0
-IsWithin old new = IsSame old new × (nest_in new ≡ nest_in old)
+abbrev pub IsInNest : {T : Type 0} → Local T → Local T → Type 0
+IsInNest old new = IsSame old new × (nest_in new ≡ nest_in old)
 
 -- An outermost opening that found this count. A rotation sets the flag of garbage if anything waits behind it, and else clears it.
 abbrev pub begun : ℕ → Bool → LocalState → LocalState

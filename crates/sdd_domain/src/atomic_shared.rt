@@ -17,15 +17,15 @@ pub struct AtomicShared {
 }
 
 impl AtomicShared {
-    ghost use Rattle.sdd_domain.specs.Cells.{cell_of};
+    ghost use Rattle.sdd_domain.specs.Cells.{cell_number};
     ghost use Rattle.sdd_domain.specs.Pointers.{IsUnder};
     ghost use Rattle.sdd_domain.specs.Sharing.{kept_in};
-    ghost use Rattle.sdd_domain.specs.Tokens.{place_of, home_of, own_of, born_of, waiting_of, cells_of, nest_of, nest_in, IsWithin};
+    ghost use Rattle.sdd_domain.specs.Tokens.{place_of, home_of, own_of, born_of, waiting_of, cell_count, nest_of, nest_in, IsInNest};
 
     /// A cell that owns nothing, if nobody has one of those that the place has: each is tried once. It must be spent by
     /// `into_shared` or `retire`.
     pub fn null<T>(domain: &Domain<T>) -> Option<AtomicShared>
-        ensures inside { IfSome result (λ c. cell_of c < cells_of domain.now) }
+        ensures inside { IfSome result (λ c. cell_number c < cell_count domain.now) }
     {
         for cell in 0..domain.sizes.cells {
             if !domain.taken[cell].swap(true, Ordering::SeqCst) {
@@ -43,9 +43,9 @@ impl AtomicShared {
     ) -> Result<AtomicShared, Shared<T>>
         requires home { home_of local.old ≡ place_of domain.now }
         requires mine { kept_in owner ≡ (place_of domain.now).0 }
-        ensures inside { IfOk result (λ c. cell_of c < cells_of domain.now) }
+        ensures inside { IfOk result (λ c. cell_number c < cell_count domain.now) }
         ensures refused { IfErr result (λ back. back ≡ owner) }
-        ensures same { IsWithin local.old local.new × (born_of local.new ≡ born_of local.old) }
+        ensures same { IsInNest local.old local.new × (born_of local.new ≡ born_of local.old) }
         ensures own { (flag : Bool) × (own_of local.new ≡ record (own_of local.old) { garbage = flag }) }
     {
         let Some(cell) = AtomicShared::null(domain) else {
@@ -60,7 +60,7 @@ impl AtomicShared {
 
     /// Whether the cell owns nothing, as it is found in one step.
     pub fn is_null<T>(&self, domain: &Domain<T>) -> bool
-        requires inside { cell_of self.now < cells_of domain.now }
+        requires inside { cell_number self.now < cell_count domain.now }
     {
         is_null(domain.words(), &domain.sizes, self.cell)
     }
@@ -76,8 +76,8 @@ impl AtomicShared {
         requires home { home_of local.old ≡ place_of domain.now }
         requires mine { nest_of guard.now ≡ nest_in local.old }
         requires open { 0 < (own_of local.old).nesting }
-        requires inside { cell_of self.now < cells_of domain.now }
-        ensures same { IsWithin local.old local.new × (own_of local.new ≡ own_of local.old) × (born_of local.new ≡ born_of local.old) × (waiting_of local.new ≡ waiting_of local.old) }
+        requires inside { cell_number self.now < cell_count domain.now }
+        ensures same { IsInNest local.old local.new × (own_of local.new ≡ own_of local.old) × (born_of local.new ≡ born_of local.old) × (waiting_of local.new ≡ waiting_of local.old) }
     {
         self.loaded(domain, guard, local).under(guard)
     }
@@ -87,9 +87,9 @@ impl AtomicShared {
         requires home { home_of local.old ≡ place_of domain.now }
         requires mine { nest_of guard.now ≡ nest_in local.old }
         requires open { 0 < (own_of local.old).nesting }
-        requires inside { cell_of self.now < cells_of domain.now }
+        requires inside { cell_number self.now < cell_count domain.now }
         ensures under { IsUnder result guard.now }
-        ensures same { IsWithin local.old local.new × (own_of local.new ≡ own_of local.old) × (born_of local.new ≡ born_of local.old) × (waiting_of local.new ≡ waiting_of local.old) }
+        ensures same { IsInNest local.old local.new × (own_of local.new ≡ own_of local.old) × (born_of local.new ≡ born_of local.old) × (waiting_of local.new ≡ waiting_of local.old) }
     {
         match local.lease(domain, self.cell) {
             Some((slot, seen)) => Loaded {
@@ -111,10 +111,10 @@ impl AtomicShared {
         local: &mut Local<T>,
     ) -> Option<Shared<T>>
         requires home { home_of local.old ≡ place_of domain.now }
-        requires inside { cell_of self.now < cells_of domain.now }
+        requires inside { cell_number self.now < cell_count domain.now }
         requires mine { IfSome new (λ s. kept_in s ≡ (place_of domain.now).0) }
         ensures home { IfSome result (λ s. kept_in s ≡ (place_of domain.now).0) }
-        ensures same { IsWithin local.old local.new × (own_of local.new ≡ own_of local.old) × (born_of local.new ≡ born_of local.old) × (waiting_of local.new ≡ waiting_of local.old) }
+        ensures same { IsInNest local.old local.new × (own_of local.new ≡ own_of local.old) × (born_of local.new ≡ born_of local.old) × (waiting_of local.new ≡ waiting_of local.old) }
     {
         let Local { place, spare, .. } = local;
         let (free, old) = swap_owner(domain.words(), place, &domain.sizes, *spare, self.cell, new);
@@ -125,9 +125,9 @@ impl AtomicShared {
     /// What the cell owned. The cell is the next one's that asks for one.
     pub fn into_shared<T>(self, domain: &Domain<T>, local: &mut Local<T>) -> Option<Shared<T>>
         requires home { home_of local.old ≡ place_of domain.now }
-        requires inside { cell_of self < cells_of domain.now }
+        requires inside { cell_number self < cell_count domain.now }
         ensures home { IfSome result (λ s. kept_in s ≡ (place_of domain.now).0) }
-        ensures same { IsWithin local.old local.new × (own_of local.new ≡ own_of local.old) × (born_of local.new ≡ born_of local.old) × (waiting_of local.new ≡ waiting_of local.old) }
+        ensures same { IsInNest local.old local.new × (own_of local.new ≡ own_of local.old) × (born_of local.new ≡ born_of local.old) × (waiting_of local.new ≡ waiting_of local.old) }
     {
         let owner = self.swap(None, domain, local);
         let AtomicShared { cell } = self;
@@ -138,8 +138,8 @@ impl AtomicShared {
     /// Gives the cell back, and releases what it owned. Whether that was the last owner of its item.
     pub fn retire<T>(self, domain: &Domain<T>, local: &mut Local<T>) -> bool
         requires home { home_of local.old ≡ place_of domain.now }
-        requires inside { cell_of self < cells_of domain.now }
-        ensures same { IsWithin local.old local.new × (born_of local.new ≡ born_of local.old) × (own_of local.new ≡ record (own_of local.old) { garbage = (own_of local.old).garbage || result }) }
+        requires inside { cell_number self < cell_count domain.now }
+        ensures same { IsInNest local.old local.new × (born_of local.new ≡ born_of local.old) × (own_of local.new ≡ record (own_of local.old) { garbage = (own_of local.old).garbage || result }) }
     {
         match self.into_shared(domain, local) {
             Some(owner) => owner.release(domain, local),

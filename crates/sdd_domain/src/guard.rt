@@ -27,7 +27,7 @@ pub struct Guard {
 }
 
 impl Guard {
-    ghost use Rattle.sdd_domain.specs.Tokens.{place_of, home_of, number_of, own_of, born_of, participant_of, waiting_of, nest_of, nest_in, begun, closed, IsSame, IsWithin};
+    ghost use Rattle.sdd_domain.specs.Tokens.{place_of, home_of, number_of, own_of, born_of, participant_of, waiting_of, nest_of, nest_in, begun, closed, IsSame, IsInNest};
 
     /// Opens a guard of a participant, within those that it has open. An outermost opening reads the count of raises,
     /// and publishes it in a second step; where it isn't the one that was found before, the participant's bags move
@@ -69,7 +69,7 @@ impl Guard {
         requires mine { nest_of self.now ≡ nest_in local.old }
         requires open { 0 < (own_of local.old).nesting }
         ensures epoch { (count : ℕ) × (result ≡ count % 64) × (born_of local.old ≤ count) × (count ≤ born_of local.old + 1) }
-        ensures same { IsWithin local.old local.new × (own_of local.new ≡ own_of local.old) × (born_of local.new ≡ born_of local.old) }
+        ensures same { IsInNest local.old local.new × (own_of local.new ≡ own_of local.old) × (born_of local.new ≡ born_of local.old) }
     {
         let epoch = local.own.previous;
         Epoch::of_count(steps::count_under(domain.words(), &mut local.place, epoch))
@@ -87,7 +87,7 @@ impl Guard {
     pub fn set_has_garbage<T>(&self, local: &mut Local<T>)
         requires { nest_of self.now ≡ nest_in local.old }
         ensures set { own_of local.new ≡ record (own_of local.old) { garbage = true } }
-        ensures same { IsWithin local.old local.new × (born_of local.new ≡ born_of local.old) }
+        ensures same { IsInNest local.old local.new × (born_of local.new ≡ born_of local.old) }
     {
         local.own.garbage = true;
     }
@@ -96,7 +96,7 @@ impl Guard {
     pub fn accelerate<T>(&self, local: &mut Local<T>)
         requires { nest_of self.now ≡ nest_in local.old }
         ensures set { own_of local.new ≡ record (own_of local.old) { accelerated = true } }
-        ensures same { IsWithin local.old local.new × (born_of local.new ≡ born_of local.old) }
+        ensures same { IsInNest local.old local.new × (born_of local.new ≡ born_of local.old) }
     {
         local.own.accelerated = true;
     }

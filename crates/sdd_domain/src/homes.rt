@@ -6,7 +6,7 @@ ghost use Rattle.sdd_homes.specs.declared.Garbage.{Garbage};
 ghost use Rattle.sdd_homes.specs.declared.Owner.{Owner};
 ghost use Rattle.sdd_homes.specs.Book.{bag, deed, part, resting, room};
 ghost use Rattle.sdd_domain.specs.Layout.{all_homes, all_spares, IsSized};
-ghost use Rattle.sdd_domain.specs.Contents.{IsIn, slots_of, AreResting, AreBags};
+ghost use Rattle.sdd_domain.specs.Contents.{IsIn, garbage_slots, AreResting, AreBags};
 ghost use Rattle.sdd_domain.specs.declared.board.Home.{Home};
 ghost use Rattle.sdd_domain.specs.declared.board.Home.TheVariants.{Blank};
 
@@ -73,7 +73,7 @@ pub(crate) fn parts_of<T>(home: Home<T>) -> (Part<Stored<T>>, u64)
 /// The slots that are in a bag.
 pub(crate) fn slots_left<T>(home: Home<T>) -> Vec<usize>
     requires { (n : ℕ) × (ws : List Garbage) × IsIn (bag n ws) home }
-    ensures { (n : ℕ) (ws : List Garbage) → IsIn (bag n ws) home → (result.items ≡ slots_of ws) × (n ≤ vec_capacity result) × (length ws ≤ n) }
+    ensures { (n : ℕ) (ws : List Garbage) → IsIn (bag n ws) home → (result.items ≡ garbage_slots ws) × (n ≤ vec_capacity result) × (length ws ≤ n) }
 {
     match home {
         Home::Left(slots) => slots,

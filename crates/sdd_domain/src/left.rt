@@ -6,7 +6,7 @@ ghost use Rattle.sdd_steps.specs.Steps.{is_ready};
 ghost use Rattle.sdd_homes.specs.declared.Garbage.{Garbage};
 ghost use Rattle.sdd_homes.specs.Book.{bag};
 ghost use Rattle.sdd_domain.specs.Bags.{ages, Waits};
-ghost use Rattle.sdd_domain.specs.Contents.{IsIn, slots_of};
+ghost use Rattle.sdd_domain.specs.Contents.{IsIn, garbage_slots};
 ghost use Rattle.sdd_domain.specs.Layout.{all_words, IsSized};
 ghost use Rattle.sdd_domain.specs.Plays.{own_bag};
 ghost use Rattle.sdd_domain.specs.declared.board.Home.{Home};
@@ -37,7 +37,7 @@ pub(crate) fn bag_out<T>(
     requires out { (k : ℕ) × (u : Home T) × (n : ℕ) × (ws : List Garbage) × (b : Home T) × IsIn (bag n ws) b × (place.old.me.1 ≡ (k, u) ∷ (own_bag place.old.me.0, b) ∷ []) }
     ensures seat { (place.new.table_id ≡ place.old.table_id) × (place.new.id ≡ place.old.id) }
     ensures emptied { (k : ℕ) (u b : Home T) → place.old.me.1 ≡ (k, u) ∷ (own_bag place.old.me.0, b) ∷ [] → place.new.me ≡ (place.old.me.0, (k, u) ∷ (own_bag place.old.me.0, Blank) ∷ []) }
-    ensures left { (k : ℕ) (u : Home T) (n : ℕ) (ws : List Garbage) (b : Home T) → IsIn (bag n ws) b → place.old.me.1 ≡ (k, u) ∷ (own_bag place.old.me.0, b) ∷ [] → (result.items ≡ slots_of ws) × (n ≤ vec_capacity result) × (length ws ≤ n) }
+    ensures left { (k : ℕ) (u : Home T) (n : ℕ) (ws : List Garbage) (b : Home T) → IsIn (bag n ws) b → place.old.me.1 ≡ (k, u) ∷ (own_bag place.old.me.0, b) ∷ [] → (result.items ≡ garbage_slots ws) × (n ≤ vec_capacity result) × (length ws ≤ n) }
 {
     place.turn();
     let bag = words.exchange(place, bag_at(sizes, number), Home::Blank);
@@ -72,7 +72,7 @@ pub(crate) fn take_left<T>(
 ) -> Vec<usize>
     requires table { (place.old.table_id ≡ words.now.table_id) × (1 < words.now.table_id.words) }
     requires ready { (place.old.me.0.kind ≡ 1) × (is_ready place.old.me.0.known ≡ true) }
-    requires left { left.items ≡ slots_of place.old.me.0.left }
+    requires left { left.items ≡ garbage_slots place.old.me.0.left }
     requires waits { Waits place.old.me.0.waits bags.old.slots.items (ages bags.old.current bags.old.previous bags.old.next bags.old.due) }
     requires room { deque_len bags.old.slots + vec_len left ≤ deque_capacity bags.old.slots }
     ensures seat { (place.new.table_id ≡ place.old.table_id) × (place.new.id ≡ place.old.id) }

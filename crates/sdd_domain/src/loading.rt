@@ -7,7 +7,7 @@ ghost use Rattle.sdd_steps.specs.declared.participant.Loaded.{Loaded};
 ghost use Rattle.sdd_homes.specs.declared.Lease.{Lease};
 ghost use Rattle.sdd_domain.specs.Contents.{is_blank};
 ghost use Rattle.sdd_domain.specs.Fitting.{FitsSizes};
-ghost use Rattle.sdd_domain.specs.Leases.{row_told, lease_told, leased_homes, slots_in, all_below, has_all, HasLeased};
+ghost use Rattle.sdd_domain.specs.Leases.{row_told, lease_told, leased_homes, row_slots, all_below, has_all, HasLeased};
 
 use crate::board::{Home, Place, Words};
 use crate::cells;
@@ -44,12 +44,12 @@ pub(crate) fn lease<T>(
 ) -> Option<usize>
     requires table { FitsSizes words.now.table_id words.now.key.sizes place.old.table_id place.old.me.0.sizes sizes.now × (number < sizes.now.participants) × (cell < sizes.now.cells) }
     requires open { (place.old.me.0.kind ≡ 1) × (place.old.me.0.number ≡ number) × (is_inside place.old.me.0.known ≡ true) }
-    requires rows { (map row_told rows.old.items ≡ map (lease_told life.now.id) place.old.me.0.leases) × (all_below sizes.now.slots (slots_in rows.old.items) ≡ true) × (sizes.now.slots ≤ deque_capacity rows.old) }
+    requires rows { (map row_told rows.old.items ≡ map (lease_told life.now.id) place.old.me.0.leases) × (all_below sizes.now.slots (row_slots rows.old.items) ≡ true) × (sizes.now.slots ≤ deque_capacity rows.old) }
     requires out { (k : ℕ) × (l : ℕ) × (has_all is_blank (k ∷ l ∷ leased_homes place.old.me.0 place.old.me.0.leases) place.old.me.1 ≡ true) }
     ensures seat { (place.new.table_id ≡ place.old.table_id) × (place.new.id ≡ place.old.id) }
     ensures row { IfSome result (λ at. at < deque_len rows.new) }
     ensures loaded { HasLeased place.old.me place.new.me }
-    ensures rows { (map row_told rows.new.items ≡ map (lease_told life.now.id) place.new.me.0.leases) × (all_below sizes.now.slots (slots_in rows.new.items) ≡ true) × (deque_capacity rows.new ≡ deque_capacity rows.old) }
+    ensures rows { (map row_told rows.new.items ≡ map (lease_told life.now.id) place.new.me.0.leases) × (all_below sizes.now.slots (row_slots rows.new.items) ≡ true) × (deque_capacity rows.new ≡ deque_capacity rows.old) }
     ensures out { (k l : ℕ) → has_all is_blank (k ∷ l ∷ leased_homes place.old.me.0 place.old.me.0.leases) place.old.me.1 ≡ true → has_all is_blank (k ∷ l ∷ leased_homes place.new.me.0 place.new.me.0.leases) place.new.me.1 ≡ true }
 {
     let word = cells::load(words, place, sizes.participants, cell);

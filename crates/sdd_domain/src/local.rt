@@ -11,7 +11,7 @@ ghost use Rattle.sdd_domain.specs.Fitting.{FitsSizes};
 ghost use Rattle.sdd_domain.specs.Contents.{IsIn, is_blank};
 ghost use Rattle.sdd_domain.specs.Bags.{ages, Waits};
 ghost use Rattle.sdd_domain.specs.Views.{spent, rotated};
-ghost use Rattle.sdd_domain.specs.Leases.{life_number, row_told, lease_told, leased_homes, slots_in, all_below, has_all};
+ghost use Rattle.sdd_domain.specs.Leases.{life_number, row_told, lease_told, leased_homes, row_slots, all_below, has_all};
 ghost use Rattle.sdd_domain.specs.Plays.{own_spare, own_bag, HasRegistered, Scans, Steady};
 ghost use Rattle.sdd_domain.specs.Layout.{claim_word, epoch_words, all_words, IsSized};
 
@@ -50,7 +50,7 @@ pub struct Local<T> {
     pub(crate) rows: VecDeque<Row<T>>,
     ghost acts: { (place.me.0.kind ≡ 1) × (place.me.0.number ≡ number) × (place.me.0.scan ≡ 0) × (number < 2 ^ 30) × (claim_word number < place.table_id.words) × (place.me.0.hand ≡ []) × (place.me.0.releasing ≡ 0) },
     ghost has_spare: { (place.me.0.spare ≡ spare) × (spare < 2 ^ 33) × (has_all is_blank (own_spare place.me.0 spare ∷ own_bag place.me.0 ∷ leased_homes place.me.0 place.me.0.leases) place.me.1 ≡ true) },
-    ghost lends: { (map row_told rows.items ≡ map (lease_told (life_number life)) place.me.0.leases) × (place.me.0.sizes.slots ≤ deque_capacity rows) × (all_below place.me.0.sizes.slots (slots_in rows.items) ≡ true) },
+    ghost lends: { (map row_told rows.items ≡ map (lease_told (life_number life)) place.me.0.leases) × (place.me.0.sizes.slots ≤ deque_capacity rows) × (all_below place.me.0.sizes.slots (row_slots rows.items) ≡ true) },
     ghost shut: { ForNone life ((own.nesting ≡ 0) × (place.me.0.leases ≡ [])) },
     ghost alive: { ForSome life (λ f. (0 < own.nesting) × (f.count + own.nesting ≡ 2 ^ 63)) },
     ghost leaves: { (place.me.0.left ≡ []) × (bag.items ≡ []) × (place.me.0.sizes.slots ≤ vec_capacity bag) },
@@ -129,7 +129,7 @@ fn turn<T: Drop>(
 
 impl<T> Local<T> {
     ghost use Rattle.sdd_domain.specs.Ledgers.{IsEmpty};
-    ghost use Rattle.sdd_domain.specs.Tokens.{participants_of, cells_of, place_of, home_of, number_of, own_of, born_of, begun, closed, waiting_of, nest_in, IsSame, IsWithin};
+    ghost use Rattle.sdd_domain.specs.Tokens.{participants_of, cell_count, place_of, home_of, number_of, own_of, born_of, begun, closed, waiting_of, nest_in, IsSame, IsInNest};
 
     /// The participant that a seat has just come to act for. What was left where it ended before is taken over.
     pub(crate) fn registered(
@@ -204,7 +204,7 @@ impl<T> Local<T> {
     /// Opens one more guard within those that are open, which are `nesting` then.
     pub(crate) fn deepen(&mut self, nesting: u32) -> Life
         requires { (0 < (own_of self.old).nesting) × (nesting ≡ (own_of self.old).nesting + 1) }
-        ensures same { IsWithin self.old self.new × (born_of self.new ≡ born_of self.old) × (waiting_of self.new ≡ waiting_of self.old) }
+        ensures same { IsInNest self.old self.new × (born_of self.new ≡ born_of self.old) × (waiting_of self.new ≡ waiting_of self.old) }
         ensures life { (result.count ≡ 1) × ((number_of self.old, result.id) ≡ nest_in self.new) }
         ensures deeper { own_of self.new ≡ record (own_of self.old) { nesting = nesting } }
     {
@@ -218,7 +218,7 @@ impl<T> Local<T> {
     /// Closes a guard within others.
     pub(crate) fn rise(&mut self, life: Life)
         requires { (1 < (own_of self.old).nesting) × (life.count ≡ 1) × ((number_of self.old, life.id) ≡ nest_in self.old) }
-        ensures same { IsWithin self.old self.new × (born_of self.new ≡ born_of self.old) × (waiting_of self.new ≡ waiting_of self.old) }
+        ensures same { IsInNest self.old self.new × (born_of self.new ≡ born_of self.old) × (waiting_of self.new ≡ waiting_of self.old) }
         ensures closed { own_of self.new ≡ record (own_of self.old) { nesting = (own_of self.old).nesting - 1 } }
     {
         self.own.nesting -= 1;
@@ -237,9 +237,9 @@ impl<T> Local<T> {
     ) -> Option<(usize, Seen<Stored<T>>)>
         requires home { home_of self.old ≡ place_of domain.now }
         requires open { 0 < (own_of self.old).nesting }
-        requires inside { cell < cells_of domain.now }
+        requires inside { cell < cell_count domain.now }
         ensures seen { IfSome result (λ t. ((number_of self.old, t.1.life) ≡ nest_in self.old) × IsSome t.1.value) }
-        ensures same { IsWithin self.old self.new × (own_of self.new ≡ own_of self.old) × (born_of self.new ≡ born_of self.old) × (waiting_of self.new ≡ waiting_of self.old) }
+        ensures same { IsInNest self.old self.new × (own_of self.new ≡ own_of self.old) × (born_of self.new ≡ born_of self.old) × (waiting_of self.new ≡ waiting_of self.old) }
     {
         let Local {
             place,

@@ -7,7 +7,7 @@ ghost use Rattle.sdd_homes.specs.declared.Lease.{Lease};
 ghost use Rattle.sdd_homes.specs.declared.Owner.{Owner};
 ghost use Rattle.sdd_homes.specs.Book.{Lends};
 ghost use Rattle.sdd_domain.specs.Fitting.{FitsSizes};
-ghost use Rattle.sdd_domain.specs.Leases.{row_told, lease_told, slots_in, all_below, IsFirst, HasReleased};
+ghost use Rattle.sdd_domain.specs.Leases.{row_told, lease_told, row_slots, all_below, IsFirst, HasReleased};
 ghost use Rattle.sdd_domain.specs.declared.row.Row.{Row};
 ghost use Rattle.sdd_domain.specs.Views.{spent, holding};
 ghost use Rattle.sdd_domain.specs.Plays.{others_in, first_in, joined_by};
@@ -99,13 +99,13 @@ fn release_leased<T>(
     requires table { FitsSizes words.now.table_id words.now.key.sizes place.old.table_id place.old.me.0.sizes sizes.now }
     requires ready { (place.old.me.0.kind ≡ 1) × (is_ready place.old.me.0.known ≡ true) × (place.old.me.0.releasing ≡ 0) }
     requires owner { IsFirst place.old.me.0 slot owner.part.life.id }
-    requires rows { ((life : ℕ) × (map row_told rows.old.items ≡ map (lease_told life) place.old.me.0.leases)) × (all_below sizes.now.slots (slots_in rows.old.items) ≡ true) }
+    requires rows { ((life : ℕ) × (map row_told rows.old.items ≡ map (lease_told life) place.old.me.0.leases)) × (all_below sizes.now.slots (row_slots rows.old.items) ≡ true) }
     requires row { (at < deque_len rows.old) × ((d : Row T) → (slice_index_or rows.old.items at d).slot ≡ slot) }
     ensures seat { (place.new.table_id ≡ place.old.table_id) × (place.new.id ≡ place.old.id) }
     ensures room { length place.old.me.0.waits < sizes.now.slots }
     ensures released { (ls : List Lease) × (map (λ (l : Lease). l.slot) ls ≡ map (λ (l : Lease). l.slot) place.old.me.0.leases) × HasReleased slot result place.old.me ls place.new.me }
     ensures rows { (life : ℕ) → map row_told rows.old.items ≡ map (lease_told life) place.old.me.0.leases → map row_told rows.new.items ≡ map (lease_told life) place.new.me.0.leases }
-    ensures same { (deque_capacity rows.new ≡ deque_capacity rows.old) × (slots_in rows.new.items ≡ slots_in rows.old.items) }
+    ensures same { (deque_capacity rows.new ≡ deque_capacity rows.old) × (row_slots rows.new.items ≡ row_slots rows.old.items) }
 {
     let left = cells::release_owner(words, place, sizes.participants, sizes.cells, slot);
     match rows.get_mut(at) {
@@ -129,12 +129,12 @@ pub(crate) fn release<T>(
     requires table { FitsSizes words.now.table_id words.now.key.sizes place.old.table_id place.old.me.0.sizes sizes.now × (number < sizes.now.participants) }
     requires ready { (place.old.me.0.kind ≡ 1) × (place.old.me.0.number ≡ number) × (is_ready place.old.me.0.known ≡ true) × (place.old.me.0.releasing ≡ 0) }
     requires owner { IsFirst place.old.me.0 slot owner.part.life.id × IsSome owner.part.seen.value }
-    requires rows { ((life : ℕ) × (map row_told rows.old.items ≡ map (lease_told life) place.old.me.0.leases)) × (all_below sizes.now.slots (slots_in rows.old.items) ≡ true) }
+    requires rows { ((life : ℕ) × (map row_told rows.old.items ≡ map (lease_told life) place.old.me.0.leases)) × (all_below sizes.now.slots (row_slots rows.old.items) ≡ true) }
     ensures seat { (place.new.table_id ≡ place.old.table_id) × (place.new.id ≡ place.old.id) }
     ensures room { length place.old.me.0.waits < sizes.now.slots }
     ensures released { (ls : List Lease) × (map (λ (l : Lease). l.slot) ls ≡ map (λ (l : Lease). l.slot) place.old.me.0.leases) × HasReleased slot result place.old.me ls place.new.me }
     ensures rows { (life : ℕ) → map row_told rows.old.items ≡ map (lease_told life) place.old.me.0.leases → map row_told rows.new.items ≡ map (lease_told life) place.new.me.0.leases }
-    ensures same { (deque_capacity rows.new ≡ deque_capacity rows.old) × (slots_in rows.new.items ≡ slots_in rows.old.items) }
+    ensures same { (deque_capacity rows.new ≡ deque_capacity rows.old) × (row_slots rows.new.items ≡ row_slots rows.old.items) }
 {
     match row_of(rows, slot) {
         Some(at) => release_leased(words, place, sizes, rows, at, slot, owner),

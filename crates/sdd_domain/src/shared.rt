@@ -25,17 +25,17 @@ pub struct Shared<T> {
 }
 
 impl<T> Shared<T> {
-    ghost use Rattle.sdd_domain.specs.Tokens.{place_of, home_of, own_of, born_of, waiting_of, IsWithin};
-    ghost use Rattle.sdd_domain.specs.Sharing.{kept_in, HasItem};
+    ghost use Rattle.sdd_domain.specs.Tokens.{place_of, home_of, own_of, born_of, waiting_of, IsInNest};
+    ghost use Rattle.sdd_domain.specs.Sharing.{kept_in, IsOwnerOf};
 
     /// Places an item in a free slot, and gives its first owner. Where each slot was taken when it was tried, the item
     /// is back. It takes no memory.
     pub fn new(item: T, domain: &Domain<T>, local: &mut Local<T>) -> Result<Shared<T>, T>
         requires home { home_of local.old ≡ place_of domain.now }
         ensures home { IfOk result (λ s. kept_in s ≡ (place_of domain.now).0) }
-        ensures item { IfOk result (λ s. HasItem s item) }
+        ensures item { IfOk result (λ s. IsOwnerOf s item) }
         ensures refused { IfErr result (λ back. back ≡ item) }
-        ensures same { IsWithin local.old local.new × (own_of local.new ≡ own_of local.old) × (born_of local.new ≡ born_of local.old) × (waiting_of local.new ≡ waiting_of local.old) }
+        ensures same { IsInNest local.old local.new × (own_of local.new ≡ own_of local.old) × (born_of local.new ≡ born_of local.old) × (waiting_of local.new ≡ waiting_of local.old) }
     {
         let Local { place, next, .. } = local;
         let (slot, part) = place_item(domain.words(), place, &domain.sizes, *next, item)?;
@@ -46,7 +46,7 @@ impl<T> Shared<T> {
 
     /// The item.
     pub fn as_ref(&self) -> &T
-        ensures { HasItem self.now result.now }
+        ensures { IsOwnerOf self.now result.now }
     {
         match self.part.get() {
             Some(item) => item,
@@ -62,7 +62,7 @@ impl<T> Shared<T> {
         ensures last { IsTrue result → waiting_of local.new ≡ waiting_of local.old + 1 }
         ensures more { IsFalse result → waiting_of local.new ≡ waiting_of local.old }
         ensures own { own_of local.new ≡ record (own_of local.old) { garbage = (own_of local.old).garbage || result } }
-        ensures same { IsWithin local.old local.new × (born_of local.new ≡ born_of local.old) }
+        ensures same { IsInNest local.old local.new × (born_of local.new ≡ born_of local.old) }
     {
         let Shared { slot, part, seat } = self;
         let Local {

@@ -2,7 +2,7 @@ use Rattle.std.proofs.Common.{◌∷◌, ap, sym, ◌∙◌, subst, refl, arith}
 use Rattle.atomic_table.specs.Table.{Me}
 use Rattle.sdd_homes.specs.declared.Garbage.{Garbage}
 use Rattle.sdd_domain.specs.Bags.{ages, Waits}
-use Rattle.sdd_domain.specs.Contents.{slots_of}
+use Rattle.sdd_domain.specs.Contents.{garbage_slots}
 use Rattle.sdd_domain.specs.Plays.{taking_over}
 use Rattle.sdd_domain.specs.declared.board.Acting.{Acting}
 use Rattle.sdd_domain.proofs.Aged.{slot_of, last_of}
@@ -19,7 +19,7 @@ loop-slot-preserved g c = let l = c.loop-slot in let inv = l.invariant in let m 
     let w : Garbage = record t.1 { age = 0 } in let e = c.take_over.ensures.taken t.1 t.0 t.2 in let new = c.retire.new.self in record {
       seat = (c.take_over.ensures.seat.0 ∙ inv.seat.0, c.take_over.ensures.seat.1 ∙ inv.seat.1);
       taken = (t.0, w ∷ inv.taken.1, e ∙ ap (λ (z : Me _ Acting). (taking_over t.1 t.0 z.0, z.1)) inv.taken.2);
-      left = sym t.3 ∙ sym (ap (λ (z : Me _ Acting). slots_of z.0.left) e);
+      left = sym t.3 ∙ sym (ap (λ (z : Me _ Acting). garbage_slots z.0.left) e);
       waits = subst (λ (z : Me _ Acting). Waits z.0.waits new.slots.items (ages new.current new.previous new.next new.due)) (sym e) (c.retire.ensures.retired m.0.waits w inv.waits t.4 refl);
       room = let a = inv.room in let b = c.retire.ensures.longer in let d = c.retire.ensures.same.1 in let f = c.in-Some.ensures.len in omega arith;
       bags = (c.retire.ensures.same.0 ∙ inv.bags.0, c.retire.ensures.same.1 ∙ inv.bags.1);

@@ -2,14 +2,14 @@ use Rattle.std.proofs.Common.{◌≡◌, ◌+◌, ◌≤◌, List, vec_len, vec_
 use Rattle.std.specs.VecDeque.{deque_len, deque_capacity}
 use Rattle.sdd_homes.specs.declared.Garbage.{Garbage}
 use Rattle.sdd_domain.specs.Bags.{ages, Waits}
-use Rattle.sdd_domain.specs.Contents.{slots_of}
+use Rattle.sdd_domain.specs.Contents.{garbage_slots}
 use Rattle.sdd_domain.proofs.left.take_left.Given as goal
 
 abbrev pub invariant-loop-slot : goal.invariant-loop-slot
 invariant-loop-slot g l = record {
   seat : (l.place.table_id ≡ l.fn.place.table_id) × (l.place.id ≡ l.fn.place.id);
   taken : (ls : List Garbage) × (ws : List Garbage) × (l.place.me ≡ (record l.fn.place.me.0 { left = ls; waits = ws }, l.fn.place.me.1));
-  left : l.left.items ≡ slots_of l.place.me.0.left;
+  left : l.left.items ≡ garbage_slots l.place.me.0.left;
   waits : Waits l.place.me.0.waits l.bags.slots.items (ages l.bags.current l.bags.previous l.bags.next l.bags.due);
   room : deque_len l.bags.slots + vec_len l.left ≤ deque_capacity l.bags.slots;
   bags : (l.bags.due ≡ l.fn.bags.due) × (deque_capacity l.bags.slots ≡ deque_capacity l.fn.bags.slots);

@@ -5,7 +5,7 @@ use Rattle.sdd_steps.specs.State.{Has}
 use Rattle.sdd_homes.specs.declared.Lease.{Lease}
 use Rattle.sdd_homes.specs.Book.{home}
 use Rattle.sdd_domain.specs.Contents.{IsIn, is_blank}
-use Rattle.sdd_domain.specs.Leases.{row_told, lease_told, leased_homes, slots_in, all_below, has_all}
+use Rattle.sdd_domain.specs.Leases.{row_told, lease_told, leased_homes, row_slots, all_below, has_all}
 use Rattle.sdd_domain.specs.Plays.{own_home, loading, IsLeased, takes_home}
 use Rattle.sdd_steps.specs.declared.participant.Loaded.{Loaded}
 use Rattle.sdd_domain.proofs.Rows.{row_at, slots_told, has_slot}
@@ -32,7 +32,7 @@ returns-in_err-slot-clause-out g c = λ k l out. let m = c.args.place.now.me in 
 module _ {T : Type 0} (life : ℕ) (rows : List (Row T)) (m m1 : Me (Home T) Acting) (slot at : ℕ) (told : map row_told rows ≡ map (lease_told life) m.0.leases)
     (f : (h : Loaded) × ((IsLeased m.0.leases slot h × (m1 ≡ (loading h m.0.leases m.0, m.1))) ⊎ takes_home IsIn m slot h m1)) (low : at < length rows) (is : (d : Row T) → (slice_index_or rows at d).slot ≡ slot) where
   again : m1 ≡ (loading f.0 m.0.leases m.0, m.1)
-  again = let r = row_at life rows m.0.leases at told low in was_leased life rows m m1 slot f.0 told f.1 (subst (Has (slots_in rows)) (ap (λ (x : Row T). x.slot) (sym (r.is r.row)) ∙ is r.row) (subst (λ ks. Has ks r.row.slot) (sym (slots_told life rows m.0.leases told)) (subst (Has (map (λ (x : Lease). x.slot) m.0.leases)) (sym (ap (λ (t : ℕ × ℕ × ℕ × ℕ). t.0) r.told)) (has_slot m.0.leases r.lease r.has))))
+  again = let r = row_at life rows m.0.leases at told low in was_leased life rows m m1 slot f.0 told f.1 (subst (Has (row_slots rows)) (ap (λ (x : Row T). x.slot) (sym (r.is r.row)) ∙ is r.row) (subst (λ ks. Has ks r.row.slot) (sym (slots_told life rows m.0.leases told)) (subst (Has (map (λ (x : Lease). x.slot) m.0.leases)) (sym (ap (λ (t : ℕ × ℕ × ℕ × ℕ). t.0) r.told)) (has_slot m.0.leases r.lease r.has))))
 
 pub returns-in-Some-clause-loaded : goal.returns-in-Some-clause-loaded
 returns-in-Some-clause-loaded g c = let m = c.args.place.now.me in let m1 = c.load-word.new.place.me in let rows = c.args.rows.now.items in let f = slot_found IsIn m m1 c.load-word.result c.load-word.ensures.loaded c.in_ok-slot.slot c.in_ok-slot.ensures.some.1 in let r = c.in-Some.ensures.leased in let long = c.args.rows.now.ok.0 in let low = r.0 in
@@ -78,7 +78,7 @@ returns-clause-rows g c = let m = c.args.place.now.me in let m1 = c.load-word.ne
     let all = behind m m1 slot f.0 takes (slot * (c.args.sizes.now.participants + 1) + c.args.number) c.exchange.result c.exchange.new.seat.me c.turn.new.self.me e.2 e.3 c.turn.ensures.2 in let pushed = c.push_back_reserved.ensures.items in
     let one : row_told c.new.result ≡ lease_told life (new m m1 slot f.0 takes) = c.new.ensures ∙ λ j. (slot, p.0 j, p.2 j, life) in (
       ap (map row_told) pushed ∙ (more_told life rows m.0.leases c.new.result (new m m1 slot f.0 takes) c.requires.rows.0 one ∙ sym (ap (λ (z : Me _ Acting). map (lease_told life) z.0.leases) all)),
-      ap (λ rs. all_below c.args.sizes.now.slots (slots_in rs)) pushed ∙ more_below c.args.sizes.now.slots rows c.new.result c.requires.rows.1 (subst (λ k. k < c.args.sizes.now.slots) (sym (ap (λ (t : ℕ × ℕ × ℕ × ℕ). t.0) one)) (subst (λ (z : Sizes). slot < z.slots) c.requires.table.0.2 takes.1)),
+      ap (λ rs. all_below c.args.sizes.now.slots (row_slots rs)) pushed ∙ more_below c.args.sizes.now.slots rows c.new.result c.requires.rows.1 (subst (λ k. k < c.args.sizes.now.slots) (sym (ap (λ (t : ℕ × ℕ × ℕ × ℕ). t.0) one)) (subst (λ (z : Sizes). slot < z.slots) c.requires.table.0.2 takes.1)),
       c.push_back_reserved.ensures.capacity,
     )
 

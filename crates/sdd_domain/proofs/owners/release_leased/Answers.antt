@@ -5,7 +5,7 @@ use Rattle.sdd_homes.specs.declared.Garbage.{Garbage}
 use Rattle.sdd_homes.specs.declared.Lease.{Lease}
 use Rattle.sdd_homes.specs.declared.Owner.{Owner}
 use Rattle.sdd_homes.specs.Book.{recounted}
-use Rattle.sdd_domain.specs.Leases.{row_told, lease_told, slots_in, all_below}
+use Rattle.sdd_domain.specs.Leases.{row_told, lease_told, row_slots, all_below}
 use Rattle.sdd_domain.specs.Layout.{all_words}
 use Rattle.sdd_domain.specs.Plays.{retiring}
 use Rattle.sdd_domain.specs.declared.board.Acting.{Acting}
@@ -20,8 +20,8 @@ module _ {T : Type 0} (life : ℕ) (rows : List (Row T)) (ls : List Lease) (i k 
 
 -- what stands before the step
 module _ {T : Type 0} (life : ℕ) (rows : List (Row T)) (ls : List Lease) (i k : ℕ) (f : RowAt life rows ls i) (is : (d : Row T) → (slice_index_or rows i d).slot ≡ k) (told : map row_told rows ≡ map (lease_told life) ls) where
-  inside : (n : ℕ) → all_below n (slots_in rows) ≡ true → k < n
-  inside n below = let there = subst (λ ks. Has ks f.lease.slot) (sym (slots_told life rows ls told)) (has_slot ls f.lease f.has) in subst (λ z. z < n) (at_slot life rows ls i k f is) (is_below n (slots_in rows) f.lease.slot below there)
+  inside : (n : ℕ) → all_below n (row_slots rows) ≡ true → k < n
+  inside n below = let there = subst (λ ks. Has ks f.lease.slot) (sym (slots_told life rows ls told)) (has_slot ls f.lease f.has) in subst (λ z. z < n) (at_slot life rows ls i k f is) (is_below n (row_slots rows) f.lease.slot below there)
 
 pub release_owner-left-requires-clause-table : goal.release_owner-left-requires-clause-table
 release_owner-left-requires-clause-table g c = let t = c.requires.table in let r = c.requires.rows in let rows = c.args.rows.now.items in let ls = c.args.place.now.me.0.leases in let low = c.requires.row.0 in let long = c.args.rows.now.ok.0 in let f = row_at r.0.0 rows ls c.args.at r.0.1 (omega arith) in

@@ -2,7 +2,7 @@
 use mathlib.Core.Path.{◌≡◌, refl}
 use mathlib.Core.Bool.{Bool-set, false≢true}
 use mathlib.Core.Former.{Former, this, const, pair, via}
-use Rattle.std.specs.Prelude.{ℕ, List, [], ◌∷◌, Option, None, Some, IsSome, true}
+use Rattle.std.specs.Prelude.{ℕ, ◌+◌, ◌^◌, ◌<◌, [], ◌∷◌, Option, None, Some, IsSome, true}
 use base.Stored.{gnil}
 use base.Fml.{ftrue}
 use denote.RattleType.{RattleType}

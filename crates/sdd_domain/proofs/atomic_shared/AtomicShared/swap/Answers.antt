@@ -5,7 +5,7 @@ use Rattle.atomic_table.specs.Table.{Me}
 use Rattle.sdd_domain.specs.Bags.{ages, Waits}
 use Rattle.sdd_domain.specs.Contents.{blanks}
 use Rattle.sdd_domain.specs.Layout.{claim_word}
-use Rattle.sdd_domain.specs.Leases.{lease_told, life_number, leased_homes, slots_in, all_below}
+use Rattle.sdd_domain.specs.Leases.{lease_told, life_number, leased_homes, row_slots, all_below}
 use Rattle.sdd_domain.specs.Plays.{own_spare, own_bag}
 use Rattle.sdd_domain.specs.declared.board.Acting.{Acting}
 use Rattle.sdd_domain.specs.declared.board.Home.{Home}
@@ -48,7 +48,7 @@ invariant_of-local g c = let l = c.args.local.now in let d = l.place.me.0 in let
   lends = (
     l.lends.0 ∙ sym (ap (λ (z : Me _ Acting). map (lease_told (life_number l.life)) z.0.leases) all),
     subst (λ (z : Me _ Acting). z.0.sizes.slots ≤ deque_capacity l.rows) (sym all) l.lends.1,
-    subst (λ (z : Me _ Acting). all_below z.0.sizes.slots (slots_in l.rows.items) ≡ true) (sym all) l.lends.2,
+    subst (λ (z : Me _ Acting). all_below z.0.sizes.slots (row_slots l.rows.items) ≡ true) (sym all) l.lends.2,
   );
   shut = λ e. ((l.shut e).0, ap (λ (z : Me _ Acting). z.0.leases) all ∙ (l.shut e).1);
   alive = l.alive;

@@ -3,7 +3,7 @@ use lib.ListN.{length-map}
 use Rattle.atomic_table.specs.Table.{Me}
 use Rattle.sdd_steps.specs.declared.participant.Phase.TheVariants.{Idle, Opened}
 use Rattle.sdd_homes.specs.declared.Garbage.{Garbage}
-use Rattle.sdd_domain.specs.Contents.{slots_of}
+use Rattle.sdd_domain.specs.Contents.{garbage_slots}
 use Rattle.sdd_domain.specs.Plays.{own_spare, own_bag}
 use Rattle.sdd_domain.specs.declared.board.Acting.{Acting}
 use Rattle.sdd_domain.specs.declared.board.Home.TheVariants.{Blank, Left}
@@ -43,7 +43,7 @@ end-requires-clause-spare g c = let l = c.args.self in let m = l.place.me in let
           (
             v,
             refl,
-            f.0 ∙ (sym l.waits.0.0 ∙ (ap slots_of (sym lost) ∙ sym (ap (λ (z : Me _ Acting). slots_of (z.0.left ++ z.0.waits)) e))),
+            f.0 ∙ (sym l.waits.0.0 ∙ (ap garbage_slots (sym lost) ∙ sym (ap (λ (z : Me _ Acting). garbage_slots (z.0.left ++ z.0.waits)) e))),
             (let a = l.leaves.2 in let b = f.1 in omega arith),
             subst (λ (z : Me _ Acting). length (z.0.left ++ z.0.waits) ≤ z.0.sizes.slots) (sym e) (subst (λ (ws : List Garbage). length ws ≤ m.0.sizes.slots) (sym lost) (omega arith)),
           ),

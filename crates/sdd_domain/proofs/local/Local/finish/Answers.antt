@@ -7,7 +7,7 @@ use Rattle.sdd_base.specs.declared.status.LocalState.{LocalState}
 use Rattle.sdd_domain.specs.Bags.{ages, Waits}
 use Rattle.sdd_domain.specs.Contents.{IsIn, blanks}
 use Rattle.sdd_domain.specs.Layout.{claim_word}
-use Rattle.sdd_domain.specs.Leases.{life_number, row_told, lease_told, leased_homes, slots_in, all_below}
+use Rattle.sdd_domain.specs.Leases.{life_number, row_told, lease_told, leased_homes, row_slots, all_below}
 use Rattle.sdd_domain.specs.declared.row.Row.{Row}
 use Rattle.sdd_domain.specs.Plays.{own_spare, own_bag, ending, Refilled, Steady}
 use Rattle.sdd_domain.specs.declared.board.Acting.{Acting}
@@ -64,7 +64,7 @@ invariant_of-self g c = let l = c.args.self.now in let d = l.place.me.0 in let m
         are_out m3 (own_spare m3.0 l.spare) (own_bag m3.0) [] (ap (leased_homes m3.0) none)
             (ap (λ (z : Me _ Acting). z.1) all ∙ λ j. blanks (own_spare (record m3.0 { sizes = sym sizes j }) l.spare ∷ own_bag (record m3.0 { sizes = sym sizes j; number = sym number j }) ∷ [])),
       );
-      lends = (ap (map row_told) c.give_home.ensures.empty.0 ∙ sym (ap (map (lease_told (life_number c.last_token-ended.new.life))) none), subst (λ (z : Sizes). z.slots ≤ deque_capacity c.give_home.new.rows) (sym sizes) (subst (λ n. d.sizes.slots ≤ n) (sym c.give_home.ensures.empty.1) l.lends.1), ap (λ (rs : List (Row _)). all_below m3.0.sizes.slots (slots_in rs)) c.give_home.ensures.empty.0);
+      lends = (ap (map row_told) c.give_home.ensures.empty.0 ∙ sym (ap (map (lease_told (life_number c.last_token-ended.new.life))) none), subst (λ (z : Sizes). z.slots ≤ deque_capacity c.give_home.new.rows) (sym sizes) (subst (λ n. d.sizes.slots ≤ n) (sym c.give_home.ensures.empty.1) l.lends.1), ap (λ (rs : List (Row _)). all_below m3.0.sizes.slots (row_slots rs)) c.give_home.ensures.empty.0);
       shut = λ _. (refl, none);
       alive = λ f e. let bad = subst IsNone e c.last_token-ended.ensures.0 in absurd (cc);
       leaves = (ap (λ (d : Acting). d.left) is ∙ (s.11 ∙ l.leaves.0), l.leaves.1, subst (λ (z : Sizes). z.slots ≤ vec_capacity l.bag) (sym sizes) l.leaves.2);

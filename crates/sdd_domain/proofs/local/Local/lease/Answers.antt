@@ -5,7 +5,7 @@ use Rattle.sdd_base.specs.declared.sizes.Sizes.{Sizes}
 use Rattle.sdd_domain.specs.Bags.{ages, Waits}
 use Rattle.sdd_domain.specs.Contents.{is_blank}
 use Rattle.sdd_domain.specs.Layout.{claim_word}
-use Rattle.sdd_domain.specs.Leases.{row_told, lease_told, life_number, leased_homes, has_all, slots_in, all_below}
+use Rattle.sdd_domain.specs.Leases.{row_told, lease_told, life_number, leased_homes, has_all, row_slots, all_below}
 use Rattle.sdd_domain.specs.Plays.{own_spare, own_bag}
 use Rattle.sdd_homes.specs.declared.Lease.{Lease}
 use Rattle.sdd_domain.specs.Tokens.{number_of, nest_in}
@@ -28,7 +28,7 @@ invariant_of-self g c = let l = c.args.self.now in let d = l.place.me.0 in let m
       lends = (
         told.0,
         subst (λ (z : Sizes). z.slots ≤ deque_capacity rows) (sym sizes) (subst (λ n. d.sizes.slots ≤ n) (sym told.2) l.lends.1),
-        subst (λ (z : Sizes). all_below z.slots (slots_in rows.items) ≡ true) (sym (sizes ∙ home)) told.1,
+        subst (λ (z : Sizes). all_below z.slots (row_slots rows.items) ≡ true) (sym (sizes ∙ home)) told.1,
       );
       shut = λ x. absurd (cc);
       alive = λ f x. l.alive f (c.in-Some.is ∙ x);

@@ -4,10 +4,10 @@ use Rattle.atomic_table.specs.Seated.{TableId}
 use Rattle.atomic_table.specs.Table.{Me}
 use Rattle.sdd_base.specs.declared.sizes.Sizes.{Sizes}
 use Rattle.sdd_homes.specs.declared.Garbage.{Garbage}
-use Rattle.sdd_domain.specs.Contents.{IsIn, slots_of}
+use Rattle.sdd_domain.specs.Contents.{IsIn, garbage_slots}
 use Rattle.sdd_domain.specs.Layout.{claim_word}
 use Rattle.std.specs.VecDeque.{deque_capacity}
-use Rattle.sdd_domain.specs.Leases.{row_told, lease_told, leased_homes, slots_in, all_below}
+use Rattle.sdd_domain.specs.Leases.{row_told, lease_told, leased_homes, row_slots, all_below}
 use Rattle.sdd_domain.specs.declared.row.Row.{Row}
 use Rattle.sdd_domain.specs.Plays.{own_spare, own_bag, HasRegistered}
 use Rattle.sdd_domain.specs.Views.{spent, registered}
@@ -43,7 +43,7 @@ module _ {T : Type 0} (q y : ℕ) (m m1 : Me (Home T) Acting) (r : HasRegistered
 
 pub take_left-bag-requires-clause-left : goal.take_left-bag-requires-clause-left
 take_left-bag-requires-clause-left g c = let r = c.requires.acts.0 in let m = c.args.place.me in let e = c.bag_out-left.ensures in let l = e.left (own_spare m.0 m.0.spare) r.3.2.0 m.0.sizes.slots r.1 r.3.0 r.3.1 (front c.args.number c.args.spare m c.bag_out-left.new.place.me r e.emptied) in
-    l.0 ∙ ap slots_of (sym (ap (λ (d : Acting). d.left) (told c.args.number c.args.spare m c.bag_out-left.new.place.me r e.emptied)))
+    l.0 ∙ ap garbage_slots (sym (ap (λ (d : Acting). d.left) (told c.args.number c.args.spare m c.bag_out-left.new.place.me r e.emptied)))
 
 pub take_left-bag-requires-clause-room : goal.take_left-bag-requires-clause-room
 take_left-bag-requires-clause-room g c = let r = c.requires.acts.0 in let m = c.args.place.me in let e = c.bag_out-left.ensures in let l = e.left (own_spare m.0 m.0.spare) r.3.2.0 m.0.sizes.slots r.1 r.3.0 r.3.1 (front c.args.number c.args.spare m c.bag_out-left.new.place.me r e.emptied) in
@@ -63,7 +63,7 @@ invariant_of-result g c = let r = c.requires.acts.0 in let m = c.args.place.me i
         ap (λ (d : Acting). d.releasing) is,
       );
       has_spare = (ap (λ (d : Acting). d.spare) is, c.requires.acts.1, are_out m2 (own_spare m2.0 y) (own_bag m2.0) [] (ap (leased_homes m2.0) none) lies);
-      lends = (ap (map row_told) c.requires.empty.3 ∙ sym (ap (map (lease_told 0)) none), subst (λ (z : Sizes). z.slots ≤ deque_capacity c.args.ledger.rows) (sym wide) c.requires.empty.4, ap (λ (rs : List (Row _)). all_below m2.0.sizes.slots (slots_in rs)) c.requires.empty.3);
+      lends = (ap (map row_told) c.requires.empty.3 ∙ sym (ap (map (lease_told 0)) none), subst (λ (z : Sizes). z.slots ≤ deque_capacity c.args.ledger.rows) (sym wide) c.requires.empty.4, ap (λ (rs : List (Row _)). all_below m2.0.sizes.slots (row_slots rs)) c.requires.empty.3);
       shut = λ _. (refl, none);
       alive = λ f e. absurd (cc);
       leaves = (ap (λ (d : Acting). d.left) is, t.empty.0, (let a = l.1 in let e = t.empty.1 in let w = ap (λ (z : Sizes). z.slots) wide in let v = ap (λ (z : Sizes). z.slots) c.requires.table.2 in omega arith));

@@ -9,7 +9,7 @@ use Rattle.sdd_homes.specs.declared.Owner.{Owner}
 use Rattle.sdd_domain.specs.Bags.{ages, Waits}
 use Rattle.sdd_domain.specs.Contents.{is_blank}
 use Rattle.sdd_domain.specs.Layout.{claim_word}
-use Rattle.sdd_domain.specs.Leases.{row_told, lease_told, life_number, leased_homes, has_all, slots_in, all_below, HasReleased}
+use Rattle.sdd_domain.specs.Leases.{row_told, lease_told, life_number, leased_homes, has_all, row_slots, all_below, HasReleased}
 use Rattle.sdd_domain.specs.Owners.{item_in}
 use Rattle.sdd_domain.specs.Plays.{own_spare, own_bag}
 use Rattle.sdd_domain.specs.Views.{holding}
@@ -68,7 +68,7 @@ invariant_of-local g c = let l = c.args.local.now in let d = l.place.me.0 in let
       lends = (
         c.release-left.ensures.rows (life_number l.life) (told l s m1 taken (life_number l.life) l.lends.0),
         subst (λ (z : Me _ Acting). z.0.sizes.slots ≤ deque_capacity rows) (sym all) (subst (λ n. d.sizes.slots ≤ n) (sym c.release-left.ensures.same.0) l.lends.1),
-        subst (λ (z : Me _ Acting). all_below z.0.sizes.slots (slots_in rows.items) ≡ true) (sym all) (ap (all_below d.sizes.slots) c.release-left.ensures.same.1 ∙ l.lends.2),
+        subst (λ (z : Me _ Acting). all_below z.0.sizes.slots (row_slots rows.items) ≡ true) (sym all) (ap (all_below d.sizes.slots) c.release-left.ensures.same.1 ∙ l.lends.2),
       );
       shut = λ e. ((l.shut e).0, ap (λ (z : Me _ Acting). z.0.leases) all ∙ none_same r.0 (same_slots l s m1 taken r.0 r.1 ∙ ap (map (λ (x : Lease). x.slot)) (l.shut e).1));
       alive = l.alive;
@@ -96,7 +96,7 @@ invariant_of-local-2 g c = let l = c.args.local.now in let d = l.place.me.0 in l
       lends = (
         c.release-left.ensures.rows (life_number l.life) (told l s m1 taken (life_number l.life) l.lends.0),
         subst (λ (z : Me _ Acting). z.0.sizes.slots ≤ deque_capacity rows) (sym all) (subst (λ n. d.sizes.slots ≤ n) (sym c.release-left.ensures.same.0) l.lends.1),
-        subst (λ (z : Me _ Acting). all_below z.0.sizes.slots (slots_in rows.items) ≡ true) (sym all) (ap (all_below d.sizes.slots) c.release-left.ensures.same.1 ∙ l.lends.2),
+        subst (λ (z : Me _ Acting). all_below z.0.sizes.slots (row_slots rows.items) ≡ true) (sym all) (ap (all_below d.sizes.slots) c.release-left.ensures.same.1 ∙ l.lends.2),
       );
       shut = λ e. ((l.shut e).0, ap (λ (z : Me _ Acting). z.0.leases) all ∙ none_same r.0 (same_slots l s m1 taken r.0 r.1 ∙ ap (map (λ (x : Lease). x.slot)) (l.shut e).1));
       alive = l.alive;
