@@ -2,18 +2,20 @@
 //!
 //! `guards THREADS KIND ROUNDS` runs the rounds of `domain_bench` with guards of crossbeam-epoch. `guards times PROGRAM
 //! THREADS..` prints for each kind and number of threads what a round costs here and in the other program.
-use crossbeam_epoch::{Owned, pin};
+use crossbeam_epoch::{Atomic, Owned, Shared, pin};
 use std::process::Command;
 use std::sync::atomic::AtomicU64;
 use std::sync::atomic::Ordering::SeqCst;
 use std::time::Instant;
 
 /// The kinds of guards, and how many rounds of each are timed.
-const KINDS: [(&str, u32); 4] = [
+const KINDS: [(&str, u32); 6] = [
     ("plain", 10_000_000),
     ("accelerated", 2_000_000),
     ("nested", 50_000_000),
     ("items", 1_000_000),
+    ("loads", 10_000_000),
+    ("swaps", 1_000_000),
 ];
 
 /// So many guards one by one, within the one that may be open: the sum of what was read under them.
@@ -46,10 +48,56 @@ fn items(rounds: u32) -> u64 {
     sum
 }
 
+/// So many guards one by one, under each of which the cell is loaded and what it names is read: the sum of that.
+#[inline(never)]
+fn loads(cell: &Atomic<u64>, rounds: u32) -> u64 {
+    let mut sum = 0u64;
+    for _ in 0..rounds {
+        let guard = pin();
+        // SAFETY: what is loaded isn't destroyed while the guard is pinned.
+        let item = unsafe { cell.load(SeqCst, &guard).as_ref() };
+        sum = sum.wrapping_add(item.copied().unwrap_or(0));
+    }
+    sum
+}
+
+/// So many items one by one, each swapped into the cell: the sum of those that came out, which are retired.
+#[inline(never)]
+fn swaps(cell: &Atomic<u64>, rounds: u32) -> u64 {
+    let mut sum = 0u64;
+    for i in 0..rounds {
+        let guard = pin();
+        let old = cell.swap(Owned::new(u64::from(i)), SeqCst, &guard);
+        // SAFETY: it was in the cell, and is destroyed once no guard reads it.
+        sum = sum.wrapping_add(unsafe { old.as_ref() }.copied().unwrap_or(0));
+        // SAFETY: no other pointer to it is left.
+        unsafe { guard.defer_destroy(old) };
+        guard.flush();
+    }
+    sum
+}
+
+/// Rounds with a cell that owns 1 at first.
+fn with_cell(kind: &str, rounds: u32) -> u64 {
+    let cell = Atomic::new(1u64);
+    let sum = match kind {
+        "swaps" => swaps(&cell, rounds),
+        _ => loads(&cell, rounds),
+    };
+    let guard = pin();
+    let last = cell.swap(Shared::null(), SeqCst, &guard);
+    // SAFETY: no other pointer to it is left.
+    unsafe { guard.defer_destroy(last) };
+    sum
+}
+
 /// The rounds of one thread.
 fn work(word: &AtomicU64, kind: &str, rounds: u32) -> u64 {
     if kind == "items" {
         return items(rounds);
+    }
+    if kind == "loads" || kind == "swaps" {
+        return with_cell(kind, rounds);
     }
     let outer = (kind == "nested").then(pin);
     let sum = passes(word, kind == "accelerated", rounds);
@@ -108,6 +156,13 @@ fn cost(program: &str, threads: u32, kind: &str, rounds: u32, wanted: Option<u64
 fn sum_of(kind: &str, rounds: u32) -> u64 {
     if kind == "items" {
         return (0..u64::from(rounds)).sum();
+    }
+    if kind == "loads" {
+        return u64::from(rounds);
+    }
+    if kind == "swaps" {
+        // The 1 that was there, and all but the last one that came.
+        return if rounds == 0 { 0 } else { 1 + (0..u64::from(rounds) - 1).sum::<u64>() };
     }
     let raised = if kind == "accelerated" { rounds } else { 0 };
     (0..u64::from(raised)).map(|count| count % 64).sum()

@@ -5,15 +5,19 @@
 //! under it, and closes it. The guards are `plain`, `accelerated`, or `nested` in one that is open throughout. The sum
 //! of the epochs that were read is printed, which is 0 while nothing raises the count. A round of `items` places a
 //! number, reads it, gives its owner back, and opens and closes an accelerated guard, which reclaims what is due; the
-//! sum of the numbers that were read is printed. Without arguments nothing is done.
+//! sum of the numbers that were read is printed. A round of `loads` opens a guard, loads a cell, reads the number in it,
+//! and closes; one of `swaps` places a number, swaps it into a cell, releases what comes out, and reclaims as one of
+//! `items` does; each thread has a cell of its own. Without arguments nothing is done.
 #![tactic(auto)]
 
-ghost use Rattle.std.specs.Prelude.{◌≡◌, ◌≤◌, IfSome};
+ghost use Rattle.std.specs.Prelude.{◌≡◌, ◌<◌, ◌≤◌, IfSome};
 ghost use Rattle.sdd_domain.specs.Layout.{IsSized};
-ghost use Rattle.sdd_domain.specs.Tokens.{place_of, home_of, own_of, IsSame};
+ghost use Rattle.sdd_domain.specs.Cells.{cell_number};
+ghost use Rattle.sdd_domain.specs.Tokens.{place_of, home_of, own_of, cell_count, nest_in, IsSame};
 
 use sdd_base::epoch::Epoch;
 use sdd_base::sizes::Sizes;
+use sdd_domain::atomic_shared::AtomicShared;
 use sdd_domain::domain::Domain;
 use sdd_domain::guard::Guard;
 use sdd_domain::local::Local;
@@ -27,6 +31,8 @@ enum Kind {
     Accelerated,
     Nested,
     Items,
+    Loads,
+    Swaps,
 }
 
 /// The threads, the kind and the rounds that three arguments name, if they do.
@@ -38,6 +44,8 @@ fn task_of(threads: &str, kind: &str, rounds: &str) -> Option<(u8, Kind, u32)>
         "accelerated" => Kind::Accelerated,
         "nested" => Kind::Nested,
         "items" => Kind::Items,
+        "loads" => Kind::Loads,
+        "swaps" => Kind::Swaps,
         _ => return None,
     };
     let threads = threads.parse::<u8>().ok()?;
@@ -54,6 +62,7 @@ fn pass(domain: &Domain<u64>, local: &mut Local<u64>, accelerated: bool) -> Epoc
     requires shallow { (own_of local.old).nesting ≤ 1 }
     ensures same { IsSame local.old local.new }
     ensures nesting { (own_of local.new).nesting ≡ (own_of local.old).nesting }
+    ensures nest { 0 < (own_of local.old).nesting → nest_in local.new ≡ nest_in local.old }
 {
     let Ok(guard) = Guard::new(domain, local) else {
         unreachable!();
@@ -74,6 +83,7 @@ fn passes(domain: &Domain<u64>, local: &mut Local<u64>, accelerated: bool, round
     requires shallow { (own_of local.old).nesting ≤ 1 }
     ensures same { IsSame local.old local.new }
     ensures nesting { (own_of local.new).nesting ≡ (own_of local.old).nesting }
+    ensures nest { 0 < (own_of local.old).nesting → nest_in local.new ≡ nest_in local.old }
 {
     let mut sum: u64 = 0;
     for _i in 0..rounds {
@@ -102,6 +112,71 @@ fn items(domain: &Domain<u64>, local: &mut Local<u64>, rounds: u32) -> u64
     sum
 }
 
+/// So many guards one by one, under each of which the cell is loaded and what it names is read: the sum of that.
+#[inline(never)]
+fn loads(domain: &Domain<u64>, local: &mut Local<u64>, cell: &AtomicShared, rounds: u32) -> u64
+    requires home { home_of local.old ≡ place_of domain.now }
+    requires closed { (own_of local.old).nesting ≡ 0 }
+    requires inside { cell_number cell.now < cell_count domain.now }
+    ensures same { IsSame local.old local.new }
+    ensures closed { (own_of local.new).nesting ≡ 0 }
+{
+    let mut sum: u64 = 0;
+    for _i in 0..rounds {
+        let Ok(guard) = Guard::new(domain, local) else {
+            unreachable!();
+        };
+        let item = cell.load(domain, &guard, local).as_ref().copied();
+        guard.close(domain, local);
+        sum = sum.wrapping_add(item.unwrap_or(0));
+    }
+    sum
+}
+
+/// So many items one by one, each swapped into the cell, with an accelerated guard behind it: the sum of those that came
+/// out.
+#[inline(never)]
+fn swaps(domain: &Domain<u64>, local: &mut Local<u64>, cell: &AtomicShared, rounds: u32) -> u64
+    requires home { home_of local.old ≡ place_of domain.now }
+    requires closed { (own_of local.old).nesting ≡ 0 }
+    requires inside { cell_number cell.now < cell_count domain.now }
+    ensures same { IsSame local.old local.new }
+    ensures closed { (own_of local.new).nesting ≡ 0 }
+{
+    let mut sum: u64 = 0;
+    for i in 0..rounds {
+        if let Ok(owner) = Shared::new(u64::from(i), domain, local) {
+            if let Some(old) = cell.swap(Some(owner), domain, local) {
+                sum = sum.wrapping_add(*old.as_ref());
+                old.release(domain, local);
+            }
+        }
+        let _ = pass(domain, local, true);
+    }
+    sum
+}
+
+/// Rounds with a cell that owns 1 at first. None if there is no cell or no slot.
+fn with_cell(domain: &Domain<u64>, local: &mut Local<u64>, kind: Kind, rounds: u32) -> Option<u64>
+    requires home { home_of local.old ≡ place_of domain.now }
+    requires closed { (own_of local.old).nesting ≡ 0 }
+    ensures same { IsSame local.old local.new }
+    ensures closed { (own_of local.new).nesting ≡ 0 }
+{
+    let cell = AtomicShared::null(domain)?;
+    if let Ok(owner) = Shared::new(1, domain, local) {
+        if let Some(old) = cell.swap(Some(owner), domain, local) {
+            old.release(domain, local);
+        }
+    }
+    let sum = match kind {
+        Kind::Swaps => swaps(domain, local, &cell, rounds),
+        _ => loads(domain, local, &cell, rounds),
+    };
+    cell.retire(domain, local);
+    Some(sum)
+}
+
 /// The rounds of one thread. None if no participant was free.
 fn work(domain: &Domain<u64>, kind: Kind, rounds: u32) -> Option<u64> {
     let mut local = domain.register().ok()?;
@@ -117,6 +192,7 @@ fn work(domain: &Domain<u64>, kind: Kind, rounds: u32) -> Option<u64> {
             sum
         }
         Kind::Items => items(domain, &mut local, rounds),
+        Kind::Loads | Kind::Swaps => { with_cell(domain, &mut local, kind, rounds).unwrap_or(0) }
     };
     local.end(domain);
     Some(sum)
@@ -151,10 +227,10 @@ fn sizes_of(kind: Kind, participants: u8) -> Sizes
     Sizes {
         participants,
         slots: match kind {
-            Kind::Items => 64 * participants,
+            Kind::Items | Kind::Loads | Kind::Swaps => 64 * participants,
             _ => 0,
         },
-        cells: 0,
+        cells: participants,
         jobs: 0,
     }
 }
