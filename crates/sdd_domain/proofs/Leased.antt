@@ -19,9 +19,10 @@ pub first_told : {T : Type 0} (life : ℕ) (r : Row T) (rs : List (Row T)) (ls :
 first_told life r rs [] e = absurd (cc)
 first_told life r rs (l ∷ ls) e = (l, ls, refl, cc, cc)
 
-pub none_told : (T : Type 0) (life : ℕ) (ls : List Lease) → map (row_told {T = T}) [] ≡ map (lease_told life) ls → ls ≡ []
-none_told T life [] e = refl
-none_told T life (l ∷ ls) e = absurd (cc)
+pub none_told : {T : Type 0} (life : ℕ) (rows : List (Row T)) (ls : List Lease) → rows ≡ [] → map row_told rows ≡ map (lease_told life) ls → ls ≡ []
+none_told life [] [] none e = refl
+none_told life [] (l ∷ ls) none e = absurd (cc)
+none_told life (r ∷ rows) ls none e = absurd (cc)
 
 module _ {S : Type 0} (IsIn : Content → S → Type 0) (d : Acting) where
   pub more_filled : (ls : List Lease) (xs : List (ℕ × S)) (l : Lease) (u : S) → IsIn (part l.round l.count) u → Refilled IsIn d ls xs [] → Refilled IsIn d (ls ++ l ∷ []) (xs ++ (own_home d l.slot, u) ∷ []) []

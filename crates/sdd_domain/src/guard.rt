@@ -32,6 +32,7 @@ impl Guard {
     /// Opens a guard of a participant, within those that it has open. An outermost opening reads the count of raises,
     /// and publishes it in a second step; where it isn't the one that was found before, the participant's bags move
     /// on. From then until the outermost closing the count is raised at most once.
+    #[inline(always)]
     pub fn new<T: Drop>(domain: &Domain<T>, local: &mut Local<T>) -> Result<Guard, Nested>
         requires { home_of local.old ≡ place_of domain.now }
         ensures guard { IfOk result (λ g. (participant_of g ≡ number_of local.old) × (nest_of g ≡ nest_in local.new)) }
@@ -104,6 +105,7 @@ impl Guard {
     /// Closes a guard. An outermost closing scans first, if a guard of the nesting was accelerated or this is the 64th
     /// since the last scan with the flag of garbage set. All that was loaded under the nesting goes home. A scan tries once for the scan lock, and raises the count by
     /// one if every open guard published the present one.
+    #[inline(always)]
     pub fn close<T>(self, domain: &Domain<T>, local: &mut Local<T>)
         requires home { home_of local.old ≡ place_of domain.now }
         requires mine { nest_of self ≡ nest_in local.old }

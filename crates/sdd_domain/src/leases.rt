@@ -69,7 +69,8 @@ fn refill<T>(
 
 /// Gives the parts of all leases back to their homes, once the life that they were lent to is over. The homes are in front
 /// of what is out with the seat then, and behind them the two slots that were in front.
-pub(crate) fn give_home<T>(
+#[inline(never)]
+fn give_rows<T>(
     words: &Words<T>,
     place: &mut Place<T>,
     participants: usize,
@@ -89,4 +90,27 @@ pub(crate) fn give_home<T>(
     refill(words, place, participants, number, rows, ended);
     place.turn();
     place.turn();
+}
+
+/// The same, at once where nothing is leased, as mostly when guards close.
+#[inline(always)]
+pub(crate) fn give_home<T>(
+    words: &Words<T>,
+    place: &mut Place<T>,
+    participants: usize,
+    number: usize,
+    rows: &mut VecDeque<Row<T>>,
+    ended: &Ended,
+)
+    requires table { (place.old.table_id ≡ words.now.table_id) × (place.old.me.0.sizes.participants ≡ participants) × (participants ≤ 2 ^ 30) × (place.old.me.0.number ≡ number) × (number < 2 ^ 30) }
+    requires rows { map row_told rows.old.items ≡ map (lease_told ended.now.id) place.old.me.0.leases }
+    requires out { (k : ℕ) × (l : ℕ) × (place.old.me.1 ≡ blanks (k ∷ l ∷ leased_homes place.old.me.0 place.old.me.0.leases)) }
+    ensures seat { (place.new.table_id ≡ place.old.table_id) × (place.new.id ≡ place.old.id) }
+    ensures filled { (k l : ℕ) → place.old.me.1 ≡ blanks (k ∷ l ∷ leased_homes place.old.me.0 place.old.me.0.leases) → (xs : List (ℕ × Home T)) × Refilled IsIn place.old.me.0 place.old.me.0.leases xs (blanks (k ∷ l ∷ [])) × (place.new.me ≡ (place.old.me.0, xs)) }
+    ensures empty { (rows.new.items ≡ []) × (deque_capacity rows.new ≡ deque_capacity rows.old) }
+{
+    if rows.is_empty() {
+        return;
+    }
+    give_rows(words, place, participants, number, rows, ended);
 }

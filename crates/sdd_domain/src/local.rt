@@ -69,6 +69,7 @@ fn scans(own: &LocalState, closings: u8) -> bool
 }
 
 /// Counts an outermost closing, and scans if one is due.
+#[inline(always)]
 fn scan_due<T>(
     words: &Words<T>,
     place: &mut Place<T>,
@@ -176,6 +177,7 @@ impl<T> Local<T> {
     }
 
     /// Opens an outermost guard, and begins its life.
+    #[inline(always)]
     pub(crate) fn begin(&mut self, domain: &Domain<T>) -> Life
     where
         T: Drop,
@@ -202,6 +204,7 @@ impl<T> Local<T> {
     }
 
     /// Opens one more guard within those that are open, which are `nesting` then.
+    #[inline(always)]
     pub(crate) fn deepen(&mut self, nesting: u32) -> Life
         requires { (0 < (own_of self.old).nesting) × (nesting ≡ (own_of self.old).nesting + 1) }
         ensures same { IsInNest self.old self.new × (born_of self.new ≡ born_of self.old) × (waiting_of self.new ≡ waiting_of self.old) }
@@ -216,6 +219,7 @@ impl<T> Local<T> {
     }
 
     /// Closes a guard within others.
+    #[inline(always)]
     pub(crate) fn rise(&mut self, life: Life)
         requires { (1 < (own_of self.old).nesting) × (life.count ≡ 1) × ((number_of self.old, life.id) ≡ nest_in self.old) }
         ensures same { IsInNest self.old self.new × (born_of self.new ≡ born_of self.old) × (waiting_of self.new ≡ waiting_of self.old) }
@@ -262,6 +266,7 @@ impl<T> Local<T> {
     }
 
     /// Closes an outermost guard, after a scan if one is due, and ends its life: all that was leased goes home.
+    #[inline(always)]
     pub(crate) fn finish(&mut self, domain: &Domain<T>, token: Life)
         requires home { home_of self.old ≡ place_of domain.now }
         requires outermost { (own_of self.old).nesting ≡ 1 }

@@ -33,6 +33,7 @@ fn all_agree<T>(
 /// A scan of participant `number`, whose guard is open with the count `epoch`. It tries once for the scan lock, and
 /// raises the count by one only where that is the present one, and each other participant is closed or has published
 /// it. A count of `2^64 - 1` isn't raised.
+#[inline(never)]
 pub(crate) fn scan<T>(
     words: &Words<T>,
     place: &mut Place<T>,

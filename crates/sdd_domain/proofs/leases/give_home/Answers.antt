@@ -1,9 +1,13 @@
-use Rattle.sdd_domain.proofs.Leased.{leased_ahead, filled_home}
+use Rattle.std.proofs.Common.{◌≡◌, ◌∷◌, [], List, deque_len, eqb-true, ap, sym, refl, ◌∙◌, subst, arith}
+use Rattle.std.proofs.lemmas.List.{nil_from_length}
+use Rattle.sdd_homes.specs.declared.Lease.{Lease}
+use Rattle.sdd_domain.specs.Contents.{IsIn, blanks}
+use Rattle.sdd_domain.specs.Leases.{leased_homes}
+use Rattle.sdd_domain.specs.Plays.{Refilled}
+use Rattle.sdd_domain.proofs.Leased.{none_told}
 use Rattle.sdd_domain.proofs.leases.give_home.Goals as goal
 
-pub refill-requires-clause-out : goal.refill-requires-clause-out
-refill-requires-clause-out g c = let o = c.requires.out in leased_ahead c.args.place.now.me c.turn.new.self.me c.turn-2.new.self.me o.0 o.1 o.2 c.turn.ensures.2 c.turn-2.ensures.2
-
-pub returns-clause-filled : goal.returns-clause-filled
-returns-clause-filled g c = λ k l is. let f = c.refill.ensures.filled in
-    filled_home c.args.place.now.me c.turn.new.self.me c.turn-2.new.self.me k l is c.turn.ensures.2 c.turn-2.ensures.2 f.0 c.refill.new.place.me c.turn-3.new.self.me c.turn-4.new.self.me f.1 f.2 c.turn-3.ensures.2 c.turn-4.ensures.2
+-- nothing is leased, and nothing goes home
+pub returns-then-is_empty-clause-filled : goal.returns-then-is_empty-clause-filled
+returns-then-is_empty-clause-filled g c = λ k l is. let m = c.args.place.now.me in let d = m.0 in let rows = c.args.rows.now in let all = rows.ok.0 in let is_0 = eqb-true (deque_len rows) 0 (sym c.if-is_empty.ensures) in let nothing : rows.items ≡ [] = nil_from_length rows.items (omega arith) in let none : d.leases ≡ [] = none_told c.args.ended.now.id rows.items d.leases nothing c.requires.rows in
+    (m.1, subst (λ (ls : List Lease). Refilled IsIn d ls m.1 (blanks (k ∷ l ∷ []))) (sym none) (is ∙ ap (λ (ls : List Lease). blanks (k ∷ l ∷ leased_homes d ls)) none), refl)
