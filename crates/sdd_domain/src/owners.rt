@@ -1,16 +1,19 @@
 //! Owners outside of calls: each has a seat of its own, which comes into the hand of a participant for a call.
 
-ghost use Rattle.std.specs.Prelude.{◌≡◌, ℕ, ◌+◌, ◌-◌, ◌*◌, ◌^◌, ◌<◌, ◌≤◌, List, [], ◌∷◌, length, map, slice_index_or, true, IsSome};
+ghost use Rattle.std.specs.Prelude.{◌≡◌, ℕ, ◌+◌, ◌-◌, ◌*◌, ◌^◌, ◌<◌, ◌≤◌, List, [], ◌∷◌, length, map, slice_index_or, true, IsSome, IfSome, IfNone, IsTrue, IsFalse};
+ghost use Rattle.sdd_steps.specs.State.{Has};
 ghost use Rattle.sdd_steps.specs.Steps.{is_ready};
 ghost use Rattle.std.specs.VecDeque.{deque_capacity, deque_len};
 ghost use Rattle.sdd_homes.specs.declared.Lease.{Lease};
 ghost use Rattle.sdd_homes.specs.declared.Owner.{Owner};
-ghost use Rattle.sdd_homes.specs.Book.{Lends};
+ghost use Rattle.sdd_homes.specs.Book.{Lends, part};
+ghost use Rattle.sdd_domain.specs.Contents.{IsIn};
 ghost use Rattle.sdd_domain.specs.Fitting.{FitsSizes};
-ghost use Rattle.sdd_domain.specs.Leases.{row_told, lease_told, slots_in, all_below, IsFirst, HasReleased};
+ghost use Rattle.sdd_domain.specs.Leases.{row_told, lease_told, slots_in, all_below, IsFirst, HasReleased, HasEmptied, HasCloned};
 ghost use Rattle.sdd_domain.specs.declared.row.Row.{Row};
 ghost use Rattle.sdd_domain.specs.Views.{spent, holding};
-ghost use Rattle.sdd_domain.specs.Plays.{others_in, first_in, joined_by};
+ghost use Rattle.sdd_domain.specs.Plays.{others_in, first_in, joined_by, cloning};
+ghost use Rattle.sdd_domain.specs.declared.board.Home.{Home};
 
 use crate::board::{Acting, Home, Place, Stored, Words};
 use crate::cells;
@@ -21,6 +24,9 @@ use atomic_table::{Badge, Join, Split};
 use parted::One;
 use sdd_base::sizes::Sizes;
 use std::collections::VecDeque;
+
+/// How often the count of an item's owners is read and tried to be raised: each time others may be faster.
+const TRIES: u64 = u64::MAX;
 
 struct Parting;
 
@@ -140,4 +146,85 @@ pub(crate) fn release<T>(
         Some(at) => release_leased(words, place, sizes, rows, at, slot, owner),
         None => release_home(words, place, sizes, number, slot, owner),
     }
+}
+
+/// Makes one more owner of the item that is leased in `slot`, with one of the `parts` of the lease: it is first in hand
+/// then. Whether it did: not with the only part, and not where the item has `2^32 - 1` owners. It tries again where
+/// others were faster.
+fn raise_owners<T>(
+    words: &Words<T>,
+    place: &mut Place<T>,
+    sizes: &Sizes,
+    slot: usize,
+    parts: u64,
+) -> bool
+    requires table { FitsSizes words.now.table_id words.now.key.sizes place.old.table_id place.old.me.0.sizes sizes.now × (slot < sizes.now.slots) }
+    requires ready { (place.old.me.0.kind ≡ 1) × (is_ready place.old.me.0.known ≡ true) }
+    requires leased { (l : Lease) × Has place.old.me.0.leases l × (l.slot ≡ slot) × (l.count ≡ parts) }
+    ensures seat { (place.new.table_id ≡ place.old.table_id) × (place.new.id ≡ place.old.id) }
+    ensures many { IsTrue result → 1 < parts }
+    ensures raised { IsTrue result → (l : Lease) → Has place.old.me.0.leases l → l.slot ≡ slot → place.new.me ≡ (cloning l place.old.me.0, place.old.me.1) }
+    ensures refused { IsFalse result → place.new.me ≡ place.old.me }
+{
+    if parts < 2 {
+        return false;
+    }
+    for _ in 0..TRIES {
+        let word = words.peek(8 * sizes.participants + 16 + sizes.cells + slot);
+        if word <= 2 || word > 1 << 32 {
+            return false;
+        }
+        if cells::clone_owner(
+            words,
+            place,
+            sizes.participants,
+            sizes.cells,
+            slot,
+            word - 2,
+        ) {
+            return true;
+        }
+    }
+    false
+}
+
+/// Gives the home back that `begin_release` took out and that was emptied since, with these parts. The owners in hand
+/// stay.
+fn put_back<T>(words: &Words<T>, place: &mut Place<T>, home: usize, parts: Home<T>)
+    requires table { (place.old.table_id ≡ words.now.table_id) × (0 < words.now.table_id.words) × (place.old.me.0.kind ≡ 1) }
+    requires out { (l : Lease) × (ls : List Lease) × (tail : List (ℕ × Home T)) × HasEmptied place.old.me home l ls tail × IsIn (part l.round l.count) parts }
+    ensures seat { (place.new.table_id ≡ place.old.table_id) × (place.new.id ≡ place.old.id) }
+    ensures kept { (l : Lease) (ls : List Lease) (tail : List (ℕ × Home T)) → HasEmptied place.old.me home l ls tail → IsIn (part l.round l.count) parts → place.new.me ≡ (record place.old.me.0 { leases = ls; releasing = 0 }, tail) }
+{
+    let_go(words.exchange(place, home, parts));
+    cells::keep_home(words, place);
+}
+
+/// Makes one more owner of the item of the first owner in hand, which is in `slot` and isn't leased, with one of the
+/// parts of participant `number`: that part is the answer, and both owners are in hand then.
+fn clone_home<T>(
+    words: &Words<T>,
+    place: &mut Place<T>,
+    sizes: &Sizes,
+    number: usize,
+    slot: usize,
+) -> Option<One<Stored<T>>>
+    requires table { FitsSizes words.now.table_id words.now.key.sizes place.old.table_id place.old.me.0.sizes sizes.now × (number < sizes.now.participants) × (slot < sizes.now.slots) }
+    requires ready { (place.old.me.0.kind ≡ 1) × (place.old.me.0.number ≡ number) × (is_ready place.old.me.0.known ≡ true) × (place.old.me.0.releasing ≡ 0) }
+    requires owner { (o : Owner) × (os : List Owner) × (place.old.me.0.hand ≡ o ∷ os) × (o.slot ≡ slot) }
+    requires free { ¬ Lends place.old.me.0.leases slot }
+    ensures seat { (place.new.table_id ≡ place.old.table_id) × (place.new.id ≡ place.old.id) }
+    ensures cloned { IfSome result (λ p. HasCloned place.old.me p.part.life.id place.old.me.0.leases place.new.me) }
+    ensures refused { IfNone result (place.new.me ≡ place.old.me) }
+{
+    cells::begin_release(words, place);
+    let home = slot * (sizes.participants + 1) + number;
+    let (mut own, count) = parts_of(words.exchange(place, home, Home::Blank));
+    if raise_owners(words, place, sizes, slot, count) {
+        let one = own.split_one();
+        put_back(words, place, home, Home::Part(own, count - 1));
+        return Some(One::from_part(one));
+    }
+    put_back(words, place, home, Home::Part(own, count));
+    None
 }
