@@ -1,5 +1,5 @@
 -- a home that came out for one more owner goes back
-use Rattle.std.proofs.Common.{◌≡◌, ◌≢◌, ℕ, suc, ◌<◌, List, [], ◌∷◌, ◌++◌, get_or, set, sym, refl, ap, ◌∙◌, subst, ⊎_elim, inl, inr, arith}
+use Rattle.std.proofs.Common.{◌≡◌, ◌≢◌, ℕ, suc, List, [], ◌∷◌, ◌++◌, get_or, set, sym, refl, ap, ◌∙◌, subst, ⊎_elim, inl, inr, arith}
 use mathlib.Core.Logic.{dite}
 use mathlib.Core.Option as maybe
 use mathlib.Core.Option.{some, none}
@@ -13,7 +13,7 @@ use Rattle.sdd_steps.specs.State.{Has}
 use Rattle.sdd_steps.proofs.ListLemmas.{put, put_here, put_else, set_else, same_at}
 use Rattle.sdd_homes.specs.declared.Lease.{Lease}
 use Rattle.sdd_homes.specs.Book.{Content, part, home, Apart, Lends}
-use Rattle.sdd_homes.specs.Parts.{Parts, Full, Leased}
+use Rattle.sdd_homes.specs.Parts.{Full, Leased}
 use Rattle.sdd_homes.specs.Reasons.{Loads, Why}
 use Rattle.sdd_homes.specs.Lying.{Lying}
 use Rattle.sdd_homes.proofs.Leases.{Returns, lends_has, returns_last, end_apart, has_before, has_last}
@@ -23,7 +23,7 @@ use Rattle.sdd_homes.proofs.Totals.{home_in}
 use Rattle.sdd_domain.specs.Layout.{all_homes, all_extras}
 use Rattle.sdd_domain.specs.Items.{Grasps, Grip}
 use Rattle.sdd_domain.specs.Rule.{Shows}
-use Rattle.sdd_domain.specs.Plays.{own_home, CanKeep, keep_then}
+use Rattle.sdd_domain.specs.Plays.{CanKeep, keep_then}
 use Rattle.sdd_domain.specs.declared.board.Acting.{Acting}
 use Rattle.sdd_domain.specs.declared.board.Plan.{Plan}
 use Rattle.sdd_domain.proofs.Moves.{items_change, reads_only}

@@ -6,13 +6,13 @@ ghost use Rattle.sdd_steps.specs.Steps.{is_ready};
 ghost use Rattle.std.specs.VecDeque.{deque_capacity, deque_len};
 ghost use Rattle.sdd_homes.specs.declared.Lease.{Lease};
 ghost use Rattle.sdd_homes.specs.declared.Owner.{Owner};
-ghost use Rattle.sdd_homes.specs.Book.{Lends, part};
+ghost use Rattle.sdd_homes.specs.Book.{Lends, Apart, part};
 ghost use Rattle.sdd_domain.specs.Contents.{IsIn};
 ghost use Rattle.sdd_domain.specs.Fitting.{FitsSizes};
 ghost use Rattle.sdd_domain.specs.Leases.{row_told, lease_told, slots_in, all_below, IsFirst, HasReleased, HasEmptied, HasCloned};
 ghost use Rattle.sdd_domain.specs.declared.row.Row.{Row};
 ghost use Rattle.sdd_domain.specs.Views.{spent, holding};
-ghost use Rattle.sdd_domain.specs.Plays.{others_in, first_in, joined_by, cloning};
+ghost use Rattle.sdd_domain.specs.Plays.{others_in, first_in, joined_by, cloning, IsAlike};
 ghost use Rattle.sdd_domain.specs.declared.board.Home.{Home};
 
 use crate::board::{Acting, Home, Place, Stored, Words};
@@ -165,6 +165,7 @@ fn raise_owners<T>(
     ensures many { IsTrue result → 1 < parts }
     ensures raised { IsTrue result → (l : Lease) → Has place.old.me.0.leases l → l.slot ≡ slot → place.new.me ≡ (cloning l place.old.me.0, place.old.me.1) }
     ensures refused { IsFalse result → place.new.me ≡ place.old.me }
+    ensures alike { IsTrue result → (l : Lease) → Has place.old.me.0.leases l → l.slot ≡ slot → Apart place.old.me.0.leases × IsAlike l place.old.me.0 }
 {
     if parts < 2 {
         return false;
@@ -209,13 +210,14 @@ fn clone_home<T>(
     number: usize,
     slot: usize,
 ) -> Option<One<Stored<T>>>
-    requires table { FitsSizes words.now.table_id words.now.key.sizes place.old.table_id place.old.me.0.sizes sizes.now × (number < sizes.now.participants) × (slot < sizes.now.slots) }
+    requires table { FitsSizes words.now.table_id words.now.key.sizes place.old.table_id place.old.me.0.sizes sizes.now × (number < sizes.now.participants) }
     requires ready { (place.old.me.0.kind ≡ 1) × (place.old.me.0.number ≡ number) × (is_ready place.old.me.0.known ≡ true) × (place.old.me.0.releasing ≡ 0) }
     requires owner { (o : Owner) × (os : List Owner) × (place.old.me.0.hand ≡ o ∷ os) × (o.slot ≡ slot) }
     requires free { ¬ Lends place.old.me.0.leases slot }
     ensures seat { (place.new.table_id ≡ place.old.table_id) × (place.new.id ≡ place.old.id) }
-    ensures cloned { IfSome result (λ p. HasCloned place.old.me p.part.life.id place.old.me.0.leases place.new.me) }
+    ensures cloned { IfSome result (λ p. (ls : List Lease) × (map (λ (l : Lease). l.slot) ls ≡ map (λ (l : Lease). l.slot) place.old.me.0.leases) × HasCloned place.old.me p.part.life.id ls place.new.me) }
     ensures refused { IfNone result (place.new.me ≡ place.old.me) }
+    ensures leases { place.new.me.0.leases ≡ place.old.me.0.leases }
 {
     cells::begin_release(words, place);
     let home = slot * (sizes.participants + 1) + number;
@@ -227,4 +229,60 @@ fn clone_home<T>(
     }
     put_back(words, place, home, Home::Part(own, count));
     None
+}
+
+/// The same where the item is leased: the part is one of those of its row, which is `at`.
+fn clone_leased<T>(
+    words: &Words<T>,
+    place: &mut Place<T>,
+    sizes: &Sizes,
+    rows: &mut VecDeque<Row<T>>,
+    at: usize,
+    slot: usize,
+) -> Option<One<Stored<T>>>
+    requires table { FitsSizes words.now.table_id words.now.key.sizes place.old.table_id place.old.me.0.sizes sizes.now }
+    requires ready { (place.old.me.0.kind ≡ 1) × (is_ready place.old.me.0.known ≡ true) }
+    requires owner { (o : Owner) × (os : List Owner) × (place.old.me.0.hand ≡ o ∷ os) × (o.slot ≡ slot) }
+    requires rows { ((life : ℕ) × (map row_told rows.old.items ≡ map (lease_told life) place.old.me.0.leases)) × (all_below sizes.now.slots (slots_in rows.old.items) ≡ true) }
+    requires row { (at < deque_len rows.old) × ((d : Row T) → (slice_index_or rows.old.items at d).slot ≡ slot) }
+    ensures seat { (place.new.table_id ≡ place.old.table_id) × (place.new.id ≡ place.old.id) }
+    ensures cloned { IfSome result (λ p. (ls : List Lease) × (map (λ (l : Lease). l.slot) ls ≡ map (λ (l : Lease). l.slot) place.old.me.0.leases) × HasCloned place.old.me p.part.life.id ls place.new.me) }
+    ensures refused { IfNone result (place.new.me ≡ place.old.me) }
+    ensures rows { (life : ℕ) → map row_told rows.old.items ≡ map (lease_told life) place.old.me.0.leases → map row_told rows.new.items ≡ map (lease_told life) place.new.me.0.leases }
+    ensures same { (deque_capacity rows.new ≡ deque_capacity rows.old) × (slots_in rows.new.items ≡ slots_in rows.old.items) }
+{
+    let parts = rows[at].count;
+    if !raise_owners(words, place, sizes, slot, parts) {
+        return None;
+    }
+    match rows.get_mut(at) {
+        Some(row) => Some(row.give_one()),
+        None => unreachable!(),
+    }
+}
+
+/// Makes one more owner of the item of the first owner in hand, which is in `slot`, with one of the parts of participant
+/// `number`: that part is the answer, and both owners are in hand then.
+pub(crate) fn clone<T>(
+    words: &Words<T>,
+    place: &mut Place<T>,
+    sizes: &Sizes,
+    number: usize,
+    rows: &mut VecDeque<Row<T>>,
+    slot: usize,
+) -> Option<One<Stored<T>>>
+    requires table { FitsSizes words.now.table_id words.now.key.sizes place.old.table_id place.old.me.0.sizes sizes.now × (number < sizes.now.participants) }
+    requires ready { (place.old.me.0.kind ≡ 1) × (place.old.me.0.number ≡ number) × (is_ready place.old.me.0.known ≡ true) × (place.old.me.0.releasing ≡ 0) }
+    requires owner { (o : Owner) × (os : List Owner) × (place.old.me.0.hand ≡ o ∷ os) × (o.slot ≡ slot) }
+    requires rows { ((life : ℕ) × (map row_told rows.old.items ≡ map (lease_told life) place.old.me.0.leases)) × (all_below sizes.now.slots (slots_in rows.old.items) ≡ true) }
+    ensures seat { (place.new.table_id ≡ place.old.table_id) × (place.new.id ≡ place.old.id) }
+    ensures cloned { IfSome result (λ p. (ls : List Lease) × (map (λ (l : Lease). l.slot) ls ≡ map (λ (l : Lease). l.slot) place.old.me.0.leases) × HasCloned place.old.me p.part.life.id ls place.new.me) }
+    ensures refused { IfNone result (place.new.me ≡ place.old.me) }
+    ensures rows { (life : ℕ) → map row_told rows.old.items ≡ map (lease_told life) place.old.me.0.leases → map row_told rows.new.items ≡ map (lease_told life) place.new.me.0.leases }
+    ensures same { (deque_capacity rows.new ≡ deque_capacity rows.old) × (slots_in rows.new.items ≡ slots_in rows.old.items) }
+{
+    match row_of(rows, slot) {
+        Some(at) => clone_leased(words, place, sizes, rows, at, slot),
+        None => clone_home(words, place, sizes, number, slot),
+    }
 }
