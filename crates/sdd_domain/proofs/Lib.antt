@@ -24,6 +24,7 @@ pub mod Clones
 pub mod Releases
 pub mod Begins
 pub mod Begun
+pub mod Handed
 pub mod Crowds
 pub mod EndedReleases
 pub mod Fills
