@@ -12,6 +12,8 @@ mod items;
 #[cfg(test)]
 mod nested;
 #[cfg(test)]
+mod owners;
+#[cfg(test)]
 mod refusals;
 #[cfg(test)]
 mod threads;

@@ -25,12 +25,13 @@ use Rattle.sdd_steps.proofs.ListLemmas.{put, put_here, put_else}
 use Rattle.sdd_domain.specs.Layout.{slot_word}
 use Rattle.sdd_domain.specs.Items.{Grip}
 use Rattle.sdd_domain.specs.Rule.{Shows}
-use Rattle.sdd_domain.specs.Plays.{owner_of, cloning, clone_then}
+use Rattle.sdd_domain.specs.Plays.{owner_of, cloning, clone_then, IsAlike}
 use Rattle.sdd_domain.specs.declared.board.Acting.{Acting}
 use Rattle.sdd_domain.specs.declared.board.Plan.{Plan}
 use Rattle.sdd_domain.proofs.Taken as taken
 use Rattle.sdd_domain.proofs.Taken.{and_true}
 use Rattle.sdd_domain.proofs.Moves.{idles}
+use Rattle.sdd_domain.proofs.Releases.{same_item, same_round}
 use Rattle.sdd_domain.proofs.Stirred.{grip_set}
 use Rattle.sdd_domain.proofs.Recounts.{Recounts, waits_else, recounted_shown}
 
@@ -109,6 +110,14 @@ module _ (S : Type 0) (IsIn : Content → S → Type 0) (plan : Plan) where
         (recounted_shown S IsIn plan s r id l.slot l.item d it (raised it) at kind y.inside y.is f.here (recounted l.slot (l.count - 1) d.leases) (owner_of l ∷ d.hand) d.releasing d.waits share' out' r.book.what s.homes counted
         (taken.one r.state (RaiseOwners p l.item) (with_item r.state l.item (raised it)) raises))
 
+  -- an owner of the slot is one of the item that is leased
+  is_alike : (s : State S Acting) (r : Shows IsIn plan s) (id : ℕ) (d : Acting) (l : Lease) → get_elem? s.views id ≡ some d → d.kind ≡ 1 → is_ready d.known ≡ true → Has d.leases l → IsAlike l d
+  is_alike s r id d l at kind ready has o os first slot = λ j. record {
+    item = sym (same_item S IsIn plan s r id d l o os at kind ready has first slot) j;
+    slot = sym slot j;
+    round = sym (same_round S IsIn plan s r id d l o os at kind ready has first slot) j;
+  }
+
   pub makes_owner : (slots id count : ℕ) (me : Me S Acting) (l : Lease) → me.0.kind ≡ 1 → is_ready me.0.known ≡ true → Has me.0.leases l → 0 < l.count → 0 < count → count < 2 ^ 32 - 1
       → Allows (Shows IsIn plan) slots id me (slot_word plan.sizes l.slot) (λ k. either (eqb k (2 + count)) (3 + count) k) (clone_then (step slots (slot_word plan.sizes l.slot) (2 + count) (3 + count) none) me)
   makes_owner slots id count me l kind ready has left some_owner below s r _ at _ = let d = me.0 in let i : ℕ = slot_word plan.sizes l.slot in let k : ℕ = get_or s.words i 0 in let b = r.items.seats id d at kind in
@@ -119,12 +128,12 @@ module _ (S : Type 0) (IsIn : Content → S → Type 0) (plan : Plan) where
         keeps,
         tt,
         subst (λ h. Shows IsIn plan record { words = set s.words i (either h (3 + count) k); homes = s.homes; views = set s.views id (cloning l d) }) (sym (eq-eqb k (2 + count) hit)) (shown_clone s r id count d l at kind ready has left some_owner below hit),
-        λ e has_e w. ((λ _. ap (λ (z : Lease). (cloning z d, me.1)) (told e has_e w)), λ miss. absurd (miss hit)),
+        λ e has_e w. ((λ _. ap (λ (z : Lease). (cloning z d, me.1)) (told e has_e w)), (λ miss. absurd (miss hit)), once, is_alike s r id d e at kind ready has_e),
       ))
       (λ miss. (
         d,
         keeps,
         tt,
         subst (λ h. Shows IsIn plan record { words = set s.words i (either h (3 + count) k); homes = s.homes; views = set s.views id d }) (sym (ne_eqb k (2 + count) miss)) (idles S IsIn plan s r i id d at),
-        λ e _ _. ((λ hit. absurd (miss hit)), λ _. refl),
+        λ e has_e _. ((λ hit. absurd (miss hit)), (λ _. refl), once, is_alike s r id d e at kind ready has_e),
       ))

@@ -16,5 +16,9 @@ module _ {S V : Type 0} where
   pub came_out : (m : Me S V) (h i : ℕ) (u r : S) (xs : List (ℕ × S)) → m.1 ≡ (h, u) ∷ xs → m.1 ≡ (i, r) ∷ rest m.1 → r ≡ u
   came_out m h i u r xs is front = sym (ap (value_in u) (sym is ∙ front))
 
+  -- where it lies is where it was told to lie
+  pub came_from : (m : Me S V) (h i : ℕ) (u r : S) (xs : List (ℕ × S)) → m.1 ≡ (h, u) ∷ xs → m.1 ≡ (i, r) ∷ rest m.1 → i ≡ h
+  came_from m h i u r xs is front = sym (ap slot_in (sym is ∙ front))
+
   pub put_in : (m m' : Me S V) (h i : ℕ) (u r y : S) (xs : List (ℕ × S)) → m.1 ≡ (h, u) ∷ xs → m.1 ≡ (i, r) ∷ rest m.1 → m' ≡ (m.0, (i, y) ∷ rest m.1) → m' ≡ (m.0, (h, y) ∷ xs)
-  put_in m m' h i u r y xs is front new = let same : i ≡ h = sym (ap slot_in (sym is ∙ front)) in new ∙ (λ j. (m.0, (same j, y) ∷ ap rest is j))
+  put_in m m' h i u r y xs is front new = let same = came_from m h i u r xs is front in new ∙ (λ j. (m.0, (same j, y) ∷ ap rest is j))

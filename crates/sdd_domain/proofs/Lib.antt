@@ -23,6 +23,8 @@ pub mod Recounts
 pub mod Clones
 pub mod Releases
 pub mod Begins
+pub mod Begun
+pub mod Handed
 pub mod Crowds
 pub mod EndedReleases
 pub mod Fills

@@ -148,7 +148,7 @@ module _ (S : Type 0) (IsIn : Content → S → Type 0) (plan : Plan) where
     pub waits_fit : length d.waits < d.sizes.slots
     waits_fit = subst (λ (z : Sizes). length d.waits < z.slots) (sym (r.items.seats id d at kind).sizes_are) (fewer_wait S IsIn plan s r id d o at kind in_hand)
 
-    same_round : o.round ≡ l.round
+    pub same_round : o.round ≡ l.round
     same_round = let w = r.items.owners id d o at in_hand in let one = same_at r.state.items l.item w.0 it (subst (λ m. At r.state.items m w.0) same_item w.1) f.here in sym w.2 ∙ (ap (λ (z : Item). z.value) one ∙ y.round it f.here)
 
     module _ (idle : d.releasing ≡ 0) where

@@ -68,6 +68,14 @@ module _ {T : Type 0} (life : ℕ) where
         λ j. (first ∙ λ i. (l.slot, l.round, ap (λ b. cond b c l.count) (sym (ne_eqb l.slot k other)) i, life)) j ∷ f.recounts k c x at once.1 new j;
   }
 
+-- the lease of a row is of the row's slot
+module _ {T : Type 0} (life : ℕ) (rows : List (Row T)) (ls : List Lease) (i k : ℕ) (f : RowAt life rows ls i) (is : (d : Row T) → (slice_index_or rows i d).slot ≡ k) where
+  pub at_slot : f.lease.slot ≡ k
+  at_slot = ap (λ (t : ℕ × ℕ × ℕ × ℕ). t.0) (sym f.told) ∙ (ap (λ (r : Row T). r.slot) (sym (f.is f.row)) ∙ is f.row)
+
+  pub inside : map row_told rows ≡ map (lease_told life) ls → (n : ℕ) → all_below n (row_slots rows) ≡ true → k < n
+  inside told n below = let there = subst (λ ks. Has ks f.lease.slot) (sym (slots_told life rows ls told)) (has_slot ls f.lease f.has) in subst (λ z. z < n) at_slot (is_below n (row_slots rows) f.lease.slot below there)
+
 -- where homes lie is told by slots alone
 pub same_homes : (d : Acting) (ls ks : List Lease) → map (λ (l : Lease). l.slot) ls ≡ map (λ (l : Lease). l.slot) ks → leased_homes d ls ≡ leased_homes d ks
 same_homes d [] [] e = refl

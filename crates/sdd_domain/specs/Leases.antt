@@ -1,5 +1,5 @@
 -- what a participant has leased, as its rows tell
-use Rattle.std.specs.Prelude.{◌≡◌, ℕ, ◌<◌, Bool, true, false, ◌==◌, ◌&&◌, List, [], ◌∷◌, map, nat_lt, Option, None, Some}
+use Rattle.std.specs.Prelude.{◌≡◌, ℕ, suc, ◌<◌, ◌++◌, Bool, true, false, ◌==◌, ◌&&◌, List, [], ◌∷◌, map, nat_lt, Option, None, Some}
 use Rattle.parted.specs.declared.life.Life.{Life}
 use Rattle.sdd_homes.specs.declared.Lease.{Lease}
 use Rattle.atomic_table.specs.Table.{Me}
@@ -8,6 +8,8 @@ use Rattle.sdd_homes.specs.declared.Owner.{Owner}
 use Rattle.sdd_homes.specs.declared.Garbage.{Garbage}
 use Rattle.sdd_domain.specs.Plays.{own_home}
 use Rattle.sdd_domain.specs.declared.board.Acting.{Acting}
+use Rattle.sdd_domain.specs.declared.board.Home.{Home}
+use Rattle.sdd_domain.specs.declared.board.Home.TheVariants.{Blank}
 use Rattle.sdd_domain.specs.declared.row.Row.{Row}
 
 -- the number of the life that open guards have tokens of, if any is open
@@ -55,3 +57,11 @@ HasReleased k left m ls m' = (o : Owner) (os : List Owner) → m.0.hand ≡ o �
 -- something may have been loaded under the open guard, and leased
 abbrev pub HasLeased : {S : Type 0} → Me S Acting → Me S Acting → Type 0
 HasLeased m m' = (hs : List Loaded) × (ls : List Lease) × (m'.0 ≡ record m.0 { known = record m.0.known { loaded = hs }; leases = ls })
+
+-- the home of an item that is cloned, where its lease is the last one, is in front of what is out with the seat, and is empty
+abbrev pub HasEmptied : {T : Type 0} → Me (Home T) Acting → ℕ → Lease → List Lease → List (ℕ × Home T) → Type 0
+HasEmptied m at l ls tail = (m.0.leases ≡ ls ++ l ∷ []) × (m.0.releasing ≡ suc l.item) × (at ≡ own_home m.0 l.slot) × (m.1 ≡ (at, Blank) ∷ tail)
+
+-- the first owner in hand, of an item of the round r, is there twice now; the leases are these now
+abbrev pub HasCloned : {S : Type 0} → Me S Acting → ℕ → List Lease → Me S Acting → Type 0
+HasCloned m r ls m' = (o : Owner) (os : List Owner) → m.0.hand ≡ o ∷ os → (o.round ≡ r) × (m' ≡ (record m.0 { hand = o ∷ o ∷ os; leases = ls }, m.1))

@@ -159,9 +159,13 @@ owner_of l = record { item = l.item; slot = l.slot; round = l.round }
 abbrev pub cloning : Lease → Acting → Acting
 cloning l d = record d { leases = recounted l.slot (l.count - 1) d.leases; hand = owner_of l ∷ d.hand }
 
+-- the first owner in hand is the one that the lease makes, if it is of the same slot
+abbrev pub IsAlike : Lease → Acting → Type 0
+IsAlike l d = (o : Owner) (os : List Owner) → d.hand ≡ o ∷ os → o.slot ≡ l.slot → owner_of l ≡ o
+
 -- where the word of a slot was the one given, its item has one more owner
 abbrev pub clone_then : {S : Type 0} → Step S → Me S Acting → ℕ → Me S Acting → Type 0
-clone_then t m n m' = (l : Lease) → Has m.0.leases l → t.word ≡ slot_word m.0.sizes l.slot → (n ≡ t.first → m' ≡ (cloning l m.0, m.1)) × (n ≢ t.first → m' ≡ m)
+clone_then t m n m' = (l : Lease) → Has m.0.leases l → t.word ≡ slot_word m.0.sizes l.slot → (n ≡ t.first → m' ≡ (cloning l m.0, m.1)) × (n ≢ t.first → m' ≡ m) × Apart m.0.leases × IsAlike l m.0
 
 -- the item of this owner was just retired
 abbrev pub just_retired : Owner → Garbage

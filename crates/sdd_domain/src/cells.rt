@@ -9,7 +9,7 @@ ghost use Rattle.sdd_steps.specs.State.{Has};
 ghost use Rattle.sdd_domain.specs.Fitting.{FitsSlot, FitsCell};
 ghost use Rattle.sdd_domain.specs.Contents.{IsIn};
 ghost use Rattle.sdd_domain.specs.Layout.{claim_word, all_words, IsSized};
-ghost use Rattle.sdd_domain.specs.Plays.{Scans, load_then, HasLoaded, CanClose, ending, end_all_then, Brings, GetsBack, swap_then, cloning, clone_then, releasing_one, release_then, HasBegun, begin_then, CanEnd, ended_release, end_release_then, CanKeep, keep_then, exchange_then};
+ghost use Rattle.sdd_domain.specs.Plays.{Scans, load_then, HasLoaded, CanClose, ending, end_all_then, Brings, GetsBack, swap_then, cloning, IsAlike, clone_then, releasing_one, release_then, HasBegun, begin_then, CanEnd, ended_release, end_release_then, CanKeep, keep_then, exchange_then};
 ghost use Rattle.sdd_domain.specs.declared.board.Home.{Home};
 
 use crate::board::{Acting, Home, Place, Words};
@@ -148,6 +148,7 @@ pub(crate) fn clone_owner<T>(
     ensures seat { (place.new.table_id ≡ place.old.table_id) × (place.new.id ≡ place.old.id) }
     ensures cloned { IsTrue result → (l : Lease) → Has place.old.me.0.leases l → l.slot ≡ slot → place.new.me ≡ (cloning l place.old.me.0, place.old.me.1) }
     ensures refused { IsFalse result → place.new.me ≡ place.old.me }
+    ensures alike { (l : Lease) → Has place.old.me.0.leases l → l.slot ≡ slot → Apart place.old.me.0.leases × IsAlike l place.old.me.0 }
 {
     words.compare_exchange::<OnClone>(
         place,

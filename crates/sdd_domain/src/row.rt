@@ -1,6 +1,6 @@
 //! One item that a participant has leased: its parts of it, one of which is lent to the life of its open guards.
 
-ghost use Rattle.std.specs.Prelude.{◌≡◌, ◌+◌, ◌^◌, ◌<◌, ◌≤◌, IsSome, IsNone};
+ghost use Rattle.std.specs.Prelude.{◌≡◌, ◌+◌, ◌-◌, ◌^◌, ◌<◌, ◌≤◌, IsSome, IsNone};
 ghost use Rattle.std.specs.Option.{ForNone, ForSome};
 
 use crate::board::Stored;
@@ -70,6 +70,24 @@ impl<T> Row<T> {
         };
         none_there(self.rest.replace(all));
         self.count += 1;
+    }
+
+    /// Takes one of the parts for an owner.
+    pub(crate) fn give_one(&mut self) -> One<Stored<T>>
+        requires { 1 < self.old.count }
+        ensures row { row_told self.new ≡ (self.old.slot, self.old.lent.pledge.id, self.old.count - 1, self.old.lent.pledge.until) }
+        ensures part { result.part.life.id ≡ self.old.lent.pledge.id }
+    {
+        let Some(mut rest) = self.rest.take() else {
+            unreachable!()
+        };
+        self.count -= 1;
+        if self.count == 1 {
+            return One::from_part(rest);
+        }
+        let one = rest.split_one();
+        none_there(self.rest.replace(rest));
+        One::from_part(one)
     }
 
     /// All the parts, once the life is over.

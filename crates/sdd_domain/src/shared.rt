@@ -8,7 +8,7 @@ ghost use Rattle.sdd_homes.specs.declared.Owner.{Owner};
 use crate::board::{Acting, Stored};
 use crate::domain::Domain;
 use crate::local::Local;
-use crate::owners::{part_with, release, take_in};
+use crate::owners::{clone, part_with, release, take_in};
 use crate::placing::place_item;
 use calm::Calm;
 use parted::One;
@@ -40,7 +40,7 @@ impl<T> Shared<T> {
         let Local { place, next, .. } = local;
         let (slot, part) = place_item(domain.words(), place, &domain.sizes, *next, item)?;
         *next = slot + 1;
-        let seat = Calm::new(part_with(domain.words(), place));
+        let seat = part_with(domain.words(), place);
         Ok(Shared { slot, part, seat })
     }
 
@@ -51,6 +51,51 @@ impl<T> Shared<T> {
         match self.part.get() {
             Some(item) => item,
             None => unreachable!(),
+        }
+    }
+
+    /// One more owner of the item, beside this one: in Rust that is `clone(&self)`. This one alone is back where the item
+    /// has `2^32 - 1` owners, or where the participant has only one part of it. It tries again where other threads change
+    /// the count of owners at that moment. It takes no memory.
+    pub fn clone(
+        self,
+        domain: &Domain<T>,
+        local: &mut Local<T>,
+    ) -> Result<(Shared<T>, Shared<T>), Shared<T>>
+        requires home { home_of local.old ≡ place_of domain.now }
+        requires mine { kept_in self ≡ (place_of domain.now).0 }
+        ensures home { IfOk result (λ both. (kept_in both.0 ≡ kept_in self) × (kept_in both.1 ≡ kept_in self)) }
+        ensures item { IfOk result (λ both. (x : T) → IsOwnerOf self x → IsOwnerOf both.0 x × IsOwnerOf both.1 x) }
+        ensures back { IfErr result (λ back. (kept_in back ≡ kept_in self) × ((x : T) → IsOwnerOf self x → IsOwnerOf back x)) }
+        ensures same { IsInNest local.old local.new × (own_of local.new ≡ own_of local.old) × (born_of local.new ≡ born_of local.old) × (waiting_of local.new ≡ waiting_of local.old) }
+    {
+        let Shared { slot, part, seat } = self;
+        let Local {
+            place,
+            number,
+            rows,
+            ..
+        } = local;
+        take_in(domain.words(), place, seat);
+        match clone(domain.words(), place, &domain.sizes, *number, rows, slot) {
+            Some(more) => {
+                let seat = part_with(domain.words(), place);
+                let other = part_with(domain.words(), place);
+                let like = One::from_part(part.part.like(more.into_part()));
+                let both = Shared { slot, part, seat };
+                Ok((
+                    both,
+                    Shared {
+                        slot,
+                        part: like,
+                        seat: other,
+                    },
+                ))
+            }
+            None => {
+                let seat = part_with(domain.words(), place);
+                Err(Shared { slot, part, seat })
+            }
         }
     }
 
@@ -73,7 +118,7 @@ impl<T> Shared<T> {
             rows,
             ..
         } = local;
-        take_in(domain.words(), place, seat.into_badge());
+        take_in(domain.words(), place, seat);
         let left = release(
             domain.words(),
             place,

@@ -18,7 +18,6 @@ use crate::cells::swap;
 use crate::homes::{let_go, parts_of};
 use crate::owners::{part_with, take_in};
 use crate::shared::Shared;
-use calm::Calm;
 use parted::One;
 use sdd_base::sizes::Sizes;
 
@@ -50,7 +49,7 @@ pub(crate) fn bring<T>(
         return spare;
     };
     let Shared { slot, part, seat } = owner;
-    take_in(words, place, seat.into_badge());
+    take_in(words, place, seat);
     let at = spare_at(sizes, spare);
     let_go(words.exchange(place, at, Home::Part(part.into_part(), 1)));
     spare + (1 << 33) * (slot as u64 + 1)
@@ -79,7 +78,7 @@ pub(crate) fn take_back<T>(
     }
     let at = spare_at(sizes, spare);
     let (part, _) = parts_of(words.exchange(place, at, Home::Blank));
-    let seat = Calm::new(part_with(words, place));
+    let seat = part_with(words, place);
     let owner = Shared {
         slot: code as usize - 1,
         part: One::from_part(part),

@@ -10,7 +10,8 @@ use Rattle.sdd_domain.specs.Plays.{own_home, HasBegun, CanEnd, ended_release, ju
 use Rattle.sdd_domain.specs.declared.board.Acting.{Acting}
 use Rattle.sdd_domain.specs.declared.board.Home.{Home}
 use Rattle.sdd_domain.specs.declared.board.Home.TheVariants.{Blank, Part}
-use Rattle.sdd_domain.proofs.Fronts.{came_out, put_in}
+use Rattle.sdd_domain.proofs.Begun.{had, emptied}
+use Rattle.sdd_domain.proofs.Fronts.{put_in}
 use Rattle.sdd_domain.proofs.owners.release_home.Goals as goal
 
 -- the participant's home came out, and its parts
@@ -27,19 +28,10 @@ module _ {T : Type 0} (m0 m1 : Me (Home T) Acting) (o : Owner) (begun : HasBegun
   abbrev begun' : Acting
   begun' = record m0.0 { leases = m0.0.leases ++ l ∷ []; releasing = suc o.item }
 
-  out : m1.1 ≡ (at, begun.1) ∷ m0.1
-  out = ap (λ (t : Me (Home T) Acting). t.1) begun.5
-
-  had : IsIn (part o.round n) r
-  had = subst (IsIn (part o.round n)) (sym (came_out m1 at i begun.1 r m0.1 out front)) begun.2
-
   -- they are back, and those of the owner with them
   module _ (m2 m3 : Me (Home T) Acting) (i' : ℕ) (r' b y : Home T) (first : m2 ≡ (m1.0, (i, b) ∷ rest m1.1)) (front' : m2.1 ≡ (i', r') ∷ rest m2.1) (second : m3 ≡ (m2.0, (i', y) ∷ rest m2.1)) where
-    emptied : m2 ≡ (begun', (at, b) ∷ m0.1)
-    emptied = put_in m1 m2 at i begun.1 r b m0.1 out front first ∙ ap (λ (t : Me (Home T) Acting). (t.0, (at, b) ∷ m0.1)) begun.5
-
     joined : m3 ≡ (begun', (at, y) ∷ m0.1)
-    joined = put_in m2 m3 at i' b r' y m0.1 (ap (λ (t : Me (Home T) Acting). t.1) emptied) front' second ∙ ap (λ (t : Me (Home T) Acting). (t.0, (at, y) ∷ m0.1)) emptied
+    joined = put_in m2 m3 at i' b r' y m0.1 (ap (λ (t : Me (Home T) Acting). t.1) (emptied m0 m1 o begun i r front m2 b first)) front' second ∙ ap (λ (t : Me (Home T) Acting). (t.0, (at, y) ∷ m0.1)) (emptied m0 m1 o begun i r front m2 b first)
 
     can : (os : List Owner) → m0.0.hand ≡ o ∷ os → IsIn (part o.round (n + 1)) y → CanEnd IsIn m3 l m0.0.leases o os m0.1
     can os first is_in = subst (λ m. CanEnd IsIn m l m0.0.leases o os m0.1) (sym joined) (refl, first, refl, refl, (y, is_in, refl))

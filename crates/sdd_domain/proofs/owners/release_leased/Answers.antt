@@ -1,27 +1,15 @@
-use Rattle.std.proofs.Common.{◌≡◌, ◌<◌, ◌≤◌, ℕ, ◌+◌, cond, true, length, List, ◌∷◌, map, slice_index_or, slice_set, ne_eqb, sym, refl, ap, ◌∙◌, subst, arith}
+use Rattle.std.proofs.Common.{◌≡◌, ◌<◌, ◌≤◌, ℕ, ◌+◌, cond, length, List, ◌∷◌, map, slice_set, ne_eqb, sym, refl, ap, ◌∙◌, subst, arith}
 use Rattle.sdd_base.specs.declared.sizes.Sizes.{Sizes}
-use Rattle.sdd_steps.specs.State.{Has}
 use Rattle.sdd_homes.specs.declared.Garbage.{Garbage}
 use Rattle.sdd_homes.specs.declared.Lease.{Lease}
 use Rattle.sdd_homes.specs.declared.Owner.{Owner}
 use Rattle.sdd_homes.specs.Book.{recounted}
-use Rattle.sdd_domain.specs.Leases.{row_told, lease_told, row_slots, all_below}
+use Rattle.sdd_domain.specs.Leases.{row_told, lease_told}
 use Rattle.sdd_domain.specs.Layout.{all_words}
 use Rattle.sdd_domain.specs.Plays.{retiring}
 use Rattle.sdd_domain.specs.declared.board.Acting.{Acting}
-use Rattle.sdd_domain.specs.declared.row.Row.{Row}
-use Rattle.sdd_domain.proofs.Rows.{RowAt, row_at, slots_told, has_slot, is_below, recounted_slots}
+use Rattle.sdd_domain.proofs.Rows.{row_at, at_slot, inside, slots_told, recounted_slots}
 use Rattle.sdd_domain.proofs.owners.release_leased.Goals as goal
-
--- the lease of the row
-module _ {T : Type 0} (life : ℕ) (rows : List (Row T)) (ls : List Lease) (i k : ℕ) (f : RowAt life rows ls i) (is : (d : Row T) → (slice_index_or rows i d).slot ≡ k) where
-  at_slot : f.lease.slot ≡ k
-  at_slot = ap (λ (t : ℕ × ℕ × ℕ × ℕ). t.0) (sym f.told) ∙ (ap (λ (r : Row T). r.slot) (sym (f.is f.row)) ∙ is f.row)
-
--- what stands before the step
-module _ {T : Type 0} (life : ℕ) (rows : List (Row T)) (ls : List Lease) (i k : ℕ) (f : RowAt life rows ls i) (is : (d : Row T) → (slice_index_or rows i d).slot ≡ k) (told : map row_told rows ≡ map (lease_told life) ls) where
-  inside : (n : ℕ) → all_below n (row_slots rows) ≡ true → k < n
-  inside n below = let there = subst (λ ks. Has ks f.lease.slot) (sym (slots_told life rows ls told)) (has_slot ls f.lease f.has) in subst (λ z. z < n) (at_slot life rows ls i k f is) (is_below n (row_slots rows) f.lease.slot below there)
 
 pub release_owner-left-requires-clause-table : goal.release_owner-left-requires-clause-table
 release_owner-left-requires-clause-table g c = let t = c.requires.table in let r = c.requires.rows in let rows = c.args.rows.now.items in let ls = c.args.place.now.me.0.leases in let low = c.requires.row.0 in let long = c.args.rows.now.ok.0 in let f = row_at r.0.0 rows ls c.args.at r.0.1 (omega arith) in

@@ -39,8 +39,8 @@ pub parts_of-part-requires : goal.parts_of-part-requires
 parts_of-part-requires g c = let r = c.requires.back in let m1 = c.args.place.now.me in let k = back c.args.word r.0 m1 r.1 c.if-code-eq0.false r.2 in let e = c.exchange.ensures in
     (k.owner.round, 1, subst (IsIn (part k.owner.round 1)) (sym (came_out m1 (own_spare r.0.0 (c.args.word % 8589934592)) c.spare_at-at.result k.value c.exchange.result r.1 (ap (λ (z : Me _ Acting). z.1) k.me) e.2)) k.is)
 
-pub part_with-requires-clause-owner : goal.part_with-requires-clause-owner
-part_with-requires-clause-owner g c = let r = c.requires.back in let m1 = c.args.place.now.me in let k = back c.args.word r.0 m1 r.1 c.if-code-eq0.false r.2 in (k.owner, [], ap (λ (z : Me _ Acting). z.0.hand) c.exchange.ensures.3 ∙ ap (λ (z : Me _ Acting). z.0.hand) k.me)
+pub part_with-seat-requires-clause-owner : goal.part_with-seat-requires-clause-owner
+part_with-seat-requires-clause-owner g c = let r = c.requires.back in let m1 = c.args.place.now.me in let k = back c.args.word r.0 m1 r.1 c.if-code-eq0.false r.2 in (k.owner, [], ap (λ (z : Me _ Acting). z.0.hand) c.exchange.ensures.3 ∙ ap (λ (z : Me _ Acting). z.0.hand) k.me)
 
 pub from_part-requires : goal.from_part-requires
 from_part-requires g c = let r = c.requires.back in let m1 = c.args.place.now.me in let k = back c.args.word r.0 m1 r.1 c.if-code-eq0.false r.2 in let e = c.exchange.ensures in
@@ -49,7 +49,7 @@ from_part-requires g c = let r = c.requires.back in let m1 = c.args.place.now.me
 pub invariant_of-owner : goal.invariant_of-owner
 invariant_of-owner g c = let r = c.requires.back in let m1 = c.args.place.now.me in let k = back c.args.word r.0 m1 r.1 c.if-code-eq0.false r.2 in let e = c.exchange.ensures in let o : Owner = k.owner in let slot : o.slot ≡ c.args.word / 8589934592 - 1 = (let z = k.slot in omega arith) in let small = c.ranges.word.fits in
     let p = c.parts_of-part.ensures o.round 1 (subst (IsIn (part o.round 1)) (sym (came_out m1 (own_spare r.0.0 (c.args.word % 8589934592)) c.spare_at-at.result k.value c.exchange.result r.1 (ap (λ (z : Me _ Acting). z.1) k.me) e.2)) k.is) in
-    let hand : c.exchange.new.seat.me.0.hand ≡ o ∷ [] = ap (λ (z : Me _ Acting). z.0.hand) e.3 ∙ ap (λ (z : Me _ Acting). z.0.hand) k.me in let views : c.new-seat.result.badge.views ≡ holding o ∷ [] = ap (λ (b : Badge Acting). b.views) c.new-seat.ensures ∙ (c.part_with.ensures.owner.1 ∙ ap (λ hs. record spent { kind = 3; hand = take 1 hs } ∷ []) hand) in let part_is = c.from_part.ensures in record {
+    let hand : c.exchange.new.seat.me.0.hand ≡ o ∷ [] = ap (λ (z : Me _ Acting). z.0.hand) e.3 ∙ ap (λ (z : Me _ Acting). z.0.hand) k.me in let views : c.part_with-seat.result.badge.views ≡ holding o ∷ [] = c.part_with-seat.ensures.owner.1 ∙ ap (λ hs. record spent { kind = 3; hand = take 1 hs } ∷ []) hand in let part_is = c.from_part.ensures in record {
       owns = views ∙ λ j. holding (record { item = item_in (sym views j); slot = slot j; round = (sym p.0 ∙ sym (ap (λ q. q.life.id) part_is)) j }) ∷ [];
       there = subst (λ q. IsSome q.seen.value) (sym part_is) p.4;
       low = omega arith;

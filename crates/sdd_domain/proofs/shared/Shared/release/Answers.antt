@@ -9,51 +9,36 @@ use Rattle.sdd_homes.specs.declared.Owner.{Owner}
 use Rattle.sdd_domain.specs.Bags.{ages, Waits}
 use Rattle.sdd_domain.specs.Contents.{is_blank}
 use Rattle.sdd_domain.specs.Layout.{claim_word}
-use Rattle.sdd_domain.specs.Leases.{row_told, lease_told, life_number, leased_homes, has_all, row_slots, all_below, HasReleased}
-use Rattle.sdd_domain.specs.Owners.{item_in}
+use Rattle.sdd_domain.specs.Leases.{life_number, leased_homes, has_all, row_slots, all_below, HasReleased}
 use Rattle.sdd_domain.specs.Plays.{own_spare, own_bag}
 use Rattle.sdd_domain.specs.Views.{holding}
 use Rattle.sdd_domain.specs.declared.board.Acting.{Acting}
 use Rattle.sdd_domain.specs.declared.board.Home.{Home}
 use Rattle.sdd_domain.specs.declared.local.Local.{Local}
 use Rattle.sdd_domain.specs.declared.shared.Shared.{Shared}
+use Rattle.sdd_domain.proofs.Handed.{owner, mine, first, told, same_slots}
 use Rattle.sdd_domain.proofs.Rows.{same_homes, none_same}
 use Rattle.sdd_domain.proofs.shared.Shared.release.Goals as goal
-
-abbrev owner : {T : Type 0} → Shared T → Owner
-owner s = record { item = item_in s.seat.badge.views; slot = s.slot; round = s.part.part.life.id }
 
 module _ {T : Type 0} (l : Local T) (s : Shared T) (m1 : Me (Home T) Acting) (taken : (o : Owner) → s.seat.badge.views ≡ holding o ∷ [] → m1 ≡ (record l.place.me.0 { hand = o ∷ l.place.me.0.hand }, l.place.me.1)) where
   abbrev d : Acting
   d = l.place.me.0
 
-  mine : m1 ≡ (record d { hand = owner s ∷ d.hand }, l.place.me.1)
-  mine = taken (owner s) s.owns
-
-  first : m1.0.hand ≡ owner s ∷ []
-  first = ap (λ (z : Me (Home T) Acting). z.0.hand) mine ∙ ap (λ os. owner s ∷ os) l.acts.5
-
-  told : (life : ℕ) → map row_told l.rows.items ≡ map (lease_told life) d.leases → map row_told l.rows.items ≡ map (lease_told life) m1.0.leases
-  told life e = e ∙ sym (ap (λ (z : Me (Home T) Acting). map (lease_told life) z.0.leases) mine)
-
-  same_slots : (ls : List Lease) → map (λ (x : Lease). x.slot) ls ≡ map (λ (x : Lease). x.slot) m1.0.leases → map (λ (x : Lease). x.slot) ls ≡ map (λ (x : Lease). x.slot) d.leases
-  same_slots ls e = e ∙ ap (λ (z : Me (Home T) Acting). map (λ (x : Lease). x.slot) z.0.leases) mine
-
   -- the owner is gone, with what waits behind it
   module _ (left : ℕ) (m2 : Me (Home T) Acting) (ls : List Lease) (is : map (λ (x : Lease). x.slot) ls ≡ map (λ (x : Lease). x.slot) m1.0.leases) (released : HasReleased s.slot left m1 ls m2) where
     kept : 0 < left → m2 ≡ (record d { hand = []; leases = ls }, l.place.me.1)
-    kept more = (released (owner s) [] first).0 more ∙ ap (λ (z : Me (Home T) Acting). (record z.0 { hand = []; leases = ls }, z.1)) mine
+    kept more = (released (owner s) [] (first l s m1 taken)).0 more ∙ ap (λ (z : Me (Home T) Acting). (record z.0 { hand = []; leases = ls }, z.1)) (mine l s m1 taken)
 
     retired : left ≡ 0 → (w : Garbage) × (w.slot ≡ s.slot) × (w.age ≡ 0) × (m2 ≡ (record d { hand = []; leases = ls; waits = w ∷ d.waits }, l.place.me.1))
-    retired none = let r = (released (owner s) [] first).1 none in (r.0, r.1, r.2, r.3 ∙ ap (λ (z : Me (Home T) Acting). (record z.0 { hand = []; leases = ls; waits = r.0 ∷ z.0.waits }, z.1)) mine)
+    retired none = let r = (released (owner s) [] (first l s m1 taken)).1 none in (r.0, r.1, r.2, r.3 ∙ ap (λ (z : Me (Home T) Acting). (record z.0 { hand = []; leases = ls; waits = r.0 ∷ z.0.waits }, z.1)) (mine l s m1 taken))
 
     module _ (ws : List Garbage) (all : m2 ≡ (record d { hand = []; leases = ls; waits = ws }, l.place.me.1)) where
       spare_there : has_all is_blank (own_spare m2.0 l.spare ∷ own_bag m2.0 ∷ leased_homes m2.0 m2.0.leases) m2.1 ≡ true
       spare_there = subst (λ (z : Me (Home T) Acting). has_all is_blank (own_spare z.0 l.spare ∷ own_bag z.0 ∷ leased_homes z.0 z.0.leases) z.1 ≡ true) (sym all)
-          (ap (λ ks. has_all is_blank (own_spare d l.spare ∷ own_bag d ∷ ks) l.place.me.1) (same_homes d ls d.leases (same_slots ls is)) ∙ l.has_spare.2)
+          (ap (λ ks. has_all is_blank (own_spare d l.spare ∷ own_bag d ∷ ks) l.place.me.1) (same_homes d ls d.leases (same_slots l s m1 taken ls is)) ∙ l.has_spare.2)
 
 pub invariant_of-local : goal.invariant_of-local
-invariant_of-local g c = let l = c.args.local.now in let d = l.place.me.0 in let s = c.args.self in let m1 = c.take_in.new.place.me in let m2 = c.release-left.new.place.me in let taken = (λ (o : Owner) (e : s.seat.badge.views ≡ holding o ∷ []). c.take_in.ensures.taken o (ap (λ (b : Badge Acting). b.views) c.into_badge.ensures ∙ e)) in let r = c.release-left.ensures.released in let rows = c.release-left.new.rows in
+invariant_of-local g c = let l = c.args.local.now in let d = l.place.me.0 in let s = c.args.self in let m1 = c.take_in.new.place.me in let m2 = c.release-left.new.place.me in let taken = c.take_in.ensures.taken in let r = c.release-left.ensures.released in let rows = c.release-left.new.rows in
     let all = kept l s m1 taken c.release-left.result m2 r.0 r.1 r.2 c.if-left-gt0.true in let table = c.release-left.ensures.seat.0 ∙ c.take_in.ensures.seat.0 in record {
       acts = (
         ap (λ (z : Me _ Acting). z.0.kind) all ∙ l.acts.0,
@@ -81,7 +66,7 @@ invariant_of-local g c = let l = c.args.local.now in let d = l.place.me.0 in let
     }
 
 pub invariant_of-local-2 : goal.invariant_of-local-2
-invariant_of-local-2 g c = let l = c.args.local.now in let d = l.place.me.0 in let s = c.args.self in let m1 = c.take_in.new.place.me in let m2 = c.release-left.new.place.me in let taken = (λ (o : Owner) (e : s.seat.badge.views ≡ holding o ∷ []). c.take_in.ensures.taken o (ap (λ (b : Badge Acting). b.views) c.into_badge.ensures ∙ e)) in let r = c.release-left.ensures.released in let rows = c.release-left.new.rows in
+invariant_of-local-2 g c = let l = c.args.local.now in let d = l.place.me.0 in let s = c.args.self in let m1 = c.take_in.new.place.me in let m2 = c.release-left.new.place.me in let taken = c.take_in.ensures.taken in let r = c.release-left.ensures.released in let rows = c.release-left.new.rows in
     let none : c.release-left.result ≡ 0 = (let more = c.if-left-gt0.false in omega arith) in let w = retired l s m1 taken c.release-left.result m2 r.0 r.1 r.2 none in let bags = c.retire.new.self in let all = w.3 in let table = c.release-left.ensures.seat.0 ∙ c.take_in.ensures.seat.0 in record {
       acts = (
         ap (λ (z : Me _ Acting). z.0.kind) all ∙ l.acts.0,

@@ -1,0 +1,31 @@
+-- an owner that came into the hand of a participant
+use Rattle.std.proofs.Common.{◌≡◌, ℕ, List, [], ◌∷◌, map, ap, sym, ◌∙◌}
+use Rattle.atomic_table.specs.Table.{Me}
+use Rattle.sdd_homes.specs.declared.Lease.{Lease}
+use Rattle.sdd_homes.specs.declared.Owner.{Owner}
+use Rattle.sdd_domain.specs.Leases.{row_told, lease_told}
+use Rattle.sdd_domain.specs.Owners.{item_in}
+use Rattle.sdd_domain.specs.Views.{holding}
+use Rattle.sdd_domain.specs.declared.board.Acting.{Acting}
+use Rattle.sdd_domain.specs.declared.board.Home.{Home}
+use Rattle.sdd_domain.specs.declared.local.Local.{Local}
+use Rattle.sdd_domain.specs.declared.shared.Shared.{Shared}
+
+abbrev pub owner : {T : Type 0} → Shared T → Owner
+owner s = record { item = item_in s.seat.badge.views; slot = s.slot; round = s.part.part.life.id }
+
+module _ {T : Type 0} (l : Local T) (s : Shared T) (m1 : Me (Home T) Acting) (taken : (o : Owner) → s.seat.badge.views ≡ holding o ∷ [] → m1 ≡ (record l.place.me.0 { hand = o ∷ l.place.me.0.hand }, l.place.me.1)) where
+  abbrev pub d : Acting
+  d = l.place.me.0
+
+  pub mine : m1 ≡ (record d { hand = owner s ∷ d.hand }, l.place.me.1)
+  mine = taken (owner s) s.owns
+
+  pub first : m1.0.hand ≡ owner s ∷ []
+  first = ap (λ (z : Me (Home T) Acting). z.0.hand) mine ∙ ap (λ os. owner s ∷ os) l.acts.5
+
+  pub told : (life : ℕ) → map row_told l.rows.items ≡ map (lease_told life) d.leases → map row_told l.rows.items ≡ map (lease_told life) m1.0.leases
+  told life e = e ∙ sym (ap (λ (z : Me (Home T) Acting). map (lease_told life) z.0.leases) mine)
+
+  pub same_slots : (ls : List Lease) → map (λ (x : Lease). x.slot) ls ≡ map (λ (x : Lease). x.slot) m1.0.leases → map (λ (x : Lease). x.slot) ls ≡ map (λ (x : Lease). x.slot) d.leases
+  same_slots ls e = e ∙ ap (λ (z : Me (Home T) Acting). map (λ (x : Lease). x.slot) z.0.leases) mine
