@@ -19,7 +19,7 @@ use std::test::Fail;
 use std::thread::join;
 
 /// A cell that owns an item with this value.
-fn cell_with<R: Abort>(
+pub(crate) fn cell_with<R: Abort>(
     rt: &R,
     domain: &Domain<u64>,
     local: &mut Local<u64>,

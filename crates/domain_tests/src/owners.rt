@@ -2,12 +2,14 @@
 
 ghost use Rattle.std.specs.Prelude.{◌≡◌};
 ghost use Rattle.sdd_domain.specs.Sharing.{kept_in};
-ghost use Rattle.sdd_domain.specs.Tokens.{place_of, home_of, own_of, IsSame};
+ghost use Rattle.sdd_domain.specs.Tokens.{place_of, home_of, own_of, IsInNest};
 
+use crate::cells::cell_with;
 use crate::domain::{end, member};
 use crate::guard::pass;
 use crate::items::{placed, refused, sized};
 use sdd_domain::domain::Domain;
+use sdd_domain::guard::Guard;
 use sdd_domain::local::Local;
 use sdd_domain::shared::Shared;
 use std::process::Abort;
@@ -23,7 +25,7 @@ fn cloned<R: Abort>(
     requires home { home_of local.old ≡ place_of domain.now }
     requires mine { kept_in owner ≡ (place_of domain.now).0 }
     ensures place { (kept_in result.0 ≡ (place_of domain.now).0) × (kept_in result.1 ≡ (place_of domain.now).0) }
-    ensures same { IsSame local.old local.new × (own_of local.new ≡ own_of local.old) }
+    ensures same { IsInNest local.old local.new × (own_of local.new ≡ own_of local.old) }
 {
     match owner.clone(domain, local) {
         Ok(both) => both,
@@ -67,6 +69,30 @@ fn an_item_stays_while_one_of_two_owners_is_out(rt: HostRuntime) -> Result<(), F
     }
     assert_eq!(rt; *second.as_ref(), 5);
     assert!(rt; second.release(&domain, &mut local));
+    local.end(&domain);
+    end(&rt, domain);
+    Ok(())
+}
+
+#[test]
+fn an_owner_is_cloned_under_the_guard_that_loaded_its_item(rt: HostRuntime) -> Result<(), Fail> {
+    let domain = Domain::new(rt.alloc(), sized(1, 1))?;
+    let mut local = member(&rt, &domain);
+    let cell = cell_with(&rt, &domain, &mut local, 5);
+    let Ok(guard) = Guard::new(&domain, &mut local) else {
+        unreachable!();
+    };
+    let loaded = cell.load(&domain, &guard, &mut local);
+    let Some(owner) = cell.swap(None, &domain, &mut local) else {
+        panic!(&rt; "the cell owned an item");
+    };
+    let (first, second) = cloned(&rt, &domain, &mut local, owner);
+    assert_eq!(rt; (*first.as_ref(), *second.as_ref()), (5, 5));
+    assert!(rt; !first.release(&domain, &mut local));
+    assert!(rt; second.release(&domain, &mut local));
+    assert_eq!(rt; loaded.as_ref().copied(), Some(5));
+    guard.close(&domain, &mut local);
+    assert!(rt; !cell.retire(&domain, &mut local));
     local.end(&domain);
     end(&rt, domain);
     Ok(())
