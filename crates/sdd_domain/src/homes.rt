@@ -17,7 +17,7 @@ use sdd_base::sizes::Sizes;
 use std::alloc::{AllocError, Global};
 use std::mem::ManuallyDrop;
 
-/// Lets go of what lies in a slot. No call of a place places an item yet, so there is an empty box at most.
+/// Lets go of what lies in a slot: an item whose parts lie there, or its deed, isn't dropped.
 pub(crate) fn let_go<T>(home: Home<T>) {
     match home {
         Home::Blank => {}
