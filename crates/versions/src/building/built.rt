@@ -135,7 +135,7 @@ pub fn build<K: Clone + Ord + Drop, V: Clone + Drop, const S: usize>(
 }
 
 /// How many parts are new.
-fn made_of<K: Ord, V, N>(parts: &[Part<K, V, N>]) -> usize
+pub fn made_of<K: Ord, V, N>(parts: &[Part<K, V, N>]) -> usize
     ensures count { result ≡ made_in parts.now }
     ensures few { result ≤ length parts.now }
 {

@@ -8,6 +8,7 @@ ghost use Rattle.versions.specs.Cuts.{IsCut, pairs_in};
 ghost use Rattle.versions.specs.Parts.{blocks_of_parts, made_in};
 ghost use Rattle.versions.specs.Writes.{after_writes, replies_to};
 
+pub use crate::building::built::made_of;
 use crate::building::changes::{apply, unchanged};
 use crate::building::merge::merged;
 pub use crate::building::segments::{Part, Segments};
