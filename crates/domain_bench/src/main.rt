@@ -10,10 +10,10 @@
 //! `items` does; each thread has a cell of its own. Without arguments nothing is done.
 #![tactic(auto)]
 
-ghost use Rattle.std.specs.Prelude.{◌≡◌, ◌<◌, ◌≤◌, IfSome};
+ghost use Rattle.std.specs.Prelude.{◌≡◌, ◌<◌, ◌≤◌, IfSome, []};
 ghost use Rattle.sdd_domain.specs.Layout.{IsSized};
 ghost use Rattle.sdd_domain.specs.Cells.{cell_number};
-ghost use Rattle.sdd_domain.specs.Tokens.{place_of, home_of, own_of, cell_count, nest_in, IsSame};
+ghost use Rattle.sdd_domain.specs.Tokens.{place_of, home_of, hand_of, own_of, cell_count, nest_in, IsSame};
 
 use sdd_base::epoch::Epoch;
 use sdd_base::sizes::Sizes;
@@ -58,7 +58,7 @@ fn task_of(threads: &str, kind: &str, rounds: &str) -> Option<(u8, Kind, u32)>
 /// A guard, opened and closed: the epoch that it saw. It is compiled into each of its callers.
 #[inline(always)]
 fn pass(domain: &Domain<u64>, local: &mut Local<u64>, accelerated: bool) -> Epoch
-    requires home { home_of local.old ≡ place_of domain.now }
+    requires home { (home_of local.old ≡ place_of domain.now) × (hand_of local.old ≡ []) }
     requires shallow { (own_of local.old).nesting ≤ 1 }
     ensures same { IsSame local.old local.new }
     ensures nesting { (own_of local.new).nesting ≡ (own_of local.old).nesting }
@@ -79,7 +79,7 @@ fn pass(domain: &Domain<u64>, local: &mut Local<u64>, accelerated: bool) -> Epoc
 /// itself, so that what is open isn't known to it beforehand.
 #[inline(never)]
 fn passes(domain: &Domain<u64>, local: &mut Local<u64>, accelerated: bool, rounds: u32) -> u64
-    requires home { home_of local.old ≡ place_of domain.now }
+    requires home { (home_of local.old ≡ place_of domain.now) × (hand_of local.old ≡ []) }
     requires shallow { (own_of local.old).nesting ≤ 1 }
     ensures same { IsSame local.old local.new }
     ensures nesting { (own_of local.new).nesting ≡ (own_of local.old).nesting }
@@ -96,7 +96,7 @@ fn passes(domain: &Domain<u64>, local: &mut Local<u64>, accelerated: bool, round
 /// So many items one by one, each with an accelerated guard behind it: the sum of what was placed and read.
 #[inline(never)]
 fn items(domain: &Domain<u64>, local: &mut Local<u64>, rounds: u32) -> u64
-    requires home { home_of local.old ≡ place_of domain.now }
+    requires home { (home_of local.old ≡ place_of domain.now) × (hand_of local.old ≡ []) }
     requires closed { (own_of local.old).nesting ≡ 0 }
     ensures same { IsSame local.old local.new }
     ensures closed { (own_of local.new).nesting ≡ 0 }
@@ -115,7 +115,7 @@ fn items(domain: &Domain<u64>, local: &mut Local<u64>, rounds: u32) -> u64
 /// So many guards one by one, under each of which the cell is loaded and what it names is read: the sum of that.
 #[inline(never)]
 fn loads(domain: &Domain<u64>, local: &mut Local<u64>, cell: &AtomicShared, rounds: u32) -> u64
-    requires home { home_of local.old ≡ place_of domain.now }
+    requires home { (home_of local.old ≡ place_of domain.now) × (hand_of local.old ≡ []) }
     requires closed { (own_of local.old).nesting ≡ 0 }
     requires inside { cell_number cell.now < cell_count domain.now }
     ensures same { IsSame local.old local.new }
@@ -137,7 +137,7 @@ fn loads(domain: &Domain<u64>, local: &mut Local<u64>, cell: &AtomicShared, roun
 /// out.
 #[inline(never)]
 fn swaps(domain: &Domain<u64>, local: &mut Local<u64>, cell: &AtomicShared, rounds: u32) -> u64
-    requires home { home_of local.old ≡ place_of domain.now }
+    requires home { (home_of local.old ≡ place_of domain.now) × (hand_of local.old ≡ []) }
     requires closed { (own_of local.old).nesting ≡ 0 }
     requires inside { cell_number cell.now < cell_count domain.now }
     ensures same { IsSame local.old local.new }
@@ -158,7 +158,7 @@ fn swaps(domain: &Domain<u64>, local: &mut Local<u64>, cell: &AtomicShared, roun
 
 /// Rounds with a cell that owns 1 at first. None if there is no cell or no slot.
 fn with_cell(domain: &Domain<u64>, local: &mut Local<u64>, kind: Kind, rounds: u32) -> Option<u64>
-    requires home { home_of local.old ≡ place_of domain.now }
+    requires home { (home_of local.old ≡ place_of domain.now) × (hand_of local.old ≡ []) }
     requires closed { (own_of local.old).nesting ≡ 0 }
     ensures same { IsSame local.old local.new }
     ensures closed { (own_of local.new).nesting ≡ 0 }

@@ -1,9 +1,10 @@
 //! Cells of a place that threads share, and what guards load from them.
 
-ghost use Rattle.std.specs.Prelude.{◌≡◌, ◌<◌, ◌≤◌, ℕ};
+ghost use Rattle.std.specs.Prelude.{◌≡◌, ◌<◌, ◌≤◌, ℕ, [], IfSome};
 ghost use Rattle.sdd_domain.specs.Cells.{cell_number};
+ghost use Rattle.sdd_domain.specs.Pointers.{IsUnder};
 ghost use Rattle.sdd_domain.specs.Sharing.{kept_in};
-ghost use Rattle.sdd_domain.specs.Tokens.{place_of, home_of, own_of, cell_count, nest_of, nest_in, IsSame, IsInNest};
+ghost use Rattle.sdd_domain.specs.Tokens.{place_of, home_of, hand_of, own_of, cell_count, nest_of, nest_in, IsSame, IsInNest};
 
 use crate::domain::{end, member};
 use crate::guard::pass;
@@ -13,6 +14,7 @@ use sdd_domain::atomic_shared::AtomicShared;
 use sdd_domain::domain::Domain;
 use sdd_domain::guard::Guard;
 use sdd_domain::local::Local;
+use sdd_domain::pointer::Loaded;
 use sdd_domain::shared::Shared;
 use std::process::Abort;
 use std::test::Fail;
@@ -25,7 +27,7 @@ pub(crate) fn cell_with<R: Abort>(
     local: &mut Local<u64>,
     item: u64,
 ) -> AtomicShared
-    requires home { home_of local.old ≡ place_of domain.now }
+    requires home { (home_of local.old ≡ place_of domain.now) × (hand_of local.old ≡ []) }
     requires closed { (own_of local.old).nesting ≡ 0 }
     ensures inside { cell_number result < cell_count domain.now }
     ensures same { IsSame local.old local.new }
@@ -42,8 +44,8 @@ pub(crate) fn cell_with<R: Abort>(
 }
 
 /// What the cell's item is, under a guard of its own.
-fn read(domain: &Domain<u64>, local: &mut Local<u64>, cell: &AtomicShared) -> Option<u64>
-    requires home { home_of local.old ≡ place_of domain.now }
+pub(crate) fn read(domain: &Domain<u64>, local: &mut Local<u64>, cell: &AtomicShared) -> Option<u64>
+    requires home { (home_of local.old ≡ place_of domain.now) × (hand_of local.old ≡ []) }
     requires closed { (own_of local.old).nesting ≡ 0 }
     requires inside { cell_number cell.now < cell_count domain.now }
     ensures same { IsSame local.old local.new }
@@ -65,7 +67,7 @@ fn put<R: Abort>(
     cell: &AtomicShared,
     item: u64,
 ) -> Option<bool>
-    requires home { home_of local.old ≡ place_of domain.now }
+    requires home { (home_of local.old ≡ place_of domain.now) × (hand_of local.old ≡ []) }
     requires closed { (own_of local.old).nesting ≡ 0 }
     requires inside { cell_number cell.now < cell_count domain.now }
     ensures same { IsSame local.old local.new }
@@ -181,7 +183,7 @@ fn what_an_inner_guard_loaded_is_read_under_the_outer_one(rt: HostRuntime) -> Re
 
 /// Whether no cell is free.
 fn no_cell(domain: &Domain<u64>, local: &mut Local<u64>) -> bool
-    requires home { home_of local.old ≡ place_of domain.now }
+    requires home { (home_of local.old ≡ place_of domain.now) × (hand_of local.old ≡ []) }
     requires closed { (own_of local.old).nesting ≡ 0 }
     ensures same { IsSame local.old local.new }
     ensures closed { (own_of local.new).nesting ≡ 0 }
@@ -241,11 +243,103 @@ fn a_place_is_handed_back_while_a_cell_owns_an_item(rt: HostRuntime) -> Result<(
     Ok(())
 }
 
+/// What a try to exchange gave, by items: what came out of the cell, or what is back, and what was found.
+type Tried = Result<Option<u64>, (Option<u64>, Option<u64>)>;
+
+/// Tries to put an owner of this item into the cell, or nothing, where the cell names what was loaded. All owners that
+/// are had by that are released.
+fn exchanged<R: Abort>(
+    rt: &R,
+    domain: &Domain<u64>,
+    guard: &Guard,
+    local: &mut Local<u64>,
+    cell: &AtomicShared,
+    current: &Loaded<u64>,
+    item: Option<u64>,
+) -> Tried
+    requires home { (home_of local.old ≡ place_of domain.now) × (hand_of local.old ≡ []) }
+    requires nest { nest_of guard.now ≡ nest_in local.old }
+    requires open { 0 < (own_of local.old).nesting }
+    requires inside { cell_number cell.now < cell_count domain.now }
+    requires loaded { IsUnder current.now guard.now }
+    ensures same { IsInNest local.old local.new × ((own_of local.new).nesting ≡ (own_of local.old).nesting) }
+{
+    let new = match item {
+        Some(item) => match Shared::new(item, domain, local) {
+            Ok(owner) => Some(owner),
+            Err(_) => panic!(rt; "a slot is free"),
+        },
+        None => None,
+    };
+    match cell.compare_exchange(current, new, domain, guard, local) {
+        Ok(old) => Ok(spent(domain, local, old)),
+        Err((back, found)) => Err((spent(domain, local, back), found.as_ref(guard).copied())),
+    }
+}
+
+/// The item of an owner, which is released.
+fn spent(domain: &Domain<u64>, local: &mut Local<u64>, owner: Option<Shared<u64>>) -> Option<u64>
+    requires home { (home_of local.old ≡ place_of domain.now) × (hand_of local.old ≡ []) }
+    requires mine { IfSome owner (λ s. kept_in s ≡ (place_of domain.now).0) }
+    ensures same { IsInNest local.old local.new × ((own_of local.new).nesting ≡ (own_of local.old).nesting) }
+{
+    let owner = owner?;
+    let item = *owner.as_ref();
+    owner.release(domain, local);
+    Some(item)
+}
+
+#[test]
+fn a_cell_is_exchanged_where_it_is_what_was_loaded(rt: HostRuntime) -> Result<(), Fail> {
+    let domain = Domain::new(rt.alloc(), sized(1, 16))?;
+    let mut local = member(&rt, &domain);
+    let cell = cell_with(&rt, &domain, &mut local, 7);
+    let Ok(guard) = Guard::new(&domain, &mut local) else {
+        unreachable!();
+    };
+    let seven = cell.loaded(&domain, &guard, &mut local);
+    let hit = exchanged(&rt, &domain, &guard, &mut local, &cell, &seven, Some(8));
+    assert_eq!(rt; hit, Ok(Some(7)));
+    let miss = exchanged(&rt, &domain, &guard, &mut local, &cell, &seven, Some(9));
+    assert_eq!(rt; miss, Err((Some(9), Some(8))));
+    assert_eq!(rt; seven.as_ref(&guard).copied(), Some(7));
+    guard.close(&domain, &mut local);
+    assert!(rt; cell.retire(&domain, &mut local));
+    local.end(&domain);
+    end(&rt, domain);
+    Ok(())
+}
+
+#[test]
+fn a_cell_is_exchanged_from_null_and_to_null(rt: HostRuntime) -> Result<(), Fail> {
+    let domain = Domain::new(rt.alloc(), sized(1, 16))?;
+    let mut local = member(&rt, &domain);
+    let Some(cell) = AtomicShared::null(&domain) else {
+        panic!(&rt; "a cell is free");
+    };
+    let Ok(guard) = Guard::new(&domain, &mut local) else {
+        unreachable!();
+    };
+    let null = Loaded::null();
+    let hit = exchanged(&rt, &domain, &guard, &mut local, &cell, &null, Some(7));
+    assert_eq!(rt; hit, Ok(None));
+    let seven = cell.loaded(&domain, &guard, &mut local);
+    let hit = exchanged(&rt, &domain, &guard, &mut local, &cell, &seven, None);
+    assert_eq!(rt; hit, Ok(Some(7)));
+    let miss = exchanged(&rt, &domain, &guard, &mut local, &cell, &seven, None);
+    assert_eq!(rt; miss, Err((None, None)));
+    guard.close(&domain, &mut local);
+    assert!(rt; !cell.retire(&domain, &mut local));
+    local.end(&domain);
+    end(&rt, domain);
+    Ok(())
+}
+
 /// A cell and its place, which threads share.
 #[derive(Drop)]
-struct Scene<'a> {
-    domain: &'a Domain<u64>,
-    cell: &'a AtomicShared,
+pub(crate) struct Scene<'a> {
+    pub(crate) domain: &'a Domain<u64>,
+    pub(crate) cell: &'a AtomicShared,
     ghost inside: { cell_number cell.now < cell_count domain.now },
 }
 
@@ -270,7 +364,7 @@ fn swapping(scene: &Scene, salt: u64) -> Option<u32> {
 /// Loads the cell, swaps an item into it, if a slot is free, and releases what comes out: whether what was loaded is the
 /// same after that.
 fn keeps(domain: &Domain<u64>, local: &mut Local<u64>, cell: &AtomicShared, item: u64) -> bool
-    requires home { home_of local.old ≡ place_of domain.now }
+    requires home { (home_of local.old ≡ place_of domain.now) × (hand_of local.old ≡ []) }
     requires closed { (own_of local.old).nesting ≡ 0 }
     requires inside { cell_number cell.now < cell_count domain.now }
     ensures same { IsSame local.old local.new }
@@ -289,7 +383,7 @@ fn keeps(domain: &Domain<u64>, local: &mut Local<u64>, cell: &AtomicShared, item
 
 /// Puts an item into the cell, where a slot is free, and releases the one that it had.
 fn replace(domain: &Domain<u64>, local: &mut Local<u64>, cell: &AtomicShared, item: u64)
-    requires home { home_of local.old ≡ place_of domain.now }
+    requires home { (home_of local.old ≡ place_of domain.now) × (hand_of local.old ≡ []) }
     requires inside { cell_number cell.now < cell_count domain.now }
     ensures same { IsInNest local.old local.new × ((own_of local.new).nesting ≡ (own_of local.old).nesting) }
 {
@@ -298,6 +392,20 @@ fn replace(domain: &Domain<u64>, local: &mut Local<u64>, cell: &AtomicShared, it
             old.release(domain, local);
         }
     }
+}
+
+/// Reclaims what so many participants left, who aren't registered.
+pub(crate) fn reclaim_all(domain: &Domain<u64>, participants: u32) {
+    let Ok(mut local) = domain.register() else {
+        return;
+    };
+    if participants > 1 {
+        reclaim_all(domain, participants - 1);
+    }
+    for _i in 0..4u32 {
+        let _ = pass(domain, &mut local, true);
+    }
+    local.end(domain);
 }
 
 #[test]
@@ -319,6 +427,98 @@ fn four_threads_load_swap_and_release_one_cell(rt: HostRuntime) -> Result<(), Fa
         ),
     );
     assert_eq!(rt; [a, b, c, d], [Some(0), Some(0), Some(0), Some(0)]);
+    reclaim_all(&domain, 4);
+    assert_eq!(rt; domain.slots_in_use(), 1);
+    assert!(rt; cell.retire(&domain, &mut local));
+    local.end(&domain);
+    end(&rt, domain);
+    Ok(())
+}
+
+/// Tries 4000 times to put an item that is greater by one into the cell: how often it was put there. None if no
+/// participant was free.
+fn counting(scene: &Scene) -> Option<u64> {
+    let Scene { domain, cell } = *scene;
+    let Ok(mut local) = domain.register() else {
+        return None;
+    };
+    let mut added = 0;
+    for i in 0..4000u32 {
+        if adds_one(domain, &mut local, cell) {
+            added += 1;
+        }
+        let _ = pass(domain, &mut local, true);
+    }
+    local.end(domain);
+    Some(added)
+}
+
+/// Tries once to put an item that is greater by one into the cell: whether a slot was free, and nobody was faster.
+fn adds_one(domain: &Domain<u64>, local: &mut Local<u64>, cell: &AtomicShared) -> bool
+    requires home { (home_of local.old ≡ place_of domain.now) × (hand_of local.old ≡ []) }
+    requires closed { (own_of local.old).nesting ≡ 0 }
+    requires inside { cell_number cell.now < cell_count domain.now }
+    ensures same { IsSame local.old local.new }
+    ensures closed { (own_of local.new).nesting ≡ 0 }
+{
+    let Ok(guard) = Guard::new(domain, local) else {
+        unreachable!();
+    };
+    let loaded = cell.loaded(domain, &guard, local);
+    let item = loaded.as_ref(&guard).copied().unwrap_or(0);
+    let done = puts(domain, &guard, local, cell, &loaded, item.wrapping_add(1));
+    guard.close(domain, local);
+    done
+}
+
+/// Tries once to put this item into the cell, where it names what was loaded.
+fn puts(
+    domain: &Domain<u64>,
+    guard: &Guard,
+    local: &mut Local<u64>,
+    cell: &AtomicShared,
+    current: &Loaded<u64>,
+    item: u64,
+) -> bool
+    requires home { (home_of local.old ≡ place_of domain.now) × (hand_of local.old ≡ []) }
+    requires nest { nest_of guard.now ≡ nest_in local.old }
+    requires open { 0 < (own_of local.old).nesting }
+    requires inside { cell_number cell.now < cell_count domain.now }
+    requires loaded { IsUnder current.now guard.now }
+    ensures same { IsInNest local.old local.new × ((own_of local.new).nesting ≡ (own_of local.old).nesting) }
+{
+    let Ok(owner) = Shared::new(item, domain, local) else {
+        return false;
+    };
+    let (owner, done) = match cell.compare_exchange(current, Some(owner), domain, guard, local) {
+        Ok(old) => (old, true),
+        Err((back, _)) => (back, false),
+    };
+    spent(domain, local, owner);
+    done
+}
+
+#[test]
+fn what_four_threads_add_to_one_cell_is_its_sum(rt: HostRuntime) -> Result<(), Fail> {
+    let domain = Domain::new(rt.alloc(), sized(5, 64))?;
+    let mut local = member(&rt, &domain);
+    let cell = cell_with(&rt, &domain, &mut local, 0);
+    let scene = Scene {
+        domain: &domain,
+        cell: &cell,
+    };
+    let ((a, b), (c, d)) = join(
+        &rt,
+        || join(&rt, || counting(&scene), || counting(&scene)),
+        || join(&rt, || counting(&scene), || counting(&scene)),
+    );
+    let mut sum = 0u64;
+    for part in [a, b, c, d] {
+        assert!(rt; part.is_some());
+        sum = sum.wrapping_add(part.unwrap_or(0));
+    }
+    assert!(rt; sum > 0);
+    assert_eq!(rt; read(&domain, &mut local, &cell), Some(sum));
     assert!(rt; cell.retire(&domain, &mut local));
     local.end(&domain);
     end(&rt, domain);

@@ -1,8 +1,8 @@
 //! Registering participants, and ending a place.
 
-ghost use Rattle.std.specs.Prelude.{◌≡◌, ◌≤◌, ℕ};
+ghost use Rattle.std.specs.Prelude.{◌≡◌, ◌≤◌, ℕ, []};
 ghost use Rattle.sdd_domain.specs.Layout.{IsSized};
-ghost use Rattle.sdd_domain.specs.Tokens.{place_of, home_of, own_of, participants_of};
+ghost use Rattle.sdd_domain.specs.Tokens.{place_of, home_of, hand_of, own_of, participants_of};
 
 use sdd_base::sizes::Sizes;
 use sdd_domain::domain::Domain;
@@ -27,7 +27,7 @@ pub(crate) fn only(participants: u8) -> Sizes
 
 /// A participant of the place, which has one that is free.
 pub(crate) fn member<R: Abort>(rt: &R, domain: &Domain<u64>) -> Local<u64>
-    ensures home { home_of result ≡ place_of domain.now }
+    ensures home { (home_of result ≡ place_of domain.now) × (hand_of result ≡ []) }
     ensures closed { (own_of result).nesting ≡ 0 }
 {
     match domain.register() {

@@ -1,7 +1,7 @@
 //! Guards of one thread: counts, nesting, and the flag of garbage.
 
-ghost use Rattle.std.specs.Prelude.{◌≡◌, ℕ};
-ghost use Rattle.sdd_domain.specs.Tokens.{place_of, home_of, number_of, own_of, participant_of, IsSame};
+ghost use Rattle.std.specs.Prelude.{◌≡◌, ℕ, []};
+ghost use Rattle.sdd_domain.specs.Tokens.{place_of, home_of, hand_of, number_of, own_of, participant_of, IsSame};
 
 use crate::domain::{end, member, only};
 use sdd_base::refusal::Nested;
@@ -12,7 +12,7 @@ use std::test::Fail;
 
 /// A guard, opened and closed one by one, accelerated or not: the epoch that it saw.
 pub(crate) fn pass(domain: &Domain<u64>, local: &mut Local<u64>, accelerated: bool) -> u8
-    requires home { home_of local.old ≡ place_of domain.now }
+    requires home { (home_of local.old ≡ place_of domain.now) × (hand_of local.old ≡ []) }
     requires closed { (own_of local.old).nesting ≡ 0 }
     ensures same { IsSame local.old local.new }
     ensures closed { (own_of local.new).nesting ≡ 0 }
@@ -30,7 +30,7 @@ pub(crate) fn pass(domain: &Domain<u64>, local: &mut Local<u64>, accelerated: bo
 
 /// The epochs that four accelerated guards see, one by one.
 fn four(domain: &Domain<u64>, local: &mut Local<u64>) -> [u8; 4]
-    requires home { home_of local.old ≡ place_of domain.now }
+    requires home { (home_of local.old ≡ place_of domain.now) × (hand_of local.old ≡ []) }
     requires closed { (own_of local.old).nesting ≡ 0 }
     ensures same { IsSame local.old local.new }
     ensures closed { (own_of local.new).nesting ≡ 0 }
@@ -43,7 +43,7 @@ fn four(domain: &Domain<u64>, local: &mut Local<u64>) -> [u8; 4]
 
 /// So many guards that aren't accelerated, one by one.
 fn plain(domain: &Domain<u64>, local: &mut Local<u64>, count: u8)
-    requires home { home_of local.old ≡ place_of domain.now }
+    requires home { (home_of local.old ≡ place_of domain.now) × (hand_of local.old ≡ []) }
     requires closed { (own_of local.old).nesting ≡ 0 }
     ensures same { IsSame local.old local.new }
     ensures closed { (own_of local.new).nesting ≡ 0 }

@@ -3,6 +3,7 @@
 
 #[cfg(test)]
 mod cells;
+mod clones;
 #[cfg(test)]
 mod domain;
 #[cfg(test)]

@@ -1,8 +1,8 @@
 //! More owners of one item of a place that threads share.
 
-ghost use Rattle.std.specs.Prelude.{◌≡◌};
+ghost use Rattle.std.specs.Prelude.{◌≡◌, []};
 ghost use Rattle.sdd_domain.specs.Sharing.{kept_in};
-ghost use Rattle.sdd_domain.specs.Tokens.{place_of, home_of, own_of, IsInNest};
+ghost use Rattle.sdd_domain.specs.Tokens.{place_of, home_of, hand_of, own_of, IsInNest};
 
 use crate::cells::cell_with;
 use crate::domain::{end, member};
@@ -22,7 +22,7 @@ fn cloned<R: Abort>(
     local: &mut Local<u64>,
     owner: Shared<u64>,
 ) -> (Shared<u64>, Shared<u64>)
-    requires home { home_of local.old ≡ place_of domain.now }
+    requires home { (home_of local.old ≡ place_of domain.now) × (hand_of local.old ≡ []) }
     requires mine { kept_in owner ≡ (place_of domain.now).0 }
     ensures place { (kept_in result.0 ≡ (place_of domain.now).0) × (kept_in result.1 ≡ (place_of domain.now).0) }
     ensures same { IsInNest local.old local.new × (own_of local.new ≡ own_of local.old) }

@@ -1,8 +1,8 @@
 //! Runs in which any one allocation may be refused. A script has each refused in turn: whatever is refused, nothing was
 //! kept, and the same call then succeeds.
 
-ghost use Rattle.std.specs.Prelude.{◌≡◌, ℕ};
-ghost use Rattle.sdd_domain.specs.Tokens.{home_of, own_of, place_of};
+ghost use Rattle.std.specs.Prelude.{◌≡◌, ℕ, []};
+ghost use Rattle.sdd_domain.specs.Tokens.{home_of, hand_of, own_of, place_of};
 
 use crate::domain::{end, member};
 use crate::guard::pass;
@@ -17,7 +17,7 @@ use std::test::Fail;
 
 /// A participant, registered at once or, where memory was refused, by a second try; and whether it was refused.
 fn registered<R: Abort>(rt: &R, domain: &Domain<u64>) -> (Local<u64>, bool)
-    ensures home { home_of result.0 ≡ place_of domain.now }
+    ensures home { (home_of result.0 ≡ place_of domain.now) × (hand_of result.0 ≡ []) }
     ensures closed { (own_of result.0).nesting ≡ 0 }
 {
     match domain.register() {

@@ -1,7 +1,7 @@
 //! Threads that share a place. Each test prints the same whatever the schedule.
 
-ghost use Rattle.std.specs.Prelude.{◌≡◌, ◌≤◌, ℕ};
-ghost use Rattle.sdd_domain.specs.Tokens.{place_of, home_of, number_of, own_of, participant_of, IsSame};
+ghost use Rattle.std.specs.Prelude.{◌≡◌, ◌≤◌, ℕ, []};
+ghost use Rattle.sdd_domain.specs.Tokens.{place_of, home_of, hand_of, number_of, own_of, participant_of, IsSame};
 
 use crate::domain::{end, member, only};
 use crate::guard::pass;
@@ -14,7 +14,7 @@ use std::thread::join;
 
 /// An accelerated guard under which the epoch is read three times: whether it went on by one at most.
 fn is_steady(domain: &Domain<u64>, local: &mut Local<u64>) -> bool
-    requires home { home_of local.old ≡ place_of domain.now }
+    requires home { (home_of local.old ≡ place_of domain.now) × (hand_of local.old ≡ []) }
     requires closed { (own_of local.old).nesting ≡ 0 }
     ensures same { IsSame local.old local.new }
     ensures closed { (own_of local.new).nesting ≡ 0 }

@@ -14,7 +14,7 @@ use Rattle.sdd_domain.specs.declared.board.Home.{Home}
 use Rattle.sdd_domain.specs.declared.board.Home.TheVariants.{Blank}
 use Rattle.sdd_domain.proofs.Fronts.{came_out, came_from, put_in}
 
-module _ {T : Type 0} (m0 m1 : Me (Home T) Acting) (o : Owner) (begun : HasBegun IsIn m0 o m1) (i : ℕ) (r : Home T) (front : m1.1 ≡ (i, r) ∷ rest m1.1) where
+module _ {T : Type 0} (holds : T → List (ℕ × ℕ)) (m0 m1 : Me (Home T) Acting) (o : Owner) (begun : HasBegun (IsIn holds) m0 o m1) (i : ℕ) (r : Home T) (front : m1.1 ≡ (i, r) ∷ rest m1.1) where
   abbrev pub n : ℕ
   n = begun.0
 
@@ -30,8 +30,8 @@ module _ {T : Type 0} (m0 m1 : Me (Home T) Acting) (o : Owner) (begun : HasBegun
   out : m1.1 ≡ (at, begun.1) ∷ m0.1
   out = ap (λ (t : Me (Home T) Acting). t.1) begun.5
 
-  pub had : IsIn (part o.round n) r
-  had = subst (IsIn (part o.round n)) (sym (came_out m1 at i begun.1 r m0.1 out front)) begun.2
+  pub had : IsIn holds (part o.round n) r
+  had = subst (IsIn holds (part o.round n)) (sym (came_out m1 at i begun.1 r m0.1 out front)) begun.2
 
   pub emptied : (m2 : Me (Home T) Acting) (b : Home T) → m2 ≡ (m1.0, (i, b) ∷ rest m1.1) → m2 ≡ (begun', (at, b) ∷ m0.1)
   emptied m2 b first = put_in m1 m2 at i begun.1 r b m0.1 out front first ∙ ap (λ (t : Me (Home T) Acting). (t.0, (at, b) ∷ m0.1)) begun.5

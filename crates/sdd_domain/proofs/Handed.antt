@@ -21,8 +21,8 @@ module _ {T : Type 0} (l : Local T) (s : Shared T) (m1 : Me (Home T) Acting) (ta
   pub mine : m1 ≡ (record d { hand = owner s ∷ d.hand }, l.place.me.1)
   mine = taken (owner s) s.owns
 
-  pub first : m1.0.hand ≡ owner s ∷ []
-  first = ap (λ (z : Me (Home T) Acting). z.0.hand) mine ∙ ap (λ os. owner s ∷ os) l.acts.5
+  pub first : m1.0.hand ≡ owner s ∷ d.hand
+  first = ap (λ (z : Me (Home T) Acting). z.0.hand) mine
 
   pub told : (life : ℕ) → map row_told l.rows.items ≡ map (lease_told life) d.leases → map row_told l.rows.items ≡ map (lease_told life) m1.0.leases
   told life e = e ∙ sym (ap (λ (z : Me (Home T) Acting). map (lease_told life) z.0.leases) mine)

@@ -59,7 +59,7 @@ pub two_behind : {S : Type 0} (x y : ℕ × S) (zs : List (ℕ × S)) → turned
 two_behind x y zs = append_assoc zs (x ∷ []) (y ∷ [])
 
 -- two slots were in front of what is leased, and are behind it now
-module _ {T : Type 0} (m m1 m2 : Me (Home T) Acting) (k l : ℕ) (is : m.1 ≡ blanks (k ∷ l ∷ leased_homes m.0 m.0.leases)) (one : m1 ≡ (m.0, turned m.1)) (two : m2 ≡ (m1.0, turned m1.1)) where
+module _ {T : Type 0} (holds : T → List (ℕ × ℕ)) (m m1 m2 : Me (Home T) Acting) (k l : ℕ) (is : m.1 ≡ blanks (k ∷ l ∷ leased_homes m.0 m.0.leases)) (one : m1 ≡ (m.0, turned m.1)) (two : m2 ≡ (m1.0, turned m1.1)) where
   abbrev both : List (ℕ × Home T)
   both = blanks (k ∷ l ∷ [])
 
@@ -71,13 +71,13 @@ module _ {T : Type 0} (m m1 m2 : Me (Home T) Acting) (k l : ℕ) (is : m.1 ≡ b
       subst (λ (z : Me (Home T) Acting). z.1 ≡ blanks (leased_homes z.0 z.0.leases) ++ drop (length z.0.leases) z.1) (sym both_behind) (ap (λ ys. b ++ ys) (sym all))
 
   -- the homes are filled, and then the two are behind them again
-  pub filled_home : (xs : List (ℕ × Home T)) (m3 m4 m5 : Me (Home T) Acting) → Refilled IsIn m2.0 m2.0.leases xs [] → m3 ≡ (m2.0, drop (length m2.0.leases) m2.1 ++ xs) → m4 ≡ (m3.0, turned m3.1) → m5 ≡ (m4.0, turned m4.1)
-      → (ys : List (ℕ × Home T)) × Refilled IsIn m.0 m.0.leases ys (blanks (k ∷ l ∷ [])) × (m5 ≡ (m.0, ys))
+  pub filled_home : (xs : List (ℕ × Home T)) (m3 m4 m5 : Me (Home T) Acting) → Refilled (IsIn holds) m2.0 m2.0.leases xs [] → m3 ≡ (m2.0, drop (length m2.0.leases) m2.1 ++ xs) → m4 ≡ (m3.0, turned m3.1) → m5 ≡ (m4.0, turned m4.1)
+      → (ys : List (ℕ × Home T)) × Refilled (IsIn holds) m.0 m.0.leases ys (blanks (k ∷ l ∷ [])) × (m5 ≡ (m.0, ys))
   filled_home xs m3 m4 m5 filled e e' e'' = let d = m.0 in let same = ap (λ (z : Me (Home T) Acting). z.0) both_behind in let t : List (ℕ × Home T) = blanks (k ∷ l ∷ []) in
       let rest_is : drop (length m2.0.leases) m2.1 ≡ t = ap (λ (z : Me (Home T) Acting). drop (length z.0.leases) z.1) both_behind ∙ drop_blanks d d.leases t in
       let third : m3 ≡ (d, t ++ xs) = e ∙ λ j. (same j, rest_is j ++ xs) in (
         xs ++ t,
-        filled_ahead IsIn d d.leases xs t (subst (λ (z : Acting). Refilled IsIn z z.leases xs []) same filled),
+        filled_ahead (IsIn holds) d d.leases xs t (subst (λ (z : Acting). Refilled (IsIn holds) z z.leases xs []) same filled),
         e'' ∙ (ap (λ (z : Me (Home T) Acting). (z.0, turned z.1)) e' ∙ (ap (λ (z : Me (Home T) Acting). (z.0, turned (turned z.1))) third ∙ λ j. (d, two_behind (k, Blank) (l, Blank) xs j))),
       )
 

@@ -1,5 +1,5 @@
 -- what a load told, and the rows behind it
-use Rattle.std.proofs.Common.{◌≡◌, ◌⊎◌, ◌&&◌, true, ℕ, suc, ◌+◌, ◌*◌, ◌^◌, ◌<◌, List, [], ◌∷◌, ◌++◌, map, length, nat_lt, lt-ltb, ⊎_elim, refl, sym, ap, ◌∙◌, subst, arith}
+use Rattle.std.proofs.Common.{◌≡◌, ◌⊎◌, ◌&&◌, true, ℕ, suc, ◌+◌, ◌*◌, ◌^◌, ◌<◌, List, [], ◌∷◌, ◌++◌, map, length, nat_lt, lt-ltb, ⊎_elim, sym, ap, ◌∙◌, subst, arith}
 use lib.ListN.{length-map}
 use Rattle.atomic_table.specs.Table.{Me, rest, turned}
 use Rattle.sdd_steps.specs.State.{Has}
@@ -7,8 +7,8 @@ use Rattle.sdd_steps.specs.declared.participant.Loaded.{Loaded}
 use Rattle.sdd_steps.proofs.ListLemmas.{both}
 use Rattle.sdd_homes.specs.declared.Lease.{Lease}
 use Rattle.sdd_homes.specs.Book.{Content, part, lease}
-use Rattle.sdd_domain.specs.Contents.{IsIn, is_blank, blanks}
-use Rattle.sdd_domain.specs.Leases.{row_told, lease_told, leased_homes, row_slots, all_below, has_all}
+use Rattle.sdd_domain.specs.Contents.{IsIn}
+use Rattle.sdd_domain.specs.Leases.{row_told, lease_told, row_slots, all_below}
 use Rattle.sdd_domain.specs.Plays.{HasLoaded, IsLeased, takes_home, loading, own_home}
 use Rattle.sdd_domain.specs.declared.board.Acting.{Acting}
 use Rattle.sdd_domain.specs.declared.board.Home.{Home}
@@ -16,7 +16,6 @@ use Rattle.sdd_domain.specs.declared.board.Home.TheVariants.{Blank}
 use Rattle.sdd_domain.specs.declared.row.Row.{Row}
 use Rattle.sdd_domain.proofs.Fronts.{came_out, put_in}
 use Rattle.sdd_domain.proofs.Rows.{slots_told, has_slot, slot_lent}
-use Rattle.sdd_domain.proofs.Told.{all_there, are_there}
 
 -- what the word of a cell names
 module _ {S : Type 0} (IsIn : Content → S → Type 0) (m m' : Me S Acting) (w : ℕ) (loaded : HasLoaded IsIn m w m') where
@@ -29,17 +28,17 @@ module _ {S : Type 0} (IsIn : Content → S → Type 0) (m m' : Me S Acting) (w 
       (λ t. let next = some loaded.0 (suc t.0) loaded.1 t.2 in let same : t.0 ≡ k = omega arith in subst (λ z. (h : Loaded) × ((IsLeased m.0.leases z h × (m' ≡ (loading h m.0.leases m.0, m.1))) ⊎ takes_home IsIn m z h m')) same (t.1, t.3)) loaded.2
 
 -- whether it was leased, as the rows tell
-module _ {T : Type 0} (life : ℕ) (rows : List (Row T)) (m m' : Me (Home T) Acting) (k : ℕ) (h : Loaded) (told : map row_told rows ≡ map (lease_told life) m.0.leases)
-    (is : (IsLeased m.0.leases k h × (m' ≡ (loading h m.0.leases m.0, m.1))) ⊎ takes_home IsIn m k h m') where
+module _ {T : Type 0} (holds : T → List (ℕ × ℕ)) (life : ℕ) (rows : List (Row T)) (m m' : Me (Home T) Acting) (k : ℕ) (h : Loaded) (told : map row_told rows ≡ map (lease_told life) m.0.leases)
+    (is : (IsLeased m.0.leases k h × (m' ≡ (loading h m.0.leases m.0, m.1))) ⊎ takes_home (IsIn holds) m k h m') where
   pub was_leased : Has (row_slots rows) k → m' ≡ (loading h m.0.leases m.0, m.1)
-  was_leased has = ⊎_elim (λ (t : IsLeased m.0.leases k h × (m' ≡ (loading h m.0.leases m.0, m.1))). t.1) (λ (t : takes_home IsIn m k h m'). absurd (t.0 (slot_lent m.0.leases k (subst (λ ks. Has ks k) (slots_told life rows m.0.leases told) has)))) is
+  was_leased has = ⊎_elim (λ (t : IsLeased m.0.leases k h × (m' ≡ (loading h m.0.leases m.0, m.1))). t.1) (λ (t : takes_home (IsIn holds) m k h m'). absurd (t.0 (slot_lent m.0.leases k (subst (λ ks. Has ks k) (slots_told life rows m.0.leases told) has)))) is
 
-  pub is_new : ¬ Has (row_slots rows) k → takes_home IsIn m k h m'
+  pub is_new : ¬ Has (row_slots rows) k → takes_home (IsIn holds) m k h m'
   is_new free = ⊎_elim (λ (t : IsLeased m.0.leases k h × (m' ≡ (loading h m.0.leases m.0, m.1))). let l : Lease = t.0.0 in absurd (free (subst (λ ks. Has ks k) (sym (slots_told life rows m.0.leases told)) (subst (Has (map (λ (x : Lease). x.slot) m.0.leases)) t.0.2 (has_slot m.0.leases l t.0.1)))))
-      (λ (t : takes_home IsIn m k h m'). t) is
+      (λ (t : takes_home (IsIn holds) m k h m'). t) is
 
--- the home came out, was emptied, and went behind the others
-module _ {T : Type 0} (m m1 : Me (Home T) Acting) (k : ℕ) (h : Loaded) (takes : takes_home IsIn m k h m1) where
+-- the home came out, was emptied, and went behind holds the others
+module _ {T : Type 0} (holds : T → List (ℕ × ℕ)) (m m1 : Me (Home T) Acting) (k : ℕ) (h : Loaded) (takes : takes_home (IsIn holds) m k h m1) where
   abbrev pub count : ℕ
   count = takes.3.0
 
@@ -49,24 +48,11 @@ module _ {T : Type 0} (m m1 : Me (Home T) Acting) (k : ℕ) (h : Loaded) (takes 
   pub front : m1.1 ≡ (own_home m.0 k, takes.3.1) ∷ m.1
   front = ap (λ (z : Me (Home T) Acting). z.1) takes.3.4
 
-  pub had : (i : ℕ) (r : Home T) → m1.1 ≡ (i, r) ∷ rest m1.1 → IsIn (part h.value count) r
-  had i r f = subst (IsIn (part h.value count)) (sym (came_out m1 (own_home m.0 k) i takes.3.1 r m.1 front f)) takes.3.2
+  pub had : (i : ℕ) (r : Home T) → m1.1 ≡ (i, r) ∷ rest m1.1 → IsIn holds (part h.value count) r
+  had i r f = subst (IsIn holds (part h.value count)) (sym (came_out m1 (own_home m.0 k) i takes.3.1 r m.1 front f)) takes.3.2
 
   pub behind : (i : ℕ) (r : Home T) (m2 m3 : Me (Home T) Acting) → m1.1 ≡ (i, r) ∷ rest m1.1 → m2 ≡ (m1.0, (i, Blank) ∷ rest m1.1) → m3 ≡ (m2.0, turned m2.1) → m3 ≡ (loading h (m.0.leases ++ new ∷ []) m.0, m.1 ++ (own_home m.0 k, Blank) ∷ [])
   behind i r m2 m3 f e e' = e' ∙ (ap (λ (z : Me (Home T) Acting). (z.0, turned z.1)) (put_in m1 m2 (own_home m.0 k) i takes.3.1 r Blank m.1 front f e) ∙ λ j. ((takes.3.4 j).0, m.1 ++ (own_home m.0 k, Blank) ∷ []))
-
-  homes_now : (d : Acting) (ls : List Lease) → leased_homes d (ls ++ new ∷ []) ≡ leased_homes d ls ++ own_home d k ∷ []
-  homes_now d [] = refl
-  homes_now d (l ∷ ls) = ap (λ ks. own_home d l.slot ∷ ks) (homes_now d ls)
-
-  blanks_now : (ks : List ℕ) (i : ℕ) → blanks {T = T} (ks ++ i ∷ []) ≡ blanks ks ++ (i, Blank) ∷ []
-  blanks_now [] i = refl
-  blanks_now (x ∷ ks) i = ap (λ xs. (x, Blank) ∷ xs) (blanks_now ks i)
-
-  pub all_out : (a b : ℕ) (m3 : Me (Home T) Acting) → m3 ≡ (loading h (m.0.leases ++ new ∷ []) m.0, m.1 ++ (own_home m.0 k, Blank) ∷ []) → has_all is_blank (a ∷ b ∷ leased_homes m.0 m.0.leases) m.1 ≡ true
-      → has_all is_blank (a ∷ b ∷ leased_homes m3.0 m3.0.leases) m3.1 ≡ true
-  all_out a b m3 e out = let ks : List ℕ = a ∷ b ∷ leased_homes m.0 m.0.leases in let lie : m.1 ++ (own_home m.0 k, Blank) ∷ [] ≡ blanks (ks ++ own_home m.0 k ∷ []) = ap (λ xs. xs ++ (own_home m.0 k, Blank) ∷ []) (all_there ks m.1 out) ∙ sym (blanks_now ks (own_home m.0 k)) in
-      subst (λ (z : Me (Home T) Acting). has_all is_blank (a ∷ b ∷ leased_homes z.0 z.0.leases) z.1 ≡ true) (sym e) ((λ j. has_all is_blank (a ∷ b ∷ homes_now m.0 m.0.leases j) (lie j)) ∙ are_there T (ks ++ own_home m.0 k ∷ []))
 
 -- one row more tells one lease more
 pub more_told : {T : Type 0} (life : ℕ) (rows : List (Row T)) (ls : List Lease) (r : Row T) (l : Lease) → map row_told rows ≡ map (lease_told life) ls → row_told r ≡ lease_told life l → map row_told (rows ++ r ∷ []) ≡ map (lease_told life) (ls ++ l ∷ [])

@@ -13,6 +13,8 @@ pub mod Learns
 pub mod Keeps
 pub mod Leased
 pub mod Leasing
+pub mod Noted
+pub mod Missed
 pub mod Rows
 pub mod Ends
 pub mod Loads
@@ -39,3 +41,4 @@ pub mod Aged
 pub mod Takeovers
 pub mod OwnerSeats
 pub mod GiveUps
+pub mod Hands

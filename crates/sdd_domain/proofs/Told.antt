@@ -8,8 +8,8 @@ use Rattle.sdd_domain.specs.declared.board.Home.{Home}
 use Rattle.sdd_domain.specs.declared.board.Home.TheVariants.{Blank, Room, Deed, Part, Left, Announced}
 
 -- what lies in a slot is of one round, and so many parts
-pub are_told : {T : Type 0} → AreTold (IsIn {T = T})
-are_told c a c' a' u h h' = let both : Part h.0 a ≡ Part h'.0 a' = sym h.1 ∙ h'.1 in let same : h.0 ≡ h'.0 = cc in (sym h.2 ∙ (ap (λ p. p.life.id) same ∙ h'.2), cc)
+pub are_told : {T : Type 0} (holds : T → List (ℕ × ℕ)) → AreTold (IsIn holds)
+are_told holds c a c' a' u h h' = let both : Part h.0 a ≡ Part h'.0 a' = sym h.1 ∙ h'.1 in let same : h.0 ≡ h'.0 = cc in (sym h.2 ∙ (ap (λ p. p.life.id) same ∙ h'.2), cc)
 
 -- a value that passes the test is of that kind
 blank_there : {T : Type 0} (y : Home T) → is_blank y ≡ true → y ≡ Blank

@@ -1,9 +1,11 @@
 -- what lies in a slot of the table, by its content
-use Rattle.std.specs.Prelude.{◌≡◌, Bool, true, false, ℕ, suc, ◌%◌, ◌<◌, ◌≤◌, List, [], map, length, vec_capacity, IsSome}
+use Rattle.std.specs.Prelude.{◌≡◌, Bool, true, false, ℕ, suc, ◌%◌, ◌<◌, ◌≤◌, List, [], map, length, vec_capacity, IsSome, IsSomeAnd}
+use Rattle.std.specs.Mem.{manually_drop_value}
 use Rattle.sdd_base.specs.declared.sizes.Sizes.{Sizes}
 use Rattle.sdd_steps.specs.State.{At}
 use Rattle.sdd_homes.specs.declared.Garbage.{Garbage}
 use Rattle.sdd_homes.specs.Book.{Content, away, blank, room, deed, part, bag, resting}
+use Rattle.sdd_domain.specs.Holding.{told}
 use Rattle.sdd_domain.specs.declared.board.Home.{Home}
 use Rattle.sdd_domain.specs.declared.board.Home.TheVariants.{Blank, Room, Deed, Part, Left, Announced}
 
@@ -11,13 +13,13 @@ use Rattle.sdd_domain.specs.declared.board.Home.TheVariants.{Blank, Room, Deed, 
 abbrev pub garbage_slots : List Garbage → List ℕ
 garbage_slots = map (λ (w : Garbage). w.slot)
 
--- an item is read by its parts, and had back by its deed; items hold no owners yet
-module _ {T : Type 0} where
+-- an item is read by its parts, and had back by its deed, which tells the owners that it holds: `holds` tells them of its value
+module _ {T : Type 0} (holds : T → List (ℕ × ℕ)) where
   abbrev pub IsIn : Content → Home T → Type 0
   IsIn away y = Unit {0}
   IsIn blank y = y ≡ Blank
   IsIn room y = (b : _) × (y ≡ Room b)
-  IsIn (deed r hs) y = (d : _) × (y ≡ Deed d) × (d.life ≡ r) × IsSome d.value × (hs ≡ [])
+  IsIn (deed r hs) y = (d : _) × (y ≡ Deed d) × (d.life ≡ r) × IsSomeAnd d.value (λ m. holds (manually_drop_value m) ≡ map told hs)
   IsIn (part r c) y = (p : _) × (y ≡ Part p c) × (p.life.id ≡ r) × (p.life.count ≡ c) × (0 < c) × IsSome p.seen.value
   IsIn (bag n ws) y = (v : _) × (y ≡ Left v) × (v.items ≡ garbage_slots ws) × (n ≤ vec_capacity v) × (length ws ≤ n)
 
@@ -29,6 +31,7 @@ module _ {T : Type 0} where
   abbrev pub AreBags : ℕ → List (Home T) → Type 0
   AreBags n homes = (i : ℕ) (y : Home T) → At homes i y → IsIn (bag n []) y
 
+module _ {T : Type 0} where
   -- whether it is empty
   abbrev pub is_blank : Home T → Bool
   is_blank Blank = true

@@ -2,7 +2,8 @@
 use Rattle.std.specs.Prelude.{◌≡◌, ℕ, ◌^◌, ◌<◌, ◌≤◌}
 use Rattle.atomic_table.specs.Seated.{TableId}
 use Rattle.sdd_base.specs.declared.sizes.Sizes.{Sizes}
-use Rattle.sdd_domain.specs.Layout.{all_words, IsSized}
+use Rattle.sdd_domain.specs.Layout.{all_words, epoch_words, IsSized}
+use Rattle.sdd_domain.specs.declared.board.Acting.{Acting}
 
 module _ (table : TableId) (sizes : Sizes) (seat : TableId) where
   -- the seat is at the table, which has the words of so many participants, and of this cell
@@ -16,3 +17,44 @@ module _ (table : TableId) (sizes : Sizes) (seat : TableId) where
   -- the table has the words of a place of these sizes, and the seat knows them
   abbrev pub FitsSizes : Sizes → Sizes → Type 0
   FitsSizes known told = (seat ≡ table) × (sizes ≡ told) × (known ≡ told) × IsSized told × (all_words told ≤ table.words)
+
+  -- and this slot is one of the place
+  abbrev pub FitsFree : Sizes → Sizes → ℕ → Type 0
+  FitsFree known told slot = (seat ≡ table) × (sizes ≡ told) × (known ≡ told) × IsSized told × (slot < told.slots) × (all_words told ≤ table.words)
+
+  -- or it is a number to look from
+  abbrev pub FitsSearch : Sizes → Sizes → ℕ → Type 0
+  FitsSearch known told from = (seat ≡ table) × (sizes ≡ told) × (known ≡ told) × IsSized told × (from < 2 ^ 63) × (all_words told ≤ table.words)
+
+  -- or this participant is one of the place
+  abbrev pub FitsNumber : Sizes → Sizes → ℕ → Type 0
+  FitsNumber known told number = (seat ≡ table) × (sizes ≡ told) × (known ≡ told) × IsSized told × (all_words told ≤ table.words) × (number < told.participants)
+
+  -- the table has the words of so many participants and cells, and of this slot
+  abbrev pub HasSlot : ℕ → ℕ → ℕ → Type 0
+  HasSlot participants cells slot = (seat ≡ table) × (sizes.participants ≡ participants) × (sizes.cells ≡ cells) × (participants ≤ 2 ^ 30) × (cells ≤ 2 ^ 30) × (slot < sizes.slots) × (sizes.slots ≤ 2 ^ 30) × (all_words sizes ≤ table.words)
+
+  -- the table has the words that tell epochs, of so many participants
+  abbrev pub HasEpochs : ℕ → Type 0
+  HasEpochs participants = (seat ≡ table) × (sizes.participants ≡ participants) × (epoch_words participants ≤ table.words) × (participants ≤ 2 ^ 30)
+
+  -- and of this participant among them
+  abbrev pub HasEpochOf : ℕ → Type 0
+  HasEpochOf number = (seat ≡ table) × (number < sizes.participants) × (epoch_words sizes.participants ≤ table.words) × (sizes.participants ≤ 2 ^ 30)
+
+  -- and the cells are few enough
+  abbrev pub HasClaimOf : ℕ → Type 0
+  HasClaimOf number = (seat ≡ table) × (number < sizes.participants) × (epoch_words sizes.participants ≤ table.words) × (sizes.participants ≤ 2 ^ 30) × (sizes.cells ≤ 2 ^ 30)
+
+module _ (table seat : TableId) (d : Acting) where
+  -- the seat is at the table, and acts for a participant, one of so many, that has taken this slot
+  abbrev pub HasTaken : ℕ → ℕ → Type 0
+  HasTaken participants slot = (seat ≡ table) × (0 < table.words) × (d.kind ≡ 1) × (d.sizes.participants ≡ participants) × (participants ≤ 2 ^ 30) × (d.slot ≡ slot) × (slot < 2 ^ 30)
+
+  -- the same, where there are participants
+  abbrev pub HasTakenAll : ℕ → ℕ → Type 0
+  HasTakenAll participants slot = (seat ≡ table) × (0 < table.words) × (d.kind ≡ 1) × (d.sizes.participants ≡ participants) × (0 < participants) × (participants ≤ 2 ^ 30) × (d.slot ≡ slot) × (slot < 2 ^ 30)
+
+  -- the seat is at the table, and acts for the participant of this number, one of so many
+  abbrev pub ActsAmong : ℕ → ℕ → Type 0
+  ActsAmong participants number = (seat ≡ table) × (d.sizes.participants ≡ participants) × (participants ≤ 2 ^ 30) × (d.number ≡ number) × (number < 2 ^ 30)

@@ -1,5 +1,5 @@
 -- what stands between any two steps of any threads, in a place of items of some type
-use Rattle.std.specs.Prelude.{◌≡◌, ℕ, ◌+◌, ◌≤◌, slice_index}
+use Rattle.std.specs.Prelude.{◌≡◌, ℕ, ◌+◌, ◌≤◌, List, slice_index}
 use mathlib.Core.Option.{some}
 use lib.ListN.{get_elem?}
 use Rattle.atomic_table.specs.Table.{State}
@@ -14,10 +14,10 @@ use Rattle.sdd_domain.specs.declared.board.Acting.{Acting}
 use Rattle.sdd_domain.specs.declared.board.Plan.{Plan}
 
 -- The words and views show a state of the single steps that a schedule of them has led to from the beginning. It meets their invariant and keeps their promise.
-abbrev pub ShowsSafe : Type 0 → Type 0
-ShowsSafe T = (plan : Plan) (s : State (Home T) Acting) → Shows IsIn plan s → (t : steps.State) × Runs (beginning plan) t × Inv t × Safe t × (slice_index s.words count_word ≡ t.count)
+abbrev pub ShowsSafe : (T : Type 0) → (T → List (ℕ × ℕ)) → Type 0
+ShowsSafe T holds = (plan : Plan) (s : State (Home T) Acting) → Shows (IsIn holds) plan s → (t : steps.State) × Runs (beginning plan) t × Inv t × Safe t × (slice_index s.words count_word ≡ t.count)
 
 -- a guard that was published at the count `born` is open while the count is that or the next one
-abbrev pub RaisedAtMostOnce : Type 0 → Type 0
-RaisedAtMostOnce T = (plan : Plan) (s : State (Home T) Acting) (seat : ℕ) (v : Acting) (e : ℕ) → Shows IsIn plan s → get_elem? s.views seat ≡ some v → v.kind ≡ 1 → v.known.phase ≡ Opened e
+abbrev pub RaisedAtMostOnce : (T : Type 0) → (T → List (ℕ × ℕ)) → Type 0
+RaisedAtMostOnce T holds = (plan : Plan) (s : State (Home T) Acting) (seat : ℕ) (v : Acting) (e : ℕ) → Shows (IsIn holds) plan s → get_elem? s.views seat ≡ some v → v.kind ≡ 1 → v.known.phase ≡ Opened e
     → (e ≤ v.born) × (v.born ≤ slice_index s.words count_word) × (slice_index s.words count_word ≤ v.born + 1)

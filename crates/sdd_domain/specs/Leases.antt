@@ -1,12 +1,16 @@
 -- what a participant has leased, as its rows tell
-use Rattle.std.specs.Prelude.{◌≡◌, ℕ, suc, ◌<◌, ◌++◌, Bool, true, false, ◌==◌, ◌&&◌, List, [], ◌∷◌, map, nat_lt, Option, None, Some}
+use Rattle.std.specs.Prelude.{◌≡◌, ℕ, suc, ◌<◌, ◌≤◌, ◌^◌, ◌++◌, Bool, true, false, ◌==◌, ◌&&◌, List, [], ◌∷◌, map, length, nat_lt, Option, None, Some}
 use Rattle.parted.specs.declared.life.Life.{Life}
 use Rattle.sdd_homes.specs.declared.Lease.{Lease}
 use Rattle.atomic_table.specs.Table.{Me}
 use Rattle.sdd_steps.specs.declared.participant.Loaded.{Loaded}
+use Rattle.sdd_steps.specs.State.{Has}
+use Rattle.sdd_steps.specs.Steps.{is_inside, is_ready}
 use Rattle.sdd_homes.specs.declared.Owner.{Owner}
 use Rattle.sdd_homes.specs.declared.Garbage.{Garbage}
-use Rattle.sdd_domain.specs.Plays.{own_home}
+use Rattle.sdd_homes.specs.Book.{Apart}
+use Rattle.sdd_domain.specs.Contents.{blanks}
+use Rattle.sdd_domain.specs.Plays.{own_home, releasing_one}
 use Rattle.sdd_domain.specs.declared.board.Acting.{Acting}
 use Rattle.sdd_domain.specs.declared.board.Home.{Home}
 use Rattle.sdd_domain.specs.declared.board.Home.TheVariants.{Blank}
@@ -45,6 +49,22 @@ abbrev pub all_below : ℕ → List ℕ → Bool
 all_below n [] = true
 all_below n (k ∷ ks) = nat_lt k n && all_below n ks
 
+-- the rows tell the leases, under this life, all in slots of the place, and there is room for a row of each slot
+abbrev pub HasRows : {T : Type 0} → ℕ → ℕ → List Lease → List (Row T) → ℕ → Type 0
+HasRows life slots ls rows room = (map row_told rows ≡ map (lease_told life) ls) × (all_below slots (row_slots rows) ≡ true) × (slots ≤ room)
+
+-- they still tell the leases, and the room is what it was
+abbrev pub KeepsRows : {T : Type 0} → ℕ → ℕ → List Lease → List (Row T) → ℕ → ℕ → Type 0
+KeepsRows life slots ls rows before after = (map row_told rows ≡ map (lease_told life) ls) × (all_below slots (row_slots rows) ≡ true) × (after ≡ before)
+
+-- the lease of the first owner's slot has few parts, of the owner's round, and there is room for one more item to wait
+abbrev pub HasFew : Acting → Type 0
+HasFew d = (l : Lease) (o : Owner) (os : List Owner) → Has d.leases l → o.slot ≡ l.slot → d.hand ≡ o ∷ os → (l.count < 2 ^ 63) × (length d.waits < d.sizes.slots) × Apart d.leases × (o.round ≡ l.round)
+
+-- the first owner in hand is released, where so many were found
+abbrev pub ReleasesOne : {S : Type 0} → Me S Acting → ℕ → Me S Acting → Type 0
+ReleasesOne m n m' = (l : Lease) (o : Owner) (os : List Owner) → Has m.0.leases l → o.slot ≡ l.slot → m.0.hand ≡ o ∷ os → m' ≡ (releasing_one n l os m.0, m.1)
+
 -- the first owner in hand is of an item in this slot and of this round
 abbrev pub IsFirst : Acting → ℕ → ℕ → Type 0
 IsFirst d k r = (o : Owner) × (os : List Owner) × (d.hand ≡ o ∷ os) × (o.slot ≡ k) × (o.round ≡ r)
@@ -58,6 +78,10 @@ HasReleased k left m ls m' = (o : Owner) (os : List Owner) → m.0.hand ≡ o �
 abbrev pub HasLeased : {S : Type 0} → Me S Acting → Me S Acting → Type 0
 HasLeased m m' = (hs : List Loaded) × (ls : List Lease) × (m'.0 ≡ record m.0 { known = record m.0.known { loaded = hs }; leases = ls })
 
+-- something may have been loaded under the open guard, and these are leased besides: their homes are out behind the others, and empty
+abbrev pub HasNoted : {T : Type 0} → Me (Home T) Acting → Me (Home T) Acting → Type 0
+HasNoted m m' = (hs : List Loaded) × (ls : List Lease) × (m' ≡ (record m.0 { known = record m.0.known { loaded = hs }; leases = m.0.leases ++ ls }, m.1 ++ blanks (leased_homes m.0 ls)))
+
 -- the home of an item that is cloned, where its lease is the last one, is in front of what is out with the seat, and is empty
 abbrev pub HasEmptied : {T : Type 0} → Me (Home T) Acting → ℕ → Lease → List Lease → List (ℕ × Home T) → Type 0
 HasEmptied m at l ls tail = (m.0.leases ≡ ls ++ l ∷ []) × (m.0.releasing ≡ suc l.item) × (at ≡ own_home m.0 l.slot) × (m.1 ≡ (at, Blank) ∷ tail)
@@ -65,3 +89,15 @@ HasEmptied m at l ls tail = (m.0.leases ≡ ls ++ l ∷ []) × (m.0.releasing �
 -- the first owner in hand, of an item of the round r, is there twice now; the leases are these now
 abbrev pub HasCloned : {S : Type 0} → Me S Acting → ℕ → List Lease → Me S Acting → Type 0
 HasCloned m r ls m' = (o : Owner) (os : List Owner) → m.0.hand ≡ o ∷ os → (o.round ≡ r) × (m' ≡ (record m.0 { hand = o ∷ o ∷ os; leases = ls }, m.1))
+
+-- the same, where the leases are in the slots that they were in
+abbrev pub HasClonedOne : {S : Type 0} → Me S Acting → ℕ → Me S Acting → Type 0
+HasClonedOne m r m' = (ls : List Lease) × (map (λ (l : Lease). l.slot) ls ≡ map (λ (l : Lease). l.slot) m.0.leases) × HasCloned m r ls m'
+
+-- the seat acts for p under an open guard, has this spare slot, and releases nothing
+abbrev pub CanExchange : ℕ → ℕ → Acting → Type 0
+CanExchange p spare d = (d.kind ≡ 1) × (d.number ≡ p) × (is_ready d.known ≡ true) × (is_inside d.known ≡ true) × (d.releasing ≡ 0) × (d.spare ≡ spare) × (spare < 2 ^ 33)
+
+-- the seat acts for p, which has nothing leased and releases nothing, and may make steps on items
+abbrev pub IsAtRest : ℕ → Acting → Type 0
+IsAtRest p d = (d.kind ≡ 1) × (d.number ≡ p) × (is_ready d.known ≡ true) × (d.releasing ≡ 0) × (d.leases ≡ [])

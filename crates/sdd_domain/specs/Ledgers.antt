@@ -1,9 +1,15 @@
--- the ledger of a participant that has just registered
-use Rattle.std.specs.Prelude.{◌≡◌, ℕ, ◌≤◌, []}
+-- the ledger of a participant that has just registered, and what waits in its bags
+use Rattle.std.specs.Prelude.{◌≡◌, ℕ, ◌≤◌, List, []}
+use Rattle.sdd_homes.specs.declared.Garbage.{Garbage}
+use Rattle.sdd_domain.specs.declared.bags.Bags.{Bags}
 use Rattle.std.specs.VecDeque.{deque_capacity}
 use Rattle.sdd_domain.specs.Bags.{ages, Waits}
 use Rattle.sdd_domain.specs.declared.ledger.Ledger.{Ledger}
 
+-- this waits, as the bags tell
+abbrev pub WaitsIn : List Garbage → Bags → Type 0
+WaitsIn ws b = Waits ws b.slots.items (ages b.current b.previous b.next b.due)
+
 -- nothing waits and nothing is leased, and there is room for so many items
 abbrev pub IsEmpty : {T : Type 0} → ℕ → Ledger T → Type 0
-IsEmpty n l = Waits [] l.bags.slots.items (ages l.bags.current l.bags.previous l.bags.next l.bags.due) × (l.bags.due ≡ 0) × (deque_capacity l.bags.slots ≡ n) × (l.rows.items ≡ []) × (n ≤ deque_capacity l.rows)
+IsEmpty n l = WaitsIn [] l.bags × (l.bags.due ≡ 0) × (deque_capacity l.bags.slots ≡ n) × (l.rows.items ≡ []) × (n ≤ deque_capacity l.rows)

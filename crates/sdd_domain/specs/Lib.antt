@@ -10,8 +10,11 @@ pub mod Rule
 pub mod Plays
 pub mod Leases
 pub mod Sharing
+pub mod Holding
 pub mod Cells
 pub mod Tokens
 pub mod Pointers
+pub mod Comparing
+pub mod Outcomes
 pub mod Laws
 pub mod formers

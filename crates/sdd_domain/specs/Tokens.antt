@@ -1,9 +1,10 @@
 -- what places, participants and guards show to clauses
-use Rattle.std.specs.Prelude.{◌≡◌, Bool, false, ℕ, ◌-◌, ◌==◌, length, cond}
+use Rattle.std.specs.Prelude.{◌≡◌, Bool, false, ℕ, ◌-◌, ◌==◌, List, length, map, cond}
 use Rattle.atomic_table.specs.Seated.{TableId}
 use Rattle.sdd_base.specs.declared.sizes.Sizes.{Sizes}
 use Rattle.sdd_base.specs.declared.status.LocalState.{LocalState}
 use Rattle.sdd_base.specs.Steps.{closings_after, scans}
+use Rattle.sdd_domain.specs.Holding.{told}
 use Rattle.sdd_domain.specs.Leases.{life_number}
 use Rattle.sdd_domain.specs.declared.domain.Domain.{Domain}
 use Rattle.sdd_domain.specs.declared.local.Local.{Local}
@@ -16,6 +17,10 @@ participants_of d = d.sizes.participants
 -- and how many cells
 abbrev pub cell_count : {T : Type 0} → Domain T → ℕ
 cell_count d = d.sizes.cells
+
+-- and how many slots
+abbrev pub slot_count : {T : Type 0} → Domain T → ℕ
+slot_count d = d.sizes.slots
 
 -- the count of raises that the place began with
 abbrev pub first_of : {T : Type 0} → Domain T → ℕ
@@ -38,6 +43,10 @@ own_of l = l.own
 abbrev pub born_of : {T : Type 0} → Local T → ℕ
 born_of l = l.place.me.0.born
 
+-- the owners in its hand, by slot and round: they are on their way into an item, or out of one
+abbrev pub hand_of : {T : Type 0} → Local T → List (ℕ × ℕ)
+hand_of l = map told l.place.me.0.hand
+
 -- how many items the participant has retired that aren't reclaimed yet
 abbrev pub waiting_of : {T : Type 0} → Local T → ℕ
 waiting_of l = length l.place.me.0.waits
@@ -53,13 +62,17 @@ nest_of g = (g.participant, g.life.id)
 abbrev pub nest_in : {T : Type 0} → Local T → ℕ × ℕ
 nest_in l = (l.number, life_number l.life)
 
--- the same participant of the same place
+-- the same participant of the same place, with the same owners in hand
 abbrev pub IsSame : {T : Type 0} → Local T → Local T → Type 0
-IsSame old new = (home_of new ≡ home_of old) × (number_of new ≡ number_of old)
+IsSame old new = (home_of new ≡ home_of old) × (number_of new ≡ number_of old) × (hand_of new ≡ hand_of old)
 
 -- and the same guards are open
 abbrev pub IsInNest : {T : Type 0} → Local T → Local T → Type 0
 IsInNest old new = IsSame old new × (nest_in new ≡ nest_in old)
+
+-- the same participant of the same place, with the same guards open, and all else of it as it was but its hand
+abbrev pub IsSameButHand : {T : Type 0} → Local T → Local T → Type 0
+IsSameButHand old new = (home_of new ≡ home_of old) × (number_of new ≡ number_of old) × (nest_in new ≡ nest_in old) × (own_of new ≡ own_of old) × (born_of new ≡ born_of old) × (waiting_of new ≡ waiting_of old)
 
 -- An outermost opening that found this count. A rotation sets the flag of garbage if anything waits behind it, and else clears it.
 abbrev pub begun : ℕ → Bool → LocalState → LocalState

@@ -1,1 +1,1 @@
-pub mod shared
+pub mod held

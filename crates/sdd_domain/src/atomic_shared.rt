@@ -3,8 +3,10 @@
 ghost use Rattle.std.specs.Prelude.{◌≡◌, ◌<◌, ◌||◌, Bool, IfSome, IfOk, IfErr};
 
 use crate::cells::is_null;
+use crate::comparing::{names, try_exchange, word_of};
 use crate::domain::Domain;
 use crate::guard::Guard;
+use crate::holds::Holds;
 use crate::local::Local;
 use crate::pointer::{Loaded, Ptr};
 use crate::shared::Shared;
@@ -18,13 +20,14 @@ pub struct AtomicShared {
 
 impl AtomicShared {
     ghost use Rattle.sdd_domain.specs.Cells.{cell_number};
+    ghost use Rattle.sdd_domain.specs.Comparing.{IsOfLoaded, IsBack};
     ghost use Rattle.sdd_domain.specs.Pointers.{IsUnder};
     ghost use Rattle.sdd_domain.specs.Sharing.{kept_in};
     ghost use Rattle.sdd_domain.specs.Tokens.{place_of, home_of, own_of, born_of, waiting_of, cell_count, nest_of, nest_in, IsInNest};
 
     /// A cell that owns nothing, if nobody has one of those that the place has: each is tried once. It must be spent by
     /// `into_shared` or `retire`.
-    pub fn null<T>(domain: &Domain<T>) -> Option<AtomicShared>
+    pub fn null<T: Holds>(domain: &Domain<T>) -> Option<AtomicShared>
         ensures inside { IfSome result (λ c. cell_number c < cell_count domain.now) }
     {
         for cell in 0..domain.sizes.cells {
@@ -36,7 +39,7 @@ impl AtomicShared {
     }
 
     /// A cell that owns this item. The owner is back where there is no cell.
-    pub fn from<T>(
+    pub fn from<T: Holds>(
         owner: Shared<T>,
         domain: &Domain<T>,
         local: &mut Local<T>,
@@ -59,7 +62,7 @@ impl AtomicShared {
     }
 
     /// Whether the cell owns nothing, as it is found in one step.
-    pub fn is_null<T>(&self, domain: &Domain<T>) -> bool
+    pub fn is_null<T: Holds>(&self, domain: &Domain<T>) -> bool
         requires inside { cell_number self.now < cell_count domain.now }
     {
         is_null(domain.words(), &domain.sizes, self.cell)
@@ -67,7 +70,7 @@ impl AtomicShared {
 
     /// What the cell names, as it is found in one step. The item stays, as it is, until the outermost guard closes,
     /// whatever other threads do with the cell.
-    pub fn load<'g, T>(
+    pub fn load<'g, T: Holds>(
         &self,
         domain: &Domain<T>,
         guard: &'g Guard,
@@ -83,7 +86,12 @@ impl AtomicShared {
     }
 
     /// The same, without a borrow of the guard.
-    pub fn loaded<T>(&self, domain: &Domain<T>, guard: &Guard, local: &mut Local<T>) -> Loaded<T>
+    pub fn loaded<T: Holds>(
+        &self,
+        domain: &Domain<T>,
+        guard: &Guard,
+        local: &mut Local<T>,
+    ) -> Loaded<T>
         requires home { home_of local.old ≡ place_of domain.now }
         requires mine { nest_of guard.now ≡ nest_in local.old }
         requires open { 0 < (own_of local.old).nesting }
@@ -104,7 +112,7 @@ impl AtomicShared {
     }
 
     /// Swaps what the cell owns, in one step: the owner goes into it, and the one that it had comes out.
-    pub fn swap<T>(
+    pub fn swap<T: Holds>(
         &self,
         new: Option<Shared<T>>,
         domain: &Domain<T>,
@@ -122,8 +130,45 @@ impl AtomicShared {
         old
     }
 
+    /// Swaps what the cell owns for `new`, in one step, where it names the item of `current`, or nothing where that is
+    /// nothing: the owner that it had comes out. Else the cell stays as it is: `new` is back, and with it what the cell
+    /// was found to name, which is read as what `loaded` gives. It is one try: where other threads change the cell during
+    /// the call, it may be refused though the cell named that item before and names it again, and what was found may be
+    /// that item. It takes no memory.
+    pub fn compare_exchange<T: Holds>(
+        &self,
+        current: &Loaded<T>,
+        new: Option<Shared<T>>,
+        domain: &Domain<T>,
+        guard: &Guard,
+        local: &mut Local<T>,
+    ) -> Result<Option<Shared<T>>, (Option<Shared<T>>, Loaded<T>)>
+        requires home { home_of local.old ≡ place_of domain.now }
+        requires nest { nest_of guard.now ≡ nest_in local.old }
+        requires open { 0 < (own_of local.old).nesting }
+        requires inside { cell_number self.now < cell_count domain.now }
+        requires loaded { IsUnder current.now guard.now }
+        requires mine { IfSome new (λ s. kept_in s ≡ (place_of domain.now).0) }
+        ensures home { IfOk result (λ old. IfSome old (λ s. kept_in s ≡ (place_of domain.now).0)) }
+        ensures exact { IfOk result (λ old. IsOfLoaded old current.now) }
+        ensures back { IfErr result (λ t. IsBack new t.0) }
+        ensures under { IfErr result (λ t. IsUnder t.1 guard.now) }
+        ensures same { IsInNest local.old local.new × (own_of local.new ≡ own_of local.old) × (born_of local.new ≡ born_of local.old) × (waiting_of local.new ≡ waiting_of local.old) }
+    {
+        let word = word_of(domain.words(), &domain.sizes, self.cell);
+        if !names(word, current) {
+            let found = self.loaded(domain, guard, local);
+            return Err((new, found));
+        }
+        try_exchange(local, domain, self.cell, word, new)
+    }
+
     /// What the cell owned. The cell is the next one's that asks for one.
-    pub fn into_shared<T>(self, domain: &Domain<T>, local: &mut Local<T>) -> Option<Shared<T>>
+    pub fn into_shared<T: Holds>(
+        self,
+        domain: &Domain<T>,
+        local: &mut Local<T>,
+    ) -> Option<Shared<T>>
         requires home { home_of local.old ≡ place_of domain.now }
         requires inside { cell_number self < cell_count domain.now }
         ensures home { IfSome result (λ s. kept_in s ≡ (place_of domain.now).0) }
@@ -136,7 +181,7 @@ impl AtomicShared {
     }
 
     /// Gives the cell back, and releases what it owned. Whether that was the last owner of its item.
-    pub fn retire<T>(self, domain: &Domain<T>, local: &mut Local<T>) -> bool
+    pub fn retire<T: Holds>(self, domain: &Domain<T>, local: &mut Local<T>) -> bool
         requires home { home_of local.old ≡ place_of domain.now }
         requires inside { cell_number self < cell_count domain.now }
         ensures same { IsInNest local.old local.new × (born_of local.new ≡ born_of local.old) × (own_of local.new ≡ record (own_of local.old) { garbage = (own_of local.old).garbage || result }) }

@@ -1,10 +1,9 @@
 //! What a participant has retired, by how often it has rotated since.
 
-ghost use Rattle.std.specs.Prelude.{◌≡◌, ℕ, ◌+◌, ◌<◌, ◌≤◌, ◌++◌, ◌∷◌, [], List, IfOk, length, IfSome, IfNone, nat_lt};
+ghost use Rattle.std.specs.Prelude.{◌≡◌, ◌+◌, ◌<◌, ◌++◌, ◌∷◌, [], List, IfOk, length, IfSome, IfNone, nat_lt};
 ghost use Rattle.std.specs.VecDeque.{deque_len, deque_capacity};
 ghost use Rattle.sdd_homes.specs.declared.Garbage.{Garbage};
 ghost use Rattle.sdd_domain.specs.Views.{older_waits};
-ghost use Rattle.sdd_domain.specs.Bags.{ages, Waits};
 
 use std::alloc::{AllocError, Global};
 use std::collections::VecDeque;
@@ -22,9 +21,11 @@ pub struct Bags {
 }
 
 impl Bags {
+    ghost use Rattle.sdd_domain.specs.Ledgers.{WaitsIn};
+
     /// Empty bags, with room for so many items.
     pub(crate) fn new(alloc: Global, room: usize) -> Result<Bags, AllocError>
-        ensures { IfOk result (λ b. Waits [] b.slots.items (ages b.current b.previous b.next b.due) × (b.due ≡ 0) × (deque_capacity b.slots ≡ room)) }
+        ensures { IfOk result (λ b. WaitsIn [] b × (b.due ≡ 0) × (deque_capacity b.slots ≡ room)) }
     {
         let slots = VecDeque::with_capacity(alloc, room)?;
         Ok(Bags {
@@ -39,7 +40,7 @@ impl Bags {
     /// Puts an item into the current bag, where there is room for it.
     pub(crate) fn retire(&mut self, slot: usize)
         requires { deque_len self.old.slots < deque_capacity self.old.slots }
-        ensures retired { (ws : List Garbage) (w : Garbage) → Waits ws self.old.slots.items (ages self.old.current self.old.previous self.old.next self.old.due) → w.slot ≡ slot → w.age ≡ 0 → Waits (w ∷ ws) self.new.slots.items (ages self.new.current self.new.previous self.new.next self.new.due) }
+        ensures retired { (ws : List Garbage) (w : Garbage) → WaitsIn ws self.old → w.slot ≡ slot → w.age ≡ 0 → WaitsIn (w ∷ ws) self.new }
         ensures same { (self.new.due ≡ self.old.due) × (deque_capacity self.new.slots ≡ deque_capacity self.old.slots) }
         ensures longer { deque_len self.new.slots ≡ deque_len self.old.slots + 1 }
     {
@@ -51,7 +52,7 @@ impl Bags {
     /// Turns the bags by one, where nothing is due.
     pub(crate) fn rotate(&mut self)
         requires { self.old.due ≡ 0 }
-        ensures rotated { (ws : List Garbage) → Waits ws self.old.slots.items (ages self.old.current self.old.previous self.old.next self.old.due) → Waits (older_waits ws) self.new.slots.items (ages self.new.current self.new.previous self.new.next self.new.due) }
+        ensures rotated { (ws : List Garbage) → WaitsIn ws self.old → WaitsIn (older_waits ws) self.new }
         ensures same { deque_capacity self.new.slots ≡ deque_capacity self.old.slots }
     {
         let Bags {
@@ -69,14 +70,14 @@ impl Bags {
 
     /// Whether anything waits.
     pub(crate) fn has_some(&self) -> bool
-        ensures { (ws : List Garbage) → Waits ws self.now.slots.items (ages self.now.current self.now.previous self.now.next self.now.due) → result ≡ nat_lt 0 (length ws) }
+        ensures { (ws : List Garbage) → WaitsIn ws self.now → result ≡ nat_lt 0 (length ws) }
     {
         self.slots.len() > 0
     }
 
     /// Takes out what has waited longest, if it is due.
     pub(crate) fn take_due(&mut self) -> Option<usize>
-        ensures taken { IfSome result (λ slot. (ws : List Garbage) → Waits ws self.old.slots.items (ages self.old.current self.old.previous self.old.next self.old.due) → (vs : List Garbage) × (w : Garbage) × (ws ≡ vs ++ w ∷ []) × (w.slot ≡ slot) × (w.age ≡ 3) × Waits vs self.new.slots.items (ages self.new.current self.new.previous self.new.next self.new.due)) }
+        ensures taken { IfSome result (λ slot. (ws : List Garbage) → WaitsIn ws self.old → (vs : List Garbage) × (w : Garbage) × (ws ≡ vs ++ w ∷ []) × (w.slot ≡ slot) × (w.age ≡ 3) × WaitsIn vs self.new) }
         ensures less { IfSome result (λ _. self.new.due + 1 ≡ self.old.due) }
         ensures none { IfNone result ((self.new ≡ self.old) × (self.old.due ≡ 0)) }
         ensures same { deque_capacity self.new.slots ≡ deque_capacity self.old.slots }

@@ -1,5 +1,6 @@
 //! The table of words that the threads of a place share, its rule, and what a seat at it knows.
 
+use crate::holds::Holds;
 use atomic_table::{Seat, Shared, Table, TableRule};
 use parted::{Deed, Part};
 use sdd_base::sizes::Sizes;
@@ -64,12 +65,12 @@ pub struct Plan {
 /// The rule: the words and views show a state of the single steps that meets their invariant.
 pub struct Rule;
 
-impl<T> TableRule<Home<T>, Acting, Plan> for Rule {
+impl<T: Holds> TableRule<Home<T>, Acting, Plan> for Rule {
     ghost use Rattle.sdd_domain.specs.Contents.{IsIn};
     ghost use Rattle.sdd_domain.specs.Rule.{Shows};
     ghost use Rattle.sdd_domain.specs.Views.{spent};
 
-    ghost holds = { λ plan. Shows IsIn plan };
+    ghost holds = { λ plan. Shows (IsIn T.holds) plan };
 
     ghost first = { λ _. spent };
 }

@@ -6,72 +6,75 @@ ghost use Rattle.sdd_homes.specs.declared.Lease.{Lease};
 ghost use Rattle.sdd_homes.specs.Book.{Lends, Apart};
 ghost use Rattle.sdd_homes.specs.declared.Owner.{Owner};
 ghost use Rattle.sdd_steps.specs.State.{Has};
-ghost use Rattle.sdd_domain.specs.Fitting.{FitsSlot, FitsCell};
+ghost use Rattle.sdd_domain.specs.Outcomes.{Exchanges, KeepsLease, EndsRelease};
+ghost use Rattle.sdd_domain.specs.Leases.{HasFew, ReleasesOne};
+ghost use Rattle.sdd_domain.specs.Fitting.{FitsSlot, FitsCell, HasSlot};
 ghost use Rattle.sdd_domain.specs.Contents.{IsIn};
 ghost use Rattle.sdd_domain.specs.Layout.{claim_word, all_words, IsSized};
-ghost use Rattle.sdd_domain.specs.Plays.{Scans, load_then, HasLoaded, CanClose, ending, end_all_then, Brings, GetsBack, swap_then, cloning, IsAlike, clone_then, releasing_one, release_then, HasBegun, begin_then, CanEnd, ended_release, end_release_then, CanKeep, keep_then, exchange_then};
+ghost use Rattle.sdd_domain.specs.Plays.{Scans, load_then, HasLoaded, CanClose, ending, end_all_then, Brings, swap_then, cloning, IsAlike, clone_then, release_then, HasBegun, begin_then, CanEnd, end_release_then, CanKeep, keep_then, exchange_then};
 ghost use Rattle.sdd_domain.specs.declared.board.Home.{Home};
 
 use crate::board::{Acting, Home, Place, Words};
+use crate::holds::Holds;
 use atomic_table::Play;
 use sdd_base::sizes::Sizes;
 
 struct OnLoad;
 
-impl<T> Play<Home<T>, Acting> for OnLoad {
-    ghost then = { load_then IsIn };
+impl<T: Holds> Play<Home<T>, Acting> for OnLoad {
+    ghost then = { load_then (IsIn T.holds) };
 }
 
 struct OnEndAll;
 
-impl<T> Play<Home<T>, Acting> for OnEndAll {
+impl<T: Holds> Play<Home<T>, Acting> for OnEndAll {
     ghost then = { end_all_then };
 }
 
 struct OnSwap;
 
-impl<T> Play<Home<T>, Acting> for OnSwap {
-    ghost then = { swap_then IsIn };
+impl<T: Holds> Play<Home<T>, Acting> for OnSwap {
+    ghost then = { swap_then (IsIn T.holds) };
 }
 
 struct OnExchange;
 
-impl<T> Play<Home<T>, Acting> for OnExchange {
-    ghost then = { exchange_then IsIn };
+impl<T: Holds> Play<Home<T>, Acting> for OnExchange {
+    ghost then = { exchange_then (IsIn T.holds) };
 }
 
 struct OnClone;
 
-impl<T> Play<Home<T>, Acting> for OnClone {
+impl<T: Holds> Play<Home<T>, Acting> for OnClone {
     ghost then = { clone_then };
 }
 
 struct OnRelease;
 
-impl<T> Play<Home<T>, Acting> for OnRelease {
+impl<T: Holds> Play<Home<T>, Acting> for OnRelease {
     ghost then = { release_then };
 }
 
 struct OnBegin;
 
-impl<T> Play<Home<T>, Acting> for OnBegin {
-    ghost then = { begin_then IsIn };
+impl<T: Holds> Play<Home<T>, Acting> for OnBegin {
+    ghost then = { begin_then (IsIn T.holds) };
 }
 
 struct OnKeep;
 
-impl<T> Play<Home<T>, Acting> for OnKeep {
-    ghost then = { keep_then IsIn };
+impl<T: Holds> Play<Home<T>, Acting> for OnKeep {
+    ghost then = { keep_then (IsIn T.holds) };
 }
 
 struct OnEndRelease;
 
-impl<T> Play<Home<T>, Acting> for OnEndRelease {
-    ghost then = { end_release_then IsIn };
+impl<T: Holds> Play<Home<T>, Acting> for OnEndRelease {
+    ghost then = { end_release_then (IsIn T.holds) };
 }
 
 /// Whether the cell names no item.
-pub(crate) fn is_null<T>(words: &Words<T>, sizes: &Sizes, cell: usize) -> bool
+pub(crate) fn is_null<T: Holds>(words: &Words<T>, sizes: &Sizes, cell: usize) -> bool
     requires { (words.now.key.sizes ≡ sizes.now) × IsSized sizes.now × (cell < sizes.now.cells) × (all_words sizes.now ≤ words.now.table_id.words) }
 {
     words.peek(8 * sizes.participants + 16 + cell) < 1 << 33
@@ -79,7 +82,7 @@ pub(crate) fn is_null<T>(words: &Words<T>, sizes: &Sizes, cell: usize) -> bool
 
 /// Loads the cell under the participant's open guard, for `participants` of them. If it names an item, the
 /// participant's parts of that come out of their home, unless they are leased already.
-pub(crate) fn load<T>(
+pub(crate) fn load<T: Holds>(
     words: &Words<T>,
     place: &mut Place<T>,
     participants: usize,
@@ -88,7 +91,7 @@ pub(crate) fn load<T>(
     requires table { FitsCell words.now.table_id words.now.key.sizes place.old.table_id participants cell }
     requires open { (place.old.me.0.kind ≡ 1) × (is_inside place.old.me.0.known ≡ true) }
     ensures seat { (place.new.table_id ≡ place.old.table_id) × (place.new.id ≡ place.old.id) }
-    ensures loaded { HasLoaded IsIn place.old.me result place.new.me }
+    ensures loaded { HasLoaded (IsIn T.holds) place.old.me result place.new.me }
 {
     words.load::<OnLoad>(place, 8 * participants + 16 + cell)
 }
@@ -96,7 +99,7 @@ pub(crate) fn load<T>(
 /// Swaps the cell for the owner that the participant brings, or for none, as `word` tells, for `participants` of them.
 /// The owner's part goes into the cell in the same step, in the participant's spare slot, and the cell's spare slot
 /// comes out with the part of the owner that the cell had: that is in hand now, if there was one.
-pub(crate) fn swap<T>(
+pub(crate) fn swap<T: Holds>(
     words: &Words<T>,
     place: &mut Place<T>,
     participants: usize,
@@ -105,15 +108,15 @@ pub(crate) fn swap<T>(
 ) -> u64
     requires table { FitsCell words.now.table_id words.now.key.sizes place.old.table_id participants cell }
     requires ready { (place.old.me.0.kind ≡ 1) × (is_ready place.old.me.0.known ≡ true) × (place.old.me.0.releasing ≡ 0) }
-    requires brings { (new : Option Owner) × (os : List Owner) × (tail : List (ℕ × Home T)) × Brings IsIn place.old.me new os word tail }
+    requires brings { (new : Option Owner) × (os : List Owner) × (tail : List (ℕ × Home T)) × Brings (IsIn T.holds) place.old.me new os word tail }
     ensures seat { (place.new.table_id ≡ place.old.table_id) × (place.new.id ≡ place.old.id) }
-    ensures swapped { (new : Option Owner) (os : List Owner) (tail : List (ℕ × Home T)) → Brings IsIn place.old.me new os word tail → GetsBack IsIn place.old.me os result tail place.new.me }
+    ensures swapped { Exchanges (IsIn T.holds) place.old.me word result place.new.me }
 {
     words.swap::<OnSwap>(place, 8 * participants + 16 + cell, word)
 }
 
 /// Swaps the cell as `swap` does where its word is `expected`, and else loads it as `load` does, in one step either way.
-pub(crate) fn compare_exchange<T>(
+pub(crate) fn compare_exchange<T: Holds>(
     words: &Words<T>,
     place: &mut Place<T>,
     participants: usize,
@@ -123,17 +126,17 @@ pub(crate) fn compare_exchange<T>(
 ) -> u64
     requires table { FitsCell words.now.table_id words.now.key.sizes place.old.table_id participants cell }
     requires ready { (place.old.me.0.kind ≡ 1) × (is_ready place.old.me.0.known ≡ true) × (is_inside place.old.me.0.known ≡ true) × (place.old.me.0.releasing ≡ 0) }
-    requires brings { (new : Option Owner) × (os : List Owner) × (tail : List (ℕ × Home T)) × Brings IsIn place.old.me new os word tail }
+    requires brings { (new : Option Owner) × (os : List Owner) × (tail : List (ℕ × Home T)) × Brings (IsIn T.holds) place.old.me new os word tail }
     ensures seat { (place.new.table_id ≡ place.old.table_id) × (place.new.id ≡ place.old.id) }
-    ensures hit { result ≡ expected → (new : Option Owner) (os : List Owner) (tail : List (ℕ × Home T)) → Brings IsIn place.old.me new os word tail → GetsBack IsIn place.old.me os result tail place.new.me }
-    ensures miss { result ≢ expected → HasLoaded IsIn place.old.me result place.new.me }
+    ensures hit { result ≡ expected → Exchanges (IsIn T.holds) place.old.me word result place.new.me }
+    ensures miss { result ≢ expected → HasLoaded (IsIn T.holds) place.old.me result place.new.me }
 {
     words.compare_exchange::<OnExchange>(place, 8 * participants + 16 + cell, expected, word)
 }
 
 /// Tries once to make one more owner of the item that is leased in `slot`, which has `owners` of them, for
 /// `participants` and `cells` of them. The owner is in hand, with one of the parts of the lease. Whether nobody was faster.
-pub(crate) fn clone_owner<T>(
+pub(crate) fn clone_owner<T: Holds>(
     words: &Words<T>,
     place: &mut Place<T>,
     participants: usize,
@@ -160,23 +163,23 @@ pub(crate) fn clone_owner<T>(
 
 /// Begins the release of the owner that is first in hand where its item isn't leased: the participant's home of it comes
 /// out.
-pub(crate) fn begin_release<T>(words: &Words<T>, place: &mut Place<T>)
+pub(crate) fn begin_release<T: Holds>(words: &Words<T>, place: &mut Place<T>)
     requires table { (place.old.table_id ≡ words.now.table_id) × (0 < words.now.table_id.words) }
     requires ready { (place.old.me.0.kind ≡ 1) × (place.old.me.0.releasing ≡ 0) }
     requires owner { (o : Owner) × (os : List Owner) × (place.old.me.0.hand ≡ o ∷ os) × ¬ Lends place.old.me.0.leases o.slot }
     ensures seat { (place.new.table_id ≡ place.old.table_id) × (place.new.id ≡ place.old.id) }
-    ensures begun { (o : Owner) (os : List Owner) → place.old.me.0.hand ≡ o ∷ os → HasBegun IsIn place.old.me o place.new.me }
+    ensures begun { (o : Owner) (os : List Owner) → place.old.me.0.hand ≡ o ∷ os → HasBegun (IsIn T.holds) place.old.me o place.new.me }
 {
     let _ = words.load::<OnBegin>(place, 0);
 }
 
 /// Gives the home back that `begin_release` took out, which is in front of what is out with the seat, with all parts of
 /// its lease. The owners in hand stay.
-pub(crate) fn keep_home<T>(words: &Words<T>, place: &mut Place<T>)
+pub(crate) fn keep_home<T: Holds>(words: &Words<T>, place: &mut Place<T>)
     requires table { (place.old.table_id ≡ words.now.table_id) × (0 < words.now.table_id.words) }
-    requires out { (place.old.me.0.kind ≡ 1) × ((l : Lease) × (ls : List Lease) × (tail : List (ℕ × Home T)) × CanKeep IsIn place.old.me l ls tail) }
+    requires out { (place.old.me.0.kind ≡ 1) × ((l : Lease) × (ls : List Lease) × (tail : List (ℕ × Home T)) × CanKeep (IsIn T.holds) place.old.me l ls tail) }
     ensures seat { (place.new.table_id ≡ place.old.table_id) × (place.new.id ≡ place.old.id) }
-    ensures kept { (l : Lease) (ls : List Lease) (tail : List (ℕ × Home T)) → CanKeep IsIn place.old.me l ls tail → place.new.me ≡ (record place.old.me.0 { leases = ls; releasing = 0 }, tail) }
+    ensures kept { KeepsLease (IsIn T.holds) place.old.me place.new.me }
 {
     let _ = words.load::<OnKeep>(place, 0);
 }
@@ -184,19 +187,19 @@ pub(crate) fn keep_home<T>(words: &Words<T>, place: &mut Place<T>)
 /// Releases the owner that is first in hand, of the item that is leased in `slot`, for `participants` and `cells` of
 /// them: its part is joined to the lease. Answers how many owners are left; with the last one the participant has
 /// retired the item, in the same step.
-pub(crate) fn release_owner<T>(
+pub(crate) fn release_owner<T: Holds>(
     words: &Words<T>,
     place: &mut Place<T>,
     participants: usize,
     cells: usize,
     slot: usize,
 ) -> u64
-    requires table { (place.old.table_id ≡ words.now.table_id) × (words.now.key.sizes.participants ≡ participants) × (words.now.key.sizes.cells ≡ cells) × (participants ≤ 2 ^ 30) × (cells ≤ 2 ^ 30) × (slot < words.now.key.sizes.slots) × (words.now.key.sizes.slots ≤ 2 ^ 30) × (all_words words.now.key.sizes ≤ words.now.table_id.words) }
+    requires table { HasSlot words.now.table_id words.now.key.sizes place.old.table_id participants cells slot }
     requires ready { (place.old.me.0.kind ≡ 1) × (is_ready place.old.me.0.known ≡ true) × (place.old.me.0.releasing ≡ 0) }
     requires owner { (l : Lease) × (o : Owner) × (os : List Owner) × Has place.old.me.0.leases l × (l.slot ≡ slot) × (o.slot ≡ l.slot) × (place.old.me.0.hand ≡ o ∷ os) }
     ensures seat { (place.new.table_id ≡ place.old.table_id) × (place.new.id ≡ place.old.id) }
-    ensures few { (l : Lease) (o : Owner) (os : List Owner) → Has place.old.me.0.leases l → o.slot ≡ l.slot → place.old.me.0.hand ≡ o ∷ os → (l.count < 2 ^ 63) × (length place.old.me.0.waits < place.old.me.0.sizes.slots) × Apart place.old.me.0.leases × (o.round ≡ l.round) }
-    ensures released { (l : Lease) (o : Owner) (os : List Owner) → Has place.old.me.0.leases l → o.slot ≡ l.slot → place.old.me.0.hand ≡ o ∷ os → place.new.me ≡ (releasing_one (result + 3) l os place.old.me.0, place.old.me.1) }
+    ensures few { HasFew place.old.me.0 }
+    ensures released { ReleasesOne place.old.me (result + 3) place.new.me }
 {
     words.fetch_sub::<OnRelease>(place, 8 * participants + 16 + cells + slot, 1) - 3
 }
@@ -205,29 +208,29 @@ pub(crate) fn release_owner<T>(
 /// `participants` and `cells` of them: the participant's home of the item is in front of what is out with the seat, the
 /// owner's part joined to its parts, and goes back in the same step. Answers how many owners are left; with the last one
 /// the participant has retired the item, in that step too.
-pub(crate) fn end_release<T>(
+pub(crate) fn end_release<T: Holds>(
     words: &Words<T>,
     place: &mut Place<T>,
     participants: usize,
     cells: usize,
     slot: usize,
 ) -> u64
-    requires table { (place.old.table_id ≡ words.now.table_id) × (words.now.key.sizes.participants ≡ participants) × (words.now.key.sizes.cells ≡ cells) × (participants ≤ 2 ^ 30) × (cells ≤ 2 ^ 30) × (slot < words.now.key.sizes.slots) × (words.now.key.sizes.slots ≤ 2 ^ 30) × (all_words words.now.key.sizes ≤ words.now.table_id.words) }
+    requires table { HasSlot words.now.table_id words.now.key.sizes place.old.table_id participants cells slot }
     requires ready { (place.old.me.0.kind ≡ 1) × (is_ready place.old.me.0.known ≡ true) }
-    requires begun { (l : Lease) × (ls : List Lease) × (o : Owner) × (os : List Owner) × (tail : List (ℕ × Home T)) × (l.slot ≡ slot) × CanEnd IsIn place.old.me l ls o os tail }
+    requires begun { (l : Lease) × (ls : List Lease) × (o : Owner) × (os : List Owner) × (tail : List (ℕ × Home T)) × (l.slot ≡ slot) × CanEnd (IsIn T.holds) place.old.me l ls o os tail }
     ensures seat { (place.new.table_id ≡ place.old.table_id) × (place.new.id ≡ place.old.id) }
     ensures room { length place.old.me.0.waits < place.old.me.0.sizes.slots }
-    ensures ended { (l : Lease) (ls : List Lease) (o : Owner) (os : List Owner) (tail : List (ℕ × Home T)) → CanEnd IsIn place.old.me l ls o os tail → place.new.me ≡ (ended_release (result + 3) l ls os place.old.me.0, tail) }
+    ensures ended { EndsRelease (IsIn T.holds) place.old.me (result + 3) place.new.me }
 {
     words.fetch_sub::<OnEndRelease>(place, 8 * participants + 16 + cells + slot, 1) - 3
 }
 
 /// Closes the guard of participant `number`. All that was leased goes home in the same step: its slots are in front
 /// of what is out with the seat, in the order of the leases, each with its parts again.
-pub(crate) fn close<T>(words: &Words<T>, place: &mut Place<T>, number: usize, epoch: u64)
+pub(crate) fn close<T: Holds>(words: &Words<T>, place: &mut Place<T>, number: usize, epoch: u64)
     requires table { (place.old.table_id ≡ words.now.table_id) × (number < 2 ^ 30) × (claim_word number < words.now.table_id.words) }
     requires open { Scans place.old number epoch 0 }
-    requires filled { CanClose IsIn place.old.me }
+    requires filled { CanClose (IsIn T.holds) place.old.me }
     ensures seat { (place.new.table_id ≡ place.old.table_id) × (place.new.id ≡ place.old.id) }
     ensures closed { place.new.me ≡ (ending place.old.me.0, drop (length place.old.me.0.leases) place.old.me.1) }
 {

@@ -1,17 +1,18 @@
 //! A place that threads share.
 
-ghost use Rattle.std.specs.Prelude.{◌≡◌, ◌≢◌, ℕ, ◌+◌, ◌*◌, ◌^◌, ◌<◌, ◌≤◌, [], ◌∷◌, ◌++◌, replicate, vec_len, IfOk, OnOk, IfErr, OnErr};
+ghost use Rattle.std.specs.Prelude.{◌≡◌, ◌+◌, ◌*◌, ◌^◌, ◌<◌, ◌≤◌, [], ◌++◌, replicate, vec_len, IfOk, OnOk, IfErr};
 ghost use Rattle.sdd_base.specs.State.{no_local};
 ghost use Rattle.sdd_domain.specs.Layout.{all_words, IsSized};
 ghost use Rattle.sdd_domain.specs.Rule.{numbers, first_eights, first_words};
 
 use crate::board::{Board, Plan, Words};
 use crate::guard::Guard;
+use crate::holds::Holds;
 use crate::homes::{clear, empty, homes_from};
 use crate::ledger::Ledger;
 use crate::local::Local;
 use crate::refusal::RegisterRefused;
-use crate::slots::has_owner;
+use crate::slots::{has_owner, is_used};
 use crate::steps::{claim, is_claimed, learn, sit};
 use atomic_table::Refused;
 use sdd_base::sizes::Sizes;
@@ -19,7 +20,7 @@ use std::alloc::{AllocError, Global};
 use std::sync::atomic::AtomicBool;
 
 /// A place that threads share by `&`. It can't be let go: `close` ends it.
-pub struct Domain<T> {
+pub struct Domain<T: Holds> {
     pub(crate) table: Board<T>,
     pub(crate) sizes: Sizes,
     heap: Global,
@@ -89,9 +90,9 @@ fn free_cells(alloc: Global, count: usize) -> Result<Vec<AtomicBool>, AllocError
     Ok(taken)
 }
 
-impl<T> Domain<T> {
+impl<T: Holds> Domain<T> {
     ghost use Rattle.sdd_domain.specs.Ledgers.{IsEmpty};
-    ghost use Rattle.sdd_domain.specs.Tokens.{participants_of, first_of, place_of, home_of, number_of, own_of};
+    ghost use Rattle.sdd_domain.specs.Tokens.{participants_of, slot_count, first_of, place_of, home_of, number_of, own_of, hand_of};
 
     /// A place without items, for as many participants as its sizes name, none of them registered. It takes all memory
     /// of the place but what `register` takes: homes for slots times participants, and a box for the item of each slot.
@@ -143,7 +144,7 @@ impl<T> Domain<T> {
     pub fn register(&self) -> Result<Local<T>, RegisterRefused>
         ensures home { IfOk result (λ l. home_of l ≡ place_of self.now) }
         ensures number { IfOk result (λ l. number_of l < participants_of self.now) }
-        ensures fresh { IfOk result (λ l. own_of l ≡ no_local) }
+        ensures fresh { IfOk result (λ l. (own_of l ≡ no_local) × (hand_of l ≡ [])) }
     {
         let Ok(mut ledger) = Ledger::new(self.heap, self.sizes.slots) else {
             return Err(RegisterRefused::Memory);
@@ -164,7 +165,7 @@ impl<T> Domain<T> {
         requires empty { IsEmpty self.now.sizes.slots ledger }
         ensures home { IfOk result (λ l. home_of l ≡ place_of self.now) }
         ensures number { IfOk result (λ l. number_of l ≡ number) }
-        ensures fresh { IfOk result (λ l. own_of l ≡ no_local) }
+        ensures fresh { IfOk result (λ l. (own_of l ≡ no_local) × (hand_of l ≡ [])) }
         ensures refused { IfErr result (λ back. back ≡ ledger) }
     {
         let mut place = sit(self.words());
@@ -175,14 +176,16 @@ impl<T> Domain<T> {
         Ok(Local::registered(self.words(), place, &self.sizes, number, spare, ledger))
     }
 
-    /// Opens and closes four accelerated guards of a participant, and ends it.
+    /// Opens and closes accelerated guards of a participant until nothing waits for it, four for each slot at most, and
+    /// ends it: what an item held waits only once the item is reclaimed.
     fn run_out(&self, local: Local<T>)
-    where
-        T: Drop,
-        requires { (home_of local ≡ place_of self.now) × ((own_of local).nesting ≡ 0) }
+        requires { (home_of local ≡ place_of self.now) × ((own_of local).nesting ≡ 0) × (hand_of local ≡ []) }
     {
         let mut local = local;
-        for _i in 0..4u32 {
+        for _i in 0..4 * self.sizes.slots {
+            if !local.has_waiting() {
+                break;
+            }
             if let Ok(guard) = Guard::new(self, &mut local) {
                 guard.accelerate(&mut local);
                 guard.close(self, &mut local);
@@ -192,10 +195,7 @@ impl<T> Domain<T> {
     }
 
     /// Reclaims all that participants left, where nobody has a guard open and memory isn't refused.
-    fn reclaim_left(&self)
-    where
-        T: Drop,
-    {
+    fn reclaim_left(&self) {
         for number in 0..self.sizes.participants {
             let Ok(ledger) = Ledger::new(self.heap, self.sizes.slots) else {
                 return;
@@ -227,17 +227,32 @@ impl<T> Domain<T> {
         false
     }
 
-    /// Ends the place, and drops what still waits. It is handed back while a `Local` or an owner is out. Where memory is
-    /// refused, what waits is let go without being dropped.
+    /// How many slots have an item or are being filled or emptied, each looked at in one step of its own.
+    pub fn slots_in_use(&self) -> usize
+        ensures { result ≤ slot_count self.now }
+    {
+        let mut used = 0;
+        for slot in 0..self.sizes.slots {
+            if is_used(self.words(), &self.sizes, slot) {
+                used += 1;
+            }
+        }
+        used
+    }
+
+    /// Ends the place, and drops what still waits, with what that holds. It is handed back while a `Local` or an owner is
+    /// out, and where memory is refused that reclaiming what waits takes, if that holds owners; what waits and holds none is
+    /// let go then without being dropped.
     pub fn close(self) -> Result<(), Domain<T>>
-    where
-        T: Drop,
         ensures back { IfErr result (λ d. (place_of d ≡ place_of self) × (participants_of d ≡ participants_of self) × (first_of d ≡ first_of self)) }
     {
-        if self.any_claimed() || self.any_owned() {
+        if self.any_claimed() {
             return Err(self);
         }
         self.reclaim_left();
+        if self.any_owned() {
+            return Err(self);
+        }
         let Domain {
             table,
             sizes: _,

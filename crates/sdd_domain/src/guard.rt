@@ -3,6 +3,7 @@
 ghost use Rattle.std.specs.Prelude.{◌≡◌, ℕ, ◌+◌, ◌<◌, ◌≤◌, ◌%◌, ◌↔◌, true, IsErr, IfOk, IfSome, IfNone, OnOk, OnErr, nat_lt};
 
 use crate::domain::Domain;
+use crate::holds::Holds;
 use crate::local::Local;
 use crate::steps;
 use parted::Life;
@@ -33,7 +34,7 @@ impl Guard {
     /// and publishes it in a second step; where it isn't the one that was found before, the participant's bags move
     /// on. From then until the outermost closing the count is raised at most once.
     #[inline(always)]
-    pub fn new<T: Drop>(domain: &Domain<T>, local: &mut Local<T>) -> Result<Guard, Nested>
+    pub fn new<T: Holds>(domain: &Domain<T>, local: &mut Local<T>) -> Result<Guard, Nested>
         requires { home_of local.old ≡ place_of domain.now }
         ensures guard { IfOk result (λ g. (participant_of g ≡ number_of local.old) × (nest_of g ≡ nest_in local.new)) }
         ensures nested { IsErr result ↔ ((own_of local.old).nesting ≡ 4294967295) }
@@ -65,7 +66,7 @@ impl Guard {
     }
 
     /// The epoch of the place: its count of raises modulo 64. It is the one of the guard's publication, or the next.
-    pub fn epoch<T>(&self, domain: &Domain<T>, local: &mut Local<T>) -> Epoch
+    pub fn epoch<T: Holds>(&self, domain: &Domain<T>, local: &mut Local<T>) -> Epoch
         requires home { home_of local.old ≡ place_of domain.now }
         requires mine { nest_of self.now ≡ nest_in local.old }
         requires open { 0 < (own_of local.old).nesting }
@@ -77,7 +78,7 @@ impl Guard {
     }
 
     /// Whether the flag was set since the participant's bags were last found empty.
-    pub fn has_garbage<T>(&self, local: &Local<T>) -> bool
+    pub fn has_garbage<T: Holds>(&self, local: &Local<T>) -> bool
         requires { nest_of self.now ≡ nest_in local.now }
         ensures { result ≡ (own_of local.now).garbage }
     {
@@ -85,7 +86,7 @@ impl Guard {
     }
 
     /// Sets that flag, so that a later closing scans.
-    pub fn set_has_garbage<T>(&self, local: &mut Local<T>)
+    pub fn set_has_garbage<T: Holds>(&self, local: &mut Local<T>)
         requires { nest_of self.now ≡ nest_in local.old }
         ensures set { own_of local.new ≡ record (own_of local.old) { garbage = true } }
         ensures same { IsInNest local.old local.new × (born_of local.new ≡ born_of local.old) }
@@ -94,7 +95,7 @@ impl Guard {
     }
 
     /// Asks that the outermost closing of this nesting scans.
-    pub fn accelerate<T>(&self, local: &mut Local<T>)
+    pub fn accelerate<T: Holds>(&self, local: &mut Local<T>)
         requires { nest_of self.now ≡ nest_in local.old }
         ensures set { own_of local.new ≡ record (own_of local.old) { accelerated = true } }
         ensures same { IsInNest local.old local.new × (born_of local.new ≡ born_of local.old) }
@@ -106,7 +107,7 @@ impl Guard {
     /// since the last scan with the flag of garbage set. All that was loaded under the nesting goes home. A scan tries once for the scan lock, and raises the count by
     /// one if every open guard published the present one.
     #[inline(always)]
-    pub fn close<T>(self, domain: &Domain<T>, local: &mut Local<T>)
+    pub fn close<T: Holds>(self, domain: &Domain<T>, local: &mut Local<T>)
         requires home { home_of local.old ≡ place_of domain.now }
         requires mine { nest_of self ≡ nest_in local.old }
         requires open { 0 < (own_of local.old).nesting }

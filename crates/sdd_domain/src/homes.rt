@@ -1,16 +1,20 @@
 //! What lies in the slots of a place when it is made, and when it is closed.
 
-ghost use Rattle.std.specs.Prelude.{◌≡◌, ℕ, suc, ◌+◌, ◌*◌, ◌^◌, ◌<◌, ◌≤◌, ◌++◌, ◌∷◌, ◌%◌, List, [], replicate, length, vec_len, vec_capacity, IsSome, IfOk, OnOk};
+ghost use Rattle.std.specs.Prelude.{◌≡◌, ℕ, suc, ◌+◌, ◌*◌, ◌^◌, ◌<◌, ◌≤◌, ◌++◌, ◌∷◌, ◌%◌, List, [], replicate, length, map, vec_len, vec_capacity, IsSome, IsSomeAnd, IfOk, OnOk};
+ghost use Rattle.std.specs.Mem.{manually_drop_value};
 ghost use Rattle.core.specs.Mem.Slots.{IsFull};
 ghost use Rattle.sdd_homes.specs.declared.Garbage.{Garbage};
 ghost use Rattle.sdd_homes.specs.declared.Owner.{Owner};
 ghost use Rattle.sdd_homes.specs.Book.{bag, deed, part, resting, room};
 ghost use Rattle.sdd_domain.specs.Layout.{all_homes, all_spares, IsSized};
+ghost use Rattle.sdd_domain.specs.Comparing.{AreIn};
 ghost use Rattle.sdd_domain.specs.Contents.{IsIn, garbage_slots, AreResting, AreBags};
+ghost use Rattle.sdd_domain.specs.Holding.{told};
 ghost use Rattle.sdd_domain.specs.declared.board.Home.{Home};
 ghost use Rattle.sdd_domain.specs.declared.board.Home.TheVariants.{Blank};
 
 use crate::board::{Home, Stored};
+use crate::holds::Holds;
 use atomic_table::Closed;
 use parted::{Deed, Part};
 use sdd_base::sizes::Sizes;
@@ -30,8 +34,8 @@ pub(crate) fn let_go<T>(home: Home<T>) {
 }
 
 /// The box of a free slot.
-pub(crate) fn room_of<T>(home: Home<T>) -> Box<Stored<T>>
-    requires { IsIn room home }
+pub(crate) fn room_of<T: Holds>(home: Home<T>) -> Box<Stored<T>>
+    requires { IsIn T.holds room home }
 {
     match home {
         Home::Room(room) => room,
@@ -43,9 +47,9 @@ pub(crate) fn room_of<T>(home: Home<T>) -> Box<Stored<T>>
 }
 
 /// The deed of an item.
-pub(crate) fn deed_of<T>(home: Home<T>) -> Deed<Stored<T>, Global>
-    requires { (r : ℕ) × (hs : List Owner) × IsIn (deed r hs) home }
-    ensures { (r : ℕ) (hs : List Owner) → IsIn (deed r hs) home → (result.life ≡ r) × IsSome result.value }
+pub(crate) fn deed_of<T: Holds>(home: Home<T>) -> Deed<Stored<T>, Global>
+    requires { (r : ℕ) × (hs : List Owner) × IsIn T.holds (deed r hs) home }
+    ensures { (r : ℕ) (hs : List Owner) → IsIn T.holds (deed r hs) home → (result.life ≡ r) × IsSomeAnd result.value (λ m. T.holds (manually_drop_value m) ≡ map told hs) }
 {
     match home {
         Home::Deed(deed) => deed,
@@ -57,9 +61,9 @@ pub(crate) fn deed_of<T>(home: Home<T>) -> Deed<Stored<T>, Global>
 }
 
 /// The parts that lie in a home, and how many they are.
-pub(crate) fn parts_of<T>(home: Home<T>) -> (Part<Stored<T>>, u64)
-    requires { (r : ℕ) × (c : ℕ) × IsIn (part r c) home }
-    ensures { (r c : ℕ) → IsIn (part r c) home → (result.0.life.id ≡ r) × (result.0.life.count ≡ c) × (result.1 ≡ c) × (0 < c) × IsSome result.0.seen.value }
+pub(crate) fn parts_of<T: Holds>(home: Home<T>) -> (Part<Stored<T>>, u64)
+    requires { (r : ℕ) × (c : ℕ) × IsIn T.holds (part r c) home }
+    ensures { (r c : ℕ) → IsIn T.holds (part r c) home → (result.0.life.id ≡ r) × (result.0.life.count ≡ c) × (result.1 ≡ c) × (0 < c) × IsSome result.0.seen.value × AreIn result.0 c home }
 {
     match home {
         Home::Part(part, count) => (part, count),
@@ -71,9 +75,9 @@ pub(crate) fn parts_of<T>(home: Home<T>) -> (Part<Stored<T>>, u64)
 }
 
 /// The slots that are in a bag.
-pub(crate) fn slots_left<T>(home: Home<T>) -> Vec<usize>
-    requires { (n : ℕ) × (ws : List Garbage) × IsIn (bag n ws) home }
-    ensures { (n : ℕ) (ws : List Garbage) → IsIn (bag n ws) home → (result.items ≡ garbage_slots ws) × (n ≤ vec_capacity result) × (length ws ≤ n) }
+pub(crate) fn slots_left<T: Holds>(home: Home<T>) -> Vec<usize>
+    requires { (n : ℕ) × (ws : List Garbage) × IsIn T.holds (bag n ws) home }
+    ensures { (n : ℕ) (ws : List Garbage) → IsIn T.holds (bag n ws) home → (result.items ≡ garbage_slots ws) × (n ≤ vec_capacity result) × (length ws ≤ n) }
 {
     match home {
         Home::Left(slots) => slots,
@@ -119,9 +123,13 @@ fn keep<T>(homes: &mut Vec<Home<T>>, home: Home<T>)
 }
 
 /// What lies at first in home `at` of all, for `participants` of them: a box, if it is the home of a deed.
-fn first_home<T>(alloc: Global, participants: usize, at: usize) -> Result<Home<T>, AllocError>
+fn first_home<T: Holds>(
+    alloc: Global,
+    participants: usize,
+    at: usize,
+) -> Result<Home<T>, AllocError>
     requires { participants < 2 ^ 63 }
-    ensures { IfOk result (λ home. IsIn (resting participants (at % suc participants)) home) }
+    ensures { IfOk result (λ home. IsIn T.holds (resting participants (at % suc participants)) home) }
 {
     if at % (participants + 1) != participants {
         return Ok(Home::Blank);
@@ -133,14 +141,14 @@ fn first_home<T>(alloc: Global, participants: usize, at: usize) -> Result<Home<T
 }
 
 /// The homes of free slots, so many of them, for `participants`, where there is room for these.
-fn push_rooms<T>(
+fn push_rooms<T: Holds>(
     homes: &mut Vec<Home<T>>,
     alloc: Global,
     participants: usize,
     count: usize,
 ) -> Result<(), AllocError>
     requires { (homes.old.items ≡ []) × (count ≤ vec_capacity homes.old) × (participants < 2 ^ 63) }
-    ensures homes { OnOk result ((length homes.new.items ≡ count) × AreResting participants homes.new.items) }
+    ensures homes { OnOk result ((length homes.new.items ≡ count) × AreResting T.holds participants homes.new.items) }
     ensures room { vec_capacity homes.old ≤ vec_capacity homes.new }
 {
     for at in 0..count {
@@ -162,14 +170,14 @@ fn push_blanks<T>(homes: &mut Vec<Home<T>>, count: usize)
 }
 
 /// Empty bags behind these, so many of them, where there is room for them; each has room for `slots` numbers.
-fn push_bags<T>(
+fn push_bags<T: Holds>(
     homes: &mut Vec<Home<T>>,
     alloc: Global,
     slots: usize,
     count: usize,
 ) -> Result<(), AllocError>
     requires { vec_len homes.old + count ≤ vec_capacity homes.old }
-    ensures { OnOk result ((bags : List (Home T)) × (length bags ≡ count) × AreBags slots bags × (homes.new.items ≡ homes.old.items ++ bags)) }
+    ensures { OnOk result ((bags : List (Home T)) × (length bags ≡ count) × AreBags T.holds slots bags × (homes.new.items ≡ homes.old.items ++ bags)) }
 {
     for _i in 0..count {
         let bag = Vec::with_capacity(alloc, slots)?;
@@ -179,14 +187,14 @@ fn push_bags<T>(
 }
 
 /// Puts the bags of `count` participants behind the homes, or lets go of these.
-fn with_bags<T>(
+fn with_bags<T: Holds>(
     homes: Vec<Home<T>>,
     alloc: Global,
     slots: usize,
     count: usize,
 ) -> Result<Vec<Home<T>>, AllocError>
     requires { vec_len homes + count ≤ vec_capacity homes }
-    ensures { IfOk result (λ all. (bags : List (Home T)) × (length bags ≡ count) × AreBags slots bags × (all.items ≡ homes.items ++ bags)) }
+    ensures { IfOk result (λ all. (bags : List (Home T)) × (length bags ≡ count) × AreBags T.holds slots bags × (all.items ≡ homes.items ++ bags)) }
 {
     let mut homes = homes;
     if push_bags(&mut homes, alloc, slots, count).is_err() {
@@ -197,9 +205,9 @@ fn with_bags<T>(
 }
 
 /// The homes and spare slots of a new place, and its bags.
-pub(crate) fn homes_from<T>(alloc: Global, sizes: &Sizes) -> Result<Vec<Home<T>>, AllocError>
+pub(crate) fn homes_from<T: Holds>(alloc: Global, sizes: &Sizes) -> Result<Vec<Home<T>>, AllocError>
     requires { IsSized sizes.now }
-    ensures { IfOk result (λ homes. (own : List (Home T)) × (bags : List (Home T)) × (length own ≡ all_homes sizes.now) × AreResting sizes.now.participants own × (length bags ≡ sizes.now.participants) × AreBags sizes.now.slots bags × (homes.items ≡ (own ++ replicate (all_spares sizes.now) Blank) ++ bags)) }
+    ensures { IfOk result (λ homes. (own : List (Home T)) × (bags : List (Home T)) × (length own ≡ all_homes sizes.now) × AreResting T.holds sizes.now.participants own × (length bags ≡ sizes.now.participants) × AreBags T.holds sizes.now.slots bags × (homes.items ≡ (own ++ replicate (all_spares sizes.now) Blank) ++ bags)) }
 {
     let own = sizes.slots * (sizes.participants + 1);
     let spares = sizes.cells + sizes.participants;

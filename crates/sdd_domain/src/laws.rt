@@ -2,13 +2,15 @@
 
 ghost use Rattle.sdd_domain.specs.Laws.{ShowsSafe, RaisedAtMostOnce};
 
+use crate::holds::Holds;
+
 /// What the table of a place shows at any moment is a state of the single steps that meets their invariant, and so
 /// keeps their promise: nothing that an open guard has loaded is reclaimed.
-pub fn every_moment_is_safe<T>()
-    ensures { ShowsSafe T }
+pub fn every_moment_is_safe<T: Holds>()
+    ensures { ShowsSafe T T.holds }
 {}
 
 /// While a guard is open, the count of raises is that of its publication or the next one, whatever other threads do.
-pub fn the_count_is_raised_at_most_once<T>()
-    ensures { RaisedAtMostOnce T }
+pub fn the_count_is_raised_at_most_once<T: Holds>()
+    ensures { RaisedAtMostOnce T T.holds }
 {}

@@ -1,7 +1,9 @@
 //! What a participant has leased under its open guards goes home.
 
-ghost use Rattle.std.specs.Prelude.{◌≡◌, ℕ, ◌+◌, ◌*◌, ◌^◌, ◌<◌, ◌≤◌, ◌++◌, ◌∷◌, [], List, map, length, drop, slice_index_or, IfSome, IfNone, IsSome};
+ghost use Rattle.std.specs.Prelude.{◌≡◌, ℕ, ◌+◌, ◌*◌, ◌<◌, ◌++◌, ◌∷◌, [], List, map, length, drop, slice_index_or, IfSome, IfNone, IsSome};
 ghost use Rattle.std.specs.VecDeque.{deque_capacity, deque_len};
+ghost use Rattle.sdd_domain.specs.Outcomes.{RefillsBehind};
+ghost use Rattle.sdd_domain.specs.Fitting.{ActsAmong};
 ghost use Rattle.sdd_domain.specs.Contents.{IsIn, blanks};
 ghost use Rattle.sdd_domain.specs.Leases.{row_told, lease_told, leased_homes};
 ghost use Rattle.sdd_steps.specs.State.{Has};
@@ -11,13 +13,14 @@ ghost use Rattle.sdd_domain.specs.declared.row.Row.{Row};
 ghost use Rattle.sdd_domain.specs.declared.board.Home.{Home};
 
 use crate::board::{Home, Place, Stored, Words};
+use crate::holds::Holds;
 use crate::homes::let_go;
 use crate::row::Row;
 use parted::{Ended, Seen};
 use std::collections::VecDeque;
 
 /// Which row is that of the item in `slot`, if it is leased.
-pub(crate) fn row_of<T>(rows: &VecDeque<Row<T>>, slot: usize) -> Option<usize>
+pub(crate) fn row_of<T: Holds>(rows: &VecDeque<Row<T>>, slot: usize) -> Option<usize>
     ensures leased { IfSome result (λ at. (at < deque_len rows.now) × ((d : Row T) → (slice_index_or rows.now.items at d).slot ≡ slot)) }
     ensures free { IfNone result (¬ Has (map (λ (r : Row T). r.slot) rows.now.items) slot) }
 {
@@ -30,7 +33,7 @@ pub(crate) fn row_of<T>(rows: &VecDeque<Row<T>>, slot: usize) -> Option<usize>
 }
 
 /// What a row's item is seen as, and its slot.
-pub(crate) fn seen_at<T>(
+pub(crate) fn seen_at<T: Holds>(
     rows: &VecDeque<Row<T>>,
     at: Option<usize>,
 ) -> Option<(usize, Seen<Stored<T>>)>
@@ -43,7 +46,7 @@ pub(crate) fn seen_at<T>(
 }
 
 /// Fills the homes of all leases, which are in front of what is out with the seat, and go behind the others.
-fn refill<T>(
+fn refill<T: Holds>(
     words: &Words<T>,
     place: &mut Place<T>,
     participants: usize,
@@ -51,11 +54,11 @@ fn refill<T>(
     rows: &mut VecDeque<Row<T>>,
     ended: &Ended,
 )
-    requires table { (place.old.table_id ≡ words.now.table_id) × (place.old.me.0.sizes.participants ≡ participants) × (participants ≤ 2 ^ 30) × (place.old.me.0.number ≡ number) × (number < 2 ^ 30) }
+    requires table { ActsAmong words.now.table_id place.old.table_id place.old.me.0 participants number }
     requires rows { map row_told rows.old.items ≡ map (lease_told ended.now.id) place.old.me.0.leases }
     requires out { place.old.me.1 ≡ blanks (leased_homes place.old.me.0 place.old.me.0.leases) ++ drop (length place.old.me.0.leases) place.old.me.1 }
     ensures seat { (place.new.table_id ≡ place.old.table_id) × (place.new.id ≡ place.old.id) }
-    ensures filled { (xs : List (ℕ × Home T)) × Refilled IsIn place.old.me.0 place.old.me.0.leases xs [] × (place.new.me ≡ (place.old.me.0, drop (length place.old.me.0.leases) place.old.me.1 ++ xs)) }
+    ensures filled { (xs : List (ℕ × Home T)) × Refilled (IsIn T.holds) place.old.me.0 place.old.me.0.leases xs [] × (place.new.me ≡ (place.old.me.0, drop (length place.old.me.0.leases) place.old.me.1 ++ xs)) }
     ensures empty { (rows.new.items ≡ []) × (deque_capacity rows.new ≡ deque_capacity rows.old) }
 {
     while let Some(row) = rows.pop_front() {
@@ -70,7 +73,7 @@ fn refill<T>(
 /// Gives the parts of all leases back to their homes, once the life that they were lent to is over. The homes are in front
 /// of what is out with the seat then, and behind them the two slots that were in front.
 #[inline(never)]
-fn give_rows<T>(
+fn give_rows<T: Holds>(
     words: &Words<T>,
     place: &mut Place<T>,
     participants: usize,
@@ -78,11 +81,11 @@ fn give_rows<T>(
     rows: &mut VecDeque<Row<T>>,
     ended: &Ended,
 )
-    requires table { (place.old.table_id ≡ words.now.table_id) × (place.old.me.0.sizes.participants ≡ participants) × (participants ≤ 2 ^ 30) × (place.old.me.0.number ≡ number) × (number < 2 ^ 30) }
+    requires table { ActsAmong words.now.table_id place.old.table_id place.old.me.0 participants number }
     requires rows { map row_told rows.old.items ≡ map (lease_told ended.now.id) place.old.me.0.leases }
     requires out { (k : ℕ) × (l : ℕ) × (place.old.me.1 ≡ blanks (k ∷ l ∷ leased_homes place.old.me.0 place.old.me.0.leases)) }
     ensures seat { (place.new.table_id ≡ place.old.table_id) × (place.new.id ≡ place.old.id) }
-    ensures filled { (k l : ℕ) → place.old.me.1 ≡ blanks (k ∷ l ∷ leased_homes place.old.me.0 place.old.me.0.leases) → (xs : List (ℕ × Home T)) × Refilled IsIn place.old.me.0 place.old.me.0.leases xs (blanks (k ∷ l ∷ [])) × (place.new.me ≡ (place.old.me.0, xs)) }
+    ensures filled { RefillsBehind (IsIn T.holds) place.old.me place.new.me }
     ensures empty { (rows.new.items ≡ []) × (deque_capacity rows.new ≡ deque_capacity rows.old) }
 {
     place.turn();
@@ -94,7 +97,7 @@ fn give_rows<T>(
 
 /// The same, at once where nothing is leased, as mostly when guards close.
 #[inline(always)]
-pub(crate) fn give_home<T>(
+pub(crate) fn give_home<T: Holds>(
     words: &Words<T>,
     place: &mut Place<T>,
     participants: usize,
@@ -102,11 +105,11 @@ pub(crate) fn give_home<T>(
     rows: &mut VecDeque<Row<T>>,
     ended: &Ended,
 )
-    requires table { (place.old.table_id ≡ words.now.table_id) × (place.old.me.0.sizes.participants ≡ participants) × (participants ≤ 2 ^ 30) × (place.old.me.0.number ≡ number) × (number < 2 ^ 30) }
+    requires table { ActsAmong words.now.table_id place.old.table_id place.old.me.0 participants number }
     requires rows { map row_told rows.old.items ≡ map (lease_told ended.now.id) place.old.me.0.leases }
     requires out { (k : ℕ) × (l : ℕ) × (place.old.me.1 ≡ blanks (k ∷ l ∷ leased_homes place.old.me.0 place.old.me.0.leases)) }
     ensures seat { (place.new.table_id ≡ place.old.table_id) × (place.new.id ≡ place.old.id) }
-    ensures filled { (k l : ℕ) → place.old.me.1 ≡ blanks (k ∷ l ∷ leased_homes place.old.me.0 place.old.me.0.leases) → (xs : List (ℕ × Home T)) × Refilled IsIn place.old.me.0 place.old.me.0.leases xs (blanks (k ∷ l ∷ [])) × (place.new.me ≡ (place.old.me.0, xs)) }
+    ensures filled { RefillsBehind (IsIn T.holds) place.old.me place.new.me }
     ensures empty { (rows.new.items ≡ []) × (deque_capacity rows.new ≡ deque_capacity rows.old) }
 {
     if rows.is_empty() {

@@ -1,19 +1,21 @@
 //! What an ended participant leaves: its bag in the table, which the next one that acts for it takes over.
 
-ghost use Rattle.std.specs.Prelude.{◌≡◌, ℕ, ◌+◌, ◌*◌, ◌≤◌, ◌<◌, ◌∷◌, [], List, length, map, true, vec_len, vec_capacity};
+ghost use Rattle.std.specs.Prelude.{◌≡◌, ℕ, ◌+◌, ◌*◌, ◌≤◌, ◌<◌, ◌∷◌, [], List, true, vec_len, vec_capacity};
 ghost use Rattle.std.specs.VecDeque.{deque_len, deque_capacity};
 ghost use Rattle.sdd_steps.specs.Steps.{is_ready};
 ghost use Rattle.sdd_homes.specs.declared.Garbage.{Garbage};
 ghost use Rattle.sdd_homes.specs.Book.{bag};
-ghost use Rattle.sdd_domain.specs.Bags.{ages, Waits};
+ghost use Rattle.sdd_domain.specs.Outcomes.{HasLeft, TakesBag};
+ghost use Rattle.sdd_domain.specs.Ledgers.{WaitsIn};
 ghost use Rattle.sdd_domain.specs.Contents.{IsIn, garbage_slots};
-ghost use Rattle.sdd_domain.specs.Layout.{all_words, IsSized};
+ghost use Rattle.sdd_domain.specs.Layout.{IsSized};
 ghost use Rattle.sdd_domain.specs.Plays.{own_bag};
 ghost use Rattle.sdd_domain.specs.declared.board.Home.{Home};
 ghost use Rattle.sdd_domain.specs.declared.board.Home.TheVariants.{Blank, Left};
 
 use crate::bags::Bags;
 use crate::board::{Home, Place, Words};
+use crate::holds::Holds;
 use crate::homes::{let_go, slots_left};
 use crate::steps::take_over;
 use sdd_base::sizes::Sizes;
@@ -27,17 +29,17 @@ fn bag_at(sizes: &Sizes, number: usize) -> usize
 }
 
 /// Takes what is in the bag that came out with the claim of participant `number`, behind its spare slot.
-pub(crate) fn bag_out<T>(
+pub(crate) fn bag_out<T: Holds>(
     words: &Words<T>,
     place: &mut Place<T>,
     sizes: &Sizes,
     number: usize,
 ) -> Vec<usize>
     requires table { (place.old.table_id ≡ words.now.table_id) × (place.old.me.0.sizes ≡ sizes.now) × IsSized sizes.now × (number < sizes.now.participants) × (place.old.me.0.number ≡ number) }
-    requires out { (k : ℕ) × (u : Home T) × (n : ℕ) × (ws : List Garbage) × (b : Home T) × IsIn (bag n ws) b × (place.old.me.1 ≡ (k, u) ∷ (own_bag place.old.me.0, b) ∷ []) }
+    requires out { (k : ℕ) × (u : Home T) × (n : ℕ) × (ws : List Garbage) × (b : Home T) × IsIn T.holds (bag n ws) b × (place.old.me.1 ≡ (k, u) ∷ (own_bag place.old.me.0, b) ∷ []) }
     ensures seat { (place.new.table_id ≡ place.old.table_id) × (place.new.id ≡ place.old.id) }
-    ensures emptied { (k : ℕ) (u b : Home T) → place.old.me.1 ≡ (k, u) ∷ (own_bag place.old.me.0, b) ∷ [] → place.new.me ≡ (place.old.me.0, (k, u) ∷ (own_bag place.old.me.0, Blank) ∷ []) }
-    ensures left { (k : ℕ) (u : Home T) (n : ℕ) (ws : List Garbage) (b : Home T) → IsIn (bag n ws) b → place.old.me.1 ≡ (k, u) ∷ (own_bag place.old.me.0, b) ∷ [] → (result.items ≡ garbage_slots ws) × (n ≤ vec_capacity result) × (length ws ≤ n) }
+    ensures emptied { TakesBag place.old.me place.new.me }
+    ensures left { HasLeft (IsIn T.holds) place.old.me result.items (vec_capacity result) }
 {
     place.turn();
     let bag = words.exchange(place, bag_at(sizes, number), Home::Blank);
@@ -46,7 +48,7 @@ pub(crate) fn bag_out<T>(
 }
 
 /// Puts slots into the bag of participant `number`, which is empty.
-pub(crate) fn bag_in<T>(
+pub(crate) fn bag_in<T: Holds>(
     words: &Words<T>,
     place: &mut Place<T>,
     sizes: &Sizes,
@@ -64,7 +66,7 @@ pub(crate) fn bag_in<T>(
 }
 
 /// Takes over what was left: the participant has retired it, and it is in its current bag. The empty `left` is the answer.
-pub(crate) fn take_left<T>(
+pub(crate) fn take_left<T: Holds>(
     words: &Words<T>,
     place: &mut Place<T>,
     left: Vec<usize>,
@@ -73,11 +75,11 @@ pub(crate) fn take_left<T>(
     requires table { (place.old.table_id ≡ words.now.table_id) × (1 < words.now.table_id.words) }
     requires ready { (place.old.me.0.kind ≡ 1) × (is_ready place.old.me.0.known ≡ true) }
     requires left { left.items ≡ garbage_slots place.old.me.0.left }
-    requires waits { Waits place.old.me.0.waits bags.old.slots.items (ages bags.old.current bags.old.previous bags.old.next bags.old.due) }
+    requires waits { WaitsIn place.old.me.0.waits bags.old }
     requires room { deque_len bags.old.slots + vec_len left ≤ deque_capacity bags.old.slots }
     ensures seat { (place.new.table_id ≡ place.old.table_id) × (place.new.id ≡ place.old.id) }
     ensures taken { (ws : List Garbage) × (place.new.me ≡ (record place.old.me.0 { left = []; waits = ws }, place.old.me.1)) }
-    ensures waits { Waits place.new.me.0.waits bags.new.slots.items (ages bags.new.current bags.new.previous bags.new.next bags.new.due) }
+    ensures waits { WaitsIn place.new.me.0.waits bags.new }
     ensures bags { (bags.new.due ≡ bags.old.due) × (deque_capacity bags.new.slots ≡ deque_capacity bags.old.slots) }
     ensures empty { (result.items ≡ []) × (vec_capacity left ≤ vec_capacity result) }
 {

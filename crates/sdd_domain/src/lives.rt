@@ -1,6 +1,6 @@
 //! The life of the guards that a participant has open: each guard has a token of it, and the participant has the others.
 
-ghost use Rattle.std.specs.Prelude.{◌≡◌, ◌+◌, ◌^◌, ◌≤◌, IsSome, IsSomeAnd, IsNone};
+ghost use Rattle.std.specs.Prelude.{◌≡◌, ◌+◌, ◌^◌, IsSomeAnd, IsNone};
 
 use parted::{Ended, Life};
 

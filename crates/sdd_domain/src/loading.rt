@@ -1,16 +1,21 @@
 //! Loading a cell under an open guard: the item that it names is leased, so that the guard reads it.
 
-ghost use Rattle.std.specs.Prelude.{◌≡◌, ◌⊎◌, ℕ, ◌+◌, ◌-◌, ◌*◌, ◌^◌, ◌<◌, ◌≤◌, ◌++◌, ◌∷◌, [], List, Bool, length, map, true, IfSome, IfNone};
+ghost use Rattle.std.specs.Prelude.{◌≡◌, ℕ, ◌+◌, ◌-◌, ◌*◌, ◌^◌, ◌<◌, ◌≤◌, ◌∷◌, map, true, IfSome, IfNone};
 ghost use Rattle.std.specs.VecDeque.{deque_capacity, deque_len};
 ghost use Rattle.sdd_steps.specs.Steps.{is_inside};
-ghost use Rattle.sdd_steps.specs.declared.participant.Loaded.{Loaded};
-ghost use Rattle.sdd_homes.specs.declared.Lease.{Lease};
-ghost use Rattle.sdd_domain.specs.Contents.{is_blank};
+ghost use Rattle.atomic_table.specs.Table.{Me};
+ghost use Rattle.sdd_domain.specs.Outcomes.{KeepsOut};
+ghost use Rattle.sdd_domain.specs.Contents.{IsIn, is_blank};
 ghost use Rattle.sdd_domain.specs.Fitting.{FitsSizes};
-ghost use Rattle.sdd_domain.specs.Leases.{row_told, lease_told, leased_homes, row_slots, all_below, has_all, HasLeased};
+ghost use Rattle.sdd_domain.specs.Layout.{IsSized};
+ghost use Rattle.sdd_domain.specs.Leases.{row_told, lease_told, leased_homes, row_slots, all_below, has_all, HasLeased, HasNoted, HasRows, KeepsRows};
+ghost use Rattle.sdd_domain.specs.Plays.{HasLoaded};
+ghost use Rattle.sdd_domain.specs.declared.board.Acting.{Acting};
+ghost use Rattle.sdd_domain.specs.declared.board.Home.{Home};
 
 use crate::board::{Home, Place, Words};
 use crate::cells;
+use crate::holds::Holds;
 use crate::homes::parts_of;
 use crate::leases::row_of;
 use crate::row::Row;
@@ -31,9 +36,39 @@ pub(crate) fn slot_named(word: u64) -> Option<usize>
     }
 }
 
+/// Adds the row of the item that `word`, as it was found in a cell, names, unless it has one: its parts came out of the
+/// home of participant `number` in the step that found it. Which row that is, if an item is named.
+pub(crate) fn note_found<T: Holds>(
+    words: &Words<T>,
+    place: &mut Place<T>,
+    sizes: &Sizes,
+    number: usize,
+    rows: &mut VecDeque<Row<T>>,
+    life: &Life,
+    word: u64,
+) -> Option<usize>
+    requires table { (place.old.table_id ≡ words.now.table_id) × IsSized sizes.now × (number < sizes.now.participants) }
+    requires rows { (all_below sizes.now.slots (row_slots rows.old.items) ≡ true) × (sizes.now.slots ≤ deque_capacity rows.old) }
+    requires found { (m : Me (Home T) Acting) × HasLoaded (IsIn T.holds) m word place.old.me × (m.0.number ≡ number) × (m.0.sizes ≡ sizes.now) × (map row_told rows.old.items ≡ map (lease_told life.now.id) m.0.leases) }
+    ensures seat { (place.new.table_id ≡ place.old.table_id) × (place.new.id ≡ place.old.id) }
+    ensures row { IfSome result (λ at. at < deque_len rows.new) }
+    ensures noted { (m : Me (Home T) Acting) → HasLoaded (IsIn T.holds) m word place.old.me → map row_told rows.old.items ≡ map (lease_told life.now.id) m.0.leases → HasNoted m place.new.me }
+    ensures rows { KeepsRows life.now.id sizes.now.slots place.new.me.0.leases rows.new.items (deque_capacity rows.old) (deque_capacity rows.new) }
+{
+    let slot = slot_named(word)?;
+    if let Some(at) = row_of(rows, slot) {
+        return Some(at);
+    }
+    let home = slot * (sizes.participants + 1) + number;
+    let (parts, count) = parts_of(words.exchange(place, home, Home::Blank));
+    place.turn();
+    rows.push_back_reserved(Row::new(slot, parts, count, life));
+    Some(rows.len() - 1)
+}
+
 /// Loads the cell under the open guards of participant `number`, whose life this is. Which row is that of the item that
 /// it names, if it names one.
-pub(crate) fn lease<T>(
+pub(crate) fn lease<T: Holds>(
     words: &Words<T>,
     place: &mut Place<T>,
     sizes: &Sizes,
@@ -44,22 +79,14 @@ pub(crate) fn lease<T>(
 ) -> Option<usize>
     requires table { FitsSizes words.now.table_id words.now.key.sizes place.old.table_id place.old.me.0.sizes sizes.now × (number < sizes.now.participants) × (cell < sizes.now.cells) }
     requires open { (place.old.me.0.kind ≡ 1) × (place.old.me.0.number ≡ number) × (is_inside place.old.me.0.known ≡ true) }
-    requires rows { (map row_told rows.old.items ≡ map (lease_told life.now.id) place.old.me.0.leases) × (all_below sizes.now.slots (row_slots rows.old.items) ≡ true) × (sizes.now.slots ≤ deque_capacity rows.old) }
+    requires rows { HasRows life.now.id sizes.now.slots place.old.me.0.leases rows.old.items (deque_capacity rows.old) }
     requires out { (k : ℕ) × (l : ℕ) × (has_all is_blank (k ∷ l ∷ leased_homes place.old.me.0 place.old.me.0.leases) place.old.me.1 ≡ true) }
     ensures seat { (place.new.table_id ≡ place.old.table_id) × (place.new.id ≡ place.old.id) }
     ensures row { IfSome result (λ at. at < deque_len rows.new) }
     ensures loaded { HasLeased place.old.me place.new.me }
-    ensures rows { (map row_told rows.new.items ≡ map (lease_told life.now.id) place.new.me.0.leases) × (all_below sizes.now.slots (row_slots rows.new.items) ≡ true) × (deque_capacity rows.new ≡ deque_capacity rows.old) }
-    ensures out { (k l : ℕ) → has_all is_blank (k ∷ l ∷ leased_homes place.old.me.0 place.old.me.0.leases) place.old.me.1 ≡ true → has_all is_blank (k ∷ l ∷ leased_homes place.new.me.0 place.new.me.0.leases) place.new.me.1 ≡ true }
+    ensures rows { KeepsRows life.now.id sizes.now.slots place.new.me.0.leases rows.new.items (deque_capacity rows.old) (deque_capacity rows.new) }
+    ensures out { KeepsOut place.old.me place.new.me }
 {
     let word = cells::load(words, place, sizes.participants, cell);
-    let slot = slot_named(word)?;
-    if let Some(at) = row_of(rows, slot) {
-        return Some(at);
-    }
-    let home = slot * (sizes.participants + 1) + number;
-    let (parts, count) = parts_of(words.exchange(place, home, Home::Blank));
-    place.turn();
-    rows.push_back_reserved(Row::new(slot, parts, count, life));
-    Some(rows.len() - 1)
+    note_found(words, place, sizes, number, rows, life, word)
 }

@@ -1,23 +1,25 @@
 //! One participant of a place, as the thread that acts for it has it.
 
-ghost use Rattle.std.specs.Prelude.{◌≡◌, ◌≢◌, ℕ, ◌+◌, ◌-◌, ◌*◌, ◌^◌, ◌<◌, ◌≤◌, ◌==◌, ◌&&◌, true, List, [], ◌∷◌, length, cond, map, nat_lt, vec_capacity, None, IfSome, IsSome};
+ghost use Rattle.std.specs.Prelude.{◌≡◌, ℕ, ◌+◌, ◌-◌, ◌*◌, ◌^◌, ◌<◌, ◌≤◌, ◌==◌, ◌&&◌, true, List, [], ◌∷◌, length, cond, map, nat_lt, vec_capacity, None, IfSome, IsSome};
 ghost use Rattle.std.specs.Option.{ForNone, ForSome};
 ghost use Rattle.std.specs.VecDeque.{deque_capacity};
 ghost use Rattle.sdd_base.specs.State.{no_local};
 ghost use Rattle.sdd_base.specs.Steps.{closings_after, scans};
 ghost use Rattle.sdd_steps.specs.declared.participant.Phase.TheVariants.{Idle, Opened};
 ghost use Rattle.sdd_homes.specs.declared.Garbage.{Garbage};
-ghost use Rattle.sdd_domain.specs.Fitting.{FitsSizes};
+ghost use Rattle.sdd_domain.specs.Ledgers.{WaitsIn};
+ghost use Rattle.sdd_domain.specs.Fitting.{FitsSizes, HasEpochs, FitsNumber};
 ghost use Rattle.sdd_domain.specs.Contents.{IsIn, is_blank};
 ghost use Rattle.sdd_domain.specs.Bags.{ages, Waits};
 ghost use Rattle.sdd_domain.specs.Views.{spent, rotated};
 ghost use Rattle.sdd_domain.specs.Leases.{life_number, row_told, lease_told, leased_homes, row_slots, all_below, has_all};
 ghost use Rattle.sdd_domain.specs.Plays.{own_spare, own_bag, HasRegistered, Scans, Steady};
-ghost use Rattle.sdd_domain.specs.Layout.{claim_word, epoch_words, all_words, IsSized};
+ghost use Rattle.sdd_domain.specs.Layout.{claim_word};
 
 use crate::bags::Bags;
 use crate::board::{Place, Stored, Words};
 use crate::domain::Domain;
+use crate::holds::Holds;
 use crate::leases::{give_home, seen_at};
 use crate::ledger::Ledger;
 use crate::left::{bag_in, bag_out, filled, take_left};
@@ -48,7 +50,7 @@ pub struct Local<T> {
     pub(crate) life: Option<Life>,
     /// What it has leased, in the order in which it was loaded.
     pub(crate) rows: VecDeque<Row<T>>,
-    ghost acts: { (place.me.0.kind ≡ 1) × (place.me.0.number ≡ number) × (place.me.0.scan ≡ 0) × (number < 2 ^ 30) × (claim_word number < place.table_id.words) × (place.me.0.hand ≡ []) × (place.me.0.releasing ≡ 0) },
+    ghost acts: { (place.me.0.kind ≡ 1) × (place.me.0.number ≡ number) × (place.me.0.scan ≡ 0) × (number < 2 ^ 30) × (claim_word number < place.table_id.words) × (place.me.0.releasing ≡ 0) },
     ghost has_spare: { (place.me.0.spare ≡ spare) × (spare < 2 ^ 33) × (has_all is_blank (own_spare place.me.0 spare ∷ own_bag place.me.0 ∷ leased_homes place.me.0 place.me.0.leases) place.me.1 ≡ true) },
     ghost lends: { (map row_told rows.items ≡ map (lease_told (life_number life)) place.me.0.leases) × (place.me.0.sizes.slots ≤ deque_capacity rows) × (all_below place.me.0.sizes.slots (row_slots rows.items) ≡ true) },
     ghost shut: { ForNone life ((own.nesting ≡ 0) × (place.me.0.leases ≡ [])) },
@@ -70,14 +72,14 @@ fn scans(own: &LocalState, closings: u8) -> bool
 
 /// Counts an outermost closing, and scans if one is due.
 #[inline(always)]
-fn scan_due<T>(
+fn scan_due<T: Holds>(
     words: &Words<T>,
     place: &mut Place<T>,
     number: usize,
     participants: usize,
     own: &mut LocalState,
 )
-    requires table { (place.old.table_id ≡ words.now.table_id) × (words.now.key.sizes.participants ≡ participants) × (epoch_words participants ≤ words.now.table_id.words) × (participants ≤ 2 ^ 30) }
+    requires table { HasEpochs words.now.table_id words.now.key.sizes place.old.table_id participants }
     requires open { Scans place.old number own.old.previous 0 }
     ensures seat { (place.new.table_id ≡ place.old.table_id) × (place.new.id ≡ place.old.id) × Steady place.old.me place.new.me }
     ensures open { Scans place.new number own.old.previous 0 }
@@ -98,22 +100,24 @@ fn scan_due<T>(
 }
 
 /// Behind a publication: turns the bags if the count isn't the one that was found before, and reclaims what is due then.
-fn turn<T: Drop>(
+fn turn<T: Holds>(
     words: &Words<T>,
     place: &mut Place<T>,
     sizes: &Sizes,
+    number: usize,
     own: &mut LocalState,
     bags: &mut Bags,
     epoch: u64,
 )
-    requires table { FitsSizes words.now.table_id words.now.key.sizes place.old.table_id place.old.me.0.sizes sizes.now }
-    requires open { (place.old.me.0.kind ≡ 1) × (place.old.me.0.known.phase ≡ Opened epoch) × (place.old.me.0.known.found ≡ epoch) × (place.old.me.0.filling ≡ None) × (place.old.me.0.hand ≡ []) }
+    requires table { FitsSizes words.now.table_id words.now.key.sizes place.old.table_id place.old.me.0.sizes sizes.now × (number < sizes.now.participants) }
+    requires open { (place.old.me.0.known.phase ≡ Opened epoch) × (place.old.me.0.known.found ≡ epoch) }
+    requires rest { (place.old.me.0.kind ≡ 1) × (place.old.me.0.number ≡ number) × (place.old.me.0.releasing ≡ 0) × (place.old.me.0.leases ≡ []) × (place.old.me.0.filling ≡ None) }
     requires noted { own.old.published ≡ own.old.previous }
-    requires waits { (ws : List Garbage) × (place.old.me.0.waits ≡ rotated epoch own.old.previous ws) × Waits ws bags.old.slots.items (ages bags.old.current bags.old.previous bags.old.next bags.old.due) }
-    requires done { bags.old.due ≡ 0 }
+    requires waits { (ws : List Garbage) × (place.old.me.0.waits ≡ rotated epoch own.old.previous ws) × WaitsIn ws bags.old }
+    requires done { (bags.old.due ≡ 0) × (deque_capacity bags.old.slots ≡ sizes.now.slots) }
     ensures seat { (place.new.table_id ≡ place.old.table_id) × (place.new.id ≡ place.old.id) }
     ensures reclaimed { (k : ℕ) × (ws : List Garbage) × (place.new.me ≡ (record place.old.me.0 { slot = k; waits = ws }, place.old.me.1)) }
-    ensures waits { Waits place.new.me.0.waits bags.new.slots.items (ages bags.new.current bags.new.previous bags.new.next bags.new.due) }
+    ensures waits { WaitsIn place.new.me.0.waits bags.new }
     ensures bags { (bags.new.due ≡ 0) × (deque_capacity bags.new.slots ≡ deque_capacity bags.old.slots) }
     ensures own { own.new ≡ record own.old { garbage = cond (own.old.previous == epoch) own.old.garbage (nat_lt 0 (length place.new.me.0.waits)); published = epoch; previous = epoch } }
 {
@@ -122,15 +126,15 @@ fn turn<T: Drop>(
         return;
     }
     bags.rotate();
-    reclaim_due(words, place, sizes, bags);
+    reclaim_due(words, place, sizes, number, bags);
     own.garbage = bags.has_some();
     own.published = epoch;
     own.previous = epoch;
 }
 
-impl<T> Local<T> {
+impl<T: Holds> Local<T> {
     ghost use Rattle.sdd_domain.specs.Ledgers.{IsEmpty};
-    ghost use Rattle.sdd_domain.specs.Tokens.{participants_of, cell_count, place_of, home_of, number_of, own_of, born_of, begun, closed, waiting_of, nest_in, IsSame, IsInNest};
+    ghost use Rattle.sdd_domain.specs.Tokens.{cell_count, place_of, home_of, number_of, own_of, hand_of, born_of, begun, closed, waiting_of, nest_in, IsSame, IsInNest};
 
     /// The participant that a seat has just come to act for. What was left where it ended before is taken over.
     pub(crate) fn registered(
@@ -141,10 +145,10 @@ impl<T> Local<T> {
         spare: u64,
         ledger: Ledger<T>,
     ) -> Local<T>
-        requires acts { HasRegistered IsIn (spent, []) number spare place.me × (spare < 2 ^ 33) }
-        requires table { (place.table_id ≡ words.now.table_id) × (words.now.key.sizes ≡ sizes.now) × (place.me.0.sizes ≡ sizes.now) × IsSized sizes.now × (all_words sizes.now ≤ words.now.table_id.words) × (number < sizes.now.participants) }
+        requires acts { HasRegistered (IsIn T.holds) (spent, []) number spare place.me × (spare < 2 ^ 33) }
+        requires table { FitsNumber words.now.table_id words.now.key.sizes place.table_id place.me.0.sizes sizes.now number }
         requires empty { IsEmpty sizes.now.slots ledger }
-        ensures { (home_of result ≡ (place.table_id, place.me.0.sizes)) × (number_of result ≡ number) × (own_of result ≡ no_local) }
+        ensures { (home_of result ≡ (place.table_id, place.me.0.sizes)) × (number_of result ≡ number) × (own_of result ≡ no_local) × (hand_of result ≡ []) }
     {
         let Ledger { mut bags, rows } = ledger;
         let left = bag_out(words, &mut place, sizes, number);
@@ -176,11 +180,16 @@ impl<T> Local<T> {
         self.number
     }
 
+    /// Whether it has retired something that isn't reclaimed yet.
+    pub fn has_waiting(&self) -> bool
+        ensures { result ≡ nat_lt 0 (waiting_of self.now) }
+    {
+        self.bags.has_some()
+    }
+
     /// Opens an outermost guard, and begins its life.
     #[inline(always)]
     pub(crate) fn begin(&mut self, domain: &Domain<T>) -> Life
-    where
-        T: Drop,
         requires home { home_of self.old ≡ place_of domain.now }
         requires closed { (own_of self.old).nesting ≡ 0 }
         ensures same { IsSame self.old self.new }
@@ -197,7 +206,15 @@ impl<T> Local<T> {
         } = self;
         let epoch = steps::read_count(domain.words(), place);
         steps::publish(domain.words(), place, *number, epoch);
-        turn(domain.words(), place, &domain.sizes, own, bags, epoch);
+        turn(
+            domain.words(),
+            place,
+            &domain.sizes,
+            *number,
+            own,
+            bags,
+            epoch,
+        );
         own.nesting = 1;
         own.accelerated = false;
         first_token(life)
@@ -304,10 +321,11 @@ impl<T> Local<T> {
     }
 
     /// Ends the participant, which anybody may register from now on. What it retired and didn't reclaim stays in its bag,
-    /// for whoever acts for it next. Condition: none of its guards is open.
+    /// for whoever acts for it next. Conditions: none of its guards is open, and no owner is in its hand.
     pub fn end(self, domain: &Domain<T>)
         requires home { home_of self ≡ place_of domain.now }
         requires closed { (own_of self).nesting ≡ 0 }
+        requires bare { hand_of self ≡ [] }
     {
         let Local {
             mut place,

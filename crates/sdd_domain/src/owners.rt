@@ -1,15 +1,16 @@
 //! Owners outside of calls: each has a seat of its own, which comes into the hand of a participant for a call.
 
-ghost use Rattle.std.specs.Prelude.{◌≡◌, ℕ, ◌+◌, ◌-◌, ◌*◌, ◌^◌, ◌<◌, ◌≤◌, List, [], ◌∷◌, length, map, slice_index_or, true, IsSome, IfSome, IfNone, IsTrue, IsFalse};
+ghost use Rattle.std.specs.Prelude.{◌≡◌, ℕ, ◌+◌, ◌-◌, ◌*◌, ◌<◌, List, [], ◌∷◌, length, map, slice_index_or, true, IsSome, IfSome, IfNone, IsTrue, IsFalse};
 ghost use Rattle.sdd_steps.specs.State.{Has};
 ghost use Rattle.sdd_steps.specs.Steps.{is_ready};
 ghost use Rattle.std.specs.VecDeque.{deque_capacity, deque_len};
 ghost use Rattle.sdd_homes.specs.declared.Lease.{Lease};
 ghost use Rattle.sdd_homes.specs.declared.Owner.{Owner};
 ghost use Rattle.sdd_homes.specs.Book.{Lends, Apart, part};
+ghost use Rattle.sdd_domain.specs.Outcomes.{PutsBack};
 ghost use Rattle.sdd_domain.specs.Contents.{IsIn};
 ghost use Rattle.sdd_domain.specs.Fitting.{FitsSizes};
-ghost use Rattle.sdd_domain.specs.Leases.{row_told, lease_told, row_slots, all_below, IsFirst, HasReleased, HasEmptied, HasCloned};
+ghost use Rattle.sdd_domain.specs.Leases.{row_told, lease_told, row_slots, all_below, IsFirst, HasReleased, HasEmptied, HasClonedOne};
 ghost use Rattle.sdd_domain.specs.declared.row.Row.{Row};
 ghost use Rattle.sdd_domain.specs.Views.{spent, holding};
 ghost use Rattle.sdd_domain.specs.Plays.{others_in, first_in, joined_by, cloning, IsAlike};
@@ -17,6 +18,7 @@ ghost use Rattle.sdd_domain.specs.declared.board.Home.{Home};
 
 use crate::board::{Acting, Home, Place, Stored, Words};
 use crate::cells;
+use crate::holds::Holds;
 use crate::homes::{let_go, parts_of};
 use crate::leases::row_of;
 use crate::row::Row;
@@ -46,7 +48,7 @@ impl Join<Acting> for Coming {
 }
 
 /// Gives the first owner in hand a seat of its own.
-pub(crate) fn part_with<T>(words: &Words<T>, place: &mut Place<T>) -> Calm<Acting>
+pub(crate) fn part_with<T: Holds>(words: &Words<T>, place: &mut Place<T>) -> Calm<Acting>
     requires table { (place.old.table_id ≡ words.now.table_id) × (0 < words.now.table_id.words) }
     requires ready { (place.old.me.0.kind ≡ 1) × (place.old.me.0.releasing ≡ 0) }
     requires owner { (o : Owner) × (os : List Owner) × (place.old.me.0.hand ≡ o ∷ os) }
@@ -57,7 +59,7 @@ pub(crate) fn part_with<T>(words: &Words<T>, place: &mut Place<T>) -> Calm<Actin
 }
 
 /// Takes the owner of a seat into the hand.
-pub(crate) fn take_in<T>(words: &Words<T>, place: &mut Place<T>, owner: Calm<Acting>)
+pub(crate) fn take_in<T: Holds>(words: &Words<T>, place: &mut Place<T>, owner: Calm<Acting>)
     requires table { (place.old.table_id ≡ words.now.table_id) × (owner.badge.table_id ≡ words.now.table_id) × (0 < words.now.table_id.words) }
     requires ready { place.old.me.0.kind ≡ 1 }
     requires owner { (o : Owner) × (owner.badge.views ≡ holding o ∷ []) }
@@ -69,7 +71,7 @@ pub(crate) fn take_in<T>(words: &Words<T>, place: &mut Place<T>, owner: Calm<Act
 
 /// Releases the owner that is in hand, whose item is in `slot` and isn't leased: its part is joined to those of
 /// participant `number`. Answers how many owners are left; with the last one the participant has retired the item.
-fn release_home<T>(
+pub(crate) fn release_home<T: Holds>(
     words: &Words<T>,
     place: &mut Place<T>,
     sizes: &Sizes,
@@ -94,7 +96,7 @@ fn release_home<T>(
 }
 
 /// The same where the item is leased: the owner's part goes to those of its row, which is `at`.
-fn release_leased<T>(
+fn release_leased<T: Holds>(
     words: &Words<T>,
     place: &mut Place<T>,
     sizes: &Sizes,
@@ -124,7 +126,7 @@ fn release_leased<T>(
 
 /// Releases the owner that is in hand, whose item is in `slot`: its part is joined to those of participant `number`.
 /// Answers how many owners are left; with the last one the participant has retired the item.
-pub(crate) fn release<T>(
+pub(crate) fn release<T: Holds>(
     words: &Words<T>,
     place: &mut Place<T>,
     sizes: &Sizes,
@@ -152,7 +154,7 @@ pub(crate) fn release<T>(
 /// Makes one more owner of the item that is leased in `slot`, with one of the `parts` of the lease: it is first in hand
 /// then. Whether it did: not with the only part, and not where the item has `2^32 - 1` owners. It tries again where
 /// others were faster.
-fn raise_owners<T>(
+fn raise_owners<T: Holds>(
     words: &Words<T>,
     place: &mut Place<T>,
     sizes: &Sizes,
@@ -192,11 +194,11 @@ fn raise_owners<T>(
 
 /// Gives the home back that `begin_release` took out and that was emptied since, with these parts. The owners in hand
 /// stay.
-fn put_back<T>(words: &Words<T>, place: &mut Place<T>, home: usize, parts: Home<T>)
+fn put_back<T: Holds>(words: &Words<T>, place: &mut Place<T>, home: usize, parts: Home<T>)
     requires table { (place.old.table_id ≡ words.now.table_id) × (0 < words.now.table_id.words) × (place.old.me.0.kind ≡ 1) }
-    requires out { (l : Lease) × (ls : List Lease) × (tail : List (ℕ × Home T)) × HasEmptied place.old.me home l ls tail × IsIn (part l.round l.count) parts }
+    requires out { (l : Lease) × (ls : List Lease) × (tail : List (ℕ × Home T)) × HasEmptied place.old.me home l ls tail × IsIn T.holds (part l.round l.count) parts }
     ensures seat { (place.new.table_id ≡ place.old.table_id) × (place.new.id ≡ place.old.id) }
-    ensures kept { (l : Lease) (ls : List Lease) (tail : List (ℕ × Home T)) → HasEmptied place.old.me home l ls tail → IsIn (part l.round l.count) parts → place.new.me ≡ (record place.old.me.0 { leases = ls; releasing = 0 }, tail) }
+    ensures kept { PutsBack (IsIn T.holds) place.old.me home parts place.new.me }
 {
     let_go(words.exchange(place, home, parts));
     cells::keep_home(words, place);
@@ -204,7 +206,7 @@ fn put_back<T>(words: &Words<T>, place: &mut Place<T>, home: usize, parts: Home<
 
 /// Makes one more owner of the item of the first owner in hand, which is in `slot` and isn't leased, with one of the
 /// parts of participant `number`: that part is the answer, and both owners are in hand then.
-fn clone_home<T>(
+fn clone_home<T: Holds>(
     words: &Words<T>,
     place: &mut Place<T>,
     sizes: &Sizes,
@@ -216,7 +218,7 @@ fn clone_home<T>(
     requires owner { (o : Owner) × (os : List Owner) × (place.old.me.0.hand ≡ o ∷ os) × (o.slot ≡ slot) }
     requires free { ¬ Lends place.old.me.0.leases slot }
     ensures seat { (place.new.table_id ≡ place.old.table_id) × (place.new.id ≡ place.old.id) }
-    ensures cloned { IfSome result (λ p. (ls : List Lease) × (map (λ (l : Lease). l.slot) ls ≡ map (λ (l : Lease). l.slot) place.old.me.0.leases) × HasCloned place.old.me p.part.life.id ls place.new.me) }
+    ensures cloned { IfSome result (λ p. HasClonedOne place.old.me p.part.life.id place.new.me) }
     ensures refused { IfNone result (place.new.me ≡ place.old.me) }
     ensures leases { place.new.me.0.leases ≡ place.old.me.0.leases }
 {
@@ -233,7 +235,7 @@ fn clone_home<T>(
 }
 
 /// The same where the item is leased: the part is one of those of its row, which is `at`.
-fn clone_leased<T>(
+fn clone_leased<T: Holds>(
     words: &Words<T>,
     place: &mut Place<T>,
     sizes: &Sizes,
@@ -247,7 +249,7 @@ fn clone_leased<T>(
     requires rows { ((life : ℕ) × (map row_told rows.old.items ≡ map (lease_told life) place.old.me.0.leases)) × (all_below sizes.now.slots (row_slots rows.old.items) ≡ true) }
     requires row { (at < deque_len rows.old) × ((d : Row T) → (slice_index_or rows.old.items at d).slot ≡ slot) }
     ensures seat { (place.new.table_id ≡ place.old.table_id) × (place.new.id ≡ place.old.id) }
-    ensures cloned { IfSome result (λ p. (ls : List Lease) × (map (λ (l : Lease). l.slot) ls ≡ map (λ (l : Lease). l.slot) place.old.me.0.leases) × HasCloned place.old.me p.part.life.id ls place.new.me) }
+    ensures cloned { IfSome result (λ p. HasClonedOne place.old.me p.part.life.id place.new.me) }
     ensures refused { IfNone result (place.new.me ≡ place.old.me) }
     ensures rows { (life : ℕ) → map row_told rows.old.items ≡ map (lease_told life) place.old.me.0.leases → map row_told rows.new.items ≡ map (lease_told life) place.new.me.0.leases }
     ensures same { (deque_capacity rows.new ≡ deque_capacity rows.old) × (row_slots rows.new.items ≡ row_slots rows.old.items) }
@@ -264,7 +266,7 @@ fn clone_leased<T>(
 
 /// Makes one more owner of the item of the first owner in hand, which is in `slot`, with one of the parts of participant
 /// `number`: that part is the answer, and both owners are in hand then.
-pub(crate) fn clone<T>(
+pub(crate) fn clone<T: Holds>(
     words: &Words<T>,
     place: &mut Place<T>,
     sizes: &Sizes,
@@ -277,7 +279,7 @@ pub(crate) fn clone<T>(
     requires owner { (o : Owner) × (os : List Owner) × (place.old.me.0.hand ≡ o ∷ os) × (o.slot ≡ slot) }
     requires rows { ((life : ℕ) × (map row_told rows.old.items ≡ map (lease_told life) place.old.me.0.leases)) × (all_below sizes.now.slots (row_slots rows.old.items) ≡ true) }
     ensures seat { (place.new.table_id ≡ place.old.table_id) × (place.new.id ≡ place.old.id) }
-    ensures cloned { IfSome result (λ p. (ls : List Lease) × (map (λ (l : Lease). l.slot) ls ≡ map (λ (l : Lease). l.slot) place.old.me.0.leases) × HasCloned place.old.me p.part.life.id ls place.new.me) }
+    ensures cloned { IfSome result (λ p. HasClonedOne place.old.me p.part.life.id place.new.me) }
     ensures refused { IfNone result (place.new.me ≡ place.old.me) }
     ensures rows { (life : ℕ) → map row_told rows.old.items ≡ map (lease_told life) place.old.me.0.leases → map row_told rows.new.items ≡ map (lease_told life) place.new.me.0.leases }
     ensures same { (deque_capacity rows.new ≡ deque_capacity rows.old) × (row_slots rows.new.items ≡ row_slots rows.old.items) }

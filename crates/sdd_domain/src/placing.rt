@@ -1,16 +1,19 @@
 //! Placing an item: a free slot is claimed, the homes of the participants get their parts, and the item is in the slot.
 
-ghost use Rattle.std.specs.Prelude.{◌≡◌, ◌⊎◌, ℕ, ◌+◌, ◌-◌, ◌^◌, ◌<◌, ◌≤◌, [], true, Some, None, IsSome, IsSomeAnd, IfOk, IfErr};
+ghost use Rattle.std.specs.Prelude.{◌≡◌, ℕ, ◌+◌, ◌-◌, ◌^◌, ◌<◌, ◌≤◌, map, true, Some, None, IsSome, IsSomeAnd, IfOk, IfErr};
 ghost use Rattle.std.specs.Mem.{manually_drop_value};
 ghost use Rattle.atomic_table.specs.Table.{rest};
 ghost use Rattle.sdd_steps.specs.Steps.{is_ready};
 ghost use Rattle.sdd_homes.specs.declared.Filling.{Filling};
 ghost use Rattle.sdd_homes.specs.declared.Owner.{Owner};
+ghost use Rattle.sdd_domain.specs.Outcomes.{FillsAll, FillsAt};
+ghost use Rattle.sdd_domain.specs.Fitting.{FitsFree, FitsSearch, HasTaken, HasTakenAll};
 ghost use Rattle.sdd_domain.specs.Contents.{IsIn};
-ghost use Rattle.sdd_domain.specs.Layout.{all_words, IsSized};
+ghost use Rattle.sdd_domain.specs.Holding.{told};
 ghost use Rattle.sdd_domain.specs.Plays.{IsJustClaimed, filling_at, next_filled, owning, placing};
 
 use crate::board::{Home, Place, Stored, Words};
+use crate::holds::Holds;
 use crate::homes::{let_go, room_of};
 use crate::slots;
 use crate::stored::store;
@@ -28,7 +31,7 @@ fn share_of(left: u64, rest: u64) -> u64
 }
 
 /// Fills the home of participant `at`, the next one, with `count` of the parts in hand.
-fn fill_home<T>(
+fn fill_home<T: Holds>(
     words: &Words<T>,
     place: &mut Place<T>,
     participants: usize,
@@ -37,8 +40,8 @@ fn fill_home<T>(
     all: &mut Part<Stored<T>>,
     count: u64,
 )
-    requires table { (place.old.table_id ≡ words.now.table_id) × (0 < words.now.table_id.words) × (place.old.me.0.kind ≡ 1) × (place.old.me.0.sizes.participants ≡ participants) × (participants ≤ 2 ^ 30) × (place.old.me.0.slot ≡ slot) × (slot < 2 ^ 30) }
-    requires filling { (f : Filling) × (place.old.me.0.filling ≡ Some f) × (f.filled ≡ at) × (at < participants) × (f.out ≡ participants) × (f.left ≡ all.old.life.count) × ((at ≡ 0) ⊎ (all.old.life.id ≡ f.round)) }
+    requires table { HasTaken words.now.table_id place.old.table_id place.old.me.0 participants slot }
+    requires filling { FillsAt place.old.me at participants all.old.life.count all.old.life.id }
     requires parts { (0 < count) × (count < all.old.life.count) × (all.old.life.count ≤ 2 ^ 63) × IsSome all.old.seen.value }
     ensures seat { (place.new.table_id ≡ place.old.table_id) × (place.new.id ≡ place.old.id) }
     ensures filled { (f : Filling) → place.old.me.0.filling ≡ Some f → place.new.me ≡ (filling_at slot (next_filled place.old.me.0 all.old.life.id count f) place.old.me.0, place.old.me.1) }
@@ -55,18 +58,18 @@ fn fill_home<T>(
 }
 
 /// Fills the homes of all participants of the slot that was claimed. One part stays in hand.
-fn fill_homes<T>(
+fn fill_homes<T: Holds>(
     words: &Words<T>,
     place: &mut Place<T>,
     participants: usize,
     slot: usize,
     all: &mut Part<Stored<T>>,
 )
-    requires table { (place.old.table_id ≡ words.now.table_id) × (0 < words.now.table_id.words) × (place.old.me.0.kind ≡ 1) × (place.old.me.0.sizes.participants ≡ participants) × (0 < participants) × (participants ≤ 2 ^ 30) × (place.old.me.0.slot ≡ slot) × (slot < 2 ^ 30) }
+    requires table { HasTakenAll words.now.table_id place.old.table_id place.old.me.0 participants slot }
     requires filling { (f : Filling) × (place.old.me.0.filling ≡ Some f) × (f.filled ≡ 0) × (f.out ≡ participants) × (f.left ≡ 2 ^ 63) }
     requires parts { (all.old.life.count ≡ 2 ^ 63) × IsSome all.old.seen.value }
     ensures seat { (place.new.table_id ≡ place.old.table_id) × (place.new.id ≡ place.old.id) }
-    ensures filled { (f : Filling) × (f.filled ≡ participants) × (f.out ≡ participants) × (f.left ≡ 1) × (f.round ≡ all.old.life.id) × (place.new.me ≡ (filling_at slot f place.old.me.0, place.old.me.1)) }
+    ensures filled { FillsAll place.old.me slot participants all.old.life.id place.new.me }
     ensures rest { (all.new.seen ≡ all.old.seen) × (all.new.life ≡ record all.old.life { count = 1 }) }
 {
     let mut left = 1 << 63;
@@ -77,17 +80,17 @@ fn fill_homes<T>(
     }
 }
 
-/// Places an item in the slot that was claimed. Its one owner is in hand, and the owner's part is the answer.
-fn place_at<T>(
+/// Places an item in the slot that was claimed, which holds the owners in hand. Its one owner is in hand then, and the owner's part is the answer.
+fn place_at<T: Holds>(
     words: &Words<T>,
     place: &mut Place<T>,
     sizes: &Sizes,
     slot: usize,
     item: T,
 ) -> One<Stored<T>>
-    requires table { (place.old.table_id ≡ words.now.table_id) × (words.now.key.sizes ≡ sizes.now) × (place.old.me.0.sizes ≡ sizes.now) × IsSized sizes.now × (slot < sizes.now.slots) × (all_words sizes.now ≤ words.now.table_id.words) }
-    requires ready { (place.old.me.0.kind ≡ 1) × (is_ready place.old.me.0.known ≡ true) × (place.old.me.0.releasing ≡ 0) × (place.old.me.0.hand ≡ []) }
-    requires claimed { IsJustClaimed IsIn place.old.me slot }
+    requires table { FitsFree words.now.table_id words.now.key.sizes place.old.table_id place.old.me.0.sizes sizes.now slot }
+    requires ready { (place.old.me.0.kind ≡ 1) × (is_ready place.old.me.0.known ≡ true) × (place.old.me.0.releasing ≡ 0) × (T.holds item ≡ map told place.old.me.0.hand) }
+    requires claimed { IsJustClaimed (IsIn T.holds) place.old.me slot }
     ensures seat { (place.new.table_id ≡ place.old.table_id) × (place.new.id ≡ place.old.id) }
     ensures placed { (i : ℕ) × (f : Filling) × (f.round ≡ result.part.life.id) × (place.new.me ≡ (placing i f place.old.me.0, rest place.old.me.1)) }
     ensures value { IsSomeAnd result.part.seen.value (λ m. manually_drop_value m ≡ item) }
@@ -103,15 +106,15 @@ fn place_at<T>(
 
 /// Places an item in a free slot: each is tried once, from `from` on. Its one owner is in hand; the slot and the owner's
 /// part are the answer. Where each slot was taken when it was tried, the item is back.
-pub(crate) fn place_item<T>(
+pub(crate) fn place_item<T: Holds>(
     words: &Words<T>,
     place: &mut Place<T>,
     sizes: &Sizes,
     from: usize,
     item: T,
 ) -> Result<(usize, One<Stored<T>>), T>
-    requires table { (place.old.table_id ≡ words.now.table_id) × (words.now.key.sizes ≡ sizes.now) × (place.old.me.0.sizes ≡ sizes.now) × IsSized sizes.now × (from < 2 ^ 63) × (all_words sizes.now ≤ words.now.table_id.words) }
-    requires ready { (place.old.me.0.kind ≡ 1) × (is_ready place.old.me.0.known ≡ true) × (place.old.me.0.releasing ≡ 0) × (place.old.me.0.hand ≡ []) × (place.old.me.0.filling ≡ None) }
+    requires table { FitsSearch words.now.table_id words.now.key.sizes place.old.table_id place.old.me.0.sizes sizes.now from }
+    requires ready { (place.old.me.0.kind ≡ 1) × (is_ready place.old.me.0.known ≡ true) × (place.old.me.0.releasing ≡ 0) × (T.holds item ≡ map told place.old.me.0.hand) × (place.old.me.0.filling ≡ None) }
     ensures seat { (place.new.table_id ≡ place.old.table_id) × (place.new.id ≡ place.old.id) }
     ensures placed { IfOk result (λ t. (o : Owner) × (o.slot ≡ t.0) × (o.round ≡ t.1.part.life.id) × (t.0 < sizes.now.slots) × (place.new.me ≡ (owning o place.old.me.0, place.old.me.1)) × IsSomeAnd t.1.part.seen.value (λ m. manually_drop_value m ≡ item)) }
     ensures refused { IfErr result (λ back. (back ≡ item) × (place.new.me ≡ place.old.me)) }

@@ -1,6 +1,6 @@
 //! Pointers to items that a cell was found to name.
 
-ghost use Rattle.std.specs.Prelude.{◌≡◌, IsSome, IfSome, ◌↔◌};
+ghost use Rattle.std.specs.Prelude.{IsSome, IfSome, ◌↔◌};
 ghost use Rattle.std.specs.Option.{ForSome};
 
 use crate::board::Stored;
@@ -45,7 +45,18 @@ pub struct Loaded<T> {
 }
 
 impl<T> Loaded<T> {
+    ghost use Rattle.sdd_domain.specs.declared.guard.Guard.{Guard};
     ghost use Rattle.sdd_domain.specs.Pointers.{IsUnder, HasLoadedItem};
+
+    /// What a cell that owns nothing would be found to name.
+    pub fn null() -> Loaded<T>
+        ensures { (guard : Guard) → IsUnder result guard }
+    {
+        Loaded {
+            slot: 0,
+            seen: None,
+        }
+    }
 
     /// Whether the cell named nothing.
     pub fn is_null(&self) -> bool {

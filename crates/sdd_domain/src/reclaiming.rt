@@ -1,35 +1,40 @@
 //! Reclaiming an item that nobody reads any more: its slot is opened, all its parts come home, and the slot is free again.
 
-ghost use Rattle.std.specs.Prelude.{◌≡◌, ℕ, ◌+◌, ◌-◌, ◌^◌, ◌<◌, ◌≤◌, ◌++◌, ◌∷◌, [], List, true, Some, None, IsSome};
+ghost use Rattle.std.specs.Prelude.{◌≡◌, ℕ, ◌+◌, ◌-◌, ◌^◌, ◌<◌, ◌++◌, ◌∷◌, [], List, true, Some, None, IsSome, map};
 ghost use Rattle.sdd_steps.specs.Steps.{is_ready};
 ghost use Rattle.sdd_homes.specs.declared.Filling.{Filling};
 ghost use Rattle.std.specs.VecDeque.{deque_capacity};
 ghost use Rattle.sdd_homes.specs.declared.Garbage.{Garbage};
-ghost use Rattle.sdd_domain.specs.Fitting.{FitsSizes};
-ghost use Rattle.sdd_domain.specs.Bags.{ages, Waits};
-ghost use Rattle.sdd_domain.specs.Layout.{all_words, IsSized};
-ghost use Rattle.sdd_domain.specs.Plays.{emptying, filling_at};
+ghost use Rattle.sdd_homes.specs.declared.Owner.{Owner};
+ghost use Rattle.sdd_domain.specs.Outcomes.{Gathers, GathersAll, Reclaims};
+ghost use Rattle.sdd_domain.specs.Ledgers.{WaitsIn};
+ghost use Rattle.sdd_domain.specs.Fitting.{FitsSizes, HasTaken, HasTakenAll};
+ghost use Rattle.sdd_domain.specs.Holding.{told, told_of};
+ghost use Rattle.sdd_domain.specs.Leases.{IsFirst, IsAtRest};
 
 use crate::bags::Bags;
 use crate::board::{Home, Place, Stored, Words};
+use crate::held::Held;
+use crate::holds::Holds;
 use crate::homes::{deed_of, let_go, parts_of};
+use crate::owners::release_home;
 use crate::slots;
 use crate::stored::take_out;
 use parted::Part;
 use sdd_base::sizes::Sizes;
 
 /// Takes the parts of participant `at` out of its home, the last one that has some. The home is empty then.
-fn gather_home<T>(
+fn gather_home<T: Holds>(
     words: &Words<T>,
     place: &mut Place<T>,
     participants: usize,
     slot: usize,
     at: usize,
 ) -> Part<Stored<T>>
-    requires table { (place.old.table_id ≡ words.now.table_id) × (0 < words.now.table_id.words) × (place.old.me.0.kind ≡ 1) × (place.old.me.0.sizes.participants ≡ participants) × (participants ≤ 2 ^ 30) × (place.old.me.0.slot ≡ slot) × (slot < 2 ^ 30) }
+    requires table { HasTaken words.now.table_id place.old.table_id place.old.me.0 participants slot }
     requires filled { (f : Filling) × (place.old.me.0.filling ≡ Some f) × (f.filled ≡ at + 1) × (at < participants) × (f.out ≡ participants) }
     ensures seat { (place.new.table_id ≡ place.old.table_id) × (place.new.id ≡ place.old.id) }
-    ensures gathered { (f : Filling) → place.old.me.0.filling ≡ Some f → (result.life.id ≡ f.round) × (f.left + result.life.count ≤ 2 ^ 63) × (at ≡ 0 → f.left + result.life.count ≡ 2 ^ 63) × (place.new.me ≡ (filling_at slot (emptying at result.life.count f) place.old.me.0, place.old.me.1)) }
+    ensures gathered { Gathers place.old.me slot at result.life.id result.life.count place.new.me }
     ensures some { (0 < result.life.count) × IsSome result.seen.value }
 {
     slots::gather(words, place);
@@ -39,16 +44,16 @@ fn gather_home<T>(
 }
 
 /// Takes all parts of the item whose slot was opened out of their homes. Together they are all that there are.
-fn gather_all<T>(
+fn gather_all<T: Holds>(
     words: &Words<T>,
     place: &mut Place<T>,
     participants: usize,
     slot: usize,
 ) -> Part<Stored<T>>
-    requires table { (place.old.table_id ≡ words.now.table_id) × (0 < words.now.table_id.words) × (place.old.me.0.kind ≡ 1) × (place.old.me.0.sizes.participants ≡ participants) × (0 < participants) × (participants ≤ 2 ^ 30) × (place.old.me.0.slot ≡ slot) × (slot < 2 ^ 30) }
+    requires table { HasTakenAll words.now.table_id place.old.table_id place.old.me.0 participants slot }
     requires filled { (f : Filling) × (place.old.me.0.filling ≡ Some f) × (f.filled ≡ participants) × (f.out ≡ participants) × (f.left ≡ 0) }
     ensures seat { (place.new.table_id ≡ place.old.table_id) × (place.new.id ≡ place.old.id) }
-    ensures gathered { (f : Filling) → place.old.me.0.filling ≡ Some f → (g : Filling) × (g.filled ≡ 0) × (g.out ≡ participants) × (result.life.id ≡ f.round) × (place.new.me ≡ (filling_at slot g place.old.me.0, place.old.me.1)) }
+    ensures gathered { GathersAll place.old.me slot participants result.life.id place.new.me }
     ensures all { result.life.count ≡ 2 ^ 63 }
 {
     let mut all = gather_home(words, place, participants, slot, participants - 1);
@@ -59,13 +64,18 @@ fn gather_all<T>(
 }
 
 /// Reclaims the item that waits the longest, in `slot`, which the participant retired three rotations ago. The item is
-/// the answer, and the slot is free.
-pub(crate) fn reclaim<T>(words: &Words<T>, place: &mut Place<T>, sizes: &Sizes, slot: usize) -> T
+/// the answer, the owners that it holds are in hand, and the slot is free.
+pub(crate) fn reclaim<T: Holds>(
+    words: &Words<T>,
+    place: &mut Place<T>,
+    sizes: &Sizes,
+    slot: usize,
+) -> T
     requires table { FitsSizes words.now.table_id words.now.key.sizes place.old.table_id place.old.me.0.sizes sizes.now }
-    requires ready { (place.old.me.0.kind ≡ 1) × (is_ready place.old.me.0.known ≡ true) × (place.old.me.0.filling ≡ None) × (place.old.me.0.hand ≡ []) }
+    requires ready { (place.old.me.0.kind ≡ 1) × (is_ready place.old.me.0.known ≡ true) × (place.old.me.0.filling ≡ None) }
     requires waits { (w : Garbage) × (ws : List Garbage) × (place.old.me.0.waits ≡ ws ++ w ∷ []) × (w.age ≡ 3) × (w.slot ≡ slot) }
     ensures seat { (place.new.table_id ≡ place.old.table_id) × (place.new.id ≡ place.old.id) }
-    ensures reclaimed { (w : Garbage) (ws : List Garbage) → place.old.me.0.waits ≡ ws ++ w ∷ [] → place.new.me ≡ (record place.old.me.0 { slot = slot; waits = ws }, place.old.me.1) }
+    ensures reclaimed { Reclaims place.old.me slot (T.holds result) place.new.me }
 {
     slots::open(words, place);
     let own = slot * (sizes.participants + 1) + sizes.participants;
@@ -77,23 +87,76 @@ pub(crate) fn reclaim<T>(words: &Words<T>, place: &mut Place<T>, sizes: &Sizes, 
     item
 }
 
-/// Reclaims all that is due, of what the participant retired. It is compiled by itself, since few openings rotate.
-#[inline(never)]
-pub(crate) fn reclaim_due<T: Drop>(
+/// Releases an owner that a reclaimed item held, which is first in hand: with the last one the participant has retired its
+/// item.
+fn release_held<T: Holds>(
     words: &Words<T>,
     place: &mut Place<T>,
     sizes: &Sizes,
+    number: usize,
+    bags: &mut Bags,
+    held: Held<T>,
+)
+    requires table { FitsSizes words.now.table_id words.now.key.sizes place.old.table_id place.old.me.0.sizes sizes.now × (number < sizes.now.participants) }
+    requires ready { IsAtRest number place.old.me.0 }
+    requires owner { IsFirst place.old.me.0 (told_of held).0 (told_of held).1 }
+    requires waits { WaitsIn place.old.me.0.waits bags.old × (deque_capacity bags.old.slots ≡ sizes.now.slots) }
+    ensures seat { (place.new.table_id ≡ place.old.table_id) × (place.new.id ≡ place.old.id) }
+    ensures released { (o : Owner) (os : List Owner) → place.old.me.0.hand ≡ o ∷ os → (ws : List Garbage) × (place.new.me ≡ (record place.old.me.0 { hand = os; waits = ws }, place.old.me.1)) }
+    ensures waits { WaitsIn place.new.me.0.waits bags.new }
+    ensures bags { (bags.new.due ≡ bags.old.due) × (deque_capacity bags.new.slots ≡ deque_capacity bags.old.slots) }
+{
+    let Held { slot, part } = held;
+    if release_home(words, place, sizes, number, slot, part) == 0 {
+        bags.retire(slot);
+    }
+}
+
+/// Spends a reclaimed item, whose owners are the first in hand: each is released.
+fn give_up<T: Holds>(
+    words: &Words<T>,
+    place: &mut Place<T>,
+    sizes: &Sizes,
+    number: usize,
+    bags: &mut Bags,
+    item: T,
+)
+    requires table { FitsSizes words.now.table_id words.now.key.sizes place.old.table_id place.old.me.0.sizes sizes.now × (number < sizes.now.participants) }
+    requires ready { IsAtRest number place.old.me.0 }
+    requires owners { (hs : List Owner) × (os : List Owner) × (T.holds item ≡ map told hs) × (place.old.me.0.hand ≡ hs ++ os) }
+    requires waits { WaitsIn place.old.me.0.waits bags.old × (deque_capacity bags.old.slots ≡ sizes.now.slots) }
+    ensures seat { (place.new.table_id ≡ place.old.table_id) × (place.new.id ≡ place.old.id) }
+    ensures released { (hs os : List Owner) → T.holds item ≡ map told hs → place.old.me.0.hand ≡ hs ++ os → (ws : List Garbage) × (place.new.me ≡ (record place.old.me.0 { hand = os; waits = ws }, place.old.me.1)) }
+    ensures waits { WaitsIn place.new.me.0.waits bags.new }
+    ensures bags { (bags.new.due ≡ bags.old.due) × (deque_capacity bags.new.slots ≡ deque_capacity bags.old.slots) }
+{
+    let mut item = item;
+    while let Some(held) = item.give_up() {
+        release_held(words, place, sizes, number, bags, held);
+    }
+    item.end();
+}
+
+/// Reclaims all that is due, of what the participant retired, and releases what these items held. It is compiled by itself,
+/// since few openings rotate.
+#[inline(never)]
+pub(crate) fn reclaim_due<T: Holds>(
+    words: &Words<T>,
+    place: &mut Place<T>,
+    sizes: &Sizes,
+    number: usize,
     bags: &mut Bags,
 )
-    requires table { FitsSizes words.now.table_id words.now.key.sizes place.old.table_id place.old.me.0.sizes sizes.now }
-    requires ready { (place.old.me.0.kind ≡ 1) × (is_ready place.old.me.0.known ≡ true) × (place.old.me.0.filling ≡ None) × (place.old.me.0.hand ≡ []) }
-    requires waits { Waits place.old.me.0.waits bags.old.slots.items (ages bags.old.current bags.old.previous bags.old.next bags.old.due) }
+    requires table { FitsSizes words.now.table_id words.now.key.sizes place.old.table_id place.old.me.0.sizes sizes.now × (number < sizes.now.participants) }
+    requires ready { IsAtRest number place.old.me.0 × (place.old.me.0.filling ≡ None) }
+    requires waits { WaitsIn place.old.me.0.waits bags.old × (deque_capacity bags.old.slots ≡ sizes.now.slots) }
     ensures seat { (place.new.table_id ≡ place.old.table_id) × (place.new.id ≡ place.old.id) }
     ensures reclaimed { (k : ℕ) × (ws : List Garbage) × (place.new.me ≡ (record place.old.me.0 { slot = k; waits = ws }, place.old.me.1)) }
-    ensures waits { Waits place.new.me.0.waits bags.new.slots.items (ages bags.new.current bags.new.previous bags.new.next bags.new.due) }
+    ensures waits { WaitsIn place.new.me.0.waits bags.new }
     ensures bags { (bags.new.due ≡ 0) × (deque_capacity bags.new.slots ≡ deque_capacity bags.old.slots) }
 {
     while let Some(slot) = bags.take_due() {
-        drop(reclaim(words, place, sizes, slot));
+        let item = reclaim(words, place, sizes, slot);
+        give_up(words, place, sizes, number, bags, item);
     }
 }

@@ -1,22 +1,23 @@
 //! A scan: whether the count may be raised, and its raise.
 
-ghost use Rattle.std.specs.Prelude.{◌≡◌, ◌≢◌, ℕ, ◌+◌, ◌*◌, ◌-◌, ◌^◌, ◌<◌, ◌≤◌, IsTrue};
+ghost use Rattle.std.specs.Prelude.{◌≡◌, ◌≢◌, ℕ, ◌-◌, ◌^◌, ◌<◌, IsTrue};
 ghost use Rattle.sdd_steps.specs.State.{Has};
-ghost use Rattle.sdd_domain.specs.Layout.{epoch_words};
+ghost use Rattle.sdd_domain.specs.Fitting.{HasEpochs};
 ghost use Rattle.sdd_domain.specs.Plays.{Steady, Scans};
 
 use crate::board::{Place, Words};
+use crate::holds::Holds;
 use crate::steps::{give_lock, is_present, look, raise, take_lock};
 
 /// Whether each other participant is closed or has published the count `epoch`. It stops at the first that isn't.
-fn all_agree<T>(
+fn all_agree<T: Holds>(
     words: &Words<T>,
     place: &mut Place<T>,
     number: usize,
     participants: usize,
     epoch: u64,
 ) -> bool
-    requires table { (place.old.table_id ≡ words.now.table_id) × (words.now.key.sizes.participants ≡ participants) × (epoch_words participants ≤ words.now.table_id.words) × (participants ≤ 2 ^ 30) }
+    requires table { HasEpochs words.now.table_id words.now.key.sizes place.old.table_id participants }
     requires open { Scans place.old number epoch 2 }
     requires below { epoch < 2 ^ 64 - 1 }
     ensures seat { (place.new.table_id ≡ place.old.table_id) × (place.new.id ≡ place.old.id) × Steady place.old.me place.new.me × Scans place.new number epoch 2 }
@@ -34,14 +35,14 @@ fn all_agree<T>(
 /// raises the count by one only where that is the present one, and each other participant is closed or has published
 /// it. A count of `2^64 - 1` isn't raised.
 #[inline(never)]
-pub(crate) fn scan<T>(
+pub(crate) fn scan<T: Holds>(
     words: &Words<T>,
     place: &mut Place<T>,
     number: usize,
     participants: usize,
     epoch: u64,
 )
-    requires table { (place.old.table_id ≡ words.now.table_id) × (words.now.key.sizes.participants ≡ participants) × (epoch_words participants ≤ words.now.table_id.words) × (participants ≤ 2 ^ 30) }
+    requires table { HasEpochs words.now.table_id words.now.key.sizes place.old.table_id participants }
     requires open { Scans place.old number epoch 0 }
     ensures { (place.new.table_id ≡ place.old.table_id) × (place.new.id ≡ place.old.id) × Steady place.old.me place.new.me × Scans place.new number epoch 0 }
 {

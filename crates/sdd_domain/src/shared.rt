@@ -1,12 +1,13 @@
 //! Owners of the items of a place that threads share.
 
-ghost use Rattle.std.specs.Prelude.{◌≡◌, ◌≢◌, ℕ, ◌+◌, ◌^◌, ◌<◌, ◌∷◌, [], ◌||◌, true, IsSome, IsTrue, IsFalse, IfOk, IfErr};
+ghost use Rattle.std.specs.Prelude.{◌≡◌, ◌+◌, ◌^◌, ◌<◌, ◌∷◌, [], ◌||◌, true, IsSome, IsTrue, IsFalse, IfOk, IfErr, OnOk, OnErr};
 ghost use Rattle.sdd_domain.specs.Views.{holding};
 ghost use Rattle.sdd_domain.specs.Owners.{item_in};
-ghost use Rattle.sdd_homes.specs.declared.Owner.{Owner};
 
 use crate::board::{Acting, Stored};
 use crate::domain::Domain;
+use crate::held::Held;
+use crate::holds::Holds;
 use crate::local::Local;
 use crate::owners::{clone, part_with, release, take_in};
 use crate::placing::place_item;
@@ -24,18 +25,22 @@ pub struct Shared<T> {
     ghost low: { slot + 1 < 2 ^ 31 },
 }
 
-impl<T> Shared<T> {
-    ghost use Rattle.sdd_domain.specs.Tokens.{place_of, home_of, own_of, born_of, waiting_of, IsInNest};
+impl<T: Holds> Shared<T> {
+    ghost use Rattle.sdd_domain.specs.Tokens.{place_of, home_of, own_of, hand_of, born_of, waiting_of, IsInNest, IsSameButHand};
+    ghost use Rattle.sdd_domain.specs.Holding.{told_of, IsHeldOf};
     ghost use Rattle.sdd_domain.specs.Sharing.{kept_in, IsOwnerOf};
 
     /// Places an item in a free slot, and gives its first owner. Where each slot was taken when it was tried, the item
-    /// is back. It takes no memory.
+    /// is back. The item holds all owners that are in the participant's hand, and no other one. It takes no memory.
     pub fn new(item: T, domain: &Domain<T>, local: &mut Local<T>) -> Result<Shared<T>, T>
         requires home { home_of local.old ≡ place_of domain.now }
+        requires holds { T.holds item ≡ hand_of local.old }
         ensures home { IfOk result (λ s. kept_in s ≡ (place_of domain.now).0) }
         ensures item { IfOk result (λ s. IsOwnerOf s item) }
         ensures refused { IfErr result (λ back. back ≡ item) }
-        ensures same { IsInNest local.old local.new × (own_of local.new ≡ own_of local.old) × (born_of local.new ≡ born_of local.old) × (waiting_of local.new ≡ waiting_of local.old) }
+        ensures bare { OnOk result (hand_of local.new ≡ []) }
+        ensures hand { OnErr result (hand_of local.new ≡ hand_of local.old) }
+        ensures same { IsSameButHand local.old local.new }
     {
         let Local { place, next, .. } = local;
         let (slot, part) = place_item(domain.words(), place, &domain.sizes, *next, item)?;
@@ -97,6 +102,20 @@ impl<T> Shared<T> {
                 Err(Shared { slot, part, seat })
             }
         }
+    }
+
+    /// Takes the owner into the participant's hand, for an item to hold: the next one that is placed holds it, and all
+    /// others in hand, behind it.
+    pub fn hold(self, domain: &Domain<T>, local: &mut Local<T>) -> Held<T>
+        requires home { home_of local.old ≡ place_of domain.now }
+        requires mine { kept_in self ≡ (place_of domain.now).0 }
+        ensures hand { hand_of local.new ≡ told_of result ∷ hand_of local.old }
+        ensures item { (x : T) → IsOwnerOf self x → IsHeldOf result x }
+        ensures same { IsSameButHand local.old local.new }
+    {
+        let Shared { slot, part, seat } = self;
+        take_in(domain.words(), &mut local.place, seat);
+        Held { slot, part }
     }
 
     /// Gives the owner back. Whether it was the last one: then the participant has retired the item, which is reclaimed

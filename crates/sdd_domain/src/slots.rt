@@ -2,80 +2,87 @@
 //! and gives the slot to the item; it opens the slot of an item that nobody reads any more, empties the homes, and gives
 //! the slot back.
 
-ghost use Rattle.std.specs.Prelude.{◌≡◌, ℕ, ◌+◌, ◌*◌, ◌^◌, ◌<◌, ◌≤◌, ◌-◌, ◌++◌, ◌∷◌, [], true, List, Some, None, IsTrue, IsFalse};
+ghost use Rattle.std.specs.Prelude.{◌≡◌, ℕ, ◌+◌, ◌*◌, ◌<◌, ◌≤◌, ◌++◌, ◌∷◌, [], true, List, Some, None, IsTrue, IsFalse};
 ghost use Rattle.sdd_steps.specs.Steps.{is_ready};
 ghost use Rattle.sdd_homes.specs.declared.Filling.{Filling};
+ghost use Rattle.sdd_domain.specs.Outcomes.{Fills, Opens, TakesNext, Empties};
 ghost use Rattle.sdd_domain.specs.Fitting.{FitsSlot};
 ghost use Rattle.sdd_domain.specs.Contents.{IsIn};
 ghost use Rattle.sdd_domain.specs.Layout.{all_words, IsSized};
-ghost use Rattle.sdd_domain.specs.Plays.{HasClaimed, claim_slot_then, HasTaken, fill_takes_then, CanFill, next_filled, filling_at, fill_gives_then, CanPlace, placing, place_then, opens_then, reclaiming, deed_home, gathers_then, gathered, CanEmpty, empties_then, CanVacate, vacates_then};
+ghost use Rattle.sdd_domain.specs.Plays.{HasClaimed, claim_slot_then, HasTaken, fill_takes_then, CanFill, fill_gives_then, CanPlace, placing, place_then, opens_then, gathers_then, CanEmpty, empties_then, CanVacate, vacates_then};
 ghost use Rattle.sdd_homes.specs.declared.Garbage.{Garbage};
-ghost use Rattle.sdd_homes.specs.declared.Owner.{Owner};
-ghost use Rattle.sdd_homes.specs.Book.{deed, home, part};
 ghost use Rattle.sdd_domain.specs.declared.board.Home.{Home};
 
 use crate::board::{Acting, Home, Place, Words};
+use crate::holds::Holds;
 use atomic_table::Play;
 use sdd_base::sizes::Sizes;
 
 struct OnClaim;
 
-impl<T> Play<Home<T>, Acting> for OnClaim {
-    ghost then = { claim_slot_then IsIn };
+impl<T: Holds> Play<Home<T>, Acting> for OnClaim {
+    ghost then = { claim_slot_then (IsIn T.holds) };
 }
 
 struct OnTake;
 
-impl<T> Play<Home<T>, Acting> for OnTake {
-    ghost then = { fill_takes_then IsIn };
+impl<T: Holds> Play<Home<T>, Acting> for OnTake {
+    ghost then = { fill_takes_then (IsIn T.holds) };
 }
 
 struct OnGive;
 
-impl<T> Play<Home<T>, Acting> for OnGive {
-    ghost then = { fill_gives_then IsIn };
+impl<T: Holds> Play<Home<T>, Acting> for OnGive {
+    ghost then = { fill_gives_then (IsIn T.holds) };
 }
 
 struct OnPlace;
 
-impl<T> Play<Home<T>, Acting> for OnPlace {
-    ghost then = { place_then IsIn };
+impl<T: Holds> Play<Home<T>, Acting> for OnPlace {
+    ghost then = { place_then (IsIn T.holds) };
 }
 
 struct OnOpen;
 
-impl<T> Play<Home<T>, Acting> for OnOpen {
-    ghost then = { opens_then IsIn };
+impl<T: Holds> Play<Home<T>, Acting> for OnOpen {
+    ghost then = { opens_then (IsIn T.holds) };
 }
 
 struct OnGather;
 
-impl<T> Play<Home<T>, Acting> for OnGather {
-    ghost then = { gathers_then IsIn };
+impl<T: Holds> Play<Home<T>, Acting> for OnGather {
+    ghost then = { gathers_then (IsIn T.holds) };
 }
 
 struct OnEmpty;
 
-impl<T> Play<Home<T>, Acting> for OnEmpty {
-    ghost then = { empties_then IsIn };
+impl<T: Holds> Play<Home<T>, Acting> for OnEmpty {
+    ghost then = { empties_then (IsIn T.holds) };
 }
 
 struct OnVacate;
 
-impl<T> Play<Home<T>, Acting> for OnVacate {
-    ghost then = { vacates_then IsIn };
+impl<T: Holds> Play<Home<T>, Acting> for OnVacate {
+    ghost then = { vacates_then (IsIn T.holds) };
 }
 
 /// Whether the item in `slot` has an owner, if there is one.
-pub(crate) fn has_owner<T>(words: &Words<T>, sizes: &Sizes, slot: usize) -> bool
+pub(crate) fn has_owner<T: Holds>(words: &Words<T>, sizes: &Sizes, slot: usize) -> bool
     requires { (words.now.key.sizes ≡ sizes.now) × IsSized sizes.now × (slot < sizes.now.slots) × (all_words sizes.now ≤ words.now.table_id.words) }
 {
     words.peek(8 * sizes.participants + 16 + sizes.cells + slot) > 2
 }
 
+/// Whether `slot` isn't vacant: it has an item, or is filled or emptied.
+pub(crate) fn is_used<T: Holds>(words: &Words<T>, sizes: &Sizes, slot: usize) -> bool
+    requires { (words.now.key.sizes ≡ sizes.now) × IsSized sizes.now × (slot < sizes.now.slots) × (all_words sizes.now ≤ words.now.table_id.words) }
+{
+    words.peek(8 * sizes.participants + 16 + sizes.cells + slot) > 0
+}
+
 /// Tries once to claim `slot`, for `participants` and `cells` of them. Where it was vacant it is the participant's to
 /// fill, and the item's own home is out, with the room for the item. Whether it was.
-pub(crate) fn claim<T>(
+pub(crate) fn claim<T: Holds>(
     words: &Words<T>,
     place: &mut Place<T>,
     participants: usize,
@@ -85,35 +92,35 @@ pub(crate) fn claim<T>(
     requires table { FitsSlot words.now.table_id words.now.key.sizes place.old.table_id place.old.me.0.sizes participants cells slot }
     requires ready { (place.old.me.0.kind ≡ 1) × (place.old.me.0.filling ≡ None) }
     ensures seat { (place.new.table_id ≡ place.old.table_id) × (place.new.id ≡ place.old.id) }
-    ensures claimed { IsTrue result → HasClaimed IsIn place.old.me slot place.new.me }
+    ensures claimed { IsTrue result → HasClaimed (IsIn T.holds) place.old.me slot place.new.me }
     ensures refused { IsFalse result → place.new.me ≡ place.old.me }
 {
     words.compare_exchange::<OnClaim>(place, 8 * participants + 16 + cells + slot, 0, 1) == 0
 }
 
 /// Takes the home of the next participant out of the slot that is being filled. It is empty.
-pub(crate) fn take_next<T>(words: &Words<T>, place: &mut Place<T>)
+pub(crate) fn take_next<T: Holds>(words: &Words<T>, place: &mut Place<T>)
     requires table { (place.old.table_id ≡ words.now.table_id) × (0 < words.now.table_id.words) }
     requires filling { (place.old.me.0.kind ≡ 1) × ((f : Filling) × (place.old.me.0.filling ≡ Some f) × (f.filled < place.old.me.0.sizes.participants) × (f.out ≡ place.old.me.0.sizes.participants)) }
     ensures seat { (place.new.table_id ≡ place.old.table_id) × (place.new.id ≡ place.old.id) }
-    ensures taken { (f : Filling) → place.old.me.0.filling ≡ Some f → HasTaken IsIn place.old.me f place.new.me }
+    ensures taken { (f : Filling) → place.old.me.0.filling ≡ Some f → HasTaken (IsIn T.holds) place.old.me f place.new.me }
 {
     let _ = words.load::<OnTake>(place, 0);
 }
 
 /// Gives the home back that `take_next` took, with its parts. The first one tells which round the slot's parts are of.
-pub(crate) fn give_next<T>(words: &Words<T>, place: &mut Place<T>)
+pub(crate) fn give_next<T: Holds>(words: &Words<T>, place: &mut Place<T>)
     requires table { (place.old.table_id ≡ words.now.table_id) × (0 < words.now.table_id.words) }
-    requires filling { (place.old.me.0.kind ≡ 1) × ((f : Filling) × (c : ℕ) × (a : ℕ) × (tail : List (ℕ × Home T)) × CanFill IsIn place.old.me f c a tail) }
+    requires filling { (place.old.me.0.kind ≡ 1) × ((f : Filling) × (c : ℕ) × (a : ℕ) × (tail : List (ℕ × Home T)) × CanFill (IsIn T.holds) place.old.me f c a tail) }
     ensures seat { (place.new.table_id ≡ place.old.table_id) × (place.new.id ≡ place.old.id) }
-    ensures given { (f : Filling) (c a : ℕ) (tail : List (ℕ × Home T)) → CanFill IsIn place.old.me f c a tail → place.new.me ≡ (filling_at place.old.me.0.slot (next_filled place.old.me.0 c a f) place.old.me.0, tail) }
+    ensures given { Fills (IsIn T.holds) place.old.me place.new.me }
 {
     let _ = words.load::<OnGive>(place, 0);
 }
 
 /// Gives the slot to a new item, which holds the items whose owners are in hand, and has one owner, which is in hand from
 /// now on. The item's own home goes back in the same step, with its deed.
-pub(crate) fn place<T>(
+pub(crate) fn place<T: Holds>(
     words: &Words<T>,
     place: &mut Place<T>,
     participants: usize,
@@ -122,50 +129,50 @@ pub(crate) fn place<T>(
 )
     requires table { FitsSlot words.now.table_id words.now.key.sizes place.old.table_id place.old.me.0.sizes participants cells slot }
     requires ready { (place.old.me.0.kind ≡ 1) × (is_ready place.old.me.0.known ≡ true) × (place.old.me.0.releasing ≡ 0) × (place.old.me.0.slot ≡ slot) }
-    requires filled { (f : Filling) × (tail : List (ℕ × Home T)) × CanPlace IsIn place.old.me f tail }
+    requires filled { (f : Filling) × (tail : List (ℕ × Home T)) × CanPlace (IsIn T.holds) place.old.me f tail }
     ensures seat { (place.new.table_id ≡ place.old.table_id) × (place.new.id ≡ place.old.id) }
-    ensures placed { (f : Filling) (tail : List (ℕ × Home T)) → CanPlace IsIn place.old.me f tail → (i : ℕ) × (place.new.me ≡ (placing i f place.old.me.0, tail)) }
+    ensures placed { (f : Filling) (tail : List (ℕ × Home T)) → CanPlace (IsIn T.holds) place.old.me f tail → (i : ℕ) × (place.new.me ≡ (placing i f place.old.me.0, tail)) }
 {
     words.store::<OnPlace>(place, 8 * participants + 16 + cells + slot, 3);
 }
 
 /// Begins to reclaim the item that waits the longest, which the participant retired three rotations ago. Nobody reads it:
 /// its deed comes out, all its parts are at home, and the owners that it held are in hand.
-pub(crate) fn open<T>(words: &Words<T>, place: &mut Place<T>)
+pub(crate) fn open<T: Holds>(words: &Words<T>, place: &mut Place<T>)
     requires table { (place.old.table_id ≡ words.now.table_id) × (0 < words.now.table_id.words) }
     requires ready { (place.old.me.0.kind ≡ 1) × (is_ready place.old.me.0.known ≡ true) × (place.old.me.0.filling ≡ None) }
     requires waits { (w : Garbage) × (ws : List Garbage) × (place.old.me.0.waits ≡ ws ++ w ∷ []) × (w.age ≡ 3) }
     ensures seat { (place.new.table_id ≡ place.old.table_id) × (place.new.id ≡ place.old.id) }
     ensures inside { (w : Garbage) (ws : List Garbage) → place.old.me.0.waits ≡ ws ++ w ∷ [] → w.slot < place.old.me.0.sizes.slots }
-    ensures opened { (w : Garbage) (ws : List Garbage) → place.old.me.0.waits ≡ ws ++ w ∷ [] → (hs : List Owner) × (u : Home T) × IsIn (deed w.round hs) u × (place.new.me ≡ (reclaiming w hs ws place.old.me.0, (deed_home place.old.me.0 w.slot, u) ∷ place.old.me.1)) }
+    ensures opened { Opens (IsIn T.holds) place.old.me place.new.me }
 {
     let _ = words.load::<OnOpen>(place, 0);
 }
 
 /// Takes the last home that has parts out of the slot of a reclaimed item. With that of the first participant all parts
 /// are in hand.
-pub(crate) fn gather<T>(words: &Words<T>, place: &mut Place<T>)
+pub(crate) fn gather<T: Holds>(words: &Words<T>, place: &mut Place<T>)
     requires table { (place.old.table_id ≡ words.now.table_id) × (0 < words.now.table_id.words) }
     requires filled { (place.old.me.0.kind ≡ 1) × ((f : Filling) × (place.old.me.0.filling ≡ Some f) × (0 < f.filled) × (f.out ≡ place.old.me.0.sizes.participants)) }
     ensures seat { (place.new.table_id ≡ place.old.table_id) × (place.new.id ≡ place.old.id) }
-    ensures taken { (f : Filling) → place.old.me.0.filling ≡ Some f → (a : ℕ) × (u : Home T) × IsIn (part f.round a) u × (f.left + a ≤ 2 ^ 63) × (f.filled ≡ 1 → f.left + a ≡ 2 ^ 63) × (place.new.me ≡ (filling_at place.old.me.0.slot (gathered a f) place.old.me.0, (home place.old.me.0.sizes.participants place.old.me.0.slot (f.filled - 1), u) ∷ place.old.me.1)) }
+    ensures taken { TakesNext (IsIn T.holds) place.old.me place.new.me }
 {
     let _ = words.load::<OnGather>(place, 0);
 }
 
 /// Gives the home back that `gather` took. It is empty now.
-pub(crate) fn empty<T>(words: &Words<T>, place: &mut Place<T>)
+pub(crate) fn empty<T: Holds>(words: &Words<T>, place: &mut Place<T>)
     requires table { (place.old.table_id ≡ words.now.table_id) × (0 < words.now.table_id.words) }
-    requires emptied { (place.old.me.0.kind ≡ 1) × ((f : Filling) × (tail : List (ℕ × Home T)) × CanEmpty IsIn place.old.me f tail) }
+    requires emptied { (place.old.me.0.kind ≡ 1) × ((f : Filling) × (tail : List (ℕ × Home T)) × CanEmpty (IsIn T.holds) place.old.me f tail) }
     ensures seat { (place.new.table_id ≡ place.old.table_id) × (place.new.id ≡ place.old.id) }
-    ensures given { (f : Filling) (tail : List (ℕ × Home T)) → CanEmpty IsIn place.old.me f tail → place.new.me ≡ (filling_at place.old.me.0.slot (record f { out = place.old.me.0.sizes.participants }) place.old.me.0, tail) }
+    ensures given { Empties (IsIn T.holds) place.old.me place.new.me }
 {
     let _ = words.load::<OnEmpty>(place, 0);
 }
 
 /// Gives `slot` back, for `participants` and `cells` of them: all homes are empty, and the room is in the item's own, which goes
 /// back in the same step.
-pub(crate) fn vacate<T>(
+pub(crate) fn vacate<T: Holds>(
     words: &Words<T>,
     place: &mut Place<T>,
     participants: usize,
@@ -173,9 +180,9 @@ pub(crate) fn vacate<T>(
     slot: usize,
 )
     requires table { FitsSlot words.now.table_id words.now.key.sizes place.old.table_id place.old.me.0.sizes participants cells slot }
-    requires emptied { (place.old.me.0.kind ≡ 1) × (place.old.me.0.slot ≡ slot) × ((f : Filling) × (tail : List (ℕ × Home T)) × CanVacate IsIn place.old.me f tail) }
+    requires emptied { (place.old.me.0.kind ≡ 1) × (place.old.me.0.slot ≡ slot) × ((f : Filling) × (tail : List (ℕ × Home T)) × CanVacate (IsIn T.holds) place.old.me f tail) }
     ensures seat { (place.new.table_id ≡ place.old.table_id) × (place.new.id ≡ place.old.id) }
-    ensures vacant { (f : Filling) (tail : List (ℕ × Home T)) → CanVacate IsIn place.old.me f tail → place.new.me ≡ (record place.old.me.0 { filling = None }, tail) }
+    ensures vacant { (f : Filling) (tail : List (ℕ × Home T)) → CanVacate (IsIn T.holds) place.old.me f tail → place.new.me ≡ (record place.old.me.0 { filling = None }, tail) }
 {
     words.store::<OnVacate>(place, 8 * participants + 16 + cells + slot, 0);
 }

@@ -6,13 +6,15 @@ ghost use Rattle.sdd_homes.specs.declared.Garbage.{Garbage};
 ghost use Rattle.sdd_steps.specs.State.{Has};
 ghost use Rattle.sdd_steps.specs.Steps.{is_ready};
 ghost use Rattle.sdd_steps.specs.declared.participant.Phase.TheVariants.{Idle, HasRead, Opened};
+ghost use Rattle.sdd_domain.specs.Fitting.{HasEpochOf, HasClaimOf};
 ghost use Rattle.sdd_domain.specs.Contents.{IsIn, Announces};
 ghost use Rattle.sdd_domain.specs.Views.{IsBare, spent, reading, publishing, rotated, looking};
-ghost use Rattle.sdd_domain.specs.Layout.{count_word, lock_word, state_word, claim_word, epoch_words, shown};
+ghost use Rattle.sdd_domain.specs.Layout.{lock_word, claim_word, epoch_words, shown};
 ghost use Rattle.sdd_domain.specs.Plays.{read_then, publish_then, count_then, look_then, agree_then, raise_then, lock_then, unlock_then, sit_then, HasRegistered, CanLeave, claim_then, learn_then, taking_over, take_over_then, end_then, Steady, Scans};
 ghost use Rattle.sdd_domain.specs.declared.board.Home.{Home};
 
 use crate::board::{Acting, Home, Place, Words};
+use crate::holds::Holds;
 use crate::homes::let_go;
 use atomic_table::Play;
 use sdd_base::sizes::Sizes;
@@ -38,79 +40,79 @@ const CLAIM: usize = 17;
 
 struct OnRead;
 
-impl<T> Play<Home<T>, Acting> for OnRead {
+impl<T: Holds> Play<Home<T>, Acting> for OnRead {
     ghost then = { read_then };
 }
 
 struct OnPublish;
 
-impl<T> Play<Home<T>, Acting> for OnPublish {
+impl<T: Holds> Play<Home<T>, Acting> for OnPublish {
     ghost then = { publish_then };
 }
 
 struct OnCount;
 
-impl<T> Play<Home<T>, Acting> for OnCount {
+impl<T: Holds> Play<Home<T>, Acting> for OnCount {
     ghost then = { count_then };
 }
 
 struct OnLook;
 
-impl<T> Play<Home<T>, Acting> for OnLook {
+impl<T: Holds> Play<Home<T>, Acting> for OnLook {
     ghost then = { look_then };
 }
 
 struct OnAgree;
 
-impl<T> Play<Home<T>, Acting> for OnAgree {
+impl<T: Holds> Play<Home<T>, Acting> for OnAgree {
     ghost then = { agree_then };
 }
 
 struct OnRaise;
 
-impl<T> Play<Home<T>, Acting> for OnRaise {
+impl<T: Holds> Play<Home<T>, Acting> for OnRaise {
     ghost then = { raise_then };
 }
 
 struct OnLock;
 
-impl<T> Play<Home<T>, Acting> for OnLock {
+impl<T: Holds> Play<Home<T>, Acting> for OnLock {
     ghost then = { lock_then };
 }
 
 struct OnUnlock;
 
-impl<T> Play<Home<T>, Acting> for OnUnlock {
+impl<T: Holds> Play<Home<T>, Acting> for OnUnlock {
     ghost then = { unlock_then };
 }
 
 struct OnSit;
 
-impl<T> Play<Home<T>, Acting> for OnSit {
+impl<T: Holds> Play<Home<T>, Acting> for OnSit {
     ghost then = { sit_then };
 }
 
 struct OnClaim;
 
-impl<T> Play<Home<T>, Acting> for OnClaim {
-    ghost then = { claim_then IsIn };
+impl<T: Holds> Play<Home<T>, Acting> for OnClaim {
+    ghost then = { claim_then (IsIn T.holds) };
 }
 
 struct OnLearn;
 
-impl<T> Play<Home<T>, Acting> for OnLearn {
+impl<T: Holds> Play<Home<T>, Acting> for OnLearn {
     ghost then = { learn_then Announces };
 }
 
 struct OnTakeOver;
 
-impl<T> Play<Home<T>, Acting> for OnTakeOver {
+impl<T: Holds> Play<Home<T>, Acting> for OnTakeOver {
     ghost then = { take_over_then };
 }
 
 struct OnEnd;
 
-impl<T> Play<Home<T>, Acting> for OnEnd {
+impl<T: Holds> Play<Home<T>, Acting> for OnEnd {
     ghost then = { end_then };
 }
 
@@ -122,7 +124,7 @@ fn word_of(epoch: u64) -> u64
 }
 
 /// A new seat, which acts for nobody.
-pub(crate) fn sit<T>(words: &Words<T>) -> Place<T>
+pub(crate) fn sit<T: Holds>(words: &Words<T>) -> Place<T>
     requires { 0 < words.now.table_id.words }
     ensures { (result.table_id ≡ words.now.table_id) × (result.me.0 ≡ spent) × (result.me.1 ≡ []) }
 {
@@ -132,11 +134,11 @@ pub(crate) fn sit<T>(words: &Words<T>) -> Place<T>
 
 /// Tries once to act for participant `number`. Where nobody did, its spare slot comes out, empty: which one it is; and
 /// behind that its bag, with what was left when it ended before.
-pub(crate) fn claim<T>(words: &Words<T>, place: &mut Place<T>, number: usize) -> Option<u64>
-    requires table { (place.old.table_id ≡ words.now.table_id) × (number < words.now.key.sizes.participants) × (epoch_words words.now.key.sizes.participants ≤ words.now.table_id.words) × (words.now.key.sizes.participants ≤ 2 ^ 30) × (words.now.key.sizes.cells ≤ 2 ^ 30) }
+pub(crate) fn claim<T: Holds>(words: &Words<T>, place: &mut Place<T>, number: usize) -> Option<u64>
+    requires table { HasClaimOf words.now.table_id words.now.key.sizes place.old.table_id number }
     requires nobody { (place.old.me.0.kind ≡ 0) × IsBare place.old.me.0 }
     ensures seat { (place.new.table_id ≡ place.old.table_id) × (place.new.id ≡ place.old.id) }
-    ensures claimed { IfSome result (λ y. (y < 2 ^ 33) × HasRegistered IsIn place.old.me number y place.new.me) }
+    ensures claimed { IfSome result (λ y. (y < 2 ^ 33) × HasRegistered (IsIn T.holds) place.old.me number y place.new.me) }
     ensures refused { IfNone result (place.new.me ≡ place.old.me) }
 {
     let found = words.swap::<OnClaim>(place, STRIDE * number + CLAIM, 0);
@@ -144,7 +146,7 @@ pub(crate) fn claim<T>(words: &Words<T>, place: &mut Place<T>, number: usize) ->
 }
 
 /// Tells the seat that the place has the sizes `sizes`. No word changes.
-pub(crate) fn learn<T>(words: &Words<T>, place: &mut Place<T>, sizes: Sizes)
+pub(crate) fn learn<T: Holds>(words: &Words<T>, place: &mut Place<T>, sizes: Sizes)
     requires table { (place.old.table_id ≡ words.now.table_id) × (1 < words.now.table_id.words) × (sizes ≡ words.now.key.sizes) }
     requires acts { place.old.me.0.kind ≡ 1 }
     ensures seat { (place.new.table_id ≡ place.old.table_id) × (place.new.id ≡ place.old.id) × (place.new.me ≡ place.old.me) }
@@ -156,7 +158,7 @@ pub(crate) fn learn<T>(words: &Words<T>, place: &mut Place<T>, sizes: Sizes)
 }
 
 /// Whether somebody acts for participant `number`.
-pub(crate) fn is_claimed<T>(words: &Words<T>, number: usize) -> bool
+pub(crate) fn is_claimed<T: Holds>(words: &Words<T>, number: usize) -> bool
     requires { (number < words.now.key.sizes.participants) × (epoch_words words.now.key.sizes.participants ≤ words.now.table_id.words) × (words.now.key.sizes.participants ≤ 2 ^ 30) }
 {
     words.peek(STRIDE * number + CLAIM) == 0
@@ -164,7 +166,7 @@ pub(crate) fn is_claimed<T>(words: &Words<T>, number: usize) -> bool
 
 /// Takes over the last of the items that were left where the participant ended before: the participant has retired it,
 /// and hasn't rotated since. The bag that is out stays as it is. No word changes.
-pub(crate) fn take_over<T>(words: &Words<T>, place: &mut Place<T>)
+pub(crate) fn take_over<T: Holds>(words: &Words<T>, place: &mut Place<T>)
     requires table { (place.old.table_id ≡ words.now.table_id) × (1 < words.now.table_id.words) }
     requires ready { (place.old.me.0.kind ≡ 1) × (is_ready place.old.me.0.known ≡ true) }
     requires left { (w : Garbage) × (ws : List Garbage) × (place.old.me.0.left ≡ ws ++ w ∷ []) }
@@ -177,17 +179,17 @@ pub(crate) fn take_over<T>(words: &Words<T>, place: &mut Place<T>)
 /// Ends what the seat does for participant `number`, which somebody else may act for from now on. Its spare slot, which
 /// is in front of what is out with the seat, goes back empty, and behind that its bag: there the participant leaves what
 /// it retired, behind what it hasn't taken over.
-pub(crate) fn end<T>(words: &Words<T>, place: &mut Place<T>, number: usize, spare: u64)
+pub(crate) fn end<T: Holds>(words: &Words<T>, place: &mut Place<T>, number: usize, spare: u64)
     requires table { (place.old.table_id ≡ words.now.table_id) × (number < 2 ^ 30) × (claim_word number < words.now.table_id.words) }
     requires rests { (place.old.me.0.kind ≡ 1) × (place.old.me.0.number ≡ number) × (place.old.me.0.known.phase ≡ Idle) × (place.old.me.0.scan ≡ 0) × IsBare place.old.me.0 }
-    requires spare { (place.old.me.0.spare ≡ spare) × (spare < 2 ^ 33) × ((tail : List (ℕ × Home T)) × CanLeave IsIn place.old.me tail) }
+    requires spare { (place.old.me.0.spare ≡ spare) × (spare < 2 ^ 33) × ((tail : List (ℕ × Home T)) × CanLeave (IsIn T.holds) place.old.me tail) }
     ensures { (place.new.table_id ≡ place.old.table_id) × (place.new.id ≡ place.old.id) × (place.new.me ≡ (spent, rest (rest place.old.me.1))) }
 {
     words.store::<OnEnd>(place, STRIDE * number + CLAIM, spare + 1);
 }
 
 /// Reads the count of raises, for an opening.
-pub(crate) fn read_count<T>(words: &Words<T>, place: &mut Place<T>) -> u64
+pub(crate) fn read_count<T: Holds>(words: &Words<T>, place: &mut Place<T>) -> u64
     requires table { (place.old.table_id ≡ words.now.table_id) × (0 < words.now.table_id.words) }
     requires closed { (place.old.me.0.kind ≡ 1) × (place.old.me.0.known.phase ≡ Idle) × (place.old.me.0.scan ≡ 0) }
     ensures { (place.new.table_id ≡ place.old.table_id) × (place.new.id ≡ place.old.id) × (place.new.me ≡ (record place.old.me.0 { known = reading result place.old.me.0.known }, place.old.me.1)) }
@@ -196,7 +198,7 @@ pub(crate) fn read_count<T>(words: &Words<T>, place: &mut Place<T>) -> u64
 }
 
 /// Publishes the count that was read, and with it does the rotation that is due.
-pub(crate) fn publish<T>(words: &Words<T>, place: &mut Place<T>, number: usize, epoch: u64)
+pub(crate) fn publish<T: Holds>(words: &Words<T>, place: &mut Place<T>, number: usize, epoch: u64)
     requires table { (place.old.table_id ≡ words.now.table_id) × (number < 2 ^ 30) × (claim_word number < words.now.table_id.words) }
     requires read { (place.old.me.0.kind ≡ 1) × (place.old.me.0.number ≡ number) × (place.old.me.0.known.phase ≡ HasRead epoch) × (place.old.me.0.scan ≡ 0) }
     ensures seat { (place.new.table_id ≡ place.old.table_id) × (place.new.id ≡ place.old.id) }
@@ -206,7 +208,7 @@ pub(crate) fn publish<T>(words: &Words<T>, place: &mut Place<T>, number: usize, 
 }
 
 /// Reads the count of raises under an open guard.
-pub(crate) fn count_under<T>(words: &Words<T>, place: &mut Place<T>, epoch: u64) -> u64
+pub(crate) fn count_under<T: Holds>(words: &Words<T>, place: &mut Place<T>, epoch: u64) -> u64
     requires table { (place.old.table_id ≡ words.now.table_id) × (0 < words.now.table_id.words) }
     requires open { (place.old.me.0.kind ≡ 1) × (place.old.me.0.known.phase ≡ Opened epoch) }
     ensures seat { (place.new.table_id ≡ place.old.table_id) × (place.new.id ≡ place.old.id) × (place.new.me ≡ place.old.me) }
@@ -217,7 +219,7 @@ pub(crate) fn count_under<T>(words: &Words<T>, place: &mut Place<T>, epoch: u64)
 }
 
 /// Tries once for the scan lock.
-pub(crate) fn take_lock<T>(
+pub(crate) fn take_lock<T: Holds>(
     words: &Words<T>,
     place: &mut Place<T>,
     number: usize,
@@ -231,7 +233,7 @@ pub(crate) fn take_lock<T>(
 }
 
 /// Whether the count is still the published one, under the scan lock.
-pub(crate) fn is_present<T>(
+pub(crate) fn is_present<T: Holds>(
     words: &Words<T>,
     place: &mut Place<T>,
     number: usize,
@@ -245,7 +247,7 @@ pub(crate) fn is_present<T>(
 }
 
 /// Gives the scan lock back.
-pub(crate) fn give_lock<T>(words: &Words<T>, place: &mut Place<T>, number: usize, epoch: u64)
+pub(crate) fn give_lock<T: Holds>(words: &Words<T>, place: &mut Place<T>, number: usize, epoch: u64)
     requires { (place.old.table_id ≡ words.now.table_id) × (lock_word < words.now.table_id.words) × (Scans place.old number epoch 1 ⊎ Scans place.old number epoch 2) }
     ensures { (place.new.table_id ≡ place.old.table_id) × (place.new.id ≡ place.old.id) × Steady place.old.me place.new.me × Scans place.new number epoch 0 }
 {
@@ -254,8 +256,8 @@ pub(crate) fn give_lock<T>(words: &Words<T>, place: &mut Place<T>, number: usize
 
 /// Whether the other is closed or has published the same count. It is asked under the scan lock, while the count is
 /// the published one.
-fn look_at<T>(words: &Words<T>, place: &mut Place<T>, other: usize, epoch: u64) -> bool
-    requires table { (place.old.table_id ≡ words.now.table_id) × (other < words.now.key.sizes.participants) × (epoch_words words.now.key.sizes.participants ≤ words.now.table_id.words) × (words.now.key.sizes.participants ≤ 2 ^ 30) }
+fn look_at<T: Holds>(words: &Words<T>, place: &mut Place<T>, other: usize, epoch: u64) -> bool
+    requires table { HasEpochOf words.now.table_id words.now.key.sizes place.old.table_id other }
     requires open { (place.old.me.0.kind ≡ 1) × (place.old.me.0.number ≢ other) × (place.old.me.0.known.phase ≡ Opened epoch) × (place.old.me.0.known.found ≡ epoch) × (place.old.me.0.scan ≡ 2) }
     requires below { epoch < 2 ^ 64 - 1 }
     ensures seat { (place.new.table_id ≡ place.old.table_id) × (place.new.id ≡ place.old.id) }
@@ -267,14 +269,14 @@ fn look_at<T>(words: &Words<T>, place: &mut Place<T>, other: usize, epoch: u64) 
 }
 
 /// The same, for what a scan needs of it: who was looked at before stays so.
-pub(crate) fn look<T>(
+pub(crate) fn look<T: Holds>(
     words: &Words<T>,
     place: &mut Place<T>,
     number: usize,
     other: usize,
     epoch: u64,
 ) -> bool
-    requires table { (place.old.table_id ≡ words.now.table_id) × (other < words.now.key.sizes.participants) × (epoch_words words.now.key.sizes.participants ≤ words.now.table_id.words) × (words.now.key.sizes.participants ≤ 2 ^ 30) }
+    requires table { HasEpochOf words.now.table_id words.now.key.sizes place.old.table_id other }
     requires open { Scans place.old number epoch 2 × (number ≢ other) }
     requires below { epoch < 2 ^ 64 - 1 }
     ensures seat { (place.new.table_id ≡ place.old.table_id) × (place.new.id ≡ place.old.id) × Steady place.old.me place.new.me × Scans place.new number epoch 2 }
@@ -289,7 +291,7 @@ pub(crate) fn look<T>(
 }
 
 /// Raises the count by one, where everybody else was looked at.
-pub(crate) fn raise<T>(words: &Words<T>, place: &mut Place<T>, number: usize, epoch: u64)
+pub(crate) fn raise<T: Holds>(words: &Words<T>, place: &mut Place<T>, number: usize, epoch: u64)
     requires table { (place.old.table_id ≡ words.now.table_id) × (0 < words.now.table_id.words) }
     requires open { Scans place.old number epoch 2 }
     requires all { (q : ℕ) → q < words.now.key.sizes.participants → q ≢ number → Has place.old.me.0.known.looked q }

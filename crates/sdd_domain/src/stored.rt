@@ -14,7 +14,7 @@ pub(crate) fn store<T>(
     item: T,
 ) -> (Deed<Stored<T>, Global>, Part<Stored<T>>)
     ensures round { (result.1.life.id ≡ result.0.life) × (result.1.life.count ≡ 2 ^ 63) }
-    ensures there { IsSome result.0.value }
+    ensures there { IsSomeAnd result.0.value (λ m. manually_drop_value m ≡ item) }
     ensures value { IsSomeAnd result.1.seen.value (λ m. manually_drop_value m ≡ item) }
 {
     *room = Some(unsafe { ManuallyDrop::new_unchecked(item) });
@@ -27,6 +27,7 @@ pub(crate) fn take_out<T>(
     all: Part<Stored<T>>,
 ) -> (T, Box<Stored<T>>)
     requires { (all.life.id ≡ deed.life) × (all.life.count ≡ 2 ^ 63) × IsSome deed.value }
+    ensures { IsSomeAnd deed.value (λ m. manually_drop_value m ≡ result.0) }
 {
     let mut room = thaw(deed, all);
     match room.take() {

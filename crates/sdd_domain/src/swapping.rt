@@ -1,20 +1,23 @@
 //! What a participant brings to a cell and gets back from it, in its spare slot.
 
-ghost use Rattle.std.specs.Prelude.{◌≡◌, ℕ, ◌+◌, ◌*◌, ◌^◌, ◌<◌, ◌≤◌, ◌∷◌, [], ◌%◌, List, Option, true, IfSome};
-ghost use Rattle.atomic_table.specs.Table.{Me, rest};
+ghost use Rattle.std.specs.Prelude.{◌≡◌, ℕ, ◌+◌, ◌*◌, ◌^◌, ◌<◌, ◌≤◌, ◌∷◌, ◌%◌, List, Option, true, IfSome};
+ghost use Rattle.atomic_table.specs.Table.{Me};
 ghost use Rattle.sdd_steps.specs.Steps.{is_ready};
 ghost use Rattle.sdd_homes.specs.declared.Owner.{Owner};
+ghost use Rattle.sdd_domain.specs.Outcomes.{BringsOne, TakesBack, HasSwapped};
+ghost use Rattle.sdd_domain.specs.Comparing.{owner_code, IsInFront};
 ghost use Rattle.sdd_domain.specs.Contents.{IsIn};
 ghost use Rattle.sdd_domain.specs.Fitting.{FitsSizes};
-ghost use Rattle.sdd_domain.specs.Owners.{besides};
-ghost use Rattle.sdd_domain.specs.Plays.{own_spare, Brings, GetsBack};
+ghost use Rattle.sdd_domain.specs.Plays.{own_spare, GetsBack};
 ghost use Rattle.sdd_domain.specs.Sharing.{kept_in};
 ghost use Rattle.sdd_domain.specs.declared.board.Acting.{Acting};
 ghost use Rattle.sdd_domain.specs.declared.board.Home.{Home};
 ghost use Rattle.sdd_domain.specs.declared.board.Home.TheVariants.{Blank};
+ghost use Rattle.sdd_domain.specs.declared.shared.Shared.{Shared};
 
 use crate::board::{Home, Place, Words};
 use crate::cells::swap;
+use crate::holds::Holds;
 use crate::homes::{let_go, parts_of};
 use crate::owners::{part_with, take_in};
 use crate::shared::Shared;
@@ -31,7 +34,7 @@ fn spare_at(sizes: &Sizes, spare: u64) -> usize
 
 /// Puts the part of an owner into the participant's spare slot, and the owner into its hand, or leaves both empty. The
 /// word that says so in a cell is the answer.
-pub(crate) fn bring<T>(
+pub(crate) fn bring<T: Holds>(
     words: &Words<T>,
     place: &mut Place<T>,
     sizes: &Sizes,
@@ -39,11 +42,13 @@ pub(crate) fn bring<T>(
     new: Option<Shared<T>>,
 ) -> u64
     requires table { FitsSizes words.now.table_id words.now.key.sizes place.old.table_id place.old.me.0.sizes sizes.now }
-    requires ready { (place.old.me.0.kind ≡ 1) × (place.old.me.0.hand ≡ []) × (place.old.me.0.spare ≡ spare) × (spare < 2 ^ 33) }
+    requires ready { (place.old.me.0.kind ≡ 1) × (place.old.me.0.spare ≡ spare) × (spare < 2 ^ 33) }
     requires out { (tail : List (ℕ × Home T)) × (place.old.me.1 ≡ (own_spare place.old.me.0 spare, Blank) ∷ tail) }
     requires mine { IfSome new (λ s. kept_in s ≡ words.now.table_id) }
     ensures seat { (place.new.table_id ≡ place.old.table_id) × (place.new.id ≡ place.old.id) }
-    ensures brings { (tail : List (ℕ × Home T)) → place.old.me.1 ≡ (own_spare place.old.me.0 spare, Blank) ∷ tail → (owner : Option Owner) × Brings IsIn place.new.me owner [] result tail × (place.new.me.0 ≡ record place.old.me.0 { hand = besides owner [] }) }
+    ensures code { result ≡ spare + 2 ^ 33 * owner_code new }
+    ensures lies { IfSome new (λ s. IsInFront s place.new.me.1) }
+    ensures brings { BringsOne (IsIn T.holds) place.old.me spare result place.new.me }
 {
     let Some(owner) = new else {
         return spare;
@@ -57,7 +62,7 @@ pub(crate) fn bring<T>(
 
 /// Takes what a cell gave back: the number of the spare slot that is the participant's now, and the owner whose part was
 /// in it, if there was one.
-pub(crate) fn take_back<T>(
+pub(crate) fn take_back<T: Holds>(
     words: &Words<T>,
     place: &mut Place<T>,
     sizes: &Sizes,
@@ -65,10 +70,12 @@ pub(crate) fn take_back<T>(
 ) -> (u64, Option<Shared<T>>)
     requires table { FitsSizes words.now.table_id words.now.key.sizes place.old.table_id place.old.me.0.sizes sizes.now }
     requires ready { (place.old.me.0.kind ≡ 1) × (place.old.me.0.releasing ≡ 0) }
-    requires back { (m : Me (Home T) Acting) × (tail : List (ℕ × Home T)) × GetsBack IsIn m [] word tail place.old.me }
+    requires back { (m : Me (Home T) Acting) × (os : List Owner) × (tail : List (ℕ × Home T)) × GetsBack (IsIn T.holds) m os word tail place.old.me }
     ensures seat { (place.new.table_id ≡ place.old.table_id) × (place.new.id ≡ place.old.id) }
     ensures spare { result.0 < 2 ^ 33 }
-    ensures back { (m : Me (Home T) Acting) (tail : List (ℕ × Home T)) → GetsBack IsIn m [] word tail place.old.me → place.new.me ≡ (record m.0 { spare = result.0; hand = [] }, (own_spare m.0 result.0, Blank) ∷ tail) }
+    ensures code { word ≡ result.0 + 2 ^ 33 * owner_code result.1 }
+    ensures whose { (s : Shared T) → IsInFront s place.old.me.1 → IfSome result.1 (λ back. back.part.part ≡ s.part.part) }
+    ensures back { TakesBack (IsIn T.holds) word place.old.me result.0 place.new.me }
     ensures mine { IfSome result.1 (λ s. kept_in s ≡ words.now.table_id) }
 {
     let spare = word % (1 << 33);
@@ -88,7 +95,7 @@ pub(crate) fn take_back<T>(
 }
 
 /// Swaps what a cell owns, in one step. The number of the participant's spare slot is another one then.
-pub(crate) fn swap_owner<T>(
+pub(crate) fn swap_owner<T: Holds>(
     words: &Words<T>,
     place: &mut Place<T>,
     sizes: &Sizes,
@@ -97,12 +104,12 @@ pub(crate) fn swap_owner<T>(
     new: Option<Shared<T>>,
 ) -> (u64, Option<Shared<T>>)
     requires table { FitsSizes words.now.table_id words.now.key.sizes place.old.table_id place.old.me.0.sizes sizes.now × (cell < sizes.now.cells) }
-    requires ready { (place.old.me.0.kind ≡ 1) × (is_ready place.old.me.0.known ≡ true) × (place.old.me.0.releasing ≡ 0) × (place.old.me.0.hand ≡ []) × (place.old.me.0.spare ≡ spare) × (spare < 2 ^ 33) }
+    requires ready { (place.old.me.0.kind ≡ 1) × (is_ready place.old.me.0.known ≡ true) × (place.old.me.0.releasing ≡ 0) × (place.old.me.0.spare ≡ spare) × (spare < 2 ^ 33) }
     requires out { (tail : List (ℕ × Home T)) × (place.old.me.1 ≡ (own_spare place.old.me.0 spare, Blank) ∷ tail) }
     requires mine { IfSome new (λ s. kept_in s ≡ words.now.table_id) }
     ensures seat { (place.new.table_id ≡ place.old.table_id) × (place.new.id ≡ place.old.id) }
     ensures spare { result.0 < 2 ^ 33 }
-    ensures swapped { (tail : List (ℕ × Home T)) → place.old.me.1 ≡ (own_spare place.old.me.0 spare, Blank) ∷ tail → place.new.me ≡ (record place.old.me.0 { spare = result.0; hand = [] }, (own_spare place.old.me.0 result.0, Blank) ∷ tail) }
+    ensures swapped { HasSwapped place.old.me spare result.0 place.new.me }
     ensures mine { IfSome result.1 (λ s. kept_in s ≡ words.now.table_id) }
 {
     let word = bring(words, place, sizes, spare, new);

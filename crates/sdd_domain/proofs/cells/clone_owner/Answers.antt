@@ -14,6 +14,6 @@ compare_exchange-requires g c = let t = c.requires.table in let plan = c.args.wo
     let is = l.2 in let word : slot_word plan.sizes l.0.slot ≡ 8 * c.args.participants + 16 + c.args.cells + c.args.slot = omega arith in (
       t.0,
       omega arith,
-      subst (λ i. Allows (Shows IsIn plan) slots place.id place.me i (λ n. either (eqb n (2 + owners)) (3 + owners) n) (clone_then (step slots i (2 + owners) (3 + owners) none) place.me)) word
-          (makes_owner _ IsIn plan slots place.id owners place.me l.0 c.requires.ready.0 c.requires.ready.1 l.1 l.3 c.requires.counted.0 c.requires.counted.1),
+      subst (λ i. Allows (Shows (IsIn g.T.Holds.holds) plan) slots place.id place.me i (λ n. either (eqb n (2 + owners)) (3 + owners) n) (clone_then (step slots i (2 + owners) (3 + owners) none) place.me)) word
+          (makes_owner _ (IsIn g.T.Holds.holds) plan slots place.id owners place.me l.0 c.requires.ready.0 c.requires.ready.1 l.1 l.3 c.requires.counted.0 c.requires.counted.1),
     )

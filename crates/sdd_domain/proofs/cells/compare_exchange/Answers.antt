@@ -14,6 +14,6 @@ compare_exchange-requires g c = let t = c.requires.table in let plan = c.args.wo
     let r = c.requires.ready in let old : ℕ = c.args.expected in let new : ℕ = c.args.word in let word : cell_word plan.sizes c.args.cell ≡ 8 * c.args.participants + 16 + c.args.cell = omega arith in (
       t.0,
       omega arith,
-      subst (λ i. Allows (Shows IsIn plan) slots place.id place.me i (λ n. either (eqb n old) new n) (exchange_then IsIn (step slots i old new none) place.me)) word
-          (exchanges _ IsIn plan slots place.id c.args.cell old new place.me b.0 b.1 b.2 r.0 r.1 r.2 r.3 inside (omega arith) b.3),
+      subst (λ i. Allows (Shows (IsIn g.T.Holds.holds) plan) slots place.id place.me i (λ n. either (eqb n old) new n) (exchange_then (IsIn g.T.Holds.holds) (step slots i old new none) place.me)) word
+          (exchanges _ (IsIn g.T.Holds.holds) plan slots place.id c.args.cell old new place.me b.0 b.1 b.2 r.0 r.1 r.2 r.3 inside (omega arith) b.3),
     )

@@ -13,8 +13,8 @@ fetch_sub-requires g c = let t = c.requires.table in let plan = c.args.words.now
     let is = l.5 in let word : slot_word plan.sizes l.0.slot ≡ 8 * c.args.participants + 16 + c.args.cells + c.args.slot = omega arith in (
       t.0,
       omega arith,
-      subst (λ i. Allows (Shows IsIn plan) slots place.id place.me i (λ n. (n + (18446744073709551616 - 1)) % 18446744073709551616) (end_release_then IsIn (step slots i 1 0 none) place.me)) word
-          (ends_one _ IsIn plan slots place.id place.me l.0 l.1 l.2 l.3 l.4 c.requires.ready.0 c.requires.ready.1 l.6),
+      subst (λ i. Allows (Shows (IsIn g.T.Holds.holds) plan) slots place.id place.me i (λ n. (n + (18446744073709551616 - 1)) % 18446744073709551616) (end_release_then (IsIn g.T.Holds.holds) (step slots i 1 0 none) place.me)) word
+          (ends_one _ (IsIn g.T.Holds.holds) plan slots place.id place.me l.0 l.1 l.2 l.3 l.4 c.requires.ready.0 c.requires.ready.1 l.6),
     )
 
 -- the released owner was counted

@@ -13,6 +13,6 @@ load-requires g c = let t = c.requires.table in let plan = c.args.words.now.key 
     let word : cell_word plan.sizes c.args.cell ≡ 8 * c.args.participants + 16 + c.args.cell = omega arith in (
       t.0,
       omega arith,
-      subst (λ i. Allows (Shows IsIn plan) slots place.id place.me i (λ w. w) (load_then IsIn (step slots i 0 0 none) place.me)) word
-          (loads _ IsIn plan slots place.id c.args.cell place.me c.requires.open.0 c.requires.open.1 inside (omega arith)),
+      subst (λ i. Allows (Shows (IsIn g.T.Holds.holds) plan) slots place.id place.me i (λ w. w) (load_then (IsIn g.T.Holds.holds) (step slots i 0 0 none) place.me)) word
+          (loads _ (IsIn g.T.Holds.holds) plan slots place.id c.args.cell place.me c.requires.open.0 c.requires.open.1 inside (omega arith)),
     )

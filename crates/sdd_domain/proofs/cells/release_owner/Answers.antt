@@ -13,8 +13,8 @@ fetch_sub-requires g c = let t = c.requires.table in let plan = c.args.words.now
     let is = l.4 in let word : slot_word plan.sizes l.0.slot ≡ 8 * c.args.participants + 16 + c.args.cells + c.args.slot = omega arith in (
       t.0,
       omega arith,
-      subst (λ i. Allows (Shows IsIn plan) slots place.id place.me i (λ n. (n + (18446744073709551616 - 1)) % 18446744073709551616) (release_then (step slots i 1 0 none) place.me)) word
-          (releases_one _ IsIn plan slots place.id place.me l.0 l.1 l.2 c.requires.ready.0 c.requires.ready.1 c.requires.ready.2 l.3 l.6 l.5),
+      subst (λ i. Allows (Shows (IsIn g.T.Holds.holds) plan) slots place.id place.me i (λ n. (n + (18446744073709551616 - 1)) % 18446744073709551616) (release_then (step slots i 1 0 none) place.me)) word
+          (releases_one _ (IsIn g.T.Holds.holds) plan slots place.id place.me l.0 l.1 l.2 c.requires.ready.0 c.requires.ready.1 c.requires.ready.2 l.3 l.6 l.5),
     )
 
 -- the released owner was counted

@@ -13,6 +13,6 @@ swap-requires g c = let t = c.requires.table in let plan = c.args.words.now.key 
     let word : cell_word plan.sizes c.args.cell ≡ 8 * c.args.participants + 16 + c.args.cell = omega arith in (
       t.0,
       omega arith,
-      subst (λ i. Allows (Shows IsIn plan) slots place.id place.me i (λ _. c.args.word) (swap_then IsIn (step slots i c.args.word 0 none) place.me)) word
-          (swaps _ IsIn plan slots place.id c.args.cell c.args.word place.me b.0 b.1 b.2 c.requires.ready.0 c.requires.ready.1 c.requires.ready.2 inside (omega arith) b.3),
+      subst (λ i. Allows (Shows (IsIn g.T.Holds.holds) plan) slots place.id place.me i (λ _. c.args.word) (swap_then (IsIn g.T.Holds.holds) (step slots i c.args.word 0 none) place.me)) word
+          (swaps _ (IsIn g.T.Holds.holds) plan slots place.id c.args.cell c.args.word place.me b.0 b.1 b.2 c.requires.ready.0 c.requires.ready.1 c.requires.ready.2 inside (omega arith) b.3),
     )

@@ -12,7 +12,7 @@ loop-i-preserved g c = let inv = c.loop-i.invariant.filled in let bags = inv.0 i
   filled = (
     bags ++ home ∷ [],
     length-append bags (home ∷ []) ∙ ap (λ n. n + 1) inv.1,
-    (λ i y at. ⊎_elim (λ (t : At bags i y). inv.2 i y t) (λ (t : (i ≡ length bags) × (home ≡ y)). subst (IsIn (bag c.args.slots [])) t.1 (c.in_ok-bag.bag, refl, new.items, new.capacity, omega arith)) (at_end bags home i y at)),
+    (λ i y at. ⊎_elim (λ (t : At bags i y). inv.2 i y t) (λ (t : (i ≡ length bags) × (home ≡ y)). subst (IsIn g.T.Holds.holds (bag c.args.slots [])) t.1 (c.in_ok-bag.bag, refl, new.items, new.capacity, omega arith)) (at_end bags home i y at)),
     c.keep.ensures.items ∙ (ap (λ hs. hs ++ home ∷ []) inv.3 ∙ append_assoc _ bags (home ∷ [])),
   );
   room = let a = c.loop-i.invariant.room in let b = c.keep.ensures.room in omega arith;

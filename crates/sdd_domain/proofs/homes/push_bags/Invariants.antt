@@ -5,6 +5,6 @@ use Rattle.sdd_domain.proofs.homes.push_bags.Given as goal
 
 abbrev pub invariant-loop-i : goal.invariant-loop-i
 invariant-loop-i g l = record {
-  filled : (bags : List (Home g.row.T.Denot)) × (length bags ≡ l._i) × AreBags l.slots bags × (l.homes.items ≡ l.fn.homes.items ++ bags);
+  filled : (bags : List (Home g.row.T.Denot)) × (length bags ≡ l._i) × AreBags g.T.Holds.holds l.slots bags × (l.homes.items ≡ l.fn.homes.items ++ bags);
   room : vec_capacity l.fn.homes ≤ vec_capacity l.homes;
 }

@@ -9,7 +9,7 @@ pub loop-at-preserved : goal.loop-at-preserved
 loop-at-preserved g c = let l = c.loop-at in let home = c.in_ok-home.home in let n : ℕ = c.args.participants in let e = c.keep.ensures.items in let inv = l.invariant in record {
   number = let a = inv.number in let b = ap length e in let d = length-append l.homes.items (home ∷ []) in omega arith;
   resting = λ i y at. ⊎_elim (λ (t : At l.homes.items i y). inv.resting i y t)
-      (λ (t : (i ≡ length l.homes.items) × (home ≡ y)). let same : l.at ≡ i = (let a = inv.number in let b = t.0 in omega arith) in subst (λ z. IsIn (resting n (z % suc n)) y) same (subst (IsIn (resting n (l.at % suc n))) t.1 c.in_ok-home.ensures))
+      (λ (t : (i ≡ length l.homes.items) × (home ≡ y)). let same : l.at ≡ i = (let a = inv.number in let b = t.0 in omega arith) in subst (λ z. IsIn g.T.Holds.holds (resting n (z % suc n)) y) same (subst (IsIn g.T.Holds.holds (resting n (l.at % suc n))) t.1 c.in_ok-home.ensures))
       (at_end l.homes.items home i y (subst (λ xs. At xs i y) e at));
   room = let a = inv.room in let b = c.keep.ensures.room in omega arith;
   kept = let a = inv.kept in let b = c.keep.ensures.room in omega arith;

@@ -31,7 +31,7 @@ pub loop-row-preserved : goal.loop-row-preserved
 loop-row-preserved g c = let i = c.loop-row.invariant.filled in let f = first c.args.ended.now.id c.in-Some.row c.pop_front.new.self.items c.loop-row.rows.items i.1 c.in-Some.ensures.items i.4 in let m = c.args.place.now.me in let d = m.0 in let t : List (ℕ × Home _) = drop (length d.leases) m.1 in
     let is = i.6 ∙ λ j. (d, blanks (leased_homes d (f.2 j)) ++ (t ++ i.2)) in let e = c.exchange.ensures in let u = c.turn.ensures in let p = c.into_parts-parts.ensures in let r = c.in-Some.row in let y = Part c.into_parts-parts.result r.count in
     let count = ap (λ (x : ℕ × ℕ × ℕ × ℕ). x.2) f.3 in let round = ap (λ (x : ℕ × ℕ × ℕ × ℕ). x.1) f.3 in let l : Lease = f.0 in
-    let good : IsIn (part l.round l.count) y = (c.into_parts-parts.result, ap (Part c.into_parts-parts.result) count, p.0 ∙ round, p.1 ∙ count, subst (λ n. 0 < n) count p.2, p.3) in record {
+    let good : IsIn g.T.Holds.holds (part l.round l.count) y = (c.into_parts-parts.result, ap (Part c.into_parts-parts.result) count, p.0 ∙ round, p.1 ∙ count, subst (λ n. 0 < n) count p.2, p.3) in record {
       seat = (u.0 ∙ (e.0 ∙ c.loop-row.invariant.seat.0), u.1 ∙ (e.1 ∙ c.loop-row.invariant.seat.1));
       room = c.pop_front.ensures.capacity ∙ c.loop-row.invariant.room;
       filled = (
@@ -40,7 +40,7 @@ loop-row-preserved g c = let i = c.loop-row.invariant.filled in let f = first c.
         i.2 ++ (own_home d l.slot, y) ∷ [],
         i.3 ∙ (ap (λ ls. i.0 ++ ls) f.2 ∙ sym (append_assoc i.0 (l ∷ []) f.1)),
         f.4,
-        more_filled IsIn d i.0 i.2 l y good i.5,
+        more_filled (IsIn g.T.Holds.holds) d i.0 i.2 l y good i.5,
         turned_on c.loop-row.place.me d l f.1 t i.2 is (r.slot * (c.args.participants + 1) + c.args.number) c.exchange.result y c.exchange.new.seat.me c.turn.new.self.me e.2 e.3 u.2,
       );
     }

@@ -1,88 +1,11 @@
-use Rattle.std.proofs.Common.{◌≡◌, ◌⊎◌, ℕ, ◌+◌, ◌*◌, ◌<◌, ◌≤◌, List, [], ◌∷◌, ◌++◌, true, map, length, slice_index_or, refl, sym, ap, ◌∙◌, subst, arith}
-use Rattle.atomic_table.specs.Table.{Me, rest}
-use Rattle.sdd_base.specs.declared.sizes.Sizes.{Sizes}
-use Rattle.sdd_steps.specs.State.{Has}
-use Rattle.sdd_homes.specs.declared.Lease.{Lease}
-use Rattle.sdd_homes.specs.Book.{home}
-use Rattle.sdd_domain.specs.Contents.{IsIn, is_blank}
-use Rattle.sdd_domain.specs.Leases.{row_told, lease_told, leased_homes, row_slots, all_below, has_all}
-use Rattle.sdd_domain.specs.Plays.{own_home, loading, IsLeased, takes_home}
-use Rattle.sdd_steps.specs.declared.participant.Loaded.{Loaded}
-use Rattle.sdd_domain.proofs.Rows.{row_at, slots_told, has_slot}
-use Rattle.sdd_domain.specs.declared.board.Acting.{Acting}
-use Rattle.sdd_domain.specs.declared.board.Home.{Home}
-use Rattle.sdd_domain.specs.declared.row.Row.{Row}
-use Rattle.sdd_domain.proofs.Leased.{home_at}
-use Rattle.sdd_domain.proofs.Leasing.{nothing_named, slot_found, was_leased, is_new, new, had, front, behind, all_out, more_told, more_below, as_many}
+use Rattle.sdd_domain.proofs.Noted.{is_leased, out_now}
 use Rattle.sdd_domain.proofs.loading.lease.Goals as goal
 
--- no item is named, and nothing happened
-pub returns-in_err-slot-clause-loaded : goal.returns-in_err-slot-clause-loaded
-returns-in_err-slot-clause-loaded g c = let m = c.args.place.now.me in let e = nothing_named IsIn m c.load-word.new.place.me c.load-word.result c.load-word.ensures.loaded c.in_err-slot.ensures.none in (m.0.known.loaded, m.0.leases, ap (λ (z : Me _ Acting). z.0) e)
-
-pub returns-in_err-slot-clause-rows : goal.returns-in_err-slot-clause-rows
-returns-in_err-slot-clause-rows g c = let m = c.args.place.now.me in let e = nothing_named IsIn m c.load-word.new.place.me c.load-word.result c.load-word.ensures.loaded c.in_err-slot.ensures.none in
-    (c.requires.rows.0 ∙ sym (ap (λ (z : Me _ Acting). map (lease_told c.args.life.now.id) z.0.leases) e), c.requires.rows.1, refl)
-
-pub returns-in_err-slot-clause-out : goal.returns-in_err-slot-clause-out
-returns-in_err-slot-clause-out g c = λ k l out. let m = c.args.place.now.me in let e = nothing_named IsIn m c.load-word.new.place.me c.load-word.result c.load-word.ensures.loaded c.in_err-slot.ensures.none in
-    subst (λ (z : Me _ Acting). has_all is_blank (k ∷ l ∷ leased_homes z.0 z.0.leases) z.1 ≡ true) (sym e) out
-
--- the item is leased already
-module _ {T : Type 0} (life : ℕ) (rows : List (Row T)) (m m1 : Me (Home T) Acting) (slot at : ℕ) (told : map row_told rows ≡ map (lease_told life) m.0.leases)
-    (f : (h : Loaded) × ((IsLeased m.0.leases slot h × (m1 ≡ (loading h m.0.leases m.0, m.1))) ⊎ takes_home IsIn m slot h m1)) (low : at < length rows) (is : (d : Row T) → (slice_index_or rows at d).slot ≡ slot) where
-  again : m1 ≡ (loading f.0 m.0.leases m.0, m.1)
-  again = let r = row_at life rows m.0.leases at told low in was_leased life rows m m1 slot f.0 told f.1 (subst (Has (row_slots rows)) (ap (λ (x : Row T). x.slot) (sym (r.is r.row)) ∙ is r.row) (subst (λ ks. Has ks r.row.slot) (sym (slots_told life rows m.0.leases told)) (subst (Has (map (λ (x : Lease). x.slot) m.0.leases)) (sym (ap (λ (t : ℕ × ℕ × ℕ × ℕ). t.0) r.told)) (has_slot m.0.leases r.lease r.has))))
-
-pub returns-in-Some-clause-loaded : goal.returns-in-Some-clause-loaded
-returns-in-Some-clause-loaded g c = let m = c.args.place.now.me in let m1 = c.load-word.new.place.me in let rows = c.args.rows.now.items in let f = slot_found IsIn m m1 c.load-word.result c.load-word.ensures.loaded c.in_ok-slot.slot c.in_ok-slot.ensures.some.1 in let r = c.in-Some.ensures.leased in let long = c.args.rows.now.ok.0 in let low = r.0 in
-    let e = again c.args.life.now.id rows m m1 c.in_ok-slot.slot c.in-Some.at c.requires.rows.0 f (omega arith) r.1 in (m.0.known.loaded ++ f.0 ∷ [], m.0.leases, ap (λ (z : Me _ Acting). z.0) e)
-
-pub returns-in-Some-clause-rows : goal.returns-in-Some-clause-rows
-returns-in-Some-clause-rows g c = let m = c.args.place.now.me in let m1 = c.load-word.new.place.me in let rows = c.args.rows.now.items in let f = slot_found IsIn m m1 c.load-word.result c.load-word.ensures.loaded c.in_ok-slot.slot c.in_ok-slot.ensures.some.1 in let r = c.in-Some.ensures.leased in let long = c.args.rows.now.ok.0 in let low = r.0 in
-    let e = again c.args.life.now.id rows m m1 c.in_ok-slot.slot c.in-Some.at c.requires.rows.0 f (omega arith) r.1 in (c.requires.rows.0 ∙ sym (ap (λ (z : Me _ Acting). map (lease_told c.args.life.now.id) z.0.leases) e), c.requires.rows.1, refl)
-
-pub returns-in-Some-clause-out : goal.returns-in-Some-clause-out
-returns-in-Some-clause-out g c = λ k l out. let m = c.args.place.now.me in let m1 = c.load-word.new.place.me in let rows = c.args.rows.now.items in let f = slot_found IsIn m m1 c.load-word.result c.load-word.ensures.loaded c.in_ok-slot.slot c.in_ok-slot.ensures.some.1 in let r = c.in-Some.ensures.leased in let long = c.args.rows.now.ok.0 in let low = r.0 in
-    let e = again c.args.life.now.id rows m m1 c.in_ok-slot.slot c.in-Some.at c.requires.rows.0 f (omega arith) r.1 in subst (λ (z : Me _ Acting). has_all is_blank (k ∷ l ∷ leased_homes z.0 z.0.leases) z.1 ≡ true) (sym e) out
-
--- the participant's home of the item came out
-pub exchange-requires : goal.exchange-requires
-exchange-requires g c = let t = c.requires.table.0 in let m = c.args.place.now.me in let m1 = c.load-word.new.place.me in let slot : ℕ = c.in_ok-slot.slot in let f = slot_found IsIn m m1 c.load-word.result c.load-word.ensures.loaded slot c.in_ok-slot.ensures.some.1 in
-    let takes = is_new c.args.life.now.id c.args.rows.now.items m m1 slot f.0 c.requires.rows.0 f.1 c.in_default.ensures.free in let there = front m m1 slot f.0 takes in
-    let at : own_home m.0 slot ≡ slot * (c.args.sizes.now.participants + 1) + c.args.number = (λ j. home ((t.2 j).participants) slot (c.requires.«open».1 j)) ∙ home_at c.args.sizes.now.participants slot c.args.number in
-    (c.load-word.ensures.seat.0 ∙ t.0, (takes.3.1, there ∙ λ j. (at j, takes.3.1) ∷ rest (sym there j)))
-
-pub parts_of-parts-requires : goal.parts_of-parts-requires
-parts_of-parts-requires g c = let m = c.args.place.now.me in let m1 = c.load-word.new.place.me in let slot : ℕ = c.in_ok-slot.slot in let f = slot_found IsIn m m1 c.load-word.result c.load-word.ensures.loaded slot c.in_ok-slot.ensures.some.1 in
-    let takes = is_new c.args.life.now.id c.args.rows.now.items m m1 slot f.0 c.requires.rows.0 f.1 c.in_default.ensures.free in (f.0.value, takes.3.0, had m m1 slot f.0 takes (slot * (c.args.sizes.now.participants + 1) + c.args.number) c.exchange.result c.exchange.ensures.2)
-
-pub new-requires-clause-parts : goal.new-requires-clause-parts
-new-requires-clause-parts g c = let m = c.args.place.now.me in let m1 = c.load-word.new.place.me in let slot : ℕ = c.in_ok-slot.slot in let f = slot_found IsIn m m1 c.load-word.result c.load-word.ensures.loaded slot c.in_ok-slot.ensures.some.1 in
-    let takes = is_new c.args.life.now.id c.args.rows.now.items m m1 slot f.0 c.requires.rows.0 f.1 c.in_default.ensures.free in let p = c.parts_of-parts.ensures f.0.value takes.3.0 (had m m1 slot f.0 takes (slot * (c.args.sizes.now.participants + 1) + c.args.number) c.exchange.result c.exchange.ensures.2) in
-    (p.1 ∙ sym p.2, subst (λ n. 0 < n) (sym p.2) p.3, subst (λ n. n ≤ 9223372036854775808) (sym p.2) takes.3.3, p.4)
-
-pub push_back_reserved-requires : goal.push_back_reserved-requires
-push_back_reserved-requires g c = let m = c.args.place.now.me in let m1 = c.load-word.new.place.me in let slot : ℕ = c.in_ok-slot.slot in let f = slot_found IsIn m m1 c.load-word.result c.load-word.ensures.loaded slot c.in_ok-slot.ensures.some.1 in
-    let takes = is_new c.args.life.now.id c.args.rows.now.items m m1 slot f.0 c.requires.rows.0 f.1 c.in_default.ensures.free in let fewer = takes.2 in let many = as_many c.args.life.now.id c.args.rows.now.items m.0.leases c.requires.rows.0 in let room = c.requires.rows.2 in let sizes = ap (λ (z : Sizes). z.slots) c.requires.table.0.2 in let long = c.args.rows.now.ok.0 in omega arith
+pub note_found-requires-clause-found : goal.note_found-requires-clause-found
+note_found-requires-clause-found g c = (c.args.place.now.me, c.load-word.ensures.loaded, c.requires.«open».1, c.requires.table.0.2, c.requires.rows.0)
 
 pub returns-clause-loaded : goal.returns-clause-loaded
-returns-clause-loaded g c = let m = c.args.place.now.me in let m1 = c.load-word.new.place.me in let slot : ℕ = c.in_ok-slot.slot in let f = slot_found IsIn m m1 c.load-word.result c.load-word.ensures.loaded slot c.in_ok-slot.ensures.some.1 in
-    let takes = is_new c.args.life.now.id c.args.rows.now.items m m1 slot f.0 c.requires.rows.0 f.1 c.in_default.ensures.free in let e = c.exchange.ensures in
-    let all = behind m m1 slot f.0 takes (slot * (c.args.sizes.now.participants + 1) + c.args.number) c.exchange.result c.exchange.new.seat.me c.turn.new.self.me e.2 e.3 c.turn.ensures.2 in
-    (m.0.known.loaded ++ f.0 ∷ [], m.0.leases ++ new m m1 slot f.0 takes ∷ [], ap (λ (z : Me _ Acting). z.0) all)
-
-pub returns-clause-rows : goal.returns-clause-rows
-returns-clause-rows g c = let m = c.args.place.now.me in let m1 = c.load-word.new.place.me in let slot : ℕ = c.in_ok-slot.slot in let f = slot_found IsIn m m1 c.load-word.result c.load-word.ensures.loaded slot c.in_ok-slot.ensures.some.1 in let rows = c.args.rows.now.items in let life : ℕ = c.args.life.now.id in
-    let takes = is_new life rows m m1 slot f.0 c.requires.rows.0 f.1 c.in_default.ensures.free in let e = c.exchange.ensures in let p = c.parts_of-parts.ensures f.0.value takes.3.0 (had m m1 slot f.0 takes (slot * (c.args.sizes.now.participants + 1) + c.args.number) c.exchange.result e.2) in
-    let all = behind m m1 slot f.0 takes (slot * (c.args.sizes.now.participants + 1) + c.args.number) c.exchange.result c.exchange.new.seat.me c.turn.new.self.me e.2 e.3 c.turn.ensures.2 in let pushed = c.push_back_reserved.ensures.items in
-    let one : row_told c.new.result ≡ lease_told life (new m m1 slot f.0 takes) = c.new.ensures ∙ λ j. (slot, p.0 j, p.2 j, life) in (
-      ap (map row_told) pushed ∙ (more_told life rows m.0.leases c.new.result (new m m1 slot f.0 takes) c.requires.rows.0 one ∙ sym (ap (λ (z : Me _ Acting). map (lease_told life) z.0.leases) all)),
-      ap (λ rs. all_below c.args.sizes.now.slots (row_slots rs)) pushed ∙ more_below c.args.sizes.now.slots rows c.new.result c.requires.rows.1 (subst (λ k. k < c.args.sizes.now.slots) (sym (ap (λ (t : ℕ × ℕ × ℕ × ℕ). t.0) one)) (subst (λ (z : Sizes). slot < z.slots) c.requires.table.0.2 takes.1)),
-      c.push_back_reserved.ensures.capacity,
-    )
+returns-clause-loaded g c = let m = c.args.place.now.me in is_leased m c.note_found.new.place.me (c.note_found.ensures.noted m c.load-word.ensures.loaded c.requires.rows.0)
 
 pub returns-clause-out : goal.returns-clause-out
-returns-clause-out g c = λ k l out. let m = c.args.place.now.me in let m1 = c.load-word.new.place.me in let slot : ℕ = c.in_ok-slot.slot in let f = slot_found IsIn m m1 c.load-word.result c.load-word.ensures.loaded slot c.in_ok-slot.ensures.some.1 in
-    let takes = is_new c.args.life.now.id c.args.rows.now.items m m1 slot f.0 c.requires.rows.0 f.1 c.in_default.ensures.free in let e = c.exchange.ensures in
-    let all = behind m m1 slot f.0 takes (slot * (c.args.sizes.now.participants + 1) + c.args.number) c.exchange.result c.exchange.new.seat.me c.turn.new.self.me e.2 e.3 c.turn.ensures.2 in all_out m m1 slot f.0 takes k l c.turn.new.self.me all out
+returns-clause-out g c = let m = c.args.place.now.me in out_now m c.note_found.new.place.me (c.note_found.ensures.noted m c.load-word.ensures.loaded c.requires.rows.0)

@@ -14,5 +14,5 @@ join_seat-requires g c = let q = c.requires.owner in let seat = c.args.place.now
   e.0 ∙ (ap (λ (b : Badge Acting). b.table_id) badge ∙ c.requires.table.1),
   e.3,
   c.requires.table.2,
-  subst (λ (w : Acting). Joins (Shows IsIn plan) seat.id d c.into_seat.result.id w (record d { hand = w.hand ++ d.hand }) spent) same (takes_in _ IsIn plan seat.id d c.into_seat.result.id q.0 c.requires.ready),
+  subst (λ (w : Acting). Joins (Shows (IsIn g.T.Holds.holds) plan) seat.id d c.into_seat.result.id w (record d { hand = w.hand ++ d.hand }) spent) same (takes_in _ (IsIn g.T.Holds.holds) plan seat.id d c.into_seat.result.id q.0 c.requires.ready),
 )

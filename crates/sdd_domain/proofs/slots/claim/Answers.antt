@@ -17,8 +17,8 @@ compare_exchange-requires g c = let t = c.requires.table in let plan = c.args.wo
     let word : slot_word plan.sizes c.args.slot ≡ 8 * c.args.participants + 16 + c.args.cells + c.args.slot = omega arith in (
       t.0,
       omega arith,
-      subst (λ i. Allows (Shows IsIn plan) slots place.id place.me i (λ n. either (eqb n 0) 1 n) (claim_slot_then IsIn (step slots i 0 1 none) place.me)) word
-          (claims_slot _ IsIn plan slots place.id c.args.slot place.me c.requires.ready.0 inside),
+      subst (λ i. Allows (Shows (IsIn g.T.Holds.holds) plan) slots place.id place.me i (λ n. either (eqb n 0) 1 n) (claim_slot_then (IsIn g.T.Holds.holds) (step slots i 0 1 none) place.me)) word
+          (claims_slot _ (IsIn g.T.Holds.holds) plan slots place.id c.args.slot place.me c.requires.ready.0 inside),
     )
 
 pub returns-clause-claimed : goal.returns-clause-claimed

@@ -13,6 +13,6 @@ store-requires g c = let t = c.requires.table in let plan = c.args.words.now.key
     let word : slot_word plan.sizes place.me.0.slot ≡ 8 * c.args.participants + 16 + c.args.cells + c.args.slot = omega arith in (
       t.0,
       omega arith,
-      subst (λ i. Allows (Shows IsIn plan) slots place.id place.me i (λ _. 3) (place_then IsIn (step slots i 3 0 none) place.me)) word
-          (places_item _ IsIn plan slots place.id place.me f.0 f.1 r.0 r.1 r.2 t.8 f.2),
+      subst (λ i. Allows (Shows (IsIn g.T.Holds.holds) plan) slots place.id place.me i (λ _. 3) (place_then (IsIn g.T.Holds.holds) (step slots i 3 0 none) place.me)) word
+          (places_item _ (IsIn g.T.Holds.holds) plan slots place.id place.me f.0 f.1 r.0 r.1 r.2 t.8 f.2),
     )

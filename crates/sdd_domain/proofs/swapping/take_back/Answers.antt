@@ -1,5 +1,4 @@
 use Rattle.std.proofs.Common.{◌≡◌, ◌≢◌, ℕ, suc, ◌+◌, ◌-◌, ◌*◌, ◌/◌, ◌%◌, ◌<◌, List, [], ◌∷◌, take, Option, None, Some, IsSome, sym, ap, ◌∙◌, subst, arith}
-use Rattle.atomic_table.specs.declared.badge.Badge.{Badge}
 use Rattle.atomic_table.specs.Table.{Me}
 use Rattle.sdd_homes.specs.declared.Owner.{Owner}
 use Rattle.sdd_homes.specs.Book.{part}
@@ -10,47 +9,54 @@ use Rattle.sdd_domain.specs.Plays.{own_spare, GetsBack}
 use Rattle.sdd_domain.specs.Views.{spent, holding}
 use Rattle.sdd_domain.specs.declared.board.Acting.{Acting}
 use Rattle.sdd_domain.specs.declared.board.Home.{Home}
+use Rattle.sdd_domain.specs.declared.board.Home.TheVariants.{Part}
 use Rattle.sdd_domain.proofs.Fronts.{came_out}
 use Rattle.sdd_domain.proofs.swapping.take_back.Goals as goal
 
 -- the word names an owner, whose part is in the spare slot
-record Came {T : Type 0} (w : ℕ) (m m' : Me (Home T) Acting) (tail : List (ℕ × Home T)) : Type 0 where
+record Came {T : Type 0} (holds : T → List (ℕ × ℕ)) (w : ℕ) (m m' : Me (Home T) Acting) (os : List Owner) (tail : List (ℕ × Home T)) : Type 0 where
   owner : Owner
   slot : w / 8589934592 ≡ owner.slot + 1
   value : Home T
-  is : IsIn (part owner.round 1) value
-  me : m' ≡ (record m.0 { spare = w % 8589934592; hand = owner ∷ [] }, (own_spare m.0 (w % 8589934592), value) ∷ tail)
+  is : IsIn holds (part owner.round 1) value
+  me : m' ≡ (record m.0 { spare = w % 8589934592; hand = owner ∷ os }, (own_spare m.0 (w % 8589934592), value) ∷ tail)
 
-came : {T : Type 0} (w : ℕ) (m m' : Me (Home T) Acting) (tail : List (ℕ × Home T)) (y : ℕ) → y < 8589934592 → w / 8589934592 ≢ 0 → (old : Option Owner) → w ≡ packed y (slot_code old) → (u : Home T) → IsIn (part_of old) u
-    → m' ≡ (record m.0 { spare = y; hand = besides old [] }, (own_spare m.0 y, u) ∷ tail) → Came w m m' tail
-came w m m' tail y low some None is u in_u e = absurd (some (omega arith))
-came w m m' tail y low some (Some o) is u in_u e = let next : suc o.slot ≡ o.slot + 1 = omega arith in let word : w ≡ y + 8589934592 * (o.slot + 1) = is ∙ ap (λ z. y + 8589934592 * z) next in let spare : y ≡ w % 8589934592 = omega arith in record {
+came : {T : Type 0} (holds : T → List (ℕ × ℕ)) (w : ℕ) (m m' : Me (Home T) Acting) (os : List Owner) (tail : List (ℕ × Home T)) (y : ℕ) → y < 8589934592 → w / 8589934592 ≢ 0 → (old : Option Owner) → w ≡ packed y (slot_code old) → (u : Home T) → IsIn holds (part_of old) u
+    → m' ≡ (record m.0 { spare = y; hand = besides old os }, (own_spare m.0 y, u) ∷ tail) → Came holds w m m' os tail
+came holds w m m' os tail y low some None is u in_u e = absurd (some (omega arith))
+came holds w m m' os tail y low some (Some o) is u in_u e = let next : suc o.slot ≡ o.slot + 1 = omega arith in let word : w ≡ y + 8589934592 * (o.slot + 1) = is ∙ ap (λ z. y + 8589934592 * z) next in let spare : y ≡ w % 8589934592 = omega arith in record {
   owner = o;
   slot = omega arith;
   value = u;
   is = in_u;
-  me = e ∙ λ j. (record m.0 { spare = spare j; hand = o ∷ [] }, (own_spare m.0 (spare j), u) ∷ tail);
+  me = e ∙ λ j. (record m.0 { spare = spare j; hand = o ∷ os }, (own_spare m.0 (spare j), u) ∷ tail);
 }
 
-back : {T : Type 0} (w : ℕ) (m m' : Me (Home T) Acting) (tail : List (ℕ × Home T)) → w / 8589934592 ≢ 0 → GetsBack IsIn m [] w tail m' → Came w m m' tail
-back w m m' tail some b = came w m m' tail b.0 b.1 some b.2.0 b.2.1 b.2.2.0 b.2.2.1 b.2.2.2
+back : {T : Type 0} (holds : T → List (ℕ × ℕ)) (w : ℕ) (m m' : Me (Home T) Acting) (os : List Owner) (tail : List (ℕ × Home T)) → w / 8589934592 ≢ 0 → GetsBack (IsIn holds) m os w tail m' → Came holds w m m' os tail
+back holds w m m' os tail some b = came holds w m m' os tail b.0 b.1 some b.2.0 b.2.1 b.2.2.0 b.2.2.1 b.2.2.2
 
 pub parts_of-part-requires : goal.parts_of-part-requires
-parts_of-part-requires g c = let r = c.requires.back in let m1 = c.args.place.now.me in let k = back c.args.word r.0 m1 r.1 c.if-code-eq0.false r.2 in let e = c.exchange.ensures in
-    (k.owner.round, 1, subst (IsIn (part k.owner.round 1)) (sym (came_out m1 (own_spare r.0.0 (c.args.word % 8589934592)) c.spare_at-at.result k.value c.exchange.result r.1 (ap (λ (z : Me _ Acting). z.1) k.me) e.2)) k.is)
+parts_of-part-requires g c = let r = c.requires.back in let m1 = c.args.place.now.me in let k = back g.T.Holds.holds c.args.word r.0 m1 r.1 r.2 c.if-code-eq0.false r.3 in let e = c.exchange.ensures in
+    (k.owner.round, 1, subst (IsIn g.T.Holds.holds (part k.owner.round 1)) (sym (came_out m1 (own_spare r.0.0 (c.args.word % 8589934592)) c.spare_at-at.result k.value c.exchange.result r.2 (ap (λ (z : Me _ Acting). z.1) k.me) e.2)) k.is)
 
 pub part_with-seat-requires-clause-owner : goal.part_with-seat-requires-clause-owner
-part_with-seat-requires-clause-owner g c = let r = c.requires.back in let m1 = c.args.place.now.me in let k = back c.args.word r.0 m1 r.1 c.if-code-eq0.false r.2 in (k.owner, [], ap (λ (z : Me _ Acting). z.0.hand) c.exchange.ensures.3 ∙ ap (λ (z : Me _ Acting). z.0.hand) k.me)
+part_with-seat-requires-clause-owner g c = let r = c.requires.back in let m1 = c.args.place.now.me in let k = back g.T.Holds.holds c.args.word r.0 m1 r.1 r.2 c.if-code-eq0.false r.3 in (k.owner, r.1, ap (λ (z : Me _ Acting). z.0.hand) c.exchange.ensures.3 ∙ ap (λ (z : Me _ Acting). z.0.hand) k.me)
 
 pub from_part-requires : goal.from_part-requires
-from_part-requires g c = let r = c.requires.back in let m1 = c.args.place.now.me in let k = back c.args.word r.0 m1 r.1 c.if-code-eq0.false r.2 in let e = c.exchange.ensures in
-    (c.parts_of-part.ensures k.owner.round 1 (subst (IsIn (part k.owner.round 1)) (sym (came_out m1 (own_spare r.0.0 (c.args.word % 8589934592)) c.spare_at-at.result k.value c.exchange.result r.1 (ap (λ (z : Me _ Acting). z.1) k.me) e.2)) k.is)).1
+from_part-requires g c = let r = c.requires.back in let m1 = c.args.place.now.me in let k = back g.T.Holds.holds c.args.word r.0 m1 r.1 r.2 c.if-code-eq0.false r.3 in let e = c.exchange.ensures in
+    (c.parts_of-part.ensures k.owner.round 1 (subst (IsIn g.T.Holds.holds (part k.owner.round 1)) (sym (came_out m1 (own_spare r.0.0 (c.args.word % 8589934592)) c.spare_at-at.result k.value c.exchange.result r.2 (ap (λ (z : Me _ Acting). z.1) k.me) e.2)) k.is)).1
 
 pub invariant_of-owner : goal.invariant_of-owner
-invariant_of-owner g c = let r = c.requires.back in let m1 = c.args.place.now.me in let k = back c.args.word r.0 m1 r.1 c.if-code-eq0.false r.2 in let e = c.exchange.ensures in let o : Owner = k.owner in let slot : o.slot ≡ c.args.word / 8589934592 - 1 = (let z = k.slot in omega arith) in let small = c.ranges.word.fits in
-    let p = c.parts_of-part.ensures o.round 1 (subst (IsIn (part o.round 1)) (sym (came_out m1 (own_spare r.0.0 (c.args.word % 8589934592)) c.spare_at-at.result k.value c.exchange.result r.1 (ap (λ (z : Me _ Acting). z.1) k.me) e.2)) k.is) in
-    let hand : c.exchange.new.seat.me.0.hand ≡ o ∷ [] = ap (λ (z : Me _ Acting). z.0.hand) e.3 ∙ ap (λ (z : Me _ Acting). z.0.hand) k.me in let views : c.part_with-seat.result.badge.views ≡ holding o ∷ [] = c.part_with-seat.ensures.owner.1 ∙ ap (λ hs. record spent { kind = 3; hand = take 1 hs } ∷ []) hand in let part_is = c.from_part.ensures in record {
+invariant_of-owner g c = let r = c.requires.back in let m1 = c.args.place.now.me in let k = back g.T.Holds.holds c.args.word r.0 m1 r.1 r.2 c.if-code-eq0.false r.3 in let e = c.exchange.ensures in let o : Owner = k.owner in let slot : o.slot ≡ c.args.word / 8589934592 - 1 = (let z = k.slot in omega arith) in let small = c.ranges.word.fits in
+    let p = c.parts_of-part.ensures o.round 1 (subst (IsIn g.T.Holds.holds (part o.round 1)) (sym (came_out m1 (own_spare r.0.0 (c.args.word % 8589934592)) c.spare_at-at.result k.value c.exchange.result r.2 (ap (λ (z : Me _ Acting). z.1) k.me) e.2)) k.is) in
+    let hand : c.exchange.new.seat.me.0.hand ≡ o ∷ r.1 = ap (λ (z : Me _ Acting). z.0.hand) e.3 ∙ ap (λ (z : Me _ Acting). z.0.hand) k.me in let views : c.part_with-seat.result.badge.views ≡ holding o ∷ [] = c.part_with-seat.ensures.owner.1 ∙ ap (λ hs. record spent { kind = 3; hand = take 1 hs } ∷ []) hand in let part_is = c.from_part.ensures in record {
       owns = views ∙ λ j. holding (record { item = item_in (sym views j); slot = slot j; round = (sym p.0 ∙ sym (ap (λ q. q.life.id) part_is)) j }) ∷ [];
       there = subst (λ q. IsSome q.seen.value) (sym part_is) p.4;
       low = omega arith;
     }
+
+-- the part that comes back is the one that lay there
+pub returns-clause-whose : goal.returns-clause-whose
+returns-clause-whose g c = λ s f. let r = c.requires.back in let m1 = c.args.place.now.me in let k = back g.T.Holds.holds c.args.word r.0 m1 r.1 r.2 c.if-code-eq0.false r.3 in let e = c.exchange.ensures in
+    let p = c.parts_of-part.ensures k.owner.round 1 (subst (IsIn g.T.Holds.holds (part k.owner.round 1)) (sym (came_out m1 (own_spare r.0.0 (c.args.word % 8589934592)) c.spare_at-at.result k.value c.exchange.result r.2 (ap (λ (z : Me _ Acting). z.1) k.me) e.2)) k.is) in
+    let both : Part c.parts_of-part.result.0 1 ≡ Part s.part.part 1 = sym p.5 ∙ came_out m1 f.0 c.spare_at-at.result (Part s.part.part 1) c.exchange.result f.1 f.2 e.2 in let same : c.parts_of-part.result.0 ≡ s.part.part = cc in c.from_part.ensures ∙ same

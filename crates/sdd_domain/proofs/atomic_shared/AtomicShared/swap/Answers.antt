@@ -4,6 +4,7 @@ use Rattle.atomic_table.specs.Seated.{TableId}
 use Rattle.atomic_table.specs.Table.{Me}
 use Rattle.sdd_domain.specs.Bags.{ages, Waits}
 use Rattle.sdd_domain.specs.Contents.{blanks}
+use Rattle.sdd_domain.specs.Holding.{told}
 use Rattle.sdd_domain.specs.Layout.{claim_word}
 use Rattle.sdd_domain.specs.Leases.{lease_told, life_number, leased_homes, row_slots, all_below}
 use Rattle.sdd_domain.specs.Plays.{own_spare, own_bag}
@@ -37,8 +38,7 @@ invariant_of-local g c = let l = c.args.local.now in let d = l.place.me.0 in let
     ap (λ (z : Me _ Acting). z.0.scan) all ∙ l.acts.2,
     l.acts.3,
     subst (λ (z : TableId). claim_word l.number < z.words) (sym table) l.acts.4,
-    ap (λ (z : Me _ Acting). z.0.hand) all,
-    ap (λ (z : Me _ Acting). z.0.releasing) all ∙ l.acts.6,
+    ap (λ (z : Me _ Acting). z.0.releasing) all ∙ l.acts.5,
   );
   has_spare = (
     ap (λ (z : Me _ Acting). z.0.spare) all,
@@ -62,4 +62,4 @@ invariant_of-local g c = let l = c.args.local.now in let d = l.place.me.0 in let
 
 pub returns-clause-same : goal.returns-clause-same
 returns-clause-same g c = let l = c.args.local.now in let all = c.swap_owner-free.ensures.swapped (behind l) (out l) in let table = c.swap_owner-free.ensures.seat.0 in
-    (((λ j. (table j, ap (λ (z : Me _ Acting). z.0.sizes) all j), refl), refl), refl, ap (λ (z : Me _ Acting). z.0.born) all, ap (λ (z : Me _ Acting). length z.0.waits) all)
+    (((λ j. (table j, ap (λ (z : Me _ Acting). z.0.sizes) all j), refl, ap (λ (z : Me _ Acting). map told z.0.hand) all), refl), refl, ap (λ (z : Me _ Acting). z.0.born) all, ap (λ (z : Me _ Acting). length z.0.waits) all)

@@ -10,6 +10,7 @@ use Rattle.sdd_domain.specs.declared.board.Home.TheVariants.{Blank, Left}
 use Rattle.sdd_domain.specs.Leases.{life_number}
 use Rattle.sdd_domain.specs.declared.local.Local.{Local}
 use Rattle.sdd_domain.proofs.Bagged.{both_out}
+use Rattle.sdd_domain.proofs.Hands.{none_held}
 use Rattle.sdd_domain.proofs.Nested.{none_leased, no_rows}
 use Rattle.sdd_domain.proofs.local.Local.end.Goals as goal
 
@@ -28,7 +29,7 @@ end-requires-clause-rests g c = let l = c.args.self in let e = c.bag_in.ensures.
   ap (λ (z : Me _ Acting). z.0.number) e ∙ l.acts.1,
   ap (λ (z : Me _ Acting). z.0.known.phase) e ∙ (l.phase ∙ ap (λ n. cond (n == 0) Idle (Opened l.own.previous)) none),
   ap (λ (z : Me _ Acting). z.0.scan) e ∙ l.acts.2,
-  (ap (λ (z : Me _ Acting). z.0.hand) e ∙ l.acts.5, ap (λ (z : Me _ Acting). z.0.leases) e ∙ none_leased l none, ap (λ (z : Me _ Acting). z.0.releasing) e ∙ l.acts.6),
+  (ap (λ (z : Me _ Acting). z.0.hand) e ∙ none_held l.place.me.0.hand c.requires.bare, ap (λ (z : Me _ Acting). z.0.leases) e ∙ none_leased l none, ap (λ (z : Me _ Acting). z.0.releasing) e ∙ l.acts.5),
 )
 
 pub end-requires-clause-spare : goal.end-requires-clause-spare

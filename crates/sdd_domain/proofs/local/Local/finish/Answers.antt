@@ -6,6 +6,7 @@ use Rattle.sdd_base.specs.declared.sizes.Sizes.{Sizes}
 use Rattle.sdd_base.specs.declared.status.LocalState.{LocalState}
 use Rattle.sdd_domain.specs.Bags.{ages, Waits}
 use Rattle.sdd_domain.specs.Contents.{IsIn, blanks}
+use Rattle.sdd_domain.specs.Holding.{told}
 use Rattle.sdd_domain.specs.Layout.{claim_word}
 use Rattle.sdd_domain.specs.Leases.{life_number, row_told, lease_told, leased_homes, row_slots, all_below}
 use Rattle.sdd_domain.specs.declared.row.Row.{Row}
@@ -20,34 +21,34 @@ use Rattle.sdd_domain.proofs.Told.{all_there}
 use Rattle.sdd_domain.proofs.local.Local.finish.Goals as goal
 
 -- behind a scan, the parts go home, and then the guard closes
-module _ {T : Type 0} (l : Local T) (m1 : Me (Home T) Acting) (s : Steady l.place.me m1) where
+module _ {T : Type 0} (holds : T → List (ℕ × ℕ)) (l : Local T) (m1 : Me (Home T) Acting) (s : Steady l.place.me m1) where
   abbrev d : Acting
   d = l.place.me.0
 
   out : m1.1 ≡ blanks (own_spare d l.spare ∷ own_bag d ∷ leased_homes m1.0 m1.0.leases)
   out = s.12 ∙ (all_there (own_spare d l.spare ∷ own_bag d ∷ leased_homes d d.leases) l.place.me.1 l.has_spare.2 ∙ ap (λ ks. blanks (own_spare d l.spare ∷ own_bag d ∷ ks)) (sym (still_leased l.place.me m1 s)))
 
-  module _ (m2 : Me (Home T) Acting) (xs : List (ℕ × Home T)) (filled : Refilled IsIn m1.0 m1.0.leases xs (blanks (own_spare d l.spare ∷ own_bag d ∷ []))) (is : m2 ≡ (m1.0, xs)) where
-    ready : Refilled IsIn m2.0 m2.0.leases m2.1 (blanks (own_spare d l.spare ∷ own_bag d ∷ []))
-    ready = subst (λ (z : Me (Home T) Acting). Refilled IsIn z.0 z.0.leases z.1 (blanks (own_spare d l.spare ∷ own_bag d ∷ []))) (sym is) filled
+  module _ (m2 : Me (Home T) Acting) (xs : List (ℕ × Home T)) (filled : Refilled (IsIn holds) m1.0 m1.0.leases xs (blanks (own_spare d l.spare ∷ own_bag d ∷ []))) (is : m2 ≡ (m1.0, xs)) where
+    ready : Refilled (IsIn holds) m2.0 m2.0.leases m2.1 (blanks (own_spare d l.spare ∷ own_bag d ∷ []))
+    ready = subst (λ (z : Me (Home T) Acting). Refilled (IsIn holds) z.0 z.0.leases z.1 (blanks (own_spare d l.spare ∷ own_bag d ∷ []))) (sym is) filled
 
     closed : (m3 : Me (Home T) Acting) → m3 ≡ (ending m2.0, drop (length m2.0.leases) m2.1) → m3 ≡ (ending m1.0, blanks (own_spare d l.spare ∷ own_bag d ∷ []))
-    closed m3 e = e ∙ λ j. (ending ((is j).0), (given IsIn m2.0 m2.0.leases m2.1 (blanks (own_spare d l.spare ∷ own_bag d ∷ [])) ready).1 j)
+    closed m3 e = e ∙ λ j. (ending ((is j).0), (given (IsIn holds) m2.0 m2.0.leases m2.1 (blanks (own_spare d l.spare ∷ own_bag d ∷ [])) ready).1 j)
 
 pub give_home-requires-clause-out : goal.give_home-requires-clause-out
-give_home-requires-clause-out g c = let l = c.args.self.now in (own_spare l.place.me.0 l.spare, own_bag l.place.me.0, out l c.scan_due.new.place.me c.scan_due.ensures.seat.2)
+give_home-requires-clause-out g c = let l = c.args.self.now in (own_spare l.place.me.0 l.spare, own_bag l.place.me.0, out g.T.Holds.holds l c.scan_due.new.place.me c.scan_due.ensures.seat.2)
 
 pub close-requires-clause-open : goal.close-requires-clause-open
-close-requires-clause-open g c = let l = c.args.self.now in let m1 = c.scan_due.new.place.me in let o = c.scan_due.ensures.«open» in let f = c.give_home.ensures.filled (own_spare l.place.me.0 l.spare) (own_bag l.place.me.0) (out l m1 c.scan_due.ensures.seat.2) in let is = ap (λ (z : Me _ Acting). z.0) f.2 in
+close-requires-clause-open g c = let l = c.args.self.now in let m1 = c.scan_due.new.place.me in let o = c.scan_due.ensures.«open» in let f = c.give_home.ensures.filled (own_spare l.place.me.0 l.spare) (own_bag l.place.me.0) (out g.T.Holds.holds l m1 c.scan_due.ensures.seat.2) in let is = ap (λ (z : Me _ Acting). z.0) f.2 in
     (ap (λ (d : Acting). d.kind) is ∙ o.0, ap (λ (d : Acting). d.number) is ∙ o.1, ap (λ (d : Acting). d.known.phase) is ∙ o.2, ap (λ (d : Acting). d.known.found) is ∙ o.3, ap (λ (d : Acting). d.scan) is ∙ o.4)
 
 pub close-requires-clause-filled : goal.close-requires-clause-filled
-close-requires-clause-filled g c = let l = c.args.self.now in let d = l.place.me.0 in let m1 = c.scan_due.new.place.me in let s = c.scan_due.ensures.seat.2 in let f = c.give_home.ensures.filled (own_spare d l.spare) (own_bag d) (out l m1 s) in
-    (blanks (own_spare d l.spare ∷ own_bag d ∷ []), ready l m1 s c.give_home.new.place.me f.0 f.1 f.2)
+close-requires-clause-filled g c = let l = c.args.self.now in let d = l.place.me.0 in let m1 = c.scan_due.new.place.me in let s = c.scan_due.ensures.seat.2 in let f = c.give_home.ensures.filled (own_spare d l.spare) (own_bag d) (out g.T.Holds.holds l m1 s) in
+    (blanks (own_spare d l.spare ∷ own_bag d ∷ []), ready g.T.Holds.holds l m1 s c.give_home.new.place.me f.0 f.1 f.2)
 
 pub invariant_of-self : goal.invariant_of-self
-invariant_of-self g c = let l = c.args.self.now in let d = l.place.me.0 in let m1 = c.scan_due.new.place.me in let s = c.scan_due.ensures.seat.2 in let o = c.scan_due.ensures.«open» in let f = c.give_home.ensures.filled (own_spare d l.spare) (own_bag d) (out l m1 s) in
-    let m3 = c.close.new.place.me in let all = closed l m1 s c.give_home.new.place.me f.0 f.1 f.2 m3 c.close.ensures.closed in let is : m3.0 ≡ ending m1.0 = ap (λ (z : Me _ Acting). z.0) all in let own = c.scan_due.ensures.counted in let none : m3.0.leases ≡ [] = ap (λ (d : Acting). d.leases) is in
+invariant_of-self g c = let l = c.args.self.now in let d = l.place.me.0 in let m1 = c.scan_due.new.place.me in let s = c.scan_due.ensures.seat.2 in let o = c.scan_due.ensures.«open» in let f = c.give_home.ensures.filled (own_spare d l.spare) (own_bag d) (out g.T.Holds.holds l m1 s) in
+    let m3 = c.close.new.place.me in let all = closed g.T.Holds.holds l m1 s c.give_home.new.place.me f.0 f.1 f.2 m3 c.close.ensures.closed in let is : m3.0 ≡ ending m1.0 = ap (λ (z : Me _ Acting). z.0) all in let own = c.scan_due.ensures.counted in let none : m3.0.leases ≡ [] = ap (λ (d : Acting). d.leases) is in
     let table = c.close.ensures.seat.0 ∙ (c.give_home.ensures.seat.0 ∙ c.scan_due.ensures.seat.0) in let sizes : m3.0.sizes ≡ d.sizes = ap (λ (d : Acting). d.sizes) is ∙ s.3 in let number : m3.0.number ≡ d.number = ap (λ (d : Acting). d.number) is ∙ s.1 in record {
       acts = (
         ap (λ (d : Acting). d.kind) is ∙ o.0,
@@ -55,8 +56,7 @@ invariant_of-self g c = let l = c.args.self.now in let d = l.place.me.0 in let m
         ap (λ (d : Acting). d.scan) is ∙ o.4,
         l.acts.3,
         subst (λ (z : TableId). claim_word l.number < z.words) (sym table) l.acts.4,
-        ap (λ (d : Acting). d.hand) is ∙ (s.5 ∙ l.acts.5),
-        ap (λ (d : Acting). d.releasing) is ∙ (s.7 ∙ l.acts.6),
+        ap (λ (d : Acting). d.releasing) is ∙ (s.7 ∙ l.acts.5),
       );
       has_spare = (
         ap (λ (d : Acting). d.spare) is ∙ (s.4 ∙ l.has_spare.0),
@@ -76,6 +76,6 @@ invariant_of-self g c = let l = c.args.self.now in let d = l.place.me.0 in let m
     }
 
 pub returns-clause-same : goal.returns-clause-same
-returns-clause-same g c = let l = c.args.self.now in let d = l.place.me.0 in let m1 = c.scan_due.new.place.me in let s = c.scan_due.ensures.seat.2 in let f = c.give_home.ensures.filled (own_spare d l.spare) (own_bag d) (out l m1 s) in
-    let all = closed l m1 s c.give_home.new.place.me f.0 f.1 f.2 c.close.new.place.me c.close.ensures.closed in let table = c.close.ensures.seat.0 ∙ (c.give_home.ensures.seat.0 ∙ c.scan_due.ensures.seat.0) in
-    (λ j. (table j, (ap (λ (z : Me _ Acting). z.0.sizes) all ∙ s.3) j), refl)
+returns-clause-same g c = let l = c.args.self.now in let d = l.place.me.0 in let m1 = c.scan_due.new.place.me in let s = c.scan_due.ensures.seat.2 in let f = c.give_home.ensures.filled (own_spare d l.spare) (own_bag d) (out g.T.Holds.holds l m1 s) in
+    let all = closed g.T.Holds.holds l m1 s c.give_home.new.place.me f.0 f.1 f.2 c.close.new.place.me c.close.ensures.closed in let table = c.close.ensures.seat.0 ∙ (c.give_home.ensures.seat.0 ∙ c.scan_due.ensures.seat.0) in
+    (λ j. (table j, (ap (λ (z : Me _ Acting). z.0.sizes) all ∙ s.3) j), refl, ap (λ (z : Me _ Acting). map told z.0.hand) all ∙ ap (map told) s.5)

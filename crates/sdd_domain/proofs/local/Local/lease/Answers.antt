@@ -21,8 +21,7 @@ invariant_of-self g c = let l = c.args.self.now in let d = l.place.me.0 in let m
         ap (λ (z : Acting). z.scan) e ∙ l.acts.2,
         l.acts.3,
         subst (λ (z : TableId). claim_word l.number < z.words) (sym table) l.acts.4,
-        ap (λ (z : Acting). z.hand) e ∙ l.acts.5,
-        ap (λ (z : Acting). z.releasing) e ∙ l.acts.6,
+        ap (λ (z : Acting). z.releasing) e ∙ l.acts.5,
       );
       has_spare = (ap (λ (z : Acting). z.spare) e ∙ l.has_spare.0, l.has_spare.1, ap (λ (z : Acting). has_all is_blank (own_spare z l.spare ∷ own_bag z ∷ leased_homes m.0 m.0.leases) m.1) e ∙ c.lease-at.ensures.out (own_spare d l.spare) (own_bag d) l.has_spare.2);
       lends = (

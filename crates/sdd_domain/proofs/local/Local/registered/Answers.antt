@@ -18,7 +18,7 @@ use Rattle.sdd_domain.proofs.Bagged.{are_out}
 use Rattle.sdd_domain.proofs.local.Local.registered.Goals as goal
 
 -- the bag was behind the spare slot, and is empty now
-module _ {T : Type 0} (q y : ℕ) (m m1 : Me (Home T) Acting) (r : HasRegistered IsIn (spent, []) q y m)
+module _ {T : Type 0} (holds : T → List (ℕ × ℕ)) (q y : ℕ) (m m1 : Me (Home T) Acting) (r : HasRegistered (IsIn holds) (spent, []) q y m)
     (emptied : (k : ℕ) (u b : Home T) → m.1 ≡ (k, u) ∷ (own_bag m.0, b) ∷ [] → m1 ≡ (m.0, (k, u) ∷ (own_bag m.0, Blank) ∷ [])) where
   -- what is out, by the names that the claim gave
   front : m.1 ≡ (own_spare m.0 m.0.spare, r.3.2.0) ∷ (own_bag m.0, r.3.0) ∷ []
@@ -42,24 +42,23 @@ module _ {T : Type 0} (q y : ℕ) (m m1 : Me (Home T) Acting) (r : HasRegistered
     placed = ap (λ (z : Me (Home T) Acting). z.1) taken ∙ (ap (λ (z : Me (Home T) Acting). z.1) after ∙ (ap (λ (d : Acting). (own_spare d d.spare, Blank) ∷ (own_bag d, Blank) ∷ []) r.2 ∙ sym (ap (λ (d : Acting). (own_spare d y, Blank) ∷ (own_bag d, Blank) ∷ []) now)))
 
 pub take_left-bag-requires-clause-left : goal.take_left-bag-requires-clause-left
-take_left-bag-requires-clause-left g c = let r = c.requires.acts.0 in let m = c.args.place.me in let e = c.bag_out-left.ensures in let l = e.left (own_spare m.0 m.0.spare) r.3.2.0 m.0.sizes.slots r.1 r.3.0 r.3.1 (front c.args.number c.args.spare m c.bag_out-left.new.place.me r e.emptied) in
-    l.0 ∙ ap garbage_slots (sym (ap (λ (d : Acting). d.left) (told c.args.number c.args.spare m c.bag_out-left.new.place.me r e.emptied)))
+take_left-bag-requires-clause-left g c = let r = c.requires.acts.0 in let m = c.args.place.me in let e = c.bag_out-left.ensures in let l = e.left (own_spare m.0 m.0.spare) r.3.2.0 m.0.sizes.slots r.1 r.3.0 r.3.1 (front g.T.Holds.holds c.args.number c.args.spare m c.bag_out-left.new.place.me r e.emptied) in
+    l.0 ∙ ap garbage_slots (sym (ap (λ (d : Acting). d.left) (told g.T.Holds.holds c.args.number c.args.spare m c.bag_out-left.new.place.me r e.emptied)))
 
 pub take_left-bag-requires-clause-room : goal.take_left-bag-requires-clause-room
-take_left-bag-requires-clause-room g c = let r = c.requires.acts.0 in let m = c.args.place.me in let e = c.bag_out-left.ensures in let l = e.left (own_spare m.0 m.0.spare) r.3.2.0 m.0.sizes.slots r.1 r.3.0 r.3.1 (front c.args.number c.args.spare m c.bag_out-left.new.place.me r e.emptied) in
+take_left-bag-requires-clause-room g c = let r = c.requires.acts.0 in let m = c.args.place.me in let e = c.bag_out-left.ensures in let l = e.left (own_spare m.0 m.0.spare) r.3.2.0 m.0.sizes.slots r.1 r.3.0 r.3.1 (front g.T.Holds.holds c.args.number c.args.spare m c.bag_out-left.new.place.me r e.emptied) in
     let many = ap length l.0 in let long = length-map r.1 (λ (w : Garbage). w.slot) in let most = l.2 in let none = ap length c.requires.empty.0.0 in let counts = c.args.ledger.bags.slots.ok.0 in let room = c.requires.empty.2 in let sizes = ap (λ (z : Sizes). z.slots) c.requires.table.2 in let is = c.bag_out-left.result.ok in omega arith
 
 pub invariant_of-result : goal.invariant_of-result
 invariant_of-result g c = let r = c.requires.acts.0 in let m = c.args.place.me in let m1 = c.bag_out-left.new.place.me in let m2 = c.take_left-bag.new.place.me in let b = c.bag_out-left.ensures in let t = c.take_left-bag.ensures in let q : ℕ = c.args.number in let y : ℕ = c.args.spare in
-    let is = now q y m m1 r b.emptied m2 t.taken.0 t.taken.1 in let lies = placed q y m m1 r b.emptied m2 t.taken.0 t.taken.1 in let wide = sized q y m m1 r b.emptied m2 t.taken.0 t.taken.1 ∙ c.requires.table.2 in let table = t.seat.0 ∙ b.seat.0 in
-    let l = b.left (own_spare m.0 m.0.spare) r.3.2.0 m.0.sizes.slots r.1 r.3.0 r.3.1 (front q y m m1 r b.emptied) in let low = c.requires.table.5 in let sizes = c.requires.table.3 in let long = c.requires.table.4 in let none = ap (λ (d : Acting). d.leases) is in record {
+    let is = now g.T.Holds.holds q y m m1 r b.emptied m2 t.taken.0 t.taken.1 in let lies = placed g.T.Holds.holds q y m m1 r b.emptied m2 t.taken.0 t.taken.1 in let wide = sized g.T.Holds.holds q y m m1 r b.emptied m2 t.taken.0 t.taken.1 ∙ c.requires.table.2 in let table = t.seat.0 ∙ b.seat.0 in
+    let l = b.left (own_spare m.0 m.0.spare) r.3.2.0 m.0.sizes.slots r.1 r.3.0 r.3.1 (front g.T.Holds.holds q y m m1 r b.emptied) in let low = c.requires.table.5 in let sizes = c.requires.table.3 in let long = c.requires.table.4 in let none = ap (λ (d : Acting). d.leases) is in record {
       acts = (
         ap (λ (d : Acting). d.kind) is,
         ap (λ (d : Acting). d.number) is,
         ap (λ (d : Acting). d.scan) is,
         omega arith,
         subst (λ (z : TableId). claim_word q < z.words) (sym table) (subst (λ (z : TableId). claim_word q < z.words) (sym c.requires.table.0) (omega arith)),
-        ap (λ (d : Acting). d.hand) is,
         ap (λ (d : Acting). d.releasing) is,
       );
       has_spare = (ap (λ (d : Acting). d.spare) is, c.requires.acts.1, are_out m2 (own_spare m2.0 y) (own_bag m2.0) [] (ap (leased_homes m2.0) none) lies);

@@ -16,17 +16,17 @@ use Rattle.sdd_domain.proofs.shared.Shared.clone.Goals as goal
 -- the owner is in hand twice, and then once
 pub part_with-other-requires-clause-owner : goal.part_with-other-requires-clause-owner
 part_with-other-requires-clause-owner g c = let l = c.args.local.now in let s = c.args.self in let f = first l s c.take_in.new.place.me c.take_in.ensures.taken in
-    (owner s, [], ap (λ (z : Me _ Acting). z.0.hand) c.part_with-seat.ensures.seat.2 ∙ ap (λ (z : Me _ Acting). drop 1 z.0.hand) (c.in-Some.ensures.cloned.2 (owner s) [] f).1)
+    (owner s, l.place.me.0.hand, ap (λ (z : Me _ Acting). z.0.hand) c.part_with-seat.ensures.seat.2 ∙ ap (λ (z : Me _ Acting). drop 1 z.0.hand) (c.in-Some.ensures.cloned.2 (owner s) l.place.me.0.hand f).1)
 
 pub part_with-seat-requires-in-None-clause-owner : goal.part_with-seat-requires-in-None-clause-owner
 part_with-seat-requires-in-None-clause-owner g c = let l = c.args.local.now in let s = c.args.self in
-    (owner s, [], ap (λ (z : Me _ Acting). z.0.hand) c.in-None.ensures.refused ∙ first l s c.take_in.new.place.me c.take_in.ensures.taken)
+    (owner s, l.place.me.0.hand, ap (λ (z : Me _ Acting). z.0.hand) c.in-None.ensures.refused ∙ first l s c.take_in.new.place.me c.take_in.ensures.taken)
 
 pub invariant_of-local : goal.invariant_of-local
 invariant_of-local g c = let l = c.args.local.now in let d = l.place.me.0 in let s = c.args.self in let m1 = c.take_in.new.place.me in let taken = c.take_in.ensures.taken in let made = c.in-Some.ensures.cloned in let ls : List Lease = made.0 in let rows = c.clone.new.rows in
-    let twice = (made.2 (owner s) [] (first l s m1 taken)).1 in
-    let all : c.part_with-other.new.place.me ≡ (record d { hand = []; leases = ls }, l.place.me.1) = c.part_with-other.ensures.seat.2 ∙ (ap (λ (z : Me _ Acting). (others_in z.0, z.1)) c.part_with-seat.ensures.seat.2
-    ∙ (ap (λ (z : Me _ Acting). (others_in (others_in z.0), z.1)) twice ∙ ap (λ (z : Me _ Acting). (record z.0 { hand = []; leases = ls }, z.1)) (mine l s m1 taken))) in
+    let twice = (made.2 (owner s) d.hand (first l s m1 taken)).1 in
+    let all : c.part_with-other.new.place.me ≡ (record d { leases = ls }, l.place.me.1) = c.part_with-other.ensures.seat.2 ∙ (ap (λ (z : Me _ Acting). (others_in z.0, z.1)) c.part_with-seat.ensures.seat.2
+    ∙ (ap (λ (z : Me _ Acting). (others_in (others_in z.0), z.1)) twice ∙ ap (λ (z : Me _ Acting). (record z.0 { hand = d.hand; leases = ls }, z.1)) (mine l s m1 taken))) in
     let slots = same_slots l s m1 taken ls made.1 in let table = c.part_with-other.ensures.seat.0 ∙ (c.part_with-seat.ensures.seat.0 ∙ (c.clone.ensures.seat.0 ∙ c.take_in.ensures.seat.0)) in record {
       acts = (
         ap (λ (z : Me _ Acting). z.0.kind) all ∙ l.acts.0,
@@ -34,8 +34,7 @@ invariant_of-local g c = let l = c.args.local.now in let d = l.place.me.0 in let
         ap (λ (z : Me _ Acting). z.0.scan) all ∙ l.acts.2,
         l.acts.3,
         subst (λ (z : TableId). claim_word l.number < z.words) (sym table) l.acts.4,
-        ap (λ (z : Me _ Acting). z.0.hand) all,
-        ap (λ (z : Me _ Acting). z.0.releasing) all ∙ l.acts.6,
+        ap (λ (z : Me _ Acting). z.0.releasing) all ∙ l.acts.5,
       );
       has_spare = (
         ap (λ (z : Me _ Acting). z.0.spare) all ∙ l.has_spare.0,

@@ -26,13 +26,13 @@ module _ {T : Type 0} (l : Local T) (s : Shared T) (m1 : Me (Home T) Acting) (ta
 
   -- the owner is gone, with what waits behind it
   module _ (left : ℕ) (m2 : Me (Home T) Acting) (ls : List Lease) (is : map (λ (x : Lease). x.slot) ls ≡ map (λ (x : Lease). x.slot) m1.0.leases) (released : HasReleased s.slot left m1 ls m2) where
-    kept : 0 < left → m2 ≡ (record d { hand = []; leases = ls }, l.place.me.1)
-    kept more = (released (owner s) [] (first l s m1 taken)).0 more ∙ ap (λ (z : Me (Home T) Acting). (record z.0 { hand = []; leases = ls }, z.1)) (mine l s m1 taken)
+    kept : 0 < left → m2 ≡ (record d { leases = ls }, l.place.me.1)
+    kept more = (released (owner s) d.hand (first l s m1 taken)).0 more ∙ ap (λ (z : Me (Home T) Acting). (record z.0 { hand = d.hand; leases = ls }, z.1)) (mine l s m1 taken)
 
-    retired : left ≡ 0 → (w : Garbage) × (w.slot ≡ s.slot) × (w.age ≡ 0) × (m2 ≡ (record d { hand = []; leases = ls; waits = w ∷ d.waits }, l.place.me.1))
-    retired none = let r = (released (owner s) [] (first l s m1 taken)).1 none in (r.0, r.1, r.2, r.3 ∙ ap (λ (z : Me (Home T) Acting). (record z.0 { hand = []; leases = ls; waits = r.0 ∷ z.0.waits }, z.1)) (mine l s m1 taken))
+    retired : left ≡ 0 → (w : Garbage) × (w.slot ≡ s.slot) × (w.age ≡ 0) × (m2 ≡ (record d { leases = ls; waits = w ∷ d.waits }, l.place.me.1))
+    retired none = let r = (released (owner s) d.hand (first l s m1 taken)).1 none in (r.0, r.1, r.2, r.3 ∙ ap (λ (z : Me (Home T) Acting). (record z.0 { hand = d.hand; leases = ls; waits = r.0 ∷ z.0.waits }, z.1)) (mine l s m1 taken))
 
-    module _ (ws : List Garbage) (all : m2 ≡ (record d { hand = []; leases = ls; waits = ws }, l.place.me.1)) where
+    module _ (ws : List Garbage) (all : m2 ≡ (record d { leases = ls; waits = ws }, l.place.me.1)) where
       spare_there : has_all is_blank (own_spare m2.0 l.spare ∷ own_bag m2.0 ∷ leased_homes m2.0 m2.0.leases) m2.1 ≡ true
       spare_there = subst (λ (z : Me (Home T) Acting). has_all is_blank (own_spare z.0 l.spare ∷ own_bag z.0 ∷ leased_homes z.0 z.0.leases) z.1 ≡ true) (sym all)
           (ap (λ ks. has_all is_blank (own_spare d l.spare ∷ own_bag d ∷ ks) l.place.me.1) (same_homes d ls d.leases (same_slots l s m1 taken ls is)) ∙ l.has_spare.2)
@@ -46,8 +46,7 @@ invariant_of-local g c = let l = c.args.local.now in let d = l.place.me.0 in let
         ap (λ (z : Me _ Acting). z.0.scan) all ∙ l.acts.2,
         l.acts.3,
         subst (λ (z : TableId). claim_word l.number < z.words) (sym table) l.acts.4,
-        ap (λ (z : Me _ Acting). z.0.hand) all,
-        ap (λ (z : Me _ Acting). z.0.releasing) all ∙ l.acts.6,
+        ap (λ (z : Me _ Acting). z.0.releasing) all ∙ l.acts.5,
       );
       has_spare = (ap (λ (z : Me _ Acting). z.0.spare) all ∙ l.has_spare.0, l.has_spare.1, spare_there l s m1 taken c.release-left.result m2 r.0 r.1 r.2 d.waits all);
       lends = (
@@ -74,8 +73,7 @@ invariant_of-local-2 g c = let l = c.args.local.now in let d = l.place.me.0 in l
         ap (λ (z : Me _ Acting). z.0.scan) all ∙ l.acts.2,
         l.acts.3,
         subst (λ (z : TableId). claim_word l.number < z.words) (sym table) l.acts.4,
-        ap (λ (z : Me _ Acting). z.0.hand) all,
-        ap (λ (z : Me _ Acting). z.0.releasing) all ∙ l.acts.6,
+        ap (λ (z : Me _ Acting). z.0.releasing) all ∙ l.acts.5,
       );
       has_spare = (ap (λ (z : Me _ Acting). z.0.spare) all ∙ l.has_spare.0, l.has_spare.1, spare_there l s m1 taken c.release-left.result m2 r.0 r.1 r.2 (w.0 ∷ d.waits) all);
       lends = (

@@ -1,0 +1,78 @@
+use Rattle.std.proofs.Common.{◌≡◌, ◌<◌, ◌≤◌, true, ℕ, List, ◌∷◌, ◌++◌, length, map, vec_capacity, sym, refl, ap, ◌∙◌, subst}
+use Rattle.std.specs.VecDeque.{deque_capacity}
+use Rattle.atomic_table.specs.Seated.{TableId}
+use Rattle.atomic_table.specs.Table.{Me}
+use Rattle.sdd_base.specs.declared.sizes.Sizes.{Sizes}
+use Rattle.sdd_homes.specs.declared.Lease.{Lease}
+use Rattle.sdd_domain.specs.Bags.{ages, Waits}
+use Rattle.sdd_domain.specs.Contents.{blanks}
+use Rattle.sdd_domain.specs.Holding.{told}
+use Rattle.sdd_domain.specs.Layout.{claim_word}
+use Rattle.sdd_domain.specs.Leases.{life_number, leased_homes, row_slots, all_below}
+use Rattle.sdd_domain.specs.Plays.{own_spare, own_bag}
+use Rattle.sdd_domain.specs.declared.board.Acting.{Acting}
+use Rattle.sdd_domain.specs.declared.board.Home.{Home}
+use Rattle.sdd_domain.specs.declared.board.Home.TheVariants.{Blank}
+use Rattle.sdd_domain.specs.declared.local.Local.{Local}
+use Rattle.sdd_domain.proofs.Bagged.{are_out}
+use Rattle.sdd_domain.proofs.Noted.{homes_both, blanks_both}
+use Rattle.sdd_domain.proofs.Told.{all_there}
+use Rattle.sdd_domain.proofs.comparing.try_exchange.Goals as goal
+
+-- the bag and the leased homes are behind the spare slot
+module _ {T : Type 0} (l : Local T) where
+  abbrev d : Acting
+  d = l.place.me.0
+
+  abbrev behind : List (ℕ × Home T)
+  behind = blanks (own_bag d ∷ leased_homes d d.leases)
+
+  out : l.place.me.1 ≡ (own_spare d l.spare, Blank) ∷ behind
+  out = all_there (own_spare d l.spare ∷ own_bag d ∷ leased_homes d d.leases) l.place.me.1 l.has_spare.2
+
+  -- and those of what is leased besides behind these
+  all_behind : (ls : List Lease) → behind ++ blanks (leased_homes d ls) ≡ blanks (own_bag d ∷ leased_homes d (d.leases ++ ls))
+  all_behind ls = sym (ap (λ (ks : List ℕ). blanks {T = T} (own_bag d ∷ ks)) (homes_both d d.leases ls) ∙ blanks_both (own_bag d ∷ leased_homes d d.leases) (leased_homes d ls))
+
+pub exchange_owner-free-requires-clause-out : goal.exchange_owner-free-requires-clause-out
+exchange_owner-free-requires-clause-out g c = let l = c.args.local.now in (behind l, out l)
+
+pub invariant_of-local : goal.invariant_of-local
+invariant_of-local g c = let l = c.args.local.now in let d = l.place.me.0 in let m = c.exchange_owner-free.new.place.me in let y : ℕ = c.exchange_owner-free.result.0 in let rows = c.exchange_owner-free.new.rows in let told = c.exchange_owner-free.ensures.rows in
+    let t = c.exchange_owner-free.ensures.tried (behind l) (out l) in let all = t.2 in let table = c.exchange_owner-free.ensures.seat.0 in let ks : List ℕ = leased_homes d (d.leases ++ t.1) in
+    let home : d.sizes ≡ c.args.domain.now.sizes = ap (λ (t : TableId × Sizes). t.1) c.requires.home ∙ sym c.args.domain.now.sized.0 in let sizes : m.0.sizes ≡ d.sizes = ap (λ (z : Me _ Acting). z.0.sizes) all in record {
+      acts = (
+        ap (λ (z : Me _ Acting). z.0.kind) all ∙ l.acts.0,
+        ap (λ (z : Me _ Acting). z.0.number) all ∙ l.acts.1,
+        ap (λ (z : Me _ Acting). z.0.scan) all ∙ l.acts.2,
+        l.acts.3,
+        subst (λ (z : TableId). claim_word l.number < z.words) (sym table) l.acts.4,
+        ap (λ (z : Me _ Acting). z.0.releasing) all ∙ l.acts.5,
+      );
+      has_spare = (
+        ap (λ (z : Me _ Acting). z.0.spare) all,
+        c.exchange_owner-free.ensures.spare,
+        are_out m (own_spare m.0 y) (own_bag m.0) ks (ap (λ (z : Me _ Acting). leased_homes z.0 z.0.leases) all) (ap (λ (z : Me _ Acting). z.1) all ∙ (ap (λ xs. (own_spare d y, Blank) ∷ xs) (all_behind l t.1) ∙ sym (ap (λ (z : Me _ Acting). blanks (own_spare z.0 y ∷ own_bag z.0 ∷ ks)) all))),
+      );
+      lends = (
+        told.0,
+        subst (λ (z : Sizes). z.slots ≤ deque_capacity rows) (sym sizes) (subst (λ n. d.sizes.slots ≤ n) (sym told.2) l.lends.1),
+        subst (λ (z : Sizes). all_below z.slots (row_slots rows.items) ≡ true) (sym (sizes ∙ home)) told.1,
+      );
+      shut = λ x. absurd (cc);
+      alive = λ f x. l.alive f (c.in-Some.is ∙ x);
+      leaves = (ap (λ (z : Me _ Acting). z.0.left) all ∙ l.leaves.0, l.leaves.1, subst (λ (z : Sizes). z.slots ≤ vec_capacity l.bag) (sym sizes) l.leaves.2);
+      phase = ap (λ (z : Me _ Acting). z.0.known.phase) all ∙ l.phase;
+      found = ap (λ (z : Me _ Acting). z.0.known.found) all ∙ l.found;
+      noted = l.noted;
+      fills = (ap (λ (z : Me _ Acting). z.0.filling) all ∙ l.fills.0, l.fills.1, subst (λ (z : Sizes). l.number < z.participants) (sym sizes) l.fills.2);
+      waits = (subst (λ (z : Me _ Acting). Waits z.0.waits l.bags.slots.items (ages l.bags.current l.bags.previous l.bags.next l.bags.due)) (sym all) l.waits.0, l.waits.1, l.waits.2 ∙ sym (ap (λ (z : Sizes). z.slots) sizes));
+    }
+
+pub returns-in-Ok-clause-same : goal.returns-in-Ok-clause-same
+returns-in-Ok-clause-same g c = let l = c.args.local.now in let m = c.exchange_owner-free.new.place.me in let all = (c.exchange_owner-free.ensures.tried (behind l) (out l)).2 in let table = c.exchange_owner-free.ensures.seat.0 in
+    (((λ j. (table j, ap (λ (z : Me _ Acting). z.0.sizes) all j), refl, ap (λ (z : Me _ Acting). map told z.0.hand) all), (λ j. (l.number, sym (ap life_number c.in-Some.is) j))), refl, ap (λ (z : Me _ Acting). z.0.born) all, ap (λ (z : Me _ Acting). length z.0.waits) all)
+
+pub returns-in-Err-clause-same : goal.returns-in-Err-clause-same
+returns-in-Err-clause-same g c = let l = c.args.local.now in let m = c.exchange_owner-free.new.place.me in let all = (c.exchange_owner-free.ensures.tried (behind l) (out l)).2 in let table = c.exchange_owner-free.ensures.seat.0 in
+    (((λ j. (table j, ap (λ (z : Me _ Acting). z.0.sizes) all j), refl, ap (λ (z : Me _ Acting). map told z.0.hand) all), (λ j. (l.number, sym (ap life_number c.in-Some.is) j))), refl, ap (λ (z : Me _ Acting). z.0.born) all, ap (λ (z : Me _ Acting). length z.0.waits) all)

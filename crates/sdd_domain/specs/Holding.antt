@@ -1,0 +1,21 @@
+-- what items hold
+use Rattle.std.specs.Prelude.{◌≡◌, ℕ, List, map, reverse, IsSomeAnd}
+use Rattle.std.specs.Mem.{manually_drop_value}
+use Rattle.sdd_homes.specs.declared.Owner.{Owner}
+use Rattle.sdd_domain.specs.declared.held.Held.{Held}
+
+-- an owner, told by the slot and the round of its item
+abbrev pub told : Owner → ℕ × ℕ
+told o = (o.slot, o.round)
+
+-- the same of one that an item holds
+abbrev pub told_of : {T : Type 0} → Held T → ℕ × ℕ
+told_of h = (h.slot, h.part.part.life.id)
+
+-- it is an owner of an item with this value
+abbrev pub IsHeldOf : {T : Type 0} → Held T → T → Type 0
+IsHeldOf h x = IsSomeAnd h.part.part.seen.value (λ m. manually_drop_value m ≡ x)
+
+-- how an item that gives these up from the last one on tells them
+abbrev pub all_told : {T : Type 0} → List (Held T) → List (ℕ × ℕ)
+all_told hs = reverse (map told_of hs)

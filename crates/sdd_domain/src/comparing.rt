@@ -1,0 +1,153 @@
+//! One try to exchange what a cell owns, where it names what was loaded from it.
+
+ghost use Rattle.std.specs.Prelude.{◌≡◌, ℕ, ◌+◌, ◌*◌, ◌^◌, ◌<◌, ◌≤◌, ◌∷◌, ◌↔◌, List, map, IsTrue, IfSome, IfOk, IfErr};
+ghost use Rattle.std.specs.Option.{ForSome};
+ghost use Rattle.std.specs.VecDeque.{deque_capacity, deque_len};
+ghost use Rattle.sdd_homes.specs.declared.Lease.{Lease};
+ghost use Rattle.sdd_domain.specs.Comparing.{owner_code, loaded_code, IsBack, HasTried};
+ghost use Rattle.sdd_domain.specs.Fitting.{FitsSizes};
+ghost use Rattle.sdd_domain.specs.Layout.{all_words, IsSized};
+ghost use Rattle.sdd_domain.specs.Leases.{row_told, lease_told, HasRows, KeepsRows, CanExchange};
+ghost use Rattle.sdd_domain.specs.Plays.{own_spare};
+ghost use Rattle.sdd_domain.specs.Sharing.{kept_in};
+ghost use Rattle.sdd_domain.specs.Tokens.{place_of, home_of, number_of, own_of, born_of, waiting_of, cell_count, nest_in, IsInNest};
+ghost use Rattle.sdd_domain.specs.declared.board.Home.{Home};
+ghost use Rattle.sdd_domain.specs.declared.board.Home.TheVariants.{Blank};
+
+use crate::board::{Home, Place, Words};
+use crate::cells;
+use crate::domain::Domain;
+use crate::holds::Holds;
+use crate::leases::seen_at;
+use crate::loading::{note_found, slot_named};
+use crate::local::Local;
+use crate::pointer::Loaded;
+use crate::row::Row;
+use crate::shared::Shared;
+use crate::swapping::{bring, take_back};
+use parted::Life;
+use sdd_base::sizes::Sizes;
+use std::collections::VecDeque;
+
+/// The word of a cell.
+pub(crate) fn word_of<T: Holds>(words: &Words<T>, sizes: &Sizes, cell: usize) -> u64
+    requires { (words.now.key.sizes ≡ sizes.now) × IsSized sizes.now × (cell < sizes.now.cells) × (all_words sizes.now ≤ words.now.table_id.words) }
+{
+    words.peek(8 * sizes.participants + 16 + cell)
+}
+
+/// Whether a cell's word names the item that was loaded, or nothing where nothing was loaded.
+pub(crate) fn names<T>(word: u64, current: &Loaded<T>) -> bool
+    ensures { (y c : ℕ) → y < 2 ^ 33 → word ≡ y + 2 ^ 33 * c → (IsTrue result ↔ c ≡ loaded_code current.now) }
+{
+    match slot_named(word) {
+        Some(slot) => current.seen.is_some() && slot == current.slot,
+        None => current.seen.is_none(),
+    }
+}
+
+/// Swaps what a cell owns, in one step, where its word is `expected`, and gives the owner that it had. Else that step
+/// loaded the cell: the owner that was brought is back, and with it which row is that of the item that was found, if one
+/// was. First comes the number of the spare slot that is the participant's now.
+pub(crate) fn exchange_owner<T: Holds>(
+    words: &Words<T>,
+    place: &mut Place<T>,
+    sizes: &Sizes,
+    number: usize,
+    spare: u64,
+    rows: &mut VecDeque<Row<T>>,
+    life: &Life,
+    cell: usize,
+    expected: u64,
+    new: Option<Shared<T>>,
+) -> (
+    u64,
+    Result<Option<Shared<T>>, (Option<Shared<T>>, Option<usize>)>,
+)
+    requires table { FitsSizes words.now.table_id words.now.key.sizes place.old.table_id place.old.me.0.sizes sizes.now × (number < sizes.now.participants) × (cell < sizes.now.cells) }
+    requires ready { CanExchange number spare place.old.me.0 }
+    requires rows { HasRows life.now.id sizes.now.slots place.old.me.0.leases rows.old.items (deque_capacity rows.old) }
+    requires out { (tail : List (ℕ × Home T)) × (place.old.me.1 ≡ (own_spare place.old.me.0 spare, Blank) ∷ tail) }
+    requires mine { IfSome new (λ s. kept_in s ≡ words.now.table_id) }
+    ensures seat { (place.new.table_id ≡ place.old.table_id) × (place.new.id ≡ place.old.id) }
+    ensures spare { result.0 < 2 ^ 33 }
+    ensures tried { (tail : List (ℕ × Home T)) → place.old.me.1 ≡ (own_spare place.old.me.0 spare, Blank) ∷ tail → HasTried place.old.me result.0 tail place.new.me }
+    ensures rows { KeepsRows life.now.id sizes.now.slots place.new.me.0.leases rows.new.items (deque_capacity rows.old) (deque_capacity rows.new) }
+    ensures mine { IfOk result.1 (λ old. IfSome old (λ s. kept_in s ≡ words.now.table_id)) }
+    ensures hit { IfOk result.1 (λ old. (y c : ℕ) → y < 2 ^ 33 → expected ≡ y + 2 ^ 33 * c → owner_code old ≡ c) }
+    ensures back { IfErr result.1 (λ t. IsBack new t.0) }
+    ensures row { IfErr result.1 (λ t. IfSome t.1 (λ at. at < deque_len rows.new)) }
+{
+    let word = bring(words, place, sizes, spare, new);
+    let found = cells::compare_exchange(words, place, sizes.participants, cell, expected, word);
+    if found == expected {
+        let (free, old) = take_back(words, place, sizes, found);
+        return (free, Ok(old));
+    }
+    let at = note_found(words, place, sizes, number, rows, life, found);
+    let (free, back) = take_back(words, place, sizes, word);
+    (free, Err((back, at)))
+}
+
+/// What the item of a row is read by, or nothing.
+fn loaded_at<T: Holds>(rows: &VecDeque<Row<T>>, at: Option<usize>) -> Loaded<T>
+    requires { IfSome at (λ i. i < deque_len rows.now) }
+    ensures { ForSome result.seen (λ s. (life : ℕ) (ls : List Lease) → map row_told rows.now.items ≡ map (lease_told life) ls → s.life ≡ life) }
+{
+    if let Some((slot, seen)) = seen_at(rows, at) {
+        return Loaded {
+            slot,
+            seen: Some(seen),
+        };
+    }
+    Loaded {
+        slot: 0,
+        seen: None,
+    }
+}
+
+/// The same for a participant with an open guard: what was found is seen under its nest of guards.
+pub(crate) fn try_exchange<T: Holds>(
+    local: &mut Local<T>,
+    domain: &Domain<T>,
+    cell: usize,
+    expected: u64,
+    new: Option<Shared<T>>,
+) -> Result<Option<Shared<T>>, (Option<Shared<T>>, Loaded<T>)>
+    requires home { home_of local.old ≡ place_of domain.now }
+    requires open { 0 < (own_of local.old).nesting }
+    requires inside { cell < cell_count domain.now }
+    requires mine { IfSome new (λ s. kept_in s ≡ (place_of domain.now).0) }
+    ensures home { IfOk result (λ old. IfSome old (λ s. kept_in s ≡ (place_of domain.now).0)) }
+    ensures hit { IfOk result (λ old. (y c : ℕ) → y < 2 ^ 33 → expected ≡ y + 2 ^ 33 * c → owner_code old ≡ c) }
+    ensures back { IfErr result (λ t. IsBack new t.0) }
+    ensures seen { IfErr result (λ t. ForSome t.1.seen (λ s. (number_of local.old, s.life) ≡ nest_in local.old)) }
+    ensures same { IsInNest local.old local.new × (own_of local.new ≡ own_of local.old) × (born_of local.new ≡ born_of local.old) × (waiting_of local.new ≡ waiting_of local.old) }
+{
+    let Local {
+        place,
+        number,
+        spare,
+        life,
+        rows,
+        ..
+    } = local;
+    let Some(life) = life else { unreachable!() };
+    let (free, tried) = exchange_owner(
+        domain.words(),
+        place,
+        &domain.sizes,
+        *number,
+        *spare,
+        rows,
+        life,
+        cell,
+        expected,
+        new,
+    );
+    *spare = free;
+    match tried {
+        Ok(old) => Ok(old),
+        Err((back, at)) => Err((back, loaded_at(&local.rows, at))),
+    }
+}
