@@ -1,0 +1,9 @@
+//! Tests of `shared_versions`, apart from it so that its proofs aren't made twice.
+#![tactic(auto)]
+
+#[cfg(test)]
+mod drafts;
+#[cfg(test)]
+mod nodes;
+#[cfg(test)]
+mod sessions;

@@ -1,0 +1,95 @@
+//! Nodes by example, outside of a place.
+
+ghost use Rattle.std.specs.Prelude.{◌≡◌, []};
+ghost use Rattle.shared_versions.specs.Nodes.{held_by};
+
+use sdd_domain::holds::Holds;
+use shared_versions::{Draft, Node, Reader, Session, Version, view_of};
+use std::ops::Bound;
+use std::process::Abort;
+use std::test::Fail;
+use versions::Segment;
+
+#[test]
+fn the_empty_version_has_no_pair(rt: HostRuntime) -> Result<(), Fail> {
+    let version = Version::<u64, u64>::empty(rt.alloc(), 64);
+    assert_eq!(rt; version.number(), 0);
+    assert_eq!(rt; version.width(), 64);
+    assert_eq!(rt; version.directory().segments(), 0);
+    let view = view_of(&version);
+    assert_eq!(rt; view.len(), 0);
+    assert!(rt; view.get(&5).is_none());
+    assert!(rt;
+        view.walk(Bound::Unbounded, Bound::Unbounded)
+            .next()
+            .is_none()
+    );
+    end(Node::Version(version));
+    Ok(())
+}
+
+#[test]
+fn a_segment_holds_nothing(rt: HostRuntime) -> Result<(), Fail> {
+    let mut segment = Segment::<u64, u64>::new(rt.alloc());
+    match segment.push(3, 30) {
+        Ok(()) => {},
+        Err(_) => panic!(rt; "no memory"),
+    }
+    let mut node = Node::Segment(segment);
+    assert!(rt; node.version().is_none());
+    match node.give_up() {
+        None => {},
+        Some(_) => unreachable!(),
+    }
+    end(node);
+    Ok(())
+}
+
+#[test]
+fn the_empty_version_gives_nothing_up(rt: HostRuntime) -> Result<(), Fail> {
+    let mut node = Node::Version(Version::<u64, u64>::empty(rt.alloc(), 4));
+    match node.version() {
+        Some(version) => assert_eq!(rt; version.width(), 4),
+        None => panic!(rt; "it is a version"),
+    }
+    match node.give_up() {
+        None => {},
+        Some(_) => unreachable!(),
+    }
+    // what is left of it is no version
+    assert!(rt; node.version().is_none());
+    end(node);
+    Ok(())
+}
+
+// Spends a node that holds nothing.
+fn end(node: Node<u64, u64>)
+    requires { held_by node ≡ [] }
+{
+    node.end();
+}
+
+// Threads share nodes, readers and sessions, and hand drafts over.
+fn are_shared(
+    node: &Node<u64, u64>,
+    reader: &Reader<u64, u64, 64>,
+    session: &Session<u64, u64, 64>,
+) {
+    is_sync(node);
+    is_sync(reader);
+    is_sync(session);
+}
+
+fn is_handed_over(draft: Draft<u64, u64, 64>) -> Draft<u64, u64, 64> {
+    is_send(draft)
+}
+
+fn node_is_handed_over(node: Node<u64, u64>) -> Node<u64, u64> {
+    is_send(node)
+}
+
+fn is_sync<T: Sync>(_x: &T) {}
+
+fn is_send<T: Send>(x: T) -> T {
+    x
+}

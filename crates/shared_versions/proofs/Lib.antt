@@ -1,0 +1,4 @@
+pub mod DraftLemmas
+pub mod EmptyLemmas
+pub mod FoundLemmas
+pub mod LoadedLemmas

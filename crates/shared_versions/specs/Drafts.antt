@@ -1,0 +1,58 @@
+-- versions that aren't placed yet
+use Rattle.std.specs.Prelude.{◌≡◌, ℕ, ◌+◌, ◌*◌, ◌/◌, ◌<◌, ◌≤◌, List, [], get_or, length, vec_capacity}
+use Rattle.std.specs.Global.{Vec}
+use Rattle.std.specs.List.{All}
+use Rattle.std.specs.declared.cmp.Ordering.{Ordering}
+use Rattle.versions.specs.Cuts.{IsCut, pairs_in}
+use Rattle.versions.specs.Parts.{blocks_of_parts, made_in}
+use Rattle.versions.specs.declared.building.segments.Part.{Part}
+use Rattle.versions.specs.declared.building.segments.Part.TheVariants as parts
+use Rattle.versions.specs.declared.building.segments.Segments.{Segments}
+use Rattle.shared_versions.specs.Sight.{Sight}
+
+-- a version to be placed: the number of its list, and its segments, of which some are taken over from an older version, by
+-- their places there; the greatest key of each but the last; how many pairs there are
+pub record Plan (K V : Type 0) : Type 0 where
+  pub number : ℕ
+  pub parts : List (Part K V ℕ)
+  pub separators : List K
+  pub length : ℕ
+
+module _ {K V : Type 0} where
+  -- how many slots it takes: one for each new segment, and one for the version
+  abbrev pub slots_for : Plan K V → ℕ
+  slots_for p = made_in p.parts + 1
+
+  -- the list of a version
+  abbrev pub list_of : Sight K V → List (K × V)
+  list_of v = pairs_in v.blocks
+
+  -- the pairs of its segment at a place
+  abbrev pub pairs_at : Sight K V → ℕ → List (K × V)
+  pairs_at v place = get_or v.blocks place []
+
+  -- the pairs of the segments of a version to be placed, and its list
+  abbrev pub blocks_planned : Sight K V → Plan K V → List (List (K × V))
+  blocks_planned old p = blocks_of_parts (pairs_at old) p.parts
+
+  abbrev pub list_planned : Sight K V → Plan K V → List (K × V)
+  list_planned old p = pairs_in (blocks_planned old p)
+
+  -- a new segment, or one that the older version has
+  abbrev pub IsThere : Sight K V → Part K V ℕ → Type 0
+  IsThere old (parts.Taken place) = place < length old.blocks
+  IsThere old (parts.Made tree) = Unit {0}
+
+  -- its segments are cut as they should be, its pairs are counted, and the older version has what it takes over
+  pub record IsPlaceable (cmp : K → K → Ordering) (s : ℕ) (old : Sight K V) (p : Plan K V) : Type 0 where
+    pub cut : IsCut cmp s (blocks_planned old p) p.separators
+    pub counted : p.length ≡ length (list_planned old p)
+    pub there : All (IsThere old) p.parts
+
+-- the segments are few, those that are new are counted, and there is room for their owners
+pub record IsDrafted {K V O : Type 0} (s : ℕ) (segments : Segments K V ℕ) (made : ℕ) (owners : Vec O) : Type 0 where
+  pub few : length segments.parts.items ≤ 2 * (segments.length / (s + 1)) + 1
+  pub counted : made ≡ made_in segments.parts.items
+  pub upto : made ≤ length segments.parts.items
+  pub none : owners.items ≡ []
+  pub room : length segments.parts.items ≤ vec_capacity owners

@@ -1,0 +1,5 @@
+pub mod Sight
+pub mod Nodes
+pub mod Falls
+pub mod Readers
+pub mod Drafts

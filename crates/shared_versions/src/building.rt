@@ -1,0 +1,153 @@
+//! Building versions, each of an older one, beside the place.
+
+ghost use Rattle.std.specs.Prelude.{◌≡◌, ◌≤◌, ◌<◌, ◌+◌, ◌*◌, ◌/◌, ◌-◌, ◌^◌, [], IfOk, length, vec_capacity};
+ghost use Rattle.leaf_array.specs.Values.{ClonesAreSame};
+ghost use Rattle.versions.specs.Writes.{after_writes, replies_to};
+ghost use Rattle.shared_versions.specs.Drafts.{IsPlaceable, list_of, list_planned, slots_for};
+
+use crate::lending::view_of;
+use crate::node::{Node, Version};
+use sdd_domain::held::Held;
+use std::alloc::{AllocError, Global};
+use std::marker::Model;
+use tree_index::TreeIndex;
+use versions::draft::{BaseVersion, Segments, drafted, made_of};
+use versions::{Reply, Trees, Write};
+
+/// A version that isn't placed yet: the number of its list, and its segments, of which some are those of an older version,
+/// by their places there.
+pub struct Draft<K: Ord, V, const S: usize> {
+    number: u64,
+    segments: Segments<K, V, usize>,
+    // how many of them are new
+    made: usize,
+    // room for the owners of the segments
+    owners: Vec<Held<Node<K, V>>>,
+}
+
+/// Invariant: specs/Drafts.antt, IsDrafted: the segments are few, those that are new are counted, and there is room for their
+/// owners.
+impl<K: Ord, V, const S: usize> Model for Draft<K, V, S> {
+    ghost use Rattle.shared_versions.specs.Drafts.{IsDrafted, Plan};
+
+    ghost Value = { Plan K V };
+
+    ghost view = { λ d. record { number = d.number; parts = d.segments.parts.items; separators = d.segments.separators.items; length = d.segments.length } };
+
+    ghost invariant = { λ d. IsDrafted S d.segments d.made d.owners };
+}
+
+impl<K: Ord, V, const S: usize> Draft<K, V, S> {
+    /// The empty list, with number 0. It takes no memory.
+    pub fn empty(alloc: Global) -> Self
+        ensures { result ≡ record { number = 0; parts = []; separators = []; length = 0 } }
+    {
+        Draft {
+            number: 0,
+            segments: Segments {
+                parts: Vec::new(alloc),
+                separators: Vec::new(alloc),
+                length: 0,
+            },
+            made: 0,
+            owners: Vec::new(alloc),
+        }
+    }
+
+    /// How many slots it takes: one for each new segment, and one for the version. A list of `n` pairs takes at most
+    /// `2 * (n / (S + 1)) + 2`, and so do `w` writes at most `2 * w + 1`.
+    pub fn slots(&self) -> usize
+        ensures count { result ≡ slots_for self.now }
+        ensures few { result ≤ 2 * (self.now.length / (S + 1)) + 2 }
+    {
+        self.made + 1
+    }
+
+    /// Its number, its segments, and room for their owners.
+    pub(crate) fn into_parts(self) -> (u64, Segments<K, V, usize>, Vec<Held<Node<K, V>>>)
+        ensures plan { record { number = result.0; parts = result.1.parts.items; separators = result.1.separators.items; length = result.1.length } ≡ self }
+        ensures none { result.2.items ≡ [] }
+        ensures room { length result.1.parts.items ≤ vec_capacity result.2 }
+    {
+        let Draft {
+            number,
+            segments,
+            made: _,
+            owners,
+        } = self;
+        (number, segments, owners)
+    }
+}
+
+impl<K: Ord + Drop, V: Drop, const S: usize> Drop for Draft<K, V, S> {
+    fn drop(self) {
+        let (_, _, owners) = self.into_parts();
+        owners.destroy_empty();
+    }
+}
+
+/// The version that writes make of an older one, under the next number, and what they are told; refused where memory is.
+/// Nothing is placed yet, and no word of the place is read. Segments that no write touches are taken over, so the older
+/// version has to be there when it is placed.
+pub fn build<K: Clone + Ord + Drop, V: Clone + Drop, const S: usize>(
+    alloc: Global,
+    old: &Version<K, V>,
+    writes: &[Write<K, V>],
+) -> Result<(Draft<K, V, S>, Vec<Reply>), AllocError>
+    requires width { old.now.width ≡ S }
+    requires size { (1 ≤ S) × (S ≤ 225) }
+    requires last { old.now.number < 2 ^ 64 - 1 }
+    requires keys { ClonesAreSame K.is_clone }
+    requires values { ClonesAreSame V.is_clone }
+    ensures number { IfOk result (λ made. made.0.number ≡ old.now.number + 1) }
+    ensures list { IfOk result (λ made. list_planned old.now made.0 ≡ after_writes K.cmp writes.now (list_of old.now)) }
+    ensures few { IfOk result (λ made. slots_for made.0 ≤ 2 * length writes.now + 1) }
+    ensures placeable { IfOk result (λ made. IsPlaceable K.cmp S old.now made.0) }
+    ensures replies { IfOk result (λ made. made.1.items ≡ replies_to K.cmp writes.now (list_of old.now)) }
+{
+    old.laws();
+    let (segments, replies) = drafted::<K, V, usize, Version<K, V>, S>(alloc, old, writes)?;
+    let owners = Vec::with_capacity(alloc, segments.parts.len())?;
+    let made = made_of(&segments.parts);
+    let number = old.number() + 1;
+    Ok((
+        Draft {
+            number,
+            segments,
+            made,
+            owners,
+        },
+        replies,
+    ))
+}
+
+/// A segment of an older version is named by its place there.
+impl<K: Ord, V> BaseVersion<K, V, usize> for Version<K, V> {
+    ghost use Rattle.shared_versions.specs.Drafts.{pairs_at};
+
+    ghost blocks = { λ v. v.blocks };
+
+    ghost separators = { λ v. v.separators };
+
+    ghost named = { pairs_at };
+
+    fn count(&self) -> usize {
+        self.directory().segments()
+    }
+
+    fn segment(&self, place: usize) -> &TreeIndex<K, V> {
+        self.tree(&self.directory().owners()[place])
+    }
+
+    fn separators(&self) -> &[K] {
+        self.directory().separators()
+    }
+
+    fn name(&self, place: usize) -> usize {
+        place
+    }
+
+    fn contains(&self, key: &K) -> bool {
+        view_of(self).get(key).is_some()
+    }
+}

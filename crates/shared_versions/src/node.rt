@@ -1,0 +1,205 @@
+//! What stands in a slot of a place that threads share.
+
+ghost use Rattle.std.specs.Prelude.{◌≡◌, ◌≤◌, ◌++◌, ◌∷◌, [], Some, MatchOption, map, option_copied, reverse};
+ghost use Rattle.std.specs.Option.{option_to_list};
+ghost use Rattle.sdd_domain.specs.Holding.{told_of};
+ghost use Rattle.versions.specs.Cuts.{IsCut};
+ghost use Rattle.shared_versions.specs.Nodes.{IsSegment, IsWhole, segment_pairs, sight_of, version_of};
+
+use sdd_domain::held::Held;
+use std::alloc::Global;
+use std::marker::Model;
+use tree_index::TreeIndex;
+use versions::{Directory, Segment};
+
+/// A version: a directory whose owners hold its segments.
+///
+/// Contracts see its number, the pairs of its segments in order, and the slots and rounds of their owners.
+#[cycle(nodes)]
+pub struct Version<K: Ord, V> {
+    directory: Directory<K, Held<Node<K, V>>>,
+    // the greatest number of pairs in a segment
+    width: usize,
+}
+
+/// Invariant: specs/Nodes.antt, IsWhole: each owner has a segment; they are cut for the width, separated and counted.
+impl<K: Ord, V> Model for Version<K, V> {
+    ghost use Rattle.shared_versions.specs.Sight.{Sight};
+
+    ghost Value = { Sight K V };
+
+    ghost use Rattle.shared_versions.specs.Nodes.{IsWhole, sight_of};
+
+    ghost view = { λ v. sight_of v.width v.directory };
+
+    ghost invariant = { λ v. IsWhole K.cmp v.width v.directory };
+
+    ghost size = { λ _. 0 };
+
+    ghost use Rattle.shared_versions.specs.Falls.{version_falls};
+
+    ghost size_decreases = { λ v h. version_falls K.Ord K.PartialEq K.PartialOrd v h.segments };
+}
+
+/// What stands in a slot: a version, a segment of versions, or the owners that are left of a version that is reclaimed.
+#[cycle(nodes)]
+pub enum Node<K: Ord, V> {
+    Version(Version<K, V>),
+    Segment(Segment<K, V>),
+    Rest(Rest<K, V>),
+}
+
+/// Owners of segments that a version had, which are yet to be given up.
+///
+/// Contracts see their slots and rounds, in order.
+#[cycle(nodes)]
+pub struct Rest<K: Ord, V> {
+    owners: Vec<Held<Node<K, V>>>,
+}
+
+/// Invariant: specs/Nodes.antt, OwnsSegment: each owner has a segment.
+impl<K: Ord, V> Model for Rest<K, V> {
+    ghost use Rattle.std.specs.List.{All};
+    ghost use Rattle.std.specs.Prelude.{List, map, ℕ};
+    ghost use Rattle.sdd_domain.specs.Holding.{told_of};
+
+    ghost Value = { List (ℕ × ℕ) };
+
+    ghost use Rattle.shared_versions.specs.Nodes.{OwnsSegment};
+
+    ghost view = { λ r. map told_of r.owners.items };
+
+    ghost invariant = { λ r. All OwnsSegment r.owners.items };
+
+    ghost size = { λ _. 0 };
+
+    ghost use Rattle.shared_versions.specs.Falls.{rest_falls};
+
+    ghost size_decreases = { λ r h. rest_falls K.Ord K.PartialEq K.PartialOrd r h };
+}
+
+impl<K: Ord, V> Version<K, V> {
+    /// The version of a directory. Condition: it is one, of segments of at most `width` pairs.
+    pub fn new(directory: Directory<K, Held<Node<K, V>>>, width: usize) -> Self
+        requires { IsWhole K.cmp width directory }
+        ensures { result ≡ sight_of width directory }
+    {
+        Version { directory, width }
+    }
+
+    /// The empty list, with number 0. It takes no memory.
+    pub fn empty(alloc: Global, width: usize) -> Self
+        ensures { result ≡ record { number = 0; width = width; blocks = []; separators = []; owners = [] } }
+    {
+        let directory = Directory::new(0, 0, Vec::new(alloc), Vec::new(alloc));
+        Version::new(directory, width)
+    }
+
+    /// Its directory.
+    pub fn directory(&self) -> &Directory<K, Held<Node<K, V>>>
+        ensures whole { IsWhole K.cmp self.now.width result.now }
+        ensures sight { sight_of self.now.width result.now ≡ self.now }
+    {
+        &self.directory
+    }
+
+    /// Its number: how many other versions were made before it.
+    pub fn number(&self) -> u64
+        ensures { result ≡ self.now.number }
+    {
+        self.directory.number()
+    }
+
+    /// The greatest number of pairs in a segment.
+    pub fn width(&self) -> usize
+        ensures { result ≡ self.now.width }
+    {
+        self.width
+    }
+
+    /// What every version meets. Nothing here runs.
+    pub fn laws(&self)
+        ensures { IsCut K.cmp self.now.width self.now.blocks self.now.separators }
+    {
+        // what is read here opens the version to the proof
+        let _width = self.width;
+    }
+
+    /// Where its memory is from.
+    pub(crate) fn allocator(&self) -> Global {
+        self.directory.allocator()
+    }
+
+    /// The owners of its segments: all that is left of it.
+    pub(crate) fn into_rest(self) -> Rest<K, V>
+    where
+        K: Drop,
+        ensures { result ≡ self.owners }
+    {
+        let Version {
+            directory,
+            width: _,
+        } = self;
+        Rest {
+            owners: directory.into_owners(),
+        }
+    }
+}
+
+impl<K: Ord, V> Rest<K, V> {
+    /// No owners. It takes no memory.
+    pub(crate) fn none(alloc: Global) -> Self
+        ensures { result ≡ [] }
+    {
+        Rest {
+            owners: Vec::new(alloc),
+        }
+    }
+
+    /// Takes the last owner out.
+    pub(crate) fn pop(&mut self) -> Option<Held<Node<K, V>>>
+        ensures { MatchOption result ((reverse self.old ≡ []) × (reverse self.new ≡ [])) (λ h. reverse self.old ≡ told_of h ∷ reverse self.new) }
+    {
+        last_of(&mut self.owners)
+    }
+
+    /// Lets it go. Condition: no owner is left.
+    pub(crate) fn end(self)
+        requires { reverse self ≡ [] }
+    {
+        let Rest { owners } = self;
+        owners.destroy_empty();
+    }
+}
+
+impl<K: Ord, V> Node<K, V> {
+    /// The version, or none where it isn't one.
+    pub fn version(&self) -> Option<&Version<K, V>>
+        ensures { option_copied result ≡ version_of self.now }
+    {
+        match self {
+            Node::Version(version) => Some(version),
+            _ => None,
+        }
+    }
+
+    /// The tree of a segment. Condition: it is one.
+    pub(crate) fn segment(&self) -> &TreeIndex<K, V>
+        requires { IsSegment (Some self.now) }
+        ensures pairs { result.now.pairs ≡ segment_pairs (Some self.now) }
+        ensures flat { result.now.depth ≤ 1 }
+    {
+        match self {
+            Node::Segment(segment) => segment.tree(),
+            _ => unreachable!(),
+        }
+    }
+}
+
+/// Takes the last owner out.
+fn last_of<T>(owners: &mut Vec<Held<T>>) -> Option<Held<T>>
+    ensures told { MatchOption result ((reverse (map told_of owners.old.items) ≡ []) × (reverse (map told_of owners.new.items) ≡ [])) (λ h. reverse (map told_of owners.old.items) ≡ told_of h ∷ reverse (map told_of owners.new.items)) }
+    ensures rest { owners.old.items ≡ owners.new.items ++ option_to_list result }
+{
+    owners.pop()
+}
