@@ -18,7 +18,7 @@ use Rattle.sdd_homes.proofs.HandLemmas.{has_item, owned_some, mine_some}
 use Rattle.sdd_homes.proofs.Totals.{home_in, total_put}
 use Rattle.sdd_homes.proofs.LyingLemmas.{takes_low}
 use Rattle.sdd_homes.proofs.PartLemmas as parts
-use Rattle.sdd_domain.specs.Items.{hand_of, Grip, Owns}
+use Rattle.sdd_domain.specs.Items.{owners_in_hand, Grip, Owns}
 use Rattle.sdd_domain.specs.Rule.{Shows}
 use Rattle.sdd_domain.specs.Plays.{own_home, begin_then}
 use Rattle.sdd_domain.specs.declared.board.Acting.{Acting}
@@ -41,7 +41,7 @@ module _ (S : Type 0) (IsIn : Content → S → Type 0) (plan : Plan) where
     own = r.items.owners id d o at in_hand
 
     pub stand : (o.slot < plan.sizes.slots) × (r.book.stage o.slot ≡ full o.item)
-    stand = let w = own in let g = r.items.hands o.item w.0 w.1 in let some_ = owned_some hand_of o.item s.views id d at in let mine = mine_some hand_of o.item d o in_hand refl in let count = (r.kept.0.owned o.item w.0 w.1).counted in
+    stand = let w = own in let g = r.items.hands o.item w.0 w.1 in let some_ = owned_some owners_in_hand o.item s.views id d at in let mine = mine_some owners_in_hand o.item d o in_hand refl in let count = (r.kept.0.owned o.item w.0 w.1).counted in
         let alive = (r.kept.0.owned o.item w.0 w.1).is_live (omega arith) in subst (λ z. (z < plan.sizes.slots) × (r.book.stage z ≡ full o.item)) w.3 (r.items.standing o.item w.0 w.1 (λ q e. let bad : Live ≡ Reclaimed q = sym alive ∙ e in absurd (cc)))
 
     low : p < n
@@ -58,7 +58,7 @@ module _ (S : Type 0) (IsIn : Content → S → Type 0) (plan : Plan) where
 
     -- an owner has one part, so the participant hasn't all of them
     pub few : c < 2 ^ 63
-    few = let f = r.items.parts.full_at o.slot o.item stand.0 stand.1 in let w = own in let g = r.items.hands o.item w.0 w.1 in let some_ = owned_some hand_of o.item s.views id d at in let mine = mine_some hand_of o.item d o in_hand refl in let count = (r.kept.0.owned o.item w.0 w.1).counted in
+    few = let f = r.items.parts.full_at o.slot o.item stand.0 stand.1 in let w = own in let g = r.items.hands o.item w.0 w.1 in let some_ = owned_some owners_in_hand o.item s.views id d at in let mine = mine_some owners_in_hand o.item d o in_hand refl in let count = (r.kept.0.owned o.item w.0 w.1).counted in
         let same = ap (λ (z : Item). z.owners) (same_at r.state.items o.item f.it w.0 f.here w.1) in let all = f.sum in let part_of_all = total_put n (r.book.share o.slot) p 0 low in omega arith
 
     pub found : (u : S) × (get_elem? s.homes (home n o.slot p) ≡ some (some u)) × IsIn (part o.round c) u

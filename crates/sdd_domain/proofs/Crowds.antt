@@ -14,7 +14,7 @@ use Rattle.sdd_homes.specs.declared.Owner.{Owner}
 use Rattle.sdd_homes.specs.declared.Lease.{Lease}
 use Rattle.sdd_homes.specs.Book.{Content, full, Lends, Apart}
 use Rattle.sdd_homes.proofs.HandLemmas.{owned_some, mine_some}
-use Rattle.sdd_domain.specs.Items.{hand_of, Owns, Distinct}
+use Rattle.sdd_domain.specs.Items.{owners_in_hand, Owns, Distinct}
 use Rattle.sdd_domain.specs.Rule.{Shows}
 use Rattle.sdd_domain.specs.declared.board.Acting.{Acting}
 use Rattle.sdd_domain.specs.declared.board.Plan.{Plan}
@@ -92,7 +92,7 @@ module _ (S : Type 0) (IsIn : Content → S → Type 0) (plan : Plan) where
     own = r.items.owners id d o at in_hand
 
     lives : own.0.state ≡ Live
-    lives = let w = own in let g = r.items.hands o.item w.0 w.1 in let some_ = owned_some hand_of o.item s.views id d at in let mine = mine_some hand_of o.item d o in_hand refl in let count = (r.kept.0.owned o.item w.0 w.1).counted in
+    lives = let w = own in let g = r.items.hands o.item w.0 w.1 in let some_ = owned_some owners_in_hand o.item s.views id d at in let mine = mine_some owners_in_hand o.item d o in_hand refl in let count = (r.kept.0.owned o.item w.0 w.1).counted in
         (r.kept.0.owned o.item w.0 w.1).is_live (omega arith)
 
     owner_stands : Stands o.slot o.item

@@ -19,7 +19,7 @@ use Rattle.sdd_homes.specs.Lying.{Lying}
 use Rattle.sdd_homes.proofs.PartLemmas as parts
 use Rattle.sdd_homes.proofs.HandLemmas.{owned_set}
 use Rattle.sdd_domain.specs.Layout.{cell_word, slot_word, claim_word, all_homes, all_extras}
-use Rattle.sdd_domain.specs.Items.{hand_of, Grip, Owns, Carries, Items}
+use Rattle.sdd_domain.specs.Items.{owners_in_hand, Grip, Owns, Carries, Items}
 use Rattle.sdd_domain.specs.Rule.{Shows}
 use Rattle.sdd_domain.specs.declared.board.Acting.{Acting}
 use Rattle.sdd_domain.specs.declared.board.Plan.{Plan}
@@ -95,7 +95,7 @@ module _ (S : Type 0) (IsIn : Content → S → Type 0) (plan : Plan) (s : State
       vacancies = vacancies_now;
       alone = r.items.alone;
       free = λ p low some_. rests_on r.items words' p low (get_or-set_other s.words word (claim_word p) v 0 (λ z. omega arith)) some_;
-      hands = λ i it at_i. let g = owned_set hand_of i s.views id d d' at in let old = r.items.hands i it at_i in omega arith;
+      hands = λ i it at_i. let g = owned_set owners_in_hand i s.views id d d' at in let old = r.items.hands i it at_i in omega arith;
       owners = λ j e o at_j has. set_all (λ _ e'. Has e'.hand o → Owns r.state.items r.book.slot_of o) s.views id d' (λ h. r.items.owners id d o at h) (λ j' e' _ e_at h. r.items.owners j' e' o e_at h) j e at_j has;
       given = r.items.given;
       waiting = waits_stay r.items id d' (λ w _ h. r.items.waiting id d w at kind h);

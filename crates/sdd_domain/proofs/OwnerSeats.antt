@@ -14,7 +14,7 @@ use Rattle.sdd_homes.specs.Book.{Content}
 use Rattle.sdd_homes.specs.Hands.{items_of}
 use Rattle.sdd_homes.specs.Reasons.{Loads, Why}
 use Rattle.sdd_homes.proofs.HandLemmas.{owned_set, owned_end}
-use Rattle.sdd_domain.specs.Items.{hand_of, Grip, Owns, IsWaiting, Carries}
+use Rattle.sdd_domain.specs.Items.{owners_in_hand, Grip, Owns, IsWaiting, Carries}
 use Rattle.sdd_domain.specs.Rule.{Acts, Shows}
 use Rattle.sdd_domain.specs.Views.{spent, holding}
 use Rattle.sdd_domain.specs.declared.board.Acting.{Acting}
@@ -44,7 +44,7 @@ module _ (S : Type 0) (IsIn : Content → S → Type 0) (plan : Plan) where
   parts_with id d o os kind idle first s r at = let left : Acting = record d { hand = os } in let right = holding o in let a = r.epochs.seats id d at kind in let c = r.items.seats id d at kind in let views' = set s.views id left ++ right ∷ [] in
       rehanded s r views'
       (record {
-        same = λ i. let g = owned_set hand_of i s.views id d left at in let e = owned_end hand_of i (set s.views id left) right in let mine = ap (λ (z : List Owner). steps.times i (items_of z)) first in omega arith;
+        same = λ i. let g = owned_set owners_in_hand i s.views id d left at in let e = owned_end owners_in_hand i (set s.views id left) right in let mine = ap (λ (z : List Owner). steps.times i (items_of z)) first in omega arith;
         owners = λ j e w at_j has. ⊎_elim
             (λ (h : get_elem? (set s.views id left) j ≡ some e). set_all (λ _ e'. Has e'.hand w → Owns r.state.items r.book.slot_of w) s.views id left (λ t. r.items.owners id d w at (subst (λ (z : List Owner). Has z w) (sym first) (inr t))) (λ j' e' _ here t. r.items.owners j' e' w here t) j e h has)
             (λ (t : right ≡ e). r.items.owners id d w at (subst (λ (z : List Owner). Has z w) (sym first) (⊎_elim (λ (k : o ≡ w). inl k) (λ t'. absurd t') (subst (λ (z : Acting). Has z.hand w) (sym t) has)))) (at_snoc (set s.views id left) right e j at_j);
@@ -68,7 +68,7 @@ module _ (S : Type 0) (IsIn : Content → S → Type 0) (plan : Plan) where
       let each : (P : ℕ → Acting → Type 0) → P id both → P other spent → ((j : ℕ) (e : Acting) → At s.views j e → P j e) → (j : ℕ) (e : Acting) → At views' j e → P j e = (λ P first last others. set_all P mid other spent last (λ j e _ here. set_all P s.views id both first (λ j' e' _ here'. others j' e' here') j e here)) in
       rehanded s r views'
       (record {
-        same = λ i. let g = owned_set hand_of i s.views id d both at in let h = owned_set hand_of i mid other w spent there in omega arith;
+        same = λ i. let g = owned_set owners_in_hand i s.views id d both at in let h = owned_set owners_in_hand i mid other w spent there in omega arith;
         owners = λ j e v at_j has. each (λ _ e'. Has e'.hand v → Owns r.state.items r.book.slot_of v) (λ h. ⊎_elim (λ (k : o ≡ v). subst (Owns r.state.items r.book.slot_of) k own) (λ (t : Has d.hand v). r.items.owners id d v at t) h) (λ t. absurd t) (λ j' e' here t. r.items.owners j' e' v here t) j e at_j has;
         seats = λ j e at_j k. each (λ _ e'. e'.kind ≡ 1 → Carries plan.sizes r.book e') (λ _. record { sizes_are = c.sizes_are; leases = c.leases; spare = c.spare; fills = c.fills; distinct = c.distinct; left = c.left }) (λ z. absurd (omega arith)) (λ j' e' here k'. r.items.seats j' e' here k') j e at_j k;
       })

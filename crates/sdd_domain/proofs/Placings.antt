@@ -39,7 +39,7 @@ use Rattle.sdd_homes.proofs.SpareLemmas.{Was, stays_kept}
 use Rattle.sdd_homes.proofs.PartLemmas as parts
 use Rattle.sdd_homes.proofs.Fillings as fillings
 use Rattle.sdd_domain.specs.Layout.{cell_word, slot_word, claim_word, packed, all_homes, all_extras}
-use Rattle.sdd_domain.specs.Items.{hand_of, code, Grip, Owns, HasState, IsWaiting, Carries, Items, IsGiven}
+use Rattle.sdd_domain.specs.Items.{owners_in_hand, code, Grip, Owns, HasState, IsWaiting, Carries, Items, IsGiven}
 use Rattle.sdd_domain.specs.Rule.{Runs, Shows}
 use Rattle.sdd_domain.specs.Plays.{placing, CanPlace, place_then}
 use Rattle.sdd_domain.specs.declared.board.Acting.{Acting}
@@ -142,7 +142,7 @@ module _ (S : Type 0) (IsIn : Content → S → Type 0) (plan : Plan) where
     -- the step
     enough : (j : ℕ) → Has holds j → (j < i0) × (times j holds ≤ (get_or r.state.items j no_item).hand)
     enough j h = let o = has_map (λ (z : Owner). z.item) d.hand j h in let w = r.items.owners id d o.0 at o.1 in let at_j = subst (λ z. At r.state.items z w.0) o.2 w.1 in
-        let hand = r.items.hands j w.0 at_j in let some_ = owned_some hand_of j s.views id d at in let read = ap (λ (z : Item). z.hand) (get_at r.state.items j no_item w.0 at_j) in let low = at_inside r.state.items j w.0 at_j in (low, omega arith)
+        let hand = r.items.hands j w.0 at_j in let some_ = owned_some owners_in_hand j s.views id d at in let read = ap (λ (z : Item). z.hand) (get_at r.state.items j no_item w.0 at_j) in let low = at_inside r.state.items j w.0 at_j in (low, omega arith)
 
     runs : Runs r.state core
     runs = let a = r.epochs.seats id d at kind in taken.one r.state (Place p f.round holds []) core (
@@ -198,13 +198,13 @@ module _ (S : Type 0) (IsIn : Content → S → Type 0) (plan : Plan) where
         (λ e. let now = ap (λ z. get_or words' (slot_word plan.sizes z) 0) e ∙ get_or-set_same s.words word 3 0 (omega arith) in absurd (omega arith))
         (λ ne. put_else r.book.stage k (full i0) m ne ∙ r.items.vacancies m lm (sym (get_or-set_other s.words word (slot_word plan.sizes m) 3 0 (λ e. ne (omega arith))) ∙ empty))
 
-    none_new : owned hand_of i0 s.views ≡ 0
-    none_new = owned_none hand_of i0 s.views (λ j e o at_j h. in_hand_there j e o at_j h)
+    none_new : owned owners_in_hand i0 s.views ≡ 0
+    none_new = owned_none owners_in_hand i0 s.views (λ j e o at_j h. in_hand_there j e o at_j h)
 
-    hands_now : (i : ℕ) (w : Item) → At core.items i w → w.hand ≡ owned hand_of i views'
-    hands_now = placed_all f.round holds r.state.items (λ i w. w.hand ≡ owned hand_of i views')
-        (let g = owned_set hand_of i0 s.views id d d' at in let z = none_new in let mine = owned_some hand_of i0 s.views id d at in let self = points_self i0 in omega arith)
-        (λ j it at_j. let g = owned_set hand_of j s.views id d d' at in let old = r.items.hands j it at_j in let mine = owned_some hand_of j s.views id d at in let other = points_other j i0 (λ e. older j it at_j (sym e)) in omega arith)
+    hands_now : (i : ℕ) (w : Item) → At core.items i w → w.hand ≡ owned owners_in_hand i views'
+    hands_now = placed_all f.round holds r.state.items (λ i w. w.hand ≡ owned owners_in_hand i views')
+        (let g = owned_set owners_in_hand i0 s.views id d d' at in let z = none_new in let mine = owned_some owners_in_hand i0 s.views id d at in let self = points_self i0 in omega arith)
+        (λ j it at_j. let g = owned_set owners_in_hand j s.views id d d' at in let old = r.items.hands j it at_j in let mine = owned_some owners_in_hand j s.views id d at in let other = points_other j i0 (λ e. older j it at_j (sym e)) in omega arith)
 
     owns_on : (o : Owner) → Owns r.state.items r.book.slot_of o → Owns core.items slot_of' o
     owns_on o w = (record w.0 { hand = w.0.hand - times o.item holds }, is_there o.item w.0 w.1, w.2, put_else r.book.slot_of i0 k o.item (older o.item w.0 w.1) ∙ w.3)

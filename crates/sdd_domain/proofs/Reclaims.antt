@@ -37,7 +37,7 @@ use Rattle.sdd_homes.proofs.ReclaimLemmas.{reclaimed_free}
 use Rattle.sdd_homes.proofs.PartLemmas as parts
 use Rattle.sdd_homes.proofs.Fillings as fillings
 use Rattle.sdd_domain.specs.Layout.{slot_word}
-use Rattle.sdd_domain.specs.Items.{hand_of, Grip, Owns, HasState, IsWaiting, Distinct, Carries, Items, IsGiven}
+use Rattle.sdd_domain.specs.Items.{owners_in_hand, Grip, Owns, HasState, IsWaiting, Distinct, Carries, Items, IsGiven}
 use Rattle.sdd_domain.specs.Rule.{Runs, Shows}
 use Rattle.sdd_domain.specs.Plays.{deed_home, reclaiming, opens_then}
 use Rattle.sdd_domain.specs.declared.board.Acting.{Acting}
@@ -176,8 +176,8 @@ module _ (S : Type 0) (IsIn : Content → S → Type 0) (plan : Plan) where
     reasons : (q : ℕ) (l : Lease) → Has (r.book.out q) l → Why r.state (Grip s.views) q l.item → Why core (Grip views') q l.item
     reasons q l _ = ⊎_elim (λ (t : Loads r.state q l.item). inl t) (λ (g : Grip s.views q l.item). inr (grip_set s.views id d d' at (λ _ j h. (h.0, h.1, h.2, has_behind hs d.hand j h.3)) q l.item g))
 
-    hands_now : (j : ℕ) (z : Item) → At core.items j z → z.hand ≡ owned hand_of j views'
-    hands_now j z at_j = let y = was_there j z at_j in let g = owned_set hand_of j s.views id d d' at in let h = r.items.hands j y.0 y.1 in let same = y.3 in let both = times_both j hs d.hand in let held = ap (times j) given.0 in omega arith
+    hands_now : (j : ℕ) (z : Item) → At core.items j z → z.hand ≡ owned owners_in_hand j views'
+    hands_now j z at_j = let y = was_there j z at_j in let g = owned_set owners_in_hand j s.views id d d' at in let h = r.items.hands j y.0 y.1 in let same = y.3 in let both = times_both j hs d.hand in let held = ap (times j) given.0 in omega arith
 
     owns_on : (o : Owner) → Owns r.state.items r.book.slot_of o → Owns core.items r.book.slot_of o
     owns_on o h = let z = is_there o.item h.0 h.1 in (z.0, z.1, z.2 ∙ h.2, h.3)
@@ -187,7 +187,7 @@ module _ (S : Type 0) (IsIn : Content → S → Type 0) (plan : Plan) where
 
     grips : Grips core (Grip views')
     grips q j g = let o = has_map (λ (z : Owner). z.item) g.1.hand j g.3.3 in let own = owners_now g.0 g.1 o.0 g.2 o.1 in let at_j = subst (λ m. At core.items m own.0) o.2 own.1 in
-        let h = hands_now j own.0 at_j in let some_ = owned_some hand_of j views' g.0 g.1 g.2 in let mine = mine_some hand_of j g.1 o.0 o.1 o.2 in (own.0, at_j, omega arith)
+        let h = hands_now j own.0 at_j in let some_ = owned_some owners_in_hand j views' g.0 g.1 g.2 in let mine = mine_some owners_in_hand j g.1 o.0 o.1 o.2 in (own.0, at_j, omega arith)
 
     free : (it'.owners ≡ 0) × ((q : ℕ) → ¬ Why core (Grip views') q i)
     free = reclaimed_free core (Grip views') kept grips i p it' here refl

@@ -25,7 +25,7 @@ use Rattle.sdd_homes.specs.Lying.{Lying}
 use Rattle.sdd_homes.proofs.SpareLemmas.{Was, stays_kept}
 use Rattle.sdd_homes.proofs.HandLemmas.{owned_set}
 use Rattle.sdd_domain.specs.Layout.{cell_word, slot_word, claim_word, all_homes, all_extras}
-use Rattle.sdd_domain.specs.Items.{hand_of, Grip, Owns, HasState, IsWaiting, Carries, Items, Distinct, IsGiven}
+use Rattle.sdd_domain.specs.Items.{owners_in_hand, Grip, Owns, HasState, IsWaiting, Carries, Items, Distinct, IsGiven}
 use Rattle.sdd_domain.specs.Rule.{Runs, Shows}
 use Rattle.sdd_domain.specs.declared.board.Acting.{Acting}
 use Rattle.sdd_domain.specs.declared.board.Plan.{Plan}
@@ -109,8 +109,8 @@ module _ (S : Type 0) (IsIn : Content → S → Type 0) (plan : Plan) (s : State
         (λ (h : (j ≡ i) × (it' ≡ w)). let g = r.items.given i it here (λ q e. let bad : Live ≡ Reclaimed q = sym c.alive ∙ e in absurd (cc)) in subst (λ (z : ℕ × Item). IsGiven core.items r.book.slot_of (r.book.held (r.book.slot_of z.0)) z.1) (λ m. (sym h.0 m, h.1 m)) (g.0 ∙ sym c.holds, λ o t. owns_on o (g.1 o t)))
         (λ (h : (j ≢ i) × At r.state.items j w). let g = r.items.given j w h.1 alive in (g.0, λ o t. owns_on o (g.1 o t))) (at_set r.state.items i j it' w at_j)
 
-    hands_now : (j : ℕ) (w : Item) → At core.items j w → w.hand ≡ owned hand_of j views'
-    hands_now j w at_j = let g = owned_set hand_of j s.views id d d' at in ⊎_elim
+    hands_now : (j : ℕ) (w : Item) → At core.items j w → w.hand ≡ owned owners_in_hand j views'
+    hands_now j w at_j = let g = owned_set owners_in_hand j s.views id d d' at in ⊎_elim
         (λ (h : (j ≡ i) × (it' ≡ w)). let old = r.items.hands j it (subst (λ q. At r.state.items q it) (sym h.0) here) in let e = ap (λ (z : Item). z.hand) h.1 in let own = subst (λ q. it'.hand + times q (items_of d.hand) ≡ it.hand + times q (items_of hand')) (sym h.0) c.hand_here in omega arith)
         (λ (h : (j ≢ i) × At r.state.items j w). let old = r.items.hands j w h.1 in let own = c.hand_else j h.0 in omega arith) (at_set r.state.items i j it' w at_j)
 

@@ -27,7 +27,7 @@ use Rattle.sdd_homes.proofs.OwnerLemmas.{counts}
 use Rattle.sdd_homes.proofs.PartLemmas as parts
 use Rattle.sdd_homes.proofs.SwapLemmas.{set_twice}
 use Rattle.sdd_domain.specs.Layout.{slot_word}
-use Rattle.sdd_domain.specs.Items.{hand_of, Grip, IsWaiting, Distinct}
+use Rattle.sdd_domain.specs.Items.{owners_in_hand, Grip, IsWaiting, Distinct}
 use Rattle.sdd_domain.specs.Rule.{Runs, Shows}
 use Rattle.sdd_domain.specs.Plays.{retiring, releasing_one, release_then}
 use Rattle.sdd_domain.specs.declared.board.Acting.{Acting}
@@ -94,13 +94,13 @@ module _ (S : Type 0) (IsIn : Content → S → Type 0) (plan : Plan) where
 
     -- the owner is of the item that is leased
     pub same_item : o.item ≡ l.item
-    same_item = let w = r.items.owners id d o at in_hand in let g = r.items.hands o.item w.0 w.1 in let some_ = owned_some hand_of o.item s.views id d at in let mine = mine_some hand_of o.item d o in_hand refl in
+    same_item = let w = r.items.owners id d o at in_hand in let g = r.items.hands o.item w.0 w.1 in let some_ = owned_some owners_in_hand o.item s.views id d at in let mine = mine_some owners_in_hand o.item d o in_hand refl in
         let count = (r.kept.0.owned o.item w.0 w.1).counted in let alive = (r.kept.0.owned o.item w.0 w.1).is_live (omega arith) in
         let stand = r.items.standing o.item w.0 w.1 (λ q e. let bad : Live ≡ Rattle.sdd_steps.specs.declared.item.ItemState.TheVariants.Reclaimed q = sym alive ∙ e in absurd (cc)) in
         let two : full o.item ≡ full l.item = sym stand.1 ∙ (ap r.book.stage (w.3 ∙ slot) ∙ y.is) in cc
 
     pub held : 0 < it.hand
-    held = let g = r.items.hands l.item it f.here in let some_ = owned_some hand_of l.item s.views id d at in let mine = mine_some hand_of l.item d o in_hand same_item in omega arith
+    held = let g = r.items.hands l.item it f.here in let some_ = owned_some owners_in_hand l.item s.views id d at in let mine = mine_some owners_in_hand l.item d o in_hand same_item in omega arith
 
     pub owned : 0 < it.owners
     owned = let h = held in let count = (r.kept.0.owned l.item it f.here).counted in omega arith

@@ -14,7 +14,7 @@ use Rattle.sdd_steps.proofs.Law.{starts}
 use Rattle.sdd_homes.specs.Reasons.{Loads}
 use Rattle.sdd_homes.proofs.HandLemmas.{owned_end}
 use Rattle.sdd_domain.specs.Views.{spent}
-use Rattle.sdd_domain.specs.Items.{hand_of, Grip}
+use Rattle.sdd_domain.specs.Items.{owners_in_hand, Grip}
 use Rattle.sdd_domain.proofs.Stirred.{stirred_none, stirred_left, grip_set, loads_others, seated}
 use Rattle.sdd_domain.proofs.Stirred as items
 use Rattle.sdd_homes.specs.Book.{Content}
@@ -83,7 +83,7 @@ module _ (S : Type 0) (IsIn : Content → S → Type 0) (plan : Plan) where
           (λ q l _ y. ⊎_elim (λ (t : Loads r.state q l.item). inl t) (λ (g : Grip s.views q l.item). inr (g.0, g.1, at_longer s.views (spent ∷ []) g.0 g.1 g.2, g.3)) y)
           (record { long = refl; high = λ _ _. refl; freed = λ _ _ _. inl refl })
           (record {
-            same = λ i. let e = owned_end hand_of i s.views spent in omega arith;
+            same = λ i. let e = owned_end owners_in_hand i s.views spent in omega arith;
             owners = λ j d o' e has. ⊎_elim (λ (h : get_elem? s.views j ≡ some d). r.items.owners j d o' h has) (λ (t : spent ≡ d). absurd (subst (λ (v : Acting). Has v.hand o') (sym t) has)) (at_snoc s.views spent d j e);
             seats = λ j d e kind. ⊎_elim (λ (h : get_elem? s.views j ≡ some d). r.items.seats j d h kind) (λ (t : spent ≡ d). nobody d _ t kind) (at_snoc s.views spent d j e);
           }) (λ j d w e kind has. ⊎_elim (λ (h : get_elem? s.views j ≡ some d). r.items.waiting j d w h kind has) (λ (t : spent ≡ d). nobody d _ t kind) (at_snoc s.views spent d j e)) r.items.leftovers;

@@ -30,7 +30,7 @@ use Rattle.sdd_homes.proofs.PartLemmas.{Alike}
 use Rattle.sdd_homes.proofs.SpareLemmas.{stays_kept, refilled, beside}
 use Rattle.sdd_homes.proofs.HandLemmas.{owned_set}
 use Rattle.sdd_domain.specs.Layout.{epoch_words, claim_word, cell_word, slot_word, all_homes, all_extras, bag_place}
-use Rattle.sdd_domain.specs.Items.{hand_of, Grasps, Grip, Owns, IsWaiting, IsLeftover, Leftovers, IsFilling, Rests, Carries, Items, Distinct}
+use Rattle.sdd_domain.specs.Items.{owners_in_hand, Grasps, Grip, Owns, IsWaiting, IsLeftover, Leftovers, IsFilling, Rests, Carries, Items, Distinct}
 use Rattle.sdd_domain.specs.Views.{older_waits}
 use Rattle.sdd_domain.specs.declared.board.Acting.{Acting}
 
@@ -149,7 +149,7 @@ module _ {S : Type 0} {IsIn : Content → S → Type 0} {sizes : Sizes} {state :
 
   -- views change, with the same owners in hand
   pub record Seated (views' : List Acting) : Type 0 where
-    pub same : (i : ℕ) → owned hand_of i views' ≡ owned hand_of i views
+    pub same : (i : ℕ) → owned owners_in_hand i views' ≡ owned owners_in_hand i views
     pub owners : (j : ℕ) (d : Acting) (o : Owner) → At views' j d → Has d.hand o → Owns state.items book.slot_of o
     pub seats : (j : ℕ) (d : Acting) → At views' j d → d.kind ≡ 1 → Carries sizes book d
 
@@ -161,7 +161,7 @@ module _ {S : Type 0} {IsIn : Content → S → Type 0} {sizes : Sizes} {state :
     pub long : length words' ≡ length words
     pub high : (i : ℕ) → epoch_words sizes.participants ≤ i → get_or words' i 0 ≡ get_or words i 0
     pub free : (p : ℕ) → p < sizes.participants → get_or words' (claim_word p) 0 ≢ 0 → Rests sizes (record book { left = left' }) words' p
-    pub same : (i : ℕ) → owned hand_of i views' ≡ owned hand_of i views
+    pub same : (i : ℕ) → owned owners_in_hand i views' ≡ owned owners_in_hand i views
     pub owners : (j : ℕ) (d : Acting) (o : Owner) → At views' j d → Has d.hand o → Owns state.items book.slot_of o
     pub waiting : (j : ℕ) (d : Acting) (w : Garbage) → At views' j d → d.kind ≡ 1 → Has d.waits w → IsWaiting core.items book.slot_of d.number w
     pub leftovers : Leftovers core.items book.slot_of left'
@@ -258,7 +258,7 @@ module _ {S : Type 0} {IsIn : Content → S → Type 0} {sizes : Sizes} {state :
   -- one view changes, with the same owners in hand
   pub seated : (id : ℕ) (d d' : Acting) → At views id d → d'.hand ≡ d.hand → (d'.kind ≡ 1 → Carries sizes book d') → Seated (set views id d')
   seated id d d' at hand carries = record {
-    same = λ i. let h = owned_set hand_of i views id d d' at in let e = ap (λ (os : List Owner). steps.times i (items_of os)) hand in omega arith;
+    same = λ i. let h = owned_set owners_in_hand i views id d d' at in let e = ap (λ (os : List Owner). steps.times i (items_of os)) hand in omega arith;
     owners = λ j e o at_j has. set_all (λ j' e'. Has e'.hand o → Owns state.items book.slot_of o) views id d' (λ h. r.owners id d o at (subst (λ (os : List Owner). Has os o) hand h)) (λ j' e' _ here h. r.owners j' e' o here h) j e at_j has;
     seats = λ j e at_j k. set_all (λ _ e'. e'.kind ≡ 1 → Carries sizes book e') views id d' carries (λ j' e' _ here k'. r.seats j' e' here k') j e at_j k;
   }
@@ -296,7 +296,7 @@ module _ {S : Type 0} {IsIn : Content → S → Type 0} {sizes : Sizes} {state :
       alone = r.alone;
       free = λ p low some_. let t = ⊎_elim (λ (z : get_or words' (claim_word p) 0 ≡ get_or words (claim_word p) 0). rests_on words' p low z some_) (λ (z : Rests sizes book words' p). z) (w.freed p low some_) in
           (l.others p (λ e. some_ (ap (λ z. get_or words' (claim_word z) 0) e ∙ l.claimed)) ∙ t.0, t.1, t.2, t.3);
-      hands = λ i it at_i. let h = owned_set hand_of i views id d d' at in let e = ap (λ (os : List Owner). steps.times i (items_of os)) hand in let g = r.hands i it at_i in omega arith;
+      hands = λ i it at_i. let h = owned_set owners_in_hand i views id d d' at in let e = ap (λ (os : List Owner). steps.times i (items_of os)) hand in let g = r.hands i it at_i in omega arith;
       owners = λ j e o at_j has. set_all (λ j' e'. Has e'.hand o → Owns state.items book.slot_of o) views id d' (λ h. r.owners id d o at (subst (λ (os : List Owner). Has os o) hand h)) (λ j' e' _ here h. r.owners j' e' o here h) j e at_j has;
       given = r.given;
       waiting = waits_stay id d' (λ w k has. subst (λ (z : Acting). Has z.waits w → IsWaiting state.items book.slot_of z.number w) (sym l.same) (r.waiting id d w at kind) has);

@@ -35,7 +35,7 @@ use Rattle.sdd_homes.proofs.SwapLemmas.{Handy, handy_swapped, handy_back, hand_s
 use Rattle.sdd_homes.proofs.SpareLemmas.{Was, exchanged, spare_of_user, spare_of_cell, spare_of_others, extra_of_others, swapped}
 use Rattle.sdd_homes.proofs.HandLemmas.{owned_set, owned_some, mine_some}
 use Rattle.sdd_domain.specs.Layout.{cell_word, slot_word, claim_word, state_word, all_homes, all_extras, bag_place, packed}
-use Rattle.sdd_domain.specs.Items.{hand_of, code, Grip, Owns, HasState, IsWaiting, Carries, Items}
+use Rattle.sdd_domain.specs.Items.{owners_in_hand, code, Grip, Owns, HasState, IsWaiting, Carries, Items}
 use Rattle.sdd_domain.specs.Owners.{item_of, slot_code, part_of, besides}
 use Rattle.sdd_domain.specs.Rule.{Runs, Shows}
 use Rattle.sdd_domain.specs.declared.board.Acting.{Acting}
@@ -137,7 +137,7 @@ module _ (S : Type 0) (IsIn : Content → S → Type 0) (plan : Plan) (s : State
   brought i e = let b = is_brought new os i e in (b.0, subst (λ (l : List Owner). Has l b.0) (sym brings) b.1, b.2, b.3)
 
   in_hand : (i : ℕ) → item_of new ≡ Some i → (it : Item) × At r.state.items i it × (0 < it.hand)
-  in_hand i e = let b = brought i e in let w = owns b.0 b.1 in let here = subst (λ z. At r.state.items z w.0) b.3 w.1 in let h = r.items.hands i w.0 here in let some_ = owned_some hand_of i s.views id d at in let mine = mine_some hand_of i d b.0 b.1 b.3 in (w.0, here, omega arith)
+  in_hand i e = let b = brought i e in let w = owns b.0 b.1 in let here = subst (λ z. At r.state.items z w.0) b.3 w.1 in let h = r.items.hands i w.0 here in let some_ = owned_some owners_in_hand i s.views id d at in let mine = mine_some owners_in_hand i d b.0 b.1 b.3 in (w.0, here, omega arith)
 
   runs : Runs r.state t
   runs = taken.one r.state (SwapCell d.number c (item_of new)) t (swaps_step r.state d.number c (item_of new) d.known (r.epochs.seats id d at kind).is ready o at_c (r.items.alone c o at_c) in_hand)
@@ -196,8 +196,8 @@ module _ (S : Type 0) (IsIn : Content → S → Type 0) (plan : Plan) (s : State
       ∙ (r.items.cell_words e x h.1 ∙ ap (λ z. packed z (code r.book.slot_of x)) (sym (spare_of_others r.items.spares c v (part_of new) lc lv ne e h.0 (λ z. omega arith)))))
       (at_set (names_of r.state.cells) c e (item_of new) x (subst (λ ns. At ns e x) (names_swapped r.state c (item_of new)) at_e))
 
-  hands_now : (i : ℕ) (it' : Item) → At t.items i it' → it'.hand ≡ owned hand_of i (set s.views id d')
-  hands_now i it' at_i = let w = back i it' at_i in let h = hand_swapped r.state c (item_of old) (item_of new) r.kept kept at_old i w.0 it' w.1 at_i in let g = r.items.hands i w.0 w.1 in let e = owned_set hand_of i s.views id d d' at in
+  hands_now : (i : ℕ) (it' : Item) → At t.items i it' → it'.hand ≡ owned owners_in_hand i (set s.views id d')
+  hands_now i it' at_i = let w = back i it' at_i in let h = hand_swapped r.state c (item_of old) (item_of new) r.kept kept at_old i w.0 it' w.1 at_i in let g = r.items.hands i w.0 w.1 in let e = owned_set owners_in_hand i s.views id d d' at in
       let mine : times i (items_of d.hand) ≡ points i (item_of new) + times i (items_of os) = ap (λ (l : List Owner). times i (items_of l)) brings ∙ besides_times i new os in let mine' = besides_times i old os in omega arith
 
   owners_now : (j : ℕ) (e : Acting) (w : Owner) → At (set s.views id d') j e → Has e.hand w → Owns t.items r.book.slot_of w

@@ -20,7 +20,7 @@ use Rattle.sdd_homes.specs.Book.{Content, bag, Book}
 use Rattle.sdd_homes.specs.Reasons.{Loads}
 use Rattle.sdd_homes.proofs.HandLemmas.{owned_set}
 use Rattle.sdd_domain.specs.Layout.{claim_word}
-use Rattle.sdd_domain.specs.Items.{hand_of, Grip, Owns, HasState, IsWaiting, IsLeftover, Leftovers, Distinct, Carries, Items}
+use Rattle.sdd_domain.specs.Items.{owners_in_hand, Grip, Owns, HasState, IsWaiting, IsLeftover, Leftovers, Distinct, Carries, Items}
 use Rattle.sdd_domain.specs.Rule.{Runs, Shows}
 use Rattle.sdd_domain.specs.Plays.{taking_over, take_over_then}
 use Rattle.sdd_domain.specs.declared.board.Acting.{Acting}
@@ -138,7 +138,7 @@ module _ (S : Type 0) (IsIn : Content → S → Type 0) (plan : Plan) where
       long = refl;
       high = λ _ _. refl;
       free = λ q low some_. let t = r.items.free q low some_ in (t.0, t.1, t.2, t.3 ∙ ap (bag plan.sizes.slots) (sym (put_else r.book.left p ws q (λ e. some_ (ap (λ z. get_or s.words (claim_word z) 0) e ∙ a.claimed)))));
-      same = λ k. let h = owned_set hand_of k s.views id d d' at in omega arith;
+      same = λ k. let h = owned_set owners_in_hand k s.views id d d' at in omega arith;
       owners = λ j e o at_j has. set_all (λ _ e'. Has e'.hand o → Owns r.state.items r.book.slot_of o) s.views id d' (λ h. r.items.owners id d o at h) (λ j' e' _ at_e h. r.items.owners j' e' o at_e h) j e at_j has;
       waiting = items.waits_set r.items core.items id d'
           (λ v _ has. ⊎_elim (λ (e : record w { age = 0 } ≡ v). subst (IsWaiting core.items r.book.slot_of p) e (it', here, refl, was_left.3, was_left.4)) (λ (t : Has d.waits v). waits_on p v (r.items.waiting id d v at kind t)) has)

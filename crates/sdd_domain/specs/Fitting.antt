@@ -31,8 +31,8 @@ module _ (table : TableId) (sizes : Sizes) (seat : TableId) where
   FitsNumber known told number = (seat ≡ table) × (sizes ≡ told) × (known ≡ told) × IsSized told × (all_words told ≤ table.words) × (number < told.participants)
 
   -- the table has the words of so many participants and cells, and of this slot
-  abbrev pub HasSlot : ℕ → ℕ → ℕ → Type 0
-  HasSlot participants cells slot = (seat ≡ table) × (sizes.participants ≡ participants) × (sizes.cells ≡ cells) × (participants ≤ 2 ^ 30) × (cells ≤ 2 ^ 30) × (slot < sizes.slots) × (sizes.slots ≤ 2 ^ 30) × (all_words sizes ≤ table.words)
+  abbrev pub HasSlotWord : ℕ → ℕ → ℕ → Type 0
+  HasSlotWord participants cells slot = (seat ≡ table) × (sizes.participants ≡ participants) × (sizes.cells ≡ cells) × (participants ≤ 2 ^ 30) × (cells ≤ 2 ^ 30) × (slot < sizes.slots) × (sizes.slots ≤ 2 ^ 30) × (all_words sizes ≤ table.words)
 
   -- the table has the words that tell epochs, of so many participants
   abbrev pub HasEpochs : ℕ → Type 0
@@ -48,12 +48,12 @@ module _ (table : TableId) (sizes : Sizes) (seat : TableId) where
 
 module _ (table seat : TableId) (d : Acting) where
   -- the seat is at the table, and acts for a participant, one of so many, that has taken this slot
-  abbrev pub HasTaken : ℕ → ℕ → Type 0
-  HasTaken participants slot = (seat ≡ table) × (0 < table.words) × (d.kind ≡ 1) × (d.sizes.participants ≡ participants) × (participants ≤ 2 ^ 30) × (d.slot ≡ slot) × (slot < 2 ^ 30)
+  abbrev pub FitsTaken : ℕ → ℕ → Type 0
+  FitsTaken participants slot = (seat ≡ table) × (0 < table.words) × (d.kind ≡ 1) × (d.sizes.participants ≡ participants) × (participants ≤ 2 ^ 30) × (d.slot ≡ slot) × (slot < 2 ^ 30)
 
   -- the same, where there are participants
-  abbrev pub HasTakenAll : ℕ → ℕ → Type 0
-  HasTakenAll participants slot = (seat ≡ table) × (0 < table.words) × (d.kind ≡ 1) × (d.sizes.participants ≡ participants) × (0 < participants) × (participants ≤ 2 ^ 30) × (d.slot ≡ slot) × (slot < 2 ^ 30)
+  abbrev pub FitsTakenAll : ℕ → ℕ → Type 0
+  FitsTakenAll participants slot = (seat ≡ table) × (0 < table.words) × (d.kind ≡ 1) × (d.sizes.participants ≡ participants) × (0 < participants) × (participants ≤ 2 ^ 30) × (d.slot ≡ slot) × (slot < 2 ^ 30)
 
   -- the seat is at the table, and acts for the participant of this number, one of so many
   abbrev pub ActsAmong : ℕ → ℕ → Type 0

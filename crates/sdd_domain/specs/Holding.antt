@@ -1,5 +1,5 @@
 -- what items hold
-use Rattle.std.specs.Prelude.{◌≡◌, ℕ, List, map, reverse, IsSomeAnd}
+use Rattle.std.specs.Prelude.{◌≡◌, ℕ, List, [], ◌∷◌, ◌++◌, map, reverse, IsSomeAnd}
 use Rattle.std.specs.Mem.{manually_drop_value}
 use Rattle.sdd_homes.specs.declared.Owner.{Owner}
 use Rattle.sdd_domain.specs.declared.held.Held.{Held}
@@ -19,3 +19,7 @@ IsHeldOf h x = IsSomeAnd h.part.part.seen.value (λ m. manually_drop_value m ≡
 -- how an item that gives these up from the last one on tells them
 abbrev pub all_told : {T : Type 0} → List (Held T) → List (ℕ × ℕ)
 all_told hs = reverse (map told_of hs)
+
+-- one such element more, behind the others
+abbrev pub IsLast : {X : Type 0} → List X → (X → Type 0) → List X → Type 0
+IsLast xs IsSuch ys = (x : _) × (ys ≡ xs ++ x ∷ []) × IsSuch x

@@ -21,8 +21,8 @@ use Rattle.sdd_homes.specs.Hands.{items_of, owned}
 use Rattle.sdd_domain.specs.Layout.{claim_word, cell_word, slot_word, packed, all_words, all_homes, all_extras, bag_place}
 use Rattle.sdd_domain.specs.declared.board.Acting.{Acting}
 
-abbrev pub hand_of : Acting → List Owner
-hand_of d = d.hand
+abbrev pub owners_in_hand : Acting → List Owner
+owners_in_hand d = d.hand
 
 -- 0 where a cell names no item, else one more than the slot of its item
 abbrev pub code : (ℕ → ℕ) → Option ℕ → ℕ
@@ -97,7 +97,7 @@ pub record Items {S : Type 0} (IsIn : Content → S → Type 0) (sizes : Sizes) 
   pub vacancies : (k : ℕ) → k < sizes.slots → slice_index words (slot_word sizes k) ≡ 0 → book.stage k ≡ vacant
   pub alone : (c : ℕ) (o : Cell) → At state.cells c o → o.holder ≡ None
   pub free : (p : ℕ) → p < sizes.participants → slice_index words (claim_word p) ≢ 0 → Rests sizes book words p
-  pub hands : (i : ℕ) (it : Item) → At state.items i it → it.hand ≡ owned hand_of i views
+  pub hands : (i : ℕ) (it : Item) → At state.items i it → it.hand ≡ owned owners_in_hand i views
   pub owners : (j : ℕ) (d : Acting) (o : Owner) → At views j d → Has d.hand o → Owns state.items book.slot_of o
   pub given : (i : ℕ) (it : Item) → At state.items i it → ((q : ℕ) → it.state ≢ Reclaimed q) → IsGiven state.items book.slot_of (book.held (book.slot_of i)) it
   pub waiting : (j : ℕ) (d : Acting) (w : Garbage) → At views j d → d.kind ≡ 1 → Has d.waits w → IsWaiting state.items book.slot_of d.number w

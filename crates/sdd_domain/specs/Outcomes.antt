@@ -15,82 +15,84 @@ use Rattle.sdd_domain.specs.declared.board.Acting.{Acting}
 use Rattle.sdd_domain.specs.declared.board.Home.{Home}
 use Rattle.sdd_domain.specs.declared.board.Home.TheVariants.{Blank}
 
--- what the seat brought for this word is exchanged for what the found word names
-abbrev pub Exchanges : {T : Type 0} → (Content → Home T → Type 0) → Me (Home T) Acting → ℕ → ℕ → Me (Home T) Acting → Type 0
-Exchanges {T} Lies m word found after = (new : Option Owner) (os : List Owner) (tail : List (ℕ × Home T)) → Brings Lies m new os word tail → GetsBack Lies m os found tail after
+module _ {T : Type 0} (IsIn : Content → Home T → Type 0) where
+  -- what the seat brought for this word is exchanged for what the found word names
+  abbrev pub Exchanges : Me (Home T) Acting → ℕ → ℕ → Me (Home T) Acting → Type 0
+  Exchanges m word found after = (new : Option Owner) (os : List Owner) (tail : List (ℕ × Home T)) → Brings IsIn m new os word tail → GetsBack IsIn m os found tail after
 
--- the parts of what is cloned go home, and no release is under way
-abbrev pub KeepsLease : {T : Type 0} → (Content → Home T → Type 0) → Me (Home T) Acting → Me (Home T) Acting → Type 0
-KeepsLease {T} Lies m after = (l : Lease) (ls : List Lease) (tail : List (ℕ × Home T)) → CanKeep Lies m l ls tail → after ≡ (record m.0 { leases = ls; releasing = 0 }, tail)
+  -- the parts of what is cloned go home, and no release is under way
+  abbrev pub KeepsLease : Me (Home T) Acting → Me (Home T) Acting → Type 0
+  KeepsLease m after = (l : Lease) (ls : List Lease) (tail : List (ℕ × Home T)) → CanKeep IsIn m l ls tail → after ≡ (record m.0 { leases = ls; releasing = 0 }, tail)
 
--- the release under way ends, where so many owners were found
-abbrev pub EndsRelease : {T : Type 0} → (Content → Home T → Type 0) → Me (Home T) Acting → ℕ → Me (Home T) Acting → Type 0
-EndsRelease {T} Lies m count after = (l : Lease) (ls : List Lease) (o : Owner) (os : List Owner) (tail : List (ℕ × Home T)) → CanEnd Lies m l ls o os tail → after ≡ (ended_release count l ls os m.0, tail)
+  -- the release under way ends, where so many owners were found
+  abbrev pub EndsRelease : Me (Home T) Acting → ℕ → Me (Home T) Acting → Type 0
+  EndsRelease m count after = (l : Lease) (ls : List Lease) (o : Owner) (os : List Owner) (tail : List (ℕ × Home T)) → CanEnd IsIn m l ls o os tail → after ≡ (ended_release count l ls os m.0, tail)
 
--- these parts go back to the home that was emptied
-abbrev pub PutsBack : {T : Type 0} → (Content → Home T → Type 0) → Me (Home T) Acting → ℕ → Home T → Me (Home T) Acting → Type 0
-PutsBack {T} Lies m at parts after = (l : Lease) (ls : List Lease) (tail : List (ℕ × Home T)) → HasEmptied m at l ls tail → Lies (part l.round l.count) parts → after ≡ (record m.0 { leases = ls; releasing = 0 }, tail)
+  -- these parts go back to the home that was emptied
+  abbrev pub PutsBack : Me (Home T) Acting → ℕ → Home T → Me (Home T) Acting → Type 0
+  PutsBack m at parts after = (l : Lease) (ls : List Lease) (tail : List (ℕ × Home T)) → HasEmptied m at l ls tail → IsIn (part l.round l.count) parts → after ≡ (record m.0 { leases = ls; releasing = 0 }, tail)
 
--- all homes of what is leased, behind two others, are refilled, and in front then
-abbrev pub RefillsBehind : {T : Type 0} → (Content → Home T → Type 0) → Me (Home T) Acting → Me (Home T) Acting → Type 0
-RefillsBehind {T} Lies m after = (k l : ℕ) → m.1 ≡ blanks (k ∷ l ∷ leased_homes m.0 m.0.leases) → (xs : List (ℕ × Home T)) × Refilled Lies m.0 m.0.leases xs (blanks (k ∷ l ∷ [])) × (after ≡ (m.0, xs))
+  -- all homes of what is leased, behind two others, are refilled, and in front then
+  abbrev pub RefillsBehind : Me (Home T) Acting → Me (Home T) Acting → Type 0
+  RefillsBehind m after = (k l : ℕ) → m.1 ≡ blanks (k ∷ l ∷ leased_homes m.0 m.0.leases) → (xs : List (ℕ × Home T)) × Refilled IsIn m.0 m.0.leases xs (blanks (k ∷ l ∷ [])) × (after ≡ (m.0, xs))
 
--- the part of an owner, or none, is in the spare slot, and this is the word for it
-abbrev pub BringsOne : {T : Type 0} → (Content → Home T → Type 0) → Me (Home T) Acting → ℕ → ℕ → Me (Home T) Acting → Type 0
-BringsOne {T} Lies m spare word after = (tail : List (ℕ × Home T)) → m.1 ≡ (own_spare m.0 spare, Blank) ∷ tail → (owner : Option Owner) × Brings Lies after owner m.0.hand word tail × (after.0 ≡ record m.0 { hand = besides owner m.0.hand })
+  -- the part of an owner, or none, is in the spare slot, and this is the word for it
+  abbrev pub BringsOne : Me (Home T) Acting → ℕ → ℕ → Me (Home T) Acting → Type 0
+  BringsOne m spare word after = (tail : List (ℕ × Home T)) → m.1 ≡ (own_spare m.0 spare, Blank) ∷ tail → (owner : Option Owner) × Brings IsIn after owner m.0.hand word tail × (after.0 ≡ record m.0 { hand = besides owner m.0.hand })
 
--- what this word named is taken out of the slot that is the spare one now
-abbrev pub TakesBack : {T : Type 0} → (Content → Home T → Type 0) → ℕ → Me (Home T) Acting → ℕ → Me (Home T) Acting → Type 0
-TakesBack {T} Lies word before y after = (m : Me (Home T) Acting) (os : List Owner) (tail : List (ℕ × Home T)) → GetsBack Lies m os word tail before → after ≡ (record m.0 { spare = y; hand = os }, (own_spare m.0 y, Blank) ∷ tail)
+  -- what this word named is taken out of the slot that is the spare one now
+  abbrev pub TakesBack : ℕ → Me (Home T) Acting → ℕ → Me (Home T) Acting → Type 0
+  TakesBack word before y after = (m : Me (Home T) Acting) (os : List Owner) (tail : List (ℕ × Home T)) → GetsBack IsIn m os word tail before → after ≡ (record m.0 { spare = y; hand = os }, (own_spare m.0 y, Blank) ∷ tail)
 
--- the spare slot is another one, empty, and all else with the seat is as it was
-abbrev pub HasSwapped : {T : Type 0} → Me (Home T) Acting → ℕ → ℕ → Me (Home T) Acting → Type 0
-HasSwapped {T} m spare y after = (tail : List (ℕ × Home T)) → m.1 ≡ (own_spare m.0 spare, Blank) ∷ tail → after ≡ (record m.0 { spare = y }, (own_spare m.0 y, Blank) ∷ tail)
+  -- the next home of the item that is placed has its parts
+  abbrev pub Fills : Me (Home T) Acting → Me (Home T) Acting → Type 0
+  Fills m after = (f : Filling) (c a : ℕ) (tail : List (ℕ × Home T)) → CanFill IsIn m f c a tail → after ≡ (filling_at m.0.slot (next_filled m.0 c a f) m.0, tail)
 
--- the next home of the item that is placed has its parts
-abbrev pub Fills : {T : Type 0} → (Content → Home T → Type 0) → Me (Home T) Acting → Me (Home T) Acting → Type 0
-Fills {T} Lies m after = (f : Filling) (c a : ℕ) (tail : List (ℕ × Home T)) → CanFill Lies m f c a tail → after ≡ (filling_at m.0.slot (next_filled m.0 c a f) m.0, tail)
+  -- the last item that waits is being reclaimed: its deed is out with the seat
+  abbrev pub TakesDeed : Me (Home T) Acting → Me (Home T) Acting → Type 0
+  TakesDeed m after = (w : Garbage) (ws : List Garbage) → m.0.waits ≡ ws ++ w ∷ [] → (hs : List Owner) × (u : Home T) × IsIn (deed w.round hs) u × (after ≡ (reclaiming w hs ws m.0, (deed_home m.0 w.slot, u) ∷ m.1))
 
--- the last item that waits is being reclaimed: its deed is out with the seat
-abbrev pub Opens : {T : Type 0} → (Content → Home T → Type 0) → Me (Home T) Acting → Me (Home T) Acting → Type 0
-Opens {T} Lies m after = (w : Garbage) (ws : List Garbage) → m.0.waits ≡ ws ++ w ∷ [] → (hs : List Owner) × (u : Home T) × Lies (deed w.round hs) u × (after ≡ (reclaiming w hs ws m.0, (deed_home m.0 w.slot, u) ∷ m.1))
+  -- the parts in the last home of the item that is reclaimed are out with the seat
+  abbrev pub TakesNext : Me (Home T) Acting → Me (Home T) Acting → Type 0
+  TakesNext m after = (f : Filling) → m.0.filling ≡ Some f → (a : ℕ) × (u : Home T) × IsIn (part f.round a) u × (f.left + a ≤ 2 ^ 63) × (f.filled ≡ 1 → f.left + a ≡ 2 ^ 63) × (after ≡ (filling_at m.0.slot (gathered a f) m.0, (home m.0.sizes.participants m.0.slot (f.filled - 1), u) ∷ m.1))
 
--- the parts in the last home of the item that is reclaimed are out with the seat
-abbrev pub TakesNext : {T : Type 0} → (Content → Home T → Type 0) → Me (Home T) Acting → Me (Home T) Acting → Type 0
-TakesNext {T} Lies m after = (f : Filling) → m.0.filling ≡ Some f → (a : ℕ) × (u : Home T) × Lies (part f.round a) u × (f.left + a ≤ 2 ^ 63) × (f.filled ≡ 1 → f.left + a ≡ 2 ^ 63) × (after ≡ (filling_at m.0.slot (gathered a f) m.0, (home m.0.sizes.participants m.0.slot (f.filled - 1), u) ∷ m.1))
+  -- the home that was emptied is back
+  abbrev pub GivesHome : Me (Home T) Acting → Me (Home T) Acting → Type 0
+  GivesHome m after = (f : Filling) (tail : List (ℕ × Home T)) → CanEmpty IsIn m f tail → after ≡ (filling_at m.0.slot (record f { out = m.0.sizes.participants }) m.0, tail)
 
--- the home that was emptied is back
-abbrev pub Empties : {T : Type 0} → (Content → Home T → Type 0) → Me (Home T) Acting → Me (Home T) Acting → Type 0
-Empties {T} Lies m after = (f : Filling) (tail : List (ℕ × Home T)) → CanEmpty Lies m f tail → after ≡ (filling_at m.0.slot (record f { out = m.0.sizes.participants }) m.0, tail)
+  -- these slots were in the bag that is out behind another home, with at least its room
+  abbrev pub HasLeft : Me (Home T) Acting → List ℕ → ℕ → Type 0
+  HasLeft m slots room = (k : ℕ) (u : Home T) (n : ℕ) (ws : List Garbage) (b : Home T) → IsIn (bag n ws) b → m.1 ≡ (k, u) ∷ (own_bag m.0, b) ∷ [] → (slots ≡ garbage_slots ws) × (n ≤ room) × (length ws ≤ n)
 
--- so many parts of the item are gathered, from its last home that had some
-abbrev pub Gathers : {T : Type 0} → Me (Home T) Acting → ℕ → ℕ → ℕ → ℕ → Me (Home T) Acting → Type 0
-Gathers {T} m slot at round count after = (f : Filling) → m.0.filling ≡ Some f → (round ≡ f.round) × (f.left + count ≤ 2 ^ 63) × (at ≡ 0 → f.left + count ≡ 2 ^ 63) × (after ≡ (filling_at slot (emptying at count f) m.0, m.1))
+module _ {T : Type 0} where
+  -- the spare slot is another one, empty, and all else with the seat is as it was
+  abbrev pub HasSwapped : Me (Home T) Acting → ℕ → ℕ → Me (Home T) Acting → Type 0
+  HasSwapped m spare y after = (tail : List (ℕ × Home T)) → m.1 ≡ (own_spare m.0 spare, Blank) ∷ tail → after ≡ (record m.0 { spare = y }, (own_spare m.0 y, Blank) ∷ tail)
 
--- all parts of the item are gathered
-abbrev pub GathersAll : {T : Type 0} → Me (Home T) Acting → ℕ → ℕ → ℕ → Me (Home T) Acting → Type 0
-GathersAll {T} m slot participants round after = (f : Filling) → m.0.filling ≡ Some f → (g : Filling) × (g.filled ≡ 0) × (g.out ≡ participants) × (round ≡ f.round) × (after ≡ (filling_at slot g m.0, m.1))
+  -- so many parts of the item are gathered, from its last home that had some
+  abbrev pub Gathers : Me (Home T) Acting → ℕ → ℕ → ℕ → ℕ → Me (Home T) Acting → Type 0
+  Gathers m slot at round count after = (f : Filling) → m.0.filling ≡ Some f → (round ≡ f.round) × (f.left + count ≤ 2 ^ 63) × (at ≡ 0 → f.left + count ≡ 2 ^ 63) × (after ≡ (filling_at slot (emptying at count f) m.0, m.1))
 
--- the last item that waits is reclaimed, and the owners that it held are in hand
-abbrev pub Reclaims : {T : Type 0} → Me (Home T) Acting → ℕ → List (ℕ × ℕ) → Me (Home T) Acting → Type 0
-Reclaims {T} m slot held after = (w : Garbage) (ws : List Garbage) → m.0.waits ≡ ws ++ w ∷ [] → (hs : List Owner) × (held ≡ map told hs) × (after ≡ (record m.0 { hand = hs ++ m.0.hand; slot = slot; waits = ws }, m.1))
+  -- all parts of the item are gathered
+  abbrev pub GathersAll : Me (Home T) Acting → ℕ → ℕ → ℕ → Me (Home T) Acting → Type 0
+  GathersAll m slot participants round after = (f : Filling) → m.0.filling ≡ Some f → (g : Filling) × (g.filled ≡ 0) × (g.out ≡ participants) × (round ≡ f.round) × (after ≡ (filling_at slot g m.0, m.1))
 
--- these slots were in the bag that is out behind another home, with at least its room
-abbrev pub HasLeft : {T : Type 0} → (Content → Home T → Type 0) → Me (Home T) Acting → List ℕ → ℕ → Type 0
-HasLeft {T} Lies m slots room = (k : ℕ) (u : Home T) (n : ℕ) (ws : List Garbage) (b : Home T) → Lies (bag n ws) b → m.1 ≡ (k, u) ∷ (own_bag m.0, b) ∷ [] → (slots ≡ garbage_slots ws) × (n ≤ room) × (length ws ≤ n)
+  -- the last item that waits is reclaimed, and the owners that it held are in hand
+  abbrev pub ReclaimsLast : Me (Home T) Acting → ℕ → List (ℕ × ℕ) → Me (Home T) Acting → Type 0
+  ReclaimsLast m slot held after = (w : Garbage) (ws : List Garbage) → m.0.waits ≡ ws ++ w ∷ [] → (hs : List Owner) × (held ≡ map told hs) × (after ≡ (record m.0 { hand = hs ++ m.0.hand; slot = slot; waits = ws }, m.1))
 
--- the bag that is out behind another home is taken
-abbrev pub TakesBag : {T : Type 0} → Me (Home T) Acting → Me (Home T) Acting → Type 0
-TakesBag {T} m after = (k : ℕ) (u b : Home T) → m.1 ≡ (k, u) ∷ (own_bag m.0, b) ∷ [] → after ≡ (m.0, (k, u) ∷ (own_bag m.0, Blank) ∷ [])
+  -- the bag that is out behind another home is taken
+  abbrev pub TakesBag : Me (Home T) Acting → Me (Home T) Acting → Type 0
+  TakesBag m after = (k : ℕ) (u b : Home T) → m.1 ≡ (k, u) ∷ (own_bag m.0, b) ∷ [] → after ≡ (m.0, (k, u) ∷ (own_bag m.0, Blank) ∷ [])
 
--- all homes of the item have their parts, and one part is left
-abbrev pub FillsAll : {T : Type 0} → Me (Home T) Acting → ℕ → ℕ → ℕ → Me (Home T) Acting → Type 0
-FillsAll {T} m slot participants round after = (f : Filling) × (f.filled ≡ participants) × (f.out ≡ participants) × (f.left ≡ 1) × (f.round ≡ round) × (after ≡ (filling_at slot f m.0, m.1))
+  -- all homes of the item have their parts, and one part is left
+  abbrev pub FillsAll : Me (Home T) Acting → ℕ → ℕ → ℕ → Me (Home T) Acting → Type 0
+  FillsAll m slot participants round after = (f : Filling) × (f.filled ≡ participants) × (f.out ≡ participants) × (f.left ≡ 1) × (f.round ≡ round) × (after ≡ (filling_at slot f m.0, m.1))
 
--- the home of the item at this place is the next one to fill, and so many parts are left
-abbrev pub FillsAt : {T : Type 0} → Me (Home T) Acting → ℕ → ℕ → ℕ → ℕ → Type 0
-FillsAt {T} m at participants count round = (f : Filling) × (m.0.filling ≡ Some f) × (f.filled ≡ at) × (at < participants) × (f.out ≡ participants) × (f.left ≡ count) × ((at ≡ 0) ⊎ (round ≡ f.round))
+  -- the home of the item at this place is the next one to fill, and so many parts are left
+  abbrev pub FillsAt : Me (Home T) Acting → ℕ → ℕ → ℕ → ℕ → Type 0
+  FillsAt m at participants count round = (f : Filling) × (m.0.filling ≡ Some f) × (f.filled ≡ at) × (at < participants) × (f.out ≡ participants) × (f.left ≡ count) × ((at ≡ 0) ⊎ (round ≡ f.round))
 
--- where two slots and the homes of what is leased were out, empty, they are so now
-abbrev pub KeepsOut : {T : Type 0} → Me (Home T) Acting → Me (Home T) Acting → Type 0
-KeepsOut {T} m after = (k l : ℕ) → has_all is_blank (k ∷ l ∷ leased_homes m.0 m.0.leases) m.1 ≡ true → has_all is_blank (k ∷ l ∷ leased_homes after.0 after.0.leases) after.1 ≡ true
+  -- where two slots and the homes of what is leased were out, empty, they are so now
+  abbrev pub KeepsOut : Me (Home T) Acting → Me (Home T) Acting → Type 0
+  KeepsOut m after = (k l : ℕ) → has_all is_blank (k ∷ l ∷ leased_homes m.0 m.0.leases) m.1 ≡ true → has_all is_blank (k ∷ l ∷ leased_homes after.0 after.0.leases) after.1 ≡ true

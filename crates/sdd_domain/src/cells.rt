@@ -8,7 +8,7 @@ ghost use Rattle.sdd_homes.specs.declared.Owner.{Owner};
 ghost use Rattle.sdd_steps.specs.State.{Has};
 ghost use Rattle.sdd_domain.specs.Outcomes.{Exchanges, KeepsLease, EndsRelease};
 ghost use Rattle.sdd_domain.specs.Leases.{HasFew, ReleasesOne};
-ghost use Rattle.sdd_domain.specs.Fitting.{FitsSlot, FitsCell, HasSlot};
+ghost use Rattle.sdd_domain.specs.Fitting.{FitsSlot, FitsCell, HasSlotWord};
 ghost use Rattle.sdd_domain.specs.Contents.{IsIn};
 ghost use Rattle.sdd_domain.specs.Layout.{claim_word, all_words, IsSized};
 ghost use Rattle.sdd_domain.specs.Plays.{Scans, load_then, HasLoaded, CanClose, ending, end_all_then, Brings, swap_then, cloning, IsAlike, clone_then, release_then, HasBegun, begin_then, CanEnd, end_release_then, CanKeep, keep_then, exchange_then};
@@ -194,7 +194,7 @@ pub(crate) fn release_owner<T: Holds>(
     cells: usize,
     slot: usize,
 ) -> u64
-    requires table { HasSlot words.now.table_id words.now.key.sizes place.old.table_id participants cells slot }
+    requires table { HasSlotWord words.now.table_id words.now.key.sizes place.old.table_id participants cells slot }
     requires ready { (place.old.me.0.kind ≡ 1) × (is_ready place.old.me.0.known ≡ true) × (place.old.me.0.releasing ≡ 0) }
     requires owner { (l : Lease) × (o : Owner) × (os : List Owner) × Has place.old.me.0.leases l × (l.slot ≡ slot) × (o.slot ≡ l.slot) × (place.old.me.0.hand ≡ o ∷ os) }
     ensures seat { (place.new.table_id ≡ place.old.table_id) × (place.new.id ≡ place.old.id) }
@@ -215,7 +215,7 @@ pub(crate) fn end_release<T: Holds>(
     cells: usize,
     slot: usize,
 ) -> u64
-    requires table { HasSlot words.now.table_id words.now.key.sizes place.old.table_id participants cells slot }
+    requires table { HasSlotWord words.now.table_id words.now.key.sizes place.old.table_id participants cells slot }
     requires ready { (place.old.me.0.kind ≡ 1) × (is_ready place.old.me.0.known ≡ true) }
     requires begun { (l : Lease) × (ls : List Lease) × (o : Owner) × (os : List Owner) × (tail : List (ℕ × Home T)) × (l.slot ≡ slot) × CanEnd (IsIn T.holds) place.old.me l ls o os tail }
     ensures seat { (place.new.table_id ≡ place.old.table_id) × (place.new.id ≡ place.old.id) }

@@ -10,8 +10,8 @@ use crate::owners::part_with;
 use crate::shared::Shared;
 use parted::One;
 
-/// An owner that an item holds, or that is on its way into one or out of it: in the hand of a participant, whose seat is
-/// its own. It must be spent by `own`. Whoever has it reads its item, without any step on a word of the place.
+/// An owner that an item holds, or that is on its way into one or out of it and in the hand of a participant. It must be
+/// spent by `own`. Whoever has it reads its item, without any step on a word of the place.
 pub struct Held<T> {
     pub(crate) slot: usize,
     pub(crate) part: One<Stored<T>>,

@@ -1,8 +1,8 @@
 //! Owners on their way into an item that holds many, and out of it.
 
 ghost use Rattle.std.specs.Prelude.{◌≡◌, ◌+◌, ◌<◌, [], IfSome, IfNone, vec_len, vec_capacity};
-ghost use Rattle.sdd_domain.specs.Holding.{all_told};
-ghost use Rattle.sdd_domain.specs.Sharing.{kept_in};
+ghost use Rattle.sdd_domain.specs.Holding.{all_told, IsLast};
+ghost use Rattle.sdd_domain.specs.Sharing.{kept_in, IsHeldAs, IsOwnedAs};
 ghost use Rattle.sdd_domain.specs.Tokens.{place_of, home_of, hand_of, IsSameButHand};
 
 use crate::domain::Domain;
@@ -26,6 +26,7 @@ pub fn hold_last<T: Holds>(
     ensures hand { hand_of local.new ≡ all_told held.new.items }
     ensures room { vec_capacity held.new ≡ vec_capacity held.old }
     ensures more { vec_len held.new ≡ vec_len held.old + 1 }
+    ensures last { IsLast held.old.items (IsHeldAs owner) held.new.items }
     ensures same { IsSameButHand local.old local.new }
 {
     held.push_reserved(owner.hold(domain, local));
@@ -41,6 +42,7 @@ pub fn own_last<T: Holds>(
     requires hand { hand_of local.old ≡ all_told held.old.items }
     ensures home { IfSome result (λ s. kept_in s ≡ (place_of domain.now).0) }
     ensures none { IfNone result (held.new.items ≡ []) }
+    ensures last { IfSome result (λ s. IsLast held.new.items (IsOwnedAs s) held.old.items) }
     ensures hand { hand_of local.new ≡ all_told held.new.items }
     ensures same { IsSameButHand local.old local.new }
 {

@@ -7,7 +7,7 @@ ghost use Rattle.sdd_steps.specs.Steps.{is_ready};
 ghost use Rattle.sdd_homes.specs.declared.Filling.{Filling};
 ghost use Rattle.sdd_homes.specs.declared.Owner.{Owner};
 ghost use Rattle.sdd_domain.specs.Outcomes.{FillsAll, FillsAt};
-ghost use Rattle.sdd_domain.specs.Fitting.{FitsFree, FitsSearch, HasTaken, HasTakenAll};
+ghost use Rattle.sdd_domain.specs.Fitting.{FitsFree, FitsSearch, FitsTaken, FitsTakenAll};
 ghost use Rattle.sdd_domain.specs.Contents.{IsIn};
 ghost use Rattle.sdd_domain.specs.Holding.{told};
 ghost use Rattle.sdd_domain.specs.Plays.{IsJustClaimed, filling_at, next_filled, owning, placing};
@@ -40,7 +40,7 @@ fn fill_home<T: Holds>(
     all: &mut Part<Stored<T>>,
     count: u64,
 )
-    requires table { HasTaken words.now.table_id place.old.table_id place.old.me.0 participants slot }
+    requires table { FitsTaken words.now.table_id place.old.table_id place.old.me.0 participants slot }
     requires filling { FillsAt place.old.me at participants all.old.life.count all.old.life.id }
     requires parts { (0 < count) × (count < all.old.life.count) × (all.old.life.count ≤ 2 ^ 63) × IsSome all.old.seen.value }
     ensures seat { (place.new.table_id ≡ place.old.table_id) × (place.new.id ≡ place.old.id) }
@@ -65,7 +65,7 @@ fn fill_homes<T: Holds>(
     slot: usize,
     all: &mut Part<Stored<T>>,
 )
-    requires table { HasTakenAll words.now.table_id place.old.table_id place.old.me.0 participants slot }
+    requires table { FitsTakenAll words.now.table_id place.old.table_id place.old.me.0 participants slot }
     requires filling { (f : Filling) × (place.old.me.0.filling ≡ Some f) × (f.filled ≡ 0) × (f.out ≡ participants) × (f.left ≡ 2 ^ 63) }
     requires parts { (all.old.life.count ≡ 2 ^ 63) × IsSome all.old.seen.value }
     ensures seat { (place.new.table_id ≡ place.old.table_id) × (place.new.id ≡ place.old.id) }

@@ -5,9 +5,12 @@ ghost use Rattle.std.specs.Prelude.{[]};
 use crate::held::Held;
 use crate::holds::Holds;
 
-/// A value as an item: it holds nothing.
-#[derive(Drop)]
-pub struct Plain<T>(pub T);
+/// A value that holds no owners, whatever its type. A place of such values is a `Domain<Plain<V>>`, which needs no impl of
+/// `Holds` for `V`.
+#[derive(Clone, Copy, PartialEq, Eq, Debug, Drop)]
+pub struct Plain<T> {
+    pub value: T,
+}
 
 impl<T: Drop> Holds for Plain<T> {
     ghost holds = { λ _. [] };

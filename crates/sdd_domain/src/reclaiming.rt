@@ -6,9 +6,9 @@ ghost use Rattle.sdd_homes.specs.declared.Filling.{Filling};
 ghost use Rattle.std.specs.VecDeque.{deque_capacity};
 ghost use Rattle.sdd_homes.specs.declared.Garbage.{Garbage};
 ghost use Rattle.sdd_homes.specs.declared.Owner.{Owner};
-ghost use Rattle.sdd_domain.specs.Outcomes.{Gathers, GathersAll, Reclaims};
+ghost use Rattle.sdd_domain.specs.Outcomes.{Gathers, GathersAll, ReclaimsLast};
 ghost use Rattle.sdd_domain.specs.Ledgers.{WaitsIn};
-ghost use Rattle.sdd_domain.specs.Fitting.{FitsSizes, HasTaken, HasTakenAll};
+ghost use Rattle.sdd_domain.specs.Fitting.{FitsSizes, FitsTaken, FitsTakenAll};
 ghost use Rattle.sdd_domain.specs.Holding.{told, told_of};
 ghost use Rattle.sdd_domain.specs.Leases.{IsFirst, IsAtRest};
 
@@ -31,7 +31,7 @@ fn gather_home<T: Holds>(
     slot: usize,
     at: usize,
 ) -> Part<Stored<T>>
-    requires table { HasTaken words.now.table_id place.old.table_id place.old.me.0 participants slot }
+    requires table { FitsTaken words.now.table_id place.old.table_id place.old.me.0 participants slot }
     requires filled { (f : Filling) × (place.old.me.0.filling ≡ Some f) × (f.filled ≡ at + 1) × (at < participants) × (f.out ≡ participants) }
     ensures seat { (place.new.table_id ≡ place.old.table_id) × (place.new.id ≡ place.old.id) }
     ensures gathered { Gathers place.old.me slot at result.life.id result.life.count place.new.me }
@@ -50,7 +50,7 @@ fn gather_all<T: Holds>(
     participants: usize,
     slot: usize,
 ) -> Part<Stored<T>>
-    requires table { HasTakenAll words.now.table_id place.old.table_id place.old.me.0 participants slot }
+    requires table { FitsTakenAll words.now.table_id place.old.table_id place.old.me.0 participants slot }
     requires filled { (f : Filling) × (place.old.me.0.filling ≡ Some f) × (f.filled ≡ participants) × (f.out ≡ participants) × (f.left ≡ 0) }
     ensures seat { (place.new.table_id ≡ place.old.table_id) × (place.new.id ≡ place.old.id) }
     ensures gathered { GathersAll place.old.me slot participants result.life.id place.new.me }
@@ -75,7 +75,7 @@ pub(crate) fn reclaim<T: Holds>(
     requires ready { (place.old.me.0.kind ≡ 1) × (is_ready place.old.me.0.known ≡ true) × (place.old.me.0.filling ≡ None) }
     requires waits { (w : Garbage) × (ws : List Garbage) × (place.old.me.0.waits ≡ ws ++ w ∷ []) × (w.age ≡ 3) × (w.slot ≡ slot) }
     ensures seat { (place.new.table_id ≡ place.old.table_id) × (place.new.id ≡ place.old.id) }
-    ensures reclaimed { Reclaims place.old.me slot (T.holds result) place.new.me }
+    ensures reclaimed { ReclaimsLast place.old.me slot (T.holds result) place.new.me }
 {
     slots::open(words, place);
     let own = slot * (sizes.participants + 1) + sizes.participants;

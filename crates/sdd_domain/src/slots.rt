@@ -5,7 +5,7 @@
 ghost use Rattle.std.specs.Prelude.{◌≡◌, ℕ, ◌+◌, ◌*◌, ◌<◌, ◌≤◌, ◌++◌, ◌∷◌, [], true, List, Some, None, IsTrue, IsFalse};
 ghost use Rattle.sdd_steps.specs.Steps.{is_ready};
 ghost use Rattle.sdd_homes.specs.declared.Filling.{Filling};
-ghost use Rattle.sdd_domain.specs.Outcomes.{Fills, Opens, TakesNext, Empties};
+ghost use Rattle.sdd_domain.specs.Outcomes.{Fills, GivesHome, TakesDeed, TakesNext};
 ghost use Rattle.sdd_domain.specs.Fitting.{FitsSlot};
 ghost use Rattle.sdd_domain.specs.Contents.{IsIn};
 ghost use Rattle.sdd_domain.specs.Layout.{all_words, IsSized};
@@ -144,7 +144,7 @@ pub(crate) fn open<T: Holds>(words: &Words<T>, place: &mut Place<T>)
     requires waits { (w : Garbage) × (ws : List Garbage) × (place.old.me.0.waits ≡ ws ++ w ∷ []) × (w.age ≡ 3) }
     ensures seat { (place.new.table_id ≡ place.old.table_id) × (place.new.id ≡ place.old.id) }
     ensures inside { (w : Garbage) (ws : List Garbage) → place.old.me.0.waits ≡ ws ++ w ∷ [] → w.slot < place.old.me.0.sizes.slots }
-    ensures opened { Opens (IsIn T.holds) place.old.me place.new.me }
+    ensures opened { TakesDeed (IsIn T.holds) place.old.me place.new.me }
 {
     let _ = words.load::<OnOpen>(place, 0);
 }
@@ -165,7 +165,7 @@ pub(crate) fn empty<T: Holds>(words: &Words<T>, place: &mut Place<T>)
     requires table { (place.old.table_id ≡ words.now.table_id) × (0 < words.now.table_id.words) }
     requires emptied { (place.old.me.0.kind ≡ 1) × ((f : Filling) × (tail : List (ℕ × Home T)) × CanEmpty (IsIn T.holds) place.old.me f tail) }
     ensures seat { (place.new.table_id ≡ place.old.table_id) × (place.new.id ≡ place.old.id) }
-    ensures given { Empties (IsIn T.holds) place.old.me place.new.me }
+    ensures given { GivesHome (IsIn T.holds) place.old.me place.new.me }
 {
     let _ = words.load::<OnEmpty>(place, 0);
 }

@@ -15,8 +15,8 @@ use Rattle.shared_versions.specs.declared.node.Node.{Node}
 use Rattle.shared_versions.specs.declared.node.Node.TheVariants as nodes
 
 -- the item that an owner reads
-abbrev pub item_of : {T : Type 0} → Held T → Option T
-item_of h = option_map manually_drop_value h.part.part.seen.value
+abbrev pub item_held : {T : Type 0} → Held T → Option T
+item_held h = option_map manually_drop_value h.part.part.seen.value
 
 module _ {K V : Type 0} where
   -- the pairs of a segment
@@ -40,10 +40,10 @@ module _ {K V : Type 0} where
 
   -- an owner has a segment, with these pairs
   abbrev pub OwnsSegment : Held (Node K V) → Type 0
-  OwnsSegment h = IsSegment (item_of h)
+  OwnsSegment h = IsSegment (item_held h)
 
   abbrev pub owned_pairs : Held (Node K V) → List (K × V)
-  owned_pairs h = segment_pairs (item_of h)
+  owned_pairs h = segment_pairs (item_held h)
 
   abbrev pub sight_of : ℕ → Directory K (Held (Node K V)) → Sight K V
   sight_of s d = record { number = d.number; width = s; blocks = blocks_at owned_pairs d; separators = d.separators.items; owners = map told_of (segment_owners d) }
