@@ -22,7 +22,9 @@ use crate::query::{Answer, Query};
 use crate::replay::replay;
 use crate::seq::Seq;
 use crate::session::Session;
-use crate::transaction::{Audit, Receipt, Recorded, Transaction, copied_reads, copied_replies};
+use crate::transaction::{
+    Audit, Prepared, Receipt, Recorded, Transaction, copied_replies, prepare,
+};
 use crate::version_view::{Nearby, Walk, value_in_counted};
 use std::alloc::{AllocError, Global};
 use std::marker::Model;
@@ -258,7 +260,7 @@ impl<K: Clone + Ord, V: Clone + Eq, const S: usize> LocalIndex<K, V, S> {
             return Err(Refused { cause, writes });
         }
         let number = self.next_number();
-        let Ok(prepared) = self.prepare(reads, writes.len()) else {
+        let Ok(prepared) = prepare(self.alloc, reads, writes.len()) else {
             let cause = Cause::Memory;
             return Err(Refused { cause, writes });
         };
@@ -430,24 +432,6 @@ impl<K: Clone + Ord, V: Clone + Eq, const S: usize> LocalIndex<K, V, S> {
         self.history.len() as u64 + 1
     }
 
-    // What a commit adds to the history: copies of its reads, and room for so many replies.
-    fn prepare(
-        &self,
-        reads: &[Recorded<K, V>],
-        replies: usize,
-    ) -> Result<Prepared<K, V>, AllocError>
-        requires keys { ClonesAreSame K.is_clone }
-        requires values { ClonesAreSame V.is_clone }
-        ensures reads { IfOk result (λ p. p.reads ≡ reads.now) }
-        ensures empty { IfOk result (λ p. p.replies.items ≡ []) }
-        ensures room { IfOk result (λ p. replies ≤ vec_capacity p.replies) }
-    {
-        Ok(Prepared {
-            reads: copied_reads(self.alloc, reads)?,
-            replies: Vec::with_capacity(self.alloc, replies)?,
-        })
-    }
-
     // Adds a transaction whose reads hold. All memory is had before anything changes.
     fn install(
         &mut self,
@@ -492,11 +476,4 @@ impl<K: Clone + Ord, V: Clone + Eq, const S: usize> LocalIndex<K, V, S> {
         self.history.push_reserved(transaction);
         Ok(told)
     }
-}
-
-// What a commit adds to the history: its reads, and room for what its writes are told.
-#[derive(Drop)]
-struct Prepared<K, V> {
-    reads: Seq<Recorded<K, V>>,
-    replies: Vec<Reply>,
 }

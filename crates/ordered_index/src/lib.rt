@@ -26,13 +26,13 @@ mod laws;
 pub mod ordered_view;
 mod play;
 mod query;
-mod replay;
+pub mod replay;
 mod scan;
 mod seq;
 mod session;
 mod text;
-mod transaction;
-mod version_view;
+pub mod transaction;
+pub mod version_view;
 
 pub use commit::{Accepted, Cause, Refused};
 pub use desk::Desk;

@@ -48,8 +48,8 @@ pub trait OrderedView<K: Clone + Ord, V: Clone + Eq> {
         ensures { behind result ≡ near K.cmp key.now (pairs self.now) };
 }
 
-/// The answer of a list to a query.
-pub(crate) fn answer<K: Clone + Ord, V: Clone + Eq, L: OrderedView<K, V>>(
+/// The answer of a list to a query. Refused where memory is.
+pub fn answer<K: Clone + Ord, V: Clone + Eq, L: OrderedView<K, V>>(
     alloc: Global,
     list: &L,
     query: &Query<K>,

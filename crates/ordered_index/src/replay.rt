@@ -20,8 +20,9 @@ use std::ops::Bound;
 use tree_index::{InsertRefused, Proximity, TreeIndex};
 use versions::{Trees, VersionView, Write};
 
-/// The list that transactions leave of a version's, or of the empty one where none is given.
-pub(crate) fn replay<'w, K: Clone + Ord, V: Clone, W: Trees<K, V>>(
+/// The list that transactions leave of a version's, or of the empty one where none is given: from the last of them on that
+/// removes all pairs, if there is one. Refused where memory is.
+pub fn replay<'w, K: Clone + Ord, V: Clone, W: Trees<K, V>>(
     alloc: Global,
     base: Option<VersionView<'w, K, V, W>>,
     history: &'w [Transaction<K, V>],

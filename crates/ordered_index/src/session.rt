@@ -4,7 +4,7 @@ ghost use Rattle.std.specs.Prelude.{◌≡◌, ◌∷◌, ◌++◌, [], ℕ, OnO
 ghost use Rattle.leaf_array.specs.Values.{ClonesAreSame};
 
 use crate::query::{Answer, Query};
-use crate::transaction::{Receipt, copied_answer};
+use crate::transaction::Receipt;
 use std::alloc::AllocError;
 use std::marker::Model;
 
@@ -68,10 +68,6 @@ impl<K: Clone + Drop, V: Clone + Drop> Session<K, V> {
         ensures ok { OnOk result (self.new ≡ record self.old { receipt = record self.old.receipt { reads = self.old.receipt.reads ++ (query, told.now) ∷ [] } }) }
         ensures err { OnErr result (self.new ≡ self.old) }
     {
-        let answer = copied_answer(told)?;
-        match self.receipt.reads.push((query, answer)) {
-            Ok(()) => Ok(()),
-            Err(_) => Err(AllocError),
-        }
+        self.receipt.note(query, told)
     }
 }

@@ -1,6 +1,6 @@
 //! What sessions read, and what accepted commits leave behind.
 
-ghost use Rattle.std.specs.Prelude.{◌≡◌, ◌≤◌, [], IfOk, length, vec_capacity};
+ghost use Rattle.std.specs.Prelude.{◌≡◌, ◌≤◌, ◌∷◌, ◌++◌, [], IfOk, OnOk, OnErr, length, vec_capacity};
 ghost use Rattle.leaf_array.specs.Values.{ClonesAreSame};
 
 use crate::query::{Answer, Query};
@@ -36,6 +36,22 @@ impl<K, V> Receipt<K, V> {
     }
 }
 
+impl<K: Clone + Drop, V: Clone + Drop> Receipt<K, V> {
+    /// Puts a read at its end, with a copy of the answer. Refused where memory is; then it stays as it was.
+    pub fn note(&mut self, query: Query<K>, told: &Answer<K, V>) -> Result<(), AllocError>
+        requires keys { ClonesAreSame K.is_clone }
+        requires values { ClonesAreSame V.is_clone }
+        ensures ok { OnOk result (self.new ≡ record self.old { reads = self.old.reads ++ (query, told.now) ∷ [] }) }
+        ensures err { OnErr result (self.new ≡ self.old) }
+    {
+        let answer = copied_answer(told)?;
+        match self.reads.push((query, answer)) {
+            Ok(()) => Ok(()),
+            Err(_) => Err(AllocError),
+        }
+    }
+}
+
 /// What an audit of a receipt finds.
 #[derive(Clone, Copy, Debug, PartialEq, Eq)]
 pub enum Audit {
@@ -58,8 +74,35 @@ pub struct Transaction<K, V> {
     pub replies: Seq<Reply>,
 }
 
+/// What a commit adds to the history, but for its writes: its reads, and room for what its writes are told.
+#[derive(Drop)]
+pub struct Prepared<K, V> {
+    /// Copies of the reads that it rests on.
+    pub reads: Seq<Recorded<K, V>>,
+    /// Nothing yet, with room.
+    pub replies: Vec<Reply>,
+}
+
+/// Copies of a commit's reads, and room for what so many writes are told. Refused where memory is.
+pub fn prepare<K: Clone, V: Clone>(
+    alloc: Global,
+    reads: &[Recorded<K, V>],
+    writes: usize,
+) -> Result<Prepared<K, V>, AllocError>
+    requires keys { ClonesAreSame K.is_clone }
+    requires values { ClonesAreSame V.is_clone }
+    ensures reads { IfOk result (λ p. p.reads ≡ reads.now) }
+    ensures empty { IfOk result (λ p. p.replies.items ≡ []) }
+    ensures room { IfOk result (λ p. writes ≤ vec_capacity p.replies) }
+{
+    Ok(Prepared {
+        reads: copied_reads(alloc, reads)?,
+        replies: Vec::with_capacity(alloc, writes)?,
+    })
+}
+
 /// A copy of recorded reads.
-pub(crate) fn copied_reads<K: Clone, V: Clone>(
+fn copied_reads<K: Clone, V: Clone>(
     alloc: Global,
     reads: &[Recorded<K, V>],
 ) -> Result<Seq<Recorded<K, V>>, AllocError>
@@ -83,7 +126,7 @@ fn copied_query<K: Clone>(query: &Query<K>) -> Result<Query<K>, AllocError>
 }
 
 /// A copy of an answer.
-pub(crate) fn copied_answer<K: Clone, V: Clone>(
+fn copied_answer<K: Clone, V: Clone>(
     answer: &Answer<K, V>,
 ) -> Result<Answer<K, V>, AllocError>
     requires keys { ClonesAreSame K.is_clone }
@@ -94,7 +137,7 @@ pub(crate) fn copied_answer<K: Clone, V: Clone>(
 }
 
 /// Copies of replies, where room was made for them. It takes no memory.
-pub(crate) fn copied_replies(mut room: Vec<Reply>, replies: &[Reply]) -> Vec<Reply>
+pub fn copied_replies(mut room: Vec<Reply>, replies: &[Reply]) -> Vec<Reply>
     requires empty { room.items ≡ [] }
     requires fits { length replies.now ≤ vec_capacity room }
     ensures { result.items ≡ replies.now }

@@ -30,7 +30,7 @@ impl<'t, K: Ord, V, W: Trees<K, V>> Steps<'t, K, V> for versions::Walk<'t, K, V,
 }
 
 /// The value of the pair with the key in a version.
-pub(crate) fn value_in<'w, K: Ord, V, W: Trees<K, V>>(
+pub fn value_in<'w, K: Ord, V, W: Trees<K, V>>(
     version: &VersionView<'w, K, V, W>,
     key: &K,
 ) -> Option<&'w V>
@@ -40,8 +40,9 @@ pub(crate) fn value_in<'w, K: Ord, V, W: Trees<K, V>>(
     value_in_counted(version, key, &mut steps)
 }
 
-/// The same, with its comparisons of keys counted.
-pub(crate) fn value_in_counted<'w, K: Ord, V, W: Trees<K, V>>(
+/// The same, with its comparisons of keys counted: at most thirty, and one more for each binary digit of the number of
+/// segments. An empty version makes none.
+pub fn value_in_counted<'w, K: Ord, V, W: Trees<K, V>>(
     version: &VersionView<'w, K, V, W>,
     key: &K,
     steps: &mut tree_index::Steps,
