@@ -6,4 +6,6 @@ mod drafts;
 #[cfg(test)]
 mod nodes;
 #[cfg(test)]
+mod placing;
+#[cfg(test)]
 mod sessions;

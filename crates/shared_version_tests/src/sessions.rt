@@ -17,7 +17,7 @@ use std::process::Abort;
 use std::test::Fail;
 
 /// The items of the place: versions of numbers by numbers.
-type Item = Node<u64, u64>;
+pub(crate) type Item = Node<u64, u64>;
 
 /// A place for one participant, two items and one cell.
 const SIZES: Sizes = Sizes {
@@ -28,7 +28,7 @@ const SIZES: Sizes = Sizes {
 };
 
 /// A participant of the place, which has one that is free.
-fn member<R: Abort>(rt: &R, domain: &Domain<Item>) -> Local<Item>
+pub(crate) fn member<R: Abort>(rt: &R, domain: &Domain<Item>) -> Local<Item>
     ensures home { (home_of result ≡ place_of domain.now) × (hand_of result ≡ []) }
     ensures closed { (own_of result).nesting ≡ 0 }
 {

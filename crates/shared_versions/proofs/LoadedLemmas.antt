@@ -9,7 +9,7 @@ use Rattle.parted.specs.declared.raw.Seen.{Seen}
 use Rattle.shared_versions.specs.Readers.{item_seen}
 
 module _ {T : Type 0} where
-  value_is : (o : Option (ManuallyDrop T)) (x : T) → IsSomeAnd o (λ m. manually_drop_value m ≡ x) → Some x ≡ option_map manually_drop_value o
+  pub value_is : (o : Option (ManuallyDrop T)) (x : T) → IsSomeAnd o (λ m. manually_drop_value m ≡ x) → Some x ≡ option_map manually_drop_value o
   value_is None x h = absurd h
   value_is (Some m) x h = cc
 

@@ -1,6 +1,5 @@
 -- versions that aren't placed yet
 use Rattle.std.specs.Prelude.{◌≡◌, ℕ, ◌+◌, ◌*◌, ◌/◌, ◌<◌, ◌≤◌, List, [], get_or, length, vec_capacity}
-use Rattle.std.specs.Global.{Vec}
 use Rattle.std.specs.List.{All}
 use Rattle.std.specs.declared.cmp.Ordering.{Ordering}
 use Rattle.versions.specs.Cuts.{IsCut, pairs_in}
@@ -9,6 +8,7 @@ use Rattle.versions.specs.declared.building.segments.Part.{Part}
 use Rattle.versions.specs.declared.building.segments.Part.TheVariants as parts
 use Rattle.versions.specs.declared.building.segments.Segments.{Segments}
 use Rattle.shared_versions.specs.Sight.{Sight}
+use Rattle.shared_versions.specs.declared.room.Room.{Room}
 
 -- a version to be placed: the number of its list, and its segments, of which some are taken over from an older version, by
 -- their places there; the greatest key of each but the last; how many pairs there are
@@ -38,10 +38,14 @@ module _ {K V : Type 0} where
   abbrev pub list_planned : Sight K V → Plan K V → List (K × V)
   list_planned old p = pairs_in (blocks_planned old p)
 
-  -- a new segment, or one that the older version has
+  -- a new segment, or one of so many that are there
+  abbrev pub IsWithin : ℕ → Part K V ℕ → Type 0
+  IsWithin n (parts.Taken place) = place < n
+  IsWithin n (parts.Made tree) = Unit {0}
+
+  -- or one that the older version has
   abbrev pub IsThere : Sight K V → Part K V ℕ → Type 0
-  IsThere old (parts.Taken place) = place < length old.blocks
-  IsThere old (parts.Made tree) = Unit {0}
+  IsThere old part = IsWithin (length old.blocks) part
 
   -- its segments are cut as they should be, its pairs are counted, and the older version has what it takes over
   pub record IsPlaceable (cmp : K → K → Ordering) (s : ℕ) (old : Sight K V) (p : Plan K V) : Type 0 where
@@ -49,10 +53,18 @@ module _ {K V : Type 0} where
     pub counted : p.length ≡ length (list_planned old p)
     pub there : All (IsThere old) p.parts
 
+-- nothing is in it, and it has room for so many owners of each kind
+pub record HasRoom {K V : Type 0} (n : ℕ) (room : Room K V) : Type 0 where
+  pub no_owners : room.owners.items ≡ []
+  pub no_held : room.held.items ≡ []
+  pub no_kept : room.kept.items ≡ []
+  pub owners : n ≤ vec_capacity room.owners
+  pub held : n ≤ vec_capacity room.held
+  pub kept : n ≤ vec_capacity room.kept
+
 -- the segments are few, those that are new are counted, and there is room for their owners
-pub record IsDrafted {K V O : Type 0} (s : ℕ) (segments : Segments K V ℕ) (made : ℕ) (owners : Vec O) : Type 0 where
+pub record IsDrafted {K V : Type 0} (s : ℕ) (segments : Segments K V ℕ) (made : ℕ) (r : Room K V) : Type 0 where
   pub few : length segments.parts.items ≤ 2 * (segments.length / (s + 1)) + 1
   pub counted : made ≡ made_in segments.parts.items
   pub upto : made ≤ length segments.parts.items
-  pub none : owners.items ≡ []
-  pub room : length segments.parts.items ≤ vec_capacity owners
+  pub room : HasRoom (length segments.parts.items) r

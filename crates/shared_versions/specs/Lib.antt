@@ -3,3 +3,4 @@ pub mod Nodes
 pub mod Falls
 pub mod Readers
 pub mod Drafts
+pub mod Placing

@@ -1,13 +1,13 @@
 //! Building versions, each of an older one, beside the place.
 
-ghost use Rattle.std.specs.Prelude.{◌≡◌, ◌≤◌, ◌<◌, ◌+◌, ◌*◌, ◌/◌, ◌-◌, ◌^◌, [], IfOk, length, vec_capacity};
+ghost use Rattle.std.specs.Prelude.{◌≡◌, ◌≤◌, ◌<◌, ◌+◌, ◌*◌, ◌/◌, ◌-◌, ◌^◌, [], IfOk, length};
 ghost use Rattle.leaf_array.specs.Values.{ClonesAreSame};
 ghost use Rattle.versions.specs.Writes.{after_writes, replies_to};
-ghost use Rattle.shared_versions.specs.Drafts.{IsPlaceable, list_of, list_planned, slots_for};
+ghost use Rattle.shared_versions.specs.Drafts.{HasRoom, IsPlaceable, list_of, list_planned, slots_for};
 
 use crate::lending::view_of;
-use crate::node::{Node, Version};
-use sdd_domain::held::Held;
+use crate::node::Version;
+use crate::room::Room;
 use std::alloc::{AllocError, Global};
 use std::marker::Model;
 use tree_index::TreeIndex;
@@ -21,8 +21,8 @@ pub struct Draft<K: Ord, V, const S: usize> {
     segments: Segments<K, V, usize>,
     // how many of them are new
     made: usize,
-    // room for the owners of the segments
-    owners: Vec<Held<Node<K, V>>>,
+    // for the owners of the segments
+    room: Room<K, V>,
 }
 
 /// Invariant: specs/Drafts.antt, IsDrafted: the segments are few, those that are new are counted, and there is room for their
@@ -34,7 +34,7 @@ impl<K: Ord, V, const S: usize> Model for Draft<K, V, S> {
 
     ghost view = { λ d. record { number = d.number; parts = d.segments.parts.items; separators = d.segments.separators.items; length = d.segments.length } };
 
-    ghost invariant = { λ d. IsDrafted S d.segments d.made d.owners };
+    ghost invariant = { λ d. IsDrafted S d.segments d.made d.room };
 }
 
 impl<K: Ord, V, const S: usize> Draft<K, V, S> {
@@ -50,7 +50,7 @@ impl<K: Ord, V, const S: usize> Draft<K, V, S> {
                 length: 0,
             },
             made: 0,
-            owners: Vec::new(alloc),
+            room: Room::none(alloc),
         }
     }
 
@@ -64,25 +64,24 @@ impl<K: Ord, V, const S: usize> Draft<K, V, S> {
     }
 
     /// Its number, its segments, and room for their owners.
-    pub(crate) fn into_parts(self) -> (u64, Segments<K, V, usize>, Vec<Held<Node<K, V>>>)
+    pub(crate) fn into_parts(self) -> (u64, Segments<K, V, usize>, Room<K, V>)
         ensures plan { record { number = result.0; parts = result.1.parts.items; separators = result.1.separators.items; length = result.1.length } ≡ self }
-        ensures none { result.2.items ≡ [] }
-        ensures room { length result.1.parts.items ≤ vec_capacity result.2 }
+        ensures room { HasRoom (length result.1.parts.items) result.2 }
     {
         let Draft {
             number,
             segments,
             made: _,
-            owners,
+            room,
         } = self;
-        (number, segments, owners)
+        (number, segments, room)
     }
 }
 
 impl<K: Ord + Drop, V: Drop, const S: usize> Drop for Draft<K, V, S> {
     fn drop(self) {
-        let (_, _, owners) = self.into_parts();
-        owners.destroy_empty();
+        let (_, _, room) = self.into_parts();
+        room.end();
     }
 }
 
@@ -107,7 +106,7 @@ pub fn build<K: Clone + Ord + Drop, V: Clone + Drop, const S: usize>(
 {
     old.laws();
     let (segments, replies) = drafted::<K, V, usize, Version<K, V>, S>(alloc, old, writes)?;
-    let owners = Vec::with_capacity(alloc, segments.parts.len())?;
+    let room = Room::new(alloc, segments.parts.len())?;
     let made = made_of(&segments.parts);
     let number = old.number() + 1;
     Ok((
@@ -115,7 +114,7 @@ pub fn build<K: Clone + Ord + Drop, V: Clone + Drop, const S: usize>(
             number,
             segments,
             made,
-            owners,
+            room,
         },
         replies,
     ))

@@ -15,13 +15,21 @@
 
 mod building;
 mod holding;
+mod kept;
 mod lending;
 mod node;
+mod owners;
+mod pairs;
+mod present;
 mod reader;
+mod reclaiming;
+mod room;
 mod session;
 
 pub use building::{Draft, build};
 pub use lending::view_of;
 pub use node::{Node, Rest, Version};
+pub use present::{NoSlot, Present, publish};
 pub use reader::{Reader, version_at};
+pub use reclaiming::reclaim;
 pub use session::Session;

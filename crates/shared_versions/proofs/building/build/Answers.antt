@@ -2,7 +2,7 @@ use Rattle.std.proofs.Common.{◌≤◌, ◌+◌, ◌*◌, ◌/◌, length, sym,
 use Rattle.std.proofs.lemmas.List.{length-map}
 use Rattle.versions.specs.Parts.{made_in, part_pairs}
 use Rattle.versions.proofs.BlockListLemmas.{blocks_fit}
-use Rattle.shared_versions.specs.Drafts.{pairs_at}
+use Rattle.shared_versions.specs.Drafts.{HasRoom, pairs_at}
 use Rattle.shared_versions.proofs.DraftLemmas.{all_there}
 use Rattle.shared_versions.proofs.building.build.Goals as goal
 
@@ -16,14 +16,12 @@ invariant_of-result g c =
     let value = c.deref.ensures.value in
     let size = ap length value in
     let upto = made.few in
-    let room = c.in_ok-owners.ensures.capacity in
     let len = c.len.ensures in
     record {
       few = subst (λ n. length segments.parts.items ≤ 2 * (n / (g.row.S + 1)) + 1) (sym e.length) (omega (arith, few, long));
       counted = made.count ∙ ap made_in value;
       upto = omega (arith, upto, size);
-      none = c.in_ok-owners.ensures.items;
-      room = omega (arith, room, len, segments.parts.ok.0);
+      room = subst (λ n. HasRoom n c.in_ok-room.room) (len ∙ segments.parts.ok.0) c.in_ok-room.ensures;
     }
 
 pub returns-clause-placeable : goal.returns-clause-placeable

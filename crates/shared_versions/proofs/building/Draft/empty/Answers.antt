@@ -1,5 +1,6 @@
-use Rattle.std.proofs.Common.{length, ap, sym, arith}
+use Rattle.std.proofs.Common.{length, ap, sym, subst, arith}
 use Rattle.versions.specs.Parts.{made_in}
+use Rattle.shared_versions.specs.Drafts.{HasRoom}
 use Rattle.shared_versions.proofs.building.Draft.empty.Goals as goal
 
 pub invariant_of-result : goal.invariant_of-result
@@ -7,6 +8,5 @@ invariant_of-result g c = record {
   few = omega (arith, ap length c.new.ensures.items);
   counted = ap made_in (sym c.new.ensures.items);
   upto = omega arith;
-  none = c.new-3.ensures.items;
-  room = omega (arith, ap length c.new.ensures.items);
+  room = subst (λ xs. HasRoom (length xs) c.none.result) (sym c.new.ensures.items) c.none.ensures;
 }

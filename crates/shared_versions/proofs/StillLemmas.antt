@@ -1,0 +1,12 @@
+-- a participant that stays the same
+use Rattle.std.proofs.Common.{ap, ◌∙◌}
+use Rattle.sdd_domain.specs.Tokens.{IsSameButHand}
+use Rattle.sdd_domain.specs.declared.local.Local.{Local}
+use Rattle.shared_versions.specs.Placing.{IsStill}
+
+module _ {T : Type 0} where
+  pub still : (old now new : Local T) → IsStill old now → IsStill now new → IsStill old new
+  still old now new before after = (after.0 ∙ before.0, after.1 ∙ before.1, after.2 ∙ before.2, after.3 ∙ before.3)
+
+  pub but_for_the_hand : (old new : Local T) → IsSameButHand old new → IsStill old new
+  but_for_the_hand old new same = (same.0, same.1, same.2, ap (λ own. own.nesting) same.3)

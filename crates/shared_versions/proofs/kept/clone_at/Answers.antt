@@ -1,0 +1,23 @@
+use Rattle.std.proofs.Common.{Some, map, slice_set, sym, ap, ◌∙◌, subst}
+use Rattle.std.specs.List.{All}
+use Rattle.std.proofs.Math.Seq.{map-set_same, set-set}
+use Rattle.std.proofs.lemmas.List.Elements.{All-set}
+use Rattle.shared_versions.specs.Placing.{IsKept, pairs_kept}
+use Rattle.shared_versions.proofs.kept.clone_at.Goals as goal
+
+pub returns-clause-kept : goal.returns-clause-kept
+returns-clause-kept g c =
+    let IsThere = IsKept c.args.domain.now.table.shared.table_id in
+    let kept = c.args.kept.now.items in
+    let owner = Some c.clone_segment-owner.result.0 in
+    let written = set-set kept c.args.place c.replace.new.dest c.replace-2.new.dest ∙ ap (slice_set kept c.args.place) c.replace-2.ensures.after in
+    subst (All IsThere) (sym written) (All-set IsThere kept c.args.place owner c.clone_segment-owner.ensures.own.0 c.requires.kept)
+
+pub returns-clause-pairs : goal.returns-clause-pairs
+returns-clause-pairs g c =
+    let kept = c.args.kept.now.items in
+    let owner = Some c.clone_segment-owner.result.0 in
+    let written = set-set kept c.args.place c.replace.new.dest c.replace-2.new.dest ∙ ap (slice_set kept c.args.place) c.replace-2.ensures.after in
+    let taken = sym c.in-Some.is ∙ c.replace.ensures.value in
+    let alike = c.clone_segment-owner.ensures.own.1 ∙ (ap pairs_kept taken ∙ ap pairs_kept c.index_mut.ensures.value) in
+    ap (map pairs_kept) written ∙ map-set_same pairs_kept kept c.args.place owner _ alike

@@ -1,0 +1,83 @@
+//! Owners that the writer keeps of the segments of its version, for the versions to come.
+
+ghost use Rattle.std.specs.Prelude.{◌≡◌, ◌<◌, [], IfSome, length, map, get_or};
+ghost use Rattle.std.specs.List.{All};
+ghost use Rattle.sdd_domain.specs.Tokens.{place_of, home_of, hand_of};
+ghost use Rattle.shared_versions.specs.Placing.{IsKept, IsSegmentOf, IsStill, pairs_kept, pairs_owned};
+
+use crate::node::Node;
+use sdd_domain::domain::Domain;
+use sdd_domain::local::Local;
+use sdd_domain::shared::Shared;
+use std::mem;
+
+/// An owner of a segment. It is out while it is being cloned.
+pub(crate) type Kept<K, V> = Option<Shared<Node<K, V>>>;
+
+/// One more owner of the segment at this place; none where it can't have one more.
+pub(crate) fn clone_at<K: Ord + Drop, V: Drop>(
+    kept: &mut Vec<Kept<K, V>>,
+    place: usize,
+    domain: &Domain<Node<K, V>>,
+    local: &mut Local<Node<K, V>>,
+) -> Option<Shared<Node<K, V>>>
+    requires home { home_of local.old ≡ place_of domain.now }
+    requires inside { place < length kept.old.items }
+    requires kept { All (IsKept (place_of domain.now).0) kept.old.items }
+    ensures one { IfSome result (λ s. IsSegmentOf (place_of domain.now).0 s × (pairs_owned s ≡ get_or (map pairs_kept kept.old.items) place [])) }
+    ensures kept { All (IsKept (place_of domain.now).0) kept.new.items }
+    ensures pairs { map pairs_kept kept.new.items ≡ map pairs_kept kept.old.items }
+    ensures hand { hand_of local.new ≡ hand_of local.old }
+    ensures same { IsStill local.old local.new }
+{
+    let Some(owner) = mem::replace(&mut kept[place], None) else {
+        unreachable!();
+    };
+    let (owner, other) = clone_segment(owner, domain, local);
+    match mem::replace(&mut kept[place], Some(owner)) {
+        None => {}
+        Some(_) => unreachable!(),
+    }
+    other
+}
+
+/// Clones an owner of a segment. Its own is back alone where there can't be one more.
+fn clone_segment<K: Ord + Drop, V: Drop>(
+    owner: Shared<Node<K, V>>,
+    domain: &Domain<Node<K, V>>,
+    local: &mut Local<Node<K, V>>,
+) -> (Shared<Node<K, V>>, Option<Shared<Node<K, V>>>)
+    requires home { home_of local.old ≡ place_of domain.now }
+    requires mine { IsSegmentOf (place_of domain.now).0 owner }
+    ensures own { IsSegmentOf (place_of domain.now).0 result.0 × (pairs_owned result.0 ≡ pairs_owned owner) }
+    ensures other { IfSome result.1 (λ s. IsSegmentOf (place_of domain.now).0 s × (pairs_owned s ≡ pairs_owned owner)) }
+    ensures hand { hand_of local.new ≡ hand_of local.old }
+    ensures same { IsStill local.old local.new }
+{
+    match owner.clone(domain, local) {
+        Ok((own, other)) => (own, Some(other)),
+        Err(own) => (own, None),
+    }
+}
+
+/// Releases owners of segments.
+pub(crate) fn release_kept<K: Ord + Drop, V: Drop>(
+    mut kept: Vec<Kept<K, V>>,
+    domain: &Domain<Node<K, V>>,
+    local: &mut Local<Node<K, V>>,
+)
+    requires home { home_of local.old ≡ place_of domain.now }
+    requires kept { All (IsKept (place_of domain.now).0) kept.items }
+    ensures hand { hand_of local.new ≡ hand_of local.old }
+    ensures same { IsStill local.old local.new }
+{
+    'releasing: while let Some(owner) = kept.pop() {
+        match owner {
+            Some(owner) => {
+                let _last = owner.release(domain, local);
+            }
+            None => {}
+        }
+    }
+    kept.destroy_empty();
+}

@@ -1,0 +1,52 @@
+//! Items that are placed with two owners, and items that aren't placed.
+
+ghost use Rattle.std.specs.Prelude.{◌≡◌, [], IfOk, IfErr, IfSome, MatchOption, OnOk};
+ghost use Rattle.sdd_domain.specs.Sharing.{IsOwnerOf};
+ghost use Rattle.sdd_domain.specs.Tokens.{place_of, home_of, hand_of};
+ghost use Rattle.shared_versions.specs.Placing.{IsOf, IsStill};
+
+use sdd_domain::domain::Domain;
+use sdd_domain::holds::Holds;
+use sdd_domain::local::Local;
+use sdd_domain::shared::Shared;
+
+/// Places an item, and gives two owners of it. The item is back, and what it holds in hand, where no slot was free; nothing
+/// is where it couldn't have a second owner: then it was placed and released.
+pub(crate) fn place_two<T: Holds>(
+    item: T,
+    domain: &Domain<T>,
+    local: &mut Local<T>,
+) -> Result<(Shared<T>, Shared<T>), Option<T>>
+    requires home { home_of local.old ≡ place_of domain.now }
+    requires holds { T.holds item ≡ hand_of local.old }
+    ensures home { IfOk result (λ both. IsOf (place_of domain.now).0 both.0 × IsOf (place_of domain.now).0 both.1) }
+    ensures item { IfOk result (λ both. IsOwnerOf both.0 item × IsOwnerOf both.1 item) }
+    ensures back { IfErr result (λ back. IfSome back (λ x. x ≡ item)) }
+    ensures hand { OnOk result (hand_of local.new ≡ []) }
+    ensures left { IfErr result (λ back. MatchOption back (hand_of local.new ≡ []) (λ x. hand_of local.new ≡ hand_of local.old)) }
+    ensures same { IsStill local.old local.new }
+{
+    match Shared::new(item, domain, local) {
+        Ok(owner) => match owner.clone(domain, local) {
+            Ok(both) => Ok(both),
+            Err(owner) => {
+                let _last = owner.release(domain, local);
+                Err(None)
+            }
+        },
+        Err(item) => Err(Some(item)),
+    }
+}
+
+/// Ends an item that wasn't placed: what it holds comes out of the participant's hand, and is released.
+pub(crate) fn take_back<T: Holds>(mut item: T, domain: &Domain<T>, local: &mut Local<T>)
+    requires home { home_of local.old ≡ place_of domain.now }
+    requires hand { hand_of local.old ≡ T.holds item }
+    ensures hand { hand_of local.new ≡ [] }
+    ensures same { IsStill local.old local.new }
+{
+    'releasing: while let Some(owner) = item.give_up() {
+        let _last = owner.own(domain, local).release(domain, local);
+    }
+    item.end();
+}

@@ -1,0 +1,225 @@
+//! The present version of a place, for the one who writes.
+
+ghost use Rattle.std.specs.Prelude.{◌≡◌, ◌<◌, [], IfOk, OnOk, OnErr, Some};
+ghost use Rattle.sdd_domain.specs.Cells.{cell_number};
+ghost use Rattle.sdd_domain.specs.Sharing.{kept_in};
+ghost use Rattle.sdd_domain.specs.Tokens.{place_of, home_of, hand_of, cell_count};
+ghost use Rattle.shared_versions.specs.Placing.{IsMade, IsOf, IsPresent, IsStill, item_owned, placed_of, version_owned};
+ghost use Rattle.shared_versions.specs.Drafts.{IsPlaceable};
+ghost use Rattle.shared_versions.specs.Readers.{HasWidth};
+
+use crate::building::Draft;
+use crate::kept::{Kept, release_kept};
+use crate::lending::view_of;
+use crate::node::{Node, Version};
+use crate::owners::{place_two, take_back};
+use crate::pairs::{all_owners, hold_both};
+use crate::room::Room;
+use sdd_domain::atomic_shared::AtomicShared;
+use sdd_domain::domain::Domain;
+use sdd_domain::holds::Holds;
+use sdd_domain::local::Local;
+use sdd_domain::shared::Shared;
+use std::alloc::Global;
+use std::marker::Model;
+use std::mem;
+use versions::draft::Segments;
+use versions::{Directory, VersionView};
+
+/// A version wasn't placed: too few slots are free, or an item has as many owners as it can have.
+#[derive(Clone, Copy, Debug, PartialEq, Eq)]
+pub struct NoSlot;
+
+/// The present version, and one more owner of each of its segments, for the versions to come. It must be spent by `end`.
+///
+/// Contracts see its place, and the version.
+pub struct Present<K: Ord, V, const S: usize> {
+    version: Shared<Node<K, V>>,
+    segments: Vec<Kept<K, V>>,
+}
+
+/// Invariant: specs/Placing.antt, IsPresent: the owner owns a version of segments of at most `S` pairs, and the others own its
+/// segments, in order, in the same place.
+impl<K: Ord, V, const S: usize> Model for Present<K, V, S> {
+    ghost use Rattle.shared_versions.specs.Placing.{IsPresent, Placed, placed_of};
+
+    ghost Value = { Placed K V };
+
+    ghost view = { λ p. placed_of p.version };
+
+    ghost invariant = { λ p. IsPresent S p.version p.segments.items };
+}
+
+impl<K: Ord + Drop, V: Drop, const S: usize> Present<K, V, S> {
+    /// The version. No word of the place is read.
+    pub fn version(&self) -> &Version<K, V>
+        ensures version { result.now ≡ self.now.version }
+        ensures width { result.now.width ≡ S }
+    {
+        version_of_owner::<K, V, S>(&self.version)
+    }
+
+    /// The version to be read: its look-ups, walks and counts.
+    pub fn view(&self) -> VersionView<'_, K, V, Version<K, V>>
+        ensures { result ≡ self.now.version.blocks }
+    {
+        view_of(self.version())
+    }
+}
+
+impl<K: Ord + Drop, V: Drop, const S: usize> Present<K, V, S> {
+    /// Places the empty list, with number 0: the present version, and an owner of it for a cell. Refused where no slot is
+    /// free; then nothing is in use that wasn't before. It takes no memory.
+    pub fn new(
+        alloc: Global,
+        domain: &Domain<Node<K, V>>,
+        local: &mut Local<Node<K, V>>,
+    ) -> Result<(Self, Shared<Node<K, V>>), NoSlot>
+        requires home { home_of local.old ≡ place_of domain.now }
+        requires hand { hand_of local.old ≡ [] }
+        ensures place { IfOk result (λ made. made.0.place ≡ (place_of domain.now).0) }
+        ensures version { IfOk result (λ made. made.0.version ≡ record { number = 0; width = S; blocks = []; separators = []; owners = [] }) }
+        ensures root { IfOk result (λ made. IsOf (place_of domain.now).0 made.1 × (version_owned made.1 ≡ Some made.0.version)) }
+        ensures hand { hand_of local.new ≡ [] }
+        ensures same { IsStill local.old local.new }
+    {
+        match place_two(Node::Version(Version::empty(alloc, S)), domain, local) {
+            Ok((version, root)) => {
+                let segments = Vec::new(alloc);
+                Ok((Present { version, segments }, root))
+            }
+            Err(Some(node)) => {
+                node.end();
+                Err(NoSlot)
+            }
+            Err(None) => Err(NoSlot),
+        }
+    }
+
+    /// Places a version that was built of the present one, which becomes the present one, and gives an owner of it for a cell.
+    /// Where it is refused, the present version is as it was, and what was placed before that is released again: it waits to
+    /// be reclaimed. It takes no memory.
+    pub fn place(
+        &mut self,
+        draft: Draft<K, V, S>,
+        domain: &Domain<Node<K, V>>,
+        local: &mut Local<Node<K, V>>,
+    ) -> Result<Shared<Node<K, V>>, NoSlot>
+        requires home { home_of local.old ≡ place_of domain.now }
+        requires hand { hand_of local.old ≡ [] }
+        requires mine { self.old.place ≡ (place_of domain.now).0 }
+        requires placeable { IsPlaceable K.cmp S self.old.version draft }
+        ensures place { self.new.place ≡ self.old.place }
+        ensures made { OnOk result (IsMade S self.old.version draft self.new.version) }
+        ensures root { IfOk result (λ root. IsOf (place_of domain.now).0 root × (version_owned root ≡ Some self.new.version)) }
+        ensures refused { OnErr result (self.new ≡ self.old) }
+        ensures hand { hand_of local.new ≡ [] }
+        ensures same { IsStill local.old local.new }
+    {
+        let (number, segments, room) = draft.into_parts();
+        let Segments {
+            parts,
+            separators,
+            length,
+        } = segments;
+        let Room {
+            owners,
+            mut held,
+            mut kept,
+        } = room;
+        let Some(owners) = all_owners(parts, owners, &mut self.segments, domain, local) else {
+            held.destroy_empty();
+            kept.destroy_empty();
+            return Err(NoSlot);
+        };
+        hold_both(owners, &mut held, &mut kept, domain, local);
+        let directory = Directory::new(number, length, held, separators);
+        let version = Node::Version(Version::new(directory, S));
+        match place_two(version, domain, local) {
+            Ok((version, root)) => {
+                self.replace(version, kept, domain, local);
+                Ok(root)
+            }
+            Err(refused) => {
+                release_kept(kept, domain, local);
+                if let Some(node) = refused {
+                    take_back(node, domain, local);
+                }
+                Err(NoSlot)
+            }
+        }
+    }
+
+    /// Puts another version in the place of the present one, which is released.
+    fn replace(
+        &mut self,
+        version: Shared<Node<K, V>>,
+        kept: Vec<Kept<K, V>>,
+        domain: &Domain<Node<K, V>>,
+        local: &mut Local<Node<K, V>>,
+    )
+        requires home { home_of local.old ≡ place_of domain.now }
+        requires mine { self.old.place ≡ (place_of domain.now).0 }
+        requires new { IsOf (place_of domain.now).0 version }
+        requires present { IsPresent S version kept.items }
+        ensures new { self.new ≡ placed_of version }
+        ensures hand { hand_of local.new ≡ hand_of local.old }
+        ensures same { IsStill local.old local.new }
+    {
+        let older = mem::replace(&mut self.version, version);
+        let segments = mem::replace(&mut self.segments, kept);
+        let _last = older.release(domain, local);
+        release_kept(segments, domain, local);
+    }
+
+    /// Releases the version and its segments: what no cell and no other version owns is retired.
+    pub fn end(self, domain: &Domain<Node<K, V>>, local: &mut Local<Node<K, V>>)
+        requires home { home_of local.old ≡ place_of domain.now }
+        requires mine { self.place ≡ (place_of domain.now).0 }
+        ensures hand { hand_of local.new ≡ hand_of local.old }
+        ensures same { IsStill local.old local.new }
+    {
+        let Present { version, segments } = self;
+        let _last = version.release(domain, local);
+        release_kept(segments, domain, local);
+    }
+}
+
+/// The version that an owner owns. Condition: it owns one of segments of at most `S` pairs.
+fn version_of_owner<K: Ord + Drop, V: Drop, const S: usize>(
+    owner: &Shared<Node<K, V>>,
+) -> &Version<K, V>
+    requires { HasWidth S (version_owned owner.now) }
+    ensures version { Some result.now ≡ version_owned owner.now }
+    ensures width { result.now.width ≡ S }
+{
+    match node_of_owner(owner).version() {
+        Some(version) => version,
+        None => unreachable!(),
+    }
+}
+
+/// What an owner owns.
+fn node_of_owner<K: Ord + Drop, V: Drop>(owner: &Shared<Node<K, V>>) -> &Node<K, V>
+    ensures { Some result.now ≡ item_owned owner.now }
+{
+    owner.as_ref()
+}
+
+/// Makes a placed version the one that a cell names, in one step, and releases the older one.
+pub fn publish<K: Ord + Drop, V: Drop>(
+    root: &AtomicShared,
+    new: Shared<Node<K, V>>,
+    domain: &Domain<Node<K, V>>,
+    local: &mut Local<Node<K, V>>,
+)
+    requires home { home_of local.old ≡ place_of domain.now }
+    requires inside { cell_number root.now < cell_count domain.now }
+    requires mine { IsOf (place_of domain.now).0 new }
+    ensures hand { hand_of local.new ≡ hand_of local.old }
+    ensures same { IsStill local.old local.new }
+{
+    if let Some(older) = root.swap(Some(new), domain, local) {
+        let _last = older.release(domain, local);
+    }
+}

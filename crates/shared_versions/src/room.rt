@@ -1,0 +1,58 @@
+//! Room for the owners of the segments of a version to be placed.
+
+ghost use Rattle.std.specs.Prelude.{◌≡◌, ◌≤◌, [], IfOk, vec_capacity};
+ghost use Rattle.shared_versions.specs.Drafts.{HasRoom};
+
+use crate::kept::Kept;
+use crate::node::Node;
+use crate::pairs::Both;
+use sdd_domain::held::Held;
+use std::alloc::{AllocError, Global};
+
+/// Room for so many owners, where they are until their version is placed: two of each segment; those that the version holds,
+/// and those that the writer keeps. It must be spent, by `end` if nothing is placed.
+pub(crate) struct Room<K: Ord, V> {
+    pub(crate) owners: Vec<Both<K, V>>,
+    pub(crate) held: Vec<Held<Node<K, V>>>,
+    pub(crate) kept: Vec<Kept<K, V>>,
+}
+
+impl<K: Ord, V> Room<K, V> {
+    /// Room for none. It takes no memory.
+    pub(crate) fn none(alloc: Global) -> Self
+        ensures { HasRoom 0 result }
+    {
+        Room {
+            owners: Vec::new(alloc),
+            held: Vec::new(alloc),
+            kept: Vec::new(alloc),
+        }
+    }
+
+    /// Room for the owners of so many segments. Where memory is refused there is none.
+    pub(crate) fn new(alloc: Global, segments: usize) -> Result<Self, AllocError>
+        ensures { IfOk result (HasRoom segments) }
+    {
+        let owners = Vec::with_capacity(alloc, segments)?;
+        let Ok(held) = Vec::with_capacity(alloc, segments) else {
+            owners.destroy_empty();
+            return Err(AllocError);
+        };
+        let Ok(kept) = Vec::with_capacity(alloc, segments) else {
+            owners.destroy_empty();
+            held.destroy_empty();
+            return Err(AllocError);
+        };
+        Ok(Room { owners, held, kept })
+    }
+
+    /// Lets it go. Condition: nothing is in it.
+    pub(crate) fn end(self)
+        requires { (self.owners.items ≡ []) × (self.held.items ≡ []) × (self.kept.items ≡ []) }
+    {
+        let Room { owners, held, kept } = self;
+        owners.destroy_empty();
+        held.destroy_empty();
+        kept.destroy_empty();
+    }
+}
