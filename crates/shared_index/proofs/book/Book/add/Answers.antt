@@ -1,0 +1,39 @@
+use Rattle.std.proofs.Common.{[], ◌∷◌, ◌++◌, length, sym, ap, ◌∙◌, subst, arith}
+use Rattle.std.specs.List.{All}
+use Rattle.ordered_index.specs.Serial.{Holds}
+use Rattle.ordered_index.specs.declared.transaction.Transaction.{Transaction}
+use Rattle.ordered_index.proofs.RunLemmas.{length-replies}
+use Rattle.shared_versions.specs.Drafts.{list_of}
+use Rattle.versions.specs.Writes.{after_writes, replies_to}
+use Rattle.shared_index.specs.Books.{BookState, present_list}
+use Rattle.shared_index.proofs.BookLemmas.{history_longer, latest_longer, still_at_rest}
+use Rattle.shared_index.proofs.book.Book.add.Goals as goal
+
+-- there is room for as many replies as writes
+pub copied_replies-replies-requires-clause-fits : goal.copied_replies-replies-requires-clause-fits
+copied_replies-replies-requires-clause-fits g c =
+    let copied = ap length c.as_slice-2.ensures.value in
+    let told = ap length c.in-Ok-install.ensures.told in
+    let each = length-replies g.K.Ord.cmp c.as_slice.result.now (list_of c.self.inside.present.version) in
+    let long = ap length c.as_slice.ensures.value in
+    let fits = c.requires.fits in
+    omega (arith, copied, told, each, long, fits)
+
+-- the history is longer by a good transaction, whose list the new version has
+pub invariant_of-self-2 : goal.invariant_of-self-2
+invariant_of-self-2 g c =
+    let t : Transaction _ _ = record { reads = c.args.prepared.reads; writes = c.from_vec.result; replies = c.from_vec-2.result } in
+    let kept = c.self.invariant in
+    let old = list_of c.self.inside.present.version in
+    let new = c.in-Ok-install.ensures in
+    let written = c.as_slice.ensures.value ∙ sym c.from_vec.ensures in
+    let longer = c.push_reserved.ensures.items ∙ ap (λ ts. ts ++ t ∷ []) c.reserve.ensures.items in
+    let reads = subst (λ (b : BookState _ _). All (Holds g.K.Ord.cmp (present_list g.K.Ord.cmp b)) c.args.prepared.reads) (sym c.self.view_is) c.requires.can.reads_hold in
+    let told = c.from_vec-2.ensures ∙ c.copied_replies-replies.ensures ∙ c.as_slice-2.ensures.value ∙ new.told ∙ ap (λ ws. replies_to g.K.Ord.cmp ws old) written ∙ ap (replies_to g.K.Ord.cmp c.from_vec.result) kept.1.list in
+    let list = new.list ∙ ap (λ ws. after_writes g.K.Ord.cmp ws old) written in
+    rw longer (
+      still_at_rest kept.0 new.same new.hand,
+      latest_longer g.K.Ord.cmp t kept.1 new.place new.number list,
+      history_longer g.K.Ord.cmp c.raise.new.book.total t kept.2 reads told (λ e. c.requires.can.not_last (ap (λ (b : BookState _ _). length b.history) (sym c.self.view_is) ∙ e ∙ ap (λ (b : BookState _ _). b.last) c.self.view_is)) c.raise.ensures.total,
+      kept.3,
+    )

@@ -1,0 +1,30 @@
+-- what the fields of a book keep
+use Rattle.std.specs.Prelude.{◌≡◌, ℕ, ◌≤◌, List, [], length}
+use Rattle.std.specs.declared.cmp.Ordering.{Ordering}
+use Rattle.atomic_table.specs.Seated.{TableId}
+use Rattle.sdd_base.specs.declared.sizes.Sizes.{Sizes}
+use Rattle.sdd_domain.specs.Tokens.{home_of, own_of, hand_of}
+use Rattle.sdd_domain.specs.declared.local.Local.{Local}
+use Rattle.ordered_index.specs.Serial.{after_all, IsSerial}
+use Rattle.ordered_index.specs.declared.transaction.Transaction.{Transaction}
+use Rattle.shared_versions.specs.Drafts.{list_of}
+use Rattle.shared_versions.specs.Placing.{Placed}
+
+-- the participant is of this place, with no guard open and no owner in hand
+pub record IsAtRest {T : Type 0} (place : TableId × Sizes) (local : Local T) : Type 0 where
+  pub home : home_of local ≡ place
+  pub closed : (own_of local).nesting ≡ 0
+  pub bare : hand_of local ≡ []
+
+module _ {K V : Type 0} (cmp : K → K → Ordering) where
+  -- the version of a place is that of the list that the transactions leave, and has their number
+  pub record IsLatest (place : TableId × Sizes) (present : Placed K V) (history : List (Transaction K V)) : Type 0 where
+    pub here : present.place ≡ place.0
+    pub number : present.version.number ≡ length history
+    pub list : list_of present.version ≡ after_all cmp history []
+
+  -- the history is a serial run, no longer than the last number; each of its transactions is counted in the ledger
+  pub record IsHistory (history : List (Transaction K V)) (last total : ℕ) : Type 0 where
+    pub serial : IsSerial cmp history []
+    pub numbered : length history ≤ last
+    pub counted : total ≡ length history

@@ -1,0 +1,81 @@
+//! The version that the writes of a commit leave.
+
+ghost use Rattle.std.specs.Prelude.{◌≡◌, ◌≤◌, ◌<◌, ◌+◌, ◌-◌, ◌^◌, [], IfOk, OnOk, OnErr};
+ghost use Rattle.leaf_array.specs.Values.{ClonesAreSame};
+ghost use Rattle.sdd_domain.specs.Cells.{cell_number};
+ghost use Rattle.sdd_domain.specs.Tokens.{place_of, home_of, hand_of, cell_count};
+ghost use Rattle.shared_versions.specs.Drafts.{list_of};
+ghost use Rattle.shared_versions.specs.Placing.{IsStill};
+ghost use Rattle.versions.specs.Writes.{after_writes, replies_to};
+
+use sdd_domain::atomic_shared::AtomicShared;
+use sdd_domain::domain::Domain;
+use sdd_domain::local::Local;
+use shared_versions::{NoSlot, Node, Present, build, publish};
+use std::alloc::Global;
+use versions::{Reply, Write, WriteRefused};
+
+/// Builds the version that writes make of the present one, places it, and has the cell name it: what each write is told.
+/// Where it is refused, the present version is as it was.
+pub(crate) fn install<K: Clone + Ord, V: Clone, const S: usize>(
+    alloc: Global,
+    domain: &Domain<Node<K, V>>,
+    root: &AtomicShared,
+    local: &mut Local<Node<K, V>>,
+    present: &mut Present<K, V, S>,
+    writes: &[Write<K, V>],
+) -> Result<Vec<Reply>, WriteRefused>
+    requires home { home_of local.old ≡ place_of domain.now }
+    requires hand { hand_of local.old ≡ [] }
+    requires inside { cell_number root.now < cell_count domain.now }
+    requires mine { present.old.place ≡ (place_of domain.now).0 }
+    requires size { (1 ≤ S) × (S ≤ 225) }
+    requires last { present.old.version.number < 2 ^ 64 - 1 }
+    requires keys { ClonesAreSame K.is_clone }
+    requires values { ClonesAreSame V.is_clone }
+    ensures place { present.new.place ≡ present.old.place }
+    ensures number { OnOk result (present.new.version.number ≡ present.old.version.number + 1) }
+    ensures list { OnOk result (list_of present.new.version ≡ after_writes K.cmp writes.now (list_of present.old.version)) }
+    ensures told { IfOk result (λ told. told.items ≡ replies_to K.cmp writes.now (list_of present.old.version)) }
+    ensures refused { OnErr result (present.new ≡ present.old) }
+    ensures hand { hand_of local.new ≡ [] }
+    ensures same { IsStill local.old local.new }
+{
+    let Ok((draft, told)) = build::<K, V, S>(alloc, present.version(), writes) else {
+        return Err(WriteRefused::Memory);
+    };
+    match present.place(draft, domain, local) {
+        Ok(new) => {
+            publish(root, new, domain, local);
+            Ok(told)
+        }
+        Err(_) => Err(WriteRefused::NoSlot),
+    }
+}
+
+/// Places the empty version, and has a cell of its own name it. Refused where no slot or no cell is free; then what was placed
+/// waits to be reclaimed.
+pub(crate) fn begin<K: Clone + Ord, V: Clone, const S: usize>(
+    alloc: Global,
+    domain: &Domain<Node<K, V>>,
+    local: &mut Local<Node<K, V>>,
+) -> Result<(Present<K, V, S>, AtomicShared), NoSlot>
+    requires home { home_of local.old ≡ place_of domain.now }
+    requires hand { hand_of local.old ≡ [] }
+    ensures place { IfOk result (λ made. made.0.place ≡ (place_of domain.now).0) }
+    ensures number { IfOk result (λ made. made.0.version.number ≡ 0) }
+    ensures list { IfOk result (λ made. list_of made.0.version ≡ []) }
+    ensures inside { IfOk result (λ made. cell_number made.1 < cell_count domain.now) }
+    ensures hand { hand_of local.new ≡ [] }
+    ensures same { IsStill local.old local.new }
+{
+    let (present, owner) = Present::new(alloc, domain, local)?;
+    match AtomicShared::from(owner, domain, local) {
+        Ok(root) => Ok((present, root)),
+        Err(owner) => {
+            owner.release(domain, local);
+            present.end(domain, local);
+            Err(NoSlot)
+        }
+    }
+}

@@ -1,0 +1,189 @@
+//! The index that threads share.
+
+ghost use Rattle.std.specs.Prelude.{◌≡◌, ◌≢◌, ◌≤◌, ◌<◌, ◌+◌, ◌↔◌, IfOk, IfErr, IsErr, OnOk, OnErr, length, replicate};
+ghost use Rattle.std.specs.List.{sum};
+ghost use Rattle.leaf_array.specs.Values.{ClonesAreSame, EqualsAreSame};
+ghost use Rattle.sdd_domain.specs.Cells.{cell_number};
+ghost use Rattle.sdd_domain.specs.Tokens.{place_of, cell_count};
+ghost use Rattle.shared_index.specs.Invariant.{IsAtRest};
+
+use crate::book::{Book, NewRefused};
+use crate::naming::Naming;
+use crate::share::{Share, merged};
+use ordered_index::{Accepted, Audit, Receipt, Refused};
+use sdd_domain::atomic_shared::AtomicShared;
+use sdd_domain::domain::Domain;
+use sdd_domain::local::Local;
+use shared_versions::Node;
+use std::alloc::{AllocError, Global};
+use std::marker::Model;
+use std::sync::ledger::Blank;
+use std::sync::{Mutex, MutexGuard, Wait};
+use versions::Write;
+
+/// An index that threads share by `&`: a [`Book`] behind a lock, and beside it the cell that names the present version, which
+/// is read without the lock.
+///
+/// What a call does under the lock is what the same call of the [`Book`] does. A contract can't say here what that did to a
+/// book that other threads change too; it says what the caller's share tells. An index must be spent, by
+/// [`close`](SharedIndex::close).
+pub struct SharedIndex<'d, L: Naming, K: Clone + Ord, V: Clone + Eq, const S: usize> {
+    domain: &'d Domain<Node<K, V>>,
+    root: AtomicShared,
+    book: Mutex<Book<L, K, V, S>>,
+    // how many there are
+    shares: usize,
+}
+
+/// Invariant: the place is the named one, and has the cell; there are as many shares as the ledger has parts.
+impl<'d, L: Naming, K: Clone + Ord, V: Clone + Eq, const S: usize> Model
+    for SharedIndex<'d, L, K, V, S> {
+    ghost use Rattle.std.specs.Prelude.{◌≡◌, ◌<◌};
+    ghost use Rattle.sdd_domain.specs.Cells.{cell_number};
+    ghost use Rattle.sdd_domain.specs.Tokens.{place_of};
+
+    ghost Value = { Unit {0} };
+
+    ghost view = { λ _. tt };
+
+    ghost invariant = { λ a. (place_of a.domain.now ≡ L.place) × (cell_number a.root < L.place.1.cells) × (a.shares ≡ L.parts) × (0 < a.shares) };
+}
+
+impl<'d, L: Naming, K: Clone + Ord, V: Clone + Eq, const S: usize> SharedIndex<'d, L, K, V, S> {
+    /// An empty index in a place, with so many shares, at least one. Its last number is `2^64 - 1`. Refused, all comes back:
+    /// `Memory` where there is no room for the shares, and `NoSlot` where no slot is free for the empty version, or no cell.
+    pub fn new(
+        alloc: Global,
+        domain: &'d Domain<Node<K, V>>,
+        local: Local<Node<K, V>>,
+        blank: Blank,
+        shares: usize,
+    ) -> Result<(Self, Vec<Share<L>>), (Local<Node<K, V>>, Blank, NewRefused)>
+        requires place { place_of domain.now ≡ L.place }
+        requires rest { IsAtRest L.place local }
+        requires size { (1 ≤ S) × (S ≤ 225) }
+        requires name { blank.name ≡ L.name }
+        requires parts { (blank.parts ≡ L.parts) × (blank.parts ≡ shares) × (0 < shares) }
+        ensures shares { IfOk result (λ made. made.1.items ≡ replicate shares 0) }
+        ensures local { IfErr result (λ back. IsAtRest L.place back.0) }
+        ensures blank { IfErr result (λ back. back.1 ≡ blank) }
+    {
+        Self::with_last(alloc, domain, local, blank, shares, u64::MAX)
+    }
+
+    /// The same, with this last number: so many commits are accepted, and the next is `Exhausted`.
+    pub fn with_last(
+        alloc: Global,
+        domain: &'d Domain<Node<K, V>>,
+        local: Local<Node<K, V>>,
+        blank: Blank,
+        shares: usize,
+        last: u64,
+    ) -> Result<(Self, Vec<Share<L>>), (Local<Node<K, V>>, Blank, NewRefused)>
+        requires place { place_of domain.now ≡ L.place }
+        requires rest { IsAtRest L.place local }
+        requires size { (1 ≤ S) × (S ≤ 225) }
+        requires name { blank.name ≡ L.name }
+        requires parts { (blank.parts ≡ L.parts) × (blank.parts ≡ shares) × (0 < shares) }
+        ensures shares { IfOk result (λ made. made.1.items ≡ replicate shares 0) }
+        ensures local { IfErr result (λ back. IsAtRest L.place back.0) }
+        ensures blank { IfErr result (λ back. back.1 ≡ blank) }
+    {
+        let (book, root, cut) = Book::new(alloc, domain, local, blank, shares, last)?;
+        let index = SharedIndex {
+            domain,
+            root,
+            book: Mutex::new(book),
+            shares,
+        };
+        Ok((index, cut))
+    }
+
+    /// The place that its versions are in.
+    pub fn domain(&self) -> &'d Domain<Node<K, V>>
+        ensures place { place_of result.now ≡ L.place }
+        ensures cells { cell_count result.now ≡ L.place.1.cells }
+    {
+        self.domain
+    }
+
+    /// The cell that names the present version.
+    pub fn root(&self) -> &AtomicShared
+        ensures inside { cell_number result.now < L.place.1.cells }
+    {
+        &self.root
+    }
+
+    /// Makes the writes on the present list, as [`Book::commit`] does, if each read of the receipt still holds there. The share
+    /// counts it if it is accepted.
+    pub fn commit<R: Wait>(
+        &self,
+        rt: &R,
+        share: &mut Share<L>,
+        receipt: &Receipt<K, V>,
+        writes: Vec<Write<K, V>>,
+    ) -> Result<Accepted, Refused<K, V>>
+        requires keys { ClonesAreSame K.is_clone }
+        requires values { ClonesAreSame V.is_clone }
+        requires equal_keys { EqualsAreSame K.eq }
+        requires equal_values { EqualsAreSame V.eq }
+        ensures counted { OnOk result (share.new ≡ share.old + 1) }
+        ensures uncounted { OnErr result (share.new ≡ share.old) }
+        ensures back { IfErr result (λ back. back.writes.items ≡ writes.items) }
+    {
+        let mut book = self.book.lock(rt);
+        let told = book.commit(self.domain, &self.root, share, receipt, writes);
+        MutexGuard::unlock(book);
+        told
+    }
+
+    /// Whether the reads of a receipt are answered as the list of its number answers them, as [`Book::audit`] tells.
+    pub fn audit<R: Wait>(&self, rt: &R, receipt: &Receipt<K, V>) -> Result<Audit, AllocError>
+        requires keys { ClonesAreSame K.is_clone }
+        requires values { ClonesAreSame V.is_clone }
+        requires equal_keys { EqualsAreSame K.eq }
+        requires equal_values { EqualsAreSame V.eq }
+    {
+        let book = self.book.lock(rt);
+        let found = book.audit(receipt);
+        MutexGuard::unlock(book);
+        found
+    }
+
+    /// Reclaims versions that nobody reads, as [`Book::reclaim`] does.
+    pub fn reclaim<R: Wait>(&self, rt: &R) {
+        let mut book = self.book.lock(rt);
+        book.reclaim(self.domain);
+        MutexGuard::unlock(book);
+    }
+
+    /// Ends the index: its participant, at rest, and its number, to which the counts of the shares sum. It is handed back with
+    /// the shares where they aren't all there.
+    pub fn close(
+        self,
+        shares: Vec<Share<L>>,
+    ) -> Result<(Local<Node<K, V>>, u64), (Self, Vec<Share<L>>)>
+        ensures all { IsErr result ↔ (length shares.items ≢ L.parts) }
+        ensures rest { IfOk result (λ ended. IsAtRest L.place ended.0) }
+        ensures number { IfOk result (λ ended. ended.1 ≡ sum shares.items) }
+        ensures err { IfErr result (λ back. back.1 ≡ shares) }
+    {
+        if shares.len() != self.shares {
+            return Err((self, shares));
+        }
+        let SharedIndex {
+            domain,
+            root,
+            book,
+            shares: _,
+        } = self;
+        let Some(mut all) = merged(shares) else {
+            unreachable!();
+        };
+        let mut book = book.into_inner();
+        let number = book.balance(&mut all);
+        let mut local = book.end(domain);
+        root.retire(domain, &mut local);
+        Ok((local, number))
+    }
+}

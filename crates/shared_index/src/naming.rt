@@ -1,0 +1,20 @@
+//! Which place an index is in, and which ledger its shares are of.
+
+ghost use Rattle.atomic_table.specs.Seated.{TableId};
+ghost use Rattle.sdd_base.specs.declared.sizes.Sizes.{Sizes};
+
+use std::marker::Brand;
+use std::sync::ledger::Ledger;
+
+/// The place of an index, with its sizes, and the ledger of its shares. What is behind a lock and what stands outside it agree
+/// on both by their types alone, so each index has a type of its own for them. A caller who needs no name takes `Brand`, and
+/// says at one call what it stands for.
+pub trait Naming: Ledger {
+    ghost place: { TableId × Sizes };
+}
+
+impl Naming for Brand {
+    ghost use Rattle.std.specs.Prelude.{[]};
+
+    ghost place = { (record { words = 0; slots = 0; views_name = 0; atom = 0; block = 0; offset = 0; slot_names = [] }, record { participants = 0; slots = 0; cells = 0; jobs = 0 }) };
+}

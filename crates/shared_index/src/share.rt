@@ -1,0 +1,116 @@
+//! Shares of an index, which count the accepted commits that were made with them.
+
+ghost use Rattle.std.specs.Prelude.{◌≡◌, ◌<◌, ◌≤◌, ◌+◌, ◌-◌, ◌^◌, [], length, replicate, vec_capacity, IfNone, IfSome};
+ghost use Rattle.std.specs.List.{sum};
+
+use crate::naming::Naming;
+use std::marker::Model;
+use std::sync::ledger;
+
+/// A share of an index. Who has it commits, and it counts the accepted commits that were made with it.
+///
+/// Contracts see that count. A share that is dropped is lost to the index, which then can't be closed any more.
+#[derive(Drop)]
+pub struct Share<L: Naming> {
+    count: u64,
+    mark: ledger::Share<L>,
+}
+
+/// Invariant: it is one part of the ledger, in which its count is the amount.
+impl<L: Naming> Model for Share<L> {
+    ghost use Rattle.std.specs.Prelude.{◌≡◌, ℕ};
+
+    ghost Value = { ℕ };
+
+    ghost view = { λ s. s.count };
+
+    ghost invariant = { λ s. (s.mark.parts ≡ 1) × (s.mark.amount ≡ s.count) };
+}
+
+impl<L: Naming> Share<L> {
+    /// How many accepted commits were made with it.
+    pub fn count(&self) -> u64
+        ensures { result ≡ self.now }
+    {
+        self.count
+    }
+
+    /// Counts an accepted commit, here and in the book.
+    pub(crate) fn raise(&mut self, book: &mut ledger::Book<L>)
+        requires { book.old.total < 2 ^ 64 - 1 }
+        ensures count { self.new ≡ self.old + 1 }
+        ensures total { book.new.total ≡ book.old.total + 1 }
+    {
+        let Share { count, mark } = self;
+        book.audit(mark);
+        book.add(mark, 1);
+        *count += 1;
+    }
+
+    /// Cuts one part off a mark without an amount.
+    fn cut_one(mark: &mut ledger::Share<L>) -> Self
+        requires parts { 0 < mark.old.parts }
+        requires amount { mark.old.amount ≡ 0 }
+        ensures none { result ≡ 0 }
+        ensures parts { mark.new.parts + 1 ≡ mark.old.parts }
+        ensures amount { mark.new.amount ≡ 0 }
+    {
+        Share {
+            count: 0,
+            mark: mark.split_off(1, 0),
+        }
+    }
+
+    /// Puts it to others, in one mark.
+    fn merge_into(self, all: &mut ledger::Share<L>)
+        ensures parts { all.new.parts ≡ all.old.parts + 1 }
+        ensures amount { all.new.amount ≡ all.old.amount + self }
+    {
+        let Share { count: _, mark } = self;
+        all.merge(mark);
+    }
+}
+
+/// Cuts a mark into as many shares as it has parts, where room was made for them.
+pub(crate) fn cut<L: Naming>(
+    mark: ledger::Share<L>,
+    count: usize,
+    mut room: Vec<Share<L>>,
+) -> Vec<Share<L>>
+    requires parts { mark.parts ≡ count }
+    requires amount { mark.amount ≡ 0 }
+    requires empty { room.items ≡ [] }
+    requires fits { count ≤ vec_capacity room }
+    ensures { result.items ≡ replicate count 0 }
+{
+    let mut mark = mark;
+    for _i in 0..count {
+        room.push_reserved(Share::cut_one(&mut mark));
+    }
+    room
+}
+
+/// Puts shares to others, in one mark.
+fn merge_all<L: Naming>(shares: Vec<Share<L>>, all: &mut ledger::Share<L>)
+    ensures parts { all.new.parts ≡ all.old.parts + length shares.items }
+    ensures amount { all.new.amount ≡ all.old.amount + sum shares.items }
+{
+    for share in shares {
+        share.merge_into(all);
+    }
+}
+
+/// Puts all shares together, in one mark. None where there is none.
+pub(crate) fn merged<L: Naming>(shares: Vec<Share<L>>) -> Option<ledger::Share<L>>
+    ensures none { IfNone result (shares.items ≡ []) }
+    ensures parts { IfSome result (λ all. all.parts ≡ length shares.items) }
+    ensures amount { IfSome result (λ all. all.amount ≡ sum shares.items) }
+{
+    let mut shares = shares;
+    let Some(Share { count: _, mark }) = shares.pop() else {
+        return None;
+    };
+    let mut all = mark;
+    merge_all(shares, &mut all);
+    Some(all)
+}

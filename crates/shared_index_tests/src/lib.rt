@@ -1,0 +1,15 @@
+//! Tests of `shared_index`, apart from it so that its proofs aren't made twice.
+#![tactic(auto)]
+
+#[cfg(test)]
+mod audits;
+#[cfg(test)]
+mod causes;
+#[cfg(test)]
+mod commits;
+#[cfg(test)]
+mod index;
+#[cfg(test)]
+mod refusals;
+#[cfg(test)]
+mod scene;

@@ -1,0 +1,224 @@
+//! A book in a place, with what its calls take.
+
+ghost use Rattle.std.specs.Prelude.{◌≡◌, ◌≤◌, ◌<◌, ◌+◌, [], IfOk, IfErr, OnOk, OnErr};
+ghost use Rattle.sdd_domain.specs.Cells.{cell_number};
+ghost use Rattle.sdd_domain.specs.Tokens.{place_of, home_of, hand_of, own_of, cell_count};
+ghost use Rattle.shared_index.specs.Invariant.{IsAtRest};
+ghost use Rattle.shared_index_tests.specs.Scenes.{CanBegin};
+
+use ordered_index::{Accepted, Answer, Audit, Cause, Query, Receipt, Refused, Reply, Seq};
+use sdd_base::sizes::Sizes;
+use sdd_domain::atomic_shared::AtomicShared;
+use sdd_domain::domain::Domain;
+use sdd_domain::local::Local;
+use shared_index::{Book, Naming, Share};
+use shared_versions::Node;
+use std::alloc::{AllocError, Global};
+use std::process::Abort;
+use std::sync::ledger::Blank;
+use versions::Write;
+
+pub(crate) const ROOM: &str = "memory is there";
+
+/// The items of the place: versions of numbers by numbers.
+pub(crate) type Item = Node<u64, u64>;
+
+/// What a commit is told: its number and replies, or why it was refused and how many writes came back.
+#[derive(Debug, PartialEq, Eq, Drop)]
+pub(crate) enum Told {
+    Accepted(u64, Vec<Reply>),
+    Refused(Cause, usize),
+}
+
+/// A place for two participants, one cell and so many items.
+pub(crate) fn sized(slots: usize) -> Sizes
+    requires { (1 ≤ slots) × (slots ≤ 1073741824) }
+    ensures { result ≡ record { participants = 2; slots = slots; cells = 1; jobs = 0 } }
+{
+    Sizes {
+        participants: 2,
+        slots,
+        cells: 1,
+        jobs: 0,
+    }
+}
+
+/// A participant of the place, which has one that is free.
+pub(crate) fn member<R: Abort>(rt: &R, domain: &Domain<Item>) -> Local<Item>
+    ensures { IsAtRest (place_of domain.now) result }
+{
+    match domain.register() {
+        Ok(local) => local,
+        Err(_) => panic!(rt; "a participant is free"),
+    }
+}
+
+/// Ends a place that nobody uses.
+pub(crate) fn end<R: Abort>(rt: &R, domain: Domain<Item>) {
+    match domain.close() {
+        Ok(()) => {}
+        Err(_) => panic!(rt; "nobody is registered"),
+    }
+}
+
+/// A book, the cell of its version, and its one share.
+pub(crate) struct Scene<'d, L: Naming, const S: usize> {
+    pub(crate) domain: &'d Domain<Item>,
+    pub(crate) root: AtomicShared,
+    pub(crate) book: Book<L, u64, u64, S>,
+    pub(crate) share: Share<L>,
+    ghost place: { place_of domain.now ≡ L.place },
+    ghost inside: { cell_number root < cell_count domain.now },
+}
+
+impl<'d, L: Naming, const S: usize> Scene<'d, L, S> {
+    /// An empty book, whose last number is the given one.
+    pub(crate) fn new<R: Abort>(
+        rt: &R,
+        alloc: Global,
+        domain: &'d Domain<Item>,
+        local: Local<Item>,
+        blank: Blank,
+        last: u64,
+    ) -> Self
+        requires begins { CanBegin L.place L.name L.parts 1 domain.now local blank }
+        requires size { (1 ≤ S) × (S ≤ 225) }
+    {
+        match Book::new(alloc, domain, local, blank, 1, last) {
+            Ok((book, root, mut shares)) => match shares.pop() {
+                Some(share) => Scene {
+                    domain,
+                    root,
+                    book,
+                    share,
+                },
+                None => unreachable!(),
+            },
+            Err((local, _, _)) => {
+                local.end(domain);
+                panic!(rt; "there is memory, a slot and a cell")
+            }
+        }
+    }
+
+    /// Commits writes that rest on a receipt.
+    pub(crate) fn commit(
+        &mut self,
+        receipt: &Receipt<u64, u64>,
+        writes: Vec<Write<u64, u64>>,
+    ) -> Told {
+        match self
+            .book
+            .commit(self.domain, &self.root, &mut self.share, receipt, writes)
+        {
+            Ok(Accepted { number, replies }) => Told::Accepted(number, replies),
+            Err(Refused { cause, writes }) => Told::Refused(cause, writes.len()),
+        }
+    }
+
+    /// Commits writes that rest on nothing.
+    pub(crate) fn write(&mut self, alloc: Global, writes: Vec<Write<u64, u64>>) -> Told {
+        self.commit(&Receipt::blank(alloc), writes)
+    }
+
+    /// Audits a receipt.
+    pub(crate) fn audit(&self, receipt: &Receipt<u64, u64>) -> Result<Audit, AllocError> {
+        self.book.audit(receipt)
+    }
+
+    /// The number, how many pairs there are, and the count of the share.
+    pub(crate) fn counts(&self) -> (u64, usize, u64) {
+        self.book.laws();
+        (self.book.number(), self.book.len(), self.share.count())
+    }
+
+    /// Reclaims what nobody reads.
+    pub(crate) fn reclaim(&mut self) {
+        self.book.reclaim(self.domain);
+    }
+
+    /// Ends the book, and its participant.
+    pub(crate) fn end(self) {
+        let Scene {
+            domain,
+            root,
+            book,
+            share: _,
+        } = self;
+        let mut local = book.end(domain);
+        root.retire(domain, &mut local);
+        local.end(domain);
+    }
+}
+
+/// A receipt of this number with one read.
+pub(crate) fn receipt<R: Abort>(
+    rt: &R,
+    alloc: Global,
+    number: u64,
+    query: Query<u64>,
+    answer: Answer<u64, u64>,
+) -> Receipt<u64, u64> {
+    let mut receipt = Receipt::blank(alloc);
+    receipt.number = number;
+    receipt.note(query, &answer).expect(rt, ROOM);
+    receipt
+}
+
+/// A receipt of this number with one read, that of a key.
+pub(crate) fn got<R: Abort>(
+    rt: &R,
+    alloc: Global,
+    number: u64,
+    key: u64,
+    value: Option<u64>,
+) -> Receipt<u64, u64> {
+    receipt(rt, alloc, number, Query::Get(key), Answer::Get(value))
+}
+
+/// An answer with these pairs.
+pub(crate) fn range<R: Abort, const N: usize>(
+    rt: &R,
+    alloc: Global,
+    pairs: [(u64, u64); N],
+) -> Answer<u64, u64> {
+    let mut told = Vec::new(alloc);
+    for pair in pairs {
+        told.push(pair).expect(rt, ROOM);
+    }
+    Answer::Range(Seq::from_vec(told))
+}
+
+/// No write.
+pub(crate) fn none(alloc: Global) -> Vec<Write<u64, u64>> {
+    Vec::new(alloc)
+}
+
+/// One write.
+pub(crate) fn one<R: Abort>(rt: &R, alloc: Global, write: Write<u64, u64>) -> Vec<Write<u64, u64>> {
+    vec![in alloc; write].expect(rt, ROOM)
+}
+
+/// Two writes.
+pub(crate) fn two<R: Abort>(
+    rt: &R,
+    alloc: Global,
+    first: Write<u64, u64>,
+    second: Write<u64, u64>,
+) -> Vec<Write<u64, u64>> {
+    vec![in alloc; first, second].expect(rt, ROOM)
+}
+
+/// What an accepted commit is told.
+pub(crate) fn accepted<R: Abort, const N: usize>(
+    rt: &R,
+    alloc: Global,
+    number: u64,
+    replies: [Reply; N],
+) -> Told {
+    let mut told = Vec::new(alloc);
+    for reply in replies {
+        told.push(reply).expect(rt, ROOM);
+    }
+    Told::Accepted(number, told)
+}

@@ -1,0 +1,21 @@
+use Rattle.std.proofs.Common.{ℕ, List, [], ◌∷◌, ◌++◌, ap, ◌∙◌}
+use Rattle.sdd_domain.specs.declared.held.Held.{Held}
+use Rattle.versions.specs.declared.directory.Directory.{Directory}
+use Rattle.shared_versions.specs.declared.node.Node.{Node}
+use Rattle.shared_versions.specs.declared.node.Node.TheVariants as nodes
+use Rattle.shared_session_tests.proofs.VersionLemmas.{two_segments}
+use Rattle.shared_session_tests.proofs.place.version.Goals as goal
+
+pub new-version-requires : goal.new-version-requires
+new-version-requires g c =
+    let front = c.hold_last.ensures.last in
+    let back = c.hold_last-2.ensures.last in
+    let is = c.new-directory.ensures in
+    let first = front.1 ∙ ap (λ (hs : List (Held (Node ℕ ℕ))). hs ++ front.0 ∷ []) c.room-held.ensures.none in
+    let both = back.1 ∙ ap (λ (hs : List (Held (Node ℕ ℕ))). hs ++ back.0 ∷ []) first in
+    let owners = ap (λ (d : Directory ℕ (Held (Node ℕ ℕ))). d.segments.items) is ∙ both in
+    let keys = ap (λ (d : Directory ℕ (Held (Node ℕ ℕ))). d.separators.items) is ∙ c.separator.ensures in
+    let three = ap (λ (d : Directory ℕ (Held (Node ℕ ℕ))). d.length) is in
+    let in_front = front.2 (nodes.Segment c.two.result) c.placed-front.ensures.item in
+    let in_back = back.2 (nodes.Segment c.one.result) c.placed-back.ensures.item in
+    two_segments c.new-directory.result front.0 back.0 c.two.result c.one.result c.args.values.0 c.args.values.1 c.args.values.2 owners keys three in_front c.two.ensures in_back c.one.ensures

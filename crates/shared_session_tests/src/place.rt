@@ -1,0 +1,256 @@
+//! A place with versions of two segments, built by hand, and a cell that names one.
+//!
+//! Where memory is refused, what refused it is tried again, and `met` tells it.
+
+ghost use Rattle.std.specs.Prelude.{◌≡◌, ◌<◌, ◌∷◌, [], ◌≤◌, vec_len, vec_capacity};
+ghost use Rattle.sdd_domain.specs.Cells.{cell_number};
+ghost use Rattle.sdd_domain.specs.Sharing.{kept_in, IsOwnerOf};
+ghost use Rattle.sdd_domain.specs.Tokens.{place_of, home_of, hand_of, own_of, cell_count, IsInNest, IsSame, IsSameButHand};
+ghost use Rattle.shared_versions.specs.Nodes.{held_by};
+
+use sdd_base::sizes::Sizes;
+use sdd_domain::atomic_shared::AtomicShared;
+use sdd_domain::domain::Domain;
+use sdd_domain::guard::Guard;
+use sdd_domain::held::Held;
+use sdd_domain::holding::hold_last;
+use sdd_domain::local::Local;
+use sdd_domain::refusal::RegisterRefused;
+use sdd_domain::shared::Shared;
+use shared_sessions::SharedSession;
+use shared_versions::{Node, Version};
+use std::alloc::{AllocError, Global};
+use std::process::Abort;
+use versions::{Directory, Segment};
+
+/// The items of the place: versions of numbers by numbers.
+pub type Item = Node<u64, u64>;
+
+/// Sessions of versions with at most two pairs in a segment.
+pub type Twos = SharedSession<u64, u64, 2>;
+
+const TWICE: &str = "memory was refused twice";
+
+/// A place for three participants, 64 items and one cell.
+const SIZES: Sizes = Sizes {
+    participants: 3,
+    slots: 64,
+    cells: 1,
+    jobs: 0,
+};
+
+/// A place of these sizes.
+pub fn place<R: Abort>(rt: &R, alloc: Global, met: &mut bool) -> Domain<Item> {
+    match Domain::new(alloc, SIZES) {
+        Ok(domain) => domain,
+        Err(AllocError) => {
+            *met = true;
+            Domain::new(alloc, SIZES).expect(rt, TWICE)
+        }
+    }
+}
+
+/// A participant of the place, which has one that is free.
+pub fn member<R: Abort>(rt: &R, domain: &Domain<Item>, met: &mut bool) -> Local<Item>
+    ensures home { (home_of result ≡ place_of domain.now) × (hand_of result ≡ []) }
+    ensures closed { (own_of result).nesting ≡ 0 }
+{
+    match domain.register() {
+        Ok(local) => local,
+        Err(RegisterRefused::Memory) => {
+            *met = true;
+            match domain.register() {
+                Ok(local) => local,
+                Err(_) => panic!(rt; "{TWICE}"),
+            }
+        }
+        Err(RegisterRefused::Full) => panic!(rt; "a participant is free"),
+    }
+}
+
+/// The owner of an item that is placed, where a slot is free.
+pub fn placed<R: Abort>(
+    rt: &R,
+    item: Item,
+    domain: &Domain<Item>,
+    local: &mut Local<Item>,
+) -> Shared<Item>
+    requires home { home_of local.old ≡ place_of domain.now }
+    requires holds { held_by item ≡ hand_of local.old }
+    ensures place { kept_in result ≡ (place_of domain.now).0 }
+    ensures item { IsOwnerOf result item }
+    ensures hand { hand_of local.new ≡ [] }
+    ensures same { IsSameButHand local.old local.new }
+{
+    match Shared::new(item, domain, local) {
+        Ok(owner) => owner,
+        Err(_) => panic!(rt; "a slot is free"),
+    }
+}
+
+/// A segment of this pair.
+pub fn one<R: Abort>(
+    rt: &R,
+    alloc: Global,
+    key: u64,
+    value: u64,
+    met: &mut bool,
+) -> Segment<u64, u64>
+    ensures { result.pairs ≡ (key, value) ∷ [] }
+{
+    let mut segment = Segment::new(alloc);
+    if let Err((key, value)) = segment.push(key, value) {
+        *met = true;
+        let Ok(()) = segment.push(key, value) else {
+            panic!(rt; "{TWICE}");
+        };
+    }
+    segment
+}
+
+/// A segment of the keys 1 and 2.
+fn two<R: Abort>(
+    rt: &R,
+    alloc: Global,
+    first: u64,
+    second: u64,
+    met: &mut bool,
+) -> Segment<u64, u64>
+    ensures { result.pairs ≡ (1, first) ∷ (2, second) ∷ [] }
+{
+    let mut segment = one(rt, alloc, 1, first, met);
+    if let Err((key, value)) = segment.push(2, second) {
+        *met = true;
+        let Ok(()) = segment.push(key, value) else {
+            panic!(rt; "{TWICE}");
+        };
+    }
+    segment
+}
+
+/// Room for two owners.
+fn room<R: Abort>(rt: &R, alloc: Global, met: &mut bool) -> Vec<Held<Item>>
+    ensures none { result.items ≡ [] }
+    ensures room { 2 ≤ vec_capacity result }
+{
+    match Vec::with_capacity(alloc, 2) {
+        Ok(room) => room,
+        Err(_) => {
+            *met = true;
+            match Vec::with_capacity(alloc, 2) {
+                Ok(room) => room,
+                Err(_) => panic!(rt; "{TWICE}"),
+            }
+        }
+    }
+}
+
+/// The separator of two segments.
+fn separator<R: Abort>(rt: &R, alloc: Global, met: &mut bool) -> Vec<u64>
+    ensures { result.items ≡ 2 ∷ [] }
+{
+    let mut separators = Vec::new(alloc);
+    if let Err(refused) = separators.push(2) {
+        *met = true;
+        let Ok(()) = separators.push(refused.value) else {
+            panic!(rt; "{TWICE}");
+        };
+    }
+    separators
+}
+
+/// The owner of a version of this number: the keys 1, 2 and 5 have these values, the first two in one segment.
+pub fn version<R: Abort>(
+    rt: &R,
+    alloc: Global,
+    domain: &Domain<Item>,
+    local: &mut Local<Item>,
+    number: u64,
+    values: (u64, u64, u64),
+    met: &mut bool,
+) -> Shared<Item>
+    requires home { (home_of local.old ≡ place_of domain.now) × (hand_of local.old ≡ []) }
+    ensures place { kept_in result ≡ (place_of domain.now).0 }
+    ensures hand { hand_of local.new ≡ [] }
+    ensures same { IsSameButHand local.old local.new }
+{
+    let (first, second, third) = values;
+    let front = Node::Segment(two(rt, alloc, first, second, met));
+    let front = placed(rt, front, domain, local);
+    let back = Node::Segment(one(rt, alloc, 5, third, met));
+    let back = placed(rt, back, domain, local);
+    let mut held = room(rt, alloc, met);
+    hold_last(&mut held, front, domain, local);
+    hold_last(&mut held, back, domain, local);
+    let directory = Directory::new(number, 3, held, separator(rt, alloc, met));
+    let version = Version::new(directory, 2);
+    placed(rt, Node::Version(version), domain, local)
+}
+
+/// A cell that owns the item, where one is free.
+pub fn cell<R: Abort>(
+    rt: &R,
+    owner: Shared<Item>,
+    domain: &Domain<Item>,
+    local: &mut Local<Item>,
+) -> AtomicShared
+    requires home { home_of local.old ≡ place_of domain.now }
+    requires mine { kept_in owner ≡ (place_of domain.now).0 }
+    ensures inside { cell_number result < cell_count domain.now }
+    ensures same { IsInNest local.old local.new }
+    ensures open { (own_of local.new).nesting ≡ (own_of local.old).nesting }
+{
+    match AtomicShared::from(owner, domain, local) {
+        Ok(cell) => cell,
+        Err(_) => panic!(rt; "a cell is free"),
+    }
+}
+
+/// Has the cell name the item of this owner; the owner that it had is released.
+pub fn publish(
+    owner: Shared<Item>,
+    cell: &AtomicShared,
+    domain: &Domain<Item>,
+    local: &mut Local<Item>,
+)
+    requires home { home_of local.old ≡ place_of domain.now }
+    requires inside { cell_number cell.now < cell_count domain.now }
+    requires mine { kept_in owner ≡ (place_of domain.now).0 }
+    ensures same { IsInNest local.old local.new }
+    ensures open { (own_of local.new).nesting ≡ (own_of local.old).nesting }
+{
+    if let Some(old) = cell.swap(Some(owner), domain, local) {
+        old.release(domain, local);
+    }
+}
+
+/// Eight accelerated guards, opened and closed one by one: what nobody reads any more is reclaimed.
+pub fn reclaim(domain: &Domain<Item>, local: &mut Local<Item>)
+    requires home { home_of local.old ≡ place_of domain.now }
+    requires closed { (own_of local.old).nesting ≡ 0 }
+    ensures same { IsSame local.old local.new }
+    ensures closed { (own_of local.new).nesting ≡ 0 }
+{
+    for _turn in 0..8u8 {
+        let Ok(guard) = Guard::new(domain, local) else {
+            unreachable!();
+        };
+        guard.accelerate(local);
+        guard.close(domain, local);
+    }
+}
+
+/// Gives the cell back, and ends the participant and the place.
+pub fn end<R: Abort>(rt: &R, cell: AtomicShared, domain: Domain<Item>, local: Local<Item>)
+    requires home { (home_of local ≡ place_of domain) × (hand_of local ≡ []) }
+    requires closed { (own_of local).nesting ≡ 0 }
+    requires inside { cell_number cell < cell_count domain }
+{
+    let mut local = local;
+    cell.retire(&domain, &mut local);
+    local.end(&domain);
+    match domain.close() {
+        Ok(()) => {}
+        Err(_) => panic!(rt; "nobody is registered"),
+    }
+}

@@ -1,0 +1,104 @@
+//! Sessions of threads beside a thread that publishes. Each test prints the same whatever the schedule.
+
+ghost use Rattle.std.specs.Prelude.{◌≡◌, ◌<◌, []};
+ghost use Rattle.sdd_domain.specs.Cells.{cell_number};
+ghost use Rattle.sdd_domain.specs.Tokens.{place_of, home_of, hand_of, own_of, cell_count, IsSame};
+
+use crate::place::{Item, Twos, cell, end, member, place, publish, reclaim, version};
+use sdd_domain::atomic_shared::AtomicShared;
+use sdd_domain::domain::Domain;
+use sdd_domain::local::Local;
+use std::alloc::Global;
+use std::process::Abort;
+use std::thread::join;
+
+/// How many versions are published behind the first one, each with its number as each of its values.
+const LAST: u64 = 20;
+
+/// The number of a session's version, if its number is at least this one and all of its values are its number.
+fn whole(
+    alloc: Global,
+    domain: &Domain<Item>,
+    cell: &AtomicShared,
+    local: &mut Local<Item>,
+    at_least: u64,
+) -> Option<u64>
+    requires home { home_of local.old ≡ place_of domain.now }
+    requires inside { cell_number cell.now < cell_count domain.now }
+    requires closed { (own_of local.old).nesting ≡ 0 }
+    ensures same { IsSame local.old local.new }
+    ensures closed { (own_of local.new).nesting ≡ 0 }
+{
+    let Ok(session) = Twos::open(domain, cell, local, alloc, at_least) else {
+        return None;
+    };
+    let number = session.number();
+    let mut same = session.len() == 3;
+    for (_, value) in session.iter() {
+        same = same && *value == number;
+    }
+    session.close(domain, local);
+    if same && number >= at_least {
+        Some(number)
+    } else {
+        None
+    }
+}
+
+/// Two hundred sessions of a participant, each for at least the number of the one before: how many were whole. None if
+/// no participant was free.
+fn reads(alloc: Global, domain: &Domain<Item>, cell: &AtomicShared) -> Option<u32>
+    requires inside { cell_number cell.now < cell_count domain.now }
+{
+    let Ok(mut local) = domain.register() else {
+        return None;
+    };
+    let mut count: u32 = 0;
+    let mut latest = 0;
+    for _turn in 0..200u32 {
+        if let Some(number) = whole(alloc, domain, cell, &mut local, latest) {
+            latest = number;
+            count = count.saturating_add(1);
+        }
+    }
+    local.end(domain);
+    Some(count)
+}
+
+/// Publishes the versions behind the first one. None if no participant was free.
+fn writes<R: Abort>(rt: &R, alloc: Global, domain: &Domain<Item>, cell: &AtomicShared) -> Option<()>
+    requires inside { cell_number cell.now < cell_count domain.now }
+{
+    let Ok(mut local) = domain.register() else {
+        return None;
+    };
+    let mut met = false;
+    for behind in 0..LAST {
+        let number = behind + 2;
+        let values = (number, number, number);
+        let next = version(rt, alloc, domain, &mut local, number, values, &mut met);
+        publish(next, cell, domain, &mut local);
+        reclaim(domain, &mut local);
+    }
+    local.end(domain);
+    Some(())
+}
+
+#[test]
+fn each_session_of_a_thread_reads_one_version(rt: HostRuntime) {
+    let mut met = false;
+    let alloc = rt.alloc();
+    let domain = place(&rt, alloc, &mut met);
+    let mut local = member(&rt, &domain, &mut met);
+    let first = version(&rt, alloc, &domain, &mut local, 1, (1, 1, 1), &mut met);
+    let cell = cell(&rt, first, &domain, &mut local);
+    let (written, read) = join(
+        &rt,
+        || writes(&rt, alloc, &domain, &cell),
+        || reads(alloc, &domain, &cell),
+    );
+    assert_eq!(rt; (written, read), (Some(()), Some(200)));
+    let last = whole(alloc, &domain, &cell, &mut local, LAST + 1);
+    assert_eq!(rt; last, Some(LAST + 1));
+    end(&rt, cell, domain, local);
+}
