@@ -126,9 +126,7 @@ fn copied_query<K: Clone>(query: &Query<K>) -> Result<Query<K>, AllocError>
 }
 
 /// A copy of an answer.
-fn copied_answer<K: Clone, V: Clone>(
-    answer: &Answer<K, V>,
-) -> Result<Answer<K, V>, AllocError>
+fn copied_answer<K: Clone, V: Clone>(answer: &Answer<K, V>) -> Result<Answer<K, V>, AllocError>
     requires keys { ClonesAreSame K.is_clone }
     requires values { ClonesAreSame V.is_clone }
     ensures { IfOk result (λ copy. copy ≡ answer.now) }

@@ -1,8 +1,8 @@
 //! Runs in which any one allocation may be refused.
 
-ghost use Rattle.std.specs.Prelude.{◌≡◌, ◌<◌, []};
+ghost use Rattle.std.specs.Prelude.{◌≡◌, ◌<◌};
 
-use crate::place::{Twos, cell, end, member, place, version};
+use crate::place::{Twos, cell, end, member, small_place, version};
 use ordered_index::{Answer, Query};
 use std::alloc::{AllocError, Global};
 use std::ops::Bound;
@@ -35,7 +35,7 @@ fn lists_three(answer: &Answer<u64, u64>) -> bool {
 // Whether an allocation was refused while a version was made and read twice. Opening and closing a session takes none.
 fn reads<R: Abort>(rt: &R, alloc: Global) -> bool {
     let mut met = false;
-    let domain = place(rt, alloc, &mut met);
+    let domain = small_place(rt, alloc, &mut met);
     let mut local = member(rt, &domain, &mut met);
     let first = version(rt, alloc, &domain, &mut local, 1, (10, 20, 50), &mut met);
     let cell = cell(rt, first, &domain, &mut local);

@@ -1,8 +1,8 @@
 //! Which sessions are opened, and which are refused.
 
-ghost use Rattle.std.specs.Prelude.{◌≡◌, ◌<◌, []};
+ghost use Rattle.std.specs.Prelude.{◌≡◌, ◌<◌};
 ghost use Rattle.sdd_domain.specs.Cells.{cell_number};
-ghost use Rattle.sdd_domain.specs.Tokens.{place_of, home_of, hand_of, own_of, cell_count, IsSame};
+ghost use Rattle.sdd_domain.specs.Tokens.{place_of, home_of, own_of, cell_count, IsSame};
 
 use crate::place::{Item, Twos, cell, end, member, one, place, placed, publish, reclaim, version};
 use sdd_domain::atomic_shared::AtomicShared;

@@ -2,8 +2,9 @@
 //!
 //! Where memory is refused, what refused it is tried again, and `met` tells it.
 
-ghost use Rattle.std.specs.Prelude.{◌≡◌, ◌<◌, ◌∷◌, [], ◌≤◌, vec_len, vec_capacity};
+ghost use Rattle.std.specs.Prelude.{◌≡◌, ◌<◌, ◌∷◌, [], ◌≤◌, vec_capacity};
 ghost use Rattle.sdd_domain.specs.Cells.{cell_number};
+ghost use Rattle.sdd_domain.specs.Layout.{IsSized};
 ghost use Rattle.sdd_domain.specs.Sharing.{kept_in, IsOwnerOf};
 ghost use Rattle.sdd_domain.specs.Tokens.{place_of, home_of, hand_of, own_of, cell_count, IsInNest, IsSame, IsSameButHand};
 ghost use Rattle.shared_versions.specs.Nodes.{held_by};
@@ -39,13 +40,32 @@ const SIZES: Sizes = Sizes {
     jobs: 0,
 };
 
-/// A place of these sizes.
+/// A place for one participant, one version and one cell.
+const SMALL: Sizes = Sizes {
+    participants: 1,
+    slots: 3,
+    cells: 1,
+    jobs: 0,
+};
+
+/// A place for several versions.
 pub fn place<R: Abort>(rt: &R, alloc: Global, met: &mut bool) -> Domain<Item> {
-    match Domain::new(alloc, SIZES) {
+    sized(rt, alloc, SIZES, met)
+}
+
+/// A place for one version, which takes few allocations.
+pub fn small_place<R: Abort>(rt: &R, alloc: Global, met: &mut bool) -> Domain<Item> {
+    sized(rt, alloc, SMALL, met)
+}
+
+fn sized<R: Abort>(rt: &R, alloc: Global, sizes: Sizes, met: &mut bool) -> Domain<Item>
+    requires { IsSized sizes }
+{
+    match Domain::new(alloc, sizes) {
         Ok(domain) => domain,
         Err(AllocError) => {
             *met = true;
-            Domain::new(alloc, SIZES).expect(rt, TWICE)
+            Domain::new(alloc, sizes).expect(rt, TWICE)
         }
     }
 }
@@ -249,6 +269,10 @@ pub fn end<R: Abort>(rt: &R, cell: AtomicShared, domain: Domain<Item>, local: Lo
     let mut local = local;
     cell.retire(&domain, &mut local);
     local.end(&domain);
+    // What still waits holds owners, and so the end of the place takes memory, which may be refused once.
+    let Err(domain) = domain.close() else {
+        return;
+    };
     match domain.close() {
         Ok(()) => {}
         Err(_) => panic!(rt; "nobody is registered"),

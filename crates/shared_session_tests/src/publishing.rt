@@ -1,7 +1,5 @@
 //! Sessions beside versions that are published meanwhile.
 
-ghost use Rattle.std.specs.Prelude.{◌≡◌, []};
-
 use crate::place::{Twos, cell, end, member, place, publish, reclaim, version};
 use ordered_index::{Answer, Query};
 use std::ops::Bound;

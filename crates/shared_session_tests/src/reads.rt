@@ -1,8 +1,6 @@
 //! What sessions answer, by rows with answers written by hand.
 
-ghost use Rattle.std.specs.Prelude.{◌≡◌, ◌<◌, []};
-ghost use Rattle.sdd_domain.specs.Cells.{cell_number};
-ghost use Rattle.sdd_domain.specs.Tokens.{place_of, home_of, hand_of, own_of, cell_count};
+ghost use Rattle.std.specs.Prelude.{◌<◌, []};
 
 use crate::place::{Twos, cell, end, member, place, placed, version};
 use ordered_index::{Answer, Near, Query, Seq};

@@ -1,8 +1,8 @@
 //! Sessions of threads beside a thread that publishes. Each test prints the same whatever the schedule.
 
-ghost use Rattle.std.specs.Prelude.{◌≡◌, ◌<◌, []};
+ghost use Rattle.std.specs.Prelude.{◌≡◌, ◌<◌};
 ghost use Rattle.sdd_domain.specs.Cells.{cell_number};
-ghost use Rattle.sdd_domain.specs.Tokens.{place_of, home_of, hand_of, own_of, cell_count, IsSame};
+ghost use Rattle.sdd_domain.specs.Tokens.{place_of, home_of, own_of, cell_count, IsSame};
 
 use crate::place::{Item, Twos, cell, end, member, place, publish, reclaim, version};
 use sdd_domain::atomic_shared::AtomicShared;

@@ -1,8 +1,8 @@
 //! Opening a session, and why none is opened.
 
-ghost use Rattle.std.specs.Prelude.{◌≡◌, ℕ, ◌+◌, ◌≤◌, ◌<◌, ◌↔◌, [], nat_lt, IfOk, IfErr, IfSome, IfNone, IsNone, OnOk, OnErr, IsErrOf};
+ghost use Rattle.std.specs.Prelude.{◌≡◌, ◌+◌, ◌≤◌, ◌<◌, ◌↔◌, [], IfOk, IfErr, IfSome, IfNone, IsNone, OnOk, OnErr, IsErrOf};
 ghost use Rattle.sdd_domain.specs.Cells.{cell_number};
-ghost use Rattle.sdd_domain.specs.Tokens.{place_of, home_of, own_of, born_of, waiting_of, cell_count, nest_of, nest_in, begun, IsSame};
+ghost use Rattle.sdd_domain.specs.Tokens.{place_of, home_of, own_of, born_of, cell_count, nest_of, nest_in, IsSame};
 ghost use Rattle.shared_sessions.specs.Openings.{IsBelow};
 
 use crate::session::SharedSession;

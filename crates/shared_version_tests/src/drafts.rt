@@ -1,8 +1,5 @@
 //! Drafts by example.
 
-ghost use Rattle.std.specs.Prelude.{◌≡◌, []};
-ghost use Rattle.shared_versions.specs.Nodes.{held_by};
-
 use sdd_domain::holds::Holds;
 use shared_versions::{Draft, Node, Version, build};
 use std::ops::Bound;

@@ -4,7 +4,9 @@ ghost use Rattle.std.specs.Prelude.{◌≡◌, []};
 ghost use Rattle.shared_versions.specs.Nodes.{held_by};
 
 use sdd_domain::holds::Holds;
-use shared_versions::{Draft, Node, Reader, Session, Version, view_of};
+use sdd_domain::local::Local;
+use sdd_domain::shared::Shared;
+use shared_versions::{Node, Reader, Session, Version, view_of};
 use std::ops::Bound;
 use std::process::Abort;
 use std::test::Fail;
@@ -69,7 +71,7 @@ fn end(node: Node<u64, u64>)
     node.end();
 }
 
-// Threads share nodes, readers and sessions, and hand drafts over.
+// Threads share nodes, readers and sessions, and hand over nodes, their owners, and participants.
 fn are_shared(
     node: &Node<u64, u64>,
     reader: &Reader<u64, u64, 64>,
@@ -80,12 +82,16 @@ fn are_shared(
     is_sync(session);
 }
 
-fn is_handed_over(draft: Draft<u64, u64, 64>) -> Draft<u64, u64, 64> {
-    is_send(draft)
-}
-
 fn node_is_handed_over(node: Node<u64, u64>) -> Node<u64, u64> {
     is_send(node)
+}
+
+fn owner_is_handed_over(owner: Shared<Node<u64, u64>>) -> Shared<Node<u64, u64>> {
+    is_send(owner)
+}
+
+fn participant_is_handed_over(local: Local<Node<u64, u64>>) -> Local<Node<u64, u64>> {
+    is_send(local)
 }
 
 fn is_sync<T: Sync>(_x: &T) {}

@@ -194,11 +194,22 @@ fn a_placed_version_is_read(rt: HostRuntime) -> Result<(), Fail> {
     let mut local = member(&rt, &domain);
     let (mut present, root) = begun::<_, 2>(&rt, rt.alloc(), &domain, &mut local);
     let writes = upserts(&rt, rt.alloc(), 1..6, 7);
-    let placed = commit(&rt, rt.alloc(), &domain, &mut local, &mut present, &root, &writes);
+    let placed = commit(
+        &rt,
+        rt.alloc(),
+        &domain,
+        &mut local,
+        &mut present,
+        &root,
+        &writes,
+    );
     assert!(rt; placed);
     // three segments, their version, and the empty one
     assert_eq!(rt; domain.slots_in_use(), 5);
-    assert_eq!(rt; seen::<_, 2>(&rt, &domain, &mut local, &root, 3), (Some(7), 5));
+    assert_eq!(rt;
+        seen::<_, 2>(&rt, &domain, &mut local, &root, 3),
+        (Some(7), 5)
+    );
     assert_eq!(rt; seen::<_, 2>(&rt, &domain, &mut local, &root, 6), (None, 5));
     reclaim(&domain, &mut local);
     assert_eq!(rt; domain.slots_in_use(), 4);
@@ -212,15 +223,34 @@ fn a_version_without_slots_leaves_the_present_one(rt: HostRuntime) -> Result<(),
     let mut local = member(&rt, &domain);
     let (mut present, root) = begun::<_, 2>(&rt, rt.alloc(), &domain, &mut local);
     let many = upserts(&rt, rt.alloc(), 1..6, 7);
-    let placed = commit(&rt, rt.alloc(), &domain, &mut local, &mut present, &root, &many);
+    let placed = commit(
+        &rt,
+        rt.alloc(),
+        &domain,
+        &mut local,
+        &mut present,
+        &root,
+        &many,
+    );
     assert!(rt; !placed);
     assert_eq!(rt; seen::<_, 2>(&rt, &domain, &mut local, &root, 3), (None, 0));
     reclaim(&domain, &mut local);
     assert_eq!(rt; domain.slots_in_use(), 1);
     let few = upserts(&rt, rt.alloc(), 1..4, 8);
-    let placed = commit(&rt, rt.alloc(), &domain, &mut local, &mut present, &root, &few);
+    let placed = commit(
+        &rt,
+        rt.alloc(),
+        &domain,
+        &mut local,
+        &mut present,
+        &root,
+        &few,
+    );
     assert!(rt; placed);
-    assert_eq!(rt; seen::<_, 2>(&rt, &domain, &mut local, &root, 3), (Some(8), 3));
+    assert_eq!(rt;
+        seen::<_, 2>(&rt, &domain, &mut local, &root, 3),
+        (Some(8), 3)
+    );
     end(&rt, domain, local, present, root);
     Ok(())
 }
@@ -231,17 +261,55 @@ fn what_waits_is_in_the_way_until_it_is_reclaimed(rt: HostRuntime) -> Result<(),
     let mut local = member(&rt, &domain);
     let (mut present, root) = begun::<_, 1>(&rt, rt.alloc(), &domain, &mut local);
     let one = upserts(&rt, rt.alloc(), 1..2, 1);
-    let first = commit(&rt, rt.alloc(), &domain, &mut local, &mut present, &root, &one);
+    let first = commit(
+        &rt,
+        rt.alloc(),
+        &domain,
+        &mut local,
+        &mut present,
+        &root,
+        &one,
+    );
     let two = upserts(&rt, rt.alloc(), 1..2, 2);
-    let second = commit(&rt, rt.alloc(), &domain, &mut local, &mut present, &root, &two);
+    let second = commit(
+        &rt,
+        rt.alloc(),
+        &domain,
+        &mut local,
+        &mut present,
+        &root,
+        &two,
+    );
     let three = upserts(&rt, rt.alloc(), 1..2, 3);
-    let third = commit(&rt, rt.alloc(), &domain, &mut local, &mut present, &root, &three);
+    let third = commit(
+        &rt,
+        rt.alloc(),
+        &domain,
+        &mut local,
+        &mut present,
+        &root,
+        &three,
+    );
     assert_eq!(rt; [first, second, third], [true, true, false]);
-    assert_eq!(rt; seen::<_, 1>(&rt, &domain, &mut local, &root, 1), (Some(2), 1));
+    assert_eq!(rt;
+        seen::<_, 1>(&rt, &domain, &mut local, &root, 1),
+        (Some(2), 1)
+    );
     reclaim(&domain, &mut local);
-    let fourth = commit(&rt, rt.alloc(), &domain, &mut local, &mut present, &root, &three);
+    let fourth = commit(
+        &rt,
+        rt.alloc(),
+        &domain,
+        &mut local,
+        &mut present,
+        &root,
+        &three,
+    );
     assert!(rt; fourth);
-    assert_eq!(rt; seen::<_, 1>(&rt, &domain, &mut local, &root, 1), (Some(3), 1));
+    assert_eq!(rt;
+        seen::<_, 1>(&rt, &domain, &mut local, &root, 1),
+        (Some(3), 1)
+    );
     end(&rt, domain, local, present, root);
     Ok(())
 }
@@ -252,18 +320,40 @@ fn segments_that_no_write_touches_are_shared(rt: HostRuntime) -> Result<(), Fail
     let mut local = member(&rt, &domain);
     let (mut present, root) = begun::<_, 2>(&rt, rt.alloc(), &domain, &mut local);
     let all = upserts(&rt, rt.alloc(), 1..9, 1);
-    let first = commit(&rt, rt.alloc(), &domain, &mut local, &mut present, &root, &all);
+    let first = commit(
+        &rt,
+        rt.alloc(),
+        &domain,
+        &mut local,
+        &mut present,
+        &root,
+        &all,
+    );
     reclaim(&domain, &mut local);
     // four segments and their version
     assert_eq!(rt; domain.slots_in_use(), 5);
     let one = upserts(&rt, rt.alloc(), 3..4, 2);
-    let second = commit(&rt, rt.alloc(), &domain, &mut local, &mut present, &root, &one);
+    let second = commit(
+        &rt,
+        rt.alloc(),
+        &domain,
+        &mut local,
+        &mut present,
+        &root,
+        &one,
+    );
     assert_eq!(rt; (first, second), (true, true));
     assert_eq!(rt; domain.slots_in_use(), 7);
     reclaim(&domain, &mut local);
     assert_eq!(rt; domain.slots_in_use(), 5);
-    assert_eq!(rt; seen::<_, 2>(&rt, &domain, &mut local, &root, 3), (Some(2), 8));
-    assert_eq!(rt; seen::<_, 2>(&rt, &domain, &mut local, &root, 8), (Some(1), 8));
+    assert_eq!(rt;
+        seen::<_, 2>(&rt, &domain, &mut local, &root, 3),
+        (Some(2), 8)
+    );
+    assert_eq!(rt;
+        seen::<_, 2>(&rt, &domain, &mut local, &root, 8),
+        (Some(1), 8)
+    );
     end(&rt, domain, local, present, root);
     Ok(())
 }
@@ -275,16 +365,35 @@ fn a_session_reads_on_while_versions_follow(rt: HostRuntime) -> Result<(), Fail>
     let mut local = member(&rt, &domain);
     let (mut present, root) = begun::<_, 2>(&rt, rt.alloc(), &domain, &mut local);
     let old = upserts(&rt, rt.alloc(), 1..9, 1);
-    let first = commit(&rt, rt.alloc(), &domain, &mut local, &mut present, &root, &old);
+    let first = commit(
+        &rt,
+        rt.alloc(),
+        &domain,
+        &mut local,
+        &mut present,
+        &root,
+        &old,
+    );
     let session = opened::<_, 2>(&rt, &domain, &mut reader, &root);
     let new = upserts(&rt, rt.alloc(), 3..12, 2);
-    let second = commit(&rt, rt.alloc(), &domain, &mut local, &mut present, &root, &new);
+    let second = commit(
+        &rt,
+        rt.alloc(),
+        &domain,
+        &mut local,
+        &mut present,
+        &root,
+        &new,
+    );
     assert_eq!(rt; (first, second), (true, true));
     reclaim(&domain, &mut local);
     assert_eq!(rt; told(&session, 3), (Some(1), 8));
     assert_eq!(rt; told(&session, 11), (None, 8));
     session.into_guard().close(&domain, &mut reader);
-    assert_eq!(rt; seen::<_, 2>(&rt, &domain, &mut reader, &root, 3), (Some(2), 11));
+    assert_eq!(rt;
+        seen::<_, 2>(&rt, &domain, &mut reader, &root, 3),
+        (Some(2), 11)
+    );
     reader.end(&domain);
     reclaim(&domain, &mut local);
     assert_eq!(rt; domain.slots_in_use(), 7);

@@ -2,7 +2,6 @@
 
 ghost use Rattle.std.specs.Prelude.{◌≡◌, ◌<◌, [], IfOk, OnOk, OnErr, Some};
 ghost use Rattle.sdd_domain.specs.Cells.{cell_number};
-ghost use Rattle.sdd_domain.specs.Sharing.{kept_in};
 ghost use Rattle.sdd_domain.specs.Tokens.{place_of, home_of, hand_of, cell_count};
 ghost use Rattle.shared_versions.specs.Placing.{IsMade, IsOf, IsPresent, IsStill, item_owned, placed_of, version_owned};
 ghost use Rattle.shared_versions.specs.Drafts.{IsPlaceable};

@@ -1,6 +1,6 @@
 //! Room for the owners of the segments of a version to be placed.
 
-ghost use Rattle.std.specs.Prelude.{◌≡◌, ◌≤◌, [], IfOk, vec_capacity};
+ghost use Rattle.std.specs.Prelude.{◌≡◌, [], IfOk};
 ghost use Rattle.shared_versions.specs.Drafts.{HasRoom};
 
 use crate::kept::Kept;
