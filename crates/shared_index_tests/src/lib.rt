@@ -13,3 +13,5 @@ mod index;
 mod refusals;
 #[cfg(test)]
 mod scene;
+#[cfg(test)]
+mod sharing;

@@ -6,7 +6,7 @@ ghost use Rattle.shared_versions.specs.Nodes.{held_by};
 use sdd_domain::holds::Holds;
 use sdd_domain::local::Local;
 use sdd_domain::shared::Shared;
-use shared_versions::{Node, Reader, Session, Version, view_of};
+use shared_versions::{Node, Present, Reader, Session, Version, view_of};
 use std::ops::Bound;
 use std::process::Abort;
 use std::test::Fail;
@@ -71,7 +71,7 @@ fn end(node: Node<u64, u64>)
     node.end();
 }
 
-// Threads share nodes, readers and sessions, and hand over nodes, their owners, and participants.
+// Threads share nodes, readers and sessions, and hand over nodes, their owners, participants, and the present version.
 fn are_shared(
     node: &Node<u64, u64>,
     reader: &Reader<u64, u64, 64>,
@@ -88,6 +88,12 @@ fn node_is_handed_over(node: Node<u64, u64>) -> Node<u64, u64> {
 
 fn owner_is_handed_over(owner: Shared<Node<u64, u64>>) -> Shared<Node<u64, u64>> {
     is_send(owner)
+}
+
+fn present_version_is_handed_over(
+    present: Present<u64, u64, 64>,
+) -> Present<u64, u64, 64> {
+    is_send(present)
 }
 
 fn participant_is_handed_over(local: Local<Node<u64, u64>>) -> Local<Node<u64, u64>> {

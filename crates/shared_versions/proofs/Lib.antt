@@ -5,4 +5,5 @@ pub mod LoadedLemmas
 pub mod OwnedLemmas
 pub mod PresentLemmas
 pub mod SeamLemmas
+pub mod SendLemmas
 pub mod StillLemmas
