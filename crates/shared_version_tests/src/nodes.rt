@@ -90,9 +90,7 @@ fn owner_is_handed_over(owner: Shared<Node<u64, u64>>) -> Shared<Node<u64, u64>>
     is_send(owner)
 }
 
-fn present_version_is_handed_over(
-    present: Present<u64, u64, 64>,
-) -> Present<u64, u64, 64> {
+fn present_version_is_handed_over(present: Present<u64, u64, 64>) -> Present<u64, u64, 64> {
     is_send(present)
 }
 
