@@ -1,11 +1,12 @@
 //! The index that threads share.
 
-ghost use Rattle.std.specs.Prelude.{◌≡◌, ◌≢◌, ◌≤◌, ◌<◌, ◌+◌, ◌↔◌, IfOk, IfErr, IsErr, OnOk, OnErr, length, replicate};
+ghost use Rattle.std.specs.Prelude.{◌≡◌, ◌≢◌, ◌≤◌, ◌<◌, ◌+◌, ◌↔◌, [], IfOk, IfErr, IsErr, IsErrOf, OnOk, OnErr, length, replicate};
 ghost use Rattle.std.specs.List.{sum};
 ghost use Rattle.leaf_array.specs.Values.{ClonesAreSame, EqualsAreSame};
 ghost use Rattle.sdd_domain.specs.Cells.{cell_number};
-ghost use Rattle.sdd_domain.specs.Tokens.{place_of, cell_count};
+ghost use Rattle.sdd_domain.specs.Tokens.{place_of, home_of, own_of, born_of, cell_count, nest_in, IsSame};
 ghost use Rattle.shared_index.specs.Invariant.{IsAtRest};
+ghost use Rattle.shared_sessions.specs.Openings.{IsBelow};
 
 use crate::book::{Book, NewRefused};
 use crate::naming::Naming;
@@ -14,6 +15,7 @@ use ordered_index::{Accepted, Audit, Receipt, Refused};
 use sdd_domain::atomic_shared::AtomicShared;
 use sdd_domain::domain::Domain;
 use sdd_domain::local::Local;
+use shared_sessions::{OpenRefused, SharedSession};
 use shared_versions::Node;
 use std::alloc::{AllocError, Global};
 use std::marker::Model;
@@ -33,6 +35,8 @@ pub struct SharedIndex<'d, L: Naming, K: Clone + Ord, V: Clone + Eq, const S: us
     book: Mutex<Book<L, K, V, S>>,
     // how many there are
     shares: usize,
+    // where the receipts of sessions have their memory from
+    alloc: Global,
 }
 
 /// Invariant: the place is the named one, and has the cell; there are as many shares as the ledger has parts.
@@ -95,6 +99,7 @@ impl<'d, L: Naming, K: Clone + Ord, V: Clone + Eq, const S: usize> SharedIndex<'
             root,
             book: Mutex::new(book),
             shares,
+            alloc,
         };
         Ok((index, cut))
     }
@@ -112,6 +117,40 @@ impl<'d, L: Naming, K: Clone + Ord, V: Clone + Eq, const S: usize> SharedIndex<'
         ensures inside { cell_number result.now < L.place.1.cells }
     {
         &self.root
+    }
+
+    /// Opens a session of the participant on the version that the root is found to name, by one load and without the lock: it
+    /// reads the list of that version until it is closed, whatever is committed and reclaimed meanwhile. Opening takes no
+    /// memory; what the session records takes some.
+    ///
+    /// It is refused, with as many guards open as before, where [`SharedSession::open`] is: as `Nested` exactly where no more
+    /// guards of the participant can be counted, and as `Earlier` exactly where the number of the version that it loaded is
+    /// below `at_least`. Who was told the number of a commit asks for that number, so that it reads what was committed; 0 asks
+    /// for nothing. An index never publishes what `NoVersion` tells of.
+    ///
+    /// ```text
+    /// let mut session = index.open(&mut local, accepted.number)?;
+    /// session.read(Query::Get(1))?;
+    /// let receipt = session.close(index.domain(), &mut local);
+    /// index.commit(&rt, &mut share, &receipt, writes)?;
+    /// ```
+    pub fn open(
+        &self,
+        local: &mut Local<Node<K, V>>,
+        at_least: u64,
+    ) -> Result<SharedSession<K, V, S>, OpenRefused>
+        requires home { home_of local.old ≡ L.place }
+        ensures number { IfOk result (λ s. at_least ≤ s.number) }
+        ensures receipt { IfOk result (λ s. s.receipt ≡ record { number = s.number; reads = [] }) }
+        ensures nest { IfOk result (λ s. s.nest ≡ nest_in local.new) }
+        ensures opened { OnOk result ((own_of local.new).nesting ≡ (own_of local.old).nesting + 1) }
+        ensures nested { IsErrOf result OpenRefused.Nested ↔ ((own_of local.old).nesting ≡ 4294967295) }
+        ensures earlier { IfErr result (IsBelow at_least) }
+        ensures closed { OnErr result ((own_of local.new).nesting ≡ (own_of local.old).nesting) }
+        ensures inner { 0 < (own_of local.old).nesting → (born_of local.new ≡ born_of local.old) × (nest_in local.new ≡ nest_in local.old) }
+        ensures same { IsSame local.old local.new }
+    {
+        SharedSession::open(self.domain, &self.root, local, self.alloc, at_least)
     }
 
     /// Makes the writes on the present list, as [`Book::commit`] does, if each read of the receipt still holds there. The share
@@ -176,6 +215,7 @@ impl<'d, L: Naming, K: Clone + Ord, V: Clone + Eq, const S: usize> SharedIndex<'
             root,
             book,
             shares: _,
+            alloc: _,
         } = self;
         let Some(mut all) = merged(shares) else {
             unreachable!();

@@ -1,4 +1,4 @@
-//! A transactional ordered index that threads share: its writing half.
+//! A transactional ordered index that threads share.
 //!
 //! A [`Book`] has the history of accepted commits and the present version, in a place that threads share (`sdd_domain`). A
 //! [`SharedIndex`] keeps one behind a lock, beside the cell that names the present version, which is read without the lock.
@@ -23,8 +23,10 @@ mod commit;
 mod index;
 mod naming;
 mod share;
+mod sharing;
 
 pub use book::{Book, NewRefused};
 pub use index::SharedIndex;
 pub use naming::Naming;
 pub use share::Share;
+pub use sharing::join_over;

@@ -1,0 +1,30 @@
+//! Two tasks over one value that threads share.
+
+use std::thread::{Threads, join};
+
+/// Runs two tasks over one value, the first in a thread of its own where one can be had: what both answer, once both have.
+///
+/// It is `std::thread::join` with the value handed to the tasks in place of borrowed by them. Of an index this makes a
+/// difference to the prover: that a closure which borrows one may be sent is beyond its search, while that threads may share
+/// one is a lemma. A caller names it on its function:
+/// `#[tactic(auto, using(shared_index::proofs::SendLemmas::index_sync))]`.
+pub fn join_over<
+    T: Sync,
+    A: Send,
+    B,
+    F: FnOnce(&T) -> A + Send,
+    G: FnOnce(&T) -> B,
+    R: Threads + Sync,
+>(rt: &R, shared: &T, first: F, second: G) -> (A, B)
+    requires { F.IsAlwaysCallable first × G.IsAlwaysCallable second }
+{
+    join(
+        rt,
+        move ||
+            requires { F.IsAlwaysCallable first }
+        { first(shared) },
+        move ||
+            requires { G.IsAlwaysCallable second }
+        { second(shared) },
+    )
+}
