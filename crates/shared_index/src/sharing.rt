@@ -6,8 +6,8 @@ use std::thread::{Threads, join};
 ///
 /// It is `std::thread::join` with the value handed to the tasks in place of borrowed by them. Of an index this makes a
 /// difference to the prover: that a closure which borrows one may be sent is beyond its search, while that threads may share
-/// one is a lemma. A caller names it on its function:
-/// `#[tactic(auto, using(shared_index::proofs::SendLemmas::index_sync))]`.
+/// one is a lemma of `proofs/SendLemmas.antt`, with which its caller answers:
+/// `search (index_sync, crosses, sendable) depth 12`.
 pub fn join_over<
     T: Sync,
     A: Send,

@@ -15,3 +15,5 @@ mod refusals;
 mod scene;
 #[cfg(test)]
 mod sharing;
+#[cfg(test)]
+mod threads;
