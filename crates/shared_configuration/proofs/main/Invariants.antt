@@ -1,0 +1,8 @@
+use Rattle.sdd_domain.specs.Tokens.{place_of}
+use Rattle.shared_configuration.proofs.main.Given as goal
+
+abbrev pub ghosts-play-L-Ledger : goal.ghosts-play-L-Ledger
+ghosts-play-L-Ledger g a = record { name = a.blank.name; parts = a.blank.parts }
+
+abbrev pub ghosts-play-L-Naming : goal.ghosts-play-L-Naming
+ghosts-play-L-Naming g a = record { place = place_of a.domain.now }
