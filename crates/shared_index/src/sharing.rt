@@ -1,5 +1,7 @@
 //! Two tasks over one value that threads share.
 
+ghost use Rattle.std.specs.Fn.{FnOnceReturnsAt};
+
 use std::thread::{Threads, join};
 
 /// Runs two tasks over one value, the first in a thread of its own where one can be had: what both answer, once both have.
@@ -17,14 +19,18 @@ pub fn join_over<
     R: Threads + Sync,
 >(rt: &R, shared: &T, first: F, second: G) -> (A, B)
     requires { F.IsAlwaysCallable first × G.IsAlwaysCallable second }
+    ensures first { FnOnceReturnsAt F.FnOnce first shared.now result.0 }
+    ensures second { FnOnceReturnsAt G.FnOnce second shared.now result.1 }
 {
     join(
         rt,
-        move ||
+        move || -> A
             requires { F.IsAlwaysCallable first }
+            ensures { FnOnceReturnsAt F.FnOnce first shared.entry.now result }
         { first(shared) },
-        move ||
+        move || -> B
             requires { G.IsAlwaysCallable second }
+            ensures { FnOnceReturnsAt G.FnOnce second shared.entry.now result }
         { second(shared) },
     )
 }
