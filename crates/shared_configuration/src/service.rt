@@ -2,7 +2,7 @@
 
 ghost use Rattle.std.specs.Prelude.{◌≡◌};
 ghost use Rattle.sdd_domain.specs.Tokens.{place_of, home_of, own_of, IsSame};
-ghost use Rattle.shared_index.specs.Invariant.{IsAtRest};
+ghost use Rattle.shared_index.specs.Invariant.{IsUnengaged};
 
 use ordered_index::{Audit, Query, Receipt};
 use sdd_domain::domain::Domain;
@@ -41,7 +41,7 @@ pub(crate) fn play<L: Naming + Send + Sync, R: Threads + Wait + Sync>(
     blank: Blank,
 ) -> Option<Report>
     requires here { place_of domain.now ≡ L.place }
-    requires rest { IsAtRest L.place local }
+    requires rest { IsUnengaged L.place local }
     requires name { blank.name ≡ L.name }
     requires parts { (blank.parts ≡ L.parts) × (blank.parts ≡ 1) }
 {

@@ -11,7 +11,7 @@ use Rattle.shared_versions.specs.Drafts.{list_of}
 use Rattle.shared_versions.specs.Placing.{Placed}
 
 -- the participant is of this place, with no guard open and no owner in hand
-pub record IsAtRest {T : Type 0} (place : TableId × Sizes) (local : Local T) : Type 0 where
+pub record IsUnengaged {T : Type 0} (place : TableId × Sizes) (local : Local T) : Type 0 where
   pub home : home_of local ≡ place
   pub closed : (own_of local).nesting ≡ 0
   pub bare : hand_of local ≡ []

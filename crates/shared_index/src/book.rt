@@ -7,7 +7,7 @@ ghost use Rattle.ordered_index.specs.Serial.{Holds, IsFirstConflict, IsSerial};
 ghost use Rattle.sdd_domain.specs.Cells.{cell_number};
 ghost use Rattle.sdd_domain.specs.Tokens.{place_of, cell_count};
 ghost use Rattle.shared_index.specs.Books.{CanCommit, CanRefuse, IsAuditOf, list_after, next_transaction, present_list};
-ghost use Rattle.shared_index.specs.Invariant.{IsAtRest};
+ghost use Rattle.shared_index.specs.Invariant.{IsUnengaged};
 ghost use Rattle.versions.specs.Writes.{replies_to};
 
 use crate::auditing::rebuilt;
@@ -54,13 +54,13 @@ pub struct Book<L: Naming, K: Clone + Ord, V: Clone + Eq, const S: usize> {
 impl<L: Naming, K: Clone + Ord, V: Clone + Eq, const S: usize> Model for Book<L, K, V, S> {
     ghost use Rattle.std.specs.Prelude.{◌≤◌};
     ghost use Rattle.shared_index.specs.Books.{BookState};
-    ghost use Rattle.shared_index.specs.Invariant.{IsAtRest, IsHistory, IsLatest};
+    ghost use Rattle.shared_index.specs.Invariant.{IsUnengaged, IsHistory, IsLatest};
 
     ghost Value = { BookState K V };
 
     ghost view = { λ b. record { history = b.history.items; last = b.last } };
 
-    ghost invariant = { λ b. IsAtRest L.place b.local × IsLatest K.cmp L.place b.present b.history.items × IsHistory K.cmp b.history.items b.last b.ledger.total × ((1 ≤ S) × (S ≤ 225)) };
+    ghost invariant = { λ b. IsUnengaged L.place b.local × IsLatest K.cmp L.place b.present b.history.items × IsHistory K.cmp b.history.items b.last b.ledger.total × ((1 ≤ S) × (S ≤ 225)) };
 }
 
 impl<L: Naming, K: Clone + Ord, V: Clone + Eq, const S: usize> Book<L, K, V, S> {
@@ -76,14 +76,14 @@ impl<L: Naming, K: Clone + Ord, V: Clone + Eq, const S: usize> Book<L, K, V, S> 
         last: u64,
     ) -> Result<(Self, AtomicShared, Vec<Share<L>>), (Local<Node<K, V>>, Blank, NewRefused)>
         requires place { place_of domain.now ≡ L.place }
-        requires rest { IsAtRest L.place local }
+        requires rest { IsUnengaged L.place local }
         requires size { (1 ≤ S) × (S ≤ 225) }
         requires name { blank.name ≡ L.name }
         requires parts { (blank.parts ≡ L.parts) × (blank.parts ≡ shares) }
         ensures book { IfOk result (λ made. made.0 ≡ record { history = []; last = last }) }
         ensures root { IfOk result (λ made. cell_number made.1 < cell_count domain.now) }
         ensures shares { IfOk result (λ made. made.2.items ≡ replicate shares 0) }
-        ensures local { IfErr result (λ back. IsAtRest L.place back.0) }
+        ensures local { IfErr result (λ back. IsUnengaged L.place back.0) }
         ensures blank { IfErr result (λ back. back.1 ≡ blank) }
     {
         let mut local = local;
@@ -210,7 +210,7 @@ impl<L: Naming, K: Clone + Ord, V: Clone + Eq, const S: usize> Book<L, K, V, S> 
     /// any more.
     pub fn end(self, domain: &Domain<Node<K, V>>) -> Local<Node<K, V>>
         requires place { place_of domain.now ≡ L.place }
-        ensures rest { IsAtRest L.place result }
+        ensures rest { IsUnengaged L.place result }
     {
         let Book {
             alloc: _,

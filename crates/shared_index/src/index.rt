@@ -5,7 +5,7 @@ ghost use Rattle.std.specs.List.{sum};
 ghost use Rattle.leaf_array.specs.Values.{ClonesAreSame, EqualsAreSame};
 ghost use Rattle.sdd_domain.specs.Cells.{cell_number};
 ghost use Rattle.sdd_domain.specs.Tokens.{place_of, home_of, own_of, born_of, cell_count, nest_in, IsSame};
-ghost use Rattle.shared_index.specs.Invariant.{IsAtRest};
+ghost use Rattle.shared_index.specs.Invariant.{IsUnengaged};
 ghost use Rattle.shared_sessions.specs.Openings.{IsBelow};
 
 use crate::book::{Book, NewRefused};
@@ -64,12 +64,12 @@ impl<'d, L: Naming, K: Clone + Ord, V: Clone + Eq, const S: usize> SharedIndex<'
         shares: usize,
     ) -> Result<(Self, Vec<Share<L>>), (Local<Node<K, V>>, Blank, NewRefused)>
         requires place { place_of domain.now ≡ L.place }
-        requires rest { IsAtRest L.place local }
+        requires rest { IsUnengaged L.place local }
         requires size { (1 ≤ S) × (S ≤ 225) }
         requires name { blank.name ≡ L.name }
         requires parts { (blank.parts ≡ L.parts) × (blank.parts ≡ shares) × (0 < shares) }
         ensures shares { IfOk result (λ made. made.1.items ≡ replicate shares 0) }
-        ensures local { IfErr result (λ back. IsAtRest L.place back.0) }
+        ensures local { IfErr result (λ back. IsUnengaged L.place back.0) }
         ensures blank { IfErr result (λ back. back.1 ≡ blank) }
     {
         Self::with_last(alloc, domain, local, blank, shares, u64::MAX)
@@ -85,12 +85,12 @@ impl<'d, L: Naming, K: Clone + Ord, V: Clone + Eq, const S: usize> SharedIndex<'
         last: u64,
     ) -> Result<(Self, Vec<Share<L>>), (Local<Node<K, V>>, Blank, NewRefused)>
         requires place { place_of domain.now ≡ L.place }
-        requires rest { IsAtRest L.place local }
+        requires rest { IsUnengaged L.place local }
         requires size { (1 ≤ S) × (S ≤ 225) }
         requires name { blank.name ≡ L.name }
         requires parts { (blank.parts ≡ L.parts) × (blank.parts ≡ shares) × (0 < shares) }
         ensures shares { IfOk result (λ made. made.1.items ≡ replicate shares 0) }
-        ensures local { IfErr result (λ back. IsAtRest L.place back.0) }
+        ensures local { IfErr result (λ back. IsUnengaged L.place back.0) }
         ensures blank { IfErr result (λ back. back.1 ≡ blank) }
     {
         let (book, root, cut) = Book::new(alloc, domain, local, blank, shares, last)?;
@@ -203,7 +203,7 @@ impl<'d, L: Naming, K: Clone + Ord, V: Clone + Eq, const S: usize> SharedIndex<'
         shares: Vec<Share<L>>,
     ) -> Result<(Local<Node<K, V>>, u64), (Self, Vec<Share<L>>)>
         ensures all { IsErr result ↔ (length shares.items ≢ L.parts) }
-        ensures rest { IfOk result (λ ended. IsAtRest L.place ended.0) }
+        ensures rest { IfOk result (λ ended. IsUnengaged L.place ended.0) }
         ensures number { IfOk result (λ ended. ended.1 ≡ sum shares.items) }
         ensures err { IfErr result (λ back. back.1 ≡ shares) }
     {

@@ -6,12 +6,12 @@ use Rattle.sdd_base.specs.declared.sizes.Sizes.{Sizes}
 use Rattle.sdd_domain.specs.Tokens.{place_of}
 use Rattle.sdd_domain.specs.declared.domain.Domain.{Domain}
 use Rattle.sdd_domain.specs.declared.local.Local.{Local}
-use Rattle.shared_index.specs.Invariant.{IsAtRest}
+use Rattle.shared_index.specs.Invariant.{IsUnengaged}
 
 -- a place, a participant of it, and a ledger of so many shares, with these names
 pub record CanBegin {T : Type 0} (place : TableId × Sizes) (name parts shares : ℕ) (domain : Domain T) (local : Local T) (blank : Blank) : Type 0 where
   pub here : place_of domain ≡ place
-  pub rest : IsAtRest place local
+  pub rest : IsUnengaged place local
   pub named : blank.name ≡ name
   pub whole : blank.parts ≡ parts
   pub many : blank.parts ≡ shares

@@ -4,7 +4,7 @@
 ghost use Rattle.std.specs.Prelude.{◌≡◌, ◌<◌};
 ghost use Rattle.sdd_domain.specs.Cells.{cell_number};
 ghost use Rattle.sdd_domain.specs.Tokens.{place_of, cell_count};
-ghost use Rattle.shared_index.specs.Invariant.{IsAtRest};
+ghost use Rattle.shared_index.specs.Invariant.{IsUnengaged};
 ghost use Rattle.shared_index_tests.specs.Scenes.{CanBegin};
 
 use crate::scene::{Item, end, member, sized};
@@ -25,7 +25,7 @@ const TWICE: &str = "memory was refused twice";
 
 /// A participant, registered at once or, where memory was refused, by a second try.
 fn registered<R: Abort>(rt: &R, domain: &Domain<Item>, met: &mut bool) -> Local<Item>
-    ensures { IsAtRest (place_of domain.now) result }
+    ensures { IsUnengaged (place_of domain.now) result }
 {
     match domain.register() {
         Ok(local) => local,

@@ -3,7 +3,7 @@
 ghost use Rattle.std.specs.Prelude.{◌≡◌, ◌≤◌, ◌<◌};
 ghost use Rattle.sdd_domain.specs.Cells.{cell_number};
 ghost use Rattle.sdd_domain.specs.Tokens.{place_of, cell_count};
-ghost use Rattle.shared_index.specs.Invariant.{IsAtRest};
+ghost use Rattle.shared_index.specs.Invariant.{IsUnengaged};
 ghost use Rattle.shared_index_tests.specs.Scenes.{CanBegin};
 
 use ordered_index::{Accepted, Answer, Audit, Cause, Query, Receipt, Refused, Reply, Seq};
@@ -45,7 +45,7 @@ pub(crate) fn sized(slots: usize) -> Sizes
 
 /// A participant of the place, which has one that is free.
 pub(crate) fn member<R: Abort>(rt: &R, domain: &Domain<Item>) -> Local<Item>
-    ensures { IsAtRest (place_of domain.now) result }
+    ensures { IsUnengaged (place_of domain.now) result }
 {
     match domain.register() {
         Ok(local) => local,

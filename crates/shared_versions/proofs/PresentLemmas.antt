@@ -13,9 +13,9 @@ use Rattle.versions.specs.Parts.{blocks_of_parts}
 use Rattle.versions.specs.Views.{blocks_at}
 use Rattle.versions.specs.declared.building.segments.Part.{Part}
 use Rattle.versions.specs.declared.directory.Directory.{Directory}
-use Rattle.shared_versions.specs.Drafts.{IsPlaceable, IsWithin, Plan, blocks_planned}
+use Rattle.shared_versions.specs.Drafts.{IsPlaceable, IsWithinVersion, SharedPlan, blocks_planned}
 use Rattle.shared_versions.specs.Nodes.{IsWhole, OwnsSegment, owned_pairs}
-use Rattle.shared_versions.specs.Placing.{IsKept, IsOf, IsPresent, pairs_kept, pairs_kept_at, sight_in, version_owned}
+use Rattle.shared_versions.specs.Placing.{IsKeptSegment, IsOwnedIn, IsPresent, pairs_kept, pairs_kept_at, sight_in, version_owned}
 use Rattle.shared_versions.specs.Readers.{HasWidth, version_in}
 use Rattle.shared_versions.specs.Sight.{Sight}
 use Rattle.shared_versions.specs.declared.node.Node.{Node}
@@ -28,32 +28,32 @@ module _ {K V : Type 0} where
   owned_version owner v owns = ap version_in (owned_is owner (nodes.Version v) owns)
 
   -- other owners of segments of the same pairs are kept
-  pub kept_present : (s : ℕ) (place : TableId) (owner : Shared (Node K V)) (kept now : List _) → IsOf place owner → IsPresent s owner kept → map pairs_kept now ≡ map pairs_kept kept → All (IsKept place) now → IsPresent s owner now
+  pub kept_present : (s : ℕ) (place : TableId) (owner : Shared (Node K V)) (kept now : List _) → IsOwnedIn place owner → IsPresent s owner kept → map pairs_kept now ≡ map pairs_kept kept → All (IsKeptSegment place) now → IsPresent s owner now
   kept_present s place owner kept now home is same all = record {
     width = is.width;
     blocks = same ∙ is.blocks;
-    segments = subst (λ t. All (IsKept t) now) (sym home) all;
+    segments = subst (λ t. All (IsKeptSegment t) now) (sym home) all;
   }
 
   -- an owner of a version, and owners of its segments
-  pub placed_present : (s : ℕ) (place : TableId) (owner : Shared (Node K V)) (v : Sight K V) (kept : List _) → IsOf place owner → IsOwnerOf owner (nodes.Version v) → v.width ≡ s → map pairs_kept kept ≡ v.blocks → All (IsKept place) kept → IsPresent s owner kept
+  pub placed_present : (s : ℕ) (place : TableId) (owner : Shared (Node K V)) (v : Sight K V) (kept : List _) → IsOwnedIn place owner → IsOwnerOf owner (nodes.Version v) → v.width ≡ s → map pairs_kept kept ≡ v.blocks → All (IsKeptSegment place) kept → IsPresent s owner kept
   placed_present s place owner v kept home owns width blocks all =
       let is = owned_version owner v owns in record {
         width = subst (HasWidth s) (sym is) width;
         blocks = blocks ∙ ap (λ o. (sight_in o).blocks) (sym is);
-        segments = subst (λ t. All (IsKept t) kept) (sym home) all;
+        segments = subst (λ t. All (IsKeptSegment t) kept) (sym home) all;
       }
 
   -- as many owners are kept as there are segments, so what a draft takes over is there
-  pub taken_there : (kept : List _) (old : Sight K V) (parts : List (Part K V ℕ)) → map pairs_kept kept ≡ old.blocks → All (IsWithin (length old.blocks)) parts → All (IsWithin (length kept)) parts
-  taken_there kept old parts blocks there = subst (λ n. All (IsWithin n) parts) (sym (sym (length-map kept pairs_kept) ∙ ap length blocks)) there
+  pub taken_there : (kept : List _) (old : Sight K V) (parts : List (Part K V ℕ)) → map pairs_kept kept ≡ old.blocks → All (IsWithinVersion (length old.blocks)) parts → All (IsWithinVersion (length kept)) parts
+  taken_there kept old parts blocks there = subst (λ n. All (IsWithinVersion n) parts) (sym (sym (length-map kept pairs_kept) ∙ ap length blocks)) there
 
   -- what the kept owners are taken for is what was planned
-  pub planned_blocks : (kept : List _) (old : Sight K V) (plan : Plan K V) (parts : List (Part K V ℕ)) → map pairs_kept kept ≡ old.blocks → parts ≡ plan.parts → blocks_of_parts (pairs_kept_at kept) parts ≡ blocks_planned old plan
+  pub planned_blocks : (kept : List _) (old : Sight K V) (plan : SharedPlan K V) (parts : List (Part K V ℕ)) → map pairs_kept kept ≡ old.blocks → parts ≡ plan.parts → blocks_of_parts (pairs_kept_at kept) parts ≡ blocks_planned old plan
   planned_blocks kept old plan parts blocks same = ap (λ bs. blocks_of_parts (λ n. get_or bs n []) parts) blocks ∙ ap (blocks_of_parts (λ n. get_or old.blocks n [])) same
 
   -- a directory of the planned segments is whole
-  pub planned_whole : (cmp : K → K → Ordering) (s : ℕ) (old : Sight K V) (plan : Plan K V) (d : Directory K (Held (Node K V))) → IsPlaceable cmp s old plan → All OwnsSegment (segment_owners d) → blocks_at owned_pairs d ≡ blocks_planned old plan → d.separators.items ≡ plan.separators → d.length ≡ plan.length → IsWhole cmp s d
+  pub planned_whole : (cmp : K → K → Ordering) (s : ℕ) (old : Sight K V) (plan : SharedPlan K V) (d : Directory K (Held (Node K V))) → IsPlaceable cmp s old plan → All OwnsSegment (segment_owners d) → blocks_at owned_pairs d ≡ blocks_planned old plan → d.separators.items ≡ plan.separators → d.length ≡ plan.length → IsWhole cmp s d
   planned_whole cmp s old plan d placeable all blocks separators count = record {
     segments = all;
     cut = subst (λ ks. IsCut cmp s (blocks_at owned_pairs d) ks) (sym separators) (subst (λ bs. IsCut cmp s bs plan.separators) (sym blocks) placeable.cut);

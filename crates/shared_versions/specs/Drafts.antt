@@ -12,7 +12,7 @@ use Rattle.shared_versions.specs.declared.room.Room.{Room}
 
 -- a version to be placed: the number of its list, and its segments, of which some are taken over from an older version, by
 -- their places there; the greatest key of each but the last; how many pairs there are
-pub record Plan (K V : Type 0) : Type 0 where
+pub record SharedPlan (K V : Type 0) : Type 0 where
   pub number : ℕ
   pub parts : List (Part K V ℕ)
   pub separators : List K
@@ -20,7 +20,7 @@ pub record Plan (K V : Type 0) : Type 0 where
 
 module _ {K V : Type 0} where
   -- how many slots it takes: one for each new segment, and one for the version
-  abbrev pub slots_for : Plan K V → ℕ
+  abbrev pub slots_for : SharedPlan K V → ℕ
   slots_for p = made_in p.parts + 1
 
   -- the list of a version
@@ -32,29 +32,29 @@ module _ {K V : Type 0} where
   pairs_at v place = get_or v.blocks place []
 
   -- the pairs of the segments of a version to be placed, and its list
-  abbrev pub blocks_planned : Sight K V → Plan K V → List (List (K × V))
+  abbrev pub blocks_planned : Sight K V → SharedPlan K V → List (List (K × V))
   blocks_planned old p = blocks_of_parts (pairs_at old) p.parts
 
-  abbrev pub list_planned : Sight K V → Plan K V → List (K × V)
+  abbrev pub list_planned : Sight K V → SharedPlan K V → List (K × V)
   list_planned old p = pairs_in (blocks_planned old p)
 
   -- a new segment, or one of so many that are there
-  abbrev pub IsWithin : ℕ → Part K V ℕ → Type 0
-  IsWithin n (parts.Taken place) = place < n
-  IsWithin n (parts.Made tree) = Unit {0}
+  abbrev pub IsWithinVersion : ℕ → Part K V ℕ → Type 0
+  IsWithinVersion n (parts.Taken place) = place < n
+  IsWithinVersion n (parts.Made tree) = Unit {0}
 
   -- or one that the older version has
   abbrev pub IsThere : Sight K V → Part K V ℕ → Type 0
-  IsThere old part = IsWithin (length old.blocks) part
+  IsThere old part = IsWithinVersion (length old.blocks) part
 
   -- its segments are cut as they should be, its pairs are counted, and the older version has what it takes over
-  pub record IsPlaceable (cmp : K → K → Ordering) (s : ℕ) (old : Sight K V) (p : Plan K V) : Type 0 where
+  pub record IsPlaceable (cmp : K → K → Ordering) (s : ℕ) (old : Sight K V) (p : SharedPlan K V) : Type 0 where
     pub cut : IsCut cmp s (blocks_planned old p) p.separators
     pub counted : p.length ≡ length (list_planned old p)
     pub there : All (IsThere old) p.parts
 
 -- nothing is in it, and it has room for so many owners of each kind
-pub record HasRoom {K V : Type 0} (n : ℕ) (room : Room K V) : Type 0 where
+pub record IsRoomFor {K V : Type 0} (n : ℕ) (room : Room K V) : Type 0 where
   pub no_owners : room.owners.items ≡ []
   pub no_held : room.held.items ≡ []
   pub no_kept : room.kept.items ≡ []
@@ -67,4 +67,4 @@ pub record IsDrafted {K V : Type 0} (s : ℕ) (segments : Segments K V ℕ) (mad
   pub few : length segments.parts.items ≤ 2 * (segments.length / (s + 1)) + 1
   pub counted : made ≡ made_in segments.parts.items
   pub upto : made ≤ length segments.parts.items
-  pub room : HasRoom (length segments.parts.items) r
+  pub room : IsRoomFor (length segments.parts.items) r

@@ -8,7 +8,7 @@ use Rattle.sdd_domain.specs.Sharing.{kept_in}
 use Rattle.sdd_domain.specs.Tokens.{home_of, nest_in, number_of, own_of}
 use Rattle.sdd_domain.specs.declared.local.Local.{Local}
 use Rattle.sdd_domain.specs.declared.shared.Shared.{Shared}
-use Rattle.shared_versions.specs.Drafts.{Plan, blocks_planned}
+use Rattle.shared_versions.specs.Drafts.{SharedPlan, blocks_planned}
 use Rattle.shared_versions.specs.Nodes.{IsSegment, segment_pairs}
 use Rattle.shared_versions.specs.Readers.{HasWidth, version_in}
 use Rattle.shared_versions.specs.Sight.{Sight}
@@ -19,8 +19,8 @@ abbrev pub item_owned : {T : Type 0} → Shared T → Option T
 item_owned s = option_map manually_drop_value s.part.part.seen.value
 
 -- the owner is of this place
-abbrev pub IsOf : {T : Type 0} → TableId → Shared T → Type 0
-IsOf place s = kept_in s ≡ place
+abbrev pub IsOwnedIn : {T : Type 0} → TableId → Shared T → Type 0
+IsOwnedIn place s = kept_in s ≡ place
 
 -- the same participant of the same place, with the same guards open
 abbrev pub IsStill : {T : Type 0} → Local T → Local T → Type 0
@@ -37,7 +37,7 @@ module _ {K V : Type 0} where
 
   -- it owns a segment in this place
   abbrev pub IsSegmentOf : TableId → Shared (Node K V) → Type 0
-  IsSegmentOf place s = IsOf place s × IsSegment (item_owned s)
+  IsSegmentOf place s = IsOwnedIn place s × IsSegment (item_owned s)
 
   -- the version that is there, or the empty one
   abbrev pub sight_in : Option (Sight K V) → Sight K V
@@ -45,9 +45,9 @@ module _ {K V : Type 0} where
   sight_in (Some v) = v
 
   -- an owner that is kept owns a segment, with these pairs
-  abbrev pub IsKept : TableId → Option (Shared (Node K V)) → Type 0
-  IsKept place None = ⊥
-  IsKept place (Some s) = IsSegmentOf place s
+  abbrev pub IsKeptSegment : TableId → Option (Shared (Node K V)) → Type 0
+  IsKeptSegment place None = ⊥
+  IsKeptSegment place (Some s) = IsSegmentOf place s
 
   abbrev pub pairs_kept : Option (Shared (Node K V)) → List (K × V)
   pairs_kept None = []
@@ -75,10 +75,10 @@ placed_of s = record { place = kept_in s; version = sight_in (version_owned s) }
 pub record IsPresent {K V : Type 0} (s : ℕ) (owner : Shared (Node K V)) (kept : List (Option (Shared (Node K V)))) : Type 0 where
   pub width : HasWidth s (version_owned owner)
   pub blocks : map pairs_kept kept ≡ (sight_in (version_owned owner)).blocks
-  pub segments : All (IsKept (kept_in owner)) kept
+  pub segments : All (IsKeptSegment (kept_in owner)) kept
 
 -- the version is the planned one, of segments of at most s pairs
-pub record IsMade {K V : Type 0} (s : ℕ) (old : Sight K V) (plan : Plan K V) (new : Sight K V) : Type 0 where
+pub record IsPlanned {K V : Type 0} (s : ℕ) (old : Sight K V) (plan : SharedPlan K V) (new : Sight K V) : Type 0 where
   pub number : new.number ≡ plan.number
   pub width : new.width ≡ s
   pub blocks : new.blocks ≡ blocks_planned old plan

@@ -3,7 +3,7 @@
 ghost use Rattle.std.specs.Prelude.{◌≡◌, ◌≤◌, ◌<◌, ◌+◌, ◌*◌, ◌/◌, ◌-◌, ◌^◌, [], IfOk, length};
 ghost use Rattle.leaf_array.specs.Values.{ClonesAreSame};
 ghost use Rattle.versions.specs.Writes.{after_writes, replies_to};
-ghost use Rattle.shared_versions.specs.Drafts.{HasRoom, IsPlaceable, list_of, list_planned, slots_for};
+ghost use Rattle.shared_versions.specs.Drafts.{IsRoomFor, IsPlaceable, list_of, list_planned, slots_for};
 
 use crate::lending::view_of;
 use crate::node::Version;
@@ -28,9 +28,9 @@ pub struct Draft<K: Ord, V, const S: usize> {
 /// Invariant: specs/Drafts.antt, IsDrafted: the segments are few, those that are new are counted, and there is room for their
 /// owners.
 impl<K: Ord, V, const S: usize> Model for Draft<K, V, S> {
-    ghost use Rattle.shared_versions.specs.Drafts.{IsDrafted, Plan};
+    ghost use Rattle.shared_versions.specs.Drafts.{IsDrafted, SharedPlan};
 
-    ghost Value = { Plan K V };
+    ghost Value = { SharedPlan K V };
 
     ghost view = { λ d. record { number = d.number; parts = d.segments.parts.items; separators = d.segments.separators.items; length = d.segments.length } };
 
@@ -66,7 +66,7 @@ impl<K: Ord, V, const S: usize> Draft<K, V, S> {
     /// Its number, its segments, and room for their owners.
     pub(crate) fn into_parts(self) -> (u64, Segments<K, V, usize>, Room<K, V>)
         ensures plan { record { number = result.0; parts = result.1.parts.items; separators = result.1.separators.items; length = result.1.length } ≡ self }
-        ensures room { HasRoom (length result.1.parts.items) result.2 }
+        ensures room { IsRoomFor (length result.1.parts.items) result.2 }
     {
         let Draft {
             number,

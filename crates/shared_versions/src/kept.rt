@@ -3,7 +3,7 @@
 ghost use Rattle.std.specs.Prelude.{◌≡◌, ◌<◌, [], IfSome, length, map, get_or};
 ghost use Rattle.std.specs.List.{All};
 ghost use Rattle.sdd_domain.specs.Tokens.{place_of, home_of, hand_of};
-ghost use Rattle.shared_versions.specs.Placing.{IsKept, IsSegmentOf, IsStill, pairs_kept, pairs_owned};
+ghost use Rattle.shared_versions.specs.Placing.{IsKeptSegment, IsSegmentOf, IsStill, pairs_kept, pairs_owned};
 
 use crate::node::Node;
 use sdd_domain::domain::Domain;
@@ -23,9 +23,9 @@ pub(crate) fn clone_at<K: Ord + Drop, V: Drop>(
 ) -> Option<Shared<Node<K, V>>>
     requires home { home_of local.old ≡ place_of domain.now }
     requires inside { place < length kept.old.items }
-    requires kept { All (IsKept (place_of domain.now).0) kept.old.items }
+    requires kept { All (IsKeptSegment (place_of domain.now).0) kept.old.items }
     ensures one { IfSome result (λ s. IsSegmentOf (place_of domain.now).0 s × (pairs_owned s ≡ get_or (map pairs_kept kept.old.items) place [])) }
-    ensures kept { All (IsKept (place_of domain.now).0) kept.new.items }
+    ensures kept { All (IsKeptSegment (place_of domain.now).0) kept.new.items }
     ensures pairs { map pairs_kept kept.new.items ≡ map pairs_kept kept.old.items }
     ensures hand { hand_of local.new ≡ hand_of local.old }
     ensures same { IsStill local.old local.new }
@@ -67,7 +67,7 @@ pub(crate) fn release_kept<K: Ord + Drop, V: Drop>(
     local: &mut Local<Node<K, V>>,
 )
     requires home { home_of local.old ≡ place_of domain.now }
-    requires kept { All (IsKept (place_of domain.now).0) kept.items }
+    requires kept { All (IsKeptSegment (place_of domain.now).0) kept.items }
     ensures hand { hand_of local.new ≡ hand_of local.old }
     ensures same { IsStill local.old local.new }
 {

@@ -3,7 +3,7 @@
 ghost use Rattle.std.specs.Prelude.{◌≡◌, [], IfOk, IfErr, IfSome, MatchOption, OnOk};
 ghost use Rattle.sdd_domain.specs.Sharing.{IsOwnerOf};
 ghost use Rattle.sdd_domain.specs.Tokens.{place_of, home_of, hand_of};
-ghost use Rattle.shared_versions.specs.Placing.{IsOf, IsStill};
+ghost use Rattle.shared_versions.specs.Placing.{IsOwnedIn, IsStill};
 
 use sdd_domain::domain::Domain;
 use sdd_domain::holds::Holds;
@@ -19,7 +19,7 @@ pub(crate) fn place_two<T: Holds>(
 ) -> Result<(Shared<T>, Shared<T>), Option<T>>
     requires home { home_of local.old ≡ place_of domain.now }
     requires holds { T.holds item ≡ hand_of local.old }
-    ensures home { IfOk result (λ both. IsOf (place_of domain.now).0 both.0 × IsOf (place_of domain.now).0 both.1) }
+    ensures home { IfOk result (λ both. IsOwnedIn (place_of domain.now).0 both.0 × IsOwnedIn (place_of domain.now).0 both.1) }
     ensures item { IfOk result (λ both. IsOwnerOf both.0 item × IsOwnerOf both.1 item) }
     ensures back { IfErr result (λ back. IfSome back (λ x. x ≡ item)) }
     ensures hand { OnOk result (hand_of local.new ≡ []) }

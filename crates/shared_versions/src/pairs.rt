@@ -5,9 +5,9 @@ ghost use Rattle.std.specs.List.{All};
 ghost use Rattle.sdd_domain.specs.Holding.{all_told};
 ghost use Rattle.sdd_domain.specs.Tokens.{place_of, home_of, hand_of};
 ghost use Rattle.versions.specs.Parts.{blocks_of_parts, part_pairs};
-ghost use Rattle.shared_versions.specs.Drafts.{IsWithin};
+ghost use Rattle.shared_versions.specs.Drafts.{IsWithinVersion};
 ghost use Rattle.shared_versions.specs.Nodes.{OwnsSegment, owned_pairs};
-ghost use Rattle.shared_versions.specs.Placing.{AreBoth, IsKept, IsStill, pairs_kept, pairs_kept_at, pairs_of_both};
+ghost use Rattle.shared_versions.specs.Placing.{AreBoth, IsKeptSegment, IsStill, pairs_kept, pairs_kept_at, pairs_of_both};
 
 use crate::kept::{Kept, clone_at};
 use crate::node::Node;
@@ -56,10 +56,10 @@ fn take_over<K: Ord + Drop, V: Drop>(
 ) -> Option<Both<K, V>>
     requires home { home_of local.old ≡ place_of domain.now }
     requires inside { place < length kept.old.items }
-    requires kept { All (IsKept (place_of domain.now).0) kept.old.items }
+    requires kept { All (IsKeptSegment (place_of domain.now).0) kept.old.items }
     ensures both { IfSome result (AreBoth (place_of domain.now).0) }
     ensures pairs { IfSome result (λ both. pairs_of_both both ≡ pairs_kept_at kept.old.items place) }
-    ensures kept { All (IsKept (place_of domain.now).0) kept.new.items }
+    ensures kept { All (IsKeptSegment (place_of domain.now).0) kept.new.items }
     ensures still { map pairs_kept kept.new.items ≡ map pairs_kept kept.old.items }
     ensures hand { hand_of local.new ≡ hand_of local.old }
     ensures same { IsStill local.old local.new }
@@ -83,11 +83,11 @@ fn owners_of<K: Ord + Drop, V: Drop>(
 ) -> Option<Both<K, V>>
     requires home { home_of local.old ≡ place_of domain.now }
     requires hand { hand_of local.old ≡ [] }
-    requires there { IsWithin (length kept.old.items) part }
-    requires kept { All (IsKept (place_of domain.now).0) kept.old.items }
+    requires there { IsWithinVersion (length kept.old.items) part }
+    requires kept { All (IsKeptSegment (place_of domain.now).0) kept.old.items }
     ensures both { IfSome result (AreBoth (place_of domain.now).0) }
     ensures pairs { IfSome result (λ both. pairs_of_both both ≡ part_pairs (pairs_kept_at kept.old.items) part) }
-    ensures kept { All (IsKept (place_of domain.now).0) kept.new.items }
+    ensures kept { All (IsKeptSegment (place_of domain.now).0) kept.new.items }
     ensures still { map pairs_kept kept.new.items ≡ map pairs_kept kept.old.items }
     ensures hand { hand_of local.new ≡ [] }
     ensures same { IsStill local.old local.new }
@@ -109,13 +109,13 @@ pub(crate) fn all_owners<K: Ord + Drop, V: Drop>(
 ) -> Option<Vec<Both<K, V>>>
     requires home { home_of local.old ≡ place_of domain.now }
     requires hand { hand_of local.old ≡ [] }
-    requires there { All (IsWithin (length kept.old.items)) parts.items }
-    requires kept { All (IsKept (place_of domain.now).0) kept.old.items }
+    requires there { All (IsWithinVersion (length kept.old.items)) parts.items }
+    requires kept { All (IsKeptSegment (place_of domain.now).0) kept.old.items }
     requires none { owners.items ≡ [] }
     requires room { length parts.items ≤ vec_capacity owners }
     ensures both { IfSome result (λ both. All (AreBoth (place_of domain.now).0) both.items) }
     ensures pairs { IfSome result (λ both. reverse (map pairs_of_both both.items) ≡ blocks_of_parts (pairs_kept_at kept.old.items) parts.items) }
-    ensures kept { All (IsKept (place_of domain.now).0) kept.new.items }
+    ensures kept { All (IsKeptSegment (place_of domain.now).0) kept.new.items }
     ensures still { map pairs_kept kept.new.items ≡ map pairs_kept kept.old.items }
     ensures hand { hand_of local.new ≡ [] }
     ensures same { IsStill local.old local.new }
@@ -166,7 +166,7 @@ pub(crate) fn hold_both<K: Ord + Drop, V: Drop>(
     requires room { (length owners.items ≤ vec_capacity held.old) × (length owners.items ≤ vec_capacity kept.old) }
     ensures segments { All OwnsSegment held.new.items }
     ensures pairs { map owned_pairs held.new.items ≡ reverse (map pairs_of_both owners.items) }
-    ensures kept { All (IsKept (place_of domain.now).0) kept.new.items }
+    ensures kept { All (IsKeptSegment (place_of domain.now).0) kept.new.items }
     ensures same_pairs { map pairs_kept kept.new.items ≡ reverse (map pairs_of_both owners.items) }
     ensures hand { hand_of local.new ≡ all_told held.new.items }
     ensures same { IsStill local.old local.new }

@@ -3,7 +3,7 @@
 ghost use Rattle.std.specs.Prelude.{◌≡◌, ◌<◌, [], IfOk, OnOk, OnErr, Some};
 ghost use Rattle.sdd_domain.specs.Cells.{cell_number};
 ghost use Rattle.sdd_domain.specs.Tokens.{place_of, home_of, hand_of, cell_count};
-ghost use Rattle.shared_versions.specs.Placing.{IsMade, IsOf, IsPresent, IsStill, item_owned, placed_of, version_owned};
+ghost use Rattle.shared_versions.specs.Placing.{IsPlanned, IsOwnedIn, IsPresent, IsStill, item_owned, placed_of, version_owned};
 ghost use Rattle.shared_versions.specs.Drafts.{IsPlaceable};
 ghost use Rattle.shared_versions.specs.Readers.{HasWidth};
 
@@ -78,7 +78,7 @@ impl<K: Ord + Drop, V: Drop, const S: usize> Present<K, V, S> {
         requires hand { hand_of local.old ≡ [] }
         ensures place { IfOk result (λ made. made.0.place ≡ (place_of domain.now).0) }
         ensures version { IfOk result (λ made. made.0.version ≡ record { number = 0; width = S; blocks = []; separators = []; owners = [] }) }
-        ensures root { IfOk result (λ made. IsOf (place_of domain.now).0 made.1 × (version_owned made.1 ≡ Some made.0.version)) }
+        ensures root { IfOk result (λ made. IsOwnedIn (place_of domain.now).0 made.1 × (version_owned made.1 ≡ Some made.0.version)) }
         ensures hand { hand_of local.new ≡ [] }
         ensures same { IsStill local.old local.new }
     {
@@ -109,8 +109,8 @@ impl<K: Ord + Drop, V: Drop, const S: usize> Present<K, V, S> {
         requires mine { self.old.place ≡ (place_of domain.now).0 }
         requires placeable { IsPlaceable K.cmp S self.old.version draft }
         ensures place { self.new.place ≡ self.old.place }
-        ensures made { OnOk result (IsMade S self.old.version draft self.new.version) }
-        ensures root { IfOk result (λ root. IsOf (place_of domain.now).0 root × (version_owned root ≡ Some self.new.version)) }
+        ensures made { OnOk result (IsPlanned S self.old.version draft self.new.version) }
+        ensures root { IfOk result (λ root. IsOwnedIn (place_of domain.now).0 root × (version_owned root ≡ Some self.new.version)) }
         ensures refused { OnErr result (self.new ≡ self.old) }
         ensures hand { hand_of local.new ≡ [] }
         ensures same { IsStill local.old local.new }
@@ -159,7 +159,7 @@ impl<K: Ord + Drop, V: Drop, const S: usize> Present<K, V, S> {
     )
         requires home { home_of local.old ≡ place_of domain.now }
         requires mine { self.old.place ≡ (place_of domain.now).0 }
-        requires new { IsOf (place_of domain.now).0 version }
+        requires new { IsOwnedIn (place_of domain.now).0 version }
         requires present { IsPresent S version kept.items }
         ensures new { self.new ≡ placed_of version }
         ensures hand { hand_of local.new ≡ hand_of local.old }
@@ -214,7 +214,7 @@ pub fn publish<K: Ord + Drop, V: Drop>(
 )
     requires home { home_of local.old ≡ place_of domain.now }
     requires inside { cell_number root.now < cell_count domain.now }
-    requires mine { IsOf (place_of domain.now).0 new }
+    requires mine { IsOwnedIn (place_of domain.now).0 new }
     ensures hand { hand_of local.new ≡ hand_of local.old }
     ensures same { IsStill local.old local.new }
 {

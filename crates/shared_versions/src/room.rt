@@ -1,7 +1,7 @@
 //! Room for the owners of the segments of a version to be placed.
 
 ghost use Rattle.std.specs.Prelude.{◌≡◌, [], IfOk};
-ghost use Rattle.shared_versions.specs.Drafts.{HasRoom};
+ghost use Rattle.shared_versions.specs.Drafts.{IsRoomFor};
 
 use crate::kept::Kept;
 use crate::node::Node;
@@ -20,7 +20,7 @@ pub(crate) struct Room<K: Ord, V> {
 impl<K: Ord, V> Room<K, V> {
     /// Room for none. It takes no memory.
     pub(crate) fn none(alloc: Global) -> Self
-        ensures { HasRoom 0 result }
+        ensures { IsRoomFor 0 result }
     {
         Room {
             owners: Vec::new(alloc),
@@ -31,7 +31,7 @@ impl<K: Ord, V> Room<K, V> {
 
     /// Room for the owners of so many segments. Where memory is refused there is none.
     pub(crate) fn new(alloc: Global, segments: usize) -> Result<Self, AllocError>
-        ensures { IfOk result (HasRoom segments) }
+        ensures { IfOk result (IsRoomFor segments) }
     {
         let owners = Vec::with_capacity(alloc, segments)?;
         let Ok(held) = Vec::with_capacity(alloc, segments) else {

@@ -2,7 +2,7 @@ use Rattle.std.proofs.Common.{◌≤◌, ◌+◌, ◌*◌, ◌/◌, length, sym,
 use Rattle.std.proofs.lemmas.List.{length-map}
 use Rattle.versions.specs.Parts.{made_in, part_pairs}
 use Rattle.versions.proofs.BlockListLemmas.{blocks_fit}
-use Rattle.shared_versions.specs.Drafts.{HasRoom, pairs_at}
+use Rattle.shared_versions.specs.Drafts.{IsRoomFor, pairs_at}
 use Rattle.shared_versions.proofs.DraftLemmas.{all_there}
 use Rattle.shared_versions.proofs.building.build.Goals as goal
 
@@ -21,7 +21,7 @@ invariant_of-result g c =
       few = subst (λ n. length segments.parts.items ≤ 2 * (n / (g.row.S + 1)) + 1) (sym e.length) (omega (arith, few, long));
       counted = made.count ∙ ap made_in value;
       upto = omega (arith, upto, size);
-      room = subst (λ n. HasRoom n c.in_ok-room.room) (len ∙ segments.parts.ok.0) c.in_ok-room.ensures;
+      room = subst (λ n. IsRoomFor n c.in_ok-room.room) (len ∙ segments.parts.ok.0) c.in_ok-room.ensures;
     }
 
 pub returns-clause-placeable : goal.returns-clause-placeable

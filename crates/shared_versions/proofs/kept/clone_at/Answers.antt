@@ -2,12 +2,12 @@ use Rattle.std.proofs.Common.{Some, map, slice_set, sym, ap, ◌∙◌, subst}
 use Rattle.std.specs.List.{All}
 use Rattle.std.proofs.Math.Seq.{map-set_same, set-set}
 use Rattle.std.proofs.lemmas.List.Elements.{All-set}
-use Rattle.shared_versions.specs.Placing.{IsKept, pairs_kept}
+use Rattle.shared_versions.specs.Placing.{IsKeptSegment, pairs_kept}
 use Rattle.shared_versions.proofs.kept.clone_at.Goals as goal
 
 pub returns-clause-kept : goal.returns-clause-kept
 returns-clause-kept g c =
-    let IsThere = IsKept c.args.domain.now.table.shared.table_id in
+    let IsThere = IsKeptSegment c.args.domain.now.table.shared.table_id in
     let kept = c.args.kept.now.items in
     let owner = Some c.clone_segment-owner.result.0 in
     let written = set-set kept c.args.place c.replace.new.dest c.replace-2.new.dest ∙ ap (slice_set kept c.args.place) c.replace-2.ensures.after in

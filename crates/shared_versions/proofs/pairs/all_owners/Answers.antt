@@ -3,7 +3,7 @@ use Rattle.std.specs.List.{All}
 use Rattle.std.proofs.lemmas.List.{length-append, length-map}
 use Rattle.std.proofs.lemmas.List.Elements.{All-pop, All-push}
 use Rattle.versions.specs.Parts.{part_pairs}
-use Rattle.shared_versions.specs.Drafts.{IsWithin}
+use Rattle.shared_versions.specs.Drafts.{IsWithinVersion}
 use Rattle.shared_versions.specs.Placing.{AreBoth, pairs_kept, pairs_kept_at, pairs_of_both}
 use Rattle.shared_versions.proofs.SeamLemmas.{crossing}
 use Rattle.shared_versions.proofs.StillLemmas.{still}
@@ -21,7 +21,7 @@ placing-preserved g c =
     let many = sym (length-map c.owners_of.new.kept.items pairs_kept) ∙ (ap length c.owners_of.ensures.still ∙ length-map c.placing.kept.items pairs_kept) in
     record {
       blocks = before.blocks ∙ crossing pairs_of_both (part_pairs named) both part c.placing.owners.items c.push_reserved.new.self.items c.pop.new.self.items c.placing.parts.items owners parts alike;
-      there = subst (λ n. All (IsWithin n) c.pop.new.self.items) (sym many) (All-pop (IsWithin (length c.placing.kept.items)) c.placing.parts.items c.pop.new.self.items c.pop.result c.pop.ensures.items before.there).0;
+      there = subst (λ n. All (IsWithinVersion n) c.pop.new.self.items) (sym many) (All-pop (IsWithinVersion (length c.placing.kept.items)) c.placing.parts.items c.pop.new.self.items c.pop.result c.pop.ensures.items before.there).0;
       both = subst (All (AreBoth c.args.domain.now.table.shared.table_id)) (sym owners) (All-push (AreBoth c.args.domain.now.table.shared.table_id) c.placing.owners.items both before.both c.in-Some-owners_of.ensures.both);
       kept = c.owners_of.ensures.kept;
       still = c.owners_of.ensures.still ∙ before.still;

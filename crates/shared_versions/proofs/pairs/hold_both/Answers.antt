@@ -4,7 +4,7 @@ use Rattle.std.specs.Prelude.{IfSome}
 use Rattle.std.proofs.lemmas.List.{length-append, map-append}
 use Rattle.std.proofs.lemmas.List.Elements.{All-pop, All-push}
 use Rattle.shared_versions.specs.Nodes.{OwnsSegment, owned_pairs}
-use Rattle.shared_versions.specs.Placing.{AreBoth, IsKept, pairs_kept, pairs_of_both}
+use Rattle.shared_versions.specs.Placing.{AreBoth, IsKeptSegment, pairs_kept, pairs_of_both}
 use Rattle.shared_versions.proofs.OwnedLemmas.{held_segment}
 use Rattle.shared_versions.proofs.SeamLemmas.{crossing}
 use Rattle.shared_versions.proofs.StillLemmas.{but_for_the_hand, still}
@@ -30,7 +30,7 @@ holding-preserved g c =
       same_pairs = ap (map pairs_kept) keeps ∙ (last ∙ (ap (λ l. l ++ pairs_kept (Some other) ∷ []) before.same_pairs ∙ (ap (λ x. map owned_pairs c.holding.held.items ++ x ∷ []) alike ∙ (sym (map-append owned_pairs c.holding.held.items (held ∷ [])) ∙ ap (map owned_pairs) (sym longer)))));
       both = popped.0;
       segments = subst (All OwnsSegment) (sym longer) (All-push OwnsSegment c.holding.held.items held before.segments segment.0);
-      kept = subst (All (IsKept place)) (sym keeps) (All-push (IsKept place) c.holding.kept.items (Some other) before.kept both.1);
+      kept = subst (All (IsKeptSegment place)) (sym keeps) (All-push (IsKeptSegment place) c.holding.kept.items (Some other) before.kept both.1);
       hand = c.hold_last.ensures.hand;
       room = omega (arith, before.room, ap length fewer, length-append c.pop.new.self.items ((one, other) ∷ []), ap length longer, length-append c.holding.held.items (held ∷ []), c.hold_last.ensures.room);
       room_kept = omega (arith, before.room_kept, ap length fewer, length-append c.pop.new.self.items ((one, other) ∷ []), ap length keeps, length-append c.holding.kept.items (Some other ∷ []), c.push_reserved.ensures.capacity);

@@ -1,6 +1,6 @@
 use Rattle.std.proofs.Common.{length, ap, sym, subst, arith}
 use Rattle.versions.specs.Parts.{made_in}
-use Rattle.shared_versions.specs.Drafts.{HasRoom}
+use Rattle.shared_versions.specs.Drafts.{IsRoomFor}
 use Rattle.shared_versions.proofs.building.Draft.empty.Goals as goal
 
 pub invariant_of-result : goal.invariant_of-result
@@ -8,5 +8,5 @@ invariant_of-result g c = record {
   few = omega (arith, ap length c.new.ensures.items);
   counted = ap made_in (sym c.new.ensures.items);
   upto = omega arith;
-  room = subst (λ xs. HasRoom (length xs) c.none.result) (sym c.new.ensures.items) c.none.ensures;
+  room = subst (λ xs. IsRoomFor (length xs) c.none.result) (sym c.new.ensures.items) c.none.ensures;
 }

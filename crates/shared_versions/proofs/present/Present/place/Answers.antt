@@ -3,7 +3,7 @@ use Rattle.std.specs.List.{All}
 use Rattle.std.proofs.lemmas.List.{length-map, length-reverse}
 use Rattle.versions.specs.Parts.{part_pairs}
 use Rattle.versions.specs.declared.directory.Directory.{Directory}
-use Rattle.shared_versions.specs.Drafts.{IsWithin, Plan}
+use Rattle.shared_versions.specs.Drafts.{IsWithinVersion, SharedPlan}
 use Rattle.shared_versions.specs.Nodes.{OwnsSegment, owned_pairs}
 use Rattle.shared_versions.specs.Placing.{Placed, pairs_kept_at, pairs_of_both, sight_in}
 use Rattle.shared_versions.specs.Sight.{Sight}
@@ -15,8 +15,8 @@ all_owners-requires-clause-there g c =
     let parts = c.into_parts-number.result.1.parts.items in
     let old = c.args.self.now.version in
     let blocks = c.self.invariant.blocks ∙ ap (λ (p : Placed _ _). p.version.blocks) c.self.view_is in
-    let same = ap (λ (p : Plan _ _). p.parts) c.into_parts-number.ensures.plan in
-    taken_there c.self.inside.segments.items old parts blocks (subst (All (IsWithin (length old.blocks))) (sym same) c.requires.placeable.there)
+    let same = ap (λ (p : SharedPlan _ _). p.parts) c.into_parts-number.ensures.plan in
+    taken_there c.self.inside.segments.items old parts blocks (subst (All (IsWithinVersion (length old.blocks))) (sym same) c.requires.placeable.there)
 
 pub invariant_of-self : goal.invariant_of-self
 invariant_of-self g c =
@@ -43,12 +43,12 @@ new-requires g c =
     let kept = c.self.inside.segments.items in
     let old = c.args.self.now.version in
     let blocks = c.self.invariant.blocks ∙ ap (λ (p : Placed _ _). p.version.blocks) c.self.view_is in
-    let planned = planned_blocks kept old c.args.draft parts blocks (ap (λ (p : Plan _ _). p.parts) plan) in
+    let planned = planned_blocks kept old c.args.draft parts blocks (ap (λ (p : SharedPlan _ _). p.parts) plan) in
     planned_whole g.K.Ord.cmp g.row.S old c.args.draft directory c.requires.placeable
     (subst (λ (d : Directory _ _). All OwnsSegment d.segments.items) (sym is) c.hold_both.ensures.segments)
     (ap (λ (d : Directory _ _). map owned_pairs d.segments.items) is ∙ (c.hold_both.ensures.pairs ∙ (c.in-Some.ensures.pairs ∙ planned)))
-    (ap (λ (d : Directory _ _). d.separators.items) is ∙ ap (λ (p : Plan _ _). p.separators) plan)
-    (ap (λ (d : Directory _ _). d.length) is ∙ ap (λ (p : Plan _ _). p.length) plan)
+    (ap (λ (d : Directory _ _). d.separators.items) is ∙ ap (λ (p : SharedPlan _ _). p.separators) plan)
+    (ap (λ (d : Directory _ _). d.length) is ∙ ap (λ (p : SharedPlan _ _). p.length) plan)
 
 pub invariant_of-self-in-Ok : goal.invariant_of-self-in-Ok
 invariant_of-self-in-Ok g c =
@@ -77,11 +77,11 @@ returns-in-Ok-clause-made g c =
     let kept = c.self.inside.segments.items in
     let old = c.args.self.now.version in
     let blocks = c.self.invariant.blocks ∙ ap (λ (p : Placed _ _). p.version.blocks) c.self.view_is in
-    let planned = planned_blocks kept old c.args.draft parts blocks (ap (λ (p : Plan _ _). p.parts) plan) in
+    let planned = planned_blocks kept old c.args.draft parts blocks (ap (λ (p : SharedPlan _ _). p.parts) plan) in
     let made = ap (λ (p : Placed _ _). p.version) c.replace.ensures.new ∙ ap sight_in (owned_version c.in-Ok.version c.new.result c.in-Ok.ensures.item.0) in
     record {
-      number = ap (λ (v : Sight _ _). v.number) (made ∙ sight) ∙ (ap (λ (d : Directory _ _). d.number) is ∙ ap (λ (p : Plan _ _). p.number) plan);
+      number = ap (λ (v : Sight _ _). v.number) (made ∙ sight) ∙ (ap (λ (d : Directory _ _). d.number) is ∙ ap (λ (p : SharedPlan _ _). p.number) plan);
       width = ap (λ (v : Sight _ _). v.width) (made ∙ sight);
       blocks = ap (λ (v : Sight _ _). v.blocks) (made ∙ sight) ∙ (ap (λ (d : Directory _ _). map owned_pairs d.segments.items) is ∙ (c.hold_both.ensures.pairs ∙ (c.in-Some.ensures.pairs ∙ planned)));
-      separators = ap (λ (v : Sight _ _). v.separators) (made ∙ sight) ∙ (ap (λ (d : Directory _ _). d.separators.items) is ∙ ap (λ (p : Plan _ _). p.separators) plan);
+      separators = ap (λ (v : Sight _ _). v.separators) (made ∙ sight) ∙ (ap (λ (d : Directory _ _). d.separators.items) is ∙ ap (λ (p : SharedPlan _ _). p.separators) plan);
     }
