@@ -13,7 +13,7 @@
 ghost use Rattle.std.specs.Prelude.{◌≡◌, ◌<◌, ◌≤◌, IfSome, []};
 ghost use Rattle.sdd_domain.specs.Layout.{IsSized};
 ghost use Rattle.sdd_domain.specs.Cells.{cell_number};
-ghost use Rattle.sdd_domain.specs.Tokens.{place_of, home_of, hand_of, own_of, cell_count, nest_in, IsSame};
+ghost use Rattle.sdd_domain.specs.Tokens.{place_of, home_of, hand_of, own_of, cell_count, nest_in, IsSame, IsSameButMisses};
 
 use sdd_base::epoch::Epoch;
 use sdd_base::sizes::Sizes;
@@ -98,7 +98,7 @@ fn passes(domain: &Domain<u64>, local: &mut Local<u64>, accelerated: bool, round
 fn items(domain: &Domain<u64>, local: &mut Local<u64>, rounds: u32) -> u64
     requires home { (home_of local.old ≡ place_of domain.now) × (hand_of local.old ≡ []) }
     requires closed { (own_of local.old).nesting ≡ 0 }
-    ensures same { IsSame local.old local.new }
+    ensures same { IsSameButMisses local.old local.new }
     ensures closed { (own_of local.new).nesting ≡ 0 }
 {
     let mut sum: u64 = 0;
@@ -140,7 +140,7 @@ fn swaps(domain: &Domain<u64>, local: &mut Local<u64>, cell: &AtomicShared, roun
     requires home { (home_of local.old ≡ place_of domain.now) × (hand_of local.old ≡ []) }
     requires closed { (own_of local.old).nesting ≡ 0 }
     requires inside { cell_number cell.now < cell_count domain.now }
-    ensures same { IsSame local.old local.new }
+    ensures same { IsSameButMisses local.old local.new }
     ensures closed { (own_of local.new).nesting ≡ 0 }
 {
     let mut sum: u64 = 0;
@@ -160,10 +160,10 @@ fn swaps(domain: &Domain<u64>, local: &mut Local<u64>, cell: &AtomicShared, roun
 fn with_cell(domain: &Domain<u64>, local: &mut Local<u64>, kind: Kind, rounds: u32) -> Option<u64>
     requires home { (home_of local.old ≡ place_of domain.now) × (hand_of local.old ≡ []) }
     requires closed { (own_of local.old).nesting ≡ 0 }
-    ensures same { IsSame local.old local.new }
+    ensures same { IsSameButMisses local.old local.new }
     ensures closed { (own_of local.new).nesting ≡ 0 }
 {
-    let cell = AtomicShared::null(domain)?;
+    let cell = AtomicShared::null(domain, local)?;
     if let Ok(owner) = Shared::new(1, domain, local) {
         if let Some(old) = cell.swap(Some(owner), domain, local) {
             old.release(domain, local);

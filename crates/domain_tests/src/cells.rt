@@ -4,7 +4,7 @@ ghost use Rattle.std.specs.Prelude.{◌≡◌, ◌<◌, ◌≤◌, ℕ, [], IfSo
 ghost use Rattle.sdd_domain.specs.Cells.{cell_number};
 ghost use Rattle.sdd_domain.specs.Pointers.{IsUnder};
 ghost use Rattle.sdd_domain.specs.Sharing.{kept_in};
-ghost use Rattle.sdd_domain.specs.Tokens.{place_of, home_of, hand_of, own_of, cell_count, nest_of, nest_in, IsSame, IsInNest};
+ghost use Rattle.sdd_domain.specs.Tokens.{place_of, home_of, hand_of, own_of, cell_count, nest_of, nest_in, IsSame, IsInNest, IsSameButMisses, IsInNestButMisses};
 
 use crate::domain::{end, member};
 use crate::guard::pass;
@@ -82,7 +82,7 @@ fn put<R: Abort>(
 fn a_cell_owns_what_was_swapped_into_it(rt: HostRuntime) -> Result<(), Fail> {
     let domain = Domain::new(rt.alloc(), sized(1, 3))?;
     let mut local = member(&rt, &domain);
-    let Some(cell) = AtomicShared::null(&domain) else {
+    let Some(cell) = AtomicShared::null(&domain, &mut local) else {
         panic!(&rt; "a cell is free");
     };
     assert!(rt; cell.is_null(&domain));
@@ -185,10 +185,10 @@ fn what_an_inner_guard_loaded_is_read_under_the_outer_one(rt: HostRuntime) -> Re
 fn no_cell(domain: &Domain<u64>, local: &mut Local<u64>) -> bool
     requires home { (home_of local.old ≡ place_of domain.now) × (hand_of local.old ≡ []) }
     requires closed { (own_of local.old).nesting ≡ 0 }
-    ensures same { IsSame local.old local.new }
+    ensures same { IsSameButMisses local.old local.new }
     ensures closed { (own_of local.new).nesting ≡ 0 }
 {
-    match AtomicShared::null(domain) {
+    match AtomicShared::null(domain, local) {
         Some(cell) => {
             cell.retire(domain, local);
             false
@@ -314,7 +314,7 @@ fn a_cell_is_exchanged_where_it_is_what_was_loaded(rt: HostRuntime) -> Result<()
 fn a_cell_is_exchanged_from_null_and_to_null(rt: HostRuntime) -> Result<(), Fail> {
     let domain = Domain::new(rt.alloc(), sized(1, 16))?;
     let mut local = member(&rt, &domain);
-    let Some(cell) = AtomicShared::null(&domain) else {
+    let Some(cell) = AtomicShared::null(&domain, &mut local) else {
         panic!(&rt; "a cell is free");
     };
     let Ok(guard) = Guard::new(&domain, &mut local) else {
@@ -367,7 +367,7 @@ fn keeps(domain: &Domain<u64>, local: &mut Local<u64>, cell: &AtomicShared, item
     requires home { (home_of local.old ≡ place_of domain.now) × (hand_of local.old ≡ []) }
     requires closed { (own_of local.old).nesting ≡ 0 }
     requires inside { cell_number cell.now < cell_count domain.now }
-    ensures same { IsSame local.old local.new }
+    ensures same { IsSameButMisses local.old local.new }
     ensures closed { (own_of local.new).nesting ≡ 0 }
 {
     let Ok(guard) = Guard::new(domain, local) else {
@@ -385,7 +385,7 @@ fn keeps(domain: &Domain<u64>, local: &mut Local<u64>, cell: &AtomicShared, item
 fn replace(domain: &Domain<u64>, local: &mut Local<u64>, cell: &AtomicShared, item: u64)
     requires home { (home_of local.old ≡ place_of domain.now) × (hand_of local.old ≡ []) }
     requires inside { cell_number cell.now < cell_count domain.now }
-    ensures same { IsInNest local.old local.new × ((own_of local.new).nesting ≡ (own_of local.old).nesting) }
+    ensures same { IsInNestButMisses local.old local.new × ((own_of local.new).nesting ≡ (own_of local.old).nesting) }
 {
     if let Ok(owner) = Shared::new(item, domain, local) {
         if let Some(old) = cell.swap(Some(owner), domain, local) {
@@ -458,7 +458,7 @@ fn adds_one(domain: &Domain<u64>, local: &mut Local<u64>, cell: &AtomicShared) -
     requires home { (home_of local.old ≡ place_of domain.now) × (hand_of local.old ≡ []) }
     requires closed { (own_of local.old).nesting ≡ 0 }
     requires inside { cell_number cell.now < cell_count domain.now }
-    ensures same { IsSame local.old local.new }
+    ensures same { IsSameButMisses local.old local.new }
     ensures closed { (own_of local.new).nesting ≡ 0 }
 {
     let Ok(guard) = Guard::new(domain, local) else {
@@ -485,7 +485,7 @@ fn puts(
     requires open { 0 < (own_of local.old).nesting }
     requires inside { cell_number cell.now < cell_count domain.now }
     requires loaded { IsUnder current.now guard.now }
-    ensures same { IsInNest local.old local.new × ((own_of local.new).nesting ≡ (own_of local.old).nesting) }
+    ensures same { IsInNestButMisses local.old local.new × ((own_of local.new).nesting ≡ (own_of local.old).nesting) }
 {
     let Ok(owner) = Shared::new(item, domain, local) else {
         return false;

@@ -3,7 +3,7 @@
 ghost use Rattle.std.specs.Prelude.{◌≡◌, ◌<◌, []};
 ghost use Rattle.sdd_domain.specs.Cells.{cell_number};
 ghost use Rattle.sdd_domain.specs.Sharing.{kept_in};
-ghost use Rattle.sdd_domain.specs.Tokens.{place_of, home_of, hand_of, own_of, cell_count, IsSame};
+ghost use Rattle.sdd_domain.specs.Tokens.{place_of, home_of, hand_of, own_of, cell_count, IsSame, IsSameButMisses};
 
 use crate::cells::{Scene, cell_with, read, reclaim_all};
 use crate::domain::{end, member};
@@ -40,7 +40,7 @@ fn clones(domain: &Domain<u64>, local: &mut Local<u64>, cell: &AtomicShared) -> 
     requires home { (home_of local.old ≡ place_of domain.now) × (hand_of local.old ≡ []) }
     requires closed { (own_of local.old).nesting ≡ 0 }
     requires inside { cell_number cell.now < cell_count domain.now }
-    ensures same { IsSame local.old local.new }
+    ensures same { IsSameButMisses local.old local.new }
     ensures closed { (own_of local.new).nesting ≡ 0 }
 {
     let Some(owner) = cell.swap(None, domain, local) else {

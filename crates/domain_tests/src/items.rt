@@ -3,7 +3,7 @@
 ghost use Rattle.std.specs.Prelude.{◌≡◌, ◌≤◌, ℕ, []};
 ghost use Rattle.sdd_domain.specs.Layout.{IsSized};
 ghost use Rattle.sdd_domain.specs.Sharing.{kept_in};
-ghost use Rattle.sdd_domain.specs.Tokens.{place_of, home_of, hand_of, own_of, participants_of, IsSame};
+ghost use Rattle.sdd_domain.specs.Tokens.{place_of, home_of, hand_of, own_of, participants_of, IsSame, IsSameButMisses};
 
 use crate::domain::{end, member};
 use crate::guard::pass;
@@ -53,7 +53,7 @@ pub(crate) fn refused<R: Abort>(
     item: u64,
 ) -> u64
     requires home { (home_of local.old ≡ place_of domain.now) × (hand_of local.old ≡ []) }
-    ensures same { IsSame local.old local.new × (own_of local.new ≡ own_of local.old) }
+    ensures same { IsSameButMisses local.old local.new × (own_of local.new ≡ own_of local.old) }
 {
     match Shared::new(item, domain, local) {
         Ok(owner) => {

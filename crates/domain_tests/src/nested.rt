@@ -3,7 +3,7 @@
 ghost use Rattle.std.specs.Prelude.{◌≡◌, [], IfOk, IfErr};
 ghost use Rattle.sdd_domain.specs.Holding.{all_told};
 ghost use Rattle.sdd_domain.specs.Sharing.{kept_in};
-ghost use Rattle.sdd_domain.specs.Tokens.{place_of, home_of, hand_of, own_of, IsSame};
+ghost use Rattle.sdd_domain.specs.Tokens.{place_of, home_of, hand_of, own_of, IsSame, IsSameButMisses};
 
 use crate::items::sized;
 use sdd_domain::domain::Domain;
@@ -97,7 +97,7 @@ fn directory<R: Abort>(
     requires mine { (kept_in first ≡ (place_of domain.now).0) × (kept_in second ≡ (place_of domain.now).0) }
     ensures place { IfOk result (λ s. kept_in s ≡ (place_of domain.now).0) }
     ensures back { IfErr result (λ both. (kept_in both.0 ≡ (place_of domain.now).0) × (kept_in both.1 ≡ (place_of domain.now).0)) }
-    ensures same { IsSame local.old local.new × (own_of local.new ≡ own_of local.old) }
+    ensures same { IsSameButMisses local.old local.new × (own_of local.new ≡ own_of local.old) }
 {
     let Ok(mut held) = Vec::with_capacity(alloc, 2) else {
         return Err((first, second));
@@ -139,7 +139,7 @@ fn top<R: Abort>(
     requires home { (home_of local.old ≡ place_of domain.now) × (hand_of local.old ≡ []) }
     requires mine { kept_in first ≡ (place_of domain.now).0 }
     ensures place { kept_in result ≡ (place_of domain.now).0 }
-    ensures same { IsSame local.old local.new × (own_of local.new ≡ own_of local.old) }
+    ensures same { IsSameButMisses local.old local.new × (own_of local.new ≡ own_of local.old) }
 {
     let second = leaf(rt, domain, local, number);
     match directory(rt, alloc, domain, local, first, second) {

@@ -1,5 +1,5 @@
 -- which item an owner is of, and which one a cell was found to name, by their slots
-use Rattle.std.specs.Prelude.{◌≡◌, ℕ, ◌+◌, List, [], ◌∷◌, ◌++◌, Option, None, Some}
+use Rattle.std.specs.Prelude.{◌≡◌, ℕ, ◌+◌, List, ◌∷◌, ◌++◌, Option, None, Some}
 use Rattle.core.specs.declared.mem.manually_drop.ManuallyDrop.{ManuallyDrop}
 use Rattle.atomic_table.specs.Table.{Me}
 use Rattle.parted.specs.declared.part.Part as parted

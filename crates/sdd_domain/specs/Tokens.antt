@@ -47,6 +47,10 @@ born_of l = l.place.me.0.born
 abbrev pub hand_of : {T : Type 0} → Local T → List (ℕ × ℕ)
 hand_of l = map told l.place.me.0.hand
 
+-- how often the participant was refused: for want of a slot, of a cell, or of one more owner
+abbrev pub misses_of : {T : Type 0} → Local T → ℕ
+misses_of l = l.misses.count
+
 -- how many items the participant has retired that aren't reclaimed yet
 abbrev pub waiting_of : {T : Type 0} → Local T → ℕ
 waiting_of l = length l.place.me.0.waits
@@ -62,17 +66,29 @@ nest_of g = (g.participant, g.life.id)
 abbrev pub nest_in : {T : Type 0} → Local T → ℕ × ℕ
 nest_in l = (l.number, life_number l.life)
 
--- the same participant of the same place, with the same owners in hand
+-- the same participant of the same place, with the same owners in hand, which was refused as often
 abbrev pub IsSame : {T : Type 0} → Local T → Local T → Type 0
-IsSame old new = (home_of new ≡ home_of old) × (number_of new ≡ number_of old) × (hand_of new ≡ hand_of old)
+IsSame old new = (home_of new ≡ home_of old) × (number_of new ≡ number_of old) × (hand_of new ≡ hand_of old) × (misses_of new ≡ misses_of old)
 
 -- and the same guards are open
 abbrev pub IsInNest : {T : Type 0} → Local T → Local T → Type 0
 IsInNest old new = IsSame old new × (nest_in new ≡ nest_in old)
 
--- the same participant of the same place, with the same guards open, and all else of it as it was but its hand
+-- the same participant of the same place, with the same owners in hand, which may have been refused
+abbrev pub IsSameButMisses : {T : Type 0} → Local T → Local T → Type 0
+IsSameButMisses old new = (home_of new ≡ home_of old) × (number_of new ≡ number_of old) × (hand_of new ≡ hand_of old)
+
+-- and the same guards are open
+abbrev pub IsInNestButMisses : {T : Type 0} → Local T → Local T → Type 0
+IsInNestButMisses old new = IsSameButMisses old new × (nest_in new ≡ nest_in old)
+
+-- the same participant of the same place, with the same guards open, and all else of it as it was but its hand, and that it may have been refused
+abbrev pub IsSameButHandAndMisses : {T : Type 0} → Local T → Local T → Type 0
+IsSameButHandAndMisses old new = (home_of new ≡ home_of old) × (number_of new ≡ number_of old) × (nest_in new ≡ nest_in old) × (own_of new ≡ own_of old) × (born_of new ≡ born_of old) × (waiting_of new ≡ waiting_of old)
+
+-- and it was refused as often
 abbrev pub IsSameButHand : {T : Type 0} → Local T → Local T → Type 0
-IsSameButHand old new = (home_of new ≡ home_of old) × (number_of new ≡ number_of old) × (nest_in new ≡ nest_in old) × (own_of new ≡ own_of old) × (born_of new ≡ born_of old) × (waiting_of new ≡ waiting_of old)
+IsSameButHand old new = (home_of new ≡ home_of old) × (number_of new ≡ number_of old) × (nest_in new ≡ nest_in old) × (own_of new ≡ own_of old) × (born_of new ≡ born_of old) × (waiting_of new ≡ waiting_of old) × (misses_of new ≡ misses_of old)
 
 -- An outermost opening that found this count. A rotation sets the flag of garbage if anything waits behind it, and else clears it.
 abbrev pub begun : ℕ → Bool → LocalState → LocalState

@@ -1,6 +1,7 @@
 //! Cells that own an item, or nothing.
 
-ghost use Rattle.std.specs.Prelude.{◌≡◌, ◌<◌, ◌||◌, Bool, IfSome, IfOk, IfErr};
+ghost use Rattle.std.specs.Prelude.{◌≡◌, ◌<◌, ◌+◌, ◌||◌, Bool, IfSome, IfNone, IfOk, IfErr, OnOk, OnErr};
+ghost use Rattle.sdd_domain.specs.Tokens.{cell_count};
 
 use crate::cells::is_null;
 use crate::comparing::{names, try_exchange, word_of};
@@ -12,6 +13,23 @@ use crate::pointer::{Loaded, Ptr};
 use crate::shared::Shared;
 use crate::swapping::swap_owner;
 use std::sync::atomic::Ordering;
+use tally::Tally;
+
+/// Takes a cell that nobody has: each of those of the place is tried once. Where each was taken when it was tried, that is
+/// a miss.
+fn take_cell<T: Holds>(domain: &Domain<T>, misses: &mut Tally) -> Option<usize>
+    ensures inside { IfSome result (λ c. c < cell_count domain.now) }
+    ensures hit { IfSome result (λ c. misses.new.count ≡ misses.old.count) }
+    ensures missed { IfNone result (misses.new.count ≡ misses.old.count + 1) }
+{
+    for cell in 0..domain.sizes.cells {
+        if !domain.taken[cell].swap(true, Ordering::SeqCst) {
+            return Some(cell);
+        }
+    }
+    misses.raise();
+    None
+}
 
 /// A cell of a place: it owns an item, or nothing.
 pub struct AtomicShared {
@@ -23,22 +41,23 @@ impl AtomicShared {
     ghost use Rattle.sdd_domain.specs.Comparing.{IsOfLoaded, IsBack};
     ghost use Rattle.sdd_domain.specs.Pointers.{IsUnder};
     ghost use Rattle.sdd_domain.specs.Sharing.{kept_in};
-    ghost use Rattle.sdd_domain.specs.Tokens.{place_of, home_of, own_of, born_of, waiting_of, cell_count, nest_of, nest_in, IsInNest};
+    ghost use Rattle.sdd_domain.specs.Tokens.{place_of, home_of, own_of, born_of, waiting_of, misses_of, nest_of, nest_in, IsInNest, IsInNestButMisses};
 
-    /// A cell that owns nothing, if nobody has one of those that the place has: each is tried once. It must be spent by
-    /// `into_shared` or `retire`.
-    pub fn null<T: Holds>(domain: &Domain<T>) -> Option<AtomicShared>
+    /// A cell that owns nothing, if nobody has one of those that the place has: each is tried once. None is a miss of the
+    /// participant. It must be spent by `into_shared` or `retire`.
+    pub fn null<T: Holds>(domain: &Domain<T>, local: &mut Local<T>) -> Option<AtomicShared>
         ensures inside { IfSome result (λ c. cell_number c < cell_count domain.now) }
+        ensures hit { IfSome result (λ c. misses_of local.new ≡ misses_of local.old) }
+        ensures missed { IfNone result (misses_of local.new ≡ misses_of local.old + 1) }
+        ensures same { IsInNestButMisses local.old local.new × (own_of local.new ≡ own_of local.old) × (born_of local.new ≡ born_of local.old) × (waiting_of local.new ≡ waiting_of local.old) }
     {
-        for cell in 0..domain.sizes.cells {
-            if !domain.taken[cell].swap(true, Ordering::SeqCst) {
-                return Some(AtomicShared { cell });
-            }
+        match take_cell(domain, &mut local.misses) {
+            Some(cell) => Some(AtomicShared { cell }),
+            None => None,
         }
-        None
     }
 
-    /// A cell that owns this item. The owner is back where there is no cell.
+    /// A cell that owns this item. The owner is back where there is no cell, which is a miss.
     pub fn from<T: Holds>(
         owner: Shared<T>,
         domain: &Domain<T>,
@@ -48,10 +67,12 @@ impl AtomicShared {
         requires mine { kept_in owner ≡ (place_of domain.now).0 }
         ensures inside { IfOk result (λ c. cell_number c < cell_count domain.now) }
         ensures refused { IfErr result (λ back. back ≡ owner) }
-        ensures same { IsInNest local.old local.new × (born_of local.new ≡ born_of local.old) }
+        ensures hit { OnOk result (misses_of local.new ≡ misses_of local.old) }
+        ensures missed { OnErr result (misses_of local.new ≡ misses_of local.old + 1) }
+        ensures same { IsInNestButMisses local.old local.new × (born_of local.new ≡ born_of local.old) }
         ensures own { (flag : Bool) × (own_of local.new ≡ record (own_of local.old) { garbage = flag }) }
     {
-        let Some(cell) = AtomicShared::null(domain) else {
+        let Some(cell) = AtomicShared::null(domain, local) else {
             return Err(owner);
         };
         // Whoever had the cell before left nothing in it.

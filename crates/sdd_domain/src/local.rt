@@ -33,6 +33,7 @@ use parted::{Life, Seen};
 use sdd_base::sizes::Sizes;
 use sdd_base::status::LocalState;
 use std::collections::VecDeque;
+use tally::Tally;
 
 /// A registered participant. It must be spent by `end`.
 pub struct Local<T> {
@@ -50,6 +51,8 @@ pub struct Local<T> {
     pub(crate) life: Option<Life>,
     /// What it has leased, in the order in which it was loaded.
     pub(crate) rows: VecDeque<Row<T>>,
+    /// How often it was refused for want of a slot, a cell or a part of an item.
+    pub(crate) misses: Tally,
     ghost acts: { (place.me.0.kind ≡ 1) × (place.me.0.number ≡ number) × (place.me.0.scan ≡ 0) × (number < 2 ^ 30) × (claim_word number < place.table_id.words) × (place.me.0.releasing ≡ 0) },
     ghost has_spare: { (place.me.0.spare ≡ spare) × (spare < 2 ^ 33) × (has_all is_blank (own_spare place.me.0 spare ∷ own_bag place.me.0 ∷ leased_homes place.me.0 place.me.0.leases) place.me.1 ≡ true) },
     ghost lends: { (map row_told rows.items ≡ map (lease_told (life_number life)) place.me.0.leases) × (place.me.0.sizes.slots ≤ deque_capacity rows) × (all_below place.me.0.sizes.slots (row_slots rows.items) ≡ true) },
@@ -170,6 +173,7 @@ impl<T: Holds> Local<T> {
             next: 0,
             life: None,
             rows,
+            misses: Tally::new(),
         }
     }
 
@@ -337,6 +341,7 @@ impl<T: Holds> Local<T> {
             next: _,
             life,
             rows,
+            misses: _,
         } = self;
         no_token(life);
         rows.destroy_empty();

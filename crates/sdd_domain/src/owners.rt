@@ -27,6 +27,7 @@ use calm::Calm;
 use parted::One;
 use sdd_base::sizes::Sizes;
 use std::collections::VecDeque;
+use tally::Tally;
 
 /// How often the count of an item's owners is read and tried to be raised: each time others may be faster.
 const TRIES: u64 = u64::MAX;
@@ -266,7 +267,7 @@ fn clone_leased<T: Holds>(
 
 /// Makes one more owner of the item of the first owner in hand, which is in `slot`, with one of the parts of participant
 /// `number`: that part is the answer, and both owners are in hand then.
-pub(crate) fn clone<T: Holds>(
+fn clone_by_row<T: Holds>(
     words: &Words<T>,
     place: &mut Place<T>,
     sizes: &Sizes,
@@ -287,5 +288,37 @@ pub(crate) fn clone<T: Holds>(
     match row_of(rows, slot) {
         Some(at) => clone_leased(words, place, sizes, rows, at, slot),
         None => clone_home(words, place, sizes, number, slot),
+    }
+}
+
+/// Makes one more owner of the item of the first owner in hand, which is in `slot`, with one of the parts of participant
+/// `number`: that part is the answer, and both owners are in hand then. A refusal is a miss.
+pub(crate) fn clone<T: Holds>(
+    words: &Words<T>,
+    place: &mut Place<T>,
+    sizes: &Sizes,
+    number: usize,
+    rows: &mut VecDeque<Row<T>>,
+    slot: usize,
+    misses: &mut Tally,
+) -> Option<One<Stored<T>>>
+    requires table { FitsSizes words.now.table_id words.now.key.sizes place.old.table_id place.old.me.0.sizes sizes.now × (number < sizes.now.participants) }
+    requires ready { (place.old.me.0.kind ≡ 1) × (place.old.me.0.number ≡ number) × (is_ready place.old.me.0.known ≡ true) × (place.old.me.0.releasing ≡ 0) }
+    requires owner { (o : Owner) × (os : List Owner) × (place.old.me.0.hand ≡ o ∷ os) × (o.slot ≡ slot) }
+    requires rows { ((life : ℕ) × (map row_told rows.old.items ≡ map (lease_told life) place.old.me.0.leases)) × (all_below sizes.now.slots (row_slots rows.old.items) ≡ true) }
+    ensures seat { (place.new.table_id ≡ place.old.table_id) × (place.new.id ≡ place.old.id) }
+    ensures cloned { IfSome result (λ p. HasClonedOne place.old.me p.part.life.id place.new.me) }
+    ensures refused { IfNone result (place.new.me ≡ place.old.me) }
+    ensures rows { (life : ℕ) → map row_told rows.old.items ≡ map (lease_told life) place.old.me.0.leases → map row_told rows.new.items ≡ map (lease_told life) place.new.me.0.leases }
+    ensures same { (deque_capacity rows.new ≡ deque_capacity rows.old) × (row_slots rows.new.items ≡ row_slots rows.old.items) }
+    ensures hit { IfSome result (λ p. misses.new.count ≡ misses.old.count) }
+    ensures missed { IfNone result (misses.new.count ≡ misses.old.count + 1) }
+{
+    match clone_by_row(words, place, sizes, number, rows, slot) {
+        Some(more) => Some(more),
+        None => {
+            misses.raise();
+            None
+        }
     }
 }

@@ -1,6 +1,6 @@
 //! Placing an item: a free slot is claimed, the homes of the participants get their parts, and the item is in the slot.
 
-ghost use Rattle.std.specs.Prelude.{◌≡◌, ℕ, ◌+◌, ◌-◌, ◌^◌, ◌<◌, ◌≤◌, map, true, Some, None, IsSome, IsSomeAnd, IfOk, IfErr};
+ghost use Rattle.std.specs.Prelude.{◌≡◌, ℕ, ◌+◌, ◌-◌, ◌^◌, ◌<◌, ◌≤◌, map, true, Some, None, IsSome, IsSomeAnd, IfOk, IfErr, OnOk, OnErr};
 ghost use Rattle.std.specs.Mem.{manually_drop_value};
 ghost use Rattle.atomic_table.specs.Table.{rest};
 ghost use Rattle.sdd_steps.specs.Steps.{is_ready};
@@ -19,6 +19,7 @@ use crate::slots;
 use crate::stored::store;
 use parted::{One, Part};
 use sdd_base::sizes::Sizes;
+use tally::Tally;
 
 /// How many of `left` parts one of `rest` participants gets, so that as many are left as the others need, and one more.
 fn share_of(left: u64, rest: u64) -> u64
@@ -105,19 +106,22 @@ fn place_at<T: Holds>(
 }
 
 /// Places an item in a free slot: each is tried once, from `from` on. Its one owner is in hand; the slot and the owner's
-/// part are the answer. Where each slot was taken when it was tried, the item is back.
+/// part are the answer. Where each slot was taken when it was tried, the item is back: that is a miss.
 pub(crate) fn place_item<T: Holds>(
     words: &Words<T>,
     place: &mut Place<T>,
     sizes: &Sizes,
     from: usize,
     item: T,
+    misses: &mut Tally,
 ) -> Result<(usize, One<Stored<T>>), T>
     requires table { FitsSearch words.now.table_id words.now.key.sizes place.old.table_id place.old.me.0.sizes sizes.now from }
     requires ready { (place.old.me.0.kind ≡ 1) × (is_ready place.old.me.0.known ≡ true) × (place.old.me.0.releasing ≡ 0) × (T.holds item ≡ map told place.old.me.0.hand) × (place.old.me.0.filling ≡ None) }
     ensures seat { (place.new.table_id ≡ place.old.table_id) × (place.new.id ≡ place.old.id) }
     ensures placed { IfOk result (λ t. (o : Owner) × (o.slot ≡ t.0) × (o.round ≡ t.1.part.life.id) × (t.0 < sizes.now.slots) × (place.new.me ≡ (owning o place.old.me.0, place.old.me.1)) × IsSomeAnd t.1.part.seen.value (λ m. manually_drop_value m ≡ item)) }
     ensures refused { IfErr result (λ back. (back ≡ item) × (place.new.me ≡ place.old.me)) }
+    ensures hit { OnOk result (misses.new.count ≡ misses.old.count) }
+    ensures missed { OnErr result (misses.new.count ≡ misses.old.count + 1) }
 {
     for step in 0..sizes.slots {
         let slot = (from + step) % sizes.slots;
@@ -126,5 +130,6 @@ pub(crate) fn place_item<T: Holds>(
             return Ok((slot, part));
         }
     }
+    misses.raise();
     Err(item)
 }

@@ -26,12 +26,13 @@ pub struct Shared<T> {
 }
 
 impl<T: Holds> Shared<T> {
-    ghost use Rattle.sdd_domain.specs.Tokens.{place_of, home_of, own_of, hand_of, born_of, waiting_of, IsInNest, IsSameButHand};
+    ghost use Rattle.sdd_domain.specs.Tokens.{place_of, home_of, own_of, hand_of, born_of, waiting_of, misses_of, IsInNest, IsInNestButMisses, IsSameButHand, IsSameButHandAndMisses};
     ghost use Rattle.sdd_domain.specs.Holding.{told_of, IsHeldOf};
     ghost use Rattle.sdd_domain.specs.Sharing.{kept_in, IsOwnerOf};
 
     /// Places an item in a free slot, and gives its first owner. Where each slot was taken when it was tried, the item
-    /// is back. The item holds all owners that are in the participant's hand, and no other one. It takes no memory.
+    /// is back, which is a miss of the participant. The item holds all owners that are in the participant's hand, and no
+    /// other one. It takes no memory.
     pub fn new(item: T, domain: &Domain<T>, local: &mut Local<T>) -> Result<Shared<T>, T>
         requires home { home_of local.old ≡ place_of domain.now }
         requires holds { T.holds item ≡ hand_of local.old }
@@ -40,10 +41,17 @@ impl<T: Holds> Shared<T> {
         ensures refused { IfErr result (λ back. back ≡ item) }
         ensures bare { OnOk result (hand_of local.new ≡ []) }
         ensures hand { OnErr result (hand_of local.new ≡ hand_of local.old) }
-        ensures same { IsSameButHand local.old local.new }
+        ensures hit { OnOk result (misses_of local.new ≡ misses_of local.old) }
+        ensures missed { OnErr result (misses_of local.new ≡ misses_of local.old + 1) }
+        ensures same { IsSameButHandAndMisses local.old local.new }
     {
-        let Local { place, next, .. } = local;
-        let (slot, part) = place_item(domain.words(), place, &domain.sizes, *next, item)?;
+        let Local {
+            place,
+            next,
+            misses,
+            ..
+        } = local;
+        let (slot, part) = place_item(domain.words(), place, &domain.sizes, *next, item, misses)?;
         *next = slot + 1;
         let seat = part_with(domain.words(), place);
         Ok(Shared { slot, part, seat })
@@ -60,8 +68,8 @@ impl<T: Holds> Shared<T> {
     }
 
     /// One more owner of the item, beside this one: in Rust that is `clone(&self)`. This one alone is back where the item
-    /// has `2^32 - 1` owners, or where the participant has only one part of it. It tries again where other threads change
-    /// the count of owners at that moment. It takes no memory.
+    /// has `2^32 - 1` owners, or where the participant has only one part of it, which is a miss. It tries again where other
+    /// threads change the count of owners at that moment. It takes no memory.
     pub fn clone(
         self,
         domain: &Domain<T>,
@@ -72,17 +80,20 @@ impl<T: Holds> Shared<T> {
         ensures home { IfOk result (λ both. (kept_in both.0 ≡ kept_in self) × (kept_in both.1 ≡ kept_in self)) }
         ensures item { IfOk result (λ both. (x : T) → IsOwnerOf self x → IsOwnerOf both.0 x × IsOwnerOf both.1 x) }
         ensures back { IfErr result (λ back. (kept_in back ≡ kept_in self) × ((x : T) → IsOwnerOf self x → IsOwnerOf back x)) }
-        ensures same { IsInNest local.old local.new × (own_of local.new ≡ own_of local.old) × (born_of local.new ≡ born_of local.old) × (waiting_of local.new ≡ waiting_of local.old) }
+        ensures hit { OnOk result (misses_of local.new ≡ misses_of local.old) }
+        ensures missed { OnErr result (misses_of local.new ≡ misses_of local.old + 1) }
+        ensures same { IsInNestButMisses local.old local.new × (own_of local.new ≡ own_of local.old) × (born_of local.new ≡ born_of local.old) × (waiting_of local.new ≡ waiting_of local.old) }
     {
         let Shared { slot, part, seat } = self;
         let Local {
             place,
             number,
             rows,
+            misses,
             ..
         } = local;
         take_in(domain.words(), place, seat);
-        match clone(domain.words(), place, &domain.sizes, *number, rows, slot) {
+        match clone(domain.words(), place, &domain.sizes, *number, rows, slot, misses) {
             Some(more) => {
                 let seat = part_with(domain.words(), place);
                 let other = part_with(domain.words(), place);

@@ -136,7 +136,7 @@ fn an_empty_cell_names_no_version(rt: HostRuntime) {
     let mut met = false;
     let domain = place(&rt, rt.alloc(), &mut met);
     let mut local = member(&rt, &domain, &mut met);
-    let Some(cell) = AtomicShared::null(&domain) else {
+    let Some(cell) = AtomicShared::null(&domain, &mut local) else {
         panic!(rt; "a cell is free");
     };
     assert_eq!(rt;

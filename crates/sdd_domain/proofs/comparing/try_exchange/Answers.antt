@@ -71,8 +71,8 @@ invariant_of-local g c = let l = c.args.local.now in let d = l.place.me.0 in let
 
 pub returns-in-Ok-clause-same : goal.returns-in-Ok-clause-same
 returns-in-Ok-clause-same g c = let l = c.args.local.now in let m = c.exchange_owner-free.new.place.me in let all = (c.exchange_owner-free.ensures.tried (behind l) (out l)).2 in let table = c.exchange_owner-free.ensures.seat.0 in
-    (((λ j. (table j, ap (λ (z : Me _ Acting). z.0.sizes) all j), refl, ap (λ (z : Me _ Acting). map told z.0.hand) all), (λ j. (l.number, sym (ap life_number c.in-Some.is) j))), refl, ap (λ (z : Me _ Acting). z.0.born) all, ap (λ (z : Me _ Acting). length z.0.waits) all)
+    (((λ j. (table j, ap (λ (z : Me _ Acting). z.0.sizes) all j), refl, ap (λ (z : Me _ Acting). map told z.0.hand) all, refl), (λ j. (l.number, sym (ap life_number c.in-Some.is) j))), refl, ap (λ (z : Me _ Acting). z.0.born) all, ap (λ (z : Me _ Acting). length z.0.waits) all)
 
 pub returns-in-Err-clause-same : goal.returns-in-Err-clause-same
 returns-in-Err-clause-same g c = let l = c.args.local.now in let m = c.exchange_owner-free.new.place.me in let all = (c.exchange_owner-free.ensures.tried (behind l) (out l)).2 in let table = c.exchange_owner-free.ensures.seat.0 in
-    (((λ j. (table j, ap (λ (z : Me _ Acting). z.0.sizes) all j), refl, ap (λ (z : Me _ Acting). map told z.0.hand) all), (λ j. (l.number, sym (ap life_number c.in-Some.is) j))), refl, ap (λ (z : Me _ Acting). z.0.born) all, ap (λ (z : Me _ Acting). length z.0.waits) all)
+    (((λ j. (table j, ap (λ (z : Me _ Acting). z.0.sizes) all j), refl, ap (λ (z : Me _ Acting). map told z.0.hand) all, refl), (λ j. (l.number, sym (ap life_number c.in-Some.is) j))), refl, ap (λ (z : Me _ Acting). z.0.born) all, ap (λ (z : Me _ Acting). length z.0.waits) all)

@@ -1,4 +1,4 @@
-use Rattle.std.proofs.Common.{ℕ, [], ◌∷◌, ap, ◌∙◌}
+use Rattle.std.proofs.Common.{ℕ, ◌∷◌, ap, ◌∙◌}
 use Rattle.atomic_table.specs.Table.{Me}
 use Rattle.sdd_steps.specs.Steps.{is_ready}
 use Rattle.sdd_domain.specs.Plays.{own_spare}

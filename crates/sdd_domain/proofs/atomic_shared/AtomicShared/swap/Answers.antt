@@ -62,4 +62,4 @@ invariant_of-local g c = let l = c.args.local.now in let d = l.place.me.0 in let
 
 pub returns-clause-same : goal.returns-clause-same
 returns-clause-same g c = let l = c.args.local.now in let all = c.swap_owner-free.ensures.swapped (behind l) (out l) in let table = c.swap_owner-free.ensures.seat.0 in
-    (((λ j. (table j, ap (λ (z : Me _ Acting). z.0.sizes) all j), refl, ap (λ (z : Me _ Acting). map told z.0.hand) all), refl), refl, ap (λ (z : Me _ Acting). z.0.born) all, ap (λ (z : Me _ Acting). length z.0.waits) all)
+    (((λ j. (table j, ap (λ (z : Me _ Acting). z.0.sizes) all j), refl, ap (λ (z : Me _ Acting). map told z.0.hand) all, refl), refl), refl, ap (λ (z : Me _ Acting). z.0.born) all, ap (λ (z : Me _ Acting). length z.0.waits) all)

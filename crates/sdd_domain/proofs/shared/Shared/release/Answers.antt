@@ -1,6 +1,5 @@
 use Rattle.std.proofs.Common.{◌≡◌, ◌<◌, ◌≤◌, true, ℕ, List, [], ◌∷◌, map, vec_capacity, ap, sym, ◌∙◌, subst, arith}
 use Rattle.std.specs.VecDeque.{deque_capacity}
-use Rattle.atomic_table.specs.declared.badge.Badge.{Badge}
 use Rattle.atomic_table.specs.Seated.{TableId}
 use Rattle.atomic_table.specs.Table.{Me}
 use Rattle.sdd_homes.specs.declared.Garbage.{Garbage}
