@@ -1,11 +1,12 @@
 -- what lies in a slot of the table, by its content
-use Rattle.std.specs.Prelude.{◌≡◌, Bool, true, false, ℕ, suc, ◌%◌, ◌<◌, ◌≤◌, List, [], map, length, vec_capacity, IsSome, IsSomeAnd}
+use Rattle.std.specs.Prelude.{◌≡◌, Bool, true, false, ℕ, suc, ◌%◌, ◌<◌, ◌≤◌, ◌++◌, List, [], map, length, replicate, vec_capacity, IsSome, IsSomeAnd}
 use Rattle.std.specs.Mem.{manually_drop_value}
 use Rattle.sdd_base.specs.declared.sizes.Sizes.{Sizes}
 use Rattle.sdd_steps.specs.State.{At}
 use Rattle.sdd_homes.specs.declared.Garbage.{Garbage}
 use Rattle.sdd_homes.specs.Book.{Content, away, blank, room, deed, part, bag, resting}
 use Rattle.sdd_domain.specs.Holding.{told}
+use Rattle.sdd_domain.specs.Layout.{all_homes, all_spares}
 use Rattle.sdd_domain.specs.declared.board.Home.{Home}
 use Rattle.sdd_domain.specs.declared.board.Home.TheVariants.{Blank, Room, Deed, Part, Left, Announced}
 
@@ -30,6 +31,11 @@ module _ {T : Type 0} (holds : T → List (ℕ × ℕ)) where
   -- these are empty bags, with room for n slots
   abbrev pub AreBags : ℕ → List (Home T) → Type 0
   AreBags n homes = (i : ℕ) (y : Home T) → At homes i y → IsIn (bag n []) y
+
+  -- the slots of a new place: the homes of free slots, spare ones with nothing in them, and empty bags
+  abbrev pub AreNewHomes : Sizes → List (Home T) → Type 0
+  AreNewHomes sizes homes = (own : List (Home T)) × (bags : List (Home T)) × (length own ≡ all_homes sizes) × AreResting sizes.participants own
+      × (length bags ≡ sizes.participants) × AreBags sizes.slots bags × (homes ≡ (own ++ replicate (all_spares sizes) Blank) ++ bags)
 
 module _ {T : Type 0} where
   -- whether it is empty

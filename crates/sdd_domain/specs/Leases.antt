@@ -3,14 +3,15 @@ use Rattle.std.specs.Prelude.{◌≡◌, ℕ, suc, ◌<◌, ◌≤◌, ◌^◌, 
 use Rattle.parted.specs.declared.life.Life.{Life}
 use Rattle.sdd_homes.specs.declared.Lease.{Lease}
 use Rattle.atomic_table.specs.Table.{Me}
+use Rattle.sdd_base.specs.declared.sizes.Sizes.{Sizes}
 use Rattle.sdd_steps.specs.declared.participant.Loaded.{Loaded}
 use Rattle.sdd_steps.specs.State.{Has}
 use Rattle.sdd_steps.specs.Steps.{is_inside, is_ready}
 use Rattle.sdd_homes.specs.declared.Owner.{Owner}
 use Rattle.sdd_homes.specs.declared.Garbage.{Garbage}
 use Rattle.sdd_homes.specs.Book.{Apart}
-use Rattle.sdd_domain.specs.Contents.{blanks}
-use Rattle.sdd_domain.specs.Plays.{own_home, releasing_one}
+use Rattle.sdd_domain.specs.Contents.{IsIn, blanks}
+use Rattle.sdd_domain.specs.Plays.{HasLoaded, own_home, releasing_one}
 use Rattle.sdd_domain.specs.declared.board.Acting.{Acting}
 use Rattle.sdd_domain.specs.declared.board.Home.{Home}
 use Rattle.sdd_domain.specs.declared.board.Home.TheVariants.{Blank}
@@ -81,6 +82,10 @@ HasLeased m m' = (hs : List Loaded) × (ls : List Lease) × (m'.0 ≡ record m.0
 -- something may have been loaded under the open guard, and these are leased besides: their homes are out behind the others, and empty
 abbrev pub HasNoted : {T : Type 0} → Me (Home T) Acting → Me (Home T) Acting → Type 0
 HasNoted m m' = (hs : List Loaded) × (ls : List Lease) × (m' ≡ (record m.0 { known = record m.0.known { loaded = hs }; leases = m.0.leases ++ ls }, m.1 ++ blanks (leased_homes m.0 ls)))
+
+-- this participant loaded the cell's word, when the rows told its leases
+abbrev pub WasLoaded : {T : Type 0} → (T → List (ℕ × ℕ)) → ℕ → ℕ → Sizes → ℕ → List (Row T) → Me (Home T) Acting → Type 0
+WasLoaded holds word number sizes life rows m' = (m : Me (Home _) Acting) × HasLoaded (IsIn holds) m word m' × (m.0.number ≡ number) × (m.0.sizes ≡ sizes) × (map row_told rows ≡ map (lease_told life) m.0.leases)
 
 -- the home of an item that is cloned, where its lease is the last one, is in front of what is out with the seat, and is empty
 abbrev pub HasEmptied : {T : Type 0} → Me (Home T) Acting → ℕ → Lease → List Lease → List (ℕ × Home T) → Type 0

@@ -1,6 +1,9 @@
 -- what calls on items and cells leave with the seat that made them
-use Rattle.std.specs.Prelude.{◌≡◌, ◌⊎◌, ℕ, ◌+◌, ◌-◌, ◌^◌, ◌<◌, ◌≤◌, true, List, [], ◌∷◌, ◌++◌, length, map, Option, Some}
+use Rattle.std.specs.Prelude.{◌≡◌, ◌⊎◌, ℕ, ◌+◌, ◌-◌, ◌^◌, ◌<◌, ◌≤◌, true, List, [], ◌∷◌, ◌++◌, drop, length, map, IsSomeAnd, Option, None, Some}
+use Rattle.std.specs.Mem.{manually_drop_value}
+use Rattle.core.specs.declared.mem.manually_drop.ManuallyDrop.{ManuallyDrop}
 use Rattle.atomic_table.specs.Table.{Me}
+use Rattle.sdd_steps.specs.Steps.{is_ready}
 use Rattle.sdd_homes.specs.declared.Lease.{Lease}
 use Rattle.sdd_homes.specs.declared.Owner.{Owner}
 use Rattle.sdd_homes.specs.declared.Filling.{Filling}
@@ -10,12 +13,33 @@ use Rattle.sdd_domain.specs.Contents.{blanks, garbage_slots, is_blank}
 use Rattle.sdd_domain.specs.Holding.{told}
 use Rattle.sdd_domain.specs.Leases.{leased_homes, has_all, HasEmptied}
 use Rattle.sdd_domain.specs.Owners.{besides}
-use Rattle.sdd_domain.specs.Plays.{own_spare, own_bag, Brings, GetsBack, CanKeep, CanEnd, ended_release, Refilled, CanFill, CanEmpty, filling_at, next_filled, gathered, emptying, reclaiming, deed_home}
+use Rattle.sdd_domain.specs.Plays.{owning, own_spare, own_bag, Brings, GetsBack, CanKeep, CanEnd, ended_release, Refilled, CanFill, CanEmpty, filling_at, next_filled, gathered, emptying, reclaiming, deed_home}
+use Rattle.sdd_domain.specs.Views.{publishing, rotated}
 use Rattle.sdd_domain.specs.declared.board.Acting.{Acting}
 use Rattle.sdd_domain.specs.declared.board.Home.{Home}
 use Rattle.sdd_domain.specs.declared.board.Home.TheVariants.{Blank}
 
+-- a count that isn't below the one read is published, and the rotation is done if it was due
+abbrev pub HasPublished : {S : Type 0} → ℕ → Me S Acting → Me S Acting → Type 0
+HasPublished e m m' = (b : ℕ) × (e ≤ b) × (m' ≡ (record m.0 { known = publishing e m.0.known; born = b; waits = rotated e m.0.known.found m.0.waits }, m.1))
+
+-- an item is ready to be placed: it holds all owners in hand, and no other one
+abbrev pub CanPlaceItem : {T : Type 0} → (T → List (ℕ × ℕ)) → T → Acting → Type 0
+CanPlaceItem holds item d = (d.kind ≡ 1) × (is_ready d.known ≡ true) × (d.releasing ≡ 0) × (holds item ≡ map told d.hand) × (d.filling ≡ None)
+
+-- the item is in one of so many slots, by a part of it, and its one owner is in hand
+abbrev pub HasPlacedItem : {T S : Type 0} → T → ℕ → ℕ → ℕ → Option (ManuallyDrop T) → Me S Acting → Me S Acting → Type 0
+HasPlacedItem item slots slot round seen m m' = (o : Owner) × (o.slot ≡ slot) × (o.round ≡ round) × (slot < slots) × (m' ≡ (owning o m.0, m.1)) × IsSomeAnd seen (λ x. manually_drop_value x ≡ item)
+
+-- the owners that an item holds, first in hand, are released: what they were the last ones of waits
+abbrev pub HasGivenUp : {T S : Type 0} → (T → List (ℕ × ℕ)) → T → Me S Acting → Me S Acting → Type 0
+HasGivenUp holds item m m' = (hs os : List Owner) → holds item ≡ map told hs → m.0.hand ≡ hs ++ os → (ws : List Garbage) × (m' ≡ (record m.0 { hand = os; waits = ws }, m.1))
+
 module _ {T : Type 0} (IsIn : Content → Home T → Type 0) where
+  -- the homes of all that is leased are behind what else is out with the seat, each with its parts again
+  abbrev pub RefillsAll : Me (Home T) Acting → Me (Home T) Acting → Type 0
+  RefillsAll m after = (xs : List (ℕ × Home T)) × Refilled IsIn m.0 m.0.leases xs [] × (after ≡ (m.0, drop (length m.0.leases) m.1 ++ xs))
+
   -- what the seat brought for this word is exchanged for what the found word names
   abbrev pub Exchanges : Me (Home T) Acting → ℕ → ℕ → Me (Home T) Acting → Type 0
   Exchanges m word found after = (new : Option Owner) (os : List Owner) (tail : List (ℕ × Home T)) → Brings IsIn m new os word tail → GetsBack IsIn m os found tail after

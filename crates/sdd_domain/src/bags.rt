@@ -1,6 +1,6 @@
 //! What a participant has retired, by how often it has rotated since.
 
-ghost use Rattle.std.specs.Prelude.{◌≡◌, ◌+◌, ◌<◌, ◌++◌, ◌∷◌, [], List, IfOk, length, IfSome, IfNone, nat_lt};
+ghost use Rattle.std.specs.Prelude.{◌≡◌, ◌+◌, ◌<◌, ◌∷◌, [], List, IfOk, length, IfSome, IfNone, nat_lt};
 ghost use Rattle.std.specs.VecDeque.{deque_len, deque_capacity};
 ghost use Rattle.sdd_homes.specs.declared.Garbage.{Garbage};
 ghost use Rattle.sdd_domain.specs.Views.{older_waits};
@@ -21,7 +21,7 @@ pub struct Bags {
 }
 
 impl Bags {
-    ghost use Rattle.sdd_domain.specs.Ledgers.{WaitsIn};
+    ghost use Rattle.sdd_domain.specs.Ledgers.{TakesLongest, WaitsIn};
 
     /// Empty bags, with room for so many items.
     pub(crate) fn new(alloc: Global, room: usize) -> Result<Bags, AllocError>
@@ -77,7 +77,7 @@ impl Bags {
 
     /// Takes out what has waited longest, if it is due.
     pub(crate) fn take_due(&mut self) -> Option<usize>
-        ensures taken { IfSome result (λ slot. (ws : List Garbage) → WaitsIn ws self.old → (vs : List Garbage) × (w : Garbage) × (ws ≡ vs ++ w ∷ []) × (w.slot ≡ slot) × (w.age ≡ 3) × WaitsIn vs self.new) }
+        ensures taken { IfSome result (λ slot. TakesLongest slot self.old self.new) }
         ensures less { IfSome result (λ _. self.new.due + 1 ≡ self.old.due) }
         ensures none { IfNone result ((self.new ≡ self.old) × (self.old.due ≡ 0)) }
         ensures same { deque_capacity self.new.slots ≡ deque_capacity self.old.slots }

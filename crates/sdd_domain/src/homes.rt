@@ -6,9 +6,9 @@ ghost use Rattle.core.specs.Mem.Slots.{IsFull};
 ghost use Rattle.sdd_homes.specs.declared.Garbage.{Garbage};
 ghost use Rattle.sdd_homes.specs.declared.Owner.{Owner};
 ghost use Rattle.sdd_homes.specs.Book.{bag, deed, part, resting, room};
-ghost use Rattle.sdd_domain.specs.Layout.{all_homes, all_spares, IsSized};
+ghost use Rattle.sdd_domain.specs.Layout.{IsSized};
 ghost use Rattle.sdd_domain.specs.Comparing.{AreIn};
-ghost use Rattle.sdd_domain.specs.Contents.{IsIn, garbage_slots, AreResting, AreBags};
+ghost use Rattle.sdd_domain.specs.Contents.{IsIn, garbage_slots, AreResting, AreBags, AreNewHomes};
 ghost use Rattle.sdd_domain.specs.Holding.{told};
 ghost use Rattle.sdd_domain.specs.declared.board.Home.{Home};
 ghost use Rattle.sdd_domain.specs.declared.board.Home.TheVariants.{Blank};
@@ -207,7 +207,7 @@ fn with_bags<T: Holds>(
 /// The homes and spare slots of a new place, and its bags.
 pub(crate) fn homes_from<T: Holds>(alloc: Global, sizes: &Sizes) -> Result<Vec<Home<T>>, AllocError>
     requires { IsSized sizes.now }
-    ensures { IfOk result (λ homes. (own : List (Home T)) × (bags : List (Home T)) × (length own ≡ all_homes sizes.now) × AreResting T.holds sizes.now.participants own × (length bags ≡ sizes.now.participants) × AreBags T.holds sizes.now.slots bags × (homes.items ≡ (own ++ replicate (all_spares sizes.now) Blank) ++ bags)) }
+    ensures { IfOk result (λ homes. AreNewHomes T.holds sizes.now homes.items) }
 {
     let own = sizes.slots * (sizes.participants + 1);
     let spares = sizes.cells + sizes.participants;

@@ -2,13 +2,12 @@
 
 ghost use Rattle.std.specs.Prelude.{◌≡◌, ℕ, ◌+◌, ◌*◌, ◌<◌, ◌++◌, ◌∷◌, [], List, map, length, drop, slice_index_or, IfSome, IfNone, IsSome};
 ghost use Rattle.std.specs.VecDeque.{deque_capacity, deque_len};
-ghost use Rattle.sdd_domain.specs.Outcomes.{RefillsBehind};
+ghost use Rattle.sdd_domain.specs.Outcomes.{RefillsAll, RefillsBehind};
 ghost use Rattle.sdd_domain.specs.Fitting.{ActsAmong};
 ghost use Rattle.sdd_domain.specs.Contents.{IsIn, blanks};
 ghost use Rattle.sdd_domain.specs.Leases.{row_told, lease_told, leased_homes};
 ghost use Rattle.sdd_steps.specs.State.{Has};
 ghost use Rattle.sdd_homes.specs.declared.Lease.{Lease};
-ghost use Rattle.sdd_domain.specs.Plays.{Refilled};
 ghost use Rattle.sdd_domain.specs.declared.row.Row.{Row};
 ghost use Rattle.sdd_domain.specs.declared.board.Home.{Home};
 
@@ -58,7 +57,7 @@ fn refill<T: Holds>(
     requires rows { map row_told rows.old.items ≡ map (lease_told ended.now.id) place.old.me.0.leases }
     requires out { place.old.me.1 ≡ blanks (leased_homes place.old.me.0 place.old.me.0.leases) ++ drop (length place.old.me.0.leases) place.old.me.1 }
     ensures seat { (place.new.table_id ≡ place.old.table_id) × (place.new.id ≡ place.old.id) }
-    ensures filled { (xs : List (ℕ × Home T)) × Refilled (IsIn T.holds) place.old.me.0 place.old.me.0.leases xs [] × (place.new.me ≡ (place.old.me.0, drop (length place.old.me.0.leases) place.old.me.1 ++ xs)) }
+    ensures filled { RefillsAll (IsIn T.holds) place.old.me place.new.me }
     ensures empty { (rows.new.items ≡ []) × (deque_capacity rows.new ≡ deque_capacity rows.old) }
 {
     while let Some(row) = rows.pop_front() {

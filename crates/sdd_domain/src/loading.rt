@@ -8,7 +8,7 @@ ghost use Rattle.sdd_domain.specs.Outcomes.{KeepsOut};
 ghost use Rattle.sdd_domain.specs.Contents.{IsIn, is_blank};
 ghost use Rattle.sdd_domain.specs.Fitting.{FitsSizes};
 ghost use Rattle.sdd_domain.specs.Layout.{IsSized};
-ghost use Rattle.sdd_domain.specs.Leases.{row_told, lease_told, leased_homes, row_slots, all_below, has_all, HasLeased, HasNoted, HasRows, KeepsRows};
+ghost use Rattle.sdd_domain.specs.Leases.{row_told, lease_told, leased_homes, row_slots, all_below, has_all, HasLeased, HasNoted, HasRows, KeepsRows, WasLoaded};
 ghost use Rattle.sdd_domain.specs.Plays.{HasLoaded};
 ghost use Rattle.sdd_domain.specs.declared.board.Acting.{Acting};
 ghost use Rattle.sdd_domain.specs.declared.board.Home.{Home};
@@ -49,7 +49,7 @@ pub(crate) fn note_found<T: Holds>(
 ) -> Option<usize>
     requires table { (place.old.table_id ≡ words.now.table_id) × IsSized sizes.now × (number < sizes.now.participants) }
     requires rows { (all_below sizes.now.slots (row_slots rows.old.items) ≡ true) × (sizes.now.slots ≤ deque_capacity rows.old) }
-    requires found { (m : Me (Home T) Acting) × HasLoaded (IsIn T.holds) m word place.old.me × (m.0.number ≡ number) × (m.0.sizes ≡ sizes.now) × (map row_told rows.old.items ≡ map (lease_told life.now.id) m.0.leases) }
+    requires found { WasLoaded T.holds word number sizes.now life.now.id rows.old.items place.old.me }
     ensures seat { (place.new.table_id ≡ place.old.table_id) × (place.new.id ≡ place.old.id) }
     ensures row { IfSome result (λ at. at < deque_len rows.new) }
     ensures noted { (m : Me (Home T) Acting) → HasLoaded (IsIn T.holds) m word place.old.me → map row_told rows.old.items ≡ map (lease_told life.now.id) m.0.leases → HasNoted m place.new.me }

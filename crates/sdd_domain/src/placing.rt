@@ -1,16 +1,15 @@
 //! Placing an item: a free slot is claimed, the homes of the participants get their parts, and the item is in the slot.
 
-ghost use Rattle.std.specs.Prelude.{◌≡◌, ℕ, ◌+◌, ◌-◌, ◌^◌, ◌<◌, ◌≤◌, map, true, Some, None, IsSome, IsSomeAnd, IfOk, IfErr, OnOk, OnErr};
+ghost use Rattle.std.specs.Prelude.{◌≡◌, ℕ, ◌+◌, ◌-◌, ◌^◌, ◌<◌, ◌≤◌, map, true, Some, IsSome, IsSomeAnd, IfOk, IfErr, OnOk, OnErr};
 ghost use Rattle.std.specs.Mem.{manually_drop_value};
 ghost use Rattle.atomic_table.specs.Table.{rest};
 ghost use Rattle.sdd_steps.specs.Steps.{is_ready};
 ghost use Rattle.sdd_homes.specs.declared.Filling.{Filling};
-ghost use Rattle.sdd_homes.specs.declared.Owner.{Owner};
-ghost use Rattle.sdd_domain.specs.Outcomes.{FillsAll, FillsAt};
+ghost use Rattle.sdd_domain.specs.Outcomes.{CanPlaceItem, FillsAll, FillsAt, HasPlacedItem};
 ghost use Rattle.sdd_domain.specs.Fitting.{FitsFree, FitsSearch, FitsTaken, FitsTakenAll};
 ghost use Rattle.sdd_domain.specs.Contents.{IsIn};
 ghost use Rattle.sdd_domain.specs.Holding.{told};
-ghost use Rattle.sdd_domain.specs.Plays.{IsJustClaimed, filling_at, next_filled, owning, placing};
+ghost use Rattle.sdd_domain.specs.Plays.{IsJustClaimed, filling_at, next_filled, placing};
 
 use crate::board::{Home, Place, Stored, Words};
 use crate::holds::Holds;
@@ -116,9 +115,9 @@ pub(crate) fn place_item<T: Holds>(
     misses: &mut Tally,
 ) -> Result<(usize, One<Stored<T>>), T>
     requires table { FitsSearch words.now.table_id words.now.key.sizes place.old.table_id place.old.me.0.sizes sizes.now from }
-    requires ready { (place.old.me.0.kind ≡ 1) × (is_ready place.old.me.0.known ≡ true) × (place.old.me.0.releasing ≡ 0) × (T.holds item ≡ map told place.old.me.0.hand) × (place.old.me.0.filling ≡ None) }
+    requires ready { CanPlaceItem T.holds item place.old.me.0 }
     ensures seat { (place.new.table_id ≡ place.old.table_id) × (place.new.id ≡ place.old.id) }
-    ensures placed { IfOk result (λ t. (o : Owner) × (o.slot ≡ t.0) × (o.round ≡ t.1.part.life.id) × (t.0 < sizes.now.slots) × (place.new.me ≡ (owning o place.old.me.0, place.old.me.1)) × IsSomeAnd t.1.part.seen.value (λ m. manually_drop_value m ≡ item)) }
+    ensures placed { IfOk result (λ t. HasPlacedItem item sizes.now.slots t.0 t.1.part.life.id t.1.part.seen.value place.old.me place.new.me) }
     ensures refused { IfErr result (λ back. (back ≡ item) × (place.new.me ≡ place.old.me)) }
     ensures hit { OnOk result (misses.new.count ≡ misses.old.count) }
     ensures missed { OnErr result (misses.new.count ≡ misses.old.count + 1) }

@@ -6,7 +6,7 @@ ghost use Rattle.sdd_homes.specs.declared.Filling.{Filling};
 ghost use Rattle.std.specs.VecDeque.{deque_capacity};
 ghost use Rattle.sdd_homes.specs.declared.Garbage.{Garbage};
 ghost use Rattle.sdd_homes.specs.declared.Owner.{Owner};
-ghost use Rattle.sdd_domain.specs.Outcomes.{Gathers, GathersAll, ReclaimsLast};
+ghost use Rattle.sdd_domain.specs.Outcomes.{Gathers, GathersAll, HasGivenUp, ReclaimsLast};
 ghost use Rattle.sdd_domain.specs.Ledgers.{WaitsIn};
 ghost use Rattle.sdd_domain.specs.Fitting.{FitsSizes, FitsTaken, FitsTakenAll};
 ghost use Rattle.sdd_domain.specs.Holding.{told, told_of};
@@ -126,7 +126,7 @@ fn give_up<T: Holds>(
     requires owners { (hs : List Owner) × (os : List Owner) × (T.holds item ≡ map told hs) × (place.old.me.0.hand ≡ hs ++ os) }
     requires waits { WaitsIn place.old.me.0.waits bags.old × (deque_capacity bags.old.slots ≡ sizes.now.slots) }
     ensures seat { (place.new.table_id ≡ place.old.table_id) × (place.new.id ≡ place.old.id) }
-    ensures released { (hs os : List Owner) → T.holds item ≡ map told hs → place.old.me.0.hand ≡ hs ++ os → (ws : List Garbage) × (place.new.me ≡ (record place.old.me.0 { hand = os; waits = ws }, place.old.me.1)) }
+    ensures released { HasGivenUp T.holds item place.old.me place.new.me }
     ensures waits { WaitsIn place.new.me.0.waits bags.new }
     ensures bags { (bags.new.due ≡ bags.old.due) × (deque_capacity bags.new.slots ≡ deque_capacity bags.old.slots) }
 {

@@ -93,7 +93,15 @@ impl<T: Holds> Shared<T> {
             ..
         } = local;
         take_in(domain.words(), place, seat);
-        match clone(domain.words(), place, &domain.sizes, *number, rows, slot, misses) {
+        match clone(
+            domain.words(),
+            place,
+            &domain.sizes,
+            *number,
+            rows,
+            slot,
+            misses,
+        ) {
             Some(more) => {
                 let seat = part_with(domain.words(), place);
                 let other = part_with(domain.words(), place);

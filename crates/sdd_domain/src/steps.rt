@@ -8,7 +8,8 @@ ghost use Rattle.sdd_steps.specs.Steps.{is_ready};
 ghost use Rattle.sdd_steps.specs.declared.participant.Phase.TheVariants.{Idle, HasRead, Opened};
 ghost use Rattle.sdd_domain.specs.Fitting.{HasEpochOf, HasClaimOf};
 ghost use Rattle.sdd_domain.specs.Contents.{IsIn, Announces};
-ghost use Rattle.sdd_domain.specs.Views.{IsBare, spent, reading, publishing, rotated, looking};
+ghost use Rattle.sdd_domain.specs.Outcomes.{HasPublished};
+ghost use Rattle.sdd_domain.specs.Views.{IsBare, spent, reading, rotated, looking};
 ghost use Rattle.sdd_domain.specs.Layout.{lock_word, claim_word, epoch_words, shown};
 ghost use Rattle.sdd_domain.specs.Plays.{read_then, publish_then, count_then, look_then, agree_then, raise_then, lock_then, unlock_then, sit_then, HasRegistered, CanLeave, claim_then, learn_then, taking_over, take_over_then, end_then, Steady, Scans};
 ghost use Rattle.sdd_domain.specs.declared.board.Home.{Home};
@@ -202,7 +203,7 @@ pub(crate) fn publish<T: Holds>(words: &Words<T>, place: &mut Place<T>, number: 
     requires table { (place.old.table_id ≡ words.now.table_id) × (number < 2 ^ 30) × (claim_word number < words.now.table_id.words) }
     requires read { (place.old.me.0.kind ≡ 1) × (place.old.me.0.number ≡ number) × (place.old.me.0.known.phase ≡ HasRead epoch) × (place.old.me.0.scan ≡ 0) }
     ensures seat { (place.new.table_id ≡ place.old.table_id) × (place.new.id ≡ place.old.id) }
-    ensures published { (b : ℕ) × (epoch ≤ b) × (place.new.me ≡ (record place.old.me.0 { known = publishing epoch place.old.me.0.known; born = b; waits = rotated epoch place.old.me.0.known.found place.old.me.0.waits }, place.old.me.1)) }
+    ensures published { HasPublished epoch place.old.me place.new.me }
 {
     words.store::<OnPublish>(place, STRIDE * number + STATE, word_of(epoch));
 }

@@ -3,7 +3,7 @@ use Rattle.std.specs.declared.cmp.Ordering.{Ordering}
 use Rattle.std.specs.List.{All}
 use Rattle.std.specs.Mem.{manually_drop_value}
 use Rattle.std.specs.Option.{option_map}
-use Rattle.std.specs.Prelude.{◌≡◌, length, ℕ, List, [], map, Option, None, Some, reverse}
+use Rattle.std.specs.Prelude.{◌≡◌, length, ℕ, List, [], ◌∷◌, map, MatchOption, Option, None, Some, reverse}
 use Rattle.sdd_domain.specs.Holding.{told_of}
 use Rattle.sdd_domain.specs.declared.held.Held.{Held}
 use Rattle.versions.specs.Cuts.{IsCut, pairs_in}
@@ -17,6 +17,10 @@ use Rattle.shared_versions.specs.declared.node.Node.TheVariants as nodes
 -- the item that an owner reads
 abbrev pub item_held : {T : Type 0} → Held T → Option T
 item_held h = option_map manually_drop_value h.part.part.seen.value
+
+-- the last owner was taken out, or there was none: what is told of each, from the last one on
+abbrev pub TakesLast : {T : Type 0} → Option (Held T) → List (ℕ × ℕ) → List (ℕ × ℕ) → Type 0
+TakesLast result old new = MatchOption result ((reverse old ≡ []) × (reverse new ≡ [])) (λ h. reverse old ≡ told_of h ∷ reverse new)
 
 module _ {K V : Type 0} where
   -- the pairs of a segment

@@ -1,10 +1,10 @@
 //! What stands in a slot of a place that threads share.
 
-ghost use Rattle.std.specs.Prelude.{◌≡◌, ◌≤◌, ◌++◌, ◌∷◌, [], Some, MatchOption, map, option_copied, reverse};
+ghost use Rattle.std.specs.Prelude.{◌≡◌, ◌≤◌, ◌++◌, [], Some, map, option_copied, reverse};
 ghost use Rattle.std.specs.Option.{option_to_list};
 ghost use Rattle.sdd_domain.specs.Holding.{told_of};
 ghost use Rattle.versions.specs.Cuts.{IsCut};
-ghost use Rattle.shared_versions.specs.Nodes.{IsSegment, IsWhole, segment_pairs, sight_of, version_of};
+ghost use Rattle.shared_versions.specs.Nodes.{IsSegment, IsWhole, TakesLast, segment_pairs, sight_of, version_of};
 
 use sdd_domain::held::Held;
 use std::alloc::Global;
@@ -158,7 +158,7 @@ impl<K: Ord, V> Rest<K, V> {
 
     /// Takes the last owner out.
     pub(crate) fn pop(&mut self) -> Option<Held<Node<K, V>>>
-        ensures { MatchOption result ((reverse self.old ≡ []) × (reverse self.new ≡ [])) (λ h. reverse self.old ≡ told_of h ∷ reverse self.new) }
+        ensures { TakesLast result self.old self.new }
     {
         last_of(&mut self.owners)
     }
@@ -198,7 +198,7 @@ impl<K: Ord, V> Node<K, V> {
 
 /// Takes the last owner out.
 fn last_of<T>(owners: &mut Vec<Held<T>>) -> Option<Held<T>>
-    ensures told { MatchOption result ((reverse (map told_of owners.old.items) ≡ []) × (reverse (map told_of owners.new.items) ≡ [])) (λ h. reverse (map told_of owners.old.items) ≡ told_of h ∷ reverse (map told_of owners.new.items)) }
+    ensures told { TakesLast result (map told_of owners.old.items) (map told_of owners.new.items) }
     ensures rest { owners.old.items ≡ owners.new.items ++ option_to_list result }
 {
     owners.pop()
