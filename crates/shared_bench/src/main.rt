@@ -1,0 +1,117 @@
+//! An index that threads share, read and written over and over: what `bench/threads` measures.
+//!
+//! `shared_bench PAIRS READERS GETS WRITES MILLISECONDS` builds an index of so many pairs, which so many threads then read,
+//! by sessions of so many gets each, beside a thread that commits so many upserts at a time, if any. It prints the gets, the
+//! sessions, how many gets found another value than one that belongs to their key, the commits, those that were refused, and
+//! how many nanoseconds half, 99 % and 99.9 % of the commits took at most, each with the reclaim behind it.
+//!
+//! With no reader, the last word is a number of rounds, which one thread makes: of sessions, or of commits, if there are
+//! writes. It prints the same, and the sum of the values that were got. Without arguments nothing is done.
+#![tactic(auto)]
+
+ghost use Rattle.std.specs.Prelude.{◌≡◌, ◌<◌, ◌≤◌};
+ghost use Rattle.sdd_domain.specs.Layout.{IsSized};
+
+mod bench;
+mod readers;
+mod task;
+mod writer;
+
+use bench::Found;
+use sdd_base::sizes::Sizes;
+use sdd_domain::domain::Domain;
+use std::marker::Brand;
+use std::sync::Wait;
+use std::sync::ledger::Blank;
+use std::{env, io};
+use task::{Item, Task, number};
+
+/// The sizes of a place for such an index: four times the slots that its pairs can take, and those of many commits that
+/// wait until a thread that was halted has closed its session.
+fn sizes_of(task: &Task) -> Sizes
+    ensures { IsSized result }
+{
+    let pairs = task.pairs.min(1_000_000_000) as usize;
+    let writes = task.writes.min(1_000_000) as usize;
+    Sizes {
+        participants: usize::from(task.readers) + 2,
+        slots: pairs / 8 + 16 * writes + 20_000,
+        cells: 1,
+        jobs: 0,
+    }
+}
+
+/// Ends a place, as soon as nobody is registered.
+fn end<R: Wait>(rt: &R, mut domain: Domain<Item>) {
+    for _ in rt.forever() {
+        match domain.close() {
+            Ok(()) => return,
+            Err(back) => domain = back,
+        }
+    }
+    unreachable!()
+}
+
+/// The time within which all but one in so many commits were made, if they are in order.
+fn within(times: &[u64], one_in: usize) -> u64
+    requires { 0 < one_in }
+{
+    let behind = times.len() / one_in;
+    let at = times.len().saturating_sub(behind).saturating_sub(1);
+    times.get(at).copied().unwrap_or(0)
+}
+
+/// The task that five words name.
+fn task_of(words: [Option<u32>; 5]) -> Option<Task> {
+    let [pairs, readers, gets, writes, last] = words;
+    let readers = readers?;
+    Some(Task {
+        pairs: pairs?,
+        readers: if readers < 200 {
+            readers as u8
+        } else {
+            return None
+        },
+        gets: gets?,
+        writes: writes?,
+        last: last?,
+    })
+}
+
+fn main(rt: HostRuntime) -> io::Result<()> {
+    let mut words = [None, None, None, None, None];
+    let mut count = 0;
+    for word in env::args(&rt)?.skip(1) {
+        if count < 5 {
+            words[count] = number(word.as_str());
+            count += 1;
+        }
+    }
+    if count == 0 {
+        return Ok(());
+    }
+    let Some(task) = task_of(words) else {
+        return Err(io::ErrorKind::InvalidInput.into());
+    };
+    let domain = Domain::new(rt.alloc(), sizes_of(&task))?;
+    let found = match domain.register() {
+        Ok(local) => bench::run::<Brand, _>(&rt, rt.alloc(), &domain, local, Blank::new(1), task),
+        Err(_) => None,
+    };
+    end(&rt, domain);
+    let Some(Found { tally, commits }) = found else {
+        return Err(io::ErrorKind::Other.into());
+    };
+    let mut times = commits.times;
+    times.sort_unstable();
+    let (half, most, nearly) = (within(&times, 2), within(&times, 100), within(&times, 1000));
+    println!(rt;
+        "{} {} {} {} {} {half} {most} {nearly} {}",
+        tally.gets,
+        tally.sessions,
+        tally.wrong,
+        times.len(),
+        commits.refused,
+        tally.sum
+    )
+}

@@ -1,0 +1,186 @@
+//! Threads that read by sessions.
+
+ghost use Rattle.std.specs.Prelude.{◌≡◌, ◌<◌, ◌≤◌};
+ghost use Rattle.sdd_domain.specs.Cells.{cell_number};
+ghost use Rattle.sdd_domain.specs.Tokens.{place_of, home_of, own_of, cell_count, IsSame};
+
+use crate::task::{Item, Reader, Task, belongs, drawn, key, next};
+use sdd_domain::atomic_shared::AtomicShared;
+use sdd_domain::domain::Domain;
+use sdd_domain::local::Local;
+use std::alloc::{AllocError, Global};
+use std::thread;
+use std::thread::Threads;
+use std::time::{Clock, Instant};
+
+/// What a reader found, and the state of its draws.
+#[derive(Clone, Copy)]
+pub struct Tally {
+    pub state: u64,
+    pub sessions: u64,
+    pub gets: u64,
+    pub wrong: u64,
+    pub sum: u64,
+}
+
+/// Nothing yet, with this state of draws.
+pub fn fresh(state: u64) -> Tally {
+    Tally {
+        state,
+        sessions: 0,
+        gets: 0,
+        wrong: 0,
+        sum: 0,
+    }
+}
+
+/// When readers and the committer begin to count, and when they end.
+#[derive(Clone, Copy)]
+pub struct Span {
+    pub begin: Instant,
+    pub end: Instant,
+}
+
+/// One session of a participant, with the gets of a task. A session that is refused counts as a wrong get.
+pub fn session(
+    alloc: Global,
+    domain: &Domain<Item>,
+    root: &AtomicShared,
+    local: &mut Local<Item>,
+    task: Task,
+    tally: Tally,
+) -> Tally
+    requires home { home_of local.old ≡ place_of domain.now }
+    requires inside { cell_number root.now < cell_count domain.now }
+    requires closed { (own_of local.old).nesting ≡ 0 }
+    ensures same { IsSame local.old local.new }
+    ensures closed { (own_of local.new).nesting ≡ 0 }
+{
+    let mut state = tally.state;
+    let mut wrong = tally.wrong;
+    let mut sum = tally.sum;
+    let Ok(session) = Reader::open(domain, root, local, alloc, 0) else {
+        return Tally {
+            state,
+            sessions: tally.sessions,
+            gets: tally.gets,
+            wrong: wrong.wrapping_add(1),
+            sum,
+        };
+    };
+    for _get in 0..task.gets {
+        state = next(state);
+        let number = drawn(state, task.pairs);
+        match session.get(&key(number)) {
+            Some(value) if belongs(*value, number) => sum = sum.wrapping_add(*value),
+            _ => wrong = wrong.wrapping_add(1),
+        }
+    }
+    let _receipt = session.close(domain, local);
+    Tally {
+        state,
+        sessions: tally.sessions.wrapping_add(1),
+        gets: tally.gets.wrapping_add(u64::from(task.gets)),
+        wrong,
+        sum,
+    }
+}
+
+/// So many sessions of a participant, one by one.
+pub fn sessions(
+    alloc: Global,
+    domain: &Domain<Item>,
+    root: &AtomicShared,
+    local: &mut Local<Item>,
+    task: Task,
+    rounds: u32,
+    tally: Tally,
+) -> Tally
+    requires home { home_of local.old ≡ place_of domain.now }
+    requires inside { cell_number root.now < cell_count domain.now }
+    requires closed { (own_of local.old).nesting ≡ 0 }
+    ensures same { IsSame local.old local.new }
+    ensures closed { (own_of local.new).nesting ≡ 0 }
+{
+    let mut tally = tally;
+    for _round in 0..rounds {
+        tally = session(alloc, domain, root, local, task, tally);
+    }
+    tally
+}
+
+/// How many sessions are read between two looks at the clock: about a thousand gets, or a thousand sessions without any.
+fn sessions_of_a_turn(task: Task) -> u32 {
+    if task.gets == 0 {
+        1000
+    } else {
+        (1000 / task.gets).max(1)
+    }
+}
+
+/// Sessions of a new participant until the span ends; those that begin within it are counted. None if no participant was free.
+fn reads<R: Clock>(
+    rt: &R,
+    alloc: Global,
+    domain: &Domain<Item>,
+    root: &AtomicShared,
+    task: Task,
+    span: Span,
+    seed: u64,
+) -> Option<Tally>
+    requires inside { cell_number root.now < cell_count domain.now }
+{
+    let Ok(mut local) = domain.register() else {
+        return None;
+    };
+    let mut tally = fresh(seed);
+    for _turn in 0..u64::MAX {
+        let Ok(now) = Instant::now(rt) else {
+            break;
+        };
+        if now >= span.end {
+            break;
+        }
+        tally = sessions(
+            alloc,
+            domain,
+            root,
+            &mut local,
+            task,
+            sessions_of_a_turn(task),
+            tally,
+        );
+        if now < span.begin {
+            tally = fresh(tally.state);
+        }
+    }
+    local.end(domain);
+    Some(tally)
+}
+
+/// The readers of a task, each in a thread.
+pub fn read_all<R: Threads + Clock + Sync>(
+    rt: &R,
+    alloc: Global,
+    domain: &Domain<Item>,
+    root: &AtomicShared,
+    task: Task,
+    span: Span,
+) -> Result<Vec<Option<Tally>>, AllocError>
+    requires inside { cell_number root.now < cell_count domain.now }
+{
+    thread::map_indices(
+        rt,
+        alloc,
+        usize::from(task.readers),
+        &|i| reads(
+            rt,
+            alloc,
+            domain,
+            root,
+            task,
+            span,
+            (i as u64).wrapping_add(77),
+        ),
+    )
+}
