@@ -1,14 +1,13 @@
 //! The calls of an index that threads share, each under its lock.
 
-ghost use Rattle.std.specs.Prelude.{◌≡◌, ◌<◌};
-ghost use Rattle.sdd_domain.specs.Tokens.{place_of};
 ghost use Rattle.shared_index_tests.specs.Scenes.{CanBegin};
 
 use crate::scene::{Item, ROOM, end, got, member, sized, two};
-use ordered_index::{Accepted, Answer, Audit, Cause, Query, Receipt, Refused, Reply};
+use crate::tasks::{begun, closed, put, swap, taken};
+use ordered_index::{Accepted, Audit, Receipt, Reply};
 use sdd_domain::domain::Domain;
 use sdd_domain::local::Local;
-use shared_index::{Naming, Share, SharedIndex};
+use shared_index::Naming;
 use std::alloc::Global;
 use std::marker::Brand;
 use std::process::Abort;
@@ -16,91 +15,6 @@ use std::sync::Wait;
 use std::sync::ledger::Blank;
 use std::test::Fail;
 use versions::Write;
-
-type Numbers<'d, L> = SharedIndex<'d, L, u64, u64, 2>;
-
-/// An empty index with so many shares.
-fn begun<'d, L: Naming, R: Abort>(
-    rt: &R,
-    alloc: Global,
-    domain: &'d Domain<Item>,
-    local: Local<Item>,
-    blank: Blank,
-    shares: usize,
-) -> (Numbers<'d, L>, Vec<Share<L>>)
-    requires begins { CanBegin L.place L.name L.parts shares domain.now local blank }
-    requires some { 0 < shares }
-{
-    match SharedIndex::new(alloc, domain, local, blank, shares) {
-        Ok(made) => made,
-        Err((local, _, _)) => {
-            local.end(domain);
-            panic!(rt; "there is memory, a slot and a cell")
-        }
-    }
-}
-
-/// Takes a share out, of which there is one.
-fn taken<L: Naming, R: Abort>(rt: &R, shares: &mut Vec<Share<L>>) -> Share<L> {
-    match shares.pop() {
-        Some(share) => share,
-        None => panic!(rt; "a share is left"),
-    }
-}
-
-/// Puts a share back.
-fn put<L: Naming, R: Abort>(rt: &R, shares: &mut Vec<Share<L>>, share: Share<L>) {
-    if shares.push(share).is_err() {
-        panic!(rt; "memory is there");
-    }
-}
-
-/// Ends an index, with all its shares: its number.
-fn closed<L: Naming, R: Abort>(
-    rt: &R,
-    domain: &Domain<Item>,
-    index: Numbers<'_, L>,
-    shares: Vec<Share<L>>,
-) -> u64
-    requires { place_of domain.now ≡ L.place }
-{
-    match index.close(shares) {
-        Ok((local, number)) => {
-            local.end(domain);
-            number
-        }
-        Err(_) => panic!(rt; "all shares are there"),
-    }
-}
-
-/// Commits an upsert that rests on a read of one key: whether it was accepted.
-fn swap<L: Naming, R: Wait>(
-    rt: &R,
-    alloc: Global,
-    index: &Numbers<'_, L>,
-    share: &mut Share<L>,
-    key: u64,
-    old: Option<u64>,
-    new: u64,
-) -> Option<bool> {
-    let mut receipt = Receipt::blank(alloc);
-    let Ok(()) = receipt.note(Query::Get(key), &Answer::Get(old)) else {
-        return None;
-    };
-    let Ok(writes) = vec![in alloc; Write::Upsert(key, new)] else {
-        return None;
-    };
-    match index.commit(rt, share, &receipt, writes) {
-        Ok(_) => Some(true),
-        Err(
-            Refused {
-                cause: Cause::Conflict(0),
-                writes: _,
-            },
-        ) => Some(false),
-        Err(_) => None,
-    }
-}
 
 /// Two shares: a commit with each, then a close without one of them, and with both.
 fn missing_share<L: Naming, R: Wait + Abort>(

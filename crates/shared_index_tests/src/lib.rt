@@ -8,7 +8,11 @@ mod causes;
 #[cfg(test)]
 mod commits;
 #[cfg(test)]
+mod crowd;
+#[cfg(test)]
 mod index;
+#[cfg(test)]
+mod own_commits;
 #[cfg(test)]
 mod refusals;
 #[cfg(test)]
@@ -16,4 +20,8 @@ mod scene;
 #[cfg(test)]
 mod sharing;
 #[cfg(test)]
+mod tasks;
+#[cfg(test)]
 mod threads;
+#[cfg(test)]
+mod walks;

@@ -1,0 +1,252 @@
+//! What threads do with an index that they share, and the index itself.
+
+ghost use Rattle.std.specs.Prelude.{◌≡◌, ◌<◌, ◌≤◌};
+ghost use Rattle.sdd_domain.specs.Tokens.{place_of, home_of, own_of, IsSame};
+ghost use Rattle.shared_index_tests.specs.Scenes.{CanBegin};
+
+use crate::scene::{Item, ROOM, one, two};
+use ordered_index::{Answer, Audit, Cause, Query, Receipt, Refused};
+use sdd_base::sizes::Sizes;
+use sdd_domain::domain::Domain;
+use sdd_domain::local::Local;
+use shared_index::{Naming, Share, SharedIndex};
+use std::alloc::Global;
+use std::ops::Bound;
+use std::process::Abort;
+use std::sync::Wait;
+use std::sync::ledger::Blank;
+use versions::Write;
+
+pub(crate) type Numbers<'d, L> = SharedIndex<'d, L, u64, u64, 2>;
+
+/// A place for so many participants and items, with one cell.
+pub(crate) fn place_for(participants: usize, slots: usize) -> Sizes
+    requires participants { (1 ≤ participants) × (participants ≤ 1073741824) }
+    requires slots { slots ≤ 1073741824 }
+    ensures { result ≡ record { participants = participants; slots = slots; cells = 1; jobs = 0 } }
+{
+    Sizes {
+        participants,
+        slots,
+        cells: 1,
+        jobs: 0,
+    }
+}
+
+/// An empty index with so many shares.
+pub(crate) fn begun<'d, L: Naming, R: Abort>(
+    rt: &R,
+    alloc: Global,
+    domain: &'d Domain<Item>,
+    local: Local<Item>,
+    blank: Blank,
+    shares: usize,
+) -> (Numbers<'d, L>, Vec<Share<L>>)
+    requires begins { CanBegin L.place L.name L.parts shares domain.now local blank }
+    requires some { 0 < shares }
+{
+    match SharedIndex::new(alloc, domain, local, blank, shares) {
+        Ok(made) => made,
+        Err((local, _, _)) => {
+            local.end(domain);
+            panic!(rt; "there is memory, a slot and a cell")
+        }
+    }
+}
+
+/// Takes a share out, of which there is one.
+pub(crate) fn taken<L: Naming, R: Abort>(rt: &R, shares: &mut Vec<Share<L>>) -> Share<L> {
+    match shares.pop() {
+        Some(share) => share,
+        None => panic!(rt; "a share is left"),
+    }
+}
+
+/// Puts a share back.
+pub(crate) fn put<L: Naming, R: Abort>(rt: &R, shares: &mut Vec<Share<L>>, share: Share<L>) {
+    if shares.push(share).is_err() {
+        panic!(rt; "memory is there");
+    }
+}
+
+/// Ends an index, with all its shares: its number.
+pub(crate) fn closed<L: Naming, R: Abort>(
+    rt: &R,
+    domain: &Domain<Item>,
+    index: Numbers<'_, L>,
+    shares: Vec<Share<L>>,
+) -> u64
+    requires { place_of domain.now ≡ L.place }
+{
+    match index.close(shares) {
+        Ok((local, number)) => {
+            local.end(domain);
+            number
+        }
+        Err(_) => panic!(rt; "all shares are there"),
+    }
+}
+
+/// Commits an upsert that rests on a read of one key: whether it was accepted.
+pub(crate) fn swap<L: Naming, R: Wait>(
+    rt: &R,
+    alloc: Global,
+    index: &Numbers<'_, L>,
+    share: &mut Share<L>,
+    key: u64,
+    old: Option<u64>,
+    new: u64,
+) -> Option<bool> {
+    let mut receipt = Receipt::blank(alloc);
+    let Ok(()) = receipt.note(Query::Get(key), &Answer::Get(old)) else {
+        return None;
+    };
+    let Ok(writes) = vec![in alloc; Write::Upsert(key, new)] else {
+        return None;
+    };
+    match index.commit(rt, share, &receipt, writes) {
+        Ok(_) => Some(true),
+        Err(
+            Refused {
+                cause: Cause::Conflict(0),
+                writes: _,
+            },
+        ) => Some(false),
+        Err(_) => None,
+    }
+}
+
+/// So many upserts of one key, which nobody else writes, each resting on the one before: the share, if all were accepted.
+pub(crate) fn own_key<L: Naming, R: Wait>(
+    rt: &R,
+    alloc: Global,
+    index: &Numbers<'_, L>,
+    share: Share<L>,
+    key: u64,
+    last: u64,
+) -> Option<Share<L>> {
+    let mut share = share;
+    let mut old = None;
+    for new in 1..=last {
+        if swap(rt, alloc, index, &mut share, key, old, new) != Some(true) {
+            return None;
+        }
+        old = Some(new);
+        index.reclaim(rt);
+    }
+    Some(share)
+}
+
+/// One session for at least this number, which records two keys: its receipt, if both had the same value.
+pub(crate) fn twins<L: Naming>(
+    index: &Numbers<'_, L>,
+    local: &mut Local<Item>,
+    at_least: u64,
+) -> Option<Receipt<u64, u64>>
+    requires home { home_of local.old ≡ L.place }
+    requires closed { (own_of local.old).nesting ≡ 0 }
+    ensures same { IsSame local.old local.new }
+    ensures closed { (own_of local.new).nesting ≡ 0 }
+{
+    let Ok(mut session) = index.open(local, at_least) else {
+        return None;
+    };
+    let one = session.read(Query::Get(1));
+    let other = session.read(Query::Get(2));
+    let receipt = session.close(index.domain(), local);
+    match (one, other) {
+        (Ok(one), Ok(other)) => { if one == other { Some(receipt) } else { None } }
+        _ => None,
+    }
+}
+
+/// A hundred sessions of a participant of its own, each for at least the number of the one before: how many read one list,
+/// by what they read and by the audit of their receipts. None if no participant was free.
+pub(crate) fn readings<L: Naming, R: Wait>(rt: &R, index: &Numbers<'_, L>) -> Option<u32> {
+    let domain = index.domain();
+    let Ok(mut local) = domain.register() else {
+        return None;
+    };
+    let mut right: u32 = 0;
+    let mut latest = 0;
+    for _turn in 0..100u32 {
+        if let Some(receipt) = twins(index, &mut local, latest) {
+            latest = receipt.number;
+            if index.audit(rt, &receipt) == Ok(Audit::Yes) {
+                right = right.saturating_add(1);
+            }
+        }
+    }
+    local.end(domain);
+    Some(right)
+}
+
+/// A hundred commits that give two keys the same value: the share, if all were accepted.
+pub(crate) fn writings<L: Naming, R: Wait + Abort>(
+    rt: &R,
+    alloc: Global,
+    index: &Numbers<'_, L>,
+    share: Share<L>,
+) -> Option<Share<L>> {
+    let mut share = share;
+    let blank = Receipt::blank(alloc);
+    for value in 1..=100u64 {
+        let writes = two(rt, alloc, Write::Upsert(1, value), Write::Upsert(2, value));
+        if index.commit(rt, &mut share, &blank, writes).is_err() {
+            return None;
+        }
+        index.reclaim(rt);
+    }
+    Some(share)
+}
+
+/// Commits writes that rest on nothing. The share counts the commit, if it was accepted.
+pub(crate) fn write<L: Naming, R: Wait>(
+    rt: &R,
+    alloc: Global,
+    index: &Numbers<'_, L>,
+    share: &mut Share<L>,
+    writes: Vec<Write<u64, u64>>,
+) {
+    let _told = index.commit(rt, share, &Receipt::blank(alloc), writes);
+}
+
+/// So many commits, which raise ten keys in turn, each followed by a reclaim.
+pub(crate) fn write_often<L: Naming, R: Wait + Abort>(
+    rt: &R,
+    alloc: Global,
+    index: &Numbers<'_, L>,
+    share: &mut Share<L>,
+    count: u64,
+) {
+    for turn in 0..count {
+        let writes = one(rt, alloc, Write::Upsert(turn % 10 + 1, turn));
+        write(rt, alloc, index, share, writes);
+        index.reclaim(rt);
+    }
+}
+
+/// The query that all pairs answer.
+pub(crate) fn all() -> Query<u64> {
+    Query::Range(Bound::Unbounded, Bound::Unbounded)
+}
+
+/// All pairs, as a session for at least this number reads them.
+pub(crate) fn listed<L: Naming, R: Abort>(
+    rt: &R,
+    index: &Numbers<'_, L>,
+    local: &mut Local<Item>,
+    at_least: u64,
+) -> Answer<u64, u64>
+    requires home { home_of local.old ≡ L.place }
+    requires closed { (own_of local.old).nesting ≡ 0 }
+    ensures same { IsSame local.old local.new }
+    ensures closed { (own_of local.new).nesting ≡ 0 }
+{
+    let Ok(mut session) = index.open(local, at_least) else {
+        panic!(rt; "the number is there");
+    };
+    let told = session.read(all());
+    let _receipt = session.close(index.domain(), local);
+    told.expect(rt, ROOM)
+}
