@@ -1,7 +1,7 @@
 //! Threads that read their own commits back. Each test prints the same whatever the schedule.
 
 ghost use Rattle.std.specs.Prelude.{◌≡◌};
-ghost use Rattle.sdd_domain.specs.Tokens.{home_of, own_of, hand_of, IsSame};
+ghost use Rattle.sdd_domain.specs.Tokens.{home_of, own_of, IsSame};
 ghost use Rattle.shared_index_tests.specs.Scenes.{CanBegin};
 
 use crate::scene::{Item, ROOM, end, got, member};
@@ -79,7 +79,7 @@ fn read_often<L: Naming, R: Wait>(
     let mut share = share;
     let mut right: u32 = 0;
     for value in 1..=50u64 {
-        // no index comes to this number, for which no session is opened
+        // the last number stands for a commit that was refused: no session is opened for it
         let number = raised(rt, alloc, index, &mut share, key, value).unwrap_or(u64::MAX);
         if let Some(receipt) = read_back(index, &mut local, number, key, value) {
             if index.audit(rt, &receipt) == Ok(Audit::Yes) {

@@ -63,6 +63,16 @@ fn gathered(alloc: Global, walk: SharedWalk<'_, u64, u64>) -> Option<Answer<u64,
     Some(Answer::Range(Seq::from_vec(pairs)))
 }
 
+/// Walks past the first five pairs of the first list.
+fn walk_to_the_middle<R: Abort>(rt: &R, walk: &mut SharedWalk<'_, u64, u64>) {
+    for key in 1..=5u64 {
+        match walk.next() {
+            Some((found, value)) => assert_eq!(rt; (*found, *value), (key, key * 10)),
+            None => panic!(rt; "ten pairs are there"),
+        }
+    }
+}
+
 /// Removes and changes pairs on both sides of the middle, and says so; then goes on to commit. It says so also where the commit is
 /// refused, so that nobody waits forever: then the share doesn't count it.
 fn change_both_sides<L: Naming, R: Wait + Abort>(
@@ -123,12 +133,7 @@ fn walk_and_wait<L: Naming + Send + Sync, R: Threads + Wait + Abort + Sync>(
     let done = Mutex::new(false);
     let changed = Condvar::new();
     let mut walk = session.iter();
-    for key in 1..=5u64 {
-        match walk.next() {
-            Some((found, value)) => assert_eq!(rt; (*found, *value), (key, key * 10)),
-            None => panic!(rt; "ten pairs are there"),
-        }
-    }
+    walk_to_the_middle(rt, &mut walk);
     let (share, rest) = join_over(
         rt,
         index,
