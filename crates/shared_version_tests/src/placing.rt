@@ -2,7 +2,7 @@
 
 ghost use Rattle.std.specs.Prelude.{◌≡◌, ◌≤◌, ◌<◌, []};
 ghost use Rattle.sdd_domain.specs.Cells.{cell_number};
-ghost use Rattle.sdd_domain.specs.Tokens.{place_of, home_of, hand_of, own_of, cell_count, nest_in, IsSame};
+ghost use Rattle.sdd_domain.specs.Tokens.{place_of, home_of, hand_of, own_of, cell_count, nest_in, IsSame, IsSameButMisses};
 
 use crate::sessions::{Item, member};
 use sdd_base::sizes::Sizes;
@@ -72,7 +72,7 @@ fn commit<R: Abort, const S: usize>(
     requires inside { cell_number root.now < cell_count domain.now }
     requires size { (1 ≤ S) × (S ≤ 225) }
     ensures place { present.new.place ≡ (place_of domain.now).0 }
-    ensures same { IsSame local.old local.new }
+    ensures same { IsSameButMisses local.old local.new }
     ensures closed { (own_of local.new).nesting ≡ 0 }
 {
     if present.version().number() == u64::MAX {

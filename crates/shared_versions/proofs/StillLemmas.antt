@@ -6,7 +6,7 @@ use Rattle.shared_versions.specs.Placing.{IsStill}
 
 module _ {T : Type 0} where
   pub still : (old now new : Local T) → IsStill old now → IsStill now new → IsStill old new
-  still old now new before after = (after.0 ∙ before.0, after.1 ∙ before.1, after.2 ∙ before.2, after.3 ∙ before.3)
+  still old now new before after = (after.0 ∙ before.0, after.1 ∙ before.1, after.2 ∙ before.2, after.3 ∙ before.3, after.4 ∙ before.4)
 
   pub but_for_the_hand : (old new : Local T) → IsSameButHand old new → IsStill old new
-  but_for_the_hand old new same = (same.0, same.1, same.2, ap (λ own. own.nesting) same.3)
+  but_for_the_hand old new same = (same.0, same.1, same.2, ap (λ own. own.nesting) same.3, same.6)

@@ -5,7 +5,7 @@ use Rattle.std.specs.Option.{option_map}
 use Rattle.std.specs.Prelude.{◌≡◌, ℕ, List, [], map, get_or, Option, None, Some}
 use Rattle.atomic_table.specs.Seated.{TableId}
 use Rattle.sdd_domain.specs.Sharing.{kept_in}
-use Rattle.sdd_domain.specs.Tokens.{home_of, nest_in, number_of, own_of}
+use Rattle.sdd_domain.specs.Tokens.{home_of, misses_of, nest_in, number_of, own_of}
 use Rattle.sdd_domain.specs.declared.local.Local.{Local}
 use Rattle.sdd_domain.specs.declared.shared.Shared.{Shared}
 use Rattle.shared_versions.specs.Drafts.{SharedPlan, blocks_planned}
@@ -22,9 +22,13 @@ item_owned s = option_map manually_drop_value s.part.part.seen.value
 abbrev pub IsOwnedIn : {T : Type 0} → TableId → Shared T → Type 0
 IsOwnedIn place s = kept_in s ≡ place
 
--- the same participant of the same place, with the same guards open
+-- the same participant of the same place, with the same guards open, which may have been refused
+abbrev pub IsStillButMisses : {T : Type 0} → Local T → Local T → Type 0
+IsStillButMisses old new = (home_of new ≡ home_of old) × (number_of new ≡ number_of old) × (nest_in new ≡ nest_in old) × ((own_of new).nesting ≡ (own_of old).nesting)
+
+-- and it was refused as often
 abbrev pub IsStill : {T : Type 0} → Local T → Local T → Type 0
-IsStill old new = (home_of new ≡ home_of old) × (number_of new ≡ number_of old) × (nest_in new ≡ nest_in old) × ((own_of new).nesting ≡ (own_of old).nesting)
+IsStill old new = (home_of new ≡ home_of old) × (number_of new ≡ number_of old) × (nest_in new ≡ nest_in old) × ((own_of new).nesting ≡ (own_of old).nesting) × (misses_of new ≡ misses_of old)
 
 module _ {K V : Type 0} where
   -- the version that an owner owns

@@ -1,9 +1,9 @@
 //! Owners that the writer keeps of the segments of its version, for the versions to come.
 
-ghost use Rattle.std.specs.Prelude.{◌≡◌, ◌<◌, [], IfSome, length, map, get_or};
+ghost use Rattle.std.specs.Prelude.{◌≡◌, ◌<◌, ◌+◌, [], IfSome, IfNone, length, map, get_or};
 ghost use Rattle.std.specs.List.{All};
-ghost use Rattle.sdd_domain.specs.Tokens.{place_of, home_of, hand_of};
-ghost use Rattle.shared_versions.specs.Placing.{IsKeptSegment, IsSegmentOf, IsStill, pairs_kept, pairs_owned};
+ghost use Rattle.sdd_domain.specs.Tokens.{place_of, home_of, hand_of, misses_of};
+ghost use Rattle.shared_versions.specs.Placing.{IsKeptSegment, IsSegmentOf, IsStill, IsStillButMisses, pairs_kept, pairs_owned};
 
 use crate::node::Node;
 use sdd_domain::domain::Domain;
@@ -14,7 +14,7 @@ use std::mem;
 /// An owner of a segment. It is out while it is being cloned.
 pub(crate) type Kept<K, V> = Option<Shared<Node<K, V>>>;
 
-/// One more owner of the segment at this place; none where it can't have one more.
+/// One more owner of the segment at this place; none where it can't have one more, which is a miss.
 pub(crate) fn clone_at<K: Ord + Drop, V: Drop>(
     kept: &mut Vec<Kept<K, V>>,
     place: usize,
@@ -28,7 +28,9 @@ pub(crate) fn clone_at<K: Ord + Drop, V: Drop>(
     ensures kept { All (IsKeptSegment (place_of domain.now).0) kept.new.items }
     ensures pairs { map pairs_kept kept.new.items ≡ map pairs_kept kept.old.items }
     ensures hand { hand_of local.new ≡ hand_of local.old }
-    ensures same { IsStill local.old local.new }
+    ensures hit { IfSome result (λ _. misses_of local.new ≡ misses_of local.old) }
+    ensures missed { IfNone result (misses_of local.new ≡ misses_of local.old + 1) }
+    ensures same { IsStillButMisses local.old local.new }
 {
     let Some(owner) = mem::replace(&mut kept[place], None) else {
         unreachable!();
@@ -41,7 +43,7 @@ pub(crate) fn clone_at<K: Ord + Drop, V: Drop>(
     other
 }
 
-/// Clones an owner of a segment. Its own is back alone where there can't be one more.
+/// Clones an owner of a segment. Its own is back alone where there can't be one more, which is a miss.
 fn clone_segment<K: Ord + Drop, V: Drop>(
     owner: Shared<Node<K, V>>,
     domain: &Domain<Node<K, V>>,
@@ -52,7 +54,9 @@ fn clone_segment<K: Ord + Drop, V: Drop>(
     ensures own { IsSegmentOf (place_of domain.now).0 result.0 × (pairs_owned result.0 ≡ pairs_owned owner) }
     ensures other { IfSome result.1 (λ s. IsSegmentOf (place_of domain.now).0 s × (pairs_owned s ≡ pairs_owned owner)) }
     ensures hand { hand_of local.new ≡ hand_of local.old }
-    ensures same { IsStill local.old local.new }
+    ensures hit { IfSome result.1 (λ _. misses_of local.new ≡ misses_of local.old) }
+    ensures missed { IfNone result.1 (misses_of local.new ≡ misses_of local.old + 1) }
+    ensures same { IsStillButMisses local.old local.new }
 {
     match owner.clone(domain, local) {
         Ok((own, other)) => (own, Some(other)),

@@ -1,9 +1,9 @@
 //! Items that are placed with two owners, and items that aren't placed.
 
-ghost use Rattle.std.specs.Prelude.{◌≡◌, [], IfOk, IfErr, IfSome, MatchOption, OnOk};
+ghost use Rattle.std.specs.Prelude.{◌≡◌, ◌+◌, [], IfOk, IfErr, IfSome, MatchOption, OnOk, OnErr};
 ghost use Rattle.sdd_domain.specs.Sharing.{IsOwnerOf};
-ghost use Rattle.sdd_domain.specs.Tokens.{place_of, home_of, hand_of};
-ghost use Rattle.shared_versions.specs.Placing.{IsOwnedIn, IsStill};
+ghost use Rattle.sdd_domain.specs.Tokens.{place_of, home_of, hand_of, misses_of};
+ghost use Rattle.shared_versions.specs.Placing.{IsOwnedIn, IsStill, IsStillButMisses};
 
 use sdd_domain::domain::Domain;
 use sdd_domain::holds::Holds;
@@ -11,7 +11,7 @@ use sdd_domain::local::Local;
 use sdd_domain::shared::Shared;
 
 /// Places an item, and gives two owners of it. The item is back, and what it holds in hand, where no slot was free; nothing
-/// is where it couldn't have a second owner: then it was placed and released.
+/// is where it couldn't have a second owner: then it was placed and released. Both are one miss.
 pub(crate) fn place_two<T: Holds>(
     item: T,
     domain: &Domain<T>,
@@ -24,7 +24,9 @@ pub(crate) fn place_two<T: Holds>(
     ensures back { IfErr result (λ back. IfSome back (λ x. x ≡ item)) }
     ensures hand { OnOk result (hand_of local.new ≡ []) }
     ensures left { IfErr result (λ back. MatchOption back (hand_of local.new ≡ []) (λ x. hand_of local.new ≡ hand_of local.old)) }
-    ensures same { IsStill local.old local.new }
+    ensures hit { OnOk result (misses_of local.new ≡ misses_of local.old) }
+    ensures missed { OnErr result (misses_of local.new ≡ misses_of local.old + 1) }
+    ensures same { IsStillButMisses local.old local.new }
 {
     match Shared::new(item, domain, local) {
         Ok(owner) => match owner.clone(domain, local) {

@@ -1,13 +1,13 @@
 //! Two owners of each segment of a version to be placed: one for the version, and one for the writer to keep.
 
-ghost use Rattle.std.specs.Prelude.{◌≡◌, ◌≤◌, ◌<◌, [], IfSome, length, map, reverse, vec_capacity};
+ghost use Rattle.std.specs.Prelude.{◌≡◌, ◌≤◌, ◌<◌, ◌+◌, [], IfSome, IfNone, length, map, reverse, vec_capacity};
 ghost use Rattle.std.specs.List.{All};
 ghost use Rattle.sdd_domain.specs.Holding.{all_told};
-ghost use Rattle.sdd_domain.specs.Tokens.{place_of, home_of, hand_of};
+ghost use Rattle.sdd_domain.specs.Tokens.{place_of, home_of, hand_of, misses_of};
 ghost use Rattle.versions.specs.Parts.{blocks_of_parts, part_pairs};
 ghost use Rattle.shared_versions.specs.Drafts.{IsWithinVersion};
 ghost use Rattle.shared_versions.specs.Nodes.{OwnsSegment, owned_pairs};
-ghost use Rattle.shared_versions.specs.Placing.{AreBoth, IsKeptSegment, IsStill, pairs_kept, pairs_kept_at, pairs_of_both};
+ghost use Rattle.shared_versions.specs.Placing.{AreBoth, IsKeptSegment, IsStill, IsStillButMisses, pairs_kept, pairs_kept_at, pairs_of_both};
 
 use crate::kept::{Kept, clone_at};
 use crate::node::Node;
@@ -24,7 +24,7 @@ use versions::draft::Part;
 /// Two owners of a segment.
 pub(crate) type Both<K, V> = (Shared<Node<K, V>>, Shared<Node<K, V>>);
 
-/// Places a new segment, and gives two owners of it. Where it is refused, nothing is in use that wasn't before.
+/// Places a new segment, and gives two owners of it. Where it is refused, which is a miss, nothing is in use that wasn't before.
 fn place_segment<K: Ord + Drop, V: Drop>(
     segment: Segment<K, V>,
     domain: &Domain<Node<K, V>>,
@@ -35,7 +35,9 @@ fn place_segment<K: Ord + Drop, V: Drop>(
     ensures both { IfSome result (AreBoth (place_of domain.now).0) }
     ensures pairs { IfSome result (λ both. pairs_of_both both ≡ segment.pairs) }
     ensures hand { hand_of local.new ≡ [] }
-    ensures same { IsStill local.old local.new }
+    ensures hit { IfSome result (λ _. misses_of local.new ≡ misses_of local.old) }
+    ensures missed { IfNone result (misses_of local.new ≡ misses_of local.old + 1) }
+    ensures same { IsStillButMisses local.old local.new }
 {
     match place_two(Node::Segment(segment), domain, local) {
         Ok(both) => Some(both),
@@ -47,7 +49,7 @@ fn place_segment<K: Ord + Drop, V: Drop>(
     }
 }
 
-/// Two more owners of a segment that the writer keeps.
+/// Two more owners of a segment that the writer keeps; none where it can't have as many, which is a miss.
 fn take_over<K: Ord + Drop, V: Drop>(
     kept: &mut Vec<Kept<K, V>>,
     place: usize,
@@ -62,7 +64,9 @@ fn take_over<K: Ord + Drop, V: Drop>(
     ensures kept { All (IsKeptSegment (place_of domain.now).0) kept.new.items }
     ensures still { map pairs_kept kept.new.items ≡ map pairs_kept kept.old.items }
     ensures hand { hand_of local.new ≡ hand_of local.old }
-    ensures same { IsStill local.old local.new }
+    ensures hit { IfSome result (λ _. misses_of local.new ≡ misses_of local.old) }
+    ensures missed { IfNone result (misses_of local.new ≡ misses_of local.old + 1) }
+    ensures same { IsStillButMisses local.old local.new }
 {
     let one = clone_at(kept, place, domain, local)?;
     match clone_at(kept, place, domain, local) {
@@ -74,7 +78,7 @@ fn take_over<K: Ord + Drop, V: Drop>(
     }
 }
 
-/// Two owners of one segment: a new one, which is placed, or one that the writer keeps.
+/// Two owners of one segment: a new one, which is placed, or one that the writer keeps. A refusal is a miss.
 fn owners_of<K: Ord + Drop, V: Drop>(
     part: Part<K, V, usize>,
     kept: &mut Vec<Kept<K, V>>,
@@ -90,7 +94,9 @@ fn owners_of<K: Ord + Drop, V: Drop>(
     ensures kept { All (IsKeptSegment (place_of domain.now).0) kept.new.items }
     ensures still { map pairs_kept kept.new.items ≡ map pairs_kept kept.old.items }
     ensures hand { hand_of local.new ≡ [] }
-    ensures same { IsStill local.old local.new }
+    ensures hit { IfSome result (λ _. misses_of local.new ≡ misses_of local.old) }
+    ensures missed { IfNone result (misses_of local.new ≡ misses_of local.old + 1) }
+    ensures same { IsStillButMisses local.old local.new }
 {
     match part {
         Part::Taken(place) => take_over(kept, place, domain, local),
@@ -98,8 +104,8 @@ fn owners_of<K: Ord + Drop, V: Drop>(
     }
 }
 
-/// Two owners of each segment, from the last one on, in the room for them. Where one is refused, nothing is in use that
-/// wasn't before, but what waits to be reclaimed.
+/// Two owners of each segment, from the last one on, in the room for them. Where one is refused, which is a miss and the end
+/// of the call, nothing is in use that wasn't before, but what waits to be reclaimed.
 pub(crate) fn all_owners<K: Ord + Drop, V: Drop>(
     mut parts: Vec<Part<K, V, usize>>,
     mut owners: Vec<Both<K, V>>,
@@ -118,7 +124,9 @@ pub(crate) fn all_owners<K: Ord + Drop, V: Drop>(
     ensures kept { All (IsKeptSegment (place_of domain.now).0) kept.new.items }
     ensures still { map pairs_kept kept.new.items ≡ map pairs_kept kept.old.items }
     ensures hand { hand_of local.new ≡ [] }
-    ensures same { IsStill local.old local.new }
+    ensures hit { IfSome result (λ _. misses_of local.new ≡ misses_of local.old) }
+    ensures missed { IfNone result (misses_of local.new ≡ misses_of local.old + 1) }
+    ensures same { IsStillButMisses local.old local.new }
 {
     'placing: while let Some(part) = parts.pop() {
         match owners_of(part, kept, domain, local) {

@@ -1,9 +1,9 @@
 //! The present version of a place, for the one who writes.
 
-ghost use Rattle.std.specs.Prelude.{◌≡◌, ◌<◌, [], IfOk, OnOk, OnErr, Some};
+ghost use Rattle.std.specs.Prelude.{◌≡◌, ◌<◌, ◌+◌, [], IfOk, OnOk, OnErr, Some};
 ghost use Rattle.sdd_domain.specs.Cells.{cell_number};
-ghost use Rattle.sdd_domain.specs.Tokens.{place_of, home_of, hand_of, cell_count};
-ghost use Rattle.shared_versions.specs.Placing.{IsPlanned, IsOwnedIn, IsPresent, IsStill, item_owned, placed_of, version_owned};
+ghost use Rattle.sdd_domain.specs.Tokens.{place_of, home_of, hand_of, cell_count, misses_of};
+ghost use Rattle.shared_versions.specs.Placing.{IsPlanned, IsOwnedIn, IsPresent, IsStill, IsStillButMisses, item_owned, placed_of, version_owned};
 ghost use Rattle.shared_versions.specs.Drafts.{IsPlaceable};
 ghost use Rattle.shared_versions.specs.Readers.{HasWidth};
 
@@ -68,7 +68,7 @@ impl<K: Ord + Drop, V: Drop, const S: usize> Present<K, V, S> {
 
 impl<K: Ord + Drop, V: Drop, const S: usize> Present<K, V, S> {
     /// Places the empty list, with number 0: the present version, and an owner of it for a cell. Refused where no slot is
-    /// free; then nothing is in use that wasn't before. It takes no memory.
+    /// free, which is one miss of the participant; then nothing is in use that wasn't before. It takes no memory.
     pub fn new(
         alloc: Global,
         domain: &Domain<Node<K, V>>,
@@ -80,7 +80,9 @@ impl<K: Ord + Drop, V: Drop, const S: usize> Present<K, V, S> {
         ensures version { IfOk result (λ made. made.0.version ≡ record { number = 0; width = S; blocks = []; separators = []; owners = [] }) }
         ensures root { IfOk result (λ made. IsOwnedIn (place_of domain.now).0 made.1 × (version_owned made.1 ≡ Some made.0.version)) }
         ensures hand { hand_of local.new ≡ [] }
-        ensures same { IsStill local.old local.new }
+        ensures hit { OnOk result (misses_of local.new ≡ misses_of local.old) }
+        ensures missed { OnErr result (misses_of local.new ≡ misses_of local.old + 1) }
+        ensures same { IsStillButMisses local.old local.new }
     {
         match place_two(Node::Version(Version::empty(alloc, S)), domain, local) {
             Ok((version, root)) => {
@@ -96,8 +98,8 @@ impl<K: Ord + Drop, V: Drop, const S: usize> Present<K, V, S> {
     }
 
     /// Places a version that was built of the present one, which becomes the present one, and gives an owner of it for a cell.
-    /// Where it is refused, the present version is as it was, and what was placed before that is released again: it waits to
-    /// be reclaimed. It takes no memory.
+    /// Where it is refused, which is one miss of the participant, the present version is as it was, and what was placed before
+    /// that is released again: it waits to be reclaimed. It takes no memory.
     pub fn place(
         &mut self,
         draft: Draft<K, V, S>,
@@ -113,7 +115,9 @@ impl<K: Ord + Drop, V: Drop, const S: usize> Present<K, V, S> {
         ensures root { IfOk result (λ root. IsOwnedIn (place_of domain.now).0 root × (version_owned root ≡ Some self.new.version)) }
         ensures refused { OnErr result (self.new ≡ self.old) }
         ensures hand { hand_of local.new ≡ [] }
-        ensures same { IsStill local.old local.new }
+        ensures hit { OnOk result (misses_of local.new ≡ misses_of local.old) }
+        ensures missed { OnErr result (misses_of local.new ≡ misses_of local.old + 1) }
+        ensures same { IsStillButMisses local.old local.new }
     {
         let (number, segments, room) = draft.into_parts();
         let Segments {

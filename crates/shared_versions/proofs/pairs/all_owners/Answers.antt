@@ -17,6 +17,7 @@ placing-preserved g c =
     let parts = c.in-Some.ensures.items in
     let owners = c.push_reserved.ensures.items in
     let named = pairs_kept_at c.args.kept.now.items in
+    let same = c.owners_of.ensures.same in
     let alike : part_pairs named part ≡ pairs_of_both both = sym (c.in-Some-owners_of.ensures.pairs ∙ ap (λ l. part_pairs (λ n. get_or l n []) part) before.still) in
     let many = sym (length-map c.owners_of.new.kept.items pairs_kept) ∙ (ap length c.owners_of.ensures.still ∙ length-map c.placing.kept.items pairs_kept) in
     record {
@@ -27,5 +28,5 @@ placing-preserved g c =
       still = c.owners_of.ensures.still ∙ before.still;
       room = omega (arith, before.room, ap length parts, length-append c.pop.new.self.items (part ∷ []), ap length owners, length-append c.placing.owners.items (both ∷ []), c.push_reserved.ensures.capacity);
       hand = c.owners_of.ensures.hand;
-      same = still c.args.local.now c.placing.local c.owners_of.new.local before.same c.owners_of.ensures.same;
+      same = still c.args.local.now c.placing.local c.owners_of.new.local before.same (same.0, same.1, same.2, same.3, c.in-Some-owners_of.ensures.hit);
     }
