@@ -11,11 +11,11 @@ use Rattle.ordered_index.specs.Serial.{Holds, after_all}
 use Rattle.ordered_index.specs.declared.transaction.Transaction.{Transaction}
 use Rattle.ordered_index.proofs.RunLemmas.{IsSerial-push, after_all-push}
 use Rattle.shared_versions.specs.Drafts.{list_of}
-use Rattle.shared_versions.specs.Placing.{IsStill, Placed}
+use Rattle.shared_versions.specs.Placing.{IsStillButMisses, Placed}
 use Rattle.shared_index.specs.Invariant.{IsUnengaged, IsHistory, IsLatest}
 
 -- the same guards are open, and nothing is in hand
-pub still_at_rest : {T : Type 0} {place : TableId × Sizes} {old new : Local T} → IsUnengaged place old → IsStill old new → hand_of new ≡ [] → IsUnengaged place new
+pub still_at_rest : {T : Type 0} {place : TableId × Sizes} {old new : Local T} → IsUnengaged place old → IsStillButMisses old new → hand_of new ≡ [] → IsUnengaged place new
 still_at_rest rest still bare = record {
   home = still.0 ∙ rest.home;
   closed = still.3 ∙ rest.closed;

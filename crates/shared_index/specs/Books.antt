@@ -1,9 +1,11 @@
 -- what is seen of a book, and what its calls may answer
-use Rattle.std.specs.Prelude.{◌≡◌, ◌≢◌, ℕ, ◌<◌, ◌≤◌, List, [], length, take}
+use Rattle.std.specs.Prelude.{◌≡◌, ◌≢◌, ℕ, ◌+◌, ◌<◌, ◌≤◌, List, [], length, take}
 use Rattle.std.specs.declared.cmp.Ordering.{Ordering}
 use Rattle.std.specs.List.{All}
 use Rattle.versions.specs.Writes.{replies_to}
 use Rattle.versions.specs.declared.write.Write.{Write}
+use Rattle.versions.specs.declared.store.local.WriteRefused.{WriteRefused}
+use Rattle.versions.specs.declared.store.local.WriteRefused.TheVariants as writes
 use Rattle.ordered_index.specs.Serial.{Read, after_all, Holds, IsFirstConflict}
 use Rattle.ordered_index.specs.declared.transaction.Audit.{Audit}
 use Rattle.ordered_index.specs.declared.transaction.Audit.TheVariants as audits
@@ -11,11 +13,32 @@ use Rattle.ordered_index.specs.declared.transaction.Receipt.{Receipt}
 use Rattle.ordered_index.specs.declared.transaction.Transaction.{Transaction}
 use Rattle.ordered_index.specs.declared.commit.Cause.{Cause}
 use Rattle.ordered_index.specs.declared.commit.Cause.TheVariants as causes
+use Rattle.shared_index.specs.declared.book.NewRefused.{NewRefused}
+use Rattle.shared_index.specs.declared.book.NewRefused.TheVariants as news
 
--- the accepted transactions, and the last number
+-- the accepted transactions, the last number, and how often the participant who acts for the book was refused a slot, a cell
+-- or one more owner
 pub record BookState (K V : Type 0) : Type 0 where
   pub history : List (Transaction K V)
   pub last : ℕ
+  pub misses : ℕ
+
+-- what the misses are after a commit that was refused for this cause: one more for want of a slot, else as many
+abbrev pub misses_after : Cause → ℕ → ℕ
+misses_after (causes.Conflict place) misses = misses
+misses_after causes.Exhausted misses = misses
+misses_after causes.Memory misses = misses
+misses_after causes.NoSlot misses = misses + 1
+
+-- and after a version that wasn't placed
+abbrev pub misses_told : WriteRefused → ℕ → ℕ
+misses_told writes.Memory misses = misses
+misses_told writes.NoSlot misses = misses + 1
+
+-- and after a book that wasn't made
+abbrev pub misses_without : NewRefused → ℕ → ℕ
+misses_without news.Memory misses = misses
+misses_without news.NoSlot misses = misses + 1
 
 module _ {K V : Type 0} (cmp : K → K → Ordering) where
   -- the list that all transactions leave, and the one that the first so many leave

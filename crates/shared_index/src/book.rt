@@ -1,12 +1,12 @@
 //! What the lock of a shared index holds.
 
-ghost use Rattle.std.specs.Prelude.{◌≡◌, ◌≤◌, ◌<◌, ◌+◌, ◌++◌, ◌∷◌, [], IfOk, IfErr, IfSome, IfNone, OnOk, OnErr, length, replicate, vec_capacity};
+ghost use Rattle.std.specs.Prelude.{◌≡◌, ℕ, ◌≤◌, ◌<◌, ◌+◌, ◌++◌, ◌∷◌, [], IfOk, IfErr, IfSome, IfNone, OnOk, OnErr, length, replicate, vec_capacity};
 ghost use Rattle.std.specs.List.{All};
 ghost use Rattle.leaf_array.specs.Values.{ClonesAreSame, EqualsAreSame};
 ghost use Rattle.ordered_index.specs.Serial.{Holds, IsFirstConflict, IsSerial};
 ghost use Rattle.sdd_domain.specs.Cells.{cell_number};
-ghost use Rattle.sdd_domain.specs.Tokens.{place_of, cell_count};
-ghost use Rattle.shared_index.specs.Books.{CanCommit, CanRefuse, IsAuditOf, list_after, next_transaction, present_list};
+ghost use Rattle.sdd_domain.specs.Tokens.{place_of, misses_of, cell_count};
+ghost use Rattle.shared_index.specs.Books.{CanCommit, CanRefuse, IsAuditOf, list_after, misses_after, misses_without, next_transaction, present_list};
 ghost use Rattle.shared_index.specs.Invariant.{IsUnengaged};
 ghost use Rattle.versions.specs.Writes.{replies_to};
 
@@ -39,7 +39,8 @@ pub enum NewRefused {
 /// The history of accepted commits, and the present version, as the one who commits has them: with the participant of the
 /// place who acts for it, and the ledger of all shares.
 ///
-/// Contracts see the history, and the last number. A book must be spent, by [`end`](Book::end).
+/// Contracts see the history, the last number, and how often that participant was refused a slot, a cell or one more owner: its
+/// misses. A book must be spent, by [`end`](Book::end).
 pub struct Book<L: Naming, K: Clone + Ord, V: Clone + Eq, const S: usize> {
     alloc: Global,
     local: Local<Node<K, V>>,
@@ -53,20 +54,21 @@ pub struct Book<L: Naming, K: Clone + Ord, V: Clone + Eq, const S: usize> {
 /// present version has the list that it leaves, and its length for a number.
 impl<L: Naming, K: Clone + Ord, V: Clone + Eq, const S: usize> Model for Book<L, K, V, S> {
     ghost use Rattle.std.specs.Prelude.{◌≤◌};
+    ghost use Rattle.sdd_domain.specs.Tokens.{misses_of};
     ghost use Rattle.shared_index.specs.Books.{BookState};
     ghost use Rattle.shared_index.specs.Invariant.{IsUnengaged, IsHistory, IsLatest};
 
     ghost Value = { BookState K V };
 
-    ghost view = { λ b. record { history = b.history.items; last = b.last } };
+    ghost view = { λ b. record { history = b.history.items; last = b.last; misses = misses_of b.local } };
 
     ghost invariant = { λ b. IsUnengaged L.place b.local × IsLatest K.cmp L.place b.present b.history.items × IsHistory K.cmp b.history.items b.last b.ledger.total × ((1 ≤ S) × (S ≤ 225)) };
 }
 
 impl<L: Naming, K: Clone + Ord, V: Clone + Eq, const S: usize> Book<L, K, V, S> {
     /// A book without transactions, whose last number is the given one; a cell that names its version; and as many shares as
-    /// the ledger has parts. Refused, all comes back: for want of memory before anything is placed, and else with what was
-    /// placed released, which waits to be reclaimed.
+    /// the ledger has parts. Refused, all comes back: for want of memory before anything is placed, and else, where its
+    /// participant missed a slot or a cell, with what was placed released, which waits to be reclaimed.
     pub fn new(
         alloc: Global,
         domain: &Domain<Node<K, V>>,
@@ -80,10 +82,11 @@ impl<L: Naming, K: Clone + Ord, V: Clone + Eq, const S: usize> Book<L, K, V, S> 
         requires size { (1 ≤ S) × (S ≤ 225) }
         requires name { blank.name ≡ L.name }
         requires parts { (blank.parts ≡ L.parts) × (blank.parts ≡ shares) }
-        ensures book { IfOk result (λ made. made.0 ≡ record { history = []; last = last }) }
+        ensures book { IfOk result (λ made. made.0 ≡ record { history = []; last = last; misses = misses_of local }) }
         ensures root { IfOk result (λ made. cell_number made.1 < cell_count domain.now) }
         ensures shares { IfOk result (λ made. made.2.items ≡ replicate shares 0) }
         ensures local { IfErr result (λ back. IsUnengaged L.place back.0) }
+        ensures missed { IfErr result (λ back. misses_of back.0 ≡ misses_without back.2 (misses_of local)) }
         ensures blank { IfErr result (λ back. back.1 ≡ blank) }
     {
         let mut local = local;
@@ -134,7 +137,8 @@ impl<L: Naming, K: Clone + Ord, V: Clone + Eq, const S: usize> Book<L, K, V, S> 
     ///
     /// The causes are decided in this order: `Conflict` with the first read whose answer isn't that of the present list,
     /// whatever its number; `Exhausted` at the last number; `Memory`; `NoSlot`, where the place has too few free slots for the
-    /// new version: what was placed until then waits to be reclaimed.
+    /// new version: what was placed until then waits to be reclaimed. A commit is refused as `NoSlot` only where the participant
+    /// missed a slot or one more owner in it, once.
     pub fn commit(
         &mut self,
         domain: &Domain<Node<K, V>>,
@@ -155,8 +159,9 @@ impl<L: Naming, K: Clone + Ord, V: Clone + Eq, const S: usize> Book<L, K, V, S> 
         ensures replies { IfOk result (λ told. told.replies.items ≡ replies_to K.cmp writes.items (present_list K.cmp self.old)) }
         ensures counted { OnOk result (share.new ≡ share.old + 1) }
         ensures cause { IfErr result (λ back. CanRefuse K.cmp self.old receipt.now.reads back.cause) }
+        ensures missed { IfErr result (λ back. self.new.misses ≡ misses_after back.cause self.old.misses) }
         ensures back { IfErr result (λ back. back.writes.items ≡ writes.items) }
-        ensures err { OnErr result (self.new ≡ self.old) }
+        ensures err { OnErr result (self.new ≡ record self.old { misses = self.new.misses }) }
         ensures uncounted { OnErr result (share.new ≡ share.old) }
     {
         let reads = receipt.reads.as_slice();
@@ -211,6 +216,7 @@ impl<L: Naming, K: Clone + Ord, V: Clone + Eq, const S: usize> Book<L, K, V, S> 
     pub fn end(self, domain: &Domain<Node<K, V>>) -> Local<Node<K, V>>
         requires place { place_of domain.now ≡ L.place }
         ensures rest { IsUnengaged L.place result }
+        ensures misses { misses_of result ≡ self.misses }
     {
         let Book {
             alloc: _,
@@ -235,11 +241,12 @@ impl<L: Naming, K: Clone + Ord, V: Clone + Eq, const S: usize> Book<L, K, V, S> 
         self.history.len() as u64
     }
 
-    // Why a commit of these reads is refused, whatever it writes.
+    // Why a commit of these reads is refused, whatever it writes: that is no miss.
     fn validate(&self, reads: &[Recorded<K, V>]) -> Option<Cause>
         requires keys { EqualsAreSame K.eq }
         requires values { EqualsAreSame V.eq }
         ensures some { IfSome result (CanRefuse K.cmp self.now reads.now) }
+        ensures unmissed { IfSome result (λ cause. (misses : ℕ) → misses ≡ misses_after cause misses) }
         ensures none { IfNone result (CanCommit K.cmp self.now reads.now) }
     {
         match first_conflict(&self.present.view(), reads) {
@@ -274,8 +281,9 @@ impl<L: Naming, K: Clone + Ord, V: Clone + Eq, const S: usize> Book<L, K, V, S> 
         ensures added { OnOk result (self.new ≡ record self.old { history = self.old.history ++ next_transaction K.cmp self.old prepared.reads writes.items ∷ [] }) }
         ensures counted { OnOk result (share.new ≡ share.old + 1) }
         ensures cause { IfErr result (λ back. CanRefuse K.cmp self.old prepared.reads back.cause) }
+        ensures missed { IfErr result (λ back. self.new.misses ≡ misses_after back.cause self.old.misses) }
         ensures back { IfErr result (λ back. back.writes.items ≡ writes.items) }
-        ensures err { OnErr result (self.new ≡ self.old) }
+        ensures err { OnErr result (self.new ≡ record self.old { misses = self.new.misses }) }
         ensures uncounted { OnErr result (share.new ≡ share.old) }
     {
         let Book {

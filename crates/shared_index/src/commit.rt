@@ -1,11 +1,12 @@
 //! The version that the writes of a commit leave.
 
-ghost use Rattle.std.specs.Prelude.{◌≡◌, ◌≤◌, ◌<◌, ◌+◌, ◌-◌, ◌^◌, [], IfOk, OnOk, OnErr};
+ghost use Rattle.std.specs.Prelude.{◌≡◌, ◌≤◌, ◌<◌, ◌+◌, ◌-◌, ◌^◌, [], IfOk, IfErr, OnOk, OnErr};
 ghost use Rattle.leaf_array.specs.Values.{ClonesAreSame};
 ghost use Rattle.sdd_domain.specs.Cells.{cell_number};
-ghost use Rattle.sdd_domain.specs.Tokens.{place_of, home_of, hand_of, cell_count};
+ghost use Rattle.sdd_domain.specs.Tokens.{place_of, home_of, hand_of, misses_of, cell_count};
 ghost use Rattle.shared_versions.specs.Drafts.{list_of};
-ghost use Rattle.shared_versions.specs.Placing.{IsStill};
+ghost use Rattle.shared_versions.specs.Placing.{IsStillButMisses};
+ghost use Rattle.shared_index.specs.Books.{misses_told};
 ghost use Rattle.versions.specs.Writes.{after_writes, replies_to};
 
 use sdd_domain::atomic_shared::AtomicShared;
@@ -16,7 +17,7 @@ use std::alloc::Global;
 use versions::{Reply, Write, WriteRefused};
 
 /// Builds the version that writes make of the present one, places it, and has the cell name it: what each write is told.
-/// Where it is refused, the present version is as it was.
+/// Where it is refused, the present version is as it was; for want of a slot, that is one miss of the participant.
 pub(crate) fn install<K: Clone + Ord, V: Clone, const S: usize>(
     alloc: Global,
     domain: &Domain<Node<K, V>>,
@@ -39,7 +40,9 @@ pub(crate) fn install<K: Clone + Ord, V: Clone, const S: usize>(
     ensures told { IfOk result (λ told. told.items ≡ replies_to K.cmp writes.now (list_of present.old.version)) }
     ensures refused { OnErr result (present.new ≡ present.old) }
     ensures hand { hand_of local.new ≡ [] }
-    ensures same { IsStill local.old local.new }
+    ensures hit { OnOk result (misses_of local.new ≡ misses_of local.old) }
+    ensures missed { IfErr result (λ cause. misses_of local.new ≡ misses_told cause (misses_of local.old)) }
+    ensures same { IsStillButMisses local.old local.new }
 {
     let Ok((draft, told)) = build::<K, V, S>(alloc, present.version(), writes) else {
         return Err(WriteRefused::Memory);
@@ -53,8 +56,8 @@ pub(crate) fn install<K: Clone + Ord, V: Clone, const S: usize>(
     }
 }
 
-/// Places the empty version, and has a cell of its own name it. Refused where no slot or no cell is free; then what was placed
-/// waits to be reclaimed.
+/// Places the empty version, and has a cell of its own name it. Refused where no slot or no cell is free, which is one miss of
+/// the participant; then what was placed waits to be reclaimed.
 pub(crate) fn begin<K: Clone + Ord, V: Clone, const S: usize>(
     alloc: Global,
     domain: &Domain<Node<K, V>>,
@@ -67,7 +70,9 @@ pub(crate) fn begin<K: Clone + Ord, V: Clone, const S: usize>(
     ensures list { IfOk result (λ made. list_of made.0.version ≡ []) }
     ensures inside { IfOk result (λ made. cell_number made.1 < cell_count domain.now) }
     ensures hand { hand_of local.new ≡ [] }
-    ensures same { IsStill local.old local.new }
+    ensures hit { OnOk result (misses_of local.new ≡ misses_of local.old) }
+    ensures missed { OnErr result (misses_of local.new ≡ misses_of local.old + 1) }
+    ensures same { IsStillButMisses local.old local.new }
 {
     let (present, owner) = Present::new(alloc, domain, local)?;
     match AtomicShared::from(owner, domain, local) {

@@ -5,6 +5,10 @@ use Rattle.shared_index.proofs.book.Book.commit.Goals as goal
 pub returns-in-Some-clause-cause : goal.returns-in-Some-clause-cause
 returns-in-Some-clause-cause g c = rw c.as_slice-reads.ensures at c.in-Some.ensures.some
 
+-- what the reads or the last number refuse is no miss
+pub returns-in-Some-clause-missed : goal.returns-in-Some-clause-missed
+returns-in-Some-clause-missed g c = c.in-Some.ensures.unmissed c.args.self.now.misses
+
 pub add-requires : goal.add-requires
 add-requires g c =
     let room = c.in-Ok.ensures.room in
