@@ -1,6 +1,6 @@
 //! A version to be read, whatever lends its segments.
 
-ghost use Rattle.std.specs.Prelude.{◌≡◌, ◌<◌, ◌≤◌, ◌+◌, ◌*◌, ◌-◌, ◌^◌, [], ℕ, None, Some, length, slice_get};
+ghost use Rattle.std.specs.Prelude.{◌≡◌, ◌<◌, ◌≤◌, ◌+◌, ◌*◌, ◌-◌, ◌^◌, [], ℕ, None, Some, false, length, slice_get, true};
 ghost use Rattle.versions.specs.Cuts.{pairs_in};
 ghost use Rattle.versions.specs.CursorEnds.{AreRising, IsBlockAround};
 ghost use Rattle.versions.specs.SeparatorSearch.{IsPlaceOf};
@@ -174,20 +174,31 @@ pub(crate) fn place_of<K: Ord>(separators: &[K], key: &K) -> usize
 }
 
 /// The same, by comparisons that are counted, each of which halves what is left.
+///
+/// What a comparison tells is added up and not branched on: it goes either way as often, so that a processor would guess
+/// wrong at every other step.
 fn place_of_counted<K: Ord>(separators: &[K], key: &K, steps: &mut Steps) -> usize
     ensures place { IsPlaceOf K.cmp key.now separators.now result }
     ensures cost { 2 ^ (steps.new.count - steps.old.count) ≤ 2 * length separators.now + 1 }
     ensures raised { steps.old.count ≤ steps.new.count }
 {
     let mut low = 0;
-    let mut high = separators.len();
-    while low < high {
-        let middle = low + (high - low) / 2;
-        if steps.compare(&separators[middle], key) == Ordering::Less {
-            low = middle + 1;
-        } else {
-            high = middle;
-        }
+    let mut left = separators.len();
+    while left > 0 {
+        let half = (left - 1) / 2;
+        let is_less = steps.compare(&separators[low + half], key) == Ordering::Less;
+        low += count_past(half, is_less);
+        left /= 2;
     }
     low
+}
+
+/// How many separators are passed: so many and the one behind them, or none.
+#[inline]
+fn count_past(half: usize, is_past: bool) -> usize
+    requires { half < 2 ^ 63 }
+    ensures past { is_past ≡ true → result ≡ half + 1 }
+    ensures none { is_past ≡ false → result ≡ 0 }
+{
+    (half << u32::from(is_past)) - half + usize::from(is_past)
 }

@@ -2,17 +2,16 @@ use Rattle.std.proofs.Common.{◌≡◌, ◌≢◌, ℕ, ◌≤◌, ◌+◌, ◌
 use Rattle.std.specs.declared.cmp.Ordering.TheVariants.{Less}
 use Rattle.versions.proofs.read.view.place_of_counted.Given as goal
 
--- the separator before the rest is less than the key, and the one behind it is not; each comparison has halved the rest
-abbrev pub invariant-loop-low : goal.invariant-loop-low
-invariant-loop-low g l = record {
-  ordered : l.low ≤ l.high;
-  within : l.high ≤ length l.separators;
+-- the separator before the rest is less than the key, and the one behind it, or its last one, is not; each comparison has halved the rest
+abbrev pub invariant-loop-left : goal.invariant-loop-left
+invariant-loop-left g l = record {
+  within : l.low + l.left ≤ length l.separators;
   raised : l.initial.steps.count ≤ l.steps.count;
-  left : 2 ^ (l.steps.count - l.initial.steps.count) * (l.high - l.low) ≤ length l.separators;
+  left : 2 ^ (l.steps.count - l.initial.steps.count) * l.left ≤ length l.separators;
   cost : 2 ^ (l.steps.count - l.initial.steps.count) ≤ 2 * length l.separators + 1;
   before : (i : ℕ) (k : g.row.K.Denot) → i + 1 ≡ l.low → slice_get l.separators i ≡ Some k → g.K.Ord.cmp k l.key ≡ Less;
-  behind : (k : g.row.K.Denot) → slice_get l.separators l.high ≡ Some k → g.K.Ord.cmp k l.key ≢ Less;
+  behind : (top : ℕ) × (l.low ≤ top) × (top ≤ l.low + l.left) × (l.low + l.left ≤ top + 1) × ((k : g.row.K.Denot) → slice_get l.separators top ≡ Some k → g.K.Ord.cmp k l.key ≢ Less);
 }
 
-abbrev pub decreases-loop-low : goal.decreases-loop-low
-decreases-loop-low g l = l.high - l.low
+abbrev pub decreases-loop-left : goal.decreases-loop-left
+decreases-loop-left g l = l.left
