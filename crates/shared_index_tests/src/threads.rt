@@ -3,7 +3,6 @@
 //! A commit of one write takes three slots at most, and one of two writes five, so that each place here has slots enough for
 //! all commits of its test, also where nothing is reclaimed.
 
-ghost use Rattle.sdd_domain.specs.Tokens.{place_of};
 ghost use Rattle.shared_index_tests.specs.Scenes.{CanBegin};
 
 use crate::scene::{Item, ROOM, end, got, member};
