@@ -7,8 +7,10 @@ ghost use Rattle.std.specs.Prelude.{◌≡◌};
 ghost use Rattle.sdd_domain.specs.Tokens.{home_of, own_of, IsSame};
 ghost use Rattle.shared_index_tests.specs.Scenes.{CanBegin};
 
-use crate::scene::{Item, ROOM, end, got, member};
-use crate::tasks::{Numbers, begun, closed, own_key, place_for, put, readings, taken, writings};
+use crate::scene::{Item, end, member, range};
+use crate::tasks::{
+    Numbers, begun, closed, listed, own_key, place_for, put, readings, taken, writings,
+};
 use ordered_index::{Answer, Audit, Query, Receipt};
 use sdd_domain::domain::Domain;
 use sdd_domain::local::Local;
@@ -167,10 +169,10 @@ fn six_threads<L: Naming + Send + Sync, R: Threads + Wait + Abort + Sync>(
             None => panic!(rt; "each commit is accepted"),
         }
     }
-    for key in 1..=4u64 {
-        let last = got(rt, alloc, 200, key, Some(50));
-        assert_eq!(rt; index.audit(rt, &last).expect(rt, ROOM), Audit::Yes);
-    }
+    let mut reader = member(rt, domain);
+    let last = listed(rt, &index, &mut reader, 200);
+    reader.end(domain);
+    assert!(rt; last == range(rt, alloc, [(1, 50), (2, 50), (3, 50), (4, 50)]));
     assert_eq!(rt; closed(rt, domain, index, shares), 200);
 }
 
@@ -261,10 +263,10 @@ fn more_read_than_commit<L: Naming + Send + Sync, R: Threads + Wait + Abort + Sy
         }
     }
     // the last commit of all is the last one of one of them
-    for key in 1..=2u64 {
-        let last = got(rt, alloc, 200, key, Some(100));
-        assert_eq!(rt; index.audit(rt, &last).expect(rt, ROOM), Audit::Yes);
-    }
+    let mut reader = member(rt, domain);
+    let last = listed(rt, &index, &mut reader, 200);
+    reader.end(domain);
+    assert!(rt; last == range(rt, alloc, [(1, 100), (2, 100)]));
     assert_eq!(rt; closed(rt, domain, index, shares), 200);
 }
 
