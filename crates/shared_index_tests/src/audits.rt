@@ -16,6 +16,38 @@ use std::process::Abort;
 use std::sync::ledger::Blank;
 use std::test::Fail;
 use versions::Write;
+
+/// A receipt's number, what it says that key 1 had by then, and what its audit tells.
+type Row = (u64, Option<u64>, Audit);
+
+/// While nothing is committed.
+const BEFORE: [Row; 4] = [
+    (0, None, Audit::Yes),
+    (0, Some(10), Audit::No(0)),
+    (1, None, Audit::Unknown),
+    (1, Some(10), Audit::Unknown),
+];
+
+/// When key 1 has had 10, 11, and 10 again.
+const AFTER: [Row; 8] = [
+    (0, None, Audit::Yes),
+    (1, Some(10), Audit::Yes),
+    (1, Some(11), Audit::No(0)),
+    (2, Some(11), Audit::Yes),
+    (2, Some(10), Audit::No(0)),
+    (3, Some(10), Audit::Yes),
+    (3, Some(11), Audit::No(0)),
+    (4, Some(10), Audit::Unknown),
+];
+
+/// Audits a receipt for each row.
+fn audited<L: Naming, R: Abort>(rt: &R, alloc: Global, scene: &Scene<'_, L, 2>, rows: &[Row]) {
+    for row in rows {
+        let receipt = got(rt, alloc, row.0, 1, row.1);
+        assert!(rt; scene.audit(&receipt).expect(rt, ROOM) == row.2);
+    }
+}
+
 /// A key is 10 by number 1, 11 by number 2, and 10 again by number 3.
 fn by_number<L: Naming, R: Abort>(
     rt: &R,
@@ -27,78 +59,16 @@ fn by_number<L: Naming, R: Abort>(
     requires { CanBegin L.place L.name L.parts 1 domain.now local blank }
 {
     let mut scene = Scene::<L, 2>::new(rt, alloc, domain, local, blank, u64::MAX);
-    assert_eq!(rt;
-        scene.audit(&Receipt::blank(alloc)).expect(rt, ROOM),
-        Audit::Yes
-    );
-    assert_eq!(rt;
-        scene.audit(&got(rt, alloc, 0, 1, None)).expect(rt, ROOM),
-        Audit::Yes
-    );
-    assert_eq!(rt;
-        scene
-            .audit(&got(rt, alloc, 0, 1, Some(10)))
-            .expect(rt, ROOM),
-        Audit::No(0)
-    );
-    assert_eq!(rt;
-        scene
-            .audit(&got(rt, alloc, 1, 1, Some(10)))
-            .expect(rt, ROOM),
-        Audit::Unknown
-    );
+    let blank = scene.audit(&Receipt::blank(alloc)).expect(rt, ROOM);
+    assert_eq!(rt; blank, Audit::Yes);
+    audited(rt, alloc, &scene, &BEFORE);
     let told = scene.write(alloc, one(rt, alloc, Write::Insert(1, 10)));
     assert_eq!(rt; told, accepted(rt, alloc, 1, [Reply::Inserted]));
     let told = scene.write(alloc, one(rt, alloc, Write::Upsert(1, 11)));
     assert_eq!(rt; told, accepted(rt, alloc, 2, [Reply::Upserted]));
     let told = scene.write(alloc, one(rt, alloc, Write::Upsert(1, 10)));
     assert_eq!(rt; told, accepted(rt, alloc, 3, [Reply::Upserted]));
-    assert_eq!(rt;
-        scene.audit(&got(rt, alloc, 0, 1, None)).expect(rt, ROOM),
-        Audit::Yes
-    );
-    assert_eq!(rt;
-        scene
-            .audit(&got(rt, alloc, 1, 1, Some(10)))
-            .expect(rt, ROOM),
-        Audit::Yes
-    );
-    assert_eq!(rt;
-        scene
-            .audit(&got(rt, alloc, 1, 1, Some(11)))
-            .expect(rt, ROOM),
-        Audit::No(0)
-    );
-    assert_eq!(rt;
-        scene
-            .audit(&got(rt, alloc, 2, 1, Some(11)))
-            .expect(rt, ROOM),
-        Audit::Yes
-    );
-    assert_eq!(rt;
-        scene
-            .audit(&got(rt, alloc, 2, 1, Some(10)))
-            .expect(rt, ROOM),
-        Audit::No(0)
-    );
-    assert_eq!(rt;
-        scene
-            .audit(&got(rt, alloc, 3, 1, Some(10)))
-            .expect(rt, ROOM),
-        Audit::Yes
-    );
-    assert_eq!(rt;
-        scene
-            .audit(&got(rt, alloc, 3, 1, Some(11)))
-            .expect(rt, ROOM),
-        Audit::No(0)
-    );
-    assert_eq!(rt;
-        scene
-            .audit(&got(rt, alloc, 4, 1, Some(10)))
-            .expect(rt, ROOM),
-        Audit::Unknown
-    );
+    audited(rt, alloc, &scene, &AFTER);
     assert_eq!(rt; scene.counts(), (3, 1, 3));
     scene.end();
 }
