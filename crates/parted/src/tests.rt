@@ -1,3 +1,6 @@
+//! Tests of parts, of lives, and of reading from several threads. They stand in the crate, which is checked in a minute or two
+//! with them.
+
 use super::*;
 use std::alloc::Global;
 use std::mem::ManuallyDrop;

@@ -321,7 +321,7 @@ impl Snapshot {
 
     // The first item, without an owner of the second one.
     fn lose(&mut self, alloc: Global, j: usize, i: usize) -> Result<(), AllocError>
-        ensures { OnOk result (snapshot_state self.new ≡ with_item (snapshot_state self.old) j (record (item_at (snapshot_state self.old) j) { holds = without i (item_at (snapshot_state self.old) j).holds })) }
+        ensures { OnOk result (let s = snapshot_state self.old in snapshot_state self.new ≡ with_item s j (record (item_at s j) { holds = without i (item_at s j).holds })) }
     {
         let mut item = self.item_copy(alloc, j)?;
         item.holds = Seq::from_vec(without(alloc, i, item.holds.as_slice())?);
