@@ -83,7 +83,7 @@ HasLeased m m' = (hs : List Loaded) × (ls : List Lease) × (m'.0 ≡ record m.0
 abbrev pub HasNoted : {T : Type 0} → Me (Home T) Acting → Me (Home T) Acting → Type 0
 HasNoted m m' = (hs : List Loaded) × (ls : List Lease) × (m' ≡ (record m.0 { known = record m.0.known { loaded = hs }; leases = m.0.leases ++ ls }, m.1 ++ blanks (leased_homes m.0 ls)))
 
--- this participant loaded the cell's word, when the rows told its leases
+-- this participant has loaded the cell's word; until then the rows told its leases
 abbrev pub WasLoaded : {T : Type 0} → (T → List (ℕ × ℕ)) → ℕ → ℕ → Sizes → ℕ → List (Row T) → Me (Home T) Acting → Type 0
 WasLoaded holds word number sizes life rows m' = (m : Me (Home _) Acting) × HasLoaded (IsIn holds) m word m' × (m.0.number ≡ number) × (m.0.sizes ≡ sizes) × (map row_told rows ≡ map (lease_told life) m.0.leases)
 

@@ -31,7 +31,7 @@ CanPlaceItem holds item d = (d.kind ≡ 1) × (is_ready d.known ≡ true) × (d.
 abbrev pub HasPlacedItem : {T S : Type 0} → T → ℕ → ℕ → ℕ → Option (ManuallyDrop T) → Me S Acting → Me S Acting → Type 0
 HasPlacedItem item slots slot round seen m m' = (o : Owner) × (o.slot ≡ slot) × (o.round ≡ round) × (slot < slots) × (m' ≡ (owning o m.0, m.1)) × IsSomeAnd seen (λ x. manually_drop_value x ≡ item)
 
--- the owners that an item holds, first in hand, are released: what they were the last ones of waits
+-- the owners that an item holds, which are first in hand, are released; an item that has lost its last owner waits
 abbrev pub HasGivenUp : {T S : Type 0} → (T → List (ℕ × ℕ)) → T → Me S Acting → Me S Acting → Type 0
 HasGivenUp holds item m m' = (hs os : List Owner) → holds item ≡ map told hs → m.0.hand ≡ hs ++ os → (ws : List Garbage) × (m' ≡ (record m.0 { hand = os; waits = ws }, m.1))
 

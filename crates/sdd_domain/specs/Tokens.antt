@@ -66,7 +66,7 @@ nest_of g = (g.participant, g.life.id)
 abbrev pub nest_in : {T : Type 0} → Local T → ℕ × ℕ
 nest_in l = (l.number, life_number l.life)
 
--- the same participant of the same place, with the same owners in hand, which was refused as often
+-- the same participant of the same place, with the same owners in hand and as many misses
 abbrev pub IsSame : {T : Type 0} → Local T → Local T → Type 0
 IsSame old new = (home_of new ≡ home_of old) × (number_of new ≡ number_of old) × (hand_of new ≡ hand_of old) × (misses_of new ≡ misses_of old)
 
@@ -74,7 +74,7 @@ IsSame old new = (home_of new ≡ home_of old) × (number_of new ≡ number_of o
 abbrev pub IsInNest : {T : Type 0} → Local T → Local T → Type 0
 IsInNest old new = IsSame old new × (nest_in new ≡ nest_in old)
 
--- the same participant of the same place, with the same owners in hand, which may have been refused
+-- the same, where its misses may have risen
 abbrev pub IsSameButMisses : {T : Type 0} → Local T → Local T → Type 0
 IsSameButMisses old new = (home_of new ≡ home_of old) × (number_of new ≡ number_of old) × (hand_of new ≡ hand_of old)
 
@@ -82,11 +82,11 @@ IsSameButMisses old new = (home_of new ≡ home_of old) × (number_of new ≡ nu
 abbrev pub IsInNestButMisses : {T : Type 0} → Local T → Local T → Type 0
 IsInNestButMisses old new = IsSameButMisses old new × (nest_in new ≡ nest_in old)
 
--- the same participant of the same place, with the same guards open, and all else of it as it was but its hand, and that it may have been refused
+-- the same participant of the same place: only its hand and its misses may differ
 abbrev pub IsSameButHandAndMisses : {T : Type 0} → Local T → Local T → Type 0
 IsSameButHandAndMisses old new = (home_of new ≡ home_of old) × (number_of new ≡ number_of old) × (nest_in new ≡ nest_in old) × (own_of new ≡ own_of old) × (born_of new ≡ born_of old) × (waiting_of new ≡ waiting_of old)
 
--- and it was refused as often
+-- and it has as many misses
 abbrev pub IsSameButHand : {T : Type 0} → Local T → Local T → Type 0
 IsSameButHand old new = (home_of new ≡ home_of old) × (number_of new ≡ number_of old) × (nest_in new ≡ nest_in old) × (own_of new ≡ own_of old) × (born_of new ≡ born_of old) × (waiting_of new ≡ waiting_of old) × (misses_of new ≡ misses_of old)
 

@@ -18,7 +18,7 @@ use Rattle.shared_versions.specs.declared.node.Node.TheVariants as nodes
 abbrev pub item_held : {T : Type 0} → Held T → Option T
 item_held h = option_map manually_drop_value h.part.part.seen.value
 
--- the last owner was taken out, or there was none: what is told of each, from the last one on
+-- the last owner was taken out, or there was none; the lists tell of each owner by its slot and round
 abbrev pub TakesLast : {T : Type 0} → Option (Held T) → List (ℕ × ℕ) → List (ℕ × ℕ) → Type 0
 TakesLast result old new = MatchOption result ((reverse old ≡ []) × (reverse new ≡ [])) (λ h. reverse old ≡ told_of h ∷ reverse new)
 

@@ -22,11 +22,11 @@ item_owned s = option_map manually_drop_value s.part.part.seen.value
 abbrev pub IsOwnedIn : {T : Type 0} → TableId → Shared T → Type 0
 IsOwnedIn place s = kept_in s ≡ place
 
--- the same participant of the same place, with the same guards open, which may have been refused
+-- the same participant of the same place, with the same guards open; its misses may have risen
 abbrev pub IsStillButMisses : {T : Type 0} → Local T → Local T → Type 0
 IsStillButMisses old new = (home_of new ≡ home_of old) × (number_of new ≡ number_of old) × (nest_in new ≡ nest_in old) × ((own_of new).nesting ≡ (own_of old).nesting)
 
--- and it was refused as often
+-- and it has as many misses
 abbrev pub IsStill : {T : Type 0} → Local T → Local T → Type 0
 IsStill old new = (home_of new ≡ home_of old) × (number_of new ≡ number_of old) × (nest_in new ≡ nest_in old) × ((own_of new).nesting ≡ (own_of old).nesting) × (misses_of new ≡ misses_of old)
 
