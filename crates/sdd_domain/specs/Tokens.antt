@@ -74,7 +74,7 @@ IsSame old new = (home_of new ≡ home_of old) × (number_of new ≡ number_of o
 abbrev pub IsInNest : {T : Type 0} → Local T → Local T → Type 0
 IsInNest old new = IsSame old new × (nest_in new ≡ nest_in old)
 
--- the same, where its misses may have risen
+-- the same participant of the same place, with the same owners in hand; its misses may differ
 abbrev pub IsSameButMisses : {T : Type 0} → Local T → Local T → Type 0
 IsSameButMisses old new = (home_of new ≡ home_of old) × (number_of new ≡ number_of old) × (hand_of new ≡ hand_of old)
 

@@ -22,7 +22,7 @@ item_owned s = option_map manually_drop_value s.part.part.seen.value
 abbrev pub IsOwnedIn : {T : Type 0} → TableId → Shared T → Type 0
 IsOwnedIn place s = kept_in s ≡ place
 
--- the same participant of the same place, with the same guards open; its misses may have risen
+-- the same participant of the same place, with the same guards open; its misses may differ
 abbrev pub IsStillButMisses : {T : Type 0} → Local T → Local T → Type 0
 IsStillButMisses old new = (home_of new ≡ home_of old) × (number_of new ≡ number_of old) × (nest_in new ≡ nest_in old) × ((own_of new).nesting ≡ (own_of old).nesting)
 
