@@ -118,7 +118,7 @@ fn drawn(state: u64, pairs: u64) -> u64 {
 }
 
 #[derive(Clone, Copy, Default)]
-struct Tally {
+struct Sample {
     state: u64,
     sessions: u64,
     gets: u64,
@@ -126,18 +126,18 @@ struct Tally {
     sum: u64,
 }
 
-fn session<M: Shared>(map: &M, pairs: u64, gets: u64, mut tally: Tally) -> Tally {
+fn session<M: Shared>(map: &M, pairs: u64, gets: u64, mut sample: Sample) -> Sample {
     let session = map.open();
     for _ in 0..gets {
-        tally.state = next(tally.state);
-        let number = drawn(tally.state, pairs);
+        sample.state = next(sample.state);
+        let number = drawn(sample.state, pairs);
         match M::get(&session, key(number)) {
-            Some(value) if value & 0xFFFF_FFFF == number => tally.sum = tally.sum.wrapping_add(value),
-            _ => tally.wrong += 1,
+            Some(value) if value & 0xFFFF_FFFF == number => sample.sum = sample.sum.wrapping_add(value),
+            _ => sample.wrong += 1,
         }
     }
     drop(session);
-    Tally { sessions: tally.sessions + 1, gets: tally.gets + gets, ..tally }
+    Sample { sessions: sample.sessions + 1, gets: sample.gets + gets, ..sample }
 }
 
 fn drawing(pairs: u64, writes: u64, state: &mut u64) -> Vec<(u64, u64)> {
@@ -156,7 +156,7 @@ fn run<M: Shared>(words: &[u64]) {
     for from in (0..pairs).step_by(most as usize) {
         map.commit((from..pairs.min(from + most)).map(|number| (key(number), number)).collect());
     }
-    let (mut all, mut times) = (Tally { state: 77, ..Tally::default() }, Vec::<u64>::new());
+    let (mut all, mut times) = (Sample { state: 77, ..Sample::default() }, Vec::<u64>::new());
     if readers == 0 {
         let mut state = 5;
         for _ in 0..if writes == 0 { 0 } else { last } {
@@ -172,17 +172,17 @@ fn run<M: Shared>(words: &[u64]) {
         let map = &map;
         std::thread::scope(|scope| {
             let reads = |seed| move || {
-                let mut tally = Tally { state: seed, ..Tally::default() };
+                let mut sample = Sample { state: seed, ..Sample::default() };
                 loop {
                     let now = Instant::now();
                     if now >= end {
-                        return tally;
+                        return sample;
                     }
                     for _ in 0..turn {
-                        tally = session(map, pairs, gets, tally);
+                        sample = session(map, pairs, gets, sample);
                     }
                     if now < begin {
-                        tally = Tally { state: tally.state, ..Tally::default() };
+                        sample = Sample { state: sample.state, ..Sample::default() };
                     }
                 }
             };

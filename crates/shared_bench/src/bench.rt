@@ -5,7 +5,7 @@ ghost use Rattle.sdd_domain.specs.Cells.{cell_number};
 ghost use Rattle.sdd_domain.specs.Tokens.{place_of, cell_count};
 ghost use Rattle.shared_index.specs.Invariant.{IsUnengaged};
 
-use crate::readers::{Span, Tally, fresh, read_all, sessions};
+use crate::readers::{Sample, Span, fresh, read_all, sessions};
 use crate::task::{Index, Item, Task};
 use crate::writer::{Commits, build, commit_until, rounds};
 use sdd_domain::domain::Domain;
@@ -20,7 +20,7 @@ use std::time::{Clock, Duration, Instant};
 /// What a run found.
 #[derive(Drop)]
 pub struct Found {
-    pub tally: Tally,
+    pub sample: Sample,
     pub commits: Commits,
 }
 
@@ -34,10 +34,10 @@ fn span_of<R: Clock>(rt: &R, task: Task) -> Option<Span> {
 }
 
 /// The sum of what readers found. None if one of them wasn't registered.
-fn total(tallies: &[Option<Tally>]) -> Option<Tally> {
+fn total(samples: &[Option<Sample>]) -> Option<Sample> {
     let mut all = fresh(0);
-    for tally in tallies {
-        let one = (*tally)?;
+    for sample in samples {
+        let one = (*sample)?;
         all.sessions = all.sessions.wrapping_add(one.sessions);
         all.gets = all.gets.wrapping_add(one.gets);
         all.wrong = all.wrong.wrapping_add(one.wrong);
@@ -60,20 +60,20 @@ fn beside<L: Naming, R: Threads + Wait + Clock + Sync>(
     let domain = index.domain();
     let root = index.root();
     // the closure that another thread gets borrows the place and the cell, but not the index
-    let (tallies, (share, commits)) = join(
+    let (samples, (share, commits)) = join(
         rt,
-        || -> Result<Vec<Option<Tally>>, AllocError>
+        || -> Result<Vec<Option<Sample>>, AllocError>
             requires { cell_number root.now < cell_count domain.now }
         { read_all(rt, alloc, domain, root, task, span) },
         || commit_until(rt, alloc, index, share, task, span),
     );
-    let Ok(tallies) = tallies else {
+    let Ok(samples) = samples else {
         return (share, None);
     };
-    let Some(tally) = total(&tallies) else {
+    let Some(sample) = total(&samples) else {
         return (share, None);
     };
-    (share, Some(Found { tally, commits }))
+    (share, Some(Found { sample, commits }))
 }
 
 /// Rounds in one thread: of commits, if there are writes, and else of sessions.
@@ -90,7 +90,7 @@ fn alone<L: Naming, R: Wait>(
     let Ok(mut local) = domain.register() else {
         return (share, None);
     };
-    let tally = if task.writes == 0 {
+    let sample = if task.writes == 0 {
         sessions(
             alloc,
             domain,
@@ -109,7 +109,7 @@ fn alone<L: Naming, R: Wait>(
     (
         share,
         Some(Found {
-            tally,
+            sample,
             commits: Commits { times, refused },
         }),
     )

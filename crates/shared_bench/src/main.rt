@@ -6,7 +6,8 @@
 //! how many nanoseconds half, 99 % and 99.9 % of the commits took at most, each with the reclaim behind it.
 //!
 //! With no reader, the last word is a number of rounds, which one thread makes: of sessions, or of commits, if there are
-//! writes. It prints the same, and the sum of the values that were got. Without arguments nothing is done.
+//! writes. It prints the same, but times no commit and so counts none, and the sum of the values that were got. Without
+//! arguments nothing is done.
 #![tactic(auto)]
 
 ghost use Rattle.std.specs.Prelude.{◌≡◌, ◌<◌, ◌≤◌};
@@ -99,7 +100,7 @@ fn main(rt: HostRuntime) -> io::Result<()> {
         Err(_) => None,
     };
     end(&rt, domain);
-    let Some(Found { tally, commits }) = found else {
+    let Some(Found { sample, commits }) = found else {
         return Err(io::ErrorKind::Other.into());
     };
     let mut times = commits.times;
@@ -107,11 +108,11 @@ fn main(rt: HostRuntime) -> io::Result<()> {
     let (half, most, nearly) = (within(&times, 2), within(&times, 100), within(&times, 1000));
     println!(rt;
         "{} {} {} {} {} {half} {most} {nearly} {}",
-        tally.gets,
-        tally.sessions,
-        tally.wrong,
+        sample.gets,
+        sample.sessions,
+        sample.wrong,
         times.len(),
         commits.refused,
-        tally.sum
+        sample.sum
     )
 }

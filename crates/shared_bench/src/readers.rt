@@ -15,7 +15,7 @@ use std::time::{Clock, Instant};
 
 /// What a reader found, and the state of its draws.
 #[derive(Clone, Copy)]
-pub struct Tally {
+pub struct Sample {
     pub state: u64,
     pub sessions: u64,
     pub gets: u64,
@@ -24,8 +24,8 @@ pub struct Tally {
 }
 
 /// Nothing yet, with this state of draws.
-pub fn fresh(state: u64) -> Tally {
-    Tally {
+pub fn fresh(state: u64) -> Sample {
+    Sample {
         state,
         sessions: 0,
         gets: 0,
@@ -48,22 +48,22 @@ pub fn session(
     root: &AtomicShared,
     local: &mut Local<Item>,
     task: Task,
-    tally: Tally,
-) -> Tally
+    sample: Sample,
+) -> Sample
     requires home { home_of local.old ≡ place_of domain.now }
     requires inside { cell_number root.now < cell_count domain.now }
     requires closed { (own_of local.old).nesting ≡ 0 }
     ensures same { IsSame local.old local.new }
     ensures closed { (own_of local.new).nesting ≡ 0 }
 {
-    let mut state = tally.state;
-    let mut wrong = tally.wrong;
-    let mut sum = tally.sum;
+    let mut state = sample.state;
+    let mut wrong = sample.wrong;
+    let mut sum = sample.sum;
     let Ok(session) = Reader::open(domain, root, local, alloc, 0) else {
-        return Tally {
+        return Sample {
             state,
-            sessions: tally.sessions,
-            gets: tally.gets,
+            sessions: sample.sessions,
+            gets: sample.gets,
             wrong: wrong.wrapping_add(1),
             sum,
         };
@@ -77,10 +77,10 @@ pub fn session(
         }
     }
     let _receipt = session.close(domain, local);
-    Tally {
+    Sample {
         state,
-        sessions: tally.sessions.wrapping_add(1),
-        gets: tally.gets.wrapping_add(u64::from(task.gets)),
+        sessions: sample.sessions.wrapping_add(1),
+        gets: sample.gets.wrapping_add(u64::from(task.gets)),
         wrong,
         sum,
     }
@@ -94,19 +94,19 @@ pub fn sessions(
     local: &mut Local<Item>,
     task: Task,
     rounds: u32,
-    tally: Tally,
-) -> Tally
+    sample: Sample,
+) -> Sample
     requires home { home_of local.old ≡ place_of domain.now }
     requires inside { cell_number root.now < cell_count domain.now }
     requires closed { (own_of local.old).nesting ≡ 0 }
     ensures same { IsSame local.old local.new }
     ensures closed { (own_of local.new).nesting ≡ 0 }
 {
-    let mut tally = tally;
+    let mut sample = sample;
     for _round in 0..rounds {
-        tally = session(alloc, domain, root, local, task, tally);
+        sample = session(alloc, domain, root, local, task, sample);
     }
-    tally
+    sample
 }
 
 /// How many sessions are read between two looks at the clock: about a thousand gets, or a thousand sessions without any.
@@ -127,13 +127,13 @@ fn reads<R: Clock>(
     task: Task,
     span: Span,
     seed: u64,
-) -> Option<Tally>
+) -> Option<Sample>
     requires inside { cell_number root.now < cell_count domain.now }
 {
     let Ok(mut local) = domain.register() else {
         return None;
     };
-    let mut tally = fresh(seed);
+    let mut sample = fresh(seed);
     for _turn in 0..u64::MAX {
         let Ok(now) = Instant::now(rt) else {
             break;
@@ -141,21 +141,21 @@ fn reads<R: Clock>(
         if now >= span.end {
             break;
         }
-        tally = sessions(
+        sample = sessions(
             alloc,
             domain,
             root,
             &mut local,
             task,
             sessions_of_a_turn(task),
-            tally,
+            sample,
         );
         if now < span.begin {
-            tally = fresh(tally.state);
+            sample = fresh(sample.state);
         }
     }
     local.end(domain);
-    Some(tally)
+    Some(sample)
 }
 
 /// The readers of a task, each in a thread.
@@ -166,7 +166,7 @@ pub fn read_all<R: Threads + Clock + Sync>(
     root: &AtomicShared,
     task: Task,
     span: Span,
-) -> Result<Vec<Option<Tally>>, AllocError>
+) -> Result<Vec<Option<Sample>>, AllocError>
     requires inside { cell_number root.now < cell_count domain.now }
 {
     thread::map_indices(

@@ -42,6 +42,21 @@ fn drawing(alloc: Global, task: Task, state: u64) -> Option<(Vec<Write<u64, u64>
     Some((writes, state))
 }
 
+/// A commit, and the reclaim behind it: whether it was accepted.
+fn commit<L: Naming, R: Wait>(
+    rt: &R,
+    alloc: Global,
+    index: &Index<'_, L>,
+    share: &mut Share<L>,
+    writes: Vec<Write<u64, u64>>,
+) -> bool {
+    let accepted = index
+        .commit(rt, share, &Receipt::blank(alloc), writes)
+        .is_ok();
+    index.reclaim(rt);
+    accepted
+}
+
 /// Commits all pairs, an eighth of them at a time, or a thousand, if that is more: whether all were accepted.
 pub fn build<L: Naming, R: Wait>(
     rt: &R,
@@ -60,31 +75,12 @@ pub fn build<L: Naming, R: Wait>(
         let Some(writes) = ascending(alloc, from, count) else {
             return false;
         };
-        if index
-            .commit(rt, share, &Receipt::blank(alloc), writes)
-            .is_err()
-        {
+        if !commit(rt, alloc, index, share, writes) {
             return false;
         }
-        index.reclaim(rt);
         from = from.wrapping_add(count);
     }
     false
-}
-
-/// A commit, and the reclaim behind it: whether it was accepted.
-pub fn commit<L: Naming, R: Wait>(
-    rt: &R,
-    alloc: Global,
-    index: &Index<'_, L>,
-    share: &mut Share<L>,
-    writes: Vec<Write<u64, u64>>,
-) -> bool {
-    let accepted = index
-        .commit(rt, share, &Receipt::blank(alloc), writes)
-        .is_ok();
-    index.reclaim(rt);
-    accepted
 }
 
 /// So many commits one by one: how many were accepted.
