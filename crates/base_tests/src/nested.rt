@@ -17,7 +17,6 @@ impl Holds for Item {
     ghost use Rattle.sdd_base.specs.Holding.{Hold, SharedItem};
     ghost use Rattle.sdd_base.specs.Tokens.{shared_slot};
     ghost use Rattle.base_tests.specs.declared.nested.Item.{Item, out-Item};
-    ghost use Rattle.base_tests.specs.declared.nested.Item.TheOpen.{Item-F};
     ghost use Rattle.base_tests.specs.declared.nested.Item.TheOpen as open1;
 
     ghost holds = { λ i. elim (out-Item i) as (λ _. List Hold) [ open1.Directory segments ↦ reverse (map (λ s. SharedItem (shared_slot s)) segments.items) | open1.Segment n ↦ [] ] };

@@ -1,6 +1,6 @@
 //! Cells of a place that threads share, and what guards load from them.
 
-ghost use Rattle.std.specs.Prelude.{◌≡◌, ◌<◌, ◌≤◌, ℕ, [], IfSome};
+ghost use Rattle.std.specs.Prelude.{◌≡◌, ◌<◌, [], IfSome};
 ghost use Rattle.sdd_domain.specs.Cells.{cell_number};
 ghost use Rattle.sdd_domain.specs.Pointers.{IsUnder};
 ghost use Rattle.sdd_domain.specs.Sharing.{kept_in};

@@ -1,8 +1,8 @@
 //! Registering participants, and ending a place.
 
-ghost use Rattle.std.specs.Prelude.{◌≡◌, ◌≤◌, ℕ, []};
+ghost use Rattle.std.specs.Prelude.{◌≡◌, ◌≤◌, []};
 ghost use Rattle.sdd_domain.specs.Layout.{IsSized};
-ghost use Rattle.sdd_domain.specs.Tokens.{place_of, home_of, hand_of, own_of, participants_of};
+ghost use Rattle.sdd_domain.specs.Tokens.{place_of, home_of, hand_of, own_of};
 
 use sdd_base::sizes::Sizes;
 use sdd_domain::domain::Domain;

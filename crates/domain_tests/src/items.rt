@@ -1,9 +1,9 @@
 //! Items of a place that threads share, and their owners.
 
-ghost use Rattle.std.specs.Prelude.{◌≡◌, ◌≤◌, ℕ, []};
+ghost use Rattle.std.specs.Prelude.{◌≡◌, ◌≤◌, []};
 ghost use Rattle.sdd_domain.specs.Layout.{IsSized};
 ghost use Rattle.sdd_domain.specs.Sharing.{kept_in};
-ghost use Rattle.sdd_domain.specs.Tokens.{place_of, home_of, hand_of, own_of, participants_of, IsSame, IsSameButMisses};
+ghost use Rattle.sdd_domain.specs.Tokens.{place_of, home_of, hand_of, own_of, IsSame, IsSameButMisses};
 
 use crate::domain::{end, member};
 use crate::guard::pass;

@@ -28,7 +28,6 @@ impl Holds for Node {
     ghost use Rattle.std.specs.Prelude.{List, ℕ, []};
     ghost use Rattle.sdd_domain.specs.Holding.{all_told};
     ghost use Rattle.domain_tests.specs.declared.nested.Node.{Node, out-Node};
-    ghost use Rattle.domain_tests.specs.declared.nested.Node.TheOpen.{Node-F};
     ghost use Rattle.domain_tests.specs.declared.nested.Node.TheOpen as open1;
 
     ghost holds = { λ n. elim (out-Node n) as (λ _. List (ℕ × ℕ)) [ open1.Directory held ↦ all_told held.items | open1.Leaf n ↦ [] ] };

@@ -1,7 +1,7 @@
 //! Runs in which any one allocation may be refused. A script has each refused in turn: whatever is refused, nothing was
 //! kept, and the same call then succeeds.
 
-ghost use Rattle.std.specs.Prelude.{◌≡◌, ℕ, []};
+ghost use Rattle.std.specs.Prelude.{◌≡◌, []};
 ghost use Rattle.sdd_domain.specs.Tokens.{home_of, hand_of, own_of, place_of};
 
 use crate::domain::{end, member};

@@ -1,7 +1,7 @@
 //! Threads that share a place. Each test prints the same whatever the schedule.
 
-ghost use Rattle.std.specs.Prelude.{◌≡◌, ◌≤◌, ℕ, []};
-ghost use Rattle.sdd_domain.specs.Tokens.{place_of, home_of, hand_of, number_of, own_of, participant_of, IsSame};
+ghost use Rattle.std.specs.Prelude.{◌≡◌, []};
+ghost use Rattle.sdd_domain.specs.Tokens.{place_of, home_of, hand_of, own_of, IsSame};
 
 use crate::domain::{end, member, only};
 use crate::guard::pass;

@@ -1,6 +1,6 @@
 //! A script's index, desk and staged writes.
 
-ghost use Rattle.std.specs.Prelude.{◌≡◌, ◌+◌, ◌<◌, ◌^◌, ◌≤◌, [], ◌∷◌, ◌++◌, ℕ, List, IfOk, OnOk};
+ghost use Rattle.std.specs.Prelude.{◌≡◌, ◌+◌, ◌<◌, ◌^◌, [], ℕ, List, IfOk, OnOk};
 ghost use Rattle.std.specs.Option.{option_copied};
 ghost use Rattle.std.specs.String.{string_bytes};
 ghost use Rattle.std.specs.Ordering.{nat_cmp};
@@ -9,7 +9,7 @@ ghost use Rattle.versions.specs.Sizes.{IsStoreSized};
 ghost use Rattle.ordered_index.specs.State.{HasNoSession};
 ghost use Rattle.index_script.specs.Lines.{kept};
 ghost use Rattle.index_script.specs.Inside.{IsNoCommit, writes_given_back};
-ghost use Rattle.index_script.specs.Script.{Script, ActsOnLine, Discards, Meets, Plays, Stages, at_next, fresh_script};
+ghost use Rattle.index_script.specs.Script.{Script, ActsOnLine, Discards, Meets, Plays, Stages, fresh_script};
 
 use crate::reply::{write_discarded, write_fault, write_reply, write_staged};
 use crate::request::{Request, read_line};

@@ -1,6 +1,6 @@
 //! Sessions of one index, by labels.
 
-ghost use Rattle.std.specs.Prelude.{◌≡◌, ◌≢◌, [], None, Some, IfOk, IsTrue, IsFalse, IfSome, IfNone, MatchOption, ℕ, length, replicate, slice_get, slice_set};
+ghost use Rattle.std.specs.Prelude.{◌≡◌, ◌≢◌, None, Some, IfOk, IsTrue, IsFalse, IfSome, IfNone, MatchOption, ℕ, replicate, slice_get, slice_set};
 ghost use Rattle.ordered_index.specs.State.{IsSessionOf, Closes};
 ghost use Rattle.ordered_index.specs.Desk.{Clears, Serves, SitsAt, IsUnknown};
 

@@ -3,8 +3,7 @@
 ghost use Rattle.std.specs.Prelude.{◌≡◌, ◌≤◌, [], List, IfOk, IfSome, IsTrue, OnOk, drop, length};
 ghost use Rattle.std.specs.Option.{unwrap_or};
 ghost use Rattle.std.specs.declared.ops.Bound.TheVariants.{Unbounded};
-ghost use Rattle.leaf_array.specs.Values.{ClonesAreSame, EqualsAreSame};
-ghost use Rattle.tree_index.specs.Cursor.{Cursor};
+ghost use Rattle.leaf_array.specs.Values.{ClonesAreSame};
 ghost use Rattle.versions.specs.Cuts.{pairs_in};
 ghost use Rattle.versions.specs.Writes.{after_write, after_writes};
 ghost use Rattle.ordered_index.specs.Serial.{after_all};

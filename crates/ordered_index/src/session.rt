@@ -1,6 +1,6 @@
 //! A session's token.
 
-ghost use Rattle.std.specs.Prelude.{◌≡◌, ◌∷◌, ◌++◌, [], ℕ, OnOk, OnErr};
+ghost use Rattle.std.specs.Prelude.{◌≡◌, ◌∷◌, ◌++◌, [], OnOk, OnErr};
 ghost use Rattle.leaf_array.specs.Values.{ClonesAreSame};
 
 use crate::query::{Answer, Query};

@@ -1,7 +1,5 @@
 //! Private bags: what is retired into one is reclaimed by its owner, and by nobody else.
 
-ghost use Rattle.std.specs.Prelude.{◌≡◌};
-
 use std::collections::VecDeque;
 use std::marker::PhantomData;
 

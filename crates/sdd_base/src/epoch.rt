@@ -1,6 +1,6 @@
 //! Counts of raises modulo 64.
 
-ghost use Rattle.std.specs.Prelude.{◌≡◌, ◌+◌, ◌*◌, ◌<◌, ◌≤◌, ◌%◌, ◌⊎◌, ◌↔◌, IsTrue, MatchResult};
+ghost use Rattle.std.specs.Prelude.{◌≡◌, ◌+◌, ◌<◌, ◌≤◌, ◌%◌, ◌⊎◌, ◌↔◌, IsTrue, MatchResult};
 ghost use Rattle.sdd_base.specs.Epochs.{next_epoch, prev_epoch, iterated};
 
 use std::marker::Model;

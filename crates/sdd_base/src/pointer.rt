@@ -1,6 +1,6 @@
 //! Pointers to items: plain data, a slot or none, and a tag.
 
-ghost use Rattle.std.specs.Prelude.{◌≡◌, ℕ, Option, IsTrue, None, Some, ◌↔◌};
+ghost use Rattle.std.specs.Prelude.{◌≡◌, ℕ, Option, IsTrue, None, ◌↔◌};
 ghost use Rattle.sdd_base.specs.Tokens.{ptr_slot, ptr_tag, raw_slot, raw_tag};
 
 use crate::tag::Tag;

@@ -1,7 +1,7 @@
 //! The store of a place: numbered slots, job places and cells, and the participants. Nothing here takes memory but
 //! the making, and nothing walks all slots.
 
-ghost use Rattle.std.specs.Prelude.{◌≡◌, ◌≢◌, ℕ, ◌+◌, ◌<◌, ◌≤◌, ◌^◌, ◌-◌, List, length, MatchOption, MatchResult, Some, None, OnOk, IfSome, IfNone, IfOk, IfErr, [], ◌∷◌, false, true, replicate, IsTrue, IsFalse, ◌↔◌, sum_by, vec_capacity, vec_len, ◌++◌, map, All, IsSome};
+ghost use Rattle.std.specs.Prelude.{◌≡◌, ℕ, ◌+◌, ◌<◌, ◌≤◌, ◌^◌, ◌-◌, List, length, MatchOption, Some, None, OnOk, IfSome, IfNone, IfOk, IfErr, [], ◌∷◌, false, true, replicate, IsTrue, IsFalse, ◌↔◌, sum_by, vec_capacity, vec_len, ◌++◌, map, All, IsSome};
 ghost use Rattle.std.specs.Borrow.{sem};
 ghost use Rattle.std.specs.Option.Follows.{option_follows_value};
 ghost use Rattle.sdd_base.specs.State.{changing, recalled, IsIdle, NoneIdle, with_status, with_local, IsFree, NoneFree, IsFreeCell, NoCellFree, in_use, IsUnused, waiting_as, status_at, participant_at, value_at, cell_at, rotated_bags, placed, raised, nobody, TakesDue, with_cell, is_present, is_used, weight, idleness, vacancy, emptiness, fresh, slot_freed, usage};

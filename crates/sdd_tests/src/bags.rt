@@ -1,6 +1,6 @@
 //! Bags: calls as data, so that a test of many calls is a table, and bags beside the multisets that they are.
 
-ghost use Rattle.std.specs.Prelude.{◌≡◌, ◌<◌, length};
+ghost use Rattle.std.specs.Prelude.{◌<◌, length};
 ghost use Rattle.sdd_base.specs.Place.{IsOpen};
 ghost use Rattle.sdd.specs.Bags.{IsLength, IsSomeBag, bag_cells, into_cells};
 

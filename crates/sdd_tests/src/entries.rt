@@ -5,8 +5,7 @@ ghost use Rattle.sdd_base.specs.Place.{IsOpen};
 ghost use Rattle.sdd.specs.Entries.{entry_value, entry_link};
 ghost use Rattle.sdd_base.specs.Tokens.{shared_slot};
 ghost use Rattle.sdd.specs.Chain.{Leaves, Stays};
-ghost use Rattle.sdd.specs.Stacks.{IsMade, IsSomeStack, stack_cell};
-ghost use Rattle.sdd.specs.Queues.{IsSomeQueue, oldest_cell, newest_cell};
+ghost use Rattle.sdd.specs.Stacks.{IsMade};
 
 use crate::places::{close, end, give, guarded, place_of};
 use sdd::linked_entry::LinkedEntry;

@@ -1,6 +1,6 @@
 //! Stacks: calls as data, so that a test of many calls is a table.
 
-ghost use Rattle.std.specs.Prelude.{◌≡◌, ◌<◌, length, IfOk};
+ghost use Rattle.std.specs.Prelude.{◌<◌, length, IfOk};
 ghost use Rattle.sdd_base.specs.Place.{IsOpen};
 ghost use Rattle.sdd.specs.Stacks.{IsSomeStack, stack_cell};
 

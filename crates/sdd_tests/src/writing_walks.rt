@@ -1,6 +1,6 @@
 //! Values of bags that are written where they are.
 
-ghost use Rattle.std.specs.Prelude.{◌≡◌, ◌<◌, ◌≤◌, length};
+ghost use Rattle.std.specs.Prelude.{◌<◌, length};
 ghost use Rattle.sdd_base.specs.Place.{IsOpen};
 ghost use Rattle.sdd.specs.Bags.{IsSomeBag, bag_cells};
 

@@ -1,6 +1,6 @@
 //! Equality of trees: that of their lists of pairs.
 
-ghost use Rattle.std.specs.Prelude.{◌≡◌, ◌&&◌, length};
+ghost use Rattle.std.specs.Prelude.{◌≡◌, ◌&&◌};
 ghost use Rattle.std.specs.Cmp.Lexicographic.{pointwise};
 ghost use Rattle.tree_index.specs.Content.{pairs_of, IsSound};
 

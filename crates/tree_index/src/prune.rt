@@ -1,10 +1,9 @@
 //! What a tree no longer needs leaves it: a leaf, the nodes that have it alone, and a root with one child.
 
-ghost use Rattle.std.specs.Prelude.{◌≡◌, ◌≢◌, ◌≤◌, ◌<◌, ◌+◌, ◌-◌, ◌==◌, ℕ, cond, IfSome, IfNone, Some, None, [], true, length};
+ghost use Rattle.std.specs.Prelude.{◌≡◌, ◌≢◌, ◌≤◌, ◌<◌, ◌-◌, ◌==◌, ℕ, cond, IfSome, Some, None, [], true};
 ghost use Rattle.std.specs.Option.{option_map};
-ghost use Rattle.slab.specs.Slab.{get};
-ghost use Rattle.tree_index.specs.Chain.{leaf_links, linked_out, times};
-ghost use Rattle.tree_index.specs.Content.{content_of, pairs_of, leaves_of, IsSound, AreSameArrays, leaf_on_way};
+ghost use Rattle.tree_index.specs.Chain.{leaf_links, linked_out};
+ghost use Rattle.tree_index.specs.Content.{pairs_of, leaves_of, IsSound, AreSameArrays, leaf_on_way};
 ghost use Rattle.tree_index.specs.Prune.{IsFork, IsCutOff, IsWithout, IsLowerable};
 ghost use Rattle.tree_index.specs.Walk.{pairs_in_leaf};
 

@@ -1,13 +1,13 @@
 //! Single changes of a list that hangs from a cell.
 
-ghost use Rattle.std.specs.Prelude.{◌≡◌, Some, None, Option, List, ◌∷◌, [], ℕ, length, IfNone, IfSome, cond, ◌+◌, ◌<◌};
+ghost use Rattle.std.specs.Prelude.{◌≡◌, Some, None, Option, [], length, IfNone, IfSome, cond, ◌+◌, ◌<◌};
 ghost use Rattle.std.specs.Fn.{FnOnceReturnsAt};
 ghost use Rattle.std.specs.Option.{option_copied};
 ghost use Rattle.sdd_base.specs.State.{IsFreeCell, cell_at, status_at, with_cell};
 ghost use Rattle.sdd_base.specs.Frame.{OnlyParticipant};
 ghost use Rattle.sdd_base.specs.Place.{IsSharedCell};
 ghost use Rattle.sdd_base.specs.Tokens.{shared_cell, shared_slot, shared_slots, link_cell};
-ghost use Rattle.sdd.specs.Chain.{Entry, IsItem, IsList, Hangs, HasLink, IsDetached, FitsBefore, TookFirst, Leaves, Stays, CanHang, deleted, BeginsWithItem, skip, undeleted, first_item, first_slot, front_tag, slots, SameUses, MoreOwners, OneMore};
+ghost use Rattle.sdd.specs.Chain.{Entry, IsItem, IsList, Hangs, HasLink, IsDetached, TookFirst, Stays, CanHang, deleted, BeginsWithItem, skip, undeleted, first_item, first_slot, front_tag, slots, SameUses, MoreOwners, OneMore};
 ghost use Rattle.sdd.specs.Calls.{DropsFirst, Empties, HangsFirst, OfList, OnlyList};
 
 use crate::linked_list::LinkedList;

@@ -1,11 +1,10 @@
 //! Taking a bag apart over a `World`.
 
-ghost use Rattle.std.specs.Prelude.{◌≡◌, ◌<◌, [], length, MatchOption};
+ghost use Rattle.std.specs.Prelude.{◌≡◌, ◌<◌, length};
 ghost use Rattle.sdd_base.specs.Frame.{OnlyParticipant};
-ghost use Rattle.sdd_base.specs.Tokens.{shared_slot};
 ghost use Rattle.sdd.specs.Chain.{Stays};
-ghost use Rattle.sdd.specs.Bags.{IsSomeBag, TakesOne, AreFreeCells, into_cells};
-ghost use Rattle.sdd.specs.Calls.{BagIn, OnlyBag, OnlyLinksOf, TakesFromBag};
+ghost use Rattle.sdd.specs.Bags.{IsSomeBag, AreFreeCells, into_cells};
+ghost use Rattle.sdd.specs.Calls.{OnlyBag, OnlyLinksOf, TakesFromBag};
 
 use crate::bag::IntoIter;
 use crate::linked_entry::LinkedEntry;

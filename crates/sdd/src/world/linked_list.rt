@@ -1,6 +1,6 @@
 //! The calls of `LinkedList` over a `World`: an entry is named by a pointer.
 
-ghost use Rattle.std.specs.Prelude.{◌≡◌, ◌≢◌, ◌<◌, ◌+◌, ℕ, List, [], ◌∷◌, true, ◌↔◌, cond, Some, IfSome, IfNone, IfOk, IfErr, OnOk, IsErr, IsTrue, IsFalse, not};
+ghost use Rattle.std.specs.Prelude.{◌≡◌, ◌<◌, ◌+◌, ℕ, List, [], ◌∷◌, true, ◌↔◌, cond, Some, IfSome, IfNone, IfOk, IfErr, OnOk, IsErr, IsTrue, IsFalse, not};
 ghost use Rattle.sdd_base.specs.Tokens.{ptr_slot, ptr_tag, link_cell, shared_slot};
 ghost use Rattle.sdd_base.specs.State.{status_at, with_status};
 ghost use Rattle.sdd_base.specs.Place.{IsShared};

@@ -1,6 +1,6 @@
 //! Rows of cells, from each of which a list hangs.
 
-ghost use Rattle.std.specs.Prelude.{◌≡◌, ◌≢◌, ◌<◌, ◌≤◌, ◌+◌, ◌++◌, ℕ, List, [], ◌∷◌, length, get_or, map, not, Option, None, Some, IfSome, IfNone, IfOk, OnOk, OnErr, IfErr, ◌⊎◌, vec_len, vec_capacity, IsErrOf};
+ghost use Rattle.std.specs.Prelude.{◌≡◌, ◌<◌, ◌≤◌, ◌+◌, ◌++◌, ℕ, List, [], ◌∷◌, length, map, not, Option, None, Some, IfSome, IfNone, IfOk, OnOk, OnErr, IfErr, ◌⊎◌, vec_len, vec_capacity, IsErrOf};
 ghost use Rattle.sdd_base.specs.State.{NoneFree, NoCellFree, emptiness};
 ghost use Rattle.std.specs.List.{sum_by};
 ghost use Rattle.sdd_base.specs.Frame.{OnlyParticipant};

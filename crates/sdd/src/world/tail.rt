@@ -1,12 +1,12 @@
 //! The end of a list whose last entry is kept by a second cell.
 
-ghost use Rattle.std.specs.Prelude.{◌≡◌, ◌<◌, Some, None, Option, List, ◌∷◌, ◌++◌, [], ℕ, length};
-ghost use Rattle.sdd_base.specs.State.{State, cell_at, status_at};
+ghost use Rattle.std.specs.Prelude.{◌≡◌, ◌<◌, Some, None, Option, ℕ, length};
+ghost use Rattle.sdd_base.specs.State.{cell_at};
 ghost use Rattle.sdd_base.specs.Frame.{OnlyParticipant};
 ghost use Rattle.sdd_base.specs.Place.{IsShared, IsSharedCell};
 ghost use Rattle.sdd_base.specs.Tokens.{shared_cell, shared_slot};
-ghost use Rattle.sdd.specs.Chain.{Entry, IsList, Hangs, IsDetached, Leaves, Stays, links, slots};
-ghost use Rattle.sdd.specs.Queues.{IsQueue, Follows, CanFollow, HasTwo, cell_vacated};
+ghost use Rattle.sdd.specs.Chain.{Stays};
+ghost use Rattle.sdd.specs.Queues.{CanFollow, HasTwo, cell_vacated};
 ghost use Rattle.sdd.specs.Calls.{AppendsLast, ClearsNewest};
 
 use crate::linked_list::LinkedList;

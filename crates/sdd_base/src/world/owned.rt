@@ -1,6 +1,6 @@
 //! Items with one owner.
 
-ghost use Rattle.std.specs.Prelude.{◌≡◌, ◌≢◌, ◌<◌, ℕ, length, IfOk, IfErr, IfSome, OnOk, OnErr, Some, None, ◌↔◌, IsSome, IfNone, IsErr, IsTrue, IsFalse};
+ghost use Rattle.std.specs.Prelude.{◌≡◌, ◌≢◌, ◌<◌, ℕ, length, IfOk, IfErr, IfSome, OnOk, OnErr, Some, None, ◌↔◌, IfNone, IsErr, IsTrue, IsFalse};
 ghost use Rattle.std.specs.Borrow.{LendsIfOk, sem};
 ghost use Rattle.sdd_base.specs.State.{local_at, IsFree, NoneFree, placed, value_at, retired, with_status, status_at};
 ghost use Rattle.sdd_base.specs.Frame.{Frame, OnlyParticipant};

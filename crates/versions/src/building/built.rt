@@ -1,6 +1,6 @@
 //! Building versions, each of an older one.
 
-ghost use Rattle.std.specs.Prelude.{◌≡◌, ◌≤◌, ◌<◌, ◌+◌, ◌*◌, [], ◌/◌, ◌-◌, ◌^◌, IfOk, length, vec_capacity, Some, slice_get};
+ghost use Rattle.std.specs.Prelude.{◌≡◌, ◌≤◌, ◌<◌, ◌+◌, ◌*◌, [], ◌/◌, ◌-◌, ◌^◌, IfOk, length, vec_capacity};
 ghost use Rattle.leaf_array.specs.Values.{ClonesAreSame};
 ghost use Rattle.sdd_base.specs.State.{value_at};
 ghost use Rattle.std.specs.List.{All};
