@@ -53,7 +53,7 @@ module _ (S : Type 0) (IsIn : Content → S → Type 0) (plan : Plan) where
     abbrev pub c : ℕ
     c = r.book.share o.slot p
 
-    lies : r.book.what (home n o.slot p) ≡ part o.round c
+    lies : r.book.what (home plan.sizes.slots o.slot p) ≡ part o.round c
     lies = let f = r.items.parts.full_at o.slot o.item stand.0 stand.1 in let w = own in f.homes p low unleased ∙ ap (λ z. part z c) (ap (λ (z : Item). z.value) (same_at r.state.items o.item f.it w.0 f.here w.1) ∙ w.2)
 
     -- an owner has one part, so the participant hasn't all of them
@@ -61,8 +61,8 @@ module _ (S : Type 0) (IsIn : Content → S → Type 0) (plan : Plan) where
     few = let f = r.items.parts.full_at o.slot o.item stand.0 stand.1 in let w = own in let g = r.items.hands o.item w.0 w.1 in let some_ = owned_some owners_in_hand o.item s.views id d at in let mine = mine_some owners_in_hand o.item d o in_hand refl in let count = (r.kept.0.owned o.item w.0 w.1).counted in
         let same = ap (λ (z : Item). z.owners) (same_at r.state.items o.item f.it w.0 f.here w.1) in let all = f.sum in let part_of_all = total_put n (r.book.share o.slot) p 0 low in omega arith
 
-    pub found : (u : S) × (get_elem? s.homes (home n o.slot p) ≡ some (some u)) × IsIn (part o.round c) u
-    found = let f = r.items.lying.low (home n o.slot p) (home_in n plan.sizes.slots o.slot p stand.0 (omega (arith, low))) (λ e. let bad : part o.round c ≡ away = sym lies ∙ e in absurd (cc)) in (f.0, f.1, subst (λ z. IsIn z f.0) lies f.2)
+    pub found : (u : S) × (get_elem? s.homes (home plan.sizes.slots o.slot p) ≡ some (some u)) × IsIn (part o.round c) u
+    found = let f = r.items.lying.low (home plan.sizes.slots o.slot p) (home_in n plan.sizes.slots o.slot p stand.0 (omega (arith, low))) (λ e. let bad : part o.round c ≡ away = sym lies ∙ e in absurd (cc)) in (f.0, f.1, subst (λ z. IsIn z f.0) lies f.2)
 
     abbrev new : Lease
     new = lease o.slot o.item c o.round
@@ -79,16 +79,16 @@ module _ (S : Type 0) (IsIn : Content → S → Type 0) (plan : Plan) where
     reasons : (q : ℕ) (l : Lease) → Has (r.book.out q) l → Why r.state (Grip s.views) q l.item → Why r.state (Grip (set s.views id d')) q l.item
     reasons q l _ = ⊎_elim (λ (t : Loads r.state q l.item). inl t) (λ (g : Grip s.views q l.item). inr (grip_set s.views id d d' at (λ _ _ h. let one = h.2 in absurd (omega arith)) q l.item g))
 
-    kept : Parts n plan.sizes.slots r.state.items (Why r.state (Grip (set s.views id d'))) (record r.book { out = out'; what = put r.book.what (home n o.slot p) away })
+    kept : Parts n plan.sizes.slots r.state.items (Why r.state (Grip (set s.views id d'))) (record r.book { out = out'; what = put r.book.what (home plan.sizes.slots o.slot p) away })
     kept = let w = own in parts.loads (parts.stays r.items.parts r.state.items (Why r.state (Grip (set s.views id d'))) (λ m z at_z. (z, at_z, refl, refl)) reasons) p o.slot o.item o.round low stand.0 stand.1 unleased (inr grip)
         (λ z at_z. ap (λ (q : Item). q.value) (same_at r.state.items o.item z w.0 at_z w.1) ∙ w.2)
 
-    pub shown_begin : (i : ℕ) → Shows IsIn plan record { words = set s.words i (get_or s.words i 0); homes = set s.homes (home n o.slot p) none; views = set s.views id d' }
-    shown_begin i = let b = r.items.seats id d at kind in let a = r.epochs.seats id d at kind in subst (λ ws. Shows IsIn plan record { words = ws; homes = set s.homes (home n o.slot p) none; views = set s.views id d' }) (sym (set-get_or s.words i 0))
-        (items_change S IsIn plan s r id d d' r.state s.words (set s.homes (home n o.slot p) none) (record r.book { out = out'; what = put r.book.what (home n o.slot p) away }) at kind refl refl refl refl ([], refl) refl refl (reads_only S IsIn plan s r id d d' at kind refl)
-        (leased r.items r.state.participants out' (put r.book.what (home n o.slot p) away) s.words (set s.homes (home n o.slot p) none) id d d' at kind (record {
+    pub shown_begin : (i : ℕ) → Shows IsIn plan record { words = set s.words i (get_or s.words i 0); homes = set s.homes (home plan.sizes.slots o.slot p) none; views = set s.views id d' }
+    shown_begin i = let b = r.items.seats id d at kind in let a = r.epochs.seats id d at kind in subst (λ ws. Shows IsIn plan record { words = ws; homes = set s.homes (home plan.sizes.slots o.slot p) none; views = set s.views id d' }) (sym (set-get_or s.words i 0))
+        (items_change S IsIn plan s r id d d' r.state s.words (set s.homes (home plan.sizes.slots o.slot p) none) (record r.book { out = out'; what = put r.book.what (home plan.sizes.slots o.slot p) away }) at kind refl refl refl refl ([], refl) refl refl (reads_only S IsIn plan s r id d d' at kind refl)
+        (leased r.items r.state.participants out' (put r.book.what (home plan.sizes.slots o.slot p) away) s.words (set s.homes (home plan.sizes.slots o.slot p) none) id d d' at kind (record {
           parts = kept;
-          lying = takes_low r.items.lying (home n o.slot p) (home_in n plan.sizes.slots o.slot p stand.0 (omega (arith, low)));
+          lying = takes_low r.items.lying (home plan.sizes.slots o.slot p) (home_in n plan.sizes.slots o.slot p stand.0 (omega (arith, low)));
           mine = put_here r.book.out p (r.book.out p ++ new ∷ []) ∙ ap (λ ls. ls ++ new ∷ []) b.leases;
           others = λ q ne. put_else r.book.out p (r.book.out p ++ new ∷ []) q ne;
           same = refl;
@@ -99,7 +99,7 @@ module _ (S : Type 0) (IsIn : Content → S → Type 0) (plan : Plan) where
 
   pub begins : (slots id i : ℕ) (me : Me S Acting) (o : Owner) (os : List Owner) → me.0.kind ≡ 1 → me.0.releasing ≡ 0 → me.0.hand ≡ o ∷ os → ¬ Lends me.0.leases o.slot → Allows (Shows IsIn plan) slots id me i (λ w. w) (begin_then IsIn (step slots i 0 0 none) me)
   begins slots id i me o os kind idle first free s r _ at _ = let d = me.0 in let f = found s r id d o os at kind idle first free in let v : Acting = d' s r id d o os at kind idle first free in
-      let sizes = ap (λ (z : Sizes). home z.participants o.slot d.number) (r.items.seats id d at kind).sizes_are in (
+      let sizes = ap (λ (z : Sizes). home z.slots o.slot d.number) (r.items.seats id d at kind).sizes_are in (
         v,
         takes (own_home d o.slot) f.0,
         ap (get_elem? s.homes) sizes ∙ f.1,

@@ -51,7 +51,7 @@ module _ (S : Type 0) (IsIn : Content → S → Type 0) (plan : Plan) where
     y : Leased n plan.sizes.slots r.state.items (Why r.state (Grip s.views)) r.book.stage r.book.share p l
     y = r.items.parts.leases p l in_out
 
-    f : Full n r.state.items r.book.slot_of (r.book.share l.slot) r.book.out r.book.what (r.book.held l.slot) l.slot l.item
+    f : Full n plan.sizes.slots r.state.items r.book.slot_of (r.book.share l.slot) r.book.out r.book.what (r.book.held l.slot) l.slot l.item
     f = r.items.parts.full_at l.slot l.item y.inside y.is
 
     abbrev it : Item

@@ -49,9 +49,9 @@ module _ {S : Type 0} (IsIn : Content → S → Type 0) (d : Acting) where
   -- a view with the same homes has the same ones
   refilled_on : (d' : Acting) → d'.sizes ≡ d.sizes → d'.number ≡ d.number → (ls : List Lease) (carried tail : List (ℕ × S)) → Refilled IsIn d ls carried tail → Refilled IsIn d' ls carried tail
   refilled_on d' sizes number [] carried tail is = is
-  refilled_on d' sizes number (l ∷ ls) carried tail r = (r.0, r.1, r.2, r.3 ∙ ap (λ (z : Sizes × ℕ). (home z.0.participants l.slot z.1, r.0) ∷ r.1) (λ j. (sym sizes j, sym number j)), refilled_on d' sizes number ls r.1 tail r.4)
+  refilled_on d' sizes number (l ∷ ls) carried tail r = (r.0, r.1, r.2, r.3 ∙ ap (λ (z : Sizes × ℕ). (home z.0.slots l.slot z.1, r.0) ∷ r.1) (λ j. (sym sizes j, sym number j)), refilled_on d' sizes number ls r.1 tail r.4)
 
-  module _ (n slots spares p : ℕ) (items : List Item) (reason : ℕ → ℕ → Type 0) (low : p < n) (own : (k : ℕ) → own_home d k ≡ home n k p) where
+  module _ (n slots spares p : ℕ) (items : List Item) (reason : ℕ → ℕ → Type 0) (low : p < n) (own : (k : ℕ) → own_home d k ≡ home slots k p) where
     pub record Given (book : Book) (homes' : List (maybe.Option S)) : Type 0 where
       pub out : ℕ → List Lease
       pub what : ℕ → Content
@@ -64,7 +64,7 @@ module _ {S : Type 0} (IsIn : Content → S → Type 0) (d : Acting) where
         → Given book (table.homes_after homes carried (give_all ls))
     gives_all [] book homes carried tail r lies is filled = record { out = book.out; what = book.what; none_left = is; others = λ q _. refl; counted = r; lying = lies }
     gives_all (l ∷ ls) book homes carried tail r lies is filled = let back = returns_first (book.out p) l ls is (r.once p) in let y = r.leases p l back.had in let f = r.full_at l.slot l.item y.inside y.is in
-        let i : ℕ = home n l.slot p in let x : Content = part f.it.value l.count in let u : S = filled.0 in
+        let i : ℕ = home slots l.slot p in let x : Content = part f.it.value l.count in let u : S = filled.0 in
         let book1 : Book = record book { out = put book.out p ls; what = put book.what i x } in let homes1 = table.put_back homes carried in
         let lies1 : Lying IsIn (slots * suc n) spares book1.what book1.extra homes1 = subst (λ (cs : List (ℕ × S)). Lying IsIn (slots * suc n) spares book1.what book1.extra (table.put_back homes cs)) (sym filled.3)
         (subst (λ z. Lying IsIn (slots * suc n) spares book1.what book1.extra (set homes z (some u))) (sym (own l.slot))
@@ -89,7 +89,7 @@ module _ (S : Type 0) (IsIn : Content → S → Type 0) (plan : Plan) where
       (λ s r _ at _. let d = me.0 in let q : ℕ = d.number in let n : ℕ = plan.sizes.participants in let a = r.epochs.seats id d at kind in let b = r.items.seats id d at kind in let x = d.known in let d' = ending d in let i : ℕ = state_word q in
       let core = with_participant r.state q (closing x) in let words' = set s.words i 0 in let wide = r.epochs.wide in let many = r.epochs.many in let inside = at_inside r.state.participants q x a.is in
       let homes' = table.homes_after s.homes me.1 (give_all IsIn d d.leases) in let carried = given IsIn d d.leases me.1 tail filled in
-      let g = gives_all IsIn d n plan.sizes.slots (plan.sizes.cells + n + n) q r.state.items (Why r.state (Grip s.views)) (omega arith) (λ k. ap (λ (z : Sizes). home z.participants k q) b.sizes_are) d.leases r.book s.homes me.1 tail r.items.parts r.items.lying b.leases filled in
+      let g = gives_all IsIn d n plan.sizes.slots (plan.sizes.cells + n + n) q r.state.items (Why r.state (Grip s.views)) (omega arith) (λ k. ap (λ (z : Sizes). home z.slots k q) b.sizes_are) d.leases r.book s.homes me.1 tail r.items.parts r.items.lying b.leases filled in
       let m : Moves r.state r.born d d' = (record {
         core = core;
         runs = taken.one r.state (Close q) core (taken.closes r.state q x a.is e is (sym found));

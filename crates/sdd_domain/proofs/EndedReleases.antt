@@ -60,7 +60,7 @@ module _ (S : Type 0) (IsIn : Content → S → Type 0) (plan : Plan) where
     abbrev y : Leased n plan.sizes.slots r.state.items (Why r.state (Grip s.views)) r.book.stage r.book.share p l
     y = releases.y S IsIn plan s r id d l o os at kind ready has first slot
 
-    abbrev f : Full n r.state.items r.book.slot_of (r.book.share k) r.book.out r.book.what (r.book.held k) k i
+    abbrev f : Full n plan.sizes.slots r.state.items r.book.slot_of (r.book.share k) r.book.out r.book.what (r.book.held k) k i
     f = releases.f S IsIn plan s r id d l o os at kind ready has first slot
 
     abbrev it : Item
@@ -100,7 +100,7 @@ module _ (S : Type 0) (IsIn : Content → S → Type 0) (plan : Plan) where
     share' = put r.book.share k (put (r.book.share k) p c)
 
     abbrev what' : ℕ → Content
-    what' = put r.book.what (home n k p) (part it'.value c)
+    what' = put r.book.what (home plan.sizes.slots k p) (part it'.value c)
 
     abbrev items' : List Item
     items' = set r.state.items i it'
@@ -143,10 +143,10 @@ module _ (S : Type 0) (IsIn : Content → S → Type 0) (plan : Plan) where
 
     module _ (u : S) (is_in : IsIn (part l.round (l.count + 1)) u) where
       abbrev homes' : List (maybe.Option S)
-      homes' = set s.homes (home n k p) (some u)
+      homes' = set s.homes (home plan.sizes.slots k p) (some u)
 
       lies : Lying IsIn (all_homes plan.sizes) (all_extras plan.sizes) what' r.book.extra homes'
-      lies = let low = y.low in let z = y.count in let one : l.count + 1 ≡ c = omega arith in gives_low r.items.lying (home n k p) (part it'.value c) u (home_in n plan.sizes.slots k p y.inside (omega arith))
+      lies = let low = y.low in let z = y.count in let one : l.count + 1 ≡ c = omega arith in gives_low r.items.lying (home plan.sizes.slots k p) (part it'.value c) u (home_in n plan.sizes.slots k p y.inside (omega arith))
           (subst (λ (w : ℕ × ℕ). IsIn (part w.0 w.1) u) (λ j. (sym (y.round it f.here) j, one j)) is_in)
 
       retires_now : (w : Garbage) → Has (retiring (2 + it.owners) l d.waits) w → IsWaiting items' r.book.slot_of p w
@@ -190,8 +190,8 @@ module _ (S : Type 0) (IsIn : Content → S → Type 0) (plan : Plan) where
   ends_one slots id me l ls o os tail kind ready can s r _ at fits = let d = me.0 in let i : ℕ = slot_word plan.sizes l.slot in let m : ℕ = get_or s.words i 0 in let more = some_left s r id d l ls o os at kind ready can.0 can.1 can.2 can.3 in
       let held : Has d.hand o = subst (λ (z : List Owner). Has z o) (sym can.1) (inl refl) in let room = subst (λ (z : Sizes). length d.waits < z.slots) (sym (r.items.seats id d at kind).sizes_are) (fewer_wait S IsIn plan s r id d o at kind held) in
       let u = can.4.0 in let once = subst Apart (r.items.seats id d at kind).leases (r.items.parts.once d.number) in let d' = ended_release m l ls os d in
-      let shown = subst (λ (z : Sizes). Shows IsIn plan record { words = set s.words i (m - 1); homes = set s.homes (home z.participants l.slot d.number) (some u); views = set s.views id d' }) (sym (r.items.seats id d at kind).sizes_are)
-      (subst (λ z. Shows IsIn plan record { words = set s.words i (m - 1); homes = set s.homes (home n l.slot d.number) (some u); views = set s.views id (ended_release z l ls os d) }) (sym (word_is s r id d l ls o os at kind ready can.0 can.1 can.2 can.3)) (shown_end s r id d l ls o os at kind ready can.0 can.1 can.2 can.3 u can.4.1)) in
+      let shown = subst (λ (z : Sizes). Shows IsIn plan record { words = set s.words i (m - 1); homes = set s.homes (home z.slots l.slot d.number) (some u); views = set s.views id d' }) (sym (r.items.seats id d at kind).sizes_are)
+      (subst (λ z. Shows IsIn plan record { words = set s.words i (m - 1); homes = set s.homes (home plan.sizes.slots l.slot d.number) (some u); views = set s.views id (ended_release z l ls os d) }) (sym (word_is s r id d l ls o os at kind ready can.0 can.1 can.2 can.3)) (shown_end s r id d l ls o os at kind ready can.0 can.1 can.2 can.3 u can.4.1)) in
       let kept = subst (λ z. Shows IsIn plan record { words = set s.words i z; homes = set s.homes (own_home d l.slot) (some u); views = set s.views id d' }) (sym (less_one m (omega arith) fits)) shown in (
         d',
         gives,

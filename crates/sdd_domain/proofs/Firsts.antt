@@ -1,7 +1,8 @@
 -- the words and slots of a new place show that there is no item
-use Rattle.std.proofs.Common.{◌≡◌, ℕ, zero, suc, ◌+◌, ◌-◌, ◌*◌, ◌%◌, ◌<◌, List, [], ◌∷◌, ◌++◌, length, map, replicate, get_or, sym, refl, ap, ◌∙◌, subst, ⊎_elim, arith, Option, None, length-append, cond, nat_lt, lt-ltb, le-ltb}
+use Rattle.std.proofs.Common.{◌≡◌, ℕ, zero, suc, ◌+◌, ◌-◌, ◌*◌, ◌<◌, ◌≤◌, List, [], ◌∷◌, ◌++◌, length, map, replicate, get_or, sym, refl, ap, ◌∙◌, subst, ⊎_elim, arith, Option, None, length-append, cond, nat_lt, lt-ltb, le-ltb}
 use Rattle.std.proofs.lemmas.List.{get_or_append_left, get_or-append_right}
-use Rattle.std.proofs.lemmas.Nat.{mod-mul-add}
+use Rattle.std.proofs.Math.Nat.{suc-mul}
+use Rattle.std.proofs.lemmas.Nat.{mul-le}
 use mathlib.Core.Logic.{dite}
 use mathlib.Core.Option.{some, some-ne-none}
 use native.Mathlib.Decide.{ℕ_discrete, dec_le}
@@ -11,10 +12,12 @@ use Rattle.sdd_steps.specs.declared.item.Cell.{Cell}
 use Rattle.sdd_steps.specs.State.{At, Has, empty_cell}
 use Rattle.sdd_steps.specs.Invariant.{names_of}
 use Rattle.sdd_steps.proofs.ListLemmas.{at_map, at_mapped, at_inside, at_replicate, find_at, at_end}
-use Rattle.sdd_homes.specs.Book.{Content, blank, bag, resting, vacant, Book}
+use Rattle.sdd_homes.specs.Book.{Content, blank, bag, room, home, resting, vacant, Book}
 use Rattle.sdd_homes.specs.Spares.{IsKept}
+use Rattle.sdd_homes.proofs.Fillings.{resting_own, resting_else}
+use Rattle.sdd_domain.specs.Contents.{first_in_home}
 use Rattle.sdd_domain.specs.Views.{spent}
-use Rattle.sdd_domain.specs.Layout.{state_word, claim_word, cell_word, all_words, all_homes, all_spares, all_extras, bag_place, packed}
+use Rattle.sdd_domain.specs.Layout.{state_word, claim_word, cell_word, all_words, all_homes, own_homes, all_spares, all_extras, bag_place, packed}
 use Rattle.sdd_domain.specs.Items.{code, Items}
 use Rattle.sdd_domain.specs.Rule.{beginning, numbers, first_eight, first_eights, first_words}
 use Rattle.sdd_domain.specs.declared.board.Acting.{Acting}
@@ -90,10 +93,16 @@ module _ (plan : Plan) where
 
 -- all slots are free, each user has the spare slot of its own number, and bags are empty
 abbrev pub first_book : Sizes → Book
-first_book sizes = record { stage = λ _. vacant; share = λ _ _. 0; slot_of = λ _. 0; held = λ _. []; out = λ _. []; left = λ _. []; what = λ i. resting sizes.participants (i % suc sizes.participants); spare = λ u. u; user = λ u. u; extra = λ y. cond (nat_lt y (all_spares sizes)) blank (bag sizes.slots []) }
+first_book sizes = record { stage = λ _. vacant; share = λ _ _. 0; slot_of = λ _. 0; held = λ _. []; out = λ _. []; left = λ _. []; what = first_in_home (own_homes sizes); spare = λ u. u; user = λ u. u; extra = λ y. cond (nat_lt y (all_spares sizes)) blank (bag sizes.slots []) }
 
 abbrev extra_first : Sizes → ℕ → Content
 extra_first sizes y = cond (nat_lt y (all_spares sizes)) blank (bag sizes.slots [])
+
+-- these are the homes of free slots
+rests_first : (sizes : Sizes) (k p : ℕ) → k < sizes.slots → p < suc sizes.participants → first_in_home (own_homes sizes) (home sizes.slots k p) ≡ resting sizes.participants p
+rests_first sizes k p lk lp = let n : ℕ = sizes.participants in let m : ℕ = sizes.slots in dite (ℕ_discrete p n)
+    (λ e. let f : p * m ≡ n * m = ap (λ z. z * m) e in ap (λ b. cond b blank room) (le-ltb (home m k p) (n * m) (omega arith)) ∙ sym (resting_own n p e))
+    (λ ne. let most : suc p * m ≤ n * m = mul-le (suc p) m n m (omega arith) (omega arith) in let one : suc p * m ≡ p * m + m = suc-mul p m in ap (λ b. cond b blank room) (lt-ltb (home m k p) (n * m) (omega arith)) ∙ sym (resting_else n p ne))
 
 spare_first : (sizes : Sizes) (y : ℕ) → y < all_spares sizes → extra_first sizes y ≡ blank
 spare_first sizes y lt = ap (λ b. cond b blank (bag sizes.slots [])) (lt-ltb y (all_spares sizes) lt)
@@ -110,7 +119,7 @@ only j d at = ⊎_elim (λ (h : At [] j d). absurd (some-ne-none d (sym h))) (λ
 -- the slots of a new place: the homes are those of free slots, the spare slots behind them are empty, and so are the bags behind those
 pub record FirstSlots {S : Type 0} (IsIn : Content → S → Type 0) (sizes : Sizes) (slots : List S) : Type 0 where
   pub long : length slots ≡ all_homes sizes + all_extras sizes
-  pub low : (i : ℕ) (y : S) → i < all_homes sizes → At slots i y → IsIn (resting sizes.participants (i % suc sizes.participants)) y
+  pub low : (i : ℕ) (y : S) → i < all_homes sizes → At slots i y → IsIn (first_in_home (own_homes sizes) i) y
   pub high : (i : ℕ) (y : S) → i < all_spares sizes → At slots (all_homes sizes + i) y → IsIn blank y
   pub bags : (p : ℕ) (y : S) → p < sizes.participants → At slots (all_homes sizes + bag_place sizes p) y → IsIn (bag sizes.slots []) y
 
@@ -123,11 +132,11 @@ module _ {S : Type 0} {IsIn : Content → S → Type 0} (plan : Plan) (words : L
       → Items IsIn plan.sizes (beginning plan) (first_book plan.sizes) words (map some slots) (spent ∷ [])
   items_begin long claims cells f = let n = plan.sizes.participants in let many = many_of plan.sizes.cells empty_cell in
       let long_slots = f.long in let found : (x : Content) (i : ℕ) → i < length slots → ((y : S) → At slots i y → IsIn x y) → Found IsIn slots x i = (λ x i lt is. let t = find_at slots i lt in (t.0, at_map some slots i t.0 t.1, is t.0 t.1)) in record {
-        parts = record { full_at = λ k i _ e. absurd (cc); partly_at = λ k f _ e. absurd (cc); vacant_at = λ k p _ _ lt. ap (resting n) (mod-mul-add k (suc n) p lt); leases = λ p l h. absurd h; once = λ _. tt };
+        parts = record { full_at = λ k i _ e. absurd (cc); partly_at = λ k f _ e. absurd (cc); vacant_at = λ k p lk _ lp. rests_first plan.sizes k p lk lp; leases = λ p l h. absurd h; once = λ _. tt };
         spares = record { users = λ _ _. refl; range = λ _ lt. lt; kept = λ c o lc at. subst (λ z. IsKept [] z (extra_first plan.sizes c)) (sym (named_none plan c o at)) (spare_first plan.sizes c (omega arith)) };
         lying = record {
           long = length-map slots some ∙ long_slots;
-          low = λ i lt _. found (resting n (i % suc n)) i (omega arith) (λ y. f.low i y lt);
+          low = λ i lt _. found (first_in_home (own_homes plan.sizes) i) i (omega arith) (λ y. f.low i y lt);
           high = λ i lt _. dite (dec_le (suc i) (all_spares plan.sizes))
               (λ low. subst (λ b. Found IsIn slots (cond b blank (bag plan.sizes.slots [])) (all_homes plan.sizes + i)) (sym (lt-ltb i (all_spares plan.sizes) low)) (found blank (all_homes plan.sizes + i) (omega arith) (λ y. f.high i y low)))
               (λ up. let p : ℕ = i - all_spares plan.sizes in let is : i ≡ bag_place plan.sizes p = omega arith in subst (λ b. Found IsIn slots (cond b blank (bag plan.sizes.slots [])) (all_homes plan.sizes + i)) (sym (le-ltb i (all_spares plan.sizes) (omega arith)))

@@ -43,7 +43,7 @@ module _ (S : Type 0) (IsIn : Content → S → Type 0) (plan : Plan) where
     y : Leased n plan.sizes.slots r.state.items (Why r.state (Grip s.views)) r.book.stage r.book.share p l
     y = r.items.parts.leases p l (subst (λ (z : List Lease). Has z l) (sym out_is) (has_last ls l))
 
-    f : Full n r.state.items r.book.slot_of (r.book.share l.slot) r.book.out r.book.what (r.book.held l.slot) l.slot l.item
+    f : Full n plan.sizes.slots r.state.items r.book.slot_of (r.book.share l.slot) r.book.out r.book.what (r.book.held l.slot) l.slot l.item
     f = r.items.parts.full_at l.slot l.item y.inside y.is
 
     apart : Apart ls × ¬ Lends ls l.slot
@@ -56,7 +56,7 @@ module _ (S : Type 0) (IsIn : Content → S → Type 0) (plan : Plan) where
     out' = put r.book.out p ls
 
     abbrev what' : ℕ → Content
-    what' = put r.book.what (home n l.slot p) (part f.it.value l.count)
+    what' = put r.book.what (home plan.sizes.slots l.slot p) (part f.it.value l.count)
 
     abbrev pub d' : Acting
     d' = record d { leases = ls; releasing = 0 }
@@ -80,10 +80,10 @@ module _ (S : Type 0) (IsIn : Content → S → Type 0) (plan : Plan) where
 
     module _ (u : S) (is_in : IsIn (part l.round l.count) u) where
       abbrev homes' : List (maybe.Option S)
-      homes' = set s.homes (home n l.slot p) (some u)
+      homes' = set s.homes (home plan.sizes.slots l.slot p) (some u)
 
       lies : Lying IsIn (all_homes plan.sizes) (all_extras plan.sizes) what' r.book.extra homes'
-      lies = let low = y.low in gives_low r.items.lying (home n l.slot p) (part f.it.value l.count) u (home_in n plan.sizes.slots l.slot p y.inside (omega arith)) (subst (λ v. IsIn (part v l.count) u) (sym (y.round f.it f.here)) is_in)
+      lies = let low = y.low in gives_low r.items.lying (home plan.sizes.slots l.slot p) (part f.it.value l.count) u (home_in n plan.sizes.slots l.slot p y.inside (omega arith)) (subst (λ v. IsIn (part v l.count) u) (sym (y.round f.it f.here)) is_in)
 
       pub shown_keep : (i : ℕ) → Shows IsIn plan record { words = set s.words i (get_or s.words i 0); homes = homes'; views = views' }
       shown_keep i = let a = r.epochs.seats id d at kind in subst (λ ws. Shows IsIn plan record { words = ws; homes = homes'; views = views' }) (sym (set-get_or s.words i 0))
@@ -111,7 +111,7 @@ one_last (x ∷ ls) (y ∷ ls') l l' e = let first : x ≡ y = cc in let others 
 module _ (S : Type 0) (IsIn : Content → S → Type 0) (plan : Plan) where
   pub keeps_home : (slots id i : ℕ) (me : Me S Acting) (l : Lease) (ls : List Lease) (tail : List (ℕ × S)) → me.0.kind ≡ 1 → CanKeep IsIn me l ls tail → Allows (Shows IsIn plan) slots id me i (λ w. w) (keep_then IsIn (step slots i 0 0 none) me)
   keeps_home slots id i me l ls tail kind can s r _ at _ = let d = me.0 in let u = can.2.0 in let v : Acting = record d { leases = ls; releasing = 0 } in
-      let shown = subst (λ (z : Sizes). Shows IsIn plan record { words = set s.words i (get_or s.words i 0); homes = set s.homes (home z.participants l.slot d.number) (some u); views = set s.views id v }) (sym (r.items.seats id d at kind).sizes_are) (shown_keep S IsIn plan s r id d l ls at kind can.0 can.1 u can.2.1 i) in (
+      let shown = subst (λ (z : Sizes). Shows IsIn plan record { words = set s.words i (get_or s.words i 0); homes = set s.homes (home z.slots l.slot d.number) (some u); views = set s.views id v }) (sym (r.items.seats id d at kind).sizes_are) (shown_keep S IsIn plan s r id d l ls at kind can.0 can.1 u can.2.1 i) in (
         v,
         gives,
         tt,

@@ -1,9 +1,9 @@
 -- the homes of what is leased, as they are filled again
-use Rattle.std.proofs.Common.{◌≡◌, ◌<◌, ℕ, suc, ◌+◌, ◌*◌, List, [], ◌∷◌, ◌++◌, map, length, drop, slice_index_or, ⊎_elim, append_assoc, refl, sym, ap, ◌∙◌, subst, arith}
+use Rattle.std.proofs.Common.{◌≡◌, ◌<◌, ℕ, suc, ◌+◌, List, [], ◌∷◌, ◌++◌, map, length, drop, slice_index_or, ⊎_elim, append_assoc, refl, sym, ap, ◌∙◌, subst, arith}
 use Rattle.atomic_table.specs.Table.{Me, rest, turned}
 use Rattle.sdd_steps.specs.State.{Has}
 use Rattle.sdd_homes.specs.declared.Lease.{Lease}
-use Rattle.sdd_homes.specs.Book.{Content, part, home}
+use Rattle.sdd_homes.specs.Book.{Content, part}
 use Rattle.sdd_domain.specs.Contents.{IsIn, blanks}
 use Rattle.sdd_domain.specs.Leases.{row_told, lease_told, leased_homes}
 use Rattle.sdd_domain.specs.Plays.{Refilled, own_home}
@@ -33,10 +33,6 @@ module _ {S : Type 0} (IsIn : Content → S → Type 0) (d : Acting) where
   pub filled_ahead : (ls : List Lease) (xs t : List (ℕ × S)) → Refilled IsIn d ls xs [] → Refilled IsIn d ls (xs ++ t) t
   filled_ahead [] xs t e = ap (λ (ys : List (ℕ × S)). ys ++ t) e
   filled_ahead (l ∷ ls) xs t r = (r.0, r.1 ++ t, r.2, ap (λ (ys : List (ℕ × S)). ys ++ t) r.3, filled_ahead ls r.1 t r.4)
-
--- where a home lies, as it is computed
-pub home_at : (n k p : ℕ) → home n k p ≡ k * (n + 1) + p
-home_at n k p = let next : suc n ≡ n + 1 = omega arith in ap (λ z. k * z + p) next
 
 -- so many empty slots in front are passed over
 pub drop_blanks : {T : Type 0} (d : Acting) (ls : List Lease) (t : List (ℕ × Home T)) → drop (length ls) (blanks (leased_homes d ls) ++ t) ≡ t

@@ -151,11 +151,11 @@ module _ (S : Type 0) (IsIn : Content → S → Type 0) (plan : Plan) where
       unleased : ¬ Lends (r.book.out p) k
       unleased has = free (subst (λ ls. Lends ls k) (r.items.seats id d at kind).leases has)
 
-      pub lies : r.book.what (home n k p) ≡ part h.value count
+      pub lies : r.book.what (home plan.sizes.slots k p) ≡ part h.value count
       lies = let f = r.items.parts.full_at k i stand.0 stand.1 in f.homes p low unleased ∙ ap (λ (z : Item). part z.value count) (same_at r.state.items i f.it (item_at r.state i) f.here there.0)
 
-      pub found : (u : S) × (get_elem? s.homes (home n k p) ≡ some (some u)) × IsIn (part h.value count) u
-      found = let f = r.items.lying.low (home n k p) (home_in n plan.sizes.slots k p stand.0 (omega (arith, low))) (λ e. let bad : part h.value count ≡ away = sym lies ∙ e in absurd (cc)) in (f.0, f.1, subst (λ z. IsIn z f.0) lies f.2)
+      pub found : (u : S) × (get_elem? s.homes (home plan.sizes.slots k p) ≡ some (some u)) × IsIn (part h.value count) u
+      found = let f = r.items.lying.low (home plan.sizes.slots k p) (home_in n plan.sizes.slots k p stand.0 (omega (arith, low))) (λ e. let bad : part h.value count ≡ away = sym lies ∙ e in absurd (cc)) in (f.0, f.1, subst (λ z. IsIn z f.0) lies f.2)
 
       -- a participant has no more than all parts of an item
       pub few : count ≤ 2 ^ 63
@@ -169,7 +169,7 @@ module _ (S : Type 0) (IsIn : Content → S → Type 0) (plan : Plan) where
       out' = put r.book.out p (r.book.out p ++ new ∷ [])
 
       abbrev what' : ℕ → Content
-      what' = put r.book.what (home n k p) away
+      what' = put r.book.what (home plan.sizes.slots k p) away
 
       reasons : (q : ℕ) (l : Lease) → Has (r.book.out q) l → Why r.state (Grip s.views) q l.item → Why core (Grip (set s.views id d')) q l.item
       reasons q l _ y = ⊎_elim (λ (t : Loads r.state q l.item). inl (still_loaded q l.item t)) (λ (g : Grip s.views q l.item). inr (grip_set s.views id d d' at (λ _ _ t. t) q l.item g)) y
@@ -178,12 +178,12 @@ module _ (S : Type 0) (IsIn : Content → S → Type 0) (plan : Plan) where
       kept = parts.loads (parts.stays r.items.parts r.state.items (Why core (Grip (set s.views id d'))) (λ m z at_z. (z, at_z, refl, refl)) reasons) p k i h.value low stand.0 stand.1 unleased
           (inl (newly r.state p c i d.known a.is inside o at_c (r.items.alone c o at_c) names)) (λ z at_z. ap (λ (q : Item). q.value) (same_at r.state.items i z (item_at r.state i) at_z there.0))
 
-      pub newly_leased : (w : ℕ) → Shows IsIn plan record { words = set s.words w (get_or s.words w 0); homes = set s.homes (home n k p) none; views = set s.views id d' }
-      newly_leased w = let b = r.items.seats id d at kind in subst (λ ws. Shows IsIn plan record { words = ws; homes = set s.homes (home n k p) none; views = set s.views id d' }) (sym (set-get_or s.words w 0))
-          (moved S IsIn plan s r id d d' s.words (set s.homes (home n k p) none) (record r.book { out = out'; what = what' }) (goes (d.leases ++ new ∷ [])) at kind (reads_only S IsIn plan s r id d d' at kind refl)
-          (leased r.items core.participants out' what' s.words (set s.homes (home n k p) none) id d d' at kind (record {
+      pub newly_leased : (w : ℕ) → Shows IsIn plan record { words = set s.words w (get_or s.words w 0); homes = set s.homes (home plan.sizes.slots k p) none; views = set s.views id d' }
+      newly_leased w = let b = r.items.seats id d at kind in subst (λ ws. Shows IsIn plan record { words = ws; homes = set s.homes (home plan.sizes.slots k p) none; views = set s.views id d' }) (sym (set-get_or s.words w 0))
+          (moved S IsIn plan s r id d d' s.words (set s.homes (home plan.sizes.slots k p) none) (record r.book { out = out'; what = what' }) (goes (d.leases ++ new ∷ [])) at kind (reads_only S IsIn plan s r id d d' at kind refl)
+          (leased r.items core.participants out' what' s.words (set s.homes (home plan.sizes.slots k p) none) id d d' at kind (record {
             parts = kept;
-            lying = takes_low r.items.lying (home n k p) (home_in n plan.sizes.slots k p stand.0 (omega (arith, low)));
+            lying = takes_low r.items.lying (home plan.sizes.slots k p) (home_in n plan.sizes.slots k p stand.0 (omega (arith, low)));
             mine = put_here r.book.out p (r.book.out p ++ new ∷ []) ∙ ap (λ ls. ls ++ new ∷ []) b.leases;
             others = λ q ne. put_else r.book.out p (r.book.out p ++ new ∷ []) q ne;
             same = refl;
@@ -200,7 +200,7 @@ module _ (S : Type 0) (IsIn : Content → S → Type 0) (plan : Plan) where
         | None ↦ λ e. (d, keeps, tt, idles S IsIn plan s r w id d at, (y, omega arith, inl (r.items.cell_words c None (named_at None e), refl)))
         | Some i ↦ λ e. let k : ℕ = r.book.slot_of i in let word = r.items.cell_words c (Some i) (named_at (Some i) e) in let h = loaded_as r.state.items i in ⊎_elim
             (λ (had : Lends d.leases k). (loading h d.leases d, keeps, tt, again_leased s r id c i d at kind inside o.0 o.1 e w, (y, omega arith, inr (k, h, word, inl (is_leased s r id c i d at kind inside o.0 o.1 e had, refl)))))
-            (λ (free : ¬ Lends d.leases k). let f = found s r id c i d at kind inside o.0 o.1 e free in let b = r.items.seats id d at kind in let count : ℕ = r.book.share k d.number in let sizes = ap (λ (z : Sizes). home z.participants k d.number) b.sizes_are in (
+            (λ (free : ¬ Lends d.leases k). let f = found s r id c i d at kind inside o.0 o.1 e free in let b = r.items.seats id d at kind in let count : ℕ = r.book.share k d.number in let sizes = ap (λ (z : Sizes). home z.slots k d.number) b.sizes_are in (
               loading h (d.leases ++ lease k i count h.value ∷ []) d,
               takes (own_home d k) f.0,
               ap (get_elem? s.homes) sizes ∙ f.1,

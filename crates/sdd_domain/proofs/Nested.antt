@@ -23,4 +23,4 @@ no_rows life ls (r ∷ rows) told none = let same : map row_told (r ∷ rows) �
 
 -- a scan leaves what is leased where it is
 pub still_leased : {S : Type 0} (m m' : Me S Acting) → Steady m m' → leased_homes m'.0 m'.0.leases ≡ leased_homes m.0 m.0.leases
-still_leased m m' s = λ j. map (λ (l : Lease). home (s.3 j).participants l.slot (s.1 j)) (s.6 j)
+still_leased m m' s = λ j. map (λ (l : Lease). home (s.3 j).slots l.slot (s.1 j)) (s.6 j)

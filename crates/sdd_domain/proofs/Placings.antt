@@ -103,13 +103,13 @@ module _ (S : Type 0) (IsIn : Content → S → Type 0) (plan : Plan) where
     held' = put r.book.held k d.hand
 
     abbrev what' : ℕ → Content
-    what' = put r.book.what (home n k n) (deed f.round d.hand)
+    what' = put r.book.what (home plan.sizes.slots k n) (deed f.round d.hand)
 
     abbrev book' : Book
     book' = record r.book { stage = stage'; slot_of = slot_of'; held = held'; share = put r.book.share k (r.book.share k); what = what' }
 
     abbrev homes' : List (maybe.Option S)
-    homes' = set s.homes (home n k n) (some u)
+    homes' = set s.homes (home plan.sizes.slots k n) (some u)
 
     abbrev word : ℕ
     word = slot_word plan.sizes k
@@ -158,7 +158,7 @@ module _ (S : Type 0) (IsIn : Content → S → Type 0) (plan : Plan) where
     unplaced i e = let bad : partly f ≡ full i = sym has.2 ∙ e in absurd (cc)
 
     counted : Parts n plan.sizes.slots core.items (Why core (Grip views')) book'
-    counted = subst (λ (hs : List Owner). Parts n plan.sizes.slots core.items (Why core (Grip views')) (record book' { what = put r.book.what (home n k n) (deed f.round hs) })) (put_here r.book.held k d.hand)
+    counted = subst (λ (hs : List Owner). Parts n plan.sizes.slots core.items (Why core (Grip views')) (record book' { what = put r.book.what (home plan.sizes.slots k n) (deed f.round hs) })) (put_here r.book.held k d.hand)
         (fillings.places (parts.stays (fillings.reholds (fillings.renames r.items.parts i0 k (λ m l e. let g = r.items.parts.full_at m i0 l e in older i0 g.it g.here refl)) k d.hand unplaced) core.items (Why core (Grip views')) (alike_placed f.round holds r.state.items) reasons)
         k f has.0 has.2 i0 item all here refl (sym one) (put_here r.book.slot_of i0 k))
 
@@ -169,7 +169,7 @@ module _ (S : Type 0) (IsIn : Content → S → Type 0) (plan : Plan) where
     spares_now = let y = stays_kept r.items.spares core.items was in record { users = y.users; range = y.range; kept = y.kept }
 
     lies : Lying IsIn (all_homes plan.sizes) (all_extras plan.sizes) what' r.book.extra homes'
-    lies = gives_low r.items.lying (home n k n) (deed f.round d.hand) u (home_in n plan.sizes.slots k n has.0 (omega arith)) is_in
+    lies = gives_low r.items.lying (home plan.sizes.slots k n) (deed f.round d.hand) u (home_in n plan.sizes.slots k n has.0 (omega arith)) is_in
 
     stands : (i : ℕ) (w : Item) → At core.items i w → ((q : ℕ) → w.state ≢ Reclaimed q) → (slot_of' i < plan.sizes.slots) × (stage' (slot_of' i) ≡ full i)
     stands = placed_all f.round holds r.state.items (λ i w. ((q : ℕ) → w.state ≢ Reclaimed q) → (slot_of' i < plan.sizes.slots) × (stage' (slot_of' i) ≡ full i))
@@ -259,7 +259,7 @@ module _ (S : Type 0) (IsIn : Content → S → Type 0) (plan : Plan) where
   pub places_item : (slots id : ℕ) (me : Me S Acting) (f : Filling) (tail : List (ℕ × S)) → me.0.kind ≡ 1 → is_ready me.0.known ≡ true → me.0.releasing ≡ 0 → me.0.sizes ≡ plan.sizes → CanPlace IsIn me f tail
       → Allows (Shows IsIn plan) slots id me (slot_word plan.sizes me.0.slot) (λ _. 3) (place_then IsIn (step slots (slot_word plan.sizes me.0.slot) 3 0 none) me)
   places_item slots id me f tail kind ready idle sizes can s r _ at _ = let d = me.0 in let wide = ap (λ (z : Sizes). z.participants) sizes in let all = can.1 ∙ wide in let u = can.3.0 in let i : ℕ = slot_word plan.sizes d.slot in let d' = placing (length r.state.items) f d in
-      let shown = subst (λ z. Shows IsIn plan record { words = set s.words i 3; homes = set s.homes (home z d.slot z) (some u); views = set s.views id d' }) (sym wide) (shown_place s r id d at kind ready idle f can.0 all can.2 u can.3.1) in (
+      let shown = subst (λ (z : Sizes). Shows IsIn plan record { words = set s.words i 3; homes = set s.homes (home z.slots d.slot z.participants) (some u); views = set s.views id d' }) (sym sizes) (shown_place s r id d at kind ready idle f can.0 all can.2 u can.3.1) in (
         d',
         gives,
         tt,

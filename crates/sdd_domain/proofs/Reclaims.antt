@@ -152,13 +152,13 @@ module _ (S : Type 0) (IsIn : Content → S → Type 0) (plan : Plan) where
     stage' = put r.book.stage k (partly f)
 
     abbrev what' : ℕ → Content
-    what' = put r.book.what (home n k n) away
+    what' = put r.book.what (home plan.sizes.slots k n) away
 
     abbrev book' : Book
     book' = record r.book { stage = stage'; share = put r.book.share k (r.book.share k); what = what' }
 
     abbrev homes' : List (maybe.Option S)
-    homes' = set s.homes (home n k n) none
+    homes' = set s.homes (home plan.sizes.slots k n) none
 
     -- what an item was before
     was_there : (j : ℕ) (z : Item) → At core.items j z → (y : Item) × At r.state.items j y × (z.value ≡ y.value) × (z.hand ≡ y.hand + times j ks) × (z.owners ≡ y.owners) × ((j ≢ i) → z ≡ record y { hand = y.hand + times j ks })
@@ -192,15 +192,15 @@ module _ (S : Type 0) (IsIn : Content → S → Type 0) (plan : Plan) where
     free : (it'.owners ≡ 0) × ((q : ℕ) → ¬ Why core (Grip views') q i)
     free = reclaimed_free core (Grip views') kept grips i p it' here refl
 
-    opened : (r.book.what (home n k n) ≡ deed it.value hs) × Parts n plan.sizes.slots core.items (Why core (Grip views')) book'
+    opened : (r.book.what (home plan.sizes.slots k n) ≡ deed it.value hs) × Parts n plan.sizes.slots core.items (Why core (Grip views')) book'
     opened = let g = fillings.opens (parts.stays r.items.parts core.items (Why core (Grip views')) is_there reasons) k i p it' stand.0 stand.1 here free.0 free.1 in
         (g.0, subst (λ z. Parts n plan.sizes.slots core.items (Why core (Grip views')) (record r.book { stage = put r.book.stage k (partly (record { by = p; filled = n; round = z; left = 0; out = n })); share = put r.book.share k (r.book.share k); what = what' })) is_waiting.3 g.1)
 
-    low : home n k n < plan.sizes.slots * suc n
+    low : home plan.sizes.slots k n < plan.sizes.slots * suc n
     low = home_in n plan.sizes.slots k n stand.0 (omega arith)
 
-    pub found : (u : S) × (get_elem? s.homes (home n k n) ≡ some (some u)) × IsIn (deed w.round hs) u
-    found = let g = r.items.lying.low (home n k n) low (λ e. let bad : deed it.value hs ≡ away = sym opened.0 ∙ e in absurd (cc)) in (g.0, g.1, subst (λ z. IsIn z g.0) (opened.0 ∙ ap (λ v. deed v hs) is_waiting.3) g.2)
+    pub found : (u : S) × (get_elem? s.homes (home plan.sizes.slots k n) ≡ some (some u)) × IsIn (deed w.round hs) u
+    found = let g = r.items.lying.low (home plan.sizes.slots k n) low (λ e. let bad : deed it.value hs ≡ away = sym opened.0 ∙ e in absurd (cc)) in (g.0, g.1, subst (λ z. IsIn z g.0) (opened.0 ∙ ap (λ v. deed v hs) is_waiting.3) g.2)
 
     spares_now : Spares plan.sizes.cells n (names_of core.cells) core.items book'
     spares_now = let was : (j c : ℕ) → At (names_of r.state.cells) c (Some j) → Was r.state.items core.items j = (λ j c _ z at_j. let y = was_there j z at_j in (y.0, y.1, y.2)) in let y = stays_kept r.items.spares core.items was in
@@ -270,7 +270,7 @@ module _ (S : Type 0) (IsIn : Content → S → Type 0) (plan : Plan) where
     items_now = record {
       parts = opened.1;
       spares = spares_now;
-      lying = takes_low r.items.lying (home n k n) low;
+      lying = takes_low r.items.lying (home plan.sizes.slots k n) low;
       standing = stands;
       settled = settles;
       many = length-map r.state.cells (let_go i) ∙ r.items.many;
@@ -293,10 +293,10 @@ module _ (S : Type 0) (IsIn : Content → S → Type 0) (plan : Plan) where
         (items_change S IsIn plan s r id d d' core s.words homes' book' at kind refl refl refl refl runs refl refl (reads_only S IsIn plan s r id d d' at kind refl) items_now)
 
   pub opens : (slots id i : ℕ) (me : Me S Acting) (w : Garbage) (ws : List Garbage) → me.0.kind ≡ 1 → is_ready me.0.known ≡ true → me.0.waits ≡ ws ++ w ∷ [] → w.age ≡ 3 → Allows (Shows IsIn plan) slots id me i (λ m. m) (opens_then IsIn (step slots i 0 0 none) me)
-  opens slots id i me w ws kind ready waits old s r _ at _ = let d = me.0 in let b = r.items.seats id d at kind in let wide = ap (λ (z : Sizes). z.participants) b.sizes_are in let g = found s r id d w ws at kind ready waits old in let d' = reclaiming w (r.book.held w.slot) ws d in (
+  opens slots id i me w ws kind ready waits old s r _ at _ = let d = me.0 in let b = r.items.seats id d at kind in let g = found s r id d w ws at kind ready waits old in let d' = reclaiming w (r.book.held w.slot) ws d in (
     d',
     takes (deed_home d w.slot) g.0,
-    ap (λ z. get_elem? s.homes (home z w.slot z)) wide ∙ g.1,
-    subst (λ z. Shows IsIn plan record { words = set s.words i (get_or s.words i 0); homes = set s.homes (home z w.slot z) none; views = set s.views id (record d { hand = r.book.held w.slot ++ d.hand; slot = w.slot; filling = Some (record { by = d.number; filled = z; round = w.round; left = 0; out = z }); waits = ws }) }) (sym wide) (shown_open s r id d w ws at kind ready waits old i),
+    ap (λ (z : Sizes). get_elem? s.homes (home z.slots w.slot z.participants)) b.sizes_are ∙ g.1,
+    subst (λ (z : Sizes). Shows IsIn plan record { words = set s.words i (get_or s.words i 0); homes = set s.homes (home z.slots w.slot z.participants) none; views = set s.views id (record d { hand = r.book.held w.slot ++ d.hand; slot = w.slot; filling = Some (record { by = d.number; filled = z.participants; round = w.round; left = 0; out = z.participants }); waits = ws }) }) (sym b.sizes_are) (shown_open s r id d w ws at kind ready waits old i),
     λ w' ws' waits'. let same = snoc_same ws ws' w w' (sym waits ∙ waits') in let inside = subst (λ (z : Sizes). w.slot < z.slots) (sym b.sizes_are) (stand s r id d w ws at kind ready waits old).0 in (subst (λ (z : Garbage). z.slot < d.sizes.slots) same.1 inside, (r.book.held w.slot, g.0, subst (λ (z : Garbage). IsIn (deed z.round (r.book.held w.slot)) g.0) same.1 g.2, λ j. (reclaiming (same.1 j) (r.book.held w.slot) (same.0 j) d, (deed_home d (same.1 j).slot, g.0) ∷ me.1))),
   )

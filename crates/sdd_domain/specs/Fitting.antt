@@ -47,14 +47,10 @@ module _ (table : TableId) (sizes : Sizes) (seat : TableId) where
   HasClaimOf number = (seat ≡ table) × (number < sizes.participants) × (epoch_words sizes.participants ≤ table.words) × (sizes.participants ≤ 2 ^ 30) × (sizes.cells ≤ 2 ^ 30)
 
 module _ (table seat : TableId) (d : Acting) where
-  -- the seat is at the table, and acts for a participant, one of so many, that has taken this slot
-  abbrev pub FitsTaken : ℕ → ℕ → Type 0
-  FitsTaken participants slot = (seat ≡ table) × (0 < table.words) × (d.kind ≡ 1) × (d.sizes.participants ≡ participants) × (participants ≤ 2 ^ 30) × (d.slot ≡ slot) × (slot < 2 ^ 30)
+  -- the seat is at the table of a place of these sizes, and acts for a participant that has taken this slot
+  abbrev pub FitsTaken : Sizes → ℕ → Type 0
+  FitsTaken sizes slot = (seat ≡ table) × (0 < table.words) × (d.kind ≡ 1) × (d.sizes ≡ sizes) × IsSized sizes × (d.slot ≡ slot) × (slot < 2 ^ 30)
 
-  -- the same, where there are participants
-  abbrev pub FitsTakenAll : ℕ → ℕ → Type 0
-  FitsTakenAll participants slot = (seat ≡ table) × (0 < table.words) × (d.kind ≡ 1) × (d.sizes.participants ≡ participants) × (0 < participants) × (participants ≤ 2 ^ 30) × (d.slot ≡ slot) × (slot < 2 ^ 30)
-
-  -- the seat is at the table, and acts for the participant of this number, one of so many
+  -- the seat is at the table of a place of so many slots, and acts for the participant of this number
   abbrev pub ActsAmong : ℕ → ℕ → Type 0
-  ActsAmong participants number = (seat ≡ table) × (d.sizes.participants ≡ participants) × (participants ≤ 2 ^ 30) × (d.number ≡ number) × (number < 2 ^ 30)
+  ActsAmong slots number = (seat ≡ table) × (d.sizes.slots ≡ slots) × (slots ≤ 2 ^ 30) × (d.number ≡ number) × (number < 2 ^ 30)

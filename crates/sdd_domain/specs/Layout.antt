@@ -32,9 +32,13 @@ slot_word sizes k = epoch_words sizes.participants + sizes.cells + k
 abbrev pub all_words : Sizes → ℕ
 all_words sizes = epoch_words sizes.participants + sizes.cells + sizes.slots
 
--- The slots of the table: homes, one of each participant and one more for each slot for items; then spare ones, one for each cell and participant; then a bag of each participant.
+-- The slots of the table: homes, those of each participant together, one for each slot for items, and behind them one more for each slot, that of its deed; then spare ones, one for each cell and participant; then a bag of each participant.
 abbrev pub all_homes : Sizes → ℕ
 all_homes sizes = sizes.slots * suc sizes.participants
+
+-- how many of the homes are those of participants: the deeds' homes lie behind them
+abbrev pub own_homes : Sizes → ℕ
+own_homes sizes = sizes.participants * sizes.slots
 
 abbrev pub all_spares : Sizes → ℕ
 all_spares sizes = sizes.cells + sizes.participants

@@ -78,7 +78,7 @@ module _ {T : Type 0} (IsIn : Content → Home T → Type 0) where
 
   -- the parts in the last home of the item that is reclaimed are out with the seat
   abbrev pub TakesNext : Me (Home T) Acting → Me (Home T) Acting → Type 0
-  TakesNext m after = (f : Filling) → m.0.filling ≡ Some f → (a : ℕ) × (u : Home T) × IsIn (part f.round a) u × (f.left + a ≤ 2 ^ 63) × (f.filled ≡ 1 → f.left + a ≡ 2 ^ 63) × (after ≡ (filling_at m.0.slot (gathered a f) m.0, (home m.0.sizes.participants m.0.slot (f.filled - 1), u) ∷ m.1))
+  TakesNext m after = (f : Filling) → m.0.filling ≡ Some f → (a : ℕ) × (u : Home T) × IsIn (part f.round a) u × (f.left + a ≤ 2 ^ 63) × (f.filled ≡ 1 → f.left + a ≡ 2 ^ 63) × (after ≡ (filling_at m.0.slot (gathered a f) m.0, (home m.0.sizes.slots m.0.slot (f.filled - 1), u) ∷ m.1))
 
   -- the home that was emptied is back
   abbrev pub GivesHome : Me (Home T) Acting → Me (Home T) Acting → Type 0

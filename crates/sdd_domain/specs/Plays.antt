@@ -72,7 +72,7 @@ Scans s p e stage = (s.me.0.kind ≡ 1) × (s.me.0.number ≡ p) × (s.me.0.know
 
 -- where the participant's home of a slot lies
 abbrev pub own_home : Acting → ℕ → ℕ
-own_home d k = home d.sizes.participants k d.number
+own_home d k = home d.sizes.slots k d.number
 
 -- the view has loaded something more, and has these leases
 abbrev pub loading : Loaded → List Lease → Acting → Acting
@@ -218,7 +218,7 @@ module _ {S : Type 0} (IsIn : Content → S → Type 0) where
 
 -- where the item's own home in slot k lies, which has its deed
 abbrev pub deed_home : Acting → ℕ → ℕ
-deed_home d k = home d.sizes.participants k d.sizes.participants
+deed_home d k = home d.sizes.slots k d.sizes.participants
 
 -- the view fills slot k, as far as this
 abbrev pub filling_at : ℕ → Filling → Acting → Acting
@@ -249,14 +249,14 @@ module _ {S : Type 0} (IsIn : Content → S → Type 0) where
 
   -- the next home comes out, empty
   abbrev pub HasTaken : Me S Acting → Filling → Me S Acting → Type 0
-  HasTaken m f m' = (u : S) × IsIn blank u × (m' ≡ (filling_at m.0.slot (next_out f) m.0, (home m.0.sizes.participants m.0.slot f.filled, u) ∷ m.1))
+  HasTaken m f m' = (u : S) × IsIn blank u × (m' ≡ (filling_at m.0.slot (next_out f) m.0, (home m.0.sizes.slots m.0.slot f.filled, u) ∷ m.1))
 
   abbrev pub fill_takes_then : Step S → Me S Acting → ℕ → Me S Acting → Type 0
   fill_takes_then t m n m' = (f : Filling) → m.0.filling ≡ Some f → HasTaken m f m'
 
   -- the home that is out is in front, with a parts of the round c, which is that of the homes that are filled
   abbrev pub CanFill : Me S Acting → Filling → ℕ → ℕ → List (ℕ × S) → Type 0
-  CanFill m f c a tail = (m.0.filling ≡ Some f) × (f.out ≡ f.filled) × (f.filled < m.0.sizes.participants) × (a ≤ f.left) × ((f.filled ≡ 0) ⊎ (c ≡ f.round)) × ((u : S) × IsIn (part c a) u × (m.1 ≡ (home m.0.sizes.participants m.0.slot f.filled, u) ∷ tail))
+  CanFill m f c a tail = (m.0.filling ≡ Some f) × (f.out ≡ f.filled) × (f.filled < m.0.sizes.participants) × (a ≤ f.left) × ((f.filled ≡ 0) ⊎ (c ≡ f.round)) × ((u : S) × IsIn (part c a) u × (m.1 ≡ (home m.0.sizes.slots m.0.slot f.filled, u) ∷ tail))
 
   abbrev pub fill_gives_then : Step S → Me S Acting → ℕ → Me S Acting → Type 0
   fill_gives_then t m n m' = (f : Filling) (c a : ℕ) (tail : List (ℕ × S)) → CanFill m f c a tail → m' ≡ (filling_at m.0.slot (next_filled m.0 c a f) m.0, tail)
@@ -320,11 +320,11 @@ module _ {S : Type 0} (IsIn : Content → S → Type 0) where
 
   -- the last home that has parts comes out; with the first one all parts are in hand
   abbrev pub gathers_then : Step S → Me S Acting → ℕ → Me S Acting → Type 0
-  gathers_then t m n m' = (f : Filling) → m.0.filling ≡ Some f → (a : ℕ) × (u : S) × IsIn (part f.round a) u × (f.left + a ≤ 2 ^ 63) × (f.filled ≡ 1 → f.left + a ≡ 2 ^ 63) × (m' ≡ (filling_at m.0.slot (gathered a f) m.0, (home m.0.sizes.participants m.0.slot (f.filled - 1), u) ∷ m.1))
+  gathers_then t m n m' = (f : Filling) → m.0.filling ≡ Some f → (a : ℕ) × (u : S) × IsIn (part f.round a) u × (f.left + a ≤ 2 ^ 63) × (f.filled ≡ 1 → f.left + a ≡ 2 ^ 63) × (m' ≡ (filling_at m.0.slot (gathered a f) m.0, (home m.0.sizes.slots m.0.slot (f.filled - 1), u) ∷ m.1))
 
   -- the home that is out is in front, empty
   abbrev pub CanEmpty : Me S Acting → Filling → List (ℕ × S) → Type 0
-  CanEmpty m f tail = (m.0.filling ≡ Some f) × (f.out ≡ f.filled) × (f.filled < m.0.sizes.participants) × ((u : S) × IsIn blank u × (m.1 ≡ (home m.0.sizes.participants m.0.slot f.filled, u) ∷ tail))
+  CanEmpty m f tail = (m.0.filling ≡ Some f) × (f.out ≡ f.filled) × (f.filled < m.0.sizes.participants) × ((u : S) × IsIn blank u × (m.1 ≡ (home m.0.sizes.slots m.0.slot f.filled, u) ∷ tail))
 
   abbrev pub empties_then : Step S → Me S Acting → ℕ → Me S Acting → Type 0
   empties_then t m n m' = (f : Filling) (tail : List (ℕ × S)) → CanEmpty m f tail → m' ≡ (filling_at m.0.slot (record f { out = m.0.sizes.participants }) m.0, tail)

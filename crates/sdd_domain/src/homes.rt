@@ -1,14 +1,14 @@
 //! What lies in the slots of a place when it is made, and when it is closed.
 
-ghost use Rattle.std.specs.Prelude.{◌≡◌, ℕ, suc, ◌+◌, ◌*◌, ◌^◌, ◌<◌, ◌≤◌, ◌++◌, ◌∷◌, ◌%◌, List, [], replicate, length, map, vec_len, vec_capacity, IsSome, IsSomeAnd, IfOk, OnOk};
+ghost use Rattle.std.specs.Prelude.{◌≡◌, ℕ, ◌+◌, ◌*◌, ◌<◌, ◌≤◌, ◌++◌, ◌∷◌, List, [], replicate, length, map, vec_len, vec_capacity, IsSome, IsSomeAnd, IfOk, OnOk};
 ghost use Rattle.std.specs.Mem.{manually_drop_value};
 ghost use Rattle.core.specs.Mem.Slots.{IsFull};
 ghost use Rattle.sdd_homes.specs.declared.Garbage.{Garbage};
 ghost use Rattle.sdd_homes.specs.declared.Owner.{Owner};
-ghost use Rattle.sdd_homes.specs.Book.{bag, deed, part, resting, room};
+ghost use Rattle.sdd_homes.specs.Book.{bag, deed, part, room};
 ghost use Rattle.sdd_domain.specs.Layout.{IsSized};
 ghost use Rattle.sdd_domain.specs.Comparing.{AreIn};
-ghost use Rattle.sdd_domain.specs.Contents.{IsIn, garbage_slots, AreResting, AreBags, AreNewHomes};
+ghost use Rattle.sdd_domain.specs.Contents.{IsIn, garbage_slots, first_in_home, AreResting, AreBags, AreNewHomes};
 ghost use Rattle.sdd_domain.specs.Holding.{told};
 ghost use Rattle.sdd_domain.specs.declared.board.Home.{Home};
 ghost use Rattle.sdd_domain.specs.declared.board.Home.TheVariants.{Blank};
@@ -122,16 +122,11 @@ fn keep<T>(homes: &mut Vec<Home<T>>, home: Home<T>)
     }
 }
 
-/// What lies at first in home `at` of all, for `participants` of them: a box, if it is the home of a deed.
-fn first_home<T: Holds>(
-    alloc: Global,
-    participants: usize,
-    at: usize,
-) -> Result<Home<T>, AllocError>
-    requires { participants < 2 ^ 63 }
-    ensures { IfOk result (λ home. IsIn T.holds (resting participants (at % suc participants)) home) }
+/// What lies at first in home `at` of all, where those from `deeds` on are the homes of deeds: a box in these.
+fn first_home<T: Holds>(alloc: Global, deeds: usize, at: usize) -> Result<Home<T>, AllocError>
+    ensures { IfOk result (λ home. IsIn T.holds (first_in_home deeds at) home) }
 {
-    if at % (participants + 1) != participants {
+    if at < deeds {
         return Ok(Home::Blank);
     }
     match Box::new(alloc, None) {
@@ -140,19 +135,19 @@ fn first_home<T: Holds>(
     }
 }
 
-/// The homes of free slots, so many of them, for `participants`, where there is room for these.
+/// The homes of free slots, so many of them, those of deeds from `deeds` on, where there is room for all.
 fn push_rooms<T: Holds>(
     homes: &mut Vec<Home<T>>,
     alloc: Global,
-    participants: usize,
+    deeds: usize,
     count: usize,
 ) -> Result<(), AllocError>
-    requires { (homes.old.items ≡ []) × (count ≤ vec_capacity homes.old) × (participants < 2 ^ 63) }
-    ensures homes { OnOk result ((length homes.new.items ≡ count) × AreResting T.holds participants homes.new.items) }
+    requires { (homes.old.items ≡ []) × (count ≤ vec_capacity homes.old) }
+    ensures homes { OnOk result ((length homes.new.items ≡ count) × AreResting T.holds deeds homes.new.items) }
     ensures room { vec_capacity homes.old ≤ vec_capacity homes.new }
 {
     for at in 0..count {
-        let home = first_home(alloc, participants, at)?;
+        let home = first_home(alloc, deeds, at)?;
         keep(homes, home);
     }
     Ok(())
@@ -212,7 +207,7 @@ pub(crate) fn homes_from<T: Holds>(alloc: Global, sizes: &Sizes) -> Result<Vec<H
     let own = sizes.slots * (sizes.participants + 1);
     let spares = sizes.cells + sizes.participants;
     let mut homes = Vec::with_capacity(alloc, own + spares + sizes.participants)?;
-    if push_rooms(&mut homes, alloc, sizes.participants, own).is_err() {
+    if push_rooms(&mut homes, alloc, sizes.participants * sizes.slots, own).is_err() {
         clear(homes);
         return Err(AllocError);
     }

@@ -48,12 +48,12 @@ pub(crate) fn seen_at<T>(
 fn refill<T: Holds>(
     words: &Words<T>,
     place: &mut Place<T>,
-    participants: usize,
+    slots: usize,
     number: usize,
     rows: &mut VecDeque<Row<T>>,
     ended: &Ended,
 )
-    requires table { ActsAmong words.now.table_id place.old.table_id place.old.me.0 participants number }
+    requires table { ActsAmong words.now.table_id place.old.table_id place.old.me.0 slots number }
     requires rows { map row_told rows.old.items ≡ map (lease_told ended.now.id) place.old.me.0.leases }
     requires out { place.old.me.1 ≡ blanks (leased_homes place.old.me.0 place.old.me.0.leases) ++ drop (length place.old.me.0.leases) place.old.me.1 }
     ensures seat { (place.new.table_id ≡ place.old.table_id) × (place.new.id ≡ place.old.id) }
@@ -61,7 +61,7 @@ fn refill<T: Holds>(
     ensures empty { (rows.new.items ≡ []) × (deque_capacity rows.new ≡ deque_capacity rows.old) }
 {
     while let Some(row) = rows.pop_front() {
-        let home = row.slot * (participants + 1) + number;
+        let home = number * slots + row.slot;
         let count = row.count;
         let parts = row.into_parts(ended);
         let_go(words.exchange(place, home, Home::Part(parts, count)));
@@ -75,12 +75,12 @@ fn refill<T: Holds>(
 fn give_rows<T: Holds>(
     words: &Words<T>,
     place: &mut Place<T>,
-    participants: usize,
+    slots: usize,
     number: usize,
     rows: &mut VecDeque<Row<T>>,
     ended: &Ended,
 )
-    requires table { ActsAmong words.now.table_id place.old.table_id place.old.me.0 participants number }
+    requires table { ActsAmong words.now.table_id place.old.table_id place.old.me.0 slots number }
     requires rows { map row_told rows.old.items ≡ map (lease_told ended.now.id) place.old.me.0.leases }
     requires out { (k : ℕ) × (l : ℕ) × (place.old.me.1 ≡ blanks (k ∷ l ∷ leased_homes place.old.me.0 place.old.me.0.leases)) }
     ensures seat { (place.new.table_id ≡ place.old.table_id) × (place.new.id ≡ place.old.id) }
@@ -89,7 +89,7 @@ fn give_rows<T: Holds>(
 {
     place.turn();
     place.turn();
-    refill(words, place, participants, number, rows, ended);
+    refill(words, place, slots, number, rows, ended);
     place.turn();
     place.turn();
 }
@@ -99,12 +99,12 @@ fn give_rows<T: Holds>(
 pub(crate) fn give_home<T: Holds>(
     words: &Words<T>,
     place: &mut Place<T>,
-    participants: usize,
+    slots: usize,
     number: usize,
     rows: &mut VecDeque<Row<T>>,
     ended: &Ended,
 )
-    requires table { ActsAmong words.now.table_id place.old.table_id place.old.me.0 participants number }
+    requires table { ActsAmong words.now.table_id place.old.table_id place.old.me.0 slots number }
     requires rows { map row_told rows.old.items ≡ map (lease_told ended.now.id) place.old.me.0.leases }
     requires out { (k : ℕ) × (l : ℕ) × (place.old.me.1 ≡ blanks (k ∷ l ∷ leased_homes place.old.me.0 place.old.me.0.leases)) }
     ensures seat { (place.new.table_id ≡ place.old.table_id) × (place.new.id ≡ place.old.id) }
@@ -114,5 +114,5 @@ pub(crate) fn give_home<T: Holds>(
     if rows.is_empty() {
         return;
     }
-    give_rows(words, place, participants, number, rows, ended);
+    give_rows(words, place, slots, number, rows, ended);
 }

@@ -59,7 +59,7 @@ pub(crate) fn note_found<T: Holds>(
     if let Some(at) = row_of(rows, slot) {
         return Some(at);
     }
-    let home = slot * (sizes.participants + 1) + number;
+    let home = number * sizes.slots + slot;
     let (parts, count) = parts_of(words.exchange(place, home, Home::Blank));
     place.turn();
     rows.push_back_reserved(Row::new(slot, parts, count, life));

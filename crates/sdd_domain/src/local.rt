@@ -315,7 +315,7 @@ impl<T: Holds> Local<T> {
         give_home(
             domain.words(),
             place,
-            domain.sizes.participants,
+            domain.sizes.slots,
             *number,
             rows,
             &ended,

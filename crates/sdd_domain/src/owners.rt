@@ -89,7 +89,7 @@ pub(crate) fn release_home<T: Holds>(
     ensures released { HasReleased slot result place.old.me place.old.me.0.leases place.new.me }
 {
     cells::begin_release(words, place);
-    let home = slot * (sizes.participants + 1) + number;
+    let home = number * sizes.slots + slot;
     let (mut own, count) = parts_of(words.exchange(place, home, Home::Blank));
     own.join(owner.into_part());
     let_go(words.exchange(place, home, Home::Part(own, count + 1)));
@@ -224,7 +224,7 @@ fn clone_home<T: Holds>(
     ensures leases { place.new.me.0.leases ≡ place.old.me.0.leases }
 {
     cells::begin_release(words, place);
-    let home = slot * (sizes.participants + 1) + number;
+    let home = number * sizes.slots + slot;
     let (mut own, count) = parts_of(words.exchange(place, home, Home::Blank));
     if raise_owners(words, place, sizes, slot, count) {
         let one = own.split_one();

@@ -6,7 +6,7 @@ ghost use Rattle.atomic_table.specs.Table.{rest};
 ghost use Rattle.sdd_steps.specs.Steps.{is_ready};
 ghost use Rattle.sdd_homes.specs.declared.Filling.{Filling};
 ghost use Rattle.sdd_domain.specs.Outcomes.{CanPlaceItem, FillsAll, FillsAt, HasPlacedItem};
-ghost use Rattle.sdd_domain.specs.Fitting.{FitsFree, FitsSearch, FitsTaken, FitsTakenAll};
+ghost use Rattle.sdd_domain.specs.Fitting.{FitsFree, FitsSearch, FitsTaken};
 ghost use Rattle.sdd_domain.specs.Contents.{IsIn};
 ghost use Rattle.sdd_domain.specs.Holding.{told};
 ghost use Rattle.sdd_domain.specs.Plays.{IsJustClaimed, filling_at, next_filled, placing};
@@ -34,14 +34,14 @@ fn share_of(left: u64, rest: u64) -> u64
 fn fill_home<T: Holds>(
     words: &Words<T>,
     place: &mut Place<T>,
-    participants: usize,
+    sizes: &Sizes,
     slot: usize,
     at: usize,
     all: &mut Part<Stored<T>>,
     count: u64,
 )
-    requires table { FitsTaken words.now.table_id place.old.table_id place.old.me.0 participants slot }
-    requires filling { FillsAt place.old.me at participants all.old.life.count all.old.life.id }
+    requires table { FitsTaken words.now.table_id place.old.table_id place.old.me.0 sizes.now slot }
+    requires filling { FillsAt place.old.me at sizes.now.participants all.old.life.count all.old.life.id }
     requires parts { (0 < count) × (count < all.old.life.count) × (all.old.life.count ≤ 2 ^ 63) × IsSome all.old.seen.value }
     ensures seat { (place.new.table_id ≡ place.old.table_id) × (place.new.id ≡ place.old.id) }
     ensures filled { (f : Filling) → place.old.me.0.filling ≡ Some f → place.new.me ≡ (filling_at slot (next_filled place.old.me.0 all.old.life.id count f) place.old.me.0, place.old.me.1) }
@@ -49,11 +49,7 @@ fn fill_home<T: Holds>(
 {
     slots::take_next(words, place);
     let part = all.split(count);
-    let_go(words.exchange(
-        place,
-        slot * (participants + 1) + at,
-        Home::Part(part, count),
-    ));
+    let_go(words.exchange(place, at * sizes.slots + slot, Home::Part(part, count)));
     slots::give_next(words, place);
 }
 
@@ -61,21 +57,21 @@ fn fill_home<T: Holds>(
 fn fill_homes<T: Holds>(
     words: &Words<T>,
     place: &mut Place<T>,
-    participants: usize,
+    sizes: &Sizes,
     slot: usize,
     all: &mut Part<Stored<T>>,
 )
-    requires table { FitsTakenAll words.now.table_id place.old.table_id place.old.me.0 participants slot }
-    requires filling { (f : Filling) × (place.old.me.0.filling ≡ Some f) × (f.filled ≡ 0) × (f.out ≡ participants) × (f.left ≡ 2 ^ 63) }
+    requires table { FitsTaken words.now.table_id place.old.table_id place.old.me.0 sizes.now slot }
+    requires filling { (f : Filling) × (place.old.me.0.filling ≡ Some f) × (f.filled ≡ 0) × (f.out ≡ sizes.now.participants) × (f.left ≡ 2 ^ 63) }
     requires parts { (all.old.life.count ≡ 2 ^ 63) × IsSome all.old.seen.value }
     ensures seat { (place.new.table_id ≡ place.old.table_id) × (place.new.id ≡ place.old.id) }
-    ensures filled { FillsAll place.old.me slot participants all.old.life.id place.new.me }
+    ensures filled { FillsAll place.old.me slot sizes.now.participants all.old.life.id place.new.me }
     ensures rest { (all.new.seen ≡ all.old.seen) × (all.new.life ≡ record all.old.life { count = 1 }) }
 {
     let mut left = 1 << 63;
-    for at in 0..participants {
-        let count = share_of(left, (participants - at) as u64);
-        fill_home(words, place, participants, slot, at, all, count);
+    for at in 0..sizes.participants {
+        let count = share_of(left, (sizes.participants - at) as u64);
+        fill_home(words, place, sizes, slot, at, all, count);
         left -= count;
     }
 }
@@ -95,11 +91,11 @@ fn place_at<T: Holds>(
     ensures placed { (i : ℕ) × (f : Filling) × (f.round ≡ result.part.life.id) × (place.new.me ≡ (placing i f place.old.me.0, rest place.old.me.1)) }
     ensures value { IsSomeAnd result.part.seen.value (λ m. manually_drop_value m ≡ item) }
 {
-    let own = slot * (sizes.participants + 1) + sizes.participants;
+    let own = sizes.participants * sizes.slots + slot;
     let room = room_of(words.exchange(place, own, Home::Blank));
     let (deed, mut all) = store(room, item);
     let_go(words.exchange(place, own, Home::Deed(deed)));
-    fill_homes(words, place, sizes.participants, slot, &mut all);
+    fill_homes(words, place, sizes, slot, &mut all);
     slots::place(words, place, sizes.participants, sizes.cells, slot);
     One::from_part(all)
 }

@@ -8,7 +8,7 @@ ghost use Rattle.sdd_homes.specs.declared.Garbage.{Garbage};
 ghost use Rattle.sdd_homes.specs.declared.Owner.{Owner};
 ghost use Rattle.sdd_domain.specs.Outcomes.{Gathers, GathersAll, HasGivenUp, ReclaimsLast};
 ghost use Rattle.sdd_domain.specs.Ledgers.{WaitsIn};
-ghost use Rattle.sdd_domain.specs.Fitting.{FitsSizes, FitsTaken, FitsTakenAll};
+ghost use Rattle.sdd_domain.specs.Fitting.{FitsSizes, FitsTaken};
 ghost use Rattle.sdd_domain.specs.Holding.{told, told_of};
 ghost use Rattle.sdd_domain.specs.Leases.{IsFirst, IsAtRest};
 
@@ -27,18 +27,18 @@ use sdd_base::sizes::Sizes;
 fn gather_home<T: Holds>(
     words: &Words<T>,
     place: &mut Place<T>,
-    participants: usize,
+    sizes: &Sizes,
     slot: usize,
     at: usize,
 ) -> Part<Stored<T>>
-    requires table { FitsTaken words.now.table_id place.old.table_id place.old.me.0 participants slot }
-    requires filled { (f : Filling) × (place.old.me.0.filling ≡ Some f) × (f.filled ≡ at + 1) × (at < participants) × (f.out ≡ participants) }
+    requires table { FitsTaken words.now.table_id place.old.table_id place.old.me.0 sizes.now slot }
+    requires filled { (f : Filling) × (place.old.me.0.filling ≡ Some f) × (f.filled ≡ at + 1) × (at < sizes.now.participants) × (f.out ≡ sizes.now.participants) }
     ensures seat { (place.new.table_id ≡ place.old.table_id) × (place.new.id ≡ place.old.id) }
     ensures gathered { Gathers place.old.me slot at result.life.id result.life.count place.new.me }
     ensures some { (0 < result.life.count) × IsSome result.seen.value }
 {
     slots::gather(words, place);
-    let (part, _) = parts_of(words.exchange(place, slot * (participants + 1) + at, Home::Blank));
+    let (part, _) = parts_of(words.exchange(place, at * sizes.slots + slot, Home::Blank));
     slots::empty(words, place);
     part
 }
@@ -47,18 +47,18 @@ fn gather_home<T: Holds>(
 fn gather_all<T: Holds>(
     words: &Words<T>,
     place: &mut Place<T>,
-    participants: usize,
+    sizes: &Sizes,
     slot: usize,
 ) -> Part<Stored<T>>
-    requires table { FitsTakenAll words.now.table_id place.old.table_id place.old.me.0 participants slot }
-    requires filled { (f : Filling) × (place.old.me.0.filling ≡ Some f) × (f.filled ≡ participants) × (f.out ≡ participants) × (f.left ≡ 0) }
+    requires table { FitsTaken words.now.table_id place.old.table_id place.old.me.0 sizes.now slot }
+    requires filled { (f : Filling) × (place.old.me.0.filling ≡ Some f) × (f.filled ≡ sizes.now.participants) × (f.out ≡ sizes.now.participants) × (f.left ≡ 0) }
     ensures seat { (place.new.table_id ≡ place.old.table_id) × (place.new.id ≡ place.old.id) }
-    ensures gathered { GathersAll place.old.me slot participants result.life.id place.new.me }
+    ensures gathered { GathersAll place.old.me slot sizes.now.participants result.life.id place.new.me }
     ensures all { result.life.count ≡ 2 ^ 63 }
 {
-    let mut all = gather_home(words, place, participants, slot, participants - 1);
-    for gone in 1..participants {
-        all.join(gather_home(words, place, participants, slot, participants - 1 - gone));
+    let mut all = gather_home(words, place, sizes, slot, sizes.participants - 1);
+    for gone in 1..sizes.participants {
+        all.join(gather_home(words, place, sizes, slot, sizes.participants - 1 - gone));
     }
     all
 }
@@ -78,9 +78,9 @@ pub(crate) fn reclaim<T: Holds>(
     ensures reclaimed { ReclaimsLast place.old.me slot (T.holds result) place.new.me }
 {
     slots::open(words, place);
-    let own = slot * (sizes.participants + 1) + sizes.participants;
+    let own = sizes.participants * sizes.slots + slot;
     let deed = deed_of(words.exchange(place, own, Home::Blank));
-    let all = gather_all(words, place, sizes.participants, slot);
+    let all = gather_all(words, place, sizes, slot);
     let (item, room) = take_out(deed, all);
     let_go(words.exchange(place, own, Home::Room(room)));
     slots::vacate(words, place, sizes.participants, sizes.cells, slot);

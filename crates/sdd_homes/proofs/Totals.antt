@@ -2,24 +2,24 @@
 use Rattle.std.proofs.Common.{◌≡◌, ◌≢◌, ℕ, zero, suc, ◌+◌, ◌*◌, ◌<◌, ◌≤◌, sym, refl, ap, ◌∙◌, arith}
 use mathlib.Core.Logic.{dite}
 use native.Mathlib.Decide.{ℕ_discrete, dec_le}
-use Rattle.std.proofs.Math.Nat.{suc-mul}
+use Rattle.std.proofs.Math.Nat.{suc-mul, mul_comm}
 use Rattle.std.proofs.lemmas.Nat.{mul-le}
 use Rattle.sdd_steps.proofs.ListLemmas.{put, put_here, put_else}
 use Rattle.sdd_homes.specs.Book.{total, home}
 
-below : (n k p k' p' : ℕ) → p < n → k < k' → k * n + p ≢ k' * n + p'
-below n k p k' p' lp lt e = let m : suc k * n ≤ k' * n = mul-le (suc k) n k' n lt (omega arith) in let one : suc k * n ≡ k * n + n = suc-mul k n in absurd (omega arith)
+below : (m p k p' k' : ℕ) → k < m → p < p' → p * m + k ≢ p' * m + k'
+below m p k p' k' lk lt e = let t : suc p * m ≤ p' * m = mul-le (suc p) m p' m lt (omega arith) in let one : suc p * m ≡ p * m + m = suc-mul p m in absurd (omega arith)
 
-apart : (n k p k' p' : ℕ) → p < n → p' < n → k * n + p ≡ k' * n + p' → (k ≡ k') × (p ≡ p')
-apart n k p k' p' lp lp' e = dite (dec_le (suc k) k') (λ lt. absurd (below n k p k' p' lp lt e)) (λ ge. dite (dec_le (suc k') k) (λ lt. absurd (below n k' p' k p lp' lt (sym e)))
-    (λ ge'. let same : k ≡ k' = omega arith in (same, (let f : k * n ≡ k' * n = ap (λ (z : ℕ). z * n) same in omega arith))))
+apart : (m p k p' k' : ℕ) → k < m → k' < m → p * m + k ≡ p' * m + k' → (p ≡ p') × (k ≡ k')
+apart m p k p' k' lk lk' e = dite (dec_le (suc p) p') (λ lt. absurd (below m p k p' k' lk lt e)) (λ ge. dite (dec_le (suc p') p) (λ lt. absurd (below m p' k' p k lk' lt (sym e)))
+    (λ ge'. let same : p ≡ p' = omega arith in (same, (let f : p * m ≡ p' * m = ap (λ (z : ℕ). z * m) same in omega arith))))
 
--- homes of different slots, or of different participants, differ
-pub home_slot : (n k p k' p' : ℕ) → p < suc n → p' < suc n → k ≢ k' → home n k p ≢ home n k' p'
-home_slot n k p k' p' lp lp' ne e = ne (apart (suc n) k p k' p' lp lp' e).0
+-- homes for different slots, or of different participants, differ
+pub home_slot : (m k p k' p' : ℕ) → k < m → k' < m → k ≢ k' → home m k p ≢ home m k' p'
+home_slot m k p k' p' lk lk' ne e = ne (apart m p k p' k' lk lk' e).1
 
-pub home_part : (n k p p' : ℕ) → p < suc n → p' < suc n → p ≢ p' → home n k p ≢ home n k p'
-home_part n k p p' lp lp' ne e = ne (apart (suc n) k p k p' lp lp' e).1
+pub home_part : (m k p p' : ℕ) → k < m → p ≢ p' → home m k p ≢ home m k p'
+home_part m k p p' lk ne e = ne (apart m p k p' k lk lk e).0
 
 total_same : (n : ℕ) (f : ℕ → ℕ) (p v : ℕ) → n < suc p → total n (put f p v) ≡ total n f
 total_same zero f p v over = refl
@@ -34,6 +34,6 @@ total_put (suc n) f p v low = dite (ℕ_discrete n p)
     (λ same. let a = ap (put f p v) same ∙ put_here f p v in let b = total_same n f p v (omega arith) in let c = ap f same in omega arith)
     (λ other. let a = put_else f p v n other in let b = total_put n f p v (omega arith) in omega arith)
 
--- homes of slots, and those of deeds, lie below the spare slots
-pub home_in : (n slots k p : ℕ) → k < slots → p < suc n → home n k p < slots * suc n
-home_in n slots k p lk lp = let m : suc k * suc n ≤ slots * suc n = mul-le (suc k) (suc n) slots (suc n) lk (omega arith) in let one : suc k * suc n ≡ k * suc n + suc n = suc-mul k (suc n) in omega arith
+-- homes of participants, and those of deeds, lie below the spare slots
+pub home_in : (n slots k p : ℕ) → k < slots → p < suc n → home slots k p < slots * suc n
+home_in n slots k p lk lp = let m : suc p * slots ≤ suc n * slots = mul-le (suc p) slots (suc n) slots lp (omega arith) in let one : suc p * slots ≡ p * slots + slots = suc-mul p slots in let turned : suc n * slots ≡ slots * suc n = mul_comm (suc n) slots in omega arith

@@ -34,9 +34,9 @@ pub record Book : Type 0 where
   pub user : ℕ → ℕ
   pub extra : ℕ → Content
 
--- the home of participant p in slot k, for n participants; the home n is that of the deed
+-- The home of participant p for slot k, among m slots: the homes of each participant lie together. Behind them lie those of the deeds, as if these were one participant more.
 abbrev pub home : ℕ → ℕ → ℕ → ℕ
-home n k p = k * suc n + p
+home m k p = p * m + k
 
 -- what lies in the home p of a free slot: the room for an item in the home of the deed, and nothing in the others
 abbrev pub resting : ℕ → ℕ → Content

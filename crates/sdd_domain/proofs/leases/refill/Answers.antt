@@ -8,7 +8,7 @@ use Rattle.sdd_domain.specs.Plays.{own_home}
 use Rattle.sdd_domain.specs.declared.board.Home.{Home}
 use Rattle.sdd_domain.specs.declared.board.Home.TheVariants.{Blank, Part}
 use Rattle.sdd_domain.specs.declared.row.Row.{Row}
-use Rattle.sdd_domain.proofs.Leased.{first_told, more_filled, home_at, front, turned_on}
+use Rattle.sdd_domain.proofs.Leased.{first_told, more_filled, front, turned_on}
 use Rattle.sdd_domain.proofs.leases.refill.Goals as goal
 
 -- the row that came out is that of the next lease
@@ -24,7 +24,7 @@ into_parts-parts-requires g c = let i = c.loop-row.invariant.filled in let f = f
 pub exchange-requires : goal.exchange-requires
 exchange-requires g c = let t = c.requires.table in let i = c.loop-row.invariant.filled in let f = first c.args.ended.now.id c.in-Some.row c.pop_front.new.self.items c.loop-row.rows.items i.1 c.in-Some.ensures.items i.4 in let m = c.args.place.now.me in let d = m.0 in
     let all : List (ℕ × Home _) = drop (length d.leases) m.1 in let is = i.6 ∙ λ j. (d, blanks (leased_homes d (f.2 j)) ++ (all ++ i.2)) in let there = front c.loop-row.place.me d f.0 f.1 all i.2 is in
-    let at : own_home d f.0.slot ≡ c.in-Some.row.slot * (c.args.participants + 1) + c.args.number = (λ j. home (t.1 j) (sym (ap (λ (x : ℕ × ℕ × ℕ × ℕ). x.0) f.3) j) (t.3 j)) ∙ home_at c.args.participants c.in-Some.row.slot c.args.number in
+    let at : own_home d f.0.slot ≡ c.args.number * c.args.slots + c.in-Some.row.slot = λ j. home (t.1 j) (sym (ap (λ (x : ℕ × ℕ × ℕ × ℕ). x.0) f.3) j) (t.3 j) in
     (c.loop-row.invariant.seat.0 ∙ t.0, (Blank, there ∙ λ j. (at j, Blank) ∷ rest (sym there j)))
 
 pub loop-row-preserved : goal.loop-row-preserved
@@ -41,6 +41,6 @@ loop-row-preserved g c = let i = c.loop-row.invariant.filled in let f = first c.
         i.3 ∙ (ap (λ ls. i.0 ++ ls) f.2 ∙ sym (append_assoc i.0 (l ∷ []) f.1)),
         f.4,
         more_filled (IsIn g.T.Holds.holds) d i.0 i.2 l y good i.5,
-        turned_on c.loop-row.place.me d l f.1 t i.2 is (r.slot * (c.args.participants + 1) + c.args.number) c.exchange.result y c.exchange.new.seat.me c.turn.new.self.me e.2 e.3 u.2,
+        turned_on c.loop-row.place.me d l f.1 t i.2 is (c.args.number * c.args.slots + r.slot) c.exchange.result y c.exchange.new.seat.me c.turn.new.self.me e.2 e.3 u.2,
       );
     }

@@ -12,7 +12,6 @@ use Rattle.sdd_domain.proofs.Rows.{row_at, slots_told, has_slot}
 use Rattle.sdd_domain.specs.declared.board.Acting.{Acting}
 use Rattle.sdd_domain.specs.declared.board.Home.{Home}
 use Rattle.sdd_domain.specs.declared.row.Row.{Row}
-use Rattle.sdd_domain.proofs.Leased.{home_at}
 use Rattle.sdd_domain.proofs.Leasing.{nothing_named, slot_found, was_leased, is_new, new, had, front, behind, more_told, more_below, as_many}
 use Rattle.sdd_domain.proofs.Noted.{none_noted, again_noted}
 use Rattle.sdd_domain.proofs.loading.note_found.Goals as goal
@@ -42,16 +41,16 @@ returns-in-Some-clause-rows g c = let q = c.requires.found in let m = q.0 in let
 pub exchange-requires : goal.exchange-requires
 exchange-requires g c = let q = c.requires.found in let m = q.0 in let m1 = c.args.place.now.me in let slot : ℕ = c.in_ok-slot.slot in let f = slot_found (IsIn g.T.Holds.holds) m m1 c.args.word q.1 slot c.in_ok-slot.ensures.some.1 in
     let takes = is_new g.T.Holds.holds c.args.life.now.id c.args.rows.now.items m m1 slot f.0 q.4 f.1 c.in_default.ensures.free in let there = front g.T.Holds.holds m m1 slot f.0 takes in
-    let at : own_home m.0 slot ≡ slot * (c.args.sizes.now.participants + 1) + c.args.number = (λ j. home ((q.3 j).participants) slot (q.2 j)) ∙ home_at c.args.sizes.now.participants slot c.args.number in
+    let at : own_home m.0 slot ≡ c.args.number * c.args.sizes.now.slots + slot = (λ j. home (q.3 j).slots slot (q.2 j)) in
     (c.requires.table.0, (takes.3.1, there ∙ λ j. (at j, takes.3.1) ∷ rest (sym there j)))
 
 pub parts_of-parts-requires : goal.parts_of-parts-requires
 parts_of-parts-requires g c = let q = c.requires.found in let m = q.0 in let m1 = c.args.place.now.me in let slot : ℕ = c.in_ok-slot.slot in let f = slot_found (IsIn g.T.Holds.holds) m m1 c.args.word q.1 slot c.in_ok-slot.ensures.some.1 in
-    let takes = is_new g.T.Holds.holds c.args.life.now.id c.args.rows.now.items m m1 slot f.0 q.4 f.1 c.in_default.ensures.free in (f.0.value, takes.3.0, had g.T.Holds.holds m m1 slot f.0 takes (slot * (c.args.sizes.now.participants + 1) + c.args.number) c.exchange.result c.exchange.ensures.2)
+    let takes = is_new g.T.Holds.holds c.args.life.now.id c.args.rows.now.items m m1 slot f.0 q.4 f.1 c.in_default.ensures.free in (f.0.value, takes.3.0, had g.T.Holds.holds m m1 slot f.0 takes (c.args.number * c.args.sizes.now.slots + slot) c.exchange.result c.exchange.ensures.2)
 
 pub new-requires-clause-parts : goal.new-requires-clause-parts
 new-requires-clause-parts g c = let q = c.requires.found in let m = q.0 in let m1 = c.args.place.now.me in let slot : ℕ = c.in_ok-slot.slot in let f = slot_found (IsIn g.T.Holds.holds) m m1 c.args.word q.1 slot c.in_ok-slot.ensures.some.1 in
-    let takes = is_new g.T.Holds.holds c.args.life.now.id c.args.rows.now.items m m1 slot f.0 q.4 f.1 c.in_default.ensures.free in let p = c.parts_of-parts.ensures f.0.value takes.3.0 (had g.T.Holds.holds m m1 slot f.0 takes (slot * (c.args.sizes.now.participants + 1) + c.args.number) c.exchange.result c.exchange.ensures.2) in
+    let takes = is_new g.T.Holds.holds c.args.life.now.id c.args.rows.now.items m m1 slot f.0 q.4 f.1 c.in_default.ensures.free in let p = c.parts_of-parts.ensures f.0.value takes.3.0 (had g.T.Holds.holds m m1 slot f.0 takes (c.args.number * c.args.sizes.now.slots + slot) c.exchange.result c.exchange.ensures.2) in
     (p.1 ∙ sym p.2, subst (λ n. 0 < n) (sym p.2) p.3, subst (λ n. n ≤ 9223372036854775808) (sym p.2) takes.3.3, p.4)
 
 pub push_back_reserved-requires : goal.push_back_reserved-requires
@@ -61,12 +60,12 @@ push_back_reserved-requires g c = let q = c.requires.found in let m = q.0 in let
 pub returns-clause-noted : goal.returns-clause-noted
 returns-clause-noted g c = λ m loaded told. let m1 = c.args.place.now.me in let slot : ℕ = c.in_ok-slot.slot in let f = slot_found (IsIn g.T.Holds.holds) m m1 c.args.word loaded slot c.in_ok-slot.ensures.some.1 in
     let takes = is_new g.T.Holds.holds c.args.life.now.id c.args.rows.now.items m m1 slot f.0 told f.1 c.in_default.ensures.free in let e = c.exchange.ensures in
-    (m.0.known.loaded ++ f.0 ∷ [], new g.T.Holds.holds m m1 slot f.0 takes ∷ [], behind g.T.Holds.holds m m1 slot f.0 takes (slot * (c.args.sizes.now.participants + 1) + c.args.number) c.exchange.result c.exchange.new.seat.me c.turn.new.self.me e.2 e.3 c.turn.ensures.2)
+    (m.0.known.loaded ++ f.0 ∷ [], new g.T.Holds.holds m m1 slot f.0 takes ∷ [], behind g.T.Holds.holds m m1 slot f.0 takes (c.args.number * c.args.sizes.now.slots + slot) c.exchange.result c.exchange.new.seat.me c.turn.new.self.me e.2 e.3 c.turn.ensures.2)
 
 pub returns-clause-rows : goal.returns-clause-rows
 returns-clause-rows g c = let q = c.requires.found in let m = q.0 in let m1 = c.args.place.now.me in let slot : ℕ = c.in_ok-slot.slot in let f = slot_found (IsIn g.T.Holds.holds) m m1 c.args.word q.1 slot c.in_ok-slot.ensures.some.1 in let rows = c.args.rows.now.items in let life : ℕ = c.args.life.now.id in
-    let takes = is_new g.T.Holds.holds c.args.life.now.id c.args.rows.now.items m m1 slot f.0 q.4 f.1 c.in_default.ensures.free in let e = c.exchange.ensures in let p = c.parts_of-parts.ensures f.0.value takes.3.0 (had g.T.Holds.holds m m1 slot f.0 takes (slot * (c.args.sizes.now.participants + 1) + c.args.number) c.exchange.result e.2) in
-    let all = behind g.T.Holds.holds m m1 slot f.0 takes (slot * (c.args.sizes.now.participants + 1) + c.args.number) c.exchange.result c.exchange.new.seat.me c.turn.new.self.me e.2 e.3 c.turn.ensures.2 in let pushed = c.push_back_reserved.ensures.items in
+    let takes = is_new g.T.Holds.holds c.args.life.now.id c.args.rows.now.items m m1 slot f.0 q.4 f.1 c.in_default.ensures.free in let e = c.exchange.ensures in let p = c.parts_of-parts.ensures f.0.value takes.3.0 (had g.T.Holds.holds m m1 slot f.0 takes (c.args.number * c.args.sizes.now.slots + slot) c.exchange.result e.2) in
+    let all = behind g.T.Holds.holds m m1 slot f.0 takes (c.args.number * c.args.sizes.now.slots + slot) c.exchange.result c.exchange.new.seat.me c.turn.new.self.me e.2 e.3 c.turn.ensures.2 in let pushed = c.push_back_reserved.ensures.items in
     let one : row_told c.new.result ≡ lease_told life (new g.T.Holds.holds m m1 slot f.0 takes) = c.new.ensures ∙ λ j. (slot, p.0 j, p.2 j, life) in (
       ap (map row_told) pushed ∙ (more_told life rows m.0.leases c.new.result (new g.T.Holds.holds m m1 slot f.0 takes) q.4 one ∙ sym (ap (λ (z : Me _ Acting). map (lease_told life) z.0.leases) all)),
       ap (λ rs. all_below c.args.sizes.now.slots (row_slots rs)) pushed ∙ more_below c.args.sizes.now.slots rows c.new.result c.requires.rows.0 (subst (λ k. k < c.args.sizes.now.slots) (sym (ap (λ (t : ℕ × ℕ × ℕ × ℕ). t.0) one)) (subst (λ (z : Sizes). slot < z.slots) q.3 takes.1)),

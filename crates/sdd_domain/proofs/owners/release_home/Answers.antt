@@ -51,26 +51,26 @@ begin_release-requires-clause-owner g c = let q = c.requires.owner.0 in (q.0, q.
 
 pub parts_of-own-requires : goal.parts_of-own-requires
 parts_of-own-requires g c = let q = c.requires.owner.0 in let b = c.begin_release.ensures.begun q.0 q.1 q.2 in let e = c.exchange.ensures in
-    (q.0.round, b.0, had g.T.Holds.holds c.args.place.now.me c.begin_release.new.place.me q.0 b (c.args.slot * (c.args.sizes.now.participants + 1) + c.args.number) c.exchange.result e.2)
+    (q.0.round, b.0, had g.T.Holds.holds c.args.place.now.me c.begin_release.new.place.me q.0 b (c.args.number * c.args.sizes.now.slots + c.args.slot) c.exchange.result e.2)
 
 pub join-requires : goal.join-requires
 join-requires g c = let q = c.requires.owner.0 in let b = c.begin_release.ensures.begun q.0 q.1 q.2 in let e = c.exchange.ensures in let few = b.3 in
-    let p = c.parts_of-own.ensures q.0.round b.0 (had g.T.Holds.holds c.args.place.now.me c.begin_release.new.place.me q.0 b (c.args.slot * (c.args.sizes.now.participants + 1) + c.args.number) c.exchange.result e.2) in let many = p.1 in let some = p.3 in
+    let p = c.parts_of-own.ensures q.0.round b.0 (had g.T.Holds.holds c.args.place.now.me c.begin_release.new.place.me q.0 b (c.args.number * c.args.sizes.now.slots + c.args.slot) c.exchange.result e.2) in let many = p.1 in let some = p.3 in
     let mine = c.into_part.ensures in let one = mine.1 in (ap (λ z. z.life.id) mine.0 ∙ (sym q.4 ∙ sym p.0), omega arith, omega arith)
 
 pub overflow_add-count : goal.overflow_add-count
 overflow_add-count g c = let q = c.requires.owner.0 in let b = c.begin_release.ensures.begun q.0 q.1 q.2 in let e = c.exchange.ensures in let few = b.3 in
-    let p = c.parts_of-own.ensures q.0.round b.0 (had g.T.Holds.holds c.args.place.now.me c.begin_release.new.place.me q.0 b (c.args.slot * (c.args.sizes.now.participants + 1) + c.args.number) c.exchange.result e.2) in let many = p.2 in omega arith
+    let p = c.parts_of-own.ensures q.0.round b.0 (had g.T.Holds.holds c.args.place.now.me c.begin_release.new.place.me q.0 b (c.args.number * c.args.sizes.now.slots + c.args.slot) c.exchange.result e.2) in let many = p.2 in omega arith
 
 pub end_release-requires-clause-begun : goal.end_release-requires-clause-begun
-end_release-requires-clause-begun g c = let m = c.args.place.now.me in let q = c.requires.owner.0 in let o = q.0 in let b = c.begin_release.ensures.begun o q.1 q.2 in let n : ℕ = b.0 in let i : ℕ = c.args.slot * (c.args.sizes.now.participants + 1) + c.args.number in let e = c.exchange.ensures in let e' = c.exchange-2.ensures in
+end_release-requires-clause-begun g c = let m = c.args.place.now.me in let q = c.requires.owner.0 in let o = q.0 in let b = c.begin_release.ensures.begun o q.1 q.2 in let n : ℕ = b.0 in let i : ℕ = c.args.number * c.args.sizes.now.slots + c.args.slot in let e = c.exchange.ensures in let e' = c.exchange-2.ensures in
     let m1 = c.begin_release.new.place.me in let m2 = c.exchange.new.seat.me in let m3 = c.exchange-2.new.seat.me in let r = c.exchange.result in let r' = c.exchange-2.result in let s = c.join.new.self in let told = c.join.ensures in let y = Part s (c.parts_of-own.result.1 + 1) in
     let p = c.parts_of-own.ensures o.round n (had g.T.Holds.holds m m1 o b i r e.2) in let many : c.parts_of-own.result.0.life.count ≡ n = p.1 in let one = c.into_part.ensures.1 in let sum = ap (λ z. z.count) told.life in
     let all : s.life.count ≡ n + 1 = omega arith in let is_in : IsIn g.T.Holds.holds (part o.round (n + 1)) y = (s, ap (λ z. Part s (z + 1)) p.2, ap (λ z. z.id) told.life ∙ p.0, all, omega arith, subst (λ z. IsSome z.value) (sym told.seen) p.4) in
     (lease o.slot o.item n o.round, m.0.leases, o, q.1, m.1, q.3, can g.T.Holds.holds m m1 o b i r e.2 m2 m3 i r' Blank y e.3 e'.2 e'.3 q.1 q.2 is_in)
 
 pub returns-clause-released : goal.returns-clause-released
-returns-clause-released g c = λ o' os' first'. let m = c.args.place.now.me in let q = c.requires.owner.0 in let o = q.0 in let b = c.begin_release.ensures.begun o q.1 q.2 in let n : ℕ = b.0 in let i : ℕ = c.args.slot * (c.args.sizes.now.participants + 1) + c.args.number in let e = c.exchange.ensures in let e' = c.exchange-2.ensures in
+returns-clause-released g c = λ o' os' first'. let m = c.args.place.now.me in let q = c.requires.owner.0 in let o = q.0 in let b = c.begin_release.ensures.begun o q.1 q.2 in let n : ℕ = b.0 in let i : ℕ = c.args.number * c.args.sizes.now.slots + c.args.slot in let e = c.exchange.ensures in let e' = c.exchange-2.ensures in
     let m1 = c.begin_release.new.place.me in let m2 = c.exchange.new.seat.me in let m3 = c.exchange-2.new.seat.me in let r = c.exchange.result in let r' = c.exchange-2.result in let s = c.join.new.self in let told = c.join.ensures in let y = Part s (c.parts_of-own.result.1 + 1) in
     let p = c.parts_of-own.ensures o.round n (had g.T.Holds.holds m m1 o b i r e.2) in let many : c.parts_of-own.result.0.life.count ≡ n = p.1 in let one = c.into_part.ensures.1 in let sum = ap (λ z. z.count) told.life in
     let all : s.life.count ≡ n + 1 = omega arith in let is_in : IsIn g.T.Holds.holds (part o.round (n + 1)) y = (s, ap (λ z. Part s (z + 1)) p.2, ap (λ z. z.id) told.life ∙ p.0, all, omega arith, subst (λ z. IsSome z.value) (sym told.seen) p.4) in
@@ -82,6 +82,6 @@ returns-clause-released g c = λ o' os' first'. let m = c.args.place.now.me in l
     )
 
 pub returns-clause-room : goal.returns-clause-room
-returns-clause-room g c = let m = c.args.place.now.me in let q = c.requires.owner.0 in let o = q.0 in let b = c.begin_release.ensures.begun o q.1 q.2 in let i : ℕ = c.args.slot * (c.args.sizes.now.participants + 1) + c.args.number in let e = c.exchange.ensures in let e' = c.exchange-2.ensures in
+returns-clause-room g c = let m = c.args.place.now.me in let q = c.requires.owner.0 in let o = q.0 in let b = c.begin_release.ensures.begun o q.1 q.2 in let i : ℕ = c.args.number * c.args.sizes.now.slots + c.args.slot in let e = c.exchange.ensures in let e' = c.exchange-2.ensures in
     let is = joined g.T.Holds.holds m c.begin_release.new.place.me o b i c.exchange.result e.2 c.exchange.new.seat.me c.exchange-2.new.seat.me i c.exchange-2.result Blank _ e.3 e'.2 e'.3 in
     subst (λ (z : Sizes). length m.0.waits < z.slots) c.requires.table.0.2 (subst (λ (t : Me _ Acting). length t.0.waits < t.0.sizes.slots) is c.end_release.ensures.room)

@@ -54,17 +54,17 @@ had_back holds (Some m) item hs tells is = ap holds (sym is) ∙ tells
 
 pub gather_all-all-requires-clause-filled : goal.gather_all-all-requires-clause-filled
 gather_all-all-requires-clause-filled g c = let m = c.args.place.now.me in let q = c.requires.waits in let t = c.open.ensures.opened q.0 q.1 q.2 in let e = c.exchange.ensures in let n : ℕ = c.args.sizes.now.participants in
-    let is = emptied g.T.Holds.holds c.args.slot (c.args.slot * (n + 1) + n) m c.open.new.place.me c.exchange.new.seat.me q.0 q.1 t.0 t.1 c.exchange.result q.4 t.3 e.2 e.3 in let wide = ap (λ (z : Sizes). z.participants) c.requires.table.2 in
+    let is = emptied g.T.Holds.holds c.args.slot (n * c.args.sizes.now.slots + c.args.slot) m c.open.new.place.me c.exchange.new.seat.me q.0 q.1 t.0 t.1 c.exchange.result q.4 t.3 e.2 e.3 in let wide = ap (λ (z : Sizes). z.participants) c.requires.table.2 in
     (_, ap (λ (z : Me _ Acting). z.0.filling) is, wide, wide, refl)
 
 pub take_out-item-requires : goal.take_out-item-requires
-take_out-item-requires g c = let m = c.args.place.now.me in let q = c.requires.waits in let t = c.open.ensures.opened q.0 q.1 q.2 in let e = c.exchange.ensures in let n : ℕ = c.args.sizes.now.participants in let i : ℕ = c.args.slot * (n + 1) + n in
+take_out-item-requires g c = let m = c.args.place.now.me in let q = c.requires.waits in let t = c.open.ensures.opened q.0 q.1 q.2 in let e = c.exchange.ensures in let n : ℕ = c.args.sizes.now.participants in let i : ℕ = n * c.args.sizes.now.slots + c.args.slot in
     let is = emptied g.T.Holds.holds c.args.slot i m c.open.new.place.me c.exchange.new.seat.me q.0 q.1 t.0 t.1 c.exchange.result q.4 t.3 e.2 e.3 in
     let a = c.gather_all-all.ensures.gathered _ (ap (λ (z : Me _ Acting). z.0.filling) is) in let d = c.deed_of-deed.ensures q.0.round t.0 (had g.T.Holds.holds c.args.slot i m c.open.new.place.me c.exchange.new.seat.me q.0 q.1 t.0 t.1 c.exchange.result q.4 t.3 e.2 e.3 t.2) in
     (a.3 ∙ sym d.0, c.gather_all-all.ensures.all, is_there _ c.deed_of-deed.result.value d.1)
 
 pub vacate-requires-clause-emptied : goal.vacate-requires-clause-emptied
-vacate-requires-clause-emptied g c = let m = c.args.place.now.me in let q = c.requires.waits in let t = c.open.ensures.opened q.0 q.1 q.2 in let e = c.exchange.ensures in let e' = c.exchange-2.ensures in let n : ℕ = c.args.sizes.now.participants in let i : ℕ = c.args.slot * (n + 1) + n in
+vacate-requires-clause-emptied g c = let m = c.args.place.now.me in let q = c.requires.waits in let t = c.open.ensures.opened q.0 q.1 q.2 in let e = c.exchange.ensures in let e' = c.exchange-2.ensures in let n : ℕ = c.args.sizes.now.participants in let i : ℕ = n * c.args.sizes.now.slots + c.args.slot in
     let m1 = c.open.new.place.me in let m2 = c.exchange.new.seat.me in let m3 = c.gather_all-all.new.place.me in let m4 = c.exchange-2.new.seat.me in let r = c.exchange.result in let r' = c.exchange-2.result in let y = Room c.take_out-item.result.1 in
     let is = emptied g.T.Holds.holds c.args.slot i m m1 m2 q.0 q.1 t.0 t.1 r q.4 t.3 e.2 e.3 in let a = c.gather_all-all.ensures.gathered _ (ap (λ (z : Me _ Acting). z.0.filling) is) in
     let back = restored g.T.Holds.holds c.args.slot i m m1 m2 q.0 q.1 t.0 t.1 r q.4 t.3 e.2 e.3 m3 m4 a.0 i r' y a.4 e'.2 e'.3 in
@@ -72,7 +72,7 @@ vacate-requires-clause-emptied g c = let m = c.args.place.now.me in let q = c.re
     (ap (λ (z : Me _ Acting). z.0.kind) back ∙ c.requires.ready.0, ap (λ (z : Me _ Acting). z.0.slot) back, (a.0, m.1, ready))
 
 pub returns-clause-reclaimed : goal.returns-clause-reclaimed
-returns-clause-reclaimed g c = λ w' ws' waits'. let m = c.args.place.now.me in let q = c.requires.waits in let t = c.open.ensures.opened q.0 q.1 q.2 in let e = c.exchange.ensures in let e' = c.exchange-2.ensures in let n : ℕ = c.args.sizes.now.participants in let i : ℕ = c.args.slot * (n + 1) + n in
+returns-clause-reclaimed g c = λ w' ws' waits'. let m = c.args.place.now.me in let q = c.requires.waits in let t = c.open.ensures.opened q.0 q.1 q.2 in let e = c.exchange.ensures in let e' = c.exchange-2.ensures in let n : ℕ = c.args.sizes.now.participants in let i : ℕ = n * c.args.sizes.now.slots + c.args.slot in
     let m1 = c.open.new.place.me in let m2 = c.exchange.new.seat.me in let m3 = c.gather_all-all.new.place.me in let m4 = c.exchange-2.new.seat.me in let r = c.exchange.result in let r' = c.exchange-2.result in let y = Room c.take_out-item.result.1 in
     let is = emptied g.T.Holds.holds c.args.slot i m m1 m2 q.0 q.1 t.0 t.1 r q.4 t.3 e.2 e.3 in let a = c.gather_all-all.ensures.gathered _ (ap (λ (z : Me _ Acting). z.0.filling) is) in
     let ready = can g.T.Holds.holds c.args.slot i m m1 m2 q.0 q.1 t.0 t.1 r q.4 t.3 e.2 e.3 m3 m4 a.0 i r' y a.4 e'.2 e'.3 a.1 (a.2 ∙ sym (ap (λ (z : Sizes). z.participants) c.requires.table.2)) (_, refl) in
