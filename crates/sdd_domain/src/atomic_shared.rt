@@ -1,9 +1,9 @@
-//! Cells that own an item, or nothing.
+//! Cells that own an item, or nothing, and have a tag.
 
 ghost use Rattle.std.specs.Prelude.{◌≡◌, ◌<◌, ◌+◌, ◌||◌, Bool, IfSome, IfNone, IfOk, IfErr, OnOk, OnErr};
 ghost use Rattle.sdd_domain.specs.Tokens.{cell_count};
 
-use crate::cells::is_null;
+use crate::cells::{is_null, tag};
 use crate::comparing::{names, try_exchange, word_of};
 use crate::domain::Domain;
 use crate::guard::Guard;
@@ -12,6 +12,7 @@ use crate::local::Local;
 use crate::pointer::{Loaded, Ptr};
 use crate::shared::Shared;
 use crate::swapping::swap_owner;
+use sdd_base::tag::Tag;
 use std::sync::atomic::Ordering;
 use tally::Tally;
 
@@ -89,7 +90,14 @@ impl AtomicShared {
         is_null(domain.words(), &domain.sizes, self.cell)
     }
 
-    /// What the cell names, as it is found in one step. The item stays, as it is, until the outermost guard closes,
+    /// The tag of the cell, as it is found in one step.
+    pub fn tag<T: Holds>(&self, domain: &Domain<T>) -> Tag
+        requires inside { cell_number self.now < cell_count domain.now }
+    {
+        tag(domain.words(), &domain.sizes, self.cell)
+    }
+
+    /// What the cell names and its tag, as both are found in one step. The item stays, as it is, until the outermost guard closes,
     /// whatever other threads do with the cell.
     pub fn load<'g, T: Holds>(
         &self,
@@ -103,10 +111,11 @@ impl AtomicShared {
         requires inside { cell_number self.now < cell_count domain.now }
         ensures same { IsInNest local.old local.new × (own_of local.new ≡ own_of local.old) × (born_of local.new ≡ born_of local.old) × (waiting_of local.new ≡ waiting_of local.old) }
     {
-        self.loaded(domain, guard, local).under(guard)
+        let (loaded, tag) = self.found(domain, guard, local);
+        loaded.under(guard).with_tag(tag)
     }
 
-    /// The same, without a borrow of the guard.
+    /// What it names alone, without a borrow of the guard.
     pub fn loaded<T: Holds>(
         &self,
         domain: &Domain<T>,
@@ -120,7 +129,26 @@ impl AtomicShared {
         ensures under { IsUnder result guard.now }
         ensures same { IsInNest local.old local.new × (own_of local.new ≡ own_of local.old) × (born_of local.new ≡ born_of local.old) × (waiting_of local.new ≡ waiting_of local.old) }
     {
-        match local.lease(domain, self.cell) {
+        let (loaded, _) = self.found(domain, guard, local);
+        loaded
+    }
+
+    /// The same with the tag.
+    fn found<T: Holds>(
+        &self,
+        domain: &Domain<T>,
+        guard: &Guard,
+        local: &mut Local<T>,
+    ) -> (Loaded<T>, Tag)
+        requires home { home_of local.old ≡ place_of domain.now }
+        requires mine { nest_of guard.now ≡ nest_in local.old }
+        requires open { 0 < (own_of local.old).nesting }
+        requires inside { cell_number self.now < cell_count domain.now }
+        ensures under { IsUnder result.0 guard.now }
+        ensures same { IsInNest local.old local.new × (own_of local.new ≡ own_of local.old) × (born_of local.new ≡ born_of local.old) × (waiting_of local.new ≡ waiting_of local.old) }
+    {
+        let (seen, tag) = local.lease(domain, self.cell);
+        let loaded = match seen {
             Some((slot, seen)) => Loaded {
                 slot,
                 seen: Some(seen),
@@ -129,7 +157,8 @@ impl AtomicShared {
                 slot: 0,
                 seen: None,
             },
-        }
+        };
+        (loaded, tag)
     }
 
     /// Swaps what the cell owns, in one step: the owner goes into it, and the one that it had comes out.

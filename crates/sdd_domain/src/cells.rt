@@ -16,8 +16,10 @@ ghost use Rattle.sdd_domain.specs.declared.board.Home.{Home};
 
 use crate::board::{Acting, Home, Place, Words};
 use crate::holds::Holds;
+use crate::tags::tag_in;
 use atomic_table::Play;
 use sdd_base::sizes::Sizes;
+use sdd_base::tag::Tag;
 
 struct OnLoad;
 
@@ -78,6 +80,13 @@ pub(crate) fn is_null<T: Holds>(words: &Words<T>, sizes: &Sizes, cell: usize) ->
     requires { (words.now.key.sizes ≡ sizes.now) × IsSized sizes.now × (cell < sizes.now.cells) × (all_words sizes.now ≤ words.now.table_id.words) }
 {
     words.peek(8 * sizes.participants + 16 + cell) < 1 << 33
+}
+
+/// The tag of the cell.
+pub(crate) fn tag<T: Holds>(words: &Words<T>, sizes: &Sizes, cell: usize) -> Tag
+    requires { (words.now.key.sizes ≡ sizes.now) × IsSized sizes.now × (cell < sizes.now.cells) × (all_words sizes.now ≤ words.now.table_id.words) }
+{
+    tag_in(words.peek(8 * sizes.participants + 16 + cell))
 }
 
 /// Loads the cell under the participant's open guard, for `participants` of them. If it names an item, the

@@ -38,3 +38,4 @@ mod slots;
 mod steps;
 mod stored;
 mod swapping;
+mod tags;

@@ -19,8 +19,10 @@ use crate::holds::Holds;
 use crate::homes::parts_of;
 use crate::leases::row_of;
 use crate::row::Row;
+use crate::tags::tag_in;
 use parted::Life;
 use sdd_base::sizes::Sizes;
+use sdd_base::tag::Tag;
 use std::collections::VecDeque;
 
 /// The slot that a cell's word names, if it names one: one more than it stands above the number of the spare slot.
@@ -67,7 +69,7 @@ pub(crate) fn note_found<T: Holds>(
 }
 
 /// Loads the cell under the open guards of participant `number`, whose life this is. Which row is that of the item that
-/// it names, if it names one.
+/// it names, if it names one, and the tag that was found with it.
 pub(crate) fn lease<T: Holds>(
     words: &Words<T>,
     place: &mut Place<T>,
@@ -76,17 +78,18 @@ pub(crate) fn lease<T: Holds>(
     rows: &mut VecDeque<Row<T>>,
     life: &Life,
     cell: usize,
-) -> Option<usize>
+) -> (Option<usize>, Tag)
     requires table { FitsSizes words.now.table_id words.now.key.sizes place.old.table_id place.old.me.0.sizes sizes.now × (number < sizes.now.participants) × (cell < sizes.now.cells) }
     requires open { (place.old.me.0.kind ≡ 1) × (place.old.me.0.number ≡ number) × (is_inside place.old.me.0.known ≡ true) }
     requires rows { HasRows life.now.id sizes.now.slots place.old.me.0.leases rows.old.items (deque_capacity rows.old) }
     requires out { (k : ℕ) × (l : ℕ) × (has_all is_blank (k ∷ l ∷ leased_homes place.old.me.0 place.old.me.0.leases) place.old.me.1 ≡ true) }
     ensures seat { (place.new.table_id ≡ place.old.table_id) × (place.new.id ≡ place.old.id) }
-    ensures row { IfSome result (λ at. at < deque_len rows.new) }
+    ensures row { IfSome result.0 (λ at. at < deque_len rows.new) }
     ensures loaded { HasLeased place.old.me place.new.me }
     ensures rows { KeepsRows life.now.id sizes.now.slots place.new.me.0.leases rows.new.items (deque_capacity rows.old) (deque_capacity rows.new) }
     ensures out { KeepsOut place.old.me place.new.me }
 {
     let word = cells::load(words, place, sizes.participants, cell);
-    note_found(words, place, sizes, number, rows, life, word)
+    let at = note_found(words, place, sizes, number, rows, life, word);
+    (at, tag_in(word))
 }

@@ -32,6 +32,7 @@ use crate::{cells, steps};
 use parted::{Life, Seen};
 use sdd_base::sizes::Sizes;
 use sdd_base::status::LocalState;
+use sdd_base::tag::Tag;
 use std::collections::VecDeque;
 use tally::Tally;
 
@@ -254,16 +255,16 @@ impl<T: Holds> Local<T> {
     }
 
     /// Loads a cell under an open guard: what the item in which slot is seen as under the nest of guards, if the cell
-    /// names one.
+    /// names one, and the tag that was found with it.
     pub(crate) fn lease(
         &mut self,
         domain: &Domain<T>,
         cell: usize,
-    ) -> Option<(usize, Seen<Stored<T>>)>
+    ) -> (Option<(usize, Seen<Stored<T>>)>, Tag)
         requires home { home_of self.old ≡ place_of domain.now }
         requires open { 0 < (own_of self.old).nesting }
         requires inside { cell < cell_count domain.now }
-        ensures seen { IfSome result (λ t. ((number_of self.old, t.1.life) ≡ nest_in self.old) × IsSome t.1.value) }
+        ensures seen { IfSome result.0 (λ t. ((number_of self.old, t.1.life) ≡ nest_in self.old) × IsSome t.1.value) }
         ensures same { IsInNest self.old self.new × (own_of self.new ≡ own_of self.old) × (born_of self.new ≡ born_of self.old) × (waiting_of self.new ≡ waiting_of self.old) }
     {
         let Local {
@@ -274,7 +275,7 @@ impl<T: Holds> Local<T> {
             ..
         } = self;
         let Some(life) = life else { unreachable!() };
-        let at = lease(
+        let (at, tag) = lease(
             domain.words(),
             place,
             &domain.sizes,
@@ -283,7 +284,7 @@ impl<T: Holds> Local<T> {
             life,
             cell,
         );
-        seen_at(rows, at)
+        (seen_at(rows, at), tag)
     }
 
     /// Closes an outermost guard, after a scan if one is due, and ends its life: all that was leased goes home.

@@ -1,42 +1,99 @@
 //! Pointers to items that a cell was found to name.
 
-ghost use Rattle.std.specs.Prelude.{IsSome, IfSome, ◌↔◌};
+ghost use Rattle.std.specs.Prelude.{◌≡◌, IsSome, IsTrue, IfSome, None, option_copied, ◌↔◌};
 ghost use Rattle.std.specs.Option.{ForSome};
 
 use crate::board::Stored;
 use crate::guard::Guard;
 use parted::Seen;
+use sdd_base::tag::Tag;
 
-/// A pointer to an item, or to nothing, for as long as the guard is borrowed under which it was loaded. Pointers are equal
-/// where they are to the item in one slot, or both to nothing.
+/// A pointer to an item, or to nothing, with a tag, for as long as the guard is borrowed under which it was loaded.
+/// Pointers are equal where they are to the item in one slot, or both to nothing, and their tags are equal.
 #[derive_where(Clone, Copy, PartialEq, Eq)]
 pub struct Ptr<'g, T> {
-    slot: Option<usize>,
+    pub(crate) slot: Option<usize>,
+    pub(crate) tag: Tag,
     #[derive_where(skip(EqHashOrd))]
     item: Option<&'g T>,
 }
 
 impl<'g, T> Ptr<'g, T> {
-    /// The pointer to nothing.
-    pub fn null() -> Ptr<'g, T> {
+    ghost use Rattle.sdd_domain.specs.Pointers.{ptr_slot, ptr_tag, ptr_item};
+
+    /// The pointer to nothing, without a tag.
+    pub fn null() -> Ptr<'g, T>
+        ensures slot { ptr_slot result ≡ None }
+        ensures tag { ptr_tag result ≡ Tag.None }
+    {
         Ptr {
             slot: None,
+            tag: Tag::None,
             item: None,
         }
     }
 
-    /// Whether it is to nothing.
-    pub fn is_null(self) -> bool {
+    /// Whether it is to nothing, whatever its tag.
+    pub fn is_null(self) -> bool
+        ensures { IsTrue result ↔ (ptr_slot self.entry ≡ None) }
+    {
         self.slot.is_none()
     }
 
     /// The item.
-    pub fn as_ref(self) -> Option<&'g T> {
+    pub fn as_ref(self) -> Option<&'g T>
+        ensures { option_copied result ≡ ptr_item self.entry }
+    {
         self.item
+    }
+
+    pub fn tag(self) -> Tag
+        ensures { result ≡ ptr_tag self.entry }
+    {
+        self.tag
+    }
+
+    pub fn set_tag(&mut self, tag: Tag)
+        ensures slot { ptr_slot self.new ≡ ptr_slot self.old }
+        ensures item { ptr_item self.new ≡ ptr_item self.old }
+        ensures tag { ptr_tag self.new ≡ tag }
+    {
+        self.tag = tag;
+    }
+
+    pub fn unset_tag(&mut self)
+        ensures slot { ptr_slot self.new ≡ ptr_slot self.old }
+        ensures item { ptr_item self.new ≡ ptr_item self.old }
+        ensures tag { ptr_tag self.new ≡ Tag.None }
+    {
+        self.tag = Tag::None;
+    }
+
+    /// The same pointer with another tag.
+    pub fn with_tag(self, tag: Tag) -> Ptr<'g, T>
+        ensures slot { ptr_slot result ≡ ptr_slot self.entry }
+        ensures item { ptr_item result ≡ ptr_item self.entry }
+        ensures tag { ptr_tag result ≡ tag }
+    {
+        Ptr {
+            slot: self.slot,
+            tag,
+            item: self.item,
+        }
+    }
+
+    /// The same pointer without a tag.
+    pub fn without_tag(self) -> Ptr<'g, T>
+        ensures slot { ptr_slot result ≡ ptr_slot self.entry }
+        ensures item { ptr_item result ≡ ptr_item self.entry }
+        ensures tag { ptr_tag result ≡ Tag.None }
+    {
+        self.with_tag(Tag::None)
     }
 }
 
-/// What a cell was found to name under a guard, without a borrow of it: a structure may keep it beside that guard.
+/// What a cell was found to name under a guard, without a tag and without a borrow: a structure may keep it beside that
+/// guard.
 #[derive(Drop)]
 pub struct Loaded<T> {
     pub(crate) slot: usize,
@@ -46,7 +103,7 @@ pub struct Loaded<T> {
 
 impl<T> Loaded<T> {
     ghost use Rattle.sdd_domain.specs.declared.guard.Guard.{Guard};
-    ghost use Rattle.sdd_domain.specs.Pointers.{IsUnder, HasLoadedItem};
+    ghost use Rattle.sdd_domain.specs.Pointers.{IsUnder, HasLoadedItem, loaded_slot, ptr_slot, ptr_tag};
 
     /// What a cell that owns nothing would be found to name.
     pub fn null() -> Loaded<T>
@@ -78,13 +135,20 @@ impl<T> Loaded<T> {
         }
     }
 
-    /// The pointer for that long.
+    /// The pointer for that long, without a tag.
     pub fn under<'g>(&self, guard: &'g Guard) -> Ptr<'g, T>
         requires { IsUnder self.now guard.now }
+        ensures slot { ptr_slot result ≡ loaded_slot self.now }
+        ensures tag { ptr_tag result ≡ Tag.None }
     {
         let item = self.as_ref(guard);
+        let slot = match item {
+            Some(_) => Some(self.slot),
+            None => None,
+        };
         Ptr {
-            slot: item.map(|_| self.slot),
+            slot,
+            tag: Tag::None,
             item,
         }
     }
