@@ -17,6 +17,7 @@ ghost use Rattle.sdd_domain.specs.Tokens.{place_of, home_of, hand_of, own_of, ce
 
 use sdd_base::epoch::Epoch;
 use sdd_base::sizes::Sizes;
+use sdd_base::tag::Tag;
 use sdd_domain::atomic_shared::AtomicShared;
 use sdd_domain::domain::Domain;
 use sdd_domain::guard::Guard;
@@ -146,7 +147,7 @@ fn swaps(domain: &Domain<u64>, local: &mut Local<u64>, cell: &AtomicShared, roun
     let mut sum: u64 = 0;
     for i in 0..rounds {
         if let Ok(owner) = Shared::new(u64::from(i), domain, local) {
-            if let Some(old) = cell.swap(Some(owner), domain, local) {
+            if let (Some(old), _) = cell.swap((Some(owner), Tag::None), domain, local) {
                 sum = sum.wrapping_add(*old.as_ref());
                 old.release(domain, local);
             }
@@ -165,7 +166,7 @@ fn with_cell(domain: &Domain<u64>, local: &mut Local<u64>, kind: Kind, rounds: u
 {
     let cell = AtomicShared::null(domain, local)?;
     if let Ok(owner) = Shared::new(1, domain, local) {
-        if let Some(old) = cell.swap(Some(owner), domain, local) {
+        if let (Some(old), _) = cell.swap((Some(owner), Tag::None), domain, local) {
             old.release(domain, local);
         }
     }

@@ -10,6 +10,7 @@ use crate::domain::{end, member};
 use crate::guard::pass;
 use crate::items::{placed, refused, sized};
 use sdd_base::sizes::Sizes;
+use sdd_base::tag::Tag;
 use sdd_domain::atomic_shared::AtomicShared;
 use sdd_domain::domain::Domain;
 use sdd_domain::guard::Guard;
@@ -74,8 +75,8 @@ fn put<R: Abort>(
     ensures closed { (own_of local.new).nesting ≡ 0 }
 {
     let owner = placed(rt, domain, local, item);
-    let old = cell.swap(Some(owner), domain, local)?;
-    Some(old.release(domain, local))
+    let (old, _) = cell.swap((Some(owner), Tag::None), domain, local);
+    Some(old?.release(domain, local))
 }
 
 #[test]
@@ -140,7 +141,7 @@ fn an_owner_is_released_under_the_guard_that_loaded_its_item(rt: HostRuntime) ->
         unreachable!();
     };
     let loaded = cell.load(&domain, &guard, &mut local);
-    let Some(owner) = cell.swap(None, &domain, &mut local) else {
+    let (Some(owner), _) = cell.swap((None, Tag::None), &domain, &mut local) else {
         panic!(&rt; "the cell owned an item");
     };
     assert!(rt; owner.release(&domain, &mut local));
@@ -388,7 +389,7 @@ fn replace(domain: &Domain<u64>, local: &mut Local<u64>, cell: &AtomicShared, it
     ensures same { IsInNestButMisses local.old local.new × ((own_of local.new).nesting ≡ (own_of local.old).nesting) }
 {
     if let Ok(owner) = Shared::new(item, domain, local) {
-        if let Some(old) = cell.swap(Some(owner), domain, local) {
+        if let (Some(old), _) = cell.swap((Some(owner), Tag::None), domain, local) {
             old.release(domain, local);
         }
     }

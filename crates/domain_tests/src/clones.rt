@@ -9,6 +9,7 @@ use crate::cells::{Scene, cell_with, read, reclaim_all};
 use crate::domain::{end, member};
 use crate::guard::pass;
 use crate::items::sized;
+use sdd_base::tag::Tag;
 use sdd_domain::atomic_shared::AtomicShared;
 use sdd_domain::domain::Domain;
 use sdd_domain::local::Local;
@@ -43,7 +44,7 @@ fn clones(domain: &Domain<u64>, local: &mut Local<u64>, cell: &AtomicShared) -> 
     ensures same { IsSameButMisses local.old local.new }
     ensures closed { (own_of local.new).nesting ≡ 0 }
 {
-    let Some(owner) = cell.swap(None, domain, local) else {
+    let (Some(owner), _) = cell.swap((None, Tag::None), domain, local) else {
         return false;
     };
     match owner.clone(domain, local) {
@@ -68,7 +69,7 @@ fn put(domain: &Domain<u64>, local: &mut Local<u64>, cell: &AtomicShared, owner:
     ensures same { IsSame local.old local.new }
     ensures closed { (own_of local.new).nesting ≡ 0 }
 {
-    if let Some(older) = cell.swap(Some(owner), domain, local) {
+    if let (Some(older), _) = cell.swap((Some(owner), Tag::None), domain, local) {
         older.release(domain, local);
     }
 }

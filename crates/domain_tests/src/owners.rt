@@ -8,6 +8,7 @@ use crate::cells::cell_with;
 use crate::domain::{end, member};
 use crate::guard::pass;
 use crate::items::{placed, refused, sized};
+use sdd_base::tag::Tag;
 use sdd_domain::domain::Domain;
 use sdd_domain::guard::Guard;
 use sdd_domain::local::Local;
@@ -83,7 +84,7 @@ fn an_owner_is_cloned_under_the_guard_that_loaded_its_item(rt: HostRuntime) -> R
         unreachable!();
     };
     let loaded = cell.load(&domain, &guard, &mut local);
-    let Some(owner) = cell.swap(None, &domain, &mut local) else {
+    let (Some(owner), _) = cell.swap((None, Tag::None), &domain, &mut local) else {
         panic!(&rt; "the cell owned an item");
     };
     let (first, second) = cloned(&rt, &domain, &mut local, owner);

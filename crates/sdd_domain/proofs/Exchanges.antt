@@ -38,7 +38,7 @@ module _ (S : Type 0) (IsIn : Content → S → Type 0) (plan : Plan) where
   -- what is brought can be told in one way only
   one_way : (m m' : Me S Acting) (new new' : Option Owner) (os os' : List Owner) (value word : ℕ) (tail tail' : List (ℕ × S)) → Brings IsIn m new os value tail → Brings IsIn m new' os' value tail' → GetsBack IsIn m os word tail m' → GetsBack IsIn m os' word tail' m'
   one_way m m' new new' os os' value word tail tail' b b' g =
-      let codes : slot_code new ≡ slot_code new' = omega (arith, b.1, b'.1) in
+      let codes : slot_code new ≡ slot_code new' = let few = b.1.1 in let few' = b'.1.1 in omega (arith, b.1.2, b'.1.2) in
       let others : os ≡ os' = same_others new new' os os' codes (sym b.0 ∙ b'.0) in
       let e = b.2.1 in let e' = b'.2.1 in let tails : tail ≡ tail' = ap table.rest (sym b.2.2 ∙ b'.2.2) in
       subst (λ (z : List Owner × List (ℕ × S)). GetsBack IsIn m z.0 word z.1 m') (λ j. (others j, tails j)) g
@@ -61,7 +61,7 @@ module _ (S : Type 0) (IsIn : Content → S → Type 0) (plan : Plan) where
         some_same : (a b : Owner) → Some a ≡ Some b → a ≡ b
         some_same a b h = cc
 
-    module _ (ready : is_ready d.known ≡ true) (idle : d.releasing ≡ 0) (lc : c < plan.sizes.cells) (small : plan.sizes.cells + plan.sizes.participants ≤ 2 ^ 33) (new : Option Owner) (os : List Owner) (brings : d.hand ≡ besides new os) (u : S) (is_in : IsIn (part_of new) u) (tail : List (ℕ × S)) where
+    module _ (ready : is_ready d.known ≡ true) (idle : d.releasing ≡ 0) (lc : c < plan.sizes.cells) (small : plan.sizes.cells + plan.sizes.participants ≤ 2 ^ 31) (tag : ℕ) (few : tag < 4) (new : Option Owner) (os : List Owner) (brings : d.hand ≡ besides new os) (u : S) (is_in : IsIn (part_of new) u) (tail : List (ℕ × S)) where
       abbrev y : ℕ
       y = r.book.spare c
 
@@ -69,7 +69,7 @@ module _ (S : Type 0) (IsIn : Content → S → Type 0) (plan : Plan) where
       w = cell_word plan.sizes c
 
       abbrev value : ℕ
-      value = packed d.spare (slot_code new)
+      value = packed d.spare tag (slot_code new)
 
       abbrev carried : List (ℕ × S)
       carried = (own_spare d d.spare, u) ∷ tail
@@ -93,19 +93,19 @@ module _ (S : Type 0) (IsIn : Content → S → Type 0) (plan : Plan) where
         chain gives (takes (own_spare d y) f.0),
         (tt, set_else s.homes (own_spare d d.spare) (own_spare d y) (some u) (λ e. apart (omega arith)) ∙ f.1),
         subst (λ (z : Sizes). Shows IsIn plan record { words = set s.words w value; homes = set (set s.homes (all_homes z + d.spare) (some u)) (all_homes z + y) none; views = set s.views id d' }) (sym (r.items.seats id d at kind).sizes_are)
-            (shown_swap S IsIn plan s r id c d at kind ready idle lc new old os brings o at_c h.1.0 h.1.1 u is_in),
-        (y, omega arith, (old, r.items.cell_words c (item_of old) (subst (At (names_of r.state.cells) c) h.1.0 (at_map (λ (z : Cell). z.names) r.state.cells c o at_c)) ∙ ap (packed y) h.1.3, (f.0, f.2, refl))),
+            (shown_swap S IsIn plan s r id c d at kind ready idle lc new old os brings o at_c h.1.0 h.1.1 u is_in tag few),
+        (y, omega arith, (old, (let was = r.items.cell_words c (item_of old) (subst (At (names_of r.state.cells) c) h.1.0 (at_map (λ (z : Cell). z.names) r.state.cells c o at_c)) in (was.0, was.1, was.2 ∙ ap (packed y was.0) h.1.3)), (f.0, f.2, refl))),
       )
 
-  pub swaps : (slots id c value : ℕ) (me : Me S Acting) (new : Option Owner) (os : List Owner) (tail : List (ℕ × S)) → me.0.kind ≡ 1 → is_ready me.0.known ≡ true → me.0.releasing ≡ 0 → c < plan.sizes.cells → plan.sizes.cells + plan.sizes.participants ≤ 2 ^ 33 → Brings IsIn me new os value tail
+  pub swaps : (slots id c value : ℕ) (me : Me S Acting) (new : Option Owner) (os : List Owner) (tail : List (ℕ × S)) → me.0.kind ≡ 1 → is_ready me.0.known ≡ true → me.0.releasing ≡ 0 → c < plan.sizes.cells → plan.sizes.cells + plan.sizes.participants ≤ 2 ^ 31 → Brings IsIn me new os value tail
       → Allows (Shows IsIn plan) slots id me (cell_word plan.sizes c) (λ _. value) (swap_then IsIn (step slots (cell_word plan.sizes c) value 0 none) me)
   swaps slots id c value me new os tail kind ready idle lc small brings s r _ at _ = let d = me.0 in let w : ℕ = cell_word plan.sizes c in let u = brings.2.0 in let many = r.items.many in let o = find_at r.state.cells c (omega arith) in
-      let t = subst (λ (z : ℕ × List (ℕ × S)). (v : Acting) × (act : Act S) × table.Valid s.homes z.1 act × Shows IsIn plan (stepped s w z.0 id z.1 v act) × GetsBack IsIn (d, z.1) os (get_or s.words w 0) tail (v, table.carried_after z.1 act)) (λ j. (sym brings.1 j, sym brings.2.2 j))
-      (swapped s r id c d at kind o.0 o.1 ready idle lc small new os brings.0 u brings.2.1 tail) in
+      let t = subst (λ (z : ℕ × List (ℕ × S)). (v : Acting) × (act : Act S) × table.Valid s.homes z.1 act × Shows IsIn plan (stepped s w z.0 id z.1 v act) × GetsBack IsIn (d, z.1) os (get_or s.words w 0) tail (v, table.carried_after z.1 act)) (λ j. (sym brings.1.2 j, sym brings.2.2 j))
+      (swapped s r id c d at kind o.0 o.1 ready idle lc small brings.1.0 brings.1.1 new os brings.0 u brings.2.1 tail) in
       (t.0, t.1, t.2, t.3, λ new' os' tail' brings'. one_way me (t.0, table.carried_after me.1 t.1) new new' os os' value (get_or s.words w 0) tail tail' brings brings' t.4)
 
   -- a compare and exchange is a swap where it hits, and a load where it misses
-  pub exchanges : (slots id c old value : ℕ) (me : Me S Acting) (new : Option Owner) (os : List Owner) (tail : List (ℕ × S)) → me.0.kind ≡ 1 → is_ready me.0.known ≡ true → is_inside me.0.known ≡ true → me.0.releasing ≡ 0 → c < plan.sizes.cells → plan.sizes.cells + plan.sizes.participants ≤ 2 ^ 33 → Brings IsIn me new os value tail
+  pub exchanges : (slots id c old value : ℕ) (me : Me S Acting) (new : Option Owner) (os : List Owner) (tail : List (ℕ × S)) → me.0.kind ≡ 1 → is_ready me.0.known ≡ true → is_inside me.0.known ≡ true → me.0.releasing ≡ 0 → c < plan.sizes.cells → plan.sizes.cells + plan.sizes.participants ≤ 2 ^ 31 → Brings IsIn me new os value tail
       → Allows (Shows IsIn plan) slots id me (cell_word plan.sizes c) (λ k. either (eqb k old) value k) (exchange_then IsIn (step slots (cell_word plan.sizes c) old value none) me)
   exchanges slots id c old value me new os tail kind ready inside idle lc small brings s r long at fits = let w : ℕ = cell_word plan.sizes c in let k : ℕ = get_or s.words w 0 in dite (ℕ_discrete k old)
       (λ hit. let t = swaps slots id c value me new os tail kind ready idle lc small brings s r long at fits in (

@@ -90,7 +90,7 @@ module _ (S : Type 0) (IsIn : Content → S → Type 0) (plan : Plan) (s : State
       settled = r.items.settled;
       many = r.items.many;
       long = length-set s.words word v ∙ r.items.long;
-      cell_words = λ e x at_e. let le = length-map r.state.cells (λ (q : Cell). q.names) in let in_ = at_inside (names_of r.state.cells) e x at_e in let many = r.items.many in get_or-set_other s.words word (cell_word plan.sizes e) v 0 (λ z. omega arith) ∙ r.items.cell_words e x at_e;
+      cell_words = λ e x at_e. let le = length-map r.state.cells (λ (q : Cell). q.names) in let in_ = at_inside (names_of r.state.cells) e x at_e in let many = r.items.many in let was = r.items.cell_words e x at_e in (was.0, was.1, get_or-set_other s.words word (cell_word plan.sizes e) v 0 (λ z. omega arith) ∙ was.2);
       slot_words = slots_now;
       vacancies = vacancies_now;
       alone = r.items.alone;

@@ -146,7 +146,7 @@ module _ {S : Type 0} {IsIn : Content → S → Type 0} (plan : Plan) (words : L
         settled = λ i it q at. absurd (some-ne-none it (sym at));
         many = many;
         long = long;
-        cell_words = λ c o at. let e = named_none plan c o at in let le = length-map (replicate plan.sizes.cells empty_cell) (λ (z : Cell). z.names) in let lt = at_inside (names_of (beginning plan).cells) c o at in cells c (omega arith) ∙ ((let z : c ≡ packed c 0 = omega arith in z) ∙ ap (λ z. packed c (code (λ _. 0) z)) (sym e));
+        cell_words = λ c o at. let e = named_none plan c o at in let le = length-map (replicate plan.sizes.cells empty_cell) (λ (z : Cell). z.names) in let lt = at_inside (names_of (beginning plan).cells) c o at in (0, omega arith, cells c (omega arith) ∙ ((let z : c ≡ packed c 0 0 = omega arith in z) ∙ ap (λ z. packed c 0 (code (λ _. 0) z)) (sym e)));
         slot_words = λ k i it _ e. absurd (cc);
         vacancies = λ k _ _. refl;
         given = λ i it at_i. absurd (cc);

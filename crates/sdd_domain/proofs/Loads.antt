@@ -192,7 +192,7 @@ module _ (S : Type 0) (IsIn : Content → S → Type 0) (plan : Plan) where
             apart = λ j e other here kind_e same. other (sym (r.epochs.seats j e here kind_e).seated ∙ (ap r.epochs.seat_of same ∙ a.seated));
           })))
 
-  pub loads : (slots id c : ℕ) (me : Me S Acting) → me.0.kind ≡ 1 → is_inside me.0.known ≡ true → c < plan.sizes.cells → plan.sizes.cells + n ≤ 2 ^ 33
+  pub loads : (slots id c : ℕ) (me : Me S Acting) → me.0.kind ≡ 1 → is_inside me.0.known ≡ true → c < plan.sizes.cells → plan.sizes.cells + n ≤ 2 ^ 31
       → Allows (Shows IsIn plan) slots id me (cell_word plan.sizes c) (λ w. w) (load_then IsIn (step slots (cell_word plan.sizes c) 0 0 none) me)
   loads slots id c me kind inside lc small s r _ at _ = let d = me.0 in let w : ℕ = cell_word plan.sizes c in let many = r.items.many in let o = find_at r.state.cells c (omega arith) in let y : ℕ = r.book.spare c in let ly = r.items.spares.range c (omega arith) in
       let named_at : (x : Option ℕ) → (o.0).names ≡ x → At (names_of r.state.cells) c x = (λ x e. subst (At (names_of r.state.cells) c) e (at_map (λ (z : Cell). z.names) r.state.cells c o.0 o.1)) in

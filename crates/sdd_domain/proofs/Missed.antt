@@ -5,8 +5,9 @@ use Rattle.atomic_table.specs.Table.{Me}
 use Rattle.sdd_homes.specs.declared.Owner.{Owner}
 use Rattle.sdd_domain.specs.Comparing.{owner_code, IsBack, HasTried, IsInFront}
 use Rattle.sdd_domain.specs.Contents.{IsIn, blanks}
+use Rattle.sdd_domain.specs.Layout.{packed}
 use Rattle.sdd_domain.specs.Leases.{leased_homes, HasNoted}
-use Rattle.sdd_domain.specs.Owners.{besides}
+use Rattle.sdd_domain.specs.Owners.{besides, slot_code}
 use Rattle.sdd_domain.specs.Plays.{own_spare, Brings, GetsBack}
 use Rattle.sdd_domain.specs.Sharing.{kept_in}
 use Rattle.sdd_domain.specs.declared.board.Acting.{Acting}
@@ -19,7 +20,7 @@ pub swapped : {T : Type 0} (m m' : Me (Home T) Acting) (y : ℕ) (tail : List (�
 swapped m m' y tail e = (m.0.known.loaded, [], e ∙ λ j. (record m.0 { leases = sym (append-nil m.0.leases) j; spare = y }, (own_spare m.0 y, Blank) ∷ sym (append-nil tail) j))
 
 -- an owner was brought, and then a load was noted
-module _ {T : Type 0} (holds : T → List (ℕ × ℕ)) (m m2 m4 : Me (Home T) Acting) (spare w : ℕ) (tail : List (ℕ × Home T)) (owner : Option Owner) (low : spare < 8589934592) (at : m.0.spare ≡ spare)
+module _ {T : Type 0} (holds : T → List (ℕ × ℕ)) (m m2 m4 : Me (Home T) Acting) (spare w : ℕ) (tail : List (ℕ × Home T)) (owner : Option Owner) (low : spare < 2147483648) (at : m.0.spare ≡ spare)
     (b : Brings (IsIn holds) m2 owner m.0.hand w tail) (is : m2.0 ≡ record m.0 { hand = besides owner m.0.hand }) (n : HasNoted m2 m4) where
   abbrev d : Acting
   d = record m.0 { known = record m.0.known { loaded = n.0 }; leases = m.0.leases ++ n.1 }
@@ -39,7 +40,7 @@ module _ {T : Type 0} (holds : T → List (ℕ × ℕ)) (m m2 m4 : Me (Home T) A
       ∙ (λ j. (record d { spare = at j; hand = besides owner m.0.hand }, (own_spare m.0 (at j), b.2.0) ∷ more))))
 
   pub gets : GetsBack (IsIn holds) start m.0.hand w more m4
-  gets = (spare, low, (owner, b.1 ∙ ap (λ (z : Acting). z.spare + 8589934592 * Rattle.sdd_domain.specs.Owners.slot_code owner) is ∙ ap (λ k. k + 8589934592 * Rattle.sdd_domain.specs.Owners.slot_code owner) at, (b.2.0, b.2.1, lies)))
+  gets = (spare, low, (owner, (b.1.0, b.1.1, b.1.2 ∙ ap (λ (z : Acting). packed z.spare b.1.0 (slot_code owner)) is ∙ ap (λ k. packed k b.1.0 (slot_code owner)) at), (b.2.0, b.2.1, lies)))
 
 -- what was in front of what is out is there still
 pub front_still : {T : Type 0} (s : Shared T) (m2 m4 : Me (Home T) Acting) → HasNoted m2 m4 → IsInFront s m2.1 → IsInFront s m4.1

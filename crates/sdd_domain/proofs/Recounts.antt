@@ -128,7 +128,7 @@ module _ (S : Type 0) (IsIn : Content → S → Type 0) (plan : Plan) (s : State
       settled = λ j w q at_j e. ⊎_elim (λ (h : (j ≡ i) × (it' ≡ w)). c.settled q (ap (λ (z : Item). z.state) h.1 ∙ e)) (λ (h : (j ≢ i) × At r.state.items j w). r.items.settled j w q h.1 e) (at_set r.state.items i j it' w at_j);
       many = r.items.many;
       long = length-set s.words word (2 + it'.owners) ∙ r.items.long;
-      cell_words = λ e x at_e. let le = length-map r.state.cells (λ (q : Cell). q.names) in let in_ = at_inside (names_of r.state.cells) e x at_e in let many = r.items.many in get_or-set_other s.words word (cell_word plan.sizes e) (2 + it'.owners) 0 (λ z. omega arith) ∙ r.items.cell_words e x at_e;
+      cell_words = λ e x at_e. let le = length-map r.state.cells (λ (q : Cell). q.names) in let in_ = at_inside (names_of r.state.cells) e x at_e in let many = r.items.many in let was = r.items.cell_words e x at_e in (was.0, was.1, get_or-set_other s.words word (cell_word plan.sizes e) (2 + it'.owners) 0 (λ z. omega arith) ∙ was.2);
       slot_words = slots_now;
       vacancies = vacancies_now;
       alone = r.items.alone;

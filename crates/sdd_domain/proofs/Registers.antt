@@ -142,7 +142,7 @@ module _ (S : Type 0) (IsIn : Content → S → Type 0) (plan : Plan) where
       };
     }
 
-  pub claims : (slots id : ℕ) (me : Me S Acting) (q : ℕ) → me.0.kind ≡ 0 → me.0.hand ≡ [] → q < plan.sizes.participants → plan.sizes.cells + plan.sizes.participants ≤ 2 ^ 33
+  pub claims : (slots id : ℕ) (me : Me S Acting) (q : ℕ) → me.0.kind ≡ 0 → me.0.hand ≡ [] → q < plan.sizes.participants → plan.sizes.cells + plan.sizes.participants ≤ 2 ^ 31
       → Allows (Shows IsIn plan) slots id me (claim_word q) (λ _. 0) (claim_then IsIn (step slots (claim_word q) 0 0 none) me)
   claims slots id me q kind bare small few s r _ at _ = let d = me.0 in let i : ℕ = claim_word q in let k : ℕ = get_or s.words i 0 in dite (ℕ_discrete k 0)
       (λ taken. (d, keeps, tt, subst (λ z. Shows IsIn plan record { words = set s.words i z; homes = s.homes; views = set s.views id d }) taken (idles S IsIn plan s r i id d at), λ _ _. ((λ _. refl), λ y e. absurd (omega arith))))

@@ -177,7 +177,7 @@ module _ {S : Type 0} {IsIn : Content → S → Type 0} {sizes : Sizes} {state :
         settled = λ i it' q at e. let t = stir.back i it' at in r.settled i t.0 q t.1 (t.2.due q e);
         many = ap length v.cells ∙ r.many;
         long = v.long ∙ r.long;
-        cell_words = λ c o at. v.high (cell_word sizes c) (omega arith) ∙ r.cell_words c o (subst (λ (cs : List Cell). At (names_of cs) c o) v.cells at);
+        cell_words = λ c o at. let was = r.cell_words c o (subst (λ (cs : List Cell). At (names_of cs) c o) v.cells at) in (was.0, was.1, v.high (cell_word sizes c) (omega arith) ∙ was.2);
         slot_words = λ k i it' lk is at. let t = stir.back i it' at in v.high (slot_word sizes k) (omega arith) ∙ (r.slot_words k i t.0 lk is t.1 ∙ ap (λ z. 2 + z) (sym t.2.owners));
         vacancies = λ k lk none. r.vacancies k lk (sym (v.high (slot_word sizes k) (omega arith)) ∙ none);
         alone = λ c o at. r.alone c o (subst (λ (cs : List Cell). At cs c o) v.cells at);
@@ -290,7 +290,7 @@ module _ {S : Type 0} {IsIn : Content → S → Type 0} {sizes : Sizes} {state :
       settled = r.settled;
       many = r.many;
       long = w.long ∙ r.long;
-      cell_words = λ k o at_k. w.high (cell_word sizes k) (omega arith) ∙ r.cell_words k o at_k;
+      cell_words = λ k o at_k. let was = r.cell_words k o at_k in (was.0, was.1, w.high (cell_word sizes k) (omega arith) ∙ was.2);
       slot_words = λ k i it lk is at_i. w.high (slot_word sizes k) (omega arith) ∙ r.slot_words k i it lk is at_i;
       vacancies = λ k lk none. r.vacancies k lk (sym (w.high (slot_word sizes k) (omega arith)) ∙ none);
       alone = r.alone;

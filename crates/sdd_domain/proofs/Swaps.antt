@@ -34,7 +34,7 @@ use Rattle.sdd_homes.proofs.PartLemmas as parts
 use Rattle.sdd_homes.proofs.SwapLemmas.{Handy, handy_swapped, handy_back, hand_swapped, names_swapped, alone_swapped}
 use Rattle.sdd_homes.proofs.SpareLemmas.{Was, exchanged, spare_of_user, spare_of_cell, spare_of_others, extra_of_others, swapped}
 use Rattle.sdd_homes.proofs.HandLemmas.{owned_set, owned_some, mine_some}
-use Rattle.sdd_domain.specs.Layout.{cell_word, slot_word, claim_word, state_word, all_homes, all_extras, bag_place, packed}
+use Rattle.sdd_domain.specs.Layout.{cell_word, slot_word, claim_word, state_word, all_homes, all_extras, bag_place, packed, Tells}
 use Rattle.sdd_domain.specs.Items.{owners_in_hand, code, Grip, Owns, HasState, IsWaiting, Carries, Items}
 use Rattle.sdd_domain.specs.Owners.{item_of, slot_code, part_of, besides}
 use Rattle.sdd_domain.specs.Rule.{Runs, Shows}
@@ -99,7 +99,7 @@ word_of slot_of None h = refl
 word_of slot_of (Some o) h = ap suc (sym (h o refl))
 
 module _ (S : Type 0) (IsIn : Content → S → Type 0) (plan : Plan) (s : State S Acting) (r : Shows IsIn plan s) (id c : ℕ) (d : Acting) (at : get_elem? s.views id ≡ some d) (kind : d.kind ≡ 1) (ready : is_ready d.known ≡ true) (idle : d.releasing ≡ 0) (lc : c < plan.sizes.cells)
-    (new old : Option Owner) (os : List Owner) (brings : d.hand ≡ besides new os) (o : Cell) (at_c : At r.state.cells c o) (names : o.names ≡ item_of old) (was : (w : Owner) → old ≡ Some w → Owns r.state.items r.book.slot_of w) (u : S) (is_in : IsIn (part_of new) u) where
+    (new old : Option Owner) (os : List Owner) (brings : d.hand ≡ besides new os) (o : Cell) (at_c : At r.state.cells c o) (names : o.names ≡ item_of old) (was : (w : Owner) → old ≡ Some w → Owns r.state.items r.book.slot_of w) (u : S) (is_in : IsIn (part_of new) u) (tag : ℕ) (few : tag < 4) where
   abbrev n : ℕ
   n = plan.sizes.participants
 
@@ -119,7 +119,7 @@ module _ (S : Type 0) (IsIn : Content → S → Type 0) (plan : Plan) (s : State
   cw = cell_word plan.sizes c
 
   abbrev value : ℕ
-  value = packed d.spare (slot_code new)
+  value = packed d.spare tag (slot_code new)
 
   low : d.number < n
   low = let l = at_inside r.state.participants d.number d.known (r.epochs.seats id d at kind).is in let many = r.epochs.many in omega arith
@@ -187,13 +187,16 @@ module _ (S : Type 0) (IsIn : Content → S → Type 0) (plan : Plan) (s : State
   lies = let b = r.items.seats id d at kind in takes_high (subst (λ z. Lying IsIn (all_homes plan.sizes) (all_extras plan.sizes) r.book.what (put r.book.extra (r.book.spare v) (part_of new)) (set s.homes (all_homes plan.sizes + z) (some u))) b.spare
       (gives_high r.items.lying (r.book.spare v) (part_of new) u (let in_ = r.items.spares.range v lv in omega arith) is_in)) (r.book.spare c) (let in_ = r.items.spares.range c (omega arith) in omega arith)
 
-  cells_now : (e : ℕ) (x : Option ℕ) → At (names_of t.cells) e x → get_or words' (cell_word plan.sizes e) 0 ≡ packed (book'.spare e) (code r.book.slot_of x)
+  cells_now : (e : ℕ) (x : Option ℕ) → At (names_of t.cells) e x → Tells (get_or words' (cell_word plan.sizes e) 0) (book'.spare e) (code r.book.slot_of x)
   cells_now e x at_e = let b = r.items.seats id d at kind in let long = r.items.long in ⊎_elim
-      (λ (h : (e ≡ c) × (item_of new ≡ x)). subst (λ (q : ℕ × Option ℕ). get_or words' (cell_word plan.sizes q.0) 0 ≡ packed (book'.spare q.0) (code r.book.slot_of q.1)) (λ j. (sym h.0 j, h.1 j))
-      (get_or-set_same s.words cw value 0 (omega arith) ∙ (λ j. packed ((sym b.spare ∙ sym (spare_of_cell r.items.spares c v (part_of new) lc lv ne)) j) (code_is j))))
-      (λ (h : (e ≢ c) × At (names_of r.state.cells) e x). let many = r.items.many in let le = length-map r.state.cells (λ (q : Cell). q.names) in let in_ = at_inside (names_of r.state.cells) e x h.1 in
-      get_or-set_other s.words cw (cell_word plan.sizes e) value 0 (λ z. h.0 (omega arith))
-      ∙ (r.items.cell_words e x h.1 ∙ ap (λ z. packed z (code r.book.slot_of x)) (sym (spare_of_others r.items.spares c v (part_of new) lc lv ne e h.0 (λ z. omega arith)))))
+      (λ (h : (e ≡ c) × (item_of new ≡ x)). subst (λ (q : ℕ × Option ℕ). Tells (get_or words' (cell_word plan.sizes q.0) 0) (book'.spare q.0) (code r.book.slot_of q.1)) (λ j. (sym h.0 j, h.1 j))
+      (tag, few, get_or-set_same s.words cw value 0 (omega arith) ∙ (λ j. packed ((sym b.spare ∙ sym (spare_of_cell r.items.spares c v (part_of new) lc lv ne)) j) tag (code_is j))))
+      (λ (h : (e ≢ c) × At (names_of r.state.cells) e x). let many = r.items.many in let le = length-map r.state.cells (λ (q : Cell). q.names) in let in_ = at_inside (names_of r.state.cells) e x h.1 in let before = r.items.cell_words e x h.1 in (
+        before.0,
+        before.1,
+        get_or-set_other s.words cw (cell_word plan.sizes e) value 0 (λ z. h.0 (omega arith))
+            ∙ (before.2 ∙ ap (λ z. packed z before.0 (code r.book.slot_of x)) (sym (spare_of_others r.items.spares c v (part_of new) lc lv ne e h.0 (λ z. omega arith)))),
+      ))
       (at_set (names_of r.state.cells) c e (item_of new) x (subst (λ ns. At ns e x) (names_swapped r.state c (item_of new)) at_e))
 
   hands_now : (i : ℕ) (it' : Item) → At t.items i it' → it'.hand ≡ owned owners_in_hand i (set s.views id d')

@@ -18,7 +18,7 @@ use Rattle.sdd_homes.specs.Spares.{Spares}
 use Rattle.sdd_homes.specs.Reasons.{Why}
 use Rattle.sdd_homes.specs.Lying.{Lying}
 use Rattle.sdd_homes.specs.Hands.{items_of, owned}
-use Rattle.sdd_domain.specs.Layout.{claim_word, cell_word, slot_word, packed, all_words, all_homes, all_extras, bag_place}
+use Rattle.sdd_domain.specs.Layout.{claim_word, cell_word, slot_word, Tells, all_words, all_homes, all_extras, bag_place}
 use Rattle.sdd_domain.specs.declared.board.Acting.{Acting}
 
 abbrev pub owners_in_hand : Acting → List Owner
@@ -92,7 +92,7 @@ pub record Items {S : Type 0} (IsIn : Content → S → Type 0) (sizes : Sizes) 
   pub settled : (i : ℕ) (it : Item) (q : ℕ) → At state.items i it → it.state ≢ Due q
   pub many : length state.cells ≡ sizes.cells
   pub long : length words ≡ all_words sizes
-  pub cell_words : (c : ℕ) (o : Option ℕ) → At (names_of state.cells) c o → slice_index words (cell_word sizes c) ≡ packed (book.spare c) (code book.slot_of o)
+  pub cell_words : (c : ℕ) (o : Option ℕ) → At (names_of state.cells) c o → Tells (slice_index words (cell_word sizes c)) (book.spare c) (code book.slot_of o)
   pub slot_words : (k i : ℕ) (it : Item) → k < sizes.slots → book.stage k ≡ full i → At state.items i it → slice_index words (slot_word sizes k) ≡ 2 + it.owners
   pub vacancies : (k : ℕ) → k < sizes.slots → slice_index words (slot_word sizes k) ≡ 0 → book.stage k ≡ vacant
   pub alone : (c : ℕ) (o : Cell) → At state.cells c o → o.holder ≡ None

@@ -1,5 +1,5 @@
 -- where the words of a shared place lie: hot words of different threads are eight words apart
-use Rattle.std.specs.Prelude.{ℕ, suc, ◌+◌, ◌-◌, ◌*◌, ◌^◌, ◌≤◌, min}
+use Rattle.std.specs.Prelude.{◌≡◌, ℕ, suc, ◌+◌, ◌-◌, ◌*◌, ◌^◌, ◌<◌, ◌≤◌, min}
 use Rattle.sdd_base.specs.declared.sizes.Sizes.{Sizes}
 use Rattle.sdd_steps.specs.declared.participant.Phase.{Phase}
 use Rattle.sdd_steps.specs.declared.participant.Phase.TheVariants.{Idle, HasRead, Opened}
@@ -50,9 +50,13 @@ bag_place sizes p = all_spares sizes + p
 abbrev pub all_extras : Sizes → ℕ
 all_extras sizes = all_spares sizes + sizes.participants
 
--- the word of a cell: its spare slot, and the code of what it names
-abbrev pub packed : ℕ → ℕ → ℕ
-packed y k = y + 2 ^ 33 * k
+-- the word of a cell: its spare slot, its tag, and the code of what it names
+abbrev pub packed : ℕ → ℕ → ℕ → ℕ
+packed y t k = y + 2 ^ 31 * (t + 4 * k)
+
+-- the word of a cell tells this spare slot and this code, whatever the tag
+abbrev pub Tells : ℕ → ℕ → ℕ → Type 0
+Tells w y k = (t : ℕ) × (t < 4) × (w ≡ packed y t k)
 
 -- The whole count is published. The last two counts share a word: the last one is published only where no raise follows.
 abbrev pub shown : Phase → ℕ

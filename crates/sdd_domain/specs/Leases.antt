@@ -101,7 +101,7 @@ HasClonedOne m r m' = (ls : List Lease) × (map (λ (l : Lease). l.slot) ls ≡ 
 
 -- the seat acts for p under an open guard, has this spare slot, and releases nothing
 abbrev pub CanExchange : ℕ → ℕ → Acting → Type 0
-CanExchange p spare d = (d.kind ≡ 1) × (d.number ≡ p) × (is_ready d.known ≡ true) × (is_inside d.known ≡ true) × (d.releasing ≡ 0) × (d.spare ≡ spare) × (spare < 2 ^ 33)
+CanExchange p spare d = (d.kind ≡ 1) × (d.number ≡ p) × (is_ready d.known ≡ true) × (is_inside d.known ≡ true) × (d.releasing ≡ 0) × (d.spare ≡ spare) × (spare < 2 ^ 31)
 
 -- the seat acts for p, which has nothing leased and releases nothing, and may make steps on items
 abbrev pub IsAtRest : ℕ → Acting → Type 0

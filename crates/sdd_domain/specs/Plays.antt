@@ -13,7 +13,7 @@ use Rattle.sdd_homes.specs.declared.Filling.{Filling}
 use Rattle.sdd_homes.specs.declared.Garbage.{Garbage}
 use Rattle.sdd_homes.specs.Book.{Content, part, home, lease, Lends, Apart, recounted, blank, room, deed, bag}
 use Rattle.sdd_domain.specs.Views.{spent, registered, reading, publishing, rotated, looking, closing}
-use Rattle.sdd_domain.specs.Layout.{state_word, claim_word, slot_word, all_homes, bag_place, packed, shown}
+use Rattle.sdd_domain.specs.Layout.{state_word, claim_word, slot_word, all_homes, bag_place, Tells, shown}
 use Rattle.sdd_domain.specs.Owners.{slot_code, part_of, besides}
 use Rattle.sdd_domain.specs.declared.board.Acting.{Acting}
 
@@ -89,8 +89,8 @@ module _ {S : Type 0} (IsIn : Content → S → Type 0) where
 
   -- the cell is empty; or its item was leased already; or the participant's home of it comes out
   abbrev pub HasLoaded : Me S Acting → ℕ → Me S Acting → Type 0
-  HasLoaded m w m' = (y : ℕ) × (y < 2 ^ 33) × (((w ≡ packed y 0) × (m' ≡ m))
-      ⊎ ((k : ℕ) × (h : Loaded) × (w ≡ packed y (suc k)) × ((IsLeased m.0.leases k h × (m' ≡ (loading h m.0.leases m.0, m.1))) ⊎ takes_home m k h m')))
+  HasLoaded m w m' = (y : ℕ) × (y < 2 ^ 31) × ((Tells w y 0 × (m' ≡ m))
+      ⊎ ((k : ℕ) × (h : Loaded) × Tells w y (suc k) × ((IsLeased m.0.leases k h × (m' ≡ (loading h m.0.leases m.0, m.1))) ⊎ takes_home m k h m')))
 
   abbrev pub load_then : Step S → Me S Acting → ℕ → Me S Acting → Type 0
   load_then t m w m' = HasLoaded m w m'
@@ -138,15 +138,15 @@ module _ {S : Type 0} (IsIn : Content → S → Type 0) where
 
   -- a participant for which nobody acts is claimed: its word tells its spare slot
   abbrev pub claim_then : Step S → Me S Acting → ℕ → Me S Acting → Type 0
-  claim_then t m n m' = (q : ℕ) → t.word ≡ claim_word q → (n ≡ 0 → m' ≡ m) × ((y : ℕ) → n ≡ suc y → (y < 2 ^ 33) × HasRegistered m q y m')
+  claim_then t m n m' = (q : ℕ) → t.word ≡ claim_word q → (n ≡ 0 → m' ≡ m) × ((y : ℕ) → n ≡ suc y → (y < 2 ^ 31) × HasRegistered m q y m')
 
   -- the participant's spare slot is in front of what is out with the seat, with the part of an owner in hand, or empty; and w is its word for a cell
   abbrev pub Brings : Me S Acting → Option Owner → List Owner → ℕ → List (ℕ × S) → Type 0
-  Brings m new os w tail = (m.0.hand ≡ besides new os) × (w ≡ packed m.0.spare (slot_code new)) × ((u : S) × IsIn (part_of new) u × (m.1 ≡ (own_spare m.0 m.0.spare, u) ∷ tail))
+  Brings m new os w tail = (m.0.hand ≡ besides new os) × Tells w m.0.spare (slot_code new) × ((u : S) × IsIn (part_of new) u × (m.1 ≡ (own_spare m.0 m.0.spare, u) ∷ tail))
 
   -- in its place there is what the cell had, by its word w
   abbrev pub GetsBack : Me S Acting → List Owner → ℕ → List (ℕ × S) → Me S Acting → Type 0
-  GetsBack m os w tail m' = (y : ℕ) × (y < 2 ^ 33) × ((old : Option Owner) × (w ≡ packed y (slot_code old)) × ((u : S) × IsIn (part_of old) u × (m' ≡ (record m.0 { spare = y; hand = besides old os }, (own_spare m.0 y, u) ∷ tail))))
+  GetsBack m os w tail m' = (y : ℕ) × (y < 2 ^ 31) × ((old : Option Owner) × Tells w y (slot_code old) × ((u : S) × IsIn (part_of old) u × (m' ≡ (record m.0 { spare = y; hand = besides old os }, (own_spare m.0 y, u) ∷ tail))))
 
   abbrev pub swap_then : Step S → Me S Acting → ℕ → Me S Acting → Type 0
   swap_then t m w m' = (new : Option Owner) (os : List Owner) (tail : List (ℕ × S)) → Brings m new os t.first tail → GetsBack m os w tail m'

@@ -44,7 +44,7 @@ impl AtomicShared {
     ghost use Rattle.sdd_domain.specs.Sharing.{kept_in};
     ghost use Rattle.sdd_domain.specs.Tokens.{place_of, home_of, own_of, born_of, waiting_of, misses_of, nest_of, nest_in, IsInNest, IsInNestButMisses};
 
-    /// A cell that owns nothing, if nobody has one of those that the place has: each is tried once. None is a miss of the
+    /// A cell that owns nothing, without a tag, if nobody has one of those that the place has: each is tried once. None is a miss of the
     /// participant. It must be spent by `into_shared` or `retire`.
     pub fn null<T: Holds>(domain: &Domain<T>, local: &mut Local<T>) -> Option<AtomicShared>
         ensures inside { IfSome result (λ c. cell_number c < cell_count domain.now) }
@@ -58,7 +58,7 @@ impl AtomicShared {
         }
     }
 
-    /// A cell that owns this item. The owner is back where there is no cell, which is a miss.
+    /// A cell that owns this item, without a tag. The owner is back where there is no cell, which is a miss.
     pub fn from<T: Holds>(
         owner: Shared<T>,
         domain: &Domain<T>,
@@ -77,7 +77,7 @@ impl AtomicShared {
             return Err(owner);
         };
         // Whoever had the cell before left nothing in it.
-        if let Some(old) = cell.swap(Some(owner), domain, local) {
+        if let (Some(old), _) = cell.swap((Some(owner), Tag::None), domain, local) {
             old.release(domain, local);
         }
         Ok(cell)
@@ -161,17 +161,18 @@ impl AtomicShared {
         (loaded, tag)
     }
 
-    /// Swaps what the cell owns, in one step: the owner goes into it, and the one that it had comes out.
+    /// Swaps what the cell owns and its tag, in one step: the owner and the tag go into it, and those that it had come
+    /// out.
     pub fn swap<T: Holds>(
         &self,
-        new: Option<Shared<T>>,
+        new: (Option<Shared<T>>, Tag),
         domain: &Domain<T>,
         local: &mut Local<T>,
-    ) -> Option<Shared<T>>
+    ) -> (Option<Shared<T>>, Tag)
         requires home { home_of local.old ≡ place_of domain.now }
         requires inside { cell_number self.now < cell_count domain.now }
-        requires mine { IfSome new (λ s. kept_in s ≡ (place_of domain.now).0) }
-        ensures home { IfSome result (λ s. kept_in s ≡ (place_of domain.now).0) }
+        requires mine { IfSome new.0 (λ s. kept_in s ≡ (place_of domain.now).0) }
+        ensures home { IfSome result.0 (λ s. kept_in s ≡ (place_of domain.now).0) }
         ensures same { IsInNest local.old local.new × (own_of local.new ≡ own_of local.old) × (born_of local.new ≡ born_of local.old) × (waiting_of local.new ≡ waiting_of local.old) }
     {
         let Local { place, spare, .. } = local;
@@ -210,7 +211,10 @@ impl AtomicShared {
             let found = self.loaded(domain, guard, local);
             return Err((new, found));
         }
-        try_exchange(local, domain, self.cell, word, new)
+        match try_exchange(local, domain, self.cell, word, (new, Tag::None)) {
+            Ok(old) => Ok(old),
+            Err((back, found, _)) => Err((back, found)),
+        }
     }
 
     /// What the cell owned. The cell is the next one's that asks for one.
@@ -224,7 +228,7 @@ impl AtomicShared {
         ensures home { IfSome result (λ s. kept_in s ≡ (place_of domain.now).0) }
         ensures same { IsInNest local.old local.new × (own_of local.new ≡ own_of local.old) × (born_of local.new ≡ born_of local.old) × (waiting_of local.new ≡ waiting_of local.old) }
     {
-        let owner = self.swap(None, domain, local);
+        let (owner, _) = self.swap((None, Tag::None), domain, local);
         let AtomicShared { cell } = self;
         domain.taken[cell].store(false, Ordering::SeqCst);
         owner

@@ -6,7 +6,7 @@ ghost use Rattle.std.specs.VecDeque.{deque_capacity, deque_len};
 ghost use Rattle.sdd_homes.specs.declared.Lease.{Lease};
 ghost use Rattle.sdd_domain.specs.Comparing.{owner_code, loaded_code, IsBack, HasTried};
 ghost use Rattle.sdd_domain.specs.Fitting.{FitsSizes};
-ghost use Rattle.sdd_domain.specs.Layout.{all_words, IsSized};
+ghost use Rattle.sdd_domain.specs.Layout.{packed, all_words, IsSized};
 ghost use Rattle.sdd_domain.specs.Leases.{row_told, lease_told, HasRows, KeepsRows, CanExchange};
 ghost use Rattle.sdd_domain.specs.Plays.{own_spare};
 ghost use Rattle.sdd_domain.specs.Sharing.{kept_in};
@@ -25,8 +25,10 @@ use crate::pointer::Loaded;
 use crate::row::Row;
 use crate::shared::Shared;
 use crate::swapping::{bring, take_back};
+use crate::tags::tag_in;
 use parted::Life;
 use sdd_base::sizes::Sizes;
+use sdd_base::tag::Tag;
 use std::collections::VecDeque;
 
 /// The word of a cell.
@@ -38,7 +40,7 @@ pub(crate) fn word_of<T: Holds>(words: &Words<T>, sizes: &Sizes, cell: usize) ->
 
 /// Whether a cell's word names the item that was loaded, or nothing where nothing was loaded.
 pub(crate) fn names<T>(word: u64, current: &Loaded<T>) -> bool
-    ensures { (y c : ℕ) → y < 2 ^ 33 → word ≡ y + 2 ^ 33 * c → (IsTrue result ↔ c ≡ loaded_code current.now) }
+    ensures { (y t c : ℕ) → y < 2 ^ 31 → t < 4 → word ≡ packed y t c → (IsTrue result ↔ c ≡ loaded_code current.now) }
 {
     match slot_named(word) {
         Some(slot) => current.seen.is_some() && slot == current.slot,
@@ -46,9 +48,9 @@ pub(crate) fn names<T>(word: u64, current: &Loaded<T>) -> bool
     }
 }
 
-/// Swaps what a cell owns, in one step, where its word is `expected`, and gives the owner that it had. Else that step
-/// loaded the cell: the owner that was brought is back, and with it which row is that of the item that was found, if one
-/// was. First comes the number of the spare slot that is the participant's now.
+/// Swaps what a cell owns and its tag, in one step, where its word is `expected`, and gives the owner that it had. Else
+/// that step loaded the cell: the owner that was brought is back, and with it which row is that of the item that was
+/// found, if one was, and the tag that was. First comes the number of the spare slot that is the participant's now.
 pub(crate) fn exchange_owner<T: Holds>(
     words: &Words<T>,
     place: &mut Place<T>,
@@ -59,34 +61,34 @@ pub(crate) fn exchange_owner<T: Holds>(
     life: &Life,
     cell: usize,
     expected: u64,
-    new: Option<Shared<T>>,
+    new: (Option<Shared<T>>, Tag),
 ) -> (
     u64,
-    Result<Option<Shared<T>>, (Option<Shared<T>>, Option<usize>)>,
+    Result<Option<Shared<T>>, (Option<Shared<T>>, Option<usize>, Tag)>,
 )
     requires table { FitsSizes words.now.table_id words.now.key.sizes place.old.table_id place.old.me.0.sizes sizes.now × (number < sizes.now.participants) × (cell < sizes.now.cells) }
     requires ready { CanExchange number spare place.old.me.0 }
     requires rows { HasRows life.now.id sizes.now.slots place.old.me.0.leases rows.old.items (deque_capacity rows.old) }
     requires out { (tail : List (ℕ × Home T)) × (place.old.me.1 ≡ (own_spare place.old.me.0 spare, Blank) ∷ tail) }
-    requires mine { IfSome new (λ s. kept_in s ≡ words.now.table_id) }
+    requires mine { IfSome new.0 (λ s. kept_in s ≡ words.now.table_id) }
     ensures seat { (place.new.table_id ≡ place.old.table_id) × (place.new.id ≡ place.old.id) }
-    ensures spare { result.0 < 2 ^ 33 }
+    ensures spare { result.0 < 2 ^ 31 }
     ensures tried { (tail : List (ℕ × Home T)) → place.old.me.1 ≡ (own_spare place.old.me.0 spare, Blank) ∷ tail → HasTried place.old.me result.0 tail place.new.me }
     ensures rows { KeepsRows life.now.id sizes.now.slots place.new.me.0.leases rows.new.items (deque_capacity rows.old) (deque_capacity rows.new) }
     ensures mine { IfOk result.1 (λ old. IfSome old (λ s. kept_in s ≡ words.now.table_id)) }
-    ensures hit { IfOk result.1 (λ old. (y c : ℕ) → y < 2 ^ 33 → expected ≡ y + 2 ^ 33 * c → owner_code old ≡ c) }
-    ensures back { IfErr result.1 (λ t. IsBack new t.0) }
+    ensures hit { IfOk result.1 (λ old. (y t c : ℕ) → y < 2 ^ 31 → t < 4 → expected ≡ packed y t c → owner_code old ≡ c) }
+    ensures back { IfErr result.1 (λ t. IsBack new.0 t.0) }
     ensures row { IfErr result.1 (λ t. IfSome t.1 (λ at. at < deque_len rows.new)) }
 {
     let word = bring(words, place, sizes, spare, new);
     let found = cells::compare_exchange(words, place, sizes.participants, cell, expected, word);
     if found == expected {
-        let (free, old) = take_back(words, place, sizes, found);
+        let (free, (old, _)) = take_back(words, place, sizes, found);
         return (free, Ok(old));
     }
     let at = note_found(words, place, sizes, number, rows, life, found);
-    let (free, back) = take_back(words, place, sizes, word);
-    (free, Err((back, at)))
+    let (free, (back, _)) = take_back(words, place, sizes, word);
+    (free, Err((back, at, tag_in(found))))
 }
 
 /// What the item of a row is read by, or nothing.
@@ -112,15 +114,15 @@ pub(crate) fn try_exchange<T: Holds>(
     domain: &Domain<T>,
     cell: usize,
     expected: u64,
-    new: Option<Shared<T>>,
-) -> Result<Option<Shared<T>>, (Option<Shared<T>>, Loaded<T>)>
+    new: (Option<Shared<T>>, Tag),
+) -> Result<Option<Shared<T>>, (Option<Shared<T>>, Loaded<T>, Tag)>
     requires home { home_of local.old ≡ place_of domain.now }
     requires open { 0 < (own_of local.old).nesting }
     requires inside { cell < cell_count domain.now }
-    requires mine { IfSome new (λ s. kept_in s ≡ (place_of domain.now).0) }
+    requires mine { IfSome new.0 (λ s. kept_in s ≡ (place_of domain.now).0) }
     ensures home { IfOk result (λ old. IfSome old (λ s. kept_in s ≡ (place_of domain.now).0)) }
-    ensures hit { IfOk result (λ old. (y c : ℕ) → y < 2 ^ 33 → expected ≡ y + 2 ^ 33 * c → owner_code old ≡ c) }
-    ensures back { IfErr result (λ t. IsBack new t.0) }
+    ensures hit { IfOk result (λ old. (y t c : ℕ) → y < 2 ^ 31 → t < 4 → expected ≡ packed y t c → owner_code old ≡ c) }
+    ensures back { IfErr result (λ t. IsBack new.0 t.0) }
     ensures seen { IfErr result (λ t. ForSome t.1.seen (λ s. (number_of local.old, s.life) ≡ nest_in local.old)) }
     ensures same { IsInNest local.old local.new × (own_of local.new ≡ own_of local.old) × (born_of local.new ≡ born_of local.old) × (waiting_of local.new ≡ waiting_of local.old) }
 {
@@ -148,6 +150,6 @@ pub(crate) fn try_exchange<T: Holds>(
     *spare = free;
     match tried {
         Ok(old) => Ok(old),
-        Err((back, at)) => Err((back, loaded_at(&local.rows, at))),
+        Err((back, at, tag)) => Err((back, loaded_at(&local.rows, at), tag)),
     }
 }

@@ -7,7 +7,7 @@ ghost use Rattle.atomic_table.specs.Table.{Me};
 ghost use Rattle.sdd_domain.specs.Outcomes.{KeepsOut};
 ghost use Rattle.sdd_domain.specs.Contents.{IsIn, is_blank};
 ghost use Rattle.sdd_domain.specs.Fitting.{FitsSizes};
-ghost use Rattle.sdd_domain.specs.Layout.{IsSized};
+ghost use Rattle.sdd_domain.specs.Layout.{packed, IsSized};
 ghost use Rattle.sdd_domain.specs.Leases.{row_told, lease_told, leased_homes, row_slots, all_below, has_all, HasLeased, HasNoted, HasRows, KeepsRows, WasLoaded};
 ghost use Rattle.sdd_domain.specs.Plays.{HasLoaded};
 ghost use Rattle.sdd_domain.specs.declared.board.Acting.{Acting};
@@ -25,10 +25,11 @@ use sdd_base::sizes::Sizes;
 use sdd_base::tag::Tag;
 use std::collections::VecDeque;
 
-/// The slot that a cell's word names, if it names one: one more than it stands above the number of the spare slot.
+/// The slot that a cell's word names, if it names one: one more than it stands above the number of the spare slot and
+/// the tag.
 pub(crate) fn slot_named(word: u64) -> Option<usize>
-    ensures some { IfSome result (λ k. (k < 2 ^ 31) × ((y c : ℕ) → y < 2 ^ 33 → word ≡ y + 2 ^ 33 * c → c ≡ k + 1)) }
-    ensures none { IfNone result ((y c : ℕ) → y < 2 ^ 33 → word ≡ y + 2 ^ 33 * c → c ≡ 0) }
+    ensures some { IfSome result (λ k. (k < 2 ^ 31) × ((y t c : ℕ) → y < 2 ^ 31 → t < 4 → word ≡ packed y t c → c ≡ k + 1)) }
+    ensures none { IfNone result ((y t c : ℕ) → y < 2 ^ 31 → t < 4 → word ≡ packed y t c → c ≡ 0) }
 {
     let code = word / (1 << 33);
     if code == 0 {

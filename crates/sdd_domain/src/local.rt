@@ -55,7 +55,7 @@ pub struct Local<T> {
     /// How often it was refused for want of a slot, a cell or a part of an item.
     pub(crate) misses: Tally,
     ghost acts: { (place.me.0.kind ≡ 1) × (place.me.0.number ≡ number) × (place.me.0.scan ≡ 0) × (number < 2 ^ 30) × (claim_word number < place.table_id.words) × (place.me.0.releasing ≡ 0) },
-    ghost has_spare: { (place.me.0.spare ≡ spare) × (spare < 2 ^ 33) × (has_all is_blank (own_spare place.me.0 spare ∷ own_bag place.me.0 ∷ leased_homes place.me.0 place.me.0.leases) place.me.1 ≡ true) },
+    ghost has_spare: { (place.me.0.spare ≡ spare) × (spare < 2 ^ 31) × (has_all is_blank (own_spare place.me.0 spare ∷ own_bag place.me.0 ∷ leased_homes place.me.0 place.me.0.leases) place.me.1 ≡ true) },
     ghost lends: { (map row_told rows.items ≡ map (lease_told (life_number life)) place.me.0.leases) × (place.me.0.sizes.slots ≤ deque_capacity rows) × (all_below place.me.0.sizes.slots (row_slots rows.items) ≡ true) },
     ghost shut: { ForNone life ((own.nesting ≡ 0) × (place.me.0.leases ≡ [])) },
     ghost alive: { ForSome life (λ f. (0 < own.nesting) × (f.count + own.nesting ≡ 2 ^ 63)) },
@@ -149,7 +149,7 @@ impl<T: Holds> Local<T> {
         spare: u64,
         ledger: Ledger<T>,
     ) -> Local<T>
-        requires acts { HasRegistered (IsIn T.holds) (spent, []) number spare place.me × (spare < 2 ^ 33) }
+        requires acts { HasRegistered (IsIn T.holds) (spent, []) number spare place.me × (spare < 2 ^ 31) }
         requires table { FitsNumber words.now.table_id words.now.key.sizes place.table_id place.me.0.sizes sizes.now number }
         requires empty { IsEmpty sizes.now.slots ledger }
         ensures { (home_of result ≡ (place.table_id, place.me.0.sizes)) × (number_of result ≡ number) × (own_of result ≡ no_local) × (hand_of result ≡ []) }

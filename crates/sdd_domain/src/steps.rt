@@ -139,7 +139,7 @@ pub(crate) fn claim<T: Holds>(words: &Words<T>, place: &mut Place<T>, number: us
     requires table { HasClaimOf words.now.table_id words.now.key.sizes place.old.table_id number }
     requires nobody { (place.old.me.0.kind ≡ 0) × IsBare place.old.me.0 }
     ensures seat { (place.new.table_id ≡ place.old.table_id) × (place.new.id ≡ place.old.id) }
-    ensures claimed { IfSome result (λ y. (y < 2 ^ 33) × HasRegistered (IsIn T.holds) place.old.me number y place.new.me) }
+    ensures claimed { IfSome result (λ y. (y < 2 ^ 31) × HasRegistered (IsIn T.holds) place.old.me number y place.new.me) }
     ensures refused { IfNone result (place.new.me ≡ place.old.me) }
 {
     let found = words.swap::<OnClaim>(place, STRIDE * number + CLAIM, 0);
@@ -183,7 +183,7 @@ pub(crate) fn take_over<T: Holds>(words: &Words<T>, place: &mut Place<T>)
 pub(crate) fn end<T: Holds>(words: &Words<T>, place: &mut Place<T>, number: usize, spare: u64)
     requires table { (place.old.table_id ≡ words.now.table_id) × (number < 2 ^ 30) × (claim_word number < words.now.table_id.words) }
     requires rests { (place.old.me.0.kind ≡ 1) × (place.old.me.0.number ≡ number) × (place.old.me.0.known.phase ≡ Idle) × (place.old.me.0.scan ≡ 0) × IsBare place.old.me.0 }
-    requires spare { (place.old.me.0.spare ≡ spare) × (spare < 2 ^ 33) × ((tail : List (ℕ × Home T)) × CanLeave (IsIn T.holds) place.old.me tail) }
+    requires spare { (place.old.me.0.spare ≡ spare) × (spare < 2 ^ 31) × ((tail : List (ℕ × Home T)) × CanLeave (IsIn T.holds) place.old.me tail) }
     ensures { (place.new.table_id ≡ place.old.table_id) × (place.new.id ≡ place.old.id) × (place.new.me ≡ (spent, rest (rest place.old.me.1))) }
 {
     words.store::<OnEnd>(place, STRIDE * number + CLAIM, spare + 1);

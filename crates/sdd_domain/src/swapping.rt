@@ -7,7 +7,9 @@ ghost use Rattle.sdd_homes.specs.declared.Owner.{Owner};
 ghost use Rattle.sdd_domain.specs.Outcomes.{BringsOne, TakesBack, HasSwapped};
 ghost use Rattle.sdd_domain.specs.Comparing.{owner_code, IsInFront};
 ghost use Rattle.sdd_domain.specs.Contents.{IsIn};
+ghost use Rattle.sdd_base.specs.Epochs.{tag_number};
 ghost use Rattle.sdd_domain.specs.Fitting.{FitsSizes};
+ghost use Rattle.sdd_domain.specs.Layout.{packed};
 ghost use Rattle.sdd_domain.specs.Plays.{own_spare, GetsBack};
 ghost use Rattle.sdd_domain.specs.Sharing.{kept_in};
 ghost use Rattle.sdd_domain.specs.declared.board.Acting.{Acting};
@@ -21,67 +23,71 @@ use crate::holds::Holds;
 use crate::homes::{let_go, parts_of};
 use crate::owners::{part_with, take_in};
 use crate::shared::Shared;
+use crate::tags::{tag_in, word_with};
 use parted::One;
 use sdd_base::sizes::Sizes;
+use sdd_base::tag::Tag;
 
 /// Where a spare slot lies.
 fn spare_at(sizes: &Sizes, spare: u64) -> usize
-    requires { (sizes.now.slots ≤ 2 ^ 30) × (sizes.now.participants ≤ 2 ^ 30) × (spare < 2 ^ 33) }
+    requires { (sizes.now.slots ≤ 2 ^ 30) × (sizes.now.participants ≤ 2 ^ 30) × (spare < 2 ^ 31) }
     ensures { result ≡ sizes.now.slots * (sizes.now.participants + 1) + spare }
 {
     sizes.slots * (sizes.participants + 1) + spare as usize
 }
 
 /// Puts the part of an owner into the participant's spare slot, and the owner into its hand, or leaves both empty. The
-/// word that says so in a cell is the answer.
+/// word that says so in a cell, with this tag, is the answer.
 pub(crate) fn bring<T: Holds>(
     words: &Words<T>,
     place: &mut Place<T>,
     sizes: &Sizes,
     spare: u64,
-    new: Option<Shared<T>>,
+    new: (Option<Shared<T>>, Tag),
 ) -> u64
     requires table { FitsSizes words.now.table_id words.now.key.sizes place.old.table_id place.old.me.0.sizes sizes.now }
-    requires ready { (place.old.me.0.kind ≡ 1) × (place.old.me.0.spare ≡ spare) × (spare < 2 ^ 33) }
+    requires ready { (place.old.me.0.kind ≡ 1) × (place.old.me.0.spare ≡ spare) × (spare < 2 ^ 31) }
     requires out { (tail : List (ℕ × Home T)) × (place.old.me.1 ≡ (own_spare place.old.me.0 spare, Blank) ∷ tail) }
-    requires mine { IfSome new (λ s. kept_in s ≡ words.now.table_id) }
+    requires mine { IfSome new.0 (λ s. kept_in s ≡ words.now.table_id) }
     ensures seat { (place.new.table_id ≡ place.old.table_id) × (place.new.id ≡ place.old.id) }
-    ensures code { result ≡ spare + 2 ^ 33 * owner_code new }
-    ensures lies { IfSome new (λ s. IsInFront s place.new.me.1) }
+    ensures code { (result ≡ packed spare (tag_number new.1) (owner_code new.0)) × (tag_number new.1 < 4) }
+    ensures lies { IfSome new.0 (λ s. IsInFront s place.new.me.1) }
     ensures brings { BringsOne (IsIn T.holds) place.old.me spare result place.new.me }
 {
-    let Some(owner) = new else {
-        return spare;
+    let (owner, tag) = new;
+    let Some(owner) = owner else {
+        return word_with(spare, tag, 0);
     };
     let Shared { slot, part, seat } = owner;
     take_in(words, place, seat);
     let at = spare_at(sizes, spare);
     let_go(words.exchange(place, at, Home::Part(part.into_part(), 1)));
-    spare + (1 << 33) * (slot as u64 + 1)
+    word_with(spare, tag, slot as u64 + 1)
 }
 
 /// Takes what a cell gave back: the number of the spare slot that is the participant's now, and the owner whose part was
-/// in it, if there was one.
+/// in it, if there was one, with the cell's tag.
 pub(crate) fn take_back<T: Holds>(
     words: &Words<T>,
     place: &mut Place<T>,
     sizes: &Sizes,
     word: u64,
-) -> (u64, Option<Shared<T>>)
+) -> (u64, (Option<Shared<T>>, Tag))
     requires table { FitsSizes words.now.table_id words.now.key.sizes place.old.table_id place.old.me.0.sizes sizes.now }
     requires ready { (place.old.me.0.kind ≡ 1) × (place.old.me.0.releasing ≡ 0) }
     requires back { (m : Me (Home T) Acting) × (os : List Owner) × (tail : List (ℕ × Home T)) × GetsBack (IsIn T.holds) m os word tail place.old.me }
     ensures seat { (place.new.table_id ≡ place.old.table_id) × (place.new.id ≡ place.old.id) }
-    ensures spare { result.0 < 2 ^ 33 }
-    ensures code { word ≡ result.0 + 2 ^ 33 * owner_code result.1 }
-    ensures whose { (s : Shared T) → IsInFront s place.old.me.1 → IfSome result.1 (λ back. back.part.part ≡ s.part.part) }
+    ensures spare { result.0 < 2 ^ 31 }
+    ensures code { (word ≡ packed result.0 (tag_number result.1.1) (owner_code result.1.0)) × (tag_number result.1.1 < 4) }
+    ensures whose { (s : Shared T) → IsInFront s place.old.me.1 → IfSome result.1.0 (λ back. back.part.part ≡ s.part.part) }
     ensures back { TakesBack (IsIn T.holds) word place.old.me result.0 place.new.me }
-    ensures mine { IfSome result.1 (λ s. kept_in s ≡ words.now.table_id) }
+    ensures mine { IfSome result.1.0 (λ s. kept_in s ≡ words.now.table_id) }
 {
-    let spare = word % (1 << 33);
+    let spare = word % (1 << 31);
+    let tag = tag_in(word);
     let code = word / (1 << 33);
     if code == 0 {
-        return (spare, None);
+        return (spare, (None, tag));
     }
     let at = spare_at(sizes, spare);
     let (part, _) = parts_of(words.exchange(place, at, Home::Blank));
@@ -91,26 +97,26 @@ pub(crate) fn take_back<T: Holds>(
         part: One::from_part(part),
         seat,
     };
-    (spare, Some(owner))
+    (spare, (Some(owner), tag))
 }
 
-/// Swaps what a cell owns, in one step. The number of the participant's spare slot is another one then.
+/// Swaps what a cell owns and its tag, in one step. The number of the participant's spare slot is another one then.
 pub(crate) fn swap_owner<T: Holds>(
     words: &Words<T>,
     place: &mut Place<T>,
     sizes: &Sizes,
     spare: u64,
     cell: usize,
-    new: Option<Shared<T>>,
-) -> (u64, Option<Shared<T>>)
+    new: (Option<Shared<T>>, Tag),
+) -> (u64, (Option<Shared<T>>, Tag))
     requires table { FitsSizes words.now.table_id words.now.key.sizes place.old.table_id place.old.me.0.sizes sizes.now × (cell < sizes.now.cells) }
-    requires ready { (place.old.me.0.kind ≡ 1) × (is_ready place.old.me.0.known ≡ true) × (place.old.me.0.releasing ≡ 0) × (place.old.me.0.spare ≡ spare) × (spare < 2 ^ 33) }
+    requires ready { (place.old.me.0.kind ≡ 1) × (is_ready place.old.me.0.known ≡ true) × (place.old.me.0.releasing ≡ 0) × (place.old.me.0.spare ≡ spare) × (spare < 2 ^ 31) }
     requires out { (tail : List (ℕ × Home T)) × (place.old.me.1 ≡ (own_spare place.old.me.0 spare, Blank) ∷ tail) }
-    requires mine { IfSome new (λ s. kept_in s ≡ words.now.table_id) }
+    requires mine { IfSome new.0 (λ s. kept_in s ≡ words.now.table_id) }
     ensures seat { (place.new.table_id ≡ place.old.table_id) × (place.new.id ≡ place.old.id) }
-    ensures spare { result.0 < 2 ^ 33 }
+    ensures spare { result.0 < 2 ^ 31 }
     ensures swapped { HasSwapped place.old.me spare result.0 place.new.me }
-    ensures mine { IfSome result.1 (λ s. kept_in s ≡ words.now.table_id) }
+    ensures mine { IfSome result.1.0 (λ s. kept_in s ≡ words.now.table_id) }
 {
     let word = bring(words, place, sizes, spare, new);
     let found = swap(words, place, sizes.participants, cell, word);

@@ -2,12 +2,14 @@
 
 ghost use Rattle.std.specs.Prelude.{◌≡◌, ℕ, ◌+◌, ◌*◌, ◌^◌, ◌<◌};
 ghost use Rattle.sdd_base.specs.Epochs.{tag_number};
+ghost use Rattle.sdd_domain.specs.Layout.{packed};
 
 use sdd_base::tag::Tag;
 
 /// The number of a tag.
 pub(crate) fn number_of(tag: Tag) -> u64
-    ensures { result ≡ tag_number tag }
+    ensures number { result ≡ tag_number tag }
+    ensures few { tag_number tag < 4 }
 {
     match tag {
         Tag::None => 0,
@@ -17,9 +19,18 @@ pub(crate) fn number_of(tag: Tag) -> u64
     }
 }
 
+/// The word of a cell with this spare slot and this tag, which names what the code tells.
+pub(crate) fn word_with(spare: u64, tag: Tag, code: u64) -> u64
+    requires { (spare < 2 ^ 31) × (code < 2 ^ 31) }
+    ensures word { result ≡ packed spare (tag_number tag) code }
+    ensures few { tag_number tag < 4 }
+{
+    spare + (1 << 31) * (number_of(tag) + 4 * code)
+}
+
 /// The number of the tag in a cell's word.
 pub(crate) fn number_in(word: u64) -> u64
-    ensures told { (y t c : ℕ) → y < 2 ^ 31 → t < 4 → word ≡ y + 2 ^ 31 * (t + 4 * c) → result ≡ t }
+    ensures told { (y t c : ℕ) → y < 2 ^ 31 → t < 4 → word ≡ packed y t c → result ≡ t }
     ensures few { result < 4 }
 {
     word / (1 << 31) % 4
@@ -40,7 +51,7 @@ fn tag_of(number: u64) -> Tag
 
 /// The tag in a cell's word.
 pub(crate) fn tag_in(word: u64) -> Tag
-    ensures { (y t c : ℕ) → y < 2 ^ 31 → t < 4 → word ≡ y + 2 ^ 31 * (t + 4 * c) → tag_number result ≡ t }
+    ensures { (y t c : ℕ) → y < 2 ^ 31 → t < 4 → word ≡ packed y t c → tag_number result ≡ t }
 {
     tag_of(number_in(word))
 }

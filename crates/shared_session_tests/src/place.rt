@@ -10,6 +10,7 @@ ghost use Rattle.sdd_domain.specs.Tokens.{place_of, home_of, hand_of, own_of, ce
 ghost use Rattle.shared_versions.specs.Nodes.{held_by};
 
 use sdd_base::sizes::Sizes;
+use sdd_base::tag::Tag;
 use sdd_domain::atomic_shared::AtomicShared;
 use sdd_domain::domain::Domain;
 use sdd_domain::guard::Guard;
@@ -239,7 +240,7 @@ pub fn publish(
     ensures same { IsInNest local.old local.new }
     ensures open { (own_of local.new).nesting ≡ (own_of local.old).nesting }
 {
-    if let Some(old) = cell.swap(Some(owner), domain, local) {
+    if let (Some(old), _) = cell.swap((Some(owner), Tag::None), domain, local) {
         old.release(domain, local);
     }
 }

@@ -14,6 +14,7 @@ use crate::node::{Node, Version};
 use crate::owners::{place_two, take_back};
 use crate::pairs::{all_owners, hold_both};
 use crate::room::Room;
+use sdd_base::tag::Tag;
 use sdd_domain::atomic_shared::AtomicShared;
 use sdd_domain::domain::Domain;
 use sdd_domain::holds::Holds;
@@ -222,7 +223,7 @@ pub fn publish<K: Ord + Drop, V: Drop>(
     ensures hand { hand_of local.new ≡ hand_of local.old }
     ensures same { IsStill local.old local.new }
 {
-    if let Some(older) = root.swap(Some(new), domain, local) {
+    if let (Some(older), _) = root.swap((Some(new), Tag::None), domain, local) {
         let _last = older.release(domain, local);
     }
 }

@@ -51,5 +51,5 @@ returns-clause-rows g c = let b = c.bring-word.ensures.brings c.requires.out.0 c
     (r.0 ∙ (ap (λ (z : Me _ Acting). map (lease_told c.args.life.now.id) z.0.leases) n.2 ∙ (ap (λ (z : Acting). map (lease_told c.args.life.now.id) (z.leases ++ n.1)) b.2 ∙ sym (ap (λ (z : Me _ Acting). map (lease_told c.args.life.now.id) z.0.leases) all))), r.1, r.2)
 
 pub returns-clause-back : goal.returns-clause-back
-returns-clause-back g c = let b = c.bring-word.ensures.brings c.requires.out.0 c.requires.out.1 in let m = c.args.place.now.me in let m2 = c.bring-word.new.place.me in let m4 = c.note_found-at.new.place.me in let loaded = c.compare_exchange-found.ensures.miss c.if-found-expected.false in let n = c.note_found-at.ensures.noted m2 loaded (c.requires.rows.0 ∙ sym (ap (λ (z : Acting). map (lease_told c.args.life.now.id) z.leases) b.2)) in let code = c.take_back-free-2.ensures.code in let brought = c.bring-word.ensures.code in let low = c.take_back-free-2.ensures.spare in let small = c.requires.ready.6 in let same : owner_code c.args.new ≡ owner_code c.take_back-free-2.result.1 = omega arith in
-    is_back c.args.words.now.table_id c.args.new c.take_back-free-2.result.1 m4.1 same c.requires.mine c.take_back-free-2.ensures.mine (fronts_still c.args.new m2 m4 n c.bring-word.ensures.lies) c.take_back-free-2.ensures.whose
+returns-clause-back g c = let b = c.bring-word.ensures.brings c.requires.out.0 c.requires.out.1 in let m = c.args.place.now.me in let m2 = c.bring-word.new.place.me in let m4 = c.note_found-at.new.place.me in let loaded = c.compare_exchange-found.ensures.miss c.if-found-expected.false in let n = c.note_found-at.ensures.noted m2 loaded (c.requires.rows.0 ∙ sym (ap (λ (z : Acting). map (lease_told c.args.life.now.id) z.leases) b.2)) in let code = c.take_back-free-2.ensures.code.0 in let few = c.take_back-free-2.ensures.code.1 in let brought = c.bring-word.ensures.code.0 in let few_too = c.bring-word.ensures.code.1 in let low = c.take_back-free-2.ensures.spare in let small = c.requires.ready.6 in let same : owner_code c.args.new.0 ≡ owner_code c.take_back-free-2.result.1.0 = omega arith in
+    is_back c.args.words.now.table_id c.args.new.0 c.take_back-free-2.result.1.0 m4.1 same c.requires.mine c.take_back-free-2.ensures.mine (fronts_still c.args.new.0 m2 m4 n c.bring-word.ensures.lies) c.take_back-free-2.ensures.whose

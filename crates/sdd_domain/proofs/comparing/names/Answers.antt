@@ -20,13 +20,13 @@ module _ {X : Type 0} (k : ℕ) where
   none_code (Some x) false e = ((λ t. absurd (false≢true t)), (λ z. absurd (omega arith)))
 
 pub returns-then-is_some : goal.returns-then-is_some
-returns-then-is_some g c = λ y k low is. let slot : ℕ = c.in-Some.slot in let at : ℕ = c.args.current.now.slot in let code : k ≡ slot + 1 = c.in-Some.ensures.some.1 y k low is in let loaded : loaded_code c.args.current.now ≡ at + 1 = some_code at c.args.current.now.seen c.if-is_some.ensures in
+returns-then-is_some g c = λ y u k low few is. let slot : ℕ = c.in-Some.slot in let at : ℕ = c.args.current.now.slot in let code : k ≡ slot + 1 = c.in-Some.ensures.some.1 y u k low few is in let loaded : loaded_code c.args.current.now ≡ at + 1 = some_code at c.args.current.now.seen c.if-is_some.ensures in
     ((λ t. let same = eqb-true slot at t in omega arith), (λ e. eq-eqb slot at (omega arith)))
 
 pub returns-else-is_some : goal.returns-else-is_some
-returns-else-is_some g c = λ y k low is. let slot : ℕ = c.in-Some.slot in let at : ℕ = c.args.current.now.slot in let code : k ≡ slot + 1 = c.in-Some.ensures.some.1 y k low is in let loaded : loaded_code c.args.current.now ≡ 0 = no_code at c.args.current.now.seen c.if-is_some.ensures in
+returns-else-is_some g c = λ y u k low few is. let slot : ℕ = c.in-Some.slot in let at : ℕ = c.args.current.now.slot in let code : k ≡ slot + 1 = c.in-Some.ensures.some.1 y u k low few is in let loaded : loaded_code c.args.current.now ≡ 0 = no_code at c.args.current.now.seen c.if-is_some.ensures in
     ((λ t. absurd (false≢true (sym c.if-is_some.false ∙ t))), (λ e. absurd (omega arith)))
 
 pub returns-in-None : goal.returns-in-None
-returns-in-None g c = λ y k low is. let at : ℕ = c.args.current.now.slot in let code : k ≡ 0 = c.in-None.ensures.none y k low is in let both = none_code at c.args.current.now.seen c.is_none.result c.is_none.ensures in
+returns-in-None g c = λ y u k low few is. let at : ℕ = c.args.current.now.slot in let code : k ≡ 0 = c.in-None.ensures.none y u k low few is in let both = none_code at c.args.current.now.seen c.is_none.result c.is_none.ensures in
     ((λ t. code ∙ sym (both.0 t)), (λ e. both.1 (sym e ∙ code)))

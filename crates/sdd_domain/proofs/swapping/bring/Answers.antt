@@ -1,6 +1,8 @@
 use Rattle.std.proofs.Common.{◌≡◌, ℕ, suc, ◌+◌, ◌*◌, ◌∷◌, Some, IsSome, sym, refl, ap, ◌∙◌, subst, arith}
 use Rattle.atomic_table.specs.Table.{Me}
 use Rattle.sdd_homes.specs.declared.Owner.{Owner}
+use Rattle.sdd_base.specs.Epochs.{tag_number}
+use Rattle.sdd_domain.specs.Layout.{packed}
 use Rattle.sdd_domain.specs.Owners.{item_in}
 use Rattle.sdd_domain.specs.Plays.{own_spare}
 use Rattle.sdd_domain.specs.declared.board.Acting.{Acting}
@@ -8,12 +10,6 @@ use Rattle.sdd_domain.specs.declared.board.Home.{Home}
 use Rattle.sdd_domain.specs.declared.board.Home.TheVariants.{Blank, Part}
 use Rattle.sdd_domain.proofs.Fronts.{put_in}
 use Rattle.sdd_domain.proofs.swapping.bring.Goals as goal
-
-pub overflow_mul-result : goal.overflow_mul-result
-overflow_mul-result g c = let low = c.in-Some.owner.low in omega arith
-
-pub overflow_add-result-2 : goal.overflow_add-result-2
-overflow_add-result-2 g c = let low = c.in-Some.owner.low in let spare = c.requires.ready.2 in omega arith
 
 -- the owner is in hand, and its part in the spare slot
 pub returns-clause-brings : goal.returns-clause-brings
@@ -24,7 +20,7 @@ returns-clause-brings g c = λ tail is. let m = c.args.place.now.me in let d = m
       Some o,
       (
         ap (λ (z : Acting). z.hand) hand,
-        (λ j. sym same j + 8589934592 * sym next j),
+        (tag_number c.args.new.1, c.word_with-2.ensures.few, c.word_with-2.ensures.word ∙ λ j. packed (sym same j) (tag_number c.args.new.1) (sym next j)),
         (
           y,
           (p, refl, ap (λ q. q.life.id) mine.0, mine.1, omega arith, subst (λ q. IsSome q.seen.value) (sym mine.0) s.there),

@@ -1,7 +1,7 @@
 use Rattle.std.proofs.Common.{◌||◌, ◌∙◌, ap}
 use Rattle.sdd_base.specs.declared.status.LocalState.{LocalState}
 use Rattle.sdd_domain.specs.Tokens.{own_of}
-use Rattle.sdd_domain.proofs.atomic_shared.AtomicShared.from.Goals.{in-Some-swap, in_default-swap}
+use Rattle.sdd_domain.proofs.atomic_shared.AtomicShared.from.Goals.{in-Some-default, in_default-swap}
 use Rattle.sdd_domain.proofs.atomic_shared.AtomicShared.from.Goals as goal
 
 -- without a cell nothing was done
@@ -13,7 +13,7 @@ pub returns-clause-own : goal.returns-clause-own
 returns-clause-own g c =
     let swapped = c.swap.ensures.same.1 ∙ c.null.ensures.same.1 in
     elim c.match-swap.branch [
-      | in-Some-swap w ↦
+      | in-Some-default w ↦
           let flag = (own_of c.swap.new.local).garbage || w.release.result in
           (flag, ap own_of w.local-is ∙ (w.release.ensures.own ∙ ap (λ (m : LocalState). record m { garbage = flag }) swapped))
       | in_default-swap w ↦ ((own_of c.args.local.now).garbage, ap own_of w.local-is ∙ swapped)
