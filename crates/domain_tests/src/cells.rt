@@ -2,7 +2,6 @@
 
 ghost use Rattle.std.specs.Prelude.{◌≡◌, ◌<◌, [], IfSome};
 ghost use Rattle.sdd_domain.specs.Cells.{cell_number};
-ghost use Rattle.sdd_domain.specs.Pointers.{IsUnder};
 ghost use Rattle.sdd_domain.specs.Sharing.{kept_in};
 ghost use Rattle.sdd_domain.specs.Tokens.{place_of, home_of, hand_of, own_of, cell_count, nest_of, nest_in, IsSame, IsInNest, IsSameButMisses, IsInNestButMisses};
 
@@ -15,7 +14,7 @@ use sdd_domain::atomic_shared::AtomicShared;
 use sdd_domain::domain::Domain;
 use sdd_domain::guard::Guard;
 use sdd_domain::local::Local;
-use sdd_domain::pointer::Loaded;
+use sdd_domain::pointer::Ptr;
 use sdd_domain::shared::Shared;
 use std::process::Abort;
 use std::test::Fail;
@@ -255,14 +254,13 @@ fn exchanged<R: Abort>(
     guard: &Guard,
     local: &mut Local<u64>,
     cell: &AtomicShared,
-    current: &Loaded<u64>,
+    current: Ptr<u64>,
     item: Option<u64>,
 ) -> Tried
     requires home { (home_of local.old ≡ place_of domain.now) × (hand_of local.old ≡ []) }
     requires nest { nest_of guard.now ≡ nest_in local.old }
     requires open { 0 < (own_of local.old).nesting }
     requires inside { cell_number cell.now < cell_count domain.now }
-    requires loaded { IsUnder current.now guard.now }
     ensures same { IsInNest local.old local.new × ((own_of local.new).nesting ≡ (own_of local.old).nesting) }
 {
     let new = match item {
@@ -272,14 +270,18 @@ fn exchanged<R: Abort>(
         },
         None => None,
     };
-    match cell.compare_exchange(current, new, domain, guard, local) {
-        Ok(old) => Ok(spent(domain, local, old)),
-        Err((back, found)) => Err((spent(domain, local, back), found.as_ref(guard).copied())),
+    match cell.compare_exchange(current, (new, Tag::None), domain, guard, local) {
+        Ok((old, _)) => Ok(spent(domain, local, old)),
+        Err((back, found)) => Err((spent(domain, local, back), found.as_ref().copied())),
     }
 }
 
 /// The item of an owner, which is released.
-fn spent(domain: &Domain<u64>, local: &mut Local<u64>, owner: Option<Shared<u64>>) -> Option<u64>
+pub(crate) fn spent(
+    domain: &Domain<u64>,
+    local: &mut Local<u64>,
+    owner: Option<Shared<u64>>,
+) -> Option<u64>
     requires home { (home_of local.old ≡ place_of domain.now) × (hand_of local.old ≡ []) }
     requires mine { IfSome owner (λ s. kept_in s ≡ (place_of domain.now).0) }
     ensures same { IsInNest local.old local.new × ((own_of local.new).nesting ≡ (own_of local.old).nesting) }
@@ -298,12 +300,12 @@ fn a_cell_is_exchanged_where_it_is_what_was_loaded(rt: HostRuntime) -> Result<()
     let Ok(guard) = Guard::new(&domain, &mut local) else {
         unreachable!();
     };
-    let seven = cell.loaded(&domain, &guard, &mut local);
-    let hit = exchanged(&rt, &domain, &guard, &mut local, &cell, &seven, Some(8));
+    let seven = cell.load(&domain, &guard, &mut local);
+    let hit = exchanged(&rt, &domain, &guard, &mut local, &cell, seven, Some(8));
     assert_eq!(rt; hit, Ok(Some(7)));
-    let miss = exchanged(&rt, &domain, &guard, &mut local, &cell, &seven, Some(9));
+    let miss = exchanged(&rt, &domain, &guard, &mut local, &cell, seven, Some(9));
     assert_eq!(rt; miss, Err((Some(9), Some(8))));
-    assert_eq!(rt; seven.as_ref(&guard).copied(), Some(7));
+    assert_eq!(rt; seven.as_ref().copied(), Some(7));
     guard.close(&domain, &mut local);
     assert!(rt; cell.retire(&domain, &mut local));
     local.end(&domain);
@@ -321,13 +323,13 @@ fn a_cell_is_exchanged_from_null_and_to_null(rt: HostRuntime) -> Result<(), Fail
     let Ok(guard) = Guard::new(&domain, &mut local) else {
         unreachable!();
     };
-    let null = Loaded::null();
-    let hit = exchanged(&rt, &domain, &guard, &mut local, &cell, &null, Some(7));
+    let null = Ptr::null();
+    let hit = exchanged(&rt, &domain, &guard, &mut local, &cell, null, Some(7));
     assert_eq!(rt; hit, Ok(None));
-    let seven = cell.loaded(&domain, &guard, &mut local);
-    let hit = exchanged(&rt, &domain, &guard, &mut local, &cell, &seven, None);
+    let seven = cell.load(&domain, &guard, &mut local);
+    let hit = exchanged(&rt, &domain, &guard, &mut local, &cell, seven, None);
     assert_eq!(rt; hit, Ok(Some(7)));
-    let miss = exchanged(&rt, &domain, &guard, &mut local, &cell, &seven, None);
+    let miss = exchanged(&rt, &domain, &guard, &mut local, &cell, seven, None);
     assert_eq!(rt; miss, Err((None, None)));
     guard.close(&domain, &mut local);
     assert!(rt; !cell.retire(&domain, &mut local));
@@ -465,9 +467,9 @@ fn adds_one(domain: &Domain<u64>, local: &mut Local<u64>, cell: &AtomicShared) -
     let Ok(guard) = Guard::new(domain, local) else {
         unreachable!();
     };
-    let loaded = cell.loaded(domain, &guard, local);
-    let item = loaded.as_ref(&guard).copied().unwrap_or(0);
-    let done = puts(domain, &guard, local, cell, &loaded, item.wrapping_add(1));
+    let loaded = cell.load(domain, &guard, local);
+    let item = loaded.as_ref().copied().unwrap_or(0);
+    let done = puts(domain, &guard, local, cell, loaded, item.wrapping_add(1));
     guard.close(domain, local);
     done
 }
@@ -478,21 +480,21 @@ fn puts(
     guard: &Guard,
     local: &mut Local<u64>,
     cell: &AtomicShared,
-    current: &Loaded<u64>,
+    current: Ptr<u64>,
     item: u64,
 ) -> bool
     requires home { (home_of local.old ≡ place_of domain.now) × (hand_of local.old ≡ []) }
     requires nest { nest_of guard.now ≡ nest_in local.old }
     requires open { 0 < (own_of local.old).nesting }
     requires inside { cell_number cell.now < cell_count domain.now }
-    requires loaded { IsUnder current.now guard.now }
     ensures same { IsInNestButMisses local.old local.new × ((own_of local.new).nesting ≡ (own_of local.old).nesting) }
 {
     let Ok(owner) = Shared::new(item, domain, local) else {
         return false;
     };
-    let (owner, done) = match cell.compare_exchange(current, Some(owner), domain, guard, local) {
-        Ok(old) => (old, true),
+    let new = (Some(owner), Tag::None);
+    let (owner, done) = match cell.compare_exchange(current, new, domain, guard, local) {
+        Ok((old, _)) => (old, true),
         Err((back, _)) => (back, false),
     };
     spent(domain, local, owner);

@@ -1,4 +1,4 @@
--- which item an owner is of, and which one a cell was found to name, by their slots
+-- which item an owner is of, by its slot
 use Rattle.std.specs.Prelude.{◌≡◌, ℕ, ◌+◌, List, ◌∷◌, ◌++◌, Option, None, Some}
 use Rattle.core.specs.declared.mem.manually_drop.ManuallyDrop.{ManuallyDrop}
 use Rattle.atomic_table.specs.Table.{Me}
@@ -12,7 +12,6 @@ use Rattle.sdd_domain.specs.Sharing.{kept_in, IsOwnerOf}
 use Rattle.sdd_domain.specs.declared.board.Acting.{Acting}
 use Rattle.sdd_domain.specs.declared.board.Home.{Home}
 use Rattle.sdd_domain.specs.declared.board.Home.TheVariants.{Blank, Part}
-use Rattle.sdd_domain.specs.declared.pointer.Loaded as pointer
 use Rattle.sdd_domain.specs.declared.shared.Shared.{Shared}
 
 -- 0 for none, else one more than the slot of its item
@@ -20,17 +19,15 @@ abbrev pub owner_code : {T : Type 0} → Option (Shared T) → ℕ
 owner_code None = 0
 owner_code (Some s) = s.slot + 1
 
-abbrev pub seen_code : {X : Type 0} → ℕ → Option X → ℕ
-seen_code k None = 0
-seen_code k (Some x) = k + 1
+-- the same of a slot
+abbrev pub code_of : Option ℕ → ℕ
+code_of None = 0
+code_of (Some k) = k + 1
 
--- the same of what was loaded
-abbrev pub loaded_code : {T : Type 0} → pointer.Loaded T → ℕ
-loaded_code l = seen_code l.slot l.seen
-
--- the owner is of the item in the slot that was loaded, or there is none, and nothing was loaded
-abbrev pub IsOfLoaded : {T : Type 0} → Option (Shared T) → pointer.Loaded T → Type 0
-IsOfLoaded o l = owner_code o ≡ loaded_code l
+-- the slot of its item, or none for none
+abbrev pub owner_slot : {T : Type 0} → Option (Shared T) → Option ℕ
+owner_slot None = None
+owner_slot (Some s) = Some s.slot
 
 -- an owner of the same item, with the same value, in the same place; or none for none
 abbrev pub IsBack : {T : Type 0} → Option (Shared T) → Option (Shared T) → Type 0

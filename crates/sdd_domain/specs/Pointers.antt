@@ -5,6 +5,7 @@ use Rattle.std.specs.Mem.{manually_drop_value}
 use Rattle.sdd_domain.specs.declared.guard.Guard.{Guard}
 use Rattle.sdd_base.specs.declared.tag.Tag.{Tag}
 use Rattle.sdd_domain.specs.declared.pointer.Loaded.{Loaded}
+use Rattle.sdd_domain.specs.declared.pointer.Named.{Named}
 use Rattle.sdd_domain.specs.declared.pointer.Ptr.{Ptr}
 
 -- what a cell was found to name is read under the guards of this one's nest
@@ -32,3 +33,10 @@ slot_seen k (Some x) = Some k
 -- the slot of the item that was loaded, or none
 abbrev pub loaded_slot : {T : Type 0} → Loaded T → Option ℕ
 loaded_slot l = slot_seen l.slot l.seen
+
+-- the slot of the item that a pointer was to, or none, and its tag
+abbrev pub named_slot : Named → Option ℕ
+named_slot n = n.slot
+
+abbrev pub named_tag : Named → Tag
+named_tag n = n.tag

@@ -4,12 +4,12 @@ ghost use Rattle.std.specs.Prelude.{◌≡◌, ◌<◌, ◌+◌, ◌||◌, Bool,
 ghost use Rattle.sdd_domain.specs.Tokens.{cell_count};
 
 use crate::cells::{is_null, tag};
-use crate::comparing::{names, try_exchange, word_of};
+use crate::comparing::{named_by, names, try_exchange, word_of};
 use crate::domain::Domain;
 use crate::guard::Guard;
 use crate::holds::Holds;
 use crate::local::Local;
-use crate::pointer::{Loaded, Ptr};
+use crate::pointer::{Loaded, Named, Ptr};
 use crate::shared::Shared;
 use crate::swapping::swap_owner;
 use sdd_base::tag::Tag;
@@ -39,8 +39,8 @@ pub struct AtomicShared {
 
 impl AtomicShared {
     ghost use Rattle.sdd_domain.specs.Cells.{cell_number};
-    ghost use Rattle.sdd_domain.specs.Comparing.{IsOfLoaded, IsBack};
-    ghost use Rattle.sdd_domain.specs.Pointers.{IsUnder};
+    ghost use Rattle.sdd_domain.specs.Comparing.{owner_slot, IsBack};
+    ghost use Rattle.sdd_domain.specs.Pointers.{IsUnder, ptr_slot, named_slot, named_tag};
     ghost use Rattle.sdd_domain.specs.Sharing.{kept_in};
     ghost use Rattle.sdd_domain.specs.Tokens.{place_of, home_of, own_of, born_of, waiting_of, misses_of, nest_of, nest_in, IsInNest, IsInNestButMisses};
 
@@ -181,40 +181,64 @@ impl AtomicShared {
         old
     }
 
-    /// Swaps what the cell owns for `new`, in one step, where it names the item of `current`, or nothing where that is
-    /// nothing: the owner that it had comes out. Else the cell stays as it is: `new` is back, and with it what the cell
-    /// was found to name, which is read as what `loaded` gives. It is one try: where other threads change the cell during
-    /// the call, it may be refused though the cell named that item before and names it again, and what was found may be
-    /// that item. It takes no memory.
-    pub fn compare_exchange<T: Holds>(
+    /// Swaps what the cell owns and its tag for `new`, in one step, where it names the item of `current`, or nothing where
+    /// that is to nothing, and has its tag: the owner that it had comes out, and with it what the cell names from then on.
+    /// Else the cell stays as it is: the owner is back, and with it the pointer that was found. It is one try: where other
+    /// threads change the cell during the call, it may be refused though the cell was as `current` before and is so again,
+    /// and what was found may be equal to `current`. Pointers tell items by their slots, so both are of one place. It takes
+    /// no memory.
+    pub fn compare_exchange<'g, T: Holds>(
         &self,
-        current: &Loaded<T>,
-        new: Option<Shared<T>>,
+        current: Ptr<T>,
+        new: (Option<Shared<T>>, Tag),
         domain: &Domain<T>,
-        guard: &Guard,
+        guard: &'g Guard,
         local: &mut Local<T>,
-    ) -> Result<Option<Shared<T>>, (Option<Shared<T>>, Loaded<T>)>
+    ) -> Result<(Option<Shared<T>>, Named), (Option<Shared<T>>, Ptr<'g, T>)>
         requires home { home_of local.old ≡ place_of domain.now }
         requires nest { nest_of guard.now ≡ nest_in local.old }
         requires open { 0 < (own_of local.old).nesting }
         requires inside { cell_number self.now < cell_count domain.now }
-        requires loaded { IsUnder current.now guard.now }
-        requires mine { IfSome new (λ s. kept_in s ≡ (place_of domain.now).0) }
-        ensures home { IfOk result (λ old. IfSome old (λ s. kept_in s ≡ (place_of domain.now).0)) }
-        ensures exact { IfOk result (λ old. IsOfLoaded old current.now) }
-        ensures back { IfErr result (λ t. IsBack new t.0) }
-        ensures under { IfErr result (λ t. IsUnder t.1 guard.now) }
+        requires mine { IfSome new.0 (λ s. kept_in s ≡ (place_of domain.now).0) }
+        ensures home { IfOk result (λ r. IfSome r.0 (λ s. kept_in s ≡ (place_of domain.now).0)) }
+        ensures exact { IfOk result (λ r. owner_slot r.0 ≡ ptr_slot current.entry) }
+        ensures stands { IfOk result (λ r. (named_slot r.1 ≡ owner_slot new.0) × (named_tag r.1 ≡ new.1)) }
+        ensures back { IfErr result (λ r. IsBack new.0 r.0) }
         ensures same { IsInNest local.old local.new × (own_of local.new ≡ own_of local.old) × (born_of local.new ≡ born_of local.old) × (waiting_of local.new ≡ waiting_of local.old) }
     {
         let word = word_of(domain.words(), &domain.sizes, self.cell);
         if !names(word, current) {
-            let found = self.loaded(domain, guard, local);
-            return Err((new, found));
+            let found = self.load(domain, guard, local);
+            return Err((new.0, found));
         }
-        match try_exchange(local, domain, self.cell, word, (new, Tag::None)) {
-            Ok(old) => Ok(old),
-            Err((back, found, _)) => Err((back, found)),
+        let stands = named_by(&new.0, new.1);
+        match try_exchange(local, domain, self.cell, word, new) {
+            Ok(old) => Ok((old, stands)),
+            Err((back, found, tag)) => Err((back, found.under(guard).with_tag(tag))),
         }
+    }
+
+    /// As `compare_exchange`: it fails for no other reason.
+    pub fn compare_exchange_weak<'g, T: Holds>(
+        &self,
+        current: Ptr<T>,
+        new: (Option<Shared<T>>, Tag),
+        domain: &Domain<T>,
+        guard: &'g Guard,
+        local: &mut Local<T>,
+    ) -> Result<(Option<Shared<T>>, Named), (Option<Shared<T>>, Ptr<'g, T>)>
+        requires home { home_of local.old ≡ place_of domain.now }
+        requires nest { nest_of guard.now ≡ nest_in local.old }
+        requires open { 0 < (own_of local.old).nesting }
+        requires inside { cell_number self.now < cell_count domain.now }
+        requires mine { IfSome new.0 (λ s. kept_in s ≡ (place_of domain.now).0) }
+        ensures home { IfOk result (λ r. IfSome r.0 (λ s. kept_in s ≡ (place_of domain.now).0)) }
+        ensures exact { IfOk result (λ r. owner_slot r.0 ≡ ptr_slot current.entry) }
+        ensures stands { IfOk result (λ r. (named_slot r.1 ≡ owner_slot new.0) × (named_tag r.1 ≡ new.1)) }
+        ensures back { IfErr result (λ r. IsBack new.0 r.0) }
+        ensures same { IsInNest local.old local.new × (own_of local.new ≡ own_of local.old) × (born_of local.new ≡ born_of local.old) × (waiting_of local.new ≡ waiting_of local.old) }
+    {
+        self.compare_exchange(current, new, domain, guard, local)
     }
 
     /// What the cell owned. The cell is the next one's that asks for one.

@@ -4,10 +4,12 @@ ghost use Rattle.std.specs.Prelude.{◌≡◌, ℕ, ◌+◌, ◌*◌, ◌^◌, �
 ghost use Rattle.std.specs.Option.{ForSome};
 ghost use Rattle.std.specs.VecDeque.{deque_capacity, deque_len};
 ghost use Rattle.sdd_homes.specs.declared.Lease.{Lease};
-ghost use Rattle.sdd_domain.specs.Comparing.{owner_code, loaded_code, IsBack, HasTried};
+ghost use Rattle.sdd_domain.specs.Comparing.{owner_code, owner_slot, code_of, IsBack, HasTried};
 ghost use Rattle.sdd_domain.specs.Fitting.{FitsSizes};
 ghost use Rattle.sdd_domain.specs.Layout.{packed, all_words, IsSized};
 ghost use Rattle.sdd_domain.specs.Leases.{row_told, lease_told, HasRows, KeepsRows, CanExchange};
+ghost use Rattle.sdd_base.specs.Epochs.{tag_number};
+ghost use Rattle.sdd_domain.specs.Pointers.{ptr_slot, ptr_tag, named_slot, named_tag};
 ghost use Rattle.sdd_domain.specs.Plays.{own_spare};
 ghost use Rattle.sdd_domain.specs.Sharing.{kept_in};
 ghost use Rattle.sdd_domain.specs.Tokens.{place_of, home_of, number_of, own_of, born_of, waiting_of, cell_count, nest_in, IsInNest};
@@ -21,11 +23,11 @@ use crate::holds::Holds;
 use crate::leases::seen_at;
 use crate::loading::{note_found, slot_named};
 use crate::local::Local;
-use crate::pointer::Loaded;
+use crate::pointer::{Loaded, Named, Ptr};
 use crate::row::Row;
 use crate::shared::Shared;
 use crate::swapping::{bring, take_back};
-use crate::tags::tag_in;
+use crate::tags::{number_in, number_of, tag_in};
 use parted::Life;
 use sdd_base::sizes::Sizes;
 use sdd_base::tag::Tag;
@@ -38,14 +40,45 @@ pub(crate) fn word_of<T: Holds>(words: &Words<T>, sizes: &Sizes, cell: usize) ->
     words.peek(8 * sizes.participants + 16 + cell)
 }
 
-/// Whether a cell's word names the item that was loaded, or nothing where nothing was loaded.
-pub(crate) fn names<T>(word: u64, current: &Loaded<T>) -> bool
-    ensures { (y t c : ℕ) → y < 2 ^ 31 → t < 4 → word ≡ packed y t c → (IsTrue result ↔ c ≡ loaded_code current.now) }
+/// Whether a cell's word names the item in this slot, or nothing where that is none.
+fn names_slot(word: u64, slot: Option<usize>) -> bool
+    ensures { (y t c : ℕ) → y < 2 ^ 31 → t < 4 → word ≡ packed y t c → (IsTrue result ↔ c ≡ code_of slot) }
 {
     match slot_named(word) {
-        Some(slot) => current.seen.is_some() && slot == current.slot,
-        None => current.seen.is_none(),
+        Some(found) => match slot {
+            Some(slot) => found == slot,
+            None => false,
+        },
+        None => slot.is_none(),
     }
+}
+
+/// Whether a cell's word has this tag.
+fn has_tag(word: u64, tag: Tag) -> bool
+    ensures { (y t c : ℕ) → y < 2 ^ 31 → t < 4 → word ≡ packed y t c → (IsTrue result ↔ t ≡ tag_number tag) }
+{
+    number_in(word) == number_of(tag)
+}
+
+/// Whether a cell's word names the item that the pointer is to, or nothing where that is to nothing, and has its tag.
+pub(crate) fn names<T>(word: u64, current: Ptr<T>) -> bool
+    ensures item { (y t c : ℕ) → y < 2 ^ 31 → t < 4 → word ≡ packed y t c → IsTrue result → c ≡ code_of (ptr_slot current.entry) }
+    ensures tag { (y t c : ℕ) → y < 2 ^ 31 → t < 4 → word ≡ packed y t c → IsTrue result → t ≡ tag_number (ptr_tag current.entry) }
+    ensures both { (y t c : ℕ) → y < 2 ^ 31 → t < 4 → word ≡ packed y t c → c ≡ code_of (ptr_slot current.entry) → t ≡ tag_number (ptr_tag current.entry) → IsTrue result }
+{
+    names_slot(word, current.slot) && has_tag(word, current.tag)
+}
+
+/// What a cell names that has this owner and this tag.
+pub(crate) fn named_by<T>(owner: &Option<Shared<T>>, tag: Tag) -> Named
+    ensures slot { named_slot result ≡ owner_slot owner.now }
+    ensures tag { named_tag result ≡ tag }
+{
+    let slot = match owner {
+        Some(owner) => Some(owner.slot),
+        None => None,
+    };
+    Named { slot, tag }
 }
 
 /// Swaps what a cell owns and its tag, in one step, where its word is `expected`, and gives the owner that it had. Else

@@ -18,8 +18,16 @@ pub struct Ptr<'g, T> {
     item: Option<&'g T>,
 }
 
+/// What a cell names and its tag, without the item and without a borrow: it tells of the pointers that a participant loads
+/// whether they are the one that it put there, until its outermost guard closes.
+#[derive(Clone, Copy, PartialEq, Eq, Debug)]
+pub struct Named {
+    pub(crate) slot: Option<usize>,
+    pub(crate) tag: Tag,
+}
+
 impl<'g, T> Ptr<'g, T> {
-    ghost use Rattle.sdd_domain.specs.Pointers.{ptr_slot, ptr_tag, ptr_item};
+    ghost use Rattle.sdd_domain.specs.Pointers.{ptr_slot, ptr_tag, ptr_item, named_slot, named_tag};
 
     /// The pointer to nothing, without a tag.
     pub fn null() -> Ptr<'g, T>
@@ -45,6 +53,17 @@ impl<'g, T> Ptr<'g, T> {
         ensures { option_copied result ≡ ptr_item self.entry }
     {
         self.item
+    }
+
+    /// What it is to, and its tag.
+    pub fn named(self) -> Named
+        ensures slot { named_slot result ≡ ptr_slot self.entry }
+        ensures tag { named_tag result ≡ ptr_tag self.entry }
+    {
+        Named {
+            slot: self.slot,
+            tag: self.tag,
+        }
     }
 
     pub fn tag(self) -> Tag
