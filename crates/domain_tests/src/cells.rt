@@ -244,11 +244,11 @@ fn a_place_is_handed_back_while_a_cell_owns_an_item(rt: HostRuntime) -> Result<(
 }
 
 /// What a try to exchange gave, by items: what came out of the cell, or what is back, and what was found.
-type Tried = Result<Option<u64>, (Option<u64>, Option<u64>)>;
+pub(crate) type Tried = Result<Option<u64>, (Option<u64>, Option<u64>)>;
 
 /// Tries to put an owner of this item into the cell, or nothing, where the cell names what was loaded. All owners that
 /// are had by that are released.
-fn exchanged<R: Abort>(
+pub(crate) fn exchanged<R: Abort>(
     rt: &R,
     domain: &Domain<u64>,
     guard: &Guard,

@@ -18,4 +18,6 @@ mod owners;
 #[cfg(test)]
 mod refusals;
 #[cfg(test)]
+mod tags;
+#[cfg(test)]
 mod threads;

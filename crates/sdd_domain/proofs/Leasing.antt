@@ -1,5 +1,5 @@
 -- what a load told, and the rows behind it
-use Rattle.std.proofs.Common.{◌≡◌, ◌⊎◌, ◌&&◌, true, ℕ, suc, ◌+◌, ◌*◌, ◌^◌, ◌<◌, List, [], ◌∷◌, ◌++◌, map, length, nat_lt, lt-ltb, ⊎_elim, sym, ap, ◌∙◌, subst, arith}
+use Rattle.std.proofs.Common.{◌≡◌, ◌⊎◌, ◌&&◌, true, ℕ, suc, ◌+◌, ◌^◌, ◌<◌, List, [], ◌∷◌, ◌++◌, map, length, nat_lt, lt-ltb, ⊎_elim, sym, ap, ◌∙◌, subst, arith}
 use lib.ListN.{length-map}
 use Rattle.atomic_table.specs.Table.{Me, rest, turned}
 use Rattle.sdd_steps.specs.State.{Has}

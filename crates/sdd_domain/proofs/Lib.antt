@@ -21,6 +21,7 @@ pub mod Loads
 pub mod Closes
 pub mod Swaps
 pub mod Exchanges
+pub mod Retags
 pub mod Recounts
 pub mod Clones
 pub mod Releases

@@ -216,6 +216,10 @@ module _ {S : Type 0} (IsIn : Content → S → Type 0) where
   abbrev pub exchange_then : Step S → Me S Acting → ℕ → Me S Acting → Type 0
   exchange_then t m w m' = (w ≡ t.first → (new : Option Owner) (os : List Owner) (tail : List (ℕ × S)) → Brings IsIn m new os t.second tail → GetsBack IsIn m os w tail m') × (w ≢ t.first → HasLoaded IsIn m w m')
 
+-- the seat goes on as it was
+abbrev pub still_then : {S : Type 0} → Step S → Me S Acting → ℕ → Me S Acting → Type 0
+still_then t m n m' = m' ≡ m
+
 -- where the item's own home in slot k lies, which has its deed
 abbrev pub deed_home : Acting → ℕ → ℕ
 deed_home d k = home d.sizes.slots k d.sizes.participants

@@ -1,10 +1,10 @@
 //! Cells that own an item, or nothing, and have a tag.
 
-ghost use Rattle.std.specs.Prelude.{◌≡◌, ◌<◌, ◌+◌, ◌||◌, Bool, IfSome, IfNone, IfOk, IfErr, OnOk, OnErr};
+ghost use Rattle.std.specs.Prelude.{◌≡◌, ◌<◌, ◌+◌, ◌||◌, Bool, true, IsTrue, IfSome, IfNone, IfOk, IfErr, OnOk, OnErr};
 ghost use Rattle.sdd_domain.specs.Tokens.{cell_count};
 
 use crate::cells::{is_null, tag};
-use crate::comparing::{named_by, names, try_exchange, word_of};
+use crate::comparing::{named_by, names, try_exchange, try_tag, word_of};
 use crate::domain::Domain;
 use crate::guard::Guard;
 use crate::holds::Holds;
@@ -32,6 +32,9 @@ fn take_cell<T: Holds>(domain: &Domain<T>, misses: &mut Tally) -> Option<usize>
     None
 }
 
+/// How often it is tried to set a tag: each time others may be faster.
+const TRIES: u64 = u64::MAX;
+
 /// A cell of a place: it owns an item, or nothing.
 pub struct AtomicShared {
     pub(crate) cell: usize,
@@ -40,6 +43,7 @@ pub struct AtomicShared {
 impl AtomicShared {
     ghost use Rattle.sdd_domain.specs.Cells.{cell_number};
     ghost use Rattle.sdd_domain.specs.Comparing.{owner_slot, IsBack};
+    ghost use Rattle.sdd_domain.specs.declared.pointer.Ptr.{Ptr};
     ghost use Rattle.sdd_domain.specs.Pointers.{IsUnder, ptr_slot, named_slot, named_tag};
     ghost use Rattle.sdd_domain.specs.Sharing.{kept_in};
     ghost use Rattle.sdd_domain.specs.Tokens.{place_of, home_of, own_of, born_of, waiting_of, misses_of, nest_of, nest_in, IsInNest, IsInNestButMisses};
@@ -239,6 +243,38 @@ impl AtomicShared {
         ensures same { IsInNest local.old local.new × (own_of local.new ≡ own_of local.old) × (born_of local.new ≡ born_of local.old) × (waiting_of local.new ≡ waiting_of local.old) }
     {
         self.compare_exchange(current, new, domain, guard, local)
+    }
+
+    /// Sets the tag, in one step, where `f` answers true of the pointer that is found: whether it did. Where other threads
+    /// changed the cell since that pointer was loaded it tries again, and asks anew; it gives up after `2^64 - 1` times.
+    /// What the cell owns stays.
+    pub fn update_tag_if<'g, T: Holds + 'g, F: Fn(Ptr<'g, T>) -> bool>(
+        &self,
+        tag: Tag,
+        f: F,
+        domain: &Domain<T>,
+        guard: &'g Guard,
+        local: &mut Local<T>,
+    ) -> bool
+        requires home { home_of local.old ≡ place_of domain.now }
+        requires nest { nest_of guard.now ≡ nest_in local.old }
+        requires open { 0 < (own_of local.old).nesting }
+        requires inside { cell_number self.now < cell_count domain.now }
+        requires callable { F.IsAlwaysCallable f }
+        ensures asked { IsTrue result → (r : Ptr T) × F.post f r true }
+        ensures same { IsInNest local.old local.new × (own_of local.new ≡ own_of local.old) × (born_of local.new ≡ born_of local.old) × (waiting_of local.new ≡ waiting_of local.old) }
+    {
+        for _ in 0..TRIES {
+            let found = self.load(domain, guard, local);
+            if !f(found) {
+                return false;
+            }
+            let word = word_of(domain.words(), &domain.sizes, self.cell);
+            if names(word, found) && try_tag(local, domain, self.cell, word, tag) {
+                return true;
+            }
+        }
+        false
     }
 
     /// What the cell owned. The cell is the next one's that asks for one.

@@ -10,8 +10,8 @@ ghost use Rattle.sdd_domain.specs.Outcomes.{Exchanges, KeepsLease, EndsRelease};
 ghost use Rattle.sdd_domain.specs.Leases.{HasFew, ReleasesOne};
 ghost use Rattle.sdd_domain.specs.Fitting.{FitsSlot, FitsCell, HasSlotWord};
 ghost use Rattle.sdd_domain.specs.Contents.{IsIn};
-ghost use Rattle.sdd_domain.specs.Layout.{claim_word, all_words, IsSized};
-ghost use Rattle.sdd_domain.specs.Plays.{Scans, load_then, HasLoaded, CanClose, ending, end_all_then, Brings, swap_then, cloning, IsAlike, clone_then, release_then, HasBegun, begin_then, CanEnd, end_release_then, CanKeep, keep_then, exchange_then};
+ghost use Rattle.sdd_domain.specs.Layout.{claim_word, all_words, IsSized, AreAlike};
+ghost use Rattle.sdd_domain.specs.Plays.{Scans, load_then, HasLoaded, CanClose, ending, end_all_then, Brings, swap_then, cloning, IsAlike, clone_then, release_then, HasBegun, begin_then, CanEnd, end_release_then, CanKeep, keep_then, exchange_then, still_then};
 ghost use Rattle.sdd_domain.specs.declared.board.Home.{Home};
 
 use crate::board::{Acting, Home, Place, Words};
@@ -43,6 +43,12 @@ struct OnExchange;
 
 impl<T: Holds> Play<Home<T>, Acting> for OnExchange {
     ghost then = { exchange_then (IsIn T.holds) };
+}
+
+struct OnTag;
+
+impl<T: Holds> Play<Home<T>, Acting> for OnTag {
+    ghost then = { still_then };
 }
 
 struct OnClone;
@@ -141,6 +147,23 @@ pub(crate) fn compare_exchange<T: Holds>(
     ensures miss { result ≢ expected → HasLoaded (IsIn T.holds) place.old.me result place.new.me }
 {
     words.compare_exchange::<OnExchange>(place, 8 * participants + 16 + cell, expected, word)
+}
+
+/// Exchanges the word of the cell for one with another tag, where it is `expected`. Whether it was; nothing is known by it.
+pub(crate) fn change_tag<T: Holds>(
+    words: &Words<T>,
+    place: &mut Place<T>,
+    participants: usize,
+    cell: usize,
+    expected: u64,
+    word: u64,
+) -> bool
+    requires table { FitsCell words.now.table_id words.now.key.sizes place.old.table_id participants cell }
+    requires alike { AreAlike expected word }
+    ensures seat { (place.new.table_id ≡ place.old.table_id) × (place.new.id ≡ place.old.id) }
+    ensures same { place.new.me ≡ place.old.me }
+{
+    words.compare_exchange::<OnTag>(place, 8 * participants + 16 + cell, expected, word) == expected
 }
 
 /// Tries once to make one more owner of the item that is leased in `slot`, which has `owners` of them, for

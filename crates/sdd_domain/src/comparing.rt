@@ -27,7 +27,7 @@ use crate::pointer::{Loaded, Named, Ptr};
 use crate::row::Row;
 use crate::shared::Shared;
 use crate::swapping::{bring, take_back};
-use crate::tags::{number_in, number_of, tag_in};
+use crate::tags::{number_in, number_of, tag_in, with_tag};
 use parted::Life;
 use sdd_base::sizes::Sizes;
 use sdd_base::tag::Tag;
@@ -79,6 +79,28 @@ pub(crate) fn named_by<T>(owner: &Option<Shared<T>>, tag: Tag) -> Named
         None => None,
     };
     Named { slot, tag }
+}
+
+/// Sets the tag of a cell, in one step, where its word is `expected`. Whether it was.
+pub(crate) fn try_tag<T: Holds>(
+    local: &mut Local<T>,
+    domain: &Domain<T>,
+    cell: usize,
+    expected: u64,
+    tag: Tag,
+) -> bool
+    requires home { home_of local.old ≡ place_of domain.now }
+    requires inside { cell < cell_count domain.now }
+    ensures same { IsInNest local.old local.new × (own_of local.new ≡ own_of local.old) × (born_of local.new ≡ born_of local.old) × (waiting_of local.new ≡ waiting_of local.old) }
+{
+    cells::change_tag(
+        domain.words(),
+        &mut local.place,
+        domain.sizes.participants,
+        cell,
+        expected,
+        with_tag(expected, tag),
+    )
 }
 
 /// Swaps what a cell owns and its tag, in one step, where its word is `expected`, and gives the owner that it had. Else

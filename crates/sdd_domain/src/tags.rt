@@ -2,7 +2,7 @@
 
 ghost use Rattle.std.specs.Prelude.{◌≡◌, ℕ, ◌+◌, ◌*◌, ◌^◌, ◌<◌};
 ghost use Rattle.sdd_base.specs.Epochs.{tag_number};
-ghost use Rattle.sdd_domain.specs.Layout.{packed};
+ghost use Rattle.sdd_domain.specs.Layout.{packed, AreAlike};
 
 use sdd_base::tag::Tag;
 
@@ -26,6 +26,13 @@ pub(crate) fn word_with(spare: u64, tag: Tag, code: u64) -> u64
     ensures few { tag_number tag < 4 }
 {
     spare + (1 << 31) * (number_of(tag) + 4 * code)
+}
+
+/// A cell's word with another tag.
+pub(crate) fn with_tag(word: u64, tag: Tag) -> u64
+    ensures { AreAlike word result × ((y t c : ℕ) → y < 2 ^ 31 → t < 4 → word ≡ packed y t c → result ≡ packed y (tag_number tag) c) }
+{
+    word_with(word % (1 << 31), tag, word / (1 << 33))
 }
 
 /// The number of the tag in a cell's word.

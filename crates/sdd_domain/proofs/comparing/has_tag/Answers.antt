@@ -1,4 +1,4 @@
-use Rattle.std.proofs.Common.{◌≡◌, ℕ, sym, ◌∙◌, eq-eqb, eqb-true}
+use Rattle.std.proofs.Common.{◌≡◌, sym, ◌∙◌, eq-eqb, eqb-true}
 use Rattle.sdd_domain.proofs.comparing.has_tag.Goals as goal
 
 pub returns : goal.returns
