@@ -32,7 +32,7 @@ fn take_cell<T: Holds>(domain: &Domain<T>, misses: &mut Tally) -> Option<usize>
     None
 }
 
-/// How often it is tried to set a tag: each time others may be faster.
+/// How often it is tried to set a tag before the last time: each time others may be faster.
 const TRIES: u64 = u64::MAX;
 
 /// A cell of a place: it owns an item, or nothing.
@@ -246,8 +246,8 @@ impl AtomicShared {
     }
 
     /// Sets the tag, in one step, where `f` answers true of the pointer that is found: whether it did. Where other threads
-    /// changed the cell since that pointer was loaded it tries again, and asks anew; it gives up after `2^64 - 1` times.
-    /// What the cell owns stays.
+    /// changed the cell since that pointer was loaded it tries again, and asks anew; it gives up after `2^64` times. What
+    /// the cell owns stays.
     pub fn update_tag_if<'g, T: Holds + 'g, F: Fn(Ptr<'g, T>) -> bool>(
         &self,
         tag: Tag,
@@ -261,20 +261,47 @@ impl AtomicShared {
         requires open { 0 < (own_of local.old).nesting }
         requires inside { cell_number self.now < cell_count domain.now }
         requires callable { F.IsAlwaysCallable f }
-        ensures asked { IsTrue result → (r : Ptr T) × F.post f r true }
+        ensures asked { (r : Ptr T) × (b : Bool) × F.post f r b × (IsTrue result → IsTrue b) }
         ensures same { IsInNest local.old local.new × (own_of local.new ≡ own_of local.old) × (born_of local.new ≡ born_of local.old) × (waiting_of local.new ≡ waiting_of local.old) }
     {
         for _ in 0..TRIES {
-            let found = self.load(domain, guard, local);
-            if !f(found) {
-                return false;
-            }
-            let word = word_of(domain.words(), &domain.sizes, self.cell);
-            if names(word, found) && try_tag(local, domain, self.cell, word, tag) {
-                return true;
+            if let Some(answer) = self.try_update(tag, &f, domain, guard, local) {
+                return answer;
             }
         }
-        false
+        match self.try_update(tag, &f, domain, guard, local) {
+            Some(answer) => answer,
+            None => false,
+        }
+    }
+
+    /// The same once: what `f` answered, or none where it was true and others were faster.
+    fn try_update<'g, T: Holds + 'g, F: Fn(Ptr<'g, T>) -> bool>(
+        &self,
+        tag: Tag,
+        f: &F,
+        domain: &Domain<T>,
+        guard: &'g Guard,
+        local: &mut Local<T>,
+    ) -> Option<bool>
+        requires home { home_of local.old ≡ place_of domain.now }
+        requires nest { nest_of guard.now ≡ nest_in local.old }
+        requires open { 0 < (own_of local.old).nesting }
+        requires inside { cell_number self.now < cell_count domain.now }
+        requires callable { F.IsAlwaysCallable f.now }
+        ensures asked { IfSome result (λ b. (r : Ptr T) × F.post f.now r b) }
+        ensures slow { IfNone result ((r : Ptr T) × F.post f.now r true) }
+        ensures same { IsInNest local.old local.new × (own_of local.new ≡ own_of local.old) × (born_of local.new ≡ born_of local.old) × (waiting_of local.new ≡ waiting_of local.old) }
+    {
+        let found = self.load(domain, guard, local);
+        if !f(found) {
+            return Some(false);
+        }
+        let word = word_of(domain.words(), &domain.sizes, self.cell);
+        if names(word, found) && try_tag(local, domain, self.cell, word, tag) {
+            return Some(true);
+        }
+        None
     }
 
     /// What the cell owned. The cell is the next one's that asks for one.

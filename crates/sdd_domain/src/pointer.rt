@@ -26,12 +26,25 @@ pub struct Named {
     pub(crate) tag: Tag,
 }
 
+/// The pointer to nothing, without a tag.
+impl<'g, T> Default for Ptr<'g, T> {
+    ghost use Rattle.sdd_base.specs.declared.tag.Tag.TheVariants as tags;
+    ghost use Rattle.sdd_domain.specs.Pointers.{ptr_slot, ptr_tag};
+
+    ghost is_default = { λ r. (ptr_slot r ≡ None) × (ptr_tag r ≡ tags.None) };
+
+    fn default() -> Ptr<'g, T> {
+        Ptr::null()
+    }
+}
+
 impl<'g, T> Ptr<'g, T> {
     ghost use Rattle.sdd_domain.specs.Pointers.{ptr_slot, ptr_tag, ptr_item, named_slot, named_tag};
 
     /// The pointer to nothing, without a tag.
     pub fn null() -> Ptr<'g, T>
         ensures slot { ptr_slot result ≡ None }
+        ensures item { ptr_item result ≡ None }
         ensures tag { ptr_tag result ≡ Tag.None }
     {
         Ptr {
