@@ -359,6 +359,77 @@ fn segments_that_no_write_touches_are_shared(rt: HostRuntime) -> Result<(), Fail
 }
 
 #[test]
+fn segments_are_taken_over_after_refusals(rt: HostRuntime) -> Result<(), Fail> {
+    let domain = Domain::new(rt.alloc(), sized(7))?;
+    let mut local = member(&rt, &domain);
+    let (mut present, root) = begun::<_, 2>(&rt, rt.alloc(), &domain, &mut local);
+    let all = upserts(&rt, rt.alloc(), 1..9, 1);
+    let first = commit(
+        &rt,
+        rt.alloc(),
+        &domain,
+        &mut local,
+        &mut present,
+        &root,
+        &all,
+    );
+    reclaim(&domain, &mut local);
+    // four segments and their version: two slots are free
+    assert_eq!(rt; domain.slots_in_use(), 5);
+    // the last segment is taken over, and the first of three new ones has no slot
+    let many = upserts(&rt, rt.alloc(), 1..6, 2);
+    let second = commit(
+        &rt,
+        rt.alloc(),
+        &domain,
+        &mut local,
+        &mut present,
+        &root,
+        &many,
+    );
+    reclaim(&domain, &mut local);
+    // two segments are taken over, and the version has no slot beside two new ones
+    let few = upserts(&rt, rt.alloc(), 1..4, 3);
+    let third = commit(
+        &rt,
+        rt.alloc(),
+        &domain,
+        &mut local,
+        &mut present,
+        &root,
+        &few,
+    );
+    reclaim(&domain, &mut local);
+    let one = upserts(&rt, rt.alloc(), 3..4, 4);
+    let fourth = commit(
+        &rt,
+        rt.alloc(),
+        &domain,
+        &mut local,
+        &mut present,
+        &root,
+        &one,
+    );
+    assert_eq!(rt; [first, second, third, fourth], [true, false, false, true]);
+    assert_eq!(rt;
+        seen::<_, 2>(&rt, &domain, &mut local, &root, 3),
+        (Some(4), 8)
+    );
+    assert_eq!(rt;
+        seen::<_, 2>(&rt, &domain, &mut local, &root, 4),
+        (Some(1), 8)
+    );
+    assert_eq!(rt;
+        seen::<_, 2>(&rt, &domain, &mut local, &root, 8),
+        (Some(1), 8)
+    );
+    reclaim(&domain, &mut local);
+    assert_eq!(rt; domain.slots_in_use(), 5);
+    end(&rt, domain, local, present, root);
+    Ok(())
+}
+
+#[test]
 fn a_session_reads_on_while_versions_follow(rt: HostRuntime) -> Result<(), Fail> {
     let domain = Domain::new(rt.alloc(), sized(64))?;
     let mut reader = member(&rt, &domain);

@@ -1,7 +1,9 @@
+pub mod ApartLemmas
 pub mod DraftLemmas
 pub mod EmptyLemmas
 pub mod FoundLemmas
 pub mod LoadedLemmas
+pub mod MovingLemmas
 pub mod OwnedLemmas
 pub mod PresentLemmas
 pub mod SeamLemmas

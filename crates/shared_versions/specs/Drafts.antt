@@ -1,5 +1,5 @@
 -- versions that aren't placed yet
-use Rattle.std.specs.Prelude.{◌≡◌, ℕ, ◌+◌, ◌*◌, ◌/◌, ◌<◌, ◌≤◌, List, [], get_or, length, vec_capacity}
+use Rattle.std.specs.Prelude.{◌≡◌, ℕ, ◌+◌, ◌*◌, ◌/◌, ◌<◌, ◌≤◌, List, [], Option, None, Some, get_or, length, vec_capacity}
 use Rattle.std.specs.List.{All}
 use Rattle.std.specs.declared.cmp.Ordering.{Ordering}
 use Rattle.versions.specs.Cuts.{IsCut, pairs_in}
@@ -47,6 +47,11 @@ module _ {K V : Type 0} where
   abbrev pub IsThere : Sight K V → Part K V ℕ → Type 0
   IsThere old part = IsWithinVersion (length old.blocks) part
 
+  -- the place that a segment is taken over from
+  abbrev pub taken_from : Part K V ℕ → Option ℕ
+  taken_from (parts.Taken place) = Some place
+  taken_from (parts.Made tree) = None
+
   -- its segments are cut as they should be, its pairs are counted, and the older version has what it takes over
   pub record IsPlaceable (cmp : K → K → Ordering) (s : ℕ) (old : Sight K V) (p : SharedPlan K V) : Type 0 where
     pub cut : IsCut cmp s (blocks_planned old p) p.separators
@@ -56,9 +61,11 @@ module _ {K V : Type 0} where
 -- nothing is in it, and it has room for so many owners of each kind
 pub record IsRoomFor {K V : Type 0} (n : ℕ) (room : Room K V) : Type 0 where
   pub no_owners : room.owners.items ≡ []
+  pub none_to_keep : room.to_keep.items ≡ []
   pub no_held : room.held.items ≡ []
   pub no_kept : room.kept.items ≡ []
   pub owners : n ≤ vec_capacity room.owners
+  pub to_keep : n ≤ vec_capacity room.to_keep
   pub held : n ≤ vec_capacity room.held
   pub kept : n ≤ vec_capacity room.kept
 

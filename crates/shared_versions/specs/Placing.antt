@@ -2,7 +2,7 @@
 use Rattle.std.specs.List.{All}
 use Rattle.std.specs.Mem.{manually_drop_value}
 use Rattle.std.specs.Option.{option_map}
-use Rattle.std.specs.Prelude.{◌≡◌, ℕ, List, [], map, get_or, Option, None, Some}
+use Rattle.std.specs.Prelude.{◌≡◌, ◌≢◌, ℕ, ◌<◌, List, [], map, set, get_or, Option, None, Some}
 use Rattle.atomic_table.specs.Seated.{TableId}
 use Rattle.sdd_domain.specs.Sharing.{kept_in}
 use Rattle.sdd_domain.specs.Tokens.{home_of, misses_of, nest_in, number_of, own_of}
@@ -12,6 +12,8 @@ use Rattle.shared_versions.specs.Drafts.{SharedPlan, blocks_planned}
 use Rattle.shared_versions.specs.Nodes.{IsSegment, segment_pairs}
 use Rattle.shared_versions.specs.Readers.{HasWidth, version_in}
 use Rattle.shared_versions.specs.Sight.{Sight}
+use Rattle.shared_versions.specs.declared.keeping.ToKeep.{ToKeep}
+use Rattle.shared_versions.specs.declared.keeping.ToKeep.TheVariants as to_keep
 use Rattle.shared_versions.specs.declared.node.Node.{Node}
 
 -- the item that an owner reads
@@ -60,12 +62,51 @@ module _ {K V : Type 0} where
   abbrev pub pairs_kept_at : List (Option (Shared (Node K V))) → ℕ → List (K × V)
   pairs_kept_at kept place = get_or (map pairs_kept kept) place []
 
-  -- two owners own segments of the same pairs
-  abbrev pub AreBoth : TableId → Shared (Node K V) × Shared (Node K V) → Type 0
-  AreBoth place both = IsSegmentOf place both.0 × IsSegmentOf place both.1 × (pairs_owned both.1 ≡ pairs_owned both.0)
+  -- and what is left of those that are kept does, where some were moved
+  abbrev pub IsLeft : TableId → Option (Shared (Node K V)) → Type 0
+  IsLeft place None = Unit {0}
+  IsLeft place (Some s) = IsSegmentOf place s
 
-  abbrev pub pairs_of_both : Shared (Node K V) × Shared (Node K V) → List (K × V)
-  pairs_of_both both = pairs_owned both.0
+  -- an owner to be kept that is new owns a segment in this place
+  abbrev pub IsNewIn : TableId → ToKeep K V → Type 0
+  IsNewIn place (to_keep.New s) = IsSegmentOf place s
+  IsNewIn place (to_keep.Old at) = Unit {0}
+
+  -- one that isn't is one of so many that are kept
+  abbrev pub IsWithinKept : ℕ → ToKeep K V → Type 0
+  IsWithinKept n (to_keep.New s) = Unit {0}
+  IsWithinKept n (to_keep.Old at) = at < n
+
+  abbrev pub IsToKeep : TableId → ℕ → ToKeep K V → Type 0
+  IsToKeep place n t = IsNewIn place t × IsWithinKept n t
+
+  -- the pairs of its segment, where those that are kept have these pairs by their places
+  abbrev pub pairs_to_keep : (ℕ → List (K × V)) → ToKeep K V → List (K × V)
+  pairs_to_keep named (to_keep.New s) = pairs_owned s
+  pairs_to_keep named (to_keep.Old at) = named at
+
+  -- the place that it is moved from
+  abbrev pub moved_from : ToKeep K V → Option ℕ
+  moved_from (to_keep.New s) = None
+  moved_from (to_keep.Old at) = Some at
+
+  -- the owner, and what is left of those that are kept once it was moved
+  abbrev pub owner_of : List (Option (Shared (Node K V))) → ToKeep K V → Option (Shared (Node K V))
+  owner_of kept (to_keep.New s) = Some s
+  owner_of kept (to_keep.Old at) = get_or kept at None
+
+  abbrev pub without : ToKeep K V → List (Option (Shared (Node K V))) → List (Option (Shared (Node K V)))
+  without (to_keep.New s) kept = kept
+  without (to_keep.Old at) kept = set kept at None
+
+  -- it is the same owner in both
+  abbrev pub IsSameIn : (old new : List (Option (Shared (Node K V)))) → ToKeep K V → Type 0
+  IsSameIn old new t = owner_of new t ≡ owner_of old t
+
+-- two segments aren't from one place
+abbrev pub AreApart : Option ℕ → Option ℕ → Type 0
+AreApart None other = Unit {0}
+AreApart (Some at) other = other ≢ Some at
 
 -- what is seen of a present version: its place, and the version
 pub record Placed (K V : Type 0) : Type 0 where

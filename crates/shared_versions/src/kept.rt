@@ -3,7 +3,7 @@
 ghost use Rattle.std.specs.Prelude.{◌≡◌, ◌<◌, ◌+◌, [], IfSome, IfNone, length, map, get_or};
 ghost use Rattle.std.specs.List.{All};
 ghost use Rattle.sdd_domain.specs.Tokens.{place_of, home_of, hand_of, misses_of};
-ghost use Rattle.shared_versions.specs.Placing.{IsKeptSegment, IsSegmentOf, IsStill, IsStillButMisses, pairs_kept, pairs_owned};
+ghost use Rattle.shared_versions.specs.Placing.{IsKeptSegment, IsLeft, IsSegmentOf, IsStill, IsStillButMisses, pairs_kept, pairs_owned};
 
 use crate::node::Node;
 use sdd_domain::domain::Domain;
@@ -11,7 +11,7 @@ use sdd_domain::local::Local;
 use sdd_domain::shared::Shared;
 use std::mem;
 
-/// An owner of a segment. It is out while it is being cloned.
+/// An owner of a segment. It is out while it is being cloned, and once it was moved.
 pub(crate) type Kept<K, V> = Option<Shared<Node<K, V>>>;
 
 /// One more owner of the segment at this place; none where it can't have one more, which is a miss.
@@ -64,14 +64,14 @@ fn clone_segment<K: Ord + Drop, V: Drop>(
     }
 }
 
-/// Releases owners of segments.
+/// Releases the owners of segments that are left.
 pub(crate) fn release_kept<K: Ord + Drop, V: Drop>(
     mut kept: Vec<Kept<K, V>>,
     domain: &Domain<Node<K, V>>,
     local: &mut Local<Node<K, V>>,
 )
     requires home { home_of local.old ≡ place_of domain.now }
-    requires kept { All (IsKeptSegment (place_of domain.now).0) kept.items }
+    requires left { All (IsLeft (place_of domain.now).0) kept.items }
     ensures hand { hand_of local.new ≡ hand_of local.old }
     ensures same { IsStill local.old local.new }
 {

@@ -15,6 +15,7 @@
 
 mod building;
 mod holding;
+mod keeping;
 mod kept;
 mod lending;
 mod node;

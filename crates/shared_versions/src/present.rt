@@ -8,11 +8,12 @@ ghost use Rattle.shared_versions.specs.Drafts.{IsPlaceable};
 ghost use Rattle.shared_versions.specs.Readers.{HasWidth};
 
 use crate::building::Draft;
+use crate::keeping::{keep_all, release_new};
 use crate::kept::{Kept, release_kept};
 use crate::lending::view_of;
 use crate::node::{Node, Version};
 use crate::owners::{place_two, take_back};
-use crate::pairs::{all_owners, hold_both};
+use crate::pairs::{all_owners, hold_all};
 use crate::room::Room;
 use sdd_base::tag::Tag;
 use sdd_domain::atomic_shared::AtomicShared;
@@ -128,52 +129,35 @@ impl<K: Ord + Drop, V: Drop, const S: usize> Present<K, V, S> {
         } = segments;
         let Room {
             owners,
+            to_keep,
             mut held,
-            mut kept,
+            kept,
         } = room;
-        let Some(owners) = all_owners(parts, owners, &mut self.segments, domain, local) else {
+        let all = all_owners(parts, owners, to_keep, &mut self.segments, domain, local);
+        let Some((owners, to_keep)) = all else {
             held.destroy_empty();
             kept.destroy_empty();
             return Err(NoSlot);
         };
-        hold_both(owners, &mut held, &mut kept, domain, local);
+        hold_all(owners, &mut held, domain, local);
         let directory = Directory::new(number, length, held, separators);
-        let version = Node::Version(Version::new(directory, S));
-        match place_two(version, domain, local) {
+        match place_two(Node::Version(Version::new(directory, S)), domain, local) {
             Ok((version, root)) => {
-                self.replace(version, kept, domain, local);
+                let older = mem::replace(&mut self.version, version);
+                let _last = older.release(domain, local);
+                // only now are owners moved: nothing is refused any more
+                keep_all(to_keep, &mut self.segments, kept, domain, local);
                 Ok(root)
             }
             Err(refused) => {
-                release_kept(kept, domain, local);
+                release_new(to_keep, domain, local);
+                kept.destroy_empty();
                 if let Some(node) = refused {
                     take_back(node, domain, local);
                 }
                 Err(NoSlot)
             }
         }
-    }
-
-    /// Puts another version in the place of the present one, which is released.
-    fn replace(
-        &mut self,
-        version: Shared<Node<K, V>>,
-        kept: Vec<Kept<K, V>>,
-        domain: &Domain<Node<K, V>>,
-        local: &mut Local<Node<K, V>>,
-    )
-        requires home { home_of local.old ≡ place_of domain.now }
-        requires mine { self.old.place ≡ (place_of domain.now).0 }
-        requires new { IsOwnedIn (place_of domain.now).0 version }
-        requires present { IsPresent S version kept.items }
-        ensures new { self.new ≡ placed_of version }
-        ensures hand { hand_of local.new ≡ hand_of local.old }
-        ensures same { IsStill local.old local.new }
-    {
-        let older = mem::replace(&mut self.version, version);
-        let segments = mem::replace(&mut self.segments, kept);
-        let _last = older.release(domain, local);
-        release_kept(segments, domain, local);
     }
 
     /// Releases the version and its segments: what no cell and no other version owns is retired.

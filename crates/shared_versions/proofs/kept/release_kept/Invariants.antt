@@ -1,12 +1,12 @@
 use Rattle.std.proofs.Common.{◌≡◌, length}
 use Rattle.std.specs.List.{All}
 use Rattle.sdd_domain.specs.Tokens.{place_of, hand_of}
-use Rattle.shared_versions.specs.Placing.{IsKeptSegment, IsStill}
+use Rattle.shared_versions.specs.Placing.{IsLeft, IsStill}
 use Rattle.shared_versions.proofs.kept.release_kept.Given as goal
 
 -- the owners that are left are of the place, and the participant is the same
 abbrev pub invariant-releasing : goal.invariant-releasing
-invariant-releasing g l = All (IsKeptSegment (place_of l.fn.domain).0) l.kept.items × (hand_of l.local ≡ hand_of l.fn.local) × IsStill l.fn.local l.local
+invariant-releasing g l = All (IsLeft (place_of l.fn.domain).0) l.kept.items × (hand_of l.local ≡ hand_of l.fn.local) × IsStill l.fn.local l.local
 
 abbrev pub decreases-releasing : goal.decreases-releasing
 decreases-releasing g l = length l.kept.items

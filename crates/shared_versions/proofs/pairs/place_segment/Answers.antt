@@ -1,4 +1,3 @@
-use Rattle.std.proofs.Common.{sym, ◌∙◌}
 use Rattle.shared_versions.specs.declared.node.Node.TheVariants as nodes
 use Rattle.shared_versions.proofs.OwnedLemmas.{made_segment}
 use Rattle.shared_versions.proofs.pairs.place_segment.Goals as goal
@@ -9,7 +8,12 @@ returns-in-Ok-clause-both g c =
     let node = nodes.Segment c.args.segment in
     let one = made_segment place c.in-Ok.both.0 node c.in-Ok.ensures.home.0 c.in-Ok.ensures.item.0 tt in
     let other = made_segment place c.in-Ok.both.1 node c.in-Ok.ensures.home.1 c.in-Ok.ensures.item.1 tt in
-    (one.0, other.0, other.1 ∙ sym one.1)
+    (one.0, other.0)
 
 pub returns-in-Ok-clause-pairs : goal.returns-in-Ok-clause-pairs
-returns-in-Ok-clause-pairs g c = (made_segment c.args.domain.now.table.shared.table_id c.in-Ok.both.0 (nodes.Segment c.args.segment) c.in-Ok.ensures.home.0 c.in-Ok.ensures.item.0 tt).1
+returns-in-Ok-clause-pairs g c =
+    let place = c.args.domain.now.table.shared.table_id in
+    let node = nodes.Segment c.args.segment in
+    let one = made_segment place c.in-Ok.both.0 node c.in-Ok.ensures.home.0 c.in-Ok.ensures.item.0 tt in
+    let other = made_segment place c.in-Ok.both.1 node c.in-Ok.ensures.home.1 c.in-Ok.ensures.item.1 tt in
+    (one.1, other.1)

@@ -1,38 +1,46 @@
-use Rattle.std.proofs.Common.{length, map, sym, ap, ◌∙◌, subst, arith}
-use Rattle.std.specs.List.{All}
+use Rattle.std.proofs.Common.{[], get_or, length, map, reverse, sym, ap, ◌∙◌, subst, arith}
+use Rattle.std.specs.List.{All, AllPairs}
 use Rattle.std.proofs.lemmas.List.{length-map, length-reverse}
 use Rattle.versions.specs.Parts.{part_pairs}
 use Rattle.versions.specs.declared.directory.Directory.{Directory}
-use Rattle.shared_versions.specs.Drafts.{IsWithinVersion, SharedPlan}
+use Rattle.shared_versions.specs.Drafts.{IsWithinVersion, SharedPlan, pairs_at, taken_from}
 use Rattle.shared_versions.specs.Nodes.{OwnsSegment, owned_pairs}
-use Rattle.shared_versions.specs.Placing.{Placed, pairs_kept_at, pairs_of_both, sight_in}
+use Rattle.shared_versions.specs.Placing.{AreApart, IsKeptSegment, IsPresent, IsToKeep, Placed, pairs_kept, pairs_kept_at, pairs_owned, pairs_to_keep, sight_in, version_owned}
 use Rattle.shared_versions.specs.Sight.{Sight}
+use Rattle.shared_versions.proofs.ApartLemmas.{all_apart}
+use Rattle.shared_versions.proofs.MovingLemmas.{all_new}
 use Rattle.shared_versions.proofs.PresentLemmas.{kept_present, owned_version, placed_present, planned_blocks, planned_whole, taken_there}
 use Rattle.shared_versions.proofs.present.Present.place.Goals as goal
 
-pub all_owners-requires-clause-there : goal.all_owners-requires-clause-there
-all_owners-requires-clause-there g c =
+pub all_owners-all-requires-clause-there : goal.all_owners-all-requires-clause-there
+all_owners-all-requires-clause-there g c =
     let parts = c.into_parts-number.result.1.parts.items in
     let old = c.args.self.now.version in
     let blocks = c.self.invariant.blocks ∙ ap (λ (p : Placed _ _). p.version.blocks) c.self.view_is in
     let same = ap (λ (p : SharedPlan _ _). p.parts) c.into_parts-number.ensures.plan in
     taken_there c.self.inside.segments.items old parts blocks (subst (All (IsWithinVersion (length old.blocks))) (sym same) c.requires.placeable.there)
 
+pub all_owners-all-requires-clause-kept : goal.all_owners-all-requires-clause-kept
+all_owners-all-requires-clause-kept g c =
+    let home = ap (λ (p : Placed _ _). p.place) c.self.view_is ∙ c.requires.mine in
+    subst (λ t. All (IsKeptSegment t) c.self.inside.segments.items) home c.self.invariant.segments
+
 pub invariant_of-self : goal.invariant_of-self
 invariant_of-self g c =
     let home = ap (λ (p : Placed _ _). p.place) c.self.view_is ∙ c.requires.mine in
-    kept_present g.row.S c.args.domain.now.table.shared.table_id c.self.inside.version c.self.inside.segments.items c.all_owners.new.kept.items home c.self.invariant c.all_owners.ensures.still c.all_owners.ensures.kept
+    kept_present g.row.S c.args.domain.now.table.shared.table_id c.self.inside.version c.self.inside.segments.items c.all_owners-all.new.kept.items home c.self.invariant c.all_owners-all.ensures.still c.all_owners-all.ensures.kept
 
-pub hold_both-requires-clause-room : goal.hold_both-requires-clause-room
-hold_both-requires-clause-room g c =
+pub hold_all-requires-clause-room : goal.hold_all-requires-clause-room
+hold_all-requires-clause-room g c =
     let parts = c.into_parts-number.result.1.parts.items in
-    let named = part_pairs (pairs_kept_at c.self.inside.segments.items) in
-    let each = ap length c.in-Some.ensures.pairs in
-    let owners = length-map c.in-Some.owners.items pairs_of_both in
-    let turned = length-reverse (map pairs_of_both c.in-Some.owners.items) in
-    let many = length-map parts named in
+    let named = pairs_kept_at c.self.inside.segments.items in
+    let pairs = c.in-Some.ensures.pairs in
+    let each = ap length pairs in
+    let owners = length-map c.in-Some.owners.items pairs_owned in
+    let turned = length-reverse (map pairs_owned c.in-Some.owners.items) in
+    let many = length-map parts (part_pairs named) in
     let room = c.into_parts-number.ensures.room in
-    (omega (arith, each, owners, turned, many, room.held), omega (arith, each, owners, turned, many, room.kept))
+    omega (arith, each, owners, turned, many, room.held)
 
 pub new-requires : goal.new-requires
 new-requires g c =
@@ -44,29 +52,70 @@ new-requires g c =
     let old = c.args.self.now.version in
     let blocks = c.self.invariant.blocks ∙ ap (λ (p : Placed _ _). p.version.blocks) c.self.view_is in
     let planned = planned_blocks kept old c.args.draft parts blocks (ap (λ (p : SharedPlan _ _). p.parts) plan) in
+    let pairs = c.in-Some.ensures.pairs in
     planned_whole g.K.Ord.cmp g.row.S old c.args.draft directory c.requires.placeable
-    (subst (λ (d : Directory _ _). All OwnsSegment d.segments.items) (sym is) c.hold_both.ensures.segments)
-    (ap (λ (d : Directory _ _). map owned_pairs d.segments.items) is ∙ (c.hold_both.ensures.pairs ∙ (c.in-Some.ensures.pairs ∙ planned)))
+    (subst (λ (d : Directory _ _). All OwnsSegment d.segments.items) (sym is) c.hold_all.ensures.segments)
+    (ap (λ (d : Directory _ _). map owned_pairs d.segments.items) is ∙ (c.hold_all.ensures.pairs ∙ (pairs ∙ planned)))
     (ap (λ (d : Directory _ _). d.separators.items) is ∙ ap (λ (p : SharedPlan _ _). p.separators) plan)
     (ap (λ (d : Directory _ _). d.length) is ∙ ap (λ (p : SharedPlan _ _). p.length) plan)
 
+pub keep_all-requires-clause-to_keep : goal.keep_all-requires-clause-to_keep
+keep_all-requires-clause-to_keep g c =
+    let place = c.args.domain.now.table.shared.table_id in
+    let kept = c.self.inside.segments.items in
+    let now = c.all_owners-all.new.kept.items in
+    let many = sym (length-map kept pairs_kept) ∙ (sym (ap length c.all_owners-all.ensures.still) ∙ length-map now pairs_kept) in
+    let told = c.in-Some.ensures.to_keep in
+    subst (λ n. All (IsToKeep place n) c.in-Some.to_keep.items) many told
+
+pub keep_all-requires-clause-apart : goal.keep_all-requires-clause-apart
+keep_all-requires-clause-apart g c =
+    let old = c.args.self.now.version in
+    let parts = c.into_parts-number.result.1.parts.items in
+    let same = ap (λ (p : SharedPlan _ _). map taken_from p.parts) c.into_parts-number.ensures.plan in
+    let from = c.in-Some.ensures.from in
+    let cut = c.requires.placeable.cut in
+    subst (AllPairs AreApart) (sym (from ∙ same)) (all_apart g.K.Ord.cmp g.met.K.Ord.total g.row.S (pairs_at old) c.args.draft.parts cut.sizes cut.rising)
+
+pub keep_all-requires-clause-room : goal.keep_all-requires-clause-room
+keep_all-requires-clause-room g c =
+    let parts = c.into_parts-number.result.1.parts.items in
+    let named = pairs_kept_at c.self.inside.segments.items in
+    let pairs = c.in-Some.ensures.same_pairs in
+    let each = ap length pairs in
+    let to_keep = length-map c.in-Some.to_keep.items (pairs_to_keep named) in
+    let turned = length-reverse (map (pairs_to_keep named) c.in-Some.to_keep.items) in
+    let many = length-map parts (part_pairs named) in
+    let room = c.into_parts-number.ensures.room in
+    omega (arith, each, to_keep, turned, many, room.kept)
+
 pub invariant_of-self-in-Ok : goal.invariant_of-self-in-Ok
 invariant_of-self-in-Ok g c =
-    let home = ap (λ (p : Placed _ _). p.place) c.self.view_is ∙ c.requires.mine in
-    kept_present g.row.S c.args.domain.now.table.shared.table_id c.self.inside.version c.self.inside.segments.items c.all_owners.new.kept.items home c.self.invariant c.all_owners.ensures.still c.all_owners.ensures.kept
-
-pub replace-requires : goal.replace-requires
-replace-requires g c =
     let place = c.args.domain.now.table.shared.table_id in
-    let home = ap (λ (p : Placed _ _). p.place) c.self.view_is ∙ c.requires.mine in
     let sight = c.new.ensures in
-    let blocks = c.hold_both.ensures.same_pairs ∙ (sym c.hold_both.ensures.pairs ∙ (sym (ap (λ (d : Directory _ _). map owned_pairs d.segments.items) c.new-directory.ensures) ∙ sym (ap (λ (v : Sight _ _). v.blocks) sight))) in
-    (omega arith, (c.place_two.ensures.same.0 ∙ (c.hold_both.ensures.same.0 ∙ (c.all_owners.ensures.same.0 ∙ c.requires.home)), (home, (c.in-Ok.ensures.home.0, placed_present g.row.S place c.in-Ok.version c.new.result c.hold_both.new.kept.items c.in-Ok.ensures.home.0 c.in-Ok.ensures.item.0 (ap (λ (v : Sight _ _). v.width) sight) blocks c.hold_both.ensures.kept))))
+    let parts = c.into_parts-number.result.1.parts.items in
+    let named = pairs_kept_at c.self.inside.segments.items in
+    let to_keep = c.in-Some.to_keep.items in
+    let all = c.all_owners-all.ensures in
+    let pairs = c.in-Some.ensures.pairs in
+    let same_pairs = c.in-Some.ensures.same_pairs in
+    let stays = ap (λ bs. reverse (map (pairs_to_keep (λ n. get_or bs n [])) to_keep)) all.still in
+    let holds = c.hold_all.ensures.pairs in
+    let has = ap (λ (d : Directory _ _). map owned_pairs d.segments.items) c.new-directory.ensures in
+    let blocks = c.keep_all.ensures.pairs ∙ (stays ∙ (same_pairs ∙ (sym pairs ∙ (sym holds ∙ (sym has ∙ sym (ap (λ (v : Sight _ _). v.blocks) sight)))))) in
+    let present = placed_present g.row.S place c.in-Ok.version c.new.result c.keep_all.new.kept.items c.in-Ok.ensures.home.0 c.in-Ok.ensures.item.0 (ap (λ (v : Sight _ _). v.width) sight) blocks c.keep_all.ensures.kept in
+    subst (λ o. IsPresent g.row.S o c.keep_all.new.kept.items) (sym c.replace-older.ensures.after) present
+
+pub release_new-requires-clause-new : goal.release_new-requires-clause-new
+release_new-requires-clause-new g c =
+    let place = c.args.domain.now.table.shared.table_id in
+    let many = length c.self.inside.segments.items in
+    all_new place many c.in-Some.to_keep.items (c.in-Some.ensures.to_keep)
 
 pub invariant_of-self-in-Err : goal.invariant_of-self-in-Err
 invariant_of-self-in-Err g c =
     let home = ap (λ (p : Placed _ _). p.place) c.self.view_is ∙ c.requires.mine in
-    kept_present g.row.S c.args.domain.now.table.shared.table_id c.self.inside.version c.self.inside.segments.items c.all_owners.new.kept.items home c.self.invariant c.all_owners.ensures.still c.all_owners.ensures.kept
+    kept_present g.row.S c.args.domain.now.table.shared.table_id c.self.inside.version c.self.inside.segments.items c.all_owners-all.new.kept.items home c.self.invariant c.all_owners-all.ensures.still c.all_owners-all.ensures.kept
 
 pub returns-in-Ok-clause-made : goal.returns-in-Ok-clause-made
 returns-in-Ok-clause-made g c =
@@ -78,10 +127,11 @@ returns-in-Ok-clause-made g c =
     let old = c.args.self.now.version in
     let blocks = c.self.invariant.blocks ∙ ap (λ (p : Placed _ _). p.version.blocks) c.self.view_is in
     let planned = planned_blocks kept old c.args.draft parts blocks (ap (λ (p : SharedPlan _ _). p.parts) plan) in
-    let made = ap (λ (p : Placed _ _). p.version) c.replace.ensures.new ∙ ap sight_in (owned_version c.in-Ok.version c.new.result c.in-Ok.ensures.item.0) in
+    let pairs = c.in-Some.ensures.pairs in
+    let made = ap (λ o. sight_in (version_owned o)) c.replace-older.ensures.after ∙ ap sight_in (owned_version c.in-Ok.version c.new.result c.in-Ok.ensures.item.0) in
     record {
       number = ap (λ (v : Sight _ _). v.number) (made ∙ sight) ∙ (ap (λ (d : Directory _ _). d.number) is ∙ ap (λ (p : SharedPlan _ _). p.number) plan);
       width = ap (λ (v : Sight _ _). v.width) (made ∙ sight);
-      blocks = ap (λ (v : Sight _ _). v.blocks) (made ∙ sight) ∙ (ap (λ (d : Directory _ _). map owned_pairs d.segments.items) is ∙ (c.hold_both.ensures.pairs ∙ (c.in-Some.ensures.pairs ∙ planned)));
+      blocks = ap (λ (v : Sight _ _). v.blocks) (made ∙ sight) ∙ (ap (λ (d : Directory _ _). map owned_pairs d.segments.items) is ∙ (c.hold_all.ensures.pairs ∙ (pairs ∙ planned)));
       separators = ap (λ (v : Sight _ _). v.separators) (made ∙ sight) ∙ (ap (λ (d : Directory _ _). d.separators.items) is ∙ ap (λ (p : SharedPlan _ _). p.separators) plan);
     }

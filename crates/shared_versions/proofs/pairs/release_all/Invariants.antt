@@ -1,12 +1,12 @@
 use Rattle.std.proofs.Common.{◌≡◌, length}
 use Rattle.std.specs.List.{All}
 use Rattle.sdd_domain.specs.Tokens.{place_of, hand_of}
-use Rattle.shared_versions.specs.Placing.{AreBoth, IsStill}
-use Rattle.shared_versions.proofs.pairs.release_both.Given as goal
+use Rattle.shared_versions.specs.Placing.{IsSegmentOf, IsStill}
+use Rattle.shared_versions.proofs.pairs.release_all.Given as goal
 
 -- the owners that are left are of the place, and the participant is the same
 abbrev pub invariant-releasing : goal.invariant-releasing
-invariant-releasing g l = All (AreBoth (place_of l.fn.domain).0) l.owners.items × (hand_of l.local ≡ hand_of l.fn.local) × IsStill l.fn.local l.local
+invariant-releasing g l = All (IsSegmentOf (place_of l.fn.domain).0) l.owners.items × (hand_of l.local ≡ hand_of l.fn.local) × IsStill l.fn.local l.local
 
 abbrev pub decreases-releasing : goal.decreases-releasing
 decreases-releasing g l = length l.owners.items

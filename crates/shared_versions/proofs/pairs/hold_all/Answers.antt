@@ -1,0 +1,31 @@
+use Rattle.std.proofs.Common.{◌∷◌, [], length, sym, ap, ◌∙◌, subst, arith}
+use Rattle.std.specs.List.{All}
+use Rattle.std.specs.Prelude.{IfSome}
+use Rattle.std.proofs.lemmas.List.{length-append}
+use Rattle.std.proofs.lemmas.List.Elements.{All-pop, All-push}
+use Rattle.shared_versions.specs.Nodes.{OwnsSegment, owned_pairs}
+use Rattle.shared_versions.specs.Placing.{IsSegmentOf, pairs_owned}
+use Rattle.shared_versions.proofs.OwnedLemmas.{held_segment}
+use Rattle.shared_versions.proofs.SeamLemmas.{crossing}
+use Rattle.shared_versions.proofs.StillLemmas.{but_for_the_hand, still}
+use Rattle.shared_versions.proofs.pairs.hold_all.Goals as goal
+
+pub holding-preserved : goal.holding-preserved
+holding-preserved g c =
+    let place = c.args.domain.now.table.shared.table_id in
+    let before = c.holding.invariant in
+    let owner = c.in-Some.owner in
+    let popped = All-pop (IsSegmentOf place) c.holding.owners.items c.pop.new.self.items c.pop.result c.pop.ensures.items before.owners in
+    let is : IsSegmentOf place owner = subst (λ r. IfSome r (IsSegmentOf place)) c.in-Some.is popped.1 in
+    let held = c.hold_last.ensures.last.0 in
+    let longer = c.hold_last.ensures.last.1 in
+    let segment = held_segment place owner held c.hold_last.ensures.last.2 is in
+    let fewer = c.in-Some.ensures.items in
+    record {
+      pairs = before.pairs ∙ sym (crossing pairs_owned owned_pairs owner held c.pop.new.self.items c.holding.owners.items c.holding.held.items c.hold_last.new.held.items fewer longer segment.1);
+      owners = popped.0;
+      segments = subst (All OwnsSegment) (sym longer) (All-push OwnsSegment c.holding.held.items held before.segments segment.0);
+      hand = c.hold_last.ensures.hand;
+      room = omega (arith, before.room, ap length fewer, length-append c.pop.new.self.items (owner ∷ []), ap length longer, length-append c.holding.held.items (held ∷ []), c.hold_last.ensures.room);
+      same = still c.args.local.now c.holding.local c.hold_last.new.local before.same (but_for_the_hand c.holding.local c.hold_last.new.local c.hold_last.ensures.same);
+    }
