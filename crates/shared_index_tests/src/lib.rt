@@ -20,6 +20,8 @@ mod scene;
 #[cfg(test)]
 mod sharing;
 #[cfg(test)]
+mod table;
+#[cfg(test)]
 mod tasks;
 #[cfg(test)]
 mod threads;

@@ -6,7 +6,7 @@ ghost use Rattle.sdd_domain.specs.Tokens.{place_of, cell_count};
 ghost use Rattle.shared_index.specs.Invariant.{IsUnengaged};
 ghost use Rattle.shared_index_tests.specs.Scenes.{CanBegin};
 
-use ordered_index::{Accepted, Answer, Audit, Cause, Query, Receipt, Refused, Reply, Seq};
+use ordered_index::{Accepted, Answer, Audit, Query, Receipt, Refused, Seq};
 use sdd_base::sizes::Sizes;
 use sdd_domain::atomic_shared::AtomicShared;
 use sdd_domain::domain::Domain;
@@ -22,13 +22,6 @@ pub(crate) const ROOM: &str = "memory is there";
 
 /// The items of the place: versions of numbers by numbers.
 pub(crate) type Item = Node<u64, u64>;
-
-/// What a commit is told: its number and replies, or why it was refused and how many writes came back.
-#[derive(Debug, PartialEq, Eq, Drop)]
-pub(crate) enum Told {
-    Accepted(u64, Vec<Reply>),
-    Refused(Cause, usize),
-}
 
 /// A place for two participants, one cell and so many items.
 pub(crate) fn sized(slots: usize) -> Sizes
@@ -106,19 +99,9 @@ impl<'d, L: Naming, const S: usize> Scene<'d, L, S> {
         &mut self,
         receipt: &Receipt<u64, u64>,
         writes: Vec<Write<u64, u64>>,
-    ) -> Told {
-        match self
-            .book
+    ) -> Result<Accepted, Refused<u64, u64>> {
+        self.book
             .commit(self.domain, &self.root, &mut self.share, receipt, writes)
-        {
-            Ok(Accepted { number, replies }) => Told::Accepted(number, replies),
-            Err(Refused { cause, writes }) => Told::Refused(cause, writes.len()),
-        }
-    }
-
-    /// Commits writes that rest on nothing.
-    pub(crate) fn write(&mut self, alloc: Global, writes: Vec<Write<u64, u64>>) -> Told {
-        self.commit(&Receipt::blank(alloc), writes)
     }
 
     /// Audits a receipt.
@@ -151,20 +134,6 @@ impl<'d, L: Naming, const S: usize> Scene<'d, L, S> {
     }
 }
 
-/// A receipt of this number with one read.
-pub(crate) fn receipt<R: Abort>(
-    rt: &R,
-    alloc: Global,
-    number: u64,
-    query: Query<u64>,
-    answer: Answer<u64, u64>,
-) -> Receipt<u64, u64> {
-    let mut receipt = Receipt::blank(alloc);
-    receipt.number = number;
-    receipt.note(query, &answer).expect(rt, ROOM);
-    receipt
-}
-
 /// A receipt of this number with one read, that of a key.
 pub(crate) fn got<R: Abort>(
     rt: &R,
@@ -173,7 +142,12 @@ pub(crate) fn got<R: Abort>(
     key: u64,
     value: Option<u64>,
 ) -> Receipt<u64, u64> {
-    receipt(rt, alloc, number, Query::Get(key), Answer::Get(value))
+    let mut receipt = Receipt::blank(alloc);
+    receipt.number = number;
+    receipt
+        .note(Query::Get(key), &Answer::Get(value))
+        .expect(rt, ROOM);
+    receipt
 }
 
 /// An answer with these pairs.
@@ -189,11 +163,6 @@ pub(crate) fn range<R: Abort, const N: usize>(
     Answer::Range(Seq::from_vec(told))
 }
 
-/// No write.
-pub(crate) fn none(alloc: Global) -> Vec<Write<u64, u64>> {
-    Vec::new(alloc)
-}
-
 /// One write.
 pub(crate) fn one<R: Abort>(rt: &R, alloc: Global, write: Write<u64, u64>) -> Vec<Write<u64, u64>> {
     vec![in alloc; write].expect(rt, ROOM)
@@ -207,18 +176,4 @@ pub(crate) fn two<R: Abort>(
     second: Write<u64, u64>,
 ) -> Vec<Write<u64, u64>> {
     vec![in alloc; first, second].expect(rt, ROOM)
-}
-
-/// What an accepted commit is told.
-pub(crate) fn accepted<R: Abort, const N: usize>(
-    rt: &R,
-    alloc: Global,
-    number: u64,
-    replies: [Reply; N],
-) -> Told {
-    let mut told = Vec::new(alloc);
-    for reply in replies {
-        told.push(reply).expect(rt, ROOM);
-    }
-    Told::Accepted(number, told)
 }

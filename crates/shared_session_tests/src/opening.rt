@@ -37,56 +37,58 @@ fn number_of<const S: usize>(
     }
 }
 
+/// Whether sessions of this width, each for at least a number, are told what they are to be: a number, or why there is none.
+fn are_opened<const S: usize>(
+    alloc: Global,
+    domain: &Domain<Item>,
+    cell: &AtomicShared,
+    local: &mut Local<Item>,
+    rows: &[(u64, Result<u64, OpenRefused>)],
+) -> bool
+    requires home { home_of local.old ≡ place_of domain.now }
+    requires inside { cell_number cell.now < cell_count domain.now }
+    requires closed { (own_of local.old).nesting ≡ 0 }
+    ensures same { IsSame local.old local.new }
+    ensures closed { (own_of local.new).nesting ≡ 0 }
+{
+    let mut as_said = true;
+    for (at_least, wanted) in rows {
+        as_said = number_of::<S>(alloc, domain, cell, local, *at_least) == *wanted && as_said;
+    }
+    as_said
+}
+
 #[test]
 fn a_session_has_at_least_the_number_that_is_asked_for(rt: HostRuntime) {
     let mut met = false;
     let domain = place(&rt, rt.alloc(), &mut met);
     let mut local = member(&rt, &domain, &mut met);
-    let seventh = version(
-        &rt,
-        rt.alloc(),
-        &domain,
-        &mut local,
-        7,
-        (10, 20, 50),
-        &mut met,
-    );
+    let values = (10, 20, 50);
+    let seventh = version(&rt, rt.alloc(), &domain, &mut local, 7, values, &mut met);
     let cell = cell(&rt, seventh, &domain, &mut local);
-    assert_eq!(rt;
-        number_of::<2>(rt.alloc(), &domain, &cell, &mut local, 0),
-        Ok(7)
-    );
-    assert_eq!(rt;
-        number_of::<2>(rt.alloc(), &domain, &cell, &mut local, 6),
-        Ok(7)
-    );
-    assert_eq!(rt;
-        number_of::<2>(rt.alloc(), &domain, &cell, &mut local, 7),
-        Ok(7)
-    );
-    assert_eq!(rt;
-        number_of::<2>(rt.alloc(), &domain, &cell, &mut local, 8),
-        Err(OpenRefused::Earlier(7))
-    );
-    assert_eq!(rt;
-        number_of::<2>(rt.alloc(), &domain, &cell, &mut local, u64::MAX),
-        Err(OpenRefused::Earlier(7))
-    );
+    let rows = [
+        (0, Ok(7)),
+        (6, Ok(7)),
+        (7, Ok(7)),
+        (8, Err(OpenRefused::Earlier(7))),
+        (u64::MAX, Err(OpenRefused::Earlier(7))),
+    ];
+    let seven = are_opened::<2>(rt.alloc(), &domain, &cell, &mut local, &rows);
+    let number = u64::MAX;
     let last = version(
         &rt,
         rt.alloc(),
         &domain,
         &mut local,
-        u64::MAX,
-        (1, 2, 5),
+        number,
+        values,
         &mut met,
     );
     publish(last, &cell, &domain, &mut local);
-    assert_eq!(rt;
-        number_of::<2>(rt.alloc(), &domain, &cell, &mut local, u64::MAX),
-        Ok(u64::MAX)
-    );
+    let rows = [(number, Ok(number))];
+    let most = are_opened::<2>(rt.alloc(), &domain, &cell, &mut local, &rows);
     end(&rt, cell, domain, local);
+    assert!(rt; seven && most);
 }
 
 #[test]
@@ -95,40 +97,24 @@ fn no_guard_stays_open_where_a_session_is_refused(rt: HostRuntime) {
     let domain = place(&rt, rt.alloc(), &mut met);
     let mut local = member(&rt, &domain, &mut met);
     let mut writer = member(&rt, &domain, &mut met);
-    let first = version(
-        &rt,
-        rt.alloc(),
-        &domain,
-        &mut writer,
-        1,
-        (10, 20, 50),
-        &mut met,
-    );
+    let values = (10, 20, 50);
+    let first = version(&rt, rt.alloc(), &domain, &mut writer, 1, values, &mut met);
     let cell = cell(&rt, first, &domain, &mut writer);
-    assert_eq!(rt;
-        number_of::<2>(rt.alloc(), &domain, &cell, &mut local, 2),
-        Err(OpenRefused::Earlier(1))
-    );
-    assert_eq!(rt;
-        number_of::<3>(rt.alloc(), &domain, &cell, &mut local, 0),
-        Err(OpenRefused::NoVersion)
-    );
-    let second = version(
-        &rt,
-        rt.alloc(),
-        &domain,
-        &mut writer,
-        2,
-        (11, 21, 51),
-        &mut met,
-    );
+    let rows = [(2, Err(OpenRefused::Earlier(1)))];
+    let earlier = are_opened::<2>(rt.alloc(), &domain, &cell, &mut local, &rows);
+    let rows = [(0, Err(OpenRefused::NoVersion))];
+    let narrow = are_opened::<3>(rt.alloc(), &domain, &cell, &mut local, &rows);
+    let values = (11, 21, 51);
+    let second = version(&rt, rt.alloc(), &domain, &mut writer, 2, values, &mut met);
     publish(second, &cell, &domain, &mut writer);
-    assert_eq!(rt; domain.slots_in_use(), 6);
+    let before = domain.slots_in_use();
     // a guard that were open still would keep the first version
     reclaim(&domain, &mut writer);
-    assert_eq!(rt; domain.slots_in_use(), 3);
+    let after = domain.slots_in_use();
     local.end(&domain);
     end(&rt, cell, domain, writer);
+    assert!(rt; earlier && narrow);
+    assert_eq!(rt; (before, after), (6, 3));
 }
 
 #[test]
@@ -169,24 +155,15 @@ fn a_version_has_one_width(rt: HostRuntime) {
     let empty = Node::Version(Version::empty(rt.alloc(), 2));
     let empty = placed(&rt, empty, &domain, &mut local);
     let cell = cell(&rt, empty, &domain, &mut local);
-    assert_eq!(rt;
-        number_of::<2>(rt.alloc(), &domain, &cell, &mut local, 0),
-        Ok(0)
-    );
-    assert_eq!(rt;
-        number_of::<2>(rt.alloc(), &domain, &cell, &mut local, 1),
-        Err(OpenRefused::Earlier(0))
-    );
-    assert_eq!(rt;
-        number_of::<1>(rt.alloc(), &domain, &cell, &mut local, 0),
-        Err(OpenRefused::NoVersion)
-    );
+    let rows = [(0, Ok(0)), (1, Err(OpenRefused::Earlier(0)))];
+    let of_two = are_opened::<2>(rt.alloc(), &domain, &cell, &mut local, &rows);
+    let rows = [(0, Err(OpenRefused::NoVersion))];
+    let of_one = are_opened::<1>(rt.alloc(), &domain, &cell, &mut local, &rows);
     // the width is looked at before the number
-    assert_eq!(rt;
-        number_of::<3>(rt.alloc(), &domain, &cell, &mut local, 1),
-        Err(OpenRefused::NoVersion)
-    );
+    let rows = [(1, Err(OpenRefused::NoVersion))];
+    let of_three = are_opened::<3>(rt.alloc(), &domain, &cell, &mut local, &rows);
     end(&rt, cell, domain, local);
+    assert!(rt; of_two && of_one && of_three);
 }
 
 #[test]

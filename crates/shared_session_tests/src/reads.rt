@@ -60,25 +60,32 @@ fn pairs<R: Abort>(rt: &R, alloc: Global, pairs: &[(u64, u64)]) -> Answer<u64, u
     Answer::Range(Seq::from_vec(copy))
 }
 
-#[test]
-fn keys_are_looked_up(rt: HostRuntime) {
+/// Opens a session of a version in which the keys 1, 2 and 5 have these values, has a check read it, and closes it. Nothing is
+/// recorded meanwhile.
+fn in_a_session<R: Abort, F: FnOnce(&Twos)>(
+    rt: &R,
+    alloc: Global,
+    values: (u64, u64, u64),
+    check: F,
+)
+    requires { F.IsAlwaysCallable check }
+{
     let mut met = false;
-    let domain = place(&rt, rt.alloc(), &mut met);
-    let mut local = member(&rt, &domain, &mut met);
-    let first = version(
-        &rt,
-        rt.alloc(),
-        &domain,
-        &mut local,
-        1,
-        (10, 20, 50),
-        &mut met,
-    );
-    let cell = cell(&rt, first, &domain, &mut local);
-    let Ok(session) = Twos::open(&domain, &cell, &mut local, rt.alloc(), 0) else {
+    let domain = place(rt, alloc, &mut met);
+    let mut local = member(rt, &domain, &mut met);
+    let first = version(rt, alloc, &domain, &mut local, 1, values, &mut met);
+    let cell = cell(rt, first, &domain, &mut local);
+    let Ok(session) = Twos::open(&domain, &cell, &mut local, alloc, 0) else {
         panic!(rt; "the first version is there");
     };
-    assert_eq!(rt; (session.number(), session.len()), (1, 3));
+    check(&session);
+    let receipt = session.close(&domain, &mut local);
+    assert!(rt; receipt.number == 1 && receipt.reads.as_slice().is_empty());
+    end(rt, cell, domain, local);
+}
+
+#[test]
+fn keys_are_looked_up(rt: HostRuntime) {
     let rows = [
         (0, None),
         (1, Some(10)),
@@ -89,136 +96,77 @@ fn keys_are_looked_up(rt: HostRuntime) {
         (6, None),
         (u64::MAX, None),
     ];
-    let mut steps = Steps::new();
-    for row in &rows {
-        assert_eq!(rt; session.get(&row.0).copied(), row.1);
-        assert_eq!(rt; session.get_counted(&row.0, &mut steps).copied(), row.1);
-        assert_eq!(rt; session.contains(&row.0), row.1.is_some());
-        assert_eq!(rt;
-            session.contains_counted(&row.0, &mut steps),
-            row.1.is_some()
-        );
-    }
-    assert!(rt; session.receipt().reads.as_slice().is_empty());
-    let receipt = session.close(&domain, &mut local);
-    assert_eq!(rt; receipt.number, 1);
-    end(&rt, cell, domain, local);
+    in_a_session(&rt, rt.alloc(), (10, 20, 50), |session| {
+        assert_eq!(&rt; (session.number(), session.len()), (1, 3));
+        let mut steps = Steps::new();
+        for (key, value) in &rows {
+            assert_eq!(&rt; session.get(key).copied(), *value);
+            assert_eq!(&rt; session.get_counted(key, &mut steps).copied(), *value);
+            assert_eq!(&rt; session.contains(key), value.is_some());
+            assert_eq!(&rt; session.contains_counted(key, &mut steps), value.is_some());
+        }
+    });
 }
 
 #[test]
 fn neighbours_are_located(rt: HostRuntime) {
-    let mut met = false;
-    let domain = place(&rt, rt.alloc(), &mut met);
-    let mut local = member(&rt, &domain, &mut met);
-    let first = version(
-        &rt,
-        rt.alloc(),
-        &domain,
-        &mut local,
-        1,
-        (10, 20, 50),
-        &mut met,
-    );
-    let cell = cell(&rt, first, &domain, &mut local);
-    let Ok(session) = Twos::open(&domain, &cell, &mut local, rt.alloc(), 0) else {
-        panic!(rt; "the first version is there");
-    };
-    assert_eq!(rt; shown(&session, 0), ("larger", (Some((1, 10)), None)));
-    assert_eq!(rt; shown(&session, 1), ("exact", (Some((1, 10)), None)));
-    assert_eq!(rt; shown(&session, 2), ("exact", (Some((2, 20)), None)));
-    assert_eq!(rt;
-        shown(&session, 3),
-        ("between", (Some((2, 20)), Some((5, 50))))
-    );
-    assert_eq!(rt; shown(&session, 5), ("exact", (Some((5, 50)), None)));
-    assert_eq!(rt; shown(&session, 6), ("smaller", (None, Some((5, 50)))));
-    let receipt = session.close(&domain, &mut local);
-    assert!(rt; receipt.reads.as_slice().is_empty());
-    end(&rt, cell, domain, local);
+    let rows = [
+        (0, ("larger", (Some((1, 10)), None))),
+        (1, ("exact", (Some((1, 10)), None))),
+        (2, ("exact", (Some((2, 20)), None))),
+        (3, ("between", (Some((2, 20)), Some((5, 50))))),
+        (5, ("exact", (Some((5, 50)), None))),
+        (6, ("smaller", (None, Some((5, 50))))),
+    ];
+    in_a_session(&rt, rt.alloc(), (10, 20, 50), |session| {
+        for (key, wanted) in rows {
+            assert_eq!(&rt; shown(session, key), wanted);
+        }
+    });
 }
 
 #[test]
 fn ranges_are_walked_both_ways(rt: HostRuntime) {
-    let mut met = false;
-    let domain = place(&rt, rt.alloc(), &mut met);
-    let mut local = member(&rt, &domain, &mut met);
-    let first = version(
-        &rt,
-        rt.alloc(),
-        &domain,
-        &mut local,
-        1,
-        (10, 20, 50),
-        &mut met,
-    );
-    let cell = cell(&rt, first, &domain, &mut local);
-    let Ok(session) = Twos::open(&domain, &cell, &mut local, rt.alloc(), 0) else {
-        panic!(rt; "the first version is there");
-    };
-    let (forth, back) = listed(
-        &rt,
-        rt.alloc(),
-        &session,
-        Bound::Unbounded,
-        Bound::Unbounded,
-    );
-    assert!(rt; forth.as_slice() == &[(1, 10), (2, 20), (5, 50)][..]);
-    assert!(rt; back.as_slice() == &[(5, 50), (2, 20), (1, 10)][..]);
-    let (forth, back) = listed(
-        &rt,
-        rt.alloc(),
-        &session,
-        Bound::Excluded(1),
-        Bound::Included(5),
-    );
-    assert!(rt; forth.as_slice() == &[(2, 20), (5, 50)][..]);
-    assert!(rt; back.as_slice() == &[(5, 50), (2, 20)][..]);
-    let (forth, back) = listed(
-        &rt,
-        rt.alloc(),
-        &session,
-        Bound::Included(2),
-        Bound::Excluded(5),
-    );
-    assert!(rt; forth.as_slice() == &[(2, 20)][..]);
-    assert!(rt; back.as_slice() == &[(2, 20)][..]);
-    let (forth, back) = listed(
-        &rt,
-        rt.alloc(),
-        &session,
-        Bound::Included(5),
-        Bound::Included(1),
-    );
-    assert!(rt; forth.is_empty());
-    assert!(rt; back.is_empty());
-    let receipt = session.close(&domain, &mut local);
-    assert!(rt; receipt.reads.as_slice().is_empty());
-    end(&rt, cell, domain, local);
+    let rows = [
+        (
+            (Bound::Unbounded, Bound::Unbounded),
+            &[(1, 10), (2, 20), (5, 50)][..],
+            &[(5, 50), (2, 20), (1, 10)][..],
+        ),
+        (
+            (Bound::Excluded(1), Bound::Included(5)),
+            &[(2, 20), (5, 50)][..],
+            &[(5, 50), (2, 20)][..],
+        ),
+        (
+            (Bound::Included(2), Bound::Excluded(5)),
+            &[(2, 20)][..],
+            &[(2, 20)][..],
+        ),
+        ((Bound::Included(5), Bound::Included(1)), &[][..], &[][..]),
+    ];
+    in_a_session(&rt, rt.alloc(), (10, 20, 50), |session| {
+        for ((lower, upper), up, down) in rows {
+            let (forth, back) = listed(&rt, rt.alloc(), session, lower, upper);
+            assert!(&rt; forth.as_slice() == up && back.as_slice() == down);
+        }
+    });
 }
 
 #[test]
 fn the_ends_of_a_walk_change_places(rt: HostRuntime) {
-    let mut met = false;
-    let domain = place(&rt, rt.alloc(), &mut met);
-    let mut local = member(&rt, &domain, &mut met);
-    let first = version(&rt, rt.alloc(), &domain, &mut local, 1, (2, 2, 2), &mut met);
-    let cell = cell(&rt, first, &domain, &mut local);
-    let Ok(session) = Twos::open(&domain, &cell, &mut local, rt.alloc(), 0) else {
-        panic!(rt; "the first version is there");
-    };
-    let mut walk = session.iter();
-    assert_eq!(rt; walk.next_back(), Some((&5, &2)));
-    assert_eq!(rt; walk.next_back(), Some((&2, &2)));
-    assert!(rt; walk.flip());
-    assert_eq!(rt; walk.next(), Some((&5, &2)));
-    assert!(rt; walk.flip());
-    assert_eq!(rt; walk.next_back(), Some((&2, &2)));
-    assert_eq!(rt; walk.next(), Some((&1, &2)));
-    assert_eq!(rt; walk.next(), None);
-    assert!(rt; !walk.flip());
-    let receipt = session.close(&domain, &mut local);
-    assert_eq!(rt; receipt.number, 1);
-    end(&rt, cell, domain, local);
+    in_a_session(&rt, rt.alloc(), (2, 2, 2), |session| {
+        let mut walk = session.iter();
+        assert_eq!(&rt; walk.next_back(), Some((&5, &2)));
+        assert_eq!(&rt; walk.next_back(), Some((&2, &2)));
+        assert!(&rt; walk.flip());
+        assert_eq!(&rt; walk.next(), Some((&5, &2)));
+        assert!(&rt; walk.flip());
+        assert_eq!(&rt; walk.next_back(), Some((&2, &2)));
+        assert_eq!(&rt; walk.next(), Some((&1, &2)));
+        assert_eq!(&rt; walk.next(), None);
+        assert!(&rt; !walk.flip());
+    });
 }
 
 #[test]
