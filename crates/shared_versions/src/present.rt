@@ -3,7 +3,7 @@
 ghost use Rattle.std.specs.Prelude.{◌≡◌, ◌<◌, ◌+◌, [], IfOk, OnOk, OnErr, Some};
 ghost use Rattle.sdd_domain.specs.Cells.{cell_number};
 ghost use Rattle.sdd_domain.specs.Tokens.{place_of, home_of, hand_of, cell_count, misses_of};
-ghost use Rattle.shared_versions.specs.Placing.{IsPlanned, IsOwnedIn, IsPresent, IsStill, IsStillButMisses, item_owned, placed_of, version_owned};
+ghost use Rattle.shared_versions.specs.Placing.{IsPlanned, IsOwnedIn, IsStill, IsStillButMisses, item_owned, version_owned};
 ghost use Rattle.shared_versions.specs.Drafts.{IsPlaceable};
 ghost use Rattle.shared_versions.specs.Readers.{HasWidth};
 
