@@ -41,11 +41,11 @@ fn cloned<R: Abort>(
 fn only_the_last_owner_is_the_last(rt: HostRuntime) -> Result<(), Fail> {
     let domain = Domain::new(rt.alloc(), sized(2, 2))?;
     let mut local = member(&rt, &domain);
-    let owner = placed(&rt, &domain, &mut local, 7);
+    let owner = placed(&rt, &domain, &mut local, 47);
     let (first, second) = cloned(&rt, &domain, &mut local, owner);
-    assert_eq!(rt; (*first.as_ref(), *second.as_ref()), (7, 7));
+    assert_eq!(rt; (*first.as_ref(), *second.as_ref()), (47, 47));
     assert!(rt; !first.release(&domain, &mut local));
-    assert_eq!(rt; *second.as_ref(), 7);
+    assert_eq!(rt; *second.as_ref(), 47);
     assert!(rt; second.release(&domain, &mut local));
     let owner = placed(&rt, &domain, &mut local, 8);
     let (first, second) = cloned(&rt, &domain, &mut local, owner);

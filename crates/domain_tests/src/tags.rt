@@ -2,7 +2,7 @@
 
 ghost use Rattle.std.specs.Prelude.{◌≡◌, ◌<◌, []};
 ghost use Rattle.sdd_domain.specs.Cells.{cell_number};
-ghost use Rattle.sdd_domain.specs.Tokens.{place_of, home_of, hand_of, own_of, cell_count, nest_of, nest_in, IsInNest};
+ghost use Rattle.sdd_domain.specs.Tokens.{place_of, home_of, hand_of, own_of, cell_count, nest_of, nest_in, IsSame, IsInNest};
 
 use crate::cells::{cell_with, exchanged, spent};
 use crate::domain::{end, member};
@@ -26,7 +26,7 @@ fn swapped<R: Abort>(
 ) -> (Option<u64>, Tag)
     requires home { (home_of local.old ≡ place_of domain.now) × (hand_of local.old ≡ []) }
     requires inside { cell_number cell.now < cell_count domain.now }
-    ensures same { IsInNest local.old local.new × ((own_of local.new).nesting ≡ (own_of local.old).nesting) }
+    ensures same { IsSame local.old local.new × ((own_of local.new).nesting ≡ (own_of local.old).nesting) }
 {
     let (item, tag) = new;
     let owner = match item {
@@ -73,7 +73,7 @@ fn pointers_are_equal_by_item_and_tag(rt: HostRuntime) -> Result<(), Fail> {
         unreachable!();
     };
     let loaded = compared(cell.load(&domain, &guard, &mut local));
-    let null = compared(Ptr::null());
+    let null = compared(Ptr::default());
     guard.close(&domain, &mut local);
     cell.retire(&domain, &mut local);
     local.end(&domain);
@@ -81,6 +81,30 @@ fn pointers_are_equal_by_item_and_tag(rt: HostRuntime) -> Result<(), Fail> {
     assert_eq!(rt; loaded, (false, true, Tag::First));
     assert_eq!(rt; null, (false, true, Tag::None));
     Ok(())
+}
+
+/// Empties the cell where it is as the pointer, and sets a tag: whether what the cell names then is told as it is loaded.
+fn emptied(
+    domain: &Domain<u64>,
+    guard: &Guard,
+    local: &mut Local<u64>,
+    cell: &AtomicShared,
+    current: Ptr<u64>,
+) -> Option<bool>
+    requires home { (home_of local.old ≡ place_of domain.now) × (hand_of local.old ≡ []) }
+    requires nest { nest_of guard.now ≡ nest_in local.old }
+    requires open { 0 < (own_of local.old).nesting }
+    requires inside { cell_number cell.now < cell_count domain.now }
+    ensures same { IsInNest local.old local.new × ((own_of local.new).nesting ≡ (own_of local.old).nesting) }
+{
+    let new = (None, Tag::Second);
+    let (owner, named) = match cell.compare_exchange_weak(current, new, domain, guard, local) {
+        Ok((old, named)) => (old, Some(named)),
+        Err((back, _)) => (back, None),
+    };
+    spent(domain, local, owner);
+    let found = cell.load(domain, guard, local).named();
+    named.map(|told| told == found)
 }
 
 #[test]
@@ -95,12 +119,14 @@ fn an_exchange_is_refused_for_the_tag_alone(rt: HostRuntime) -> Result<(), Fail>
     let other = seven.with_tag(Tag::First);
     let miss = exchanged(&rt, &domain, &guard, &mut local, &cell, other, Some(8));
     let hit = exchanged(&rt, &domain, &guard, &mut local, &cell, seven, Some(9));
+    let nine = cell.load(&domain, &guard, &mut local);
+    let told = emptied(&domain, &guard, &mut local, &cell, nine);
     guard.close(&domain, &mut local);
     cell.retire(&domain, &mut local);
     local.end(&domain);
     end(&rt, domain);
     assert_eq!(rt; miss, Err((Some(8), Some(7))));
-    assert_eq!(rt; hit, Ok(Some(7)));
+    assert_eq!(rt; (hit, told), (Ok(Some(7)), Some(true)));
     Ok(())
 }
 
