@@ -48,8 +48,8 @@ impl AtomicShared {
     ghost use Rattle.sdd_domain.specs.Sharing.{kept_in};
     ghost use Rattle.sdd_domain.specs.Tokens.{place_of, home_of, own_of, born_of, waiting_of, misses_of, nest_of, nest_in, IsInNest, IsInNestButMisses};
 
-    /// A cell that owns nothing, without a tag, if nobody has one of those that the place has: each is tried once. None is a miss of the
-    /// participant. It must be spent by `into_shared` or `retire`.
+    /// A cell that owns nothing, without a tag, if nobody has one of those that the place has: each is tried once. None is a
+    /// miss of the participant. It must be spent by `into_shared` or `retire`.
     pub fn null<T: Holds>(domain: &Domain<T>, local: &mut Local<T>) -> Option<AtomicShared>
         ensures inside { IfSome result (λ c. cell_number c < cell_count domain.now) }
         ensures hit { IfSome result (λ c. misses_of local.new ≡ misses_of local.old) }
@@ -101,8 +101,8 @@ impl AtomicShared {
         tag(domain.words(), &domain.sizes, self.cell)
     }
 
-    /// What the cell names and its tag, as both are found in one step. The item stays, as it is, until the outermost guard closes,
-    /// whatever other threads do with the cell.
+    /// What the cell names and its tag, as both are found in one step. The item stays, as it is, until the outermost guard
+    /// closes, whatever other threads do with the cell.
     pub fn load<'g, T: Holds>(
         &self,
         domain: &Domain<T>,
