@@ -12,7 +12,7 @@ use Rattle.sdd_steps.specs.declared.participant.Participant.{Participant}
 use Rattle.sdd_steps.specs.declared.item.Item.{Item}
 use Rattle.sdd_steps.specs.declared.item.ItemState.TheVariants.{Retired, Waiting}
 use Rattle.sdd_steps.specs.declared.step.Step.TheVariants.{End}
-use Rattle.sdd_steps.specs.State.{At, Has, newcomer, start}
+use Rattle.sdd_steps.specs.State.{At, Has, newcomer}
 use Rattle.sdd_steps.specs.Steps.{left_by}
 use Rattle.sdd_steps.specs.State as steps
 use Rattle.sdd_steps.proofs.ListLemmas.{put, put_here, put_else, put_all, set_all, set_else, same_at, at_inside}
@@ -23,7 +23,7 @@ use Rattle.sdd_homes.specs.Reasons.{Loads}
 use Rattle.sdd_homes.specs.Hands.{items_of}
 use Rattle.sdd_domain.specs.Views.{IsBare, spent}
 use Rattle.sdd_domain.specs.Items.{Grip, Rests, IsWaiting, IsLeftover, Distinct, Leftovers, Carries, Items}
-use Rattle.sdd_domain.proofs.Stirred.{stirred_none, stirred_left, grip_set, loads_others, seated}
+use Rattle.sdd_domain.proofs.Stirred.{stirred_left, grip_set, loads_others, seated}
 use Rattle.sdd_domain.proofs.Stirred as items
 use Rattle.sdd_base.specs.declared.sizes.Sizes.{Sizes}
 use Rattle.sdd_homes.specs.Book.{Content, blank, bag, Book}

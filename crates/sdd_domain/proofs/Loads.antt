@@ -16,7 +16,7 @@ use Rattle.sdd_steps.specs.declared.item.ItemState.TheVariants.{Live, Reclaimed}
 use Rattle.sdd_steps.specs.declared.item.Cell.{Cell}
 use Rattle.sdd_steps.specs.declared.step.Step.TheVariants.{LoadCell}
 use Rattle.sdd_steps.specs.State as steps
-use Rattle.sdd_steps.specs.State.{At, Has, cell_at, item_at, cell_is, participant_is, empty_cell}
+use Rattle.sdd_steps.specs.State.{At, Has, item_at, cell_is, participant_is}
 use Rattle.sdd_steps.specs.Steps.{Steps, is_inside, is_full, is_reachable, is_within, stands_alone, loaded_as, count_of, named}
 use Rattle.sdd_steps.specs.Invariant.{names_of}
 use Rattle.sdd_steps.proofs.ListLemmas.{put, put_here, put_else, same_at, set_here, at_inside, at_map, find_at}

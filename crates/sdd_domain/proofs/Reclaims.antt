@@ -14,7 +14,7 @@ use Rattle.sdd_steps.specs.declared.item.ItemState.{ItemState}
 use Rattle.sdd_steps.specs.declared.item.ItemState.TheVariants.{Due, Retired, Waiting, Reclaimed, Live}
 use Rattle.sdd_steps.specs.declared.step.Step.TheVariants.{Reclaim}
 use Rattle.sdd_steps.specs.State as steps
-use Rattle.sdd_steps.specs.State.{At, Has, times, participant_at, item_is, participant_is, with_item}
+use Rattle.sdd_steps.specs.State.{At, Has, times, participant_at, item_is, participant_is}
 use Rattle.sdd_steps.specs.Steps.{is_ready, is_reclaimable, is_held_by, is_full, let_go}
 use Rattle.sdd_steps.specs.Invariant.{Inv, names_of}
 use Rattle.sdd_steps.proofs.CountLemmas.{names_kept, held_some, times_has, times_none}

@@ -12,7 +12,7 @@ use Rattle.sdd_steps.proofs.ListLemmas.{put, put_here, put_else, set_all, set_el
 use Rattle.sdd_homes.specs.Reasons.{Loads}
 use Rattle.sdd_domain.specs.Views.{registered}
 use Rattle.sdd_domain.specs.Items.{Grip, Rests, Items}
-use Rattle.sdd_domain.proofs.Stirred.{stirred_none, stirred_left, grip_set, loads_others, seated}
+use Rattle.sdd_domain.proofs.Stirred.{stirred_none, grip_set, seated}
 use Rattle.sdd_domain.proofs.Stirred as items
 use Rattle.sdd_homes.specs.Book.{Content, away, blank, bag, Book}
 use Rattle.sdd_homes.proofs.LyingLemmas.{takes_high}

@@ -15,7 +15,7 @@ use Rattle.sdd_homes.specs.Reasons.{Loads}
 use Rattle.sdd_homes.proofs.HandLemmas.{owned_end}
 use Rattle.sdd_domain.specs.Views.{spent}
 use Rattle.sdd_domain.specs.Items.{owners_in_hand, Grip}
-use Rattle.sdd_domain.proofs.Stirred.{stirred_none, stirred_left, grip_set, loads_others, seated}
+use Rattle.sdd_domain.proofs.Stirred.{stirred_none}
 use Rattle.sdd_domain.proofs.Stirred as items
 use Rattle.sdd_homes.specs.Book.{Content}
 use Rattle.sdd_domain.specs.Layout.{state_word, claim_word, cell_word, shown}

@@ -26,7 +26,6 @@ use Rattle.sdd_homes.specs.Hands.{items_of, owned}
 use Rattle.sdd_homes.specs.Parts.{Parts}
 use Rattle.sdd_homes.specs.Lying.{Lying}
 use Rattle.sdd_homes.proofs.PartLemmas as parts
-use Rattle.sdd_homes.proofs.PartLemmas.{Alike}
 use Rattle.sdd_homes.proofs.SpareLemmas.{stays_kept, refilled, beside}
 use Rattle.sdd_homes.proofs.HandLemmas.{owned_set}
 use Rattle.sdd_domain.specs.Layout.{epoch_words, claim_word, cell_word, slot_word, all_homes, all_extras, bag_place}

@@ -12,7 +12,7 @@ use Rattle.sdd_steps.specs.declared.item.ItemState.TheVariants.{Retired, Waiting
 use Rattle.sdd_steps.specs.declared.item.Cell.{Cell}
 use Rattle.sdd_steps.specs.declared.step.Step.TheVariants.{SwapCell}
 use Rattle.sdd_steps.specs.State as steps
-use Rattle.sdd_steps.specs.State.{At, Has, times, cell_at, item_at, cell_is, participant_is}
+use Rattle.sdd_steps.specs.State.{At, Has, times, cell_at, cell_is, participant_is}
 use Rattle.sdd_steps.specs.Steps.{Steps, is_ready, is_reachable, is_within, is_offered, has_loose_owner, stands_alone, emptied, filled}
 use Rattle.sdd_steps.specs.Invariant.{names_of, points}
 use Rattle.sdd_steps.proofs.Enabling.{participant_passes, cell_passes, item_passes}

@@ -1,4 +1,3 @@
-use Rattle.sdd.specs.Entries.{entry_link}
 use Rattle.sdd.specs.Queues.{oldest_cell, newest_cell}
 use Rattle.sdd.proofs.FromIterLemmas.{queue_outlasts}
 use Rattle.sdd_tests.proofs.fillings.copied_queue.Goals as goal
