@@ -32,7 +32,7 @@ const BY_NUMBER: [(Call, Told); 17] = [
 
 #[test]
 fn receipts_are_audited_by_their_numbers(rt: HostRuntime) {
-    on_a_book::<_, 2>(&rt, rt.alloc(), 64, u64::MAX, &BY_NUMBER);
+    on_a_book(&rt, rt.alloc(), u64::MAX, &BY_NUMBER);
 }
 
 /// Reads of each kind, of the list after the first of three commits; the second removes all pairs.
@@ -90,5 +90,5 @@ const EACH_KIND: [(Call, Told); 8] = [
 
 #[test]
 fn each_kind_of_read_is_audited(rt: HostRuntime) {
-    on_a_book::<_, 2>(&rt, rt.alloc(), 64, u64::MAX, &EACH_KIND);
+    on_a_book(&rt, rt.alloc(), u64::MAX, &EACH_KIND);
 }

@@ -3,7 +3,7 @@
 use crate::table::Call::{Audit, Commit, Counts, Reclaim};
 use crate::table::Claim::{Between, Got, Has, Listed, Mixed};
 use crate::table::Told::{Accepted, Audited, Counted, Done, Refused};
-use crate::table::{Call, Told, on_a_book};
+use crate::table::{Call, Told, on_a_book, on_a_small_book};
 use ordered_index::Audit::Yes;
 use ordered_index::Cause::{Conflict, Exhausted, NoSlot};
 use ordered_index::Reply::{Inserted, Removed, Upserted};
@@ -29,7 +29,7 @@ const CHANGED: [(Call, Told); 7] = [
 
 #[test]
 fn a_read_that_changed_is_a_conflict(rt: HostRuntime) {
-    on_a_book::<_, 2>(&rt, rt.alloc(), 64, u64::MAX, &CHANGED);
+    on_a_book(&rt, rt.alloc(), u64::MAX, &CHANGED);
 }
 
 /// Of several reads the first that does not hold is told; an absent key and an empty range are reads as well.
@@ -76,7 +76,7 @@ const FIRST_OF: [(Call, Told); 7] = [
 
 #[test]
 fn the_first_read_that_differs_is_told(rt: HostRuntime) {
-    on_a_book::<_, 2>(&rt, rt.alloc(), 64, u64::MAX, &FIRST_OF);
+    on_a_book(&rt, rt.alloc(), u64::MAX, &FIRST_OF);
 }
 
 /// Nothing is trusted of a receipt: neither a claim nor an answer of another kind. A number that isn't there is no cause.
@@ -96,7 +96,7 @@ const FORGED: [(Call, Told); 5] = [
 
 #[test]
 fn a_forged_receipt_is_a_conflict(rt: HostRuntime) {
-    on_a_book::<_, 2>(&rt, rt.alloc(), 64, u64::MAX, &FORGED);
+    on_a_book(&rt, rt.alloc(), u64::MAX, &FORGED);
 }
 
 /// The last number is one: a second commit is refused, for its reads before its number.
@@ -113,7 +113,7 @@ const LAST_NUMBER: [(Call, Told); 5] = [
 
 #[test]
 fn after_the_last_number_commits_are_exhausted(rt: HostRuntime) {
-    on_a_book::<_, 2>(&rt, rt.alloc(), 64, 1, &LAST_NUMBER);
+    on_a_book(&rt, rt.alloc(), 1, &LAST_NUMBER);
 }
 
 /// Five slots, a pair a segment: a version takes two, and so do the one before it and the one that waits.
@@ -132,5 +132,5 @@ const FEW_SLOTS: [(Call, Told); 10] = [
 
 #[test]
 fn without_slots_a_commit_waits_for_a_reclaim(rt: HostRuntime) {
-    on_a_book::<_, 1>(&rt, rt.alloc(), 5, u64::MAX, &FEW_SLOTS);
+    on_a_small_book(&rt, rt.alloc(), 5, &FEW_SLOTS);
 }

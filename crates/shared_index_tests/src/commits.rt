@@ -44,7 +44,7 @@ const EACH_WRITE: [(Call, Told); 11] = [
 
 #[test]
 fn each_write_is_told_what_it_did(rt: HostRuntime) {
-    on_a_book::<_, 2>(&rt, rt.alloc(), 64, u64::MAX, &EACH_WRITE);
+    on_a_book(&rt, rt.alloc(), u64::MAX, &EACH_WRITE);
 }
 
 /// A commit that writes nothing is one all the same, and leaves the list.
@@ -56,7 +56,7 @@ const NO_WRITES: [(Call, Told); 3] = [
 
 #[test]
 fn a_commit_without_writes_has_a_number(rt: HostRuntime) {
-    on_a_book::<_, 2>(&rt, rt.alloc(), 64, u64::MAX, &NO_WRITES);
+    on_a_book(&rt, rt.alloc(), u64::MAX, &NO_WRITES);
 }
 
 /// What a commit wrote holds for the next one: key by key, beyond one segment.
@@ -82,5 +82,5 @@ const READ_ON: [(Call, Told); 5] = [
 
 #[test]
 fn what_was_written_is_read_by_the_next_commit(rt: HostRuntime) {
-    on_a_book::<_, 2>(&rt, rt.alloc(), 64, u64::MAX, &READ_ON);
+    on_a_book(&rt, rt.alloc(), u64::MAX, &READ_ON);
 }

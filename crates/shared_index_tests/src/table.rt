@@ -134,20 +134,14 @@ fn answers<L: Naming, R: Abort, const S: usize>(
     }
 }
 
-/// Makes the calls of a table on an empty book, and tells how many answer what is wanted before the first that doesn't.
+/// Makes the calls of a table on a book, and ends it: how many answer what is wanted before the first that doesn't.
 fn played<L: Naming, R: Abort, const S: usize>(
     rt: &R,
     alloc: Global,
-    domain: &Domain<Item>,
-    local: Local<Item>,
-    blank: Blank,
-    last: u64,
+    scene: Scene<'_, L, S>,
     rows: &[(Call, Told)],
-) -> usize
-    requires begins { CanBegin L.place L.name L.parts 1 domain.now local blank }
-    requires size { (1 ≤ S) × (S ≤ 225) }
-{
-    let mut scene = Scene::<L, S>::new(rt, alloc, domain, local, blank, last);
+) -> usize {
+    let mut scene = scene;
     let mut right = 0usize;
     for at in 0..rows.len() {
         let (call, wanted) = rows[at];
@@ -159,20 +153,52 @@ fn played<L: Naming, R: Abort, const S: usize>(
     right
 }
 
-/// Plays a table on an empty book with so many slots, up to a last number.
-pub(crate) fn on_a_book<R: Abort, const S: usize>(
+/// Plays a table on an empty book with two pairs in a segment at most.
+fn by_twos<L: Naming, R: Abort>(
     rt: &R,
     alloc: Global,
-    slots: usize,
+    domain: &Domain<Item>,
+    local: Local<Item>,
+    blank: Blank,
     last: u64,
     rows: &[(Call, Told)],
 )
-    requires size { (1 ≤ S) × (S ≤ 225) }
-    requires slots { (1 ≤ slots) × (slots ≤ 1073741824) }
+    requires { CanBegin L.place L.name L.parts 1 domain.now local blank }
+{
+    let scene = Scene::<L, 2>::new(rt, alloc, domain, local, blank, last);
+    assert_eq!(rt; played(rt, alloc, scene, rows), rows.len());
+}
+
+/// The same with one pair.
+fn by_ones<L: Naming, R: Abort>(
+    rt: &R,
+    alloc: Global,
+    domain: &Domain<Item>,
+    local: Local<Item>,
+    blank: Blank,
+    last: u64,
+    rows: &[(Call, Told)],
+)
+    requires { CanBegin L.place L.name L.parts 1 domain.now local blank }
+{
+    let scene = Scene::<L, 1>::new(rt, alloc, domain, local, blank, last);
+    assert_eq!(rt; played(rt, alloc, scene, rows), rows.len());
+}
+
+/// Plays a table on an empty book with 64 slots, up to a last number, with two pairs in a segment at most.
+pub(crate) fn on_a_book<R: Abort>(rt: &R, alloc: Global, last: u64, rows: &[(Call, Told)]) {
+    let domain = Domain::new(alloc, sized(64)).expect(rt, ROOM);
+    let local = member(rt, &domain);
+    by_twos::<Brand, R>(rt, alloc, &domain, local, Blank::new(1), last, rows);
+    end(rt, domain);
+}
+
+/// Plays a table on an empty book with so many slots, with one pair in each segment.
+pub(crate) fn on_a_small_book<R: Abort>(rt: &R, alloc: Global, slots: usize, rows: &[(Call, Told)])
+    requires { (1 ≤ slots) × (slots ≤ 1073741824) }
 {
     let domain = Domain::new(alloc, sized(slots)).expect(rt, ROOM);
     let local = member(rt, &domain);
-    let right = played::<Brand, R, S>(rt, alloc, &domain, local, Blank::new(1), last, rows);
+    by_ones::<Brand, R>(rt, alloc, &domain, local, Blank::new(1), u64::MAX, rows);
     end(rt, domain);
-    assert_eq!(rt; right, rows.len());
 }
