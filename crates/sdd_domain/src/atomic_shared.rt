@@ -246,8 +246,8 @@ impl AtomicShared {
     }
 
     /// Sets the tag, in one step, where `f` answers true of the pointer that is found: whether it did. Where other threads
-    /// changed the cell since that pointer was loaded it tries again, and asks anew; it gives up after `2^64` times. What
-    /// the cell owns stays.
+    /// changed the cell since that pointer was loaded it tries again, and asks anew; after `2^64` times it gives up, and
+    /// tells that it didn't. What the cell owns stays.
     pub fn update_tag_if<'g, T: Holds + 'g, F: Fn(Ptr<'g, T>) -> bool>(
         &self,
         tag: Tag,

@@ -79,12 +79,14 @@ impl<'g, T> Ptr<'g, T> {
         }
     }
 
+    /// Its tag.
     pub fn tag(self) -> Tag
         ensures { result ≡ ptr_tag self.entry }
     {
         self.tag
     }
 
+    /// Gives it this tag in the place of its own. What it is to stays.
     pub fn set_tag(&mut self, tag: Tag)
         ensures slot { ptr_slot self.new ≡ ptr_slot self.old }
         ensures item { ptr_item self.new ≡ ptr_item self.old }
@@ -93,6 +95,7 @@ impl<'g, T> Ptr<'g, T> {
         self.tag = tag;
     }
 
+    /// Takes its tag away. What it is to stays.
     pub fn unset_tag(&mut self)
         ensures slot { ptr_slot self.new ≡ ptr_slot self.old }
         ensures item { ptr_item self.new ≡ ptr_item self.old }
