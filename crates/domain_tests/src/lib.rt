@@ -12,11 +12,15 @@ mod guard;
 #[cfg(test)]
 mod items;
 #[cfg(test)]
+mod jobs;
+#[cfg(test)]
 mod nested;
 #[cfg(test)]
 mod owners;
 #[cfg(test)]
 mod refusals;
+#[cfg(test)]
+mod shares;
 #[cfg(test)]
 mod tags;
 #[cfg(test)]

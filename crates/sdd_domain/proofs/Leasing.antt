@@ -10,7 +10,7 @@ use Rattle.sdd_homes.specs.Book.{Content, part, lease}
 use Rattle.sdd_domain.specs.Contents.{IsIn}
 use Rattle.sdd_domain.specs.Layout.{packed, Tells}
 use Rattle.sdd_domain.specs.Leases.{row_told, lease_told, row_slots, all_below}
-use Rattle.sdd_domain.specs.Plays.{HasLoaded, IsLeased, takes_home, loading, own_home}
+use Rattle.sdd_domain.specs.Plays.{HasLoaded, HasLeasedAt, IsLeased, takes_home, loading, own_home}
 use Rattle.sdd_domain.specs.declared.board.Acting.{Acting}
 use Rattle.sdd_domain.specs.declared.board.Home.{Home}
 use Rattle.sdd_domain.specs.declared.board.Home.TheVariants.{Blank}
@@ -22,11 +22,11 @@ use Rattle.sdd_domain.proofs.Rows.{slots_told, has_slot, slot_lent}
 module _ {S : Type 0} (IsIn : Content → S → Type 0) (m m' : Me S Acting) (w : ℕ) (loaded : HasLoaded IsIn m w m') where
   pub nothing_named : ((y t c : ℕ) → y < 2 ^ 31 → t < 4 → w ≡ packed y t c → c ≡ 0) → m' ≡ m
   nothing_named none = ⊎_elim (λ (t : Tells w loaded.0 0 × (m' ≡ m)). t.1)
-      (λ t. let bad = none loaded.0 t.2.0 (suc t.0) loaded.1 t.2.1 t.2.2 in absurd (omega arith)) loaded.2
+      (λ t. let bad = none loaded.0 t.1.0 (suc t.0) loaded.1 t.1.1 t.1.2 in absurd (omega arith)) loaded.2
 
-  pub slot_found : (k : ℕ) → ((y t c : ℕ) → y < 2 ^ 31 → t < 4 → w ≡ packed y t c → c ≡ k + 1) → (h : Loaded) × ((IsLeased m.0.leases k h × (m' ≡ (loading h m.0.leases m.0, m.1))) ⊎ takes_home IsIn m k h m')
+  pub slot_found : (k : ℕ) → ((y t c : ℕ) → y < 2 ^ 31 → t < 4 → w ≡ packed y t c → c ≡ k + 1) → HasLeasedAt IsIn m k m'
   slot_found k some = ⊎_elim (λ (t : Tells w loaded.0 0 × (m' ≡ m)). let bad = some loaded.0 t.0.0 0 loaded.1 t.0.1 t.0.2 in absurd (omega arith))
-      (λ t. let next = some loaded.0 t.2.0 (suc t.0) loaded.1 t.2.1 t.2.2 in let same : t.0 ≡ k = omega arith in subst (λ z. (h : Loaded) × ((IsLeased m.0.leases z h × (m' ≡ (loading h m.0.leases m.0, m.1))) ⊎ takes_home IsIn m z h m')) same (t.1, t.3)) loaded.2
+      (λ t. let next = some loaded.0 t.1.0 (suc t.0) loaded.1 t.1.1 t.1.2 in let same : t.0 ≡ k = omega arith in subst (λ z. HasLeasedAt IsIn m z m') same t.2) loaded.2
 
 -- whether it was leased, as the rows tell
 module _ {T : Type 0} (holds : T → List (ℕ × ℕ)) (life : ℕ) (rows : List (Row T)) (m m' : Me (Home T) Acting) (k : ℕ) (h : Loaded) (told : map row_told rows ≡ map (lease_told life) m.0.leases)

@@ -1,5 +1,5 @@
 -- the load of a cell keeps the rule of the table
-use Rattle.std.proofs.Common.{◌≡◌, ◌&&◌, ◌||◌, not, is_some, true, ℕ, ◌+◌, ◌^◌, ◌<◌, ◌≤◌, List, [], ◌∷◌, ◌++◌, get_or, set, length, sym, refl, ap, ◌∙◌, subst, ⊎_elim, inl, inr, arith, Option, None, Some}
+use Rattle.std.proofs.Common.{◌≡◌, ◌&&◌, ◌||◌, not, is_some, true, ℕ, ◌+◌, ◌^◌, ◌<◌, ◌≤◌, List, [], ◌∷◌, ◌++◌, get_or, set, length, lt-ltb, sym, refl, ap, ◌∙◌, subst, ⊎_elim, inl, inr, arith, Option, None, Some}
 use mathlib.Core.Logic.{dite}
 use mathlib.Core.Option.{some, none}
 use native.Mathlib.Decide.{ℕ_discrete}
@@ -14,27 +14,30 @@ use Rattle.sdd_steps.specs.declared.participant.Loaded.{Loaded}
 use Rattle.sdd_steps.specs.declared.item.Item.{Item}
 use Rattle.sdd_steps.specs.declared.item.ItemState.TheVariants.{Live, Reclaimed}
 use Rattle.sdd_steps.specs.declared.item.Cell.{Cell}
-use Rattle.sdd_steps.specs.declared.step.Step.TheVariants.{LoadCell}
+use Rattle.sdd_steps.specs.declared.step.Step.{Step}
+use Rattle.sdd_steps.specs.declared.step.Step.TheVariants.{LoadCell, LoadInHand}
 use Rattle.sdd_steps.specs.State as steps
-use Rattle.sdd_steps.specs.State.{At, Has, item_at, cell_is, participant_is}
-use Rattle.sdd_steps.specs.Steps.{Steps, is_inside, is_full, is_reachable, is_within, stands_alone, loaded_as, count_of, named}
+use Rattle.sdd_steps.specs.State.{At, Has, item_at, cell_is, participant_is, item_is}
+use Rattle.sdd_steps.specs.Steps.{Steps, is_inside, is_full, is_reachable, is_within, has_loose_owner, stands_alone, loaded_as, count_of, named}
 use Rattle.sdd_steps.specs.Invariant.{names_of}
 use Rattle.sdd_steps.proofs.ListLemmas.{put, put_here, put_else, same_at, set_here, at_inside, at_map, find_at}
 use Rattle.sdd_steps.proofs.StepLemmas.{named_there}
 use Rattle.sdd_steps.proofs.EnabledLemmas.{inside_is}
-use Rattle.sdd_steps.proofs.Enabling.{participant_passes, participant_read, cell_passes, cell_read}
+use Rattle.sdd_steps.proofs.Enabling.{participant_passes, participant_read, cell_passes, cell_read, item_passes, item_read}
 use Rattle.sdd_homes.specs.declared.Lease.{Lease}
+use Rattle.sdd_homes.specs.declared.Owner.{Owner}
 use Rattle.sdd_homes.specs.Book.{Content, away, part, full, home, Lends, Apart, lease}
 use Rattle.sdd_homes.specs.Parts.{Parts}
 use Rattle.sdd_homes.specs.Reasons.{Loads, Why}
 use Rattle.sdd_homes.proofs.Totals.{home_in, total_put}
+use Rattle.sdd_homes.proofs.HandLemmas.{owned_some, mine_some}
 use Rattle.sdd_homes.proofs.Leases.{has_lends, lends_or}
 use Rattle.sdd_homes.proofs.LyingLemmas.{takes_low}
 use Rattle.sdd_homes.proofs.PartLemmas as parts
 use Rattle.sdd_domain.specs.Layout.{cell_word}
-use Rattle.sdd_domain.specs.Items.{Grip}
+use Rattle.sdd_domain.specs.Items.{Grip, owners_in_hand}
 use Rattle.sdd_domain.specs.Rule.{Shows}
-use Rattle.sdd_domain.specs.Plays.{loading, own_home, IsLeased, load_then}
+use Rattle.sdd_domain.specs.Plays.{loading, own_home, IsLeased, HasLeasedAt, load_then, load_own_then}
 use Rattle.sdd_domain.specs.declared.board.Acting.{Acting}
 use Rattle.sdd_domain.specs.declared.board.Plan.{Plan}
 use Rattle.sdd_domain.proofs.Taken as taken
@@ -47,27 +50,35 @@ use Rattle.sdd_domain.proofs.Looks.{has_last, has_more}
 abbrev pub more : Loaded → Participant → Participant
 more h x = record x { loaded = x.loaded ++ h ∷ [] }
 
--- a cell that stands by itself and names i is loaded
-module _ (s : steps.State) (p c i : ℕ) (x : Participant) (at : At s.participants p x) (inside : is_inside x ≡ true) (o : Cell) (at_c : At s.cells c o) (alone : o.holder ≡ None) (names : o.names ≡ Some i) where
-  abbrev after : steps.State
-  after = record s { participants = set s.participants p (more (loaded_as s.items i) x) }
+-- the item i is loaded
+abbrev after : steps.State → ℕ → ℕ → Participant → steps.State
+after s p i x = record s { participants = set s.participants p (more (loaded_as s.items i) x) }
 
-  pub loads_step : Steps s (LoadCell p c) after
-  loads_step = (
-    and_true (participant_is is_inside s p) (cell_is (λ q. is_full q && (is_reachable s q || is_within s p q)) s c) (participant_passes is_inside s p x at inside)
-        (cell_passes (λ q. is_full q && (is_reachable s q || is_within s p q)) s c o at_c
-        (and_true (is_full o) (is_reachable s o || is_within s p o) (ap is_some names) (or_left (is_reachable s o) (is_within s p o) (or_left (stands_alone o) _ (ap (λ h. not (is_some h)) alone))))),
-    λ j. record s { participants = set s.participants p (more (loaded_as s.items (named (sym (ap (λ (z : Cell). z.names) (cell_read s c o at_c) ∙ names) j))) (sym (participant_read s p x at) j)) },
-  )
+-- as what a cell names that stands by itself
+loads_cell : (s : steps.State) (p c i : ℕ) (x : Participant) → At s.participants p x → is_inside x ≡ true → (o : Cell) → At s.cells c o → o.holder ≡ None → o.names ≡ Some i → Steps s (LoadCell p c) (after s p i x)
+loads_cell s p c i x at inside o at_c alone names = (
+  and_true (participant_is is_inside s p) (cell_is (λ q. is_full q && (is_reachable s q || is_within s p q)) s c) (participant_passes is_inside s p x at inside)
+      (cell_passes (λ q. is_full q && (is_reachable s q || is_within s p q)) s c o at_c
+      (and_true (is_full o) (is_reachable s o || is_within s p o) (ap is_some names) (or_left (is_reachable s o) (is_within s p o) (or_left (stands_alone o) _ (ap (λ h. not (is_some h)) alone))))),
+  λ j. record s { participants = set s.participants p (more (loaded_as s.items (named (sym (ap (λ (z : Cell). z.names) (cell_read s c o at_c) ∙ names) j))) (sym (participant_read s p x at) j)) },
+)
 
+-- as that of an owner in hand
+loads_owned : (s : steps.State) (p i : ℕ) (x : Participant) → At s.participants p x → is_inside x ≡ true → (it : Item) → At s.items i it → 0 < it.hand → Steps s (LoadInHand p i) (after s p i x)
+loads_owned s p i x at inside it here loose = (
+  and_true (participant_is is_inside s p) (item_is has_loose_owner s i) (participant_passes is_inside s p x at inside) (item_passes has_loose_owner s i it here (lt-ltb 0 it.hand loose)),
+  λ j. record s { participants = set s.participants p (more (loaded_as s.items i) (sym (participant_read s p x at) j)) },
+)
+
+module _ (s : steps.State) (p i : ℕ) (x : Participant) (at : At s.participants p x) (inside : is_inside x ≡ true) where
   opened : x.phase ≡ Opened (count_of x.phase)
   opened = (inside_is x inside).0
 
-  pub newly : Loads after p i
+  pub newly : Loads (after s p i x) p i
   newly = (more (loaded_as s.items i) x, count_of x.phase, loaded_as s.items i, set_here s.participants p (more (loaded_as s.items i) x) x at, opened, has_last x.loaded (loaded_as s.items i), refl)
 
   -- what was loaded before still is
-  pub loads_more : (q k : ℕ) → Loads s q k → Loads after q k
+  pub loads_more : (q k : ℕ) → Loads s q k → Loads (after s p i x) q k
   loads_more q k l = let h = loaded_as s.items i in dite (ℕ_discrete q p)
       (λ e. let same : l.0 ≡ x = same_at s.participants p l.0 x (subst (λ m. At s.participants m l.0) e l.3) at in (
         more h x,
@@ -78,14 +89,15 @@ module _ (s : steps.State) (p c i : ℕ) (x : Participant) (at : At s.participan
         has_more x.loaded h l.2 (subst (λ (z : Participant). Has z.loaded l.2) same l.5),
         l.6,
       ))
-      (λ ne. loads_others s after p (more h x) refl q k ne l)
+      (λ ne. loads_others s (after s p i x) p (more h x) refl q k ne l)
 
 module _ (S : Type 0) (IsIn : Content → S → Type 0) (plan : Plan) where
   abbrev n : ℕ
   n = plan.sizes.participants
 
-  -- a cell that names i is loaded by the participant of the seat
-  module _ (s : State S Acting) (r : Shows IsIn plan s) (id c i : ℕ) (d : Acting) (at : get_elem? s.views id ≡ some d) (kind : d.kind ≡ 1) (inside : is_inside d.known ≡ true) (o : Cell) (at_c : At r.state.cells c o) (names : o.names ≡ Some i) where
+  -- the item i is loaded by the participant of the seat, in a step that may do so
+  module _ (s : State S Acting) (r : Shows IsIn plan s) (id i : ℕ) (d : Acting) (at : get_elem? s.views id ≡ some d) (kind : d.kind ≡ 1) (inside : is_inside d.known ≡ true)
+      (there : At r.state.items i (item_at r.state i) × ((item_at r.state i).state ≡ Live)) (st : Step) (runs : Steps r.state st (after r.state d.number i d.known)) where
     abbrev p : ℕ
     p = d.number
 
@@ -96,10 +108,7 @@ module _ (S : Type 0) (IsIn : Content → S → Type 0) (plan : Plan) where
     h = loaded_as r.state.items i
 
     abbrev core : steps.State
-    core = after r.state p c i d.known a.is inside o at_c (r.items.alone c o at_c) names
-
-    there : At r.state.items i (item_at r.state i) × ((item_at r.state i).state ≡ Live)
-    there = named_there r.state r.kept.0 r.kept.1.0 r.kept.1.1 r.kept.1.2 c o i at_c names
+    core = after r.state p i d.known
 
     stand : (r.book.slot_of i < plan.sizes.slots) × (r.book.stage (r.book.slot_of i) ≡ full i)
     stand = r.items.standing i (item_at r.state i) there.0 (λ q e. let bad : Live ≡ Reclaimed q = sym there.1 ∙ e in absurd (cc))
@@ -110,7 +119,7 @@ module _ (S : Type 0) (IsIn : Content → S → Type 0) (plan : Plan) where
     abbrev goes : (ls : List Lease) → Moves r.state r.born d (loading h ls d)
     goes ls = record {
       core = core;
-      runs = taken.one r.state (LoadCell p c) core (loads_step r.state p c i d.known a.is inside o at_c (r.items.alone c o at_c) names);
+      runs = taken.one r.state st core runs;
       count = refl;
       changed = refl;
       inside = own_inside S IsIn plan s r id d at kind;
@@ -123,7 +132,7 @@ module _ (S : Type 0) (IsIn : Content → S → Type 0) (plan : Plan) where
     }
 
     still_loaded : (q k : ℕ) → Loads r.state q k → Loads core q k
-    still_loaded = loads_more r.state p c i d.known a.is inside o at_c (r.items.alone c o at_c) names
+    still_loaded = loads_more r.state p i d.known a.is inside
 
     -- nothing comes out
     pub again_leased : (w : ℕ) → Shows IsIn plan record { words = set s.words w (get_or s.words w 0); homes = s.homes; views = set s.views id (loading h d.leases d) }
@@ -176,7 +185,7 @@ module _ (S : Type 0) (IsIn : Content → S → Type 0) (plan : Plan) where
 
       kept : Parts n plan.sizes.slots r.state.items (Why core (Grip (set s.views id d'))) (record r.book { out = out'; what = what' })
       kept = parts.loads (parts.stays r.items.parts r.state.items (Why core (Grip (set s.views id d'))) (λ m z at_z. (z, at_z, refl, refl)) reasons) p k i h.value low stand.0 stand.1 unleased
-          (inl (newly r.state p c i d.known a.is inside o at_c (r.items.alone c o at_c) names)) (λ z at_z. ap (λ (q : Item). q.value) (same_at r.state.items i z (item_at r.state i) at_z there.0))
+          (inl (newly r.state p i d.known a.is inside)) (λ z at_z. ap (λ (q : Item). q.value) (same_at r.state.items i z (item_at r.state i) at_z there.0))
 
       pub newly_leased : (w : ℕ) → Shows IsIn plan record { words = set s.words w (get_or s.words w 0); homes = set s.homes (home plan.sizes.slots k p) none; views = set s.views id d' }
       newly_leased w = let b = r.items.seats id d at kind in subst (λ ws. Shows IsIn plan record { words = ws; homes = set s.homes (home plan.sizes.slots k p) none; views = set s.views id d' }) (sym (set-get_or s.words w 0))
@@ -192,20 +201,34 @@ module _ (S : Type 0) (IsIn : Content → S → Type 0) (plan : Plan) where
             apart = λ j e other here kind_e same. other (sym (r.epochs.seats j e here kind_e).seated ∙ (ap r.epochs.seat_of same ∙ a.seated));
           })))
 
+    -- what it tells the seat
+    pub told : (w : ℕ) (carried : List (ℕ × S)) → (v : Acting) × (act : Act S) × table.Valid s.homes carried act × Shows IsIn plan (stepped s w (get_or s.words w 0) id carried v act) × HasLeasedAt IsIn (d, carried) (r.book.slot_of i) (v, table.carried_after carried act)
+    told w carried = let k : ℕ = r.book.slot_of i in ⊎_elim
+        (λ (had : Lends d.leases k). (loading h d.leases d, keeps, tt, again_leased w, (h, inl (is_leased had, refl))))
+        (λ (free : ¬ Lends d.leases k). let f = found free in let b = r.items.seats id d at kind in let sizes = ap (λ (z : Sizes). home z.slots k d.number) b.sizes_are in (
+          d' free,
+          takes (own_home d k) f.0,
+          ap (get_elem? s.homes) sizes ∙ f.1,
+          subst (λ z. Shows IsIn plan record { words = set s.words w (get_or s.words w 0); homes = set s.homes z none; views = set s.views id (d' free) }) (sym sizes) (newly_leased free w),
+          (h, inr (free, subst (λ (z : Sizes). k < z.slots) (sym b.sizes_are) stand.0, subst (λ (z : Sizes). length d.leases < z.slots) (sym b.sizes_are) (fewer free), (count free, f.0, f.2, few free, refl))),
+        ))
+        (lends_or d.leases k)
+
   pub loads : (slots id c : ℕ) (me : Me S Acting) → me.0.kind ≡ 1 → is_inside me.0.known ≡ true → c < plan.sizes.cells → plan.sizes.cells + n ≤ 2 ^ 31
       → Allows (Shows IsIn plan) slots id me (cell_word plan.sizes c) (λ w. w) (load_then IsIn (step slots (cell_word plan.sizes c) 0 0 none) me)
   loads slots id c me kind inside lc small s r _ at _ = let d = me.0 in let w : ℕ = cell_word plan.sizes c in let many = r.items.many in let o = find_at r.state.cells c (omega arith) in let y : ℕ = r.book.spare c in let ly = r.items.spares.range c (omega arith) in
       let named_at : (x : Option ℕ) → (o.0).names ≡ x → At (names_of r.state.cells) c x = (λ x e. subst (At (names_of r.state.cells) c) e (at_map (λ (z : Cell). z.names) r.state.cells c o.0 o.1)) in
       (elim (o.0).names as (λ x. (o.0).names ≡ x → (v : Acting) × (act : Act S) × table.Valid s.homes me.1 act × Shows IsIn plan (stepped s w (get_or s.words w 0) id me.1 v act) × load_then IsIn (step slots w 0 0 none) me (get_or s.words w 0) (v, table.carried_after me.1 act)) [
         | None ↦ λ e. (d, keeps, tt, idles S IsIn plan s r w id d at, (y, omega arith, inl (r.items.cell_words c None (named_at None e), refl)))
-        | Some i ↦ λ e. let k : ℕ = r.book.slot_of i in let word = r.items.cell_words c (Some i) (named_at (Some i) e) in let h = loaded_as r.state.items i in ⊎_elim
-            (λ (had : Lends d.leases k). (loading h d.leases d, keeps, tt, again_leased s r id c i d at kind inside o.0 o.1 e w, (y, omega arith, inr (k, h, word, inl (is_leased s r id c i d at kind inside o.0 o.1 e had, refl)))))
-            (λ (free : ¬ Lends d.leases k). let f = found s r id c i d at kind inside o.0 o.1 e free in let b = r.items.seats id d at kind in let count : ℕ = r.book.share k d.number in let sizes = ap (λ (z : Sizes). home z.slots k d.number) b.sizes_are in (
-              loading h (d.leases ++ lease k i count h.value ∷ []) d,
-              takes (own_home d k) f.0,
-              ap (get_elem? s.homes) sizes ∙ f.1,
-              subst (λ z. Shows IsIn plan record { words = set s.words w (get_or s.words w 0); homes = set s.homes z none; views = set s.views id (loading h (d.leases ++ lease k i count h.value ∷ []) d) }) (sym sizes) (newly_leased s r id c i d at kind inside o.0 o.1 e free w),
-              (y, omega arith, inr (k, h, word, inr (free, subst (λ (z : Sizes). k < z.slots) (sym b.sizes_are) (stand s r id c i d at kind inside o.0 o.1 e).0, subst (λ (z : Sizes). length d.leases < z.slots) (sym b.sizes_are) (fewer s r id c i d at kind inside o.0 o.1 e free), (count, f.0, f.2, few s r id c i d at kind inside o.0 o.1 e free, refl)))),
-            ))
-            (lends_or d.leases k)
+        | Some i ↦ λ e. let word = r.items.cell_words c (Some i) (named_at (Some i) e) in let seat = (r.epochs.seats id d at kind).is in
+            let t = told s r id i d at kind inside (named_there r.state r.kept.0 r.kept.1.0 r.kept.1.1 r.kept.1.2 c o.0 i o.1 e) (LoadCell d.number c) (loads_cell r.state d.number c i d.known seat inside o.0 o.1 (r.items.alone c o.0 o.1) e) w me.1 in
+            (t.0, t.1, t.2, t.3, (y, omega arith, inr (r.book.slot_of i, word, t.4)))
       ]) refl
+
+  pub loads_own : (slots id w : ℕ) (me : Me S Acting) (o : Owner) (os : List Owner) → me.0.kind ≡ 1 → is_inside me.0.known ≡ true → me.0.hand ≡ o ∷ os → Allows (Shows IsIn plan) slots id me w (λ k. k) (load_own_then IsIn (step slots w 0 0 none) me)
+  loads_own slots id w me o os kind inside first s r _ at _ = let d = me.0 in let in_hand = subst (λ (ls : List Owner). Has ls o) (sym first) (inl refl) in let own = r.items.owners id d o at in_hand in let it : Item = own.0 in
+      let g = r.items.hands o.item it own.1 in let some_ = owned_some owners_in_hand o.item s.views id d at in let mine = mine_some owners_in_hand o.item d o in_hand refl in let counted = (r.kept.0.owned o.item it own.1).counted in
+      let alive = (r.kept.0.owned o.item it own.1).is_live (omega arith) in let read = item_read r.state o.item it own.1 in
+      let there : At r.state.items o.item (item_at r.state o.item) × ((item_at r.state o.item).state ≡ Live) = (subst (At r.state.items o.item) (sym read) own.1, ap (λ (z : Item). z.state) read ∙ alive) in
+      let t = told s r id o.item d at kind inside there (LoadInHand d.number o.item) (loads_owned r.state d.number o.item d.known (r.epochs.seats id d at kind).is inside it own.1 (omega arith)) w me.1 in
+      (t.0, t.1, t.2, t.3, λ o' os' first'. let lists : o ∷ os ≡ o' ∷ os' = sym first ∙ first' in let same : o ≡ o' = cc in subst (λ k. HasLeasedAt IsIn me k (t.0, table.carried_after me.1 t.1)) (own.3 ∙ ap (λ (z : Owner). z.slot) same) t.4)

@@ -11,7 +11,7 @@ use Rattle.sdd_homes.specs.declared.Owner.{Owner}
 use Rattle.sdd_homes.specs.declared.Garbage.{Garbage}
 use Rattle.sdd_homes.specs.Book.{Apart}
 use Rattle.sdd_domain.specs.Contents.{IsIn, blanks}
-use Rattle.sdd_domain.specs.Plays.{HasLoaded, own_home, releasing_one}
+use Rattle.sdd_domain.specs.Plays.{HasLeasedAt, HasLoaded, own_home, releasing_one}
 use Rattle.sdd_domain.specs.declared.board.Acting.{Acting}
 use Rattle.sdd_domain.specs.declared.board.Home.{Home}
 use Rattle.sdd_domain.specs.declared.board.Home.TheVariants.{Blank}
@@ -83,6 +83,10 @@ HasLeased m m' = (hs : List Loaded) × (ls : List Lease) × (m'.0 ≡ record m.0
 abbrev pub HasNoted : {T : Type 0} → Me (Home T) Acting → Me (Home T) Acting → Type 0
 HasNoted m m' = (hs : List Loaded) × (ls : List Lease) × (m' ≡ (record m.0 { known = record m.0.known { loaded = hs }; leases = m.0.leases ++ ls }, m.1 ++ blanks (leased_homes m.0 ls)))
 
+-- this participant has loaded the item in slot k; until then the rows told its leases
+abbrev pub WasLeased : {T : Type 0} → (T → List (ℕ × ℕ)) → ℕ → ℕ → Sizes → ℕ → List (Row T) → Me (Home T) Acting → Type 0
+WasLeased holds k number sizes life rows m' = (m : Me (Home _) Acting) × HasLeasedAt (IsIn holds) m k m' × (m.0.number ≡ number) × (m.0.sizes ≡ sizes) × (map row_told rows ≡ map (lease_told life) m.0.leases)
+
 -- this participant has loaded the cell's word; until then the rows told its leases
 abbrev pub WasLoaded : {T : Type 0} → (T → List (ℕ × ℕ)) → ℕ → ℕ → Sizes → ℕ → List (Row T) → Me (Home T) Acting → Type 0
 WasLoaded holds word number sizes life rows m' = (m : Me (Home _) Acting) × HasLoaded (IsIn holds) m word m' × (m.0.number ≡ number) × (m.0.sizes ≡ sizes) × (map row_told rows ≡ map (lease_told life) m.0.leases)
@@ -98,6 +102,11 @@ HasCloned m r ls m' = (o : Owner) (os : List Owner) → m.0.hand ≡ o ∷ os �
 -- the same, where the leases are in the slots that they were in
 abbrev pub HasClonedOne : {S : Type 0} → Me S Acting → ℕ → Me S Acting → Type 0
 HasClonedOne m r m' = (ls : List Lease) × (map (λ (l : Lease). l.slot) ls ≡ map (λ (l : Lease). l.slot) m.0.leases) × HasCloned m r ls m'
+
+-- one more owner, of the item of the round r in slot k, is first in hand: the one that was first, if that is of the slot; the leases are in the slots that they were in
+abbrev pub HasOwned : {S : Type 0} → ℕ → ℕ → Me S Acting → Me S Acting → Type 0
+HasOwned k r m m' = (o : Owner) × (ls : List Lease) × (o.slot ≡ k) × (o.round ≡ r) × (map (λ (l : Lease). l.slot) ls ≡ map (λ (l : Lease). l.slot) m.0.leases) × (m' ≡ (record m.0 { hand = o ∷ m.0.hand; leases = ls }, m.1))
+    × ((first : Owner) (os : List Owner) → m.0.hand ≡ first ∷ os → first.slot ≡ k → o ≡ first)
 
 -- the seat acts for p under an open guard, has this spare slot, and releases nothing
 abbrev pub CanExchange : ℕ → ℕ → Acting → Type 0

@@ -87,13 +87,20 @@ module _ {S : Type 0} (IsIn : Content → S → Type 0) where
   abbrev pub takes_home : Me S Acting → ℕ → Loaded → Me S Acting → Type 0
   takes_home m k h m' = ¬ Lends m.0.leases k × (k < m.0.sizes.slots) × (length m.0.leases < m.0.sizes.slots) × ((c : ℕ) × (u : S) × IsIn (part h.value c) u × (c ≤ 2 ^ 63) × (m' ≡ (loading h (m.0.leases ++ lease k h.item c h.value ∷ []) m.0, (own_home m.0 k, u) ∷ m.1)))
 
-  -- the cell is empty; or its item was leased already; or the participant's home of it comes out
+  -- the item in slot k was leased already, or the participant's home of it comes out
+  abbrev pub HasLeasedAt : Me S Acting → ℕ → Me S Acting → Type 0
+  HasLeasedAt m k m' = (h : Loaded) × ((IsLeased m.0.leases k h × (m' ≡ (loading h m.0.leases m.0, m.1))) ⊎ takes_home m k h m')
+
+  -- the cell is empty; or the item that it names is leased
   abbrev pub HasLoaded : Me S Acting → ℕ → Me S Acting → Type 0
-  HasLoaded m w m' = (y : ℕ) × (y < 2 ^ 31) × ((Tells w y 0 × (m' ≡ m))
-      ⊎ ((k : ℕ) × (h : Loaded) × Tells w y (suc k) × ((IsLeased m.0.leases k h × (m' ≡ (loading h m.0.leases m.0, m.1))) ⊎ takes_home m k h m')))
+  HasLoaded m w m' = (y : ℕ) × (y < 2 ^ 31) × ((Tells w y 0 × (m' ≡ m)) ⊎ ((k : ℕ) × Tells w y (suc k) × HasLeasedAt m k m'))
 
   abbrev pub load_then : Step S → Me S Acting → ℕ → Me S Acting → Type 0
   load_then t m w m' = HasLoaded m w m'
+
+  -- the item of the first owner in hand is leased
+  abbrev pub load_own_then : Step S → Me S Acting → ℕ → Me S Acting → Type 0
+  load_own_then t m w m' = (o : Owner) (os : List Owner) → m.0.hand ≡ o ∷ os → HasLeasedAt m o.slot m'
 
   -- the slots of these leases are in front of what is out with the seat, each with its parts again
   abbrev pub Refilled : Acting → List Lease → List (ℕ × S) → List (ℕ × S) → Type 0

@@ -1,6 +1,6 @@
 //! Cells that own an item, or nothing, and have a tag.
 
-ghost use Rattle.std.specs.Prelude.{◌≡◌, ◌<◌, ◌+◌, ◌||◌, Bool, true, IsTrue, IfSome, IfNone, IfOk, IfErr, OnOk, OnErr};
+ghost use Rattle.std.specs.Prelude.{◌≡◌, ◌<◌, ◌+◌, ◌||◌, Bool, true, [], IsTrue, IfSome, IfNone, IfOk, IfErr, OnOk, OnErr};
 ghost use Rattle.sdd_domain.specs.Tokens.{cell_count};
 
 use crate::cells::{is_null, tag};
@@ -46,7 +46,7 @@ impl AtomicShared {
     ghost use Rattle.sdd_domain.specs.declared.pointer.Ptr.{Ptr};
     ghost use Rattle.sdd_domain.specs.Pointers.{IsUnder, ptr_slot, named_slot, named_tag};
     ghost use Rattle.sdd_domain.specs.Sharing.{kept_in};
-    ghost use Rattle.sdd_domain.specs.Tokens.{place_of, home_of, own_of, born_of, waiting_of, misses_of, nest_of, nest_in, IsInNest, IsInNestButMisses};
+    ghost use Rattle.sdd_domain.specs.Tokens.{place_of, home_of, number_of, own_of, hand_of, born_of, waiting_of, misses_of, nest_of, nest_in, IsInNest, IsInNestButMisses};
 
     /// A cell that owns nothing, without a tag, if nobody has one of those that the place has: each is tried once. None is a
     /// miss of the participant. It must be spent by `into_shared` or `retire`.
@@ -80,11 +80,80 @@ impl AtomicShared {
         let Some(cell) = AtomicShared::null(domain, local) else {
             return Err(owner);
         };
-        // Whoever had the cell before left nothing in it.
-        if let (Some(old), _) = cell.swap((Some(owner), Tag::None), domain, local) {
+        cell.put(owner, domain, local);
+        Ok(cell)
+    }
+
+    /// A cell that owns a new item, without a tag. The item is back where there is no cell or no free slot, which is a miss.
+    /// Condition: it holds just the owners that are in the participant's hand.
+    pub fn new<T: Holds>(
+        item: T,
+        domain: &Domain<T>,
+        local: &mut Local<T>,
+    ) -> Result<AtomicShared, T>
+        requires home { home_of local.old ≡ place_of domain.now }
+        requires holds { T.holds item ≡ hand_of local.old }
+        ensures inside { IfOk result (λ c. cell_number c < cell_count domain.now) }
+        ensures refused { IfErr result (λ back. back ≡ item) }
+        ensures bare { OnOk result (hand_of local.new ≡ []) }
+        ensures hand { OnErr result (hand_of local.new ≡ hand_of local.old) }
+        ensures hit { OnOk result (misses_of local.new ≡ misses_of local.old) }
+        ensures missed { OnErr result (misses_of local.new ≡ misses_of local.old + 1) }
+        ensures nest { nest_in local.new ≡ nest_in local.old }
+        ensures home { (home_of local.new ≡ home_of local.old) × (number_of local.new ≡ number_of local.old) }
+        ensures own { (flag : Bool) × (own_of local.new ≡ record (own_of local.old) { garbage = flag }) }
+    {
+        let Some(cell) = AtomicShared::null(domain, local) else {
+            return Err(item);
+        };
+        match Shared::new(item, domain, local) {
+            Ok(owner) => {
+                cell.put(owner, domain, local);
+                Ok(cell)
+            }
+            Err(item) => {
+                cell.retire(domain, local);
+                Err(item)
+            }
+        }
+    }
+
+    /// A cell of its own with what this one names, as that is found in one step, without a tag: one that owns nothing where
+    /// `get_shared` gives none. None where there is no cell, which is a miss.
+    pub fn clone<T: Holds>(
+        &self,
+        domain: &Domain<T>,
+        guard: &Guard,
+        local: &mut Local<T>,
+    ) -> Option<AtomicShared>
+        requires home { home_of local.old ≡ place_of domain.now }
+        requires mine { nest_of guard.now ≡ nest_in local.old }
+        requires open { 0 < (own_of local.old).nesting }
+        requires inside { cell_number self.now < cell_count domain.now }
+        ensures inside { IfSome result (λ c. cell_number c < cell_count domain.now) }
+        ensures hit { IfSome result (λ c. misses_of local.new ≡ misses_of local.old) }
+        ensures missed { IfNone result (misses_of local.new ≡ misses_of local.old + 1) }
+        ensures same { IsInNestButMisses local.old local.new × (born_of local.new ≡ born_of local.old) }
+        ensures own { (flag : Bool) × (own_of local.new ≡ record (own_of local.old) { garbage = flag }) }
+    {
+        let cell = AtomicShared::null(domain, local)?;
+        if let Some(owner) = self.get_shared(domain, guard, local) {
+            cell.put(owner, domain, local);
+        }
+        Some(cell)
+    }
+
+    /// Puts an owner into a cell that was just made. Whoever had the cell before left nothing in it.
+    fn put<T: Holds>(&self, owner: Shared<T>, domain: &Domain<T>, local: &mut Local<T>)
+        requires home { home_of local.old ≡ place_of domain.now }
+        requires inside { cell_number self.now < cell_count domain.now }
+        requires mine { kept_in owner ≡ (place_of domain.now).0 }
+        ensures same { IsInNest local.old local.new × (born_of local.new ≡ born_of local.old) }
+        ensures own { (flag : Bool) × (own_of local.new ≡ record (own_of local.old) { garbage = flag }) }
+    {
+        if let (Some(old), _) = self.swap((Some(owner), Tag::None), domain, local) {
             old.release(domain, local);
         }
-        Ok(cell)
     }
 
     /// Whether the cell owns nothing, as it is found in one step.
@@ -163,6 +232,24 @@ impl AtomicShared {
             },
         };
         (loaded, tag)
+    }
+
+    /// One more owner of the item that the cell names, as it is found in one step: none where it names nothing, or where
+    /// `Ptr::get_shared` gives none, as of an item that another thread has swapped out and retired since.
+    pub fn get_shared<T: Holds>(
+        &self,
+        domain: &Domain<T>,
+        guard: &Guard,
+        local: &mut Local<T>,
+    ) -> Option<Shared<T>>
+        requires home { home_of local.old ≡ place_of domain.now }
+        requires mine { nest_of guard.now ≡ nest_in local.old }
+        requires open { 0 < (own_of local.old).nesting }
+        requires inside { cell_number self.now < cell_count domain.now }
+        ensures home { IfSome result (λ s. kept_in s ≡ (place_of domain.now).0) }
+        ensures same { IsInNest local.old local.new × (own_of local.new ≡ own_of local.old) × (born_of local.new ≡ born_of local.old) × (waiting_of local.new ≡ waiting_of local.old) }
+    {
+        self.load(domain, guard, local).get_shared(domain, local)
     }
 
     /// Swaps what the cell owns and its tag, in one step: the owner and the tag go into it, and those that it had come

@@ -11,7 +11,7 @@ ghost use Rattle.sdd_domain.specs.Leases.{HasFew, ReleasesOne};
 ghost use Rattle.sdd_domain.specs.Fitting.{FitsSlot, FitsCell, HasSlotWord};
 ghost use Rattle.sdd_domain.specs.Contents.{IsIn};
 ghost use Rattle.sdd_domain.specs.Layout.{claim_word, all_words, IsSized, AreAlike};
-ghost use Rattle.sdd_domain.specs.Plays.{Scans, load_then, HasLoaded, CanClose, ending, end_all_then, Brings, swap_then, cloning, IsAlike, clone_then, release_then, HasBegun, begin_then, CanEnd, end_release_then, CanKeep, keep_then, exchange_then, still_then};
+ghost use Rattle.sdd_domain.specs.Plays.{Scans, load_then, HasLoaded, load_own_then, HasLeasedAt, CanClose, ending, end_all_then, Brings, swap_then, cloning, IsAlike, clone_then, release_then, HasBegun, begin_then, CanEnd, end_release_then, CanKeep, keep_then, exchange_then, still_then};
 ghost use Rattle.sdd_domain.specs.declared.board.Home.{Home};
 
 use crate::board::{Acting, Home, Place, Words};
@@ -25,6 +25,12 @@ struct OnLoad;
 
 impl<T: Holds> Play<Home<T>, Acting> for OnLoad {
     ghost then = { load_then (IsIn T.holds) };
+}
+
+struct OnLoadOwn;
+
+impl<T: Holds> Play<Home<T>, Acting> for OnLoadOwn {
+    ghost then = { load_own_then (IsIn T.holds) };
 }
 
 struct OnEndAll;
@@ -109,6 +115,18 @@ pub(crate) fn load<T: Holds>(
     ensures loaded { HasLoaded (IsIn T.holds) place.old.me result place.new.me }
 {
     words.load::<OnLoad>(place, 8 * participants + 16 + cell)
+}
+
+/// Loads the item of the owner that is first in hand, under the participant's open guard: the participant's parts of it
+/// come out of their home, unless they are leased already.
+pub(crate) fn load_own<T: Holds>(words: &Words<T>, place: &mut Place<T>)
+    requires table { (place.old.table_id ≡ words.now.table_id) × (0 < words.now.table_id.words) }
+    requires open { (place.old.me.0.kind ≡ 1) × (is_inside place.old.me.0.known ≡ true) }
+    requires owner { (o : Owner) × (os : List Owner) × (place.old.me.0.hand ≡ o ∷ os) }
+    ensures seat { (place.new.table_id ≡ place.old.table_id) × (place.new.id ≡ place.old.id) }
+    ensures loaded { (o : Owner) (os : List Owner) → place.old.me.0.hand ≡ o ∷ os → HasLeasedAt (IsIn T.holds) place.old.me o.slot place.new.me }
+{
+    let _ = words.load::<OnLoadOwn>(place, 0);
 }
 
 /// Swaps the cell for the owner that the participant brings, or for none, as `word` tells, for `participants` of them.

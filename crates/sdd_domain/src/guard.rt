@@ -1,10 +1,11 @@
 //! Guards of a place that threads share.
 
-ghost use Rattle.std.specs.Prelude.{◌≡◌, ℕ, ◌+◌, ◌<◌, ◌≤◌, ◌%◌, ◌↔◌, true, IsErr, IfOk, IfSome, IfNone, OnOk, OnErr, nat_lt};
+ghost use Rattle.std.specs.Prelude.{◌≡◌, Bool, [], ℕ, ◌+◌, ◌<◌, ◌≤◌, ◌%◌, ◌↔◌, true, IsErr, IfOk, IfErr, IfSome, IfNone, OnOk, OnErr, nat_lt};
 
 use crate::domain::Domain;
 use crate::holds::Holds;
 use crate::local::Local;
+use crate::shared::Shared;
 use crate::steps;
 use parted::Life;
 use sdd_base::epoch::Epoch;
@@ -28,7 +29,7 @@ pub struct Guard {
 }
 
 impl Guard {
-    ghost use Rattle.sdd_domain.specs.Tokens.{place_of, home_of, number_of, own_of, born_of, participant_of, waiting_of, nest_of, nest_in, begun, closed, IsSame, IsInNest};
+    ghost use Rattle.sdd_domain.specs.Tokens.{place_of, home_of, number_of, own_of, hand_of, born_of, misses_of, participant_of, waiting_of, nest_of, nest_in, begun, closed, IsSame, IsInNest};
 
     /// Opens a guard of a participant, within those that it has open. An outermost opening reads the count of raises,
     /// and publishes it in a second step; where it isn't the one that was found before, the participant's bags move
@@ -101,6 +102,35 @@ impl Guard {
         ensures same { IsInNest local.old local.new × (born_of local.new ≡ born_of local.old) }
     {
         local.own.accelerated = true;
+    }
+
+    /// Defers a job: it is run once, where the participant's guards open from now on, when no guard that is open now is open
+    /// any more; by whoever acts for the participant after it has ended; or by `Domain::close`. Where each slot was taken when
+    /// it was tried, the job is back, which is a miss.
+    ///
+    /// A job is an item that nobody is to own: it is placed and retired at once, so that it is reclaimed as other items are,
+    /// and its `Holds::end`, which spends it, runs it. Condition: it holds just the owners that are in the participant's hand.
+    pub fn defer_execute<T: Holds>(
+        &self,
+        job: T,
+        domain: &Domain<T>,
+        local: &mut Local<T>,
+    ) -> Result<(), T>
+        requires home { home_of local.old ≡ place_of domain.now }
+        requires mine { nest_of self.now ≡ nest_in local.old }
+        requires holds { T.holds job ≡ hand_of local.old }
+        ensures refused { IfErr result (λ back. back ≡ job) }
+        ensures bare { OnOk result (hand_of local.new ≡ []) }
+        ensures hand { OnErr result (hand_of local.new ≡ hand_of local.old) }
+        ensures hit { OnOk result (misses_of local.new ≡ misses_of local.old) }
+        ensures missed { OnErr result (misses_of local.new ≡ misses_of local.old + 1) }
+        ensures own { (flag : Bool) × (own_of local.new ≡ record (own_of local.old) { garbage = flag }) }
+        ensures nest { (nest_in local.new ≡ nest_in local.old) × (born_of local.new ≡ born_of local.old) }
+        ensures same { (home_of local.new ≡ home_of local.old) × (number_of local.new ≡ number_of local.old) }
+    {
+        let owner = Shared::new(job, domain, local)?;
+        owner.release(domain, local);
+        Ok(())
     }
 
     /// Closes a guard. An outermost closing scans first, if a guard of the nesting was accelerated or this is the 64th

@@ -31,7 +31,16 @@ pub(crate) fn row_of<T>(rows: &VecDeque<Row<T>>, slot: usize) -> Option<usize>
     None
 }
 
-/// What a row's item is seen as, and its slot.
+/// What a row's item is seen as.
+pub(crate) fn seen_in<T>(rows: &VecDeque<Row<T>>, at: usize) -> Seen<Stored<T>>
+    requires { at < deque_len rows.now }
+    ensures there { IsSome result.value }
+    ensures under { (life : ℕ) (ls : List Lease) → map row_told rows.now.items ≡ map (lease_told life) ls → result.life ≡ life }
+{
+    rows[at].lent.see()
+}
+
+/// The same of a row that there may be, with the item's slot.
 pub(crate) fn seen_at<T>(
     rows: &VecDeque<Row<T>>,
     at: Option<usize>,
@@ -40,8 +49,8 @@ pub(crate) fn seen_at<T>(
     ensures there { IfSome result (λ t. IsSome t.1.value) }
     ensures under { IfSome result (λ t. (life : ℕ) (ls : List Lease) → map row_told rows.now.items ≡ map (lease_told life) ls → t.1.life ≡ life) }
 {
-    let row = &rows[at?];
-    Some((row.slot, row.lent.see()))
+    let at = at?;
+    Some((rows[at].slot, seen_in(rows, at)))
 }
 
 /// Fills the homes of all leases, which are in front of what is out with the seat, and go behind the others.

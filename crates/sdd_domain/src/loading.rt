@@ -1,6 +1,6 @@
 //! Loading a cell under an open guard: the item that it names is leased, so that the guard reads it.
 
-ghost use Rattle.std.specs.Prelude.{◌≡◌, ℕ, ◌+◌, ◌-◌, ◌*◌, ◌^◌, ◌<◌, ◌≤◌, ◌∷◌, map, true, IfSome, IfNone};
+ghost use Rattle.std.specs.Prelude.{◌≡◌, ℕ, ◌+◌, ◌-◌, ◌*◌, ◌^◌, ◌<◌, ◌≤◌, ◌∷◌, List, map, true, IfSome, IfNone};
 ghost use Rattle.std.specs.VecDeque.{deque_capacity, deque_len};
 ghost use Rattle.sdd_steps.specs.Steps.{is_inside};
 ghost use Rattle.atomic_table.specs.Table.{Me};
@@ -8,8 +8,9 @@ ghost use Rattle.sdd_domain.specs.Outcomes.{KeepsOut};
 ghost use Rattle.sdd_domain.specs.Contents.{IsIn, is_blank};
 ghost use Rattle.sdd_domain.specs.Fitting.{FitsSizes};
 ghost use Rattle.sdd_domain.specs.Layout.{packed, IsSized};
-ghost use Rattle.sdd_domain.specs.Leases.{row_told, lease_told, leased_homes, row_slots, all_below, has_all, HasLeased, HasNoted, HasRows, KeepsRows, WasLoaded};
-ghost use Rattle.sdd_domain.specs.Plays.{HasLoaded};
+ghost use Rattle.sdd_domain.specs.Leases.{row_told, lease_told, leased_homes, row_slots, all_below, has_all, HasLeased, HasNoted, HasRows, KeepsRows, WasLeased, WasLoaded};
+ghost use Rattle.sdd_domain.specs.Plays.{HasLeasedAt, HasLoaded};
+ghost use Rattle.sdd_homes.specs.declared.Owner.{Owner};
 ghost use Rattle.sdd_domain.specs.declared.board.Acting.{Acting};
 ghost use Rattle.sdd_domain.specs.declared.board.Home.{Home};
 
@@ -39,8 +40,37 @@ pub(crate) fn slot_named(word: u64) -> Option<usize>
     }
 }
 
-/// Adds the row of the item that `word`, as it was found in a cell, names, unless it has one: its parts came out of the
-/// home of participant `number` in the step that found it. Which row that is, if an item is named.
+/// Adds the row of the item in `slot`, unless it has one: its parts came out of the home of participant `number` in the
+/// step that loaded it. Which row that is.
+fn note_slot<T: Holds>(
+    words: &Words<T>,
+    place: &mut Place<T>,
+    sizes: &Sizes,
+    number: usize,
+    rows: &mut VecDeque<Row<T>>,
+    life: &Life,
+    slot: usize,
+) -> usize
+    requires table { (place.old.table_id ≡ words.now.table_id) × IsSized sizes.now × (number < sizes.now.participants) }
+    requires low { slot < 2 ^ 31 }
+    requires rows { (all_below sizes.now.slots (row_slots rows.old.items) ≡ true) × (sizes.now.slots ≤ deque_capacity rows.old) }
+    requires found { WasLeased T.holds slot number sizes.now life.now.id rows.old.items place.old.me }
+    ensures seat { (place.new.table_id ≡ place.old.table_id) × (place.new.id ≡ place.old.id) }
+    ensures row { result < deque_len rows.new }
+    ensures noted { (m : Me (Home T) Acting) → HasLeasedAt (IsIn T.holds) m slot place.old.me → map row_told rows.old.items ≡ map (lease_told life.now.id) m.0.leases → HasNoted m place.new.me }
+    ensures rows { KeepsRows life.now.id sizes.now.slots place.new.me.0.leases rows.new.items (deque_capacity rows.old) (deque_capacity rows.new) }
+{
+    if let Some(at) = row_of(rows, slot) {
+        return at;
+    }
+    let home = number * sizes.slots + slot;
+    let (parts, count) = parts_of(words.exchange(place, home, Home::Blank));
+    place.turn();
+    rows.push_back_reserved(Row::new(slot, parts, count, life));
+    rows.len() - 1
+}
+
+/// The same of the item that `word`, as it was found in a cell, names, if it names one.
 pub(crate) fn note_found<T: Holds>(
     words: &Words<T>,
     place: &mut Place<T>,
@@ -59,14 +89,7 @@ pub(crate) fn note_found<T: Holds>(
     ensures rows { KeepsRows life.now.id sizes.now.slots place.new.me.0.leases rows.new.items (deque_capacity rows.old) (deque_capacity rows.new) }
 {
     let slot = slot_named(word)?;
-    if let Some(at) = row_of(rows, slot) {
-        return Some(at);
-    }
-    let home = number * sizes.slots + slot;
-    let (parts, count) = parts_of(words.exchange(place, home, Home::Blank));
-    place.turn();
-    rows.push_back_reserved(Row::new(slot, parts, count, life));
-    Some(rows.len() - 1)
+    Some(note_slot(words, place, sizes, number, rows, life, slot))
 }
 
 /// Loads the cell under the open guards of participant `number`, whose life this is. Which row is that of the item that
@@ -93,4 +116,29 @@ pub(crate) fn lease<T: Holds>(
     let word = cells::load(words, place, sizes.participants, cell);
     let at = note_found(words, place, sizes, number, rows, life, word);
     (at, tag_in(word))
+}
+
+/// Loads the item in `slot` under the open guards of participant `number`, whose life this is, by its owner, which is first
+/// in hand. Which row is that of the item.
+pub(crate) fn lease_own<T: Holds>(
+    words: &Words<T>,
+    place: &mut Place<T>,
+    sizes: &Sizes,
+    number: usize,
+    rows: &mut VecDeque<Row<T>>,
+    life: &Life,
+    slot: usize,
+) -> usize
+    requires table { FitsSizes words.now.table_id words.now.key.sizes place.old.table_id place.old.me.0.sizes sizes.now × (number < sizes.now.participants) }
+    requires open { (place.old.me.0.kind ≡ 1) × (place.old.me.0.number ≡ number) × (is_inside place.old.me.0.known ≡ true) }
+    requires owner { (o : Owner) × (os : List Owner) × (place.old.me.0.hand ≡ o ∷ os) × (o.slot ≡ slot) × (slot < 2 ^ 31) }
+    requires rows { HasRows life.now.id sizes.now.slots place.old.me.0.leases rows.old.items (deque_capacity rows.old) }
+    ensures seat { (place.new.table_id ≡ place.old.table_id) × (place.new.id ≡ place.old.id) }
+    ensures row { result < deque_len rows.new }
+    ensures loaded { HasLeased place.old.me place.new.me }
+    ensures rows { KeepsRows life.now.id sizes.now.slots place.new.me.0.leases rows.new.items (deque_capacity rows.old) (deque_capacity rows.new) }
+    ensures out { KeepsOut place.old.me place.new.me }
+{
+    cells::load_own(words, place);
+    note_slot(words, place, sizes, number, rows, life, slot)
 }

@@ -10,7 +10,7 @@ ghost use Rattle.sdd_homes.specs.Book.{Lends, Apart, part};
 ghost use Rattle.sdd_domain.specs.Outcomes.{PutsBack};
 ghost use Rattle.sdd_domain.specs.Contents.{IsIn};
 ghost use Rattle.sdd_domain.specs.Fitting.{FitsSizes};
-ghost use Rattle.sdd_domain.specs.Leases.{row_told, lease_told, row_slots, all_below, IsFirst, HasReleased, HasEmptied, HasClonedOne};
+ghost use Rattle.sdd_domain.specs.Leases.{row_told, lease_told, row_slots, all_below, IsFirst, HasReleased, HasEmptied, HasClonedOne, HasOwned};
 ghost use Rattle.sdd_domain.specs.declared.row.Row.{Row};
 ghost use Rattle.sdd_domain.specs.Views.{spent, holding};
 ghost use Rattle.sdd_domain.specs.Plays.{others_in, first_in, joined_by, cloning, IsAlike};
@@ -108,7 +108,7 @@ fn release_leased<T: Holds>(
 ) -> u64
     requires table { FitsSizes words.now.table_id words.now.key.sizes place.old.table_id place.old.me.0.sizes sizes.now }
     requires ready { (place.old.me.0.kind ≡ 1) × (is_ready place.old.me.0.known ≡ true) × (place.old.me.0.releasing ≡ 0) }
-    requires owner { IsFirst place.old.me.0 slot owner.part.life.id }
+    requires owner { IsFirst place.old.me.0 slot owner.part.life.id × IsSome owner.part.seen.value }
     requires rows { ((life : ℕ) × (map row_told rows.old.items ≡ map (lease_told life) place.old.me.0.leases)) × (all_below sizes.now.slots (row_slots rows.old.items) ≡ true) }
     requires row { (at < deque_len rows.old) × ((d : Row T) → (slice_index_or rows.old.items at d).slot ≡ slot) }
     ensures seat { (place.new.table_id ≡ place.old.table_id) × (place.new.id ≡ place.old.id) }
@@ -235,8 +235,9 @@ fn clone_home<T: Holds>(
     None
 }
 
-/// The same where the item is leased: the part is one of those of its row, which is `at`.
-fn clone_leased<T: Holds>(
+/// Makes one more owner of the item that is leased in `slot`, with one of the parts of its row, which is `at`: that part is
+/// the answer, and the owner is first in hand then.
+fn own_at<T: Holds>(
     words: &Words<T>,
     place: &mut Place<T>,
     sizes: &Sizes,
@@ -246,11 +247,11 @@ fn clone_leased<T: Holds>(
 ) -> Option<One<Stored<T>>>
     requires table { FitsSizes words.now.table_id words.now.key.sizes place.old.table_id place.old.me.0.sizes sizes.now }
     requires ready { (place.old.me.0.kind ≡ 1) × (is_ready place.old.me.0.known ≡ true) }
-    requires owner { (o : Owner) × (os : List Owner) × (place.old.me.0.hand ≡ o ∷ os) × (o.slot ≡ slot) }
     requires rows { ((life : ℕ) × (map row_told rows.old.items ≡ map (lease_told life) place.old.me.0.leases)) × (all_below sizes.now.slots (row_slots rows.old.items) ≡ true) }
     requires row { (at < deque_len rows.old) × ((d : Row T) → (slice_index_or rows.old.items at d).slot ≡ slot) }
     ensures seat { (place.new.table_id ≡ place.old.table_id) × (place.new.id ≡ place.old.id) }
-    ensures cloned { IfSome result (λ p. HasClonedOne place.old.me p.part.life.id place.new.me) }
+    ensures owned { IfSome result (λ p. HasOwned slot p.part.life.id place.old.me place.new.me) }
+    ensures there { IfSome result (λ p. IsSome p.part.seen.value × (slot < sizes.now.slots)) }
     ensures refused { IfNone result (place.new.me ≡ place.old.me) }
     ensures rows { (life : ℕ) → map row_told rows.old.items ≡ map (lease_told life) place.old.me.0.leases → map row_told rows.new.items ≡ map (lease_told life) place.new.me.0.leases }
     ensures same { (deque_capacity rows.new ≡ deque_capacity rows.old) × (row_slots rows.new.items ≡ row_slots rows.old.items) }
@@ -263,6 +264,27 @@ fn clone_leased<T: Holds>(
         Some(row) => Some(row.give_one()),
         None => unreachable!(),
     }
+}
+
+/// The same of any slot: none, too, where no item is leased in it.
+pub(crate) fn own_leased<T: Holds>(
+    words: &Words<T>,
+    place: &mut Place<T>,
+    sizes: &Sizes,
+    rows: &mut VecDeque<Row<T>>,
+    slot: usize,
+) -> Option<One<Stored<T>>>
+    requires table { FitsSizes words.now.table_id words.now.key.sizes place.old.table_id place.old.me.0.sizes sizes.now }
+    requires ready { (place.old.me.0.kind ≡ 1) × (is_ready place.old.me.0.known ≡ true) }
+    requires rows { ((life : ℕ) × (map row_told rows.old.items ≡ map (lease_told life) place.old.me.0.leases)) × (all_below sizes.now.slots (row_slots rows.old.items) ≡ true) }
+    ensures seat { (place.new.table_id ≡ place.old.table_id) × (place.new.id ≡ place.old.id) }
+    ensures owned { IfSome result (λ p. HasOwned slot p.part.life.id place.old.me place.new.me) }
+    ensures there { IfSome result (λ p. IsSome p.part.seen.value × (slot < sizes.now.slots)) }
+    ensures refused { IfNone result (place.new.me ≡ place.old.me) }
+    ensures rows { (life : ℕ) → map row_told rows.old.items ≡ map (lease_told life) place.old.me.0.leases → map row_told rows.new.items ≡ map (lease_told life) place.new.me.0.leases }
+    ensures same { (deque_capacity rows.new ≡ deque_capacity rows.old) × (row_slots rows.new.items ≡ row_slots rows.old.items) }
+{
+    own_at(words, place, sizes, rows, row_of(rows, slot)?, slot)
 }
 
 /// Makes one more owner of the item of the first owner in hand, which is in `slot`, with one of the parts of participant
@@ -286,7 +308,7 @@ fn clone_by_row<T: Holds>(
     ensures same { (deque_capacity rows.new ≡ deque_capacity rows.old) × (row_slots rows.new.items ≡ row_slots rows.old.items) }
 {
     match row_of(rows, slot) {
-        Some(at) => clone_leased(words, place, sizes, rows, at, slot),
+        Some(at) => own_at(words, place, sizes, rows, at, slot),
         None => clone_home(words, place, sizes, number, slot),
     }
 }

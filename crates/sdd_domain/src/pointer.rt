@@ -1,10 +1,14 @@
 //! Pointers to items that a cell was found to name.
 
-ghost use Rattle.std.specs.Prelude.{◌≡◌, IsSome, IsTrue, IfSome, None, option_copied, ◌↔◌};
+ghost use Rattle.std.specs.Prelude.{◌≡◌, IsSome, IsTrue, IfSome, None, Some, option_copied, ◌↔◌};
 ghost use Rattle.std.specs.Option.{ForSome};
 
 use crate::board::Stored;
+use crate::domain::Domain;
 use crate::guard::Guard;
+use crate::holds::Holds;
+use crate::local::Local;
+use crate::shared::Shared;
 use parted::Seen;
 use sdd_base::tag::Tag;
 
@@ -124,6 +128,26 @@ impl<'g, T> Ptr<'g, T> {
         ensures tag { ptr_tag result ≡ Tag.None }
     {
         self.with_tag(Tag::None)
+    }
+}
+
+impl<'g, T: Holds> Ptr<'g, T> {
+    ghost use Rattle.sdd_domain.specs.Comparing.{owner_slot};
+    ghost use Rattle.sdd_domain.specs.Pointers.{ptr_slot};
+    ghost use Rattle.sdd_domain.specs.Sharing.{kept_in};
+    ghost use Rattle.sdd_domain.specs.Tokens.{place_of, home_of, own_of, born_of, waiting_of, IsInNest};
+
+    /// One more owner of the item, beside those that it has: so it is kept for longer than the guard is open under which it
+    /// was loaded. None where the pointer is to nothing, where the item is retired or has `2^32 - 1` owners, and where the
+    /// participant has only one part of it. It tries again where other threads change the count of owners at that moment.
+    /// It takes no memory. The `Local` is the one that loaded the pointer.
+    pub fn get_shared(self, domain: &Domain<T>, local: &mut Local<T>) -> Option<Shared<T>>
+        requires home { home_of local.old ≡ place_of domain.now }
+        ensures home { IfSome result (λ s. kept_in s ≡ (place_of domain.now).0) }
+        ensures exact { IfSome result (λ s. owner_slot (Some s) ≡ ptr_slot self.entry) }
+        ensures same { IsInNest local.old local.new × (own_of local.new ≡ own_of local.old) × (born_of local.new ≡ born_of local.old) × (waiting_of local.new ≡ waiting_of local.old) }
+    {
+        Shared::of_leased(self.slot?, domain, local)
     }
 }
 

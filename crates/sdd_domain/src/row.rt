@@ -19,6 +19,7 @@ pub struct Row<T> {
     ghost one: { (lent.pledge.count ≡ 1) × IsSome lent.seen.value },
     ghost alone: { ForNone rest (count ≡ 1) },
     ghost others: { ForSome rest (λ p. (p.life.id ≡ lent.pledge.id) × (p.life.count + 1 ≡ count) × (0 < p.life.count)) },
+    ghost seen: { ForSome rest (λ p. IsSome p.seen.value) },
     ghost small: { count ≤ 2 ^ 63 },
 }
 
@@ -57,7 +58,7 @@ impl<T> Row<T> {
 
     /// Puts an owner's part to these.
     pub(crate) fn take_in(&mut self, owner: One<Stored<T>>)
-        requires { (owner.part.life.id ≡ self.old.lent.pledge.id) × (self.old.count < 2 ^ 63) }
+        requires { (owner.part.life.id ≡ self.old.lent.pledge.id) × (self.old.count < 2 ^ 63) × IsSome owner.part.seen.value }
         ensures { row_told self.new ≡ (self.old.slot, self.old.lent.pledge.id, self.old.count + 1, self.old.lent.pledge.until) }
     {
         let part = owner.into_part();
@@ -77,6 +78,7 @@ impl<T> Row<T> {
         requires { 1 < self.old.count }
         ensures row { row_told self.new ≡ (self.old.slot, self.old.lent.pledge.id, self.old.count - 1, self.old.lent.pledge.until) }
         ensures part { result.part.life.id ≡ self.old.lent.pledge.id }
+        ensures there { IsSome result.part.seen.value }
     {
         let Some(mut rest) = self.rest.take() else {
             unreachable!()

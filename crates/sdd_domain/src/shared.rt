@@ -1,16 +1,20 @@
 //! Owners of the items of a place that threads share.
 
-ghost use Rattle.std.specs.Prelude.{◌≡◌, ◌+◌, ◌^◌, ◌<◌, ◌∷◌, [], ◌||◌, true, IsSome, IsTrue, IsFalse, IfOk, IfErr, OnOk, OnErr};
+ghost use Rattle.std.specs.Prelude.{◌≡◌, ◌+◌, ◌^◌, ◌<◌, ◌∷◌, [], ◌||◌, true, Some, IsSome, IsSomeAnd, IfSome, IsTrue, IsFalse, IfOk, IfErr, OnOk, OnErr};
 ghost use Rattle.sdd_domain.specs.Views.{holding};
 ghost use Rattle.sdd_domain.specs.Owners.{item_in};
 
 use crate::board::{Acting, Stored};
 use crate::domain::Domain;
+use crate::guard::Guard;
 use crate::held::Held;
 use crate::holds::Holds;
+use crate::leases::seen_in;
+use crate::loading::lease_own;
 use crate::local::Local;
-use crate::owners::{clone, part_with, release, take_in};
+use crate::owners::{clone, own_leased, part_with, release, take_in};
 use crate::placing::place_item;
+use crate::pointer::{Loaded, Ptr};
 use calm::Calm;
 use parted::One;
 
@@ -26,7 +30,9 @@ pub struct Shared<T> {
 }
 
 impl<T: Holds> Shared<T> {
-    ghost use Rattle.sdd_domain.specs.Tokens.{place_of, home_of, own_of, hand_of, born_of, waiting_of, misses_of, IsInNest, IsInNestButMisses, IsSameButHand, IsSameButHandAndMisses};
+    ghost use Rattle.sdd_domain.specs.Comparing.{owner_slot};
+    ghost use Rattle.sdd_domain.specs.Pointers.{ptr_slot};
+    ghost use Rattle.sdd_domain.specs.Tokens.{place_of, home_of, own_of, hand_of, born_of, waiting_of, misses_of, number_of, nest_of, nest_in, IsInNest, IsInNestButMisses, IsSameButHand, IsSameButHandAndMisses};
     ghost use Rattle.sdd_domain.specs.Holding.{told_of, IsHeldOf};
     ghost use Rattle.sdd_domain.specs.Sharing.{kept_in, IsOwnerOf};
 
@@ -121,6 +127,124 @@ impl<T: Holds> Shared<T> {
                 Err(Shared { slot, part, seat })
             }
         }
+    }
+
+    /// One more owner of the item that the participant has leased in `slot`. None where it has leased none there, where that
+    /// is retired or has `2^32 - 1` owners, or where the participant has only one part of it.
+    pub(crate) fn of_leased(
+        slot: usize,
+        domain: &Domain<T>,
+        local: &mut Local<T>,
+    ) -> Option<Shared<T>>
+        requires home { home_of local.old ≡ place_of domain.now }
+        ensures home { IfSome result (λ s. kept_in s ≡ (place_of domain.now).0) }
+        ensures slot { IfSome result (λ s. s.slot ≡ slot) }
+        ensures same { IsInNest local.old local.new × (own_of local.new ≡ own_of local.old) × (born_of local.new ≡ born_of local.old) × (waiting_of local.new ≡ waiting_of local.old) }
+    {
+        let Local { place, rows, .. } = local;
+        let part = own_leased(domain.words(), place, &domain.sizes, rows, slot)?;
+        let seat = part_with(domain.words(), place);
+        Some(Shared { slot, part, seat })
+    }
+
+    /// An owner of the item that a pointer is to, as `Ptr::get_shared` gives it; else the pointer is back.
+    pub fn try_from<'g>(
+        pointer: Ptr<'g, T>,
+        domain: &Domain<T>,
+        local: &mut Local<T>,
+    ) -> Result<Shared<T>, Ptr<'g, T>>
+        requires home { home_of local.old ≡ place_of domain.now }
+        ensures home { IfOk result (λ s. kept_in s ≡ (place_of domain.now).0) }
+        ensures exact { IfOk result (λ s. owner_slot (Some s) ≡ ptr_slot pointer.entry) }
+        ensures back { IfErr result (λ back. back ≡ pointer.entry) }
+        ensures same { IsInNest local.old local.new × (own_of local.new ≡ own_of local.old) × (born_of local.new ≡ born_of local.old) × (waiting_of local.new ≡ waiting_of local.old) }
+    {
+        match pointer.get_shared(domain, local) {
+            Some(owner) => Ok(owner),
+            None => Err(pointer),
+        }
+    }
+
+    /// The item as a pointer, without a tag, for as long as the guard is borrowed: it stays so long, even where this owner is
+    /// released. In Rust that is `get_guarded_ptr(&self)`.
+    pub fn get_guarded_ptr<'g>(
+        self,
+        domain: &Domain<T>,
+        guard: &'g Guard,
+        local: &mut Local<T>,
+    ) -> (Shared<T>, Ptr<'g, T>)
+        requires home { home_of local.old ≡ place_of domain.now }
+        requires mine { kept_in self ≡ (place_of domain.now).0 }
+        requires nest { nest_of guard.now ≡ nest_in local.old }
+        requires open { 0 < (own_of local.old).nesting }
+        ensures home { kept_in result.0 ≡ kept_in self }
+        ensures item { (x : T) → IsOwnerOf self x → IsOwnerOf result.0 x }
+        ensures exact { ptr_slot result.1 ≡ owner_slot (Some self) }
+        ensures same { IsInNest local.old local.new × (own_of local.new ≡ own_of local.old) × (born_of local.new ≡ born_of local.old) × (waiting_of local.new ≡ waiting_of local.old) }
+    {
+        let (owner, loaded) = self.loaded(domain, local);
+        (owner, loaded.under(guard))
+    }
+
+    /// The item, for as long. In Rust that is `get_guarded_ref(&self)`.
+    pub fn get_guarded_ref<'g>(
+        self,
+        domain: &Domain<T>,
+        guard: &'g Guard,
+        local: &mut Local<T>,
+    ) -> (Shared<T>, &'g T)
+        requires home { home_of local.old ≡ place_of domain.now }
+        requires mine { kept_in self ≡ (place_of domain.now).0 }
+        requires nest { nest_of guard.now ≡ nest_in local.old }
+        requires open { 0 < (own_of local.old).nesting }
+        ensures home { kept_in result.0 ≡ kept_in self }
+        ensures item { (x : T) → IsOwnerOf self x → IsOwnerOf result.0 x }
+        ensures same { IsInNest local.old local.new × (own_of local.new ≡ own_of local.old) × (born_of local.new ≡ born_of local.old) × (waiting_of local.new ≡ waiting_of local.old) }
+    {
+        let (owner, loaded) = self.loaded(domain, local);
+        match loaded.as_ref(guard) {
+            Some(item) => (owner, item),
+            None => unreachable!(),
+        }
+    }
+
+    /// The same without a borrow of the guard.
+    fn loaded(self, domain: &Domain<T>, local: &mut Local<T>) -> (Shared<T>, Loaded<T>)
+        requires home { home_of local.old ≡ place_of domain.now }
+        requires mine { kept_in self ≡ (place_of domain.now).0 }
+        requires open { 0 < (own_of local.old).nesting }
+        ensures home { kept_in result.0 ≡ kept_in self }
+        ensures item { (x : T) → IsOwnerOf self x → IsOwnerOf result.0 x }
+        ensures seen { IsSomeAnd result.1.seen (λ s. (number_of local.old, s.life) ≡ nest_in local.old) }
+        ensures slot { result.1.slot ≡ self.slot }
+        ensures same { IsInNest local.old local.new × (own_of local.new ≡ own_of local.old) × (born_of local.new ≡ born_of local.old) × (waiting_of local.new ≡ waiting_of local.old) }
+    {
+        let Shared { slot, part, seat } = self;
+        let Local {
+            place,
+            number,
+            life,
+            rows,
+            ..
+        } = local;
+        let Some(life) = life else { unreachable!() };
+        take_in(domain.words(), place, seat);
+        let at = lease_own(
+            domain.words(),
+            place,
+            &domain.sizes,
+            *number,
+            rows,
+            life,
+            slot,
+        );
+        let seat = part_with(domain.words(), place);
+        let seen = seen_in(rows, at);
+        let loaded = Loaded {
+            slot,
+            seen: Some(seen),
+        };
+        (Shared { slot, part, seat }, loaded)
     }
 
     /// Takes the owner into the participant's hand, for an item to hold: the next one that is placed holds it, and all

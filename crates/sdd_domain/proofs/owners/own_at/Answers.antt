@@ -1,12 +1,11 @@
-use Rattle.std.proofs.Common.{◌≡◌, ℕ, ◌-◌, ◌∷◌, map, slice_set, sym, refl, ap, ◌∙◌, arith}
+use Rattle.std.proofs.Common.{◌≡◌, ℕ, ◌-◌, map, slice_set, sym, refl, ap, ◌∙◌, arith}
 use Rattle.atomic_table.specs.Table.{Me}
-use Rattle.sdd_homes.specs.declared.Owner.{Owner}
 use Rattle.sdd_homes.specs.Book.{recounted}
 use Rattle.sdd_domain.specs.Leases.{row_told, lease_told}
 use Rattle.sdd_domain.specs.Plays.{owner_of}
 use Rattle.sdd_domain.specs.declared.board.Acting.{Acting}
 use Rattle.sdd_domain.proofs.Rows.{row_at, at_slot, inside, slots_told, recounted_slots}
-use Rattle.sdd_domain.proofs.owners.clone_leased.Goals as goal
+use Rattle.sdd_domain.proofs.owners.own_at.Goals as goal
 
 pub raise_owners-requires-clause-table : goal.raise_owners-requires-clause-table
 raise_owners-requires-clause-table g c = let r = c.requires.rows in let rows = c.args.rows.now.items in let ls = c.args.place.now.me.0.leases in let low = c.requires.row.0 in let long = c.args.rows.now.ok.0 in let f = row_at r.0.0 rows ls c.args.at r.0.1 (omega arith) in
@@ -17,16 +16,17 @@ raise_owners-requires-clause-leased g c = let r = c.requires.rows in let rows = 
     let row : row_told c.index.result.now ≡ lease_told r.0.0 f.lease = ap row_told (c.index.ensures ∙ f.is c.index.result.now) ∙ f.told in
     (f.lease, f.has, at_slot r.0.0 rows ls c.args.at c.args.slot f c.requires.row.1, ap (λ (t : ℕ × ℕ × ℕ × ℕ). t.2) (sym row))
 
-pub returns-clause-cloned : goal.returns-clause-cloned
-returns-clause-cloned g c = let r = c.requires.rows in let m = c.args.place.now.me in let rows = c.args.rows.now.items in let ls = m.0.leases in let low = c.requires.row.0 in let long = c.args.rows.now.ok.0 in let f = row_at r.0.0 rows ls c.args.at r.0.1 (omega arith) in
-    let l = f.lease in let at = at_slot r.0.0 rows ls c.args.at c.args.slot f c.requires.row.1 in let q = c.requires.owner in let hit = c.if-not-raise_owners.false in let new = recounted l.slot (l.count - 1) ls in
+pub returns-clause-owned : goal.returns-clause-owned
+returns-clause-owned g c = let r = c.requires.rows in let m = c.args.place.now.me in let rows = c.args.rows.now.items in let ls = m.0.leases in let low = c.requires.row.0 in let long = c.args.rows.now.ok.0 in let f = row_at r.0.0 rows ls c.args.at r.0.1 (omega arith) in
+    let l = f.lease in let at = at_slot r.0.0 rows ls c.args.at c.args.slot f c.requires.row.1 in let hit = c.if-not-raise_owners.false in
     let row : row_told c.in-Some.row.now ≡ lease_told r.0.0 l = ap row_told (c.in-Some.ensures.value ∙ f.is c.in-Some.row.now) ∙ f.told in (
-      new,
+      owner_of l,
+      recounted l.slot (l.count - 1) ls,
+      at,
+      sym (ap (λ (t : ℕ × ℕ × ℕ × ℕ). t.1) row) ∙ sym c.give_one.ensures.part,
       recounted_slots l.slot (l.count - 1) ls,
-      (λ o os first. let lists : q.0 ∷ q.1 ≡ o ∷ os = sym q.2 ∙ first in let one : q.0 ≡ o = cc in let same : owner_of l ≡ o = (c.raise_owners.ensures.alike hit l f.has at).1 o os first (ap (λ (z : Owner). z.slot) (sym one) ∙ (q.3 ∙ sym at)) in (
-        ap (λ (z : Owner). z.round) (sym same) ∙ (ap (λ (t : ℕ × ℕ × ℕ × ℕ). t.1) (sym row) ∙ sym c.give_one.ensures.part),
-        c.raise_owners.ensures.raised hit l f.has at ∙ λ j. (record m.0 { hand = same j ∷ first j; leases = new }, m.1),
-      )),
+      c.raise_owners.ensures.raised hit l f.has at,
+      (λ first os lists slot. (c.raise_owners.ensures.alike hit l f.has at).1 first os lists (slot ∙ sym at)),
     )
 
 pub returns-clause-rows : goal.returns-clause-rows
@@ -43,3 +43,7 @@ returns-clause-same g c = let r = c.requires.rows in let m = c.args.place.now.me
     let new : row_told c.give_one.new.self ≡ (l.slot, l.round, l.count - 1, r.0.0) = c.give_one.ensures.row ∙ λ j. ((row j).0, (row j).1, (row j).2 - 1, (row j).3) in
     let told = f.recounts l.slot (l.count - 1) c.give_one.new.self refl (c.raise_owners.ensures.alike hit l f.has at).0 new in
     (refl, slots_told r.0.0 (slice_set rows c.args.at c.give_one.new.self) (recounted l.slot (l.count - 1) ls) told ∙ (recounted_slots l.slot (l.count - 1) ls ∙ sym (slots_told r.0.0 rows ls r.0.1)))
+
+pub returns-clause-there : goal.returns-clause-there
+returns-clause-there g c = let r = c.requires.rows in let rows = c.args.rows.now.items in let ls = c.args.place.now.me.0.leases in let low = c.requires.row.0 in let long = c.args.rows.now.ok.0 in let f = row_at r.0.0 rows ls c.args.at r.0.1 (omega arith) in
+    (c.give_one.ensures.there, inside r.0.0 rows ls c.args.at c.args.slot f c.requires.row.1 r.0.1 c.args.sizes.now.slots r.1)
