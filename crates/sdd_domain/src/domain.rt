@@ -92,7 +92,7 @@ fn free_cells(alloc: Global, count: usize) -> Result<Vec<AtomicBool>, AllocError
 
 impl<T: Holds> Domain<T> {
     ghost use Rattle.sdd_domain.specs.Ledgers.{IsEmpty};
-    ghost use Rattle.sdd_domain.specs.Tokens.{participants_of, slot_count, first_of, place_of, home_of, number_of, own_of, hand_of};
+    ghost use Rattle.sdd_domain.specs.Tokens.{participants_of, slot_count, cell_count, first_of, place_of, home_of, number_of, own_of, hand_of};
 
     /// A place without items, for as many participants as its sizes name, none of them registered. It takes all memory
     /// of the place but what `register` takes: homes for slots times participants, and a box for the item of each slot.
@@ -225,6 +225,20 @@ impl<T: Holds> Domain<T> {
             }
         }
         false
+    }
+
+    /// How many slots it has.
+    pub fn slots(&self) -> usize
+        ensures { result ≡ slot_count self.now }
+    {
+        self.sizes.slots
+    }
+
+    /// How many cells it has.
+    pub fn cells(&self) -> usize
+        ensures { result ≡ cell_count self.now }
+    {
+        self.sizes.cells
     }
 
     /// How many slots have an item or are being filled or emptied, each looked at in one step of its own.

@@ -65,6 +65,13 @@ impl<'g, T> Ptr<'g, T> {
         self.slot.is_none()
     }
 
+    /// The slot of the item, below the place's count of them. No other item is in it while the pointer is there.
+    pub fn slot(self) -> Option<usize>
+        ensures { result ≡ ptr_slot self.entry }
+    {
+        self.slot
+    }
+
     /// The item.
     pub fn as_ref(self) -> Option<&'g T>
         ensures { option_copied result ≡ ptr_item self.entry }

@@ -73,6 +73,13 @@ impl<T: Holds> Shared<T> {
         }
     }
 
+    /// The slot of the item, below the place's count of them. No other item is in it while this one has an owner.
+    pub fn slot(&self) -> usize
+        ensures { Some result ≡ owner_slot (Some self.now) }
+    {
+        self.slot
+    }
+
     /// One more owner of the item, beside this one: in Rust that is `clone(&self)`. This one alone is back where the item
     /// has `2^32 - 1` owners, or where the participant has only one part of it, which is a miss. It tries again where other
     /// threads change the count of owners at that moment. It takes no memory.
