@@ -23,6 +23,8 @@ pub(super) enum Call {
     Pack,
     Freeze,
     Unfreeze,
+    /// The array is a new one that takes no write.
+    NewFrozen,
     Len,
     IsEmpty,
     IsFull,
@@ -125,6 +127,11 @@ fn unfreeze(array: &mut Array<u64, u64>) -> Told {
     Told::Done
 }
 
+fn new_frozen(array: &mut Array<u64, u64>) -> Told {
+    *array = Array::new_frozen();
+    Told::Done
+}
+
 fn remove_range(array: &mut Array<u64, u64>, low: Bound<u64>, high: Bound<u64>) -> Told {
     array.remove_range(low.as_ref(), high.as_ref());
     Told::Done
@@ -186,12 +193,13 @@ pub(super) fn make(array: &mut Array<u64, u64>, call: Call) -> Told {
         Call::Pack => pack(array),
         Call::Freeze => freeze(array),
         Call::Unfreeze => unfreeze(array),
+        Call::NewFrozen => new_frozen(array),
         _ => look(array, call),
     }
 }
 
 /// Makes the calls of a table, in order, and tells the place of the first that is answered otherwise.
-fn first_other(array: &mut Array<u64, u64>, rows: &[(Call, Told)]) -> Option<usize> {
+pub(super) fn first_other(array: &mut Array<u64, u64>, rows: &[(Call, Told)]) -> Option<usize> {
     for at in 0..rows.len() {
         let (call, wanted) = rows[at];
         if make(array, call) != wanted {
@@ -201,12 +209,22 @@ fn first_other(array: &mut Array<u64, u64>, rows: &[(Call, Told)]) -> Option<usi
     None
 }
 
-/// Plays a table on an array.
-pub(super) fn play_on<R: Abort>(rt: &R, array: &mut Array<u64, u64>, rows: &[(Call, Told)]) {
-    assert_eq!(rt; first_other(array, rows), None);
+/// Keys, and the calls of an array of them, each its own value.
+pub(super) type Table = (&'static [u64], &'static [(Call, Told)]);
+
+/// The place of the first table that has a call that is answered otherwise, and the place of that call.
+fn first_other_of(tables: &[Table]) -> Option<(usize, usize)> {
+    for at in 0..tables.len() {
+        let (keys, rows) = tables[at];
+        match first_other(&mut holding(keys), rows) {
+            Some(row) => return Some((at, row)),
+            None => {}
+        }
+    }
+    None
 }
 
-/// Plays a table on an array of these keys, each its own value.
-pub(super) fn play<R: Abort>(rt: &R, keys: &[u64], rows: &[(Call, Told)]) {
-    play_on(rt, &mut holding(keys), rows);
+/// Plays each table on an array of its own.
+pub(super) fn play<R: Abort>(rt: &R, tables: &[Table]) {
+    assert_eq!(rt; first_other_of(tables), None);
 }

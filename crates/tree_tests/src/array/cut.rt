@@ -2,7 +2,7 @@
 
 use super::calls::Call::{Metadata, Pair, PopLast, Remove};
 use super::calls::Told::{Number, Removed};
-use super::calls::{Told, play};
+use super::calls::{Table, Told, play};
 use super::{ASCENDING, holding, reversed};
 use leaf_array::{Array, RemoveResult};
 
@@ -56,9 +56,9 @@ fn an_array_is_cut_at_each_boundary(rt: HostRuntime) {
     }
 }
 
-#[test]
-fn the_greatest_pair_is_taken_out(rt: HostRuntime) {
-    let rows = [
+const TAKEN: Table = (
+    &[3, 1, 2],
+    &[
         (Remove(2), Removed(RemoveResult::Success)),
         (PopLast, Told::Pair(Some((3, 3)))),
         (Pair(0), Told::Pair(Some((1, 1)))),
@@ -66,6 +66,10 @@ fn the_greatest_pair_is_taken_out(rt: HostRuntime) {
         (Pair(15), Told::Pair(None)),
         (PopLast, Told::Pair(Some((1, 1)))),
         (PopLast, Told::Pair(None)),
-    ];
-    play(&rt, &[3, 1, 2], &rows);
+    ],
+);
+
+#[test]
+fn the_greatest_pair_is_taken_out(rt: HostRuntime) {
+    play(&rt, &[TAKEN]);
 }

@@ -2,7 +2,7 @@
 
 use super::calls::Call::{Freeze, IsRetired, LastRemoved, Len, Metadata, RemoveRange};
 use super::calls::Told::{Done, Is, Number, Part};
-use super::calls::play;
+use super::calls::{Call, Table, play};
 use super::holding;
 use leaf_array::{Array, InsertResult};
 use std::ops::Bound;
@@ -28,34 +28,46 @@ fn a_range_leaves_the_keys_outside(rt: HostRuntime) {
     }
 }
 
-#[test]
-fn a_range_of_all_keys_retires(rt: HostRuntime) {
-    let all = RemoveRange(Bound::Unbounded, Bound::Unbounded);
-    let rows = [
+const ALL: Call = RemoveRange(Bound::Unbounded, Bound::Unbounded);
+
+/// A range of all keys retires no frozen array.
+const FROZEN: Table = (
+    &[1, 2],
+    &[
         (Freeze, Number(0x210)),
         (RemoveRange(Bound::Unbounded, Bound::Included(1)), Done),
         (Len, Number(1)),
-        (all, Done),
+        (ALL, Done),
         (IsRetired, Is(false)),
-    ];
-    play(&rt, &[1, 2], &rows);
-    let rows = [
+    ],
+);
+
+/// It retires one that is not frozen.
+const OPEN: Table = (
+    &[1, 2],
+    &[
         (RemoveRange(Bound::Excluded(0), Bound::Unbounded), Done),
         (IsRetired, Is(true)),
-    ];
-    play(&rt, &[1, 2], &rows);
-    play(&rt, &[], &[(all, Done), (IsRetired, Is(false))]);
-}
+    ],
+);
 
-#[test]
-fn a_removed_range_leaves_the_ranks_of_others(rt: HostRuntime) {
-    let rows = [
+/// It retires none without pairs.
+const EMPTY: Table = (&[], &[(ALL, Done), (IsRetired, Is(false))]);
+
+/// A removed range leaves the ranks of others.
+const IN_THE_MIDDLE: Table = (
+    &[10, 20, 30, 40],
+    &[
         (RemoveRange(Bound::Included(20), Bound::Included(30)), Done),
         (LastRemoved, Part(Some(30))),
         // slots 1 and 0 have the ranks 1 and 4
         (Metadata, Number(0x14)),
-    ];
-    play(&rt, &[10, 20, 30, 40], &rows);
+    ],
+);
+
+#[test]
+fn ranges_are_removed(rt: HostRuntime) {
+    play(&rt, &[FROZEN, OPEN, EMPTY, IN_THE_MIDDLE]);
 }
 
 #[test]

@@ -4,7 +4,7 @@ use super::calls::Call::{
     Freeze, Insert, InsertBySlot, IsRetired, Len, Metadata, Remove, RemoveSlot, SearchVal,
 };
 use super::calls::Told::{Done, Is, Number, Part, Removed};
-use super::calls::play;
+use super::calls::{Table, play};
 use leaf_array::{Array, InsertResult, RemoveResult};
 
 #[test]
@@ -29,9 +29,10 @@ pub(super) fn put_at(array: &mut Array<u64, u64>, key: u64, val: u64, place: u8)
     array.insert_unchecked(key, val, place, 0)
 }
 
-#[test]
-fn a_dry_run_says_where_a_pair_goes(rt: HostRuntime) {
-    let rows = [
+/// A dry run says where a pair goes.
+const DRY_RUNS: Table = (
+    &[],
+    &[
         // the bitmap places 0 to 5 have the slots 1, 2, 3, 0, 5, 6
         (InsertBySlot(3, 3), Number(1)),
         (InsertBySlot(2, 2), Number(2)),
@@ -48,13 +49,13 @@ fn a_dry_run_says_where_a_pair_goes(rt: HostRuntime) {
         (Len, Number(6)),
         // slots 0 to 6, the lowest one first: 7, 3, 2, 1, none, 6, 5
         (Metadata, Number(0x4501236)),
-    ];
-    play(&rt, &[], &rows);
-}
+    ],
+);
 
-#[test]
-fn a_removed_slot_leaves_the_other_ranks(rt: HostRuntime) {
-    let rows = [
+/// A removed slot leaves the other ranks.
+const REMOVED_SLOTS: Table = (
+    &[10, 20],
+    &[
         (RemoveSlot(1), Removed(RemoveResult::Success)),
         (Metadata, Number(0x200)),
         // the least pair has rank 2, so a lesser one takes rank 1
@@ -63,25 +64,33 @@ fn a_removed_slot_leaves_the_other_ranks(rt: HostRuntime) {
         (RemoveSlot(3), Removed(RemoveResult::Success)),
         (RemoveSlot(3), Removed(RemoveResult::Fail)),
         (RemoveSlot(2), Removed(RemoveResult::Retired)),
-    ];
-    play(&rt, &[10, 20], &rows);
-    let rows = [
+    ],
+);
+
+/// So it does in a frozen array, which does not retire.
+const FROZEN_SLOT: Table = (
+    &[10],
+    &[
         (Freeze, Number(0x10)),
         (RemoveSlot(1), Removed(RemoveResult::Success)),
         (IsRetired, Is(false)),
-    ];
-    play(&rt, &[10], &rows);
-}
+    ],
+);
 
-#[test]
-fn an_insertion_by_place_opens_a_retired_array(rt: HostRuntime) {
-    let rows = [
+/// An insertion by place opens a retired array.
+const REOPENED: Table = (
+    &[5],
+    &[
         (Remove(5), Removed(RemoveResult::Retired)),
         // slot 1 keeps the removed pair
         (InsertBySlot(6, 60), Number(2)),
         (IsRetired, Is(false)),
         (Metadata, Number(0x100)),
         (Insert(7, 70), Done),
-    ];
-    play(&rt, &[5], &rows);
+    ],
+);
+
+#[test]
+fn pairs_are_inserted_and_removed_by_slot(rt: HostRuntime) {
+    play(&rt, &[DRY_RUNS, REMOVED_SLOTS, FROZEN_SLOT, REOPENED]);
 }

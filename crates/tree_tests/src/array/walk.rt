@@ -2,7 +2,7 @@
 
 use super::calls::Call::{Insert, Len, Remove, SearchVal, Unfreeze};
 use super::calls::Told::{Done, Full, Number, Part, Removed};
-use super::calls::play_on;
+use super::calls::{Call, Told, first_other};
 use super::slot::put_at;
 use super::{holding, reversed};
 use leaf_array::{Array, RemoveResult};
@@ -47,32 +47,50 @@ fn mixed() -> Array<u64, u64> {
     array
 }
 
+const LOW: [(Call, Told); 7] = [
+    (Insert(5, 5), Full(5, 5)),
+    (Unfreeze, Done),
+    (Len, Number(4)),
+    (SearchVal(0), Part(Some(17))),
+    (SearchVal(1), Part(Some(17))),
+    (SearchVal(11), Part(Some(17))),
+    (SearchVal(19), Part(Some(17))),
+];
+
+const HIGH: [(Call, Told); 5] = [
+    (Unfreeze, Done),
+    (Len, Number(2)),
+    (SearchVal(20), Part(Some(17))),
+    (SearchVal(32), Part(Some(17))),
+    (Insert(5, 5), Done),
+];
+
 #[test]
 fn a_distributed_array_gives_its_pairs_to_others(rt: HostRuntime) {
-    let mut old = mixed();
     let mut low: Array<u64, u64> = Array::new_frozen();
     let mut high: Array<u64, u64> = Array::new_frozen();
-    let told = deal(&mut old, &mut low, &mut high);
-    assert!(rt; told == ((15, 6, false), 0));
-    let rows = [
-        (Insert(5, 5), Full(5, 5)),
-        (Unfreeze, Done),
-        (Len, Number(4)),
-        (SearchVal(0), Part(Some(17))),
-        (SearchVal(1), Part(Some(17))),
-        (SearchVal(11), Part(Some(17))),
-        (SearchVal(19), Part(Some(17))),
-    ];
-    play_on(&rt, &mut low, &rows);
-    let rows = [
-        (Unfreeze, Done),
-        (Len, Number(2)),
-        (SearchVal(20), Part(Some(17))),
-        (SearchVal(32), Part(Some(17))),
-        (Insert(5, 5), Done),
-    ];
-    play_on(&rt, &mut high, &rows);
+    let told = deal(&mut mixed(), &mut low, &mut high);
+    let others = (first_other(&mut low, &LOW), first_other(&mut high, &HIGH));
+    assert!(rt; told == ((15, 6, false), 0) && others == (None, None));
 }
+
+const GONE: Told = Removed(RemoveResult::Success);
+
+const DEALT_OUT: [(Call, Told); 13] = [
+    (Insert(1, 0), Full(1, 0)),
+    (Insert(3, 0), Full(3, 0)),
+    (Remove(17), Removed(RemoveResult::Frozen)),
+    (Unfreeze, Done),
+    (Insert(3, 7), Done),
+    (Remove(0), GONE),
+    (Remove(1), GONE),
+    (Remove(3), GONE),
+    (Remove(11), GONE),
+    (Remove(19), GONE),
+    (Remove(20), GONE),
+    (Remove(32), Removed(RemoveResult::Retired)),
+    (Insert(5, 5), Full(5, 5)),
+];
 
 #[test]
 fn a_distributed_array_stays_as_it_was_and_frozen(rt: HostRuntime) {
@@ -80,33 +98,18 @@ fn a_distributed_array_stays_as_it_was_and_frozen(rt: HostRuntime) {
     if !old.is_frozen() {
         let _ = old.distribute(|_, _, _| true, |_, _, _, _| {});
     }
-    let gone = Removed(RemoveResult::Success);
-    let rows = [
-        (Insert(1, 0), Full(1, 0)),
-        (Insert(3, 0), Full(3, 0)),
-        (Remove(17), Removed(RemoveResult::Frozen)),
-        (Unfreeze, Done),
-        (Insert(3, 7), Done),
-        (Remove(0), gone),
-        (Remove(1), gone),
-        (Remove(3), gone),
-        (Remove(11), gone),
-        (Remove(19), gone),
-        (Remove(20), gone),
-        (Remove(32), Removed(RemoveResult::Retired)),
-        (Insert(5, 5), Full(5, 5)),
-    ];
-    play_on(&rt, &mut old, &rows);
+    assert!(rt; first_other(&mut old, &DEALT_OUT).is_none());
 }
+
+const CHANGED: [(Call, Told); 2] = [
+    (Insert(3, 7), Done),
+    (Remove(1), Removed(RemoveResult::Success)),
+];
 
 #[test]
 fn a_showing_tells_removed_pairs_from_others(rt: HostRuntime) {
     let mut array = mixed();
-    let rows = [
-        (Insert(3, 7), Done),
-        (Remove(1), Removed(RemoveResult::Success)),
-    ];
-    play_on(&rt, &mut array, &rows);
+    let other = first_other(&mut array, &CHANGED);
     let mut gone: u64 = 0;
     let mut there: u64 = 0;
     let shown = array.for_each_all(
@@ -120,7 +123,7 @@ fn a_showing_tells_removed_pairs_from_others(rt: HostRuntime) {
             Ok(())
         },
     );
-    assert!(rt; (shown.is_ok(), gone, there) == (true, 1, 6));
+    assert!(rt; (other, shown.is_ok(), gone, there) == (None, true, 1, 6));
 }
 
 #[test]
