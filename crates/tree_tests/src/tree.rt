@@ -1,7 +1,6 @@
 //! Trees, their cursors, leaves and nodes by example.
 
 use std::alloc::Global;
-use std::process::Abort;
 use tree_index::leaf::Leaf;
 use tree_index::{Node, TreeIndex};
 
@@ -18,14 +17,11 @@ mod shrink;
 
 /// The leaf of a tree on the way to a key, from the root down: a child has one node less down to a leaf, so
 /// the way ends, at a node over leaves.
-fn leaf_at<'t, R: Abort>(rt: &R, tree: &'t TreeIndex<u64, u64>, key: u64) -> &'t Leaf<u64, u64> {
-    let Some(root) = tree.root() else {
-        panic!(rt; "no leaf");
-    };
-    let mut node = root;
+fn leaf_at<'t>(tree: &'t TreeIndex<u64, u64>, key: u64) -> Option<&'t Leaf<u64, u64>> {
+    let mut node = tree.root()?;
     'down: loop {
         node = match node {
-            Node::Leaf(last) => return last.leaf(&key),
+            Node::Leaf(last) => return Some(last.leaf(&key)),
             Node::Internal(inner) => inner.child(&key),
         };
     }

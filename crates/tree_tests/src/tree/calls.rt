@@ -1,5 +1,7 @@
 //! Calls of a tree and of its cursors as data, so that a test of many calls is a table: each call with what it answers.
 
+use super::tree_of;
+use std::alloc::Global;
 use std::ops::Bound;
 use std::process::Abort;
 use tree_index::{InsertRefused, Iter, Range, TreeIndex};
@@ -14,6 +16,14 @@ pub(super) enum Call {
     RemoveIf(u64, u64),
     RemoveRange(Bound<u64>, Bound<u64>),
     Clear,
+    /// Of the keys from one on up to below another: whether each is inserted with its complement, whether the tree has
+    /// this depth after each of these insertions besides, and whether each is removed.
+    Fill(u64, u64),
+    Grow(u64, u64, usize),
+    Lose(u64, u64),
+    /// Whether each of these keys is there with its complement, and whether none of them is there.
+    Holds(u64, u64),
+    Lacks(u64, u64),
     Len,
     IsEmpty,
     Depth,
@@ -89,6 +99,8 @@ fn look(tree: &TreeIndex<u64, u64>, call: Call) -> Told {
         Call::PeekWith(key) => Told::Pair(tree.peek_with(&key, |key, val| (*key, *val))),
         Call::ReadSync(key) => Told::Pair(tree.read_sync(&key, |key, val| (*key, *val))),
         Call::Contains(key) => Told::Is(tree.contains(&key)),
+        Call::Holds(first, last) => Told::Is(holds(tree, first, last)),
+        Call::Lacks(first, last) => Told::Is(lacks(tree, first, last)),
         Call::Count => Told::Number(tree.iter().count()),
         Call::CountWithin(lower, upper) => count_within(tree, lower, upper),
         Call::First => Told::Pair(read(tree.iter().next())),
@@ -106,12 +118,15 @@ pub(super) fn make(tree: &mut TreeIndex<u64, u64>, call: Call) -> Told {
         Call::RemoveIf(key, wanted) => Told::Is(tree.remove_if_sync(&key, |val| *val == wanted)),
         Call::RemoveRange(lower, upper) => remove_range(tree, lower, upper),
         Call::Clear => clear(tree),
+        Call::Fill(first, last) => Told::Is(fill(tree, first, last)),
+        Call::Grow(first, last, depth) => Told::Is(grow(tree, first, last, depth)),
+        Call::Lose(first, last) => Told::Is(lose(tree, first, last)),
         _ => look(tree, call),
     }
 }
 
 /// Makes the calls of a table, in order, and tells the place of the first that is answered otherwise.
-fn first_other(tree: &mut TreeIndex<u64, u64>, rows: &[(Call, Told)]) -> Option<usize> {
+pub(super) fn first_other(tree: &mut TreeIndex<u64, u64>, rows: &[(Call, Told)]) -> Option<usize> {
     for at in 0..rows.len() {
         let (call, wanted) = rows[at];
         if make(tree, call) != wanted {
@@ -121,9 +136,24 @@ fn first_other(tree: &mut TreeIndex<u64, u64>, rows: &[(Call, Told)]) -> Option<
     None
 }
 
-/// Plays a table on a tree.
-pub(super) fn play<R: Abort>(rt: &R, tree: &mut TreeIndex<u64, u64>, rows: &[(Call, Told)]) {
-    assert_eq!(rt; first_other(tree, rows), None);
+/// The same of a tree with these pairs.
+fn first_other_of(alloc: Global, pairs: &[(u64, u64)], rows: &[(Call, Told)]) -> Option<usize> {
+    first_other(&mut tree_of(alloc, pairs), rows)
+}
+
+/// Plays a table on a tree with these pairs.
+pub(super) fn play_on<R: Abort>(
+    rt: &R,
+    alloc: Global,
+    pairs: &[(u64, u64)],
+    rows: &[(Call, Told)],
+) {
+    assert_eq!(rt; first_other_of(alloc, pairs, rows), None);
+}
+
+/// Plays a table on a new tree.
+pub(super) fn on_a_tree<R: Abort>(rt: &R, alloc: Global, rows: &[(Call, Told)]) {
+    play_on(rt, alloc, &[], rows);
 }
 
 /// The value of a key.
@@ -136,6 +166,16 @@ pub(super) fn fill(tree: &mut TreeIndex<u64, u64>, first: u64, last: u64) -> boo
     let mut taken = true;
     for key in first..last {
         taken = insert(tree, key, !key) == Told::Done && taken;
+    }
+    taken
+}
+
+/// The same where the tree has this depth after each insertion.
+fn grow(tree: &mut TreeIndex<u64, u64>, first: u64, last: u64, depth: usize) -> bool {
+    let mut taken = true;
+    for key in first..last {
+        let done = insert(tree, key, !key) == Told::Done;
+        taken = done && tree.depth() == depth && taken;
     }
     taken
 }
@@ -156,6 +196,15 @@ pub(super) fn holds(tree: &TreeIndex<u64, u64>, first: u64, last: u64) -> bool {
         there = val_of(tree, key) == Some(!key) && there;
     }
     there
+}
+
+/// Whether none of the keys from one on up to below another is there.
+fn lacks(tree: &TreeIndex<u64, u64>, first: u64, last: u64) -> bool {
+    let mut absent = true;
+    for key in first..last {
+        absent = !tree.contains(&key) && absent;
+    }
+    absent
 }
 
 /// A call of a cursor.
@@ -199,7 +248,10 @@ pub(super) fn take_within(range: &mut Range<'_, u64, u64>, step: Step) -> Seen {
 }
 
 /// Takes the steps of a table, in order, and tells the place of the first that tells something else.
-fn first_other_step(iter: &mut Iter<'_, u64, u64>, rows: &[(Step, Seen)]) -> Option<usize> {
+pub(super) fn first_other_step(
+    iter: &mut Iter<'_, u64, u64>,
+    rows: &[(Step, Seen)],
+) -> Option<usize> {
     for at in 0..rows.len() {
         let (one, wanted) = rows[at];
         if take(iter, one) != wanted {
@@ -209,7 +261,10 @@ fn first_other_step(iter: &mut Iter<'_, u64, u64>, rows: &[(Step, Seen)]) -> Opt
     None
 }
 
-fn first_other_within(range: &mut Range<'_, u64, u64>, rows: &[(Step, Seen)]) -> Option<usize> {
+pub(super) fn first_other_within(
+    range: &mut Range<'_, u64, u64>,
+    rows: &[(Step, Seen)],
+) -> Option<usize> {
     for at in 0..rows.len() {
         let (one, wanted) = rows[at];
         if take_within(range, one) != wanted {
@@ -219,16 +274,26 @@ fn first_other_within(range: &mut Range<'_, u64, u64>, rows: &[(Step, Seen)]) ->
     None
 }
 
-/// Takes the steps of a table along a cursor.
-pub(super) fn walk<R: Abort>(rt: &R, iter: &mut Iter<'_, u64, u64>, rows: &[(Step, Seen)]) {
-    assert_eq!(rt; first_other_step(iter, rows), None);
+/// The same along a cursor over these pairs.
+fn first_other_along(alloc: Global, pairs: &[(u64, u64)], rows: &[(Step, Seen)]) -> Option<usize> {
+    first_other_step(&mut tree_of(alloc, pairs).iter(), rows)
 }
 
-/// Takes the steps of a table along a range.
+/// Takes the steps of a table along a cursor over these pairs.
+pub(super) fn walk<R: Abort>(rt: &R, alloc: Global, pairs: &[(u64, u64)], rows: &[(Step, Seen)]) {
+    assert_eq!(rt; first_other_along(alloc, pairs, rows), None);
+}
+
+/// Takes the steps of a table along a range of these pairs.
 pub(super) fn walk_within<R: Abort>(
     rt: &R,
-    range: &mut Range<'_, u64, u64>,
+    alloc: Global,
+    pairs: &[(u64, u64)],
+    bounds: (Bound<u64>, Bound<u64>),
     rows: &[(Step, Seen)],
 ) {
-    assert_eq!(rt; first_other_within(range, rows), None);
+    let tree = tree_of(alloc, pairs);
+    let mut range = tree.range(bounds.0.as_ref(), bounds.1.as_ref());
+    let other = first_other_within(&mut range, rows);
+    assert_eq!(rt; other, None);
 }

@@ -3,11 +3,13 @@
 use super::calls::Call::{Clear, CountWithin};
 use super::calls::Step::{Flip, Get, GetBack, Next, NextBack};
 use super::calls::Told::{Done, Number};
-use super::calls::{Seen, Step, play, read, take, take_within, val_of, walk, walk_within};
+use super::calls::{
+    Call, Seen, Step, Told, first_other_step, first_other_within, make, play_on, read, take,
+    take_within, val_of, walk, walk_within,
+};
 use super::{stirred, tree_of};
 use std::alloc::{AllocError, Global};
 use std::ops::Bound;
-use std::test::Fail;
 use tree_index::{Iter, Proximity, Range, TreeIndex};
 
 // Steps through three pairs with the keys 1 to 3, each with the value 2.
@@ -23,96 +25,123 @@ const TURNS: [(Step, Seen); 9] = [
     (Flip, None),
 ];
 
+const THREE: [(u64, u64); 3] = [(1, 2), (2, 2), (3, 2)];
+
 #[test]
 fn both_ends_go_through_three_pairs(rt: HostRuntime) {
-    let tree = tree_of(rt.alloc(), &[(1, 2), (2, 2), (3, 2)]);
-    walk(&rt, &mut tree.iter(), &TURNS);
+    walk(&rt, rt.alloc(), &THREE, &TURNS);
 }
+
+const FOUR: [(u64, u64); 4] = [(1, 2), (2, 2), (3, 2), (4, 2)];
 
 #[test]
 fn a_range_flips_at_its_bounds(rt: HostRuntime) {
-    let tree = tree_of(rt.alloc(), &[(1, 2), (2, 2), (3, 2), (4, 2)]);
-    let mut range = tree.range(Bound::Included(&1), Bound::Excluded(&4));
-    walk_within(&rt, &mut range, &TURNS);
+    let bounds = (Bound::Included(1), Bound::Excluded(4));
+    walk_within(&rt, rt.alloc(), &FOUR, bounds, &TURNS);
 }
+
+const UNTIL_IT_IS_DONE: [(Step, Seen); 7] = [
+    (Next, Some((1, 2))),
+    (Next, Some((2, 2))),
+    (Next, Some((3, 2))),
+    (Next, None),
+    (Next, None),
+    (Get, None),
+    (NextBack, None),
+];
 
 #[test]
 fn a_cursor_that_is_done_stays_at_none(rt: HostRuntime) {
-    let tree = tree_of(rt.alloc(), &[(1, 2), (2, 2), (3, 2)]);
-    let rows = [
-        (Next, Some((1, 2))),
-        (Next, Some((2, 2))),
-        (Next, Some((3, 2))),
-        (Next, None),
-        (Next, None),
-        (Get, None),
-        (NextBack, None),
-    ];
-    walk(&rt, &mut tree.iter(), &rows);
+    walk(&rt, rt.alloc(), &THREE, &UNTIL_IT_IS_DONE);
+}
+
+const DOUBLING: [(u64, u64); 4] = [(1, 2), (2, 3), (4, 6), (8, 12)];
+
+// Steps of a range, of the cursor without bounds that its copy becomes, and of the range then.
+const WITHIN: [(Step, Seen); 2] = [(Next, Some((4, 6))), (Get, Some((4, 6)))];
+
+const BEYOND: [(Step, Seen); 1] = [(Next, Some((8, 12)))];
+
+const AT_ITS_END: [(Step, Seen); 4] = [
+    (Next, None),
+    (Get, None),
+    (NextBack, None),
+    (GetBack, Some((4, 6))),
+];
+
+/// The first step of each of these that tells something else.
+fn within_and_beyond(tree: &TreeIndex<u64, u64>) -> [Option<usize>; 3] {
+    let mut range = tree.range(Bound::Included(&3), Bound::Included(&4));
+    let within = first_other_within(&mut range, &WITHIN);
+    let beyond = first_other_step(&mut Iter::from(range.clone()), &BEYOND);
+    [within, beyond, first_other_within(&mut range, &AT_ITS_END)]
 }
 
 #[test]
 fn a_range_keeps_to_its_bounds(rt: HostRuntime) {
-    let tree = tree_of(rt.alloc(), &[(1, 2), (2, 3), (4, 6), (8, 12)]);
-    let mut range = tree.range(Bound::Included(&3), Bound::Included(&4));
-    walk_within(
-        &rt,
-        &mut range,
-        &[(Next, Some((4, 6))), (Get, Some((4, 6)))],
-    );
-    let mut iter = Iter::from(range.clone());
-    walk(&rt, &mut iter, &[(Next, Some((8, 12)))]);
-    let rows = [
-        (Next, None),
-        (Get, None),
-        (NextBack, None),
-        (GetBack, Some((4, 6))),
-    ];
-    walk_within(&rt, &mut range, &rows);
+    assert!(rt; within_and_beyond(&tree_of(rt.alloc(), &DOUBLING)) == [None; 3]);
+}
+
+/// How many pairs at most are taken from 2 on, and how many come.
+const TAKEN: [(usize, usize); 4] = [(0, 0), (2, 2), (3, 3), (9, 3)];
+
+/// The place of the first row of which another number comes.
+fn first_other_count(tree: &TreeIndex<u64, u64>) -> Option<usize> {
+    for at in 0..TAKEN.len() {
+        let (count, given) = TAKEN[at];
+        let range = tree.range(Bound::Included(&2), Bound::Unbounded);
+        if range.take(count).count() != given {
+            return Some(at);
+        }
+    }
+    None
+}
+
+/// Two steps of a cursor that gives one pair, and one behind all pairs.
+fn taken_one(tree: &TreeIndex<u64, u64>) -> [Seen; 3] {
+    let mut first = tree.iter().take(1);
+    let mut beyond = tree.range(Bound::Excluded(&8), Bound::Unbounded).take(1);
+    [read(first.next()), read(first.next()), read(beyond.next())]
 }
 
 #[test]
-fn a_cursor_gives_no_more_pairs_than_are_taken(rt: HostRuntime) -> Result<(), Fail> {
-    let tree = tree_of(rt.alloc(), &[(1, 2), (2, 3), (4, 6), (8, 12)]);
-    for (count, given) in [(0usize, 0usize), (2, 2), (3, 3), (9, 3)] {
-        let range = tree.range(Bound::Included(&2), Bound::Unbounded);
-        assert_eq!(rt; range.take(count).count(), given);
-    }
-    let mut first = tree.iter().take(1);
-    assert_eq!(rt; first.next(), Some((&1, &2)));
-    assert!(rt; first.next().is_none());
-    let mut beyond = tree.range(Bound::Excluded(&8), Bound::Unbounded).take(1);
-    assert!(rt; beyond.next().is_none());
-    Ok(())
+fn a_cursor_gives_no_more_pairs_than_are_taken(rt: HostRuntime) {
+    let tree = tree_of(rt.alloc(), &DOUBLING);
+    let found = (first_other_count(&tree), taken_one(&tree));
+    assert!(rt; found == (None, [Some((1, 2)), None, None]));
 }
+
+const NINE: [(u64, u64); 9] = [
+    (1, 1),
+    (2, 2),
+    (3, 3),
+    (4, 4),
+    (5, 5),
+    (6, 6),
+    (7, 7),
+    (8, 8),
+    (9, 9),
+];
+
+const COUNTS: [(Call, Told); 4] = [
+    (
+        CountWithin(Bound::Included(1), Bound::Excluded(1)),
+        Number(0),
+    ),
+    (
+        CountWithin(Bound::Included(4), Bound::Excluded(8)),
+        Number(4),
+    ),
+    (
+        CountWithin(Bound::Included(4), Bound::Included(8)),
+        Number(5),
+    ),
+    (CountWithin(Bound::Excluded(4), Bound::Unbounded), Number(5)),
+];
 
 #[test]
 fn an_excluded_bound_is_left_out(rt: HostRuntime) {
-    let pairs = [
-        (1, 1),
-        (2, 2),
-        (3, 3),
-        (4, 4),
-        (5, 5),
-        (6, 6),
-        (7, 7),
-        (8, 8),
-        (9, 9),
-    ];
-    let none = CountWithin(Bound::Included(1), Bound::Excluded(1));
-    let rows = [
-        (none, Number(0)),
-        (
-            CountWithin(Bound::Included(4), Bound::Excluded(8)),
-            Number(4),
-        ),
-        (
-            CountWithin(Bound::Included(4), Bound::Included(8)),
-            Number(5),
-        ),
-        (CountWithin(Bound::Excluded(4), Bound::Unbounded), Number(5)),
-    ];
-    play(&rt, &mut tree_of(rt.alloc(), &pairs), &rows);
+    play_on(&rt, rt.alloc(), &NINE, &COUNTS);
 }
 
 /// An end of the plain machine.
@@ -331,17 +360,23 @@ fn goes_alike(tree: &TreeIndex<u64, u64>, pairs: &[(u64, u64)], seed: &mut u64) 
     alike
 }
 
+/// Whether ten random ranges of a random tree do so.
+fn all_go_alike(alloc: Global, round: u64, seed: &mut u64) -> Result<bool, AllocError> {
+    let tree = thinned(alloc, round, seed);
+    let pairs = listed(alloc, &tree)?;
+    let mut alike = true;
+    for _ in 0..10u32 {
+        alike = goes_alike(&tree, &pairs, seed) && alike;
+    }
+    Ok(alike)
+}
+
 #[test]
-fn random_steps_answer_as_the_plain_machine(rt: HostRuntime) -> Result<(), Fail> {
+fn random_steps_answer_as_the_plain_machine(rt: HostRuntime) {
     let mut seed = 11u64;
     for round in 0..60u64 {
-        let tree = thinned(rt.alloc(), round, &mut seed);
-        let pairs = listed(rt.alloc(), &tree)?;
-        for _ in 0..10u32 {
-            assert!(rt; goes_alike(&tree, &pairs, &mut seed));
-        }
+        assert!(rt; all_go_alike(rt.alloc(), round, &mut seed) == Ok(true));
     }
-    Ok(())
 }
 
 /// Where a key stands: 0 at its pair, 1 between two, 2 behind all, 3 before all, 4 in a tree without pairs; and
@@ -356,19 +391,32 @@ fn stands(tree: &TreeIndex<u64, u64>, key: u64) -> (u8, Seen, Seen) {
     }
 }
 
+const ODD: [(u64, u64); 4] = [(1, 1), (3, 2), (5, 3), (7, 4)];
+
+const PLACES: [(u64, (u8, Seen, Seen)); 4] = [
+    (2, (1, Some((1, 1)), Some((3, 2)))),
+    (5, (0, Some((5, 3)), None)),
+    (8, (2, None, Some((7, 4)))),
+    (0, (3, Some((1, 1)), None)),
+];
+
+/// The place of the first row whose key stands somewhere else.
+fn first_other_place(tree: &TreeIndex<u64, u64>) -> Option<usize> {
+    for at in 0..PLACES.len() {
+        let (key, place) = PLACES[at];
+        if stands(tree, key) != place {
+            return Some(at);
+        }
+    }
+    None
+}
+
 #[test]
 fn locate_finds_a_pair_or_its_neighbours(rt: HostRuntime) {
-    let mut tree = tree_of(rt.alloc(), &[(1, 1), (3, 2), (5, 3), (7, 4)]);
-    for (key, place) in [
-        (2u64, (1u8, Some((1u64, 1u64)), Some((3u64, 2u64)))),
-        (5, (0, Some((5, 3)), None)),
-        (8, (2, None, Some((7, 4)))),
-        (0, (3, Some((1, 1)), None)),
-    ] {
-        assert!(rt; stands(&tree, key) == place);
-    }
-    play(&rt, &mut tree, &[(Clear, Done)]);
-    assert!(rt; stands(&tree, 3) == (4, None, None));
+    let mut tree = tree_of(rt.alloc(), &ODD);
+    let other = first_other_place(&tree);
+    let cleared = make(&mut tree, Clear) == Done;
+    assert!(rt; cleared && (other, stands(&tree, 3)) == (None, (4, None, None)));
 }
 
 /// What the steps of a cursor tell that stands between two pairs.
@@ -386,6 +434,6 @@ fn between(tree: &TreeIndex<u64, u64>, key: u64) -> [Seen; 4] {
 
 #[test]
 fn a_cursor_between_two_pairs_goes_over_them(rt: HostRuntime) {
-    let tree = tree_of(rt.alloc(), &[(1, 1), (3, 2), (5, 3), (7, 4)]);
-    assert!(rt; between(&tree, 2) == [None, Some((3, 2)), None, Some((1, 1))]);
+    let told = between(&tree_of(rt.alloc(), &ODD), 2);
+    assert!(rt; told == [None, Some((3, 2)), None, Some((1, 1))]);
 }

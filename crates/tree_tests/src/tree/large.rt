@@ -1,10 +1,10 @@
 //! Trees of many pairs, which a tree that stops taking pairs doesn't pass.
 
-use super::calls::Call::{Count, Len, RemoveRange};
-use super::calls::Told::{Done, Number};
-use super::calls::{fill, holds, play, val_of};
+use super::calls::Call::{Count, Fill, Holds, Lacks, Len, RemoveRange};
+use super::calls::Told::{Done, Is, Number};
+use super::calls::{Call, Told, on_a_tree, val_of};
+use std::alloc::{AllocError, Global};
 use std::ops::Bound;
-use std::test::Fail;
 use tree_index::TreeIndex;
 
 /// A key for each number, in no order and none twice: the factor is odd.
@@ -35,42 +35,43 @@ fn has_all(tree: &TreeIndex<u64, u64>, count: u64) -> bool {
 #[test]
 fn a_million_pairs_are_inserted_and_found(rt: HostRuntime) {
     let mut tree: TreeIndex<u64, u64> = TreeIndex::new(rt.alloc());
-    assert!(rt; fill_in_no_order(&mut tree, 1000000) && has_all(&tree, 1000000));
-    assert!(rt; tree.len() == 1000000 && tree.iter().count() == 1000000 && tree.depth() < 7);
+    let taken = fill_in_no_order(&mut tree, 1000000);
+    let found = (taken, tree.len(), tree.iter().count(), tree.depth() < 7);
+    assert!(rt; found == (true, 1000000, 1000000, true) && has_all(&tree, 1000000));
+}
+
+/// How many pairs a clone has, whether it has all, is equal, loses one of them, and is another then.
+fn cloned(alloc: Global, tree: &TreeIndex<u64, u64>) -> Result<(usize, [bool; 4]), AllocError> {
+    let mut copy = tree.clone(alloc)?;
+    let len = copy.len();
+    let all = has_all(&copy, 100000);
+    let same = copy == *tree;
+    let removed = copy.remove_sync(&key_of(99999));
+    Ok((len, [all, same, removed, copy != *tree]))
 }
 
 #[test]
-fn a_hundred_thousand_pairs_are_cloned(rt: HostRuntime) -> Result<(), Fail> {
+fn a_hundred_thousand_pairs_are_cloned(rt: HostRuntime) {
     let mut tree: TreeIndex<u64, u64> = TreeIndex::new(rt.alloc());
-    assert!(rt; fill_in_no_order(&mut tree, 100000));
-    let mut copy = tree.clone(rt.alloc())?;
-    assert!(rt; copy.len() == 100000 && has_all(&copy, 100000) && copy == tree);
-    assert!(rt; copy.remove_sync(&key_of(99999)) && copy != tree && tree.len() == 100000);
-    Ok(())
+    let taken = fill_in_no_order(&mut tree, 100000);
+    let found = cloned(rt.alloc(), &tree);
+    assert!(rt; found == Ok((100000, [true; 4])) && taken && tree.len() == 100000);
 }
 
-/// Whether none of the keys from one on up to below another is there.
-fn lacks(tree: &TreeIndex<u64, u64>, first: u64, last: u64) -> bool {
-    let mut absent = true;
-    for key in first..last {
-        absent = !tree.contains(&key) && absent;
-    }
-    absent
-}
+const WITHOUT_A_RANGE: [(Call, Told); 7] = [
+    (Fill(0, 100000), Is(true)),
+    (
+        RemoveRange(Bound::Included(1000), Bound::Excluded(99000)),
+        Done,
+    ),
+    (Len, Number(2000)),
+    (Count, Number(2000)),
+    (Holds(0, 1000), Is(true)),
+    (Holds(99000, 100000), Is(true)),
+    (Lacks(1000, 99000), Is(true)),
+];
 
 #[test]
 fn a_range_of_a_hundred_thousand_pairs_is_removed(rt: HostRuntime) {
-    let mut tree: TreeIndex<u64, u64> = TreeIndex::new(rt.alloc());
-    assert!(rt; fill(&mut tree, 0, 100000));
-    let rows = [
-        (
-            RemoveRange(Bound::Included(1000), Bound::Excluded(99000)),
-            Done,
-        ),
-        (Len, Number(2000)),
-        (Count, Number(2000)),
-    ];
-    play(&rt, &mut tree, &rows);
-    assert!(rt; holds(&tree, 0, 1000) && holds(&tree, 99000, 100000));
-    assert!(rt; lacks(&tree, 1000, 99000));
+    on_a_tree(&rt, rt.alloc(), &WITHOUT_A_RANGE);
 }

@@ -32,11 +32,13 @@ fn entry_over_leaves(tree: &TreeIndex<u64, u64>, key: u64) -> Option<Seen> {
 #[test]
 fn a_tree_without_nodes_has_no_root(rt: HostRuntime) {
     let mut tree = evens(rt.alloc(), 0);
-    assert!(rt; tree.root().is_none() && tree.insert_sync(4, 5).is_ok());
-    assert!(rt; entry_over_leaves(&tree, 4) == Some(Some((4, 5))));
-    assert!(rt; entry_over_leaves(&tree, 3) == Some(None));
+    let new = tree.root().is_none();
+    let taken = tree.insert_sync(4, 5).is_ok();
+    let pairs = [entry_over_leaves(&tree, 4), entry_over_leaves(&tree, 3)];
     tree.clear();
-    assert!(rt; tree.root().is_none());
+    let cleared = tree.root().is_none();
+    assert!(rt; new && taken && cleared);
+    assert!(rt; pairs == [Some(Some((4, 5))), Some(None)]);
 }
 
 /// How many nodes lie on the way to a key, where each lends this pair, or none.
@@ -61,19 +63,25 @@ fn way_to(tree: &TreeIndex<u64, u64>, key: u64, wanted: Seen) -> Option<usize> {
     Some(nodes)
 }
 
-#[test]
-fn a_key_is_read_at_the_root_and_at_each_node_on_the_way(rt: HostRuntime) {
-    let tree = evens(rt.alloc(), 4000);
-    assert!(rt; tree.len() == 4000 && tree.depth() >= 2);
+/// Whether each key up to 8000 is read at as many nodes as the tree has levels: the even ones below 8000, and no others.
+fn reads_on_the_way(tree: &TreeIndex<u64, u64>) -> bool {
+    let mut as_said = true;
     for key in 0..8001u64 {
-        let there = key % 2 == 0 && key < 8000;
-        let wanted = if there {
+        let wanted = if key % 2 == 0 && key < 8000 {
             Some((key, key.wrapping_add(1)))
         } else {
             None
         };
-        assert!(rt; way_to(&tree, key, wanted) == Some(tree.depth()));
+        as_said = way_to(tree, key, wanted) == Some(tree.depth()) && as_said;
     }
+    as_said
+}
+
+#[test]
+fn a_key_is_read_at_the_root_and_at_each_node_on_the_way(rt: HostRuntime) {
+    let tree = evens(rt.alloc(), 4000);
+    let (len, high) = (tree.len(), tree.depth() >= 2);
+    assert!(rt; (len, high, reads_on_the_way(&tree)) == (4000, true, true));
 }
 
 /// The pairs of two keys at the child of the root for a third one, and that of the second at the root.
@@ -103,25 +111,34 @@ fn next_or_jump<'l>(pairs: &mut Iter<'l, u64, u64>, tree: &'l TreeIndex<u64, u64
     }
 }
 
+/// Removes the keys from 40 to 158, so that the leaves between those of 0 and of 198 have no pairs, and tells whether
+/// each was there.
+fn loses_the_middle(tree: &mut TreeIndex<u64, u64>) -> bool {
+    let mut there = true;
+    for i in 20..80u64 {
+        let key = i.wrapping_mul(2);
+        there = lose(tree, key, key.wrapping_add(1)) && there;
+    }
+    there
+}
+
+/// Whether a cursor goes from the first leaf through the keys that are left, and then ends.
+fn jumps_over(tree: &TreeIndex<u64, u64>) -> Option<bool> {
+    let mut pairs = Iter::new(leaf_at(tree, 0)?);
+    let mut as_said = true;
+    for i in 0..100u64 {
+        if i < 20 || 80 <= i {
+            let key = i.wrapping_mul(2);
+            let seen = next_or_jump(&mut pairs, tree);
+            as_said = seen == Some((key, key.wrapping_add(1))) && as_said;
+        }
+    }
+    Some(next_or_jump(&mut pairs, tree) == None && as_said)
+}
+
 #[test]
 fn cursors_jump_from_a_leaf_of_a_tree_to_the_next(rt: HostRuntime) {
     let mut tree = evens(rt.alloc(), 100);
-    // the leaves between those of 0 and of 198 have no pairs
-    for i in 20..80u64 {
-        assert!(rt;
-            lose(
-                &mut tree,
-                i.wrapping_mul(2),
-                i.wrapping_mul(2).wrapping_add(1)
-            )
-        );
-    }
-    let mut pairs = Iter::new(leaf_at(&rt, &tree, 0));
-    for i in 0..100u64 {
-        if i < 20 || 80 <= i {
-            let wanted = (i.wrapping_mul(2), i.wrapping_mul(2).wrapping_add(1));
-            assert!(rt; next_or_jump(&mut pairs, &tree) == Some(wanted));
-        }
-    }
-    assert!(rt; next_or_jump(&mut pairs, &tree) == None);
+    let lost = loses_the_middle(&mut tree);
+    assert!(rt; lost && jumps_over(&tree) == Some(true));
 }

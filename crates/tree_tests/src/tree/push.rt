@@ -1,10 +1,10 @@
 //! Pairs that come by rising keys, each put behind the last one.
 
-use super::calls::Call::{Count, Insert, Len, Peek};
+use super::calls::Call::{Insert, Len, Peek};
 use super::calls::Told::{Done, Number, Val};
-use super::calls::{make, play, read};
+use super::calls::{Call, Told, first_other, make, read};
 use super::leaf_at;
-use std::process::Abort;
+use std::alloc::{AllocError, Global};
 use std::test::Fail;
 use tree_index::TreeIndex;
 
@@ -31,11 +31,19 @@ fn pairs_are_put_behind_the_last_one(rt: HostRuntime) -> Result<(), Fail> {
     let first = tree.push_last(10, "ten").is_ok();
     let second = tree.push_last(20, "twenty").is_ok();
     let third = tree.push_last(30, "thirty").is_ok();
-    assert!(rt; (depth, first, second, third) == (0, true, true, true));
-    assert!(rt; tree.len() == 3 && tree.peek(&20) == Some(&"twenty"));
-    assert!(rt; ends(&tree) == (Some((10, "ten")), Some((30, "thirty"))));
+    let (len, twenty) = (tree.len(), tree.peek(&20).copied());
+    let (least, greatest) = ends(&tree);
+    assert!(rt; first && second && third && depth == 0 && len == 3);
+    assert!(rt; twenty == Some("twenty"));
+    assert!(rt; least == Some((10, "ten")) && greatest == Some((30, "thirty")));
     Ok(())
 }
+
+const PUSHED: [(Call, Told); 3] = [
+    (Len, Number(2)),
+    (Peek(4), Val(Some(40))),
+    (Peek(5), Val(None)),
+];
 
 #[test]
 fn a_tree_that_was_emptied_takes_pairs_behind_its_last_one(rt: HostRuntime) {
@@ -44,13 +52,8 @@ fn a_tree_that_was_emptied_takes_pairs_behind_its_last_one(rt: HostRuntime) {
     tree.clear();
     let second = tree.push_last(4, 40).is_ok();
     let third = tree.push_last(6, 60).is_ok();
-    assert!(rt; first && second && third);
-    let rows = [
-        (Len, Number(2)),
-        (Peek(4), Val(Some(40))),
-        (Peek(5), Val(None)),
-    ];
-    play(&rt, &mut tree, &rows);
+    let other = first_other(&mut tree, &PUSHED);
+    assert!(rt; first && second && third && other.is_none());
 }
 
 /// A tree of so many keys below 300, in no order and none twice: 337 and 300 have no common divisor.
@@ -63,25 +66,26 @@ fn fill(tree: &mut TreeIndex<u64, u64>, count: u64) -> bool {
 }
 
 /// How many pairs the first leaf has, if there is a pair.
-fn first_leaf<R: Abort>(rt: &R, tree: &TreeIndex<u64, u64>) -> Option<usize> {
+fn first_leaf(tree: &TreeIndex<u64, u64>) -> Option<usize> {
     let (key, _) = read(tree.iter().next())?;
-    Some(leaf_at(rt, tree, key).array.len())
+    Some(leaf_at(tree, key)?.array.len())
+}
+
+/// Whether a copy of a tree of so many pairs is equal, by its walk too, has the least depth, and a full first leaf.
+fn is_copied(alloc: Global, tree: &TreeIndex<u64, u64>) -> Result<bool, AllocError> {
+    let copy = tree.clone(alloc)?;
+    let len = tree.len();
+    let same = copy == *tree && copy.iter().count() == len;
+    let depth = if len > 240 { 2 } else { 1 };
+    let full = copy.depth() == depth && first_leaf(&copy) == Some(len.min(15));
+    Ok(same && (full || len == 0))
 }
 
 #[test]
-fn copies_of_every_size_have_full_leaves(rt: HostRuntime) -> Result<(), Fail> {
+fn copies_of_every_size_have_full_leaves(rt: HostRuntime) {
     for count in 0..300u64 {
         let mut tree: TreeIndex<u64, u64> = TreeIndex::new(rt.alloc());
         let taken = fill(&mut tree, count);
-        let mut copy = tree.clone(rt.alloc())?;
-        let len = tree.len();
-        assert!(rt; taken && copy == tree && make(&mut copy, Count) == Number(len));
-        if count > 0 {
-            let depth = if count > 240 { 2 } else { 1 };
-            assert!(rt;
-                copy.depth() == depth && first_leaf(&rt, &copy) == Some(copy.len().min(15))
-            );
-        }
+        assert!(rt; taken && is_copied(rt.alloc(), &tree) == Ok(true));
     }
-    Ok(())
 }

@@ -6,111 +6,123 @@ use super::calls::Told::{Done, Duplicate, NoMemory};
 use super::calls::{holds, make, val_of};
 use super::stirred;
 use std::alloc::Global;
-use std::process::Abort;
 use tree_index::TreeIndex;
 
-/// Inserts a pair, again where memory was refused; tells whether it was, and whether all is as it has to be:
-/// nothing had changed then.
-fn insert(tree: &mut TreeIndex<u64, u64>, key: u64) -> (bool, bool) {
-    let before = (tree.depth(), tree.len());
-    let told = make(tree, Insert(key, !key));
-    if told == Done {
-        return (false, true);
-    }
-    let kept = (tree.depth(), tree.len()) == before && val_of(tree, key).is_none();
-    let as_said = told == NoMemory(key, !key) && kept;
-    (true, as_said && make(tree, Upsert(key, !key)) == Done)
+/// What a run met: whether memory was refused, and whether all was as it has to be.
+#[derive(Clone, Copy, PartialEq, Eq)]
+struct Met {
+    refusal: bool,
+    as_said: bool,
 }
 
-/// Whether an allocation was refused while a tree grew.
-fn grows<R: Abort>(rt: &R, alloc: Global) -> bool {
-    let mut met = false;
+/// Inserts a pair, again where memory was refused: nothing had changed then.
+fn insert(tree: &mut TreeIndex<u64, u64>, key: u64, met: &mut Met) {
+    let before = (tree.depth(), tree.len());
+    let told = make(tree, Insert(key, !key));
+    if told != Done {
+        let kept = (tree.depth(), tree.len()) == before && val_of(tree, key).is_none();
+        let again = make(tree, Upsert(key, !key)) == Done;
+        met.refusal = true;
+        met.as_said = told == NoMemory(key, !key) && kept && again && met.as_said;
+    }
+}
+
+const NOTHING: Met = Met {
+    refusal: false,
+    as_said: true,
+};
+
+/// Whether so many keys in no order are there, each with its complement.
+fn has_all(tree: &TreeIndex<u64, u64>, count: u32) -> bool {
+    let mut there = true;
+    let mut key = 1u64;
+    for _ in 0..count {
+        key = stirred(key);
+        there = val_of(tree, key) == Some(!key) && there;
+    }
+    there
+}
+
+/// What a tree meets that grows.
+fn grows(alloc: Global) -> Met {
+    let mut met = NOTHING;
     let mut tree: TreeIndex<u64, u64> = TreeIndex::new(alloc);
     let mut key = 1u64;
     for _ in 0..700u32 {
         key = stirred(key);
-        let (refused, as_said) = insert(&mut tree, key);
-        assert!(rt; as_said);
-        met = met || refused;
+        insert(&mut tree, key, &mut met);
     }
-    assert!(rt; tree.len() == 700);
-    key = 1;
-    for _ in 0..700u32 {
-        key = stirred(key);
-        assert!(rt; val_of(&tree, key) == Some(!key));
-    }
+    met.as_said = tree.len() == 700 && has_all(&tree, 700) && met.as_said;
     met
 }
 
-/// Inserts the keys below a number, and tells whether memory was refused.
-fn fills<R: Abort>(rt: &R, tree: &mut TreeIndex<u64, u64>, last: u64) -> bool {
-    let mut met = false;
+/// Inserts the keys below a number.
+fn fills(tree: &mut TreeIndex<u64, u64>, last: u64, met: &mut Met) {
     for key in 0..last {
-        let (refused, as_said) = insert(tree, key);
-        assert!(rt; as_said);
-        met = met || refused;
+        insert(tree, key, met);
+    }
+}
+
+/// What a tree meets that is cloned.
+fn clones(alloc: Global) -> Met {
+    let mut met = NOTHING;
+    let mut tree: TreeIndex<u64, u64> = TreeIndex::new(alloc);
+    fills(&mut tree, 100, &mut met);
+    match tree.clone(alloc) {
+        Ok(copy) => met.as_said = copy == tree && met.as_said,
+        Err(_) => {
+            met.refusal = true;
+            met.as_said = tree.len() == 100 && holds(&tree, 0, 100) && met.as_said;
+        },
     }
     met
 }
 
-/// Whether an allocation was refused while a tree was cloned.
-fn clones<R: Abort>(rt: &R, alloc: Global) -> bool {
-    let mut tree: TreeIndex<u64, u64> = TreeIndex::new(alloc);
-    let met = fills(rt, &mut tree, 100);
-    match tree.clone(alloc) {
-        Ok(copy) => {
-            assert!(rt; copy == tree);
-            met
-        },
-        Err(_) => {
-            assert!(rt; tree.len() == 100 && holds(&tree, 0, 100));
-            true
-        },
+/// Whether the keys below 15 are duplicates, and are written over.
+fn repeats_all(tree: &mut TreeIndex<u64, u64>) -> bool {
+    let mut as_said = true;
+    for key in 0..15u64 {
+        let repeated = make(tree, Insert(key, key)) == Duplicate(key, key);
+        as_said = make(tree, Upsert(key, key)) == Done && repeated && as_said;
     }
+    as_said
 }
 
-/// Whether an allocation was refused while a leaf was filled, whose keys are duplicates then, and whose pairs are
-/// written over.
-fn repeats<R: Abort>(rt: &R, alloc: Global) -> bool {
+/// What a leaf meets that is filled, whose keys are duplicates then, and whose pairs are written over.
+fn repeats(alloc: Global) -> Met {
+    let mut met = NOTHING;
     let mut tree: TreeIndex<u64, u64> = TreeIndex::new(alloc);
-    let met = fills(rt, &mut tree, 15);
-    for key in 0..15u64 {
-        assert!(rt; make(&mut tree, Insert(key, key)) == Duplicate(key, key));
-        assert!(rt; make(&mut tree, Upsert(key, key)) == Done);
-    }
-    assert!(rt; tree.len() == 15);
+    fills(&mut tree, 15, &mut met);
+    met.as_said = repeats_all(&mut tree) && tree.len() == 15 && met.as_said;
     met
 }
 
 #[test]
 fn a_refusal_of_memory_hides_no_duplicate(rt: HostRuntime) {
-    let _met = repeats(&rt, rt.alloc());
+    assert!(rt; repeats(rt.alloc()).as_said);
 }
 
 #[test]
 fn no_memory_is_refused_to_a_full_leaf(rt: HostRuntime) {
-    let met = repeats(&rt, rt.alloc());
-    assert!(rt; !met);
+    assert!(rt; repeats(rt.alloc()) == NOTHING);
 }
 
 #[test]
 fn a_refusal_of_memory_changes_nothing(rt: HostRuntime) {
-    let _met = grows(&rt, rt.alloc());
+    assert!(rt; grows(rt.alloc()).as_said);
 }
 
 #[test]
 fn a_refusal_of_memory_to_a_clone_leaves_the_tree(rt: HostRuntime) {
-    let _met = clones(&rt, rt.alloc());
+    assert!(rt; clones(rt.alloc()).as_said);
 }
 
 #[test]
 fn no_memory_is_refused_to_a_clone(rt: HostRuntime) {
-    let met = clones(&rt, rt.alloc());
-    assert!(rt; !met);
+    assert!(rt; clones(rt.alloc()) == NOTHING);
 }
 
 #[test]
 fn no_memory_is_refused_to_a_growing_tree(rt: HostRuntime) {
-    let met = grows(&rt, rt.alloc());
-    assert!(rt; !met);
+    assert!(rt; grows(rt.alloc()) == NOTHING);
 }

@@ -1,26 +1,25 @@
 //! Removal of ranges by example, and beside a map of std.
 
-use super::calls::Call::{Contains, Len, RemoveRange};
+use super::calls::Call::{Contains, Fill, Len, RemoveRange};
 use super::calls::Told::{Done, Is, Number};
-use super::calls::{fill, make, play, val_of};
+use super::calls::{Call, Told, fill, make, on_a_tree, val_of};
 use super::stirred;
-use std::alloc::Global;
+use std::alloc::{AllocError, Global};
 use std::collections::BTreeMap;
 use std::ops::Bound;
-use std::test::Fail;
 use tree_index::TreeIndex;
+
+const EDGES: [(Call, Told); 5] = [
+    (Fill(1, 8), Is(true)),
+    (RemoveRange(Bound::Included(3), Bound::Excluded(8)), Done),
+    (Contains(2), Is(true)),
+    (Contains(3), Is(false)),
+    (Len, Number(2)),
+];
 
 #[test]
 fn a_range_is_removed_and_its_edges_are_kept(rt: HostRuntime) {
-    let mut tree = TreeIndex::new(rt.alloc());
-    assert!(rt; fill(&mut tree, 1, 8));
-    let rows = [
-        (RemoveRange(Bound::Included(3), Bound::Excluded(8)), Done),
-        (Contains(2), Is(true)),
-        (Contains(3), Is(false)),
-        (Len, Number(2)),
-    ];
-    play(&rt, &mut tree, &rows);
+    on_a_tree(&rt, rt.alloc(), &EDGES);
 }
 
 /// Whether a range that is removed leaves the keys outside alone, of the keys from 1 to 13.
@@ -86,21 +85,46 @@ fn is_alike(
     alike && tree.len() == map.len() && tree.iter().count() == map.len()
 }
 
-#[test]
-fn random_ranges_leave_what_they_leave_of_a_map(rt: HostRuntime) -> Result<(), Fail> {
-    let mut tree = TreeIndex::new(rt.alloc());
-    let mut map = BTreeMap::new(rt.alloc());
-    let mut seed = 5u64;
-    for _ in 0..60u32 {
-        for _ in 0..80u32 {
-            seed = stirred(seed);
-            let _ = tree.upsert_sync((seed >> 33) % 400, seed >> 8);
-            map.insert((seed >> 33) % 400, seed >> 8)?;
-        }
-        seed = stirred(seed);
-        let (lower, upper) = (bound_of(seed >> 20), bound_of(seed >> 42));
-        let removed = make(&mut tree, RemoveRange(lower, upper));
-        assert!(rt; removed == Done && is_alike(&tree, &mut map, lower, upper));
+/// Upserts eighty random keys below 400 in a tree and in a map.
+fn stir_both(
+    tree: &mut TreeIndex<u64, u64>,
+    map: &mut BTreeMap<u64, u64>,
+    seed: &mut u64,
+) -> Result<(), AllocError> {
+    for _ in 0..80u32 {
+        *seed = stirred(*seed);
+        let _ = tree.upsert_sync((*seed >> 33) % 400, *seed >> 8);
+        map.insert((*seed >> 33) % 400, *seed >> 8)?;
     }
     Ok(())
+}
+
+/// Removes a random range from a tree and from a map, and tells whether they then have the same pairs.
+fn lose_alike(
+    tree: &mut TreeIndex<u64, u64>,
+    map: &mut BTreeMap<u64, u64>,
+    seed: &mut u64,
+) -> bool {
+    *seed = stirred(*seed);
+    let (lower, upper) = (bound_of(*seed >> 20), bound_of(*seed >> 42));
+    let removed = make(tree, RemoveRange(lower, upper)) == Done;
+    is_alike(tree, map, lower, upper) && removed
+}
+
+/// Whether so many rounds of upserts and of a removal leave the same.
+fn go_alike(alloc: Global, rounds: u32) -> Result<bool, AllocError> {
+    let mut tree = TreeIndex::new(alloc);
+    let mut map = BTreeMap::new(alloc);
+    let mut seed = 5u64;
+    let mut alike = true;
+    for _ in 0..rounds {
+        stir_both(&mut tree, &mut map, &mut seed)?;
+        alike = lose_alike(&mut tree, &mut map, &mut seed) && alike;
+    }
+    Ok(alike)
+}
+
+#[test]
+fn random_ranges_leave_what_they_leave_of_a_map(rt: HostRuntime) {
+    assert!(rt; go_alike(rt.alloc(), 60) == Ok(true));
 }
