@@ -25,11 +25,10 @@ fn one_of_two_owners_is_given_back(rt: HostRuntime) {
     let mut w = numbers(&rt, rt.alloc(), 1, 0);
     let first = shared_item(&rt, &mut w, 5);
     let second = cloned(&rt, &mut w, &first);
-    let last = dropped(&rt, &mut w, first);
-    assert!(rt; !last && w.slots_in_use() == 1);
-    let last = dropped(&rt, &mut w, second);
-    assert!(rt; last && w.slots_in_use() == 0);
+    let one = (dropped(&rt, &mut w, first), w.slots_in_use());
+    let both = (dropped(&rt, &mut w, second), w.slots_in_use());
     end(&rt, w);
+    assert!(rt; one == (false, 1) && both == (true, 0));
 }
 
 /// Ends an item in place, or gives the owner back while a guard is open.
@@ -52,8 +51,8 @@ fn what_waits_waits_on(rt: HostRuntime) {
     }
     let used = w.slots_in_use();
     let later = (used_after(&rt, &mut w, 0, 3), used_after(&rt, &mut w, 0, 1));
-    assert!(rt; (used, later) == (1, (1, 0)));
     end(&rt, w);
+    assert!(rt; used == 1 && later == (1, 0));
 }
 
 /// The owner that comes back, since a guard is open.
@@ -71,10 +70,11 @@ fn no_owned_item_is_dropped_under_a_guard(rt: HostRuntime) {
     let owned = owned_item(&rt, &mut w, 5);
     let told = drop_owned(&rt, &mut w, owned);
     let owned = kept_owned(&rt, told);
-    assert!(rt; owned_value(&rt, &w, &owned) == 5);
+    let value = owned_value(&rt, &w, &owned);
     give_owned(&rt, &mut w, owned);
     close(&rt, &mut w, guard);
     end(&rt, w);
+    assert!(rt; value == 5);
 }
 
 /// An owner whose item isn't dropped, since a guard is open.
@@ -94,10 +94,11 @@ fn no_shared_item_is_dropped_under_a_guard(rt: HostRuntime) {
     let guard = guarded(&rt, &mut w, 1);
     let shared = shared_item(&rt, &mut w, 6);
     let shared = kept_shared(&rt, &mut w, shared);
-    assert!(rt; value_of(&rt, &w, &shared) == 6);
+    let value = value_of(&rt, &w, &shared);
     give_shared(&rt, &mut w, shared);
     close(&rt, &mut w, guard);
     end(&rt, w);
+    assert!(rt; value == 6);
 }
 
 /// Writes the value of an item with one owner, where it is lent.
@@ -122,9 +123,10 @@ fn an_owned_value_is_written(rt: HostRuntime) {
     let mut w = numbers(&rt, rt.alloc(), 1, 0);
     let owned = owned_item(&rt, &mut w, 5);
     let written = written_owned(&rt, &mut w, &owned, 7).is_ok();
-    assert!(rt; written && owned_value(&rt, &w, &owned) == 7);
+    let value = owned_value(&rt, &w, &owned);
     give_owned(&rt, &mut w, owned);
     end(&rt, w);
+    assert!(rt; written && value == 7);
 }
 
 /// Writes the value of an item, where it is lent.
@@ -152,10 +154,10 @@ fn a_shared_value_is_written_by_its_one_owner(rt: HostRuntime) {
     let refused = written(&rt, &mut w, &first, 6) == Err(NotLent::NotSole);
     let last = was_last(&rt, &mut w, second);
     let done = written(&rt, &mut w, &first, 7) == Ok(());
-    assert!(rt; (refused, last, done) == (true, false, true));
-    assert!(rt; value_of(&rt, &w, &first) == 7);
+    let value = value_of(&rt, &w, &first);
     give_shared(&rt, &mut w, first);
     end(&rt, w);
+    assert!(rt; refused && !last && done && value == 7);
 }
 
 /// Writes the value that a cell of this owner keeps, where it is lent, and tells the one before.
@@ -189,9 +191,9 @@ fn a_value_is_written_by_the_cell_that_owns_it_alone(rt: HostRuntime) {
     let open = w.has_open_guard();
     let shared = shared_item(&rt, &mut w, 5);
     let (cell, told) = written_by_cell(&rt, &mut w, shared, 7);
-    assert!(rt; !open && told == Ok(5));
     end_shared_cell(&rt, &mut w, cell);
     end(&rt, w);
+    assert!(rt; !open && told == Ok(5));
 }
 
 #[test]
@@ -200,10 +202,11 @@ fn no_value_is_written_by_a_cell_beside_other_owners(rt: HostRuntime) {
     let first = shared_item(&rt, &mut w, 5);
     let second = cloned(&rt, &mut w, &first);
     let (cell, told) = written_by_cell(&rt, &mut w, second, 7);
-    assert!(rt; told == Err(NotLent::NotSole) && value_of(&rt, &w, &first) == 5);
+    let value = value_of(&rt, &w, &first);
     give_shared(&rt, &mut w, first);
     end_shared_cell(&rt, &mut w, cell);
     end(&rt, w);
+    assert!(rt; told == Err(NotLent::NotSole) && value == 5);
 }
 
 #[test]
@@ -213,10 +216,10 @@ fn no_value_is_written_by_a_cell_under_a_guard(rt: HostRuntime) {
     let open = w.has_open_guard();
     let shared = shared_item(&rt, &mut w, 5);
     let (cell, told) = written_by_cell(&rt, &mut w, shared, 7);
-    assert!(rt; open && told == Err(NotLent::GuardsOpen));
     close(&rt, &mut w, guard);
     end_shared_cell(&rt, &mut w, cell);
     end(&rt, w);
+    assert!(rt; open && told == Err(NotLent::GuardsOpen));
 }
 
 #[test]
@@ -225,11 +228,13 @@ fn nothing_is_written_under_a_guard(rt: HostRuntime) {
     let guard = guarded(&rt, &mut w, 1);
     let owned = owned_item(&rt, &mut w, 5);
     let shared = shared_item(&rt, &mut w, 6);
-    assert!(rt; written_owned(&rt, &mut w, &owned, 7) == Err(GuardsOpen));
-    assert!(rt; written(&rt, &mut w, &shared, 7) == Err(NotLent::GuardsOpen));
-    assert!(rt; value_of(&rt, &w, &shared) == 6 && owned_value(&rt, &w, &owned) == 5);
+    let of_owned = written_owned(&rt, &mut w, &owned, 7);
+    let of_shared = written(&rt, &mut w, &shared, 7);
+    let values = (owned_value(&rt, &w, &owned), value_of(&rt, &w, &shared));
     give_owned(&rt, &mut w, owned);
     give_shared(&rt, &mut w, shared);
     close(&rt, &mut w, guard);
     end(&rt, w);
+    assert!(rt; of_owned == Err(GuardsOpen) && of_shared == Err(NotLent::GuardsOpen));
+    assert!(rt; values == (5, 6));
 }

@@ -7,7 +7,6 @@ use crate::common::{
 use sdd_base::{AtomicOwned, Kept, NoJob, NoSlot, Owned, Shared, Sizes, World, world};
 use std::alloc::Global;
 use std::process::Abort;
-use std::test::Fail;
 
 #[test]
 fn the_last_of_two_owners_is_told(rt: HostRuntime) {
@@ -16,8 +15,9 @@ fn the_last_of_two_owners_is_told(rt: HostRuntime) {
     let value = value_of(&rt, &w, &first);
     let second = cloned(&rt, &mut w, &first);
     let last = (was_last(&rt, &mut w, first), was_last(&rt, &mut w, second));
-    assert!(rt; (value, last, w.slots_in_use()) == (47, (false, true), 1));
+    let used = w.slots_in_use();
     end(&rt, w);
+    assert!(rt; (value, used) == (47, 1) && last == (false, true));
 }
 
 #[test]
@@ -31,17 +31,18 @@ fn a_guard_keeps_what_it_names(rt: HostRuntime) {
     let read = read_at(&rt, &w, &at);
     close(&rt, &mut w, guard);
     let after = used_after(&rt, &mut w, 1, 4);
-    assert!(rt; (under, read, after) == (1, Some(5), 0));
     end(&rt, w);
+    assert!(rt; (under, after) == (1, 0) && read == Some(5));
 }
 
 #[test]
 fn a_guard_tells_its_participant(rt: HostRuntime) {
     let mut w = numbers(&rt, rt.alloc(), 0, 0);
     let guard = guarded(&rt, &mut w, 1);
-    assert!(rt; guard.participant() == 1);
+    let participant = guard.participant();
     close(&rt, &mut w, guard);
     end(&rt, w);
+    assert!(rt; participant == 1);
 }
 
 /// The value that a refused item gives back.
@@ -96,12 +97,13 @@ fn refusals_give_the_value_back(rt: HostRuntime) {
     let owned = owned_back(&rt, world::owned::new(&mut w, 2));
     let shared = shared_back(&rt, world::shared::new(&mut w, 3));
     let back = cell_back(&rt, world::atomic_owned::new(&mut w, 4));
-    assert!(rt; (owned, shared, back) == (2, 3, 4));
     let cell = kept_in_a_cell(&rt, &mut w, first);
-    assert!(rt; is_no_cell_free(&rt, &mut w) && w.slots_in_use() == 1);
+    let full = is_no_cell_free(&rt, &mut w);
+    let used = w.slots_in_use();
     end_owned_cell(&rt, &mut w, cell);
-    assert!(rt; used_after(&rt, &mut w, 0, 4) == 0);
+    let after = used_after(&rt, &mut w, 0, 4);
     end(&rt, w);
+    assert!(rt; (owned, shared, back) == (2, 3, 4) && full && (used, after) == (1, 0));
 }
 
 /// Whether an item is refused as no slot is free, and how often its closure was asked for the value then.
@@ -120,8 +122,9 @@ fn refused_with<R: Abort>(rt: &R, w: &mut World<u64>) -> (bool, u32) {
 #[test]
 fn nothing_is_made_where_no_slot_is_free(rt: HostRuntime) {
     let mut w = numbers(&rt, rt.alloc(), 0, 0);
-    assert!(rt; refused_with(&rt, &mut w) == (true, 0));
+    let refused = refused_with(&rt, &mut w);
     end(&rt, w);
+    assert!(rt; refused == (true, 0));
 }
 
 /// A place without jobs, with one participant and one slot.
@@ -139,16 +142,16 @@ fn without_jobs<R: Abort>(rt: &R, alloc: Global) -> World<u64, NoJob> {
 }
 
 #[test]
-fn a_place_without_jobs_reclaims_its_items(rt: HostRuntime) -> Result<(), Fail> {
+fn a_place_without_jobs_reclaims_its_items(rt: HostRuntime) {
     let mut w = without_jobs(&rt, rt.alloc());
     let Ok(owned) = world::owned::new(&mut w, 5) else {
         panic!(rt; "a slot is free");
     };
     let value = *world::owned::as_ref(&w, &owned);
     give_owned(&rt, &mut w, owned);
-    assert!(rt; value == 5 && w.slots_in_use() == 1);
+    let used = w.slots_in_use();
     end(&rt, w);
-    Ok(())
+    assert!(rt; (value, used) == (5, 1));
 }
 
 /// A place that comes back, since something is out.
@@ -168,10 +171,11 @@ fn a_world_is_handed_back_while_something_is_out(rt: HostRuntime) {
     let guard = guarded(&rt, &mut w, 0);
     let mut w = handed_back(&rt, w);
     let used = w.slots_in_use();
-    assert!(rt; used == 2 && owned_value(&rt, &w, &owned) == 5);
+    let value = owned_value(&rt, &w, &owned);
     give_owned(&rt, &mut w, owned);
     close(&rt, &mut w, guard);
     end(&rt, w);
+    assert!(rt; used == 2 && value == 5);
 }
 
 /// A new item, with what its owner reads while it is kept.
@@ -191,7 +195,10 @@ fn a_kept_owner_reads_its_item_and_is_given_back(rt: HostRuntime) {
     let (owner, read) = kept(&rt, &mut w, 47);
     let under = w.free_slots();
     let last = was_last(&rt, &mut w, owner);
-    assert!(rt; (read, under, last, w.free_slots()) == (47, 1, true, 1));
-    assert!(rt; used_after(&rt, &mut w, 0, 4) == 0 && w.free_slots() == 2);
+    let given = w.free_slots();
+    let used = used_after(&rt, &mut w, 0, 4);
+    let reclaimed = w.free_slots();
     end(&rt, w);
+    assert!(rt; read == 47 && last && used == 0);
+    assert!(rt; [under, given, reclaimed] == [1, 1, 2]);
 }

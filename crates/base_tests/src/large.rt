@@ -3,27 +3,29 @@
 
 use crate::common::{
     close, close_all, end, end_owned_cell, end_raw_cell, end_shared_cell, give_all_owned,
-    give_all_shared, give_owned, give_shared,
+    give_all_shared, give_owned, give_shared, guarded,
 };
 use sdd_base::{
     AtomicOwned, AtomicRaw, AtomicShared, NoJob, NoSlot, Owned, PrivateCollector, RawPtr, Shared,
     Sizes, World, WorldGuard, world,
 };
-use std::alloc::{AllocError, Global};
+use std::alloc::Global;
 use std::process::Abort;
-use std::test::Fail;
 
 const MANY: usize = 1_000_000;
 
 /// An empty place with three participants, in which there are a million of each other thing.
-fn large(alloc: Global) -> Result<World<u64, NoJob>, AllocError> {
+fn large<R: Abort>(rt: &R, alloc: Global) -> World<u64, NoJob> {
     let sizes = Sizes {
         participants: 3,
         slots: MANY,
         cells: MANY,
         jobs: MANY,
     };
-    World::new(alloc, sizes)
+    match World::new(alloc, sizes) {
+        Ok(w) => w,
+        Err(_) => panic!(rt; "memory is ample"),
+    }
 }
 
 /// Takes one more into a row, for which memory is ample.
@@ -42,44 +44,60 @@ fn gain<T, E, R: Abort>(rt: &R, row: &mut Vec<T>, made: Result<T, E>) {
     }
 }
 
-/// What a call on a full place has to answer: its refusal, and no success.
-fn is_refused<T, R: Abort>(rt: &R, made: Result<T, NoSlot>) {
+/// Whether a call on a full place answers its refusal. It may not succeed.
+fn is_refused<T, R: Abort>(rt: &R, made: Result<T, NoSlot>) -> bool {
     match made {
-        Err(refusal) => assert_eq!(rt; refusal, NoSlot),
+        Err(refusal) => refusal == NoSlot,
         Ok(_) => panic!(rt; "nothing is free"),
     }
 }
 
 /// The same where the value comes back.
-fn comes_back<T, R: Abort>(rt: &R, made: Result<T, u64>) {
+fn comes_back<T, R: Abort>(rt: &R, made: Result<T, u64>) -> bool {
     match made {
-        Err(value) => assert_eq!(rt; value, 5),
+        Err(value) => value == 5,
         Ok(_) => panic!(rt; "nothing is free"),
     }
 }
 
 #[test]
-fn a_million_slots_are_taken(rt: HostRuntime) -> Result<(), Fail> {
-    let mut w = large(rt.alloc())?;
+fn a_million_slots_are_taken(rt: HostRuntime) {
+    let mut w = large(&rt, rt.alloc());
     let mut owned: Vec<Owned<u64>> = Vec::new(rt.alloc());
     let mut shared: Vec<Shared<u64>> = Vec::new(rt.alloc());
     for _ in 0..MANY / 4 {
-        gain(&rt, &mut owned, world::owned::new(&mut w, 1));
-        gain(&rt, &mut owned, world::owned::new_with(&mut w, || 2u64));
-        gain(&rt, &mut shared, world::shared::new(&mut w, 3));
-        gain(&rt, &mut shared, world::shared::new_with(&mut w, || 4u64));
+        four_more(&rt, &mut w, &mut owned, &mut shared);
     }
-    assert_eq!(rt; (w.slots_in_use(), w.free_slots()), (MANY, 0));
-    comes_back(&rt, world::owned::new(&mut w, 5));
-    is_refused(&rt, world::owned::new_with(&mut w, || 5u64));
-    comes_back(&rt, world::shared::new(&mut w, 5));
-    is_refused(&rt, world::shared::new_with(&mut w, || 5u64));
-    comes_back(&rt, world::atomic_owned::new(&mut w, 5));
-    comes_back(&rt, world::atomic_shared::new(&mut w, 5));
+    let sizes = (w.slots_in_use(), w.free_slots());
+    let refused = refuses_items(&rt, &mut w);
     give_all_owned(&rt, &mut w, owned);
     give_all_shared(&rt, &mut w, shared);
     end(&rt, w);
-    Ok(())
+    assert!(rt; sizes == (MANY, 0) && refused);
+}
+
+/// Four more items, one by each call that makes some.
+fn four_more<R: Abort>(
+    rt: &R,
+    w: &mut World<u64, NoJob>,
+    owned: &mut Vec<Owned<u64>>,
+    shared: &mut Vec<Shared<u64>>,
+) {
+    gain(rt, owned, world::owned::new(w, 1));
+    gain(rt, owned, world::owned::new_with(w, || 2u64));
+    gain(rt, shared, world::shared::new(w, 3));
+    gain(rt, shared, world::shared::new_with(w, || 4u64));
+}
+
+/// Whether each call that makes an item is refused.
+fn refuses_items<R: Abort>(rt: &R, w: &mut World<u64, NoJob>) -> bool {
+    let owned = comes_back(rt, world::owned::new(w, 5));
+    let owned_with = is_refused(rt, world::owned::new_with(w, || 5u64));
+    let shared = comes_back(rt, world::shared::new(w, 5));
+    let shared_with = is_refused(rt, world::shared::new_with(w, || 5u64));
+    let kept = comes_back(rt, world::atomic_owned::new(w, 5));
+    let kept_shared = comes_back(rt, world::atomic_shared::new(w, 5));
+    owned && owned_with && shared && shared_with && kept && kept_shared
 }
 
 /// Cells of each kind in hand.
@@ -143,8 +161,8 @@ fn end_all<R: Abort>(rt: &R, w: &mut World<u64, NoJob>, row: Row) {
 }
 
 #[test]
-fn a_million_cells_are_taken(rt: HostRuntime) -> Result<(), Fail> {
-    let mut w = large(rt.alloc())?;
+fn a_million_cells_are_taken(rt: HostRuntime) {
+    let mut w = large(&rt, rt.alloc());
     let guard = open_last(&rt, &mut w);
     let mut row = Row {
         owned: Vec::new(rt.alloc()),
@@ -154,28 +172,28 @@ fn a_million_cells_are_taken(rt: HostRuntime) -> Result<(), Fail> {
     for _ in 0..MANY / 10 {
         ten_more(&rt, &mut w, &mut row, &guard);
     }
-    is_refused(&rt, world::atomic_owned::null(&mut w));
-    comes_back(&rt, world::atomic_owned::new(&mut w, 5));
-    is_refused(&rt, world::atomic_shared::null(&mut w));
-    comes_back(&rt, world::atomic_shared::new(&mut w, 5));
-    is_refused(&rt, world::atomic_raw::null(&mut w));
-    is_refused(&rt, world::atomic_raw::new(&mut w, RawPtr::null()));
+    let refused = refuses_cells(&rt, &mut w);
     end_all(&rt, &mut w, row);
     close(&rt, &mut w, guard);
     end(&rt, w);
-    Ok(())
+    assert!(rt; refused);
+}
+
+/// Whether each call that makes a cell is refused.
+fn refuses_cells<R: Abort>(rt: &R, w: &mut World<u64, NoJob>) -> bool {
+    let owned = is_refused(rt, world::atomic_owned::null(w));
+    let kept = comes_back(rt, world::atomic_owned::new(w, 5));
+    let shared = is_refused(rt, world::atomic_shared::null(w));
+    let kept_shared = comes_back(rt, world::atomic_shared::new(w, 5));
+    let raw = is_refused(rt, world::atomic_raw::null(w));
+    let named = is_refused(rt, world::atomic_raw::new(w, RawPtr::null()));
+    owned && kept && shared && kept_shared && raw && named
 }
 
 /// A guard of the last participant.
 fn open_last<R: Abort>(rt: &R, w: &mut World<u64, NoJob>) -> WorldGuard {
-    let last = w.participants();
-    if last == 0 {
-        panic!(rt; "there is a participant");
-    }
-    match world::guard::new(w, last - 1) {
-        Ok(guard) => guard,
-        Err(_) => panic!(rt; "few guards are open"),
-    }
+    let last = w.participants().saturating_sub(1);
+    guarded(rt, w, last)
 }
 
 /// One more job, which the place takes or hands back.
@@ -187,37 +205,36 @@ fn defer<R: Abort>(rt: &R, w: &mut World<u64, NoJob>, guard: &WorldGuard) -> boo
 }
 
 #[test]
-fn a_million_jobs_wait(rt: HostRuntime) -> Result<(), Fail> {
-    let mut w = large(rt.alloc())?;
+fn a_million_jobs_wait(rt: HostRuntime) {
+    let mut w = large(&rt, rt.alloc());
     let guard = open_last(&rt, &mut w);
     let mut all = true;
     for _ in 0..MANY {
         all = defer(&rt, &mut w, &guard) && all;
     }
-    assert!(rt; all);
-    assert!(rt; !defer(&rt, &mut w, &guard));
+    let another = defer(&rt, &mut w, &guard);
     close(&rt, &mut w, guard);
     end(&rt, w);
-    Ok(())
+    assert!(rt; all && !another);
 }
 
 #[test]
-fn a_hundred_thousand_guards_nest(rt: HostRuntime) -> Result<(), Fail> {
-    let mut w = large(rt.alloc())?;
+fn a_hundred_thousand_guards_nest(rt: HostRuntime) {
+    let mut w = large(&rt, rt.alloc());
     let mut guards: Vec<WorldGuard> = Vec::new(rt.alloc());
     for _ in 0..MANY / 10 {
         let guard = open_last(&rt, &mut w);
         keep(&rt, &mut guards, guard);
     }
-    assert!(rt; w.has_open_guard());
+    let open = w.has_open_guard();
     close_all(&rt, &mut w, guards);
-    assert!(rt; !w.has_open_guard());
+    let closed = !w.has_open_guard();
     match world::private_collector::new(rt.alloc(), &w) {
         Ok(collector) => hand_over(&rt, &mut w, collector),
         Err(_) => panic!(rt; "memory is ample"),
     }
     end(&rt, w);
-    Ok(())
+    assert!(rt; open && closed);
 }
 
 /// Ends a collector.
@@ -230,8 +247,8 @@ fn hand_over<R: Abort>(rt: &R, w: &mut World<u64, NoJob>, collector: PrivateColl
 
 /// A hundred thousand owners of one item, more of them by each call that gives one.
 #[test]
-fn a_hundred_thousand_owners_are_counted(rt: HostRuntime) -> Result<(), Fail> {
-    let mut w = large(rt.alloc())?;
+fn a_hundred_thousand_owners_are_counted(rt: HostRuntime) {
+    let mut w = large(&rt, rt.alloc());
     let guard = open_last(&rt, &mut w);
     let first = match world::shared::new(&mut w, 7) {
         Ok(first) => first,
@@ -239,20 +256,31 @@ fn a_hundred_thousand_owners_are_counted(rt: HostRuntime) -> Result<(), Fail> {
     };
     let mut owners: Vec<Shared<u64>> = Vec::new(rt.alloc());
     for _ in 0..MANY / 20 {
-        if !world::shared::is_here(&w, &first) {
-            panic!(rt; "it has an owner");
-        }
-        keep_some(&rt, &mut owners, world::shared::clone(&mut w, &first));
-        let at = world::shared::get_guarded_ptr(&first, &guard);
-        keep_some(&rt, &mut owners, world::ptr::get_shared(&mut w, at));
+        two_more(&rt, &mut w, &mut owners, &first, &guard);
     }
-    assert_eq!(rt; owners.len(), MANY / 10);
+    let len = owners.len();
     give_all_shared(&rt, &mut w, owners);
-    assert_eq!(rt; w.slots_in_use(), 1);
+    let used = w.slots_in_use();
     close(&rt, &mut w, guard);
     give_shared(&rt, &mut w, first);
     end(&rt, w);
-    Ok(())
+    assert!(rt; (len, used) == (MANY / 10, 1));
+}
+
+/// Two more owners of an item, one by each call that gives one.
+fn two_more<R: Abort>(
+    rt: &R,
+    w: &mut World<u64, NoJob>,
+    owners: &mut Vec<Shared<u64>>,
+    first: &Shared<u64>,
+    guard: &WorldGuard,
+) {
+    if !world::shared::is_here(w, first) {
+        panic!(rt; "it has an owner");
+    }
+    keep_some(rt, owners, world::shared::clone(w, first));
+    let at = world::shared::get_guarded_ptr(first, guard);
+    keep_some(rt, owners, world::ptr::get_shared(w, at));
 }
 
 /// Takes an owner that a call gave, since the count isn't at its end.
@@ -264,33 +292,31 @@ fn keep_some<R: Abort>(rt: &R, row: &mut Vec<Shared<u64>>, owner: Option<Shared<
 }
 
 #[test]
-fn a_million_participants_open_guards(rt: HostRuntime) -> Result<(), Fail> {
+fn a_million_participants_open_guards(rt: HostRuntime) {
     let sizes = Sizes {
         participants: MANY,
         slots: 1,
         cells: 0,
         jobs: 0,
     };
-    let mut w: World<u64, NoJob> = World::new(rt.alloc(), sizes)?;
+    let mut w: World<u64, NoJob> = match World::new(rt.alloc(), sizes) {
+        Ok(w) => w,
+        Err(_) => panic!(rt; "memory is ample"),
+    };
     let owned = match world::owned::new(&mut w, 7) {
         Ok(owned) => owned,
         Err(_) => panic!(rt; "a slot is free"),
     };
     let mut guards: Vec<WorldGuard> = Vec::new(rt.alloc());
     for p in 0..MANY {
-        if p >= w.participants() {
-            panic!(rt; "there are a million of them");
-        }
-        match world::guard::new(&mut w, p) {
-            Ok(guard) => keep(&rt, &mut guards, guard),
-            Err(_) => panic!(rt; "no guard of it is open"),
-        }
+        let guard = guarded(&rt, &mut w, p);
+        keep(&rt, &mut guards, guard);
     }
-    assert_eq!(rt; guards.len(), MANY);
+    let len = guards.len();
     close_all(&rt, &mut w, guards);
-    assert!(rt; !w.has_open_guard());
+    let closed = !w.has_open_guard();
     give_owned(&rt, &mut w, owned);
-    assert_eq!(rt; w.slots_in_use(), 1);
+    let used = w.slots_in_use();
     end(&rt, w);
-    Ok(())
+    assert!(rt; closed && (len, used) == (MANY, 1));
 }

@@ -66,20 +66,20 @@ fn a_job_runs_once_when_the_fourth_guard_opens(rt: HostRuntime) -> Result<(), Fa
     let another = Job::new(Box::new(rt.alloc(), refused)?);
     let mut w = with_a_job(&rt, rt.alloc());
     let first = guarded(&rt, &mut w, 0);
-    let waiting = (
-        waits(&rt, &mut w, &first, job),
-        waits(&rt, &mut w, &first, another),
-    );
-    assert!(rt; waiting == (true, false) && other.load(Ordering::SeqCst) == 1);
+    let waiting = waits(&rt, &mut w, &first, job);
+    let run_at_once = !waits(&rt, &mut w, &first, another);
+    let refused = other.load(Ordering::SeqCst);
     close_fast(&rt, &mut w, first);
-    let passed = passes(&mut w, 0, 2);
-    assert!(rt; passed && runs.load(Ordering::SeqCst) == 0);
+    let two = passes(&mut w, 0, 2);
+    let before = runs.load(Ordering::SeqCst);
     let fourth = guarded(&rt, &mut w, 0);
-    assert!(rt; runs.load(Ordering::SeqCst) == 1);
+    let once = runs.load(Ordering::SeqCst);
     close(&rt, &mut w, fourth);
-    let passed = passes(&mut w, 0, 8);
-    assert!(rt; passed && runs.load(Ordering::SeqCst) == 1);
+    let eight = passes(&mut w, 0, 8);
     end(&rt, w);
+    let after = runs.load(Ordering::SeqCst);
+    assert!(rt; waiting && run_at_once && two && eight);
+    assert!(rt; [refused, before, once, after] == [1, 0, 1, 1]);
     Ok(())
 }
 
@@ -130,8 +130,9 @@ fn a_collector_hands_over_what_it_keeps(rt: HostRuntime) {
     close(&rt, &mut w, guard);
     hand_over(&rt, &mut w, collector, 0);
     let back = given_back(&rt, world::owned::new(&mut w, 6));
-    assert!(rt; (back, used_after(&rt, &mut w, 0, 4)) == (6, 0));
+    let used = used_after(&rt, &mut w, 0, 4);
     end(&rt, w);
+    assert!(rt; (back, used) == (6, 0));
 }
 
 /// Collects an owner under a guard.
@@ -171,9 +172,9 @@ fn a_later_collect_reclaims_what_three_raises_let_go(rt: HostRuntime) {
         used[n] = collect_one(&rt, &mut w, &mut collector);
     }
     hand_over(&rt, &mut w, collector, 1);
-    assert!(rt; used == [1, 2, 3, 3, 3]);
-    assert!(rt; used_after(&rt, &mut w, 1, 4) == 0);
+    let after = used_after(&rt, &mut w, 1, 4);
     end(&rt, w);
+    assert!(rt; used == [1, 2, 3, 3, 3] && after == 0);
 }
 
 /// The epoch of a new guard, and whether its participant has garbage; the guard is closed.
@@ -193,9 +194,11 @@ fn the_64th_closing_scans_where_something_was_retired(rt: HostRuntime) {
     let mut w = numbers(&rt, rt.alloc(), 1, 0);
     let owned = owned_item(&rt, &mut w, 5);
     retire(&rt, &mut w, owned, 0);
+    let mut alike = true;
     for _ in 0..64 {
-        assert!(rt; opened(&rt, &mut w, 0) == (0, true));
+        alike = opened(&rt, &mut w, 0) == (0, true) && alike;
     }
-    assert!(rt; opened(&rt, &mut w, 1) == (1, false));
+    let other = opened(&rt, &mut w, 1);
     end(&rt, w);
+    assert!(rt; alike && other == (1, false));
 }
