@@ -227,14 +227,16 @@ fn take_apart<const N: usize>(
 fn a_bag_is_taken_apart(rt: HostRuntime) {
     let mut w = place_of(&rt, rt.alloc(), 3, 5);
     let bag = new_bag::<_, 1>(&rt, rt.alloc(), &mut w);
-    assert!(rt; world::bag::push(&mut w, &bag, 1).is_ok());
-    assert!(rt; world::bag::push(&mut w, &bag, 2).is_ok());
+    let one = world::bag::push(&mut w, &bag, 1);
+    let two = world::bag::push(&mut w, &bag, 2);
     let iter = world::bag::into_iter(&w, bag);
-    assert!(rt; take_apart(&mut w, &iter) == Some(2));
-    assert!(rt; take_apart(&mut w, &iter) == Some(1));
-    assert!(rt; take_apart(&mut w, &iter) == None);
+    let first = take_apart(&mut w, &iter);
+    let second = take_apart(&mut w, &iter);
+    let third = take_apart(&mut w, &iter);
     world::into_iter::retire(&mut w, iter, 0);
     end(&rt, w);
+    assert!(rt; one.is_ok() && two.is_ok());
+    assert!(rt; [first, second, third] == [Some(2), Some(1), None]);
 }
 
 /// The next of a run of numbers, each far from the one before.
@@ -353,8 +355,9 @@ fn bag_call<R: Abort>(
     } else {
         pop_call(rt, w, bag, primary, overflow);
     }
-    assert!(rt; world::bag::len(w, bag) == primary.len().saturating_add(overflow.len()));
-    assert!(rt; world::bag::is_empty(w, bag) == (primary.is_empty() && overflow.is_empty()));
+    let empty = primary.is_empty() && overflow.is_empty();
+    let alike = world::bag::len(w, bag) == primary.len().saturating_add(overflow.len());
+    assert!(rt; alike && world::bag::is_empty(w, bag) == empty);
 }
 
 #[test]
@@ -377,9 +380,9 @@ fn a_bag_is_two_multisets(rt: HostRuntime) {
             seed,
         );
     }
-    assert!(rt; room == 0);
     world::bag::retire(&mut w, bag, 0);
     end(&rt, w);
+    assert!(rt; room == 0);
 }
 
 #[test]
@@ -389,27 +392,31 @@ fn values_become_a_bag(rt: HostRuntime) {
         Ok(bag) => bag,
         _ => panic!(rt; "there is room"),
     };
-    assert!(rt; world::bag::len(&w, &bag) == 5);
-    let (third, fourth, fifth) = (pop(&mut w, &bag), pop(&mut w, &bag), pop(&mut w, &bag));
-    assert!(rt; third.is_some() && fourth.is_some() && fifth.is_some());
-    assert!(rt; pop(&mut w, &bag) == Some(1));
-    assert!(rt; pop(&mut w, &bag) == Some(2));
-    assert!(rt; pop(&mut w, &bag) == None);
+    let len = world::bag::len(&w, &bag);
+    let third = pop(&mut w, &bag);
+    let fourth = pop(&mut w, &bag);
+    let fifth = pop(&mut w, &bag);
+    let first = pop(&mut w, &bag);
+    let second = pop(&mut w, &bag);
+    let none = pop(&mut w, &bag);
     world::bag::retire(&mut w, bag, 0);
     end(&rt, w);
+    assert!(rt; len == 5 && third.is_some() && fourth.is_some() && fifth.is_some());
+    assert!(rt; [first, second, none] == [Some(1), Some(2), None]);
 }
 
 #[test]
 fn a_bag_without_room_hands_back_what_was_built(rt: HostRuntime) {
     let mut w = place_of(&rt, rt.alloc(), 3, 9);
-    match world::bag::from_iter::<u64, _, 2, _>(rt.alloc(), &mut w, 1..6) {
+    let found = match world::bag::from_iter::<u64, _, 2, _>(rt.alloc(), &mut w, 1..6) {
         Err(FromIterRefused::NoSlot(bag, value)) => {
-            assert!(rt; value == 4);
-            assert!(rt; world::bag::len(&w, &bag) == 3);
-            assert!(rt; pop(&mut w, &bag) == Some(3));
+            let len = world::bag::len(&w, &bag);
+            let last = pop(&mut w, &bag);
             world::bag::retire(&mut w, bag, 0);
+            (value, len, last)
         }
         _ => panic!(rt; "three slots are free"),
-    }
+    };
     end(&rt, w);
+    assert!(rt; found == (4, 3, Some(3)));
 }

@@ -51,17 +51,18 @@ fn an_entry_is_written_and_cloned(rt: HostRuntime) {
     let Ok(copy) = world::linked_entry::clone(&mut w, &entry) else {
         panic!(rt; "a cell is free");
     };
-    assert!(rt; copy == entry);
-    assert!(rt; (*entry.as_ref(), *copy.as_ref()) == (7, 7));
-    match world::linked_entry::clone(&mut w, &entry) {
+    let same = copy == entry;
+    let values = (*entry.as_ref(), *copy.as_ref());
+    let refused = match world::linked_entry::clone(&mut w, &entry) {
         Ok(_) => panic!(rt; "no cell is free"),
-        Err(refused) => assert_eq!(rt; refused, NotMade::NoSlot),
-    }
+        Err(refused) => refused,
+    };
     write(&mut entry, 8);
-    assert!(rt; copy != entry);
+    let differs = copy != entry;
     retire(&rt, &mut w, entry);
     retire(&rt, &mut w, copy);
     end(&rt, w);
+    assert!(rt; same && differs && values == (7, 7) && refused == NotMade::NoSlot);
 }
 
 /// A new entry, given to the place.
@@ -133,19 +134,21 @@ fn put_behind_deleted<R: Abort>(rt: &R, w: &mut World<LinkedEntry<u64>>, guard: 
 fn an_entry_comes_back_from_behind_a_deleted_one(rt: HostRuntime) {
     let mut w = place_of(&rt, rt.alloc(), 2, 4);
     let guard = guarded(&rt, &mut w);
-    assert!(rt; put_behind_deleted(&rt, &mut w, &guard) == 2);
+    let back = put_behind_deleted(&rt, &mut w, &guard);
     close(&rt, &mut w, guard);
     end(&rt, w);
+    assert!(rt; back == 2);
 }
 
 #[test]
 fn an_entry_is_put_behind_another(rt: HostRuntime) {
     let mut w = place_of(&rt, rt.alloc(), 4, 6);
     let guard = guarded(&rt, &mut w);
-    assert!(rt; put_behind(&rt, &mut w, true, &guard) == (2, true));
-    assert!(rt; put_behind(&rt, &mut w, false, &guard) == (2, false));
+    let marked = put_behind(&rt, &mut w, true, &guard);
+    let clear = put_behind(&rt, &mut w, false, &guard);
     close(&rt, &mut w, guard);
     end(&rt, w);
+    assert!(rt; marked == (2, true) && clear == (2, false));
 }
 
 #[test]
@@ -154,11 +157,11 @@ fn an_entry_is_made_where_a_cell_is_free(rt: HostRuntime) {
     let Ok(entry) = world::linked_entry::new(&mut w, 5) else {
         panic!(rt; "a cell is free");
     };
-    assert!(rt; *entry.as_ref() == 5);
-    match world::linked_entry::new(&mut w, 6) {
+    let value = *entry.as_ref();
+    let back = match world::linked_entry::new(&mut w, 6) {
         Ok(_) => panic!(rt; "the cell is taken"),
-        Err(back) => assert_eq!(rt; back, 6),
-    }
+        Err(back) => back,
+    };
     match place::shared::new(&mut w, entry) {
         Ok(owner) => {
             place::shared::release(&mut w, owner, 0);
@@ -166,4 +169,5 @@ fn an_entry_is_made_where_a_cell_is_free(rt: HostRuntime) {
         Err(_) => panic!(rt; "a slot is free"),
     }
     end(&rt, w);
+    assert!(rt; (value, back) == (5, 6));
 }

@@ -17,9 +17,8 @@ use sdd::refusal::{CloneRefused, FromIterRefused, NotMade};
 use sdd::stack::Stack;
 use sdd::world;
 use sdd_base::world::World;
-use std::alloc::AllocError;
+use std::alloc::{AllocError, Global};
 use std::process::Abort;
-use std::test::Fail;
 
 /// A number that can't be cloned where it is 3.
 #[derive(Drop)]
@@ -134,15 +133,16 @@ fn values_become_a_queue(rt: HostRuntime) {
         Ok(queue) => queue,
         _ => panic!(rt; "there is room"),
     };
-    assert!(rt; three_of_queue(&w, &queue) == (Some(1), Some(2), Some(3)));
-    assert!(rt; append(&mut w, &queue, 4).is_ok());
-    assert!(rt; world::queue::len(&w, &queue) == 4);
+    let three = three_of_queue(&w, &queue);
+    let appended = append(&mut w, &queue, 4);
+    let len = world::queue::len(&w, &queue);
     world::queue::retire(&mut w, queue, 0);
     queue_round(&rt, &mut w, 0);
     queue_round(&rt, &mut w, 1);
     queue_round(&rt, &mut w, 17);
     queue_round(&rt, &mut w, 100);
     end(&rt, w);
+    assert!(rt; three == (Some(1), Some(2), Some(3)) && appended.is_ok() && len == 4);
 }
 
 #[test]
@@ -152,67 +152,87 @@ fn values_become_a_stack(rt: HostRuntime) {
         Ok(stack) => stack,
         _ => panic!(rt; "there is room"),
     };
-    assert!(rt; three_of_stack(&w, &stack) == (Some(3), Some(2), Some(1)));
-    assert!(rt; push(&mut w, &stack, 4).is_ok());
-    assert!(rt; world::stack::len(&w, &stack) == 4);
+    let three = three_of_stack(&w, &stack);
+    let pushed = push(&mut w, &stack, 4);
+    let len = world::stack::len(&w, &stack);
     world::stack::retire(&mut w, stack, 0);
     stack_round(&rt, &mut w, 0);
     stack_round(&rt, &mut w, 1);
     stack_round(&rt, &mut w, 17);
     stack_round(&rt, &mut w, 100);
     end(&rt, w);
+    assert!(rt; three == (Some(3), Some(2), Some(1)) && pushed.is_ok() && len == 4);
+}
+
+/// Three values of a container, or fewer.
+type Three = (Option<u64>, Option<u64>, Option<u64>);
+
+/// The value that a queue of 1 to 4 has no slot for, and what was built of it.
+fn built_queue<R: Abort>(rt: &R, alloc: Global) -> (u64, Three) {
+    let mut w = place_of(rt, alloc, 2, 5);
+    let found = match world::queue::from_iter(&mut w, 1..5) {
+        Err(FromIterRefused::NoSlot(queue, value)) => {
+            let three = three_of_queue(&w, &queue);
+            world::queue::retire(&mut w, queue, 0);
+            (value, three)
+        }
+        Err(FromIterRefused::Unmade(_, _)) => panic!(rt; "two cells are free"),
+        Ok(_) => panic!(rt; "two slots are free"),
+    };
+    end(rt, w);
+    found
+}
+
+/// The value that a stack of 1 to 4 has no cell for, and what was built of it.
+fn built_stack<R: Abort>(rt: &R, alloc: Global) -> (u64, Three) {
+    let mut w = place_of(rt, alloc, 5, 3);
+    let found = match world::stack::from_iter(&mut w, 1..5) {
+        Err(FromIterRefused::NoSlot(stack, value)) => {
+            let three = three_of_stack(&w, &stack);
+            world::stack::retire(&mut w, stack, 0);
+            (value, three)
+        }
+        Err(FromIterRefused::Unmade(_, _)) => panic!(rt; "a cell is free"),
+        Ok(_) => panic!(rt; "two cells are free for entries"),
+    };
+    end(rt, w);
+    found
 }
 
 #[test]
 fn values_without_room_hand_back_what_was_built(rt: HostRuntime) {
-    let mut w = place_of(&rt, rt.alloc(), 2, 5);
-    match world::queue::from_iter(&mut w, 1..5) {
-        Err(FromIterRefused::NoSlot(queue, value)) => {
-            assert!(rt; value == 3);
-            assert!(rt; three_of_queue(&w, &queue) == (Some(1), Some(2), None));
-            world::queue::retire(&mut w, queue, 0);
-        }
-        Err(FromIterRefused::Unmade(_, _)) => panic!(rt; "two cells are free"),
-        Ok(_) => panic!(rt; "two slots are free"),
-    }
-    end(&rt, w);
-    let mut w = place_of(&rt, rt.alloc(), 5, 3);
-    match world::stack::from_iter(&mut w, 1..5) {
-        Err(FromIterRefused::NoSlot(stack, value)) => {
-            assert!(rt; value == 3);
-            assert!(rt; three_of_stack(&w, &stack) == (Some(2), Some(1), None));
-            world::stack::retire(&mut w, stack, 0);
-        }
-        Err(FromIterRefused::Unmade(_, _)) => panic!(rt; "a cell is free"),
-        Ok(_) => panic!(rt; "two cells are free for entries"),
-    }
-    end(&rt, w);
+    let queue = built_queue(&rt, rt.alloc());
+    let stack = built_stack(&rt, rt.alloc());
+    assert!(rt; queue == (3, (Some(1), Some(2), None)));
+    assert!(rt; stack == (3, (Some(2), Some(1), None)));
 }
 
 #[test]
 fn values_come_back_where_nothing_is_made(rt: HostRuntime) {
     let mut w = place_of(&rt, rt.alloc(), 2, 1);
-    match world::queue::from_iter(&mut w, 1..5) {
-        Err(FromIterRefused::Unmade(refused, values)) => {
-            assert!(rt; refused == NotMade::NoSlot && values.count() == 4);
-        }
+    let queue = match world::queue::from_iter(&mut w, 1..5) {
+        Err(FromIterRefused::Unmade(refused, values)) => (refused, values.count()),
         _ => panic!(rt; "one cell is free"),
-    }
-    match world::bag::from_iter::<u64, _, 1, _>(rt.alloc(), &mut w, 1..5) {
-        Err(FromIterRefused::Unmade(refused, values)) => {
-            assert!(rt; refused == NotMade::NoSlot && values.count() == 4);
-        }
+    };
+    let bag = match world::bag::from_iter::<u64, _, 1, _>(rt.alloc(), &mut w, 1..5) {
+        Err(FromIterRefused::Unmade(refused, values)) => (refused, values.count()),
         _ => panic!(rt; "one cell is free"),
-    }
+    };
     end(&rt, w);
-    let mut w = place_of(&rt, rt.alloc(), 2, 0);
-    match world::stack::from_iter(&mut w, 1..5) {
-        Err(FromIterRefused::Unmade(refused, values)) => {
-            assert!(rt; refused == NotMade::NoSlot && values.count() == 4);
-        }
+    let stack = unmade_stack(&rt, rt.alloc());
+    let wanted = (NotMade::NoSlot, 4);
+    assert!(rt; queue == wanted && bag == wanted && stack == wanted);
+}
+
+/// Why a stack isn't made where no cell is free, and how many values come back.
+fn unmade_stack<R: Abort>(rt: &R, alloc: Global) -> (NotMade, usize) {
+    let mut w = place_of(rt, alloc, 2, 0);
+    let found = match world::stack::from_iter(&mut w, 1..5) {
+        Err(FromIterRefused::Unmade(refused, values)) => (refused, values.count()),
         _ => panic!(rt; "no cell is free"),
-    }
-    end(&rt, w);
+    };
+    end(rt, w);
+    found
 }
 
 #[test]
@@ -223,22 +243,23 @@ fn a_clone_of_a_stack_outlasts_it(rt: HostRuntime) {
         Ok(stack) => stack,
         _ => panic!(rt; "there is room"),
     };
-    assert!(rt; delete(&mut w, &stack, &guard));
-    assert!(rt; push(&mut w, &stack, 4).is_ok());
+    let deleted = delete(&mut w, &stack, &guard);
+    let pushed = push(&mut w, &stack, 4);
     let copy = match copied_stack(&mut w, stack) {
         (Some(copy), None) => copy,
         _ => panic!(rt; "there is room"),
     };
-    assert!(rt; three_of_stack(&w, &copy) == (Some(4), Some(2), Some(1)));
-    assert!(rt; world::stack::len(&w, &copy) == 3);
+    let three = three_of_stack(&w, &copy);
+    let len = world::stack::len(&w, &copy);
     world::stack::retire(&mut w, copy, 0);
     close(&rt, &mut w, guard);
     end(&rt, w);
+    assert!(rt; deleted && pushed.is_ok() && len == 3 && three == (Some(4), Some(2), Some(1)));
 }
 
-#[test]
-fn a_clone_without_room_hands_back_what_was_built(rt: HostRuntime) {
-    let mut w = place_of(&rt, rt.alloc(), 5, 10);
+/// What a clone of a queue of 1 to 3 has for which two slots are free.
+fn partly_cloned_queue<R: Abort>(rt: &R, alloc: Global) -> Three {
+    let mut w = place_of(rt, alloc, 5, 10);
     let queue = match world::queue::from_iter(&mut w, 1..4) {
         Ok(queue) => queue,
         _ => panic!(rt; "there is room"),
@@ -247,10 +268,15 @@ fn a_clone_without_room_hands_back_what_was_built(rt: HostRuntime) {
         (Some(copy), Some(NotMade::NoSlot)) => copy,
         _ => panic!(rt; "two slots are free"),
     };
-    assert!(rt; three_of_queue(&w, &copy) == (Some(1), Some(2), None));
+    let three = three_of_queue(&w, &copy);
     world::queue::retire(&mut w, copy, 0);
-    end(&rt, w);
-    let mut w = place_of(&rt, rt.alloc(), 8, 6);
+    end(rt, w);
+    three
+}
+
+/// What a clone of a stack of 1 to 3 has for which two cells are free.
+fn partly_cloned_stack<R: Abort>(rt: &R, alloc: Global) -> Three {
+    let mut w = place_of(rt, alloc, 8, 6);
     let stack = match world::stack::from_iter(&mut w, 1..4) {
         Ok(stack) => stack,
         _ => panic!(rt; "there is room"),
@@ -259,14 +285,25 @@ fn a_clone_without_room_hands_back_what_was_built(rt: HostRuntime) {
         (Some(copy), Some(NotMade::NoSlot)) => copy,
         _ => panic!(rt; "two cells are free"),
     };
-    assert!(rt; three_of_stack(&w, &copy) == (Some(3), None, None));
+    let three = three_of_stack(&w, &copy);
     world::stack::retire(&mut w, copy, 0);
-    end(&rt, w);
+    end(rt, w);
+    three
 }
 
 #[test]
-fn a_refused_clone_of_a_value_ends_a_clone(rt: HostRuntime) -> Result<(), Fail> {
-    let mut w: World<LinkedEntry<Rare>> = World::new(rt.alloc(), sizes(9, 13))?;
+fn a_clone_without_room_hands_back_what_was_built(rt: HostRuntime) {
+    let queue = partly_cloned_queue(&rt, rt.alloc());
+    let stack = partly_cloned_stack(&rt, rt.alloc());
+    assert!(rt; queue == (Some(1), Some(2), None) && stack == (Some(3), None, None));
+}
+
+#[test]
+fn a_refused_clone_of_a_value_ends_a_clone(rt: HostRuntime) {
+    let mut w: World<LinkedEntry<Rare>> = match World::new(rt.alloc(), sizes(9, 13)) {
+        Ok(w) => w,
+        Err(_) => panic!(rt; "memory is ample"),
+    };
     let values = [Rare { number: 1 }, Rare { number: 2 }, Rare { number: 3 }];
     let queue = match world::queue::from_iter(&mut w, values) {
         Ok(queue) => queue,
@@ -276,11 +313,11 @@ fn a_refused_clone_of_a_value_ends_a_clone(rt: HostRuntime) -> Result<(), Fail> 
         (Some(copy), Some(NotMade::Memory)) => copy,
         _ => panic!(rt; "the third one isn't cloned"),
     };
-    assert!(rt; world::queue::len(&w, &copy) == 2);
+    let len = world::queue::len(&w, &copy);
     world::queue::retire(&mut w, copy, 0);
     match w.close() {
         Ok(()) => {}
         Err(_) => panic!(rt; "something is left"),
     }
-    Ok(())
+    assert!(rt; len == 2);
 }

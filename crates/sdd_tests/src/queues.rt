@@ -318,7 +318,8 @@ fn a_queue_takes_two_cells(rt: HostRuntime) {
         Err(_) => {}
     }
     let stack = new_stack(&rt, &mut w);
-    assert!(rt; push(&mut w, &stack, 1) == Err(1));
+    let pushed = push(&mut w, &stack, 1);
     world::stack::retire(&mut w, stack, 0);
     end(&rt, w);
+    assert!(rt; pushed == Err(1));
 }

@@ -48,8 +48,8 @@ fn stack_call<R: Abort>(
     } else {
         assert!(rt; pop(w, stack) == list.pop());
     }
-    assert!(rt; world::stack::len(w, stack) == list.len());
-    assert!(rt; world::stack::is_empty(w, stack) == list.is_empty());
+    let len = world::stack::len(w, stack);
+    assert!(rt; len == list.len() && world::stack::is_empty(w, stack) == list.is_empty());
 }
 
 /// One call of a queue, as `seed` says, and the same of a list. `room` slots are free.
@@ -83,8 +83,8 @@ fn queue_call<R: Abort>(
         };
         assert!(rt; take(w, queue) == oldest);
     }
-    assert!(rt; world::queue::len(w, queue) == list.len());
-    assert!(rt; world::queue::is_empty(w, queue) == list.is_empty());
+    let len = world::queue::len(w, queue);
+    assert!(rt; len == list.len() && world::queue::is_empty(w, queue) == list.is_empty());
 }
 
 #[test]
@@ -98,9 +98,9 @@ fn a_stack_is_a_list_whose_end_comes_first(rt: HostRuntime) {
         seed = next(seed);
         stack_call(&rt, &mut w, &stack, &mut list, &mut room, seed);
     }
-    assert!(rt; room == 0);
     world::stack::retire(&mut w, stack, 0);
     end(&rt, w);
+    assert!(rt; room == 0);
 }
 
 #[test]
@@ -114,9 +114,9 @@ fn a_queue_is_a_list(rt: HostRuntime) {
         seed = next(seed);
         queue_call(&rt, &mut w, &queue, &mut list, &mut room, seed);
     }
-    assert!(rt; room == 0);
     world::queue::retire(&mut w, queue, 0);
     end(&rt, w);
+    assert!(rt; room == 0);
 }
 
 /// As `stack_call`, or the stack's clone in its place, as `seed` says.

@@ -568,30 +568,32 @@ fn a_walk_passes_deleted_entries(rt: HostRuntime) {
 fn all_entries_move_to_another_stack(rt: HostRuntime) {
     let mut w = place_of(&rt, rt.alloc(), 2, 4);
     let stack = new_stack(&rt, &mut w);
-    assert!(rt; push(&mut w, &stack, 1).is_ok());
-    assert!(rt; push(&mut w, &stack, 2).is_ok());
+    let first = push(&mut w, &stack, 1);
+    let second = push(&mut w, &stack, 2);
     let other = match moved(&mut w, stack) {
         Ok(other) => other,
         Err(_) => panic!(rt; "a cell is free"),
     };
-    assert!(rt; world::stack::len(&w, &other) == 2);
-    assert!(rt; pop(&mut w, &other) == Some(2));
+    let len = world::stack::len(&w, &other);
+    let front = pop(&mut w, &other);
     world::stack::retire(&mut w, other, 0);
     end(&rt, w);
+    assert!(rt; first.is_ok() && second.is_ok() && len == 2 && front == Some(2));
 }
 
 #[test]
 fn an_entry_is_popped_on_a_condition(rt: HostRuntime) {
     let mut w = place_of(&rt, rt.alloc(), 2, 4);
     let stack = new_stack(&rt, &mut w);
-    assert!(rt; push(&mut w, &stack, 5).is_ok());
+    let pushed = push(&mut w, &stack, 5);
     let yes = |entry: &LinkedEntry<u64>| *entry.as_ref() == 5;
     let owner = match world::stack::pop_if(&mut w, &stack, 0, yes) {
         Ok(Some(owner)) => owner,
         _ => panic!(rt; "the value is this one"),
     };
-    assert!(rt; world::stack::is_empty(&w, &stack));
+    let empty = world::stack::is_empty(&w, &stack);
     world::stack::retire(&mut w, stack, 0);
     give(&rt, &mut w, owner);
     end(&rt, w);
+    assert!(rt; pushed.is_ok() && empty);
 }

@@ -17,6 +17,7 @@ use sdd_base::guard::WorldGuard;
 use sdd_base::owner::Shared;
 use sdd_base::world as place;
 use sdd_base::world::World;
+use std::alloc::Global;
 use std::process::Abort;
 
 /// The first three values that a walk along a stack gives.
@@ -80,11 +81,20 @@ fn the_next_entry_is_shared(rt: HostRuntime) {
     let mut w = place_of(&rt, rt.alloc(), 4, 6);
     let guard = guarded(&rt, &mut w);
     let stack = new_stack(&rt, &mut w);
-    assert!(rt; push(&mut w, &stack, 1).is_ok());
-    assert!(rt; push(&mut w, &stack, 2).is_ok());
-    assert!(rt; second_is_shared(&rt, &mut w, stack, &guard));
+    let first = push(&mut w, &stack, 1);
+    let second = push(&mut w, &stack, 2);
+    let shared = second_is_shared(&rt, &mut w, stack, &guard);
     close(&rt, &mut w, guard);
     end(&rt, w);
+    assert!(rt; first.is_ok() && second.is_ok() && shared);
+}
+
+/// Whether two entries of 5 are written as their value.
+fn are_written(alloc: Global, one: &LinkedEntry<u64>, two: &LinkedEntry<u64>) -> bool {
+    match format!(in alloc; "{one} {two:?}") {
+        Ok(text) => text.as_str() == "5 5",
+        Err(_) => false,
+    }
 }
 
 #[test]
@@ -96,12 +106,7 @@ fn entries_are_equal_by_value(rt: HostRuntime) {
     let Ok(two) = world::linked_entry::new(&mut w, 5) else {
         panic!(rt; "a cell is free");
     };
-    assert!(rt; one == two);
-    let text = match format!(in rt.alloc(); "{one} {two:?}") {
-        Ok(text) => text,
-        Err(_) => panic!(rt; "memory"),
-    };
-    assert!(rt; text.as_str() == "5 5");
+    let (equal, written) = (one == two, are_written(rt.alloc(), &one, &two));
     match place::shared::new(&mut w, one) {
         Ok(owner) => {
             place::shared::release(&mut w, owner, 0);
@@ -115,28 +120,31 @@ fn entries_are_equal_by_value(rt: HostRuntime) {
         Err(_) => panic!(rt; "a slot is free"),
     }
     end(&rt, w);
+    assert!(rt; equal && written);
 }
 
 #[test]
 fn a_queue_is_popped_on_a_condition(rt: HostRuntime) {
     let mut w = place_of(&rt, rt.alloc(), 2, 5);
     let queue = new_queue(&rt, &mut w);
-    assert!(rt; append(&mut w, &queue, 5).is_ok());
-    assert!(rt; append(&mut w, &queue, 6).is_ok());
+    let appended_5 = append(&mut w, &queue, 5);
+    let appended_6 = append(&mut w, &queue, 6);
     let six = |entry: &LinkedEntry<u64>| *entry.as_ref() == 6;
     let refused = match world::queue::pop_if(&mut w, &queue, 0, six) {
         Err(owner) => owner,
         Ok(_) => panic!(rt; "the oldest is another"),
     };
-    assert!(rt; three_of_queue(&w, &queue) == (Some(5), Some(6), None));
+    let before = three_of_queue(&w, &queue);
     let five = |entry: &LinkedEntry<u64>| *entry.as_ref() == 5;
     let popped = match world::queue::pop_if(&mut w, &queue, 0, five) {
         Ok(Some(owner)) => owner,
         _ => panic!(rt; "the oldest is this one"),
     };
-    assert!(rt; three_of_queue(&w, &queue) == (Some(6), None, None));
+    let after = three_of_queue(&w, &queue);
     world::queue::retire(&mut w, queue, 0);
     give(&rt, &mut w, refused);
     give(&rt, &mut w, popped);
     end(&rt, w);
+    assert!(rt; appended_5.is_ok() && appended_6.is_ok());
+    assert!(rt; before == (Some(5), Some(6), None) && after == (Some(6), None, None));
 }

@@ -1,9 +1,11 @@
 //! Containers of a place that defers no jobs, by the names at the root.
 
+ghost use Rattle.std.specs.Prelude.{◌≤◌, ◌<◌, length};
+
 use sdd::{LinkedEntry, NoJob, Sizes, World, sdd_base, world};
 use sdd_base::owner::Shared;
+use std::alloc::Global;
 use std::process::Abort;
-use std::test::Fail;
 
 /// A place of numbers in lists, without jobs.
 type Place = World<LinkedEntry<u64>, NoJob>;
@@ -24,15 +26,26 @@ fn end<R: Abort>(rt: &R, w: Place) {
     }
 }
 
-#[test]
-fn a_place_without_jobs_has_a_queue(rt: HostRuntime) -> Result<(), Fail> {
+/// A place with one participant and two slots.
+fn place<R: Abort>(rt: &R, alloc: Global, cells: usize) -> Place
+    requires { cells ≤ 5 }
+    ensures { 0 < length result.participants }
+{
     let sizes = Sizes {
         participants: 1,
         slots: 2,
-        cells: 4,
+        cells,
         jobs: 0,
     };
-    let mut w: Place = World::new(rt.alloc(), sizes)?;
+    match World::new(alloc, sizes) {
+        Ok(w) => w,
+        Err(_) => panic!(rt; "memory is ample"),
+    }
+}
+
+#[test]
+fn a_place_without_jobs_has_a_queue(rt: HostRuntime) {
+    let mut w = place(&rt, rt.alloc(), 4);
     let Ok(queue) = world::queue::new(&mut w) else {
         panic!(rt; "two cells are free");
     };
@@ -42,45 +55,38 @@ fn a_place_without_jobs_has_a_queue(rt: HostRuntime) -> Result<(), Fail> {
     let Ok(second) = world::queue::push(&mut w, &queue, 6) else {
         panic!(rt; "a slot and a cell are free");
     };
-    assert_eq!(rt; world::queue::len(&w, &queue), 2);
+    let len = world::queue::len(&w, &queue);
     let popped = match world::queue::pop(&mut w, &queue, 0) {
         Some(popped) => popped,
         None => panic!(rt; "it has two values"),
     };
     let value = *sdd_base::world::shared::as_ref(&w, &popped).as_ref();
-    assert_eq!(rt; value, 5);
     world::queue::retire(&mut w, queue, 0);
     give(&rt, &mut w, first);
     give(&rt, &mut w, second);
     give(&rt, &mut w, popped);
     end(&rt, w);
-    Ok(())
+    assert!(rt; len == 2 && value == 5);
 }
 
 #[test]
-fn a_place_without_jobs_has_a_stack_and_a_bag(rt: HostRuntime) -> Result<(), Fail> {
-    let sizes = Sizes {
-        participants: 1,
-        slots: 2,
-        cells: 5,
-        jobs: 0,
-    };
-    let mut w: Place = World::new(rt.alloc(), sizes)?;
+fn a_place_without_jobs_has_a_stack_and_a_bag(rt: HostRuntime) {
+    let mut w = place(&rt, rt.alloc(), 5);
     let Ok(stack) = world::stack::new(&mut w) else {
         panic!(rt; "a cell is free");
     };
     let Ok(first) = world::stack::push(&mut w, &stack, 5) else {
         panic!(rt; "a slot and a cell are free");
     };
-    assert_eq!(rt; world::stack::len(&w, &stack), 1);
+    let stacked = world::stack::len(&w, &stack);
     world::stack::retire(&mut w, stack, 0);
     let Ok(bag) = world::bag::new::<u64, _, 1>(rt.alloc(), &mut w) else {
         panic!(rt; "two cells are free, and memory is ample");
     };
-    assert_eq!(rt; world::bag::push(&mut w, &bag, 6), Ok(()));
-    assert_eq!(rt; world::bag::len(&w, &bag), 1);
+    let pushed = world::bag::push(&mut w, &bag, 6);
+    let bagged = world::bag::len(&w, &bag);
     world::bag::retire(&mut w, bag, 0);
     give(&rt, &mut w, first);
     end(&rt, w);
-    Ok(())
+    assert!(rt; stacked == 1 && pushed.is_ok() && bagged == 1);
 }

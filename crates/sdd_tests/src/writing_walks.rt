@@ -47,22 +47,27 @@ fn raise<R: Abort, const N: usize>(
 fn each_value_is_written(rt: HostRuntime) {
     let mut w = place_of(&rt, rt.alloc(), 3, 5);
     let bag = new_bag::<_, 1>(&rt, rt.alloc(), &mut w);
-    assert!(rt; world::bag::push(&mut w, &bag, 1).is_ok());
-    assert!(rt; world::bag::push(&mut w, &bag, 2).is_ok());
-    assert!(rt; world::bag::push(&mut w, &bag, 3).is_ok());
+    let pushed_1 = world::bag::push(&mut w, &bag, 1);
+    let pushed_2 = world::bag::push(&mut w, &bag, 2);
+    let pushed_3 = world::bag::push(&mut w, &bag, 3);
     let mut seen = Vec::new(rt.alloc());
-    assert!(rt; raise(&rt, &mut w, &bag, 10, &mut seen) == 3);
-    seen.sort_unstable();
-    assert!(rt; seen.as_slice() == [1, 2, 3].as_slice());
-    assert!(rt; world::bag::len(&w, &bag) == 3);
-    let (first, second) = (pop(&mut w, &bag), pop(&mut w, &bag));
-    assert!(rt; first != second);
-    assert!(rt; first == Some(12) || first == Some(13));
-    assert!(rt; second == Some(12) || second == Some(13));
-    assert!(rt; pop(&mut w, &bag) == Some(11));
-    assert!(rt; pop(&mut w, &bag) == None);
+    let raised = raise(&rt, &mut w, &bag, 10, &mut seen);
+    let len = world::bag::len(&w, &bag);
+    let first = pop(&mut w, &bag);
+    let second = pop(&mut w, &bag);
+    let third = pop(&mut w, &bag);
+    let none = pop(&mut w, &bag);
     world::bag::retire(&mut w, bag, 0);
     end(&rt, w);
+    seen.sort_unstable();
+    assert!(rt; pushed_1.is_ok() && pushed_2.is_ok() && pushed_3.is_ok());
+    assert!(rt; (raised, len) == (3, 3) && seen.as_slice() == [1, 2, 3].as_slice());
+    assert!(rt; are_both(first, second, 12, 13) && (third, none) == (Some(11), None));
+}
+
+/// Whether two values are these, in either order.
+fn are_both(first: Option<u64>, second: Option<u64>, one: u64, other: u64) -> bool {
+    (first, second) == (Some(one), Some(other)) || (first, second) == (Some(other), Some(one))
 }
 
 /// The value that a walk gives next, which is another one then.
@@ -94,12 +99,13 @@ fn exchange<const N: usize>(
 fn a_value_is_read_and_written_through_a_walk(rt: HostRuntime) {
     let mut w = place_of(&rt, rt.alloc(), 2, 4);
     let bag = new_bag::<_, 1>(&rt, rt.alloc(), &mut w);
-    assert!(rt; world::bag::push(&mut w, &bag, 1).is_ok());
-    assert!(rt; exchange(&mut w, &bag, 5) == Some(1));
-    assert!(rt; exchange(&mut w, &bag, 6) == Some(5));
-    assert!(rt; pop(&mut w, &bag) == Some(6));
+    let pushed = world::bag::push(&mut w, &bag, 1);
+    let one = exchange(&mut w, &bag, 5);
+    let five = exchange(&mut w, &bag, 6);
+    let six = pop(&mut w, &bag);
     world::bag::retire(&mut w, bag, 0);
     end(&rt, w);
+    assert!(rt; pushed.is_ok() && [one, five, six] == [Some(1), Some(5), Some(6)]);
 }
 
 #[test]
@@ -107,11 +113,11 @@ fn an_empty_bag_lends_nothing(rt: HostRuntime) {
     let mut w = place_of(&rt, rt.alloc(), 1, 4);
     let bag = new_bag::<_, 3>(&rt, rt.alloc(), &mut w);
     let mut seen = Vec::new(rt.alloc());
-    assert!(rt; raise(&rt, &mut w, &bag, 1, &mut seen) == 0);
-    assert!(rt; seen.is_empty());
-    assert!(rt; exchange(&mut w, &bag, 5) == None);
+    let raised = raise(&rt, &mut w, &bag, 1, &mut seen);
+    let none = exchange(&mut w, &bag, 5);
     world::bag::retire(&mut w, bag, 0);
     end(&rt, w);
+    assert!(rt; raised == 0 && seen.is_empty() && none == None);
 }
 
 #[test]
@@ -122,36 +128,41 @@ fn a_full_primary_and_its_overflow_are_lent(rt: HostRuntime) {
         _ => panic!(rt; "there is room"),
     };
     let mut before = Vec::new(rt.alloc());
-    assert!(rt; raise(&rt, &mut w, &bag, 1000, &mut before) == 40);
+    let first = raise(&rt, &mut w, &bag, 1000, &mut before);
     let mut after = Vec::new(rt.alloc());
-    assert!(rt; raise(&rt, &mut w, &bag, 0, &mut after) == 40);
-    assert!(rt; world::bag::len(&w, &bag) == 40);
+    let second = raise(&rt, &mut w, &bag, 0, &mut after);
+    let len = world::bag::len(&w, &bag);
     world::bag::retire(&mut w, bag, 0);
     end(&rt, w);
     before.sort_unstable();
     after.sort_unstable();
-    assert!(rt; before.len() == 40);
-    assert!(rt; after.len() == 40);
-    for value in 0..40 {
-        assert!(rt; before.binary_search(&value) == Ok(value as usize));
-        assert!(rt; after.binary_search(&(value + 1000)) == Ok(value as usize));
+    assert!(rt; [first, second, len] == [40, 40, 40]);
+    assert!(rt; are_forty(before.as_slice(), 0) && are_forty(after.as_slice(), 1000));
+}
+
+/// Whether values are the forty from one on, in their order.
+fn are_forty(values: &[u64], first: u64) -> bool {
+    let mut as_said = values.len() == 40;
+    for at in 0..40u64 {
+        as_said = values.get(at as usize).copied() == Some(first.wrapping_add(at)) && as_said;
     }
+    as_said
 }
 
 #[test]
 fn a_bag_without_overflow_is_lent(rt: HostRuntime) {
     let mut w = place_of(&rt, rt.alloc(), 2, 35);
     let bag = new_bag::<_, 32>(&rt, rt.alloc(), &mut w);
-    assert!(rt; world::bag::try_push(&mut w, &bag, 3).is_ok());
-    assert!(rt; world::bag::try_push(&mut w, &bag, 4).is_ok());
+    let pushed_3 = world::bag::try_push(&mut w, &bag, 3);
+    let pushed_4 = world::bag::try_push(&mut w, &bag, 4);
     let mut seen = Vec::new(rt.alloc());
-    assert!(rt; raise(&rt, &mut w, &bag, 5, &mut seen) == 2);
-    let (first, second) = (pop(&mut w, &bag), pop(&mut w, &bag));
-    assert!(rt; first != second);
-    assert!(rt; first == Some(8) || first == Some(9));
-    assert!(rt; second == Some(8) || second == Some(9));
+    let raised = raise(&rt, &mut w, &bag, 5, &mut seen);
+    let first = pop(&mut w, &bag);
+    let second = pop(&mut w, &bag);
     world::bag::retire(&mut w, bag, 0);
     end(&rt, w);
+    assert!(rt; pushed_3.is_ok() && pushed_4.is_ok() && raised == 2);
+    assert!(rt; are_both(first, second, 8, 9));
 }
 
 /// Whether a walk is refused.
@@ -174,11 +185,12 @@ fn nothing_is_lent_under_a_guard(rt: HostRuntime) {
     let mut w = place_of(&rt, rt.alloc(), 1, 3);
     let guard = guarded(&rt, &mut w);
     let bag = new_bag::<_, 1>(&rt, rt.alloc(), &mut w);
-    assert!(rt; world::bag::push(&mut w, &bag, 7).is_ok());
-    assert!(rt; is_refused(&mut w, &bag));
-    assert!(rt; world::bag::len(&w, &bag) == 1);
-    assert!(rt; pop(&mut w, &bag) == Some(7));
+    let pushed = world::bag::push(&mut w, &bag, 7);
+    let refused = is_refused(&mut w, &bag);
+    let len = world::bag::len(&w, &bag);
+    let seven = pop(&mut w, &bag);
     world::bag::retire(&mut w, bag, 0);
     close(&rt, &mut w, guard);
     end(&rt, w);
+    assert!(rt; pushed.is_ok() && refused && (len, seven) == (1, Some(7)));
 }
