@@ -6,8 +6,9 @@ ghost use Rattle.sdd_domain.specs.Sharing.{kept_in};
 ghost use Rattle.sdd_domain.specs.Tokens.{place_of, home_of, hand_of, own_of, cell_count, nest_of, nest_in, IsSame, IsInNest, IsSameButMisses, IsInNestButMisses};
 
 use crate::domain::{end, member};
-use crate::guard::pass;
-use crate::items::{placed, refused, sized};
+use crate::guard::{pass, passes};
+use crate::items::{placed, sized};
+use crate::members::{Keeper, in_a_place, with_cell};
 use sdd_base::sizes::Sizes;
 use sdd_base::tag::Tag;
 use sdd_domain::atomic_shared::AtomicShared;
@@ -17,7 +18,6 @@ use sdd_domain::local::Local;
 use sdd_domain::pointer::Ptr;
 use sdd_domain::shared::Shared;
 use std::process::Abort;
-use std::test::Fail;
 use std::thread::join;
 
 /// A cell that owns an item with this value.
@@ -60,7 +60,7 @@ pub(crate) fn read(domain: &Domain<u64>, local: &mut Local<u64>, cell: &AtomicSh
 }
 
 /// Puts an item with this value into the cell, and releases the one that it had: whether it was the last owner.
-fn put<R: Abort>(
+pub(crate) fn put<R: Abort>(
     rt: &R,
     domain: &Domain<u64>,
     local: &mut Local<u64>,
@@ -79,110 +79,150 @@ fn put<R: Abort>(
 }
 
 #[test]
-fn a_cell_owns_what_was_swapped_into_it(rt: HostRuntime) -> Result<(), Fail> {
-    let domain = Domain::new(rt.alloc(), sized(1, 3))?;
-    let mut local = member(&rt, &domain);
-    let Some(cell) = AtomicShared::null(&domain, &mut local) else {
-        panic!(&rt; "a cell is free");
+fn a_cell_owns_what_was_swapped_into_it(rt: HostRuntime) {
+    let found = in_a_place(&rt, rt.alloc(), sized(1, 3), |domain| {
+        let mut keeper = Keeper::new(&rt, domain, None);
+        let none = (keeper.is_null(), keeper.read());
+        let first = (keeper.put(&rt, 7), keeper.is_null(), keeper.read());
+        let second = (keeper.put(&rt, 8), keeper.read());
+        let (member, owner) = keeper.taken(&rt);
+        member.end();
+        (none, first, second, owner)
+    });
+    assert_eq!(rt;
+        found,
+        (
+            (true, None),
+            (None, false, Some(7)),
+            (Some(true), Some(8)),
+            (8, true),
+        )
+    );
+}
+
+/// What a participant loads under one guard before and after another one puts 8 into the cell and has eight accelerated
+/// guards: the items, whether their pointers differ, and whether what is loaded once more is the second one. And whether
+/// the item that the other one released had no other owner.
+fn loads_beside<R: Abort>(
+    rt: &R,
+    domain: &Domain<u64>,
+    here: &mut Local<u64>,
+    there: &mut Local<u64>,
+    cell: &AtomicShared,
+) -> ([Option<u64>; 2], [bool; 2], Option<bool>)
+    requires here { (home_of here.old ≡ place_of domain.now) × (hand_of here.old ≡ []) × ((own_of here.old).nesting ≡ 0) }
+    requires there { (home_of there.old ≡ place_of domain.now) × (hand_of there.old ≡ []) × ((own_of there.old).nesting ≡ 0) }
+    requires inside { cell_number cell.now < cell_count domain.now }
+    ensures here { IsSame here.old here.new × ((own_of here.new).nesting ≡ 0) }
+    ensures there { IsSame there.old there.new × ((own_of there.new).nesting ≡ 0) }
+{
+    let Ok(guard) = Guard::new(domain, here) else {
+        unreachable!();
     };
-    assert!(rt; cell.is_null(&domain));
-    assert_eq!(rt; read(&domain, &mut local, &cell), None);
-    assert_eq!(rt; put(&rt, &domain, &mut local, &cell, 7), None);
-    assert!(rt; !cell.is_null(&domain));
-    assert_eq!(rt; read(&domain, &mut local, &cell), Some(7));
-    assert_eq!(rt; put(&rt, &domain, &mut local, &cell, 8), Some(true));
-    assert_eq!(rt; read(&domain, &mut local, &cell), Some(8));
-    let Some(owner) = cell.into_shared(&domain, &mut local) else {
-        panic!(&rt; "the cell owned an item");
-    };
-    assert_eq!(rt; *owner.as_ref(), 8);
-    assert!(rt; owner.release(&domain, &mut local));
-    local.end(&domain);
-    end(&rt, domain);
-    Ok(())
+    let first = cell.load(domain, &guard, here);
+    let last = put(rt, domain, there, cell, 8);
+    passes(domain, there, true, 8);
+    let second = cell.load(domain, &guard, here);
+    let items = [first.as_ref().copied(), second.as_ref().copied()];
+    let pointers = [first != second, second == cell.load(domain, &guard, here)];
+    guard.close(domain, here);
+    (items, pointers, last)
 }
 
 #[test]
-fn what_was_loaded_is_read_until_its_guard_closes(rt: HostRuntime) -> Result<(), Fail> {
-    let domain = Domain::new(rt.alloc(), sized(2, 3))?;
+fn what_was_loaded_is_read_until_its_guard_closes(rt: HostRuntime) {
+    let domain = Domain::new(rt.alloc(), sized(2, 3)).expect(&rt, "memory is there");
     let mut here = member(&rt, &domain);
     let mut there = member(&rt, &domain);
     let cell = cell_with(&rt, &domain, &mut here, 7);
-    let Ok(guard) = Guard::new(&domain, &mut here) else {
-        unreachable!();
-    };
-    let first = cell.load(&domain, &guard, &mut here);
-    assert_eq!(rt; put(&rt, &domain, &mut there, &cell, 8), Some(true));
-    for _i in 0..8u32 {
-        let _ = pass(&domain, &mut there, true);
-    }
-    let second = cell.load(&domain, &guard, &mut here);
-    assert_eq!(rt;
-        (first.as_ref().copied(), second.as_ref().copied()),
-        (Some(7), Some(8))
-    );
-    assert!(rt; first != second);
-    assert!(rt; second == cell.load(&domain, &guard, &mut here));
-    guard.close(&domain, &mut here);
-    assert!(rt; cell.retire(&domain, &mut here));
+    let found = loads_beside(&rt, &domain, &mut here, &mut there, &cell);
+    let last = cell.retire(&domain, &mut here);
     there.end(&domain);
     here.end(&domain);
     end(&rt, domain);
-    Ok(())
+    assert_eq!(rt;
+        (found, last),
+        (([Some(7), Some(8)], [true, true], Some(true)), true,)
+    );
+}
+
+/// Takes the owner out of a cell and releases it, under the guard that loaded its item: whether it was the last one, the
+/// item that is still read, and whether the cell owns none then.
+fn released_under_a_guard<R: Abort>(
+    rt: &R,
+    domain: &Domain<u64>,
+    local: &mut Local<u64>,
+    cell: &AtomicShared,
+) -> (bool, Option<u64>, bool)
+    requires home { (home_of local.old ≡ place_of domain.now) × (hand_of local.old ≡ []) }
+    requires closed { (own_of local.old).nesting ≡ 0 }
+    requires inside { cell_number cell.now < cell_count domain.now }
+    ensures same { IsSame local.old local.new }
+    ensures closed { (own_of local.new).nesting ≡ 0 }
+{
+    let Ok(guard) = Guard::new(domain, local) else {
+        unreachable!();
+    };
+    let loaded = cell.load(domain, &guard, local);
+    let (Some(owner), _) = cell.swap((None, Tag::None), domain, local) else {
+        panic!(rt; "the cell owned an item");
+    };
+    let last = owner.release(domain, local);
+    let item = loaded.as_ref().copied();
+    let empty = cell.load(domain, &guard, local).is_null();
+    guard.close(domain, local);
+    (last, item, empty)
 }
 
 #[test]
-fn an_owner_is_released_under_the_guard_that_loaded_its_item(rt: HostRuntime) -> Result<(), Fail> {
-    let domain = Domain::new(rt.alloc(), sized(1, 1))?;
-    let mut local = member(&rt, &domain);
-    let cell = cell_with(&rt, &domain, &mut local, 5);
-    let Ok(guard) = Guard::new(&domain, &mut local) else {
+fn an_owner_is_released_under_the_guard_that_loaded_its_item(rt: HostRuntime) {
+    let (found, last) = with_cell(&rt, rt.alloc(), sized(1, 1), Some(5), |keeper| {
+        let released = released_under_a_guard(&rt, keeper.domain, &mut keeper.local, &keeper.cell);
+        let at_once = keeper.refused(&rt, 6);
+        let turns = keeper.refusals(&rt, 3, 6);
+        keeper.pass(true);
+        (released, (at_once, turns), keeper.passed(&rt, 6))
+    });
+    assert_eq!(rt; found, ((true, Some(5), true), (6, 3), (6, true)));
+    assert!(rt; !last);
+}
+
+/// What an inner guard loads from a cell, as it is under the outer one behind that: whether it is null, and its item.
+fn loaded_within<R: Abort>(
+    rt: &R,
+    domain: &Domain<u64>,
+    local: &mut Local<u64>,
+    cell: &AtomicShared,
+) -> (bool, Option<u64>)
+    requires home { (home_of local.old ≡ place_of domain.now) × (hand_of local.old ≡ []) }
+    requires closed { (own_of local.old).nesting ≡ 0 }
+    requires inside { cell_number cell.now < cell_count domain.now }
+    ensures same { IsSame local.old local.new }
+    ensures closed { (own_of local.new).nesting ≡ 0 }
+{
+    let Ok(outer) = Guard::new(domain, local) else {
         unreachable!();
     };
-    let loaded = cell.load(&domain, &guard, &mut local);
-    let (Some(owner), _) = cell.swap((None, Tag::None), &domain, &mut local) else {
-        panic!(&rt; "the cell owned an item");
+    let Ok(inner) = Guard::new(domain, local) else {
+        panic!(rt; "two guards nest");
     };
-    assert!(rt; owner.release(&domain, &mut local));
-    assert_eq!(rt; loaded.as_ref().copied(), Some(5));
-    assert!(rt; cell.load(&domain, &guard, &mut local).is_null());
-    guard.close(&domain, &mut local);
-    for _i in 0..4u32 {
-        assert_eq!(rt; refused(&rt, &domain, &mut local, 6), 6);
-        let _ = pass(&domain, &mut local, true);
-    }
-    let owner = placed(&rt, &domain, &mut local, 6);
-    assert!(rt; owner.release(&domain, &mut local));
-    assert!(rt; !cell.retire(&domain, &mut local));
-    local.end(&domain);
-    end(&rt, domain);
-    Ok(())
+    let loaded = cell.loaded(domain, &inner, local);
+    inner.close(domain, local);
+    let found = (loaded.is_null(), loaded.as_ref(&outer).copied());
+    outer.close(domain, local);
+    found
 }
 
 #[test]
-fn what_an_inner_guard_loaded_is_read_under_the_outer_one(rt: HostRuntime) -> Result<(), Fail> {
-    let domain = Domain::new(rt.alloc(), sized(1, 2))?;
-    let mut local = member(&rt, &domain);
-    let cell = cell_with(&rt, &domain, &mut local, 3);
-    let Ok(outer) = Guard::new(&domain, &mut local) else {
-        unreachable!();
-    };
-    let Ok(inner) = Guard::new(&domain, &mut local) else {
-        panic!(&rt; "two guards nest");
-    };
-    let loaded = cell.loaded(&domain, &inner, &mut local);
-    inner.close(&domain, &mut local);
-    assert!(rt; !loaded.is_null());
-    assert_eq!(rt; loaded.as_ref(&outer).copied(), Some(3));
-    outer.close(&domain, &mut local);
-    assert!(rt; cell.retire(&domain, &mut local));
-    local.end(&domain);
-    end(&rt, domain);
-    Ok(())
+fn what_an_inner_guard_loaded_is_read_under_the_outer_one(rt: HostRuntime) {
+    let found = with_cell(&rt, rt.alloc(), sized(1, 2), Some(3), |keeper| {
+        loaded_within(&rt, keeper.domain, &mut keeper.local, &keeper.cell)
+    });
+    assert_eq!(rt; found, ((false, Some(3)), true));
 }
 
 /// Whether no cell is free.
-fn no_cell(domain: &Domain<u64>, local: &mut Local<u64>) -> bool
+pub(crate) fn no_cell(domain: &Domain<u64>, local: &mut Local<u64>) -> bool
     requires home { (home_of local.old ≡ place_of domain.now) × (hand_of local.old ≡ []) }
     requires closed { (own_of local.old).nesting ≡ 0 }
     ensures same { IsSameButMisses local.old local.new }
@@ -197,50 +237,66 @@ fn no_cell(domain: &Domain<u64>, local: &mut Local<u64>) -> bool
     }
 }
 
+/// Places an item for which no cell is free, and releases it: the item that came back, and whether its owner was the last.
+fn finds_no_cell<R: Abort>(
+    rt: &R,
+    domain: &Domain<u64>,
+    local: &mut Local<u64>,
+    item: u64,
+) -> (u64, bool)
+    requires home { (home_of local.old ≡ place_of domain.now) × (hand_of local.old ≡ []) }
+    requires closed { (own_of local.old).nesting ≡ 0 }
+    ensures same { IsSameButMisses local.old local.new }
+    ensures closed { (own_of local.new).nesting ≡ 0 }
+{
+    let owner = placed(rt, domain, local, item);
+    match AtomicShared::from(owner, domain, local) {
+        Err(owner) => {
+            let item = *owner.as_ref();
+            (item, owner.release(domain, local))
+        }
+        Ok(cell) => {
+            cell.retire(domain, local);
+            panic!(rt; "no cell is free")
+        }
+    }
+}
+
 #[test]
-fn a_cell_that_was_retired_is_free_again(rt: HostRuntime) -> Result<(), Fail> {
+fn a_cell_that_was_retired_is_free_again(rt: HostRuntime) {
     let one = Sizes {
         participants: 1,
         slots: 2,
         cells: 1,
         jobs: 0,
     };
-    let domain = Domain::new(rt.alloc(), one)?;
-    let mut local = member(&rt, &domain);
-    let first = cell_with(&rt, &domain, &mut local, 1);
-    assert!(rt; no_cell(&domain, &mut local));
-    let owner = placed(&rt, &domain, &mut local, 2);
-    let owner = match AtomicShared::from(owner, &domain, &mut local) {
-        Err(owner) => owner,
-        Ok(cell) => {
-            cell.retire(&domain, &mut local);
-            panic!(&rt; "no cell is free")
-        }
-    };
-    assert_eq!(rt; *owner.as_ref(), 2);
-    assert!(rt; owner.release(&domain, &mut local));
-    assert!(rt; first.retire(&domain, &mut local));
-    assert!(rt; !no_cell(&domain, &mut local));
-    local.end(&domain);
-    end(&rt, domain);
-    Ok(())
+    let found = in_a_place(&rt, rt.alloc(), one, |domain| {
+        let mut keeper = Keeper::new(&rt, domain, Some(1));
+        let none = keeper.no_cell();
+        let back = finds_no_cell(&rt, keeper.domain, &mut keeper.local, 2);
+        let (mut member, last) = keeper.retire();
+        let some = !member.no_cell();
+        member.end();
+        (none, back, last, some)
+    });
+    assert_eq!(rt; found, (true, (2, true), true, true));
 }
 
 #[test]
-fn a_place_is_handed_back_while_a_cell_owns_an_item(rt: HostRuntime) -> Result<(), Fail> {
-    let domain = Domain::new(rt.alloc(), sized(1, 2))?;
+fn a_place_is_handed_back_while_a_cell_owns_an_item(rt: HostRuntime) {
+    let domain = Domain::new(rt.alloc(), sized(1, 2)).expect(&rt, "memory is there");
     let mut local = member(&rt, &domain);
     let cell = cell_with(&rt, &domain, &mut local, 1);
     local.end(&domain);
     let Err(domain) = domain.close() else {
-        panic!(&rt; "a cell owns an item");
+        panic!(rt; "a cell owns an item");
     };
     let mut local = member(&rt, &domain);
-    assert_eq!(rt; read(&domain, &mut local, &cell), Some(1));
-    assert!(rt; cell.retire(&domain, &mut local));
+    let item = read(&domain, &mut local, &cell);
+    let last = cell.retire(&domain, &mut local);
     local.end(&domain);
     end(&rt, domain);
-    Ok(())
+    assert_eq!(rt; (item, last), (Some(1), true));
 }
 
 /// What a try to exchange gave, by items: what came out of the cell, or what is back, and what was found.
@@ -292,50 +348,71 @@ pub(crate) fn spent(
     Some(item)
 }
 
-#[test]
-fn a_cell_is_exchanged_where_it_is_what_was_loaded(rt: HostRuntime) -> Result<(), Fail> {
-    let domain = Domain::new(rt.alloc(), sized(1, 16))?;
-    let mut local = member(&rt, &domain);
-    let cell = cell_with(&rt, &domain, &mut local, 7);
-    let Ok(guard) = Guard::new(&domain, &mut local) else {
+/// Tries to put 8 and then 9 into a cell where it names what was loaded first: how that went, and the item that was loaded.
+fn exchanges<R: Abort>(
+    rt: &R,
+    domain: &Domain<u64>,
+    local: &mut Local<u64>,
+    cell: &AtomicShared,
+) -> (Tried, Tried, Option<u64>)
+    requires home { (home_of local.old ≡ place_of domain.now) × (hand_of local.old ≡ []) }
+    requires closed { (own_of local.old).nesting ≡ 0 }
+    requires inside { cell_number cell.now < cell_count domain.now }
+    ensures same { IsSame local.old local.new }
+    ensures closed { (own_of local.new).nesting ≡ 0 }
+{
+    let Ok(guard) = Guard::new(domain, local) else {
         unreachable!();
     };
-    let seven = cell.load(&domain, &guard, &mut local);
-    let hit = exchanged(&rt, &domain, &guard, &mut local, &cell, seven, Some(8));
-    assert_eq!(rt; hit, Ok(Some(7)));
-    let miss = exchanged(&rt, &domain, &guard, &mut local, &cell, seven, Some(9));
-    assert_eq!(rt; miss, Err((Some(9), Some(8))));
-    assert_eq!(rt; seven.as_ref().copied(), Some(7));
-    guard.close(&domain, &mut local);
-    assert!(rt; cell.retire(&domain, &mut local));
-    local.end(&domain);
-    end(&rt, domain);
-    Ok(())
+    let loaded = cell.load(domain, &guard, local);
+    let hit = exchanged(rt, domain, &guard, local, cell, loaded, Some(8));
+    let miss = exchanged(rt, domain, &guard, local, cell, loaded, Some(9));
+    let item = loaded.as_ref().copied();
+    guard.close(domain, local);
+    (hit, miss, item)
 }
 
 #[test]
-fn a_cell_is_exchanged_from_null_and_to_null(rt: HostRuntime) -> Result<(), Fail> {
-    let domain = Domain::new(rt.alloc(), sized(1, 16))?;
-    let mut local = member(&rt, &domain);
-    let Some(cell) = AtomicShared::null(&domain, &mut local) else {
-        panic!(&rt; "a cell is free");
-    };
-    let Ok(guard) = Guard::new(&domain, &mut local) else {
+fn a_cell_is_exchanged_where_it_is_what_was_loaded(rt: HostRuntime) {
+    let found = with_cell(&rt, rt.alloc(), sized(1, 16), Some(7), |keeper| {
+        exchanges(&rt, keeper.domain, &mut keeper.local, &keeper.cell)
+    });
+    assert_eq!(rt;
+        found,
+        ((Ok(Some(7)), Err((Some(9), Some(8))), Some(7)), true,)
+    );
+}
+
+/// Tries to put 7 into a cell where it is null, and then twice to empty it where it names that item.
+fn fills_and_empties<R: Abort>(
+    rt: &R,
+    domain: &Domain<u64>,
+    local: &mut Local<u64>,
+    cell: &AtomicShared,
+) -> [Tried; 3]
+    requires home { (home_of local.old ≡ place_of domain.now) × (hand_of local.old ≡ []) }
+    requires closed { (own_of local.old).nesting ≡ 0 }
+    requires inside { cell_number cell.now < cell_count domain.now }
+    ensures same { IsSame local.old local.new }
+    ensures closed { (own_of local.new).nesting ≡ 0 }
+{
+    let Ok(guard) = Guard::new(domain, local) else {
         unreachable!();
     };
-    let null = Ptr::null();
-    let hit = exchanged(&rt, &domain, &guard, &mut local, &cell, null, Some(7));
-    assert_eq!(rt; hit, Ok(None));
-    let seven = cell.load(&domain, &guard, &mut local);
-    let hit = exchanged(&rt, &domain, &guard, &mut local, &cell, seven, None);
-    assert_eq!(rt; hit, Ok(Some(7)));
-    let miss = exchanged(&rt, &domain, &guard, &mut local, &cell, seven, None);
-    assert_eq!(rt; miss, Err((None, None)));
-    guard.close(&domain, &mut local);
-    assert!(rt; !cell.retire(&domain, &mut local));
-    local.end(&domain);
-    end(&rt, domain);
-    Ok(())
+    let first = exchanged(rt, domain, &guard, local, cell, Ptr::null(), Some(7));
+    let seven = cell.load(domain, &guard, local);
+    let second = exchanged(rt, domain, &guard, local, cell, seven, None);
+    let third = exchanged(rt, domain, &guard, local, cell, seven, None);
+    guard.close(domain, local);
+    [first, second, third]
+}
+
+#[test]
+fn a_cell_is_exchanged_from_null_and_to_null(rt: HostRuntime) {
+    let found = with_cell(&rt, rt.alloc(), sized(1, 16), None, |keeper| {
+        fills_and_empties(&rt, keeper.domain, &mut keeper.local, &keeper.cell)
+    });
+    assert_eq!(rt; found, ([Ok(None), Ok(Some(7)), Err((None, None))], false,));
 }
 
 /// A cell and its place, which threads share.
@@ -405,15 +482,13 @@ pub(crate) fn reclaim_all(domain: &Domain<u64>, participants: u32) {
     if participants > 1 {
         reclaim_all(domain, participants - 1);
     }
-    for _i in 0..4u32 {
-        let _ = pass(domain, &mut local, true);
-    }
+    passes(domain, &mut local, true, 4);
     local.end(domain);
 }
 
 #[test]
-fn four_threads_load_swap_and_release_one_cell(rt: HostRuntime) -> Result<(), Fail> {
-    let domain = Domain::new(rt.alloc(), sized(5, 64))?;
+fn four_threads_load_swap_and_release_one_cell(rt: HostRuntime) {
+    let domain = Domain::new(rt.alloc(), sized(5, 64)).expect(&rt, "memory is there");
     let mut local = member(&rt, &domain);
     let cell = cell_with(&rt, &domain, &mut local, 1);
     let scene = Scene {
@@ -429,13 +504,13 @@ fn four_threads_load_swap_and_release_one_cell(rt: HostRuntime) -> Result<(), Fa
             || swapping(&scene, 30_000),
         ),
     );
-    assert_eq!(rt; [a, b, c, d], [Some(0), Some(0), Some(0), Some(0)]);
     reclaim_all(&domain, 4);
-    assert_eq!(rt; domain.slots_in_use(), 1);
-    assert!(rt; cell.retire(&domain, &mut local));
+    let slots = domain.slots_in_use();
+    let last = cell.retire(&domain, &mut local);
     local.end(&domain);
     end(&rt, domain);
-    Ok(())
+    assert_eq!(rt; [a, b, c, d], [Some(0); 4]);
+    assert_eq!(rt; (slots, last), (1, true));
 }
 
 /// Tries 4000 times to put an item that is greater by one into the cell: how often it was put there. None if no
@@ -501,9 +576,18 @@ fn puts(
     done
 }
 
+/// The sum of these; none if one of them is none.
+fn total(parts: [Option<u64>; 4]) -> Option<u64> {
+    let mut sum = 0u64;
+    for part in parts {
+        sum = sum.wrapping_add(part?);
+    }
+    Some(sum)
+}
+
 #[test]
-fn what_four_threads_add_to_one_cell_is_its_sum(rt: HostRuntime) -> Result<(), Fail> {
-    let domain = Domain::new(rt.alloc(), sized(5, 64))?;
+fn what_four_threads_add_to_one_cell_is_its_sum(rt: HostRuntime) {
+    let domain = Domain::new(rt.alloc(), sized(5, 64)).expect(&rt, "memory is there");
     let mut local = member(&rt, &domain);
     let cell = cell_with(&rt, &domain, &mut local, 0);
     let scene = Scene {
@@ -515,15 +599,11 @@ fn what_four_threads_add_to_one_cell_is_its_sum(rt: HostRuntime) -> Result<(), F
         || join(&rt, || counting(&scene), || counting(&scene)),
         || join(&rt, || counting(&scene), || counting(&scene)),
     );
-    let mut sum = 0u64;
-    for part in [a, b, c, d] {
-        assert!(rt; part.is_some());
-        sum = sum.wrapping_add(part.unwrap_or(0));
-    }
-    assert!(rt; sum > 0);
-    assert_eq!(rt; read(&domain, &mut local, &cell), Some(sum));
-    assert!(rt; cell.retire(&domain, &mut local));
+    let item = read(&domain, &mut local, &cell);
+    let last = cell.retire(&domain, &mut local);
     local.end(&domain);
     end(&rt, domain);
-    Ok(())
+    let sum = total([a, b, c, d]);
+    assert_eq!(rt; (item, last), (sum, true));
+    assert!(rt; sum > Some(0));
 }

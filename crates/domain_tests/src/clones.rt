@@ -14,7 +14,6 @@ use sdd_domain::atomic_shared::AtomicShared;
 use sdd_domain::domain::Domain;
 use sdd_domain::local::Local;
 use sdd_domain::shared::Shared;
-use std::test::Fail;
 use std::thread::join;
 
 /// Tries a thousand times to take the owner out of the cell and to make two of it: how often there were two. None if no
@@ -75,8 +74,8 @@ fn put(domain: &Domain<u64>, local: &mut Local<u64>, cell: &AtomicShared, owner:
 }
 
 #[test]
-fn four_threads_clone_an_item_through_a_cell(rt: HostRuntime) -> Result<(), Fail> {
-    let domain = Domain::new(rt.alloc(), sized(5, 8))?;
+fn four_threads_clone_an_item_through_a_cell(rt: HostRuntime) {
+    let domain = Domain::new(rt.alloc(), sized(5, 8)).expect(&rt, "memory is there");
     let mut local = member(&rt, &domain);
     let cell = cell_with(&rt, &domain, &mut local, 7);
     let scene = Scene {
@@ -92,13 +91,13 @@ fn four_threads_clone_an_item_through_a_cell(rt: HostRuntime) -> Result<(), Fail
     for part in [a, b, c, d] {
         twice = twice.saturating_add(part.unwrap_or(0));
     }
-    assert!(rt; twice > 0);
-    assert_eq!(rt; read(&domain, &mut local, &cell), Some(7));
-    assert_eq!(rt; domain.slots_in_use(), 1);
-    assert!(rt; cell.retire(&domain, &mut local));
+    let item = read(&domain, &mut local, &cell);
+    let slots = domain.slots_in_use();
+    let last = cell.retire(&domain, &mut local);
     local.end(&domain);
     reclaim_all(&domain, 1);
-    assert_eq!(rt; domain.slots_in_use(), 0);
+    let left = domain.slots_in_use();
     end(&rt, domain);
-    Ok(())
+    assert!(rt; twice > 0);
+    assert_eq!(rt; (item, slots, last, left), (Some(7), 1, true, 0));
 }

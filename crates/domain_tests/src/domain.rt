@@ -4,12 +4,12 @@ ghost use Rattle.std.specs.Prelude.{◌≡◌, ◌≤◌, []};
 ghost use Rattle.sdd_domain.specs.Layout.{IsSized};
 ghost use Rattle.sdd_domain.specs.Tokens.{place_of, home_of, hand_of, own_of};
 
+use crate::members::{Member, in_a_place};
 use sdd_base::sizes::Sizes;
 use sdd_domain::domain::Domain;
 use sdd_domain::local::Local;
 use sdd_domain::refusal::RegisterRefused;
 use std::process::Abort;
-use std::test::Fail;
 
 /// The sizes of a place for so many participants, and nothing else.
 pub(crate) fn only(participants: u8) -> Sizes
@@ -52,42 +52,50 @@ pub(crate) fn end<R: Abort>(rt: &R, domain: Domain<u64>) {
     }
 }
 
-#[test]
-fn one_participant_is_registered_once_at_a_time(rt: HostRuntime) -> Result<(), Fail> {
-    let domain = Domain::new(rt.alloc(), only(1))?;
-    let first = member(&rt, &domain);
-    assert_eq!(rt; first.number(), 0);
-    assert_eq!(rt; refused(&rt, &domain), RegisterRefused::Full);
-    first.end(&domain);
-    let second = member(&rt, &domain);
-    assert_eq!(rt; second.number(), 0);
-    assert_eq!(rt; refused(&rt, &domain), RegisterRefused::Full);
-    second.end(&domain);
-    end(&rt, domain);
-    Ok(())
+/// The number of the only participant, and why there is no other one beside it; it is ended then.
+fn only_one<R: Abort>(rt: &R, domain: &Domain<u64>) -> (usize, RegisterRefused) {
+    let local = member(rt, domain);
+    let found = (local.number(), refused(rt, domain));
+    local.end(domain);
+    found
 }
 
 #[test]
-fn participants_are_registered_from_the_lowest_that_is_free(rt: HostRuntime) -> Result<(), Fail> {
-    let domain = Domain::new(rt.alloc(), only(3))?;
-    let zero = member(&rt, &domain);
-    let one = member(&rt, &domain);
-    let two = member(&rt, &domain);
-    assert_eq!(rt; [zero.number(), one.number(), two.number()], [0, 1, 2]);
-    assert_eq!(rt; refused(&rt, &domain), RegisterRefused::Full);
-    one.end(&domain);
-    let again = member(&rt, &domain);
-    assert_eq!(rt; again.number(), 1);
-    zero.end(&domain);
-    again.end(&domain);
-    two.end(&domain);
-    end(&rt, domain);
-    Ok(())
+fn one_participant_is_registered_once_at_a_time(rt: HostRuntime) {
+    let found = in_a_place(
+        &rt,
+        rt.alloc(),
+        only(1),
+        |domain| [only_one(&rt, domain), only_one(&rt, domain)],
+    );
+    assert_eq!(rt;
+        found,
+        [(0, RegisterRefused::Full), (0, RegisterRefused::Full)]
+    );
 }
 
 #[test]
-fn a_place_is_handed_back_while_a_participant_is_out(rt: HostRuntime) -> Result<(), Fail> {
-    let domain = Domain::new(rt.alloc(), only(2))?;
+fn participants_are_registered_from_the_lowest_that_is_free(rt: HostRuntime) {
+    let found = in_a_place(&rt, rt.alloc(), only(3), |domain| {
+        let zero = Member::new(&rt, domain);
+        let one = Member::new(&rt, domain);
+        let two = Member::new(&rt, domain);
+        let numbers = [zero.number(), one.number(), two.number()];
+        let refused = refused(&rt, domain);
+        one.end();
+        let again = Member::new(&rt, domain);
+        let number = again.number();
+        zero.end();
+        again.end();
+        two.end();
+        (numbers, refused, number)
+    });
+    assert_eq!(rt; found, ([0, 1, 2], RegisterRefused::Full, 1));
+}
+
+#[test]
+fn a_place_is_handed_back_while_a_participant_is_out(rt: HostRuntime) {
+    let domain = Domain::new(rt.alloc(), only(2)).expect(&rt, "memory is there");
     let zero = member(&rt, &domain);
     let one = member(&rt, &domain);
     zero.end(&domain);
@@ -96,5 +104,4 @@ fn a_place_is_handed_back_while_a_participant_is_out(rt: HostRuntime) -> Result<
     };
     one.end(&domain);
     end(&rt, domain);
-    Ok(())
 }

@@ -7,12 +7,12 @@ ghost use Rattle.sdd_domain.specs.Tokens.{place_of, home_of, hand_of, own_of, Is
 
 use crate::domain::{end, member};
 use crate::guard::pass;
+use crate::members::{Member, alone, in_a_place, in_this};
 use sdd_base::sizes::Sizes;
 use sdd_domain::domain::Domain;
 use sdd_domain::local::Local;
 use sdd_domain::shared::Shared;
 use std::process::Abort;
-use std::test::Fail;
 use std::thread::join;
 
 /// The sizes of a place for so many participants and items.
@@ -64,102 +64,130 @@ pub(crate) fn refused<R: Abort>(
     }
 }
 
-#[test]
-fn an_item_is_read_by_its_owner(rt: HostRuntime) -> Result<(), Fail> {
-    let domain = Domain::new(rt.alloc(), sized(2, 3))?;
-    let mut local = member(&rt, &domain);
-    let first = placed(&rt, &domain, &mut local, 7);
-    let second = placed(&rt, &domain, &mut local, 8);
-    assert_eq!(rt; (*first.as_ref(), *second.as_ref()), (7, 8));
-    assert!(rt; first.release(&domain, &mut local));
-    assert_eq!(rt; *second.as_ref(), 8);
-    assert!(rt; second.release(&domain, &mut local));
-    local.end(&domain);
-    end(&rt, domain);
-    Ok(())
+/// Places an item, where a slot is free, reads it and releases it: the item, and whether its owner was the last.
+pub(crate) fn passed<R: Abort>(
+    rt: &R,
+    domain: &Domain<u64>,
+    local: &mut Local<u64>,
+    item: u64,
+) -> (u64, bool)
+    requires home { (home_of local.old ≡ place_of domain.now) × (hand_of local.old ≡ []) }
+    requires closed { (own_of local.old).nesting ≡ 0 }
+    ensures same { IsSame local.old local.new }
+    ensures closed { (own_of local.new).nesting ≡ 0 }
+{
+    let owner = placed(rt, domain, local, item);
+    let read = *owner.as_ref();
+    (read, owner.release(domain, local))
 }
 
-#[test]
-fn a_slot_is_free_again_after_four_accelerated_guards(rt: HostRuntime) -> Result<(), Fail> {
-    let domain = Domain::new(rt.alloc(), sized(1, 1))?;
-    let mut local = member(&rt, &domain);
-    let owner = placed(&rt, &domain, &mut local, 1);
-    assert!(rt; owner.release(&domain, &mut local));
-    assert_eq!(rt; refused(&rt, &domain, &mut local, 2), 2);
-    for _i in 0..3u32 {
-        let _ = pass(&domain, &mut local, true);
-        assert_eq!(rt; refused(&rt, &domain, &mut local, 3), 3);
+/// How often the item comes back, since no slot is free, in so many turns with an accelerated guard before each.
+pub(crate) fn refusals<R: Abort>(
+    rt: &R,
+    domain: &Domain<u64>,
+    local: &mut Local<u64>,
+    turns: u32,
+    item: u64,
+) -> u32
+    requires home { (home_of local.old ≡ place_of domain.now) × (hand_of local.old ≡ []) }
+    requires closed { (own_of local.old).nesting ≡ 0 }
+    ensures same { IsSameButMisses local.old local.new }
+    ensures closed { (own_of local.new).nesting ≡ 0 }
+{
+    let mut count: u32 = 0;
+    for _turn in 0..turns {
+        let _ = pass(domain, local, true);
+        if refused(rt, domain, local, item) == item {
+            count = count.saturating_add(1);
+        }
     }
-    let _ = pass(&domain, &mut local, true);
-    let owner = placed(&rt, &domain, &mut local, 4);
-    assert_eq!(rt; *owner.as_ref(), 4);
-    assert!(rt; owner.release(&domain, &mut local));
-    local.end(&domain);
-    end(&rt, domain);
-    Ok(())
+    count
 }
 
 #[test]
-fn a_full_place_gives_the_item_back(rt: HostRuntime) -> Result<(), Fail> {
-    let domain = Domain::new(rt.alloc(), sized(2, 3))?;
-    let mut local = member(&rt, &domain);
-    let a = placed(&rt, &domain, &mut local, 1);
-    let b = placed(&rt, &domain, &mut local, 2);
-    let c = placed(&rt, &domain, &mut local, 3);
-    assert_eq!(rt; refused(&rt, &domain, &mut local, 4), 4);
-    assert_eq!(rt; (*a.as_ref(), *b.as_ref(), *c.as_ref()), (1, 2, 3));
-    assert!(rt; a.release(&domain, &mut local));
-    assert!(rt; b.release(&domain, &mut local));
-    assert!(rt; c.release(&domain, &mut local));
-    local.end(&domain);
-    end(&rt, domain);
-    Ok(())
+fn an_item_is_read_by_its_owner(rt: HostRuntime) {
+    let found = alone(&rt, rt.alloc(), sized(2, 3), |member| {
+        let first = member.placed(&rt, 7);
+        let second = member.placed(&rt, 8);
+        let both = (*first.as_ref(), *second.as_ref());
+        let last = member.release(first);
+        let other = *second.as_ref();
+        (both, last, other, member.release(second))
+    });
+    assert_eq!(rt; found, ((7, 8), true, 8, true));
 }
 
 #[test]
-fn a_place_is_handed_back_while_an_owner_is_out(rt: HostRuntime) -> Result<(), Fail> {
-    let domain = Domain::new(rt.alloc(), sized(1, 2))?;
+fn a_slot_is_free_again_after_four_accelerated_guards(rt: HostRuntime) {
+    let found = alone(&rt, rt.alloc(), sized(1, 1), |member| {
+        let first = member.passed(&rt, 1);
+        let at_once = member.refused(&rt, 2);
+        let turns = member.refusals(&rt, 3, 3);
+        member.pass(true);
+        (first, at_once, turns, member.passed(&rt, 4))
+    });
+    assert_eq!(rt; found, ((1, true), 2, 3, (4, true)));
+}
+
+#[test]
+fn a_full_place_gives_the_item_back(rt: HostRuntime) {
+    let found = alone(&rt, rt.alloc(), sized(2, 3), |member| {
+        let a = member.placed(&rt, 1);
+        let b = member.placed(&rt, 2);
+        let c = member.placed(&rt, 3);
+        let back = member.refused(&rt, 4);
+        let items = (*a.as_ref(), *b.as_ref(), *c.as_ref());
+        let last = (member.release(a), member.release(b), member.release(c));
+        (back, items, last)
+    });
+    assert_eq!(rt; found, (4, (1, 2, 3), (true, true, true)));
+}
+
+#[test]
+fn a_place_is_handed_back_while_an_owner_is_out(rt: HostRuntime) {
+    let domain = Domain::new(rt.alloc(), sized(1, 2)).expect(&rt, "memory is there");
     let mut local = member(&rt, &domain);
     let owner = placed(&rt, &domain, &mut local, 1);
     local.end(&domain);
     let Err(domain) = domain.close() else {
         panic!(rt; "an owner is out");
     };
-    assert_eq!(rt; *owner.as_ref(), 1);
+    let item = *owner.as_ref();
     let mut local = member(&rt, &domain);
-    assert!(rt; owner.release(&domain, &mut local));
+    let last = owner.release(&domain, &mut local);
     local.end(&domain);
     end(&rt, domain);
-    Ok(())
+    assert_eq!(rt; (item, last), (1, true));
+}
+
+/// Places two items and releases both, with an accelerated guard between; how the releases were told.
+fn leaves_two<R: Abort>(rt: &R, member: Member<'_>) -> (bool, bool) {
+    let mut member = member;
+    let first = member.placed(rt, 1);
+    let second = member.placed(rt, 2);
+    let one = member.release(first);
+    let _ = member.pass(true);
+    let other = member.release(second);
+    member.end();
+    (one, other)
 }
 
 #[test]
-fn what_an_ended_participant_left_is_reclaimed_by_the_next_one(
-    rt: HostRuntime,
-) -> Result<(), Fail> {
-    let domain = Domain::new(rt.alloc(), sized(1, 2))?;
-    let mut local = member(&rt, &domain);
-    let first = placed(&rt, &domain, &mut local, 1);
-    let second = placed(&rt, &domain, &mut local, 2);
-    assert!(rt; first.release(&domain, &mut local));
-    let _ = pass(&domain, &mut local, true);
-    assert!(rt; second.release(&domain, &mut local));
-    local.end(&domain);
-    // The next one begins at the count 0, so its first opening rotates, and the third one reclaims.
-    let mut local = member(&rt, &domain);
-    for _i in 0..2u32 {
-        let _ = pass(&domain, &mut local, true);
-        assert_eq!(rt; refused(&rt, &domain, &mut local, 3), 3);
-    }
-    let _ = pass(&domain, &mut local, true);
-    let first = placed(&rt, &domain, &mut local, 4);
-    let second = placed(&rt, &domain, &mut local, 5);
-    assert_eq!(rt; (*first.as_ref(), *second.as_ref()), (4, 5));
-    assert!(rt; second.release(&domain, &mut local));
-    assert!(rt; first.release(&domain, &mut local));
-    local.end(&domain);
-    end(&rt, domain);
-    Ok(())
+fn what_an_ended_participant_left_is_reclaimed_by_the_next_one(rt: HostRuntime) {
+    let found = in_a_place(&rt, rt.alloc(), sized(1, 2), |domain| {
+        let left = leaves_two(&rt, Member::new(&rt, domain));
+        // The next one begins at the count 0, so its first opening rotates, and the third one reclaims.
+        let mut member = Member::new(&rt, domain);
+        let turns = member.refusals(&rt, 2, 3);
+        let _ = member.pass(true);
+        let first = member.placed(&rt, 4);
+        let second = member.placed(&rt, 5);
+        let both = (*first.as_ref(), *second.as_ref());
+        let last = (member.release(second), member.release(first));
+        member.end();
+        (left, turns, both, last)
+    });
+    assert_eq!(rt; found, ((true, true), 2, (4, 5), (true, true)));
 }
 
 /// A thousand items, placed, read and released one after the other, with an accelerated guard behind each: how many
@@ -184,11 +212,9 @@ fn thousand(domain: &Domain<u64>, salt: u64) -> Option<u32> {
 }
 
 #[test]
-fn a_thousand_items_go_through_sixteen_slots(rt: HostRuntime) -> Result<(), Fail> {
-    let domain = Domain::new(rt.alloc(), sized(1, 16))?;
-    assert_eq!(rt; thousand(&domain, 5), Some(1000));
-    end(&rt, domain);
-    Ok(())
+fn a_thousand_items_go_through_sixteen_slots(rt: HostRuntime) {
+    let good = in_a_place(&rt, rt.alloc(), sized(1, 16), |domain| thousand(domain, 5));
+    assert_eq!(rt; good, Some(1000));
 }
 
 /// A thousand tries to place an item, each read and released where a slot was free, with an accelerated guard behind
@@ -214,8 +240,8 @@ fn differing(domain: &Domain<u64>, salt: u64) -> Option<(u32, bool)> {
 }
 
 #[test]
-fn four_threads_place_and_release_beside_each_other(rt: HostRuntime) -> Result<(), Fail> {
-    let domain = Domain::new(rt.alloc(), sized(4, 64))?;
+fn four_threads_place_and_release_beside_each_other(rt: HostRuntime) {
+    let domain = Domain::new(rt.alloc(), sized(4, 64)).expect(&rt, "memory is there");
     let ((a, b), (c, d)) = join(
         &rt,
         || join(&rt, || differing(&domain, 0), || differing(&domain, 10_000)),
@@ -225,32 +251,24 @@ fn four_threads_place_and_release_beside_each_other(rt: HostRuntime) -> Result<(
             || differing(&domain, 30_000),
         ),
     );
-    let mut placed = false;
-    for part in [a, b, c, d] {
-        let (other, some) = part.unwrap_or((1, false));
-        assert_eq!(rt; other, 0);
-        placed |= some;
-    }
-    // While a thread that has a guard open doesn't run, nothing is reclaimed, and others may find each slot taken.
-    assert!(rt; placed);
     end(&rt, domain);
-    Ok(())
+    let parts = [a, b, c, d].map(|part| part.unwrap_or((1, false)));
+    assert_eq!(rt; parts.map(|part| part.0), [0; 4]);
+    // While a thread that has a guard open doesn't run, nothing is reclaimed, and others may find each slot taken.
+    assert!(rt; parts.iter().any(|part| part.1));
 }
 
 #[test]
-fn what_an_owner_lends_is_read_by_threads_and_released_by_anybody(
-    rt: HostRuntime,
-) -> Result<(), Fail> {
-    let domain = Domain::new(rt.alloc(), sized(2, 2))?;
+fn what_an_owner_lends_is_read_by_threads_and_released_by_anybody(rt: HostRuntime) {
+    let domain = Domain::new(rt.alloc(), sized(2, 2)).expect(&rt, "memory is there");
     let mut here = member(&rt, &domain);
     let mut there = member(&rt, &domain);
     let owner = placed(&rt, &domain, &mut here, 9);
     let item = owner.as_ref();
     let seen = join(&rt, || *item, || *item);
-    assert_eq!(rt; seen, (9, 9));
-    assert!(rt; owner.release(&domain, &mut there));
+    let last = owner.release(&domain, &mut there);
     there.end(&domain);
     here.end(&domain);
     end(&rt, domain);
-    Ok(())
+    assert_eq!(rt; (seen, last), ((9, 9), true));
 }

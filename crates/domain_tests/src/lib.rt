@@ -14,6 +14,8 @@ mod items;
 #[cfg(test)]
 mod jobs;
 #[cfg(test)]
+mod members;
+#[cfg(test)]
 mod nested;
 #[cfg(test)]
 mod owners;

@@ -15,7 +15,6 @@ use sdd_domain::local::Local;
 use sdd_domain::shared::Shared;
 use std::alloc::Global;
 use std::process::Abort;
-use std::test::Fail;
 use std::thread::join;
 
 /// An item that holds other items, or none.
@@ -205,61 +204,80 @@ fn pass(domain: &Domain<Node>, local: &mut Local<Node>)
     guard.close(domain, local);
 }
 
+/// So many accelerated guards, opened and closed one by one.
+fn passes(domain: &Domain<Node>, local: &mut Local<Node>, count: u8)
+    requires home { (home_of local.old ≡ place_of domain.now) × (hand_of local.old ≡ []) }
+    requires closed { (own_of local.old).nesting ≡ 0 }
+    ensures same { IsSame local.old local.new }
+    ensures closed { (own_of local.new).nesting ≡ 0 }
+{
+    for _n in 0..count {
+        pass(domain, local);
+    }
+}
+
 #[test]
-fn two_threads_read_the_leaves_of_a_directory(rt: HostRuntime) -> Result<(), Fail> {
-    let domain = Domain::new(rt.alloc(), sized(1, 3))?;
+fn two_threads_read_the_leaves_of_a_directory(rt: HostRuntime) {
+    let domain = Domain::new(rt.alloc(), sized(1, 3)).expect(&rt, "memory is there");
     let mut local = member(&rt, &domain);
     let first = leaf(&rt, &domain, &mut local, 1);
     let top = top(&rt, rt.alloc(), &domain, &mut local, first, 2);
     let root = top.as_ref();
     let seen = join(&rt, || sum(root), || sum(root));
-    assert_eq!(rt; seen, (3, 3));
-    assert!(rt; top.release(&domain, &mut local));
+    let last = top.release(&domain, &mut local);
     local.end(&domain);
     end(&rt, domain);
-    Ok(())
+    assert_eq!(rt; (seen, last), ((3, 3), true));
+}
+
+/// How many slots are in use behind each of seven accelerated guards.
+fn seven(domain: &Domain<Node>, local: &mut Local<Node>) -> [usize; 7]
+    requires home { (home_of local.old ≡ place_of domain.now) × (hand_of local.old ≡ []) }
+    requires closed { (own_of local.old).nesting ≡ 0 }
+    ensures same { IsSame local.old local.new }
+    ensures closed { (own_of local.new).nesting ≡ 0 }
+{
+    let mut seen = [0usize; 7];
+    for n in 0..7 {
+        pass(domain, local);
+        seen[n] = domain.slots_in_use();
+    }
+    seen
 }
 
 #[test]
-fn an_item_is_reclaimed_before_what_it_held(rt: HostRuntime) -> Result<(), Fail> {
-    let domain = Domain::new(rt.alloc(), sized(1, 3))?;
+fn an_item_is_reclaimed_before_what_it_held(rt: HostRuntime) {
+    let domain = Domain::new(rt.alloc(), sized(1, 3)).expect(&rt, "memory is there");
     let mut local = member(&rt, &domain);
     let first = leaf(&rt, &domain, &mut local, 1);
     let top = top(&rt, rt.alloc(), &domain, &mut local, first, 2);
-    assert!(rt; top.release(&domain, &mut local));
-    let mut seen = [0usize; 7];
-    for n in 0..7 {
-        pass(&domain, &mut local);
-        seen[n] = domain.slots_in_use();
-    }
-    assert_eq!(rt; seen, [3, 3, 3, 2, 2, 2, 0]);
+    let last = top.release(&domain, &mut local);
+    let seen = seven(&domain, &mut local);
     local.end(&domain);
     end(&rt, domain);
-    Ok(())
+    assert_eq!(rt; (last, seen), (true, [3, 3, 3, 2, 2, 2, 0]));
 }
 
 #[test]
-fn what_an_item_held_stays_while_it_has_another_owner(rt: HostRuntime) -> Result<(), Fail> {
-    let domain = Domain::new(rt.alloc(), sized(1, 3))?;
+fn what_an_item_held_stays_while_it_has_another_owner(rt: HostRuntime) {
+    let domain = Domain::new(rt.alloc(), sized(1, 3)).expect(&rt, "memory is there");
     let mut local = member(&rt, &domain);
     let first = leaf(&rt, &domain, &mut local, 1);
     let (first, kept) = twice(&rt, &domain, &mut local, first);
     let top = top(&rt, rt.alloc(), &domain, &mut local, first, 2);
-    assert!(rt; top.release(&domain, &mut local));
-    for _n in 0..8 {
-        pass(&domain, &mut local);
-    }
-    assert_eq!(rt; domain.slots_in_use(), 1);
-    assert_eq!(rt; number(kept.as_ref()), 1);
-    assert!(rt; kept.release(&domain, &mut local));
+    let released = top.release(&domain, &mut local);
+    passes(&domain, &mut local, 8);
+    let slots = domain.slots_in_use();
+    let number = number(kept.as_ref());
+    let last = kept.release(&domain, &mut local);
     local.end(&domain);
     end(&rt, domain);
-    Ok(())
+    assert_eq!(rt; (released, slots, number, last), (true, 1, 1, true));
 }
 
 #[test]
-fn a_full_place_gives_back_what_an_item_was_to_hold(rt: HostRuntime) -> Result<(), Fail> {
-    let domain = Domain::new(rt.alloc(), sized(1, 2))?;
+fn a_full_place_gives_back_what_an_item_was_to_hold(rt: HostRuntime) {
+    let domain = Domain::new(rt.alloc(), sized(1, 2)).expect(&rt, "memory is there");
     let mut local = member(&rt, &domain);
     let first = leaf(&rt, &domain, &mut local, 1);
     let second = leaf(&rt, &domain, &mut local, 2);
@@ -270,10 +288,12 @@ fn a_full_place_gives_back_what_an_item_was_to_hold(rt: HostRuntime) -> Result<(
         }
         Err(both) => both,
     };
-    assert_eq!(rt; (number(first.as_ref()), number(second.as_ref())), (1, 2));
-    assert!(rt; second.release(&domain, &mut local));
-    assert!(rt; first.release(&domain, &mut local));
+    let numbers = (number(first.as_ref()), number(second.as_ref()));
+    let last = (
+        second.release(&domain, &mut local),
+        first.release(&domain, &mut local),
+    );
     local.end(&domain);
     end(&rt, domain);
-    Ok(())
+    assert_eq!(rt; (numbers, last), ((1, 2), (true, true)));
 }

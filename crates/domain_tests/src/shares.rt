@@ -7,7 +7,7 @@ ghost use Rattle.sdd_domain.specs.Tokens.{place_of, home_of, hand_of, own_of, ce
 
 use crate::cells::{Scene, cell_with, read, reclaim_all, spent};
 use crate::domain::{end, member};
-use crate::guard::pass;
+use crate::guard::{pass, passes};
 use crate::items::{placed, sized};
 use sdd_base::tag::Tag;
 use sdd_domain::atomic_shared::AtomicShared;
@@ -63,18 +63,6 @@ fn released(domain: &Domain<u64>, local: &mut Local<u64>, owner: Option<Shared<u
     }
 }
 
-/// Opens and closes so many accelerated guards.
-fn passes(domain: &Domain<u64>, local: &mut Local<u64>, guards: u32)
-    requires home { (home_of local.old ≡ place_of domain.now) × (hand_of local.old ≡ []) }
-    requires closed { (own_of local.old).nesting ≡ 0 }
-    ensures same { IsSame local.old local.new }
-    ensures closed { (own_of local.new).nesting ≡ 0 }
-{
-    for _i in 0..guards {
-        let _ = pass(domain, local, true);
-    }
-}
-
 #[test]
 fn an_owner_of_what_was_loaded_outlives_guard_and_cell(rt: HostRuntime) -> Result<(), Fail> {
     let domain = Domain::new(rt.alloc(), sized(1, 2))?;
@@ -82,10 +70,10 @@ fn an_owner_of_what_was_loaded_outlives_guard_and_cell(rt: HostRuntime) -> Resul
     let cell = cell_with(&rt, &domain, &mut local, 7);
     let (owner, seen) = shared(&domain, &mut local, &cell);
     let with_cell = cell.retire(&domain, &mut local);
-    passes(&domain, &mut local, 6);
+    passes(&domain, &mut local, true, 6);
     let kept = (item_of(&owner), domain.slots_in_use());
     let last = released(&domain, &mut local, owner);
-    passes(&domain, &mut local, 4);
+    passes(&domain, &mut local, true, 4);
     let left = domain.slots_in_use();
     local.end(&domain);
     end(&rt, domain);
@@ -132,10 +120,10 @@ fn an_owners_item_is_read_until_the_guard_closes(rt: HostRuntime) -> Result<(), 
     let (owner, pointer) = owner.get_guarded_ptr(&domain, &guard, &mut local);
     let (owner, item) = owner.get_guarded_ref(&domain, &guard, &mut local);
     let last = owner.release(&domain, &mut local);
-    passes(&domain, &mut other, 6);
+    passes(&domain, &mut other, true, 6);
     let read = (pointer.as_ref().copied(), *item, domain.slots_in_use());
     guard.close(&domain, &mut local);
-    passes(&domain, &mut local, 4);
+    passes(&domain, &mut local, true, 4);
     let left = domain.slots_in_use();
     local.end(&domain);
     other.end(&domain);
@@ -200,7 +188,7 @@ fn a_cell_is_made_of_an_item_where_there_are_slots_and_cells(rt: HostRuntime) ->
         Err(item) => Some(item),
     };
     owner.release(&domain, &mut local);
-    passes(&domain, &mut local, 4);
+    passes(&domain, &mut local, true, 4);
     let made = match AtomicShared::new(3, &domain, &mut local) {
         Ok(cell) => {
             let item = read(&domain, &mut local, &cell);

@@ -4,9 +4,9 @@ ghost use Rattle.std.specs.Prelude.{◌≡◌, ◌<◌, []};
 ghost use Rattle.sdd_domain.specs.Cells.{cell_number};
 ghost use Rattle.sdd_domain.specs.Tokens.{place_of, home_of, hand_of, own_of, cell_count, nest_of, nest_in, IsSame, IsInNest};
 
-use crate::cells::{cell_with, exchanged, spent};
-use crate::domain::{end, member};
+use crate::cells::{Tried, exchanged, spent};
 use crate::items::{placed, sized};
+use crate::members::with_cell;
 use sdd_base::tag::Tag;
 use sdd_domain::atomic_shared::AtomicShared;
 use sdd_domain::domain::Domain;
@@ -14,10 +14,9 @@ use sdd_domain::guard::Guard;
 use sdd_domain::local::Local;
 use sdd_domain::pointer::Ptr;
 use std::process::Abort;
-use std::test::Fail;
 
 /// Swaps the cell for an item of this value, or none, and this tag: what it had.
-fn swapped<R: Abort>(
+pub(crate) fn swapped<R: Abort>(
     rt: &R,
     domain: &Domain<u64>,
     local: &mut Local<u64>,
@@ -38,21 +37,25 @@ fn swapped<R: Abort>(
 }
 
 #[test]
-fn a_tag_is_swapped_together_with_the_item(rt: HostRuntime) -> Result<(), Fail> {
-    let domain = Domain::new(rt.alloc(), sized(1, 8))?;
-    let mut local = member(&rt, &domain);
-    let cell = cell_with(&rt, &domain, &mut local, 14);
-    let first = swapped(&rt, &domain, &mut local, &cell, (Some(15), Tag::Second));
-    let second = swapped(&rt, &domain, &mut local, &cell, (None, Tag::First));
-    let tag = cell.tag(&domain);
-    let third = swapped(&rt, &domain, &mut local, &cell, (None, Tag::None));
-    cell.retire(&domain, &mut local);
-    local.end(&domain);
-    end(&rt, domain);
-    assert_eq!(rt; first, (Some(14), Tag::None));
-    assert_eq!(rt; second, (Some(15), Tag::Second));
-    assert_eq!(rt; (tag, third), (Tag::First, (None, Tag::First)));
-    Ok(())
+fn a_tag_is_swapped_together_with_the_item(rt: HostRuntime) {
+    let (found, _) = with_cell(&rt, rt.alloc(), sized(1, 8), Some(14), |keeper| {
+        let first = keeper.swapped(&rt, Some(15), Tag::Second);
+        let second = keeper.swapped(&rt, None, Tag::First);
+        let tag = keeper.tag();
+        let third = keeper.swapped(&rt, None, Tag::None);
+        ([first, second, third], tag)
+    });
+    assert_eq!(rt;
+        found,
+        (
+            [
+                (Some(14), Tag::None),
+                (Some(15), Tag::Second),
+                (None, Tag::First),
+            ],
+            Tag::First,
+        )
+    );
 }
 
 /// Whether a pointer is equal to itself with another tag, and to that without a tag; and its tag then.
@@ -63,24 +66,37 @@ fn compared(pointer: Ptr<u64>) -> (bool, bool, Tag) {
     (equal, other == pointer.without_tag(), pointer.tag())
 }
 
-#[test]
-fn pointers_are_equal_by_item_and_tag(rt: HostRuntime) -> Result<(), Fail> {
-    let domain = Domain::new(rt.alloc(), sized(1, 8))?;
-    let mut local = member(&rt, &domain);
-    let cell = cell_with(&rt, &domain, &mut local, 7);
-    swapped(&rt, &domain, &mut local, &cell, (Some(8), Tag::First));
-    let Ok(guard) = Guard::new(&domain, &mut local) else {
+/// What `compared` says of what is loaded from the cell.
+fn loaded_compared(
+    domain: &Domain<u64>,
+    local: &mut Local<u64>,
+    cell: &AtomicShared,
+) -> (bool, bool, Tag)
+    requires home { (home_of local.old ≡ place_of domain.now) × (hand_of local.old ≡ []) }
+    requires closed { (own_of local.old).nesting ≡ 0 }
+    requires inside { cell_number cell.now < cell_count domain.now }
+    ensures same { IsSame local.old local.new }
+    ensures closed { (own_of local.new).nesting ≡ 0 }
+{
+    let Ok(guard) = Guard::new(domain, local) else {
         unreachable!();
     };
-    let loaded = compared(cell.load(&domain, &guard, &mut local));
+    let found = compared(cell.load(domain, &guard, local));
+    guard.close(domain, local);
+    found
+}
+
+#[test]
+fn pointers_are_equal_by_item_and_tag(rt: HostRuntime) {
+    let (loaded, _) = with_cell(&rt, rt.alloc(), sized(1, 8), Some(7), |keeper| {
+        keeper.swapped(&rt, Some(8), Tag::First);
+        loaded_compared(keeper.domain, &mut keeper.local, &keeper.cell)
+    });
     let null = compared(Ptr::default());
-    guard.close(&domain, &mut local);
-    cell.retire(&domain, &mut local);
-    local.end(&domain);
-    end(&rt, domain);
-    assert_eq!(rt; loaded, (false, true, Tag::First));
-    assert_eq!(rt; null, (false, true, Tag::None));
-    Ok(())
+    assert_eq!(rt;
+        [loaded, null],
+        [(false, true, Tag::First), (false, true, Tag::None)]
+    );
 }
 
 /// Empties the cell where it is as the pointer, and sets a tag: whether what the cell names then is told as it is loaded.
@@ -107,27 +123,39 @@ fn emptied(
     named.map(|told| told == found)
 }
 
-#[test]
-fn an_exchange_is_refused_for_the_tag_alone(rt: HostRuntime) -> Result<(), Fail> {
-    let domain = Domain::new(rt.alloc(), sized(1, 8))?;
-    let mut local = member(&rt, &domain);
-    let cell = cell_with(&rt, &domain, &mut local, 7);
-    let Ok(guard) = Guard::new(&domain, &mut local) else {
+/// Tries to put 8 into the cell where it has what was loaded but with another tag, then 9 where it has what was loaded;
+/// and empties it then, as `emptied` does.
+fn exchanges_by_tag<R: Abort>(
+    rt: &R,
+    domain: &Domain<u64>,
+    local: &mut Local<u64>,
+    cell: &AtomicShared,
+) -> (Tried, Tried, Option<bool>)
+    requires home { (home_of local.old ≡ place_of domain.now) × (hand_of local.old ≡ []) }
+    requires closed { (own_of local.old).nesting ≡ 0 }
+    requires inside { cell_number cell.now < cell_count domain.now }
+    ensures same { IsSame local.old local.new }
+    ensures closed { (own_of local.new).nesting ≡ 0 }
+{
+    let Ok(guard) = Guard::new(domain, local) else {
         unreachable!();
     };
-    let seven = cell.load(&domain, &guard, &mut local);
+    let seven = cell.load(domain, &guard, local);
     let other = seven.with_tag(Tag::First);
-    let miss = exchanged(&rt, &domain, &guard, &mut local, &cell, other, Some(8));
-    let hit = exchanged(&rt, &domain, &guard, &mut local, &cell, seven, Some(9));
-    let nine = cell.load(&domain, &guard, &mut local);
-    let told = emptied(&domain, &guard, &mut local, &cell, nine);
-    guard.close(&domain, &mut local);
-    cell.retire(&domain, &mut local);
-    local.end(&domain);
-    end(&rt, domain);
-    assert_eq!(rt; miss, Err((Some(8), Some(7))));
-    assert_eq!(rt; (hit, told), (Ok(Some(7)), Some(true)));
-    Ok(())
+    let miss = exchanged(rt, domain, &guard, local, cell, other, Some(8));
+    let hit = exchanged(rt, domain, &guard, local, cell, seven, Some(9));
+    let nine = cell.load(domain, &guard, local);
+    let told = emptied(domain, &guard, local, cell, nine);
+    guard.close(domain, local);
+    (miss, hit, told)
+}
+
+#[test]
+fn an_exchange_is_refused_for_the_tag_alone(rt: HostRuntime) {
+    let (found, _) = with_cell(&rt, rt.alloc(), sized(1, 8), Some(7), |keeper| {
+        exchanges_by_tag(&rt, keeper.domain, &mut keeper.local, &keeper.cell)
+    });
+    assert_eq!(rt; found, (Err((Some(8), Some(7))), Ok(Some(7)), Some(true),));
 }
 
 /// Sets the tag of the cell if it has this one: whether it did, and the tag then.
@@ -149,22 +177,34 @@ fn changed(
     (done, cell.tag(domain))
 }
 
-#[test]
-fn a_tag_is_set_where_the_pointer_is_as_asked(rt: HostRuntime) -> Result<(), Fail> {
-    let domain = Domain::new(rt.alloc(), sized(1, 8))?;
-    let mut local = member(&rt, &domain);
-    let cell = cell_with(&rt, &domain, &mut local, 7);
-    let Ok(guard) = Guard::new(&domain, &mut local) else {
+/// Sets the tags `Both` and then `First` where the cell has none, under one guard.
+fn changes(domain: &Domain<u64>, local: &mut Local<u64>, cell: &AtomicShared) -> [(bool, Tag); 2]
+    requires home { (home_of local.old ≡ place_of domain.now) × (hand_of local.old ≡ []) }
+    requires closed { (own_of local.old).nesting ≡ 0 }
+    requires inside { cell_number cell.now < cell_count domain.now }
+    ensures same { IsSame local.old local.new }
+    ensures closed { (own_of local.new).nesting ≡ 0 }
+{
+    let Ok(guard) = Guard::new(domain, local) else {
         unreachable!();
     };
-    let first = changed(&domain, &guard, &mut local, &cell, Tag::None, Tag::Both);
-    let second = changed(&domain, &guard, &mut local, &cell, Tag::None, Tag::First);
-    guard.close(&domain, &mut local);
-    let kept = swapped(&rt, &domain, &mut local, &cell, (None, Tag::None));
-    cell.retire(&domain, &mut local);
-    local.end(&domain);
-    end(&rt, domain);
-    assert_eq!(rt; (first, second), ((true, Tag::Both), (false, Tag::Both)));
-    assert_eq!(rt; kept, (Some(7), Tag::Both));
-    Ok(())
+    let first = changed(domain, &guard, local, cell, Tag::None, Tag::Both);
+    let second = changed(domain, &guard, local, cell, Tag::None, Tag::First);
+    guard.close(domain, local);
+    [first, second]
+}
+
+#[test]
+fn a_tag_is_set_where_the_pointer_is_as_asked(rt: HostRuntime) {
+    let (found, _) = with_cell(&rt, rt.alloc(), sized(1, 8), Some(7), |keeper| {
+        let set = changes(keeper.domain, &mut keeper.local, &keeper.cell);
+        (set, keeper.swapped(&rt, None, Tag::None))
+    });
+    assert_eq!(rt;
+        found,
+        (
+            [(true, Tag::Both), (false, Tag::Both)],
+            (Some(7), Tag::Both),
+        )
+    );
 }

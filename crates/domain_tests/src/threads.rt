@@ -9,7 +9,6 @@ use sdd_base::epoch::Epoch;
 use sdd_domain::domain::Domain;
 use sdd_domain::guard::Guard;
 use sdd_domain::local::Local;
-use std::test::Fail;
 use std::thread::join;
 
 /// An accelerated guard under which the epoch is read three times: whether it went on by one at most.
@@ -67,47 +66,41 @@ fn comes_and_goes(domain: &Domain<u64>) -> Option<u32> {
 }
 
 #[test]
-fn four_threads_open_a_thousand_accelerated_guards_each(rt: HostRuntime) -> Result<(), Fail> {
-    let domain = Domain::new(rt.alloc(), only(4))?;
+fn four_threads_open_a_thousand_accelerated_guards_each(rt: HostRuntime) {
+    let domain = Domain::new(rt.alloc(), only(4)).expect(&rt, "memory is there");
     let ((a, b), (c, d)) = join(
         &rt,
         || join(&rt, || stays(&domain), || stays(&domain)),
         || join(&rt, || stays(&domain), || stays(&domain)),
     );
-    assert_eq!(rt;
-        [a, b, c, d],
-        [Some(1000), Some(1000), Some(1000), Some(1000)]
-    );
     let mut local = member(&rt, &domain);
     let before = pass(&domain, &mut local, true);
     let after = pass(&domain, &mut local, true);
-    assert_eq!(rt; u32::from(after), (u32::from(before) + 1) % 64);
     local.end(&domain);
     end(&rt, domain);
-    Ok(())
+    assert_eq!(rt; [a, b, c, d], [Some(1000); 4]);
+    assert_eq!(rt; u32::from(after), (u32::from(before) + 1) % 64);
 }
 
 #[test]
-fn participants_come_and_go_beside_guards_of_others(rt: HostRuntime) -> Result<(), Fail> {
-    let domain = Domain::new(rt.alloc(), only(2))?;
+fn participants_come_and_go_beside_guards_of_others(rt: HostRuntime) {
+    let domain = Domain::new(rt.alloc(), only(2)).expect(&rt, "memory is there");
     let (a, b) = join(&rt, || stays(&domain), || comes_and_goes(&domain));
-    assert_eq!(rt; [a, b], [Some(1000), Some(1000)]);
     end(&rt, domain);
-    Ok(())
+    assert_eq!(rt; [a, b], [Some(1000); 2]);
 }
 
 #[test]
-fn the_count_is_raised_once_under_a_guard_whatever_others_do(rt: HostRuntime) -> Result<(), Fail> {
-    let domain = Domain::new(rt.alloc(), only(3))?;
+fn the_count_is_raised_once_under_a_guard_whatever_others_do(rt: HostRuntime) {
+    let domain = Domain::new(rt.alloc(), only(3)).expect(&rt, "memory is there");
     let mut local = member(&rt, &domain);
     let Ok(guard) = Guard::new(&domain, &mut local) else {
         unreachable!();
     };
     let (a, b) = join(&rt, || stays(&domain), || stays(&domain));
-    assert_eq!(rt; [a, b], [Some(1000), Some(1000)]);
-    assert_eq!(rt; u8::from(guard.epoch(&domain, &mut local)), 1);
+    let epoch = u8::from(guard.epoch(&domain, &mut local));
     guard.close(&domain, &mut local);
     local.end(&domain);
     end(&rt, domain);
-    Ok(())
+    assert_eq!(rt; ([a, b], epoch), ([Some(1000); 2], 1));
 }
