@@ -58,13 +58,9 @@ fn commit<R: Abort>(
     let accepted = index
         .commit(receipt, writes)
         .expect(rt, "an accepted commit");
-    assert!(rt; accepted.number == 1 && accepted.replies.len() as u64 == count);
-    assert!(rt;
-        accepted
-            .replies
-            .iter()
-            .all(|reply| *reply == Reply::Inserted)
-    );
+    let replies = accepted.replies.as_slice();
+    let inserted = replies.iter().all(|reply| *reply == Reply::Inserted);
+    assert!(rt; accepted.number == 1 && replies.len() as u64 == count && inserted);
 }
 
 // Whether the list of a session has the keys below a number, each its own value, and no other.

@@ -230,114 +230,123 @@ impl Lists {
         Ok(Wanted::Made(after, replies))
     }
 
-    // Without sessions, no more slots are in use than the present list may take.
-    fn look_after_reclaiming<R: Abort>(&self, rt: &R, room: &Room) {
-        assert!(rt; room.after <= room.before);
-        if self.sessions.is_empty() {
-            assert!(rt; room.after <= room.of(self.list(self.number()).len()));
-        }
+    // Whether no more slots are in use than before, and without sessions no more than the present list may take.
+    fn is_reclaimed(&self, room: &Room) -> bool {
+        let is_small = room.after <= room.of(self.list(self.number()).len());
+        room.after <= room.before && (is_small || !self.sessions.is_empty())
     }
 
-    // Compares a reply with what is wanted, and does what it says.
-    fn follow<R: Abort>(
+    // Whether a reply is what is wanted. Does what it says.
+    fn follow(
         &mut self,
-        rt: &R,
         alloc: Global,
-        label: u64,
-        writes: &[Write<u64, u64>],
+        asked: &Asked,
         wanted: Wanted,
         reply: DeskReply<u64, u64>,
         room: &Room,
-    ) {
+    ) -> Result<bool, AllocError> {
         match reply {
             DeskReply::Accepted(accepted) => {
-                self.follow_accepted(rt, wanted, &accepted, writes, room);
+                self.follow_accepted(wanted, &accepted, &asked.writes, room)
             }
             DeskReply::Refused(refused) => {
-                assert!(rt; room.after == room.before);
-                assert!(rt; refused.writes.as_slice() == writes);
-                self.follow_refused(rt, wanted, refused.cause, writes, room);
+                let kept = room.is_kept() && refused.writes.as_slice() == asked.writes.as_slice();
+                Ok(self.follow_refused(&wanted, refused.cause, &asked.writes, room) && kept)
             }
             DeskReply::NoSession(back) => {
-                assert!(rt; room.after == room.before);
-                assert!(rt; back.as_slice() == writes);
-                assert!(rt; is_no_session(&wanted));
                 self.met.no_session = self.met.no_session.saturating_add(1);
+                let kept = room.is_kept() && back.as_slice() == asked.writes.as_slice();
+                Ok(kept && is_no_session(&wanted))
             }
             reply => {
-                assert!(rt; room.after == room.before);
-                self.follow_session(rt, alloc, label, wanted, &reply, room);
+                let right = self.follow_session(alloc, asked.label, wanted, &reply, room)?;
+                Ok(right && room.is_kept())
             }
         }
     }
 
-    fn follow_session<R: Abort>(
+    fn follow_session(
         &mut self,
-        rt: &R,
         alloc: Global,
         label: u64,
         wanted: Wanted,
         reply: &DeskReply<u64, u64>,
         room: &Room,
-    ) {
+    ) -> Result<bool, AllocError> {
         match (wanted, reply) {
             (Wanted::Opened, DeskReply::Opened(told)) => {
-                assert!(rt; *told == self.number() as u64);
-                self.sit(rt, alloc, label);
+                self.sit(alloc, label)?;
+                Ok(*told == self.number() as u64)
             }
+            (Wanted::Closed(number), DeskReply::Closed(receipt)) => {
+                Ok(self.leave(label, receipt) && receipt.number == number as u64)
+            }
+            (Wanted::Answer(query, answer), DeskReply::Answer(told)) => {
+                let right = *told == answer;
+                self.note(label, query, answer)?;
+                Ok(right)
+            }
+            (Wanted::Audit(audit), DeskReply::Audit(told)) => {
+                self.count(audit);
+                Ok(*told == audit)
+            }
+            (wanted, reply) => Ok(self.follow_count(&wanted, reply, room)),
+        }
+    }
+
+    // The same of a reply that changes nothing.
+    fn follow_count(&mut self, wanted: &Wanted, reply: &DeskReply<u64, u64>, room: &Room) -> bool {
+        match (wanted, reply) {
             (Wanted::NoPlace, DeskReply::NoPlace) => {
                 self.met.no_place = self.met.no_place.saturating_add(1);
+                true
             }
             (Wanted::Busy, DeskReply::Busy) => {
                 self.met.busy = self.met.busy.saturating_add(1);
+                true
             }
-            (Wanted::Closed(number), DeskReply::Closed(receipt)) => {
-                assert!(rt; receipt.number == number as u64);
-                let Some(session) = self.session(label) else {
-                    panic!(rt; "no such session");
-                };
-                assert!(rt; receipt.reads.as_slice() == session.reads.as_slice());
-                self.sessions.retain(|session| session.label != label);
-            }
-            (Wanted::Number(number), DeskReply::Number(told)) => {
-                assert!(rt; *told == number as u64);
-            }
-            (Wanted::Len(len), DeskReply::Len(told)) => {
-                assert!(rt; *told == len);
-            }
-            (Wanted::Slots, DeskReply::Slots(used)) => {
-                assert!(rt; *used == room.after);
-            }
-            (Wanted::Answer(query, answer), DeskReply::Answer(told)) => {
-                assert!(rt; *told == answer);
-                self.note(rt, label, query, answer);
-            }
-            (Wanted::Audit(audit), DeskReply::Audit(told)) => {
-                assert!(rt; *told == audit);
-                self.count(audit);
-            }
-            _ => panic!(rt; "a reply of another kind"),
+            (Wanted::Number(number), DeskReply::Number(told)) => *told == *number as u64,
+            (Wanted::Len(len), DeskReply::Len(told)) => *told == *len,
+            (Wanted::Slots, DeskReply::Slots(used)) => *used == room.after,
+            _ => false,
         }
     }
 
     // A session opens on the present list.
-    fn sit<R: Abort>(&mut self, rt: &R, alloc: Global, label: u64) {
+    fn sit(&mut self, alloc: Global, label: u64) -> Result<(), AllocError> {
         let sitting = Sitting {
             label,
             number: self.number(),
             reads: Vec::new(alloc),
         };
-        self.sessions.push(sitting).expect(rt, "room");
+        self.sessions.push(sitting)?;
+        Ok(())
+    }
+
+    // A session closes: whether its receipt has what it recorded.
+    fn leave(&mut self, label: u64, receipt: &Receipt<u64, u64>) -> bool {
+        let right = match self.session(label) {
+            Some(session) => receipt.reads.as_slice() == session.reads.as_slice(),
+            None => false,
+        };
+        self.sessions.retain(|session| session.label != label);
+        right
     }
 
     // A session records a read.
-    fn note<R: Abort>(&mut self, rt: &R, label: u64, query: Query<u64>, answer: Answer<u64, u64>) {
+    fn note(
+        &mut self,
+        label: u64,
+        query: Query<u64>,
+        answer: Answer<u64, u64>,
+    ) -> Result<(), AllocError> {
         for session in &mut self.sessions {
             if session.label == label {
-                session.reads.push((query, answer)).expect(rt, "room");
-                return;
+                session.reads.push((query, answer))?;
+                return Ok(());
             }
         }
+        Ok(())
     }
 
     // Counts an accepted commit that leaves so many pairs.
@@ -359,49 +368,47 @@ impl Lists {
         }
     }
 
-    fn follow_refused<R: Abort>(
+    fn follow_refused(
         &mut self,
-        rt: &R,
-        wanted: Wanted,
+        wanted: &Wanted,
         cause: Cause,
         writes: &[Write<u64, u64>],
         room: &Room,
-    ) {
+    ) -> bool {
         match wanted {
             Wanted::Conflict(place) => {
-                assert!(rt; cause == Cause::Conflict(place));
                 self.met.conflicts = self.met.conflicts.saturating_add(1);
+                cause == Cause::Conflict(*place)
             }
             Wanted::Exhausted => {
-                assert!(rt; cause == Cause::Exhausted);
                 self.met.exhausted = self.met.exhausted.saturating_add(1);
+                cause == Cause::Exhausted
             }
             Wanted::Made(after, _) => {
-                assert!(rt; cause == Cause::NoSlot && room.is_short_for(after.len(), writes));
                 self.met.no_slot = self.met.no_slot.saturating_add(1);
+                cause == Cause::NoSlot && room.is_short_for(after.len(), writes)
             }
-            _ => panic!(rt; "a reply of another kind"),
+            _ => false,
         }
     }
 
-    fn follow_accepted<R: Abort>(
+    fn follow_accepted(
         &mut self,
-        rt: &R,
         wanted: Wanted,
         accepted: &Accepted,
         writes: &[Write<u64, u64>],
         room: &Room,
-    ) {
-        match wanted {
-            Wanted::Made(after, replies) => {
-                let number = (self.number() as u64).saturating_add(1);
-                assert!(rt; accepted.number == number && room.suffices(after.len(), writes));
-                assert!(rt; accepted.replies.as_slice() == replies.as_slice());
-                self.count_accepted(after.len(), room);
-                self.lists.push(Seq::from_vec(after)).expect(rt, "room");
-            }
-            _ => panic!(rt; "a reply of another kind"),
-        }
+    ) -> Result<bool, AllocError> {
+        let Wanted::Made(after, replies) = wanted else {
+            return Ok(false);
+        };
+        let number = (self.number() as u64).saturating_add(1);
+        let right = accepted.number == number
+            && room.suffices(after.len(), writes)
+            && accepted.replies.as_slice() == replies.as_slice();
+        self.count_accepted(after.len(), room);
+        self.lists.push(Seq::from_vec(after))?;
+        Ok(right)
     }
 }
 
@@ -427,6 +434,13 @@ fn is_no_session(wanted: &Wanted) -> bool {
     }
 }
 
+// The label of a call, and its writes.
+#[derive(Drop)]
+struct Asked {
+    label: u64,
+    writes: Vec<Write<u64, u64>>,
+}
+
 // How many slots there are, and how many were in use before and after a call.
 #[derive(Drop)]
 struct Room {
@@ -437,6 +451,11 @@ struct Room {
 }
 
 impl Room {
+    // Whether as many slots are in use as before.
+    fn is_kept(&self) -> bool {
+        self.after == self.before
+    }
+
     // How many slots a version of so many pairs takes at most.
     fn of(&self, pairs: usize) -> usize {
         pairs
@@ -473,12 +492,8 @@ fn room_of_writes(writes: &[Write<u64, u64>]) -> usize {
     writes.len().saturating_mul(2).saturating_add(1)
 }
 
-// The label of a call, and its writes.
-fn parts_of(
-    alloc: Global,
-    call: &DeskCall<u64, u64>,
-) -> Result<(u64, Vec<Write<u64, u64>>), AllocError> {
-    match call {
+fn asked_by(alloc: Global, call: &DeskCall<u64, u64>) -> Result<Asked, AllocError> {
+    let (label, writes) = match call {
         DeskCall::Open(label)
         | DeskCall::Close(label)
         | DeskCall::Number(label)
@@ -486,163 +501,211 @@ fn parts_of(
         | DeskCall::Contains(label, _)
         | DeskCall::Range(label, _, _)
         | DeskCall::Locate(label, _)
-        | DeskCall::Get(label, _) => Ok((*label, Vec::new(alloc))),
-        DeskCall::Reclaim | DeskCall::Slots | DeskCall::Audit(_) => {
-            Ok((LABELS, Vec::new(alloc)))
-        }
-        DeskCall::Commit(_, writes) => Ok((LABELS, writes.clone()?)),
+        | DeskCall::Get(label, _) => (*label, Vec::new(alloc)),
+        DeskCall::Reclaim | DeskCall::Slots | DeskCall::Audit(_) => (LABELS, Vec::new(alloc)),
+        DeskCall::Commit(_, writes) => (LABELS, writes.clone()?),
+    };
+    Ok(Asked { label, writes })
+}
+
+// Makes one call on an index: its only reply, and the slots in use.
+fn replied<const S: usize>(
+    alloc: Global,
+    index: &mut LocalIndex<u64, u64, S>,
+    desk: &mut Desk<u64, u64>,
+    slots: usize,
+    call: DeskCall<u64, u64>,
+) -> Result<(DeskReply<u64, u64>, Room), AllocError>
+    requires { Serves (record { index = index.old; desk = desk.old }) }
+    ensures { Serves (record { index = index.new; desk = desk.new }) }
+{
+    let calls = vec![in alloc; call]?;
+    let before = index.slots_in_use();
+    let Ok(mut replies) = play_all(alloc, index, desk, calls) else {
+        return Err(AllocError);
+    };
+    let room = Room {
+        slots,
+        segment: S,
+        before,
+        after: index.slots_in_use(),
+    };
+    match replies.pop() {
+        Some(reply) if replies.is_empty() => Ok((reply, room)),
+        _ => Err(AllocError),
     }
 }
 
-// Makes one call on both.
-fn play<R: Abort, const S: usize>(
-    rt: &R,
+// Makes one call on both, and tells whether they answer the same.
+fn play<const S: usize>(
     alloc: Global,
     index: &mut LocalIndex<u64, u64, S>,
     desk: &mut Desk<u64, u64>,
     lists: &mut Lists,
     slots: usize,
     call: DeskCall<u64, u64>,
-) -> Result<(), AllocError>
+) -> Result<bool, AllocError>
     requires { Serves (record { index = index.old; desk = desk.old }) }
     ensures { Serves (record { index = index.new; desk = desk.new }) }
 {
     let wanted = lists.wanted(alloc, &call)?;
-    let (label, writes) = parts_of(alloc, &call)?;
-    let before = index.slots_in_use();
-    let calls = vec![in alloc; call]?;
-    let Ok(mut replies) = play_all(alloc, index, desk, calls) else {
-        panic!(rt; "memory was refused");
-    };
-    let after = index.slots_in_use();
-    let room = Room {
-        slots,
-        segment: S,
-        before,
-        after,
-    };
-    match replies.pop() {
-        Some(reply) => lists.follow(rt, alloc, label, &writes, wanted, reply, &room),
-        None => panic!(rt; "a call without a reply"),
-    }
-    assert!(rt; replies.is_empty());
-    Ok(())
+    let asked = asked_by(alloc, &call)?;
+    let (reply, room) = replied(alloc, index, desk, slots, call)?;
+    lists.follow(alloc, &asked, wanted, reply, &room)
 }
 
-// Reclaims, and looks how many slots that leaves.
-fn reclaim<R: Abort, const S: usize>(
-    rt: &R,
+// Reclaims, and tells whether that leaves as few slots in use as it has to.
+fn reclaim<const S: usize>(
     index: &mut LocalIndex<u64, u64, S>,
     desk: &Desk<u64, u64>,
     lists: &Lists,
-)
+) -> bool
     requires { Serves (record { index = index.old; desk = desk.now }) }
     ensures { Serves (record { index = index.new; desk = desk.now }) }
 {
     let before = index.slots_in_use();
     index.reclaim();
-    let room = Room {
+    lists.is_reclaimed(&Room {
         slots: 0,
         segment: S,
         before,
         after: index.slots_in_use(),
-    };
-    lists.look_after_reclaiming(rt, &room);
+    })
 }
 
-// Looks whether the session with the label has the list of its number, all keys of it.
-fn look<R: Abort, const S: usize>(
-    rt: &R,
+// Whether the session with the label has this list with this number, all keys of it.
+fn has_list<const S: usize>(
+    index: &LocalIndex<u64, u64, S>,
+    desk: &Desk<u64, u64>,
+    label: u64,
+    number: usize,
+    list: &[(u64, u64)],
+    keys: u64,
+) -> bool
+    requires { Serves (record { index = index.now; desk = desk.now }) }
+{
+    for key in 0..keys {
+        let value = find_value(list, &key).copied();
+        let wanted = (number as u64, list.len(), value, value.is_some());
+        if looked_up(index, desk, label, key) != Some(wanted) {
+            return false;
+        }
+    }
+    true
+}
+
+// Whether the session with the label has the list of its number, or there is none.
+fn look<const S: usize>(
     index: &LocalIndex<u64, u64, S>,
     desk: &Desk<u64, u64>,
     lists: &mut Lists,
     label: u64,
     keys: u64,
-)
+) -> bool
     requires { Serves (record { index = index.now; desk = desk.now }) }
 {
     let number = match lists.session(label) {
         Some(session) => session.number,
-        None => {
-            assert!(rt; desk.session(label).is_none());
-            return;
-        }
+        None => return desk.session(label).is_none(),
     };
-    for key in 0..keys {
-        let list = lists.list(number);
-        let value = find_value(list, &key).copied();
-        let wanted = (number as u64, list.len(), value, value.is_some());
-        assert!(rt; looked_up(index, desk, label, key) == Some(wanted));
-    }
     if number < lists.number() {
         lists.met.older = lists.met.older.saturating_add(1);
     }
+    has_list(index, desk, label, number, lists.list(number), keys)
 }
 
-// Makes a call at random.
-fn step<R: Abort, const S: usize>(
-    rt: &R,
+// What is done at random.
+#[derive(Drop)]
+enum Thrown {
+    Look,
+    Reclaim,
+    Play(DeskCall<u64, u64>),
+}
+
+// A question to a session, or to the index.
+fn thrown_question(dice: &mut Dice, label: u64) -> DeskCall<u64, u64> {
+    match dice.throw(8) {
+        0 | 1 => DeskCall::Number(label),
+        2 | 3 => DeskCall::Len(label),
+        4 => DeskCall::Slots,
+        5 => DeskCall::Audit(ReadSet::Empty),
+        _ => DeskCall::Audit(ReadSet::Session(label)),
+    }
+}
+
+// A call on a receipt.
+fn thrown_on_a_receipt(
+    alloc: Global,
+    dice: &mut Dice,
+    lists: &Lists,
+) -> Result<DeskCall<u64, u64>, AllocError> {
+    let present = lists.number();
+    let receipt = dice.receipt(alloc, lists.list(present), present)?;
+    match dice.throw(3) {
+        0 => Ok(DeskCall::Audit(ReadSet::Receipt(receipt))),
+        _ => Ok(DeskCall::Commit(ReadSet::Receipt(receipt), dice.writes(alloc)?)),
+    }
+}
+
+// What the dice say, by a session with this label.
+fn thrown_by(
+    alloc: Global,
+    dice: &mut Dice,
+    lists: &Lists,
+    label: u64,
+) -> Result<Thrown, AllocError> {
+    let call = match dice.throw(16) {
+        0 | 1 => DeskCall::Open(label),
+        2 => DeskCall::Close(label),
+        3 => thrown_question(dice, label),
+        4 | 5 => read_of(label, dice.query()),
+        6 | 7 => return Ok(Thrown::Look),
+        8 | 9 => return Ok(Thrown::Reclaim),
+        10 => DeskCall::Commit(ReadSet::Session(label), dice.writes(alloc)?),
+        11 | 12 => DeskCall::Commit(ReadSet::Empty, dice.writes(alloc)?),
+        _ => thrown_on_a_receipt(alloc, dice, lists)?,
+    };
+    Ok(Thrown::Play(call))
+}
+
+// Makes a call at random, and tells whether the index answers as the lists do.
+fn step<const S: usize>(
     alloc: Global,
     index: &mut LocalIndex<u64, u64, S>,
     desk: &mut Desk<u64, u64>,
     lists: &mut Lists,
     dice: &mut Dice,
     slots: usize,
-) -> Result<(), AllocError>
+) -> Result<bool, AllocError>
     requires { Serves (record { index = index.old; desk = desk.old }) }
     ensures { Serves (record { index = index.new; desk = desk.new }) }
 {
     let label = dice.throw(LABELS);
-    let call = match dice.throw(16) {
-        0 | 1 => DeskCall::Open(label),
-        2 => DeskCall::Close(label),
-        3 => match dice.throw(8) {
-            0 | 1 => DeskCall::Number(label),
-            2 | 3 => DeskCall::Len(label),
-            4 => DeskCall::Slots,
-            5 => DeskCall::Audit(ReadSet::Empty),
-            _ => DeskCall::Audit(ReadSet::Session(label)),
-        },
-        4 | 5 => read_of(label, dice.query()),
-        6 | 7 => {
-            look(rt, index, desk, lists, label, dice.keys);
-            return Ok(());
-        }
-        8 | 9 => {
-            reclaim(rt, index, desk, lists);
-            return Ok(());
-        }
-        10 => DeskCall::Commit(ReadSet::Session(label), dice.writes(alloc)?),
-        11 | 12 => DeskCall::Commit(ReadSet::Empty, dice.writes(alloc)?),
-        _ => {
-            let present = lists.number();
-            let receipt = dice.receipt(alloc, lists.list(present), present)?;
-            match dice.throw(3) {
-                0 => DeskCall::Audit(ReadSet::Receipt(receipt)),
-                _ => DeskCall::Commit(ReadSet::Receipt(receipt), dice.writes(alloc)?),
-            }
-        }
-    };
-    play(rt, alloc, index, desk, lists, slots, call)
+    match thrown_by(alloc, dice, lists, label)? {
+        Thrown::Look => Ok(look(index, desk, lists, label, dice.keys)),
+        Thrown::Reclaim => Ok(reclaim(index, desk, lists)),
+        Thrown::Play(call) => play(alloc, index, desk, lists, slots, call),
+    }
 }
 
-// Makes many calls.
-fn steps<R: Abort, const S: usize>(
-    rt: &R,
+// Makes many calls, and tells how many are answered as the lists do before the first that isn't.
+fn steps<const S: usize>(
     alloc: Global,
     index: &mut LocalIndex<u64, u64, S>,
     desk: &mut Desk<u64, u64>,
     lists: &mut Lists,
     dice: &mut Dice,
     slots: usize,
-) -> Result<(), AllocError>
+) -> Result<usize, AllocError>
     requires { Serves (record { index = index.old; desk = desk.old }) }
     ensures { Serves (record { index = index.new; desk = desk.new }) }
 {
     for round in 0..ROUNDS {
-        step(rt, alloc, index, desk, lists, dice, slots)?;
+        if !step(alloc, index, desk, lists, dice, slots)? {
+            return Ok(round);
+        }
     }
-    Ok(())
+    Ok(ROUNDS)
 }
 
 // Makes many calls on an index with so many slots, and looks that each kind of reply was met.
@@ -656,15 +719,17 @@ fn plays<R: Abort, const S: usize>(rt: &R, alloc: Global, slots: usize, start: D
         "room for an index",
     );
     let mut desk = Desk::new(alloc, PLACES).expect(rt, "room for a desk");
-    steps(
-        rt, alloc, &mut index, &mut desk, &mut lists, &mut dice, slots,
-    )
-    .expect(rt, "room");
+    let right = steps(alloc, &mut index, &mut desk, &mut lists, &mut dice, slots);
     desk.end(&mut index);
     match index.close() {
         Ok(()) => {}
         Err(_open) => panic!(rt; "a session is open"),
     }
+    assert_eq!(rt;
+        right,
+        Ok(ROUNDS),
+        "the first call that isn't answered as on lists"
+    );
     assert!(rt; lists.met.accepted == lists.number() && lists.met.has_all());
 }
 

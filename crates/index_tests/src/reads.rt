@@ -3,19 +3,14 @@
 ghost use Rattle.ordered_index.specs.State.{IsSessionOf};
 
 use crate::slots::{commit, end, inserts};
-use crate::table::Call::{Close, Commit, CommitOn, Contains, Get, Locate, Open, Range};
-use crate::table::Told::{
-    Accepted, Audited, Between, Closed, ClosedWith, Exact, Got, Has, Larger, Listed, Opened,
-    Refused, Smaller,
-};
-use crate::table::{Call, Told, on_an_index};
-use ordered_index::{
-    Answer, Audit, Cause, LocalIndex, Near, Query, Receipt, Recorded, Reply, Seq, Session, Write,
-};
-use std::alloc::Global;
+use crate::table::Call::{Audit, Close, Commit, CommitOn, Open, Read};
+use crate::table::Claim::{Between, Exact, Got, Has, Larger, Listed, Mixed, Smaller};
+use crate::table::Told::{Accepted, Audited, Closed, Holds, Opened, Refused};
+use crate::table::{Claim, Row, on_an_index};
+use ordered_index::Audit::{No, Unknown, Yes};
+use ordered_index::{Cause, LocalIndex, Reply, Session, Write};
+use std::alloc::{AllocError, Global};
 use std::ops::Bound;
-use std::process::Abort;
-use std::test::Fail;
 use versions::Nearby;
 
 type Twos = LocalIndex<u64, u64, 2>;
@@ -24,65 +19,45 @@ const ROOM: &str = "room for an index";
 
 const FREE: &str = "a free place";
 
-// The answer that lists these pairs.
-fn pairs<R: Abort>(rt: &R, alloc: Global, pairs: &[(u64, u64)]) -> Answer<u64, u64> {
-    let copy = Vec::from_clones(alloc, pairs).expect(rt, "room for pairs");
-    Answer::Range(Seq::from_vec(copy))
-}
-
-// A receipt with one read.
-fn receipt<R: Abort>(
-    rt: &R,
-    alloc: Global,
-    number: u64,
-    query: Query<u64>,
-    answer: Answer<u64, u64>,
-) -> Receipt<u64, u64> {
-    let mut reads: Vec<Recorded<u64, u64>> = Vec::new(alloc);
-    reads.push((query, answer)).expect(rt, "room for a read");
-    Receipt {
-        number,
-        reads: Seq::from_vec(reads),
-    }
-}
-
 const TWO: [Write<u64, u64>; 2] = [Write::Insert(2, 2), Write::Insert(4, 4)];
 
-const INSERTED: [Reply; 5] = [Reply::Inserted; 5];
+const TWO_INSERTED: [Reply; 2] = [Reply::Inserted; 2];
 
-// The list (2, 2), (4, 4), and a session whose receipt has the pairs from 3 to 5, on which a commit rests after this
-// write.
-fn range_is_read<R: Abort>(
-    rt: &R,
-    alloc: Global,
-    write: &'static [Write<u64, u64>],
-    replies: &'static [Reply],
-) {
-    let read = Query::Range(Bound::Included(3), Bound::Included(5));
-    let receipt = receipt(rt, alloc, 1, read, pairs(rt, alloc, &[(4, 4)]));
-    let rows = [
-        (Commit(&TWO), Accepted(1, &INSERTED[..2])),
-        (Open(1), Opened(1)),
-        (
-            Range(1, Bound::Included(3), Bound::Included(5)),
-            Listed(&[(4, 4)]),
-        ),
-        (Close(1), ClosedWith(0)),
-        (Commit(write), Accepted(2, replies)),
-        (CommitOn(0, &[]), Refused(Cause::Conflict(0))),
-        (Call::Audit(0), Audited(Audit::Yes)),
-    ];
-    on_an_index::<_, 2>(rt, alloc, 1, 32, u64::MAX, &[receipt], &rows);
-}
+const ONE_INSERTED: [Reply; 1] = [Reply::Inserted];
+
+const UPSERTED: [Reply; 1] = [Reply::Upserted];
+
+// The pairs from 3 to 5.
+const FROM_3: Claim = Listed(Bound::Included(3), Bound::Included(5), &[(4, 4)]);
+
+const ENTERED: [Row; 7] = [
+    (Commit(&TWO), Accepted(1, &TWO_INSERTED)),
+    (Open(1), Opened(1)),
+    (Read(1, FROM_3), Holds),
+    (Close(1), Closed(1, &[FROM_3])),
+    (Commit(&[Write::Insert(5, 1)]), Accepted(2, &ONE_INSERTED)),
+    (CommitOn(1, &[FROM_3], &[]), Refused(Cause::Conflict(0))),
+    (Audit(1, &[FROM_3]), Audited(Yes)),
+];
 
 #[test]
 fn a_pair_that_entered_a_recorded_range_conflicts(rt: HostRuntime) {
-    range_is_read(&rt, rt.alloc(), &[Write::Insert(5, 1)], &[Reply::Inserted]);
+    on_an_index::<_, 2>(&rt, rt.alloc(), 1, 32, u64::MAX, &ENTERED);
 }
+
+const LEFT: [Row; 7] = [
+    (Commit(&TWO), Accepted(1, &TWO_INSERTED)),
+    (Open(1), Opened(1)),
+    (Read(1, FROM_3), Holds),
+    (Close(1), Closed(1, &[FROM_3])),
+    (Commit(&[Write::Remove(4)]), Accepted(2, &[Reply::Removed])),
+    (CommitOn(1, &[FROM_3], &[]), Refused(Cause::Conflict(0))),
+    (Audit(1, &[FROM_3]), Audited(Yes)),
+];
 
 #[test]
 fn a_pair_that_left_a_recorded_range_conflicts(rt: HostRuntime) {
-    range_is_read(&rt, rt.alloc(), &[Write::Remove(4)], &[Reply::Removed]);
+    on_an_index::<_, 2>(&rt, rt.alloc(), 1, 32, u64::MAX, &LEFT);
 }
 
 const ODD: [Write<u64, u64>; 5] = [
@@ -93,201 +68,175 @@ const ODD: [Write<u64, u64>; 5] = [
     Write::Insert(9, 9),
 ];
 
-// A receipt of number 1 with a read of each kind, of the odd keys below ten.
-fn receipt_of_all(alloc: Global) -> Result<Receipt<u64, u64>, Fail> {
-    let mut reads: Vec<Recorded<u64, u64>> = Vec::new(alloc);
-    reads.push((Query::Get(3), Answer::Get(Some(3))))?;
-    reads.push((Query::Contains(4), Answer::Contains(false)))?;
-    reads.push((Query::Locate(4), Answer::Locate(Near::Between(3, 3, 5, 5))))?;
-    reads.push((Query::Locate(7), Answer::Locate(Near::Exact(7, 7))))?;
-    reads.push((Query::Locate(10), Answer::Locate(Near::Smaller(9, 9))))?;
-    reads.push((Query::Locate(0), Answer::Locate(Near::Larger(1, 1))))?;
-    Ok(Receipt {
-        number: 1,
-        reads: Seq::from_vec(reads),
-    })
-}
+// A read of each other kind, of the odd keys below ten.
+const READ: [Claim; 6] = [
+    Got(3, Some(3)),
+    Has(4, false),
+    Between(4, (3, 3), (5, 5)),
+    Exact(7, (7, 7)),
+    Smaller(10, (9, 9)),
+    Larger(0, (1, 1)),
+];
+
+const EACH_KIND: [Row; 10] = [
+    (Commit(&ODD), Accepted(1, &[Reply::Inserted; 5])),
+    (Open(1), Opened(1)),
+    (Read(1, Got(3, Some(3))), Holds),
+    (Read(1, Has(4, false)), Holds),
+    (Read(1, Between(4, (3, 3), (5, 5))), Holds),
+    (Read(1, Exact(7, (7, 7))), Holds),
+    (Read(1, Smaller(10, (9, 9))), Holds),
+    (Read(1, Larger(0, (1, 1))), Holds),
+    (Close(1), Closed(1, &READ)),
+    (Audit(1, &READ), Audited(Yes)),
+];
 
 #[test]
-fn each_kind_of_read_is_recorded(rt: HostRuntime) -> Result<(), Fail> {
-    let receipt = receipt_of_all(rt.alloc())?;
-    let rows = [
-        (Commit(&ODD), Accepted(1, &INSERTED)),
-        (Open(1), Opened(1)),
-        (Get(1, 3), Got(Some(3))),
-        (Contains(1, 4), Has(false)),
-        (Locate(1, 4), Between((3, 3), (5, 5))),
-        (Locate(1, 7), Exact(7, 7)),
-        (Locate(1, 10), Smaller(9, 9)),
-        (Locate(1, 0), Larger(1, 1)),
-        (Close(1), ClosedWith(0)),
-        (Call::Audit(0), Audited(Audit::Yes)),
-    ];
-    on_an_index::<_, 2>(&rt, rt.alloc(), 1, 32, u64::MAX, &[receipt], &rows);
-    Ok(())
+fn each_kind_of_read_is_recorded(rt: HostRuntime) {
+    on_an_index::<_, 2>(&rt, rt.alloc(), 1, 32, u64::MAX, &EACH_KIND);
 }
+
+// An answer of another kind, pairs in another order, and a pair within reversed bounds.
+const KIND: Claim = Mixed(1, true);
+
+const TURNED: Claim = Listed(Bound::Included(1), Bound::Included(2), &[(2, 2), (1, 1)]);
+
+const REVERSED: Claim = Listed(Bound::Included(8), Bound::Excluded(1), &[(2, 2)]);
+
+const FORGED: [Row; 5] = [
+    (
+        Commit(&[Write::Insert(1, 1), Write::Insert(2, 2)]),
+        Accepted(1, &TWO_INSERTED),
+    ),
+    (CommitOn(0, &[KIND], &[]), Refused(Cause::Conflict(0))),
+    (Audit(0, &[KIND]), Audited(No(0))),
+    (CommitOn(1, &[TURNED], &[]), Refused(Cause::Conflict(0))),
+    (CommitOn(1, &[REVERSED], &[]), Refused(Cause::Conflict(0))),
+];
 
 #[test]
 fn forged_receipts_conflict_and_audit_no(rt: HostRuntime) {
-    let alloc = rt.alloc();
-    // an answer of another kind
-    let kind = receipt(&rt, alloc, 0, Query::Get(1), Answer::Contains(true));
-    // pairs in another order
-    let query = Query::Range(Bound::Included(1), Bound::Included(2));
-    let turned = receipt(&rt, alloc, 1, query, pairs(&rt, alloc, &[(2, 2), (1, 1)]));
-    // a pair within reversed bounds
-    let query = Query::Range(Bound::Included(8), Bound::Excluded(1));
-    let reversed = receipt(&rt, alloc, 1, query, pairs(&rt, alloc, &[(2, 2)]));
-    let rows = [
-        (
-            Commit(&[Write::Insert(1, 1), Write::Insert(2, 2)]),
-            Accepted(1, &INSERTED[..2]),
-        ),
-        (CommitOn(0, &[]), Refused(Cause::Conflict(0))),
-        (Call::Audit(0), Audited(Audit::No(0))),
-        (CommitOn(1, &[]), Refused(Cause::Conflict(0))),
-        (CommitOn(2, &[]), Refused(Cause::Conflict(0))),
-    ];
-    on_an_index::<_, 2>(
-        &rt,
-        alloc,
-        0,
-        32,
-        u64::MAX,
-        &[kind, turned, reversed],
-        &rows,
-    );
+    on_an_index::<_, 2>(&rt, rt.alloc(), 0, 32, u64::MAX, &FORGED);
 }
+
+const OF_THE_NUMBER: [Row; 6] = [
+    (Commit(&[Write::Upsert(1, 10)]), Accepted(1, &UPSERTED)),
+    (Commit(&[Write::Upsert(1, 11)]), Accepted(2, &UPSERTED)),
+    (Audit(1, &[Got(1, Some(10))]), Audited(Yes)),
+    (Audit(1, &[Got(1, Some(11))]), Audited(No(0))),
+    (Audit(2, &[Got(1, Some(11))]), Audited(Yes)),
+    (Audit(9, &[]), Audited(Unknown)),
+];
 
 #[test]
 fn an_audit_looks_at_the_list_of_the_number(rt: HostRuntime) {
-    let alloc = rt.alloc();
-    let older = receipt(&rt, alloc, 1, Query::Get(1), Answer::Get(Some(10)));
-    let newer = receipt(&rt, alloc, 1, Query::Get(1), Answer::Get(Some(11)));
-    let present = receipt(&rt, alloc, 2, Query::Get(1), Answer::Get(Some(11)));
-    let mut unknown = Receipt::blank(alloc);
-    unknown.number = 9;
-    let rows = [
-        (
-            Commit(&[Write::Upsert(1, 10)]),
-            Accepted(1, &[Reply::Upserted]),
-        ),
-        (
-            Commit(&[Write::Upsert(1, 11)]),
-            Accepted(2, &[Reply::Upserted]),
-        ),
-        (Call::Audit(0), Audited(Audit::Yes)),
-        (Call::Audit(1), Audited(Audit::No(0))),
-        (Call::Audit(2), Audited(Audit::Yes)),
-        (Call::Audit(3), Audited(Audit::Unknown)),
-    ];
-    let receipts = [older, newer, present, unknown];
-    on_an_index::<_, 2>(&rt, alloc, 0, 32, u64::MAX, &receipts, &rows);
+    on_an_index::<_, 2>(&rt, rt.alloc(), 0, 32, u64::MAX, &OF_THE_NUMBER);
 }
 
-// The lists with the numbers 0 to 6 after the commits below.
-const LISTS: [&[(u64, u64)]; 7] = [
-    &[],
-    &[(1, 10)],
-    &[(1, 10), (2, 20)],
-    &[(2, 21)],
-    &[(5, 50)],
-    &[(5, 50), (6, 60)],
+// Reads of all pairs, as the lists with the numbers 0 to 6 have them after the commits below.
+const LIST_0: Claim = Listed(Bound::Unbounded, Bound::Unbounded, &[]);
+
+const LIST_1: Claim = Listed(Bound::Unbounded, Bound::Unbounded, &[(1, 10)]);
+
+const LIST_2: Claim = Listed(Bound::Unbounded, Bound::Unbounded, &[(1, 10), (2, 20)]);
+
+const LIST_3: Claim = Listed(Bound::Unbounded, Bound::Unbounded, &[(2, 21)]);
+
+const LIST_4: Claim = Listed(Bound::Unbounded, Bound::Unbounded, &[(5, 50)]);
+
+const LIST_5: Claim = Listed(Bound::Unbounded, Bound::Unbounded, &[(5, 50), (6, 60)]);
+
+const LIST_6: Claim = Listed(
+    Bound::Unbounded,
+    Bound::Unbounded,
     &[(5, 50), (6, 60), (7, 70)],
-];
-
-// Receipts of the numbers 0 to 6, each with all pairs of its own list, and then each with those of the next.
-fn receipts<R: Abort>(rt: &R, alloc: Global) -> Vec<Receipt<u64, u64>> {
-    let mut all = Vec::new(alloc);
-    for at in 0..14usize {
-        let list = LISTS[(at + at / 7) % 7];
-        let query = Query::Range(Bound::Unbounded, Bound::Unbounded);
-        let told = pairs(rt, alloc, list);
-        all.push(receipt(rt, alloc, (at % 7) as u64, query, told))
-            .expect(rt, ROOM);
-    }
-    all
-}
-
-const COMMIT_3: [Write<u64, u64>; 2] = [Write::Remove(1), Write::Upsert(2, 21)];
-
-const COMMIT_4: [Write<u64, u64>; 3] = [Write::Insert(4, 40), Write::Clear, Write::Insert(5, 50)];
-
-const REPLIES_4: [Reply; 3] = [Reply::Inserted, Reply::Cleared, Reply::Inserted];
+);
 
 // The commits with the numbers 1 to 6.
-const COMMITS: [(Call, Told); 6] = [
-    (
-        Commit(&[Write::Upsert(1, 10)]),
-        Accepted(1, &[Reply::Upserted]),
-    ),
-    (
-        Commit(&[Write::Upsert(2, 20)]),
-        Accepted(2, &[Reply::Upserted]),
-    ),
-    (
-        Commit(&COMMIT_3),
-        Accepted(3, &[Reply::Removed, Reply::Upserted]),
-    ),
-    (Commit(&COMMIT_4), Accepted(4, &REPLIES_4)),
-    (
-        Commit(&[Write::Insert(6, 60)]),
-        Accepted(5, &[Reply::Inserted]),
-    ),
-    (
-        Commit(&[Write::Insert(7, 70)]),
-        Accepted(6, &[Reply::Inserted]),
-    ),
+const COMMIT_1: Row = (Commit(&[Write::Upsert(1, 10)]), Accepted(1, &UPSERTED));
+
+const COMMIT_2: Row = (Commit(&[Write::Upsert(2, 20)]), Accepted(2, &UPSERTED));
+
+const COMMIT_3: Row = (
+    Commit(&[Write::Remove(1), Write::Upsert(2, 21)]),
+    Accepted(3, &[Reply::Removed, Reply::Upserted]),
+);
+
+const COMMIT_4: Row = (
+    Commit(&[Write::Insert(4, 40), Write::Clear, Write::Insert(5, 50)]),
+    Accepted(4, &[Reply::Inserted, Reply::Cleared, Reply::Inserted]),
+);
+
+const COMMIT_5: Row = (Commit(&[Write::Insert(6, 60)]), Accepted(5, &ONE_INSERTED));
+
+const COMMIT_6: Row = (Commit(&[Write::Insert(7, 70)]), Accepted(6, &ONE_INSERTED));
+
+// Audits of each number by its own list, and by the next.
+const AUDITS: [Row; 14] = [
+    (Audit(0, &[LIST_0]), Audited(Yes)),
+    (Audit(1, &[LIST_1]), Audited(Yes)),
+    (Audit(2, &[LIST_2]), Audited(Yes)),
+    (Audit(3, &[LIST_3]), Audited(Yes)),
+    (Audit(4, &[LIST_4]), Audited(Yes)),
+    (Audit(5, &[LIST_5]), Audited(Yes)),
+    (Audit(6, &[LIST_6]), Audited(Yes)),
+    (Audit(0, &[LIST_1]), Audited(No(0))),
+    (Audit(1, &[LIST_2]), Audited(No(0))),
+    (Audit(2, &[LIST_3]), Audited(No(0))),
+    (Audit(3, &[LIST_4]), Audited(No(0))),
+    (Audit(4, &[LIST_5]), Audited(No(0))),
+    (Audit(5, &[LIST_6]), Audited(No(0))),
+    (Audit(6, &[LIST_0]), Audited(No(0))),
 ];
 
-// Audits of those receipts: each number by its own list, and by the next.
-const AUDITS: [(Call, Told); 14] = [
-    (Call::Audit(0), Audited(Audit::Yes)),
-    (Call::Audit(1), Audited(Audit::Yes)),
-    (Call::Audit(2), Audited(Audit::Yes)),
-    (Call::Audit(3), Audited(Audit::Yes)),
-    (Call::Audit(4), Audited(Audit::Yes)),
-    (Call::Audit(5), Audited(Audit::Yes)),
-    (Call::Audit(6), Audited(Audit::Yes)),
-    (Call::Audit(7), Audited(Audit::No(0))),
-    (Call::Audit(8), Audited(Audit::No(0))),
-    (Call::Audit(9), Audited(Audit::No(0))),
-    (Call::Audit(10), Audited(Audit::No(0))),
-    (Call::Audit(11), Audited(Audit::No(0))),
-    (Call::Audit(12), Audited(Audit::No(0))),
-    (Call::Audit(13), Audited(Audit::No(0))),
-];
-
-// Puts rows behind others.
-fn append<R: Abort>(rt: &R, rows: &mut Vec<(Call, Told)>, more: &[(Call, Told)]) {
-    for row in more {
-        rows.push(*row).expect(rt, ROOM);
+// One table of the rows of several.
+fn joined(alloc: Global, parts: &[&[Row]]) -> Result<Vec<Row>, AllocError> {
+    let mut rows = Vec::new(alloc);
+    for part in parts {
+        rows.extend_from_slice(part)?;
     }
+    Ok(rows)
 }
 
 // Lists are made again from that of the session, from a clearing behind it, and from the empty one.
+const OF_ANY_NUMBER: [&[Row]; 4] = [
+    &[
+        COMMIT_1,
+        (Open(1), Opened(1)),
+        COMMIT_2,
+        COMMIT_3,
+        COMMIT_4,
+        COMMIT_5,
+        COMMIT_6,
+    ],
+    &AUDITS,
+    &[(Close(1), Closed(1, &[]))],
+    &AUDITS,
+];
+
 #[test]
 fn an_audit_of_any_number_finds_its_list(rt: HostRuntime) {
-    let receipts = receipts(&rt, rt.alloc());
-    let mut rows = Vec::new(rt.alloc());
-    append(&rt, &mut rows, &COMMITS[..1]);
-    append(&rt, &mut rows, &[(Open(1), Opened(1))]);
-    append(&rt, &mut rows, &COMMITS[1..]);
-    append(&rt, &mut rows, &AUDITS);
-    append(&rt, &mut rows, &[(Close(1), Closed(1, 0))]);
-    append(&rt, &mut rows, &AUDITS);
-    on_an_index::<_, 2>(&rt, rt.alloc(), 1, 64, u64::MAX, &receipts, &rows);
+    let rows = joined(rt.alloc(), &OF_ANY_NUMBER).expect(&rt, ROOM);
+    on_an_index::<_, 2>(&rt, rt.alloc(), 1, 64, u64::MAX, &rows);
 }
+
+const OF_LATER_LISTS: [&[Row]; 2] = [
+    &[
+        COMMIT_1,
+        COMMIT_2,
+        COMMIT_3,
+        COMMIT_4,
+        COMMIT_5,
+        (Open(1), Opened(5)),
+        COMMIT_6,
+    ],
+    &AUDITS,
+];
 
 #[test]
 fn an_audit_takes_no_later_list_for_an_earlier_one(rt: HostRuntime) {
-    let receipts = receipts(&rt, rt.alloc());
-    let mut rows = Vec::new(rt.alloc());
-    append(&rt, &mut rows, &COMMITS[..5]);
-    append(&rt, &mut rows, &[(Open(1), Opened(5))]);
-    append(&rt, &mut rows, &COMMITS[5..]);
-    append(&rt, &mut rows, &AUDITS);
-    on_an_index::<_, 2>(&rt, rt.alloc(), 1, 64, u64::MAX, &receipts, &rows);
+    let rows = joined(rt.alloc(), &OF_LATER_LISTS).expect(&rt, ROOM);
+    on_an_index::<_, 2>(&rt, rt.alloc(), 1, 64, u64::MAX, &rows);
 }
 
 fn read(pair: Option<(&u64, &u64)>) -> Option<(u64, u64)> {

@@ -5,9 +5,10 @@ ghost use Rattle.std.specs.Prelude.{◌≡◌, [], None, replicate, ◌^◌, ◌
 ghost use Rattle.ordered_index.specs.Desk.{Serves};
 ghost use Rattle.ordered_index.specs.State.{IsSessionOf};
 
+use crate::table::{Call, Claim, desk_call};
 use ordered_index::{
     Accepted, Answer, Audit, Cause, Desk, DeskCall, DeskReply, LocalIndex, Query, ReadSet, Receipt,
-    Reply, Session, Write, play_all, play_one,
+    Refused, Reply, Session, Write, play_all, play_one,
 };
 use std::alloc::{AllocError, Global};
 use std::ops::Bound;
@@ -78,6 +79,12 @@ fn present<R: Abort>(rt: &R, index: &mut Numbers, key: u64) -> (u64, usize, Opti
     found
 }
 
+// Whether a commit of two inserts of one key was refused for want of memory, and gives them back.
+fn is_of_memory(refused: &Refused<u64, u64>) -> bool {
+    let writes = refused.writes.as_slice();
+    refused.cause == Cause::Memory && writes == &[Write::Insert(1, 10), Write::Insert(1, 11)][..]
+}
+
 // Commits two inserts, again where memory was refused, and looks whether anything had changed then.
 fn commit<R: Abort>(rt: &R, alloc: Global, index: &mut Numbers, met: &mut bool) -> Accepted {
     let blank = Receipt::blank(alloc);
@@ -87,10 +94,23 @@ fn commit<R: Abort>(rt: &R, alloc: Global, index: &mut Numbers, met: &mut bool) 
         Err(refused) => refused,
     };
     *met = true;
-    assert!(rt; refused.cause == Cause::Memory && index.slots_in_use() == 1);
-    assert!(rt; refused.writes.as_slice() == &[Write::Insert(1, 10), Write::Insert(1, 11)][..]);
-    assert!(rt; present(rt, index, 1) == (0, 0, None));
+    let found = (index.slots_in_use(), present(rt, index, 1));
+    assert!(rt; is_of_memory(&refused) && found == (1, (0, 0, None)));
     index.commit(&blank, refused.writes).expect(rt, TWICE)
+}
+
+// Ends an index without sessions.
+fn end<R: Abort>(rt: &R, index: Numbers) {
+    match index.close() {
+        Ok(()) => {}
+        Err(_open) => panic!(rt; "a session is open"),
+    }
+}
+
+// Whether the first of two inserts of one key was accepted.
+fn is_first(accepted: &Accepted) -> bool {
+    let replies = accepted.replies.as_slice();
+    accepted.number == 1 && replies == &[Reply::Inserted, Reply::Duplicate][..]
 }
 
 // Whether an allocation was refused while an index was made, written and read.
@@ -98,14 +118,11 @@ fn writes_and_reads<R: Abort>(rt: &R, alloc: Global) -> bool {
     let mut met = false;
     let mut index = numbers(rt, alloc, &mut met);
     let accepted = commit(rt, alloc, &mut index, &mut met);
-    assert!(rt; accepted.number == 1);
-    assert!(rt; accepted.replies.as_slice() == &[Reply::Inserted, Reply::Duplicate][..]);
+    let found = (index.slots_in_use(), present(rt, &mut index, 1));
+    end(rt, index);
     // the empty version, a segment and a directory
-    assert!(rt; index.slots_in_use() == 3 && present(rt, &mut index, 1) == (1, 1, Some(10)));
-    match index.close() {
-        Ok(()) => met,
-        Err(_open) => panic!(rt; "a session is open"),
-    }
+    assert!(rt; is_first(&accepted) && found == (3, (1, 1, Some(10))));
+    met
 }
 
 fn an_upsert(alloc: Global) -> Result<Vec<Write<u64, u64>>, AllocError> {
@@ -142,10 +159,7 @@ fn read<R: Abort>(
     *met = true;
     assert!(rt; index.receipt(session).reads.as_slice().is_empty());
     let all = Query::Range(Bound::Unbounded, Bound::Unbounded);
-    match index.read(session, all) {
-        Ok(answer) => answer,
-        Err(AllocError) => panic!(rt; "memory was refused twice"),
-    }
+    index.read(session, all).expect(rt, TWICE)
 }
 
 // An audit, tried again where memory was refused.
@@ -159,25 +173,37 @@ fn audit<R: Abort>(rt: &R, index: &Numbers, receipt: &Receipt<u64, u64>, met: &m
     }
 }
 
+fn is_the_pair(answer: &Answer<u64, u64>) -> bool {
+    match answer {
+        Answer::Range(pairs) => pairs.as_slice() == &[(1, 10)][..],
+        _ => false,
+    }
+}
+
+// Reads all pairs of a list, which a commit then changes: whether it was the one pair, and the receipt.
+fn read_before<R: Abort>(
+    rt: &R,
+    alloc: Global,
+    index: &mut Numbers,
+    met: &mut bool,
+) -> (bool, Receipt<u64, u64>) {
+    let mut session = index.open().expect(rt, "a free place");
+    let answer = read(rt, index, &mut session, met);
+    upsert(rt, alloc, index, met);
+    let receipt = index.close_session(session);
+    (is_the_pair(&answer), receipt)
+}
+
 // Whether an allocation was refused while a list was read, and audited once it was kept no longer.
 fn reads_and_audits<R: Abort>(rt: &R, alloc: Global) -> bool {
     let mut met = false;
     let mut index = numbers(rt, alloc, &mut met);
     let _accepted = commit(rt, alloc, &mut index, &mut met);
-    let mut session = index.open().expect(rt, "a free place");
-    let answer = read(rt, &index, &mut session, &mut met);
-    match &answer {
-        Answer::Range(pairs) => assert!(rt; pairs.as_slice() == &[(1, 10)][..]),
-        _ => panic!(rt; "another kind of answer"),
-    }
-    upsert(rt, alloc, &mut index, &mut met);
-    let receipt = index.close_session(session);
-    assert!(rt; receipt.reads.as_slice().len() == 1);
-    assert!(rt; audit(rt, &index, &receipt, &mut met) == Audit::Yes);
-    match index.close() {
-        Ok(()) => met,
-        Err(_open) => panic!(rt; "a session is open"),
-    }
+    let (right, receipt) = read_before(rt, alloc, &mut index, &mut met);
+    let audit = audit(rt, &index, &receipt, &mut met);
+    end(rt, index);
+    assert!(rt; right && receipt.reads.as_slice().len() == 1 && audit == Audit::Yes);
+    met
 }
 
 fn six_inserts(alloc: Global) -> Result<Vec<Write<u64, u64>>, AllocError> {
@@ -227,9 +253,21 @@ fn write<R: Abort>(
         Err(refused) => refused,
     };
     *met = true;
-    assert!(rt; refused.cause == Cause::Memory);
-    assert!(rt; index.slots_in_use() == before);
+    assert!(rt; refused.cause == Cause::Memory && index.slots_in_use() == before);
     index.commit(&blank, refused.writes).expect(rt, TWICE)
+}
+
+// A commit beside a session: its number and the slots in use, and the first and the last pair that the session reads on.
+type Beside = ((u64, usize), [(u64, usize, Option<u64>); 2]);
+
+fn write_beside<R: Abort>(rt: &R, alloc: Global, index: &mut Numbers, met: &mut bool) -> Beside {
+    let session = index.open().expect(rt, "a free place");
+    let upsert = one(rt, alloc, met);
+    let accepted = write(rt, alloc, index, upsert, met);
+    let made = (accepted.number, index.slots_in_use());
+    let ends = [seen(index, &session, 1), seen(index, &session, 6)];
+    let _receipt = index.close_session(session);
+    (made, ends)
 }
 
 // Whether an allocation was refused while a commit took segments over. Two of the three segments are those of the
@@ -240,20 +278,14 @@ fn takes_over<R: Abort>(rt: &R, alloc: Global) -> bool {
     let inserts = six(rt, alloc, &mut met);
     let _accepted = write(rt, alloc, &mut index, inserts, &mut met);
     index.reclaim();
-    assert!(rt; index.slots_in_use() == 4);
-    let session = index.open().expect(rt, "a free place");
-    let upsert = one(rt, alloc, &mut met);
-    let accepted = write(rt, alloc, &mut index, upsert, &mut met);
-    assert!(rt; accepted.number == 2 && index.slots_in_use() == 6);
-    let (first, last) = (seen(&index, &session, 1), seen(&index, &session, 6));
-    let _receipt = index.close_session(session);
-    assert!(rt; (first, last) == ((1, 6, Some(1)), (1, 6, Some(6))));
+    let before = index.slots_in_use();
+    let beside = write_beside(rt, alloc, &mut index, &mut met);
     index.reclaim();
-    assert!(rt; index.slots_in_use() == 4);
-    match index.close() {
-        Ok(()) => met,
-        Err(_open) => panic!(rt; "a session is open"),
-    }
+    let after = index.slots_in_use();
+    end(rt, index);
+    let ends = [(1, 6, Some(1)), (1, 6, Some(6))];
+    assert!(rt; (before, beside, after) == (4, ((2, 6), ends), 4));
+    met
 }
 
 // A commit, a session, a read and a commit on it.
@@ -303,30 +335,29 @@ fn are_in_order(replies: &[DeskReply<u64, u64>], first: usize) -> bool {
         .all(|(i, reply)| place_of(reply) == first.saturating_add(i))
 }
 
-// Plays all calls, and those from the one on that was refused memory again, as if that had not been.
+// Plays all calls, and those from the one on that was refused memory again, as if that had not been: whether each has its
+// reply.
 fn play_twice<R: Abort>(
     rt: &R,
     alloc: Global,
     index: &mut Numbers,
     desk: &mut Desk<u64, u64>,
     met: &mut bool,
-)
+) -> bool
     requires serves { Serves (record { index = index.old; desk = desk.old }) }
     ensures serves { Serves (record { index = index.new; desk = desk.new }) }
 {
     let all = calls(rt, alloc, 0, met);
     let played = match play_all(alloc, index, desk, all) {
-        Ok(replies) => {
-            assert!(rt; replies.len() == 4 && are_in_order(replies.as_slice(), 0));
-            return;
-        }
+        Ok(replies) => return replies.len() == 4 && are_in_order(replies.as_slice(), 0),
         Err((replies, AllocError)) => replies,
     };
     *met = true;
-    assert!(rt; are_in_order(played.as_slice(), 0));
     let rest = calls(rt, alloc, played.len(), met);
     match play_all(alloc, index, desk, rest) {
-        Ok(others) => assert!(rt; are_in_order(others.as_slice(), played.len())),
+        Ok(others) => {
+            are_in_order(played.as_slice(), 0) && are_in_order(others.as_slice(), played.len())
+        }
         Err(_stopped) => panic!(rt; "memory was refused twice"),
     }
 }
@@ -336,24 +367,51 @@ fn plays<R: Abort>(rt: &R, alloc: Global) -> bool {
     let mut met = false;
     let mut index = numbers(rt, alloc, &mut met);
     let mut desk = desk(rt, alloc, &mut met);
-    play_twice(rt, alloc, &mut index, &mut desk, &mut met);
+    let right = play_twice(rt, alloc, &mut index, &mut desk, &mut met);
     desk.end(&mut index);
-    match index.close() {
-        Ok(()) => met,
-        Err(_open) => panic!(rt; "a session is open"),
-    }
+    end(rt, index);
+    assert!(rt; right);
+    met
 }
 
 fn is_played(
     alloc: Global,
     index: &mut Numbers,
     desk: &mut Desk<u64, u64>,
-    call: DeskCall<u64, u64>,
-) -> bool
+    call: Call,
+) -> Result<bool, AllocError>
     requires { Serves (record { index = index.old; desk = desk.old }) }
     ensures { Serves (record { index = index.new; desk = desk.new }) }
 {
-    play_one(alloc, index, desk, call).is_ok()
+    let made = desk_call(alloc, call)?;
+    Ok(play_one(alloc, index, desk, made).is_ok())
+}
+
+const TAKE_NONE: [Call; 10] = [
+    Call::Open(7),
+    Call::Open(8),
+    Call::Number(7),
+    Call::Len(7),
+    Call::Read(8, Claim::Got(1, None)),
+    Call::AuditOf(8),
+    Call::Slots,
+    Call::Reclaim,
+    Call::Close(7),
+    Call::Close(7),
+];
+
+// How many of the calls that take no memory have a reply.
+fn answered(alloc: Global, index: &mut Numbers, desk: &mut Desk<u64, u64>) -> usize
+    requires { Serves (record { index = index.old; desk = desk.old }) }
+    ensures { Serves (record { index = index.new; desk = desk.new }) }
+{
+    let mut count = 0usize;
+    for call in TAKE_NONE {
+        if is_played(alloc, index, desk, call) == Ok(true) {
+            count = count.saturating_add(1);
+        }
+    }
+    count
 }
 
 // Whether an allocation was refused while calls were played that take no memory: each has a reply.
@@ -361,26 +419,11 @@ fn plays_what_takes_none<R: Abort>(rt: &R, alloc: Global) -> bool {
     let mut met = false;
     let mut index = numbers(rt, alloc, &mut met);
     let mut desk = desk(rt, alloc, &mut met);
-    let calls = [
-        DeskCall::Open(7),
-        DeskCall::Open(8),
-        DeskCall::Number(7),
-        DeskCall::Len(7),
-        DeskCall::Get(8, 1),
-        DeskCall::Audit(ReadSet::Session(8)),
-        DeskCall::Slots,
-        DeskCall::Reclaim,
-        DeskCall::Close(7),
-        DeskCall::Close(7),
-    ];
-    for call in calls {
-        assert!(rt; is_played(alloc, &mut index, &mut desk, call));
-    }
+    let count = answered(alloc, &mut index, &mut desk);
     desk.end(&mut index);
-    match index.close() {
-        Ok(()) => met,
-        Err(_open) => panic!(rt; "a session is open"),
-    }
+    end(rt, index);
+    assert!(rt; count == TAKE_NONE.len());
+    met
 }
 
 #[test]

@@ -3,16 +3,15 @@
 ghost use Rattle.ordered_index.specs.State.{IsSessionOf};
 
 use crate::slots::end;
-use crate::table::Call::{Close, Commit, Look, Open};
-use crate::table::Told::{Accepted, Closed, NoPlace, Opened, Seen};
-use crate::table::on_an_index;
+use crate::table::Call::{Close, Commit, CommitOn, Look, Open};
+use crate::table::Claim::Got;
+use crate::table::Told::{Accepted, Closed, NoPlace, Opened, Refused, Seen};
+use crate::table::{Row, on_an_index};
 use ordered_index::{
-    Answer, Cause, LocalIndex, Query, Receipt, Recorded, Reply, Seq, Session, Write,
-    clones_of_lists, equals_of_lists,
+    Cause, LocalIndex, Receipt, Reply, Seq, Session, Write, clones_of_lists, equals_of_lists,
 };
-use std::alloc::{AllocError, Global};
+use std::alloc::Global;
 use std::process::Abort;
-use std::test::Fail;
 
 // An index of numbers, with two pairs in a segment.
 type Numbers = LocalIndex<u64, u64, 2>;
@@ -20,24 +19,6 @@ type Numbers = LocalIndex<u64, u64, 2>;
 const ROOM: &str = "memory";
 
 const FREE: &str = "a free place";
-
-// Inserts of these pairs.
-fn inserts(alloc: Global, pairs: &[(u64, u64)]) -> Result<Vec<Write<u64, u64>>, AllocError> {
-    let mut writes = Vec::new(alloc);
-    for (key, value) in pairs {
-        writes.push(Write::Insert(*key, *value))?;
-    }
-    Ok(writes)
-}
-
-// A receipt of number 0 that claims this answer to a look-up of the key.
-fn claims(alloc: Global, key: u64, value: Option<u64>) -> Result<Receipt<u64, u64>, AllocError> {
-    let reads: Vec<Recorded<u64, u64>> = vec![in alloc; (Query::Get(key), Answer::Get(value))]?;
-    Ok(Receipt {
-        number: 0,
-        reads: Seq::from_vec(reads),
-    })
-}
 
 // Ends an index with a session, which is handed back, and closes the session then; gives the number that it read.
 fn refuse_to_close<R: Abort>(rt: &R, index: Numbers, session: Session<u64, u64>) -> (Numbers, u64)
@@ -63,86 +44,74 @@ fn an_index_isnt_closed_while_a_session_is_open(rt: HostRuntime) {
 
 const TWICE: [Write<u64, u64>; 2] = [Write::Insert(1, 10), Write::Insert(1, 11)];
 
+const AT_ITS_OPENING: [Row; 11] = [
+    (
+        Commit(&TWICE),
+        Accepted(1, &[Reply::Inserted, Reply::Duplicate]),
+    ),
+    (Open(1), Opened(1)),
+    (
+        Commit(&[Write::Insert(2, 20)]),
+        Accepted(2, &[Reply::Inserted]),
+    ),
+    (Look(1, 1), Seen(1, 1, Some(10))),
+    (Look(1, 2), Seen(1, 1, None)),
+    (Open(2), NoPlace),
+    (Close(1), Closed(1, &[])),
+    (Open(2), Opened(2)),
+    (Look(2, 1), Seen(2, 2, Some(10))),
+    (Look(2, 2), Seen(2, 2, Some(20))),
+    (Close(2), Closed(2, &[])),
+];
+
 #[test]
 fn a_session_reads_the_list_at_its_opening(rt: HostRuntime) {
-    let rows = [
-        (
-            Commit(&TWICE),
-            Accepted(1, &[Reply::Inserted, Reply::Duplicate]),
-        ),
-        (Open(1), Opened(1)),
-        (
-            Commit(&[Write::Insert(2, 20)]),
-            Accepted(2, &[Reply::Inserted]),
-        ),
-        (Look(1, 1), Seen(1, 1, Some(10))),
-        (Look(1, 2), Seen(1, 1, None)),
-        (Open(2), NoPlace),
-        (Close(1), Closed(1, 0)),
-        (Open(2), Opened(2)),
-        (Look(2, 1), Seen(2, 2, Some(10))),
-        (Look(2, 2), Seen(2, 2, Some(20))),
-        (Close(2), Closed(2, 0)),
-    ];
-    on_an_index::<_, 2>(&rt, rt.alloc(), 1, 16, u64::MAX, &[], &rows);
+    on_an_index::<_, 2>(&rt, rt.alloc(), 1, 16, u64::MAX, &AT_ITS_OPENING);
 }
 
-// What a commit of inserts on a receipt is answered: its number, or why it is refused; then the writes come back.
-fn told<R: Abort>(
-    rt: &R,
-    alloc: Global,
-    index: &mut Numbers,
-    on: &Receipt<u64, u64>,
-    pairs: &[(u64, u64)],
-) -> Result<u64, Cause> {
-    let writes = inserts(alloc, pairs).expect(rt, ROOM);
-    match index.commit(on, writes) {
-        Ok(accepted) => Ok(accepted.number),
-        Err(refused) => {
-            let wanted = inserts(alloc, pairs).expect(rt, ROOM);
-            assert!(rt; refused.writes == wanted);
-            Err(refused.cause)
-        }
-    }
-}
+const FIFTY: [Write<u64, u64>; 1] = [Write::Insert(5, 50)];
+
+const LAST_NUMBER: [Row; 3] = [
+    (
+        CommitOn(0, &[], &[Write::Insert(1, 10)]),
+        Accepted(1, &[Reply::Inserted]),
+    ),
+    (CommitOn(0, &[], &FIFTY), Refused(Cause::Exhausted)),
+    (
+        CommitOn(0, &[Got(5, Some(1))], &FIFTY),
+        Refused(Cause::Conflict(0)),
+    ),
+];
 
 #[test]
-fn the_last_number_is_exhausted_after_conflicts(rt: HostRuntime) -> Result<(), Fail> {
-    let alloc = rt.alloc();
-    let blank = Receipt::blank(alloc);
-    let wrong = claims(alloc, 5, Some(1))?;
-    let rows: [(&Receipt<u64, u64>, &[(u64, u64)], Result<u64, Cause>); 3] = [
-        (&blank, &[(1, 10)], Ok(1)),
-        (&blank, &[(5, 50)], Err(Cause::Exhausted)),
-        (&wrong, &[(5, 50)], Err(Cause::Conflict(0))),
-    ];
-    let mut index = Numbers::with_last(alloc, 1, 16, 1).expect(&rt, ROOM);
-    for (on, pairs, wanted) in rows {
-        assert!(rt; told(&rt, alloc, &mut index, on, pairs) == wanted);
-    }
-    end(&rt, index);
-    Ok(())
+fn the_last_number_is_exhausted_after_conflicts(rt: HostRuntime) {
+    on_an_index::<_, 2>(&rt, rt.alloc(), 1, 16, 1, &LAST_NUMBER);
 }
 
+const BY_ANSWERS: [Row; 5] = [
+    (
+        CommitOn(
+            0,
+            &[Got(5, None)],
+            &[Write::Insert(2, 1), Write::Insert(4, 1)],
+        ),
+        Accepted(1, &[Reply::Inserted, Reply::Inserted]),
+    ),
+    (
+        CommitOn(0, &[Got(2, Some(1))], &[Write::Insert(5, 1)]),
+        Accepted(2, &[Reply::Inserted]),
+    ),
+    (CommitOn(0, &[Got(2, Some(1))], &[]), Accepted(3, &[])),
+    (
+        CommitOn(0, &[Got(5, None)], &[]),
+        Refused(Cause::Conflict(0)),
+    ),
+    (CommitOn(0, &[], &[]), Accepted(4, &[])),
+];
+
 #[test]
-fn a_commit_is_tested_by_answers(rt: HostRuntime) -> Result<(), Fail> {
-    let alloc = rt.alloc();
-    let blank = Receipt::blank(alloc);
-    let absent = claims(alloc, 5, None)?;
-    let present = claims(alloc, 2, Some(1))?;
-    let rows: [(&Receipt<u64, u64>, &[(u64, u64)], Result<u64, Cause>); 5] = [
-        (&absent, &[(2, 1), (4, 1)], Ok(1)),
-        (&present, &[(5, 1)], Ok(2)),
-        (&present, &[], Ok(3)),
-        (&absent, &[], Err(Cause::Conflict(0))),
-        (&blank, &[], Ok(4)),
-    ];
-    let mut index = Numbers::new(alloc, 1, 16).expect(&rt, ROOM);
-    for (on, pairs, wanted) in rows {
-        assert!(rt; told(&rt, alloc, &mut index, on, pairs) == wanted);
-    }
-    end(&rt, index);
-    Ok(())
+fn a_commit_is_tested_by_answers(rt: HostRuntime) {
+    on_an_index::<_, 2>(&rt, rt.alloc(), 1, 16, u64::MAX, &BY_ANSWERS);
 }
 
 // An index whose keys and values are byte strings.
@@ -184,10 +153,9 @@ fn byte_strings_are_keys_and_values(rt: HostRuntime) {
     let value = bytes(&rt, alloc, b"value");
     let mut index = Bytes::new(alloc, 1, 16).expect(&rt, ROOM);
     let number = insert_bytes(&rt, alloc, &mut index, b"name", b"value");
-    assert_eq!(rt; number, 1);
-    assert!(rt; has_bytes(&rt, &mut index, &name, &value));
+    let found = has_bytes(&rt, &mut index, &name, &value);
     match index.close() {
-        Ok(()) => {}
+        Ok(()) => assert!(rt; number == 1 && found),
         Err(_open) => panic!(rt; "a session is open"),
     }
 }

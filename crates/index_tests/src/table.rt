@@ -5,30 +5,50 @@ ghost use Rattle.versions.specs.Sizes.{IsStoreSized};
 
 use ordered_index::{
     Accepted, Answer, Audit, Cause, Desk, DeskCall, DeskReply, LocalIndex, Near, Query, ReadSet,
-    Receipt, Refused, Reply, Write, play_one,
+    Receipt, Recorded, Refused, Reply, Seq, Write, play_one,
 };
 use std::alloc::{AllocError, Global};
 use std::ops::Bound;
 use std::process::Abort;
 
-/// A call of an index. A session is named by its label, a receipt by its place in a list of some.
+/// A read and its answer, as a session records it and a receipt claims it.
+#[derive(Clone, Copy)]
+pub(crate) enum Claim {
+    /// The value of a key.
+    Got(u64, Option<u64>),
+    /// Whether a pair has a key.
+    Has(u64, bool),
+    /// The pairs within two bounds.
+    Listed(Bound<u64>, Bound<u64>, &'static [(u64, u64)]),
+    /// What is near a key: the pair that has it, those around it, or the one nearest.
+    Exact(u64, (u64, u64)),
+    Between(u64, (u64, u64), (u64, u64)),
+    Smaller(u64, (u64, u64)),
+    Larger(u64, (u64, u64)),
+    /// A look-up of a key with an answer of another kind: whether a pair has it.
+    Mixed(u64, bool),
+}
+
+/// A call of an index. A session is named by its label, a receipt is its number and what it claims.
 #[derive(Clone, Copy)]
 pub(crate) enum Call {
     Open(u64),
     Close(u64),
     /// The number and the length of a session's list, and the value of a key there, by look-ups that aren't recorded.
     Look(u64, u64),
-    /// Reads that are recorded.
-    Get(u64, u64),
-    Contains(u64, u64),
-    Range(u64, Bound<u64>, Bound<u64>),
-    Locate(u64, u64),
-    /// A commit on no reads, and one on those of a receipt.
+    /// A read that is recorded, with the answer that is wanted.
+    Read(u64, Claim),
+    Number(u64),
+    Len(u64),
+    /// A commit on no reads, one on those of a receipt, and one on those of a session.
     Commit(&'static [Write<u64, u64>]),
-    CommitOn(usize, &'static [Write<u64, u64>]),
+    CommitOn(u64, &'static [Claim], &'static [Write<u64, u64>]),
+    CommitOf(u64, &'static [Write<u64, u64>]),
     /// A commit of inserts of the keys from 1 to this one, each its own value.
     InsertTo(u64),
-    Audit(usize),
+    /// An audit of a receipt, and one of what a session read.
+    Audit(u64, &'static [Claim]),
+    AuditOf(u64),
     Reclaim,
     Slots,
 }
@@ -39,18 +59,16 @@ pub(crate) enum Told {
     Done,
     Opened(u64),
     NoPlace,
-    /// The number of the receipt, and how many reads it has.
-    Closed(u64, usize),
-    /// The whole receipt, by its place.
-    ClosedWith(usize),
+    Busy,
+    /// No session has the label, and the writes of a commit come back.
+    NoSession,
+    /// The number of the receipt, and its reads.
+    Closed(u64, &'static [Claim]),
     Seen(u64, usize, Option<u64>),
-    Got(Option<u64>),
-    Has(bool),
-    Listed(&'static [(u64, u64)]),
-    Exact(u64, u64),
-    Between((u64, u64), (u64, u64)),
-    Smaller(u64, u64),
-    Larger(u64, u64),
+    /// The answer that the read names.
+    Holds,
+    Number(u64),
+    Len(usize),
     Accepted(u64, &'static [Reply]),
     /// So many inserts that were accepted.
     Inserted(u64, usize),
@@ -59,6 +77,51 @@ pub(crate) enum Told {
     Audited(Audit),
     Slots(usize),
     AtMost(usize),
+}
+
+/// A row of a table: a call, and what it answers.
+pub(crate) type Row = (Call, Told);
+
+// What is asked by a read.
+fn query(claim: Claim) -> Query<u64> {
+    match claim {
+        Claim::Got(key, _) | Claim::Mixed(key, _) => Query::Get(key),
+        Claim::Has(key, _) => Query::Contains(key),
+        Claim::Listed(lower, upper, _) => Query::Range(lower, upper),
+        Claim::Exact(key, _)
+        | Claim::Between(key, _, _)
+        | Claim::Smaller(key, _)
+        | Claim::Larger(key, _) => Query::Locate(key),
+    }
+}
+
+// What a read answers.
+fn answer(alloc: Global, claim: Claim) -> Result<Answer<u64, u64>, AllocError> {
+    Ok(match claim {
+        Claim::Got(_, value) => Answer::Get(value),
+        Claim::Has(_, there) | Claim::Mixed(_, there) => Answer::Contains(there),
+        Claim::Listed(_, _, pairs) => Answer::Range(Seq::from_vec(Vec::from_clones(alloc, pairs)?)),
+        Claim::Exact(_, (key, value)) => Answer::Locate(Near::Exact(key, value)),
+        Claim::Between(_, (k, v), (l, w)) => Answer::Locate(Near::Between(k, v, l, w)),
+        Claim::Smaller(_, (key, value)) => Answer::Locate(Near::Smaller(key, value)),
+        Claim::Larger(_, (key, value)) => Answer::Locate(Near::Larger(key, value)),
+    })
+}
+
+/// The receipt of this number with these reads.
+pub(crate) fn receipt(
+    alloc: Global,
+    number: u64,
+    claims: &[Claim],
+) -> Result<Receipt<u64, u64>, AllocError> {
+    let mut reads: Vec<Recorded<u64, u64>> = Vec::new(alloc);
+    for claim in claims {
+        reads.push((query(*claim), answer(alloc, *claim)?))?;
+    }
+    Ok(Receipt {
+        number,
+        reads: Seq::from_vec(reads),
+    })
 }
 
 /// The number and the length of a session's list, the value of a key there, and whether a pair has it.
@@ -90,55 +153,46 @@ fn inserts_to(alloc: Global, last: u64) -> Result<Vec<Write<u64, u64>>, AllocErr
     Ok(writes)
 }
 
-// The call of a desk that this is, where it isn't one on a receipt.
-fn desk_call(alloc: Global, call: Call) -> Result<DeskCall<u64, u64>, AllocError> {
+// The writes of a call, where it is a commit of some that are named.
+fn writes_of(call: Call) -> &'static [Write<u64, u64>] {
     match call {
-        Call::Open(label) => Ok(DeskCall::Open(label)),
-        Call::Close(label) => Ok(DeskCall::Close(label)),
-        Call::Look(label, key) | Call::Get(label, key) => Ok(DeskCall::Get(label, key)),
-        Call::Contains(label, key) => Ok(DeskCall::Contains(label, key)),
-        Call::Range(label, lower, upper) => Ok(DeskCall::Range(label, lower, upper)),
-        Call::Locate(label, key) => Ok(DeskCall::Locate(label, key)),
-        Call::Commit(writes) | Call::CommitOn(_, writes) => Ok(DeskCall::Commit(
-            ReadSet::Empty,
-            Vec::from_clones(alloc, writes)?,
-        )),
-        Call::InsertTo(last) => Ok(DeskCall::Commit(ReadSet::Empty, inserts_to(alloc, last)?)),
-        Call::Reclaim => Ok(DeskCall::Reclaim),
-        Call::Slots | Call::Audit(_) => Ok(DeskCall::Slots),
+        Call::Commit(writes) | Call::CommitOn(_, _, writes) | Call::CommitOf(_, writes) => writes,
+        _ => &[],
     }
 }
 
-// The call of a desk that this is on a receipt.
-fn desk_call_on(
-    alloc: Global,
-    call: Call,
-    receipt: &Receipt<u64, u64>,
-) -> Result<DeskCall<u64, u64>, AllocError> {
-    match call {
-        Call::CommitOn(_, writes) => Ok(DeskCall::Commit(
-            ReadSet::Receipt(receipt.clone()?),
-            Vec::from_clones(alloc, writes)?,
-        )),
-        Call::Audit(_) => Ok(DeskCall::Audit(ReadSet::Receipt(receipt.clone()?))),
-        _ => desk_call(alloc, call),
-    }
+// The reads that a call rests on.
+fn reads_of(alloc: Global, call: Call) -> Result<ReadSet<u64, u64>, AllocError> {
+    Ok(match call {
+        Call::CommitOn(number, claims, _) | Call::Audit(number, claims) => ReadSet::Receipt(receipt(
+            alloc, number, claims,
+        )?),
+        Call::CommitOf(label, _) | Call::AuditOf(label) => ReadSet::Session(label),
+        _ => ReadSet::Empty,
+    })
 }
 
-// The receipt that a call names, or that it is to give.
-fn named<'r>(
-    receipts: &'r [Receipt<u64, u64>],
-    call: Call,
-    wanted: Told,
-) -> Option<&'r Receipt<u64, u64>> {
-    match (call, wanted) {
-        (Call::CommitOn(at, _), _) | (Call::Audit(at), _) | (_, Told::ClosedWith(at)) =>
-            receipts.get(at),
-        _ => None,
-    }
+/// The call of a desk that this is. A look-up that isn't recorded is none, and asks what a recorded one does.
+pub(crate) fn desk_call(alloc: Global, call: Call) -> Result<DeskCall<u64, u64>, AllocError> {
+    Ok(match call {
+        Call::Open(label) => DeskCall::Open(label),
+        Call::Close(label) => DeskCall::Close(label),
+        Call::Look(label, key) => DeskCall::Get(label, key),
+        Call::Read(label, claim) => read_of(label, query(claim)),
+        Call::Number(label) => DeskCall::Number(label),
+        Call::Len(label) => DeskCall::Len(label),
+        Call::InsertTo(last) => DeskCall::Commit(ReadSet::Empty, inserts_to(alloc, last)?),
+        Call::Commit(_) | Call::CommitOn(_, _, _) | Call::CommitOf(_, _) => DeskCall::Commit(
+            reads_of(alloc, call)?,
+            Vec::from_clones(alloc, writes_of(call))?,
+        ),
+        Call::Audit(_, _) | Call::AuditOf(_) => DeskCall::Audit(reads_of(alloc, call)?),
+        Call::Reclaim => DeskCall::Reclaim,
+        Call::Slots => DeskCall::Slots,
+    })
 }
 
-// The call that asks this.
+/// The call that asks this.
 pub(crate) fn read_of(label: u64, query: Query<u64>) -> DeskCall<u64, u64> {
     match query {
         Query::Get(key) => DeskCall::Get(label, key),
@@ -168,94 +222,72 @@ fn are_inserted(replies: &[Reply]) -> bool {
 }
 
 fn is_refused(refused: &Refused<u64, u64>, cause: Cause, call: Call) -> bool {
-    let writes = match call {
-        Call::Commit(writes) | Call::CommitOn(_, writes) => writes,
-        _ => &[],
-    };
-    refused.cause == cause && refused.writes.as_slice() == writes
+    refused.cause == cause && refused.writes.as_slice() == writes_of(call)
 }
 
-fn is_closed(told: &Receipt<u64, u64>, named: Option<&Receipt<u64, u64>>, wanted: Told) -> bool {
-    match (wanted, named) {
-        (Told::ClosedWith(_), Some(receipt)) => *told == *receipt,
-        (Told::Closed(number, reads), _) => told.number == number
-            && told.reads.as_slice().len() == reads,
-        _ => false,
-    }
-}
-
-fn is_answered(told: &Answer<u64, u64>, wanted: Told) -> bool {
-    match (told, wanted) {
-        (Answer::Get(value), Told::Got(wanted)) => *value == wanted,
-        (Answer::Contains(there), Told::Has(wanted)) => *there == wanted,
-        (Answer::Range(pairs), Told::Listed(wanted)) => pairs.as_slice() == wanted,
-        (Answer::Locate(near), _) => is_near(near, wanted),
-        _ => false,
-    }
-}
-
-fn is_near(near: &Near<u64, u64>, wanted: Told) -> bool {
-    match (near, wanted) {
-        (Near::Exact(key, value), Told::Exact(k, v))
-        | (Near::Smaller(key, value), Told::Smaller(k, v))
-        | (Near::Larger(key, value), Told::Larger(k, v)) => *key == k && *value == v,
-        (Near::Between(key, value, above, other), Told::Between(low, high)) => (*key, *value) == low
-            && (*above, *other) == high,
-        _ => false,
-    }
-}
-
-// Whether a reply is the one that is wanted.
-fn is_told(
+// Whether a session tells what is wanted: its receipt, or the answer to a read.
+fn is_read(
+    alloc: Global,
     reply: &DeskReply<u64, u64>,
-    named: Option<&Receipt<u64, u64>>,
     call: Call,
     wanted: Told,
-) -> bool {
-    match (reply, wanted) {
-        (DeskReply::Reclaimed, Told::Done) | (DeskReply::NoPlace, Told::NoPlace) => true,
-        (DeskReply::Opened(told), Told::Opened(number)) => *told == number,
-        (DeskReply::Closed(receipt), _) => is_closed(receipt, named, wanted),
-        (DeskReply::Answer(told), _) => is_answered(told, wanted),
+) -> Result<bool, AllocError> {
+    Ok(match (reply, call, wanted) {
+        (DeskReply::Closed(told), _, Told::Closed(number, claims)) => {
+            *told == receipt(alloc, number, claims)?
+        }
+        (DeskReply::Answer(told), Call::Read(_, claim), Told::Holds) => {
+            *told == answer(alloc, claim)?
+        }
+        _ => false,
+    })
+}
+
+/// Whether a reply is the one that is wanted.
+pub(crate) fn is_told(
+    alloc: Global,
+    reply: &DeskReply<u64, u64>,
+    call: Call,
+    wanted: Told,
+) -> Result<bool, AllocError> {
+    Ok(match (reply, wanted) {
+        (DeskReply::Reclaimed, Told::Done)
+        | (DeskReply::NoPlace, Told::NoPlace)
+        | (DeskReply::Busy, Told::Busy) => true,
+        (DeskReply::Opened(told), Told::Opened(number))
+        | (DeskReply::Number(told), Told::Number(number)) => *told == number,
+        (DeskReply::NoSession(back), Told::NoSession) => back.as_slice() == writes_of(call),
         (DeskReply::Accepted(told), _) => is_accepted(told, wanted),
         (DeskReply::Refused(told), Told::Refused(cause)) => is_refused(told, cause, call),
         (DeskReply::Audit(told), Told::Audited(audit)) => *told == audit,
-        (DeskReply::Slots(told), Told::Slots(count)) => *told == count,
+        (DeskReply::Slots(told), Told::Slots(count)) | (DeskReply::Len(told), Told::Len(count)) =>
+            *told == count,
         (DeskReply::Slots(told), Told::AtMost(count)) => *told <= count,
-        _ => false,
-    }
+        _ => is_read(alloc, reply, call, wanted)?,
+    })
 }
 
 // Makes a call by the desk, and tells whether the reply is the one that is wanted.
-fn is_played<R: Abort, const S: usize>(
-    rt: &R,
+fn is_played<const S: usize>(
     alloc: Global,
     index: &mut LocalIndex<u64, u64, S>,
     desk: &mut Desk<u64, u64>,
-    named: Option<&Receipt<u64, u64>>,
     call: Call,
     wanted: Told,
-) -> bool
+) -> Result<bool, AllocError>
     requires { Serves (record { index = index.old; desk = desk.old }) }
     ensures { Serves (record { index = index.new; desk = desk.new }) }
 {
-    let made = match named {
-        Some(receipt) => desk_call_on(alloc, call, receipt).expect(rt, "memory"),
-        None => desk_call(alloc, call).expect(rt, "memory"),
-    };
-    match play_one(alloc, index, desk, made) {
-        Ok(reply) => is_told(&reply, named, call, wanted),
-        Err(AllocError) => panic!(rt; "memory was refused"),
-    }
+    let made = desk_call(alloc, call)?;
+    let reply = play_one(alloc, index, desk, made)?;
+    is_told(alloc, &reply, call, wanted)
 }
 
-// Makes a call, and tells whether it answers what is wanted.
-fn answers<R: Abort, const S: usize>(
-    rt: &R,
+// Makes a call, and tells whether it answers what is wanted. Where memory is refused, it doesn't.
+fn answers<const S: usize>(
     alloc: Global,
     index: &mut LocalIndex<u64, u64, S>,
     desk: &mut Desk<u64, u64>,
-    receipts: &[Receipt<u64, u64>],
     call: Call,
     wanted: Told,
 ) -> bool
@@ -267,21 +299,16 @@ fn answers<R: Abort, const S: usize>(
             let seen = Some((number, len, value, value.is_some()));
             looked_up(index, desk, label, key) == seen
         }
-        _ => {
-            let named = named(receipts, call, wanted);
-            is_played(rt, alloc, index, desk, named, call, wanted)
-        }
+        _ => is_played(alloc, index, desk, call, wanted).unwrap_or(false),
     }
 }
 
 // Makes the calls of a table, in order, and tells how many answer what is wanted before the first that doesn't.
-fn play<R: Abort, const S: usize>(
-    rt: &R,
+fn play<const S: usize>(
     alloc: Global,
     index: &mut LocalIndex<u64, u64, S>,
     desk: &mut Desk<u64, u64>,
-    receipts: &[Receipt<u64, u64>],
-    rows: &[(Call, Told)],
+    rows: &[Row],
 ) -> usize
     requires { Serves (record { index = index.old; desk = desk.old }) }
     ensures { Serves (record { index = index.new; desk = desk.new }) }
@@ -289,7 +316,7 @@ fn play<R: Abort, const S: usize>(
     let mut right = 0usize;
     for at in 0..rows.len() {
         let (call, wanted) = rows[at];
-        if right == at && answers(rt, alloc, index, desk, receipts, call, wanted) {
+        if right == at && answers(alloc, index, desk, call, wanted) {
             right = right.saturating_add(1);
         }
     }
@@ -303,8 +330,7 @@ pub(crate) fn on_an_index<R: Abort, const S: usize>(
     places: usize,
     slots: usize,
     last: u64,
-    receipts: &[Receipt<u64, u64>],
-    rows: &[(Call, Told)],
+    rows: &[Row],
 )
     requires { IsStoreSized places slots S }
 {
@@ -314,11 +340,11 @@ pub(crate) fn on_an_index<R: Abort, const S: usize>(
     let Ok(mut desk) = Desk::new(alloc, places) else {
         panic!(rt; "memory is ample");
     };
-    let right = play(rt, alloc, &mut index, &mut desk, receipts, rows);
+    let right = play(alloc, &mut index, &mut desk, rows);
     desk.end(&mut index);
     match index.close() {
         Ok(()) => {}
         Err(_open) => panic!(rt; "a session is open"),
     }
-    assert_eq!(rt; right, rows.len());
+    assert_eq!(rt; right, rows.len(), "the first row that isn't right");
 }

@@ -1,8 +1,6 @@
 //! Texts as keys and values, as a caller has them.
 
-use ordered_index::{
-    Accepted, Audit, Cause, LocalIndex, Query, Receipt, Refused, Reply, Text, Write,
-};
+use ordered_index::{Audit, Cause, LocalIndex, Query, Receipt, Reply, Text, Write};
 use std::alloc::{AllocError, Global};
 use std::ops::Bound;
 use std::process::Abort;
@@ -23,16 +21,23 @@ fn inserts(alloc: Global, pairs: &[(&str, &str)]) -> Result<Vec<Write<Text, Text
     Ok(writes)
 }
 
-// Commits inserts of these pairs.
+// Commits inserts of these pairs: the number, and whether no pair had one of the keys; or why it is refused.
 fn commit<R: Abort>(
     rt: &R,
     alloc: Global,
     book: &mut Book,
     receipt: &Receipt<Text, Text>,
     pairs: &[(&str, &str)],
-) -> Result<Accepted, Refused<Text, Text>> {
+) -> Result<(u64, bool), Cause> {
     let writes = inserts(alloc, pairs).expect(rt, ROOM);
-    book.commit(receipt, writes)
+    match book.commit(receipt, writes) {
+        Ok(accepted) => {
+            let replies = accepted.replies.as_slice();
+            let inserted = replies.iter().all(|reply| *reply == Reply::Inserted);
+            Ok((accepted.number, inserted && replies.len() == pairs.len()))
+        }
+        Err(refused) => Err(refused.cause),
+    }
 }
 
 // Ends a book without sessions.
@@ -58,30 +63,45 @@ fn read_from<R: Abort>(
     (format!(in alloc; "{answer:?}").expect(rt, ROOM), receipt)
 }
 
+// What a book has from a name on, in print; whether an audit finds that again; and what commits are told on that read, of a pair
+// outside it, of one inside, and then of nothing.
+type Found = (String, Audit, [Result<(u64, bool), Cause>; 3]);
+
+fn found<R: Abort>(rt: &R, alloc: Global, book: &mut Book) -> Found {
+    let (told, receipt) = read_from(rt, alloc, book, "Noether");
+    let audit = book.audit(&receipt).expect(rt, ROOM);
+    let outside = commit(rt, alloc, book, &receipt, &[("Hopper", "1906")]);
+    let inside = commit(rt, alloc, book, &receipt, &[("Turing", "1912")]);
+    let nothing = commit(rt, alloc, book, &receipt, &[]);
+    (told, audit, [outside, inside, nothing])
+}
+
+const PAIRS: [(&str, &str); 3] = [("Noether", "1882"), ("Lovelace", "1815"), ("Nöther", "2")];
+
+// By bytes, so an umlaut comes behind all letters without one.
+const FROM_NOETHER: &str = "Range([(\"Noether\", \"1882\"), (\"Nöther\", \"2\")])";
+
 #[test]
 fn an_index_of_texts_is_read_and_written(rt: HostRuntime) {
     let alloc = rt.alloc();
-    let blank = Receipt::blank(alloc);
     let mut book = Book::new(alloc, 1, 32).expect(&rt, ROOM);
-    let pairs = [("Noether", "1882"), ("Lovelace", "1815"), ("Nöther", "2")];
-    let accepted = commit(&rt, alloc, &mut book, &blank, &pairs).expect(&rt, "accepted");
-    assert_eq!(rt; accepted.replies.as_slice(), &[Reply::Inserted; 3][..]);
-    let (told, receipt) = read_from(&rt, alloc, &mut book, "Noether");
-    // by bytes, so an umlaut comes behind all letters without one
-    assert_eq!(rt;
-        told.as_str(),
-        "Range([(\"Noether\", \"1882\"), (\"Nöther\", \"2\")])"
-    );
-    assert_eq!(rt; book.audit(&receipt).expect(&rt, ROOM), Audit::Yes);
-    let outside = commit(&rt, alloc, &mut book, &receipt, &[("Hopper", "1906")]);
-    assert_eq!(rt; outside.expect(&rt, "accepted").number, 2);
-    let inside = commit(&rt, alloc, &mut book, &receipt, &[("Turing", "1912")]);
-    assert_eq!(rt; inside.expect(&rt, "accepted").number, 3);
-    match commit(&rt, alloc, &mut book, &receipt, &[]) {
-        Ok(_accepted) => panic!(rt; "a pair had entered the range"),
-        Err(refused) => assert_eq!(rt; refused.cause, Cause::Conflict(0)),
-    }
+    let first = commit(&rt, alloc, &mut book, &Receipt::blank(alloc), &PAIRS);
+    let (told, audit, commits) = found(&rt, alloc, &mut book);
     end(&rt, book);
+    assert_eq!(rt;
+        (first, told.as_str(), audit),
+        (Ok((1, true)), FROM_NOETHER, Audit::Yes)
+    );
+    // a pair had entered the range
+    assert_eq!(rt;
+        commits,
+        [Ok((2, true)), Ok((3, true)), Err(Cause::Conflict(0))]
+    );
+}
+
+// How a text is printed, for a reader and as a value.
+fn prints(alloc: Global, text: &Text) -> Result<(String, String), AllocError> {
+    Ok((format!(in alloc; "{text}")?, format!(in alloc; "{text:?}")?))
 }
 
 #[test]
@@ -89,10 +109,10 @@ fn texts_are_made_compared_and_printed(rt: HostRuntime) -> Result<(), Fail> {
     let alloc = rt.alloc();
     let one = Text::new(alloc, "a \"b\"")?;
     let other = Text::from(String::from_str(alloc, "a")?);
-    assert_eq!(rt; format!(in alloc; "{one}")?.as_str(), "a \"b\"");
-    assert_eq!(rt; format!(in alloc; "{one:?}")?.as_str(), "\"a \\\"b\\\"\"");
-    assert!(rt; other < one);
-    assert!(rt; one.clone()? == one);
-    assert_eq!(rt; other.into_string().as_str(), "a");
+    let compared = other < one && one.clone()? == one;
+    let (plain, quoted) = prints(alloc, &one)?;
+    let back = other.into_string();
+    let texts = (plain.as_str(), quoted.as_str(), back.as_str());
+    assert!(rt; compared && texts == ("a \"b\"", "\"a \\\"b\\\"\"", "a"));
     Ok(())
 }

@@ -230,86 +230,101 @@ fn agrees<const S: usize>(
     Ok(true)
 }
 
+// The same with segments of each size.
+fn each_agrees(alloc: Global, start: u64, most: u64) -> Result<bool, AllocError> {
+    let ones = agrees::<1>(alloc, start, 31, most)?;
+    let twos = agrees::<2>(alloc, start, 31, most)?;
+    let threes = agrees::<3>(alloc, start, 63, most)?;
+    let eights = agrees::<8>(alloc, start, 127, most)?;
+    let wide = agrees::<225>(alloc, start, 2047, most)?;
+    Ok(ones && twos && threes && eights && wide)
+}
+
 #[test]
 fn random_writes_answer_as_on_plain_lists(rt: HostRuntime) -> Result<(), Fail> {
     for start in 1..=12u64 {
         for most in [1u64, 3, 15, 63] {
-            assert!(rt; agrees::<1>(rt.alloc(), start, 31, most)?);
-            assert!(rt; agrees::<2>(rt.alloc(), start, 31, most)?);
-            assert!(rt; agrees::<3>(rt.alloc(), start, 63, most)?);
-            assert!(rt; agrees::<8>(rt.alloc(), start, 127, most)?);
-            assert!(rt; agrees::<225>(rt.alloc(), start, 2047, most)?);
+            assert!(rt;
+                each_agrees(rt.alloc(), start, most)?,
+                "writes by {start}, at most {most}"
+            );
         }
     }
     Ok(())
 }
 
-// The pairs that writes leave of no list, what they are told, and how many segments of one pair the last of them make.
-fn outcome(
-    alloc: Global,
-    before: &[Write<u64, u64>],
-    writes: &[Write<u64, u64>],
-) -> Result<(Vec<(u64, u64)>, Vec<Reply>, usize), AllocError> {
+// Writes on a list: what they are told, the pairs that they leave, and how many segments of one pair they make.
+type Row = (
+    &'static [Write<u64, u64>],
+    &'static [Reply],
+    &'static [(u64, u64)],
+    usize,
+);
+
+// Whether writes on a list that others left of none do what is wanted.
+fn does(alloc: Global, before: &[Write<u64, u64>], row: Row) -> Result<bool, AllocError> {
+    let (writes, told, pairs, count) = row;
     let empty = none::<1>(alloc);
     let (made, _) = drafted::<u64, u64, usize, Kept, 1>(alloc, &empty, before)?;
     let old = settled::<1>(alloc, &empty, made)?;
     let (made, replies) = drafted::<u64, u64, usize, Kept, 1>(alloc, &old, writes)?;
     let fresh = fresh_in(&made);
     let next = settled::<1>(alloc, &old, made)?;
-    Ok((pairs_of(alloc, next.trees.as_slice())?, replies, fresh))
+    let left = pairs_of(alloc, next.trees.as_slice())?;
+    Ok(left.as_slice() == pairs && replies.as_slice() == told && fresh == count)
 }
 
-#[test]
-fn writes_make_what_they_touch(rt: HostRuntime) -> Result<(), Fail> {
-    let alloc = rt.alloc();
-    let before = [
-        Write::Insert(1, 1),
-        Write::Insert(3, 3),
-        Write::Insert(5, 5),
-        Write::Insert(7, 7),
-    ];
-    let (pairs, replies, fresh) = outcome(alloc, &before, &[])?;
-    assert_eq!(rt; pairs.as_slice(), &[(1, 1), (3, 3), (5, 5), (7, 7)][..]);
-    assert_eq!(rt; replies.len(), 0);
-    assert_eq!(rt; fresh, 0);
-    let writes = [
+const BEFORE: [Write<u64, u64>; 4] = [
+    Write::Insert(1, 1),
+    Write::Insert(3, 3),
+    Write::Insert(5, 5),
+    Write::Insert(7, 7),
+];
+
+const NONE: Row = (&[], &[], &[(1, 1), (3, 3), (5, 5), (7, 7)], 0);
+
+// The change at 5 isn't above 7, so it reaches that segment: both pairs are made anew, each in a tree of its own.
+const INNER: Row = (
+    &[
         Write::Insert(4, 4),
         Write::Insert(3, 9),
         Write::RemoveRange(Bound::Included(3), Bound::Excluded(7)),
         Write::Insert(5, 50),
         Write::Remove(3),
-    ];
-    let (pairs, replies, fresh) = outcome(alloc, &before, &writes)?;
-    assert_eq!(rt; pairs.as_slice(), &[(1, 1), (5, 50), (7, 7)][..]);
-    assert_eq!(rt;
-        replies.as_slice(),
-        &[
-            Reply::Inserted,
-            Reply::Duplicate,
-            Reply::RangeRemoved,
-            Reply::Inserted,
-            Reply::Absent,
-        ][..]
-    );
-    // The change at 5 isn't above 7, so it reaches that segment: both pairs are made anew, each in a tree of its own.
-    assert_eq!(rt; fresh, 2);
-    let writes = [
+    ],
+    &[
+        Reply::Inserted,
+        Reply::Duplicate,
+        Reply::RangeRemoved,
+        Reply::Inserted,
+        Reply::Absent,
+    ],
+    &[(1, 1), (5, 50), (7, 7)],
+    2,
+);
+
+const CLEARING: Row = (
+    &[
         Write::Upsert(9, 9),
         Write::Clear,
         Write::Insert(2, 20),
         Write::Remove(3),
-    ];
-    let (pairs, replies, fresh) = outcome(alloc, &before, &writes)?;
-    assert_eq!(rt; pairs.as_slice(), &[(2, 20)][..]);
-    assert_eq!(rt;
-        replies.as_slice(),
-        &[
-            Reply::Upserted,
-            Reply::Cleared,
-            Reply::Inserted,
-            Reply::Absent,
-        ][..]
-    );
-    assert_eq!(rt; fresh, 1);
+    ],
+    &[
+        Reply::Upserted,
+        Reply::Cleared,
+        Reply::Inserted,
+        Reply::Absent,
+    ],
+    &[(2, 20)],
+    1,
+);
+
+#[test]
+fn writes_make_what_they_touch(rt: HostRuntime) -> Result<(), Fail> {
+    let none = does(rt.alloc(), &BEFORE, NONE)?;
+    let inner = does(rt.alloc(), &BEFORE, INNER)?;
+    let clearing = does(rt.alloc(), &BEFORE, CLEARING)?;
+    assert_eq!(rt; [none, inner, clearing], [true; 3]);
     Ok(())
 }

@@ -3,16 +3,21 @@
 ghost use Rattle.std.specs.Prelude.{◌≡◌, ◌<◌, List, length, Ok};
 ghost use Rattle.sdd_base.specs.Counting.{Counted};
 ghost use Rattle.sdd_base.specs.Holding.{Hold};
+ghost use Rattle.sdd_base.specs.State.{value_at};
+ghost use Rattle.std.specs.Ordering.{nat_cmp};
 ghost use Rattle.versions.specs.Items.{held_by};
+ghost use Rattle.versions.specs.Versions.{IsVersion};
 
 use sdd_base::job::NoJob;
-use sdd_base::owner::Shared;
+use sdd_base::owner::{Kept, Shared};
 use sdd_base::sizes::Sizes;
 use sdd_base::world::{World, atomic_shared, guard, shared};
 use std::alloc::{AllocError, Global};
 use std::process::Abort;
 use std::test::Fail;
-use versions::{Built, Item, Reply, Write, build, len, look_up, place, publish, version};
+use versions::{
+    Built, Directory, Item, Reply, Write, build, len, look_up, place, publish, version,
+};
 
 // Items of versions with two pairs in a segment.
 type Two = Item<u64, u64, 2>;
@@ -71,6 +76,17 @@ fn end<R: Abort>(rt: &R, w: World<Two, NoJob>) {
     }
 }
 
+// How many pairs a version has, and the values of four keys.
+fn found(w: &World<Two, NoJob>, dir: &Directory<u64, Kept>) -> (usize, [Option<u64>; 4])
+    requires { IsVersion nat_cmp (value_at w.now) dir.now }
+{
+    let one = look_up(w, dir, &1).map(|p| *p.1);
+    let three = look_up(w, dir, &3).map(|p| *p.1);
+    let five = look_up(w, dir, &5).map(|p| *p.1);
+    let six = look_up(w, dir, &6).map(|p| *p.1);
+    (len(w, dir), [one, three, five, six])
+}
+
 #[test]
 fn a_version_takes_a_slot_for_each_segment_and_one(rt: HostRuntime) -> Result<(), Fail> {
     let alloc = rt.alloc();
@@ -80,35 +96,35 @@ fn a_version_takes_a_slot_for_each_segment_and_one(rt: HostRuntime) -> Result<()
         Err(_) => panic!(rt; "no room for a place"),
     };
     let first = placed(&rt, place(&mut w, Built::empty(alloc)));
-    assert_eq!(rt; w.slots_in_use(), 1);
-    assert_eq!(rt; len(&w, version(&w, &first)), 0);
+    let empty = (w.slots_in_use(), len(&w, version(&w, &first)));
     w.laws();
     let (built, replies) = match build(alloc, &w, version(&w, &first), writes.as_slice()) {
         Ok(made) => made,
         Err(_) => panic!(rt; "no room for a version"),
     };
-    assert_eq!(rt; replies.as_slice(), &[Reply::Upserted; 5][..]);
-    assert_eq!(rt; built.slots(), 4);
+    let takes = built.slots();
     let second = placed(&rt, place(&mut w, built));
     let root = match atomic_shared::from(&mut w, first) {
         Ok(root) => root,
         Err(_) => panic!(rt; "no cell for the root"),
     };
-    assert_eq!(rt; w.slots_in_use(), 5);
+    let rooted = w.slots_in_use();
     let dir = version(&w, &second);
-    assert_eq!(rt; len(&w, dir), 5);
-    assert_eq!(rt; look_up(&w, dir, &1).map(|p| *p.1), Some(101));
-    assert_eq!(rt; look_up(&w, dir, &3).map(|p| *p.1), Some(103));
-    assert_eq!(rt; look_up(&w, dir, &5).map(|p| *p.1), Some(105));
-    assert_eq!(rt; look_up(&w, dir, &6).map(|p| *p.1), None);
+    let pairs = found(&w, dir);
     publish(&mut w, &root, second, 0);
-    assert_eq!(rt; w.slots_in_use(), 5);
+    let published = w.slots_in_use();
     passes(&mut w, 8);
-    assert_eq!(rt; w.slots_in_use(), 4);
+    let reclaimed = w.slots_in_use();
     atomic_shared::retire(&mut w, root, 0);
     passes(&mut w, 7);
-    assert_eq!(rt; w.slots_in_use(), 0);
+    let left = w.slots_in_use();
     end(&rt, w);
+    assert_eq!(rt; replies.as_slice(), &[Reply::Upserted; 5][..]);
+    assert_eq!(rt;
+        (empty, takes, pairs),
+        ((1, 0), 4, (5, [Some(101), Some(103), Some(105), None]))
+    );
+    assert_eq!(rt; (rooted, published, reclaimed, left), (5, 5, 4, 0));
     Ok(())
 }
 
@@ -126,17 +142,15 @@ fn a_version_that_finds_no_room_comes_back(rt: HostRuntime) -> Result<(), Fail> 
         Ok(made) => made,
         Err(_) => panic!(rt; "no room for a version"),
     };
-    match place(&mut w, built) {
+    let back = match place(&mut w, built) {
         Ok(_) => panic!(rt; "there is room for it"),
-        Err(back) => {
-            assert_eq!(rt; back.slots(), 4);
-            drop(back);
-        }
-    }
-    assert_eq!(rt; w.slots_in_use(), 1);
-    assert!(rt; shared::release(&mut w, first, 0));
+        Err(back) => back.slots(),
+    };
+    let before = w.slots_in_use();
+    let is_last = shared::release(&mut w, first, 0);
     passes(&mut w, 4);
-    assert_eq!(rt; w.slots_in_use(), 0);
+    let after = w.slots_in_use();
     end(&rt, w);
+    assert_eq!(rt; (back, before, is_last, after), (4, 1, true, 0));
     Ok(())
 }

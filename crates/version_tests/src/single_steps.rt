@@ -167,8 +167,9 @@ fn take_turn<R: Abort>(rt: &R, alloc: Global, state: State, kind: Turn) -> State
         state = after(rt, alloc, state, Step::Look(WRITER, READER));
         state = after(rt, alloc, state, Step::Raise(WRITER));
     } else {
-        assert!(rt; is_refused(rt, alloc, &state, Step::Look(WRITER, READER)));
-        assert!(rt; is_refused(rt, alloc, &state, Step::Raise(WRITER)));
+        let looks = is_refused(rt, alloc, &state, Step::Look(WRITER, READER));
+        let raises = is_refused(rt, alloc, &state, Step::Raise(WRITER));
+        assert!(rt; looks && raises);
     }
     after(rt, alloc, state, Step::Close(WRITER))
 }
@@ -262,9 +263,9 @@ fn play<R: Abort>(
     let mut state = start;
     for kind in turns {
         let found = pass(rt, w);
-        assert!(rt; found == Epoch::of_count(state.count()));
+        let wanted = Epoch::of_count(state.count());
         state = take_turn(rt, alloc, state, *kind);
-        assert!(rt; agrees(w, &state, known));
+        assert!(rt; found == wanted && agrees(w, &state, known));
     }
     state
 }
@@ -437,26 +438,25 @@ fn a_place_goes_as_the_single_steps_say(rt: HostRuntime) {
         second,
     } = begin(&rt, alloc);
     let mut state = begin_beside(&rt, alloc);
-    assert_eq!(rt; (w.slots_in_use(), left(&state)), (6, 6));
+    let begun = (w.slots_in_use(), left(&state));
     // The count is raised five times; the writer's last opening found 4.
     let lifts = [LIFT, ROUND, ROUND, round_without(&[EMPTY]), ROUND];
     state = play(&rt, alloc, &mut w, state, &lifts, None);
-    assert_eq!(rt; (state.count(), w.slots_in_use()), (5, 5));
+    let lifted = (state.count(), w.slots_in_use());
     // The reader publishes 5, rotates and loads the first version, and another one takes its place.
     let (reading, at) = begin_reading(&rt, &mut w, &root);
-    assert!(rt; guard::epoch(&w, &reading) == Epoch::of_count(5));
+    let opened = guard::epoch(&w, &reading) == Epoch::of_count(5);
     state = open(&rt, alloc, state, READER, true);
     state = after(&rt, alloc, state, Step::LoadCell(READER, ROOT));
     let second = replace(&mut w, &root, second, &reading);
     let known = Known { first: at, second };
     state = replace_beside(&rt, alloc, state);
-    assert_eq!(rt; (w.slots_in_use(), left(&state)), (5, 5));
+    let replaced = (w.slots_in_use(), left(&state));
     // Two rotations, one raise.
     let held_up = [ROUND, ROTATION, STILL, STILL, STILL, STILL, STILL, STILL];
     state = play(&rt, alloc, &mut w, state, &held_up, Some(&known));
-    assert!(rt; guard::epoch(&w, &reading) == Epoch::of_count(6));
-    assert_eq!(rt; (state.count(), w.slots_in_use()), (6, 5));
-    assert_eq!(rt; read(&w, &known.first), Some((1, 2)));
+    let stays = guard::epoch(&w, &reading) == Epoch::of_count(6);
+    let held = (state.count(), w.slots_in_use(), read(&w, &known.first));
     state = after(&rt, alloc, state, Step::ReadSegment(READER, FIRST, 1));
     end_reading(&mut w, reading);
     state = after(&rt, alloc, state, Step::Close(READER));
@@ -472,11 +472,16 @@ fn a_place_goes_as_the_single_steps_say(rt: HostRuntime) {
         ROUND,
     ];
     state = play(&rt, alloc, &mut w, state, &freed, Some(&known));
-    assert_eq!(rt; (state.count(), w.slots_in_use()), (14, 3));
-    assert!(rt; read(&w, &known.first).is_none());
+    let left = (state.count(), w.slots_in_use(), read(&w, &known.first));
     let (reading, at) = begin_reading(&rt, &mut w, &root);
-    assert!(rt; guard::epoch(&w, &reading) == Epoch::of_count(14));
-    assert_eq!(rt; read(&w, &at), Some((2, 2)));
+    let reopened = guard::epoch(&w, &reading) == Epoch::of_count(14);
+    let present = read(&w, &at);
     end_reading(&mut w, reading);
     end(&rt, w, root);
+    assert!(rt; opened && stays && reopened);
+    assert_eq!(rt; (begun, lifted, replaced), ((6, 6), (5, 5), (5, 5)));
+    assert_eq!(rt;
+        (held, left, present),
+        ((6, 5, Some((1, 2))), (14, 3, None), Some((2, 2)))
+    );
 }

@@ -16,7 +16,6 @@ use sdd_base::world::{World, guard, shared};
 use std::alloc::Global;
 use std::ops::Bound;
 use std::process::Abort;
-use std::test::Fail;
 use versions::{Built, Item, Nearby, Walk, Write, build, locate, place, version, walk};
 
 // A place with a version of these pairs, and the empty one.
@@ -90,29 +89,96 @@ fn read(pair: Option<(&u64, &u64)>) -> Option<(u64, u64)> {
     }
 }
 
+// A call of a walk.
+#[derive(Clone, Copy)]
+enum Call {
+    Next,
+    NextBack,
+    Get,
+    Flip,
+}
+
+// What it answers: the pair that it comes to, or whether the ends change places.
+#[derive(Clone, Copy, PartialEq)]
+enum Told {
+    Pair(u64, u64),
+    Nothing,
+    Flips(bool),
+}
+
+fn told_of(pair: Option<(&u64, &u64)>) -> Told {
+    match pair {
+        Some((key, value)) => Told::Pair(*key, *value),
+        None => Told::Nothing,
+    }
+}
+
+fn made<const S: usize>(
+    ends: &mut Walk<'_, u64, u64, World<Item<u64, u64, S>, NoJob>>,
+    call: Call,
+) -> Told {
+    match call {
+        Call::Next => told_of(ends.next()),
+        Call::NextBack => told_of(ends.next_back()),
+        Call::Get => told_of(ends.get()),
+        Call::Flip => Told::Flips(ends.flip()),
+    }
+}
+
+// Makes the calls of a table, and tells how many answer what is wanted before the first that doesn't.
+fn played<const S: usize>(
+    start: Walk<'_, u64, u64, World<Item<u64, u64, S>, NoJob>>,
+    rows: &[(Call, Told)],
+) -> usize {
+    let mut ends = start;
+    let mut right = 0usize;
+    for at in 0..rows.len() {
+        let (call, wanted) = rows[at];
+        if right == at && made(&mut ends, call) == wanted {
+            right = right.saturating_add(1);
+        }
+    }
+    right
+}
+
+const THREE: [(u64, u64); 3] = [(1, 2), (2, 2), (3, 2)];
+
+const FROM_BOTH_ENDS: [(Call, Told); 9] = [
+    (Call::NextBack, Told::Pair(3, 2)),
+    (Call::NextBack, Told::Pair(2, 2)),
+    (Call::Flip, Told::Flips(true)),
+    (Call::Next, Told::Pair(3, 2)),
+    (Call::Flip, Told::Flips(true)),
+    (Call::NextBack, Told::Pair(2, 2)),
+    (Call::Next, Told::Pair(1, 2)),
+    (Call::Next, Told::Nothing),
+    (Call::Flip, Told::Flips(false)),
+];
+
+const FORTH: [(Call, Told); 6] = [
+    (Call::Next, Told::Pair(1, 2)),
+    (Call::Next, Told::Pair(2, 2)),
+    (Call::Next, Told::Pair(3, 2)),
+    (Call::Next, Told::Nothing),
+    (Call::Next, Told::Nothing),
+    (Call::Get, Told::Nothing),
+];
+
 fn three_pairs<R: Abort, const S: usize>(rt: &R, alloc: Global)
     requires { (1 ≤ S) × (S ≤ 225) }
 {
-    let held = prepared::<R, S>(rt, alloc, &[(1, 2), (2, 2), (3, 2)]);
+    let held = prepared::<R, S>(rt, alloc, &THREE);
     let dir = version(&held.w, &held.root);
-    let mut ends = walk(&held.w, dir, Bound::Unbounded, Bound::Unbounded);
-    assert_eq!(rt; ends.next_back(), Some((&3, &2)));
-    assert_eq!(rt; ends.next_back(), Some((&2, &2)));
-    assert!(rt; ends.flip());
-    assert_eq!(rt; ends.next(), Some((&3, &2)));
-    assert!(rt; ends.flip());
-    assert_eq!(rt; ends.next_back(), Some((&2, &2)));
-    assert_eq!(rt; ends.next(), Some((&1, &2)));
-    assert!(rt; ends.next().is_none());
-    assert!(rt; !ends.flip());
-    let mut first = walk(&held.w, dir, Bound::Unbounded, Bound::Unbounded);
-    for key in 1..4u64 {
-        assert_eq!(rt; first.next(), Some((&key, &2)));
-    }
-    assert!(rt; first.next().is_none());
-    assert!(rt; first.next().is_none());
-    assert!(rt; first.get().is_none());
+    let ends = walk(&held.w, dir, Bound::Unbounded, Bound::Unbounded);
+    let both = played(ends, &FROM_BOTH_ENDS);
+    let first = walk(&held.w, dir, Bound::Unbounded, Bound::Unbounded);
+    let forth = played(first, &FORTH);
     end(rt, held);
+    assert_eq!(rt;
+        (both, forth),
+        (FROM_BOTH_ENDS.len(), FORTH.len()),
+        "the first row that isn't right"
+    );
 }
 
 #[test]
@@ -155,36 +221,68 @@ fn found<const S: usize>(around: Nearby<'_, u64, u64, World<Item<u64, u64, S>, N
     }
 }
 
+const FOUR: [(u64, u64); 4] = [(1, 1), (3, 2), (5, 3), (7, 4)];
+
+const ONE: Option<(u64, u64)> = Some((1, 1));
+
+const THIRD: Option<(u64, u64)> = Some((3, 2));
+
+const FIFTH: Option<(u64, u64)> = Some((5, 3));
+
+const SEVENTH: Option<(u64, u64)> = Some((7, 4));
+
+// Keys, and what is found around each.
+const AROUND: [(u64, Found); 4] = [
+    (2, ("between", (ONE, THIRD), ((None, THIRD), (None, ONE)))),
+    (
+        5,
+        (
+            "exact",
+            (FIFTH, None),
+            ((SEVENTH, SEVENTH), (None, SEVENTH)),
+        ),
+    ),
+    (
+        8,
+        ("smaller", (None, SEVENTH), ((ONE, ONE), (FIFTH, FIFTH))),
+    ),
+    (
+        0,
+        ("larger", (ONE, None), ((THIRD, THIRD), (SEVENTH, SEVENTH))),
+    ),
+];
+
 fn neighbours<R: Abort, const S: usize>(rt: &R, alloc: Global)
     requires { (1 ≤ S) × (S ≤ 225) }
 {
-    let (one, three) = (Some((1, 1)), Some((3, 2)));
-    let (five, seven) = (Some((5, 3)), Some((7, 4)));
-    let wanted: [(u64, Found); 4] = [
-        (2, ("between", (one, three), ((None, three), (None, one)))),
-        (5, ("exact", (five, None), ((seven, seven), (None, seven)))),
-        (8, ("smaller", (None, seven), ((one, one), (five, five)))),
-        (0, ("larger", (one, None), ((three, three), (seven, seven)))),
-    ];
-    let held = prepared::<R, S>(rt, alloc, &[(1, 1), (3, 2), (5, 3), (7, 4)]);
+    let held = prepared::<R, S>(rt, alloc, &FOUR);
     let dir = version(&held.w, &held.root);
-    for (key, row) in wanted {
-        assert_eq!(rt; found(locate(&held.w, dir, &key)), row);
+    let mut right = 0usize;
+    for (key, wanted) in AROUND {
+        if found(locate(&held.w, dir, &key)) == wanted {
+            right = right.saturating_add(1);
+        }
     }
     end(rt, held);
+    assert_eq!(rt; right, AROUND.len());
 }
+
+const NOWHERE: [(Call, Told); 3] = [
+    (Call::Next, Told::Nothing),
+    (Call::NextBack, Told::Nothing),
+    (Call::Flip, Told::Flips(true)),
+];
 
 fn no_neighbours<R: Abort, const S: usize>(rt: &R, alloc: Global)
     requires { (1 ≤ S) × (S ≤ 225) }
 {
     let held = prepared::<R, S>(rt, alloc, &[]);
     let dir = version(&held.w, &held.root);
-    assert_eq!(rt; found(locate(&held.w, dir, &3)).0, "empty");
-    let mut ends = walk(&held.w, dir, Bound::Unbounded, Bound::Unbounded);
-    assert!(rt; ends.next().is_none());
-    assert!(rt; ends.next_back().is_none());
-    assert!(rt; ends.flip());
+    let kind = found(locate(&held.w, dir, &3)).0;
+    let ends = walk(&held.w, dir, Bound::Unbounded, Bound::Unbounded);
+    let right = played(ends, &NOWHERE);
     end(rt, held);
+    assert_eq!(rt; (kind, right), ("empty", NOWHERE.len()));
 }
 
 #[test]
@@ -318,23 +416,38 @@ impl<'l> Plain<'l> {
         }
         turns
     }
+
+    fn made(&mut self, call: Call) -> Told {
+        let pair = match call {
+            Call::Next => self.next(),
+            Call::NextBack => self.next_back(),
+            Call::Get => self.get(),
+            Call::Flip => return Told::Flips(self.flip()),
+        };
+        match pair {
+            Some((key, value)) => Told::Pair(key, value),
+            None => Told::Nothing,
+        }
+    }
 }
 
-// One call on a walk and on the plain machine.
-fn step<R: Abort, const S: usize>(
-    rt: &R,
+// One call on a walk and on the plain machine, and whether both answer the same and stand at the same pairs then.
+fn step<const S: usize>(
     ends: &mut Walk<'_, u64, u64, World<Item<u64, u64, S>, NoJob>>,
     plain: &mut Plain<'_>,
     kind: u64,
-) {
-    match kind {
-        0 | 1 | 2 => assert_eq!(rt; read(ends.next()), plain.next()),
-        3 | 4 | 5 => assert_eq!(rt; read(ends.next_back()), plain.next_back()),
-        6 => assert_eq!(rt; ends.flip(), plain.flip()),
-        _ => *ends = ends.clone(),
-    }
-    assert_eq!(rt; read(ends.get()), plain.get());
-    assert_eq!(rt; read(ends.get_back()), plain.get_back());
+) -> bool {
+    let call = match kind {
+        0 | 1 | 2 => Call::Next,
+        3 | 4 | 5 => Call::NextBack,
+        6 => Call::Flip,
+        _ => {
+            *ends = ends.clone();
+            Call::Get
+        }
+    };
+    let right = made(ends, call) == plain.made(call);
+    right && ends_of(ends) == (plain.get(), plain.get_back())
 }
 
 fn following(seed: u64) -> u64 {
@@ -364,18 +477,20 @@ fn some_pairs<R: Abort>(rt: &R, alloc: Global, start: u64) -> Vec<(u64, u64)> {
     pairs
 }
 
-// Random calls on a walk, and on the plain machine beside it.
-fn random_calls<R: Abort, const S: usize>(
-    rt: &R,
-    ends: &mut Walk<'_, u64, u64, World<Item<u64, u64, S>, NoJob>>,
-    plain: &mut Plain<'_>,
-    start: u64,
-) {
-    let mut seed = start;
+// Random calls on a walk, and on the plain machine beside it: whether all answer the same.
+fn random_calls<const S: usize>(
+    start: Walk<'_, u64, u64, World<Item<u64, u64, S>, NoJob>>,
+    beside: Plain<'_>,
+    first: u64,
+) -> bool {
+    let (mut ends, mut plain) = (start, beside);
+    let mut seed = first;
+    let mut right = true;
     for _ in 0..(seed >> 50) % 50 {
         seed = following(seed);
-        step(rt, ends, plain, (seed >> 33) % 8);
+        right = step(&mut ends, &mut plain, (seed >> 33) % 8) && right;
     }
+    right
 }
 
 fn random_walks<R: Abort, const S: usize>(rt: &R, alloc: Global, start: u64)
@@ -385,21 +500,23 @@ fn random_walks<R: Abort, const S: usize>(rt: &R, alloc: Global, start: u64)
     let held = prepared::<R, S>(rt, alloc, pairs.as_slice());
     let dir = version(&held.w, &held.root);
     let mut seed = start;
+    let mut right = true;
     for _ in 0..20u32 {
         seed = following(seed);
         let lower = bound_of(seed >> 20);
         let upper = bound_of(seed >> 40);
-        let mut ends = walk(&held.w, dir, lower.as_ref(), upper.as_ref());
-        let mut plain = Plain {
+        let ends = walk(&held.w, dir, lower.as_ref(), upper.as_ref());
+        let plain = Plain {
             pairs: pairs.as_slice(),
             lower,
             upper,
             forward: Place::Unopened,
             backward: Place::Unopened,
         };
-        random_calls(rt, &mut ends, &mut plain, seed);
+        right = random_calls(ends, plain, seed) && right;
     }
     end(rt, held);
+    assert!(rt; right, "pairs by {start}");
 }
 
 #[test]
@@ -431,7 +548,22 @@ fn plain_ends(pairs: &[(u64, u64)], key: u64) -> (Place, Place) {
     (Place::Unopened, smaller)
 }
 
-// A walk and the plain machine go on from around a key.
+// A walk and the plain machine go on from around a key: whether they answer the same. Around a key there is nothing only where
+// there are no pairs.
+fn random_calls_around<const S: usize>(
+    around: Nearby<'_, u64, u64, World<Item<u64, u64, S>, NoJob>>,
+    plain: Plain<'_>,
+    seed: u64,
+) -> bool {
+    match around {
+        Nearby::Exact(ends)
+        | Nearby::Between(ends)
+        | Nearby::Smaller(ends)
+        | Nearby::Larger(ends) => random_calls(ends, plain, seed),
+        Nearby::Empty => plain.pairs.is_empty(),
+    }
+}
+
 fn random_around<R: Abort, const S: usize>(rt: &R, alloc: Global, start: u64)
     requires { (1 ≤ S) × (S ≤ 225) }
 {
@@ -439,25 +571,21 @@ fn random_around<R: Abort, const S: usize>(rt: &R, alloc: Global, start: u64)
     let held = prepared::<R, S>(rt, alloc, pairs.as_slice());
     let dir = version(&held.w, &held.root);
     let mut seed = start;
+    let mut right = true;
     for key in 0..41u64 {
         seed = following(seed);
         let (forward, backward) = plain_ends(pairs.as_slice(), key);
-        let mut plain = Plain {
+        let plain = Plain {
             pairs: pairs.as_slice(),
             lower: Bound::Unbounded,
             upper: Bound::Unbounded,
             forward,
             backward,
         };
-        match locate(&held.w, dir, &key) {
-            Nearby::Exact(mut ends) => random_calls(rt, &mut ends, &mut plain, seed),
-            Nearby::Between(mut ends) => random_calls(rt, &mut ends, &mut plain, seed),
-            Nearby::Smaller(mut ends) => random_calls(rt, &mut ends, &mut plain, seed),
-            Nearby::Larger(mut ends) => random_calls(rt, &mut ends, &mut plain, seed),
-            Nearby::Empty => assert!(rt; pairs.is_empty()),
-        }
+        right = random_calls_around(locate(&held.w, dir, &key), plain, seed) && right;
     }
     end(rt, held);
+    assert!(rt; right, "pairs by {start}");
 }
 
 #[test]
