@@ -182,6 +182,20 @@ impl Stack {
         popped
     }
 
+    /// Takes all items out, in one step, and gives them as a stack of their own. None where no cell is free for that, which
+    /// is a miss: then they stay.
+    pub fn pop_all<T: Holds>(&self, domain: &Domain<T>, local: &mut Local<T>) -> Option<Stack>
+        requires home { home_of local.old ≡ place_of domain.now }
+        requires stack { IsStackOf self.now domain.now }
+        ensures stack { IfSome result (λ s. IsStackOf s domain.now) }
+        ensures same { IsAsBefore local.old local.new }
+    {
+        let all = Stack::new(domain, local)?;
+        let (first, _) = self.first.swap((None, Tag::None), domain, local);
+        follow(&all.first, first, domain, local);
+        Some(all)
+    }
+
     /// Releases its items, and gives its cell back.
     pub fn end<T: Holds>(self, domain: &Domain<T>, links: &Links, local: &mut Local<T>)
         requires home { (home_of local.old ≡ place_of domain.now) × (hand_of local.old ≡ []) }
@@ -213,7 +227,7 @@ fn let_go<T: Holds>(owner: Option<Shared<T>>, domain: &Domain<T>, local: &mut Lo
     }
 }
 
-/// Has a link own what follows its item, or nothing.
+/// Has a link own what follows its item, or nothing; or a new stack its first item.
 fn follow<T: Holds>(
     link: &AtomicShared,
     next: Option<Shared<T>>,

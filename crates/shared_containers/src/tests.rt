@@ -194,6 +194,61 @@ fn the_last_value_comes_out_first_and_a_full_place_gives_one_back(
     Ok(())
 }
 
+/// What comes out of a stack of 1 and 2, once all of it was taken out and 3 was pushed: by itself, and by the stack of what
+/// was taken out.
+fn moves<R: Abort>(
+    rt: &R,
+    domain: &Domain<u64>,
+    links: &Links,
+    local: &mut Local<u64>,
+) -> ([Option<u64>; 2], [Option<u64>; 3])
+    requires home { (home_of local.old ≡ place_of domain.now) × (hand_of local.old ≡ []) }
+    requires closed { (own_of local.old).nesting ≡ 0 }
+    requires links { AreLinksOf links.now domain.now }
+    ensures same { IsAsBefore local.old local.new }
+{
+    let Some(stack) = Stack::new(domain, local) else {
+        panic!(rt; "a cell is free");
+    };
+    let scene = Scene {
+        domain,
+        links,
+        stack: &stack,
+    };
+    let pushed = [push(&scene, local, 1), push(&scene, local, 2)];
+    let Some(all) = stack.pop_all(domain, local) else {
+        stack.end(domain, links, local);
+        panic!(rt; "a cell is free");
+    };
+    let third = push(&scene, local, 3);
+    let own = [pop(&scene, local), pop(&scene, local)];
+    let scene = Scene {
+        domain,
+        links,
+        stack: &all,
+    };
+    let moved = [pop(&scene, local), pop(&scene, local), pop(&scene, local)];
+    all.end(domain, links, local);
+    stack.end(domain, links, local);
+    assert!(rt; pushed == [None, None] && third.is_none());
+    (own, moved)
+}
+
+#[test]
+fn all_items_are_taken_out_in_one_step(rt: HostRuntime) -> Result<(), Fail> {
+    let domain = Domain::new(rt.alloc(), sized(1, 3, 5))?;
+    let mut local = member(&rt, &domain);
+    let Ok(links) = Links::new(rt.alloc(), &domain, &mut local) else {
+        panic!(&rt; "memory is ample, and so are cells");
+    };
+    let found = moves(&rt, &domain, &links, &mut local);
+    links.end(&domain, &mut local);
+    local.end(&domain);
+    end(&rt, domain);
+    assert!(rt; found == ([Some(3), None], [Some(2), Some(1), None]));
+    Ok(())
+}
+
 /// Gives a cell back that there may be.
 fn put_back(cell: Option<AtomicShared>, domain: &Domain<u64>, local: &mut Local<u64>)
     requires home { home_of local.old ≡ place_of domain.now }
