@@ -29,7 +29,7 @@ pub struct Links {
 
 impl Links {
     ghost use Rattle.sdd_domain.specs.Tokens.{place_of, home_of, cell_count};
-    ghost use Rattle.shared_containers.specs.Stacks.{AreLinksOf, IsAsBefore};
+    ghost use Rattle.shared_containers.specs.Containers.{AreLinksOf, IsAsBefore};
 
     /// Links for the slots of a place. It takes as many cells as the place has slots, and memory for their names.
     pub fn new<T: Holds>(

@@ -4,9 +4,11 @@ ghost use Rattle.std.specs.Prelude.{◌≡◌, ◌<◌, [], IfErr, IfSome};
 ghost use Rattle.sdd_domain.specs.Cells.{cell_number};
 ghost use Rattle.sdd_domain.specs.Sharing.{kept_in, IsOwnerOf};
 ghost use Rattle.sdd_domain.specs.Tokens.{place_of, home_of, hand_of, own_of, cell_count, nest_of, nest_in, IsInNest};
-ghost use Rattle.shared_containers.specs.Stacks.{AreLinksOf, IsStackOf, IsAsBefore, IsFrom, IsRefused};
+ghost use Rattle.shared_containers.specs.Containers.{AreLinksOf, IsStackOf, IsAsBefore, IsFrom, IsRefused};
 
 use crate::links::Links;
+use crate::moves::{TRIES, follow, let_go};
+use crate::outcome::{Popped, PushRefused};
 use sdd_base::tag::Tag;
 use sdd_domain::atomic_shared::AtomicShared;
 use sdd_domain::domain::Domain;
@@ -16,29 +18,11 @@ use sdd_domain::local::Local;
 use sdd_domain::pointer::Ptr;
 use sdd_domain::shared::Shared;
 
-/// How often a call tries again: each time others were faster.
-const TRIES: u64 = u64::MAX;
-
-/// Why a value isn't in the stack.
-pub enum PushRefused<T> {
-    /// No slot was free.
-    NoSlot(T),
-    /// Others were faster each of `2^64` times.
-    Busy(Shared<T>),
-}
-
 /// A stack of items of a place, which threads push and pop by `&`. It must be spent by `end`.
 ///
 /// Each item is popped at most once: what a `pop` answers is the owner that the stack had.
 pub struct Stack {
     first: AtomicShared,
-}
-
-/// What one try to pop came to.
-enum Popped<T> {
-    Empty,
-    Item(Shared<T>),
-    Again,
 }
 
 impl Stack {
@@ -214,33 +198,6 @@ impl Stack {
         let Stack { first } = self;
         first.retire(domain, local);
     }
-}
-
-/// Releases an owner that there may be.
-fn let_go<T: Holds>(owner: Option<Shared<T>>, domain: &Domain<T>, local: &mut Local<T>)
-    requires home { home_of local.old ≡ place_of domain.now }
-    requires mine { IfSome owner (λ s. kept_in s ≡ (place_of domain.now).0) }
-    ensures same { IsInNest local.old local.new × ((own_of local.new).nesting ≡ (own_of local.old).nesting) }
-{
-    if let Some(owner) = owner {
-        owner.release(domain, local);
-    }
-}
-
-/// Has a link own what follows its item, or nothing; or a new stack its first item.
-fn follow<T: Holds>(
-    link: &AtomicShared,
-    next: Option<Shared<T>>,
-    domain: &Domain<T>,
-    local: &mut Local<T>,
-)
-    requires home { home_of local.old ≡ place_of domain.now }
-    requires inside { cell_number link.now < cell_count domain.now }
-    requires mine { IfSome next (λ s. kept_in s ≡ (place_of domain.now).0) }
-    ensures same { IsInNest local.old local.new × ((own_of local.new).nesting ≡ (own_of local.old).nesting) }
-{
-    let (old, _) = link.swap((next, Tag::None), domain, local);
-    let_go(old, domain, local);
 }
 
 /// Puts an item in front of what is found there, in one step: its link owns that from then on, and the owner that the stack

@@ -2,7 +2,7 @@ use Rattle.std.proofs.Common.{◌<◌, length}
 use Rattle.std.specs.List.{All}
 use Rattle.sdd_domain.specs.Cells.{cell_number}
 use Rattle.sdd_domain.specs.Tokens.{cell_count}
-use Rattle.shared_containers.specs.Stacks.{IsAsBefore}
+use Rattle.shared_containers.specs.Containers.{IsAsBefore}
 use Rattle.shared_containers.proofs.links.Links.give_back.Given as goal
 
 abbrev pub invariant-loop-cell : goal.invariant-loop-cell

@@ -3,7 +3,7 @@ use Rattle.std.specs.List.{All}
 use Rattle.std.specs.Prelude.{vec_len, vec_capacity}
 use Rattle.sdd_domain.specs.Cells.{cell_number}
 use Rattle.sdd_domain.specs.Tokens.{cell_count, slot_count}
-use Rattle.shared_containers.specs.Stacks.{IsAsBefore}
+use Rattle.shared_containers.specs.Containers.{IsAsBefore}
 use Rattle.shared_containers.proofs.links.Links.new.Given as goal
 
 abbrev pub invariant-loop-i : goal.invariant-loop-i

@@ -1,4 +1,4 @@
-use Rattle.shared_containers.specs.Stacks.{IsAsBefore}
+use Rattle.shared_containers.specs.Containers.{IsAsBefore}
 use Rattle.shared_containers.proofs.stack.Stack.pop.Given as goal
 
 abbrev pub invariant-loop-i : goal.invariant-loop-i

@@ -1,7 +1,7 @@
 use Rattle.std.proofs.Common.{◌≡◌}
 use Rattle.sdd_domain.specs.Sharing.{kept_in, IsOwnerOf}
 use Rattle.sdd_domain.specs.Tokens.{place_of}
-use Rattle.shared_containers.specs.Stacks.{IsAsBefore}
+use Rattle.shared_containers.specs.Containers.{IsAsBefore}
 use Rattle.shared_containers.proofs.stack.Stack.push.Given as goal
 
 abbrev pub invariant-loop-i : goal.invariant-loop-i

@@ -1,4 +1,4 @@
--- what links and stacks show to clauses
+-- what links, stacks and queues show to clauses
 use Rattle.std.specs.Prelude.{◌≡◌, ◌<◌}
 use Rattle.atomic_table.specs.Seated.{TableId}
 use Rattle.sdd_domain.specs.Cells.{cell_number}
@@ -7,10 +7,11 @@ use Rattle.sdd_domain.specs.Tokens.{cell_count, own_of, IsSameButMisses}
 use Rattle.sdd_domain.specs.declared.domain.Domain.{Domain}
 use Rattle.sdd_domain.specs.declared.local.Local.{Local}
 use Rattle.shared_containers.specs.declared.links.Links.{Links}
-use Rattle.shared_containers.specs.declared.stack.Popped.{Popped}
-use Rattle.shared_containers.specs.declared.stack.Popped.TheVariants.{Empty, Item, Again}
-use Rattle.shared_containers.specs.declared.stack.PushRefused.{PushRefused}
-use Rattle.shared_containers.specs.declared.stack.PushRefused.TheVariants.{NoSlot, Busy}
+use Rattle.shared_containers.specs.declared.outcome.Popped.{Popped}
+use Rattle.shared_containers.specs.declared.outcome.Popped.TheVariants.{Empty, Item, Again}
+use Rattle.shared_containers.specs.declared.outcome.PushRefused.{PushRefused}
+use Rattle.shared_containers.specs.declared.outcome.PushRefused.TheVariants.{NoSlot, Busy}
+use Rattle.shared_containers.specs.declared.queue.Queue.{Queue}
 use Rattle.shared_containers.specs.declared.stack.Stack.{Stack}
 
 -- links are made of cells of a place with as many cells as this one
@@ -20,6 +21,10 @@ AreLinksOf links d = links.cells_of_place ≡ cell_count d
 -- and so is a stack
 abbrev pub IsStackOf : {T : Type 0} → Stack → Domain T → Type 0
 IsStackOf s d = cell_number s.first < cell_count d
+
+-- and a queue
+abbrev pub IsQueueOf : {T : Type 0} → Queue → Domain T → Type 0
+IsQueueOf q d = (cell_number q.first < cell_count d) × (cell_number q.last < cell_count d)
 
 -- the same participant of the same place, with as many guards open and no owner in hand; only its misses may differ
 abbrev pub IsAsBefore : {T : Type 0} → Local T → Local T → Type 0
