@@ -2,7 +2,10 @@
 
 ghost use Rattle.std.specs.Prelude.{◌≡◌, ◌<◌, ◌+◌};
 
-use crate::streams::{Cut, Fails, Falters, output, text_of};
+use crate::streams::{
+    Fails, Row, fails_anywhere, falters_anywhere, is_cut_anywhere, output, read_from, text_of,
+    write_what_is_wanted,
+};
 use index_script::line::LONGEST;
 use index_script::reply::{LONGEST_FAULT, write_fault, write_reply};
 use index_script::request::Fault;
@@ -25,123 +28,103 @@ const SECOND_OUTPUT: &str =
     "staged 1\nstaged 2\nok 1 inserted duplicate\nopen 7 at 1\nsome ten\nline 6: session\nclosed 7\n";
 
 #[test]
-fn a_script_inserts_commits_and_reads(rt: HostRuntime) -> Result<(), Fail> {
-    let out = output(rt.alloc(), FIRST)?;
-    assert_eq!(rt; text_of(&out), FIRST_OUTPUT);
-    Ok(())
+fn a_script_inserts_commits_and_reads(rt: HostRuntime) {
+    write_what_is_wanted(&rt, rt.alloc(), &[(FIRST, FIRST_OUTPUT)]);
 }
 
 #[test]
-fn no_input_gives_no_output(rt: HostRuntime) -> Result<(), Fail> {
-    let out = output(rt.alloc(), b"")?;
-    assert_eq!(rt; text_of(&out), "");
-    Ok(())
+fn no_input_gives_no_output(rt: HostRuntime) {
+    write_what_is_wanted(&rt, rt.alloc(), &[(b"", "")]);
 }
 
 #[test]
-fn the_cut_of_the_input_changes_nothing(rt: HostRuntime) -> Result<(), Fail> {
-    for cut in 0..SECOND.len() {
-        let mut out = Vec::new(rt.alloc());
-        let mut reader = Cut {
-            input: SECOND,
-            given: 0,
-            cut,
-        };
-        let ended = run::<64, _, _>(rt.alloc(), &mut reader, &mut out, 16, 4096);
-        assert_eq!(rt; ended, Ok(()), "cut at {cut}");
-        assert_eq!(rt; text_of(&out), SECOND_OUTPUT, "cut at {cut}");
-    }
-    Ok(())
+fn the_cut_of_the_input_changes_nothing(rt: HostRuntime) {
+    is_cut_anywhere(&rt, rt.alloc(), (SECOND, SECOND_OUTPUT));
 }
 
 #[test]
-fn bytes_come_one_by_one(rt: HostRuntime) -> Result<(), Fail> {
-    let mut out = Vec::new(rt.alloc());
-    let mut reader = Fails {
+fn bytes_come_one_by_one(rt: HostRuntime) {
+    let reader = Fails {
         input: SECOND,
         given: 0,
         at: usize::MAX,
         kind: io::ErrorKind::Other,
     };
-    let ended = run::<64, _, _>(rt.alloc(), &mut reader, &mut out, 16, 4096);
-    assert_eq!(rt; ended, Ok(()));
-    assert_eq!(rt; text_of(&out), SECOND_OUTPUT);
-    Ok(())
+    let (ended, out) = read_from(rt.alloc(), reader);
+    assert_eq!(rt; (ended, text_of(&out)), (Ok(()), SECOND_OUTPUT));
 }
 
+const FAULTS: [Row; 45] = [
+    (b"\n", "line 1: command\n"),
+    (b"upserts 1 a\n", "line 1: command\n"),
+    (b"upsert\n", "line 1: words\n"),
+    (b"upsert 1\n", "line 1: words\n"),
+    (b"upsert x a\n", "line 1: number\n"),
+    (b"upsert 1  a \n", "staged 1\n"),
+    (b"remove\n", "line 1: words\n"),
+    (b"remove 1 2\n", "line 1: words\n"),
+    (b"remove x\n", "line 1: number\n"),
+    (b"remove 1\n", "staged 1\n"),
+    (b"clear\n", "staged 1\n"),
+    (b"clear \n", "line 1: words\n"),
+    (b"reclaim 1\n", "line 1: words\n"),
+    (b"slots 1\n", "line 1: words\n"),
+    (b"len\n", "line 1: words\n"),
+    (b"len 7 1\n", "line 1: words\n"),
+    (b"len x\n", "line 1: number\n"),
+    (b"number 07\n", "line 1: number\n"),
+    (b"number 7 \n", "line 1: words\n"),
+    (b" insert 1 a\n", "line 1: command\n"),
+    (b"Insert 1 a\n", "line 1: command\n"),
+    (b"commit -\r\n", "line 1: number\n"),
+    (b"insert\n", "line 1: words\n"),
+    (b"insert 1\n", "line 1: words\n"),
+    (b"insert 1 \n", "staged 1\n"),
+    (b"insert 1  a \n", "staged 1\n"),
+    (b"insert  1 a\n", "line 1: number\n"),
+    (b"commit\n", "line 1: words\n"),
+    (b"commit \n", "line 1: number\n"),
+    (b"commit - -\n", "line 1: words\n"),
+    (b"commit 1\n", "line 1: session\n"),
+    (b"open 7 \n", "line 1: words\n"),
+    (b"open  7\n", "line 1: words\n"),
+    (b"get 7\n", "line 1: words\n"),
+    (b"get 7 1 2\n", "line 1: words\n"),
+    (b"get x 1\n", "line 1: number\n"),
+    (b"get 7 x\n", "line 1: number\n"),
+    (b"close x\n", "line 1: number\n"),
+    (b"open 007\n", "line 1: number\n"),
+    (b"open +7\n", "line 1: number\n"),
+    (b"open 0\n", "open 0 at 0\n"),
+    (
+        b"open 18446744073709551615\n",
+        "open 18446744073709551615 at 0\n",
+    ),
+    (b"open 18446744073709551616\n", "line 1: number\n"),
+    (b"insert 1 \xff\n", "line 1: text\n"),
+    (b"open 1\r", "line 1: number\n"),
+];
+
 #[test]
-fn lines_at_fault_are_told_and_counted(rt: HostRuntime) -> Result<(), Fail> {
-    let cases: [(&[u8], &str); 45] = [
-        (b"\n", "line 1: command\n"),
-        (b"upserts 1 a\n", "line 1: command\n"),
-        (b"upsert\n", "line 1: words\n"),
-        (b"upsert 1\n", "line 1: words\n"),
-        (b"upsert x a\n", "line 1: number\n"),
-        (b"upsert 1  a \n", "staged 1\n"),
-        (b"remove\n", "line 1: words\n"),
-        (b"remove 1 2\n", "line 1: words\n"),
-        (b"remove x\n", "line 1: number\n"),
-        (b"remove 1\n", "staged 1\n"),
-        (b"clear\n", "staged 1\n"),
-        (b"clear \n", "line 1: words\n"),
-        (b"reclaim 1\n", "line 1: words\n"),
-        (b"slots 1\n", "line 1: words\n"),
-        (b"len\n", "line 1: words\n"),
-        (b"len 7 1\n", "line 1: words\n"),
-        (b"len x\n", "line 1: number\n"),
-        (b"number 07\n", "line 1: number\n"),
-        (b"number 7 \n", "line 1: words\n"),
-        (b" insert 1 a\n", "line 1: command\n"),
-        (b"Insert 1 a\n", "line 1: command\n"),
-        (b"commit -\r\n", "line 1: number\n"),
-        (b"insert\n", "line 1: words\n"),
-        (b"insert 1\n", "line 1: words\n"),
-        (b"insert 1 \n", "staged 1\n"),
-        (b"insert 1  a \n", "staged 1\n"),
-        (b"insert  1 a\n", "line 1: number\n"),
-        (b"commit\n", "line 1: words\n"),
-        (b"commit \n", "line 1: number\n"),
-        (b"commit - -\n", "line 1: words\n"),
-        (b"commit 1\n", "line 1: session\n"),
-        (b"open 7 \n", "line 1: words\n"),
-        (b"open  7\n", "line 1: words\n"),
-        (b"get 7\n", "line 1: words\n"),
-        (b"get 7 1 2\n", "line 1: words\n"),
-        (b"get x 1\n", "line 1: number\n"),
-        (b"get 7 x\n", "line 1: number\n"),
-        (b"close x\n", "line 1: number\n"),
-        (b"open 007\n", "line 1: number\n"),
-        (b"open +7\n", "line 1: number\n"),
-        (b"open 0\n", "open 0 at 0\n"),
-        (
-            b"open 18446744073709551615\n",
-            "open 18446744073709551615 at 0\n",
-        ),
-        (b"open 18446744073709551616\n", "line 1: number\n"),
-        (b"insert 1 \xff\n", "line 1: text\n"),
-        (b"open 1\r", "line 1: number\n"),
-    ];
-    for (input, told) in cases {
-        let out = output(rt.alloc(), input)?;
-        assert_eq!(rt; text_of(&out), told, "{input:?}");
-    }
-    Ok(())
+fn lines_at_fault_are_told_and_counted(rt: HostRuntime) {
+    write_what_is_wanted(&rt, rt.alloc(), &FAULTS);
 }
+
+const EACH_FAULT: [Fault; 8] = [
+    Fault::Long,
+    Fault::Text,
+    Fault::Command,
+    Fault::Words,
+    Fault::Number,
+    Fault::Bound,
+    Fault::Session,
+    Fault::Busy,
+];
 
 #[test]
 fn the_longest_reply_to_a_line_at_fault_has_35_bytes(rt: HostRuntime) -> Result<(), Fail> {
-    let faults = [
-        Fault::Long,
-        Fault::Text,
-        Fault::Command,
-        Fault::Words,
-        Fault::Number,
-        Fault::Bound,
-        Fault::Session,
-        Fault::Busy,
-    ];
     let mut longest = 0;
-    for fault in faults {
+    for fault in EACH_FAULT {
         let mut text = String::new(rt.alloc());
         write_fault(&mut text, u64::MAX, fault)?;
         longest = longest.max(text.len());
@@ -162,10 +145,7 @@ fn is_answered<R: Abort>(
     ensures { script.new.line ≡ script.old.line + 1 }
 {
     match script.act(line, text) {
-        Ok(()) => {
-            assert!(rt; text.as_str() == reply);
-            assert!(rt; text.capacity() == LONGEST_FAULT);
-        }
+        Ok(()) => assert!(rt; text.as_str() == reply && text.capacity() == LONGEST_FAULT),
         Err(_) => panic!(rt; "memory was refused"),
     }
 }
@@ -222,122 +202,112 @@ fn lines_at_fault_are_answered_in_the_memory_that_is_there(rt: HostRuntime) -> R
     Ok(())
 }
 
-#[test]
-fn lines_are_numbered_bad_ones_too(rt: HostRuntime) -> Result<(), Fail> {
-    let out = output(
-        rt.alloc(),
-        b"x\n\ncommit -\nopen 1\nopen 1\nget 2 1\nclose 2",
-    )?;
-    assert_eq!(rt;
-        text_of(&out),
-        "line 1: command\nline 2: command\nok 1\nopen 1 at 1\nline 5: busy\nline 6: session\nline 7: session\n"
-    );
-    Ok(())
-}
+const NUMBERED: [Row; 1] = [(
+    b"x\n\ncommit -\nopen 1\nopen 1\nget 2 1\nclose 2",
+    "line 1: command\nline 2: command\nok 1\nopen 1 at 1\nline 5: busy\nline 6: session\nline 7: session\n",
+)];
 
 #[test]
-fn a_session_reads_the_list_at_its_opening(rt: HostRuntime) -> Result<(), Fail> {
-    let out = output(
-        rt.alloc(),
-        b"open 1\ninsert 5 \xc3\xa9 x\ncommit 1\nget 1 5\nopen 2\nget 2 5\nopen 3\nopen 1\nclose 1\nopen 3\n",
-    )?;
-    assert_eq!(rt;
-        text_of(&out),
-        "open 1 at 0\nstaged 1\nok 1 inserted\nnone\nopen 2 at 1\nsome \u{e9} x\nnoplace\nline 8: busy\nclosed 1\nopen 3 at 1\n"
-    );
-    Ok(())
+fn lines_are_numbered_bad_ones_too(rt: HostRuntime) {
+    write_what_is_wanted(&rt, rt.alloc(), &NUMBERED);
 }
 
+const AT_ITS_OPENING: [Row; 1] = [(
+    b"open 1\ninsert 5 \xc3\xa9 x\ncommit 1\nget 1 5\nopen 2\nget 2 5\nopen 3\nopen 1\nclose 1\nopen 3\n",
+    "open 1 at 0\nstaged 1\nok 1 inserted\nnone\nopen 2 at 1\nsome \u{e9} x\nnoplace\nline 8: busy\nclosed 1\nopen 3 at 1\n",
+)];
+
 #[test]
-fn slots_of_former_lists_are_reclaimed(rt: HostRuntime) -> Result<(), Fail> {
-    let out = output(rt.alloc(), b"slots\ncommit -\nreclaim\nslots\n")?;
-    assert_eq!(rt; text_of(&out), "slots 1\nok 1\nreclaimed\nslots 1\n");
-    let out = output(
-        rt.alloc(),
+fn a_session_reads_the_list_at_its_opening(rt: HostRuntime) {
+    write_what_is_wanted(&rt, rt.alloc(), &AT_ITS_OPENING);
+}
+
+const RECLAIMED: [Row; 2] = [
+    (
+        b"slots\ncommit -\nreclaim\nslots\n",
+        "slots 1\nok 1\nreclaimed\nslots 1\n",
+    ),
+    (
         b"insert 1 a\ncommit -\ninsert 2 b\ncommit -\nslots\nreclaim\nslots\n",
-    )?;
-    assert_eq!(rt;
-        text_of(&out),
-        "staged 1\nok 1 inserted\nstaged 1\nok 2 inserted\nslots 5\nreclaimed\nslots 2\n"
-    );
-    Ok(())
-}
+        "staged 1\nok 1 inserted\nstaged 1\nok 2 inserted\nslots 5\nreclaimed\nslots 2\n",
+    ),
+];
 
 #[test]
-fn a_session_tells_its_number_and_its_length(rt: HostRuntime) -> Result<(), Fail> {
-    let out = output(
-        rt.alloc(),
-        b"insert 1 a\ninsert 2 b\ncommit -\nopen 7\nclear\ncommit 7\nopen 8\nlen 7\nnumber 7\nlen 8\nnumber 8\nlen 9\nnumber 9\n",
-    )?;
-    assert_eq!(rt;
-        text_of(&out),
-        "staged 1\nstaged 2\nok 1 inserted inserted\nopen 7 at 1\nstaged 1\nok 2 cleared\nopen 8 at 2\nlen 2\nnumber 1\nlen 0\nnumber 2\nline 12: session\nline 13: session\n"
-    );
-    Ok(())
+fn slots_of_former_lists_are_reclaimed(rt: HostRuntime) {
+    write_what_is_wanted(&rt, rt.alloc(), &RECLAIMED);
 }
 
-#[test]
-fn writes_of_each_kind_are_staged(rt: HostRuntime) -> Result<(), Fail> {
-    let out = output(
-        rt.alloc(),
-        b"upsert 2 a b\nupsert 2 c\nremove 4\ncommit -\nopen 1\nget 1 2\nremove 2\ncommit 1\nclear\ncommit -\n",
-    )?;
-    assert_eq!(rt;
-        text_of(&out),
-        "staged 1\nstaged 2\nstaged 3\nok 1 upserted upserted absent\nopen 1 at 1\nsome c\nstaged 1\nok 2 removed\nstaged 1\nok 3 cleared\n"
-    );
-    Ok(())
-}
+const NUMBER_AND_LENGTH: [Row; 1] = [(
+    b"insert 1 a\ninsert 2 b\ncommit -\nopen 7\nclear\ncommit 7\nopen 8\nlen 7\nnumber 7\nlen 8\nnumber 8\nlen 9\nnumber 9\n",
+    "staged 1\nstaged 2\nok 1 inserted inserted\nopen 7 at 1\nstaged 1\nok 2 cleared\nopen 8 at 2\nlen 2\nnumber 1\nlen 0\nnumber 2\nline 12: session\nline 13: session\n",
+)];
 
 #[test]
-fn an_accepted_commit_takes_the_staged_writes_and_no_other(rt: HostRuntime) -> Result<(), Fail> {
-    let out = output(
-        rt.alloc(),
-        b"insert 1 a\ncommit 9\ninsert 2 b\ncommit -\ncommit -\ninsert 1 c\ncommit -\n",
-    )?;
-    assert_eq!(rt;
-        text_of(&out),
-        "staged 1\nline 2: session\nstaged 2\nok 1 inserted inserted\nok 2\nstaged 1\nok 3 duplicate\n"
-    );
-    Ok(())
+fn a_session_tells_its_number_and_its_length(rt: HostRuntime) {
+    write_what_is_wanted(&rt, rt.alloc(), &NUMBER_AND_LENGTH);
 }
 
+const EACH_KIND: [Row; 1] = [(
+    b"upsert 2 a b\nupsert 2 c\nremove 4\ncommit -\nopen 1\nget 1 2\nremove 2\ncommit 1\nclear\ncommit -\n",
+    "staged 1\nstaged 2\nstaged 3\nok 1 upserted upserted absent\nopen 1 at 1\nsome c\nstaged 1\nok 2 removed\nstaged 1\nok 3 cleared\n",
+)];
+
 #[test]
-fn a_commit_without_slots_keeps_what_is_staged(rt: HostRuntime) -> Result<(), Fail> {
-    let input: &[u8] =
-        b"insert 1 a\ninsert 2 b\ninsert 3 c\ninsert 4 d\ninsert 5 e\ncommit -\ncommit -\nopen 1\n";
-    let staged = "staged 1\nstaged 2\nstaged 3\nstaged 4\nstaged 5\n";
-    // five pairs take three segments of two pairs at most, and a directory
-    let cases: [(usize, &str); 2] = [
-        (4, "noslot\nnoslot\nopen 1 at 0\n"),
-        (
-            5,
-            "ok 1 inserted inserted inserted inserted inserted\nnoslot\nopen 1 at 1\n",
-        ),
-    ];
-    for (slots, told) in cases {
-        let mut reader = input;
+fn writes_of_each_kind_are_staged(rt: HostRuntime) {
+    write_what_is_wanted(&rt, rt.alloc(), &EACH_KIND);
+}
+
+const STAGED: [Row; 1] = [(
+    b"insert 1 a\ncommit 9\ninsert 2 b\ncommit -\ncommit -\ninsert 1 c\ncommit -\n",
+    "staged 1\nline 2: session\nstaged 2\nok 1 inserted inserted\nok 2\nstaged 1\nok 3 duplicate\n",
+)];
+
+#[test]
+fn an_accepted_commit_takes_the_staged_writes_and_no_other(rt: HostRuntime) {
+    write_what_is_wanted(&rt, rt.alloc(), &STAGED);
+}
+
+const FIVE: &[u8] =
+    b"insert 1 a\ninsert 2 b\ninsert 3 c\ninsert 4 d\ninsert 5 e\ncommit -\ncommit -\nopen 1\n";
+
+const FIVE_STAGED: &str = "staged 1\nstaged 2\nstaged 3\nstaged 4\nstaged 5\n";
+
+// Slots, and what is told then: five pairs take three segments of two pairs at most, and a directory.
+const BY_SLOTS: [(usize, &str); 2] = [
+    (4, "noslot\nnoslot\nopen 1 at 0\n"),
+    (
+        5,
+        "ok 1 inserted inserted inserted inserted inserted\nnoslot\nopen 1 at 1\n",
+    ),
+];
+
+#[test]
+fn a_commit_without_slots_keeps_what_is_staged(rt: HostRuntime) {
+    for (slots, told) in BY_SLOTS {
+        let mut reader = FIVE;
         let mut out = Vec::new(rt.alloc());
+        let ended = run::<2, _, _>(rt.alloc(), &mut reader, &mut out, 1, slots);
         assert_eq!(rt;
-            run::<2, _, _>(rt.alloc(), &mut reader, &mut out, 1, slots),
-            Ok(())
+            (ended, text_of(&out).strip_prefix(FIVE_STAGED)),
+            (Ok(()), Some(told))
         );
-        assert_eq!(rt; text_of(&out).strip_prefix(staged), Some(told));
     }
-    Ok(())
 }
+
+const EACH_REPLY: [Reply; 7] = [
+    Reply::Inserted,
+    Reply::Duplicate,
+    Reply::Upserted,
+    Reply::Removed,
+    Reply::Absent,
+    Reply::RangeRemoved,
+    Reply::Cleared,
+];
 
 #[test]
 fn each_reply_to_a_write_has_a_word(rt: HostRuntime) -> Result<(), Fail> {
-    let replies = vec![in rt.alloc();
-        Reply::Inserted,
-        Reply::Duplicate,
-        Reply::Upserted,
-        Reply::Removed,
-        Reply::Absent,
-        Reply::RangeRemoved,
-        Reply::Cleared,
-    ]?;
+    let replies = Vec::from_slice(rt.alloc(), &EACH_REPLY)?;
     let accepted = DeskReply::Accepted(Accepted { number: 3, replies });
     let mut text = String::from_str(rt.alloc(), "before ")?;
     write_reply(&mut text, 1, 0, &accepted)?;
@@ -348,14 +318,15 @@ fn each_reply_to_a_write_has_a_word(rt: HostRuntime) -> Result<(), Fail> {
     Ok(())
 }
 
+const CAUSES: [(Cause, &str); 3] = [
+    (Cause::Conflict(7), "conflict 7\n"),
+    (Cause::Exhausted, "exhausted\n"),
+    (Cause::NoSlot, "noslot\n"),
+];
+
 #[test]
 fn each_cause_of_a_refusal_has_a_word(rt: HostRuntime) -> Result<(), Fail> {
-    let cases = [
-        (Cause::Conflict(7), "conflict 7\n"),
-        (Cause::Exhausted, "exhausted\n"),
-        (Cause::NoSlot, "noslot\n"),
-    ];
-    for (cause, told) in cases {
+    for (cause, told) in CAUSES {
         let writes = Vec::new(rt.alloc());
         let refused = DeskReply::Refused(Refused { cause, writes });
         let mut text = String::new(rt.alloc());
@@ -382,91 +353,70 @@ fn long_line(alloc: Global, value: usize) -> Result<Vec<u8>, RunError> {
     output(alloc, script.as_slice())
 }
 
+// How many bytes a value has, and what is told then: with ten bytes more, the line is too long from the second one on.
+const LONG: [(usize, &str); 3] = [
+    (65_527, "staged 1\nok 1 inserted\n"),
+    (65_528, "line 1: long\nok 1\n"),
+    (300_000, "line 1: long\nok 1\n"),
+];
+
 #[test]
-fn a_line_has_at_most_65_536_bytes(rt: HostRuntime) -> Result<(), Fail> {
+fn a_line_has_at_most_65_536_bytes(rt: HostRuntime) {
+    for (value, told) in LONG {
+        let out = long_line(rt.alloc(), value).expect(&rt, "a run to its end");
+        assert_eq!(rt; text_of(&out), told, "{value} bytes");
+    }
     assert_eq!(rt; LONGEST, 65_536);
-    let out = long_line(rt.alloc(), 65_527)?;
-    assert_eq!(rt; text_of(&out), "staged 1\nok 1 inserted\n");
-    let out = long_line(rt.alloc(), 65_528)?;
-    assert_eq!(rt; text_of(&out), "line 1: long\nok 1\n");
-    let out = long_line(rt.alloc(), 300_000)?;
-    assert_eq!(rt; text_of(&out), "line 1: long\nok 1\n");
-    Ok(())
 }
 
-// How many bytes of the output the complete lines of a beginning of the input have.
-fn answered(input: &[u8], output: &str) -> usize {
-    let lines = input.iter().filter(|byte| **byte == b'\n').count();
-    let mut seen = 0usize;
-    let mut at = 0usize;
-    for byte in output.as_bytes() {
-        if seen == lines {
-            return at;
-        }
-        at = at.saturating_add(1);
-        if *byte == b'\n' {
-            seen = seen.saturating_add(1);
-        }
-    }
-    at
-}
+// How many bytes the reply to each line of the second script has.
+const SECOND_REPLIES: [usize; 7] = [9, 9, 24, 12, 9, 16, 9];
 
 #[test]
-fn a_failed_read_drops_the_begun_line(rt: HostRuntime) -> Result<(), Fail> {
+fn a_failed_read_drops_the_begun_line(rt: HostRuntime) {
     for kind in [io::ErrorKind::Other, io::ErrorKind::Interrupted] {
-        for at in 0..SECOND.len() {
-            let mut out = Vec::new(rt.alloc());
-            let mut reader = Fails {
-                input: SECOND,
-                given: 0,
-                at,
-                kind,
-            };
-            let ended = run::<64, _, _>(rt.alloc(), &mut reader, &mut out, 16, 4096);
-            assert_eq!(rt; ended, Err(RunError::Read), "at {at}");
-            let told = SECOND_OUTPUT.get(
-                ..answered(SECOND.get(..at).unwrap_or(b""), SECOND_OUTPUT),
-            );
-            assert_eq!(rt; Some(text_of(&out)), told, "at {at}");
-        }
+        fails_anywhere(
+            &rt,
+            rt.alloc(),
+            (SECOND, SECOND_OUTPUT),
+            &SECOND_REPLIES,
+            kind,
+        );
     }
-    Ok(())
 }
 
 #[test]
-fn a_failed_write_leaves_a_beginning_of_the_output(rt: HostRuntime) -> Result<(), Fail> {
+fn a_failed_write_leaves_a_beginning_of_the_output(rt: HostRuntime) {
     for is_error in [false, true] {
-        for at in 0..SECOND_OUTPUT.len() {
-            let mut reader = SECOND;
-            let mut writer = Falters {
-                taken: Vec::new(rt.alloc()),
-                at,
-                is_error,
-            };
-            let ended = run::<64, _, _>(rt.alloc(), &mut reader, &mut writer, 16, 4096);
-            assert_eq!(rt; ended, Err(RunError::Write), "at {at}");
-            assert_eq!(rt;
-                Some(text_of(&writer.taken)),
-                SECOND_OUTPUT.get(..at),
-                "at {at}"
-            );
-        }
+        falters_anywhere(&rt, rt.alloc(), (SECOND, SECOND_OUTPUT), is_error);
     }
-    Ok(())
 }
+
+// How a run ended, its status, and its complaint.
+const OUTCOMES: [(Result<(), RunError>, (u8, &str)); 4] = [
+    (Ok(()), (0, "")),
+    (Err(RunError::Read), (1, "index_run: read\n")),
+    (Err(RunError::Write), (1, "index_run: write\n")),
+    (Err(RunError::Memory), (2, "index_run: memory\n")),
+];
 
 #[test]
 fn a_run_has_a_status_and_a_complaint(rt: HostRuntime) {
-    assert_eq!(rt; outcome(&Ok(())), (0, ""));
-    assert_eq!(rt; outcome(&Err(RunError::Read)), (1, "index_run: read\n"));
-    assert_eq!(rt; outcome(&Err(RunError::Write)), (1, "index_run: write\n"));
-    assert_eq!(rt; outcome(&Err(RunError::Memory)), (2, "index_run: memory\n"));
+    for (ended, told) in OUTCOMES {
+        assert_eq!(rt; outcome(&ended), told);
+    }
 }
+
+const WORDS: [(RunError, &str); 3] = [
+    (RunError::Read, "read"),
+    (RunError::Write, "write"),
+    (RunError::Memory, "memory"),
+];
 
 #[test]
 fn errors_are_told_by_one_word(rt: HostRuntime) -> Result<(), Fail> {
-    assert_eq!(rt; RunError::Read.to_string(rt.alloc())?.as_str(), "read");
-    assert_eq!(rt; RunError::Write.to_string(rt.alloc())?.as_str(), "write");
-    assert_eq!(rt; RunError::Memory.to_string(rt.alloc())?.as_str(), "memory");
+    for (error, word) in WORDS {
+        assert_eq!(rt; error.to_string(rt.alloc())?.as_str(), word);
+    }
     Ok(())
 }

@@ -3,11 +3,106 @@
 use index_script::run::{RunError, run};
 use std::alloc::Global;
 use std::io::{self, Read, Write};
+use std::process::Abort;
 use std::str;
 
 /// The text of an output.
 pub fn text_of(bytes: &[u8]) -> &str {
     str::from_utf8(bytes).unwrap_or("not a text")
+}
+
+/// A script, and what it writes.
+pub type Row = (&'static [u8], &'static str);
+
+/// Runs the scripts of a table, and compares what each writes.
+pub fn write_what_is_wanted<R: Abort>(rt: &R, alloc: Global, rows: &[Row]) {
+    for (input, wanted) in rows {
+        let out = output(alloc, input).expect(rt, "a run to its end");
+        assert_eq!(rt; text_of(&out), *wanted, "{input:?}");
+    }
+}
+
+/// How a run with ample places and slots over a reader ends, and what it writes.
+pub fn read_from<T: Read + Drop>(alloc: Global, reader: T) -> (Result<(), RunError>, Vec<u8>) {
+    let mut reader = reader;
+    let mut out = Vec::new(alloc);
+    let ended = run::<64, _, _>(alloc, &mut reader, &mut out, 16, 4096);
+    (ended, out)
+}
+
+/// Looks that it changes nothing where the input is cut.
+pub fn is_cut_anywhere<R: Abort>(rt: &R, alloc: Global, row: Row) {
+    let (input, wanted) = row;
+    for cut in 0..input.len() {
+        let (ended, out) = read_from(
+            alloc,
+            Cut {
+                input,
+                given: 0,
+                cut,
+            },
+        );
+        assert_eq!(rt; (ended, text_of(&out)), (Ok(()), wanted), "cut at {cut}");
+    }
+}
+
+/// How many bytes the replies to the complete lines of a beginning of the input have, by the bytes of each reply.
+fn answered(input: &[u8], at: usize, replies: &[usize]) -> usize {
+    let begun = input.get(..at).unwrap_or(b"");
+    let lines = begun.iter().filter(|byte| **byte == b'\n').count();
+    let mut bytes = 0usize;
+    for reply in replies.iter().take(lines) {
+        bytes = bytes.saturating_add(*reply);
+    }
+    bytes
+}
+
+/// Looks that a failed read drops the begun line, wherever it is, where the replies have so many bytes each.
+pub fn fails_anywhere<R: Abort>(
+    rt: &R,
+    alloc: Global,
+    row: Row,
+    replies: &[usize],
+    kind: io::ErrorKind,
+) {
+    let (input, whole) = row;
+    for at in 0..input.len() {
+        let (ended, out) = read_from(
+            alloc,
+            Fails {
+                input,
+                given: 0,
+                at,
+                kind,
+            },
+        );
+        let wanted = whole.get(..answered(input, at, replies));
+        assert_eq!(rt;
+            (ended, Some(text_of(&out))),
+            (Err(RunError::Read), wanted),
+            "at {at}"
+        );
+    }
+}
+
+/// Looks that a failed write leaves a beginning of the output, wherever it is.
+pub fn falters_anywhere<R: Abort>(rt: &R, alloc: Global, row: Row, is_error: bool) {
+    let (input, whole) = row;
+    for at in 0..whole.len() {
+        let mut reader = input;
+        let mut writer = Falters {
+            taken: Vec::new(alloc),
+            at,
+            is_error,
+        };
+        let ended = run::<64, _, _>(alloc, &mut reader, &mut writer, 16, 4096);
+        let told = Some(text_of(&writer.taken));
+        assert_eq!(rt;
+            (ended, told),
+            (Err(RunError::Write), whole.get(..at)),
+            "at {at}"
+        );
+    }
 }
 
 /// What a script of two places writes, or why it ended before.
