@@ -9,59 +9,68 @@ use sdd_domain::shared::Shared;
 use shared_versions::{Node, Present, Reader, Session, Version, view_of};
 use std::ops::Bound;
 use std::process::Abort;
-use std::test::Fail;
 use versions::Segment;
 
-#[test]
-fn the_empty_version_has_no_pair(rt: HostRuntime) -> Result<(), Fail> {
-    let version = Version::<u64, u64>::empty(rt.alloc(), 64);
-    assert_eq!(rt; version.number(), 0);
-    assert_eq!(rt; version.width(), 64);
-    assert_eq!(rt; version.directory().segments(), 0);
-    let view = view_of(&version);
-    assert_eq!(rt; view.len(), 0);
-    assert!(rt; view.get(&5).is_none());
-    assert!(rt;
+/// The number, the width, how many segments and pairs a version has, and whether it has no pair of a key, and none at all.
+fn shown(version: &Version<u64, u64>, key: u64) -> (u64, usize, usize, usize, bool, bool) {
+    let view = view_of(version);
+    (
+        version.number(),
+        version.width(),
+        version.directory().segments(),
+        view.len(),
+        view.get(&key).is_none(),
         view.walk(Bound::Unbounded, Bound::Unbounded)
             .next()
-            .is_none()
-    );
-    end(Node::Version(version));
-    Ok(())
+            .is_none(),
+    )
 }
 
 #[test]
-fn a_segment_holds_nothing(rt: HostRuntime) -> Result<(), Fail> {
+fn the_empty_version_has_no_pair(rt: HostRuntime) {
+    let version = Version::<u64, u64>::empty(rt.alloc(), 64);
+    let found = shown(&version, 5);
+    end(Node::Version(version));
+    assert_eq!(rt; found, (0, 64, 0, 0, true, true));
+}
+
+#[test]
+fn a_segment_holds_nothing(rt: HostRuntime) {
     let mut segment = Segment::<u64, u64>::new(rt.alloc());
     match segment.push(3, 30) {
         Ok(()) => {},
         Err(_) => panic!(rt; "no memory"),
     }
     let mut node = Node::Segment(segment);
-    assert!(rt; node.version().is_none());
+    let no_version = node.version().is_none();
     match node.give_up() {
         None => {},
         Some(_) => unreachable!(),
     }
     end(node);
-    Ok(())
+    assert!(rt; no_version);
+}
+
+/// The width of the version that a node is.
+fn width(node: &Node<u64, u64>) -> Option<usize> {
+    match node.version() {
+        Some(version) => Some(version.width()),
+        None => None,
+    }
 }
 
 #[test]
-fn the_empty_version_gives_nothing_up(rt: HostRuntime) -> Result<(), Fail> {
+fn the_empty_version_gives_nothing_up(rt: HostRuntime) {
     let mut node = Node::Version(Version::<u64, u64>::empty(rt.alloc(), 4));
-    match node.version() {
-        Some(version) => assert_eq!(rt; version.width(), 4),
-        None => panic!(rt; "it is a version"),
-    }
+    let before = width(&node);
     match node.give_up() {
         None => {},
         Some(_) => unreachable!(),
     }
     // what is left of it is no version
-    assert!(rt; node.version().is_none());
+    let after = width(&node);
     end(node);
-    Ok(())
+    assert_eq!(rt; (before, after), (Some(4), None));
 }
 
 // Spends a node that holds nothing.

@@ -4,6 +4,8 @@ ghost use Rattle.std.specs.Prelude.{◌≡◌, ◌≤◌, ◌<◌, []};
 ghost use Rattle.sdd_domain.specs.Cells.{cell_number};
 ghost use Rattle.sdd_domain.specs.Tokens.{place_of, home_of, hand_of, own_of, cell_count, nest_in, IsSame, IsSameButMisses};
 
+use self::Call::{Get, Reclaim, Slots, Upsert};
+use self::Told::{Done, Found, Placed, Refused, Used};
 use crate::sessions::{Item, member};
 use sdd_base::sizes::Sizes;
 use sdd_domain::atomic_shared::AtomicShared;
@@ -148,13 +150,13 @@ fn seen<R: Abort, const S: usize>(
     ensures closed { (own_of local.new).nesting ≡ 0 }
 {
     let session = opened::<R, S>(rt, domain, local, root);
-    let found = told(&session, key);
+    let found = looked_up(&session, key);
     session.into_guard().close(domain, local);
     found
 }
 
 /// The value of a key in a session's version, and how many pairs that has.
-fn told<const S: usize>(session: &Session<u64, u64, S>, key: u64) -> (Option<u64>, usize) {
+fn looked_up<const S: usize>(session: &Session<u64, u64, S>, key: u64) -> (Option<u64>, usize) {
     let view = session.view();
     let value = match view.get(&key) {
         Some((_, value)) => Some(*value),
@@ -163,311 +165,304 @@ fn told<const S: usize>(session: &Session<u64, u64, S>, key: u64) -> (Option<u64
     (value, view.len())
 }
 
-/// Ends a scene: nothing is in use behind it.
-fn end<R: Abort, const S: usize>(
-    rt: &R,
-    domain: Domain<Item>,
+/// A place with a present version, the cell that names it, and the participant who places versions, with no guard open.
+struct Scene<'d, const S: usize> {
+    domain: &'d Domain<Item>,
     local: Local<Item>,
     present: Present<u64, u64, S>,
     root: AtomicShared,
-)
-    requires home { (home_of local ≡ place_of domain) × (hand_of local ≡ []) }
-    requires closed { (own_of local).nesting ≡ 0 }
-    requires place { present.place ≡ (place_of domain).0 }
-    requires inside { cell_number root < cell_count domain }
-{
-    let mut local = local;
-    root.retire(&domain, &mut local);
-    present.end(&domain, &mut local);
-    reclaim(&domain, &mut local);
-    assert_eq!(rt; domain.slots_in_use(), 0);
-    local.end(&domain);
+    ghost home: { home_of local ≡ place_of domain.now },
+    ghost bare: { hand_of local ≡ [] },
+    ghost closed: { (own_of local).nesting ≡ 0 },
+    ghost place: { present.place ≡ (place_of domain.now).0 },
+    ghost inside: { cell_number root < cell_count domain.now },
+}
+
+impl<'d, const S: usize> Scene<'d, S> {
+    /// The empty version of a place.
+    fn new<R: Abort>(rt: &R, alloc: Global, domain: &'d Domain<Item>) -> Self
+        ensures { place_of result.domain.now ≡ place_of domain.now }
+    {
+        let mut local = member(rt, domain);
+        let (present, root) = begun::<R, S>(rt, alloc, domain, &mut local);
+        Scene {
+            domain,
+            local,
+            present,
+            root,
+        }
+    }
+
+    /// Makes writes, and publishes what they leave: whether there were slots for it.
+    fn commit<R: Abort>(&mut self, rt: &R, alloc: Global, writes: &[Write<u64, u64>]) -> bool
+        requires { (1 ≤ S) × (S ≤ 225) }
+        ensures { place_of self.new.domain.now ≡ place_of self.old.domain.now }
+    {
+        commit(
+            rt,
+            alloc,
+            self.domain,
+            &mut self.local,
+            &mut self.present,
+            &self.root,
+            writes,
+        )
+    }
+
+    /// The value of a key in the present version, and how many pairs that has.
+    fn seen<R: Abort>(&mut self, rt: &R, key: u64) -> (Option<u64>, usize) {
+        seen::<R, S>(rt, self.domain, &mut self.local, &self.root, key)
+    }
+
+    /// Reclaims what nobody reads.
+    fn reclaim(&mut self)
+        ensures { place_of self.new.domain.now ≡ place_of self.old.domain.now }
+    {
+        reclaim(self.domain, &mut self.local);
+    }
+
+    /// How many slots are in use.
+    fn slots(&self) -> usize {
+        self.domain.slots_in_use()
+    }
+
+    /// Ends the version, the cell and the participant: how many slots are in use then.
+    fn end(self) -> usize {
+        let Scene {
+            domain,
+            local,
+            present,
+            root,
+        } = self;
+        let mut local = local;
+        root.retire(domain, &mut local);
+        present.end(domain, &mut local);
+        reclaim(domain, &mut local);
+        let slots = domain.slots_in_use();
+        local.end(domain);
+        slots
+    }
+}
+
+/// Ends a place, in which nothing was in use any more.
+fn end<R: Abort>(rt: &R, domain: Domain<Item>, slots: usize) {
     match domain.close() {
         Ok(()) => {}
         Err(_) => panic!(rt; "nobody is registered"),
     }
+    assert_eq!(rt; slots, 0);
 }
 
-#[test]
-fn a_placed_version_is_read(rt: HostRuntime) -> Result<(), Fail> {
-    let domain = Domain::new(rt.alloc(), sized(5))?;
-    let mut local = member(&rt, &domain);
-    let (mut present, root) = begun::<_, 2>(&rt, rt.alloc(), &domain, &mut local);
-    let writes = upserts(&rt, rt.alloc(), 1..6, 7);
-    let placed = commit(
-        &rt,
-        rt.alloc(),
-        &domain,
-        &mut local,
-        &mut present,
-        &root,
-        &writes,
-    );
-    assert!(rt; placed);
-    // three segments, their version, and the empty one
-    assert_eq!(rt; domain.slots_in_use(), 5);
-    assert_eq!(rt;
-        seen::<_, 2>(&rt, &domain, &mut local, &root, 3),
-        (Some(7), 5)
-    );
-    assert_eq!(rt; seen::<_, 2>(&rt, &domain, &mut local, &root, 6), (None, 5));
-    reclaim(&domain, &mut local);
-    assert_eq!(rt; domain.slots_in_use(), 4);
-    end(&rt, domain, local, present, root);
-    Ok(())
+/// A call on a scene.
+#[derive(Clone, Copy)]
+enum Call {
+    /// Upserts the pairs of the keys from the first on and below the second with a value, and publishes what that leaves.
+    Upsert(u64, u64, u64),
+    /// Reads the value of a key.
+    Get(u64),
+    Reclaim,
+    /// Counts the slots in use.
+    Slots,
 }
 
-#[test]
-fn a_version_without_slots_leaves_the_present_one(rt: HostRuntime) -> Result<(), Fail> {
-    let domain = Domain::new(rt.alloc(), sized(4))?;
-    let mut local = member(&rt, &domain);
-    let (mut present, root) = begun::<_, 2>(&rt, rt.alloc(), &domain, &mut local);
-    let many = upserts(&rt, rt.alloc(), 1..6, 7);
-    let placed = commit(
-        &rt,
-        rt.alloc(),
-        &domain,
-        &mut local,
-        &mut present,
-        &root,
-        &many,
-    );
-    assert!(rt; !placed);
-    assert_eq!(rt; seen::<_, 2>(&rt, &domain, &mut local, &root, 3), (None, 0));
-    reclaim(&domain, &mut local);
-    assert_eq!(rt; domain.slots_in_use(), 1);
-    let few = upserts(&rt, rt.alloc(), 1..4, 8);
-    let placed = commit(
-        &rt,
-        rt.alloc(),
-        &domain,
-        &mut local,
-        &mut present,
-        &root,
-        &few,
-    );
-    assert!(rt; placed);
-    assert_eq!(rt;
-        seen::<_, 2>(&rt, &domain, &mut local, &root, 3),
-        (Some(8), 3)
-    );
-    end(&rt, domain, local, present, root);
-    Ok(())
+/// What a call answers.
+#[derive(Clone, Copy)]
+enum Told {
+    Placed,
+    /// There are too few slots.
+    Refused,
+    /// The value, and how many pairs there are.
+    Found(Option<u64>, usize),
+    Done,
+    Used(usize),
 }
 
-#[test]
-fn what_waits_is_in_the_way_until_it_is_reclaimed(rt: HostRuntime) -> Result<(), Fail> {
-    let domain = Domain::new(rt.alloc(), sized(5))?;
-    let mut local = member(&rt, &domain);
-    let (mut present, root) = begun::<_, 1>(&rt, rt.alloc(), &domain, &mut local);
-    let one = upserts(&rt, rt.alloc(), 1..2, 1);
-    let first = commit(
-        &rt,
-        rt.alloc(),
-        &domain,
-        &mut local,
-        &mut present,
-        &root,
-        &one,
-    );
-    let two = upserts(&rt, rt.alloc(), 1..2, 2);
-    let second = commit(
-        &rt,
-        rt.alloc(),
-        &domain,
-        &mut local,
-        &mut present,
-        &root,
-        &two,
-    );
-    let three = upserts(&rt, rt.alloc(), 1..2, 3);
-    let third = commit(
-        &rt,
-        rt.alloc(),
-        &domain,
-        &mut local,
-        &mut present,
-        &root,
-        &three,
-    );
-    assert_eq!(rt; [first, second, third], [true, true, false]);
-    assert_eq!(rt;
-        seen::<_, 1>(&rt, &domain, &mut local, &root, 1),
-        (Some(2), 1)
-    );
-    reclaim(&domain, &mut local);
-    let fourth = commit(
-        &rt,
-        rt.alloc(),
-        &domain,
-        &mut local,
-        &mut present,
-        &root,
-        &three,
-    );
-    assert!(rt; fourth);
-    assert_eq!(rt;
-        seen::<_, 1>(&rt, &domain, &mut local, &root, 1),
-        (Some(3), 1)
-    );
-    end(&rt, domain, local, present, root);
-    Ok(())
+/// Makes a call, and tells whether it answers what is wanted.
+fn answers<R: Abort, const S: usize>(
+    rt: &R,
+    alloc: Global,
+    scene: &mut Scene<'_, S>,
+    call: Call,
+    wanted: Told,
+) -> bool
+    requires { (1 ≤ S) × (S ≤ 225) }
+{
+    match (call, wanted) {
+        (Call::Upsert(from, to, value), Told::Placed) => {
+            let writes = upserts(rt, alloc, from..to, value);
+            scene.commit(rt, alloc, &writes)
+        }
+        (Call::Upsert(from, to, value), Told::Refused) => {
+            let writes = upserts(rt, alloc, from..to, value);
+            !scene.commit(rt, alloc, &writes)
+        }
+        (Call::Get(key), Told::Found(value, pairs)) => scene.seen(rt, key) == (value, pairs),
+        (Call::Reclaim, Told::Done) => {
+            scene.reclaim();
+            true
+        }
+        (Call::Slots, Told::Used(slots)) => scene.slots() == slots,
+        _ => false,
+    }
 }
 
-#[test]
-fn segments_that_no_write_touches_are_shared(rt: HostRuntime) -> Result<(), Fail> {
-    let domain = Domain::new(rt.alloc(), sized(64))?;
-    let mut local = member(&rt, &domain);
-    let (mut present, root) = begun::<_, 2>(&rt, rt.alloc(), &domain, &mut local);
-    let all = upserts(&rt, rt.alloc(), 1..9, 1);
-    let first = commit(
-        &rt,
-        rt.alloc(),
-        &domain,
-        &mut local,
-        &mut present,
-        &root,
-        &all,
-    );
-    reclaim(&domain, &mut local);
-    // four segments and their version
-    assert_eq!(rt; domain.slots_in_use(), 5);
-    let one = upserts(&rt, rt.alloc(), 3..4, 2);
-    let second = commit(
-        &rt,
-        rt.alloc(),
-        &domain,
-        &mut local,
-        &mut present,
-        &root,
-        &one,
-    );
-    assert_eq!(rt; (first, second), (true, true));
-    assert_eq!(rt; domain.slots_in_use(), 7);
-    reclaim(&domain, &mut local);
-    assert_eq!(rt; domain.slots_in_use(), 5);
-    assert_eq!(rt;
-        seen::<_, 2>(&rt, &domain, &mut local, &root, 3),
-        (Some(2), 8)
-    );
-    assert_eq!(rt;
-        seen::<_, 2>(&rt, &domain, &mut local, &root, 8),
-        (Some(1), 8)
-    );
-    end(&rt, domain, local, present, root);
-    Ok(())
+/// Makes the calls of a table: how many answer what is wanted before the first that doesn't.
+fn played<R: Abort, const S: usize>(
+    rt: &R,
+    alloc: Global,
+    scene: &mut Scene<'_, S>,
+    rows: &[(Call, Told)],
+) -> usize
+    requires { (1 ≤ S) × (S ≤ 225) }
+{
+    let mut right = 0usize;
+    for at in 0..rows.len() {
+        let (call, wanted) = rows[at];
+        if right == at && answers(rt, alloc, scene, call, wanted) {
+            right = right.saturating_add(1);
+        }
+    }
+    right
 }
 
+/// Plays a table on the empty version of a new place with so many slots. Nothing is in use behind it.
+fn on_a_place<R: Abort, const S: usize>(rt: &R, alloc: Global, slots: usize, rows: &[(Call, Told)])
+    requires slots { (1 ≤ slots) × (slots ≤ 1073741824) }
+    requires size { (1 ≤ S) × (S ≤ 225) }
+{
+    let domain = Domain::new(alloc, sized(slots)).expect(rt, "memory is there");
+    let mut scene = Scene::<S>::new(rt, alloc, &domain);
+    let right = played(rt, alloc, &mut scene, rows);
+    let slots = scene.end();
+    end(rt, domain, slots);
+    assert_eq!(rt; right, rows.len());
+}
+
+/// Three segments, their version, and the empty one are in use until the latter is reclaimed.
+const PLACED: [(Call, Told); 6] = [
+    (Upsert(1, 6, 7), Placed),
+    (Slots, Used(5)),
+    (Get(3), Found(Some(7), 5)),
+    (Get(6), Found(None, 5)),
+    (Reclaim, Done),
+    (Slots, Used(4)),
+];
+
 #[test]
-fn segments_are_taken_over_after_refusals(rt: HostRuntime) -> Result<(), Fail> {
-    let domain = Domain::new(rt.alloc(), sized(7))?;
-    let mut local = member(&rt, &domain);
-    let (mut present, root) = begun::<_, 2>(&rt, rt.alloc(), &domain, &mut local);
-    let all = upserts(&rt, rt.alloc(), 1..9, 1);
-    let first = commit(
-        &rt,
-        rt.alloc(),
-        &domain,
-        &mut local,
-        &mut present,
-        &root,
-        &all,
-    );
-    reclaim(&domain, &mut local);
-    // four segments and their version: two slots are free
-    assert_eq!(rt; domain.slots_in_use(), 5);
+fn a_placed_version_is_read(rt: HostRuntime) {
+    on_a_place::<_, 2>(&rt, rt.alloc(), 5, &PLACED);
+}
+
+/// Three segments and their version would need four slots beside the empty version, which has one of four.
+const WITHOUT_SLOTS: [(Call, Told); 6] = [
+    (Upsert(1, 6, 7), Refused),
+    (Get(3), Found(None, 0)),
+    (Reclaim, Done),
+    (Slots, Used(1)),
+    (Upsert(1, 4, 8), Placed),
+    (Get(3), Found(Some(8), 3)),
+];
+
+#[test]
+fn a_version_without_slots_leaves_the_present_one(rt: HostRuntime) {
+    on_a_place::<_, 2>(&rt, rt.alloc(), 4, &WITHOUT_SLOTS);
+}
+
+/// A version of one pair takes two slots, so that two of them and the empty one leave none of five.
+const WAITING: [(Call, Told); 7] = [
+    (Upsert(1, 2, 1), Placed),
+    (Upsert(1, 2, 2), Placed),
+    (Upsert(1, 2, 3), Refused),
+    (Get(1), Found(Some(2), 1)),
+    (Reclaim, Done),
+    (Upsert(1, 2, 3), Placed),
+    (Get(1), Found(Some(3), 1)),
+];
+
+#[test]
+fn what_waits_is_in_the_way_until_it_is_reclaimed(rt: HostRuntime) {
+    on_a_place::<_, 1>(&rt, rt.alloc(), 5, &WAITING);
+}
+
+/// Four segments and their version; then one new segment and its version beside them.
+const SHARING: [(Call, Told); 9] = [
+    (Upsert(1, 9, 1), Placed),
+    (Reclaim, Done),
+    (Slots, Used(5)),
+    (Upsert(3, 4, 2), Placed),
+    (Slots, Used(7)),
+    (Reclaim, Done),
+    (Slots, Used(5)),
+    (Get(3), Found(Some(2), 8)),
+    (Get(8), Found(Some(1), 8)),
+];
+
+#[test]
+fn segments_that_no_write_touches_are_shared(rt: HostRuntime) {
+    on_a_place::<_, 2>(&rt, rt.alloc(), 64, &SHARING);
+}
+
+/// Four segments and their version leave two slots free.
+const TAKING_OVER: [(Call, Told); 13] = [
+    (Upsert(1, 9, 1), Placed),
+    (Reclaim, Done),
+    (Slots, Used(5)),
     // the last segment is taken over, and the first of three new ones has no slot
-    let many = upserts(&rt, rt.alloc(), 1..6, 2);
-    let second = commit(
-        &rt,
-        rt.alloc(),
-        &domain,
-        &mut local,
-        &mut present,
-        &root,
-        &many,
-    );
-    reclaim(&domain, &mut local);
+    (Upsert(1, 6, 2), Refused),
+    (Reclaim, Done),
     // two segments are taken over, and the version has no slot beside two new ones
-    let few = upserts(&rt, rt.alloc(), 1..4, 3);
-    let third = commit(
-        &rt,
-        rt.alloc(),
-        &domain,
-        &mut local,
-        &mut present,
-        &root,
-        &few,
-    );
-    reclaim(&domain, &mut local);
-    let one = upserts(&rt, rt.alloc(), 3..4, 4);
-    let fourth = commit(
-        &rt,
-        rt.alloc(),
-        &domain,
-        &mut local,
-        &mut present,
-        &root,
-        &one,
-    );
-    assert_eq!(rt; [first, second, third, fourth], [true, false, false, true]);
-    assert_eq!(rt;
-        seen::<_, 2>(&rt, &domain, &mut local, &root, 3),
-        (Some(4), 8)
-    );
-    assert_eq!(rt;
-        seen::<_, 2>(&rt, &domain, &mut local, &root, 4),
-        (Some(1), 8)
-    );
-    assert_eq!(rt;
-        seen::<_, 2>(&rt, &domain, &mut local, &root, 8),
-        (Some(1), 8)
-    );
-    reclaim(&domain, &mut local);
-    assert_eq!(rt; domain.slots_in_use(), 5);
-    end(&rt, domain, local, present, root);
-    Ok(())
+    (Upsert(1, 4, 3), Refused),
+    (Reclaim, Done),
+    (Upsert(3, 4, 4), Placed),
+    (Get(3), Found(Some(4), 8)),
+    (Get(4), Found(Some(1), 8)),
+    (Get(8), Found(Some(1), 8)),
+    (Reclaim, Done),
+    (Slots, Used(5)),
+];
+
+#[test]
+fn segments_are_taken_over_after_refusals(rt: HostRuntime) {
+    on_a_place::<_, 2>(&rt, rt.alloc(), 7, &TAKING_OVER);
+}
+
+/// What a session of another participant reads at the keys 3 and 11, while a version is placed and what nobody reads is
+/// reclaimed: whether it was placed, and both answers.
+fn read_beside<R: Abort>(
+    rt: &R,
+    alloc: Global,
+    scene: &mut Scene<'_, 2>,
+    reader: &mut Local<Item>,
+) -> (bool, [(Option<u64>, usize); 2])
+    requires home { (home_of reader.old ≡ place_of scene.old.domain.now) × (hand_of reader.old ≡ []) }
+    requires closed { (own_of reader.old).nesting ≡ 0 }
+    ensures place { place_of scene.new.domain.now ≡ place_of scene.old.domain.now }
+    ensures same { IsSame reader.old reader.new }
+    ensures closed { (own_of reader.new).nesting ≡ 0 }
+{
+    let session = opened::<R, 2>(rt, scene.domain, reader, &scene.root);
+    let placed = scene.commit(rt, alloc, &upserts(rt, alloc, 3..12, 2));
+    scene.reclaim();
+    let found = [looked_up(&session, 3), looked_up(&session, 11)];
+    session.into_guard().close(scene.domain, reader);
+    (placed, found)
 }
 
 #[test]
 fn a_session_reads_on_while_versions_follow(rt: HostRuntime) -> Result<(), Fail> {
-    let domain = Domain::new(rt.alloc(), sized(64))?;
+    let alloc = rt.alloc();
+    let domain = Domain::new(alloc, sized(64))?;
     let mut reader = member(&rt, &domain);
-    let mut local = member(&rt, &domain);
-    let (mut present, root) = begun::<_, 2>(&rt, rt.alloc(), &domain, &mut local);
-    let old = upserts(&rt, rt.alloc(), 1..9, 1);
-    let first = commit(
-        &rt,
-        rt.alloc(),
-        &domain,
-        &mut local,
-        &mut present,
-        &root,
-        &old,
-    );
-    let session = opened::<_, 2>(&rt, &domain, &mut reader, &root);
-    let new = upserts(&rt, rt.alloc(), 3..12, 2);
-    let second = commit(
-        &rt,
-        rt.alloc(),
-        &domain,
-        &mut local,
-        &mut present,
-        &root,
-        &new,
-    );
-    assert_eq!(rt; (first, second), (true, true));
-    reclaim(&domain, &mut local);
-    assert_eq!(rt; told(&session, 3), (Some(1), 8));
-    assert_eq!(rt; told(&session, 11), (None, 8));
-    session.into_guard().close(&domain, &mut reader);
-    assert_eq!(rt;
-        seen::<_, 2>(&rt, &domain, &mut reader, &root, 3),
-        (Some(2), 11)
-    );
+    let mut scene = Scene::<2>::new(&rt, alloc, &domain);
+    let first = scene.commit(&rt, alloc, &upserts(&rt, alloc, 1..9, 1));
+    let (second, found) = read_beside(&rt, alloc, &mut scene, &mut reader);
+    let behind = seen::<_, 2>(&rt, scene.domain, &mut reader, &scene.root, 3);
     reader.end(&domain);
-    reclaim(&domain, &mut local);
-    assert_eq!(rt; domain.slots_in_use(), 7);
-    end(&rt, domain, local, present, root);
+    scene.reclaim();
+    let slots = scene.slots();
+    let left = scene.end();
+    end(&rt, domain, left);
+    assert_eq!(rt; (first, second, slots), (true, true, 7));
+    assert_eq!(rt; (found, behind), ([(Some(1), 8), (None, 8)], (Some(2), 11)));
     Ok(())
 }

@@ -102,13 +102,14 @@ fn a_session_reads_the_version_that_it_loaded(rt: HostRuntime) -> Result<(), Fai
     let domain = Domain::new(rt.alloc(), SIZES)?;
     let mut local = member(&rt, &domain);
     let cell = cell_with_empty(&rt, rt.alloc(), &domain, &mut local);
-    assert_eq!(rt; read::<4>(&domain, &mut local, &cell), Some(0));
-    assert_eq!(rt; read::<8>(&domain, &mut local, &cell), None);
-    assert!(rt; cell.retire(&domain, &mut local));
+    let of_four = read::<4>(&domain, &mut local, &cell);
+    let of_eight = read::<8>(&domain, &mut local, &cell);
+    let last = cell.retire(&domain, &mut local);
     local.end(&domain);
     match domain.close() {
         Ok(()) => {}
         Err(_) => panic!(rt; "nobody is registered"),
     }
+    assert_eq!(rt; (of_four, of_eight, last), (Some(0), None, true));
     Ok(())
 }
