@@ -1,6 +1,6 @@
 //! Walks by example, and beside a plain machine over a list.
 
-ghost use Rattle.std.specs.Prelude.{◌≡◌, ◌<◌, ◌≤◌, ◌∷◌, [], ℕ, List, length};
+ghost use Rattle.std.specs.Prelude.{◌<◌, ◌≤◌, ◌∷◌, [], ℕ, List, length};
 ghost use Rattle.std.specs.Ordering.{nat_cmp};
 ghost use Rattle.sdd_base.specs.Counting.{Counted};
 ghost use Rattle.sdd_base.specs.Holding.{SharedItem};
