@@ -26,7 +26,7 @@ IsStackOf s d = cell_number s.first < cell_count d
 abbrev pub IsQueueOf : {T : Type 0} → Queue → Domain T → Type 0
 IsQueueOf q d = (cell_number q.first < cell_count d) × (cell_number q.last < cell_count d)
 
--- the same participant of the same place, with as many guards open and no owner in hand; only its misses may differ
+-- the same participant of the same place, with as many guards open and the same owners in hand; its misses may differ
 abbrev pub IsAsBefore : {T : Type 0} → Local T → Local T → Type 0
 IsAsBefore old new = IsSameButMisses old new × ((own_of new).nesting ≡ (own_of old).nesting)
 
