@@ -1,0 +1,266 @@
+//! Cells of owners that are alone.
+
+ghost use Rattle.std.specs.Prelude.{◌≡◌, ◌<◌, ◌+◌, ◌||◌, Bool, [], IsTrue, IfSome, IfNone, IfOk, IfErr, OnOk, OnErr};
+ghost use Rattle.shared_owned.specs.Alone.{owner_in};
+
+use crate::owned::Owned;
+use crate::pointer::OwnedPtr;
+use sdd_base::tag::Tag;
+use sdd_domain::atomic_shared::AtomicShared;
+use sdd_domain::domain::Domain;
+use sdd_domain::guard::Guard;
+use sdd_domain::holds::Holds;
+use sdd_domain::local::Local;
+use sdd_domain::pointer::{Named, Ptr};
+use sdd_domain::shared::Shared;
+
+/// A cell of a place: it has the one owner of an item, or nothing, and a tag of two bits.
+pub struct AtomicOwned {
+    pub(crate) cell: AtomicShared,
+}
+
+/// An owner that is alone as one of any.
+fn any<T>(owned: Option<Owned<T>>) -> Option<Shared<T>>
+    ensures { result ≡ owner_in owned }
+{
+    match owned {
+        Some(Owned { owner }) => Some(owner),
+        None => None,
+    }
+}
+
+/// An owner that came out of a cell of such as are alone.
+fn alone<T>(owner: Option<Shared<T>>) -> Option<Owned<T>>
+    ensures { owner_in result ≡ owner }
+{
+    match owner {
+        Some(owner) => Some(Owned { owner }),
+        None => None,
+    }
+}
+
+impl AtomicOwned {
+    ghost use Rattle.sdd_domain.specs.Pointers.{named_slot, named_tag};
+    ghost use Rattle.sdd_domain.specs.Tokens.{place_of, home_of, number_of, own_of, hand_of, born_of, waiting_of, misses_of, nest_of, nest_in, IsInNest, IsInNestButMisses};
+    ghost use Rattle.shared_owned.specs.Alone.{IsCellOf, place_in, sole_slot, IsSoleBack, pointer_slot};
+    ghost use Rattle.shared_owned.specs.declared.pointer.OwnedPtr.{OwnedPtr};
+
+    /// A cell that owns nothing, without a tag, if nobody has one of those that the place has: each is tried once. None is a
+    /// miss of the participant. It must be spent by `into_owned` or `retire`.
+    pub fn null<T: Holds>(domain: &Domain<T>, local: &mut Local<T>) -> Option<AtomicOwned>
+        ensures cell { IfSome result (λ c. IsCellOf c domain.now) }
+        ensures hit { IfSome result (λ c. misses_of local.new ≡ misses_of local.old) }
+        ensures missed { IfNone result (misses_of local.new ≡ misses_of local.old + 1) }
+        ensures same { IsInNestButMisses local.old local.new × (own_of local.new ≡ own_of local.old) × (born_of local.new ≡ born_of local.old) × (waiting_of local.new ≡ waiting_of local.old) }
+    {
+        match AtomicShared::null(domain, local) {
+            Some(cell) => Some(AtomicOwned { cell }),
+            None => None,
+        }
+    }
+
+    /// A cell with this owner, without a tag. The owner is back where there is no cell, which is a miss.
+    pub fn from<T: Holds>(
+        owned: Owned<T>,
+        domain: &Domain<T>,
+        local: &mut Local<T>,
+    ) -> Result<AtomicOwned, Owned<T>>
+        requires home { home_of local.old ≡ place_of domain.now }
+        requires mine { place_in owned ≡ (place_of domain.now).0 }
+        ensures cell { IfOk result (λ c. IsCellOf c domain.now) }
+        ensures refused { IfErr result (λ back. back ≡ owned) }
+        ensures hit { OnOk result (misses_of local.new ≡ misses_of local.old) }
+        ensures missed { OnErr result (misses_of local.new ≡ misses_of local.old + 1) }
+        ensures same { IsInNestButMisses local.old local.new × (born_of local.new ≡ born_of local.old) }
+        ensures own { (flag : Bool) × (own_of local.new ≡ record (own_of local.old) { garbage = flag }) }
+    {
+        let Owned { owner } = owned;
+        match AtomicShared::from(owner, domain, local) {
+            Ok(cell) => Ok(AtomicOwned { cell }),
+            Err(owner) => Err(Owned { owner }),
+        }
+    }
+
+    /// A cell with the owner of a new item, without a tag. The item is back where there is no cell or no free slot, which is a
+    /// miss. Condition: it holds just the owners that are in the participant's hand.
+    pub fn new<T: Holds>(
+        item: T,
+        domain: &Domain<T>,
+        local: &mut Local<T>,
+    ) -> Result<AtomicOwned, T>
+        requires home { home_of local.old ≡ place_of domain.now }
+        requires holds { T.holds item ≡ hand_of local.old }
+        ensures cell { IfOk result (λ c. IsCellOf c domain.now) }
+        ensures refused { IfErr result (λ back. back ≡ item) }
+        ensures bare { OnOk result (hand_of local.new ≡ []) }
+        ensures hand { OnErr result (hand_of local.new ≡ hand_of local.old) }
+        ensures hit { OnOk result (misses_of local.new ≡ misses_of local.old) }
+        ensures missed { OnErr result (misses_of local.new ≡ misses_of local.old + 1) }
+        ensures nest { nest_in local.new ≡ nest_in local.old }
+        ensures home { (home_of local.new ≡ home_of local.old) × (number_of local.new ≡ number_of local.old) }
+        ensures own { (flag : Bool) × (own_of local.new ≡ record (own_of local.old) { garbage = flag }) }
+    {
+        match AtomicShared::new(item, domain, local) {
+            Ok(cell) => Ok(AtomicOwned { cell }),
+            Err(item) => Err(item),
+        }
+    }
+
+    /// Whether the cell owns nothing, as it is found in one step.
+    pub fn is_null<T: Holds>(&self, domain: &Domain<T>) -> bool
+        requires cell { IsCellOf self.now domain.now }
+    {
+        self.cell.is_null(domain)
+    }
+
+    /// The tag of the cell, as it is found in one step.
+    pub fn tag<T: Holds>(&self, domain: &Domain<T>) -> Tag
+        requires cell { IsCellOf self.now domain.now }
+    {
+        self.cell.tag(domain)
+    }
+
+    /// What the cell names and its tag, as both are found in one step. The item stays, as it is, until the outermost guard
+    /// closes, whatever other threads do with the cell.
+    pub fn load<'g, T: Holds>(
+        &self,
+        domain: &Domain<T>,
+        guard: &'g Guard,
+        local: &mut Local<T>,
+    ) -> OwnedPtr<'g, T>
+        requires home { home_of local.old ≡ place_of domain.now }
+        requires nest { nest_of guard.now ≡ nest_in local.old }
+        requires open { 0 < (own_of local.old).nesting }
+        requires cell { IsCellOf self.now domain.now }
+        ensures same { IsInNest local.old local.new × (own_of local.new ≡ own_of local.old) × (born_of local.new ≡ born_of local.old) × (waiting_of local.new ≡ waiting_of local.old) }
+    {
+        OwnedPtr {
+            of: self.cell.load(domain, guard, local),
+        }
+    }
+
+    /// Swaps what the cell owns and its tag, in one step: the owner and the tag go into it, and those that it had come
+    /// out.
+    pub fn swap<T: Holds>(
+        &self,
+        new: (Option<Owned<T>>, Tag),
+        domain: &Domain<T>,
+        local: &mut Local<T>,
+    ) -> (Option<Owned<T>>, Tag)
+        requires home { home_of local.old ≡ place_of domain.now }
+        requires cell { IsCellOf self.now domain.now }
+        requires mine { IfSome new.0 (λ o. place_in o ≡ (place_of domain.now).0) }
+        ensures home { IfSome result.0 (λ o. place_in o ≡ (place_of domain.now).0) }
+        ensures same { IsInNest local.old local.new × (own_of local.new ≡ own_of local.old) × (born_of local.new ≡ born_of local.old) × (waiting_of local.new ≡ waiting_of local.old) }
+    {
+        let (owned, tag) = new;
+        let (old, found) = self.cell.swap((any(owned), tag), domain, local);
+        (alone(old), found)
+    }
+
+    /// Swaps what the cell owns and its tag for `new`, in one step, where it names the item of `current`, or nothing where
+    /// that is to nothing, and has its tag: the owner that it had comes out, and with it what the cell names from then on.
+    /// Else the cell stays as it is: the owner is back, and with it the pointer that was found. It is one try: where other
+    /// threads change the cell during the call, it may be refused though the cell was as `current` before and is so again.
+    /// It takes no memory.
+    pub fn compare_exchange<'g, T: Holds>(
+        &self,
+        current: OwnedPtr<T>,
+        new: (Option<Owned<T>>, Tag),
+        domain: &Domain<T>,
+        guard: &'g Guard,
+        local: &mut Local<T>,
+    ) -> Result<(Option<Owned<T>>, Named), (Option<Owned<T>>, OwnedPtr<'g, T>)>
+        requires home { home_of local.old ≡ place_of domain.now }
+        requires nest { nest_of guard.now ≡ nest_in local.old }
+        requires open { 0 < (own_of local.old).nesting }
+        requires cell { IsCellOf self.now domain.now }
+        requires mine { IfSome new.0 (λ o. place_in o ≡ (place_of domain.now).0) }
+        ensures home { IfOk result (λ r. IfSome r.0 (λ o. place_in o ≡ (place_of domain.now).0)) }
+        ensures exact { IfOk result (λ r. sole_slot r.0 ≡ pointer_slot current.entry) }
+        ensures stands { IfOk result (λ r. (named_slot r.1 ≡ sole_slot new.0) × (named_tag r.1 ≡ new.1)) }
+        ensures back { IfErr result (λ r. IsSoleBack new.0 r.0) }
+        ensures same { IsInNest local.old local.new × (own_of local.new ≡ own_of local.old) × (born_of local.new ≡ born_of local.old) × (waiting_of local.new ≡ waiting_of local.old) }
+    {
+        let (owned, tag) = new;
+        let new = (any(owned), tag);
+        match self
+            .cell
+            .compare_exchange(current.of, new, domain, guard, local)
+        {
+            Ok((old, named)) => Ok((alone(old), named)),
+            Err((back, of)) => Err((alone(back), OwnedPtr { of })),
+        }
+    }
+
+    /// As `compare_exchange`: it fails for no other reason.
+    pub fn compare_exchange_weak<'g, T: Holds>(
+        &self,
+        current: OwnedPtr<T>,
+        new: (Option<Owned<T>>, Tag),
+        domain: &Domain<T>,
+        guard: &'g Guard,
+        local: &mut Local<T>,
+    ) -> Result<(Option<Owned<T>>, Named), (Option<Owned<T>>, OwnedPtr<'g, T>)>
+        requires home { home_of local.old ≡ place_of domain.now }
+        requires nest { nest_of guard.now ≡ nest_in local.old }
+        requires open { 0 < (own_of local.old).nesting }
+        requires cell { IsCellOf self.now domain.now }
+        requires mine { IfSome new.0 (λ o. place_in o ≡ (place_of domain.now).0) }
+        ensures home { IfOk result (λ r. IfSome r.0 (λ o. place_in o ≡ (place_of domain.now).0)) }
+        ensures exact { IfOk result (λ r. sole_slot r.0 ≡ pointer_slot current.entry) }
+        ensures stands { IfOk result (λ r. (named_slot r.1 ≡ sole_slot new.0) × (named_tag r.1 ≡ new.1)) }
+        ensures back { IfErr result (λ r. IsSoleBack new.0 r.0) }
+        ensures same { IsInNest local.old local.new × (own_of local.new ≡ own_of local.old) × (born_of local.new ≡ born_of local.old) × (waiting_of local.new ≡ waiting_of local.old) }
+    {
+        self.compare_exchange(current, new, domain, guard, local)
+    }
+
+    /// Sets the tag, in one step, where `f` answers true of the pointer that is found: whether it did. Where other threads
+    /// changed the cell since that pointer was loaded it tries again, and asks anew; after `2^64` times it gives up, and
+    /// tells that it didn't. What the cell owns stays.
+    pub fn update_tag_if<'g, T: Holds + 'g, F: Fn(OwnedPtr<'g, T>) -> bool>(
+        &self,
+        tag: Tag,
+        f: F,
+        domain: &Domain<T>,
+        guard: &'g Guard,
+        local: &mut Local<T>,
+    ) -> bool
+        requires home { home_of local.old ≡ place_of domain.now }
+        requires nest { nest_of guard.now ≡ nest_in local.old }
+        requires open { 0 < (own_of local.old).nesting }
+        requires cell { IsCellOf self.now domain.now }
+        requires callable { F.IsAlwaysCallable f }
+        ensures asked { (r : OwnedPtr T) × (b : Bool) × F.post f r b × (IsTrue result → IsTrue b) }
+        ensures same { IsInNest local.old local.new × (own_of local.new ≡ own_of local.old) × (born_of local.new ≡ born_of local.old) × (waiting_of local.new ≡ waiting_of local.old) }
+    {
+        let ask = |of|
+            requires { F.IsAlwaysCallable f }
+            ensures { F.post f (record { of = of.entry }) result }
+        { f(OwnedPtr { of }) };
+        self.cell.update_tag_if(tag, ask, domain, guard, local)
+    }
+
+    /// What the cell owned. The cell is the next one's that asks for one.
+    pub fn into_owned<T: Holds>(self, domain: &Domain<T>, local: &mut Local<T>) -> Option<Owned<T>>
+        requires home { home_of local.old ≡ place_of domain.now }
+        requires cell { IsCellOf self domain.now }
+        ensures home { IfSome result (λ o. place_in o ≡ (place_of domain.now).0) }
+        ensures same { IsInNest local.old local.new × (own_of local.new ≡ own_of local.old) × (born_of local.new ≡ born_of local.old) × (waiting_of local.new ≡ waiting_of local.old) }
+    {
+        let AtomicOwned { cell } = self;
+        alone(cell.into_shared(domain, local))
+    }
+
+    /// Gives the cell back, and retires what it owned. Whether it owned something, which no clause says: see
+    /// `Owned::retire`.
+    pub fn retire<T: Holds>(self, domain: &Domain<T>, local: &mut Local<T>) -> bool
+        requires home { home_of local.old ≡ place_of domain.now }
+        requires cell { IsCellOf self domain.now }
+        ensures same { IsInNest local.old local.new × (born_of local.new ≡ born_of local.old) × (own_of local.new ≡ record (own_of local.old) { garbage = (own_of local.old).garbage || result }) }
+    {
+        let AtomicOwned { cell } = self;
+        cell.retire(domain, local)
+    }
+}

@@ -1,0 +1,120 @@
+//! Owners that are alone.
+
+ghost use Rattle.std.specs.Prelude.{◌≡◌, ◌+◌, ◌<◌, ◌||◌, [], Some, IfOk, IfErr, OnOk, OnErr, IsTrue, IsFalse};
+
+use crate::pointer::OwnedPtr;
+use sdd_domain::domain::Domain;
+use sdd_domain::guard::Guard;
+use sdd_domain::holds::Holds;
+use sdd_domain::local::Local;
+use sdd_domain::shared::Shared;
+
+/// The one owner of an item, which stays, as it is, while it has it. It must be spent by `retire`, or put into a cell.
+pub struct Owned<T> {
+    pub(crate) owner: Shared<T>,
+}
+
+impl<T: Holds> Owned<T> {
+    ghost use Rattle.sdd_domain.specs.Tokens.{place_of, home_of, own_of, hand_of, born_of, waiting_of, misses_of, nest_of, nest_in, IsInNest, IsSameButHandAndMisses};
+    ghost use Rattle.shared_owned.specs.Alone.{place_in, IsSoleOwnerOf, sole_slot, owner_of, pointer_slot};
+
+    /// Places an item in a free slot, and gives its owner. Where each slot was taken when it was tried, the item is back,
+    /// which is a miss of the participant. The item holds all owners that are in the participant's hand, and no other one.
+    /// It takes no memory.
+    pub fn new(item: T, domain: &Domain<T>, local: &mut Local<T>) -> Result<Owned<T>, T>
+        requires home { home_of local.old ≡ place_of domain.now }
+        requires holds { T.holds item ≡ hand_of local.old }
+        ensures home { IfOk result (λ o. place_in o ≡ (place_of domain.now).0) }
+        ensures item { IfOk result (λ o. IsSoleOwnerOf o item) }
+        ensures refused { IfErr result (λ back. back ≡ item) }
+        ensures bare { OnOk result (hand_of local.new ≡ []) }
+        ensures hand { OnErr result (hand_of local.new ≡ hand_of local.old) }
+        ensures hit { OnOk result (misses_of local.new ≡ misses_of local.old) }
+        ensures missed { OnErr result (misses_of local.new ≡ misses_of local.old + 1) }
+        ensures same { IsSameButHandAndMisses local.old local.new }
+    {
+        match Shared::new(item, domain, local) {
+            Ok(owner) => Ok(Owned { owner }),
+            Err(item) => Err(item),
+        }
+    }
+
+    /// The item.
+    pub fn as_ref(&self) -> &T
+        ensures { IsSoleOwnerOf self.now result.now }
+    {
+        self.owner.as_ref()
+    }
+
+    /// The slot of the item, below the place's count of them. No other item is in it while this is its owner.
+    pub fn slot(&self) -> usize
+        ensures { Some result ≡ sole_slot (Some self.now) }
+    {
+        self.owner.slot()
+    }
+
+    /// The item as a pointer, without a tag, for as long as the guard is borrowed: it stays so long, even where this owner is
+    /// retired. In Rust that is `get_guarded_ptr(&self)`.
+    pub fn get_guarded_ptr<'g>(
+        self,
+        domain: &Domain<T>,
+        guard: &'g Guard,
+        local: &mut Local<T>,
+    ) -> (Owned<T>, OwnedPtr<'g, T>)
+        requires home { home_of local.old ≡ place_of domain.now }
+        requires mine { place_in self ≡ (place_of domain.now).0 }
+        requires nest { nest_of guard.now ≡ nest_in local.old }
+        requires open { 0 < (own_of local.old).nesting }
+        ensures home { place_in result.0 ≡ place_in self }
+        ensures item { (x : T) → IsSoleOwnerOf self x → IsSoleOwnerOf result.0 x }
+        ensures exact { pointer_slot result.1 ≡ sole_slot (Some self) }
+        ensures same { IsInNest local.old local.new × (own_of local.new ≡ own_of local.old) × (born_of local.new ≡ born_of local.old) × (waiting_of local.new ≡ waiting_of local.old) }
+    {
+        let Owned { owner } = self;
+        let (owner, of) = owner.get_guarded_ptr(domain, guard, local);
+        (Owned { owner }, OwnedPtr { of })
+    }
+
+    /// The item, for as long. In Rust that is `get_guarded_ref(&self)`.
+    pub fn get_guarded_ref<'g>(
+        self,
+        domain: &Domain<T>,
+        guard: &'g Guard,
+        local: &mut Local<T>,
+    ) -> (Owned<T>, &'g T)
+        requires home { home_of local.old ≡ place_of domain.now }
+        requires mine { place_in self ≡ (place_of domain.now).0 }
+        requires nest { nest_of guard.now ≡ nest_in local.old }
+        requires open { 0 < (own_of local.old).nesting }
+        ensures home { place_in result.0 ≡ place_in self }
+        ensures item { (x : T) → IsSoleOwnerOf self x → IsSoleOwnerOf result.0 x }
+        ensures same { IsInNest local.old local.new × (own_of local.new ≡ own_of local.old) × (born_of local.new ≡ born_of local.old) × (waiting_of local.new ≡ waiting_of local.old) }
+    {
+        let Owned { owner } = self;
+        let (owner, item) = owner.get_guarded_ref(domain, guard, local);
+        (Owned { owner }, item)
+    }
+
+    /// The owner as one of several that there may be from now on.
+    pub fn into_shared(self) -> Shared<T>
+        ensures { result ≡ owner_of self }
+    {
+        let Owned { owner } = self;
+        owner
+    }
+
+    /// Gives the owner back: the participant has retired the item, which is reclaimed once no guard can read it, as the
+    /// participant opens its guards. It takes no memory. Whether the item had no other owner, which is always so: that is
+    /// no clause.
+    pub fn retire(self, domain: &Domain<T>, local: &mut Local<T>) -> bool
+        requires home { home_of local.old ≡ place_of domain.now }
+        requires mine { place_in self ≡ (place_of domain.now).0 }
+        ensures last { IsTrue result → waiting_of local.new ≡ waiting_of local.old + 1 }
+        ensures more { IsFalse result → waiting_of local.new ≡ waiting_of local.old }
+        ensures own { own_of local.new ≡ record (own_of local.old) { garbage = (own_of local.old).garbage || result } }
+        ensures same { IsInNest local.old local.new × (born_of local.new ≡ born_of local.old) }
+    {
+        let Owned { owner } = self;
+        owner.release(domain, local)
+    }
+}
