@@ -1,14 +1,14 @@
 -- The texts of replies.
 use Rattle.std.specs.Prelude.{ℕ, true, false, Some, None, List, [], ◌∷◌, ◌++◌, codes, length}
 use Rattle.std.specs.Fmt.{decimal}
-use Rattle.ordered_index.specs.declared.query.Answer.{Answer}
-use Rattle.ordered_index.specs.declared.query.Answer.TheVariants as answers
-use Rattle.ordered_index.specs.declared.query.Near.{Near}
-use Rattle.ordered_index.specs.declared.query.Near.TheVariants as nears
-use Rattle.ordered_index.specs.declared.transaction.Audit.{Audit}
-use Rattle.ordered_index.specs.declared.transaction.Audit.TheVariants as audits
-use Rattle.ordered_index.specs.declared.commit.Cause.{Cause}
-use Rattle.ordered_index.specs.declared.commit.Cause.TheVariants as causes
+use Rattle.serial_history.specs.declared.query.Answer.{Answer}
+use Rattle.serial_history.specs.declared.query.Answer.TheVariants as answers
+use Rattle.serial_history.specs.declared.query.Near.{Near}
+use Rattle.serial_history.specs.declared.query.Near.TheVariants as nears
+use Rattle.serial_history.specs.declared.transaction.Audit.{Audit}
+use Rattle.serial_history.specs.declared.transaction.Audit.TheVariants as audits
+use Rattle.serial_history.specs.declared.commit.Cause.{Cause}
+use Rattle.serial_history.specs.declared.commit.Cause.TheVariants as causes
 use Rattle.ordered_index.specs.declared.play.DeskReply.{DeskReply}
 use Rattle.ordered_index.specs.declared.play.DeskReply.TheVariants as replies
 use Rattle.versions.specs.declared.write.Reply.{Reply}

@@ -4,7 +4,7 @@ use Rattle.std.specs.Ordering.{nat_cmp}
 use Rattle.ordered_index.specs.Desk.{Machine, OpenStep, CloseStep, ReadStep, AuditStep, NumberStep, LenStep, CommitStep, ReclaimStep, SlotsStep}
 use Rattle.versions.specs.declared.write.Write.{Write}
 use Rattle.versions.specs.declared.write.Write.TheVariants as writes
-use Rattle.ordered_index.specs.declared.query.Query.TheVariants as queries
+use Rattle.serial_history.specs.declared.query.Query.TheVariants as queries
 use Rattle.ordered_index.specs.declared.play.ReadSet.TheVariants as sets
 use Rattle.ordered_index.specs.declared.play.DeskReply.{DeskReply}
 use Rattle.ordered_index.specs.declared.play.DeskReply.TheVariants as replies

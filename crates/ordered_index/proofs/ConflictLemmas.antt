@@ -14,12 +14,12 @@ use Rattle.versions.specs.Writes.{after_write, after_writes}
 use Rattle.versions.specs.declared.write.Write.{Write}
 use Rattle.versions.specs.declared.write.Write.TheVariants as writes
 use Rattle.versions.proofs.RangeLemmas.{fair_range}
-use Rattle.ordered_index.specs.Answers.{answer_to}
-use Rattle.ordered_index.specs.Serial.{Holds, Read}
+use Rattle.serial_history.specs.Answers.{answer_to}
+use Rattle.serial_history.specs.Serial.{Holds, Read}
 use Rattle.ordered_index.specs.State.{MayRefuse, State, present}
-use Rattle.ordered_index.specs.declared.commit.Cause.TheVariants as causes
-use Rattle.ordered_index.specs.declared.query.Answer.TheVariants as answers
-use Rattle.ordered_index.specs.declared.query.Query.TheVariants as queries
+use Rattle.serial_history.specs.declared.commit.Cause.TheVariants as causes
+use Rattle.serial_history.specs.declared.query.Answer.TheVariants as answers
+use Rattle.serial_history.specs.declared.query.Query.TheVariants as queries
 use Rattle.ordered_index.proofs.ReceiptLemmas.{first_of}
 
 module _ {K V : Type 0} {cmp : K → K → Ordering} (o : IsTotalOrder cmp) where

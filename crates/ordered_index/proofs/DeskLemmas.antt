@@ -5,14 +5,14 @@ use Rattle.std.proofs.lemmas.Option.{slice_get_cases, slice_get_within}
 use Rattle.std.specs.declared.cmp.Ordering.{Ordering}
 use Rattle.std.specs.Prelude.{Result, Ok, Err, IfOk, OnErr}
 use Rattle.std.specs.declared.alloc.AllocError.{AllocError}
-use Rattle.ordered_index.specs.declared.query.Query.{Query}
-use Rattle.ordered_index.specs.declared.query.Answer.{Answer}
+use Rattle.serial_history.specs.declared.query.Query.{Query}
+use Rattle.serial_history.specs.declared.query.Answer.{Answer}
 use Rattle.ordered_index.specs.State.{State, OpenSession, IsSessionOf, IsOpenAt, Opens, Closes, Reads}
 use Rattle.ordered_index.specs.Desk.{Step, Run, Machine, Serves, KeepsAll, SitsAt, IsUnknown, LeavesSeat, TakesSeat, cleared}
 use Rattle.ordered_index.specs.declared.desk.Seat.{Seat}
 use Rattle.ordered_index.specs.declared.play.DeskCall.{DeskCall}
 use Rattle.ordered_index.specs.declared.play.DeskReply.{DeskReply}
-use Rattle.ordered_index.specs.declared.transaction.Receipt.{Receipt}
+use Rattle.serial_history.specs.declared.transaction.Receipt.{Receipt}
 
 -- what is at a place after a write: the value that was written there, or what was there before
 get-set : {X : Type 0} (xs : List X) (i : ℕ) (v : X) (j : ℕ) (x : X) → slice_get (set xs i v) j ≡ Some x → ((i ≡ j) × (x ≡ v)) ⊎ ((i ≢ j) × (slice_get xs j ≡ Some x))

@@ -5,17 +5,17 @@ use Rattle.std.specs.declared.cmp.Ordering.{Ordering}
 use Rattle.std.proofs.lemmas.List.Elements.{All-append}
 use Rattle.versions.specs.declared.write.Write.{Write}
 use Rattle.ordered_index.specs.Receipts.{IsOwnReceipt}
-use Rattle.ordered_index.specs.Serial.{Holds, Read, after_all}
+use Rattle.serial_history.specs.Serial.{Holds, Read, after_all}
 use Rattle.ordered_index.specs.State.{State, OpenSession, Audits, Commits, Opens, Reads, list_at, transaction_of}
-use Rattle.ordered_index.specs.declared.commit.Accepted.{Accepted}
-use Rattle.ordered_index.specs.declared.commit.Refused.{Refused}
-use Rattle.ordered_index.specs.declared.query.Answer.{Answer}
-use Rattle.ordered_index.specs.declared.query.Query.{Query}
-use Rattle.ordered_index.specs.declared.transaction.Audit.{Audit}
-use Rattle.ordered_index.specs.declared.transaction.Audit.TheVariants as audits
-use Rattle.ordered_index.specs.declared.transaction.Receipt.{Receipt}
-use Rattle.ordered_index.specs.declared.transaction.Transaction.{Transaction}
-use Rattle.ordered_index.proofs.RunLemmas.{take-push}
+use Rattle.serial_history.specs.declared.commit.Accepted.{Accepted}
+use Rattle.serial_history.specs.declared.commit.Refused.{Refused}
+use Rattle.serial_history.specs.declared.query.Answer.{Answer}
+use Rattle.serial_history.specs.declared.query.Query.{Query}
+use Rattle.serial_history.specs.declared.transaction.Audit.{Audit}
+use Rattle.serial_history.specs.declared.transaction.Audit.TheVariants as audits
+use Rattle.serial_history.specs.declared.transaction.Receipt.{Receipt}
+use Rattle.serial_history.specs.declared.transaction.Transaction.{Transaction}
+use Rattle.serial_history.proofs.RunLemmas.{take-push}
 
 pub first_of : {X : Type 0} (xs : List X) (i : ℕ) → i < length xs → X
 first_of [] i h = absurd (omega (arith, h))

@@ -8,12 +8,12 @@ use Rattle.leaf_array.specs.Pairs.{has_key}
 use Rattle.versions.specs.Writes.{after_writes}
 use Rattle.versions.specs.declared.write.Write.{Write}
 use Rattle.versions.specs.declared.write.Write.TheVariants as writes
-use Rattle.ordered_index.specs.Answers.{answer_to}
-use Rattle.ordered_index.specs.Serial.{Holds, Read}
+use Rattle.serial_history.specs.Answers.{answer_to}
+use Rattle.serial_history.specs.Serial.{Holds, Read}
 use Rattle.ordered_index.specs.State.{State, MayRefuse, present}
-use Rattle.ordered_index.specs.declared.commit.Cause.TheVariants as causes
-use Rattle.ordered_index.specs.declared.query.Answer.TheVariants as answers
-use Rattle.ordered_index.specs.declared.query.Query.TheVariants as queries
+use Rattle.serial_history.specs.declared.commit.Cause.TheVariants as causes
+use Rattle.serial_history.specs.declared.query.Answer.TheVariants as answers
+use Rattle.serial_history.specs.declared.query.Query.TheVariants as queries
 
 module _ {K : Type 0} (V : Type 0) (cmp : K → K → Ordering) where
   -- a value that is written again is read again, whatever was written before

@@ -2,11 +2,11 @@
 use Rattle.std.specs.Prelude.{◌≡◌, ◌≢◌, ℕ, ◌<◌, ◌≤◌, List, [], ◌∷◌, length, Option, Some, None, slice_get, slice_set, take}
 use Rattle.std.specs.declared.cmp.Ordering.{Ordering}
 use Rattle.ordered_index.specs.State.{State, OpenSession, IsSessionOf, IsOpenAt, HasNoPlace, Opens, Closes, list_at, Accepts, Refuses, Reads, Audits, Reclaims, MayAccept, latest_number}
-use Rattle.ordered_index.specs.declared.query.Query.{Query}
-use Rattle.ordered_index.specs.declared.query.Query.TheVariants as queries
+use Rattle.serial_history.specs.declared.query.Query.{Query}
+use Rattle.serial_history.specs.declared.query.Query.TheVariants as queries
 use Rattle.versions.specs.declared.write.Write.{Write}
-use Rattle.ordered_index.specs.declared.transaction.Receipt.{Receipt}
-use Rattle.ordered_index.specs.declared.commit.Cause.TheVariants as causes
+use Rattle.serial_history.specs.declared.transaction.Receipt.{Receipt}
+use Rattle.serial_history.specs.declared.commit.Cause.TheVariants as causes
 use Rattle.ordered_index.specs.declared.desk.Seat.{Seat}
 use Rattle.ordered_index.specs.declared.play.ReadSet.{ReadSet}
 use Rattle.ordered_index.specs.declared.play.ReadSet.TheVariants as sets

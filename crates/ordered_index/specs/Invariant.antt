@@ -3,10 +3,10 @@ use Rattle.std.specs.Prelude.{◌≡◌, ℕ, ◌≤◌, List, [], length, map, 
 use Rattle.std.specs.Option.{option_map}
 use Rattle.std.specs.declared.cmp.Ordering.{Ordering}
 use Rattle.std.specs.List.{All}
-use Rattle.ordered_index.specs.Serial.{after_all, IsSerial}
+use Rattle.serial_history.specs.Serial.{after_all, IsSerial}
 use Rattle.ordered_index.specs.State.{State}
 use Rattle.versions.specs.Store.{Store, Version}
-use Rattle.ordered_index.specs.declared.transaction.Transaction.{Transaction}
+use Rattle.serial_history.specs.declared.transaction.Transaction.{Transaction}
 
 module _ {K V : Type 0} where
   -- an index, by its fields

@@ -1,6 +1,3 @@
-pub mod Answers
-pub mod RemainingPairs
-pub mod Serial
 pub mod State
 pub mod Invariant
 pub mod Desk

@@ -3,13 +3,13 @@ use Rattle.std.specs.Prelude.{◌≤◌, ℕ, List, Result}
 use Rattle.std.specs.List.{All}
 use Rattle.std.specs.declared.cmp.Ordering.{Ordering}
 use Rattle.versions.specs.declared.write.Write.{Write}
-use Rattle.ordered_index.specs.Serial.{Holds, Read}
+use Rattle.serial_history.specs.Serial.{Holds, Read}
 use Rattle.ordered_index.specs.State.{State, OpenSession, Commits, Reads, list_at, latest_number}
-use Rattle.ordered_index.specs.declared.commit.Accepted.{Accepted}
-use Rattle.ordered_index.specs.declared.commit.Refused.{Refused}
-use Rattle.ordered_index.specs.declared.query.Answer.{Answer}
-use Rattle.ordered_index.specs.declared.query.Query.{Query}
-use Rattle.ordered_index.specs.declared.transaction.Receipt.{Receipt}
+use Rattle.serial_history.specs.declared.commit.Accepted.{Accepted}
+use Rattle.serial_history.specs.declared.commit.Refused.{Refused}
+use Rattle.serial_history.specs.declared.query.Answer.{Answer}
+use Rattle.serial_history.specs.declared.query.Query.{Query}
+use Rattle.serial_history.specs.declared.transaction.Receipt.{Receipt}
 
 -- a receipt whose number was reached, and whose reads hold of the list of that number
 pub record IsOwnReceipt {K V : Type 0} (cmp : K → K → Ordering) (s : State K V) (receipt : Receipt K V) : Type 0 where

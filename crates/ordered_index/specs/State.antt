@@ -4,19 +4,19 @@ use Rattle.std.specs.declared.cmp.Ordering.{Ordering}
 use Rattle.std.specs.List.{All}
 use Rattle.versions.specs.Writes.{after_writes, replies_to}
 use Rattle.versions.specs.declared.write.Write.{Write}
-use Rattle.ordered_index.specs.Answers.{answer_to}
-use Rattle.ordered_index.specs.Serial.{Read, after_all, Holds, IsFirstConflict}
+use Rattle.serial_history.specs.Answers.{answer_to}
+use Rattle.serial_history.specs.Serial.{Read, after_all, Holds, IsFirstConflict}
 use Rattle.versions.specs.Sizes.{room_for}
-use Rattle.ordered_index.specs.declared.query.Query.{Query}
-use Rattle.ordered_index.specs.declared.query.Answer.{Answer}
-use Rattle.ordered_index.specs.declared.transaction.Audit.{Audit}
-use Rattle.ordered_index.specs.declared.transaction.Audit.TheVariants as audits
-use Rattle.ordered_index.specs.declared.transaction.Transaction.{Transaction}
-use Rattle.ordered_index.specs.declared.transaction.Receipt.{Receipt}
-use Rattle.ordered_index.specs.declared.commit.Accepted.{Accepted}
-use Rattle.ordered_index.specs.declared.commit.Refused.{Refused}
-use Rattle.ordered_index.specs.declared.commit.Cause.{Cause}
-use Rattle.ordered_index.specs.declared.commit.Cause.TheVariants as causes
+use Rattle.serial_history.specs.declared.query.Query.{Query}
+use Rattle.serial_history.specs.declared.query.Answer.{Answer}
+use Rattle.serial_history.specs.declared.transaction.Audit.{Audit}
+use Rattle.serial_history.specs.declared.transaction.Audit.TheVariants as audits
+use Rattle.serial_history.specs.declared.transaction.Transaction.{Transaction}
+use Rattle.serial_history.specs.declared.transaction.Receipt.{Receipt}
+use Rattle.serial_history.specs.declared.commit.Accepted.{Accepted}
+use Rattle.serial_history.specs.declared.commit.Refused.{Refused}
+use Rattle.serial_history.specs.declared.commit.Cause.{Cause}
+use Rattle.serial_history.specs.declared.commit.Cause.TheVariants as causes
 
 -- the accepted transactions; at each place the number of the session that is open there; the last number; how many slots
 -- there are and are in use; how often the epoch was raised

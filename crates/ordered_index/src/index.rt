@@ -12,20 +12,19 @@ ghost use Rattle.versions.specs.Cuts.{pairs_in};
 ghost use Rattle.versions.specs.Views.{cursor_within};
 ghost use Rattle.versions.specs.Writes.{after_writes, replies_to};
 ghost use Rattle.std.specs.List.{All};
-ghost use Rattle.ordered_index.specs.Serial.{Holds, IsFirstConflict};
+ghost use Rattle.serial_history.specs.Serial.{Holds, IsFirstConflict};
 ghost use Rattle.versions.specs.Sizes.{IsStoreSized, room_for, segments_for};
 ghost use Rattle.ordered_index.specs.State.{State, latest_number, IsSessionOf, HasNoPlace, HasNoSession, Opens, Closes, list_at, present, transaction_of, MayAccept, MayRefuse, Commits, Refuses, Reads, Audits, Reclaims};
 
-use crate::commit::{Accepted, Cause, Refused};
-use crate::ordered_view::{answer, first_conflict};
-use crate::query::{Answer, Query};
-use crate::replay::replay;
-use crate::seq::Seq;
 use crate::session::Session;
-use crate::transaction::{
-    Audit, Prepared, Receipt, Recorded, Transaction, copied_replies, prepare,
+use serial_history::ordered_view::{answer, first_conflict};
+use serial_history::replay::replay;
+use serial_history::transaction::{Prepared, copied_replies, prepare};
+use serial_history::version_view::value_in_counted;
+use serial_history::{
+    Accepted, Answer, Audit, Cause, Nearby, Query, Receipt, Recorded, Refused, Seq, Transaction,
+    Walk,
 };
-use crate::version_view::{Nearby, Walk, value_in_counted};
 use std::alloc::{AllocError, Global};
 use std::marker::Model;
 use std::ops::Bound;

@@ -4,9 +4,9 @@ ghost use Rattle.std.specs.Prelude.{◌≡◌};
 ghost use Rattle.ordered_index.specs.Receipts.{CommitsKeepReceipts, IsOwnReceipt, ReadsKeepReceipts};
 ghost use Rattle.ordered_index.specs.Conflicts.{ChangedRangeDiffers, HeldIsNoConflict, WrittenBackHolds};
 ghost use Rattle.ordered_index.specs.State.{State, OpenSession, Opens, Audits};
-ghost use Rattle.ordered_index.specs.declared.transaction.Audit.{Audit};
-ghost use Rattle.ordered_index.specs.declared.transaction.Audit.TheVariants as audits;
-ghost use Rattle.ordered_index.specs.declared.transaction.Receipt.{Receipt};
+ghost use Rattle.serial_history.specs.declared.transaction.Audit.{Audit};
+ghost use Rattle.serial_history.specs.declared.transaction.Audit.TheVariants as audits;
+ghost use Rattle.serial_history.specs.declared.transaction.Receipt.{Receipt};
 
 /// A receipt of an index's own session audits `Yes`, memory aside, whatever is committed
 /// meanwhile: it is so when the session opens, each read keeps it so, and so do a commit and every

@@ -19,32 +19,23 @@
 //! ```
 #![tactic(auto)]
 
-mod commit;
 mod desk;
 mod index;
 mod laws;
-pub mod ordered_view;
 mod play;
-mod query;
-pub mod replay;
-mod scan;
-mod seq;
 mod session;
 mod text;
-pub mod transaction;
-pub mod version_view;
 
-pub use commit::{Accepted, Cause, Refused};
 pub use desk::Desk;
 pub use index::{LocalIndex, NoPlace};
 pub use laws::{
     a_changed_range_is_a_conflict, own_receipts_audit_yes, reads_that_hold_are_no_conflict,
 };
 pub use play::{DeskCall, DeskReply, ReadSet, play_all, play_one};
-pub use query::{Answer, Near, Query};
-pub use seq::{Seq, clones_of_lists, equals_of_lists};
+pub use serial_history::{
+    Accepted, Answer, Audit, Cause, Near, Nearby, Query, Receipt, Recorded, Refused, Reply, Seq,
+    Transaction, Walk, Write, clones_of_lists, equals_of_lists, ordered_view, replay, transaction,
+    version_view,
+};
 pub use session::Session;
 pub use text::Text;
-pub use transaction::{Audit, Receipt, Recorded, Transaction};
-pub use version_view::{Nearby, Walk};
-pub use versions::{Reply, Write};

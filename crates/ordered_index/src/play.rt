@@ -5,11 +5,9 @@ ghost use Rattle.leaf_array.specs.Values.{ClonesAreSame, EqualsAreSame};
 ghost use Rattle.ordered_index.specs.Desk.{Serves, KeepsAll, RestsOn, RestsOnNone, OpenStep, CloseStep, ReadStep, AuditStep, NumberStep, LenStep, CommitStep, IsKnown, MayWantMemory, Step, Run, RunsUpTo};
 ghost use Rattle.ordered_index.specs.State.{MayAccept, latest_number};
 
-use crate::commit::{Accepted, Cause, Refused};
 use crate::desk::{Desk, Seat};
 use crate::index::{LocalIndex, NoPlace};
-use crate::query::{Answer, Query};
-use crate::transaction::{Audit, Receipt};
+use serial_history::{Accepted, Answer, Audit, Cause, Query, Receipt, Refused};
 use std::alloc::{AllocError, Global};
 use std::ops::Bound;
 use versions::Write;

@@ -3,8 +3,7 @@
 ghost use Rattle.std.specs.Prelude.{◌≡◌, ◌∷◌, ◌++◌, [], OnOk, OnErr};
 ghost use Rattle.leaf_array.specs.Values.{ClonesAreSame};
 
-use crate::query::{Answer, Query};
-use crate::transaction::Receipt;
+use serial_history::{Answer, Query, Receipt};
 use std::alloc::AllocError;
 use std::marker::Model;
 

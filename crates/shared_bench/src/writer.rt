@@ -4,7 +4,7 @@ ghost use Rattle.std.specs.Prelude.{◌≡◌, ◌<◌, ◌≤◌};
 
 use crate::readers::Span;
 use crate::task::{Index, Task, drawn, key, next};
-use ordered_index::Receipt;
+use serial_history::Receipt;
 use shared_index::{Naming, Share};
 use std::alloc::Global;
 use std::sync::Wait;

@@ -4,9 +4,9 @@ ghost use Rattle.std.specs.Prelude.{◌≡◌};
 ghost use Rattle.sdd_domain.specs.Tokens.{place_of, home_of, own_of, IsSame};
 ghost use Rattle.shared_index.specs.Invariant.{IsUnengaged};
 
-use ordered_index::{Audit, Query, Receipt};
 use sdd_domain::domain::Domain;
 use sdd_domain::local::Local;
+use serial_history::{Audit, Query, Receipt};
 use shared_index::{Naming, Share, SharedIndex, join_over};
 use shared_versions::Node;
 use std::alloc::Global;

@@ -7,9 +7,9 @@ use Rattle.sdd_base.specs.declared.sizes.Sizes.{Sizes}
 use Rattle.sdd_domain.specs.Tokens.{hand_of}
 use Rattle.sdd_domain.specs.declared.local.Local.{Local}
 use Rattle.versions.specs.Writes.{after_writes, replies_to}
-use Rattle.ordered_index.specs.Serial.{Holds, after_all}
-use Rattle.ordered_index.specs.declared.transaction.Transaction.{Transaction}
-use Rattle.ordered_index.proofs.RunLemmas.{IsSerial-push, after_all-push}
+use Rattle.serial_history.specs.Serial.{Holds, after_all}
+use Rattle.serial_history.specs.declared.transaction.Transaction.{Transaction}
+use Rattle.serial_history.proofs.RunLemmas.{IsSerial-push, after_all-push}
 use Rattle.shared_versions.specs.Drafts.{list_of}
 use Rattle.shared_versions.specs.Placing.{IsStillButMisses, Placed}
 use Rattle.shared_index.specs.Invariant.{IsUnengaged, IsHistory, IsLatest}

@@ -13,8 +13,8 @@ use denote.Ref.{NamedLft}
 use denote.Struct.Field.{shr_ref_field}
 use Rattle.std.proofs.Crossing.{Vec-send, crosses, send, sync}
 use Rattle.std.proofs.sync.ledger.Book.TheSendSync as ledgers
-use Rattle.ordered_index.specs.contracts.transaction.Transaction as transaction
-use Rattle.ordered_index.proofs.transaction.Transaction.TheSendSync as transactions
+use Rattle.serial_history.specs.contracts.transaction.Transaction as transaction
+use Rattle.serial_history.proofs.transaction.Transaction.TheSendSync as transactions
 use Rattle.sdd_domain.specs.contracts.domain.Domain as domain
 use Rattle.sdd_domain.specs.declared.holds.Holds
 use Rattle.sdd_domain.proofs.atomic_shared.AtomicShared.TheSendSync as cells

@@ -6,13 +6,13 @@ use Rattle.versions.specs.Writes.{replies_to}
 use Rattle.versions.specs.declared.write.Write.{Write}
 use Rattle.versions.specs.declared.store.local.WriteRefused.{WriteRefused}
 use Rattle.versions.specs.declared.store.local.WriteRefused.TheVariants as writes
-use Rattle.ordered_index.specs.Serial.{Read, after_all, Holds, IsFirstConflict}
-use Rattle.ordered_index.specs.declared.transaction.Audit.{Audit}
-use Rattle.ordered_index.specs.declared.transaction.Audit.TheVariants as audits
-use Rattle.ordered_index.specs.declared.transaction.Receipt.{Receipt}
-use Rattle.ordered_index.specs.declared.transaction.Transaction.{Transaction}
-use Rattle.ordered_index.specs.declared.commit.Cause.{Cause}
-use Rattle.ordered_index.specs.declared.commit.Cause.TheVariants as causes
+use Rattle.serial_history.specs.Serial.{Read, after_all, Holds, IsFirstConflict}
+use Rattle.serial_history.specs.declared.transaction.Audit.{Audit}
+use Rattle.serial_history.specs.declared.transaction.Audit.TheVariants as audits
+use Rattle.serial_history.specs.declared.transaction.Receipt.{Receipt}
+use Rattle.serial_history.specs.declared.transaction.Transaction.{Transaction}
+use Rattle.serial_history.specs.declared.commit.Cause.{Cause}
+use Rattle.serial_history.specs.declared.commit.Cause.TheVariants as causes
 use Rattle.shared_index.specs.declared.book.NewRefused.{NewRefused}
 use Rattle.shared_index.specs.declared.book.NewRefused.TheVariants as news
 

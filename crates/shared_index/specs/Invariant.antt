@@ -5,8 +5,8 @@ use Rattle.atomic_table.specs.Seated.{TableId}
 use Rattle.sdd_base.specs.declared.sizes.Sizes.{Sizes}
 use Rattle.sdd_domain.specs.Tokens.{home_of, own_of, hand_of}
 use Rattle.sdd_domain.specs.declared.local.Local.{Local}
-use Rattle.ordered_index.specs.Serial.{after_all, IsSerial}
-use Rattle.ordered_index.specs.declared.transaction.Transaction.{Transaction}
+use Rattle.serial_history.specs.Serial.{after_all, IsSerial}
+use Rattle.serial_history.specs.declared.transaction.Transaction.{Transaction}
 use Rattle.shared_versions.specs.Drafts.{list_of}
 use Rattle.shared_versions.specs.Placing.{Placed}
 

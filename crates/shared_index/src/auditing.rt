@@ -2,10 +2,10 @@
 
 ghost use Rattle.std.specs.Prelude.{◌≡◌, [], IfOk};
 ghost use Rattle.leaf_array.specs.Values.{ClonesAreSame};
-ghost use Rattle.ordered_index.specs.Serial.{after_all};
+ghost use Rattle.serial_history.specs.Serial.{after_all};
 
-use ordered_index::Transaction;
-use ordered_index::replay::replay;
+use serial_history::Transaction;
+use serial_history::replay::replay;
 use shared_versions::Version;
 use std::alloc::{AllocError, Global};
 use tree_index::TreeIndex;

@@ -4,8 +4,8 @@ use crate::table::Call::{Audit, Commit, Counts};
 use crate::table::Claim::{Between, Exact, Got, Has, Listed, Mixed};
 use crate::table::Told::{Accepted, Audited, Counted};
 use crate::table::{Call, Told, on_a_book};
-use ordered_index::Audit::{No, Unknown, Yes};
-use ordered_index::Reply::{Cleared, Inserted, Upserted};
+use serial_history::Audit::{No, Unknown, Yes};
+use serial_history::Reply::{Cleared, Inserted, Upserted};
 use std::ops::Bound::Unbounded;
 use versions::Write::{Clear, Insert, Upsert};
 

@@ -4,9 +4,9 @@ use crate::table::Call::{Audit, Commit, Counts, Reclaim};
 use crate::table::Claim::{Between, Got, Has, Listed, Mixed};
 use crate::table::Told::{Accepted, Audited, Counted, Done, Refused};
 use crate::table::{Call, Told, on_a_book, on_a_small_book};
-use ordered_index::Audit::Yes;
-use ordered_index::Cause::{Conflict, Exhausted, NoSlot};
-use ordered_index::Reply::{Inserted, Removed, Upserted};
+use serial_history::Audit::Yes;
+use serial_history::Cause::{Conflict, Exhausted, NoSlot};
+use serial_history::Reply::{Inserted, Removed, Upserted};
 use std::ops::Bound::{Excluded, Included};
 use versions::Write::{Clear, Insert, Remove, Upsert};
 

@@ -4,7 +4,9 @@ use crate::table::Call::{Commit, Counts};
 use crate::table::Claim::Got;
 use crate::table::Told::{Accepted, Counted};
 use crate::table::{Call, Told, on_a_book};
-use ordered_index::Reply::{Absent, Cleared, Duplicate, Inserted, RangeRemoved, Removed, Upserted};
+use serial_history::Reply::{
+    Absent, Cleared, Duplicate, Inserted, RangeRemoved, Removed, Upserted,
+};
 use std::ops::Bound;
 use versions::Write::{Clear, Insert, Remove, RemoveRange, Upsert};
 

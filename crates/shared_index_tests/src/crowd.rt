@@ -11,9 +11,9 @@ use crate::scene::{Item, end, member, range};
 use crate::tasks::{
     Numbers, begun, closed, listed, own_key, place_for, put, readings, taken, writings,
 };
-use ordered_index::{Answer, Audit, Query, Receipt};
 use sdd_domain::domain::Domain;
 use sdd_domain::local::Local;
+use serial_history::{Answer, Audit, Query, Receipt};
 use shared_index::{Naming, Share, join_over};
 use std::alloc::{AllocError, Global};
 use std::marker::Brand;

@@ -4,9 +4,9 @@ ghost use Rattle.shared_index_tests.specs.Scenes.{CanBegin};
 
 use crate::scene::{Item, ROOM, end, got, member, sized, two};
 use crate::tasks::{begun, closed, put, swap, taken};
-use ordered_index::{Accepted, Audit, Receipt, Reply};
 use sdd_domain::domain::Domain;
 use sdd_domain::local::Local;
+use serial_history::{Accepted, Audit, Receipt, Reply};
 use shared_index::Naming;
 use std::alloc::Global;
 use std::marker::Brand;

@@ -6,9 +6,9 @@ ghost use Rattle.shared_index_tests.specs.Scenes.{CanBegin};
 
 use crate::scene::{Item, ROOM, end, got, member};
 use crate::tasks::{Numbers, begun, closed, place_for, put, taken};
-use ordered_index::{Accepted, Answer, Audit, Query, Receipt};
 use sdd_domain::domain::Domain;
 use sdd_domain::local::Local;
+use serial_history::{Accepted, Answer, Audit, Query, Receipt};
 use shared_index::{Naming, Share, join_over};
 use std::alloc::Global;
 use std::marker::Brand;

@@ -8,11 +8,11 @@ ghost use Rattle.shared_index.specs.Invariant.{IsUnengaged};
 ghost use Rattle.shared_index_tests.specs.Scenes.{CanBegin};
 
 use crate::scene::{Item, end, member, sized};
-use ordered_index::{Accepted, Answer, Audit, Cause, Query, Receipt, Refused, Reply};
 use sdd_domain::atomic_shared::AtomicShared;
 use sdd_domain::domain::Domain;
 use sdd_domain::local::Local;
 use sdd_domain::refusal::RegisterRefused;
+use serial_history::{Accepted, Answer, Audit, Cause, Query, Receipt, Refused, Reply};
 use shared_index::{Book, Naming, NewRefused, Share};
 use std::alloc::{AllocError, Global};
 use std::marker::Brand;

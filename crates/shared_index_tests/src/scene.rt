@@ -6,11 +6,11 @@ ghost use Rattle.sdd_domain.specs.Tokens.{place_of, cell_count};
 ghost use Rattle.shared_index.specs.Invariant.{IsUnengaged};
 ghost use Rattle.shared_index_tests.specs.Scenes.{CanBegin};
 
-use ordered_index::{Accepted, Answer, Audit, Query, Receipt, Refused, Seq};
 use sdd_base::sizes::Sizes;
 use sdd_domain::atomic_shared::AtomicShared;
 use sdd_domain::domain::Domain;
 use sdd_domain::local::Local;
+use serial_history::{Accepted, Answer, Audit, Query, Receipt, Refused, Seq};
 use shared_index::{Book, Naming, Share};
 use shared_versions::Node;
 use std::alloc::{AllocError, Global};

@@ -4,11 +4,11 @@ ghost use Rattle.std.specs.Prelude.{◌≤◌};
 ghost use Rattle.shared_index_tests.specs.Scenes.{CanBegin};
 
 use crate::scene::{Item, ROOM, Scene, end, member, sized};
-use ordered_index::{
-    Accepted, Answer, Audit, Cause, Near, Query, Receipt, Recorded, Refused, Reply, Seq,
-};
 use sdd_domain::domain::Domain;
 use sdd_domain::local::Local;
+use serial_history::{
+    Accepted, Answer, Audit, Cause, Near, Query, Receipt, Recorded, Refused, Reply, Seq,
+};
 use shared_index::Naming;
 use std::alloc::{AllocError, Global};
 use std::marker::Brand;

@@ -5,10 +5,10 @@ ghost use Rattle.sdd_domain.specs.Tokens.{place_of, home_of, own_of, IsSame};
 ghost use Rattle.shared_index_tests.specs.Scenes.{CanBegin};
 
 use crate::scene::{Item, ROOM, one, two};
-use ordered_index::{Answer, Audit, Cause, Query, Receipt, Refused};
 use sdd_base::sizes::Sizes;
 use sdd_domain::domain::Domain;
 use sdd_domain::local::Local;
+use serial_history::{Answer, Audit, Cause, Query, Receipt, Refused};
 use shared_index::{Naming, Share, SharedIndex};
 use std::alloc::Global;
 use std::ops::Bound;

@@ -9,9 +9,9 @@ use crate::scene::{Item, ROOM, end, got, member};
 use crate::tasks::{
     Numbers, begun, closed, own_key, place_for, put, readings, swap, taken, writings,
 };
-use ordered_index::Audit;
 use sdd_domain::domain::Domain;
 use sdd_domain::local::Local;
+use serial_history::Audit;
 use shared_index::{Naming, Share, join_over};
 use std::alloc::Global;
 use std::marker::Brand;

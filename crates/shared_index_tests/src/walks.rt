@@ -12,9 +12,9 @@ use crate::scene::{Item, ROOM, end, member, range};
 use crate::tasks::{
     Numbers, all, begun, closed, listed, place_for, put, taken, write, write_often,
 };
-use ordered_index::{Answer, Audit, Receipt, Seq};
 use sdd_domain::domain::Domain;
 use sdd_domain::local::Local;
+use serial_history::{Answer, Audit, Receipt, Seq};
 use shared_index::{Naming, Share, join_over};
 use shared_sessions::SharedWalk;
 use std::alloc::Global;

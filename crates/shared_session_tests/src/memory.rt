@@ -3,7 +3,7 @@
 ghost use Rattle.std.specs.Prelude.{◌≡◌, ◌<◌};
 
 use crate::place::{Twos, cell, end, member, small_place, version};
-use ordered_index::{Answer, Query};
+use serial_history::{Answer, Query};
 use std::alloc::{AllocError, Global};
 use std::ops::Bound;
 use std::process::Abort;

@@ -1,7 +1,7 @@
 //! Sessions beside versions that are published meanwhile.
 
 use crate::place::{Twos, cell, end, member, place, publish, reclaim, version};
-use ordered_index::{Answer, Query};
+use serial_history::{Answer, Query};
 use std::ops::Bound;
 
 const ROOM: &str = "room for an answer";

@@ -3,7 +3,7 @@
 ghost use Rattle.std.specs.Prelude.{◌<◌, []};
 
 use crate::place::{Twos, cell, end, member, place, placed, version};
-use ordered_index::{Answer, Near, Query, Seq};
+use serial_history::{Answer, Near, Query, Seq};
 use shared_versions::{Node, Version};
 use std::alloc::Global;
 use std::ops::Bound;

@@ -1,6 +1,6 @@
 -- what is seen of an open session
 use Rattle.std.specs.Prelude.{ℕ, List, [], Option, None, Some}
-use Rattle.ordered_index.specs.declared.transaction.Receipt.{Receipt}
+use Rattle.serial_history.specs.declared.transaction.Receipt.{Receipt}
 use Rattle.shared_versions.specs.Readers.{Reading, blocks_in}
 use Rattle.shared_versions.specs.Sight.{Sight}
 use Rattle.versions.specs.Cuts.{pairs_in}

@@ -1,7 +1,7 @@
 //! Sessions of a list in a place that threads share: each reads the one version that it loaded, and keeps a receipt.
 //!
 //! A [`SharedSession`] is a guard with the version that was loaded under it (`shared_versions`), and a receipt of its recorded
-//! reads (`ordered_index`). It is opened by one load of the root; from then until it is closed nothing is loaded again, and
+//! reads (`serial_history`). It is opened by one load of the root; from then until it is closed nothing is loaded again, and
 //! no read asks whether the version is still there: what the guard loaded stays, whatever other threads publish meanwhile.
 //!
 //! ```text

@@ -11,12 +11,12 @@ ghost use Rattle.versions.specs.Cuts.{pairs_in};
 ghost use Rattle.versions.specs.Nearby.{as_proximity};
 ghost use Rattle.versions.specs.Sizes.{segments_for};
 ghost use Rattle.versions.specs.Views.{cursor_within};
-ghost use Rattle.ordered_index.specs.Answers.{answer_to};
+ghost use Rattle.serial_history.specs.Answers.{answer_to};
 
 use crate::session::SharedSession;
-use ordered_index::ordered_view::answer;
-use ordered_index::version_view::value_in_counted;
-use ordered_index::{Answer, Query};
+use serial_history::ordered_view::answer;
+use serial_history::version_view::value_in_counted;
+use serial_history::{Answer, Query};
 use shared_versions::Version;
 use std::alloc::AllocError;
 use std::ops::Bound;

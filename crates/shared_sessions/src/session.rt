@@ -8,11 +8,11 @@ ghost use Rattle.shared_sessions.specs.Sessions.{number_in, opened_on};
 ghost use Rattle.shared_sessions.specs.Openings.{RefusedFor};
 
 use crate::opening::OpenRefused;
-use ordered_index::{Receipt, Seq};
 use sdd_domain::domain::Domain;
 use sdd_domain::guard::Guard;
 use sdd_domain::local::Local;
 use sdd_domain::pointer::Loaded;
+use serial_history::{Receipt, Seq};
 use shared_versions::{Node, Session};
 use std::alloc::Global;
 use std::marker::Model;

@@ -3,7 +3,7 @@ use Rattle.std.specs.List.{slice_get}
 use Rattle.ordered_index.specs.Invariant.{index_state}
 use Rattle.ordered_index.specs.State.{State}
 use Rattle.versions.specs.Store.{Store}
-use Rattle.ordered_index.proofs.RunLemmas.{kept_close, session_version, sets_shows}
+use Rattle.ordered_index.proofs.IndexLemmas.{kept_close, session_version, sets_shows}
 use Rattle.ordered_index.proofs.index.LocalIndex.close_session.Goals as goal
 
 pub close-requires : goal.close-requires

@@ -1,8 +1,8 @@
 use Rattle.std.proofs.Common.{List, IfNone, IfSome, ap, ◌∙◌, subst}
 use Rattle.std.specs.List.{All}
-use Rattle.ordered_index.specs.Serial.{Holds, IsFirstConflict}
+use Rattle.serial_history.specs.Serial.{Holds, IsFirstConflict}
 use Rattle.ordered_index.specs.State.{State, list_at}
-use Rattle.ordered_index.proofs.RunLemmas.{kept_list}
+use Rattle.ordered_index.proofs.IndexLemmas.{kept_list}
 use Rattle.ordered_index.proofs.index.LocalIndex.conflict_at.Goals as goal
 
 pub returns-then-number-receipt-clause-some : goal.returns-then-number-receipt-clause-some

@@ -3,8 +3,9 @@ use Rattle.versions.specs.Sizes.{room_for}
 use Rattle.versions.specs.Writes.{after_writes, replies_to}
 use Rattle.ordered_index.specs.Invariant.{index_state}
 use Rattle.ordered_index.specs.State.{MayAccept, State, present}
-use Rattle.ordered_index.specs.declared.transaction.Transaction.{Transaction}
-use Rattle.ordered_index.proofs.RunLemmas.{kept_append, length-replies, present_number, present_pairs}
+use Rattle.serial_history.specs.declared.transaction.Transaction.{Transaction}
+use Rattle.serial_history.proofs.RunLemmas.{length-replies}
+use Rattle.ordered_index.proofs.IndexLemmas.{kept_append, present_number, present_pairs}
 use Rattle.ordered_index.proofs.index.LocalIndex.install.Goals as goal
 
 pub returns-in_default-clause-refused : goal.returns-in_default-clause-refused

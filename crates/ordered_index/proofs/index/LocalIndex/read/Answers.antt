@@ -1,5 +1,5 @@
 use Rattle.std.proofs.Common.{ap, ◌∙◌}
-use Rattle.ordered_index.specs.Answers.{answer_to}
+use Rattle.serial_history.specs.Answers.{answer_to}
 use Rattle.ordered_index.proofs.index.LocalIndex.read.Goals as goal
 
 pub returns-clause-read : goal.returns-clause-read

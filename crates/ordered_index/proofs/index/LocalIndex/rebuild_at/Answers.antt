@@ -1,8 +1,8 @@
 use Rattle.std.proofs.Common.{◌≡◌, ◌-◌, ◌∙◌, ap, subst, IfOk, take, drop}
 use Rattle.versions.specs.Cuts.{pairs_in}
-use Rattle.ordered_index.specs.Serial.{after_all}
+use Rattle.serial_history.specs.Serial.{after_all}
 use Rattle.ordered_index.specs.State.{State, list_at}
-use Rattle.ordered_index.proofs.ReplayLemmas.{made_of}
+use Rattle.ordered_index.proofs.IndexLemmas.{made_of}
 use Rattle.ordered_index.proofs.index.LocalIndex.rebuild_at.Goals as goal
 
 pub returns-in-Some : goal.returns-in-Some

@@ -5,7 +5,7 @@ use Rattle.versions.specs.Sizes.{room_for}
 use Rattle.ordered_index.specs.State.{State, present}
 use Rattle.versions.specs.Store.{Store, Version}
 use Rattle.versions.proofs.OptionLemmas.{all_none}
-use Rattle.ordered_index.proofs.RunLemmas.{kept_same, present_pairs}
+use Rattle.ordered_index.proofs.IndexLemmas.{kept_same, present_pairs}
 use Rattle.ordered_index.proofs.index.LocalIndex.reclaim.Goals as goal
 
 pub invariant_of-self : goal.invariant_of-self

@@ -1,8 +1,8 @@
 use Rattle.std.proofs.Common.{List, sym, ap, ◌∙◌, subst}
 use Rattle.std.specs.List.{All}
-use Rattle.ordered_index.specs.Serial.{Holds, IsFirstConflict}
+use Rattle.serial_history.specs.Serial.{Holds, IsFirstConflict}
 use Rattle.ordered_index.specs.State.{State, present}
-use Rattle.ordered_index.proofs.RunLemmas.{present_pairs}
+use Rattle.ordered_index.proofs.IndexLemmas.{present_pairs}
 use Rattle.ordered_index.proofs.index.LocalIndex.validate.Goals as goal
 
 pub returns-in-Some-clause-some : goal.returns-in-Some-clause-some

@@ -1,8 +1,8 @@
 use Rattle.std.proofs.Common.{[], ◌∷◌, ◌++◌, length, sym, ap, ◌∙◌, subst, arith}
 use Rattle.std.specs.List.{All}
-use Rattle.ordered_index.specs.Serial.{Holds}
-use Rattle.ordered_index.specs.declared.transaction.Transaction.{Transaction}
-use Rattle.ordered_index.proofs.RunLemmas.{length-replies}
+use Rattle.serial_history.specs.Serial.{Holds}
+use Rattle.serial_history.specs.declared.transaction.Transaction.{Transaction}
+use Rattle.serial_history.proofs.RunLemmas.{length-replies}
 use Rattle.shared_versions.specs.Drafts.{list_of}
 use Rattle.versions.specs.Writes.{after_writes, replies_to}
 use Rattle.shared_index.specs.Books.{BookState, present_list}

@@ -1,5 +1,0 @@
-use Rattle.ordered_index.proofs.ListLemmas.{zipped-same}
-use Rattle.ordered_index.proofs.seq.clones_of_lists.Goals as goal
-
-pub returns : goal.returns
-returns g c = zipped-same g.T.Clone.is_clone c.requires

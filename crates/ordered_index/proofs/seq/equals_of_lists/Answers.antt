@@ -1,5 +1,0 @@
-use Rattle.ordered_index.proofs.ListLemmas.{pointwise-same}
-use Rattle.ordered_index.proofs.seq.equals_of_lists.Goals as goal
-
-pub returns : goal.returns
-returns g c = pointwise-same g.T.PartialEq.eq c.requires

@@ -1,0 +1,5 @@
+pub mod RunLemmas
+pub mod ListLemmas
+pub mod RemainingPairsLemmas
+pub mod NearbyLemmas
+pub mod ReplayLemmas
