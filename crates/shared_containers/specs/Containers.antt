@@ -3,7 +3,7 @@ use Rattle.std.specs.Prelude.{◌≡◌, ◌<◌}
 use Rattle.atomic_table.specs.Seated.{TableId}
 use Rattle.sdd_domain.specs.Cells.{cell_number}
 use Rattle.sdd_domain.specs.Sharing.{kept_in, IsOwnerOf}
-use Rattle.sdd_domain.specs.Tokens.{cell_count, own_of, IsSameButMisses}
+use Rattle.sdd_domain.specs.Tokens.{cell_count, own_of, nest_in, IsSameButMisses}
 use Rattle.sdd_domain.specs.declared.domain.Domain.{Domain}
 use Rattle.sdd_domain.specs.declared.local.Local.{Local}
 use Rattle.shared_containers.specs.declared.links.Links.{Links}
@@ -26,9 +26,9 @@ IsStackOf s d = cell_number s.first < cell_count d
 abbrev pub IsQueueOf : {T : Type 0} → Queue → Domain T → Type 0
 IsQueueOf q d = (cell_number q.first < cell_count d) × (cell_number q.last < cell_count d)
 
--- the same participant of the same place, with as many guards open and the same owners in hand; its misses may differ
+-- The same participant of the same place, with as many guards open and the same owners in hand; its misses may differ. If a guard is open, it is still of the nest that the participant is in.
 abbrev pub IsAsBefore : {T : Type 0} → Local T → Local T → Type 0
-IsAsBefore old new = IsSameButMisses old new × ((own_of new).nesting ≡ (own_of old).nesting)
+IsAsBefore old new = IsSameButMisses old new × ((own_of new).nesting ≡ (own_of old).nesting) × (0 < (own_of old).nesting → nest_in new ≡ nest_in old)
 
 -- what was popped is an owner in this place
 abbrev pub IsFrom : {T : Type 0} → Popped T → TableId → Type 0

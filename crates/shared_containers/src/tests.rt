@@ -90,7 +90,7 @@ struct Scene<'a> {
 /// Pushes a value: it is back where no slot is free.
 fn push(scene: &Scene, local: &mut Local<u64>, value: u64) -> Option<u64>
     requires home { (home_of local.old ≡ place_of scene.now.domain.now) × (hand_of local.old ≡ []) }
-    requires closed { (own_of local.old).nesting ≡ 0 }
+    requires shallow { (own_of local.old).nesting < 4294967295 }
     ensures same { IsAsBefore local.old local.new }
 {
     let Scene {
@@ -118,7 +118,7 @@ fn push(scene: &Scene, local: &mut Local<u64>, value: u64) -> Option<u64>
 /// Pops a value.
 fn pop(scene: &Scene, local: &mut Local<u64>) -> Option<u64>
     requires home { (home_of local.old ≡ place_of scene.now.domain.now) × (hand_of local.old ≡ []) }
-    requires closed { (own_of local.old).nesting ≡ 0 }
+    requires shallow { (own_of local.old).nesting < 4294967295 }
     ensures same { IsAsBefore local.old local.new }
 {
     let Scene {
@@ -337,6 +337,54 @@ fn is_free(domain: &Domain<u64>, local: &mut Local<u64>) -> bool
     put_back(first, domain, local);
     put_back(second, domain, local);
     both
+}
+
+/// What is read of the first item of a stack of 1, through one pointer: before and behind a push of 2 and two pops, all of
+/// them under the guard that the pointer was loaded under. And what was popped.
+fn reads_on(scene: &Scene, local: &mut Local<u64>) -> ([Option<u64>; 2], [Option<u64>; 2])
+    requires home { (home_of local.old ≡ place_of scene.now.domain.now) × (hand_of local.old ≡ []) }
+    requires closed { (own_of local.old).nesting ≡ 0 }
+    ensures same { IsAsBefore local.old local.new }
+{
+    let Scene { domain, stack, .. } = *scene;
+    let _ = push(scene, local, 1);
+    let Ok(guard) = Guard::new(domain, local) else {
+        unreachable!();
+    };
+    let first = stack.peek(domain, &guard, local);
+    let before = first.as_ref().copied();
+    let _ = push(scene, local, 2);
+    let popped = [pop(scene, local), pop(scene, local)];
+    let behind = first.as_ref().copied();
+    guard.close(domain, local);
+    ([before, behind], popped)
+}
+
+#[test]
+fn under_an_open_guard_others_are_pushed_and_popped_and_what_was_popped_is_read(
+    rt: HostRuntime,
+) -> Result<(), Fail> {
+    let domain = Domain::new(rt.alloc(), sized(1, 2, 5))?;
+    let mut local = member(&rt, &domain);
+    let Ok(links) = Links::new(rt.alloc(), &domain, &mut local) else {
+        panic!(&rt; "memory is ample, and so are cells");
+    };
+    let (stack, queue) = both(&rt, &domain, &mut local);
+    let scene = Scene {
+        domain: &domain,
+        links: &links,
+        stack: &stack,
+        queue: &queue,
+        is_queue: false,
+    };
+    let found = reads_on(&scene, &mut local);
+    stack.end(&domain, &links, &mut local);
+    queue.end(&domain, &links, &mut local);
+    links.end(&domain, &mut local);
+    local.end(&domain);
+    end(&rt, domain);
+    assert!(rt; found == ([Some(1), Some(1)], [Some(2), Some(1)]));
+    Ok(())
 }
 
 #[test]
