@@ -1,15 +1,20 @@
 //! Owners on their way into a cell and out of it.
 
-ghost use Rattle.std.specs.Prelude.{◌≡◌, ◌<◌, IfSome};
+ghost use Rattle.std.specs.Prelude.{◌≡◌, ◌<◌, [], IfOk, IfErr, IfSome};
 ghost use Rattle.sdd_domain.specs.Cells.{cell_number};
-ghost use Rattle.sdd_domain.specs.Sharing.{kept_in};
-ghost use Rattle.sdd_domain.specs.Tokens.{place_of, home_of, own_of, cell_count, IsInNest};
+ghost use Rattle.sdd_domain.specs.Sharing.{kept_in, IsOwnerOf};
+ghost use Rattle.sdd_domain.specs.Tokens.{place_of, home_of, hand_of, cell_count};
+ghost use Rattle.shared_containers.specs.Containers.{IsAsBefore, IsOpenIn, IsStill};
+ghost use Rattle.shared_containers.specs.Outcomes.{IsRefused};
 
+use crate::outcome::PushRefused;
 use sdd_base::tag::Tag;
 use sdd_domain::atomic_shared::AtomicShared;
 use sdd_domain::domain::Domain;
+use sdd_domain::guard::Guard;
 use sdd_domain::holds::Holds;
 use sdd_domain::local::Local;
+use sdd_domain::pointer::Ptr;
 use sdd_domain::shared::Shared;
 
 /// How often a call tries again: each time others were faster.
@@ -19,7 +24,7 @@ pub(crate) const TRIES: u64 = u64::MAX;
 pub(crate) fn let_go<T: Holds>(owner: Option<Shared<T>>, domain: &Domain<T>, local: &mut Local<T>)
     requires home { home_of local.old ≡ place_of domain.now }
     requires mine { IfSome owner (λ s. kept_in s ≡ (place_of domain.now).0) }
-    ensures same { IsInNest local.old local.new × ((own_of local.new).nesting ≡ (own_of local.old).nesting) }
+    ensures same { IsStill local.old local.new }
 {
     if let Some(owner) = owner {
         owner.release(domain, local);
@@ -36,8 +41,50 @@ pub(crate) fn follow<T: Holds>(
     requires home { home_of local.old ≡ place_of domain.now }
     requires inside { cell_number link.now < cell_count domain.now }
     requires mine { IfSome next (λ s. kept_in s ≡ (place_of domain.now).0) }
-    ensures same { IsInNest local.old local.new × ((own_of local.new).nesting ≡ (own_of local.old).nesting) }
+    ensures same { IsStill local.old local.new }
 {
     let (old, _) = link.swap((next, Tag::None), domain, local);
     let_go(old, domain, local);
+}
+
+/// Has a cell own an item in the place of what was found in it, in one step. Else the item's owner is back.
+pub(crate) fn exchange<T: Holds>(
+    cell: &AtomicShared,
+    found: Ptr<T>,
+    owner: Shared<T>,
+    domain: &Domain<T>,
+    guard: &Guard,
+    local: &mut Local<T>,
+) -> Option<Shared<T>>
+    requires open { IsOpenIn guard.now local.old domain.now }
+    requires inside { cell_number cell.now < cell_count domain.now }
+    requires mine { kept_in owner ≡ (place_of domain.now).0 }
+    ensures back { IfSome result (λ s. (kept_in s ≡ (place_of domain.now).0) × ((x : T) → IsOwnerOf owner x → IsOwnerOf s x)) }
+    ensures same { IsStill local.old local.new }
+{
+    match cell.compare_exchange(found, (Some(owner), Tag::None), domain, guard, local) {
+        Ok((old, _)) => {
+            let_go(old, domain, local);
+            None
+        }
+        Err((back, _)) => back,
+    }
+}
+
+/// Places a value that a container is to take in.
+pub(crate) fn place<T: Holds>(
+    value: T,
+    domain: &Domain<T>,
+    local: &mut Local<T>,
+) -> Result<Shared<T>, PushRefused<T>>
+    requires home { (home_of local.old ≡ place_of domain.now) × (hand_of local.old ≡ []) }
+    requires holds { T.holds value ≡ [] }
+    ensures owner { IfOk result (λ s. (kept_in s ≡ (place_of domain.now).0) × IsOwnerOf s value) }
+    ensures refused { IfErr result (λ r. IsRefused r value (place_of domain.now).0 ⊥ ⊥) }
+    ensures same { IsAsBefore local.old local.new }
+{
+    match Shared::new(value, domain, local) {
+        Ok(owner) => Ok(owner),
+        Err(value) => Err(PushRefused::NoSlot(value)),
+    }
 }

@@ -1,14 +1,16 @@
 //! Queues without locks: a list that is appended to at its end, from which items are taken in front once they are marked.
 
-ghost use Rattle.std.specs.Prelude.{◌≡◌, ◌<◌, [], IfErr, IfSome};
+ghost use Rattle.std.specs.Prelude.{◌≡◌, ◌<◌, true, false, [], OnOk, IfOk, IfErr, IfSome};
 ghost use Rattle.sdd_domain.specs.Cells.{cell_number};
 ghost use Rattle.sdd_domain.specs.Sharing.{kept_in, IsOwnerOf};
-ghost use Rattle.sdd_domain.specs.Tokens.{place_of, home_of, hand_of, own_of, cell_count, nest_of, nest_in, IsInNest};
-ghost use Rattle.shared_containers.specs.Containers.{AreLinksOf, IsQueueOf, IsAsBefore, IsFrom, IsRefused};
+ghost use Rattle.sdd_domain.specs.Tokens.{place_of, home_of, cell_count};
+ghost use Rattle.shared_containers.specs.Containers.{AreLinksOf, IsQueueOf, IsAsBefore, IsReady, IsOpenIn, IsStill};
+ghost use Rattle.shared_containers.specs.Outcomes.{IsPushed, IsRefused, Said};
 
 use crate::links::Links;
-use crate::moves::{TRIES, follow, let_go};
-use crate::outcome::{Popped, PushRefused};
+use crate::moves::{TRIES, exchange, follow, place};
+use crate::outcome::{PushRefused, Pushed};
+use crate::stack::Stack;
 use sdd_base::tag::Tag;
 use sdd_domain::atomic_shared::AtomicShared;
 use sdd_domain::domain::Domain;
@@ -19,11 +21,10 @@ use sdd_domain::pointer::Ptr;
 use sdd_domain::shared::Shared;
 
 /// A queue of items of a place, which threads push and pop by `&`. It must be spent by `end`.
-///
 /// The tag of an item's link tells whether the item was popped. Whoever sets it pops the item, so each is popped at most
 /// once; and behind an item that was popped nobody appends, since that would exchange a link without a tag.
 pub struct Queue {
-    first: AtomicShared,
+    front: Stack,
     /// An item near the end, where appending begins; it may have been popped.
     last: AtomicShared,
 }
@@ -35,26 +36,84 @@ impl Queue {
         ensures queue { IfSome result (λ q. IsQueueOf q domain.now) }
         ensures same { IsAsBefore local.old local.new }
     {
-        let first = AtomicShared::null(domain, local)?;
-        match AtomicShared::null(domain, local) {
-            Some(last) => Some(Queue { first, last }),
-            None => {
-                first.retire(domain, local);
-                None
-            }
-        }
+        let last = AtomicShared::null(domain, local)?;
+        let Some(first) = AtomicShared::null(domain, local) else {
+            last.retire(domain, local);
+            return None;
+        };
+        let front = Stack {
+            first,
+            is_front: true,
+        };
+        Some(Queue { front, last })
     }
 
-    /// Whether it has no item, as it is found in one step.
+    /// Whether it has no item, as it is found in one step. One that was popped may still be found.
     pub fn is_empty<T: Holds>(&self, domain: &Domain<T>) -> bool
         requires { IsQueueOf self.now domain.now }
     {
-        self.first.is_null(domain)
+        self.front.is_empty(domain)
     }
 
-    /// Puts a value behind all others. Where no slot is free it is back, which is a miss. It tries again where others push or
-    /// pop meanwhile; after `2^64` times it gives the owner of the value. Conditions: the value holds no owners, and none is
-    /// in the participant's hand.
+    /// The first item, or nothing. One that was popped it takes out first, and tries again.
+    pub fn peek<'g, T: Holds>(
+        &self,
+        domain: &Domain<T>,
+        links: &Links,
+        guard: &'g Guard,
+        local: &mut Local<T>,
+    ) -> Ptr<'g, T>
+        requires open { IsOpenIn guard.now local.old domain.now }
+        requires queue { IsQueueOf self.now domain.now × AreLinksOf links.now domain.now }
+        ensures same { IsStill local.old local.new }
+    {
+        self.front.first_item(domain, links, guard, local)
+    }
+
+    /// Calls `f` once with the first item, or none, and gives what it answers. A guard is open meanwhile.
+    pub fn peek_with<T: Holds, R, F: FnOnce(Option<&T>) -> R>(
+        &self,
+        f: F,
+        domain: &Domain<T>,
+        links: &Links,
+        local: &mut Local<T>,
+    ) -> R
+        requires ready { IsReady local.old domain.now }
+        requires queue { IsQueueOf self.now domain.now × AreLinksOf links.now domain.now }
+        requires callable { F.IsAlwaysCallable f }
+        ensures asked { Said (F.post f) result }
+        ensures same { IsAsBefore local.old local.new }
+    {
+        self.front.peek_with(f, domain, links, local)
+    }
+
+    /// Calls `f` with each item once, from the first on, under one guard. It ends where the item that it is at is popped.
+    pub fn for_each<T: Holds, F: FnMut(&T)>(
+        &self,
+        f: F,
+        domain: &Domain<T>,
+        links: &Links,
+        local: &mut Local<T>,
+    )
+        requires ready { IsReady local.old domain.now }
+        requires queue { IsQueueOf self.now domain.now × AreLinksOf links.now domain.now }
+        requires callable { F.IsAlwaysCallable f }
+        ensures same { IsAsBefore local.old local.new }
+    {
+        self.front.for_each(f, domain, links, local);
+    }
+
+    /// How many items `for_each` finds.
+    pub fn len<T: Holds>(&self, domain: &Domain<T>, links: &Links, local: &mut Local<T>) -> usize
+        requires ready { IsReady local.old domain.now }
+        requires queue { IsQueueOf self.now domain.now × AreLinksOf links.now domain.now }
+        ensures same { IsAsBefore local.old local.new }
+    {
+        self.front.len(domain, links, local)
+    }
+
+    /// Puts a value behind all others. Where no slot is free it is back, a miss. It tries again where others push or pop; after
+    /// `2^64` times the value's owner is back. Conditions: the value holds no owners, and none is in the participant's hand.
     pub fn push<T: Holds>(
         &self,
         value: T,
@@ -62,309 +121,228 @@ impl Queue {
         links: &Links,
         local: &mut Local<T>,
     ) -> Result<(), PushRefused<T>>
-        requires home { (home_of local.old ≡ place_of domain.now) × (hand_of local.old ≡ []) }
-        requires shallow { (own_of local.old).nesting < 4294967295 }
+        requires ready { IsReady local.old domain.now }
         requires queue { IsQueueOf self.now domain.now × AreLinksOf links.now domain.now }
         requires holds { T.holds value ≡ [] }
-        ensures refused { IfErr result (λ r. IsRefused r value (place_of domain.now).0) }
+        ensures refused { IfErr result (λ r. IsRefused r value (place_of domain.now).0 ⊥ ⊥) }
         ensures same { IsAsBefore local.old local.new }
     {
-        let mut owner = match Shared::new(value, domain, local) {
-            Ok(owner) => owner,
-            Err(value) => return Err(PushRefused::NoSlot(value)),
-        };
+        let owner = place(value, domain, local)?;
+        self.insert(owner, &|_| true, domain, links, local)
+    }
+
+    /// The same where `f` answers true of the last item, or of none: it is asked each time that the value might be appended, and
+    /// the value stands behind just the item that it was asked of last. Where it answers false the value's owner is back.
+    pub fn push_if<T: Holds, F: Fn(Option<&T>) -> bool>(
+        &self,
+        value: T,
+        f: F,
+        domain: &Domain<T>,
+        links: &Links,
+        local: &mut Local<T>,
+    ) -> Result<(), PushRefused<T>>
+    where
+        F: Drop,
+        requires ready { IsReady local.old domain.now }
+        requires queue { IsQueueOf self.now domain.now × AreLinksOf links.now domain.now }
+        requires holds { T.holds value ≡ [] }
+        requires callable { F.IsAlwaysCallable f }
+        ensures asked { OnOk result (Said (F.post f) true) }
+        ensures refused { IfErr result (λ r. IsRefused r value (place_of domain.now).0 (Said (F.post f) false) ⊥) }
+        ensures same { IsAsBefore local.old local.new }
+    {
+        let owner = place(value, domain, local)?;
+        self.insert(owner, &f, domain, links, local)
+    }
+
+    /// Appends an owner's item where `f` answers true.
+    fn insert<T: Holds, F: Fn(Option<&T>) -> bool>(
+        &self,
+        owner: Shared<T>,
+        f: &F,
+        domain: &Domain<T>,
+        links: &Links,
+        local: &mut Local<T>,
+    ) -> Result<(), PushRefused<T>>
+        requires ready { IsReady local.old domain.now }
+        requires mine { kept_in owner ≡ (place_of domain.now).0 }
+        requires queue { IsQueueOf self.now domain.now × AreLinksOf links.now domain.now }
+        requires callable { F.IsAlwaysCallable f.now }
+        ensures asked { OnOk result (Said (F.post f.now) true) }
+        ensures refused { (x : T) → IsOwnerOf owner x → IfErr result (λ r. IsRefused r x (place_of domain.now).0 (Said (F.post f.now) false) ⊥) }
+        ensures same { IsAsBefore local.old local.new }
+    {
+        let mut owner = owner;
         // The link still has the tag that the slot's item before it was popped by.
-        if let Some(link) = links.of(owner.slot()) {
+        if let Some(link) = links.row.at(owner.slot()) {
             follow(link, None, domain, local);
         }
         for _i in 0..TRIES {
-            match self.try_push(owner, domain, links, local) {
-                Some(back) => owner = back,
-                None => return Ok(()),
+            match self.try_push(owner, f, domain, links, local) {
+                Pushed::Done => return Ok(()),
+                Pushed::Unwanted(back) => return Err(PushRefused::Condition(back)),
+                Pushed::Slow(back) => owner = back,
             }
         }
         Err(PushRefused::Busy(owner))
     }
 
-    /// One try: the owner is back where others were faster.
-    fn try_push<T: Holds>(
+    /// One try.
+    fn try_push<T: Holds, F: Fn(Option<&T>) -> bool>(
         &self,
         owner: Shared<T>,
+        f: &F,
         domain: &Domain<T>,
         links: &Links,
         local: &mut Local<T>,
-    ) -> Option<Shared<T>>
-        requires home { (home_of local.old ≡ place_of domain.now) × (hand_of local.old ≡ []) }
+    ) -> Pushed<T>
+        requires ready { IsReady local.old domain.now }
         requires mine { kept_in owner ≡ (place_of domain.now).0 }
-        requires shallow { (own_of local.old).nesting < 4294967295 }
         requires queue { IsQueueOf self.now domain.now × AreLinksOf links.now domain.now }
-        ensures back { IfSome result (λ s. (kept_in s ≡ (place_of domain.now).0) × ((x : T) → IsOwnerOf owner x → IsOwnerOf s x)) }
+        requires callable { F.IsAlwaysCallable f.now }
+        ensures pushed { IsPushed result owner (place_of domain.now).0 (Said (F.post f.now)) }
         ensures same { IsAsBefore local.old local.new }
     {
         let Ok(guard) = Guard::new(domain, local) else {
             unreachable!();
         };
-        let back = self.push_under(owner, domain, links, &guard, local);
+        let pushed = self.push_under(owner, f, domain, links, &guard, local);
         guard.close(domain, local);
-        back
+        pushed
     }
 
-    /// The same under a guard: behind the item near the end first, and else behind the first one, or in front.
-    fn push_under<T: Holds>(
+    /// The same under a guard: behind the item near the end, and else behind the first one, or in front.
+    fn push_under<T: Holds, F: Fn(Option<&T>) -> bool>(
         &self,
         owner: Shared<T>,
+        f: &F,
         domain: &Domain<T>,
         links: &Links,
         guard: &Guard,
         local: &mut Local<T>,
-    ) -> Option<Shared<T>>
-        requires home { home_of local.old ≡ place_of domain.now }
-        requires nest { (nest_of guard.now ≡ nest_in local.old) × (0 < (own_of local.old).nesting) }
+    ) -> Pushed<T>
+        requires open { IsOpenIn guard.now local.old domain.now }
         requires mine { kept_in owner ≡ (place_of domain.now).0 }
         requires queue { IsQueueOf self.now domain.now × AreLinksOf links.now domain.now }
-        ensures back { IfSome result (λ s. (kept_in s ≡ (place_of domain.now).0) × ((x : T) → IsOwnerOf owner x → IsOwnerOf s x)) }
-        ensures same { IsInNest local.old local.new × ((own_of local.new).nesting ≡ (own_of local.old).nesting) }
+        requires callable { F.IsAlwaysCallable f.now }
+        ensures pushed { IsPushed result owner (place_of domain.now).0 (Said (F.post f.now)) }
+        ensures same { IsStill local.old local.new }
     {
         let near = self.last.load(domain, guard, local);
-        let owner = self.append(near, owner, domain, links, guard, local)?;
-        let first = self.first.load(domain, guard, local);
-        if first.is_null() {
-            return exchange(&self.first, first, owner, domain, guard, local);
-        }
-        let back = self.append(first, owner, domain, links, guard, local)?;
-        // Behind an item that was popped nothing is appended: others needn't wait for whoever popped it.
-        if let Some(slot) = first.slot() {
-            if let Some(link) = links.of(slot) {
-                take_out(&self.first, first, link, domain, guard, local);
+        let mut behind = end_of(near, domain, links, guard, local);
+        if behind.is_null() {
+            let first = self.front.first_item(domain, links, guard, local);
+            if first.is_null() {
+                return self.append(&self.front.first, first, owner, f, domain, guard, local);
             }
+            behind = end_of(first, domain, links, guard, local);
         }
-        Some(back)
+        match links.of_item(behind) {
+            Some(link) => self.append(link, behind, owner, f, domain, guard, local),
+            None => Pushed::Slow(owner),
+        }
     }
 
-    /// Goes from an item along the links to the last one, and appends there, if that wasn't popped.
-    fn append<'g, T: Holds>(
+    /// Puts an item behind another one, whose link this is, or in front, if nothing was there yet, and notes it as near the end.
+    fn append<T: Holds, F: Fn(Option<&T>) -> bool>(
         &self,
-        from: Ptr<'g, T>,
+        cell: &AtomicShared,
+        behind: Ptr<T>,
         owner: Shared<T>,
-        domain: &Domain<T>,
-        links: &Links,
-        guard: &'g Guard,
-        local: &mut Local<T>,
-    ) -> Option<Shared<T>>
-        requires home { home_of local.old ≡ place_of domain.now }
-        requires nest { (nest_of guard.now ≡ nest_in local.old) × (0 < (own_of local.old).nesting) }
-        requires mine { kept_in owner ≡ (place_of domain.now).0 }
-        requires queue { IsQueueOf self.now domain.now × AreLinksOf links.now domain.now }
-        ensures back { IfSome result (λ s. (kept_in s ≡ (place_of domain.now).0) × ((x : T) → IsOwnerOf owner x → IsOwnerOf s x)) }
-        ensures same { IsInNest local.old local.new × ((own_of local.new).nesting ≡ (own_of local.old).nesting) }
-    {
-        let mut at = from;
-        for _i in 0..domain.slots() {
-            let Some(link) = at.slot().and_then(|slot| links.of(slot)) else {
-                return Some(owner);
-            };
-            let next = link.load(domain, guard, local);
-            if next.is_null() {
-                if next.tag() != Tag::None {
-                    return Some(owner);
-                }
-                return self.append_here(link, next, owner, domain, guard, local);
-            }
-            at = next;
-        }
-        Some(owner)
-    }
-
-    /// Puts an item behind the one whose link this is, if nothing was yet, and notes it as one near the end.
-    fn append_here<T: Holds>(
-        &self,
-        link: &AtomicShared,
-        nothing: Ptr<T>,
-        owner: Shared<T>,
+        f: &F,
         domain: &Domain<T>,
         guard: &Guard,
         local: &mut Local<T>,
-    ) -> Option<Shared<T>>
-        requires home { home_of local.old ≡ place_of domain.now }
-        requires nest { (nest_of guard.now ≡ nest_in local.old) × (0 < (own_of local.old).nesting) }
-        requires inside { (cell_number self.now.last < cell_count domain.now) × (cell_number link.now < cell_count domain.now) }
+    ) -> Pushed<T>
+        requires open { IsOpenIn guard.now local.old domain.now }
+        requires inside { (cell_number self.now.last < cell_count domain.now) × (cell_number cell.now < cell_count domain.now) }
         requires mine { kept_in owner ≡ (place_of domain.now).0 }
-        ensures back { IfSome result (λ s. (kept_in s ≡ (place_of domain.now).0) × ((x : T) → IsOwnerOf owner x → IsOwnerOf s x)) }
-        ensures same { IsInNest local.old local.new × ((own_of local.new).nesting ≡ (own_of local.old).nesting) }
+        requires callable { F.IsAlwaysCallable f.now }
+        ensures pushed { IsPushed result owner (place_of domain.now).0 (Said (F.post f.now)) }
+        ensures same { IsStill local.old local.new }
     {
-        let back = exchange(link, nothing, owner, domain, guard, local);
-        if back.is_none() {
-            let end = link.get_shared(domain, guard, local);
+        if !f(behind.as_ref()) {
+            return Pushed::Unwanted(owner);
+        }
+        if let Some(back) = exchange(cell, Ptr::null(), owner, domain, guard, local) {
+            return Pushed::Slow(back);
+        }
+        if !behind.is_null() {
+            let end = cell.get_shared(domain, guard, local);
             follow(&self.last, end, domain, local);
         }
-        back
+        Pushed::Done
     }
 
-    /// Takes the first item out, and gives an owner of it. None where the queue is empty, and after `2^64` tries, at each of
-    /// which others were faster. Condition: no owner is in the participant's hand.
+    /// Takes the first item out, and gives an owner of it. None where it is empty, and after `2^64` tries, at each
+    /// of which others were faster. Condition: no owner is in the participant's hand.
     pub fn pop<T: Holds>(
         &self,
         domain: &Domain<T>,
         links: &Links,
         local: &mut Local<T>,
     ) -> Option<Shared<T>>
-        requires home { (home_of local.old ≡ place_of domain.now) × (hand_of local.old ≡ []) }
-        requires shallow { (own_of local.old).nesting < 4294967295 }
+        requires ready { IsReady local.old domain.now }
         requires queue { IsQueueOf self.now domain.now × AreLinksOf links.now domain.now }
         ensures home { IfSome result (λ s. kept_in s ≡ (place_of domain.now).0) }
         ensures same { IsAsBefore local.old local.new }
     {
-        for _i in 0..TRIES {
-            match self.try_pop(domain, links, local) {
-                Popped::Empty => return None,
-                Popped::Item(owner) => return Some(owner),
-                Popped::Again => {}
-            }
-        }
-        None
+        self.front.pop(domain, links, local)
     }
 
-    /// One try.
-    fn try_pop<T: Holds>(
+    /// The same where `f` answers true of the first item: it is asked once each time that the pop is tried, and what is popped
+    /// is just the item that it was asked of last. Where it answers false, another owner of that item is given, and the item
+    /// stays where it is. Where another one pops the item meanwhile it is tried again, whatever `f` answered.
+    pub fn pop_if<T: Holds, F: Fn(&T) -> bool>(
         &self,
+        f: F,
         domain: &Domain<T>,
         links: &Links,
         local: &mut Local<T>,
-    ) -> Popped<T>
-        requires home { (home_of local.old ≡ place_of domain.now) × (hand_of local.old ≡ []) }
-        requires shallow { (own_of local.old).nesting < 4294967295 }
+    ) -> Result<Option<Shared<T>>, Shared<T>>
+    where
+        F: Drop,
+        requires ready { IsReady local.old domain.now }
         requires queue { IsQueueOf self.now domain.now × AreLinksOf links.now domain.now }
-        ensures home { IsFrom result (place_of domain.now).0 }
+        requires callable { F.IsAlwaysCallable f }
+        ensures popped { IfOk result (λ o. IfSome o (λ s. (kept_in s ≡ (place_of domain.now).0) × Said (F.post f) true)) }
+        ensures kept { IfErr result (λ s. (kept_in s ≡ (place_of domain.now).0) × Said (F.post f) false) }
         ensures same { IsAsBefore local.old local.new }
     {
-        let Ok(guard) = Guard::new(domain, local) else {
-            unreachable!();
-        };
-        let first = self.first.load(domain, &guard, local);
-        let popped = match first.slot() {
-            Some(slot) => match links.of(slot) {
-                Some(link) => take_marked(&self.first, first, link, domain, &guard, local),
-                None => Popped::Again,
-            },
-            None => Popped::Empty,
-        };
-        guard.close(domain, local);
-        popped
+        self.front.pop_if(f, domain, links, local)
     }
 
     /// Releases its items, and gives its cells back.
     pub fn end<T: Holds>(self, domain: &Domain<T>, links: &Links, local: &mut Local<T>)
-        requires home { (home_of local.old ≡ place_of domain.now) × (hand_of local.old ≡ []) }
-        requires shallow { (own_of local.old).nesting < 4294967295 }
+        requires ready { IsReady local.old domain.now }
         requires queue { IsQueueOf self domain.now × AreLinksOf links.now domain.now }
         ensures same { IsAsBefore local.old local.new }
     {
-        for _i in 0..domain.slots() {
-            match self.pop(domain, links, local) {
-                Some(owner) => {
-                    owner.release(domain, local);
-                }
-                None => break,
-            }
-        }
-        let Queue { first, last } = self;
-        first.retire(domain, local);
+        let Queue { front, last } = self;
+        front.end(domain, links, local);
         last.retire(domain, local);
     }
 }
 
-/// Has a cell own an item in the place of what was found in it, in one step. Else the item's owner is back.
-fn exchange<T: Holds>(
-    cell: &AtomicShared,
-    found: Ptr<T>,
-    owner: Shared<T>,
+/// The last item from one on along the links: nothing where that was popped, and of nothing.
+fn end_of<'g, T: Holds>(
+    from: Ptr<'g, T>,
     domain: &Domain<T>,
-    guard: &Guard,
+    links: &Links,
+    guard: &'g Guard,
     local: &mut Local<T>,
-) -> Option<Shared<T>>
-    requires home { home_of local.old ≡ place_of domain.now }
-    requires nest { (nest_of guard.now ≡ nest_in local.old) × (0 < (own_of local.old).nesting) }
-    requires inside { cell_number cell.now < cell_count domain.now }
-    requires mine { kept_in owner ≡ (place_of domain.now).0 }
-    ensures back { IfSome result (λ s. (kept_in s ≡ (place_of domain.now).0) × ((x : T) → IsOwnerOf owner x → IsOwnerOf s x)) }
-    ensures same { IsInNest local.old local.new × ((own_of local.new).nesting ≡ (own_of local.old).nesting) }
+) -> Ptr<'g, T>
+    requires open { IsOpenIn guard.now local.old domain.now }
+    requires links { AreLinksOf links.now domain.now }
+    ensures same { IsStill local.old local.new }
 {
-    match cell.compare_exchange(found, (Some(owner), Tag::None), domain, guard, local) {
-        Ok((old, _)) => {
-            let_go(old, domain, local);
-            None
+    let mut at = from;
+    for _i in 0..domain.slots() {
+        let next = links.after(at, domain, guard, local);
+        if next.is_null() && next.tag() == Tag::None {
+            return at;
         }
-        Err((back, _)) => back,
+        at = next;
     }
-}
-
-/// Pops the first item by the tag of its link, unless another one has, and takes it out of the list.
-fn take_marked<T: Holds>(
-    cell: &AtomicShared,
-    found: Ptr<T>,
-    link: &AtomicShared,
-    domain: &Domain<T>,
-    guard: &Guard,
-    local: &mut Local<T>,
-) -> Popped<T>
-    requires home { home_of local.old ≡ place_of domain.now }
-    requires nest { (nest_of guard.now ≡ nest_in local.old) × (0 < (own_of local.old).nesting) }
-    requires inside { (cell_number cell.now < cell_count domain.now) × (cell_number link.now < cell_count domain.now) }
-    ensures home { IsFrom result (place_of domain.now).0 }
-    ensures same { IsInNest local.old local.new × ((own_of local.new).nesting ≡ (own_of local.old).nesting) }
-{
-    // An owner is had before the tag is set: behind that others may take the item out and release theirs.
-    let Some(owner) = found.get_shared(domain, local) else {
-        return Popped::Again;
-    };
-    let is_mine = link.update_tag_if(
-        Tag::Second,
-        |next| next.tag() == Tag::None,
-        domain,
-        guard,
-        local,
-    );
-    take_out(cell, found, link, domain, guard, local);
-    if is_mine {
-        Popped::Item(owner)
-    } else {
-        owner.release(domain, local);
-        Popped::Again
-    }
-}
-
-/// Takes an item out of the list, if it was popped and is still in front: what follows it is the first one. Its link keeps
-/// the tag until its slot has another item, since somebody may still be about to append behind it.
-fn take_out<T: Holds>(
-    cell: &AtomicShared,
-    found: Ptr<T>,
-    link: &AtomicShared,
-    domain: &Domain<T>,
-    guard: &Guard,
-    local: &mut Local<T>,
-)
-    requires home { home_of local.old ≡ place_of domain.now }
-    requires nest { (nest_of guard.now ≡ nest_in local.old) × (0 < (own_of local.old).nesting) }
-    requires inside { (cell_number cell.now < cell_count domain.now) × (cell_number link.now < cell_count domain.now) }
-    ensures same { IsInNest local.old local.new × ((own_of local.new).nesting ≡ (own_of local.old).nesting) }
-{
-    let next = link.load(domain, guard, local);
-    if next.tag() == Tag::None {
-        return;
-    }
-    let owner = next.get_shared(domain, local);
-    // Another one may have taken the item out and emptied its link since.
-    let is_there = owner.is_some() || next.is_null();
-    if !is_there {
-        let_go(owner, domain, local);
-        return;
-    }
-    match cell.compare_exchange(found, (owner, Tag::None), domain, guard, local) {
-        Ok((old, _)) => {
-            let_go(old, domain, local);
-            let (rest, _) = link.swap((None, Tag::Second), domain, local);
-            let_go(rest, domain, local);
-        }
-        Err((back, _)) => let_go(back, domain, local),
-    }
+    Ptr::null()
 }

@@ -1,14 +1,15 @@
 //! Stacks without locks, after Treiber.
 
-ghost use Rattle.std.specs.Prelude.{◌≡◌, ◌<◌, [], IfErr, IfSome};
+ghost use Rattle.std.specs.Prelude.{◌≡◌, ◌<◌, true, false, [], OnOk, IfOk, IfErr, IfSome};
 ghost use Rattle.sdd_domain.specs.Cells.{cell_number};
 ghost use Rattle.sdd_domain.specs.Sharing.{kept_in, IsOwnerOf};
-ghost use Rattle.sdd_domain.specs.Tokens.{place_of, home_of, hand_of, own_of, cell_count, nest_of, nest_in, IsInNest};
-ghost use Rattle.shared_containers.specs.Containers.{AreLinksOf, IsStackOf, IsAsBefore, IsFrom, IsRefused};
+ghost use Rattle.sdd_domain.specs.Tokens.{place_of, home_of, own_of, cell_count, IsInNest};
+ghost use Rattle.shared_containers.specs.Containers.{AreLinksOf, IsStackOf, IsAsBefore, IsReady, IsOpenIn, IsStill};
+ghost use Rattle.shared_containers.specs.Outcomes.{IsPushed, IsRefused, Said};
 
 use crate::links::Links;
-use crate::moves::{TRIES, follow, let_go};
-use crate::outcome::{Popped, PushRefused};
+use crate::moves::{TRIES, exchange, follow, place};
+use crate::outcome::{Popped, PushRefused, Pushed};
 use sdd_base::tag::Tag;
 use sdd_domain::atomic_shared::AtomicShared;
 use sdd_domain::domain::Domain;
@@ -19,10 +20,11 @@ use sdd_domain::pointer::Ptr;
 use sdd_domain::shared::Shared;
 
 /// A stack of items of a place, which threads push and pop by `&`. It must be spent by `end`.
-///
 /// Each item is popped at most once: what a `pop` answers is the owner that the stack had.
 pub struct Stack {
-    first: AtomicShared,
+    pub(crate) first: AtomicShared,
+    /// Whether it is the front of a queue, where an item is popped by the tag of its link. In a stack no link has one.
+    pub(crate) is_front: bool,
 }
 
 impl Stack {
@@ -32,7 +34,10 @@ impl Stack {
         ensures same { IsAsBefore local.old local.new }
     {
         let first = AtomicShared::null(domain, local)?;
-        Some(Stack { first })
+        Some(Stack {
+            first,
+            is_front: false,
+        })
     }
 
     /// Whether it has no item, as it is found in one step.
@@ -49,18 +54,75 @@ impl Stack {
         guard: &'g Guard,
         local: &mut Local<T>,
     ) -> Ptr<'g, T>
-        requires home { home_of local.old ≡ place_of domain.now }
-        requires mine { nest_of guard.now ≡ nest_in local.old }
-        requires open { 0 < (own_of local.old).nesting }
+        requires open { IsOpenIn guard.now local.old domain.now }
         requires stack { IsStackOf self.now domain.now }
         ensures same { IsInNest local.old local.new × (own_of local.new ≡ own_of local.old) }
     {
         self.first.load(domain, guard, local)
     }
 
-    /// Puts a value in front. Where no slot is free it is back, which is a miss. It tries again where others push or pop
-    /// meanwhile; after `2^64` times it gives the owner of the value. Conditions: the value holds no owners, and none is in
-    /// the participant's hand.
+    /// Calls `f` once with the first item, or none, and gives what it answers. A guard is open meanwhile.
+    pub fn peek_with<T: Holds, R, F: FnOnce(Option<&T>) -> R>(
+        &self,
+        f: F,
+        domain: &Domain<T>,
+        links: &Links,
+        local: &mut Local<T>,
+    ) -> R
+        requires ready { IsReady local.old domain.now }
+        requires stack { IsStackOf self.now domain.now × AreLinksOf links.now domain.now }
+        requires callable { F.IsAlwaysCallable f }
+        ensures asked { Said (F.post f) result }
+        ensures same { IsAsBefore local.old local.new }
+    {
+        let Ok(guard) = Guard::new(domain, local) else {
+            unreachable!();
+        };
+        let answer = f(self.first_item(domain, links, &guard, local).as_ref());
+        guard.close(domain, local);
+        answer
+    }
+
+    /// Calls `f` with each item once, from the first on, under one guard. It ends where the item that it is at is popped.
+    pub fn for_each<T: Holds, F: FnMut(&T)>(
+        &self,
+        mut f: F,
+        domain: &Domain<T>,
+        links: &Links,
+        local: &mut Local<T>,
+    )
+        requires ready { IsReady local.old domain.now }
+        requires stack { IsStackOf self.now domain.now × AreLinksOf links.now domain.now }
+        requires callable { F.IsAlwaysCallable f }
+        ensures same { IsAsBefore local.old local.new }
+    {
+        let Ok(guard) = Guard::new(domain, local) else {
+            unreachable!();
+        };
+        let mut at = self.first_item(domain, links, &guard, local);
+        for _i in 0..domain.slots() {
+            let Some(item) = at.as_ref() else {
+                break;
+            };
+            f(item);
+            at = links.after(at, domain, &guard, local);
+        }
+        guard.close(domain, local);
+    }
+
+    /// How many items `for_each` finds.
+    pub fn len<T: Holds>(&self, domain: &Domain<T>, links: &Links, local: &mut Local<T>) -> usize
+        requires ready { IsReady local.old domain.now }
+        requires stack { IsStackOf self.now domain.now × AreLinksOf links.now domain.now }
+        ensures same { IsAsBefore local.old local.new }
+    {
+        let mut count = 0usize;
+        self.for_each(|_| count = count.saturating_add(1), domain, links, local);
+        count
+    }
+
+    /// Puts a value in front. Where no slot is free it is back, a miss. It tries again where others push or pop; after `2^64`
+    /// times the value's owner is back. Conditions: the value holds no owners, and none is in the participant's hand.
     pub fn push<T: Holds>(
         &self,
         value: T,
@@ -68,50 +130,98 @@ impl Stack {
         links: &Links,
         local: &mut Local<T>,
     ) -> Result<(), PushRefused<T>>
-        requires home { (home_of local.old ≡ place_of domain.now) × (hand_of local.old ≡ []) }
-        requires shallow { (own_of local.old).nesting < 4294967295 }
+        requires ready { IsReady local.old domain.now }
         requires stack { IsStackOf self.now domain.now × AreLinksOf links.now domain.now }
         requires holds { T.holds value ≡ [] }
-        ensures refused { IfErr result (λ r. IsRefused r value (place_of domain.now).0) }
+        ensures refused { IfErr result (λ r. IsRefused r value (place_of domain.now).0 ⊥ ⊥) }
         ensures same { IsAsBefore local.old local.new }
     {
-        let mut owner = match Shared::new(value, domain, local) {
-            Ok(owner) => owner,
-            Err(value) => return Err(PushRefused::NoSlot(value)),
-        };
+        let owner = place(value, domain, local)?;
+        self.insert(owner, &|_| true, domain, links, local)
+    }
+
+    /// The same where `f` answers true of the first item, or of none: it is asked once each time that the push is tried, and
+    /// the value is put before just the item that it was asked of last. Where it answers false the value's owner is back.
+    pub fn push_if<T: Holds, F: Fn(Option<&T>) -> bool>(
+        &self,
+        value: T,
+        f: F,
+        domain: &Domain<T>,
+        links: &Links,
+        local: &mut Local<T>,
+    ) -> Result<(), PushRefused<T>>
+    where
+        F: Drop,
+        requires ready { IsReady local.old domain.now }
+        requires stack { IsStackOf self.now domain.now × AreLinksOf links.now domain.now }
+        requires holds { T.holds value ≡ [] }
+        requires callable { F.IsAlwaysCallable f }
+        ensures asked { OnOk result (Said (F.post f) true) }
+        ensures refused { IfErr result (λ r. IsRefused r value (place_of domain.now).0 (Said (F.post f) false) ⊥) }
+        ensures same { IsAsBefore local.old local.new }
+    {
+        let owner = place(value, domain, local)?;
+        self.insert(owner, &f, domain, links, local)
+    }
+
+    /// Puts an owner's item in front where `f` answers true.
+    pub(crate) fn insert<T: Holds, F: Fn(Option<&T>) -> bool>(
+        &self,
+        owner: Shared<T>,
+        f: &F,
+        domain: &Domain<T>,
+        links: &Links,
+        local: &mut Local<T>,
+    ) -> Result<(), PushRefused<T>>
+        requires ready { IsReady local.old domain.now }
+        requires mine { kept_in owner ≡ (place_of domain.now).0 }
+        requires stack { IsStackOf self.now domain.now × AreLinksOf links.now domain.now }
+        requires callable { F.IsAlwaysCallable f.now }
+        ensures asked { OnOk result (Said (F.post f.now) true) }
+        ensures refused { (x : T) → IsOwnerOf owner x → IfErr result (λ r. IsRefused r x (place_of domain.now).0 (Said (F.post f.now) false) ⊥) }
+        ensures same { IsAsBefore local.old local.new }
+    {
+        let mut owner = owner;
         for _i in 0..TRIES {
-            match self.try_push(owner, domain, links, local) {
-                Some(back) => owner = back,
-                None => return Ok(()),
+            match self.try_push(owner, f, domain, links, local) {
+                Pushed::Done => return Ok(()),
+                Pushed::Unwanted(back) => return Err(PushRefused::Condition(back)),
+                Pushed::Slow(back) => owner = back,
             }
         }
         Err(PushRefused::Busy(owner))
     }
 
-    /// One try: the owner is back where others were faster.
-    fn try_push<T: Holds>(
+    /// One try.
+    fn try_push<T: Holds, F: Fn(Option<&T>) -> bool>(
         &self,
         owner: Shared<T>,
+        f: &F,
         domain: &Domain<T>,
         links: &Links,
         local: &mut Local<T>,
-    ) -> Option<Shared<T>>
-        requires home { (home_of local.old ≡ place_of domain.now) × (hand_of local.old ≡ []) }
+    ) -> Pushed<T>
+        requires ready { IsReady local.old domain.now }
         requires mine { kept_in owner ≡ (place_of domain.now).0 }
-        requires shallow { (own_of local.old).nesting < 4294967295 }
         requires stack { IsStackOf self.now domain.now × AreLinksOf links.now domain.now }
-        ensures back { IfSome result (λ s. (kept_in s ≡ (place_of domain.now).0) × ((x : T) → IsOwnerOf owner x → IsOwnerOf s x)) }
+        requires callable { F.IsAlwaysCallable f.now }
+        ensures pushed { IsPushed result owner (place_of domain.now).0 (Said (F.post f.now)) }
         ensures same { IsAsBefore local.old local.new }
     {
-        let Some(link) = links.of(owner.slot()) else {
-            return Some(owner);
+        let Some(link) = links.row.at(owner.slot()) else {
+            return Pushed::Slow(owner);
         };
         let Ok(guard) = Guard::new(domain, local) else {
             unreachable!();
         };
-        let back = push_under(&self.first, owner, link, domain, &guard, local);
+        let first = self.peek(domain, &guard, local);
+        let pushed = if f(first.as_ref()) {
+            put_before(&self.first, first, owner, link, domain, &guard, local)
+        } else {
+            Pushed::Unwanted(owner)
+        };
         guard.close(domain, local);
-        back
+        pushed
     }
 
     /// Takes the first item out, in one step, and gives its owner. None where it is empty, and after `2^64` tries, at each
@@ -122,48 +232,44 @@ impl Stack {
         links: &Links,
         local: &mut Local<T>,
     ) -> Option<Shared<T>>
-        requires home { (home_of local.old ≡ place_of domain.now) × (hand_of local.old ≡ []) }
-        requires shallow { (own_of local.old).nesting < 4294967295 }
+        requires ready { IsReady local.old domain.now }
         requires stack { IsStackOf self.now domain.now × AreLinksOf links.now domain.now }
         ensures home { IfSome result (λ s. kept_in s ≡ (place_of domain.now).0) }
         ensures same { IsAsBefore local.old local.new }
     {
-        for _i in 0..TRIES {
-            match self.try_pop(domain, links, local) {
-                Popped::Empty => return None,
-                Popped::Item(owner) => return Some(owner),
-                Popped::Again => {}
-            }
+        match self.pop_if(|_| true, domain, links, local) {
+            Ok(popped) => popped,
+            Err(_) => unreachable!(),
         }
-        None
     }
 
-    /// One try.
-    fn try_pop<T: Holds>(
+    /// The same where `f` answers true of the first item: it is asked once each time that the pop is tried, and what is popped
+    /// is just the item that it was asked of last. Where it answers false, another owner of that item is given, which stays.
+    pub fn pop_if<T: Holds, F: Fn(&T) -> bool>(
         &self,
+        f: F,
         domain: &Domain<T>,
         links: &Links,
         local: &mut Local<T>,
-    ) -> Popped<T>
-        requires home { (home_of local.old ≡ place_of domain.now) × (hand_of local.old ≡ []) }
-        requires shallow { (own_of local.old).nesting < 4294967295 }
+    ) -> Result<Option<Shared<T>>, Shared<T>>
+    where
+        F: Drop,
+        requires ready { IsReady local.old domain.now }
         requires stack { IsStackOf self.now domain.now × AreLinksOf links.now domain.now }
-        ensures home { IsFrom result (place_of domain.now).0 }
+        requires callable { F.IsAlwaysCallable f }
+        ensures popped { IfOk result (λ o. IfSome o (λ s. (kept_in s ≡ (place_of domain.now).0) × Said (F.post f) true)) }
+        ensures kept { IfErr result (λ s. (kept_in s ≡ (place_of domain.now).0) × Said (F.post f) false) }
         ensures same { IsAsBefore local.old local.new }
     {
-        let Ok(guard) = Guard::new(domain, local) else {
-            unreachable!();
-        };
-        let first = self.first.load(domain, &guard, local);
-        let popped = match first.slot() {
-            Some(slot) => match links.of(slot) {
-                Some(link) => take_first(&self.first, first, link, domain, &guard, local),
-                None => Popped::Again,
-            },
-            None => Popped::Empty,
-        };
-        guard.close(domain, local);
-        popped
+        for _i in 0..TRIES {
+            match self.try_pop(&f, domain, links, local) {
+                Popped::Empty => return Ok(None),
+                Popped::Item(owner) => return Ok(Some(owner)),
+                Popped::Kept(owner) => return Err(owner),
+                Popped::Again => {}
+            }
+        }
+        Ok(None)
     }
 
     /// Takes all items out, in one step, and gives them as a stack of their own. None where no cell is free for that, which
@@ -182,8 +288,7 @@ impl Stack {
 
     /// Releases its items, and gives its cell back.
     pub fn end<T: Holds>(self, domain: &Domain<T>, links: &Links, local: &mut Local<T>)
-        requires home { (home_of local.old ≡ place_of domain.now) × (hand_of local.old ≡ []) }
-        requires shallow { (own_of local.old).nesting < 4294967295 }
+        requires ready { IsReady local.old domain.now }
         requires stack { IsStackOf self domain.now × AreLinksOf links.now domain.now }
         ensures same { IsAsBefore local.old local.new }
     {
@@ -195,77 +300,37 @@ impl Stack {
                 None => break,
             }
         }
-        let Stack { first } = self;
+        let Stack { first, is_front: _ } = self;
         first.retire(domain, local);
     }
 }
 
-/// Puts an item in front of what is found there, in one step: its link owns that from then on, and the owner that the stack
+/// Puts an item in front of what was found there, in one step: its link owns that from then on, and the owner that the stack
 /// had of it is released. Where others were faster the item's owner is back.
-fn push_under<T: Holds>(
+fn put_before<T: Holds>(
     cell: &AtomicShared,
+    first: Ptr<T>,
     owner: Shared<T>,
     link: &AtomicShared,
     domain: &Domain<T>,
     guard: &Guard,
     local: &mut Local<T>,
-) -> Option<Shared<T>>
-    requires home { home_of local.old ≡ place_of domain.now }
-    requires nest { (nest_of guard.now ≡ nest_in local.old) × (0 < (own_of local.old).nesting) }
+) -> Pushed<T>
+    requires open { IsOpenIn guard.now local.old domain.now }
     requires inside { (cell_number cell.now < cell_count domain.now) × (cell_number link.now < cell_count domain.now) }
     requires mine { kept_in owner ≡ (place_of domain.now).0 }
-    ensures back { IfSome result (λ s. (kept_in s ≡ (place_of domain.now).0) × ((x : T) → IsOwnerOf owner x → IsOwnerOf s x)) }
-    ensures same { IsInNest local.old local.new × ((own_of local.new).nesting ≡ (own_of local.old).nesting) }
+    ensures pushed { IsPushed result owner (place_of domain.now).0 (λ b. b ≡ true) }
+    ensures same { IsStill local.old local.new }
 {
-    let first = cell.load(domain, guard, local);
     let next = first.get_shared(domain, local);
     // What was the first item may have been popped and retired since.
     let is_there = next.is_some() || first.is_null();
     follow(link, next, domain, local);
     if !is_there {
-        return Some(owner);
+        return Pushed::Slow(owner);
     }
-    match cell.compare_exchange(first, (Some(owner), Tag::None), domain, guard, local) {
-        Ok((old, _)) => {
-            let_go(old, domain, local);
-            None
-        }
-        Err((back, _)) => back,
-    }
-}
-
-/// Takes out what was found in front, if that is still there, and puts what follows it in its place.
-fn take_first<T: Holds>(
-    cell: &AtomicShared,
-    found: Ptr<T>,
-    link: &AtomicShared,
-    domain: &Domain<T>,
-    guard: &Guard,
-    local: &mut Local<T>,
-) -> Popped<T>
-    requires home { home_of local.old ≡ place_of domain.now }
-    requires nest { (nest_of guard.now ≡ nest_in local.old) × (0 < (own_of local.old).nesting) }
-    requires inside { (cell_number cell.now < cell_count domain.now) × (cell_number link.now < cell_count domain.now) }
-    ensures home { IsFrom result (place_of domain.now).0 }
-    ensures same { IsInNest local.old local.new × ((own_of local.new).nesting ≡ (own_of local.old).nesting) }
-{
-    let next = link.load(domain, guard, local);
-    let owner = next.get_shared(domain, local);
-    // The item may have been popped and its link emptied since.
-    let is_there = owner.is_some() || next.is_null();
-    if !is_there {
-        let_go(owner, domain, local);
-        return Popped::Again;
-    }
-    match cell.compare_exchange(found, (owner, Tag::None), domain, guard, local) {
-        Ok((Some(item), _)) => {
-            follow(link, None, domain, local);
-            Popped::Item(item)
-        }
-        Ok((None, _)) => Popped::Again,
-        Err((back, _)) => {
-            let_go(back, domain, local);
-            Popped::Again
-        }
+    match exchange(cell, first, owner, domain, guard, local) {
+        Some(back) => Pushed::Slow(back),
+        None => Pushed::Done,
     }
 }

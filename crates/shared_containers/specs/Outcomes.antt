@@ -1,0 +1,57 @@
+-- what pushes and pops come to
+use Rattle.std.specs.Prelude.{◌≡◌, Bool, true, false}
+use Rattle.atomic_table.specs.Seated.{TableId}
+use Rattle.sdd_domain.specs.Sharing.{kept_in, IsOwnerOf}
+use Rattle.sdd_domain.specs.declared.shared.Shared.{Shared}
+use Rattle.shared_containers.specs.declared.outcome.Popped.{Popped}
+use Rattle.shared_containers.specs.declared.outcome.Popped.TheVariants.{Empty, Item, Kept, Again}
+use Rattle.shared_containers.specs.declared.outcome.Pushed.{Pushed}
+use Rattle.shared_containers.specs.declared.outcome.Pushed.TheVariants.{Done, Unwanted, Slow}
+use Rattle.shared_containers.specs.declared.outcome.PushRefused.{PushRefused}
+use Rattle.shared_containers.specs.declared.outcome.PushRefused.TheVariants.{NoSlot, Full, Condition, Busy}
+
+-- a function answered this of something
+abbrev pub Said : {A R : Type 0} → (A → R → Type 0) → R → Type 0
+Said {A} post r = (x : A) × post x r
+
+-- an owner in this place, of an item with this value
+abbrev pub IsPlaced : {T : Type 0} → Shared T → T → TableId → Type 0
+IsPlaced s value place = (kept_in s ≡ place) × IsOwnerOf s value
+
+-- an owner in this place, of the item of another one
+abbrev pub IsBackIn : {T : Type 0} → Shared T → Shared T → TableId → Type 0
+IsBackIn {T} s owner place = (kept_in s ≡ place) × ((x : T) → IsOwnerOf owner x → IsOwnerOf s x)
+
+-- an owner in this place comes out where the condition said yes, and one of an item that stays where it said no
+abbrev pub IsFrom : {T : Type 0} → Popped T → TableId → (Bool → Type 0) → Type 0
+IsFrom Empty place said = Unit {0}
+IsFrom (Item s) place said = (kept_in s ≡ place) × said true
+IsFrom (Kept s) place said = (kept_in s ≡ place) × said false
+IsFrom Again place said = Unit {0}
+
+-- the owner is taken in where the condition said yes, and back where it said no, or where others were faster
+abbrev pub IsPushed : {T : Type 0} → Pushed T → Shared T → TableId → (Bool → Type 0) → Type 0
+IsPushed Done owner place said = said true
+IsPushed (Unwanted s) owner place said = IsBackIn s owner place × said false
+IsPushed (Slow s) owner place said = IsBackIn s owner place
+
+-- what is back after a push is the value, or its owner in this place; it may be refused by a condition, and as full, where these are so
+abbrev pub IsRefused : {T : Type 0} → PushRefused T → T → TableId → Type 0 → Type 0 → Type 0
+IsRefused (NoSlot v) value place unwanted full = v ≡ value
+IsRefused (Full v) value place unwanted full = (v ≡ value) × full
+IsRefused (Condition s) value place unwanted full = IsPlaced s value place × unwanted
+IsRefused (Busy s) value place unwanted full = IsPlaced s value place
+
+-- an owner that it may give back is of this place
+abbrev pub IsKeptIn : {T : Type 0} → PushRefused T → TableId → Type 0
+IsKeptIn (NoSlot v) place = Unit {0}
+IsKeptIn (Full v) place = Unit {0}
+IsKeptIn (Condition s) place = kept_in s ≡ place
+IsKeptIn (Busy s) place = kept_in s ≡ place
+
+-- it gives this value back
+abbrev pub IsValueOf : {T : Type 0} → PushRefused T → T → Type 0
+IsValueOf (NoSlot v) value = v ≡ value
+IsValueOf (Full v) value = v ≡ value
+IsValueOf (Condition s) value = ⊥
+IsValueOf (Busy s) value = ⊥

@@ -1,0 +1,247 @@
+//! Bags without locks: a row of places for a value each, and a stack for what has no room there.
+
+ghost use Rattle.std.specs.Prelude.{◌≡◌, [], IfOk, IfErr, IfSome};
+ghost use Rattle.sdd_domain.specs.Sharing.{kept_in, IsOwnerOf};
+ghost use Rattle.sdd_domain.specs.Tokens.{place_of, home_of};
+ghost use Rattle.shared_containers.specs.Containers.{AreLinksOf, IsBagOf, IsAsBefore, IsReady, IsOpenIn, IsStill};
+ghost use Rattle.shared_containers.specs.Outcomes.{IsRefused};
+
+use crate::links::{Links, Row};
+use crate::moves::{TRIES, exchange, place};
+use crate::outcome::{NotMade, PushRefused};
+use crate::stack::Stack;
+use sdd_base::tag::Tag;
+use sdd_domain::domain::Domain;
+use sdd_domain::guard::Guard;
+use sdd_domain::holds::Holds;
+use sdd_domain::local::Local;
+use sdd_domain::pointer::Ptr;
+use sdd_domain::shared::Shared;
+use std::alloc::Global;
+
+/// A bag of items of a place, which threads push and pop by `&`, in no order: the primary, `ARRAY_LEN` cells that own an item
+/// each, and the overflow, a stack of the others. It must be spent by `end`.
+/// Each item is given out at most once: what a `pop` answers is the owner that the bag had.
+pub struct Bag<const ARRAY_LEN: usize> {
+    primary: Row,
+    overflow: Stack,
+}
+
+impl<const ARRAY_LEN: usize> Bag<ARRAY_LEN> {
+    /// An empty bag, which takes `ARRAY_LEN + 1` cells, and memory for their names.
+    pub fn new<T: Holds>(
+        alloc: Global,
+        domain: &Domain<T>,
+        local: &mut Local<T>,
+    ) -> Result<Bag<ARRAY_LEN>, NotMade>
+        requires home { home_of local.old ≡ place_of domain.now }
+        ensures bag { IfOk result (λ b. IsBagOf b domain.now) }
+        ensures same { IsAsBefore local.old local.new }
+    {
+        let primary = Row::new(alloc, ARRAY_LEN, domain, local)?;
+        match Stack::new(domain, local) {
+            Some(overflow) => Ok(Bag { primary, overflow }),
+            None => {
+                primary.end(domain, local);
+                Err(NotMade::NoCell)
+            }
+        }
+    }
+
+    /// How many items it has, as each place of the primary, and then the overflow, is found.
+    pub fn len<T: Holds>(&self, domain: &Domain<T>, links: &Links, local: &mut Local<T>) -> usize
+        requires ready { IsReady local.old domain.now }
+        requires bag { IsBagOf self.now domain.now × AreLinksOf links.now domain.now }
+        ensures same { IsAsBefore local.old local.new }
+    {
+        let overflow = self.overflow.len(domain, links, local);
+        self.taken(domain).saturating_add(overflow)
+    }
+
+    /// Whether it has no item, as each place of the primary, and the overflow before, is found.
+    pub fn is_empty<T: Holds>(&self, domain: &Domain<T>) -> bool
+        requires { IsBagOf self.now domain.now }
+    {
+        self.overflow.is_empty(domain) && self.taken(domain) == 0
+    }
+
+    /// How many places of the primary are taken, each looked at in one step.
+    fn taken<T: Holds>(&self, domain: &Domain<T>) -> usize
+        requires { IsBagOf self.now domain.now }
+    {
+        let mut taken = 0usize;
+        for i in 0..ARRAY_LEN {
+            if let Some(cell) = self.primary.at(i) {
+                if !cell.is_null(domain) {
+                    taken = taken.saturating_add(1);
+                }
+            }
+        }
+        taken
+    }
+
+    /// Puts a value into the primary, or into the overflow where no place was free. Where no slot is free it is back, a miss;
+    /// after `2^64` tries its owner is. Conditions: the value holds no owners, and none is in the participant's hand.
+    pub fn push<T: Holds>(
+        &self,
+        value: T,
+        domain: &Domain<T>,
+        links: &Links,
+        local: &mut Local<T>,
+    ) -> Result<(), PushRefused<T>>
+        requires ready { IsReady local.old domain.now }
+        requires bag { IsBagOf self.now domain.now × AreLinksOf links.now domain.now }
+        requires holds { T.holds value ≡ [] }
+        ensures refused { IfErr result (λ r. IsRefused r value (place_of domain.now).0 ⊥ ⊥) }
+        ensures same { IsAsBefore local.old local.new }
+    {
+        let owner = place(value, domain, local)?;
+        match self.keep(owner, domain, local) {
+            Some(back) => self.overflow.insert(back, &|_| true, domain, links, local),
+            None => Ok(()),
+        }
+    }
+
+    /// Puts a value into the primary alone. Where each of its places is found taken the value is back (`Full`), or its owner
+    /// where others took the places that were free (`Busy`). Conditions: as those of `push`.
+    pub fn try_push<T: Holds>(
+        &self,
+        value: T,
+        domain: &Domain<T>,
+        local: &mut Local<T>,
+    ) -> Result<(), PushRefused<T>>
+        requires ready { IsReady local.old domain.now }
+        requires bag { IsBagOf self.now domain.now }
+        requires holds { T.holds value ≡ [] }
+        ensures refused { IfErr result (λ r. IsRefused r value (place_of domain.now).0 ⊥ (Unit {0})) }
+        ensures same { IsAsBefore local.old local.new }
+    {
+        if self.taken(domain) >= ARRAY_LEN {
+            return Err(PushRefused::Full(value));
+        }
+        let owner = place(value, domain, local)?;
+        match self.keep(owner, domain, local) {
+            Some(back) => Err(PushRefused::Busy(back)),
+            None => Ok(()),
+        }
+    }
+
+    /// Puts an owner's item into the primary, unless each place is found taken.
+    fn keep<T: Holds>(
+        &self,
+        owner: Shared<T>,
+        domain: &Domain<T>,
+        local: &mut Local<T>,
+    ) -> Option<Shared<T>>
+        requires ready { IsReady local.old domain.now }
+        requires bag { IsBagOf self.now domain.now }
+        requires mine { kept_in owner ≡ (place_of domain.now).0 }
+        ensures back { IfSome result (λ s. (kept_in s ≡ (place_of domain.now).0) × ((x : T) → IsOwnerOf owner x → IsOwnerOf s x)) }
+        ensures same { IsAsBefore local.old local.new }
+    {
+        let Ok(guard) = Guard::new(domain, local) else {
+            unreachable!();
+        };
+        let back = self.keep_under(owner, domain, &guard, local);
+        guard.close(domain, local);
+        back
+    }
+
+    /// The same under a guard.
+    fn keep_under<T: Holds>(
+        &self,
+        owner: Shared<T>,
+        domain: &Domain<T>,
+        guard: &Guard,
+        local: &mut Local<T>,
+    ) -> Option<Shared<T>>
+        requires open { IsOpenIn guard.now local.old domain.now }
+        requires bag { IsBagOf self.now domain.now }
+        requires mine { kept_in owner ≡ (place_of domain.now).0 }
+        ensures back { IfSome result (λ s. (kept_in s ≡ (place_of domain.now).0) × ((x : T) → IsOwnerOf owner x → IsOwnerOf s x)) }
+        ensures same { IsStill local.old local.new }
+    {
+        let mut owner = owner;
+        for i in 0..ARRAY_LEN {
+            let Some(cell) = self.primary.at(i) else {
+                break;
+            };
+            if cell.is_null(domain) {
+                owner = exchange(cell, Ptr::null(), owner, domain, guard, local)?;
+            }
+        }
+        Some(owner)
+    }
+
+    /// Takes an item out, of the overflow while that has any, and gives its owner. None where nothing is found, and after
+    /// `2^64` tries. Condition: no owner is in the participant's hand.
+    pub fn pop<T: Holds>(
+        &self,
+        domain: &Domain<T>,
+        links: &Links,
+        local: &mut Local<T>,
+    ) -> Option<Shared<T>>
+        requires ready { IsReady local.old domain.now }
+        requires bag { IsBagOf self.now domain.now × AreLinksOf links.now domain.now }
+        ensures home { IfSome result (λ s. kept_in s ≡ (place_of domain.now).0) }
+        ensures same { IsAsBefore local.old local.new }
+    {
+        match self.overflow.pop(domain, links, local) {
+            Some(owner) => Some(owner),
+            None => self.pop_primary(domain, local),
+        }
+    }
+
+    /// Takes an item out of the primary: each place is swapped with nothing until one had an item.
+    fn pop_primary<T: Holds>(&self, domain: &Domain<T>, local: &mut Local<T>) -> Option<Shared<T>>
+        requires home { home_of local.old ≡ place_of domain.now }
+        requires bag { IsBagOf self.now domain.now }
+        ensures home { IfSome result (λ s. kept_in s ≡ (place_of domain.now).0) }
+        ensures same { IsAsBefore local.old local.new }
+    {
+        for i in 0..ARRAY_LEN {
+            let Some(cell) = self.primary.at(i) else {
+                break;
+            };
+            if !cell.is_null(domain) {
+                if let (Some(owner), _) = cell.swap((None, Tag::None), domain, local) {
+                    return Some(owner);
+                }
+            }
+        }
+        None
+    }
+
+    /// Pops all items, until nothing is found: each is shown to `f` once, in no order, and released.
+    pub fn pop_all<T: Holds, F: FnMut(&T)>(
+        &self,
+        mut f: F,
+        domain: &Domain<T>,
+        links: &Links,
+        local: &mut Local<T>,
+    )
+        requires ready { IsReady local.old domain.now }
+        requires bag { IsBagOf self.now domain.now × AreLinksOf links.now domain.now }
+        requires callable { F.IsAlwaysCallable f }
+        ensures same { IsAsBefore local.old local.new }
+    {
+        for _i in 0..TRIES {
+            let Some(owner) = self.pop(domain, links, local) else {
+                break;
+            };
+            f(owner.as_ref());
+            owner.release(domain, local);
+        }
+    }
+
+    /// Releases its items, and gives its cells back.
+    pub fn end<T: Holds>(self, domain: &Domain<T>, links: &Links, local: &mut Local<T>)
+        requires ready { IsReady local.old domain.now }
+        requires bag { IsBagOf self domain.now × AreLinksOf links.now domain.now }
+        ensures same { IsAsBefore local.old local.new }
+    {
+        let Bag { primary, overflow } = self;
+        overflow.end(domain, links, local);
+        primary.end(domain, local);
+    }
+}
