@@ -5,20 +5,18 @@ ghost use Rattle.sdd_domain.specs.Cells.{cell_number};
 ghost use Rattle.sdd_domain.specs.Sharing.{kept_in};
 ghost use Rattle.sdd_domain.specs.Tokens.{place_of, home_of, hand_of, own_of, cell_count, IsSame, IsSameButMisses};
 
-use crate::cells::{Scene, cell_with, read, reclaim_all};
-use crate::domain::{end, member};
+use crate::cells::Scene;
+use crate::crowd::{CellTask, around_a_cell};
 use crate::guard::pass;
-use crate::items::sized;
 use sdd_base::tag::Tag;
 use sdd_domain::atomic_shared::AtomicShared;
 use sdd_domain::domain::Domain;
 use sdd_domain::local::Local;
 use sdd_domain::shared::Shared;
-use std::thread::join;
 
 /// Tries a thousand times to take the owner out of the cell and to make two of it: how often there were two. None if no
 /// participant was free.
-fn cloning(scene: &Scene) -> Option<u32> {
+pub(crate) fn cloning(scene: &Scene) -> Option<u32> {
     let Scene { domain, cell } = *scene;
     let Ok(mut local) = domain.register() else {
         return None;
@@ -75,29 +73,12 @@ fn put(domain: &Domain<u64>, local: &mut Local<u64>, cell: &AtomicShared, owner:
 
 #[test]
 fn four_threads_clone_an_item_through_a_cell(rt: HostRuntime) {
-    let domain = Domain::new(rt.alloc(), sized(5, 8)).expect(&rt, "memory is there");
-    let mut local = member(&rt, &domain);
-    let cell = cell_with(&rt, &domain, &mut local, 7);
-    let scene = Scene {
-        domain: &domain,
-        cell: &cell,
-    };
-    let ((a, b), (c, d)) = join(
-        &rt,
-        || join(&rt, || cloning(&scene), || cloning(&scene)),
-        || join(&rt, || cloning(&scene), || cloning(&scene)),
-    );
+    let tasks = [CellTask::Clones; 4];
+    let (told, behind) = around_a_cell(&rt, rt.alloc(), 8, 7, tasks, 0);
     let mut twice = 0u32;
-    for part in [a, b, c, d] {
+    for part in told {
         twice = twice.saturating_add(part.unwrap_or(0));
     }
-    let item = read(&domain, &mut local, &cell);
-    let slots = domain.slots_in_use();
-    let last = cell.retire(&domain, &mut local);
-    local.end(&domain);
-    reclaim_all(&domain, 1);
-    let left = domain.slots_in_use();
-    end(&rt, domain);
     assert!(rt; twice > 0);
-    assert_eq!(rt; (item, slots, last, left), (Some(7), 1, true, 0));
+    assert_eq!(rt; behind, (Some(7), 1, true, 0));
 }

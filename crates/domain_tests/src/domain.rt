@@ -4,7 +4,11 @@ ghost use Rattle.std.specs.Prelude.{◌≡◌, ◌≤◌, []};
 ghost use Rattle.sdd_domain.specs.Layout.{IsSized};
 ghost use Rattle.sdd_domain.specs.Tokens.{place_of, home_of, hand_of, own_of};
 
-use crate::members::{Member, in_a_place};
+use crate::play::first_wrong;
+use crate::steps::Act::{Join, Number};
+use crate::steps::Found::{Is, No};
+use crate::steps::Part::{Apart, Renew};
+use crate::steps::Table;
 use sdd_base::sizes::Sizes;
 use sdd_domain::domain::Domain;
 use sdd_domain::local::Local;
@@ -52,44 +56,49 @@ pub(crate) fn end<R: Abort>(rt: &R, domain: Domain<u64>) {
     }
 }
 
-/// The number of the only participant, and why there is no other one beside it; it is ended then.
-fn only_one<R: Abort>(rt: &R, domain: &Domain<u64>) -> (usize, RegisterRefused) {
-    let local = member(rt, domain);
-    let found = (local.number(), refused(rt, domain));
-    local.end(domain);
-    found
-}
+/// One participant is registered once at a time, and again when it has ended.
+const ONE_AT_A_TIME: Table = Table {
+    participants: 1,
+    slots: 0,
+    cells: 0,
+    first: 0,
+    parts: &[
+        Apart(&[(Number, Is(0)), (Join, No)]),
+        Renew,
+        Apart(&[(Number, Is(0)), (Join, No)]),
+    ],
+};
 
 #[test]
 fn one_participant_is_registered_once_at_a_time(rt: HostRuntime) {
-    let found = in_a_place(
-        &rt,
-        rt.alloc(),
-        only(1),
-        |domain| [only_one(&rt, domain), only_one(&rt, domain)],
-    );
-    assert_eq!(rt;
-        found,
-        [(0, RegisterRefused::Full), (0, RegisterRefused::Full)]
-    );
+    assert_eq!(rt; first_wrong(&rt, rt.alloc(), &[ONE_AT_A_TIME]), None);
+}
+
+/// The numbers of three participants of a place for three; why there is no fourth one; and the number of the one that is
+/// registered when the second has ended.
+fn three_and_one_more<R: Abort>(
+    rt: &R,
+    domain: &Domain<u64>,
+) -> ([usize; 3], RegisterRefused, usize) {
+    let zero = member(rt, domain);
+    let one = member(rt, domain);
+    let two = member(rt, domain);
+    let numbers = [zero.number(), one.number(), two.number()];
+    let refused = refused(rt, domain);
+    one.end(domain);
+    let again = member(rt, domain);
+    let number = again.number();
+    zero.end(domain);
+    again.end(domain);
+    two.end(domain);
+    (numbers, refused, number)
 }
 
 #[test]
 fn participants_are_registered_from_the_lowest_that_is_free(rt: HostRuntime) {
-    let found = in_a_place(&rt, rt.alloc(), only(3), |domain| {
-        let zero = Member::new(&rt, domain);
-        let one = Member::new(&rt, domain);
-        let two = Member::new(&rt, domain);
-        let numbers = [zero.number(), one.number(), two.number()];
-        let refused = refused(&rt, domain);
-        one.end();
-        let again = Member::new(&rt, domain);
-        let number = again.number();
-        zero.end();
-        again.end();
-        two.end();
-        (numbers, refused, number)
-    });
+    let domain = Domain::new(rt.alloc(), only(3)).expect(&rt, "memory is there");
+    let found = three_and_one_more(&rt, &domain);
+    end(&rt, domain);
     assert_eq!(rt; found, ([0, 1, 2], RegisterRefused::Full, 1));
 }
 

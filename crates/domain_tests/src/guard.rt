@@ -3,12 +3,15 @@
 ghost use Rattle.std.specs.Prelude.{◌≡◌, []};
 ghost use Rattle.sdd_domain.specs.Tokens.{place_of, home_of, hand_of, own_of, IsSame};
 
-use crate::domain::only;
-use crate::members::{Member, alone, in_a_place, in_this};
+use crate::play::first_wrong;
+use crate::steps::Act::{Alternate, Join, Leave, Pass, Passes};
+use crate::steps::Found::{Is, No, Nothing, Yes};
+use crate::steps::Part::{Apart, Renew, Under};
+use crate::steps::Table;
+use crate::steps::View::{Beside, Epoch, HasGarbage, Nest, SetGarbage};
 use sdd_domain::domain::Domain;
 use sdd_domain::guard::{Guard, deeper};
 use sdd_domain::local::Local;
-use std::process::Abort;
 
 /// A guard, opened and closed one by one, accelerated or not: the epoch that it saw.
 pub(crate) fn pass(domain: &Domain<u64>, local: &mut Local<u64>, accelerated: bool) -> u8
@@ -40,148 +43,201 @@ pub(crate) fn passes(domain: &Domain<u64>, local: &mut Local<u64>, accelerated: 
     }
 }
 
-/// The epochs that four accelerated guards of a new participant see, which is ended then.
-fn four_of_a_new_one<R: Abort>(rt: &R, domain: &Domain<u64>) -> [u8; 4] {
-    let mut member = Member::new(rt, domain);
-    let found = member.four();
-    member.end();
-    found
-}
+/// Accelerated guards, one by one, each raise the count, whoever is registered.
+const EACH_RAISES: Table = Table {
+    participants: 1,
+    slots: 0,
+    cells: 0,
+    first: 0,
+    parts: &[
+        Apart(&[
+            (Pass(true), Is(0)),
+            (Pass(true), Is(1)),
+            (Pass(true), Is(2)),
+            (Pass(true), Is(3)),
+        ]),
+        Renew,
+        Apart(&[
+            (Pass(true), Is(4)),
+            (Pass(true), Is(5)),
+            (Pass(true), Is(6)),
+            (Pass(true), Is(7)),
+        ]),
+    ],
+};
+
+/// An open guard lets the count be raised once.
+const ONCE_BESIDE_A_GUARD: Table = Table {
+    participants: 2,
+    slots: 0,
+    cells: 0,
+    first: 0,
+    parts: &[
+        Apart(&[(Join, Is(1))]),
+        Under(&[
+            (Beside(Pass(true)), Is(0)),
+            (Beside(Pass(true)), Is(1)),
+            (Beside(Pass(true)), Is(1)),
+            (Beside(Pass(true)), Is(1)),
+            (Epoch, Is(1)),
+        ]),
+        Apart(&[
+            (Alternate, Nothing),
+            (Pass(true), Is(1)),
+            (Pass(true), Is(2)),
+            (Pass(true), Is(3)),
+            (Pass(true), Is(4)),
+        ]),
+    ],
+};
+
+/// A participant that isn't registered holds nothing up.
+const NOT_REGISTERED: Table = Table {
+    participants: 9,
+    slots: 0,
+    cells: 0,
+    first: 0,
+    parts: &[Apart(&[
+        (Join, Is(1)),
+        (Alternate, Nothing),
+        (Leave, Nothing),
+        (Pass(true), Is(0)),
+        (Pass(true), Is(1)),
+        (Pass(true), Is(2)),
+        (Pass(true), Is(3)),
+    ])],
+};
+
+/// Only the outermost closing scans and closes.
+const OUTERMOST_CLOSING: Table = Table {
+    participants: 2,
+    slots: 0,
+    cells: 0,
+    first: 0,
+    parts: &[
+        Apart(&[(Join, Is(1))]),
+        Under(&[
+            (Nest, Yes),
+            (Epoch, Is(0)),
+            (Beside(Pass(true)), Is(0)),
+            (Beside(Pass(true)), Is(1)),
+            (Beside(Pass(true)), Is(1)),
+            (Beside(Pass(true)), Is(1)),
+        ]),
+        Apart(&[
+            (Pass(false), Is(1)),
+            (Alternate, Nothing),
+            (Pass(true), Is(1)),
+            (Pass(true), Is(2)),
+            (Pass(true), Is(3)),
+            (Pass(true), Is(4)),
+        ]),
+    ],
+};
+
+/// Acceleration ends with its nesting.
+const ACCELERATION_ENDS: Table = Table {
+    participants: 1,
+    slots: 0,
+    cells: 0,
+    first: 0,
+    parts: &[Apart(&[
+        (Pass(true), Is(0)),
+        (Passes(false, 200), Nothing),
+        (Pass(false), Is(1)),
+    ])],
+};
+
+/// Garbage is scanned for at the sixty-fourth closing.
+const SIXTY_FOURTH_CLOSING: Table = Table {
+    participants: 1,
+    slots: 0,
+    cells: 0,
+    first: 0,
+    parts: &[
+        Under(&[(HasGarbage, No), (SetGarbage, Nothing), (HasGarbage, Yes)]),
+        Apart(&[(Passes(false, 62), Nothing), (Pass(false), Is(0))]),
+        Under(&[(Epoch, Is(1)), (HasGarbage, No)]),
+        Apart(&[(Passes(false, 200), Nothing), (Pass(false), Is(1))]),
+    ],
+};
+
+/// Closings count up to a flag that comes late.
+const LATE_FLAG: Table = Table {
+    participants: 1,
+    slots: 0,
+    cells: 0,
+    first: 0,
+    parts: &[
+        Apart(&[(Passes(false, 100), Nothing)]),
+        Under(&[(SetGarbage, Nothing), (HasGarbage, Yes)]),
+        Apart(&[(Pass(false), Is(1))]),
+    ],
+};
+
+/// The last counts are told apart, up to the end.
+const LAST_COUNTS: Table = Table {
+    participants: 2,
+    slots: 0,
+    cells: 0,
+    first: u64::MAX - 2,
+    parts: &[Apart(&[
+        (Pass(true), Is(61)),
+        (Pass(true), Is(62)),
+        (Pass(true), Is(63)),
+        (Pass(true), Is(63)),
+        (Pass(true), Is(63)),
+        (Pass(true), Is(63)),
+        (Pass(true), Is(63)),
+        (Pass(true), Is(63)),
+    ])],
+};
+
+/// And beside an open guard.
+const LAST_COUNT_BESIDE_A_GUARD: Table = Table {
+    participants: 2,
+    slots: 0,
+    cells: 0,
+    first: u64::MAX - 1,
+    parts: &[
+        Apart(&[(Join, Is(1))]),
+        Under(&[
+            (Beside(Pass(true)), Is(62)),
+            (Beside(Pass(true)), Is(63)),
+            (Beside(Pass(true)), Is(63)),
+            (Beside(Pass(true)), Is(63)),
+        ]),
+    ],
+};
+
+/// Guards nest.
+const NESTED: Table = Table {
+    participants: 1,
+    slots: 0,
+    cells: 0,
+    first: 0,
+    parts: &[Under(&[(Nest, Yes)])],
+};
 
 #[test]
-fn accelerated_guards_one_by_one_each_raise_the_count(rt: HostRuntime) {
-    let found = in_a_place(&rt, rt.alloc(), only(1), |domain| {
-        (
-            four_of_a_new_one(&rt, domain),
-            four_of_a_new_one(&rt, domain),
-        )
-    });
-    assert_eq!(rt; found, ([0, 1, 2, 3], [4, 5, 6, 7]));
-}
-
-#[test]
-fn an_open_guard_lets_the_count_be_raised_once(rt: HostRuntime) {
-    let found = in_a_place(&rt, rt.alloc(), only(2), |domain| {
-        let reader = Member::new(&rt, domain);
-        let mut writer = Member::new(&rt, domain);
-        let mut reader = reader.open();
-        let first = writer.four();
-        let epoch = reader.epoch();
-        let reader = reader.close();
-        let second = writer.four();
-        reader.end();
-        writer.end();
-        (first, epoch, second)
-    });
-    assert_eq!(rt; found, ([0, 1, 1, 1], 1, [1, 2, 3, 4]));
-}
-
-#[test]
-fn a_participant_that_isn_t_registered_holds_nothing_up(rt: HostRuntime) {
-    let found = in_a_place(&rt, rt.alloc(), only(9), |domain| {
-        let gone = Member::new(&rt, domain);
-        let mut member = Member::new(&rt, domain);
-        gone.end();
-        let found = member.four();
-        member.end();
-        found
-    });
-    assert_eq!(rt; found, [0, 1, 2, 3]);
-}
-
-#[test]
-fn only_the_outermost_closing_scans_and_closes(rt: HostRuntime) {
-    let found = in_a_place(&rt, rt.alloc(), only(2), |domain| {
-        let member = Member::new(&rt, domain);
-        let mut other = Member::new(&rt, domain);
-        let mut outer = member.open();
-        let nested = outer.nested();
-        let within = (outer.epoch(), other.four());
-        let mut member = outer.close();
-        let behind = (member.pass(false), other.four());
-        member.end();
-        other.end();
-        (nested, within, behind)
-    });
-    assert_eq!(rt; found, (None, (0, [0, 1, 1, 1]), (1, [1, 2, 3, 4])));
-}
-
-#[test]
-fn acceleration_ends_with_its_nesting(rt: HostRuntime) {
-    let found = alone(&rt, rt.alloc(), only(1), |member| {
-        let first = member.pass(true);
-        member.plain(200);
-        (first, member.pass(false))
-    });
-    assert_eq!(rt; found, (0, 1));
-}
-
-/// A guard under which the flag of garbage is set: whether it was set before, and is then.
-fn set_garbage(member: Member<'_>) -> (Member<'_>, (bool, bool)) {
-    let mut guard = member.open();
-    let before = guard.has_garbage();
-    guard.set_has_garbage();
-    let after = guard.has_garbage();
-    (guard.close(), (before, after))
-}
-
-#[test]
-fn garbage_is_scanned_for_at_the_sixty_fourth_closing(rt: HostRuntime) {
-    let found = in_a_place(&rt, rt.alloc(), only(1), |domain| {
-        let (mut member, set) = set_garbage(Member::new(&rt, domain));
-        member.plain(62);
-        let last = member.pass(false);
-        let mut guard = member.open();
-        let scanned = (guard.epoch(), guard.has_garbage());
-        let mut member = guard.close();
-        member.plain(200);
-        let later = member.pass(false);
-        member.end();
-        (set, last, scanned, later)
-    });
-    assert_eq!(rt; found, ((false, true), 0, (1, false), 1));
-}
-
-#[test]
-fn closings_count_up_to_a_flag_that_comes_late(rt: HostRuntime) {
-    let found = in_a_place(&rt, rt.alloc(), only(1), |domain| {
-        let mut member = Member::new(&rt, domain);
-        member.plain(100);
-        let (mut member, set) = set_garbage(member);
-        let epoch = member.pass(false);
-        member.end();
-        (set.1, epoch)
-    });
-    assert_eq!(rt; found, (true, 1));
-}
-
-#[test]
-fn the_last_counts_are_told_apart(rt: HostRuntime) {
-    let domain = Domain::with_count(rt.alloc(), only(2), u64::MAX - 2).expect(
+fn guards_raise_the_count_scan_and_nest(rt: HostRuntime) {
+    let wrong = first_wrong(
         &rt,
-        "memory is there",
+        rt.alloc(),
+        &[
+            EACH_RAISES,
+            ONCE_BESIDE_A_GUARD,
+            NOT_REGISTERED,
+            OUTERMOST_CLOSING,
+            ACCELERATION_ENDS,
+            SIXTY_FOURTH_CLOSING,
+            LATE_FLAG,
+            LAST_COUNTS,
+            LAST_COUNT_BESIDE_A_GUARD,
+            NESTED,
+        ],
     );
-    let one = in_this(&rt, domain, |domain| {
-        let mut member = Member::new(&rt, domain);
-        let found = (member.four(), member.four());
-        member.end();
-        found
-    });
-    let domain = Domain::with_count(rt.alloc(), only(2), u64::MAX - 1).expect(
-        &rt,
-        "memory is there",
-    );
-    let two = in_this(&rt, domain, |domain| {
-        let reader = Member::new(&rt, domain);
-        let mut writer = Member::new(&rt, domain);
-        let reader = reader.open();
-        let found = writer.four();
-        reader.close().end();
-        writer.end();
-        found
-    });
-    assert_eq!(rt; one, ([61, 62, 63, 63], [63, 63, 63, 63]));
-    assert_eq!(rt; two, [62, 63, 63, 63]);
+    assert_eq!(rt; wrong, None);
 }
 
 #[test]
@@ -195,11 +251,4 @@ fn guards_nest_up_to_their_end(rt: HostRuntime) {
         ],
         [Some(1), Some(2), Some(u32::MAX), None]
     );
-    let refused = in_a_place(&rt, rt.alloc(), only(1), |domain| {
-        let mut outer = Member::new(&rt, domain).open();
-        let refused = outer.nested();
-        outer.close().end();
-        refused
-    });
-    assert_eq!(rt; refused, None);
 }

@@ -13,8 +13,9 @@ use std::alloc::AllocError;
 use std::process::Abort;
 use std::sync::Arc;
 use std::sync::atomic::{AtomicU64, Ordering};
-use std::test::Fail;
-use std::thread::join;
+use std::thread::{Threads, join};
+
+const ROOM: &str = "memory is there";
 
 /// A job, which counts how often it runs.
 #[derive(Drop)]
@@ -45,6 +46,11 @@ fn counting(runs: &Arc<AtomicU64>) -> Result<Count, AllocError> {
     Ok(Count {
         runs: runs.clone()?,
     })
+}
+
+/// The same where memory is there.
+fn counted<R: Abort>(rt: &R, runs: &Arc<AtomicU64>) -> Count {
+    counting(runs).expect(rt, ROOM)
 }
 
 fn member<R: Abort>(rt: &R, domain: &Domain<Count>) -> Local<Count>
@@ -105,10 +111,10 @@ fn passes(domain: &Domain<Count>, local: &mut Local<Count>, runs: &AtomicU64, gu
 }
 
 #[test]
-fn a_job_runs_once_as_the_fourth_guard_opens(rt: HostRuntime) -> Result<(), Fail> {
-    let runs = Arc::new(rt.alloc(), AtomicU64::new(0))?;
-    let (job, another) = (counting(&runs)?, counting(&runs)?);
-    let domain = Domain::new(rt.alloc(), sized(1, 1))?;
+fn a_job_runs_once_as_the_fourth_guard_opens(rt: HostRuntime) {
+    let runs = Arc::new(rt.alloc(), AtomicU64::new(0)).expect(&rt, ROOM);
+    let (job, another) = (counted(&rt, &runs), counted(&rt, &runs));
+    let domain = Domain::new(rt.alloc(), sized(1, 1)).expect(&rt, ROOM);
     let mut local = member(&rt, &domain);
     let waits = deferred(&domain, &mut local, job).is_ok();
     let refused = deferred(&domain, &mut local, another).is_err();
@@ -119,7 +125,6 @@ fn a_job_runs_once_as_the_fourth_guard_opens(rt: HostRuntime) -> Result<(), Fail
     end(&rt, domain);
     let found = (third, fourth, later, runs.load(Ordering::SeqCst));
     assert_eq!(rt; (waits, refused, found), (true, true, (0, 1, 1, 1)));
-    Ok(())
 }
 
 /// Ends a place in which nobody is registered.
@@ -139,12 +144,10 @@ fn left_behind<R: Abort>(rt: &R, domain: &Domain<Count>, job: Count) -> bool {
 }
 
 #[test]
-fn what_an_ended_participant_deferred_is_run_by_the_next_one_or_at_the_close(
-    rt: HostRuntime,
-) -> Result<(), Fail> {
-    let runs = Arc::new(rt.alloc(), AtomicU64::new(0))?;
-    let (first, second) = (counting(&runs)?, counting(&runs)?);
-    let domain = Domain::new(rt.alloc(), sized(1, 1))?;
+fn what_an_ended_participant_deferred_is_run_by_the_next_one_or_at_the_close(rt: HostRuntime) {
+    let runs = Arc::new(rt.alloc(), AtomicU64::new(0)).expect(&rt, ROOM);
+    let (first, second) = (counted(&rt, &runs), counted(&rt, &runs));
+    let domain = Domain::new(rt.alloc(), sized(1, 1)).expect(&rt, ROOM);
     let waits = left_behind(&rt, &domain, first);
     let mut local = member(&rt, &domain);
     let next = passes(&domain, &mut local, &runs, 4);
@@ -154,14 +157,13 @@ fn what_an_ended_participant_deferred_is_run_by_the_next_one_or_at_the_close(
     end(&rt, domain);
     let found = (waits, again, next, before, runs.load(Ordering::SeqCst));
     assert_eq!(rt; found, (true, true, 1, 1, 2));
-    Ok(())
 }
 
 #[test]
-fn a_job_waits_for_an_older_guard_of_another_participant(rt: HostRuntime) -> Result<(), Fail> {
-    let runs = Arc::new(rt.alloc(), AtomicU64::new(0))?;
-    let job = counting(&runs)?;
-    let domain = Domain::new(rt.alloc(), sized(2, 1))?;
+fn a_job_waits_for_an_older_guard_of_another_participant(rt: HostRuntime) {
+    let runs = Arc::new(rt.alloc(), AtomicU64::new(0)).expect(&rt, ROOM);
+    let job = counted(&rt, &runs);
+    let domain = Domain::new(rt.alloc(), sized(2, 1)).expect(&rt, ROOM);
     let (mut local, mut other) = (member(&rt, &domain), member(&rt, &domain));
     let Ok(older) = Guard::new(&domain, &mut other) else {
         unreachable!();
@@ -174,7 +176,6 @@ fn a_job_waits_for_an_older_guard_of_another_participant(rt: HostRuntime) -> Res
     other.end(&domain);
     end(&rt, domain);
     assert_eq!(rt; (waits, beside, behind), (true, 0, 1));
-    Ok(())
 }
 
 /// What the jobs of a thread need.
@@ -204,24 +205,24 @@ fn deferring(scene: &Scene) -> Option<u64> {
     Some(jobs)
 }
 
+/// Two threads that do so.
+fn two<R: Threads + Sync>(rt: &R, scene: &Scene) -> (Option<u64>, Option<u64>) {
+    join(rt, || deferring(scene), || deferring(scene))
+}
+
 #[test]
-fn four_threads_defer_a_thousand_jobs_each_and_each_runs_once(rt: HostRuntime) -> Result<(), Fail> {
-    let runs = Arc::new(rt.alloc(), AtomicU64::new(0))?;
-    let domain = Domain::new(rt.alloc(), sized(4, 8))?;
+fn four_threads_defer_a_thousand_jobs_each_and_each_runs_once(rt: HostRuntime) {
+    let runs = Arc::new(rt.alloc(), AtomicU64::new(0)).expect(&rt, ROOM);
+    let domain = Domain::new(rt.alloc(), sized(4, 8)).expect(&rt, ROOM);
     let scene = Scene {
         domain: &domain,
         runs: &runs,
     };
-    let ((a, b), (c, d)) = join(
-        &rt,
-        || join(&rt, || deferring(&scene), || deferring(&scene)),
-        || join(&rt, || deferring(&scene), || deferring(&scene)),
-    );
+    let ((a, b), (c, d)) = join(&rt, || two(&rt, &scene), || two(&rt, &scene));
     end(&rt, domain);
     let deferred = [a, b, c, d];
     assert_eq!(rt;
         (deferred, runs.load(Ordering::SeqCst)),
         ([Some(1000); 4], 4000)
     );
-    Ok(())
 }

@@ -6,24 +6,34 @@ mod cells;
 #[cfg(test)]
 mod clones;
 #[cfg(test)]
+mod crowd;
+#[cfg(test)]
 mod domain;
 #[cfg(test)]
 mod guard;
+#[cfg(test)]
+mod hands;
 #[cfg(test)]
 mod items;
 #[cfg(test)]
 mod jobs;
 #[cfg(test)]
-mod members;
-#[cfg(test)]
 mod nested;
 #[cfg(test)]
 mod owners;
+#[cfg(test)]
+mod play;
 #[cfg(test)]
 mod refusals;
 #[cfg(test)]
 mod shares;
 #[cfg(test)]
+mod stage;
+#[cfg(test)]
+mod steps;
+#[cfg(test)]
 mod tags;
 #[cfg(test)]
 mod threads;
+#[cfg(test)]
+mod views;

@@ -5,18 +5,25 @@ ghost use Rattle.sdd_domain.specs.Cells.{cell_number};
 ghost use Rattle.sdd_domain.specs.Sharing.{kept_in};
 ghost use Rattle.sdd_domain.specs.Tokens.{place_of, home_of, hand_of, own_of, cell_count, IsSame, IsSameButMisses};
 
-use crate::cells::{Scene, cell_with, read, reclaim_all, spent};
-use crate::domain::{end, member};
-use crate::guard::{pass, passes};
-use crate::items::{placed, sized};
+use crate::cells::Scene;
+use crate::crowd::{CellTask, around_a_cell};
+use crate::guard::pass;
+use crate::play::first_wrong;
+use crate::steps::Act::{
+    Change, IsNull, Join, Make, Null, Own, Passes, Peek, Place, Read, Release, Retire, Slots, Swap,
+};
+use crate::steps::Found::{Is, No, Nothing, Tagged, Yes};
+use crate::steps::Part::{Apart, Under};
+use crate::steps::Table;
+use crate::steps::View::{
+    Beside, CloneCell, Do, Item, Lend, LendItem, Lent, Load, Share, ShareCell,
+};
 use sdd_base::tag::Tag;
 use sdd_domain::atomic_shared::AtomicShared;
 use sdd_domain::domain::Domain;
 use sdd_domain::guard::Guard;
 use sdd_domain::local::Local;
 use sdd_domain::shared::Shared;
-use std::test::Fail;
-use std::thread::join;
 
 /// An owner of what the cell names, made under a guard of its own, and what that guard read.
 fn shared(
@@ -41,14 +48,6 @@ fn shared(
     (owner, item)
 }
 
-/// The item of an owner that there may be.
-fn item_of(owner: &Option<Shared<u64>>) -> Option<u64> {
-    match owner {
-        Some(owner) => Some(*owner.as_ref()),
-        None => None,
-    }
-}
-
 /// Releases it, if it is there: whether it was the last one.
 fn released(domain: &Domain<u64>, local: &mut Local<u64>, owner: Option<Shared<u64>>) -> bool
     requires home { (home_of local.old ≡ place_of domain.now) × (hand_of local.old ≡ []) }
@@ -63,148 +62,122 @@ fn released(domain: &Domain<u64>, local: &mut Local<u64>, owner: Option<Shared<u
     }
 }
 
-#[test]
-fn an_owner_of_what_was_loaded_outlives_guard_and_cell(rt: HostRuntime) -> Result<(), Fail> {
-    let domain = Domain::new(rt.alloc(), sized(1, 2))?;
-    let mut local = member(&rt, &domain);
-    let cell = cell_with(&rt, &domain, &mut local, 7);
-    let (owner, seen) = shared(&domain, &mut local, &cell);
-    let with_cell = cell.retire(&domain, &mut local);
-    passes(&domain, &mut local, true, 6);
-    let kept = (item_of(&owner), domain.slots_in_use());
-    let last = released(&domain, &mut local, owner);
-    passes(&domain, &mut local, true, 4);
-    let left = domain.slots_in_use();
-    local.end(&domain);
-    end(&rt, domain);
-    assert_eq!(rt;
-        (seen, with_cell, kept, last, left),
-        (Some(7), false, (Some(7), 1), true, 0)
-    );
-    Ok(())
-}
+/// An owner of what was loaded outlives guard and cell.
+const OUTLIVES: Table = Table {
+    participants: 1,
+    slots: 2,
+    cells: 4,
+    first: 0,
+    parts: &[
+        Apart(&[(Place(7), Nothing), (Own, Yes)]),
+        Under(&[(Load, Is(7)), (Share, Yes)]),
+        Apart(&[
+            (Retire, No),
+            (Passes(true, 6), Nothing),
+            (Read, Is(7)),
+            (Slots, Is(1)),
+            (Release, Yes),
+            (Passes(true, 4), Nothing),
+            (Slots, Is(0)),
+        ]),
+    ],
+};
+
+/// Nothing, and what is retired, have no more owners.
+const NO_MORE: Table = Table {
+    participants: 1,
+    slots: 2,
+    cells: 4,
+    first: 0,
+    parts: &[
+        Apart(&[(Place(7), Nothing), (Own, Yes)]),
+        Under(&[
+            (Load, Is(7)),
+            (Do(Swap(Tag::None)), Tagged(Tag::None)),
+            (Do(Read), Is(7)),
+            (Do(Release), Yes),
+            (Share, No),
+            (ShareCell, No),
+            (Item, Is(7)),
+        ]),
+        Apart(&[(Retire, No)]),
+    ],
+};
+
+/// An owner's item is read until the guard closes, though the owner was the last one.
+const LENT: Table = Table {
+    participants: 2,
+    slots: 2,
+    cells: 4,
+    first: 0,
+    parts: &[
+        Apart(&[(Join, Is(1)), (Place(5), Nothing)]),
+        Under(&[
+            (Lend, Is(5)),
+            (LendItem, Is(5)),
+            (Do(Release), Yes),
+            (Beside(Passes(true, 6)), Nothing),
+            (Item, Is(5)),
+            (Lent, Is(5)),
+            (Do(Slots), Is(1)),
+        ]),
+        Apart(&[(Passes(true, 4), Nothing), (Slots, Is(0))]),
+    ],
+};
+
+/// A clone of a cell owns its item too, and one of a cell that owns nothing owns nothing.
+const CLONED: Table = Table {
+    participants: 1,
+    slots: 2,
+    cells: 4,
+    first: 0,
+    parts: &[
+        Apart(&[(Place(3), Nothing), (Own, Yes)]),
+        Under(&[(CloneCell, Yes)]),
+        Apart(&[
+            (Retire, No),
+            (Change, Nothing),
+            (Peek, Is(3)),
+            (Retire, Yes),
+            (Null, Yes),
+        ]),
+        Under(&[(CloneCell, Yes)]),
+        Apart(&[
+            (Retire, No),
+            (Change, Nothing),
+            (IsNull, Yes),
+            (Peek, Nothing),
+            (Retire, No),
+        ]),
+    ],
+};
+
+/// A cell is made of an item where there are slots and cells.
+const MADE: Table = Table {
+    participants: 1,
+    slots: 1,
+    cells: 4,
+    first: 0,
+    parts: &[Apart(&[
+        (Place(1), Nothing),
+        (Make(2), Is(2)),
+        (Release, Yes),
+        (Passes(true, 4), Nothing),
+        (Make(3), Nothing),
+        (Peek, Is(3)),
+        (Retire, Yes),
+    ])],
+};
 
 #[test]
-fn nothing_and_what_is_retired_have_no_more_owners(rt: HostRuntime) -> Result<(), Fail> {
-    let domain = Domain::new(rt.alloc(), sized(1, 2))?;
-    let mut local = member(&rt, &domain);
-    let cell = cell_with(&rt, &domain, &mut local, 7);
-    let Ok(guard) = Guard::new(&domain, &mut local) else {
-        unreachable!();
-    };
-    let pointer = cell.load(&domain, &guard, &mut local);
-    let (old, _) = cell.swap((None, Tag::None), &domain, &mut local);
-    let out = spent(&domain, &mut local, old);
-    let late = pointer.get_shared(&domain, &mut local);
-    let of_nothing = cell.get_shared(&domain, &guard, &mut local);
-    let read = pointer.as_ref().copied();
-    guard.close(&domain, &mut local);
-    let found = (item_of(&late), item_of(&of_nothing));
-    released(&domain, &mut local, late);
-    released(&domain, &mut local, of_nothing);
-    cell.retire(&domain, &mut local);
-    local.end(&domain);
-    end(&rt, domain);
-    assert_eq!(rt; (out, read, found), (Some(7), Some(7), (None, None)));
-    Ok(())
-}
-
-#[test]
-fn an_owners_item_is_read_until_the_guard_closes(rt: HostRuntime) -> Result<(), Fail> {
-    let domain = Domain::new(rt.alloc(), sized(2, 2))?;
-    let (mut local, mut other) = (member(&rt, &domain), member(&rt, &domain));
-    let owner = placed(&rt, &domain, &mut local, 5);
-    let Ok(guard) = Guard::new(&domain, &mut local) else {
-        unreachable!();
-    };
-    let (owner, pointer) = owner.get_guarded_ptr(&domain, &guard, &mut local);
-    let (owner, item) = owner.get_guarded_ref(&domain, &guard, &mut local);
-    let last = owner.release(&domain, &mut local);
-    passes(&domain, &mut other, true, 6);
-    let read = (pointer.as_ref().copied(), *item, domain.slots_in_use());
-    guard.close(&domain, &mut local);
-    passes(&domain, &mut local, true, 4);
-    let left = domain.slots_in_use();
-    local.end(&domain);
-    other.end(&domain);
-    end(&rt, domain);
-    assert_eq!(rt; (last, read, left), (true, (Some(5), 5, 1), 0));
-    Ok(())
-}
-
-/// What a clone of the cell names, after the cell itself is retired; and whether that was the last owner, and the clone's.
-fn cloned(
-    domain: &Domain<u64>,
-    local: &mut Local<u64>,
-    cell: AtomicShared,
-) -> Option<(Option<u64>, bool, bool)>
-    requires home { (home_of local.old ≡ place_of domain.now) × (hand_of local.old ≡ []) }
-    requires closed { (own_of local.old).nesting ≡ 0 }
-    requires inside { cell_number cell < cell_count domain.now }
-    ensures same { IsSameButMisses local.old local.new }
-    ensures closed { (own_of local.new).nesting ≡ 0 }
-{
-    let Ok(guard) = Guard::new(domain, local) else {
-        unreachable!();
-    };
-    let other = cell.clone(domain, &guard, local);
-    guard.close(domain, local);
-    let first = cell.retire(domain, local);
-    let other = other?;
-    let item = read(domain, local, &other);
-    Some((item, first, other.retire(domain, local)))
-}
-
-#[test]
-fn a_clone_of_a_cell_owns_its_item_too(rt: HostRuntime) -> Result<(), Fail> {
-    let domain = Domain::new(rt.alloc(), sized(1, 2))?;
-    let mut local = member(&rt, &domain);
-    let cell = cell_with(&rt, &domain, &mut local, 3);
-    let of_item = cloned(&domain, &mut local, cell);
-    let of_nothing = match AtomicShared::null(&domain, &mut local) {
-        Some(cell) => cloned(&domain, &mut local, cell),
-        None => None,
-    };
-    local.end(&domain);
-    end(&rt, domain);
-    assert_eq!(rt;
-        (of_item, of_nothing),
-        (Some((Some(3), false, true)), Some((None, false, false)))
-    );
-    Ok(())
-}
-
-/// Makes cells of these items, and clones of the first one, until there is none: what each made names, and what came back.
-#[test]
-fn a_cell_is_made_of_an_item_where_there_are_slots_and_cells(rt: HostRuntime) -> Result<(), Fail> {
-    let domain = Domain::new(rt.alloc(), sized(1, 1))?;
-    let mut local = member(&rt, &domain);
-    let owner = placed(&rt, &domain, &mut local, 1);
-    let full = match AtomicShared::new(2, &domain, &mut local) {
-        Ok(cell) => {
-            cell.retire(&domain, &mut local);
-            None
-        }
-        Err(item) => Some(item),
-    };
-    owner.release(&domain, &mut local);
-    passes(&domain, &mut local, true, 4);
-    let made = match AtomicShared::new(3, &domain, &mut local) {
-        Ok(cell) => {
-            let item = read(&domain, &mut local, &cell);
-            (item, cell.retire(&domain, &mut local))
-        }
-        Err(item) => (Some(item), false),
-    };
-    local.end(&domain);
-    end(&rt, domain);
-    assert_eq!(rt; (full, made), (Some(2), (Some(3), true)));
-    Ok(())
+fn owners_and_cells_are_made_of_what_cells_name(rt: HostRuntime) {
+    let tables = [OUTLIVES, NO_MORE, LENT, CLONED, MADE];
+    assert_eq!(rt; first_wrong(&rt, rt.alloc(), &tables), None);
 }
 
 /// Makes an owner of what the cell names a thousand times, beside others, puts it into the cell, and releases what that
 /// had: how many owners read another item than their guard did. None if no participant was free.
-fn sharing(scene: &Scene) -> Option<u32> {
+pub(crate) fn sharing(scene: &Scene) -> Option<u32> {
     let Scene { domain, cell } = *scene;
     let Ok(mut local) = domain.register() else {
         return None;
@@ -239,27 +212,9 @@ fn shares(domain: &Domain<u64>, local: &mut Local<u64>, cell: &AtomicShared) -> 
 }
 
 #[test]
-fn four_threads_own_what_one_cell_names(rt: HostRuntime) -> Result<(), Fail> {
-    let domain = Domain::new(rt.alloc(), sized(5, 8))?;
-    let mut local = member(&rt, &domain);
-    let cell = cell_with(&rt, &domain, &mut local, 7);
-    let scene = Scene {
-        domain: &domain,
-        cell: &cell,
-    };
-    let ((a, b), (c, d)) = join(
-        &rt,
-        || join(&rt, || sharing(&scene), || sharing(&scene)),
-        || join(&rt, || sharing(&scene), || sharing(&scene)),
-    );
-    let named = read(&domain, &mut local, &cell);
-    let held = domain.slots_in_use();
-    let last = cell.retire(&domain, &mut local);
-    local.end(&domain);
-    reclaim_all(&domain, 1);
-    let left = domain.slots_in_use();
-    end(&rt, domain);
-    assert_eq!(rt; [a, b, c, d], [Some(0); 4]);
-    assert_eq!(rt; (named, held, last, left), (Some(7), 1, true, 0));
-    Ok(())
+fn four_threads_own_what_one_cell_names(rt: HostRuntime) {
+    let tasks = [CellTask::Shares; 4];
+    let (told, behind) = around_a_cell(&rt, rt.alloc(), 8, 7, tasks, 0);
+    assert_eq!(rt; told, [Some(0); 4]);
+    assert_eq!(rt; behind, (Some(7), 1, true, 0));
 }

@@ -3,13 +3,13 @@
 ghost use Rattle.std.specs.Prelude.{◌≡◌, []};
 ghost use Rattle.sdd_domain.specs.Tokens.{place_of, home_of, hand_of, own_of, IsSame};
 
+use crate::crowd::{Task, Told, four, two};
 use crate::domain::{end, member, only};
 use crate::guard::pass;
 use sdd_base::epoch::Epoch;
 use sdd_domain::domain::Domain;
 use sdd_domain::guard::Guard;
 use sdd_domain::local::Local;
-use std::thread::join;
 
 /// An accelerated guard under which the epoch is read three times: whether it went on by one at most.
 fn is_steady(domain: &Domain<u64>, local: &mut Local<u64>) -> bool
@@ -35,7 +35,7 @@ fn goes_on(earlier: Epoch, later: Epoch) -> bool {
 }
 
 /// A thousand accelerated guards of one participant: how many were steady. None if no participant was free.
-fn stays(domain: &Domain<u64>) -> Option<u32> {
+pub(crate) fn stays(domain: &Domain<u64>) -> Told {
     let Ok(mut local) = domain.register() else {
         return None;
     };
@@ -46,12 +46,12 @@ fn stays(domain: &Domain<u64>) -> Option<u32> {
         }
     }
     local.end(domain);
-    Some(steady)
+    Some((steady, true))
 }
 
 /// A thousand participants one after the other, each with one accelerated guard: how many were registered and had a
 /// steady guard.
-fn comes_and_goes(domain: &Domain<u64>) -> Option<u32> {
+pub(crate) fn comes_and_goes(domain: &Domain<u64>) -> Told {
     let mut steady = 0;
     for _i in 0..1000u32 {
         let Ok(mut local) = domain.register() else {
@@ -62,32 +62,28 @@ fn comes_and_goes(domain: &Domain<u64>) -> Option<u32> {
         }
         local.end(domain);
     }
-    Some(steady)
+    Some((steady, true))
 }
 
 #[test]
 fn four_threads_open_a_thousand_accelerated_guards_each(rt: HostRuntime) {
     let domain = Domain::new(rt.alloc(), only(4)).expect(&rt, "memory is there");
-    let ((a, b), (c, d)) = join(
-        &rt,
-        || join(&rt, || stays(&domain), || stays(&domain)),
-        || join(&rt, || stays(&domain), || stays(&domain)),
-    );
+    let told = four(&rt, &domain, [Task::Stays; 4]);
     let mut local = member(&rt, &domain);
     let before = pass(&domain, &mut local, true);
     let after = pass(&domain, &mut local, true);
     local.end(&domain);
     end(&rt, domain);
-    assert_eq!(rt; [a, b, c, d], [Some(1000); 4]);
+    assert_eq!(rt; told, [Some((1000, true)); 4]);
     assert_eq!(rt; u32::from(after), (u32::from(before) + 1) % 64);
 }
 
 #[test]
 fn participants_come_and_go_beside_guards_of_others(rt: HostRuntime) {
     let domain = Domain::new(rt.alloc(), only(2)).expect(&rt, "memory is there");
-    let (a, b) = join(&rt, || stays(&domain), || comes_and_goes(&domain));
+    let told = two(&rt, &domain, Task::Stays, Task::ComesAndGoes);
     end(&rt, domain);
-    assert_eq!(rt; [a, b], [Some(1000); 2]);
+    assert_eq!(rt; told, (Some((1000, true)), Some((1000, true))));
 }
 
 #[test]
@@ -97,10 +93,10 @@ fn the_count_is_raised_once_under_a_guard_whatever_others_do(rt: HostRuntime) {
     let Ok(guard) = Guard::new(&domain, &mut local) else {
         unreachable!();
     };
-    let (a, b) = join(&rt, || stays(&domain), || stays(&domain));
+    let (a, b) = two(&rt, &domain, Task::Stays, Task::Stays);
     let epoch = u8::from(guard.epoch(&domain, &mut local));
     guard.close(&domain, &mut local);
     local.end(&domain);
     end(&rt, domain);
-    assert_eq!(rt; ([a, b], epoch), ([Some(1000); 2], 1));
+    assert_eq!(rt; ([a, b], epoch), ([Some((1000, true)); 2], 1));
 }

@@ -1,0 +1,289 @@
+//! What a participant does with an owner in its hand, and with a cell.
+
+ghost use Rattle.std.specs.Prelude.{◌<◌};
+ghost use Rattle.sdd_domain.specs.Cells.{cell_number};
+ghost use Rattle.sdd_domain.specs.Tokens.{cell_count};
+ghost use Rattle.domain_tests.specs.Steps.{IsHome, Stays, IsOpen, IsOurs, IsInside};
+
+use crate::steps::{Found, View};
+use sdd_base::tag::Tag;
+use sdd_domain::atomic_shared::AtomicShared;
+use sdd_domain::domain::Domain;
+use sdd_domain::guard::Guard;
+use sdd_domain::local::Local;
+use sdd_domain::pointer::Ptr;
+use sdd_domain::shared::Shared;
+
+/// An owner, or none.
+pub(crate) type Hand = Option<Shared<u64>>;
+
+/// An answer.
+pub(crate) fn told(yes: bool) -> Found {
+    if yes { Found::Yes } else { Found::No }
+}
+
+/// An item, or nothing.
+pub(crate) fn item(item: Option<&u64>) -> Found {
+    match item {
+        Some(item) => Found::Is(*item),
+        None => Found::Nothing,
+    }
+}
+
+/// How many slots are in use.
+pub(crate) fn count(domain: &Domain<u64>) -> Found {
+    Found::Is(domain.slots_in_use() as u64)
+}
+
+/// The number of a participant.
+pub(crate) fn number(local: &Local<u64>) -> u64 {
+    local.number() as u64
+}
+
+pub(crate) fn release(domain: &Domain<u64>, local: &mut Local<u64>, hand: Hand) -> Found
+    requires home { IsHome domain.now local.old }
+    requires ours { IsOurs domain.now hand }
+    ensures stays { Stays local.old local.new }
+{
+    match hand {
+        Some(owner) => told(owner.release(domain, local)),
+        None => Found::Nothing,
+    }
+}
+
+pub(crate) fn read(hand: &Hand) -> Found {
+    match hand {
+        Some(owner) => Found::Is(*owner.as_ref()),
+        None => Found::Nothing,
+    }
+}
+
+pub(crate) fn swap(
+    domain: &Domain<u64>,
+    local: &mut Local<u64>,
+    hand: Hand,
+    cell: &AtomicShared,
+    tag: Tag,
+) -> (Hand, Found)
+    requires home { IsHome domain.now local.old }
+    requires ours { IsOurs domain.now hand }
+    requires inside { cell_number cell.now < cell_count domain.now }
+    ensures ours { IsOurs domain.now result.0 }
+    ensures stays { Stays local.old local.new }
+{
+    let (old, tag) = cell.swap((hand, tag), domain, local);
+    (old, Found::Tagged(tag))
+}
+
+/// A new cell that owns nothing, where the participant has none.
+pub(crate) fn null(
+    domain: &Domain<u64>,
+    local: &mut Local<u64>,
+    cell: Option<AtomicShared>,
+) -> (Option<AtomicShared>, Found)
+    requires home { IsHome domain.now local.old }
+    requires inside { IsInside domain.now cell }
+    ensures inside { IsInside domain.now result.0 }
+    ensures stays { Stays local.old local.new }
+{
+    match cell {
+        Some(cell) => (Some(cell), Found::Nothing),
+        None => {
+            let cell = AtomicShared::null(domain, local);
+            let found = told(cell.is_some());
+            (cell, found)
+        }
+    }
+}
+
+/// A new cell that owns what the hand did, where the participant has none.
+pub(crate) fn own(
+    domain: &Domain<u64>,
+    local: &mut Local<u64>,
+    hand: Hand,
+) -> (Option<AtomicShared>, Hand, Found)
+    requires home { IsHome domain.now local.old }
+    requires ours { IsOurs domain.now hand }
+    ensures inside { IsInside domain.now result.0 }
+    ensures ours { IsOurs domain.now result.1 }
+    ensures stays { Stays local.old local.new }
+{
+    match hand {
+        Some(owner) => match AtomicShared::from(owner, domain, local) {
+            Ok(cell) => (Some(cell), None, Found::Yes),
+            Err(owner) => (None, Some(owner), Found::No),
+        },
+        None => (None, None, Found::Nothing),
+    }
+}
+
+/// A new cell of an item, which is back where there is none.
+pub(crate) fn make(
+    domain: &Domain<u64>,
+    local: &mut Local<u64>,
+    item: u64,
+) -> (Option<AtomicShared>, Found)
+    requires home { IsHome domain.now local.old }
+    ensures inside { IsInside domain.now result.0 }
+    ensures stays { Stays local.old local.new }
+{
+    match AtomicShared::new(item, domain, local) {
+        Ok(cell) => (Some(cell), Found::Nothing),
+        Err(item) => (None, Found::Is(item)),
+    }
+}
+
+/// What the cell owned, which is given back.
+pub(crate) fn take(domain: &Domain<u64>, local: &mut Local<u64>, cell: Option<AtomicShared>) -> Hand
+    requires home { IsHome domain.now local.old }
+    requires inside { IsInside domain.now cell }
+    ensures ours { IsOurs domain.now result }
+    ensures stays { Stays local.old local.new }
+{
+    match cell {
+        Some(cell) => cell.into_shared(domain, local),
+        None => None,
+    }
+}
+
+/// Gives the cell back, and releases what it owned: whether that was the last one.
+pub(crate) fn retire(
+    domain: &Domain<u64>,
+    local: &mut Local<u64>,
+    cell: Option<AtomicShared>,
+) -> Found
+    requires home { IsHome domain.now local.old }
+    requires inside { IsInside domain.now cell }
+    ensures stays { Stays local.old local.new }
+{
+    match cell {
+        Some(cell) => told(cell.retire(domain, local)),
+        None => Found::Nothing,
+    }
+}
+
+/// Changes the hand's owner, or none, and a tag for what the cell has where that is as the pointer; or the cell's item.
+pub(crate) fn exchange(
+    domain: &Domain<u64>,
+    guard: &Guard,
+    local: &mut Local<u64>,
+    hand: Hand,
+    cell: &AtomicShared,
+    current: Ptr<u64>,
+    tag: Tag,
+) -> (Hand, Found)
+    requires home { IsHome domain.now local.old }
+    requires open { IsOpen guard.now local.old }
+    requires ours { IsOurs domain.now hand }
+    requires inside { cell_number cell.now < cell_count domain.now }
+    ensures ours { IsOurs domain.now result.0 }
+    ensures stays { Stays local.old local.new }
+{
+    match cell.compare_exchange(current, (hand, tag), domain, guard, local) {
+        Ok((old, _)) => (old, Found::Yes),
+        Err((back, found)) => (back, item(found.as_ref())),
+    }
+}
+
+/// The same by the call that may fail: whether the cell is told to be as it is loaded then.
+pub(crate) fn exchange_weak(
+    domain: &Domain<u64>,
+    guard: &Guard,
+    local: &mut Local<u64>,
+    hand: Hand,
+    cell: &AtomicShared,
+    current: Ptr<u64>,
+    tag: Tag,
+) -> (Hand, Found)
+    requires home { IsHome domain.now local.old }
+    requires open { IsOpen guard.now local.old }
+    requires ours { IsOurs domain.now hand }
+    requires inside { cell_number cell.now < cell_count domain.now }
+    ensures ours { IsOurs domain.now result.0 }
+    ensures stays { Stays local.old local.new }
+{
+    match cell.compare_exchange_weak(current, (hand, tag), domain, guard, local) {
+        Ok((old, named)) => (old, told(named == cell.load(domain, guard, local).named())),
+        Err((back, _)) => (back, Found::Nothing),
+    }
+}
+
+/// The exchange that a step is.
+pub(crate) fn exchanging(
+    domain: &Domain<u64>,
+    guard: &Guard,
+    local: &mut Local<u64>,
+    hand: Hand,
+    cell: &AtomicShared,
+    current: Ptr<u64>,
+    step: View,
+) -> (Hand, Found)
+    requires home { IsHome domain.now local.old }
+    requires open { IsOpen guard.now local.old }
+    requires ours { IsOurs domain.now hand }
+    requires inside { cell_number cell.now < cell_count domain.now }
+    ensures ours { IsOurs domain.now result.0 }
+    ensures stays { Stays local.old local.new }
+{
+    match step {
+        View::Exchange(tag) => exchange(domain, guard, local, hand, cell, current, tag),
+        View::ExchangeWeak(tag) => exchange_weak(domain, guard, local, hand, cell, current, tag),
+        _ => (hand, Found::No),
+    }
+}
+
+/// Loads the cell under an inner guard, which is closed: its item as it is read under the outer one after that.
+pub(crate) fn load_within(
+    domain: &Domain<u64>,
+    outer: &Guard,
+    local: &mut Local<u64>,
+    cell: &AtomicShared,
+) -> Found
+    requires home { IsHome domain.now local.old }
+    requires open { IsOpen outer.now local.old }
+    requires inside { cell_number cell.now < cell_count domain.now }
+    ensures stays { Stays local.old local.new }
+{
+    let Ok(inner) = Guard::new(domain, local) else {
+        return Found::No;
+    };
+    let loaded = cell.loaded(domain, &inner, local);
+    inner.close(domain, local);
+    if loaded.is_null() {
+        return Found::Nothing;
+    }
+    item(loaded.as_ref(outer))
+}
+
+/// One more owner of the pointer's item.
+pub(crate) fn share(
+    domain: &Domain<u64>,
+    local: &mut Local<u64>,
+    pointer: Ptr<u64>,
+) -> (Hand, Found)
+    requires home { IsHome domain.now local.old }
+    ensures ours { IsOurs domain.now result.0 }
+    ensures stays { Stays local.old local.new }
+{
+    let owner = pointer.get_shared(domain, local);
+    let found = told(owner.is_some());
+    (owner, found)
+}
+
+/// One more owner of what the cell owns.
+pub(crate) fn share_cell(
+    domain: &Domain<u64>,
+    guard: &Guard,
+    local: &mut Local<u64>,
+    cell: &AtomicShared,
+) -> (Hand, Found)
+    requires home { IsHome domain.now local.old }
+    requires open { IsOpen guard.now local.old }
+    requires inside { cell_number cell.now < cell_count domain.now }
+    ensures ours { IsOurs domain.now result.0 }
+    ensures stays { Stays local.old local.new }
+{
+    let owner = cell.get_shared(domain, guard, local);
+    let found = told(owner.is_some());
+    (owner, found)
+}

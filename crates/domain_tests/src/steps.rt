@@ -1,0 +1,137 @@
+//! Steps of participants as data, so that a test is a table of what they do and what they find.
+
+use sdd_base::tag::Tag;
+
+/// What a step finds.
+#[derive(Clone, Copy, PartialEq, Eq)]
+pub(crate) enum Found {
+    /// Nothing is told, or nothing is there.
+    Nothing,
+    Yes,
+    No,
+    /// An item, or a count.
+    Is(u64),
+    Tagged(Tag),
+}
+
+/// What a participant does, with a guard open or without. It has three places for owners, of which the first one is its
+/// hand, and two for cells, of which the first one is meant where a cell is.
+#[derive(Clone, Copy)]
+pub(crate) enum Act {
+    /// Places an item, whose owner is in hand: or the item is back, where no slot is free.
+    Place(u64),
+    /// The item of the owner in hand.
+    Read,
+    /// Releases the owner in hand: whether it was the last one.
+    Release,
+    /// Makes two owners of the one in hand, if there are parts: one is in hand, and one in the second place.
+    Clone,
+    /// Changes the hand's owner for that of the second place, or of the third one.
+    Second,
+    Third,
+    /// Whether there is a new cell that owns nothing.
+    Null,
+    /// Whether there is a new cell that owns what the owner in hand did, which is back where there is none.
+    Own,
+    /// Makes a cell of an item: the one that is back, where no slot or cell is free.
+    Make(u64),
+    /// Takes the cell's owner into the hand, and gives the cell back.
+    Take,
+    /// Gives the cell back: whether its owner was the last one.
+    Retire,
+    /// Changes the two cells for one another.
+    Change,
+    /// Whether the cell owns nothing.
+    IsNull,
+    /// The cell's tag.
+    Tag,
+    /// Changes the owner in hand, or none, and this tag for what the cell has: the tag that it had.
+    Swap(Tag),
+    /// How many slots are in use, and the participant's number.
+    Slots,
+    Number,
+    /// Opens a guard and closes it, accelerated or not: the epoch that it saw.
+    Pass(bool),
+    /// The same so many times: nothing is told.
+    Passes(bool, u8),
+    /// What the cell's item is, under a guard of its own.
+    Peek,
+    /// Registers another participant beside this one: its number, or no, where none is free.
+    Join,
+    /// Ends that one.
+    Leave,
+    /// Changes the two participants for one another.
+    Alternate,
+}
+
+/// What a participant does under a guard. It has one pointer, and one item that it reads.
+#[derive(Clone, Copy)]
+pub(crate) enum View {
+    /// What needs no guard.
+    Do(Act),
+    /// What the other participant does, which has no guard open.
+    Beside(Act),
+    /// The epoch that the guard sees.
+    Epoch,
+    /// Whether the flag of garbage is set.
+    HasGarbage,
+    /// Sets it.
+    SetGarbage,
+    /// Opens one more guard within this one, accelerates and closes it: whether there was one.
+    Nest,
+    /// Loads the cell: the pointer's item. Whether the pointer is to nothing.
+    Load,
+    IsNull,
+    /// Loads the cell under one more guard within this one, which is closed: the item as it is read after that.
+    LoadWithin,
+    /// Makes the pointer one to nothing.
+    Forget,
+    /// The pointer's item.
+    Item,
+    /// The pointer's tag.
+    Label,
+    /// Sets the pointer's tag.
+    Relabel(Tag),
+    /// Whether the pointer is what the cell is loaded as.
+    IsSame,
+    /// Whether the pointer is equal to itself with another tag, and whether that is equal to it where both have none.
+    IsSameTagged,
+    IsSameUntagged,
+    /// Changes the owner in hand, or none, and this tag for what the cell has, where it is as the pointer: or the item
+    /// that it has.
+    Exchange(Tag),
+    /// The same by the call that may fail; where it was done, whether the cell is told to be as it is loaded.
+    ExchangeWeak(Tag),
+    /// Sets the tag of the cell if it has this one: whether it did.
+    Retag(Tag, Tag),
+    /// Whether there is one more owner of the pointer's item, which is in hand; and of the cell's.
+    Share,
+    ShareCell,
+    /// Whether there is one more cell that owns what the cell does, which is the second one.
+    CloneCell,
+    /// Makes the pointer one to the item in hand; and reads that for as long as the guard is open.
+    Lend,
+    LendItem,
+    /// The item that is read so.
+    Lent,
+}
+
+/// Steps without a guard, or under one that is opened for them.
+#[derive(Clone, Copy)]
+pub(crate) enum Part {
+    Apart(&'static [(Act, Found)]),
+    Under(&'static [(View, Found)]),
+    /// The participant is ended, and one is registered.
+    Renew,
+}
+
+/// What the participant 0 of a new place does. At the end no owner and no cell is left.
+#[derive(Clone, Copy)]
+pub(crate) struct Table {
+    pub(crate) participants: u8,
+    pub(crate) slots: u8,
+    pub(crate) cells: u8,
+    /// The count of raises that the place begins with.
+    pub(crate) first: u64,
+    pub(crate) parts: &'static [Part],
+}
