@@ -1,0 +1,210 @@
+//! Pushes and pops on a condition, looks at the first item, and walks.
+
+ghost use Rattle.std.specs.Prelude.{◌≡◌, []};
+ghost use Rattle.sdd_domain.specs.Tokens.{place_of, home_of, hand_of, own_of};
+ghost use Rattle.shared_containers.specs.Containers.{IsAsBefore};
+
+use crate::scene::{Kind, Made, Scene, end, member, read, sized};
+use sdd_domain::domain::Domain;
+use sdd_domain::guard::Guard;
+use sdd_domain::local::Local;
+use shared_containers::outcome::PushRefused;
+use std::alloc::Global;
+use std::process::Abort;
+use std::test::Fail;
+
+/// Pushes a value where the newest item is this one. What is back of one that is refused on the condition, or for want of a
+/// slot, and that it was the condition.
+fn push_behind(
+    scene: &Scene,
+    local: &mut Local<u64>,
+    value: u64,
+    newest: Option<u64>,
+) -> Option<(u64, bool)>
+    requires home { (home_of local.old ≡ place_of scene.now.domain.now) × (hand_of local.old ≡ []) }
+    requires closed { (own_of local.old).nesting ≡ 0 }
+    ensures same { IsAsBefore local.old local.new }
+{
+    let Scene { domain, links, .. } = *scene;
+    let is_newest = |found: Option<&u64>| found.copied() == newest;
+    let pushed = if scene.kind == Kind::Queue {
+        scene.queue.push_if(value, is_newest, domain, links, local)
+    } else {
+        scene.stack.push_if(value, is_newest, domain, links, local)
+    };
+    match pushed {
+        Ok(()) => None,
+        Err(PushRefused::Condition(owner)) => {
+            let value = *owner.as_ref();
+            owner.release(domain, local);
+            Some((value, true))
+        }
+        Err(refused) => Some((refused.end(domain, local)?, false)),
+    }
+}
+
+/// Pops the first item where it is this one: what was popped, or what another owner reads where it wasn't.
+fn pop_this(scene: &Scene, local: &mut Local<u64>, value: u64) -> (Option<u64>, Option<u64>)
+    requires home { (home_of local.old ≡ place_of scene.now.domain.now) × (hand_of local.old ≡ []) }
+    requires closed { (own_of local.old).nesting ≡ 0 }
+    ensures same { IsAsBefore local.old local.new }
+{
+    let Scene {
+        domain,
+        links,
+        stack,
+        queue,
+        ..
+    } = *scene;
+    let popped = if scene.kind == Kind::Queue {
+        queue.pop_if(|found| *found == value, domain, links, local)
+    } else {
+        stack.pop_if(|found| *found == value, domain, links, local)
+    };
+    match popped {
+        Ok(popped) => (read(popped, domain, local), None),
+        Err(kept) => (None, read(Some(kept), domain, local)),
+    }
+}
+
+/// The first value, as a pointer and as a closure see it.
+fn peeks(scene: &Scene, local: &mut Local<u64>) -> [Option<u64>; 2]
+    requires home { (home_of local.old ≡ place_of scene.now.domain.now) × (hand_of local.old ≡ []) }
+    requires closed { (own_of local.old).nesting ≡ 0 }
+    ensures same { IsAsBefore local.old local.new }
+{
+    let Scene {
+        domain,
+        links,
+        stack,
+        queue,
+        ..
+    } = *scene;
+    let seen = if scene.kind == Kind::Queue {
+        queue.peek_with(|found| found.copied(), domain, links, local)
+    } else {
+        stack.peek_with(|found| found.copied(), domain, links, local)
+    };
+    let Ok(guard) = Guard::new(domain, local) else {
+        unreachable!();
+    };
+    let pointer = if scene.kind == Kind::Queue {
+        queue.peek(domain, links, &guard, local)
+    } else {
+        stack.peek(domain, &guard, local)
+    };
+    let first = pointer.as_ref().copied();
+    guard.close(domain, local);
+    [first, seen]
+}
+
+/// The values in the order of a walk, as the digits of a number, and how many there are.
+fn walks(scene: &Scene, local: &mut Local<u64>) -> (u64, usize)
+    requires home { (home_of local.old ≡ place_of scene.now.domain.now) × (hand_of local.old ≡ []) }
+    requires closed { (own_of local.old).nesting ≡ 0 }
+    ensures same { IsAsBefore local.old local.new }
+{
+    let Scene {
+        domain,
+        links,
+        stack,
+        queue,
+        ..
+    } = *scene;
+    let mut digits = 0u64;
+    let note = |found: &u64| digits = digits.wrapping_mul(10).wrapping_add(*found);
+    if scene.kind == Kind::Queue {
+        queue.for_each(note, domain, links, local);
+        (digits, queue.len(domain, links, local))
+    } else {
+        stack.for_each(note, domain, links, local);
+        (digits, stack.len(domain, links, local))
+    }
+}
+
+/// What a participant finds: which pushes were refused, what is seen of three values, what is popped of them on a
+/// condition, and what is seen then.
+#[derive(Clone, Copy, PartialEq, Eq)]
+struct Found {
+    pushed: [Option<(u64, bool)>; 5],
+    seen: ([Option<u64>; 2], (u64, usize)),
+    popped: [(Option<u64>, Option<u64>); 2],
+    left: ([Option<u64>; 2], (u64, usize)),
+}
+
+/// Pushes 1, 2 and 3, each behind the one before, and pops the first of a stack, which is 3, or of a queue, 1.
+fn plays(scene: &Scene, local: &mut Local<u64>) -> Found
+    requires home { (home_of local.old ≡ place_of scene.now.domain.now) × (hand_of local.old ≡ []) }
+    requires closed { (own_of local.old).nesting ≡ 0 }
+    ensures same { IsAsBefore local.old local.new }
+{
+    let first = if scene.kind == Kind::Queue { 1 } else { 3 };
+    Found {
+        pushed: [
+            push_behind(scene, local, 9, Some(1)),
+            push_behind(scene, local, 1, None),
+            push_behind(scene, local, 9, None),
+            push_behind(scene, local, 2, Some(1)),
+            push_behind(scene, local, 3, Some(2)),
+        ],
+        seen: (peeks(scene, local), walks(scene, local)),
+        popped: [pop_this(scene, local, 2), pop_this(scene, local, first)],
+        left: (peeks(scene, local), walks(scene, local)),
+    }
+}
+
+/// The same in a place of its own, and what a pop on a condition finds in an empty one.
+fn plays_alone<R: Abort>(
+    rt: &R,
+    alloc: Global,
+    domain: &Domain<u64>,
+    kind: Kind,
+) -> (Found, (Option<u64>, Option<u64>)) {
+    let mut local = member(rt, domain);
+    let made = Made::new(rt, alloc, domain, &mut local);
+    let scene = made.scene(domain, kind);
+    let nothing = pop_this(&scene, &mut local, 1);
+    let found = plays(&scene, &mut local);
+    made.end(domain, &mut local);
+    local.end(domain);
+    (found, nothing)
+}
+
+/// What is refused of the five pushes: the first for there is no 1, the third for there is one.
+fn refused() -> [Option<(u64, bool)>; 5] {
+    [Some((9, true)), None, Some((9, true)), None, None]
+}
+
+#[test]
+fn a_stack_takes_and_gives_what_conditions_say_of_its_first_value(
+    rt: HostRuntime,
+) -> Result<(), Fail> {
+    let domain = Domain::new(rt.alloc(), sized(1, 5, 13))?;
+    let found = plays_alone(&rt, rt.alloc(), &domain, Kind::Stack);
+    end(&rt, domain);
+    let expected = Found {
+        pushed: refused(),
+        seen: ([Some(3), Some(3)], (321, 3)),
+        popped: [(None, Some(3)), (Some(3), None)],
+        left: ([Some(2), Some(2)], (21, 2)),
+    };
+    assert!(rt; found == (expected, (None, None)));
+    Ok(())
+}
+
+#[test]
+fn a_queue_takes_what_conditions_say_of_its_last_value_and_gives_what_they_say_of_its_first(
+    rt: HostRuntime,
+) -> Result<(), Fail> {
+    let domain = Domain::new(rt.alloc(), sized(1, 5, 13))?;
+    let found = plays_alone(&rt, rt.alloc(), &domain, Kind::Queue);
+    end(&rt, domain);
+    let expected = Found {
+        pushed: refused(),
+        seen: ([Some(1), Some(1)], (123, 3)),
+        popped: [(None, Some(1)), (Some(1), None)],
+        left: ([Some(2), Some(2)], (23, 2)),
+    };
+    assert!(rt; found == (expected, (None, None)));
+    Ok(())
+}

@@ -1,0 +1,229 @@
+//! Stacks and queues by one thread.
+
+ghost use Rattle.std.specs.Prelude.{◌≡◌, ◌<◌, [], IfSome};
+ghost use Rattle.sdd_domain.specs.Cells.{cell_number};
+ghost use Rattle.sdd_domain.specs.Tokens.{place_of, home_of, hand_of, own_of, cell_count};
+ghost use Rattle.shared_containers.specs.Containers.{AreLinksOf, IsAsBefore, IsStackOf};
+
+use crate::scene::{Kind, Made, Scene, end, four, member, read, sized};
+use sdd_domain::atomic_shared::AtomicShared;
+use sdd_domain::domain::Domain;
+use sdd_domain::guard::Guard;
+use sdd_domain::local::Local;
+use shared_containers::links::Links;
+use shared_containers::outcome::NotMade;
+use shared_containers::stack::Stack;
+use std::alloc::Global;
+use std::process::Abort;
+use std::test::Fail;
+
+type Found = ([Option<u64>; 4], [Option<u64>; 4]);
+
+/// What a participant finds for three slots: what a full place gives back, and what is popped, in this order.
+fn plays(scene: &Scene, local: &mut Local<u64>) -> Found
+    requires home { (home_of local.old ≡ place_of scene.now.domain.now) × (hand_of local.old ≡ []) }
+    requires closed { (own_of local.old).nesting ≡ 0 }
+    ensures same { IsAsBefore local.old local.new }
+{
+    let pushed = [
+        scene.push(local, 1),
+        scene.push(local, 2),
+        scene.push(local, 3),
+        scene.push(local, 4),
+    ];
+    let popped = [
+        scene.pop(local),
+        scene.pop(local),
+        scene.pop(local),
+        scene.pop(local),
+    ];
+    (pushed, popped)
+}
+
+/// What is found so twice, with four guards in between, and whether nothing is left in the end.
+fn plays_again<R: Abort>(
+    rt: &R,
+    alloc: Global,
+    domain: &Domain<u64>,
+    kind: Kind,
+) -> ([Found; 2], bool) {
+    let mut local = member(rt, domain);
+    let made = Made::new(rt, alloc, domain, &mut local);
+    let scene = made.scene(domain, kind);
+    let first = plays(&scene, &mut local);
+    four(domain, &mut local);
+    let again = plays(&scene, &mut local);
+    let empty = made.end(domain, &mut local);
+    local.end(domain);
+    ([first, again], empty)
+}
+
+#[test]
+fn a_stack_gives_the_last_value_first_and_a_full_place_one_back(
+    rt: HostRuntime,
+) -> Result<(), Fail> {
+    let domain = Domain::new(rt.alloc(), sized(1, 3, 11))?;
+    let found = plays_again(&rt, rt.alloc(), &domain, Kind::Stack);
+    end(&rt, domain);
+    let one = (
+        [None, None, None, Some(4)],
+        [Some(3), Some(2), Some(1), None],
+    );
+    assert!(rt; found == ([one; 2], true));
+    Ok(())
+}
+
+#[test]
+fn a_queue_gives_the_first_value_first_and_a_full_place_one_back(
+    rt: HostRuntime,
+) -> Result<(), Fail> {
+    let domain = Domain::new(rt.alloc(), sized(1, 3, 11))?;
+    let found = plays_again(&rt, rt.alloc(), &domain, Kind::Queue);
+    end(&rt, domain);
+    let first = (
+        [None, None, None, Some(4)],
+        [Some(1), Some(2), Some(3), None],
+    );
+    // 3 stayed in its slot until another item was appended, and isn't reclaimed yet
+    let again = (
+        [None, None, Some(3), Some(4)],
+        [Some(1), Some(2), None, None],
+    );
+    assert!(rt; found == ([first, again], true));
+    Ok(())
+}
+
+/// What is read of the first item of a stack of 1, through one pointer: before and behind a push of 2 and two pops, all of
+/// them under the guard that the pointer was loaded under. And what was popped.
+fn reads_on(scene: &Scene, local: &mut Local<u64>) -> ([Option<u64>; 2], [Option<u64>; 2])
+    requires home { (home_of local.old ≡ place_of scene.now.domain.now) × (hand_of local.old ≡ []) }
+    requires closed { (own_of local.old).nesting ≡ 0 }
+    ensures same { IsAsBefore local.old local.new }
+{
+    let Scene { domain, stack, .. } = *scene;
+    let _ = scene.push(local, 1);
+    let Ok(guard) = Guard::new(domain, local) else {
+        unreachable!();
+    };
+    let first = stack.peek(domain, &guard, local);
+    let before = first.as_ref().copied();
+    let _ = scene.push(local, 2);
+    let popped = [scene.pop(local), scene.pop(local)];
+    let behind = first.as_ref().copied();
+    guard.close(domain, local);
+    ([before, behind], popped)
+}
+
+#[test]
+fn under_an_open_guard_others_are_pushed_and_popped_and_what_was_popped_is_read(
+    rt: HostRuntime,
+) -> Result<(), Fail> {
+    let domain = Domain::new(rt.alloc(), sized(1, 2, 10))?;
+    let mut local = member(&rt, &domain);
+    let made = Made::new(&rt, rt.alloc(), &domain, &mut local);
+    let found = reads_on(&made.scene(&domain, Kind::Stack), &mut local);
+    made.end(&domain, &mut local);
+    local.end(&domain);
+    end(&rt, domain);
+    assert!(rt; found == ([Some(1), Some(1)], [Some(2), Some(1)]));
+    Ok(())
+}
+
+/// What comes out of a stack in front of all others, which is ended.
+fn last_two(
+    stack: Stack,
+    links: &Links,
+    domain: &Domain<u64>,
+    local: &mut Local<u64>,
+) -> [Option<u64>; 3]
+    requires home { (home_of local.old ≡ place_of domain.now) × (hand_of local.old ≡ []) }
+    requires closed { (own_of local.old).nesting ≡ 0 }
+    requires stack { IsStackOf stack domain.now × AreLinksOf links.now domain.now }
+    ensures same { IsAsBefore local.old local.new }
+{
+    let first = stack.pop(domain, links, local);
+    let first = read(first, domain, local);
+    let second = stack.pop(domain, links, local);
+    let second = read(second, domain, local);
+    let third = stack.pop(domain, links, local);
+    let third = read(third, domain, local);
+    stack.end(domain, links, local);
+    [first, second, third]
+}
+
+/// What comes out of a stack of 1 and 2, once all of it was taken out and 3 was pushed: by itself, and by the stack of what
+/// was taken out.
+fn moves<R: Abort>(
+    rt: &R,
+    scene: &Scene,
+    local: &mut Local<u64>,
+) -> ([Option<u64>; 2], [Option<u64>; 3])
+    requires home { (home_of local.old ≡ place_of scene.now.domain.now) × (hand_of local.old ≡ []) }
+    requires closed { (own_of local.old).nesting ≡ 0 }
+    ensures same { IsAsBefore local.old local.new }
+{
+    let _ = scene.push(local, 1);
+    let _ = scene.push(local, 2);
+    let Some(all) = scene.stack.pop_all(scene.domain, local) else {
+        panic!(rt; "a cell is free");
+    };
+    let _ = scene.push(local, 3);
+    let own = [scene.pop(local), scene.pop(local)];
+    (own, last_two(all, scene.links, scene.domain, local))
+}
+
+#[test]
+fn all_items_of_a_stack_are_taken_out_in_one_step(rt: HostRuntime) -> Result<(), Fail> {
+    let domain = Domain::new(rt.alloc(), sized(1, 3, 12))?;
+    let mut local = member(&rt, &domain);
+    let made = Made::new(&rt, rt.alloc(), &domain, &mut local);
+    let found = moves(&rt, &made.scene(&domain, Kind::Stack), &mut local);
+    made.end(&domain, &mut local);
+    local.end(&domain);
+    end(&rt, domain);
+    assert!(rt; found == ([Some(3), None], [Some(2), Some(1), None]));
+    Ok(())
+}
+
+/// Gives a cell back that there may be.
+fn put_back(cell: Option<AtomicShared>, domain: &Domain<u64>, local: &mut Local<u64>)
+    requires home { home_of local.old ≡ place_of domain.now }
+    requires inside { IfSome cell (λ c. cell_number c < cell_count domain.now) }
+    ensures same { IsAsBefore local.old local.new }
+{
+    if let Some(cell) = cell {
+        cell.retire(domain, local);
+    }
+}
+
+/// Whether two cells are free.
+pub(crate) fn is_free(domain: &Domain<u64>, local: &mut Local<u64>) -> bool
+    requires home { (home_of local.old ≡ place_of domain.now) × (hand_of local.old ≡ []) }
+    ensures same { IsAsBefore local.old local.new }
+{
+    let first = AtomicShared::null(domain, local);
+    let second = AtomicShared::null(domain, local);
+    let both = first.is_some() && second.is_some();
+    put_back(first, domain, local);
+    put_back(second, domain, local);
+    both
+}
+
+#[test]
+fn links_want_a_cell_for_each_slot(rt: HostRuntime) -> Result<(), Fail> {
+    let domain = Domain::new(rt.alloc(), sized(1, 3, 2))?;
+    let mut local = member(&rt, &domain);
+    let refused = match Links::new(rt.alloc(), &domain, &mut local) {
+        Ok(links) => {
+            links.end(&domain, &mut local);
+            None
+        }
+        Err(refused) => Some(refused),
+    };
+    // those that were taken are free again
+    let free = (is_free(&domain, &mut local), is_free(&domain, &mut local));
+    local.end(&domain);
+    end(&rt, domain);
+    assert!(rt; refused == Some(NotMade::NoCell) && free == (true, true));
+    Ok(())
+}
