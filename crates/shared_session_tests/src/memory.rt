@@ -3,7 +3,7 @@
 ghost use Rattle.std.specs.Prelude.{◌≡◌, ◌<◌};
 
 use crate::place::{Twos, cell, end, member, small_place, version};
-use serial_history::{Answer, Query};
+use serial_history::{Answer, Query, Receipt};
 use std::alloc::{AllocError, Global};
 use std::ops::Bound;
 use std::process::Abort;
@@ -32,6 +32,16 @@ fn lists_three(answer: &Answer<u64, u64>) -> bool {
     }
 }
 
+// Whether a receipt has two reads, which list all pairs.
+fn has_both(receipt: &Receipt<u64, u64>) -> bool {
+    let mut right = receipt.reads.as_slice().len() == 2;
+    for recorded in receipt.reads.as_slice() {
+        let is_all = recorded.0 == Query::Range(Bound::Unbounded, Bound::Unbounded);
+        right = is_all && lists_three(&recorded.1) && right;
+    }
+    right
+}
+
 // Whether an allocation was refused while a version was made and read twice. Opening and closing a session takes none.
 fn reads<R: Abort>(rt: &R, alloc: Global) -> bool {
     let mut met = false;
@@ -42,17 +52,12 @@ fn reads<R: Abort>(rt: &R, alloc: Global) -> bool {
     let Ok(mut session) = Twos::open(&domain, &cell, &mut local, alloc, 1) else {
         panic!(rt; "the first version is there");
     };
-    let told = read(rt, &mut session, 0, &mut met);
-    assert!(rt; lists_three(&told));
-    let told = read(rt, &mut session, 1, &mut met);
-    assert!(rt; lists_three(&told));
+    let once = read(rt, &mut session, 0, &mut met);
+    let again = read(rt, &mut session, 1, &mut met);
     let receipt = session.close(&domain, &mut local);
-    assert!(rt; receipt.number == 1 && receipt.reads.as_slice().len() == 2);
-    for recorded in receipt.reads.as_slice() {
-        assert!(rt; recorded.0 == Query::Range(Bound::Unbounded, Bound::Unbounded));
-        assert!(rt; lists_three(&recorded.1));
-    }
     end(rt, cell, domain, local);
+    assert!(rt; lists_three(&once) && lists_three(&again));
+    assert!(rt; receipt.number == 1 && has_both(&receipt));
     met
 }
 

@@ -1,10 +1,13 @@
 //! Which sessions are opened, and which are refused.
 
-ghost use Rattle.std.specs.Prelude.{◌≡◌, ◌<◌};
+ghost use Rattle.std.specs.Prelude.{◌≡◌, ◌<◌, []};
 ghost use Rattle.sdd_domain.specs.Cells.{cell_number};
-ghost use Rattle.sdd_domain.specs.Tokens.{place_of, home_of, own_of, cell_count, IsSame};
+ghost use Rattle.sdd_domain.specs.Tokens.{place_of, home_of, hand_of, own_of, cell_count, IsSame};
 
-use crate::place::{Item, Twos, cell, end, member, one, place, placed, publish, reclaim, version};
+use self::Step::{Open, Reclaim, Renew, Slots};
+use crate::place::{
+    Item, Twos, cell, end, first, member, one, place, placed, reclaim, renew, version,
+};
 use sdd_domain::atomic_shared::AtomicShared;
 use sdd_domain::domain::Domain;
 use sdd_domain::guard::Guard;
@@ -12,6 +15,7 @@ use sdd_domain::local::Local;
 use shared_sessions::{OpenRefused, SharedSession};
 use shared_versions::{Node, Version};
 use std::alloc::Global;
+use std::process::Abort;
 
 /// The number of a session of this width that is opened for at least this number and closed again, or why there is none.
 fn number_of<const S: usize>(
@@ -37,133 +41,243 @@ fn number_of<const S: usize>(
     }
 }
 
-/// Whether sessions of this width, each for at least a number, are told what they are to be: a number, or why there is none.
-fn are_opened<const S: usize>(
+/// The same of a width that is 1, 2 or 3.
+fn number_by<R: Abort>(
+    rt: &R,
     alloc: Global,
     domain: &Domain<Item>,
     cell: &AtomicShared,
     local: &mut Local<Item>,
-    rows: &[(u64, Result<u64, OpenRefused>)],
-) -> bool
+    width: u8,
+    at_least: u64,
+) -> Result<u64, OpenRefused>
     requires home { home_of local.old ≡ place_of domain.now }
     requires inside { cell_number cell.now < cell_count domain.now }
     requires closed { (own_of local.old).nesting ≡ 0 }
     ensures same { IsSame local.old local.new }
     ensures closed { (own_of local.new).nesting ≡ 0 }
 {
-    let mut as_said = true;
-    for (at_least, wanted) in rows {
-        as_said = number_of::<S>(alloc, domain, cell, local, *at_least) == *wanted && as_said;
+    match width {
+        1 => number_of::<1>(alloc, domain, cell, local, at_least),
+        2 => number_of::<2>(alloc, domain, cell, local, at_least),
+        3 => number_of::<3>(alloc, domain, cell, local, at_least),
+        _ => panic!(rt; "a width of a test"),
     }
-    as_said
 }
 
-#[test]
-fn a_session_has_at_least_the_number_that_is_asked_for(rt: HostRuntime) {
-    let mut met = false;
-    let domain = place(&rt, rt.alloc(), &mut met);
-    let mut local = member(&rt, &domain, &mut met);
-    let values = (10, 20, 50);
-    let seventh = version(&rt, rt.alloc(), &domain, &mut local, 7, values, &mut met);
-    let cell = cell(&rt, seventh, &domain, &mut local);
-    let rows = [
-        (0, Ok(7)),
-        (6, Ok(7)),
-        (7, Ok(7)),
-        (8, Err(OpenRefused::Earlier(7))),
-        (u64::MAX, Err(OpenRefused::Earlier(7))),
-    ];
-    let seven = are_opened::<2>(rt.alloc(), &domain, &cell, &mut local, &rows);
-    let number = u64::MAX;
-    let last = version(
-        &rt,
-        rt.alloc(),
-        &domain,
-        &mut local,
-        number,
-        values,
-        &mut met,
-    );
-    publish(last, &cell, &domain, &mut local);
-    let rows = [(number, Ok(number))];
-    let most = are_opened::<2>(rt.alloc(), &domain, &cell, &mut local, &rows);
-    end(&rt, cell, domain, local);
-    assert!(rt; seven && most);
+/// What a cell owns at first.
+#[derive(Clone, Copy)]
+enum First {
+    Nothing,
+    Segment,
+    /// The empty version, of the width 2.
+    Empty,
+    /// A version of the width 2 and this number.
+    Version(u64),
 }
 
-#[test]
-fn no_guard_stays_open_where_a_session_is_refused(rt: HostRuntime) {
+/// A cell that owns this.
+fn owning<R: Abort>(
+    rt: &R,
+    alloc: Global,
+    domain: &Domain<Item>,
+    local: &mut Local<Item>,
+    first: First,
+) -> AtomicShared
+    requires home { (home_of local.old ≡ place_of domain.now) × (hand_of local.old ≡ []) }
+    requires closed { (own_of local.old).nesting ≡ 0 }
+    ensures inside { cell_number result < cell_count domain.now }
+    ensures same { (home_of local.new ≡ home_of local.old) × (hand_of local.new ≡ []) }
+    ensures closed { (own_of local.new).nesting ≡ 0 }
+{
     let mut met = false;
-    let domain = place(&rt, rt.alloc(), &mut met);
-    let mut local = member(&rt, &domain, &mut met);
-    let mut writer = member(&rt, &domain, &mut met);
-    let values = (10, 20, 50);
-    let first = version(&rt, rt.alloc(), &domain, &mut writer, 1, values, &mut met);
-    let cell = cell(&rt, first, &domain, &mut writer);
-    let rows = [(2, Err(OpenRefused::Earlier(1)))];
-    let earlier = are_opened::<2>(rt.alloc(), &domain, &cell, &mut local, &rows);
-    let rows = [(0, Err(OpenRefused::NoVersion))];
-    let narrow = are_opened::<3>(rt.alloc(), &domain, &cell, &mut local, &rows);
-    let values = (11, 21, 51);
-    let second = version(&rt, rt.alloc(), &domain, &mut writer, 2, values, &mut met);
-    publish(second, &cell, &domain, &mut writer);
-    let before = domain.slots_in_use();
-    // a guard that were open still would keep the first version
-    reclaim(&domain, &mut writer);
-    let after = domain.slots_in_use();
-    local.end(&domain);
-    end(&rt, cell, domain, writer);
-    assert!(rt; earlier && narrow);
-    assert_eq!(rt; (before, after), (6, 3));
-}
-
-#[test]
-fn an_empty_cell_names_no_version(rt: HostRuntime) {
-    let mut met = false;
-    let domain = place(&rt, rt.alloc(), &mut met);
-    let mut local = member(&rt, &domain, &mut met);
-    let Some(cell) = AtomicShared::null(&domain, &mut local) else {
-        panic!(rt; "a cell is free");
+    let owner = match first {
+        First::Nothing => {
+            return match AtomicShared::null(domain, local) {
+                Some(cell) => cell,
+                None => panic!(rt; "a cell is free"),
+            };
+        }
+        First::Segment => {
+            let segment = Node::Segment(one(rt, alloc, 5, 50, &mut met));
+            placed(rt, segment, domain, local)
+        }
+        First::Empty => {
+            let empty = Node::Version(Version::empty(alloc, 2));
+            placed(rt, empty, domain, local)
+        }
+        First::Version(number) => version(rt, alloc, domain, local, number, (10, 20, 50), &mut met),
     };
-    assert_eq!(rt;
-        number_of::<2>(rt.alloc(), &domain, &cell, &mut local, 0),
-        Err(OpenRefused::NoVersion)
-    );
-    end(&rt, cell, domain, local);
+    cell(rt, owner, domain, local)
 }
 
-#[test]
-fn a_segment_is_no_version(rt: HostRuntime) {
-    let mut met = false;
-    let domain = place(&rt, rt.alloc(), &mut met);
-    let mut local = member(&rt, &domain, &mut met);
-    let segment = Node::Segment(one(&rt, rt.alloc(), 5, 50, &mut met));
-    let segment = placed(&rt, segment, &domain, &mut local);
-    let cell = cell(&rt, segment, &domain, &mut local);
-    assert_eq!(rt;
-        number_of::<2>(rt.alloc(), &domain, &cell, &mut local, 0),
-        Err(OpenRefused::NoVersion)
-    );
-    end(&rt, cell, domain, local);
+/// What is done with the cell.
+#[derive(Clone, Copy)]
+enum Step {
+    /// Opens a session of this width for at least this number, and closes it: its number.
+    Open(u8, u64),
+    /// Has the cell name a version of this number.
+    Renew(u64),
+    /// Reclaims what nobody reads.
+    Reclaim,
+    /// How many slots are in use.
+    Slots,
 }
 
-#[test]
-fn a_version_has_one_width(rt: HostRuntime) {
+/// Takes a step: one participant opens sessions, and another one does the rest.
+fn taken<R: Abort>(
+    rt: &R,
+    alloc: Global,
+    domain: &Domain<Item>,
+    cell: &AtomicShared,
+    reader: &mut Local<Item>,
+    writer: &mut Local<Item>,
+    step: Step,
+) -> Result<u64, OpenRefused>
+    requires reader { (home_of reader.old ≡ place_of domain.now) × ((own_of reader.old).nesting ≡ 0) }
+    requires writer { (home_of writer.old ≡ place_of domain.now) × (hand_of writer.old ≡ []) × ((own_of writer.old).nesting ≡ 0) }
+    requires inside { cell_number cell.now < cell_count domain.now }
+    ensures reader { IsSame reader.old reader.new × ((own_of reader.new).nesting ≡ 0) }
+    ensures writer { IsSame writer.old writer.new × ((own_of writer.new).nesting ≡ 0) }
+{
+    match step {
+        Step::Open(width, least) => number_by(rt, alloc, domain, cell, reader, width, least),
+        Step::Renew(number) => {
+            renew(rt, alloc, domain, cell, writer, number, (11, 21, 51));
+            Ok(number)
+        }
+        Step::Reclaim => {
+            reclaim(domain, writer);
+            Ok(0)
+        }
+        Step::Slots => Ok(domain.slots_in_use() as u64),
+    }
+}
+
+/// A row: a step, and what it tells.
+type Row = (Step, Result<u64, OpenRefused>);
+
+/// Takes the steps of a table, in order, and tells how many tell what they are to before the first that doesn't.
+fn all_taken<R: Abort>(
+    rt: &R,
+    alloc: Global,
+    domain: &Domain<Item>,
+    cell: &AtomicShared,
+    reader: &mut Local<Item>,
+    writer: &mut Local<Item>,
+    rows: &[Row],
+) -> usize
+    requires reader { (home_of reader.old ≡ place_of domain.now) × ((own_of reader.old).nesting ≡ 0) }
+    requires writer { (home_of writer.old ≡ place_of domain.now) × (hand_of writer.old ≡ []) × ((own_of writer.old).nesting ≡ 0) }
+    requires inside { cell_number cell.now < cell_count domain.now }
+    ensures reader { IsSame reader.old reader.new × ((own_of reader.new).nesting ≡ 0) }
+    ensures writer { IsSame writer.old writer.new × ((own_of writer.new).nesting ≡ 0) }
+{
+    let mut right = 0usize;
+    for at in 0..rows.len() {
+        let (step, wanted) = rows[at];
+        let told = taken(rt, alloc, domain, cell, reader, writer, step);
+        if right == at && told == wanted {
+            right = right.saturating_add(1);
+        }
+    }
+    right
+}
+
+/// Plays a table with a cell that owns this at first.
+fn play<R: Abort>(rt: &R, alloc: Global, first: First, rows: &[Row]) {
     let mut met = false;
-    let domain = place(&rt, rt.alloc(), &mut met);
-    let mut local = member(&rt, &domain, &mut met);
-    let empty = Node::Version(Version::empty(rt.alloc(), 2));
-    let empty = placed(&rt, empty, &domain, &mut local);
-    let cell = cell(&rt, empty, &domain, &mut local);
-    let rows = [(0, Ok(0)), (1, Err(OpenRefused::Earlier(0)))];
-    let of_two = are_opened::<2>(rt.alloc(), &domain, &cell, &mut local, &rows);
-    let rows = [(0, Err(OpenRefused::NoVersion))];
-    let of_one = are_opened::<1>(rt.alloc(), &domain, &cell, &mut local, &rows);
-    // the width is looked at before the number
-    let rows = [(1, Err(OpenRefused::NoVersion))];
-    let of_three = are_opened::<3>(rt.alloc(), &domain, &cell, &mut local, &rows);
-    end(&rt, cell, domain, local);
-    assert!(rt; of_two && of_one && of_three);
+    let domain = place(rt, alloc, &mut met);
+    let mut reader = member(rt, &domain, &mut met);
+    let mut writer = member(rt, &domain, &mut met);
+    let cell = owning(rt, alloc, &domain, &mut writer, first);
+    let right = all_taken(rt, alloc, &domain, &cell, &mut reader, &mut writer, rows);
+    reader.end(&domain);
+    end(rt, cell, domain, writer);
+    assert_eq!(rt; right, rows.len(), "the first row that isn't right");
+}
+
+/// A session has at least the number that is asked for.
+const AT_LEAST: [Row; 7] = [
+    (Open(2, 0), Ok(7)),
+    (Open(2, 6), Ok(7)),
+    (Open(2, 7), Ok(7)),
+    (Open(2, 8), Err(OpenRefused::Earlier(7))),
+    (Open(2, u64::MAX), Err(OpenRefused::Earlier(7))),
+    (Renew(u64::MAX), Ok(u64::MAX)),
+    (Open(2, u64::MAX), Ok(u64::MAX)),
+];
+
+/// No guard stays open where a session is refused: one that were open still would keep the first version.
+const NO_GUARD: [Row; 6] = [
+    (Open(2, 2), Err(OpenRefused::Earlier(1))),
+    (Open(3, 0), Err(OpenRefused::NoVersion)),
+    (Renew(2), Ok(2)),
+    (Slots, Ok(6)),
+    (Reclaim, Ok(0)),
+    (Slots, Ok(3)),
+];
+
+/// An empty cell names no version, and a segment is none.
+const NO_VERSION: [Row; 1] = [(Open(2, 0), Err(OpenRefused::NoVersion))];
+
+/// A version has one width, which is looked at before the number.
+const ONE_WIDTH: [Row; 4] = [
+    (Open(2, 0), Ok(0)),
+    (Open(2, 1), Err(OpenRefused::Earlier(0))),
+    (Open(1, 0), Err(OpenRefused::NoVersion)),
+    (Open(3, 1), Err(OpenRefused::NoVersion)),
+];
+
+#[test]
+fn sessions_are_opened_by_number_and_width(rt: HostRuntime) {
+    play(&rt, rt.alloc(), First::Version(7), &AT_LEAST);
+    play(&rt, rt.alloc(), First::Version(1), &NO_GUARD);
+    play(&rt, rt.alloc(), First::Nothing, &NO_VERSION);
+    play(&rt, rt.alloc(), First::Segment, &NO_VERSION);
+    play(&rt, rt.alloc(), First::Empty, &ONE_WIDTH);
+}
+
+/// A session of the first version, and within it one for at least the number 3 of the second version, which is refused, and
+/// one for 2: why that was, the numbers of the sessions and of their receipts, and what the outer one reads at the end.
+type Within = (OpenRefused, [u64; 4], Option<u64>);
+
+fn within<R: Abort>(
+    rt: &R,
+    alloc: Global,
+    domain: &Domain<Item>,
+    cell: &AtomicShared,
+    local: &mut Local<Item>,
+) -> Within
+    requires home { (home_of local.old ≡ place_of domain.now) × (hand_of local.old ≡ []) }
+    requires inside { cell_number cell.now < cell_count domain.now }
+    requires closed { (own_of local.old).nesting ≡ 0 }
+    ensures same { IsSame local.old local.new }
+    ensures closed { (own_of local.new).nesting ≡ 0 }
+{
+    let Ok(outer) = Twos::open(domain, cell, local, alloc, 0) else {
+        panic!(rt; "a version of that width is there");
+    };
+    renew(rt, alloc, domain, cell, local, 2, (11, 21, 51));
+    let refused = match Twos::open(domain, cell, local, alloc, 3) {
+        Err(refused) => refused,
+        Ok(session) => {
+            session.close(domain, local);
+            panic!(rt; "the second version has the number 2")
+        }
+    };
+    let Ok(inner) = Twos::open(domain, cell, local, alloc, 2) else {
+        panic!(rt; "the second version is there");
+    };
+    let numbers = (outer.number(), inner.number());
+    let inner = inner.close(domain, local);
+    let value = outer.get(&1).copied();
+    let outer = outer.close(domain, local);
+    (
+        refused,
+        [numbers.0, numbers.1, inner.number, outer.number],
+        value,
+    )
 }
 
 #[test]
@@ -171,46 +285,50 @@ fn a_session_opens_within_another_one(rt: HostRuntime) {
     let mut met = false;
     let domain = place(&rt, rt.alloc(), &mut met);
     let mut local = member(&rt, &domain, &mut met);
-    let first = version(
-        &rt,
-        rt.alloc(),
-        &domain,
-        &mut local,
-        1,
-        (10, 20, 50),
-        &mut met,
-    );
-    let cell = cell(&rt, first, &domain, &mut local);
-    let Ok(outer) = Twos::open(&domain, &cell, &mut local, rt.alloc(), 0) else {
-        panic!(rt; "a version of that width is there");
-    };
-    let second = version(
-        &rt,
-        rt.alloc(),
-        &domain,
-        &mut local,
-        2,
-        (11, 21, 51),
-        &mut met,
-    );
-    publish(second, &cell, &domain, &mut local);
-    match Twos::open(&domain, &cell, &mut local, rt.alloc(), 3) {
-        Err(refused) => assert_eq!(rt; refused, OpenRefused::Earlier(2)),
-        Ok(session) => {
-            session.close(&domain, &mut local);
-            panic!(rt; "the second version is there")
-        }
-    }
-    let Ok(inner) = Twos::open(&domain, &cell, &mut local, rt.alloc(), 2) else {
-        panic!(rt; "the second version is there");
-    };
-    assert_eq!(rt; (outer.number(), inner.number()), (1, 2));
-    let inner = inner.close(&domain, &mut local);
-    assert_eq!(rt; inner.number, 2);
-    assert_eq!(rt; outer.get(&1).copied(), Some(10));
-    let outer = outer.close(&domain, &mut local);
-    assert_eq!(rt; outer.number, 1);
+    let cell = first(&rt, rt.alloc(), &domain, &mut local, (10, 20, 50));
+    let (refused, numbers, value) = within(&rt, rt.alloc(), &domain, &cell, &mut local);
     end(&rt, cell, domain, local);
+    assert!(rt; refused == OpenRefused::Earlier(2) && value == Some(10));
+    assert_eq!(rt; numbers, [1, 2, 2, 1]);
+}
+
+/// A guard loads the first version, from which no session for at least the number 2 is made, and then the second, from which
+/// one is: why that was, what the session reads, and the number of its receipt.
+fn of_loaded<R: Abort>(
+    rt: &R,
+    alloc: Global,
+    domain: &Domain<Item>,
+    cell: &AtomicShared,
+    local: &mut Local<Item>,
+) -> (OpenRefused, Option<u64>, u64)
+    requires home { (home_of local.old ≡ place_of domain.now) × (hand_of local.old ≡ []) }
+    requires inside { cell_number cell.now < cell_count domain.now }
+    requires closed { (own_of local.old).nesting ≡ 0 }
+    ensures same { IsSame local.old local.new }
+    ensures closed { (own_of local.new).nesting ≡ 0 }
+{
+    let Ok(guard) = Guard::new(domain, local) else {
+        unreachable!();
+    };
+    let loaded = cell.loaded(domain, &guard, local);
+    renew(rt, alloc, domain, cell, local, 2, (11, 21, 51));
+    let (guard, refused) = match Twos::of_loaded(guard, loaded, alloc, 2) {
+        Err(back) => back,
+        Ok(session) => {
+            session.close(domain, local);
+            panic!(rt; "the first version was loaded")
+        }
+    };
+    let loaded = cell.loaded(domain, &guard, local);
+    let session = match Twos::of_loaded(guard, loaded, alloc, 2) {
+        Ok(session) => session,
+        Err((guard, _)) => {
+            guard.close(domain, local);
+            panic!(rt; "the second version was loaded")
+        }
+    };
+    let value = session.get(&1).copied();
+    (refused, value, session.close(domain, local).number)
 }
 
 #[test]
@@ -218,50 +336,8 @@ fn a_session_is_made_of_what_was_loaded(rt: HostRuntime) {
     let mut met = false;
     let domain = place(&rt, rt.alloc(), &mut met);
     let mut local = member(&rt, &domain, &mut met);
-    let first = version(
-        &rt,
-        rt.alloc(),
-        &domain,
-        &mut local,
-        1,
-        (10, 20, 50),
-        &mut met,
-    );
-    let cell = cell(&rt, first, &domain, &mut local);
-    let Ok(guard) = Guard::new(&domain, &mut local) else {
-        unreachable!();
-    };
-    let loaded = cell.loaded(&domain, &guard, &mut local);
-    let second = version(
-        &rt,
-        rt.alloc(),
-        &domain,
-        &mut local,
-        2,
-        (11, 21, 51),
-        &mut met,
-    );
-    publish(second, &cell, &domain, &mut local);
-    let guard = match Twos::of_loaded(guard, loaded, rt.alloc(), 2) {
-        Err((guard, refused)) => {
-            assert_eq!(rt; refused, OpenRefused::Earlier(1));
-            guard
-        }
-        Ok(session) => {
-            session.close(&domain, &mut local);
-            panic!(rt; "the first version was loaded")
-        }
-    };
-    let loaded = cell.loaded(&domain, &guard, &mut local);
-    let session = match Twos::of_loaded(guard, loaded, rt.alloc(), 2) {
-        Ok(session) => session,
-        Err((guard, _)) => {
-            guard.close(&domain, &mut local);
-            panic!(rt; "the second version was loaded")
-        }
-    };
-    assert_eq!(rt; session.get(&1).copied(), Some(11));
-    let receipt = session.close(&domain, &mut local);
-    assert_eq!(rt; receipt.number, 2);
+    let cell = first(&rt, rt.alloc(), &domain, &mut local, (10, 20, 50));
+    let found = of_loaded(&rt, rt.alloc(), &domain, &cell, &mut local);
     end(&rt, cell, domain, local);
+    assert_eq!(rt; found, (OpenRefused::Earlier(1), Some(11), 2));
 }

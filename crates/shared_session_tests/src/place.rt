@@ -245,6 +245,44 @@ pub fn publish(
     }
 }
 
+/// A cell that owns a version of the number 1 with these values.
+pub fn first<R: Abort>(
+    rt: &R,
+    alloc: Global,
+    domain: &Domain<Item>,
+    local: &mut Local<Item>,
+    values: (u64, u64, u64),
+) -> AtomicShared
+    requires home { (home_of local.old ≡ place_of domain.now) × (hand_of local.old ≡ []) }
+    ensures inside { cell_number result < cell_count domain.now }
+    ensures same { IsInNest local.old local.new }
+    ensures open { (own_of local.new).nesting ≡ (own_of local.old).nesting }
+{
+    let mut met = false;
+    let first = version(rt, alloc, domain, local, 1, values, &mut met);
+    cell(rt, first, domain, local)
+}
+
+/// Has the cell name a version of this number with these values.
+pub fn renew<R: Abort>(
+    rt: &R,
+    alloc: Global,
+    domain: &Domain<Item>,
+    cell: &AtomicShared,
+    local: &mut Local<Item>,
+    number: u64,
+    values: (u64, u64, u64),
+)
+    requires home { (home_of local.old ≡ place_of domain.now) × (hand_of local.old ≡ []) }
+    requires inside { cell_number cell.now < cell_count domain.now }
+    ensures same { IsInNest local.old local.new }
+    ensures open { (own_of local.new).nesting ≡ (own_of local.old).nesting }
+{
+    let mut met = false;
+    let next = version(rt, alloc, domain, local, number, values, &mut met);
+    publish(next, cell, domain, local);
+}
+
 /// Eight accelerated guards, opened and closed one by one: what nobody reads any more is reclaimed.
 pub fn reclaim(domain: &Domain<Item>, local: &mut Local<Item>)
     requires home { home_of local.old ≡ place_of domain.now }

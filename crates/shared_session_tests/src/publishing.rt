@@ -1,10 +1,77 @@
 //! Sessions beside versions that are published meanwhile.
 
-use crate::place::{Twos, cell, end, member, place, publish, reclaim, version};
-use serial_history::{Answer, Query};
-use std::ops::Bound;
+ghost use Rattle.std.specs.Prelude.{◌≡◌, ◌<◌, []};
+ghost use Rattle.sdd_domain.specs.Cells.{cell_number};
+ghost use Rattle.sdd_domain.specs.Tokens.{place_of, home_of, hand_of, own_of, cell_count, IsSame};
 
-const ROOM: &str = "room for an answer";
+use crate::place::{Item, Twos, end, first, member, place, reclaim, renew};
+use sdd_domain::atomic_shared::AtomicShared;
+use sdd_domain::domain::Domain;
+use sdd_domain::local::Local;
+use serial_history::{Answer, Query, Receipt};
+use std::alloc::{AllocError, Global};
+use std::ops::Bound;
+use std::process::Abort;
+
+/// The number of a session for at least this number, what it reads of key 1, and the number of its receipt.
+fn read_one<R: Abort>(
+    rt: &R,
+    alloc: Global,
+    domain: &Domain<Item>,
+    cell: &AtomicShared,
+    local: &mut Local<Item>,
+    at_least: u64,
+) -> (Option<u64>, u64)
+    requires home { home_of local.old ≡ place_of domain.now }
+    requires inside { cell_number cell.now < cell_count domain.now }
+    requires closed { (own_of local.old).nesting ≡ 0 }
+    ensures same { IsSame local.old local.new }
+    ensures closed { (own_of local.new).nesting ≡ 0 }
+{
+    let Ok(session) = Twos::open(domain, cell, local, alloc, at_least) else {
+        panic!(rt; "a version of that number is there");
+    };
+    let value = session.get(&1).copied();
+    (value, session.close(domain, local).number)
+}
+
+/// What is found of a session beside a second version: the values of key 1 before that and of 1 and 5 behind it, how many slots
+/// are in use then, its number, a read, what another session finds, and its receipt.
+type Beside = (
+    [Option<u64>; 3],
+    (usize, u64),
+    Result<Answer<u64, u64>, AllocError>,
+    (Option<u64>, u64),
+    Receipt<u64, u64>,
+);
+
+fn beside<R: Abort>(
+    rt: &R,
+    alloc: Global,
+    domain: &Domain<Item>,
+    cell: &AtomicShared,
+    reader: &mut Local<Item>,
+    writer: &mut Local<Item>,
+) -> Beside
+    requires reader { (home_of reader.old ≡ place_of domain.now) × ((own_of reader.old).nesting ≡ 0) }
+    requires writer { (home_of writer.old ≡ place_of domain.now) × (hand_of writer.old ≡ []) × ((own_of writer.old).nesting ≡ 0) }
+    requires inside { cell_number cell.now < cell_count domain.now }
+    ensures reader { IsSame reader.old reader.new × ((own_of reader.new).nesting ≡ 0) }
+    ensures writer { IsSame writer.old writer.new × ((own_of writer.new).nesting ≡ 0) }
+{
+    let Ok(mut session) = Twos::open(domain, cell, reader, alloc, 1) else {
+        panic!(rt; "the first version is there");
+    };
+    let before = session.get(&1).copied();
+    renew(rt, alloc, domain, cell, writer, 2, (11, 21, 51));
+    reclaim(domain, writer);
+    let counts = (domain.slots_in_use(), session.number());
+    let values = [before, session.get(&1).copied(), session.get(&5).copied()];
+    let read = session.read(Query::Get(2));
+    let later = read_one(rt, alloc, domain, cell, writer, 2);
+    let receipt = session.close(domain, reader);
+    (values, counts, read, later, receipt)
+}
 
 #[test]
 fn a_session_reads_its_version_whatever_is_published(rt: HostRuntime) {
@@ -12,50 +79,65 @@ fn a_session_reads_its_version_whatever_is_published(rt: HostRuntime) {
     let domain = place(&rt, rt.alloc(), &mut met);
     let mut reader = member(&rt, &domain, &mut met);
     let mut writer = member(&rt, &domain, &mut met);
-    let first = version(
-        &rt,
-        rt.alloc(),
-        &domain,
-        &mut writer,
-        1,
-        (10, 20, 50),
-        &mut met,
-    );
-    let cell = cell(&rt, first, &domain, &mut writer);
-    let Ok(mut session) = Twos::open(&domain, &cell, &mut reader, rt.alloc(), 1) else {
-        panic!(rt; "the first version is there");
-    };
-    assert_eq!(rt; session.get(&1).copied(), Some(10));
-    let second = version(
-        &rt,
-        rt.alloc(),
-        &domain,
-        &mut writer,
-        2,
-        (11, 21, 51),
-        &mut met,
-    );
-    publish(second, &cell, &domain, &mut writer);
+    let cell = first(&rt, rt.alloc(), &domain, &mut writer, (10, 20, 50));
+    let found = beside(&rt, rt.alloc(), &domain, &cell, &mut reader, &mut writer);
     reclaim(&domain, &mut writer);
-    // the first version and its segments are there beside those of the second
-    assert_eq!(rt; domain.slots_in_use(), 6);
-    assert_eq!(rt; session.number(), 1);
-    assert_eq!(rt; session.get(&1).copied(), Some(10));
-    assert_eq!(rt; session.get(&5).copied(), Some(50));
-    assert!(rt; session.read(Query::Get(2)).expect(&rt, ROOM) == Answer::Get(Some(20)));
-    let Ok(later) = Twos::open(&domain, &cell, &mut writer, rt.alloc(), 2) else {
-        panic!(rt; "the second version is there");
-    };
-    assert_eq!(rt; later.get(&1).copied(), Some(11));
-    let later = later.close(&domain, &mut writer);
-    assert_eq!(rt; later.number, 2);
-    let receipt = session.close(&domain, &mut reader);
-    assert_eq!(rt; receipt.number, 1);
-    assert!(rt; receipt.reads.as_slice() == &[(Query::Get(2), Answer::Get(Some(20)))][..]);
-    reclaim(&domain, &mut writer);
-    assert_eq!(rt; domain.slots_in_use(), 3);
+    let left = domain.slots_in_use();
     reader.end(&domain);
     end(&rt, cell, domain, writer);
+    let (values, counts, read, later, receipt) = found;
+    assert_eq!(rt; values, [Some(10), Some(10), Some(50)]);
+    // the first version and its segments are there beside those of the second
+    assert_eq!(rt; (counts, left), ((6, 1), 3));
+    assert!(rt; read == Ok(Answer::Get(Some(20))) && later == (Some(11), 2));
+    assert!(rt; receipt.number == 1);
+    assert!(rt; receipt.reads.as_slice() == &[(Query::Get(2), Answer::Get(Some(20)))][..]);
+}
+
+/// A pair that is lent, as it is.
+fn copied(pair: Option<(&u64, &u64)>) -> Option<(u64, u64)> {
+    match pair {
+        Some((key, value)) => Some((*key, *value)),
+        None => None,
+    }
+}
+
+/// What a walk tells that goes on behind a second version, and a range behind a third; and how many reads were recorded.
+type Walked = ([Option<(u64, u64)>; 5], [Option<(u64, u64)>; 3], usize);
+
+fn walked<R: Abort>(
+    rt: &R,
+    alloc: Global,
+    domain: &Domain<Item>,
+    cell: &AtomicShared,
+    reader: &mut Local<Item>,
+    writer: &mut Local<Item>,
+) -> Walked
+    requires reader { (home_of reader.old ≡ place_of domain.now) × ((own_of reader.old).nesting ≡ 0) }
+    requires writer { (home_of writer.old ≡ place_of domain.now) × (hand_of writer.old ≡ []) × ((own_of writer.old).nesting ≡ 0) }
+    requires inside { cell_number cell.now < cell_count domain.now }
+    ensures reader { IsSame reader.old reader.new × ((own_of reader.new).nesting ≡ 0) }
+    ensures writer { IsSame writer.old writer.new × ((own_of writer.new).nesting ≡ 0) }
+{
+    let Ok(session) = Twos::open(domain, cell, reader, alloc, 0) else {
+        panic!(rt; "the first version is there");
+    };
+    let mut walk = session.iter();
+    let begun = copied(walk.next());
+    renew(rt, alloc, domain, cell, writer, 2, (11, 21, 51));
+    reclaim(domain, writer);
+    let here = copied(walk.get());
+    let next = copied(walk.next());
+    let last = copied(walk.next_back());
+    let steps = [begun, here, next, last, copied(walk.next())];
+    renew(rt, alloc, domain, cell, writer, 3, (12, 22, 52));
+    reclaim(domain, writer);
+    let mut range = session.range(Bound::Excluded(&1), Bound::Unbounded);
+    let last = copied(range.next_back());
+    let middle = copied(range.next_back());
+    let back = [last, middle, copied(range.next_back())];
+    let receipt = session.close(domain, reader);
+    (steps, back, receipt.reads.as_slice().len())
 }
 
 #[test]
@@ -64,55 +146,23 @@ fn a_walk_goes_on_beside_a_version_that_is_published(rt: HostRuntime) {
     let domain = place(&rt, rt.alloc(), &mut met);
     let mut reader = member(&rt, &domain, &mut met);
     let mut writer = member(&rt, &domain, &mut met);
-    let first = version(
-        &rt,
-        rt.alloc(),
-        &domain,
-        &mut writer,
-        1,
-        (10, 20, 50),
-        &mut met,
-    );
-    let cell = cell(&rt, first, &domain, &mut writer);
-    let Ok(session) = Twos::open(&domain, &cell, &mut reader, rt.alloc(), 0) else {
-        panic!(rt; "the first version is there");
-    };
-    let mut walk = session.iter();
-    assert_eq!(rt; walk.next(), Some((&1, &10)));
-    let second = version(
-        &rt,
-        rt.alloc(),
-        &domain,
-        &mut writer,
-        2,
-        (11, 21, 51),
-        &mut met,
-    );
-    publish(second, &cell, &domain, &mut writer);
-    reclaim(&domain, &mut writer);
-    assert_eq!(rt; walk.get(), Some((&1, &10)));
-    assert_eq!(rt; walk.next(), Some((&2, &20)));
-    assert_eq!(rt; walk.next_back(), Some((&5, &50)));
-    assert_eq!(rt; walk.next(), None);
-    let third = version(
-        &rt,
-        rt.alloc(),
-        &domain,
-        &mut writer,
-        3,
-        (12, 22, 52),
-        &mut met,
-    );
-    publish(third, &cell, &domain, &mut writer);
-    reclaim(&domain, &mut writer);
-    let mut range = session.range(Bound::Excluded(&1), Bound::Unbounded);
-    assert_eq!(rt; range.next_back(), Some((&5, &50)));
-    assert_eq!(rt; range.next_back(), Some((&2, &20)));
-    assert_eq!(rt; range.next_back(), None);
-    let receipt = session.close(&domain, &mut reader);
-    assert!(rt; receipt.reads.as_slice().is_empty());
+    let cell = first(&rt, rt.alloc(), &domain, &mut writer, (10, 20, 50));
+    let found = walked(&rt, rt.alloc(), &domain, &cell, &mut reader, &mut writer);
     reader.end(&domain);
     end(&rt, cell, domain, writer);
+    let (steps, back, reads) = found;
+    assert!(rt;
+        steps
+            == [
+                Some((1, 10)),
+                Some((1, 10)),
+                Some((2, 20)),
+                Some((5, 50)),
+                None,
+            ]
+    );
+    assert!(rt; back == [Some((5, 50)), Some((2, 20)), None]);
+    assert_eq!(rt; reads, 0);
 }
 
 #[test]
@@ -120,29 +170,20 @@ fn a_session_keeps_its_version_when_the_cell_is_given_back(rt: HostRuntime) {
     let mut met = false;
     let domain = place(&rt, rt.alloc(), &mut met);
     let mut local = member(&rt, &domain, &mut met);
-    let first = version(
-        &rt,
-        rt.alloc(),
-        &domain,
-        &mut local,
-        1,
-        (10, 20, 50),
-        &mut met,
-    );
-    let cell = cell(&rt, first, &domain, &mut local);
+    let cell = first(&rt, rt.alloc(), &domain, &mut local, (10, 20, 50));
     let Ok(session) = Twos::open(&domain, &cell, &mut local, rt.alloc(), 1) else {
         panic!(rt; "the first version is there");
     };
-    assert!(rt; cell.retire(&domain, &mut local));
-    assert_eq!(rt; session.len(), 3);
-    assert_eq!(rt; session.get(&2).copied(), Some(20));
-    let receipt = session.close(&domain, &mut local);
-    assert_eq!(rt; receipt.number, 1);
+    let last = cell.retire(&domain, &mut local);
+    let read = (session.len(), session.get(&2).copied());
+    let number = session.close(&domain, &mut local).number;
     reclaim(&domain, &mut local);
-    assert_eq!(rt; domain.slots_in_use(), 0);
+    let slots = domain.slots_in_use();
     local.end(&domain);
     match domain.close() {
         Ok(()) => {}
         Err(_) => panic!(rt; "nobody is registered"),
     }
+    assert_eq!(rt; (last, read), (true, (3, Some(20))));
+    assert_eq!(rt; (number, slots), (1, 0));
 }

@@ -1,9 +1,10 @@
 //! What sessions answer, by rows with answers written by hand.
 
-ghost use Rattle.std.specs.Prelude.{◌<◌, []};
+ghost use Rattle.std.specs.Prelude.{◌≡◌};
 
-use crate::place::{Twos, cell, end, member, place, placed, version};
+use crate::place::{Twos, cell, end, first, member, place, placed};
 use serial_history::{Answer, Near, Query, Seq};
+use shared_sessions::SharedWalk;
 use shared_versions::{Node, Version};
 use std::alloc::Global;
 use std::ops::Bound;
@@ -35,23 +36,31 @@ fn shown(session: &Twos, key: u64) -> (&'static str, Shown) {
     }
 }
 
-// The pairs of a range, forth; and back, the other way round.
-fn listed<R: Abort>(
-    rt: &R,
-    alloc: Global,
+// Whether a walk has these pairs before it, forth or back, and no others.
+fn goes_along(walk: &mut SharedWalk<'_, u64, u64>, back: bool, pairs: &[(u64, u64)]) -> bool {
+    let mut right = true;
+    for at in 0..=pairs.len() {
+        let pair = if back {
+            copied(walk.next_back())
+        } else {
+            copied(walk.next())
+        };
+        right = pair == pairs.get(at).copied() && right;
+    }
+    right
+}
+
+// Whether a range has these pairs, forth, and these, back.
+fn is_listed(
     session: &Twos,
     lower: Bound<u64>,
     upper: Bound<u64>,
-) -> (Vec<(u64, u64)>, Vec<(u64, u64)>) {
-    let mut forth = Vec::new(alloc);
-    for (key, value) in session.range(lower.as_ref(), upper.as_ref()) {
-        forth.push((*key, *value)).expect(rt, ROOM);
-    }
-    let mut back = Vec::new(alloc);
-    for (key, value) in session.range(lower.as_ref(), upper.as_ref()).rev() {
-        back.push((*key, *value)).expect(rt, ROOM);
-    }
-    (forth, back)
+    up: &[(u64, u64)],
+    down: &[(u64, u64)],
+) -> bool {
+    let mut forth = session.range(lower.as_ref(), upper.as_ref());
+    let mut back = session.range(lower.as_ref(), upper.as_ref());
+    goes_along(&mut forth, false, up) && goes_along(&mut back, true, down)
 }
 
 // The answer that lists these pairs.
@@ -60,113 +69,159 @@ fn pairs<R: Abort>(rt: &R, alloc: Global, pairs: &[(u64, u64)]) -> Answer<u64, u
     Answer::Range(Seq::from_vec(copy))
 }
 
-/// Opens a session of a version in which the keys 1, 2 and 5 have these values, has a check read it, and closes it. Nothing is
-/// recorded meanwhile.
-fn in_a_session<R: Abort, F: FnOnce(&Twos)>(
-    rt: &R,
-    alloc: Global,
-    values: (u64, u64, u64),
-    check: F,
-)
-    requires { F.IsAlwaysCallable check }
-{
+const KEYS: [(u64, Option<u64>); 8] = [
+    (0, None),
+    (1, Some(10)),
+    (2, Some(20)),
+    (3, None),
+    (4, None),
+    (5, Some(50)),
+    (6, None),
+    (u64::MAX, None),
+];
+
+/// Whether the keys are looked up as they are to be by each call that does so, and the session tells its number and length.
+fn are_looked_up(session: &Twos) -> bool {
+    let mut steps = Steps::new();
+    let mut right = session.number() == 1 && session.len() == 3;
+    for (key, value) in KEYS {
+        let got = session.get(&key).copied() == value
+            && session.get_counted(&key, &mut steps).copied() == value;
+        let has = session.contains(&key) == value.is_some()
+            && session.contains_counted(&key, &mut steps) == value.is_some();
+        right = got && has && right;
+    }
+    right
+}
+
+const NEIGHBOURS: [(u64, (&str, Shown)); 6] = [
+    (0, ("larger", (Some((1, 10)), None))),
+    (1, ("exact", (Some((1, 10)), None))),
+    (2, ("exact", (Some((2, 20)), None))),
+    (3, ("between", (Some((2, 20)), Some((5, 50))))),
+    (5, ("exact", (Some((5, 50)), None))),
+    (6, ("smaller", (None, Some((5, 50))))),
+];
+
+/// Whether neighbours are located.
+fn are_located(session: &Twos) -> bool {
+    let mut right = true;
+    for (key, wanted) in NEIGHBOURS {
+        right = shown(session, key) == wanted && right;
+    }
+    right
+}
+
+/// A range, and its pairs forth and back.
+type Ranged = (
+    (Bound<u64>, Bound<u64>),
+    &'static [(u64, u64)],
+    &'static [(u64, u64)],
+);
+
+const RANGES: [Ranged; 4] = [
+    (
+        (Bound::Unbounded, Bound::Unbounded),
+        &[(1, 10), (2, 20), (5, 50)],
+        &[(5, 50), (2, 20), (1, 10)],
+    ),
+    (
+        (Bound::Excluded(1), Bound::Included(5)),
+        &[(2, 20), (5, 50)],
+        &[(5, 50), (2, 20)],
+    ),
+    (
+        (Bound::Included(2), Bound::Excluded(5)),
+        &[(2, 20)],
+        &[(2, 20)],
+    ),
+    ((Bound::Included(5), Bound::Included(1)), &[], &[]),
+];
+
+/// Whether ranges are walked both ways.
+fn are_walked(session: &Twos) -> bool {
+    let mut right = true;
+    for at in 0..RANGES.len() {
+        let ((lower, upper), up, down) = RANGES[at];
+        right = is_listed(session, lower, upper, up, down) && right;
+    }
+    right
+}
+
+/// What a walk through three pairs of the value 2 tells whose ends change places twice.
+fn ends_change(session: &Twos) -> ([Option<(u64, u64)>; 6], [bool; 3]) {
+    let mut walk = session.iter();
+    let last = copied(walk.next_back());
+    let middle = copied(walk.next_back());
+    let first_flip = walk.flip();
+    let forth = copied(walk.next());
+    let second_flip = walk.flip();
+    let back = copied(walk.next_back());
+    let first = copied(walk.next());
+    let none = copied(walk.next());
+    (
+        [last, middle, forth, back, first, none],
+        [first_flip, second_flip, walk.flip()],
+    )
+}
+
+/// What is looked at in a session.
+#[derive(Clone, Copy)]
+enum Look {
+    Reads,
+    Ends,
+}
+
+/// Whether a session answers as it is to. The values are 10, 20 and 50, or 2 each.
+fn answers(session: &Twos, look: Look) -> bool {
+    match look {
+        Look::Reads => are_looked_up(session) && are_located(session) && are_walked(session),
+        Look::Ends => ends_change(session)
+            == (
+                [
+                    Some((5, 2)),
+                    Some((2, 2)),
+                    Some((5, 2)),
+                    Some((2, 2)),
+                    Some((1, 2)),
+                    None,
+                ],
+                [true, true, false],
+            ),
+    }
+}
+
+/// Opens a session of a version in which the keys 1, 2 and 5 have these values, looks at it, and closes it: whether it answers
+/// as it is to, and recorded nothing meanwhile.
+fn is_right<R: Abort>(rt: &R, alloc: Global, values: (u64, u64, u64), look: Look) -> bool {
     let mut met = false;
     let domain = place(rt, alloc, &mut met);
     let mut local = member(rt, &domain, &mut met);
-    let first = version(rt, alloc, &domain, &mut local, 1, values, &mut met);
-    let cell = cell(rt, first, &domain, &mut local);
+    let cell = first(rt, alloc, &domain, &mut local, values);
     let Ok(session) = Twos::open(&domain, &cell, &mut local, alloc, 0) else {
         panic!(rt; "the first version is there");
     };
-    check(&session);
+    let right = answers(&session, look);
     let receipt = session.close(&domain, &mut local);
-    assert!(rt; receipt.number == 1 && receipt.reads.as_slice().is_empty());
     end(rt, cell, domain, local);
+    right && receipt.number == 1 && receipt.reads.as_slice().is_empty()
 }
 
 #[test]
-fn keys_are_looked_up(rt: HostRuntime) {
-    let rows = [
-        (0, None),
-        (1, Some(10)),
-        (2, Some(20)),
-        (3, None),
-        (4, None),
-        (5, Some(50)),
-        (6, None),
-        (u64::MAX, None),
-    ];
-    in_a_session(&rt, rt.alloc(), (10, 20, 50), |session| {
-        assert_eq!(&rt; (session.number(), session.len()), (1, 3));
-        let mut steps = Steps::new();
-        for (key, value) in &rows {
-            assert_eq!(&rt; session.get(key).copied(), *value);
-            assert_eq!(&rt; session.get_counted(key, &mut steps).copied(), *value);
-            assert_eq!(&rt; session.contains(key), value.is_some());
-            assert_eq!(&rt; session.contains_counted(key, &mut steps), value.is_some());
-        }
-    });
+fn keys_neighbours_and_ranges_are_read_and_the_ends_of_a_walk_change_places(rt: HostRuntime) {
+    let reads = is_right(&rt, rt.alloc(), (10, 20, 50), Look::Reads);
+    let ends = is_right(&rt, rt.alloc(), (2, 2, 2), Look::Ends);
+    assert_eq!(rt; (reads, ends), (true, true));
 }
 
-#[test]
-fn neighbours_are_located(rt: HostRuntime) {
-    let rows = [
-        (0, ("larger", (Some((1, 10)), None))),
-        (1, ("exact", (Some((1, 10)), None))),
-        (2, ("exact", (Some((2, 20)), None))),
-        (3, ("between", (Some((2, 20)), Some((5, 50))))),
-        (5, ("exact", (Some((5, 50)), None))),
-        (6, ("smaller", (None, Some((5, 50))))),
-    ];
-    in_a_session(&rt, rt.alloc(), (10, 20, 50), |session| {
-        for (key, wanted) in rows {
-            assert_eq!(&rt; shown(session, key), wanted);
-        }
-    });
-}
-
-#[test]
-fn ranges_are_walked_both_ways(rt: HostRuntime) {
-    let rows = [
-        (
-            (Bound::Unbounded, Bound::Unbounded),
-            &[(1, 10), (2, 20), (5, 50)][..],
-            &[(5, 50), (2, 20), (1, 10)][..],
-        ),
-        (
-            (Bound::Excluded(1), Bound::Included(5)),
-            &[(2, 20), (5, 50)][..],
-            &[(5, 50), (2, 20)][..],
-        ),
-        (
-            (Bound::Included(2), Bound::Excluded(5)),
-            &[(2, 20)][..],
-            &[(2, 20)][..],
-        ),
-        ((Bound::Included(5), Bound::Included(1)), &[][..], &[][..]),
-    ];
-    in_a_session(&rt, rt.alloc(), (10, 20, 50), |session| {
-        for ((lower, upper), up, down) in rows {
-            let (forth, back) = listed(&rt, rt.alloc(), session, lower, upper);
-            assert!(&rt; forth.as_slice() == up && back.as_slice() == down);
-        }
-    });
-}
-
-#[test]
-fn the_ends_of_a_walk_change_places(rt: HostRuntime) {
-    in_a_session(&rt, rt.alloc(), (2, 2, 2), |session| {
-        let mut walk = session.iter();
-        assert_eq!(&rt; walk.next_back(), Some((&5, &2)));
-        assert_eq!(&rt; walk.next_back(), Some((&2, &2)));
-        assert!(&rt; walk.flip());
-        assert_eq!(&rt; walk.next(), Some((&5, &2)));
-        assert!(&rt; walk.flip());
-        assert_eq!(&rt; walk.next_back(), Some((&2, &2)));
-        assert_eq!(&rt; walk.next(), Some((&1, &2)));
-        assert_eq!(&rt; walk.next(), None);
-        assert!(&rt; !walk.flip());
-    });
+/// Whether a session of the empty list tells that it has no pair.
+fn is_empty(session: &Twos) -> bool {
+    let nothing = session.get(&1).is_none() && !session.contains(&1);
+    session.number() == 0
+        && session.len() == 0
+        && nothing
+        && shown(session, 1) == ("empty", (None, None))
+        && session.iter().next().is_none()
 }
 
 #[test]
@@ -180,37 +235,34 @@ fn the_empty_list_has_no_pair(rt: HostRuntime) {
     let Ok(mut session) = Twos::open(&domain, &cell, &mut local, rt.alloc(), 0) else {
         panic!(rt; "the empty version is there");
     };
-    assert_eq!(rt; (session.number(), session.len()), (0, 0));
-    assert!(rt; session.get(&1).is_none());
-    assert!(rt; !session.contains(&1));
-    assert_eq!(rt; shown(&session, 1), ("empty", (None, None)));
-    assert!(rt; session.iter().next().is_none());
-    assert!(rt; session.read(Query::Locate(1)).expect(&rt, ROOM) == Answer::Locate(Near::Empty));
-    let all = Query::Range(Bound::Unbounded, Bound::Unbounded);
-    assert!(rt; session.read(all).expect(&rt, ROOM) == pairs(&rt, rt.alloc(), &[]));
+    let empty = is_empty(&session);
+    let near = session.read(Query::Locate(1));
+    let all = session.read(Query::Range(Bound::Unbounded, Bound::Unbounded));
     let receipt = session.close(&domain, &mut local);
-    assert_eq!(rt; receipt.reads.as_slice().len(), 2);
     end(&rt, cell, domain, local);
+    assert!(rt; near == Ok(Answer::Locate(Near::Empty)));
+    assert!(rt; all == Ok(pairs(&rt, rt.alloc(), &[])));
+    assert_eq!(rt; (empty, receipt.reads.as_slice().len()), (true, 2));
+}
+
+/// Has a session read each query, and tells whether each answers what it is to, and is recorded by that; and whether the receipt
+/// has the first number all the time.
+fn records<R: Abort>(rt: &R, session: &mut Twos, rows: &[(Query<u64>, Answer<u64, u64>)]) -> bool
+    ensures { session.new.nest ≡ session.old.nest }
+{
+    let mut right = true;
+    for at in 0..rows.len() {
+        let query = rows[at].0.clone().expect(rt, ROOM);
+        let told = session.read(query).expect(rt, ROOM) == rows[at].1;
+        let recorded = session.receipt().reads.as_slice().len() == at + 1;
+        right = told && recorded && session.receipt().number == 1 && right;
+    }
+    // what isn't recorded leaves the receipt as it is
+    session.get(&5).copied() == Some(50) && right
 }
 
 #[test]
 fn each_kind_of_query_is_recorded(rt: HostRuntime) {
-    let mut met = false;
-    let domain = place(&rt, rt.alloc(), &mut met);
-    let mut local = member(&rt, &domain, &mut met);
-    let first = version(
-        &rt,
-        rt.alloc(),
-        &domain,
-        &mut local,
-        1,
-        (10, 20, 50),
-        &mut met,
-    );
-    let cell = cell(&rt, first, &domain, &mut local);
-    let Ok(mut session) = Twos::open(&domain, &cell, &mut local, rt.alloc(), 0) else {
-        panic!(rt; "the first version is there");
-    };
     let range = Query::Range(Bound::Included(2), Bound::Unbounded);
     let rows = [
         (Query::Get(1), Answer::Get(Some(10))),
@@ -226,22 +278,20 @@ fn each_kind_of_query_is_recorded(rt: HostRuntime) {
         (Query::Locate(6), Answer::Locate(Near::Smaller(5, 50))),
         (Query::Locate(0), Answer::Locate(Near::Larger(1, 10))),
     ];
-    let mut recorded: usize = 0;
-    for row in &rows {
-        assert!(rt;
-            session
-                .read(row.0.clone().expect(&rt, ROOM))
-                .expect(&rt, ROOM)
-                == row.1
-        );
-        recorded = recorded.saturating_add(1);
-        assert_eq!(rt; session.receipt().reads.as_slice().len(), recorded);
-    }
-    assert_eq!(rt; session.receipt().number, 1);
-    // what isn't recorded leaves the receipt as it is
-    assert_eq!(rt; session.get(&5).copied(), Some(50));
+    assert!(rt; are_recorded(&rt, rt.alloc(), &rows));
+}
+
+/// Whether a session of the first version records these reads, and its receipt has them.
+fn are_recorded<R: Abort>(rt: &R, alloc: Global, rows: &[(Query<u64>, Answer<u64, u64>)]) -> bool {
+    let mut met = false;
+    let domain = place(rt, alloc, &mut met);
+    let mut local = member(rt, &domain, &mut met);
+    let cell = first(rt, alloc, &domain, &mut local, (10, 20, 50));
+    let Ok(mut session) = Twos::open(&domain, &cell, &mut local, alloc, 0) else {
+        panic!(rt; "the first version is there");
+    };
+    let recorded = records(rt, &mut session, rows);
     let receipt = session.close(&domain, &mut local);
-    assert_eq!(rt; receipt.number, 1);
-    assert!(rt; receipt.reads.as_slice() == &rows[..]);
-    end(&rt, cell, domain, local);
+    end(rt, cell, domain, local);
+    recorded && receipt.number == 1 && receipt.reads.as_slice() == rows
 }

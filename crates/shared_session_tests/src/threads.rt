@@ -4,7 +4,7 @@ ghost use Rattle.std.specs.Prelude.{◌≡◌, ◌<◌};
 ghost use Rattle.sdd_domain.specs.Cells.{cell_number};
 ghost use Rattle.sdd_domain.specs.Tokens.{place_of, home_of, own_of, cell_count, IsSame};
 
-use crate::place::{Item, Twos, cell, end, member, place, publish, reclaim, version};
+use crate::place::{Item, Twos, end, first, member, place, reclaim, renew};
 use sdd_domain::atomic_shared::AtomicShared;
 use sdd_domain::domain::Domain;
 use sdd_domain::local::Local;
@@ -72,12 +72,10 @@ fn writes<R: Abort>(rt: &R, alloc: Global, domain: &Domain<Item>, cell: &AtomicS
     let Ok(mut local) = domain.register() else {
         return None;
     };
-    let mut met = false;
     for behind in 0..LAST {
         let number = behind + 2;
         let values = (number, number, number);
-        let next = version(rt, alloc, domain, &mut local, number, values, &mut met);
-        publish(next, cell, domain, &mut local);
+        renew(rt, alloc, domain, cell, &mut local, number, values);
         reclaim(domain, &mut local);
     }
     local.end(domain);
@@ -90,8 +88,7 @@ fn each_session_of_a_thread_reads_one_version(rt: HostRuntime) {
     let alloc = rt.alloc();
     let domain = place(&rt, alloc, &mut met);
     let mut local = member(&rt, &domain, &mut met);
-    let first = version(&rt, alloc, &domain, &mut local, 1, (1, 1, 1), &mut met);
-    let cell = cell(&rt, first, &domain, &mut local);
+    let cell = first(&rt, alloc, &domain, &mut local, (1, 1, 1));
     let (written, read) = join(
         &rt,
         || writes(&rt, alloc, &domain, &cell),
