@@ -3,7 +3,7 @@
 use crate::table::Call::{Audit, Commit, Counts};
 use crate::table::Claim::{Between, Exact, Got, Has, Listed, Mixed};
 use crate::table::Told::{Accepted, Audited, Counted};
-use crate::table::{Call, Told, on_a_book};
+use crate::table::{Call, Told, on_books};
 use serial_history::Audit::{No, Unknown, Yes};
 use serial_history::Reply::{Cleared, Inserted, Upserted};
 use std::ops::Bound::Unbounded;
@@ -29,11 +29,6 @@ const BY_NUMBER: [(Call, Told); 17] = [
     (Audit(4, &[Got(1, Some(10))]), Audited(Unknown)),
     (Counts, Counted(3, 1, 3)),
 ];
-
-#[test]
-fn receipts_are_audited_by_their_numbers(rt: HostRuntime) {
-    on_a_book(&rt, rt.alloc(), u64::MAX, &BY_NUMBER);
-}
 
 /// Reads of each kind, of the list after the first of three commits; the second removes all pairs.
 const EACH_KIND: [(Call, Told); 8] = [
@@ -89,6 +84,6 @@ const EACH_KIND: [(Call, Told); 8] = [
 ];
 
 #[test]
-fn each_kind_of_read_is_audited(rt: HostRuntime) {
-    on_a_book(&rt, rt.alloc(), u64::MAX, &EACH_KIND);
+fn receipts_are_audited_by_their_numbers_and_each_kind_of_read(rt: HostRuntime) {
+    on_books(&rt, rt.alloc(), &[&BY_NUMBER, &EACH_KIND]);
 }

@@ -3,7 +3,7 @@
 use crate::table::Call::{Audit, Commit, Counts, Reclaim};
 use crate::table::Claim::{Between, Got, Has, Listed, Mixed};
 use crate::table::Told::{Accepted, Audited, Counted, Done, Refused};
-use crate::table::{Call, Told, on_a_book, on_a_small_book};
+use crate::table::{Call, Told, on_a_book, on_a_small_book, on_books};
 use serial_history::Audit::Yes;
 use serial_history::Cause::{Conflict, Exhausted, NoSlot};
 use serial_history::Reply::{Inserted, Removed, Upserted};
@@ -26,11 +26,6 @@ const CHANGED: [(Call, Told); 7] = [
     ),
     (Counts, Counted(4, 2, 4)),
 ];
-
-#[test]
-fn a_read_that_changed_is_a_conflict(rt: HostRuntime) {
-    on_a_book(&rt, rt.alloc(), u64::MAX, &CHANGED);
-}
 
 /// Of several reads the first that does not hold is told; an absent key and an empty range are reads as well.
 const FIRST_OF: [(Call, Told); 7] = [
@@ -74,11 +69,6 @@ const FIRST_OF: [(Call, Told); 7] = [
     (Counts, Counted(4, 3, 4)),
 ];
 
-#[test]
-fn the_first_read_that_differs_is_told(rt: HostRuntime) {
-    on_a_book(&rt, rt.alloc(), u64::MAX, &FIRST_OF);
-}
-
 /// Nothing is trusted of a receipt: neither a claim nor an answer of another kind. A number that isn't there is no cause.
 const FORGED: [(Call, Told); 5] = [
     (
@@ -95,8 +85,8 @@ const FORGED: [(Call, Told); 5] = [
 ];
 
 #[test]
-fn a_forged_receipt_is_a_conflict(rt: HostRuntime) {
-    on_a_book(&rt, rt.alloc(), u64::MAX, &FORGED);
+fn the_first_read_that_does_not_hold_is_a_conflict(rt: HostRuntime) {
+    on_books(&rt, rt.alloc(), &[&CHANGED, &FIRST_OF, &FORGED]);
 }
 
 /// The last number is one: a second commit is refused, for its reads before its number.
@@ -110,11 +100,6 @@ const LAST_NUMBER: [(Call, Told); 5] = [
     (Commit(1, &[Got(1, Some(10))], &[]), Refused(Exhausted)),
     (Counts, Counted(1, 1, 1)),
 ];
-
-#[test]
-fn after_the_last_number_commits_are_exhausted(rt: HostRuntime) {
-    on_a_book(&rt, rt.alloc(), 1, &LAST_NUMBER);
-}
 
 /// Five slots, a pair a segment: a version takes two, and so do the one before it and the one that waits.
 const FEW_SLOTS: [(Call, Told); 10] = [
@@ -131,6 +116,7 @@ const FEW_SLOTS: [(Call, Told); 10] = [
 ];
 
 #[test]
-fn without_slots_a_commit_waits_for_a_reclaim(rt: HostRuntime) {
+fn without_numbers_or_slots_commits_are_refused(rt: HostRuntime) {
+    on_a_book(&rt, rt.alloc(), 1, &LAST_NUMBER);
     on_a_small_book(&rt, rt.alloc(), 5, &FEW_SLOTS);
 }

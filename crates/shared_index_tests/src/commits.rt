@@ -3,7 +3,7 @@
 use crate::table::Call::{Commit, Counts};
 use crate::table::Claim::Got;
 use crate::table::Told::{Accepted, Counted};
-use crate::table::{Call, Told, on_a_book};
+use crate::table::{Call, Told, on_books};
 use serial_history::Reply::{
     Absent, Cleared, Duplicate, Inserted, RangeRemoved, Removed, Upserted,
 };
@@ -44,22 +44,12 @@ const EACH_WRITE: [(Call, Told); 11] = [
     (Counts, Counted(5, 0, 5)),
 ];
 
-#[test]
-fn each_write_is_told_what_it_did(rt: HostRuntime) {
-    on_a_book(&rt, rt.alloc(), u64::MAX, &EACH_WRITE);
-}
-
 /// A commit that writes nothing is one all the same, and leaves the list.
 const NO_WRITES: [(Call, Told); 3] = [
     (Commit(0, &[], &[Insert(1, 10)]), Accepted(1, &[Inserted])),
     (Commit(1, &[Got(1, Some(10))], &[]), Accepted(2, &[])),
     (Counts, Counted(2, 1, 2)),
 ];
-
-#[test]
-fn a_commit_without_writes_has_a_number(rt: HostRuntime) {
-    on_a_book(&rt, rt.alloc(), u64::MAX, &NO_WRITES);
-}
 
 /// What a commit wrote holds for the next one: key by key, beyond one segment.
 const READ_ON: [(Call, Told); 5] = [
@@ -83,6 +73,6 @@ const READ_ON: [(Call, Told); 5] = [
 ];
 
 #[test]
-fn what_was_written_is_read_by_the_next_commit(rt: HostRuntime) {
-    on_a_book(&rt, rt.alloc(), u64::MAX, &READ_ON);
+fn each_write_is_told_what_it_did_and_read_by_the_next_commit(rt: HostRuntime) {
+    on_books(&rt, rt.alloc(), &[&EACH_WRITE, &NO_WRITES, &READ_ON]);
 }

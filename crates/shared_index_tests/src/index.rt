@@ -6,66 +6,69 @@ use crate::scene::{Item, ROOM, end, got, member, sized, two};
 use crate::tasks::{begun, closed, put, swap, taken};
 use sdd_domain::domain::Domain;
 use sdd_domain::local::Local;
-use serial_history::{Accepted, Audit, Receipt, Reply};
+use serial_history::{Accepted, Audit, Receipt, Refused, Reply};
 use shared_index::Naming;
-use std::alloc::Global;
+use std::alloc::{AllocError, Global};
 use std::marker::Brand;
 use std::process::Abort;
 use std::sync::Wait;
 use std::sync::ledger::Blank;
-use std::test::Fail;
 use versions::Write;
 
-/// Two shares: a commit with each, then a close without one of them, and with both.
+/// What is found with two shares: what commits of one key tell that rest on its value, the counts of the shares, how many
+/// shares there are at first and where one is missing, and the number.
+type Missing = ([Option<bool>; 4], [u64; 2], [usize; 2], u64);
+
+/// Two shares: two commits with each, then a close without one of them, and with both.
 fn missing_share<L: Naming, R: Wait + Abort>(
     rt: &R,
     alloc: Global,
     domain: &Domain<Item>,
     local: Local<Item>,
     blank: Blank,
-)
+) -> Missing
     requires { CanBegin L.place L.name L.parts 2 domain.now local blank }
 {
     let (index, mut shares) = begun::<L, R>(rt, alloc, domain, local, blank, 2);
-    assert_eq!(rt; shares.len(), 2);
+    let all = shares.len();
     let mut first = taken(rt, &mut shares);
-    assert_eq!(rt;
-        swap(rt, alloc, &index, &mut first, 1, None, 10),
-        Some(true)
-    );
-    assert_eq!(rt;
-        swap(rt, alloc, &index, &mut first, 1, None, 11),
-        Some(false)
-    );
-    assert_eq!(rt; first.count(), 1);
     let mut second = taken(rt, &mut shares);
-    assert_eq!(rt;
+    let told = [
+        swap(rt, alloc, &index, &mut first, 1, None, 10),
+        swap(rt, alloc, &index, &mut first, 1, None, 11),
         swap(rt, alloc, &index, &mut second, 1, Some(10), 11),
-        Some(true)
-    );
-    assert_eq!(rt;
         swap(rt, alloc, &index, &mut second, 1, Some(11), 12),
-        Some(true)
-    );
-    assert_eq!(rt; second.count(), 2);
+    ];
+    let counts = [first.count(), second.count()];
     put(rt, &mut shares, first);
     let (index, mut shares) = match index.close(shares) {
         Ok(_) => panic!(rt; "a share is missing"),
         Err(back) => back,
     };
-    assert_eq!(rt; shares.len(), 1);
+    let left = shares.len();
     put(rt, &mut shares, second);
-    assert_eq!(rt; closed(rt, domain, index, shares), 3);
+    (told, counts, [all, left], closed(rt, domain, index, shares))
 }
 
 #[test]
-fn an_index_is_closed_with_all_its_shares(rt: HostRuntime) -> Result<(), Fail> {
-    let domain = Domain::new(rt.alloc(), sized(64))?;
+fn an_index_is_closed_with_all_its_shares(rt: HostRuntime) {
+    let domain = Domain::new(rt.alloc(), sized(64)).expect(&rt, ROOM);
     let local = member(&rt, &domain);
-    missing_share::<Brand, _>(&rt, rt.alloc(), &domain, local, Blank::new(2));
+    let found = missing_share::<Brand, _>(&rt, rt.alloc(), &domain, local, Blank::new(2));
     end(&rt, domain);
-    Ok(())
+    let (told, counts, lens, number) = found;
+    assert_eq!(rt; told, [Some(true), Some(false), Some(true), Some(true)]);
+    assert_eq!(rt; (counts, lens, number), ([1, 2], [2, 1], 3));
 }
+
+/// What is found under the lock: what a commit tells, how many slots are in use before a reclaim and after it, what three
+/// audits say, and the number.
+type Locked = (
+    Result<Accepted, Refused<u64, u64>>,
+    [usize; 2],
+    [Result<Audit, AllocError>; 3],
+    u64,
+);
 
 /// What a commit is told under the lock is what the book tells, and `reclaim` frees slots.
 fn told_under_the_lock<L: Naming, R: Wait + Abort>(
@@ -74,50 +77,44 @@ fn told_under_the_lock<L: Naming, R: Wait + Abort>(
     domain: &Domain<Item>,
     local: Local<Item>,
     blank: Blank,
-)
+) -> Locked
     requires { CanBegin L.place L.name L.parts 1 domain.now local blank }
 {
     let (index, mut shares) = begun::<L, R>(rt, alloc, domain, local, blank, 1);
     let mut share = taken(rt, &mut shares);
     let writes = two(rt, alloc, Write::Insert(1, 10), Write::Insert(1, 11));
-    match index.commit(rt, &mut share, &Receipt::blank(alloc), writes) {
-        Ok(Accepted { number, replies }) => {
-            assert_eq!(rt; number, 1);
-            assert!(rt; replies.as_slice() == &[Reply::Inserted, Reply::Duplicate][..]);
-        }
-        Err(_) => panic!(rt; "there is memory, and there are slots"),
-    }
-    // the empty version, a version and its segment
-    assert_eq!(rt; domain.slots_in_use(), 3);
+    let told = index.commit(rt, &mut share, &Receipt::blank(alloc), writes);
+    let before = domain.slots_in_use();
     index.reclaim(rt);
-    assert_eq!(rt; domain.slots_in_use(), 2);
-    assert_eq!(rt;
-        index
-            .audit(rt, &got(rt, alloc, 1, 1, Some(10)))
-            .expect(rt, ROOM),
-        Audit::Yes
-    );
-    assert_eq!(rt;
-        index
-            .audit(rt, &got(rt, alloc, 1, 1, Some(11)))
-            .expect(rt, ROOM),
-        Audit::No(0)
-    );
-    assert_eq!(rt;
-        index
-            .audit(rt, &got(rt, alloc, 2, 1, Some(10)))
-            .expect(rt, ROOM),
-        Audit::Unknown
-    );
+    let after = domain.slots_in_use();
+    let audits = [
+        index.audit(rt, &got(rt, alloc, 1, 1, Some(10))),
+        index.audit(rt, &got(rt, alloc, 1, 1, Some(11))),
+        index.audit(rt, &got(rt, alloc, 2, 1, Some(10))),
+    ];
     put(rt, &mut shares, share);
-    assert_eq!(rt; closed(rt, domain, index, shares), 1);
+    let number = closed(rt, domain, index, shares);
+    (told, [before, after], audits, number)
+}
+
+/// Whether a commit was the first one, and wrote the first of its two pairs alone.
+fn is_told(told: &Result<Accepted, Refused<u64, u64>>) -> bool {
+    match told {
+        Ok(accepted) => accepted.number == 1
+            && accepted.replies.as_slice() == &[Reply::Inserted, Reply::Duplicate][..],
+        Err(_) => false,
+    }
 }
 
 #[test]
-fn a_call_under_the_lock_is_that_of_the_book(rt: HostRuntime) -> Result<(), Fail> {
-    let domain = Domain::new(rt.alloc(), sized(64))?;
+fn a_call_under_the_lock_is_that_of_the_book(rt: HostRuntime) {
+    let domain = Domain::new(rt.alloc(), sized(64)).expect(&rt, ROOM);
     let local = member(&rt, &domain);
-    told_under_the_lock::<Brand, _>(&rt, rt.alloc(), &domain, local, Blank::new(1));
+    let found = told_under_the_lock::<Brand, _>(&rt, rt.alloc(), &domain, local, Blank::new(1));
     end(&rt, domain);
-    Ok(())
+    let (told, slots, audits, number) = found;
+    assert!(rt; is_told(&told));
+    assert!(rt; audits == [Ok(Audit::Yes), Ok(Audit::No(0)), Ok(Audit::Unknown)]);
+    // the empty version, a version and its segment; then without the first one
+    assert_eq!(rt; (slots, number), ([3, 2], 1));
 }

@@ -12,6 +12,8 @@ mod crowd;
 #[cfg(test)]
 mod index;
 #[cfg(test)]
+mod joined;
+#[cfg(test)]
 mod own_commits;
 #[cfg(test)]
 mod refusals;

@@ -1,22 +1,17 @@
-//! Threads that read their own commits back. Each test prints the same whatever the schedule.
+//! Threads that read their own commits back.
 
 ghost use Rattle.std.specs.Prelude.{◌≡◌};
 ghost use Rattle.sdd_domain.specs.Tokens.{home_of, own_of, IsSame};
-ghost use Rattle.shared_index_tests.specs.Scenes.{CanBegin};
 
-use crate::scene::{Item, ROOM, end, got, member};
-use crate::tasks::{Numbers, begun, closed, place_for, put, taken};
-use sdd_domain::domain::Domain;
+use crate::joined::Task::{ReadsBack, Rests};
+use crate::joined::{Crowd, first_wrong};
+use crate::scene::Item;
+use crate::tasks::Numbers;
 use sdd_domain::local::Local;
 use serial_history::{Accepted, Answer, Audit, Query, Receipt};
-use shared_index::{Naming, Share, join_over};
+use shared_index::{Naming, Share};
 use std::alloc::Global;
-use std::marker::Brand;
-use std::process::Abort;
 use std::sync::Wait;
-use std::sync::ledger::Blank;
-use std::test::Fail;
-use std::thread::Threads;
 use versions::Write;
 
 /// Commits an upsert that rests on nothing: its number, if it was accepted.
@@ -65,7 +60,7 @@ fn read_back<L: Naming>(
 /// Fifty commits of a key that nobody else writes, each read back in a session of a participant of its own, for at least the number
 /// that the commit was told: the share, and how many were found, with a receipt that is right by an audit. None if no participant
 /// was free.
-fn read_often<L: Naming, R: Wait>(
+pub(crate) fn read_often<L: Naming, R: Wait>(
     rt: &R,
     alloc: Global,
     index: &Numbers<'_, L>,
@@ -92,47 +87,18 @@ fn read_often<L: Naming, R: Wait>(
     Some((share, right))
 }
 
-/// Two threads with a key and a share each, which read their own commits back.
-fn both_read_back<L: Naming + Send + Sync, R: Threads + Wait + Abort + Sync>(
-    rt: &R,
-    alloc: Global,
-    domain: &Domain<Item>,
-    local: Local<Item>,
-    blank: Blank,
-)
-    requires { CanBegin L.place L.name L.parts 2 domain.now local blank }
-{
-    let (index, mut shares) = begun::<L, R>(rt, alloc, domain, local, blank, 2);
-    let one = taken(rt, &mut shares);
-    let other = taken(rt, &mut shares);
-    let (one, other) = join_over(
-        rt,
-        &index,
-        |index| read_often(rt, alloc, index, one, 1),
-        |index| read_often(rt, alloc, index, other, 2),
-    );
-    for ended in [one, other] {
-        match ended {
-            Some((share, right)) => {
-                assert_eq!(rt; (share.count(), right), (50, 50));
-                put(rt, &mut shares, share);
-            }
-            None => panic!(rt; "a participant is free"),
-        }
-    }
-    for key in 1..=2u64 {
-        let last = got(rt, alloc, 100, key, Some(50));
-        assert_eq!(rt; index.audit(rt, &last).expect(rt, ROOM), Audit::Yes);
-    }
-    assert_eq!(rt; closed(rt, domain, index, shares), 100);
-}
+/// A session for the number of a commit finds what it wrote.
+const READ_BACK: Crowd = Crowd {
+    participants: 3,
+    slots: 512,
+    shares: 2,
+    tasks: [ReadsBack(1), ReadsBack(2), Rests, Rests, Rests, Rests],
+    told: [Some(50), Some(50), None, None, None, None],
+    number: 100,
+    list: &[(1, 50), (2, 50)],
+};
 
 #[test]
-fn a_session_for_the_number_of_a_commit_finds_what_it_wrote(rt: HostRuntime) -> Result<(), Fail> {
-    // a commit of one write takes three slots at most: all of them are there, also where nothing is reclaimed
-    let domain = Domain::new(rt.alloc(), place_for(3, 512))?;
-    let local = member(&rt, &domain);
-    both_read_back::<Brand, _>(&rt, rt.alloc(), &domain, local, Blank::new(2));
-    end(&rt, domain);
-    Ok(())
+fn a_session_for_the_number_of_a_commit_finds_what_it_wrote(rt: HostRuntime) {
+    assert_eq!(rt; first_wrong(&rt, rt.alloc(), &[READ_BACK]), None);
 }

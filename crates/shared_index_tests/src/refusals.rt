@@ -18,7 +18,6 @@ use std::alloc::{AllocError, Global};
 use std::marker::Brand;
 use std::process::Abort;
 use std::sync::ledger::Blank;
-use std::test::Fail;
 use versions::Write;
 
 const TWICE: &str = "memory was refused twice";
@@ -149,7 +148,11 @@ fn audit<L: Naming, R: Abort>(
     }
 }
 
-/// Whether an allocation was refused while a book was made, written twice and asked about its first list.
+/// What is found of a book: what two commits tell, what an audit says, and the number, how many pairs there are and the count
+/// of the share.
+type Found = (Accepted, Accepted, Audit, (u64, usize, u64));
+
+/// A book that is made, written twice and asked about its first list.
 fn writes_and_audits<L: Naming, R: Abort>(
     rt: &R,
     alloc: Global,
@@ -157,37 +160,41 @@ fn writes_and_audits<L: Naming, R: Abort>(
     local: Local<Item>,
     blank: Blank,
     met: &mut bool,
-)
+) -> Found
     requires { CanBegin L.place L.name L.parts 1 domain.now local blank }
 {
     let (mut book, root, mut shares) = book::<L, R>(rt, alloc, domain, local, blank, met);
     let Some(mut share) = shares.pop() else {
         panic!(rt; "there is a share")
     };
-    let first = commit(
-        rt,
-        alloc,
-        domain,
-        &root,
-        &mut book,
-        &mut share,
-        &Receipt::blank(alloc),
-        met,
-    );
-    assert!(rt; first.number == 1);
-    assert!(rt; first.replies.as_slice() == &[Reply::Inserted, Reply::Upserted][..]);
+    let none = Receipt::blank(alloc);
+    let first = commit(rt, alloc, domain, &root, &mut book, &mut share, &none, met);
     let read = receipt(rt, alloc, met);
     let second = commit(rt, alloc, domain, &root, &mut book, &mut share, &read, met);
-    assert!(rt; second.number == 2);
-    assert!(rt; second.replies.as_slice() == &[Reply::Duplicate, Reply::Upserted][..]);
-    assert!(rt; audit(rt, &book, &read, met) == Audit::Yes);
-    assert_eq!(rt; (book.number(), book.len(), share.count()), (2, 1, 2));
+    let audit = audit(rt, &book, &read, met);
+    let counts = (book.number(), book.len(), share.count());
     let mut local = book.end(domain);
     root.retire(domain, &mut local);
     local.end(domain);
+    (first, second, audit, counts)
 }
 
-/// The same, in a place of its own, made again where memory was refused.
+/// Whether a commit tells this.
+fn is_told(accepted: &Accepted, number: u64, replies: [Reply; 2]) -> bool {
+    accepted.number == number && accepted.replies.as_slice() == &replies[..]
+}
+
+/// Whether all was found as it is to be, whatever was refused.
+fn is_right(found: &Found) -> bool {
+    let (first, second, audit, counts) = found;
+    is_told(first, 1, [Reply::Inserted, Reply::Upserted])
+        && is_told(second, 2, [Reply::Duplicate, Reply::Upserted])
+        && *audit == Audit::Yes
+        && *counts == (2, 1, 2)
+}
+
+/// Whether an allocation was refused while a place and such a book in it were made and used. The place was made again where
+/// memory was refused.
 fn in_a_place<R: Abort>(rt: &R, alloc: Global) -> bool {
     let mut met = false;
     let domain = match Domain::new(alloc, sized(16)) {
@@ -198,7 +205,8 @@ fn in_a_place<R: Abort>(rt: &R, alloc: Global) -> bool {
         }
     };
     let local = registered(rt, &domain, &mut met);
-    writes_and_audits::<Brand, R>(rt, alloc, &domain, local, Blank::new(1), &mut met);
+    let found = writes_and_audits::<Brand, R>(rt, alloc, &domain, local, Blank::new(1), &mut met);
+    assert!(rt; is_right(&found));
     let mut domain = domain;
     for _i in 0..2u32 {
         domain = match domain.close() {
@@ -211,13 +219,11 @@ fn in_a_place<R: Abort>(rt: &R, alloc: Global) -> bool {
 }
 
 #[test]
-fn a_refusal_of_memory_leaves_the_book(rt: HostRuntime) -> Result<(), Fail> {
+fn a_refusal_of_memory_leaves_the_book(rt: HostRuntime) {
     let _met = in_a_place(&rt, rt.alloc());
-    Ok(())
 }
 
 #[test]
-fn no_memory_is_refused(rt: HostRuntime) -> Result<(), Fail> {
+fn no_memory_is_refused(rt: HostRuntime) {
     assert!(rt; !in_a_place(&rt, rt.alloc()));
-    Ok(())
 }

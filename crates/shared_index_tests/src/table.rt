@@ -185,6 +185,13 @@ fn by_ones<L: Naming, R: Abort>(
     assert_eq!(rt; played(rt, alloc, scene, rows), rows.len());
 }
 
+/// Plays tables, each on an empty book with 64 slots and two pairs in a segment at most.
+pub(crate) fn on_books<R: Abort>(rt: &R, alloc: Global, tables: &[&[(Call, Told)]]) {
+    for rows in tables {
+        on_a_book(rt, alloc, u64::MAX, rows);
+    }
+}
+
 /// Plays a table on an empty book with 64 slots, up to a last number, with two pairs in a segment at most.
 pub(crate) fn on_a_book<R: Abort>(rt: &R, alloc: Global, last: u64, rows: &[(Call, Told)]) {
     let domain = Domain::new(alloc, sized(64)).expect(rt, ROOM);

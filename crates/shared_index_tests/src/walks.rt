@@ -17,12 +17,11 @@ use sdd_domain::local::Local;
 use serial_history::{Answer, Audit, Receipt, Seq};
 use shared_index::{Naming, Share, join_over};
 use shared_sessions::SharedWalk;
-use std::alloc::Global;
+use std::alloc::{AllocError, Global};
 use std::marker::Brand;
 use std::process::Abort;
 use std::sync::ledger::Blank;
 use std::sync::{Condvar, Mutex, MutexGuard, Wait};
-use std::test::Fail;
 use std::thread::Threads;
 use versions::Write;
 
@@ -52,6 +51,9 @@ fn first_list<R: Abort>(rt: &R, alloc: Global) -> Answer<u64, u64> {
     range(rt, alloc, pairs)
 }
 
+/// What the first list has behind the middle.
+const HIGH: [(u64, u64); 5] = [(6, 60), (7, 70), (8, 80), (9, 90), (10, 100)];
+
 /// What a walk has before it. None where memory is refused.
 fn gathered(alloc: Global, walk: SharedWalk<'_, u64, u64>) -> Option<Answer<u64, u64>> {
     let mut pairs = Vec::new(alloc);
@@ -63,14 +65,16 @@ fn gathered(alloc: Global, walk: SharedWalk<'_, u64, u64>) -> Option<Answer<u64,
     Some(Answer::Range(Seq::from_vec(pairs)))
 }
 
-/// Walks past the first five pairs of the first list.
-fn walk_to_the_middle<R: Abort>(rt: &R, walk: &mut SharedWalk<'_, u64, u64>) {
+/// Walks past the first five pairs: whether they are those of the first list.
+fn walk_to_the_middle(walk: &mut SharedWalk<'_, u64, u64>) -> bool {
+    let mut right = true;
     for key in 1..=5u64 {
-        match walk.next() {
-            Some((found, value)) => assert_eq!(rt; (*found, *value), (key, key * 10)),
-            None => panic!(rt; "ten pairs are there"),
-        }
+        right = match walk.next() {
+            Some((found, value)) => *found == key && *value == key * 10 && right,
+            None => false,
+        };
     }
+    right
 }
 
 /// Removes and changes pairs on both sides of the middle, and says so; then goes on to commit. It says so also where the commit is
@@ -114,14 +118,15 @@ fn walk_on<R: Wait>(
 }
 
 /// A session of the first list walks to the middle, waits there until another thread has changed pairs on both sides, and
-/// walks on while the other thread goes on to commit: its receipt, and the share of the other thread.
+/// walks on while the other thread goes on to commit: its receipt, the share of the other thread, and whether the session read
+/// the first list by the walk, on both sides of the middle, and by a query.
 fn walk_and_wait<L: Naming + Send + Sync, R: Threads + Wait + Abort + Sync>(
     rt: &R,
     alloc: Global,
     index: &Numbers<'_, L>,
     local: &mut Local<Item>,
     share: Share<L>,
-) -> (Receipt<u64, u64>, Share<L>)
+) -> (Receipt<u64, u64>, Share<L>, bool)
     requires home { home_of local.old ≡ L.place }
     requires closed { (own_of local.old).nesting ≡ 0 }
     ensures same { IsSame local.old local.new }
@@ -133,76 +138,28 @@ fn walk_and_wait<L: Naming + Send + Sync, R: Threads + Wait + Abort + Sync>(
     let done = Mutex::new(false);
     let changed = Condvar::new();
     let mut walk = session.iter();
-    walk_to_the_middle(rt, &mut walk);
+    let low = walk_to_the_middle(&mut walk);
     let (share, rest) = join_over(
         rt,
         index,
         |index| change_both_sides(rt, alloc, index, share, &done, &changed),
         |_index| walk_on(rt, alloc, walk, &done, &changed),
     );
-    let high = [(6, 60), (7, 70), (8, 80), (9, 90), (10, 100)];
-    assert!(rt; rest == Some(range(rt, alloc, high)));
-    assert!(rt; session.read(all()).expect(rt, ROOM) == first_list(rt, alloc));
-    (session.close(index.domain(), local), share)
+    let all = session.read(all());
+    let receipt = session.close(index.domain(), local);
+    let high = rest == Some(range(rt, alloc, HIGH)) && all == Ok(first_list(rt, alloc));
+    (receipt, share, low && high)
 }
 
-/// The walk that waits, from the first commit to the last.
-fn waiting_walk<L: Naming + Send + Sync, R: Threads + Wait + Abort + Sync>(
-    rt: &R,
-    alloc: Global,
-    domain: &Domain<Item>,
-    local: Local<Item>,
-    blank: Blank,
-)
-    requires { CanBegin L.place L.name L.parts 1 domain.now local blank }
-{
-    let (index, mut shares) = begun::<L, R>(rt, alloc, domain, local, blank, 1);
-    let mut share = taken(rt, &mut shares);
-    let mut reader = member(rt, domain);
-    write(rt, alloc, &index, &mut share, ten(rt, alloc));
-    let (receipt, share) = walk_and_wait(rt, alloc, &index, &mut reader, share);
-    assert_eq!(rt; receipt.number, 1);
-    assert_eq!(rt; index.audit(rt, &receipt).expect(rt, ROOM), Audit::Yes);
-    // each key of the first list was raised again, last by the commits 93 to 102, which wrote 90 to 99
-    let last = [
-        (1, 90),
-        (2, 91),
-        (3, 92),
-        (4, 93),
-        (5, 94),
-        (6, 95),
-        (7, 96),
-        (8, 97),
-        (9, 98),
-        (10, 99),
-        (11, 110),
-    ];
-    let found = listed(rt, &index, &mut reader, 102);
-    assert!(rt; found == range(rt, alloc, last));
-    reader.end(domain);
-    assert_eq!(rt; share.count(), 102);
-    put(rt, &mut shares, share);
-    assert_eq!(rt; closed(rt, domain, index, shares), 102);
-}
-
-#[test]
-fn a_walk_goes_on_in_its_list_after_commits_on_both_sides(rt: HostRuntime) -> Result<(), Fail> {
-    // 1 slot for the empty version, 21 for the first commit, 11 for the second, and 3 for each other one
-    let domain = Domain::new(rt.alloc(), place_for(2, 512))?;
-    let local = member(&rt, &domain);
-    waiting_walk::<Brand, _>(&rt, rt.alloc(), &domain, local, Blank::new(1));
-    end(&rt, domain);
-    Ok(())
-}
-
-/// A session of the first list, open over a thousand commits: its receipt, of a read before them and one after them.
+/// A session of the first list, open over a thousand commits: its receipt, of a read before them and one after them, and
+/// whether both and a walk found the first list.
 fn kept_open<L: Naming, R: Wait + Abort>(
     rt: &R,
     alloc: Global,
     index: &Numbers<'_, L>,
     local: &mut Local<Item>,
-    share: &mut Share<L>,
-) -> Receipt<u64, u64>
+    share: Share<L>,
+) -> (Receipt<u64, u64>, Share<L>, bool)
     requires home { home_of local.old ≡ L.place }
     requires closed { (own_of local.old).nesting ≡ 0 }
     ensures same { IsSame local.old local.new }
@@ -211,59 +168,127 @@ fn kept_open<L: Naming, R: Wait + Abort>(
     let Ok(mut session) = index.open(local, 1) else {
         panic!(rt; "the first commit is there");
     };
-    let before = session.read(all()).expect(rt, ROOM);
-    write_often(rt, alloc, index, share, 1000);
+    let mut share = share;
+    let before = session.read(all());
+    write_often(rt, alloc, index, &mut share, 1000);
+    let walked = gathered(alloc, session.iter());
+    let after = session.read(all());
+    let receipt = session.close(index.domain(), local);
     let first = first_list(rt, alloc);
-    assert!(rt; before == first);
-    assert!(rt; gathered(alloc, session.iter()) == Some(before));
-    assert!(rt; session.read(all()).expect(rt, ROOM) == first);
-    session.close(index.domain(), local)
+    let read = before.as_ref() == Ok(&first) && after.as_ref() == Ok(&first);
+    (receipt, share, read && walked == Some(first))
 }
 
-/// The session that is kept open, and what the commits leave.
-fn kept_over_commits<L: Naming, R: Wait + Abort>(
+/// A session of the first list, kept open while others commit.
+#[derive(Clone, Copy)]
+enum Kept {
+    /// A hundred and one commits, of which the first one changes both sides of where its walk waits.
+    Waits,
+    /// A thousand.
+    Reads,
+}
+
+/// What is found of it: whether it read the first list, the number of its receipt and how many reads that has, what an audit
+/// says of that, the list that is left, the count of the share, and the number of the index.
+type Found = (
+    bool,
+    (u64, usize),
+    Result<Audit, AllocError>,
+    Answer<u64, u64>,
+    u64,
+    u64,
+);
+
+/// Commits the first list, has a session of it kept open, and ends the index, whose last list is that of a number.
+fn kept_on<L: Naming + Send + Sync, R: Threads + Wait + Abort + Sync>(
     rt: &R,
     alloc: Global,
     domain: &Domain<Item>,
     local: Local<Item>,
     blank: Blank,
-)
+    how: Kept,
+    last: u64,
+) -> Found
     requires { CanBegin L.place L.name L.parts 1 domain.now local blank }
 {
     let (index, mut shares) = begun::<L, R>(rt, alloc, domain, local, blank, 1);
     let mut share = taken(rt, &mut shares);
     let mut reader = member(rt, domain);
     write(rt, alloc, &index, &mut share, ten(rt, alloc));
-    let receipt = kept_open(rt, alloc, &index, &mut reader, &mut share);
-    assert_eq!(rt; (receipt.number, receipt.reads.as_slice().len()), (1, 2));
-    assert_eq!(rt; index.audit(rt, &receipt).expect(rt, ROOM), Audit::Yes);
-    // the last ten commits wrote 990 to 999
-    let last = [
-        (1, 990),
-        (2, 991),
-        (3, 992),
-        (4, 993),
-        (5, 994),
-        (6, 995),
-        (7, 996),
-        (8, 997),
-        (9, 998),
-        (10, 999),
-    ];
-    let found = listed(rt, &index, &mut reader, 1001);
-    assert!(rt; found == range(rt, alloc, last));
+    let (receipt, share, is_first) = match how {
+        Kept::Waits => walk_and_wait(rt, alloc, &index, &mut reader, share),
+        Kept::Reads => kept_open(rt, alloc, &index, &mut reader, share),
+    };
+    let audit = index.audit(rt, &receipt);
+    let list = listed(rt, &index, &mut reader, last);
     reader.end(domain);
-    assert_eq!(rt; share.count(), 1001);
+    let count = share.count();
     put(rt, &mut shares, share);
-    assert_eq!(rt; closed(rt, domain, index, shares), 1001);
+    let number = closed(rt, domain, index, shares);
+    let read = (receipt.number, receipt.reads.as_slice().len());
+    (is_first, read, audit, list, count, number)
 }
 
+/// The same in a place of its own, for two participants and so many items.
+fn in_a_place<R: Threads + Wait + Abort + Sync>(
+    rt: &R,
+    alloc: Global,
+    slots: u16,
+    how: Kept,
+    last: u64,
+) -> Found {
+    let domain = Domain::new(alloc, place_for(2, usize::from(slots))).expect(rt, ROOM);
+    let local = member(rt, &domain);
+    let found = kept_on::<Brand, R>(rt, alloc, &domain, local, Blank::new(1), how, last);
+    end(rt, domain);
+    found
+}
+
+/// Each key of the first list was raised again, last by the commits 93 to 102, which wrote 90 to 99.
+const AFTER_THE_WALK: [(u64, u64); 11] = [
+    (1, 90),
+    (2, 91),
+    (3, 92),
+    (4, 93),
+    (5, 94),
+    (6, 95),
+    (7, 96),
+    (8, 97),
+    (9, 98),
+    (10, 99),
+    (11, 110),
+];
+
 #[test]
-fn a_session_is_kept_over_a_thousand_commits(rt: HostRuntime) -> Result<(), Fail> {
+fn a_walk_goes_on_in_its_list_after_commits_on_both_sides(rt: HostRuntime) {
+    // 1 slot for the empty version, 21 for the first commit, 11 for the second, and 3 for each other one
+    let found = in_a_place(&rt, rt.alloc(), 512, Kept::Waits, 102);
+    let (is_first, read, audit, list, count, number) = found;
+    assert!(rt; list == range(&rt, rt.alloc(), AFTER_THE_WALK));
+    assert!(rt; is_first && audit == Ok(Audit::Yes));
+    assert_eq!(rt; [read.0, count, number], [1, 102, 102]);
+}
+
+/// The last ten commits wrote 990 to 999.
+const AFTER_A_THOUSAND: [(u64, u64); 10] = [
+    (1, 990),
+    (2, 991),
+    (3, 992),
+    (4, 993),
+    (5, 994),
+    (6, 995),
+    (7, 996),
+    (8, 997),
+    (9, 998),
+    (10, 999),
+];
+
+#[test]
+fn a_session_is_kept_over_a_thousand_commits(rt: HostRuntime) {
     // 1 slot for the empty version, 21 for the first commit, and 3 for each other one
-    let domain = Domain::new(rt.alloc(), place_for(2, 4096))?;
-    let local = member(&rt, &domain);
-    kept_over_commits::<Brand, _>(&rt, rt.alloc(), &domain, local, Blank::new(1));
-    end(&rt, domain);
-    Ok(())
+    let found = in_a_place(&rt, rt.alloc(), 4096, Kept::Reads, 1001);
+    let (is_first, read, audit, list, count, number) = found;
+    assert!(rt; list == range(&rt, rt.alloc(), AFTER_A_THOUSAND));
+    assert!(rt; is_first && audit == Ok(Audit::Yes));
+    assert_eq!(rt; ([read.0, count, number], read.1), ([1, 1001, 1001], 2));
 }

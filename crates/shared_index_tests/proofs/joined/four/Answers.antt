@@ -1,7 +1,7 @@
 use Rattle.std.proofs.Crossing.{crosses}
 use denote.Param.Send.{sendable}
 use Rattle.shared_index.proofs.SendLemmas.{index_sync}
-use Rattle.shared_index_tests.proofs.crowd.four_raise.Goals as goal
+use Rattle.shared_index_tests.proofs.joined.four.Goals as goal
 
 pub join_over-some-requires-sync-T : goal.join_over-some-requires-sync-T
 join_over-some-requires-sync-T g c κs within = search (index_sync, crosses, sendable) depth 12

@@ -1,7 +1,0 @@
-use Rattle.std.proofs.Crossing.{crosses}
-use denote.Param.Send.{sendable}
-use Rattle.shared_index.proofs.SendLemmas.{index_sync}
-use Rattle.shared_index_tests.proofs.threads.reads_beside_commits.Goals as goal
-
-pub join_over-read-requires-sync-T : goal.join_over-read-requires-sync-T
-join_over-read-requires-sync-T g c κs within = search (index_sync, crosses, sendable) depth 12
