@@ -9,10 +9,10 @@ use Rattle.sdd_base.specs.declared.cell.AtomicShared.{AtomicShared}
 use Rattle.sdd_base.specs.declared.tag.Tag.TheVariants as tag
 use Rattle.sdd_base.specs.declared.status.Cell.{Cell}
 use Rattle.sdd_base.specs.declared.status.Cell.TheVariants as cell
-use Rattle.sdd.specs.Chain.{Entry, IsOut, Leaves}
+use Rattle.sdd_lists.specs.Chain.{Entry, IsOut, Leaves}
 use Rattle.sdd.specs.Bags.{AreApart, AreEmpty, AreFreeCells, AreSingle, IsClaimed, IsRow, freed, joined}
-use Rattle.sdd.proofs.ChainLemmas.{wrote_same, wrote_other, inside_cells, leaves_all, leaves_then, leaves_write, freed_again}
-use Rattle.sdd.proofs.ListHeadLemmas.{leaves_free}
+use Rattle.sdd_lists.proofs.ChainLemmas.{wrote_same, wrote_other, inside_cells, leaves_all, leaves_then, leaves_write, freed_again}
+use Rattle.sdd_lists.proofs.ListHeadLemmas.{leaves_free}
 use Rattle.sdd.proofs.RowLemmas.{row_same}
 
 -- cells that keep nothing are a row of empty lists

@@ -9,17 +9,17 @@ use Rattle.std.proofs.lemmas.Bool.{false≢true, cases_eq}
 use Rattle.sdd_base.specs.State.{State, status_at, cell_at, vacancy, emptiness, NoneFree, NoCellFree}
 use Rattle.sdd_base.specs.declared.tag.Tag.{Tag}
 use Rattle.sdd_base.specs.declared.tag.Tag.TheVariants as tag
-use Rattle.sdd.specs.Chain.{Entry, slots, links, IsOut, AreOut, IsList, Hangs, Leaves, first_slot, undeleted, TookFirst}
-use Rattle.sdd.specs.Entries.{entry_link}
+use Rattle.sdd_lists.specs.Chain.{Entry, slots, links, IsOut, AreOut, IsList, Hangs, Leaves, first_slot, undeleted, TookFirst}
+use Rattle.sdd_lists.specs.Entries.{entry_link}
 use Rattle.sdd.specs.Stacks.{IsNew, IsStack, IsSomeStack}
 use Rattle.sdd.proofs.BagLenLemmas.{own_undeleted}
 use Rattle.sdd.proofs.BagInitLemmas.{claimed_empty, blank_row, blanks_joined, blanks_length, blanks_single}
 use Rattle.sdd.specs.Bags.{IsClaimed, IsNull, cell_of, IsSomeRow, IsRow, IsBag, IsSomeBag, joined, AreOwn, Adds, Puts, PutsPrimary, PutsOverflow, TakesOne}
-use Rattle.sdd.specs.declared.linked_entry.LinkedEntry.{LinkedEntry}
-use Rattle.sdd.proofs.ChainLemmas.{hung_first, head_cell, leaves_more, out_of_none}
-use Rattle.sdd.proofs.ReleaseLemmas.{leaves_released, out_of_one}
+use Rattle.sdd_lists.specs.declared.linked_entry.LinkedEntry.{LinkedEntry}
+use Rattle.sdd_lists.proofs.ChainLemmas.{hung_first, head_cell, leaves_more, out_of_none}
+use Rattle.sdd_lists.proofs.ReleaseLemmas.{leaves_released, out_of_one}
 use Rattle.sdd_base.specs.Steps.{released}
-use Rattle.sdd.proofs.ListHeadLemmas.{first_none, TookSome, took_some, took_nothing}
+use Rattle.sdd_lists.proofs.ListHeadLemmas.{first_none, TookSome, took_some, took_nothing}
 use Rattle.sdd.proofs.RowLemmas.{adds_more, adds_less, single_set, single_at, room_length, full_length, none_joined, joined_some, own_both, own_first, own_second, own_at, own_set, own_left, row_set, row_left, out_append, out_at, out_joined, out_all, out_append_both, links_joined, links_at, are_both, own_kept}
 
 -- what a cell tells of the list that hangs from it

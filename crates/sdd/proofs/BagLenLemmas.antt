@@ -8,9 +8,9 @@ use Rattle.std.proofs.lemmas.List.{drop_more, drop_all}
 use Rattle.sdd_base.specs.declared.tag.Tag.{Tag}
 use Rattle.sdd_base.specs.declared.tag.Tag.TheVariants as tag
 use Rattle.sdd_base.specs.declared.status.Status.{Status}
-use Rattle.sdd.specs.Chain.{Entry, slots, IsOut, IsList, Hangs, deleted, undeleted}
+use Rattle.sdd_lists.specs.Chain.{Entry, slots, IsOut, IsList, Hangs, deleted, undeleted}
 use Rattle.sdd.specs.Bags.{AreApart, AreOwn, IsRow, IsSomeRow, cell_of, joined}
-use Rattle.sdd.proofs.WalkLemmas.{AreUsed, used_slots, length-slots, hung_used}
+use Rattle.sdd_lists.proofs.WalkLemmas.{AreUsed, used_slots, length-slots, hung_used}
 
 out_both : (j : ℕ) (xs ys : List ℕ) → IsOut j xs → IsOut j ys → IsOut j (xs ++ ys)
 out_both j [] ys h k = k

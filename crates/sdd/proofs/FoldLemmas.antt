@@ -6,12 +6,12 @@ use Rattle.std.proofs.lemmas.Fn.{FoldsTo-push}
 use Rattle.sdd_base.specs.State.{State, emptiness, vacancy}
 use Rattle.sdd_base.specs.Tokens.{shared_slot}
 use Rattle.sdd_base.specs.declared.owner.Shared.{Shared}
-use Rattle.sdd.specs.Chain.{Entry, Leaves, IsDetached, IsOut, AreOut, links, slots}
+use Rattle.sdd_lists.specs.Chain.{Entry, Leaves, IsDetached, IsOut, AreOut, links, slots}
 use Rattle.sdd.specs.Bags.{IsBag, AreOwn, AreSpare, Adds, Removes, CallsWith, TakesOne}
-use Rattle.sdd.specs.Entries.{entry_link}
-use Rattle.sdd.specs.declared.linked_entry.LinkedEntry.{LinkedEntry}
+use Rattle.sdd_lists.specs.Entries.{entry_link}
+use Rattle.sdd_lists.specs.declared.linked_entry.LinkedEntry.{LinkedEntry}
 use Rattle.sdd.proofs.RowLemmas.{own_left, own_both, out_append, out_append_both}
-use Rattle.sdd.proofs.ChainLemmas.{leaves_all, leaves_then, leaves_more}
+use Rattle.sdd_lists.proofs.ChainLemmas.{leaves_all, leaves_then, leaves_more}
 
 module _ {X : Type 0} where
   removes_last : (xs : List X) (x : X) (ys zs rest : List X) → Removes xs ys zs → Adds x rest zs → Removes (xs ++ x ∷ []) ys rest

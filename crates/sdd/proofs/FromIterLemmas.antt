@@ -1,5 +1,5 @@
 -- containers that are filled, value by value
-use Rattle.std.proofs.Common.{◌≡◌, ◌≢◌, ◌⊎◌, ◌++◌, ℕ, ◌+◌, ◌≤◌, ◌<◌, Bool, true, false, Option, None, Some, List, [], ◌∷◌, length, refl, sym, ap, ◌∙◌, arith, subst, cond, inl, inr, reverse, MatchOption}
+use Rattle.std.proofs.Common.{◌≡◌, ◌⊎◌, ◌++◌, ℕ, ◌+◌, ◌≤◌, ◌<◌, Bool, true, false, Option, None, Some, List, [], ◌∷◌, length, refl, sym, ap, ◌∙◌, arith, subst, cond, inl, inr, reverse, MatchOption}
 use Rattle.std.proofs.lemmas.List.{nil_from_length, append_assoc, append-nil, reverse-append}
 use Rattle.sdd_base.specs.State.{State, status_at, cell_at, vacancy, emptiness, IsFree, IsFreeCell}
 use Rattle.sdd_base.specs.declared.tag.Tag.{Tag}
@@ -8,16 +8,16 @@ use Rattle.sdd_base.specs.declared.status.Status.{Status}
 use Rattle.sdd_base.specs.declared.status.Status.TheVariants as status
 use Rattle.sdd_base.specs.declared.status.Cell.{Cell}
 use Rattle.sdd_base.specs.declared.status.Cell.TheVariants as cell
-use Rattle.sdd.specs.Chain.{Entry, slots, links, IsOut, AreOut, IsList, IsDetached, FitsBefore, CanHang, BeginsWithItem, Leaves, Stays, deleted, undeleted, end_cell}
-use Rattle.sdd.specs.Entries.{entry_value, entry_link}
+use Rattle.sdd_lists.specs.Chain.{Entry, slots, links, IsOut, AreOut, IsList, IsDetached, FitsBefore, CanHang, BeginsWithItem, Leaves, Stays, deleted, undeleted, end_cell}
+use Rattle.sdd_lists.specs.Entries.{entry_value, entry_link}
 use Rattle.sdd.specs.Stacks.{IsNew, IsMade}
 use Rattle.sdd.specs.Queues.{IsQueue}
 use Rattle.sdd.specs.Bags.{Puts, IsBag, IsSameBag, AreFreeCells, Adds, Removes, PutsPrimary, PutsOverflow}
 use Rattle.sdd.specs.FromIter.{AreNew, FillsQueue, FillsStack, FillsBag, Extends, ExtendsLast, Copies, CantCopy, entry_values}
-use Rattle.sdd.specs.declared.linked_entry.LinkedEntry.{LinkedEntry}
-use Rattle.sdd.specs.declared.refusal.NotMade.TheVariants as NotMade
-use Rattle.sdd.proofs.ChainLemmas.{hung_left, free_cell_out, free_slot_out}
-use Rattle.sdd.proofs.ListHeadLemmas.{still_hung, can_hang, new_fits, put_leaves}
+use Rattle.sdd_lists.specs.declared.linked_entry.LinkedEntry.{LinkedEntry}
+use Rattle.sdd_lists.specs.declared.refusal.NotMade.TheVariants as NotMade
+use Rattle.sdd_lists.proofs.ChainLemmas.{hung_left, free_cell_out, free_slot_out, used_cell, used_slot}
+use Rattle.sdd_lists.proofs.ListHeadLemmas.{still_hung, can_hang, new_fits, put_leaves}
 use Rattle.sdd.proofs.QueueLemmas.{new_follows, queue_stays}
 use Rattle.sdd.proofs.QueueTailLemmas.{end_tag, hung_end, hung_append}
 use Rattle.sdd.proofs.FoldLemmas.{adds_front, adds_length}
@@ -85,24 +85,17 @@ module _ {T : Type 0} (w : State (LinkedEntry T)) where
   are_new_push (u ∷ vs) [] v e h n = absurd h
   are_new_push (u ∷ vs) (f ∷ fs) v e h n = (h.0, are_new_push vs fs v e h.1 n)
 
-  -- what is in use is none of them
-  pub used_cell : (c j : ℕ) → IsFreeCell w c → emptiness (cell_at w j) ≡ 0 → j ≢ c
-  used_cell c j free used q = let a : emptiness (cell_at w j) ≡ emptiness (cell_at w c) = ap (λ (i : ℕ). emptiness (cell_at w i)) q in let b : emptiness (cell_at w c) ≡ 1 = ap emptiness free.1 in absurd (omega (arith, a, b, used))
-
-  pub used_slot : (i j : ℕ) → IsFree w i → vacancy (status_at w j) ≡ 0 → j ≢ i
-  used_slot i j free used q = let a : vacancy (status_at w j) ≡ vacancy (status_at w i) = ap (λ (k : ℕ). vacancy (status_at w k)) q in let b : vacancy (status_at w i) ≡ 1 = ap vacancy free.1 in absurd (omega (arith, a, b, used))
-
   pub new_links : (vs : List T) (fs : List (Entry (LinkedEntry T))) → AreNew w vs fs → (j : ℕ) → emptiness (cell_at w j) ≡ 0 → IsOut j (links fs)
   new_links [] [] h j used = tt
   new_links [] (f ∷ fs) h j used = absurd h
   new_links (v ∷ vs) [] h j used = tt
-  new_links (v ∷ vs) (f ∷ fs) h j used = (used_cell f.link j h.0.link used, new_links vs fs h.1 j used)
+  new_links (v ∷ vs) (f ∷ fs) h j used = (used_cell w f.link j h.0.link used, new_links vs fs h.1 j used)
 
   pub new_slots : (vs : List T) (fs : List (Entry (LinkedEntry T))) → AreNew w vs fs → (j : ℕ) → vacancy (status_at w j) ≡ 0 → IsOut j (slots fs)
   new_slots [] [] h j used = tt
   new_slots [] (f ∷ fs) h j used = absurd h
   new_slots (v ∷ vs) [] h j used = tt
-  new_slots (v ∷ vs) (f ∷ fs) h j used = (used_slot f.slot j h.0.slot used, new_slots vs fs h.1 j used)
+  new_slots (v ∷ vs) (f ∷ fs) h j used = (used_slot w f.slot j h.0.slot used, new_slots vs fs h.1 j used)
 
   -- a change of what was free then leaves all that was in use
   pub leaves_before : (w1 w2 : State (LinkedEntry T)) (cs is : List ℕ) → Leaves [] [] w w1 → Leaves cs is w1 w2 → ((j : ℕ) → emptiness (cell_at w j) ≡ 0 → IsOut j cs) → ((i : ℕ) → vacancy (status_at w i) ≡ 0 → IsOut i is) → Leaves [] [] w w2
@@ -133,7 +126,7 @@ module _ {T : Type 0} (w : State (LinkedEntry T)) where
           is = x.puts fs f.is;
           new = are_new_push vs fs v x.entry f.new (new_before w w1 b.leaves b.stays v x.entry x.new);
         };
-        leaves = leaves_before w1 w2 (c ∷ d ∷ links fs) (slots fs) b.leaves (leaves fs f.is) (λ j used. (used_cell c j f.oldest used, (used_cell d j f.newest used, new_links vs fs f.new j used))) (λ i used. new_slots vs fs f.new i used);
+        leaves = leaves_before w1 w2 (c ∷ d ∷ links fs) (slots fs) b.leaves (leaves fs f.is) (λ j used. (used_cell w c j f.oldest used, (used_cell w d j f.newest used, new_links vs fs f.new j used))) (λ i used. new_slots vs fs f.new i used);
         stays = s;
       }
 
@@ -163,7 +156,7 @@ module _ {T : Type 0} (w : State (LinkedEntry T)) where
       let f = b.fills in
       record {
         fills = record { newest = f.newest; entries = x.entry ∷ f.entries; is = x.puts f.entries f.is; new = (new_before w w1 b.leaves b.stays v x.entry x.new, f.new) };
-        leaves = leaves_before w1 w2 (c ∷ []) [] b.leaves leaves (λ j used. (used_cell c j f.newest used, tt)) (λ i used. tt);
+        leaves = leaves_before w1 w2 (c ∷ []) [] b.leaves leaves (λ j used. (used_cell w c j f.newest used, tt)) (λ i used. tt);
         stays = s;
       }
 
@@ -196,7 +189,7 @@ module _ {T : Type 0} (w : State (LinkedEntry T)) where
       record {
         built = record {
           fills = record { newest = f.newest; entries = f.entries ++ x.entry ∷ []; is = x.puts c tag.None f.entries f.is b.end; new = are_new_push vs f.entries v x.entry f.new (new_before w w1 b.built.leaves b.built.stays v x.entry x.new) };
-          leaves = leaves_before w1 w2 (k ∷ []) [] b.built.leaves leaves (λ j used. (used_cell k j free used, tt)) (λ i used. tt);
+          leaves = leaves_before w1 w2 (k ∷ []) [] b.built.leaves leaves (λ j used. (used_cell w k j free used, tt)) (λ i used. tt);
           stays = s;
         };
         end = x.at ∙ sym (end_append c f.entries x.entry);
@@ -221,7 +214,7 @@ module _ {T : Type 0} (w : State (LinkedEntry T)) where
 
   used_cells : (cs : List ℕ) → AreFreeCells w cs → (j : ℕ) → emptiness (cell_at w j) ≡ 0 → IsOut j cs
   used_cells [] free j used = tt
-  used_cells (c ∷ cs) free j used = (used_cell c j free.0 used, used_cells cs free.1 j used)
+  used_cells (c ∷ cs) free j used = (used_cell w c j free.0 used, used_cells cs free.1 j used)
 
   bag_primary : (n : ℕ) (w1 w2 : State (LinkedEntry T)) (cs : List ℕ) (vs : List T) (v : T) → (b : BuiltBag n w1 cs vs) → length b.fills.primary < n → PutsPrimary n w1 w2 v cs b.fills.primary b.fills.overflow → FillsBag n w w2 cs (vs ++ v ∷ [])
   bag_primary n w1 w2 cs vs v b room x =

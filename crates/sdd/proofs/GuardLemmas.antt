@@ -20,13 +20,13 @@ use Rattle.sdd_base.proofs.CountLemmas.{counted_opened}
 use Rattle.sdd_base.proofs.FrameLemmas.{keeps_opened}
 use Rattle.sdd_base.proofs.ListLemmas.{hit-same}
 use Rattle.sdd_base.proofs.SlotLemmas.{at_most}
-use Rattle.sdd.specs.Chain.{Entry, links, IsOut, IsItem, IsList, Leaves}
+use Rattle.sdd_lists.specs.Chain.{Entry, links, IsOut, IsItem, IsList, Leaves}
 use Rattle.sdd.specs.Bags.{AreOwn, IsBag, joined}
 use Rattle.sdd.specs.Guards.{GuardsLeave}
-use Rattle.sdd.specs.Entries.{entry_holds, entry_link, holds_link}
+use Rattle.sdd_lists.specs.Entries.{entry_holds, entry_link, holds_link}
 use Rattle.sdd.specs.Queues.{IsQueue, last_slot}
-use Rattle.sdd.specs.declared.linked_entry.LinkedEntry.{LinkedEntry}
-use Rattle.sdd.proofs.ChainLemmas.{inside_cells}
+use Rattle.sdd_lists.specs.declared.linked_entry.LinkedEntry.{LinkedEntry}
+use Rattle.sdd_lists.proofs.ChainLemmas.{inside_cells}
 use Rattle.sdd.proofs.RowLemmas.{own_both, own_first, own_second}
 
 -- a write changes one place or none

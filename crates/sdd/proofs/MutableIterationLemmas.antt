@@ -16,18 +16,18 @@ use Rattle.sdd_base.specs.declared.status.Status.{Status}
 use Rattle.sdd_base.specs.declared.status.Status.TheVariants as status
 use Rattle.sdd_base.specs.declared.status.Cell.{Cell}
 use Rattle.sdd_base.specs.declared.status.Cell.TheVariants as cell
-use Rattle.sdd.specs.Chain.{Entry, slots, links, IsOut, IsItem, IsList, Hangs, Leaves}
+use Rattle.sdd_lists.specs.Chain.{Entry, slots, links, IsOut, IsItem, IsList, Hangs, Leaves}
 use Rattle.sdd.specs.Bags.{AreApart, AreOwn, AreSingle, IsBag, IsNull, IsRow, IsSomeBag, joined, cell_of}
-use Rattle.sdd.specs.Entries.{entry_link, entry_value, entry_with_value}
+use Rattle.sdd_lists.specs.Entries.{entry_link, entry_value, entry_with_value}
 use Rattle.sdd.specs.Iters.{first_value}
 use Rattle.sdd.specs.MutableIteration.{AreHung, AreOnce, IsLeft, IsSomeLeft, Finds, Gives, Revalues, Visits, revalue, revalued, walk_bag, walk_cells, walk_name, walk_place}
 use Rattle.sdd.specs.declared.bag.IterMut.{IterMut}
-use Rattle.sdd.specs.declared.linked_entry.LinkedEntry.{LinkedEntry, LinkedEntry', None', Some'}
+use Rattle.sdd_lists.specs.declared.linked_entry.LinkedEntry.{LinkedEntry, LinkedEntry', None', Some'}
 use Rattle.sdd.proofs.BagLenLemmas.{row_used}
 use Rattle.sdd.proofs.BagLemmas.{null_empty, null_not}
-use Rattle.sdd.proofs.ChainLemmas.{head_cell, hung_left, inside_cells, item_left, item_shared, out_of_none, some_same, starts_link, the_same, Starts}
-use Rattle.sdd.proofs.ReleaseLemmas.{out_of_one}
-use Rattle.sdd.proofs.WalkLemmas.{AreUsed}
+use Rattle.sdd_lists.proofs.ChainLemmas.{head_cell, hung_left, inside_cells, item_left, item_shared, out_of_none, some_same, starts_link, the_same, Starts}
+use Rattle.sdd_lists.proofs.ReleaseLemmas.{out_of_one}
+use Rattle.sdd_lists.proofs.WalkLemmas.{AreUsed}
 
 -- a refusal has one of two reasons
 pub never_refused : {X : Type 0} (e : NotLent) → (IsErrOf {T = X} (Err e) not_lent.NotSole → ⊥) → (IsErrOf {T = X} (Err e) not_lent.GuardsOpen → ⊥) → ⊥
@@ -40,7 +40,7 @@ inside_values (v ∷ vs) zero x h = omega arith
 inside_values (v ∷ vs) (suc i) x h = let r = inside_values vs i x h in omega (arith, r)
 
 link_kept : {T : Type 0} (v : T) (e : LinkedEntry T) → entry_link (entry_with_value v e) ≡ entry_link e
-unfolding Rattle.sdd.specs.declared.linked_entry.LinkedEntry.TheViews.roll-LinkedEntry denote.Hole.Carrier.roll Rattle.sdd.specs.declared.linked_entry.LinkedEntry.TheViews.out-LinkedEntry denote.Hole.Carrier.out
+unfolding Rattle.sdd_lists.specs.declared.linked_entry.LinkedEntry.TheViews.roll-LinkedEntry denote.Hole.Carrier.roll Rattle.sdd_lists.specs.declared.linked_entry.LinkedEntry.TheViews.out-LinkedEntry denote.Hole.Carrier.out
 link_kept v (LinkedEntry' i None') = refl
 link_kept v (LinkedEntry' i (Some' c)) = refl
 

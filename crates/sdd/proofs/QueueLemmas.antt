@@ -8,15 +8,15 @@ use Rattle.sdd_base.specs.declared.tag.Tag.{Tag}
 use Rattle.sdd_base.specs.declared.tag.Tag.TheVariants as tag
 use Rattle.sdd_base.specs.declared.status.Status.TheVariants as status
 use Rattle.sdd_base.specs.declared.status.Cell.TheVariants as cell
-use Rattle.sdd.specs.Chain.{Entry, slots, links, IsOut, AreOut, IsItem, IsList, IsDetached, Leaves, SameUses, skip, undeleted, deleted, first_slot, MoreOwners, OneMore}
+use Rattle.sdd_lists.specs.Chain.{Entry, slots, links, IsOut, AreOut, IsItem, IsList, IsDetached, Leaves, SameUses, skip, undeleted, deleted, first_slot, MoreOwners, OneMore}
 use Rattle.sdd.specs.Queues.{last_slot, HasTwo, IsQueue, Follows, CanFollow, cell_vacated}
 use Rattle.sdd.specs.Stacks.{IsNew, IsMade}
-use Rattle.sdd.specs.Entries.{entry_link}
-use Rattle.sdd.specs.declared.linked_entry.LinkedEntry.{LinkedEntry}
-use Rattle.sdd.proofs.ChainLemmas.{hung_left, cell_left, item_left, leaves_then, leaves_more, leaves_all, leaves_write, out_of_none, wrote_same, wrote_other, inside_cells, inside_states, some_same, head_cell, kept_same, free_cell_out, free_slot_out}
-use Rattle.sdd.proofs.ListHeadLemmas.{leaves_free, first_skipped, first_none, TookSome, popped_left, popped_gone, popped_leaves, skipped_links, none_skipped}
-use Rattle.sdd.proofs.ShareLemmas.{shared_same}
-use Rattle.sdd.proofs.ReleaseLemmas.{leaves_released, spare_owner, spare_item, spare_state, out_of_one}
+use Rattle.sdd_lists.specs.Entries.{entry_link}
+use Rattle.sdd_lists.specs.declared.linked_entry.LinkedEntry.{LinkedEntry}
+use Rattle.sdd_lists.proofs.ChainLemmas.{hung_left, cell_left, item_left, leaves_then, leaves_more, leaves_all, leaves_write, out_of_none, wrote_same, wrote_other, inside_cells, inside_states, some_same, head_cell, kept_same, free_cell_out, free_slot_out}
+use Rattle.sdd_lists.proofs.ListHeadLemmas.{leaves_free, first_skipped, first_none, TookSome, popped_left, popped_gone, popped_leaves, skipped_links, none_skipped}
+use Rattle.sdd_lists.proofs.ShareLemmas.{shared_same}
+use Rattle.sdd_lists.proofs.ReleaseLemmas.{leaves_released, spare_owner, spare_item, spare_state, out_of_one}
 
 pub two_shared : {L : Type 0} (w : State L) (i : ℕ) → HasTwo w i → IsShared w i
 two_shared w i h = record { inside = inside_states w.states i h.owners h.is; owners = h.owners; is = h.is }

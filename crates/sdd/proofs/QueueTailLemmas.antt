@@ -7,10 +7,10 @@ use Rattle.sdd_base.specs.declared.tag.Tag.{Tag}
 use Rattle.sdd_base.specs.declared.tag.Tag.TheVariants as tag
 use Rattle.sdd_base.specs.declared.status.Status.TheVariants as status
 use Rattle.sdd_base.specs.declared.status.Cell.TheVariants as cell
-use Rattle.sdd.specs.Chain.{Entry, slots, links, IsOut, IsItem, IsList, IsDetached, HasLink, Leaves, FitsBefore, CanHang, end_cell}
+use Rattle.sdd_lists.specs.Chain.{Entry, slots, links, IsOut, IsItem, IsList, IsDetached, HasLink, Leaves, FitsBefore, CanHang, end_cell}
 use Rattle.sdd.specs.Queues.{last_slot, HasTwo, IsQueue, Follows}
-use Rattle.sdd.proofs.ChainLemmas.{hung_left, cell_left, item_left, leaves_then, leaves_more, leaves_all, leaves_write, out_of_none, wrote_same, inside_cells, inside_states, some_same, some_nothing, kept_same, Names}
-use Rattle.sdd.proofs.ReleaseLemmas.{leaves_released, spare_owner, out_of_one}
+use Rattle.sdd_lists.proofs.ChainLemmas.{hung_left, cell_left, item_left, leaves_then, leaves_more, leaves_all, leaves_write, out_of_none, wrote_same, inside_cells, inside_states, some_same, some_nothing, kept_same, Names}
+use Rattle.sdd_lists.proofs.ReleaseLemmas.{leaves_released, spare_owner, out_of_one}
 
 -- the tag of the cell at the end of a list
 abbrev pub end_tag : {L : Type 0} → Tag → List (Entry L) → Tag

@@ -12,10 +12,10 @@ use Rattle.sdd_base.specs.declared.status.Status.{Status}
 use Rattle.sdd_base.specs.declared.status.Status.TheVariants as status
 use Rattle.sdd_base.specs.declared.status.Cell.{Cell}
 use Rattle.sdd_base.specs.declared.status.Cell.TheVariants as cell
-use Rattle.sdd.specs.Chain.{Entry, slots, links, IsOut, AreOut, IsList, Hangs, Leaves}
+use Rattle.sdd_lists.specs.Chain.{Entry, slots, links, IsOut, AreOut, IsList, Hangs, Leaves}
 use Rattle.sdd.specs.Bags.{IsNull, cell_of, freed, AreEmpty, AreApart, IsRow, joined, AreSingle, AreOwn, Adds}
-use Rattle.sdd.proofs.ChainLemmas.{hung_left, free_cell_out, free_slot_out, wrote_other, leaves_all, leaves_then, leaves_more}
-use Rattle.sdd.proofs.ListHeadLemmas.{same_use}
+use Rattle.sdd_lists.proofs.ChainLemmas.{hung_left, free_cell_out, free_slot_out, wrote_other, leaves_all, leaves_then, leaves_more}
+use Rattle.sdd_lists.proofs.ListHeadLemmas.{same_use}
 
 -- lists of lists
 module _ {X : Type 0} where

@@ -1,9 +1,9 @@
 -- what calls say of a container, in a line each
-use Rattle.std.specs.Prelude.{◌≡◌, ℕ, ◌⊎◌, ◌++◌, Option, None, Some, IfSome, List, [], ◌∷◌, option_copied, ◌<◌, ◌≤◌, ◌≢◌, length, MatchOption, map}
+use Rattle.std.specs.Prelude.{◌≡◌, ℕ, ◌⊎◌, ◌++◌, Option, None, Some, IfSome, List, [], ◌∷◌, option_copied, ◌<◌, ◌≤◌, length, MatchOption, map}
 use Rattle.std.specs.Borrow.{Bor}
 use Rattle.std.specs.Iterator.{Drains, YieldsThen}
-use Rattle.sdd_base.specs.State.{State, IsFreeCell, NoneFree, NoCellFree, status_at, with_cell, cell_at}
-use Rattle.sdd_base.specs.Tokens.{shared_cell, shared_slot, shared_slots}
+use Rattle.sdd_base.specs.State.{State, IsFreeCell, status_at, cell_at}
+use Rattle.sdd_base.specs.Tokens.{shared_cell, shared_slot}
 use Rattle.sdd_base.specs.declared.cell.AtomicShared.{AtomicShared}
 use Rattle.sdd_base.specs.declared.owner.Shared.{Shared}
 use Rattle.sdd_base.specs.declared.status.Cell.TheVariants as cell
@@ -11,23 +11,19 @@ use Rattle.sdd_base.specs.declared.status.Status.TheVariants as status
 use Rattle.sdd_base.specs.declared.tag.Tag.{Tag}
 use Rattle.sdd_base.specs.declared.tag.Tag.TheVariants as tag
 use Rattle.sdd.specs.Bags.{IsBag, IsSomeBag, bag_cells, IsRow, IsSameBag, AreOwn, AreSpare, PutsPrimary, PutsOverflow, TakesOne}
-use Rattle.sdd.specs.Chain.{Entry, IsList, IsDetached, Leaves, first_item, first_slot, links, slots, undeleted, FitsBefore}
-use Rattle.sdd.specs.Entries.{entry_link, entry_value}
-use Rattle.sdd.specs.Nodes.{IsApart, NamesEntry}
+use Rattle.sdd_lists.specs.Chain.{Entry, IsDetached, Leaves, first_item, first_slot, links, slots, undeleted}
+use Rattle.sdd_lists.specs.Entries.{entry_link}
+pub use Rattle.sdd_lists.specs.Calls.{NoRoom, OfList, OnlyList}
 use Rattle.sdd.specs.Queues.{Appends, IsQueue, IsSomeQueue, KeepsQueue, Takes, newest_cell, oldest_cell, Follows, cell_vacated}
 use Rattle.sdd.specs.Stacks.{IsStack, Pops, stack_cell}
 use Rattle.sdd.specs.declared.bag.Bag.{Bag}
-use Rattle.sdd.specs.declared.linked_entry.LinkedEntry.{LinkedEntry}
+use Rattle.sdd_lists.specs.declared.linked_entry.LinkedEntry.{LinkedEntry}
 use Rattle.sdd.specs.declared.queue.Queue.{Queue}
-use Rattle.sdd.specs.declared.refusal.NotMade.{NotMade}
-use Rattle.sdd.specs.declared.refusal.NotMade.TheVariants as causes
+use Rattle.sdd_lists.specs.declared.refusal.NotMade.{NotMade}
+use Rattle.sdd_lists.specs.declared.refusal.NotMade.TheVariants as causes
 use Rattle.sdd.specs.declared.stack.Stack.{Stack}
 use Rattle.sdd.specs.FromIter.{FillsQueue, FillsStack, entry_values}
 use Rattle.sdd.specs.MutableIteration.{IsLeft}
-
--- no entry can be made: no slot is free, or no cell is
-abbrev pub NoRoom : {L : Type 0} → State L → Type 0
-NoRoom w = NoneFree w ⊎ NoCellFree w
 
 -- no two cells are free
 abbrev pub NoTwoCells : {L : Type 0} → State L → Type 0
@@ -141,18 +137,6 @@ module _ {L : Type 0} where
   abbrev pub OfRow : (L → Option ℕ) → State L → List (AtomicShared L) → (List (List (Entry L)) → Type 0) → Type 0
   OfRow link w cells P = (rows : List (List (Entry L))) → length cells ≤ length rows → IsRow link w (map shared_cell cells) rows → P rows
 
-  -- a cell was emptied, and keeps its tag
-  abbrev pub Empties : State L → State L → AtomicShared L → Option (Shared L) → Type 0
-  Empties w w' from taken = (o : Option ℕ) (t : Tag) → cell_at w (shared_cell from) ≡ cell.OfShared o t → (shared_slots taken ≡ o) × (w' ≡ with_cell (shared_cell from) (cell.OfShared None t) w)
-
-  -- the entry in slot i hangs before all others
-  abbrev pub HangsFirst : (L → Option ℕ) → State L → State L → AtomicShared L → ℕ → Type 0
-  HangsFirst link w w' from i = (t : Tag) (es : List (Entry L)) (e : Entry L) → IsList link w (shared_cell from) t es → IsDetached link w e → FitsBefore (shared_cell from) es e → i ≡ e.slot → IsList link w' (shared_cell from) t (e ∷ es) × Leaves (shared_cell from ∷ e.link ∷ []) [] w w'
-
-  -- the first entry is gone, and those behind it hang here
-  abbrev pub DropsFirst : (L → Option ℕ) → State L → State L → AtomicShared L → Type 0
-  DropsFirst link w w' from = (t : Tag) (e : Entry L) (es : List (Entry L)) → IsList link w (shared_cell from) t (e ∷ es) → IsList link w' (shared_cell from) t es × Leaves (shared_cell from ∷ e.link ∷ []) (e.slot ∷ []) w w'
-
   -- the entry in slot i is the newest of a queue
   abbrev pub AppendsLast : (L → Option ℕ) → State L → State L → AtomicShared L → AtomicShared L → ℕ → Type 0
   AppendsLast link w w' oldest newest i = (es : List (Entry L)) (e : Entry L) → IsQueue link w (shared_cell oldest) (shared_cell newest) es → IsDetached link w e → Follows (shared_cell oldest) (shared_cell newest) es e → i ≡ e.slot → IsQueue link w' (shared_cell oldest) (shared_cell newest) (es ++ e ∷ []) × Leaves (e.link ∷ shared_cell oldest ∷ shared_cell newest ∷ links es) (slots es) w w'
@@ -160,27 +144,3 @@ module _ {L : Type 0} where
   -- where the oldest cell is empty, p gives back what the newest one keeps
   abbrev pub ClearsNewest : ℕ → State L → State L → AtomicShared L → AtomicShared L → Type 0
   ClearsNewest p w w' oldest newest = (o : Option ℕ) (t : Tag) → cell_at w (shared_cell oldest) ≡ cell.OfShared None t → cell_at w (shared_cell newest) ≡ cell.OfShared o tag.None → w' ≡ cell_vacated p (shared_cell newest) o w
-
-  -- whatever list hangs from a cell, with the tag there
-  abbrev pub OfList : (L → Option ℕ) → State L → AtomicShared L → (Tag → List (Entry L) → Type 0) → Type 0
-  OfList link w from P = (t : Tag) (es : List (Entry L)) → IsList link w (shared_cell from) t es → P t es
-
-  -- of what is in use, at most a list changes: its cell, its links and its entries
-  abbrev pub OnlyList : (L → Option ℕ) → State L → State L → AtomicShared L → Type 0
-  OnlyList link w w' from = OfList link w from (λ t es. Leaves (shared_cell from ∷ links es) (slots es) w w')
-
-  -- whatever entry slot o names, and the list behind it
-  abbrev pub OfNode : (L → Option ℕ) → State L → Option ℕ → (Entry L → List (Entry L) → Type 0) → Type 0
-  OfNode link w o P = (e : Entry L) (es : List (Entry L)) → NamesEntry link w o e → IsList link w e.link e.tag es → P e es
-
-  -- an entry x in no list, in slot i, that can come behind the one that slot o names
-  abbrev pub OfInsertion : (L → Option ℕ) → State L → Option ℕ → ℕ → (Entry L → Entry L → Type 0) → Type 0
-  OfInsertion link w o i P = (e : Entry L) (x : Entry L) (es : List (Entry L)) → NamesEntry link w o e → IsList link w e.link e.tag es → IsDetached link w x → i ≡ x.slot → IsApart e.link es x → P e x
-
-  -- the first undeleted entry behind the one that slot o names has as many owners as there can be
-  abbrev pub NextIsFull : (L → Option ℕ) → State L → Option ℕ → Type 0
-  NextIsFull link w o = OfNode link w o (λ e es. IfSome (first_slot (undeleted es)) (λ i. (n : ℕ) → n < 4294967295 → status_at w i ≢ status.Shared n))
-
--- an entry of the value was made, of a cell that was free
-abbrev pub MakesEntry : {T : Type 0} → State (LinkedEntry T) → State (LinkedEntry T) → LinkedEntry T → T → Type 0
-MakesEntry w w' e value = (c : ℕ) × IsFreeCell w c × (entry_value e ≡ value) × (entry_link e ≡ Some c) × (w' ≡ with_cell c (cell.OfShared None tag.None) w)

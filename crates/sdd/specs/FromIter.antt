@@ -4,13 +4,13 @@ use Rattle.sdd_base.specs.State.{State, cell_at, IsFreeCell}
 use Rattle.sdd_base.specs.declared.tag.Tag.{Tag}
 use Rattle.sdd_base.specs.declared.tag.Tag.TheVariants as tag
 use Rattle.sdd_base.specs.declared.status.Cell.TheVariants as cell
-use Rattle.sdd.specs.Chain.{Entry, IsList, deleted, end_cell}
-use Rattle.sdd.specs.Entries.{entry_value, entry_link}
+use Rattle.sdd_lists.specs.Chain.{Entry, IsList, deleted, end_cell}
+use Rattle.sdd_lists.specs.Entries.{entry_value, entry_link}
 use Rattle.sdd.specs.Stacks.{IsNew, IsStack}
 use Rattle.sdd.specs.Queues.{IsQueue}
 use Rattle.sdd.specs.Bags.{IsBag, IsSameBag, AreFreeCells}
-use Rattle.sdd.specs.declared.linked_entry.LinkedEntry.{LinkedEntry}
-use Rattle.sdd.specs.declared.refusal.NotMade.{NotMade}
+use Rattle.sdd_lists.specs.declared.linked_entry.LinkedEntry.{LinkedEntry}
+use Rattle.sdd_lists.specs.declared.refusal.NotMade.{NotMade}
 use Rattle.sdd.specs.declared.refusal.FromIterRefused.{FromIterRefused}
 use Rattle.sdd.specs.declared.refusal.FromIterRefused.TheVariants as from_iter
 use Rattle.sdd.specs.declared.refusal.CloneRefused.{CloneRefused}

@@ -7,10 +7,10 @@ use Rattle.sdd_base.specs.State.{State}
 use Rattle.sdd_base.specs.Steps.{guard_closed, guard_opened}
 use Rattle.sdd_base.specs.declared.tag.Tag.{Tag}
 use Rattle.sdd.specs.Bags.{IsBag}
-use Rattle.sdd.specs.Chain.{Entry, IsList, Leaves}
-use Rattle.sdd.specs.Entries.{entry_holds, entry_link}
+use Rattle.sdd_lists.specs.Chain.{Entry, IsList, Leaves}
+use Rattle.sdd_lists.specs.Entries.{entry_holds, entry_link}
 use Rattle.sdd.specs.Queues.{IsQueue}
-use Rattle.sdd.specs.declared.linked_entry.LinkedEntry.{LinkedEntry}
+use Rattle.sdd_lists.specs.declared.linked_entry.LinkedEntry.{LinkedEntry}
 
 -- a participant of a place can open a guard there, and all owners are counted with those in hand
 pub record CanOpen {T : Type 0} (p : ℕ) (hand : List Hold) (w : State (LinkedEntry T)) : Type 0 where

@@ -3,9 +3,9 @@ use Rattle.std.specs.Prelude.{◌≡◌, ℕ, Option, None, Some, List, [], ◌�
 use Rattle.sdd_base.specs.State.{State}
 use Rattle.sdd_base.specs.Tokens.{link_cell}
 use Rattle.sdd_base.specs.declared.tag.Tag.{Tag}
-use Rattle.sdd.specs.Chain.{Entry, IsList, undeleted}
-use Rattle.sdd.specs.Entries.{entry_value, entry_link}
-use Rattle.sdd.specs.declared.linked_entry.LinkedEntry.{LinkedEntry}
+use Rattle.sdd_lists.specs.Chain.{Entry, IsList, undeleted}
+use Rattle.sdd_lists.specs.Entries.{entry_value, entry_link}
+use Rattle.sdd_lists.specs.declared.linked_entry.LinkedEntry.{LinkedEntry}
 use Rattle.sdd.specs.declared.iter.Iter.{Iter}
 
 -- the cell from which the rest of the list hangs

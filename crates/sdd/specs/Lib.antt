@@ -1,14 +1,14 @@
-pub mod Entries
+pub use Rattle.sdd_lists.specs.Entries
+pub use Rattle.sdd_lists.specs.Chain
+pub use Rattle.sdd_lists.specs.Nodes
+pub use Rattle.sdd_lists.specs.Copies
 mod Calls
-pub mod Chain
 pub mod Stacks
 pub mod Owners
 pub mod Queues
-pub mod Nodes
 pub mod Refusals
 pub mod Bags
 pub mod Iters
-pub mod Copies
 pub mod FromIter
 pub mod MutableIteration
 pub mod Guards

@@ -10,13 +10,13 @@ use Rattle.sdd_base.specs.declared.link.Link.{Link}
 use Rattle.sdd_base.specs.declared.tag.Tag.{Tag}
 use Rattle.sdd_base.specs.declared.tag.Tag.TheVariants as tag
 use Rattle.sdd_base.specs.declared.status.Cell.TheVariants as cell
-use Rattle.sdd.specs.Chain.{Entry, IsItem, IsList, IsOut, slots}
+use Rattle.sdd_lists.specs.Chain.{Entry, IsItem, IsList, IsOut, slots}
 use Rattle.sdd.specs.Bags.{AreOwn, IsBag, IsSomeBag, joined}
-use Rattle.sdd.specs.Entries.{entry_link, entry_with_value}
+use Rattle.sdd_lists.specs.Entries.{entry_link, entry_with_value}
 use Rattle.sdd.specs.contracts.bag.IterMut.{the_row}
 use Rattle.sdd.specs.declared.bag.IterMut.{IterMut}
 use Rattle.sdd.specs.declared.bag.Stop.{Stop}
-use Rattle.sdd.specs.declared.linked_entry.LinkedEntry.{LinkedEntry}
+use Rattle.sdd_lists.specs.declared.linked_entry.LinkedEntry.{LinkedEntry}
 
 -- a cell, and those of a row from a place on
 abbrev pub cells_from : {T : Type 0} → List (AtomicShared (LinkedEntry T)) → ℕ → Link (LinkedEntry T) → List ℕ

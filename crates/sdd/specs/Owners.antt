@@ -6,8 +6,8 @@ use Rattle.sdd_base.specs.declared.tag.Tag.{Tag}
 use Rattle.sdd_base.specs.declared.status.Status.TheVariants as status
 use Rattle.sdd.specs.Queues.{IsQueue}
 use Rattle.sdd.specs.Bags.{IsBag}
-use Rattle.sdd.specs.declared.linked_entry.LinkedEntry.{LinkedEntry}
-use Rattle.sdd.specs.Chain.{Entry, IsList, Leaves, AreOut, IsOut, links, slots}
+use Rattle.sdd_lists.specs.declared.linked_entry.LinkedEntry.{LinkedEntry}
+use Rattle.sdd_lists.specs.Chain.{Entry, IsList, Leaves, AreOut, IsOut, links, slots}
 
 -- giving back one owner of several leaves every list
 abbrev pub SpareOwners : {L : Type 0} → (L → Option ℕ) → Type 0

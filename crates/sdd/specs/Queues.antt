@@ -6,10 +6,10 @@ use Rattle.sdd_base.specs.Tokens.{shared_cell}
 use Rattle.sdd_base.specs.declared.tag.Tag.TheVariants as tag
 use Rattle.sdd_base.specs.declared.status.Status.TheVariants as status
 use Rattle.sdd_base.specs.declared.status.Cell.TheVariants as cell
-use Rattle.sdd.specs.Chain.{Entry, IsList, IsDetached, IsOut, links, slots, undeleted}
+use Rattle.sdd_lists.specs.Chain.{Entry, IsList, IsDetached, IsOut, links, slots, undeleted}
 use Rattle.sdd.specs.Stacks.{IsNew}
-use Rattle.sdd.specs.Entries.{entry_link}
-use Rattle.sdd.specs.declared.linked_entry.LinkedEntry.{LinkedEntry}
+use Rattle.sdd_lists.specs.Entries.{entry_link}
+use Rattle.sdd_lists.specs.declared.linked_entry.LinkedEntry.{LinkedEntry}
 use Rattle.sdd.specs.declared.queue.Queue.{Queue}
 
 -- the cells of a queue

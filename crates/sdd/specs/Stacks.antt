@@ -1,12 +1,13 @@
 -- stacks: entries of values that hang from one cell, the newest first
 use Rattle.std.specs.Prelude.{◌≡◌, ℕ, Bool, true, false, Option, None, Some, Result, Ok, Err, List, ◌∷◌}
-use Rattle.sdd_base.specs.State.{State, status_at, IsFree, IsFreeCell}
+use Rattle.sdd_base.specs.State.{State, status_at}
 use Rattle.sdd_base.specs.Tokens.{shared_cell}
 use Rattle.sdd_base.specs.declared.status.Status.TheVariants as status
 use Rattle.sdd_base.specs.declared.tag.Tag.TheVariants as tag
-use Rattle.sdd.specs.Chain.{Entry, IsList, IsDetached, IsOut, slots, undeleted}
-use Rattle.sdd.specs.Entries.{entry_value, entry_link}
-use Rattle.sdd.specs.declared.linked_entry.LinkedEntry.{LinkedEntry}
+pub use Rattle.sdd_lists.specs.Making.{IsNew, IsMade}
+use Rattle.sdd_lists.specs.Chain.{Entry, IsList, IsDetached, IsOut, slots, undeleted}
+use Rattle.sdd_lists.specs.Entries.{entry_link}
+use Rattle.sdd_lists.specs.declared.linked_entry.LinkedEntry.{LinkedEntry}
 use Rattle.sdd.specs.declared.stack.Stack.{Stack}
 
 -- the cell of a stack
@@ -21,20 +22,6 @@ IsStack w c es = IsList entry_link w c tag.None es
 pub record IsSomeStack {T : Type 0} (w : State (LinkedEntry T)) (c : ℕ) : Type 0 where
   pub entries : List (Entry (LinkedEntry T))
   pub is : IsStack w c entries
-
--- a clear entry of a value, made of a slot and a cell that were free
-pub record IsNew {T : Type 0} (w : State (LinkedEntry T)) (value : T) (e : Entry (LinkedEntry T)) : Type 0 where
-  pub value_of : entry_value e.item ≡ value
-  pub clear : e.tag ≡ tag.None
-  pub slot : IsFree w e.slot
-  pub link : IsFreeCell w e.link
-
--- the item in slot i is such an entry, in no list
-pub record IsMade {T : Type 0} (w w' : State (LinkedEntry T)) (value : T) (i : ℕ) : Type 0 where
-  pub entry : Entry (LinkedEntry T)
-  pub at : i ≡ entry.slot
-  pub new : IsNew w value entry
-  pub loose : IsDetached entry_link w' entry
 
 -- a new entry of the value, in slot i, was put in front of a stack, and given to the caller as well
 pub record Pushes {T : Type 0} (w w' : State (LinkedEntry T)) (value : T) (c i : ℕ) : Type 0 where

@@ -26,8 +26,6 @@ pub use sdd_base;
 pub mod bag;
 pub mod iter;
 pub mod laws;
-pub mod linked_entry;
-pub mod linked_list;
 pub mod queue;
 pub mod refusal;
 pub mod stack;
@@ -35,8 +33,6 @@ pub mod world;
 
 pub use bag::{Bag, IntoIter, IterMut, Stop};
 pub use iter::Iter;
-pub use linked_entry::LinkedEntry;
-pub use linked_list::LinkedList;
 pub use queue::Queue;
 pub use refusal::{CloneRefused, FromIterRefused, NotMade, PushRefused};
 pub use sdd_base::{
@@ -44,4 +40,5 @@ pub use sdd_base::{
     Holds, Job, Kept, Link, Nested, NoJob, NoSlot, NotLent, Owned, Plain, PrivateCollector, Ptr,
     RawPtr, Shared, Sizes, Tag, Task, World, WorldGuard,
 };
+pub use sdd_lists::{LinkedEntry, LinkedList, linked_entry, linked_list};
 pub use stack::Stack;

@@ -1,4 +1,6 @@
-//! Refusals that hand a value back.
+//! Refusals that hand a value back, and what refuses.
+
+pub use sdd_lists::refusal::NotMade;
 
 /// Why a value wasn't pushed, with the value.
 #[derive(Debug, Drop)]
@@ -23,13 +25,4 @@ pub enum CloneRefused<C> {
     Unmade(NotMade),
     /// Why there is no clone of the next value, and the container of the clones before it.
     Partly(C, NotMade),
-}
-
-/// Why a bag wasn't made, or a value wasn't cloned.
-#[derive(Clone, Copy, Debug, PartialEq, Eq)]
-pub enum NotMade {
-    /// There is no memory for it.
-    Memory,
-    /// Too few cells are free.
-    NoSlot,
 }

@@ -1,21 +1,21 @@
 -- what an opening leaves of a cell whose owner is in hand
 use Rattle.std.proofs.Common.{◌≡◌, ◌≢◌, ℕ, zero, suc, ◌+◌, ◌-◌, ◌<◌, ◌≤◌, ◌==◌, true, false, Option, None, Some, List, [], ◌∷◌, ◌++◌, length, get_or, refl, sym, ap, ◌∙◌, arith, length-set, subst, cond, reverse, get_or-set_other, get_or-set_same, leb}
 use Rattle.std.proofs.lemmas.List.{length-reverse}
-use Rattle.sdd_base.specs.Holding.{Hold, OwnedItem, SharedItem, OwnedIn, SharedIn}
-use Rattle.sdd_base.specs.State.{State, ParticipantState, status_at, value_at, cell_at, participant_at, local_at, with_status, with_cell, with_local, retired, taken, rotated_bags, bags_moved_on, nobody, with_local_state, left_due, weight}
-use Rattle.sdd_base.specs.Steps.{hit, times, held_in, given, given_all, released_as, disowned_as, owned_ended_as, shared_ended_as, due_reclaimed, due_reclaimed_as, reclaimed, participant_rotated, count_published, guard_opened}
-use Rattle.sdd_base.specs.Place.{Sound, IsPlace}
+use Rattle.sdd_table.specs.Holding.{Hold, OwnedItem, SharedItem, OwnedIn, SharedIn}
+use Rattle.sdd_table.specs.State.{State, ParticipantState, status_at, value_at, cell_at, participant_at, local_at, with_status, with_cell, with_local, retired, taken, rotated_bags, bags_moved_on, nobody, with_local_state, left_due, weight}
+use Rattle.sdd_table.specs.Steps.{hit, times, held_in, given, given_all, released_as, disowned_as, owned_ended_as, shared_ended_as, due_reclaimed, due_reclaimed_as, reclaimed, participant_rotated, count_published, guard_opened}
+use Rattle.sdd_table.specs.Place.{Sound, IsPlace}
 use Rattle.sdd_base.specs.Counting.{tally, same_hold, keeps_shared, Counted, HeldCellsStay}
-use Rattle.sdd_base.specs.declared.status.Status.{Status}
-use Rattle.sdd_base.specs.declared.status.Status.TheVariants as status
-use Rattle.sdd_base.specs.declared.status.Cell.{Cell}
-use Rattle.sdd_base.specs.declared.status.Cell.TheVariants as cell
-use Rattle.sdd_base.proofs.ListLemmas.{hit-same}
-use Rattle.sdd_base.proofs.SlotLemmas.{at_most}
-use Rattle.sdd_base.proofs.BagInvariantLemmas.{due_waiting, reclaims_next, sound_turned, sound_taken, gives_given, times_reversed, bag_waits}
+use Rattle.sdd_table.specs.declared.status.Status.{Status}
+use Rattle.sdd_table.specs.declared.status.Status.TheVariants as status
+use Rattle.sdd_table.specs.declared.status.Cell.{Cell}
+use Rattle.sdd_table.specs.declared.status.Cell.TheVariants as cell
+use Rattle.sdd_table.proofs.ListLemmas.{hit-same}
+use Rattle.sdd_table.proofs.SlotLemmas.{at_most}
+use Rattle.sdd_table.proofs.BagInvariantLemmas.{due_waiting, reclaims_next, sound_turned, sound_taken, gives_given, times_reversed, bag_waits}
 use Rattle.sdd_base.proofs.FrameLemmas.{live_light}
 use Rattle.std.proofs.lemmas.List.Sums.{sum_by-cons}
-use Rattle.sdd_base.proofs.PlaceLemmas.{place_begun}
+use Rattle.sdd_table.proofs.PlaceLemmas.{place_begun}
 use Rattle.sdd_base.proofs.CountLemmas.{tally-cons, tally-append, counted_given, counted_taken, counted_same}
 
 keeps-one : (k : Cell) → keeps_shared k ≤ 1

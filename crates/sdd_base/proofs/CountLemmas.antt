@@ -4,28 +4,28 @@ use Rattle.std.specs.List.{sum_by}
 use Rattle.std.proofs.lemmas.List.Sums.{sum_by-set, sum_by-cons, sum_by-append}
 use Rattle.std.proofs.lemmas.Bool.{false≢true}
 use Rattle.std.proofs.lemmas.Bool.Decides.{nat_tests, eqb_tells}
-use Rattle.sdd_base.specs.Holding.{Hold, OwnedItem, SharedItem, OwnedIn, SharedIn}
-use Rattle.sdd_base.specs.State.{State, ParticipantState, status_at, value_at, cell_at, participant_at, local_at, placed, with_value, changing, recalled, slot_freed, waiting_as, IsIdle, with_status, with_cell, with_local, retired, taken, vacated, weight, is_used, IsFree, IsFreeCell, rotated_bags, bags_moved_on, raised, is_present, nobody, with_local_state, fresh}
-use Rattle.sdd_base.specs.Steps.{overdue, purged, set_aside, handed_over, handed_over_as, hit, held_in, given, given_all, released_as, disowned_as, owned_ended_as, shared_ended_as, due_reclaimed, due_reclaimed_as, reclaimed, participant_rotated, count_published, guard_opened, guard_closed, scanned, scans, closings_after}
-use Rattle.sdd_base.proofs.SlotLemmas.{at_most}
-use Rattle.sdd_base.specs.Place.{Sound, IsPlace, IsShared, IsOwned, IsSharedCell}
+use Rattle.sdd_table.specs.Holding.{Hold, OwnedItem, SharedItem, OwnedIn, SharedIn}
+use Rattle.sdd_table.specs.State.{State, ParticipantState, status_at, value_at, cell_at, participant_at, local_at, placed, with_value, changing, recalled, slot_freed, waiting_as, IsIdle, with_status, with_cell, with_local, retired, taken, vacated, weight, is_used, IsFree, IsFreeCell, rotated_bags, bags_moved_on, raised, is_present, nobody, with_local_state, fresh}
+use Rattle.sdd_table.specs.Steps.{overdue, purged, set_aside, handed_over, handed_over_as, hit, held_in, given, given_all, released_as, disowned_as, owned_ended_as, shared_ended_as, due_reclaimed, due_reclaimed_as, reclaimed, participant_rotated, count_published, guard_opened, guard_closed, scanned, scans, closings_after}
+use Rattle.sdd_table.proofs.SlotLemmas.{at_most}
+use Rattle.sdd_table.specs.Place.{Sound, IsPlace, IsShared, IsOwned, IsSharedCell}
 use Rattle.sdd_base.specs.Counting.{same_hold, tally, kept_by, single_owner, shared_owners, keeps_owned, keeps_shared, owners_of, Counted, OwnersAreCounted}
-use Rattle.sdd_base.specs.declared.status.Status.{Status}
-use Rattle.sdd_base.specs.declared.status.Status.TheVariants as status
-use Rattle.sdd_base.specs.declared.status.Cell.{Cell}
-use Rattle.sdd_base.specs.declared.status.Cell.TheVariants as cell
-use Rattle.sdd_base.specs.declared.status.LocalState.{LocalState}
-use Rattle.sdd_base.specs.declared.tag.Tag.{Tag}
-use Rattle.sdd_base.proofs.ListLemmas.{hit-same, hit-other}
-use Rattle.sdd_base.specs.Dropping.{Dropped, undone, undone_times}
-use Rattle.sdd_base.proofs.DropLemmas.{calls_recalled}
-use Rattle.sdd_base.proofs.BagInvariantLemmas.{inside_by, due_waiting, gives_given, reclaims_next, sound_turned}
+use Rattle.sdd_table.specs.declared.status.Status.{Status}
+use Rattle.sdd_table.specs.declared.status.Status.TheVariants as status
+use Rattle.sdd_table.specs.declared.status.Cell.{Cell}
+use Rattle.sdd_table.specs.declared.status.Cell.TheVariants as cell
+use Rattle.sdd_table.specs.declared.status.LocalState.{LocalState}
+use Rattle.sdd_table.specs.declared.tag.Tag.{Tag}
+use Rattle.sdd_table.proofs.ListLemmas.{hit-same, hit-other}
+use Rattle.sdd_table.specs.Dropping.{Dropped, undone, undone_times}
+use Rattle.sdd_table.proofs.DropLemmas.{calls_recalled}
+use Rattle.sdd_table.proofs.BagInvariantLemmas.{inside_by, due_waiting, gives_given, reclaims_next, sound_turned}
 use Rattle.std.specs.List.{list_all}
 use Rattle.sdd_base.proofs.PrivateCollectorLemmas.{overdue_noted, purges_next}
 use Rattle.std.proofs.lemmas.List.{length-reverse}
-use Rattle.sdd_base.proofs.PlaceLemmas.{place_begun, get_or-replicate_default}
+use Rattle.sdd_table.proofs.PlaceLemmas.{place_begun, get_or-replicate_default}
 use Rattle.std.proofs.lemmas.List.Folds.{sum_by-replicate}
-use Rattle.sdd_base.specs.declared.sizes.Sizes.{Sizes}
+use Rattle.sdd_table.specs.declared.sizes.Sizes.{Sizes}
 
 -- what an element weighs where one is changed
 module _ {X : Type 0} (f : X → ℕ) where

@@ -3,19 +3,19 @@ use Rattle.std.proofs.Common.{◌≡◌, ◌≢◌, ℕ, ◌+◌, ◌-◌, ◌<�
 use Rattle.std.specs.List.{list_all, sum_by}
 use Rattle.std.proofs.lemmas.Bool.{false≢true}
 use Rattle.std.proofs.lemmas.Bool.Decides.{eqb_tells}
-use Rattle.sdd_base.specs.Holding.{Hold}
-use Rattle.sdd_base.specs.State.{State, ParticipantState, nobody, status_at, value_at, participant_at, local_at, is_used, weight, with_local, with_local_state, with_status, placed, with_cell, raised, is_present}
-use Rattle.sdd_base.specs.Steps.{times, count_published, participant_rotated, guard_opened, guard_closed, scanned, scans, closings_after}
-use Rattle.sdd_base.specs.Place.{Sound, IsPlace, IsOpen, IsShared, IsOwnedCell, IsSharedCell, IsRawCell, held_times}
-use Rattle.sdd_base.specs.declared.tag.Tag.{Tag}
-use Rattle.sdd_base.specs.declared.status.Cell.TheVariants as cell
-use Rattle.sdd_base.specs.Frame.{has_owner, IsLive, Protects, Frame, OnlyParticipant, IsRun, last_of}
-use Rattle.sdd_base.specs.declared.status.Status.{Status}
-use Rattle.sdd_base.specs.declared.status.Status.TheVariants as status
-use Rattle.sdd_base.specs.declared.status.LocalState.{LocalState}
-use Rattle.sdd_base.proofs.BagInvariantLemmas.{Gives, Leaves, leaves, Calms, calms, Calm, bag_waits, weight_same}
-use Rattle.sdd_base.proofs.SlotLemmas.{at_most}
-use Rattle.sdd_base.proofs.PlaceLemmas.{calm_at, rotates, place_begun}
+use Rattle.sdd_table.specs.Holding.{Hold}
+use Rattle.sdd_table.specs.State.{State, ParticipantState, nobody, status_at, value_at, participant_at, local_at, is_used, weight, with_local, with_local_state, with_status, placed, with_cell, raised, is_present}
+use Rattle.sdd_table.specs.Steps.{times, count_published, participant_rotated, guard_opened, guard_closed, scanned, scans, closings_after}
+use Rattle.sdd_table.specs.Place.{Sound, IsPlace, IsOpen, IsShared, IsOwnedCell, IsSharedCell, IsRawCell, held_times}
+use Rattle.sdd_table.specs.declared.tag.Tag.{Tag}
+use Rattle.sdd_table.specs.declared.status.Cell.TheVariants as cell
+use Rattle.sdd_table.specs.Frame.{has_owner, IsLive, Protects, Frame, OnlyParticipant, IsRun, last_of}
+use Rattle.sdd_table.specs.declared.status.Status.{Status}
+use Rattle.sdd_table.specs.declared.status.Status.TheVariants as status
+use Rattle.sdd_table.specs.declared.status.LocalState.{LocalState}
+use Rattle.sdd_table.proofs.BagInvariantLemmas.{Gives, Leaves, leaves, Calms, calms, Calm, bag_waits, weight_same}
+use Rattle.sdd_table.proofs.SlotLemmas.{at_most}
+use Rattle.sdd_table.proofs.PlaceLemmas.{calm_at, rotates, place_begun}
 
 pub keeps_refl : {T : Type 0} (w : State T) → Frame w w
 keeps_refl w = record { states = refl; cells = refl; participants = refl; lives = λ i l. refl; protects = λ q i o o' h. (refl, h) }

@@ -4,16 +4,16 @@ use Rattle.std.specs.List.{list_all}
 use Rattle.std.proofs.lemmas.Bool.{false≢true}
 use Rattle.std.proofs.lemmas.Bool.Decides.{eqb_tells}
 use Rattle.std.proofs.lemmas.List.Sums.{sum_by-cons}
-use Rattle.sdd_base.specs.Holding.{Hold}
-use Rattle.sdd_base.specs.State.{State, ParticipantState, nobody, status_at, value_at, participant_at, local_at, with_local, with_local_state, with_status, retired, rotated_bags, bags_moved_on, raised, is_present, is_used, usage, in_use}
-use Rattle.sdd_base.specs.Steps.{reclaimed, participant_rotated, count_published, guard_opened, guard_closed, settled, scanned, scans, closings_after, bags_empty, is_nil, released, released_as}
-use Rattle.sdd_base.specs.Place.{IsPlace}
+use Rattle.sdd_table.specs.Holding.{Hold}
+use Rattle.sdd_table.specs.State.{State, ParticipantState, nobody, status_at, value_at, participant_at, local_at, with_local, with_local_state, with_status, retired, rotated_bags, bags_moved_on, raised, is_present, is_used, usage, in_use}
+use Rattle.sdd_table.specs.Steps.{reclaimed, participant_rotated, count_published, guard_opened, guard_closed, settled, scanned, scans, closings_after, bags_empty, is_nil, released, released_as}
+use Rattle.sdd_table.specs.Place.{IsPlace}
 use Rattle.sdd_base.specs.Passing.{Shrinks, IsQuiet, OnlyParticipantsChange, GivesOnly}
-use Rattle.sdd_base.specs.declared.status.Status.{Status}
-use Rattle.sdd_base.specs.declared.status.Status.TheVariants as status
-use Rattle.sdd_base.specs.declared.status.LocalState.{LocalState}
-use Rattle.sdd_base.proofs.BagInvariantLemmas.{gives_released_as}
-use Rattle.sdd_base.proofs.PlaceLemmas.{place_by}
+use Rattle.sdd_table.specs.declared.status.Status.{Status}
+use Rattle.sdd_table.specs.declared.status.Status.TheVariants as status
+use Rattle.sdd_table.specs.declared.status.LocalState.{LocalState}
+use Rattle.sdd_table.proofs.BagInvariantLemmas.{gives_released_as}
+use Rattle.sdd_table.proofs.PlaceLemmas.{place_by}
 use Rattle.sdd_base.proofs.FrameLemmas.{keeps_opened, keeps_gives}
 use Rattle.sdd_base.proofs.PassLemmas.{opens, adds_released}
 

@@ -4,22 +4,22 @@ use Rattle.std.specs.List.{sum_by, list_all}
 use Rattle.std.proofs.lemmas.Bool.Decides.{nat_tests, eqb_tells}
 use Rattle.std.proofs.lemmas.List.{length-append, length-reverse}
 use Rattle.std.proofs.lemmas.List.Sums.{sum_by-set, sum_by-cons, sum_by-append}
-use Rattle.sdd_base.specs.Holding.{Hold, OwnedItem, SharedItem, OwnedIn, SharedIn}
-use Rattle.sdd_base.specs.State.{State, ParticipantState, status_at, value_at, cell_at, participant_at, local_at, with_status, with_cell, with_local, waiting_as, retired, taken, vacated, weight, rotated_bags, bags_moved_on, raised, is_present, nobody, with_local_state, slot_freed, changing, recalled}
-use Rattle.sdd_base.specs.Steps.{times, hit, given, given_all, released_as, disowned_as, owned_ended_as, shared_ended_as, due_reclaimed, due_reclaimed_as, held_in, reclaimed, participant_rotated, count_published, guard_opened, guard_closed, scanned, scans, closings_after, overdue, set_aside, enqueued, purged, left_waiting, handed_over, handed_over_as, IsTimely}
-use Rattle.sdd_base.specs.Place.{Sound, IsPlace}
+use Rattle.sdd_table.specs.Holding.{Hold, OwnedItem, SharedItem, OwnedIn, SharedIn}
+use Rattle.sdd_table.specs.State.{State, ParticipantState, status_at, value_at, cell_at, participant_at, local_at, with_status, with_cell, with_local, waiting_as, retired, taken, vacated, weight, rotated_bags, bags_moved_on, raised, is_present, nobody, with_local_state, slot_freed, changing, recalled}
+use Rattle.sdd_table.specs.Steps.{times, hit, given, given_all, released_as, disowned_as, owned_ended_as, shared_ended_as, due_reclaimed, due_reclaimed_as, held_in, reclaimed, participant_rotated, count_published, guard_opened, guard_closed, scanned, scans, closings_after, overdue, set_aside, enqueued, purged, left_waiting, handed_over, handed_over_as, IsTimely}
+use Rattle.sdd_table.specs.Place.{Sound, IsPlace}
 use Rattle.sdd_base.specs.Notes.{note_of, note_at, note_count, AreCollected, NotesRise, SameNotes, IsInOrder, NoneOverdue, CollectorsAreInOrder}
-use Rattle.sdd_base.specs.declared.status.Status.{Status}
-use Rattle.sdd_base.specs.declared.status.Status.TheVariants as status
-use Rattle.sdd_base.specs.declared.status.LocalState.{LocalState}
-use Rattle.sdd_base.specs.declared.status.Cell.{Cell}
-use Rattle.sdd_base.specs.declared.status.Cell.TheVariants as cell
-use Rattle.sdd_base.proofs.ListLemmas.{hit-same, hit-other, times-append}
-use Rattle.sdd_base.proofs.SlotLemmas.{light_sum}
-use Rattle.sdd_base.specs.Dropping.{Dropped, undone, undone_times}
-use Rattle.sdd_base.proofs.DropLemmas.{calls_recalled}
-use Rattle.sdd_base.proofs.BagInvariantLemmas.{gives_given, inside_by, due_waiting, reclaims_next, sound_turned}
-use Rattle.sdd_base.proofs.PlaceLemmas.{place_begun}
+use Rattle.sdd_table.specs.declared.status.Status.{Status}
+use Rattle.sdd_table.specs.declared.status.Status.TheVariants as status
+use Rattle.sdd_table.specs.declared.status.LocalState.{LocalState}
+use Rattle.sdd_table.specs.declared.status.Cell.{Cell}
+use Rattle.sdd_table.specs.declared.status.Cell.TheVariants as cell
+use Rattle.sdd_table.proofs.ListLemmas.{hit-same, hit-other, times-append}
+use Rattle.sdd_table.proofs.SlotLemmas.{light_sum}
+use Rattle.sdd_table.specs.Dropping.{Dropped, undone, undone_times}
+use Rattle.sdd_table.proofs.DropLemmas.{calls_recalled}
+use Rattle.sdd_table.proofs.BagInvariantLemmas.{gives_given, inside_by, due_waiting, reclaims_next, sound_turned}
+use Rattle.sdd_table.proofs.PlaceLemmas.{place_begun}
 
 -- where a use changes and the note doesn't
 note_set : (ss : List Status) (i j : ℕ) (s : Status) → i < length ss → note_of s ≡ note_of (get_or ss i status.Free) → note_of (get_or (set ss i s) j status.Free) ≡ note_of (get_or ss j status.Free)

@@ -5,21 +5,21 @@ use Rattle.std.proofs.lemmas.Bool.{false≢true}
 use Rattle.std.proofs.lemmas.Bool.Decides.{eqb_tells, nat_tests}
 use Rattle.std.proofs.lemmas.List.{length-reverse}
 use Rattle.std.proofs.lemmas.List.Sums.{sum_by-cons}
-use Rattle.sdd_base.specs.Holding.{Hold, OwnedItem, SharedItem, OwnedIn, SharedIn}
-use Rattle.sdd_base.specs.State.{State, ParticipantState, nobody, status_at, value_at, cell_at, participant_at, local_at, with_local, with_local_state, with_status, with_cell, retired, put_participant, taken, left_due, vacated, rotated_bags, bags_moved_on, raised, is_present, is_used, weight}
-use Rattle.sdd_base.specs.Steps.{hit, times, released_as, disowned_as, owned_ended_as, shared_ended_as, given, given_all, held_in, due_reclaimed, due_reclaimed_as, reclaimed, participant_rotated, count_published, guard_opened, guard_closed, scanned, scans, closings_after, bags_empty, is_nil}
-use Rattle.sdd_base.specs.Place.{Sound, IsPlace, IsOpen, held_times}
-use Rattle.sdd_base.specs.Frame.{OnlyParticipant}
+use Rattle.sdd_table.specs.Holding.{Hold, OwnedItem, SharedItem, OwnedIn, SharedIn}
+use Rattle.sdd_table.specs.State.{State, ParticipantState, nobody, status_at, value_at, cell_at, participant_at, local_at, with_local, with_local_state, with_status, with_cell, retired, put_participant, taken, left_due, vacated, rotated_bags, bags_moved_on, raised, is_present, is_used, weight}
+use Rattle.sdd_table.specs.Steps.{hit, times, released_as, disowned_as, owned_ended_as, shared_ended_as, given, given_all, held_in, due_reclaimed, due_reclaimed_as, reclaimed, participant_rotated, count_published, guard_opened, guard_closed, scanned, scans, closings_after, bags_empty, is_nil}
+use Rattle.sdd_table.specs.Place.{Sound, IsPlace, IsOpen, held_times}
+use Rattle.sdd_table.specs.Frame.{OnlyParticipant}
 use Rattle.sdd_base.specs.Counting.{tally, same_hold}
 use Rattle.sdd_base.specs.Passing.{accelerated, passed, passed_times, CanPass, slot_kept, slot_held, IsLayered, WaitsBelow, NoJobWaits, PassesReclaim, is_plain, Shrinks}
-use Rattle.sdd_base.specs.declared.status.Status.{Status}
-use Rattle.sdd_base.specs.declared.status.Status.TheVariants as status
-use Rattle.sdd_base.specs.declared.status.Cell.{Cell}
-use Rattle.sdd_base.specs.declared.status.Cell.TheVariants as cell
-use Rattle.sdd_base.specs.declared.status.LocalState.{LocalState}
-use Rattle.sdd_base.proofs.ListLemmas.{hit-same, hit-other, times-append}
-use Rattle.sdd_base.proofs.BagInvariantLemmas.{reclaims_next, sound_turned, sound_taken, due_waiting, times_reversed, bag_waits, gives_given}
-use Rattle.sdd_base.proofs.PlaceLemmas.{rotates, place_local, place_closed, place_begun}
+use Rattle.sdd_table.specs.declared.status.Status.{Status}
+use Rattle.sdd_table.specs.declared.status.Status.TheVariants as status
+use Rattle.sdd_table.specs.declared.status.Cell.{Cell}
+use Rattle.sdd_table.specs.declared.status.Cell.TheVariants as cell
+use Rattle.sdd_table.specs.declared.status.LocalState.{LocalState}
+use Rattle.sdd_table.proofs.ListLemmas.{hit-same, hit-other, times-append}
+use Rattle.sdd_table.proofs.BagInvariantLemmas.{reclaims_next, sound_turned, sound_taken, due_waiting, times_reversed, bag_waits, gives_given}
+use Rattle.sdd_table.proofs.PlaceLemmas.{rotates, place_local, place_closed, place_begun}
 
 -- what is set in a list of statuses or cells was there, or is what is set
 status_before : (ss : List Status) (i j : ℕ) (s : Status) → s ≢ status.Deferred → get_or (set ss i s) j status.Free ≡ status.Deferred → get_or ss j status.Free ≡ status.Deferred

@@ -2,15 +2,15 @@
 use Rattle.std.proofs.Common.{◌≡◌, ◌≢◌, ℕ, ◌+◌, ◌-◌, ◌<◌, ◌≤◌, Bool, true, false, Option, None, List, [], ◌∷◌, length, get_or, set, refl, sym, ap, ◌∙◌, arith, length-set, subst, cond, get_or-set_other, get_or-set_same, leb, ltb, inl, inr, is_some}
 use Rattle.std.proofs.lemmas.Bool.{false≢true}
 use Rattle.std.proofs.lemmas.Bool.Decides.{nat_tests, eqb_tells}
-use Rattle.sdd_base.specs.Holding.{Hold}
-use Rattle.sdd_base.specs.State.{State, status_at, value_at, participant_at, local_at, is_used, weight, with_status, retired, slot_freed}
-use Rattle.sdd_base.specs.Steps.{given_all, held_in, overdue, IsTimely, purged, left_waiting, set_aside, handed_over, handed_over_as, times, released, released_as}
-use Rattle.sdd_base.specs.Place.{Sound, IsPlace, IsOpen, IsOwned, IsShared}
-use Rattle.sdd_base.specs.Frame.{has_owner, IsLive, Protects, Frame, OnlyParticipant}
-use Rattle.sdd_base.specs.declared.status.Status.{Status}
-use Rattle.sdd_base.specs.declared.status.Status.TheVariants as status
-use Rattle.sdd_base.proofs.BagInvariantLemmas.{Leaves, leaves, Calms, calms, leaves_refl, leaves_then, gives_all, gives_retired, gives_status, Calm, calm, weight_same, noted_set, gone_at, inside_by, sound_status}
-use Rattle.sdd_base.proofs.PlaceLemmas.{calm_at, place_calms, place_leaves}
+use Rattle.sdd_table.specs.Holding.{Hold}
+use Rattle.sdd_table.specs.State.{State, status_at, value_at, participant_at, local_at, is_used, weight, with_status, retired, slot_freed}
+use Rattle.sdd_table.specs.Steps.{given_all, held_in, overdue, IsTimely, purged, left_waiting, set_aside, handed_over, handed_over_as, times, released, released_as}
+use Rattle.sdd_table.specs.Place.{Sound, IsPlace, IsOpen, IsOwned, IsShared}
+use Rattle.sdd_table.specs.Frame.{has_owner, IsLive, Protects, Frame, OnlyParticipant}
+use Rattle.sdd_table.specs.declared.status.Status.{Status}
+use Rattle.sdd_table.specs.declared.status.Status.TheVariants as status
+use Rattle.sdd_table.proofs.BagInvariantLemmas.{Leaves, leaves, Calms, calms, leaves_refl, leaves_then, gives_all, gives_retired, gives_status, Calm, calm, weight_same, noted_set, gone_at, inside_by, sound_status}
+use Rattle.sdd_table.proofs.PlaceLemmas.{calm_at, place_calms, place_leaves}
 use Rattle.sdd_base.proofs.FrameLemmas.{keeps_leaves, keeps_refl}
 
 module _ {T : Type 0} where

@@ -1,9 +1,9 @@
 -- what collecting an item makes of a place and of a collector
 use Rattle.std.specs.Prelude.{◌≡◌, ℕ, List}
-use Rattle.sdd_base.specs.Holding.{Hold}
-use Rattle.sdd_base.specs.State.{State}
-use Rattle.sdd_base.specs.Steps.{set_aside, enqueued, purged, left_waiting}
-use Rattle.sdd_base.specs.Place.{IsOwned}
+use Rattle.sdd_table.specs.Holding.{Hold}
+use Rattle.sdd_table.specs.State.{State}
+use Rattle.sdd_table.specs.Steps.{set_aside, enqueued, purged, left_waiting}
+use Rattle.sdd_table.specs.Place.{IsOwned}
 use Rattle.sdd_base.specs.Tokens.{waiting_in, room_of}
 use Rattle.sdd_base.specs.declared.collector.PrivateCollector.{PrivateCollector}
 

@@ -1,18 +1,18 @@
 -- owners and cells, counted over all that hold them
 use Rattle.std.specs.Prelude.{◌≡◌, ℕ, ◌+◌, ◌<◌, ◌≤◌, Option, None, Some, List, [], ◌∷◌, ◌++◌, length}
 use Rattle.std.specs.List.{sum_by}
-use Rattle.sdd_base.specs.Holding.{Hold, OwnedItem, SharedItem, OwnedIn, SharedIn}
-use Rattle.sdd_base.specs.State.{State, status_at, value_at, cell_at, placed, with_value, with_status, with_cell, waiting_as, IsFree, IsFreeCell, IsIdle, fresh}
-use Rattle.sdd_base.specs.Steps.{hit, held_in, given, guard_opened, guard_closed, set_aside, purged, handed_over}
-use Rattle.sdd_base.specs.Dropping.{Dropped}
-use Rattle.sdd_base.specs.Frame.{IsLive}
-use Rattle.sdd_base.specs.Place.{IsPlace, IsShared, IsOwned, IsSharedCell}
-use Rattle.sdd_base.specs.declared.sizes.Sizes.{Sizes}
-use Rattle.sdd_base.specs.declared.tag.Tag.{Tag}
-use Rattle.sdd_base.specs.declared.status.Status.{Status}
-use Rattle.sdd_base.specs.declared.status.Status.TheVariants as status
-use Rattle.sdd_base.specs.declared.status.Cell.{Cell}
-use Rattle.sdd_base.specs.declared.status.Cell.TheVariants as cell
+use Rattle.sdd_table.specs.Holding.{Hold, OwnedItem, SharedItem, OwnedIn, SharedIn}
+use Rattle.sdd_table.specs.State.{State, status_at, value_at, cell_at, placed, with_value, with_status, with_cell, waiting_as, IsFree, IsFreeCell, IsIdle, fresh}
+use Rattle.sdd_table.specs.Steps.{hit, held_in, given, guard_opened, guard_closed, set_aside, purged, handed_over}
+use Rattle.sdd_table.specs.Dropping.{Dropped}
+use Rattle.sdd_table.specs.Frame.{IsLive}
+use Rattle.sdd_table.specs.Place.{IsPlace, IsShared, IsOwned, IsSharedCell}
+use Rattle.sdd_table.specs.declared.sizes.Sizes.{Sizes}
+use Rattle.sdd_table.specs.declared.tag.Tag.{Tag}
+use Rattle.sdd_table.specs.declared.status.Status.{Status}
+use Rattle.sdd_table.specs.declared.status.Status.TheVariants as status
+use Rattle.sdd_table.specs.declared.status.Cell.{Cell}
+use Rattle.sdd_table.specs.declared.status.Cell.TheVariants as cell
 
 -- 1 where k is an owner of the kind and item, or the cell, of h
 abbrev pub same_hold : Hold → Hold → ℕ

@@ -1,10 +1,10 @@
 -- cells that keep an item
 use Rattle.std.specs.Prelude.{◌≡◌, ℕ, ◌<◌, length, None, Some}
-use Rattle.sdd_base.specs.State.{State, cell_at}
-use Rattle.sdd_base.specs.Place.{IsShared}
-use Rattle.sdd_base.specs.declared.tag.Tag.{Tag}
-use Rattle.sdd_base.specs.declared.status.Cell.{Cell}
-use Rattle.sdd_base.specs.declared.status.Cell.TheVariants as cell
+use Rattle.sdd_table.specs.State.{State, cell_at}
+use Rattle.sdd_table.specs.Place.{IsShared}
+use Rattle.sdd_table.specs.declared.tag.Tag.{Tag}
+use Rattle.sdd_table.specs.declared.status.Cell.{Cell}
+use Rattle.sdd_table.specs.declared.status.Cell.TheVariants as cell
 
 -- the slot of the item that a cell keeps, 0 where it keeps none
 abbrev pub cell_slot : Cell → ℕ

@@ -1,14 +1,14 @@
 -- what collectors keep: the slots that they name, and the counts that were noted of them
 use Rattle.std.specs.Prelude.{◌≡◌, ℕ, ◌<◌, ◌≤◌, false, cond, is_some, Option, None, Some, List, [], ◌∷◌, ◌++◌, length}
-use Rattle.sdd_base.specs.Holding.{Hold}
-use Rattle.sdd_base.specs.State.{State, status_at, placed, with_value, with_status, with_cell, waiting_as, IsFree, IsIdle, fresh}
-use Rattle.sdd_base.specs.Steps.{times, given, guard_opened, guard_closed, overdue, set_aside, enqueued, purged, left_waiting, handed_over}
-use Rattle.sdd_base.specs.Dropping.{Dropped}
-use Rattle.sdd_base.specs.Place.{IsPlace}
-use Rattle.sdd_base.specs.declared.sizes.Sizes.{Sizes}
-use Rattle.sdd_base.specs.declared.status.Status.{Status}
-use Rattle.sdd_base.specs.declared.status.Status.TheVariants as status
-use Rattle.sdd_base.specs.declared.status.Cell.{Cell}
+use Rattle.sdd_table.specs.Holding.{Hold}
+use Rattle.sdd_table.specs.State.{State, status_at, placed, with_value, with_status, with_cell, waiting_as, IsFree, IsIdle, fresh}
+use Rattle.sdd_table.specs.Steps.{times, given, guard_opened, guard_closed, overdue, set_aside, enqueued, purged, left_waiting, handed_over}
+use Rattle.sdd_table.specs.Dropping.{Dropped}
+use Rattle.sdd_table.specs.Place.{IsPlace}
+use Rattle.sdd_table.specs.declared.sizes.Sizes.{Sizes}
+use Rattle.sdd_table.specs.declared.status.Status.{Status}
+use Rattle.sdd_table.specs.declared.status.Status.TheVariants as status
+use Rattle.sdd_table.specs.declared.status.Cell.{Cell}
 
 -- the count that was noted of an item that waits in a collector
 abbrev pub note_of : Status → Option ℕ

@@ -1,15 +1,15 @@
 -- what accelerated guards, opened and closed one by one, make of what waits
 use Rattle.std.specs.Prelude.{◌≡◌, ◌≢◌, ℕ, zero, suc, ◌+◌, ◌-◌, ◌<◌, ◌≤◌, Bool, true, false, ltb, Option, None, Some, List, length}
-use Rattle.sdd_base.specs.Holding.{Hold, OwnedItem, SharedItem, OwnedIn, SharedIn}
-use Rattle.sdd_base.specs.State.{State, participant_at, local_at, status_at, value_at, cell_at, with_local, in_use}
-use Rattle.sdd_base.specs.Steps.{guard_opened, guard_closed, released, bags_empty, NoneOpen}
-use Rattle.sdd_base.specs.Place.{IsPlace, held_times}
-use Rattle.sdd_base.specs.Frame.{OnlyParticipant}
+use Rattle.sdd_table.specs.Holding.{Hold, OwnedItem, SharedItem, OwnedIn, SharedIn}
+use Rattle.sdd_table.specs.State.{State, participant_at, local_at, status_at, value_at, cell_at, with_local, in_use}
+use Rattle.sdd_table.specs.Steps.{guard_opened, guard_closed, released, bags_empty, NoneOpen}
+use Rattle.sdd_table.specs.Place.{IsPlace, held_times}
+use Rattle.sdd_table.specs.Frame.{OnlyParticipant}
 use Rattle.sdd_base.specs.Counting.{tally}
-use Rattle.sdd_base.specs.declared.status.Status.{Status}
-use Rattle.sdd_base.specs.declared.status.Status.TheVariants as status
-use Rattle.sdd_base.specs.declared.status.Cell.{Cell}
-use Rattle.sdd_base.specs.declared.status.Cell.TheVariants as cell
+use Rattle.sdd_table.specs.declared.status.Status.{Status}
+use Rattle.sdd_table.specs.declared.status.Status.TheVariants as status
+use Rattle.sdd_table.specs.declared.status.Cell.{Cell}
+use Rattle.sdd_table.specs.declared.status.Cell.TheVariants as cell
 
 -- the slot that a cell names
 abbrev pub slot_kept : Cell → Option ℕ

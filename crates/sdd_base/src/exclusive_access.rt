@@ -1,35 +1,15 @@
 //! Lending the value of an item for writing.
 
-ghost use Rattle.std.specs.Prelude.{◌≡◌, ◌↔◌, ℕ, Option, Some, IfOk, OnOk, IsErr, IsErrOf, IfSome, IsSome};
-ghost use Rattle.std.specs.Borrow.{Lends, LendsIf, LendsIfOk, sem};
-ghost use Rattle.sdd_base.specs.State.{State, value_at, with_value};
-ghost use Rattle.sdd_base.specs.Place.{IsOpen, IsOwned, IsShared, HasItem, HasOneOwner};
+ghost use Rattle.std.specs.Prelude.{◌≡◌, ◌↔◌, ℕ, Some, IfOk, OnOk, IsErr, IsErrOf};
+ghost use Rattle.std.specs.Borrow.{LendsIfOk, sem};
+ghost use Rattle.sdd_table.specs.State.{State, value_at, with_value};
+ghost use Rattle.sdd_table.specs.Place.{IsOpen, IsOwned, IsShared, HasOneOwner};
 ghost use Rattle.sdd_base.specs.Filled.{IsFilled, slot_in};
 ghost use Rattle.sdd_base.specs.Tokens.{owned_slot, shared_slot, shared_cell};
 
 use crate::cell::AtomicShared;
 use crate::owner::{Owned, Shared};
 use crate::refusal::{GuardsOpen, NotLent};
-
-/// A store that lends the value of an item for writing.
-pub(crate) trait Store<T> {
-    ghost stored: { Self → State T };
-
-    ghost with_stored: { ℕ → T → Self → Self };
-
-    /// The value in slot `i`; once the borrow is over, the slot has what was last written.
-    fn item_mut(&mut self, i: usize) -> &mut T
-        requires { HasItem (stored self.old) i }
-        ensures* lends { sem 𝓛 (Lends Self.row T.row self.entry result (λ v. with_stored i v self.entry.now)) }
-        ensures value { value_at (stored self.old) i ≡ Some result.now };
-
-    /// The same where the item in slot `i` has one owner alone.
-    fn lone_mut(&mut self, i: usize) -> Option<&mut T>
-        requires { IsShared (stored self.old) i }
-        ensures* lends { sem 𝓛 (LendsIf Self.row T.row self.entry result (λ v. with_stored i v self.entry.now) self.entry.now) }
-        ensures value { IfSome result (λ v. value_at (stored self.old) i ≡ Some v.now) }
-        ensures sole { IsSome result ↔ HasOneOwner (stored self.old) i };
-}
 
 /// A place that lends the value of an item for writing, while no guard is open: a `World`. It is asked by
 /// `world::owned::get_mut`, `world::shared::get_mut` and walks that write. A trait, since its clauses name the type of the

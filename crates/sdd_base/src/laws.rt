@@ -1,7 +1,7 @@
 //! What follows from the clauses of the calls, for every state and every order of calls. Nothing here runs.
 
 ghost use Rattle.sdd_base.specs.Counting.{HeldCellsStay, OwnersAreCounted};
-ghost use Rattle.sdd_base.specs.Frame.{OwnedIsProtected, StaysUntilClosed};
+ghost use Rattle.sdd_table.specs.Frame.{OwnedIsProtected, StaysUntilClosed};
 ghost use Rattle.sdd_base.specs.Notes.{CollectorsAreInOrder};
 ghost use Rattle.sdd_base.specs.Passing.{GivesOnly, PassesReclaim};
 

@@ -5,39 +5,23 @@
 //! participant that retired it, and is reclaimed when no guard can still name it.
 #![tactic(auto)]
 
-mod bags;
 pub mod cell;
 pub mod collector;
-pub mod epoch;
 pub mod exclusive_access;
 pub mod guard;
-pub mod holds;
-pub mod job;
 pub mod laws;
-pub mod link;
-pub mod owner;
-pub mod plain;
 pub mod pointer;
-mod reclaim;
 pub mod refusal;
-pub mod sizes;
-pub mod status;
-mod table;
-pub mod tag;
 pub mod world;
 
 pub use cell::{AtomicOwned, AtomicRaw, AtomicShared};
 pub use collector::PrivateCollector;
-pub use epoch::Epoch;
 pub use exclusive_access::ExclusiveAccess;
 pub use guard::WorldGuard;
-pub use holds::{Held, Holds};
-pub use job::{Deferred, Job, NoJob, Task};
-pub use link::Link;
-pub use owner::{Kept, Owned, Shared};
-pub use plain::Plain;
 pub use pointer::{Loaded, Ptr, RawPtr};
 pub use refusal::{GuardsOpen, Nested, NoSlot, NotLent};
-pub use sizes::Sizes;
-pub use tag::Tag;
+pub use sdd_table::{
+    Deferred, Epoch, Held, Holds, Job, Kept, Link, NoJob, Owned, Plain, Shared, Sizes, Tag, Task,
+    epoch, holds, job, link, owner, plain, sizes, status, tag,
+};
 pub use world::World;

@@ -4,6 +4,7 @@ ghost use Rattle.std.specs.Prelude.{◌≡◌, ℕ, Option, IsTrue, None, ◌↔
 ghost use Rattle.sdd_base.specs.Tokens.{ptr_slot, ptr_tag, raw_slot, raw_tag};
 
 use crate::tag::Tag;
+pub use sdd_table::loaded::Loaded;
 use std::marker::PhantomData;
 
 /// Where an item was found, or null, with a tag. Pointers are equal where slot and tag both are.
@@ -12,14 +13,6 @@ pub struct Ptr<'g, T> {
     pub(crate) slot: Option<usize>,
     pub(crate) tag: Tag,
     pub(crate) of: PhantomData<&'g T>,
-}
-
-/// What a cell was found to keep under a guard, as plain data without a borrow: a structure may keep it beside that guard.
-/// It names an item or nothing, and has no tag.
-#[derive_where(Clone, Copy, PartialEq, Eq)]
-pub struct Loaded<T> {
-    pub(crate) slot: Option<usize>,
-    pub(crate) of: PhantomData<T>,
 }
 
 /// Where an item is that is out as a raw pointer, or null, with a tag. They are equal where slot and tag both are.
@@ -45,7 +38,7 @@ impl<'g, T> sealed::Sealed for Ptr<'g, T> {}
 /// Pointers that a call makes of what it found, to lend them to a closure. `Ptr` alone is one, and only the calls of this
 /// crate make them: nobody else has a `Finder`.
 pub trait Found<T>: Sized + sealed::Sealed {
-    ghost use Rattle.sdd_base.specs.declared.tag.Tag.{Tag};
+    ghost use Rattle.sdd_table.specs.declared.tag.Tag.{Tag};
 
     /// The slot that it names, or none, and its tag.
     ghost names: { Self → Option ℕ };
@@ -75,7 +68,7 @@ impl<'g, T> Found<T> for Ptr<'g, T> {
 
 /// The pointer to nothing, without a tag.
 impl<'g, T> Default for Ptr<'g, T> {
-    ghost use Rattle.sdd_base.specs.declared.tag.Tag.TheVariants as tags;
+    ghost use Rattle.sdd_table.specs.declared.tag.Tag.TheVariants as tags;
 
     ghost is_default = { λ r. (ptr_slot r ≡ None) × (ptr_tag r ≡ tags.None) };
 
@@ -86,7 +79,7 @@ impl<'g, T> Default for Ptr<'g, T> {
 
 /// The pointer to nothing, without a tag.
 impl<T> Default for RawPtr<T> {
-    ghost use Rattle.sdd_base.specs.declared.tag.Tag.TheVariants as tags;
+    ghost use Rattle.sdd_table.specs.declared.tag.Tag.TheVariants as tags;
 
     ghost is_default = { λ r. (raw_slot r ≡ None) × (raw_tag r ≡ tags.None) };
 

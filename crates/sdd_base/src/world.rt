@@ -4,22 +4,23 @@
 //! owner, and what an open guard protects.
 
 ghost use Rattle.std.specs.Prelude.{◌≡◌, ◌⊎◌, ℕ, IsOk, IfOk, IfErr, IfNone, IfSome, IsTrue, IsFalse, ◌↔◌, Some, None, is_some, sum_by, length};
-ghost use Rattle.sdd_base.specs.State.{fresh, in_use, value_at, vacancy, IsUnused};
-ghost use Rattle.sdd_base.specs.Steps.{AllSwept, NoneOpen};
-ghost use Rattle.sdd_base.specs.Place.{IsPlace, IsOpen, IsReadable, IsSized};
+ghost use Rattle.sdd_table.specs.State.{fresh, in_use, value_at, vacancy, IsUnused};
+ghost use Rattle.sdd_table.specs.Steps.{AllSwept, NoneOpen};
+ghost use Rattle.sdd_table.specs.Place.{IsPlace, IsOpen, IsReadable, IsSized};
 ghost use Rattle.sdd_base.specs.Tokens.{loaded_slot, ptr_slot};
 
 use crate::cell::AtomicShared;
-use crate::exclusive_access::{ExclusiveAccess, Store};
+use crate::exclusive_access::ExclusiveAccess;
 use crate::holds::Holds;
 use crate::job::{Deferred, Job};
 use crate::owner::{Owned, Shared};
 use crate::pointer::{Loaded, Ptr};
-use crate::reclaim;
 use crate::refusal::{GuardsOpen, NotLent};
 use crate::sizes::Sizes;
 use crate::status::Cell;
-use crate::table::Table;
+use sdd_table::store::Store;
+use sdd_table::table::Table;
+use sdd_table::{reclaim, tokens};
 use std::alloc::{AllocError, Global};
 use std::marker::Model;
 
@@ -42,11 +43,11 @@ pub struct World<T, J: Deferred = Job> {
 /// Invariant: specs/Place.antt, IsPlace: what waits is in one bag of one participant, and an open guard is at most one count
 /// behind.
 impl<T, J: Deferred> Model for World<T, J> {
-    ghost use Rattle.sdd_base.specs.State.{State};
+    ghost use Rattle.sdd_table.specs.State.{State};
 
     ghost Value = { State T };
 
-    ghost use Rattle.sdd_base.specs.Place.{IsPlace};
+    ghost use Rattle.sdd_table.specs.Place.{IsPlace};
 
     ghost view = { λ w. w.table };
 
@@ -128,7 +129,7 @@ impl<T, J: Deferred> World<T, J> {
     {
         match at.slot {
             None => true,
-            Some(i) => self.table.status_of(i).has_item(),
+            Some(i) => self.table.has_item(i),
         }
     }
 
@@ -152,7 +153,7 @@ impl<T, J: Deferred> World<T, J> {
         ensures item { IfSome (loaded_slot at.now) (λ i. IfSome result (λ v. Some v.now ≡ value_at self.now i)) }
         ensures same { is_some result ≡ is_some (loaded_slot at.now) }
     {
-        match at.slot {
+        match tokens::slot_of_loaded(at) {
             None => None,
             Some(slot) => Some(self.table.value(slot)),
         }
@@ -161,7 +162,7 @@ impl<T, J: Deferred> World<T, J> {
 
 impl<T, J: Deferred> ExclusiveAccess<T> for World<T, J> {
     ghost use Rattle.std.specs.Prelude.{refl};
-    ghost use Rattle.sdd_base.specs.State.{with_value};
+    ghost use Rattle.sdd_table.specs.State.{with_value};
 
     ghost state = { λ w. w };
 
@@ -171,14 +172,14 @@ impl<T, J: Deferred> ExclusiveAccess<T> for World<T, J> {
         if self.table.any_open() {
             return Err(GuardsOpen);
         }
-        Ok(self.table.item_mut(owned.slot))
+        Ok(self.table.item_mut(tokens::slot_of_owned(owned)))
     }
 
     fn shared_mut(&mut self, shared: &Shared<T>) -> Result<&mut T, NotLent> {
         if self.table.any_open() {
             return Err(NotLent::GuardsOpen);
         }
-        match self.table.lone_mut(shared.slot) {
+        match self.table.lone_mut(tokens::slot_of_shared(shared)) {
             Some(value) => Ok(value),
             None => Err(NotLent::NotSole),
         }
@@ -188,7 +189,8 @@ impl<T, J: Deferred> ExclusiveAccess<T> for World<T, J> {
         if self.table.any_open() {
             return Err(NotLent::GuardsOpen);
         }
-        let Cell::OfShared(Some(kept), _) = self.table.cell(cell.cell) else {
+        let Cell::OfShared(Some(kept), _) = self.table.cell(tokens::number_of_shared_cell(cell))
+        else {
             unreachable!();
         };
         let Some(value) = self.table.lone_mut(kept) else {

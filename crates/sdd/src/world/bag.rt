@@ -4,20 +4,21 @@ ghost use Rattle.std.specs.Prelude.{◌≡◌, ◌<◌, ◌≤◌, ◌⊎◌, �
 ghost use Rattle.sdd_base.specs.State.{emptiness};
 ghost use Rattle.sdd_base.specs.Frame.{OnlyParticipant};
 ghost use Rattle.std.specs.List.{sum_by, FoldsTo};
-ghost use Rattle.sdd.specs.Chain.{Leaves, Stays};
+ghost use Rattle.sdd_lists.specs.Chain.{Leaves, Stays};
 ghost use Rattle.sdd.specs.Bags.{IsLength, PutsPrimary, CallsWith, AreFreeCells, bag_cells, into_cells};
 ghost use Rattle.std.specs.Iterator.{IsFiniteIterable};
 ghost use Rattle.sdd.specs.FromIter.{FillsBag, IfUnmade, IfNoSlot};
-ghost use Rattle.sdd.specs.declared.linked_entry.LinkedEntry.{LinkedEntry};
+ghost use Rattle.sdd_lists.specs.declared.linked_entry.LinkedEntry.{LinkedEntry};
 ghost use Rattle.sdd.specs.Calls.{BagIn, GivesAll, GivesUpTo, NoRoom, OnlyBag, OnlyLinksOf, PutsInto, SomeBagIn, TakesAll, TakesFromBag};
 
 use crate::bag::{Bag, IntoIter};
 use crate::linked_entry::LinkedEntry;
 use crate::refusal::{FromIterRefused, NotMade};
-use crate::world::{chain, row};
+use crate::world::row;
 use sdd_base::job::Deferred;
 use sdd_base::owner::Shared;
 use sdd_base::world::World;
+use sdd_lists::world::chain;
 use std::alloc::Global;
 
 /// An empty bag, exactly if `ARRAY_LEN + 1` cells are free and there is memory for as many names of cells; else nothing

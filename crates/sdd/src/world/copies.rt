@@ -2,18 +2,18 @@
 
 ghost use Rattle.std.specs.Prelude.{◌≡◌, [], IfOk, OnErr, MatchOption};
 ghost use Rattle.sdd_base.specs.Tokens.{link_cell, shared_cell};
-ghost use Rattle.sdd.specs.Chain.{Hangs};
-ghost use Rattle.sdd.specs.Copies.{ClonesAreSame};
-ghost use Rattle.sdd.specs.Entries.{entry_link};
+ghost use Rattle.sdd_lists.specs.Chain.{Hangs};
+ghost use Rattle.sdd_lists.specs.Copies.{ClonesAreSame};
+ghost use Rattle.sdd_lists.specs.Entries.{entry_link};
 ghost use Rattle.sdd.specs.FromIter.{Copies, CantCopy};
 ghost use Rattle.sdd.specs.Calls.{OfList};
 
 use crate::linked_entry::LinkedEntry;
-use crate::world::chain;
 use sdd_base::cell::AtomicShared;
 use sdd_base::job::Deferred;
 use sdd_base::link::Link;
 use sdd_base::world::World;
+use sdd_lists::world::chain;
 use std::alloc::AllocError;
 
 /// The link of an entry, and a clone of its value unless it is deleted.

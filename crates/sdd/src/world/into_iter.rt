@@ -2,7 +2,7 @@
 
 ghost use Rattle.std.specs.Prelude.{◌≡◌, ◌<◌, length};
 ghost use Rattle.sdd_base.specs.Frame.{OnlyParticipant};
-ghost use Rattle.sdd.specs.Chain.{Stays};
+ghost use Rattle.sdd_lists.specs.Chain.{Stays};
 ghost use Rattle.sdd.specs.Bags.{IsSomeBag, AreFreeCells, into_cells};
 ghost use Rattle.sdd.specs.Calls.{OnlyBag, OnlyLinksOf, TakesFromBag};
 

@@ -3,17 +3,17 @@
 ghost use Rattle.std.specs.Prelude.{◌≡◌, List};
 ghost use Rattle.std.specs.Option.{option_copied};
 ghost use Rattle.sdd_base.specs.declared.tag.Tag.{Tag};
-ghost use Rattle.sdd.specs.Chain.{Entry, IsList, Hangs, undeleted};
-ghost use Rattle.sdd.specs.Entries.{entry_link};
+ghost use Rattle.sdd_lists.specs.Chain.{Entry, IsList, Hangs, undeleted};
+ghost use Rattle.sdd_lists.specs.Entries.{entry_link};
 ghost use Rattle.sdd.specs.Iters.{iter_cell, first_value, Moves};
-ghost use Rattle.sdd.specs.declared.linked_entry.LinkedEntry.{LinkedEntry};
+ghost use Rattle.sdd_lists.specs.declared.linked_entry.LinkedEntry.{LinkedEntry};
 
 use crate::iter::Iter;
 use crate::linked_entry::LinkedEntry;
-use crate::world::chain;
 use sdd_base::job::Deferred;
 use sdd_base::link::Link;
 use sdd_base::world::World;
+use sdd_lists::world::chain;
 
 /// The value of the next entry that isn't deleted, or none at the end. Condition: what is left of the list hangs where
 /// the walk stands, as `iter` leaves it and every call of `next`, while nothing else changes the list.

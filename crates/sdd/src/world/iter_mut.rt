@@ -7,7 +7,7 @@ ghost use Rattle.sdd_base.specs.Tokens.{link_cell, shared_cell};
 ghost use Rattle.sdd.specs.Bags.{IsNull, IsSomeBag, bag_cells};
 ghost use Rattle.sdd.specs.Iters.{first_value};
 ghost use Rattle.sdd.specs.MutableIteration.{Finds, IsLeft, IsSomeLeft, LendsNext, cells_from, stop_cells, stop_here, walk_bag, walk_cells, walk_name, walk_place};
-ghost use Rattle.sdd.specs.declared.linked_entry.LinkedEntry.{LinkedEntry};
+ghost use Rattle.sdd_lists.specs.declared.linked_entry.LinkedEntry.{LinkedEntry};
 ghost use Rattle.sdd.specs.Calls.{OfWalk, WalksBag};
 
 use crate::bag::{Bag, IterMut, Stop};

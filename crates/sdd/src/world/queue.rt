@@ -6,14 +6,14 @@ ghost use Rattle.sdd_base.specs.Frame.{OnlyParticipant};
 ghost use Rattle.sdd_base.specs.Place.{IsShared};
 ghost use Rattle.sdd_base.specs.Steps.{released};
 ghost use Rattle.sdd_base.specs.Tokens.{shared_slot, ptr_slot, ptr_tag};
-ghost use Rattle.sdd.specs.Nodes.{NamesSomeEntry, IsListed};
+ghost use Rattle.sdd_lists.specs.Nodes.{NamesSomeEntry, IsListed};
 ghost use Rattle.std.specs.Fn.{FnOnceReturnsAt};
 ghost use Rattle.sdd.specs.Stacks.{took_entry};
-ghost use Rattle.sdd.specs.Chain.{Hangs, IsList, Leaves, Stays, undeleted, first_item, first_slot, front_tag, skip, links, slots};
-ghost use Rattle.sdd.specs.Entries.{entry_link};
+ghost use Rattle.sdd_lists.specs.Chain.{Hangs, IsList, Leaves, Stays, undeleted, first_item, first_slot, front_tag, skip, links, slots};
+ghost use Rattle.sdd_lists.specs.Entries.{entry_link};
 ghost use Rattle.sdd.specs.Iters.{iter_cell};
 ghost use Rattle.std.specs.Iterator.{IsFiniteIterable};
-ghost use Rattle.sdd.specs.Copies.{ClonesAreSame};
+ghost use Rattle.sdd_lists.specs.Copies.{ClonesAreSame};
 ghost use Rattle.sdd.specs.FromIter.{entry_values, Extends, FillsQueue, IfUnmade, IfNoSlot, IfUncopied, IfPartly};
 ghost use Rattle.sdd.specs.Refusals.{refused_value, IsCondition, IsNoSlot};
 ghost use Rattle.sdd.specs.Queues.{oldest_cell, newest_cell, HasOldest};
@@ -24,7 +24,7 @@ use crate::linked_entry::LinkedEntry;
 use crate::queue::Queue;
 use crate::refusal::{CloneRefused, FromIterRefused, NotMade, PushRefused};
 use crate::world::copies::Copied;
-use crate::world::{chain, copies, entries, tail};
+use crate::world::{copies, tail};
 use sdd_base::guard::WorldGuard;
 use sdd_base::job::Deferred;
 use sdd_base::link::Link;
@@ -34,6 +34,7 @@ use sdd_base::refusal::NoSlot;
 use sdd_base::status::Status;
 use sdd_base::tag::Tag;
 use sdd_base::world::{World, atomic_shared};
+use sdd_lists::world::{chain, entries};
 
 /// An empty queue, exactly if two cells are free.
 pub fn new<T, J: Deferred>(w: &mut World<LinkedEntry<T>, J>) -> Result<Queue<T>, NoSlot>

@@ -6,7 +6,7 @@ ghost use Rattle.std.specs.List.{sum_by};
 ghost use Rattle.sdd_base.specs.Frame.{OnlyParticipant};
 ghost use Rattle.sdd_base.specs.Place.{IsSharedCell};
 ghost use Rattle.sdd_base.specs.Tokens.{shared_cell};
-ghost use Rattle.sdd.specs.Chain.{Entry, Leaves, Stays, links, slots, undeleted};
+ghost use Rattle.sdd_lists.specs.Chain.{Entry, Leaves, Stays, links, slots, undeleted};
 ghost use Rattle.sdd.specs.Stacks.{IsSomeStack};
 ghost use Rattle.sdd.specs.Bags.{IsNull, IsRow, IsSomeRow, AreEmpty, IsClaimed, Puts, cell_of, joined, freed};
 ghost use Rattle.sdd.specs.Calls.{OfRow};
@@ -14,10 +14,10 @@ ghost use Rattle.sdd.specs.Calls.{OfRow};
 use crate::linked_entry::LinkedEntry;
 use crate::linked_list::LinkedList;
 use crate::refusal::NotMade;
-use crate::world::{chain, entries};
 use sdd_base::cell::AtomicShared;
 use sdd_base::job::Deferred;
 use sdd_base::world::{World, atomic_shared};
+use sdd_lists::world::{chain, entries};
 use std::alloc::Global;
 
 /// The place of the first cell, from `from` on, that keeps nothing, or of the first that keeps something.

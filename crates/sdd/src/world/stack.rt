@@ -6,13 +6,13 @@ ghost use Rattle.sdd_base.specs.Frame.{OnlyParticipant};
 ghost use Rattle.sdd_base.specs.Place.{IsShared};
 ghost use Rattle.sdd_base.specs.Steps.{released};
 ghost use Rattle.sdd_base.specs.Tokens.{link_cell, shared_slot, ptr_slot, ptr_tag};
-ghost use Rattle.sdd.specs.Nodes.{NamesSomeEntry, IsListed};
+ghost use Rattle.sdd_lists.specs.Nodes.{NamesSomeEntry, IsListed};
 ghost use Rattle.std.specs.Fn.{FnOnceReturnsAt};
-ghost use Rattle.sdd.specs.Chain.{Hangs, IsList, Leaves, Stays, undeleted, first_item, first_slot, front_tag, skip};
-ghost use Rattle.sdd.specs.Entries.{entry_link};
+ghost use Rattle.sdd_lists.specs.Chain.{Hangs, IsList, Leaves, Stays, undeleted, first_item, first_slot, front_tag, skip};
+ghost use Rattle.sdd_lists.specs.Entries.{entry_link};
 ghost use Rattle.sdd.specs.Iters.{iter_cell};
 ghost use Rattle.std.specs.Iterator.{IsFiniteIterable};
-ghost use Rattle.sdd.specs.Copies.{ClonesAreSame};
+ghost use Rattle.sdd_lists.specs.Copies.{ClonesAreSame};
 ghost use Rattle.sdd.specs.FromIter.{entry_values, ExtendsLast, FillsStack, IfUnmade, IfNoSlot, IfUncopied, IfPartly};
 ghost use Rattle.sdd.specs.Refusals.{refused_value, IsCondition, IsNoSlot};
 ghost use Rattle.sdd.specs.Stacks.{stack_cell, took_entry, IsSomeStack, Pushes};
@@ -23,7 +23,7 @@ use crate::linked_entry::LinkedEntry;
 use crate::refusal::{CloneRefused, FromIterRefused, NotMade, PushRefused};
 use crate::stack::Stack;
 use crate::world::copies::Copied;
-use crate::world::{chain, copies, entries, row};
+use crate::world::{copies, row};
 use sdd_base::guard::WorldGuard;
 use sdd_base::job::Deferred;
 use sdd_base::link::Link;
@@ -33,6 +33,7 @@ use sdd_base::refusal::NoSlot;
 use sdd_base::status::{Cell, Status};
 use sdd_base::tag::Tag;
 use sdd_base::world::{World, atomic_shared};
+use sdd_lists::world::{chain, entries};
 
 /// An empty stack, exactly if a cell is free.
 pub fn new<T, J: Deferred>(w: &mut World<LinkedEntry<T>, J>) -> Result<Stack<T>, NoSlot>

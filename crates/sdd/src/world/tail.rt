@@ -5,18 +5,18 @@ ghost use Rattle.sdd_base.specs.State.{cell_at};
 ghost use Rattle.sdd_base.specs.Frame.{OnlyParticipant};
 ghost use Rattle.sdd_base.specs.Place.{IsShared, IsSharedCell};
 ghost use Rattle.sdd_base.specs.Tokens.{shared_cell, shared_slot};
-ghost use Rattle.sdd.specs.Chain.{Stays};
+ghost use Rattle.sdd_lists.specs.Chain.{Stays};
 ghost use Rattle.sdd.specs.Queues.{CanFollow, HasTwo, cell_vacated};
 ghost use Rattle.sdd.specs.Calls.{AppendsLast, ClearsNewest};
 
 use crate::linked_list::LinkedList;
-use crate::world::chain;
 use sdd_base::cell::AtomicShared;
 use sdd_base::job::Deferred;
 use sdd_base::owner::Shared;
 use sdd_base::status::Cell;
 use sdd_base::tag::Tag;
 use sdd_base::world::{World, atomic_shared, shared};
+use sdd_lists::world::chain;
 
 /// Puts an entry behind the last one: `link` goes into the list, and `last` to the cell of the newest.
 pub(crate) fn append<L: LinkedList, J: Deferred>(

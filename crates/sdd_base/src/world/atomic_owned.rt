@@ -1,10 +1,10 @@
 //! Cells that keep the owner of an item, or none, with a tag.
 
 ghost use Rattle.std.specs.Prelude.{◌≡◌, ◌≢◌, ◌<◌, ℕ, length, IfOk, IfErr, OnOk, OnErr, Some, None, IsTrue, IsFalse, ◌↔◌, ◌⊎◌, Option};
-ghost use Rattle.sdd_base.specs.State.{local_at, IsFree, NoneFree, IsFreeCell, NoCellFree, placed, with_cell, with_tag, cell_at};
-ghost use Rattle.sdd_base.specs.Steps.{owned_ended};
-ghost use Rattle.sdd_base.specs.Frame.{Frame, OnlyParticipant};
-ghost use Rattle.sdd_base.specs.Place.{IsOwnedCell};
+ghost use Rattle.sdd_table.specs.State.{local_at, IsFree, NoneFree, IsFreeCell, NoCellFree, placed, with_cell, with_tag, cell_at};
+ghost use Rattle.sdd_table.specs.Steps.{owned_ended};
+ghost use Rattle.sdd_table.specs.Frame.{Frame, OnlyParticipant};
+ghost use Rattle.sdd_table.specs.Place.{IsOwnedCell};
 ghost use Rattle.sdd_base.specs.Tokens.{owned_cell, owned_slot, owned_slots, ptr_slot, ptr_tag};
 
 use crate::cell::AtomicOwned;
@@ -12,11 +12,11 @@ use crate::guard::WorldGuard;
 use crate::job::Deferred;
 use crate::owner::Owned;
 use crate::pointer::{Finder, Found, Ptr};
-use crate::reclaim;
 use crate::refusal::NoSlot;
 use crate::status::{Cell, Status};
 use crate::tag::Tag;
 use crate::world::World;
+use sdd_table::{reclaim, tokens};
 use std::marker::PhantomData;
 
 /// Makes an item of `value` and a cell that keeps it, without a tag, exactly if a slot and a cell are free; else
@@ -33,7 +33,7 @@ pub fn new<T, J: Deferred>(w: &mut World<T, J>, value: T) -> Result<AtomicOwned<
     }
     match w.table.place(value, Status::Owned) {
         Ok(slot) => match w.table.claim_cell(Cell::OfOwned(Some(slot), Tag::None)) {
-            Some(cell) => Ok(AtomicOwned::of_cell(cell)),
+            Some(cell) => Ok(tokens::owned_cell_at(cell)),
             None => unreachable!(),
         },
         Err(_) => unreachable!(),
@@ -51,14 +51,11 @@ pub fn from<T, J: Deferred>(
     ensures used { IfOk result (λ c. IsOwnedCell w.new (owned_cell c)) }
     ensures keeps { Frame w.old w.new }
 {
-    match w
-        .table
-        .claim_cell(Cell::OfOwned(Some(owned.slot), Tag::None))
-    {
+    match w.table.claim_cell(Cell::OfOwned(Some(tokens::slot_of_owned(&owned)), Tag::None)) {
         None => Err(owned),
         Some(cell) => {
-            let Owned { slot: _, of: _ } = owned;
-            Ok(AtomicOwned::of_cell(cell))
+            tokens::spend_owned(owned);
+            Ok(tokens::owned_cell_at(cell))
         }
     }
 }
@@ -72,7 +69,7 @@ pub fn null<T, J: Deferred>(w: &mut World<T, J>) -> Result<AtomicOwned<T>, NoSlo
 {
     match w.table.claim_cell(Cell::OfOwned(None, Tag::None)) {
         None => Err(NoSlot),
-        Some(cell) => Ok(AtomicOwned::of_cell(cell)),
+        Some(cell) => Ok(tokens::owned_cell_at(cell)),
     }
 }
 
@@ -85,7 +82,7 @@ pub fn load<T, J: Deferred>(
     requires { IsOwnedCell w.now (owned_cell cell.now) }
     ensures { cell_at w.now (owned_cell cell.now) ≡ Cell.OfOwned (ptr_slot result) (ptr_tag result) }
 {
-    match w.table.cell(cell.cell) {
+    match w.table.cell(tokens::number_of_owned_cell(cell)) {
         Cell::OfOwned(slot, tag) => Ptr {
             slot,
             tag,
@@ -101,7 +98,8 @@ pub fn is_here<T, J: Deferred>(w: &World<T, J>, cell: &AtomicOwned<T>) -> bool
     ensures here { IsTrue result → IsOwnedCell w.now (owned_cell cell.now) }
     ensures gone { IsFalse result → ¬ IsOwnedCell w.now (owned_cell cell.now) }
 {
-    cell.cell < w.table.cells() && matches!(w.table.cell(cell.cell), Cell::OfOwned(_, _))
+    let number = tokens::number_of_owned_cell(cell);
+    number < w.table.cells() && matches!(w.table.cell(number), Cell::OfOwned(_, _))
 }
 
 /// Whether the cell keeps nothing.
@@ -109,7 +107,7 @@ pub fn is_null<T, J: Deferred>(w: &World<T, J>, cell: &AtomicOwned<T>) -> bool
     requires { IsOwnedCell w.now (owned_cell cell.now) }
     ensures { (item : Option ℕ) (tag : Tag) → cell_at w.now (owned_cell cell.now) ≡ Cell.OfOwned item tag → IsTrue result ↔ (item ≡ None) }
 {
-    match w.table.cell(cell.cell) {
+    match w.table.cell(tokens::number_of_owned_cell(cell)) {
         Cell::OfOwned(slot, _) => slot.is_none(),
         _ => unreachable!(),
     }
@@ -120,7 +118,7 @@ pub fn tag<T, J: Deferred>(w: &World<T, J>, cell: &AtomicOwned<T>) -> Tag
     requires { IsOwnedCell w.now (owned_cell cell.now) }
     ensures { (item : Option ℕ) (tag : Tag) → cell_at w.now (owned_cell cell.now) ≡ Cell.OfOwned item tag → result ≡ tag }
 {
-    match w.table.cell(cell.cell) {
+    match w.table.cell(tokens::number_of_owned_cell(cell)) {
         Cell::OfOwned(_, tag) => tag,
         _ => unreachable!(),
     }
@@ -141,9 +139,10 @@ pub fn swap<T, J: Deferred>(
 {
     let (item, tag) = new;
     let slot = into_slot(item);
-    match w.table.cell(cell.cell) {
+    let number = tokens::number_of_owned_cell(cell);
+    match w.table.cell(number) {
         Cell::OfOwned(old, old_tag) => {
-            w.table.set_cell(cell.cell, Cell::OfOwned(slot, tag));
+            w.table.set_cell(number, Cell::OfOwned(slot, tag));
             (of_slot(old), old_tag)
         }
         _ => unreachable!(),
@@ -166,12 +165,13 @@ pub fn update_tag_if<T, J: Deferred, P: Found<T>, F: FnOnce(P) -> bool>(
     ensures used { IsOwnedCell w.new (owned_cell cell.now) }
     ensures keeps { Frame w.old w.new }
 {
-    match w.table.cell(cell.cell) {
+    let number = tokens::number_of_owned_cell(cell);
+    match w.table.cell(number) {
         Cell::OfOwned(slot, old) => {
             if !f(P::found(slot, old, Finder { own: () })) {
                 return false;
             }
-            w.table.set_cell(cell.cell, Cell::OfOwned(slot, tag));
+            w.table.set_cell(number, Cell::OfOwned(slot, tag));
             true
         }
         _ => unreachable!(),
@@ -196,7 +196,8 @@ pub fn compare_exchange<T, J: Deferred>(
     ensures used { IsOwnedCell w.new (owned_cell cell.now) }
     ensures keeps { Frame w.old w.new }
 {
-    match w.table.cell(cell.cell) {
+    let number = tokens::number_of_owned_cell(cell);
+    match w.table.cell(number) {
         Cell::OfOwned(old, old_tag) => {
             let (item, tag) = new;
             if old != current.slot || old_tag != current.tag {
@@ -210,7 +211,7 @@ pub fn compare_exchange<T, J: Deferred>(
                 ));
             }
             let slot = into_slot(item);
-            w.table.set_cell(cell.cell, Cell::OfOwned(slot, tag));
+            w.table.set_cell(number, Cell::OfOwned(slot, tag));
             Ok((
                 of_slot(old),
                 Ptr {
@@ -251,7 +252,7 @@ pub fn into_owned<T, J: Deferred>(w: &mut World<T, J>, cell: AtomicOwned<T>) -> 
     ensures ended { w.new ≡ with_cell (owned_cell cell) Cell.Free w.old }
     ensures keeps { Frame w.old w.new }
 {
-    let AtomicOwned { cell, of: _ } = cell;
+    let cell = tokens::spend_owned_cell(cell);
     match w.table.cell(cell) {
         Cell::OfOwned(slot, _) => {
             w.table.free_cell(cell);
@@ -270,7 +271,7 @@ pub fn retire<T, J: Deferred>(w: &mut World<T, J>, cell: AtomicOwned<T>, p: usiz
     ensures keeps { Frame w.old w.new }
     ensures only { OnlyParticipant p w.old w.new }
 {
-    let AtomicOwned { cell, of: _ } = cell;
+    let cell = tokens::spend_owned_cell(cell);
     reclaim::end_owned(&mut w.table, p, cell);
 }
 
@@ -280,7 +281,7 @@ fn into_slot<T>(item: Option<Owned<T>>) -> Option<usize>
 {
     match item {
         None => None,
-        Some(Owned { slot, of: _ }) => Some(slot),
+        Some(owned) => Some(tokens::spend_owned(owned)),
     }
 }
 
@@ -290,6 +291,6 @@ fn of_slot<T>(slot: Option<usize>) -> Option<Owned<T>>
 {
     match slot {
         None => None,
-        Some(slot) => Some(Owned::of_slot(slot)),
+        Some(slot) => Some(tokens::owned_at(slot)),
     }
 }

@@ -1,9 +1,9 @@
 //! Cells that name an item which they don't own, or none, with a tag.
 
 ghost use Rattle.std.specs.Prelude.{◌≡◌, ◌≢◌, ℕ, IfOk, IfErr, OnOk, OnErr, Some, None, IsTrue, IsFalse, ◌↔◌, Option};
-ghost use Rattle.sdd_base.specs.State.{IsFreeCell, NoCellFree, with_cell, with_tag, cell_at};
-ghost use Rattle.sdd_base.specs.Frame.{Frame};
-ghost use Rattle.sdd_base.specs.Place.{IsRawCell};
+ghost use Rattle.sdd_table.specs.State.{IsFreeCell, NoCellFree, with_cell, with_tag, cell_at};
+ghost use Rattle.sdd_table.specs.Frame.{Frame};
+ghost use Rattle.sdd_table.specs.Place.{IsRawCell};
 ghost use Rattle.sdd_base.specs.Tokens.{raw_cell, raw_slot, raw_tag};
 
 use crate::cell::AtomicRaw;

@@ -1,10 +1,10 @@
 //! Cells that keep one owner of an item, or none, with a tag.
 
 ghost use Rattle.std.specs.Prelude.{◌≡◌, ◌≢◌, ◌<◌, ℕ, length, IfOk, IfErr, IfSome, IfNone, OnOk, OnErr, Some, None, IsTrue, IsFalse, ◌↔◌, ◌⊎◌, Option, is_some, true};
-ghost use Rattle.sdd_base.specs.State.{local_at, IsFree, NoneFree, IsFreeCell, NoCellFree, placed, value_at, with_cell, with_tag, cell_at, status_at};
-ghost use Rattle.sdd_base.specs.Steps.{shared_ended};
-ghost use Rattle.sdd_base.specs.Frame.{Frame, OnlyParticipant};
-ghost use Rattle.sdd_base.specs.Place.{IsReadable, IsShared, IsSharedCell, AddsOwner, TakesNoOwner, CopiesCell};
+ghost use Rattle.sdd_table.specs.State.{local_at, IsFree, NoneFree, IsFreeCell, NoCellFree, placed, value_at, with_cell, with_tag, cell_at, status_at};
+ghost use Rattle.sdd_table.specs.Steps.{shared_ended};
+ghost use Rattle.sdd_table.specs.Frame.{Frame, OnlyParticipant};
+ghost use Rattle.sdd_table.specs.Place.{IsReadable, IsShared, IsSharedCell, AddsOwner, TakesNoOwner, CopiesCell};
 ghost use Rattle.sdd_base.specs.Tokens.{loaded_slot, shared_cell, shared_slot, shared_slots, ptr_slot, ptr_tag};
 
 use crate::cell::AtomicShared;
@@ -12,11 +12,11 @@ use crate::guard::WorldGuard;
 use crate::job::Deferred;
 use crate::owner::Shared;
 use crate::pointer::{Finder, Found, Loaded, Ptr};
-use crate::reclaim;
 use crate::refusal::NoSlot;
 use crate::status::{Cell, Status};
 use crate::tag::Tag;
 use crate::world::{World, ptr};
+use sdd_table::{reclaim, tokens};
 use std::marker::PhantomData;
 
 /// Makes an item of `value` and a cell that keeps it, without a tag, exactly if a slot and a cell are free; else
@@ -33,7 +33,7 @@ pub fn new<T, J: Deferred>(w: &mut World<T, J>, value: T) -> Result<AtomicShared
     }
     match w.table.place(value, Status::Shared(1)) {
         Ok(slot) => match w.table.claim_cell(Cell::OfShared(Some(slot), Tag::None)) {
-            Some(cell) => Ok(AtomicShared::of_cell(cell)),
+            Some(cell) => Ok(tokens::shared_cell_at(cell)),
             None => unreachable!(),
         },
         Err(_) => unreachable!(),
@@ -51,14 +51,11 @@ pub fn from<T, J: Deferred>(
     ensures used { IfOk result (λ c. IsSharedCell w.new (shared_cell c)) }
     ensures keeps { Frame w.old w.new }
 {
-    match w
-        .table
-        .claim_cell(Cell::OfShared(Some(shared.slot), Tag::None))
-    {
+    match w.table.claim_cell(Cell::OfShared(Some(tokens::slot_of_shared(&shared)), Tag::None)) {
         None => Err(shared),
         Some(cell) => {
-            let Shared { slot: _, of: _ } = shared;
-            Ok(AtomicShared::of_cell(cell))
+            tokens::spend_shared(shared);
+            Ok(tokens::shared_cell_at(cell))
         }
     }
 }
@@ -72,7 +69,7 @@ pub fn null<T, J: Deferred>(w: &mut World<T, J>) -> Result<AtomicShared<T>, NoSl
 {
     match w.table.claim_cell(Cell::OfShared(None, Tag::None)) {
         None => Err(NoSlot),
-        Some(cell) => Ok(AtomicShared::of_cell(cell)),
+        Some(cell) => Ok(tokens::shared_cell_at(cell)),
     }
 }
 
@@ -85,7 +82,7 @@ pub fn load<T, J: Deferred>(
     requires { IsSharedCell w.now (shared_cell cell.now) }
     ensures { cell_at w.now (shared_cell cell.now) ≡ Cell.OfShared (ptr_slot result) (ptr_tag result) }
 {
-    match w.table.cell(cell.cell) {
+    match w.table.cell(tokens::number_of_shared_cell(cell)) {
         Cell::OfShared(slot, tag) => Ptr {
             slot,
             tag,
@@ -104,11 +101,8 @@ pub fn loaded<T, J: Deferred>(
     requires { IsSharedCell w.now (shared_cell cell.now) }
     ensures { (tag : Tag) × (cell_at w.now (shared_cell cell.now) ≡ Cell.OfShared (loaded_slot result) tag) }
 {
-    match w.table.cell(cell.cell) {
-        Cell::OfShared(slot, _) => Loaded {
-            slot,
-            of: PhantomData,
-        },
+    match w.table.cell(tokens::number_of_shared_cell(cell)) {
+        Cell::OfShared(slot, _) => tokens::loaded_at(slot),
         _ => unreachable!(),
     }
 }
@@ -121,7 +115,7 @@ pub fn as_ref<'w, T, J: Deferred>(w: &'w World<T, J>, cell: &AtomicShared<T>) ->
     ensures item { (i : ℕ) (tag : Tag) → cell_at w.now (shared_cell cell.now) ≡ Cell.OfShared (Some i) tag → is_some result ≡ true }
     ensures value { (i : ℕ) (tag : Tag) → cell_at w.now (shared_cell cell.now) ≡ Cell.OfShared (Some i) tag → IfSome result (λ v. Some v.now ≡ value_at w.now i) }
 {
-    match w.table.cell(cell.cell) {
+    match w.table.cell(tokens::number_of_shared_cell(cell)) {
         Cell::OfShared(None, _) => None,
         Cell::OfShared(Some(slot), _) => Some(w.table.value(slot)),
         _ => unreachable!(),
@@ -134,7 +128,8 @@ pub fn is_here<T, J: Deferred>(w: &World<T, J>, cell: &AtomicShared<T>) -> bool
     ensures here { IsTrue result → IsSharedCell w.now (shared_cell cell.now) }
     ensures gone { IsFalse result → ¬ IsSharedCell w.now (shared_cell cell.now) }
 {
-    cell.cell < w.table.cells() && matches!(w.table.cell(cell.cell), Cell::OfShared(_, _))
+    let number = tokens::number_of_shared_cell(cell);
+    number < w.table.cells() && matches!(w.table.cell(number), Cell::OfShared(_, _))
 }
 
 /// Whether the cell keeps nothing.
@@ -142,7 +137,7 @@ pub fn is_null<T, J: Deferred>(w: &World<T, J>, cell: &AtomicShared<T>) -> bool
     requires { IsSharedCell w.now (shared_cell cell.now) }
     ensures { (item : Option ℕ) (tag : Tag) → cell_at w.now (shared_cell cell.now) ≡ Cell.OfShared item tag → IsTrue result ↔ (item ≡ None) }
 {
-    match w.table.cell(cell.cell) {
+    match w.table.cell(tokens::number_of_shared_cell(cell)) {
         Cell::OfShared(slot, _) => slot.is_none(),
         _ => unreachable!(),
     }
@@ -153,7 +148,7 @@ pub fn tag<T, J: Deferred>(w: &World<T, J>, cell: &AtomicShared<T>) -> Tag
     requires { IsSharedCell w.now (shared_cell cell.now) }
     ensures { (item : Option ℕ) (tag : Tag) → cell_at w.now (shared_cell cell.now) ≡ Cell.OfShared item tag → result ≡ tag }
 {
-    match w.table.cell(cell.cell) {
+    match w.table.cell(tokens::number_of_shared_cell(cell)) {
         Cell::OfShared(_, tag) => tag,
         _ => unreachable!(),
     }
@@ -174,9 +169,10 @@ pub fn swap<T, J: Deferred>(
 {
     let (item, tag) = new;
     let slot = into_slot(item);
-    match w.table.cell(cell.cell) {
+    let number = tokens::number_of_shared_cell(cell);
+    match w.table.cell(number) {
         Cell::OfShared(old, old_tag) => {
-            w.table.set_cell(cell.cell, Cell::OfShared(slot, tag));
+            w.table.set_cell(number, Cell::OfShared(slot, tag));
             (of_slot(old), old_tag)
         }
         _ => unreachable!(),
@@ -199,12 +195,13 @@ pub fn update_tag_if<T, J: Deferred, P: Found<T>, F: FnOnce(P) -> bool>(
     ensures used { IsSharedCell w.new (shared_cell cell.now) }
     ensures keeps { Frame w.old w.new }
 {
-    match w.table.cell(cell.cell) {
+    let number = tokens::number_of_shared_cell(cell);
+    match w.table.cell(number) {
         Cell::OfShared(slot, old) => {
             if !f(P::found(slot, old, Finder { own: () })) {
                 return false;
             }
-            w.table.set_cell(cell.cell, Cell::OfShared(slot, tag));
+            w.table.set_cell(number, Cell::OfShared(slot, tag));
             true
         }
         _ => unreachable!(),
@@ -229,7 +226,8 @@ pub fn compare_exchange<T, J: Deferred>(
     ensures used { IsSharedCell w.new (shared_cell cell.now) }
     ensures keeps { Frame w.old w.new }
 {
-    match w.table.cell(cell.cell) {
+    let number = tokens::number_of_shared_cell(cell);
+    match w.table.cell(number) {
         Cell::OfShared(old, old_tag) => {
             let (item, tag) = new;
             if old != current.slot || old_tag != current.tag {
@@ -243,7 +241,7 @@ pub fn compare_exchange<T, J: Deferred>(
                 ));
             }
             let slot = into_slot(item);
-            w.table.set_cell(cell.cell, Cell::OfShared(slot, tag));
+            w.table.set_cell(number, Cell::OfShared(slot, tag));
             Ok((
                 of_slot(old),
                 Ptr {
@@ -290,7 +288,7 @@ pub fn get_shared<T, J: Deferred>(
     ensures live { IfSome result (λ s. IsShared w.new (shared_slot s)) }
     ensures keeps { Frame w.old w.new }
 {
-    match w.table.cell(cell.cell) {
+    match w.table.cell(tokens::number_of_shared_cell(cell)) {
         Cell::OfShared(None, _) => None,
         Cell::OfShared(Some(slot), _) => ptr::add_owner(w, slot),
         _ => unreachable!(),
@@ -317,7 +315,7 @@ pub fn clone<T, J: Deferred>(
     let tag = tag(w, cell);
     let shared = get_shared(w, cell, guard);
     match w.table.claim_cell(Cell::OfShared(into_slot(shared), tag)) {
-        Some(cell) => Ok(AtomicShared::of_cell(cell)),
+        Some(cell) => Ok(tokens::shared_cell_at(cell)),
         None => unreachable!(),
     }
 }
@@ -329,7 +327,7 @@ pub fn into_shared<T, J: Deferred>(w: &mut World<T, J>, cell: AtomicShared<T>) -
     ensures ended { w.new ≡ with_cell (shared_cell cell) Cell.Free w.old }
     ensures keeps { Frame w.old w.new }
 {
-    let AtomicShared { cell, of: _ } = cell;
+    let cell = tokens::spend_shared_cell(cell);
     match w.table.cell(cell) {
         Cell::OfShared(slot, _) => {
             w.table.free_cell(cell);
@@ -348,7 +346,7 @@ pub fn retire<T, J: Deferred>(w: &mut World<T, J>, cell: AtomicShared<T>, p: usi
     ensures keeps { Frame w.old w.new }
     ensures only { OnlyParticipant p w.old w.new }
 {
-    let AtomicShared { cell, of: _ } = cell;
+    let cell = tokens::spend_shared_cell(cell);
     reclaim::end_shared(&mut w.table, p, cell);
 }
 
@@ -358,7 +356,7 @@ fn into_slot<T>(item: Option<Shared<T>>) -> Option<usize>
 {
     match item {
         None => None,
-        Some(Shared { slot, of: _ }) => Some(slot),
+        Some(shared) => Some(tokens::spend_shared(shared)),
     }
 }
 
@@ -368,6 +366,6 @@ fn of_slot<T>(slot: Option<usize>) -> Option<Shared<T>>
 {
     match slot {
         None => None,
-        Some(slot) => Some(Shared::of_slot(slot)),
+        Some(slot) => Some(tokens::shared_at(slot)),
     }
 }

@@ -1,20 +1,20 @@
 //! Opening and closing guards.
 
 ghost use Rattle.std.specs.Prelude.{◌≡◌, ◌<◌, ◌%◌, true, ℕ, length, IfOk, IfErr, OnOk, OnErr, IsErr, ◌↔◌, IsTrue, IsFalse};
-ghost use Rattle.sdd_base.specs.State.{with_local, local_at, waiting_as, IsIdle, NoneIdle};
-ghost use Rattle.sdd_base.specs.Steps.{guard_opened, guard_closed};
-ghost use Rattle.sdd_base.specs.Frame.{Frame, OnlyParticipant};
-ghost use Rattle.sdd_base.specs.Place.{IsOpen};
+ghost use Rattle.sdd_table.specs.State.{with_local, local_at, waiting_as, IsIdle, NoneIdle};
+ghost use Rattle.sdd_table.specs.Steps.{guard_opened, guard_closed};
+ghost use Rattle.sdd_table.specs.Frame.{Frame, OnlyParticipant};
+ghost use Rattle.sdd_table.specs.Place.{IsOpen};
 ghost use Rattle.sdd_base.specs.Tokens.{guard_participant};
 
 use crate::epoch::Epoch;
 use crate::guard::WorldGuard;
 use crate::holds::Holds;
 use crate::job::Deferred;
-use crate::reclaim;
 use crate::refusal::Nested;
 use crate::status::{Status, is_last};
 use crate::world::World;
+use sdd_table::reclaim;
 
 /// Opens a guard of participant `p`, within those that are open. An outermost opening publishes the count of raises
 /// and, where that isn't the one found before, moves the bags of `p` on and reclaims what was in the oldest.

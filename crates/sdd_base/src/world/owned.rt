@@ -2,11 +2,11 @@
 
 ghost use Rattle.std.specs.Prelude.{◌≡◌, ◌≢◌, ◌<◌, ℕ, length, IfOk, IfErr, IfSome, OnOk, OnErr, Some, None, ◌↔◌, IfNone, IsErr, IsTrue, IsFalse};
 ghost use Rattle.std.specs.Borrow.{LendsIfOk, sem};
-ghost use Rattle.sdd_base.specs.State.{local_at, IsFree, NoneFree, placed, value_at, retired, with_status, status_at};
-ghost use Rattle.sdd_base.specs.Frame.{Frame, OnlyParticipant};
-ghost use Rattle.sdd_base.specs.Dropping.{Dropped};
-ghost use Rattle.sdd_base.specs.Holding.{OwnedItem};
-ghost use Rattle.sdd_base.specs.Place.{IsOpen, IsOwned};
+ghost use Rattle.sdd_table.specs.State.{local_at, IsFree, NoneFree, placed, value_at, retired, with_status, status_at};
+ghost use Rattle.sdd_table.specs.Frame.{Frame, OnlyParticipant};
+ghost use Rattle.sdd_table.specs.Dropping.{Dropped};
+ghost use Rattle.sdd_table.specs.Holding.{OwnedItem};
+ghost use Rattle.sdd_table.specs.Place.{IsOpen, IsOwned};
 ghost use Rattle.sdd_base.specs.Tokens.{owned_slot, ptr_slot, ptr_tag, raw_slot, raw_tag};
 
 use crate::exclusive_access::ExclusiveAccess;
@@ -15,11 +15,11 @@ use crate::holds::{Held, Holds};
 use crate::job::Deferred;
 use crate::owner::Owned;
 use crate::pointer::{Ptr, RawPtr};
-use crate::reclaim;
 use crate::refusal::{GuardsOpen, NoSlot};
 use crate::status::Status;
 use crate::tag::Tag;
 use crate::world::World;
+use sdd_table::{reclaim, tokens};
 use std::marker::PhantomData;
 
 /// Makes an item of `value`, exactly if a slot is free; else `value` comes back.
@@ -30,7 +30,7 @@ pub fn new<T, J: Deferred>(w: &mut World<T, J>, value: T) -> Result<Owned<T>, T>
     ensures value { IfOk result (λ o. value_at w.new (owned_slot o) ≡ Some value) }
     ensures keeps { Frame w.old w.new }
 {
-    Ok(Owned::of_slot(w.table.place(value, Status::Owned)?))
+    Ok(tokens::owned_at(w.table.place(value, Status::Owned)?))
 }
 
 /// Makes an item of what `f` gives, exactly if a slot is free; else `f` isn't called.
@@ -47,7 +47,7 @@ pub fn new_with<T, J: Deferred, F: FnOnce() -> T + Drop>(
         return Err(NoSlot);
     }
     match w.table.place(f(), Status::Owned) {
-        Ok(slot) => Ok(Owned::of_slot(slot)),
+        Ok(slot) => Ok(tokens::owned_at(slot)),
         Err(_) => unreachable!(),
     }
 }
@@ -57,7 +57,7 @@ pub fn as_ref<'w, T, J: Deferred>(w: &'w World<T, J>, owned: &Owned<T>) -> &'w T
     requires { IsOwned w.now (owned_slot owned.now) }
     ensures { Some result.now ≡ value_at w.now (owned_slot owned.now) }
 {
-    w.table.value(owned.slot)
+    w.table.value(tokens::slot_of_owned(owned))
 }
 
 /// The value of an item, for writing; refused while a guard of any participant is open, and then nothing has changed.
@@ -89,7 +89,8 @@ pub fn is_here<T, J: Deferred>(w: &World<T, J>, owned: &Owned<T>) -> bool
     ensures here { IsTrue result → IsOwned w.now (owned_slot owned.now) }
     ensures gone { IsFalse result → ¬ IsOwned w.now (owned_slot owned.now) }
 {
-    owned.slot < w.table.places() && matches!(w.table.status(owned.slot), Status::Owned)
+    let slot = tokens::slot_of_owned(owned);
+    slot < w.table.places() && matches!(w.table.status(slot), Status::Owned)
 }
 
 /// A pointer to the item, without a tag.
@@ -98,7 +99,7 @@ pub fn get_guarded_ptr<T>(owned: &Owned<T>, _guard: &WorldGuard) -> Ptr<'static,
     ensures tag { ptr_tag result ≡ Tag.None }
 {
     Ptr {
-        slot: Some(owned.slot),
+        slot: Some(tokens::slot_of_owned(owned)),
         tag: Tag::None,
         of: PhantomData,
     }
@@ -113,7 +114,7 @@ pub fn get_guarded_ref<'w, T, J: Deferred>(
     requires { IsOwned w.now (owned_slot owned.now) }
     ensures { Some result.now ≡ value_at w.now (owned_slot owned.now) }
 {
-    w.table.value(owned.slot)
+    w.table.value(tokens::slot_of_owned(owned))
 }
 
 /// The item is out as a raw pointer, and its owner is spent.
@@ -124,7 +125,7 @@ pub fn into_raw<T, J: Deferred>(w: &mut World<T, J>, owned: Owned<T>) -> RawPtr<
     ensures state { w.new ≡ with_status (owned_slot owned) Status.Raw w.old }
     ensures keeps { Frame w.old w.new }
 {
-    let Owned { slot, of: _ } = owned;
+    let slot = tokens::spend_owned(owned);
     w.table.set_status(slot, Status::Raw);
     RawPtr {
         slot: Some(slot),
@@ -144,7 +145,7 @@ pub fn from_raw<T, J: Deferred>(w: &mut World<T, J>, ptr: RawPtr<T>) -> Option<O
     match w.table.status_of(slot) {
         Status::Raw => {
             w.table.set_status(slot, Status::Owned);
-            Some(Owned::of_slot(slot))
+            Some(tokens::owned_at(slot))
         }
         _ => None,
     }
@@ -179,6 +180,6 @@ pub fn retire<T, J: Deferred>(w: &mut World<T, J>, owned: Owned<T>, p: usize)
     ensures keeps { Frame w.old w.new }
     ensures only { OnlyParticipant p w.old w.new }
 {
-    let Owned { slot, of: _ } = owned;
+    let slot = tokens::spend_owned(owned);
     w.table.retire(p, slot);
 }

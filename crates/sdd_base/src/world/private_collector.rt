@@ -4,11 +4,11 @@
 //! more, and notes the count of raises of what it takes in.
 
 ghost use Rattle.std.specs.Prelude.{◌≡◌, ◌<◌, ℕ, [], length, leb, IfOk, IsTrue, IsFalse};
-ghost use Rattle.sdd_base.specs.State.{status_at, local_at};
-ghost use Rattle.sdd_base.specs.Steps.{released, handed_over};
+ghost use Rattle.sdd_table.specs.State.{status_at, local_at};
+ghost use Rattle.sdd_table.specs.Steps.{released, handed_over};
 ghost use Rattle.sdd_base.specs.Collecting.{CollectsOwned, collected, left_with, swept_by, left_in};
-ghost use Rattle.sdd_base.specs.Frame.{Frame, OnlyParticipant};
-ghost use Rattle.sdd_base.specs.Place.{IsOwned, IsShared};
+ghost use Rattle.sdd_table.specs.Frame.{Frame, OnlyParticipant};
+ghost use Rattle.sdd_table.specs.Place.{IsOwned, IsShared};
 ghost use Rattle.sdd_base.specs.Tokens.{owned_slot, shared_slot, guard_participant, waiting_in, room_of};
 
 use crate::collector::PrivateCollector;
@@ -16,9 +16,9 @@ use crate::guard::WorldGuard;
 use crate::holds::Holds;
 use crate::job::Deferred;
 use crate::owner::{Owned, Shared};
-use crate::reclaim;
 use crate::status::Status;
 use crate::world::World;
+use sdd_table::{reclaim, tokens};
 use std::alloc::{AllocError, Global};
 use std::collections::VecDeque;
 use std::marker::PhantomData;
@@ -54,7 +54,7 @@ pub fn collect_owned<T: Holds, J: Deferred>(
     ensures keeps { Frame w.old w.new }
     ensures only { OnlyParticipant (guard_participant guard.now) w.old w.new }
 {
-    let Owned { slot, of: _ } = owned;
+    let slot = tokens::spend_owned(owned);
     let p = guard.participant;
     reclaim::purge(&mut w.table, p, &mut collector.waiting);
     let _kept = reclaim::leave_owned(&mut w.table, p, &mut collector.waiting, slot);
@@ -82,7 +82,7 @@ pub fn collect_shared<T: Holds, J: Deferred>(
     ensures keeps { Frame w.old w.new }
     ensures only { OnlyParticipant (guard_participant guard.now) w.old w.new }
 {
-    let Shared { slot, of: _ } = shared;
+    let slot = tokens::spend_shared(shared);
     let p = guard.participant;
     reclaim::purge(&mut w.table, p, &mut collector.waiting);
     reclaim::leave_shared(&mut w.table, p, &mut collector.waiting, slot)

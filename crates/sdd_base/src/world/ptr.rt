@@ -1,9 +1,9 @@
 //! Owners from pointers.
 
 ghost use Rattle.std.specs.Prelude.{◌≡◌, ◌<◌, ◌+◌, ℕ, IfSome, Some, None, IfNone};
-ghost use Rattle.sdd_base.specs.State.{status_at};
-ghost use Rattle.sdd_base.specs.Frame.{Frame};
-ghost use Rattle.sdd_base.specs.Place.{IsShared, AddsOwner, TakesNoOwner};
+ghost use Rattle.sdd_table.specs.State.{status_at};
+ghost use Rattle.sdd_table.specs.Frame.{Frame};
+ghost use Rattle.sdd_table.specs.Place.{IsShared, AddsOwner, TakesNoOwner};
 ghost use Rattle.sdd_base.specs.Tokens.{shared_slot, ptr_slot};
 
 use crate::job::Deferred;
@@ -11,6 +11,7 @@ use crate::owner::Shared;
 use crate::pointer::Ptr;
 use crate::status::{Status, is_last};
 use crate::world::World;
+use sdd_table::tokens;
 
 /// One more owner of the item in `slot`, where it is a `Shared` one below the greatest count.
 pub(crate) fn add_owner<T, J: Deferred>(w: &mut World<T, J>, slot: usize) -> Option<Shared<T>>
@@ -26,7 +27,7 @@ pub(crate) fn add_owner<T, J: Deferred>(w: &mut World<T, J>, slot: usize) -> Opt
                 return None;
             }
             w.table.set_status(slot, Status::Shared(owners + 1));
-            Some(Shared::of_slot(slot))
+            Some(tokens::shared_at(slot))
         }
         _ => None,
     }

@@ -1,7 +1,7 @@
 //! Raw pointers under a guard.
 
 ghost use Rattle.std.specs.Prelude.{◌≡◌, ◌≢◌, IfSome, Some, None, IfNone};
-ghost use Rattle.sdd_base.specs.State.{status_at};
+ghost use Rattle.sdd_table.specs.State.{status_at};
 ghost use Rattle.sdd_base.specs.Tokens.{ptr_slot, ptr_tag, raw_slot, raw_tag};
 
 use crate::guard::WorldGuard;

@@ -2,12 +2,12 @@
 
 ghost use Rattle.std.specs.Prelude.{◌≡◌, ◌<◌, ◌+◌, ℕ, length, leb, IfOk, IfErr, IfSome, OnErr, Some, None, IfNone, IsTrue, ◌↔◌, OnOk, IsErr, IsErrOf, IsSome, IsFalse};
 ghost use Rattle.std.specs.Borrow.{LendsIfOk, sem};
-ghost use Rattle.sdd_base.specs.State.{local_at, IsFree, NoneFree, placed, value_at, status_at};
-ghost use Rattle.sdd_base.specs.Steps.{released};
-ghost use Rattle.sdd_base.specs.Frame.{Frame, OnlyParticipant};
-ghost use Rattle.sdd_base.specs.Dropping.{Dropped};
-ghost use Rattle.sdd_base.specs.Holding.{SharedItem};
-ghost use Rattle.sdd_base.specs.Place.{IsOpen, IsShared, HasOneOwner, AddsOwner, TakesNoOwner};
+ghost use Rattle.sdd_table.specs.State.{local_at, IsFree, NoneFree, placed, value_at, status_at};
+ghost use Rattle.sdd_table.specs.Steps.{released};
+ghost use Rattle.sdd_table.specs.Frame.{Frame, OnlyParticipant};
+ghost use Rattle.sdd_table.specs.Dropping.{Dropped};
+ghost use Rattle.sdd_table.specs.Holding.{SharedItem};
+ghost use Rattle.sdd_table.specs.Place.{IsOpen, IsShared, HasOneOwner, AddsOwner, TakesNoOwner};
 ghost use Rattle.sdd_base.specs.Tokens.{kept_slot, loaded_slot, shared_slot, ptr_slot, ptr_tag};
 
 use crate::exclusive_access::ExclusiveAccess;
@@ -16,11 +16,11 @@ use crate::holds::{Held, Holds};
 use crate::job::Deferred;
 use crate::owner::{Kept, Shared};
 use crate::pointer::{Loaded, Ptr};
-use crate::reclaim;
 use crate::refusal::{NoSlot, NotLent};
 use crate::status::{Status, is_last};
 use crate::tag::Tag;
 use crate::world::{World, ptr};
+use sdd_table::{reclaim, tokens};
 use std::marker::PhantomData;
 
 /// Makes an item of `value` with one owner, exactly if a slot is free; else `value` comes back.
@@ -31,7 +31,7 @@ pub fn new<T, J: Deferred>(w: &mut World<T, J>, value: T) -> Result<Shared<T>, T
     ensures value { IfOk result (λ o. value_at w.new (shared_slot o) ≡ Some value) }
     ensures keeps { Frame w.old w.new }
 {
-    Ok(Shared::of_slot(w.table.place(value, Status::Shared(1))?))
+    Ok(tokens::shared_at(w.table.place(value, Status::Shared(1))?))
 }
 
 /// Makes an item of what `f` gives, exactly if a slot is free; else `f` isn't called.
@@ -48,7 +48,7 @@ pub fn new_with<T, J: Deferred, F: FnOnce() -> T + Drop>(
         return Err(NoSlot);
     }
     match w.table.place(f(), Status::Shared(1)) {
-        Ok(slot) => Ok(Shared::of_slot(slot)),
+        Ok(slot) => Ok(tokens::shared_at(slot)),
         Err(_) => unreachable!(),
     }
 }
@@ -62,14 +62,14 @@ pub fn clone<T, J: Deferred>(w: &mut World<T, J>, shared: &Shared<T>) -> Option<
     ensures live { IsShared w.new (shared_slot shared.now) }
     ensures keeps { Frame w.old w.new }
 {
-    let slot = shared.slot;
+    let slot = tokens::slot_of_shared(shared);
     match w.table.status(slot) {
         Status::Shared(owners) => {
             if is_last(owners) {
                 return None;
             }
             w.table.set_status(slot, Status::Shared(owners + 1));
-            Some(Shared::of_slot(slot))
+            Some(tokens::shared_at(slot))
         }
         _ => unreachable!(),
     }
@@ -82,7 +82,7 @@ pub fn of_loaded<T, J: Deferred>(w: &mut World<T, J>, at: &Loaded<T>) -> Option<
     ensures live { IfSome result (λ s. IsShared w.new (shared_slot s)) }
     ensures keeps { Frame w.old w.new }
 {
-    match at.slot {
+    match tokens::slot_of_loaded(at) {
         None => None,
         Some(slot) => ptr::add_owner(w, slot),
     }
@@ -99,7 +99,7 @@ pub fn release<T, J: Deferred>(w: &mut World<T, J>, shared: Shared<T>, p: usize)
     ensures keeps { Frame w.old w.new }
     ensures only { OnlyParticipant p w.old w.new }
 {
-    let Shared { slot, of: _ } = shared;
+    let slot = tokens::spend_shared(shared);
     reclaim::release(&mut w.table, p, slot)
 }
 
@@ -120,7 +120,10 @@ pub fn drop_in_place<T: Holds, J: Deferred>(
     if w.table.any_open() {
         return Err(shared);
     }
-    let last = matches!(w.table.status(shared.slot), Status::Shared(0 | 1));
+    let last = matches!(
+        w.table.status(tokens::slot_of_shared(&shared)),
+        Status::Shared(0 | 1)
+    );
     reclaim::drop_now(&mut w.table, Held::Shared(shared));
     Ok(last)
 }
@@ -130,7 +133,7 @@ pub fn as_ref<'w, T, J: Deferred>(w: &'w World<T, J>, shared: &Shared<T>) -> &'w
     requires { IsShared w.now (shared_slot shared.now) }
     ensures { Some result.now ≡ value_at w.now (shared_slot shared.now) }
 {
-    w.table.value(shared.slot)
+    w.table.value(tokens::slot_of_shared(shared))
 }
 
 /// The value of an item whose owner an item keeps. Condition: it is there.
@@ -138,7 +141,7 @@ pub fn kept_ref<'w, T, J: Deferred>(w: &'w World<T, J>, kept: &Kept) -> &'w T
     requires { IsSome (value_at w.now (kept_slot kept.now)) }
     ensures { Some result.now ≡ value_at w.now (kept_slot kept.now) }
 {
-    w.table.value(kept.slot)
+    w.table.value(tokens::slot_of_kept(kept))
 }
 
 /// The value of an item, for writing; refused while a guard of any participant is open, and where `shared` isn't its one
@@ -166,7 +169,8 @@ pub fn is_here<T, J: Deferred>(w: &World<T, J>, shared: &Shared<T>) -> bool
     ensures here { IsTrue result → IsShared w.now (shared_slot shared.now) }
     ensures gone { IsFalse result → ¬ IsShared w.now (shared_slot shared.now) }
 {
-    shared.slot < w.table.places() && matches!(w.table.status(shared.slot), Status::Shared(_))
+    let slot = tokens::slot_of_shared(shared);
+    slot < w.table.places() && matches!(w.table.status(slot), Status::Shared(_))
 }
 
 /// A pointer to the item, without a tag.
@@ -175,7 +179,7 @@ pub fn get_guarded_ptr<T>(shared: &Shared<T>, _guard: &WorldGuard) -> Ptr<'stati
     ensures tag { ptr_tag result ≡ Tag.None }
 {
     Ptr {
-        slot: Some(shared.slot),
+        slot: Some(tokens::slot_of_shared(shared)),
         tag: Tag::None,
         of: PhantomData,
     }
@@ -190,7 +194,7 @@ pub fn get_guarded_ref<'w, T, J: Deferred>(
     requires { IsShared w.now (shared_slot shared.now) }
     ensures { Some result.now ≡ value_at w.now (shared_slot shared.now) }
 {
-    w.table.value(shared.slot)
+    w.table.value(tokens::slot_of_shared(shared))
 }
 
 /// One more owner of the item that `at` names, as `ptr::get_shared`; where there is none, `at` comes back.

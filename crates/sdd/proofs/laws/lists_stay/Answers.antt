@@ -1,4 +1,4 @@
-use Rattle.sdd.proofs.ChainLemmas.{hung_left}
+use Rattle.sdd_lists.proofs.ChainLemmas.{hung_left}
 use Rattle.sdd.proofs.laws.lists_stay.Goals as goal
 
 pub returns : goal.returns

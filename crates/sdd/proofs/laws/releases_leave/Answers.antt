@@ -1,4 +1,4 @@
-use Rattle.sdd.proofs.ReleaseLemmas.{leaves_released}
+use Rattle.sdd_lists.proofs.ReleaseLemmas.{leaves_released}
 use Rattle.sdd.proofs.laws.releases_leave.Goals as goal
 
 pub returns : goal.returns

@@ -1,4 +1,4 @@
-use Rattle.sdd.proofs.ReleaseLemmas.{spare_owner}
+use Rattle.sdd_lists.proofs.ReleaseLemmas.{spare_owner}
 use Rattle.sdd.proofs.laws.spare_owners.Goals as goal
 
 pub returns : goal.returns

@@ -1,7 +1,7 @@
 use Rattle.std.proofs.Common.{◌∙◌, ◌⊎◌, Some, arith, sym, subst}
 use Rattle.sdd_base.specs.State.{State, NoneFree, NoCellFree}
 use Rattle.sdd.specs.Bags.{bag_cells}
-use Rattle.sdd.proofs.ChainLemmas.{stays_then}
+use Rattle.sdd_lists.proofs.ChainLemmas.{stays_then}
 use Rattle.sdd.proofs.FromIterLemmas.{bag_start, bag_next, bag_same}
 use Rattle.sdd.proofs.world.bag.from_iter.Goals as goal
 

@@ -2,9 +2,9 @@ use Rattle.std.proofs.Common.{refl, ◌∙◌, subst, arith, ◌++◌, List, [],
 use denote.Param.Always.{mut_next}
 use denote.Param.Members.{Called}
 use Rattle.sdd_base.specs.Tokens.{shared_cell}
-use Rattle.sdd.specs.Chain.{Entry}
+use Rattle.sdd_lists.specs.Chain.{Entry}
 use Rattle.sdd.specs.Bags.{IsBag, Removes}
-use Rattle.sdd.proofs.ChainLemmas.{stays_then, stays_refl}
+use Rattle.sdd_lists.proofs.ChainLemmas.{stays_then, stays_refl}
 use Rattle.sdd.proofs.FoldLemmas.{popped_start, popped_next, popped_all, popped_none}
 use Rattle.sdd.proofs.world.bag.pop_all.Goals as goal
 

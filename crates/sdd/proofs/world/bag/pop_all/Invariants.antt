@@ -1,6 +1,6 @@
 use Rattle.std.proofs.Common.{◌≡◌, List, map}
 use Rattle.sdd_base.specs.Tokens.{shared_cell}
-use Rattle.sdd.specs.Chain.{Entry, Stays}
+use Rattle.sdd_lists.specs.Chain.{Entry, Stays}
 use Rattle.sdd.specs.Bags.{IsBag, IsSomeBag}
 use Rattle.sdd.proofs.FoldLemmas.{Popped}
 use denote.Param.Members.{Called}

@@ -1,11 +1,11 @@
 use Rattle.std.proofs.Common.{sym, subst, List, ◌++◌, ◌∷◌, map}
 use Rattle.sdd_base.specs.State.{State}
 use Rattle.sdd_base.specs.Tokens.{shared_cell}
-use Rattle.sdd.specs.Chain.{Entry, Leaves, links, slots}
-use Rattle.sdd.specs.Entries.{entry_link}
+use Rattle.sdd_lists.specs.Chain.{Entry, Leaves, links, slots}
+use Rattle.sdd_lists.specs.Entries.{entry_link}
 use Rattle.sdd.specs.Bags.{AreFreeCells}
 use Rattle.sdd.proofs.BagLemmas.{bag_row, bag_enough}
-use Rattle.sdd.proofs.ChainLemmas.{leaves_then}
+use Rattle.sdd_lists.proofs.ChainLemmas.{leaves_then}
 use Rattle.sdd.proofs.RowLemmas.{out_append}
 use Rattle.sdd.proofs.BagInitLemmas.{row_empty, freed_free, freed_leaves}
 use Rattle.sdd.proofs.world.bag.retire.Goals as goal

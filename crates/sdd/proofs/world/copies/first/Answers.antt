@@ -1,6 +1,6 @@
 use Rattle.std.proofs.Common.{◌∙◌, subst, Bool}
 use Rattle.sdd_base.specs.Tokens.{link_cell, shared_cell}
-use Rattle.sdd.specs.Chain.{BeginsWithItem}
+use Rattle.sdd_lists.specs.Chain.{BeginsWithItem}
 use Rattle.sdd.proofs.FromIterLemmas.{copies_gone, copies_kept, cant_copy}
 use Rattle.sdd.proofs.world.copies.first.Goals as goal
 

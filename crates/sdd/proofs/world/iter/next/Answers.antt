@@ -1,11 +1,11 @@
 use Rattle.std.proofs.Common.{◌∙◌, sym, subst, ap, ℕ, Some}
 use Rattle.sdd_base.specs.Tokens.{shared_cell}
-use Rattle.sdd.specs.Chain.{IsList, Hangs, skip}
-use Rattle.sdd.specs.Entries.{entry_link, entry_value}
+use Rattle.sdd_lists.specs.Chain.{IsList, Hangs, skip}
+use Rattle.sdd_lists.specs.Entries.{entry_link, entry_value}
 use Rattle.sdd.specs.Iters.{first_value, rest_of}
-use Rattle.sdd.proofs.WalkLemmas.{behind}
-use Rattle.sdd.proofs.ListHeadLemmas.{some_skipped, none_skipped}
-use Rattle.sdd.proofs.FirstLemmas.{undeleted_skip}
+use Rattle.sdd_lists.proofs.WalkLemmas.{behind}
+use Rattle.sdd_lists.proofs.ListHeadLemmas.{some_skipped, none_skipped}
+use Rattle.sdd_lists.proofs.FirstLemmas.{undeleted_skip}
 use Rattle.sdd.proofs.world.iter.next.Goals as goal
 
 pub skip_from-requires : goal.skip_from-requires

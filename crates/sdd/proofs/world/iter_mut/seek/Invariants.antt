@@ -1,6 +1,6 @@
 use Rattle.std.proofs.Common.{List, ◌∷◌, drop, map}
 use Rattle.sdd_base.specs.Tokens.{link_cell, shared_cell}
-use Rattle.sdd.specs.Chain.{Entry}
+use Rattle.sdd_lists.specs.Chain.{Entry}
 use Rattle.sdd.specs.MutableIteration.{IsLeft}
 use Rattle.sdd.proofs.world.iter_mut.seek.Given as goal
 

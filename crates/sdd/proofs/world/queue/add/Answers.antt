@@ -1,6 +1,6 @@
 use Rattle.std.proofs.Common.{◌∷◌, refl}
-use Rattle.sdd.specs.Chain.{links, slots}
-use Rattle.sdd.specs.Entries.{entry_link}
+use Rattle.sdd_lists.specs.Chain.{links, slots}
+use Rattle.sdd_lists.specs.Entries.{entry_link}
 use Rattle.sdd.specs.Queues.{oldest_cell, newest_cell}
 use Rattle.sdd.proofs.QueueLemmas.{queue_left, new_follows, can_follow, append_leaves}
 use Rattle.sdd.proofs.world.queue.add.Goals as goal

@@ -2,13 +2,13 @@ use Rattle.std.proofs.Common.{◌≡◌, ◌∙◌, ◌++◌, ◌⊎◌, ℕ, Li
 use Rattle.sdd_base.specs.State.{State, NoneFree, NoCellFree, ParticipantState, nobody}
 use Rattle.sdd_base.specs.Tokens.{link_cell, shared_cell}
 use Rattle.sdd_base.specs.declared.tag.Tag.TheVariants as tag
-use Rattle.sdd.specs.Chain.{undeleted}
-use Rattle.sdd.specs.Entries.{entry_link, entry_value}
+use Rattle.sdd_lists.specs.Chain.{undeleted}
+use Rattle.sdd_lists.specs.Entries.{entry_link, entry_value}
 use Rattle.sdd.specs.Queues.{oldest_cell, newest_cell}
 use Rattle.sdd.specs.FromIter.{FillsQueue, Copies, entry_values}
-use Rattle.sdd.proofs.ChainLemmas.{stays_then}
+use Rattle.sdd_lists.proofs.ChainLemmas.{stays_then}
 use Rattle.sdd.proofs.QueueLemmas.{queue_left}
-use Rattle.sdd.proofs.WalkLemmas.{hung_length}
+use Rattle.sdd_lists.proofs.WalkLemmas.{hung_length}
 use Rattle.sdd.proofs.FromIterLemmas.{given, Copying, queue_start, queue_next, queue_same, copy_start, copy_next, copying_now, copied_all, copied_end, stopped_at, copied_kept, memory_not, place_not}
 use Rattle.sdd.proofs.world.queue.clone.Goals as goal
 

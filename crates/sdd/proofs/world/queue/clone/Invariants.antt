@@ -1,8 +1,8 @@
 use Rattle.std.proofs.Common.{List}
 use Rattle.sdd_base.specs.Frame.{OnlyParticipant}
 use Rattle.sdd_base.specs.Tokens.{link_cell}
-use Rattle.sdd.specs.Chain.{Entry}
-use Rattle.sdd.specs.Entries.{entry_link}
+use Rattle.sdd_lists.specs.Chain.{Entry}
+use Rattle.sdd_lists.specs.Entries.{entry_link}
 use Rattle.sdd.specs.Queues.{IsQueue, oldest_cell, newest_cell}
 use Rattle.sdd.proofs.FromIterLemmas.{BuiltQueue, Copying}
 use Rattle.sdd.proofs.world.queue.clone.Given as goal

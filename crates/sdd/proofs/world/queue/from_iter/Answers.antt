@@ -1,7 +1,7 @@
 use Rattle.std.proofs.Common.{◌∙◌, ◌⊎◌, List, Option, ap, sym, subst, arith, get_or}
 use Rattle.sdd_base.specs.State.{State, NoneFree, NoCellFree, ParticipantState, nobody}
 use Rattle.sdd.specs.Queues.{oldest_cell, newest_cell}
-use Rattle.sdd.proofs.ChainLemmas.{stays_then}
+use Rattle.sdd_lists.proofs.ChainLemmas.{stays_then}
 use Rattle.sdd.proofs.FromIterLemmas.{queue_start, queue_more, queue_same}
 use Rattle.sdd.proofs.world.queue.from_iter.Goals as goal
 

@@ -3,7 +3,7 @@ use Rattle.sdd_base.specs.State.{State, with_cell}
 use Rattle.sdd_base.specs.Tokens.{shared_cell}
 use Rattle.sdd_base.specs.declared.tag.Tag.TheVariants as tag
 use Rattle.sdd_base.specs.declared.status.Cell.TheVariants as cell
-use Rattle.sdd.proofs.ChainLemmas.{freed_again}
+use Rattle.sdd_lists.proofs.ChainLemmas.{freed_again}
 use Rattle.sdd.proofs.QueueLemmas.{one_cell}
 use Rattle.sdd.proofs.world.queue.new.Goals as goal
 

@@ -1,11 +1,11 @@
 use Rattle.std.proofs.Common.{◌∙◌, sym}
 use Rattle.sdd_base.specs.Tokens.{shared_cell}
 use Rattle.sdd_base.specs.declared.tag.Tag.TheVariants as tag
-use Rattle.sdd.specs.Entries.{entry_link}
-use Rattle.sdd.specs.Chain.{skip}
-use Rattle.sdd.proofs.ChainLemmas.{head_cell, kept_same, kept_tag}
-use Rattle.sdd.proofs.NodeLemmas.{hung_node, hung_listed}
-use Rattle.sdd.proofs.ListHeadLemmas.{skipped_first}
+use Rattle.sdd_lists.specs.Entries.{entry_link}
+use Rattle.sdd_lists.specs.Chain.{skip}
+use Rattle.sdd_lists.proofs.ChainLemmas.{head_cell, kept_same, kept_tag}
+use Rattle.sdd_lists.proofs.NodeLemmas.{hung_node, hung_listed}
+use Rattle.sdd_lists.proofs.ListHeadLemmas.{skipped_first}
 use Rattle.sdd.proofs.world.queue.peek.Goals as goal
 
 pub load-requires-after_bounds : goal.load-requires-after_bounds

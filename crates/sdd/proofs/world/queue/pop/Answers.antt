@@ -2,11 +2,11 @@ use Rattle.std.proofs.Common.{[], ◌∙◌, sym, subst, ℕ}
 use Rattle.std.proofs.lemmas.Bool.{false≢true}
 use Rattle.sdd_base.specs.Place.{IsShared}
 use Rattle.sdd_base.specs.declared.tag.Tag.TheVariants as tag
-use Rattle.sdd.specs.Chain.{skip}
-use Rattle.sdd.specs.Entries.{entry_link}
+use Rattle.sdd_lists.specs.Chain.{skip}
+use Rattle.sdd_lists.specs.Entries.{entry_link}
 use Rattle.sdd.specs.Queues.{oldest_cell, newest_cell, last_slot}
-use Rattle.sdd.proofs.ChainLemmas.{item_shared}
-use Rattle.sdd.proofs.ListHeadLemmas.{took_some, took_nothing, some_skipped, none_skipped}
+use Rattle.sdd_lists.proofs.ChainLemmas.{item_shared}
+use Rattle.sdd_lists.proofs.ListHeadLemmas.{took_some, took_nothing, some_skipped, none_skipped}
 use Rattle.sdd.proofs.QueueLemmas.{newest_live, forgot, emptied, emptied_leaves, head3, newest3, live3, settled}
 use Rattle.sdd.proofs.world.queue.pop.Goals as goal
 

@@ -3,11 +3,11 @@ use Rattle.std.specs.Fn.{FnOnceReturnsAt}
 use Rattle.sdd_base.specs.declared.tag.Tag.TheVariants as tag
 use Rattle.sdd_base.specs.State.{status_at}
 use Rattle.sdd_base.specs.declared.status.Status.TheVariants as status
-use Rattle.sdd.specs.Chain.{skip, undeleted, links, slots}
+use Rattle.sdd_lists.specs.Chain.{skip, undeleted, links, slots}
 use Rattle.sdd.specs.Queues.{oldest_cell, newest_cell}
-use Rattle.sdd.proofs.ChainLemmas.{leaves_more}
-use Rattle.sdd.proofs.ListHeadLemmas.{no_first}
-use Rattle.sdd.proofs.FirstLemmas.{undeleted_skip, not_empty}
+use Rattle.sdd_lists.proofs.ChainLemmas.{leaves_more}
+use Rattle.sdd_lists.proofs.ListHeadLemmas.{no_first}
+use Rattle.sdd_lists.proofs.FirstLemmas.{undeleted_skip, not_empty}
 use Rattle.sdd.proofs.world.queue.pop_if.Goals as goal
 
 pub first_undeleted-requires : goal.first_undeleted-requires

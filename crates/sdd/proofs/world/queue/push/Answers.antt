@@ -1,9 +1,9 @@
 use Rattle.std.proofs.Common.{List, [], ◌∷◌, ◌++◌, ◌∙◌, ap, sym, ℕ}
 use Rattle.sdd_base.specs.State.{vacancy, status_at}
-use Rattle.sdd.specs.Chain.{Entry, links, slots}
-use Rattle.sdd.specs.Entries.{entry_link}
+use Rattle.sdd_lists.specs.Chain.{Entry, links, slots}
+use Rattle.sdd_lists.specs.Entries.{entry_link}
 use Rattle.sdd.specs.Queues.{IsQueue, oldest_cell, newest_cell}
-use Rattle.sdd.proofs.ChainLemmas.{inside_states}
+use Rattle.sdd_lists.proofs.ChainLemmas.{inside_states}
 use Rattle.sdd.proofs.QueueLemmas.{queue_left, new_follows, can_follow, append_leaves}
 use Rattle.sdd.proofs.world.queue.push.Goals as goal
 

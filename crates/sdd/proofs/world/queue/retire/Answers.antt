@@ -2,10 +2,10 @@ use Rattle.std.proofs.Common.{◌∷◌, ◌∙◌, ap, sym, subst, None}
 use Rattle.sdd_base.specs.declared.tag.Tag.TheVariants as tag
 use Rattle.sdd_base.specs.State.{State, IsFreeCell, cell_at}
 use Rattle.sdd_base.specs.declared.status.Cell.TheVariants as cell
-use Rattle.sdd.specs.Chain.{links, slots, Leaves}
-use Rattle.sdd.specs.Entries.{entry_link}
+use Rattle.sdd_lists.specs.Chain.{links, slots, Leaves}
+use Rattle.sdd_lists.specs.Entries.{entry_link}
 use Rattle.sdd.specs.Queues.{oldest_cell, newest_cell, last_slot}
-use Rattle.sdd.proofs.ChainLemmas.{cell_left, free_other, wrote_other, leaves_write}
+use Rattle.sdd_lists.proofs.ChainLemmas.{cell_left, free_other, wrote_other, leaves_write}
 use Rattle.sdd.proofs.QueueLemmas.{newest_live, forgot, emptied_leaves}
 use Rattle.sdd.proofs.world.queue.retire.Goals as goal
 

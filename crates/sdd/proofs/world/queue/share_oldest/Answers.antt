@@ -1,13 +1,13 @@
 use Rattle.std.proofs.Common.{◌∙◌}
 use Rattle.sdd_base.specs.Tokens.{shared_slot}
 use Rattle.sdd_base.specs.declared.tag.Tag.TheVariants as tag
-use Rattle.sdd.specs.Chain.{skip}
-use Rattle.sdd.specs.Entries.{entry_link}
+use Rattle.sdd_lists.specs.Chain.{skip}
+use Rattle.sdd_lists.specs.Entries.{entry_link}
 use Rattle.sdd.specs.Queues.{oldest_cell, newest_cell}
-use Rattle.sdd.proofs.ListHeadLemmas.{first_skipped, first_use}
-use Rattle.sdd.proofs.FirstLemmas.{skipped_leaves}
+use Rattle.sdd_lists.proofs.ListHeadLemmas.{first_skipped, first_use}
+use Rattle.sdd_lists.proofs.FirstLemmas.{skipped_leaves}
 use Rattle.sdd.proofs.QueueLemmas.{skipped_queue, owned_queue, queue_back}
-use Rattle.sdd.proofs.ReleaseLemmas.{more_shared}
+use Rattle.sdd_lists.proofs.ReleaseLemmas.{more_shared}
 use Rattle.sdd.proofs.world.queue.share_oldest.Goals as goal
 
 pub share_first-requires : goal.share_first-requires

@@ -5,9 +5,9 @@ use Rattle.sdd_base.specs.Tokens.{shared_cell}
 use Rattle.sdd_base.specs.declared.cell.AtomicShared.{AtomicShared}
 use Rattle.sdd_base.specs.declared.tag.Tag.TheVariants as tag
 use Rattle.sdd_base.specs.declared.status.Cell.TheVariants as cell
-use Rattle.sdd.specs.Chain.{Stays}
+use Rattle.sdd_lists.specs.Chain.{Stays}
 use Rattle.sdd.specs.Bags.{AreEmpty, IsClaimed, freed}
-use Rattle.sdd.proofs.ChainLemmas.{stays_then, stays_write}
+use Rattle.sdd_lists.proofs.ChainLemmas.{stays_then, stays_write}
 use Rattle.sdd.proofs.BagInitLemmas.{claimed_last, claimed_empty, claimed_freed, claimed_count, none_free}
 use Rattle.sdd.proofs.world.row.claim_all.Goals as goal
 

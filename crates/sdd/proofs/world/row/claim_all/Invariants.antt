@@ -1,7 +1,7 @@
 use Rattle.std.proofs.Common.{◌≡◌, ◌≤◌, length, map}
 use Rattle.std.specs.Vec.{vec_capacity}
 use Rattle.sdd_base.specs.Tokens.{shared_cell}
-use Rattle.sdd.specs.Chain.{Stays}
+use Rattle.sdd_lists.specs.Chain.{Stays}
 use Rattle.sdd.specs.Bags.{IsClaimed}
 use Rattle.sdd.proofs.world.row.claim_all.Given as goal
 

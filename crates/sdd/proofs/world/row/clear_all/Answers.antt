@@ -1,7 +1,7 @@
 use Rattle.std.proofs.Common.{refl, ◌∙◌, arith, length, map, ◌<◌}
 use Rattle.std.proofs.lemmas.List.{length-map}
 use Rattle.sdd_base.specs.Tokens.{shared_cell}
-use Rattle.sdd.proofs.ChainLemmas.{stays_then, stays_refl}
+use Rattle.sdd_lists.proofs.ChainLemmas.{stays_then, stays_refl}
 use Rattle.sdd.proofs.RowLemmas.{numbered, emptied_start, emptied_next, emptied_hangs, emptied_all}
 use Rattle.sdd.proofs.world.row.clear_all.Goals as goal
 

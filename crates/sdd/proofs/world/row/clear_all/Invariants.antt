@@ -1,7 +1,7 @@
 use Rattle.std.proofs.Common.{List, ◌<◌, ◌≤◌, length, map}
 use Rattle.sdd_base.specs.Frame.{OnlyParticipant}
 use Rattle.sdd_base.specs.Tokens.{shared_cell}
-use Rattle.sdd.specs.Chain.{Entry, Stays}
+use Rattle.sdd_lists.specs.Chain.{Entry, Stays}
 use Rattle.sdd.specs.Bags.{IsRow}
 use Rattle.sdd.proofs.RowLemmas.{Emptied}
 use Rattle.sdd.proofs.world.row.clear_all.Given as goal

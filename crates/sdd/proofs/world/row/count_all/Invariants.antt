@@ -1,7 +1,7 @@
 use Rattle.std.proofs.Common.{◌≡◌, ◌+◌, List, length, map, drop}
 use Rattle.sdd_base.specs.State.{in_use}
 use Rattle.sdd_base.specs.Tokens.{shared_cell}
-use Rattle.sdd.specs.Chain.{Entry, undeleted}
+use Rattle.sdd_lists.specs.Chain.{Entry, undeleted}
 use Rattle.sdd.specs.Bags.{IsRow, joined}
 use Rattle.sdd.proofs.world.row.count_all.Given as goal
 

@@ -4,7 +4,7 @@ use Rattle.sdd_base.specs.State.{State}
 use Rattle.sdd_base.specs.declared.cell.AtomicShared.{AtomicShared}
 use Rattle.sdd_base.specs.declared.tag.Tag.TheVariants as tag
 use Rattle.sdd.specs.Bags.{AreEmpty, freed}
-use Rattle.sdd.proofs.ChainLemmas.{stays_then}
+use Rattle.sdd_lists.proofs.ChainLemmas.{stays_then}
 use Rattle.sdd.proofs.RowLemmas.{freed_last, empty_last}
 use Rattle.sdd.proofs.world.row.end_all.Goals as goal
 

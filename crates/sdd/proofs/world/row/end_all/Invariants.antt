@@ -1,6 +1,6 @@
 use Rattle.std.proofs.Common.{◌≡◌, map}
 use Rattle.sdd_base.specs.Tokens.{shared_cell}
-use Rattle.sdd.specs.Chain.{Stays}
+use Rattle.sdd_lists.specs.Chain.{Stays}
 use Rattle.sdd.specs.Bags.{AreEmpty, freed}
 use Rattle.sdd.proofs.world.row.end_all.Given as goal
 

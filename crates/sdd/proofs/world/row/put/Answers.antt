@@ -3,9 +3,9 @@ use Rattle.sdd_base.specs.State.{status_at}
 use Rattle.sdd_base.specs.declared.status.Status.TheVariants as status
 use Rattle.sdd_base.specs.Tokens.{shared_cell}
 use Rattle.sdd_base.specs.declared.tag.Tag.TheVariants as tag
-use Rattle.sdd.specs.Chain.{Entry}
+use Rattle.sdd_lists.specs.Chain.{Entry}
 use Rattle.sdd.specs.Stacks.{IsStack}
-use Rattle.sdd.proofs.ListHeadLemmas.{can_hang, still_hung, new_fits, put_leaves, same_use}
+use Rattle.sdd_lists.proofs.ListHeadLemmas.{can_hang, still_hung, new_fits, put_leaves, same_use}
 use Rattle.sdd.proofs.world.row.put.Goals as goal
 
 pub put_first-requires : goal.put_first-requires

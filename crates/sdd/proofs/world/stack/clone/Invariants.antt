@@ -1,6 +1,6 @@
 use Rattle.std.proofs.Common.{◌≡◌, List}
 use Rattle.sdd_base.specs.Tokens.{link_cell}
-use Rattle.sdd.specs.Chain.{Entry}
+use Rattle.sdd_lists.specs.Chain.{Entry}
 use Rattle.sdd.specs.Stacks.{IsStack, stack_cell}
 use Rattle.sdd.proofs.FromIterLemmas.{GrownStack, Copying}
 use Rattle.sdd.proofs.world.stack.clone.Given as goal

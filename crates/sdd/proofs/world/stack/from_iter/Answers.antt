@@ -1,7 +1,7 @@
 use Rattle.std.proofs.Common.{◌∙◌, ◌⊎◌, Some, sym, subst, reverse}
 use Rattle.sdd_base.specs.State.{State, NoneFree, NoCellFree}
 use Rattle.sdd.specs.Stacks.{stack_cell}
-use Rattle.sdd.proofs.ChainLemmas.{stays_then}
+use Rattle.sdd_lists.proofs.ChainLemmas.{stays_then}
 use Rattle.sdd.proofs.FromIterLemmas.{stack_start, stack_behind, stack_same}
 use Rattle.sdd.proofs.world.stack.from_iter.Goals as goal
 

@@ -1,10 +1,10 @@
 use Rattle.std.proofs.Common.{ap}
 use Rattle.sdd_base.specs.Tokens.{shared_cell}
 use Rattle.sdd_base.specs.declared.tag.Tag.TheVariants as tag
-use Rattle.sdd.specs.Entries.{entry_link}
-use Rattle.sdd.specs.Chain.{skip, first_slot}
-use Rattle.sdd.proofs.ChainLemmas.{head_cell}
-use Rattle.sdd.proofs.ListHeadLemmas.{skipped_first, first_none}
+use Rattle.sdd_lists.specs.Entries.{entry_link}
+use Rattle.sdd_lists.specs.Chain.{skip, first_slot}
+use Rattle.sdd_lists.proofs.ChainLemmas.{head_cell}
+use Rattle.sdd_lists.proofs.ListHeadLemmas.{skipped_first, first_none}
 use Rattle.sdd.proofs.world.stack.is_empty.Goals as goal
 
 pub is_null-requires : goal.is_null-requires

@@ -1,8 +1,8 @@
 use Rattle.std.proofs.Common.{[]}
 use Rattle.sdd_base.specs.Tokens.{shared_cell}
 use Rattle.sdd_base.specs.declared.tag.Tag.TheVariants as tag
-use Rattle.sdd.specs.Entries.{entry_link}
-use Rattle.sdd.proofs.ListHeadLemmas.{moving_cell, moving_empty, moved_all, moved_from, moved_leaves}
+use Rattle.sdd_lists.specs.Entries.{entry_link}
+use Rattle.sdd_lists.proofs.ListHeadLemmas.{moving_cell, moving_empty, moved_all, moved_from, moved_leaves}
 use Rattle.sdd.proofs.world.stack.pop_all.Goals as goal
 
 pub take-first-requires : goal.take-first-requires

@@ -3,13 +3,13 @@ use Rattle.std.specs.Fn.{FnOnceReturnsAt}
 use Rattle.sdd_base.specs.declared.tag.Tag.TheVariants as tag
 use Rattle.sdd_base.specs.State.{status_at}
 use Rattle.sdd_base.specs.declared.status.Status.TheVariants as status
-use Rattle.sdd.specs.Chain.{skip, undeleted, first_item}
+use Rattle.sdd_lists.specs.Chain.{skip, undeleted, first_item}
 use Rattle.sdd_base.specs.Tokens.{shared_slot}
-use Rattle.sdd.specs.Entries.{entry_link}
+use Rattle.sdd_lists.specs.Entries.{entry_link}
 use Rattle.sdd.specs.Stacks.{stack_cell}
-use Rattle.sdd.proofs.ReleaseLemmas.{more_shared, spare_owner}
-use Rattle.sdd.proofs.ListHeadLemmas.{first_skipped, first_use, no_first}
-use Rattle.sdd.proofs.FirstLemmas.{undeleted_skip, not_empty, skipped_leaves}
+use Rattle.sdd_lists.proofs.ReleaseLemmas.{more_shared, spare_owner}
+use Rattle.sdd_lists.proofs.ListHeadLemmas.{first_skipped, first_use, no_first}
+use Rattle.sdd_lists.proofs.FirstLemmas.{undeleted_skip, not_empty, skipped_leaves}
 use Rattle.sdd.proofs.world.stack.pop_if.Goals as goal
 
 pub first_undeleted-requires : goal.first_undeleted-requires

@@ -2,11 +2,11 @@ use Rattle.std.proofs.Common.{List, [], ◌∷◌, ◌∙◌, sym, subst, ℕ}
 use Rattle.sdd_base.specs.Tokens.{shared_cell}
 use Rattle.sdd_base.specs.Place.{IsShared}
 use Rattle.sdd_base.specs.declared.tag.Tag.TheVariants as tag
-use Rattle.sdd.specs.Chain.{Entry}
+use Rattle.sdd_lists.specs.Chain.{Entry}
 use Rattle.sdd.specs.Stacks.{IsStack}
-use Rattle.sdd.specs.Entries.{entry_link}
-use Rattle.sdd.proofs.ChainLemmas.{item_shared}
-use Rattle.sdd.proofs.ListHeadLemmas.{can_hang, still_hung, new_fits, put_leaves, same_use}
+use Rattle.sdd_lists.specs.Entries.{entry_link}
+use Rattle.sdd_lists.proofs.ChainLemmas.{item_shared}
+use Rattle.sdd_lists.proofs.ListHeadLemmas.{can_hang, still_hung, new_fits, put_leaves, same_use}
 use Rattle.sdd.proofs.world.stack.push.Goals as goal
 
 pub put_first-requires : goal.put_first-requires

@@ -3,8 +3,8 @@ use Rattle.sdd_base.specs.State.{State}
 use Rattle.sdd_base.specs.Tokens.{shared_cell}
 use Rattle.sdd_base.specs.declared.tag.Tag.TheVariants as tag
 use Rattle.sdd_base.specs.declared.status.Cell.TheVariants as cell
-use Rattle.sdd.specs.Chain.{links, slots, Leaves}
-use Rattle.sdd.proofs.ChainLemmas.{leaves_write}
+use Rattle.sdd_lists.specs.Chain.{links, slots, Leaves}
+use Rattle.sdd_lists.proofs.ChainLemmas.{leaves_write}
 use Rattle.sdd.proofs.world.stack.retire.Goals as goal
 
 pub end-requires : goal.end-requires

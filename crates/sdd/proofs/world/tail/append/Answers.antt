@@ -3,9 +3,9 @@ use Rattle.sdd_base.specs.State.{State, with_cell}
 use Rattle.sdd_base.specs.Tokens.{shared_cell, shared_slots}
 use Rattle.sdd_base.specs.declared.tag.Tag.TheVariants as tag
 use Rattle.sdd_base.specs.declared.status.Cell.TheVariants as cell
-use Rattle.sdd.specs.Chain.{Stays}
-use Rattle.sdd.proofs.ChainLemmas.{stays_then, stays_write}
-use Rattle.sdd.proofs.ReleaseLemmas.{stays_released}
+use Rattle.sdd_lists.specs.Chain.{Stays}
+use Rattle.sdd_lists.proofs.ChainLemmas.{stays_then, stays_write}
+use Rattle.sdd_lists.proofs.ReleaseLemmas.{stays_released}
 use Rattle.sdd.proofs.QueueTailLemmas.{was_none, was_some, first_fits, first_appended, last_linked, last_fits, last_shared, last_appended}
 use Rattle.sdd.proofs.world.tail.append.Goals as goal
 

@@ -6,8 +6,8 @@ use Rattle.sdd_base.specs.Tokens.{shared_cell}
 use Rattle.sdd_base.specs.declared.tag.Tag.TheVariants as tag
 use Rattle.sdd_base.specs.declared.status.Cell.TheVariants as cell
 use Rattle.sdd.specs.Queues.{cell_vacated}
-use Rattle.sdd.proofs.ChainLemmas.{stays_then, shared_write}
-use Rattle.sdd.proofs.ReleaseLemmas.{stays_released}
+use Rattle.sdd_lists.proofs.ChainLemmas.{stays_then, shared_write}
+use Rattle.sdd_lists.proofs.ReleaseLemmas.{stays_released}
 use Rattle.sdd.proofs.world.tail.forget.Goals as goal
 
 pub release-requires-clause-live : goal.release-requires-clause-live

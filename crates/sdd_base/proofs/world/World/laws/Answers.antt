@@ -1,6 +1,6 @@
 use Rattle.std.proofs.Common.{subst}
-use Rattle.sdd_base.specs.State.{State}
-use Rattle.sdd_base.specs.Place.{IsPlace}
+use Rattle.sdd_table.specs.State.{State}
+use Rattle.sdd_table.specs.Place.{IsPlace}
 use Rattle.sdd_base.proofs.world.World.laws.Goals as goal
 
 pub returns : goal.returns

@@ -1,4 +1,4 @@
-use Rattle.sdd_base.proofs.PlaceLemmas.{place_fresh}
+use Rattle.sdd_table.proofs.PlaceLemmas.{place_fresh}
 use Rattle.sdd_base.proofs.world.World.new.Goals as goal
 
 pub invariant_of-result : goal.invariant_of-result

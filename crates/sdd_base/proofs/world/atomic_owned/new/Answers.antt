@@ -1,10 +1,10 @@
 use Rattle.std.proofs.Common.{ℕ, sym, subst, Some}
-use Rattle.sdd_base.specs.Place.{IsOwnedCell}
-use Rattle.sdd_base.specs.declared.tag.Tag.TheVariants as tag
+use Rattle.sdd_table.specs.Place.{IsOwnedCell}
+use Rattle.sdd_table.specs.declared.tag.Tag.TheVariants as tag
 use Rattle.sdd_base.proofs.FrameLemmas.{owned_cell_used}
 use Rattle.sdd_base.proofs.world.atomic_owned.new.Goals as goal
 
 pub returns-clause-used : goal.returns-clause-used
 returns-clause-used g c =
     let p = c.in-Some.ensures.claimed in
-    subst (λ (i : ℕ). IsOwnedCell c.claim_cell.new.self i) (sym c.of_cell.ensures) (owned_cell_used c.place.new.self c.claim_cell.new.self c.in-Some.cell (Some c.in-Ok.slot) tag.None p.0.0 p.1)
+    subst (λ (i : ℕ). IsOwnedCell c.claim_cell.new.self i) (sym c.owned_cell_at.ensures) (owned_cell_used c.place.new.self c.claim_cell.new.self c.in-Some.cell (Some c.in-Ok.slot) tag.None p.0.0 p.1)

@@ -1,9 +1,9 @@
 use Rattle.std.proofs.Common.{subst, sym, ◌<◌, length}
-use Rattle.sdd_base.specs.State.{State}
-use Rattle.sdd_base.specs.Steps.{guard_closed}
-use Rattle.sdd_base.specs.Place.{IsOpen}
+use Rattle.sdd_table.specs.State.{State}
+use Rattle.sdd_table.specs.Steps.{guard_closed}
+use Rattle.sdd_table.specs.Place.{IsOpen}
 use Rattle.sdd_base.specs.Tokens.{guard_participant}
-use Rattle.sdd_base.proofs.PlaceLemmas.{place_closed}
+use Rattle.sdd_table.proofs.PlaceLemmas.{place_closed}
 use Rattle.sdd_base.proofs.FrameLemmas.{keeps_closed, kept, only_of, is_place}
 use Rattle.sdd_base.proofs.world.guard.close.Goals as goal
 

@@ -1,8 +1,8 @@
 use Rattle.std.proofs.Common.{subst, sym, ◌<◌, length}
-use Rattle.sdd_base.specs.State.{State}
-use Rattle.sdd_base.specs.Place.{IsOpen}
-use Rattle.sdd_base.specs.Steps.{guard_opened}
-use Rattle.sdd_base.proofs.PlaceLemmas.{place_opened}
+use Rattle.sdd_table.specs.State.{State}
+use Rattle.sdd_table.specs.Place.{IsOpen}
+use Rattle.sdd_table.specs.Steps.{guard_opened}
+use Rattle.sdd_table.proofs.PlaceLemmas.{place_opened}
 use Rattle.sdd_base.proofs.FrameLemmas.{keeps_opened, opened_open, kept, only_of, is_place}
 use Rattle.sdd_base.proofs.world.guard.new.Goals as goal
 

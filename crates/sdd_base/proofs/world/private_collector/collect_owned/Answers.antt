@@ -1,6 +1,6 @@
-use Rattle.std.proofs.Common.{subst, sym, ◌<◌, length, arith}
-use Rattle.sdd_base.specs.State.{State}
-use Rattle.sdd_base.specs.Place.{IsOwned}
+use Rattle.std.proofs.Common.{ℕ, subst, sym, ◌<◌, length, arith}
+use Rattle.sdd_table.specs.State.{State}
+use Rattle.sdd_table.specs.Place.{IsOwned}
 use Rattle.sdd_base.specs.Tokens.{owned_slot, guard_participant, waiting_in}
 use Rattle.sdd_base.proofs.PrivateCollectorLemmas.{sets_owned_left, clears, keeps_then, only_then, nests_then}
 use Rattle.sdd_base.proofs.world.private_collector.collect_owned.Goals as goal
@@ -9,9 +9,9 @@ pub invariant_of-w : goal.invariant_of-w
 invariant_of-w g c =
     let w = c.w.inside.table in
     let p = guard_participant c.args.guard.now in
-    let i = owned_slot c.args.owned in
+    let i = c.spend_owned-slot.result in
     let known : p < length w.participants = subst (λ (w : State _). p < length w.participants) (sym c.w.view_is) c.requires.participant in
-    let live : IsOwned w i = subst (λ (w : State _). IsOwned w i) (sym c.w.view_is) c.requires.live in
+    let live : IsOwned w i = subst (λ (n : ℕ). IsOwned w n) (sym c.spend_owned-slot.ensures) (subst (λ (w : State _). IsOwned w (owned_slot c.args.owned)) (sym c.w.view_is) c.requires.live) in
     let v = clears g.T.Holds.holds p (waiting_in c.args.collector.now) w c.purge.new.table c.w.invariant known c.purge.ensures.state in
     let inside : i < length c.purge.new.table.states = omega (arith, v.places, live.inside) in
     let s = sets_owned_left c.leave_owned-kept.result p _ i c.purge.new.waiting.items c.purge.new.table c.leave_owned-kept.new.table v.place v.known inside c.leave_owned-kept.ensures.owned c.leave_owned-kept.ensures.apart c.leave_owned-kept.ensures.gone in
@@ -21,9 +21,9 @@ pub returns-clause-keeps : goal.returns-clause-keeps
 returns-clause-keeps g c =
     let w = c.w.inside.table in
     let p = guard_participant c.args.guard.now in
-    let i = owned_slot c.args.owned in
+    let i = c.spend_owned-slot.result in
     let known : p < length w.participants = subst (λ (w : State _). p < length w.participants) (sym c.w.view_is) c.requires.participant in
-    let live : IsOwned w i = subst (λ (w : State _). IsOwned w i) (sym c.w.view_is) c.requires.live in
+    let live : IsOwned w i = subst (λ (n : ℕ). IsOwned w n) (sym c.spend_owned-slot.ensures) (subst (λ (w : State _). IsOwned w (owned_slot c.args.owned)) (sym c.w.view_is) c.requires.live) in
     let v = clears g.T.Holds.holds p (waiting_in c.args.collector.now) w c.purge.new.table c.w.invariant known c.purge.ensures.state in
     let inside : i < length c.purge.new.table.states = omega (arith, v.places, live.inside) in
     let s = sets_owned_left c.leave_owned-kept.result p _ i c.purge.new.waiting.items c.purge.new.table c.leave_owned-kept.new.table v.place v.known inside c.leave_owned-kept.ensures.owned c.leave_owned-kept.ensures.apart c.leave_owned-kept.ensures.gone in
@@ -33,9 +33,9 @@ pub returns-clause-only : goal.returns-clause-only
 returns-clause-only g c =
     let w = c.w.inside.table in
     let p = guard_participant c.args.guard.now in
-    let i = owned_slot c.args.owned in
+    let i = c.spend_owned-slot.result in
     let known : p < length w.participants = subst (λ (w : State _). p < length w.participants) (sym c.w.view_is) c.requires.participant in
-    let live : IsOwned w i = subst (λ (w : State _). IsOwned w i) (sym c.w.view_is) c.requires.live in
+    let live : IsOwned w i = subst (λ (n : ℕ). IsOwned w n) (sym c.spend_owned-slot.ensures) (subst (λ (w : State _). IsOwned w (owned_slot c.args.owned)) (sym c.w.view_is) c.requires.live) in
     let v = clears g.T.Holds.holds p (waiting_in c.args.collector.now) w c.purge.new.table c.w.invariant known c.purge.ensures.state in
     let inside : i < length c.purge.new.table.states = omega (arith, v.places, live.inside) in
     let s = sets_owned_left c.leave_owned-kept.result p _ i c.purge.new.waiting.items c.purge.new.table c.leave_owned-kept.new.table v.place v.known inside c.leave_owned-kept.ensures.owned c.leave_owned-kept.ensures.apart c.leave_owned-kept.ensures.gone in
@@ -45,9 +45,9 @@ pub returns-clause-nests : goal.returns-clause-nests
 returns-clause-nests g c =
     let w = c.w.inside.table in
     let p = guard_participant c.args.guard.now in
-    let i = owned_slot c.args.owned in
+    let i = c.spend_owned-slot.result in
     let known : p < length w.participants = subst (λ (w : State _). p < length w.participants) (sym c.w.view_is) c.requires.participant in
-    let live : IsOwned w i = subst (λ (w : State _). IsOwned w i) (sym c.w.view_is) c.requires.live in
+    let live : IsOwned w i = subst (λ (n : ℕ). IsOwned w n) (sym c.spend_owned-slot.ensures) (subst (λ (w : State _). IsOwned w (owned_slot c.args.owned)) (sym c.w.view_is) c.requires.live) in
     let v = clears g.T.Holds.holds p (waiting_in c.args.collector.now) w c.purge.new.table c.w.invariant known c.purge.ensures.state in
     let inside : i < length c.purge.new.table.states = omega (arith, v.places, live.inside) in
     let s = sets_owned_left c.leave_owned-kept.result p _ i c.purge.new.waiting.items c.purge.new.table c.leave_owned-kept.new.table v.place v.known inside c.leave_owned-kept.ensures.owned c.leave_owned-kept.ensures.apart c.leave_owned-kept.ensures.gone in
@@ -57,9 +57,9 @@ pub leave_owned-kept-requires-clause-participant : goal.leave_owned-kept-require
 leave_owned-kept-requires-clause-participant g c =
     let w = c.w.inside.table in
     let p = guard_participant c.args.guard.now in
-    let i = owned_slot c.args.owned in
+    let i = c.spend_owned-slot.result in
     let known : p < length w.participants = subst (λ (w : State _). p < length w.participants) (sym c.w.view_is) c.requires.participant in
-    let live : IsOwned w i = subst (λ (w : State _). IsOwned w i) (sym c.w.view_is) c.requires.live in
+    let live : IsOwned w i = subst (λ (n : ℕ). IsOwned w n) (sym c.spend_owned-slot.ensures) (subst (λ (w : State _). IsOwned w (owned_slot c.args.owned)) (sym c.w.view_is) c.requires.live) in
     let v = clears g.T.Holds.holds p (waiting_in c.args.collector.now) w c.purge.new.table c.w.invariant known c.purge.ensures.state in
     let inside : i < length c.purge.new.table.states = omega (arith, v.places, live.inside) in
     v.known
@@ -68,9 +68,9 @@ pub leave_owned-kept-requires-clause-slot : goal.leave_owned-kept-requires-claus
 leave_owned-kept-requires-clause-slot g c =
     let w = c.w.inside.table in
     let p = guard_participant c.args.guard.now in
-    let i = owned_slot c.args.owned in
+    let i = c.spend_owned-slot.result in
     let known : p < length w.participants = subst (λ (w : State _). p < length w.participants) (sym c.w.view_is) c.requires.participant in
-    let live : IsOwned w i = subst (λ (w : State _). IsOwned w i) (sym c.w.view_is) c.requires.live in
+    let live : IsOwned w i = subst (λ (n : ℕ). IsOwned w n) (sym c.spend_owned-slot.ensures) (subst (λ (w : State _). IsOwned w (owned_slot c.args.owned)) (sym c.w.view_is) c.requires.live) in
     let v = clears g.T.Holds.holds p (waiting_in c.args.collector.now) w c.purge.new.table c.w.invariant known c.purge.ensures.state in
     let inside : i < length c.purge.new.table.states = omega (arith, v.places, live.inside) in
     inside

@@ -1,9 +1,9 @@
 use Rattle.std.proofs.Common.{subst, sym, ◌<◌, length}
-use Rattle.sdd_base.specs.State.{State}
-use Rattle.sdd_base.specs.Steps.{handed_over}
+use Rattle.sdd_table.specs.State.{State}
+use Rattle.sdd_table.specs.Steps.{handed_over}
 use Rattle.sdd_base.specs.Tokens.{waiting_in}
-use Rattle.sdd_base.proofs.BagInvariantLemmas.{calms}
-use Rattle.sdd_base.proofs.PlaceLemmas.{place_leaves}
+use Rattle.sdd_table.proofs.BagInvariantLemmas.{calms}
+use Rattle.sdd_table.proofs.PlaceLemmas.{place_leaves}
 use Rattle.sdd_base.proofs.FrameLemmas.{nests_calms, keeps_leaves, kept, only_of, is_place}
 use Rattle.sdd_base.proofs.PrivateCollectorLemmas.{handed_leaves}
 use Rattle.sdd_base.proofs.world.private_collector.hand_over.Goals as goal

@@ -2,10 +2,10 @@ use Rattle.std.proofs.Common.{◌≡◌, ℕ, [], ◌∷◌, ◌⊎◌, drop, ma
 use Rattle.std.proofs.lemmas.List.{length-map, drop_all}
 use Rattle.sdd_base.specs.Tokens.{link_cell, shared_cell}
 use Rattle.sdd.specs.Bags.{IsNull}
-use Rattle.sdd.specs.Chain.{IsList}
-use Rattle.sdd.specs.Entries.{entry_link}
+use Rattle.sdd_lists.specs.Chain.{IsList}
+use Rattle.sdd_lists.specs.Entries.{entry_link}
 use Rattle.sdd.specs.MutableIteration.{IsLeft, Finds}
-use Rattle.sdd.proofs.ChainLemmas.{head_cell, hung_there, starts, starts_not, starts_link}
+use Rattle.sdd_lists.proofs.ChainLemmas.{head_cell, hung_there, starts, starts_not, starts_link}
 use Rattle.sdd.proofs.MutableIterationLemmas.{hangs_at, left_none, find_first}
 use Rattle.sdd.proofs.world.iter_mut.WorldLinkedEntryWalkedPlace.next_stop.Goals as goal
 

@@ -1,6 +1,0 @@
-use Rattle.std.proofs.Common.{◌∙◌, ap}
-use Rattle.sdd.specs.Nodes.{marked}
-use Rattle.sdd.proofs.world.linked_list.is_marked.Goals as goal
-
-pub returns : goal.returns
-returns g c = λ e n. c.is_marked_tag.ensures ∙ ap marked (c.tag_of.ensures e n)

@@ -1,8 +1,0 @@
-use Rattle.std.proofs.Common.{◌≡◌, replicate, map}
-use Rattle.std.specs.List.{All, sum_by}
-use Rattle.sdd_base.specs.State.{nobody}
-use Rattle.sdd_base.specs.View.{participant_state, BagsHaveRoom, waiting}
-use Rattle.sdd_base.proofs.table.new_participants.Given as goal
-
-abbrev pub invariant-loop : goal.invariant-loop
-invariant-loop l = (map participant_state l.participants.items ≡ replicate l.counter nobody) × All (BagsHaveRoom l.places) l.participants.items × (sum_by waiting l.participants.items ≡ 0)

@@ -1,0 +1,9 @@
+pub mod ChainLemmas
+pub mod EntryNewLemmas
+pub mod WalkLemmas
+pub mod ReleaseLemmas
+pub mod ListHeadLemmas
+pub mod NodeLemmas
+pub mod FirstLemmas
+pub mod ShareLemmas
+pub mod InsertionLemmas

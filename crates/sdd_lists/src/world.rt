@@ -1,0 +1,6 @@
+//! The calls over a `World`.
+
+pub mod chain;
+pub mod entries;
+pub mod linked_entry;
+pub mod linked_list;

@@ -1,0 +1,7 @@
+pub mod ListLemmas
+pub mod SlotLemmas
+pub mod BagInvariantLemmas
+pub mod RotationLemmas
+pub mod PlaceLemmas
+pub mod SweepLemmas
+pub mod DropLemmas

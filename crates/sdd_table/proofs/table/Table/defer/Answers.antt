@@ -1,0 +1,40 @@
+use Rattle.std.proofs.Common.{◌≡◌, ◌<◌, ◌∙◌, ap, arith, length, length-set, refl, subst}
+use Rattle.sdd_table.specs.State.{State, is_job, status_at, waiting_as, weight}
+use Rattle.sdd_table.specs.declared.status.Status.TheVariants as status
+use Rattle.sdd_table.proofs.SlotLemmas.{named_idle, job_room, has_room, known_in, deferred_invariant, deferred_view}
+use Rattle.sdd_table.proofs.table.Table.defer.Goals as goal
+
+pub index_mut-requires : goal.index_mut-requires
+index_mut-requires g c =
+    let r = named_idle c.self.inside c.pop.new.self.items c.in-Some.i c.self.invariant c.in-Some.ensures.items in
+    omega (arith, r.0, c.self.inside.states.ok.0)
+
+pub overflow_sub-i : goal.overflow_sub-i
+overflow_sub-i g c =
+    let r = named_idle c.self.inside c.pop.new.self.items c.in-Some.i c.self.invariant c.in-Some.ensures.items in
+    (job_room c.self.inside c.in-Some.i c.self.invariant (ap is_job r.1)).0
+
+pub index_mut-requires-2 : goal.index_mut-requires-2
+index_mut-requires-2 g c =
+    let r = named_idle c.self.inside c.pop.new.self.items c.in-Some.i c.self.invariant c.in-Some.ensures.items in
+    (job_room c.self.inside c.in-Some.i c.self.invariant (ap is_job r.1)).1
+
+pub put-requires : goal.put-requires
+put-requires g c =
+    let a = c.self.inside in
+    let r = named_idle a c.pop.new.self.items c.in-Some.i c.self.invariant c.in-Some.ensures.items in
+    has_room (length a.states.items) _ a.participants.items c.in-Some.i c.args.p _ refl c.self.invariant.waits c.self.invariant.room r.0 (ap weight r.1) (known_in a c.args.self.now _ c.self.view_is c.requires) c.index_mut-3.ensures.value
+
+pub invariant_of-self-2 : goal.invariant_of-self-2
+invariant_of-self-2 g c =
+    let a = c.self.inside in
+    let r = named_idle a c.pop.new.self.items c.in-Some.i c.self.invariant c.in-Some.ensures.items in
+    let cap = c.in-Some.ensures.capacity in
+    deferred_invariant a c.args.p c.in-Some.i c.index_mut-3.result.now c.put.new.self _ c.pop.new.self c.self.invariant (known_in a c.args.self.now _ c.self.view_is c.requires) r.0 r.1 (length-set a.jobs.items _ _) c.index_mut-3.ensures.value c.put.ensures.room c.put.ensures.waits c.in-Some.ensures.items (omega (arith, cap))
+
+pub returns-clause-deferred : goal.returns-clause-deferred
+returns-clause-deferred g c =
+    let a = c.self.inside in
+    let r = named_idle a c.pop.new.self.items c.in-Some.i c.self.invariant c.in-Some.ensures.items in
+    let idle = subst (λ (w : State _). (c.in-Some.i < length w.states) × (status_at w c.in-Some.i ≡ status.Idle)) c.self.view_is r in
+    (c.in-Some.i, idle, deferred_view a c.args.p c.in-Some.i c.index_mut-3.result.now c.put.new.self (known_in a c.args.self.now _ c.self.view_is c.requires) c.index_mut-3.ensures.value c.put.ensures.shown ∙ ap (λ (w : State _). waiting_as status.Deferred c.args.p c.in-Some.i w) c.self.view_is)

@@ -1,0 +1,45 @@
+use Rattle.std.proofs.Common.{arith, ap, sym, ◌∙◌, ◌≡◌, ◌<◌, length, ℕ, subst, is_some, Option, set}
+use Rattle.sdd_table.specs.State.{State, is_used, status_at, placed}
+use Rattle.sdd_table.specs.declared.status.Status.TheVariants as status
+use Rattle.sdd_table.proofs.SlotLemmas.{a_value, named_slot, used_room, placed_invariant, within_values}
+use Rattle.sdd_table.specs.View.{state_of}
+use Rattle.sdd_table.specs.declared.status.Status.{Status}
+use Rattle.sdd_table.specs.declared.table.Table.TheInside.{Inside}
+use Rattle.sdd_table.proofs.table.Table.place.Goals as goal
+
+abbrev placed_by : {T J : Type 0} (a : Inside T J) (i : ℕ) (x : Option T) (s : Status) → State T
+placed_by a i x s = record (state_of a) { values = set a.values.items i x; states = set a.states.items i s }
+
+pub index_mut-requires : goal.index_mut-requires
+index_mut-requires g c =
+    let r = named_slot c.self.inside c.pop.new.self.items c.in-Some.i c.self.invariant c.in-Some.ensures.items in
+    omega (arith, r.0, c.self.inside.states.ok.0)
+
+pub overflow_add-self : goal.overflow_add-self
+overflow_add-self g c =
+    let r = named_slot c.self.inside c.pop.new.self.items c.in-Some.i c.self.invariant c.in-Some.ensures.items in
+    let less = used_room c.self.inside c.in-Some.i c.self.invariant r.0 (ap is_used r.1) in
+    omega (arith, less, c.self.inside.states.ok.0)
+
+pub index_mut-requires-2 : goal.index_mut-requires-2
+index_mut-requires-2 g c =
+    let r = named_slot c.self.inside c.pop.new.self.items c.in-Some.i c.self.invariant c.in-Some.ensures.items in
+    within_values c.self.inside c.in-Some.i c.self.invariant r.0
+
+pub unreachable-requires : goal.unreachable-requires
+unreachable-requires g c =
+    let r = named_slot c.self.inside c.pop.new.self.items c.in-Some.i c.self.invariant c.in-Some.ensures.items in
+    a_value c.self.inside c.in-Some.i _ _ c.self.invariant r.0 (ap is_used r.1) c.index_mut-2.ensures.value (sym c.replace.ensures.value ∙ c.in-Some-replace.is)
+
+pub invariant_of-self-2 : goal.invariant_of-self-2
+invariant_of-self-2 g c =
+    let a = c.self.inside in
+    let r = named_slot a c.pop.new.self.items c.in-Some.i c.self.invariant c.in-Some.ensures.items in
+    let cap = c.in-Some.ensures.capacity in
+    placed_invariant a c.replace.new.dest c.in-Some.i c.args.status c.pop.new.self c.self.invariant r.0 r.1 (ap is_some c.replace.ensures.after) c.requires.used c.requires.waits_not c.in-Some.ensures.items (omega (arith, cap))
+
+pub returns-clause-placed : goal.returns-clause-placed
+returns-clause-placed g c =
+    let a = c.self.inside in
+    let r = named_slot a c.pop.new.self.items c.in-Some.i c.self.invariant c.in-Some.ensures.items in
+    (subst (λ (w : State _). (c.in-Some.i < length w.states) × (status_at w c.in-Some.i ≡ status.Free)) c.self.view_is r, ap (λ (z : Option _). placed_by a c.in-Some.i z c.args.status) c.replace.ensures.after ∙ ap (λ (w : State _). placed c.in-Some.i c.args.value c.args.status w) c.self.view_is)

@@ -1,0 +1,14 @@
+use Rattle.std.proofs.Common.{ap, ◌∙◌, arith}
+use Rattle.sdd_table.specs.State.{bags_moved_on, changing}
+use Rattle.sdd_table.proofs.SlotLemmas.{changed_view, changed_invariant, known_in}
+use Rattle.sdd_table.proofs.table.Table.turn.Goals as goal
+
+pub invariant_of-self : goal.invariant_of-self
+invariant_of-self g c =
+    let known = known_in c.self.inside c.args.self.now _ c.self.view_is c.requires.participant in
+    changed_invariant c.self.inside c.args.p c.index_mut.result.now _ c.self.invariant known c.index_mut.ensures.value (c.turn.ensures.room _) (omega arith)
+
+pub returns : goal.returns
+returns g c =
+    let known = known_in c.self.inside c.args.self.now _ c.self.view_is c.requires.participant in
+    changed_view c.self.inside c.args.p bags_moved_on c.index_mut.result.now _ known c.index_mut.ensures.value c.turn.ensures.shown ∙ ap (λ w. changing c.args.p bags_moved_on w) c.self.view_is

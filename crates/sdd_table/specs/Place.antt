@@ -1,0 +1,104 @@
+-- what holds of every place of one thread between two calls
+use Rattle.std.specs.Prelude.{◌≡◌, ◌≢◌, ℕ, ◌+◌, ◌<◌, ◌≤◌, [], length, is_some, Option, None, Some, true}
+use Rattle.std.specs.List.{sum_by}
+use Rattle.sdd_table.specs.State.{State, ParticipantState, status_at, value_at, cell_at, participant_at, local_at, weight, is_used, with_status, with_cell}
+use Rattle.sdd_table.specs.Steps.{times}
+use Rattle.sdd_table.specs.declared.tag.Tag.{Tag}
+use Rattle.sdd_table.specs.declared.sizes.Sizes.{Sizes}
+use Rattle.sdd_table.specs.declared.status.Status.TheVariants as status
+use Rattle.sdd_table.specs.declared.status.Cell.TheVariants as cell
+
+-- how often place j waits in the bags of m
+abbrev pub held_times : ℕ → ParticipantState → ℕ
+held_times j m = times j m.current + times j m.prior + times j m.oldest + times j m.due
+
+-- each place that waits does so in one bag, no other place is in a bag; a slot has a value exactly if it is used
+pub record Sound {T : Type 0} (w : State T) : Type 0 where
+  pub sizes : length w.values ≡ length w.states
+  pub once : (j : ℕ) → sum_by (held_times j) w.participants ≡ weight (status_at w j)
+  pub filled : (j : ℕ) → is_some (value_at w j) ≡ is_used (status_at w j)
+
+-- participant p has a guard open
+abbrev pub IsOpen : {T : Type 0} → State T → ℕ → Type 0
+IsOpen w p = 0 < (local_at w p).nesting
+
+pub record IsPlace {T : Type 0} (w : State T) : Type 0 where
+  pub sound : Sound w
+  -- there is a participant
+  pub some : 0 < length w.participants
+  -- nothing is being reclaimed
+  pub idle : (k : ℕ) → (participant_at w k).due ≡ []
+  -- no participant is ahead of the count, and it is at most one ahead of an open guard
+  pub past : (k : ℕ) → (local_at w k).previous ≤ w.count
+  pub began : (k : ℕ) → IsOpen w k → (local_at w k).published ≤ w.count
+  pub near : (k : ℕ) → IsOpen w k → w.count ≤ (local_at w k).published + 1
+
+-- slot i has an item with owners, n of them
+pub record IsShared {T : Type 0} (w : State T) (i : ℕ) : Type 0 where
+  pub inside : i < length w.states
+  pub owners : ℕ
+  pub is : status_at w i ≡ status.Shared owners
+
+-- slot i has an item with one owner
+pub record IsOwned {T : Type 0} (w : State T) (i : ℕ) : Type 0 where
+  pub inside : i < length w.states
+  pub is : status_at w i ≡ status.Owned
+
+-- cell c keeps the owner of an item, or none, with a tag
+pub record IsOwnedCell {T : Type 0} (w : State T) (c : ℕ) : Type 0 where
+  pub inside : c < length w.cells
+  pub item : Option ℕ
+  pub tag : Tag
+  pub is : cell_at w c ≡ cell.OfOwned item tag
+
+-- cell c keeps an owner of a shared item, or none, with a tag
+pub record IsSharedCell {T : Type 0} (w : State T) (c : ℕ) : Type 0 where
+  pub inside : c < length w.cells
+  pub item : Option ℕ
+  pub tag : Tag
+  pub is : cell_at w c ≡ cell.OfShared item tag
+
+-- cell c names an item that it doesn't own, or none, with a tag
+pub record IsRawCell {T : Type 0} (w : State T) (c : ℕ) : Type 0 where
+  pub inside : c < length w.cells
+  pub item : Option ℕ
+  pub tag : Tag
+  pub is : cell_at w c ≡ cell.OfRaw item tag
+
+-- slot i has an item
+pub record HasItem {T : Type 0} (w : State T) (i : ℕ) : Type 0 where
+  pub inside : i < length w.states
+  pub used : is_used (status_at w i) ≡ true
+
+-- slot i has a shared item with one owner alone
+abbrev pub HasOneOwner : {T : Type 0} → State T → ℕ → Type 0
+HasOneOwner w i = (n : ℕ) × (status_at w i ≡ status.Shared n) × (n ≤ 1)
+
+-- the item in slot i has one owner more
+abbrev pub AddsOwner : {T : Type 0} → ℕ → State T → State T → Type 0
+AddsOwner i w w' = (n : ℕ) × (status_at w i ≡ status.Shared n) × (w' ≡ with_status i (status.Shared (n + 1)) w)
+
+-- slot i has no shared item, or one with as many owners as are counted
+abbrev pub TakesNoOwner : {T : Type 0} → ℕ → State T → Type 0
+TakesNoOwner i w = (n : ℕ) → n < 4294967295 → status_at w i ≢ status.Shared n
+
+-- a new cell c copies a cell of shared items, which keeps an item or none, with a tag
+pub record CopiesCell {T : Type 0} (c : ℕ) (item : Option ℕ) (tag : Tag) (w w' : State T) : Type 0 where
+  -- it keeps one more owner of the item
+  pub more : (i n : ℕ) → item ≡ Some i → status_at w i ≡ status.Shared n → n < 4294967295 → w' ≡ with_cell c (cell.OfShared (Some i) tag) (with_status i (status.Shared (n + 1)) w)
+  -- and none where the item takes none
+  pub none : (i : ℕ) → item ≡ Some i → TakesNoOwner i w → w' ≡ with_cell c (cell.OfShared None tag) w
+  pub null : item ≡ None → w' ≡ with_cell c (cell.OfShared None tag) w
+
+-- a pointer is null, or names an item that is there
+abbrev pub IsReadable : {T : Type 0} → State T → Option ℕ → Type 0
+IsReadable w None = Unit {0}
+IsReadable w (Some i) = (i < length w.states) × (is_used (status_at w i) ≡ true)
+
+-- the sizes that a place may have
+pub record IsSized (n : Sizes) : Type 0 where
+  pub some : 1 ≤ n.participants
+  pub participants : n.participants ≤ 1073741824
+  pub slots : n.slots ≤ 1073741824
+  pub cells : n.cells ≤ 1073741824
+  pub jobs : n.jobs ≤ 1073741824

@@ -1,0 +1,219 @@
+-- what each call of a place makes of its state
+use Rattle.std.specs.Prelude.{◌≡◌, ℕ, zero, suc, ◌+◌, ◌-◌, ◌==◌, Bool, true, false, not, ◌&&◌, ◌||◌, cond, Option, None, Some, List, [], ◌∷◌, ◌++◌, length, replicate, min, leb, ltb}
+use Rattle.std.specs.List.{list_all, sum_by}
+use Rattle.sdd_table.specs.Holding.{Hold, OwnedItem, SharedItem, OwnedIn, SharedIn}
+use Rattle.sdd_table.specs.State.{State, ParticipantState, status_at, value_at, cell_at, participant_at, local_at, with_status, with_cell, with_local, retired, slot_freed, rotated_bags, taken, raised, is_present}
+use Rattle.sdd_table.specs.declared.status.Status.{Status}
+use Rattle.sdd_table.specs.declared.status.Status.TheVariants as status
+use Rattle.sdd_table.specs.declared.status.Cell.{Cell}
+use Rattle.sdd_table.specs.declared.status.Cell.TheVariants as cell
+use Rattle.sdd_table.specs.declared.status.LocalState.{LocalState}
+
+-- 1 where two numbers are equal
+abbrev pub hit : ℕ → ℕ → ℕ
+hit i j = cond (i == j) 1 0
+
+-- how often j is in a list
+abbrev pub times : ℕ → List ℕ → ℕ
+times j xs = sum_by (λ i. hit i j) xs
+
+-- participant p gives one owner of a shared item back; the last one retires it
+abbrev pub released_as : {T : Type 0} → Status → ℕ → ℕ → State T → State T
+released_as status.Free p i w = w
+released_as status.Owned p i w = w
+released_as (status.Shared n) p i w = cond (leb n 1) (retired p i w) (with_status i (status.Shared (n - 1)) w)
+released_as status.Raw p i w = w
+released_as (status.Collected n) p i w = w
+released_as status.Retired p i w = w
+released_as status.Idle p i w = w
+released_as status.Deferred p i w = w
+
+abbrev pub released : {T : Type 0} → ℕ → ℕ → State T → State T
+released p i w = released_as (status_at w i) p i w
+
+-- participant p gives the one owner of an item back
+abbrev pub disowned_as : {T : Type 0} → Status → ℕ → ℕ → State T → State T
+disowned_as status.Free p i w = w
+disowned_as status.Owned p i w = retired p i w
+disowned_as (status.Shared n) p i w = w
+disowned_as status.Raw p i w = w
+disowned_as (status.Collected n) p i w = w
+disowned_as status.Retired p i w = w
+disowned_as status.Idle p i w = w
+disowned_as status.Deferred p i w = w
+
+abbrev pub disowned : {T : Type 0} → ℕ → ℕ → State T → State T
+disowned p i w = disowned_as (status_at w i) p i w
+
+-- a cell of owned items ends, and participant p gives back what it keeps
+abbrev pub owned_ended_as : {T : Type 0} → Cell → ℕ → ℕ → State T → State T
+owned_ended_as cell.Free p c w = w
+owned_ended_as (cell.OfOwned None t) p c w = with_cell c cell.Free w
+owned_ended_as (cell.OfOwned (Some i) t) p c w = disowned p i (with_cell c cell.Free w)
+owned_ended_as (cell.OfShared o t) p c w = w
+owned_ended_as (cell.OfRaw o t) p c w = w
+
+abbrev pub owned_ended : {T : Type 0} → ℕ → ℕ → State T → State T
+owned_ended p c w = owned_ended_as (cell_at w c) p c w
+
+-- a cell of shared items ends, and participant p gives back what it keeps
+abbrev pub shared_ended_as : {T : Type 0} → Cell → ℕ → ℕ → State T → State T
+shared_ended_as cell.Free p c w = w
+shared_ended_as (cell.OfOwned o t) p c w = w
+shared_ended_as (cell.OfShared None t) p c w = with_cell c cell.Free w
+shared_ended_as (cell.OfShared (Some i) t) p c w = released p i (with_cell c cell.Free w)
+shared_ended_as (cell.OfRaw o t) p c w = w
+
+abbrev pub shared_ended : {T : Type 0} → ℕ → ℕ → State T → State T
+shared_ended p c w = shared_ended_as (cell_at w c) p c w
+
+-- participant p gives back what an item held that it reclaims
+abbrev pub given : {T : Type 0} → ℕ → Hold → State T → State T
+given p (OwnedItem i) w = disowned p i w
+given p (SharedItem i) w = released p i w
+given p (OwnedIn c) w = owned_ended p c w
+given p (SharedIn c) w = shared_ended p c w
+
+abbrev pub given_all : {T : Type 0} → ℕ → List Hold → State T → State T
+given_all p [] w = w
+given_all p (h ∷ hs) w = given_all p hs (given p h w)
+
+-- what the item in a slot holds
+abbrev pub held_in : {T : Type 0} → (T → List Hold) → Option T → List Hold
+held_in holds None = []
+held_in holds (Some v) = holds v
+
+-- the next place that is due to p is reclaimed
+abbrev pub due_reclaimed_as : {T : Type 0} → (T → List Hold) → ℕ → List ℕ → State T → State T
+due_reclaimed_as holds p [] w = w
+due_reclaimed_as holds p (i ∷ is) w = given_all p (held_in holds (value_at w i)) (taken p i is w)
+
+abbrev pub due_reclaimed : {T : Type 0} → (T → List Hold) → ℕ → State T → State T
+due_reclaimed holds p w = due_reclaimed_as holds p (participant_at w p).due w
+
+-- the next n places that are due to p are reclaimed
+abbrev pub reclaimed : {T : Type 0} → (T → List Hold) → ℕ → ℕ → State T → State T
+reclaimed holds p zero w = w
+reclaimed holds p (suc n) w = reclaimed holds p n (due_reclaimed holds p w)
+
+-- the next place that was due to p was reclaimed
+pub record IsNext {T : Type 0} (holds : T → List Hold) (p : ℕ) (w w' : State T) : Type 0 where
+  pub place : ℕ
+  pub rest : List ℕ
+  pub was : (participant_at w p).due ≡ place ∷ rest
+  pub now : w' ≡ due_reclaimed holds p w
+
+abbrev pub is_nil : List ℕ → Bool
+is_nil [] = true
+is_nil (x ∷ xs) = false
+
+abbrev pub bags_empty : ParticipantState → Bool
+bags_empty m = is_nil m.current && (is_nil m.prior && is_nil m.oldest)
+
+-- the flag of garbage is cleared where all three bags are empty
+abbrev pub settled : {T : Type 0} → ℕ → State T → State T
+settled p w = with_local p (record (local_at w p) { garbage = (local_at w p).garbage && not (bags_empty (participant_at w p)) }) w
+
+-- the bags of p move on once, and what was in the oldest is reclaimed
+abbrev pub participant_rotated : {T : Type 0} → (T → List Hold) → ℕ → State T → State T
+participant_rotated holds p w = settled p (reclaimed holds p (length (participant_at w p).oldest) (rotated_bags p w))
+
+-- p publishes the count
+abbrev pub count_published : {T : Type 0} → ℕ → State T → State T
+count_published p w = with_local p (record (local_at w p) { nesting = 1; published = w.count; previous = w.count; accelerated = false }) w
+
+-- p opens a guard: an outermost one publishes the count, and rotates where that isn't the one found before
+abbrev pub guard_opened : {T : Type 0} → (T → List Hold) → ℕ → State T → State T
+guard_opened holds p w =
+    cond ((local_at w p).nesting == 0)
+    (cond ((local_at w p).previous == w.count) (count_published p w) (participant_rotated holds p (count_published p w)))
+    (with_local p (record (local_at w p) { nesting = (local_at w p).nesting + 1 }) w)
+
+-- the count is raised by one if every open guard published it, and it isn't at its end
+abbrev pub scanned : {T : Type 0} → State T → State T
+scanned w = cond (list_all (is_present w.count) w.participants && ltb w.count 18446744073709551615) (raised w) w
+
+abbrev pub closings_after : LocalState → ℕ
+closings_after m = min 64 (m.closings + 1)
+
+-- whether an outermost closing scans
+abbrev pub scans : LocalState → Bool
+scans m = m.accelerated || (m.garbage && leb 64 (closings_after m))
+
+-- p closes a guard
+abbrev pub guard_closed : {T : Type 0} → ℕ → State T → State T
+guard_closed p w =
+    cond ((local_at w p).nesting == 1)
+    (cond (scans (local_at w p))
+    (with_local p (record (local_at w p) { nesting = 0; closings = 0 }) (scanned w))
+    (with_local p (record (local_at w p) { nesting = 0; closings = closings_after (local_at w p) }) w))
+    (with_local p (record (local_at w p) { nesting = (local_at w p).nesting - 1 }) w)
+
+-- what was collected at least three raises ago can be reclaimed: no guard that is open can name it
+abbrev pub overdue : ℕ → Status → Bool
+overdue count status.Free = false
+overdue count status.Owned = false
+overdue count (status.Shared n) = false
+overdue count status.Raw = false
+overdue count (status.Collected n) = leb (n + 3) count
+overdue count status.Retired = false
+overdue count status.Idle = false
+overdue count status.Deferred = false
+
+-- the first place of a private bag, if there is one, isn't overdue
+abbrev pub IsTimely : {T : Type 0} → State T → List ℕ → Type 0
+IsTimely w [] = Unit {0}
+IsTimely w (i ∷ is) = overdue w.count (status_at w i) ≡ false
+
+-- p reclaims what is overdue at the front of a private bag
+abbrev pub purged : {T : Type 0} → (T → List Hold) → ℕ → List ℕ → State T → State T
+purged holds p [] w = w
+purged holds p (i ∷ is) w = cond (overdue w.count (status_at w i)) (purged holds p is (given_all p (held_in holds (value_at w i)) (slot_freed i w))) w
+
+-- what that leaves in the bag
+abbrev pub left_waiting : {T : Type 0} → (T → List Hold) → ℕ → List ℕ → State T → List ℕ
+left_waiting holds p [] w = []
+left_waiting holds p (i ∷ is) w = cond (overdue w.count (status_at w i)) (left_waiting holds p is (given_all p (held_in holds (value_at w i)) (slot_freed i w))) (i ∷ is)
+
+-- an item waits in a private bag with room for n, which notes the count; where that is full, p retires it
+abbrev pub set_aside : {T : Type 0} → ℕ → ℕ → List ℕ → ℕ → State T → State T
+set_aside p n is i w = cond (ltb (length is) n) (with_status i (status.Collected w.count) w) (retired p i w)
+
+abbrev pub enqueued : ℕ → List ℕ → ℕ → List ℕ
+enqueued n is i = cond (ltb (length is) n) (is ++ i ∷ []) is
+
+-- what waits in a private bag is retired by p
+abbrev pub handed_over_as : {T : Type 0} → Status → ℕ → ℕ → State T → State T
+handed_over_as status.Free p i w = w
+handed_over_as status.Owned p i w = w
+handed_over_as (status.Shared n) p i w = w
+handed_over_as status.Raw p i w = w
+handed_over_as (status.Collected n) p i w = retired p i w
+handed_over_as status.Retired p i w = w
+handed_over_as status.Idle p i w = w
+handed_over_as status.Deferred p i w = w
+
+abbrev pub handed_over : {T : Type 0} → ℕ → List ℕ → State T → State T
+handed_over p [] w = w
+handed_over p (i ∷ is) w = handed_over p is (handed_over_as (status_at w i) p i w)
+
+-- participants rotate one after the other
+abbrev pub rotated_each : {T : Type 0} → (T → List Hold) → List ℕ → State T → State T
+rotated_each holds [] w = w
+rotated_each holds (p ∷ ps) w = rotated_each holds ps (participant_rotated holds p w)
+
+-- p rotated until its bags were empty
+pub record Swept {T : Type 0} (holds : T → List Hold) (p : ℕ) (w w' : State T) : Type 0 where
+  pub turns : ℕ
+  pub now : w' ≡ rotated_each holds (replicate turns p) w
+  pub empty : bags_empty (participant_at w' p) ≡ true
+
+-- every participant rotated until all bags were empty
+pub record AllSwept {T : Type 0} (holds : T → List Hold) (w w' : State T) : Type 0 where
+  pub turns : List ℕ
+  pub now : w' ≡ rotated_each holds turns w
+  pub empty : (p : ℕ) → bags_empty (participant_at w' p) ≡ true
+
+-- no guard is open
+abbrev pub NoneOpen : {T : Type 0} → State T → Type 0
+NoneOpen w = (p : ℕ) → (local_at w p).nesting ≡ 0

@@ -1,0 +1,32 @@
+//! What an item owns, and how it gives that up.
+
+ghost use Rattle.std.specs.Prelude.{◌≡◌, List, [], ◌∷◌, MatchOption};
+ghost use Rattle.sdd_table.specs.Holding.{Hold};
+ghost use Rattle.sdd_table.specs.Tokens.{hold_of};
+
+use crate::cell::{AtomicOwned, AtomicShared};
+use crate::owner::{Owned, Shared};
+
+/// What an item may own.
+pub enum Held<T> {
+    Owned(Owned<T>),
+    Shared(Shared<T>),
+    OwnedCell(AtomicOwned<T>),
+    SharedCell(AtomicShared<T>),
+}
+
+/// An item that gives up what it owns one at a time, and is then spent.
+///
+/// A reclaim calls `give_up` until there is no more, and then `end`.
+pub trait Holds: Sized {
+    /// What the item owns, in the order in which it is given up.
+    ghost holds: { Self → List Hold };
+
+    /// Gives up one owner or cell, or answers that nothing is left.
+    fn give_up(&mut self) -> Option<Held<Self>>
+        ensures { MatchOption result ((holds self.old ≡ []) × (holds self.new ≡ [])) (λ h. holds self.old ≡ hold_of h ∷ holds self.new) };
+
+    /// Spends the item, which owns nothing any more.
+    fn end(self)
+        requires { holds self ≡ [] };
+}
