@@ -14,7 +14,7 @@ use Rattle.leaf_array.specs.Cells.{lesser}
 use Rattle.leaf_array.specs.Edits.{above, below, removed, upserted}
 use Rattle.leaf_array.specs.Pairs.{IsAscending, has_key, value_of_key}
 use Rattle.leaf_array.proofs.ListLemmas.{IsAscending-removed}
-use Rattle.leaf_array.proofs.OrderLemmas.{turn_less}
+use Rattle.leaf_slots.proofs.OrderLemmas.{turn_less}
 
 module _ {K V : Type 0} (cmp : K → K → Ordering) (laws : IsTotalOrder cmp) (key : K) where
   none_below : (es : List (K × V)) → AllByRecursion (λ y. cmp key y ≡ Less) (keys_of es) → below cmp key es ≡ []

@@ -6,10 +6,12 @@ use Rattle.std.specs.Ordering.{is_lt}
 use Rattle.std.specs.List.{AllByRecursion}
 use Rattle.std.specs.List.Sorted.{IsStrictlySortedBy}
 use Rattle.std.specs.Map.{keys_of}
-use Rattle.leaf_array.specs.declared.place.Place.{Place}
-use Rattle.leaf_array.specs.declared.place.Place.TheVariants.{Empty, Dead, Live}
+use Rattle.leaf_slots.specs.declared.place.Place.{Place}
+use Rattle.leaf_slots.specs.declared.place.Place.TheVariants.{Empty, Dead, Live}
 use Rattle.leaf_array.specs.Cells.{lesser, slot_of, fresh_labels, filled_array}
-use Rattle.leaf_array.specs.Places.{live_pair, live_pairs, labels_above, dead_pairs, repacked, front_vacated, least, top, slot_uses, uses_below, no_half, no_places, IsEmptied, IsDeparted, IsPacked, IsArray, cells_of}
+use Rattle.leaf_slots.specs.Places.{live_pair, live_pairs, labels_above, dead_pairs, repacked, front_vacated, least, top, slot_uses, no_half, no_places, IsEmptied, IsDeparted, IsPacked}
+use Rattle.leaf_array.specs.Arrays.{uses_below, IsArray, cells_of}
+use Rattle.leaf_slots.proofs.CutLemmas.{emptied_take}
 
 pub past_end : {X : Type 0} (xs : List X) (n : ℕ) → length xs ≤ n → slice_get xs n ≡ None
 past_end [] zero le = refl
@@ -206,13 +208,6 @@ module _ {K V : Type 0} where
   packed_drop (suc n) (Empty ∷ ps) h = packed_departed (drop n ps) (departed_emptied (drop n ps) (emptied_drop n ps h))
   packed_drop (suc n) (Dead s k v ∷ ps) h = packed_departed (drop n ps) (departed_drop n ps h)
   packed_drop (suc n) (Live s g k v ∷ ps) h = packed_drop n ps h
-
-  pub emptied_take : (n : ℕ) (ps : List (Place K V)) → IsEmptied ps → IsEmptied (take n ps)
-  emptied_take zero ps h = tt
-  emptied_take (suc n) [] h = tt
-  emptied_take (suc n) (Empty ∷ ps) h = emptied_take n ps h
-  emptied_take (suc n) (Dead s k v ∷ ps) h = absurd h
-  emptied_take (suc n) (Live s g k v ∷ ps) h = absurd h
 
   departed_take : (n : ℕ) (ps : List (Place K V)) → IsDeparted ps → IsDeparted (take n ps)
   departed_take zero ps h = tt

@@ -2,11 +2,11 @@
 use Rattle.std.proofs.Common.{arith, ◌≡◌, ℕ, zero, suc, ◌+◌, ◌<◌, ◌≤◌, ◌∷◌, ◌||◌, ◌&&◌, not, [], List, ◌++◌, Bool, true, false, cond, length, take, refl, ap, ◌∙◌, sym, Some, slice_get, MatchOption}
 use Rattle.std.specs.List.{filter, remove, AllByRecursion}
 use Rattle.std.proofs.lemmas.Bool.{false≢true}
-use Rattle.leaf_array.specs.declared.place.Place.{Place}
-use Rattle.leaf_array.specs.declared.place.Place.TheVariants.{Empty, Dead, Live}
+use Rattle.leaf_slots.specs.declared.place.Place.{Place}
+use Rattle.leaf_slots.specs.declared.place.Place.TheVariants.{Empty, Dead, Live}
 use Rattle.std.proofs.lemmas.List.{append_assoc, append-nil}
 use Rattle.leaf_array.specs.Cells.{is_nil, labels_left, fallen, taken_out}
-use Rattle.leaf_array.specs.Places.{live_pairs, labels_above}
+use Rattle.leaf_slots.specs.Places.{live_pairs, labels_above}
 
 not_nil : {X : Type 0} (n : ℕ) (xs : List X) → n < length xs → is_nil xs ≡ true → ⊥
 not_nil n [] lt e = omega (arith, lt)

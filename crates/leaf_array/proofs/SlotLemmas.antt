@@ -4,10 +4,11 @@ use Rattle.std.specs.Option.{option_or}
 use Rattle.std.proofs.Common.{inl, inr, MatchOption}
 use Rattle.std.proofs.lemmas.Bool.{cases_lt}
 use Rattle.std.proofs.lemmas.Bool.Decides.{nat_tests}
-use Rattle.leaf_array.specs.declared.place.Place.{Place}
-use Rattle.leaf_array.specs.declared.place.Place.TheVariants.{Empty, Dead, Live}
+use Rattle.leaf_slots.specs.declared.place.Place.{Place}
+use Rattle.leaf_slots.specs.declared.place.Place.TheVariants.{Empty, Dead, Live}
 use Rattle.leaf_array.specs.Cells.{slot_of, rank_in, standing, reachable_in, tombstones_in}
-use Rattle.leaf_array.specs.Places.{live_pairs, labels_above, dead_pairs, pair_at_slot, stands, slot_uses, uses_below, IsEmptied, IsDeparted, IsPacked}
+use Rattle.leaf_slots.specs.Places.{live_pairs, labels_above, dead_pairs, pair_at_slot, stands, slot_uses, IsEmptied, IsDeparted, IsPacked}
+use Rattle.leaf_array.specs.Arrays.{uses_below}
 
 module _ {K V : Type 0} where
   emptied_slot : (slot : ℕ) (ps : List (Place K V)) → IsEmptied ps → pair_at_slot slot ps ≡ tombstones_in slot (dead_pairs ps)

@@ -1,5 +1,5 @@
 -- Strictly sorted pairs under edits, and what a look-up in them finds.
-use Rattle.std.proofs.Common.{◌≡◌, ℕ, zero, suc, ◌∷◌, [], List, Bool, true, false, cond, refl, ap, Some}
+use Rattle.std.proofs.Common.{◌≡◌, ℕ, zero, suc, ◌∷◌, [], List, true, cond, refl, ap, Some}
 use Rattle.std.specs.declared.cmp.Ordering.{Ordering}
 use Rattle.std.specs.declared.cmp.Ordering.TheVariants.{Less, Equal, Greater}
 use Rattle.std.specs.Ordering.{is_lt, is_eq, match_ordering}
@@ -7,10 +7,11 @@ use Rattle.std.specs.Option.{is_some}
 use Rattle.std.specs.Cmp.{IsTotalOrder}
 use Rattle.std.specs.List.{AllByRecursion, remove}
 use Rattle.std.specs.List.Sorted.{IsStrictlySortedBy}
-use Rattle.std.specs.Map.{keys_of, lookup, lookup_entry, remove_entry}
+use Rattle.std.specs.Map.{keys_of, lookup, remove_entry}
 use Rattle.std.specs.BTreeMap.{insert_entry, is_at}
 use Rattle.leaf_array.specs.Cells.{lesser}
-use Rattle.leaf_array.proofs.OrderLemmas.{turn_less, turn_greater, turn_equal}
+pub use Rattle.leaf_slots.proofs.FoundLemmas.{has_entry}
+use Rattle.leaf_slots.proofs.OrderLemmas.{turn_less, turn_greater, turn_equal}
 
 pub sorted_nil : {K : Type 0} (cmp : K → K → Ordering) → IsStrictlySortedBy cmp []
 unfolding IsStrictlySortedBy
@@ -70,7 +71,3 @@ module _ {K V : Type 0} (cmp : K → K → Ordering) where
           | Equal ↦ λ o. let u = turn_equal cmp laws e.0 k o in rw u (λ h so. refl)
           | Greater ↦ λ o. let u = turn_greater cmp laws e.0 k o in rw u (λ h so. absurd (no_later es k (all_above k e.0 es u so.0) h))
         ]) refl
-
-  pub has_entry : (test : K → Bool) (es : List (K × V)) → is_some (lookup test es) ≡ is_some (lookup_entry test es)
-  has_entry test [] = refl
-  has_entry test (e ∷ es) = elim (test e.0) as (λ b. is_some (cond b (Some e.1) (lookup test es)) ≡ is_some (cond b (Some e) (lookup_entry test es))) [ true ↦ refl | false ↦ has_entry test es ]

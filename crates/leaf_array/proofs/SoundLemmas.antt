@@ -1,69 +1,29 @@
 -- The edits of an array keep its invariant, and are those of its cells.
-use Rattle.std.proofs.Common.{arith, ◌≡◌, ℕ, zero, suc, ◌+◌, ◌<◌, ◌≤◌, ◌++◌, ◌-◌, length-append, ◌∷◌, ◌||◌, ◌&&◌, ◌==◌, not, IsSome, slice_index_or, [], List, Bool, true, false, length, take, drop, refl, ap, ◌∙◌, sym, subst, Option, Some, None}
+use Rattle.std.proofs.Common.{arith, ◌≡◌, ℕ, zero, suc, ◌+◌, ◌<◌, ◌≤◌, ◌++◌, ◌-◌, length-append, ◌∷◌, ◌||◌, ◌&&◌, ◌==◌, not, IsSome, slice_index_or, [], List, Bool, true, false, length, take, drop, refl, ap, ◌∙◌, sym, subst}
 use Rattle.std.specs.declared.cmp.Ordering.{Ordering}
-use Rattle.std.specs.declared.cmp.Ordering.TheVariants.{Less, Equal, Greater}
 use Rattle.std.specs.Option.{is_some}
 use Rattle.std.specs.Cmp.{IsTotalOrder}
 use Rattle.std.specs.List.{remove}
 use Rattle.std.specs.List.Sorted.{IsStrictlySortedBy}
-use Rattle.std.specs.Map.{keys_of, lookup, lookup_entry, remove_entry}
+use Rattle.std.specs.Map.{keys_of, lookup, remove_entry}
 use Rattle.std.specs.BTreeMap.{insert_entry, is_at}
-use Rattle.std.proofs.lemmas.Bool.{false≢true}
 use Rattle.std.proofs.lemmas.Bool.Decides.{nat_tests}
-use Rattle.leaf_array.specs.declared.place.Place.{Place}
-use Rattle.leaf_array.specs.declared.place.Place.TheVariants.{Empty, Dead, Live}
+use Rattle.leaf_slots.specs.declared.place.Place.{Place}
+use Rattle.leaf_slots.specs.declared.place.Place.TheVariants.{Empty, Dead, Live}
 use Rattle.leaf_array.specs.Cells.{Cells, is_nil, lesser, slot_of, array_inserted, array_replaced, array_overwritten, array_removed, removed_at, appended, entered, handed_on, fallen}
-use Rattle.leaf_array.specs.Places.{live_pair, live_pairs, labels_above, dead_pairs, has_room, pushed, tombstones, renewed, paired, died, live_below, least, top, slot_uses, no_places, IsPacked, IsHit, IsMiss, IsArray, cells_of}
-use Rattle.leaf_array.proofs.SearchLemmas.{least_not_lesser, missed}
-use Rattle.leaf_array.proofs.OrderLemmas.{below_lesser, found_entry, missing, hit_within, pairs_insert, pairs_renew}
+use Rattle.leaf_slots.specs.Places.{live_pair, live_pairs, labels_above, dead_pairs, has_room, pushed, tombstones, renewed, paired, died, live_below, top, slot_uses, no_places, IsPacked}
+use Rattle.leaf_array.specs.Arrays.{IsArray, cells_of}
+use Rattle.leaf_slots.proofs.OrderLemmas.{below_lesser, hit_within, pairs_insert, pairs_renew}
 use Rattle.leaf_array.proofs.PackLemmas.{least_at, past_end}
-use Rattle.leaf_array.proofs.EditLemmas as edit
+use Rattle.leaf_slots.proofs.EditLemmas as edit
+use Rattle.leaf_slots.proofs.FoundLemmas as found
 use Rattle.leaf_array.proofs.SortLemmas as sort
 
 nil_length : {X : Type 0} (xs : List X) → (length xs == 0) ≡ is_nil xs
 nil_length [] = refl
 nil_length (x ∷ xs) = grind (arith, nat_tests)
 
-none_is : {X : Type 0} (o : Option X) → is_some o ≡ false → o ≡ None
-none_is None h = refl
-none_is (Some x) h = cc
-
 module _ {K V : Type 0} (cmp : K → K → Ordering) (laws : IsTotalOrder cmp) (key : K) where
-  -- ---- what a look-up says of the search
-
-  hit_or_miss : (ps : List (Place K V)) (o : Option (K × V)) → least cmp key ps ≡ o → is_some (lookup (is_at (cmp key)) (live_pairs ps)) ≡ true → IsStrictlySortedBy cmp (keys_of (live_pairs ps)) → IsHit cmp key ps
-  hit_or_miss ps None e h so = let m = missing cmp laws key ps so (λ p q. absurd (let bad : None ≡ Some p = cc in let w = ap is_some bad in false≢true w)) in absurd (false≢true (ap is_some (sym m) ∙ h))
-  hit_or_miss ps (Some p) e h so =
-      (elim (cmp p.0 key) as (λ o. cmp p.0 key ≡ o → IsHit cmp key ps) [
-        | Less ↦ λ o. absurd (let l = least_not_lesser cmp key ps p e in cc)
-        | Equal ↦ λ o. (p, e, o)
-        | Greater ↦ λ o.
-            let m = missing cmp laws key ps so (missed cmp key ps p.0 p.1 e (λ q. cc)) in
-            absurd (false≢true (ap is_some (sym m) ∙ h))
-      ]) refl
-
-  pub hit_from : (ps : List (Place K V)) → is_some (lookup (is_at (cmp key)) (live_pairs ps)) ≡ true → IsStrictlySortedBy cmp (keys_of (live_pairs ps)) → IsHit cmp key ps
-  hit_from ps h so = hit_or_miss ps (least cmp key ps) refl h so
-
-  pub has_from : (ps : List (Place K V)) → IsHit cmp key ps → is_some (lookup (is_at (cmp key)) (live_pairs ps)) ≡ true
-  has_from ps h = sort.has_entry cmp (is_at (cmp key)) (live_pairs ps) ∙ ap is_some (found_entry cmp laws key ps h.0 h.1 h.2)
-
-  pub miss_from : (ps : List (Place K V)) → is_some (lookup (is_at (cmp key)) (live_pairs ps)) ≡ false → IsMiss cmp key ps
-  miss_from ps h e found = missed cmp key ps e.0 e.1 found (λ q. false≢true (sym h ∙ has_from ps (e, found, q))) e found
-
-  pub found_some : (ps : List (Place K V)) (k : K) (v : V) → least cmp key ps ≡ Some (k, v) → cmp k key ≡ Equal
-      → (live_below cmp key ps ≡ lesser cmp key (live_pairs ps)) × (live_below cmp key ps < length (live_pairs ps)) × (lookup_entry (is_at (cmp key)) (live_pairs ps) ≡ Some (k, v))
-  found_some ps k v e q = (below_lesser cmp key ps, hit_within cmp laws key ps ((k, v), e, q), found_entry cmp laws key ps (k, v) e q)
-
-  pub found_none : (ps : List (Place K V)) → IsStrictlySortedBy cmp (keys_of (live_pairs ps)) → IsMiss cmp key ps → lookup_entry (is_at (cmp key)) (live_pairs ps) ≡ None
-  found_none ps so m = none_is (lookup_entry (is_at (cmp key)) (live_pairs ps)) (sym (sort.has_entry cmp (is_at (cmp key)) (live_pairs ps)) ∙ ap is_some (missing cmp laws key ps so m))
-
-  pub missing_from : (ps : List (Place K V)) → IsStrictlySortedBy cmp (keys_of (live_pairs ps)) → IsMiss cmp key ps → is_some (lookup (is_at (cmp key)) (live_pairs ps)) ≡ false
-  missing_from ps so m = ap is_some (missing cmp laws key ps so m)
-
-  pub missed_all : (ps : List (Place K V)) → least cmp key ps ≡ None → IsMiss cmp key ps
-  missed_all ps h e q = absurd (let bad : None ≡ Some e = cc in false≢true (ap is_some bad))
-
   pub room_at : (ps : List (Place K V)) (len used at : ℕ) → IsArray cmp ps len used → used < 15 → at ≡ lesser cmp key (live_pairs ps) → has_room (drop at ps) ≡ true
   room_at ps len used at s lt e =
       let le : at ≤ length (live_pairs ps) = omega (arith, e, below_lesser cmp key ps, edit.below_live cmp key ps) in
@@ -81,7 +41,7 @@ module _ {K V : Type 0} (cmp : K → K → Ordering) (laws : IsTotalOrder cmp) (
 
   pub live_at_key : (ps : List (Place K V)) (len used at : ℕ) → IsArray cmp ps len used → at ≡ lesser cmp key (live_pairs ps) → is_some (lookup (is_at (cmp key)) (live_pairs ps)) ≡ true
       → IsSome (live_pair (slice_index_or ps at Empty))
-  live_at_key ps len used at s e there = live_at at ps (omega (arith, e, below_lesser cmp key ps, hit_within cmp laws key ps (hit_from ps there s.sorted)))
+  live_at_key ps len used at s e there = live_at at ps (omega (arith, e, below_lesser cmp key ps, hit_within cmp laws key ps (found.hit_from cmp laws key ps there s.sorted)))
 
   -- ---- a new pair
 
@@ -105,7 +65,7 @@ module _ {K V : Type 0} (cmp : K → K → Ordering) (laws : IsTotalOrder cmp) (
       let is2 : qs ≡ take n ps ++ pushed (Live (slot_of used) h key val) (drop n ps) = rw en at is in
       let turn : qs ++ Empty ∷ [] ≡ new = rw is2 (edit.insert_turn n (Live (slot_of used) h key val) ps (edit.tailed_packed ps s.packed) (edit.room_behind n ps s.packed le room)) in
       let pairs : live_pairs qs ≡ live_pairs new = sym (edit.live_end qs) ∙ ap live_pairs turn in
-      let entries : live_pairs qs ≡ insert_entry cmp (live_pairs ps) key val = pairs ∙ pairs_insert cmp laws key (slot_of used) h val ps (miss_from ps absent) in
+      let entries : live_pairs qs ≡ insert_entry cmp (live_pairs ps) key val = pairs ∙ pairs_insert cmp laws key (slot_of used) h val ps (found.miss_from cmp laws key ps absent) in
       let dead : dead_pairs qs ≡ dead_pairs ps = sym (edit.dead_end qs) ∙ ap dead_pairs turn ∙ edit.dead_insert (slot_of used) key val h n ps in
       let longer : length (live_pairs qs) ≡ length (live_pairs ps) + 1 = ap length pairs ∙ edit.length_insert (slot_of used) key val h n ps le in
       record {
@@ -140,7 +100,7 @@ module _ {K V : Type 0} (cmp : K → K → Ordering) (laws : IsTotalOrder cmp) (
   -- a key that all are less than isn't there
   pub absent_last : (ps : List (Place K V)) → IsStrictlySortedBy cmp (keys_of (live_pairs ps)) → lesser cmp key (live_pairs ps) ≡ length (live_pairs ps)
       → is_some (lookup (is_at (cmp key)) (live_pairs ps)) ≡ false
-  absent_last ps so last = missing_from ps so (missed_all ps (least_at cmp key ps ∙ past_end (live_pairs ps) (lesser cmp key (live_pairs ps)) (omega (arith, last))))
+  absent_last ps so last = found.missing_from cmp laws key ps so (found.missed_all cmp laws key ps (least_at cmp key ps ∙ past_end (live_pairs ps) (lesser cmp key (live_pairs ps)) (omega (arith, last))))
 
   pub sound_append : (val : V) (ps qs : List (Place K V)) (len used h : ℕ) → IsArray cmp ps len used → used < 15 → lesser cmp key (live_pairs ps) ≡ length (live_pairs ps)
       → h ≡ used - top ps → length qs ≡ 15 → qs ≡ take len ps ++ pushed (Live (slot_of used) h key val) (drop len ps)
@@ -165,7 +125,7 @@ module _ {K V : Type 0} (cmp : K → K → Ordering) (laws : IsTotalOrder cmp) (
   sound_overwrite val ps qs len used at s e there count is =
       let n = live_below cmp key ps in
       let en : at ≡ n = e ∙ sym (below_lesser cmp key ps) in
-      let hit = hit_from ps there s.sorted in
+      let hit = found.hit_from cmp laws key ps there s.sorted in
       let in_live : n < length (live_pairs ps) = hit_within cmp laws key ps hit in
       let w = edit.was_live 0 n ps in_live in
       let at_n : qs ≡ take n ps ++ paired key val (drop n ps) = rw en at is in
@@ -195,7 +155,7 @@ module _ {K V : Type 0} (cmp : K → K → Ordering) (laws : IsTotalOrder cmp) (
       → is_some (lookup (is_at (cmp key)) (live_pairs ps)) ≡ true → mid ≡ take at ps ++ renewed (slot_of used) key val (drop at ps) → length mid ≡ 15 → has_room (drop len mid) ≡ true
   room_behind_live val ps mid len used at s lt e there mid_is mid_count =
       let sl = slot_of used in
-      let in_live : at < length (live_pairs ps) = omega (arith, e, below_lesser cmp key ps, hit_within cmp laws key ps (hit_from ps there s.sorted)) in
+      let in_live : at < length (live_pairs ps) = omega (arith, e, below_lesser cmp key ps, hit_within cmp laws key ps (found.hit_from cmp laws key ps there s.sorted)) in
       let mid_len : length (live_pairs mid) ≡ length (live_pairs ps) = rw mid_is (edit.length_renew sl key val at ps) in
       let mid_dead : dead_pairs mid ≡ dead_pairs ps = rw mid_is (edit.dead_renew sl key val at ps) in
       let mid_packed : IsPacked mid = rw mid_is (edit.packed_renew sl key val at ps in_live s.packed) in
@@ -210,7 +170,7 @@ module _ {K V : Type 0} (cmp : K → K → Ordering) (laws : IsTotalOrder cmp) (
       let n = live_below cmp key ps in
       let sl = slot_of used in
       let en : at ≡ n = e ∙ sym (below_lesser cmp key ps) in
-      let hit = hit_from ps there s.sorted in
+      let hit = found.hit_from cmp laws key ps there s.sorted in
       let in_live : n < length (live_pairs ps) = hit_within cmp laws key ps hit in
       let w = edit.was_live 0 n ps in_live in
       let old_is : old ≡ Dead w.slot w.key w.val = (rw en at was) ∙ w.died_is in

@@ -3,10 +3,10 @@ use Rattle.std.proofs.Common.{arith, ◌≡◌, ℕ, suc, ◌+◌, ◌==◌, ◌
 use Rattle.std.specs.List.{filter}
 use Rattle.std.specs.Option.{option_or}
 use Rattle.std.proofs.lemmas.Bool.Decides.{nat_tests}
-use Rattle.leaf_array.specs.declared.place.Place.{Place}
-use Rattle.leaf_array.specs.declared.place.Place.TheVariants.{Empty, Dead, Live}
+use Rattle.leaf_slots.specs.declared.place.Place.{Place}
+use Rattle.leaf_slots.specs.declared.place.Place.TheVariants.{Empty, Dead, Live}
 use Rattle.leaf_array.specs.Cells.{first_above, last_below, higher, lower}
-use Rattle.leaf_array.specs.Places.{labels_above}
+use Rattle.leaf_slots.specs.Places.{labels_above}
 
 same : (l m : ℕ × ℕ) → Some l ≡ Some m → l ≡ m
 same l m h = cc

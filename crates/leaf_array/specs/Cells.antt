@@ -1,11 +1,11 @@
 -- What a contract sees of an array: its reachable pairs by rising keys, and where they stand.
-use Rattle.std.specs.Prelude.{◌≡◌, refl, ℕ, zero, suc, ◌+◌, ◌-◌, ◌%◌, ◌==◌, ◌<◌, ◌||◌, ◌&&◌, not, Bool, true, false, cond, nat_lt, List, [], ◌∷◌, ◌++◌, map, Option, Some, None, MatchOption, length}
+use Rattle.std.specs.Prelude.{◌≡◌, refl, ℕ, zero, suc, ◌+◌, ◌==◌, ◌<◌, ◌||◌, ◌&&◌, not, Bool, true, false, cond, nat_lt, List, [], ◌∷◌, ◌++◌, Option, Some, None, MatchOption, length}
 use Rattle.std.specs.declared.cmp.Ordering.{Ordering}
-use Rattle.std.specs.Ordering.{is_lt}
 use Rattle.std.specs.Option.{is_some, option_or}
 use Rattle.std.specs.Map.{lookup, remove_entry}
 use Rattle.std.specs.BTreeMap.{insert_entry, is_at}
 use Rattle.std.specs.List.{remove, filter}
+pub use Rattle.leaf_slots.specs.Labels.{slot_of, rank_in, first_above, last_below, entered, handed_on, fallen, newest, lesser}
 use Rattle.std.specs.Coded.{Coded, code_by, coded×, coded_ℕ, coded_bool, coded_list}
 
 -- labels are the slot and the rank of each pair, buried are slot and pair of what was removed or replaced, the newest first
@@ -36,25 +36,6 @@ abbrev pub tour_code : Coded Tour
 tour_code =
     code_by (List (ℕ × ℕ) × (ℕ × ℕ)) (coded× (coded_list (coded× coded_ℕ coded_ℕ)) (coded× coded_ℕ coded_ℕ)) (λ t. (t.labels, (t.word, t.rank))) (λ p. record { labels = p.0; word = p.1.0; rank = p.1.1 }) (λ _. refl)
 
--- the slot of a bitmap place
-abbrev pub slot_of : ℕ → ℕ
-slot_of place = cond (nat_lt place 12) (place - place % 4 + (place + 1) % 4) place
-
--- the rank of a slot, 0 if it has none
-abbrev pub rank_in : ℕ → List (ℕ × ℕ) → ℕ
-rank_in slot [] = 0
-rank_in slot (l ∷ ls) = cond (l.0 == slot) l.1 (rank_in slot ls)
-
--- the first label above a rank
-abbrev pub first_above : ℕ → List (ℕ × ℕ) → Option (ℕ × ℕ)
-first_above rank [] = None
-first_above rank (l ∷ ls) = cond (nat_lt rank l.1) (Some l) (first_above rank ls)
-
--- the last label below a rank, or the last one of all if that is 0
-abbrev pub last_below : ℕ → List (ℕ × ℕ) → Option (ℕ × ℕ)
-last_below rank [] = None
-last_below rank (l ∷ ls) = cond (nat_lt 0 rank && not (nat_lt l.1 rank)) None (option_or (last_below rank ls) (Some l))
-
 -- how many labels have a rank above this one
 abbrev pub higher : ℕ → List (ℕ × ℕ) → ℕ
 higher rank labels = length (filter (λ l. nat_lt rank l.1) labels)
@@ -73,27 +54,10 @@ reachable_in slot [] ps = None
 reachable_in slot (l ∷ ls) [] = None
 reachable_in slot (l ∷ ls) (p ∷ ps) = cond (l.0 == slot) (Some p) (reachable_in slot ls ps)
 
--- the key of what was removed or replaced last
-abbrev pub newest : {K V : Type 0} → List (ℕ × (K × V)) → Option K
-newest [] = None
-newest (b ∷ bs) = Some b.1.0
-
 -- the pair that was buried in a slot
 abbrev pub tombstones_in : {K V : Type 0} → ℕ → List (ℕ × (K × V)) → Option (K × V)
 tombstones_in slot [] = None
 tombstones_in slot (b ∷ bs) = cond (b.0 == slot) (Some b.1) (tombstones_in slot bs)
-
--- the labels with a new slot behind n others: its rank is one above theirs, and the ranks behind it rise by one
-abbrev pub entered : ℕ → ℕ → ℕ → List (ℕ × ℕ) → List (ℕ × ℕ)
-entered low zero slot ls = (slot, low + 1) ∷ map (λ l. (l.0, l.1 + 1)) ls
-entered low (suc n) slot [] = []
-entered low (suc n) slot (l ∷ ls) = l ∷ entered l.1 n slot ls
-
--- the labels with another slot for the one behind n others: its rank stays
-abbrev pub handed_on : ℕ → ℕ → List (ℕ × ℕ) → List (ℕ × ℕ)
-handed_on n slot [] = []
-handed_on zero slot (l ∷ ls) = (slot, l.1) ∷ ls
-handed_on (suc n) slot (l ∷ ls) = l ∷ handed_on n slot ls
 
 -- the labels of n pairs in the slots of the bitmap places from this one on, without gaps
 abbrev pub fresh_labels : ℕ → ℕ → List (ℕ × ℕ)
@@ -104,13 +68,6 @@ fresh_labels place (suc n) = (slot_of place, place + 1) ∷ fresh_labels (place 
 abbrev pub standing : ℕ → List (ℕ × ℕ) → ℕ
 standing slot [] = 0
 standing slot (l ∷ ls) = cond (l.0 == slot) 0 (suc (standing slot ls))
-
--- slot and pair behind n others
-abbrev pub fallen : {K V : Type 0} → ℕ → List (ℕ × ℕ) → List (K × V) → List (ℕ × (K × V))
-fallen n [] ps = []
-fallen n (l ∷ ls) [] = []
-fallen zero (l ∷ ls) (p ∷ ps) = (l.0, p) ∷ []
-fallen (suc n) (l ∷ ls) (p ∷ ps) = fallen n ls ps
 
 -- the labels of the pairs whose keys fail a test
 abbrev pub labels_left : {K V : Type 0} → (K → Bool) → List (K × V) → List (ℕ × ℕ) → List (ℕ × ℕ)
@@ -160,18 +117,13 @@ module _ {K V : Type 0} where
   appended key val a = record a { pairs = a.pairs ++ (key, val) ∷ []; used = a.used + 1; retired = false; labels = a.labels ++ (slot_of a.used, a.used + 1) ∷ [] }
 
   module _ (cmp : K → K → Ordering) (key : K) where
-    -- how many pairs at the front have a lesser key
-    abbrev pub lesser : List (K × V) → ℕ
-    lesser [] = 0
-    lesser (p ∷ ps) = cond (is_lt (cmp p.0 key)) (suc (lesser ps)) 0
-
     -- whether a pair has the key
     abbrev pub array_has_key : Cells K V → Bool
     array_has_key a = is_some (lookup (is_at (cmp key)) a.pairs)
 
     -- with a new pair, which takes the lowest clear bitmap place; the array isn't retired
     abbrev pub array_inserted : V → Cells K V → Cells K V
-    array_inserted val a = record a { pairs = insert_entry cmp a.pairs key val; used = a.used + 1; retired = false; labels = entered 0 (lesser a.pairs) (slot_of a.used) a.labels }
+    array_inserted val a = record a { pairs = insert_entry cmp a.pairs key val; used = a.used + 1; retired = false; labels = entered 0 (lesser cmp key a.pairs) (slot_of a.used) a.labels }
 
     -- with a new pair for the one that has the key, whose rank it takes over
     abbrev pub array_replaced : V → Cells K V → Cells K V
@@ -179,8 +131,8 @@ module _ {K V : Type 0} where
         record a {
           pairs = insert_entry cmp (remove_entry (is_at (cmp key)) a.pairs) key val;
           used = a.used + 1;
-          labels = handed_on (lesser a.pairs) (slot_of a.used) a.labels;
-          tombstones = fallen (lesser a.pairs) a.labels a.pairs ++ a.tombstones;
+          labels = handed_on (lesser cmp key a.pairs) (slot_of a.used) a.labels;
+          tombstones = fallen (lesser cmp key a.pairs) a.labels a.pairs ++ a.tombstones;
         }
 
     -- with a new pair for the one that has the key, in its slot
@@ -189,4 +141,4 @@ module _ {K V : Type 0} where
 
     -- without the pair that has the key
     abbrev pub array_removed : Cells K V → Cells K V
-    array_removed a = record (removed_at (lesser a.pairs) a) { pairs = remove_entry (is_at (cmp key)) a.pairs }
+    array_removed a = record (removed_at (lesser cmp key a.pairs) a) { pairs = remove_entry (is_at (cmp key)) a.pairs }

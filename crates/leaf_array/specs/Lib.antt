@@ -2,8 +2,8 @@ pub mod Pairs
 pub mod Edits
 pub mod Values
 pub mod Cells
-pub mod Lookups
-pub mod Places
+pub use Rattle.leaf_slots.specs.Lookups
+pub mod Arrays
 pub mod Results
 pub mod Words
 pub mod Calls

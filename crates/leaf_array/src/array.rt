@@ -12,10 +12,8 @@ ghost use Rattle.leaf_array.specs.Words.{word};
 ghost use Rattle.leaf_array.specs.Results.{IsSuccess, IsDuplicate, IsFull, given_back, is_repeated, is_refused, is_removal};
 ghost use Rattle.leaf_array.specs.declared.result.RemoveResult.TheVariants.{Retired, Fail, Frozen};
 
-use crate::place::{Place, slot_of};
 use crate::result::{InsertResult, RemoveResult};
-use crate::slots::Slots;
-use crate::steps::Steps;
+use leaf_slots::{Place, Slots, Steps, slot_of};
 use std::cmp::Ordering;
 use std::marker::Model;
 
@@ -35,7 +33,7 @@ pub struct Array<K: Ord, V> {
 /// Invariant: specs/Places.antt, IsArray: the reachable pairs lie in the places by rising keys, each in a slot of its own.
 impl<K: Ord, V> Model for Array<K, V> {
     ghost use Rattle.leaf_array.specs.Cells.{Cells, cells_code};
-    ghost use Rattle.leaf_array.specs.Places.{IsArray, cells_of};
+    ghost use Rattle.leaf_array.specs.Arrays.{IsArray, cells_of};
 
     ghost Value = { Cells K V };
 

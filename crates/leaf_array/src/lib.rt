@@ -24,13 +24,9 @@
 mod array;
 mod iter;
 mod laws;
-mod place;
 pub mod plain;
 mod range;
 mod result;
-mod row;
-mod slots;
-mod steps;
 mod unchecked;
 mod walk;
 mod word;
@@ -42,5 +38,5 @@ pub use laws::{
     removing_keeps_ascending, replacing_keeps_ascending, taking_out_is_removing,
     upserting_is_found,
 };
+pub use leaf_slots::Steps;
 pub use result::{DIMENSION, Dimension, InsertResult, RemoveResult};
-pub use steps::Steps;

@@ -6,8 +6,8 @@ ghost use Rattle.leaf_array.specs.Words.{word};
 ghost use Rattle.leaf_array.specs.declared.result.RemoveResult.TheVariants.{Success, Retired};
 
 use crate::array::Array;
-use crate::place::slot_of;
 use crate::result::RemoveResult;
+use leaf_slots::slot_of;
 
 impl<K: Ord, V> Array<K, V> {
     /// The bitmap place that a new pair with this key would take, and the word that the array would have then. No array with a pair is retired.

@@ -6,7 +6,7 @@ ghost use Rattle.leaf_array.specs.Words.{boundary};
 ghost use Rattle.leaf_array.specs.Calls.{ranked_slots, IsDealt, IsFolded, IsShownAll, MayDeal, MayShow, TakesEach, TakesFolded};
 
 use crate::array::Array;
-use crate::place::slot_of;
+use leaf_slots::slot_of;
 
 impl<K: Ord, V> Array<K, V> {
     /// Freezes the array, and lends its pairs to `dist` if `prepare` answers true.

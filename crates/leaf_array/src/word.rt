@@ -6,8 +6,7 @@ ghost use Rattle.leaf_array.specs.Lookups.{LendsValue};
 ghost use Rattle.leaf_array.specs.Words.{ranks_from, word, score, boundary};
 
 use crate::array::Array;
-use crate::place::slot_of;
-use crate::steps::Steps;
+use leaf_slots::{Steps, slot_of};
 
 /// The bit of a retired array.
 const RETIRED: usize = 0x4000000000000000;

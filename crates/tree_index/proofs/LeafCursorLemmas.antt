@@ -5,15 +5,15 @@ use Rattle.std.proofs.lemmas.Grind.{common_steps}
 use Rattle.std.specs.declared.cmp.Ordering.{Ordering}
 use Rattle.std.specs.declared.ops.Bound.{Bound}
 use Rattle.std.specs.BTreeMap.Range.{is_from_start, is_past_end}
-use Rattle.tree_index.specs.declared.walk.Position.{Position}
-use Rattle.tree_index.specs.declared.arenas.Arenas.{Arenas}
-use Rattle.tree_index.specs.Shape.{joined_over}
-use Rattle.tree_index.specs.Content.{pairs_of, leaves_of, IsSound}
+use Rattle.tree_nodes.specs.declared.walk.Position.{Position}
+use Rattle.tree_nodes.specs.declared.arenas.Arenas.{Arenas}
+use Rattle.tree_nodes.specs.Shape.{joined_over}
+use Rattle.tree_nodes.specs.Content.{pairs_of, leaves_of, IsSound}
 use Rattle.tree_index.specs.Cursor.{before_start, up_to_end}
-use Rattle.tree_index.specs.Walk.{pairs_in_leaf, position, IsPosition}
+use Rattle.tree_nodes.specs.Walk.{pairs_in_leaf, position, IsPosition}
 use Rattle.tree_index.specs.LeafCursor.{IsPart, ranked}
-use Rattle.tree_index.proofs.RowLemmas.{parting, before_parted, joined_over_parted}
-use Rattle.tree_index.proofs.WalkLemmas.{once, all_held, held_is}
+use Rattle.tree_nodes.proofs.RowLemmas.{parting, before_parted, joined_over_parted}
+use Rattle.tree_nodes.proofs.WalkLemmas.{once, all_held, held_is}
 
 module _ {K V : Type 0} where
   pub ranked_above : (n : ℕ) (ps : List (K × V)) → ranked (n + 1) ps ≡ slice_get ps n

@@ -1,11 +1,12 @@
 -- A cursor over a list: bounds, and two ends, of which one goes forward and the other backward.
-use Rattle.std.specs.Prelude.{◌≡◌, ℕ, suc, ◌+◌, ◌-◌, Bool, true, false, cond, nat_lt, List, [], ◌∷◌, length, slice_get, Option, Some, None, refl}
+use Rattle.std.specs.Prelude.{◌≡◌, ℕ, ◌+◌, ◌-◌, Bool, true, false, cond, nat_lt, List, length, slice_get, Option, Some, None, refl}
 use Rattle.std.specs.Option.{is_some, option_map}
 use Rattle.std.specs.Coded.{Coded, code_by, coded×, coded_bool, coded_ℕ, coded_list, coded_option}
 use Rattle.std.specs.Borrow.{Bor}
 use Rattle.std.specs.declared.cmp.Ordering.{Ordering}
 use Rattle.std.specs.declared.ops.Bound.{Bound}
 use Rattle.std.specs.declared.ops.Bound.TheVariants.{Included, Excluded, Unbounded}
+pub use Rattle.tree_nodes.specs.Bounds.{before_start, up_to_end}
 use Rattle.tree_index.specs.declared.cursor.End.{End}
 use Rattle.tree_index.specs.declared.cursor.End.TheVariants.{Unopened, At, Done}
 use Rattle.std.specs.BTreeMap.Range.{is_from_start, is_past_end}
@@ -34,25 +35,15 @@ pair_at pairs (At p) = slice_get pairs p
 pair_at pairs Done = None
 
 module _ {K V : Type 0} (cmp : K → K → Ordering) where
-  -- how many pairs at the front lie before a lower bound
-  abbrev pub before_start : Bound K → List (K × V) → ℕ
-  before_start lower [] = 0
-  before_start lower (p ∷ ps) = cond (is_from_start cmp lower p.0) 0 (suc (before_start lower ps))
-
-  -- how many pairs at the front lie within an upper bound
-  abbrev pub up_to_end : Bound K → List (K × V) → ℕ
-  up_to_end upper [] = 0
-  up_to_end upper (p ∷ ps) = cond (is_past_end cmp upper p.0) 0 (suc (up_to_end upper ps))
-
   -- where the forward end goes: first to the first place within the lower bound, then to the next place, and past the last one it is done
   abbrev pub forth : Bound K → List (K × V) → End ℕ → End ℕ
-  forth lower pairs Unopened = cond (nat_lt (before_start lower pairs) (length pairs)) (At (before_start lower pairs)) Unopened
+  forth lower pairs Unopened = cond (nat_lt (before_start cmp lower pairs) (length pairs)) (At (before_start cmp lower pairs)) Unopened
   forth lower pairs (At p) = cond (nat_lt (p + 1) (length pairs)) (At (p + 1)) Done
   forth lower pairs Done = Done
 
   -- where the backward end goes: the mirror of it
   abbrev pub back : Bound K → List (K × V) → End ℕ → End ℕ
-  back upper pairs Unopened = cond (nat_lt 0 (up_to_end upper pairs)) (At (up_to_end upper pairs - 1)) Unopened
+  back upper pairs Unopened = cond (nat_lt 0 (up_to_end cmp upper pairs)) (At (up_to_end cmp upper pairs - 1)) Unopened
   back upper pairs (At p) = cond (nat_lt 0 p) (At (p - 1)) Done
   back upper pairs Done = Done
 

@@ -2,13 +2,13 @@
 use Rattle.std.specs.Prelude.{ℕ, cond, slice_get, Option, None}
 use Rattle.std.specs.declared.cmp.Ordering.{Ordering}
 use Rattle.std.specs.declared.ops.Bound.{Bound}
-use Rattle.tree_index.specs.declared.arenas.Arenas.{Arenas}
-use Rattle.tree_index.specs.declared.walk.Position.{Position}
+use Rattle.tree_nodes.specs.declared.arenas.Arenas.{Arenas}
+use Rattle.tree_nodes.specs.declared.walk.Position.{Position}
 use Rattle.tree_index.specs.declared.cursor.End.{End}
 use Rattle.tree_index.specs.declared.cursor.End.TheVariants.{Unopened, At, Done}
 use Rattle.tree_index.specs.declared.cursor.Ends.{Ends}
-use Rattle.tree_index.specs.Content.{pairs_of, IsSound}
-use Rattle.tree_index.specs.Walk.{position, IsPosition}
+use Rattle.tree_nodes.specs.Content.{pairs_of, IsSound}
+use Rattle.tree_nodes.specs.Walk.{position, IsPosition}
 use Rattle.tree_index.specs.Cursor.{Cursor, forth, back, lies_before, kept_below}
 
 module _ {K V : Type 0} where

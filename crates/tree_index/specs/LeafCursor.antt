@@ -7,7 +7,7 @@ use Rattle.leaf_array.specs.Cells.{Cells, newest}
 use Rattle.std.specs.declared.cmp.Ordering.{Ordering}
 use Rattle.std.specs.declared.ops.Bound.TheVariants.{Excluded}
 use Rattle.tree_index.specs.Cursor.{deref_pair, before_start, up_to_end}
-use Rattle.tree_index.specs.SplitPoints.{key_at}
+use Rattle.tree_nodes.specs.SplitPoints.{key_at}
 use Rattle.tree_index.specs.declared.leaf.leaf_position.LeafPosition.{LeafPosition}
 
 -- a list stands as a whole within another one

@@ -3,15 +3,14 @@
 ghost use Rattle.std.specs.Prelude.{◌≡◌, IfSome, Some, None, nat_lt, slice_get};
 ghost use Rattle.std.specs.declared.ops.Bound.{Bound};
 ghost use Rattle.leaf_array.specs.Lookups.{deref_bound};
-ghost use Rattle.tree_index.specs.Content.{pairs_of, IsSound};
+ghost use Rattle.tree_nodes.specs.Content.{pairs_of, IsSound};
 ghost use Rattle.tree_index.specs.Cursor.{lies_before, pair_at, kept_below, kept_above, moved_forth, moved_back, next_of, next_back_of, shown_back, can_turn, turned, deref_pair};
 ghost use Rattle.tree_index.specs.declared.cursor.End.TheVariants.{Unopened, At};
 ghost use Rattle.tree_index.specs.Ends.{IsEnd, IsReady, end_position, cursor_of, forth_of, back_of, given_pair};
-ghost use Rattle.tree_index.specs.Walk.{position, IsPosition};
+ghost use Rattle.tree_nodes.specs.Walk.{position, IsPosition};
 
-use crate::arenas::Arenas;
-use crate::walk::Position;
 use std::ops::Bound;
+use tree_nodes::{Arenas, Position};
 
 /// Where an end of a cursor stands: nowhere yet, at a place, or past all of them for good.
 #[derive(Clone, Copy)]
@@ -61,11 +60,11 @@ impl<'t, K: Ord, V> Ends<'t, K, V> {
         // Most steps stay in their leaf: there one look at the place says whether a pair is there and finds it.
         if let Some((spot, pair)) = self.beside() {
             self.forward = End::At(spot);
-            return self.arenas.given(spot, pair, self.backward, upper);
+            return given(self.arenas, spot, pair, self.backward, upper);
         }
         self.forward = self.forth(lower);
         match self.forward {
-            End::At(spot) => self.arenas.given(spot, spot.pair(), self.backward, upper),
+            End::At(spot) => given(self.arenas, spot, spot.pair(), self.backward, upper),
             _ => None,
         }
     }
@@ -84,8 +83,8 @@ impl<'t, K: Ord, V> Ends<'t, K, V> {
         ensures answer { deref_pair result ≡ next_back_of K.cmp (cursor_of self.old (deref_bound lower.entry) (deref_bound upper.entry)) }
     {
         self.backward = self.back(upper);
-        if self.arenas.lies_before(self.forward, self.backward) {
-            self.arenas.shown_back(self.backward, lower)
+        if lies_before(self.arenas, self.forward, self.backward) {
+            shown_back(self.arenas, self.backward, lower)
         } else {
             None
         }
@@ -97,7 +96,7 @@ impl<'t, K: Ord, V> Ends<'t, K, V> {
         requires { IsReady K.cmp self.now }
         ensures { deref_pair result ≡ kept_below K.cmp (deref_bound upper.entry) (pair_at (pairs_of self.now.arenas.now) (end_position self.now.arenas.now self.now.forward)) }
     {
-        self.arenas.shown(self.forward, upper)
+        shown(self.arenas, self.forward, upper)
     }
 
     /// The pair of the backward end, if it lies within the lower bound.
@@ -105,7 +104,7 @@ impl<'t, K: Ord, V> Ends<'t, K, V> {
         requires { IsReady K.cmp self.now }
         ensures { deref_pair result ≡ kept_above K.cmp (deref_bound lower.entry) (pair_at (pairs_of self.now.arenas.now) (end_position self.now.arenas.now self.now.backward)) }
     {
-        self.arenas.shown_back(self.backward, lower)
+        shown_back(self.arenas, self.backward, lower)
     }
 
     /// Lets the ends change places, where one alone is open and shows a pair, or none is.
@@ -192,117 +191,119 @@ impl<'t, K: Ord, V> Ends<'t, K, V> {
     }
 }
 
-impl<K: Ord, V> Arenas<K, V> {
-    /// The pair of a place, if it lies within the upper bound and before a backward end.
-    #[inline(always)]
-    fn given<'t>(
-        &'t self,
-        spot: Position<'t, K, V>,
-        own: (&'t K, &'t V),
-        backward: End<Position<'t, K, V>>,
-        upper: Bound<&'t K>,
-    ) -> Option<(&'t K, &'t V)>
-        requires sound { IsSound K.cmp self.now }
-        requires spot { IsPosition self.now spot }
-        requires backward { IsEnd self.now backward }
-        requires own { slice_get spot.leaf.now.array.pairs spot.place ≡ Some (own.0.now, own.1.now) }
-        ensures { deref_pair result ≡ given_pair K.cmp (deref_bound upper.entry) self.now spot.entry backward.entry }
-    {
-        if self.precedes(spot, own, backward) {
-            below(own, upper)
-        } else {
-            None
-        }
+/// The pair of a place, if it lies within the upper bound and before a backward end.
+#[inline(always)]
+fn given<'t, K: Ord, V>(
+    arenas: &'t Arenas<K, V>,
+    spot: Position<'t, K, V>,
+    own: (&'t K, &'t V),
+    backward: End<Position<'t, K, V>>,
+    upper: Bound<&'t K>,
+) -> Option<(&'t K, &'t V)>
+    requires sound { IsSound K.cmp arenas.now }
+    requires spot { IsPosition arenas.now spot }
+    requires backward { IsEnd arenas.now backward }
+    requires own { slice_get spot.leaf.now.array.pairs spot.place ≡ Some (own.0.now, own.1.now) }
+    ensures { deref_pair result ≡ given_pair K.cmp (deref_bound upper.entry) arenas.now spot.entry backward.entry }
+{
+    if precedes(arenas, spot, own, backward) {
+        below(own, upper)
+    } else {
+        None
     }
+}
 
-    /// Whether a place lies before a backward end, as far as that stands at a pair.
-    #[inline(always)]
-    fn precedes<'t>(
-        &'t self,
-        spot: Position<'t, K, V>,
-        own: (&'t K, &'t V),
-        backward: End<Position<'t, K, V>>,
-    ) -> bool
-        requires sound { IsSound K.cmp self.now }
-        requires spot { IsPosition self.now spot }
-        requires backward { IsEnd self.now backward }
-        requires own { slice_get spot.leaf.now.array.pairs spot.place ≡ Some (own.0.now, own.1.now) }
-        ensures { result ≡ lies_before (At (position self.now spot.entry)) (end_position self.now backward.entry) }
-    {
-        match backward {
-            End::Unopened => true,
-            End::At(other) => self.comes_first(spot, own, other),
-            End::Done => false,
-        }
+/// Whether a place lies before a backward end, as far as that stands at a pair.
+#[inline(always)]
+fn precedes<'t, K: Ord, V>(
+    arenas: &'t Arenas<K, V>,
+    spot: Position<'t, K, V>,
+    own: (&'t K, &'t V),
+    backward: End<Position<'t, K, V>>,
+) -> bool
+    requires sound { IsSound K.cmp arenas.now }
+    requires spot { IsPosition arenas.now spot }
+    requires backward { IsEnd arenas.now backward }
+    requires own { slice_get spot.leaf.now.array.pairs spot.place ≡ Some (own.0.now, own.1.now) }
+    ensures { result ≡ lies_before (At (position arenas.now spot.entry)) (end_position arenas.now backward.entry) }
+{
+    match backward {
+        End::Unopened => true,
+        End::At(other) => comes_first(arenas, spot, own, other),
+        End::Done => false,
     }
+}
 
-    /// Whether a place lies before another.
-    // Out of line: most cursors have one end alone.
-    #[inline(never)]
-    fn comes_first<'t>(
-        &'t self,
-        spot: Position<'t, K, V>,
-        own: (&'t K, &'t V),
-        other: Position<'t, K, V>,
-    ) -> bool
-        requires sound { IsSound K.cmp self.now }
-        requires spot { IsPosition self.now spot }
-        requires other { IsPosition self.now other }
-        requires own { slice_get spot.leaf.now.array.pairs spot.place ≡ Some (own.0.now, own.1.now) }
-        ensures { result ≡ nat_lt (position self.now spot.entry) (position self.now other.entry) }
-    {
-        let _ = spot;
-        own.0.cmp(other.pair().0).is_lt()
+/// Whether a place lies before another.
+// Out of line: most cursors have one end alone.
+#[inline(never)]
+fn comes_first<'t, K: Ord, V>(
+    arenas: &'t Arenas<K, V>,
+    spot: Position<'t, K, V>,
+    own: (&'t K, &'t V),
+    other: Position<'t, K, V>,
+) -> bool
+    requires sound { IsSound K.cmp arenas.now }
+    requires spot { IsPosition arenas.now spot }
+    requires other { IsPosition arenas.now other }
+    requires own { slice_get spot.leaf.now.array.pairs spot.place ≡ Some (own.0.now, own.1.now) }
+    ensures { result ≡ nat_lt (position arenas.now spot.entry) (position arenas.now other.entry) }
+{
+    let _ = spot;
+    own.0.cmp(other.pair().0).is_lt()
+}
+
+/// Whether one end lies before another, as far as both stand at pairs.
+#[inline(always)]
+fn lies_before<K: Ord, V>(
+    arenas: &Arenas<K, V>,
+    a: End<Position<'_, K, V>>,
+    b: End<Position<'_, K, V>>,
+) -> bool
+    requires sound { IsSound K.cmp arenas.now }
+    requires first { IsEnd arenas.now a }
+    requires second { IsEnd arenas.now b }
+    ensures { result ≡ lies_before (end_position arenas.now a.entry) (end_position arenas.now b.entry) }
+{
+    match (a, b) {
+        (_, End::Unopened) => true,
+        (End::Unopened, _) => true,
+        (End::At(x), End::At(y)) => x.pair().0.cmp(y.pair().0).is_lt(),
+        _ => false,
     }
+}
 
-    /// Whether one end lies before another, as far as both stand at pairs.
-    #[inline(always)]
-    fn lies_before(&self, a: End<Position<'_, K, V>>, b: End<Position<'_, K, V>>) -> bool
-        requires sound { IsSound K.cmp self.now }
-        requires first { IsEnd self.now a }
-        requires second { IsEnd self.now b }
-        ensures { result ≡ lies_before (end_position self.now a.entry) (end_position self.now b.entry) }
-    {
-        match (a, b) {
-            (_, End::Unopened) => true,
-            (End::Unopened, _) => true,
-            (End::At(x), End::At(y)) => x.pair().0.cmp(y.pair().0).is_lt(),
-            _ => false,
-        }
+/// The pair of an end, if it lies within the upper bound.
+#[inline(always)]
+fn shown<'t, K: Ord, V>(
+    arenas: &'t Arenas<K, V>,
+    end: End<Position<'t, K, V>>,
+    upper: Bound<&'t K>,
+) -> Option<(&'t K, &'t V)>
+    requires sound { IsSound K.cmp arenas.now }
+    requires end { IsEnd arenas.now end }
+    ensures { deref_pair result ≡ kept_below K.cmp (deref_bound upper.entry) (pair_at (pairs_of arenas.now) (end_position arenas.now end.entry)) }
+{
+    match end {
+        End::At(spot) => below(spot.pair(), upper),
+        _ => None,
     }
+}
 
-    /// The pair of an end, if it lies within the upper bound.
-    #[inline(always)]
-    fn shown<'t>(
-        &'t self,
-        end: End<Position<'t, K, V>>,
-        upper: Bound<&'t K>,
-    ) -> Option<(&'t K, &'t V)>
-        requires sound { IsSound K.cmp self.now }
-        requires end { IsEnd self.now end }
-        ensures { deref_pair result ≡ kept_below K.cmp (deref_bound upper.entry) (pair_at (pairs_of self.now) (end_position self.now end.entry)) }
-    {
-        match end {
-            End::At(spot) => below(spot.pair(), upper),
-            _ => None,
-        }
-    }
-
-    /// The pair of an end, if it lies within the lower bound.
-    #[inline(always)]
-    fn shown_back<'t>(
-        &'t self,
-        end: End<Position<'t, K, V>>,
-        lower: Bound<&'t K>,
-    ) -> Option<(&'t K, &'t V)>
-        requires sound { IsSound K.cmp self.now }
-        requires end { IsEnd self.now end }
-        ensures { deref_pair result ≡ kept_above K.cmp (deref_bound lower.entry) (pair_at (pairs_of self.now) (end_position self.now end.entry)) }
-    {
-        match end {
-            End::At(spot) => above(spot.pair(), lower),
-            _ => None,
-        }
+/// The pair of an end, if it lies within the lower bound.
+#[inline(always)]
+fn shown_back<'t, K: Ord, V>(
+    arenas: &'t Arenas<K, V>,
+    end: End<Position<'t, K, V>>,
+    lower: Bound<&'t K>,
+) -> Option<(&'t K, &'t V)>
+    requires sound { IsSound K.cmp arenas.now }
+    requires end { IsEnd arenas.now end }
+    ensures { deref_pair result ≡ kept_above K.cmp (deref_bound lower.entry) (pair_at (pairs_of arenas.now) (end_position arenas.now end.entry)) }
+{
+    match end {
+        End::At(spot) => above(spot.pair(), lower),
+        _ => None,
     }
 }
 

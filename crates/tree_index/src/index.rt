@@ -12,22 +12,21 @@ ghost use Rattle.leaf_array.specs.Pairs.{has_key, value_of_key, IsAscending};
 ghost use Rattle.leaf_array.specs.Values.{ClonesAreSame};
 ghost use Rattle.tree_index.specs.declared.cursor.End.TheVariants.{Unopened};
 ghost use Rattle.tree_index.specs.Cursor.{whole};
-ghost use Rattle.tree_index.specs.Nodes.{height_in, is_internal, node_pairs};
+ghost use Rattle.tree_nodes.specs.Nodes.{height_in, is_internal, node_pairs};
 ghost use Rattle.tree_index.specs.Proximity.{IsLocated};
-ghost use Rattle.tree_index.specs.Reads.{FnOnceReadsPair, FnOnceTakesPair};
-ghost use Rattle.tree_index.specs.Depth.{IsAbove};
+ghost use Rattle.tree_nodes.specs.Reads.{FnOnceReadsPair, FnOnceTakesPair};
+ghost use Rattle.tree_nodes.specs.Depth.{IsAbove};
 ghost use Rattle.tree_index.specs.Tree.{RefusedAsDuplicate, RefusedForMemory, refused_pair};
 
-use crate::arenas::Arenas;
 use crate::cursor::Ends;
 use crate::iter::Iter;
-use crate::node::{Node, Standing};
-use crate::proximity::Proximity;
+use crate::proximity::{Proximity, locate};
 use crate::range::Range;
 use leaf_array::{InsertResult, Steps};
 use std::alloc::{AllocError, Global};
 use std::marker::Model;
 use std::ops::Bound;
+use tree_nodes::{Arenas, Node};
 
 /// An ordered index: a B+ tree with at most fifteen pairs in a leaf and sixteen children in a node.
 ///
@@ -42,8 +41,8 @@ pub struct TreeIndex<K: Ord, V> {
 /// Invariant: specs/Content.antt, IsSound: no tree or one whose keys rise from leaf to leaf, with leaves linked in that order.
 impl<K: Ord, V> Model for TreeIndex<K, V> {
     ghost use Rattle.tree_index.specs.Tree.{Tree, tree_code};
-    ghost use Rattle.tree_index.specs.Content.{pairs_of, IsSound};
-    ghost use Rattle.tree_index.specs.Depth.{ascending_headroom};
+    ghost use Rattle.tree_nodes.specs.Content.{pairs_of, IsSound};
+    ghost use Rattle.tree_nodes.specs.Depth.{ascending_headroom};
 
     ghost Value = { Tree K V };
 
@@ -109,7 +108,7 @@ impl<K: Ord, V> TreeIndex<K, V> {
         ensures value { result ≡ self.now.depth }
         ensures flat { 0 < self.now.ascending_headroom → result ≤ 1 }
     {
-        self.arenas.height
+        self.arenas.height()
     }
 
     /// How many pairs there are, from a count that the tree keeps. They are strictly ascending by key.
@@ -117,14 +116,14 @@ impl<K: Ord, V> TreeIndex<K, V> {
         ensures count { result ≡ length self.now.pairs }
         ensures rising { IsAscending K.cmp self.now.pairs }
     {
-        self.arenas.len
+        self.arenas.len()
     }
 
     /// Whether there are no pairs.
     pub fn is_empty(&self) -> bool
         ensures { result ≡ (length self.now.pairs == 0) }
     {
-        self.arenas.len == 0
+        self.arenas.len() == 0
     }
 
     /// Inserts a pair whose key isn't there. A refused pair comes back, and the tree stays as it was: as a
@@ -319,22 +318,14 @@ impl<K: Ord, V> TreeIndex<K, V> {
         ensures kind { IfSome result (λ n. IsTrue (is_internal n) ↔ (1 < self.now.depth)) }
         ensures height { IfSome result (λ n. height_in n ≡ self.now.depth) }
     {
-        let arenas = &self.arenas;
-        if arenas.height == 0 {
-            return None;
-        }
-        Some(Node::over(Standing {
-            arenas,
-            at: arenas.root,
-            height: arenas.height,
-        }))
+        self.arenas.root_node()
     }
 
     /// Where a key stands: at its pair, or between its neighbours, with a cursor there. It goes down once.
     pub fn locate(&self, key: &K) -> Proximity<'_, K, V>
         ensures { IsLocated K.cmp key.now self.now.pairs result }
     {
-        self.arenas.locate(key)
+        locate(&self.arenas, key)
     }
 
     /// Removes the pair with this key, if the condition answers true of its value: it is asked once where

@@ -19,7 +19,6 @@
 //! ```
 #![tactic(auto)]
 
-mod arenas;
 mod copy;
 mod cursor;
 mod equal;
@@ -27,21 +26,15 @@ mod index;
 mod iter;
 mod laws;
 pub mod leaf;
-pub mod node;
 mod proximity;
-mod prune;
-mod push;
 mod range;
-mod removal;
-mod split;
 mod take;
-mod walk;
 
 pub use index::{InsertRefused, TreeIndex};
 pub use iter::Iter;
 pub use laws::done_stays_at_none;
 pub use leaf_array::Steps;
-pub use node::{InternalNode, LeafNode, Node};
 pub use proximity::Proximity;
 pub use range::Range;
 pub use take::Take;
+pub use tree_nodes::{InternalNode, LeafNode, Node, node};

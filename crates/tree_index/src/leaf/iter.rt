@@ -2,12 +2,13 @@
 
 ghost use Rattle.std.specs.Prelude.{◌≡◌, ◌-◌, IfNone, IfSome, MatchOption, None, Some, length, option_copied};
 ghost use Rattle.tree_index.specs.Cursor.{deref_pair};
-ghost use Rattle.tree_index.specs.SplitPoints.{key_at};
+ghost use Rattle.tree_nodes.specs.SplitPoints.{key_at};
 ghost use Rattle.tree_index.specs.LeafCursor.{at_start, key_behind, next_greater, IsFirstAbove, ranked, IsPart};
 
 use crate::index::TreeIndex;
-use crate::leaf::{Leaf, LeafPosition, RevIter};
+use crate::leaf::{LeafPosition, RevIter, ranked};
 use std::marker::Model;
+use tree_nodes::Leaf;
 
 /// Goes through the pairs of a leaf by rising keys. (`scc`'s `tree_index::leaf::Iter`.)
 ///
@@ -59,7 +60,7 @@ impl<'l, K: Ord, V> Iter<'l, K, V> {
     pub fn max_key(&self) -> Option<&'l K>
         ensures { option_copied result ≡ key_at self.now.pairs (length self.now.pairs - 1) }
     {
-        match self.at.leaf.ranked(self.at.leaf.array.len()) {
+        match ranked(self.at.leaf, self.at.leaf.array.len()) {
             Some((key, _)) => Some(key),
             None => None,
         }

@@ -4,7 +4,7 @@ ghost use Rattle.std.specs.Prelude.{◌≡◌};
 ghost use Rattle.tree_index.specs.Cursor.{deref_pair};
 ghost use Rattle.tree_index.specs.LeafCursor.{ranked};
 
-use crate::leaf::Leaf;
+use tree_nodes::Leaf;
 
 /// A leaf, and the rank of one of its pairs, counted from 1; 0 is the start of a cursor.
 #[derive_where(Clone, Copy)]
@@ -18,18 +18,16 @@ impl<'l, K: Ord, V> LeafPosition<'l, K, V> {
     pub(crate) fn pair(&self) -> Option<(&'l K, &'l V)>
         ensures { deref_pair result ≡ ranked self.now.rank self.now.leaf.now.array.pairs }
     {
-        self.leaf.ranked(self.rank)
+        ranked(self.leaf, self.rank)
     }
 }
 
-impl<K: Ord, V> Leaf<K, V> {
-    /// The pair at a rank, counted from 1.
-    pub(crate) fn ranked(&self, rank: usize) -> Option<(&K, &V)>
-        ensures { deref_pair result ≡ ranked rank self.now.array.pairs }
-    {
-        if rank == 0 {
-            return None;
-        }
-        self.array.pair(rank - 1)
+/// The pair at a rank of a leaf, counted from 1.
+pub(crate) fn ranked<K: Ord, V>(leaf: &Leaf<K, V>, rank: usize) -> Option<(&K, &V)>
+    ensures { deref_pair result ≡ ranked rank leaf.now.array.pairs }
+{
+    if rank == 0 {
+        return None;
     }
+    leaf.array.pair(rank - 1)
 }

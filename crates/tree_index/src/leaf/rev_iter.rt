@@ -2,12 +2,13 @@
 
 ghost use Rattle.std.specs.Prelude.{◌≡◌, IfNone, IfSome, MatchOption, None, Some, option_copied};
 ghost use Rattle.tree_index.specs.Cursor.{deref_pair};
-ghost use Rattle.tree_index.specs.SplitPoints.{key_at};
+ghost use Rattle.tree_nodes.specs.SplitPoints.{key_at};
 ghost use Rattle.tree_index.specs.LeafCursor.{at_start, key_before, next_lesser, IsLastBelow, ranked, IsPart};
 
 use crate::index::TreeIndex;
-use crate::leaf::{Iter, Leaf, LeafPosition};
+use crate::leaf::{Iter, LeafPosition, ranked};
 use std::marker::Model;
+use tree_nodes::Leaf;
 
 /// Goes through the pairs of a leaf by falling keys. (`scc`'s `tree_index::leaf::RevIter`.)
 ///
@@ -56,7 +57,7 @@ impl<'l, K: Ord, V> RevIter<'l, K, V> {
     pub fn min_key(&self) -> Option<&'l K>
         ensures { option_copied result ≡ key_at self.now.pairs 0 }
     {
-        match self.at.leaf.ranked(1) {
+        match ranked(self.at.leaf, 1) {
             Some((key, _)) => Some(key),
             None => None,
         }

@@ -1,6 +1,6 @@
 use Rattle.std.proofs.Common.{◌≡◌, ◌<◌, ◌-◌, sym, ◌∙◌, refl, length}
 use Rattle.leaf_array.specs.Cells.{lesser}
-use Rattle.leaf_array.specs.Places.{live_pairs}
+use Rattle.leaf_slots.specs.Places.{live_pairs}
 use Rattle.leaf_array.proofs.SoundLemmas.{room_at, sound_append}
 use Rattle.leaf_array.proofs.array.Array.append.Goals as goal
 

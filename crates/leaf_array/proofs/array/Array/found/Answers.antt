@@ -1,6 +1,6 @@
 use Rattle.std.proofs.Common.{sym, ◌∙◌, arith}
-use Rattle.leaf_array.proofs.SearchLemmas.{missed}
-use Rattle.leaf_array.proofs.SoundLemmas.{found_some, found_none, missed_all}
+use Rattle.leaf_slots.proofs.SearchLemmas.{missed}
+use Rattle.leaf_slots.proofs.FoundLemmas.{found_some, found_none, missed_all}
 use Rattle.leaf_array.proofs.array.Array.found.Goals as goal
 
 pub returns-in-Equal : goal.returns-in-Equal

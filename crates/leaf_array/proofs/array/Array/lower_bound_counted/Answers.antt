@@ -1,5 +1,5 @@
 use Rattle.std.proofs.Common.{◌∙◌}
-use Rattle.leaf_array.proofs.OrderLemmas.{below_lesser}
+use Rattle.leaf_slots.proofs.OrderLemmas.{below_lesser}
 use Rattle.leaf_array.proofs.PackLemmas.{least_at}
 use Rattle.leaf_array.proofs.array.Array.lower_bound_counted.Goals as goal
 

@@ -1,5 +1,5 @@
 use Rattle.std.proofs.Common.{arith, ◌∙◌, ap, ◌-◌, sym}
-use Rattle.leaf_array.specs.Places.{live_pairs}
+use Rattle.leaf_slots.specs.Places.{live_pairs}
 use Rattle.leaf_array.specs.Cells.{filled_array}
 use Rattle.leaf_array.proofs.PackLemmas.{sound_packed, sound_vacated, vacated_some, vacated_pair, take_none}
 use Rattle.leaf_array.proofs.SoundLemmas.{live_count}

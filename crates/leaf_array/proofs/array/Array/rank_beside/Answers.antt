@@ -1,5 +1,5 @@
 use Rattle.std.proofs.Common.{arith, ◌<◌}
-use Rattle.leaf_array.proofs.WordLemmas.{beside_within}
+use Rattle.leaf_slots.proofs.RankLemmas.{beside_within}
 use Rattle.leaf_array.proofs.array.Array.rank_beside.Goals as goal
 
 pub narrowed-requires : goal.narrowed-requires

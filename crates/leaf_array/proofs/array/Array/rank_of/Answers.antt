@@ -1,5 +1,5 @@
 use Rattle.std.proofs.Common.{arith}
-use Rattle.leaf_array.proofs.WordLemmas.{rank_within}
+use Rattle.leaf_slots.proofs.RankLemmas.{rank_within}
 use Rattle.leaf_array.proofs.array.Array.rank_of.Goals as goal
 
 pub narrowed-requires : goal.narrowed-requires

@@ -1,6 +1,6 @@
 use Rattle.std.proofs.Common.{false, ◌∷◌}
-use Rattle.leaf_array.specs.declared.place.Place.TheVariants.{Empty}
-use Rattle.leaf_array.specs.Places.{no_half}
+use Rattle.leaf_slots.specs.declared.place.Place.TheVariants.{Empty}
+use Rattle.leaf_slots.specs.Places.{no_half}
 use Rattle.leaf_array.proofs.PackLemmas.{sound_halves, low_length, packed_front, packed_back}
 use Rattle.leaf_array.proofs.array.Array.split_half.Goals as goal
 

@@ -1,5 +1,5 @@
 use Rattle.std.proofs.Common.{false}
-use Rattle.leaf_array.specs.Places.{live_pairs}
+use Rattle.leaf_slots.specs.Places.{live_pairs}
 use Rattle.leaf_array.proofs.PackLemmas.{sound_cut, whole_take, packed_fore, packed_rear}
 use Rattle.leaf_array.proofs.array.Array.split_off.Goals as goal
 

@@ -1,14 +1,15 @@
 use Rattle.std.proofs.Common.{◌≡◌, ℕ, sym, subst}
 use Rattle.std.specs.Range.Bound.{bound_map}
 use Rattle.std.specs.Borrow.{Bor}
-use Rattle.tree_index.specs.declared.walk.Position.{Position}
+use Rattle.tree_nodes.specs.declared.walk.Position.{Position}
 use Rattle.tree_index.specs.declared.cursor.End.{End}
 use Rattle.tree_index.specs.declared.cursor.End.TheVariants.{At}
-use Rattle.tree_index.specs.Content.{pairs_of}
+use Rattle.tree_nodes.specs.Content.{pairs_of}
 use Rattle.tree_index.specs.Cursor.{forth}
-use Rattle.tree_index.specs.Walk.{position}
+use Rattle.tree_nodes.specs.Walk.{position}
 use Rattle.tree_index.specs.Ends.{end_position}
-use Rattle.tree_index.proofs.EndLemmas.{spot_pair, forth_first, forth_next}
+use Rattle.tree_nodes.proofs.SpotLemmas.{spot_pair}
+use Rattle.tree_index.proofs.EndLemmas.{forth_first, forth_next}
 use Rattle.tree_index.proofs.cursor.Ends.forth.Goals as goal
 
 pub returns-in-Some-clause-place : goal.returns-in-Some-clause-place

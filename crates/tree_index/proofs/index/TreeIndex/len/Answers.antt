@@ -1,5 +1,5 @@
 use Rattle.std.proofs.Common.{sym}
-use Rattle.tree_index.proofs.EndLemmas.{rising_of}
+use Rattle.tree_nodes.proofs.SpotLemmas.{rising_of}
 use Rattle.tree_index.proofs.index.TreeIndex.len.Goals as goal
 
 pub returns-clause-rising : goal.returns-clause-rising

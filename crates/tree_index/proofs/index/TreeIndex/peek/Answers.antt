@@ -1,6 +1,6 @@
 use Rattle.std.proofs.Common.{◌∙◌, sym, ap}
 use Rattle.std.specs.Option.{option_map}
-use Rattle.tree_index.specs.Content.{pairs_of}
+use Rattle.tree_nodes.specs.Content.{pairs_of}
 use Rattle.leaf_array.proofs.EntryLemmas.{value_lookup}
 use Rattle.tree_index.proofs.index.TreeIndex.peek.Goals as goal
 

@@ -1,6 +1,6 @@
 use Rattle.std.proofs.Common.{sym}
-use Rattle.tree_index.specs.Content.{pairs_of}
-use Rattle.tree_index.proofs.LeafLemmas.{value_asked, entry_asked, value_none}
+use Rattle.tree_nodes.specs.Content.{pairs_of}
+use Rattle.tree_nodes.proofs.LeafLemmas.{value_asked, entry_asked, value_none}
 use Rattle.tree_index.proofs.index.TreeIndex.remove_if_sync.Goals as goal
 
 pub remove_if-requires-clause-callable : goal.remove_if-requires-clause-callable

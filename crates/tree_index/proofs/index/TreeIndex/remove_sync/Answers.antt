@@ -2,8 +2,8 @@ use Rattle.std.proofs.Common.{◌≡◌, ◌∙◌, sym}
 use Rattle.std.specs.BTreeMap.{is_at}
 use Rattle.std.specs.Map.{lookup_entry}
 use Rattle.leaf_array.specs.Pairs.{has_key}
-use Rattle.tree_index.specs.Content.{pairs_of}
-use Rattle.tree_index.proofs.LeafLemmas.{has_entry, found_of, removed_of}
+use Rattle.tree_nodes.specs.Content.{pairs_of}
+use Rattle.tree_nodes.proofs.LeafLemmas.{has_entry, found_of, removed_of}
 use Rattle.tree_index.proofs.index.TreeIndex.remove_sync.Goals as goal
 
 pub returns-clause-found : goal.returns-clause-found

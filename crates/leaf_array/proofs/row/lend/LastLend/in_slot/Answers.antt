@@ -1,5 +1,0 @@
-use Rattle.std.proofs.Common.{[]}
-use Rattle.leaf_array.proofs.row.lend.LastLend.in_slot.Goals as goal
-
-pub returns : goal.returns
-returns g c = c.pair_in_slot.ensures []

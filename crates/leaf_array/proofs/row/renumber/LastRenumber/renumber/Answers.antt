@@ -1,5 +1,0 @@
-use Rattle.std.proofs.Common.{[]}
-use Rattle.leaf_array.proofs.row.renumber.LastRenumber.renumber.Goals as goal
-
-pub returns : goal.returns
-returns g c = c.renumber.ensures.places []

@@ -1,4 +1,0 @@
-use Rattle.leaf_array.proofs.slots.Slots.pair.Goals as goal
-
-pub returns : goal.returns
-returns g c = rw (← c.self.view_is) c.pair.ensures

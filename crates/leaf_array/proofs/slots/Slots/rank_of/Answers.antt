@@ -1,9 +1,0 @@
-use Rattle.std.proofs.Common.{arith, ◌+◌, ◌≤◌, sym, subst}
-use Rattle.leaf_array.specs.Places.{top}
-use Rattle.leaf_array.proofs.slots.Slots.rank_of.Goals as goal
-
-pub rank_of-requires : goal.rank_of-requires
-rank_of-requires g c = subst (λ ps. 0 + top ps ≤ 15) (sym c.self.view_is) (omega (arith, c.requires))
-
-pub returns : goal.returns
-returns g c = rw (← c.self.view_is) c.rank_of.ensures

@@ -1,0 +1,50 @@
+use Rattle.std.proofs.Common.{◌≡◌, ◌+◌, take, sym, ap, ◌∙◌, subst, arith}
+use Rattle.tree_nodes.specs.Content.{pairs_of}
+use Rattle.tree_nodes.specs.Copy.{place, IsPositionOrEnd}
+use Rattle.tree_nodes.specs.Depth.{IsAbove}
+use Rattle.tree_nodes.specs.Walk.{position, IsPosition}
+use Rattle.tree_nodes.proofs.SpotLemmas.{spot_pair}
+use Rattle.tree_nodes.proofs.EqualLemmas.{end_position_answer, place_is}
+use Rattle.tree_nodes.proofs.CopyLemmas.{copied_pair, next_above, next_front}
+use Rattle.tree_nodes.proofs.PushLemmas.{longer_by_one}
+use Rattle.tree_nodes.proofs.arenas.Arenas.fill.Goals as goal
+
+pub push_at-open-requires-clause-above : goal.push_at-open-requires-clause-above
+push_at-open-requires-clause-above g c =
+    let a = c.args.source.now in
+    let spot : IsPosition a c.in-Some-next.spot = subst (IsPositionOrEnd a) c.in-Some-next.is c.loop-open.invariant.copied.spot in
+    let front = c.loop-open.invariant.copied.front ∙ ap (λ r. take (place a r) (pairs_of a)) c.in-Some-next.is in
+    subst (λ k. IsAbove g.K.Ord.cmp k (pairs_of c.loop-open.self)) (sym (c.requires.keys _ _ c.in_ok-clone.ensures.cases)) (next_above g.met.K.Ord.total a c.loop-open.self c.requires.source c.in-Some-next.spot spot _ c.pair.ensures front)
+
+pub loop-open-smaller : goal.loop-open-smaller
+loop-open-smaller g c =
+    let a = c.args.source.now in
+    let spot : IsPosition a c.in-Some-next.spot = subst (IsPositionOrEnd a) c.in-Some-next.is c.loop-open.invariant.copied.spot in
+    let at : place a c.loop-open.next ≡ position a c.in-Some-next.spot = ap (place a) c.in-Some-next.is in
+    let next = end_position_answer a (position a c.in-Some-next.spot + 1) c.behind-next.result c.behind-next.ensures.none c.behind-next.ensures.there in
+    let within = (spot_pair g.K.Ord.cmp a c.requires.source c.in-Some-next.spot spot).1 in
+    omega (arith, at, next, within)
+
+pub loop-open-preserved : goal.loop-open-preserved
+loop-open-preserved g c =
+    let a = c.args.source.now in
+    let b = c.loop-open.self in
+    let old = c.loop-open.invariant.copied in
+    let spot : IsPosition a c.in-Some-next.spot = subst (IsPositionOrEnd a) c.in-Some-next.is old.spot in
+    let at : place a c.loop-open.next ≡ position a c.in-Some-next.spot = ap (place a) c.in-Some-next.is in
+    let front = old.front ∙ ap (λ r. take (place a r) (pairs_of a)) c.in-Some-next.is in
+    let next = end_position_answer a (position a c.in-Some-next.spot + 1) c.behind-next.result c.behind-next.ensures.none c.behind-next.ensures.there in
+    let pushed = copied_pair (pairs_of b) (c.requires.keys _ _ c.in_ok-clone.ensures.cases) (c.requires.values _ _ c.in_ok-clone-2.ensures.cases) c.push_at-open.ensures.done in
+    let more = longer_by_one (pairs_of b) (pairs_of c.push_at-open.new.self) _ c.push_at-open.ensures.done in
+    record {
+      copied =
+          record {
+            sound = c.push_at-open.ensures.sound;
+            spot = place_is a c.behind-next.result c.behind-next.ensures.spot;
+            front = next_front g.met.K.Ord.total a b c.requires.source c.in-Some-next.spot spot _ c.pair.ensures front c.push_at-open.new.self c.behind-next.result pushed next;
+            places = omega (arith, more, c.push_at-open.ensures.ascending, old.places);
+          };
+      room = c.push_at-open.ensures.open;
+      countable = c.push_at-open.ensures.countable;
+      further = omega (arith, at, next, c.loop-open.invariant.further);
+    }

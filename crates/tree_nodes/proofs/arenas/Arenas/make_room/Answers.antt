@@ -1,0 +1,51 @@
+use Rattle.std.proofs.Common.{◌≡◌, ◌≤◌, ◌<◌, sym, ap, ◌∙◌, refl, subst, arith}
+use Rattle.slab.specs.Slab.{Slab}
+use Rattle.tree_nodes.specs.declared.leaf.Leaf.{Leaf}
+use Rattle.tree_nodes.specs.declared.node.InnerNode.{InnerNode}
+use Rattle.tree_nodes.proofs.NodeLemmas.{roomier_sound, roomier_ascents, roomier_pairs, roomier_full}
+use Rattle.tree_nodes.specs.declared.arenas.Arenas.{Arenas}
+use Rattle.tree_nodes.specs.Content.{pairs_of, IsLeafFull}
+use Rattle.tree_nodes.specs.Depth.{IsAbove, ascending_headroom}
+use Rattle.tree_nodes.proofs.DepthLemmas.{flat_node, on_err}
+use Rattle.tree_nodes.proofs.arenas.Arenas.make_room.Goals as goal
+
+pub returns-in_err-reserve-clause-sound : goal.returns-in_err-reserve-clause-sound
+returns-in_err-reserve-clause-sound g c =
+    roomier_sound g.K.Ord.cmp c.args.self.now c.reserve.new.self c.args.self.now.nodes (ap (λ (s : Slab (Leaf g.row.K.Denot g.row.V.Denot)). s.slots) c.reserve.ensures.rest_kept) (refl) c.requires.sound
+
+pub returns-in_err-reserve-2-clause-sound : goal.returns-in_err-reserve-2-clause-sound
+returns-in_err-reserve-2-clause-sound g c =
+    roomier_sound g.K.Ord.cmp c.args.self.now c.reserve.new.self c.reserve-2.new.self (ap (λ (s : Slab (Leaf g.row.K.Denot g.row.V.Denot)). s.slots) c.reserve.ensures.rest_kept) (ap (λ (s : Slab (InnerNode g.row.K.Denot)). s.slots) c.reserve-2.ensures.rest_kept) c.requires.sound
+
+pub split_nodes-above-requires-clause-sound : goal.split_nodes-above-requires-clause-sound
+split_nodes-above-requires-clause-sound g c =
+    roomier_sound g.K.Ord.cmp c.args.self.now c.reserve.new.self c.reserve-2.new.self (ap (λ (s : Slab (Leaf g.row.K.Denot g.row.V.Denot)). s.slots) c.reserve.ensures.rest_kept) (ap (λ (s : Slab (InnerNode g.row.K.Denot)). s.slots) c.reserve-2.ensures.rest_kept) c.requires.sound
+
+pub returns-in_err-reserve-clause-ascending_headroom : goal.returns-in_err-reserve-clause-ascending_headroom
+returns-in_err-reserve-clause-ascending_headroom g c =
+    on_err c.from_residual-in_err-reserve.result (roomier_ascents g.K.Ord.cmp c.args.self.now c.reserve.new.self c.args.self.now.nodes (ap (λ (s : Slab (Leaf g.row.K.Denot g.row.V.Denot)). s.slots) c.reserve.ensures.rest_kept) refl)
+
+pub returns-in_err-reserve-2-clause-ascending_headroom : goal.returns-in_err-reserve-2-clause-ascending_headroom
+returns-in_err-reserve-2-clause-ascending_headroom g c =
+    on_err c.from_residual-in_err-reserve-2.result (roomier_ascents g.K.Ord.cmp c.args.self.now c.reserve.new.self c.reserve-2.new.self (ap (λ (s : Slab (Leaf g.row.K.Denot g.row.V.Denot)). s.slots) c.reserve.ensures.rest_kept) (ap (λ (s : Slab (InnerNode g.row.K.Denot)). s.slots) c.reserve-2.ensures.rest_kept))
+
+pub returns-clause-pairs : goal.returns-clause-pairs
+returns-clause-pairs g c =
+    c.split_leaf.ensures.pairs ∙ c.split_nodes-above.ensures.pairs ∙ roomier_pairs g.K.Ord.cmp c.args.self.now c.reserve.new.self c.reserve-2.new.self (ap (λ (s : Slab (Leaf g.row.K.Denot g.row.V.Denot)). s.slots) c.reserve.ensures.rest_kept) (ap (λ (s : Slab (InnerNode g.row.K.Denot)). s.slots) c.reserve-2.ensures.rest_kept)
+
+pub returns-clause-ascending : goal.returns-clause-ascending
+returns-clause-ascending g c above some =
+    let cmp = g.K.Ord.cmp in
+    let o = g.met.K.Ord.total in
+    let key = c.args.key.now in
+    let a = c.args.self.now in
+    let b : Arenas g.row.K.Denot g.row.V.Denot = record { leaves = c.reserve.new.self; nodes = c.reserve-2.new.self; root = a.root; height = a.height; len = a.len } in
+    let same : ascending_headroom cmp b ≡ ascending_headroom cmp a = roomier_ascents cmp a c.reserve.new.self c.reserve-2.new.self (ap (λ (s : Slab (Leaf g.row.K.Denot g.row.V.Denot)). s.slots) c.reserve.ensures.rest_kept) (ap (λ (s : Slab (InnerNode g.row.K.Denot)). s.slots) c.reserve-2.ensures.rest_kept) in
+    let pairs : pairs_of b ≡ pairs_of a = roomier_pairs cmp a c.reserve.new.self c.reserve-2.new.self (ap (λ (s : Slab (Leaf g.row.K.Denot g.row.V.Denot)). s.slots) c.reserve.ensures.rest_kept) (ap (λ (s : Slab (InnerNode g.row.K.Denot)). s.slots) c.reserve-2.ensures.rest_kept) in
+    let full : IsLeafFull cmp key b = roomier_full cmp a c.reserve.new.self c.reserve-2.new.self key (ap (λ (s : Slab (Leaf g.row.K.Denot g.row.V.Denot)). s.slots) c.reserve.ensures.rest_kept) (ap (λ (s : Slab (InnerNode g.row.K.Denot)). s.slots) c.reserve-2.ensures.rest_kept) (c.is_crowded.ensures.full c.if-not-is_crowded.false c.requires.full) in
+    let over_b : IsAbove cmp key (pairs_of b) = subst (IsAbove cmp key) (sym pairs) above in
+    let more : 1 < ascending_headroom cmp b = omega (arith, same, some) in
+    let still : c.split_nodes-above.new.self ≡ b = c.split_nodes-above.ensures.still (flat_node cmp o key b more c.if-self-eq0.false over_b full) in
+    let grown : ascending_headroom cmp c.split_nodes-above.new.self ≤ ascending_headroom cmp c.split_leaf.new.self = c.split_leaf.ensures.ascending (subst (IsLeafFull cmp key) (sym still) full) (subst (λ (x : Arenas g.row.K.Denot g.row.V.Denot). IsAbove cmp key (pairs_of x)) (sym still) over_b) (subst (λ (x : Arenas g.row.K.Denot g.row.V.Denot). 1 < ascending_headroom cmp x) (sym still) more) in
+    let to : ascending_headroom cmp c.split_nodes-above.new.self ≡ ascending_headroom cmp b = ap (ascending_headroom cmp) still in
+    omega (arith, grown, to, same)

@@ -1,0 +1,10 @@
+use Rattle.std.proofs.Common.{inl, refl}
+use Rattle.tree_nodes.proofs.arenas.Arenas.with_capacity.Goals as goal
+
+pub returns-clause-sound : goal.returns-clause-sound
+returns-clause-sound g c =
+    record {
+      stands = inl (record { flat = refl; empty = λ at. rw c.in_ok-leaves.ensures.empty refl });
+      linked = λ h. absurd (h refl);
+      count = rw c.in_ok-leaves.ensures.empty refl;
+    }

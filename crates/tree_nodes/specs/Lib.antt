@@ -1,0 +1,13 @@
+pub mod Bounds
+pub mod Shape
+pub mod Chain
+pub mod SplitPoints
+pub mod Content
+pub mod Depth
+pub mod Walk
+pub mod Prune
+pub mod Push
+pub mod Copy
+pub mod Standing
+pub mod Nodes
+pub mod Reads

@@ -1,0 +1,95 @@
+//! Pairs that come by rising keys go behind the last one, without a search.
+
+ghost use Rattle.std.specs.Prelude.{◌≡◌, ◌<◌, ◌≤◌, ◌+◌, ◌^◌, ◌++◌, ◌∷◌, [], IsSome, IfSome, true, false};
+ghost use Rattle.leaf_array.specs.Results.{IsSuccess, given_back};
+ghost use Rattle.leaf_array.specs.Values.{ClonesAreSame};
+ghost use Rattle.tree_nodes.specs.Content.{pairs_of, IsSound};
+ghost use Rattle.tree_nodes.specs.Depth.{IsAbove, ascending_headroom};
+ghost use Rattle.tree_nodes.specs.Push.{LastLeafHasRoom};
+
+use crate::arenas::Arenas;
+use leaf_array::InsertResult;
+
+impl<K: Ord, V> Arenas<K, V> {
+    /// Puts a pair behind all others, whose keys are lesser. It is full where memory is refused, or no more
+    /// pairs can be counted.
+    #[inline]
+    pub fn push(&mut self, key: K, val: V) -> InsertResult<K, V>
+    where
+        K: Clone + Drop,
+        V: Drop,
+        requires sound { IsSound K.cmp self.old }
+        requires clones { ClonesAreSame K.is_clone }
+        requires above { IsAbove K.cmp key (pairs_of self.old) }
+        ensures sound { IsSound K.cmp self.new }
+        ensures back { IfSome (given_back result) (λ p. p ≡ (key, val)) }
+        ensures kept { IsSome (given_back result) → pairs_of self.new ≡ pairs_of self.old }
+        ensures depth { IsSome (given_back result) → self.new.height ≡ self.old.height }
+        ensures ascending_headroom { IsSome (given_back result) → ascending_headroom K.cmp self.new ≡ ascending_headroom K.cmp self.old }
+        ensures done { IsSuccess result → pairs_of self.new ≡ pairs_of self.old ++ (key, val) ∷ [] }
+        ensures ascending { IsSuccess result → ascending_headroom K.cmp self.old ≤ ascending_headroom K.cmp self.new + 1 }
+    {
+        if self.len < usize::MAX {
+            if let Some(at) = self.open_leaf() {
+                let _ = self.push_at(at, key, val);
+                return InsertResult::Success;
+            }
+        }
+        self.put::<true>(key, val)
+    }
+
+    /// The last leaf, if it has pairs, and room for one more.
+    #[inline]
+    pub(crate) fn open_leaf(&self) -> Option<usize>
+        requires { IsSound K.cmp self.now }
+        ensures { IfSome result (λ n. LastLeafHasRoom self.now n) }
+    {
+        let Some(at) = self.last_leaf() else {
+            return None;
+        };
+        match self.leaves.get(at) {
+            Some(leaf) => {
+                if leaf.len() > 0 && !leaf.array.is_full() {
+                    Some(at)
+                } else {
+                    None
+                }
+            },
+            None => None,
+        }
+    }
+
+    /// Puts a pair behind those of the last leaf, and says whether there is room for one more, which can be counted.
+    #[inline]
+    pub(crate) fn push_at(&mut self, at: usize, key: K, val: V) -> bool
+        requires sound { IsSound K.cmp self.old }
+        requires countable { self.old.len + 1 < 2 ^ 64 }
+        requires open { LastLeafHasRoom self.old at }
+        requires above { IsAbove K.cmp key (pairs_of self.old) }
+        ensures sound { IsSound K.cmp self.new }
+        ensures open { result ≡ true → LastLeafHasRoom self.new at }
+        ensures countable { result ≡ true → self.new.len + 1 < 2 ^ 64 }
+        ensures done { pairs_of self.new ≡ pairs_of self.old ++ (key, val) ∷ [] }
+        ensures ascending { ascending_headroom K.cmp self.old ≤ ascending_headroom K.cmp self.new + 1 }
+    {
+        match self.leaves.get_mut(at) {
+            Some(leaf) => {
+                leaf.push(key, val);
+                let _ = leaf.len();
+                let full = leaf.array.is_full();
+                self.len += 1;
+                takes_more(full, self.len)
+            },
+            None => unreachable!(),
+        }
+    }
+}
+
+/// Whether a leaf that is full or not takes one more pair of a tree with so many.
+#[inline(always)]
+fn takes_more(full: bool, len: usize) -> bool
+    ensures room { result ≡ true → full ≡ false }
+    ensures countable { result ≡ true → len + 1 < 2 ^ 64 }
+{
+    !full && len < usize::MAX
+}
