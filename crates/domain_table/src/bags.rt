@@ -24,7 +24,7 @@ impl Bags {
     ghost use Rattle.domain_table.specs.Ledgers.{TakesLongest, WaitsIn};
 
     /// Empty bags, with room for so many items.
-    pub fn new(alloc: Global, room: usize) -> Result<Bags, AllocError>
+    pub(crate) fn new(alloc: Global, room: usize) -> Result<Bags, AllocError>
         ensures { IfOk result (λ b. WaitsIn [] b × (b.due ≡ 0) × (deque_capacity b.slots ≡ room)) }
     {
         let slots = VecDeque::with_capacity(alloc, room)?;

@@ -104,7 +104,7 @@ pub fn tag<T, H: Holding<T>>(words: &Words<T, H>, sizes: &Sizes, cell: usize) ->
 
 /// Loads the cell under the participant's open guard, for `participants` of them. If it names an item, the
 /// participant's parts of that come out of their home, unless they are leased already.
-pub fn load<T, H: Holding<T>>(
+pub(crate) fn load<T, H: Holding<T>>(
     words: &Words<T, H>,
     place: &mut Place<T>,
     participants: usize,
@@ -120,7 +120,7 @@ pub fn load<T, H: Holding<T>>(
 
 /// Loads the item of the owner that is first in hand, under the participant's open guard: the participant's parts of it
 /// come out of their home, unless they are leased already.
-pub fn load_own<T, H: Holding<T>>(words: &Words<T, H>, place: &mut Place<T>)
+pub(crate) fn load_own<T, H: Holding<T>>(words: &Words<T, H>, place: &mut Place<T>)
     requires table { (place.old.table_id ≡ words.now.table_id) × (0 < words.now.table_id.words) }
     requires open { (place.old.me.0.kind ≡ 1) × (is_inside place.old.me.0.known ≡ true) }
     requires owner { (o : Owner) × (os : List Owner) × (place.old.me.0.hand ≡ o ∷ os) }
@@ -187,7 +187,7 @@ pub fn change_tag<T, H: Holding<T>>(
 
 /// Tries once to make one more owner of the item that is leased in `slot`, which has `owners` of them, for
 /// `participants` and `cells` of them. The owner is in hand, with one of the parts of the lease. Whether nobody was faster.
-pub fn clone_owner<T, H: Holding<T>>(
+pub(crate) fn clone_owner<T, H: Holding<T>>(
     words: &Words<T, H>,
     place: &mut Place<T>,
     participants: usize,
@@ -214,7 +214,7 @@ pub fn clone_owner<T, H: Holding<T>>(
 
 /// Begins the release of the owner that is first in hand where its item isn't leased: the participant's home of it comes
 /// out.
-pub fn begin_release<T, H: Holding<T>>(words: &Words<T, H>, place: &mut Place<T>)
+pub(crate) fn begin_release<T, H: Holding<T>>(words: &Words<T, H>, place: &mut Place<T>)
     requires table { (place.old.table_id ≡ words.now.table_id) × (0 < words.now.table_id.words) }
     requires ready { (place.old.me.0.kind ≡ 1) × (place.old.me.0.releasing ≡ 0) }
     requires owner { (o : Owner) × (os : List Owner) × (place.old.me.0.hand ≡ o ∷ os) × ¬ Lends place.old.me.0.leases o.slot }
@@ -226,7 +226,7 @@ pub fn begin_release<T, H: Holding<T>>(words: &Words<T, H>, place: &mut Place<T>
 
 /// Gives the home back that `begin_release` took out, which is in front of what is out with the seat, with all parts of
 /// its lease. The owners in hand stay.
-pub fn keep_home<T, H: Holding<T>>(words: &Words<T, H>, place: &mut Place<T>)
+pub(crate) fn keep_home<T, H: Holding<T>>(words: &Words<T, H>, place: &mut Place<T>)
     requires table { (place.old.table_id ≡ words.now.table_id) × (0 < words.now.table_id.words) }
     requires out { (place.old.me.0.kind ≡ 1) × ((l : Lease) × (ls : List Lease) × (tail : List (ℕ × Home T)) × CanKeep (IsIn H.holds) place.old.me l ls tail) }
     ensures seat { (place.new.table_id ≡ place.old.table_id) × (place.new.id ≡ place.old.id) }
@@ -238,7 +238,7 @@ pub fn keep_home<T, H: Holding<T>>(words: &Words<T, H>, place: &mut Place<T>)
 /// Releases the owner that is first in hand, of the item that is leased in `slot`, for `participants` and `cells` of
 /// them: its part is joined to the lease. Answers how many owners are left; with the last one the participant has
 /// retired the item, in the same step.
-pub fn release_owner<T, H: Holding<T>>(
+pub(crate) fn release_owner<T, H: Holding<T>>(
     words: &Words<T, H>,
     place: &mut Place<T>,
     participants: usize,
@@ -259,7 +259,7 @@ pub fn release_owner<T, H: Holding<T>>(
 /// `participants` and `cells` of them: the participant's home of the item is in front of what is out with the seat, the
 /// owner's part joined to its parts, and goes back in the same step. Answers how many owners are left; with the last one
 /// the participant has retired the item, in that step too.
-pub fn end_release<T, H: Holding<T>>(
+pub(crate) fn end_release<T, H: Holding<T>>(
     words: &Words<T, H>,
     place: &mut Place<T>,
     participants: usize,

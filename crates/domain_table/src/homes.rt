@@ -33,7 +33,7 @@ pub fn let_go<T>(home: Home<T>) {
 }
 
 /// The box of a free slot.
-pub fn room_of<T, H: Holding<T>>(home: Home<T>) -> Box<Stored<T>>
+pub(crate) fn room_of<T, H: Holding<T>>(home: Home<T>) -> Box<Stored<T>>
     requires { IsIn H.holds room home }
 {
     match home {
@@ -74,7 +74,7 @@ pub fn parts_of<T, H: Holding<T>>(home: Home<T>) -> (Part<Stored<T>>, u64)
 }
 
 /// The slots that are in a bag.
-pub fn slots_left<T, H: Holding<T>>(home: Home<T>) -> Vec<usize>
+pub(crate) fn slots_left<T, H: Holding<T>>(home: Home<T>) -> Vec<usize>
     requires { (n : ℕ) × (ws : List Garbage) × IsIn H.holds (bag n ws) home }
     ensures { (n : ℕ) (ws : List Garbage) → IsIn H.holds (bag n ws) home → (result.items ≡ garbage_slots ws) × (n ≤ vec_capacity result) × (length ws ≤ n) }
 {

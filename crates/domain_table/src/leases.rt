@@ -19,7 +19,7 @@ use parted::{Ended, Seen};
 use std::collections::VecDeque;
 
 /// Which row is that of the item in `slot`, if it is leased.
-pub fn row_of<T>(rows: &VecDeque<Row<T>>, slot: usize) -> Option<usize>
+pub(crate) fn row_of<T>(rows: &VecDeque<Row<T>>, slot: usize) -> Option<usize>
     ensures leased { IfSome result (λ at. (at < deque_len rows.now) × ((d : Row T) → (slice_index_or rows.now.items at d).slot ≡ slot)) }
     ensures free { IfNone result (¬ Has (map (λ (r : Row T). r.slot) rows.now.items) slot) }
 {

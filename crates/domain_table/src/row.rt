@@ -37,7 +37,7 @@ impl<T> Row<T> {
     ghost use Rattle.domain_table.specs.Leases.{row_told};
 
     /// The row of the item in `slot`, of which these are the participant's parts, so many.
-    pub fn new(slot: usize, parts: Part<Stored<T>>, count: u64, life: &Life) -> Row<T>
+    pub(crate) fn new(slot: usize, parts: Part<Stored<T>>, count: u64, life: &Life) -> Row<T>
         requires low { slot < 2 ^ 32 }
         requires parts { (parts.life.count ≡ count) × (0 < count) × (count ≤ 2 ^ 63) × IsSome parts.seen.value }
         ensures { row_told result ≡ (slot, parts.life.id, count, life.now.id) }
@@ -57,7 +57,7 @@ impl<T> Row<T> {
     }
 
     /// Puts an owner's part to these.
-    pub fn take_in(&mut self, owner: One<Stored<T>>)
+    pub(crate) fn take_in(&mut self, owner: One<Stored<T>>)
         requires { (owner.part.life.id ≡ self.old.lent.pledge.id) × (self.old.count < 2 ^ 63) × IsSome owner.part.seen.value }
         ensures { row_told self.new ≡ (self.old.slot, self.old.lent.pledge.id, self.old.count + 1, self.old.lent.pledge.until) }
     {
@@ -74,7 +74,7 @@ impl<T> Row<T> {
     }
 
     /// Takes one of the parts for an owner.
-    pub fn give_one(&mut self) -> One<Stored<T>>
+    pub(crate) fn give_one(&mut self) -> One<Stored<T>>
         requires { 1 < self.old.count }
         ensures row { row_told self.new ≡ (self.old.slot, self.old.lent.pledge.id, self.old.count - 1, self.old.lent.pledge.until) }
         ensures part { result.part.life.id ≡ self.old.lent.pledge.id }
@@ -93,7 +93,7 @@ impl<T> Row<T> {
     }
 
     /// All the parts, once the life is over.
-    pub fn into_parts(self, ended: &Ended) -> Part<Stored<T>>
+    pub(crate) fn into_parts(self, ended: &Ended) -> Part<Stored<T>>
         requires { ended.now.id ≡ self.lent.pledge.until }
         ensures { (result.life.id ≡ self.lent.pledge.id) × (result.life.count ≡ self.count) × (0 < self.count) × IsSome result.seen.value }
     {

@@ -83,7 +83,7 @@ pub fn is_used<T, H: Holding<T>>(words: &Words<T, H>, sizes: &Sizes, slot: usize
 
 /// Tries once to claim `slot`, for `participants` and `cells` of them. Where it was vacant it is the participant's to
 /// fill, and the item's own home is out, with the room for the item. Whether it was.
-pub fn claim<T, H: Holding<T>>(
+pub(crate) fn claim<T, H: Holding<T>>(
     words: &Words<T, H>,
     place: &mut Place<T>,
     participants: usize,
@@ -100,7 +100,7 @@ pub fn claim<T, H: Holding<T>>(
 }
 
 /// Takes the home of the next participant out of the slot that is being filled. It is empty.
-pub fn take_next<T, H: Holding<T>>(words: &Words<T, H>, place: &mut Place<T>)
+pub(crate) fn take_next<T, H: Holding<T>>(words: &Words<T, H>, place: &mut Place<T>)
     requires table { (place.old.table_id ≡ words.now.table_id) × (0 < words.now.table_id.words) }
     requires filling { (place.old.me.0.kind ≡ 1) × ((f : Filling) × (place.old.me.0.filling ≡ Some f) × (f.filled < place.old.me.0.sizes.participants) × (f.out ≡ place.old.me.0.sizes.participants)) }
     ensures seat { (place.new.table_id ≡ place.old.table_id) × (place.new.id ≡ place.old.id) }
@@ -110,7 +110,7 @@ pub fn take_next<T, H: Holding<T>>(words: &Words<T, H>, place: &mut Place<T>)
 }
 
 /// Gives the home back that `take_next` took, with its parts. The first one tells which round the slot's parts are of.
-pub fn give_next<T, H: Holding<T>>(words: &Words<T, H>, place: &mut Place<T>)
+pub(crate) fn give_next<T, H: Holding<T>>(words: &Words<T, H>, place: &mut Place<T>)
     requires table { (place.old.table_id ≡ words.now.table_id) × (0 < words.now.table_id.words) }
     requires filling { (place.old.me.0.kind ≡ 1) × ((f : Filling) × (c : ℕ) × (a : ℕ) × (tail : List (ℕ × Home T)) × CanFill (IsIn H.holds) place.old.me f c a tail) }
     ensures seat { (place.new.table_id ≡ place.old.table_id) × (place.new.id ≡ place.old.id) }
@@ -121,7 +121,7 @@ pub fn give_next<T, H: Holding<T>>(words: &Words<T, H>, place: &mut Place<T>)
 
 /// Gives the slot to a new item, which holds the items whose owners are in hand, and has one owner, which is in hand from
 /// now on. The item's own home goes back in the same step, with its deed.
-pub fn place<T, H: Holding<T>>(
+pub(crate) fn place<T, H: Holding<T>>(
     words: &Words<T, H>,
     place: &mut Place<T>,
     participants: usize,

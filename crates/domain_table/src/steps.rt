@@ -172,7 +172,7 @@ pub fn is_claimed<T, H: Holding<T>>(words: &Words<T, H>, number: usize) -> bool
 
 /// Takes over the last of the items that were left where the participant ended before: the participant has retired it,
 /// and hasn't rotated since. The bag that is out stays as it is. No word changes.
-pub fn take_over<T, H: Holding<T>>(words: &Words<T, H>, place: &mut Place<T>)
+pub(crate) fn take_over<T, H: Holding<T>>(words: &Words<T, H>, place: &mut Place<T>)
     requires table { (place.old.table_id ≡ words.now.table_id) × (1 < words.now.table_id.words) }
     requires ready { (place.old.me.0.kind ≡ 1) × (is_ready place.old.me.0.known ≡ true) }
     requires left { (w : Garbage) × (ws : List Garbage) × (place.old.me.0.left ≡ ws ++ w ∷ []) }
@@ -230,7 +230,7 @@ pub fn count_under<T, H: Holding<T>>(words: &Words<T, H>, place: &mut Place<T>, 
 }
 
 /// Tries once for the scan lock.
-pub fn take_lock<T, H: Holding<T>>(
+pub(crate) fn take_lock<T, H: Holding<T>>(
     words: &Words<T, H>,
     place: &mut Place<T>,
     number: usize,
@@ -244,7 +244,7 @@ pub fn take_lock<T, H: Holding<T>>(
 }
 
 /// Whether the count is still the published one, under the scan lock.
-pub fn is_present<T, H: Holding<T>>(
+pub(crate) fn is_present<T, H: Holding<T>>(
     words: &Words<T, H>,
     place: &mut Place<T>,
     number: usize,
@@ -258,7 +258,7 @@ pub fn is_present<T, H: Holding<T>>(
 }
 
 /// Gives the scan lock back.
-pub fn give_lock<T, H: Holding<T>>(
+pub(crate) fn give_lock<T, H: Holding<T>>(
     words: &Words<T, H>,
     place: &mut Place<T>,
     number: usize,
@@ -290,7 +290,7 @@ fn look_at<T, H: Holding<T>>(
 }
 
 /// The same, for what a scan needs of it: who was looked at before stays so.
-pub fn look<T, H: Holding<T>>(
+pub(crate) fn look<T, H: Holding<T>>(
     words: &Words<T, H>,
     place: &mut Place<T>,
     number: usize,
@@ -312,7 +312,12 @@ pub fn look<T, H: Holding<T>>(
 }
 
 /// Raises the count by one, where everybody else was looked at.
-pub fn raise<T, H: Holding<T>>(words: &Words<T, H>, place: &mut Place<T>, number: usize, epoch: u64)
+pub(crate) fn raise<T, H: Holding<T>>(
+    words: &Words<T, H>,
+    place: &mut Place<T>,
+    number: usize,
+    epoch: u64,
+)
     requires table { (place.old.table_id ≡ words.now.table_id) × (0 < words.now.table_id.words) }
     requires open { Scans place.old number epoch 2 }
     requires all { (q : ℕ) → q < words.now.key.sizes.participants → q ≢ number → Has place.old.me.0.known.looked q }

@@ -9,7 +9,10 @@ use std::alloc::Global;
 use std::mem::ManuallyDrop;
 
 /// Puts an item into an empty box, and freezes it: the right to have the box back, and all parts of the right to read.
-pub fn store<T>(mut room: Box<Stored<T>>, item: T) -> (Deed<Stored<T>, Global>, Part<Stored<T>>)
+pub(crate) fn store<T>(
+    mut room: Box<Stored<T>>,
+    item: T,
+) -> (Deed<Stored<T>, Global>, Part<Stored<T>>)
     ensures round { (result.1.life.id ≡ result.0.life) × (result.1.life.count ≡ 2 ^ 63) }
     ensures there { IsSomeAnd result.0.value (λ m. manually_drop_value m ≡ item) }
     ensures value { IsSomeAnd result.1.seen.value (λ m. manually_drop_value m ≡ item) }
