@@ -2,12 +2,12 @@
 use Rattle.std.proofs.Common.{◌≡◌, true, ℕ, List, [], ◌∷◌, ap, ◌∙◌}
 use Rattle.atomic_table.specs.Table.{Me}
 use Rattle.sdd_homes.specs.declared.Lease.{Lease}
-use Rattle.sdd_domain.specs.Contents.{is_blank, blanks}
-use Rattle.sdd_domain.specs.Leases.{has_all, leased_homes}
-use Rattle.sdd_domain.specs.declared.board.Acting.{Acting}
-use Rattle.sdd_domain.specs.declared.board.Home.{Home}
-use Rattle.sdd_domain.specs.declared.board.Home.TheVariants.{Blank}
-use Rattle.sdd_domain.proofs.Told.{all_there, are_there}
+use Rattle.domain_table.specs.Contents.{is_blank, blanks}
+use Rattle.domain_table.specs.Leases.{has_all, leased_homes}
+use Rattle.domain_table.specs.declared.board.Acting.{Acting}
+use Rattle.domain_table.specs.declared.board.Home.{Home}
+use Rattle.domain_table.specs.declared.board.Home.TheVariants.{Blank}
+use Rattle.domain_table.proofs.Told.{all_there, are_there}
 
 module _ {T : Type 0} where
   pub both_out : (m : Me (Home T) Acting) (k l : ℕ) → m.0.leases ≡ [] → has_all is_blank (k ∷ l ∷ leased_homes m.0 m.0.leases) m.1 ≡ true → m.1 ≡ (k, Blank) ∷ (l, Blank) ∷ []

@@ -1,7 +1,7 @@
 -- owners in hand, as they are told
 use Rattle.std.proofs.Common.{◌≡◌, ℕ, List, [], ◌∷◌, map, refl}
 use Rattle.sdd_homes.specs.declared.Owner.{Owner}
-use Rattle.sdd_domain.specs.Holding.{told}
+use Rattle.domain_table.specs.Owners.{told}
 
 -- the first that is told is the first one's
 pub first_held : (os : List Owner) (t : ℕ × ℕ) (ts : List (ℕ × ℕ)) → map told os ≡ t ∷ ts → (o : Owner) × (rest : List Owner) × (os ≡ o ∷ rest) × (told o ≡ t) × (map told rest ≡ ts)

@@ -4,15 +4,15 @@ use Rattle.atomic_table.specs.Seated.{TableId}
 use Rattle.atomic_table.specs.Table.{Me}
 use Rattle.sdd_homes.specs.declared.Owner.{Owner}
 use Rattle.sdd_domain.specs.Comparing.{owner_code, IsBack, HasTried, IsInFront}
-use Rattle.sdd_domain.specs.Contents.{IsIn, blanks}
-use Rattle.sdd_domain.specs.Layout.{packed}
-use Rattle.sdd_domain.specs.Leases.{leased_homes, HasNoted}
-use Rattle.sdd_domain.specs.Owners.{besides, slot_code}
-use Rattle.sdd_domain.specs.Plays.{own_spare, Brings, GetsBack}
+use Rattle.domain_table.specs.Contents.{IsIn, blanks}
+use Rattle.domain_table.specs.Layout.{packed}
+use Rattle.domain_table.specs.Leases.{leased_homes, HasNoted}
+use Rattle.domain_table.specs.Owners.{besides, slot_code}
+use Rattle.domain_table.specs.Plays.{own_spare, Brings, GetsBack}
 use Rattle.sdd_domain.specs.Sharing.{kept_in}
-use Rattle.sdd_domain.specs.declared.board.Acting.{Acting}
-use Rattle.sdd_domain.specs.declared.board.Home.{Home}
-use Rattle.sdd_domain.specs.declared.board.Home.TheVariants.{Blank}
+use Rattle.domain_table.specs.declared.board.Acting.{Acting}
+use Rattle.domain_table.specs.declared.board.Home.{Home}
+use Rattle.domain_table.specs.declared.board.Home.TheVariants.{Blank}
 use Rattle.sdd_domain.specs.declared.shared.Shared.{Shared}
 
 -- a swap, which leases nothing

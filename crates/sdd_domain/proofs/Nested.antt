@@ -3,11 +3,11 @@ use Rattle.std.proofs.Common.{◌≡◌, ℕ, List, [], ◌∷◌, map, length, 
 use Rattle.atomic_table.specs.Table.{Me}
 use Rattle.sdd_homes.specs.declared.Lease.{Lease}
 use Rattle.sdd_homes.specs.Book.{home}
-use Rattle.sdd_domain.specs.Leases.{row_told, lease_told, leased_homes}
-use Rattle.sdd_domain.specs.Plays.{Steady}
-use Rattle.sdd_domain.specs.declared.board.Acting.{Acting}
+use Rattle.domain_table.specs.Leases.{row_told, lease_told, leased_homes}
+use Rattle.domain_table.specs.Plays.{Steady}
+use Rattle.domain_table.specs.declared.board.Acting.{Acting}
 use Rattle.sdd_domain.specs.declared.local.Local.{Local}
-use Rattle.sdd_domain.specs.declared.row.Row.{Row}
+use Rattle.domain_table.specs.declared.row.Row.{Row}
 
 -- nothing is leased while no guard is open
 pub none_leased : {T : Type 0} (l : Local T) → l.own.nesting ≡ 0 → l.place.me.0.leases ≡ []

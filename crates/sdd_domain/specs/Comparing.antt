@@ -1,17 +1,15 @@
 -- which item an owner is of, by its slot
 use Rattle.std.specs.Prelude.{◌≡◌, ℕ, ◌+◌, List, ◌∷◌, ◌++◌, Option, None, Some}
-use Rattle.core.specs.declared.mem.manually_drop.ManuallyDrop.{ManuallyDrop}
 use Rattle.atomic_table.specs.Table.{Me}
-use Rattle.parted.specs.declared.part.Part as parted
 use Rattle.sdd_steps.specs.declared.participant.Loaded.{Loaded}
 use Rattle.sdd_homes.specs.declared.Lease.{Lease}
-use Rattle.sdd_domain.specs.Contents.{blanks}
-use Rattle.sdd_domain.specs.Leases.{leased_homes}
-use Rattle.sdd_domain.specs.Plays.{own_spare}
+use Rattle.domain_table.specs.Contents.{blanks}
+use Rattle.domain_table.specs.Leases.{leased_homes}
+use Rattle.domain_table.specs.Plays.{own_spare}
 use Rattle.sdd_domain.specs.Sharing.{kept_in, IsOwnerOf}
-use Rattle.sdd_domain.specs.declared.board.Acting.{Acting}
-use Rattle.sdd_domain.specs.declared.board.Home.{Home}
-use Rattle.sdd_domain.specs.declared.board.Home.TheVariants.{Blank, Part}
+use Rattle.domain_table.specs.declared.board.Acting.{Acting}
+use Rattle.domain_table.specs.declared.board.Home.{Home}
+use Rattle.domain_table.specs.declared.board.Home.TheVariants.{Blank, Part}
 use Rattle.sdd_domain.specs.declared.shared.Shared.{Shared}
 
 -- 0 for none, else one more than the slot of its item
@@ -35,10 +33,6 @@ IsBack None None = Unit {0}
 IsBack None (Some back) = ⊥
 IsBack (Some new) None = ⊥
 IsBack {T} (Some new) (Some back) = (kept_in back ≡ kept_in new) × (back.slot ≡ new.slot) × ((x : T) → IsOwnerOf new x → IsOwnerOf back x)
-
--- these parts lie there, so many of them
-abbrev pub AreIn : {T : Type 0} → parted.Part (Option (ManuallyDrop T)) → ℕ → Home T → Type 0
-AreIn p c y = y ≡ Part p c
 
 -- the part of this owner is in front of what is out with a seat
 abbrev pub IsInFront : {T : Type 0} → Shared T → List (ℕ × Home T) → Type 0

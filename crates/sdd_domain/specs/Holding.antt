@@ -1,14 +1,9 @@
 -- what items hold
 use Rattle.std.specs.Prelude.{◌≡◌, ℕ, List, [], ◌∷◌, ◌++◌, map, reverse, IsSomeAnd}
 use Rattle.std.specs.Mem.{manually_drop_value}
-use Rattle.sdd_homes.specs.declared.Owner.{Owner}
 use Rattle.sdd_domain.specs.declared.held.Held.{Held}
 
--- an owner, told by the slot and the round of its item
-abbrev pub told : Owner → ℕ × ℕ
-told o = (o.slot, o.round)
-
--- the same of one that an item holds
+-- one that an item holds, told by the slot and the round of its item
 abbrev pub told_of : {T : Type 0} → Held T → ℕ × ℕ
 told_of h = (h.slot, h.part.part.life.id)
 

@@ -6,12 +6,12 @@ use Rattle.atomic_table.specs.Table.{State}
 use Rattle.sdd_steps.specs.declared.participant.Phase.TheVariants.{Opened}
 use Rattle.sdd_steps.specs.State as steps
 use Rattle.sdd_steps.specs.Invariant.{Inv, Safe}
-use Rattle.sdd_domain.specs.Contents.{IsIn}
-use Rattle.sdd_domain.specs.declared.board.Home.{Home}
-use Rattle.sdd_domain.specs.Layout.{count_word}
-use Rattle.sdd_domain.specs.Rule.{Runs, beginning, Shows}
-use Rattle.sdd_domain.specs.declared.board.Acting.{Acting}
-use Rattle.sdd_domain.specs.declared.board.Plan.{Plan}
+use Rattle.domain_table.specs.Contents.{IsIn}
+use Rattle.domain_table.specs.declared.board.Home.{Home}
+use Rattle.domain_table.specs.Layout.{count_word}
+use Rattle.domain_table.specs.Rule.{Runs, beginning, Shows}
+use Rattle.domain_table.specs.declared.board.Acting.{Acting}
+use Rattle.domain_table.specs.declared.board.Plan.{Plan}
 
 -- The words and views show a state of the single steps that a schedule of them has led to from the beginning. It meets their invariant and keeps their promise.
 abbrev pub ShowsSafe : (T : Type 0) → (T → List (ℕ × ℕ)) → Type 0

@@ -4,8 +4,8 @@ use Rattle.atomic_table.specs.Seated.{TableId}
 use Rattle.sdd_base.specs.declared.sizes.Sizes.{Sizes}
 use Rattle.sdd_base.specs.declared.status.LocalState.{LocalState}
 use Rattle.sdd_base.specs.Steps.{closings_after, scans}
-use Rattle.sdd_domain.specs.Holding.{told}
-use Rattle.sdd_domain.specs.Leases.{life_number}
+use Rattle.domain_table.specs.Owners.{told}
+use Rattle.domain_table.specs.Leases.{life_number}
 use Rattle.sdd_domain.specs.declared.domain.Domain.{Domain}
 use Rattle.sdd_domain.specs.declared.local.Local.{Local}
 use Rattle.sdd_domain.specs.declared.guard.Guard.{Guard}

@@ -3,7 +3,6 @@
 ghost use Rattle.std.specs.Prelude.{◌≡◌, ◌<◌, ◌+◌, ◌||◌, Bool, true, [], IsTrue, IfSome, IfNone, IfOk, IfErr, OnOk, OnErr};
 ghost use Rattle.sdd_domain.specs.Tokens.{cell_count};
 
-use crate::cells::{is_null, tag};
 use crate::comparing::{named_by, names, try_exchange, try_tag, word_of};
 use crate::domain::Domain;
 use crate::guard::Guard;
@@ -12,6 +11,7 @@ use crate::local::Local;
 use crate::pointer::{Loaded, Named, Ptr};
 use crate::shared::Shared;
 use crate::swapping::swap_owner;
+use domain_table::cells::{is_null, tag};
 use sdd_base::tag::Tag;
 use std::sync::atomic::Ordering;
 use tally::Tally;

@@ -1,85 +1,18 @@
-//! The table of words that the threads of a place share, its rule, and what a seat at it knows.
+//! The table of a place, whose items hold what their type says.
 
 use crate::holds::Holds;
-use atomic_table::{Seat, Shared, Table, TableRule};
-use parted::{Deed, Part};
-use sdd_base::sizes::Sizes;
-use sdd_homes::{Filling, Garbage, Lease, Owner};
-use sdd_steps::{Participant, Seq};
-use std::alloc::Global;
-use std::mem::ManuallyDrop;
+use domain_table::board;
+use domain_table::holding::Holding;
 
-/// What a seat knows. No value of it is made.
-/// Of kind 1 it acts for the participant `number`; of kind 0 it knows nothing.
-pub struct Acting {
-    pub kind: u64,
-    pub number: u64,
-    /// 0 outside a scan, 1 with the scan lock, and 2 where the count is known to be the published one too.
-    pub scan: u64,
-    /// The count when the open guard was published.
-    pub born: u64,
-    pub known: Participant,
-    /// How large the place is.
-    pub sizes: Sizes,
-    /// The participant's spare slot.
-    pub spare: u64,
-    /// The owners that are in hand here, and what is out of the participant's homes.
-    pub hand: Seq<Owner>,
-    pub leases: Seq<Lease>,
-    /// One more than the item whose home is out for a release, or 0.
-    pub releasing: u64,
-    /// The slot that the participant fills or empties, and how far that is.
-    pub slot: u64,
-    pub filling: Option<Filling>,
-    /// What the participant has retired.
-    pub waits: Seq<Garbage>,
-    /// What was left when the participant ended before, and isn't taken over yet.
-    pub left: Seq<Garbage>,
-}
+/// Items hold what their `Holds` tells.
+pub struct Told;
 
-/// An item as it lies in its box, which stays with its slot and is empty while the slot is free.
-pub type Stored<T> = Option<ManuallyDrop<T>>;
-
-/// What lies in a slot of the table.
-pub enum Home<T> {
-    Blank,
-    /// The box for the item of a slot that is free.
-    Room(Box<Stored<T>>),
-    /// The right to have that box back once nobody reads the item.
-    Deed(Deed<Stored<T>, Global>),
-    /// Parts of the right to read the item, and how many they are.
-    Part(Part<Stored<T>>, u64),
-    /// A participant's bag: the slots of the items that it left when it ended.
-    Left(Vec<usize>),
-    /// How large the place is: this lies in no slot, and is only said to a seat.
-    Announced(Sizes),
-}
-
-/// What a place is told once, when it is made: how large it is, and the count of raises that it begins with.
-#[derive(Clone, Copy, Drop)]
-pub struct Plan {
-    pub sizes: Sizes,
-    pub first: u64,
-}
-
-/// The rule: the words and views show a state of the single steps that meets their invariant.
-pub struct Rule;
-
-impl<T: Holds> TableRule<Home<T>, Acting, Plan> for Rule {
-    ghost use Rattle.sdd_domain.specs.Contents.{IsIn};
-    ghost use Rattle.sdd_domain.specs.Rule.{Shows};
-    ghost use Rattle.sdd_domain.specs.Views.{spent};
-
-    ghost holds = { λ plan. Shows (IsIn T.holds) plan };
-
-    ghost first = { λ _. spent };
+impl<T: Holds> Holding<T> for Told {
+    ghost holds = { T.holds };
 }
 
 /// The table with its memory.
-pub(crate) type Board<T> = Table<Home<T>, Acting, Plan, Rule, Global>;
+pub(crate) type Board<T> = board::Board<T, Told>;
 
 /// The table as threads see it.
-pub(crate) type Words<T> = Shared<Home<T>, Acting, Plan, Rule>;
-
-/// What one thread knows of it.
-pub(crate) type Place<T> = Seat<Home<T>, Acting>;
+pub(crate) type Words<T> = board::Words<T, Told>;

@@ -2,19 +2,20 @@
 
 ghost use Rattle.std.specs.Prelude.{◌≡◌, ◌+◌, ◌*◌, ◌^◌, ◌<◌, ◌≤◌, [], ◌++◌, replicate, vec_len, IfOk, OnOk, IfErr};
 ghost use Rattle.sdd_base.specs.State.{no_local};
-ghost use Rattle.sdd_domain.specs.Layout.{all_words, IsSized};
-ghost use Rattle.sdd_domain.specs.Rule.{numbers, first_eights, first_words};
+ghost use Rattle.domain_table.specs.Layout.{all_words, IsSized};
+ghost use Rattle.domain_table.specs.Rule.{numbers, first_eights, first_words};
 
-use crate::board::{Board, Plan, Words};
+use crate::board::{Board, Told, Words};
 use crate::guard::Guard;
 use crate::holds::Holds;
-use crate::homes::{clear, empty, homes_from};
-use crate::ledger::Ledger;
 use crate::local::Local;
 use crate::refusal::RegisterRefused;
-use crate::slots::{has_owner, is_used};
-use crate::steps::{claim, is_claimed, learn, sit};
 use atomic_table::Refused;
+use domain_table::board::Plan;
+use domain_table::homes::{clear, empty, homes_from};
+use domain_table::ledger::Ledger;
+use domain_table::slots::{has_owner, is_used};
+use domain_table::steps::{claim, is_claimed, learn, sit};
 use sdd_base::sizes::Sizes;
 use std::alloc::{AllocError, Global};
 use std::sync::atomic::AtomicBool;
@@ -91,7 +92,7 @@ fn free_cells(alloc: Global, count: usize) -> Result<Vec<AtomicBool>, AllocError
 }
 
 impl<T: Holds> Domain<T> {
-    ghost use Rattle.sdd_domain.specs.Ledgers.{IsEmpty};
+    ghost use Rattle.domain_table.specs.Ledgers.{IsEmpty};
     ghost use Rattle.sdd_domain.specs.Tokens.{participants_of, slot_count, cell_count, first_of, place_of, home_of, number_of, own_of, hand_of};
 
     /// A place without items, for as many participants as its sizes name, none of them registered. It takes all memory
@@ -117,7 +118,7 @@ impl<T: Holds> Domain<T> {
         };
         let words = words_from(alloc, &plan)?;
         let taken = free_cells(alloc, sizes.cells)?;
-        let homes = homes_from(alloc, &plan.sizes)?;
+        let homes = homes_from::<T, Told>(alloc, &plan.sizes)?;
         match Board::new(alloc, &words, homes, &plan) {
             Ok((table, _)) => Ok(Domain {
                 table,

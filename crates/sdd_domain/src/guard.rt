@@ -6,7 +6,7 @@ use crate::domain::Domain;
 use crate::holds::Holds;
 use crate::local::Local;
 use crate::shared::Shared;
-use crate::steps;
+use domain_table::steps;
 use parted::Life;
 use sdd_base::epoch::Epoch;
 use sdd_base::refusal::Nested;

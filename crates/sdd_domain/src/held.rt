@@ -2,12 +2,12 @@
 
 ghost use Rattle.std.specs.Prelude.{◌≡◌, ℕ, ◌+◌, ◌^◌, ◌<◌, List, ◌∷◌, IsSome};
 
-use crate::board::Stored;
 use crate::domain::Domain;
 use crate::holds::Holds;
 use crate::local::Local;
-use crate::owners::part_with;
 use crate::shared::Shared;
+use domain_table::board::Stored;
+use domain_table::owners::part_with;
 use parted::One;
 
 /// An owner that an item holds, or that is on its way into one or out of it and in the hand of a participant. It must be

@@ -8,34 +8,18 @@
 #![tactic(auto)]
 
 pub mod atomic_shared;
-mod bags;
 mod board;
-mod cells;
 mod comparing;
 pub mod domain;
 pub mod guard;
 pub mod held;
 pub mod holding;
 pub mod holds;
-mod homes;
 pub mod laws;
-mod leases;
-mod ledger;
-mod left;
-mod lives;
-mod loading;
 pub mod local;
-mod owners;
-mod placing;
 pub mod plain;
 pub mod pointer;
 mod reclaiming;
 pub mod refusal;
-mod row;
-mod scan;
 pub mod shared;
-mod slots;
-mod steps;
-mod stored;
 mod swapping;
-mod tags;

@@ -7,28 +7,29 @@ ghost use Rattle.sdd_base.specs.State.{no_local};
 ghost use Rattle.sdd_base.specs.Steps.{closings_after, scans};
 ghost use Rattle.sdd_steps.specs.declared.participant.Phase.TheVariants.{Idle, Opened};
 ghost use Rattle.sdd_homes.specs.declared.Garbage.{Garbage};
-ghost use Rattle.sdd_domain.specs.Ledgers.{WaitsIn};
-ghost use Rattle.sdd_domain.specs.Fitting.{FitsSizes, HasEpochs, FitsNumber};
-ghost use Rattle.sdd_domain.specs.Contents.{IsIn, is_blank};
-ghost use Rattle.sdd_domain.specs.Bags.{ages, Waits};
-ghost use Rattle.sdd_domain.specs.Views.{spent, rotated};
-ghost use Rattle.sdd_domain.specs.Leases.{life_number, row_told, lease_told, leased_homes, row_slots, all_below, has_all};
-ghost use Rattle.sdd_domain.specs.Plays.{own_spare, own_bag, HasRegistered, Scans, Steady};
-ghost use Rattle.sdd_domain.specs.Layout.{claim_word};
+ghost use Rattle.domain_table.specs.Ledgers.{WaitsIn};
+ghost use Rattle.domain_table.specs.Fitting.{FitsSizes, HasEpochs, FitsNumber};
+ghost use Rattle.domain_table.specs.Contents.{IsIn, is_blank};
+ghost use Rattle.domain_table.specs.Bags.{ages, Waits};
+ghost use Rattle.domain_table.specs.Views.{spent, rotated};
+ghost use Rattle.domain_table.specs.Leases.{life_number, row_told, lease_told, leased_homes, row_slots, all_below, has_all};
+ghost use Rattle.domain_table.specs.Plays.{own_spare, own_bag, HasRegistered, Scans, Steady};
+ghost use Rattle.domain_table.specs.Layout.{claim_word};
 
-use crate::bags::Bags;
-use crate::board::{Place, Stored, Words};
+use crate::board::Words;
 use crate::domain::Domain;
 use crate::holds::Holds;
-use crate::leases::{give_home, seen_at};
-use crate::ledger::Ledger;
-use crate::left::{bag_in, bag_out, filled, take_left};
-use crate::lives::{first_token, last_token, no_token};
-use crate::loading::lease;
 use crate::reclaiming::reclaim_due;
-use crate::row::Row;
-use crate::scan::scan;
-use crate::{cells, steps};
+use domain_table::bags::Bags;
+use domain_table::board::{Place, Stored};
+use domain_table::leases::{give_home, seen_at};
+use domain_table::ledger::Ledger;
+use domain_table::left::{bag_in, bag_out, filled, take_left};
+use domain_table::lives::{first_token, last_token, no_token};
+use domain_table::loading::lease;
+use domain_table::row::Row;
+use domain_table::scan::scan;
+use domain_table::{cells, steps};
 use parted::{Life, Seen};
 use sdd_base::sizes::Sizes;
 use sdd_base::status::LocalState;
@@ -137,7 +138,7 @@ fn turn<T: Holds>(
 }
 
 impl<T: Holds> Local<T> {
-    ghost use Rattle.sdd_domain.specs.Ledgers.{IsEmpty};
+    ghost use Rattle.domain_table.specs.Ledgers.{IsEmpty};
     ghost use Rattle.sdd_domain.specs.Tokens.{cell_count, place_of, home_of, number_of, own_of, hand_of, born_of, begun, closed, waiting_of, nest_in, IsSame, IsInNest};
 
     /// The participant that a seat has just come to act for. What was left where it ended before is taken over.

@@ -3,12 +3,12 @@
 ghost use Rattle.std.specs.Prelude.{◌≡◌, IsSome, IsTrue, IfSome, None, Some, option_copied, ◌↔◌};
 ghost use Rattle.std.specs.Option.{ForSome};
 
-use crate::board::Stored;
 use crate::domain::Domain;
 use crate::guard::Guard;
 use crate::holds::Holds;
 use crate::local::Local;
 use crate::shared::Shared;
+use domain_table::board::Stored;
 use parted::Seen;
 use sdd_base::tag::Tag;
 

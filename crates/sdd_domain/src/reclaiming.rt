@@ -6,20 +6,22 @@ ghost use Rattle.sdd_homes.specs.declared.Filling.{Filling};
 ghost use Rattle.std.specs.VecDeque.{deque_capacity};
 ghost use Rattle.sdd_homes.specs.declared.Garbage.{Garbage};
 ghost use Rattle.sdd_homes.specs.declared.Owner.{Owner};
-ghost use Rattle.sdd_domain.specs.Outcomes.{Gathers, GathersAll, HasGivenUp, ReclaimsLast};
-ghost use Rattle.sdd_domain.specs.Ledgers.{WaitsIn};
-ghost use Rattle.sdd_domain.specs.Fitting.{FitsSizes, FitsTaken};
-ghost use Rattle.sdd_domain.specs.Holding.{told, told_of};
-ghost use Rattle.sdd_domain.specs.Leases.{IsFirst, IsAtRest};
+ghost use Rattle.domain_table.specs.Outcomes.{Gathers, GathersAll, HasGivenUp, ReclaimsLast};
+ghost use Rattle.domain_table.specs.Ledgers.{WaitsIn};
+ghost use Rattle.domain_table.specs.Fitting.{FitsSizes, FitsTaken};
+ghost use Rattle.domain_table.specs.Owners.{told};
+ghost use Rattle.sdd_domain.specs.Holding.{told_of};
+ghost use Rattle.domain_table.specs.Leases.{IsFirst, IsAtRest};
 
-use crate::bags::Bags;
-use crate::board::{Home, Place, Stored, Words};
+use crate::board::{Told, Words};
 use crate::held::Held;
 use crate::holds::Holds;
-use crate::homes::{deed_of, let_go, parts_of};
-use crate::owners::release_home;
-use crate::slots;
-use crate::stored::take_out;
+use domain_table::bags::Bags;
+use domain_table::board::{Home, Place, Stored};
+use domain_table::homes::{deed_of, let_go, parts_of};
+use domain_table::owners::release_home;
+use domain_table::slots;
+use domain_table::stored::take_out;
 use parted::Part;
 use sdd_base::sizes::Sizes;
 
@@ -38,7 +40,11 @@ fn gather_home<T: Holds>(
     ensures some { (0 < result.life.count) × IsSome result.seen.value }
 {
     slots::gather(words, place);
-    let (part, _) = parts_of(words.exchange(place, at * sizes.slots + slot, Home::Blank));
+    let (part, _) = parts_of::<T, Told>(words.exchange(
+        place,
+        at * sizes.slots + slot,
+        Home::Blank,
+    ));
     slots::empty(words, place);
     part
 }
@@ -79,7 +85,7 @@ pub(crate) fn reclaim<T: Holds>(
 {
     slots::open(words, place);
     let own = sizes.participants * sizes.slots + slot;
-    let deed = deed_of(words.exchange(place, own, Home::Blank));
+    let deed = deed_of::<T, Told>(words.exchange(place, own, Home::Blank));
     let all = gather_all(words, place, sizes, slot);
     let (item, room) = take_out(deed, all);
     let_go(words.exchange(place, own, Home::Room(room)));

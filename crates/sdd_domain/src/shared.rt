@@ -1,21 +1,21 @@
 //! Owners of the items of a place that threads share.
 
 ghost use Rattle.std.specs.Prelude.{◌≡◌, ◌+◌, ◌^◌, ◌<◌, ◌∷◌, [], ◌||◌, true, Some, IsSome, IsSomeAnd, IfSome, IsTrue, IsFalse, IfOk, IfErr, OnOk, OnErr};
-ghost use Rattle.sdd_domain.specs.Views.{holding};
-ghost use Rattle.sdd_domain.specs.Owners.{item_in};
+ghost use Rattle.domain_table.specs.Views.{holding};
+ghost use Rattle.domain_table.specs.Owners.{item_in};
 
-use crate::board::{Acting, Stored};
 use crate::domain::Domain;
 use crate::guard::Guard;
 use crate::held::Held;
 use crate::holds::Holds;
-use crate::leases::seen_in;
-use crate::loading::lease_own;
 use crate::local::Local;
-use crate::owners::{clone, own_leased, part_with, release, take_in};
-use crate::placing::place_item;
 use crate::pointer::{Loaded, Ptr};
 use calm::Calm;
+use domain_table::board::{Acting, Stored};
+use domain_table::leases::seen_in;
+use domain_table::loading::lease_own;
+use domain_table::owners::{clone, own_leased, part_with, release, take_in};
+use domain_table::placing::place_item;
 use parted::One;
 
 /// One of the owners of an item, which stays, as it is, while it has owners. It must be spent by `release`. Whoever

@@ -4,26 +4,27 @@ ghost use Rattle.std.specs.Prelude.{◌≡◌, ℕ, ◌+◌, ◌*◌, ◌^◌, �
 ghost use Rattle.atomic_table.specs.Table.{Me};
 ghost use Rattle.sdd_steps.specs.Steps.{is_ready};
 ghost use Rattle.sdd_homes.specs.declared.Owner.{Owner};
-ghost use Rattle.sdd_domain.specs.Outcomes.{BringsOne, TakesBack, HasSwapped};
+ghost use Rattle.domain_table.specs.Outcomes.{BringsOne, TakesBack, HasSwapped};
 ghost use Rattle.sdd_domain.specs.Comparing.{owner_code, IsInFront};
-ghost use Rattle.sdd_domain.specs.Contents.{IsIn};
+ghost use Rattle.domain_table.specs.Contents.{IsIn};
 ghost use Rattle.sdd_base.specs.Epochs.{tag_number};
-ghost use Rattle.sdd_domain.specs.Fitting.{FitsSizes};
-ghost use Rattle.sdd_domain.specs.Layout.{packed};
-ghost use Rattle.sdd_domain.specs.Plays.{own_spare, GetsBack};
+ghost use Rattle.domain_table.specs.Fitting.{FitsSizes};
+ghost use Rattle.domain_table.specs.Layout.{packed};
+ghost use Rattle.domain_table.specs.Plays.{own_spare, GetsBack};
 ghost use Rattle.sdd_domain.specs.Sharing.{kept_in};
-ghost use Rattle.sdd_domain.specs.declared.board.Acting.{Acting};
-ghost use Rattle.sdd_domain.specs.declared.board.Home.{Home};
-ghost use Rattle.sdd_domain.specs.declared.board.Home.TheVariants.{Blank};
+ghost use Rattle.domain_table.specs.declared.board.Acting.{Acting};
+ghost use Rattle.domain_table.specs.declared.board.Home.{Home};
+ghost use Rattle.domain_table.specs.declared.board.Home.TheVariants.{Blank};
 ghost use Rattle.sdd_domain.specs.declared.shared.Shared.{Shared};
 
-use crate::board::{Home, Place, Words};
-use crate::cells::swap;
+use crate::board::{Told, Words};
 use crate::holds::Holds;
-use crate::homes::{let_go, parts_of};
-use crate::owners::{part_with, take_in};
 use crate::shared::Shared;
-use crate::tags::{tag_in, word_with};
+use domain_table::board::{Home, Place};
+use domain_table::cells::swap;
+use domain_table::homes::{let_go, parts_of};
+use domain_table::owners::{part_with, take_in};
+use domain_table::tags::{tag_in, word_with};
 use parted::One;
 use sdd_base::sizes::Sizes;
 use sdd_base::tag::Tag;
@@ -90,7 +91,7 @@ pub(crate) fn take_back<T: Holds>(
         return (spare, (None, tag));
     }
     let at = spare_at(sizes, spare);
-    let (part, _) = parts_of(words.exchange(place, at, Home::Blank));
+    let (part, _) = parts_of::<T, Told>(words.exchange(place, at, Home::Blank));
     let seat = part_with(words, place);
     let owner = Shared {
         slot: code as usize - 1,

@@ -1,10 +1,10 @@
 use Rattle.std.proofs.Common.{◌≡◌, ℕ, ◌∷◌, ◌++◌, map, refl, sym, ap, ◌∙◌, arith}
 use Rattle.atomic_table.specs.Table.{Me}
 use Rattle.sdd_domain.specs.Comparing.{owner_code}
-use Rattle.sdd_domain.specs.Leases.{lease_told}
-use Rattle.sdd_domain.specs.Plays.{own_spare}
-use Rattle.sdd_domain.specs.declared.board.Acting.{Acting}
-use Rattle.sdd_domain.specs.declared.board.Home.TheVariants.{Blank}
+use Rattle.domain_table.specs.Leases.{lease_told}
+use Rattle.domain_table.specs.Plays.{own_spare}
+use Rattle.domain_table.specs.declared.board.Acting.{Acting}
+use Rattle.domain_table.specs.declared.board.Home.TheVariants.{Blank}
 use Rattle.sdd_domain.proofs.Missed.{swapped, gets, start, more, is_back, fronts_still}
 use Rattle.sdd_domain.proofs.comparing.exchange_owner.Goals as goal
 

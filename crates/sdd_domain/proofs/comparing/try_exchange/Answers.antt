@@ -4,19 +4,19 @@ use Rattle.atomic_table.specs.Seated.{TableId}
 use Rattle.atomic_table.specs.Table.{Me}
 use Rattle.sdd_base.specs.declared.sizes.Sizes.{Sizes}
 use Rattle.sdd_homes.specs.declared.Lease.{Lease}
-use Rattle.sdd_domain.specs.Bags.{ages, Waits}
-use Rattle.sdd_domain.specs.Contents.{blanks}
-use Rattle.sdd_domain.specs.Holding.{told}
-use Rattle.sdd_domain.specs.Layout.{claim_word}
-use Rattle.sdd_domain.specs.Leases.{life_number, leased_homes, row_slots, all_below}
-use Rattle.sdd_domain.specs.Plays.{own_spare, own_bag}
-use Rattle.sdd_domain.specs.declared.board.Acting.{Acting}
-use Rattle.sdd_domain.specs.declared.board.Home.{Home}
-use Rattle.sdd_domain.specs.declared.board.Home.TheVariants.{Blank}
+use Rattle.domain_table.specs.Bags.{ages, Waits}
+use Rattle.domain_table.specs.Contents.{blanks}
+use Rattle.domain_table.specs.Owners.{told}
+use Rattle.domain_table.specs.Layout.{claim_word}
+use Rattle.domain_table.specs.Leases.{life_number, leased_homes, row_slots, all_below}
+use Rattle.domain_table.specs.Plays.{own_spare, own_bag}
+use Rattle.domain_table.specs.declared.board.Acting.{Acting}
+use Rattle.domain_table.specs.declared.board.Home.{Home}
+use Rattle.domain_table.specs.declared.board.Home.TheVariants.{Blank}
 use Rattle.sdd_domain.specs.declared.local.Local.{Local}
 use Rattle.sdd_domain.proofs.Bagged.{are_out}
-use Rattle.sdd_domain.proofs.Noted.{homes_both, blanks_both}
-use Rattle.sdd_domain.proofs.Told.{all_there}
+use Rattle.domain_table.proofs.Noted.{homes_both, blanks_both}
+use Rattle.domain_table.proofs.Told.{all_there}
 use Rattle.sdd_domain.proofs.comparing.try_exchange.Goals as goal
 
 -- the bag and the leased homes are behind the spare slot

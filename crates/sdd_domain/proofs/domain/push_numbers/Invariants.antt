@@ -1,5 +1,5 @@
 use Rattle.std.proofs.Common.{◌≡◌, ◌++◌}
-use Rattle.sdd_domain.specs.Rule.{numbers}
+use Rattle.domain_table.specs.Rule.{numbers}
 use Rattle.sdd_domain.proofs.domain.push_numbers.Given as goal
 
 abbrev pub invariant-loop-number : goal.invariant-loop-number

@@ -1,5 +1,5 @@
 use Rattle.std.proofs.Common.{◌≡◌, ◌++◌}
-use Rattle.sdd_domain.specs.Rule.{first_eights}
+use Rattle.domain_table.specs.Rule.{first_eights}
 use Rattle.sdd_domain.proofs.domain.push_participants.Given as goal
 
 abbrev pub invariant-loop-number : goal.invariant-loop-number

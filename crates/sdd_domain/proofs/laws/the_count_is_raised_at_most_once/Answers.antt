@@ -1,4 +1,4 @@
-use Rattle.sdd_domain.proofs.Moves.{once}
+use Rattle.domain_table.proofs.Moves.{once}
 use Rattle.sdd_domain.proofs.laws.the_count_is_raised_at_most_once.Goals as goal
 
 pub returns : goal.returns

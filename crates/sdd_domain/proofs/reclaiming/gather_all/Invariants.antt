@@ -1,6 +1,6 @@
 use Rattle.std.proofs.Common.{◌≡◌, ◌-◌, ◌<◌, ◌≤◌, ◌^◌, Some}
 use Rattle.sdd_homes.specs.declared.Filling.{Filling}
-use Rattle.sdd_domain.specs.Plays.{filling_at}
+use Rattle.domain_table.specs.Plays.{filling_at}
 use Rattle.sdd_domain.proofs.reclaiming.gather_all.Given as goal
 
 abbrev pub invariant-loop-gone : goal.invariant-loop-gone

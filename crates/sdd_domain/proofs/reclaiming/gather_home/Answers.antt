@@ -3,12 +3,12 @@ use Rattle.atomic_table.specs.Table.{Me, rest}
 use Rattle.sdd_base.specs.declared.sizes.Sizes.{Sizes}
 use Rattle.sdd_homes.specs.declared.Filling.{Filling}
 use Rattle.sdd_homes.specs.Book.{home, part}
-use Rattle.sdd_domain.specs.Contents.{IsIn}
-use Rattle.sdd_domain.specs.Plays.{filling_at, gathered, emptying, CanEmpty}
-use Rattle.sdd_domain.specs.declared.board.Acting.{Acting}
-use Rattle.sdd_domain.specs.declared.board.Home.{Home}
-use Rattle.sdd_domain.specs.declared.board.Home.TheVariants.{Blank}
-use Rattle.sdd_domain.proofs.Fronts.{came_out, put_in}
+use Rattle.domain_table.specs.Contents.{IsIn}
+use Rattle.domain_table.specs.Plays.{filling_at, gathered, emptying, CanEmpty}
+use Rattle.domain_table.specs.declared.board.Acting.{Acting}
+use Rattle.domain_table.specs.declared.board.Home.{Home}
+use Rattle.domain_table.specs.declared.board.Home.TheVariants.{Blank}
+use Rattle.domain_table.proofs.Fronts.{came_out, put_in}
 use Rattle.sdd_domain.proofs.reclaiming.gather_home.Goals as goal
 
 -- the last home that has parts came out, a of them, and is empty now

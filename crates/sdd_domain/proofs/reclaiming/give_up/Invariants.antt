@@ -2,8 +2,8 @@ use Rattle.std.proofs.Common.{◌≡◌, ◌++◌, List, map, length}
 use Rattle.std.specs.VecDeque.{deque_capacity}
 use Rattle.sdd_homes.specs.declared.Garbage.{Garbage}
 use Rattle.sdd_homes.specs.declared.Owner.{Owner}
-use Rattle.sdd_domain.specs.Bags.{ages, Waits}
-use Rattle.sdd_domain.specs.Holding.{told}
+use Rattle.domain_table.specs.Bags.{ages, Waits}
+use Rattle.domain_table.specs.Owners.{told}
 use Rattle.sdd_domain.proofs.reclaiming.give_up.Given as goal
 
 abbrev pub invariant-loop-held : goal.invariant-loop-held

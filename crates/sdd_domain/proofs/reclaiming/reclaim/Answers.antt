@@ -7,14 +7,14 @@ use Rattle.sdd_homes.specs.declared.Filling.{Filling}
 use Rattle.sdd_homes.specs.declared.Garbage.{Garbage}
 use Rattle.sdd_homes.specs.declared.Owner.{Owner}
 use Rattle.sdd_homes.specs.Book.{deed}
-use Rattle.sdd_domain.specs.Contents.{IsIn}
-use Rattle.sdd_domain.specs.Holding.{told}
-use Rattle.sdd_domain.specs.Plays.{deed_home, reclaiming, filling_at, CanVacate}
-use Rattle.sdd_domain.specs.declared.board.Acting.{Acting}
-use Rattle.sdd_domain.specs.declared.board.Home.{Home}
-use Rattle.sdd_domain.specs.declared.board.Home.TheVariants.{Blank, Room}
-use Rattle.sdd_domain.proofs.Reclaims.{snoc_same}
-use Rattle.sdd_domain.proofs.Fronts.{came_out, put_in}
+use Rattle.domain_table.specs.Contents.{IsIn}
+use Rattle.domain_table.specs.Owners.{told}
+use Rattle.domain_table.specs.Plays.{deed_home, reclaiming, filling_at, CanVacate}
+use Rattle.domain_table.specs.declared.board.Acting.{Acting}
+use Rattle.domain_table.specs.declared.board.Home.{Home}
+use Rattle.domain_table.specs.declared.board.Home.TheVariants.{Blank, Room}
+use Rattle.domain_table.proofs.Reclaims.{snoc_same}
+use Rattle.domain_table.proofs.Fronts.{came_out, put_in}
 use Rattle.sdd_domain.proofs.reclaiming.reclaim.Goals as goal
 
 -- the deed of the item that waits the longest came out

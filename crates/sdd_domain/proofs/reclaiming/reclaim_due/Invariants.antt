@@ -1,7 +1,7 @@
 use Rattle.std.proofs.Common.{◌≡◌, ℕ, List}
 use Rattle.std.specs.VecDeque.{deque_capacity}
 use Rattle.sdd_homes.specs.declared.Garbage.{Garbage}
-use Rattle.sdd_domain.specs.Bags.{ages, Waits}
+use Rattle.domain_table.specs.Bags.{ages, Waits}
 use Rattle.sdd_domain.proofs.reclaiming.reclaim_due.Given as goal
 
 abbrev pub invariant-loop-slot : goal.invariant-loop-slot

@@ -1,7 +1,7 @@
 use Rattle.std.proofs.Common.{sym, subst}
 use Rattle.atomic_table.specs.Table.{Me}
-use Rattle.sdd_domain.specs.Bags.{ages, Waits}
-use Rattle.sdd_domain.specs.declared.board.Acting.{Acting}
+use Rattle.domain_table.specs.Bags.{ages, Waits}
+use Rattle.domain_table.specs.declared.board.Acting.{Acting}
 use Rattle.sdd_domain.proofs.reclaiming.release_held.Goals as goal
 
 pub returns-then-release_home-eq0-clause-waits : goal.returns-then-release_home-eq0-clause-waits

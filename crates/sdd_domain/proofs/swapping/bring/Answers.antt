@@ -2,13 +2,13 @@ use Rattle.std.proofs.Common.{◌≡◌, ℕ, suc, ◌+◌, ◌∷◌, Some, IsS
 use Rattle.atomic_table.specs.Table.{Me}
 use Rattle.sdd_homes.specs.declared.Owner.{Owner}
 use Rattle.sdd_base.specs.Epochs.{tag_number}
-use Rattle.sdd_domain.specs.Layout.{packed}
-use Rattle.sdd_domain.specs.Owners.{item_in}
-use Rattle.sdd_domain.specs.Plays.{own_spare}
-use Rattle.sdd_domain.specs.declared.board.Acting.{Acting}
-use Rattle.sdd_domain.specs.declared.board.Home.{Home}
-use Rattle.sdd_domain.specs.declared.board.Home.TheVariants.{Blank, Part}
-use Rattle.sdd_domain.proofs.Fronts.{put_in}
+use Rattle.domain_table.specs.Layout.{packed}
+use Rattle.domain_table.specs.Owners.{item_in}
+use Rattle.domain_table.specs.Plays.{own_spare}
+use Rattle.domain_table.specs.declared.board.Acting.{Acting}
+use Rattle.domain_table.specs.declared.board.Home.{Home}
+use Rattle.domain_table.specs.declared.board.Home.TheVariants.{Blank, Part}
+use Rattle.domain_table.proofs.Fronts.{put_in}
 use Rattle.sdd_domain.proofs.swapping.bring.Goals as goal
 
 -- the owner is in hand, and its part in the spare slot

@@ -1,9 +1,9 @@
 use Rattle.std.proofs.Common.{ℕ, ◌∷◌, ap, ◌∙◌}
 use Rattle.atomic_table.specs.Table.{Me}
 use Rattle.sdd_steps.specs.Steps.{is_ready}
-use Rattle.sdd_domain.specs.Plays.{own_spare}
-use Rattle.sdd_domain.specs.declared.board.Acting.{Acting}
-use Rattle.sdd_domain.specs.declared.board.Home.{Home}
+use Rattle.domain_table.specs.Plays.{own_spare}
+use Rattle.domain_table.specs.declared.board.Acting.{Acting}
+use Rattle.domain_table.specs.declared.board.Home.{Home}
 use Rattle.sdd_domain.proofs.swapping.swap_owner.Goals as goal
 
 pub swap-found-requires-clause-ready : goal.swap-found-requires-clause-ready
@@ -25,4 +25,4 @@ take_back-requires-clause-back g c = let b = c.bring-word.ensures.brings c.requi
 
 pub returns-clause-swapped : goal.returns-clause-swapped
 returns-clause-swapped g c = λ tail is. let b = c.bring-word.ensures.brings tail is in let back = c.swap-found.ensures.swapped b.0 c.args.place.now.me.0.hand tail b.1 in let y : ℕ = c.take_back.result.0 in
-    c.take_back.ensures.back c.bring-word.new.place.me c.args.place.now.me.0.hand tail back ∙ λ j. (record (b.2 j) { spare = y; hand = c.args.place.now.me.0.hand }, (own_spare (b.2 j) y, Rattle.sdd_domain.specs.declared.board.Home.TheVariants.Blank) ∷ tail)
+    c.take_back.ensures.back c.bring-word.new.place.me c.args.place.now.me.0.hand tail back ∙ λ j. (record (b.2 j) { spare = y; hand = c.args.place.now.me.0.hand }, (own_spare (b.2 j) y, Rattle.domain_table.specs.declared.board.Home.TheVariants.Blank) ∷ tail)

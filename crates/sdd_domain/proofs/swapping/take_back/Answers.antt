@@ -3,15 +3,15 @@ use Rattle.atomic_table.specs.Table.{Me}
 use Rattle.sdd_homes.specs.declared.Owner.{Owner}
 use Rattle.sdd_homes.specs.Book.{part}
 use Rattle.sdd_base.specs.Epochs.{tag_number}
-use Rattle.sdd_domain.specs.Contents.{IsIn}
-use Rattle.sdd_domain.specs.Layout.{packed, Tells}
-use Rattle.sdd_domain.specs.Owners.{besides, slot_code, part_of, item_in}
-use Rattle.sdd_domain.specs.Plays.{own_spare, GetsBack}
-use Rattle.sdd_domain.specs.Views.{spent, holding}
-use Rattle.sdd_domain.specs.declared.board.Acting.{Acting}
-use Rattle.sdd_domain.specs.declared.board.Home.{Home}
-use Rattle.sdd_domain.specs.declared.board.Home.TheVariants.{Part}
-use Rattle.sdd_domain.proofs.Fronts.{came_out}
+use Rattle.domain_table.specs.Contents.{IsIn}
+use Rattle.domain_table.specs.Layout.{packed, Tells}
+use Rattle.domain_table.specs.Owners.{besides, slot_code, part_of, item_in}
+use Rattle.domain_table.specs.Plays.{own_spare, GetsBack}
+use Rattle.domain_table.specs.Views.{spent, holding}
+use Rattle.domain_table.specs.declared.board.Acting.{Acting}
+use Rattle.domain_table.specs.declared.board.Home.{Home}
+use Rattle.domain_table.specs.declared.board.Home.TheVariants.{Part}
+use Rattle.domain_table.proofs.Fronts.{came_out}
 use Rattle.sdd_domain.proofs.swapping.take_back.Goals as goal
 
 -- the word names an owner, whose part is in the spare slot

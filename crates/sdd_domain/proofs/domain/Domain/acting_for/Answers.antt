@@ -1,10 +1,10 @@
 use Rattle.std.proofs.Common.{ℕ, List, sym, subst}
 use Rattle.atomic_table.specs.Table.{Me}
-use Rattle.sdd_domain.specs.Contents.{IsIn}
-use Rattle.sdd_domain.specs.Views.{spent}
-use Rattle.sdd_domain.specs.declared.board.Acting.{Acting}
-use Rattle.sdd_domain.specs.declared.board.Home.{Home}
-use Rattle.sdd_domain.specs.Plays.{HasRegistered}
+use Rattle.domain_table.specs.Contents.{IsIn}
+use Rattle.domain_table.specs.Views.{spent}
+use Rattle.domain_table.specs.declared.board.Acting.{Acting}
+use Rattle.domain_table.specs.declared.board.Home.{Home}
+use Rattle.domain_table.specs.Plays.{HasRegistered}
 use Rattle.sdd_domain.proofs.domain.Domain.acting_for.Goals as goal
 
 pub registered-requires-clause-acts : goal.registered-requires-clause-acts

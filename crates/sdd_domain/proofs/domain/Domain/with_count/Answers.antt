@@ -1,12 +1,12 @@
 use Rattle.std.proofs.Common.{◌≡◌, ℕ, ◌+◌, ◌++◌, ap, sym, ◌∙◌, subst, List, length, length-append, replicate, arith}
 use Rattle.sdd_steps.specs.State.{At}
 use Rattle.sdd_steps.proofs.ListLemmas.{at_replicate}
-use Rattle.sdd_domain.specs.Layout.{all_homes, all_spares, bag_place}
-use Rattle.sdd_domain.specs.declared.board.Home.{Home}
-use Rattle.sdd_domain.specs.declared.board.Home.TheVariants.{Blank}
-use Rattle.sdd_domain.specs.declared.board.Plan.{Plan}
-use Rattle.sdd_domain.proofs.Firsts.{many_of, at_low, at_high, long_first}
-use Rattle.sdd_domain.proofs.Seats.{begins}
+use Rattle.domain_table.specs.Layout.{all_homes, all_spares, bag_place}
+use Rattle.domain_table.specs.declared.board.Home.{Home}
+use Rattle.domain_table.specs.declared.board.Home.TheVariants.{Blank}
+use Rattle.domain_table.specs.declared.board.Plan.{Plan}
+use Rattle.domain_table.proofs.Firsts.{many_of, at_low, at_high, long_first}
+use Rattle.domain_table.proofs.Seats.{begins}
 use Rattle.sdd_domain.proofs.domain.Domain.with_count.Goals as goal
 
 pub new-requires : goal.new-requires

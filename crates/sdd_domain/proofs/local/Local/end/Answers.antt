@@ -3,11 +3,11 @@ use lib.ListN.{length-map}
 use Rattle.atomic_table.specs.Table.{Me}
 use Rattle.sdd_steps.specs.declared.participant.Phase.TheVariants.{Idle, Opened}
 use Rattle.sdd_homes.specs.declared.Garbage.{Garbage}
-use Rattle.sdd_domain.specs.Contents.{garbage_slots}
-use Rattle.sdd_domain.specs.Plays.{own_spare, own_bag}
-use Rattle.sdd_domain.specs.declared.board.Acting.{Acting}
-use Rattle.sdd_domain.specs.declared.board.Home.TheVariants.{Blank, Left}
-use Rattle.sdd_domain.specs.Leases.{life_number}
+use Rattle.domain_table.specs.Contents.{garbage_slots}
+use Rattle.domain_table.specs.Plays.{own_spare, own_bag}
+use Rattle.domain_table.specs.declared.board.Acting.{Acting}
+use Rattle.domain_table.specs.declared.board.Home.TheVariants.{Blank, Left}
+use Rattle.domain_table.specs.Leases.{life_number}
 use Rattle.sdd_domain.specs.declared.local.Local.{Local}
 use Rattle.sdd_domain.proofs.Bagged.{both_out}
 use Rattle.sdd_domain.proofs.Hands.{none_held}

@@ -4,20 +4,20 @@ use Rattle.atomic_table.specs.Seated.{TableId}
 use Rattle.atomic_table.specs.Table.{Me}
 use Rattle.sdd_base.specs.declared.sizes.Sizes.{Sizes}
 use Rattle.sdd_base.specs.declared.status.LocalState.{LocalState}
-use Rattle.sdd_domain.specs.Bags.{ages, Waits}
-use Rattle.sdd_domain.specs.Contents.{IsIn, blanks}
-use Rattle.sdd_domain.specs.Holding.{told}
-use Rattle.sdd_domain.specs.Layout.{claim_word}
-use Rattle.sdd_domain.specs.Leases.{life_number, row_told, lease_told, leased_homes, row_slots, all_below}
-use Rattle.sdd_domain.specs.declared.row.Row.{Row}
-use Rattle.sdd_domain.specs.Plays.{own_spare, own_bag, ending, Refilled, Steady}
-use Rattle.sdd_domain.specs.declared.board.Acting.{Acting}
-use Rattle.sdd_domain.specs.declared.board.Home.{Home}
+use Rattle.domain_table.specs.Bags.{ages, Waits}
+use Rattle.domain_table.specs.Contents.{IsIn, blanks}
+use Rattle.domain_table.specs.Owners.{told}
+use Rattle.domain_table.specs.Layout.{claim_word}
+use Rattle.domain_table.specs.Leases.{life_number, row_told, lease_told, leased_homes, row_slots, all_below}
+use Rattle.domain_table.specs.declared.row.Row.{Row}
+use Rattle.domain_table.specs.Plays.{own_spare, own_bag, ending, Refilled, Steady}
+use Rattle.domain_table.specs.declared.board.Acting.{Acting}
+use Rattle.domain_table.specs.declared.board.Home.{Home}
 use Rattle.sdd_domain.specs.declared.local.Local.{Local}
 use Rattle.sdd_domain.proofs.Bagged.{are_out}
-use Rattle.sdd_domain.proofs.Closes.{given}
+use Rattle.domain_table.proofs.Closes.{given}
 use Rattle.sdd_domain.proofs.Nested.{still_leased}
-use Rattle.sdd_domain.proofs.Told.{all_there}
+use Rattle.domain_table.proofs.Told.{all_there}
 use Rattle.sdd_domain.proofs.local.Local.finish.Goals as goal
 
 -- behind a scan, the parts go home, and then the guard closes

@@ -2,14 +2,14 @@ use Rattle.std.proofs.Common.{◌≡◌, ◌<◌, ◌≤◌, true, ℕ, List, �
 use Rattle.std.specs.VecDeque.{deque_capacity}
 use Rattle.atomic_table.specs.Seated.{TableId}
 use Rattle.sdd_base.specs.declared.sizes.Sizes.{Sizes}
-use Rattle.sdd_domain.specs.Bags.{ages, Waits}
-use Rattle.sdd_domain.specs.Contents.{is_blank}
-use Rattle.sdd_domain.specs.Layout.{claim_word}
-use Rattle.sdd_domain.specs.Leases.{row_told, lease_told, life_number, leased_homes, has_all, row_slots, all_below}
-use Rattle.sdd_domain.specs.Plays.{own_spare, own_bag}
+use Rattle.domain_table.specs.Bags.{ages, Waits}
+use Rattle.domain_table.specs.Contents.{is_blank}
+use Rattle.domain_table.specs.Layout.{claim_word}
+use Rattle.domain_table.specs.Leases.{row_told, lease_told, life_number, leased_homes, has_all, row_slots, all_below}
+use Rattle.domain_table.specs.Plays.{own_spare, own_bag}
 use Rattle.sdd_homes.specs.declared.Lease.{Lease}
 use Rattle.sdd_domain.specs.Tokens.{number_of, nest_in}
-use Rattle.sdd_domain.specs.declared.board.Acting.{Acting}
+use Rattle.domain_table.specs.declared.board.Acting.{Acting}
 use Rattle.sdd_domain.proofs.local.Local.lease.Goals as goal
 
 pub invariant_of-self : goal.invariant_of-self

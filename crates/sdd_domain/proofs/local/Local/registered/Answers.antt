@@ -4,16 +4,16 @@ use Rattle.atomic_table.specs.Seated.{TableId}
 use Rattle.atomic_table.specs.Table.{Me}
 use Rattle.sdd_base.specs.declared.sizes.Sizes.{Sizes}
 use Rattle.sdd_homes.specs.declared.Garbage.{Garbage}
-use Rattle.sdd_domain.specs.Contents.{IsIn, garbage_slots}
-use Rattle.sdd_domain.specs.Layout.{claim_word}
+use Rattle.domain_table.specs.Contents.{IsIn, garbage_slots}
+use Rattle.domain_table.specs.Layout.{claim_word}
 use Rattle.std.specs.VecDeque.{deque_capacity}
-use Rattle.sdd_domain.specs.Leases.{row_told, lease_told, leased_homes, row_slots, all_below}
-use Rattle.sdd_domain.specs.declared.row.Row.{Row}
-use Rattle.sdd_domain.specs.Plays.{own_spare, own_bag, HasRegistered}
-use Rattle.sdd_domain.specs.Views.{spent, registered}
-use Rattle.sdd_domain.specs.declared.board.Acting.{Acting}
-use Rattle.sdd_domain.specs.declared.board.Home.{Home}
-use Rattle.sdd_domain.specs.declared.board.Home.TheVariants.{Blank}
+use Rattle.domain_table.specs.Leases.{row_told, lease_told, leased_homes, row_slots, all_below}
+use Rattle.domain_table.specs.declared.row.Row.{Row}
+use Rattle.domain_table.specs.Plays.{own_spare, own_bag, HasRegistered}
+use Rattle.domain_table.specs.Views.{spent, registered}
+use Rattle.domain_table.specs.declared.board.Acting.{Acting}
+use Rattle.domain_table.specs.declared.board.Home.{Home}
+use Rattle.domain_table.specs.declared.board.Home.TheVariants.{Blank}
 use Rattle.sdd_domain.proofs.Bagged.{are_out}
 use Rattle.sdd_domain.proofs.local.Local.registered.Goals as goal
 

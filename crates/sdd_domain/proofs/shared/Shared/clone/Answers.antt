@@ -3,14 +3,14 @@ use Rattle.std.specs.VecDeque.{deque_capacity}
 use Rattle.atomic_table.specs.Seated.{TableId}
 use Rattle.atomic_table.specs.Table.{Me}
 use Rattle.sdd_homes.specs.declared.Lease.{Lease}
-use Rattle.sdd_domain.specs.Bags.{ages, Waits}
-use Rattle.sdd_domain.specs.Contents.{is_blank}
-use Rattle.sdd_domain.specs.Layout.{claim_word}
-use Rattle.sdd_domain.specs.Leases.{lease_told, life_number, leased_homes, has_all, row_slots, all_below}
-use Rattle.sdd_domain.specs.Plays.{own_spare, own_bag, others_in}
-use Rattle.sdd_domain.specs.declared.board.Acting.{Acting}
+use Rattle.domain_table.specs.Bags.{ages, Waits}
+use Rattle.domain_table.specs.Contents.{is_blank}
+use Rattle.domain_table.specs.Layout.{claim_word}
+use Rattle.domain_table.specs.Leases.{lease_told, life_number, leased_homes, has_all, row_slots, all_below}
+use Rattle.domain_table.specs.Plays.{own_spare, own_bag, others_in}
+use Rattle.domain_table.specs.declared.board.Acting.{Acting}
 use Rattle.sdd_domain.proofs.Handed.{owner, mine, first, told, same_slots}
-use Rattle.sdd_domain.proofs.Rows.{same_homes, none_same}
+use Rattle.domain_table.proofs.Rows.{same_homes, none_same}
 use Rattle.sdd_domain.proofs.shared.Shared.clone.Goals as goal
 
 -- the owner is in hand twice, and then once

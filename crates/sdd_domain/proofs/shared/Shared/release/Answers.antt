@@ -5,18 +5,18 @@ use Rattle.atomic_table.specs.Table.{Me}
 use Rattle.sdd_homes.specs.declared.Garbage.{Garbage}
 use Rattle.sdd_homes.specs.declared.Lease.{Lease}
 use Rattle.sdd_homes.specs.declared.Owner.{Owner}
-use Rattle.sdd_domain.specs.Bags.{ages, Waits}
-use Rattle.sdd_domain.specs.Contents.{is_blank}
-use Rattle.sdd_domain.specs.Layout.{claim_word}
-use Rattle.sdd_domain.specs.Leases.{life_number, leased_homes, has_all, row_slots, all_below, HasReleased}
-use Rattle.sdd_domain.specs.Plays.{own_spare, own_bag}
-use Rattle.sdd_domain.specs.Views.{holding}
-use Rattle.sdd_domain.specs.declared.board.Acting.{Acting}
-use Rattle.sdd_domain.specs.declared.board.Home.{Home}
+use Rattle.domain_table.specs.Bags.{ages, Waits}
+use Rattle.domain_table.specs.Contents.{is_blank}
+use Rattle.domain_table.specs.Layout.{claim_word}
+use Rattle.domain_table.specs.Leases.{life_number, leased_homes, has_all, row_slots, all_below, HasReleased}
+use Rattle.domain_table.specs.Plays.{own_spare, own_bag}
+use Rattle.domain_table.specs.Views.{holding}
+use Rattle.domain_table.specs.declared.board.Acting.{Acting}
+use Rattle.domain_table.specs.declared.board.Home.{Home}
 use Rattle.sdd_domain.specs.declared.local.Local.{Local}
 use Rattle.sdd_domain.specs.declared.shared.Shared.{Shared}
 use Rattle.sdd_domain.proofs.Handed.{owner, mine, first, told, same_slots}
-use Rattle.sdd_domain.proofs.Rows.{same_homes, none_same}
+use Rattle.domain_table.proofs.Rows.{same_homes, none_same}
 use Rattle.sdd_domain.proofs.shared.Shared.release.Goals as goal
 
 module _ {T : Type 0} (l : Local T) (s : Shared T) (m1 : Me (Home T) Acting) (taken : (o : Owner) → s.seat.badge.views ≡ holding o ∷ [] → m1 ≡ (record l.place.me.0 { hand = o ∷ l.place.me.0.hand }, l.place.me.1)) where

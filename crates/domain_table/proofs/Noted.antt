@@ -1,0 +1,37 @@
+-- what is leased besides, behind a load
+use Rattle.std.proofs.Common.{◌≡◌, true, ℕ, List, [], ◌∷◌, ◌++◌, append-nil, refl, sym, ap, ◌∙◌, subst}
+use Rattle.atomic_table.specs.Table.{Me}
+use Rattle.sdd_steps.specs.declared.participant.Loaded.{Loaded}
+use Rattle.sdd_homes.specs.declared.Lease.{Lease}
+use Rattle.domain_table.specs.Contents.{is_blank, blanks}
+use Rattle.domain_table.specs.Leases.{leased_homes, has_all, HasLeased, HasNoted}
+use Rattle.domain_table.specs.Plays.{own_home, loading}
+use Rattle.domain_table.specs.declared.board.Acting.{Acting}
+use Rattle.domain_table.specs.declared.board.Home.{Home}
+use Rattle.domain_table.specs.declared.board.Home.TheVariants.{Blank}
+use Rattle.domain_table.proofs.Told.{all_there, are_there}
+
+pub homes_both : (d : Acting) (ls ks : List Lease) → leased_homes d (ls ++ ks) ≡ leased_homes d ls ++ leased_homes d ks
+homes_both d [] ks = refl
+homes_both d (l ∷ ls) ks = ap (λ hs. own_home d l.slot ∷ hs) (homes_both d ls ks)
+
+module _ {T : Type 0} where
+  -- nothing was loaded, or something that is leased already
+  pub none_noted : (m m' : Me (Home T) Acting) → m' ≡ m → HasNoted m m'
+  none_noted m m' e = (m.0.known.loaded, [], e ∙ λ j. (record m.0 { leases = sym (append-nil m.0.leases) j }, sym (append-nil m.1) j))
+
+  pub again_noted : (m m' : Me (Home T) Acting) (h : Loaded) → m' ≡ (loading h m.0.leases m.0, m.1) → HasNoted m m'
+  again_noted m m' h e = (m.0.known.loaded ++ h ∷ [], [], e ∙ λ j. (loading h (sym (append-nil m.0.leases) j) m.0, sym (append-nil m.1) j))
+
+  pub blanks_both : (ks ls : List ℕ) → blanks {T = T} (ks ++ ls) ≡ blanks ks ++ blanks ls
+  blanks_both [] ls = refl
+  blanks_both (k ∷ ks) ls = ap (λ xs. (k, Blank) ∷ xs) (blanks_both ks ls)
+
+  module _ (m m' : Me (Home T) Acting) (n : HasNoted m m') where
+    pub is_leased : HasLeased m m'
+    is_leased = (n.0, m.0.leases ++ n.1, ap (λ (z : Me (Home T) Acting). z.0) n.2)
+
+    pub out_now : (k l : ℕ) → has_all is_blank (k ∷ l ∷ leased_homes m.0 m.0.leases) m.1 ≡ true → has_all is_blank (k ∷ l ∷ leased_homes m'.0 m'.0.leases) m'.1 ≡ true
+    out_now k l out = let ks : List ℕ = k ∷ l ∷ leased_homes m.0 m.0.leases in let more : List ℕ = leased_homes m.0 n.1 in
+        let lie : m.1 ++ blanks more ≡ blanks (ks ++ more) = ap (λ xs. xs ++ blanks more) (all_there ks m.1 out) ∙ sym (blanks_both ks more) in
+        subst (λ (z : Me (Home T) Acting). has_all is_blank (k ∷ l ∷ leased_homes z.0 z.0.leases) z.1 ≡ true) (sym n.2) ((λ j. has_all is_blank (k ∷ l ∷ homes_both m.0 m.0.leases n.1 j) (lie j)) ∙ are_there T (ks ++ more))

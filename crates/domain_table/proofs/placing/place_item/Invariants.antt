@@ -1,0 +1,8 @@
+use Rattle.std.proofs.Common.{◌≡◌}
+use Rattle.domain_table.proofs.placing.place_item.Given as goal
+
+abbrev pub invariant-loop-step : goal.invariant-loop-step
+invariant-loop-step g l = record {
+  seat : (l.place.table_id ≡ l.initial.place.table_id) × (l.place.id ≡ l.initial.place.id);
+  same : l.place.me ≡ l.initial.place.me;
+}

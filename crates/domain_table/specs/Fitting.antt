@@ -1,0 +1,56 @@
+-- how a seat and the words of a table fit what a call is handed
+use Rattle.std.specs.Prelude.{◌≡◌, ℕ, ◌^◌, ◌<◌, ◌≤◌}
+use Rattle.atomic_table.specs.Seated.{TableId}
+use Rattle.sdd_base.specs.declared.sizes.Sizes.{Sizes}
+use Rattle.domain_table.specs.Layout.{all_words, epoch_words, IsSized}
+use Rattle.domain_table.specs.declared.board.Acting.{Acting}
+
+module _ (table : TableId) (sizes : Sizes) (seat : TableId) where
+  -- the seat is at the table, which has the words of so many participants, and of this cell
+  abbrev pub FitsCell : ℕ → ℕ → Type 0
+  FitsCell participants cell = (seat ≡ table) × (sizes.participants ≡ participants) × (participants ≤ 2 ^ 30) × (cell < sizes.cells) × (sizes.cells ≤ 2 ^ 30) × (all_words sizes ≤ table.words)
+
+  -- and of so many cells, and of this slot, and the seat knows so
+  abbrev pub FitsSlot : Sizes → ℕ → ℕ → ℕ → Type 0
+  FitsSlot known participants cells slot = (seat ≡ table) × (sizes.participants ≡ participants) × (sizes.cells ≡ cells) × (participants ≤ 2 ^ 30) × (cells ≤ 2 ^ 30) × (slot < sizes.slots) × (sizes.slots ≤ 2 ^ 30) × (all_words sizes ≤ table.words) × (known ≡ sizes)
+
+  -- the table has the words of a place of these sizes, and the seat knows them
+  abbrev pub FitsSizes : Sizes → Sizes → Type 0
+  FitsSizes known told = (seat ≡ table) × (sizes ≡ told) × (known ≡ told) × IsSized told × (all_words told ≤ table.words)
+
+  -- and this slot is one of the place
+  abbrev pub FitsFree : Sizes → Sizes → ℕ → Type 0
+  FitsFree known told slot = (seat ≡ table) × (sizes ≡ told) × (known ≡ told) × IsSized told × (slot < told.slots) × (all_words told ≤ table.words)
+
+  -- or it is a number to look from
+  abbrev pub FitsSearch : Sizes → Sizes → ℕ → Type 0
+  FitsSearch known told from = (seat ≡ table) × (sizes ≡ told) × (known ≡ told) × IsSized told × (from < 2 ^ 63) × (all_words told ≤ table.words)
+
+  -- or this participant is one of the place
+  abbrev pub FitsNumber : Sizes → Sizes → ℕ → Type 0
+  FitsNumber known told number = (seat ≡ table) × (sizes ≡ told) × (known ≡ told) × IsSized told × (all_words told ≤ table.words) × (number < told.participants)
+
+  -- the table has the words of so many participants and cells, and of this slot
+  abbrev pub HasSlotWord : ℕ → ℕ → ℕ → Type 0
+  HasSlotWord participants cells slot = (seat ≡ table) × (sizes.participants ≡ participants) × (sizes.cells ≡ cells) × (participants ≤ 2 ^ 30) × (cells ≤ 2 ^ 30) × (slot < sizes.slots) × (sizes.slots ≤ 2 ^ 30) × (all_words sizes ≤ table.words)
+
+  -- the table has the words that tell epochs, of so many participants
+  abbrev pub HasEpochs : ℕ → Type 0
+  HasEpochs participants = (seat ≡ table) × (sizes.participants ≡ participants) × (epoch_words participants ≤ table.words) × (participants ≤ 2 ^ 30)
+
+  -- and of this participant among them
+  abbrev pub HasEpochOf : ℕ → Type 0
+  HasEpochOf number = (seat ≡ table) × (number < sizes.participants) × (epoch_words sizes.participants ≤ table.words) × (sizes.participants ≤ 2 ^ 30)
+
+  -- and the cells are few enough
+  abbrev pub HasClaimOf : ℕ → Type 0
+  HasClaimOf number = (seat ≡ table) × (number < sizes.participants) × (epoch_words sizes.participants ≤ table.words) × (sizes.participants ≤ 2 ^ 30) × (sizes.cells ≤ 2 ^ 30)
+
+module _ (table seat : TableId) (d : Acting) where
+  -- the seat is at the table of a place of these sizes, and acts for a participant that has taken this slot
+  abbrev pub FitsTaken : Sizes → ℕ → Type 0
+  FitsTaken sizes slot = (seat ≡ table) × (0 < table.words) × (d.kind ≡ 1) × (d.sizes ≡ sizes) × IsSized sizes × (d.slot ≡ slot) × (slot < 2 ^ 30)
+
+  -- the seat is at the table of a place of so many slots, and acts for the participant of this number
+  abbrev pub ActsAmong : ℕ → ℕ → Type 0
+  ActsAmong slots number = (seat ≡ table) × (d.sizes.slots ≡ slots) × (slots ≤ 2 ^ 30) × (d.number ≡ number) × (number < 2 ^ 30)

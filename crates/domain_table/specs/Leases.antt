@@ -1,0 +1,117 @@
+-- what a participant has leased, as its rows tell
+use Rattle.std.specs.Prelude.{◌≡◌, ℕ, suc, ◌<◌, ◌≤◌, ◌^◌, ◌++◌, Bool, true, false, ◌==◌, ◌&&◌, List, [], ◌∷◌, map, length, nat_lt, Option, None, Some}
+use Rattle.parted.specs.declared.life.Life.{Life}
+use Rattle.sdd_homes.specs.declared.Lease.{Lease}
+use Rattle.atomic_table.specs.Table.{Me}
+use Rattle.sdd_base.specs.declared.sizes.Sizes.{Sizes}
+use Rattle.sdd_steps.specs.declared.participant.Loaded.{Loaded}
+use Rattle.sdd_steps.specs.State.{Has}
+use Rattle.sdd_steps.specs.Steps.{is_inside, is_ready}
+use Rattle.sdd_homes.specs.declared.Owner.{Owner}
+use Rattle.sdd_homes.specs.declared.Garbage.{Garbage}
+use Rattle.sdd_homes.specs.Book.{Apart}
+use Rattle.domain_table.specs.Contents.{IsIn, blanks}
+use Rattle.domain_table.specs.Plays.{HasLeasedAt, HasLoaded, own_home, releasing_one}
+use Rattle.domain_table.specs.declared.board.Acting.{Acting}
+use Rattle.domain_table.specs.declared.board.Home.{Home}
+use Rattle.domain_table.specs.declared.board.Home.TheVariants.{Blank}
+use Rattle.domain_table.specs.declared.row.Row.{Row}
+
+-- the number of the life that open guards have tokens of, if any is open
+abbrev pub life_number : Option Life → ℕ
+life_number None = 0
+life_number (Some f) = f.id
+
+-- the slot of a row, the round of its item, how many parts it has, and the life that one is lent to
+abbrev pub row_told : {T : Type 0} → Row T → ℕ × ℕ × ℕ × ℕ
+row_told r = (r.slot, r.lent.pledge.id, r.count, r.lent.pledge.until)
+
+-- the same of a lease under this life
+abbrev pub lease_told : ℕ → Lease → ℕ × ℕ × ℕ × ℕ
+lease_told life l = (l.slot, l.round, l.count, life)
+
+-- where the participant's homes of what is leased lie
+abbrev pub leased_homes : Acting → List Lease → List ℕ
+leased_homes d ls = map (λ (l : Lease). own_home d l.slot) ls
+
+-- whether just these slots are out with a seat, in this order, with values that pass a test
+abbrev pub has_all : {S : Type 0} → (S → Bool) → List ℕ → List (ℕ × S) → Bool
+has_all test [] [] = true
+has_all test [] (x ∷ xs) = false
+has_all test (k ∷ ks) [] = false
+has_all test (k ∷ ks) (x ∷ xs) = ((x.0 == k) && test x.1) && has_all test ks xs
+
+-- where the rows' items are
+abbrev pub row_slots : {T : Type 0} → List (Row T) → List ℕ
+row_slots = map (λ r. r.slot)
+
+-- whether all numbers are below n
+abbrev pub all_below : ℕ → List ℕ → Bool
+all_below n [] = true
+all_below n (k ∷ ks) = nat_lt k n && all_below n ks
+
+-- the rows tell the leases, under this life, all in slots of the place, and there is room for a row of each slot
+abbrev pub HasRows : {T : Type 0} → ℕ → ℕ → List Lease → List (Row T) → ℕ → Type 0
+HasRows life slots ls rows room = (map row_told rows ≡ map (lease_told life) ls) × (all_below slots (row_slots rows) ≡ true) × (slots ≤ room)
+
+-- they still tell the leases, and the room is what it was
+abbrev pub KeepsRows : {T : Type 0} → ℕ → ℕ → List Lease → List (Row T) → ℕ → ℕ → Type 0
+KeepsRows life slots ls rows before after = (map row_told rows ≡ map (lease_told life) ls) × (all_below slots (row_slots rows) ≡ true) × (after ≡ before)
+
+-- the lease of the first owner's slot has few parts, of the owner's round, and there is room for one more item to wait
+abbrev pub HasFew : Acting → Type 0
+HasFew d = (l : Lease) (o : Owner) (os : List Owner) → Has d.leases l → o.slot ≡ l.slot → d.hand ≡ o ∷ os → (l.count < 2 ^ 63) × (length d.waits < d.sizes.slots) × Apart d.leases × (o.round ≡ l.round)
+
+-- the first owner in hand is released, where so many were found
+abbrev pub ReleasesOne : {S : Type 0} → Me S Acting → ℕ → Me S Acting → Type 0
+ReleasesOne m n m' = (l : Lease) (o : Owner) (os : List Owner) → Has m.0.leases l → o.slot ≡ l.slot → m.0.hand ≡ o ∷ os → m' ≡ (releasing_one n l os m.0, m.1)
+
+-- the first owner in hand is of an item in this slot and of this round
+abbrev pub IsFirst : Acting → ℕ → ℕ → Type 0
+IsFirst d k r = (o : Owner) × (os : List Owner) × (d.hand ≡ o ∷ os) × (o.slot ≡ k) × (o.round ≡ r)
+
+-- the first owner in hand was released, and so many others are left: with the last one its item, in slot k, waits; the leases are these now
+abbrev pub HasReleased : {S : Type 0} → ℕ → ℕ → Me S Acting → List Lease → Me S Acting → Type 0
+HasReleased k left m ls m' = (o : Owner) (os : List Owner) → m.0.hand ≡ o ∷ os
+    → (0 < left → m' ≡ (record m.0 { hand = os; leases = ls }, m.1)) × (left ≡ 0 → (w : Garbage) × (w.slot ≡ k) × (w.age ≡ 0) × (m' ≡ (record m.0 { hand = os; leases = ls; waits = w ∷ m.0.waits }, m.1)))
+
+-- something may have been loaded under the open guard, and leased
+abbrev pub HasLeased : {S : Type 0} → Me S Acting → Me S Acting → Type 0
+HasLeased m m' = (hs : List Loaded) × (ls : List Lease) × (m'.0 ≡ record m.0 { known = record m.0.known { loaded = hs }; leases = ls })
+
+-- something may have been loaded under the open guard, and these are leased besides: their homes are out behind the others, and empty
+abbrev pub HasNoted : {T : Type 0} → Me (Home T) Acting → Me (Home T) Acting → Type 0
+HasNoted m m' = (hs : List Loaded) × (ls : List Lease) × (m' ≡ (record m.0 { known = record m.0.known { loaded = hs }; leases = m.0.leases ++ ls }, m.1 ++ blanks (leased_homes m.0 ls)))
+
+-- this participant has loaded the item in slot k; until then the rows told its leases
+abbrev pub WasLeased : {T : Type 0} → (T → List (ℕ × ℕ)) → ℕ → ℕ → Sizes → ℕ → List (Row T) → Me (Home T) Acting → Type 0
+WasLeased holds k number sizes life rows m' = (m : Me (Home _) Acting) × HasLeasedAt (IsIn holds) m k m' × (m.0.number ≡ number) × (m.0.sizes ≡ sizes) × (map row_told rows ≡ map (lease_told life) m.0.leases)
+
+-- this participant has loaded the cell's word; until then the rows told its leases
+abbrev pub WasLoaded : {T : Type 0} → (T → List (ℕ × ℕ)) → ℕ → ℕ → Sizes → ℕ → List (Row T) → Me (Home T) Acting → Type 0
+WasLoaded holds word number sizes life rows m' = (m : Me (Home _) Acting) × HasLoaded (IsIn holds) m word m' × (m.0.number ≡ number) × (m.0.sizes ≡ sizes) × (map row_told rows ≡ map (lease_told life) m.0.leases)
+
+-- the home of an item that is cloned, where its lease is the last one, is in front of what is out with the seat, and is empty
+abbrev pub HasEmptied : {T : Type 0} → Me (Home T) Acting → ℕ → Lease → List Lease → List (ℕ × Home T) → Type 0
+HasEmptied m at l ls tail = (m.0.leases ≡ ls ++ l ∷ []) × (m.0.releasing ≡ suc l.item) × (at ≡ own_home m.0 l.slot) × (m.1 ≡ (at, Blank) ∷ tail)
+
+-- the first owner in hand, of an item of the round r, is there twice now; the leases are these now
+abbrev pub HasCloned : {S : Type 0} → Me S Acting → ℕ → List Lease → Me S Acting → Type 0
+HasCloned m r ls m' = (o : Owner) (os : List Owner) → m.0.hand ≡ o ∷ os → (o.round ≡ r) × (m' ≡ (record m.0 { hand = o ∷ o ∷ os; leases = ls }, m.1))
+
+-- the same, where the leases are in the slots that they were in
+abbrev pub HasClonedOne : {S : Type 0} → Me S Acting → ℕ → Me S Acting → Type 0
+HasClonedOne m r m' = (ls : List Lease) × (map (λ (l : Lease). l.slot) ls ≡ map (λ (l : Lease). l.slot) m.0.leases) × HasCloned m r ls m'
+
+-- one more owner, of the item of the round r in slot k, is first in hand: the one that was first, if that is of the slot; the leases are in the slots that they were in
+abbrev pub HasOwned : {S : Type 0} → ℕ → ℕ → Me S Acting → Me S Acting → Type 0
+HasOwned k r m m' = (o : Owner) × (ls : List Lease) × (o.slot ≡ k) × (o.round ≡ r) × (map (λ (l : Lease). l.slot) ls ≡ map (λ (l : Lease). l.slot) m.0.leases) × (m' ≡ (record m.0 { hand = o ∷ m.0.hand; leases = ls }, m.1))
+    × ((first : Owner) (os : List Owner) → m.0.hand ≡ first ∷ os → first.slot ≡ k → o ≡ first)
+
+-- the seat acts for p under an open guard, has this spare slot, and releases nothing
+abbrev pub CanExchange : ℕ → ℕ → Acting → Type 0
+CanExchange p spare d = (d.kind ≡ 1) × (d.number ≡ p) × (is_ready d.known ≡ true) × (is_inside d.known ≡ true) × (d.releasing ≡ 0) × (d.spare ≡ spare) × (spare < 2 ^ 31)
+
+-- the seat acts for p, which has nothing leased and releases nothing, and may make steps on items
+abbrev pub IsAtRest : ℕ → Acting → Type 0
+IsAtRest p d = (d.kind ≡ 1) × (d.number ≡ p) × (is_ready d.known ≡ true) × (d.releasing ≡ 0) × (d.leases ≡ [])

@@ -1,0 +1,12 @@
+pub mod Views
+pub mod Layout
+pub mod Fitting
+pub mod Items
+pub mod Owners
+pub mod Contents
+pub mod Bags
+pub mod Ledgers
+pub mod Rule
+pub mod Plays
+pub mod Leases
+pub mod Outcomes

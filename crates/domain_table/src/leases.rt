@@ -1,0 +1,124 @@
+//! What a participant has leased under its open guards goes home.
+
+ghost use Rattle.std.specs.Prelude.{◌≡◌, ℕ, ◌+◌, ◌*◌, ◌<◌, ◌++◌, ◌∷◌, [], List, map, length, drop, slice_index_or, IfSome, IfNone, IsSome};
+ghost use Rattle.std.specs.VecDeque.{deque_capacity, deque_len};
+ghost use Rattle.domain_table.specs.Outcomes.{RefillsAll, RefillsBehind};
+ghost use Rattle.domain_table.specs.Fitting.{ActsAmong};
+ghost use Rattle.domain_table.specs.Contents.{IsIn, blanks};
+ghost use Rattle.domain_table.specs.Leases.{row_told, lease_told, leased_homes};
+ghost use Rattle.sdd_steps.specs.State.{Has};
+ghost use Rattle.sdd_homes.specs.declared.Lease.{Lease};
+ghost use Rattle.domain_table.specs.declared.row.Row.{Row};
+ghost use Rattle.domain_table.specs.declared.board.Home.{Home};
+
+use crate::board::{Home, Place, Stored, Words};
+use crate::holding::Holding;
+use crate::homes::let_go;
+use crate::row::Row;
+use parted::{Ended, Seen};
+use std::collections::VecDeque;
+
+/// Which row is that of the item in `slot`, if it is leased.
+pub(crate) fn row_of<T>(rows: &VecDeque<Row<T>>, slot: usize) -> Option<usize>
+    ensures leased { IfSome result (λ at. (at < deque_len rows.now) × ((d : Row T) → (slice_index_or rows.now.items at d).slot ≡ slot)) }
+    ensures free { IfNone result (¬ Has (map (λ (r : Row T). r.slot) rows.now.items) slot) }
+{
+    for at in 0..rows.len() {
+        if rows[at].slot == slot {
+            return Some(at);
+        }
+    }
+    None
+}
+
+/// What a row's item is seen as.
+pub fn seen_in<T>(rows: &VecDeque<Row<T>>, at: usize) -> Seen<Stored<T>>
+    requires { at < deque_len rows.now }
+    ensures there { IsSome result.value }
+    ensures under { (life : ℕ) (ls : List Lease) → map row_told rows.now.items ≡ map (lease_told life) ls → result.life ≡ life }
+{
+    rows[at].lent.see()
+}
+
+/// The same of a row that there may be, with the item's slot.
+pub fn seen_at<T>(rows: &VecDeque<Row<T>>, at: Option<usize>) -> Option<(usize, Seen<Stored<T>>)>
+    requires { IfSome at (λ i. i < deque_len rows.now) }
+    ensures there { IfSome result (λ t. IsSome t.1.value) }
+    ensures under { IfSome result (λ t. (life : ℕ) (ls : List Lease) → map row_told rows.now.items ≡ map (lease_told life) ls → t.1.life ≡ life) }
+{
+    let at = at?;
+    Some((rows[at].slot, seen_in(rows, at)))
+}
+
+/// Fills the homes of all leases, which are in front of what is out with the seat, and go behind the others.
+fn refill<T, H: Holding<T>>(
+    words: &Words<T, H>,
+    place: &mut Place<T>,
+    slots: usize,
+    number: usize,
+    rows: &mut VecDeque<Row<T>>,
+    ended: &Ended,
+)
+    requires table { ActsAmong words.now.table_id place.old.table_id place.old.me.0 slots number }
+    requires rows { map row_told rows.old.items ≡ map (lease_told ended.now.id) place.old.me.0.leases }
+    requires out { place.old.me.1 ≡ blanks (leased_homes place.old.me.0 place.old.me.0.leases) ++ drop (length place.old.me.0.leases) place.old.me.1 }
+    ensures seat { (place.new.table_id ≡ place.old.table_id) × (place.new.id ≡ place.old.id) }
+    ensures filled { RefillsAll (IsIn H.holds) place.old.me place.new.me }
+    ensures empty { (rows.new.items ≡ []) × (deque_capacity rows.new ≡ deque_capacity rows.old) }
+{
+    while let Some(row) = rows.pop_front() {
+        let home = number * slots + row.slot;
+        let count = row.count;
+        let parts = row.into_parts(ended);
+        let_go(words.exchange(place, home, Home::Part(parts, count)));
+        place.turn();
+    }
+}
+
+/// Gives the parts of all leases back to their homes, once the life that they were lent to is over. The homes are in front
+/// of what is out with the seat then, and behind them the two slots that were in front.
+#[inline(never)]
+fn give_rows<T, H: Holding<T>>(
+    words: &Words<T, H>,
+    place: &mut Place<T>,
+    slots: usize,
+    number: usize,
+    rows: &mut VecDeque<Row<T>>,
+    ended: &Ended,
+)
+    requires table { ActsAmong words.now.table_id place.old.table_id place.old.me.0 slots number }
+    requires rows { map row_told rows.old.items ≡ map (lease_told ended.now.id) place.old.me.0.leases }
+    requires out { (k : ℕ) × (l : ℕ) × (place.old.me.1 ≡ blanks (k ∷ l ∷ leased_homes place.old.me.0 place.old.me.0.leases)) }
+    ensures seat { (place.new.table_id ≡ place.old.table_id) × (place.new.id ≡ place.old.id) }
+    ensures filled { RefillsBehind (IsIn H.holds) place.old.me place.new.me }
+    ensures empty { (rows.new.items ≡ []) × (deque_capacity rows.new ≡ deque_capacity rows.old) }
+{
+    place.turn();
+    place.turn();
+    refill(words, place, slots, number, rows, ended);
+    place.turn();
+    place.turn();
+}
+
+/// The same, at once where nothing is leased, as mostly when guards close.
+#[inline(always)]
+pub fn give_home<T, H: Holding<T>>(
+    words: &Words<T, H>,
+    place: &mut Place<T>,
+    slots: usize,
+    number: usize,
+    rows: &mut VecDeque<Row<T>>,
+    ended: &Ended,
+)
+    requires table { ActsAmong words.now.table_id place.old.table_id place.old.me.0 slots number }
+    requires rows { map row_told rows.old.items ≡ map (lease_told ended.now.id) place.old.me.0.leases }
+    requires out { (k : ℕ) × (l : ℕ) × (place.old.me.1 ≡ blanks (k ∷ l ∷ leased_homes place.old.me.0 place.old.me.0.leases)) }
+    ensures seat { (place.new.table_id ≡ place.old.table_id) × (place.new.id ≡ place.old.id) }
+    ensures filled { RefillsBehind (IsIn H.holds) place.old.me place.new.me }
+    ensures empty { (rows.new.items ≡ []) × (deque_capacity rows.new ≡ deque_capacity rows.old) }
+{
+    if rows.is_empty() {
+        return;
+    }
+    give_rows(words, place, slots, number, rows, ended);
+}

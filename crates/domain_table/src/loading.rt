@@ -1,0 +1,144 @@
+//! Loading a cell under an open guard: the item that it names is leased, so that the guard reads it.
+
+ghost use Rattle.std.specs.Prelude.{◌≡◌, ℕ, ◌+◌, ◌-◌, ◌*◌, ◌^◌, ◌<◌, ◌≤◌, ◌∷◌, List, map, true, IfSome, IfNone};
+ghost use Rattle.std.specs.VecDeque.{deque_capacity, deque_len};
+ghost use Rattle.sdd_steps.specs.Steps.{is_inside};
+ghost use Rattle.atomic_table.specs.Table.{Me};
+ghost use Rattle.domain_table.specs.Outcomes.{KeepsOut};
+ghost use Rattle.domain_table.specs.Contents.{IsIn, is_blank};
+ghost use Rattle.domain_table.specs.Fitting.{FitsSizes};
+ghost use Rattle.domain_table.specs.Layout.{packed, IsSized};
+ghost use Rattle.domain_table.specs.Leases.{row_told, lease_told, leased_homes, row_slots, all_below, has_all, HasLeased, HasNoted, HasRows, KeepsRows, WasLeased, WasLoaded};
+ghost use Rattle.domain_table.specs.Plays.{HasLeasedAt, HasLoaded};
+ghost use Rattle.sdd_homes.specs.declared.Owner.{Owner};
+ghost use Rattle.domain_table.specs.declared.board.Acting.{Acting};
+ghost use Rattle.domain_table.specs.declared.board.Home.{Home};
+
+use crate::board::{Home, Place, Words};
+use crate::cells;
+use crate::holding::Holding;
+use crate::homes::parts_of;
+use crate::leases::row_of;
+use crate::row::Row;
+use crate::tags::tag_in;
+use parted::Life;
+use sdd_base::sizes::Sizes;
+use sdd_base::tag::Tag;
+use std::collections::VecDeque;
+
+/// The slot that a cell's word names, if it names one: one more than it stands above the number of the spare slot and
+/// the tag.
+pub fn slot_named(word: u64) -> Option<usize>
+    ensures some { IfSome result (λ k. (k < 2 ^ 31) × ((y t c : ℕ) → y < 2 ^ 31 → t < 4 → word ≡ packed y t c → c ≡ k + 1)) }
+    ensures none { IfNone result ((y t c : ℕ) → y < 2 ^ 31 → t < 4 → word ≡ packed y t c → c ≡ 0) }
+{
+    let code = word / (1 << 33);
+    if code == 0 {
+        None
+    } else {
+        Some(code as usize - 1)
+    }
+}
+
+/// Adds the row of the item in `slot`, unless it has one: its parts came out of the home of participant `number` in the
+/// step that loaded it. Which row that is.
+fn note_slot<T, H: Holding<T>>(
+    words: &Words<T, H>,
+    place: &mut Place<T>,
+    sizes: &Sizes,
+    number: usize,
+    rows: &mut VecDeque<Row<T>>,
+    life: &Life,
+    slot: usize,
+) -> usize
+    requires table { (place.old.table_id ≡ words.now.table_id) × IsSized sizes.now × (number < sizes.now.participants) }
+    requires low { slot < 2 ^ 31 }
+    requires rows { (all_below sizes.now.slots (row_slots rows.old.items) ≡ true) × (sizes.now.slots ≤ deque_capacity rows.old) }
+    requires found { WasLeased H.holds slot number sizes.now life.now.id rows.old.items place.old.me }
+    ensures seat { (place.new.table_id ≡ place.old.table_id) × (place.new.id ≡ place.old.id) }
+    ensures row { result < deque_len rows.new }
+    ensures noted { (m : Me (Home T) Acting) → HasLeasedAt (IsIn H.holds) m slot place.old.me → map row_told rows.old.items ≡ map (lease_told life.now.id) m.0.leases → HasNoted m place.new.me }
+    ensures rows { KeepsRows life.now.id sizes.now.slots place.new.me.0.leases rows.new.items (deque_capacity rows.old) (deque_capacity rows.new) }
+{
+    if let Some(at) = row_of(rows, slot) {
+        return at;
+    }
+    let home = number * sizes.slots + slot;
+    let (parts, count) = parts_of::<T, H>(words.exchange(place, home, Home::Blank));
+    place.turn();
+    rows.push_back_reserved(Row::new(slot, parts, count, life));
+    rows.len() - 1
+}
+
+/// The same of the item that `word`, as it was found in a cell, names, if it names one.
+pub fn note_found<T, H: Holding<T>>(
+    words: &Words<T, H>,
+    place: &mut Place<T>,
+    sizes: &Sizes,
+    number: usize,
+    rows: &mut VecDeque<Row<T>>,
+    life: &Life,
+    word: u64,
+) -> Option<usize>
+    requires table { (place.old.table_id ≡ words.now.table_id) × IsSized sizes.now × (number < sizes.now.participants) }
+    requires rows { (all_below sizes.now.slots (row_slots rows.old.items) ≡ true) × (sizes.now.slots ≤ deque_capacity rows.old) }
+    requires found { WasLoaded H.holds word number sizes.now life.now.id rows.old.items place.old.me }
+    ensures seat { (place.new.table_id ≡ place.old.table_id) × (place.new.id ≡ place.old.id) }
+    ensures row { IfSome result (λ at. at < deque_len rows.new) }
+    ensures noted { (m : Me (Home T) Acting) → HasLoaded (IsIn H.holds) m word place.old.me → map row_told rows.old.items ≡ map (lease_told life.now.id) m.0.leases → HasNoted m place.new.me }
+    ensures rows { KeepsRows life.now.id sizes.now.slots place.new.me.0.leases rows.new.items (deque_capacity rows.old) (deque_capacity rows.new) }
+{
+    let slot = slot_named(word)?;
+    Some(note_slot(words, place, sizes, number, rows, life, slot))
+}
+
+/// Loads the cell under the open guards of participant `number`, whose life this is. Which row is that of the item that
+/// it names, if it names one, and the tag that was found with it.
+pub fn lease<T, H: Holding<T>>(
+    words: &Words<T, H>,
+    place: &mut Place<T>,
+    sizes: &Sizes,
+    number: usize,
+    rows: &mut VecDeque<Row<T>>,
+    life: &Life,
+    cell: usize,
+) -> (Option<usize>, Tag)
+    requires table { FitsSizes words.now.table_id words.now.key.sizes place.old.table_id place.old.me.0.sizes sizes.now × (number < sizes.now.participants) × (cell < sizes.now.cells) }
+    requires open { (place.old.me.0.kind ≡ 1) × (place.old.me.0.number ≡ number) × (is_inside place.old.me.0.known ≡ true) }
+    requires rows { HasRows life.now.id sizes.now.slots place.old.me.0.leases rows.old.items (deque_capacity rows.old) }
+    requires out { (k : ℕ) × (l : ℕ) × (has_all is_blank (k ∷ l ∷ leased_homes place.old.me.0 place.old.me.0.leases) place.old.me.1 ≡ true) }
+    ensures seat { (place.new.table_id ≡ place.old.table_id) × (place.new.id ≡ place.old.id) }
+    ensures row { IfSome result.0 (λ at. at < deque_len rows.new) }
+    ensures loaded { HasLeased place.old.me place.new.me }
+    ensures rows { KeepsRows life.now.id sizes.now.slots place.new.me.0.leases rows.new.items (deque_capacity rows.old) (deque_capacity rows.new) }
+    ensures out { KeepsOut place.old.me place.new.me }
+{
+    let word = cells::load(words, place, sizes.participants, cell);
+    let at = note_found(words, place, sizes, number, rows, life, word);
+    (at, tag_in(word))
+}
+
+/// Loads the item in `slot` under the open guards of participant `number`, whose life this is, by its owner, which is first
+/// in hand. Which row is that of the item.
+pub fn lease_own<T, H: Holding<T>>(
+    words: &Words<T, H>,
+    place: &mut Place<T>,
+    sizes: &Sizes,
+    number: usize,
+    rows: &mut VecDeque<Row<T>>,
+    life: &Life,
+    slot: usize,
+) -> usize
+    requires table { FitsSizes words.now.table_id words.now.key.sizes place.old.table_id place.old.me.0.sizes sizes.now × (number < sizes.now.participants) }
+    requires open { (place.old.me.0.kind ≡ 1) × (place.old.me.0.number ≡ number) × (is_inside place.old.me.0.known ≡ true) }
+    requires owner { (o : Owner) × (os : List Owner) × (place.old.me.0.hand ≡ o ∷ os) × (o.slot ≡ slot) × (slot < 2 ^ 31) }
+    requires rows { HasRows life.now.id sizes.now.slots place.old.me.0.leases rows.old.items (deque_capacity rows.old) }
+    ensures seat { (place.new.table_id ≡ place.old.table_id) × (place.new.id ≡ place.old.id) }
+    ensures row { result < deque_len rows.new }
+    ensures loaded { HasLeased place.old.me place.new.me }
+    ensures rows { KeepsRows life.now.id sizes.now.slots place.new.me.0.leases rows.new.items (deque_capacity rows.old) (deque_capacity rows.new) }
+    ensures out { KeepsOut place.old.me place.new.me }
+{
+    cells::load_own(words, place);
+    note_slot(words, place, sizes, number, rows, life, slot)
+}

@@ -1,0 +1,130 @@
+//! Placing an item: a free slot is claimed, the homes of the participants get their parts, and the item is in the slot.
+
+ghost use Rattle.std.specs.Prelude.{◌≡◌, ℕ, ◌+◌, ◌-◌, ◌^◌, ◌<◌, ◌≤◌, map, true, Some, IsSome, IsSomeAnd, IfOk, IfErr, OnOk, OnErr};
+ghost use Rattle.std.specs.Mem.{manually_drop_value};
+ghost use Rattle.atomic_table.specs.Table.{rest};
+ghost use Rattle.sdd_steps.specs.Steps.{is_ready};
+ghost use Rattle.sdd_homes.specs.declared.Filling.{Filling};
+ghost use Rattle.domain_table.specs.Outcomes.{CanPlaceItem, FillsAll, FillsAt, HasPlacedItem};
+ghost use Rattle.domain_table.specs.Fitting.{FitsFree, FitsSearch, FitsTaken};
+ghost use Rattle.domain_table.specs.Contents.{IsIn};
+ghost use Rattle.domain_table.specs.Owners.{told};
+ghost use Rattle.domain_table.specs.Plays.{IsJustClaimed, filling_at, next_filled, placing};
+
+use crate::board::{Home, Place, Stored, Words};
+use crate::holding::Holding;
+use crate::homes::{let_go, room_of};
+use crate::slots;
+use crate::stored::store;
+use parted::{One, Part};
+use sdd_base::sizes::Sizes;
+use tally::Tally;
+
+/// How many of `left` parts one of `rest` participants gets, so that as many are left as the others need, and one more.
+fn share_of(left: u64, rest: u64) -> u64
+    requires { (0 < rest) × (rest < left) }
+    ensures some { 0 < result }
+    ensures others { rest + result ≤ left }
+    ensures last { rest ≡ 1 → result + 1 ≡ left }
+{
+    (left - 1) / rest
+}
+
+/// Fills the home of participant `at`, the next one, with `count` of the parts in hand.
+fn fill_home<T, H: Holding<T>>(
+    words: &Words<T, H>,
+    place: &mut Place<T>,
+    sizes: &Sizes,
+    slot: usize,
+    at: usize,
+    all: &mut Part<Stored<T>>,
+    count: u64,
+)
+    requires table { FitsTaken words.now.table_id place.old.table_id place.old.me.0 sizes.now slot }
+    requires filling { FillsAt place.old.me at sizes.now.participants all.old.life.count all.old.life.id }
+    requires parts { (0 < count) × (count < all.old.life.count) × (all.old.life.count ≤ 2 ^ 63) × IsSome all.old.seen.value }
+    ensures seat { (place.new.table_id ≡ place.old.table_id) × (place.new.id ≡ place.old.id) }
+    ensures filled { (f : Filling) → place.old.me.0.filling ≡ Some f → place.new.me ≡ (filling_at slot (next_filled place.old.me.0 all.old.life.id count f) place.old.me.0, place.old.me.1) }
+    ensures rest { (all.new.seen ≡ all.old.seen) × (all.new.life ≡ record all.old.life { count = all.old.life.count - count }) }
+{
+    slots::take_next(words, place);
+    let part = all.split(count);
+    let_go(words.exchange(place, at * sizes.slots + slot, Home::Part(part, count)));
+    slots::give_next(words, place);
+}
+
+/// Fills the homes of all participants of the slot that was claimed. One part stays in hand.
+fn fill_homes<T, H: Holding<T>>(
+    words: &Words<T, H>,
+    place: &mut Place<T>,
+    sizes: &Sizes,
+    slot: usize,
+    all: &mut Part<Stored<T>>,
+)
+    requires table { FitsTaken words.now.table_id place.old.table_id place.old.me.0 sizes.now slot }
+    requires filling { (f : Filling) × (place.old.me.0.filling ≡ Some f) × (f.filled ≡ 0) × (f.out ≡ sizes.now.participants) × (f.left ≡ 2 ^ 63) }
+    requires parts { (all.old.life.count ≡ 2 ^ 63) × IsSome all.old.seen.value }
+    ensures seat { (place.new.table_id ≡ place.old.table_id) × (place.new.id ≡ place.old.id) }
+    ensures filled { FillsAll place.old.me slot sizes.now.participants all.old.life.id place.new.me }
+    ensures rest { (all.new.seen ≡ all.old.seen) × (all.new.life ≡ record all.old.life { count = 1 }) }
+{
+    let mut left = 1 << 63;
+    for at in 0..sizes.participants {
+        let count = share_of(left, (sizes.participants - at) as u64);
+        fill_home(words, place, sizes, slot, at, all, count);
+        left -= count;
+    }
+}
+
+/// Places an item in the slot that was claimed, which holds the owners in hand. Its one owner is in hand then, and the owner's part is the answer.
+fn place_at<T, H: Holding<T>>(
+    words: &Words<T, H>,
+    place: &mut Place<T>,
+    sizes: &Sizes,
+    slot: usize,
+    item: T,
+) -> One<Stored<T>>
+    requires table { FitsFree words.now.table_id words.now.key.sizes place.old.table_id place.old.me.0.sizes sizes.now slot }
+    requires ready { (place.old.me.0.kind ≡ 1) × (is_ready place.old.me.0.known ≡ true) × (place.old.me.0.releasing ≡ 0) × (H.holds item ≡ map told place.old.me.0.hand) }
+    requires claimed { IsJustClaimed (IsIn H.holds) place.old.me slot }
+    ensures seat { (place.new.table_id ≡ place.old.table_id) × (place.new.id ≡ place.old.id) }
+    ensures placed { (i : ℕ) × (f : Filling) × (f.round ≡ result.part.life.id) × (place.new.me ≡ (placing i f place.old.me.0, rest place.old.me.1)) }
+    ensures value { IsSomeAnd result.part.seen.value (λ m. manually_drop_value m ≡ item) }
+{
+    let own = sizes.participants * sizes.slots + slot;
+    let room = room_of::<T, H>(words.exchange(place, own, Home::Blank));
+    let (deed, mut all) = store(room, item);
+    let_go(words.exchange(place, own, Home::Deed(deed)));
+    fill_homes(words, place, sizes, slot, &mut all);
+    slots::place(words, place, sizes.participants, sizes.cells, slot);
+    One::from_part(all)
+}
+
+/// Places an item in a free slot: each is tried once, from `from` on. Its one owner is in hand; the slot and the owner's
+/// part are the answer. Where each slot was taken when it was tried, the item is back: that is a miss.
+pub fn place_item<T, H: Holding<T>>(
+    words: &Words<T, H>,
+    place: &mut Place<T>,
+    sizes: &Sizes,
+    from: usize,
+    item: T,
+    misses: &mut Tally,
+) -> Result<(usize, One<Stored<T>>), T>
+    requires table { FitsSearch words.now.table_id words.now.key.sizes place.old.table_id place.old.me.0.sizes sizes.now from }
+    requires ready { CanPlaceItem H.holds item place.old.me.0 }
+    ensures seat { (place.new.table_id ≡ place.old.table_id) × (place.new.id ≡ place.old.id) }
+    ensures placed { IfOk result (λ t. HasPlacedItem item sizes.now.slots t.0 t.1.part.life.id t.1.part.seen.value place.old.me place.new.me) }
+    ensures refused { IfErr result (λ back. (back ≡ item) × (place.new.me ≡ place.old.me)) }
+    ensures hit { OnOk result (misses.new.count ≡ misses.old.count) }
+    ensures missed { OnErr result (misses.new.count ≡ misses.old.count + 1) }
+{
+    for step in 0..sizes.slots {
+        let slot = (from + step) % sizes.slots;
+        if slots::claim(words, place, sizes.participants, sizes.cells, slot) {
+            let part = place_at(words, place, sizes, slot, item);
+            return Ok((slot, part));
+        }
+    }
+    misses.raise();
+    Err(item)
+}

@@ -1,0 +1,58 @@
+//! A scan: whether the count may be raised, and its raise.
+
+ghost use Rattle.std.specs.Prelude.{◌≡◌, ◌≢◌, ℕ, ◌-◌, ◌^◌, ◌<◌, IsTrue};
+ghost use Rattle.sdd_steps.specs.State.{Has};
+ghost use Rattle.domain_table.specs.Fitting.{HasEpochs};
+ghost use Rattle.domain_table.specs.Plays.{Steady, Scans};
+
+use crate::board::{Place, Words};
+use crate::holding::Holding;
+use crate::steps::{give_lock, is_present, look, raise, take_lock};
+
+/// Whether each other participant is closed or has published the count `epoch`. It stops at the first that isn't.
+fn all_agree<T, H: Holding<T>>(
+    words: &Words<T, H>,
+    place: &mut Place<T>,
+    number: usize,
+    participants: usize,
+    epoch: u64,
+) -> bool
+    requires table { HasEpochs words.now.table_id words.now.key.sizes place.old.table_id participants }
+    requires open { Scans place.old number epoch 2 }
+    requires below { epoch < 2 ^ 64 - 1 }
+    ensures seat { (place.new.table_id ≡ place.old.table_id) × (place.new.id ≡ place.old.id) × Steady place.old.me place.new.me × Scans place.new number epoch 2 }
+    ensures noted { IsTrue result → (q : ℕ) → q < participants → q ≢ number → Has place.new.me.0.known.looked q }
+{
+    for other in 0..participants {
+        if other != number && !look(words, place, number, other, epoch) {
+            return false;
+        }
+    }
+    true
+}
+
+/// A scan of participant `number`, whose guard is open with the count `epoch`. It tries once for the scan lock, and
+/// raises the count by one only where that is the present one, and each other participant is closed or has published
+/// it. A count of `2^64 - 1` isn't raised.
+#[inline(never)]
+pub fn scan<T, H: Holding<T>>(
+    words: &Words<T, H>,
+    place: &mut Place<T>,
+    number: usize,
+    participants: usize,
+    epoch: u64,
+)
+    requires table { HasEpochs words.now.table_id words.now.key.sizes place.old.table_id participants }
+    requires open { Scans place.old number epoch 0 }
+    ensures { (place.new.table_id ≡ place.old.table_id) × (place.new.id ≡ place.old.id) × Steady place.old.me place.new.me × Scans place.new number epoch 0 }
+{
+    if epoch == u64::MAX || !take_lock(words, place, number, epoch) {
+        return;
+    }
+    if is_present(words, place, number, epoch)
+        && all_agree(words, place, number, participants, epoch)
+    {
+        raise(words, place, number, epoch);
+    }
+    give_lock(words, place, number, epoch);
+}

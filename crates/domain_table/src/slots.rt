@@ -1,0 +1,189 @@
+//! The single steps of a participant that places an item or reclaims one: it claims a slot, fills the homes of its parts,
+//! and gives the slot to the item; it opens the slot of an item that nobody reads any more, empties the homes, and gives
+//! the slot back.
+
+ghost use Rattle.std.specs.Prelude.{◌≡◌, ℕ, ◌+◌, ◌*◌, ◌<◌, ◌≤◌, ◌++◌, ◌∷◌, [], true, List, Some, None, IsTrue, IsFalse};
+ghost use Rattle.sdd_steps.specs.Steps.{is_ready};
+ghost use Rattle.sdd_homes.specs.declared.Filling.{Filling};
+ghost use Rattle.domain_table.specs.Outcomes.{Fills, GivesHome, TakesDeed, TakesNext};
+ghost use Rattle.domain_table.specs.Fitting.{FitsSlot};
+ghost use Rattle.domain_table.specs.Contents.{IsIn};
+ghost use Rattle.domain_table.specs.Layout.{all_words, IsSized};
+ghost use Rattle.domain_table.specs.Plays.{HasClaimed, claim_slot_then, HasTaken, fill_takes_then, CanFill, fill_gives_then, CanPlace, placing, place_then, opens_then, gathers_then, CanEmpty, empties_then, CanVacate, vacates_then};
+ghost use Rattle.sdd_homes.specs.declared.Garbage.{Garbage};
+ghost use Rattle.domain_table.specs.declared.board.Home.{Home};
+
+use crate::board::{Acting, Home, Place, Words};
+use crate::holding::Holding;
+use atomic_table::Play;
+use sdd_base::sizes::Sizes;
+use std::marker::PhantomData;
+
+struct OnClaim<H>(PhantomData<H>);
+
+impl<T, H: Holding<T>> Play<Home<T>, Acting> for OnClaim<H> {
+    ghost then = { claim_slot_then (IsIn H.holds) };
+}
+
+struct OnTake<H>(PhantomData<H>);
+
+impl<T, H: Holding<T>> Play<Home<T>, Acting> for OnTake<H> {
+    ghost then = { fill_takes_then (IsIn H.holds) };
+}
+
+struct OnGive<H>(PhantomData<H>);
+
+impl<T, H: Holding<T>> Play<Home<T>, Acting> for OnGive<H> {
+    ghost then = { fill_gives_then (IsIn H.holds) };
+}
+
+struct OnPlace<H>(PhantomData<H>);
+
+impl<T, H: Holding<T>> Play<Home<T>, Acting> for OnPlace<H> {
+    ghost then = { place_then (IsIn H.holds) };
+}
+
+struct OnOpen<H>(PhantomData<H>);
+
+impl<T, H: Holding<T>> Play<Home<T>, Acting> for OnOpen<H> {
+    ghost then = { opens_then (IsIn H.holds) };
+}
+
+struct OnGather<H>(PhantomData<H>);
+
+impl<T, H: Holding<T>> Play<Home<T>, Acting> for OnGather<H> {
+    ghost then = { gathers_then (IsIn H.holds) };
+}
+
+struct OnEmpty<H>(PhantomData<H>);
+
+impl<T, H: Holding<T>> Play<Home<T>, Acting> for OnEmpty<H> {
+    ghost then = { empties_then (IsIn H.holds) };
+}
+
+struct OnVacate<H>(PhantomData<H>);
+
+impl<T, H: Holding<T>> Play<Home<T>, Acting> for OnVacate<H> {
+    ghost then = { vacates_then (IsIn H.holds) };
+}
+
+/// Whether the item in `slot` has an owner, if there is one.
+pub fn has_owner<T, H: Holding<T>>(words: &Words<T, H>, sizes: &Sizes, slot: usize) -> bool
+    requires { (words.now.key.sizes ≡ sizes.now) × IsSized sizes.now × (slot < sizes.now.slots) × (all_words sizes.now ≤ words.now.table_id.words) }
+{
+    words.peek(8 * sizes.participants + 16 + sizes.cells + slot) > 2
+}
+
+/// Whether `slot` isn't vacant: it has an item, or is filled or emptied.
+pub fn is_used<T, H: Holding<T>>(words: &Words<T, H>, sizes: &Sizes, slot: usize) -> bool
+    requires { (words.now.key.sizes ≡ sizes.now) × IsSized sizes.now × (slot < sizes.now.slots) × (all_words sizes.now ≤ words.now.table_id.words) }
+{
+    words.peek(8 * sizes.participants + 16 + sizes.cells + slot) > 0
+}
+
+/// Tries once to claim `slot`, for `participants` and `cells` of them. Where it was vacant it is the participant's to
+/// fill, and the item's own home is out, with the room for the item. Whether it was.
+pub(crate) fn claim<T, H: Holding<T>>(
+    words: &Words<T, H>,
+    place: &mut Place<T>,
+    participants: usize,
+    cells: usize,
+    slot: usize,
+) -> bool
+    requires table { FitsSlot words.now.table_id words.now.key.sizes place.old.table_id place.old.me.0.sizes participants cells slot }
+    requires ready { (place.old.me.0.kind ≡ 1) × (place.old.me.0.filling ≡ None) }
+    ensures seat { (place.new.table_id ≡ place.old.table_id) × (place.new.id ≡ place.old.id) }
+    ensures claimed { IsTrue result → HasClaimed (IsIn H.holds) place.old.me slot place.new.me }
+    ensures refused { IsFalse result → place.new.me ≡ place.old.me }
+{
+    words.compare_exchange::<OnClaim<H>>(place, 8 * participants + 16 + cells + slot, 0, 1) == 0
+}
+
+/// Takes the home of the next participant out of the slot that is being filled. It is empty.
+pub(crate) fn take_next<T, H: Holding<T>>(words: &Words<T, H>, place: &mut Place<T>)
+    requires table { (place.old.table_id ≡ words.now.table_id) × (0 < words.now.table_id.words) }
+    requires filling { (place.old.me.0.kind ≡ 1) × ((f : Filling) × (place.old.me.0.filling ≡ Some f) × (f.filled < place.old.me.0.sizes.participants) × (f.out ≡ place.old.me.0.sizes.participants)) }
+    ensures seat { (place.new.table_id ≡ place.old.table_id) × (place.new.id ≡ place.old.id) }
+    ensures taken { (f : Filling) → place.old.me.0.filling ≡ Some f → HasTaken (IsIn H.holds) place.old.me f place.new.me }
+{
+    let _ = words.load::<OnTake<H>>(place, 0);
+}
+
+/// Gives the home back that `take_next` took, with its parts. The first one tells which round the slot's parts are of.
+pub(crate) fn give_next<T, H: Holding<T>>(words: &Words<T, H>, place: &mut Place<T>)
+    requires table { (place.old.table_id ≡ words.now.table_id) × (0 < words.now.table_id.words) }
+    requires filling { (place.old.me.0.kind ≡ 1) × ((f : Filling) × (c : ℕ) × (a : ℕ) × (tail : List (ℕ × Home T)) × CanFill (IsIn H.holds) place.old.me f c a tail) }
+    ensures seat { (place.new.table_id ≡ place.old.table_id) × (place.new.id ≡ place.old.id) }
+    ensures given { Fills (IsIn H.holds) place.old.me place.new.me }
+{
+    let _ = words.load::<OnGive<H>>(place, 0);
+}
+
+/// Gives the slot to a new item, which holds the items whose owners are in hand, and has one owner, which is in hand from
+/// now on. The item's own home goes back in the same step, with its deed.
+pub(crate) fn place<T, H: Holding<T>>(
+    words: &Words<T, H>,
+    place: &mut Place<T>,
+    participants: usize,
+    cells: usize,
+    slot: usize,
+)
+    requires table { FitsSlot words.now.table_id words.now.key.sizes place.old.table_id place.old.me.0.sizes participants cells slot }
+    requires ready { (place.old.me.0.kind ≡ 1) × (is_ready place.old.me.0.known ≡ true) × (place.old.me.0.releasing ≡ 0) × (place.old.me.0.slot ≡ slot) }
+    requires filled { (f : Filling) × (tail : List (ℕ × Home T)) × CanPlace (IsIn H.holds) place.old.me f tail }
+    ensures seat { (place.new.table_id ≡ place.old.table_id) × (place.new.id ≡ place.old.id) }
+    ensures placed { (f : Filling) (tail : List (ℕ × Home T)) → CanPlace (IsIn H.holds) place.old.me f tail → (i : ℕ) × (place.new.me ≡ (placing i f place.old.me.0, tail)) }
+{
+    words.store::<OnPlace<H>>(place, 8 * participants + 16 + cells + slot, 3);
+}
+
+/// Begins to reclaim the item that waits the longest, which the participant retired three rotations ago. Nobody reads it:
+/// its deed comes out, all its parts are at home, and the owners that it held are in hand.
+pub fn open<T, H: Holding<T>>(words: &Words<T, H>, place: &mut Place<T>)
+    requires table { (place.old.table_id ≡ words.now.table_id) × (0 < words.now.table_id.words) }
+    requires ready { (place.old.me.0.kind ≡ 1) × (is_ready place.old.me.0.known ≡ true) × (place.old.me.0.filling ≡ None) }
+    requires waits { (w : Garbage) × (ws : List Garbage) × (place.old.me.0.waits ≡ ws ++ w ∷ []) × (w.age ≡ 3) }
+    ensures seat { (place.new.table_id ≡ place.old.table_id) × (place.new.id ≡ place.old.id) }
+    ensures inside { (w : Garbage) (ws : List Garbage) → place.old.me.0.waits ≡ ws ++ w ∷ [] → w.slot < place.old.me.0.sizes.slots }
+    ensures opened { TakesDeed (IsIn H.holds) place.old.me place.new.me }
+{
+    let _ = words.load::<OnOpen<H>>(place, 0);
+}
+
+/// Takes the last home that has parts out of the slot of a reclaimed item. With that of the first participant all parts
+/// are in hand.
+pub fn gather<T, H: Holding<T>>(words: &Words<T, H>, place: &mut Place<T>)
+    requires table { (place.old.table_id ≡ words.now.table_id) × (0 < words.now.table_id.words) }
+    requires filled { (place.old.me.0.kind ≡ 1) × ((f : Filling) × (place.old.me.0.filling ≡ Some f) × (0 < f.filled) × (f.out ≡ place.old.me.0.sizes.participants)) }
+    ensures seat { (place.new.table_id ≡ place.old.table_id) × (place.new.id ≡ place.old.id) }
+    ensures taken { TakesNext (IsIn H.holds) place.old.me place.new.me }
+{
+    let _ = words.load::<OnGather<H>>(place, 0);
+}
+
+/// Gives the home back that `gather` took. It is empty now.
+pub fn empty<T, H: Holding<T>>(words: &Words<T, H>, place: &mut Place<T>)
+    requires table { (place.old.table_id ≡ words.now.table_id) × (0 < words.now.table_id.words) }
+    requires emptied { (place.old.me.0.kind ≡ 1) × ((f : Filling) × (tail : List (ℕ × Home T)) × CanEmpty (IsIn H.holds) place.old.me f tail) }
+    ensures seat { (place.new.table_id ≡ place.old.table_id) × (place.new.id ≡ place.old.id) }
+    ensures given { GivesHome (IsIn H.holds) place.old.me place.new.me }
+{
+    let _ = words.load::<OnEmpty<H>>(place, 0);
+}
+
+/// Gives `slot` back, for `participants` and `cells` of them: all homes are empty, and the room is in the item's own, which goes
+/// back in the same step.
+pub fn vacate<T, H: Holding<T>>(
+    words: &Words<T, H>,
+    place: &mut Place<T>,
+    participants: usize,
+    cells: usize,
+    slot: usize,
+)
+    requires table { FitsSlot words.now.table_id words.now.key.sizes place.old.table_id place.old.me.0.sizes participants cells slot }
+    requires emptied { (place.old.me.0.kind ≡ 1) × (place.old.me.0.slot ≡ slot) × ((f : Filling) × (tail : List (ℕ × Home T)) × CanVacate (IsIn H.holds) place.old.me f tail) }
+    ensures seat { (place.new.table_id ≡ place.old.table_id) × (place.new.id ≡ place.old.id) }
+    ensures vacant { (f : Filling) (tail : List (ℕ × Home T)) → CanVacate (IsIn H.holds) place.old.me f tail → place.new.me ≡ (record place.old.me.0 { filling = None }, tail) }
+{
+    words.store::<OnVacate<H>>(place, 8 * participants + 16 + cells + slot, 0);
+}

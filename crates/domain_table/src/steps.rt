@@ -1,0 +1,328 @@
+//! The single steps of a participant on the words of a place: each is one operation on one word.
+
+ghost use Rattle.std.specs.Prelude.{◌≡◌, ◌≢◌, ◌⊎◌, ℕ, ◌∷◌, ◌++◌, ◌+◌, ◌-◌, ◌*◌, ◌^◌, ◌<◌, ◌≤◌, true, [], List, IsTrue, IsFalse, IfSome, IfNone, MatchBool};
+ghost use Rattle.atomic_table.specs.Table.{rest};
+ghost use Rattle.sdd_homes.specs.declared.Garbage.{Garbage};
+ghost use Rattle.sdd_steps.specs.State.{Has};
+ghost use Rattle.sdd_steps.specs.Steps.{is_ready};
+ghost use Rattle.sdd_steps.specs.declared.participant.Phase.TheVariants.{Idle, HasRead, Opened};
+ghost use Rattle.domain_table.specs.Fitting.{HasEpochOf, HasClaimOf};
+ghost use Rattle.domain_table.specs.Contents.{IsIn, Announces};
+ghost use Rattle.domain_table.specs.Outcomes.{HasPublished};
+ghost use Rattle.domain_table.specs.Views.{IsBare, spent, reading, rotated, looking};
+ghost use Rattle.domain_table.specs.Layout.{lock_word, claim_word, epoch_words, shown};
+ghost use Rattle.domain_table.specs.Plays.{read_then, publish_then, count_then, look_then, agree_then, raise_then, lock_then, unlock_then, sit_then, HasRegistered, CanLeave, claim_then, learn_then, taking_over, take_over_then, end_then, Steady, Scans};
+ghost use Rattle.domain_table.specs.declared.board.Home.{Home};
+
+use crate::board::{Acting, Home, Place, Words};
+use crate::holding::Holding;
+use crate::homes::let_go;
+use atomic_table::Play;
+use sdd_base::sizes::Sizes;
+use std::marker::PhantomData;
+
+/// The word of the count of raises.
+const COUNT: usize = 0;
+
+/// A word that is always 0.
+const STILL: usize = 1;
+
+/// The word of the scan lock.
+const LOCK: usize = 8;
+
+/// Each participant has eight words, of which it uses two, so that what it publishes has a cache line of its own.
+const STRIDE: usize = 8;
+
+/// Where the first participant publishes.
+const STATE: usize = 16;
+
+/// Where it stands whether somebody acts for the first participant: then it is 0, and else one more than the number of
+/// the participant's spare slot.
+const CLAIM: usize = 17;
+
+struct OnRead;
+
+impl<T> Play<Home<T>, Acting> for OnRead {
+    ghost then = { read_then };
+}
+
+struct OnPublish;
+
+impl<T> Play<Home<T>, Acting> for OnPublish {
+    ghost then = { publish_then };
+}
+
+struct OnCount;
+
+impl<T> Play<Home<T>, Acting> for OnCount {
+    ghost then = { count_then };
+}
+
+struct OnLook;
+
+impl<T> Play<Home<T>, Acting> for OnLook {
+    ghost then = { look_then };
+}
+
+struct OnAgree;
+
+impl<T> Play<Home<T>, Acting> for OnAgree {
+    ghost then = { agree_then };
+}
+
+struct OnRaise;
+
+impl<T> Play<Home<T>, Acting> for OnRaise {
+    ghost then = { raise_then };
+}
+
+struct OnLock;
+
+impl<T> Play<Home<T>, Acting> for OnLock {
+    ghost then = { lock_then };
+}
+
+struct OnUnlock;
+
+impl<T> Play<Home<T>, Acting> for OnUnlock {
+    ghost then = { unlock_then };
+}
+
+struct OnSit;
+
+impl<T> Play<Home<T>, Acting> for OnSit {
+    ghost then = { sit_then };
+}
+
+struct OnClaim<H>(PhantomData<H>);
+
+impl<T, H: Holding<T>> Play<Home<T>, Acting> for OnClaim<H> {
+    ghost then = { claim_then (IsIn H.holds) };
+}
+
+struct OnLearn;
+
+impl<T> Play<Home<T>, Acting> for OnLearn {
+    ghost then = { learn_then Announces };
+}
+
+struct OnTakeOver;
+
+impl<T> Play<Home<T>, Acting> for OnTakeOver {
+    ghost then = { take_over_then };
+}
+
+struct OnEnd;
+
+impl<T> Play<Home<T>, Acting> for OnEnd {
+    ghost then = { end_then };
+}
+
+/// The word of an open guard that published the count `epoch`.
+fn word_of(epoch: u64) -> u64
+    ensures { result ≡ shown (Opened epoch) }
+{
+    if epoch == u64::MAX { epoch } else { epoch + 1 }
+}
+
+/// A new seat, which acts for nobody.
+pub fn sit<T, H: Holding<T>>(words: &Words<T, H>) -> Place<T>
+    requires { 0 < words.now.table_id.words }
+    ensures { (result.table_id ≡ words.now.table_id) × (result.me.0 ≡ spent) × (result.me.1 ≡ []) }
+{
+    let (_, place) = words.load_new_seat::<OnSit>(COUNT);
+    place
+}
+
+/// Tries once to act for participant `number`. Where nobody did, its spare slot comes out, empty: which one it is; and
+/// behind that its bag, with what was left when it ended before.
+pub fn claim<T, H: Holding<T>>(
+    words: &Words<T, H>,
+    place: &mut Place<T>,
+    number: usize,
+) -> Option<u64>
+    requires table { HasClaimOf words.now.table_id words.now.key.sizes place.old.table_id number }
+    requires nobody { (place.old.me.0.kind ≡ 0) × IsBare place.old.me.0 }
+    ensures seat { (place.new.table_id ≡ place.old.table_id) × (place.new.id ≡ place.old.id) }
+    ensures claimed { IfSome result (λ y. (y < 2 ^ 31) × HasRegistered (IsIn H.holds) place.old.me number y place.new.me) }
+    ensures refused { IfNone result (place.new.me ≡ place.old.me) }
+{
+    let found = words.swap::<OnClaim<H>>(place, STRIDE * number + CLAIM, 0);
+    if found == 0 { None } else { Some(found - 1) }
+}
+
+/// Tells the seat that the place has the sizes `sizes`. No word changes.
+pub fn learn<T, H: Holding<T>>(words: &Words<T, H>, place: &mut Place<T>, sizes: Sizes)
+    requires table { (place.old.table_id ≡ words.now.table_id) × (1 < words.now.table_id.words) × (sizes ≡ words.now.key.sizes) }
+    requires acts { place.old.me.0.kind ≡ 1 }
+    ensures seat { (place.new.table_id ≡ place.old.table_id) × (place.new.id ≡ place.old.id) × (place.new.me ≡ place.old.me) }
+    ensures learned { place.new.me.0.sizes ≡ sizes }
+{
+    let said = Home::Announced(sizes);
+    words.compare_exchange_with::<OnLearn>(place, STILL, 0, 0, &said);
+    let_go(said);
+}
+
+/// Whether somebody acts for participant `number`.
+pub fn is_claimed<T, H: Holding<T>>(words: &Words<T, H>, number: usize) -> bool
+    requires { (number < words.now.key.sizes.participants) × (epoch_words words.now.key.sizes.participants ≤ words.now.table_id.words) × (words.now.key.sizes.participants ≤ 2 ^ 30) }
+{
+    words.peek(STRIDE * number + CLAIM) == 0
+}
+
+/// Takes over the last of the items that were left where the participant ended before: the participant has retired it,
+/// and hasn't rotated since. The bag that is out stays as it is. No word changes.
+pub(crate) fn take_over<T, H: Holding<T>>(words: &Words<T, H>, place: &mut Place<T>)
+    requires table { (place.old.table_id ≡ words.now.table_id) × (1 < words.now.table_id.words) }
+    requires ready { (place.old.me.0.kind ≡ 1) × (is_ready place.old.me.0.known ≡ true) }
+    requires left { (w : Garbage) × (ws : List Garbage) × (place.old.me.0.left ≡ ws ++ w ∷ []) }
+    ensures seat { (place.new.table_id ≡ place.old.table_id) × (place.new.id ≡ place.old.id) }
+    ensures taken { (w : Garbage) (ws : List Garbage) → place.old.me.0.left ≡ ws ++ w ∷ [] → place.new.me ≡ (taking_over w ws place.old.me.0, place.old.me.1) }
+{
+    let _ = words.load::<OnTakeOver>(place, STILL);
+}
+
+/// Ends what the seat does for participant `number`, which somebody else may act for from now on. Its spare slot, which
+/// is in front of what is out with the seat, goes back empty, and behind that its bag: there the participant leaves what
+/// it retired, behind what it hasn't taken over.
+pub fn end<T, H: Holding<T>>(words: &Words<T, H>, place: &mut Place<T>, number: usize, spare: u64)
+    requires table { (place.old.table_id ≡ words.now.table_id) × (number < 2 ^ 30) × (claim_word number < words.now.table_id.words) }
+    requires rests { (place.old.me.0.kind ≡ 1) × (place.old.me.0.number ≡ number) × (place.old.me.0.known.phase ≡ Idle) × (place.old.me.0.scan ≡ 0) × IsBare place.old.me.0 }
+    requires spare { (place.old.me.0.spare ≡ spare) × (spare < 2 ^ 31) × ((tail : List (ℕ × Home T)) × CanLeave (IsIn H.holds) place.old.me tail) }
+    ensures { (place.new.table_id ≡ place.old.table_id) × (place.new.id ≡ place.old.id) × (place.new.me ≡ (spent, rest (rest place.old.me.1))) }
+{
+    words.store::<OnEnd>(place, STRIDE * number + CLAIM, spare + 1);
+}
+
+/// Reads the count of raises, for an opening.
+pub fn read_count<T, H: Holding<T>>(words: &Words<T, H>, place: &mut Place<T>) -> u64
+    requires table { (place.old.table_id ≡ words.now.table_id) × (0 < words.now.table_id.words) }
+    requires closed { (place.old.me.0.kind ≡ 1) × (place.old.me.0.known.phase ≡ Idle) × (place.old.me.0.scan ≡ 0) }
+    ensures { (place.new.table_id ≡ place.old.table_id) × (place.new.id ≡ place.old.id) × (place.new.me ≡ (record place.old.me.0 { known = reading result place.old.me.0.known }, place.old.me.1)) }
+{
+    words.load::<OnRead>(place, COUNT)
+}
+
+/// Publishes the count that was read, and with it does the rotation that is due.
+pub fn publish<T, H: Holding<T>>(
+    words: &Words<T, H>,
+    place: &mut Place<T>,
+    number: usize,
+    epoch: u64,
+)
+    requires table { (place.old.table_id ≡ words.now.table_id) × (number < 2 ^ 30) × (claim_word number < words.now.table_id.words) }
+    requires read { (place.old.me.0.kind ≡ 1) × (place.old.me.0.number ≡ number) × (place.old.me.0.known.phase ≡ HasRead epoch) × (place.old.me.0.scan ≡ 0) }
+    ensures seat { (place.new.table_id ≡ place.old.table_id) × (place.new.id ≡ place.old.id) }
+    ensures published { HasPublished epoch place.old.me place.new.me }
+{
+    words.store::<OnPublish>(place, STRIDE * number + STATE, word_of(epoch));
+}
+
+/// Reads the count of raises under an open guard.
+pub fn count_under<T, H: Holding<T>>(words: &Words<T, H>, place: &mut Place<T>, epoch: u64) -> u64
+    requires table { (place.old.table_id ≡ words.now.table_id) × (0 < words.now.table_id.words) }
+    requires open { (place.old.me.0.kind ≡ 1) × (place.old.me.0.known.phase ≡ Opened epoch) }
+    ensures seat { (place.new.table_id ≡ place.old.table_id) × (place.new.id ≡ place.old.id) × (place.new.me ≡ place.old.me) }
+    ensures least { place.old.me.0.born ≤ result }
+    ensures most { result ≤ place.old.me.0.born + 1 }
+{
+    words.load::<OnCount>(place, COUNT)
+}
+
+/// Tries once for the scan lock.
+pub(crate) fn take_lock<T, H: Holding<T>>(
+    words: &Words<T, H>,
+    place: &mut Place<T>,
+    number: usize,
+    epoch: u64,
+) -> bool
+    requires { (place.old.table_id ≡ words.now.table_id) × (lock_word < words.now.table_id.words) × Scans place.old number epoch 0 }
+    ensures seat { (place.new.table_id ≡ place.old.table_id) × (place.new.id ≡ place.old.id) × Steady place.old.me place.new.me }
+    ensures stage { MatchBool result (Scans place.new number epoch 1) (Scans place.new number epoch 0) }
+{
+    words.compare_exchange::<OnLock>(place, LOCK, 0, 1) == 0
+}
+
+/// Whether the count is still the published one, under the scan lock.
+pub(crate) fn is_present<T, H: Holding<T>>(
+    words: &Words<T, H>,
+    place: &mut Place<T>,
+    number: usize,
+    epoch: u64,
+) -> bool
+    requires { (place.old.table_id ≡ words.now.table_id) × (0 < words.now.table_id.words) × Scans place.old number epoch 1 }
+    ensures seat { (place.new.table_id ≡ place.old.table_id) × (place.new.id ≡ place.old.id) × Steady place.old.me place.new.me }
+    ensures stage { MatchBool result (Scans place.new number epoch 2) (Scans place.new number epoch 1) }
+{
+    words.load::<OnAgree>(place, COUNT) == epoch
+}
+
+/// Gives the scan lock back.
+pub(crate) fn give_lock<T, H: Holding<T>>(
+    words: &Words<T, H>,
+    place: &mut Place<T>,
+    number: usize,
+    epoch: u64,
+)
+    requires { (place.old.table_id ≡ words.now.table_id) × (lock_word < words.now.table_id.words) × (Scans place.old number epoch 1 ⊎ Scans place.old number epoch 2) }
+    ensures { (place.new.table_id ≡ place.old.table_id) × (place.new.id ≡ place.old.id) × Steady place.old.me place.new.me × Scans place.new number epoch 0 }
+{
+    words.store::<OnUnlock>(place, LOCK, 0);
+}
+
+/// Whether the other is closed or has published the same count. It is asked under the scan lock, while the count is
+/// the published one.
+fn look_at<T, H: Holding<T>>(
+    words: &Words<T, H>,
+    place: &mut Place<T>,
+    other: usize,
+    epoch: u64,
+) -> bool
+    requires table { HasEpochOf words.now.table_id words.now.key.sizes place.old.table_id other }
+    requires open { (place.old.me.0.kind ≡ 1) × (place.old.me.0.number ≢ other) × (place.old.me.0.known.phase ≡ Opened epoch) × (place.old.me.0.known.found ≡ epoch) × (place.old.me.0.scan ≡ 2) }
+    requires below { epoch < 2 ^ 64 - 1 }
+    ensures seat { (place.new.table_id ≡ place.old.table_id) × (place.new.id ≡ place.old.id) }
+    ensures noted { IsTrue result → place.new.me ≡ (record place.old.me.0 { known = looking other place.old.me.0.known }, place.old.me.1) }
+    ensures not_noted { IsFalse result → place.new.me ≡ place.old.me }
+{
+    let found = words.load::<OnLook>(place, STRIDE * other + STATE);
+    found == 0 || found == epoch + 1
+}
+
+/// The same, for what a scan needs of it: who was looked at before stays so.
+pub(crate) fn look<T, H: Holding<T>>(
+    words: &Words<T, H>,
+    place: &mut Place<T>,
+    number: usize,
+    other: usize,
+    epoch: u64,
+) -> bool
+    requires table { HasEpochOf words.now.table_id words.now.key.sizes place.old.table_id other }
+    requires open { Scans place.old number epoch 2 × (number ≢ other) }
+    requires below { epoch < 2 ^ 64 - 1 }
+    ensures seat { (place.new.table_id ≡ place.old.table_id) × (place.new.id ≡ place.old.id) × Steady place.old.me place.new.me × Scans place.new number epoch 2 }
+    ensures noted { IsTrue result → Has place.new.me.0.known.looked other }
+    ensures more { (q : ℕ) → Has place.old.me.0.known.looked q → Has place.new.me.0.known.looked q }
+{
+    if look_at(words, place, other, epoch) {
+        true
+    } else {
+        false
+    }
+}
+
+/// Raises the count by one, where everybody else was looked at.
+pub(crate) fn raise<T, H: Holding<T>>(
+    words: &Words<T, H>,
+    place: &mut Place<T>,
+    number: usize,
+    epoch: u64,
+)
+    requires table { (place.old.table_id ≡ words.now.table_id) × (0 < words.now.table_id.words) }
+    requires open { Scans place.old number epoch 2 }
+    requires all { (q : ℕ) → q < words.now.key.sizes.participants → q ≢ number → Has place.old.me.0.known.looked q }
+    requires below { epoch < 2 ^ 64 - 1 }
+    ensures { (place.new.table_id ≡ place.old.table_id) × (place.new.id ≡ place.old.id) × Steady place.old.me place.new.me × Scans place.new number epoch 1 }
+{
+    words.store::<OnRaise>(place, COUNT, epoch + 1);
+}

@@ -1,7 +1,0 @@
-use Rattle.sdd_domain.specs.Contents.{IsIn}
-use Rattle.sdd_domain.proofs.Begins.{begins}
-use Rattle.sdd_domain.proofs.cells.begin_release.Goals as goal
-
-pub load-requires : goal.load-requires
-load-requires g c = let t = c.requires.table in let place = c.args.place.now in let o = c.requires.owner in
-    (t.0, t.1, begins _ (IsIn g.T.Holds.holds) c.args.words.now.key c.args.words.now.table_id.slots place.id 0 place.me o.0 o.1 c.requires.ready.0 c.requires.ready.1 o.2 o.3)

@@ -1,7 +1,0 @@
-use Rattle.sdd_domain.specs.Contents.{IsIn}
-use Rattle.sdd_domain.proofs.Loads.{loads_own}
-use Rattle.sdd_domain.proofs.cells.load_own.Goals as goal
-
-pub load-requires : goal.load-requires
-load-requires g c = let t = c.requires.table in let place = c.args.place.now in let o = c.requires.owner in
-    (t.0, t.1, loads_own _ (IsIn g.T.Holds.holds) c.args.words.now.key c.args.words.now.table_id.slots place.id 0 place.me o.0 o.1 c.requires.«open».0 c.requires.«open».1 o.2)

@@ -1,6 +1,0 @@
-use Rattle.std.proofs.Common.{◌≡◌, ◌++◌, ◌≤◌, replicate, vec_capacity}
-use Rattle.sdd_domain.specs.declared.board.Home.TheVariants.{Blank}
-use Rattle.sdd_domain.proofs.homes.push_blanks.Given as goal
-
-abbrev pub invariant-loop-i : goal.invariant-loop-i
-invariant-loop-i g l = record { filled : l.homes.items ≡ l.fn.homes.items ++ replicate l._i Blank; room : vec_capacity l.fn.homes ≤ vec_capacity l.homes }

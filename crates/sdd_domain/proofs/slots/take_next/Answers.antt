@@ -1,6 +1,0 @@
-use Rattle.sdd_domain.specs.Contents.{IsIn}
-use Rattle.sdd_domain.proofs.Claims.{fill_takes}
-use Rattle.sdd_domain.proofs.slots.take_next.Goals as goal
-
-pub load-requires : goal.load-requires
-load-requires g c = let t = c.requires.table in let plan = c.args.words.now.key in let place = c.args.place.now in let f = c.requires.filling.1 in (t.0, t.1, fill_takes _ (IsIn g.T.Holds.holds) plan c.args.words.now.table_id.slots place.id 0 place.me f.0 c.requires.filling.0 f.1 f.2 f.3)

@@ -1,6 +1,0 @@
-use Rattle.std.proofs.Common.{rules}
-use Rattle.sdd_domain.proofs.Openings.{counts}
-use Rattle.sdd_domain.proofs.steps.count_under.Goals as goal
-
-pub load-requires : goal.load-requires
-load-requires g c = (search rules, search rules, counts _ _ _ _ _ _ c.args.epoch c.requires.open.0 c.requires.open.1)

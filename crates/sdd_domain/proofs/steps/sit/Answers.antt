@@ -1,6 +1,0 @@
-use Rattle.std.proofs.Common.{rules}
-use Rattle.sdd_domain.proofs.Seats.{sits}
-use Rattle.sdd_domain.proofs.steps.sit.Goals as goal
-
-pub load_new_seat-place-requires : goal.load_new_seat-place-requires
-load_new_seat-place-requires g c = (search rules, sits _ _ _ _ _)
