@@ -1,7 +1,7 @@
 -- What a call leaves staged.
 use Rattle.std.proofs.Common.{◌≡◌, ℕ, List, refl}
 use Rattle.std.specs.Ordering.{nat_cmp}
-use Rattle.versions.specs.declared.write.Write.{Write}
+use Rattle.version_views.specs.declared.write.Write.{Write}
 use Rattle.ordered_index.specs.Desk.{Machine, Step}
 use Rattle.ordered_index.specs.declared.play.DeskCall.{DeskCall}
 use Rattle.ordered_index.specs.declared.play.DeskCall.TheVariants as calls

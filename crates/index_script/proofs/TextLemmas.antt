@@ -1,8 +1,8 @@
 -- Texts that are put together.
 use Rattle.std.proofs.Common.{◌≡◌, ℕ, ◌+◌, ◌<◌, List, [], ◌∷◌, ◌++◌, length, take, get_or, sym, ap, ◌∙◌, append_assoc, append-nil}
 use Rattle.std.proofs.lemmas.List.{take_more}
-use Rattle.versions.specs.declared.write.Reply.{Reply}
-use Rattle.versions.specs.declared.write.Reply.TheVariants.{Inserted}
+use Rattle.version_views.specs.declared.write.Reply.{Reply}
+use Rattle.version_views.specs.declared.write.Reply.TheVariants.{Inserted}
 use Rattle.index_script.specs.Replies.{pair_text, pair_texts, told_text, told_texts}
 
 told_push : (xs : List Reply) (x : Reply) → told_texts (xs ++ x ∷ []) ≡ told_texts xs ++ told_text x

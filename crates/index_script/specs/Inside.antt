@@ -8,7 +8,7 @@ use Rattle.ordered_index.specs.declared.play.DeskCall.{DeskCall}
 use Rattle.ordered_index.specs.declared.play.DeskCall.TheVariants as calls
 use Rattle.ordered_index.specs.declared.play.DeskReply.{DeskReply}
 use Rattle.ordered_index.specs.declared.play.DeskReply.TheVariants as replies
-use Rattle.versions.specs.declared.write.Write.{Write}
+use Rattle.version_views.specs.declared.write.Write.{Write}
 
 abbrev pub IsNoCommit : DeskCall ℕ (List ℕ) → Type 0
 IsNoCommit (calls.Commit on writes) = ⊥

@@ -11,8 +11,8 @@ use Rattle.serial_history.specs.declared.commit.Cause.{Cause}
 use Rattle.serial_history.specs.declared.commit.Cause.TheVariants as causes
 use Rattle.ordered_index.specs.declared.play.DeskReply.{DeskReply}
 use Rattle.ordered_index.specs.declared.play.DeskReply.TheVariants as replies
-use Rattle.versions.specs.declared.write.Reply.{Reply}
-use Rattle.versions.specs.declared.write.Reply.TheVariants as told
+use Rattle.version_views.specs.declared.write.Reply.{Reply}
+use Rattle.version_views.specs.declared.write.Reply.TheVariants as told
 use Rattle.index_script.specs.declared.request.Fault.{Fault}
 use Rattle.index_script.specs.declared.request.Fault.TheVariants as faults
 

@@ -2,8 +2,8 @@
 use Rattle.std.specs.Prelude.{◌≡◌, ℕ, ◌+◌, ◌-◌, ◌^◌, List, [], ◌∷◌, ◌++◌, length, replicate, Some, None}
 use Rattle.std.specs.Ordering.{nat_cmp}
 use Rattle.ordered_index.specs.Desk.{Machine, OpenStep, CloseStep, ReadStep, AuditStep, NumberStep, LenStep, CommitStep, ReclaimStep, SlotsStep}
-use Rattle.versions.specs.declared.write.Write.{Write}
-use Rattle.versions.specs.declared.write.Write.TheVariants as writes
+use Rattle.version_views.specs.declared.write.Write.{Write}
+use Rattle.version_views.specs.declared.write.Write.TheVariants as writes
 use Rattle.serial_history.specs.declared.query.Query.TheVariants as queries
 use Rattle.ordered_index.specs.declared.play.ReadSet.TheVariants as sets
 use Rattle.ordered_index.specs.declared.play.DeskReply.{DeskReply}

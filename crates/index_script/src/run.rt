@@ -2,7 +2,7 @@
 
 ghost use Rattle.std.specs.Prelude.{◌≡◌, ◌+◌, ◌<◌, ◌≤◌, ◌^◌, ℕ, List, [], ◌++◌, IfErr, OnOk, OnErr, IsErrOf, length, take};
 ghost use Rattle.std.specs.Io.KnownBytes.{Appends};
-ghost use Rattle.versions.specs.Sizes.{IsStoreSized};
+ghost use Rattle.version_views.specs.Sizes.{IsStoreSized};
 ghost use Rattle.index_script.specs.Lines.{kept};
 ghost use Rattle.index_script.specs.Script.{fresh_script};
 ghost use Rattle.index_script.specs.Runs.{RunsToEnd, StopsReading, StopsWriting, StopsForMemory, status_of, complaint_of};

@@ -5,7 +5,7 @@ ghost use Rattle.std.specs.Option.{option_copied};
 ghost use Rattle.std.specs.String.{string_bytes};
 ghost use Rattle.std.specs.Ordering.{nat_cmp};
 ghost use Rattle.ordered_index.specs.Desk.{Step, CommitStep};
-ghost use Rattle.versions.specs.Sizes.{IsStoreSized};
+ghost use Rattle.version_views.specs.Sizes.{IsStoreSized};
 ghost use Rattle.ordered_index.specs.State.{HasNoSession};
 ghost use Rattle.index_script.specs.Lines.{kept};
 ghost use Rattle.index_script.specs.Inside.{IsNoCommit, writes_given_back};

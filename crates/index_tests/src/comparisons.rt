@@ -1,6 +1,6 @@
 //! How many comparisons a look-up makes, by keys that count them.
 
-ghost use Rattle.versions.specs.Sizes.{IsStoreSized};
+ghost use Rattle.version_views.specs.Sizes.{IsStoreSized};
 ghost use Rattle.ordered_index.specs.State.{IsSessionOf};
 
 use leaf_array::Array;

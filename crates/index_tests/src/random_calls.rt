@@ -1,7 +1,7 @@
 //! Lists of calls at random, made on an index and on plain lists, one for each number: both have to answer the same.
 
 ghost use Rattle.ordered_index.specs.Desk.{Serves};
-ghost use Rattle.versions.specs.Sizes.{IsStoreSized};
+ghost use Rattle.version_views.specs.Sizes.{IsStoreSized};
 
 use crate::dice::{Dice, thrown};
 use crate::plain;

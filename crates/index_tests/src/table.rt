@@ -1,7 +1,7 @@
 //! Calls of an index as data, by a desk that keeps its sessions, so that a test of many calls is a table.
 
 ghost use Rattle.ordered_index.specs.Desk.{Serves};
-ghost use Rattle.versions.specs.Sizes.{IsStoreSized};
+ghost use Rattle.version_views.specs.Sizes.{IsStoreSized};
 
 use ordered_index::{
     Accepted, Answer, Audit, Cause, Desk, DeskCall, DeskReply, LocalIndex, Near, Query, ReadSet,

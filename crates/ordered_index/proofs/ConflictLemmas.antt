@@ -10,10 +10,10 @@ use Rattle.std.specs.declared.cmp.Ordering.TheVariants.{Less, Equal, Greater}
 use Rattle.std.specs.declared.ops.Bound.{Bound}
 use Rattle.leaf_array.specs.Pairs.{has_key}
 use Rattle.leaf_array.proofs.ListLemmas.{value_of_key-upserted}
-use Rattle.versions.specs.Writes.{after_write, after_writes}
-use Rattle.versions.specs.declared.write.Write.{Write}
-use Rattle.versions.specs.declared.write.Write.TheVariants as writes
-use Rattle.versions.proofs.RangeLemmas.{fair_range}
+use Rattle.version_views.specs.Writes.{after_write, after_writes}
+use Rattle.version_views.specs.declared.write.Write.{Write}
+use Rattle.version_views.specs.declared.write.Write.TheVariants as writes
+use Rattle.version_drafts.proofs.RangeLemmas.{fair_range}
 use Rattle.serial_history.specs.Answers.{answer_to}
 use Rattle.serial_history.specs.Serial.{Holds, Read}
 use Rattle.ordered_index.specs.State.{MayRefuse, State, present}

@@ -7,9 +7,9 @@ use Rattle.std.proofs.lemmas.List.{map-set}
 use Rattle.std.proofs.lemmas.List.Elements.{All-set}
 use Rattle.std.proofs.lemmas.Option.{slice_get_within, unwrap_or-slice_get}
 use Rattle.std.proofs.Math.Seq.{take-length}
-use Rattle.versions.specs.Writes.{after_writes, replies_to}
+use Rattle.version_views.specs.Writes.{after_writes, replies_to}
 use Rattle.ordered_index.specs.Invariant.{IsIndex, IsOf, index_state}
-use Rattle.versions.proofs.OptionLemmas.{mapped_some}
+use Rattle.version_views.proofs.OptionLemmas.{mapped_some}
 use Rattle.ordered_index.specs.State.{State, present, list_at, MayAccept}
 use Rattle.versions.specs.Store.{IsKeptHere, Store, Version}
 use Rattle.serial_history.specs.Serial.{after_all, IsValid}

@@ -3,7 +3,7 @@ use Rattle.std.proofs.Common.{◌≡◌, ℕ, ◌<◌, zero, suc, get_or, List, 
 use Rattle.std.specs.List.{All}
 use Rattle.std.specs.declared.cmp.Ordering.{Ordering}
 use Rattle.std.proofs.lemmas.List.Elements.{All-append}
-use Rattle.versions.specs.declared.write.Write.{Write}
+use Rattle.version_views.specs.declared.write.Write.{Write}
 use Rattle.ordered_index.specs.Receipts.{IsOwnReceipt}
 use Rattle.serial_history.specs.Serial.{Holds, Read, after_all}
 use Rattle.ordered_index.specs.State.{State, OpenSession, Audits, Commits, Opens, Reads, list_at, transaction_of}

@@ -5,9 +5,9 @@ use Rattle.std.specs.List.{All}
 use Rattle.std.specs.declared.cmp.Ordering.{Ordering}
 use Rattle.std.specs.declared.ops.Bound.{Bound}
 use Rattle.leaf_array.specs.Pairs.{has_key}
-use Rattle.versions.specs.Writes.{after_writes}
-use Rattle.versions.specs.declared.write.Write.{Write}
-use Rattle.versions.specs.declared.write.Write.TheVariants as writes
+use Rattle.version_views.specs.Writes.{after_writes}
+use Rattle.version_views.specs.declared.write.Write.{Write}
+use Rattle.version_views.specs.declared.write.Write.TheVariants as writes
 use Rattle.serial_history.specs.Answers.{answer_to}
 use Rattle.serial_history.specs.Serial.{Holds, Read}
 use Rattle.ordered_index.specs.State.{State, MayRefuse, present}

@@ -4,7 +4,7 @@ use Rattle.std.specs.declared.cmp.Ordering.{Ordering}
 use Rattle.ordered_index.specs.State.{State, OpenSession, IsSessionOf, IsOpenAt, HasNoPlace, Opens, Closes, list_at, Accepts, Refuses, Reads, Audits, Reclaims, MayAccept, latest_number}
 use Rattle.serial_history.specs.declared.query.Query.{Query}
 use Rattle.serial_history.specs.declared.query.Query.TheVariants as queries
-use Rattle.versions.specs.declared.write.Write.{Write}
+use Rattle.version_views.specs.declared.write.Write.{Write}
 use Rattle.serial_history.specs.declared.transaction.Receipt.{Receipt}
 use Rattle.serial_history.specs.declared.commit.Cause.TheVariants as causes
 use Rattle.ordered_index.specs.declared.desk.Seat.{Seat}

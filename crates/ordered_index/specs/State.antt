@@ -2,11 +2,11 @@
 use Rattle.std.specs.Prelude.{◌≡◌, ◌≢◌, ℕ, ◌+◌, ◌-◌, ◌<◌, ◌≤◌, ◌^◌, List, [], ◌∷◌, ◌++◌, length, take, Option, Some, None, Result, Ok, Err, slice_get, slice_set, IsSome}
 use Rattle.std.specs.declared.cmp.Ordering.{Ordering}
 use Rattle.std.specs.List.{All}
-use Rattle.versions.specs.Writes.{after_writes, replies_to}
-use Rattle.versions.specs.declared.write.Write.{Write}
+use Rattle.version_views.specs.Writes.{after_writes, replies_to}
+use Rattle.version_views.specs.declared.write.Write.{Write}
 use Rattle.serial_history.specs.Answers.{answer_to}
 use Rattle.serial_history.specs.Serial.{Read, after_all, Holds, IsFirstConflict}
-use Rattle.versions.specs.Sizes.{room_for}
+use Rattle.version_views.specs.Sizes.{room_for}
 use Rattle.serial_history.specs.declared.query.Query.{Query}
 use Rattle.serial_history.specs.declared.query.Answer.{Answer}
 use Rattle.serial_history.specs.declared.transaction.Audit.{Audit}

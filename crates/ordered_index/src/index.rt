@@ -7,13 +7,13 @@ ghost use Rattle.leaf_array.specs.Values.{ClonesAreSame, EqualsAreSame};
 ghost use Rattle.tree_index.specs.Cursor.{whole};
 ghost use Rattle.tree_index.specs.Proximity.{IsLocated};
 ghost use Rattle.tree_index.specs.declared.cursor.End.TheVariants.{Unopened};
-ghost use Rattle.versions.specs.Nearby.{as_proximity};
-ghost use Rattle.versions.specs.Cuts.{pairs_in};
-ghost use Rattle.versions.specs.Views.{cursor_within};
-ghost use Rattle.versions.specs.Writes.{after_writes, replies_to};
+ghost use Rattle.version_views.specs.Nearby.{as_proximity};
+ghost use Rattle.version_views.specs.Cuts.{pairs_in};
+ghost use Rattle.version_views.specs.Views.{cursor_within};
+ghost use Rattle.version_views.specs.Writes.{after_writes, replies_to};
 ghost use Rattle.std.specs.List.{All};
 ghost use Rattle.serial_history.specs.Serial.{Holds, IsFirstConflict};
-ghost use Rattle.versions.specs.Sizes.{IsStoreSized, room_for, segments_for};
+ghost use Rattle.version_views.specs.Sizes.{IsStoreSized, room_for, segments_for};
 ghost use Rattle.ordered_index.specs.State.{State, latest_number, IsSessionOf, HasNoPlace, HasNoSession, Opens, Closes, list_at, present, transaction_of, MayAccept, MayRefuse, Commits, Refuses, Reads, Audits, Reclaims};
 
 use crate::session::Session;

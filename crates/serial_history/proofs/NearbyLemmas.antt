@@ -17,7 +17,7 @@ use Rattle.tree_index.specs.Proximity.{IsLocated}
 use Rattle.tree_index.specs.Shape.{AllKeys}
 use Rattle.tree_index.specs.declared.proximity.Proximity.TheVariants.{Exact, Between, Smaller, Larger}
 use Rattle.tree_index.proofs.LeafLemmas.{has_entry}
-use Rattle.versions.proofs.FilterLemmas.{all_behind, all_over, none_below, rising_tail}
+use Rattle.version_views.proofs.FilterLemmas.{all_behind, all_over, none_below, rising_tail}
 use Rattle.serial_history.specs.Answers.{last_pair, near, near_by}
 
 taken_get : {X : Type 0} (xs : List X) (n i : ℕ) → i < n → slice_get (take n xs) i ≡ slice_get xs i

@@ -17,7 +17,7 @@ use Rattle.tree_index.specs.Shape.{AllKeys}
 use Rattle.tree_index.specs.declared.cursor.End.{End}
 use Rattle.tree_index.specs.declared.cursor.End.TheVariants.{Unopened, At, Done}
 use Rattle.tree_index.proofs.ShapeLemmas.{all_weaken}
-use Rattle.versions.proofs.FilterLemmas.{on_test, rising_head, rising_tail}
+use Rattle.version_views.proofs.FilterLemmas.{on_test, rising_head, rising_tail}
 use Rattle.serial_history.specs.RemainingPairs.{IsStart, behind_end, remaining_pairs, run_within}
 
 module _ {K : Type 0} {cmp : K → K → Ordering} (o : IsTotalOrder cmp) where

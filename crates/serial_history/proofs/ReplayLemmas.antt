@@ -10,10 +10,10 @@ use Rattle.leaf_array.specs.Pairs.{IsAscending}
 use Rattle.tree_index.proofs.CopyLemmas.{upserted_behind}
 use Rattle.tree_index.proofs.InsertionPointLemmas.{start_none}
 use Rattle.tree_index.specs.Cursor.{Cursor}
-use Rattle.versions.proofs.FilterLemmas.{rising_front, rising_under}
-use Rattle.versions.specs.Writes.{after_write, after_writes}
-use Rattle.versions.specs.declared.write.Write.{Write}
-use Rattle.versions.specs.declared.write.Write.TheVariants.{Clear}
+use Rattle.version_views.proofs.FilterLemmas.{rising_front, rising_under}
+use Rattle.version_views.specs.Writes.{after_write, after_writes}
+use Rattle.version_views.specs.declared.write.Write.{Write}
+use Rattle.version_views.specs.declared.write.Write.TheVariants.{Clear}
 use Rattle.serial_history.specs.Serial.{after_all}
 use Rattle.serial_history.specs.RemainingPairs.{IsStart, remaining_pairs, run_within}
 use Rattle.serial_history.specs.declared.transaction.Transaction.{Transaction}

@@ -1,8 +1,8 @@
 -- Runs of transactions.
 use Rattle.std.proofs.Common.{◌≡◌, ℕ, ◌≤◌, zero, suc, List, [], ◌∷◌, ◌++◌, length, take, refl, ap, arith}
 use Rattle.std.specs.declared.cmp.Ordering.{Ordering}
-use Rattle.versions.specs.Writes.{after_write, after_writes, replies_to}
-use Rattle.versions.specs.declared.write.Write.{Write}
+use Rattle.version_views.specs.Writes.{after_write, after_writes, replies_to}
+use Rattle.version_views.specs.declared.write.Write.{Write}
 use Rattle.serial_history.specs.Serial.{after_all, IsSerial, IsValid}
 use Rattle.serial_history.specs.declared.transaction.Transaction.{Transaction}
 

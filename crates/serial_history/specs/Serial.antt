@@ -2,7 +2,7 @@
 use Rattle.std.specs.Prelude.{◌≡◌, ℕ, ◌<◌, List, [], ◌∷◌, length}
 use Rattle.std.specs.declared.cmp.Ordering.{Ordering}
 use Rattle.std.specs.List.{All, AllWithin, HoldsAt}
-use Rattle.versions.specs.Writes.{after_writes, replies_to}
+use Rattle.version_views.specs.Writes.{after_writes, replies_to}
 use Rattle.serial_history.specs.Answers.{answer_to}
 use Rattle.serial_history.specs.declared.query.Query.{Query}
 use Rattle.serial_history.specs.declared.query.Answer.{Answer}

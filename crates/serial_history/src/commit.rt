@@ -1,6 +1,6 @@
 //! What a commit is answered.
 
-use versions::{Reply, Write};
+use version_views::{Reply, Write};
 
 /// An accepted commit.
 #[derive(Clone, Debug, PartialEq, Eq, Drop)]

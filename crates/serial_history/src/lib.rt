@@ -28,4 +28,4 @@ pub use query::{Answer, Near, Query};
 pub use seq::{Seq, clones_of_lists, equals_of_lists};
 pub use transaction::{Audit, Receipt, Recorded, Transaction};
 pub use version_view::{Nearby, Walk};
-pub use versions::{Reply, Write};
+pub use version_views::{Reply, Write};

@@ -4,8 +4,8 @@ ghost use Rattle.std.specs.Prelude.{◌≡◌, ◌≤◌, [], List, IfOk, IfSome
 ghost use Rattle.std.specs.Option.{unwrap_or};
 ghost use Rattle.std.specs.declared.ops.Bound.TheVariants.{Unbounded};
 ghost use Rattle.leaf_array.specs.Values.{ClonesAreSame};
-ghost use Rattle.versions.specs.Cuts.{pairs_in};
-ghost use Rattle.versions.specs.Writes.{after_write, after_writes};
+ghost use Rattle.version_views.specs.Cuts.{pairs_in};
+ghost use Rattle.version_views.specs.Writes.{after_write, after_writes};
 ghost use Rattle.serial_history.specs.Serial.{after_all};
 ghost use Rattle.serial_history.specs.RemainingPairs.{IsStart};
 
@@ -17,7 +17,7 @@ use crate::version_view::walk_all;
 use std::alloc::{AllocError, Global};
 use std::ops::Bound;
 use tree_index::{InsertRefused, Proximity, TreeIndex};
-use versions::{Trees, VersionView, Write};
+use version_views::{Trees, VersionView, Write};
 
 /// The list that transactions leave of a version's, or of the empty one where none is given: from the last of them on that
 /// removes all pairs, if there is one. Refused where memory is.

@@ -6,7 +6,7 @@ ghost use Rattle.leaf_array.specs.Values.{ClonesAreSame};
 use crate::query::{Answer, Query};
 use crate::seq::Seq;
 use std::alloc::{AllocError, Global};
-use versions::{Reply, Write};
+use version_views::{Reply, Write};
 
 /// A recorded read: a query, and the answer that was given to it or is claimed of it.
 pub type Recorded<K, V> = (Query<K>, Answer<K, V>);

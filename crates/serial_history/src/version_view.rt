@@ -4,7 +4,7 @@ ghost use Rattle.std.specs.Prelude.{◌≡◌, ◌≤◌, ◌<◌, ◌+◌, ◌^
 ghost use Rattle.std.specs.Option.{option_copied};
 ghost use Rattle.std.specs.declared.ops.Bound.TheVariants.{Unbounded};
 ghost use Rattle.leaf_array.specs.Pairs.{value_of_key};
-ghost use Rattle.versions.specs.Cuts.{pairs_in};
+ghost use Rattle.version_views.specs.Cuts.{pairs_in};
 ghost use Rattle.serial_history.specs.Answers.{behind, near};
 ghost use Rattle.serial_history.specs.RemainingPairs.{IsStart};
 
@@ -13,7 +13,7 @@ use crate::query::Near;
 use crate::scan::{Steps, collect, matches};
 use std::alloc::{AllocError, Global};
 use std::ops::Bound;
-use versions::{LocalNearby, LocalWalk, Trees, VersionView};
+use version_views::{LocalNearby, LocalWalk, Trees, VersionView};
 
 /// A cursor over the list of a session, within two bounds or without any.
 pub type Walk<'a, K, V, const S: usize> = LocalWalk<'a, K, V, S>;
@@ -21,7 +21,7 @@ pub type Walk<'a, K, V, const S: usize> = LocalWalk<'a, K, V, S>;
 /// Where a key stands in the list of a session, with a cursor there.
 pub type Nearby<'a, K, V, const S: usize> = LocalNearby<'a, K, V, S>;
 
-impl<'t, K: Ord, V, W: Trees<K, V>> Steps<'t, K, V> for versions::Walk<'t, K, V, W> {
+impl<'t, K: Ord, V, W: Trees<K, V>> Steps<'t, K, V> for version_views::Walk<'t, K, V, W> {
     ghost cursor = { λ c. c };
 
     fn step(&mut self) -> Option<(&'t K, &'t V)> {
@@ -61,7 +61,7 @@ pub fn value_in_counted<'w, K: Ord, V, W: Trees<K, V>>(
 /// A walk along all pairs of a version.
 pub(crate) fn walk_all<'w, K: Ord, V, W: Trees<K, V>>(
     version: &VersionView<'w, K, V, W>,
-) -> versions::Walk<'w, K, V, W>
+) -> version_views::Walk<'w, K, V, W>
     ensures start { IsStart K.cmp result }
     ensures pairs { result.pairs ≡ pairs_in version.now }
     ensures lower { result.lower ≡ Unbounded }
@@ -76,7 +76,7 @@ fn walk_within<'a, K: Ord, V, W: Trees<K, V>>(
     version: &VersionView<'a, K, V, W>,
     lower: &'a Bound<K>,
     upper: &'a Bound<K>,
-) -> versions::Walk<'a, K, V, W>
+) -> version_views::Walk<'a, K, V, W>
     ensures start { IsStart K.cmp result }
     ensures pairs { result.pairs ≡ pairs_in version.now }
     ensures lower { result.lower ≡ lower.now }
@@ -95,11 +95,11 @@ fn near_in<'w, K: Ord, V, W: Trees<K, V>>(
 {
     version.laws();
     match version.locate(key) {
-        versions::Nearby::Exact(at) => around(at.get(), None, None),
-        versions::Nearby::Between(at) => around(None, at.get(), at.get_back()),
-        versions::Nearby::Smaller(at) => around(None, at.get_back(), None),
-        versions::Nearby::Larger(at) => around(None, None, at.get()),
-        versions::Nearby::Empty => Near::Empty,
+        version_views::Nearby::Exact(at) => around(at.get(), None, None),
+        version_views::Nearby::Between(at) => around(None, at.get(), at.get_back()),
+        version_views::Nearby::Smaller(at) => around(None, at.get_back(), None),
+        version_views::Nearby::Larger(at) => around(None, None, at.get()),
+        version_views::Nearby::Empty => Near::Empty,
     }
 }
 

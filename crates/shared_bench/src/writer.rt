@@ -9,7 +9,7 @@ use shared_index::{Naming, Share};
 use std::alloc::Global;
 use std::sync::Wait;
 use std::time::{Clock, Instant};
-use versions::Write;
+use version_views::Write;
 
 /// What a committer did: the nanoseconds of each commit that was accepted, and how many were refused.
 #[derive(Drop)]

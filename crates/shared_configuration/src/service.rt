@@ -13,7 +13,7 @@ use std::alloc::Global;
 use std::sync::Wait;
 use std::sync::ledger::Blank;
 use std::thread::Threads;
-use versions::Write;
+use version_views::Write;
 
 /// What the place has in its slots.
 pub(crate) type Item = Node<u64, u64>;

@@ -6,7 +6,7 @@ use Rattle.atomic_table.specs.Seated.{TableId}
 use Rattle.sdd_base.specs.declared.sizes.Sizes.{Sizes}
 use Rattle.sdd_domain.specs.Tokens.{hand_of}
 use Rattle.sdd_domain.specs.declared.local.Local.{Local}
-use Rattle.versions.specs.Writes.{after_writes, replies_to}
+use Rattle.version_views.specs.Writes.{after_writes, replies_to}
 use Rattle.serial_history.specs.Serial.{Holds, after_all}
 use Rattle.serial_history.specs.declared.transaction.Transaction.{Transaction}
 use Rattle.serial_history.proofs.RunLemmas.{IsSerial-push, after_all-push}

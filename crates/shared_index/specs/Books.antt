@@ -2,10 +2,10 @@
 use Rattle.std.specs.Prelude.{◌≡◌, ◌≢◌, ℕ, ◌+◌, ◌<◌, ◌≤◌, List, [], length, take}
 use Rattle.std.specs.declared.cmp.Ordering.{Ordering}
 use Rattle.std.specs.List.{All}
-use Rattle.versions.specs.Writes.{replies_to}
-use Rattle.versions.specs.declared.write.Write.{Write}
-use Rattle.versions.specs.declared.store.local.WriteRefused.{WriteRefused}
-use Rattle.versions.specs.declared.store.local.WriteRefused.TheVariants as writes
+use Rattle.version_views.specs.Writes.{replies_to}
+use Rattle.version_views.specs.declared.write.Write.{Write}
+use Rattle.version_views.specs.declared.write.WriteRefused.{WriteRefused}
+use Rattle.version_views.specs.declared.write.WriteRefused.TheVariants as writes
 use Rattle.serial_history.specs.Serial.{Read, after_all, Holds, IsFirstConflict}
 use Rattle.serial_history.specs.declared.transaction.Audit.{Audit}
 use Rattle.serial_history.specs.declared.transaction.Audit.TheVariants as audits

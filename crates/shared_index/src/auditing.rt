@@ -9,7 +9,7 @@ use serial_history::replay::replay;
 use shared_versions::Version;
 use std::alloc::{AllocError, Global};
 use tree_index::TreeIndex;
-use versions::VersionView;
+use version_views::VersionView;
 
 /// The list that transactions leave of the empty one. Refused where memory is.
 pub(crate) fn rebuilt<K: Clone + Ord, V: Clone>(

@@ -8,7 +8,7 @@ ghost use Rattle.sdd_domain.specs.Cells.{cell_number};
 ghost use Rattle.sdd_domain.specs.Tokens.{place_of, misses_of, cell_count};
 ghost use Rattle.shared_index.specs.Books.{CanCommit, CanRefuse, IsAuditOf, list_after, misses_after, misses_without, next_transaction, present_list};
 ghost use Rattle.shared_index.specs.Invariant.{IsUnengaged};
-ghost use Rattle.versions.specs.Writes.{replies_to};
+ghost use Rattle.version_views.specs.Writes.{replies_to};
 
 use crate::auditing::rebuilt;
 use crate::commit::{begin, install};
@@ -23,9 +23,9 @@ use serial_history::{Accepted, Audit, Cause, Receipt, Recorded, Refused, Seq, Tr
 use shared_versions::{Node, Present, reclaim};
 use std::alloc::{AllocError, Global};
 use std::marker::Model;
-use std::sync::ledger;
 use std::sync::ledger::Blank;
-use versions::{Reply, Write, WriteRefused};
+use std::sync::ledger;
+use version_views::{Reply, Write, WriteRefused};
 
 /// Why no index was made.
 #[derive(Clone, Copy, Debug, PartialEq, Eq)]

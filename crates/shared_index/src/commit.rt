@@ -7,14 +7,14 @@ ghost use Rattle.sdd_domain.specs.Tokens.{place_of, home_of, hand_of, misses_of,
 ghost use Rattle.shared_versions.specs.Drafts.{list_of};
 ghost use Rattle.shared_versions.specs.Placing.{IsStillButMisses};
 ghost use Rattle.shared_index.specs.Books.{misses_told};
-ghost use Rattle.versions.specs.Writes.{after_writes, replies_to};
+ghost use Rattle.version_views.specs.Writes.{after_writes, replies_to};
 
 use sdd_domain::atomic_shared::AtomicShared;
 use sdd_domain::domain::Domain;
 use sdd_domain::local::Local;
 use shared_versions::{NoSlot, Node, Present, build, publish};
 use std::alloc::Global;
-use versions::{Reply, Write, WriteRefused};
+use version_views::{Reply, Write, WriteRefused};
 
 /// Builds the version that writes make of the present one, places it, and has the cell name it: what each write is told.
 /// Where it is refused, the present version is as it was; for want of a slot, that is one miss of the participant.

@@ -21,7 +21,7 @@ use std::alloc::{AllocError, Global};
 use std::marker::Model;
 use std::sync::ledger::Blank;
 use std::sync::{Mutex, MutexGuard, Wait};
-use versions::Write;
+use version_views::Write;
 
 /// An index that threads share by `&`: a [`Book`] behind a lock, and beside it the cell that names the present version, which
 /// is read without the lock.

@@ -1,19 +1,19 @@
 //! The calls of an index that threads share, each under its lock.
 
-ghost use Rattle.shared_index_tests.specs.Scenes.{CanBegin};
+ghost use Rattle.shared_index_scenes.specs.Scenes.{CanBegin};
 
-use crate::scene::{Item, ROOM, end, got, member, sized, two};
 use crate::tasks::{begun, closed, put, swap, taken};
 use sdd_domain::domain::Domain;
 use sdd_domain::local::Local;
 use serial_history::{Accepted, Audit, Receipt, Refused, Reply};
 use shared_index::Naming;
+use shared_index_scenes::{Item, ROOM, end, got, member, sized, two};
 use std::alloc::{AllocError, Global};
 use std::marker::Brand;
 use std::process::Abort;
 use std::sync::Wait;
 use std::sync::ledger::Blank;
-use versions::Write;
+use version_views::Write;
 
 /// What is found with two shares: what commits of one key tell that rest on its value, the counts of the shares, how many
 /// shares there are at first and where one is missing, and the number.

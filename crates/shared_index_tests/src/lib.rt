@@ -1,12 +1,6 @@
-//! Tests of `shared_index`, apart from it so that its proofs aren't made twice.
+//! Tests of the index of `shared_index`, which threads share.
 #![tactic(auto)]
 
-#[cfg(test)]
-mod audits;
-#[cfg(test)]
-mod causes;
-#[cfg(test)]
-mod commits;
 #[cfg(test)]
 mod crowd;
 #[cfg(test)]
@@ -16,13 +10,7 @@ mod joined;
 #[cfg(test)]
 mod own_commits;
 #[cfg(test)]
-mod refusals;
-#[cfg(test)]
-mod scene;
-#[cfg(test)]
 mod sharing;
-#[cfg(test)]
-mod table;
 #[cfg(test)]
 mod tasks;
 #[cfg(test)]

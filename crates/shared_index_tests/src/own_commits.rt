@@ -5,14 +5,14 @@ ghost use Rattle.sdd_domain.specs.Tokens.{home_of, own_of, IsSame};
 
 use crate::joined::Task::{ReadsBack, Rests};
 use crate::joined::{Crowd, first_wrong};
-use crate::scene::Item;
 use crate::tasks::Numbers;
 use sdd_domain::local::Local;
 use serial_history::{Accepted, Answer, Audit, Query, Receipt};
 use shared_index::{Naming, Share};
+use shared_index_scenes::Item;
 use std::alloc::Global;
 use std::sync::Wait;
-use versions::Write;
+use version_views::Write;
 
 /// Commits an upsert that rests on nothing: its number, if it was accepted.
 fn raised<L: Naming, R: Wait>(

@@ -6,9 +6,8 @@
 
 ghost use Rattle.std.specs.Prelude.{◌≡◌};
 ghost use Rattle.sdd_domain.specs.Tokens.{home_of, own_of, IsSame};
-ghost use Rattle.shared_index_tests.specs.Scenes.{CanBegin};
+ghost use Rattle.shared_index_scenes.specs.Scenes.{CanBegin};
 
-use crate::scene::{Item, ROOM, end, member, range};
 use crate::tasks::{
     Numbers, all, begun, closed, listed, place_for, put, taken, write, write_often,
 };
@@ -16,6 +15,7 @@ use sdd_domain::domain::Domain;
 use sdd_domain::local::Local;
 use serial_history::{Answer, Audit, Receipt, Seq};
 use shared_index::{Naming, Share, join_over};
+use shared_index_scenes::{Item, ROOM, end, member, range};
 use shared_sessions::SharedWalk;
 use std::alloc::{AllocError, Global};
 use std::marker::Brand;
@@ -23,7 +23,7 @@ use std::process::Abort;
 use std::sync::ledger::Blank;
 use std::sync::{Condvar, Mutex, MutexGuard, Wait};
 use std::thread::Threads;
-use versions::Write;
+use version_views::Write;
 
 /// The first commit: ten pairs, which take five segments of two at least.
 fn ten<R: Abort>(rt: &R, alloc: Global) -> Vec<Write<u64, u64>> {

@@ -11,8 +11,8 @@ use Rattle.std.proofs.lemmas.List.Elements.{All-nil, All-cons}
 use Rattle.sdd_domain.specs.Holding.{IsHeldOf}
 use Rattle.sdd_domain.specs.declared.held.Held.{Held}
 use Rattle.tree_index.specs.Tree.{Tree}
-use Rattle.versions.specs.Cuts.{IsCut, pairs_in}
-use Rattle.versions.specs.declared.directory.Directory.{Directory}
+use Rattle.version_views.specs.Cuts.{IsCut, pairs_in}
+use Rattle.version_views.specs.declared.directory.Directory.{Directory}
 use Rattle.shared_versions.specs.Nodes.{IsSegment, IsWhole, OwnsSegment, owned_pairs, segment_pairs}
 use Rattle.shared_versions.specs.declared.node.Node.{Node}
 use Rattle.shared_versions.specs.declared.node.Node.TheVariants as nodes

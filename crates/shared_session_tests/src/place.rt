@@ -23,7 +23,7 @@ use shared_sessions::SharedSession;
 use shared_versions::{Node, Version};
 use std::alloc::{AllocError, Global};
 use std::process::Abort;
-use versions::{Directory, Segment};
+use version_views::{Directory, Segment};
 
 /// The items of the place: versions of numbers by numbers.
 pub type Item = Node<u64, u64>;

@@ -10,7 +10,7 @@ use std::alloc::Global;
 use std::ops::Bound;
 use std::process::Abort;
 use tree_index::Steps;
-use versions::Nearby;
+use version_views::Nearby;
 
 const ROOM: &str = "room for pairs";
 

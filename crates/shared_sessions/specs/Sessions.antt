@@ -3,7 +3,7 @@ use Rattle.std.specs.Prelude.{ℕ, List, [], Option, None, Some}
 use Rattle.serial_history.specs.declared.transaction.Receipt.{Receipt}
 use Rattle.shared_versions.specs.Readers.{Reading, blocks_in}
 use Rattle.shared_versions.specs.Sight.{Sight}
-use Rattle.versions.specs.Cuts.{pairs_in}
+use Rattle.version_views.specs.Cuts.{pairs_in}
 
 -- the nest of its guard; the number and the list of the version that it loaded; its receipt
 pub record OpenedSession (K V : Type 0) : Type 0 where

@@ -7,10 +7,10 @@ ghost use Rattle.leaf_array.specs.Values.{ClonesAreSame};
 ghost use Rattle.tree_index.specs.Cursor.{whole};
 ghost use Rattle.tree_index.specs.Proximity.{IsLocated};
 ghost use Rattle.tree_index.specs.declared.cursor.End.TheVariants.{Unopened};
-ghost use Rattle.versions.specs.Cuts.{pairs_in};
-ghost use Rattle.versions.specs.Nearby.{as_proximity};
-ghost use Rattle.versions.specs.Sizes.{segments_for};
-ghost use Rattle.versions.specs.Views.{cursor_within};
+ghost use Rattle.version_views.specs.Cuts.{pairs_in};
+ghost use Rattle.version_views.specs.Nearby.{as_proximity};
+ghost use Rattle.version_views.specs.Sizes.{segments_for};
+ghost use Rattle.version_views.specs.Views.{cursor_within};
 ghost use Rattle.serial_history.specs.Answers.{answer_to};
 
 use crate::session::SharedSession;
@@ -21,7 +21,7 @@ use shared_versions::Version;
 use std::alloc::AllocError;
 use std::ops::Bound;
 use tree_index::Steps;
-use versions::{Nearby, VersionView, Walk};
+use version_views::{Nearby, VersionView, Walk};
 
 /// A cursor over the list of a session, within two bounds or without any.
 pub type SharedWalk<'a, K, V> = Walk<'a, K, V, Version<K, V>>;

@@ -5,8 +5,8 @@ use shared_versions::{Draft, Node, Version, build};
 use std::ops::Bound;
 use std::process::Abort;
 use std::test::Fail;
-use versions::draft::BaseVersion;
-use versions::{Reply, Write};
+use version_drafts::draft::BaseVersion;
+use version_views::{Reply, Write};
 
 #[test]
 fn the_empty_draft_takes_one_slot(rt: HostRuntime) -> Result<(), Fail> {

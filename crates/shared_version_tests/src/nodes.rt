@@ -9,7 +9,7 @@ use sdd_domain::shared::Shared;
 use shared_versions::{Node, Present, Reader, Session, Version, view_of};
 use std::ops::Bound;
 use std::process::Abort;
-use versions::Segment;
+use version_views::Segment;
 
 /// The number, the width, how many segments and pairs a version has, and whether it has no pair of a key, and none at all.
 fn shown(version: &Version<u64, u64>, key: u64) -> (u64, usize, usize, usize, bool, bool) {

@@ -8,12 +8,12 @@ use Rattle.std.proofs.lemmas.List.Elements.{All-cons, All-head, All-nil, All-tai
 use Rattle.std.proofs.lemmas.List.Kept.{AllPairs-cons}
 use Rattle.leaf_array.specs.Pairs.{IsAscending}
 use Rattle.tree_index.specs.Shape.{AllKeys}
-use Rattle.versions.specs.Cuts.{pairs_in}
-use Rattle.versions.specs.Cutting.{IsSegmentSized}
-use Rattle.versions.specs.Parts.{blocks_of_parts, part_pairs}
-use Rattle.versions.specs.declared.building.segments.Part.{Part}
-use Rattle.versions.specs.declared.building.segments.Part.TheVariants as parts
-use Rattle.versions.proofs.FilterLemmas.{all_front, all_rear, rising_head, rising_rear}
+use Rattle.version_views.specs.Cuts.{pairs_in}
+use Rattle.version_drafts.specs.Cutting.{IsSegmentSized}
+use Rattle.version_drafts.specs.Parts.{blocks_of_parts, part_pairs}
+use Rattle.version_drafts.specs.declared.segments.Part.{Part}
+use Rattle.version_drafts.specs.declared.segments.Part.TheVariants as parts
+use Rattle.version_views.proofs.FilterLemmas.{all_front, all_rear, rising_head, rising_rear}
 use Rattle.shared_versions.specs.Drafts.{taken_from}
 use Rattle.shared_versions.specs.Placing.{AreApart}
 

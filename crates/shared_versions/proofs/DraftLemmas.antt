@@ -2,10 +2,10 @@
 use Rattle.std.proofs.Common.{ℕ, zero, suc, ◌<◌, ◌≤◌, List, [], ◌∷◌, length, get_or, arith}
 use Rattle.std.specs.List.{All}
 use Rattle.std.proofs.lemmas.List.Elements.{All-cons, All-head, All-nil, All-tail}
-use Rattle.versions.specs.Cutting.{IsSegmentSized}
-use Rattle.versions.specs.Parts.{blocks_of_parts}
-use Rattle.versions.specs.declared.building.segments.Part.{Part}
-use Rattle.versions.specs.declared.building.segments.Part.TheVariants as parts
+use Rattle.version_drafts.specs.Cutting.{IsSegmentSized}
+use Rattle.version_drafts.specs.Parts.{blocks_of_parts}
+use Rattle.version_drafts.specs.declared.segments.Part.{Part}
+use Rattle.version_drafts.specs.declared.segments.Part.TheVariants as parts
 use Rattle.shared_versions.specs.Drafts.{IsThere, pairs_at}
 use Rattle.shared_versions.specs.Sight.{Sight}
 

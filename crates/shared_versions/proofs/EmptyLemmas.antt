@@ -5,9 +5,9 @@ use Rattle.std.specs.Global.{Vec}
 use Rattle.std.specs.List.{All}
 use Rattle.std.proofs.lemmas.List.Elements.{All-nil}
 use Rattle.sdd_domain.specs.declared.held.Held.{Held}
-use Rattle.versions.specs.Cuts.{IsCut, pairs_in}
-use Rattle.versions.specs.declared.directory.Directory.{Directory}
-use Rattle.versions.proofs.BlockLemmas.{cut_nil}
+use Rattle.version_views.specs.Cuts.{IsCut, pairs_in}
+use Rattle.version_views.specs.declared.directory.Directory.{Directory}
+use Rattle.version_views.proofs.BlockLemmas.{cut_nil}
 use Rattle.shared_versions.specs.Nodes.{IsWhole, OwnsSegment, owned_pairs}
 use Rattle.shared_versions.specs.declared.node.Node.{Node}
 

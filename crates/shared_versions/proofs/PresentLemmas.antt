@@ -7,12 +7,12 @@ use Rattle.atomic_table.specs.Seated.{TableId}
 use Rattle.sdd_domain.specs.Sharing.{IsOwnerOf}
 use Rattle.sdd_domain.specs.declared.held.Held.{Held}
 use Rattle.sdd_domain.specs.declared.shared.Shared.{Shared}
-use Rattle.versions.specs.Cuts.{IsCut, pairs_in}
-use Rattle.versions.specs.Items.{segment_owners}
-use Rattle.versions.specs.Parts.{blocks_of_parts}
-use Rattle.versions.specs.Views.{blocks_at}
-use Rattle.versions.specs.declared.building.segments.Part.{Part}
-use Rattle.versions.specs.declared.directory.Directory.{Directory}
+use Rattle.version_views.specs.Cuts.{IsCut, pairs_in}
+use Rattle.version_views.specs.Items.{segment_owners}
+use Rattle.version_drafts.specs.Parts.{blocks_of_parts}
+use Rattle.version_views.specs.Views.{blocks_at}
+use Rattle.version_drafts.specs.declared.segments.Part.{Part}
+use Rattle.version_views.specs.declared.directory.Directory.{Directory}
 use Rattle.shared_versions.specs.Drafts.{IsPlaceable, IsWithinVersion, SharedPlan, blocks_planned}
 use Rattle.shared_versions.specs.Nodes.{IsWhole, OwnsSegment, owned_pairs}
 use Rattle.shared_versions.specs.Placing.{IsKeptSegment, IsOwnedIn, IsPresent, pairs_kept, pairs_kept_at, sight_in, version_owned}

@@ -11,8 +11,8 @@ use Rattle.std.proofs.option.Option.TheSendSync as options
 use Rattle.sdd_domain.specs.contracts.shared.Shared as shared
 use Rattle.sdd_domain.proofs.held.Held.TheSendSync as held
 use Rattle.sdd_domain.proofs.shared.Shared.TheSendSync as owners
-use Rattle.versions.proofs.directory.Directory.TheSendSync as directory
-use Rattle.versions.proofs.segment.Segment.TheSendSync as segment
+use Rattle.version_views.proofs.directory.Directory.TheSendSync as directory
+use Rattle.version_views.proofs.segment.Segment.TheSendSync as segment
 use Rattle.shared_versions.specs.contracts.node.Node as node
 use Rattle.shared_versions.specs.contracts.present.Present as present
 use Rattle.shared_versions.specs.contracts.present.Present.TheInside as inside

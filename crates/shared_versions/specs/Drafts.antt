@@ -2,11 +2,11 @@
 use Rattle.std.specs.Prelude.{◌≡◌, ℕ, ◌+◌, ◌*◌, ◌/◌, ◌<◌, ◌≤◌, List, [], Option, None, Some, get_or, length, vec_capacity}
 use Rattle.std.specs.List.{All}
 use Rattle.std.specs.declared.cmp.Ordering.{Ordering}
-use Rattle.versions.specs.Cuts.{IsCut, pairs_in}
-use Rattle.versions.specs.Parts.{blocks_of_parts, made_in}
-use Rattle.versions.specs.declared.building.segments.Part.{Part}
-use Rattle.versions.specs.declared.building.segments.Part.TheVariants as parts
-use Rattle.versions.specs.declared.building.segments.Segments.{Segments}
+use Rattle.version_views.specs.Cuts.{IsCut, pairs_in}
+use Rattle.version_drafts.specs.Parts.{blocks_of_parts, made_in}
+use Rattle.version_drafts.specs.declared.segments.Part.{Part}
+use Rattle.version_drafts.specs.declared.segments.Part.TheVariants as parts
+use Rattle.version_drafts.specs.declared.segments.Segments.{Segments}
 use Rattle.shared_versions.specs.Sight.{Sight}
 use Rattle.shared_versions.specs.declared.room.Room.{Room}
 

@@ -6,10 +6,10 @@ use Rattle.std.specs.Option.{option_map}
 use Rattle.std.specs.Prelude.{◌≡◌, length, ℕ, List, [], ◌∷◌, map, MatchOption, Option, None, Some, reverse}
 use Rattle.sdd_domain.specs.Holding.{told_of}
 use Rattle.sdd_domain.specs.declared.held.Held.{Held}
-use Rattle.versions.specs.Cuts.{IsCut, pairs_in}
-use Rattle.versions.specs.Items.{segment_owners}
-use Rattle.versions.specs.Views.{blocks_at}
-use Rattle.versions.specs.declared.directory.Directory.{Directory}
+use Rattle.version_views.specs.Cuts.{IsCut, pairs_in}
+use Rattle.version_views.specs.Items.{segment_owners}
+use Rattle.version_views.specs.Views.{blocks_at}
+use Rattle.version_views.specs.declared.directory.Directory.{Directory}
 use Rattle.shared_versions.specs.Sight.{Sight}
 use Rattle.shared_versions.specs.declared.node.Node.{Node}
 use Rattle.shared_versions.specs.declared.node.Node.TheVariants as nodes

@@ -2,7 +2,7 @@
 
 ghost use Rattle.std.specs.Prelude.{◌≡◌, ◌≤◌, ◌<◌, ◌+◌, ◌*◌, ◌/◌, ◌-◌, ◌^◌, [], IfOk, length};
 ghost use Rattle.leaf_array.specs.Values.{ClonesAreSame};
-ghost use Rattle.versions.specs.Writes.{after_writes, replies_to};
+ghost use Rattle.version_views.specs.Writes.{after_writes, replies_to};
 ghost use Rattle.shared_versions.specs.Drafts.{IsRoomFor, IsPlaceable, list_of, list_planned, slots_for};
 
 use crate::lending::view_of;
@@ -11,8 +11,8 @@ use crate::room::Room;
 use std::alloc::{AllocError, Global};
 use std::marker::Model;
 use tree_index::TreeIndex;
-use versions::draft::{BaseVersion, Segments, drafted, made_of};
-use versions::{Reply, Trees, Write};
+use version_drafts::draft::{BaseVersion, Segments, drafted, made_of};
+use version_views::{Reply, Trees, Write};
 
 /// A version that isn't placed yet: the number of its list, and its segments, of which some are those of an older version,
 /// by their places there.

@@ -5,7 +5,7 @@ ghost use Rattle.std.specs.Prelude.{◌≡◌};
 use crate::node::{Node, Version};
 use sdd_domain::held::Held;
 use tree_index::TreeIndex;
-use versions::{Trees, VersionView};
+use version_views::{Trees, VersionView};
 
 /// A version lends what its owners hold, without any step on a word of the place.
 impl<K: Ord, V> Trees<K, V> for Version<K, V> {

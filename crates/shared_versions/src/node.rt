@@ -3,14 +3,14 @@
 ghost use Rattle.std.specs.Prelude.{◌≡◌, ◌≤◌, ◌++◌, [], Some, map, option_copied, reverse};
 ghost use Rattle.std.specs.Option.{option_to_list};
 ghost use Rattle.sdd_domain.specs.Holding.{told_of};
-ghost use Rattle.versions.specs.Cuts.{IsCut};
+ghost use Rattle.version_views.specs.Cuts.{IsCut};
 ghost use Rattle.shared_versions.specs.Nodes.{IsSegment, IsWhole, TakesLast, segment_pairs, sight_of, version_of};
 
 use sdd_domain::held::Held;
 use std::alloc::Global;
 use std::marker::Model;
 use tree_index::TreeIndex;
-use versions::{Directory, Segment};
+use version_views::{Directory, Segment};
 
 /// A version: a directory whose owners hold its segments.
 ///

@@ -4,7 +4,7 @@ ghost use Rattle.std.specs.Prelude.{◌≡◌, ◌≤◌, ◌<◌, ◌+◌, [], 
 ghost use Rattle.std.specs.List.{All};
 ghost use Rattle.sdd_domain.specs.Holding.{all_told};
 ghost use Rattle.sdd_domain.specs.Tokens.{place_of, home_of, hand_of, misses_of};
-ghost use Rattle.versions.specs.Parts.{blocks_of_parts, part_pairs};
+ghost use Rattle.version_drafts.specs.Parts.{blocks_of_parts, part_pairs};
 ghost use Rattle.shared_versions.specs.Drafts.{IsWithinVersion, taken_from};
 ghost use Rattle.shared_versions.specs.Nodes.{OwnsSegment, owned_pairs};
 ghost use Rattle.shared_versions.specs.Placing.{IsKeptSegment, IsSegmentOf, IsStill, IsStillButMisses, IsToKeep, moved_from, pairs_kept, pairs_kept_at, pairs_owned, pairs_to_keep};
@@ -19,8 +19,8 @@ use sdd_domain::holding::hold_last;
 use sdd_domain::holds::Holds;
 use sdd_domain::local::Local;
 use sdd_domain::shared::Shared;
-use versions::Segment;
-use versions::draft::Part;
+use version_drafts::draft::Part;
+use version_views::Segment;
 
 /// Places a new segment, and gives two owners of it. Where it is refused, which is a miss, nothing is in use that wasn't before.
 fn place_segment<K: Ord + Drop, V: Drop>(

@@ -24,8 +24,8 @@ use sdd_domain::shared::Shared;
 use std::alloc::Global;
 use std::marker::Model;
 use std::mem;
-use versions::draft::Segments;
-use versions::{Directory, VersionView};
+use version_drafts::draft::Segments;
+use version_views::{Directory, VersionView};
 
 /// A version wasn't placed: too few slots are free, or an item has as many owners as it can have.
 #[derive(Clone, Copy, Debug, PartialEq, Eq)]

@@ -9,7 +9,7 @@ use crate::node::{Node, Version};
 use sdd_domain::guard::Guard;
 use sdd_domain::pointer::Loaded;
 use std::marker::Model;
-use versions::VersionView;
+use version_views::VersionView;
 
 /// The version that a cell was found to name under a guard, for as long as the guard is borrowed; none where it named
 /// nothing or no version.

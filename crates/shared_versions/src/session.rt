@@ -11,7 +11,7 @@ use crate::reader::Reader;
 use sdd_domain::guard::Guard;
 use sdd_domain::pointer::Loaded;
 use std::marker::Model;
-use versions::VersionView;
+use version_views::VersionView;
 
 /// Reads the version that was loaded under its guard, whatever is published meanwhile.
 ///

@@ -15,11 +15,11 @@ use Rattle.sdd_base.specs.declared.status.Cell.TheVariants as cell
 use Rattle.sdd_base.specs.declared.status.Status.TheVariants as status
 use Rattle.sdd_base.proofs.CountLemmas.{owners_are_counted}
 use Rattle.sdd_base.proofs.PlaceLemmas.{get_or-replicate_default}
-use Rattle.versions.specs.Items.{held_by, slots_of}
-use Rattle.versions.specs.Placing.{CanBeShared, HasVersion, IsLevelled, Places, Plan}
-use Rattle.versions.specs.declared.directory.Directory.{Directory}
-use Rattle.versions.specs.declared.item.Item.{Item}
-use Rattle.versions.specs.declared.item.Item.TheVariants as items
+use Rattle.version_views.specs.Items.{held_by, slots_of}
+use Rattle.version_drafts.specs.Placing.{CanBeShared, HasVersion, IsLevelled, Places, Plan}
+use Rattle.version_views.specs.declared.directory.Directory.{Directory}
+use Rattle.version_views.specs.declared.item.Item.{Item}
+use Rattle.version_views.specs.declared.item.Item.TheVariants as items
 use Rattle.versions.proofs.SharingLemmas.{segments_can_be_shared}
 
 module _ {K V : Type 0} {s : ℕ} where

@@ -3,8 +3,8 @@
 ghost use Rattle.std.specs.Prelude.{◌≡◌, ◌≤◌, [], IfOk, map, slice_get};
 ghost use Rattle.std.specs.Option.{option_map_or};
 ghost use Rattle.std.specs.Ordering.{nat_cmp};
-ghost use Rattle.versions.specs.Cuts.{IsCut};
-ghost use Rattle.versions.specs.Parts.{blocks_of_parts, part_pairs};
+ghost use Rattle.version_views.specs.Cuts.{IsCut};
+ghost use Rattle.version_drafts.specs.Parts.{blocks_of_parts, part_pairs};
 
 use std::alloc::{AllocError, Global};
 use std::ops::Bound;

@@ -7,9 +7,9 @@ ghost use Rattle.sdd_base.specs.Holding.{SharedItem};
 ghost use Rattle.sdd_base.specs.Place.{IsShared};
 ghost use Rattle.sdd_base.specs.State.{value_at};
 ghost use Rattle.sdd_base.specs.Tokens.{shared_slot};
-ghost use Rattle.versions.specs.Items.{held_by};
-ghost use Rattle.versions.specs.Placing.{HasVersion};
-ghost use Rattle.versions.specs.Versions.{IsVersion};
+ghost use Rattle.version_views.specs.Items.{held_by};
+ghost use Rattle.version_drafts.specs.Placing.{HasVersion};
+ghost use Rattle.version_views.specs.Versions.{IsVersion};
 
 use sdd_base::job::NoJob;
 use sdd_base::owner::{Kept, Shared};

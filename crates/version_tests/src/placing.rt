@@ -5,8 +5,8 @@ ghost use Rattle.sdd_base.specs.Counting.{Counted};
 ghost use Rattle.sdd_base.specs.Holding.{Hold};
 ghost use Rattle.sdd_base.specs.State.{value_at};
 ghost use Rattle.std.specs.Ordering.{nat_cmp};
-ghost use Rattle.versions.specs.Items.{held_by};
-ghost use Rattle.versions.specs.Versions.{IsVersion};
+ghost use Rattle.version_views.specs.Items.{held_by};
+ghost use Rattle.version_views.specs.Versions.{IsVersion};
 
 use sdd_base::job::NoJob;
 use sdd_base::owner::{Kept, Shared};

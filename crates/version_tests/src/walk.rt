@@ -6,8 +6,8 @@ ghost use Rattle.sdd_base.specs.Counting.{Counted};
 ghost use Rattle.sdd_base.specs.Holding.{SharedItem};
 ghost use Rattle.sdd_base.specs.Place.{IsShared};
 ghost use Rattle.sdd_base.specs.Tokens.{shared_slot};
-ghost use Rattle.versions.specs.Items.{held_by};
-ghost use Rattle.versions.specs.Placing.{HasVersion};
+ghost use Rattle.version_views.specs.Items.{held_by};
+ghost use Rattle.version_drafts.specs.Placing.{HasVersion};
 
 use sdd_base::job::NoJob;
 use sdd_base::owner::Shared;

@@ -15,12 +15,12 @@ use Rattle.sdd_base.specs.declared.tag.Tag.{Tag}
 use Rattle.sdd_base.specs.declared.status.Status.{Status}
 use Rattle.sdd_base.specs.declared.status.Status.TheVariants as status
 use Rattle.sdd_base.proofs.ListLemmas.{hit-same, hit-other}
-use Rattle.versions.specs.Items.{held_by, slots_of}
-use Rattle.versions.specs.Placing.{IsLevelled, IsNoDirectory}
+use Rattle.version_views.specs.Items.{held_by, slots_of}
+use Rattle.version_drafts.specs.Placing.{IsLevelled, IsNoDirectory}
 use Rattle.sdd_base.specs.declared.owner.Kept.{Kept}
-use Rattle.versions.specs.declared.directory.Directory.{Directory}
-use Rattle.versions.specs.declared.item.Item.{Item}
-use Rattle.versions.specs.declared.item.Item.TheVariants as items
+use Rattle.version_views.specs.declared.directory.Directory.{Directory}
+use Rattle.version_views.specs.declared.item.Item.{Item}
+use Rattle.version_views.specs.declared.item.Item.TheVariants as items
 use Rattle.versions.proofs.PlacingLemmas.{tally_reverse}
 
 -- a sum that isn't zero has a term that isn't

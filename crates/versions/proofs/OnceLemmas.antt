@@ -11,10 +11,10 @@ use Rattle.sdd_base.specs.Steps.{hit, times}
 use Rattle.sdd_base.proofs.ListLemmas.{hit-same, hit-other}
 use Rattle.leaf_array.specs.Pairs.{IsAscending}
 use Rattle.tree_index.specs.Shape.{AllKeys}
-use Rattle.versions.specs.Cuts.{IsCut, pairs_in}
-use Rattle.versions.specs.Cutting.{IsSegmentSized}
-use Rattle.versions.specs.Placing.{slots_in}
-use Rattle.versions.proofs.FilterLemmas.{all_front, all_rear, rising_head, rising_rear}
+use Rattle.version_views.specs.Cuts.{IsCut, pairs_in}
+use Rattle.version_drafts.specs.Cutting.{IsSegmentSized}
+use Rattle.version_drafts.specs.Placing.{slots_in}
+use Rattle.version_views.proofs.FilterLemmas.{all_front, all_rear, rising_head, rising_rear}
 
 -- the slots that things name
 abbrev pub slots_by : {X : Type 0} → (X → Option ℕ) → List X → List ℕ

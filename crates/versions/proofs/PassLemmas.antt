@@ -19,12 +19,12 @@ use Rattle.sdd_base.specs.declared.tag.Tag.TheVariants as tag
 use Rattle.sdd_base.proofs.FrameLemmas.{keeps_closed, keeps_local, nests_local, only_local}
 use Rattle.sdd_base.proofs.PlaceLemmas.{place_closed, place_local}
 use Rattle.sdd_base.proofs.IdleParticipantLemmas.{gives_only}
-use Rattle.versions.specs.Items.{held_by, slots_of}
+use Rattle.version_views.specs.Items.{held_by, slots_of}
 use Rattle.versions.specs.Reclaiming.{IsRooted}
-use Rattle.versions.specs.Versions.{blocks_of, segment_pairs}
-use Rattle.versions.proofs.BlockListLemmas.{blocks_fit}
-use Rattle.versions.specs.declared.item.Item.{Item}
-use Rattle.versions.specs.Sizes.{room_for}
+use Rattle.version_views.specs.Versions.{blocks_of, segment_pairs}
+use Rattle.version_views.proofs.BlockListLemmas.{blocks_fit}
+use Rattle.version_views.specs.declared.item.Item.{Item}
+use Rattle.version_views.specs.Sizes.{room_for}
 use Rattle.versions.specs.Store.{IsReader, IsStore, Store, Version, store_of, version_in}
 use Rattle.versions.specs.declared.store.readers.Opened.{Opened}
 use Rattle.versions.proofs.ReclaimLemmas.{counted_passed, levelled_after, passes_leave_one}

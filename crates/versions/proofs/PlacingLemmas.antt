@@ -18,18 +18,18 @@ use Rattle.sdd_base.proofs.ListLemmas.{hit-same}
 use Rattle.tree_index.specs.Tree.{Tree}
 use Rattle.std.specs.List.{All}
 use Rattle.std.proofs.lemmas.List.Elements.{All-push}
-use Rattle.versions.specs.Cuts.{IsCut, pairs_in}
-use Rattle.versions.specs.Items.{held_by, slots_of}
+use Rattle.version_views.specs.Cuts.{IsCut, pairs_in}
+use Rattle.version_views.specs.Items.{held_by, slots_of}
 use Rattle.std.specs.Cmp.{IsTotalOrder}
 use Rattle.sdd_base.specs.Steps.{times}
-use Rattle.versions.specs.Parts.{blocks_of_parts, made_in}
-use Rattle.versions.specs.Placing.{IsNoDirectory, IsLevelled, AddsItems, StandsIn, Places, Plan, list_planned, named_at}
+use Rattle.version_drafts.specs.Parts.{blocks_of_parts, made_in}
+use Rattle.version_drafts.specs.Placing.{IsNoDirectory, IsLevelled, AddsItems, StandsIn, Places, Plan, list_planned, named_at}
 use Rattle.versions.proofs.OnceLemmas.{slots_once}
-use Rattle.versions.specs.Versions.{IsSegment, segment_pairs, blocks_of}
+use Rattle.version_views.specs.Versions.{IsSegment, segment_pairs, blocks_of}
 use Rattle.sdd_base.specs.declared.owner.Kept.{Kept}
-use Rattle.versions.specs.declared.directory.Directory.{Directory}
-use Rattle.versions.specs.declared.item.Item.{Item}
-use Rattle.versions.specs.declared.item.Item.TheVariants as items
+use Rattle.version_views.specs.declared.directory.Directory.{Directory}
+use Rattle.version_views.specs.declared.item.Item.{Item}
+use Rattle.version_views.specs.declared.item.Item.TheVariants as items
 
 -- a list of places without a free one has no vacancy
 pub no_vacancy : (ss : List Status) → ((i : ℕ) → i < length ss → get_or ss i status.Free ≢ status.Free) → sum_by vacancy ss ≡ 0

@@ -25,17 +25,17 @@ use Rattle.sdd_base.proofs.CountLemmas.{owners_are_counted}
 use Rattle.sdd_base.proofs.PlaceLemmas.{get_or-replicate_default, place_by}
 use Rattle.sdd_base.proofs.IdleParticipantLemmas.{gives_only}
 use Rattle.sdd_base.proofs.BagInvariantLemmas.{Gives, gives_released_as}
-use Rattle.versions.specs.Items.{held_by}
+use Rattle.version_views.specs.Items.{held_by}
 use Rattle.versions.specs.Reclaiming.{IsRootless}
-use Rattle.versions.specs.Placing.{HasVersion, IsLevelled, IsPlaceable, Places, Plan, list_planned, slots_for}
-use Rattle.versions.specs.declared.item.Item.{Item}
-use Rattle.versions.proofs.FilterLemmas.{rising_none}
+use Rattle.version_drafts.specs.Placing.{HasVersion, IsLevelled, IsPlaceable, Places, Plan, list_planned, slots_for}
+use Rattle.version_views.specs.declared.item.Item.{Item}
+use Rattle.version_views.proofs.FilterLemmas.{rising_none}
 use Rattle.versions.proofs.PlacingLemmas.{keeps_then}
 use Rattle.versions.proofs.ReclaimLemmas.{levelled_after}
 use Rattle.versions.proofs.StayingLemmas.{versions_stay}
 use Rattle.versions.specs.Store.{IsReader, IsStore, Version, no_version, read_by, store_of, version_in}
 use Rattle.versions.specs.declared.store.readers.Opened.{Opened}
-use Rattle.versions.proofs.OptionLemmas.{map-none}
+use Rattle.version_views.proofs.OptionLemmas.{map-none}
 use Rattle.versions.proofs.StoreLemmas.{Moves, store_moved, version_is, writer_closed, writer_known, writer_reads, writer_shows}
 
 -- each slot of a plain place is free or in use

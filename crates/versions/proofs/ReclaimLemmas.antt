@@ -20,13 +20,13 @@ use Rattle.sdd_base.proofs.FrameLemmas.{keeps_opened}
 use Rattle.sdd_base.proofs.ListLemmas.{hit-same}
 use Rattle.sdd_base.proofs.PassLemmas.{passes_reclaim}
 use Rattle.sdd_base.proofs.IdleParticipantLemmas.{gives_only}
-use Rattle.versions.specs.Items.{held_by, slots_of}
-use Rattle.versions.specs.Placing.{IsLevelled, IsNoDirectory}
+use Rattle.version_views.specs.Items.{held_by, slots_of}
+use Rattle.version_drafts.specs.Placing.{IsLevelled, IsNoDirectory}
 use Rattle.versions.specs.Reclaiming.{IsRooted, PassesLeaveOne}
 use Rattle.sdd_base.specs.declared.owner.Kept.{Kept}
-use Rattle.versions.specs.declared.directory.Directory.{Directory}
-use Rattle.versions.specs.declared.item.Item.{Item}
-use Rattle.versions.specs.declared.item.Item.TheVariants as items
+use Rattle.version_views.specs.declared.directory.Directory.{Directory}
+use Rattle.version_views.specs.declared.item.Item.{Item}
+use Rattle.version_views.specs.declared.item.Item.TheVariants as items
 use Rattle.versions.proofs.NoGarbageLemmas.{holds_segments, one_left}
 
 module _ {K V : Type 0} {s : ℕ} where

@@ -11,12 +11,12 @@ use Rattle.sdd_base.specs.Steps.{held_in, hit, times}
 use Rattle.sdd_base.specs.declared.owner.Kept.{Kept}
 use Rattle.sdd_base.specs.declared.status.Cell.{Cell}
 use Rattle.sdd_base.specs.declared.status.Cell.TheVariants as cell
-use Rattle.versions.specs.Items.{held_by, slots_of}
-use Rattle.versions.specs.Placing.{CanBeShared, IsLevelled}
+use Rattle.version_views.specs.Items.{held_by, slots_of}
+use Rattle.version_drafts.specs.Placing.{CanBeShared, IsLevelled}
 use Rattle.versions.specs.Store.{IsStore}
-use Rattle.versions.specs.declared.directory.Directory.{Directory}
-use Rattle.versions.specs.declared.item.Item.{Item}
-use Rattle.versions.specs.declared.item.Item.TheVariants as items
+use Rattle.version_views.specs.declared.directory.Directory.{Directory}
+use Rattle.version_views.specs.declared.item.Item.{Item}
+use Rattle.version_views.specs.declared.item.Item.TheVariants as items
 use Rattle.versions.specs.declared.store.readers.Opened.{Opened}
 use Rattle.versions.proofs.PlacingLemmas.{tally_reverse}
 use Rattle.versions.proofs.StayingLemmas.{versions_stay}

@@ -9,15 +9,15 @@ use Rattle.sdd_base.specs.Place.{IsOpen, IsPlace, IsShared}
 use Rattle.sdd_base.specs.State.{State, value_at}
 use Rattle.sdd_base.proofs.CountLemmas.{owners_are_counted}
 use Rattle.sdd_base.proofs.FrameLemmas.{owned_protected}
-use Rattle.versions.specs.Cuts.{IsCut, pairs_in}
-use Rattle.versions.specs.Items.{held_by, slots_of}
-use Rattle.versions.specs.Placing.{HasVersion}
+use Rattle.version_views.specs.Cuts.{IsCut, pairs_in}
+use Rattle.version_views.specs.Items.{held_by, slots_of}
+use Rattle.version_drafts.specs.Placing.{HasVersion}
 use Rattle.versions.specs.Staying.{IsSeen, VersionsStay}
-use Rattle.versions.specs.Versions.{IsSegment, blocks_of, segment_pairs}
+use Rattle.version_views.specs.Versions.{IsSegment, blocks_of, segment_pairs}
 use Rattle.sdd_base.specs.declared.owner.Kept.{Kept}
-use Rattle.versions.specs.declared.directory.Directory.{Directory}
-use Rattle.versions.specs.declared.item.Item.{Item}
-use Rattle.versions.specs.declared.item.Item.TheVariants as items
+use Rattle.version_views.specs.declared.directory.Directory.{Directory}
+use Rattle.version_views.specs.declared.item.Item.{Item}
+use Rattle.version_views.specs.declared.item.Item.TheVariants as items
 use Rattle.versions.proofs.PlacingLemmas.{map_same, owner_at, tally_reverse}
 
 module _ {K V : Type 0} {s : ℕ} (cmp : K → K → Ordering) where

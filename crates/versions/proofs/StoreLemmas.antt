@@ -26,15 +26,15 @@ use Rattle.sdd_base.proofs.FrameLemmas.{keeps_closed, keeps_opened}
 use Rattle.sdd_base.proofs.PlaceLemmas.{place_closed, place_opened}
 use Rattle.sdd_base.proofs.IdleParticipantLemmas.{gives_only}
 use Rattle.sdd_base.proofs.ListLemmas.{hit-same}
-use Rattle.versions.specs.Items.{held_by}
-use Rattle.versions.specs.Placing.{HasVersion, IsLevelled}
-use Rattle.versions.specs.Versions.{list_of}
-use Rattle.versions.specs.declared.item.Item.{Item}
+use Rattle.version_views.specs.Items.{held_by}
+use Rattle.version_drafts.specs.Placing.{HasVersion, IsLevelled}
+use Rattle.version_views.specs.Versions.{list_of}
+use Rattle.version_views.specs.declared.item.Item.{Item}
 use Rattle.versions.proofs.ReclaimLemmas.{levelled_after}
 use Rattle.versions.proofs.StayingLemmas.{versions_stay}
 use Rattle.versions.specs.Store.{IsReader, IsStore, HasVersionOpen, Version, read_by, store_of, version_in, version_of}
 use Rattle.versions.specs.declared.store.readers.Opened.{Opened}
-use Rattle.versions.proofs.OptionLemmas.{mapped_none, mapped_some, read_there}
+use Rattle.version_views.proofs.OptionLemmas.{mapped_none, mapped_some, read_there}
 
 -- a used slot is one of the place's
 used_inside : (ss : List Status) (i : ℕ) → is_used (get_or ss i status.Free) ≡ true → i < length ss

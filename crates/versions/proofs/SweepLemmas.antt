@@ -11,10 +11,10 @@ use Rattle.sdd_base.proofs.CellLemmas.{cells_released_as}
 use Rattle.sdd_base.proofs.CountLemmas.{counted_rotated}
 use Rattle.sdd_base.proofs.PassLemmas.{shrinks_rotated}
 use Rattle.sdd_base.proofs.PlaceLemmas.{rotates}
-use Rattle.versions.specs.Items.{held_by, slots_of}
+use Rattle.version_views.specs.Items.{held_by, slots_of}
 use Rattle.versions.specs.Reclaiming.{IsRootless, SweepsLeaveNone}
-use Rattle.versions.specs.declared.item.Item.{Item}
-use Rattle.versions.specs.declared.item.Item.TheVariants as items
+use Rattle.version_views.specs.declared.item.Item.{Item}
+use Rattle.version_views.specs.declared.item.Item.TheVariants as items
 use Rattle.versions.proofs.ReclaimLemmas.{levelled_after}
 use Rattle.versions.proofs.NoGarbageLemmas.{free_cells, none_left}
 

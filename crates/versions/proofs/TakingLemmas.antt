@@ -14,13 +14,13 @@ use Rattle.sdd_base.specs.declared.pointer.Loaded.{Loaded}
 use Rattle.sdd_base.specs.declared.status.Status.TheVariants as status
 use Rattle.sdd_base.proofs.ListLemmas.{hit-same, hit-other}
 use Rattle.tree_index.proofs.WayLemmas.{some_same}
-use Rattle.versions.specs.Cuts.{IsCut}
-use Rattle.versions.specs.Parts.{blocks_of_parts, makes, part_pairs}
-use Rattle.versions.specs.Placing.{CanBeShared, HasPlaced, IsTakeable, StandsIn, pairs_in_slot, named_at, slots_in, taken_slots}
-use Rattle.versions.specs.Versions.{IsSegment, segment_pairs}
-use Rattle.versions.specs.declared.building.segments.Part.{Part}
-use Rattle.versions.specs.declared.building.segments.Part.TheVariants as parts
-use Rattle.versions.specs.declared.item.Item.{Item}
+use Rattle.version_views.specs.Cuts.{IsCut}
+use Rattle.version_drafts.specs.Parts.{blocks_of_parts, makes, part_pairs}
+use Rattle.version_drafts.specs.Placing.{CanBeShared, HasPlaced, IsTakeable, StandsIn, pairs_in_slot, named_at, slots_in, taken_slots}
+use Rattle.version_views.specs.Versions.{IsSegment, segment_pairs}
+use Rattle.version_drafts.specs.declared.segments.Part.{Part}
+use Rattle.version_drafts.specs.declared.segments.Part.TheVariants as parts
+use Rattle.version_views.specs.declared.item.Item.{Item}
 use Rattle.versions.proofs.OnceLemmas.{once_by, slots_by}
 use Rattle.versions.proofs.PlacingLemmas.{stands_more, stands_taken}
 

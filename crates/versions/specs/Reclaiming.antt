@@ -8,12 +8,12 @@ use Rattle.sdd_base.specs.State.{IsUnused, State, cell_at, in_use, participant_a
 use Rattle.sdd_base.specs.Steps.{AllSwept, bags_empty}
 use Rattle.sdd_base.specs.declared.status.Cell.TheVariants as cell
 use Rattle.sdd_base.specs.declared.tag.Tag.{Tag}
-use Rattle.versions.specs.Items.{held_by, slots_of}
-use Rattle.versions.specs.Placing.{IsLevelled}
+use Rattle.version_views.specs.Items.{held_by, slots_of}
+use Rattle.version_drafts.specs.Placing.{IsLevelled}
 use Rattle.sdd_base.specs.declared.owner.Kept.{Kept}
-use Rattle.versions.specs.declared.directory.Directory.{Directory}
-use Rattle.versions.specs.declared.item.Item.{Item}
-use Rattle.versions.specs.declared.item.Item.TheVariants as items
+use Rattle.version_views.specs.declared.directory.Directory.{Directory}
+use Rattle.version_views.specs.declared.item.Item.{Item}
+use Rattle.version_views.specs.declared.item.Item.TheVariants as items
 
 -- a place whose one owner outside is a root, which names this directory; items wait for participant p alone
 pub record IsRooted {K V : Type 0} {s : ℕ} (p c i : ℕ) (d : Directory K Kept) (w : State (Item K V s)) : Type 0 where

@@ -7,12 +7,12 @@ use Rattle.sdd_base.specs.Frame.{IsLive, Frame, Protects}
 use Rattle.sdd_base.specs.Holding.{Hold}
 use Rattle.sdd_base.specs.Place.{IsOpen, IsPlace, IsShared}
 use Rattle.sdd_base.specs.State.{State, value_at}
-use Rattle.versions.specs.Items.{held_by, slots_of}
-use Rattle.versions.specs.Placing.{HasVersion}
+use Rattle.version_views.specs.Items.{held_by, slots_of}
+use Rattle.version_drafts.specs.Placing.{HasVersion}
 use Rattle.sdd_base.specs.declared.owner.Kept.{Kept}
-use Rattle.versions.specs.declared.directory.Directory.{Directory}
-use Rattle.versions.specs.declared.item.Item.{Item}
-use Rattle.versions.specs.declared.item.Item.TheVariants as items
+use Rattle.version_views.specs.declared.directory.Directory.{Directory}
+use Rattle.version_views.specs.declared.item.Item.{Item}
+use Rattle.version_views.specs.declared.item.Item.TheVariants as items
 
 -- the open guard of q protects the directory in slot i, and its segments
 pub record IsSeen {K V : Type 0} {s : ℕ} (w : State (Item K V s)) (q i : ℕ) (d : Directory K Kept) : Type 0 where

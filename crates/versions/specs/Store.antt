@@ -10,17 +10,17 @@ use Rattle.sdd_base.specs.State.{State, cell_at, in_use, local_at, value_at}
 use Rattle.sdd_base.specs.Tokens.{loaded_slot, guard_participant}
 use Rattle.sdd_base.specs.declared.status.Cell.TheVariants as cell
 use Rattle.sdd_base.specs.declared.tag.Tag.TheVariants as tag
-use Rattle.versions.specs.Items.{held_by}
-use Rattle.versions.specs.Placing.{HasVersion, IsLevelled}
+use Rattle.version_views.specs.Items.{held_by}
+use Rattle.version_drafts.specs.Placing.{HasVersion, IsLevelled}
 use Rattle.versions.specs.Staying.{IsSeen}
-use Rattle.versions.specs.Versions.{list_of}
+use Rattle.version_views.specs.Versions.{list_of}
 use Rattle.sdd_base.specs.declared.owner.Kept.{Kept}
-use Rattle.versions.specs.Writes.{after_writes}
-use Rattle.versions.specs.declared.directory.Directory.{Directory}
-use Rattle.versions.specs.declared.item.Item.{Item}
-use Rattle.versions.specs.declared.item.Item.TheVariants as items
+use Rattle.version_views.specs.Writes.{after_writes}
+use Rattle.version_views.specs.declared.directory.Directory.{Directory}
+use Rattle.version_views.specs.declared.item.Item.{Item}
+use Rattle.version_views.specs.declared.item.Item.TheVariants as items
 use Rattle.versions.specs.declared.store.readers.Opened.{Opened}
-use Rattle.versions.specs.declared.write.Write.{Write}
+use Rattle.version_views.specs.declared.write.Write.{Write}
 
 -- a list, and its number
 pub record Version (K V : Type 0) : Type 0 where

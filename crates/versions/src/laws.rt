@@ -1,7 +1,7 @@
 //! What the definitions of cuts promise. Nothing here runs.
 
 ghost use Rattle.std.specs.Prelude.{ℕ, ◌+◌, ◌*◌, ◌/◌, ◌≤◌, List, length};
-ghost use Rattle.versions.specs.Cuts.{IsTight, pairs_in};
+ghost use Rattle.version_views.specs.Cuts.{IsTight, pairs_in};
 ghost use Rattle.versions.specs.Reclaiming.{PassesLeaveOne, SweepsLeaveNone};
 ghost use Rattle.versions.specs.Staying.{VersionsStay};
 

@@ -19,28 +19,17 @@
 //! and the writer of versions in a place of one thread: `read/` reads, `building/` builds and places, `store/` keeps.
 #![tactic(auto)]
 
-mod bounds;
-mod building;
-mod directory;
-mod item;
 mod laws;
-pub mod plain;
-mod read;
-mod segment;
+mod placing;
+mod reads;
 mod store;
-mod write;
 
-pub use building::built::{Built, build};
-pub use building::draft;
-pub use building::placing::{place, publish};
-pub use directory::Directory;
-pub use item::Item;
 pub use laws::{passes_leave_one, segments_are_few, sweeps_leave_none, versions_stay};
-pub use read::nearby::Nearby;
-pub use read::trees::Trees;
-pub use read::view::VersionView;
-pub use read::walking::Walk;
-pub use read::world::{len, locate, look_up, look_up_counted, version, version_at, view_of, walk};
-pub use segment::Segment;
-pub use store::local::{LocalNearby, LocalStore, LocalView, LocalWalk, WriteRefused};
-pub use write::{Reply, Write};
+pub use placing::{place, publish};
+pub use reads::{len, locate, look_up, look_up_counted, version, version_at, view_of, walk};
+pub use store::local::LocalStore;
+pub use version_drafts::{Built, build, draft};
+pub use version_views::{
+    Directory, Item, LocalNearby, LocalView, LocalWalk, Nearby, Reply, Segment, Trees, VersionView,
+    Walk, Write, WriteRefused, plain,
+};

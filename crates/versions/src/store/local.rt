@@ -6,26 +6,19 @@ ghost use Rattle.leaf_array.specs.Values.{ClonesAreSame};
 ghost use Rattle.sdd_base.specs.Passing.{slot_kept};
 ghost use Rattle.sdd_base.specs.State.{cell_at, value_at};
 ghost use Rattle.sdd_base.specs.Tokens.{shared_cell};
-ghost use Rattle.versions.specs.Cuts.{pairs_in};
-ghost use Rattle.versions.specs.Items.{slots_of};
-ghost use Rattle.versions.specs.Placing.{CanBeShared};
-ghost use Rattle.versions.specs.Sizes.{IsStoreSized, room_for, segments_for};
+ghost use Rattle.version_views.specs.Cuts.{pairs_in};
+ghost use Rattle.version_views.specs.Items.{slots_of};
+ghost use Rattle.version_drafts.specs.Placing.{CanBeShared};
+ghost use Rattle.version_views.specs.Sizes.{IsStoreSized, room_for, segments_for};
 ghost use Rattle.versions.specs.Store.{Version, IsKeptHere, IsStore, next_version, no_version, version_in};
-ghost use Rattle.versions.specs.Versions.{IsVersion, list_of};
-ghost use Rattle.versions.specs.Writes.{after_writes, replies_to};
+ghost use Rattle.version_views.specs.Versions.{IsVersion, list_of};
+ghost use Rattle.version_views.specs.Writes.{after_writes, replies_to};
 ghost use Rattle.versions.specs.declared.store.readers.Opened.{Opened};
 
-use crate::building::built::{Built, build};
-use crate::building::placing::{place, publish};
-use crate::directory::Directory;
-use crate::item::Item;
-use crate::read::nearby::Nearby;
-use crate::read::view::VersionView;
-use crate::read::walking::Walk;
-use crate::read::world::view_of;
+use crate::placing::{place, publish};
+use crate::reads::view_of;
 use crate::store::readers::{Opened, are_free, end_all, free_all, nearest, read_at};
 use crate::store::reclaiming::run_passes;
-use crate::write::{Reply, Write};
 use sdd_base::cell::AtomicShared;
 use sdd_base::job::NoJob;
 use sdd_base::owner::Kept;
@@ -34,15 +27,8 @@ use sdd_base::world::{World, atomic_shared, guard};
 use std::alloc::{AllocError, Global};
 use std::marker::Model;
 use std::mem;
-
-/// A version of a [`LocalStore`], to be read.
-pub type LocalView<'a, K, V, const S: usize> = VersionView<'a, K, V, World<Item<K, V, S>, NoJob>>;
-
-/// A cursor over the list of a version of a [`LocalStore`].
-pub type LocalWalk<'a, K, V, const S: usize> = Walk<'a, K, V, World<Item<K, V, S>, NoJob>>;
-
-/// Where a key stands in a version of a [`LocalStore`], with a cursor there.
-pub type LocalNearby<'a, K, V, const S: usize> = Nearby<'a, K, V, World<Item<K, V, S>, NoJob>>;
+use version_drafts::{Built, build};
+use version_views::{Directory, Item, LocalView, Reply, Write, WriteRefused};
 
 /// Versions in a place of one thread: a root names the present one, and a reader has the one that was present when it
 /// opened, under a guard of its own participant.
@@ -56,15 +42,6 @@ pub struct LocalStore<K: Ord, V, const S: usize> {
     readers: Vec<Option<Opened<K, V, S>>>,
     // the places without a reader
     free: Vec<usize>,
-}
-
-/// Why a store refused writes. It is as it was before.
-#[derive(Clone, Copy, Debug, PartialEq, Eq)]
-pub enum WriteRefused {
-    /// A growth or a clone was refused.
-    Memory,
-    /// Too few slots are free for the version that the writes leave.
-    NoSlot,
 }
 
 /// Invariant: specs/Store.antt, IsStore: the versions of the root and of readers are whole, and nothing else is owned from

@@ -6,16 +6,15 @@ ghost use Rattle.std.specs.Option.{option_map};
 ghost use Rattle.sdd_base.specs.State.{value_at};
 ghost use Rattle.sdd_base.specs.View.{IsFreeList};
 ghost use Rattle.versions.specs.Store.{IsStore, HasVersionOpen, Version, directory_version, gap, read_by};
-ghost use Rattle.versions.specs.Versions.{IsVersion, list_of};
+ghost use Rattle.version_views.specs.Versions.{IsVersion, list_of};
 
-use crate::directory::Directory;
-use crate::item::Item;
-use crate::read::world::version_at;
+use crate::reads::version_at;
 use sdd_base::guard::WorldGuard;
 use sdd_base::job::NoJob;
 use sdd_base::owner::Kept;
 use sdd_base::pointer::Loaded;
 use sdd_base::world::World;
+use version_views::{Directory, Item};
 
 /// What the place of a reader has: its guard, and the version that it loaded under it.
 pub(crate) struct Opened<K: Ord, V, const S: usize> {

@@ -2,13 +2,13 @@
 
 ghost use Rattle.std.specs.Prelude.{◌≡◌, ℕ, List, Option, length};
 ghost use Rattle.sdd_base.specs.Passing.{passed_times};
-ghost use Rattle.versions.specs.Items.{held_by};
+ghost use Rattle.version_views.specs.Items.{held_by};
 ghost use Rattle.versions.specs.Store.{IsStore};
 ghost use Rattle.versions.specs.declared.store.readers.Opened.{Opened};
 
-use crate::item::Item;
 use sdd_base::job::NoJob;
 use sdd_base::world::{World, guard};
+use version_views::Item;
 
 /// How many accelerated guards of the writer reclaim a version that nobody has, and its segments: four for each level.
 /// That so many suffice is the law [`passes_leave_one`](crate::passes_leave_one).

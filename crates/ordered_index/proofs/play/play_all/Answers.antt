@@ -2,7 +2,7 @@ use Rattle.std.proofs.Common.{◌≡◌, ◌∷◌, [], ◌++◌, length, ap, �
 use Rattle.std.specs.Vec.Iter.{into_iter_items}
 use Rattle.ordered_index.specs.Desk.{Run}
 use Rattle.ordered_index.proofs.DeskLemmas.{stopped, played-more}
-use Rattle.versions.proofs.OptionLemmas.{no_items}
+use Rattle.version_views.proofs.OptionLemmas.{no_items}
 use Rattle.ordered_index.proofs.play.play_all.Goals as goal
 
 pub returns-in_default-clause-stopped : goal.returns-in_default-clause-stopped

@@ -1,5 +1,5 @@
 use Rattle.std.proofs.Common.{◌≡◌, drop}
-use Rattle.versions.specs.Writes.{after_writes}
+use Rattle.version_views.specs.Writes.{after_writes}
 use Rattle.serial_history.proofs.replay.apply_all.Given as goal
 
 -- the writes that are left lead to the list that all lead to

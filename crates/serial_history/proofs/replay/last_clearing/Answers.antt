@@ -1,5 +1,5 @@
 use Rattle.std.proofs.Common.{◌≡◌, ◌-◌, ◌<◌, ◌∙◌, List, length, refl, ap, sym, subst, arith}
-use Rattle.versions.specs.Writes.{after_writes}
+use Rattle.version_views.specs.Writes.{after_writes}
 use Rattle.serial_history.proofs.ReplayLemmas.{cleared_from}
 use Rattle.serial_history.specs.declared.transaction.Transaction.{Transaction}
 use Rattle.serial_history.proofs.replay.last_clearing.Goals as goal

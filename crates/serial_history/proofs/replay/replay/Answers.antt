@@ -1,7 +1,7 @@
 use Rattle.std.proofs.Common.{◌∙◌, sym, ap, [], take}
 use Rattle.std.proofs.lemmas.List.{take_rest}
 use Rattle.std.specs.Option.{unwrap_or}
-use Rattle.versions.specs.Cuts.{pairs_in}
+use Rattle.version_views.specs.Cuts.{pairs_in}
 use Rattle.serial_history.specs.Serial.{after_all}
 use Rattle.serial_history.proofs.ReplayLemmas.{after_split}
 use Rattle.serial_history.proofs.replay.replay.Goals as goal

@@ -2,7 +2,7 @@ use Rattle.std.proofs.Common.{sym, ap, ◌∙◌, ◌++◌}
 use Rattle.std.proofs.lemmas.List.{take_all}
 use Rattle.serial_history.specs.RemainingPairs.{remaining_pairs}
 use Rattle.serial_history.proofs.RemainingPairsLemmas.{all_given, differs, left_at_start}
-use Rattle.versions.proofs.OptionLemmas.{at_some}
+use Rattle.version_views.proofs.OptionLemmas.{at_some}
 use Rattle.serial_history.proofs.scan.matches.Goals as goal
 
 pub returns-then-not-is_pair : goal.returns-then-not-is_pair

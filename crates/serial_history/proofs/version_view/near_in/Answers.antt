@@ -1,5 +1,5 @@
 use Rattle.std.proofs.Common.{◌∙◌}
-use Rattle.versions.specs.Cuts.{pairs_in}
+use Rattle.version_views.specs.Cuts.{pairs_in}
 use Rattle.serial_history.proofs.NearbyLemmas.{near_between, near_exact, near_larger, near_smaller}
 use Rattle.serial_history.proofs.version_view.near_in.Goals as goal
 

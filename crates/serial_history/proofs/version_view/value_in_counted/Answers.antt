@@ -1,6 +1,6 @@
 use Rattle.std.proofs.Common.{sym, ap, ◌∙◌}
 use Rattle.std.specs.Option.{option_map}
-use Rattle.versions.specs.Cuts.{pairs_in}
+use Rattle.version_views.specs.Cuts.{pairs_in}
 use Rattle.leaf_array.proofs.EntryLemmas.{value_lookup}
 use Rattle.serial_history.proofs.version_view.value_in_counted.Goals as goal
 

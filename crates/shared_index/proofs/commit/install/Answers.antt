@@ -1,8 +1,8 @@
 use Rattle.std.proofs.Common.{ap, sym, ◌∙◌}
 use Rattle.shared_versions.specs.Drafts.{list_of, list_planned}
 use Rattle.shared_versions.specs.Sight.{Sight}
-use Rattle.versions.specs.Cuts.{pairs_in}
-use Rattle.versions.specs.Writes.{after_writes}
+use Rattle.version_views.specs.Cuts.{pairs_in}
+use Rattle.version_views.specs.Writes.{after_writes}
 use Rattle.shared_index.proofs.commit.install.Goals as goal
 
 -- the version is that of the draft, which was built of the present one

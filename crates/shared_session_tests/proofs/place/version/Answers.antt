@@ -1,6 +1,6 @@
 use Rattle.std.proofs.Common.{ℕ, List, [], ◌∷◌, ◌++◌, ap, ◌∙◌}
 use Rattle.sdd_domain.specs.declared.held.Held.{Held}
-use Rattle.versions.specs.declared.directory.Directory.{Directory}
+use Rattle.version_views.specs.declared.directory.Directory.{Directory}
 use Rattle.shared_versions.specs.declared.node.Node.{Node}
 use Rattle.shared_versions.specs.declared.node.Node.TheVariants as nodes
 use Rattle.shared_session_tests.proofs.VersionLemmas.{two_segments}

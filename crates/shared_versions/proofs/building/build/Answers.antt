@@ -1,7 +1,7 @@
 use Rattle.std.proofs.Common.{◌≤◌, ◌+◌, ◌*◌, ◌/◌, length, sym, ap, ◌∙◌, subst, arith}
 use Rattle.std.proofs.lemmas.List.{length-map}
-use Rattle.versions.specs.Parts.{made_in, part_pairs}
-use Rattle.versions.proofs.BlockListLemmas.{blocks_fit}
+use Rattle.version_drafts.specs.Parts.{made_in, part_pairs}
+use Rattle.version_views.proofs.BlockListLemmas.{blocks_fit}
 use Rattle.shared_versions.specs.Drafts.{IsRoomFor, pairs_at}
 use Rattle.shared_versions.proofs.DraftLemmas.{all_there}
 use Rattle.shared_versions.proofs.building.build.Goals as goal

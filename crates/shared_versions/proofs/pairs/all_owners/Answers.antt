@@ -3,7 +3,7 @@ use Rattle.std.specs.List.{All}
 use Rattle.std.specs.Prelude.{IfSome}
 use Rattle.std.proofs.lemmas.List.{length-append, length-map}
 use Rattle.std.proofs.lemmas.List.Elements.{All-pop, All-push}
-use Rattle.versions.specs.Parts.{part_pairs}
+use Rattle.version_drafts.specs.Parts.{part_pairs}
 use Rattle.shared_versions.specs.Drafts.{IsWithinVersion, taken_from}
 use Rattle.shared_versions.specs.Placing.{IsSegmentOf, IsToKeep, moved_from, pairs_kept, pairs_kept_at, pairs_owned, pairs_to_keep}
 use Rattle.shared_versions.proofs.MovingLemmas.{all_new}

@@ -2,7 +2,7 @@ use Rattle.std.proofs.Common.{◌≡◌, ◌+◌, ◌≤◌, [], ◌++◌, lengt
 use Rattle.std.specs.List.{All}
 use Rattle.std.specs.Prelude.{vec_capacity}
 use Rattle.sdd_domain.specs.Tokens.{place_of, hand_of}
-use Rattle.versions.specs.Parts.{blocks_of_parts}
+use Rattle.version_drafts.specs.Parts.{blocks_of_parts}
 use Rattle.shared_versions.specs.Drafts.{IsWithinVersion, taken_from}
 use Rattle.shared_versions.specs.Placing.{IsKeptSegment, IsSegmentOf, IsStill, IsToKeep, moved_from, pairs_kept, pairs_kept_at, pairs_owned, pairs_to_keep}
 use Rattle.shared_versions.proofs.pairs.all_owners.Given as goal

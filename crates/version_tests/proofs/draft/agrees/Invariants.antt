@@ -1,7 +1,7 @@
 use Rattle.std.proofs.Common.{ℕ, map}
 use Rattle.std.specs.Ordering.{nat_cmp}
 use Rattle.tree_index.specs.declared.index.TreeIndex.{TreeIndex}
-use Rattle.versions.specs.Cuts.{IsCut}
+use Rattle.version_views.specs.Cuts.{IsCut}
 use Rattle.version_tests.proofs.draft.agrees.Given as goal
 
 -- the version is cut

@@ -2,8 +2,8 @@ use Rattle.std.proofs.Common.{[], ℕ, map, refl, sym, subst}
 use Rattle.std.proofs.lemmas.List.Elements.{All-nil}
 use Rattle.std.specs.Ordering.{nat_cmp}
 use Rattle.tree_index.specs.declared.index.TreeIndex.{TreeIndex}
-use Rattle.versions.specs.Cuts.{IsCut}
-use Rattle.versions.proofs.FilterLemmas.{rising_none}
+use Rattle.version_views.specs.Cuts.{IsCut}
+use Rattle.version_views.proofs.FilterLemmas.{rising_none}
 use Rattle.version_tests.proofs.draft.none.Goals as goal
 
 pub returns : goal.returns

@@ -3,7 +3,7 @@ use Rattle.std.specs.Prelude.{slice_get}
 use Rattle.std.specs.Option.{option_map_or}
 use Rattle.std.specs.Vec.Iter.{into_iter_items}
 use Rattle.tree_index.specs.declared.index.TreeIndex.{TreeIndex}
-use Rattle.versions.specs.Parts.{blocks_of_parts}
+use Rattle.version_drafts.specs.Parts.{blocks_of_parts}
 use Rattle.version_tests.proofs.draft.settled.Given as goal
 
 -- the trees so far have the pairs of the parts so far

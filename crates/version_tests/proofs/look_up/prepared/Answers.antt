@@ -5,8 +5,8 @@ use Rattle.sdd_base.specs.Holding.{Hold, SharedItem}
 use Rattle.sdd_base.specs.State.{State}
 use Rattle.sdd_base.specs.Tokens.{shared_slot}
 use Rattle.sdd_base.proofs.CountLemmas.{owners_are_counted}
-use Rattle.versions.specs.Items.{held_by}
-use Rattle.versions.specs.declared.item.Item.{Item}
+use Rattle.version_views.specs.Items.{held_by}
+use Rattle.version_views.specs.declared.item.Item.{Item}
 use Rattle.versions.proofs.PublishLemmas.{empty_placeable}
 use Rattle.version_tests.proofs.Settled.{Settled, settled_fresh, settled_placed, settled_shared}
 use Rattle.version_tests.proofs.look_up.prepared.Goals as goal

@@ -11,8 +11,8 @@ use Rattle.sdd_base.specs.declared.status.Cell.TheVariants as cell
 use Rattle.sdd_base.specs.declared.tag.Tag.{Tag}
 use Rattle.sdd_base.specs.declared.tag.Tag.TheVariants as tag
 use Rattle.sdd_base.proofs.CountLemmas.{owners_are_counted}
-use Rattle.versions.specs.Items.{held_by}
-use Rattle.versions.specs.declared.item.Item.{Item}
+use Rattle.version_views.specs.Items.{held_by}
+use Rattle.version_views.specs.declared.item.Item.{Item}
 use Rattle.versions.proofs.PublishLemmas.{empty_placeable}
 use Rattle.version_tests.proofs.Settled.{Settled, counted_first, settled_fresh, settled_placed, settled_shared, version_with_cell}
 use Rattle.version_tests.proofs.placing.a_version_takes_a_slot_for_each_segment_and_one.Goals as goal

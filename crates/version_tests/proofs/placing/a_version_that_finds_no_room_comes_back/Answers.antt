@@ -4,7 +4,7 @@ use Rattle.sdd_base.specs.Holding.{SharedItem}
 use Rattle.sdd_base.specs.State.{State}
 use Rattle.sdd_base.specs.Tokens.{shared_slot}
 use Rattle.sdd_base.specs.declared.sizes.Sizes.{Sizes}
-use Rattle.versions.specs.declared.item.Item.{Item}
+use Rattle.version_views.specs.declared.item.Item.{Item}
 use Rattle.versions.proofs.PublishLemmas.{empty_placeable}
 use Rattle.version_tests.proofs.Settled.{Settled, settled_fresh, settled_placed, settled_shared}
 use Rattle.version_tests.proofs.placing.a_version_that_finds_no_room_comes_back.Goals as goal

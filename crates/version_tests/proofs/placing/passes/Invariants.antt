@@ -1,7 +1,7 @@
 use Rattle.std.proofs.Common.{◌<◌, List, length}
 use Rattle.sdd_base.specs.Counting.{Counted}
 use Rattle.sdd_base.specs.Holding.{Hold}
-use Rattle.versions.specs.Items.{held_by}
+use Rattle.version_views.specs.Items.{held_by}
 use Rattle.version_tests.proofs.placing.passes.Given as goal
 
 abbrev pub invariant-loop : goal.invariant-loop

@@ -6,8 +6,8 @@ use Rattle.sdd_base.specs.State.{State}
 use Rattle.sdd_base.specs.Tokens.{shared_cell, shared_slot}
 use Rattle.sdd_base.specs.declared.tag.Tag.TheVariants as tag
 use Rattle.sdd_base.proofs.CountLemmas.{owners_are_counted}
-use Rattle.versions.specs.Items.{held_by}
-use Rattle.versions.specs.declared.item.Item.{Item}
+use Rattle.version_views.specs.Items.{held_by}
+use Rattle.version_views.specs.declared.item.Item.{Item}
 use Rattle.versions.proofs.PublishLemmas.{empty_placeable}
 use Rattle.version_tests.proofs.Settled.{Settled, counted_first, settled_fresh, settled_placed, settled_shared}
 use Rattle.version_tests.proofs.single_steps.begin.Goals as goal

@@ -4,8 +4,8 @@ use Rattle.sdd_base.specs.Holding.{Hold, SharedIn}
 use Rattle.sdd_base.specs.State.{State}
 use Rattle.sdd_base.specs.Tokens.{shared_cell}
 use Rattle.sdd_base.proofs.CountLemmas.{owners_are_counted}
-use Rattle.versions.specs.Items.{held_by}
-use Rattle.versions.specs.declared.item.Item.{Item}
+use Rattle.version_views.specs.Items.{held_by}
+use Rattle.version_views.specs.declared.item.Item.{Item}
 use Rattle.version_tests.proofs.single_steps.begin_reading.Goals as goal
 
 pub load-at-requires-after_bounds : goal.load-at-requires-after_bounds

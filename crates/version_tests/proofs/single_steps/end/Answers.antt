@@ -2,8 +2,8 @@ use Rattle.std.proofs.Common.{ℕ, []}
 use Rattle.sdd_base.specs.Counting.{OwnersAreCounted}
 use Rattle.sdd_base.specs.Tokens.{shared_cell}
 use Rattle.sdd_base.proofs.CountLemmas.{owners_are_counted}
-use Rattle.versions.specs.Items.{held_by}
-use Rattle.versions.specs.declared.item.Item.{Item}
+use Rattle.version_views.specs.Items.{held_by}
+use Rattle.version_views.specs.declared.item.Item.{Item}
 use Rattle.version_tests.proofs.single_steps.end.Goals as goal
 
 pub retire-requires-clause-cell : goal.retire-requires-clause-cell

@@ -3,8 +3,8 @@ use Rattle.sdd_base.specs.Counting.{Counted, OwnersAreCounted}
 use Rattle.sdd_base.specs.State.{State}
 use Rattle.sdd_base.specs.Tokens.{guard_participant}
 use Rattle.sdd_base.proofs.CountLemmas.{owners_are_counted}
-use Rattle.versions.specs.Items.{held_by}
-use Rattle.versions.specs.declared.item.Item.{Item}
+use Rattle.version_views.specs.Items.{held_by}
+use Rattle.version_views.specs.declared.item.Item.{Item}
 use Rattle.version_tests.proofs.single_steps.end_reading.Goals as goal
 
 pub returns-clause-counted : goal.returns-clause-counted

@@ -4,8 +4,8 @@ use Rattle.sdd_base.specs.Passing.{accelerated, passed}
 use Rattle.sdd_base.specs.State.{State}
 use Rattle.sdd_base.specs.Steps.{guard_closed, guard_opened}
 use Rattle.sdd_base.specs.Tokens.{guard_participant}
-use Rattle.versions.specs.Items.{held_by}
-use Rattle.versions.specs.declared.item.Item.{Item}
+use Rattle.version_views.specs.Items.{held_by}
+use Rattle.version_views.specs.declared.item.Item.{Item}
 use Rattle.versions.proofs.ReclaimLemmas.{counted_passed}
 use Rattle.version_tests.proofs.single_steps.pass.Goals as goal
 

@@ -1,4 +1,4 @@
-use Rattle.versions.proofs.BlockListLemmas.{blocks_fit}
+use Rattle.version_views.proofs.BlockListLemmas.{blocks_fit}
 use Rattle.versions.proofs.laws.segments_are_few.Goals as goal
 
 pub returns : goal.returns

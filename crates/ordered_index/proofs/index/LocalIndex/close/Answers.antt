@@ -3,7 +3,7 @@ use Rattle.std.proofs.lemmas.Bool.{false≢true}
 use Rattle.std.specs.List.{All}
 use Rattle.ordered_index.specs.State.{State}
 use Rattle.versions.specs.Store.{Version}
-use Rattle.versions.proofs.OptionLemmas.{all_none, none_all}
+use Rattle.version_views.proofs.OptionLemmas.{all_none, none_all}
 use Rattle.ordered_index.proofs.index.LocalIndex.close.Goals as goal
 
 pub returns-then-not-is_idle-clause-idle : goal.returns-then-not-is_idle-clause-idle

@@ -1,7 +1,7 @@
 use Rattle.std.proofs.Common.{is_some, sym, ap, ◌∙◌}
 use Rattle.leaf_array.proofs.EntryLemmas.{has_lookup}
 use Rattle.ordered_index.specs.State.{list_at}
-use Rattle.versions.proofs.OptionLemmas.{copied_some}
+use Rattle.version_views.proofs.OptionLemmas.{copied_some}
 use Rattle.ordered_index.proofs.index.LocalIndex.contains_counted.Goals as goal
 
 pub returns-clause-found : goal.returns-clause-found

@@ -1,6 +1,6 @@
 use Rattle.std.proofs.Common.{◌+◌, Err, [], ◌∷◌, ◌++◌, length, refl, sym, ap, ◌∙◌, subst, arith}
-use Rattle.versions.specs.Sizes.{room_for}
-use Rattle.versions.specs.Writes.{after_writes, replies_to}
+use Rattle.version_views.specs.Sizes.{room_for}
+use Rattle.version_views.specs.Writes.{after_writes, replies_to}
 use Rattle.ordered_index.specs.Invariant.{index_state}
 use Rattle.ordered_index.specs.State.{MayAccept, State, present}
 use Rattle.serial_history.specs.declared.transaction.Transaction.{Transaction}

@@ -1,5 +1,5 @@
 use Rattle.std.proofs.Common.{◌≤◌, length, subst, ◌∙◌, lit<}
-use Rattle.versions.specs.Sizes.{segments_for}
+use Rattle.version_views.specs.Sizes.{segments_for}
 use Rattle.ordered_index.proofs.IndexLemmas.{session_reads}
 use Rattle.ordered_index.proofs.index.LocalIndex.list_of.Goals as goal
 

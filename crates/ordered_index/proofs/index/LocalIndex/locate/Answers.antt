@@ -1,6 +1,6 @@
 use Rattle.std.proofs.Common.{List, subst}
 use Rattle.tree_index.specs.Proximity.{IsLocated}
-use Rattle.versions.specs.Nearby.{as_proximity}
+use Rattle.version_views.specs.Nearby.{as_proximity}
 use Rattle.ordered_index.proofs.index.LocalIndex.locate.Goals as goal
 
 pub returns : goal.returns

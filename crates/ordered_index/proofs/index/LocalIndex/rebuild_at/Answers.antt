@@ -1,5 +1,5 @@
 use Rattle.std.proofs.Common.{◌≡◌, ◌-◌, ◌∙◌, ap, subst, IfOk, take, drop}
-use Rattle.versions.specs.Cuts.{pairs_in}
+use Rattle.version_views.specs.Cuts.{pairs_in}
 use Rattle.serial_history.specs.Serial.{after_all}
 use Rattle.ordered_index.specs.State.{State, list_at}
 use Rattle.ordered_index.proofs.IndexLemmas.{made_of}

@@ -1,10 +1,10 @@
 use Rattle.std.proofs.Common.{◌≡◌, ◌≤◌, ◌^◌, ◌-◌, None, length, sym, ap, ◌∙◌, subst}
 use Rattle.std.specs.List.{All}
 use Rattle.ordered_index.specs.Invariant.{index_state}
-use Rattle.versions.specs.Sizes.{room_for}
+use Rattle.version_views.specs.Sizes.{room_for}
 use Rattle.ordered_index.specs.State.{State, present}
 use Rattle.versions.specs.Store.{Store, Version}
-use Rattle.versions.proofs.OptionLemmas.{all_none}
+use Rattle.version_views.proofs.OptionLemmas.{all_none}
 use Rattle.ordered_index.proofs.IndexLemmas.{kept_same, present_pairs}
 use Rattle.ordered_index.proofs.index.LocalIndex.reclaim.Goals as goal
 

@@ -1,7 +1,7 @@
 use Rattle.std.proofs.Common.{[], None, map, replicate, ap, ◌∙◌}
 use Rattle.std.specs.Option.{option_map}
 use Rattle.versions.specs.Store.{Version}
-use Rattle.versions.proofs.OptionLemmas.{map-none}
+use Rattle.version_views.proofs.OptionLemmas.{map-none}
 use Rattle.ordered_index.proofs.index.LocalIndex.with_last.Goals as goal
 
 pub returns : goal.returns

@@ -4,7 +4,7 @@ use Rattle.serial_history.specs.Serial.{Holds}
 use Rattle.serial_history.specs.declared.transaction.Transaction.{Transaction}
 use Rattle.serial_history.proofs.RunLemmas.{length-replies}
 use Rattle.shared_versions.specs.Drafts.{list_of}
-use Rattle.versions.specs.Writes.{after_writes, replies_to}
+use Rattle.version_views.specs.Writes.{after_writes, replies_to}
 use Rattle.shared_index.specs.Books.{BookState, present_list}
 use Rattle.shared_index.proofs.BookLemmas.{history_longer, latest_longer, still_at_rest}
 use Rattle.shared_index.proofs.book.Book.add.Goals as goal

@@ -2,7 +2,7 @@ use Rattle.std.proofs.Common.{ℕ, [], List, IfNone, take, sym, ap, ◌∙◌, s
 use Rattle.std.specs.List.{All}
 use Rattle.std.proofs.Math.Seq.{take-length}
 use Rattle.serial_history.specs.Serial.{Holds, after_all}
-use Rattle.versions.specs.Cuts.{pairs_in}
+use Rattle.version_views.specs.Cuts.{pairs_in}
 use Rattle.shared_index.specs.Books.{BookState, list_after}
 use Rattle.shared_index.proofs.book.Book.conflict_at.Goals as goal
 

@@ -1,7 +1,7 @@
 use Rattle.std.proofs.Common.{List, length, sym, ap, ◌∙◌, subst}
 use Rattle.std.specs.List.{All}
 use Rattle.serial_history.specs.Serial.{Holds}
-use Rattle.versions.specs.Cuts.{pairs_in}
+use Rattle.version_views.specs.Cuts.{pairs_in}
 use Rattle.shared_index.specs.Books.{BookState, present_list}
 use Rattle.shared_index.proofs.book.Book.validate.Goals as goal
 

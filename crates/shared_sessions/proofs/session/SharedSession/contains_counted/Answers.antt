@@ -1,6 +1,6 @@
 use Rattle.std.proofs.Common.{is_some, sym, ap, ◌∙◌}
 use Rattle.leaf_array.proofs.EntryLemmas.{has_lookup}
-use Rattle.versions.proofs.OptionLemmas.{copied_some}
+use Rattle.version_views.proofs.OptionLemmas.{copied_some}
 use Rattle.shared_sessions.proofs.session.SharedSession.contains_counted.Goals as goal
 
 pub returns-clause-found : goal.returns-clause-found

@@ -1,7 +1,7 @@
 use Rattle.std.proofs.Common.{◌≤◌, length, List, sym, ap, subst, ◌∙◌}
-use Rattle.versions.specs.Cuts.{IsTight, pairs_in}
-use Rattle.versions.specs.Sizes.{segments_for}
-use Rattle.versions.proofs.BlockListLemmas.{blocks_fit}
+use Rattle.version_views.specs.Cuts.{IsTight, pairs_in}
+use Rattle.version_views.specs.Sizes.{segments_for}
+use Rattle.version_views.proofs.BlockListLemmas.{blocks_fit}
 use Rattle.shared_versions.specs.Readers.{blocks_in}
 use Rattle.shared_sessions.proofs.session.SharedSession.view.Goals as goal
 

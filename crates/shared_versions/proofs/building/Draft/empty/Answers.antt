@@ -1,5 +1,5 @@
 use Rattle.std.proofs.Common.{length, ap, sym, subst, arith}
-use Rattle.versions.specs.Parts.{made_in}
+use Rattle.version_drafts.specs.Parts.{made_in}
 use Rattle.shared_versions.specs.Drafts.{IsRoomFor}
 use Rattle.shared_versions.proofs.building.Draft.empty.Goals as goal
 

@@ -1,6 +1,6 @@
 use Rattle.std.proofs.Common.{ap, ◌∙◌}
 use Rattle.leaf_array.specs.Pairs.{has_key}
-use Rattle.versions.specs.Cuts.{pairs_in}
+use Rattle.version_views.specs.Cuts.{pairs_in}
 use Rattle.shared_versions.proofs.FoundLemmas.{found_has}
 use Rattle.shared_versions.proofs.building.VersionBaseVersionUsize.contains.Goals as goal
 

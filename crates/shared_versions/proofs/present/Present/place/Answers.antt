@@ -1,8 +1,8 @@
 use Rattle.std.proofs.Common.{[], get_or, length, map, reverse, sym, ap, ◌∙◌, subst, arith}
 use Rattle.std.specs.List.{All, AllPairs}
 use Rattle.std.proofs.lemmas.List.{length-map, length-reverse}
-use Rattle.versions.specs.Parts.{part_pairs}
-use Rattle.versions.specs.declared.directory.Directory.{Directory}
+use Rattle.version_drafts.specs.Parts.{part_pairs}
+use Rattle.version_views.specs.declared.directory.Directory.{Directory}
 use Rattle.shared_versions.specs.Drafts.{IsWithinVersion, SharedPlan, pairs_at, taken_from}
 use Rattle.shared_versions.specs.Nodes.{OwnsSegment, owned_pairs}
 use Rattle.shared_versions.specs.Placing.{AreApart, IsKeptSegment, IsPresent, IsToKeep, Placed, pairs_kept, pairs_kept_at, pairs_owned, pairs_to_keep, sight_in, version_owned}

@@ -4,8 +4,8 @@ use Rattle.std.proofs.lemmas.List.Folds.{list_any-append}
 use Rattle.std.specs.BTreeMap.{is_at}
 use Rattle.leaf_array.specs.Pairs.{has_key}
 use Rattle.tree_index.specs.declared.index.TreeIndex.{TreeIndex}
-use Rattle.versions.specs.Cuts.{pairs_in}
-use Rattle.versions.proofs.ChangeScanLemmas.{drop_out}
+use Rattle.version_views.specs.Cuts.{pairs_in}
+use Rattle.version_views.proofs.ChangeScanLemmas.{drop_out}
 use Rattle.version_tests.proofs.draft.KeptBaseVersionU64U64Usize.contains.Goals as goal
 
 -- whether a key is there, from one of some trees on

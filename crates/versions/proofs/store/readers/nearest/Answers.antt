@@ -1,6 +1,6 @@
 use Rattle.std.proofs.Common.{None, Some, sym, ap, ◌∙◌, arith}
 use Rattle.versions.specs.Store.{Version, read_by}
-use Rattle.versions.proofs.OptionLemmas.{at_some, some_mapped}
+use Rattle.version_views.proofs.OptionLemmas.{at_some, some_mapped}
 use Rattle.versions.proofs.store.readers.nearest.Goals as goal
 use Rattle.versions.proofs.store.readers.nearest.Goals.{in-Some+then-number+then-is_later, in-Some+else-number, in_default}
 

@@ -2,7 +2,7 @@ use Rattle.std.proofs.Common.{◌≡◌, ◌≤◌, ℕ, Some, IfSome, map}
 use Rattle.std.specs.List.{slice_get}
 use Rattle.std.specs.Option.{option_map}
 use Rattle.sdd_base.specs.State.{value_at}
-use Rattle.versions.specs.Versions.{IsVersion, list_of}
+use Rattle.version_views.specs.Versions.{IsVersion, list_of}
 use Rattle.versions.specs.Store.{read_by}
 use Rattle.versions.proofs.store.readers.nearest.Given as goal
 

@@ -1,6 +1,6 @@
 use Rattle.std.proofs.Common.{ℕ, List, sym, ap, ◌∙◌, arith}
 use Rattle.sdd_base.specs.State.{value_at}
-use Rattle.versions.specs.Versions.{list_of}
+use Rattle.version_views.specs.Versions.{list_of}
 use Rattle.versions.specs.Store.{version_in}
 use Rattle.versions.proofs.StoreLemmas.{reads_readable, version_is}
 use Rattle.versions.proofs.store.readers.seen.Goals as goal

@@ -2,7 +2,7 @@ use Rattle.std.proofs.Common.{◌≡◌, ℕ, refl, ap, ◌∙◌, arith, true}
 use Rattle.sdd_base.specs.Passing.{accelerated, passed_times}
 use Rattle.sdd_base.specs.State.{State, local_at, with_local}
 use Rattle.sdd_base.specs.Steps.{guard_closed}
-use Rattle.versions.specs.Items.{held_by}
+use Rattle.version_views.specs.Items.{held_by}
 use Rattle.versions.proofs.PassLemmas.{passing_closed, passing_known, passing_next}
 use Rattle.versions.proofs.store.reclaiming.run_passes.Goals as goal
 

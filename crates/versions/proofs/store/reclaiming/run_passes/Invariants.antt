@@ -1,6 +1,6 @@
 use Rattle.std.proofs.Common.{◌≡◌}
 use Rattle.sdd_base.specs.Passing.{passed_times}
-use Rattle.versions.specs.Items.{held_by}
+use Rattle.version_views.specs.Items.{held_by}
 use Rattle.versions.proofs.store.reclaiming.run_passes.Given as goal
 
 -- so many guards were opened and closed

@@ -4,7 +4,7 @@ use Rattle.sdd_base.specs.Steps.{shared_ended}
 use Rattle.sdd_base.specs.Tokens.{shared_cell}
 use Rattle.versions.proofs.SweepLemmas.{sweeps_leave_none}
 use Rattle.versions.specs.Store.{Store, read_by}
-use Rattle.versions.proofs.OptionLemmas.{all_none}
+use Rattle.version_views.proofs.OptionLemmas.{all_none}
 use Rattle.versions.proofs.PassLemmas.{none_reads}
 use Rattle.versions.proofs.PublishLemmas.{root_retired}
 use Rattle.versions.proofs.store.local.LocalStore.end.Goals as goal

@@ -1,7 +1,7 @@
 use Rattle.std.proofs.Common.{◌≡◌, ◌↔◌, IsTrue, None, subst}
 use Rattle.std.specs.List.{All}
 use Rattle.versions.specs.Store.{Store, read_by}
-use Rattle.versions.proofs.OptionLemmas.{idle_mapped}
+use Rattle.version_views.proofs.OptionLemmas.{idle_mapped}
 use Rattle.versions.proofs.store.local.LocalStore.is_idle.Goals as goal
 
 pub returns : goal.returns

@@ -1,8 +1,8 @@
 use Rattle.std.proofs.Common.{refl, sym, ap, ◌∙◌, inl, inr, arith}
 use Rattle.std.specs.List.{slice_get}
 use Rattle.sdd_base.specs.State.{value_at}
-use Rattle.versions.specs.Cuts.{pairs_in}
-use Rattle.versions.specs.Versions.{list_of}
+use Rattle.version_views.specs.Cuts.{pairs_in}
+use Rattle.version_views.specs.Versions.{list_of}
 use Rattle.versions.specs.Store.{Store, Version}
 use Rattle.versions.proofs.store.local.LocalStore.latest_at.Goals as goal
 

@@ -3,12 +3,12 @@ use Rattle.sdd_base.specs.Passing.{slot_kept}
 use Rattle.sdd_base.specs.State.{State, cell_at}
 use Rattle.sdd_base.specs.Steps.{guard_opened}
 use Rattle.sdd_base.specs.Tokens.{shared_cell}
-use Rattle.versions.specs.Items.{held_by}
+use Rattle.version_views.specs.Items.{held_by}
 use Rattle.std.specs.List.{slice_get}
 use Rattle.std.specs.List.{All}
 use Rattle.versions.specs.Store.{IsReader, Store, read_by, store_of}
-use Rattle.versions.proofs.OptionLemmas.{no_items}
-use Rattle.versions.proofs.OptionLemmas.{all_mapped, none_read}
+use Rattle.version_views.proofs.OptionLemmas.{no_items}
+use Rattle.version_views.proofs.OptionLemmas.{all_mapped, none_read}
 use Rattle.versions.proofs.FreePlaceLemmas.{all_taken, stack_taken, taken_free}
 use Rattle.versions.proofs.StoreLemmas.{opened_cell, opened_shows, opened_used, reader_free, store_opened}
 use Rattle.versions.proofs.store.local.LocalStore.open.Goals as goal

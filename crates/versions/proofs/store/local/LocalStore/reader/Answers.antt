@@ -1,10 +1,10 @@
 use Rattle.std.proofs.Common.{◌≤◌, length, ap, ◌∙◌, sym, subst, arith}
 use Rattle.std.specs.List.{slice_get}
 use Rattle.sdd_base.specs.Tokens.{shared_cell}
-use Rattle.versions.specs.Cuts.{pairs_in}
-use Rattle.versions.specs.Sizes.{segments_for}
+use Rattle.version_views.specs.Cuts.{pairs_in}
+use Rattle.version_views.specs.Sizes.{segments_for}
 use Rattle.versions.specs.Store.{Store}
-use Rattle.versions.proofs.BlockListLemmas.{blocks_fit}
+use Rattle.version_views.proofs.BlockListLemmas.{blocks_fit}
 use Rattle.versions.proofs.store.local.LocalStore.reader.Goals as goal
 
 pub read_at-requires : goal.read_at-requires

@@ -3,10 +3,10 @@ use Rattle.std.specs.List.{All}
 use Rattle.sdd_base.specs.Passing.{passed_times}
 use Rattle.sdd_base.specs.State.{State, in_use}
 use Rattle.sdd_base.specs.Tokens.{shared_cell}
-use Rattle.versions.specs.Items.{held_by}
-use Rattle.versions.specs.Sizes.{room_for}
+use Rattle.version_views.specs.Items.{held_by}
+use Rattle.version_views.specs.Sizes.{room_for}
 use Rattle.versions.specs.Store.{Store, Version, read_by}
-use Rattle.versions.proofs.OptionLemmas.{all_none}
+use Rattle.version_views.proofs.OptionLemmas.{all_none}
 use Rattle.versions.proofs.PassLemmas.{Reclaimed, left_fits, reclaimed}
 use Rattle.versions.proofs.StoreLemmas.{present_shows}
 use Rattle.versions.proofs.store.local.LocalStore.reclaim.Goals as goal

@@ -1,0 +1,13 @@
+//! Tests of the book of `shared_index`, which keeps its versions and its history behind a lock.
+#![tactic(auto)]
+
+#[cfg(test)]
+mod audits;
+#[cfg(test)]
+mod causes;
+#[cfg(test)]
+mod commits;
+#[cfg(test)]
+mod refusals;
+#[cfg(test)]
+mod table;

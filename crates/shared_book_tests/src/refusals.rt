@@ -1,0 +1,229 @@
+//! Runs in which any one allocation may be refused. A script has each refused in turn: whatever is refused, nothing has
+//! changed, and the same call then succeeds.
+
+ghost use Rattle.std.specs.Prelude.{◌≡◌, ◌<◌};
+ghost use Rattle.sdd_domain.specs.Cells.{cell_number};
+ghost use Rattle.sdd_domain.specs.Tokens.{place_of, cell_count};
+ghost use Rattle.shared_index.specs.Invariant.{IsUnengaged};
+ghost use Rattle.shared_index_scenes.specs.Scenes.{CanBegin};
+
+use sdd_domain::atomic_shared::AtomicShared;
+use sdd_domain::domain::Domain;
+use sdd_domain::local::Local;
+use sdd_domain::refusal::RegisterRefused;
+use serial_history::{Accepted, Answer, Audit, Cause, Query, Receipt, Refused, Reply};
+use shared_index::{Book, Naming, NewRefused, Share};
+use shared_index_scenes::{Item, end, member, sized};
+use std::alloc::{AllocError, Global};
+use std::marker::Brand;
+use std::process::Abort;
+use std::sync::ledger::Blank;
+use version_views::Write;
+
+const TWICE: &str = "memory was refused twice";
+
+/// A participant, registered at once or, where memory was refused, by a second try.
+fn registered<R: Abort>(rt: &R, domain: &Domain<Item>, met: &mut bool) -> Local<Item>
+    ensures { IsUnengaged (place_of domain.now) result }
+{
+    match domain.register() {
+        Ok(local) => local,
+        Err(RegisterRefused::Memory) => {
+            *met = true;
+            member(rt, domain)
+        }
+        Err(RegisterRefused::Full) => panic!(rt; "a participant is free"),
+    }
+}
+
+/// An empty book with its cell and its shares, made again where memory was refused; then nothing was in use.
+fn book<L: Naming, R: Abort>(
+    rt: &R,
+    alloc: Global,
+    domain: &Domain<Item>,
+    local: Local<Item>,
+    blank: Blank,
+    met: &mut bool,
+) -> (Book<L, u64, u64, 2>, AtomicShared, Vec<Share<L>>)
+    requires { CanBegin L.place L.name L.parts 1 domain.now local blank }
+    ensures { cell_number result.1 < cell_count domain.now }
+{
+    let (local, blank) = match Book::new(alloc, domain, local, blank, 1, u64::MAX) {
+        Ok(made) => return made,
+        Err((local, blank, NewRefused::Memory)) => (local, blank),
+        Err((local, _, NewRefused::NoSlot)) => {
+            local.end(domain);
+            panic!(rt; "there is a slot and a cell")
+        }
+    };
+    *met = true;
+    assert_eq!(rt; domain.slots_in_use(), 0);
+    match Book::new(alloc, domain, local, blank, 1, u64::MAX) {
+        Ok(made) => made,
+        Err(_) => panic!(rt; "memory was refused twice"),
+    }
+}
+
+fn two_writes(alloc: Global) -> Result<Vec<Write<u64, u64>>, AllocError> {
+    let writes = vec![in alloc; Write::Insert(1, 10), Write::Upsert(1, 11)]?;
+    Ok(writes)
+}
+
+/// Two writes of one key, made again where memory was refused.
+fn writes<R: Abort>(rt: &R, alloc: Global, met: &mut bool) -> Vec<Write<u64, u64>> {
+    match two_writes(alloc) {
+        Ok(writes) => writes,
+        Err(AllocError) => {
+            *met = true;
+            two_writes(alloc).expect(rt, TWICE)
+        }
+    }
+}
+
+/// A receipt of the first list, in which the key is 11, made again likewise.
+fn receipt<R: Abort>(rt: &R, alloc: Global, met: &mut bool) -> Receipt<u64, u64> {
+    let mut receipt = Receipt::blank(alloc);
+    receipt.number = 1;
+    let told = Answer::Get(Some(11));
+    if receipt.note(Query::Get(1), &told).is_err() {
+        *met = true;
+        assert!(rt; receipt.reads.as_slice().is_empty());
+        receipt.note(Query::Get(1), &told).expect(rt, TWICE);
+    }
+    receipt
+}
+
+/// Commits the two writes, again where memory was refused; then the book, the share and the writes were as before.
+fn commit<L: Naming, R: Abort>(
+    rt: &R,
+    alloc: Global,
+    domain: &Domain<Item>,
+    root: &AtomicShared,
+    book: &mut Book<L, u64, u64, 2>,
+    share: &mut Share<L>,
+    receipt: &Receipt<u64, u64>,
+    met: &mut bool,
+) -> Accepted
+    requires place { place_of domain.now ≡ L.place }
+    requires inside { cell_number root.now < cell_count domain.now }
+{
+    let before = (
+        book.number(),
+        book.len(),
+        share.count(),
+        domain.slots_in_use(),
+    );
+    let writes = writes(rt, alloc, met);
+    let Refused { cause, writes } = match book.commit(domain, root, share, receipt, writes) {
+        Ok(accepted) => return accepted,
+        Err(refused) => refused,
+    };
+    *met = true;
+    assert!(rt; cause == Cause::Memory);
+    assert!(rt; writes.as_slice() == &[Write::Insert(1, 10), Write::Upsert(1, 11)][..]);
+    let after = (
+        book.number(),
+        book.len(),
+        share.count(),
+        domain.slots_in_use(),
+    );
+    assert_eq!(rt; after, before);
+    book.commit(domain, root, share, receipt, writes)
+        .expect(rt, TWICE)
+}
+
+/// Audits the receipt, again where memory was refused.
+fn audit<L: Naming, R: Abort>(
+    rt: &R,
+    book: &Book<L, u64, u64, 2>,
+    receipt: &Receipt<u64, u64>,
+    met: &mut bool,
+) -> Audit {
+    match book.audit(receipt) {
+        Ok(found) => found,
+        Err(AllocError) => {
+            *met = true;
+            book.audit(receipt).expect(rt, TWICE)
+        }
+    }
+}
+
+/// What is found of a book: what two commits tell, what an audit says, and the number, how many pairs there are and the count
+/// of the share.
+type Found = (Accepted, Accepted, Audit, (u64, usize, u64));
+
+/// A book that is made, written twice and asked about its first list.
+fn writes_and_audits<L: Naming, R: Abort>(
+    rt: &R,
+    alloc: Global,
+    domain: &Domain<Item>,
+    local: Local<Item>,
+    blank: Blank,
+    met: &mut bool,
+) -> Found
+    requires { CanBegin L.place L.name L.parts 1 domain.now local blank }
+{
+    let (mut book, root, mut shares) = book::<L, R>(rt, alloc, domain, local, blank, met);
+    let Some(mut share) = shares.pop() else {
+        panic!(rt; "there is a share")
+    };
+    let none = Receipt::blank(alloc);
+    let first = commit(rt, alloc, domain, &root, &mut book, &mut share, &none, met);
+    let read = receipt(rt, alloc, met);
+    let second = commit(rt, alloc, domain, &root, &mut book, &mut share, &read, met);
+    let audit = audit(rt, &book, &read, met);
+    let counts = (book.number(), book.len(), share.count());
+    let mut local = book.end(domain);
+    root.retire(domain, &mut local);
+    local.end(domain);
+    (first, second, audit, counts)
+}
+
+/// Whether a commit tells this.
+fn is_told(accepted: &Accepted, number: u64, replies: [Reply; 2]) -> bool {
+    accepted.number == number && accepted.replies.as_slice() == &replies[..]
+}
+
+/// Whether all was found as it is to be, whatever was refused.
+fn is_right(found: &Found) -> bool {
+    let (first, second, audit, counts) = found;
+    is_told(first, 1, [Reply::Inserted, Reply::Upserted])
+        && is_told(second, 2, [Reply::Duplicate, Reply::Upserted])
+        && *audit == Audit::Yes
+        && *counts == (2, 1, 2)
+}
+
+/// Whether an allocation was refused while a place and such a book in it were made and used. The place was made again where
+/// memory was refused.
+fn in_a_place<R: Abort>(rt: &R, alloc: Global) -> bool {
+    let mut met = false;
+    let domain = match Domain::new(alloc, sized(16)) {
+        Ok(domain) => domain,
+        Err(AllocError) => {
+            met = true;
+            Domain::new(alloc, sized(16)).expect(rt, TWICE)
+        }
+    };
+    let local = registered(rt, &domain, &mut met);
+    let found = writes_and_audits::<Brand, R>(rt, alloc, &domain, local, Blank::new(1), &mut met);
+    assert!(rt; is_right(&found));
+    let mut domain = domain;
+    for _i in 0..2u32 {
+        domain = match domain.close() {
+            Ok(()) => return met,
+            Err(back) => back,
+        };
+        met = true;
+    }
+    panic!(rt; "nobody is registered")
+}
+
+#[test]
+fn a_refusal_of_memory_leaves_the_book(rt: HostRuntime) {
+    let _met = in_a_place(&rt, rt.alloc());
+}
+
+#[test]
+fn no_memory_is_refused(rt: HostRuntime) {
+    assert!(rt; !in_a_place(&rt, rt.alloc()));
+}

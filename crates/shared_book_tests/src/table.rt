@@ -1,0 +1,211 @@
+//! Calls of a book as data, so that a test of many calls is a table.
+
+ghost use Rattle.std.specs.Prelude.{◌≤◌};
+ghost use Rattle.shared_index_scenes.specs.Scenes.{CanBegin};
+
+use sdd_domain::domain::Domain;
+use sdd_domain::local::Local;
+use serial_history::{
+    Accepted, Answer, Audit, Cause, Near, Query, Receipt, Recorded, Refused, Reply, Seq,
+};
+use shared_index::Naming;
+use shared_index_scenes::{Item, ROOM, Scene, end, member, sized};
+use std::alloc::{AllocError, Global};
+use std::marker::Brand;
+use std::ops::Bound;
+use std::process::Abort;
+use std::sync::ledger::Blank;
+use version_views::Write;
+
+/// A read that a receipt claims.
+#[derive(Clone, Copy)]
+pub(crate) enum Claim {
+    /// The value of a key.
+    Got(u64, Option<u64>),
+    /// Whether a pair has a key.
+    Has(u64, bool),
+    /// The pairs within two bounds.
+    Listed(Bound<u64>, Bound<u64>, &'static [(u64, u64)]),
+    /// A key, and the value of the pair that has it.
+    Exact(u64, u64),
+    /// A key, and the nearest pairs.
+    Between(u64, (u64, u64), (u64, u64)),
+    /// A look-up of a key with an answer of another kind: whether a pair has it.
+    Mixed(u64, bool),
+}
+
+/// A call of a book. A receipt is its number and what it claims.
+#[derive(Clone, Copy)]
+pub(crate) enum Call {
+    Commit(u64, &'static [Claim], &'static [Write<u64, u64>]),
+    Audit(u64, &'static [Claim]),
+    Counts,
+    Reclaim,
+}
+
+/// What a call answers.
+#[derive(Clone, Copy)]
+pub(crate) enum Told {
+    Accepted(u64, &'static [Reply]),
+    /// The writes come back.
+    Refused(Cause),
+    Audited(Audit),
+    /// The number, how many pairs there are, and the count of the share.
+    Counted(u64, usize, u64),
+    Done,
+}
+
+/// The read that a receipt claims, as it is recorded.
+fn recorded(alloc: Global, claim: Claim) -> Result<Recorded<u64, u64>, AllocError> {
+    match claim {
+        Claim::Got(key, value) => Ok((Query::Get(key), Answer::Get(value))),
+        Claim::Has(key, there) => Ok((Query::Contains(key), Answer::Contains(there))),
+        Claim::Listed(lower, upper, pairs) => {
+            let pairs = Seq::from_vec(Vec::from_clones(alloc, pairs)?);
+            Ok((Query::Range(lower, upper), Answer::Range(pairs)))
+        }
+        Claim::Exact(key, value) => Ok((
+            Query::Locate(key),
+            Answer::Locate(Near::Exact(key, value)),
+        )),
+        Claim::Between(key, low, high) => Ok((
+            Query::Locate(key),
+            Answer::Locate(Near::Between(low.0, low.1, high.0, high.1)),
+        )),
+        Claim::Mixed(key, there) => Ok((Query::Get(key), Answer::Contains(there))),
+    }
+}
+
+/// The receipt of this number with these reads.
+fn receipt(alloc: Global, number: u64, claims: &[Claim]) -> Result<Receipt<u64, u64>, AllocError> {
+    let mut receipt = Receipt::blank(alloc);
+    receipt.number = number;
+    for claim in claims {
+        let (query, answer) = recorded(alloc, *claim)?;
+        receipt.note(query, &answer)?;
+    }
+    Ok(receipt)
+}
+
+/// Commits the writes on the receipt, and tells whether the answer is the one that is wanted.
+fn commits<L: Naming, R: Abort, const S: usize>(
+    rt: &R,
+    alloc: Global,
+    scene: &mut Scene<'_, L, S>,
+    receipt: &Receipt<u64, u64>,
+    writes: &[Write<u64, u64>],
+    wanted: Told,
+) -> bool {
+    let made = Vec::from_clones(alloc, writes).expect(rt, ROOM);
+    match (scene.commit(receipt, made), wanted) {
+        (Ok(told), Told::Accepted(number, replies)) => told.number == number
+            && told.replies.as_slice() == replies,
+        (Err(told), Told::Refused(cause)) => told.cause == cause
+            && told.writes.as_slice() == writes,
+        _ => false,
+    }
+}
+
+/// Makes a call, and tells whether it answers what is wanted.
+fn answers<L: Naming, R: Abort, const S: usize>(
+    rt: &R,
+    alloc: Global,
+    scene: &mut Scene<'_, L, S>,
+    call: Call,
+    wanted: Told,
+) -> bool {
+    match (call, wanted) {
+        (Call::Commit(number, claims, writes), _) => {
+            let receipt = receipt(alloc, number, claims).expect(rt, ROOM);
+            commits(rt, alloc, scene, &receipt, writes, wanted)
+        }
+        (Call::Audit(number, claims), Told::Audited(audit)) => {
+            let receipt = receipt(alloc, number, claims).expect(rt, ROOM);
+            scene.audit(&receipt) == Ok(audit)
+        }
+        (Call::Counts, Told::Counted(number, pairs, count)) => {
+            scene.counts() == (number, pairs, count)
+        }
+        (Call::Reclaim, Told::Done) => {
+            scene.reclaim();
+            true
+        }
+        _ => false,
+    }
+}
+
+/// Makes the calls of a table on a book, and ends it: how many answer what is wanted before the first that doesn't.
+fn played<L: Naming, R: Abort, const S: usize>(
+    rt: &R,
+    alloc: Global,
+    scene: Scene<'_, L, S>,
+    rows: &[(Call, Told)],
+) -> usize {
+    let mut scene = scene;
+    let mut right = 0usize;
+    for at in 0..rows.len() {
+        let (call, wanted) = rows[at];
+        if right == at && answers(rt, alloc, &mut scene, call, wanted) {
+            right = right.saturating_add(1);
+        }
+    }
+    scene.end();
+    right
+}
+
+/// Plays a table on an empty book with two pairs in a segment at most.
+fn by_twos<L: Naming, R: Abort>(
+    rt: &R,
+    alloc: Global,
+    domain: &Domain<Item>,
+    local: Local<Item>,
+    blank: Blank,
+    last: u64,
+    rows: &[(Call, Told)],
+)
+    requires { CanBegin L.place L.name L.parts 1 domain.now local blank }
+{
+    let scene = Scene::<L, 2>::new(rt, alloc, domain, local, blank, last);
+    assert_eq!(rt; played(rt, alloc, scene, rows), rows.len());
+}
+
+/// The same with one pair.
+fn by_ones<L: Naming, R: Abort>(
+    rt: &R,
+    alloc: Global,
+    domain: &Domain<Item>,
+    local: Local<Item>,
+    blank: Blank,
+    last: u64,
+    rows: &[(Call, Told)],
+)
+    requires { CanBegin L.place L.name L.parts 1 domain.now local blank }
+{
+    let scene = Scene::<L, 1>::new(rt, alloc, domain, local, blank, last);
+    assert_eq!(rt; played(rt, alloc, scene, rows), rows.len());
+}
+
+/// Plays tables, each on an empty book with 64 slots and two pairs in a segment at most.
+pub(crate) fn on_books<R: Abort>(rt: &R, alloc: Global, tables: &[&[(Call, Told)]]) {
+    for rows in tables {
+        on_a_book(rt, alloc, u64::MAX, rows);
+    }
+}
+
+/// Plays a table on an empty book with 64 slots, up to a last number, with two pairs in a segment at most.
+pub(crate) fn on_a_book<R: Abort>(rt: &R, alloc: Global, last: u64, rows: &[(Call, Told)]) {
+    let domain = Domain::new(alloc, sized(64)).expect(rt, ROOM);
+    let local = member(rt, &domain);
+    by_twos::<Brand, R>(rt, alloc, &domain, local, Blank::new(1), last, rows);
+    end(rt, domain);
+}
+
+/// Plays a table on an empty book with so many slots, with one pair in each segment.
+pub(crate) fn on_a_small_book<R: Abort>(rt: &R, alloc: Global, slots: usize, rows: &[(Call, Told)])
+    requires { (1 ≤ slots) × (slots ≤ 1073741824) }
+{
+    let domain = Domain::new(alloc, sized(slots)).expect(rt, ROOM);
+    let local = member(rt, &domain);
+    by_ones::<Brand, R>(rt, alloc, &domain, local, Blank::new(1), u64::MAX, rows);
+    end(rt, domain);
+}

@@ -1,0 +1,8 @@
+pub mod BaseVersionLemmas
+pub mod CuttingLemmas
+pub mod DeltaLemmas
+pub mod GapLemmas
+pub mod MergeLemmas
+pub mod RangeLemmas
+pub mod SpanLemmas
+pub mod StretchLemmas

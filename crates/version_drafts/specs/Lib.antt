@@ -1,0 +1,6 @@
+pub mod Built
+pub mod Parts
+pub mod Changes
+pub mod Cutting
+pub mod Gone
+pub mod Placing

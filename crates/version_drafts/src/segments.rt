@@ -1,0 +1,478 @@
+//! Lists of pairs cut into segments, some of which are taken over from an older version.
+
+ghost use Rattle.std.specs.Prelude.{◌≡◌, ◌≤◌, ◌<◌, ◌+◌, ◌-◌, ◌++◌, ◌∷◌, [], Some, None, List, length, map, option_copied, slice_get, IfOk, OnOk};
+ghost use Rattle.leaf_array.specs.Pairs.{IsAscending};
+ghost use Rattle.leaf_array.specs.Values.{ClonesAreSame};
+ghost use Rattle.version_views.specs.Cuts.{IsCut, IsSeparated, greatest_key, pairs_in};
+ghost use Rattle.version_drafts.specs.Cutting.{IsClosing, IsCutting, IsSegmentRow, OfBlock, StaysApart, between, given_pairs, room_spent, trees};
+ghost use Rattle.version_drafts.specs.Parts.{HasMadeTree, blocks_of_parts, made_in};
+
+use crate::draft::BaseVersion;
+use crate::scans::ChangeScan;
+use std::alloc::{AllocError, Global};
+use std::mem;
+use tree_index::TreeIndex;
+use version_views::Segment;
+
+/// A segment of a version that is being built: one of the older version, by its name, or a new one.
+#[derive(Drop)]
+pub enum Part<K: Ord, V, N> {
+    /// The older segment of this name, which is taken over.
+    Taken(N),
+    /// A segment that was made for it: boxed, since there are few, and parts are moved.
+    Made(Box<Segment<K, V>>),
+}
+
+/// The segments of a list, in order, with the greatest key of each but the last.
+#[derive(Drop)]
+pub struct Segments<K: Ord, V, N> {
+    /// The segments.
+    pub parts: Vec<Part<K, V, N>>,
+    /// The greatest key of each segment but the last.
+    pub separators: Vec<K>,
+    /// How many pairs all segments hold.
+    pub length: usize,
+}
+
+/// Parts in a row, with the greatest key of each.
+#[derive(Drop)]
+pub(crate) struct Row<K: Ord, V, N> {
+    pub(crate) parts: Vec<Part<K, V, N>>,
+    pub(crate) separators: Vec<K>,
+    // how many pairs the last part has; 0 where there is none
+    pub(crate) last: usize,
+}
+
+/// Puts a part behind the others, with its greatest key and how many pairs it has.
+#[inline(always)]
+pub(crate) fn give<K: Ord + Drop, V: Drop, N: Drop>(
+    row: &mut Row<K, V, N>,
+    part: Part<K, V, N>,
+    greatest: K,
+    size: usize,
+) -> Result<(), AllocError>
+    ensures parts { OnOk result (row.new.parts.items ≡ row.old.parts.items ++ part ∷ []) }
+    ensures separators { OnOk result (row.new.separators.items ≡ row.old.separators.items ++ greatest ∷ []) }
+    ensures last { OnOk result (row.new.last ≡ size) }
+{
+    row.parts.push(part)?;
+    row.separators.push(greatest)?;
+    row.last = size;
+    Ok(())
+}
+
+/// The pairs that were given so far, by rising keys: in segments that are done, and in a last tree that takes more.
+#[derive(Drop)]
+pub(crate) struct SegmentBuilder<K: Ord, V, N> {
+    pub(crate) alloc: Global,
+    pub(crate) row: Row<K, V, N>,
+    // where the last segment of the row is one of the older version, its place there
+    pub(crate) held: Option<usize>,
+    pub(crate) tail: Segment<K, V>,
+    pub(crate) length: usize,
+    // up to how many pairs in all are known to come, so that a tree is begun with room for them
+    pub(crate) until: usize,
+}
+
+/// A builder that was given no pair, with room for all segments that changes of so many keys and ranges can leave.
+pub(crate) fn begun<K: Ord + Drop, V: Drop, N: Drop, O: BaseVersion<K, V, N>, const S: usize>(
+    alloc: Global,
+    old: &O,
+    named: usize,
+) -> Result<SegmentBuilder<K, V, N>, AllocError>
+    requires { (1 ≤ S) × (S ≤ 225) }
+    ensures whole { IfOk result (λ out. IsCutting (O.named old.now) K.cmp S (O.blocks old.now) out) }
+    ensures empty { IfOk result (λ out. given_pairs (O.named old.now) out ≡ []) }
+    ensures none { IfOk result (λ out. (trees out ≡ 0) × (out.row.last ≡ 0)) }
+{
+    let most = most_segments(old.count(), named, S);
+    let parts = Vec::with_capacity(alloc, most)?;
+    let separators = Vec::with_capacity(alloc, most)?;
+    Ok(SegmentBuilder {
+        alloc,
+        row: Row {
+            parts,
+            separators,
+            last: 0,
+        },
+        held: None,
+        tail: Segment::new(alloc),
+        length: 0,
+        until: 0,
+    })
+}
+
+/// How many segments of up to `s` pairs so many changes can leave of so many segments: two more for each change, and since
+/// two neighbours hold more than `s` pairs, no more than all pairs together fill.
+fn most_segments(count: usize, named: usize, s: usize) -> usize
+    requires { s ≤ 225 }
+{
+    let touched = named.saturating_mul(2);
+    let filled = count.saturating_mul(2).saturating_add(touched / (s + 1));
+    count.saturating_add(touched).min(filled.saturating_add(2))
+}
+
+/// Tells that about so many pairs come next, so that a tree has room for them from its beginning on.
+pub(crate) fn expect<K: Ord + Drop, V: Drop, N, const S: usize>(
+    out: &mut SegmentBuilder<K, V, N>,
+    pairs: usize,
+) -> Result<(), AllocError>
+    ensures row { OnOk result (out.new.row ≡ out.old.row) }
+    ensures held { OnOk result (out.new.held ≡ out.old.held) }
+    ensures tail { OnOk result (out.new.tail.pairs ≡ out.old.tail.pairs) }
+    ensures length { OnOk result (out.new.length ≡ out.old.length) }
+{
+    out.until = out.length.saturating_add(pairs);
+    if pairs > 0 && out.tail.is_empty() {
+        out.tail = Segment::with_capacity(out.alloc, room_ahead::<K, V, N, S>(out))?;
+    }
+    Ok(())
+}
+
+/// For how many of the pairs that are known to come one tree has room.
+fn room_ahead<K: Ord, V, N, const S: usize>(out: &SegmentBuilder<K, V, N>) -> usize {
+    out.until.saturating_sub(out.length).min(S)
+}
+
+/// Takes a pair whose key is above all that were given. `usize::MAX` pairs are the most: one more is answered as memory.
+pub(crate) fn push<
+    K: Clone + Ord + Drop,
+    V: Drop,
+    N: Drop,
+    O: BaseVersion<K, V, N>,
+    const S: usize,
+>(out: &mut SegmentBuilder<K, V, N>, old: &O, key: K, value: V) -> Result<(), AllocError>
+    requires clones { ClonesAreSame K.is_clone }
+    requires whole { IsCutting (O.named old.now) K.cmp S (O.blocks old.now) out.old }
+    requires rising { IsAscending K.cmp (given_pairs (O.named old.now) out.old ++ (key, value) ∷ []) }
+    ensures whole { OnOk result (IsCutting (O.named old.now) K.cmp S (O.blocks old.now) out.new) }
+    ensures pairs { OnOk result (given_pairs (O.named old.now) out.new ≡ given_pairs (O.named old.now) out.old ++ (key, value) ∷ []) }
+    ensures spent { OnOk result (room_spent S out.new ≡ room_spent S out.old + 1) }
+    ensures some { OnOk result (0 < length out.new.tail.pairs) }
+{
+    let _ = old;
+    let Some(length) = out.length.checked_add(1) else {
+        return Err(AllocError);
+    };
+    if out.tail.len() < S {
+        let Ok(()) = out.tail.push(key, value) else {
+            return Err(AllocError);
+        };
+        out.length = length;
+        Ok(())
+    } else {
+        let next = single(out.alloc, room_ahead::<K, V, N, S>(out), key, value)?;
+        close(out, next)?;
+        out.length = length;
+        Ok(())
+    }
+}
+
+/// Takes a segment of the older version over, whose keys are above all that were given.
+fn take<K: Clone + Ord + Drop, V: Clone + Drop, N: Drop, O: BaseVersion<K, V, N>, const S: usize>(
+    out: &mut SegmentBuilder<K, V, N>,
+    old: &O,
+    place: usize,
+) -> Result<(), AllocError>
+    requires keys { ClonesAreSame K.is_clone }
+    requires values { ClonesAreSame V.is_clone }
+    requires separated { IsSeparated (O.blocks old.now) (O.separators old.now) }
+    requires whole { IsCutting (O.named old.now) K.cmp S (O.blocks old.now) out.old }
+    requires apart { StaysApart (O.named old.now) K.cmp S (O.blocks old.now) place out.old }
+    ensures whole { OnOk result (IsCutting (O.named old.now) K.cmp S (O.blocks old.now) out.new) }
+    ensures pairs { OnOk result ((b : List (K × V)) → slice_get (O.blocks old.now) place ≡ Some b → given_pairs (O.named old.now) out.new ≡ given_pairs (O.named old.now) out.old ++ b) }
+    ensures trees { OnOk result (trees out.new ≡ trees out.old) }
+    ensures last { OnOk result ((b : List (K × V)) → slice_get (O.blocks old.now) place ≡ Some b → out.new.row.last ≡ length b) }
+    ensures tail { OnOk result (out.new.tail.pairs ≡ []) }
+{
+    seal::<K, V, N, O, S>(out, old)?;
+    take_over::<K, V, N, O, S>(out, old, place)?;
+    Ok(())
+}
+
+/// Takes the segments of the older version from one place up to another over, whose keys are above all that were given. No
+/// key is compared.
+pub(crate) fn take_stretch<
+    K: Clone + Ord + Drop,
+    V: Clone + Drop,
+    N: Drop,
+    O: BaseVersion<K, V, N>,
+    const S: usize,
+>(out: &mut SegmentBuilder<K, V, N>, old: &O, from: usize, upto: usize) -> Result<(), AllocError>
+    requires keys { ClonesAreSame K.is_clone }
+    requires values { ClonesAreSame V.is_clone }
+    requires old { IsCut K.cmp S (O.blocks old.now) (O.separators old.now) }
+    requires whole { IsCutting (O.named old.now) K.cmp S (O.blocks old.now) out.old }
+    requires apart { StaysApart (O.named old.now) K.cmp S (O.blocks old.now) from out.old }
+    requires some { from < upto }
+    requires within { upto ≤ length (O.blocks old.now) }
+    requires rising { IsAscending K.cmp (given_pairs (O.named old.now) out.old ++ pairs_in (between from upto (O.blocks old.now))) }
+    ensures whole { OnOk result (IsCutting (O.named old.now) K.cmp S (O.blocks old.now) out.new) }
+    ensures pairs { OnOk result (given_pairs (O.named old.now) out.new ≡ given_pairs (O.named old.now) out.old ++ pairs_in (between from upto (O.blocks old.now))) }
+    ensures trees { OnOk result (trees out.new ≡ trees out.old) }
+    ensures last { OnOk result ((b : List (K × V)) → Some b ≡ slice_get (O.blocks old.now) (upto - 1) → out.new.row.last ≡ length b) }
+{
+    take::<K, V, N, O, S>(out, old, from)?;
+    for place in from + 1..upto {
+        take_next::<K, V, N, O, S>(out, old, place)?;
+    }
+    Ok(())
+}
+
+/// Takes a segment of the older version over where no tree is open.
+#[inline(always)]
+fn take_next<K: Clone + Ord + Drop, V: Drop, N: Drop, O: BaseVersion<K, V, N>, const S: usize>(
+    out: &mut SegmentBuilder<K, V, N>,
+    old: &O,
+    place: usize,
+) -> Result<(), AllocError>
+    requires keys { ClonesAreSame K.is_clone }
+    requires separated { IsSeparated (O.blocks old.now) (O.separators old.now) }
+    requires whole { IsCutting (O.named old.now) K.cmp S (O.blocks old.now) out.old }
+    requires apart { StaysApart (O.named old.now) K.cmp S (O.blocks old.now) place out.old }
+    requires none { out.old.tail.pairs ≡ [] }
+    ensures whole { OnOk result (IsCutting (O.named old.now) K.cmp S (O.blocks old.now) out.new) }
+    ensures pairs { OnOk result ((b : List (K × V)) → slice_get (O.blocks old.now) place ≡ Some b → given_pairs (O.named old.now) out.new ≡ given_pairs (O.named old.now) out.old ++ b) }
+    ensures trees { OnOk result (trees out.new ≡ trees out.old) }
+    ensures last { OnOk result ((b : List (K × V)) → slice_get (O.blocks old.now) place ≡ Some b → out.new.row.last ≡ length b) }
+    ensures tail { OnOk result (out.new.tail.pairs ≡ []) }
+{
+    take_over::<K, V, N, O, S>(out, old, place)?;
+    Ok(())
+}
+
+/// Puts a segment of the older version behind those that are done.
+#[inline(always)]
+fn take_over<K: Clone + Ord + Drop, V: Drop, N: Drop, O: BaseVersion<K, V, N>, const S: usize>(
+    out: &mut SegmentBuilder<K, V, N>,
+    old: &O,
+    place: usize,
+) -> Result<(), AllocError>
+    requires keys { ClonesAreSame K.is_clone }
+    requires separated { IsSeparated (O.blocks old.now) (O.separators old.now) }
+    requires within { place < length (O.blocks old.now) }
+    ensures part { OnOk result ((name : N) × (Some (O.named old.now name) ≡ slice_get (O.blocks old.now) place) × (out.new.row.parts.items ≡ out.old.row.parts.items ++ Part.Taken name ∷ [])) }
+    ensures separators { OnOk result (OfBlock (O.blocks old.now) place (λ b. map Some out.new.row.separators.items ≡ map Some out.old.row.separators.items ++ greatest_key b ∷ [])) }
+    ensures last { OnOk result (OfBlock (O.blocks old.now) place (λ b. (out.new.row.last ≡ length b) × (out.new.length ≡ out.old.length + length b))) }
+    ensures held { OnOk result (out.new.held ≡ Some place) }
+    ensures tail { OnOk result (out.new.tail ≡ out.old.tail) }
+{
+    let tree = old.segment(place);
+    let Some(length) = out.length.checked_add(tree.len()) else {
+        return Err(AllocError);
+    };
+    let key = match greatest_at::<K, V, N, O>(old, place) {
+        Some(key) => key.clone()?,
+        None => return Err(AllocError),
+    };
+    give(&mut out.row, Part::Taken(old.name(place)), key, tree.len())?;
+    out.held = Some(place);
+    out.length = length;
+    Ok(())
+}
+
+/// The segments of all pairs that were given.
+pub(crate) fn finish<
+    K: Clone + Ord + Drop,
+    V: Clone + Drop,
+    N: Drop,
+    O: BaseVersion<K, V, N>,
+    const S: usize,
+>(mut out: SegmentBuilder<K, V, N>, old: &O) -> Result<Segments<K, V, N>, AllocError>
+    requires keys { ClonesAreSame K.is_clone }
+    requires values { ClonesAreSame V.is_clone }
+    requires whole { IsCutting (O.named old.now) K.cmp S (O.blocks old.now) out }
+    ensures cut { IfOk result (λ made. IsCut K.cmp S (blocks_of_parts (O.named old.now) made.parts.items) made.separators.items) }
+    ensures list { IfOk result (λ made. pairs_in (blocks_of_parts (O.named old.now) made.parts.items) ≡ given_pairs (O.named old.now) out) }
+    ensures length { IfOk result (λ made. made.length ≡ length (pairs_in (blocks_of_parts (O.named old.now) made.parts.items))) }
+    ensures made { IfOk result (λ made. made_in made.parts.items ≡ trees out) }
+{
+    seal::<K, V, N, O, S>(&mut out, old)?;
+    let SegmentBuilder {
+        alloc: _,
+        row,
+        held: _,
+        tail: _,
+        length,
+        until: _,
+    } = out;
+    let Row {
+        parts,
+        mut separators,
+        last: _,
+    } = row;
+    let _greatest = separators.pop();
+    Ok(Segments {
+        parts,
+        separators,
+        length,
+    })
+}
+
+/// Ends the open tree if it has a pair, with the older segment before it where both fit into one.
+fn seal<K: Clone + Ord + Drop, V: Clone + Drop, N: Drop, O: BaseVersion<K, V, N>, const S: usize>(
+    out: &mut SegmentBuilder<K, V, N>,
+    old: &O,
+) -> Result<(), AllocError>
+    requires keys { ClonesAreSame K.is_clone }
+    requires values { ClonesAreSame V.is_clone }
+    requires whole { IsCutting (O.named old.now) K.cmp S (O.blocks old.now) out.old }
+    ensures row { OnOk result (IsSegmentRow (O.named old.now) S out.new.row) }
+    ensures pairs { OnOk result (pairs_in (blocks_of_parts (O.named old.now) out.new.row.parts.items) ≡ given_pairs (O.named old.now) out.old) }
+    ensures made { OnOk result (made_in out.new.row.parts.items ≡ trees out.old) }
+    ensures last { OnOk result (0 < length out.old.tail.pairs → length out.old.tail.pairs ≤ out.new.row.last) }
+    ensures same { OnOk result (length out.old.tail.pairs ≡ 0 → out.new.row.last ≡ out.old.row.last) }
+    ensures tail { OnOk result (out.new.tail.pairs ≡ []) }
+    ensures length { OnOk result (out.new.length ≡ out.old.length) }
+{
+    if out.tail.is_empty() {
+        return Ok(());
+    }
+    join::<K, V, N, O, S>(out, old)?;
+    let next = Segment::new(out.alloc);
+    close(out, next)?;
+    Ok(())
+}
+
+/// Brings the older segment that is held into the open tree, where both fit into one.
+fn join<K: Clone + Ord + Drop, V: Clone + Drop, N: Drop, O: BaseVersion<K, V, N>, const S: usize>(
+    out: &mut SegmentBuilder<K, V, N>,
+    old: &O,
+) -> Result<(), AllocError>
+    requires keys { ClonesAreSame K.is_clone }
+    requires values { ClonesAreSame V.is_clone }
+    requires whole { IsCutting (O.named old.now) K.cmp S (O.blocks old.now) out.old }
+    requires some { 0 < length out.old.tail.pairs }
+    ensures closing { OnOk result (IsClosing (O.named old.now) S out.new) }
+    ensures pairs { OnOk result (given_pairs (O.named old.now) out.new ≡ given_pairs (O.named old.now) out.old) }
+    ensures made { OnOk result (made_in out.new.row.parts.items ≡ made_in out.old.row.parts.items) }
+    ensures tail { OnOk result (length out.old.tail.pairs ≤ length out.new.tail.pairs) }
+    ensures length { OnOk result (out.new.length ≡ out.old.length) }
+{
+    let place = match out.held {
+        None => return Ok(()),
+        Some(place) => place,
+    };
+    if S - out.tail.len() < out.row.last {
+        return Ok(());
+    }
+    absorb(out.alloc, &mut out.tail, old.segment(place))?;
+    let _part = out.row.parts.pop();
+    let _greatest = out.row.separators.pop();
+    Ok(())
+}
+
+/// Puts the open tree behind the segments that are done, and goes on with another one.
+fn close<K: Clone + Ord + Drop, V: Drop, N: Drop>(
+    out: &mut SegmentBuilder<K, V, N>,
+    next: Segment<K, V>,
+) -> Result<(), AllocError>
+    requires { ClonesAreSame K.is_clone }
+    ensures parts { OnOk result ((part : Part K V N) × HasMadeTree out.old.tail part × (out.new.row.parts.items ≡ out.old.row.parts.items ++ part ∷ [])) }
+    ensures separators { OnOk result (map Some out.new.row.separators.items ≡ map Some out.old.row.separators.items ++ greatest_key out.old.tail.pairs ∷ []) }
+    ensures last { OnOk result (out.new.row.last ≡ length out.old.tail.pairs) }
+    ensures held { OnOk result (out.new.held ≡ None) }
+    ensures tail { OnOk result (out.new.tail ≡ next) }
+    ensures length { OnOk result (out.new.length ≡ out.old.length) }
+{
+    let key = match greatest(out.tail.tree()) {
+        Some(key) => key.clone()?,
+        None => return Err(AllocError),
+    };
+    let size = out.tail.len();
+    let part = made(out.alloc, mem::replace(&mut out.tail, next))?;
+    give(&mut out.row, part, key, size)?;
+    out.held = None;
+    Ok(())
+}
+
+/// A part with a tree that was made.
+fn made<K: Ord + Drop, V: Drop, N>(
+    alloc: Global,
+    tree: Segment<K, V>,
+) -> Result<Part<K, V, N>, AllocError>
+    ensures { IfOk result (λ part. HasMadeTree tree part) }
+{
+    Ok(Part::Made(Box::new(alloc, tree)?))
+}
+
+/// Puts clones of a tree's pairs before those of a segment.
+fn absorb<K: Clone + Ord + Drop, V: Clone + Drop>(
+    alloc: Global,
+    into: &mut Segment<K, V>,
+    tree: &TreeIndex<K, V>,
+) -> Result<(), AllocError>
+    requires keys { ClonesAreSame K.is_clone }
+    requires values { ClonesAreSame V.is_clone }
+    requires rising { IsAscending K.cmp (tree.now.pairs ++ into.old.pairs) }
+    requires room { length tree.now.pairs + length into.old.pairs ≤ 225 }
+    ensures { OnOk result (into.new.pairs ≡ tree.now.pairs ++ into.old.pairs) }
+{
+    let mut both = Segment::copied(alloc, tree)?;
+    append(&mut both, into.tree())?;
+    *into = both;
+    Ok(())
+}
+
+/// Puts clones of a tree's pairs behind those of a segment.
+fn append<K: Clone + Ord + Drop, V: Clone + Drop>(
+    into: &mut Segment<K, V>,
+    tree: &TreeIndex<K, V>,
+) -> Result<(), AllocError>
+    requires keys { ClonesAreSame K.is_clone }
+    requires values { ClonesAreSame V.is_clone }
+    requires rising { IsAscending K.cmp (into.old.pairs ++ tree.now.pairs) }
+    requires room { length into.old.pairs + length tree.now.pairs ≤ 225 }
+    ensures { OnOk result (into.new.pairs ≡ into.old.pairs ++ tree.now.pairs) }
+{
+    let mut left = ChangeScan::new(tree);
+    while let Some((key, value)) = left.front() {
+        let Ok(()) = into.push(key.clone()?, value.clone()?) else {
+            return Err(AllocError);
+        };
+        left.step();
+    }
+    Ok(())
+}
+
+/// A segment of one pair, with room for so many.
+fn single<K: Clone + Ord + Drop, V: Drop>(
+    alloc: Global,
+    room: usize,
+    key: K,
+    value: V,
+) -> Result<Segment<K, V>, AllocError>
+    requires { ClonesAreSame K.is_clone }
+    ensures { IfOk result (λ tree. tree.pairs ≡ (key, value) ∷ []) }
+{
+    let mut tree = Segment::with_capacity(alloc, room)?;
+    match tree.push(key, value) {
+        Ok(()) => Ok(tree),
+        Err(_) => Err(AllocError),
+    }
+}
+
+/// The greatest key of the segment at a place: of each but the last, its separator.
+pub(crate) fn greatest_at<'o, K: Ord, V: 'o, N: 'o, O: BaseVersion<K, V, N>>(
+    old: &'o O,
+    place: usize,
+) -> Option<&'o K>
+    requires separated { IsSeparated (O.blocks old.now) (O.separators old.now) }
+    requires within { place < length (O.blocks old.now) }
+    ensures { (b : List (K × V)) → Some b ≡ slice_get (O.blocks old.now) place → option_copied result ≡ greatest_key b }
+{
+    match old.separators().get(place) {
+        Some(key) => Some(key),
+        None => greatest(old.segment(place)),
+    }
+}
+
+/// The greatest key of a tree.
+fn greatest<K: Ord, V>(tree: &TreeIndex<K, V>) -> Option<&K>
+    ensures { option_copied result ≡ greatest_key tree.now.pairs }
+{
+    match tree.iter().next_back() {
+        Some((key, _)) => Some(key),
+        None => None,
+    }
+}

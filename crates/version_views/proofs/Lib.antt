@@ -1,0 +1,12 @@
+pub mod BlockLemmas
+pub mod BlockListLemmas
+pub mod ChangeScanLemmas
+pub mod CursorEndLemmas
+pub mod FilterLemmas
+pub mod FlipLemmas
+pub mod HalvingLemmas
+pub mod LocatingLemmas
+pub mod OptionLemmas
+pub mod PlaceLemmas
+pub mod SeparatorSearchLemmas
+pub mod SlotLemmas

@@ -1,0 +1,11 @@
+pub mod Cuts
+pub mod Items
+pub mod Versions
+pub mod Views
+pub mod CursorEnds
+pub mod Nearby
+pub mod SeparatorSearch
+pub mod Segments
+pub mod ChangeScans
+pub mod Writes
+pub mod Sizes

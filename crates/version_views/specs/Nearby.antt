@@ -1,0 +1,13 @@
+-- Where a key stands in a version, as it stands in a tree.
+use Rattle.tree_index.specs.declared.proximity.Proximity.{Proximity}
+use Rattle.tree_index.specs.declared.proximity.Proximity.TheVariants as trees
+use Rattle.version_views.specs.declared.nearby.Nearby.{Nearby}
+use Rattle.version_views.specs.declared.nearby.Nearby.TheVariants as versions
+
+-- the same case with the same cursor
+abbrev pub as_proximity : {K V W O : Type 0} → Nearby K V W O → Proximity K V
+as_proximity (versions.Exact c) = trees.Exact c
+as_proximity (versions.Between c) = trees.Between c
+as_proximity (versions.Smaller c) = trees.Smaller c
+as_proximity (versions.Larger c) = trees.Larger c
+as_proximity versions.Empty = trees.Empty

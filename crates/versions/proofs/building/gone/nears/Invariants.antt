@@ -1,8 +1,0 @@
-use Rattle.std.proofs.Common.{ℕ, ◌<◌, get_or}
-use Rattle.versions.specs.Gone.{IsNear}
-use Rattle.versions.specs.declared.building.gone.Gone.{Gone}
-use Rattle.versions.proofs.building.gone.nears.Given as goal
-
--- none so far is near
-abbrev pub invariant-loop-range : goal.invariant-loop-range
-invariant-loop-range g l = (i : ℕ) (d : Gone g.row.K.Denot) → i < l.range-index → IsNear (get_or l.gone i d) l.place → ⊥

@@ -1,6 +1,0 @@
-use Rattle.std.proofs.Common.{refl}
-use Rattle.versions.proofs.CuttingLemmas.{cutting_none}
-use Rattle.versions.proofs.building.segments.begun.Goals as goal
-
-pub returns-clause-whole : goal.returns-clause-whole
-returns-clause-whole g c = cutting_none g.K.Ord.cmp (g.O.BaseVersion.named c.args.old.now) g.row.S (g.O.BaseVersion.blocks c.args.old.now) _ c.requires.0 c.requires.1 c.in_ok-parts.ensures.items c.in_ok-separators.ensures.items refl refl c.new.ensures refl

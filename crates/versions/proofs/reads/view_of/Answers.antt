@@ -1,0 +1,10 @@
+use Rattle.std.proofs.Common.{sym, ◌∙◌}
+use Rattle.sdd_base.specs.State.{value_at}
+use Rattle.version_views.proofs.BlockLemmas.{version_viewed, viewed_blocks}
+use Rattle.versions.proofs.reads.view_of.Goals as goal
+
+pub new-requires : goal.new-requires
+new-requires g c = version_viewed g.K.Ord.cmp (value_at c.args.w.now) c.args.dir.now c.requires
+
+pub returns : goal.returns
+returns g c = c.new.ensures ∙ sym (viewed_blocks g.K.Ord.cmp (value_at c.args.w.now) c.args.dir.now)
