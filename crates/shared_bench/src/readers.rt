@@ -9,8 +9,8 @@ use sdd_domain::atomic_shared::AtomicShared;
 use sdd_domain::domain::Domain;
 use sdd_domain::local::Local;
 use std::alloc::{AllocError, Global};
-use std::thread::Threads;
 use std::thread;
+use std::thread::Threads;
 use std::time::{Clock, Instant};
 
 /// What a reader found, and the state of its draws.

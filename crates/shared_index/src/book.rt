@@ -23,8 +23,8 @@ use serial_history::{Accepted, Audit, Cause, Receipt, Recorded, Refused, Seq, Tr
 use shared_versions::{Node, Present, reclaim};
 use std::alloc::{AllocError, Global};
 use std::marker::Model;
-use std::sync::ledger::Blank;
 use std::sync::ledger;
+use std::sync::ledger::Blank;
 use version_views::{Reply, Write, WriteRefused};
 
 /// Why no index was made.

@@ -4,6 +4,7 @@ ghost use Rattle.std.specs.Prelude.{◌≡◌, ◌<◌, []};
 ghost use Rattle.sdd_domain.specs.Cells.{cell_number};
 ghost use Rattle.sdd_domain.specs.Tokens.{place_of, home_of, hand_of, own_of, cell_count, IsSame};
 
+use self::Step::{Open, Reclaim, Renew, Slots};
 use crate::place::{
     Item, Twos, cell, end, first, member, one, place, placed, reclaim, renew, version,
 };
@@ -11,7 +12,6 @@ use sdd_domain::atomic_shared::AtomicShared;
 use sdd_domain::domain::Domain;
 use sdd_domain::guard::Guard;
 use sdd_domain::local::Local;
-use self::Step::{Open, Reclaim, Renew, Slots};
 use shared_sessions::{OpenRefused, SharedSession};
 use shared_versions::{Node, Version};
 use std::alloc::Global;

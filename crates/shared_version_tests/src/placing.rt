@@ -4,14 +4,14 @@ ghost use Rattle.std.specs.Prelude.{◌≡◌, ◌≤◌, ◌<◌, []};
 ghost use Rattle.sdd_domain.specs.Cells.{cell_number};
 ghost use Rattle.sdd_domain.specs.Tokens.{place_of, home_of, hand_of, own_of, cell_count, nest_in, IsSame, IsSameButMisses};
 
+use self::Call::{Get, Reclaim, Slots, Upsert};
+use self::Told::{Done, Found, Placed, Refused, Used};
 use crate::sessions::{Item, member};
 use sdd_base::sizes::Sizes;
 use sdd_domain::atomic_shared::AtomicShared;
 use sdd_domain::domain::Domain;
 use sdd_domain::guard::Guard;
 use sdd_domain::local::Local;
-use self::Call::{Get, Reclaim, Slots, Upsert};
-use self::Told::{Done, Found, Placed, Refused, Used};
 use shared_versions::{NoSlot, Present, Session, build, publish, reclaim};
 use std::alloc::Global;
 use std::process::Abort;

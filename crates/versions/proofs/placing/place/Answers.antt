@@ -1,6 +1,8 @@
-use Rattle.std.proofs.Common.{ap, sym, refl, subst, arith}
+use Rattle.std.proofs.Common.{◌≡◌, ap, sym, refl, subst, arith}
 use Rattle.sdd_base.specs.Tokens.{shared_slot}
-use Rattle.sdd_base.specs.State.{value_at}
+use Rattle.sdd_base.specs.State.{placed, value_at}
+use Rattle.sdd_base.specs.declared.status.Status.TheVariants as status
+use Rattle.version_views.specs.declared.item.Item.TheVariants as item
 use Rattle.version_drafts.specs.Parts.{made_in}
 use Rattle.version_drafts.specs.Placing.{IsPlaceable, Places, Plan}
 use Rattle.versions.proofs.PlacingLemmas.{no_vacancy, places_directory}
@@ -33,8 +35,9 @@ pub returns-clause-placed : goal.returns-clause-placed
 returns-clause-placed g c =
     let is = c.into_parts-number.ensures.plan in
     let ready = subst (IsPlaceable g.K.Ord.cmp c.args.w.now) (sym is) c.requires in
+    let put = subst (λ d. c.new.new.w ≡ placed (shared_slot c.in-Ok.root) (item.Directory d) (status.Shared 1) c.place_parts-segments.new.w) c.new-directory.ensures c.in-Ok.ensures.placed.1 in
     subst (λ (p : Plan _ _ _). Places g.K.Ord.cmp p (shared_slot c.in-Ok.root) c.args.w.now c.new.new.w) is
-    (places_directory g.K.Ord.cmp g.met.K.Ord.total c.args.w.now c.place_parts-segments.new.w c.new.new.w _ (shared_slot c.in-Ok.root) _ refl c.place_parts-segments.ensures ready.cut ready.counted c.laws.ensures c.in-Ok.ensures.placed.0 c.in-Ok.ensures.placed.1 c.in-Ok.ensures.keeps)
+    (places_directory g.K.Ord.cmp g.met.K.Ord.total c.args.w.now c.place_parts-segments.new.w c.new.new.w _ (shared_slot c.in-Ok.root) _ refl c.place_parts-segments.ensures ready.cut ready.counted c.laws.ensures c.in-Ok.ensures.placed.0 put c.in-Ok.ensures.keeps)
 
 pub returns-clause-keeps : goal.returns-clause-keeps
 returns-clause-keeps g c = (returns-clause-placed g c).adds.keeps
