@@ -10,4 +10,6 @@ mod commits;
 #[cfg(test)]
 mod refusals;
 #[cfg(test)]
+mod scene;
+#[cfg(test)]
 mod table;

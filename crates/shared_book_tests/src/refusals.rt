@@ -5,15 +5,15 @@ ghost use Rattle.std.specs.Prelude.{◌≡◌, ◌<◌};
 ghost use Rattle.sdd_domain.specs.Cells.{cell_number};
 ghost use Rattle.sdd_domain.specs.Tokens.{place_of, cell_count};
 ghost use Rattle.shared_index.specs.Invariant.{IsUnengaged};
-ghost use Rattle.shared_index_scenes.specs.Scenes.{CanBegin};
+ghost use Rattle.shared_book_tests.specs.Scenes.{CanBegin};
 
+use crate::scene::{Item, end, member, sized};
 use sdd_domain::atomic_shared::AtomicShared;
 use sdd_domain::domain::Domain;
 use sdd_domain::local::Local;
 use sdd_domain::refusal::RegisterRefused;
 use serial_history::{Accepted, Answer, Audit, Cause, Query, Receipt, Refused, Reply};
 use shared_index::{Book, Naming, NewRefused, Share};
-use shared_index_scenes::{Item, end, member, sized};
 use std::alloc::{AllocError, Global};
 use std::marker::Brand;
 use std::process::Abort;

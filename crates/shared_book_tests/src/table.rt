@@ -1,15 +1,15 @@
 //! Calls of a book as data, so that a test of many calls is a table.
 
 ghost use Rattle.std.specs.Prelude.{◌≤◌};
-ghost use Rattle.shared_index_scenes.specs.Scenes.{CanBegin};
+ghost use Rattle.shared_book_tests.specs.Scenes.{CanBegin};
 
+use crate::scene::{Item, ROOM, Scene, end, member, sized};
 use sdd_domain::domain::Domain;
 use sdd_domain::local::Local;
 use serial_history::{
     Accepted, Answer, Audit, Cause, Near, Query, Receipt, Recorded, Refused, Reply, Seq,
 };
 use shared_index::Naming;
-use shared_index_scenes::{Item, ROOM, Scene, end, member, sized};
 use std::alloc::{AllocError, Global};
 use std::marker::Brand;
 use std::ops::Bound;

@@ -1,13 +1,13 @@
 //! The calls of an index that threads share, each under its lock.
 
-ghost use Rattle.shared_index_scenes.specs.Scenes.{CanBegin};
+ghost use Rattle.shared_index_tests.specs.Scenes.{CanBegin};
 
-use crate::tasks::{begun, closed, put, swap, taken};
+use crate::place::{Item, ROOM, end, got, member, two};
+use crate::tasks::{begun, closed, place_for, put, swap, taken};
 use sdd_domain::domain::Domain;
 use sdd_domain::local::Local;
 use serial_history::{Accepted, Audit, Receipt, Refused, Reply};
 use shared_index::Naming;
-use shared_index_scenes::{Item, ROOM, end, got, member, sized, two};
 use std::alloc::{AllocError, Global};
 use std::marker::Brand;
 use std::process::Abort;
@@ -52,7 +52,7 @@ fn missing_share<L: Naming, R: Wait + Abort>(
 
 #[test]
 fn an_index_is_closed_with_all_its_shares(rt: HostRuntime) {
-    let domain = Domain::new(rt.alloc(), sized(64)).expect(&rt, ROOM);
+    let domain = Domain::new(rt.alloc(), place_for(2, 64)).expect(&rt, ROOM);
     let local = member(&rt, &domain);
     let found = missing_share::<Brand, _>(&rt, rt.alloc(), &domain, local, Blank::new(2));
     end(&rt, domain);
@@ -108,7 +108,7 @@ fn is_told(told: &Result<Accepted, Refused<u64, u64>>) -> bool {
 
 #[test]
 fn a_call_under_the_lock_is_that_of_the_book(rt: HostRuntime) {
-    let domain = Domain::new(rt.alloc(), sized(64)).expect(&rt, ROOM);
+    let domain = Domain::new(rt.alloc(), place_for(2, 64)).expect(&rt, ROOM);
     let local = member(&rt, &domain);
     let found = told_under_the_lock::<Brand, _>(&rt, rt.alloc(), &domain, local, Blank::new(1));
     end(&rt, domain);

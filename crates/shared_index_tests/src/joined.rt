@@ -6,17 +6,17 @@
 
 ghost use Rattle.std.specs.Prelude.{◌≡◌, ◌<◌, ◌≤◌};
 ghost use Rattle.sdd_domain.specs.Tokens.{place_of, home_of, own_of, IsSame};
-ghost use Rattle.shared_index_scenes.specs.Scenes.{CanBegin};
+ghost use Rattle.shared_index_tests.specs.Scenes.{CanBegin};
 
 use crate::crowd::sums;
 use crate::own_commits::read_often;
+use crate::place::{Item, ROOM, end, got, member};
 use crate::tasks::{Numbers, begun, closed, listed, own_key, place_for, put, readings, writings};
 use crate::threads::same_key;
 use sdd_domain::domain::Domain;
 use sdd_domain::local::Local;
 use serial_history::{Answer, Audit, Seq};
 use shared_index::{Naming, Share, join_over};
-use shared_index_scenes::{Item, ROOM, end, got, member};
 use std::alloc::Global;
 use std::marker::Brand;
 use std::process::Abort;

@@ -10,6 +10,8 @@ mod joined;
 #[cfg(test)]
 mod own_commits;
 #[cfg(test)]
+mod place;
+#[cfg(test)]
 mod sharing;
 #[cfg(test)]
 mod tasks;

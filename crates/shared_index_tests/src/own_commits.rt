@@ -5,11 +5,11 @@ ghost use Rattle.sdd_domain.specs.Tokens.{home_of, own_of, IsSame};
 
 use crate::joined::Task::{ReadsBack, Rests};
 use crate::joined::{Crowd, first_wrong};
+use crate::place::Item;
 use crate::tasks::Numbers;
 use sdd_domain::local::Local;
 use serial_history::{Accepted, Answer, Audit, Query, Receipt};
 use shared_index::{Naming, Share};
-use shared_index_scenes::Item;
 use std::alloc::Global;
 use std::sync::Wait;
 use version_views::Write;

@@ -2,14 +2,14 @@
 
 ghost use Rattle.std.specs.Prelude.{◌≡◌, ◌<◌, ◌≤◌};
 ghost use Rattle.sdd_domain.specs.Tokens.{place_of, home_of, own_of, IsSame};
-ghost use Rattle.shared_index_scenes.specs.Scenes.{CanBegin};
+ghost use Rattle.shared_index_tests.specs.Scenes.{CanBegin};
 
+use crate::place::{Item, ROOM, one, two};
 use sdd_base::sizes::Sizes;
 use sdd_domain::domain::Domain;
 use sdd_domain::local::Local;
 use serial_history::{Answer, Audit, Cause, Query, Receipt, Refused};
 use shared_index::{Naming, Share, SharedIndex};
-use shared_index_scenes::{Item, ROOM, one, two};
 use std::alloc::Global;
 use std::ops::Bound;
 use std::process::Abort;

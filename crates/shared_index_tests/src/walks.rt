@@ -6,8 +6,9 @@
 
 ghost use Rattle.std.specs.Prelude.{◌≡◌};
 ghost use Rattle.sdd_domain.specs.Tokens.{home_of, own_of, IsSame};
-ghost use Rattle.shared_index_scenes.specs.Scenes.{CanBegin};
+ghost use Rattle.shared_index_tests.specs.Scenes.{CanBegin};
 
+use crate::place::{Item, ROOM, end, member, range};
 use crate::tasks::{
     Numbers, all, begun, closed, listed, place_for, put, taken, write, write_often,
 };
@@ -15,7 +16,6 @@ use sdd_domain::domain::Domain;
 use sdd_domain::local::Local;
 use serial_history::{Answer, Audit, Receipt, Seq};
 use shared_index::{Naming, Share, join_over};
-use shared_index_scenes::{Item, ROOM, end, member, range};
 use shared_sessions::SharedWalk;
 use std::alloc::{AllocError, Global};
 use std::marker::Brand;

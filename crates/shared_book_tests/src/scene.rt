@@ -4,13 +4,13 @@ ghost use Rattle.std.specs.Prelude.{◌≡◌, ◌≤◌, ◌<◌};
 ghost use Rattle.sdd_domain.specs.Cells.{cell_number};
 ghost use Rattle.sdd_domain.specs.Tokens.{place_of, cell_count};
 ghost use Rattle.shared_index.specs.Invariant.{IsUnengaged};
-ghost use Rattle.shared_index_scenes.specs.Scenes.{CanBegin};
+ghost use Rattle.shared_book_tests.specs.Scenes.{CanBegin};
 
 use sdd_base::sizes::Sizes;
 use sdd_domain::atomic_shared::AtomicShared;
 use sdd_domain::domain::Domain;
 use sdd_domain::local::Local;
-use serial_history::{Accepted, Answer, Audit, Query, Receipt, Refused, Seq};
+use serial_history::{Accepted, Audit, Receipt, Refused};
 use shared_index::{Book, Naming, Share};
 use shared_versions::Node;
 use std::alloc::{AllocError, Global};
@@ -18,13 +18,13 @@ use std::process::Abort;
 use std::sync::ledger::Blank;
 use version_views::Write;
 
-pub const ROOM: &str = "memory is there";
+pub(crate) const ROOM: &str = "memory is there";
 
 /// The items of the place: versions of numbers by numbers.
-pub type Item = Node<u64, u64>;
+pub(crate) type Item = Node<u64, u64>;
 
 /// A place for two participants, one cell and so many items.
-pub fn sized(slots: usize) -> Sizes
+pub(crate) fn sized(slots: usize) -> Sizes
     requires { (1 ≤ slots) × (slots ≤ 1073741824) }
     ensures { result ≡ record { participants = 2; slots = slots; cells = 1; jobs = 0 } }
 {
@@ -37,7 +37,7 @@ pub fn sized(slots: usize) -> Sizes
 }
 
 /// A participant of the place, which has one that is free.
-pub fn member<R: Abort>(rt: &R, domain: &Domain<Item>) -> Local<Item>
+pub(crate) fn member<R: Abort>(rt: &R, domain: &Domain<Item>) -> Local<Item>
     ensures { IsUnengaged (place_of domain.now) result }
 {
     match domain.register() {
@@ -47,7 +47,7 @@ pub fn member<R: Abort>(rt: &R, domain: &Domain<Item>) -> Local<Item>
 }
 
 /// Ends a place that nobody uses.
-pub fn end<R: Abort>(rt: &R, domain: Domain<Item>) {
+pub(crate) fn end<R: Abort>(rt: &R, domain: Domain<Item>) {
     match domain.close() {
         Ok(()) => {}
         Err(_) => panic!(rt; "nobody is registered"),
@@ -55,18 +55,18 @@ pub fn end<R: Abort>(rt: &R, domain: Domain<Item>) {
 }
 
 /// A book, the cell of its version, and its one share.
-pub struct Scene<'d, L: Naming, const S: usize> {
-    pub domain: &'d Domain<Item>,
-    pub root: AtomicShared,
-    pub book: Book<L, u64, u64, S>,
-    pub share: Share<L>,
+pub(crate) struct Scene<'d, L: Naming, const S: usize> {
+    pub(crate) domain: &'d Domain<Item>,
+    pub(crate) root: AtomicShared,
+    pub(crate) book: Book<L, u64, u64, S>,
+    pub(crate) share: Share<L>,
     ghost place: { place_of domain.now ≡ L.place },
     ghost inside: { cell_number root < cell_count domain.now },
 }
 
 impl<'d, L: Naming, const S: usize> Scene<'d, L, S> {
     /// An empty book, whose last number is the given one.
-    pub fn new<R: Abort>(
+    pub(crate) fn new<R: Abort>(
         rt: &R,
         alloc: Global,
         domain: &'d Domain<Item>,
@@ -95,7 +95,7 @@ impl<'d, L: Naming, const S: usize> Scene<'d, L, S> {
     }
 
     /// Commits writes that rest on a receipt.
-    pub fn commit(
+    pub(crate) fn commit(
         &mut self,
         receipt: &Receipt<u64, u64>,
         writes: Vec<Write<u64, u64>>,
@@ -105,23 +105,23 @@ impl<'d, L: Naming, const S: usize> Scene<'d, L, S> {
     }
 
     /// Audits a receipt.
-    pub fn audit(&self, receipt: &Receipt<u64, u64>) -> Result<Audit, AllocError> {
+    pub(crate) fn audit(&self, receipt: &Receipt<u64, u64>) -> Result<Audit, AllocError> {
         self.book.audit(receipt)
     }
 
     /// The number, how many pairs there are, and the count of the share.
-    pub fn counts(&self) -> (u64, usize, u64) {
+    pub(crate) fn counts(&self) -> (u64, usize, u64) {
         self.book.laws();
         (self.book.number(), self.book.len(), self.share.count())
     }
 
     /// Reclaims what nobody reads.
-    pub fn reclaim(&mut self) {
+    pub(crate) fn reclaim(&mut self) {
         self.book.reclaim(self.domain);
     }
 
     /// Ends the book, and its participant.
-    pub fn end(self) {
+    pub(crate) fn end(self) {
         let Scene {
             domain,
             root,
@@ -132,48 +132,4 @@ impl<'d, L: Naming, const S: usize> Scene<'d, L, S> {
         root.retire(domain, &mut local);
         local.end(domain);
     }
-}
-
-/// A receipt of this number with one read, that of a key.
-pub fn got<R: Abort>(
-    rt: &R,
-    alloc: Global,
-    number: u64,
-    key: u64,
-    value: Option<u64>,
-) -> Receipt<u64, u64> {
-    let mut receipt = Receipt::blank(alloc);
-    receipt.number = number;
-    receipt
-        .note(Query::Get(key), &Answer::Get(value))
-        .expect(rt, ROOM);
-    receipt
-}
-
-/// An answer with these pairs.
-pub fn range<R: Abort, const N: usize>(
-    rt: &R,
-    alloc: Global,
-    pairs: [(u64, u64); N],
-) -> Answer<u64, u64> {
-    let mut told = Vec::new(alloc);
-    for pair in pairs {
-        told.push(pair).expect(rt, ROOM);
-    }
-    Answer::Range(Seq::from_vec(told))
-}
-
-/// One write.
-pub fn one<R: Abort>(rt: &R, alloc: Global, write: Write<u64, u64>) -> Vec<Write<u64, u64>> {
-    vec![in alloc; write].expect(rt, ROOM)
-}
-
-/// Two writes.
-pub fn two<R: Abort>(
-    rt: &R,
-    alloc: Global,
-    first: Write<u64, u64>,
-    second: Write<u64, u64>,
-) -> Vec<Write<u64, u64>> {
-    vec![in alloc; first, second].expect(rt, ROOM)
 }

@@ -1,0 +1,80 @@
+//! The place of an index, participants of it, and what commits are made of.
+
+ghost use Rattle.std.specs.Prelude.{◌≡◌};
+ghost use Rattle.sdd_domain.specs.Tokens.{place_of};
+ghost use Rattle.shared_index.specs.Invariant.{IsUnengaged};
+
+use sdd_domain::domain::Domain;
+use sdd_domain::local::Local;
+use serial_history::{Answer, Query, Receipt, Seq};
+use shared_versions::Node;
+use std::alloc::Global;
+use std::process::Abort;
+use version_views::Write;
+
+pub(crate) const ROOM: &str = "memory is there";
+
+/// The items of the place: versions of numbers by numbers.
+pub(crate) type Item = Node<u64, u64>;
+
+/// A participant of the place, which has one that is free.
+pub(crate) fn member<R: Abort>(rt: &R, domain: &Domain<Item>) -> Local<Item>
+    ensures { IsUnengaged (place_of domain.now) result }
+{
+    match domain.register() {
+        Ok(local) => local,
+        Err(_) => panic!(rt; "a participant is free"),
+    }
+}
+
+/// Ends a place that nobody uses.
+pub(crate) fn end<R: Abort>(rt: &R, domain: Domain<Item>) {
+    match domain.close() {
+        Ok(()) => {}
+        Err(_) => panic!(rt; "nobody is registered"),
+    }
+}
+
+/// A receipt of this number with one read, that of a key.
+pub(crate) fn got<R: Abort>(
+    rt: &R,
+    alloc: Global,
+    number: u64,
+    key: u64,
+    value: Option<u64>,
+) -> Receipt<u64, u64> {
+    let mut receipt = Receipt::blank(alloc);
+    receipt.number = number;
+    receipt
+        .note(Query::Get(key), &Answer::Get(value))
+        .expect(rt, ROOM);
+    receipt
+}
+
+/// An answer with these pairs.
+pub(crate) fn range<R: Abort, const N: usize>(
+    rt: &R,
+    alloc: Global,
+    pairs: [(u64, u64); N],
+) -> Answer<u64, u64> {
+    let mut told = Vec::new(alloc);
+    for pair in pairs {
+        told.push(pair).expect(rt, ROOM);
+    }
+    Answer::Range(Seq::from_vec(told))
+}
+
+/// One write.
+pub(crate) fn one<R: Abort>(rt: &R, alloc: Global, write: Write<u64, u64>) -> Vec<Write<u64, u64>> {
+    vec![in alloc; write].expect(rt, ROOM)
+}
+
+/// Two writes.
+pub(crate) fn two<R: Abort>(
+    rt: &R,
+    alloc: Global,
+    first: Write<u64, u64>,
+    second: Write<u64, u64>,
+) -> Vec<Write<u64, u64>> {
+    vec![in alloc; first, second].expect(rt, ROOM)
+}
