@@ -127,7 +127,7 @@ fn moved(w: &mut World<LinkedEntry<u64>>, stack: Stack<u64>) -> Result<Stack<u64
     }
 }
 
-/// LocalState the first undeleted entry.
+/// Marks the first undeleted entry.
 fn mark(w: &mut World<LinkedEntry<u64>>, stack: &Stack<u64>, guard: &WorldGuard) -> bool
     requires participant { 0 < length w.old.participants }
     requires list { IsSomeStack w.old (stack_cell stack.now) }

@@ -40,7 +40,7 @@ pub(crate) fn link<T, J: Deferred>(
 }
 
 /// Takes an entry apart that has no next one, and gives its value.
-fn undo<T, J: Deferred>(w: &mut World<LinkedEntry<T>, J>, entry: LinkedEntry<T>) -> T
+pub(crate) fn undo<T, J: Deferred>(w: &mut World<LinkedEntry<T>, J>, entry: LinkedEntry<T>) -> T
     requires { (c : ℕ) × (t : Tag) × (entry_link entry ≡ Some c) × (cell_at w.old c ≡ Cell.OfShared None t) }
     ensures value { result ≡ entry_value entry }
     ensures ended { IfSome (entry_link entry) (λ c. w.new ≡ with_cell c Cell.Free w.old) }
