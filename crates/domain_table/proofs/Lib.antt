@@ -31,6 +31,7 @@ pub mod Fills
 pub mod Claims
 pub mod Placings
 pub mod Told
+pub mod PlacedLemmas
 pub mod Fronts
 pub mod Gathers
 pub mod Reclaims

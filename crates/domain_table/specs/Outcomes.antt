@@ -22,6 +22,10 @@ use Rattle.domain_table.specs.declared.board.Home.TheVariants.{Blank}
 abbrev pub HasPublished : {S : Type 0} → ℕ → Me S Acting → Me S Acting → Type 0
 HasPublished e m m' = (b : ℕ) × (e ≤ b) × (m' ≡ (record m.0 { known = publishing e m.0.known; born = b; waits = rotated e m.0.known.found m.0.waits }, m.1))
 
+-- a slot may be claimed for an item to be placed
+abbrev pub CanClaim : Acting → Type 0
+CanClaim d = (d.kind ≡ 1) × (is_ready d.known ≡ true) × (d.releasing ≡ 0) × (d.filling ≡ None)
+
 -- an item is ready to be placed: it holds all owners in hand, and no other one
 abbrev pub CanPlaceItem : {T : Type 0} → (T → List (ℕ × ℕ)) → T → Acting → Type 0
 CanPlaceItem holds item d = (d.kind ≡ 1) × (is_ready d.known ≡ true) × (d.releasing ≡ 0) × (holds item ≡ map told d.hand) × (d.filling ≡ None)

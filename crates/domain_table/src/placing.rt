@@ -1,15 +1,15 @@
 //! Placing an item: a free slot is claimed, the homes of the participants get their parts, and the item is in the slot.
 
-ghost use Rattle.std.specs.Prelude.{◌≡◌, ℕ, ◌+◌, ◌-◌, ◌^◌, ◌<◌, ◌≤◌, map, true, Some, IsSome, IsSomeAnd, IfOk, IfErr, OnOk, OnErr};
+ghost use Rattle.std.specs.Prelude.{◌≡◌, ℕ, ◌+◌, ◌-◌, ◌^◌, ◌<◌, ◌≤◌, map, true, None, Some, IsSome, IsSomeAnd, IfSome, IfNone, OnSome, IfOk, IfErr, OnOk, OnErr};
 ghost use Rattle.std.specs.Mem.{manually_drop_value};
 ghost use Rattle.atomic_table.specs.Table.{rest};
 ghost use Rattle.sdd_steps.specs.Steps.{is_ready};
 ghost use Rattle.sdd_homes.specs.declared.Filling.{Filling};
-ghost use Rattle.domain_table.specs.Outcomes.{CanPlaceItem, FillsAll, FillsAt, HasPlacedItem};
+ghost use Rattle.domain_table.specs.Outcomes.{CanClaim, CanPlaceItem, FillsAll, FillsAt, HasPlacedItem};
 ghost use Rattle.domain_table.specs.Fitting.{FitsFree, FitsSearch, FitsTaken};
 ghost use Rattle.domain_table.specs.Contents.{IsIn};
 ghost use Rattle.domain_table.specs.Owners.{told};
-ghost use Rattle.domain_table.specs.Plays.{IsJustClaimed, filling_at, next_filled, placing};
+ghost use Rattle.domain_table.specs.Plays.{HasClaimed, IsJustClaimed, filling_at, next_filled, placing};
 
 use crate::board::{Home, Place, Stored, Words};
 use crate::holding::Holding;
@@ -17,6 +17,7 @@ use crate::homes::{let_go, room_of};
 use crate::slots;
 use crate::stored::store;
 use parted::{One, Part};
+use sdd_base::refusal::NoSlot;
 use sdd_base::sizes::Sizes;
 use tally::Tally;
 
@@ -100,6 +101,33 @@ fn place_at<T, H: Holding<T>>(
     One::from_part(all)
 }
 
+/// Claims a free slot: each is tried once, from `from` on. None where each was taken when it was tried: then nothing has
+/// changed, and that is a miss.
+fn claim_any<T, H: Holding<T>>(
+    words: &Words<T, H>,
+    place: &mut Place<T>,
+    sizes: &Sizes,
+    from: usize,
+    misses: &mut Tally,
+) -> Option<usize>
+    requires table { FitsSearch words.now.table_id words.now.key.sizes place.old.table_id place.old.me.0.sizes sizes.now from }
+    requires ready { (place.old.me.0.kind ≡ 1) × (place.old.me.0.filling ≡ None) }
+    ensures seat { (place.new.table_id ≡ place.old.table_id) × (place.new.id ≡ place.old.id) }
+    ensures claimed { IfSome result (λ k. (k < sizes.now.slots) × HasClaimed (IsIn H.holds) place.old.me k place.new.me) }
+    ensures none { IfNone result (place.new.me ≡ place.old.me) }
+    ensures hit { OnSome result (misses.new.count ≡ misses.old.count) }
+    ensures missed { IfNone result (misses.new.count ≡ misses.old.count + 1) }
+{
+    for step in 0..sizes.slots {
+        let slot = (from + step) % sizes.slots;
+        if slots::claim(words, place, sizes.participants, sizes.cells, slot) {
+            return Some(slot);
+        }
+    }
+    misses.raise();
+    None
+}
+
 /// Places an item in a free slot: each is tried once, from `from` on. Its one owner is in hand; the slot and the owner's
 /// part are the answer. Where each slot was taken when it was tried, the item is back: that is a miss.
 pub fn place_item<T, H: Holding<T>>(
@@ -118,13 +146,37 @@ pub fn place_item<T, H: Holding<T>>(
     ensures hit { OnOk result (misses.new.count ≡ misses.old.count) }
     ensures missed { OnErr result (misses.new.count ≡ misses.old.count + 1) }
 {
-    for step in 0..sizes.slots {
-        let slot = (from + step) % sizes.slots;
-        if slots::claim(words, place, sizes.participants, sizes.cells, slot) {
-            let part = place_at(words, place, sizes, slot, item);
-            return Ok((slot, part));
-        }
+    match claim_any(words, place, sizes, from, misses) {
+        Some(slot) => Ok((slot, place_at(words, place, sizes, slot, item))),
+        None => Err(item),
     }
-    misses.raise();
-    Err(item)
+}
+
+/// Claims a free slot and places there what `make` gives, as [`place_item`] does with an item that is there. Where each slot
+/// was taken when it was tried, `make` isn't called.
+pub fn place_made<T, H: Holding<T>, F: FnOnce() -> T + Drop>(
+    words: &Words<T, H>,
+    place: &mut Place<T>,
+    sizes: &Sizes,
+    from: usize,
+    make: F,
+    misses: &mut Tally,
+) -> Result<(usize, One<Stored<T>>), NoSlot>
+    requires table { FitsSearch words.now.table_id words.now.key.sizes place.old.table_id place.old.me.0.sizes sizes.now from }
+    requires ready { CanClaim place.old.me.0 }
+    requires callable { F.pre make }
+    requires holds { (item : T) → F.post make item → H.holds item ≡ map told place.old.me.0.hand }
+    ensures seat { (place.new.table_id ≡ place.old.table_id) × (place.new.id ≡ place.old.id) }
+    ensures placed { IfOk result (λ t. (item : T) × F.post make item × HasPlacedItem item sizes.now.slots t.0 t.1.part.life.id t.1.part.seen.value place.old.me place.new.me) }
+    ensures refused { OnErr result (place.new.me ≡ place.old.me) }
+    ensures hit { OnOk result (misses.new.count ≡ misses.old.count) }
+    ensures missed { OnErr result (misses.new.count ≡ misses.old.count + 1) }
+{
+    match claim_any(words, place, sizes, from, misses) {
+        Some(slot) => {
+            let item = make();
+            Ok((slot, place_at(words, place, sizes, slot, item)))
+        }
+        None => Err(NoSlot),
+    }
 }

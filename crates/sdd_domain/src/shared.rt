@@ -15,8 +15,9 @@ use domain_table::board::{Acting, Stored};
 use domain_table::leases::seen_in;
 use domain_table::loading::lease_own;
 use domain_table::owners::{clone, own_leased, part_with, release, take_in};
-use domain_table::placing::place_item;
+use domain_table::placing::{place_item, place_made};
 use parted::One;
+use sdd_base::refusal::NoSlot;
 
 /// One of the owners of an item, which stays, as it is, while it has owners. It must be spent by `release`. Whoever
 /// has it reads the item, without any step on a word of the place.
@@ -59,6 +60,31 @@ impl<T: Holds> Shared<T> {
         } = local;
         let (slot, part) = place_item(domain.words(), place, &domain.sizes, *next, item, misses)?;
         *next = slot + 1;
+        let seat = part_with(domain.words(), place);
+        Ok(Shared { slot, part, seat })
+    }
+
+    /// Places what `f` gives, as [`new`](Shared::new) does with an item that is there: `f` is called once a slot is claimed
+    /// for it. Where each slot was taken when it was tried, it isn't called, and that is a miss of the participant.
+    pub fn new_with<F: FnOnce() -> T + Drop>(
+        f: F,
+        domain: &Domain<T>,
+        local: &mut Local<T>,
+    ) -> Result<Shared<T>, NoSlot>
+        requires home { home_of local.old ≡ place_of domain.now }
+        requires callable { F.pre f }
+        requires holds { (item : T) → F.post f item → T.holds item ≡ hand_of local.old }
+        ensures home { IfOk result (λ s. kept_in s ≡ (place_of domain.now).0) }
+        ensures item { IfOk result (λ s. (item : T) × F.post f item × IsOwnerOf s item) }
+        ensures bare { OnOk result (hand_of local.new ≡ []) }
+        ensures hand { OnErr result (hand_of local.new ≡ hand_of local.old) }
+        ensures hit { OnOk result (misses_of local.new ≡ misses_of local.old) }
+        ensures missed { OnErr result (misses_of local.new ≡ misses_of local.old + 1) }
+        ensures same { IsSameButHandAndMisses local.old local.new }
+    {
+        let (place, from, misses) = (&mut local.place, local.next, &mut local.misses);
+        let (slot, part) = place_made(domain.words(), place, &domain.sizes, from, f, misses)?;
+        local.next = slot + 1;
         let seat = part_with(domain.words(), place);
         Ok(Shared { slot, part, seat })
     }

@@ -3,6 +3,7 @@
 ghost use Rattle.std.specs.Prelude.{◌≡◌, ◌+◌, ◌<◌, ◌||◌, [], Some, IfOk, IfErr, OnOk, OnErr, IsTrue, IsFalse};
 
 use crate::pointer::OwnedPtr;
+use sdd_base::refusal::NoSlot;
 use sdd_domain::domain::Domain;
 use sdd_domain::guard::Guard;
 use sdd_domain::holds::Holds;
@@ -36,6 +37,31 @@ impl<T: Holds> Owned<T> {
         match Shared::new(item, domain, local) {
             Ok(owner) => Ok(Owned { owner }),
             Err(item) => Err(item),
+        }
+    }
+
+    /// Places what `f` gives in a free slot, as [`new`](Owned::new) does with an item that is there: `f` is called once a
+    /// slot is claimed for it. Where each slot was taken when it was tried, it isn't called, and that is a miss of the
+    /// participant.
+    pub fn new_with<F: FnOnce() -> T + Drop>(
+        f: F,
+        domain: &Domain<T>,
+        local: &mut Local<T>,
+    ) -> Result<Owned<T>, NoSlot>
+        requires home { home_of local.old ≡ place_of domain.now }
+        requires callable { F.pre f }
+        requires holds { (item : T) → F.post f item → T.holds item ≡ hand_of local.old }
+        ensures home { IfOk result (λ o. place_in o ≡ (place_of domain.now).0) }
+        ensures item { IfOk result (λ o. (item : T) × F.post f item × IsSoleOwnerOf o item) }
+        ensures bare { OnOk result (hand_of local.new ≡ []) }
+        ensures hand { OnErr result (hand_of local.new ≡ hand_of local.old) }
+        ensures hit { OnOk result (misses_of local.new ≡ misses_of local.old) }
+        ensures missed { OnErr result (misses_of local.new ≡ misses_of local.old + 1) }
+        ensures same { IsSameButHandAndMisses local.old local.new }
+    {
+        match Shared::new_with(f, domain, local) {
+            Ok(owner) => Ok(Owned { owner }),
+            Err(NoSlot) => Err(NoSlot),
         }
     }
 

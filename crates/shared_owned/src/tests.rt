@@ -12,6 +12,7 @@ use crate::owned::Owned;
 use crate::pointer::OwnedPtr;
 use crate::raw_items::{RawItems, RawRefused};
 use crate::raw_ptr::RawPtr;
+use sdd_base::refusal::NoSlot;
 use sdd_base::sizes::Sizes;
 use sdd_base::tag::Tag;
 use sdd_domain::domain::Domain;
@@ -126,6 +127,34 @@ fn a_retired_item_leaves_its_slot_after_four_guards(rt: HostRuntime) -> Result<(
     local.end(&domain);
     end(&rt, domain);
     assert!(rt; (back, retired, waits, value) == (Some(108), true, Some(109), Some(10)));
+    Ok(())
+}
+
+/// In a place of one slot: the value that a closure gave, and whether a second one was called, for which no slot was free.
+#[test]
+fn a_closure_is_called_where_a_slot_is_free(rt: HostRuntime) -> Result<(), Fail> {
+    let domain = Domain::new(rt.alloc(), sized(1, 1, 0))?;
+    let mut local = member(&rt, &domain);
+    let Ok(first) = Owned::new_with(|| 7, &domain, &mut local) else {
+        panic!(&rt; "a slot is free");
+    };
+    let mut called = false;
+    let second = Owned::new_with(
+        || {
+            called = true;
+            8
+        },
+        &domain,
+        &mut local,
+    );
+    let refused = match second {
+        Ok(owner) => last_value(Some(owner), &domain, &mut local).is_none(),
+        Err(NoSlot) => true,
+    };
+    let value = last_value(Some(first), &domain, &mut local);
+    local.end(&domain);
+    end(&rt, domain);
+    assert_eq!(rt; (value, refused, called), (Some(7), true, false));
     Ok(())
 }
 

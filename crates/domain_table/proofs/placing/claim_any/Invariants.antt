@@ -1,5 +1,5 @@
 use Rattle.std.proofs.Common.{◌≡◌}
-use Rattle.domain_table.proofs.placing.place_item.Given as goal
+use Rattle.domain_table.proofs.placing.claim_any.Given as goal
 
 abbrev pub invariant-loop-step : goal.invariant-loop-step
 invariant-loop-step g l = record {
