@@ -151,7 +151,7 @@ pub(crate) fn handled(
             let (cell, found) = make(domain, local, item);
             (hand, cell, found)
         }
-        (_, hand, cell) => (hand, cell, Found::Nothing),
+        (_, hand, cell) => (hand, cell, Found::No),
     }
 }
 

@@ -51,11 +51,6 @@ fn counting(runs: &Arc<AtomicU64>) -> Result<Count, AllocError> {
     })
 }
 
-/// The same where memory is there.
-fn counted<R: Abort>(rt: &R, runs: &Arc<AtomicU64>) -> Count {
-    counting(runs).expect(rt, ROOM)
-}
-
 /// Defers a job under an accelerated guard of its own. It is back where no slot is free.
 fn deferred(domain: &Domain<Count>, local: &mut Local<Count>, job: Count) -> Result<(), Count>
     requires home { (home_of local.old ≡ place_of domain.now) × (hand_of local.old ≡ []) }
@@ -71,6 +66,19 @@ fn deferred(domain: &Domain<Count>, local: &mut Local<Count>, job: Count) -> Res
     guard.accelerate(local);
     guard.close(domain, local);
     waits
+}
+
+/// Defers a job that counts there: whether it waits.
+fn waits(domain: &Domain<Count>, local: &mut Local<Count>, runs: &Arc<AtomicU64>) -> bool
+    requires home { (home_of local.old ≡ place_of domain.now) × (hand_of local.old ≡ []) }
+    requires closed { (own_of local.old).nesting ≡ 0 }
+    ensures same { IsSameButMisses local.old local.new }
+    ensures closed { (own_of local.new).nesting ≡ 0 }
+{
+    match counting(runs) {
+        Ok(job) => deferred(domain, local, job).is_ok(),
+        Err(_) => false,
+    }
 }
 
 /// Opens an accelerated guard and closes it: how many jobs have run once it is open.
@@ -103,24 +111,23 @@ fn passes(domain: &Domain<Count>, local: &mut Local<Count>, runs: &AtomicU64, gu
     run
 }
 
-/// Defers two jobs, of which a place of one slot gives one back: whether both were as they are to be; how many jobs have run as
+/// Defers two jobs, of which a place of one slot gives the second one back: whether it did so with that one alone; how many jobs have run as
 /// the third guard behind them is open, as the fourth is, and later.
 fn once<R: Abort>(rt: &R, domain: &Domain<Count>, runs: &Arc<AtomicU64>) -> Found {
-    let (job, another) = (counted(rt, runs), counted(rt, runs));
     let mut local = member(rt, domain);
-    let waits = deferred(domain, &mut local, job).is_ok();
-    let refused = deferred(domain, &mut local, another).is_err();
+    let first = waits(domain, &mut local, runs);
+    let second = waits(domain, &mut local, runs);
     let third = passed(domain, &mut local, runs);
     let fourth = passed(domain, &mut local, runs);
     let later = passes(domain, &mut local, runs, 8);
     local.end(domain);
-    (waits && refused, [third, fourth, later])
+    (first && !second, [third, fourth, later])
 }
 
 /// Registers a participant, has it defer a job, and ends it. Whether the job waits.
-fn left_behind<R: Abort>(rt: &R, domain: &Domain<Count>, job: Count) -> bool {
+fn left_behind<R: Abort>(rt: &R, domain: &Domain<Count>, runs: &Arc<AtomicU64>) -> bool {
     let mut local = member(rt, domain);
-    let waits = deferred(domain, &mut local, job).is_ok();
+    let waits = waits(domain, &mut local, runs);
     local.end(domain);
     waits
 }
@@ -128,24 +135,23 @@ fn left_behind<R: Abort>(rt: &R, domain: &Domain<Count>, job: Count) -> bool {
 /// Two participants, one behind the other, leave a job behind, of which the next one runs the first: whether both waited; how
 /// many jobs have run as the fourth guard of that one is open, and how many at the end.
 fn behind<R: Abort>(rt: &R, domain: &Domain<Count>, runs: &Arc<AtomicU64>) -> Found {
-    let (first, second) = (counted(rt, runs), counted(rt, runs));
-    let waits = left_behind(rt, domain, first);
+    let waits = left_behind(rt, domain, runs);
     let mut local = member(rt, domain);
     let next = passes(domain, &mut local, runs, 4);
     local.end(domain);
-    let again = left_behind(rt, domain, second);
+    let again = left_behind(rt, domain, runs);
     (waits && again, [next, runs.load(Ordering::SeqCst), 0])
 }
 
 /// Defers a job beside an older guard of another participant: whether it waits; how many jobs have run as eight guards were
 /// open beside that, and four behind it.
 fn beside<R: Abort>(rt: &R, domain: &Domain<Count>, runs: &Arc<AtomicU64>) -> Found {
-    let job = counted(rt, runs);
-    let (mut local, mut other) = (member(rt, domain), member(rt, domain));
+    let mut local = member(rt, domain);
+    let mut other = member(rt, domain);
     let Ok(older) = Guard::new(domain, &mut other) else {
         unreachable!();
     };
-    let waits = deferred(domain, &mut local, job).is_ok();
+    let waits = waits(domain, &mut local, runs);
     let beside = passes(domain, &mut local, runs, 8);
     older.close(domain, &mut other);
     let behind = passes(domain, &mut local, runs, 4);

@@ -3,7 +3,7 @@
 ghost use Rattle.std.specs.Prelude.{◌≡◌, [], IfOk, IfErr};
 ghost use Rattle.sdd_domain.specs.Holding.{all_told};
 ghost use Rattle.sdd_domain.specs.Sharing.{kept_in};
-ghost use Rattle.sdd_domain.specs.Tokens.{place_of, home_of, hand_of, own_of, IsSame, IsSameButMisses};
+ghost use Rattle.sdd_domain.specs.Tokens.{place_of, home_of, hand_of, own_of, IsSame, IsSameButHand, IsSameButMisses};
 
 use crate::crowd::{Work, four};
 use crate::domain::{end, member};
@@ -66,6 +66,25 @@ fn leaf<R: Abort>(
     }
 }
 
+/// The last owner that was held, where there is one.
+fn taken<R: Abort>(
+    rt: &R,
+    domain: &Domain<Node>,
+    local: &mut Local<Node>,
+    held: &mut Vec<Held<Node>>,
+) -> Shared<Node>
+    requires home { home_of local.old ≡ place_of domain.now }
+    requires hand { hand_of local.old ≡ all_told held.old.items }
+    ensures mine { kept_in result ≡ (place_of domain.now).0 }
+    ensures hand { hand_of local.new ≡ all_told held.new.items }
+    ensures same { IsSameButHand local.old local.new }
+{
+    match own_last(held, domain, local) {
+        Some(owner) => owner,
+        None => panic!(rt; "an owner is held"),
+    }
+}
+
 /// The owner of a new directory that holds these two, or both of them, where no slot was free.
 fn directory<R: Abort>(
     rt: &R,
@@ -90,18 +109,11 @@ fn directory<R: Abort>(
         Ok(owner) => Ok(owner),
         Err(Node::Directory(held)) => {
             let mut held = held;
-            let Some(second) = own_last(&mut held, domain, local) else {
-                panic!(rt; "the second is there");
-            };
-            let Some(first) = own_last(&mut held, domain, local) else {
-                panic!(rt; "the first is there");
-            };
+            let second = taken(rt, domain, local, &mut held);
+            let first = taken(rt, domain, local, &mut held);
             match own_last(&mut held, domain, local) {
                 None => held.destroy_empty(),
-                Some(third) => {
-                    third.release(domain, local);
-                    panic!(rt; "there were two")
-                }
+                Some(_) => panic!(rt; "there were two"),
             }
             Err((first, second))
         }
@@ -126,11 +138,7 @@ fn top<R: Abort>(
     let second = leaf(rt, domain, local, number);
     match directory(rt, alloc, domain, local, first, second) {
         Ok(owner) => owner,
-        Err((first, second)) => {
-            second.release(domain, local);
-            first.release(domain, local);
-            panic!(rt; "a slot is free")
-        }
+        Err(_) => panic!(rt; "a slot is free"),
     }
 }
 
@@ -148,10 +156,7 @@ fn twice<R: Abort>(
 {
     match owner.clone(domain, local) {
         Ok(both) => both,
-        Err(owner) => {
-            owner.release(domain, local);
-            panic!(rt; "one more owner")
-        }
+        Err(_) => panic!(rt; "one more owner"),
     }
 }
 
@@ -256,10 +261,7 @@ fn given_back<R: Abort>(
     let first = leaf(rt, domain, local, 1);
     let second = leaf(rt, domain, local, 2);
     match directory(rt, alloc, domain, local, first, second) {
-        Ok(owner) => {
-            owner.release(domain, local);
-            panic!(rt; "no slot is free")
-        }
+        Ok(_) => panic!(rt; "no slot is free"),
         Err((first, second)) => {
             let numbers = (number(first.as_ref()), number(second.as_ref()));
             let last = second.release(domain, local);
