@@ -186,10 +186,7 @@ pub fn within<R: Abort>(
     renew(rt, alloc, domain, cell, local, 2, (11, 21, 51));
     let refused = match Twos::open(domain, cell, local, alloc, 3) {
         Err(refused) => refused,
-        Ok(session) => {
-            session.close(domain, local);
-            panic!(rt; "the second version has the number 2")
-        }
+        Ok(_) => panic!(rt; "the second version has the number 2"),
     };
     let Ok(inner) = Twos::open(domain, cell, local, alloc, 2) else {
         panic!(rt; "the second version is there");
@@ -225,18 +222,12 @@ pub fn of_loaded<R: Abort>(
     renew(rt, alloc, domain, cell, local, 2, (11, 21, 51));
     let (guard, refused) = match Twos::of_loaded(guard, loaded, alloc, 2) {
         Err(back) => back,
-        Ok(session) => {
-            session.close(domain, local);
-            panic!(rt; "the first version was loaded")
-        }
+        Ok(_) => panic!(rt; "the first version was loaded"),
     };
     let loaded = cell.loaded(domain, &guard, local);
     let session = match Twos::of_loaded(guard, loaded, alloc, 2) {
         Ok(session) => session,
-        Err((guard, _)) => {
-            guard.close(domain, local);
-            panic!(rt; "the second version was loaded")
-        }
+        Err(_) => panic!(rt; "the second version was loaded"),
     };
     let value = session.get(&1).copied();
     let number = session.close(domain, local).number;
