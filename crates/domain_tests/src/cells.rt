@@ -1,22 +1,19 @@
 //! Cells of a place that threads share, and what guards load from them.
 
-ghost use Rattle.std.specs.Prelude.{◌≡◌, ◌<◌, [], IfSome};
+ghost use Rattle.std.specs.Prelude.{◌≡◌, ◌<◌, []};
 ghost use Rattle.sdd_domain.specs.Cells.{cell_number};
-ghost use Rattle.sdd_domain.specs.Sharing.{kept_in};
-ghost use Rattle.sdd_domain.specs.Tokens.{place_of, home_of, hand_of, own_of, cell_count, nest_of, nest_in, IsSame, IsInNest, IsSameButMisses, IsInNestButMisses};
+ghost use Rattle.sdd_domain.specs.Tokens.{place_of, home_of, hand_of, own_of, cell_count, nest_of, nest_in, IsSame, IsSameButMisses, IsInNestButMisses};
 
-use crate::crowd::{CellTask, around_a_cell};
-use crate::domain::{end, member};
-use crate::guard::{pass, passes};
-use crate::items::{placed, sized};
-use crate::play::first_wrong;
+use crate::guard::passes;
+use crate::hands::{exchange, put, release};
 use crate::steps::Act::{
-    Change, IsNull, Join, Null, Own, Passes, Peek, Place, Read, Release, Retire, Swap, Take,
+    Change, IsNull, IsSum, Join, Null, Own, Passes, Peek, Place, Read, Release, Retire, Slots, Sum,
+    Swap, Sweep, Take,
 };
 use crate::steps::Found::{Is, No, Nothing, Tagged, Yes};
-use crate::steps::Part::{Apart, Under};
+use crate::steps::Part::{Apart, Crowd, Under};
 use crate::steps::View::{Beside, Do, Exchange, Forget, IsSame, Item, Load, LoadWithin};
-use crate::steps::{Table, View};
+use crate::steps::{Found, Table, Task, View};
 use sdd_base::tag::Tag;
 use sdd_domain::atomic_shared::AtomicShared;
 use sdd_domain::domain::Domain;
@@ -24,30 +21,6 @@ use sdd_domain::guard::Guard;
 use sdd_domain::local::Local;
 use sdd_domain::pointer::Ptr;
 use sdd_domain::shared::Shared;
-use std::process::Abort;
-
-/// A cell that owns an item with this value.
-pub(crate) fn cell_with<R: Abort>(
-    rt: &R,
-    domain: &Domain<u64>,
-    local: &mut Local<u64>,
-    item: u64,
-) -> AtomicShared
-    requires home { (home_of local.old ≡ place_of domain.now) × (hand_of local.old ≡ []) }
-    requires closed { (own_of local.old).nesting ≡ 0 }
-    ensures inside { cell_number result < cell_count domain.now }
-    ensures same { IsSame local.old local.new }
-    ensures closed { (own_of local.new).nesting ≡ 0 }
-{
-    let owner = placed(rt, domain, local, item);
-    match AtomicShared::from(owner, domain, local) {
-        Ok(cell) => cell,
-        Err(owner) => {
-            owner.release(domain, local);
-            panic!(rt; "a cell is free")
-        }
-    }
-}
 
 /// What the cell's item is, under a guard of its own.
 pub(crate) fn read(domain: &Domain<u64>, local: &mut Local<u64>, cell: &AtomicShared) -> Option<u64>
@@ -66,7 +39,7 @@ pub(crate) fn read(domain: &Domain<u64>, local: &mut Local<u64>, cell: &AtomicSh
 }
 
 /// A cell owns what was swapped into it.
-const SWAPPED: Table = Table {
+pub(crate) const SWAPPED: Table = Table {
     participants: 1,
     slots: 3,
     cells: 4,
@@ -92,7 +65,7 @@ const SWAPPED: Table = Table {
 };
 
 /// What was loaded is read until its guard closes, whatever another participant puts into the cell.
-const READ_UNDER_A_GUARD: Table = Table {
+pub(crate) const READ_UNDER_A_GUARD: Table = Table {
     participants: 2,
     slots: 3,
     cells: 4,
@@ -115,7 +88,7 @@ const READ_UNDER_A_GUARD: Table = Table {
 };
 
 /// An owner is released under the guard that loaded its item, which is read on.
-const RELEASED_UNDER_A_GUARD: Table = Table {
+pub(crate) const RELEASED_UNDER_A_GUARD: Table = Table {
     participants: 1,
     slots: 1,
     cells: 4,
@@ -148,7 +121,7 @@ const RELEASED_UNDER_A_GUARD: Table = Table {
 };
 
 /// What an inner guard loaded is read under the outer one.
-const LOADED_WITHIN: Table = Table {
+pub(crate) const LOADED_WITHIN: Table = Table {
     participants: 1,
     slots: 2,
     cells: 4,
@@ -161,7 +134,7 @@ const LOADED_WITHIN: Table = Table {
 };
 
 /// A cell that was retired is free again. Where none is, an owner is back.
-const RETIRED: Table = Table {
+pub(crate) const RETIRED: Table = Table {
     participants: 1,
     slots: 2,
     cells: 1,
@@ -183,7 +156,7 @@ const RETIRED: Table = Table {
 };
 
 /// A cell is exchanged where it is what was loaded; where it isn't, the owner is back.
-const EXCHANGED: Table = Table {
+pub(crate) const EXCHANGED: Table = Table {
     participants: 1,
     slots: 16,
     cells: 4,
@@ -207,7 +180,7 @@ const EXCHANGED: Table = Table {
 };
 
 /// A cell is exchanged from null and to null.
-const FROM_AND_TO_NULL: Table = Table {
+pub(crate) const FROM_AND_TO_NULL: Table = Table {
     participants: 1,
     slots: 16,
     cells: 4,
@@ -230,86 +203,14 @@ const FROM_AND_TO_NULL: Table = Table {
     ],
 };
 
-#[test]
-fn cells_own_what_is_put_into_them(rt: HostRuntime) {
-    let wrong = first_wrong(
-        &rt,
-        rt.alloc(),
-        &[
-            SWAPPED,
-            READ_UNDER_A_GUARD,
-            RELEASED_UNDER_A_GUARD,
-            LOADED_WITHIN,
-            RETIRED,
-            EXCHANGED,
-            FROM_AND_TO_NULL,
-        ],
-    );
-    assert_eq!(rt; wrong, None);
-}
-
-#[test]
-fn a_place_is_handed_back_while_a_cell_owns_an_item(rt: HostRuntime) {
-    let domain = Domain::new(rt.alloc(), sized(1, 2)).expect(&rt, "memory is there");
-    let mut local = member(&rt, &domain);
-    let cell = cell_with(&rt, &domain, &mut local, 1);
-    local.end(&domain);
-    let Err(domain) = domain.close() else {
-        panic!(rt; "a cell owns an item");
-    };
-    let mut local = member(&rt, &domain);
-    let item = read(&domain, &mut local, &cell);
-    let last = cell.retire(&domain, &mut local);
-    local.end(&domain);
-    end(&rt, domain);
-    assert_eq!(rt; (item, last), (Some(1), true));
-}
-
-/// The item of an owner, which is released.
-pub(crate) fn spent(
-    domain: &Domain<u64>,
-    local: &mut Local<u64>,
-    owner: Option<Shared<u64>>,
-) -> Option<u64>
-    requires home { (home_of local.old ≡ place_of domain.now) × (hand_of local.old ≡ []) }
-    requires mine { IfSome owner (λ s. kept_in s ≡ (place_of domain.now).0) }
-    ensures same { IsInNest local.old local.new × ((own_of local.new).nesting ≡ (own_of local.old).nesting) }
-{
-    let owner = owner?;
-    let item = *owner.as_ref();
-    owner.release(domain, local);
-    Some(item)
-}
-
-/// A cell and its place, which threads share.
-#[derive(Drop)]
-pub(crate) struct Scene<'a> {
-    pub(crate) domain: &'a Domain<u64>,
-    pub(crate) cell: &'a AtomicShared,
-    ghost inside: { cell_number cell.now < cell_count domain.now },
-}
-
-/// Swaps an item into the cell, so many times, reads what it loads before that and after, and releases what comes out:
-/// how many items read under one guard were another after a swap. None if no participant was free.
-pub(crate) fn swapping(scene: &Scene, salt: u64) -> Option<u32> {
-    let Scene { domain, cell } = *scene;
-    let Ok(mut local) = domain.register() else {
-        return None;
-    };
-    let mut changed = 0;
-    for i in 0..1000u32 {
-        if !keeps(domain, &mut local, cell, salt.wrapping_add(u64::from(i))) {
-            changed += 1;
-        }
-        let _ = pass(domain, &mut local, true);
-    }
-    local.end(domain);
-    Some(changed)
-}
-
 /// Loads the cell, swaps an item into it, if a slot is free, and releases what comes out: whether what was loaded is the
 /// same after that.
-fn keeps(domain: &Domain<u64>, local: &mut Local<u64>, cell: &AtomicShared, item: u64) -> bool
+pub(crate) fn keeps(
+    domain: &Domain<u64>,
+    local: &mut Local<u64>,
+    cell: &AtomicShared,
+    item: u64,
+) -> bool
     requires home { (home_of local.old ≡ place_of domain.now) × (hand_of local.old ≡ []) }
     requires closed { (own_of local.old).nesting ≡ 0 }
     requires inside { cell_number cell.now < cell_count domain.now }
@@ -334,9 +235,7 @@ fn replace(domain: &Domain<u64>, local: &mut Local<u64>, cell: &AtomicShared, it
     ensures same { IsInNestButMisses local.old local.new × ((own_of local.new).nesting ≡ (own_of local.old).nesting) }
 {
     if let Ok(owner) = Shared::new(item, domain, local) {
-        if let (Some(old), _) = cell.swap((Some(owner), Tag::None), domain, local) {
-            old.release(domain, local);
-        }
+        put(domain, local, cell, owner);
     }
 }
 
@@ -353,39 +252,8 @@ pub(crate) fn reclaim_all(domain: &Domain<u64>, participants: u32) {
     local.end(domain);
 }
 
-#[test]
-fn four_threads_load_swap_and_release_one_cell(rt: HostRuntime) {
-    let tasks = [
-        CellTask::Swaps(0),
-        CellTask::Swaps(10_000),
-        CellTask::Swaps(20_000),
-        CellTask::Swaps(30_000),
-    ];
-    let (told, (_, slots, last, _)) = around_a_cell(&rt, rt.alloc(), 64, 1, tasks, 4);
-    assert_eq!(rt; told, [Some(0); 4]);
-    assert_eq!(rt; (slots, last), (1, true));
-}
-
-/// Tries 4000 times to put an item that is greater by one into the cell: how often it was put there. None if no
-/// participant was free.
-pub(crate) fn counting(scene: &Scene) -> Option<u32> {
-    let Scene { domain, cell } = *scene;
-    let Ok(mut local) = domain.register() else {
-        return None;
-    };
-    let mut added = 0;
-    for i in 0..4000u32 {
-        if adds_one(domain, &mut local, cell) {
-            added += 1;
-        }
-        let _ = pass(domain, &mut local, true);
-    }
-    local.end(domain);
-    Some(added)
-}
-
 /// Tries once to put an item that is greater by one into the cell: whether a slot was free, and nobody was faster.
-fn adds_one(domain: &Domain<u64>, local: &mut Local<u64>, cell: &AtomicShared) -> bool
+pub(crate) fn adds_one(domain: &Domain<u64>, local: &mut Local<u64>, cell: &AtomicShared) -> Found
     requires home { (home_of local.old ≡ place_of domain.now) × (hand_of local.old ≡ []) }
     requires closed { (own_of local.old).nesting ≡ 0 }
     requires inside { cell_number cell.now < cell_count domain.now }
@@ -397,12 +265,12 @@ fn adds_one(domain: &Domain<u64>, local: &mut Local<u64>, cell: &AtomicShared) -
     };
     let loaded = cell.load(domain, &guard, local);
     let item = loaded.as_ref().copied().unwrap_or(0);
-    let done = puts(domain, &guard, local, cell, loaded, item.wrapping_add(1));
+    let found = puts(domain, &guard, local, cell, loaded, item.wrapping_add(1));
     guard.close(domain, local);
-    done
+    found
 }
 
-/// Tries once to put this item into the cell, where it names what was loaded.
+/// Tries once to put this item into the cell, where it names what was loaded: yes, or what it has then.
 fn puts(
     domain: &Domain<u64>,
     guard: &Guard,
@@ -410,7 +278,7 @@ fn puts(
     cell: &AtomicShared,
     current: Ptr<u64>,
     item: u64,
-) -> bool
+) -> Found
     requires home { (home_of local.old ≡ place_of domain.now) × (hand_of local.old ≡ []) }
     requires nest { nest_of guard.now ≡ nest_in local.old }
     requires open { 0 < (own_of local.old).nesting }
@@ -418,31 +286,46 @@ fn puts(
     ensures same { IsInNestButMisses local.old local.new × ((own_of local.new).nesting ≡ (own_of local.old).nesting) }
 {
     let Ok(owner) = Shared::new(item, domain, local) else {
-        return false;
+        return Found::Nothing;
     };
-    let new = (Some(owner), Tag::None);
-    let (owner, done) = match cell.compare_exchange(current, new, domain, guard, local) {
-        Ok((old, _)) => (old, true),
-        Err((back, _)) => (back, false),
-    };
-    spent(domain, local, owner);
-    done
+    let (owner, found) = exchange(domain, guard, local, Some(owner), cell, current, Tag::None);
+    release(domain, local, owner);
+    found
 }
 
-/// The sum of these; none if one of them is none.
-fn total(parts: [Option<u32>; 4]) -> Option<u64> {
-    let mut sum = 0u64;
-    for part in parts {
-        sum = sum.wrapping_add(u64::from(part?));
-    }
-    Some(sum)
-}
+/// Four threads load, swap and release one cell.
+pub(crate) const SWAPPED_BY_THREADS: Table = Table {
+    participants: 5,
+    slots: 64,
+    cells: 4,
+    first: 0,
+    parts: &[
+        Apart(&[(Join, Is(1)), (Place(1), Nothing), (Own, Yes)]),
+        Crowd([
+            Task::Swaps(0),
+            Task::Swaps(10_000),
+            Task::Swaps(20_000),
+            Task::Swaps(30_000),
+        ]),
+        Apart(&[
+            (Sum, Is(4000)),
+            (Sweep(3), Nothing),
+            (Passes(true, 4), Nothing),
+            (Slots, Is(1)),
+            (Retire, Yes),
+        ]),
+    ],
+};
 
-#[test]
-fn what_four_threads_add_to_one_cell_is_its_sum(rt: HostRuntime) {
-    let tasks = [CellTask::Counts; 4];
-    let (told, (item, _, last, _)) = around_a_cell(&rt, rt.alloc(), 64, 0, tasks, 0);
-    let sum = total(told);
-    assert_eq!(rt; (item, last), (sum, true));
-    assert!(rt; sum > Some(0));
-}
+/// What four threads add to one cell is its sum.
+pub(crate) const COUNTED_BY_THREADS: Table = Table {
+    participants: 5,
+    slots: 64,
+    cells: 4,
+    first: 0,
+    parts: &[
+        Apart(&[(Join, Is(1)), (Place(0), Nothing), (Own, Yes)]),
+        Crowd([Task::Counts; 4]),
+        Apart(&[(IsSum, Yes), (Retire, Yes)]),
+    ],
+};

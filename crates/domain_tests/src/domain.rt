@@ -1,36 +1,24 @@
 //! Registering participants, and ending a place.
 
-ghost use Rattle.std.specs.Prelude.{◌≡◌, ◌≤◌, []};
-ghost use Rattle.sdd_domain.specs.Layout.{IsSized};
+ghost use Rattle.std.specs.Prelude.{◌≡◌, []};
 ghost use Rattle.sdd_domain.specs.Tokens.{place_of, home_of, hand_of, own_of};
 
-use crate::play::first_wrong;
+use crate::cells::read;
+use crate::items::sized;
 use crate::steps::Act::{Join, Number};
 use crate::steps::Found::{Is, No};
 use crate::steps::Part::{Apart, Renew};
 use crate::steps::Table;
-use sdd_base::sizes::Sizes;
+use sdd_domain::atomic_shared::AtomicShared;
 use sdd_domain::domain::Domain;
+use sdd_domain::holds::Holds;
 use sdd_domain::local::Local;
 use sdd_domain::refusal::RegisterRefused;
+use sdd_domain::shared::Shared;
 use std::process::Abort;
 
-/// The sizes of a place for so many participants, and nothing else.
-pub(crate) fn only(participants: u8) -> Sizes
-    requires { 1 ≤ participants }
-    ensures sized { IsSized result }
-    ensures only { result.participants ≡ participants }
-{
-    Sizes {
-        participants: usize::from(participants),
-        slots: 0,
-        cells: 0,
-        jobs: 0,
-    }
-}
-
 /// A participant of the place, which has one that is free.
-pub(crate) fn member<R: Abort>(rt: &R, domain: &Domain<u64>) -> Local<u64>
+pub(crate) fn member<R: Abort, T: Holds>(rt: &R, domain: &Domain<T>) -> Local<T>
     ensures home { (home_of result ≡ place_of domain.now) × (hand_of result ≡ []) }
     ensures closed { (own_of result).nesting ≡ 0 }
 {
@@ -49,7 +37,7 @@ pub(crate) fn refused<R: Abort>(rt: &R, domain: &Domain<u64>) -> RegisterRefused
 }
 
 /// Ends a place in which nobody is registered.
-pub(crate) fn end<R: Abort>(rt: &R, domain: Domain<u64>) {
+pub(crate) fn end<R: Abort, T: Holds>(rt: &R, domain: Domain<T>) {
     match domain.close() {
         Ok(()) => {}
         Err(_) => panic!(rt; "nobody is registered"),
@@ -57,7 +45,7 @@ pub(crate) fn end<R: Abort>(rt: &R, domain: Domain<u64>) {
 }
 
 /// One participant is registered once at a time, and again when it has ended.
-const ONE_AT_A_TIME: Table = Table {
+pub(crate) const ONE_AT_A_TIME: Table = Table {
     participants: 1,
     slots: 0,
     cells: 0,
@@ -68,11 +56,6 @@ const ONE_AT_A_TIME: Table = Table {
         Apart(&[(Number, Is(0)), (Join, No)]),
     ],
 };
-
-#[test]
-fn one_participant_is_registered_once_at_a_time(rt: HostRuntime) {
-    assert_eq!(rt; first_wrong(&rt, rt.alloc(), &[ONE_AT_A_TIME]), None);
-}
 
 /// The numbers of three participants of a place for three; why there is no fourth one; and the number of the one that is
 /// registered when the second has ended.
@@ -94,23 +77,56 @@ fn three_and_one_more<R: Abort>(
     (numbers, refused, number)
 }
 
-#[test]
-fn participants_are_registered_from_the_lowest_that_is_free(rt: HostRuntime) {
-    let domain = Domain::new(rt.alloc(), only(3)).expect(&rt, "memory is there");
-    let found = three_and_one_more(&rt, &domain);
-    end(&rt, domain);
-    assert_eq!(rt; found, ([0, 1, 2], RegisterRefused::Full, 1));
+/// The place, which is handed back while something is out.
+fn handed_back<R: Abort>(rt: &R, domain: Domain<u64>) -> Domain<u64>
+    ensures { place_of result ≡ place_of domain }
+{
+    match domain.close() {
+        Ok(()) => panic!(rt; "something is out"),
+        Err(domain) => domain,
+    }
+}
+
+/// The place, which is handed back while an owner is out, and while a cell owns an item; that item and the owner's, and whether
+/// these owners were the last ones.
+fn handed_back_twice<R: Abort>(
+    rt: &R,
+    domain: Domain<u64>,
+) -> (Domain<u64>, (u64, bool), (Option<u64>, bool)) {
+    let mut local = member(rt, &domain);
+    let Ok(owner) = Shared::new(1, &domain, &mut local) else {
+        panic!(rt; "a slot is free");
+    };
+    local.end(&domain);
+    let domain = handed_back(rt, domain);
+    let item = *owner.as_ref();
+    let mut local = member(rt, &domain);
+    let last = owner.release(&domain, &mut local);
+    let Ok(cell) = AtomicShared::new(1, &domain, &mut local) else {
+        panic!(rt; "a slot and a cell are free");
+    };
+    local.end(&domain);
+    let domain = handed_back(rt, domain);
+    let mut local = member(rt, &domain);
+    let owned = read(&domain, &mut local, &cell);
+    let retired = cell.retire(&domain, &mut local);
+    local.end(&domain);
+    (domain, (item, last), (owned, retired))
 }
 
 #[test]
-fn a_place_is_handed_back_while_a_participant_is_out(rt: HostRuntime) {
-    let domain = Domain::new(rt.alloc(), only(2)).expect(&rt, "memory is there");
+fn participants_are_registered_from_the_lowest_and_a_place_is_handed_back_while_something_is_out(
+    rt: HostRuntime,
+) {
+    let domain = Domain::new(rt.alloc(), sized(3, 2)).expect(&rt, "memory is there");
+    let registered = three_and_one_more(&rt, &domain);
     let zero = member(&rt, &domain);
     let one = member(&rt, &domain);
     zero.end(&domain);
-    let Err(domain) = domain.close() else {
-        panic!(rt; "a participant is out");
-    };
+    let domain = handed_back(&rt, domain);
     one.end(&domain);
+    let (domain, owner, cell) = handed_back_twice(&rt, domain);
     end(&rt, domain);
+    assert!(rt; registered == ([0, 1, 2], RegisterRefused::Full, 1));
+    assert_eq!(rt; (owner, cell), ((1, true), (Some(1), true)));
 }

@@ -1,11 +1,12 @@
 //! What a participant does with an owner in its hand, and with a cell.
 
-ghost use Rattle.std.specs.Prelude.{◌<◌};
+ghost use Rattle.std.specs.Prelude.{◌≡◌, ◌<◌};
 ghost use Rattle.sdd_domain.specs.Cells.{cell_number};
-ghost use Rattle.sdd_domain.specs.Tokens.{cell_count};
+ghost use Rattle.sdd_domain.specs.Sharing.{kept_in};
+ghost use Rattle.sdd_domain.specs.Tokens.{place_of, cell_count};
 ghost use Rattle.domain_tests.specs.Steps.{IsHome, Stays, IsOpen, IsOurs, IsInside};
 
-use crate::steps::{Found, View};
+use crate::steps::{Act, Found, View};
 use sdd_base::tag::Tag;
 use sdd_domain::atomic_shared::AtomicShared;
 use sdd_domain::domain::Domain;
@@ -58,7 +59,7 @@ pub(crate) fn read(hand: &Hand) -> Found {
     }
 }
 
-pub(crate) fn swap(
+fn swap(
     domain: &Domain<u64>,
     local: &mut Local<u64>,
     hand: Hand,
@@ -75,54 +76,108 @@ pub(crate) fn swap(
     (old, Found::Tagged(tag))
 }
 
-/// A new cell that owns nothing, where the participant has none.
-pub(crate) fn null(
+/// Puts an owner into the cell, and releases the one that it had.
+pub(crate) fn put(
     domain: &Domain<u64>,
     local: &mut Local<u64>,
-    cell: Option<AtomicShared>,
-) -> (Option<AtomicShared>, Found)
+    cell: &AtomicShared,
+    owner: Shared<u64>,
+)
     requires home { IsHome domain.now local.old }
-    requires inside { IsInside domain.now cell }
-    ensures inside { IsInside domain.now result.0 }
+    requires inside { cell_number cell.now < cell_count domain.now }
+    requires mine { kept_in owner ≡ (place_of domain.now).0 }
     ensures stays { Stays local.old local.new }
 {
-    match cell {
-        Some(cell) => (Some(cell), Found::Nothing),
-        None => {
-            let cell = AtomicShared::null(domain, local);
-            let found = told(cell.is_some());
-            (cell, found)
-        }
+    if let (Some(older), _) = cell.swap((Some(owner), Tag::None), domain, local) {
+        older.release(domain, local);
     }
 }
 
-/// A new cell that owns what the hand did, where the participant has none.
-pub(crate) fn own(
-    domain: &Domain<u64>,
-    local: &mut Local<u64>,
-    hand: Hand,
-) -> (Option<AtomicShared>, Hand, Found)
+/// The item of the owner in hand.
+pub(crate) fn lent(hand: &Hand) -> Option<&u64> {
+    match hand {
+        Some(owner) => Some(owner.as_ref()),
+        None => None,
+    }
+}
+
+/// Two owners of the one in hand, or that one behind none: whether there are two.
+pub(crate) fn clone(domain: &Domain<u64>, local: &mut Local<u64>, hand: Hand) -> (Hand, Hand, Found)
     requires home { IsHome domain.now local.old }
     requires ours { IsOurs domain.now hand }
-    ensures inside { IsInside domain.now result.0 }
-    ensures ours { IsOurs domain.now result.1 }
+    ensures one { IsOurs domain.now result.0 }
+    ensures other { IsOurs domain.now result.1 }
     ensures stays { Stays local.old local.new }
 {
     match hand {
-        Some(owner) => match AtomicShared::from(owner, domain, local) {
-            Ok(cell) => (Some(cell), None, Found::Yes),
+        Some(owner) => match owner.clone(domain, local) {
+            Ok((one, other)) => (Some(one), Some(other), Found::Yes),
             Err(owner) => (None, Some(owner), Found::No),
         },
         None => (None, None, Found::Nothing),
     }
 }
 
-/// A new cell of an item, which is back where there is none.
-pub(crate) fn make(
+/// A step with an owner in hand and a cell.
+pub(crate) fn handled(
     domain: &Domain<u64>,
     local: &mut Local<u64>,
-    item: u64,
-) -> (Option<AtomicShared>, Found)
+    hand: Hand,
+    cell: Option<AtomicShared>,
+    act: Act,
+) -> (Hand, Option<AtomicShared>, Found)
+    requires home { IsHome domain.now local.old }
+    requires ours { IsOurs domain.now hand }
+    requires inside { IsInside domain.now cell }
+    ensures ours { IsOurs domain.now result.0 }
+    ensures inside { IsInside domain.now result.1 }
+    ensures stays { Stays local.old local.new }
+{
+    match (act, hand, cell) {
+        (Act::Release, hand, cell) => (None, cell, release(domain, local, hand)),
+        (Act::Retire, hand, cell) => (hand, None, retire(domain, local, cell)),
+        (Act::Swap(tag), hand, Some(cell)) => {
+            let (hand, found) = swap(domain, local, hand, &cell, tag);
+            (hand, Some(cell), found)
+        }
+        (Act::Take, None, cell) => (take(domain, local, cell), None, Found::Nothing),
+        (Act::Null, hand, None) => {
+            let cell = AtomicShared::null(domain, local);
+            let found = told(cell.is_some());
+            (hand, cell, found)
+        }
+        (Act::Own, hand, None) => own(domain, local, hand),
+        (Act::Make(item), hand, None) => {
+            let (cell, found) = make(domain, local, item);
+            (hand, cell, found)
+        }
+        (_, hand, cell) => (hand, cell, Found::No),
+    }
+}
+
+/// A new cell that owns what the hand did, where the participant has none.
+fn own(
+    domain: &Domain<u64>,
+    local: &mut Local<u64>,
+    hand: Hand,
+) -> (Hand, Option<AtomicShared>, Found)
+    requires home { IsHome domain.now local.old }
+    requires ours { IsOurs domain.now hand }
+    ensures ours { IsOurs domain.now result.0 }
+    ensures inside { IsInside domain.now result.1 }
+    ensures stays { Stays local.old local.new }
+{
+    match hand {
+        Some(owner) => match AtomicShared::from(owner, domain, local) {
+            Ok(cell) => (None, Some(cell), Found::Yes),
+            Err(owner) => (Some(owner), None, Found::No),
+        },
+        None => (None, None, Found::Nothing),
+    }
+}
+
+/// A new cell of an item, which is back where there is none.
+fn make(domain: &Domain<u64>, local: &mut Local<u64>, item: u64) -> (Option<AtomicShared>, Found)
     requires home { IsHome domain.now local.old }
     ensures inside { IsInside domain.now result.0 }
     ensures stays { Stays local.old local.new }
@@ -134,7 +189,7 @@ pub(crate) fn make(
 }
 
 /// What the cell owned, which is given back.
-pub(crate) fn take(domain: &Domain<u64>, local: &mut Local<u64>, cell: Option<AtomicShared>) -> Hand
+fn take(domain: &Domain<u64>, local: &mut Local<u64>, cell: Option<AtomicShared>) -> Hand
     requires home { IsHome domain.now local.old }
     requires inside { IsInside domain.now cell }
     ensures ours { IsOurs domain.now result }

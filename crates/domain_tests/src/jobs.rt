@@ -3,23 +3,26 @@
 ghost use Rattle.std.specs.Prelude.{◌≡◌, [], IfErr};
 ghost use Rattle.sdd_domain.specs.Tokens.{place_of, home_of, hand_of, own_of, IsSame, IsSameButMisses};
 
+use crate::crowd::{Work, four};
+use crate::domain::{end, member};
 use crate::items::sized;
+use crate::steps::Task;
 use sdd_domain::domain::Domain;
 use sdd_domain::guard::Guard;
 use sdd_domain::held::Held;
 use sdd_domain::holds::Holds;
 use sdd_domain::local::Local;
-use std::alloc::AllocError;
+use std::alloc::{AllocError, Global};
 use std::process::Abort;
 use std::sync::Arc;
 use std::sync::atomic::{AtomicU64, Ordering};
-use std::thread::{Threads, join};
+use std::thread::Threads;
 
 const ROOM: &str = "memory is there";
 
 /// A job, which counts how often it runs.
 #[derive(Drop)]
-struct Count {
+pub(crate) struct Count {
     runs: Arc<AtomicU64>,
 }
 
@@ -48,21 +51,6 @@ fn counting(runs: &Arc<AtomicU64>) -> Result<Count, AllocError> {
     })
 }
 
-/// The same where memory is there.
-fn counted<R: Abort>(rt: &R, runs: &Arc<AtomicU64>) -> Count {
-    counting(runs).expect(rt, ROOM)
-}
-
-fn member<R: Abort>(rt: &R, domain: &Domain<Count>) -> Local<Count>
-    ensures home { (home_of result ≡ place_of domain.now) × (hand_of result ≡ []) }
-    ensures closed { (own_of result).nesting ≡ 0 }
-{
-    match domain.register() {
-        Ok(local) => local,
-        Err(_) => panic!(rt; "a participant is free"),
-    }
-}
-
 /// Defers a job under an accelerated guard of its own. It is back where no slot is free.
 fn deferred(domain: &Domain<Count>, local: &mut Local<Count>, job: Count) -> Result<(), Count>
     requires home { (home_of local.old ≡ place_of domain.now) × (hand_of local.old ≡ []) }
@@ -78,6 +66,19 @@ fn deferred(domain: &Domain<Count>, local: &mut Local<Count>, job: Count) -> Res
     guard.accelerate(local);
     guard.close(domain, local);
     waits
+}
+
+/// Defers a job that counts there: whether it waits.
+fn waits(domain: &Domain<Count>, local: &mut Local<Count>, runs: &Arc<AtomicU64>) -> bool
+    requires home { (home_of local.old ≡ place_of domain.now) × (hand_of local.old ≡ []) }
+    requires closed { (own_of local.old).nesting ≡ 0 }
+    ensures same { IsSameButMisses local.old local.new }
+    ensures closed { (own_of local.new).nesting ≡ 0 }
+{
+    match counting(runs) {
+        Ok(job) => deferred(domain, local, job).is_ok(),
+        Err(_) => false,
+    }
 }
 
 /// Opens an accelerated guard and closes it: how many jobs have run once it is open.
@@ -110,89 +111,70 @@ fn passes(domain: &Domain<Count>, local: &mut Local<Count>, runs: &AtomicU64, gu
     run
 }
 
-#[test]
-fn a_job_runs_once_as_the_fourth_guard_opens(rt: HostRuntime) {
-    let runs = Arc::new(rt.alloc(), AtomicU64::new(0)).expect(&rt, ROOM);
-    let (job, another) = (counted(&rt, &runs), counted(&rt, &runs));
-    let domain = Domain::new(rt.alloc(), sized(1, 1)).expect(&rt, ROOM);
-    let mut local = member(&rt, &domain);
-    let waits = deferred(&domain, &mut local, job).is_ok();
-    let refused = deferred(&domain, &mut local, another).is_err();
-    let third = passed(&domain, &mut local, &runs);
-    let fourth = passed(&domain, &mut local, &runs);
-    let later = passes(&domain, &mut local, &runs, 8);
-    local.end(&domain);
-    end(&rt, domain);
-    let found = (third, fourth, later, runs.load(Ordering::SeqCst));
-    assert_eq!(rt; (waits, refused, found), (true, true, (0, 1, 1, 1)));
-}
-
-/// Ends a place in which nobody is registered.
-fn end<R: Abort>(rt: &R, domain: Domain<Count>) {
-    match domain.close() {
-        Ok(()) => {}
-        Err(_) => panic!(rt; "nobody is registered"),
-    }
+/// Defers two jobs, of which a place of one slot gives the second one back: whether it did so with that one alone; how many jobs have run as
+/// the third guard behind them is open, as the fourth is, and later.
+fn once<R: Abort>(rt: &R, domain: &Domain<Count>, runs: &Arc<AtomicU64>) -> Found {
+    let mut local = member(rt, domain);
+    let first = waits(domain, &mut local, runs);
+    let second = waits(domain, &mut local, runs);
+    let third = passed(domain, &mut local, runs);
+    let fourth = passed(domain, &mut local, runs);
+    let later = passes(domain, &mut local, runs, 8);
+    local.end(domain);
+    (first && !second, [third, fourth, later])
 }
 
 /// Registers a participant, has it defer a job, and ends it. Whether the job waits.
-fn left_behind<R: Abort>(rt: &R, domain: &Domain<Count>, job: Count) -> bool {
+fn left_behind<R: Abort>(rt: &R, domain: &Domain<Count>, runs: &Arc<AtomicU64>) -> bool {
     let mut local = member(rt, domain);
-    let waits = deferred(domain, &mut local, job).is_ok();
+    let waits = waits(domain, &mut local, runs);
     local.end(domain);
     waits
 }
 
-#[test]
-fn what_an_ended_participant_deferred_is_run_by_the_next_one_or_at_the_close(rt: HostRuntime) {
-    let runs = Arc::new(rt.alloc(), AtomicU64::new(0)).expect(&rt, ROOM);
-    let (first, second) = (counted(&rt, &runs), counted(&rt, &runs));
-    let domain = Domain::new(rt.alloc(), sized(1, 1)).expect(&rt, ROOM);
-    let waits = left_behind(&rt, &domain, first);
-    let mut local = member(&rt, &domain);
-    let next = passes(&domain, &mut local, &runs, 4);
-    local.end(&domain);
-    let again = left_behind(&rt, &domain, second);
-    let before = runs.load(Ordering::SeqCst);
-    end(&rt, domain);
-    let found = (waits, again, next, before, runs.load(Ordering::SeqCst));
-    assert_eq!(rt; found, (true, true, 1, 1, 2));
+/// Two participants, one behind the other, leave a job behind, of which the next one runs the first: whether both waited; how
+/// many jobs have run as the fourth guard of that one is open, and how many at the end.
+fn behind<R: Abort>(rt: &R, domain: &Domain<Count>, runs: &Arc<AtomicU64>) -> Found {
+    let waits = left_behind(rt, domain, runs);
+    let mut local = member(rt, domain);
+    let next = passes(domain, &mut local, runs, 4);
+    local.end(domain);
+    let again = left_behind(rt, domain, runs);
+    (waits && again, [next, runs.load(Ordering::SeqCst), 0])
 }
 
-#[test]
-fn a_job_waits_for_an_older_guard_of_another_participant(rt: HostRuntime) {
-    let runs = Arc::new(rt.alloc(), AtomicU64::new(0)).expect(&rt, ROOM);
-    let job = counted(&rt, &runs);
-    let domain = Domain::new(rt.alloc(), sized(2, 1)).expect(&rt, ROOM);
-    let (mut local, mut other) = (member(&rt, &domain), member(&rt, &domain));
-    let Ok(older) = Guard::new(&domain, &mut other) else {
+/// Defers a job beside an older guard of another participant: whether it waits; how many jobs have run as eight guards were
+/// open beside that, and four behind it.
+fn beside<R: Abort>(rt: &R, domain: &Domain<Count>, runs: &Arc<AtomicU64>) -> Found {
+    let mut local = member(rt, domain);
+    let mut other = member(rt, domain);
+    let Ok(older) = Guard::new(domain, &mut other) else {
         unreachable!();
     };
-    let waits = deferred(&domain, &mut local, job).is_ok();
-    let beside = passes(&domain, &mut local, &runs, 8);
-    older.close(&domain, &mut other);
-    let behind = passes(&domain, &mut local, &runs, 4);
-    local.end(&domain);
-    other.end(&domain);
-    end(&rt, domain);
-    assert_eq!(rt; (waits, beside, behind), (true, 0, 1));
+    let waits = waits(domain, &mut local, runs);
+    let beside = passes(domain, &mut local, runs, 8);
+    older.close(domain, &mut other);
+    let behind = passes(domain, &mut local, runs, 4);
+    local.end(domain);
+    other.end(domain);
+    (waits, [beside, behind, 0])
 }
 
 /// What the jobs of a thread need.
 #[derive(Drop)]
-struct Scene<'a> {
+pub(crate) struct Scene<'a> {
     domain: &'a Domain<Count>,
     runs: &'a Arc<AtomicU64>,
 }
 
 /// Defers a thousand jobs beside others, and runs those at once for which no slot is free: how many there were. Fewer where
 /// memory is refused; none if no participant was free.
-fn deferring(scene: &Scene) -> Option<u64> {
+pub(crate) fn deferring(scene: &Scene) -> Option<u32> {
     let Scene { domain, runs } = *scene;
     let Ok(mut local) = domain.register() else {
         return None;
     };
-    let mut jobs = 0u64;
+    let mut jobs = 0u32;
     for _i in 0..1000u32 {
         if let Ok(job) = counting(runs) {
             jobs = jobs.saturating_add(1);
@@ -205,24 +187,63 @@ fn deferring(scene: &Scene) -> Option<u64> {
     Some(jobs)
 }
 
-/// Two threads that do so.
-fn two<R: Threads + Sync>(rt: &R, scene: &Scene) -> (Option<u64>, Option<u64>) {
-    join(rt, || deferring(scene), || deferring(scene))
+/// Whether all was as it is to be, and what was counted.
+type Found = (bool, [u64; 3]);
+
+/// What is done with jobs.
+#[derive(Clone, Copy)]
+enum Play {
+    Once,
+    Behind,
+    Beside,
+    /// Four threads defer a thousand jobs each.
+    Threads,
 }
 
-#[test]
-fn four_threads_defer_a_thousand_jobs_each_and_each_runs_once(rt: HostRuntime) {
-    let runs = Arc::new(rt.alloc(), AtomicU64::new(0)).expect(&rt, ROOM);
-    let domain = Domain::new(rt.alloc(), sized(4, 8)).expect(&rt, ROOM);
-    let scene = Scene {
-        domain: &domain,
-        runs: &runs,
+/// What is done in a place for so many participants, with so many slots; what is found, and how many jobs have run when the
+/// place is ended.
+type Row = (u8, u8, Play, Found, u64);
+
+/// Whether it goes as the row says.
+fn is_right<R: Threads + Abort + Sync>(rt: &R, alloc: Global, row: &Row) -> bool {
+    assert!(rt; row.0 > 0);
+    let runs = Arc::new(alloc, AtomicU64::new(0)).expect(rt, ROOM);
+    let domain = Domain::new(alloc, sized(row.0, row.1)).expect(rt, ROOM);
+    let found = match row.2 {
+        Play::Once => once(rt, &domain, &runs),
+        Play::Behind => behind(rt, &domain, &runs),
+        Play::Beside => beside(rt, &domain, &runs),
+        Play::Threads => threads(rt, &domain, &runs),
     };
-    let ((a, b), (c, d)) = join(&rt, || two(&rt, &scene), || two(&rt, &scene));
-    end(&rt, domain);
-    let deferred = [a, b, c, d];
-    assert_eq!(rt;
-        (deferred, runs.load(Ordering::SeqCst)),
-        ([Some(1000); 4], 4000)
-    );
+    end(rt, domain);
+    found == row.3 && runs.load(Ordering::SeqCst) == row.4
+}
+
+/// How many jobs four threads deferred that defer a thousand each.
+fn threads<R: Threads + Sync>(rt: &R, domain: &Domain<Count>, runs: &Arc<AtomicU64>) -> Found {
+    let work = Work::Jobs(Scene { domain, runs });
+    match four(rt, &work, [Task::Defers; 4]) {
+        Some(jobs) => (true, [u64::from(jobs), 0, 0]),
+        None => (false, [0; 3]),
+    }
+}
+
+/// A job runs once as the fourth guard opens. What an ended participant deferred is run by the next one, or at the close. A job
+/// waits for an older guard of another participant. Each job of threads runs once.
+const ROWS: [Row; 4] = [
+    (1, 1, Play::Once, (true, [0, 1, 1]), 1),
+    (1, 1, Play::Behind, (true, [1, 1, 0]), 2),
+    (2, 1, Play::Beside, (true, [0, 1, 0]), 1),
+    (4, 8, Play::Threads, (true, [4000, 0, 0]), 4000),
+];
+
+#[test]
+fn jobs_run_once_when_nobody_is_in_their_way(rt: HostRuntime) {
+    let mut right = 0usize;
+    for at in 0..ROWS.len() {
+        if right == at && is_right(&rt, rt.alloc(), &ROWS[at]) {
+            right = right.saturating_add(1);
+        }
+    }
+    assert_eq!(rt; right, ROWS.len(), "the first row that isn't right");
 }

@@ -3,11 +3,14 @@
 ghost use Rattle.std.specs.Prelude.{◌≡◌, [], IfOk, IfErr};
 ghost use Rattle.sdd_domain.specs.Holding.{all_told};
 ghost use Rattle.sdd_domain.specs.Sharing.{kept_in};
-ghost use Rattle.sdd_domain.specs.Tokens.{place_of, home_of, hand_of, own_of, IsSame, IsSameButMisses};
+ghost use Rattle.sdd_domain.specs.Tokens.{place_of, home_of, hand_of, own_of, IsSame, IsSameButHand, IsSameButMisses};
 
+use crate::crowd::{Work, four};
+use crate::domain::{end, member};
+use crate::guard::{pass, passes};
 use crate::items::sized;
+use crate::steps::Task;
 use sdd_domain::domain::Domain;
-use sdd_domain::guard::Guard;
 use sdd_domain::held::Held;
 use sdd_domain::holding::{hold_last, own_last};
 use sdd_domain::holds::Holds;
@@ -15,7 +18,7 @@ use sdd_domain::local::Local;
 use sdd_domain::shared::Shared;
 use std::alloc::Global;
 use std::process::Abort;
-use std::thread::join;
+use std::thread::Threads;
 
 /// An item that holds other items, or none.
 pub enum Node {
@@ -46,25 +49,6 @@ impl Holds for Node {
     }
 }
 
-/// A participant of the place, which has one that is free.
-fn member<R: Abort>(rt: &R, domain: &Domain<Node>) -> Local<Node>
-    ensures home { (home_of result ≡ place_of domain.now) × (hand_of result ≡ []) }
-    ensures closed { (own_of result).nesting ≡ 0 }
-{
-    match domain.register() {
-        Ok(local) => local,
-        Err(_) => panic!(rt; "a participant is free"),
-    }
-}
-
-/// Ends a place in which nobody is registered and nothing is owned.
-fn end<R: Abort>(rt: &R, domain: Domain<Node>) {
-    match domain.close() {
-        Ok(()) => {}
-        Err(_) => panic!(rt; "nobody is registered"),
-    }
-}
-
 /// The leaf's owner, where a slot is free.
 fn leaf<R: Abort>(
     rt: &R,
@@ -79,6 +63,25 @@ fn leaf<R: Abort>(
     match Shared::new(Node::Leaf(number), domain, local) {
         Ok(owner) => owner,
         Err(_) => panic!(rt; "a slot is free"),
+    }
+}
+
+/// The last owner that was held, where there is one.
+fn taken<R: Abort>(
+    rt: &R,
+    domain: &Domain<Node>,
+    local: &mut Local<Node>,
+    held: &mut Vec<Held<Node>>,
+) -> Shared<Node>
+    requires home { home_of local.old ≡ place_of domain.now }
+    requires hand { hand_of local.old ≡ all_told held.old.items }
+    ensures mine { kept_in result ≡ (place_of domain.now).0 }
+    ensures hand { hand_of local.new ≡ all_told held.new.items }
+    ensures same { IsSameButHand local.old local.new }
+{
+    match own_last(held, domain, local) {
+        Some(owner) => owner,
+        None => panic!(rt; "an owner is held"),
     }
 }
 
@@ -106,18 +109,11 @@ fn directory<R: Abort>(
         Ok(owner) => Ok(owner),
         Err(Node::Directory(held)) => {
             let mut held = held;
-            let Some(second) = own_last(&mut held, domain, local) else {
-                panic!(rt; "the second is there");
-            };
-            let Some(first) = own_last(&mut held, domain, local) else {
-                panic!(rt; "the first is there");
-            };
+            let second = taken(rt, domain, local, &mut held);
+            let first = taken(rt, domain, local, &mut held);
             match own_last(&mut held, domain, local) {
                 None => held.destroy_empty(),
-                Some(third) => {
-                    third.release(domain, local);
-                    panic!(rt; "there were two")
-                }
+                Some(_) => panic!(rt; "there were two"),
             }
             Err((first, second))
         }
@@ -142,11 +138,7 @@ fn top<R: Abort>(
     let second = leaf(rt, domain, local, number);
     match directory(rt, alloc, domain, local, first, second) {
         Ok(owner) => owner,
-        Err((first, second)) => {
-            second.release(domain, local);
-            first.release(domain, local);
-            panic!(rt; "a slot is free")
-        }
+        Err(_) => panic!(rt; "a slot is free"),
     }
 }
 
@@ -164,10 +156,7 @@ fn twice<R: Abort>(
 {
     match owner.clone(domain, local) {
         Ok(both) => both,
-        Err(owner) => {
-            owner.release(domain, local);
-            panic!(rt; "one more owner")
-        }
+        Err(_) => panic!(rt; "one more owner"),
     }
 }
 
@@ -180,7 +169,7 @@ fn number(node: &Node) -> u64 {
 }
 
 /// The sum of a directory's leaves.
-fn sum(node: &Node) -> u64 {
+fn total(node: &Node) -> u64 {
     let mut sum: u64 = 0;
     if let Node::Directory(held) = node {
         for leaf in held {
@@ -190,44 +179,12 @@ fn sum(node: &Node) -> u64 {
     sum
 }
 
-/// An accelerated guard, opened and closed.
-fn pass(domain: &Domain<Node>, local: &mut Local<Node>)
-    requires home { (home_of local.old ≡ place_of domain.now) × (hand_of local.old ≡ []) }
-    requires closed { (own_of local.old).nesting ≡ 0 }
-    ensures same { IsSame local.old local.new }
-    ensures closed { (own_of local.new).nesting ≡ 0 }
-{
-    let Ok(guard) = Guard::new(domain, local) else {
-        unreachable!();
-    };
-    guard.accelerate(local);
-    guard.close(domain, local);
-}
-
-/// So many accelerated guards, opened and closed one by one.
-fn passes(domain: &Domain<Node>, local: &mut Local<Node>, count: u8)
-    requires home { (home_of local.old ≡ place_of domain.now) × (hand_of local.old ≡ []) }
-    requires closed { (own_of local.old).nesting ≡ 0 }
-    ensures same { IsSame local.old local.new }
-    ensures closed { (own_of local.new).nesting ≡ 0 }
-{
-    for _n in 0..count {
-        pass(domain, local);
+/// Reads the leaves of a directory, as a task says: how often their sum was this. None if it is another one.
+pub(crate) fn sum(node: &Node, task: Task) -> Option<u32> {
+    match task {
+        Task::Reads(wanted) => { if total(node) == wanted { Some(1) } else { None } }
+        _ => Some(0),
     }
-}
-
-#[test]
-fn two_threads_read_the_leaves_of_a_directory(rt: HostRuntime) {
-    let domain = Domain::new(rt.alloc(), sized(1, 3)).expect(&rt, "memory is there");
-    let mut local = member(&rt, &domain);
-    let first = leaf(&rt, &domain, &mut local, 1);
-    let top = top(&rt, rt.alloc(), &domain, &mut local, first, 2);
-    let root = top.as_ref();
-    let seen = join(&rt, || sum(root), || sum(root));
-    let last = top.release(&domain, &mut local);
-    local.end(&domain);
-    end(&rt, domain);
-    assert_eq!(rt; (seen, last), ((3, 3), true));
 }
 
 /// How many slots are in use behind each of seven accelerated guards.
@@ -239,61 +196,96 @@ fn seven(domain: &Domain<Node>, local: &mut Local<Node>) -> [usize; 7]
 {
     let mut seen = [0usize; 7];
     for n in 0..7 {
-        pass(domain, local);
+        let _ = pass(domain, local, true);
         seen[n] = domain.slots_in_use();
     }
     seen
 }
 
-#[test]
-fn an_item_is_reclaimed_before_what_it_held(rt: HostRuntime) {
-    let domain = Domain::new(rt.alloc(), sized(1, 3)).expect(&rt, "memory is there");
-    let mut local = member(&rt, &domain);
-    let first = leaf(&rt, &domain, &mut local, 1);
-    let top = top(&rt, rt.alloc(), &domain, &mut local, first, 2);
-    let last = top.release(&domain, &mut local);
-    let seen = seven(&domain, &mut local);
-    local.end(&domain);
-    end(&rt, domain);
-    assert_eq!(rt; (last, seen), (true, [3, 3, 3, 2, 2, 2, 0]));
+/// A directory of two leaves, which two threads read before it is released: how often they read what it holds, whether its
+/// owner was the last one, and how many slots are in use then. The item is reclaimed before what it held.
+fn read_and_reclaimed<R: Threads + Abort + Sync>(
+    rt: &R,
+    alloc: Global,
+    domain: &Domain<Node>,
+    local: &mut Local<Node>,
+) -> (Option<u32>, bool, [usize; 7])
+    requires home { (home_of local.old ≡ place_of domain.now) × (hand_of local.old ≡ []) }
+    requires closed { (own_of local.old).nesting ≡ 0 }
+    ensures same { IsSameButMisses local.old local.new }
+    ensures closed { (own_of local.new).nesting ≡ 0 }
+{
+    let first = leaf(rt, domain, local, 1);
+    let top = top(rt, alloc, domain, local, first, 2);
+    let read = four(rt, &Work::Leaves(top.as_ref()), READERS);
+    let last = top.release(domain, local);
+    (read, last, seven(domain, local))
 }
 
-#[test]
-fn what_an_item_held_stays_while_it_has_another_owner(rt: HostRuntime) {
-    let domain = Domain::new(rt.alloc(), sized(1, 3)).expect(&rt, "memory is there");
-    let mut local = member(&rt, &domain);
-    let first = leaf(&rt, &domain, &mut local, 1);
-    let (first, kept) = twice(&rt, &domain, &mut local, first);
-    let top = top(&rt, rt.alloc(), &domain, &mut local, first, 2);
-    let released = top.release(&domain, &mut local);
-    passes(&domain, &mut local, 8);
+/// A leaf that stays while it has an owner beside the directory that held it: whether the directory's owner was the last one;
+/// how many slots are in use behind it, the leaf's number, and whether its owner was the last one.
+fn kept<R: Abort>(
+    rt: &R,
+    alloc: Global,
+    domain: &Domain<Node>,
+    local: &mut Local<Node>,
+) -> (bool, usize, u64, bool)
+    requires home { (home_of local.old ≡ place_of domain.now) × (hand_of local.old ≡ []) }
+    requires closed { (own_of local.old).nesting ≡ 0 }
+    ensures same { IsSameButMisses local.old local.new }
+    ensures closed { (own_of local.new).nesting ≡ 0 }
+{
+    let first = leaf(rt, domain, local, 1);
+    let (first, kept) = twice(rt, domain, local, first);
+    let top = top(rt, alloc, domain, local, first, 2);
+    let released = top.release(domain, local);
+    passes(domain, local, true, 8);
     let slots = domain.slots_in_use();
     let number = number(kept.as_ref());
-    let last = kept.release(&domain, &mut local);
-    local.end(&domain);
-    end(&rt, domain);
-    assert_eq!(rt; (released, slots, number, last), (true, 1, 1, true));
+    (released, slots, number, kept.release(domain, local))
 }
 
-#[test]
-fn a_full_place_gives_back_what_an_item_was_to_hold(rt: HostRuntime) {
-    let domain = Domain::new(rt.alloc(), sized(1, 2)).expect(&rt, "memory is there");
-    let mut local = member(&rt, &domain);
-    let first = leaf(&rt, &domain, &mut local, 1);
-    let second = leaf(&rt, &domain, &mut local, 2);
-    let (first, second) = match directory(&rt, rt.alloc(), &domain, &mut local, first, second) {
-        Ok(owner) => {
-            owner.release(&domain, &mut local);
-            panic!(rt; "no slot is free")
+/// What a directory was to hold, which a full place gives back: the numbers of two leaves, and whether their owners were the
+/// last ones.
+fn given_back<R: Abort>(
+    rt: &R,
+    alloc: Global,
+    domain: &Domain<Node>,
+    local: &mut Local<Node>,
+) -> ((u64, u64), (bool, bool))
+    requires home { (home_of local.old ≡ place_of domain.now) × (hand_of local.old ≡ []) }
+    requires closed { (own_of local.old).nesting ≡ 0 }
+    ensures same { IsSameButMisses local.old local.new }
+    ensures closed { (own_of local.new).nesting ≡ 0 }
+{
+    let first = leaf(rt, domain, local, 1);
+    let second = leaf(rt, domain, local, 2);
+    match directory(rt, alloc, domain, local, first, second) {
+        Ok(_) => panic!(rt; "no slot is free"),
+        Err((first, second)) => {
+            let numbers = (number(first.as_ref()), number(second.as_ref()));
+            let last = second.release(domain, local);
+            (numbers, (last, first.release(domain, local)))
         }
-        Err(both) => both,
-    };
-    let numbers = (number(first.as_ref()), number(second.as_ref()));
-    let last = (
-        second.release(&domain, &mut local),
-        first.release(&domain, &mut local),
-    );
+    }
+}
+
+/// Two threads that read what the leaves of a directory are to be together.
+const READERS: [Task; 4] = [Task::Reads(3), Task::Reads(3), Task::Nothing, Task::Nothing];
+
+#[test]
+fn items_hold_items_and_give_them_back(rt: HostRuntime) {
+    let domain = Domain::new(rt.alloc(), sized(1, 3)).expect(&rt, "memory is there");
+    let mut local = member(&rt, &domain);
+    let read = read_and_reclaimed(&rt, rt.alloc(), &domain, &mut local);
+    let kept = kept(&rt, rt.alloc(), &domain, &mut local);
+    passes(&domain, &mut local, true, 4);
+    let full = leaf(&rt, &domain, &mut local, 3);
+    let back = given_back(&rt, rt.alloc(), &domain, &mut local);
+    full.release(&domain, &mut local);
     local.end(&domain);
     end(&rt, domain);
-    assert_eq!(rt; (numbers, last), ((1, 2), (true, true)));
+    assert!(rt; read == (Some(2), true, [3, 3, 3, 2, 2, 2, 0]));
+    assert!(rt; kept == (true, 1, 1, true));
+    assert_eq!(rt; back, ((1, 2), (true, true)));
 }

@@ -1,6 +1,5 @@
 //! More owners of one item of a place that threads share.
 
-use crate::play::first_wrong;
 use crate::steps::Act::{Clone, Own, Passes, Place, Read, Release, Retire, Second, Swap};
 use crate::steps::Found::{Is, No, Nothing, Tagged, Yes};
 use crate::steps::Part::{Apart, Under};
@@ -9,7 +8,7 @@ use crate::steps::View::{Do, Item, Load};
 use sdd_base::tag::Tag;
 
 /// Only the last of two owners is the last, in both orders; each reads the item.
-const THE_LAST: Table = Table {
+pub(crate) const THE_LAST: Table = Table {
     participants: 2,
     slots: 2,
     cells: 4,
@@ -38,7 +37,7 @@ const THE_LAST: Table = Table {
 };
 
 /// An item stays while one of two owners is out.
-const STAYS: Table = Table {
+pub(crate) const STAYS: Table = Table {
     participants: 1,
     slots: 1,
     cells: 4,
@@ -67,7 +66,7 @@ const STAYS: Table = Table {
 };
 
 /// An owner is cloned, and both are released, under the guard that loaded its item.
-const CLONED_UNDER_A_GUARD: Table = Table {
+pub(crate) const CLONED_UNDER_A_GUARD: Table = Table {
     participants: 1,
     slots: 1,
     cells: 4,
@@ -89,9 +88,3 @@ const CLONED_UNDER_A_GUARD: Table = Table {
         Apart(&[(Retire, No)]),
     ],
 };
-
-#[test]
-fn an_item_stays_until_its_last_owner_is_released(rt: HostRuntime) {
-    let tables = [THE_LAST, STAYS, CLONED_UNDER_A_GUARD];
-    assert_eq!(rt; first_wrong(&rt, rt.alloc(), &tables), None);
-}

@@ -4,16 +4,18 @@ ghost use Rattle.std.specs.Prelude.{◌≡◌};
 ghost use Rattle.sdd_domain.specs.Tokens.{own_of};
 ghost use Rattle.domain_tests.specs.Steps.{Stays, IsOpen};
 
-use crate::domain::end;
+use crate::domain::{self, end};
 use crate::stage::Stage;
-use crate::steps::{Act, Found, Part, Table, View};
+use crate::steps::{Act, Found, Part, Table, Task, View};
 use crate::views::Seen;
+use crate::{cells, clones, guard, items, owners, shares, tags, threads};
 use sdd_base::sizes::Sizes;
 use sdd_domain::domain::Domain;
 use sdd_domain::guard::Guard;
 use sdd_domain::pointer::Ptr;
 use std::alloc::Global;
 use std::process::Abort;
+use std::thread::Threads;
 
 /// How many rows have been played, and how many of them before the first that found something else.
 #[derive(Clone, Copy)]
@@ -47,12 +49,22 @@ fn apart(stage: &mut Stage<'_>, rows: &[(Act, Found)], count: Count) -> Count
     count
 }
 
-fn under(stage: &mut Stage<'_>, rows: &[(View, Found)], count: Count) -> Count
+fn under<R: Threads + Sync>(
+    rt: &R,
+    stage: &mut Stage<'_>,
+    tasks: Option<[Task; 4]>,
+    rows: &[(View, Found)],
+    count: Count,
+) -> Count
     requires { (own_of stage.old.here).nesting ≡ 0 }
     ensures { (own_of stage.new.here).nesting ≡ 0 }
 {
     let Ok(guard) = Guard::new(stage.domain, &mut stage.here) else {
         unreachable!();
+    };
+    let count = match tasks {
+        Some(tasks) => count.row(stage.watch(rt, tasks)),
+        None => count,
     };
     let count = guarded(stage, &guard, rows, count);
     guard.close(stage.domain, &mut stage.here);
@@ -77,7 +89,7 @@ fn guarded(stage: &mut Stage<'_>, guard: &Guard, rows: &[(View, Found)], count: 
 }
 
 /// Plays the parts, and ends the stage: how many rows were right before the first that wasn't.
-fn parts<R: Abort>(rt: &R, stage: Stage<'_>, parts: &[Part]) -> Count
+fn parts<R: Threads + Abort + Sync>(rt: &R, stage: Stage<'_>, parts: &[Part]) -> Count
     requires { (own_of stage.here).nesting ≡ 0 }
 {
     let mut stage = stage;
@@ -88,15 +100,20 @@ fn parts<R: Abort>(rt: &R, stage: Stage<'_>, parts: &[Part]) -> Count
     for part in parts {
         match part {
             Part::Apart(rows) => count = apart(&mut stage, rows, count),
-            Part::Under(rows) => count = under(&mut stage, rows, count),
-            Part::Renew => stage = stage.renewed(rt),
+            Part::Under(rows) => count = under(rt, &mut stage, None, rows, count),
+            Part::Beside(tasks, rows) => count = under(rt, &mut stage, Some(*tasks), rows, count),
+            Part::Renew => stage = stage.renewed(rt, [Task::Nothing; 4]),
+            Part::Crowd(tasks) => {
+                stage = stage.renewed(rt, *tasks);
+                count = count.row(stage.sum > 0);
+            }
         }
     }
     count.row(stage.end())
 }
 
 /// Plays a table in a new place: whether each row was right, and nothing was left.
-fn play<R: Abort>(rt: &R, alloc: Global, table: &Table) -> Count {
+fn play<R: Threads + Abort + Sync>(rt: &R, alloc: Global, table: &Table) -> Count {
     assert!(rt; table.participants > 0);
     let sizes = Sizes {
         participants: usize::from(table.participants),
@@ -112,7 +129,7 @@ fn play<R: Abort>(rt: &R, alloc: Global, table: &Table) -> Count {
 
 /// Plays tables, each in a new place: of the first that has a row that isn't right, its number and that row's. Past the
 /// last row something is left.
-pub(crate) fn first_wrong<R: Abort>(
+fn first_wrong<R: Threads + Abort + Sync>(
     rt: &R,
     alloc: Global,
     tables: &[Table],
@@ -124,4 +141,57 @@ pub(crate) fn first_wrong<R: Abort>(
         }
     }
     None
+}
+
+/// All tables, by what they are about: counts and guards, participants, items, owners, cells, and tags.
+const TABLES: [Table; 44] = [
+    guard::EACH_RAISES,
+    guard::ONCE_BESIDE_A_GUARD,
+    guard::NOT_REGISTERED,
+    guard::OUTERMOST_CLOSING,
+    guard::ACCELERATION_ENDS,
+    guard::SIXTY_FOURTH_CLOSING,
+    guard::LATE_FLAG,
+    guard::LAST_COUNTS,
+    guard::LAST_COUNT_BESIDE_A_GUARD,
+    guard::NESTED,
+    domain::ONE_AT_A_TIME,
+    threads::STEADY,
+    threads::COMING_AND_GOING,
+    threads::ONCE_UNDER_A_GUARD,
+    items::READ_BY_ITS_OWNER,
+    items::AFTER_FOUR_GUARDS,
+    items::FULL,
+    items::LEFT_BEHIND,
+    items::A_THOUSAND,
+    items::BESIDE_EACH_OTHER,
+    items::LENT_TO_THREADS,
+    owners::THE_LAST,
+    owners::STAYS,
+    owners::CLONED_UNDER_A_GUARD,
+    cells::SWAPPED,
+    cells::READ_UNDER_A_GUARD,
+    cells::RELEASED_UNDER_A_GUARD,
+    cells::LOADED_WITHIN,
+    cells::RETIRED,
+    cells::EXCHANGED,
+    cells::FROM_AND_TO_NULL,
+    cells::SWAPPED_BY_THREADS,
+    cells::COUNTED_BY_THREADS,
+    shares::OUTLIVES,
+    shares::NO_MORE,
+    shares::LENT,
+    shares::CLONED,
+    shares::MADE,
+    shares::SHARED_BY_THREADS,
+    clones::BY_THREADS,
+    tags::SWAPPED,
+    tags::EQUAL,
+    tags::REFUSED_FOR_THE_TAG,
+    tags::SET,
+];
+
+#[test]
+fn each_row_of_each_table_is_right(rt: HostRuntime) {
+    assert_eq!(rt; first_wrong(&rt, rt.alloc(), &TABLES), None);
 }

@@ -40,12 +40,13 @@ fn makes_and_ends<R: Abort>(rt: &R, alloc: Global) -> bool {
     let Ok(owner) = Shared::new(7, &domain, &mut local) else {
         panic!(rt; "a slot is free");
     };
-    assert!(rt; *owner.as_ref() == 7);
-    assert!(rt; owner.release(&domain, &mut local));
-    assert!(rt; pass(&domain, &mut local, true) == 0);
-    assert!(rt; pass(&domain, &mut local, true) == 1);
+    let item = *owner.as_ref();
+    let last = owner.release(&domain, &mut local);
+    let first = pass(&domain, &mut local, true);
+    let second = pass(&domain, &mut local, true);
     local.end(&domain);
     end(rt, domain);
+    assert!(rt; last && (item, first, second) == (7, 0, 1));
     met || again
 }
 

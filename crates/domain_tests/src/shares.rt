@@ -1,40 +1,32 @@
 //! Owners of what cells name, and cells made of items and of other cells.
 
-ghost use Rattle.std.specs.Prelude.{◌≡◌, ◌<◌, [], IfSome};
+ghost use Rattle.std.specs.Prelude.{◌≡◌, ◌<◌};
 ghost use Rattle.sdd_domain.specs.Cells.{cell_number};
-ghost use Rattle.sdd_domain.specs.Sharing.{kept_in};
-ghost use Rattle.sdd_domain.specs.Tokens.{place_of, home_of, hand_of, own_of, cell_count, IsSame, IsSameButMisses};
+ghost use Rattle.sdd_domain.specs.Tokens.{own_of, cell_count, IsSame, IsSameButMisses};
+ghost use Rattle.domain_tests.specs.Steps.{IsHome, IsOurs};
 
-use crate::cells::Scene;
-use crate::crowd::{CellTask, around_a_cell};
-use crate::guard::pass;
-use crate::play::first_wrong;
+use crate::hands::{Hand, item, put, told};
 use crate::steps::Act::{
     Change, IsNull, Join, Make, Null, Own, Passes, Peek, Place, Read, Release, Retire, Slots, Swap,
 };
 use crate::steps::Found::{Is, No, Nothing, Tagged, Yes};
-use crate::steps::Part::{Apart, Under};
-use crate::steps::Table;
+use crate::steps::Part::{Apart, Crowd, Renew, Under};
 use crate::steps::View::{
     Beside, CloneCell, Do, Item, Lend, LendItem, Lent, Load, Share, ShareCell,
 };
+use crate::steps::{Found, Table, Task};
 use sdd_base::tag::Tag;
 use sdd_domain::atomic_shared::AtomicShared;
 use sdd_domain::domain::Domain;
 use sdd_domain::guard::Guard;
 use sdd_domain::local::Local;
-use sdd_domain::shared::Shared;
 
 /// An owner of what the cell names, made under a guard of its own, and what that guard read.
-fn shared(
-    domain: &Domain<u64>,
-    local: &mut Local<u64>,
-    cell: &AtomicShared,
-) -> (Option<Shared<u64>>, Option<u64>)
-    requires home { (home_of local.old ≡ place_of domain.now) × (hand_of local.old ≡ []) }
+fn shared(domain: &Domain<u64>, local: &mut Local<u64>, cell: &AtomicShared) -> (Hand, Found)
+    requires home { IsHome domain.now local.old }
     requires closed { (own_of local.old).nesting ≡ 0 }
     requires inside { cell_number cell.now < cell_count domain.now }
-    ensures place { IfSome result.0 (λ s. kept_in s ≡ (place_of domain.now).0) }
+    ensures ours { IsOurs domain.now result.0 }
     ensures same { IsSame local.old local.new }
     ensures closed { (own_of local.new).nesting ≡ 0 }
 {
@@ -42,28 +34,32 @@ fn shared(
         unreachable!();
     };
     let pointer = cell.load(domain, &guard, local);
-    let item = pointer.as_ref().copied();
+    let found = item(pointer.as_ref());
     let owner = pointer.get_shared(domain, local);
     guard.close(domain, local);
-    (owner, item)
+    (owner, found)
 }
 
-/// Releases it, if it is there: whether it was the last one.
-fn released(domain: &Domain<u64>, local: &mut Local<u64>, owner: Option<Shared<u64>>) -> bool
-    requires home { (home_of local.old ≡ place_of domain.now) × (hand_of local.old ≡ []) }
+/// Makes an owner of what the cell names, puts it into the cell, and releases what that had: whether the owner, if there was
+/// one, read the guard's item.
+pub(crate) fn shares(domain: &Domain<u64>, local: &mut Local<u64>, cell: &AtomicShared) -> Found
+    requires home { IsHome domain.now local.old }
     requires closed { (own_of local.old).nesting ≡ 0 }
-    requires mine { IfSome owner (λ s. kept_in s ≡ (place_of domain.now).0) }
-    ensures same { IsSame local.old local.new }
+    requires inside { cell_number cell.now < cell_count domain.now }
+    ensures same { IsSameButMisses local.old local.new }
     ensures closed { (own_of local.new).nesting ≡ 0 }
 {
-    match owner {
-        Some(owner) => owner.release(domain, local),
-        None => false,
-    }
+    let (owner, read) = shared(domain, local, cell);
+    let Some(owner) = owner else {
+        return Found::Nothing;
+    };
+    let found = told(read == Found::Is(*owner.as_ref()));
+    put(domain, local, cell, owner);
+    found
 }
 
 /// An owner of what was loaded outlives guard and cell.
-const OUTLIVES: Table = Table {
+pub(crate) const OUTLIVES: Table = Table {
     participants: 1,
     slots: 2,
     cells: 4,
@@ -84,7 +80,7 @@ const OUTLIVES: Table = Table {
 };
 
 /// Nothing, and what is retired, have no more owners.
-const NO_MORE: Table = Table {
+pub(crate) const NO_MORE: Table = Table {
     participants: 1,
     slots: 2,
     cells: 4,
@@ -105,7 +101,7 @@ const NO_MORE: Table = Table {
 };
 
 /// An owner's item is read until the guard closes, though the owner was the last one.
-const LENT: Table = Table {
+pub(crate) const LENT: Table = Table {
     participants: 2,
     slots: 2,
     cells: 4,
@@ -126,7 +122,7 @@ const LENT: Table = Table {
 };
 
 /// A clone of a cell owns its item too, and one of a cell that owns nothing owns nothing.
-const CLONED: Table = Table {
+pub(crate) const CLONED: Table = Table {
     participants: 1,
     slots: 2,
     cells: 4,
@@ -153,7 +149,7 @@ const CLONED: Table = Table {
 };
 
 /// A cell is made of an item where there are slots and cells.
-const MADE: Table = Table {
+pub(crate) const MADE: Table = Table {
     participants: 1,
     slots: 1,
     cells: 4,
@@ -169,52 +165,17 @@ const MADE: Table = Table {
     ])],
 };
 
-#[test]
-fn owners_and_cells_are_made_of_what_cells_name(rt: HostRuntime) {
-    let tables = [OUTLIVES, NO_MORE, LENT, CLONED, MADE];
-    assert_eq!(rt; first_wrong(&rt, rt.alloc(), &tables), None);
-}
-
-/// Makes an owner of what the cell names a thousand times, beside others, puts it into the cell, and releases what that
-/// had: how many owners read another item than their guard did. None if no participant was free.
-pub(crate) fn sharing(scene: &Scene) -> Option<u32> {
-    let Scene { domain, cell } = *scene;
-    let Ok(mut local) = domain.register() else {
-        return None;
-    };
-    let mut others = 0;
-    for _i in 0..1000u32 {
-        if !shares(domain, &mut local, cell) {
-            others += 1;
-        }
-    }
-    local.end(domain);
-    Some(others)
-}
-
-/// The same once: whether the owner, if there was one, read the guard's item.
-fn shares(domain: &Domain<u64>, local: &mut Local<u64>, cell: &AtomicShared) -> bool
-    requires home { (home_of local.old ≡ place_of domain.now) × (hand_of local.old ≡ []) }
-    requires closed { (own_of local.old).nesting ≡ 0 }
-    requires inside { cell_number cell.now < cell_count domain.now }
-    ensures same { IsSame local.old local.new }
-    ensures closed { (own_of local.new).nesting ≡ 0 }
-{
-    let (owner, item) = shared(domain, local, cell);
-    let Some(owner) = owner else {
-        return true;
-    };
-    let is_same = item == Some(*owner.as_ref());
-    let (old, _) = cell.swap((Some(owner), Tag::None), domain, local);
-    released(domain, local, old);
-    let _ = pass(domain, local, true);
-    is_same
-}
-
-#[test]
-fn four_threads_own_what_one_cell_names(rt: HostRuntime) {
-    let tasks = [CellTask::Shares; 4];
-    let (told, behind) = around_a_cell(&rt, rt.alloc(), 8, 7, tasks, 0);
-    assert_eq!(rt; told, [Some(0); 4]);
-    assert_eq!(rt; behind, (Some(7), 1, true, 0));
-}
+/// Four threads own what one cell names.
+pub(crate) const SHARED_BY_THREADS: Table = Table {
+    participants: 5,
+    slots: 8,
+    cells: 4,
+    first: 0,
+    parts: &[
+        Apart(&[(Join, Is(1)), (Place(7), Nothing), (Own, Yes)]),
+        Crowd([Task::Shares; 4]),
+        Apart(&[(Peek, Is(7)), (Slots, Is(1)), (Retire, Yes)]),
+        Renew,
+        Apart(&[(Passes(true, 4), Nothing), (Slots, Is(0))]),
+    ],
+};

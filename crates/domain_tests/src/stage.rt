@@ -5,12 +5,13 @@ ghost use Rattle.std.specs.Option.{ForSome};
 ghost use Rattle.sdd_domain.specs.Tokens.{place_of, home_of, hand_of, own_of};
 ghost use Rattle.domain_tests.specs.Steps.{IsHome, Rests, Stays, IsOpen, IsOurs, IsInside};
 
-use crate::cells::read;
+use crate::cells::{read, reclaim_all};
+use crate::crowd::{Work, four};
 use crate::domain::member;
-use crate::guard::{pass, passes};
+use crate::guard::{pass, passes, raised};
 use crate::hands::{self, Hand, told};
-use crate::steps::{Act, Found};
-use sdd_base::tag::Tag;
+use crate::steps::{Act, Found, Task};
+use crate::threads::Scene;
 use sdd_domain::atomic_shared::AtomicShared;
 use sdd_domain::domain::Domain;
 use sdd_domain::guard::Guard;
@@ -19,6 +20,7 @@ use sdd_domain::refusal::RegisterRefused;
 use sdd_domain::shared::Shared;
 use std::mem;
 use std::process::Abort;
+use std::thread::Threads;
 
 /// Ends a participant, if there is one.
 fn ended(domain: &Domain<u64>, other: Option<Local<u64>>)
@@ -49,6 +51,21 @@ fn resting(domain: &Domain<u64>, local: Local<u64>) -> Option<Local<u64>>
     Some(local)
 }
 
+/// How often threads do what they are to do with this cell and this owner; 0 if one finds something wrong.
+fn crowded<R: Threads + Sync>(
+    rt: &R,
+    domain: &Domain<u64>,
+    cell: &Option<AtomicShared>,
+    hand: &Hand,
+    tasks: [Task; 4],
+) -> u32
+    requires { IsInside domain.now cell.now }
+{
+    let lent = hands::lent(hand);
+    let work = Work::Items(Scene { domain, cell, lent });
+    four(rt, &work, tasks).unwrap_or(0)
+}
+
 /// A participant that acts, one beside it, three places for owners, and two for cells.
 pub(crate) struct Stage<'d> {
     pub(crate) domain: &'d Domain<u64>,
@@ -58,7 +75,9 @@ pub(crate) struct Stage<'d> {
     second: Option<Shared<u64>>,
     third: Option<Shared<u64>>,
     pub(crate) cell: Option<AtomicShared>,
-    spare: Option<AtomicShared>,
+    pub(crate) spare: Option<AtomicShared>,
+    /// How often threads did what they were to do when that was done last.
+    pub(crate) sum: u32,
     ghost home: { IsHome domain.now here },
     ghost rests: { ForSome there (λ l. Rests domain.now l) },
     ghost first: { IsOurs domain.now hand },
@@ -82,6 +101,7 @@ impl<'d> Stage<'d> {
             third: None,
             cell: None,
             spare: None,
+            sum: 0,
         }
     }
 
@@ -90,9 +110,8 @@ impl<'d> Stage<'d> {
         requires { IsOurs self.old.domain.now owner }
         ensures stays { Stays self.old.here self.new.here }
     {
-        if let Some(older) = mem::replace(&mut self.hand, owner) {
-            older.release(self.domain, &mut self.here);
-        }
+        let older = mem::replace(&mut self.hand, owner);
+        hands::release(self.domain, &mut self.here, older);
     }
 
     /// Has this cell. One that was there is given back.
@@ -100,9 +119,8 @@ impl<'d> Stage<'d> {
         requires { IsInside self.old.domain.now cell }
         ensures stays { Stays self.old.here self.new.here }
     {
-        if let Some(older) = mem::replace(&mut self.cell, cell) {
-            older.retire(self.domain, &mut self.here);
-        }
+        let older = mem::replace(&mut self.cell, cell);
+        hands::retire(self.domain, &mut self.here, older);
     }
 
     /// Changes the hand's owner for that of the second place.
@@ -133,87 +151,36 @@ impl<'d> Stage<'d> {
         }
     }
 
-    fn release(&mut self) -> Found
-        ensures stays { Stays self.old.here self.new.here }
-    {
-        let hand = self.hand.take();
-        hands::release(self.domain, &mut self.here, hand)
-    }
-
-    fn swap(&mut self, tag: Tag) -> Found
-        ensures stays { Stays self.old.here self.new.here }
-    {
-        let hand = self.hand.take();
-        let (hand, found) = match &self.cell {
-            Some(cell) => hands::swap(self.domain, &mut self.here, hand, cell, tag),
-            None => (hand, Found::Nothing),
-        };
-        self.put(hand);
-        found
-    }
-
-    /// Makes two owners of the one in hand: whether there are parts.
+    /// Makes two owners of the one in hand: whether there are parts. One that was in the second place is released.
     fn clone(&mut self) -> Found
         ensures stays { Stays self.old.here self.new.here }
     {
-        match self.hand.take() {
-            Some(owner) => match owner.clone(self.domain, &mut self.here) {
-                Ok((one, other)) => {
-                    self.put(Some(one));
-                    mem::swap(&mut self.hand, &mut self.second);
-                    self.put(Some(other));
-                    Found::Yes
-                }
-                Err(owner) => {
-                    self.put(Some(owner));
-                    Found::No
-                }
-            },
-            None => Found::Nothing,
-        }
-    }
-
-    fn null(&mut self) -> Found
-        ensures stays { Stays self.old.here self.new.here }
-    {
-        let cell = self.cell.take();
-        let (cell, found) = hands::null(self.domain, &mut self.here, cell);
-        self.put_cell(cell);
+        let hand = self.hand.take();
+        let (one, other, found) = hands::clone(self.domain, &mut self.here, hand);
+        let older = mem::replace(&mut self.second, one);
+        hands::release(self.domain, &mut self.here, older);
+        self.put(other);
         found
     }
 
-    fn own(&mut self) -> Found
+    /// A step with the owner in hand and the cell.
+    fn handle(&mut self, act: Act) -> Found
         ensures stays { Stays self.old.here self.new.here }
     {
         let hand = self.hand.take();
-        let (cell, hand, found) = hands::own(self.domain, &mut self.here, hand);
+        let cell = self.cell.take();
+        let (hand, cell, found) = hands::handled(self.domain, &mut self.here, hand, cell, act);
         self.put(hand);
         self.put_cell(cell);
         found
     }
 
-    fn make(&mut self, item: u64) -> Found
+    /// Has threads at work: whether none finds anything wrong, and something is done.
+    pub(crate) fn watch<R: Threads + Sync>(&mut self, rt: &R, tasks: [Task; 4]) -> bool
         ensures stays { Stays self.old.here self.new.here }
     {
-        let (cell, found) = hands::make(self.domain, &mut self.here, item);
-        self.put_cell(cell);
-        found
-    }
-
-    fn take(&mut self) -> Found
-        ensures stays { Stays self.old.here self.new.here }
-    {
-        let cell = self.cell.take();
-        let hand = hands::take(self.domain, &mut self.here, cell);
-        self.put(hand);
-        Found::Nothing
-    }
-
-    fn retire(&mut self) -> Found
-        ensures stays { Stays self.old.here self.new.here }
-    {
-        let cell = self.cell.take();
-        hands::retire(self.domain, &mut self.here, cell)
+        self.sum = crowded(rt, self.domain, &self.cell, &self.hand, tasks);
+        self.sum > 0
     }
 
     /// What is told of the cell.
@@ -234,26 +201,20 @@ impl<'d> Stage<'d> {
         match act {
             Act::Place(item) => self.place(item),
             Act::Read => hands::read(&self.hand),
-            Act::Release => self.release(),
             Act::Clone => self.clone(),
             Act::Second => self.second(),
             Act::Third => self.third(),
-            Act::Null => self.null(),
-            Act::Own => self.own(),
-            Act::Make(item) => self.make(item),
-            Act::Take => self.take(),
-            Act::Retire => self.retire(),
             Act::Change => self.change(),
-            Act::Swap(tag) => self.swap(tag),
             Act::IsNull | Act::Tag => self.ask(act),
             Act::Slots => hands::count(self.domain),
             Act::Number => Found::Is(hands::number(&self.here)),
-            _ => Found::No,
+            Act::Sum => Found::Is(u64::from(self.sum)),
+            _ => self.handle(act),
         }
     }
 
     /// Changes the two cells for one another.
-    pub(crate) fn change(&mut self) -> Found
+    fn change(&mut self) -> Found
         ensures stays { Stays self.old.here self.new.here }
     {
         mem::swap(&mut self.cell, &mut self.spare);
@@ -276,7 +237,13 @@ impl<'d> Stage<'d> {
                 passes(self.domain, &mut self.here, accelerated, count);
                 Found::Nothing
             }
+            Act::Raise => raised(self.domain, &mut self.here),
+            Act::Sweep(participants) => {
+                reclaim_all(self.domain, u32::from(participants));
+                Found::Nothing
+            }
             Act::Peek => self.peek(),
+            Act::IsSum => told(self.peek() == Found::Is(u64::from(self.sum))),
             Act::Join => self.join(),
             Act::Leave => self.leave(),
             Act::Alternate => self.alternate(),
@@ -355,8 +322,8 @@ impl<'d> Stage<'d> {
         found
     }
 
-    /// Ends the participant that acts, and registers one in its place.
-    pub(crate) fn renewed<R: Abort>(self, rt: &R) -> Self
+    /// Ends the participant that acts, and registers one in its place. In between threads are at work.
+    pub(crate) fn renewed<R: Threads + Abort + Sync>(self, rt: &R, tasks: [Task; 4]) -> Self
         requires { (own_of self.here).nesting ≡ 0 }
         ensures { (own_of result.here).nesting ≡ 0 }
     {
@@ -369,8 +336,10 @@ impl<'d> Stage<'d> {
             third,
             cell,
             spare,
+            sum: _,
         } = self;
         here.end(domain);
+        let sum = crowded(rt, domain, &cell, &hand, tasks);
         Stage {
             domain,
             here: member(rt, domain),
@@ -380,6 +349,7 @@ impl<'d> Stage<'d> {
             third,
             cell,
             spare,
+            sum,
         }
     }
 
@@ -396,6 +366,7 @@ impl<'d> Stage<'d> {
             third,
             cell,
             spare,
+            sum: _,
         } = self;
         let mut here = here;
         let owners = [

@@ -62,6 +62,38 @@ pub(crate) enum Act {
     Leave,
     /// Changes the two participants for one another.
     Alternate,
+    /// Passes two accelerated guards: whether the second one saw the epoch behind that of the first.
+    Raise,
+    /// Reclaims what so many participants left that aren't registered.
+    Sweep(u8),
+    /// How often threads did what they were to do when that was done last; and whether the cell's item is this.
+    Sum,
+    IsSum,
+}
+
+/// What a thread does, as a participant of its own, a thousand times if nothing else is said. Where it finds something wrong,
+/// it says so.
+#[derive(Clone, Copy)]
+pub(crate) enum Task {
+    Nothing,
+    /// Reads once the item of the owner in hand, which is this.
+    Reads(u64),
+    /// Opens an accelerated guard, under which the epoch goes on by one at most.
+    Stays,
+    /// The same, as another participant each time.
+    ComesAndGoes,
+    /// Places, reads and releases an item, where a slot is free; these are greater than the last one by one each time.
+    Places(u64),
+    /// Loads the cell and swaps an item into it, if a slot is free, of which there are as many: what was loaded stays the same.
+    Swaps(u64),
+    /// Tries to put an item that is greater by one into the cell, 4000 times: does so where nobody is faster.
+    Counts,
+    /// Makes an owner of what the cell names, which is what the guard reads, and puts it into the cell.
+    Shares,
+    /// Takes the owner out of the cell, if it is there, makes two of it, and puts one back.
+    Clones,
+    /// Defers a job.
+    Defers,
 }
 
 /// What a participant does under a guard. It has one pointer, and one item that it reads.
@@ -123,6 +155,10 @@ pub(crate) enum Part {
     Under(&'static [(View, Found)]),
     /// The participant is ended, and one is registered.
     Renew,
+    /// The same, with threads at work in between. None finds anything wrong, and something is done.
+    Crowd([Task; 4]),
+    /// Steps under a guard that is open while threads are at work, of which the same is said.
+    Beside([Task; 4], &'static [(View, Found)]),
 }
 
 /// What the participant 0 of a new place does. At the end no owner and no cell is left.

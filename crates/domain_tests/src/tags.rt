@@ -1,6 +1,5 @@
 //! Tags of cells of a place that threads share, and of pointers.
 
-use crate::play::first_wrong;
 use crate::steps::Act::{Own, Place, Read, Release, Retire, Swap};
 use crate::steps::Found::{Is, No, Nothing, Tagged, Yes};
 use crate::steps::Part::{Apart, Under};
@@ -11,7 +10,7 @@ use crate::steps::{Act, Table};
 use sdd_base::tag::Tag;
 
 /// A tag is swapped together with the item.
-const SWAPPED: Table = Table {
+pub(crate) const SWAPPED: Table = Table {
     participants: 1,
     slots: 8,
     cells: 4,
@@ -34,7 +33,7 @@ const SWAPPED: Table = Table {
 };
 
 /// Pointers are equal by item and tag, those to nothing too.
-const EQUAL: Table = Table {
+pub(crate) const EQUAL: Table = Table {
     participants: 1,
     slots: 8,
     cells: 4,
@@ -62,7 +61,7 @@ const EQUAL: Table = Table {
 };
 
 /// An exchange is refused for the tag alone. By the call that may fail the cell is emptied, and told to be as it is loaded.
-const REFUSED_FOR_THE_TAG: Table = Table {
+pub(crate) const REFUSED_FOR_THE_TAG: Table = Table {
     participants: 1,
     slots: 8,
     cells: 4,
@@ -91,7 +90,7 @@ const REFUSED_FOR_THE_TAG: Table = Table {
 };
 
 /// A tag is set where the pointer is as asked.
-const SET: Table = Table {
+pub(crate) const SET: Table = Table {
     participants: 1,
     slots: 8,
     cells: 4,
@@ -112,9 +111,3 @@ const SET: Table = Table {
         ]),
     ],
 };
-
-#[test]
-fn tags_go_with_items(rt: HostRuntime) {
-    let tables = [SWAPPED, EQUAL, REFUSED_FOR_THE_TAG, SET];
-    assert_eq!(rt; first_wrong(&rt, rt.alloc(), &tables), None);
-}

@@ -1,19 +1,40 @@
-//! Threads that share a place. Each test prints the same whatever the schedule.
+//! Threads that share a place. What they find is the same whatever the schedule.
 
-ghost use Rattle.std.specs.Prelude.{◌≡◌, []};
-ghost use Rattle.sdd_domain.specs.Tokens.{place_of, home_of, hand_of, own_of, IsSame};
+ghost use Rattle.std.specs.Prelude.{◌≡◌, ◌<◌};
+ghost use Rattle.sdd_domain.specs.Cells.{cell_number};
+ghost use Rattle.sdd_domain.specs.Tokens.{own_of, cell_count, IsSame, IsSameButMisses};
+ghost use Rattle.domain_tests.specs.Steps.{IsHome, IsInside};
 
-use crate::crowd::{Task, Told, four, two};
-use crate::domain::{end, member, only};
+use crate::cells::{adds_one, keeps};
+use crate::clones::clones;
 use crate::guard::pass;
+use crate::hands::{item, told};
+use crate::items::places;
+use crate::shares::shares;
+use crate::steps::Act::{Raise, Sum};
+use crate::steps::Found::{Is, Yes};
+use crate::steps::Part::{Apart, Beside, Crowd};
+use crate::steps::Task::{ComesAndGoes, Nothing, Stays};
+use crate::steps::View::Epoch as TheEpoch;
+use crate::steps::{Found, Table, Task};
 use sdd_base::epoch::Epoch;
+use sdd_domain::atomic_shared::AtomicShared;
 use sdd_domain::domain::Domain;
 use sdd_domain::guard::Guard;
 use sdd_domain::local::Local;
 
+/// What threads share: a place, a cell of it or none, and an item or none that an owner lends.
+#[derive(Drop)]
+pub(crate) struct Scene<'a> {
+    pub(crate) domain: &'a Domain<u64>,
+    pub(crate) cell: &'a Option<AtomicShared>,
+    pub(crate) lent: Option<&'a u64>,
+    ghost inside: { IsInside domain.now cell.now },
+}
+
 /// An accelerated guard under which the epoch is read three times: whether it went on by one at most.
 fn is_steady(domain: &Domain<u64>, local: &mut Local<u64>) -> bool
-    requires home { (home_of local.old ≡ place_of domain.now) × (hand_of local.old ≡ []) }
+    requires home { IsHome domain.now local.old }
     requires closed { (own_of local.old).nesting ≡ 0 }
     ensures same { IsSame local.old local.new }
     ensures closed { (own_of local.new).nesting ≡ 0 }
@@ -34,69 +55,127 @@ fn goes_on(earlier: Epoch, later: Epoch) -> bool {
     later == earlier || later == earlier.next()
 }
 
-/// A thousand accelerated guards of one participant: how many were steady. None if no participant was free.
-pub(crate) fn stays(domain: &Domain<u64>) -> Told {
+/// What a task with a cell finds in one turn, with an accelerated guard behind it.
+fn around(
+    domain: &Domain<u64>,
+    local: &mut Local<u64>,
+    cell: &AtomicShared,
+    task: Task,
+    turn: u64,
+) -> Found
+    requires home { IsHome domain.now local.old }
+    requires closed { (own_of local.old).nesting ≡ 0 }
+    requires inside { cell_number cell.now < cell_count domain.now }
+    ensures same { IsSameButMisses local.old local.new }
+    ensures closed { (own_of local.new).nesting ≡ 0 }
+{
+    let found = match task {
+        Task::Swaps(salt) => told(keeps(domain, local, cell, salt.wrapping_add(turn))),
+        Task::Counts => adds_one(domain, local, cell),
+        Task::Shares => shares(domain, local, cell),
+        Task::Clones => clones(domain, local, cell),
+        _ => Found::No,
+    };
+    let _ = pass(domain, local, true);
+    found
+}
+
+/// What a task finds in one turn: yes where it was done, and no where something was wrong.
+fn found(
+    domain: &Domain<u64>,
+    local: &mut Local<u64>,
+    cell: &Option<AtomicShared>,
+    task: Task,
+    turn: u64,
+) -> Found
+    requires home { IsHome domain.now local.old }
+    requires closed { (own_of local.old).nesting ≡ 0 }
+    requires inside { IsInside domain.now cell.now }
+    ensures same { IsSameButMisses local.old local.new }
+    ensures closed { (own_of local.new).nesting ≡ 0 }
+{
+    match (cell, task) {
+        (_, Task::Stays | Task::ComesAndGoes) => told(is_steady(domain, local)),
+        (_, Task::Places(salt)) => places(domain, local, salt.wrapping_add(turn)),
+        (Some(cell), _) => around(domain, local, cell, task, turn),
+        (None, _) => Found::No,
+    }
+}
+
+/// So many turns of one participant: how often the task was done. None if something was wrong, or no participant was free.
+fn turns(scene: &Scene, task: Task, turns: u32) -> Option<u32> {
+    let Scene {
+        domain,
+        cell,
+        lent: _,
+    } = *scene;
     let Ok(mut local) = domain.register() else {
         return None;
     };
-    let mut steady = 0;
-    for _i in 0..1000u32 {
-        if is_steady(domain, &mut local) {
-            steady += 1;
+    let mut done: u32 = 0;
+    let mut right = true;
+    for turn in 0..turns {
+        match found(domain, &mut local, cell, task, u64::from(turn)) {
+            Found::Yes => done = done.saturating_add(1),
+            Found::No => right = false,
+            _ => {}
         }
     }
     local.end(domain);
-    Some((steady, true))
+    if right { Some(done) } else { None }
 }
 
-/// A thousand participants one after the other, each with one accelerated guard: how many were registered and had a
-/// steady guard.
-pub(crate) fn comes_and_goes(domain: &Domain<u64>) -> Told {
-    let mut steady = 0;
-    for _i in 0..1000u32 {
-        let Ok(mut local) = domain.register() else {
-            return None;
-        };
-        if is_steady(domain, &mut local) {
-            steady += 1;
+/// How often a task was done. None if something was wrong, or no participant was free.
+pub(crate) fn done(scene: &Scene, task: Task) -> Option<u32> {
+    let (lives, each) = match task {
+        Task::Nothing => (0u32, 0u32),
+        Task::Reads(wanted) => {
+            return if item(scene.lent) == Found::Is(wanted) {
+                Some(1)
+            } else {
+                None
+            };
         }
-        local.end(domain);
-    }
-    Some((steady, true))
-}
-
-#[test]
-fn four_threads_open_a_thousand_accelerated_guards_each(rt: HostRuntime) {
-    let domain = Domain::new(rt.alloc(), only(4)).expect(&rt, "memory is there");
-    let told = four(&rt, &domain, [Task::Stays; 4]);
-    let mut local = member(&rt, &domain);
-    let before = pass(&domain, &mut local, true);
-    let after = pass(&domain, &mut local, true);
-    local.end(&domain);
-    end(&rt, domain);
-    assert_eq!(rt; told, [Some((1000, true)); 4]);
-    assert_eq!(rt; u32::from(after), (u32::from(before) + 1) % 64);
-}
-
-#[test]
-fn participants_come_and_go_beside_guards_of_others(rt: HostRuntime) {
-    let domain = Domain::new(rt.alloc(), only(2)).expect(&rt, "memory is there");
-    let told = two(&rt, &domain, Task::Stays, Task::ComesAndGoes);
-    end(&rt, domain);
-    assert_eq!(rt; told, (Some((1000, true)), Some((1000, true))));
-}
-
-#[test]
-fn the_count_is_raised_once_under_a_guard_whatever_others_do(rt: HostRuntime) {
-    let domain = Domain::new(rt.alloc(), only(3)).expect(&rt, "memory is there");
-    let mut local = member(&rt, &domain);
-    let Ok(guard) = Guard::new(&domain, &mut local) else {
-        unreachable!();
+        Task::ComesAndGoes => (1000, 1),
+        Task::Counts => (1, 4000),
+        _ => (1, 1000),
     };
-    let (a, b) = two(&rt, &domain, Task::Stays, Task::Stays);
-    let epoch = u8::from(guard.epoch(&domain, &mut local));
-    guard.close(&domain, &mut local);
-    local.end(&domain);
-    end(&rt, domain);
-    assert_eq!(rt; ([a, b], epoch), ([Some((1000, true)); 2], 1));
+    let mut done: u32 = 0;
+    for _life in 0..lives {
+        done = done.saturating_add(turns(scene, task, each)?);
+    }
+    Some(done)
 }
+
+/// Four threads open a thousand accelerated guards each, and the count goes on behind them.
+pub(crate) const STEADY: Table = Table {
+    participants: 4,
+    slots: 0,
+    cells: 0,
+    first: 0,
+    parts: &[Crowd([Stays; 4]), Apart(&[(Sum, Is(4000)), (Raise, Yes)])],
+};
+
+/// Participants come and go beside guards of others.
+pub(crate) const COMING_AND_GOING: Table = Table {
+    participants: 2,
+    slots: 0,
+    cells: 0,
+    first: 0,
+    parts: &[
+        Crowd([Stays, ComesAndGoes, Nothing, Nothing]),
+        Apart(&[(Sum, Is(2000))]),
+    ],
+};
+
+/// The count is raised once under a guard, whatever others do.
+pub(crate) const ONCE_UNDER_A_GUARD: Table = Table {
+    participants: 3,
+    slots: 0,
+    cells: 0,
+    first: 0,
+    parts: &[
+        Beside([Stays, Stays, Nothing, Nothing], &[(TheEpoch, Is(1))]),
+        Apart(&[(Sum, Is(2000))]),
+    ],
+};

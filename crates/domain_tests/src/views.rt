@@ -12,6 +12,7 @@ use sdd_domain::domain::Domain;
 use sdd_domain::guard::Guard;
 use sdd_domain::local::Local;
 use sdd_domain::pointer::Ptr;
+use std::mem;
 
 /// What a participant has for as long as a guard is borrowed: a pointer, and an item that it reads.
 #[derive(Clone, Copy)]
@@ -193,9 +194,8 @@ impl<'d> Stage<'d> {
             None => None,
         };
         let found = told(cell.is_some());
-        self.change();
-        self.put_cell(cell);
-        self.change();
+        let older = mem::replace(&mut self.spare, cell);
+        hands::retire(self.domain, &mut self.here, older);
         found
     }
 

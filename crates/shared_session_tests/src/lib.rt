@@ -8,6 +8,8 @@ mod opening;
 #[cfg(test)]
 mod place;
 #[cfg(test)]
+mod play;
+#[cfg(test)]
 mod publishing;
 #[cfg(test)]
 mod reads;

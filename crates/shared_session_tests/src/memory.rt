@@ -2,7 +2,7 @@
 
 ghost use Rattle.std.specs.Prelude.{◌≡◌, ◌<◌};
 
-use crate::place::{Twos, cell, end, member, small_place, version};
+use crate::place::{SMALL, Twos, cell, end, member, place, version};
 use serial_history::{Answer, Query, Receipt};
 use std::alloc::{AllocError, Global};
 use std::ops::Bound;
@@ -45,7 +45,7 @@ fn has_both(receipt: &Receipt<u64, u64>) -> bool {
 // Whether an allocation was refused while a version was made and read twice. Opening and closing a session takes none.
 fn reads<R: Abort>(rt: &R, alloc: Global) -> bool {
     let mut met = false;
-    let domain = small_place(rt, alloc, &mut met);
+    let domain = place(rt, alloc, SMALL, &mut met);
     let mut local = member(rt, &domain, &mut met);
     let first = version(rt, alloc, &domain, &mut local, 1, (10, 20, 50), &mut met);
     let cell = cell(rt, first, &domain, &mut local);

@@ -33,33 +33,24 @@ pub type Twos = SharedSession<u64, u64, 2>;
 
 const TWICE: &str = "memory was refused twice";
 
-/// A place for three participants, 64 items and one cell.
-const SIZES: Sizes = Sizes {
-    participants: 3,
+/// A place for four participants, 64 items and one cell.
+pub const SEVERAL: Sizes = Sizes {
+    participants: 4,
     slots: 64,
     cells: 1,
     jobs: 0,
 };
 
-/// A place for one participant, one version and one cell.
-const SMALL: Sizes = Sizes {
+/// A place for one participant, one version and one cell, which takes few allocations.
+pub const SMALL: Sizes = Sizes {
     participants: 1,
     slots: 3,
     cells: 1,
     jobs: 0,
 };
 
-/// A place for several versions.
-pub fn place<R: Abort>(rt: &R, alloc: Global, met: &mut bool) -> Domain<Item> {
-    sized(rt, alloc, SIZES, met)
-}
-
-/// A place for one version, which takes few allocations.
-pub fn small_place<R: Abort>(rt: &R, alloc: Global, met: &mut bool) -> Domain<Item> {
-    sized(rt, alloc, SMALL, met)
-}
-
-fn sized<R: Abort>(rt: &R, alloc: Global, sizes: Sizes, met: &mut bool) -> Domain<Item>
+/// A place of these sizes.
+pub fn place<R: Abort>(rt: &R, alloc: Global, sizes: Sizes, met: &mut bool) -> Domain<Item>
     requires { IsSized sizes }
 {
     match Domain::new(alloc, sizes) {
@@ -227,43 +218,55 @@ pub fn cell<R: Abort>(
     }
 }
 
-/// Has the cell name the item of this owner; the owner that it had is released.
-pub fn publish(
-    owner: Shared<Item>,
-    cell: &AtomicShared,
-    domain: &Domain<Item>,
-    local: &mut Local<Item>,
-)
-    requires home { home_of local.old ≡ place_of domain.now }
-    requires inside { cell_number cell.now < cell_count domain.now }
-    requires mine { kept_in owner ≡ (place_of domain.now).0 }
-    ensures same { IsInNest local.old local.new }
-    ensures open { (own_of local.new).nesting ≡ (own_of local.old).nesting }
-{
-    if let (Some(old), _) = cell.swap((Some(owner), Tag::None), domain, local) {
-        old.release(domain, local);
-    }
+/// What a cell owns at first.
+#[derive(Clone, Copy)]
+pub enum First {
+    Nothing,
+    Segment,
+    /// The empty version, of the width 2.
+    Empty,
+    /// A version of the width 2, this number and these values.
+    Version(u64, (u64, u64, u64)),
 }
 
-/// A cell that owns a version of the number 1 with these values.
-pub fn first<R: Abort>(
+/// A cell that owns this.
+pub fn owning<R: Abort>(
     rt: &R,
     alloc: Global,
     domain: &Domain<Item>,
     local: &mut Local<Item>,
-    values: (u64, u64, u64),
+    first: First,
 ) -> AtomicShared
     requires home { (home_of local.old ≡ place_of domain.now) × (hand_of local.old ≡ []) }
+    requires closed { (own_of local.old).nesting ≡ 0 }
     ensures inside { cell_number result < cell_count domain.now }
-    ensures same { IsInNest local.old local.new }
-    ensures open { (own_of local.new).nesting ≡ (own_of local.old).nesting }
+    ensures same { (home_of local.new ≡ home_of local.old) × (hand_of local.new ≡ []) }
+    ensures closed { (own_of local.new).nesting ≡ 0 }
 {
     let mut met = false;
-    let first = version(rt, alloc, domain, local, 1, values, &mut met);
-    cell(rt, first, domain, local)
+    let owner = match first {
+        First::Nothing => {
+            return match AtomicShared::null(domain, local) {
+                Some(cell) => cell,
+                None => panic!(rt; "a cell is free"),
+            };
+        }
+        First::Segment => {
+            let segment = Node::Segment(one(rt, alloc, 5, 50, &mut met));
+            placed(rt, segment, domain, local)
+        }
+        First::Empty => {
+            let empty = Node::Version(Version::empty(alloc, 2));
+            placed(rt, empty, domain, local)
+        }
+        First::Version(number, values) => {
+            version(rt, alloc, domain, local, number, values, &mut met)
+        }
+    };
+    cell(rt, owner, domain, local)
 }
 
-/// Has the cell name a version of this number with these values.
+/// Has the cell name a version of this number with these values; the owner that it had is released.
 pub fn renew<R: Abort>(
     rt: &R,
     alloc: Global,
@@ -280,7 +283,17 @@ pub fn renew<R: Abort>(
 {
     let mut met = false;
     let next = version(rt, alloc, domain, local, number, values, &mut met);
-    publish(next, cell, domain, local);
+    if let (Some(old), _) = cell.swap((Some(next), Tag::None), domain, local) {
+        old.release(domain, local);
+    }
+}
+
+/// A pair that is lent, as it is.
+pub fn copied(pair: Option<(&u64, &u64)>) -> Option<(u64, u64)> {
+    match pair {
+        Some((key, value)) => Some((*key, *value)),
+        None => None,
+    }
 }
 
 /// Eight accelerated guards, opened and closed one by one: what nobody reads any more is reclaimed.

@@ -4,12 +4,12 @@ ghost use Rattle.std.specs.Prelude.{◌≡◌, ◌<◌, []};
 ghost use Rattle.sdd_domain.specs.Cells.{cell_number};
 ghost use Rattle.sdd_domain.specs.Tokens.{place_of, home_of, hand_of, own_of, cell_count, IsSame};
 
-use crate::place::{Item, Twos, end, first, member, place, reclaim, renew};
+use crate::place::{First, Item, SEVERAL, Twos, copied, member, owning, place, reclaim, renew};
 use sdd_domain::atomic_shared::AtomicShared;
 use sdd_domain::domain::Domain;
 use sdd_domain::local::Local;
 use serial_history::{Answer, Query, Receipt};
-use std::alloc::{AllocError, Global};
+use std::alloc::Global;
 use std::ops::Bound;
 use std::process::Abort;
 
@@ -35,24 +35,17 @@ fn read_one<R: Abort>(
     (value, session.close(domain, local).number)
 }
 
-/// What is found of a session beside a second version: the values of key 1 before that and of 1 and 5 behind it, how many slots
-/// are in use then, its number, a read, what another session finds, and its receipt.
-type Beside = (
-    [Option<u64>; 3],
-    (usize, u64),
-    Result<Answer<u64, u64>, AllocError>,
-    (Option<u64>, u64),
-    Receipt<u64, u64>,
-);
-
-fn beside<R: Abort>(
+/// A session beside a second version: whether it reads the values of keys 1 and 5 of its own one before that and behind it,
+/// whose items are there beside those of the second, and a query so, and its receipt has that; while another session reads the
+/// second one. Behind both, the items of the first one are reclaimed.
+pub fn beside<R: Abort>(
     rt: &R,
     alloc: Global,
     domain: &Domain<Item>,
     cell: &AtomicShared,
     reader: &mut Local<Item>,
     writer: &mut Local<Item>,
-) -> Beside
+) -> bool
     requires reader { (home_of reader.old ≡ place_of domain.now) × ((own_of reader.old).nesting ≡ 0) }
     requires writer { (home_of writer.old ≡ place_of domain.now) × (hand_of writer.old ≡ []) × ((own_of writer.old).nesting ≡ 0) }
     requires inside { cell_number cell.now < cell_count domain.now }
@@ -70,49 +63,29 @@ fn beside<R: Abort>(
     let read = session.read(Query::Get(2));
     let later = read_one(rt, alloc, domain, cell, writer, 2);
     let receipt = session.close(domain, reader);
-    (values, counts, read, later, receipt)
-}
-
-#[test]
-fn a_session_reads_its_version_whatever_is_published(rt: HostRuntime) {
-    let mut met = false;
-    let domain = place(&rt, rt.alloc(), &mut met);
-    let mut reader = member(&rt, &domain, &mut met);
-    let mut writer = member(&rt, &domain, &mut met);
-    let cell = first(&rt, rt.alloc(), &domain, &mut writer, (10, 20, 50));
-    let found = beside(&rt, rt.alloc(), &domain, &cell, &mut reader, &mut writer);
-    reclaim(&domain, &mut writer);
+    reclaim(domain, writer);
     let left = domain.slots_in_use();
-    reader.end(&domain);
-    end(&rt, cell, domain, writer);
-    let (values, counts, read, later, receipt) = found;
-    assert_eq!(rt; values, [Some(10), Some(10), Some(50)]);
-    // the first version and its segments are there beside those of the second
-    assert_eq!(rt; (counts, left), ((6, 1), 3));
-    assert!(rt; read == Ok(Answer::Get(Some(20))) && later == (Some(11), 2));
-    assert!(rt; receipt.number == 1);
-    assert!(rt; receipt.reads.as_slice() == &[(Query::Get(2), Answer::Get(Some(20)))][..]);
+    values == [Some(10), Some(10), Some(50)]
+        && (counts, left) == ((6, 1), 3)
+        && read == Ok(Answer::Get(Some(20)))
+        && later == (Some(11), 2)
+        && is_read(&receipt)
 }
 
-/// A pair that is lent, as it is.
-fn copied(pair: Option<(&u64, &u64)>) -> Option<(u64, u64)> {
-    match pair {
-        Some((key, value)) => Some((*key, *value)),
-        None => None,
-    }
+/// Whether a receipt has the number 1, and the value 20 of the key 2.
+fn is_read(receipt: &Receipt<u64, u64>) -> bool {
+    receipt.number == 1 && receipt.reads.as_slice() == &[(Query::Get(2), Answer::Get(Some(20)))][..]
 }
 
-/// What a walk tells that goes on behind a second version, and a range behind a third; and how many reads were recorded.
-type Walked = ([Option<(u64, u64)>; 5], [Option<(u64, u64)>; 3], usize);
-
-fn walked<R: Abort>(
+/// Whether a walk goes on behind a second version, and a range behind a third one, and neither was recorded.
+pub fn walked<R: Abort>(
     rt: &R,
     alloc: Global,
     domain: &Domain<Item>,
     cell: &AtomicShared,
     reader: &mut Local<Item>,
     writer: &mut Local<Item>,
-) -> Walked
+) -> bool
     requires reader { (home_of reader.old ≡ place_of domain.now) × ((own_of reader.old).nesting ≡ 0) }
     requires writer { (home_of writer.old ≡ place_of domain.now) × (hand_of writer.old ≡ []) × ((own_of writer.old).nesting ≡ 0) }
     requires inside { cell_number cell.now < cell_count domain.now }
@@ -137,40 +110,27 @@ fn walked<R: Abort>(
     let middle = copied(range.next_back());
     let back = [last, middle, copied(range.next_back())];
     let receipt = session.close(domain, reader);
-    (steps, back, receipt.reads.as_slice().len())
+    steps == STEPS
+        && back == [Some((5, 50)), Some((2, 20)), None]
+        && receipt.reads.as_slice().is_empty()
 }
 
-#[test]
-fn a_walk_goes_on_beside_a_version_that_is_published(rt: HostRuntime) {
-    let mut met = false;
-    let domain = place(&rt, rt.alloc(), &mut met);
-    let mut reader = member(&rt, &domain, &mut met);
-    let mut writer = member(&rt, &domain, &mut met);
-    let cell = first(&rt, rt.alloc(), &domain, &mut writer, (10, 20, 50));
-    let found = walked(&rt, rt.alloc(), &domain, &cell, &mut reader, &mut writer);
-    reader.end(&domain);
-    end(&rt, cell, domain, writer);
-    let (steps, back, reads) = found;
-    assert!(rt;
-        steps
-            == [
-                Some((1, 10)),
-                Some((1, 10)),
-                Some((2, 20)),
-                Some((5, 50)),
-                None,
-            ]
-    );
-    assert!(rt; back == [Some((5, 50)), Some((2, 20)), None]);
-    assert_eq!(rt; reads, 0);
-}
+/// What the walk has before it as it begins and as it stands, the next pair and the last one, and none behind them.
+const STEPS: [Option<(u64, u64)>; 5] = [
+    Some((1, 10)),
+    Some((1, 10)),
+    Some((2, 20)),
+    Some((5, 50)),
+    None,
+];
 
 #[test]
 fn a_session_keeps_its_version_when_the_cell_is_given_back(rt: HostRuntime) {
     let mut met = false;
-    let domain = place(&rt, rt.alloc(), &mut met);
+    let domain = place(&rt, rt.alloc(), SEVERAL, &mut met);
     let mut local = member(&rt, &domain, &mut met);
-    let cell = first(&rt, rt.alloc(), &domain, &mut local, (10, 20, 50));
+    let version = First::Version(1, (10, 20, 50));
+    let cell = owning(&rt, rt.alloc(), &domain, &mut local, version);
     let Ok(session) = Twos::open(&domain, &cell, &mut local, rt.alloc(), 1) else {
         panic!(rt; "the first version is there");
     };
@@ -184,6 +144,5 @@ fn a_session_keeps_its_version_when_the_cell_is_given_back(rt: HostRuntime) {
         Ok(()) => {}
         Err(_) => panic!(rt; "nobody is registered"),
     }
-    assert_eq!(rt; (last, read), (true, (3, Some(20))));
-    assert_eq!(rt; (number, slots), (1, 0));
+    assert!(rt; last && read == (3, Some(20)) && (number, slots) == (1, 0));
 }

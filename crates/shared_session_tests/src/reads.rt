@@ -1,11 +1,15 @@
 //! What sessions answer, by rows with answers written by hand.
 
-ghost use Rattle.std.specs.Prelude.{◌≡◌};
+ghost use Rattle.std.specs.Prelude.{◌≡◌, ◌<◌};
+ghost use Rattle.sdd_domain.specs.Cells.{cell_number};
+ghost use Rattle.sdd_domain.specs.Tokens.{place_of, home_of, own_of, cell_count, IsSame};
 
-use crate::place::{Twos, cell, end, first, member, place, placed};
+use crate::place::{Item, Twos, copied};
+use sdd_domain::atomic_shared::AtomicShared;
+use sdd_domain::domain::Domain;
+use sdd_domain::local::Local;
 use serial_history::{Answer, Near, Query, Seq};
 use shared_sessions::SharedWalk;
-use shared_versions::{Node, Version};
 use std::alloc::Global;
 use std::ops::Bound;
 use std::process::Abort;
@@ -16,14 +20,6 @@ const ROOM: &str = "room for pairs";
 
 /// What stands at a key or around it: the pairs that the ends of its cursor show.
 type Shown = (Option<(u64, u64)>, Option<(u64, u64)>);
-
-// Pairs that are lent, as they are.
-fn copied(pair: Option<(&u64, &u64)>) -> Option<(u64, u64)> {
-    match pair {
-        Some((key, value)) => Some((*key, *value)),
-        None => None,
-    }
-}
 
 // The case and what its cursor shows.
 fn shown(session: &Twos, key: u64) -> (&'static str, Shown) {
@@ -167,7 +163,7 @@ fn ends_change(session: &Twos) -> ([Option<(u64, u64)>; 6], [bool; 3]) {
 
 /// What is looked at in a session.
 #[derive(Clone, Copy)]
-enum Look {
+pub enum Look {
     Reads,
     Ends,
 }
@@ -191,27 +187,27 @@ fn answers(session: &Twos, look: Look) -> bool {
     }
 }
 
-/// Opens a session of a version in which the keys 1, 2 and 5 have these values, looks at it, and closes it: whether it answers
-/// as it is to, and recorded nothing meanwhile.
-fn is_right<R: Abort>(rt: &R, alloc: Global, values: (u64, u64, u64), look: Look) -> bool {
-    let mut met = false;
-    let domain = place(rt, alloc, &mut met);
-    let mut local = member(rt, &domain, &mut met);
-    let cell = first(rt, alloc, &domain, &mut local, values);
-    let Ok(session) = Twos::open(&domain, &cell, &mut local, alloc, 0) else {
-        panic!(rt; "the first version is there");
+/// Opens a session of the first version, looks at it, and closes it: whether it answers as it is to, and recorded nothing
+/// meanwhile.
+pub fn are_right(
+    alloc: Global,
+    domain: &Domain<Item>,
+    cell: &AtomicShared,
+    local: &mut Local<Item>,
+    look: Look,
+) -> bool
+    requires home { home_of local.old ≡ place_of domain.now }
+    requires inside { cell_number cell.now < cell_count domain.now }
+    requires closed { (own_of local.old).nesting ≡ 0 }
+    ensures same { IsSame local.old local.new }
+    ensures closed { (own_of local.new).nesting ≡ 0 }
+{
+    let Ok(session) = Twos::open(domain, cell, local, alloc, 0) else {
+        return false;
     };
     let right = answers(&session, look);
-    let receipt = session.close(&domain, &mut local);
-    end(rt, cell, domain, local);
+    let receipt = session.close(domain, local);
     right && receipt.number == 1 && receipt.reads.as_slice().is_empty()
-}
-
-#[test]
-fn keys_neighbours_and_ranges_are_read_and_the_ends_of_a_walk_change_places(rt: HostRuntime) {
-    let reads = is_right(&rt, rt.alloc(), (10, 20, 50), Look::Reads);
-    let ends = is_right(&rt, rt.alloc(), (2, 2, 2), Look::Ends);
-    assert_eq!(rt; (reads, ends), (true, true));
 }
 
 /// Whether a session of the empty list tells that it has no pair.
@@ -224,52 +220,70 @@ fn is_empty(session: &Twos) -> bool {
         && session.iter().next().is_none()
 }
 
-#[test]
-fn the_empty_list_has_no_pair(rt: HostRuntime) {
-    let mut met = false;
-    let domain = place(&rt, rt.alloc(), &mut met);
-    let mut local = member(&rt, &domain, &mut met);
-    let empty = Node::Version(Version::empty(rt.alloc(), 2));
-    let empty = placed(&rt, empty, &domain, &mut local);
-    let cell = cell(&rt, empty, &domain, &mut local);
-    let Ok(mut session) = Twos::open(&domain, &cell, &mut local, rt.alloc(), 0) else {
-        panic!(rt; "the empty version is there");
-    };
-    let empty = is_empty(&session);
-    let near = session.read(Query::Locate(1));
-    let all = session.read(Query::Range(Bound::Unbounded, Bound::Unbounded));
-    let receipt = session.close(&domain, &mut local);
-    end(&rt, cell, domain, local);
-    assert!(rt; near == Ok(Answer::Locate(Near::Empty)));
-    assert!(rt; all == Ok(pairs(&rt, rt.alloc(), &[])));
-    assert_eq!(rt; (empty, receipt.reads.as_slice().len()), (true, 2));
-}
-
 /// Has a session read each query, and tells whether each answers what it is to, and is recorded by that; and whether the receipt
 /// has the first number all the time.
 fn records<R: Abort>(rt: &R, session: &mut Twos, rows: &[(Query<u64>, Answer<u64, u64>)]) -> bool
     ensures { session.new.nest ≡ session.old.nest }
 {
+    let number = session.number();
     let mut right = true;
     for at in 0..rows.len() {
         let query = rows[at].0.clone().expect(rt, ROOM);
         let told = session.read(query).expect(rt, ROOM) == rows[at].1;
         let recorded = session.receipt().reads.as_slice().len() == at + 1;
-        right = told && recorded && session.receipt().number == 1 && right;
+        right = told && recorded && session.receipt().number == number && right;
     }
-    // what isn't recorded leaves the receipt as it is
-    session.get(&5).copied() == Some(50) && right
+    right
 }
 
-#[test]
-fn each_kind_of_query_is_recorded(rt: HostRuntime) {
+/// Whether a session of the first version records these reads, its receipt has them, and what isn't recorded leaves the receipt
+/// as it is. The version has the number 1 and the value 50 at the key 5, or is empty.
+fn are_recorded<R: Abort>(
+    rt: &R,
+    alloc: Global,
+    domain: &Domain<Item>,
+    cell: &AtomicShared,
+    local: &mut Local<Item>,
+    rows: &[(Query<u64>, Answer<u64, u64>)],
+) -> bool
+    requires home { home_of local.old ≡ place_of domain.now }
+    requires inside { cell_number cell.now < cell_count domain.now }
+    requires closed { (own_of local.old).nesting ≡ 0 }
+    ensures same { IsSame local.old local.new }
+    ensures closed { (own_of local.new).nesting ≡ 0 }
+{
+    let Ok(mut session) = Twos::open(domain, cell, local, alloc, 0) else {
+        return false;
+    };
+    let recorded = records(rt, &mut session, rows);
+    let last = session.get(&5).copied();
+    let number = session.number();
+    let plain = is_empty(&session) || (number, last) == (1, Some(50));
+    let receipt = session.close(domain, local);
+    recorded && plain && receipt.number == number && receipt.reads.as_slice() == rows
+}
+
+/// Whether each kind of query is recorded.
+pub fn each_kind<R: Abort>(
+    rt: &R,
+    alloc: Global,
+    domain: &Domain<Item>,
+    cell: &AtomicShared,
+    local: &mut Local<Item>,
+) -> bool
+    requires home { home_of local.old ≡ place_of domain.now }
+    requires inside { cell_number cell.now < cell_count domain.now }
+    requires closed { (own_of local.old).nesting ≡ 0 }
+    ensures same { IsSame local.old local.new }
+    ensures closed { (own_of local.new).nesting ≡ 0 }
+{
     let range = Query::Range(Bound::Included(2), Bound::Unbounded);
     let rows = [
         (Query::Get(1), Answer::Get(Some(10))),
         (Query::Get(3), Answer::Get(None)),
         (Query::Contains(5), Answer::Contains(true)),
         (Query::Contains(4), Answer::Contains(false)),
-        (range, pairs(&rt, rt.alloc(), &[(2, 20), (5, 50)])),
+        (range, pairs(rt, alloc, &[(2, 20), (5, 50)])),
         (Query::Locate(2), Answer::Locate(Near::Exact(2, 20))),
         (
             Query::Locate(4),
@@ -278,20 +292,27 @@ fn each_kind_of_query_is_recorded(rt: HostRuntime) {
         (Query::Locate(6), Answer::Locate(Near::Smaller(5, 50))),
         (Query::Locate(0), Answer::Locate(Near::Larger(1, 10))),
     ];
-    assert!(rt; are_recorded(&rt, rt.alloc(), &rows));
+    are_recorded(rt, alloc, domain, cell, local, &rows)
 }
 
-/// Whether a session of the first version records these reads, and its receipt has them.
-fn are_recorded<R: Abort>(rt: &R, alloc: Global, rows: &[(Query<u64>, Answer<u64, u64>)]) -> bool {
-    let mut met = false;
-    let domain = place(rt, alloc, &mut met);
-    let mut local = member(rt, &domain, &mut met);
-    let cell = first(rt, alloc, &domain, &mut local, (10, 20, 50));
-    let Ok(mut session) = Twos::open(&domain, &cell, &mut local, alloc, 0) else {
-        panic!(rt; "the first version is there");
-    };
-    let recorded = records(rt, &mut session, rows);
-    let receipt = session.close(&domain, &mut local);
-    end(rt, cell, domain, local);
-    recorded && receipt.number == 1 && receipt.reads.as_slice() == rows
+/// Whether the empty list answers that it has no pair.
+pub fn of_nothing<R: Abort>(
+    rt: &R,
+    alloc: Global,
+    domain: &Domain<Item>,
+    cell: &AtomicShared,
+    local: &mut Local<Item>,
+) -> bool
+    requires home { home_of local.old ≡ place_of domain.now }
+    requires inside { cell_number cell.now < cell_count domain.now }
+    requires closed { (own_of local.old).nesting ≡ 0 }
+    ensures same { IsSame local.old local.new }
+    ensures closed { (own_of local.new).nesting ≡ 0 }
+{
+    let all = Query::Range(Bound::Unbounded, Bound::Unbounded);
+    let rows = [
+        (Query::Locate(1), Answer::Locate(Near::Empty)),
+        (all, pairs(rt, alloc, &[])),
+    ];
+    are_recorded(rt, alloc, domain, cell, local, &rows)
 }

@@ -1,16 +1,16 @@
-//! Sessions of threads beside a thread that publishes. Each test prints the same whatever the schedule.
+//! Sessions of threads beside a thread that publishes. What they find is the same whatever the schedule.
 
 ghost use Rattle.std.specs.Prelude.{◌≡◌, ◌<◌};
 ghost use Rattle.sdd_domain.specs.Cells.{cell_number};
 ghost use Rattle.sdd_domain.specs.Tokens.{place_of, home_of, own_of, cell_count, IsSame};
 
-use crate::place::{Item, Twos, end, first, member, place, reclaim, renew};
+use crate::place::{Item, Twos, reclaim, renew};
 use sdd_domain::atomic_shared::AtomicShared;
 use sdd_domain::domain::Domain;
 use sdd_domain::local::Local;
 use std::alloc::Global;
 use std::process::Abort;
-use std::thread::join;
+use std::thread::{Threads, join};
 
 /// How many versions are published behind the first one, each with its number as each of its values.
 const LAST: u64 = 20;
@@ -82,20 +82,25 @@ fn writes<R: Abort>(rt: &R, alloc: Global, domain: &Domain<Item>, cell: &AtomicS
     Some(())
 }
 
-#[test]
-fn each_session_of_a_thread_reads_one_version(rt: HostRuntime) {
-    let mut met = false;
-    let alloc = rt.alloc();
-    let domain = place(&rt, alloc, &mut met);
-    let mut local = member(&rt, &domain, &mut met);
-    let cell = first(&rt, alloc, &domain, &mut local, (1, 1, 1));
+/// Whether each session of a thread reads one version beside a thread that publishes, and one behind both reads the last.
+pub fn are_whole<R: Threads + Abort + Sync>(
+    rt: &R,
+    alloc: Global,
+    domain: &Domain<Item>,
+    cell: &AtomicShared,
+    local: &mut Local<Item>,
+) -> bool
+    requires home { home_of local.old ≡ place_of domain.now }
+    requires inside { cell_number cell.now < cell_count domain.now }
+    requires closed { (own_of local.old).nesting ≡ 0 }
+    ensures same { IsSame local.old local.new }
+    ensures closed { (own_of local.new).nesting ≡ 0 }
+{
     let (written, read) = join(
-        &rt,
-        || writes(&rt, alloc, &domain, &cell),
-        || reads(alloc, &domain, &cell),
+        rt,
+        || writes(rt, alloc, domain, cell),
+        || reads(alloc, domain, cell),
     );
-    assert_eq!(rt; (written, read), (Some(()), Some(200)));
-    let last = whole(alloc, &domain, &cell, &mut local, LAST + 1);
-    assert_eq!(rt; last, Some(LAST + 1));
-    end(&rt, cell, domain, local);
+    let last = whole(alloc, domain, cell, local, LAST + 1);
+    (written, read) == (Some(()), Some(200)) && last == Some(LAST + 1)
 }

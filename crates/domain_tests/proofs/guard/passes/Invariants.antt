@@ -3,4 +3,4 @@ use Rattle.sdd_domain.specs.Tokens.{own_of, IsSame}
 use Rattle.domain_tests.proofs.guard.passes.Given as goal
 
 abbrev pub invariant-loop-i : goal.invariant-loop-i
-invariant-loop-i l = record { same : IsSame l.fn.local l.local; closed : (own_of l.local).nesting ≡ 0 }
+invariant-loop-i g l = record { same : IsSame l.fn.local l.local; closed : (own_of l.local).nesting ≡ 0 }
