@@ -6,4 +6,6 @@
 #[cfg(test)]
 mod array;
 #[cfg(test)]
+mod numbers;
+#[cfg(test)]
 mod tree;

@@ -14,6 +14,11 @@ mod push;
 mod refusals;
 mod removal;
 mod shrink;
+mod tables;
+mod text;
+
+/// A tree of numbers.
+type Tree = TreeIndex<u64, u64>;
 
 /// The leaf of a tree on the way to a key, from the root down: a child has one node less down to a leaf, so
 /// the way ends, at a node over leaves.
@@ -28,16 +33,10 @@ fn leaf_at<'t>(tree: &'t TreeIndex<u64, u64>, key: u64) -> Option<&'t Leaf<u64, 
 }
 
 /// A tree with these pairs.
-fn tree_of(alloc: Global, pairs: &[(u64, u64)]) -> TreeIndex<u64, u64> {
+fn tree_of(alloc: Global, pairs: &[(u64, u64)]) -> Tree {
     let mut tree = TreeIndex::new(alloc);
     for (key, val) in pairs {
         let _inserted = tree.insert_sync(*key, *val);
     }
     tree
-}
-
-/// The next of a fixed row of numbers in no order, as in Knuth's MMIX.
-fn stirred(seed: u64) -> u64 {
-    seed.wrapping_mul(6364136223846793005)
-        .wrapping_add(1442695040888963407)
 }

@@ -1,9 +1,9 @@
 //! Calls of an array as data, so that a test of many calls is a table: each call with what it answers.
 
-use super::holding;
+use super::{cut, edit, holding, range, slot};
+use crate::numbers::always;
 use leaf_array::{Array, InsertResult, RemoveResult};
 use std::ops::Bound;
-use std::process::Abort;
 
 /// A call of an array of numbers.
 #[derive(Clone, Copy)]
@@ -33,8 +33,12 @@ pub(super) enum Call {
     Metadata,
     LastRemoved,
     SearchVal(u64),
+    /// The value of the least key from this one on, and the word that is told with it.
     MinGreaterEqual(u64),
+    MinWord(u64),
+    /// The place of the first pair from this key on, and that pair.
     LowerBound(u64),
+    LowerPair(u64),
     Pair(usize),
 }
 
@@ -42,21 +46,16 @@ pub(super) enum Call {
 #[derive(Clone, Copy, PartialEq, Eq)]
 pub(super) enum Told {
     Done,
-    /// What the call requires isn't met.
-    Unmet,
     /// An insertion is refused, and gives the pair back.
     Duplicate(u64, u64),
     Full(u64, u64),
     Removed(RemoveResult),
+    /// It is so; it isn't, or what the call requires isn't met.
     Is(bool),
     Number(usize),
     /// A key or a value.
     Part(Option<u64>),
     Pair(Option<(u64, u64)>),
-    /// A value, and the word.
-    Least(Option<u64>, usize),
-    /// A place, and the pair there.
-    Lower(usize, Option<(u64, u64)>),
 }
 
 fn inserted(told: InsertResult<u64, u64>) -> Told {
@@ -70,21 +69,21 @@ fn inserted(told: InsertResult<u64, u64>) -> Told {
 /// Inserts a new pair by the place and word that a dry run gives, and tells its slot.
 fn insert_by_slot(array: &mut Array<u64, u64>, key: u64, val: u64) -> Told {
     if array.used() == 15 {
-        return Told::Unmet;
+        return Told::Is(false);
     }
     match array.search_entry(&key) {
-        Some(_) => return Told::Unmet,
+        Some(_) => return Told::Is(false),
         None => {},
     }
     let (place, word) = array.insert_dry(&key);
     if word == 0 {
-        return Told::Unmet;
+        return Told::Is(false);
     }
     let slot = array.insert_unchecked(key, val, place, word);
     if array.metadata() == word {
         Told::Number(usize::from(slot))
     } else {
-        Told::Unmet
+        Told::Is(false)
     }
 }
 
@@ -98,7 +97,7 @@ fn remove_slot(array: &mut Array<u64, u64>, slot: u8) -> Told {
 
 fn push_last(array: &mut Array<u64, u64>, key: u64, val: u64) -> Told {
     if array.used() == 15 || array.lower_bound(&key).0 != array.len() {
-        return Told::Unmet;
+        return Told::Is(false);
     }
     array.push_last(key, val);
     Told::Done
@@ -106,7 +105,7 @@ fn push_last(array: &mut Array<u64, u64>, key: u64, val: u64) -> Told {
 
 fn bury(array: &mut Array<u64, u64>, at: usize) -> Told {
     if at >= array.len() {
-        return Told::Unmet;
+        return Told::Is(false);
     }
     array.bury(at);
     Told::Done
@@ -114,55 +113,39 @@ fn bury(array: &mut Array<u64, u64>, at: usize) -> Told {
 
 fn freeze(array: &mut Array<u64, u64>) -> Told {
     if array.is_frozen() {
-        return Told::Unmet;
+        return Told::Is(false);
     }
     Told::Number(array.freeze())
 }
 
 fn unfreeze(array: &mut Array<u64, u64>) -> Told {
     if !array.is_frozen() {
-        return Told::Unmet;
+        return Told::Is(false);
     }
     array.unfreeze();
     Told::Done
 }
 
-fn new_frozen(array: &mut Array<u64, u64>) -> Told {
-    *array = Array::new_frozen();
-    Told::Done
-}
-
-fn remove_range(array: &mut Array<u64, u64>, low: Bound<u64>, high: Bound<u64>) -> Told {
-    array.remove_range(low.as_ref(), high.as_ref());
-    Told::Done
-}
-
-fn pack(array: &mut Array<u64, u64>) -> Told {
-    array.pack();
-    Told::Done
-}
-
-fn copied(pair: Option<(&u64, &u64)>) -> Option<(u64, u64)> {
+pub(super) fn copied(pair: Option<(&u64, &u64)>) -> Option<(u64, u64)> {
     match pair {
         Some((key, val)) => Some((*key, *val)),
         None => None,
     }
 }
 
-fn least(array: &Array<u64, u64>, key: u64) -> Told {
+fn least(array: &Array<u64, u64>, key: u64) -> (Option<u64>, usize) {
     let (val, word) = array.min_greater_equal(&key);
-    Told::Least(val.copied(), word)
+    (val.copied(), word)
 }
 
-fn lower(array: &Array<u64, u64>, key: u64) -> Told {
+fn lower(array: &Array<u64, u64>, key: u64) -> (usize, Option<(u64, u64)>) {
     let (place, pair) = array.lower_bound(&key);
-    Told::Lower(place, copied(pair))
+    (place, copied(pair))
 }
 
 /// A call that changes nothing.
 fn look(array: &Array<u64, u64>, call: Call) -> Told {
     match call {
-        Call::Len => Told::Number(array.len()),
         Call::IsEmpty => Told::Is(array.is_empty()),
         Call::IsFull => Told::Is(array.is_full()),
         Call::IsRetired => Told::Is(array.is_retired()),
@@ -170,10 +153,12 @@ fn look(array: &Array<u64, u64>, call: Call) -> Told {
         Call::Metadata => Told::Number(array.metadata()),
         Call::LastRemoved => Told::Part(array.last_removed().copied()),
         Call::SearchVal(key) => Told::Part(array.search_val(&key).copied()),
-        Call::MinGreaterEqual(key) => least(array, key),
-        Call::LowerBound(key) => lower(array, key),
+        Call::MinGreaterEqual(key) => Told::Part(least(array, key).0),
+        Call::MinWord(key) => Told::Number(least(array, key).1),
+        Call::LowerBound(key) => Told::Number(lower(array, key).0),
+        Call::LowerPair(key) => Told::Pair(lower(array, key).1),
         Call::Pair(at) => Told::Pair(copied(array.pair(at))),
-        _ => Told::Unmet,
+        _ => Told::Number(array.len()),
     }
 }
 
@@ -182,18 +167,27 @@ pub(super) fn make(array: &mut Array<u64, u64>, call: Call) -> Told {
     match call {
         Call::Insert(key, val) => inserted(array.insert::<false>(key, val)),
         Call::Upsert(key, val) => inserted(array.insert::<true>(key, val)),
-        Call::Remove(key) => Told::Removed(array.remove_if(&key, |_| true)),
+        Call::Remove(key) => Told::Removed(array.remove_if(&key, always)),
         Call::Spare(key) => Told::Removed(array.remove_if(&key, |_| false)),
-        Call::RemoveRange(low, high) => remove_range(array, low, high),
+        Call::RemoveRange(low, high) => {
+            array.remove_range(low.as_ref(), high.as_ref());
+            Told::Done
+        }
         Call::InsertBySlot(key, val) => insert_by_slot(array, key, val),
         Call::RemoveSlot(slot) => remove_slot(array, slot),
         Call::PushLast(key, val) => push_last(array, key, val),
         Call::PopLast => Told::Pair(array.pop_last()),
         Call::Bury(at) => bury(array, at),
-        Call::Pack => pack(array),
+        Call::Pack => {
+            array.pack();
+            Told::Done
+        }
         Call::Freeze => freeze(array),
         Call::Unfreeze => unfreeze(array),
-        Call::NewFrozen => new_frozen(array),
+        Call::NewFrozen => {
+            *array = Array::new_frozen();
+            Told::Done
+        }
         _ => look(array, call),
     }
 }
@@ -212,10 +206,30 @@ pub(super) fn first_other(array: &mut Array<u64, u64>, rows: &[(Call, Told)]) ->
 /// Keys, and the calls of an array of them, each its own value.
 pub(super) type Table = (&'static [u64], &'static [(Call, Told)]);
 
+const TABLES: [Table; 17] = [
+    edit::WITH_A_TOMBSTONE,
+    edit::REMOVED_LAST,
+    edit::UPSERTED,
+    edit::RETIRED,
+    edit::FROZEN,
+    edit::BETWEEN,
+    edit::PUSHED,
+    edit::BURIED,
+    cut::TAKEN,
+    range::FROZEN,
+    range::OPEN,
+    range::EMPTY,
+    range::IN_THE_MIDDLE,
+    slot::DRY_RUNS,
+    slot::REMOVED_SLOTS,
+    slot::FROZEN_SLOT,
+    slot::REOPENED,
+];
+
 /// The place of the first table that has a call that is answered otherwise, and the place of that call.
-fn first_other_of(tables: &[Table]) -> Option<(usize, usize)> {
-    for at in 0..tables.len() {
-        let (keys, rows) = tables[at];
+fn first_other_of() -> Option<(usize, usize)> {
+    for at in 0..TABLES.len() {
+        let (keys, rows) = TABLES[at];
         match first_other(&mut holding(keys), rows) {
             Some(row) => return Some((at, row)),
             None => {}
@@ -224,7 +238,7 @@ fn first_other_of(tables: &[Table]) -> Option<(usize, usize)> {
     None
 }
 
-/// Plays each table on an array of its own.
-pub(super) fn play<R: Abort>(rt: &R, tables: &[Table]) {
-    assert_eq!(rt; first_other_of(tables), None);
+#[test]
+fn arrays_answer_as_the_tables_say(rt: HostRuntime) {
+    assert_eq!(rt; first_other_of(), None);
 }

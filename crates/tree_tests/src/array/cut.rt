@@ -1,62 +1,61 @@
 //! Arrays cut in two.
 
-use super::calls::Call::{Metadata, Pair, PopLast, Remove};
-use super::calls::Told::{Number, Removed};
-use super::calls::{Table, Told, play};
-use super::{ASCENDING, holding, reversed};
+use super::calls::Call::{Pair, PopLast, Remove};
+use super::calls::Told::Removed;
+use super::calls::{Table, Told, make};
+use super::{DESCENDING, holding};
 use leaf_array::{Array, RemoveResult};
 
-/// The keys in their order, each a hexadecimal digit.
-fn digits(array: &Array<u64, u64>) -> u64 {
-    array.fold(
+/// The keys in their order, each a hexadecimal digit, and the word of an array.
+fn shown(array: &Array<u64, u64>) -> (u64, usize) {
+    let digits = array.fold(
         0u64,
         |made, key, _| made.wrapping_mul(16).wrapping_add(*key),
-    )
-}
-
-/// The keys and the word of an array.
-fn shown(array: &Array<u64, u64>) -> (u64, usize) {
-    (digits(array), array.metadata())
+    );
+    (digits, array.metadata())
 }
 
 /// An array of the keys up to 14 without 9, which came in the reverse order.
 fn without_nine() -> Array<u64, u64> {
-    let mut array = reversed(&ASCENDING);
-    let _removed = array.remove_if(&9, |_| true);
+    let mut array = holding(&DESCENDING);
+    let _removed = make(&mut array, Remove(9));
     array
 }
 
-#[test]
-fn an_array_is_halved_by_moves(rt: HostRuntime) {
+/// Whether an array is halved by moves.
+fn is_halved() -> bool {
     let mut upper = without_nine();
     let len = upper.len();
     let lower = upper.split_half();
-    assert!(rt; (len, lower.len(), upper.len()) == (14, 8, 6));
-    assert!(rt; digits(&lower) == 0x01234567 && shown(&upper) == (0x8ABCDE, 0x6503214));
+    let cut = len == 14 && lower.len() == 8 && upper.len() == 6;
+    cut && shown(&lower).0 == 0x01234567 && shown(&upper) == (0x8ABCDE, 0x6503214)
 }
 
-/// The keys and the words of the two parts of the array without 9, cut behind its first `at` pairs.
-fn cut_behind(at: usize) -> ((u64, usize), (u64, usize)) {
+const LEFT: [u64; 14] = [0, 1, 2, 3, 4, 5, 6, 7, 8, 10, 11, 12, 13, 14];
+
+/// Whether an array is cut behind its first `at` pairs, so that both parts are as if their keys had come by themselves,
+/// in their order.
+fn is_cut(at: usize) -> bool {
     let mut lower = without_nine();
     if at > lower.len() {
-        return ((0, 0), (0, 0));
+        return false;
     }
     let upper = lower.split_off(at);
-    (shown(&lower), shown(&upper))
+    let (first, rest) = LEFT.split_at(at.min(14));
+    shown(&lower) == shown(&holding(first)) && shown(&upper) == shown(&holding(rest))
 }
 
 #[test]
 fn an_array_is_cut_at_each_boundary(rt: HostRuntime) {
-    let left: [u64; 14] = [0, 1, 2, 3, 4, 5, 6, 7, 8, 10, 11, 12, 13, 14];
+    let mut cut = is_halved();
     for at in 0..15usize {
-        // both are as if their keys had come by themselves, in their order
-        let (first, rest) = left.split_at(at.min(14));
-        let wanted = (shown(&holding(first)), shown(&holding(rest)));
-        assert!(rt; cut_behind(at) == wanted);
+        cut = is_cut(at) && cut;
     }
+    assert!(rt; cut);
 }
 
-const TAKEN: Table = (
+/// The greatest pair is taken out.
+pub(super) const TAKEN: Table = (
     &[3, 1, 2],
     &[
         (Remove(2), Removed(RemoveResult::Success)),
@@ -68,8 +67,3 @@ const TAKEN: Table = (
         (PopLast, Told::Pair(None)),
     ],
 );
-
-#[test]
-fn the_greatest_pair_is_taken_out(rt: HostRuntime) {
-    play(&rt, &[TAKEN]);
-}

@@ -1,21 +1,22 @@
 //! Insertions and removals of single pairs by example, and beside a plain list.
 
+use super::ASCENDING;
 use super::calls::Call::{
     Bury, Freeze, Insert, IsEmpty, IsFrozen, IsFull, IsRetired, LastRemoved, Len, LowerBound,
-    Metadata, MinGreaterEqual, NewFrozen, Pack, Pair, PushLast, Remove, SearchVal, Unfreeze,
-    Upsert,
+    LowerPair, Metadata, MinGreaterEqual, MinWord, NewFrozen, Pack, Pair, PushLast, Remove,
+    SearchVal, Unfreeze, Upsert,
 };
-use super::calls::Told::{Done, Duplicate, Full, Is, Least, Lower, Number, Part, Removed};
-use super::calls::{Table, Told, make, play};
+use super::calls::Told::{Done, Duplicate, Full, Is, Number, Part, Removed};
+use super::calls::{Table, Told, copied, make};
 use super::plain::{Write, written};
-use super::{ASCENDING, TEXTS, texts, without};
-use leaf_array::{Array, InsertResult, RemoveResult, plain};
+use crate::numbers::stirred;
+use leaf_array::{Array, RemoveResult, plain};
 use std::alloc::{AllocError, Global};
 
 const REMOVED: Told = Removed(RemoveResult::Success);
 
 /// A removed pair keeps its place.
-const WITH_A_TOMBSTONE: Table = (
+pub(super) const WITH_A_TOMBSTONE: Table = (
     &ASCENDING,
     &[
         (Remove(3), REMOVED),
@@ -26,7 +27,7 @@ const WITH_A_TOMBSTONE: Table = (
 );
 
 /// The key removed last is kept until it is packed.
-const REMOVED_LAST: Table = (
+pub(super) const REMOVED_LAST: Table = (
     &[10, 20, 30],
     &[
         (LastRemoved, Part(None)),
@@ -41,7 +42,7 @@ const REMOVED_LAST: Table = (
 );
 
 /// An upsert takes a place too.
-const UPSERTED: Table = (
+pub(super) const UPSERTED: Table = (
     &[0, 1, 2, 3, 4, 5, 6, 7, 8, 9, 10, 11, 12, 13],
     &[
         (IsFull, Is(false)),
@@ -55,7 +56,7 @@ const UPSERTED: Table = (
 );
 
 /// An array without its last pair retires.
-const RETIRED: Table = (
+pub(super) const RETIRED: Table = (
     &[5],
     &[
         (Remove(6), Removed(RemoveResult::Fail)),
@@ -71,7 +72,7 @@ const RETIRED: Table = (
 );
 
 /// A frozen array keeps its pairs.
-const FROZEN: Table = (
+pub(super) const FROZEN: Table = (
     &[1, 2],
     &[
         // slots 1 and 2 have the ranks 1 and 2
@@ -94,7 +95,7 @@ const FROZEN: Table = (
 );
 
 /// A new pair pushes the greater ranks up.
-const BETWEEN: Table = (
+pub(super) const BETWEEN: Table = (
     &[10, 30],
     &[
         (Metadata, Number(0x210)),
@@ -104,15 +105,19 @@ const BETWEEN: Table = (
         (Upsert(10, 11), Done),
         // slot 0 has the rank of slot 1
         (Metadata, Number(0x2301)),
-        (MinGreaterEqual(11), Least(Some(20), 0x2301)),
-        (MinGreaterEqual(31), Least(None, 0x2301)),
-        (LowerBound(11), Lower(1, Some((20, 20)))),
-        (LowerBound(31), Lower(3, None)),
+        (MinGreaterEqual(11), Part(Some(20))),
+        (MinWord(11), Number(0x2301)),
+        (MinGreaterEqual(31), Part(None)),
+        (MinWord(31), Number(0x2301)),
+        (LowerBound(11), Number(1)),
+        (LowerPair(11), Told::Pair(Some((20, 20)))),
+        (LowerBound(31), Number(3)),
+        (LowerPair(31), Told::Pair(None)),
     ],
 );
 
 /// Pairs are pushed at the end.
-const PUSHED: Table = (
+pub(super) const PUSHED: Table = (
     &[1, 3],
     &[
         (Remove(3), REMOVED),
@@ -124,7 +129,7 @@ const PUSHED: Table = (
 );
 
 /// The pair behind one other is removed.
-const BURIED: Table = (
+pub(super) const BURIED: Table = (
     &[10, 20, 30],
     &[
         (Bury(1), Done),
@@ -135,44 +140,12 @@ const BURIED: Table = (
     ],
 );
 
-#[test]
-fn single_pairs_are_inserted_and_removed(rt: HostRuntime) {
-    play(
-        &rt,
-        &[
-            WITH_A_TOMBSTONE,
-            REMOVED_LAST,
-            UPSERTED,
-            RETIRED,
-            FROZEN,
-            BETWEEN,
-            PUSHED,
-            BURIED,
-        ],
-    );
-}
-
-/// A number from the one before, as in Knuth's MMIX.
-fn following(seed: u64) -> u64 {
-    seed.wrapping_mul(6364136223846793005)
-        .wrapping_add(1442695040888963407)
-}
-
 /// Makes room in a full array, if it has any, and tells whether it takes a pair then.
 fn takes_one(array: &mut Array<u64, u64>) -> bool {
     if array.is_full() {
         array.pack();
     }
     !array.is_full()
-}
-
-/// A random write: a removal, an upsert or an insertion.
-fn write_of(kind: u64, key: u64, val: u64) -> Write {
-    match kind {
-        0 => Write::Remove(key),
-        1 => Write::Upsert(key, val),
-        _ => Write::Insert(key, val),
-    }
 }
 
 /// Whether an array answers to a write as a list says in which the key is, or isn't, there.
@@ -199,24 +172,20 @@ fn act(
         return Ok(true);
     }
     let there = plain::contains_key(list.as_slice(), &key);
-    let write = write_of(kind, key, val);
+    let write = match kind {
+        0 => Write::Remove(key),
+        1 => Write::Upsert(key, val),
+        _ => Write::Insert(key, val),
+    };
     *list = written(alloc, list.as_slice(), write)?;
     Ok(answers(array, write, there))
-}
-
-/// The pair at a place of an array.
-fn pair(array: &Array<u64, u64>, at: usize) -> Option<(u64, u64)> {
-    match array.pair(at) {
-        Some((key, val)) => Some((*key, *val)),
-        None => None,
-    }
 }
 
 /// Whether an array has the pairs of a list, and finds in it what the list has at this key.
 fn is_listed(array: &Array<u64, u64>, list: &[(u64, u64)], key: u64) -> bool {
     let mut same = true;
     for at in 0..15usize {
-        same = pair(array, at) == list.get(at).copied() && same;
+        same = copied(array.pair(at)) == list.get(at).copied() && same;
     }
     let found = array.search_val(&key) == plain::find_value(list, &key);
     same && found && array.len() == list.len()
@@ -229,7 +198,7 @@ fn go_alike(alloc: Global, calls: u32) -> Result<bool, AllocError> {
     let mut seed = 1;
     let mut alike = true;
     for _ in 0..calls {
-        seed = following(seed);
+        seed = stirred(seed);
         let key = (seed >> 33) % 20;
         let call = ((seed >> 59) % 4, key, (seed >> 40) % 1000);
         let answered = act(alloc, &mut array, &mut list, call)?;
@@ -241,48 +210,4 @@ fn go_alike(alloc: Global, calls: u32) -> Result<bool, AllocError> {
 #[test]
 fn random_calls_answer_as_a_plain_list_does(rt: HostRuntime) {
     assert!(rt; go_alike(rt.alloc(), 300) == Ok(true));
-}
-
-/// The pair that an insertion into an array of texts gives back, and whether it is a duplicate.
-fn put(
-    array: &mut Array<&'static str, &'static str>,
-    text: &'static str,
-) -> Option<(&'static str, &'static str, bool)> {
-    match array.insert::<false>(text, text) {
-        InsertResult::Success => None,
-        InsertResult::Duplicate(key, val) => Some((key, val, true)),
-        InsertResult::Full(key, val) => Some((key, val, false)),
-    }
-}
-
-#[test]
-fn a_full_array_gives_a_pair_back(rt: HostRuntime) {
-    let mut array = texts(&TEXTS);
-    let len = array.len();
-    let back = put(&mut array, "13");
-    let spared = array.remove_if(&"0", |_| false);
-    let absent = array.remove_if(&"13", |_| true);
-    assert!(rt; len == 15 && back == Some(("13", "13", false)));
-    assert!(rt; spared == RemoveResult::Fail && absent == RemoveResult::Fail);
-}
-
-/// The pair of a text.
-fn entry(
-    array: &Array<&'static str, &'static str>,
-    text: &'static str,
-) -> Option<(&'static str, &'static str)> {
-    match array.search_entry(&text) {
-        Some((key, val)) => Some((*key, *val)),
-        None => None,
-    }
-}
-
-#[test]
-fn text_keys_are_ordered_as_text(rt: HostRuntime) {
-    let mut array = texts(&TEXTS);
-    let gone = without(&mut array, &["10", "11", "12", "G", "M"]);
-    let (repeated, refused) = (put(&mut array, "1"), put(&mut array, "100"));
-    assert!(rt; gone == 5 && array.len() == 10);
-    assert!(rt; repeated == Some(("1", "1", true)) && refused == Some(("100", "100", false)));
-    assert!(rt; entry(&array, "7") == Some(("7", "7")) && entry(&array, "10") == None);
 }

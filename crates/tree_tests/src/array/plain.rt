@@ -24,6 +24,33 @@ pub(super) fn written(
     }
 }
 
+/// A list, a write, and the list that it leaves.
+type Row = (&'static [(u64, u64)], Write, &'static [(u64, u64)]);
+
+const WRITES: [Row; 9] = [
+    // a duplicate keeps the list
+    (&[], Write::Insert(1, 10), &[(1, 10)]),
+    (&[(1, 10)], Write::Insert(1, 11), &[(1, 10)]),
+    // writes one after the other keep the order of keys
+    (&[], Write::Insert(4, 1), &[(4, 1)]),
+    (&[(4, 1)], Write::Insert(2, 1), &TWO),
+    (&TWO, Write::Insert(5, 1), &THREE),
+    (&THREE, Write::Insert(3, 7), &FOUR),
+    (&FOUR, Write::Upsert(4, 9), &WITH_NINE),
+    (&WITH_NINE, Write::Remove(3), &LEFT),
+    (&LEFT, Write::Remove(3), &LEFT),
+];
+
+const TWO: [(u64, u64); 2] = [(2, 1), (4, 1)];
+
+const THREE: [(u64, u64); 3] = [(2, 1), (4, 1), (5, 1)];
+
+const FOUR: [(u64, u64); 4] = [(2, 1), (3, 7), (4, 1), (5, 1)];
+
+const WITH_NINE: [(u64, u64); 4] = [(2, 1), (3, 7), (4, 9), (5, 1)];
+
+const LEFT: [(u64, u64); 3] = [(2, 1), (4, 9), (5, 1)];
+
 /// Whether a write of a list makes another of it.
 fn makes(alloc: Global, list: &[(u64, u64)], write: Write, wanted: &[(u64, u64)]) -> bool {
     match written(alloc, list, write) {
@@ -32,48 +59,25 @@ fn makes(alloc: Global, list: &[(u64, u64)], write: Write, wanted: &[(u64, u64)]
     }
 }
 
-#[test]
-fn a_duplicate_insert_keeps_the_list(rt: HostRuntime) {
-    let first = makes(rt.alloc(), &[], Write::Insert(1, 10), &[(1, 10)]);
-    let second = makes(rt.alloc(), &[(1, 10)], Write::Insert(1, 11), &[(1, 10)]);
-    let found = find_value(&[(1u64, 10u64)], &1).copied();
-    assert!(rt; (first, second, found) == (true, true, Some(10)));
-}
-
-// Writes one after the other, each with the list that it leaves.
-const WRITES: [(Write, &[(u64, u64)]); 7] = [
-    (Write::Insert(4, 1), &[(4, 1)]),
-    (Write::Insert(2, 1), &[(2, 1), (4, 1)]),
-    (Write::Insert(5, 1), &[(2, 1), (4, 1), (5, 1)]),
-    (Write::Insert(3, 7), &[(2, 1), (3, 7), (4, 1), (5, 1)]),
-    (Write::Upsert(4, 9), &[(2, 1), (3, 7), (4, 9), (5, 1)]),
-    (Write::Remove(3), &[(2, 1), (4, 9), (5, 1)]),
-    (Write::Remove(3), &[(2, 1), (4, 9), (5, 1)]),
-];
-
 /// The place of the first write that leaves another list.
 fn first_other(alloc: Global) -> Option<usize> {
-    let mut list: &[(u64, u64)] = &[];
     for at in 0..WRITES.len() {
-        let (write, wanted) = WRITES[at];
+        let (list, write, wanted) = WRITES[at];
         if !makes(alloc, list, write, wanted) {
             return Some(at);
         }
-        list = wanted;
     }
     None
 }
 
-// What the writes leave.
-const LEFT: [(u64, u64); 3] = [(2, 1), (4, 9), (5, 1)];
-
-/// Whether it has 5 and 3, and the value of 3.
-fn has() -> (bool, bool, Option<u64>) {
+/// Whether keys are found where they are, and nowhere else.
+fn are_found() -> bool {
+    let first = find_value(&[(1u64, 10u64)], &1).copied() == Some(10);
     let (five, three) = (contains_key(&LEFT, &5), contains_key(&LEFT, &3));
-    (five, three, find_value(&LEFT, &3).copied())
+    first && five && !three && find_value(&LEFT, &3).is_none()
 }
 
 #[test]
 fn writes_keep_the_order_of_keys(rt: HostRuntime) {
-    assert!(rt; first_other(rt.alloc()).is_none() && has() == (true, false, None));
+    assert!(rt; are_found() && first_other(rt.alloc()).is_none());
 }

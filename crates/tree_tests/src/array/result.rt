@@ -2,17 +2,10 @@
 
 use leaf_array::{DIMENSION, RemoveResult};
 use std::alloc::Global;
+use std::fmt::Debug;
 
-/// Whether the sizes of arrays are written so.
-fn is_dimension(alloc: Global, wanted: &str) -> bool {
-    match format!(in alloc; "{:?}", DIMENSION) {
-        Ok(text) => text.as_str() == wanted,
-        Err(_) => false,
-    }
-}
-
-/// Whether a result is written so.
-fn is_written(alloc: Global, told: RemoveResult, wanted: &str) -> bool {
+/// Whether a value is written so.
+fn is_written<T: Debug>(alloc: Global, told: &T, wanted: &str) -> bool {
     match format!(in alloc; "{:?}", told) {
         Ok(text) => text.as_str() == wanted,
         Err(_) => false,
@@ -26,19 +19,17 @@ const NAMES: [(RemoveResult, &str); 4] = [
     (RemoveResult::Frozen, "Frozen"),
 ];
 
-/// The place of the first result that is written otherwise.
-fn first_other(alloc: Global) -> Option<usize> {
-    for at in 0..NAMES.len() {
-        let (told, name) = NAMES[at];
-        if !is_written(alloc, told, name) {
-            return Some(at);
-        }
+/// Whether each result is written by its name.
+fn are_named(alloc: Global) -> bool {
+    let mut named = true;
+    for (told, name) in NAMES {
+        named = is_written(alloc, &told, name) && named;
     }
-    None
+    named
 }
 
 #[test]
 fn results_are_written_by_their_names(rt: HostRuntime) {
-    let named = is_dimension(rt.alloc(), "Dimension { len: 15, bits: 4 }");
-    assert!(rt; named && first_other(rt.alloc()).is_none());
+    let sized = is_written(rt.alloc(), &DIMENSION, "Dimension { len: 15, bits: 4 }");
+    assert!(rt; sized && are_named(rt.alloc()));
 }

@@ -3,19 +3,24 @@
 use super::calls::Call::{
     Freeze, Insert, InsertBySlot, IsRetired, Len, Metadata, Remove, RemoveSlot, SearchVal,
 };
+use super::calls::Table;
 use super::calls::Told::{Done, Is, Number, Part, Removed};
-use super::calls::{Table, play};
 use leaf_array::{Array, InsertResult, RemoveResult};
+use std::ops::Bound;
 
 #[test]
-fn a_slot_shows_its_pair(rt: HostRuntime) {
+fn a_slot_shows_its_pair_and_keeps_it(rt: HostRuntime) {
     let mut array: Array<u64, u64> = Array::new();
     let shown = match array.insert::<false>(5, 50) {
-        // the lowest bitmap place has slot 1
-        InsertResult::Success => (*array.key(1), *array.val(1)),
-        _ => (0, 0),
+        InsertResult::Success => {
+            // the lowest bitmap place has slot 1
+            let there = *array.key(1) == 5 && *array.val(1) == 50;
+            array.remove_range(Bound::Unbounded, Bound::Unbounded);
+            there && *array.key(1) == 5 && *array.val(1) == 50
+        },
+        _ => false,
     };
-    assert!(rt; shown == (5, 50));
+    assert!(rt; shown);
 }
 
 /// Puts a pair behind all others of a frozen array, at a place. Answers 15 where it can't.
@@ -30,7 +35,7 @@ pub(super) fn put_at(array: &mut Array<u64, u64>, key: u64, val: u64, place: u8)
 }
 
 /// A dry run says where a pair goes.
-const DRY_RUNS: Table = (
+pub(super) const DRY_RUNS: Table = (
     &[],
     &[
         // the bitmap places 0 to 5 have the slots 1, 2, 3, 0, 5, 6
@@ -53,7 +58,7 @@ const DRY_RUNS: Table = (
 );
 
 /// A removed slot leaves the other ranks.
-const REMOVED_SLOTS: Table = (
+pub(super) const REMOVED_SLOTS: Table = (
     &[10, 20],
     &[
         (RemoveSlot(1), Removed(RemoveResult::Success)),
@@ -68,7 +73,7 @@ const REMOVED_SLOTS: Table = (
 );
 
 /// So it does in a frozen array, which does not retire.
-const FROZEN_SLOT: Table = (
+pub(super) const FROZEN_SLOT: Table = (
     &[10],
     &[
         (Freeze, Number(0x10)),
@@ -78,7 +83,7 @@ const FROZEN_SLOT: Table = (
 );
 
 /// An insertion by place opens a retired array.
-const REOPENED: Table = (
+pub(super) const REOPENED: Table = (
     &[5],
     &[
         (Remove(5), Removed(RemoveResult::Retired)),
@@ -89,8 +94,3 @@ const REOPENED: Table = (
         (Insert(7, 70), Done),
     ],
 );
-
-#[test]
-fn pairs_are_inserted_and_removed_by_slot(rt: HostRuntime) {
-    play(&rt, &[DRY_RUNS, REMOVED_SLOTS, FROZEN_SLOT, REOPENED]);
-}

@@ -2,9 +2,10 @@
 
 use super::calls::Call::{Insert, Len, Remove, SearchVal, Unfreeze};
 use super::calls::Told::{Done, Full, Number, Part, Removed};
-use super::calls::{Call, Told, first_other};
+use super::calls::{Call, Told, first_other, make};
+use super::holding;
 use super::slot::put_at;
-use super::{holding, reversed};
+use crate::numbers::lacks_three;
 use leaf_array::{Array, RemoveResult};
 
 /// Deals the pairs below 20 to `low` at their place, and the others to `high` four places lower. Gives
@@ -65,15 +66,6 @@ const HIGH: [(Call, Told); 5] = [
     (Insert(5, 5), Done),
 ];
 
-#[test]
-fn a_distributed_array_gives_its_pairs_to_others(rt: HostRuntime) {
-    let mut low: Array<u64, u64> = Array::new_frozen();
-    let mut high: Array<u64, u64> = Array::new_frozen();
-    let told = deal(&mut mixed(), &mut low, &mut high);
-    let others = (first_other(&mut low, &LOW), first_other(&mut high, &HIGH));
-    assert!(rt; told == ((15, 6, false), 0) && others == (None, None));
-}
-
 const GONE: Told = Removed(RemoveResult::Success);
 
 const DEALT_OUT: [(Call, Told); 13] = [
@@ -93,12 +85,17 @@ const DEALT_OUT: [(Call, Told); 13] = [
 ];
 
 #[test]
-fn a_distributed_array_stays_as_it_was_and_frozen(rt: HostRuntime) {
+fn a_distributed_array_gives_its_pairs_to_others_and_stays_frozen(rt: HostRuntime) {
     let mut old = mixed();
-    if !old.is_frozen() {
-        let _ = old.distribute(|_, _, _| true, |_, _, _, _| {});
-    }
-    assert!(rt; first_other(&mut old, &DEALT_OUT).is_none());
+    let mut low: Array<u64, u64> = Array::new_frozen();
+    let mut high: Array<u64, u64> = Array::new_frozen();
+    let dealt = deal(&mut old, &mut low, &mut high) == ((15, 6, false), 0);
+    let others = [
+        first_other(&mut low, &LOW),
+        first_other(&mut high, &HIGH),
+        first_other(&mut old, &DEALT_OUT),
+    ];
+    assert!(rt; dealt && others == [None; 3]);
 }
 
 const CHANGED: [(Call, Told); 2] = [
@@ -123,7 +120,7 @@ fn a_showing_tells_removed_pairs_from_others(rt: HostRuntime) {
             Ok(())
         },
     );
-    assert!(rt; (other, shown.is_ok(), gone, there) == (None, true, 1, 6));
+    assert!(rt; other.is_none() && shown.is_ok() && gone == 1 && there == 6);
 }
 
 #[test]
@@ -137,7 +134,7 @@ fn a_refused_preparation_distributes_nothing(rt: HostRuntime) {
             |_, _, _, _| dealt = dealt.saturating_add(1),
         );
     }
-    assert!(rt; (done, dealt, array.is_frozen()) == (false, 0, true));
+    assert!(rt; !done && dealt == 0 && array.is_frozen());
 }
 
 // The conditions and functions of this test and the next may be called at numbers up to 5 alone, so each call
@@ -145,12 +142,11 @@ fn a_refused_preparation_distributes_nothing(rt: HostRuntime) {
 #[test]
 fn what_may_be_called_at_few_values_serves(rt: HostRuntime) {
     let mut frozen: Array<u64, u64> = Array::new_frozen();
-    let kept = frozen.remove_if(&1, |val| 5 - *val > 2);
+    let kept = frozen.remove_if(&1, lacks_three);
     let mut array: Array<u64, u64> = Array::new();
-    let absent = array.remove_if(&1, |val| 5 - *val > 2);
+    let absent = array.remove_if(&1, lacks_three);
     let folded = array.fold(7, |made, key, _| made + (5 - *key));
-    assert!(rt; (kept, absent) == (RemoveResult::Frozen, RemoveResult::Fail));
-    assert!(rt; folded == 7);
+    assert!(rt; kept == RemoveResult::Frozen && absent == RemoveResult::Fail && folded == 7);
 }
 
 #[test]
@@ -166,7 +162,7 @@ fn what_may_be_shown_few_slots_serves(rt: HostRuntime) {
         },
     );
     let dealt = array.distribute(|_, len, _| 5 - len < 5, |_, _, _, place| left = 5 - place);
-    assert!(rt; (shown.is_ok(), dealt, left) == (true, false, 0));
+    assert!(rt; shown.is_ok() && !dealt && left == 0);
 }
 
 /// The slots that are shown where the array isn't frozen, and where it is, each a hexadecimal digit.
@@ -184,9 +180,9 @@ fn shown_slots(array: &Array<u64, u64>) -> (u64, u64) {
 #[test]
 fn reachable_slots_are_shown_rising(rt: HostRuntime) {
     let mut array = holding(&[10, 20, 30, 40, 50]);
-    let gone = array.remove_if(&20, |_| true);
+    let gone = make(&mut array, Remove(20)) == GONE;
     // slot 2 had the removed pair
-    assert!(rt; gone == RemoveResult::Success && shown_slots(&array) == (0x135, 0));
+    assert!(rt; gone && shown_slots(&array) == (0x135, 0));
 }
 
 #[test]
@@ -201,17 +197,17 @@ fn the_first_error_ends_a_showing(rt: HostRuntime) {
         },
     );
     let unasked = array.for_each_all(|_, _| false, |slot, _, _, _| Err(slot));
-    assert!(rt; (shown.err(), calls, unasked.is_ok()) == (Some(2), 2, true));
+    assert!(rt; shown.err() == Some(2) && calls == 2 && unasked.is_ok());
 }
 
 #[test]
 fn a_fold_goes_through_the_pairs_by_key(rt: HostRuntime) {
-    let mut array = reversed(&[1, 2, 3, 4]);
-    let gone = array.remove_if(&3, |_| true);
+    let mut array = holding(&[4, 3, 2, 1]);
+    let gone = make(&mut array, Remove(3)) == GONE;
     let digits = array.fold(0u64, |made, key, val| {
         made.wrapping_mul(100)
             .wrapping_add(key.wrapping_mul(10))
             .wrapping_add(*val)
     });
-    assert!(rt; gone == RemoveResult::Success && digits == 112244);
+    assert!(rt; gone && digits == 112244);
 }

@@ -1,12 +1,55 @@
-//! Calls of a tree and of its cursors as data, so that a test of many calls is a table: each call with what it answers.
+//! Calls of trees as data, so that a test of many calls is a table: each call with what it answers.
 
-use super::tree_of;
+use super::index::{lose_a_third, take_stirred, upsert_in_rounds, upsert_stirred};
+use super::shrink::{go_through, has_few_leaves, shrink, stir_often};
+use super::{Tree, leaf_at};
 use std::alloc::Global;
+use std::mem;
 use std::ops::Bound;
-use std::process::Abort;
-use tree_index::{InsertRefused, Iter, Range, TreeIndex};
+use tree_index::{InsertRefused, TreeIndex};
 
-/// A call of a tree of numbers.
+/// A pair for each number: its key is `number * factor + shift`, of which the remainder by `modulus` is taken where that
+/// isn't 0, and its value is `number * val_factor + val_shift`. All wrap round.
+#[derive(Clone, Copy)]
+pub(super) struct Pairs {
+    pub(super) factor: u64,
+    pub(super) shift: u64,
+    pub(super) modulus: u64,
+    pub(super) val_factor: u64,
+    pub(super) val_shift: u64,
+}
+
+/// Each number with its complement.
+pub(super) const EACH: Pairs = Pairs {
+    factor: 1,
+    shift: 0,
+    modulus: 0,
+    val_factor: u64::MAX,
+    val_shift: u64::MAX,
+};
+
+/// The even numbers, each with the number behind it.
+pub(super) const EVENS: Pairs = Pairs {
+    factor: 2,
+    shift: 0,
+    modulus: 0,
+    val_factor: 2,
+    val_shift: 1,
+};
+
+/// The pair of a number.
+pub(super) fn pair_of(pairs: Pairs, number: u64) -> (u64, u64) {
+    let along = number.wrapping_mul(pairs.factor).wrapping_add(pairs.shift);
+    let key = if pairs.modulus == 0 {
+        along
+    } else {
+        along % pairs.modulus
+    };
+    let val = number.wrapping_mul(pairs.val_factor);
+    (key, val.wrapping_add(pairs.val_shift))
+}
+
+/// A call of a tree of numbers, which has another beside it.
 #[derive(Clone, Copy)]
 pub(super) enum Call {
     Insert(u64, u64),
@@ -16,20 +59,40 @@ pub(super) enum Call {
     RemoveIf(u64, u64),
     RemoveRange(Bound<u64>, Bound<u64>),
     Clear,
-    /// Of the keys from one on up to below another: whether each is inserted with its complement, whether the tree has
-    /// this depth after each of these insertions besides, and whether each is removed.
-    Fill(u64, u64),
-    Grow(u64, u64, usize),
-    Lose(u64, u64),
-    /// Whether each of these keys is there with its complement, and whether none of them is there.
-    Holds(u64, u64),
-    Lacks(u64, u64),
+    /// Of the pairs of the numbers from one on up to below another: whether each is inserted, is inserted and found, is
+    /// upserted, and is removed.
+    Take(Pairs, u64, u64),
+    Fill(Pairs, u64, u64),
+    UpsertAll(Pairs, u64, u64),
+    Lose(Pairs, u64, u64),
+    /// Whether each of these pairs is there, and whether the key of none of them is there.
+    Holds(Pairs, u64, u64),
+    Lacks(Pairs, u64, u64),
+    /// Runs of many calls, which tell whether all was as it has to be.
+    TakeStirred,
+    LoseAThird,
+    UpsertStirred,
+    UpsertInRounds,
+    Shrink(u64),
+    GoThrough,
+    StirOften,
+    FillBoth,
+    /// The other tree becomes a clone of this one, or the two change places; and whether they are equal.
+    Copy,
+    Swap,
+    Equal,
     Len,
     IsEmpty,
     Depth,
+    /// Whether the tree has more levels than this.
+    IsDeeper(usize),
+    /// Whether there are so many leaves at most, none with a number above the first of the two.
+    HasFewLeaves(usize, usize),
+    /// Whether the leaf of a key has fifteen pairs in fifteen places, and has lost none.
+    HasFullLeaf(u64),
     Peek(u64),
     PeekEntry(u64),
-    /// The pair that a closure was shown.
+    /// The pair that a function was shown.
     PeekWith(u64),
     ReadSync(u64),
     Contains(u64),
@@ -53,14 +116,22 @@ pub(super) enum Told {
     Pair(Option<(u64, u64)>),
 }
 
-pub(super) fn read(pair: Option<(&u64, &u64)>) -> Option<(u64, u64)> {
+/// A pair that is lent, if there is one.
+pub(super) type Seen = Option<(u64, u64)>;
+
+pub(super) fn read(pair: Option<(&u64, &u64)>) -> Seen {
     match pair {
         Some((key, val)) => Some((*key, *val)),
         None => None,
     }
 }
 
-fn insert(tree: &mut TreeIndex<u64, u64>, key: u64, val: u64) -> Told {
+/// The pair that a function is shown.
+pub(super) fn shown(key: &u64, val: &u64) -> (u64, u64) {
+    (*key, *val)
+}
+
+fn insert(tree: &mut Tree, key: u64, val: u64) -> Told {
     match tree.insert_sync(key, val) {
         Ok(()) => Told::Done,
         Err(InsertRefused::Duplicate(key, val)) => Told::Duplicate(key, val),
@@ -68,232 +139,210 @@ fn insert(tree: &mut TreeIndex<u64, u64>, key: u64, val: u64) -> Told {
     }
 }
 
-fn upsert(tree: &mut TreeIndex<u64, u64>, key: u64, val: u64) -> Told {
+fn upsert(tree: &mut Tree, key: u64, val: u64) -> Told {
     match tree.upsert_sync(key, val) {
         Ok(()) => Told::Done,
         Err((key, val)) => Told::NoMemory(key, val),
     }
 }
 
-fn remove_range(tree: &mut TreeIndex<u64, u64>, lower: Bound<u64>, upper: Bound<u64>) -> Told {
-    tree.remove_range_sync(lower.as_ref(), upper.as_ref());
-    Told::Done
-}
-
-fn clear(tree: &mut TreeIndex<u64, u64>) -> Told {
-    tree.clear();
-    Told::Done
-}
-
-fn count_within(tree: &TreeIndex<u64, u64>, lower: Bound<u64>, upper: Bound<u64>) -> Told {
-    Told::Number(tree.range(lower.as_ref(), upper.as_ref()).count())
+/// Whether the leaf of a key has fifteen pairs in fifteen places, and has lost none.
+fn has_full_leaf(tree: &Tree, key: u64) -> bool {
+    match leaf_at(tree, key) {
+        Some(leaf) => {
+            let sizes = (leaf.array.len(), leaf.array.used());
+            sizes == (15, 15) && leaf.array.last_removed().is_none()
+        }
+        None => false,
+    }
 }
 
 /// A call that changes nothing.
-fn look(tree: &TreeIndex<u64, u64>, call: Call) -> Told {
+fn look(tree: &Tree, call: Call) -> Told {
     match call {
         Call::IsEmpty => Told::Is(tree.is_empty()),
         Call::Depth => Told::Number(tree.depth()),
+        Call::IsDeeper(than) => Told::Is(tree.depth() > than),
+        Call::HasFewLeaves(number, most) => Told::Is(has_few_leaves(tree, number, most)),
+        Call::HasFullLeaf(key) => Told::Is(has_full_leaf(tree, key)),
         Call::Peek(key) => Told::Val(tree.peek(&key).copied()),
         Call::PeekEntry(key) => Told::Pair(read(tree.peek_entry(&key))),
-        Call::PeekWith(key) => Told::Pair(tree.peek_with(&key, |key, val| (*key, *val))),
-        Call::ReadSync(key) => Told::Pair(tree.read_sync(&key, |key, val| (*key, *val))),
+        Call::PeekWith(key) => Told::Pair(tree.peek_with(&key, shown)),
+        Call::ReadSync(key) => Told::Pair(tree.read_sync(&key, shown)),
         Call::Contains(key) => Told::Is(tree.contains(&key)),
-        Call::Holds(first, last) => Told::Is(holds(tree, first, last)),
-        Call::Lacks(first, last) => Told::Is(lacks(tree, first, last)),
+        Call::Holds(pairs, first, last) => Told::Is(holds(tree, pairs, first, last)),
+        Call::Lacks(pairs, first, last) => Told::Is(lacks(tree, pairs, first, last)),
         Call::Count => Told::Number(tree.iter().count()),
-        Call::CountWithin(lower, upper) => count_within(tree, lower, upper),
+        Call::CountWithin(lower, upper) => Told::Number(
+            tree.range(lower.as_ref(), upper.as_ref()).count(),
+        ),
         Call::First => Told::Pair(read(tree.iter().next())),
         Call::Last => Told::Pair(read(tree.iter().next_back())),
         _ => Told::Number(tree.len()),
     }
 }
 
-/// Makes a call.
-pub(super) fn make(tree: &mut TreeIndex<u64, u64>, call: Call) -> Told {
+/// Many calls of one tree, and whether all was as it has to be.
+fn run(tree: &mut Tree, call: Call) -> Told {
+    match call {
+        Call::Take(pairs, first, last) => Told::Is(take(tree, pairs, first, last)),
+        Call::Fill(pairs, first, last) => Told::Is(fill(tree, pairs, first, last)),
+        Call::UpsertAll(pairs, first, last) => Told::Is(upsert_all(tree, pairs, first, last)),
+        Call::Lose(pairs, first, last) => Told::Is(lose(tree, pairs, first, last)),
+        Call::TakeStirred => Told::Is(take_stirred(tree)),
+        Call::LoseAThird => Told::Is(lose_a_third(tree)),
+        Call::UpsertStirred => Told::Is(upsert_stirred(tree)),
+        Call::UpsertInRounds => Told::Is(upsert_in_rounds(tree)),
+        Call::Shrink(step) => Told::Is(shrink(tree, step)),
+        Call::GoThrough => Told::Is(go_through(tree)),
+        Call::StirOften => Told::Is(stir_often(tree)),
+        _ => look(tree, call),
+    }
+}
+
+/// Makes a call of one tree.
+pub(super) fn make(tree: &mut Tree, call: Call) -> Told {
     match call {
         Call::Insert(key, val) => insert(tree, key, val),
         Call::Upsert(key, val) => upsert(tree, key, val),
         Call::Remove(key) => Told::Is(tree.remove_sync(&key)),
         Call::RemoveIf(key, wanted) => Told::Is(tree.remove_if_sync(&key, |val| *val == wanted)),
-        Call::RemoveRange(lower, upper) => remove_range(tree, lower, upper),
-        Call::Clear => clear(tree),
-        Call::Fill(first, last) => Told::Is(fill(tree, first, last)),
-        Call::Grow(first, last, depth) => Told::Is(grow(tree, first, last, depth)),
-        Call::Lose(first, last) => Told::Is(lose(tree, first, last)),
-        _ => look(tree, call),
+        Call::RemoveRange(lower, upper) => {
+            tree.remove_range_sync(lower.as_ref(), upper.as_ref());
+            Told::Done
+        }
+        Call::Clear => {
+            tree.clear();
+            Told::Done
+        }
+        _ => run(tree, call),
     }
 }
 
-/// Makes the calls of a table, in order, and tells the place of the first that is answered otherwise.
-pub(super) fn first_other(tree: &mut TreeIndex<u64, u64>, rows: &[(Call, Told)]) -> Option<usize> {
+/// Whether two trees are equal, where both comparisons say so.
+pub(super) fn equal(one: &Tree, other: &Tree) -> Told {
+    let same = one == other;
+    if (one != other) == same {
+        return Told::Done;
+    }
+    Told::Is(same)
+}
+
+/// Fills two trees with the keys below 100, rising and falling, and tells whether they are equal at the end alone.
+fn fill_both(rising: &mut Tree, falling: &mut Tree) -> bool {
+    let mut as_said = true;
+    for key in 0..100u64 {
+        let risen = fill(rising, EACH, key, key + 1);
+        let fallen = fill(falling, EACH, 99 - key, 100 - key);
+        let same = equal(rising, falling) == Told::Is(key == 99);
+        as_said = risen && fallen && same && as_said;
+    }
+    as_said
+}
+
+fn copy(alloc: Global, tree: &Tree, other: &mut Tree) -> Told {
+    match tree.clone(alloc) {
+        Ok(made) => {
+            *other = made;
+            Told::Done
+        },
+        Err(_) => Told::Is(false),
+    }
+}
+
+/// Makes a call of a tree, or of both.
+fn make_of_two(alloc: Global, tree: &mut Tree, other: &mut Tree, call: Call) -> Told {
+    match call {
+        Call::Copy => copy(alloc, tree, other),
+        Call::Swap => {
+            mem::swap(tree, other);
+            Told::Done
+        }
+        Call::Equal => equal(tree, other),
+        Call::FillBoth => Told::Is(fill_both(tree, other)),
+        _ => make(tree, call),
+    }
+}
+
+/// Makes the calls of a table on two new trees, in order, and tells the place of the first that is answered otherwise.
+pub(super) fn first_other(alloc: Global, rows: &[(Call, Told)]) -> Option<usize> {
+    let mut tree: Tree = TreeIndex::new(alloc);
+    let mut other: Tree = TreeIndex::new(alloc);
     for at in 0..rows.len() {
         let (call, wanted) = rows[at];
-        if make(tree, call) != wanted {
+        if make_of_two(alloc, &mut tree, &mut other, call) != wanted {
             return Some(at);
         }
     }
     None
-}
-
-/// The same of a tree with these pairs.
-fn first_other_of(alloc: Global, pairs: &[(u64, u64)], rows: &[(Call, Told)]) -> Option<usize> {
-    first_other(&mut tree_of(alloc, pairs), rows)
-}
-
-/// Plays a table on a tree with these pairs.
-pub(super) fn play_on<R: Abort>(
-    rt: &R,
-    alloc: Global,
-    pairs: &[(u64, u64)],
-    rows: &[(Call, Told)],
-) {
-    assert_eq!(rt; first_other_of(alloc, pairs, rows), None);
-}
-
-/// Plays a table on a new tree.
-pub(super) fn on_a_tree<R: Abort>(rt: &R, alloc: Global, rows: &[(Call, Told)]) {
-    play_on(rt, alloc, &[], rows);
 }
 
 /// The value of a key.
-pub(super) fn val_of(tree: &TreeIndex<u64, u64>, key: u64) -> Option<u64> {
+pub(super) fn val_of(tree: &Tree, key: u64) -> Option<u64> {
     tree.peek(&key).copied()
 }
 
-/// Inserts the keys from one on up to below another, each with its complement, and tells whether each was taken.
-pub(super) fn fill(tree: &mut TreeIndex<u64, u64>, first: u64, last: u64) -> bool {
+/// Inserts the pairs of the numbers from one on up to below another, and tells whether each was taken.
+fn take(tree: &mut Tree, pairs: Pairs, first: u64, last: u64) -> bool {
     let mut taken = true;
-    for key in first..last {
-        taken = insert(tree, key, !key) == Told::Done && taken;
+    for number in first..last {
+        let (key, val) = pair_of(pairs, number);
+        taken = tree.insert_sync(key, val).is_ok() && taken;
     }
     taken
 }
 
-/// The same where the tree has this depth after each insertion.
-fn grow(tree: &mut TreeIndex<u64, u64>, first: u64, last: u64, depth: usize) -> bool {
+/// Inserts these pairs, and tells whether each was taken, is there then, and left as many levels at least as there were.
+pub(super) fn fill(tree: &mut Tree, pairs: Pairs, first: u64, last: u64) -> bool {
     let mut taken = true;
-    for key in first..last {
-        let done = insert(tree, key, !key) == Told::Done;
-        taken = done && tree.depth() == depth && taken;
+    for number in first..last {
+        let (key, val) = pair_of(pairs, number);
+        let depth = tree.depth();
+        let done = tree.insert_sync(key, val).is_ok();
+        let there = val_of(tree, key) == Some(val) && tree.depth() >= depth;
+        taken = done && there && taken;
     }
     taken
 }
 
-/// Removes these keys, and tells whether each was there.
-pub(super) fn lose(tree: &mut TreeIndex<u64, u64>, first: u64, last: u64) -> bool {
+/// Upserts these pairs, and tells whether each was taken, and is there then.
+pub(super) fn upsert_all(tree: &mut Tree, pairs: Pairs, first: u64, last: u64) -> bool {
+    let mut taken = true;
+    for number in first..last {
+        let (key, val) = pair_of(pairs, number);
+        let done = tree.upsert_sync(key, val).is_ok();
+        taken = val_of(tree, key) == Some(val) && done && taken;
+    }
+    taken
+}
+
+/// Removes these pairs, and tells whether each was there.
+pub(super) fn lose(tree: &mut Tree, pairs: Pairs, first: u64, last: u64) -> bool {
     let mut there = true;
-    for key in first..last {
-        there = tree.remove_sync(&key) && there;
+    for number in first..last {
+        let (key, val) = pair_of(pairs, number);
+        let found = val_of(tree, key) == Some(val);
+        there = tree.remove_sync(&key) && found && there;
     }
     there
 }
 
-/// Whether the keys from one on up to below another are there, each with its complement.
-pub(super) fn holds(tree: &TreeIndex<u64, u64>, first: u64, last: u64) -> bool {
+/// Whether these pairs are there.
+pub(super) fn holds(tree: &Tree, pairs: Pairs, first: u64, last: u64) -> bool {
     let mut there = true;
-    for key in first..last {
-        there = val_of(tree, key) == Some(!key) && there;
+    for number in first..last {
+        let (key, val) = pair_of(pairs, number);
+        there = val_of(tree, key) == Some(val) && there;
     }
     there
 }
 
-/// Whether none of the keys from one on up to below another is there.
-fn lacks(tree: &TreeIndex<u64, u64>, first: u64, last: u64) -> bool {
+/// Whether none of their keys is there.
+fn lacks(tree: &Tree, pairs: Pairs, first: u64, last: u64) -> bool {
     let mut absent = true;
-    for key in first..last {
+    for number in first..last {
+        let (key, _) = pair_of(pairs, number);
         absent = !tree.contains(&key) && absent;
     }
     absent
-}
-
-/// A call of a cursor.
-#[derive(Clone, Copy)]
-pub(super) enum Step {
-    Next,
-    NextBack,
-    /// Told as (0, 0) where it turned.
-    Flip,
-    Get,
-    GetBack,
-}
-
-/// What a call of a cursor tells.
-pub(super) type Seen = Option<(u64, u64)>;
-
-fn turned(flipped: bool) -> Seen {
-    if flipped { Some((0, 0)) } else { None }
-}
-
-/// Takes a step of a cursor.
-pub(super) fn take(iter: &mut Iter<'_, u64, u64>, step: Step) -> Seen {
-    match step {
-        Step::Next => read(iter.next()),
-        Step::NextBack => read(iter.next_back()),
-        Step::Flip => turned(iter.flip()),
-        Step::Get => read(iter.get()),
-        Step::GetBack => read(iter.get_back()),
-    }
-}
-
-/// Takes a step of a range.
-pub(super) fn take_within(range: &mut Range<'_, u64, u64>, step: Step) -> Seen {
-    match step {
-        Step::Next => read(range.next()),
-        Step::NextBack => read(range.next_back()),
-        Step::Flip => turned(range.flip()),
-        Step::Get => read(range.get()),
-        Step::GetBack => read(range.get_back()),
-    }
-}
-
-/// Takes the steps of a table, in order, and tells the place of the first that tells something else.
-pub(super) fn first_other_step(
-    iter: &mut Iter<'_, u64, u64>,
-    rows: &[(Step, Seen)],
-) -> Option<usize> {
-    for at in 0..rows.len() {
-        let (one, wanted) = rows[at];
-        if take(iter, one) != wanted {
-            return Some(at);
-        }
-    }
-    None
-}
-
-pub(super) fn first_other_within(
-    range: &mut Range<'_, u64, u64>,
-    rows: &[(Step, Seen)],
-) -> Option<usize> {
-    for at in 0..rows.len() {
-        let (one, wanted) = rows[at];
-        if take_within(range, one) != wanted {
-            return Some(at);
-        }
-    }
-    None
-}
-
-/// The same along a cursor over these pairs.
-fn first_other_along(alloc: Global, pairs: &[(u64, u64)], rows: &[(Step, Seen)]) -> Option<usize> {
-    first_other_step(&mut tree_of(alloc, pairs).iter(), rows)
-}
-
-/// Takes the steps of a table along a cursor over these pairs.
-pub(super) fn walk<R: Abort>(rt: &R, alloc: Global, pairs: &[(u64, u64)], rows: &[(Step, Seen)]) {
-    assert_eq!(rt; first_other_along(alloc, pairs, rows), None);
-}
-
-/// Takes the steps of a table along a range of these pairs.
-pub(super) fn walk_within<R: Abort>(
-    rt: &R,
-    alloc: Global,
-    pairs: &[(u64, u64)],
-    bounds: (Bound<u64>, Bound<u64>),
-    rows: &[(Step, Seen)],
-) {
-    let tree = tree_of(alloc, pairs);
-    let mut range = tree.range(bounds.0.as_ref(), bounds.1.as_ref());
-    let other = first_other_within(&mut range, rows);
-    assert_eq!(rt; other, None);
 }

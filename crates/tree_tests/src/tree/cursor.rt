@@ -1,16 +1,73 @@
 //! Cursors by example, and beside a plain machine over a list.
 
-use super::calls::Call::{Clear, CountWithin};
-use super::calls::Step::{Flip, Get, GetBack, Next, NextBack};
-use super::calls::Told::{Done, Number};
-use super::calls::{
-    Call, Seen, Step, Told, first_other_step, first_other_within, make, play_on, read, take,
-    take_within, val_of, walk, walk_within,
-};
-use super::{stirred, tree_of};
+use self::Step::{Flip, Get, GetBack, Next, NextBack};
+use super::calls::Call::{CountWithin, Fill};
+use super::calls::Told::{Is, Number};
+use super::calls::{Call, Pairs, Seen, Told, read, val_of};
+use super::removal::{is_from, is_up_to};
+use super::{Tree, tree_of};
+use crate::numbers::stirred;
 use std::alloc::{AllocError, Global};
 use std::ops::Bound;
 use tree_index::{Iter, Proximity, Range, TreeIndex};
+
+/// A call of a cursor.
+#[derive(Clone, Copy)]
+enum Step {
+    Next,
+    NextBack,
+    /// Told as (0, 0) where it turned.
+    Flip,
+    Get,
+    GetBack,
+}
+
+fn turned(flipped: bool) -> Seen {
+    if flipped { Some((0, 0)) } else { None }
+}
+
+/// Takes a step of a cursor.
+fn take(iter: &mut Iter<'_, u64, u64>, step: Step) -> Seen {
+    match step {
+        Next => read(iter.next()),
+        NextBack => read(iter.next_back()),
+        Flip => turned(iter.flip()),
+        Get => read(iter.get()),
+        GetBack => read(iter.get_back()),
+    }
+}
+
+/// Takes a step of a range.
+fn take_within(range: &mut Range<'_, u64, u64>, step: Step) -> Seen {
+    match step {
+        Next => read(range.next()),
+        NextBack => read(range.next_back()),
+        Flip => turned(range.flip()),
+        Get => read(range.get()),
+        GetBack => read(range.get_back()),
+    }
+}
+
+/// Takes the steps of a table, in order, and tells the place of the first that tells something else.
+fn first_other_step(iter: &mut Iter<'_, u64, u64>, rows: &[(Step, Seen)]) -> Option<usize> {
+    for at in 0..rows.len() {
+        let (one, wanted) = rows[at];
+        if take(iter, one) != wanted {
+            return Some(at);
+        }
+    }
+    None
+}
+
+fn first_other_within(range: &mut Range<'_, u64, u64>, rows: &[(Step, Seen)]) -> Option<usize> {
+    for at in 0..rows.len() {
+        let (one, wanted) = rows[at];
+        if take_within(range, one) != wanted {
+            return Some(at);
+        }
+    }
+    None
+}
 
 // Steps through three pairs with the keys 1 to 3, each with the value 2.
 const TURNS: [(Step, Seen); 9] = [
@@ -25,21 +82,6 @@ const TURNS: [(Step, Seen); 9] = [
     (Flip, None),
 ];
 
-const THREE: [(u64, u64); 3] = [(1, 2), (2, 2), (3, 2)];
-
-#[test]
-fn both_ends_go_through_three_pairs(rt: HostRuntime) {
-    walk(&rt, rt.alloc(), &THREE, &TURNS);
-}
-
-const FOUR: [(u64, u64); 4] = [(1, 2), (2, 2), (3, 2), (4, 2)];
-
-#[test]
-fn a_range_flips_at_its_bounds(rt: HostRuntime) {
-    let bounds = (Bound::Included(1), Bound::Excluded(4));
-    walk_within(&rt, rt.alloc(), &FOUR, bounds, &TURNS);
-}
-
 const UNTIL_IT_IS_DONE: [(Step, Seen); 7] = [
     (Next, Some((1, 2))),
     (Next, Some((2, 2))),
@@ -50,9 +92,27 @@ const UNTIL_IT_IS_DONE: [(Step, Seen); 7] = [
     (NextBack, None),
 ];
 
+const THREE: [(u64, u64); 3] = [(1, 2), (2, 2), (3, 2)];
+
+const FOUR: [(u64, u64); 4] = [(1, 2), (2, 2), (3, 2), (4, 2)];
+
+/// The place of the first step along a cursor over these pairs that tells something else.
+fn first_other_along(alloc: Global, pairs: &[(u64, u64)], rows: &[(Step, Seen)]) -> Option<usize> {
+    first_other_step(&mut tree_of(alloc, pairs).iter(), rows)
+}
+
+/// The same along a range of four pairs, which flips at its bounds.
+fn first_other_of_four(alloc: Global) -> Option<usize> {
+    let tree = tree_of(alloc, &FOUR);
+    let mut range = tree.range(Bound::Included(&1), Bound::Excluded(&4));
+    first_other_within(&mut range, &TURNS)
+}
+
 #[test]
-fn a_cursor_that_is_done_stays_at_none(rt: HostRuntime) {
-    walk(&rt, rt.alloc(), &THREE, &UNTIL_IT_IS_DONE);
+fn both_ends_go_through_three_pairs(rt: HostRuntime) {
+    let turned = first_other_along(rt.alloc(), &THREE, &TURNS);
+    let done = first_other_along(rt.alloc(), &THREE, &UNTIL_IT_IS_DONE);
+    assert!(rt; [turned, done, first_other_of_four(rt.alloc())] == [None; 3]);
 }
 
 const DOUBLING: [(u64, u64); 4] = [(1, 2), (2, 3), (4, 6), (8, 12)];
@@ -70,23 +130,18 @@ const AT_ITS_END: [(Step, Seen); 4] = [
 ];
 
 /// The first step of each of these that tells something else.
-fn within_and_beyond(tree: &TreeIndex<u64, u64>) -> [Option<usize>; 3] {
+fn within_and_beyond(tree: &Tree) -> [Option<usize>; 3] {
     let mut range = tree.range(Bound::Included(&3), Bound::Included(&4));
     let within = first_other_within(&mut range, &WITHIN);
     let beyond = first_other_step(&mut Iter::from(range.clone()), &BEYOND);
     [within, beyond, first_other_within(&mut range, &AT_ITS_END)]
 }
 
-#[test]
-fn a_range_keeps_to_its_bounds(rt: HostRuntime) {
-    assert!(rt; within_and_beyond(&tree_of(rt.alloc(), &DOUBLING)) == [None; 3]);
-}
-
 /// How many pairs at most are taken from 2 on, and how many come.
 const TAKEN: [(usize, usize); 4] = [(0, 0), (2, 2), (3, 3), (9, 3)];
 
 /// The place of the first row of which another number comes.
-fn first_other_count(tree: &TreeIndex<u64, u64>) -> Option<usize> {
+fn first_other_count(tree: &Tree) -> Option<usize> {
     for at in 0..TAKEN.len() {
         let (count, given) = TAKEN[at];
         let range = tree.range(Bound::Included(&2), Bound::Unbounded);
@@ -98,32 +153,31 @@ fn first_other_count(tree: &TreeIndex<u64, u64>) -> Option<usize> {
 }
 
 /// Two steps of a cursor that gives one pair, and one behind all pairs.
-fn taken_one(tree: &TreeIndex<u64, u64>) -> [Seen; 3] {
+fn taken_one(tree: &Tree) -> [Seen; 3] {
     let mut first = tree.iter().take(1);
     let mut beyond = tree.range(Bound::Excluded(&8), Bound::Unbounded).take(1);
     [read(first.next()), read(first.next()), read(beyond.next())]
 }
 
 #[test]
-fn a_cursor_gives_no_more_pairs_than_are_taken(rt: HostRuntime) {
+fn a_range_keeps_to_its_bounds_and_to_what_is_taken(rt: HostRuntime) {
     let tree = tree_of(rt.alloc(), &DOUBLING);
-    let found = (first_other_count(&tree), taken_one(&tree));
-    assert!(rt; found == (None, [Some((1, 2)), None, None]));
+    let kept = within_and_beyond(&tree) == [None; 3] && first_other_count(&tree).is_none();
+    assert!(rt; kept && taken_one(&tree) == [Some((1, 2)), None, None]);
 }
 
-const NINE: [(u64, u64); 9] = [
-    (1, 1),
-    (2, 2),
-    (3, 3),
-    (4, 4),
-    (5, 5),
-    (6, 6),
-    (7, 7),
-    (8, 8),
-    (9, 9),
-];
+// Each number with itself.
+const ALIKE: Pairs = Pairs {
+    factor: 1,
+    shift: 0,
+    modulus: 0,
+    val_factor: 1,
+    val_shift: 0,
+};
 
-const COUNTS: [(Call, Told); 4] = [
+/// An excluded bound is left out.
+pub(super) const COUNTS: [(Call, Told); 5] = [
+    (Fill(ALIKE, 1, 10), Is(true)),
     (
         CountWithin(Bound::Included(1), Bound::Excluded(1)),
         Number(0),
@@ -138,11 +192,6 @@ const COUNTS: [(Call, Told); 4] = [
     ),
     (CountWithin(Bound::Excluded(4), Bound::Unbounded), Number(5)),
 ];
-
-#[test]
-fn an_excluded_bound_is_left_out(rt: HostRuntime) {
-    play_on(&rt, rt.alloc(), &NINE, &COUNTS);
-}
 
 /// An end of the plain machine.
 #[derive(Clone, Copy, PartialEq)]
@@ -163,25 +212,9 @@ struct Plain<'l> {
 }
 
 impl<'l> Plain<'l> {
-    fn is_from_start(&self, key: u64) -> bool {
-        match self.lower {
-            Bound::Included(low) => low <= key,
-            Bound::Excluded(low) => low < key,
-            Bound::Unbounded => true,
-        }
-    }
-
-    fn is_up_to_end(&self, key: u64) -> bool {
-        match self.upper {
-            Bound::Included(high) => key <= high,
-            Bound::Excluded(high) => key < high,
-            Bound::Unbounded => true,
-        }
-    }
-
     fn first_within(&self) -> Option<usize> {
         for (place, pair) in self.pairs.iter().enumerate() {
-            if self.is_from_start(pair.0) {
+            if is_from(self.lower, pair.0) {
                 return Some(place);
             }
         }
@@ -191,7 +224,7 @@ impl<'l> Plain<'l> {
     fn last_within(&self) -> Option<usize> {
         let mut last = None;
         for (place, pair) in self.pairs.iter().enumerate() {
-            if self.is_up_to_end(pair.0) {
+            if is_up_to(self.upper, pair.0) {
                 last = Some(place);
             }
         }
@@ -202,7 +235,7 @@ impl<'l> Plain<'l> {
         match self.forward {
             Place::At(place) => {
                 let pair = *self.pairs.get(place)?;
-                if self.is_up_to_end(pair.0) {
+                if is_up_to(self.upper, pair.0) {
                     Some(pair)
                 } else {
                     None
@@ -216,7 +249,7 @@ impl<'l> Plain<'l> {
         match self.backward {
             Place::At(place) => {
                 let pair = *self.pairs.get(place)?;
-                if self.is_from_start(pair.0) {
+                if is_from(self.lower, pair.0) {
                     Some(pair)
                 } else {
                     None
@@ -313,7 +346,7 @@ fn bound_of(seed: u64) -> Bound<u64> {
 }
 
 /// A tree of keys below 300 in no order, of which some were removed again.
-fn thinned(alloc: Global, round: u64, seed: &mut u64) -> TreeIndex<u64, u64> {
+fn thinned(alloc: Global, round: u64, seed: &mut u64) -> Tree {
     let mut tree = TreeIndex::new(alloc);
     for _ in 0..round.wrapping_mul(7) {
         *seed = stirred(*seed);
@@ -329,7 +362,7 @@ fn thinned(alloc: Global, round: u64, seed: &mut u64) -> TreeIndex<u64, u64> {
 }
 
 /// The pairs of a tree of keys below 300, by look-ups.
-fn listed(alloc: Global, tree: &TreeIndex<u64, u64>) -> Result<Vec<(u64, u64)>, AllocError> {
+fn listed(alloc: Global, tree: &Tree) -> Result<Vec<(u64, u64)>, AllocError> {
     let mut pairs = Vec::new(alloc);
     for key in 0..300u64 {
         if let Some(val) = val_of(tree, key) {
@@ -340,7 +373,7 @@ fn listed(alloc: Global, tree: &TreeIndex<u64, u64>) -> Result<Vec<(u64, u64)>, 
 }
 
 /// Whether a random range answers a random number of random steps as the plain machine does.
-fn goes_alike(tree: &TreeIndex<u64, u64>, pairs: &[(u64, u64)], seed: &mut u64) -> bool {
+fn goes_alike(tree: &Tree, pairs: &[(u64, u64)], seed: &mut u64) -> bool {
     *seed = stirred(*seed);
     let lower = bound_of(*seed >> 20);
     let upper = bound_of(*seed >> 40);
@@ -381,14 +414,20 @@ fn random_steps_answer_as_the_plain_machine(rt: HostRuntime) {
 
 /// Where a key stands: 0 at its pair, 1 between two, 2 behind all, 3 before all, 4 in a tree without pairs; and
 /// the pairs at the forward and the backward end, of a pair that is there the first alone.
-fn stands(tree: &TreeIndex<u64, u64>, key: u64) -> (u8, Seen, Seen) {
-    match tree.locate(&key) {
-        Proximity::Exact(iter) => (0, read(iter.get()), None),
-        Proximity::Between(iter) => (1, read(iter.get()), read(iter.get_back())),
-        Proximity::Smaller(iter) => (2, read(iter.get()), read(iter.get_back())),
-        Proximity::Larger(iter) => (3, read(iter.get()), read(iter.get_back())),
-        Proximity::Empty => (4, None, None),
-    }
+fn stands(tree: &Tree, key: u64) -> (u8, Seen, Seen) {
+    let (kind, iter) = match tree.locate(&key) {
+        Proximity::Exact(iter) => (0, iter),
+        Proximity::Between(iter) => (1, iter),
+        Proximity::Smaller(iter) => (2, iter),
+        Proximity::Larger(iter) => (3, iter),
+        Proximity::Empty => return (4, None, None),
+    };
+    let back = if kind == 0 {
+        None
+    } else {
+        read(iter.get_back())
+    };
+    (kind, read(iter.get()), back)
 }
 
 const ODD: [(u64, u64); 4] = [(1, 1), (3, 2), (5, 3), (7, 4)];
@@ -401,7 +440,7 @@ const PLACES: [(u64, (u8, Seen, Seen)); 4] = [
 ];
 
 /// The place of the first row whose key stands somewhere else.
-fn first_other_place(tree: &TreeIndex<u64, u64>) -> Option<usize> {
+fn first_other_place(tree: &Tree) -> Option<usize> {
     for at in 0..PLACES.len() {
         let (key, place) = PLACES[at];
         if stands(tree, key) != place {
@@ -411,16 +450,8 @@ fn first_other_place(tree: &TreeIndex<u64, u64>) -> Option<usize> {
     None
 }
 
-#[test]
-fn locate_finds_a_pair_or_its_neighbours(rt: HostRuntime) {
-    let mut tree = tree_of(rt.alloc(), &ODD);
-    let other = first_other_place(&tree);
-    let cleared = make(&mut tree, Clear) == Done;
-    assert!(rt; cleared && (other, stands(&tree, 3)) == (None, (4, None, None)));
-}
-
 /// What the steps of a cursor tell that stands between two pairs.
-fn between(tree: &TreeIndex<u64, u64>, key: u64) -> [Seen; 4] {
+fn between(tree: &Tree, key: u64) -> [Seen; 4] {
     match tree.locate(&key) {
         Proximity::Between(mut iter) => [
             take(&mut iter, Next),
@@ -433,7 +464,10 @@ fn between(tree: &TreeIndex<u64, u64>, key: u64) -> [Seen; 4] {
 }
 
 #[test]
-fn a_cursor_between_two_pairs_goes_over_them(rt: HostRuntime) {
-    let told = between(&tree_of(rt.alloc(), &ODD), 2);
-    assert!(rt; told == [None, Some((3, 2)), None, Some((1, 1))]);
+fn locate_finds_a_pair_or_its_neighbours(rt: HostRuntime) {
+    let mut tree = tree_of(rt.alloc(), &ODD);
+    let other = first_other_place(&tree);
+    let over = between(&tree, 2) == [None, Some((3, 2)), None, Some((1, 1))];
+    tree.clear();
+    assert!(rt; over && other.is_none() && stands(&tree, 3) == (4, None, None));
 }

@@ -1,7 +1,8 @@
 //! Leaves and their cursors by example.
 
-use super::calls::{Seen, fill, lose, read};
-use super::{leaf_at, stirred};
+use super::calls::{EACH, EVENS, Pairs, Seen, fill, lose, pair_of, read};
+use super::{Tree, leaf_at};
+use crate::numbers::{always, stirred};
 use leaf_array::{InsertResult, RemoveResult};
 use std::alloc::{AllocError, Global};
 use tree_index::TreeIndex;
@@ -17,17 +18,17 @@ fn add(leaf: &mut Leaf<u64, u64>, key: u64, val: u64) -> bool {
 
 /// Removes the pair with this key, and tells whether it was there.
 fn drop_key(leaf: &mut Leaf<u64, u64>, key: u64) -> bool {
-    match leaf.array.remove_if(&key, |_| true) {
+    match leaf.array.remove_if(&key, always) {
         RemoveResult::Success | RemoveResult::Retired => true,
         _ => false,
     }
 }
 
-/// Puts the keys 1, 2, 2049 with the values 0 to 2 into a leaf, removes 6 with 3 again, and tells whether each call
-/// did what it had to.
-fn puts_three(leaf: &mut Leaf<u64, u64>) -> bool {
-    let taken = add(leaf, 1, 0) && add(leaf, 2, 1) && add(leaf, 2049, 2);
-    taken && add(leaf, 6, 3) && drop_key(leaf, 6)
+/// A cursor over a leaf.
+#[derive(Drop)]
+enum Cursor<'l> {
+    Rising(Iter<'l, u64, u64>),
+    Falling(RevIter<'l, u64, u64>),
 }
 
 /// A call of a cursor over a leaf.
@@ -38,6 +39,10 @@ enum Step {
     Rewind,
     /// The last key by the cursor's direction, with the value 0.
     Last,
+    Turn,
+    /// A jump into the tree, and a step that jumps where the leaf is at its end, and then starts a leaf.
+    Jump,
+    Cross,
 }
 
 fn alone(key: Option<&u64>) -> Seen {
@@ -47,112 +52,127 @@ fn alone(key: Option<&u64>) -> Seen {
     }
 }
 
+/// The pair that a jump of a rising cursor tells, where nothing lies before it in its leaf.
+fn started<'l>(rising: &mut Iter<'l, u64, u64>, tree: &'l Tree) -> Seen {
+    let seen = read(rising.jump(tree));
+    if rising.clone().rev().next().is_none() {
+        seen
+    } else {
+        None
+    }
+}
+
+/// The same of a falling cursor.
+fn started_back<'l>(falling: &mut RevIter<'l, u64, u64>, tree: &'l Tree) -> Seen {
+    let seen = read(falling.jump(tree));
+    if falling.clone().rev().next().is_none() {
+        seen
+    } else {
+        None
+    }
+}
+
 /// Takes a step of a rising cursor.
-fn forth(iter: &mut Iter<'_, u64, u64>, step: Step) -> Seen {
-    match step {
-        Step::Next => read(iter.next()),
-        Step::Get => read(iter.get()),
-        Step::Last => alone(iter.max_key()),
+fn rise<'l>(cursor: Iter<'l, u64, u64>, tree: &'l Tree, step: Step) -> (Cursor<'l>, Seen) {
+    let mut rising = cursor;
+    let seen = match step {
+        Step::Next => read(rising.next()),
+        Step::Get => read(rising.get()),
+        Step::Last => alone(rising.max_key()),
+        Step::Jump => read(rising.jump(tree)),
+        Step::Turn => return (Cursor::Falling(rising.rev()), None),
         Step::Rewind => {
-            iter.rewind();
+            rising.rewind();
             None
         },
-    }
+        Step::Cross => match read(rising.next()) {
+            Some(pair) => Some(pair),
+            None => started(&mut rising, tree),
+        },
+    };
+    (Cursor::Rising(rising), seen)
 }
 
 /// Takes a step of a falling cursor.
-fn back(iter: &mut RevIter<'_, u64, u64>, step: Step) -> Seen {
-    match step {
-        Step::Next => read(iter.next()),
-        Step::Get => read(iter.get()),
-        Step::Last => alone(iter.min_key()),
+fn fall<'l>(cursor: RevIter<'l, u64, u64>, tree: &'l Tree, step: Step) -> (Cursor<'l>, Seen) {
+    let mut falling = cursor;
+    let seen = match step {
+        Step::Next => read(falling.next()),
+        Step::Get => read(falling.get()),
+        Step::Last => alone(falling.min_key()),
+        Step::Jump => read(falling.jump(tree)),
+        Step::Turn => return (Cursor::Rising(falling.rev()), None),
         Step::Rewind => {
-            iter.rewind();
+            falling.rewind();
             None
         },
+        Step::Cross => match read(falling.next()) {
+            Some(pair) => Some(pair),
+            None => started_back(&mut falling, tree),
+        },
+    };
+    (Cursor::Falling(falling), seen)
+}
+
+/// Takes a step of a cursor.
+fn take<'l>(cursor: Cursor<'l>, tree: &'l Tree, step: Step) -> (Cursor<'l>, Seen) {
+    match cursor {
+        Cursor::Rising(rising) => rise(rising, tree, step),
+        Cursor::Falling(falling) => fall(falling, tree, step),
     }
 }
 
-/// Takes the steps of a table along a rising cursor, and tells whether each tells what it has to.
-fn goes_forth(iter: &mut Iter<'_, u64, u64>, rows: &[(Step, Seen)]) -> bool {
+/// Takes the steps of a table, and tells whether each tells what it has to.
+fn goes<'l>(cursor: Cursor<'l>, tree: &'l Tree, rows: &[(Step, Seen)]) -> (Cursor<'l>, bool) {
+    let mut here = cursor;
     let mut as_said = true;
     for (step, wanted) in rows {
-        as_said = forth(iter, *step) == *wanted && as_said;
+        let (next, seen) = take(here, tree, *step);
+        here = next;
+        as_said = seen == *wanted && as_said;
     }
-    as_said
+    (here, as_said)
 }
 
-/// The same along a falling cursor.
-fn goes_back(iter: &mut RevIter<'_, u64, u64>, rows: &[(Step, Seen)]) -> bool {
-    let mut as_said = true;
-    for (step, wanted) in rows {
-        as_said = back(iter, *step) == *wanted && as_said;
+/// A call of a leaf of no tree, so that there are no links, and the steps of new cursors over it, which jump into a tree.
+#[derive(Clone, Copy)]
+enum Call {
+    /// A pair comes, goes, or all that went are forgotten.
+    Add(u64, u64),
+    Drop(u64),
+    Pack,
+    /// The leaf has no pair and no neighbour, or it is full and gets one.
+    IsNew,
+    IsFull,
+    /// The steps of a rising and of a falling cursor, and those of one and its copy.
+    Forth(&'static [(Step, Seen)]),
+    Back(&'static [(Step, Seen)]),
+    Part,
+}
+
+/// Makes a call of a leaf, and tells whether all was as it has to be.
+fn make(leaf: &mut Leaf<u64, u64>, tree: &Tree, call: Call) -> bool {
+    match call {
+        Call::Add(key, val) => add(leaf, key, val),
+        Call::Drop(key) => drop_key(leaf, key),
+        Call::Pack => {
+            leaf.array.pack();
+            true
+        }
+        Call::IsNew => is_new(leaf),
+        Call::IsFull => {
+            leaf.next = Some(7);
+            leaf.array.is_full() && leaf.next == Some(7)
+        }
+        Call::Forth(rows) => goes(Cursor::Rising(Iter::new(leaf)), tree, rows).1,
+        Call::Back(rows) => goes(Cursor::Falling(RevIter::new(leaf)), tree, rows).1,
+        Call::Part => part(leaf, tree),
     }
-    as_said
 }
 
-const NOTHING: [(Step, Seen); 3] = [(Step::Next, None), (Step::Get, None), (Step::Last, None)];
-
-/// Whether cursors over a leaf tell nothing both ways.
-fn lends_nothing(leaf: &Leaf<u64, u64>) -> bool {
-    let mut rising = Iter::new(leaf);
-    let forth = goes_forth(&mut rising, &NOTHING);
-    forth && goes_back(&mut rising.rev(), &NOTHING)
-}
-
-/// Adds the keys below 15, and tells whether each was taken.
-fn fills(leaf: &mut Leaf<u64, u64>) -> bool {
-    let mut taken = true;
-    for key in 0..15u64 {
-        taken = add(leaf, key, key) && taken;
-    }
-    taken
-}
-
-#[test]
-fn a_new_leaf_has_no_pairs_and_no_neighbours(rt: HostRuntime) {
-    let mut leaf: Leaf<u64, u64> = Leaf::new();
-    let alone = (leaf.prev, leaf.next);
-    let new = (
-        leaf.array.is_empty(),
-        leaf.array.is_full(),
-        lends_nothing(&leaf),
-    );
-    let taken = fills(&mut leaf);
-    leaf.next = Some(7);
-    let full = (taken, leaf.array.is_full(), leaf.next);
-    let wanted = ((None, None), (true, false, true), (true, true, Some(7)));
-    assert!(rt; (alone, new, full) == wanted);
-}
-
-// Steps of a cursor over the three keys, of the one that it becomes as it turns round, and of the one that this becomes.
-const BEFORE: [(Step, Seen); 2] = [(Step::Get, None), (Step::Next, Some((1, 0)))];
-
-const TURNED: [(Step, Seen); 1] = [(Step::Get, Some((1, 0)))];
-
-const TURNED_BACK: [(Step, Seen); 6] = [
-    (Step::Get, Some((1, 0))),
-    (Step::Next, Some((2, 1))),
-    (Step::Next, Some((2049, 2))),
-    (Step::Next, None),
-    (Step::Get, Some((2049, 2))),
-    (Step::Last, Some((2049, 0))),
-];
-
-/// Whether a cursor goes so, before and after it turns.
-fn turns(leaf: &Leaf<u64, u64>) -> (bool, bool, bool) {
-    let mut rising = Iter::new(leaf);
-    let before = goes_forth(&mut rising, &BEFORE);
-    let mut falling = rising.rev();
-    let turned = goes_back(&mut falling, &TURNED);
-    (before, turned, goes_forth(&mut falling.rev(), &TURNED_BACK))
-}
-
-#[test]
-fn a_cursor_turns_round_at_its_pair(rt: HostRuntime) {
-    let mut leaf: Leaf<u64, u64> = Leaf::new();
-    let taken = puts_three(&mut leaf);
-    assert!(rt; taken && turns(&leaf) == (true, true, true));
+fn is_new(leaf: &Leaf<u64, u64>) -> bool {
+    let alone = leaf.prev.is_none() && leaf.next.is_none();
+    alone && leaf.array.is_empty() && !leaf.array.is_full()
 }
 
 // Steps of a falling cursor over the three keys, those that it takes then while its copy stays, and that of the copy.
@@ -175,19 +195,124 @@ const THEN: [(Step, Seen); 7] = [
 const OF_THE_COPY: [(Step, Seen); 1] = [(Step::Get, Some((2049, 2)))];
 
 /// Whether a falling cursor and its copy go so.
-fn falls_through(leaf: &Leaf<u64, u64>) -> (bool, bool, bool) {
-    let mut falling = RevIter::new(leaf);
-    let first = goes_back(&mut falling, &FIRST);
-    let mut copy = falling.clone();
-    let then = goes_back(&mut falling, &THEN);
-    (first, then, goes_back(&mut copy, &OF_THE_COPY))
+fn part(leaf: &Leaf<u64, u64>, tree: &Tree) -> bool {
+    let (cursor, first) = goes(Cursor::Falling(RevIter::new(leaf)), tree, &FIRST);
+    match cursor {
+        Cursor::Rising(_) => false,
+        Cursor::Falling(falling) => {
+            let copy = Cursor::Falling(falling.clone());
+            let then = goes(Cursor::Falling(falling), tree, &THEN).1;
+            first && then && goes(copy, tree, &OF_THE_COPY).1
+        },
+    }
+}
+
+/// A new leaf has no pairs and no neighbours.
+const NEW: [Call; 18] = [
+    Call::IsNew,
+    Call::Forth(&[
+        (Step::Next, None),
+        (Step::Get, None),
+        (Step::Last, None),
+        (Step::Turn, None),
+        (Step::Next, None),
+        (Step::Get, None),
+        (Step::Last, None),
+    ]),
+    Call::Add(0, 0),
+    Call::Add(1, 1),
+    Call::Add(2, 2),
+    Call::Add(3, 3),
+    Call::Add(4, 4),
+    Call::Add(5, 5),
+    Call::Add(6, 6),
+    Call::Add(7, 7),
+    Call::Add(8, 8),
+    Call::Add(9, 9),
+    Call::Add(10, 10),
+    Call::Add(11, 11),
+    Call::Add(12, 12),
+    Call::Add(13, 13),
+    Call::Add(14, 14),
+    Call::IsFull,
+];
+
+/// A cursor turns round at its pair, and falls through the keys that are left.
+const TURNED: [Call; 7] = [
+    Call::Add(1, 0),
+    Call::Add(2, 1),
+    Call::Add(2049, 2),
+    Call::Add(6, 3),
+    Call::Drop(6),
+    Call::Forth(&[
+        (Step::Get, None),
+        (Step::Next, Some((1, 0))),
+        (Step::Turn, None),
+        (Step::Get, Some((1, 0))),
+        (Step::Turn, None),
+        (Step::Get, Some((1, 0))),
+        (Step::Next, Some((2, 1))),
+        (Step::Next, Some((2049, 2))),
+        (Step::Next, None),
+        (Step::Get, Some((2049, 2))),
+        (Step::Last, Some((2049, 0))),
+    ]),
+    Call::Part,
+];
+
+/// A leaf without pairs leads on from the key that it lost last. The tree has the keys 0, 10, up to 190, each with its
+/// tenth part.
+const APART: [Call; 17] = [
+    Call::Forth(&[(Step::Jump, None)]),
+    Call::Back(&[(Step::Jump, None)]),
+    Call::Add(35, 0),
+    Call::Add(120, 0),
+    Call::Drop(120),
+    Call::Forth(&[(Step::Jump, Some((40, 4)))]),
+    Call::Drop(35),
+    Call::Forth(&[(Step::Jump, Some((40, 4)))]),
+    Call::Back(&[(Step::Jump, Some((30, 3)))]),
+    Call::Pack,
+    Call::Add(190, 0),
+    Call::Drop(190),
+    Call::Forth(&[(Step::Jump, None)]),
+    Call::Forth(&[(Step::Jump, None), (Step::Get, None)]),
+    Call::Forth(&[
+        (Step::Jump, None),
+        (Step::Turn, None),
+        (Step::Jump, Some((180, 18))),
+    ]),
+    Call::Pack,
+    Call::Back(&[(Step::Jump, None)]),
+];
+
+const TENS: Pairs = Pairs {
+    factor: 10,
+    shift: 0,
+    modulus: 0,
+    val_factor: 1,
+    val_shift: 0,
+};
+
+/// Makes the calls of a table on a new leaf, in order, and tells the place of the first that doesn't go as it has to.
+fn first_other(tree: &Tree, calls: &[Call]) -> Option<usize> {
+    let mut leaf: Leaf<u64, u64> = Leaf::new();
+    for at in 0..calls.len() {
+        if !make(&mut leaf, tree, calls[at]) {
+            return Some(at);
+        }
+    }
+    None
 }
 
 #[test]
-fn a_cursor_falls_through_the_keys_that_are_left(rt: HostRuntime) {
-    let mut leaf: Leaf<u64, u64> = Leaf::new();
-    let taken = puts_three(&mut leaf);
-    assert!(rt; taken && falls_through(&leaf) == (true, true, true));
+fn leaves_answer_as_the_tables_say(rt: HostRuntime) {
+    let mut tree: Tree = TreeIndex::new(rt.alloc());
+    let taken = fill(&mut tree, TENS, 0, 20);
+    let new = first_other(&tree, &NEW);
+    let turned = first_other(&tree, &TURNED);
+    let apart = first_other(&tree, &APART);
+    assert!(rt; taken && [new, turned, apart] == [None; 3]);
 }
 
 /// The next number of a fixed row of numbers in no order.
@@ -316,79 +441,51 @@ fn goes_along(leaf: &Leaf<u64, u64>, keys: &[u64], seed: &mut u64) -> bool {
     alike && ends
 }
 
-/// A step forth, by a jump where the leaf is at its end, and whether that started a leaf.
-fn next_or_jump<'l>(
-    rising: &mut Iter<'l, u64, u64>,
-    tree: &'l TreeIndex<u64, u64>,
-) -> Option<Seen> {
-    match read(rising.next()) {
-        Some(pair) => Some(Some(pair)),
-        None => {
-            let seen = read(rising.jump(tree));
-            // nothing lies before the first pair of a leaf
-            if rising.clone().rev().next().is_none() {
-                Some(seen)
-            } else {
-                None
-            }
-        },
+/// So many pairs of a tree, and those of them that are gone.
+#[derive(Clone, Copy)]
+struct Walk {
+    pairs: Pairs,
+    count: u64,
+    gap: (u64, u64),
+}
+
+/// A cursor over the leaf of the first or of the last pair.
+fn starts<'t>(tree: &'t Tree, walk: Walk, falls: bool) -> Option<Cursor<'t>> {
+    let number = if falls { walk.count.wrapping_sub(1) } else { 0 };
+    let leaf = leaf_at(tree, pair_of(walk.pairs, number).0)?;
+    if falls {
+        Some(Cursor::Falling(RevIter::new(leaf)))
+    } else {
+        Some(Cursor::Rising(Iter::new(leaf)))
     }
 }
 
-/// The same of a falling cursor.
-fn next_or_jump_back<'l>(
-    falling: &mut RevIter<'l, u64, u64>,
-    tree: &'l TreeIndex<u64, u64>,
-) -> Option<Seen> {
-    match read(falling.next()) {
-        Some(pair) => Some(Some(pair)),
-        None => {
-            let seen = read(falling.jump(tree));
-            if falling.clone().rev().next().is_none() {
-                Some(seen)
-            } else {
-                None
-            }
-        },
-    }
-}
-
-/// Goes through all leaves of a tree from the one of its least key on, by jumps from leaf to leaf. The tree has
-/// the keys up to `last` outside of a gap, each with its complement.
-fn jumps_forth(tree: &TreeIndex<u64, u64>, last: u64, gap: (u64, u64)) -> Option<bool> {
-    let mut rising = Iter::new(leaf_at(tree, 0)?);
+/// Whether a cursor goes one way through all leaves of a tree, by jumps from leaf to leaf, and ends at the last pair.
+fn jumps(tree: &Tree, walk: Walk, falls: bool) -> bool {
+    let mut cursor = match starts(tree, walk, falls) {
+        Some(start) => start,
+        None => return false,
+    };
     let mut as_said = true;
-    for key in 0..=last {
-        if key < gap.0 || gap.1 <= key {
-            let seen = next_or_jump(&mut rising, tree);
-            let here = read(rising.get());
-            as_said = seen == Some(Some((key, !key))) && here == Some((key, !key)) && as_said;
+    let mut pair = None;
+    for turn in 0..walk.count {
+        let number = if falls { walk.count - 1 - turn } else { turn };
+        if number < walk.gap.0 || walk.gap.1 <= number {
+            pair = Some(pair_of(walk.pairs, number));
+            let (next, as_wanted) = goes(cursor, tree, &[(Step::Cross, pair), (Step::Get, pair)]);
+            cursor = next;
+            as_said = as_wanted && as_said;
         }
     }
-    as_said = rising.jump(tree).is_none() && as_said;
-    Some(read(rising.get()) == Some((last, !last)) && as_said)
-}
-
-/// The same back from the leaf of its greatest key.
-fn jumps_back(tree: &TreeIndex<u64, u64>, last: u64, gap: (u64, u64)) -> Option<bool> {
-    let mut falling = RevIter::new(leaf_at(tree, last)?);
-    let mut as_said = true;
-    for down in 0..=last {
-        let key = last - down;
-        if key < gap.0 || gap.1 <= key {
-            let seen = next_or_jump_back(&mut falling, tree);
-            let here = read(falling.get());
-            as_said = seen == Some(Some((key, !key))) && here == Some((key, !key)) && as_said;
-        }
-    }
-    as_said = falling.jump(tree).is_none() && as_said;
-    Some(read(falling.get()) == Some((0, !0)) && as_said)
+    let ends = [(Step::Next, None), (Step::Jump, None), (Step::Get, pair)];
+    goes(cursor, tree, &ends).1 && as_said
 }
 
 /// Whether the way to each key of a gap, which is gone, leads to a leaf that has pairs.
-fn leads_to_pairs(tree: &TreeIndex<u64, u64>, gap: (u64, u64)) -> bool {
+fn leads_to_pairs(tree: &Tree, walk: Walk) -> bool {
     let mut there = true;
-    for key in gap.0..gap.1 {
+    for number in walk.gap.0..walk.gap.1 {
+        let (key, _) = pair_of(walk.pairs, number);
         there = match leaf_at(tree, key) {
             Some(leaf) => !leaf.array.is_empty() && there,
             None => false,
@@ -397,142 +494,62 @@ fn leads_to_pairs(tree: &TreeIndex<u64, u64>, gap: (u64, u64)) -> bool {
     there
 }
 
-/// Whether jumps go both ways through a tree of the keys below 150 outside of a gap.
-fn jumps_through(tree: &TreeIndex<u64, u64>, gap: (u64, u64)) -> (Option<bool>, Option<bool>) {
-    (jumps_forth(tree, 149, gap), jumps_back(tree, 149, gap))
+/// Whether jumps go both ways through a tree of these pairs, over those that are gone.
+fn jumps_through(alloc: Global, walk: Walk) -> bool {
+    let mut tree: Tree = TreeIndex::new(alloc);
+    let taken = fill(&mut tree, walk.pairs, 0, walk.count);
+    let gone = lose(&mut tree, walk.pairs, walk.gap.0, walk.gap.1);
+    let forth = jumps(&tree, walk, false);
+    let back = jumps(&tree, walk, true);
+    taken && gone && forth && back && leads_to_pairs(&tree, walk)
 }
+
+const WALKS: [Walk; 3] = [
+    Walk {
+        pairs: EACH,
+        count: 150,
+        gap: (0, 0),
+    },
+    Walk {
+        pairs: EACH,
+        count: 150,
+        gap: (40, 110),
+    },
+    Walk {
+        pairs: EVENS,
+        count: 100,
+        gap: (20, 80),
+    },
+];
 
 #[test]
 fn jumps_go_over_keys_whose_leaves_left_the_tree(rt: HostRuntime) {
-    let mut tree: TreeIndex<u64, u64> = TreeIndex::new(rt.alloc());
-    let taken = fill(&mut tree, 0, 150);
-    let whole = jumps_through(&tree, (0, 0));
-    let gone = lose(&mut tree, 40, 110);
-    let parted = jumps_through(&tree, (40, 110));
-    let both = (Some(true), Some(true));
-    assert!(rt; taken && gone && leads_to_pairs(&tree, (40, 110)));
-    assert!(rt; (whole, parted) == (both, both));
-}
-
-/// A call of a leaf of no tree, so that there are no links, and jumps from it into a tree.
-#[derive(Clone, Copy)]
-enum Apart {
-    /// A pair comes, goes, or all that went are forgotten: told as (0, 0) where that is done.
-    Add(u64),
-    Drop(u64),
-    Pack,
-    /// A jump from either end, what a cursor stands at behind one, and what one back from there tells.
-    Jump,
-    JumpBack,
-    JumpThenGet,
-    JumpThenBack,
-}
-
-fn done(done: bool) -> Seen {
-    if done { Some((0, 0)) } else { None }
-}
-
-fn jump<'l>(leaf: &'l Leaf<u64, u64>, tree: &'l TreeIndex<u64, u64>) -> Seen {
-    read(Iter::new(leaf).jump(tree))
-}
-
-fn jump_back<'l>(leaf: &'l Leaf<u64, u64>, tree: &'l TreeIndex<u64, u64>) -> Seen {
-    read(RevIter::new(leaf).jump(tree))
-}
-
-/// What the cursor over a leaf that jumped into a tree stands at.
-fn jumped<'l>(leaf: &'l Leaf<u64, u64>, tree: &'l TreeIndex<u64, u64>) -> Seen {
-    let mut rising = Iter::new(leaf);
-    let _seen = rising.jump(tree);
-    read(rising.get())
-}
-
-/// What it tells as it turns round then, and jumps again.
-fn jumped_back<'l>(leaf: &'l Leaf<u64, u64>, tree: &'l TreeIndex<u64, u64>) -> Seen {
-    let mut rising = Iter::new(leaf);
-    let _seen = rising.jump(tree);
-    read(rising.rev().jump(tree))
-}
-
-/// Makes a call of a leaf that stands apart.
-fn make_apart(leaf: &mut Leaf<u64, u64>, tree: &TreeIndex<u64, u64>, call: Apart) -> Seen {
-    match call {
-        Apart::Add(key) => done(add(leaf, key, 0)),
-        Apart::Drop(key) => done(drop_key(leaf, key)),
-        Apart::Pack => {
-            leaf.array.pack();
-            done(true)
-        }
-        Apart::Jump => jump(leaf, tree),
-        Apart::JumpBack => jump_back(leaf, tree),
-        Apart::JumpThenGet => jumped(leaf, tree),
-        Apart::JumpThenBack => jumped_back(leaf, tree),
+    for walk in WALKS {
+        assert!(rt; jumps_through(rt.alloc(), walk));
     }
 }
 
-// The tree has the keys 0, 10, up to 190, each with its tenth part.
-const APART: [(Apart, Seen); 17] = [
-    (Apart::Jump, None),
-    (Apart::JumpBack, None),
-    (Apart::Add(35), Some((0, 0))),
-    (Apart::Add(120), Some((0, 0))),
-    (Apart::Drop(120), Some((0, 0))),
-    (Apart::Jump, Some((40, 4))),
-    (Apart::Drop(35), Some((0, 0))),
-    (Apart::Jump, Some((40, 4))),
-    (Apart::JumpBack, Some((30, 3))),
-    (Apart::Pack, Some((0, 0))),
-    (Apart::Add(190), Some((0, 0))),
-    (Apart::Drop(190), Some((0, 0))),
-    (Apart::Jump, None),
-    (Apart::JumpThenGet, None),
-    (Apart::JumpThenBack, Some((180, 18))),
-    (Apart::Pack, Some((0, 0))),
-    (Apart::JumpBack, None),
+// Jumps forth and back over emptied leaves alone, and what the cursor stands at behind each.
+const STAYS: [(Step, Seen); 5] = [
+    (Step::Jump, None),
+    (Step::Get, None),
+    (Step::Turn, None),
+    (Step::Jump, None),
+    (Step::Get, None),
 ];
 
-/// Makes these calls, in order, and tells the place of the first that is answered otherwise.
-fn first_other_apart(tree: &TreeIndex<u64, u64>) -> Option<usize> {
-    let mut leaf: Leaf<u64, u64> = Leaf::new();
-    let mut other = None;
-    for at in 0..APART.len() {
-        let (call, wanted) = APART[at];
-        if make_apart(&mut leaf, tree, call) != wanted && other.is_none() {
-            other = Some(at);
-        }
+/// Whether a cursor over the leaf of a key stays so.
+fn stays(tree: &Tree, key: u64) -> bool {
+    match leaf_at(tree, key) {
+        Some(leaf) => goes(Cursor::Rising(Iter::new(leaf)), tree, &STAYS).1,
+        None => false,
     }
-    other
-}
-
-/// Inserts the keys 0, 10, up to 190, each with its tenth part, and tells whether each was taken.
-fn takes_tens(tree: &mut TreeIndex<u64, u64>) -> bool {
-    let mut taken = true;
-    for key in 0..20u64 {
-        taken = tree.insert_sync(key.wrapping_mul(10), key).is_ok() && taken;
-    }
-    taken
-}
-
-#[test]
-fn a_leaf_without_pairs_leads_on_from_the_key_that_it_lost_last(rt: HostRuntime) {
-    let mut tree: TreeIndex<u64, u64> = TreeIndex::new(rt.alloc());
-    let taken = takes_tens(&mut tree);
-    assert!(rt; (taken, first_other_apart(&tree)) == (true, None));
-}
-
-/// What jumps from the leaf of a key forth and back tell, and what the cursor stands at behind each.
-fn jumps_at(tree: &TreeIndex<u64, u64>, key: u64) -> Option<[Seen; 4]> {
-    let mut rising = Iter::new(leaf_at(tree, key)?);
-    let forth = read(rising.jump(tree));
-    let here = read(rising.get());
-    let mut falling = rising.rev();
-    let back = read(falling.jump(tree));
-    Some([forth, here, back, read(falling.get())])
 }
 
 #[test]
 fn a_cursor_over_emptied_leaves_alone_stays(rt: HostRuntime) {
-    let mut tree: TreeIndex<u64, u64> = TreeIndex::new(rt.alloc());
-    let emptied = fill(&mut tree, 0, 40) && lose(&mut tree, 0, 40);
-    assert!(rt; emptied && jumps_at(&tree, 20) == Some([None; 4]));
+    let mut tree: Tree = TreeIndex::new(rt.alloc());
+    let filled = fill(&mut tree, EACH, 0, 40);
+    let emptied = lose(&mut tree, EACH, 0, 40);
+    assert!(rt; filled && emptied && stays(&tree, 20));
 }

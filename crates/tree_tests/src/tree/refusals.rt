@@ -1,27 +1,28 @@
 //! Runs in which any one allocation may be refused. A script has each refused in turn: whatever is
 //! refused, nothing has changed, and the same call then succeeds.
 
-use super::calls::Call::{Insert, Upsert};
+use super::Tree;
+use super::calls::Call::Insert;
 use super::calls::Told::{Done, Duplicate, NoMemory};
-use super::calls::{holds, make, val_of};
-use super::stirred;
+use super::calls::{EACH, holds, make, val_of};
+use crate::numbers::stirred;
 use std::alloc::Global;
 use tree_index::TreeIndex;
 
 /// What a run met: whether memory was refused, and whether all was as it has to be.
-#[derive(Clone, Copy, PartialEq, Eq)]
+#[derive(Clone, Copy)]
 struct Met {
     refusal: bool,
     as_said: bool,
 }
 
 /// Inserts a pair, again where memory was refused: nothing had changed then.
-fn insert(tree: &mut TreeIndex<u64, u64>, key: u64, met: &mut Met) {
+fn insert(tree: &mut Tree, key: u64, met: &mut Met) {
     let before = (tree.depth(), tree.len());
     let told = make(tree, Insert(key, !key));
     if told != Done {
         let kept = (tree.depth(), tree.len()) == before && val_of(tree, key).is_none();
-        let again = make(tree, Upsert(key, !key)) == Done;
+        let again = tree.upsert_sync(key, !key).is_ok();
         met.refusal = true;
         met.as_said = told == NoMemory(key, !key) && kept && again && met.as_said;
     }
@@ -33,7 +34,7 @@ const NOTHING: Met = Met {
 };
 
 /// Whether so many keys in no order are there, each with its complement.
-fn has_all(tree: &TreeIndex<u64, u64>, count: u32) -> bool {
+fn has_all(tree: &Tree, count: u32) -> bool {
     let mut there = true;
     let mut key = 1u64;
     for _ in 0..count {
@@ -46,7 +47,7 @@ fn has_all(tree: &TreeIndex<u64, u64>, count: u32) -> bool {
 /// What a tree meets that grows.
 fn grows(alloc: Global) -> Met {
     let mut met = NOTHING;
-    let mut tree: TreeIndex<u64, u64> = TreeIndex::new(alloc);
+    let mut tree: Tree = TreeIndex::new(alloc);
     let mut key = 1u64;
     for _ in 0..700u32 {
         key = stirred(key);
@@ -57,7 +58,7 @@ fn grows(alloc: Global) -> Met {
 }
 
 /// Inserts the keys below a number.
-fn fills(tree: &mut TreeIndex<u64, u64>, last: u64, met: &mut Met) {
+fn fills(tree: &mut Tree, last: u64, met: &mut Met) {
     for key in 0..last {
         insert(tree, key, met);
     }
@@ -66,24 +67,24 @@ fn fills(tree: &mut TreeIndex<u64, u64>, last: u64, met: &mut Met) {
 /// What a tree meets that is cloned.
 fn clones(alloc: Global) -> Met {
     let mut met = NOTHING;
-    let mut tree: TreeIndex<u64, u64> = TreeIndex::new(alloc);
+    let mut tree: Tree = TreeIndex::new(alloc);
     fills(&mut tree, 100, &mut met);
     match tree.clone(alloc) {
         Ok(copy) => met.as_said = copy == tree && met.as_said,
         Err(_) => {
             met.refusal = true;
-            met.as_said = tree.len() == 100 && holds(&tree, 0, 100) && met.as_said;
+            met.as_said = tree.len() == 100 && holds(&tree, EACH, 0, 100) && met.as_said;
         },
     }
     met
 }
 
 /// Whether the keys below 15 are duplicates, and are written over.
-fn repeats_all(tree: &mut TreeIndex<u64, u64>) -> bool {
+fn repeats_all(tree: &mut Tree) -> bool {
     let mut as_said = true;
     for key in 0..15u64 {
         let repeated = make(tree, Insert(key, key)) == Duplicate(key, key);
-        as_said = make(tree, Upsert(key, key)) == Done && repeated && as_said;
+        as_said = tree.upsert_sync(key, key).is_ok() && repeated && as_said;
     }
     as_said
 }
@@ -91,7 +92,7 @@ fn repeats_all(tree: &mut TreeIndex<u64, u64>) -> bool {
 /// What a leaf meets that is filled, whose keys are duplicates then, and whose pairs are written over.
 fn repeats(alloc: Global) -> Met {
     let mut met = NOTHING;
-    let mut tree: TreeIndex<u64, u64> = TreeIndex::new(alloc);
+    let mut tree: Tree = TreeIndex::new(alloc);
     fills(&mut tree, 15, &mut met);
     met.as_said = repeats_all(&mut tree) && tree.len() == 15 && met.as_said;
     met
@@ -104,7 +105,8 @@ fn a_refusal_of_memory_hides_no_duplicate(rt: HostRuntime) {
 
 #[test]
 fn no_memory_is_refused_to_a_full_leaf(rt: HostRuntime) {
-    assert!(rt; repeats(rt.alloc()) == NOTHING);
+    let met = repeats(rt.alloc());
+    assert!(rt; met.as_said && !met.refusal);
 }
 
 #[test]
@@ -119,10 +121,12 @@ fn a_refusal_of_memory_to_a_clone_leaves_the_tree(rt: HostRuntime) {
 
 #[test]
 fn no_memory_is_refused_to_a_clone(rt: HostRuntime) {
-    assert!(rt; clones(rt.alloc()) == NOTHING);
+    let met = clones(rt.alloc());
+    assert!(rt; met.as_said && !met.refusal);
 }
 
 #[test]
 fn no_memory_is_refused_to_a_growing_tree(rt: HostRuntime) {
-    assert!(rt; grows(rt.alloc()) == NOTHING);
+    let met = grows(rt.alloc());
+    assert!(rt; met.as_said && !met.refusal);
 }
